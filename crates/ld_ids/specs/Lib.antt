@@ -1,0 +1,4 @@
+pub mod Bytes
+pub mod Id
+pub mod Set
+pub mod Choice

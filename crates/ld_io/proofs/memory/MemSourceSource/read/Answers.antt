@@ -1,0 +1,8 @@
+use Rattle.std.proofs.Common.{sym, ap, ◌∙◌}
+use Rattle.ld_io.proofs.ReadFront.{read_gives}
+use Rattle.ld_io.proofs.memory.MemSourceSource.read.Goals as goal
+
+pub returns-clause-bytes : goal.returns-clause-bytes
+returns-clause-bytes c =
+    let given = read_gives _ c.deref-2.result.now _ c.copy_from_slice.new.self _ _ c.deref-2.ensures.value c.copy_from_slice.ensures.after c.min-count.ensures in
+    (sym (ap (λ s. s.left) c.self.view_is) ∙ given.0, given.1)
