@@ -1,0 +1,81 @@
+-- No text of an event has the byte that ends a line.
+use Rattle.std.specs.Prelude.{Bool}
+use Rattle.std.proofs.Common.{◌≡◌, inl, ℕ, ◌<◌, ◌^◌, List, [], ◌∷◌, ◌++◌, true, false, refl, sym, ap, ◌∙◌, arith, decimal}
+use Rattle.std.specs.List.{AllPass}
+use Rattle.std.proofs.lemmas.List.Elements.{All-head, All-tail}
+use Rattle.hex.specs.Hex.{encode_lower}
+use Rattle.ld_lsn.specs.Text.{Lacks}
+use Rattle.ld_lsn.specs.Number.{epoch_of, esn_of, pair_text, lsn_text}
+use Rattle.ld_lsn.proofs.Texts.{Lacks-append}
+use Rattle.ld_ids.specs.Bytes.{AreBytes, hex_text}
+use Rattle.ld_schedule.specs.declared.event.Picture.{Picture}
+use Rattle.ld_schedule.specs.declared.event.Picture.TheVariants as pictures
+use Rattle.ld_schedule.specs.declared.event.Event.{Event}
+use Rattle.ld_schedule.specs.declared.event.Event.TheVariants.{Format, Activate, Append, Trim, Retry, Drop, Deliver, Lose, Flow, Open, Poll, Tick, Down, Up, Wipe, Fail, Tear, RegFail}
+use Rattle.ld_schedule.specs.Grammar.{IsName, IsLsn, IsPicture, is_name_byte, is_digit, picture_text, done_text, IsNamed, event_text, blank}
+use Rattle.ld_schedule.specs.Form.{form_of}
+use Rattle.ld_schedule.specs.WordLaws.{decimal_lacks}
+use Rattle.ld_schedule.proofs.HexTexts.{encode_passes}
+use Rattle.ld_schedule.proofs.OneEvent.{byte_bytes, word_of, words_lack, parts_of, text_parts}
+
+-- bytes that pass a test which the byte fails
+passed_lack : (test : ℕ → Bool) (c : ℕ) → test c ≡ false → (xs : List ℕ) → AllPass test xs → Lacks c xs
+passed_lack test c other [] all = tt
+passed_lack test c other (x ∷ xs) all = (
+  λ e. let both : true ≡ false = sym (All-head (λ b. test b ≡ true) x xs all) ∙ ap test e ∙ other in cc,
+  passed_lack test c other xs (All-tail (λ b. test b ≡ true) x xs all),
+)
+
+name_10 : (name : List ℕ) → IsName name → Lacks 10 name
+name_10 name named = passed_lack is_name_byte 10 refl name named.2
+
+number_10 : (n : ℕ) → n < 2 ^ 64 → Lacks 10 (decimal n)
+number_10 n small = decimal_lacks 10 n (inl (omega arith)) small
+
+digits_10 : (bytes : List ℕ) → AreBytes bytes → Lacks 10 (encode_lower bytes)
+digits_10 bytes are = passed_lack is_digit 10 refl (encode_lower bytes) (encode_passes bytes are)
+
+payload_10 : (bytes : List ℕ) → AreBytes bytes → Lacks 10 (hex_text bytes)
+unfolding hex_text
+payload_10 [] are = (omega arith, tt)
+payload_10 (b ∷ bytes) are = digits_10 (b ∷ bytes) are
+
+lsn_10 : (v : ℕ) → IsLsn v → Lacks 10 (lsn_text v)
+unfolding pair_text
+lsn_10 v named = (omega arith, Lacks-append 10 (decimal (epoch_of v)) (110 ∷ decimal (esn_of v)) (number_10 (epoch_of v) (omega arith)) (omega arith, number_10 (esn_of v) (omega arith)))
+
+picture_10 : (p : Picture) → IsPicture p → Lacks 10 (picture_text p)
+unfolding picture_text
+picture_10 pictures.Old named = (omega arith, (omega arith, (omega arith, tt)))
+picture_10 pictures.New named = (omega arith, (omega arith, (omega arith, tt)))
+picture_10 (pictures.Byte b) named = digits_10 (b ∷ []) (byte_bytes b named)
+
+done_10 : (d : Bool) → Lacks 10 (done_text d)
+done_10 true = (omega arith, (omega arith, (omega arith, (omega arith, tt))))
+done_10 false = (omega arith, (omega arith, (omega arith, (omega arith, (omega arith, (omega arith, tt))))))
+
+between : (a b : List ℕ) → Lacks 10 a → Lacks 10 b → Lacks 10 (a ++ blank ∷ b)
+between a b first second = Lacks-append 10 a (blank ∷ b) first (omega arith, second)
+
+parts_10 : (e : Event) → IsNamed e → Lacks 10 (parts_of e)
+parts_10 (Format n) can = number_10 n (omega (arith, can.1))
+parts_10 (Activate s l) can = between s (decimal l) (name_10 s can.0) (number_10 l (omega (arith, can.1.1)))
+parts_10 (Append s p) can = between s (hex_text p) (name_10 s can.0) (payload_10 p can.1)
+parts_10 (Trim s p) can = between s (lsn_text p) (name_10 s can.0) (lsn_10 p can.1)
+parts_10 (Retry s) can = name_10 s can
+parts_10 (Drop s) can = name_10 s can
+parts_10 (Deliver i) can = number_10 i (omega (arith, can))
+parts_10 (Lose i) can = number_10 i (omega (arith, can))
+parts_10 (Flow k) can = number_10 k (omega (arith, can.1))
+parts_10 (Open s l f u) can = between s (decimal l ++ blank ∷ (lsn_text f ++ blank ∷ lsn_text u)) (name_10 s can.0) (between (decimal l) (lsn_text f ++ blank ∷ lsn_text u) (number_10 l (omega (arith, can.1.1))) (between (lsn_text f) (lsn_text u) (lsn_10 f can.2) (lsn_10 u can.3)))
+parts_10 (Poll s) can = name_10 s can
+parts_10 (Tick n l) can = between (decimal n) (decimal l) (number_10 n (omega (arith, can.0.1))) (number_10 l (omega (arith, can.1.1)))
+parts_10 (Down n) can = number_10 n (omega (arith, can.1))
+parts_10 (Up n) can = number_10 n (omega (arith, can.1))
+parts_10 (Wipe n) can = number_10 n (omega (arith, can.1))
+parts_10 (Fail n k) can = between (decimal n) (decimal k) (number_10 n (omega (arith, can.0.1))) (number_10 k (omega (arith, can.1.1)))
+parts_10 (Tear n k p) can = between (decimal n) (decimal k ++ blank ∷ picture_text p) (number_10 n (omega (arith, can.0.1))) (between (decimal k) (picture_text p) (number_10 k (omega (arith, can.1.1))) (picture_10 p can.2))
+parts_10 (RegFail k d) can = between (decimal k) (done_text d) (number_10 k (omega (arith, can.1))) (done_10 d)
+
+pub text_lacks : (e : Event) → IsNamed e → Lacks 10 (event_text e)
+text_lacks e can = rw (text_parts e) (between (word_of (form_of e)) (parts_of e) (words_lack 10 (form_of e) refl) (parts_10 e can))

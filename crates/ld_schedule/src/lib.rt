@@ -1,0 +1,21 @@
+//! Events, and the lines of a schedule that spell them.
+#![tactic(auto)]
+
+mod digits;
+mod event;
+mod fault;
+mod field;
+mod form;
+mod law;
+mod number;
+mod read;
+#[cfg(test)]
+mod slow;
+#[cfg(test)]
+mod tests;
+mod words;
+
+pub use event::{Event, Picture};
+pub use fault::LineFault;
+pub use law::spells_one_event;
+pub use read::parse_line;
