@@ -1,0 +1,15 @@
+//! A journal on a disk: bodies of bytes, each on the disk before it is acknowledged.
+#![tactic(auto)]
+
+mod fault;
+mod format;
+mod journal;
+mod read;
+mod record;
+
+pub use fault::JournalFault;
+pub use format::{finished_calls_are_safe, has_one_reading, picture_decides};
+pub use journal::Journal;
+
+#[cfg(test)]
+mod tests;
