@@ -1,0 +1,161 @@
+-- What is read from a run's steps: what was appended, acknowledged and trimmed, what readers got, and which nodes stood lost.
+use Rattle.std.specs.Prelude.{ℕ, ◌≡◌, List, [], ◌∷◌, filter_map, flat_map, Option, Some, None, Bool, true, false, ◌&&◌, ◌==◌, nat_le, if◌then◌else◌, slice_get}
+use Rattle.ld_table.specs.Named.{same}
+use Rattle.ld_table.specs.Words.{any_of, first}
+use Rattle.ld_schedule.specs.declared.event.Event.{Event}
+use Rattle.ld_schedule.specs.declared.event.Event.TheVariants as events
+use Rattle.ld_transcript.specs.declared.line.Line.{Line}
+use Rattle.ld_transcript.specs.declared.line.Line.TheVariants as lines
+use Rattle.ld_transcript.specs.declared.line.GapKind.{GapKind}
+use Rattle.ld_config.specs.declared.config.Config.{Config}
+use Rattle.ld_machine.specs.Config.{has_log}
+
+-- one step: its event and its lines
+pub record Happened : Type 0 where
+  pub event : Event
+  pub lines : List Line
+
+-- ---- the log of a name ----
+
+abbrev pub activates_name : List ℕ → Line → Bool
+activates_name s (lines.Active name epoch) = same name s
+activates_name s _ = false
+
+abbrev pub log_activated : List ℕ → List Line → Event → Option ℕ
+log_activated s ls (events.Activate name l) = if same name s && any_of (activates_name s) ls then Some l else None
+log_activated s ls _ = None
+
+-- the log of a sequencer
+abbrev pub sequencer_log : List ℕ → List Happened → Option ℕ
+sequencer_log s hs = first (filter_map (λ h. log_activated s h.lines h.event) hs)
+
+-- an open that was taken
+pub record Opening : Type 0 where
+  pub log : ℕ
+  pub from : ℕ
+  pub until : ℕ
+
+abbrev pub wrote_nothing : List Line → Bool
+wrote_nothing (lines.Nothing ∷ []) = true
+wrote_nothing _ = false
+
+abbrev pub opening_of : Config → List ℕ → List Line → Event → Option Opening
+opening_of c r ls (events.Open name l from until) = if (same name r && has_log c l) && wrote_nothing ls then Some (record { log = l; from = from; until = until }) else None
+opening_of c r ls _ = None
+
+-- how a reader was opened: the first open of its name that wasn't refused
+abbrev pub opening : Config → List ℕ → List Happened → Option Opening
+opening c r hs = first (filter_map (λ h. opening_of c r h.lines h.event) hs)
+
+-- ---- the lines of steps ----
+
+-- a line of step k
+abbrev pub Writes : List Happened → ℕ → Line → Type 0
+Writes hs k x = (h : Happened) × (slice_get hs k ≡ Some h) × (i : ℕ) × (slice_get h.lines i ≡ Some x)
+
+abbrev pub OfLog : List Happened → ℕ → List ℕ → Type 0
+OfLog hs l s = sequencer_log s hs ≡ Some l
+
+abbrev pub ReadsLog : Config → List Happened → ℕ → List ℕ → Type 0
+ReadsLog c hs l r = (o : Opening) × (opening c r hs ≡ Some o) × (o.log ≡ l)
+
+-- step k appended the payload under the number of the log
+pub record Appends (hs : List Happened) (l n : ℕ) (p : List ℕ) (k : ℕ) : Type 0 where
+  pub name : List ℕ
+  pub here : Happened
+  pub at : slice_get hs k ≡ Some here
+  pub asked : here.event ≡ events.Append name p
+  pub told : Writes hs k (lines.Appended name n)
+  pub of_log : OfLog hs l name
+
+-- step k acknowledged the number
+pub record Acks (hs : List Happened) (l n k : ℕ) : Type 0 where
+  pub name : List ℕ
+  pub told : Writes hs k (lines.Acked name n)
+  pub of_log : OfLog hs l name
+
+-- step k issued the trim point
+pub record Issues (hs : List Happened) (l t k : ℕ) : Type 0 where
+  pub name : List ℕ
+  pub told : Writes hs k (lines.Trimmed name t)
+  pub of_log : OfLog hs l name
+
+-- step k gave a reader the record
+pub record GivesRecord (c : Config) (hs : List Happened) (l n : ℕ) (p : List ℕ) (k : ℕ) : Type 0 where
+  pub name : List ℕ
+  pub told : Writes hs k (lines.Record name n p)
+  pub of_log : ReadsLog c hs l name
+
+-- step k gave a reader the gap
+pub record GivesGap (c : Config) (hs : List Happened) (l : ℕ) (kind : GapKind) (low high k : ℕ) : Type 0 where
+  pub name : List ℕ
+  pub told : Writes hs k (lines.Gap name kind low high)
+  pub of_log : ReadsLog c hs l name
+
+-- ---- items ----
+
+pub record Interval : Type 0 where
+  pub low : ℕ
+  pub high : ℕ
+
+abbrev pub interval_of : List ℕ → Line → Option Interval
+interval_of r (lines.Record name n p) = if same name r then Some (record { low = n; high = n }) else None
+interval_of r (lines.Gap name kind low high) = if same name r then Some (record { low = low; high = high }) else None
+interval_of r _ = None
+
+-- what a reader got, in order
+abbrev pub intervals : List ℕ → List Happened → List Interval
+intervals r hs = flat_map (λ h. filter_map (interval_of r) h.lines) hs
+
+-- ---- nodes that stand lost ----
+
+-- whether a node stands lost for a log, and up to which epoch, where a line said so since the start or the last wipe
+pub data Standing : Type 0 where
+  Lost : Standing
+  LostTo : (epoch : ℕ) → Standing
+  Sound : Standing
+
+abbrev pub lost_to : ℕ → ℕ → List Line → Option ℕ
+lost_to n l [] = None
+lost_to n l (lines.NodeLost m k e ∷ ls) = if (m == n) && (k == l) then Some e else lost_to n l ls
+lost_to n l (x ∷ ls) = lost_to n l ls
+
+abbrev pub formatted_as : Option ℕ → Standing
+formatted_as None = Sound
+formatted_as (Some e) = LostTo e
+
+-- what a line of a step does to a node's standing; the lines after it are given
+abbrev pub standing_after : ℕ → ℕ → Line → List Line → Standing → Standing
+standing_after n l (lines.NodeWiped m) after st = if m == n then Lost else st
+standing_after n l (lines.NodeRebuilt m k) after st = if (m == n) && (k == l) then Sound else st
+standing_after n l (lines.NodeFormatted m g) after st = if m == n then formatted_as (lost_to n l after) else st
+standing_after n l _ after st = st
+
+abbrev pub standing_in : ℕ → ℕ → List Line → Standing → Standing
+standing_in n l [] st = st
+standing_in n l (x ∷ ls) st = standing_in n l ls (standing_after n l x ls st)
+
+abbrev pub standing : ℕ → ℕ → List Happened → Standing → Standing
+standing n l [] st = st
+standing n l (h ∷ hs) st = standing n l hs (standing_in n l h.lines st)
+
+abbrev pub stands_for : ℕ → Standing → Bool
+stands_for e Lost = true
+stands_for e (LostTo c) = nat_le e c
+stands_for e Sound = false
+
+-- an epoch of the log, at least this one, is active
+abbrev pub active_line : ℕ → Line → Bool
+active_line e (lines.Active name epoch) = nat_le e epoch
+active_line e _ = false
+
+abbrev pub activates_log : ℕ → ℕ → List Line → Event → Bool
+activates_log l e ls (events.Activate name k) = (k == l) && any_of (active_line e) ls
+activates_log l e ls _ = false
+
+abbrev pub has_epoch : ℕ → ℕ → List Happened → Bool
+has_epoch l e hs = any_of (λ h. activates_log l e h.lines h.event) hs
+
+-- after these steps the node stands lost for the epoch
+abbrev pub stands_lost : ℕ → ℕ → List Happened → ℕ → Bool
+stands_lost l e hs n = has_epoch l e hs && stands_for e (standing n l hs Lost)

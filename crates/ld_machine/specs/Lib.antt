@@ -1,0 +1,13 @@
+pub mod Config
+pub mod Disk
+pub mod State
+pub mod Step
+pub mod World
+pub mod Invariant
+pub mod Facts
+pub mod Safe
+pub mod Run
+pub mod Served
+pub mod Losses
+pub mod Exercise
+pub mod ServedRun

@@ -1,0 +1,59 @@
+-- A number that a reader calls lost: what stood when the reader asked the lost nodes once more.
+use Rattle.std.specs.Prelude.{ℕ, ◌≡◌, ◌≤◌, ◌<◌, List, [], Option, Some, None, Bool, true, ◌&&◌}
+use Rattle.ld_table.specs.Words.{how_many}
+use Rattle.ld_table.specs.Named.{find_named}
+use Rattle.ld_lsn.specs.Number.{home_epoch}
+use Rattle.ld_schedule.specs.declared.event.Event.{Event}
+use Rattle.ld_transcript.specs.declared.line.Line.TheVariants as lines
+use Rattle.ld_transcript.specs.declared.line.GapKind.TheVariants as gaps
+use Rattle.ld_msg.specs.declared.msg.Summary.{Summary}
+use Rattle.ld_msg.specs.Reader.{Reader, Confirmation}
+use Rattle.ld_op.specs.Plain.{log_of, is_lost}
+use Rattle.ld_config.specs.declared.config.Config.{Config}
+use Rattle.ld_config.specs.Bounds.{IsInBounds}
+use Rattle.ld_machine.specs.Config.{spec_of, set_at}
+use Rattle.ld_machine.specs.Disk.{Node, Cut}
+use Rattle.ld_machine.specs.State.{node_at}
+use Rattle.ld_machine.specs.World.{World, In, begin, has_told, says_settled}
+use Rattle.ld_machine.specs.Run.{next_world, world_after, happened}
+use Rattle.ld_machine.specs.Invariant.{Closed}
+
+-- the reader confirms in this round that the number is lost
+pub record IsConfirming (w : World) (name : List ℕ) (s round : ℕ) : Type 0 where
+  pub reader : Reader
+  pub there : find_named name w.state.readers ≡ Some reader
+  pub next : reader.next ≡ s
+  pub confirmation : Confirmation
+  pub lasts : reader.confirming ≡ Some confirmation
+  pub here : confirmation.round ≡ round
+
+-- the reader's round isn't there yet
+pub record IsBefore (w : World) (name : List ℕ) (round : ℕ) : Type 0 where
+  pub reader : Reader
+  pub there : find_named name w.state.readers ≡ Some reader
+  pub lower : reader.round < round
+
+-- after some steps the reader sends the confirming asks for a number in a step, and after some more another step calls the number lost
+pub record EndsAsLoss (c : Config) (name : List ℕ) (log s round : ℕ) (before : List Event) (asks : Event) (between : List Event) (gives : Event) : Type 0 where
+  pub not_yet : IsBefore (world_after c (begin c) before) name round
+  pub asked : IsConfirming (next_world c (world_after c (begin c) before) asks) name s round
+  pub still : IsConfirming (world_after c (next_world c (world_after c (begin c) before) asks) between) name s round
+  pub of_log : still.reader.log ≡ log
+  pub told : In (lines.Gap name gaps.DataLoss s s) (happened c (world_after c (next_world c (world_after c (begin c) before) asks) between).state gives).lines
+
+abbrev pub cut_lost : ℕ → ℕ → Option Cut → Bool
+cut_lost l e None = true
+cut_lost l e (Some k) = is_lost (log_of k.plain l) e
+
+-- the node is lost for the epoch, also where a crash left two states
+abbrev pub lost_here : ℕ → ℕ → Node → Bool
+lost_here l e x = is_lost (log_of x.plain l) e && cut_lost l e x.cut
+
+-- as many nodes as the log has copies are lost that had answered the number to the closing plan
+abbrev pub CopiesLost : Config → World → ℕ → ℕ → Type 0
+CopiesLost c w l s = (y : Summary) × Closed w l (home_epoch s) y ×
+    ((spec_of c l (home_epoch s)).r ≤ how_many (λ n. lost_here l (home_epoch s) (node_at w.state n) && has_told w (says_settled s) l y.ballot n) (set_at c l (home_epoch s)))
+
+abbrev pub LossesStood : Type 0
+LossesStood = (c : Config) (name : List ℕ) (l s round : ℕ) (before : List Event) (asks : Event) (between : List Event) (gives : Event) → IsInBounds c →
+    EndsAsLoss c name l s round before asks between gives → CopiesLost c (next_world c (world_after c (begin c) before) asks) l s

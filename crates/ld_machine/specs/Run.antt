@@ -1,0 +1,102 @@
+-- Runs.
+use Rattle.std.specs.Prelude.{ℕ, suc, zero, List, [], ◌∷◌, ◌++◌, take, drop, Some, None}
+use Rattle.ld_schedule.specs.declared.event.Event.{Event}
+use Rattle.ld_schedule.specs.declared.event.Event.TheVariants as events
+use Rattle.ld_transcript.specs.declared.line.Line.{Line}
+use Rattle.ld_transcript.specs.Text.{text}
+use Rattle.ld_config.specs.Bounds.{IsInBounds}
+use Rattle.ld_config.specs.declared.config.Config.{Config}
+use Rattle.ld_msg.specs.Network.{oldest_new}
+use Rattle.ld_machine.specs.State.{State, Stepped, start, finish, or_none}
+use Rattle.ld_machine.specs.Step.{happens, delivers}
+use Rattle.ld_machine.specs.Facts.{Happened}
+use Rattle.ld_machine.specs.Safe.{Safe}
+use Rattle.ld_machine.specs.World.{World, begin, made_on}
+use Rattle.ld_machine.specs.Invariant.{Invariant}
+
+-- at most so many of the oldest new messages are delivered, each in a step of its own
+abbrev pub flows : ℕ → Config → State → Stepped
+flows zero c s = record { state = s; lines = [] }
+flows (suc k) c s = elim (oldest_new s.network) [
+  | None ↦ record { state = s; lines = [] }
+  | Some i ↦ (let r : Stepped = finish (delivers c s i) in let rest : Stepped = flows k c r.state in record { state = rest.state; lines = r.lines ++ rest.lines })
+]
+
+abbrev pub flowed : Stepped → Stepped
+flowed r = record { state = r.state; lines = or_none r.lines }
+
+unfoldable pub step : Config → State → Event → Stepped
+step c s (events.Flow k) = flowed (flows k c s)
+step c s e = finish (happens c s e)
+
+-- the state after some events, and their lines
+unfoldable pub state_after : Config → State → List Event → State
+state_after c s [] = s
+state_after c s (e ∷ es) = state_after c (step c s e).state es
+
+unfoldable pub lines_of : Config → State → List Event → List Line
+lines_of c s [] = []
+lines_of c s (e ∷ es) = let r : Stepped = step c s e in r.lines ++ lines_of c r.state es
+
+-- the transcript of a schedule, as bytes
+abbrev pub transcript : Config → List Event → List ℕ
+transcript c es = text (lines_of c (start c) es)
+
+-- some of its lines, as bytes
+abbrev pub part : ℕ → ℕ → Config → List Event → List ℕ
+part low count c es = text (take count (drop low (lines_of c (start c) es)))
+
+-- ---- the steps of a run, one for each delivery of a flow ----
+
+pub record Went : Type 0 where
+  pub state : State
+  pub happened : List Happened
+
+abbrev pub flow_steps : ℕ → Config → State → Went
+flow_steps zero c s = record { state = s; happened = [] }
+flow_steps (suc k) c s = elim (oldest_new s.network) [
+  | None ↦ record { state = s; happened = [] }
+  | Some i ↦ (let r : Stepped = finish (delivers c s i) in let rest : Went = flow_steps k c r.state in record { state = rest.state; happened = record { event = events.Deliver i; lines = r.lines } ∷ rest.happened })
+]
+
+abbrev pub one_step : Event → Stepped → Went
+one_step e r = record { state = r.state; happened = record { event = e; lines = r.lines } ∷ [] }
+
+-- the steps of one event
+unfoldable pub steps_of : Config → State → Event → Went
+steps_of c s (events.Flow k) = flow_steps k c s
+steps_of c s e = one_step e (finish (happens c s e))
+
+unfoldable pub history_from : Config → State → List Event → List Happened
+history_from c s [] = []
+history_from c s (e ∷ es) = let w : Went = steps_of c s e in w.happened ++ history_from c w.state es
+
+abbrev pub history : Config → List Event → List Happened
+history c es = history_from c (start c) es
+
+-- the headline: every run is safe
+abbrev pub EveryRunIsSafe : Type 0
+EveryRunIsSafe = (c : Config) (es : List Event) → IsInBounds c → Safe c (history c es)
+
+-- ---- the world along a run ----
+
+abbrev pub next_world : Config → World → Event → World
+next_world c w e = record { state = (finish (happens c w.state e)).state; made = made_on c w.state e ++ w.made }
+
+-- events are those of the steps, each delivery of a flow for itself
+unfoldable pub world_after : Config → World → List Event → World
+world_after c w [] = w
+world_after c w (e ∷ es) = world_after c (next_world c w e) es
+
+-- one step, as it is told
+abbrev pub happened : Config → State → Event → Happened
+happened c s e = record { event = e; lines = (finish (happens c s e)).lines }
+
+-- the steps of events that are none of them a flow
+abbrev pub trace : Config → World → List Event → List Happened
+trace c w [] = []
+trace c w (e ∷ es) = happened c w.state e ∷ trace c (next_world c w e) es
+
+-- the invariant holds in every state of every run
+abbrev pub InvariantHolds : Type 0
+InvariantHolds = (c : Config) (es : List Event) → IsInBounds c → Invariant c (trace c (begin c) es) (world_after c (begin c) es)

@@ -1,0 +1,61 @@
+-- What holds of every run: over the lines of its steps alone.
+use Rattle.std.specs.Prelude.{ℕ, ◌≡◌, ◌≤◌, ◌<◌, ◌+◌, ◌⊎◌, List, [], ◌∷◌, take, Some}
+use Rattle.ld_table.specs.Words.{how_many}
+use Rattle.ld_lsn.specs.Number.{home_epoch}
+use Rattle.ld_transcript.specs.declared.line.GapKind.{GapKind}
+use Rattle.ld_transcript.specs.declared.line.GapKind.TheVariants as gaps
+use Rattle.ld_transcript.specs.declared.line.Line.TheVariants as lines
+use Rattle.ld_config.specs.declared.config.Config.{Config}
+use Rattle.ld_machine.specs.Config.{spec_of, set_at}
+use Rattle.ld_machine.specs.Facts.{Happened, Opening, opening, Writes, Appends, Acks, Issues, GivesRecord, GivesGap, Interval, intervals, stands_lost}
+
+-- intervals that follow one another without a space, none empty and none past the end
+abbrev pub TilesFrom : ℕ → ℕ → List Interval → Type 0
+TilesFrom until next [] = Unit {0}
+TilesFrom until next (i ∷ is) = (i.low ≡ next) × (i.low ≤ i.high) × (i.high ≤ until) × TilesFrom until (i.high + 1) is
+
+-- what each reader got tiles the numbers from its first one on
+abbrev pub ItemsTile : Config → List Happened → Type 0
+ItemsTile c hs = (r : List ℕ) (o : Opening) → opening c r hs ≡ Some o → TilesFrom o.until o.from (intervals r hs)
+
+-- a record was appended under its number before
+abbrev pub RecordsWereAppended : Config → List Happened → Type 0
+RecordsWereAppended c hs = (l n k : ℕ) (p : List ℕ) → GivesRecord c hs l n p k → (j : ℕ) × (j < k) × Appends hs l n p j
+
+-- a hole or a bridge
+abbrev pub SaysNone : GapKind → Type 0
+SaysNone kind = (kind ≡ gaps.Hole) ⊎ (kind ≡ gaps.Bridge)
+
+-- no hole or bridge holds a number that was acknowledged or read as a record, earlier or later
+abbrev pub NothingHidden : Config → List Happened → Type 0
+NothingHidden c hs = (l low high n i j : ℕ) (kind : GapKind) → SaysNone kind → GivesGap c hs l kind low high i → low ≤ n → n ≤ high →
+    (Acks hs l n j → ⊥) × ((p : List ℕ) → GivesRecord c hs l n p j → ⊥)
+
+-- a trim gap ends at or below a point that was issued before
+abbrev pub TrimsWereIssued : Config → List Happened → Type 0
+TrimsWereIssued c hs = (l low high k : ℕ) → GivesGap c hs l gaps.Trim low high k → (j t : ℕ) × (j < k) × (high ≤ t) × Issues hs l t j
+
+-- at the end of step k so many nodes of the log as it has copies stood lost
+abbrev pub Lacking : Config → List Happened → ℕ → ℕ → ℕ → Type 0
+Lacking c hs l e k = (spec_of c l e).r ≤ how_many (stands_lost l e (take (k + 1) hs)) (set_at c l e)
+
+-- a number that is called lost had such a moment
+abbrev pub LossesHappened : Config → List Happened → Type 0
+LossesHappened c hs = (l low high n k : ℕ) → GivesGap c hs l gaps.DataLoss low high k → low ≤ n → n ≤ high → (j : ℕ) × (j ≤ k) × Lacking c hs l (home_epoch n) j
+
+-- the numbers of a sequencer's appends rise
+abbrev pub NumbersRise : List Happened → Type 0
+NumbersRise hs = (s : List ℕ) (n m j k : ℕ) → Writes hs j (lines.Appended s n) → Writes hs k (lines.Appended s m) → j < k → n < m
+
+-- two appends of a log don't share a number
+abbrev pub NumbersDiffer : List Happened → Type 0
+NumbersDiffer hs = (l n j k : ℕ) (p q : List ℕ) → Appends hs l n p j → Appends hs l n q k → j ≡ k
+
+pub record Safe (c : Config) (hs : List Happened) : Type 0 where
+  pub tiles : ItemsTile c hs
+  pub records : RecordsWereAppended c hs
+  pub hidden : NothingHidden c hs
+  pub trims : TrimsWereIssued c hs
+  pub losses : LossesHappened c hs
+  pub rise : NumbersRise hs
+  pub differ : NumbersDiffer hs

@@ -1,0 +1,177 @@
+-- A state with a book that never forgets: the digests that plans were made from.
+use Rattle.std.specs.Prelude.{ℕ, ◌≡◌, ◌⊎◌, List, [], ◌∷◌, Option, Some, None, is_some, Bool, true, false, ◌&&◌, ◌||◌, ◌==◌, nat_le, if◌then◌else◌}
+use Rattle.ld_table.specs.Table.{find}
+use Rattle.ld_table.specs.Words.{how_many, any_of}
+use Rattle.ld_lsn.specs.Number.{epoch_of, esn_of}
+use Rattle.ld_schedule.specs.declared.event.Event.{Event}
+use Rattle.ld_schedule.specs.declared.event.Event.TheVariants as events
+use Rattle.ld_msg.specs.declared.msg.What.{What}
+use Rattle.ld_msg.specs.declared.msg.Who.{Who}
+use Rattle.ld_msg.specs.declared.msg.Who.TheVariants as whos
+use Rattle.ld_msg.specs.declared.msg.Msg.{Msg}
+use Rattle.ld_msg.specs.declared.msg.Entry.{Entry}
+use Rattle.ld_msg.specs.declared.msg.Body.{Body}
+use Rattle.ld_msg.specs.declared.msg.Body.TheVariants as bodies
+use Rattle.ld_msg.specs.Digest.{Told, with_page, enough, plan_item, trim_place, digest_trim}
+use Rattle.ld_op.specs.Plain.{Plain, log_of, summary_at, is_lost}
+use Rattle.ld_config.specs.declared.config.Config.{Config}
+use Rattle.ld_machine.specs.Config.{spec_of, set_at}
+use Rattle.ld_machine.specs.Disk.{Node, Cut}
+use Rattle.ld_msg.specs.Network.{message}
+use Rattle.ld_msg.specs.Sequencer.{Sequencer, Recovery, Stage, Seals, takes_any}
+use Rattle.ld_machine.specs.State.{State, start, sequencer_of}
+
+-- a plan: whose, of which epoch of which log, and the digest that it was made from
+pub record Made : Type 0 where
+  pub log : ℕ
+  pub epoch : ℕ
+  pub ballot : ℕ
+  pub digest : List Told
+
+pub record World : Type 0 where
+  pub state : State
+  pub made : List Made
+
+abbrev pub begin : Config → World
+begin c = record { state = start c; made = [] }
+
+-- ---- the plan that a delivery makes ----
+
+abbrev pub if_enough : Config → Sequencer → Recovery → List Told → List Made
+if_enough c q v d = if enough (spec_of c q.log v.epoch) d then record { log = q.log; epoch = v.epoch; ballot = q.epoch; digest = d } ∷ [] else []
+
+abbrev pub made_in : Config → Sequencer → Recovery → Stage → ℕ → ℕ → ℕ → ℕ → List Entry → List Made
+made_in c q v (Seals d) y from upto trim es = if takes_any y from d then if_enough c q v (with_page v.epoch y from upto trim es d) else []
+made_in c q v _ y from upto trim es = []
+
+abbrev pub made_with : Config → Sequencer → Option Recovery → ℕ → Body → List Made
+made_with c q (Some v) y (bodies.DigestPage from upto trim lng es) = if v.epoch == epoch_of from then made_in c q v v.stage y from upto trim es else []
+made_with c q _ y b = []
+
+abbrev pub made_by : Config → Option (List ℕ × Sequencer) → ℕ → Body → List Made
+made_by c None y b = []
+made_by c (Some q) y b = if q.1.gone || is_some q.1.preempted then [] else made_with c q.1 q.1.recovery y b
+
+abbrev pub page_from : Who → ℕ
+page_from (whos.Node y) = y
+page_from _ = 0
+
+abbrev pub made_for : Config → State → Msg → Who → List Made
+made_for c s m (whos.Sequencer b) = made_by c (sequencer_of m.log b s.sequencers) (page_from m.from) m.body
+made_for c s m _ = []
+
+abbrev pub made_at : Config → State → Option Msg → List Made
+made_at c s None = []
+made_at c s (Some m) = made_for c s m m.to
+
+abbrev pub made_on : Config → State → Event → List Made
+made_on c s (events.Deliver i) = made_at c s (message s.network i)
+made_on c s _ = []
+
+-- ---- what was sent ----
+
+-- x is one of the list
+abbrev pub In : {X : Type 0} → X → List X → Type 0
+In x [] = ⊥
+In x (y ∷ ys) = (x ≡ y) ⊎ In x ys
+
+abbrev pub Sent : World → Msg → Type 0
+Sent w m = In m w.state.network.sent
+
+abbrev pub from_node : ℕ → ℕ → ℕ → Body → Msg
+from_node l y b body = record { from = whos.Node y; to = whos.Sequencer b; log = l; body = body }
+
+abbrev pub to_node_of : ℕ → ℕ → ℕ → Body → Msg
+to_node_of l b y body = record { from = whos.Sequencer b; to = whos.Node y; log = l; body = body }
+
+-- node y answered Stored for the number to ballot b
+abbrev pub Stored : World → ℕ → ℕ → ℕ → ℕ → Type 0
+Stored w l y n b = Sent w (from_node l y b (bodies.Stored n))
+
+abbrev pub is_node : ℕ → Who → Bool
+is_node y (whos.Node x) = x == y
+is_node y _ = false
+
+abbrev pub is_sequencer : ℕ → Who → Bool
+is_sequencer b (whos.Sequencer e) = e == b
+is_sequencer b _ = false
+
+abbrev pub says_stored : ℕ → Body → Bool
+says_stored n (bodies.Stored s) = s == n
+says_stored n _ = false
+
+-- stored, or trimmed at or above the number
+abbrev pub says_settled : ℕ → Body → Bool
+says_settled n (bodies.Stored s) = s == n
+says_settled n (bodies.TrimmedHere s t) = (epoch_of s == epoch_of n) && nat_le n t
+says_settled n _ = false
+
+abbrev pub told_by : (Body → Bool) → ℕ → ℕ → ℕ → Msg → Bool
+told_by p l y b m = ((m.log == l) && p m.body) && (is_node y m.from && is_sequencer b m.to)
+
+abbrev pub has_told : World → (Body → Bool) → ℕ → ℕ → ℕ → Bool
+has_told w p l b y = any_of (told_by p l y b) w.state.network.sent
+
+-- as many nodes of the log as it has copies stored the number for ballot b
+unfoldable pub chosen : Config → World → ℕ → ℕ → ℕ → Bool
+chosen c w l n b = nat_le (spec_of c l (epoch_of n)).r (how_many (has_told w (says_stored n) l b) (set_at c l (epoch_of n)))
+
+unfoldable pub settled : Config → World → ℕ → ℕ → ℕ → Bool
+settled c w l n b = nat_le (spec_of c l (epoch_of n)).r (how_many (has_told w (says_settled n) l b) (set_at c l (epoch_of n)))
+
+-- ---- what a ballot says of a number ----
+
+abbrev pub is_made : ℕ → ℕ → ℕ → Made → Bool
+is_made l e b m = ((m.log == l) && (m.epoch == e)) && (m.ballot == b)
+
+abbrev pub digest_in : ℕ → ℕ → ℕ → List Made → Option (List Told)
+digest_in l e b [] = None
+digest_in l e b (m ∷ ms) = if is_made l e b m then Some m.digest else digest_in l e b ms
+
+abbrev pub HasPlan : World → ℕ → ℕ → ℕ → List Told → Type 0
+HasPlan w l e b d = digest_in l e b w.made ≡ Some d
+
+abbrev pub stores_at : ℕ → Body → Bool
+stores_at n (bodies.Store s lng x) = s == n
+stores_at n _ = false
+
+abbrev pub what_sent : ℕ → ℕ → ℕ → Msg → Bool
+what_sent l b n m = (m.log == l) && (is_sequencer b m.from && stores_at n m.body)
+
+abbrev pub stored_what : Body → Option What
+stored_what (bodies.Store s lng x) = Some x
+stored_what _ = None
+
+-- what the epoch's own sequencer sent under the number
+abbrev pub append_in : ℕ → ℕ → List Msg → Option What
+append_in l n [] = None
+append_in l n (m ∷ ms) = if what_sent l (epoch_of n) n m then stored_what m.body else append_in l n ms
+
+abbrev pub item_in : ℕ → ℕ → Option (List Told) → Option What
+item_in e n None = None
+item_in e n (Some d) = plan_item e d n
+
+-- the append's record for the epoch's own ballot, and else the item of the ballot's plan
+unfoldable pub item : World → ℕ → ℕ → ℕ → Option What
+item w l n b = if b == epoch_of n then append_in l n w.state.network.sent else item_in (epoch_of n) (esn_of n) (digest_in l (epoch_of n) b w.made)
+
+abbrev pub plan_trim : ℕ → List Told → ℕ
+plan_trim e d = trim_place e (digest_trim d)
+
+-- ---- nodes ----
+
+-- a plain state that a load may find: the one before a record that was cut short, or the one after it
+abbrev pub MayHold : Node → Plain → Type 0
+MayHold x p = (p ≡ x.plain) ⊎ ((k : Cut) × (x.cut ≡ Some k) × (p ≡ k.plain))
+
+-- the epoch is not served there any more: the node is blank, or lost for it, or it is clean there
+abbrev pub Unserved : Plain → ℕ → ℕ → Type 0
+Unserved p l e = (p.generation ≡ 0) ⊎ ((is_lost (log_of p l) e ≡ true) ⊎ (is_some (summary_at (log_of p l) e) ≡ true))
+
+-- the number has an entry of at least this ballot there
+abbrev pub has_at_least : ℕ → Option Entry → Bool
+has_at_least b None = false
+has_at_least b (Some e) = nat_le b e.ballot
+
+abbrev pub Holds : Plain → ℕ → ℕ → ℕ → Type 0
+Holds p l n b = has_at_least b (find n (log_of p l).entries) ≡ true

@@ -1,0 +1,175 @@
+-- A reader of a log: its asks, what it holds, and the items that it gives.
+use Rattle.std.specs.Prelude.{ℕ, ◌+◌, ◌-◌, ◌^◌, min, suc, zero, List, [], ◌∷◌, ◌++◌, length, Option, Some, None, Bool, true, false, ◌&&◌, not, ◌==◌, nat_lt, nat_le, if◌then◌else◌}
+use Rattle.ld_table.specs.Table.{find, put}
+use Rattle.ld_table.specs.Words.{is_in, with_one, all_of, any_of}
+use Rattle.ld_msg.specs.declared.msg.Body.{Body}
+use Rattle.ld_msg.specs.declared.msg.Body.TheVariants as bodies
+use Rattle.ld_msg.specs.Reading.{Held, Item, TrimTo, RecordHere, HoleHere, BridgeTo, LossHere, Verdict, Gives, Confirms, NotYet, decide}
+
+-- the lost nodes that are asked once more: the round, the generation held for each, and those that said so again
+pub record Confirmation : Type 0 where
+  pub round : ℕ
+  pub asked : List (ℕ × ℕ)
+  pub told : List ℕ
+
+pub record Reader : Type 0 where
+  pub log : ℕ
+  pub number : ℕ
+  pub next : ℕ
+  pub until : ℕ
+  pub round : ℕ
+  pub held : List (ℕ × Held)
+  pub confirming : Option Confirmation
+
+abbrev pub opened : ℕ → ℕ → ℕ → ℕ → Reader
+opened l number from until = record { log = l; number = number; next = from; until = until; round = 0; held = []; confirming = None }
+
+abbrev pub is_finished : Reader → Bool
+is_finished d = nat_lt d.until d.next
+
+abbrev pub last_round : ℕ
+last_round = 2 ^ 32 - 1
+
+-- what one answer did: the items with the numbers from which they stand, and the asks
+pub record Read : Type 0 where
+  pub reader : Reader
+  pub items : List (ℕ × Item)
+  pub asks : List (ℕ × Body)
+
+-- ---- asks ----
+
+abbrev pub asks_of : ℕ → ℕ → List ℕ → List (ℕ × Body)
+asks_of round next [] = []
+asks_of round next (y ∷ ys) = (y, bodies.ReadAsk round next) ∷ asks_of round next ys
+
+abbrev pub keys : List (ℕ × ℕ) → List ℕ
+keys [] = []
+keys (k ∷ ks) = k.0 ∷ keys ks
+
+-- a new round, which ends a confirmation
+abbrev pub polled : Reader → Reader
+polled d = record d { round = if nat_lt d.round last_round then d.round + 1 else d.round; confirming = None }
+
+abbrev pub poll_asks : List ℕ → Reader → List (ℕ × Body)
+poll_asks set d = if nat_lt d.round last_round then asks_of (d.round + 1) d.next set else []
+
+-- ---- items ----
+
+-- the last number of an item from a number on
+abbrev pub item_end : ℕ → Item → ℕ
+item_end s (TrimTo last) = last
+item_end s (RecordHere p) = s
+item_end s HoleHere = s
+item_end s (BridgeTo last) = last
+item_end s LossHere = s
+
+-- an item ends a confirmation
+abbrev pub after_item : Reader → Item → Reader
+after_item d i = record d { next = min (item_end d.next i) d.until + 1; confirming = None }
+
+abbrev pub gives : Read → Item → Read
+gives a i = record { reader = after_item a.reader i; items = a.items ++ (a.reader.next, i) ∷ []; asks = a.asks }
+
+abbrev pub confirms : Read → List (ℕ × ℕ) → Read
+confirms a lost = record {
+  reader = record a.reader { round = a.reader.round + 1; confirming = Some (record { round = a.reader.round + 1; asked = lost; told = [] }) };
+  items = a.items;
+  asks = asks_of (a.reader.round + 1) a.reader.next (keys lost);
+}
+
+abbrev pub is_confirming : Option Confirmation → Bool
+is_confirming None = false
+is_confirming (Some v) = true
+
+abbrev pub may_confirm : Reader → Bool
+may_confirm d = not (is_confirming d.confirming) && nat_lt d.round last_round
+
+abbrev pub verdict : List ℕ → Reader → Verdict
+verdict set d = if is_finished d then NotYet else decide d.next (may_confirm d) set d.held
+
+-- while a row of the table holds, at most so often
+abbrev pub gives_all : ℕ → List ℕ → Read → Read
+gives_all zero set a = a
+gives_all (suc k) set a = elim (verdict set a.reader) [ Gives i ↦ gives_all k set (gives a i) | Confirms lost ↦ confirms a lost | NotYet ↦ a ]
+
+abbrev pub body_size : Body → ℕ
+body_size (bodies.ReadPage round from upto clean es) = 1 + length es
+body_size _ = 1
+
+abbrev pub held_size : List (ℕ × Held) → ℕ
+held_size [] = 0
+held_size (h ∷ hs) = body_size h.1.body + held_size hs
+
+-- each held answer gives an item for each of its entries, or one; and there may be a loss, and a confirmation after it
+abbrev pub most_items : Reader → ℕ
+most_items d = held_size d.held + 2
+
+-- ---- an answer ----
+
+abbrev pub round_of : Body → ℕ
+round_of (bodies.LostHere number round generation end) = round
+round_of (bodies.ReadPage round from upto clean es) = round
+round_of (bodies.ReadEnded round from end) = round
+round_of (bodies.ReadTrim round from trim) = round
+round_of (bodies.ReadWait round from released) = round
+round_of _ = 0
+
+abbrev pub is_newer : Option Held → ℕ → Bool
+is_newer None round = true
+is_newer (Some h) round = nat_le h.round round
+
+-- the answer of the greatest round is held, of equal ones the last
+abbrev pub held_with : List (ℕ × Held) → ℕ → Body → List (ℕ × Held)
+held_with hs y b = if is_newer (find y hs) (round_of b) then put y (record { round = round_of b; body = b }) hs else hs
+
+abbrev pub same_generation : Option ℕ → ℕ → Bool
+same_generation None g = false
+same_generation (Some h) g = h == g
+
+-- the node is lost still, under the generation that was held for it
+abbrev pub confirms_loss : List (ℕ × ℕ) → ℕ → Body → Bool
+confirms_loss asked y (bodies.LostHere number round generation end) = same_generation (find y asked) generation
+confirms_loss asked y _ = false
+
+-- any other answer of its round ends a confirmation
+abbrev pub confirming_with : Option Confirmation → ℕ → Body → Option Confirmation
+confirming_with None y b = None
+confirming_with (Some v) y b =
+    if not (round_of b == v.round) then Some v
+    else if confirms_loss v.asked y b then Some (record { round = v.round; asked = v.asked; told = with_one y v.told })
+    else None
+
+abbrev pub is_confirmed : Option Confirmation → Bool
+is_confirmed None = false
+is_confirmed (Some v) = all_of (λ k. is_in k.0 v.told) v.asked
+
+abbrev pub heard : Reader → ℕ → Body → Reader
+heard d y b = record d { held = held_with d.held y b; confirming = confirming_with d.confirming y b }
+
+abbrev pub loses : Reader → Read
+loses d = if is_confirmed d.confirming then gives (record { reader = d; items = []; asks = [] }) LossHere else record { reader = d; items = []; asks = [] }
+
+-- ---- the next round ----
+
+-- a page that goes as far as the number: it begins no further on, since each page answers an ask from the next number of its time
+abbrev pub reaches : ℕ → Body → Bool
+reaches s (bodies.ReadPage round from upto clean es) = nat_le s upto
+reaches s _ = false
+
+abbrev pub gave_item : List (ℕ × Item) → Bool
+gave_item [] = false
+gave_item (i ∷ is) = true
+
+-- an item was given, the reader isn't finished, no confirmation lasts, and no held page reaches the next number
+abbrev pub asks_on : Read → Bool
+asks_on a = (gave_item a.items && not (is_finished a.reader)) && (not (is_confirming a.reader.confirming) && not (any_of (λ h. reaches a.reader.next h.1.body) a.reader.held))
+
+abbrev pub next_round : List ℕ → Read → Read
+next_round set a = record {
+  reader = if asks_on a then polled a.reader else a.reader;
+  items = a.items;
+  asks = if asks_on a then poll_asks set a.reader else a.asks;
+}
+
+unfoldable pub on_answer : List ℕ → Reader → ℕ → Body → Read
+on_answer set d y b = next_round set (gives_all (most_items (heard d y b)) set (loses (heard d y b)))

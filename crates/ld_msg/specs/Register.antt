@@ -1,0 +1,135 @@
+-- The register of epochs, closes and generations.
+use Rattle.std.specs.Prelude.{ℕ, ◌+◌, ◌-◌, ◌^◌, List, [], ◌∷◌, Option, Some, None, Bool, true, false, ◌||◌, ◌&&◌, not, ◌==◌, nat_lt, nat_le, if◌then◌else◌}
+use Rattle.std.specs.Option.{unwrap_or}
+use Rattle.ld_table.specs.Table.{find, put}
+use Rattle.ld_table.specs.Words.{how_many}
+use Rattle.ld_msg.specs.declared.msg.Summary.{Summary}
+
+-- one log's: the greatest epoch handed out, the last closed one, and the summaries of the closed ones
+pub record Epochs : Type 0 where
+  pub epoch : ℕ
+  pub lce : ℕ
+  pub summaries : List (ℕ × Summary)
+
+-- the change of this count from now fails, made or not
+pub record Armed : Type 0 where
+  pub left : ℕ
+  pub done : Bool
+
+pub record Register : Type 0 where
+  pub logs : List (ℕ × Epochs)
+  pub generations : List (ℕ × ℕ)
+  pub length : ℕ
+  pub armed : Option Armed
+
+abbrev pub empty_register : Register
+empty_register = record { logs = []; generations = []; length = 1; armed = None }
+
+abbrev pub no_epochs : Epochs
+no_epochs = record { epoch = 0; lce = 0; summaries = [] }
+
+abbrev pub epochs_of : Register → ℕ → Epochs
+epochs_of r l = unwrap_or (find l r.logs) no_epochs
+
+abbrev pub generation_of : Register → ℕ → ℕ
+generation_of r n = unwrap_or (find n r.generations) 0
+
+abbrev pub lce_of : Register → ℕ → ℕ
+lce_of r l = (epochs_of r l).lce
+
+-- ---- a change ----
+
+-- a record of a journal takes five bytes beside its body
+abbrev pub record_length : ℕ → ℕ
+record_length body = 5 + body
+
+abbrev pub journal_limit : ℕ
+journal_limit = 2 ^ 40
+
+-- the greatest epoch and the greatest generation
+abbrev pub epoch_limit : ℕ
+epoch_limit = 2 ^ 32 - 2
+
+abbrev pub generation_limit : ℕ
+generation_limit = 2 ^ 32 - 1
+
+-- how a call ends
+pub data Answer : Type 0 where
+  Granted : Answer
+  AtLimit : Answer
+  Behind : (lce : ℕ) → Answer
+  Fails : Answer
+
+pub record Changed : Type 0 where
+  pub register : Register
+  pub answer : Answer
+
+abbrev pub falls : Option Armed → Bool
+falls None = false
+falls (Some a) = nat_le a.left 1
+
+abbrev pub armed_after : Option Armed → Option Armed
+armed_after None = None
+armed_after (Some a) = if nat_le a.left 1 then None else Some (record { left = a.left - 1; done = a.done })
+
+-- whether the change is made
+abbrev pub is_made : Option Armed → Bool
+is_made None = true
+is_made (Some a) = not (nat_le a.left 1) || a.done
+
+-- a change of so many bytes: it may be refused by the journal's limit, and else is made unless an armed fault prevents it
+abbrev pub made : Register → Register → ℕ → Register
+made r next body = record next { length = if is_made r.armed then r.length + record_length body else r.length; armed = armed_after r.armed }
+
+abbrev pub unmade : Register → Register
+unmade r = record r { armed = armed_after r.armed }
+
+unfoldable pub change : Register → Register → ℕ → Changed
+change r next body = record {
+  register = if nat_lt journal_limit (r.length + record_length body) then r else if is_made r.armed then made r next body else unmade r;
+  answer = if nat_lt journal_limit (r.length + record_length body) || falls r.armed then Fails else Granted;
+}
+
+abbrev pub with_epochs : Register → ℕ → Epochs → Register
+with_epochs r l e = record r { logs = put l e r.logs }
+
+-- the next epoch of a log
+abbrev pub next_epoch : Epochs → Epochs
+next_epoch e = record e { epoch = e.epoch + 1 }
+
+unfoldable pub activate : Register → ℕ → Changed
+activate r l =
+    if nat_le epoch_limit (epochs_of r l).epoch then record { register = r; answer = AtLimit }
+    else change r (with_epochs r l (next_epoch (epochs_of r l))) 9
+
+-- an epoch is closed with a summary, where the one before it is the last closed one
+abbrev pub closed_epochs : Epochs → ℕ → Summary → Epochs
+closed_epochs e epoch y = record e { lce = epoch; summaries = put epoch y e.summaries }
+
+unfoldable pub close : Register → ℕ → ℕ → Summary → Changed
+close r l epoch y =
+    if lce_of r l + 1 == epoch then change r (with_epochs r l (closed_epochs (epochs_of r l) epoch y)) 29
+    else record { register = r; answer = Behind (lce_of r l) }
+
+-- the next generation of a node
+unfoldable pub draw : Register → ℕ → Changed
+draw r n =
+    if nat_le generation_limit (generation_of r n) then record { register = r; answer = AtLimit }
+    else change r (record r { generations = put n (generation_of r n + 1) r.generations }) 6
+
+-- the epoch of each log, which a draw tells
+abbrev pub epochs_in : List (ℕ × Epochs) → List (ℕ × ℕ)
+epochs_in [] = []
+epochs_in (e ∷ es) = if e.1.epoch == 0 then epochs_in es else (e.0, e.1.epoch) ∷ epochs_in es
+
+-- a register holds at most so many logs
+abbrev pub log_limit : ℕ
+log_limit = 64
+
+-- so many other logs are held that there is no room for this one
+abbrev pub is_crowded : Register → ℕ → Bool
+is_crowded r l = nat_le log_limit (how_many (λ k. not (k.0 == l)) r.logs)
+
+-- the summary that a look at an epoch shows: of a closed one alone
+abbrev pub summary_shown : Register → ℕ → ℕ → Option Summary
+summary_shown r l e = if nat_le 1 e && nat_le e (lce_of r l) then find e (epochs_of r l).summaries else None

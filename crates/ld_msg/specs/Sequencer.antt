@@ -1,0 +1,393 @@
+-- A sequencer: appends, acknowledgements, the recovery of earlier epochs, and what it does at a reply or a retry.
+use Rattle.std.specs.Prelude.{ℕ, ◌+◌, ◌-◌, ◌^◌, min, suc, List, [], ◌∷◌, ◌++◌, length, Option, Some, None, Bool, true, false, ◌||◌, ◌==◌, nat_lt, nat_le, if◌then◌else◌}
+use Rattle.ld_table.specs.Table.{find, put}
+use Rattle.ld_table.specs.Words.{with_one, without, all_of}
+use Rattle.ld_lsn.specs.Number.{epoch_of, numbered, home_epoch, last_esn, epoch_end}
+use Rattle.ld_msg.specs.declared.msg.What.{What}
+use Rattle.ld_msg.specs.declared.msg.What.TheVariants.{Rec}
+use Rattle.ld_msg.specs.declared.msg.Entry.{Entry}
+use Rattle.ld_msg.specs.declared.msg.Summary.{Summary}
+use Rattle.ld_msg.specs.declared.msg.Body.{Body}
+use Rattle.ld_msg.specs.declared.msg.Body.TheVariants as bodies
+use Rattle.ld_ids.specs.declared.set.Spec.{Spec}
+use Rattle.ld_ids.specs.Choice.{at_epoch, nodes_of}
+use Rattle.ld_msg.specs.Choice.{choice}
+use Rattle.ld_msg.specs.Digest.{Told, no_digest, with_page, with_lost, takes_page, enough, Item, Plan, plan}
+use Rattle.ld_msg.specs.Register.{Register, Changed, Answer, Granted, AtLimit, Behind, Fails, close}
+
+-- an append: its payload, the wave that it was sent in last, and the nodes that stored it
+pub record Append : Type 0 where
+  pub payload : List ℕ
+  pub wave : ℕ
+  pub stored : List ℕ
+
+-- an item of a plan, and the nodes that stored it or trimmed it away
+pub record Planned : Type 0 where
+  pub what : What
+  pub settled : List ℕ
+
+-- a plan that is being stored: its trim, its end, its items by number, the wave that they were sent in last
+pub record Storing : Type 0 where
+  pub trim : ℕ
+  pub end : ℕ
+  pub items : List (ℕ × Planned)
+  pub wave : ℕ
+
+pub data Stage : Type 0 where
+  Seals : (digest : List Told) → Stage
+  Stores : (storing : Storing) → Stage
+  Closes : (summary : Summary) → Stage
+
+-- the recovery of an epoch, with the nodes that said that they are lost for it
+pub record Recovery : Type 0 where
+  pub epoch : ℕ
+  pub lost : List ℕ
+  pub stage : Stage
+
+-- the appends above the last number such that it and all below are acknowledged, the nodes that are lost for its own epoch
+pub record Sequencer : Type 0 where
+  pub log : ℕ
+  pub epoch : ℕ
+  pub lce : ℕ
+  pub lng : ℕ
+  pub appends : List (ℕ × Append)
+  pub lost : List ℕ
+  pub recovery : Option Recovery
+  pub preempted : Option ℕ
+  pub gone : Bool
+
+-- what is released: nothing of its epoch before all earlier ones are closed
+abbrev pub released_of : Sequencer → ℕ
+released_of q = if nat_lt (q.lce + 1) q.epoch then epoch_end q.lce else numbered q.epoch q.lng
+
+abbrev pub own_spec : Spec → Sequencer → Spec
+own_spec spec q = at_epoch spec q.epoch
+
+-- a message goes to a node: a pair of its number and the body
+abbrev pub to_each : Body → List ℕ → List (ℕ × Body)
+to_each b [] = []
+to_each b (y ∷ ys) = (y, b) ∷ to_each b ys
+
+-- the greatest wave
+abbrev pub last_wave : ℕ
+last_wave = 2 ^ 32 - 1
+
+abbrev pub next_wave : ℕ → ℕ
+next_wave w = min (w + 1) last_wave
+
+-- ---- what one call did ----
+
+-- the new sequencer, the close that is then tried in the register, what was acknowledged, the end of the epoch that was closed, what was refused, and the messages by kind
+pub record Acts : Type 0 where
+  pub sequencer : Sequencer
+  pub tries : List (ℕ × Summary)
+  pub acked : List ℕ
+  pub closed : List ℕ
+  pub preempts : List ℕ
+  pub failed : Bool
+  pub cleans : List (ℕ × Body)
+  pub asks : List (ℕ × Body)
+  pub stores : List (ℕ × Body)
+
+abbrev pub does_nothing : Sequencer → Acts
+does_nothing q = record { sequencer = q; tries = []; acked = []; closed = []; preempts = []; failed = false; cleans = []; asks = []; stores = [] }
+
+abbrev pub becomes : Acts → Sequencer → Acts
+becomes a q = record a { sequencer = q }
+
+abbrev pub with_stage : Sequencer → Recovery → Stage → Sequencer
+with_stage q v s = record q { recovery = Some (record v { stage = s }) }
+
+abbrev pub preempted_by : Sequencer → ℕ → Sequencer
+preempted_by q k = record q { preempted = Some k }
+
+abbrev pub preempt : Acts → ℕ → Acts
+preempt a k = record a { sequencer = preempted_by a.sequencer k; preempts = k ∷ [] }
+
+-- ---- recovery ----
+
+-- an ask for a digest from a number on
+abbrev pub digest_asks : List Told → List (ℕ × Body)
+digest_asks [] = []
+digest_asks (t ∷ d) = if t.whole then digest_asks d else (t.node, bodies.DigestAsk t.asked) ∷ digest_asks d
+
+abbrev pub recovery_of : Spec → Sequencer → ℕ → Option Recovery
+recovery_of spec q lce = if nat_lt (lce + 1) q.epoch then Some (record { epoch = lce + 1; lost = []; stage = Seals (no_digest (at_epoch spec (lce + 1)) (lce + 1)) }) else None
+
+abbrev pub recovery_asks : Spec → Sequencer → ℕ → List (ℕ × Body)
+recovery_asks spec q lce = if nat_lt (lce + 1) q.epoch then digest_asks (no_digest (at_epoch spec (lce + 1)) (lce + 1)) else []
+
+-- epochs up to this one are closed: the next one is recovered, if it is before the sequencer's own
+abbrev pub goes_on : Spec → Acts → ℕ → Acts
+goes_on spec a lce = record a {
+  sequencer = record a.sequencer { lce = lce; recovery = recovery_of spec a.sequencer lce };
+  asks = recovery_asks spec a.sequencer lce;
+}
+
+abbrev pub tells_clean : Spec → Acts → ℕ → Summary → Acts
+tells_clean spec a epoch y = record a { cleans = to_each (bodies.Clean epoch y) (nodes_of (at_epoch spec epoch)) }
+
+-- what the register answered to the close
+unfoldable pub after_close : Spec → Acts → ℕ → Summary → Answer → Acts
+after_close spec a epoch y Granted = record (goes_on spec (tells_clean spec a epoch y) epoch) { closed = numbered epoch y.end ∷ [] }
+after_close spec a epoch y AtLimit = a
+after_close spec a epoch y (Behind lce) = if nat_le a.sequencer.epoch lce then preempt a (lce + 1) else goes_on spec a lce
+after_close spec a epoch y Fails = record a { failed = true }
+
+-- the close comes last in a call
+abbrev pub try_close : Acts → ℕ → Summary → Acts
+try_close a epoch y = record a { tries = (epoch, y) ∷ [] }
+
+-- ---- storing a plan ----
+
+abbrev pub planned : List Item → List (ℕ × Planned)
+planned [] = []
+planned (i ∷ is) = (i.number, record { what = i.what; settled = [] }) ∷ planned is
+
+abbrev pub storing_of : Plan → Storing
+storing_of p = record { trim = p.trim; end = p.end; items = planned p.items; wave = 0 }
+
+-- each item that fewer nodes than the factor settled goes to the choice of the wave
+abbrev pub item_stores : Spec → List ℕ → ℕ → List (ℕ × Planned) → List (ℕ × Body)
+item_stores s lost wave [] = []
+item_stores s lost wave (i ∷ is) = (if nat_lt (length i.1.settled) s.r then to_each (bodies.Store i.0 0 i.1.what) (choice s lost i.0 wave) else []) ++ item_stores s lost wave is
+
+-- each item has enough nodes
+unfoldable pub is_ready : Spec → Storing → Bool
+is_ready s g = all_of (λ i. nat_le s.r (length i.1.settled)) g.items
+
+abbrev pub summary_of : ℕ → Storing → Summary
+summary_of ballot g = record { ballot = ballot; lng = 0; trim = g.trim; end = g.end }
+
+-- a plan goes to its first wave
+abbrev pub stores_plan : Spec → Acts → Recovery → Plan → Acts
+stores_plan spec a v p = record a {
+  sequencer = with_stage a.sequencer v (Stores (storing_of p));
+  stores = item_stores (at_epoch spec v.epoch) v.lost 0 (planned p.items);
+}
+
+-- after an answer the plan is closed, where it is ready
+abbrev pub closes_ready : Spec → Acts → Recovery → Storing → Acts
+closes_ready spec a v g =
+    if is_ready (at_epoch spec v.epoch) g
+    then try_close (becomes a (with_stage a.sequencer v (Closes (summary_of a.sequencer.epoch g)))) v.epoch (summary_of a.sequencer.epoch g)
+    else becomes a (with_stage a.sequencer v (Stores g))
+
+-- a node settles the items that pass
+abbrev pub settle : (ℕ → Bool) → ℕ → List (ℕ × Planned) → List (ℕ × Planned)
+settle p y [] = []
+settle p y (i ∷ is) = (i.0, if p i.0 then record { what = i.1.what; settled = with_one y i.1.settled } else i.1) ∷ settle p y is
+
+abbrev pub settled_by : (ℕ → Bool) → ℕ → Storing → Storing
+settled_by p y g = record g { items = settle p y g.items }
+
+abbrev pub settles : Spec → Acts → Recovery → (ℕ → Bool) → ℕ → Stage → Acts
+settles spec a v p y (Stores g) = closes_ready spec a v (settled_by p y g)
+settles spec a v p y _ = a
+
+-- ---- sealing ----
+
+abbrev pub next_ask : ℕ → List Told → List (ℕ × Body)
+next_ask y [] = []
+next_ask y (t ∷ d) = if t.node == y then (if t.whole then [] else (y, bodies.DigestAsk t.asked) ∷ []) else next_ask y d
+
+abbrev pub takes_any : ℕ → ℕ → List Told → Bool
+takes_any y from [] = false
+takes_any y from (t ∷ d) = takes_page y from t || takes_any y from d
+
+-- a digest with one page more: enough, or the node is asked on
+abbrev pub adds_page : Spec → Acts → Recovery → ℕ → List Told → Acts
+adds_page spec a v y d =
+    if enough (at_epoch spec v.epoch) d then stores_plan spec a v (plan v.epoch d)
+    else record a { sequencer = with_stage a.sequencer v (Seals d); asks = next_ask y d }
+
+abbrev pub digests : Spec → Acts → Recovery → ℕ → ℕ → ℕ → ℕ → List Entry → Stage → Acts
+digests spec a v y from upto trim es (Seals d) = if takes_any y from d then adds_page spec a v y (with_page v.epoch y from upto trim es d) else a
+digests spec a v y from upto trim es _ = a
+
+-- ---- lost nodes ----
+
+abbrev pub lost_stage : ℕ → Stage → Stage
+lost_stage y (Seals d) = Seals (with_lost y d)
+lost_stage y (Stores g) = Stores g
+lost_stage y (Closes s) = Closes s
+
+abbrev pub recovery_lost : ℕ → Recovery → Recovery
+recovery_lost y v = record { epoch = v.epoch; lost = with_one y v.lost; stage = lost_stage y v.stage }
+
+-- ---- acknowledgements ----
+
+abbrev pub is_acked : Spec → Append → Bool
+is_acked s p = nat_le s.r (length p.stored)
+
+-- how many of the first appends are acknowledged
+abbrev pub acked_first : Spec → List (ℕ × Append) → ℕ
+acked_first s [] = 0
+acked_first s (p ∷ ps) = if is_acked s p.1 then suc (acked_first s ps) else 0
+
+-- those from the first one on that isn't
+abbrev pub unacked_from : Spec → List (ℕ × Append) → List (ℕ × Append)
+unacked_from s [] = []
+unacked_from s (p ∷ ps) = if is_acked s p.1 then unacked_from s ps else p ∷ ps
+
+abbrev pub stored_at : Append → ℕ → Append
+stored_at p y = record p { stored = with_one y p.stored }
+
+abbrev pub with_append : Spec → Sequencer → ℕ → Append → Sequencer
+with_append s q n p = record q { appends = unacked_from s (put n p q.appends); lng = q.lng + acked_first s (put n p q.appends) }
+
+abbrev pub acks_append : Spec → Acts → ℕ → ℕ → Option Append → Acts
+acks_append spec a y n None = a
+acks_append spec a y n (Some p) = record a {
+  sequencer = with_append (own_spec spec a.sequencer) a.sequencer n (stored_at p y);
+  acked = if is_acked (own_spec spec a.sequencer) p then [] else if is_acked (own_spec spec a.sequencer) (stored_at p y) then n ∷ [] else [];
+}
+
+-- ---- replies ----
+
+-- a reply that speaks of an epoch in recovery
+abbrev pub in_recovery : Acts → ℕ → Option Recovery → (Recovery → Acts) → Acts
+in_recovery a epoch None f = a
+in_recovery a epoch (Some v) f = if v.epoch == epoch then f v else a
+
+abbrev pub by_stored : Spec → Acts → ℕ → ℕ → Acts
+by_stored spec a y n =
+    if epoch_of n == a.sequencer.epoch then acks_append spec a y n (find n a.sequencer.appends)
+    else in_recovery a (epoch_of n) a.sequencer.recovery (λ v. settles spec a v (λ s. s == n) y v.stage)
+
+abbrev pub by_trimmed : Spec → Acts → ℕ → ℕ → ℕ → Acts
+by_trimmed spec a y n t = in_recovery a (epoch_of n) a.sequencer.recovery (λ v. settles spec a v (λ s. nat_le s t) y v.stage)
+
+abbrev pub by_lost : Acts → ℕ → ℕ → Acts
+by_lost a y n =
+    if home_epoch n == a.sequencer.epoch then becomes a (record a.sequencer { lost = with_one y a.sequencer.lost })
+    else in_recovery a (home_epoch n) a.sequencer.recovery (λ v. becomes a (record a.sequencer { recovery = Some (recovery_lost y v) }))
+
+abbrev pub by_clean : Spec → Acts → ℕ → Summary → Acts
+by_clean spec a n s =
+    if home_epoch n == a.sequencer.epoch then preempt a s.ballot
+    else in_recovery a (home_epoch n) a.sequencer.recovery (λ v. goes_on spec (tells_clean spec a v.epoch s) v.epoch)
+
+abbrev pub by_reply : Spec → Acts → ℕ → Body → Acts
+by_reply spec a y (bodies.Stored n) = by_stored spec a y n
+by_reply spec a y (bodies.SealedHere n k) = if nat_lt a.sequencer.epoch k then preempt a k else a
+by_reply spec a y (bodies.LostHere n round generation end) = by_lost a y n
+by_reply spec a y (bodies.CleanHere n s) = by_clean spec a n s
+by_reply spec a y (bodies.TrimmedHere n t) = by_trimmed spec a y n t
+by_reply spec a y (bodies.DigestPage from upto trim lng es) = in_recovery a (epoch_of from) a.sequencer.recovery (λ v. digests spec a v y from upto trim es v.stage)
+by_reply spec a y _ = a
+
+-- a preempted sequencer ignores all replies
+abbrev pub unless_preempted : Option ℕ → Acts → Acts → Acts
+unless_preempted None acts quiet = acts
+unless_preempted (Some k) acts quiet = quiet
+
+unfoldable pub on_reply : Spec → Sequencer → ℕ → Body → Acts
+on_reply spec q y b = unless_preempted q.preempted (by_reply spec (does_nothing q) y b) (does_nothing q)
+
+-- ---- a retry ----
+
+abbrev pub raised : Spec → List (ℕ × Append) → List (ℕ × Append)
+raised s [] = []
+raised s (p ∷ ps) = (p.0, if is_acked s p.1 then p.1 else record { payload = p.1.payload; wave = next_wave p.1.wave; stored = p.1.stored }) ∷ raised s ps
+
+-- a pending append goes to the chosen nodes that haven't stored it
+abbrev pub append_stores : Spec → List ℕ → List (ℕ × Append) → List (ℕ × Body)
+append_stores s lost [] = []
+append_stores s lost (p ∷ ps) = (if is_acked s p.1 then [] else to_each (bodies.Store p.0 0 (Rec p.1.payload)) (without p.1.stored (choice s lost p.0 p.1.wave))) ++ append_stores s lost ps
+
+abbrev pub retries_appends : Spec → Acts → Acts
+retries_appends spec a = record a {
+  sequencer = record a.sequencer { appends = raised (own_spec spec a.sequencer) a.sequencer.appends };
+  stores = append_stores (own_spec spec a.sequencer) a.sequencer.lost (raised (own_spec spec a.sequencer) a.sequencer.appends);
+}
+
+abbrev pub next_try : Storing → Storing
+next_try g = record g { wave = next_wave g.wave }
+
+abbrev pub retries_stage : Spec → Acts → Recovery → Stage → Acts
+retries_stage spec a v (Seals d) = record a { asks = digest_asks d }
+retries_stage spec a v (Stores g) = record a {
+  sequencer = with_stage a.sequencer v (Stores (next_try g));
+  stores = item_stores (at_epoch spec v.epoch) v.lost (next_wave g.wave) g.items ++ a.stores;
+}
+retries_stage spec a v (Closes y) = try_close a v.epoch y
+
+abbrev pub retries_recovery : Spec → Acts → Option Recovery → Acts
+retries_recovery spec a None = a
+retries_recovery spec a (Some v) = retries_stage spec a v v.stage
+
+unfoldable pub on_retry : Spec → Sequencer → Acts
+on_retry spec q = unless_preempted q.preempted (retries_recovery spec (retries_appends spec (does_nothing q)) q.recovery) (does_nothing q)
+
+-- ---- the close, and the messages of a call ----
+
+-- a call with the register's answer to its close, where it tries one
+pub record Called : Type 0 where
+  pub acts : Acts
+  pub register : Register
+
+abbrev pub answered : Spec → Acts → ℕ → Summary → Changed → Called
+answered p a epoch y d = record { acts = after_close p a epoch y d.answer; register = d.register }
+
+abbrev pub called : Spec → Register → Acts → List (ℕ × Summary) → Called
+called p r a [] = record { acts = a; register = r }
+called p r a (t ∷ ts) = answered p a t.0 t.1 (close r a.sequencer.log t.0 t.1)
+
+-- whether the released number rose
+abbrev pub rose : Sequencer → Sequencer → Bool
+rose old new = nat_lt (released_of old) (released_of new)
+
+abbrev pub release_messages : Spec → Sequencer → Sequencer → List (ℕ × Body)
+release_messages p old new = if rose old new then to_each (bodies.Release (released_of new)) (nodes_of (own_spec p new)) else []
+
+-- the messages of a call, in their order
+abbrev pub acted_messages : Spec → Sequencer → Acts → List (ℕ × Body)
+acted_messages p old a = a.cleans ++ (release_messages p old a.sequencer ++ (a.asks ++ a.stores))
+
+-- ---- appends ----
+
+-- how many numbers may stand above the last one such that it and all below are acknowledged
+abbrev pub window_limit : ℕ
+window_limit = 128
+
+abbrev pub payload_limit : ℕ
+payload_limit = 65535
+
+-- the next append's place in the epoch
+abbrev pub next_esn : Sequencer → ℕ
+next_esn q = q.lng + length q.appends + 1
+
+-- how an append ends
+pub data Appending : Type 0 where
+  TooLong : Appending
+  Preempted : (by : ℕ) → Appending
+  EpochFull : Appending
+  WindowFull : Appending
+  Numbered : Appending
+
+abbrev pub or_preempted : Option ℕ → Appending → Appending
+or_preempted None o = o
+or_preempted (Some k) o = Preempted k
+
+unfoldable pub appending : Sequencer → List ℕ → Appending
+appending q payload =
+    if nat_lt payload_limit (length payload) then TooLong
+    else or_preempted q.preempted (if next_esn q == last_esn then EpochFull else if nat_le window_limit (length q.appends) then WindowFull else Numbered)
+
+abbrev pub fresh_append : List ℕ → Append
+fresh_append payload = record { payload = payload; wave = 0; stored = [] }
+
+abbrev pub appended : Sequencer → List ℕ → Sequencer
+appended q payload = record q { appends = q.appends ++ (numbered q.epoch (next_esn q), fresh_append payload) ∷ [] }
+
+abbrev pub first_stores : Spec → Sequencer → List ℕ → List (ℕ × Body)
+first_stores spec q payload = to_each (bodies.Store (numbered q.epoch (next_esn q)) 0 (Rec payload)) (choice (own_spec spec q) q.lost (numbered q.epoch (next_esn q)) 0)
+
+-- ---- activation ----
+
+abbrev pub bare : ℕ → ℕ → ℕ → Sequencer
+bare l epoch lce = record { log = l; epoch = epoch; lce = lce; lng = 0; appends = []; lost = []; recovery = None; preempted = None; gone = false }
+
+unfoldable pub activated : Spec → ℕ → ℕ → ℕ → Sequencer
+activated spec l epoch lce = record (bare l epoch lce) { recovery = recovery_of spec (bare l epoch lce) lce }

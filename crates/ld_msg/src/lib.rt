@@ -1,0 +1,12 @@
+//! Messages between sequencers, readers and nodes, as plain data.
+#![tactic(auto)]
+
+mod entries;
+mod msg;
+mod outbox;
+#[cfg(test)]
+mod tests;
+
+pub use entries::Entries;
+pub use msg::{Body, Entry, Msg, Summary, What, Who};
+pub use outbox::{Outbox, Replies};

@@ -1,0 +1,24 @@
+-- What follows from how bytes are judged.
+use Rattle.std.proofs.Common.{◌≡◌, ◌∙◌, ap, sym, List, ℕ, length, Result, Ok, Err, IfOk, IfErr, refl}
+use Rattle.ld_op.specs.declared.op.Op.{Op}
+use Rattle.ld_op.specs.declared.fault.OpFault.{OpFault}
+use Rattle.ld_op.specs.declared.fault.OpFault.TheVariants.{Bad, NoMemory}
+use Rattle.ld_op.specs.Fields.{Got, Off}
+use Rattle.ld_op.specs.Bounds.{IsOp}
+use Rattle.ld_op.specs.Bytes.{op_bytes, judge}
+use Rattle.ld_op.specs.Judged.{IsOff}
+use Rattle.ld_op.proofs.Spelling.{judge-op_bytes}
+
+module _ {T E : Type 0} where
+  pub ok_with : (r : Result T E) (P Q : T → Type 0) → ((v : T) → P v → Q v) → IfOk r P → IfOk r Q
+  ok_with (Ok v) P Q f p = f v p
+  ok_with (Err e) P Q f p = tt
+
+  pub err_with : (r : Result T E) (P Q : E → Type 0) → ((e : E) → P e → Q e) → IfErr r P → IfErr r Q
+  err_with (Ok v) P Q f p = tt
+  err_with (Err e) P Q f p = f e p
+
+-- no op's bytes are refused
+pub not_off : (bs : List ℕ) (f : OpFault) → IsOff (judge bs) f → (o : Op) → IsOp o → bs ≡ op_bytes o → f ≡ NoMemory
+not_off bs (Bad place) h o i e = let g = ap judge e ∙ judge-op_bytes o i in absurd cc
+not_off bs NoMemory h o i e = refl

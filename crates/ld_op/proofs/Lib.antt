@@ -1,0 +1,13 @@
+pub mod Moves
+pub mod Places
+pub mod Accepts
+pub mod HavePlaces
+pub mod There
+pub mod Pages
+pub mod Walks
+pub mod Fields
+pub mod Parts
+pub mod Writes
+pub mod Spelling
+pub mod Unspelling
+pub mod Judges

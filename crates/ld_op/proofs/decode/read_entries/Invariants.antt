@@ -1,0 +1,11 @@
+use Rattle.std.proofs.Common.{◌≡◌, ◌≤◌, ◌-◌, length}
+use Rattle.ld_op.specs.Bytes.{read_entries}
+use Rattle.ld_op.specs.Resumed.{resumed}
+use Rattle.ld_op.proofs.decode.read_entries.Given as goal
+
+abbrev pub invariant-entries : goal.invariant-entries
+invariant-entries l = record {
+  place : l.next ≤ length l.bytes;
+  most : l.counter ≤ l.count;
+  rest : resumed l.entries (read_entries l.bytes (l.count - l.counter) l.least l.next) ≡ read_entries l.bytes l.count 0 l.fn.at;
+}

@@ -1,0 +1,12 @@
+use Rattle.std.proofs.Common.{rules, Some, None, ◌∙◌}
+use Rattle.ld_table.specs.Table.{find}
+use Rattle.ld_op.proofs.Places.{find-filled_by}
+use Rattle.ld_op.proofs.entries.EntryMap.get.Goals as goal
+
+pub returns-in-Some : goal.returns-in-Some
+unfolding find
+returns-in-Some c = c.as_ref.ensures.value ∙ find-filled_by c.args.number _ _ (Some c.in-Some.place.now) c.len.ensures.ordered c.self.view_is (search rules)
+
+pub returns-in-None : goal.returns-in-None
+unfolding find
+returns-in-None c = find-filled_by c.args.number _ _ None c.len.ensures.ordered c.self.view_is (search rules)

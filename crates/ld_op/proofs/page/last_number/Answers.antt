@@ -1,0 +1,7 @@
+use Rattle.std.proofs.Common.{◌<◌, sym, arith, length}
+use Rattle.std.proofs.lemmas.Bool.Decides.{nat_tests}
+use Rattle.ld_op.proofs.Pages.{last_number_is}
+use Rattle.ld_op.proofs.page.last_number.Goals as goal
+
+pub returns : goal.returns
+returns c = let h : 0 < length c.args.entries.now = grind (arith, nat_tests) in sym (last_number_is c.args.entries.now c.index-entries-entries.result h)

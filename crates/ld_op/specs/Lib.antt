@@ -1,0 +1,15 @@
+pub mod Places
+pub mod Plain
+pub mod Answers
+pub mod Ticks
+pub mod Handles
+pub mod Bounds
+pub mod Room
+pub mod Shown
+pub mod Rising
+pub mod ShownPlain
+pub mod Picks
+pub mod Fields
+pub mod Bytes
+pub mod Judged
+pub mod Resumed

@@ -1,0 +1,19 @@
+//! The ops of a node's journal.
+#![tactic(auto)]
+
+mod decode;
+mod encode;
+mod entries;
+mod fault;
+mod field;
+mod log;
+mod logs;
+mod op;
+mod page;
+mod plain;
+mod summaries;
+
+pub use fault::OpFault;
+pub use op::{Epochs, Op};
+pub use page::Excerpt;
+pub use plain::Plain;

@@ -1,0 +1,277 @@
+// One log's part of a node's plain state.
+ghost use Rattle.std.specs.Prelude.{◌≡◌, ◌≢◌, true, false, None, OnOk, IfOk, option_copied, take, max};
+ghost use Rattle.ld_table.specs.Table.{find, first_from};
+ghost use Rattle.ld_op.specs.Plain.{empty_log, epoch_zero, summary_at, lost_log, accepted, sealed_by, cleaned, trimmed_to, refilled_with, refilled};
+ghost use Rattle.ld_op.specs.Places.{has_place};
+ghost use Rattle.ld_op.specs.Picks.{picked};
+ghost use Rattle.ld_op.specs.Answers.{page_limit, page_upto};
+ghost use Rattle.ld_op.specs.Room.{log_after, log_has_room, log_named, have_places};
+
+use crate::entries::EntryMap;
+use crate::summaries::SummaryMap;
+use crate::{Excerpt, Op};
+use ld_ids::NoMemory;
+use ld_lsn::Lsn;
+use ld_msg::{Entries, Entry, Summary};
+use std::alloc::Global;
+use std::marker::Model;
+
+/// One log's state. One that isn't there yet is room for it.
+#[derive(Drop)]
+pub(crate) struct LogState {
+    there: bool,
+    sealed: u32,
+    trim: Lsn,
+    entries: EntryMap,
+    summaries: SummaryMap,
+    lost: bool,
+    lost_to: u32,
+}
+
+impl Model for LogState {
+    ghost use Rattle.std.specs.Prelude.{◌≡◌, false};
+    ghost use Rattle.ld_op.specs.Room.{Held};
+    ghost use Rattle.ld_op.specs.Plain.{Log, empty_log};
+    ghost use Rattle.ld_op.specs.Places.{filled};
+
+    ghost Value = { Held };
+
+    ghost use Rattle.ld_op.specs.Shown.{shown_log, shown};
+
+    ghost view = { shown };
+
+    ghost invariant = { λ a. a.there ≡ false → shown_log a ≡ empty_log };
+}
+
+impl LogState {
+    /// Room for a log.
+    #[tactic(auto, unfolding(crate::specs::Places::filled))]
+    pub(crate) fn new(alloc: Global) -> LogState
+        ensures there { result.there ≡ false }
+        ensures log { result.log ≡ empty_log }
+    {
+        LogState {
+            there: false,
+            sealed: 0,
+            trim: Lsn::from_u64(0),
+            entries: EntryMap::new(alloc),
+            summaries: SummaryMap::new(alloc),
+            lost: false,
+            lost_to: 0,
+        }
+    }
+
+    /// A log that is lost up to an epoch.
+    #[tactic(auto, unfolding(crate::specs::Places::filled))]
+    pub(crate) fn lost(alloc: Global, epoch: u32) -> LogState
+        ensures there { result.there ≡ true }
+        ensures log { result.log ≡ lost_log epoch }
+    {
+        LogState {
+            there: true,
+            sealed: 0,
+            trim: Lsn::from_u64(0),
+            entries: EntryMap::new(alloc),
+            summaries: SummaryMap::new(alloc),
+            lost: 0 < epoch,
+            lost_to: epoch,
+        }
+    }
+
+    /// Whether the log is there. One that isn't is empty.
+    pub(crate) fn is_there(&self) -> bool
+        ensures value { result ≡ self.now.there }
+        ensures empty { self.now.there ≡ false → self.now.log ≡ empty_log }
+    {
+        self.there
+    }
+
+    /// The greatest ballot seen.
+    pub(crate) fn sealed(&self) -> u32
+        ensures { result ≡ self.now.log.sealed }
+    {
+        self.sealed
+    }
+
+    /// All up to this number is trimmed.
+    pub(crate) fn trim(&self) -> Lsn
+        ensures { result ≡ self.now.log.trim }
+    {
+        self.trim
+    }
+
+    /// The entry under the number.
+    pub(crate) fn entry(&self, number: Lsn) -> Option<&Entry>
+        ensures { option_copied result ≡ find number self.now.log.entries }
+    {
+        self.entries.get(number.value())
+    }
+
+    /// The summary of the epoch, where it is clean here.
+    #[tactic(auto, unfolding(crate::specs::Plain::summary_at))]
+    pub(crate) fn summary(&self, epoch: u32) -> Option<Summary>
+        ensures { result ≡ summary_at self.now.log epoch }
+    {
+        if epoch == 0 {
+            return Some(epoch_zero());
+        }
+        self.summaries.get(epoch)
+    }
+
+    /// The first clean epoch from one on, 1 at least, and its summary.
+    pub(crate) fn clean_from(&self, epoch: u32) -> Option<(u32, Summary)>
+        ensures { result ≡ first_from epoch self.now.log.summaries }
+    {
+        self.summaries.first_from(epoch)
+    }
+
+    /// Whether something is lost here.
+    pub(crate) fn is_lost(&self) -> bool
+        ensures { result ≡ self.now.log.lost }
+    {
+        self.lost
+    }
+
+    /// The epoch up to which entries were lost, kept once they are refilled.
+    pub(crate) fn lost_to(&self) -> u32
+        ensures { result ≡ self.now.log.lost_to }
+    {
+        self.lost_to
+    }
+
+    /// The first entries from one number to another, with or without bridges.
+    pub(crate) fn excerpt(
+        &self,
+        alloc: Global,
+        from: Lsn,
+        last: Lsn,
+        bridges: bool,
+    ) -> Result<Excerpt, NoMemory>
+        ensures entries { IfOk result (λ page. page.entries ≡ take page_limit (picked bridges self.now.log.entries from last)) }
+        ensures upto { IfOk result (λ page. page.upto ≡ page_upto (picked bridges self.now.log.entries from last) last) }
+    {
+        self.entries
+            .excerpt(alloc, from.value(), last.value(), bridges)
+    }
+
+    /// Takes an entry, which has a place.
+    fn accept(&mut self, entry: Entry)
+        requires { has_place entry.number self.old.places ≡ true }
+        ensures log { self.new.log ≡ accepted self.old.log entry }
+        ensures there { self.new.there ≡ true }
+    {
+        self.there = true;
+        self.sealed = entry.ballot;
+        self.entries.accept(entry);
+    }
+
+    /// Is sealed by a ballot.
+    fn seal(&mut self, ballot: u32)
+        ensures log { self.new.log ≡ sealed_by self.old.log ballot }
+        ensures there { self.new.there ≡ true }
+    {
+        self.there = true;
+        self.sealed = ballot;
+    }
+
+    /// Trims up to a number.
+    fn trim_to(&mut self, trim: Lsn)
+        ensures log { self.new.log ≡ trimmed_to self.old.log trim }
+        ensures there { self.new.there ≡ true }
+    {
+        self.there = true;
+        self.trim = later(self.trim, trim);
+        self.entries.trim(self.trim.value());
+    }
+
+    /// Closes an epoch, whose summary has a place.
+    fn close(&mut self, epoch: u32, summary: Summary)
+        requires { has_place epoch self.old.epochs ≡ true }
+        ensures log { self.new.log ≡ cleaned self.old.log epoch summary }
+        ensures there { self.new.there ≡ true }
+    {
+        self.there = true;
+        self.trim = later(self.trim, summary.trim);
+        self.entries.close(self.trim.value(), epoch, &summary);
+        self.summaries.put(epoch, summary);
+    }
+
+    /// Nothing is missing any more.
+    fn end_loss(&mut self)
+        ensures log { self.new.log ≡ refilled self.old.log }
+        ensures there { self.new.there ≡ true }
+    {
+        self.there = true;
+        self.lost = false;
+    }
+
+    /// Takes entries that were missing, each of which has a place.
+    fn refill(&mut self, entries: Entries)
+        requires { have_places entries self.old.places ≡ true }
+        ensures log { self.new.log ≡ refilled_with self.old.log entries }
+        ensures there { self.new.there ≡ true }
+    {
+        self.there = true;
+        self.entries.refill(entries);
+    }
+
+    /// Makes places for what an op adds. Without memory nothing changes.
+    pub(crate) fn room(&mut self, op: &Op) -> Result<(), NoMemory>
+        ensures there { self.new.there ≡ self.old.there }
+        ensures log { self.new.log ≡ self.old.log }
+        ensures room { OnOk result (log_has_room self.new op.now ≡ true) }
+    {
+        match op {
+            Op::Accept { entry, .. } => self.entries.reserve(entry.number.value()),
+            Op::Clean { epoch, .. } => self.summaries.reserve(*epoch),
+            Op::Refill { entries, .. } => self.entries.reserve_all(entries.as_slice()),
+            Op::Format { .. } => Ok(()),
+            Op::Seal { .. } => Ok(()),
+            Op::Trim { .. } => Ok(()),
+            Op::Refilled { .. } => Ok(()),
+        }
+    }
+
+    /// Applies an op of this log, for which there is room.
+    pub(crate) fn apply(&mut self, op: Op)
+        requires room { log_has_room self.old op ≡ true }
+        requires names { log_named op ≢ None }
+        ensures log { self.new.log ≡ log_after self.old.log op }
+        ensures there { self.new.there ≡ true }
+        ensures was { self.old.there ≡ false → self.old.log ≡ empty_log }
+    {
+        let _ = self.is_there();
+        match op {
+            Op::Format { .. } => {}
+            Op::Accept { entry, .. } => self.accept(entry),
+            Op::Seal { ballot, .. } => self.seal(ballot),
+            Op::Clean { epoch, summary, .. } => self.close(epoch, summary),
+            Op::Trim { trim, .. } => self.trim_to(trim),
+            Op::Refill { entries, .. } => self.refill(entries),
+            Op::Refilled { .. } => self.end_loss(),
+        }
+    }
+}
+
+/// The summary of epoch 0, which is closed and clean everywhere.
+pub(crate) fn epoch_zero() -> Summary
+    ensures { result ≡ epoch_zero }
+{
+    Summary {
+        ballot: 0,
+        lng: 0,
+        trim: Lsn::from_u64(0),
+        end: 1,
+    }
+}
+
+/// The later of two numbers.
+fn later(one: Lsn, other: Lsn) -> Lsn
+    ensures { result ≡ max one other }
+{
+    if one.value() < other.value() {
+        other
+    } else {
+        one
+    }
+}

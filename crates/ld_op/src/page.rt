@@ -1,0 +1,84 @@
+// The entries that a page carries.
+ghost use Rattle.std.specs.Prelude.{◌≡◌, ◌<◌, ◌≤◌, ℕ, Bool, [], ◌∷◌, None, IfOk, option_copied, take, length};
+ghost use Rattle.ld_msg.specs.Digest.{is_bridge};
+ghost use Rattle.ld_op.specs.Answers.{page_limit, page_upto, last_number};
+ghost use Rattle.ld_op.specs.Places.{filled};
+ghost use Rattle.ld_op.specs.Picks.{picked, picked_one};
+
+use crate::entries::EntryMap;
+use ld_ids::NoMemory;
+use ld_lsn::Lsn;
+use ld_msg::{Entries, Entry};
+use std::alloc::Global;
+
+/// How many entries a page has at most.
+const LIMIT: usize = 64;
+
+/// Some entries of a log, and the number up to which there are no others.
+#[derive(Drop)]
+pub struct Excerpt {
+    pub entries: Entries,
+    pub upto: Lsn,
+}
+
+impl EntryMap {
+    /// The first entries from one number to another, with or without bridges. Takes time in what it
+    /// gives and leaves out, not in all entries of the log.
+    pub(crate) fn excerpt(
+        &self,
+        alloc: Global,
+        from: u64,
+        last: u64,
+        bridges: bool,
+    ) -> Result<Excerpt, NoMemory>
+        ensures entries { IfOk result (λ page. page.entries ≡ take page_limit (picked bridges (filled self.now) from last)) }
+        ensures upto { IfOk result (λ page. page.upto ≡ page_upto (picked bridges (filled self.now) from last) last) }
+    {
+        let mut entries = Entries::empty(alloc);
+        if last < from {
+            return Ok(Excerpt {
+                entries,
+                upto: Lsn::from_u64(last),
+            });
+        }
+        'places: for (_, place) in self.map.range(from..=last) {
+            if let Some(entry) = pick(bridges, place) {
+                if entries.len() >= LIMIT {
+                    let upto = last_number(entries.as_slice());
+                    return Ok(Excerpt { entries, upto });
+                }
+                entries.push(entry.copy(alloc)?)?;
+            }
+        }
+        Ok(Excerpt {
+            entries,
+            upto: Lsn::from_u64(last),
+        })
+    }
+}
+
+/// What stands in a place, where the page picks it.
+fn pick(bridges: bool, place: &Option<Entry>) -> Option<&Entry>
+    ensures { option_copied result ≡ picked_one bridges place.now }
+{
+    match place {
+        Some(entry) => {
+            if bridges || !entry.what.is_bridge() {
+                Some(entry)
+            } else {
+                None
+            }
+        }
+        None => None,
+    }
+}
+
+/// The number of the last entry, 0 where there is none.
+fn last_number(entries: &[Entry]) -> Lsn
+    ensures { result ≡ last_number entries.now }
+{
+    if entries.is_empty() {
+        return Lsn::from_u64(0);
+    }
+    entries[entries.len() - 1].number
+}

@@ -1,0 +1,95 @@
+-- The runs, by computation.
+use Rattle.std.specs.Prelude.{◌≡◌, refl, codes, [], ◌∷◌, true, false}
+use Rattle.ld_schedule.specs.declared.event.Picture.TheVariants as pictures
+use Rattle.ld_machine.specs.Exercise.{exercise}
+use Rattle.ld_machine.specs.Run.{transcript}
+use Rattle.ld_ids.specs.Bytes.{hex_text}
+use Rattle.ld_ids.specs.Choice.{choice_at}
+use Rattle.ld_ids.specs.Set.{members_from}
+use Rattle.ld_lsn.specs.Number.{pair_text}
+use Rattle.ld_machine.specs.Disk.{is_found, keep_op, keep_end, load}
+use Rattle.ld_machine.specs.Exercise.{made_event, after_made, drawn_events, summary_line}
+use Rattle.ld_machine.specs.Run.{step, lines_of, state_after}
+use Rattle.ld_machine.specs.State.{finish}
+use Rattle.ld_machine.specs.Step.{delivers, happens}
+use Rattle.ld_msg.specs.Digest.{statement, with_page, with_lost, enough, best, digest_trim, top_place, plan_end, plan}
+use Rattle.ld_msg.specs.Network.{message}
+use Rattle.ld_msg.specs.Reader.{on_answer}
+use Rattle.ld_msg.specs.Reading.{is_loss, decide}
+use Rattle.ld_msg.specs.Register.{change, activate, close, draw}
+use Rattle.ld_msg.specs.Sequencer.{after_close, is_ready, on_reply, on_retry, appending, activated}
+use Rattle.ld_op.specs.Answers.{store_decision, on_store, digest_decision, on_digest_ask, on_clean, on_trim, on_release, read_answer}
+use Rattle.ld_op.specs.Plain.{summary_at, apply, op_length}
+use Rattle.ld_op.specs.Ticks.{missing, is_missing, on_page, on_tick}
+use Rattle.ld_table.specs.Named.{same, find_named, put_named}
+use Rattle.ld_table.specs.Table.{find, put, keep, keep_keys}
+use Rattle.ld_transcript.specs.Text.{kind_text, gap_text, actor_text, line_text}
+use Rattle.hex.specs.Hex.{encode_with}
+use Rattle.std.specs.Fmt.{digits}
+use Rattle.ld_rows.specs.Schedules.{three_nodes, five_nodes, one_append, half_stored, cut_off, trimmed, rebuilt, lost, hole_between, two_recoveries, register_fault}
+use Rattle.ld_rows.specs.Texts.{one_append_text, half_stored_text, cut_off_text, trimmed_text, rebuilt_text, lost_text, hole_between_text, two_recoveries_text, register_fault_text}
+use Rattle.ld_rows.specs.Told.{told_text, has_loss, kept_by_call}
+
+pub one_append_is : transcript three_nodes one_append ≡ one_append_text
+unfolding hex_text choice_at members_from pair_text is_found keep_op keep_end load step lines_of finish delivers happens statement with_page with_lost enough best digest_trim top_place plan_end plan message on_answer is_loss decide change activate close draw after_close is_ready on_reply on_retry appending activated store_decision on_store digest_decision on_digest_ask on_clean on_trim on_release read_answer summary_at apply op_length missing is_missing on_page on_tick same find_named put_named find put keep keep_keys kind_text gap_text actor_text line_text encode_with digits
+one_append_is = refl
+
+pub half_stored_is : told_text three_nodes half_stored ≡ half_stored_text
+unfolding hex_text choice_at members_from pair_text is_found keep_op keep_end load step lines_of finish delivers happens statement with_page with_lost enough best digest_trim top_place plan_end plan message on_answer is_loss decide change activate close draw after_close is_ready on_reply on_retry appending activated store_decision on_store digest_decision on_digest_ask on_clean on_trim on_release read_answer summary_at apply op_length missing is_missing on_page on_tick same find_named put_named find put keep keep_keys kind_text gap_text actor_text line_text encode_with digits
+half_stored_is = refl
+
+pub cut_off_is : told_text five_nodes cut_off ≡ cut_off_text
+unfolding hex_text choice_at members_from pair_text is_found keep_op keep_end load step lines_of finish delivers happens statement with_page with_lost enough best digest_trim top_place plan_end plan message on_answer is_loss decide change activate close draw after_close is_ready on_reply on_retry appending activated store_decision on_store digest_decision on_digest_ask on_clean on_trim on_release read_answer summary_at apply op_length missing is_missing on_page on_tick same find_named put_named find put keep keep_keys kind_text gap_text actor_text line_text encode_with digits
+cut_off_is = refl
+
+pub trimmed_is : told_text three_nodes trimmed ≡ trimmed_text
+unfolding hex_text choice_at members_from pair_text is_found keep_op keep_end load step lines_of finish delivers happens statement with_page with_lost enough best digest_trim top_place plan_end plan message on_answer is_loss decide change activate close draw after_close is_ready on_reply on_retry appending activated store_decision on_store digest_decision on_digest_ask on_clean on_trim on_release read_answer summary_at apply op_length missing is_missing on_page on_tick same find_named put_named find put keep keep_keys kind_text gap_text actor_text line_text encode_with digits
+trimmed_is = refl
+
+pub rebuilt_is : told_text three_nodes rebuilt ≡ rebuilt_text
+unfolding hex_text choice_at members_from pair_text is_found keep_op keep_end load step lines_of finish delivers happens statement with_page with_lost enough best digest_trim top_place plan_end plan message on_answer is_loss decide change activate close draw after_close is_ready on_reply on_retry appending activated store_decision on_store digest_decision on_digest_ask on_clean on_trim on_release read_answer summary_at apply op_length missing is_missing on_page on_tick same find_named put_named find put keep keep_keys kind_text gap_text actor_text line_text encode_with digits
+rebuilt_is = refl
+
+pub lost_is : told_text three_nodes lost ≡ lost_text
+unfolding hex_text choice_at members_from pair_text is_found keep_op keep_end load step lines_of finish delivers happens statement with_page with_lost enough best digest_trim top_place plan_end plan message on_answer is_loss decide change activate close draw after_close is_ready on_reply on_retry appending activated store_decision on_store digest_decision on_digest_ask on_clean on_trim on_release read_answer summary_at apply op_length missing is_missing on_page on_tick same find_named put_named find put keep keep_keys kind_text gap_text actor_text line_text encode_with digits
+lost_is = refl
+
+pub none_made : exercise 1 0 ≡ codes "events 7 appended 0 acked 0 record 0 trim 0 hole 0 bridge 0 dataloss 0\n"
+unfolding hex_text choice_at members_from pair_text is_found keep_op keep_end load made_event after_made drawn_events summary_line step lines_of finish delivers happens statement with_page with_lost enough best digest_trim top_place plan_end plan message on_answer is_loss decide change activate close draw after_close is_ready on_reply on_retry appending activated store_decision on_store digest_decision on_digest_ask on_clean on_trim on_release read_answer summary_at apply op_length missing is_missing on_page on_tick same find_named put_named find put keep keep_keys kind_text gap_text actor_text line_text encode_with digits
+none_made = refl
+
+pub one_made : exercise 1 1 ≡ codes "events 8 appended 0 acked 0 record 0 trim 0 hole 0 bridge 0 dataloss 0\n"
+unfolding hex_text choice_at members_from pair_text is_found keep_op keep_end load made_event after_made drawn_events summary_line step lines_of finish delivers happens statement with_page with_lost enough best digest_trim top_place plan_end plan message on_answer is_loss decide change activate close draw after_close is_ready on_reply on_retry appending activated store_decision on_store digest_decision on_digest_ask on_clean on_trim on_release read_answer summary_at apply op_length missing is_missing on_page on_tick same find_named put_named find put keep keep_keys kind_text gap_text actor_text line_text encode_with digits
+one_made = refl
+
+pub lost_told : has_loss three_nodes lost ≡ true
+unfolding hex_text choice_at members_from pair_text is_found keep_op keep_end load step lines_of finish delivers happens statement with_page with_lost enough best digest_trim top_place plan_end plan message on_answer is_loss decide change activate close draw after_close is_ready on_reply on_retry appending activated store_decision on_store digest_decision on_digest_ask on_clean on_trim on_release read_answer summary_at apply op_length missing is_missing on_page on_tick same find_named put_named find put keep keep_keys kind_text gap_text actor_text line_text encode_with digits
+lost_told = refl
+
+pub none_told : has_loss three_nodes rebuilt ≡ false
+unfolding hex_text choice_at members_from pair_text is_found keep_op keep_end load step lines_of finish delivers happens statement with_page with_lost enough best digest_trim top_place plan_end plan message on_answer is_loss decide change activate close draw after_close is_ready on_reply on_retry appending activated store_decision on_store digest_decision on_digest_ask on_clean on_trim on_release read_answer summary_at apply op_length missing is_missing on_page on_tick same find_named put_named find put keep keep_keys kind_text gap_text actor_text line_text encode_with digits
+none_told = refl
+
+pub hole_between_is : told_text five_nodes hole_between ≡ hole_between_text
+unfolding hex_text choice_at members_from pair_text is_found keep_op keep_end load step lines_of finish delivers happens statement with_page with_lost enough best digest_trim top_place plan_end plan message on_answer is_loss decide change activate close draw after_close is_ready on_reply on_retry appending activated store_decision on_store digest_decision on_digest_ask on_clean on_trim on_release read_answer summary_at apply op_length missing is_missing on_page on_tick same find_named put_named find put keep keep_keys kind_text gap_text actor_text line_text encode_with digits
+hole_between_is = refl
+
+pub two_recoveries_is : told_text three_nodes two_recoveries ≡ two_recoveries_text
+unfolding hex_text choice_at members_from pair_text is_found keep_op keep_end load step lines_of finish delivers happens statement with_page with_lost enough best digest_trim top_place plan_end plan message on_answer is_loss decide change activate close draw after_close is_ready on_reply on_retry appending activated store_decision on_store digest_decision on_digest_ask on_clean on_trim on_release read_answer summary_at apply op_length missing is_missing on_page on_tick same find_named put_named find put keep keep_keys kind_text gap_text actor_text line_text encode_with digits
+two_recoveries_is = refl
+
+pub register_fault_is : told_text three_nodes register_fault ≡ register_fault_text
+unfolding hex_text choice_at members_from pair_text is_found keep_op keep_end load step lines_of finish delivers happens statement with_page with_lost enough best digest_trim top_place plan_end plan message on_answer is_loss decide change activate close draw after_close is_ready on_reply on_retry appending activated store_decision on_store digest_decision on_digest_ask on_clean on_trim on_release read_answer summary_at apply op_length missing is_missing on_page on_tick same find_named put_named find put keep keep_keys kind_text gap_text actor_text line_text encode_with digits
+register_fault_is = refl
+
+pub old_kept : kept_by_call pictures.Old ≡ false ∷ false ∷ false ∷ false ∷ []
+unfolding hex_text choice_at members_from pair_text is_found keep_op keep_end load step lines_of finish delivers happens statement with_page with_lost enough best digest_trim top_place plan_end plan message on_answer is_loss decide change activate close draw after_close is_ready on_reply on_retry appending activated store_decision on_store digest_decision on_digest_ask on_clean on_trim on_release read_answer summary_at apply op_length missing is_missing on_page on_tick same find_named put_named find put keep keep_keys kind_text gap_text actor_text line_text encode_with digits state_after
+old_kept = refl
+
+pub new_kept : kept_by_call pictures.New ≡ false ∷ false ∷ true ∷ true ∷ []
+unfolding hex_text choice_at members_from pair_text is_found keep_op keep_end load step lines_of finish delivers happens statement with_page with_lost enough best digest_trim top_place plan_end plan message on_answer is_loss decide change activate close draw after_close is_ready on_reply on_retry appending activated store_decision on_store digest_decision on_digest_ask on_clean on_trim on_release read_answer summary_at apply op_length missing is_missing on_page on_tick same find_named put_named find put keep keep_keys kind_text gap_text actor_text line_text encode_with digits state_after
+new_kept = refl
+
+pub digits_kept : kept_by_call (pictures.Byte 7) ≡ false ∷ false ∷ false ∷ false ∷ []
+unfolding hex_text choice_at members_from pair_text is_found keep_op keep_end load step lines_of finish delivers happens statement with_page with_lost enough best digest_trim top_place plan_end plan message on_answer is_loss decide change activate close draw after_close is_ready on_reply on_retry appending activated store_decision on_store digest_decision on_digest_ask on_clean on_trim on_release read_answer summary_at apply op_length missing is_missing on_page on_tick same find_named put_named find put keep keep_keys kind_text gap_text actor_text line_text encode_with digits state_after
+digits_kept = refl

@@ -1,0 +1,152 @@
+-- Runs that were tampered with aren't safe.
+use Rattle.std.proofs.Common.{◌≡◌, ◌≤◌, ◌<◌, ◌⊎◌, ◌&&◌, ℕ, zero, suc, ◌+◌, inl, inr, refl, ap, Bool, true, false, nat_lt, List, [], ◌∷◌, Some, slice_get, take, arith}
+use Rattle.ld_table.specs.Words.{any_of, all_of, how_many, numbers_from}
+use Rattle.ld_lsn.specs.Number.{numbered}
+use Rattle.ld_schedule.specs.declared.event.Event.{Event}
+use Rattle.ld_schedule.specs.declared.event.Event.TheVariants as events
+use Rattle.ld_transcript.specs.declared.line.Line.{Line}
+use Rattle.ld_transcript.specs.declared.line.Line.TheVariants as lines
+use Rattle.ld_transcript.specs.declared.line.GapKind.{GapKind}
+use Rattle.ld_transcript.specs.declared.line.GapKind.TheVariants as gaps
+use Rattle.ld_machine.specs.Facts.{Happened, Writes, Acks, Appends, GivesRecord, GivesGap, ReadsLog, stands_lost}
+use Rattle.ld_machine.specs.Safe.{Safe}
+use Rattle.ld_ids.specs.Choice.{choice_at}
+use Rattle.ld_ids.specs.Set.{members_from}
+use Rattle.ld_machine.specs.Disk.{is_found, keep_op, keep_end, load}
+use Rattle.ld_machine.specs.State.{finish}
+use Rattle.ld_machine.specs.Step.{delivers, happens}
+use Rattle.ld_msg.specs.Digest.{statement, with_page, with_lost, enough, best, digest_trim, top_place, plan_end, plan}
+use Rattle.ld_msg.specs.Network.{message}
+use Rattle.ld_msg.specs.Reader.{on_answer}
+use Rattle.ld_msg.specs.Reading.{is_loss, decide}
+use Rattle.ld_msg.specs.Register.{change, activate, close, draw}
+use Rattle.ld_msg.specs.Sequencer.{after_close, is_ready, on_reply, on_retry, appending, activated}
+use Rattle.ld_op.specs.Answers.{store_decision, on_store, digest_decision, on_digest_ask, on_clean, on_trim, on_release, read_answer}
+use Rattle.ld_op.specs.Plain.{summary_at, apply, op_length}
+use Rattle.ld_op.specs.Ticks.{missing, is_missing, on_page, on_tick}
+use Rattle.ld_table.specs.Named.{same, find_named, put_named}
+use Rattle.ld_table.specs.Table.{find, put, keep, keep_keys}
+use Rattle.ld_machine.specs.Run.{steps_of, history_from}
+use Rattle.ld_rows.specs.Schedules.{three_nodes, one_append, sequencer_a, reader_r}
+use Rattle.ld_rows.specs.Tampered.{tampered_run, another_payload, a_hole, a_loss, a_trim}
+
+-- ---- lists ----
+
+nowhere : {X : Type 0} (p : X → Bool) (xs : List X) (k : ℕ) (x : X) → any_of p xs ≡ false → slice_get xs k ≡ Some x → p x ≡ false
+nowhere p [] k x none there = grind arith
+nowhere p (y ∷ ys) zero x none there = grind arith
+nowhere p (y ∷ ys) (suc k) x none there = nowhere p ys k x (grind arith) (grind arith)
+
+at_or_above : (a j : ℕ) → a ≤ j → (j ≡ a) ⊎ (a + 1 ≤ j)
+at_or_above a j h = grind arith
+
+first_or_later : (p : ℕ → Bool) (a j : ℕ) (rest : Bool) → p a && rest ≡ true → (j ≡ a) ⊎ (a + 1 ≤ j) → (rest ≡ true → a + 1 ≤ j → p j ≡ true) → p j ≡ true
+first_or_later p a j rest all (inl is) later = grind arith
+first_or_later p a j rest all (inr above) later = later (grind arith) above
+
+everywhere : (p : ℕ → Bool) (a m j : ℕ) → all_of p (numbers_from a m) ≡ true → a ≤ j → j < a + m → p j ≡ true
+everywhere p a zero j all from to = absurd (omega arith)
+everywhere p a (suc m) j all from to = first_or_later p a j (all_of p (numbers_from (a + 1) m)) all (at_or_above a j from) (λ rest above. everywhere p (a + 1) m j rest above (omega arith))
+
+-- ---- the step that gave the record, and the facts of the run ----
+
+abbrev number : ℕ
+number = numbered 1 1
+
+abbrev run : (List ℕ → ℕ → Line) → List Happened
+run f = tampered_run f three_nodes one_append
+
+abbrev given : Line → Happened
+given x = record { event = events.Deliver 16; lines = x ∷ [] }
+
+abbrev Known : (List ℕ → ℕ → Line) → Type 0
+Known f = (slice_get (run f) 23 ≡ Some (given (f reader_r number))) × ReadsLog three_nodes (run f) 1 reader_r
+
+known_payload : Known another_payload
+unfolding choice_at members_from is_found keep_op keep_end load finish delivers happens statement with_page with_lost enough best digest_trim top_place plan_end plan message on_answer is_loss decide change activate close draw after_close is_ready on_reply on_retry appending activated store_decision on_store digest_decision on_digest_ask on_clean on_trim on_release read_answer summary_at apply op_length missing is_missing on_page on_tick same find_named put_named find put keep keep_keys steps_of history_from
+known_payload = (refl, (record { log = 1; from = 1; until = number }, refl, refl))
+
+known_hole : Known a_hole
+unfolding choice_at members_from is_found keep_op keep_end load finish delivers happens statement with_page with_lost enough best digest_trim top_place plan_end plan message on_answer is_loss decide change activate close draw after_close is_ready on_reply on_retry appending activated store_decision on_store digest_decision on_digest_ask on_clean on_trim on_release read_answer summary_at apply op_length missing is_missing on_page on_tick same find_named put_named find put keep keep_keys steps_of history_from
+known_hole = (refl, (record { log = 1; from = 1; until = number }, refl, refl))
+
+known_trim : Known a_trim
+unfolding choice_at members_from is_found keep_op keep_end load finish delivers happens statement with_page with_lost enough best digest_trim top_place plan_end plan message on_answer is_loss decide change activate close draw after_close is_ready on_reply on_retry appending activated store_decision on_store digest_decision on_digest_ask on_clean on_trim on_release read_answer summary_at apply op_length missing is_missing on_page on_tick same find_named put_named find put keep keep_keys steps_of history_from
+known_trim = (refl, (record { log = 1; from = 1; until = number }, refl, refl))
+
+known_loss : Known a_loss
+unfolding choice_at members_from is_found keep_op keep_end load finish delivers happens statement with_page with_lost enough best digest_trim top_place plan_end plan message on_answer is_loss decide change activate close draw after_close is_ready on_reply on_retry appending activated store_decision on_store digest_decision on_digest_ask on_clean on_trim on_release read_answer summary_at apply op_length missing is_missing on_page on_tick same find_named put_named find put keep keep_keys steps_of history_from
+known_loss = (refl, (record { log = 1; from = 1; until = number }, refl, refl))
+
+gap_given : (f : List ℕ → ℕ → Line) (kind : GapKind) → f reader_r number ≡ lines.Gap reader_r kind number number → Known f → GivesGap three_nodes (run f) 1 kind number number 23
+gap_given f kind is known = record { name = reader_r; told = (given (f reader_r number), known.0, 0, ap (λ x. Some x) is); of_log = known.1 }
+
+clash : {b : Bool} → b ≡ true → b ≡ false → ⊥
+clash t f = cc
+
+-- ---- another payload ----
+
+abbrev appends_zero : Event → Bool
+appends_zero (events.Append name p) = same p (0 ∷ [])
+appends_zero _ = false
+
+no_zero : any_of (λ h. appends_zero h.event) (run another_payload) ≡ false
+unfolding choice_at members_from is_found keep_op keep_end load finish delivers happens statement with_page with_lost enough best digest_trim top_place plan_end plan message on_answer is_loss decide change activate close draw after_close is_ready on_reply on_retry appending activated store_decision on_store digest_decision on_digest_ask on_clean on_trim on_release read_answer summary_at apply op_length missing is_missing on_page on_tick same find_named put_named find put keep keep_keys steps_of history_from
+no_zero = refl
+
+zero_appended : (h : Happened) (name : List ℕ) → h.event ≡ events.Append name (0 ∷ []) → appends_zero h.event ≡ true
+unfolding same
+zero_appended h name is = ap (λ e. appends_zero e) is
+
+pub payload_unsafe : Safe three_nodes (run another_payload) → ⊥
+payload_unsafe s =
+    let given_here : GivesRecord three_nodes (run another_payload) 1 number (0 ∷ []) 23 = record { name = reader_r; told = (given (another_payload reader_r number), known_payload.0, 0, refl); of_log = known_payload.1 } in
+    let found = s.records 1 number 23 (0 ∷ []) given_here in
+    let a : Appends (run another_payload) 1 number (0 ∷ []) found.0 = found.2 in
+    clash (zero_appended a.here a.name a.asked) (nowhere (λ h. appends_zero h.event) (run another_payload) found.0 a.here no_zero a.at)
+
+-- ---- a hole ----
+
+acked_here : Acks (run a_hole) 1 number 8
+unfolding choice_at members_from is_found keep_op keep_end load finish delivers happens statement with_page with_lost enough best digest_trim top_place plan_end plan message on_answer is_loss decide change activate close draw after_close is_ready on_reply on_retry appending activated store_decision on_store digest_decision on_digest_ask on_clean on_trim on_release read_answer summary_at apply op_length missing is_missing on_page on_tick same find_named put_named find put keep keep_keys steps_of history_from
+acked_here = record { name = sequencer_a; told = (_, refl, 0, refl); of_log = refl }
+
+pub hole_unsafe : Safe three_nodes (run a_hole) → ⊥
+hole_unsafe s = (s.hidden 1 number number number 23 8 gaps.Hole (inl refl) (gap_given a_hole gaps.Hole refl known_hole) (omega arith) (omega arith)).0 acked_here
+
+-- ---- a trim gap ----
+
+abbrev is_trimmed : Line → Bool
+is_trimmed (lines.Trimmed name t) = true
+is_trimmed _ = false
+
+none_trimmed : any_of (λ h. any_of is_trimmed h.lines) (run a_trim) ≡ false
+unfolding choice_at members_from is_found keep_op keep_end load finish delivers happens statement with_page with_lost enough best digest_trim top_place plan_end plan message on_answer is_loss decide change activate close draw after_close is_ready on_reply on_retry appending activated store_decision on_store digest_decision on_digest_ask on_clean on_trim on_release read_answer summary_at apply op_length missing is_missing on_page on_tick same find_named put_named find put keep keep_keys steps_of history_from
+none_trimmed = refl
+
+pub trim_unsafe : Safe three_nodes (run a_trim) → ⊥
+trim_unsafe s =
+    let found = s.trims 1 number number 23 (gap_given a_trim gaps.Trim refl known_trim) in
+    let w : Writes (run a_trim) found.0 (lines.Trimmed found.4.name found.1) = found.4.told in
+    clash {b = true} refl (nowhere is_trimmed w.0.lines w.2 (lines.Trimmed found.4.name found.1) (nowhere (λ h. any_of is_trimmed h.lines) (run a_trim) found.0 w.0 none_trimmed w.1) w.3)
+
+-- ---- a loss ----
+
+abbrev few : List Happened → ℕ → Bool
+few hs j = nat_lt (how_many (stands_lost 1 1 (take (j + 1) hs)) (1 ∷ 2 ∷ 3 ∷ [])) 2
+
+abbrev always_few : List Happened → Bool
+always_few hs = all_of (few hs) (numbers_from 0 24)
+
+few_lost : always_few (run a_loss) ≡ true
+unfolding choice_at members_from is_found keep_op keep_end load finish delivers happens statement with_page with_lost enough best digest_trim top_place plan_end plan message on_answer is_loss decide change activate close draw after_close is_ready on_reply on_retry appending activated store_decision on_store digest_decision on_digest_ask on_clean on_trim on_release read_answer summary_at apply op_length missing is_missing on_page on_tick same find_named put_named find put keep keep_keys steps_of history_from
+few_lost = refl
+
+not_few : (n : ℕ) → 2 ≤ n → nat_lt n 2 ≡ false
+not_few n h = grind arith
+
+pub loss_unsafe : Safe three_nodes (run a_loss) → ⊥
+unfolding members_from
+loss_unsafe s =
+    let found = s.losses 1 number number number 23 (gap_given a_loss gaps.DataLoss refl known_loss) (omega arith) (omega arith) in
+    clash (everywhere (few (run a_loss)) 0 24 found.0 few_lost (omega arith) (omega arith)) (not_few _ found.2)

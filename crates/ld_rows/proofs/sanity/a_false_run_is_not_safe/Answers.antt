@@ -1,0 +1,14 @@
+use Rattle.ld_rows.proofs.Tampering.{payload_unsafe, hole_unsafe, trim_unsafe, loss_unsafe}
+use Rattle.ld_rows.proofs.sanity.a_false_run_is_not_safe.Goals as goal
+
+pub returns-clause-payload : goal.returns-clause-payload
+returns-clause-payload c = payload_unsafe
+
+pub returns-clause-hole : goal.returns-clause-hole
+returns-clause-hole c = hole_unsafe
+
+pub returns-clause-trim : goal.returns-clause-trim
+returns-clause-trim c = trim_unsafe
+
+pub returns-clause-loss : goal.returns-clause-loss
+returns-clause-loss c = loss_unsafe

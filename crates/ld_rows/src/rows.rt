@@ -1,0 +1,70 @@
+// Runs that are known line by line: each law is the value of its run.
+ghost use Rattle.std.specs.Prelude.{◌≡◌, codes, [], ◌∷◌, true, false};
+ghost use Rattle.ld_schedule.specs.declared.event.Picture.TheVariants as pictures;
+ghost use Rattle.ld_machine.specs.Exercise.{drawn, value_of, exercise};
+ghost use Rattle.ld_machine.specs.Run.{transcript};
+ghost use Rattle.ld_rows.specs.Schedules.{three_nodes, five_nodes, one_append, half_stored, cut_off, trimmed, rebuilt, lost, hole_between, two_recoveries, register_fault};
+ghost use Rattle.ld_rows.specs.Texts.{one_append_text, half_stored_text, cut_off_text, trimmed_text, rebuilt_text, lost_text, hole_between_text, two_recoveries_text, register_fault_text};
+ghost use Rattle.ld_rows.specs.Told.{told_text, kept_by_call};
+
+/// A record goes to two of three nodes, is acknowledged and released, and a reader gets it behind the bridge of
+/// epoch 0: the whole transcript.
+pub fn one_record_is_read()
+    ensures { transcript three_nodes one_append ≡ one_append_text }
+{}
+
+/// A record that one node of two stored is not acknowledged, and a reader waits.
+pub fn a_record_is_half_stored()
+    ensures { told_text three_nodes half_stored ≡ half_stored_text }
+{}
+
+/// A record that no page of the digest has is cut off by the plan's bridge.
+pub fn a_record_is_cut_off()
+    ensures { told_text five_nodes cut_off ≡ cut_off_text }
+{}
+
+/// Of two records that were never acknowledged the digest finds the second: the first one's number is a hole.
+pub fn a_hole_stands_between()
+    ensures { told_text five_nodes hole_between ≡ hole_between_text }
+{}
+
+/// Two sequencers recover one epoch at once: one closes it, the other one finds it closed and goes on.
+pub fn two_recoveries_agree()
+    ensures { told_text three_nodes two_recoveries ≡ two_recoveries_text }
+{}
+
+/// A register call that failed may have been made, and a retry asks again.
+pub fn a_register_fault_is_passed()
+    ensures { told_text three_nodes register_fault ≡ register_fault_text }
+{}
+
+/// Of a crash in the k-th of a record's four writing calls the picture decides: the record is there where the gate
+/// was written and the picture shows it open.
+pub fn a_torn_record_is_there_or_not()
+    ensures old { kept_by_call pictures.Old ≡ false ∷ false ∷ false ∷ false ∷ [] }
+    ensures new { kept_by_call pictures.New ≡ false ∷ false ∷ true ∷ true ∷ [] }
+    ensures digits { kept_by_call (pictures.Byte 7) ≡ false ∷ false ∷ false ∷ false ∷ [] }
+{}
+
+/// A recovery takes a trim that only one node of its digest has, and readers get it after that node was wiped.
+pub fn records_are_trimmed()
+    ensures { told_text three_nodes trimmed ≡ trimmed_text }
+{}
+
+/// A node that was wiped refills, and the record outlives the wipe of the other node that had it.
+pub fn copies_are_rebuilt()
+    ensures { told_text three_nodes rebuilt ≡ rebuilt_text }
+{}
+
+/// Both nodes that had a record are wiped: the reader is told that it is lost, and gets the next one.
+pub fn copies_are_lost()
+    ensures { told_text three_nodes lost ≡ lost_text }
+{}
+
+/// The first draw of seed 1, and the summary lines of its schedules of no event and of one.
+pub fn made_schedules_are_known()
+    ensures state { drawn 1 ≡ 7806831264735756412 }
+    ensures value { value_of (drawn 1) ≡ 908834774 }
+    ensures none { exercise 1 0 ≡ codes "events 7 appended 0 acked 0 record 0 trim 0 hole 0 bridge 0 dataloss 0\n" }
+    ensures one { exercise 1 1 ≡ codes "events 8 appended 0 acked 0 record 0 trim 0 hole 0 bridge 0 dataloss 0\n" }
+{}
