@@ -1,0 +1,219 @@
+-- A sequencer in recovery has in its digest all that its pages showed, and plans an epoch only once.
+use Rattle.std.proofs.Common.{◌≡◌, ◌∙◌, ◌⊎◌, ◌≤◌, ◌<◌, ℕ, ◌+◌, inl, inr, refl, ap, sym, subst, Bool, true, false, not, ◌&&◌, nat_lt, cond, if◌then◌else◌, List, [], ◌∷◌, ◌++◌, length, Option, Some, None, arith}
+use Rattle.std.proofs.lemmas.Bool.{cases_Bool, cases_order, ltb-true}
+use Rattle.ld_table.specs.Words.{how_many}
+use Rattle.ld_lsn.specs.Number.{epoch_of, esn_of, home_epoch}
+use Rattle.ld_ids.specs.declared.set.Spec.{Spec}
+use Rattle.ld_ids.specs.Choice.{at_epoch, nodes_of}
+use Rattle.ld_config.specs.declared.config.Config.{Config}
+use Rattle.ld_msg.specs.declared.msg.Entry.{Entry}
+use Rattle.ld_msg.specs.declared.msg.Summary.{Summary}
+use Rattle.ld_msg.specs.declared.msg.Msg.{Msg}
+use Rattle.ld_msg.specs.declared.msg.Body.{Body}
+use Rattle.ld_msg.specs.declared.msg.Body.TheVariants as bodies
+use Rattle.ld_msg.specs.Register.{Register, Granted, Epochs, lce_of, close, epochs_of, with_epochs, closed_epochs}
+use Rattle.ld_msg.specs.Digest.{Told, no_digest, with_page, enough, plan}
+use Rattle.ld_msg.specs.Sequencer.{Sequencer, Recovery, Stage, Seals, Stores, Closes, Storing, Acts, Called, does_nothing, recovery_of, recovery_lost, lost_stage, storing_of, settled_by, summary_of}
+use Rattle.ld_machine.specs.Config.{spec_in}
+use Rattle.ld_machine.specs.Facts.{Happened}
+use Rattle.ld_machine.specs.World.{Made, In}
+use Rattle.ld_safety.proofs.Lists.{only}
+use Rattle.ld_safety.proofs.RegisterSteps.{close_granted, epochs_put, epochs_same}
+use Rattle.ld_safety.proofs.SequencerSteps.{Acting, Retrying, Closing, acts_with}
+use Rattle.ld_safety.proofs.Protocol.{plan_of, StoredBy, Kept, PlansOnce}
+use Rattle.ld_safety.proofs.Said.{Open}
+use Rattle.ld_safety.proofs.Sent.{ShowsAll}
+use Rattle.ld_safety.proofs.Registers.{Up}
+use Rattle.ld_safety.proofs.Digests.{DigestSoFar, PageFacts, NoPlan, begins, loses, takes, accounts}
+
+-- a plan that was made for a recovery's sequencer is of an epoch below, or of this one, where it is past its seals
+abbrev pub NotSeals : Stage → Type 0
+NotSeals (Seals d) = ⊥
+NotSeals _ = Unit {0}
+
+abbrev pub Before : Recovery → ℕ → Type 0
+Before v e = (e < v.epoch) ⊎ ((e ≡ v.epoch) × NotSeals v.stage)
+
+module _ (c : Config) (hs : List Happened) (sent : List Msg) where
+  abbrev pub StageFine : List Made → Register → ℕ → ℕ → ℕ → Stage → Type 0
+  StageFine made r l b e (Seals d) = DigestSoFar hs made sent r (spec_in l c.logs) l e b d
+  StageFine made r l b e _ = Unit {0}
+
+  pub record InRecovery (made : List Made) (r : Register) (l b : ℕ) (v : Recovery) : Type 0 where
+    pub next : v.epoch ≤ lce_of r l + 1
+    pub later : v.epoch < b
+    pub stage : StageFine made r l b v.epoch v.stage
+    pub before : (e : ℕ) (d : List Told) → In (plan_of l e b d) made → Before v e
+
+  abbrev pub RecoveryFine : List Made → Register → ℕ → ℕ → Option Recovery → Type 0
+  RecoveryFine made r l b None = Unit {0}
+  RecoveryFine made r l b (Some v) = InRecovery made r l b v
+
+  abbrev pub Fine : List Made → Register → Sequencer → Type 0
+  Fine made r q = RecoveryFine made r q.log q.epoch q.recovery
+
+  -- a plan that was just made
+  pub record NewPlan (made : List Made) (r : Register) (l e b : ℕ) (d : List Told) : Type 0 where
+    pub digest : DigestSoFar hs made sent r (spec_in l c.logs) l e b d
+    pub enough_told : length (nodes_of (spec_in l c.logs)) < (spec_in l c.logs).r + how_many (λ (t : Told). t.whole && not t.lost) d
+    pub later : e < b
+    pub seen : Open r l e → (t : Told) → In t d → t.whole ≡ true → (n a : ℕ) → epoch_of n ≡ e → 0 < esn_of n → a < b → StoredBy sent l t.node n a → Kept made l b t.trim t.entries n a
+    pub first : NoPlan hs made sent r l e b
+
+  -- ---- a recovery that begins, a stage that goes on ----
+  module _ (made : List Made) (r : Register) where
+    pub begins_fine : (l : ℕ) (q : Sequencer) (lce : ℕ) → lce ≤ lce_of r l → ((e : ℕ) (d : List Told) → In (plan_of l e q.epoch d) made → e < lce + 1) → RecoveryFine made r l q.epoch (recovery_of (spec_in l c.logs) q lce)
+    begins_fine l q lce h n = by_later (nat_lt (lce + 1) q.epoch) refl where
+      by_later : (t : Bool) → nat_lt (lce + 1) q.epoch ≡ t → RecoveryFine made r l q.epoch (if t then Some (record { epoch = lce + 1; lost = []; stage = Seals (no_digest (at_epoch (spec_in l c.logs) (lce + 1)) (lce + 1)) }) else None)
+      by_later false k = tt
+      by_later true k = record { next = omega arith; later = ltb-true _ _ k; stage = begins hs made sent r (spec_in l c.logs) l (lce + 1) q.epoch; before = λ e d i. inl (n e d i) }
+
+    -- a stage past the seals
+    settled_stage : (l b : ℕ) (v : Recovery) (s : Stage) → NotSeals s → InRecovery made r l b v → InRecovery made r l b (record v { stage = s })
+    settled_stage l b v s n f = record { next = f.next; later = f.later; stage = any s n; before = λ e d i. elim (f.before e d i) [ inl a ↦ inl a | inr a ↦ inr (a.0, n) ] } where
+      any : (k : Stage) → NotSeals k → StageFine made r l b v.epoch k
+      any (Seals d) h = absurd h
+      any (Stores g) h = tt
+      any (Closes y) h = tt
+
+    lost_fine : (l b y : ℕ) (v : Recovery) (g : Stage) → v.stage ≡ g → InRecovery made r l b v → InRecovery made r l b (recovery_lost y v)
+    lost_fine l b y v g q f = record { next = f.next; later = f.later; stage = by_stage v.stage f.stage; before = λ e d i. elim (f.before e d i) [ inl a ↦ inl a | inr a ↦ inr (a.0, not_by v.stage a.1) ] } where
+      by_stage : (k : Stage) → StageFine made r l b v.epoch k → StageFine made r l b v.epoch (lost_stage y k)
+      by_stage (Seals d) h = loses hs made sent r (spec_in l c.logs) l v.epoch b y d h
+      by_stage (Stores s) h = tt
+      by_stage (Closes s) h = tt
+
+      not_by : (k : Stage) → NotSeals k → NotSeals (lost_stage y k)
+      not_by (Seals d) h = absurd h
+      not_by (Stores s) h = tt
+      not_by (Closes s) h = tt
+
+  -- ---- a call ----
+  module _ (made : List Made) (r : Register) (q : Sequencer) (call : Called) (U : Up r call.register)
+      (P : Fine made r q) (F : Fine made call.register q) where
+    k : Register
+    k = call.register
+
+    abbrev pub Ok : List Made → Called → Type 0
+    Ok m x = Fine (m ++ made) call.register x.acts.sequencer
+
+    was : (v : Recovery) → q.recovery ≡ Some v → InRecovery made r q.log q.epoch v
+    was v e = subst (RecoveryFine made r q.log q.epoch) e P
+
+    now : (v : Recovery) → q.recovery ≡ Some v → InRecovery made call.register q.log q.epoch v
+    now v e = subst (RecoveryFine made call.register q.log q.epoch) e F
+
+    at_most : (v : Recovery) → q.recovery ≡ Some v → (e : ℕ) (d : List Told) → In (plan_of q.log e q.epoch d) made → e ≤ v.epoch
+    at_most v f e d i = elim ((was v f).before e d i) [ inl a ↦ omega arith | inr a ↦ (let z = a.0 in omega arith) ]
+
+    closed_lce : (n : Register) (e : ℕ) (y : Summary) → lce_of r q.log + 1 ≡ e → close r q.log e y ≡ record { register = n; answer = Granted } → lce_of n q.log ≡ e
+    closed_lce n e y h g = let s = close_granted r q.log e y n h g in elim (epochs_put r q.log q.log (closed_epochs (epochs_of r q.log) e y)) [
+      | inl a ↦ ap (λ (x : Epochs). x.lce) (epochs_same (with_epochs r q.log (closed_epochs (epochs_of r q.log) e y)) n q.log s ∙ a.1)
+      | inr a ↦ absurd (a.0 refl)
+    ]
+
+    close_fine : (a : Acts) (v : Recovery) (y : Summary) → q.recovery ≡ Some v → a.sequencer.log ≡ q.log → a.sequencer.epoch ≡ q.epoch → Fine made call.register a.sequencer → Closing r (spec_in q.log c.logs) a v.epoch y (λ x. call ≡ x → Ok [] x)
+    close_fine a v y f lg ep fine = record {
+      granted = λ n h g w. starts v.epoch (let z : call.register ≡ n = ap (λ (x : Called). x.register) w in let j = closed_lce n v.epoch y (subst (λ l. lce_of r l + 1 ≡ v.epoch) lg h) (subst (λ l. close r l v.epoch y ≡ record { register = n; answer = Granted }) lg g) in
+          subst (λ x. v.epoch ≤ lce_of x q.log) (sym z) (omega arith)) (λ e d i. let z = at_most v f e d i in omega arith);
+      overtaken = λ h w. fine;
+      behind = λ b h w. (let z = (was v f).next in let u = (U q.log).1 in starts (lce_of r a.sequencer.log) (subst (λ l. lce_of r l ≤ lce_of call.register q.log) (sym lg) u)
+          (λ e d i. let m = at_most v f e d i in not_next e v.epoch (lce_of r a.sequencer.log) m b (subst (λ l. v.epoch ≤ lce_of r l + 1) (sym lg) z)));
+      failed = λ n g w. fine;
+    } where
+      not_next : (e x n : ℕ) → e ≤ x → (n + 1 ≡ x → ⊥) → x ≤ n + 1 → e < n + 1
+      not_next e x n h b g = elim (cases_order (n + 1) x) [ inl z ↦ absurd (b z) | inr (inl z) ↦ omega arith | inr (inr z) ↦ omega arith ]
+
+      starts : (lce : ℕ) → lce ≤ lce_of call.register q.log → ((e : ℕ) (d : List Told) → In (plan_of q.log e q.epoch d) made → e < lce + 1) → RecoveryFine made call.register a.sequencer.log a.sequencer.epoch (recovery_of (spec_in q.log c.logs) a.sequencer lce)
+      starts lce h n = subst (λ l. RecoveryFine made call.register l a.sequencer.epoch (recovery_of (spec_in q.log c.logs) a.sequencer lce)) (sym lg)
+          (begins_fine made call.register q.log a.sequencer lce h (λ e d i. n e d (subst (λ b. In (plan_of q.log e b d) made) ep i)))
+
+    pub retrying_fine : Retrying c r q (λ x. call ≡ x → Ok [] x)
+    retrying_fine = record {
+      quiet = λ w. F;
+      appends = λ f w. F;
+      seals = λ v d f e h w. F;
+      stores = λ v g f e h w. settled_stage made call.register q.log q.epoch v _ tt (now v e);
+      closes = λ v y f e h. close_fine _ v y e refl refl F;
+    }
+
+    -- what a reply brings
+    module _ (y : ℕ) (b : Body) (A : ShowsAll made sent r)
+        (cleaned_closed : (n : ℕ) (s : Summary) → b ≡ bodies.CleanHere n s → home_epoch n ≤ lce_of r q.log)
+        (page : (v : Recovery) (from upto trim lng : ℕ) (es : List Entry) → v.epoch < q.epoch → b ≡ bodies.DigestPage from upto trim lng es → v.epoch ≡ epoch_of from → NoPlan hs made sent r q.log v.epoch q.epoch → PageFacts hs made sent r q.log v.epoch q.epoch y from upto trim lng es) where
+      no_plan : (v : Recovery) (d : List Told) → q.recovery ≡ Some v → v.stage ≡ Seals d → NoPlan hs made sent r q.log v.epoch q.epoch
+      no_plan v d e h f i = elim ((was v e).before v.epoch f i) [ inl a ↦ (omega arith) | inr a ↦ subst NotSeals h a.1 ]
+
+      digest_of : (v : Recovery) (d : List Told) → q.recovery ≡ Some v → v.stage ≡ Seals d → DigestSoFar hs made sent r (spec_in q.log c.logs) q.log v.epoch q.epoch d
+      digest_of v d e h = subst (StageFine made r q.log q.epoch v.epoch) h (was v e).stage
+
+      digest_now : (v : Recovery) (d : List Told) → q.recovery ≡ Some v → v.stage ≡ Seals d → DigestSoFar hs made sent call.register (spec_in q.log c.logs) q.log v.epoch q.epoch d
+      digest_now v d e h = subst (StageFine made call.register q.log q.epoch v.epoch) h (now v e).stage
+
+      facts_of : (v : Recovery) (d : List Told) (from upto trim lng : ℕ) (es : List Entry) → q.recovery ≡ Some v → v.stage ≡ Seals d → b ≡ bodies.DigestPage from upto trim lng es → v.epoch ≡ epoch_of from → PageFacts hs made sent r q.log v.epoch q.epoch y from upto trim lng es
+      facts_of v d from upto trim lng es e h i g = page v from upto trim lng es (was v e).later i g (no_plan v d e h)
+
+      facts_now : (v : Recovery) (d : List Told) (from upto trim lng : ℕ) (es : List Entry) → q.recovery ≡ Some v → v.stage ≡ Seals d → b ≡ bodies.DigestPage from upto trim lng es → v.epoch ≡ epoch_of from → PageFacts hs made sent call.register q.log v.epoch q.epoch y from upto trim lng es
+      facts_now v d from upto trim lng es e h i g = let f = facts_of v d from upto trim lng es e h i g in let u = (U q.log).1 in record { sent_so = f.sent_so; epoch = f.epoch; frozen = λ o x j. f.frozen (omega arith) x j }
+
+      abbrev pub Both : Called → List Made → Type 0
+      Both x m = Ok m x × ((l e a : ℕ) (d : List Told) → In (plan_of l e a d) m → NewPlan made r l e a d × (l ≡ q.log) × (a ≡ q.epoch)) × PlansOnce m
+
+      none_new : (l e a : ℕ) (d : List Told) → In (plan_of l e a d) [] → NewPlan made r l e a d × (l ≡ q.log) × (a ≡ q.epoch)
+      none_new l e a d i = absurd i
+
+      none_once : PlansOnce []
+      none_once l e a d f i j = absurd i
+
+      with_none : (s : Spec) (a : Acts) (e : ℕ) (z : Summary) → Closing r s a e z (λ x. call ≡ x → Ok [] x) → Closing r s a e z (λ x. call ≡ x → Both x [])
+      with_none s a e z h = record { granted = λ n i j w. (h.granted n i j w, none_new, none_once); overtaken = λ i w. (h.overtaken i w, none_new, none_once); behind = λ g i w. (h.behind g i w, none_new, none_once); failed = λ n j w. (h.failed n j w, none_new, none_once) }
+
+      pub acting_fine : Acting c r q y b (λ x m. call ≡ x → Both x m)
+      unfolding enough
+      acting_fine = record {
+        quiet = λ w. (F, none_new, none_once);
+        sealed = λ n j f i l w. (F, none_new, none_once);
+        cleaned_own = λ n s f i h w. (F, none_new, none_once);
+        acks = λ n p f i h g w. (F, none_new, none_once);
+        settles_some = λ v g p f e h s u w. (settled_stage made call.register q.log q.epoch v (Stores (settled_by p y g)) tt (now v e), none_new, none_once);
+        settles_all = λ v g p f e h s u. with_none _ _ v.epoch _ (close_fine _ v _ e refl refl (settled_stage made call.register q.log q.epoch v (Closes (summary_of q.epoch (settled_by p y g))) tt (now v e)));
+        lost_own = λ n round g end f i h w. (F, none_new, none_once);
+        lost_there = λ v n round g end f e i h w. (lost_fine made call.register q.log q.epoch y v v.stage refl (now v e), none_new, none_once);
+        cleaned = λ v n s f e i h w. (let z = cleaned_closed n s i in let u = (U q.log).1 in begins_fine made call.register q.log q v.epoch (omega arith) (λ x d j. let m = at_most v e x d j in omega arith), none_new, none_once);
+        asks_more = λ v d from upto trim lng es f e h i g t u w. (asks_fine v d from upto trim lng es e h i g, none_new, none_once);
+        plans = λ v d from upto trim lng es f e h i g t u w. (let z = now v e in (
+          plans_fine v d from upto trim lng es e z,
+          (λ l x a j o. planned_new v d from upto trim lng es e h i g u l x a j (only _ _ o)),
+          (λ l x a j o m n. let s = ap (λ (n : Made). n.digest) (only _ _ m) in let z = ap (λ (n : Made). n.digest) (only _ _ n) in s ∙ sym z),
+        ));
+      } where
+        asks_fine : (v : Recovery) (d : List Told) (from upto trim lng : ℕ) (es : List Entry) → q.recovery ≡ Some v → v.stage ≡ Seals d → b ≡ bodies.DigestPage from upto trim lng es → v.epoch ≡ epoch_of from → InRecovery made call.register q.log q.epoch (record v { stage = Seals (with_page v.epoch y from upto trim es d) })
+        asks_fine v d from upto trim lng es e h i g = let z = now v e in record {
+          next = z.next;
+          later = z.later;
+          stage = takes hs made sent call.register (spec_in q.log c.logs) q.log v.epoch q.epoch y from upto trim lng es d (facts_now v d from upto trim lng es e h i g) (digest_now v d e h);
+          before = λ x j k. elim (z.before x j k) [ inl a ↦ inl a | inr a ↦ absurd (subst NotSeals h a.1) ];
+        }
+
+        plans_fine : (v : Recovery) (d : List Told) (from upto trim lng : ℕ) (es : List Entry) → q.recovery ≡ Some v → InRecovery made call.register q.log q.epoch v
+            → InRecovery (plan_of q.log v.epoch q.epoch (with_page v.epoch y from upto trim es d) ∷ made) call.register q.log q.epoch (record v { stage = Stores (storing_of (plan v.epoch (with_page v.epoch y from upto trim es d))) })
+        plans_fine v d from upto trim lng es e z = record {
+          next = z.next;
+          later = z.later;
+          stage = tt;
+          before = λ x j k. elim k [ inl o ↦ inr (ap (λ (n : Made). n.epoch) o, tt) | inr o ↦ elim (z.before x j o) [ inl a ↦ inl a | inr a ↦ inr (a.0, tt) ] ];
+        }
+
+        made_now : (v : Recovery) (d : List Told) (from upto trim lng : ℕ) (es : List Entry) → q.recovery ≡ Some v → v.stage ≡ Seals d → b ≡ bodies.DigestPage from upto trim lng es → v.epoch ≡ epoch_of from → enough (spec_in q.log c.logs) (with_page v.epoch y from upto trim es d) ≡ true
+            → NewPlan made r q.log v.epoch q.epoch (with_page v.epoch y from upto trim es d)
+        made_now v d from upto trim lng es e h i g u = let D = takes hs made sent r (spec_in q.log c.logs) q.log v.epoch q.epoch y from upto trim lng es d (facts_of v d from upto trim lng es e h i g) (digest_of v d e h) in record {
+          digest = D;
+          enough_told = ltb-true _ _ u;
+          later = (was v e).later;
+          seen = λ o t j x n a ep p lt st. accounts hs made sent r (spec_in q.log c.logs) q.log v.epoch q.epoch (with_page v.epoch y from upto trim es d) D A (no_plan v d e h) o t j x n a ep p lt st;
+          first = no_plan v d e h;
+        }
+
+        planned_new : (v : Recovery) (d : List Told) (from upto trim lng : ℕ) (es : List Entry) → q.recovery ≡ Some v → v.stage ≡ Seals d → b ≡ bodies.DigestPage from upto trim lng es → v.epoch ≡ epoch_of from → enough (spec_in q.log c.logs) (with_page v.epoch y from upto trim es d) ≡ true
+            → (l x a : ℕ) (j : List Told) → plan_of l x a j ≡ plan_of q.log v.epoch q.epoch (with_page v.epoch y from upto trim es d) → NewPlan made r l x a j × (l ≡ q.log) × (a ≡ q.epoch)
+        planned_new v d from upto trim lng es e h i g u l x a j o = (subst (λ (n : Made). NewPlan made r n.log n.epoch n.ballot n.digest) (sym o) (made_now v d from upto trim lng es e h i g u), ap (λ (n : Made). n.log) o, ap (λ (n : Made). n.ballot) o)

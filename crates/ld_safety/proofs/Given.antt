@@ -1,0 +1,93 @@
+-- Each record anywhere is one that was appended, and each trim anywhere is one that was issued.
+use Rattle.std.proofs.Common.{◌≡◌, ◌∙◌, ◌⊎◌, ◌≤◌, ◌<◌, ℕ, ◌-◌, inl, inr, refl, ap, sym, subst, true, false, List, [], ◌∷◌, ◌++◌, Option, Some, None, arith}
+use Rattle.ld_lsn.specs.Number.{esn_of, numbered, last_esn}
+use Rattle.ld_schedule.specs.declared.event.Event.{Event}
+use Rattle.ld_msg.specs.declared.msg.What.{What}
+use Rattle.ld_msg.specs.declared.msg.What.TheVariants.{Rec, Hole, Bridge}
+use Rattle.ld_msg.specs.declared.msg.Entry.{Entry}
+use Rattle.ld_msg.specs.declared.msg.Summary.{Summary}
+use Rattle.ld_msg.specs.Digest.{Told, best, content, record_or_hole, is_bridge, plan, plan_end, digest_trim, Item}
+use Rattle.ld_machine.specs.Facts.{Happened, OfLog, Appends, Issues, sequencer_log}
+use Rattle.ld_machine.specs.State.{Done}
+use Rattle.ld_machine.specs.World.{In}
+use Rattle.ld_safety.proofs.Lists.{slice_get_left, or_else_some}
+use Rattle.ld_safety.proofs.Steps.{told, writes_before}
+use Rattle.ld_safety.proofs.Numbers.{log_grows}
+use Rattle.ld_safety.proofs.Plans.{best_of, plan_items, plan_shape, top_most, trim_place_most, end_most}
+use Rattle.ld_msg.specs.Register.{epoch_limit}
+
+-- a record was appended by one of the steps so far
+abbrev pub AppendedBy : List Happened → ℕ → ℕ → List ℕ → Type 0
+AppendedBy hs l n p = (k : ℕ) × Appends hs l n p k
+
+-- a place that an entry may have
+pub record Place (n : ℕ) (w : What) : Type 0 where
+  pub above : 0 < esn_of n
+  pub below : (w ≡ Bridge → ⊥) → esn_of n < last_esn
+
+pub record GivenEntry (hs : List Happened) (l b n : ℕ) (w : What) : Type 0 where
+  pub place : Place n w
+  pub appended : (p : List ℕ) → w ≡ Rec p → AppendedBy hs l n p
+
+-- a trim is none, or at or below an issued point
+abbrev pub GivenTrim : List Happened → ℕ → ℕ → Type 0
+GivenTrim hs l t = (t ≡ 0) ⊎ ((k p : ℕ) × (t ≤ p) × Issues hs l p k)
+
+abbrev pub AnyEpoch : ℕ → ℕ → Type 0
+AnyEpoch l e = Unit {0}
+
+abbrev pub GivenSummary : List Happened → ℕ → ℕ → Summary → Type 0
+GivenSummary hs l e y = GivenTrim hs l y.trim × (e ≤ epoch_limit)
+
+-- ---- longer runs ----
+pub of_log_grows : (hs : List Happened) (e : Event) (d : Done) (l : ℕ) (s : List ℕ) → OfLog hs l s → OfLog (hs ++ told e d ∷ []) l s
+of_log_grows hs e d l s h = log_grows s hs (told e d) ∙ or_else_some (sequencer_log s hs) _ l h
+
+pub appends_grows : (hs : List Happened) (e : Event) (d : Done) (l n k : ℕ) (p : List ℕ) → Appends hs l n p k → Appends (hs ++ told e d ∷ []) l n p k
+appends_grows hs e d l n k p a = record { name = a.name; here = a.here; at = slice_get_left a.here hs _ k a.at; asked = a.asked; told = writes_before hs (told e d ∷ []) k _ a.told; of_log = of_log_grows hs e d l a.name a.of_log }
+
+pub issues_grows : (hs : List Happened) (e : Event) (d : Done) (l t k : ℕ) → Issues hs l t k → Issues (hs ++ told e d ∷ []) l t k
+issues_grows hs e d l t k a = record { name = a.name; told = writes_before hs (told e d ∷ []) k _ a.told; of_log = of_log_grows hs e d l a.name a.of_log }
+
+pub entry_grows : (hs : List Happened) (e : Event) (d : Done) (l b n : ℕ) (w : What) → GivenEntry hs l b n w → GivenEntry (hs ++ told e d ∷ []) l b n w
+entry_grows hs e d l b n w g = record { place = g.place; appended = λ p q. let a = g.appended p q in (a.0, appends_grows hs e d l n a.0 p a.1) }
+
+pub trim_grows : (hs : List Happened) (e : Event) (d : Done) (l t : ℕ) → GivenTrim hs l t → GivenTrim (hs ++ told e d ∷ []) l t
+trim_grows hs e d l t (inl h) = inl h
+trim_grows hs e d l t (inr h) = inr (h.0, h.1, h.2, issues_grows hs e d l h.1 h.0 h.3)
+
+-- ---- plans ----
+module _ (hs : List Happened) (l b e : ℕ) (d : List Told) (D : (t : Told) → In t d → (f : Entry) → In f t.entries → GivenEntry hs l f.ballot f.number f.what) where
+  content_given : (n : ℕ) (p : List ℕ) → content (best n d) ≡ Rec p → AppendedBy hs l n p
+  content_given n p h = by_best (best n d) refl h where
+    by_what : (w : What) → record_or_hole w ≡ Rec p → w ≡ Rec p
+    by_what (Rec q) g = g
+    by_what Hole g = absurd cc
+    by_what Bridge g = absurd cc
+
+    by_best : (o : Option Entry) → best n d ≡ o → content o ≡ Rec p → AppendedBy hs l n p
+    by_best None e g = absurd cc
+    by_best (Some f) e g = let x = best_of n d f e in let w = by_what f.what g in elim x.whose [
+      | inl q ↦ subst (λ m. AppendedBy hs l m p) q ((D x.told x.in_digest f x.in_entries).appended p w)
+      | inr q ↦ absurd (let z : Bridge ≡ Rec p = sym q.1 ∙ w in cc)
+    ]
+
+  pub end_place : plan_end e d ≤ last_esn
+  end_place = let t = trim_place_most e (digest_trim d) in let z = end_most e d (last_esn - 1) (top_most (last_esn - 1) d (λ u f i j n. let g = D u i f j in let y = g.place.below (λ q. bridge_no f.what q n) in omega arith)) t in omega arith where
+    bridge_no : (w : What) → w ≡ Bridge → is_bridge w ≡ false → ⊥
+    bridge_no w q n = let z : is_bridge w ≡ true = ap is_bridge q in cc
+
+  pub plan_given : (i : Item) → In i (plan e d).items → GivenEntry hs l b i.number i.what
+  plan_given i h = let p = plan_items e d i h in let s = plan_shape e d p.place i.what p.item in let u = end_place in let a = p.above in let z = p.below in let n = p.number in record {
+    place = record {
+      above = subst (λ m. 0 < esn_of m) (sym n) (omega arith);
+      below = λ q. elim s.kind [
+        | inl k ↦ (let y = k.0 in subst (λ m. esn_of m < last_esn) (sym n) (omega arith))
+        | inr k ↦ absurd (q k.1)
+      ];
+    };
+    appended = λ x q. elim s.kind [
+      | inl k ↦ subst (λ m. AppendedBy hs l m x) (sym n) (content_given (numbered e p.place) x (sym k.1 ∙ q))
+      | inr k ↦ absurd (let y : Bridge ≡ Rec x = sym k.1 ∙ q in cc)
+    ];
+  }

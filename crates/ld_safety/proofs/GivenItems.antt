@@ -1,0 +1,264 @@
+-- Readers get only records that were appended, and trims up to points that were issued.
+use Rattle.std.proofs.Common.{◌≡◌, ◌∙◌, ◌⊎◌, ◌≤◌, ◌<◌, ℕ, ◌+◌, max, inl, inr, refl, ap, sym, subst, Bool, true, if◌then◌else◌, nat_lt, ◌==◌, List, [], ◌∷◌, ◌++◌, length, Option, Some, None, arith, slice_get}
+use Rattle.std.proofs.lemmas.Bool.{cases_order, ltb-true, eqb-true}
+use Rattle.ld_table.specs.Table.{find, put}
+use Rattle.ld_table.specs.Named.{find_named}
+use Rattle.ld_table.specs.Words.{or_else}
+use Rattle.ld_config.specs.declared.config.Config.{Config}
+use Rattle.ld_schedule.specs.declared.event.Event.{Event}
+use Rattle.ld_transcript.specs.declared.line.Line.{Line}
+use Rattle.ld_transcript.specs.declared.line.Line.TheVariants as lines
+use Rattle.ld_transcript.specs.declared.line.GapKind.TheVariants as gaps
+use Rattle.ld_msg.specs.declared.msg.What.{What}
+use Rattle.ld_msg.specs.declared.msg.What.TheVariants.{Rec, Hole, Bridge}
+use Rattle.ld_msg.specs.declared.msg.Entry.{Entry}
+use Rattle.ld_msg.specs.declared.msg.Msg.{Msg}
+use Rattle.ld_msg.specs.declared.msg.Who.TheVariants as whos
+use Rattle.ld_msg.specs.declared.msg.Body.{Body}
+use Rattle.ld_msg.specs.declared.msg.Body.TheVariants as bodies
+use Rattle.ld_msg.specs.Reading.{Held, Item, TrimTo, RecordHere, HoleHere, BridgeTo, LossHere, trim_held, trim_told, record_held, record_of, page_at, entry_at}
+use Rattle.ld_msg.specs.Reader.{Reader, Read, heard, held_with, is_newer, round_of, on_answer, gives}
+use Rattle.ld_machine.specs.State.{State}
+use Rattle.ld_machine.specs.Facts.{Happened, Opening, opening, opening_of, Interval, Writes, Appends, Issues, ReadsLog, log_activated}
+use Rattle.ld_machine.specs.Safe.{RecordsWereAppended, TrimsWereIssued}
+use Rattle.ld_machine.specs.World.{World, In}
+use Rattle.ld_machine.specs.Run.{history}
+use Rattle.ld_machine.specs.Step as Step
+use Rattle.ld_safety.proofs.Lists.{Some_inj, not_none, cond_both, branch, In-append, only, first_left, slice_get_left, slice_get_below, In-slice_get}
+use Rattle.ld_safety.proofs.Members.{In_put}
+use Rattle.ld_safety.proofs.Traces.{Moment, at_step}
+use Rattle.ld_safety.proofs.Events.{dispatch, Reading, is_quiet}
+use Rattle.ld_safety.proofs.Steps.{writes_before}
+use Rattle.ld_safety.proofs.ItemLines.{line_cases}
+use Rattle.ld_safety.proofs.Lines.{Group, OfItems, OfMessages, group, AllOf, line_of}
+use Rattle.ld_safety.proofs.ReaderSteps.{ReadKeeps, answered}
+use Rattle.ld_safety.proofs.Tiles.{Got, TilesTo, AllGot, Reads, got_of, tiles_kept}
+use Rattle.ld_safety.proofs.Base.{Base}
+use Rattle.ld_safety.proofs.Given.{AnyEpoch, AppendedBy, GivenEntry, GivenTrim, GivenSummary}
+use Rattle.ld_safety.proofs.GivenSteps.{Given}
+use Rattle.ld_safety.proofs.Carried as carried
+
+-- ---- what is held ----
+pub entry_found : (s : ℕ) (es : List Entry) (w : What) → entry_at s es ≡ Some w → (e : Entry) × In e es × (e.number ≡ s) × (e.what ≡ w)
+entry_found s [] w h = absurd (not_none h)
+entry_found s (e ∷ es) w h = elim (branch (e.number == s) (Some e.what) (entry_at s es) (Some w) h) [
+  | inl t ↦ (e, inl refl, eqb-true _ _ t.0, Some_inj t.1)
+  | inr t ↦ let r = entry_found s es w t.1 in (r.0, inr r.1, r.2, r.3)
+]
+
+-- a page that has a record or hole at the number
+pub record PageWith (s : ℕ) (w : What) (b : Body) : Type 0 where
+  pub round : ℕ
+  pub from : ℕ
+  pub upto : ℕ
+  pub clean : Bool
+  pub entries : List Entry
+  pub is_page : b ≡ bodies.ReadPage round from upto clean entries
+  pub entry : Entry
+  pub there : In entry entries
+  pub number : entry.number ≡ s
+  pub what : entry.what ≡ w
+
+pub page_with : (s : ℕ) (w : What) (b : Body) → page_at s b ≡ Some w → PageWith s w b
+page_with s w (bodies.ReadPage round from upto clean entries) h = let r = entry_found s entries w h in record { round = round; from = from; upto = upto; clean = clean; entries = entries; is_page = refl; entry = r.0; there = r.1; number = r.2; what = r.3 }
+page_with s w _ h = absurd (not_none h)
+
+record_of_some : (o : Option What) (p : List ℕ) → record_of o ≡ Some p → o ≡ Some (Rec p)
+record_of_some (Some (Rec q)) p h = ap (λ x. Some (Rec x)) (Some_inj h)
+record_of_some (Some Hole) p h = absurd (not_none h)
+record_of_some (Some Bridge) p h = absurd (not_none h)
+record_of_some None p h = absurd (not_none h)
+
+or_else_of : {X : Type 0} (o p : Option X) (x : X) → or_else o p ≡ Some x → (o ≡ Some x) ⊎ (p ≡ Some x)
+or_else_of None p x h = inr h
+or_else_of (Some y) p x h = inl h
+
+pub record_in : (s : ℕ) (hs : List (ℕ × Held)) (p : List ℕ) → record_held s hs ≡ Some p → (h : ℕ × Held) × In h hs × PageWith s (Rec p) h.1.body
+record_in s [] p h = absurd (not_none h)
+record_in s (x ∷ hs) p h = elim (or_else_of (record_of (page_at s x.1.body)) (record_held s hs) p h) [
+  | inl a ↦ (x, inl refl, page_with s (Rec p) x.1.body (record_of_some _ p a))
+  | inr a ↦ let r = record_in s hs p a in (r.0, inr r.1, r.2)
+]
+
+-- ---- items ----
+module _ (hs : List Happened) (l : ℕ) where
+  HeldGiven : List (ℕ × Held) → Type 0
+  HeldGiven ds = (h : ℕ × Held) → In h ds → carried.HeldOk (GivenEntry hs) (GivenTrim hs) (GivenSummary hs) AnyEpoch l h.1.body
+
+  -- an item that a reader gets
+  abbrev ItemGiven : ℕ → Item → Type 0
+  ItemGiven s (TrimTo last) = (k t : ℕ) × (last ≤ t) × Issues hs l t k
+  ItemGiven s (RecordHere p) = AppendedBy hs l s p
+  ItemGiven s _ = Unit {0}
+
+  record ReadGiven (a : Read) : Type 0 where
+    held : HeldGiven a.reader.held
+    positive : 0 < a.reader.next
+    items : (i : ℕ × Item) → In i a.items → ItemGiven i.0 i.1
+
+  record_given : (s : ℕ) (ds : List (ℕ × Held)) (p : List ℕ) → HeldGiven ds → record_held s ds ≡ Some p → AppendedBy hs l s p
+  unfolding HeldGiven
+  record_given s ds p h e =
+      let r = record_in s ds p e in let w = r.2 in
+      let o : carried.EntriesOk (GivenEntry hs) (GivenTrim hs) (GivenSummary hs) AnyEpoch l w.entries = subst (carried.HeldOk (GivenEntry hs) (GivenTrim hs) (GivenSummary hs) AnyEpoch l) w.is_page (h r.0 r.1) in
+      subst (λ n. AppendedBy hs l n p) w.number ((o w.entry w.there).appended p w.what)
+
+  max_given : (a b : ℕ) → GivenTrim hs l a → GivenTrim hs l b → GivenTrim hs l (max a b)
+  max_given a b x y = elim (cases_order a b) [
+    | inl e ↦ subst (GivenTrim hs l) (let z : b ≡ max a b = omega arith in z) y
+    | inr (inl e) ↦ subst (GivenTrim hs l) (let z : b ≡ max a b = omega arith in z) y
+    | inr (inr e) ↦ subst (GivenTrim hs l) (let z : a ≡ max a b = omega arith in z) x
+  ]
+
+  told_given : (b : Body) → carried.HeldOk (GivenEntry hs) (GivenTrim hs) (GivenSummary hs) AnyEpoch l b → GivenTrim hs l (trim_told b)
+  told_given (bodies.ReadTrim round from t) h = h
+  told_given _ h = inl refl
+
+  trim_held_given : (ds : List (ℕ × Held)) → HeldGiven ds → GivenTrim hs l (trim_held ds)
+  unfolding HeldGiven
+  trim_held_given [] h = inl refl
+  trim_held_given (d ∷ ds) h = max_given _ _ (told_given d.1.body (h d (inl refl))) (trim_held_given ds (λ x i. h x (inr i)))
+
+  gives_given : (a : Read) (i : Item) → ReadGiven a → ItemGiven a.reader.next i → ReadGiven (gives a i)
+  gives_given a i g h = record {
+    held = g.held;
+    positive = omega arith;
+    items = λ x j. elim (In-append x a.items _ j) [ inl k ↦ g.items x k | inr k ↦ (let z = only x (a.reader.next, i) k in subst (λ (y : ℕ × Item). ItemGiven y.0 y.1) (sym z) h) ];
+  }
+
+  trim_item : (s : ℕ) (ds : List (ℕ × Held)) → HeldGiven ds → 0 < s → s ≤ trim_held ds → ItemGiven s (TrimTo (trim_held ds))
+  trim_item s ds h p q = elim (trim_held_given ds h) [ inl e ↦ absurd (omega arith) | inr e ↦ e ]
+
+  held_given : (d : Reader) (y : ℕ) (b : Body) → HeldGiven d.held → carried.HeldOk (GivenEntry hs) (GivenTrim hs) (GivenSummary hs) AnyEpoch l b → HeldGiven (held_with d.held y b)
+  unfolding HeldGiven
+  held_given d y b h o = cond_both (is_newer (find y d.held) (round_of b)) (put y (record { round = round_of b; body = b }) d.held) d.held (λ x. (k : ℕ × Held) → In k x → carried.HeldOk (GivenEntry hs) (GivenTrim hs) (GivenSummary hs) AnyEpoch l k.1.body)
+      (λ t k i. elim (In_put y (record { round = round_of b; body = b }) d.held k i) [ inl q ↦ subst (λ (x : ℕ × Held). carried.HeldOk (GivenEntry hs) (GivenTrim hs) (GivenSummary hs) AnyEpoch l x.1.body) (sym q) o | inr j ↦ h k j ]) (λ t. h)
+
+  given_keeps : (set : List ℕ) (d : Reader) (y : ℕ) (b : Body) → 0 < d.next → HeldGiven d.held → carried.HeldOk (GivenEntry hs) (GivenTrim hs) (GivenSummary hs) AnyEpoch l b → ReadKeeps set d y b ReadGiven
+  given_keeps set d y b p h o = let k = held_given d y b h o in let start : ReadGiven (record { reader = heard d y b; items = []; asks = [] }) = record { held = k; positive = p; items = λ i j. absurd j } in record {
+    starts = start;
+    loss = λ u. gives_given _ LossHere start tt;
+    trim = λ a g n t. gives_given a (TrimTo (trim_held a.reader.held)) g (trim_item a.reader.next a.reader.held g.held g.positive t);
+    record_there = λ a x g n t. gives_given a (RecordHere x) g (record_given a.reader.next a.reader.held x g.held t);
+    hole_there = λ a g n t. gives_given a HoleHere g tt;
+    bridge = λ a g n t. gives_given a _ g tt;
+    confirm = λ a g n m t. record { held = g.held; positive = g.positive; items = g.items };
+    polls_on = λ a g t. record { held = g.held; positive = g.positive; items = g.items };
+  }
+
+-- ---- the lines of a step ----
+
+pub record LinesGiven (hs : List Happened) (s : State) (ls : List Line) : Type 0 where
+  pub records : (name : List ℕ) (n : ℕ) (p : List ℕ) → In (lines.Record name n p) ls → (d : Reader) × (find_named name s.readers ≡ Some d) × AppendedBy hs d.log n p
+  pub trims : (name : List ℕ) (low high : ℕ) → In (lines.Gap name gaps.Trim low high) ls → (d : Reader) × (find_named name s.readers ≡ Some d) × ((k t : ℕ) × (high ≤ t) × Issues hs d.log t k)
+
+other_lines : (hs : List Happened) (s : State) (g : Group) (ls : List Line) → (g ≡ OfItems → ⊥) → AllOf g ls → LinesGiven hs s ls
+other_lines hs s g ls n a = record { records = λ name m p i. absurd (n (sym (a _ i))); trims = λ name low high i. absurd (n (sym (a _ i))) }
+
+item_lines_given : (hs : List Happened) (s : State) (name : List ℕ) (d : Reader) (until : ℕ) (is : List (ℕ × Item)) → find_named name s.readers ≡ Some d → ((i : ℕ × Item) → In i is → ItemGiven hs d.log i.0 i.1) → LinesGiven hs s (Step.item_lines name until is)
+item_lines_given hs s name d until [] f h = record { records = λ a n p i. absurd i; trims = λ a low high i. absurd i }
+item_lines_given hs s name d until (i ∷ is) f h = let r = item_lines_given hs s name d until is f (λ j k. h j (inr k)) in record {
+  records = λ a n p j. elim j [ inl e ↦ rec_at i.1 a n p (h i (inl refl)) e | inr k ↦ r.records a n p k ];
+  trims = λ a low high j. elim j [ inl e ↦ trim_at i.1 a low high (h i (inl refl)) e | inr k ↦ r.trims a low high k ];
+} where
+  rec_at : (x : Item) (a : List ℕ) (n : ℕ) (p : List ℕ) → ItemGiven hs d.log i.0 x → lines.Record a n p ≡ Step.item_line name i.0 until x → (d : Reader) × (find_named a s.readers ≡ Some d) × AppendedBy hs d.log n p
+  rec_at (RecordHere q) a n p g e = let x : a ≡ name = cc in let y : n ≡ i.0 = cc in let z : p ≡ q = cc in (d, subst (λ k. find_named k s.readers ≡ Some d) (sym x) f, subst (λ k. AppendedBy hs d.log k p) (sym y) (subst (λ k. AppendedBy hs d.log i.0 k) (sym z) g))
+  rec_at (TrimTo last) a n p g e = absurd cc
+  rec_at HoleHere a n p g e = absurd cc
+  rec_at (BridgeTo last) a n p g e = absurd cc
+  rec_at LossHere a n p g e = absurd cc
+
+  trim_at : (x : Item) (a : List ℕ) (low high : ℕ) → ItemGiven hs d.log i.0 x → lines.Gap a gaps.Trim low high ≡ Step.item_line name i.0 until x → (d : Reader) × (find_named a s.readers ≡ Some d) × ((k t : ℕ) × (high ≤ t) × Issues hs d.log t k)
+  trim_at (TrimTo last) a low high g e = let x : a ≡ name = cc in let y : high ≡ (if nat_lt until last then until else last) = cc in (
+    d,
+    subst (λ k. find_named k s.readers ≡ Some d) (sym x) f,
+    (g.0, g.1, cond_both (nat_lt until last) until last (λ z. high ≡ z → high ≤ g.1) (λ t w. let v = ltb-true until last t in let u = g.2 in omega arith) (λ t w. let u = g.2 in omega arith) y, g.3),
+  )
+  trim_at (RecordHere q) a low high g e = absurd cc
+  trim_at HoleHere a low high g e = absurd cc
+  trim_at (BridgeTo last) a low high g e = absurd cc
+  trim_at LossHere a low high g e = absurd cc
+
+quiet_lines_given : (hs : List Happened) (s : State) (ls : List Line) → ((x : Line) → In x ls → is_quiet x ≡ true) → LinesGiven hs s ls
+quiet_lines_given hs s ls q = record { records = λ name n p i. absurd (let z = q _ i in cc); trims = λ name low high i. absurd (let z = q _ i in cc) }
+
+tiles_up : (until next end : ℕ) (is : List Interval) → TilesTo until next is end → next ≤ end
+tiles_up until next end [] t = omega arith
+tiles_up until next end (i ∷ is) t = let r = tiles_up until (i.high + 1) end is t.3 in let a = t.0 in let b = t.1 in omega arith
+
+module _ (c : Config) (hs : List Happened) (w : World) (e : Event) (B : Base c hs w) (G : Given c hs w.state) (A : AllGot c hs w) where
+  positive : (name : List ℕ) (d : Reader) → find_named name w.state.readers ≡ Some d → 0 < d.next
+  positive name d f = let g = got_of c hs w A name d f in let t = tiles_up d.until g.open_as.from d.next _ g.tiles in elim (cases_order g.open_as.from 0) [
+    | inl z ↦ absurd (g.start z)
+    | inr (inl z) ↦ absurd (omega arith)
+    | inr (inr z) ↦ omega arith
+  ]
+
+  reads_given : (f : List ℕ) (name : List ℕ) (d : Reader) (m : Msg) → In m w.state.network.sent → m.to ≡ whos.Reader d.number → Reading w.state name d
+      → LinesGiven hs w.state (Step.item_lines name (on_answer (Step.set_read c d) d (Step.sender_node m.from) m.body).reader.until (on_answer (Step.set_read c d) d (Step.sender_node m.from) m.body).items)
+  unfolding HeldGiven
+  reads_given f name d m i t v =
+      let lg : d.log ≡ m.log = B.1.1.logs m d.number name d i (inl t) v.named refl in
+      let y = Step.sender_node m.from in
+      let o : carried.HeldOk (GivenEntry hs) (GivenTrim hs) (GivenSummary hs) AnyEpoch d.log m.body = subst (λ k. carried.HeldOk (GivenEntry hs) (GivenTrim hs) (GivenSummary hs) AnyEpoch k m.body) (sym lg) (carried.held_of (GivenEntry hs) (GivenTrim hs) (GivenSummary hs) AnyEpoch m.log m.from m.body (G.sent m i)) in
+      let k = answered (Step.set_read c d) d y m.body (ReadGiven hs d.log) (given_keeps hs d.log (Step.set_read c d) d y m.body (positive name d v.named) (G.readers name d v.named) o) in
+      item_lines_given hs w.state name d _ (on_answer (Step.set_read c d) d y m.body).items v.named k.items
+
+  pub lines_given : LinesGiven hs w.state (Step.happens c w.state e).lines
+  lines_given = dispatch c w.state e (λ d m. LinesGiven hs w.state d.lines) B.0.0 (line_cases c w.state e (LinesGiven hs w.state) (other_lines hs w.state) reads_given (quiet_lines_given hs w.state))
+
+-- ---- the laws ----
+
+pub appends_before : (hs gs : List Happened) (l n k : ℕ) (p : List ℕ) → Appends hs l n p k → Appends (hs ++ gs) l n p k
+appends_before hs gs l n k p a = record { name = a.name; here = a.here; at = slice_get_left a.here hs gs k a.at; asked = a.asked; told = writes_before hs gs k _ a.told; of_log = first_left (λ (h : Happened). log_activated a.name h.lines h.event) hs gs l a.of_log }
+
+pub issues_before : (hs gs : List Happened) (l t k : ℕ) → Issues hs l t k → Issues (hs ++ gs) l t k
+issues_before hs gs l t k a = record { name = a.name; told = writes_before hs gs k _ a.told; of_log = first_left (λ (h : Happened). log_activated a.name h.lines h.event) hs gs l a.of_log }
+
+-- a line of a run, with the moment before its step
+pub record LineAt (c : Config) (P : List Happened → World → Type 0) (hs : List Happened) (k : ℕ) (x : Line) : Type 0 where
+  pub before : List Happened
+  pub after : List Happened
+  pub world : World
+  pub event : Event
+  pub holds : P before world
+  pub split : hs ≡ before ++ after
+  pub place : length before ≡ k
+  pub there : In x (Step.happens c world.state event).lines
+
+pub line_at : (c : Config) (P : List Happened → World → Type 0) (es : List Event) (k : ℕ) (x : Line) → ((j : ℕ) (h : Happened) → slice_get (history c es) j ≡ Some h → Moment c P (history c es) j h) → (group x ≡ OfMessages → ⊥) → Writes (history c es) k x → LineAt c P (history c es) k x
+line_at c P es k x M n w = let m = M k w.0 w.1 in record {
+  before = m.before;
+  after = w.0 ∷ m.after;
+  world = m.world;
+  event = m.event;
+  holds = m.holds;
+  split = m.split;
+  place = m.place;
+  there = line_of (Step.happens c m.world.state m.event) x n (subst (λ (h : Happened). In x h.lines) m.is (In-slice_get x w.0.lines w.2 w.3));
+}
+
+-- a reader that was there is of the log that it was opened for
+pub same_log : (c : Config) (before after hs : List Happened) (l : ℕ) (name : List ℕ) (d : Reader) → hs ≡ before ++ after → Got c before name d → ReadsLog c hs l name → d.log ≡ l
+same_log c before after hs l name d s g r =
+    let o : opening c name hs ≡ Some g.open_as = subst (λ (x : List Happened). opening c name x ≡ Some g.open_as) (sym s) (first_left (λ (h : Happened). opening_of c name h.lines h.event) before after g.open_as g.is) in
+    let q : r.0 ≡ g.open_as = Some_inj (sym r.1 ∙ o) in sym g.log ∙ (ap (λ (x : Opening). x.log) (sym q) ∙ r.2)
+
+module _ (c : Config) (es : List Event) where
+  pub records : RecordsWereAppended c (history c es)
+  records l n k p g =
+      let a = line_at c (Reads c) es k _ (at_step c (Reads c) (tiles_kept c) es) (λ h. cc) g.told in
+      let x = (lines_given c a.before a.world a.event a.holds.0.0 a.holds.0.1 a.holds.1).records g.name n p a.there in
+      let lg = same_log c a.before a.after (history c es) l g.name x.0 a.split (got_of c a.before a.world a.holds.1 g.name x.0 x.1) g.of_log in
+      let y : AppendedBy a.before l n p = subst (λ k. AppendedBy a.before k n p) lg x.2 in
+      let b = slice_get_below y.1.here a.before y.0 y.1.at in let z = a.place in
+      (y.0, omega arith, subst (λ (hs : List Happened). Appends hs l n p y.0) (sym a.split) (appends_before a.before a.after l n y.0 p y.1))
+
+  pub trims : TrimsWereIssued c (history c es)
+  trims l low high k g =
+      let a = line_at c (Reads c) es k _ (at_step c (Reads c) (tiles_kept c) es) (λ h. cc) g.told in
+      let x = (lines_given c a.before a.world a.event a.holds.0.0 a.holds.0.1 a.holds.1).trims g.name low high a.there in
+      let lg = same_log c a.before a.after (history c es) l g.name x.0 a.split (got_of c a.before a.world a.holds.1 g.name x.0 x.1) g.of_log in
+      let y : Issues a.before l x.2.1 x.2.0 = subst (λ z. Issues a.before z x.2.1 x.2.0) lg x.2.3 in
+      let b = slice_get_below y.told.0 a.before x.2.0 y.told.1 in let z = a.place in
+      (x.2.0, x.2.1, omega arith, x.2.2, subst (λ (hs : List Happened). Issues hs l x.2.1 x.2.0) (sym a.split) (issues_before a.before a.after l x.2.1 x.2.0 y))

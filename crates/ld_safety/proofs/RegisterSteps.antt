@@ -1,0 +1,115 @@
+-- What a change of the register leaves of its contents.
+use Rattle.std.proofs.Common.{◌≡◌, ◌∙◌, ◌<◌, ◌⊎◌, ℕ, ◌+◌, inl, inr, refl, ap, sym, subst, Bool, true, false, ◌==◌, nat_lt, nat_le, cond, Option, Some, None, arith}
+use Rattle.std.specs.Option.{unwrap_or}
+use Rattle.std.proofs.lemmas.Bool.{cases_Bool, eqb-true, eq-eqb, leb-false, or_parts}
+use Rattle.ld_table.specs.Table.{find, put}
+use Rattle.ld_table.proofs.Laws.{put_cases}
+use Rattle.ld_msg.specs.declared.msg.Summary.{Summary}
+use Rattle.ld_msg.specs.Register.{Register, Epochs, Armed, Changed, Granted, AtLimit, Behind, Fails, activate, close, draw, change, made, unmade, is_made, falls, journal_limit, record_length, epochs_of, no_epochs, generation_of, lce_of, with_epochs, next_epoch, closed_epochs, epoch_limit, generation_limit}
+use Rattle.ld_safety.proofs.Lists.{cond_both}
+
+-- the same contents
+abbrev pub Same : Register → Register → Type 0
+Same r n = (n.logs ≡ r.logs) × (n.generations ≡ r.generations)
+
+not_fails : (b : Bool) → cond b Fails Granted ≡ Granted → b ≡ false
+not_fails true h = absurd cc
+not_fails false h = refl
+
+falls_made : (a : Option Armed) → falls a ≡ false → is_made a ≡ true
+falls_made None h = refl
+falls_made (Some a) h = rw h refl
+
+changed_by : (r n : Register) (b : ℕ) (f m : Bool) → Same r (cond f r (cond m (made r n b) (unmade r))) ⊎ Same n (cond f r (cond m (made r n b) (unmade r)))
+changed_by r n b true m = inl (refl, refl)
+changed_by r n b false true = inr (refl, refl)
+changed_by r n b false false = inl (refl, refl)
+
+-- a change is made or not
+pub changed : (r n : Register) (b : ℕ) → Same r (change r n b).register ⊎ Same n (change r n b).register
+unfolding change
+changed r n b = changed_by r n b (nat_lt journal_limit (r.length + record_length b)) (is_made r.armed)
+
+granted_by : (r n : Register) (b : ℕ) (f m : Bool) → f ≡ false → m ≡ true → Same n (cond f r (cond m (made r n b) (unmade r)))
+granted_by r n b true m h g = absurd cc
+granted_by r n b false true h g = (refl, refl)
+granted_by r n b false false h g = absurd cc
+
+-- and is made where it is granted
+pub granted : (r n : Register) (b : ℕ) → (change r n b).answer ≡ Granted → Same n (change r n b).register
+unfolding change
+granted r n b h = let p = or_parts (nat_lt journal_limit (r.length + record_length b)) (falls r.armed) (not_fails _ h) in granted_by r n b _ _ p.0 (falls_made r.armed p.1)
+
+-- ---- one log ----
+
+abbrev pub with_log_epochs : Register → ℕ → Epochs → Register
+with_log_epochs r l e = with_epochs r l e
+
+pub epochs_put : (r : Register) (l k : ℕ) (e : Epochs) → ((k ≡ l) × (epochs_of (with_epochs r l e) k ≡ e)) ⊎ ((k ≡ l → ⊥) × (epochs_of (with_epochs r l e) k ≡ epochs_of r k))
+epochs_put r l k e = elim (put_cases k l e r.logs) [
+  | inl a ↦ inl (a.0, ap (λ o. unwrap_or o no_epochs) a.1)
+  | inr a ↦ inr (a.0, ap (λ o. unwrap_or o no_epochs) a.1)
+]
+
+pub epochs_same : (r n : Register) (l : ℕ) → Same r n → epochs_of n l ≡ epochs_of r l
+epochs_same r n l s = ap (λ m. unwrap_or (find l m) no_epochs) s.0
+
+-- ---- activate ----
+
+-- a log's next epoch is handed out
+abbrev pub Advanced : Register → ℕ → Register → Type 0
+Advanced r l n = Same (with_epochs r l (next_epoch (epochs_of r l))) n
+
+pub activate_granted : (r : Register) (l : ℕ) (n : Register) → activate r l ≡ record { register = n; answer = Granted } → Advanced r l n
+unfolding activate
+activate_granted r l n h = elim (cases_Bool (nat_le epoch_limit (epochs_of r l).epoch)) [
+  | inl t ↦ absurd (let q : record { register = r; answer = AtLimit } ≡ record { register = n; answer = Granted } = sym (ap (λ b. cond b (record { register = r; answer = AtLimit }) (change r (with_epochs r l (next_epoch (epochs_of r l))) 9)) t) ∙ h in let z = ap (λ (d : Changed). d.answer) q in cc)
+  | inr t ↦ let q : change r (with_epochs r l (next_epoch (epochs_of r l))) 9 ≡ record { register = n; answer = Granted } = sym (ap (λ b. cond b (record { register = r; answer = AtLimit }) (change r (with_epochs r l (next_epoch (epochs_of r l))) 9)) t) ∙ h in
+      subst (λ (d : Changed). Same (with_epochs r l (next_epoch (epochs_of r l))) d.register) q (granted r (with_epochs r l (next_epoch (epochs_of r l))) 9 (ap (λ (d : Changed). d.answer) q))
+]
+
+pub activate_limit : (r : Register) (l : ℕ) (n : Register) → activate r l ≡ record { register = n; answer = Granted } → (epochs_of r l).epoch < epoch_limit
+unfolding activate
+activate_limit r l n h = elim (cases_Bool (nat_le epoch_limit (epochs_of r l).epoch)) [
+  | inl t ↦ absurd (let q : record { register = r; answer = AtLimit } ≡ record { register = n; answer = Granted } = sym (ap (λ b. cond b (record { register = r; answer = AtLimit }) (change r (with_epochs r l (next_epoch (epochs_of r l))) 9)) t) ∙ h in let z = ap (λ (d : Changed). d.answer) q in cc)
+  | inr t ↦ omega (arith, leb-false epoch_limit (epochs_of r l).epoch t)
+]
+
+pub activate_leaves : (r : Register) (l : ℕ) → Same r (activate r l).register ⊎ (((epochs_of r l).epoch < epoch_limit) × Advanced r l (activate r l).register)
+unfolding activate
+activate_leaves r l = cond_both (nat_le epoch_limit (epochs_of r l).epoch) _ _ (λ (d : Changed). Same r d.register ⊎ (((epochs_of r l).epoch < epoch_limit) × Same (with_epochs r l (next_epoch (epochs_of r l))) d.register)) (λ t. inl (refl, refl))
+    (λ t. elim (changed r (with_epochs r l (next_epoch (epochs_of r l))) 9) [ inl a ↦ inl a | inr a ↦ inr (leb-false epoch_limit (epochs_of r l).epoch t, a) ])
+
+-- ---- close ----
+
+abbrev pub Closed_with : Register → ℕ → ℕ → Summary → Register → Type 0
+Closed_with r l e y n = Same (with_epochs r l (closed_epochs (epochs_of r l) e y)) n
+
+pub close_granted : (r : Register) (l e : ℕ) (y : Summary) (n : Register) → lce_of r l + 1 ≡ e → close r l e y ≡ record { register = n; answer = Granted } → Closed_with r l e y n
+unfolding close
+close_granted r l e y n g h =
+    let q : change r (with_epochs r l (closed_epochs (epochs_of r l) e y)) 29 ≡ record { register = n; answer = Granted } = sym (ap (λ b. cond b (change r (with_epochs r l (closed_epochs (epochs_of r l) e y)) 29) (record { register = r; answer = Behind (lce_of r l) })) (eq-eqb (lce_of r l + 1) e g)) ∙ h in
+    subst (λ (d : Changed). Same (with_epochs r l (closed_epochs (epochs_of r l) e y)) d.register) q (granted r (with_epochs r l (closed_epochs (epochs_of r l) e y)) 29 (ap (λ (d : Changed). d.answer) q))
+
+pub close_leaves : (r : Register) (l e : ℕ) (y : Summary) → Same r (close r l e y).register ⊎ ((lce_of r l + 1 ≡ e) × Closed_with r l e y (close r l e y).register)
+unfolding close
+close_leaves r l e y = cond_both (lce_of r l + 1 == e) _ _ (λ (d : Changed). Same r d.register ⊎ ((lce_of r l + 1 ≡ e) × Same (with_epochs r l (closed_epochs (epochs_of r l) e y)) d.register))
+    (λ t. elim (changed r (with_epochs r l (closed_epochs (epochs_of r l) e y)) 29) [ inl a ↦ inl a | inr a ↦ inr (eqb-true _ _ t, a) ]) (λ t. inl (refl, refl))
+
+-- ---- draw ----
+
+abbrev pub Drawn : Register → ℕ → Register → Type 0
+Drawn r n m = (m.logs ≡ r.logs) × (m.generations ≡ put n (generation_of r n + 1) r.generations)
+
+pub draw_leaves : (r : Register) (n : ℕ) → Same r (draw r n).register ⊎ Drawn r n (draw r n).register
+unfolding draw
+draw_leaves r n = cond_both (nat_le generation_limit (generation_of r n)) _ _ (λ (d : Changed). Same r d.register ⊎ ((d.register.logs ≡ r.logs) × (d.register.generations ≡ put n (generation_of r n + 1) r.generations)))
+    (λ t. inl (refl, refl)) (λ t. changed r (record r { generations = put n (generation_of r n + 1) r.generations }) 6)
+
+pub draw_granted : (r : Register) (n : ℕ) (m : Register) → draw r n ≡ record { register = m; answer = Granted } → Drawn r n m
+unfolding draw
+draw_granted r n m h = elim (cases_Bool (nat_le generation_limit (generation_of r n))) [
+  | inl t ↦ absurd (let q : record { register = r; answer = AtLimit } ≡ record { register = m; answer = Granted } = sym (ap (λ b. cond b (record { register = r; answer = AtLimit }) (change r (record r { generations = put n (generation_of r n + 1) r.generations }) 6)) t) ∙ h in let z = ap (λ (d : Changed). d.answer) q in cc)
+  | inr t ↦ let q : change r (record r { generations = put n (generation_of r n + 1) r.generations }) 6 ≡ record { register = m; answer = Granted } = sym (ap (λ b. cond b (record { register = r; answer = AtLimit }) (change r (record r { generations = put n (generation_of r n + 1) r.generations }) 6)) t) ∙ h in
+      subst (λ (d : Changed). (d.register.logs ≡ r.logs) × (d.register.generations ≡ put n (generation_of r n + 1) r.generations)) q (granted r (record r { generations = put n (generation_of r n + 1) r.generations }) 6 (ap (λ (d : Changed). d.answer) q))
+]

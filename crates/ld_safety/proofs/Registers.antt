@@ -1,0 +1,111 @@
+-- Along a run the register's epochs and last closed epochs don't fall, and only closed epochs have summaries.
+use Rattle.std.proofs.Common.{◌≡◌, ◌∙◌, ◌≤◌, ℕ, inl, inr, refl, ap, sym, subst, List, [], ◌∷◌, Option, Some, None, arith}
+use Rattle.std.specs.Option.{unwrap_or}
+use Rattle.ld_table.specs.Table.{find}
+use Rattle.ld_table.proofs.Laws.{put_cases}
+use Rattle.ld_config.specs.declared.config.Config.{Config}
+use Rattle.ld_schedule.specs.declared.event.Event.{Event}
+use Rattle.ld_ids.specs.declared.set.Spec.{Spec}
+use Rattle.ld_msg.specs.declared.msg.Summary.{Summary}
+use Rattle.ld_msg.specs.declared.msg.Msg.{Msg}
+use Rattle.ld_msg.specs.declared.msg.Body.{Body}
+use Rattle.ld_op.specs.declared.op.Op.{Op}
+use Rattle.ld_op.specs.Ticks.{Ticked, Cleans, Rebuilt, Asks, Nothing}
+use Rattle.ld_machine.specs.Disk.{Node}
+use Rattle.ld_msg.specs.Register.{Register, Epochs, Changed, no_epochs, epochs_of, lce_of, with_epochs, next_epoch, closed_epochs, close, activate, draw, empty_register}
+use Rattle.ld_msg.specs.Sequencer.{Acts, called}
+use Rattle.ld_machine.specs.State.{State, node_at, with_node}
+use Rattle.ld_machine.specs.Step as Step
+use Rattle.ld_safety.proofs.Lists.{not_none}
+use Rattle.ld_safety.proofs.Events.{NamesOnce, Cases, dispatch, refreshed}
+use Rattle.ld_safety.proofs.RegisterSteps.{Same, activate_leaves, close_leaves, draw_leaves, epochs_put, epochs_same}
+
+-- what each change of the register keeps holds of the register after each event
+module _ (c : Config) (s : State) (e : Event) (P : Register → Type 0) (same : P s.register)
+    (acts : (l : ℕ) → P (activate s.register l).register) (closes : (l k : ℕ) (y : Summary) → P (close s.register l k y).register) (draws : (n : ℕ) → P (draw s.register n).register)
+    (arms : (n : Register) → n.logs ≡ s.register.logs → P n) where
+  by_call : (p : Spec) (a : Acts) (ts : List (ℕ × Summary)) → P (called p s.register a ts).register
+  by_call p a [] = same
+  by_call p a (t ∷ ts) = closes a.sequencer.log t.0 t.1
+
+  handled : (f : List ℕ) (n : ℕ) (m : Msg) (x : Node) (o : Option Op) (b : Option Body) → P (Step.handles (with_node (refreshed s f) n x) n m o b).state.register
+  handled f n m x None b = same
+  handled f n m x (Some o) b = same
+
+  ticked : (n l : ℕ) (t : Ticked) → P (Step.ticks_as c s n l t).state.register
+  ticked n l (Cleans k y) = same
+  ticked n l Rebuilt = same
+  ticked n l (Asks from) = same
+  ticked n l Nothing = same
+
+  register_cases : Cases c s e (λ d m. P d.state.register)
+  register_cases = record {
+    still = λ f i. same;
+    says = λ x q. same;
+    node_hears = λ f n m i t v o. handled f n m (Step.releases (node_at s n) m.log m.body) (Step.node_handles (node_at s n) m).op (Step.node_handles (node_at s n) m).answer;
+    loads = λ n ls q b o. same;
+    draw_fails = λ n b. draws n;
+    formats = λ n r g b v i. subst (λ (d : Changed). P d.register) i (draws n);
+    ticks = λ n l t v i o. ticked n l t;
+    stops = λ n b. same;
+    wipes = λ n. same;
+    faults = λ n f o. same;
+    arms = λ k done o. arms (Step.armed s.register k done) refl;
+    hears = λ f name q m i t l v o. by_call _ _ _;
+    retries = λ name q v o. by_call _ _ _;
+    appends = λ name q p v a i. same;
+    trims = λ name q t v b. same;
+    drops = λ name q v o. same;
+    activates = λ name l r g n i x. subst (λ (d : Changed). P d.register) i (acts l);
+    activate_fails = λ name l x q. acts l;
+    answers = λ f name d m i t v o. same;
+    polls = λ name d v o. same;
+    opens = λ name l from until o x. same;
+  }
+
+  pub register_kept : NamesOnce s → P (Step.happens c s e).state.register
+  register_kept N = dispatch c s e (λ d m. P d.state.register) N register_cases
+
+-- ---- what doesn't fall ----
+abbrev pub Up : Register → Register → Type 0
+Up r n = (l : ℕ) → ((epochs_of r l).epoch ≤ (epochs_of n l).epoch) × (lce_of r l ≤ lce_of n l)
+
+abbrev pub OnlyClosed : Register → Type 0
+OnlyClosed r = (l e : ℕ) (y : Summary) → find e (epochs_of r l).summaries ≡ Some y → e ≤ lce_of r l
+
+-- a register that follows another one
+abbrev Follows : Register → Register → Type 0
+Follows r n = Up r n × OnlyClosed n
+
+logs_follow : (r n : Register) → n.logs ≡ r.logs → OnlyClosed r → Follows r n
+logs_follow r n q h = (
+  (λ l. let e : epochs_of n l ≡ epochs_of r l = ap (λ m. unwrap_or (find l m) no_epochs) q in let a = ap (λ (x : Epochs). x.epoch) e in let b = ap (λ (x : Epochs). x.lce) e in (omega arith, omega arith)),
+  (λ l e y f. let k : epochs_of n l ≡ epochs_of r l = ap (λ m. unwrap_or (find l m) no_epochs) q in let b = ap (λ (x : Epochs). x.lce) k in let z = h l e y (subst (λ (x : Epochs). find e x.summaries ≡ Some y) k f) in omega arith),
+)
+
+put_follow : (r n : Register) (l : ℕ) (x : Epochs) → (epochs_of r l).epoch ≤ x.epoch → (epochs_of r l).lce ≤ x.lce → ((e : ℕ) (y : Summary) → find e x.summaries ≡ Some y → e ≤ x.lce) → Same (with_epochs r l x) n → OnlyClosed r → Follows r n
+put_follow r n l x a b c s h = (
+  (λ k. elim (epochs_put r l k x) [
+    | inl p ↦ (let e = epochs_same (with_epochs r l x) n k s ∙ p.1 in let u = ap (λ (z : Epochs). z.epoch) e in let v = ap (λ (z : Epochs). z.lce) e in subst (λ j. ((epochs_of r j).epoch ≤ (epochs_of n k).epoch) × (lce_of r j ≤ lce_of n k)) (sym p.0) (omega arith, omega arith))
+    | inr p ↦ (let e = epochs_same (with_epochs r l x) n k s ∙ p.1 in let u = ap (λ (z : Epochs). z.epoch) e in let v = ap (λ (z : Epochs). z.lce) e in (omega arith, omega arith))
+  ]),
+  (λ k e y f. elim (epochs_put r l k x) [
+    | inl p ↦ (let q = epochs_same (with_epochs r l x) n k s ∙ p.1 in let v = ap (λ (z : Epochs). z.lce) q in let z = c e y (subst (λ (w : Epochs). find e w.summaries ≡ Some y) q f) in omega arith)
+    | inr p ↦ (let q = epochs_same (with_epochs r l x) n k s ∙ p.1 in let v = ap (λ (z : Epochs). z.lce) q in let z = h k e y (subst (λ (w : Epochs). find e w.summaries ≡ Some y) q f) in omega arith)
+  ]),
+)
+
+pub follows : (c : Config) (s : State) (e : Event) → NamesOnce s → OnlyClosed s.register → Up s.register (Step.happens c s e).state.register × OnlyClosed (Step.happens c s e).state.register
+follows c s e N h = register_kept c s e (λ n. Follows s.register n) (logs_follow s.register s.register refl h)
+    (λ l. elim (activate_leaves s.register l) [ inl a ↦ logs_follow s.register (activate s.register l).register a.0 h | inr a ↦ put_follow s.register (activate s.register l).register l (next_epoch (epochs_of s.register l)) (omega arith) (omega arith) (λ e y f. h l e y f) a.1 h ])
+    (λ l k y. elim (close_leaves s.register l k y) [
+      | inl a ↦ logs_follow s.register (close s.register l k y).register a.0 h
+      | inr a ↦ let z = a.0 in put_follow s.register (close s.register l k y).register l (closed_epochs (epochs_of s.register l) k y) (omega arith) (omega arith)
+          (λ e z f. elim (put_cases e k y (epochs_of s.register l).summaries) [ inl b ↦ (let u = b.0 in omega arith) | inr b ↦ let u = h l e z (sym b.1 ∙ f) in omega arith ]) a.1 h
+    ])
+    (λ n. elim (draw_leaves s.register n) [ inl a ↦ logs_follow s.register (draw s.register n).register a.0 h | inr a ↦ logs_follow s.register (draw s.register n).register a.0 h ])
+    (λ n q. logs_follow s.register n q h) N
+
+pub start_closed : OnlyClosed empty_register
+unfolding find
+start_closed l e y h = absurd (not_none h)
