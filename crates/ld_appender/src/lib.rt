@@ -1,0 +1,9 @@
+//! An append that waits for its nodes.
+#![tactic(auto)]
+
+mod pending;
+
+pub use pending::{Pending, Progress};
+
+#[cfg(test)]
+mod tests;

@@ -1,0 +1,11 @@
+//! The copyset: the nodes that a number is sent to.
+#![tactic(auto)]
+
+mod choice;
+mod nodes;
+
+pub use choice::{Choice, TooFew, choose, choose_for};
+pub use nodes::NodeList;
+
+#[cfg(test)]
+mod tests;
