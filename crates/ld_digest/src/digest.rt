@@ -1,0 +1,131 @@
+// A digest.
+ghost use Rattle.std.specs.Prelude.{◌≡◌, ◌<◌, ◌-◌, ◌^◌, IfSome, IfNone, IfOk, OnOk, OnErr, false, length, slice_get, option_copied, Option};
+ghost use Rattle.ld_table.specs.Words.{is_in};
+ghost use Rattle.ld_msg.specs.Digest.{no_digest, with_page, with_lost, enough, Told};
+ghost use Rattle.ld_digest.specs.Added.{IsAdded};
+ghost use Rattle.ld_digest.specs.Gathering.{with_told, nodes_told, IsNodeAt, AreInPlace, IsInPlace};
+
+use crate::{Added, Page, Told};
+use ld_ids::{NoMemory, NodeId, Spec};
+use std::alloc::Global;
+use std::marker::Model;
+
+/// What the nodes of a log have told of an epoch, each node once, in rising order.
+#[derive(Drop)]
+pub struct Digest {
+    spec: Spec,
+    epoch: u32,
+    told: Vec<Told>,
+}
+
+impl Model for Digest {
+    ghost use Rattle.std.specs.Prelude.{◌≡◌};
+    ghost use Rattle.ld_ids.specs.Set.{members};
+    ghost use Rattle.ld_digest.specs.Gathering.{Gathering, nodes_told, IsInPlace};
+
+    ghost Value = { Gathering };
+
+    ghost view = { λ a. record { spec = a.spec; epoch = a.epoch; told = a.told.items } };
+
+    ghost invariant = { λ a. (nodes_told a.told.items ≡ members a.spec.set) × IsInPlace a.told.items };
+}
+
+impl Digest {
+    /// Of each node of the log nothing.
+    pub fn new(alloc: Global, spec: &Spec, epoch: u32) -> Result<Digest, NoMemory>
+        ensures spec { IfOk result (λ digest. digest.spec ≡ spec.now) }
+        ensures epoch { IfOk result (λ digest. digest.epoch ≡ epoch) }
+        ensures told { IfOk result (λ digest. digest.told ≡ no_digest spec.now epoch) }
+    {
+        let mut told = Vec::new(alloc);
+        let nodes = spec.set;
+        for place in 0..nodes.len() {
+            if let Some(node) = nodes.nth(place) {
+                told.push(Told::nothing(alloc, epoch, node))?;
+            }
+        }
+        Ok(Digest {
+            spec: *spec,
+            epoch,
+            told,
+        })
+    }
+
+    /// What is said of the log.
+    pub fn spec(&self) -> &Spec
+        ensures { result.now ≡ self.now.spec }
+    {
+        &self.spec
+    }
+
+    /// The epoch.
+    pub fn epoch(&self) -> u32
+        ensures { result ≡ self.now.epoch }
+    {
+        self.epoch
+    }
+
+    /// What each node has told.
+    pub fn told(&self) -> &[Told]
+        ensures value { result.now ≡ self.now.told }
+        ensures in_place { IsInPlace self.now.told }
+    {
+        &self.told
+    }
+
+    // The place of the node.
+    fn place(&self, node: NodeId) -> Option<usize>
+        ensures some { IfSome result (λ place. IsNodeAt self.now.told place node) }
+        ensures within { IfSome result (λ place. place < length self.now.told) }
+        ensures none { IfNone result (is_in node (nodes_told self.now.told) ≡ false) }
+    {
+        for (place, told) in self.told.iter().enumerate() {
+            if told.node() == node {
+                return Some(place);
+            }
+        }
+        None
+    }
+
+    /// Adds a page of the node, where it begins at the number that the node was asked from last
+    /// and the node isn't whole. The page ends before the greatest number, and of its entries only
+    /// a bridge may stand at the last place of an epoch. Without memory nothing changes.
+    pub fn add(&mut self, alloc: Global, node: NodeId, page: &Page) -> Result<Added, NoMemory>
+        requires upto { page.now.upto < 2 ^ 64 - 1 }
+        requires entries { AreInPlace page.now.entries.now }
+        ensures told { OnOk result (self.new ≡ with_told self.old (with_page self.old.epoch node
+            page.now.from page.now.upto page.now.trim page.now.entries.now self.old.told)) }
+        ensures added { IfOk result (λ added. IsAdded added node page.now.from self.old.told self.new.told) }
+        ensures err { OnErr result (self.new ≡ self.old) }
+    {
+        let Some(place) = self.place(node) else {
+            return Ok(Added::Ignored);
+        };
+        let added = self.told[place].add(alloc, self.epoch, page)?;
+        Ok(added)
+    }
+
+    /// Notes that the node said that it is lost.
+    pub fn lost(&mut self, node: NodeId)
+        ensures { self.new ≡ with_told self.old (with_lost node self.old.told) }
+    {
+        if let Some(place) = self.place(node) {
+            self.told[place].lose();
+        }
+    }
+
+    /// Whether so many nodes are whole and not lost that each set of as many nodes as the factor
+    /// says has one of them.
+    #[tactic(auto, unfolding(ld_msg::specs::Digest::enough))]
+    pub fn enough(&self) -> bool
+        ensures { result ≡ enough self.now.spec self.now.told }
+    {
+        let mut whole = 0;
+        for told in &self.told {
+            if told.is_whole() && !told.is_lost() {
+                whole += 1;
+            }
+        }
+        self.spec.set.len() < usize::from(self.spec.r) + whole
+    }
+}

@@ -1,0 +1,8 @@
+use Rattle.std.proofs.Common.{◌≡◌, ◌+◌, drop}
+use Rattle.ld_table.specs.Words.{any_of}
+use Rattle.ld_msg.specs.Reader.{reaches}
+use Rattle.ld_gap.specs.Slots.{filled_from}
+use Rattle.ld_gap.proofs.held.Held.reaches.Given as goal
+
+abbrev pub invariant-loop-slot : goal.invariant-loop-slot
+invariant-loop-slot l = any_of (λ h. reaches l.number h.1.body) (filled_from (l.slot-index + 1) (drop l.slot-index l.slot-items)) ≡ any_of (λ h. reaches l.number h.1.body) l.self

@@ -1,0 +1,231 @@
+// The answers that a reader holds.
+ghost use Rattle.std.specs.Prelude.{◌≡◌, [], option_copied, Option};
+ghost use Rattle.ld_table.specs.Table.{find, put};
+ghost use Rattle.ld_table.specs.Words.{all_of, any_of};
+ghost use Rattle.ld_ids.specs.Set.{members};
+ghost use Rattle.ld_msg.specs.Reading.{trim_held, record_held, hole_held, end_held, is_loss, lost_held, leaves_open, is_lost_for, knows_end_above};
+ghost use Rattle.ld_msg.specs.Reader.{held_with, is_newer, reaches};
+
+use crate::{Answer, Lost, round_of};
+use ld_ids::{NodeId, NodeSet, Payload};
+use ld_lsn::Lsn;
+use ld_msg::Body;
+use std::marker::Model;
+
+/// The answers that a reader holds: at most one of each node. It is seen as a table by node.
+#[derive(Drop)]
+pub struct Held {
+    answers: [Option<Answer>; 16],
+}
+
+impl Model for Held {
+    ghost use Rattle.std.specs.Prelude.{List, ℕ, length, ◌≡◌};
+    ghost use Rattle.ld_msg.specs.Reading.{Held};
+    ghost use Rattle.ld_gap.specs.Slots.{filled};
+
+    ghost Value = { List (ℕ × Held) };
+
+    ghost view = { λ held. filled held.answers };
+
+    ghost invariant = { λ held. length held.answers ≡ 16 };
+}
+
+impl Held {
+    /// No answers.
+    #[tactic(auto, unfolding(crate::specs::Slots::filled_from))]
+    pub fn nothing() -> Held
+        ensures { result ≡ [] }
+    {
+        Held {
+            answers: [
+                None, None, None, None, None, None, None, None, None, None, None, None, None, None,
+                None, None,
+            ],
+        }
+    }
+
+    // Whether no answer of a greater round is held for the node.
+    fn is_newer(&self, node: NodeId, round: u32) -> bool
+        ensures { result ≡ is_newer (find node self.now) round }
+    {
+        match self.of(node) {
+            Some(answer) => answer.round() <= round,
+            None => true,
+        }
+    }
+
+    // Holds the answer for the node.
+    fn put(&mut self, node: NodeId, answer: Answer)
+        ensures { self.new ≡ put node answer self.old }
+    {
+        self.answers[usize::from(node.number()) - 1] = Some(answer);
+    }
+
+    /// Holds a node's answer, unless one of a greater round is held for it.
+    pub fn hold(&mut self, node: NodeId, body: Body)
+        ensures { self.new ≡ held_with self.old node body }
+    {
+        if self.is_newer(node, round_of(&body)) {
+            self.put(node, Answer::new(body));
+        }
+    }
+
+    /// The greatest trim that is held, 0 where none is.
+    #[tactic(auto, unfolding(crate::specs::Slots::filled_from))]
+    pub fn trim(&self) -> Lsn
+        ensures { result ≡ trim_held self.now }
+    {
+        let mut greatest = Lsn::from_u64(0);
+        for slot in &self.answers {
+            if let Some(answer) = slot {
+                greatest = greatest.max(answer.trim());
+            }
+        }
+        greatest
+    }
+
+    /// The record under the number in the lowest node's page that has one.
+    #[tactic(auto, unfolding(crate::specs::Slots::filled_from))]
+    pub fn record(&self, number: Lsn) -> Option<&Payload>
+        ensures { option_copied result ≡ record_held number self.now }
+    {
+        for slot in &self.answers {
+            if let Some(answer) = slot
+                && let Some(payload) = answer.record_at(number)
+            {
+                return Some(payload);
+            }
+        }
+        None
+    }
+
+    /// Whether a page has a hole under the number.
+    #[tactic(auto, unfolding(crate::specs::Slots::filled_from))]
+    pub fn has_hole(&self, number: Lsn) -> bool
+        ensures { result ≡ hole_held number self.now }
+    {
+        for slot in &self.answers {
+            if let Some(answer) = slot
+                && answer.has_hole_at(number)
+            {
+                return true;
+            }
+        }
+        false
+    }
+
+    /// Whether an answer says that the number's epoch ends before the number.
+    #[tactic(auto, unfolding(crate::specs::Slots::filled_from))]
+    pub fn shows_end(&self, number: Lsn) -> bool
+        ensures { result ≡ end_held number self.now }
+    {
+        for slot in &self.answers {
+            if let Some(answer) = slot
+                && answer.shows_end(number)
+            {
+                return true;
+            }
+        }
+        false
+    }
+
+    /// Whether a page reaches the number.
+    #[tactic(auto, unfolding(crate::specs::Slots::filled_from))]
+    pub fn reaches(&self, number: Lsn) -> bool
+        ensures { result ≡ any_of (λ h. reaches number h.1.body) self.now }
+    {
+        for slot in &self.answers {
+            if let Some(answer) = slot
+                && answer.reaches(number)
+            {
+                return true;
+            }
+        }
+        false
+    }
+
+    /// The node's answer.
+    #[tactic(auto, unfolding(crate::specs::Slots::filled_from))]
+    pub fn of(&self, node: NodeId) -> Option<&Answer>
+        ensures { option_copied result ≡ find node self.now }
+    {
+        self.answers[usize::from(node.number()) - 1].as_ref()
+    }
+
+    // Whether each node of the set misses the number or is lost for its epoch.
+    fn is_open(&self, number: Lsn, set: &NodeSet) -> bool
+        ensures { result ≡ all_of (λ y. leaves_open number (find y self.now)) (members set.now) }
+    {
+        for place in 0..set.len() {
+            if let Some(node) = set.nth(place) {
+                if !self.leaves_open(number, node) {
+                    return false;
+                }
+            }
+        }
+        true
+    }
+
+    // Whether the node misses the number or is lost for its epoch.
+    fn leaves_open(&self, number: Lsn, node: NodeId) -> bool
+        ensures { result ≡ leaves_open number (find node self.now) }
+    {
+        match self.of(node) {
+            Some(answer) => answer.lacks(number) || answer.lost_for(number).is_some(),
+            None => false,
+        }
+    }
+
+    // Whether a node is lost for the number's epoch.
+    #[tactic(auto, unfolding(crate::specs::Slots::filled_from))]
+    fn has_lost(&self, number: Lsn) -> bool
+        ensures { result ≡ any_of (λ h. is_lost_for number h.1.body) self.now }
+    {
+        for slot in &self.answers {
+            if let Some(answer) = slot
+                && answer.lost_for(number).is_some()
+            {
+                return true;
+            }
+        }
+        false
+    }
+
+    // Whether an answer shows that the number's epoch ends above the number.
+    #[tactic(auto, unfolding(crate::specs::Slots::filled_from))]
+    fn knows_end_above(&self, number: Lsn) -> bool
+        ensures { result ≡ any_of (λ h. knows_end_above number h.1.body) self.now }
+    {
+        for slot in &self.answers {
+            if let Some(answer) = slot
+                && answer.knows_end_above(number)
+            {
+                return true;
+            }
+        }
+        false
+    }
+
+    /// Whether each node of the set misses the number or is lost for its epoch, one at least is
+    /// lost, and one at least shows that the epoch ends above the number.
+    #[tactic(auto, unfolding(ld_msg::specs::Reading::is_loss))]
+    pub fn is_loss(&self, number: Lsn, set: &NodeSet) -> bool
+        ensures { result ≡ is_loss number (members set.now) self.now }
+    {
+        self.is_open(number, set) && self.has_lost(number) && self.knows_end_above(number)
+    }
+
+    /// The nodes that are lost for the number's epoch, each with its generation.
+    pub fn lost(&self, number: Lsn) -> Lost
+        ensures { result ≡ lost_held number self.now }
+    {
+        let mut generations = [None; 16];
+        for (place, slot) in self.answers.iter().enumerate() {
+            generations[place] = match slot {
+                Some(answer) => answer.lost_for(number),
+                None => None,
+            };
+        }
+        Lost::of(generations)
+    }
+}

@@ -1,0 +1,55 @@
+-- Items that are clipped.
+use Rattle.std.proofs.Common.{◌≡◌, ℕ, ◌+◌, ◌<◌, min, List, [], ◌∷◌, ◌++◌, None, refl, ap, sym, ◌∙◌, subst, arith}
+use Rattle.std.proofs.lemmas.Bool.Decides.{nat_tests}
+use Rattle.ld_msg.specs.Reading.{Item, TrimTo, RecordHere, HoleHere, BridgeTo, LossHere, Verdict, Gives, Confirms, NotYet}
+use Rattle.ld_msg.specs.Reader.{Reader, after_item, verdict}
+use Rattle.ld_reader.specs.Clipped.{clip, clipped, all_clipped, clipped_verdict}
+use Rattle.ld_reader.specs.Given.{given, after, rows_left}
+use Rattle.ld_reader.proofs.Giving.{left_falls, item_first}
+
+pub clipped-append : (until : ℕ) (xs ys : List (ℕ × Item)) → all_clipped until (xs ++ ys) ≡ all_clipped until xs ++ all_clipped until ys
+clipped-append until [] ys = refl
+clipped-append until (x ∷ xs) ys = ap (λ l. (x.0, clipped until x.1) ∷ l) (clipped-append until xs ys)
+
+clip_end : (until last : ℕ) → min (clip until last) until ≡ min last until
+clip_end until last = grind (arith, nat_tests)
+
+-- a clipped item leads as far
+pub after_clipped : (d : Reader) (i : Item) → after_item d (clipped d.until i) ≡ after_item d i
+after_clipped d (TrimTo last) = ap (λ n. record d { next = n + 1; confirming = None }) (clip_end d.until last)
+after_clipped d (RecordHere p) = refl
+after_clipped d HoleHere = refl
+after_clipped d (BridgeTo last) = ap (λ n. record d { next = n + 1; confirming = None }) (clip_end d.until last)
+after_clipped d LossHere = refl
+
+pub gives_clipped : (until : ℕ) (v : Verdict) (x : Item) → Gives x ≡ clipped_verdict until v → (i : Item) × (v ≡ Gives i) × (x ≡ clipped until i)
+gives_clipped until (Gives i) x e = (i, refl, cc)
+gives_clipped until (Confirms lost) x e = absurd cc
+gives_clipped until NotYet x e = absurd cc
+
+pub confirms_clipped : (until : ℕ) (v : Verdict) (lost : List (ℕ × ℕ)) → Confirms lost ≡ clipped_verdict until v → v ≡ Confirms lost
+confirms_clipped until (Gives i) lost e = absurd cc
+confirms_clipped until (Confirms l) lost e = sym e
+confirms_clipped until NotYet lost e = absurd cc
+
+pub not_yet_clipped : (until : ℕ) (v : Verdict) → NotYet ≡ clipped_verdict until v → v ≡ NotYet
+not_yet_clipped until (Gives i) e = absurd cc
+not_yet_clipped until (Confirms l) e = absurd cc
+not_yet_clipped until NotYet e = refl
+
+-- what one item more leaves to give
+pub record StepsOn (set : List ℕ) (d : Reader) (x : Item) : Type 0 where
+  pub falls : rows_left (after_item d x) < rows_left d
+  pub after : after set (after_item d x) ≡ after set d
+  pub items : all_clipped d.until (given set d) ≡ (d.next, x) ∷ all_clipped d.until (given set (after_item d x))
+
+pub steps_on : (set : List ℕ) (d : Reader) (x : Item) → 0 < d.next → Gives x ≡ clipped_verdict d.until (verdict set d) → StepsOn set d x
+steps_on set d x p e =
+    let g = gives_clipped d.until (verdict set d) x e in
+    let same : after_item d x ≡ after_item d g.0 = ap (after_item d) g.2 ∙ after_clipped d g.0 in
+    let first = item_first set d g.0 p g.1 in
+    record {
+      falls = subst (λ (r : Reader). rows_left r < rows_left d) (sym same) (left_falls set d g.0 p g.1);
+      after = ap (λ (r : Reader). after set r) same ∙ sym first.1;
+      items = ap (all_clipped d.until) first.0 ∙ ap (λ y. (d.next, y) ∷ all_clipped d.until (given set (after_item d g.0))) (sym g.2) ∙ ap (λ r. (d.next, x) ∷ all_clipped d.until (given set r)) (sym same);
+    }

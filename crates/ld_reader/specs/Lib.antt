@@ -1,0 +1,4 @@
+pub mod Clipped
+pub mod Following
+pub mod Given
+pub mod Shown

@@ -1,0 +1,66 @@
+// Messages that ask nodes.
+ghost use Rattle.std.specs.Prelude.{◌≡◌, ◌++◌, OnOk, OnErr, length, take, drop};
+ghost use Rattle.ld_ids.specs.Set.{members};
+ghost use Rattle.ld_msg.specs.Reader.{asks_of};
+ghost use Rattle.ld_reader.specs.Following.{messages_from};
+
+use ld_ids::{LogId, NoMemory, NodeSet};
+use ld_lsn::Lsn;
+use ld_msg::{Body, Msg, Outbox, Who};
+use std::alloc::Global;
+use std::mem;
+
+/// What a reader asks: its place in the order of opening, its log, a round, and the number.
+#[derive(Clone, Copy)]
+pub struct Ask {
+    pub reader: u32,
+    pub log: LogId,
+    pub round: u32,
+    pub from: Lsn,
+}
+
+impl Ask {
+    // Adds a message to each node. Without memory the list keeps what it had, and perhaps some of
+    // the messages.
+    fn add_each(&self, nodes: &NodeSet, list: &mut Vec<Msg>) -> Result<(), NoMemory>
+        ensures ok { OnOk result (list.new.items
+            ≡ list.old.items ++ messages_from self.now.reader self.now.log (asks_of self.now.round self.now.from (members nodes.now))) }
+        ensures err { OnErr result (take (length list.old.items) list.new.items ≡ list.old.items) }
+    {
+        for place in 0..nodes.len() {
+            if let Some(node) = nodes.nth(place) {
+                list.push(Msg {
+                    from: Who::Reader(self.reader),
+                    to: Who::Node(node),
+                    log: self.log,
+                    body: Body::ReadAsk {
+                        round: self.round,
+                        from: self.from,
+                    },
+                })?;
+            }
+        }
+        Ok(())
+    }
+
+    /// Sends a message to each node. Without memory nothing is sent.
+    pub fn send_each(
+        &self,
+        alloc: Global,
+        nodes: &NodeSet,
+        out: &mut Outbox,
+    ) -> Result<(), NoMemory>
+        ensures ok { OnOk result (out.new
+            ≡ out.old ++ messages_from self.now.reader self.now.log (asks_of self.now.round self.now.from (members nodes.now))) }
+        ensures err { OnErr result (out.new ≡ out.old) }
+    {
+        let mut list = mem::replace(out, Outbox::empty(alloc)).into_vec();
+        let len = list.len();
+        let sent = self.add_each(nodes, &mut list);
+        if sent.is_err() {
+            list.truncate(len);
+        }
+        *out = Outbox::new(list);
+        sent
+    }
+}

@@ -1,0 +1,174 @@
+// The read answer and the digest page.
+ghost use Rattle.std.specs.Prelude.{◌≡◌, None, IfOk};
+ghost use Rattle.ld_lsn.specs.Number.{home_epoch, home_esn};
+ghost use Rattle.ld_op.specs.Plain.{log_of};
+ghost use Rattle.ld_op.specs.Answers.{read_answer, epoch_answer, read_page, readable};
+ghost use Rattle.ld_readnode.specs.Answered.{IsReadAsk, IsDigestAsk, read_answered, digest_answered, ended_answer, lost_here};
+
+use ld_ids::{LogId, NoMemory};
+use ld_lsn::Lsn;
+use ld_msg::{Body, Msg, Summary};
+use ld_op::Plain;
+use std::alloc::Global;
+
+/// An ask of a reader, or of a node that refills.
+#[derive(Clone, Copy)]
+struct Ask {
+    log: LogId,
+    round: u32,
+    from: Lsn,
+}
+
+/// The answer to an ask for what stands at a number and behind it. The message is a ReadAsk, and `released` the
+/// log's released number as this node knows it. A page has at most 64 entries; it takes time in what it gives,
+/// and in the bridges and unused places that it passes, not in all entries of the log.
+pub fn answer(alloc: Global, plain: &Plain, released: Lsn, msg: &Msg) -> Result<Msg, NoMemory>
+    requires { IsReadAsk msg.now.body }
+    ensures { IfOk result (λ answer. answer ≡ read_answered plain.now.state released msg.now) }
+{
+    match &msg.body {
+        Body::ReadAsk { round, from } => {
+            let ask = Ask {
+                log: msg.log,
+                round: *round,
+                from: *from,
+            };
+            let body = read_body(alloc, plain, released, ask)?;
+            Ok(Msg {
+                from: msg.to,
+                to: msg.from,
+                log: msg.log,
+                body,
+            })
+        }
+        _ => Err(NoMemory),
+    }
+}
+
+/// The page that answers an ask for a digest which isn't refused. The message is a DigestAsk.
+pub fn digest(alloc: Global, plain: &Plain, msg: &Msg) -> Result<Msg, NoMemory>
+    requires { IsDigestAsk msg.now.body }
+    ensures { IfOk result (λ answer. answer ≡ digest_answered plain.now.state msg.now) }
+{
+    match &msg.body {
+        Body::DigestAsk { from } => {
+            let end = Lsn::new(from.epoch(), u32::MAX);
+            let page = plain.excerpt(alloc, msg.log, *from, end, true)?;
+            Ok(Msg {
+                from: msg.to,
+                to: msg.from,
+                log: msg.log,
+                body: Body::DigestPage {
+                    from: *from,
+                    upto: page.upto,
+                    trim: plain.trim(msg.log),
+                    lng: 0,
+                    entries: page.entries,
+                },
+            })
+        }
+        _ => Err(NoMemory),
+    }
+}
+
+#[tactic(auto, unfolding(ld_op::specs::Answers::read_answer))]
+fn read_body(alloc: Global, plain: &Plain, released: Lsn, ask: Ask) -> Result<Body, NoMemory>
+    ensures { IfOk result (λ body. body ≡ read_answer plain.now.state.generation (log_of plain.now.state ask.log) released ask.round ask.from) }
+{
+    let trim = plain.trim(ask.log);
+    if ask.from.value() <= trim.value() {
+        return Ok(Body::ReadTrim {
+            round: ask.round,
+            from: ask.from,
+            trim,
+        });
+    }
+    let (epoch, esn) = ask.from.home();
+    match plain.summary(ask.log, epoch) {
+        Some(summary) => ended_body(alloc, plain, ask, epoch, esn, summary),
+        None => open_body(alloc, plain, released, ask, epoch),
+    }
+}
+
+/// The answer where the epoch is clean here.
+fn ended_body(
+    alloc: Global,
+    plain: &Plain,
+    ask: Ask,
+    epoch: u32,
+    esn: u64,
+    summary: Summary,
+) -> Result<Body, NoMemory>
+    requires epoch { epoch ≡ home_epoch ask.from }
+    requires esn { esn ≡ home_esn ask.from }
+    ensures { IfOk result (λ body. body ≡ ended_answer plain.now.state.generation (log_of plain.now.state ask.log) ask.round ask.from summary) }
+{
+    if u64::from(summary.end) <= esn {
+        return Ok(Body::ReadEnded {
+            round: ask.round,
+            from: ask.from,
+            end: Lsn::new(epoch, summary.end),
+        });
+    }
+    if plain.is_lost_in(ask.log, epoch) {
+        return Ok(lost_body(plain, ask, Lsn::new(epoch, summary.end)));
+    }
+    let last = Lsn::new(epoch, summary.end.saturating_sub(1));
+    read_page(alloc, plain, ask, last, true)
+}
+
+/// The answer where the epoch isn't clean here.
+fn open_body(
+    alloc: Global,
+    plain: &Plain,
+    released: Lsn,
+    ask: Ask,
+    epoch: u32,
+) -> Result<Body, NoMemory>
+    requires { epoch ≡ home_epoch ask.from }
+    ensures { IfOk result (λ body. body ≡ epoch_answer plain.now.state.generation (log_of plain.now.state ask.log) released ask.round ask.from None) }
+{
+    if plain.is_lost_in(ask.log, epoch) {
+        return Ok(lost_body(plain, ask, Lsn::from_u64(0)));
+    }
+    if 0 < released.esn() && released.epoch() == epoch && ask.from.value() <= released.value() {
+        return read_page(alloc, plain, ask, released, false);
+    }
+    Ok(Body::ReadWait {
+        round: ask.round,
+        from: ask.from,
+        released,
+    })
+}
+
+/// The answer where the epoch is lost here.
+fn lost_body(plain: &Plain, ask: Ask, end: Lsn) -> Body
+    ensures { result ≡ lost_here plain.now.state.generation ask.round ask.from end }
+{
+    Body::LostHere {
+        number: ask.from,
+        round: ask.round,
+        generation: plain.generation(),
+        end,
+    }
+}
+
+/// A page of the entries up to a number, without bridges.
+fn read_page(
+    alloc: Global,
+    plain: &Plain,
+    ask: Ask,
+    last: Lsn,
+    clean: bool,
+) -> Result<Body, NoMemory>
+    ensures { IfOk result (λ body. body ≡ read_page ask.round ask.from clean last (readable (log_of plain.now.state ask.log) ask.from last)) }
+{
+    let page = plain.excerpt(alloc, ask.log, ask.from, last, false)?;
+    Ok(Body::ReadPage {
+        round: ask.round,
+        from: ask.from,
+        upto: page.upto,
+        clean,
+        entries: page.entries,
+    })
+}
