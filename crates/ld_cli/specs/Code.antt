@@ -1,0 +1,12 @@
+-- The number of each status.
+use Rattle.std.specs.Prelude.{ℕ}
+use Rattle.ld_cli.specs.declared.status.Status.{Status}
+use Rattle.ld_cli.specs.declared.status.Status.TheVariants as statuses
+
+abbrev pub code : Status → ℕ
+code statuses.Ok = 0
+code statuses.Usage = 2
+code (statuses.BadSchedule line place) = 3
+code statuses.NoMemory = 4
+code statuses.Read = 5
+code statuses.Write = 6

@@ -1,0 +1,112 @@
+-- How a replay ends, by the bytes of the input and what was written.
+use Rattle.std.specs.Prelude.{ℕ, ◌≡◌, ◌+◌, ◌⊎◌, List, [], ◌∷◌, ◌++◌, length, Option}
+use Rattle.std.specs.Io.KnownBytes.{Appends}
+use Rattle.ld_schedule.specs.declared.event.Event.{Event}
+use Rattle.ld_config.specs.declared.config.Config.{Config}
+use Rattle.ld_machine.specs.Served.{One, served_transcript}
+use Rattle.ld_machine.specs.ServedRun.{served_history}
+use Rattle.ld_machine.specs.Safe.{Safe}
+use Rattle.ld_cli.specs.declared.status.Stop.{Stop}
+use Rattle.ld_cli.specs.declared.status.Stop.TheVariants as stops
+use Rattle.ld_cli.specs.declared.status.Status.{Status}
+use Rattle.ld_cli.specs.declared.status.Status.TheVariants as statuses
+use Rattle.ld_cli.specs.Schedule.{Configures, AreSpelt, schedule_text, IsOffFirst, IsOffLater}
+
+-- the bytes that a run of these events writes
+abbrev pub written_by : Config → List Event → List ℕ
+written_by config events = served_transcript One config events
+
+-- the headline: in the run of these events what each reader gets tiles the numbers from its first one on, a record is the payload that was appended under its
+-- number, no hole or bridge holds a number that was acknowledged or read as a record, a trim gap ends at an issued point, and a data loss had its moment
+abbrev pub IsSafe : Config → List Event → Type 0
+IsSafe config events = Safe config (served_history One config events)
+
+-- the input is a schedule, and its whole transcript was written
+pub record IsReplayed (bytes : List ℕ) (old new : Option (List ℕ)) : Type 0 where
+  pub line : List ℕ
+  pub config : Config
+  pub events : List Event
+  pub configures : Configures line config
+  pub spelt : AreSpelt events
+  pub whole : bytes ≡ schedule_text line events
+  pub written : Appends old new (written_by config events)
+  pub safe : IsSafe config events
+
+-- the first line is off, and nothing was written
+pub record StopsFirst (bytes : List ℕ) (old new : Option (List ℕ)) (at place : ℕ) : Type 0 where
+  pub off : IsOffFirst bytes place
+  pub line : at ≡ 1
+  pub written : Appends old new []
+
+-- the lines before this one are a schedule, this one is off, and the transcript of those before was written
+pub record StopsLater (bytes : List ℕ) (old new : Option (List ℕ)) (at place : ℕ) : Type 0 where
+  pub first : List ℕ
+  pub config : Config
+  pub events : List Event
+  pub rest : List ℕ
+  pub configures : Configures first config
+  pub spelt : AreSpelt events
+  pub front : bytes ≡ schedule_text first events ++ rest
+  pub off : IsOffLater rest place
+  pub line : at ≡ length events + 2
+  pub written : Appends old new (written_by config events)
+  pub safe : IsSafe config events
+
+abbrev pub IsStopped : List ℕ → Option (List ℕ) → Option (List ℕ) → ℕ → ℕ → Type 0
+IsStopped bytes old new line place = StopsFirst bytes old new line place ⊎ StopsLater bytes old new line place
+
+-- nothing was written
+abbrev pub IsSilent : Option (List ℕ) → Option (List ℕ) → Type 0
+IsSilent old new = Appends old new []
+
+-- these lines were read whole, and a part of the transcript of their run was written
+pub record WasPlayed (bytes : List ℕ) (old new : Option (List ℕ)) : Type 0 where
+  pub first : List ℕ
+  pub config : Config
+  pub events : List Event
+  pub rest : List ℕ
+  pub configures : Configures first config
+  pub spelt : AreSpelt events
+  pub read : bytes ≡ schedule_text first events ++ rest
+  pub part : List ℕ
+  pub missing : List ℕ
+  pub written : Appends old new part
+  pub prefix : written_by config events ≡ part ++ missing
+  pub safe : IsSafe config events
+
+abbrev pub IsCut : List ℕ → Option (List ℕ) → Option (List ℕ) → Type 0
+IsCut bytes old new = IsSilent old new ⊎ WasPlayed bytes old new
+
+-- what a replay that stops has written
+abbrev pub StopsBy : List ℕ → Option (List ℕ) → Option (List ℕ) → Stop → Type 0
+StopsBy bytes old new (stops.BadSchedule line place) = IsStopped bytes old new line place
+StopsBy bytes old new stops.NoMemory = IsCut bytes old new
+StopsBy bytes old new stops.Read = IsCut bytes old new
+StopsBy bytes old new stops.Write = IsCut bytes old new
+
+-- what a run has written, by its status
+abbrev pub EndsBy : List ℕ → Option (List ℕ) → Option (List ℕ) → Status → Type 0
+EndsBy bytes old new statuses.Ok = IsReplayed bytes old new
+EndsBy bytes old new statuses.Usage = IsSilent old new
+EndsBy bytes old new (statuses.BadSchedule line place) = IsStopped bytes old new line place
+EndsBy bytes old new statuses.NoMemory = IsCut bytes old new
+EndsBy bytes old new statuses.Read = IsCut bytes old new
+EndsBy bytes old new statuses.Write = IsCut bytes old new
+
+-- the input is a schedule: the line of a configuration, and lines of events
+pub record IsSchedule (bytes : List ℕ) : Type 0 where
+  pub line : List ℕ
+  pub config : Config
+  pub events : List Event
+  pub configures : Configures line config
+  pub spelt : AreSpelt events
+  pub whole : bytes ≡ schedule_text line events
+
+-- how a schedule may end: its status is Ok, but for other words, a fault of the source or the sink, and want of memory
+abbrev pub Completes : Type 0 → Type 0 → Type 0 → Status → Type 0
+Completes words read write statuses.Ok = Unit {0}
+Completes words read write statuses.Usage = words → ⊥
+Completes words read write (statuses.BadSchedule line place) = ⊥
+Completes words read write statuses.NoMemory = Unit {0}
+Completes words read write statuses.Read = read
+Completes words read write statuses.Write = write

@@ -1,0 +1,11 @@
+pub mod Input
+pub mod Lines
+pub mod Schedule
+pub mod Ends
+pub mod Causes
+pub mod Output
+pub mod NextEvent
+pub mod Words
+pub mod OneReading
+pub mod Step
+pub mod Code

@@ -1,0 +1,40 @@
+// One event: a step of the cluster, and its lines.
+ghost use Rattle.std.specs.Prelude.{◌≡◌, ◌≤◌, ◌++◌, OnOk, IfErr, MatchResult};
+ghost use Rattle.std.specs.Io.KnownBytes.{Appends};
+ghost use Rattle.ld_transcript.specs.Text.{text};
+ghost use Rattle.ld_cluster.specs.Steps.{serves};
+ghost use Rattle.ld_cli.specs.Step.{IsStep};
+ghost use Rattle.ld_cli.specs.Output.{AppendsPart};
+ghost use Rattle.ld_cli.specs.Causes.{IsWriteStop};
+
+use crate::output::write_all;
+use crate::status::Stop;
+use ld_cluster::Cluster;
+use ld_io::Sink;
+use ld_schedule::Event;
+use ld_transcript::Lines;
+use std::alloc::Global;
+
+/// Takes an event, and writes its lines.
+pub fn perform<O: Sink>(
+    alloc: Global,
+    cluster: &mut Cluster,
+    event: &Event,
+    out: &mut O,
+) -> Result<(), Stop>
+    ensures step { OnOk result (IsStep cluster.old event.now cluster.new) }
+    ensures written { MatchResult result
+        (λ _. Appends (O.written out.old) (O.written out.new) (text (serves cluster.old.config cluster.old.state event.now).lines))
+        (λ _. AppendsPart (O.written out.old) (O.written out.new) (text (serves cluster.old.config cluster.old.state event.now).lines)) }
+    ensures later { O.faults out.old ≤ O.faults out.new }
+    ensures cause { IfErr result (IsWriteStop (O.faults out.old) (O.faults out.new)) }
+{
+    let mut lines = Lines::new(alloc);
+    cluster.step(alloc, event, &mut lines)?;
+    let mut bytes = Vec::new(alloc);
+    lines.write(alloc, &mut bytes)?;
+    match write_all(out, &bytes) {
+        Ok(()) => Ok(()),
+        Err(_) => Err(Stop::Write),
+    }
+}

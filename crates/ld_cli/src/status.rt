@@ -1,0 +1,72 @@
+// How a run ends.
+ghost use Rattle.std.specs.Prelude.{◌≡◌};
+ghost use Rattle.ld_cli.specs.declared.status.Stop.TheVariants.{NoMemory as Memory};
+ghost use Rattle.ld_cli.specs.Code.{code};
+
+use std::alloc::{AllocError, AllocFailed};
+
+/// How a run ends.
+#[derive(Clone, Copy, Debug, PartialEq, Eq)]
+pub enum Status {
+    /// The input was read to its end.
+    Ok,
+    /// The words are no command.
+    Usage,
+    /// The line, counted from 1, is the first one that is off, and this is the place in it.
+    BadSchedule { line: u64, place: u64 },
+    /// There is no memory left.
+    NoMemory,
+    /// The input failed.
+    Read,
+    /// The output failed.
+    Write,
+}
+
+impl Status {
+    /// The status as the number that the program ends with.
+    pub fn code(&self) -> u8
+        ensures { result ≡ code self.now }
+    {
+        match self {
+            Status::Ok => 0,
+            Status::Usage => 2,
+            Status::BadSchedule { .. } => 3,
+            Status::NoMemory => 4,
+            Status::Read => 5,
+            Status::Write => 6,
+        }
+    }
+}
+
+/// Why a replay stops before the end of its input.
+#[derive(Clone, Copy, Debug, PartialEq, Eq)]
+pub enum Stop {
+    BadSchedule { line: u64, place: u64 },
+    NoMemory,
+    Read,
+    Write,
+}
+
+impl From<ld_ids::NoMemory> for Stop {
+    ghost from_gives = { λ _ stop. stop ≡ Memory };
+
+    fn from(_: ld_ids::NoMemory) -> Stop {
+        Stop::NoMemory
+    }
+}
+
+impl From<AllocError> for Stop {
+    ghost from_gives = { λ _ stop. stop ≡ Memory };
+
+    fn from(_: AllocError) -> Stop {
+        Stop::NoMemory
+    }
+}
+
+impl<T: Drop> From<AllocFailed<T>> for Stop {
+    ghost from_gives = { λ _ stop. stop ≡ Memory };
+
+    fn from(_: AllocFailed<T>) -> Stop {
+        Stop::NoMemory
+    }
+}

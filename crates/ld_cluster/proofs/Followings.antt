@@ -1,0 +1,233 @@
+-- Readers by name: their numbers are their places, and each has what is said of its log.
+use Rattle.std.proofs.Common.{◌≡◌, ℕ, zero, suc, ◌+◌, Bool, true, false, not, ◌&&◌, ◌==◌, List, [], ◌∷◌, ◌++◌, length, slice_get, Option, Some, None, is_some, option_map, refl, ap, sym, ◌∙◌, subst, arith, cond, ◌⊎◌, nat_lt, inl, inr, if◌then◌else◌}
+use Rattle.std.proofs.lemmas.Bool.{eq-eqb, ne_eqb, cases_Bool}
+use Rattle.std.specs.Map as map
+use Rattle.ld_table.specs.Named.{same, find_named, put_named}
+use Rattle.ld_table.specs.Words.{numbers_from}
+use Rattle.ld_table.proofs.NameLaws.{find_named-put_named, same-true}
+use Rattle.ld_msg.specs.declared.msg.Who.{Who}
+use Rattle.ld_msg.specs.declared.msg.Who.TheVariants as whos
+use Rattle.ld_msg.specs.declared.msg.Msg.{Msg}
+use Rattle.ld_msg.specs.declared.msg.Body.{Body}
+use Rattle.ld_ids.specs.Choice.{nodes_of}
+use Rattle.ld_ids.specs.declared.set.Spec.{Spec}
+use Rattle.ld_cluster.proofs.Logs.{spec_log}
+use Rattle.ld_config.specs.declared.config.Config.{Config}
+use Rattle.ld_msg.specs.Reading.{Verdict, Gives, Confirms, NotYet, Item, LossHere}
+use Rattle.ld_msg.specs.Reader.{opened, Reader, Read, gives, confirms, gives_all, verdict, heard, loses, polled, next_round, asks_on, most_items, on_answer, is_confirmed, is_finished, after_item}
+use Rattle.ld_machine.specs.State.{reader_of, name_of}
+use Rattle.ld_machine.specs.Config.{spec_in}
+use Rattle.ld_reader.specs.Following.{Following, replied, answered, asked, with_reader}
+use Rattle.ld_cluster.specs.Followers.{readers_of, reader_in, numbers_in, AreNumbered}
+use Rattle.ld_cluster.specs.Outcomes.{KnowTheirLogs, name_or_empty}
+
+abbrev Followers : Type 0
+Followers = List (List ℕ × Following)
+
+-- ---- the readers alone ----
+
+find_step : (b : Bool) (f : Following) (o : Option Following) (p : Option Reader) → p ≡ option_map (λ (x : Following). x.reader) o → cond b (Some f.reader) p ≡ option_map (λ (x : Following). x.reader) (cond b (Some f) o)
+find_step true f o p h = refl
+find_step false f o p h = h
+
+pub find_readers : (name : List ℕ) (fs : Followers) → find_named name (readers_of fs) ≡ option_map (λ (x : Following). x.reader) (find_named name fs)
+unfolding find_named
+find_readers name [] = refl
+find_readers name (f ∷ fs) = find_step (same name f.0) f.1 _ _ (find_readers name fs)
+
+put_step : (b : Bool) (f : List ℕ × Following) (g : Following) (fs gs : Followers) (rs : List (List ℕ × Reader)) → rs ≡ readers_of gs
+    → (if b then (f.0, g.reader) ∷ readers_of fs else (f.0, f.1.reader) ∷ rs) ≡ readers_of (if b then (f.0, g) ∷ fs else f ∷ gs)
+put_step true f g fs gs rs h = refl
+put_step false f g fs gs rs h = ap (λ l. (f.0, f.1.reader) ∷ l) h
+
+pub put_readers : (name : List ℕ) (g : Following) (fs : Followers) → put_named name g.reader (readers_of fs) ≡ readers_of (put_named name g fs)
+unfolding put_named
+put_readers name g [] = refl
+put_readers name g (f ∷ fs) = put_step (same name f.0) f g fs _ _ (put_readers name g fs)
+
+pub length_readers : (fs : Followers) → length (readers_of fs) ≡ length fs
+length_readers [] = refl
+length_readers (f ∷ fs) = ap suc (length_readers fs)
+
+of_step : (b : Bool) (f : List ℕ × Following) (o : Option (List ℕ × Following)) (p : Option (List ℕ × Reader)) → p ≡ option_map (λ (x : List ℕ × Following). (x.0, x.1.reader)) o
+    → (if b then Some (f.0, f.1.reader) else p) ≡ option_map (λ (x : List ℕ × Following). (x.0, x.1.reader)) (if b then Some f else o)
+of_step true f o p h = refl
+of_step false f o p h = h
+
+pub reader_of_is : (n : ℕ) (fs : Followers) → reader_of n (readers_of fs) ≡ option_map (λ (x : List ℕ × Following). (x.0, x.1.reader)) (reader_in n fs)
+reader_of_is n [] = refl
+reader_of_is n (f ∷ fs) = of_step (f.1.reader.number == n) f _ _ (reader_of_is n fs)
+
+name_map : (o : Option (List ℕ × Following)) → name_or_empty (option_map (λ e. e.0) o) ≡ name_of (option_map (λ (x : List ℕ × Following). (x.0, x.1.reader)) o)
+name_map None = refl
+name_map (Some e) = refl
+
+pub reader_named : (n : ℕ) (fs : Followers) → name_or_empty (option_map (λ e. e.0) (reader_in n fs)) ≡ name_of (reader_of n (readers_of fs))
+reader_named n fs = name_map (reader_in n fs) ∙ ap name_of (sym (reader_of_is n fs))
+
+some_map : (o : Option Following) → is_some (option_map (λ (x : Following). x.reader) o) ≡ is_some o
+some_map None = refl
+some_map (Some f) = refl
+
+pub some_readers : (name : List ℕ) (fs : Followers) → is_some (find_named name (readers_of fs)) ≡ is_some (find_named name fs)
+some_readers name fs = ap is_some (find_readers name fs) ∙ some_map (find_named name fs)
+
+-- ---- numbers ----
+
+head_is : (a b : ℕ) (xs ys : List ℕ) → a ∷ xs ≡ b ∷ ys → a ≡ b
+head_is a b xs ys h = cc
+
+tail_is : (a b : ℕ) (xs ys : List ℕ) → a ∷ xs ≡ b ∷ ys → xs ≡ ys
+tail_is a b xs ys h = cc
+
+pub numbered_at : (k n i : ℕ) (fs : Followers) → numbers_in fs ≡ numbers_from k (length fs) → n ≡ k + i → reader_in n fs ≡ slice_get fs i
+numbered_at k n i [] h e = refl
+numbered_at k n zero (f ∷ fs) h e = let a = head_is _ _ _ _ h in rw (eq-eqb f.1.reader.number n (omega arith)) refl
+numbered_at k n (suc i) (f ∷ fs) h e = let a = head_is _ _ _ _ h in rw (ne_eqb f.1.reader.number n (omega arith)) (numbered_at (k + 1) n i fs (tail_is _ _ _ _ h) (omega arith))
+
+numbers_from-push : (k n : ℕ) → numbers_from k (suc n) ≡ numbers_from k n ++ (k + n) ∷ []
+numbers_from-push k zero = ap (λ j. j ∷ []) (omega arith)
+numbers_from-push k (suc n) = ap (λ l. k ∷ l) (numbers_from-push (k + 1) n ∙ ap (λ j. numbers_from (k + 1) n ++ j ∷ []) (omega arith))
+
+old_step : (b : Bool) (f : List ℕ × Following) (g v : Following) (fs gs : Followers) (o : Option Following) → g.reader.number ≡ v.reader.number → cond b (Some f.1) o ≡ Some v → (o ≡ Some v → numbers_in gs ≡ numbers_in fs)
+    → numbers_in (if b then (f.0, g) ∷ fs else f ∷ gs) ≡ f.1.reader.number ∷ numbers_in fs
+old_step true f g v fs gs o e h ih = let s : f.1 ≡ v = cc in ap (λ n. n ∷ numbers_in fs) (e ∙ sym (ap (λ (x : Following). x.reader.number) s))
+old_step false f g v fs gs o e h ih = ap (λ l. f.1.reader.number ∷ l) (ih h)
+
+numbers_old : (name : List ℕ) (g v : Following) (fs : Followers) → g.reader.number ≡ v.reader.number → find_named name fs ≡ Some v → numbers_in (put_named name g fs) ≡ numbers_in fs
+unfolding put_named find_named
+numbers_old name g v [] e h = absurd cc
+numbers_old name g v (f ∷ fs) e h = old_step (same name f.0) f g v fs _ _ e h (λ k. numbers_old name g v fs e k)
+
+length_step : (b : Bool) (f : List ℕ × Following) (g v : Following) (fs gs : Followers) (o : Option Following) → cond b (Some f.1) o ≡ Some v → (o ≡ Some v → length gs ≡ length fs) → length (if b then (f.0, g) ∷ fs else f ∷ gs) ≡ suc (length fs)
+length_step true f g v fs gs o h ih = refl
+length_step false f g v fs gs o h ih = ap suc (ih h)
+
+length_old : (name : List ℕ) (g v : Following) (fs : Followers) → find_named name fs ≡ Some v → length (put_named name g fs) ≡ length fs
+unfolding put_named find_named
+length_old name g v [] h = absurd cc
+length_old name g v (f ∷ fs) h = length_step (same name f.0) f g v fs _ _ h (λ k. length_old name g v fs k)
+
+-- a reader that is there keeps its number
+pub numbered_old : (name : List ℕ) (g v : Following) (fs : Followers) → g.reader.number ≡ v.reader.number → find_named name fs ≡ Some v → AreNumbered fs → AreNumbered (put_named name g fs)
+numbered_old name g v fs e h a = numbers_old name g v fs e h ∙ (a ∙ ap (numbers_from 0) (sym (length_old name g v fs h)))
+
+new_step : (b : Bool) (f h : List ℕ × Following) (g : Following) (fs gs : Followers) (o : Option Following) → cond b (Some f.1) o ≡ None → (o ≡ None → gs ≡ fs ++ h ∷ []) → (if b then (f.0, g) ∷ fs else f ∷ gs) ≡ f ∷ fs ++ h ∷ []
+new_step true f h g fs gs o e ih = absurd cc
+new_step false f h g fs gs o e ih = ap (λ l. f ∷ l) (ih e)
+
+-- a name that is not there comes last
+put_new : (name : List ℕ) (g : Following) (fs : Followers) → find_named name fs ≡ None → put_named name g fs ≡ fs ++ (name, g) ∷ []
+unfolding put_named find_named
+put_new name g [] h = refl
+put_new name g (f ∷ fs) h = new_step (same name f.0) f (name, g) g fs _ _ h (λ k. put_new name g fs k)
+
+numbers_in-push : (fs : Followers) (f : List ℕ × Following) → numbers_in (fs ++ f ∷ []) ≡ numbers_in fs ++ f.1.reader.number ∷ []
+numbers_in-push [] f = refl
+numbers_in-push (g ∷ fs) f = ap (λ l. g.1.reader.number ∷ l) (numbers_in-push fs f)
+
+length-push : (fs : Followers) (f : List ℕ × Following) → length (fs ++ f ∷ []) ≡ suc (length fs)
+length-push [] f = refl
+length-push (g ∷ fs) f = ap suc (length-push fs f)
+
+pub numbered_new : (name : List ℕ) (g : Following) (fs : Followers) → g.reader.number ≡ length fs → find_named name fs ≡ None → AreNumbered fs → AreNumbered (put_named name g fs)
+numbered_new name g fs e h a = let start : length fs ≡ 0 + length fs = omega arith in subst (λ x. AreNumbered x) (sym (put_new name g fs h))
+    (numbers_in-push fs (name, g) ∙ ((λ i. a i ++ e i ∷ []) ∙ (ap (λ n. numbers_from 0 (length fs) ++ n ∷ []) start ∙ (sym (numbers_from-push 0 (length fs)) ∙ ap (numbers_from 0) (sym (length-push fs (name, g)))))))
+
+-- ---- logs ----
+
+cond_case : (b : Bool) (f g : Following) (o : Option Following) → cond b (Some f) o ≡ Some g → ((b ≡ true) × (f ≡ g)) ⊎ (o ≡ Some g)
+cond_case true f g o h = inl (refl, cc)
+cond_case false f g o h = inr h
+
+pub know_put : (c : Config) (fs : Followers) (name : List ℕ) (f : Following) → f.spec ≡ spec_in f.reader.log c.logs → KnowTheirLogs c fs → KnowTheirLogs c (put_named name f fs)
+know_put c fs name f e k q g h = elim (cond_case (same q name) f g (find_named q fs) (sym (find_named-put_named q name f fs) ∙ h)) [
+  | inl a ↦ subst (λ (x : Following). x.spec ≡ spec_in x.reader.log c.logs) a.1 e
+  | inr b ↦ k q g b
+]
+
+pub know_none : (c : Config) → KnowTheirLogs c []
+unfolding find_named
+know_none c q g h = absurd cc
+
+-- ---- what an answer leaves ----
+
+pub record Stays (d e : Reader) : Type 0 where
+  pub log : e.log ≡ d.log
+  pub number : e.number ≡ d.number
+  pub until : e.until ≡ d.until
+
+stays_if : (b : Bool) (d e f : Reader) → Stays d e → Stays d f → Stays d (if b then e else f)
+stays_if true d e f h k = h
+stays_if false d e f h k = k
+
+stays_on : (k : ℕ) (set : List ℕ) (a : Read) (v : Verdict) (d : Reader) → Stays d a.reader → ((b : Read) → Stays d b.reader → Stays d (gives_all k set b).reader)
+    → Stays d (elim v as (λ _. Read) [ Gives i ↦ gives_all k set (gives a i) | Confirms lost ↦ confirms a lost | NotYet ↦ a ]).reader
+stays_on k set a (Gives i) d h ih = ih (gives a i) record { log = h.log; number = h.number; until = h.until }
+stays_on k set a (Confirms lost) d h ih = record { log = h.log; number = h.number; until = h.until }
+stays_on k set a NotYet d h ih = h
+
+stays_all : (k : ℕ) (set : List ℕ) (a : Read) (d : Reader) → Stays d a.reader → Stays d (gives_all k set a).reader
+stays_all zero set a d h = h
+stays_all (suc k) set a d h = stays_on k set a (verdict set a.reader) d h (λ b g. stays_all k set b d g)
+
+loses_stays : (b : Bool) (d : Reader) → Stays d (if b then gives (record { reader = d; items = []; asks = [] }) LossHere else record { reader = d; items = []; asks = [] }).reader
+loses_stays true d = record { log = refl; number = refl; until = refl }
+loses_stays false d = record { log = refl; number = refl; until = refl }
+
+from_heard : (d : Reader) (y : ℕ) (b : Body) (e : Reader) → Stays (heard d y b) e → Stays d e
+from_heard d y b e h = record { log = h.log; number = h.number; until = h.until }
+
+pub answer_stays : (set : List ℕ) (d : Reader) (y : ℕ) (b : Body) → Stays d (on_answer set d y b).reader
+unfolding on_answer
+answer_stays set d y b =
+    let k : ℕ = most_items (heard d y b) in
+    let a : Read = gives_all k set (loses (heard d y b)) in
+    let h : Stays d a.reader = from_heard d y b a.reader (stays_all k set (loses (heard d y b)) (heard d y b) (loses_stays (is_confirmed (heard d y b).confirming) (heard d y b))) in
+    stays_if (asks_on a) d (polled a.reader) a.reader record { log = h.log; number = h.number; until = h.until } h
+
+nothing_or : (b : Bool) (d : Reader) (a r : Read) → Stays d a.reader → Stays d r.reader → Stays d (if b then a else r).reader
+nothing_or true d a r h k = h
+nothing_or false d a r h k = k
+
+who_stays : (set : List ℕ) (d : Reader) (w : Who) (b : Body) → Stays d (answered set d w b).reader
+who_stays set d (whos.Node y) b = nothing_or (is_finished d) d _ (on_answer set d y b) record { log = refl; number = refl; until = refl } (answer_stays set d y b)
+who_stays set d (whos.Sequencer e) b = record { log = refl; number = refl; until = refl }
+who_stays set d (whos.Reader r) b = record { log = refl; number = refl; until = refl }
+
+pub reply_stays : (f : Following) (m : Msg) → Stays f.reader (replied f m).reader
+reply_stays f m = who_stays (nodes_of f.spec) f.reader m.from m.body
+
+pub ask_stays : (f : Following) → Stays f.reader (asked f.reader)
+ask_stays f = stays_if (is_finished f.reader) f.reader f.reader (polled f.reader) record { log = refl; number = refl; until = refl } record { log = refl; number = refl; until = refl }
+
+-- ---- what each has said of its log, after a call ----
+
+pub know_asked : (c : Config) (fs : Followers) (name : List ℕ) (f : Following) → find_named name fs ≡ Some f → KnowTheirLogs c fs → KnowTheirLogs c (put_named name (with_reader f (asked f.reader)) fs)
+know_asked c fs name f h k = know_put c fs name (with_reader f (asked f.reader)) (k name f h ∙ ap (λ l. spec_in l c.logs) (sym (ask_stays f).log)) k
+
+pub know_replied : (c : Config) (fs : Followers) (name : List ℕ) (f : Following) (m : Msg) → find_named name fs ≡ Some f → KnowTheirLogs c fs → KnowTheirLogs c (put_named name (with_reader f (replied f m).reader) fs)
+know_replied c fs name f m h k = know_put c fs name (with_reader f (replied f m).reader) (k name f h ∙ ap (λ l. spec_in l c.logs) (sym (reply_stays f m).log)) k
+
+pub know_polled : (c : Config) (fs gs : Followers) (name : List ℕ) → ((f : Following) → find_named name fs ≡ Some f → gs ≡ put_named name (with_reader f (asked f.reader)) fs) → (find_named name fs ≡ None → gs ≡ fs) → KnowTheirLogs c fs → KnowTheirLogs c gs
+know_polled c fs gs name s n k = elim (find_named name fs) as (λ o. find_named name fs ≡ o → KnowTheirLogs c gs) [
+  | None ↦ λ e. subst (λ x. KnowTheirLogs c x) (sym (n e)) k
+  | Some f ↦ λ e. subst (λ x. KnowTheirLogs c x) (sym (s f e)) (know_asked c fs name f e k)
+] refl
+
+-- the reader that is found by its number, under its name
+pub found_name : {X : Type 0} (found name : List ℕ) (xs : List (List ℕ × X)) (o : Option (List ℕ × X)) → Some found ≡ option_map (λ e. e.0) o → name ≡ found → ((e : List ℕ × X) → o ≡ Some e → find_named e.0 xs ≡ Some e.1)
+    → (x : X) × (o ≡ Some (name, x)) × (find_named name xs ≡ Some x)
+found_name found name xs None h n u = absurd cc
+found_name {X} found name xs (Some e) h n u =
+    let s : e.0 ≡ name = (let t : found ≡ e.0 = cc in sym t) ∙ sym n in
+    (e.1, ap (λ q. Some (q, e.1)) s, ap (λ q. find_named q xs) (sym s) ∙ u e refl)
+
+pub know_read : (c : Config) (fs gs : Followers) (m : Msg) (number : ℕ) (found name : List ℕ) → Some found ≡ option_map (λ e. e.0) (reader_in number fs) → name ≡ found → ((e : List ℕ × Following) → reader_in number fs ≡ Some e → find_named e.0 fs ≡ Some e.1)
+    → ((f : Following) → find_named name fs ≡ Some f → gs ≡ put_named name (with_reader f (replied f m).reader) fs) → KnowTheirLogs c fs → KnowTheirLogs c gs
+know_read c fs gs m number found name h n u g k = let p = found_name found name fs (reader_in number fs) h n u in
+    subst (λ x. KnowTheirLogs c x) (sym (g p.0 p.2)) (know_replied c fs name p.0 m p.2 k)
+
+pub know_opened : (c : Config) (fs : Followers) (name : List ℕ) (spec : Spec) (f : Following) (l number from until : ℕ) → spec ≡ spec_in l c.logs → f.spec ≡ spec → f.reader ≡ opened spec.log number from until → KnowTheirLogs c fs → KnowTheirLogs c (put_named name f fs)
+know_opened c fs name spec f l number from until s e r k = know_put c fs name f
+    (e ∙ (s ∙ ap (λ n. spec_in n c.logs) (sym (ap (λ (d : Reader). d.log) r ∙ (ap (λ (x : Spec). x.log) s ∙ spec_log c l))))) k

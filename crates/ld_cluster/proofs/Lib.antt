@@ -1,0 +1,16 @@
+pub mod Choices
+pub mod Doing
+pub mod Events
+pub mod Fair
+pub mod Finishing
+pub mod Firsts
+pub mod Followings
+pub mod Flowing
+pub mod Handles
+pub mod Lengths
+pub mod Logs
+pub mod Lookups
+pub mod Registers
+pub mod Tables
+pub mod Tellings
+pub mod Windows

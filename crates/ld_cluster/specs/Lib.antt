@@ -1,0 +1,11 @@
+pub mod Followers
+pub mod Handling
+pub mod Items
+pub mod Looked
+pub mod NodeSteps
+pub mod Outcomes
+pub mod Replies
+pub mod Reports
+pub mod Shown
+pub mod Standing
+pub mod Steps

@@ -1,0 +1,101 @@
+// The lines of a formatted node and of a reader's items.
+ghost use Rattle.std.specs.Prelude.{◌≡◌, ◌++◌, ℕ, List, IfOk, OnOk};
+ghost use Rattle.ld_transcript.specs.declared.line.Line.TheVariants.{Gap};
+ghost use Rattle.ld_msg.specs.Reading.{Item as Seen};
+ghost use Rattle.ld_msg.specs.Register.{epochs_of};
+ghost use Rattle.ld_machine.specs.Step.{format_lines, lost_line};
+ghost use Rattle.ld_cluster.specs.Items.{given_line, given_lines};
+
+use crate::register::Register;
+use ld_config::Config;
+use ld_ids::{Name, NoMemory, NodeId, Spec};
+use ld_lsn::Lsn;
+use ld_reader::{Given, Item};
+use ld_transcript::{GapKind, Line};
+use std::alloc::Global;
+
+/// The lines of a formatted node: its generation, and the logs for which it is lost.
+pub fn format_lines(
+    alloc: Global,
+    config: &Config,
+    node: NodeId,
+    register: &Register,
+) -> Result<Vec<Line>, NoMemory>
+    ensures { IfOk result (λ lines. lines.items ≡ format_lines config.now node register.now) }
+{
+    let mut lines = Vec::new(alloc);
+    lines.push(Line::NodeFormatted {
+        node,
+        generation: register.generation(node),
+    })?;
+    let specs = config.logs.as_slice();
+    for spec in specs {
+        add_lost(node, register, spec, &mut lines)?;
+    }
+    Ok(lines)
+}
+
+fn add_lost(
+    node: NodeId,
+    register: &Register,
+    spec: &Spec,
+    lines: &mut Vec<Line>,
+) -> Result<(), NoMemory>
+    ensures { OnOk result (lines.new.items ≡ lines.old.items ++ lost_line node (epochs_of register.now spec.now.log).epoch spec.now) }
+{
+    let epoch = register.epoch(spec.log);
+    if spec.set.has(node) && 0 < epoch {
+        lines.push(Line::NodeLost {
+            node,
+            log: spec.log,
+            epoch,
+        })?;
+    }
+    Ok(())
+}
+
+/// Adds the lines of a reader's items, none of which passes its last number.
+pub fn add_items(
+    alloc: Global,
+    name: &Name,
+    items: &[Given],
+    lines: &mut Vec<Line>,
+) -> Result<(), NoMemory>
+    ensures { OnOk result (lines.new.items ≡ lines.old.items ++ given_lines name.now items.now) }
+{
+    for given in items {
+        let line = given_line(alloc, name, given)?;
+        lines.push(line)?;
+    }
+    Ok(())
+}
+
+/// The line of an item.
+fn given_line(alloc: Global, name: &Name, given: &Given) -> Result<Line, NoMemory>
+    ensures { IfOk result (λ line. line ≡ given_line name.now given.now.0 given.now.1) }
+{
+    let name = name.copy(alloc)?;
+    let from = given.from;
+    match &given.item {
+        Item::Record(payload) => Ok(Line::Record {
+            name,
+            number: from,
+            payload: payload.copy(alloc)?,
+        }),
+        Item::Trim(last) => Ok(gap(name, GapKind::Trim, from, *last)),
+        Item::Hole => Ok(gap(name, GapKind::Hole, from, from)),
+        Item::Bridge(last) => Ok(gap(name, GapKind::Bridge, from, *last)),
+        Item::Loss => Ok(gap(name, GapKind::DataLoss, from, from)),
+    }
+}
+
+fn gap(name: Name, kind: GapKind, low: Lsn, high: Lsn) -> Line
+    ensures { result ≡ Gap name kind low high }
+{
+    Line::Gap {
+        name,
+        kind,
+        low,
+        high,
+    }
+}
