@@ -86,7 +86,7 @@ one_more epoch ns i n told e = append_assoc told _ _ ∙ ap (λ r. told ++ map (
 
 -- ---- places ----
 
-both_in_place : (xs ys : List Entry) → AreInPlace xs → AreInPlace ys → AreInPlace (xs ++ ys)
+pub both_in_place : (xs ys : List Entry) → AreInPlace xs → AreInPlace ys → AreInPlace (xs ++ ys)
 both_in_place [] ys h k = k
 both_in_place (x ∷ xs) ys h k = (h.0, both_in_place xs ys h.1 k)
 
