@@ -2,5 +2,7 @@
 #![tactic(auto)]
 
 mod decision;
+#[cfg(test)]
+mod tests;
 
 pub use decision::{Decision, on_digest, on_store};
