@@ -12,6 +12,8 @@ mod op;
 mod page;
 mod plain;
 mod summaries;
+#[cfg(test)]
+mod tests;
 
 pub use fault::OpFault;
 pub use op::{Epochs, Op};

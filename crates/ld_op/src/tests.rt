@@ -1,0 +1,275 @@
+// Ops as bytes: each op there and back, and where other bytes are off.
+use crate::{Op, OpFault};
+use ld_ids::NoMemory;
+use std::alloc::Global;
+use std::test::Fail;
+
+// A format before any epoch was handed out.
+const FORMAT: &[u8] = &[1, 0, 0, 0, 1, 0];
+// A format after three epochs of log 1.
+const LATE_FORMAT: &[u8] = &[1, 0, 0, 0, 2, 1, 0, 0, 0, 1, 0, 0, 0, 3];
+// A record of two bytes at e1n1.
+const RECORD: &[u8] = &[
+    2, 0, 0, 0, 1, 0, 0, 0, 0, 0, 0, 0, 1, 0, 0, 0, 1, 0, 0, 0, 1, 0, 0, 2, 104, 105,
+];
+// A hole at e1n2, by the sequencer of epoch 2.
+const HOLE: &[u8] = &[
+    2, 0, 0, 0, 1, 0, 0, 0, 0, 0, 0, 0, 1, 0, 0, 0, 2, 0, 0, 0, 2, 1,
+];
+// A bridge at the last place of epoch 1.
+const BRIDGE: &[u8] = &[
+    2, 0, 0, 0, 1, 0, 0, 0, 0, 0, 0, 0, 1, 255, 255, 255, 255, 0, 0, 0, 2, 2,
+];
+// A seal by epoch 2.
+const SEAL: &[u8] = &[3, 0, 0, 0, 1, 0, 0, 0, 2];
+// The close of epoch 1 by epoch 2, with a bridge at e1n4.
+const CLEAN: &[u8] = &[
+    4, 0, 0, 0, 1, 0, 0, 0, 1, 0, 0, 0, 2, 0, 0, 0, 0, 0, 0, 0, 0, 0, 0, 0, 0, 0, 0, 0, 4,
+];
+// A trim to e1n3.
+const TRIM: &[u8] = &[5, 0, 0, 0, 1, 0, 0, 0, 1, 0, 0, 0, 3];
+// A record and a hole that were lost.
+const REFILL: &[u8] = &[
+    6, 0, 0, 0, 1, 0, 2, 0, 0, 0, 1, 0, 0, 0, 1, 0, 0, 0, 2, 0, 0, 1, 7, 0, 0, 0, 1, 0, 0, 0, 2, 0,
+    0, 0, 2, 1,
+];
+// Nothing is missing.
+const REFILLED: &[u8] = &[7, 0, 0, 0, 1];
+
+// Whether the bytes are read, and written as they were.
+fn is_same_again(alloc: Global, bytes: &[u8]) -> Result<bool, NoMemory> {
+    let read = Op::decode(alloc, bytes);
+    match &read {
+        Ok(op) => {
+            let mut out = Vec::new(alloc);
+            op.encode(alloc, &mut out)?;
+            Ok(out.as_slice() == bytes)
+        }
+        Err(_) => Ok(false),
+    }
+}
+
+// Whether the bytes are refused at the place.
+fn is_off_at(alloc: Global, place: u64, bytes: &[u8]) -> bool {
+    let read = Op::decode(alloc, bytes);
+    match &read {
+        Err(OpFault::Bad(at)) => *at == place,
+        _ => false,
+    }
+}
+
+#[test]
+fn each_op_is_written_as_it_is_read(rt: HostRuntime) -> Result<(), Fail> {
+    let alloc = rt.alloc();
+    assert!(rt; is_same_again(alloc, FORMAT)?);
+    assert!(rt; is_same_again(alloc, LATE_FORMAT)?);
+    assert!(rt; is_same_again(alloc, RECORD)?);
+    assert!(rt; is_same_again(alloc, HOLE)?);
+    assert!(rt; is_same_again(alloc, BRIDGE)?);
+    assert!(rt; is_same_again(alloc, SEAL)?);
+    assert!(rt; is_same_again(alloc, CLEAN)?);
+    assert!(rt; is_same_again(alloc, TRIM)?);
+    assert!(rt; is_same_again(alloc, REFILL)?);
+    assert!(rt; is_same_again(alloc, REFILLED)?);
+    Ok(())
+}
+
+#[test]
+fn heads_are_judged(rt: HostRuntime) -> Result<(), Fail> {
+    let alloc = rt.alloc();
+    // Nothing.
+    assert!(rt; is_off_at(alloc, 0, &[]));
+    // A kind below the first.
+    assert!(rt; is_off_at(alloc, 0, &[0]));
+    // A kind above the last.
+    assert!(rt; is_off_at(alloc, 0, &[8, 0, 0, 0, 1]));
+    // Log 0.
+    assert!(rt; is_off_at(alloc, 1, &[7, 0, 0, 0, 0]));
+    // A log above 65535.
+    assert!(rt; is_off_at(alloc, 1, &[7, 0, 1, 0, 0]));
+    // A log that is cut off.
+    assert!(rt; is_off_at(alloc, 1, &[7, 0, 0, 0]));
+    // A byte too many.
+    assert!(rt; is_off_at(alloc, 5, &[7, 0, 0, 0, 1, 0]));
+    // A ballot that is cut off.
+    assert!(rt; is_off_at(alloc, 5, &[3, 0, 0, 0, 1, 0, 0, 0]));
+    Ok(())
+}
+
+#[test]
+fn formats_are_judged(rt: HostRuntime) -> Result<(), Fail> {
+    let alloc = rt.alloc();
+    // A generation that is cut off.
+    assert!(rt; is_off_at(alloc, 1, &[1, 0, 0, 0]));
+    // Logs that are missing.
+    assert!(rt; is_off_at(alloc, 6, &[1, 0, 0, 0, 2, 1]));
+    // A log twice.
+    assert!(rt;
+        is_off_at(
+            alloc,
+            14,
+            &[
+                1, 0, 0, 0, 2, 2, 0, 0, 0, 1, 0, 0, 0, 3, 0, 0, 0, 1, 0, 0, 0, 3
+            ]
+        )
+    );
+    // An epoch of 0.
+    assert!(rt; is_off_at(alloc, 10, &[1, 0, 0, 0, 2, 1, 0, 0, 0, 1, 0, 0, 0, 0]));
+    Ok(())
+}
+
+#[test]
+fn entries_are_judged(rt: HostRuntime) -> Result<(), Fail> {
+    let alloc = rt.alloc();
+    // An entry of epoch 0.
+    assert!(rt;
+        is_off_at(
+            alloc,
+            9,
+            &[
+                2, 0, 0, 0, 1, 0, 0, 0, 0, 0, 0, 0, 0, 0, 0, 0, 1, 0, 0, 0, 1, 1
+            ]
+        )
+    );
+    // An entry at place 0.
+    assert!(rt;
+        is_off_at(
+            alloc,
+            9,
+            &[
+                2, 0, 0, 0, 1, 0, 0, 0, 0, 0, 0, 0, 1, 0, 0, 0, 0, 0, 0, 0, 1, 1
+            ]
+        )
+    );
+    // An entry of no epoch.
+    assert!(rt;
+        is_off_at(
+            alloc,
+            9,
+            &[
+                2, 0, 0, 0, 1, 0, 0, 0, 0, 255, 255, 255, 255, 0, 0, 0, 1, 255, 255, 255, 255, 1
+            ]
+        )
+    );
+    // A ballot below the epoch.
+    assert!(rt;
+        is_off_at(
+            alloc,
+            17,
+            &[
+                2, 0, 0, 0, 1, 0, 0, 0, 0, 0, 0, 0, 3, 0, 0, 0, 1, 0, 0, 0, 2, 1
+            ]
+        )
+    );
+    // A ballot of no epoch.
+    assert!(rt;
+        is_off_at(
+            alloc,
+            17,
+            &[
+                2, 0, 0, 0, 1, 0, 0, 0, 0, 0, 0, 0, 3, 0, 0, 0, 1, 255, 255, 255, 255, 1
+            ]
+        )
+    );
+    // A tag above the last.
+    assert!(rt;
+        is_off_at(
+            alloc,
+            21,
+            &[
+                2, 0, 0, 0, 1, 0, 0, 0, 0, 0, 0, 0, 1, 0, 0, 0, 1, 0, 0, 0, 1, 3
+            ]
+        )
+    );
+    // A record at an epoch's last place.
+    assert!(rt;
+        is_off_at(
+            alloc,
+            21,
+            &[
+                2, 0, 0, 0, 1, 0, 0, 0, 0, 0, 0, 0, 1, 255, 255, 255, 255, 0, 0, 0, 1, 0, 0, 0
+            ]
+        )
+    );
+    // A payload that is cut off.
+    assert!(rt;
+        is_off_at(
+            alloc,
+            22,
+            &[
+                2, 0, 0, 0, 1, 0, 0, 0, 0, 0, 0, 0, 1, 0, 0, 0, 1, 0, 0, 0, 1, 0, 0, 2, 104
+            ]
+        )
+    );
+    Ok(())
+}
+
+#[test]
+fn closes_trims_and_refills_are_judged(rt: HostRuntime) -> Result<(), Fail> {
+    let alloc = rt.alloc();
+    // A close of epoch 0.
+    assert!(rt;
+        is_off_at(
+            alloc,
+            5,
+            &[
+                4, 0, 0, 0, 1, 0, 0, 0, 0, 0, 0, 0, 2, 0, 0, 0, 0, 0, 0, 0, 0, 0, 0, 0, 0, 0, 0, 0,
+                4
+            ]
+        )
+    );
+    // A close by the epoch itself.
+    assert!(rt;
+        is_off_at(
+            alloc,
+            9,
+            &[
+                4, 0, 0, 0, 1, 0, 0, 0, 1, 0, 0, 0, 1, 0, 0, 0, 0, 0, 0, 0, 0, 0, 0, 0, 0, 0, 0, 0,
+                4
+            ]
+        )
+    );
+    // An end at place 0.
+    assert!(rt;
+        is_off_at(
+            alloc,
+            25,
+            &[
+                4, 0, 0, 0, 1, 0, 0, 0, 1, 0, 0, 0, 2, 0, 0, 0, 0, 0, 0, 0, 0, 0, 0, 0, 0, 0, 0, 0,
+                0
+            ]
+        )
+    );
+    // A trim that is cut off.
+    assert!(rt; is_off_at(alloc, 5, &[5, 0, 0, 0, 1, 0, 0, 0, 1, 0, 0, 0]));
+    // A refill of nothing.
+    assert!(rt; is_off_at(alloc, 5, &[6, 0, 0, 0, 1, 0, 0]));
+    // A refill of 65.
+    assert!(rt;
+        is_off_at(
+            alloc,
+            5,
+            &[6, 0, 0, 0, 1, 0, 65, 0, 0, 0, 1, 0, 0, 0, 1, 0, 0, 0, 2, 1]
+        )
+    );
+    // Entries that don't rise.
+    assert!(rt;
+        is_off_at(
+            alloc,
+            20,
+            &[
+                6, 0, 0, 0, 1, 0, 2, 0, 0, 0, 1, 0, 0, 0, 2, 0, 0, 0, 2, 1, 0, 0, 0, 1, 0, 0, 0, 2,
+                0, 0, 0, 2, 1
+            ]
+        )
+    );
+    // A second entry that is missing.
+    assert!(rt;
+        is_off_at(
+            alloc,
+            20,
+            &[6, 0, 0, 0, 1, 0, 2, 0, 0, 0, 1, 0, 0, 0, 2, 0, 0, 0, 2, 1]
+        )
+    );
+    Ok(())
+}
