@@ -9,7 +9,7 @@ ghost use Rattle.ld_machine.specs.Run.{history};
 ghost use Rattle.ld_machine.specs.Safe.{ItemsTile, NumbersDiffer, NumbersRise, RecordsWereAppended, TrimsWereIssued};
 ghost use Rattle.ld_machine.specs.World.{begin};
 ghost use Rattle.ld_machine.specs.Run.{world_after};
-ghost use Rattle.ld_safety.specs.Agreed.{AgreesOpen};
+ghost use Rattle.ld_machine.specs.Invariant.{Agrees};
 
 /// What each reader gets tiles the numbers from its first one on.
 pub fn items_tile()
@@ -36,7 +36,7 @@ pub fn trims_were_issued()
     ensures { (c : Config) (es : List Event) → IsInBounds c → TrimsWereIssued c (history c es) }
 {}
 
-/// While an epoch is open, what as many nodes as there are copies stored for a ballot is in each plan of a greater ballot, unless it is trimmed there.
+/// What as many nodes as there are copies stored for a ballot is in each plan of a greater ballot, unless it is trimmed there.
 pub fn recoveries_agree()
-    ensures { (c : Config) (es : List Event) → IsInBounds c → AgreesOpen c (world_after c (begin c) es) }
+    ensures { (c : Config) (es : List Event) → IsInBounds c → Agrees c (world_after c (begin c) es) }
 {}
