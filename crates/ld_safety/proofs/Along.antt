@@ -97,7 +97,7 @@ start_sound c = record {
   place = λ l b n x s. s.given.place.above;
   reached = λ l b n x s. s.reached;
   closing_trim = λ l k y h. h.0;
-  zero_closed = λ l. ((λ n a b o. absurd (omega arith)), inl refl);
+  zero_closed = λ l. ((λ n a b o. absurd (omega arith)), inl (refl, refl));
   zero_released = λ l. record { acked = λ n a b o. absurd (omega arith); closed = omega arith };
 }
 
@@ -206,19 +206,19 @@ module _ (c : Config) (hs : List Happened) (w : World) (e : Event) (B : Base c h
   ]
 
   -- ---- what stays ----
-  stays : Stays w.state.register (Step.happens c w.state e).state.register
+  pub stays : Stays w.state.register (Step.happens c w.state e).state.register
   stays = summaries_stay c w.state e B.0.0 R.closed
 
-  into_after : (m : Msg) → In m w.state.network.sent → In m (finish (Step.happens c w.state e)).state.network.sent
+  pub into_after : (m : Msg) → In m w.state.network.sent → In m (finish (Step.happens c w.state e)).state.network.sent
   into_after = into c hs w.made w.state.network.sent w.state.register (Step.happens c w.state e) sends_now same_sent holds_now
 
   acks_next : (l n : ℕ) → Acknowledged c hs w.state.network.sent l n → Acknowledged c (hs ++ happened c w.state e ∷ []) w.state.network.sent l n
   acks_next = acked_grows c hs e (Step.happens c w.state e) w.made (made_on c w.state e) w.state.network.sent w.state.network.sent w.state.register (Step.happens c w.state e).state.register (λ m i. i) follow.0 stays
 
-  acks_after : (l n : ℕ) → Acknowledged c (hs ++ happened c w.state e ∷ []) w.state.network.sent l n → Acknowledged c (hs ++ happened c w.state e ∷ []) (finish (Step.happens c w.state e)).state.network.sent l n
+  pub acks_after : (l n : ℕ) → Acknowledged c (hs ++ happened c w.state e ∷ []) w.state.network.sent l n → Acknowledged c (hs ++ happened c w.state e ∷ []) (finish (Step.happens c w.state e)).state.network.sent l n
   acks_after l n h = record { epoch = h.epoch; above = h.above; below = h.below; payload = h.payload; appended = h.appended; chosen = chosen_more (spec_in l c.logs) w.state.network.sent (finish (Step.happens c w.state e)).state.network.sent into_after l n (epoch_of n) h.chosen }
 
-  acks_both : (l n : ℕ) → Acknowledged c hs w.state.network.sent l n → Acknowledged c (hs ++ happened c w.state e ∷ []) (finish (Step.happens c w.state e)).state.network.sent l n
+  pub acks_both : (l n : ℕ) → Acknowledged c hs w.state.network.sent l n → Acknowledged c (hs ++ happened c w.state e ∷ []) (finish (Step.happens c w.state e)).state.network.sent l n
   acks_both l n h = acks_after l n (acks_next l n h)
 
   -- ---- acknowledgements ----
@@ -266,7 +266,7 @@ module _ (c : Config) (hs : List Happened) (w : World) (e : Event) (B : Base c h
   keyed_load y l = keyed_plain y (load (node_at w.state y)).plain (has.load_has _ _ _ _ _ _ (λ y l. zero_release c hs w l) y (node_at w.state y) (R.said.nodes y)).plain (load_node w.made w.state.network.sent y (node_at w.state y) (R.holds y)).0 l
 
   no_lng : (l k : ℕ) (y : Summary) → CloseFine c hs w.made w.state.network.sent w.state.register l k y → (k ≡ 0) ⊎ (y.lng ≡ 0)
-  no_lng l k y (t, inl z) = inl z
+  no_lng l k y (t, inl z) = inl z.0
   no_lng l k y (t, inr z) = inr z.plan.lng
 
   told_clean : (m : Msg) (k : ℕ) (y : Summary) → In m w.state.network.sent → m.body ≡ bodies.Clean k y → (k ≡ 0) ⊎ (y.lng ≡ 0)

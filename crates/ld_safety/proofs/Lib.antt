@@ -54,3 +54,7 @@ pub mod Plannings
 pub mod Shown
 pub mod Along
 pub mod Agreed
+pub mod ItemFacts
+pub mod ItemsShown
+pub mod Told
+pub mod Unhidden

@@ -125,7 +125,7 @@ module _ (c : Config) (hs : List Happened) (w : World) (e : Event) (B : Base c h
       place = λ l b n x s. s.given.place.above;
       reached = λ l b n x s. s.reached;
       closing_trim = λ l k y h. h.0;
-      zero_closed = λ l. ((λ n a b o. absurd (omega arith)), inl refl);
+      zero_closed = λ l. ((λ n a b o. absurd (omega arith)), inl (refl, refl));
       zero_released = λ l. record { acked = λ n a b o. absurd (omega arith); closed = omega arith };
     }
 
@@ -194,7 +194,7 @@ module _ (c : Config) (hs : List Happened) (w : World) (e : Event) (B : Base c h
     refill_said : (n l : ℕ) (x : Entry) → ShowNow l true x → SaidNow l x.ballot x.number x.what → is_missing (log_of (node_at w.state n).plain l) x.number ≡ true → (y : Summary) × (find (epoch_of x.number) (log_of (node_at w.state n).plain l).summaries ≡ Some y) → SaidNow l (as_closed (log_of (node_at w.state n).plain l) x).ballot x.number x.what
     refill_said n l x s d m f =
         let k = ((now.nodes n).plain l).summaries (epoch_of x.number, f.0) (find_in (epoch_of x.number) (log_of (node_at w.state n).plain l).summaries f.0 f.1) in
-        let same : f.0 ≡ s.summary = elim k.1 [ inl z ↦ absurd (let p = s.closed.positive in omega arith) | inr z ↦ Some_inj (sym z.found_so ∙ s.closed.found_so) ] in
+        let same : f.0 ≡ s.summary = elim k.1 [ inl z ↦ absurd (let p = s.closed.positive in let y = z.0 in omega arith) | inr z ↦ Some_inj (sym z.found_so ∙ s.closed.found_so) ] in
         let b : ballot_of x.ballot (find (epoch_of x.number) (log_of (node_at w.state n).plain l).summaries) ≡ s.summary.ballot = ap (ballot_of x.ballot) f.1 ∙ ap (λ (z : Summary). z.ballot) same in
         subst (λ v. SaidNow l v x.number x.what) (sym b) (record { given = record { place = d.given.place; appended = d.given.appended }; reached = d.reached; says = inr s.says })
 

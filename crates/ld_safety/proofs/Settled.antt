@@ -67,8 +67,9 @@ pub record ClosedBy (c : Config) (hs : List Happened) (made : List Made) (sent :
   pub low : e ≤ lce_of r l
   pub plan : Summarized c hs made sent l e y
 
+-- epoch 0 is closed before its place 1
 abbrev pub CloseFine : Config → List Happened → List Made → List Msg → Register → ℕ → ℕ → Summary → Type 0
-CloseFine c hs made sent r l e y = TrimFine c hs sent r l y.trim × ((e ≡ 0) ⊎ ClosedBy c hs made sent r l e y)
+CloseFine c hs made sent r l e y = TrimFine c hs sent r l y.trim × (((e ≡ 0) × (y.end ≡ 1)) ⊎ ClosedBy c hs made sent r l e y)
 
 -- a clean page shows what the closing plan says
 pub record ClosedEntry (c : Config) (hs : List Happened) (made : List Made) (sent : List Msg) (r : Register) (l : ℕ) (e : Entry) : Type 0 where
@@ -125,5 +126,5 @@ module _ (c : Config) (hs : List Happened) (e : Event) (d : Done) (made more : L
   show_grows l false x h = acked_grows l x.number h
 
 pub close_low : (c : Config) (hs : List Happened) (made : List Made) (sent : List Msg) (r : Register) (l e : ℕ) (y : Summary) → CloseFine c hs made sent r l e y → e ≤ lce_of r l
-close_low c hs made sent r l e y (t, inl h) = omega arith
+close_low c hs made sent r l e y (t, inl h) = let z = h.0 in omega arith
 close_low c hs made sent r l e y (t, inr h) = h.low

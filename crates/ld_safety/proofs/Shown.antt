@@ -100,8 +100,8 @@ module _ (c : Config) (hs : List Happened) (made : List Made) (sent : List Msg) 
     key : x.number ≡ k
     key = (O.entries (k, x) i).0
 
-    by_closed : (home_epoch from ≡ 0 → ⊥) → find (home_epoch from) g.summaries ≡ Some y → (home_epoch from ≡ 0) ⊎ ClosedBy c hs made sent r l (home_epoch from) y → ClosedEntry c hs made sent r l x
-    by_closed n q (inl z) = absurd (n z)
+    by_closed : (home_epoch from ≡ 0 → ⊥) → find (home_epoch from) g.summaries ≡ Some y → ((home_epoch from ≡ 0) × (y.end ≡ 1)) ⊎ ClosedBy c hs made sent r l (home_epoch from) y → ClosedEntry c hs made sent r l x
+    by_closed n q (inl z) = absurd (n z.0)
     by_closed n q (inr b) =
         let en = plan_ends l (home_epoch from) y.ballot b.plan.digest b.plan.planned in
         let ez = b.plan.end in

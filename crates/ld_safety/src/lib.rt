@@ -6,7 +6,7 @@ ghost use Rattle.ld_config.specs.declared.config.Config.{Config};
 ghost use Rattle.ld_config.specs.Bounds.{IsInBounds};
 ghost use Rattle.ld_schedule.specs.declared.event.Event.{Event};
 ghost use Rattle.ld_machine.specs.Run.{history};
-ghost use Rattle.ld_machine.specs.Safe.{ItemsTile, NumbersDiffer, NumbersRise, RecordsWereAppended, TrimsWereIssued};
+ghost use Rattle.ld_machine.specs.Safe.{ItemsTile, NothingHidden, NumbersDiffer, NumbersRise, RecordsWereAppended, TrimsWereIssued};
 ghost use Rattle.ld_machine.specs.World.{begin};
 ghost use Rattle.ld_machine.specs.Run.{world_after};
 ghost use Rattle.ld_machine.specs.Invariant.{Agrees};
@@ -29,6 +29,11 @@ pub fn numbers_differ()
 /// A record that a reader gets is the payload that was appended under its number before.
 pub fn records_were_appended()
     ensures { (c : Config) (es : List Event) → IsInBounds c → RecordsWereAppended c (history c es) }
+{}
+
+/// No hole or bridge that a reader gets holds a number that was acknowledged or read as a record, earlier or later.
+pub fn nothing_is_hidden()
+    ensures { (c : Config) (es : List Event) → IsInBounds c → NothingHidden c (history c es) }
 {}
 
 /// A trim gap ends at or below a point that was issued before.
