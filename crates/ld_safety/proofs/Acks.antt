@@ -1,16 +1,14 @@
 -- What a sequencer acknowledged was stored by as many nodes as there are copies, and what it released covers such numbers alone.
-use Rattle.std.proofs.Common.{◌≡◌, ◌∙◌, ◌⊎◌, ◌≤◌, ◌<◌, ℕ, suc, ◌+◌, inl, inr, refl, ap, sym, subst, Bool, true, false, nat_le, nat_lt, if◌then◌else◌, List, [], ◌∷◌, Some, length, arith}
+use Rattle.std.proofs.Common.{◌≡◌, ◌∙◌, ◌≤◌, ◌<◌, ℕ, suc, ◌+◌, inl, inr, refl, ap, sym, subst, Bool, true, false, nat_lt, if◌then◌else◌, List, [], ◌∷◌, Some, arith}
 use Rattle.ld_safety.proofs.Protocol.{tells_stored}
 use Rattle.ld_ids.specs.Choice.{nodes_of}
-use Rattle.std.proofs.lemmas.Bool.{cases_Bool, cases_order, leb-true, ltb-true, ltb-false}
+use Rattle.std.proofs.lemmas.Bool.{cases_order, leb-true, ltb-false}
 use Rattle.ld_table.specs.Table.{find, put}
-use Rattle.ld_table.specs.Words.{with_one, how_many}
+use Rattle.ld_table.specs.Words.{how_many}
 use Rattle.ld_lsn.specs.Number.{epoch_of, esn_of, numbered, epoch_end, last_esn}
 use Rattle.ld_ids.specs.declared.set.Spec.{Spec}
 use Rattle.ld_config.specs.declared.config.Config.{Config}
 use Rattle.ld_msg.specs.declared.msg.Msg.{Msg}
-use Rattle.ld_msg.specs.declared.msg.Body.{Body}
-use Rattle.ld_msg.specs.declared.msg.Body.TheVariants as bodies
 use Rattle.ld_msg.specs.Register.{Register, lce_of}
 use Rattle.ld_msg.specs.Sequencer.{Sequencer, Append, released_of, own_spec, is_acked, acked_first, unacked_from, stored_at, with_append, raised, next_wave, next_esn}
 use Rattle.ld_machine.specs.Config.{spec_in}
@@ -22,8 +20,7 @@ use Rattle.ld_safety.proofs.Registers.{Up}
 use Rattle.ld_safety.proofs.Appends.{InRow, RowOf, put_in_row}
 use Rattle.ld_safety.proofs.Given.{AppendedBy}
 use Rattle.ld_safety.proofs.Votes.{Voters, one_more, voted}
-use Rattle.ld_safety.proofs.Settled.{Open, Acknowledged, ReleaseFine, tells_more}
-use Rattle.ld_safety.proofs.Storings.{ReplyFine}
+use Rattle.ld_safety.proofs.Settled.{Acknowledged, ReleaseFine, tells_more}
 
 -- ---- lists of appends ----
 acked_in_row : (s : Spec) (n : ℕ) (m : List (ℕ × Append)) (k : ℕ) → InRow n m → n ≤ k → k < n + acked_first s m → (p : ℕ × Append) × In p m × (p.0 ≡ k) × (is_acked s p.1 ≡ true)
@@ -44,9 +41,13 @@ unacked_in s (p ∷ m) x i = cond_both (is_acked s p.1) (unacked_from s m) (p �
 -- an append that is sent in a later wave
 raised_in : (s : Spec) (m : List (ℕ × Append)) (x : ℕ × Append) → In x (raised s m) → (p : ℕ × Append) × In p m × (x.0 ≡ p.0) × (x.1.payload ≡ p.1.payload) × (x.1.stored ≡ p.1.stored)
 raised_in s [] x i = absurd i
-raised_in s (p ∷ m) x (inl e) = (p, inl refl, ap (λ (z : ℕ × Append). z.0) e,
-    ap (λ (z : ℕ × Append). z.1.payload) e ∙ cond_both (is_acked s p.1) p.1 (record { payload = p.1.payload; wave = next_wave p.1.wave; stored = p.1.stored }) (λ (z : Append). z.payload ≡ p.1.payload) (λ t. refl) (λ t. refl),
-    ap (λ (z : ℕ × Append). z.1.stored) e ∙ cond_both (is_acked s p.1) p.1 (record { payload = p.1.payload; wave = next_wave p.1.wave; stored = p.1.stored }) (λ (z : Append). z.stored ≡ p.1.stored) (λ t. refl) (λ t. refl))
+raised_in s (p ∷ m) x (inl e) = (
+  p,
+  inl refl,
+  ap (λ (z : ℕ × Append). z.0) e,
+  ap (λ (z : ℕ × Append). z.1.payload) e ∙ cond_both (is_acked s p.1) p.1 (record { payload = p.1.payload; wave = next_wave p.1.wave; stored = p.1.stored }) (λ (z : Append). z.payload ≡ p.1.payload) (λ t. refl) (λ t. refl),
+  ap (λ (z : ℕ × Append). z.1.stored) e ∙ cond_both (is_acked s p.1) p.1 (record { payload = p.1.payload; wave = next_wave p.1.wave; stored = p.1.stored }) (λ (z : Append). z.stored ≡ p.1.stored) (λ t. refl) (λ t. refl),
+)
 raised_in s (p ∷ m) x (inr i) = let r = raised_in s m x i in (r.0, inr r.1, r.2, r.3, r.4)
 
 -- ---- a sequencer ----

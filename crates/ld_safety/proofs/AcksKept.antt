@@ -1,10 +1,10 @@
 -- Each event leaves sequencers that acknowledged only what was stored by enough nodes.
-use Rattle.std.proofs.Common.{◌≡◌, ◌∙◌, ◌≤◌, ℕ, ◌+◌, inl, inr, refl, ap, sym, subst, Bool, true, false, if◌then◌else◌, List, [], ◌∷◌, Option, Some, None, arith, ◌<◌}
+use Rattle.std.proofs.Common.{◌≡◌, ◌∙◌, ◌≤◌, ℕ, ◌+◌, inl, inr, refl, ap, sym, subst, true, if◌then◌else◌, List, [], ◌∷◌, Option, Some, None, arith, ◌<◌}
 use Rattle.ld_safety.proofs.Protocol.{tells_stored}
 use Rattle.ld_ids.specs.Choice.{nodes_of}
-use Rattle.ld_table.specs.Table.{find, put}
+use Rattle.ld_table.specs.Table.{find}
 use Rattle.ld_table.specs.Named.{find_named, put_named}
-use Rattle.ld_lsn.specs.Number.{epoch_of, esn_of, numbered, home_epoch, last_esn}
+use Rattle.ld_lsn.specs.Number.{epoch_of, numbered, home_epoch, last_esn}
 use Rattle.ld_config.specs.declared.config.Config.{Config}
 use Rattle.ld_schedule.specs.declared.event.Event.{Event}
 use Rattle.ld_schedule.specs.declared.event.Event.TheVariants as events
@@ -18,7 +18,7 @@ use Rattle.ld_msg.specs.declared.msg.Who.TheVariants as whos
 use Rattle.ld_op.specs.declared.op.Op.{Op}
 use Rattle.ld_op.specs.Ticks.{Ticked, Cleans, Rebuilt, Asks, Nothing}
 use Rattle.ld_msg.specs.Register.{Register, Epochs, Granted, epochs_of, lce_of, close, activate, closed_epochs, with_epochs, next_epoch}
-use Rattle.ld_msg.specs.Sequencer.{Sequencer, Acts, Append, Called, called, does_nothing, on_reply, on_retry, own_spec, is_acked, stored_at, raised, activated, appended, appending, Numbered, next_esn, fresh_append, recovery_of}
+use Rattle.ld_msg.specs.Sequencer.{Sequencer, Acts, Append, Called, called, on_reply, on_retry, own_spec, is_acked, stored_at, raised, activated, appended, appending, Numbered, next_esn, fresh_append}
 use Rattle.ld_machine.specs.Config.{spec_in}
 use Rattle.ld_machine.specs.Disk.{Node}
 use Rattle.ld_machine.specs.State.{State, Done, node_at, with_node, with_sequencer, only_state}
@@ -27,7 +27,7 @@ use Rattle.ld_machine.specs.World.{Made, In}
 use Rattle.ld_machine.specs.Step as Step
 use Rattle.ld_safety.proofs.Lists.{Some_inj, not_none, In-append, only, cond_both}
 use Rattle.ld_safety.proofs.Names.{named_cases}
-use Rattle.ld_safety.proofs.Events.{NamesOnce, Cases, dispatch, Live, refreshed}
+use Rattle.ld_safety.proofs.Events.{Cases, Live, refreshed}
 use Rattle.ld_safety.proofs.SequencerSteps.{Closing, Acting, Retrying, replied, retried}
 use Rattle.ld_safety.proofs.RegisterSteps.{activate_granted, close_granted, epochs_put, epochs_same}
 use Rattle.ld_safety.proofs.Registers.{Up}

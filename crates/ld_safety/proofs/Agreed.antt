@@ -1,12 +1,11 @@
 -- Recoveries agree, in every state of every run.
-use Rattle.std.proofs.Common.{◌≡◌, ◌∙◌, ◌⊎◌, ◌≤◌, ◌<◌, ℕ, ◌-◌, inl, inr, refl, ap, sym, subst, Bool, true, false, ◌&&◌, ◌==◌, cond, List, [], ◌∷◌, Option, Some, None, arith}
-use Rattle.std.proofs.lemmas.Bool.{cases_Bool, and_parts, eqb-true, leb-true, ne_eqb}
+use Rattle.std.proofs.Common.{◌≡◌, ◌∙◌, ◌≤◌, ◌<◌, ℕ, ◌-◌, inl, inr, refl, ap, sym, subst, true, false, ◌&&◌, ◌==◌, List, [], ◌∷◌, Option, Some, None, arith}
+use Rattle.std.proofs.lemmas.Bool.{and_parts, eqb-true, leb-true}
 use Rattle.ld_lsn.specs.Number.{epoch_of, esn_of, last_esn}
 use Rattle.ld_config.specs.declared.config.Config.{Config}
 use Rattle.ld_schedule.specs.declared.event.Event.{Event}
 use Rattle.ld_msg.specs.declared.msg.What.{What}
 use Rattle.ld_msg.specs.declared.msg.What.TheVariants.{Bridge}
-use Rattle.ld_msg.specs.declared.msg.Entry.{Entry}
 use Rattle.ld_msg.specs.declared.msg.Who.{Who}
 use Rattle.ld_msg.specs.declared.msg.Who.TheVariants as whos
 use Rattle.ld_msg.specs.declared.msg.Msg.{Msg}
@@ -17,21 +16,20 @@ use Rattle.ld_msg.specs.Digest.{Told, is_bridge, plan_item, plan_end, digest_tri
 use Rattle.ld_op.specs.Handles.{ballot_of}
 use Rattle.ld_machine.specs.Config.{spec_in}
 use Rattle.ld_machine.specs.Facts.{Happened}
-use Rattle.ld_machine.specs.World.{World, Made, In, begin, chosen, HasPlan, item, item_in, append_in, digest_in, is_made, what_sent, stored_what, stores_at, is_sequencer, plan_trim}
+use Rattle.ld_machine.specs.World.{World, Made, In, begin, chosen, item, item_in, append_in, digest_in, is_made, what_sent, stored_what, stores_at, is_sequencer}
 use Rattle.ld_machine.specs.Invariant.{Agrees}
 use Rattle.ld_machine.specs.Run.{world_after, trace}
 use Rattle.ld_safety.proofs.Lists.{Some_inj, not_none, branch, cond_both}
 use Rattle.ld_safety.proofs.Traces.{later}
 use Rattle.ld_safety.proofs.Numbers.{one_payload}
 use Rattle.ld_safety.proofs.Base.{Base}
-use Rattle.ld_safety.proofs.Given.{Place}
 use Rattle.ld_safety.proofs.GivenSteps.{BaseGiven}
 use Rattle.ld_safety.proofs.Plans.{plan_shape, top_most, trim_place_most, end_most}
-use Rattle.ld_safety.proofs.Protocol.{plan_of, Says, PlanSays, Chosen, AppendsOnce, sequencer_who}
-use Rattle.ld_safety.proofs.Said.{Open, Reached, Said}
-use Rattle.ld_safety.proofs.Settled.{TrimFine, CloseFine, ShowFine, ReleaseFine, close_low}
+use Rattle.ld_safety.proofs.Protocol.{plan_of, Says, Chosen, AppendsOnce, sequencer_who}
+use Rattle.ld_safety.proofs.Said.{Reached, Said}
+use Rattle.ld_safety.proofs.Settled.{TrimFine, CloseFine, ShowFine, ReleaseFine}
 use Rattle.ld_safety.proofs.Agreement.{agrees}
-use Rattle.ld_safety.proofs.Plannings.{PlanMade, plan_facts}
+use Rattle.ld_safety.proofs.Plannings.{plan_facts}
 use Rattle.ld_safety.proofs.Along.{Along, along_kept}
 use Rattle.ld_safety.proofs.Carried as carried
 

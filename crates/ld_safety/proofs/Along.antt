@@ -1,5 +1,5 @@
 -- Nodes, pages, digests and plans along every run.
-use Rattle.std.proofs.Common.{◌≡◌, ◌∙◌, ◌⊎◌, ◌≤◌, ◌<◌, ℕ, ◌+◌, inl, inr, refl, ap, sym, subst, Bool, true, false, cond, List, [], ◌∷◌, ◌++◌, Option, Some, None, arith, lives, ◌-◌}
+use Rattle.std.proofs.Common.{◌≡◌, ◌∙◌, ◌⊎◌, ◌≤◌, ◌<◌, ℕ, ◌+◌, inl, inr, refl, ap, sym, subst, Bool, true, false, cond, List, [], ◌∷◌, ◌++◌, Option, Some, arith, ◌-◌}
 use Rattle.ld_safety.proofs.Storings.{ReplyFine, ready_stands, settles_fine}
 use Rattle.ld_safety.proofs.CarriedSteps.{HeardOf}
 use Rattle.ld_safety.proofs.Shown.{clean_entry}
@@ -9,7 +9,7 @@ use Rattle.ld_safety.proofs.Given.{appends_grows, AppendedBy}
 use Rattle.ld_safety.proofs.Closings.{Ends_with}
 use Rattle.ld_safety.proofs.Carried.{LogOk, held_of}
 use Rattle.ld_machine.specs.Config.{spec_in}
-use Rattle.ld_safety.proofs.Numbers.{one_payload, whose, below_last}
+use Rattle.ld_safety.proofs.Numbers.{one_payload, below_last}
 use Rattle.ld_msg.specs.declared.msg.Summary.{Summary}
 use Rattle.ld_op.specs.Plain.{Plain, log_of, summary_at, is_lost}
 use Rattle.ld_safety.proofs.Acks.{AcksFine, released_fine, acks_later}
@@ -31,26 +31,26 @@ use Rattle.ld_msg.specs.declared.msg.What.{What}
 use Rattle.ld_msg.specs.declared.msg.Entry.{Entry}
 use Rattle.ld_msg.specs.declared.msg.Msg.{Msg}
 use Rattle.ld_msg.specs.declared.msg.Body.TheVariants as bodies
-use Rattle.ld_msg.specs.Register.{Register, Changed, Granted, Epochs, no_epochs, empty_register, epochs_of, lce_of, draw}
-use Rattle.ld_msg.specs.Digest.{Told, Plan}
-use Rattle.ld_msg.specs.Sequencer.{Sequencer, released_of, summary_of, Recovery, appending, Numbered, Stage, next_esn, Closes, settled_by, Stores}
+use Rattle.ld_msg.specs.Register.{Register, Changed, Granted, no_epochs, empty_register, epochs_of, lce_of, draw}
+use Rattle.ld_msg.specs.Digest.{Told}
+use Rattle.ld_msg.specs.Sequencer.{Sequencer, released_of, Recovery, appending, Numbered, Stage, next_esn, Closes, settled_by, Stores}
 use Rattle.ld_machine.specs.Disk.{Node, new_node, load}
-use Rattle.ld_machine.specs.State.{State, Done, finish, node_at, new_nodes, start}
+use Rattle.ld_machine.specs.State.{Done, finish, node_at, new_nodes}
 use Rattle.ld_machine.specs.Facts.{Happened}
-use Rattle.ld_machine.specs.World.{World, Made, In, from_node, begin, made_on}
+use Rattle.ld_machine.specs.World.{World, Made, In, begin, made_on}
 use Rattle.ld_machine.specs.Run.{next_world}
 use Rattle.ld_machine.specs.Step as Step
-use Rattle.ld_safety.proofs.Lists.{not_none, In-append, In_right}
+use Rattle.ld_safety.proofs.Lists.{not_none, In-append}
 use Rattle.ld_safety.proofs.Traces.{Keeps, beside_kept, happened}
-use Rattle.ld_safety.proofs.Steps.{told, sent_by}
+use Rattle.ld_safety.proofs.Steps.{sent_by}
 use Rattle.ld_safety.proofs.Events.{dispatch, Live}
 use Rattle.ld_safety.proofs.RegisterSteps.{draw_leaves}
 use Rattle.ld_safety.proofs.Registers.{Up, OnlyClosed, follows, start_closed, summaries_stay}
 use Rattle.ld_safety.proofs.Base.{Base, counts_of}
 use Rattle.ld_safety.proofs.GivenSteps.{Given, BaseGiven, given_kept, append_given}
-use Rattle.ld_safety.proofs.Protocol.{plan_of, Says, StoredBy, Kept, PlansOnce, AppendsOnce, PlanFacts, tells_stored}
-use Rattle.ld_safety.proofs.Said.{Open, Reached, Said, AllSaid, says_grows, said_step}
-use Rattle.ld_safety.proofs.Settled.{TrimFine, CloseFine, ShowFine, ReleaseFine, close_low, Stays, Acknowledged, acked_grows, chosen_more, Summarized, ClosedEntry}
+use Rattle.ld_safety.proofs.Protocol.{plan_of, Says, Kept, PlansOnce, AppendsOnce, PlanFacts, tells_stored}
+use Rattle.ld_safety.proofs.Said.{Reached, Said, AllSaid, says_grows, said_step}
+use Rattle.ld_safety.proofs.Settled.{TrimFine, CloseFine, ShowFine, ReleaseFine, Stays, Acknowledged, acked_grows, chosen_more, Summarized, ClosedEntry}
 use Rattle.ld_safety.proofs.Holdings.{Known, blank_holds, Holding}
 use Rattle.ld_safety.proofs.HoldSteps.{UpFine, ups_keep}
 use Rattle.ld_safety.proofs.HoldKept.{NodeHolds, holds_keep, node_later, ends_later, load_node}

@@ -1,10 +1,10 @@
 -- What a node has of a clean epoch is of the closing ballot or a greater one, and stands above the closing trim: each op keeps it.
-use Rattle.std.proofs.Common.{◌≡◌, ◌∙◌, ◌⊎◌, ◌≤◌, ◌<◌, ℕ, max, inl, inr, refl, ap, sym, subst, Bool, true, false, not, ◌&&◌, ◌||◌, ◌==◌, nat_lt, nat_le, cond, List, [], ◌∷◌, Option, Some, None, arith}
+use Rattle.std.proofs.Common.{◌≡◌, ◌∙◌, ◌⊎◌, ◌≤◌, ◌<◌, ℕ, max, inl, inr, ap, sym, subst, Bool, true, false, not, ◌||◌, ◌==◌, nat_lt, nat_le, cond, List, [], ◌∷◌, Option, Some, arith}
 use Rattle.std.specs.Option.{unwrap_or}
-use Rattle.std.proofs.lemmas.Bool.{cases_Bool, and_parts, or_parts, leb-true, ltb-true, eq-eqb}
+use Rattle.std.proofs.lemmas.Bool.{cases_Bool, and_parts, leb-true, ltb-true, eq-eqb}
 use Rattle.std.specs.Ordering.{nat_cmp}
 use Rattle.std.specs.BTreeMap.{is_at}
-use Rattle.ld_table.specs.Table.{find, put}
+use Rattle.ld_table.specs.Table.{find}
 use Rattle.ld_table.proofs.Laws.{put_cases}
 use Rattle.ld_lsn.specs.Number.{epoch_of, esn_of}
 use Rattle.ld_msg.specs.declared.msg.Entry.{Entry}
@@ -13,11 +13,12 @@ use Rattle.ld_op.specs.declared.op.Op.{Op}
 use Rattle.ld_op.specs.declared.op.Op.TheVariants as ops
 use Rattle.ld_op.specs.Plain.{Plain, Log, log_of, empty_log, unformatted, with_log, lost_logs, lost_log, accepted, sealed_by, trimmed_to, cleaned, survives_clean, refilled_with, refilled, apply}
 use Rattle.ld_machine.specs.World.{In}
-use Rattle.ld_safety.proofs.Lists.{Some_inj, not_none, not_both}
+use Rattle.ld_safety.proofs.Lists.{Some_inj, not_none}
 use Rattle.ld_safety.proofs.Members.{In_keep_keys}
 use Rattle.ld_safety.proofs.Rising.{Rising, kept_rising}
 use Rattle.ld_safety.proofs.NodeSteps.{Served}
-use Rattle.ld_safety.proofs.Holdings.{accept_in, refill_in, not_served}
+use Rattle.ld_safety.proofs.Holdings.{accept_in, refill_in}
+use Rattle.ld_safety.proofs.Serving.{not_served}
 use Rattle.ld_safety.proofs.HoldKept.{clean_found}
 
 pub record LogClean (g : Log) : Type 0 where

@@ -1,32 +1,30 @@
 -- Each event leaves nodes that are right about clean epochs.
-use Rattle.std.proofs.Common.{◌≡◌, ◌∙◌, ◌⊎◌, ◌≤◌, ◌<◌, ℕ, inl, inr, refl, ap, sym, subst, Bool, true, false, ◌&&◌, ◌==◌, nat_lt, nat_le, is_none, cond, if◌then◌else◌, List, [], ◌∷◌, Option, Some, None, arith}
+use Rattle.std.proofs.Common.{◌≡◌, ◌⊎◌, ◌≤◌, ◌<◌, ℕ, refl, ap, sym, subst, Bool, true, false, ◌&&◌, nat_lt, nat_le, is_none, if◌then◌else◌, List, [], ◌∷◌, Option, Some, None, arith}
 use Rattle.std.proofs.lemmas.Bool.{and_parts, ltb-true}
 use Rattle.ld_table.specs.Table.{find}
 use Rattle.ld_lsn.specs.Number.{epoch_of}
 use Rattle.ld_config.specs.declared.config.Config.{Config}
 use Rattle.ld_schedule.specs.declared.event.Event.{Event}
-use Rattle.ld_msg.specs.declared.msg.What.{What}
 use Rattle.ld_msg.specs.declared.msg.Entry.{Entry}
 use Rattle.ld_msg.specs.declared.msg.Summary.{Summary}
-use Rattle.ld_msg.specs.declared.msg.Who.{Who}
 use Rattle.ld_msg.specs.declared.msg.Msg.{Msg}
 use Rattle.ld_msg.specs.declared.msg.Body.{Body}
 use Rattle.ld_msg.specs.declared.msg.Body.TheVariants as bodies
 use Rattle.ld_op.specs.declared.op.Op.{Op}
 use Rattle.ld_op.specs.declared.op.Op.TheVariants as ops
-use Rattle.ld_op.specs.Plain.{Plain, Log, log_of, apply}
+use Rattle.ld_op.specs.Plain.{Plain, Log, log_of}
 use Rattle.ld_op.specs.Answers.{store_decision, digest_decision, taken, on_store, on_digest_ask, on_clean, clean_op, on_trim}
 use Rattle.ld_op.specs.Handles.{handled_by, ballot_of}
 use Rattle.ld_op.specs.Ticks.{Ticked, Cleans, Rebuilt, Asks, Nothing, on_tick, tick_with, lost_tick, refill_tick, lowest_unclean, missing, on_page, page_op, refill_op, lacking, is_missing, is_below_end, as_closed}
 use Rattle.ld_op.specs.Ticks as ticks
-use Rattle.ld_msg.specs.Register.{Register, epochs_of, epochs_in, generation_of}
+use Rattle.ld_msg.specs.Register.{Register, epochs_of}
 use Rattle.ld_msg.specs.Sequencer.{Sequencer}
 use Rattle.ld_msg.specs.Reader.{Reader}
-use Rattle.ld_machine.specs.Disk.{Node, load, keep_op, new_node}
+use Rattle.ld_machine.specs.Disk.{Node, load, new_node}
 use Rattle.ld_machine.specs.State.{State, node_at}
 use Rattle.ld_machine.specs.World.{In}
 use Rattle.ld_machine.specs.Step as Step
-use Rattle.ld_safety.proofs.Lists.{Some_inj, not_none, cond_both, In-map}
+use Rattle.ld_safety.proofs.Lists.{Some_inj, cond_both, In-map}
 use Rattle.ld_safety.proofs.Members.{In_filter}
 use Rattle.ld_safety.proofs.NodeSteps.{store_decided, ask_decided}
 use Rattle.ld_safety.proofs.NodeCases.{NodeKeeps}

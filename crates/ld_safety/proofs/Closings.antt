@@ -1,5 +1,5 @@
 -- Where the summaries of a register come from: they were there before the step, or a recovery closes its epoch in it.
-use Rattle.std.proofs.Common.{◌≡◌, ◌∙◌, ◌⊎◌, ℕ, ◌+◌, inl, inr, refl, ap, sym, subst, true, List, [], ◌∷◌, Option, Some, None, Bool}
+use Rattle.std.proofs.Common.{◌≡◌, ◌∙◌, ◌⊎◌, ℕ, ◌+◌, inl, inr, refl, ap, sym, subst, true, List, Option, Some, None, Bool}
 use Rattle.std.specs.Option.{unwrap_or}
 use Rattle.ld_table.specs.Table.{find}
 use Rattle.ld_table.proofs.Laws.{put_cases}
@@ -7,7 +7,6 @@ use Rattle.ld_config.specs.declared.config.Config.{Config}
 use Rattle.ld_schedule.specs.declared.event.Event.{Event}
 use Rattle.ld_msg.specs.declared.msg.Summary.{Summary}
 use Rattle.ld_msg.specs.declared.msg.Msg.{Msg}
-use Rattle.ld_msg.specs.declared.msg.Who.TheVariants as whos
 use Rattle.ld_msg.specs.declared.msg.Body.{Body}
 use Rattle.ld_ids.specs.declared.set.Spec.{Spec}
 use Rattle.ld_op.specs.declared.op.Op.{Op}
@@ -15,9 +14,8 @@ use Rattle.ld_op.specs.Ticks.{Ticked, Cleans, Rebuilt, Asks, Nothing}
 use Rattle.ld_machine.specs.Disk.{Node}
 use Rattle.ld_machine.specs.Config.{spec_in}
 use Rattle.ld_msg.specs.Register.{Register, Epochs, Changed, no_epochs, epochs_of, lce_of, with_epochs, next_epoch, closed_epochs, close, activate, draw}
-use Rattle.ld_msg.specs.Sequencer.{Sequencer, Acts, Recovery, Storing, Stage, Stores, Closes, is_ready, settled_by, summary_of}
+use Rattle.ld_msg.specs.Sequencer.{Sequencer, Acts, Recovery, Storing, Stores, Closes, is_ready, settled_by, summary_of}
 use Rattle.ld_machine.specs.State.{State, node_at, with_node}
-use Rattle.ld_machine.specs.World.{In}
 use Rattle.ld_machine.specs.Step as Step
 use Rattle.ld_safety.proofs.Lists.{Some_inj}
 use Rattle.ld_safety.proofs.Events.{NamesOnce, Cases, dispatch, Live, refreshed}

@@ -1,14 +1,13 @@
 -- After each event the digests of all recoveries have what their pages showed, and each plan was made from such a digest.
-use Rattle.std.proofs.Common.{◌≡◌, ◌∙◌, ◌⊎◌, ◌≤◌, ◌<◌, ℕ, ◌+◌, inl, inr, refl, ap, sym, subst, Bool, true, false, not, ◌&&◌, ◌==◌, nat_lt, List, [], ◌∷◌, ◌++◌, length, Option, Some, None, arith}
+use Rattle.std.proofs.Common.{◌≡◌, ◌∙◌, ◌≤◌, ◌<◌, ℕ, ◌+◌, inl, inr, refl, ap, sym, subst, Bool, true, false, ◌&&◌, ◌==◌, nat_lt, List, [], ◌++◌, Option, Some, None, arith}
 use Rattle.ld_safety.proofs.Senders.{StoredFrom}
 use Rattle.ld_safety.proofs.Votes.{in_of}
 use Rattle.ld_safety.proofs.Storings.{storing_later, summarized_later, ReplyFine}
 use Rattle.std.proofs.lemmas.Bool.{and_parts, eqb-true}
-use Rattle.ld_table.specs.Words.{how_many, is_in}
+use Rattle.ld_table.specs.Words.{is_in}
 use Rattle.ld_table.specs.Named.{same, find_named, put_named}
 use Rattle.ld_table.proofs.NameLaws.{same-self}
 use Rattle.ld_lsn.specs.Number.{epoch_of, esn_of, home_epoch}
-use Rattle.ld_ids.specs.Choice.{nodes_of}
 use Rattle.ld_config.specs.declared.config.Config.{Config}
 use Rattle.ld_schedule.specs.declared.event.Event.{Event}
 use Rattle.ld_msg.specs.declared.msg.What.{What}
@@ -21,14 +20,14 @@ use Rattle.ld_msg.specs.declared.msg.Body.{Body}
 use Rattle.ld_msg.specs.declared.msg.Body.TheVariants as bodies
 use Rattle.ld_msg.specs.Register.{Register, Epochs, Granted, activate, draw, epochs_of, lce_of, with_epochs, next_epoch}
 use Rattle.ld_msg.specs.Digest.{Told}
-use Rattle.ld_msg.specs.Sequencer.{Sequencer, Recovery, Stage, Seals, Stores, Closes, Acts, Called, called, on_reply, on_retry, Numbered, appended, activated, bare}
+use Rattle.ld_msg.specs.Sequencer.{Sequencer, Recovery, Stage, Seals, Stores, Closes, called, on_reply, on_retry, Numbered, appended, activated, bare}
 use Rattle.ld_op.specs.declared.op.Op.{Op}
 use Rattle.ld_op.specs.Ticks.{Ticked, Cleans, Rebuilt, Asks, Nothing}
 use Rattle.ld_machine.specs.Config.{spec_in, set_of}
 use Rattle.ld_machine.specs.Disk.{Node}
 use Rattle.ld_machine.specs.State.{State, Done, node_at, with_node, with_sequencer, only_state}
 use Rattle.ld_machine.specs.Facts.{Happened}
-use Rattle.ld_machine.specs.World.{Made, In, from_node, made_by, page_from}
+use Rattle.ld_machine.specs.World.{Made, In, made_by}
 use Rattle.ld_machine.specs.Step as Step
 use Rattle.ld_safety.proofs.Lists.{Some_inj, cond_both, In-append, In_right, not_both}
 use Rattle.ld_safety.proofs.Names.{named_cases}
@@ -36,14 +35,14 @@ use Rattle.ld_safety.proofs.Events.{Cases, Live, refreshed}
 use Rattle.ld_safety.proofs.RegisterSteps.{Advanced, activate_granted, epochs_put, epochs_same}
 use Rattle.ld_safety.proofs.SequencerSteps.{same_sender, replied, retried}
 use Rattle.ld_safety.proofs.Numbers.{Epochs_once}
-use Rattle.ld_safety.proofs.Protocol.{plan_of, Says, StoredBy, Frozen, Kept, PlansOnce, same_message, stored_told}
+use Rattle.ld_safety.proofs.Protocol.{plan_of, Says, StoredBy, PlansOnce, same_message, stored_told}
 use Rattle.ld_safety.proofs.Said.{Open, Reached, Said, AllSaid}
 use Rattle.ld_safety.proofs.Settled.{TrimFine, CloseFine, ShowFine, ReleaseFine, close_low, Acknowledged}
 use Rattle.ld_safety.proofs.Sent.{ShowsAll, PagesBounded}
 use Rattle.ld_safety.proofs.Registers.{Up}
 use Rattle.ld_safety.proofs.Carried as carried
 use Rattle.ld_safety.proofs.Digests.{Covered, ToldSoFar, DigestSoFar, PageFacts, NoPlan, page_frozen}
-use Rattle.ld_safety.proofs.Digesting.{NotSeals, Before, StageFine, InRecovery, RecoveryFine, Fine, NewPlan, begins_fine, Both, Ok, retrying_fine, acting_fine}
+use Rattle.ld_safety.proofs.Digesting.{StageFine, RecoveryFine, Fine, NewPlan, begins_fine, Both, Ok, retrying_fine, acting_fine}
 
 -- ---- while more happens ----
 module _ (c : Config) (hs next : List Happened) (made more : List Made) (sent after : List Msg) (r k : Register) (u : Up r k) (into : (m : Msg) → In m sent → In m after)

@@ -1,11 +1,11 @@
 -- A sequencer in recovery has in its digest all that its pages showed, and plans an epoch only once.
-use Rattle.std.proofs.Common.{◌≡◌, ◌∙◌, ◌⊎◌, ◌≤◌, ◌<◌, ℕ, ◌+◌, inl, inr, refl, ap, sym, subst, Bool, true, false, not, ◌&&◌, nat_lt, cond, if◌then◌else◌, List, [], ◌∷◌, ◌++◌, length, Option, Some, None, arith, ◌-◌}
+use Rattle.std.proofs.Common.{◌≡◌, ◌∙◌, ◌⊎◌, ◌≤◌, ◌<◌, ℕ, ◌+◌, inl, inr, refl, ap, sym, subst, Bool, true, false, not, ◌&&◌, nat_lt, if◌then◌else◌, List, [], ◌∷◌, ◌++◌, length, Option, Some, None, arith, ◌-◌}
 use Rattle.ld_safety.proofs.Plans.{trim_place_most, end_most, top_most}
 use Rattle.ld_msg.specs.declared.msg.What.TheVariants.{Bridge}
 use Rattle.ld_msg.specs.declared.msg.What.{What}
 use Rattle.ld_safety.proofs.Settled.{Summarized}
 use Rattle.ld_safety.proofs.Storings.{StoringFine, ReplyFine, settles_fine, begins_storing, ready_stands}
-use Rattle.std.proofs.lemmas.Bool.{cases_Bool, cases_order, ltb-true}
+use Rattle.std.proofs.lemmas.Bool.{cases_order, ltb-true}
 use Rattle.ld_table.specs.Words.{how_many}
 use Rattle.ld_lsn.specs.Number.{epoch_of, esn_of, home_epoch, last_esn}
 use Rattle.ld_ids.specs.declared.set.Spec.{Spec}
@@ -18,13 +18,13 @@ use Rattle.ld_msg.specs.declared.msg.Body.{Body}
 use Rattle.ld_msg.specs.declared.msg.Body.TheVariants as bodies
 use Rattle.ld_msg.specs.Register.{Register, Granted, Epochs, lce_of, close, epochs_of, with_epochs, closed_epochs}
 use Rattle.ld_msg.specs.Digest.{Told, no_digest, with_page, enough, plan, is_bridge, plan_end, digest_trim}
-use Rattle.ld_msg.specs.Sequencer.{Sequencer, Recovery, Stage, Seals, Stores, Closes, Storing, Acts, Called, does_nothing, recovery_of, recovery_lost, lost_stage, storing_of, settled_by, summary_of, next_try}
+use Rattle.ld_msg.specs.Sequencer.{Sequencer, Recovery, Stage, Seals, Stores, Closes, Storing, Acts, Called, recovery_of, recovery_lost, lost_stage, storing_of, settled_by, summary_of, next_try}
 use Rattle.ld_machine.specs.Config.{spec_in}
 use Rattle.ld_machine.specs.Facts.{Happened}
 use Rattle.ld_machine.specs.World.{Made, In}
 use Rattle.ld_safety.proofs.Lists.{only}
 use Rattle.ld_safety.proofs.RegisterSteps.{close_granted, epochs_put, epochs_same}
-use Rattle.ld_safety.proofs.SequencerSteps.{Acting, Retrying, Closing, acts_with, Settling}
+use Rattle.ld_safety.proofs.SequencerSteps.{Acting, Retrying, Closing, Settling}
 use Rattle.ld_safety.proofs.Protocol.{plan_of, StoredBy, Kept, PlansOnce}
 use Rattle.ld_safety.proofs.Said.{Open}
 use Rattle.ld_safety.proofs.Sent.{ShowsAll}

@@ -1,22 +1,18 @@
 -- A digest in the making has all that its pages showed, so a plan that is made from it has what recoveries need to agree.
-use Rattle.std.proofs.Common.{◌≡◌, ◌∙◌, ◌⊎◌, ◌≤◌, ◌<◌, ℕ, zero, suc, ◌+◌, ◌*◌, ◌/◌, ◌%◌, ◌^◌, max, inl, inr, refl, ap, sym, subst, Bool, true, false, not, ◌&&◌, ◌==◌, nat_lt, nat_le, cond, if◌then◌else◌, List, [], ◌∷◌, ◌++◌, map, length, Option, Some, None, arith}
-use Rattle.std.proofs.lemmas.Bool.{cases_Bool, and_parts, eqb-true, ltb-true, leb-true, cases_order, cases_lt}
-use Rattle.ld_table.specs.Words.{how_many}
+use Rattle.std.proofs.Common.{◌≡◌, ◌∙◌, ◌⊎◌, ◌≤◌, ◌<◌, ℕ, inl, inr, refl, ap, sym, subst, true, not, ◌&&◌, ◌==◌, if◌then◌else◌, List, [], ◌∷◌, map, arith}
+use Rattle.std.proofs.lemmas.Bool.{and_parts, eqb-true, leb-true, cases_order, cases_lt}
 use Rattle.ld_lsn.specs.Number.{epoch_of, esn_of, numbered, last_esn}
 use Rattle.ld_ids.specs.declared.set.Spec.{Spec}
 use Rattle.ld_ids.specs.Choice.{nodes_of}
-use Rattle.ld_msg.specs.declared.msg.What.{What}
 use Rattle.ld_msg.specs.declared.msg.Entry.{Entry}
 use Rattle.ld_msg.specs.declared.msg.Msg.{Msg}
 use Rattle.ld_msg.specs.declared.msg.Body.TheVariants as bodies
-use Rattle.ld_msg.specs.Register.{Register, epochs_of, lce_of}
-use Rattle.ld_msg.specs.Digest.{Told, told_nothing, no_digest, told_page, takes_page, with_page, told_lost, with_lost, enough}
+use Rattle.ld_msg.specs.Digest.{Told, told_nothing, no_digest, told_page, takes_page, with_page, told_lost, with_lost}
 use Rattle.ld_machine.specs.Facts.{Happened}
 use Rattle.ld_machine.specs.World.{Made, In, from_node}
-use Rattle.ld_safety.proofs.Lists.{Some_inj, not_none, cond_both, In-append, In-map, In_left, In_right}
+use Rattle.ld_safety.proofs.Lists.{cond_both, In-append, In-map, In_left, In_right}
 use Rattle.ld_safety.proofs.Given.{Place}
-use Rattle.ld_safety.proofs.Protocol.{plan_of, Says, OwnSays, PlanSays, StoredBy, Ends, Shows, Kept, Frozen, ToldFacts, DigestFacts, PlanFacts}
-use Rattle.ld_safety.proofs.Said.{Open, Said}
+use Rattle.ld_safety.proofs.Protocol.{plan_of, Says, StoredBy, Kept, Frozen}
 use Rattle.ld_safety.proofs.Sent.{ShowsAll, PagesBounded}
 
 -- a page of the node covers the number, and is in what it told

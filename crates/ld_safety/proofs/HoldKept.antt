@@ -1,49 +1,44 @@
 -- Each event leaves nodes that hold what they stored before it.
-use Rattle.std.proofs.Common.{◌≡◌, ◌∙◌, ◌⊎◌, ◌≤◌, ◌<◌, ℕ, zero, suc, ◌+◌, inl, inr, refl, ap, sym, subst, Bool, true, false, ◌&&◌, ◌==◌, nat_lt, nat_le, is_none, cond, if◌then◌else◌, List, [], ◌∷◌, ◌++◌, Option, Some, None, arith}
-use Rattle.std.proofs.lemmas.Bool.{cases_Bool, and_parts, eqb-true, eqb-false, eq-eqb, ltb-true, cases_order}
+use Rattle.std.proofs.Common.{◌≡◌, ◌∙◌, ◌≤◌, ◌<◌, ℕ, ◌+◌, inl, inr, refl, ap, sym, subst, Bool, true, false, ◌==◌, nat_lt, cond, if◌then◌else◌, List, [], ◌∷◌, ◌++◌, Option, Some, None, arith}
+use Rattle.std.proofs.lemmas.Bool.{eqb-true, eq-eqb, ltb-true, cases_order}
 use Rattle.std.specs.Ordering.{nat_cmp}
 use Rattle.std.specs.BTreeMap.{is_at}
-use Rattle.ld_table.specs.Table.{find, put}
-use Rattle.ld_lsn.specs.Number.{epoch_of, esn_of}
+use Rattle.ld_table.specs.Table.{find}
+use Rattle.ld_lsn.specs.Number.{epoch_of}
 use Rattle.ld_config.specs.declared.config.Config.{Config}
 use Rattle.ld_schedule.specs.declared.event.Event.{Event}
 use Rattle.ld_schedule.specs.declared.event.Picture.{Picture}
-use Rattle.ld_msg.specs.declared.msg.What.{What}
 use Rattle.ld_msg.specs.declared.msg.Entry.{Entry}
 use Rattle.ld_msg.specs.declared.msg.Summary.{Summary}
 use Rattle.ld_msg.specs.declared.msg.Who.{Who}
-use Rattle.ld_msg.specs.declared.msg.Who.TheVariants as whos
 use Rattle.ld_msg.specs.declared.msg.Msg.{Msg}
 use Rattle.ld_msg.specs.declared.msg.Body.{Body}
 use Rattle.ld_msg.specs.declared.msg.Body.TheVariants as bodies
 use Rattle.ld_op.specs.declared.op.Op.{Op}
 use Rattle.ld_op.specs.declared.op.Op.TheVariants as ops
-use Rattle.ld_op.specs.Plain.{Plain, Log, log_of, apply, with_log, summary_at, epoch_zero}
-use Rattle.ld_op.specs.Answers.{Decision, Lost, CleanAlready, Trimmed, Sealed, Same, Take, store_decision, digest_decision, taken, on_store, on_digest_ask, on_clean, clean_op, on_trim}
+use Rattle.ld_op.specs.Plain.{Plain, Log, log_of, apply, summary_at, epoch_zero}
+use Rattle.ld_op.specs.Answers.{store_decision, digest_decision, taken, on_store, on_digest_ask, on_clean, clean_op, on_trim}
 use Rattle.ld_op.specs.Handles.{handled_by, ballot_of}
-use Rattle.ld_op.specs.Ticks.{Ticked, Cleans, Rebuilt, Asks, Nothing, on_tick, tick_with, lost_tick, refill_tick, lowest_unclean, gap_from, missing, on_page, page_op, refill_op, lacking, is_missing, is_below_end, as_closed}
-use Rattle.ld_msg.specs.Register.{Register, Granted, epochs_of, epochs_in, lce_of, draw}
-use Rattle.ld_machine.specs.Disk.{Node, Cut, Fault, Fate, Made, FailsAt, CrashesAt, fate, new_node, keep_op, kept_by, is_full_for, load, loaded_by, found, is_found, seen_too, Failed}
-use Rattle.ld_machine.specs.State.{State, Done, node_at}
+use Rattle.ld_op.specs.Ticks.{Rebuilt, Nothing, on_tick, tick_with, refill_tick, lowest_unclean, gap_from, missing, on_page, page_op, refill_op, lacking, as_closed}
+use Rattle.ld_msg.specs.Register.{Register, Granted, epochs_of, draw}
+use Rattle.ld_machine.specs.Disk.{Node, Cut, Fate, Made, FailsAt, CrashesAt, fate, keep_op, kept_by, is_full_for, load, loaded_by, found, is_found, seen_too, Failed}
+use Rattle.ld_machine.specs.State.{State, node_at}
 use Rattle.ld_machine.specs.World.{World, In, from_node, made_on}
 use Rattle.ld_machine.specs.World as worlds
 use Rattle.ld_machine.specs.Step as Step
 use Rattle.ld_table.proofs.Laws.{tied}
-use Rattle.ld_safety.proofs.Lists.{Some_inj, not_none, not_both, cond_both, In-map, In_right}
-use Rattle.ld_safety.proofs.Members.{In_filter, find_in}
-use Rattle.ld_safety.proofs.Events.{Serves}
-use Rattle.ld_safety.proofs.NodeSteps.{missing_clean, Served, store_decided, ask_decided}
-use Rattle.ld_safety.proofs.Registers.{Up, OnlyClosed}
-use Rattle.ld_safety.proofs.Base.{Base}
-use Rattle.ld_safety.proofs.GivenSteps.{Given}
-use Rattle.ld_safety.proofs.Protocol.{StoredBy, Ends}
-use Rattle.ld_safety.proofs.Said.{Open, Reached, Said, AllSaid}
-use Rattle.ld_safety.proofs.Settled.{TrimFine, CloseFine, ShowFine, ReleaseFine, close_low}
+use Rattle.ld_safety.proofs.Lists.{Some_inj, not_both, cond_both, In-map, In_right}
+use Rattle.ld_safety.proofs.Members.{In_filter}
+use Rattle.ld_safety.proofs.NodeSteps.{missing_clean, store_decided, ask_decided}
+use Rattle.ld_safety.proofs.Protocol.{Ends}
+use Rattle.ld_safety.proofs.Said.{Reached, Said}
+use Rattle.ld_safety.proofs.Settled.{TrimFine, CloseFine, ShowFine, ReleaseFine}
 use Rattle.ld_machine.specs.Facts.{Happened}
 use Rattle.ld_safety.proofs.CarriedSteps.{Carries}
-use Rattle.ld_safety.proofs.Holdings.{Gone, HeldAt, KeptBy, LogFine, Holding, Taking, Known, OpFine, CleanAt, op_holds, blank_holds}
+use Rattle.ld_safety.proofs.Holdings.{KeptBy, Holding, Known, OpFine, op_holds, blank_holds}
+use Rattle.ld_safety.proofs.Serving.{CleanAt}
 use Rattle.ld_safety.proofs.HoldSteps.{released_parts}
-use Rattle.ld_safety.proofs.NodeCases.{NodeKeeps, node_cases}
+use Rattle.ld_safety.proofs.NodeCases.{NodeKeeps}
 use Rattle.ld_safety.proofs.Carried as carried
 
 module _ (made : List worlds.Made) (sent : List Msg) where

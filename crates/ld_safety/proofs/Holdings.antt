@@ -1,11 +1,11 @@
 -- What a node that stored something still has of it, and how it is sealed, while it serves the epoch: each op keeps it.
-use Rattle.std.proofs.Common.{◌≡◌, ◌∙◌, ◌⊎◌, ◌≤◌, ◌<◌, ℕ, ◌+◌, ◌*◌, ◌/◌, ◌%◌, ◌^◌, max, inl, inr, refl, ap, sym, subst, Bool, true, false, not, ◌&&◌, ◌||◌, ◌==◌, nat_lt, nat_le, cond, if◌then◌else◌, List, [], ◌∷◌, Option, Some, None, arith}
+use Rattle.std.proofs.Common.{◌≡◌, ◌∙◌, ◌⊎◌, ◌≤◌, ◌<◌, ℕ, ◌+◌, max, inl, inr, refl, ap, sym, subst, Bool, true, false, not, ◌&&◌, ◌||◌, ◌==◌, nat_lt, nat_le, cond, List, [], ◌∷◌, Option, Some, None, arith}
 use Rattle.std.specs.Option.{unwrap_or}
-use Rattle.std.proofs.lemmas.Bool.{or_left, cases_Bool, cases_order, and_parts, or_parts, leb-true, leb-false, ltb-true, ltb-false, lt-ltb, le-leb, eqb-true, eqb-false, eq-eqb, ne_eqb, and_from}
+use Rattle.std.proofs.lemmas.Bool.{or_left, cases_Bool, and_parts, or_parts, leb-true, leb-false, ltb-true, ltb-false, lt-ltb, le-leb, eqb-true, ne_eqb, and_from}
 use Rattle.std.specs.Ordering.{nat_cmp}
 use Rattle.std.specs.BTreeMap.{is_at}
-use Rattle.ld_table.specs.Table.{find, put, keep, keep_keys}
-use Rattle.ld_table.proofs.Laws.{put_cases, find-put, find-keep, find-keep_keys, find-put_other, kept, table_rules}
+use Rattle.ld_table.specs.Table.{find, put}
+use Rattle.ld_table.proofs.Laws.{put_cases, find-keep, find-keep_keys, find-put_other, kept, table_rules}
 use Rattle.ld_lsn.specs.Number.{epoch_of, esn_of}
 use Rattle.ld_msg.specs.declared.msg.What.{What}
 use Rattle.ld_msg.specs.declared.msg.What.TheVariants.{Rec, Hole, Bridge}
@@ -13,59 +13,22 @@ use Rattle.ld_msg.specs.declared.msg.Entry.{Entry}
 use Rattle.ld_msg.specs.declared.msg.Summary.{Summary}
 use Rattle.ld_msg.specs.declared.msg.Msg.{Msg}
 use Rattle.ld_msg.specs.declared.msg.Body.TheVariants as bodies
-use Rattle.ld_msg.specs.Digest.{best, plan_item, plan_end}
-use Rattle.ld_msg.specs.Register.{Register, Epochs, no_epochs, epochs_of, epochs_in, lce_of}
+use Rattle.ld_msg.specs.Digest.{plan_end}
+use Rattle.ld_msg.specs.Register.{Register, Epochs, no_epochs, epochs_of, epochs_in}
 use Rattle.ld_op.specs.declared.op.Op.{Op}
 use Rattle.ld_op.specs.declared.op.Op.TheVariants as ops
-use Rattle.ld_op.specs.Plain.{Plain, Log, log_of, empty_log, unformatted, with_log, lost_logs, lost_log, accepted, accept_entry, survives_bridge, sealed_by, trimmed_to, cleaned, survives_clean, refill_entries, refilled_with, refilled, apply, is_lost, summary_at, epoch_zero}
+use Rattle.ld_op.specs.Plain.{Plain, Log, log_of, empty_log, unformatted, with_log, lost_logs, lost_log, accepted, accept_entry, survives_bridge, sealed_by, trimmed_to, cleaned, survives_clean, refill_entries, refilled_with, refilled, apply, is_lost, summary_at}
 use Rattle.ld_op.proofs.Moves.{taken_there}
 use Rattle.ld_machine.specs.Facts.{Happened}
 use Rattle.ld_machine.specs.World.{Made, In, from_node}
-use Rattle.ld_safety.proofs.Lists.{Some_inj, not_none, cond_both, not_both}
+use Rattle.ld_safety.proofs.Lists.{Some_inj, not_none}
 use Rattle.ld_safety.proofs.Members.{find_in, In_put, In_keep, In_keep_keys}
 use Rattle.ld_safety.proofs.NodeSteps.{Served}
+use Rattle.ld_safety.proofs.Serving.{Unserved, Gone, CleanAt, served_or, not_served, put_summary}
 use Rattle.ld_safety.proofs.Plans.{plan_shape, content_no_bridge}
 use Rattle.ld_safety.proofs.Rising.{Rising, Rising-put, Rising-keep, Rising-keep_keys}
-use Rattle.ld_safety.proofs.Protocol.{plan_of, Says, OwnSays, PlanSays, StoredBy, Ends}
+use Rattle.ld_safety.proofs.Protocol.{plan_of, Says, StoredBy, Ends}
 use Rattle.ld_safety.proofs.Settled.{Reached}
-
--- the epoch isn't served: it is lost or clean there
-abbrev pub Unserved : Log → ℕ → Type 0
-Unserved g e = (is_lost g e ≡ true) ⊎ ((y : Summary) × (summary_at g e ≡ Some y))
-
--- the epoch is clean there
-abbrev pub CleanAt : Log → ℕ → Type 0
-CleanAt g e = (y : Summary) × (summary_at g e ≡ Some y)
-
--- the node is blank, or doesn't serve the epoch
-abbrev pub Gone : Plain → ℕ → ℕ → Type 0
-Gone p l e = (p.generation ≡ 0) ⊎ Unserved (log_of p l) e
-
-pub served_or : (g : Log) (e : ℕ) → Unserved g e ⊎ Served g e
-served_or g e = by_both (is_lost g e) refl (summary_at g e) refl where
-  by_both : (b : Bool) → is_lost g e ≡ b → (o : Option Summary) → summary_at g e ≡ o → Unserved g e ⊎ Served g e
-  by_both true l o s = inl (inl l)
-  by_both false l (Some y) s = inl (inr (y, s))
-  by_both false l None s = inr (record { found_here = l; unclean = s })
-
-pub not_served : (g : Log) (e : ℕ) → Unserved g e → Served g e → ⊥
-not_served g e (inl a) s = not_both _ a s.found_here
-not_served g e (inr a) s = let q : None ≡ Some a.0 = sym s.unclean ∙ a.1 in not_none q
-
-same_summary : (g h : Log) (e : ℕ) → find e h.summaries ≡ find e g.summaries → summary_at h e ≡ summary_at g e
-unfolding summary_at
-same_summary g h e q = ap (λ o. if e == 0 then Some epoch_zero else o) q
-
-some_summary : (h : Log) (e : ℕ) (y : Summary) → find e h.summaries ≡ Some y → (z : Summary) × (summary_at h e ≡ Some z)
-unfolding summary_at
-some_summary h e y q = cond_both (e == 0) (Some epoch_zero) (find e h.summaries) (λ o. (z : Summary) × (o ≡ Some z)) (λ t. (epoch_zero, refl)) (λ t. (y, q))
-
--- a summary that is put
-put_summary : (g h : Log) (k e : ℕ) (y : Summary) → h.summaries ≡ put k y g.summaries → ((e ≡ k) × ((z : Summary) × (summary_at h e ≡ Some z))) ⊎ ((e ≡ k → ⊥) × (summary_at h e ≡ summary_at g e))
-put_summary g h k e y q = elim (put_cases e k y g.summaries) [
-  | inl a ↦ inl (a.0, some_summary h e y (ap (find e) q ∙ a.1))
-  | inr a ↦ inr (a.0, same_summary g h e (ap (find e) q ∙ a.1))
-]
 
 -- an entry of the number, of at least the ballot
 pub record HeldAt (g : Log) (n b : ℕ) : Type 0 where

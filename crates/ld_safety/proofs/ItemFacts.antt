@@ -1,6 +1,6 @@
 -- What an acknowledgement and an item of a reader say of a number for good; and that none of them hides another.
-use Rattle.std.proofs.Common.{◌≡◌, ◌∙◌, ◌⊎◌, ◌≤◌, ◌<◌, ℕ, ◌+◌, inl, inr, refl, ap, sym, subst, List, Some, arith}
-use Rattle.ld_lsn.specs.Number.{epoch_of, esn_of, numbered, last_esn}
+use Rattle.std.proofs.Common.{◌≡◌, ◌∙◌, ◌⊎◌, ◌≤◌, ◌<◌, ℕ, ◌+◌, inl, inr, refl, ap, sym, subst, List, arith}
+use Rattle.ld_lsn.specs.Number.{epoch_of, esn_of, numbered}
 use Rattle.ld_config.specs.declared.config.Config.{Config}
 use Rattle.ld_msg.specs.declared.msg.What.{What}
 use Rattle.ld_msg.specs.declared.msg.What.TheVariants.{Rec, Hole, Bridge}

@@ -1,9 +1,9 @@
 -- What a reader is given is so for good.
-use Rattle.std.proofs.Common.{◌≡◌, ◌∙◌, ◌⊎◌, ◌≤◌, ◌<◌, ℕ, ◌+◌, inl, inr, refl, ap, sym, subst, Bool, true, false, ◌==◌, nat_lt, nat_le, if◌then◌else◌, List, [], ◌∷◌, Option, Some, None, arith, ◌&&◌, ◌-◌}
+use Rattle.std.proofs.Common.{◌≡◌, ◌∙◌, ◌≤◌, ◌<◌, ℕ, inl, inr, refl, ap, sym, subst, Bool, true, false, ◌==◌, nat_lt, nat_le, if◌then◌else◌, List, [], ◌∷◌, Option, Some, None, arith, ◌&&◌, ◌-◌}
 use Rattle.std.proofs.lemmas.Bool.{and_parts, eqb-true, leb-true, ltb-true}
 use Rattle.ld_table.specs.Table.{find, put}
 use Rattle.ld_table.specs.Named.{find_named}
-use Rattle.ld_lsn.specs.Number.{epoch_of, esn_of, numbered, home_epoch, home_esn, epoch_end, last_esn}
+use Rattle.ld_lsn.specs.Number.{epoch_of, esn_of, numbered, home_epoch, last_esn}
 use Rattle.ld_config.specs.declared.config.Config.{Config}
 use Rattle.ld_transcript.specs.declared.line.Line.{Line}
 use Rattle.ld_transcript.specs.declared.line.Line.TheVariants as lines
@@ -15,7 +15,7 @@ use Rattle.ld_msg.specs.declared.msg.Summary.{Summary}
 use Rattle.ld_msg.specs.declared.msg.Msg.{Msg}
 use Rattle.ld_msg.specs.declared.msg.Body.{Body}
 use Rattle.ld_msg.specs.declared.msg.Body.TheVariants as bodies
-use Rattle.ld_msg.specs.Digest.{Told, plan_end}
+use Rattle.ld_msg.specs.Digest.{Told}
 use Rattle.ld_msg.specs.Register.{Register}
 use Rattle.ld_msg.specs.Reading.{Held, Item, TrimTo, RecordHere, HoleHere, BridgeTo, LossHere, page_at, is_hole, hole_held, record_held, shows_end, end_held, bridge_to, trim_held}
 use Rattle.ld_msg.specs.Reader.{Reader, Read, gives, heard, held_with, is_newer, round_of}
@@ -30,7 +30,7 @@ use Rattle.ld_safety.proofs.Plans.{end_above_trim}
 use Rattle.ld_safety.proofs.ReaderSteps.{ReadKeeps}
 use Rattle.ld_safety.proofs.GivenItems.{PageWith, page_with, record_in}
 use Rattle.ld_safety.proofs.Protocol.{plan_of, Says, PlansOnce, AppendsOnce, PlanFacts}
-use Rattle.ld_safety.proofs.Settled.{Acknowledged, ClosedBy, ClosedEntry, TrimFine, CloseFine, ShowFine, ReleaseFine, Reached}
+use Rattle.ld_safety.proofs.Settled.{Acknowledged, TrimFine, CloseFine, ShowFine, ReleaseFine, Reached}
 use Rattle.ld_safety.proofs.Said.{Said}
 use Rattle.ld_safety.proofs.Shown.{plan_ends}
 use Rattle.ld_safety.proofs.ItemFacts.{ClosedItem, RecordAt, BridgeAt, closed_item, acked_no_hole}

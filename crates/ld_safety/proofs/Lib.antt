@@ -35,6 +35,7 @@ pub mod Votes
 pub mod Settled
 pub mod Said
 pub mod Rising
+pub mod Serving
 pub mod Holdings
 pub mod NodeCases
 pub mod HoldSteps

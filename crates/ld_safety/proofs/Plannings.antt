@@ -1,13 +1,12 @@
 -- What each plan that was made stands on: a digest that showed all, of enough nodes.
-use Rattle.std.proofs.Common.{◌≡◌, ◌∙◌, ◌⊎◌, ◌≤◌, ◌<◌, ℕ, ◌+◌, inl, inr, ap, sym, subst, true, not, ◌&&◌, List, [], ◌++◌, length, arith}
+use Rattle.std.proofs.Common.{◌≡◌, ◌∙◌, ◌⊎◌, ◌<◌, ℕ, ◌+◌, inl, inr, sym, subst, true, not, ◌&&◌, List, [], ◌++◌, length}
 use Rattle.ld_table.specs.Words.{how_many}
 use Rattle.ld_lsn.specs.Number.{epoch_of, esn_of}
 use Rattle.ld_ids.specs.Choice.{nodes_of}
 use Rattle.ld_config.specs.declared.config.Config.{Config}
 use Rattle.ld_msg.specs.declared.msg.What.{What}
-use Rattle.ld_msg.specs.declared.msg.Entry.{Entry}
 use Rattle.ld_msg.specs.declared.msg.Msg.{Msg}
-use Rattle.ld_msg.specs.Register.{Register, lce_of}
+use Rattle.ld_msg.specs.Register.{Register}
 use Rattle.ld_msg.specs.Digest.{Told}
 use Rattle.ld_machine.specs.Config.{spec_in}
 use Rattle.ld_machine.specs.State.{Done, finish, node_at}
@@ -15,9 +14,7 @@ use Rattle.ld_machine.specs.Facts.{Happened}
 use Rattle.ld_machine.specs.World.{Made, In}
 use Rattle.ld_safety.proofs.Steps.{sent_by, sent_before}
 use Rattle.ld_safety.proofs.Protocol.{Says, StoredBy, Kept, PlanFacts}
-use Rattle.ld_safety.proofs.Said.{Open}
 use Rattle.ld_safety.proofs.HoldKept.{NodeHolds, ends_later}
-use Rattle.ld_safety.proofs.Sends.{StoredIn}
 use Rattle.ld_safety.proofs.Sent.{SendsFine, no_page}
 use Rattle.ld_safety.proofs.Registers.{Up}
 use Rattle.ld_safety.proofs.Digests.{DigestSoFar}

@@ -1,16 +1,15 @@
 -- Tables whose keys rise, and pages of what they hold.
-use Rattle.std.proofs.Common.{◌≡◌, ◌∙◌, ◌⊎◌, ◌≤◌, ◌<◌, ℕ, zero, suc, ◌+◌, inl, inr, refl, ap, sym, subst, Bool, true, false, cond, ◌&&◌, nat_cmp, nat_lt, nat_le, Ordering, Less, Equal, Greater, List, [], ◌∷◌, ◌++◌, length, take, filter, Option, Some, None, arith, ◌==◌}
+use Rattle.std.proofs.Common.{◌≡◌, ◌∙◌, ◌⊎◌, ◌≤◌, ◌<◌, ℕ, zero, suc, inl, inr, refl, ap, sym, subst, Bool, true, false, cond, nat_cmp, nat_lt, Ordering, Less, Equal, Greater, List, [], ◌∷◌, length, take, filter, Some, arith, ◌==◌}
 use Rattle.ld_table.proofs.Laws.{same_key, tied}
 use Rattle.std.specs.BTreeMap.{is_at}
 use Rattle.std.specs.Ordering.{match_ordering}
-use Rattle.std.specs.FinMap.{nat_cmp-IsAntisymmetric}
 use Rattle.std.proofs.lemmas.Bool.{cases_Bool, cases_order, ltb-true, ltb-false, lt-ltb, le-ltb, eq-eqb}
 use Rattle.ld_table.specs.Table.{find, put, keep, keep_keys, passes}
 use Rattle.ld_table.specs.Words.{values}
 use Rattle.ld_msg.specs.declared.msg.Entry.{Entry}
 use Rattle.ld_op.specs.Answers.{page_upto, page_limit, last_number}
 use Rattle.ld_machine.specs.World.{In}
-use Rattle.ld_safety.proofs.Lists.{not_none, cond_both, not_both}
+use Rattle.ld_safety.proofs.Lists.{cond_both, not_both}
 use Rattle.ld_safety.proofs.Members.{In_filter, In_put, In_values}
 
 less_is : (k n : ℕ) → nat_cmp k n ≡ Less → k < n
@@ -78,7 +77,6 @@ module _ {X : Type 0} where
   pub kept_rising : (p : ℕ → X → Bool) (m : List (ℕ × X)) (q : ℕ × X) → Rising m → In q (keep p m) → In q m × (p q.0 q.1 ≡ true)
   unfolding keep
   kept_rising p m q r i = let z = In_filter _ q m i in (z.0, subst (λ o. passes p q.0 o ≡ true) (found_rising q m r z.0) z.1)
-
 
 -- ---- entries whose numbers rise ----
 abbrev pub NumbersRising : List Entry → Type 0

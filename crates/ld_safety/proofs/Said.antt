@@ -1,5 +1,5 @@
 -- Each entry anywhere says what its ballot says; trims, summaries, pages and released numbers are fine.
-use Rattle.std.proofs.Common.{◌≡◌, ◌∙◌, ◌≤◌, ◌<◌, ℕ, ◌+◌, inl, inr, refl, ap, sym, subst, true, ◌&&◌, nat_lt, nat_le, is_none, List, [], ◌∷◌, ◌++◌, Option, Some, None, arith, Bool, false, ◌-◌, ◌⊎◌, ◌==◌, eqb-true}
+use Rattle.std.proofs.Common.{◌≡◌, ◌∙◌, ◌≤◌, ◌<◌, ℕ, ◌+◌, inl, inr, refl, ap, sym, subst, true, ◌&&◌, nat_lt, nat_le, List, [], ◌∷◌, ◌++◌, Some, arith, Bool, false, ◌-◌, ◌⊎◌, ◌==◌, eqb-true}
 use Rattle.ld_safety.proofs.NodeSteps.{missing_clean}
 use Rattle.ld_op.specs.Answers.{lets_read}
 use Rattle.ld_machine.specs.Step.{set_read}
@@ -21,7 +21,7 @@ use Rattle.ld_msg.specs.Digest.{Told, with_page, Item, plan, plan_item}
 use Rattle.ld_msg.specs.Register.{Register, Granted, Epochs, epochs_of, lce_of, close, closed_epochs, with_epochs}
 use Rattle.ld_msg.specs.Sequencer.{Sequencer, Recovery, next_esn, released_of, Stage, Closes, Stores}
 use Rattle.ld_op.specs.Plain.{log_of, summary_at, is_lost}
-use Rattle.ld_op.specs.Ticks.{is_missing, is_below_end, as_closed, ballot_of}
+use Rattle.ld_op.specs.Ticks.{is_missing, as_closed, ballot_of}
 use Rattle.ld_machine.specs.State.{State, Done, node_at}
 use Rattle.ld_machine.specs.Facts.{Happened}
 use Rattle.ld_machine.specs.World.{World, Made, In, made_on}
@@ -43,8 +43,8 @@ use Rattle.ld_safety.proofs.CarriedGrows.{carries_grow}
 use Rattle.ld_safety.proofs.Carried as carried
 use Rattle.ld_safety.proofs.Protocol.{plan_of, Says}
 pub use Rattle.ld_safety.proofs.Settled.{Open, Reached}
-use Rattle.ld_safety.proofs.Settled.{TrimFine, CloseFine, ShowFine, ReleaseFine, ClosedEntry, ClosedBy, Summarized, Stays, acked_grows, trim_fine_grows, close_fine_grows, show_grows, release_grows, summarized_grows}
-use Rattle.ld_safety.proofs.Closings.{OfSummaries, Ends_with, Readied, summaries_after}
+use Rattle.ld_safety.proofs.Settled.{TrimFine, CloseFine, ShowFine, ReleaseFine, ClosedEntry, Summarized, Stays, acked_grows, trim_fine_grows, close_fine_grows, show_grows, release_grows, summarized_grows}
+use Rattle.ld_safety.proofs.Closings.{OfSummaries, Ends_with, summaries_after}
 
 pub record Said (hs : List Happened) (made : List Made) (r : Register) (l b n : ℕ) (x : What) : Type 0 where
   pub given : GivenEntry hs l b n x
@@ -180,13 +180,15 @@ module _ (c : Config) (hs : List Happened) (w : World) (e : Event) (B : Base c h
     closed_said name q v y live r t h g = let s = close_granted w.state.register q.log v.epoch y reg h g in elim (epochs_put w.state.register q.log q.log (closed_epochs (epochs_of w.state.register q.log) v.epoch y)) [
       | inl a ↦
           let eq = epochs_same (with_epochs w.state.register q.log (closed_epochs (epochs_of w.state.register q.log) v.epoch y)) reg q.log s ∙ a.1 in
-          let z : lce_of reg q.log ≡ v.epoch = ap (λ (x : Epochs). x.lce) eq in
-          (closing_trims name q v y live.named r t, inr (record {
-            found_so = ap (λ (x : Epochs). find v.epoch x.summaries) eq ∙ find-put_same v.epoch v.epoch y (epochs_of w.state.register q.log).summaries refl;
-            positive = omega arith;
-            low = omega arith;
-            plan = summarized_grows c hs e (Step.happens c w.state e) w.made (made_on c w.state e) w.state.network.sent after w.state.register reg into up stays q.log v.epoch y (closing name q v y live r t h);
-          }))
+          let z : lce_of reg q.log ≡ v.epoch = ap (λ (x : Epochs). x.lce) eq in (
+            closing_trims name q v y live.named r t,
+            inr (record {
+              found_so = ap (λ (x : Epochs). find v.epoch x.summaries) eq ∙ find-put_same v.epoch v.epoch y (epochs_of w.state.register q.log).summaries refl;
+              positive = omega arith;
+              low = omega arith;
+              plan = summarized_grows c hs e (Step.happens c w.state e) w.made (made_on c w.state e) w.state.network.sent after w.state.register reg into up stays q.log v.epoch y (closing name q v y live r t h);
+            }),
+          )
       | inr a ↦ absurd (a.0 refl)
     ]
 
@@ -224,13 +226,15 @@ module _ (c : Config) (hs : List Happened) (w : World) (e : Event) (B : Base c h
     register_now l k y f = elim (came l k y f) [
       | inl a ↦ now.register l k y a
       | inr (name, q, v, live, r, t, h, il, ik) ↦
-          let plan = summarized_grows c hs e (Step.happens c w.state e) w.made (made_on c w.state e) w.state.network.sent after w.state.register reg into up stays q.log v.epoch y (closing name q v y live r t h) in
-          (subst (λ z. TrimNow z y.trim) (sym il) (closing_trims name q v y live.named r t), inr (record {
-            found_so = f;
-            positive = omega arith;
-            low = (follows c w.state e B.0.0 O).1 l k y f;
-            plan = subst (λ z. Summarized c next plans_now after z k y) (sym il) (subst (λ z. Summarized c next plans_now after q.log z y) (sym ik) plan);
-          }))
+          let plan = summarized_grows c hs e (Step.happens c w.state e) w.made (made_on c w.state e) w.state.network.sent after w.state.register reg into up stays q.log v.epoch y (closing name q v y live r t h) in (
+            subst (λ z. TrimNow z y.trim) (sym il) (closing_trims name q v y live.named r t),
+            inr (record {
+              found_so = f;
+              positive = omega arith;
+              low = (follows c w.state e B.0.0 O).1 l k y f;
+              plan = subst (λ z. Summarized c next plans_now after z k y) (sym il) (subst (λ z. Summarized c next plans_now after q.log z y) (sym ik) plan);
+            }),
+          )
     ]
 
     sources : Sources c w.state e SaidNow TrimNow CloseNow ReachedNow ShowNow ReleaseNow

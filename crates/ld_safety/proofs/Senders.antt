@@ -1,5 +1,5 @@
 -- Answers of a store come from nodes that keep the log.
-use Rattle.std.proofs.Common.{◌≡◌, ℕ, inl, inr, refl, sym, ap, subst, Bool, true, cond, List, [], ◌∷◌, Option, Some, None}
+use Rattle.std.proofs.Common.{◌≡◌, ℕ, inl, inr, refl, sym, ap, subst, true, cond, List, [], Option, Some, None}
 use Rattle.ld_table.specs.Words.{is_in}
 use Rattle.ld_config.specs.declared.config.Config.{Config}
 use Rattle.ld_schedule.specs.declared.event.Event.{Event}
@@ -12,8 +12,8 @@ use Rattle.ld_op.specs.declared.op.Op.{Op}
 use Rattle.ld_op.specs.Handles.{answer_message}
 use Rattle.ld_op.specs.Ticks.{Ticked, Cleans, Rebuilt, Asks, Nothing}
 use Rattle.ld_machine.specs.Config.{set_of}
-use Rattle.ld_machine.specs.Disk.{Node, Kept, Written, DiskFailed, Crashed, JournalFull}
-use Rattle.ld_machine.specs.State.{State, Done, with_node, posted, node_at}
+use Rattle.ld_machine.specs.Disk.{Kept, Written, DiskFailed, Crashed, JournalFull}
+use Rattle.ld_machine.specs.State.{State, with_node, posted, node_at}
 use Rattle.ld_machine.specs.World.{In}
 use Rattle.ld_machine.specs.Step as Step
 use Rattle.ld_safety.proofs.Events.{Cases, Serves, refreshed}

@@ -1,35 +1,24 @@
 -- When a node answers that it stored a number or shows a page, it holds what it says, in its one plain state.
-use Rattle.std.proofs.Common.{◌≡◌, ◌∙◌, ◌⊎◌, ◌≤◌, ◌<◌, ℕ, zero, suc, ◌+◌, ◌*◌, ◌/◌, ◌%◌, ◌^◌, inl, inr, refl, ap, sym, subst, Bool, true, false, ◌&&◌, ◌==◌, nat_lt, nat_le, cond, if◌then◌else◌, List, [], ◌∷◌, ◌++◌, take, filter, Option, Some, None, arith}
+use Rattle.std.proofs.Common.{◌≡◌, ◌∙◌, ◌≤◌, ◌<◌, ℕ, inl, inr, refl, ap, sym, subst, Bool, true, false, ◌&&◌, ◌==◌, nat_le, cond, List, [], ◌∷◌, take, filter, Option, Some, None, arith}
 use Rattle.std.specs.Option.{unwrap_or}
 use Rattle.std.proofs.lemmas.Bool.{cases_Bool, and_parts, and_from, eqb-true, le-leb, leb-true}
-use Rattle.ld_table.specs.Table.{find, put}
+use Rattle.ld_table.specs.Table.{find}
 use Rattle.ld_table.specs.Words.{values}
 use Rattle.ld_table.proofs.Laws.{find-put_same}
 use Rattle.ld_lsn.specs.Number.{epoch_of, esn_of, numbered, last_esn}
-use Rattle.ld_config.specs.declared.config.Config.{Config}
-use Rattle.ld_schedule.specs.declared.event.Event.{Event}
-use Rattle.ld_transcript.specs.declared.line.Line.{Line}
-use Rattle.ld_msg.specs.declared.msg.What.{What}
 use Rattle.ld_msg.specs.declared.msg.Entry.{Entry}
-use Rattle.ld_msg.specs.declared.msg.Summary.{Summary}
-use Rattle.ld_msg.specs.declared.msg.Who.{Who}
-use Rattle.ld_msg.specs.declared.msg.Who.TheVariants as whos
-use Rattle.ld_msg.specs.declared.msg.Msg.{Msg}
 use Rattle.ld_msg.specs.declared.msg.Body.{Body}
 use Rattle.ld_msg.specs.declared.msg.Body.TheVariants as bodies
 use Rattle.ld_op.specs.declared.op.Op.{Op}
 use Rattle.ld_op.specs.declared.op.Op.TheVariants as ops
-use Rattle.ld_op.specs.Plain.{Plain, Log, log_of, empty_log, apply, with_log, accepted, sealed_by, is_lost, summary_at}
-use Rattle.ld_op.specs.Answers.{Decision, Lost, CleanAlready, Trimmed, Sealed, Same, Take, store_decision, digest_decision, taken, is_same, refusal, store_answer, digest_answer, digest_page, entries_within, page_upto, page_limit, on_store, on_digest_ask, on_clean, on_trim, read_answer}
-use Rattle.ld_op.specs.Handles.{handled_by, ballot_of, answer_message}
+use Rattle.ld_op.specs.Plain.{Plain, Log, log_of, empty_log, apply, with_log, accepted, sealed_by, summary_at}
+use Rattle.ld_op.specs.Answers.{Decision, Lost, CleanAlready, Trimmed, Sealed, Same, Take, store_decision, digest_decision, taken, is_same, refusal, store_answer, digest_answer, entries_within, page_upto, page_limit, on_store, on_digest_ask, on_clean, on_trim, read_answer}
+use Rattle.ld_op.specs.Handles.{handled_by}
 use Rattle.ld_op.specs.Ticks.{on_page}
 use Rattle.ld_op.proofs.Moves.{taken_there}
-use Rattle.ld_msg.specs.Register.{Register}
-use Rattle.ld_machine.specs.Disk.{Node, Fate, Made, FailsAt, CrashesAt, fate, keep_op, keep_end, kept_by, kept_end, with_op, is_full_for, Kept, Written, DiskFailed, Crashed, JournalFull, Failed}
-use Rattle.ld_machine.specs.State.{State, node_at}
-use Rattle.ld_machine.specs.World.{In, from_node}
-use Rattle.ld_machine.specs.Step as Step
-use Rattle.ld_safety.proofs.Lists.{Some_inj, not_none, cond_both, branch}
+use Rattle.ld_machine.specs.Disk.{Node, Fate, Made, FailsAt, CrashesAt, fate, keep_op, keep_end, kept_by, kept_end, is_full_for, Written, JournalFull, Failed}
+use Rattle.ld_machine.specs.World.{In}
+use Rattle.ld_safety.proofs.Lists.{Some_inj}
 use Rattle.ld_safety.proofs.Members.{In_filter, In_take, In_values, find_in}
 use Rattle.ld_safety.proofs.NodeSteps.{Served, store_decided, ask_decided, read_answered}
 use Rattle.ld_safety.proofs.Rising.{NumbersRising, rising_values, rising_filter, page_has}

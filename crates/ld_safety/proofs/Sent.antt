@@ -1,12 +1,10 @@
 -- After each event the nodes hold what they stored up to then, and pages show what their nodes had stored before.
-use Rattle.std.proofs.Common.{◌≡◌, ◌∙◌, ◌⊎◌, ◌≤◌, ◌<◌, ℕ, zero, suc, ◌+◌, ◌*◌, ◌/◌, ◌%◌, ◌^◌, inl, inr, refl, ap, sym, subst, Bool, true, false, cond, List, [], ◌∷◌, ◌++◌, Option, Some, None, arith}
+use Rattle.std.proofs.Common.{◌≡◌, ◌∙◌, ◌⊎◌, ◌≤◌, ◌<◌, ℕ, ◌+◌, inl, inr, refl, ap, sym, subst, cond, List, [], ◌∷◌, Option, Some, None, arith}
 use Rattle.std.specs.Option.{unwrap_or}
-use Rattle.ld_table.specs.Table.{find, put}
 use Rattle.ld_table.proofs.Laws.{find-put_same}
-use Rattle.ld_lsn.specs.Number.{epoch_of, esn_of}
+use Rattle.ld_lsn.specs.Number.{epoch_of}
 use Rattle.ld_config.specs.declared.config.Config.{Config}
 use Rattle.ld_schedule.specs.declared.event.Event.{Event}
-use Rattle.ld_msg.specs.declared.msg.What.{What}
 use Rattle.ld_msg.specs.declared.msg.Entry.{Entry}
 use Rattle.ld_msg.specs.declared.msg.Who.{Who}
 use Rattle.ld_msg.specs.declared.msg.Who.TheVariants as whos
@@ -15,7 +13,7 @@ use Rattle.ld_msg.specs.declared.msg.Body.{Body}
 use Rattle.ld_msg.specs.declared.msg.Body.TheVariants as bodies
 use Rattle.ld_op.specs.declared.op.Op.{Op}
 use Rattle.ld_op.specs.declared.op.Op.TheVariants as ops
-use Rattle.ld_op.specs.Plain.{Plain, Log, log_of, is_lost, apply}
+use Rattle.ld_op.specs.Plain.{Plain, log_of, apply}
 use Rattle.ld_op.specs.Handles.{answer_message, ballot_of}
 use Rattle.ld_op.specs.Ticks.{Ticked, Cleans, Rebuilt, Asks, Nothing}
 use Rattle.ld_msg.specs.Register.{Register, epochs_in, generation_of}
@@ -25,7 +23,7 @@ use Rattle.ld_machine.specs.World.{In, from_node}
 use Rattle.ld_machine.specs.World as worlds
 use Rattle.ld_machine.specs.Facts.{Happened}
 use Rattle.ld_machine.specs.Step as Step
-use Rattle.ld_safety.proofs.Lists.{Some_inj, not_none, not_both, only}
+use Rattle.ld_safety.proofs.Lists.{not_none}
 use Rattle.ld_safety.proofs.Members.{find_in}
 use Rattle.ld_safety.proofs.Steps.{sent_by}
 use Rattle.ld_safety.proofs.Events.{NamesOnce, Cases, dispatch, Serves, refreshed, loaded}
@@ -33,9 +31,10 @@ use Rattle.ld_safety.proofs.HoldSteps.{UpFine, released_parts, same_generation, 
 use Rattle.ld_safety.proofs.Carried as carried
 use Rattle.ld_safety.proofs.Protocol.{StoredBy, Ends, Shows}
 use Rattle.ld_safety.proofs.Protocol as protocol
-use Rattle.ld_safety.proofs.Said.{Open, Reached, Said}
-use Rattle.ld_safety.proofs.Settled.{TrimFine, CloseFine, ShowFine, ReleaseFine, close_low}
-use Rattle.ld_safety.proofs.Holdings.{Gone, HeldAt, KeptBy, LogFine, Holding, Unserved, not_served}
+use Rattle.ld_safety.proofs.Said.{Reached, Said}
+use Rattle.ld_safety.proofs.Settled.{TrimFine, CloseFine, ShowFine, ReleaseFine}
+use Rattle.ld_safety.proofs.Holdings.{Holding}
+use Rattle.ld_safety.proofs.Serving.{Unserved, not_served}
 use Rattle.ld_safety.proofs.NodeSteps.{Served}
 use Rattle.ld_safety.proofs.HoldKept.{NodeHolds, CutHolds}
 use Rattle.ld_safety.proofs.CarriedSteps.{Carries}

@@ -1,7 +1,6 @@
 -- What is settled for good: acknowledged appends, trims, closed epochs, and what readers are shown of these.
-use Rattle.std.proofs.Common.{◌≡◌, ◌⊎◌, ◌≤◌, ◌<◌, ℕ, ◌+◌, inl, inr, refl, Bool, true, false, ◌==◌, nat_lt, nat_le, List, ◌++◌, [], ◌∷◌, Some, arith}
+use Rattle.std.proofs.Common.{◌≡◌, ◌⊎◌, ◌≤◌, ◌<◌, ℕ, ◌+◌, inl, inr, Bool, true, false, List, ◌++◌, [], ◌∷◌, Some, arith}
 use Rattle.ld_table.specs.Table.{find}
-use Rattle.ld_table.specs.Words.{how_many, any_of}
 use Rattle.ld_lsn.specs.Number.{epoch_of, esn_of, last_esn}
 use Rattle.ld_ids.specs.declared.set.Spec.{Spec}
 use Rattle.ld_ids.specs.Choice.{nodes_of}

@@ -1,5 +1,5 @@
 -- Each line of the steps so far that acknowledges a number or gives a reader an item is so for good.
-use Rattle.std.proofs.Common.{◌≡◌, ◌∙◌, ◌⊎◌, ◌≤◌, ℕ, inl, inr, refl, ap, sym, subst, Bool, true, false, cond, List, [], ◌∷◌, ◌++◌, Option, Some, None}
+use Rattle.std.proofs.Common.{◌≡◌, ◌⊎◌, ℕ, inl, inr, refl, sym, subst, Bool, true, false, List, [], ◌∷◌, ◌++◌, Option, Some, None}
 use Rattle.ld_lsn.specs.Number.{epoch_of}
 use Rattle.ld_safety.proofs.Said.{Said, Reached}
 use Rattle.ld_table.specs.Named.{find_named}
@@ -13,27 +13,27 @@ use Rattle.ld_msg.specs.declared.msg.What.TheVariants.{Hole}
 use Rattle.ld_msg.specs.declared.msg.Msg.{Msg}
 use Rattle.ld_msg.specs.declared.msg.Who.TheVariants as whos
 use Rattle.ld_msg.specs.declared.msg.Body.{Body}
-use Rattle.ld_msg.specs.Register.{Register, generation_of, epochs_in, epochs_of}
+use Rattle.ld_msg.specs.Register.{Register, generation_of, epochs_in}
 use Rattle.ld_msg.specs.Sequencer.{Sequencer, Acts, called, on_reply, on_retry, rose, Called}
 use Rattle.ld_msg.specs.Reader.{Reader, on_answer}
 use Rattle.ld_op.specs.declared.op.Op.{Op}
 use Rattle.ld_op.specs.declared.op.Op.TheVariants as ops
 use Rattle.ld_op.specs.Ticks.{Ticked, Cleans, Rebuilt, Asks, Nothing}
 use Rattle.ld_machine.specs.Config.{spec_in}
-use Rattle.ld_machine.specs.Disk.{Node, keep_end}
+use Rattle.ld_machine.specs.Disk.{keep_end}
 use Rattle.ld_machine.specs.State.{State, Done, finish, node_at, with_node, with_register}
-use Rattle.ld_machine.specs.Facts.{Happened, Writes, OfLog, ReadsLog, Opening, opening, opening_of}
+use Rattle.ld_machine.specs.Facts.{Happened, Writes, OfLog, ReadsLog, opening_of}
 use Rattle.ld_machine.specs.World.{World, Made, In, begin, made_on}
 use Rattle.ld_machine.specs.Run.{next_world}
 use Rattle.ld_machine.specs.Step as Step
-use Rattle.ld_safety.proofs.Lists.{not_none, In-append, In_right, first_left, slice_get-In}
+use Rattle.ld_safety.proofs.Lists.{not_none, In-append, In_right, first_left}
 use Rattle.ld_safety.proofs.Traces.{happened}
 use Rattle.ld_safety.proofs.Steps.{told, writes_cases}
-use Rattle.ld_safety.proofs.Events.{NamesOnce, Cases, dispatch, Live, Reading, refreshed, loaded, is_quiet}
+use Rattle.ld_safety.proofs.Events.{Cases, dispatch, Live, Reading, refreshed, loaded, is_quiet}
 use Rattle.ld_safety.proofs.Lines.{Group, OfNodes, OfNumbers, OfActs, OfTrims, OfItems, OfMessages, group, AllOf, none_of, one_of, kept_of, format_of, items_of, line_of}
 use Rattle.ld_safety.proofs.ItemLines.{line_cases}
 use Rattle.ld_safety.proofs.ReaderSteps.{answered}
-use Rattle.ld_safety.proofs.Tiles.{Got, AllGot, got_of}
+use Rattle.ld_safety.proofs.Tiles.{AllGot, got_of}
 use Rattle.ld_safety.proofs.Registers.{Up}
 use Rattle.ld_safety.proofs.Base.{Base, counts_of}
 use Rattle.ld_safety.proofs.Given.{of_log_grows}
@@ -185,9 +185,9 @@ module _ (c : Config) (hs : List Happened) (w : World) (e : Event) (B : Base c h
         let lg : x.log ≡ m.log = B.1.1.logs m x.number name x i (inl t) v.named refl in
         let y = Step.sender_node m.from in
         let o = subst (λ k. carried.HeldOk (Said hs w.made w.state.register) (TrimFine c hs w.state.network.sent w.state.register) (CloseFine c hs w.made w.state.network.sent w.state.register) (Reached w.state.register) (ShowFine c hs w.made w.state.network.sent w.state.register) (ReleaseFine c hs w.state.network.sent w.state.register) k m.body) (sym lg)
-            (carried.held_of (Said hs w.made w.state.register) (TrimFine c hs w.state.network.sent w.state.register) (CloseFine c hs w.made w.state.network.sent w.state.register) (Reached w.state.register) (ShowFine c hs w.made w.state.network.sent w.state.register) (ReleaseFine c hs w.state.network.sent w.state.register) m.log m.from m.body (R.said.sent m i)) in
+        (carried.held_of (Said hs w.made w.state.register) (TrimFine c hs w.state.network.sent w.state.register) (CloseFine c hs w.made w.state.network.sent w.state.register) (Reached w.state.register) (ShowFine c hs w.made w.state.network.sent w.state.register) (ReleaseFine c hs w.state.network.sent w.state.register) m.log m.from m.body (R.said.sent m i)) in
         let k = answered (Step.set_read c x) x y m.body (ReadFine c hs w.made w.state.network.sent w.state.register (along.once_before c hs w e B G R) R.once (along.facts_before c hs w e B G R) x.log)
-            (fine_keeps c hs w.made w.state.network.sent w.state.register (along.once_before c hs w e B G R) R.once (along.facts_before c hs w e B G R) x.log (Step.set_read c x) x y m.body (R.said.readers name x v.named) o) in
+        (fine_keeps c hs w.made w.state.network.sent w.state.register (along.once_before c hs w e B G R) R.once (along.facts_before c hs w e B G R) x.log (Step.set_read c x) x y m.body (R.said.readers name x v.named) o) in
         item_lines_told c hs w.made w.state.network.sent w.state.register w.state (along.once_before c hs w e B G R) R.once (along.facts_before c hs w e B G R) name x _ (on_answer (Step.set_read c x) x y m.body).items v.named k.items
 
   acked_now : AckedTold c (hs ++ happened c w.state e ∷ []) w.state (Step.happens c w.state e).lines

@@ -1,17 +1,16 @@
 -- No hole or bridge that a reader gets holds a number that was acknowledged or read as a record, earlier or later.
-use Rattle.std.proofs.Common.{◌≡◌, ◌∙◌, ◌⊎◌, ◌≤◌, ℕ, inl, inr, ap, sym, subst, List, Some, arith}
+use Rattle.std.proofs.Common.{◌≡◌, ◌∙◌, ◌≤◌, ℕ, inl, inr, ap, sym, subst, List, arith}
 use Rattle.ld_safety.proofs.Settled.{Acknowledged}
 use Rattle.ld_config.specs.declared.config.Config.{Config}
 use Rattle.ld_schedule.specs.declared.event.Event.{Event}
 use Rattle.ld_transcript.specs.declared.line.Line.TheVariants as lines
 use Rattle.ld_transcript.specs.declared.line.GapKind.{GapKind}
-use Rattle.ld_transcript.specs.declared.line.GapKind.TheVariants as gaps
 use Rattle.ld_msg.specs.declared.msg.What.TheVariants.{Hole}
 use Rattle.ld_msg.specs.Digest.{Told}
 use Rattle.ld_machine.specs.Config.{spec_in}
-use Rattle.ld_machine.specs.Facts.{Happened, Writes, OfLog, ReadsLog, Opening, Acks, GivesRecord, GivesGap}
+use Rattle.ld_machine.specs.Facts.{Happened, Writes, ReadsLog, Opening, Acks, GivesRecord, GivesGap}
 use Rattle.ld_machine.specs.Safe.{SaysNone, NothingHidden}
-use Rattle.ld_machine.specs.World.{World, In, begin}
+use Rattle.ld_machine.specs.World.{World, In}
 use Rattle.ld_machine.specs.Run.{history}
 use Rattle.ld_safety.proofs.Lists.{Some_inj}
 use Rattle.ld_safety.proofs.Traces.{Keeps, at_end, both_kept, beside_kept}

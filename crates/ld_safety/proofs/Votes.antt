@@ -1,12 +1,12 @@
 -- Nodes that stored a number, counted once each.
-use Rattle.std.proofs.Common.{◌≡◌, ◌∙◌, ◌⊎◌, ◌≤◌, ◌<◌, ◌||◌, ℕ, suc, ◌+◌, inl, inr, refl, ap, sym, subst, Bool, true, false, ◌==◌, if◌then◌else◌, List, [], ◌∷◌, ◌++◌, length, length-append, arith}
+use Rattle.std.proofs.Common.{◌≡◌, ◌⊎◌, ◌≤◌, ◌||◌, ℕ, suc, inl, inr, refl, sym, subst, Bool, true, false, ◌==◌, if◌then◌else◌, List, [], ◌∷◌, ◌++◌, length, length-append, arith}
 use Rattle.std.proofs.lemmas.Bool.{cases_Bool, eqb-true, eq-eqb, or_left, or_right}
 use Rattle.ld_table.specs.Words.{is_in, with_one, how_many}
 use Rattle.ld_ids.specs.declared.set.Spec.{Spec}
 use Rattle.ld_ids.specs.Choice.{nodes_of}
 use Rattle.ld_msg.specs.declared.msg.Msg.{Msg}
 use Rattle.ld_machine.specs.World.{In}
-use Rattle.ld_safety.proofs.Lists.{how_many-yes, how_many-no, count_mono, cond_both, not_both}
+use Rattle.ld_safety.proofs.Lists.{how_many-yes, how_many-no, count_mono}
 use Rattle.ld_safety.proofs.Protocol.{Chosen, tells_stored}
 
 pub in_of : (y : ℕ) (xs : List ℕ) → is_in y xs ≡ true → In y xs
