@@ -1,12 +1,11 @@
--- While an epoch is open, recoveries agree on it, in every state of every run.
-use Rattle.std.proofs.Common.{◌≡◌, ◌∙◌, ◌⊎◌, ◌≤◌, ◌<◌, ℕ, ◌-◌, inl, inr, refl, ap, sym, subst, Bool, true, false, ◌&&◌, ◌==◌, cond, List, [], ◌∷◌, Option, Some, None, arith}
-use Rattle.std.proofs.lemmas.Bool.{cases_Bool, and_parts, eqb-true, leb-true, ne_eqb}
+-- Recoveries agree, in every state of every run.
+use Rattle.std.proofs.Common.{◌≡◌, ◌∙◌, ◌≤◌, ◌<◌, ℕ, ◌-◌, inl, inr, refl, ap, sym, subst, true, false, ◌&&◌, ◌==◌, List, [], ◌∷◌, Option, Some, None, arith}
+use Rattle.std.proofs.lemmas.Bool.{and_parts, eqb-true, leb-true}
 use Rattle.ld_lsn.specs.Number.{epoch_of, esn_of, last_esn}
 use Rattle.ld_config.specs.declared.config.Config.{Config}
 use Rattle.ld_schedule.specs.declared.event.Event.{Event}
 use Rattle.ld_msg.specs.declared.msg.What.{What}
 use Rattle.ld_msg.specs.declared.msg.What.TheVariants.{Bridge}
-use Rattle.ld_msg.specs.declared.msg.Entry.{Entry}
 use Rattle.ld_msg.specs.declared.msg.Who.{Who}
 use Rattle.ld_msg.specs.declared.msg.Who.TheVariants as whos
 use Rattle.ld_msg.specs.declared.msg.Msg.{Msg}
@@ -17,21 +16,20 @@ use Rattle.ld_msg.specs.Digest.{Told, is_bridge, plan_item, plan_end, digest_tri
 use Rattle.ld_op.specs.Handles.{ballot_of}
 use Rattle.ld_machine.specs.Config.{spec_in}
 use Rattle.ld_machine.specs.Facts.{Happened}
-use Rattle.ld_machine.specs.World.{World, Made, In, begin, chosen, HasPlan, item, item_in, append_in, digest_in, is_made, what_sent, stored_what, stores_at, is_sequencer, plan_trim}
-use Rattle.ld_machine.specs.Invariant.{IsOpen}
+use Rattle.ld_machine.specs.World.{World, Made, In, begin, chosen, item, item_in, append_in, digest_in, is_made, what_sent, stored_what, stores_at, is_sequencer}
+use Rattle.ld_machine.specs.Invariant.{Agrees}
 use Rattle.ld_machine.specs.Run.{world_after, trace}
-use Rattle.ld_safety.specs.Agreed.{AgreesOpen}
 use Rattle.ld_safety.proofs.Lists.{Some_inj, not_none, branch, cond_both}
 use Rattle.ld_safety.proofs.Traces.{later}
 use Rattle.ld_safety.proofs.Numbers.{one_payload}
 use Rattle.ld_safety.proofs.Base.{Base}
-use Rattle.ld_safety.proofs.Given.{Place}
 use Rattle.ld_safety.proofs.GivenSteps.{BaseGiven}
 use Rattle.ld_safety.proofs.Plans.{plan_shape, top_most, trim_place_most, end_most}
-use Rattle.ld_safety.proofs.Protocol.{plan_of, Says, PlanSays, Chosen, AppendsOnce, sequencer_who}
-use Rattle.ld_safety.proofs.Said.{Open, Reached, Said, AnyTrim, ClosedIn}
+use Rattle.ld_safety.proofs.Protocol.{plan_of, Says, Chosen, AppendsOnce, sequencer_who}
+use Rattle.ld_safety.proofs.Said.{Reached, Said}
+use Rattle.ld_safety.proofs.Settled.{TrimFine, CloseFine, ShowFine, ReleaseFine}
 use Rattle.ld_safety.proofs.Agreement.{agrees}
-use Rattle.ld_safety.proofs.Plannings.{PlanMade, plan_facts}
+use Rattle.ld_safety.proofs.Plannings.{plan_facts}
 use Rattle.ld_safety.proofs.Along.{Along, along_kept}
 use Rattle.ld_safety.proofs.Carried as carried
 
@@ -74,40 +72,40 @@ module _ (c : Config) (hs : List Happened) (w : World) (B : Base c hs w) (R : Al
 
   store_said : (l n : ℕ) (x : What) → append_in l n w.state.network.sent ≡ Some x → Said hs w.made w.state.register l (epoch_of n) n x
   store_said l n x h = let s = found_store l n w.state.network.sent x h in
-      let z : carried.BodyOk (Said hs w.made w.state.register) AnyTrim (ClosedIn w.state.register) (Reached w.state.register) s.message.log s.message.from (bodies.Store n s.lng x) = subst (carried.BodyOk (Said hs w.made w.state.register) AnyTrim (ClosedIn w.state.register) (Reached w.state.register) s.message.log s.message.from) s.body (R.said.sent s.message s.there) in
+      let z : carried.BodyOk (Said hs w.made w.state.register) (TrimFine c hs w.state.network.sent w.state.register) (CloseFine c hs w.made w.state.network.sent w.state.register) (Reached w.state.register) (ShowFine c hs w.made w.state.network.sent w.state.register) (ReleaseFine c hs w.state.network.sent w.state.register) s.message.log s.message.from (bodies.Store n s.lng x) = subst (carried.BodyOk (Said hs w.made w.state.register) (TrimFine c hs w.state.network.sent w.state.register) (CloseFine c hs w.made w.state.network.sent w.state.register) (Reached w.state.register) (ShowFine c hs w.made w.state.network.sent w.state.register) (ReleaseFine c hs w.state.network.sent w.state.register) s.message.log s.message.from) s.body (R.said.sent s.message s.there) in
       subst (λ k. Said hs w.made w.state.register k (epoch_of n) n x) s.log (subst (λ (k : Who). Said hs w.made w.state.register s.message.log (ballot_of k) n x) s.from z)
 
   bridge_no : (x : What) → x ≡ Bridge → is_bridge x ≡ false → ⊥
   bridge_no x q n = let z : is_bridge x ≡ true = ap is_bridge q in cc
 
-  -- a plan of an open epoch ends in it
-  end_here : (l e b : ℕ) (d : List Told) → Open w.state.register l e → In (plan_of l e b d) w.made → plan_end e d ≤ last_esn
-  end_here l e b d o i = let t = trim_place_most e (digest_trim d) in let p = R.plans l e b d i in
-      let z = end_most e d (last_esn - 1) (top_most (last_esn - 1) d (λ u f j k n. let y = ((p.digest.told u j).frozen o f k).place.below (λ q. bridge_no f.what q n) in omega arith)) t in omega arith
+  -- a plan ends in its epoch
+  end_here : (l e b : ℕ) (d : List Told) → In (plan_of l e b d) w.made → plan_end e d ≤ last_esn
+  end_here l e b d i = let t = trim_place_most e (digest_trim d) in let p = R.plans l e b d i in
+      let z = end_most e d (last_esn - 1) (top_most (last_esn - 1) d (λ u f j k n. let y = ((p.digest.told u j).frozen f k).place.below (λ q. bridge_no f.what q n) in omega arith)) t in omega arith
 
   record Told_here (l n b : ℕ) (x : What) : Type 0 where
     says : Says hs w.made l b n x
     above : 0 < esn_of n
     below : esn_of n < last_esn
 
-  by_plan : (l n b : ℕ) (x : What) → Open w.state.register l (epoch_of n) → (x ≡ Bridge → ⊥) → (o : Option (List Told)) → digest_in l (epoch_of n) b w.made ≡ o → item_in (epoch_of n) (esn_of n) o ≡ Some x → Told_here l n b x
-  by_plan l n b x o nb None q h = absurd (not_none h)
-  by_plan l n b x o nb (Some d) q h =
+  by_plan : (l n b : ℕ) (x : What) → (x ≡ Bridge → ⊥) → (o : Option (List Told)) → digest_in l (epoch_of n) b w.made ≡ o → item_in (epoch_of n) (esn_of n) o ≡ Some x → Told_here l n b x
+  by_plan l n b x nb None q h = absurd (not_none h)
+  by_plan l n b x nb (Some d) q h =
       let i = found_plan l (epoch_of n) b w.made d q in
       let p = R.plans l (epoch_of n) b d i in
       let s = plan_shape (epoch_of n) d (esn_of n) x h in
-      let a = s.above in let en = end_here l (epoch_of n) b d o i in
+      let a = s.above in let en = end_here l (epoch_of n) b d i in
       record {
         says = inr (record { later = p.later; digest = d; planned = i; item = h });
         above = omega arith;
         below = elim s.kind [ inl k ↦ (let y = k.0 in omega arith) | inr k ↦ absurd (nb k.1) ];
       }
 
-  told_here : (l n b : ℕ) (x : What) → Open w.state.register l (epoch_of n) → (x ≡ Bridge → ⊥) → item w l n b ≡ Some x → Told_here l n b x
+  told_here : (l n b : ℕ) (x : What) → (x ≡ Bridge → ⊥) → item w l n b ≡ Some x → Told_here l n b x
   unfolding item
-  told_here l n b x o nb h = elim (branch (b == epoch_of n) (append_in l n w.state.network.sent) (item_in (epoch_of n) (esn_of n) (digest_in l (epoch_of n) b w.made)) (Some x) h) [
-    | inl a ↦ (let s = store_said l n x a.1 in subst (λ k. Told_here l n k x) (sym (eqb-true _ _ a.0)) (record { says = s.says o; above = s.given.place.above; below = s.given.place.below nb }))
-    | inr a ↦ by_plan l n b x o nb (digest_in l (epoch_of n) b w.made) refl a.1
+  told_here l n b x nb h = elim (branch (b == epoch_of n) (append_in l n w.state.network.sent) (item_in (epoch_of n) (esn_of n) (digest_in l (epoch_of n) b w.made)) (Some x) h) [
+    | inl a ↦ (let s = store_said l n x a.1 in subst (λ k. Told_here l n k x) (sym (eqb-true _ _ a.0)) (record { says = s.says; above = s.given.place.above; below = s.given.place.below nb }))
+    | inr a ↦ by_plan l n b x nb (digest_in l (epoch_of n) b w.made) refl a.1
   ]
 
   chosen_here : (l n b : ℕ) → chosen c w l n b ≡ true → Chosen (spec_in l c.logs) w.state.network.sent l n b
@@ -119,14 +117,14 @@ module _ (c : Config) (hs : List Happened) (w : World) (B : Base c hs w) (R : Al
   item_is l n g d x lt q h = cond_both (g == epoch_of n) (append_in l n w.state.network.sent) (item_in (epoch_of n) (esn_of n) (digest_in l (epoch_of n) g w.made)) (λ o. o ≡ Some x)
       (λ t. absurd (let z = eqb-true g (epoch_of n) t in omega arith)) (λ t. ap (item_in (epoch_of n) (esn_of n)) q ∙ h)
 
-  pub agree_here : AgreesOpen c w
-  agree_here l n b g x d o ch it nb lt pl =
-      let t = told_here l n b x o nb it in
+  pub agree_here : Agrees c w
+  agree_here l n b g x d ch it nb lt pl =
+      let t = told_here l n b x nb it in
       let i = found_plan l (epoch_of n) g w.made d pl in
-      elim (agrees hs w.made w.state.network.sent (spec_in l c.logs) once R.once l (Open w.state.register l) (λ e a f u j. plan_facts c hs w.state.network.sent w.made w.state.register l e a f u (R.plans l e a f j)) n b g x d o t.above t.below lt i (chosen_here l n b ch) t.says nb) [
+      elim (agrees hs w.made w.state.network.sent (spec_in l c.logs) once R.once l (λ e. Unit {0}) (λ e a f u j. plan_facts c hs w.state.network.sent w.made w.state.register l e a f (R.plans l e a f j)) n b g x d tt t.above t.below lt i (chosen_here l n b ch) t.says nb) [
         | inl z ↦ inl (item_is l n g d x (R.plans l (epoch_of n) g d i).later pl z)
         | inr z ↦ inr z
       ]
 
-pub recoveries_agree : (c : Config) (es : List Event) → AgreesOpen c (world_after c (begin c) es)
+pub recoveries_agree : (c : Config) (es : List Event) → Agrees c (world_after c (begin c) es)
 recoveries_agree c es = let p = later c (λ hs w. BaseGiven c hs w × Along c hs w) (along_kept c) [] (begin c) es (along_kept c).begins in agree_here c (trace c (begin c) es) (world_after c (begin c) es) p.0.0 p.1

@@ -1,5 +1,5 @@
--- Entries, trims and summaries wherever a state carries them: at nodes, in messages, in digests and plans, at readers, in the register.
-use Rattle.std.proofs.Common.{◌≡◌, ℕ, ◌<◌, ◌≤◌, false, List, Option, Some, None}
+-- Entries, trims, summaries and released numbers wherever a state carries them: at nodes, in messages, in digests and plans, at readers, in the register.
+use Rattle.std.proofs.Common.{◌≡◌, ℕ, ◌<◌, ◌≤◌, Bool, false, List, Option, Some, None}
 use Rattle.ld_op.specs.Handles.{ballot_of}
 use Rattle.ld_table.specs.Table.{find}
 use Rattle.ld_lsn.specs.Number.{epoch_of, esn_of, home_epoch, home_esn, numbered}
@@ -20,13 +20,17 @@ use Rattle.ld_msg.specs.Reader.{Reader}
 use Rattle.ld_op.specs.Plain.{Plain, Log, log_of, epoch_zero}
 use Rattle.ld_machine.specs.World.{In}
 
--- what ballot b says of a number of a log; what is a trim of a log; how an epoch of a log is closed
-module _ (E : ℕ → ℕ → ℕ → What → Type 0) (T : ℕ → ℕ → Type 0) (Y : ℕ → ℕ → Summary → Type 0) (O : ℕ → ℕ → Type 0) where
+-- what ballot b says of a number of a log; what is a trim of a log; how an epoch of a log is closed; which epochs were handed out; what a page, clean or not, may show; what may be released
+module _ (E : ℕ → ℕ → ℕ → What → Type 0) (T : ℕ → ℕ → Type 0) (Y : ℕ → ℕ → Summary → Type 0) (O : ℕ → ℕ → Type 0) (V : ℕ → Bool → Entry → Type 0) (W : ℕ → ℕ → Type 0) where
   abbrev pub EntryOk : ℕ → Entry → Type 0
   EntryOk l e = E l e.ballot e.number e.what
 
   abbrev pub EntriesOk : ℕ → List Entry → Type 0
   EntriesOk l es = (e : Entry) → In e es → EntryOk l e
+
+  -- entries that a page, clean or not, may show
+  abbrev pub ShownOk : ℕ → Bool → List Entry → Type 0
+  ShownOk l clean es = (e : Entry) → In e es → V l clean e
 
   abbrev pub TableOk : ℕ → List (ℕ × Entry) → Type 0
   TableOk l m = (p : ℕ × Entry) → In p m → (p.1.number ≡ p.0) × EntryOk l p.1
@@ -69,7 +73,8 @@ module _ (E : ℕ → ℕ → ℕ → What → Type 0) (T : ℕ → ℕ → Type
   BodyOk l from (bodies.DigestPage n upto t lng es) = PageOk l n upto t es × NodeWho from
   BodyOk l from (bodies.Clean e y) = Y l e y
   BodyOk l from (bodies.Trim t) = T l t
-  BodyOk l from (bodies.ReadPage round n upto clean es) = EntriesOk l es
+  BodyOk l from (bodies.Release r) = W l r
+  BodyOk l from (bodies.ReadPage round n upto clean es) = EntriesOk l es × ShownOk l clean es
   BodyOk l from (bodies.ReadEnded round n end) = EndedOk l n end
   BodyOk l from (bodies.ReadTrim round n t) = T l t
   BodyOk l from _ = Unit {0}
@@ -112,7 +117,7 @@ module _ (E : ℕ → ℕ → ℕ → What → Type 0) (T : ℕ → ℕ → Type
 
   -- an answer that a reader holds
   abbrev pub HeldOk : ℕ → Body → Type 0
-  HeldOk l (bodies.ReadPage round n upto clean es) = EntriesOk l es
+  HeldOk l (bodies.ReadPage round n upto clean es) = EntriesOk l es × ShownOk l clean es
   HeldOk l (bodies.ReadEnded round n end) = EndedOk l n end
   HeldOk l (bodies.ReadTrim round n t) = T l t
   HeldOk l _ = Unit {0}
@@ -136,3 +141,4 @@ module _ (E : ℕ → ℕ → ℕ → What → Type 0) (T : ℕ → ℕ → Type
     pub reached : (l b n : ℕ) (w : What) → E l b n w → O l (epoch_of n)
     pub closing_trim : (l e : ℕ) (y : Summary) → Y l e y → T l y.trim
     pub zero_closed : (l : ℕ) → Y l 0 epoch_zero
+    pub zero_released : (l : ℕ) → W l 0

@@ -1,5 +1,5 @@
 -- What a node keeps and answers carries only what it was given.
-use Rattle.std.proofs.Common.{◌≡◌, ◌∙◌, ◌⊎◌, ◌≤◌, ◌<◌, ℕ, max, inl, inr, refl, ap, sym, subst, Bool, true, false, cond, if◌then◌else◌, suc, nat_lt, nat_le, ◌==◌, List, [], ◌∷◌, length, take, Option, Some, None, arith}
+use Rattle.std.proofs.Common.{◌-◌, ◌≡◌, ◌∙◌, ◌⊎◌, ◌≤◌, ◌<◌, ℕ, max, inl, inr, refl, ap, sym, subst, Bool, true, false, cond, if◌then◌else◌, suc, nat_lt, nat_le, ◌==◌, List, [], ◌∷◌, length, take, Option, Some, None, arith}
 use Rattle.ld_op.specs.Handles.{handled_by, ballot_of}
 use Rattle.std.specs.Option.{unwrap_or}
 use Rattle.std.proofs.lemmas.Bool.{and_parts, leb-true, ltb-true, eqb-true, cases_order}
@@ -8,7 +8,7 @@ use Rattle.std.specs.BTreeMap.{is_at}
 use Rattle.ld_table.specs.Table.{find, put}
 use Rattle.ld_table.specs.Words.{values}
 use Rattle.ld_table.proofs.Laws.{put_cases}
-use Rattle.ld_lsn.specs.Number.{epoch_of, esn_of, home_epoch, numbered, last_esn}
+use Rattle.ld_lsn.specs.Number.{epoch_of, esn_of, home_epoch, numbered, last_esn, home_esn}
 use Rattle.ld_msg.specs.declared.msg.What.{What}
 use Rattle.ld_msg.specs.declared.msg.What.TheVariants.{Rec, Hole, Bridge}
 use Rattle.ld_msg.specs.declared.msg.Entry.{Entry}
@@ -19,8 +19,8 @@ use Rattle.ld_msg.specs.declared.msg.Body.{Body}
 use Rattle.ld_msg.specs.declared.msg.Body.TheVariants as bodies
 use Rattle.ld_op.specs.declared.op.Op.{Op}
 use Rattle.ld_op.specs.declared.op.Op.TheVariants as ops
-use Rattle.ld_op.specs.Plain.{Plain, Log, log_of, empty_log, unformatted, with_log, lost_logs, lost_log, accepted, accept_entry, sealed_by, trimmed_to, cleaned, refill_entries, refilled_with, refilled, apply, epoch_zero, summary_at}
-use Rattle.ld_op.specs.Answers.{Handled, Decision, Lost, CleanAlready, Trimmed, Sealed, Same, Take, store_decision, digest_decision, refusal, store_answer, digest_answer, digest_page, taken, on_store, on_digest_ask, on_clean, clean_op, on_trim, read_answer, entries_within, page_upto, page_limit, last_number}
+use Rattle.ld_op.specs.Plain.{Plain, Log, log_of, empty_log, unformatted, with_log, lost_logs, lost_log, accepted, accept_entry, sealed_by, trimmed_to, cleaned, refill_entries, refilled_with, refilled, apply, epoch_zero, summary_at, is_lost}
+use Rattle.ld_op.specs.Answers.{Handled, Decision, Lost, CleanAlready, Trimmed, Sealed, Same, Take, store_decision, digest_decision, refusal, store_answer, digest_answer, digest_page, taken, on_store, on_digest_ask, on_clean, clean_op, on_trim, read_answer, entries_within, page_upto, page_limit, last_number, readable, lets_read}
 use Rattle.ld_op.specs.Ticks.{on_page, page_op, refill_op, lacking, as_closed, is_missing}
 use Rattle.ld_machine.specs.World.{In}
 use Rattle.ld_safety.proofs.Lists.{Some_inj, cond_both, branch, In-map}
@@ -62,55 +62,55 @@ digest_upto g from p = elim (upto_cases (entries_within g from (numbered (epoch_
   | inr a ↦ subst (DigestUpto from) (sym a) (same_place from (numbered (epoch_of from) last_esn) p (omega arith) (omega arith))
 ]
 
-module _ (E : ℕ → ℕ → ℕ → What → Type 0) (T : ℕ → ℕ → Type 0) (Y : ℕ → ℕ → Summary → Type 0) (O : ℕ → ℕ → Type 0) (K : carried.Sound E T Y O) where
+module _ (E : ℕ → ℕ → ℕ → What → Type 0) (T : ℕ → ℕ → Type 0) (Y : ℕ → ℕ → Summary → Type 0) (O : ℕ → ℕ → Type 0) (V : ℕ → Bool → Entry → Type 0) (W : ℕ → ℕ → Type 0) (K : carried.Sound E T Y O V W) where
   LogFine : ℕ → Log → Type 0
-  LogFine l g = carried.LogOk E T Y O l g
+  LogFine l g = carried.LogOk E T Y O V W l g
 
   -- ---- ops ----
   max_trim : (l a b : ℕ) → T l a → T l b → T l (max a b)
   max_trim l a b x y = elim (cases_le a b) [ inl e ↦ subst (T l) (let z : b ≡ max a b = omega arith in z) y | inr e ↦ subst (T l) (let z : a ≡ max a b = omega arith in z) x ]
 
-  accept_ok : (l : ℕ) (e : Entry) (w : What) (m : List (ℕ × Entry)) → carried.EntryOk E T Y O l e → carried.TableOk E T Y O l m → carried.TableOk E T Y O l (accept_entry e w m)
-  accept_ok l e (Rec p) m h a q i = elim (In_put e.number e m q i) [ inl x ↦ subst (λ (z : ℕ × Entry). (z.1.number ≡ z.0) × carried.EntryOk E T Y O l z.1) (sym x) (refl, h) | inr x ↦ a q x ]
-  accept_ok l e Hole m h a q i = elim (In_put e.number e m q i) [ inl x ↦ subst (λ (z : ℕ × Entry). (z.1.number ≡ z.0) × carried.EntryOk E T Y O l z.1) (sym x) (refl, h) | inr x ↦ a q x ]
-  accept_ok l e Bridge m h a q i = elim (In_put e.number e _ q i) [ inl x ↦ subst (λ (z : ℕ × Entry). (z.1.number ≡ z.0) × carried.EntryOk E T Y O l z.1) (sym x) (refl, h) | inr x ↦ a q (In_keep _ m q x) ]
+  accept_ok : (l : ℕ) (e : Entry) (w : What) (m : List (ℕ × Entry)) → carried.EntryOk E T Y O V W l e → carried.TableOk E T Y O V W l m → carried.TableOk E T Y O V W l (accept_entry e w m)
+  accept_ok l e (Rec p) m h a q i = elim (In_put e.number e m q i) [ inl x ↦ subst (λ (z : ℕ × Entry). (z.1.number ≡ z.0) × carried.EntryOk E T Y O V W l z.1) (sym x) (refl, h) | inr x ↦ a q x ]
+  accept_ok l e Hole m h a q i = elim (In_put e.number e m q i) [ inl x ↦ subst (λ (z : ℕ × Entry). (z.1.number ≡ z.0) × carried.EntryOk E T Y O V W l z.1) (sym x) (refl, h) | inr x ↦ a q x ]
+  accept_ok l e Bridge m h a q i = elim (In_put e.number e _ q i) [ inl x ↦ subst (λ (z : ℕ × Entry). (z.1.number ≡ z.0) × carried.EntryOk E T Y O V W l z.1) (sym x) (refl, h) | inr x ↦ a q (In_keep _ m q x) ]
 
-  refill_ok : (l : ℕ) (es : List Entry) (m : List (ℕ × Entry)) → carried.EntriesOk E T Y O l es → carried.TableOk E T Y O l m → carried.TableOk E T Y O l (refill_entries es m)
+  refill_ok : (l : ℕ) (es : List Entry) (m : List (ℕ × Entry)) → carried.EntriesOk E T Y O V W l es → carried.TableOk E T Y O V W l m → carried.TableOk E T Y O V W l (refill_entries es m)
   refill_ok l [] m h a = a
-  refill_ok l (e ∷ es) m h a = refill_ok l es (put e.number e m) (λ x i. h x (inr i)) (λ q i. elim (In_put e.number e m q i) [ inl x ↦ subst (λ (z : ℕ × Entry). (z.1.number ≡ z.0) × carried.EntryOk E T Y O l z.1) (sym x) (refl, h e (inl refl)) | inr x ↦ a q x ])
+  refill_ok l (e ∷ es) m h a = refill_ok l es (put e.number e m) (λ x i. h x (inr i)) (λ q i. elim (In_put e.number e m q i) [ inl x ↦ subst (λ (z : ℕ × Entry). (z.1.number ≡ z.0) × carried.EntryOk E T Y O V W l z.1) (sym x) (refl, h e (inl refl)) | inr x ↦ a q x ])
 
   -- what an op is given
   abbrev pub OpOk : Op → Type 0
   OpOk (ops.Format generation epochs) = Unit {0}
-  OpOk (ops.Accept l lng e) = carried.EntryOk E T Y O l e
+  OpOk (ops.Accept l lng e) = carried.EntryOk E T Y O V W l e
   OpOk (ops.Seal l b) = Unit {0}
   OpOk (ops.Clean l epoch y) = Y l epoch y
   OpOk (ops.Trim l t) = T l t
-  OpOk (ops.Refill l es) = carried.EntriesOk E T Y O l es
+  OpOk (ops.Refill l es) = carried.EntriesOk E T Y O V W l es
   OpOk (ops.Refilled l) = Unit {0}
 
-  empty_ok : (l : ℕ) (c : ℕ) → carried.LogOk E T Y O l (lost_log c)
+  empty_ok : (l : ℕ) (c : ℕ) → carried.LogOk E T Y O V W l (lost_log c)
   empty_ok l c = record { entries = λ p i. absurd i; trim = K.zero_trim l; summaries = λ p i. absurd i }
 
-  with_log_ok : (p : Plain) (l : ℕ) (g : Log) → carried.PlainOk E T Y O p → carried.LogOk E T Y O l g → carried.PlainOk E T Y O (with_log p l g)
+  with_log_ok : (p : Plain) (l : ℕ) (g : Log) → carried.PlainOk E T Y O V W p → carried.LogOk E T Y O V W l g → carried.PlainOk E T Y O V W (with_log p l g)
   with_log_ok p l g a h m = elim (put_cases m l g p.logs) [
-    | inl e ↦ subst (λ o. carried.LogOk E T Y O m (unwrap_or o empty_log)) (sym e.1) (subst (λ k. carried.LogOk E T Y O k g) (sym e.0) h)
-    | inr e ↦ subst (λ o. carried.LogOk E T Y O m (unwrap_or o empty_log)) (sym e.1) (a m)
+    | inl e ↦ subst (λ o. carried.LogOk E T Y O V W m (unwrap_or o empty_log)) (sym e.1) (subst (λ k. carried.LogOk E T Y O V W k g) (sym e.0) h)
+    | inr e ↦ subst (λ o. carried.LogOk E T Y O V W m (unwrap_or o empty_log)) (sym e.1) (a m)
   ]
 
-  pub blank_ok : carried.PlainOk E T Y O unformatted
+  pub blank_ok : carried.PlainOk E T Y O V W unformatted
   unfolding find
   blank_ok l = record { entries = λ p i. absurd i; trim = K.zero_trim l; summaries = λ p i. absurd i }
 
-  formatted_ok : (ds : List (ℕ × ℕ)) (l : ℕ) → carried.LogOk E T Y O l (unwrap_or (find l (lost_logs ds)) empty_log)
+  formatted_ok : (ds : List (ℕ × ℕ)) (l : ℕ) → carried.LogOk E T Y O V W l (unwrap_or (find l (lost_logs ds)) empty_log)
   unfolding find
   formatted_ok [] l = record { entries = λ p i. absurd i; trim = K.zero_trim l; summaries = λ p i. absurd i }
   formatted_ok (d ∷ ds) l = formatted_or (is_at (nat_cmp l) d.0) (find l (lost_logs ds)) (formatted_ok ds l) where
-    formatted_or : (b : Bool) (o : Option Log) → carried.LogOk E T Y O l (unwrap_or o empty_log) → carried.LogOk E T Y O l (unwrap_or (cond b (Some (lost_log d.1)) o) empty_log)
+    formatted_or : (b : Bool) (o : Option Log) → carried.LogOk E T Y O V W l (unwrap_or o empty_log) → carried.LogOk E T Y O V W l (unwrap_or (cond b (Some (lost_log d.1)) o) empty_log)
     formatted_or true o h = empty_ok l d.1
     formatted_or false o h = h
 
-  pub op_ok : (p : Plain) (o : Op) → carried.PlainOk E T Y O p → OpOk o → carried.PlainOk E T Y O (apply p o)
+  pub op_ok : (p : Plain) (o : Op) → carried.PlainOk E T Y O V W p → OpOk o → carried.PlainOk E T Y O V W (apply p o)
   unfolding apply
   op_ok p (ops.Format generation epochs) a h = formatted_ok epochs
   op_ok p (ops.Accept l lng e) a h = let g = a l in with_log_ok p l (accepted (log_of p l) e) a (record { entries = accept_ok l e e.what (log_of p l).entries h g.entries; trim = g.trim; summaries = g.summaries })
@@ -129,35 +129,35 @@ module _ (E : ℕ → ℕ → ℕ → What → Type 0) (T : ℕ → ℕ → Type
   op_ok p (ops.Refilled l) a h = let g = a l in with_log_ok p l (refilled (log_of p l)) a (record { entries = g.entries; trim = g.trim; summaries = g.summaries })
 
   -- ---- answers ----
-  summary_ok : (l e : ℕ) (g : Log) (y : Summary) → carried.LogOk E T Y O l g → summary_at g e ≡ Some y → Y l e y
+  summary_ok : (l e : ℕ) (g : Log) (y : Summary) → carried.LogOk E T Y O V W l g → summary_at g e ≡ Some y → Y l e y
   unfolding summary_at
   summary_ok l e g y a h = elim (branch (e == 0) (Some epoch_zero) (find e g.summaries) (Some y) h) [
     | inl t ↦ subst (λ k. Y l k y) (sym (eqb-true e 0 t.0)) (subst (λ z. Y l 0 z) (Some_inj t.1) (K.zero_closed l))
     | inr t ↦ a.summaries (e, y) (find_in e g.summaries y t.1)
   ]
 
-  within_ok : (l : ℕ) (g : Log) (from last : ℕ) → carried.LogOk E T Y O l g → carried.EntriesOk E T Y O l (entries_within g from last)
+  within_ok : (l : ℕ) (g : Log) (from last : ℕ) → carried.LogOk E T Y O V W l g → carried.EntriesOk E T Y O V W l (entries_within g from last)
   within_ok l g from last a e i = let f = In_filter _ e (values g.entries) i in let v = In_values e g.entries f.0 in (a.entries (v.0, e) v.1).1
 
   -- an answer to a refused message
-  refused_ok : (l generation s : ℕ) (y : ℕ) (d : Decision) (b : Body) → ((z : Summary) → d ≡ CleanAlready z → (0 < esn_of s) × Y l (epoch_of s) z) → ((t : ℕ) → d ≡ Trimmed t → T l t) → refusal generation s d ≡ Some b → carried.BodyOk E T Y O l (whos.Node y) b
-  refused_ok l generation s y (Lost end) b c t h = subst (carried.BodyOk E T Y O l (whos.Node y)) (Some_inj h) tt
-  refused_ok l generation s y (CleanAlready z) b c t h = subst (carried.BodyOk E T Y O l (whos.Node y)) (Some_inj h) (c z refl)
-  refused_ok l generation s y (Trimmed k) b c t h = subst (carried.BodyOk E T Y O l (whos.Node y)) (Some_inj h) (t k refl)
-  refused_ok l generation s y (Sealed k) b c t h = subst (carried.BodyOk E T Y O l (whos.Node y)) (Some_inj h) tt
+  refused_ok : (l generation s : ℕ) (y : ℕ) (d : Decision) (b : Body) → ((z : Summary) → d ≡ CleanAlready z → (0 < esn_of s) × Y l (epoch_of s) z) → ((t : ℕ) → d ≡ Trimmed t → T l t) → refusal generation s d ≡ Some b → carried.BodyOk E T Y O V W l (whos.Node y) b
+  refused_ok l generation s y (Lost end) b c t h = subst (carried.BodyOk E T Y O V W l (whos.Node y)) (Some_inj h) tt
+  refused_ok l generation s y (CleanAlready z) b c t h = subst (carried.BodyOk E T Y O V W l (whos.Node y)) (Some_inj h) (c z refl)
+  refused_ok l generation s y (Trimmed k) b c t h = subst (carried.BodyOk E T Y O V W l (whos.Node y)) (Some_inj h) (t k refl)
+  refused_ok l generation s y (Sealed k) b c t h = subst (carried.BodyOk E T Y O V W l (whos.Node y)) (Some_inj h) tt
   refused_ok l generation s y Same b c t h = absurd cc
   refused_ok l generation s y Take b c t h = absurd cc
 
-  stored_ok : (l generation s y : ℕ) (g : Log) (d : Decision) (b : Body) → carried.LogOk E T Y O l g → 0 < esn_of s → O l (epoch_of s) → ((z : Summary) → d ≡ CleanAlready z → Y l (epoch_of s) z) → ((t : ℕ) → d ≡ Trimmed t → T l t) → store_answer generation s d ≡ Some b → carried.BodyOk E T Y O l (whos.Node y) b
+  stored_ok : (l generation s y : ℕ) (g : Log) (d : Decision) (b : Body) → carried.LogOk E T Y O V W l g → 0 < esn_of s → O l (epoch_of s) → ((z : Summary) → d ≡ CleanAlready z → Y l (epoch_of s) z) → ((t : ℕ) → d ≡ Trimmed t → T l t) → store_answer generation s d ≡ Some b → carried.BodyOk E T Y O V W l (whos.Node y) b
   stored_ok l generation s y g (Lost end) b a p o c t h = refused_ok l generation s y (Lost end) b (λ z e. absurd cc) t h
   stored_ok l generation s y g (CleanAlready z) b a p o c t h = refused_ok l generation s y (CleanAlready z) b (λ z e. (p, c z e)) t h
   stored_ok l generation s y g (Trimmed k) b a p o c t h = refused_ok l generation s y (Trimmed k) b (λ z e. absurd cc) t h
   stored_ok l generation s y g (Sealed k) b a p o c t h = refused_ok l generation s y (Sealed k) b (λ z e. absurd cc) t h
-  stored_ok l generation s y g Same b a p o c t h = subst (carried.BodyOk E T Y O l (whos.Node y)) (Some_inj h) o
-  stored_ok l generation s y g Take b a p o c t h = subst (carried.BodyOk E T Y O l (whos.Node y)) (Some_inj h) o
+  stored_ok l generation s y g Same b a p o c t h = subst (carried.BodyOk E T Y O V W l (whos.Node y)) (Some_inj h) o
+  stored_ok l generation s y g Take b a p o c t h = subst (carried.BodyOk E T Y O V W l (whos.Node y)) (Some_inj h) o
 
-  page_ok : (l from y : ℕ) (g : Log) → carried.LogOk E T Y O l g → 0 < esn_of from → O l (epoch_of from)
-      → carried.BodyOk E T Y O l (whos.Node y) (digest_page g from (entries_within g from (numbered (epoch_of from) last_esn)) (numbered (epoch_of from) last_esn))
+  page_ok : (l from y : ℕ) (g : Log) → carried.LogOk E T Y O V W l g → 0 < esn_of from → O l (epoch_of from)
+      → carried.BodyOk E T Y O V W l (whos.Node y) (digest_page g from (entries_within g from (numbered (epoch_of from) last_esn)) (numbered (epoch_of from) last_esn))
   page_ok l from y g a p o = let u = digest_upto g from p in (
     record {
       entries = λ e i. within_ok l g from (numbered (epoch_of from) last_esn) a e (In_take page_limit e _ i);
@@ -170,19 +170,19 @@ module _ (E : ℕ → ℕ → ℕ → What → Type 0) (T : ℕ → ℕ → Type
     tt,
   )
 
-  told_ok : (l generation from y : ℕ) (g : Log) (d : Decision) (b : Body) → carried.LogOk E T Y O l g → 0 < esn_of from → O l (epoch_of from) → ((z : Summary) → d ≡ CleanAlready z → Y l (epoch_of from) z) → ((t : ℕ) → d ≡ Trimmed t → T l t) → digest_answer generation g from d ≡ Some b → carried.BodyOk E T Y O l (whos.Node y) b
+  told_ok : (l generation from y : ℕ) (g : Log) (d : Decision) (b : Body) → carried.LogOk E T Y O V W l g → 0 < esn_of from → O l (epoch_of from) → ((z : Summary) → d ≡ CleanAlready z → Y l (epoch_of from) z) → ((t : ℕ) → d ≡ Trimmed t → T l t) → digest_answer generation g from d ≡ Some b → carried.BodyOk E T Y O V W l (whos.Node y) b
   told_ok l generation from y g (Lost end) b a p o c t h = refused_ok l generation from y (Lost end) b (λ z e. absurd cc) t h
   told_ok l generation from y g (CleanAlready z) b a p o c t h = refused_ok l generation from y (CleanAlready z) b (λ z e. (p, c z e)) t h
   told_ok l generation from y g (Trimmed k) b a p o c t h = refused_ok l generation from y (Trimmed k) b (λ z e. absurd cc) t h
   told_ok l generation from y g (Sealed k) b a p o c t h = refused_ok l generation from y (Sealed k) b (λ z e. absurd cc) t h
-  told_ok l generation from y g Same b a p o c t h = subst (carried.BodyOk E T Y O l (whos.Node y)) (Some_inj h) (page_ok l from y g a p o)
-  told_ok l generation from y g Take b a p o c t h = subst (carried.BodyOk E T Y O l (whos.Node y)) (Some_inj h) (page_ok l from y g a p o)
+  told_ok l generation from y g Same b a p o c t h = subst (carried.BodyOk E T Y O V W l (whos.Node y)) (Some_inj h) (page_ok l from y g a p o)
+  told_ok l generation from y g Take b a p o c t h = subst (carried.BodyOk E T Y O V W l (whos.Node y)) (Some_inj h) (page_ok l from y g a p o)
 
   -- what a decision tells
   Telling : ℕ → ℕ → Decision → Type 0
   Telling l s d = ((z : Summary) → d ≡ CleanAlready z → Y l (epoch_of s) z) × ((t : ℕ) → d ≡ Trimmed t → T l t)
 
-  store_tells : (l : ℕ) (g : Log) (e : Entry) → carried.LogOk E T Y O l g → Telling l e.number (store_decision g e)
+  store_tells : (l : ℕ) (g : Log) (e : Entry) → carried.LogOk E T Y O V W l g → Telling l e.number (store_decision g e)
   unfolding Telling
   store_tells l g e a = store_decided g e (Telling l e.number) (record {
     lost = λ t. ((λ z q. absurd cc), (λ k q. absurd cc));
@@ -193,7 +193,7 @@ module _ (E : ℕ → ℕ → ℕ → What → Type 0) (T : ℕ → ℕ → Type
     takes = λ s x y. ((λ z q. absurd cc), (λ k q. absurd cc));
   })
 
-  ask_tells : (l : ℕ) (g : Log) (ballot from : ℕ) → carried.LogOk E T Y O l g → Telling l from (digest_decision g ballot from)
+  ask_tells : (l : ℕ) (g : Log) (ballot from : ℕ) → carried.LogOk E T Y O V W l g → Telling l from (digest_decision g ballot from)
   unfolding Telling
   ask_tells l g ballot from a = ask_decided g ballot from (Telling l from) (record {
     lost = λ t. ((λ z q. absurd cc), (λ k q. absurd cc));
@@ -203,23 +203,31 @@ module _ (E : ℕ → ℕ → ℕ → What → Type 0) (T : ℕ → ℕ → Type
     takes = λ s x. ((λ z q. absurd cc), (λ k q. absurd cc));
   })
 
-  read_ok : (l generation released round from y : ℕ) (g : Log) → carried.LogOk E T Y O l g → carried.BodyOk E T Y O l (whos.Node y) (read_answer generation g released round from)
-  read_ok l generation released round from y g a = read_answered generation g released round from (carried.BodyOk E T Y O l (whos.Node y)) (record {
+  -- what a node's answer to a reader may show
+  pub record Shows (l : ℕ) (g : Log) (released : ℕ) : Type 0 where
+    pub clean : (from : ℕ) (y : Summary) (k : ℕ) (e : Entry) → g.trim < from → summary_at g (home_epoch from) ≡ Some y → home_esn from < y.end → is_lost g (home_epoch from) ≡ false → In (k, e) g.entries → from ≤ e.number → e.number ≤ numbered (home_epoch from) (y.end - 1) → V l true e
+    pub open_still : (from : ℕ) (k : ℕ) (e : Entry) → lets_read released from ≡ true → In (k, e) g.entries → from ≤ e.number → e.number ≤ released → V l false e
+
+  shown_of : (l : ℕ) (clean : Bool) (g : Log) (from last : ℕ) → ((k : ℕ) (e : Entry) → In (k, e) g.entries → from ≤ e.number → e.number ≤ last → V l clean e) → carried.ShownOk E T Y O V W l clean (take page_limit (readable g from last))
+  shown_of l clean g from last h e i = let f = In_filter _ e _ (In_take page_limit e _ i) in let w = within g from last e f.0 in let u = In_filter _ e (values g.entries) f.0 in let v = In_values e g.entries u.0 in h v.0 e v.1 w.0 w.1
+
+  read_ok : (l generation released round from y : ℕ) (g : Log) → carried.LogOk E T Y O V W l g → Shows l g released → carried.BodyOk E T Y O V W l (whos.Node y) (read_answer generation g released round from)
+  read_ok l generation released round from y g a S = read_answered generation g released round from (carried.BodyOk E T Y O V W l (whos.Node y)) (record {
     trimmed = λ h. a.trim;
     ended = λ z x h k. record { summary = z; closed = summary_ok l (home_epoch from) g z a h; past = k; is = refl };
     lost_clean = λ z x h k t. tt;
     lost = λ x h t. tt;
-    clean = λ z x h k t e i. within_ok l g _ _ a e (In_filter _ e _ (In_take page_limit e _ i)).0;
-    open_page = λ x h t u e i. within_ok l g _ _ a e (In_filter _ e _ (In_take page_limit e _ i)).0;
+    clean = λ z x h k t. ((λ e i. within_ok l g _ _ a e (In_filter _ e _ (In_take page_limit e _ i)).0), shown_of l true g from (numbered (home_epoch from) (z.end - 1)) (λ j e u v w. S.clean from z j e x h k t u v w));
+    open_page = λ x h t u. ((λ e i. within_ok l g _ _ a e (In_filter _ e _ (In_take page_limit e _ i)).0), shown_of l false g from released (λ j e v w z. S.open_still from j e u v w z));
     waits = λ x. tt;
   })
 
   -- what a refill is given
   abbrev pub RefillOk : ℕ → Log → List Entry → Type 0
-  RefillOk l g es = (e : Entry) → In e es → is_missing g e.number ≡ true → carried.EntryOk E T Y O l (as_closed g e)
+  RefillOk l g es = (e : Entry) → In e es → is_missing g e.number ≡ true → carried.EntryOk E T Y O V W l (as_closed g e)
 
-  lacking_ok : (l : ℕ) (g : Log) (es : List Entry) → RefillOk l g es → carried.EntriesOk E T Y O l (lacking g es)
-  lacking_ok l g es h x i = let m = In-map (as_closed g) x _ i in let f = In_filter _ m.0 es m.1 in subst (carried.EntryOk E T Y O l) (sym m.2) (h m.0 f.0 f.1)
+  lacking_ok : (l : ℕ) (g : Log) (es : List Entry) → RefillOk l g es → carried.EntriesOk E T Y O V W l (lacking g es)
+  lacking_ok l g es h x i = let m = In-map (as_closed g) x _ i in let f = In_filter _ m.0 es m.1 in subst (carried.EntryOk E T Y O V W l) (sym m.2) (h m.0 f.0 f.1)
 
   -- every message: what is kept
   taken_ok : (o p : Op) (d : Decision) → OpOk o → taken o d ≡ Some p → OpOk p
@@ -234,7 +242,7 @@ module _ (E : ℕ → ℕ → ℕ → What → Type 0) (T : ℕ → ℕ → Type
   clean_ok l e y None p h q = subst OpOk (Some_inj q) h
   clean_ok l e y (Some z) p h q = absurd cc
 
-  refill_op_ok : (l : ℕ) (es : List Entry) (p : Op) → carried.EntriesOk E T Y O l es → refill_op l es ≡ Some p → OpOk p
+  refill_op_ok : (l : ℕ) (es : List Entry) (p : Op) → carried.EntriesOk E T Y O V W l es → refill_op l es ≡ Some p → OpOk p
   refill_op_ok l [] p h q = absurd cc
   refill_op_ok l (e ∷ es) p h q = subst OpOk (Some_inj q) h
 
@@ -242,15 +250,15 @@ module _ (E : ℕ → ℕ → ℕ → What → Type 0) (T : ℕ → ℕ → Type
   if_some true o p h q = h refl q
   if_some false o p h q = absurd cc
 
-  page_keeps : (l : ℕ) (w : Who) (g : Log) (b : Body) (p : Op) → carried.BodyOk E T Y O l w b → ((round n upto : ℕ) (es : List Entry) → b ≡ bodies.ReadPage round n upto true es → RefillOk l g es) → page_op g l b ≡ Some p → OpOk p
+  page_keeps : (l : ℕ) (w : Who) (g : Log) (b : Body) (p : Op) → carried.BodyOk E T Y O V W l w b → ((round n upto : ℕ) (es : List Entry) → b ≡ bodies.ReadPage round n upto true es → RefillOk l g es) → page_op g l b ≡ Some p → OpOk p
   page_keeps l w g (bodies.ReadPage round n upto clean es) p h r q = by_clean clean h r q where
-    by_clean : (k : Bool) → carried.BodyOk E T Y O l w (bodies.ReadPage round n upto k es) → ((a b c : ℕ) (fs : List Entry) → bodies.ReadPage round n upto k es ≡ bodies.ReadPage a b c true fs → RefillOk l g fs) → (if k then refill_op l (lacking g es) else None) ≡ Some p → OpOk p
+    by_clean : (k : Bool) → carried.BodyOk E T Y O V W l w (bodies.ReadPage round n upto k es) → ((a b c : ℕ) (fs : List Entry) → bodies.ReadPage round n upto k es ≡ bodies.ReadPage a b c true fs → RefillOk l g fs) → (if k then refill_op l (lacking g es) else None) ≡ Some p → OpOk p
     by_clean true h r q = refill_op_ok l (lacking g es) p (lacking_ok l g es (r round n upto es refl)) q
     by_clean false h r q = absurd cc
   page_keeps l w g (bodies.ReadTrim round n t) p h r q = if_some (nat_lt g.trim t) (Some (ops.Trim l t)) p (λ u e. subst OpOk (Some_inj e) h) q
   page_keeps l w g _ p h r q = absurd cc
 
-  keeps_page : (l : ℕ) (w : Who) (g : Log) (b : Body) (p : Op) → carried.BodyOk E T Y O l w b → ((round n upto : ℕ) (es : List Entry) → b ≡ bodies.ReadPage round n upto true es → g.lost ≡ true → RefillOk l g es) → (on_page g l b).op ≡ Some p → OpOk p
+  keeps_page : (l : ℕ) (w : Who) (g : Log) (b : Body) (p : Op) → carried.BodyOk E T Y O V W l w b → ((round n upto : ℕ) (es : List Entry) → b ≡ bodies.ReadPage round n upto true es → g.lost ≡ true → RefillOk l g es) → (on_page g l b).op ≡ Some p → OpOk p
   unfolding on_page
   keeps_page l w g b p h r q = if_some g.lost (page_op g l b) p (λ u e. page_keeps l w g b p h (λ x n y es k. r x n y es k u) e) q
 
@@ -260,21 +268,21 @@ module _ (E : ℕ → ℕ → ℕ → What → Type 0) (T : ℕ → ℕ → Type
 
   pub record HandlesOk (l y : ℕ) (h : Handled) : Type 0 where
     pub keeps : (p : Op) → h.op ≡ Some p → OpOk p
-    pub answers : (b : Body) → h.answer ≡ Some b → carried.BodyOk E T Y O l (whos.Node y) b
+    pub answers : (b : Body) → h.answer ≡ Some b → carried.BodyOk E T Y O V W l (whos.Node y) b
 
-  pub message_ok : (generation l released y : ℕ) (g : Log) (w : Who) (b : Body) → carried.LogOk E T Y O l g → carried.BodyOk E T Y O l w b
+  pub message_ok : (generation l released y : ℕ) (g : Log) (w : Who) (b : Body) → carried.LogOk E T Y O V W l g → Shows l g released → carried.BodyOk E T Y O V W l w b
       → ((round n upto : ℕ) (es : List Entry) → b ≡ bodies.ReadPage round n upto true es → g.lost ≡ true → RefillOk l g es) → HandlesOk l y (handled_by generation g l (ballot_of w) released b)
   unfolding on_store on_digest_ask on_clean on_trim Telling
-  message_ok generation l released y g w (bodies.Store n lng x) a h r =
+  message_ok generation l released y g w (bodies.Store n lng x) a S h r =
       let e : Entry = record { number = n; ballot = ballot_of w; what = x } in let t = store_tells l g e a in record {
         keeps = λ p q. taken_ok (ops.Accept l lng e) p (store_decision g e) h q;
         answers = λ b q. stored_ok l generation n y g (store_decision g e) b a (K.place l (ballot_of w) n x h) (K.reached l (ballot_of w) n x h) t.0 t.1 q;
       }
-  message_ok generation l released y g w (bodies.DigestAsk from) a h r = let t = ask_tells l g (ballot_of w) from a in record {
+  message_ok generation l released y g w (bodies.DigestAsk from) a S h r = let t = ask_tells l g (ballot_of w) from a in record {
     keeps = λ p q. taken_ok (ops.Seal l (ballot_of w)) p (digest_decision g (ballot_of w) from) tt q;
     answers = λ b q. told_ok l generation from y g (digest_decision g (ballot_of w) from) b a h.0 h.1 t.0 t.1 q;
   }
-  message_ok generation l released y g w (bodies.Clean e s) a h r = record { keeps = λ p q. clean_ok l e s (summary_at g e) p h q; answers = λ b q. absurd cc }
-  message_ok generation l released y g w (bodies.Trim t) a h r = record { keeps = λ p q. if_some (nat_lt g.trim t) (Some (ops.Trim l t)) p (λ u e. subst OpOk (Some_inj e) h) q; answers = λ b q. absurd cc }
-  message_ok generation l released y g w (bodies.ReadAsk round from) a h r = record { keeps = λ p q. absurd cc; answers = λ b q. subst (carried.BodyOk E T Y O l (whos.Node y)) (Some_inj q) (read_ok l generation released round from y g a) }
-  message_ok generation l released y g w b a h r = record { keeps = λ p q. keeps_page l w g b p h r q; answers = λ x q. absurd (no_answer g l b x q) }
+  message_ok generation l released y g w (bodies.Clean e s) a S h r = record { keeps = λ p q. clean_ok l e s (summary_at g e) p h q; answers = λ b q. absurd cc }
+  message_ok generation l released y g w (bodies.Trim t) a S h r = record { keeps = λ p q. if_some (nat_lt g.trim t) (Some (ops.Trim l t)) p (λ u e. subst OpOk (Some_inj e) h) q; answers = λ b q. absurd cc }
+  message_ok generation l released y g w (bodies.ReadAsk round from) a S h r = record { keeps = λ p q. absurd cc; answers = λ b q. subst (carried.BodyOk E T Y O V W l (whos.Node y)) (Some_inj q) (read_ok l generation released round from y g a S) }
+  message_ok generation l released y g w b a S h r = record { keeps = λ p q. keeps_page l w g b p h r q; answers = λ x q. absurd (no_answer g l b x q) }

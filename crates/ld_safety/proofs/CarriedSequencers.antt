@@ -17,7 +17,7 @@ use Rattle.ld_msg.specs.declared.msg.Body.{Body}
 use Rattle.ld_msg.specs.declared.msg.Body.TheVariants as bodies
 use Rattle.ld_msg.specs.Register.{Register, Granted, lce_of, close}
 use Rattle.ld_msg.specs.Digest.{Told, told_nothing, no_digest, told_page, takes_page, with_page, enough, told_lost, with_lost, Item, plan, digest_trim}
-use Rattle.ld_msg.specs.Sequencer.{Sequencer, Recovery, Stage, Seals, Stores, Closes, Storing, Append, Planned, Acts, does_nothing, to_each, digest_asks, next_ask, recovery_of, recovery_asks, planned, item_stores, settle, settled_by, summary_of, lost_stage, stored_at, unacked_from, is_acked, own_spec, raised, append_stores, next_wave, takes_any, is_ready, activated, bare, Called, acted_messages, release_messages}
+use Rattle.ld_msg.specs.Sequencer.{Sequencer, Recovery, Stage, Seals, Stores, Closes, Storing, Append, Planned, Acts, does_nothing, to_each, digest_asks, next_ask, recovery_of, recovery_asks, planned, item_stores, settle, settled_by, summary_of, lost_stage, stored_at, unacked_from, is_acked, own_spec, raised, append_stores, next_wave, takes_any, is_ready, activated, bare, Called, acted_messages, release_messages, released_of}
 use Rattle.ld_machine.specs.Config.{spec_in}
 use Rattle.ld_machine.specs.World.{In, Made}
 use Rattle.ld_safety.proofs.Lists.{cond_both, In-append, In-map}
@@ -25,9 +25,9 @@ use Rattle.ld_safety.proofs.Members.{find_in, In_put}
 use Rattle.ld_safety.proofs.SequencerSteps.{Settling, Closing, Acting, Retrying, acts_with}
 use Rattle.ld_safety.proofs.Carried as carried
 
-module _ (E : ℕ → ℕ → ℕ → What → Type 0) (T : ℕ → ℕ → Type 0) (Y : ℕ → ℕ → Summary → Type 0) (O : ℕ → ℕ → Type 0) (K : carried.Sound E T Y O) where
+module _ (E : ℕ → ℕ → ℕ → What → Type 0) (T : ℕ → ℕ → Type 0) (Y : ℕ → ℕ → Summary → Type 0) (O : ℕ → ℕ → Type 0) (V : ℕ → Bool → Entry → Type 0) (W : ℕ → ℕ → Type 0) (K : carried.Sound E T Y O V W) where
   pub record BodiesOk (l b : ℕ) (bs : List (ℕ × Body)) : Type 0 where
-    pub each : (x : ℕ × Body) → In x bs → carried.BodyOk E T Y O l (whos.Sequencer b) x.1
+    pub each : (x : ℕ × Body) → In x bs → carried.BodyOk E T Y O V W l (whos.Sequencer b) x.1
 
   -- ---- messages ----
   none_ok : (l b : ℕ) → BodiesOk l b []
@@ -36,13 +36,13 @@ module _ (E : ℕ → ℕ → ℕ → What → Type 0) (T : ℕ → ℕ → Type
   both_ok : (l b : ℕ) (xs ys : List (ℕ × Body)) → BodiesOk l b xs → BodiesOk l b ys → BodiesOk l b (xs ++ ys)
   both_ok l b xs ys h g = record { each = λ x i. elim (In-append x xs ys i) [ inl a ↦ h.each x a | inr a ↦ g.each x a ] }
 
-  one_more : (l b : ℕ) (y : ℕ × Body) (ys : List (ℕ × Body)) → carried.BodyOk E T Y O l (whos.Sequencer b) y.1 → BodiesOk l b ys → BodiesOk l b (y ∷ ys)
+  one_more : (l b : ℕ) (y : ℕ × Body) (ys : List (ℕ × Body)) → carried.BodyOk E T Y O V W l (whos.Sequencer b) y.1 → BodiesOk l b ys → BodiesOk l b (y ∷ ys)
   one_more l b y ys h r = record { each = λ x i. more x i } where
-    more : (x : ℕ × Body) → In x (y ∷ ys) → carried.BodyOk E T Y O l (whos.Sequencer b) x.1
-    more x (inl e) = subst (λ (z : ℕ × Body). carried.BodyOk E T Y O l (whos.Sequencer b) z.1) (sym e) h
+    more : (x : ℕ × Body) → In x (y ∷ ys) → carried.BodyOk E T Y O V W l (whos.Sequencer b) x.1
+    more x (inl e) = subst (λ (z : ℕ × Body). carried.BodyOk E T Y O V W l (whos.Sequencer b) z.1) (sym e) h
     more x (inr i) = r.each x i
 
-  pub each_ok : (l b : ℕ) (body : Body) (ys : List ℕ) → carried.BodyOk E T Y O l (whos.Sequencer b) body → BodiesOk l b (to_each body ys)
+  pub each_ok : (l b : ℕ) (body : Body) (ys : List ℕ) → carried.BodyOk E T Y O V W l (whos.Sequencer b) body → BodiesOk l b (to_each body ys)
   each_ok l b body [] h = none_ok l b
   each_ok l b body (y ∷ ys) h = one_more l b (y, body) (to_each body ys) h (each_ok l b body ys h)
 
@@ -51,9 +51,9 @@ module _ (E : ℕ → ℕ → ℕ → What → Type 0) (T : ℕ → ℕ → Type
   if_ok l b false xs ys h g = g
 
   abbrev pub DigestOk : ℕ → ℕ → List Told → Type 0
-  DigestOk l e d = (t : Told) → In t d → carried.ToldOk E T Y O l e t
+  DigestOk l e d = (t : Told) → In t d → carried.ToldOk E T Y O V W l e t
 
-  ask_of : (l b e z : ℕ) (t : Told) (xs ys : List (ℕ × Body)) → O l e → carried.ToldOk E T Y O l e t → BodiesOk l b xs → BodiesOk l b ys → (k : Bool) → t.whole ≡ k → BodiesOk l b (if k then xs else (z, bodies.DigestAsk t.asked) ∷ ys)
+  ask_of : (l b e z : ℕ) (t : Told) (xs ys : List (ℕ × Body)) → O l e → carried.ToldOk E T Y O V W l e t → BodiesOk l b xs → BodiesOk l b ys → (k : Bool) → t.whole ≡ k → BodiesOk l b (if k then xs else (z, bodies.DigestAsk t.asked) ∷ ys)
   ask_of l b e z t xs ys o h a c true w = a
   ask_of l b e z t xs ys o h a c false w = let k = h.asks w in one_more l b _ ys (k.0, subst (O l) (sym k.1) o) c
 
@@ -77,26 +77,26 @@ module _ (E : ℕ → ℕ → ℕ → What → Type 0) (T : ℕ → ℕ → Type
   numbered_place e = (omega arith, omega arith)
 
   fresh_digest : (l : ℕ) (s : Spec) (e : ℕ) → DigestOk l e (no_digest s e)
-  fresh_digest l s e t i = let m = In-map (told_nothing e) t (nodes_of s) i in subst (carried.ToldOk E T Y O l e) (sym m.2) (record { entries = λ x j. absurd j; trim = K.zero_trim l; asks = λ w. numbered_place e })
+  fresh_digest l s e t i = let m = In-map (told_nothing e) t (nodes_of s) i in subst (carried.ToldOk E T Y O V W l e) (sym m.2) (record { entries = λ x j. absurd j; trim = K.zero_trim l; asks = λ w. numbered_place e })
 
   whole_by : (e upto : ℕ) → nat_le (numbered e last_esn) upto ≡ false → 0 < esn_of upto → epoch_of upto ≡ e → (0 < esn_of (upto + 1)) × (epoch_of (upto + 1) ≡ e)
   whole_by e upto w p q = let n = leb-false (numbered e last_esn) upto w in (omega arith, omega arith)
 
-  page_told : (l e y from upto trim : ℕ) (es : List Entry) (t : Told) → carried.PageOk E T Y O l from upto trim es → epoch_of from ≡ e → carried.ToldOk E T Y O l e t → carried.ToldOk E T Y O l e (told_page e upto trim es t)
+  page_told : (l e y from upto trim : ℕ) (es : List Entry) (t : Told) → carried.PageOk E T Y O V W l from upto trim es → epoch_of from ≡ e → carried.ToldOk E T Y O V W l e t → carried.ToldOk E T Y O V W l e (told_page e upto trim es t)
   page_told l e y from upto trim es t p q h = record {
     entries = λ x i. elim (In-append x t.entries es i) [ inl a ↦ h.entries x a | inr a ↦ p.entries x a ];
     trim = max_trim l _ _ h.trim p.trim;
     asks = λ w. whole_by e upto w p.upto_place (p.same_epoch ∙ q);
   }
 
-  with_page_ok : (l e y from upto trim : ℕ) (es : List Entry) (d : List Told) → carried.PageOk E T Y O l from upto trim es → epoch_of from ≡ e → DigestOk l e d → DigestOk l e (with_page e y from upto trim es d)
+  with_page_ok : (l e y from upto trim : ℕ) (es : List Entry) (d : List Told) → carried.PageOk E T Y O V W l from upto trim es → epoch_of from ≡ e → DigestOk l e d → DigestOk l e (with_page e y from upto trim es d)
   unfolding with_page
   with_page_ok l e y from upto trim es d p q h t i = let m = In-map (λ t. if takes_page y from t then told_page e upto trim es t else t) t d i in
-      subst (carried.ToldOk E T Y O l e) (sym m.2) (cond_both (takes_page y from m.0) (told_page e upto trim es m.0) m.0 (carried.ToldOk E T Y O l e) (λ u. page_told l e y from upto trim es m.0 p q (h m.0 m.1)) (λ u. h m.0 m.1))
+      subst (carried.ToldOk E T Y O V W l e) (sym m.2) (cond_both (takes_page y from m.0) (told_page e upto trim es m.0) m.0 (carried.ToldOk E T Y O V W l e) (λ u. page_told l e y from upto trim es m.0 p q (h m.0 m.1)) (λ u. h m.0 m.1))
 
   with_lost_ok : (l e y : ℕ) (d : List Told) → DigestOk l e d → DigestOk l e (with_lost y d)
   unfolding with_lost
-  with_lost_ok l e y d h t i = let m = In-map (told_lost y) t d i in let u = h m.0 m.1 in subst (carried.ToldOk E T Y O l e) (sym m.2) (record { entries = u.entries; trim = u.trim; asks = u.asks })
+  with_lost_ok l e y d h t i = let m = In-map (told_lost y) t d i in let u = h m.0 m.1 in subst (carried.ToldOk E T Y O V W l e) (sym m.2) (record { entries = u.entries; trim = u.trim; asks = u.asks })
 
   digest_trim_ok : (l e : ℕ) (d : List Told) → DigestOk l e d → T l (digest_trim d)
   unfolding digest_trim
@@ -125,32 +125,32 @@ module _ (E : ℕ → ℕ → ℕ → What → Type 0) (T : ℕ → ℕ → Type
   settle_ok l b p y (j ∷ is) h x (inr i) = settle_ok l b p y is (λ z k. h z (inr k)) x i
 
   -- ---- appends ----
-  unacked_ok : (l b : ℕ) (s : Spec) (m : List (ℕ × Append)) → carried.AppendsOk E T Y O l b m → carried.AppendsOk E T Y O l b (unacked_from s m)
+  unacked_ok : (l b : ℕ) (s : Spec) (m : List (ℕ × Append)) → carried.AppendsOk E T Y O V W l b m → carried.AppendsOk E T Y O V W l b (unacked_from s m)
   unacked_ok l b s [] h x i = absurd i
   unacked_ok l b s (p ∷ m) h x i = unacked_by (is_acked s p.1) (unacked_ok l b s m (λ y k. h y (inr k)) x) i where
     unacked_by : (t : Bool) → (In x (unacked_from s m) → E l b x.0 (Rec x.1.payload)) → In x (if t then unacked_from s m else p ∷ m) → E l b x.0 (Rec x.1.payload)
     unacked_by true ih i = ih i
     unacked_by false ih i = h x i
 
-  acks_ok : (s : Spec) (q : Sequencer) (y n : ℕ) (p : Append) → carried.AppendsOk E T Y O q.log q.epoch q.appends → find n q.appends ≡ Some p → carried.AppendsOk E T Y O q.log q.epoch (unacked_from s (put n (stored_at p y) q.appends))
+  acks_ok : (s : Spec) (q : Sequencer) (y n : ℕ) (p : Append) → carried.AppendsOk E T Y O V W q.log q.epoch q.appends → find n q.appends ≡ Some p → carried.AppendsOk E T Y O V W q.log q.epoch (unacked_from s (put n (stored_at p y) q.appends))
   acks_ok s q y n p h f = unacked_ok q.log q.epoch s (put n (stored_at p y) q.appends) (λ x i. elim (In_put n (stored_at p y) q.appends x i) [
     | inl e ↦ subst (λ (z : ℕ × Append). E q.log q.epoch z.0 (Rec z.1.payload)) (sym e) (h (n, p) (find_in n q.appends p f))
     | inr j ↦ h x j
   ])
 
-  raised_ok : (l b : ℕ) (s : Spec) (m : List (ℕ × Append)) → carried.AppendsOk E T Y O l b m → carried.AppendsOk E T Y O l b (raised s m)
+  raised_ok : (l b : ℕ) (s : Spec) (m : List (ℕ × Append)) → carried.AppendsOk E T Y O V W l b m → carried.AppendsOk E T Y O V W l b (raised s m)
   raised_ok l b s [] h x i = absurd i
   raised_ok l b s (p ∷ m) h x (inl e) = subst (λ (z : ℕ × Append). E l b z.0 (Rec z.1.payload)) (sym e) (cond_both (is_acked s p.1) p.1 _ (λ (z : Append). E l b p.0 (Rec z.payload)) (λ t. h p (inl refl)) (λ t. h p (inl refl)))
   raised_ok l b s (p ∷ m) h x (inr i) = raised_ok l b s m (λ y k. h y (inr k)) x i
 
-  append_stores_ok : (l b : ℕ) (s : Spec) (lost : List ℕ) (m : List (ℕ × Append)) → carried.AppendsOk E T Y O l b m → BodiesOk l b (append_stores s lost m)
+  append_stores_ok : (l b : ℕ) (s : Spec) (lost : List ℕ) (m : List (ℕ × Append)) → carried.AppendsOk E T Y O V W l b m → BodiesOk l b (append_stores s lost m)
   append_stores_ok l b s lost [] h = none_ok l b
   append_stores_ok l b s lost (p ∷ m) h = both_ok l b _ _ (if_ok l b _ _ _ (none_ok l b) (each_ok l b _ (without p.1.stored (choice s lost p.0 p.1.wave)) (h p (inl refl)))) (append_stores_ok l b s lost m (λ y k. h y (inr k)))
 
   -- ---- a recovery that begins ----
-  begins_ok : (l : ℕ) (s : Spec) (q : Sequencer) (lce : ℕ) → ((e : ℕ) → 0 < e → e < q.epoch → O l e) → carried.RecoveryOk E T Y O l q.epoch (recovery_of s q lce)
+  begins_ok : (l : ℕ) (s : Spec) (q : Sequencer) (lce : ℕ) → ((e : ℕ) → 0 < e → e < q.epoch → O l e) → carried.RecoveryOk E T Y O V W l q.epoch (recovery_of s q lce)
   begins_ok l s q lce C = begins_by (nat_lt (lce + 1) q.epoch) refl where
-    begins_by : (t : Bool) → nat_lt (lce + 1) q.epoch ≡ t → carried.RecoveryOk E T Y O l q.epoch (if t then Some (record { epoch = lce + 1; lost = []; stage = Seals (no_digest (at_epoch s (lce + 1)) (lce + 1)) }) else None)
+    begins_by : (t : Bool) → nat_lt (lce + 1) q.epoch ≡ t → carried.RecoveryOk E T Y O V W l q.epoch (if t then Some (record { epoch = lce + 1; lost = []; stage = Seals (no_digest (at_epoch s (lce + 1)) (lce + 1)) }) else None)
     begins_by true h = ((omega arith, ltb-true (lce + 1) q.epoch h, C (lce + 1) (omega arith) (ltb-true (lce + 1) q.epoch h)), fresh_digest l (at_epoch s (lce + 1)) (lce + 1))
     begins_by false h = tt
 
@@ -160,22 +160,22 @@ module _ (E : ℕ → ℕ → ℕ → What → Type 0) (T : ℕ → ℕ → Type
     begins_by true h = asks_ok l b (lce + 1) _ (C (lce + 1) (omega arith) (ltb-true (lce + 1) q.epoch h)) (fresh_digest l (at_epoch s (lce + 1)) (lce + 1))
     begins_by false h = none_ok l b
 
-  pub activated_ok : (name : List ℕ) (s : Spec) (l e lce : ℕ) → ((k : ℕ) → 0 < k → k < e → O l k) → carried.SequencerOk E T Y O name (activated s l e lce)
+  pub activated_ok : (name : List ℕ) (s : Spec) (l e lce : ℕ) → ((k : ℕ) → 0 < k → k < e → O l k) → carried.SequencerOk E T Y O V W name (activated s l e lce)
   unfolding activated
   activated_ok name s l e lce C = record { appends = λ p i. absurd i; recovery = begins_ok l s (bare l e lce) lce C }
 
   -- ---- a call ----
   pub record CalledOk (name : List ℕ) (q : Sequencer) (k : Called) : Type 0 where
-    pub sequencer : carried.SequencerOk E T Y O name k.acts.sequencer
+    pub sequencer : carried.SequencerOk E T Y O V W name k.acts.sequencer
     pub cleans : BodiesOk q.log q.epoch k.acts.cleans
     pub asks : BodiesOk q.log q.epoch k.acts.asks
     pub stores : BodiesOk q.log q.epoch k.acts.stores
 
-  release_ok : (p : Spec) (l b : ℕ) (old new : Sequencer) → BodiesOk l b (release_messages p old new)
-  release_ok p l b old new = if_ok l b _ _ _ (each_ok l b _ _ tt) (none_ok l b)
+  release_ok : (p : Spec) (l b : ℕ) (old new : Sequencer) → W l (released_of new) → BodiesOk l b (release_messages p old new)
+  release_ok p l b old new h = if_ok l b _ _ _ (each_ok l b _ _ h) (none_ok l b)
 
-  pub messages_ok : (p : Spec) (name : List ℕ) (q : Sequencer) (k : Called) → CalledOk name q k → BodiesOk q.log q.epoch (acted_messages p q k.acts)
-  messages_ok p name q k h = both_ok q.log q.epoch _ _ h.cleans (both_ok q.log q.epoch _ _ (release_ok p q.log q.epoch q k.acts.sequencer) (both_ok q.log q.epoch _ _ h.asks h.stores))
+  pub messages_ok : (p : Spec) (name : List ℕ) (q : Sequencer) (k : Called) → CalledOk name q k → W q.log (released_of k.acts.sequencer) → BodiesOk q.log q.epoch (acted_messages p q k.acts)
+  messages_ok p name q k h r = both_ok q.log q.epoch _ _ h.cleans (both_ok q.log q.epoch _ _ (release_ok p q.log q.epoch q k.acts.sequencer r) (both_ok q.log q.epoch _ _ h.asks h.stores))
 
   -- the summary with which a recovery is closed: it was tried before, or the plan is ready
   pub data Ending (c : Config) (q : Sequencer) (heard : ℕ → Body → Type 0) (v : Recovery) (y : Summary) : Type 0 where
@@ -185,7 +185,7 @@ module _ (E : ℕ → ℕ → ℕ → What → Type 0) (T : ℕ → ℕ → Type
   -- the call that is made, and the plans that it makes
   module _ (name : List ℕ) (q : Sequencer) (r : Register) (call : Called) (plans_made : List Made) (C : (e : ℕ) → 0 < e → e < q.epoch → O q.log e) where
     -- a sequencer with other stages and the like, and no message
-    quiet_ok : (a : Acts) → carried.SequencerOk E T Y O name a.sequencer → BodiesOk q.log q.epoch a.cleans → BodiesOk q.log q.epoch a.asks → BodiesOk q.log q.epoch a.stores → CalledOk name q (acts_with r a)
+    quiet_ok : (a : Acts) → carried.SequencerOk E T Y O V W name a.sequencer → BodiesOk q.log q.epoch a.cleans → BodiesOk q.log q.epoch a.asks → BodiesOk q.log q.epoch a.stores → CalledOk name q (acts_with r a)
     quiet_ok a h x y z = record { sequencer = h; cleans = x; asks = y; stores = z }
 
     ap_register : {n : Register} {a : Acts} → call ≡ record { acts = a; register = n } → call.register ≡ n
@@ -195,7 +195,7 @@ module _ (E : ℕ → ℕ → ℕ → What → Type 0) (T : ℕ → ℕ → Type
     with_plans p s a e y h = record { granted = λ n i j w m. h.granted n i j w; overtaken = λ i w m. h.overtaken i w; behind = λ b i w m. h.behind b i w; failed = λ n j w m. h.failed n j w }
 
     -- the close: what it closes with is sound
-    close_ok : (s : Spec) (a : Acts) (e : ℕ) (y : Summary) → a.sequencer.log ≡ q.log → a.sequencer.epoch ≡ q.epoch → carried.AppendsOk E T Y O a.sequencer.log a.sequencer.epoch a.sequencer.appends → carried.SequencerOk E T Y O name a.sequencer → BodiesOk q.log q.epoch a.cleans → BodiesOk q.log q.epoch a.asks → BodiesOk q.log q.epoch a.stores
+    close_ok : (s : Spec) (a : Acts) (e : ℕ) (y : Summary) → a.sequencer.log ≡ q.log → a.sequencer.epoch ≡ q.epoch → carried.AppendsOk E T Y O V W a.sequencer.log a.sequencer.epoch a.sequencer.appends → carried.SequencerOk E T Y O V W name a.sequencer → BodiesOk q.log q.epoch a.cleans → BodiesOk q.log q.epoch a.asks → BodiesOk q.log q.epoch a.stores
         → ((n : Register) → lce_of r a.sequencer.log + 1 ≡ e → close r a.sequencer.log e y ≡ record { register = n; answer = Granted } → call.register ≡ n → Y q.log e y)
         → Closing r s a e y (λ k. call ≡ k → CalledOk name q k)
     close_ok s a e y o oe ap h x m z g = let D : (k : ℕ) → 0 < k → k < a.sequencer.epoch → O a.sequencer.log k = λ k u v. subst (λ l. O l k) (sym o) (C k u (omega arith)) in record {
@@ -210,18 +210,18 @@ module _ (E : ℕ → ℕ → ℕ → What → Type 0) (T : ℕ → ℕ → Type
       failed = λ n j w. record { sequencer = h; cleans = x; asks = m; stores = z };
     }
 
-    module _ (c : Config) (heard : ℕ → Body → Type 0) (P0 : carried.SequencerOk E T Y O name q)
+    module _ (c : Config) (heard : ℕ → Body → Type 0) (P0 : carried.SequencerOk E T Y O V W name q)
         (grants : (v : Recovery) (y : Summary) (n : Register) → q.recovery ≡ Some v → Ending c q heard v y → lce_of r q.log + 1 ≡ v.epoch → close r q.log v.epoch y ≡ record { register = n; answer = Granted } → call.register ≡ n → Y q.log v.epoch y) where
       same_ok : CalledOk name q (acts_with r (does_nothing q))
       same_ok = quiet_ok (does_nothing q) P0 (none_ok q.log q.epoch) (none_ok q.log q.epoch) (none_ok q.log q.epoch)
 
-      stage_of : (v : Recovery) (g : Stage) → q.recovery ≡ Some v → v.stage ≡ g → carried.StageOk E T Y O q.log q.epoch v.epoch g
-      stage_of v g e f = subst (carried.StageOk E T Y O q.log q.epoch v.epoch) f (subst (carried.RecoveryOk E T Y O q.log q.epoch) e P0.recovery).1
+      stage_of : (v : Recovery) (g : Stage) → q.recovery ≡ Some v → v.stage ≡ g → carried.StageOk E T Y O V W q.log q.epoch v.epoch g
+      stage_of v g e f = subst (carried.StageOk E T Y O V W q.log q.epoch v.epoch) f (subst (carried.RecoveryOk E T Y O V W q.log q.epoch) e P0.recovery).1
 
       below : (v : Recovery) → q.recovery ≡ Some v → (0 < v.epoch) × (v.epoch < q.epoch) × O q.log v.epoch
-      below v e = (subst (carried.RecoveryOk E T Y O q.log q.epoch) e P0.recovery).0
+      below v e = (subst (carried.RecoveryOk E T Y O V W q.log q.epoch) e P0.recovery).0
 
-      pub acting_ok : (y : ℕ) (b : Body) → heard y b → carried.ReplyOk E T Y O q.log b
+      pub acting_ok : (y : ℕ) (b : Body) → heard y b → carried.ReplyOk E T Y O V W q.log b
           → ((v : Recovery) (d : List Told) (from upto trim lng : ℕ) (es : List Entry) → q.preempted ≡ None → q.recovery ≡ Some v → v.stage ≡ Seals d → b ≡ bodies.DigestPage from upto trim lng es → v.epoch ≡ epoch_of from → takes_any y from d ≡ true
           → enough (spec_in q.log c.logs) (with_page v.epoch y from upto trim es d) ≡ true → DigestOk q.log v.epoch (with_page v.epoch y from upto trim es d)
           → plans_made ≡ record { log = q.log; epoch = v.epoch; ballot = q.epoch; digest = with_page v.epoch y from upto trim es d } ∷ []
@@ -238,7 +238,7 @@ module _ (E : ℕ → ℕ → ℕ → What → Type 0) (T : ℕ → ℕ → Type
             (λ n i j x. grants v _ n e (ready_now g p y b H s h u refl) i j x));
         lost_own = λ n round g end f i h w m. quiet_ok _ (record { appends = P0.appends; recovery = P0.recovery }) (none_ok _ _) (none_ok _ _) (none_ok _ _);
         lost_there = λ v n round g end f e i h w m. quiet_ok _ (record { appends = P0.appends; recovery = (below v e, lost_ok v y e v.stage refl) }) (none_ok _ _) (none_ok _ _) (none_ok _ _);
-        cleaned = λ v n s f e i h w m. let z : carried.ReplyOk E T Y O q.log (bodies.CleanHere n s) = subst (carried.ReplyOk E T Y O q.log) i B in
+        cleaned = λ v n s f e i h w m. let z : carried.ReplyOk E T Y O V W q.log (bodies.CleanHere n s) = subst (carried.ReplyOk E T Y O V W q.log) i B in
             quiet_ok _ (record { appends = P0.appends; recovery = begins_ok q.log (spec_in q.log c.logs) q v.epoch C })
             (each_ok q.log q.epoch _ (nodes_of (spec_in q.log c.logs)) (subst (λ k. Y q.log k s) (sym (home_of n z.0) ∙ h) z.1)) (begin_asks_ok q.log q.epoch (spec_in q.log c.logs) q v.epoch C) (none_ok _ _);
         asks_more = λ v d from upto trim lng es f e h i g t u w m. let z = page_next v d from upto trim lng es e h i g in
@@ -249,13 +249,13 @@ module _ (E : ℕ → ℕ → ℕ → What → Type 0) (T : ℕ → ℕ → Type
         home_of : (n : ℕ) → 0 < esn_of n → home_epoch n ≡ epoch_of n
         home_of n h = cond_both ((esn_of n == 0) && nat_lt 0 (epoch_of n)) _ (epoch_of n) (λ x. x ≡ epoch_of n) (λ t. absurd (let p = and_parts (esn_of n == 0) (nat_lt 0 (epoch_of n)) t in let q = eqb-true (esn_of n) 0 p.0 in omega arith)) (λ t. refl)
 
-        lost_ok : (v : Recovery) (y : ℕ) → q.recovery ≡ Some v → (g : Stage) → v.stage ≡ g → carried.StageOk E T Y O q.log q.epoch v.epoch (lost_stage y g)
+        lost_ok : (v : Recovery) (y : ℕ) → q.recovery ≡ Some v → (g : Stage) → v.stage ≡ g → carried.StageOk E T Y O V W q.log q.epoch v.epoch (lost_stage y g)
         lost_ok v y e (Seals d) f = with_lost_ok q.log v.epoch y d (stage_of v (Seals d) e f)
         lost_ok v y e (Stores g) f = stage_of v (Stores g) e f
         lost_ok v y e (Closes s) f = stage_of v (Closes s) e f
 
         page_next : (v : Recovery) (d : List Told) (from upto trim lng : ℕ) (es : List Entry) → q.recovery ≡ Some v → v.stage ≡ Seals d → b ≡ bodies.DigestPage from upto trim lng es → v.epoch ≡ epoch_of from → DigestOk q.log v.epoch (with_page v.epoch y from upto trim es d)
-        page_next v d from upto trim lng es e h i g = with_page_ok q.log v.epoch y from upto trim es d (subst (carried.ReplyOk E T Y O q.log) i B) (sym g) (stage_of v (Seals d) e h)
+        page_next v d from upto trim lng es e h i g = with_page_ok q.log v.epoch y from upto trim es d (subst (carried.ReplyOk E T Y O V W q.log) i B) (sym g) (stage_of v (Seals d) e h)
 
       pub retrying_ok : Retrying c r q (λ k. call ≡ k → CalledOk name q k)
       unfolding ItemsOk

@@ -1,11 +1,13 @@
 -- After each event the digests of all recoveries have what their pages showed, and each plan was made from such a digest.
-use Rattle.std.proofs.Common.{◌≡◌, ◌∙◌, ◌⊎◌, ◌≤◌, ◌<◌, ℕ, ◌+◌, inl, inr, refl, ap, sym, subst, Bool, true, false, not, ◌&&◌, ◌==◌, nat_lt, List, [], ◌∷◌, ◌++◌, length, Option, Some, None, arith}
+use Rattle.std.proofs.Common.{◌≡◌, ◌∙◌, ◌≤◌, ◌<◌, ℕ, ◌+◌, inl, inr, refl, ap, sym, subst, Bool, true, false, ◌&&◌, ◌==◌, nat_lt, List, [], ◌++◌, Option, Some, None, arith}
+use Rattle.ld_safety.proofs.Senders.{StoredFrom}
+use Rattle.ld_safety.proofs.Votes.{in_of}
+use Rattle.ld_safety.proofs.Storings.{storing_later, summarized_later, ReplyFine}
 use Rattle.std.proofs.lemmas.Bool.{and_parts, eqb-true}
-use Rattle.ld_table.specs.Words.{how_many}
+use Rattle.ld_table.specs.Words.{is_in}
 use Rattle.ld_table.specs.Named.{same, find_named, put_named}
 use Rattle.ld_table.proofs.NameLaws.{same-self}
 use Rattle.ld_lsn.specs.Number.{epoch_of, esn_of, home_epoch}
-use Rattle.ld_ids.specs.Choice.{nodes_of}
 use Rattle.ld_config.specs.declared.config.Config.{Config}
 use Rattle.ld_schedule.specs.declared.event.Event.{Event}
 use Rattle.ld_msg.specs.declared.msg.What.{What}
@@ -18,14 +20,14 @@ use Rattle.ld_msg.specs.declared.msg.Body.{Body}
 use Rattle.ld_msg.specs.declared.msg.Body.TheVariants as bodies
 use Rattle.ld_msg.specs.Register.{Register, Epochs, Granted, activate, draw, epochs_of, lce_of, with_epochs, next_epoch}
 use Rattle.ld_msg.specs.Digest.{Told}
-use Rattle.ld_msg.specs.Sequencer.{Sequencer, Recovery, Stage, Seals, Stores, Closes, Acts, Called, called, on_reply, on_retry, Numbered, appended, activated, bare}
+use Rattle.ld_msg.specs.Sequencer.{Sequencer, Recovery, Stage, Seals, Stores, Closes, called, on_reply, on_retry, Numbered, appended, activated, bare}
 use Rattle.ld_op.specs.declared.op.Op.{Op}
 use Rattle.ld_op.specs.Ticks.{Ticked, Cleans, Rebuilt, Asks, Nothing}
-use Rattle.ld_machine.specs.Config.{spec_in}
+use Rattle.ld_machine.specs.Config.{spec_in, set_of}
 use Rattle.ld_machine.specs.Disk.{Node}
 use Rattle.ld_machine.specs.State.{State, Done, node_at, with_node, with_sequencer, only_state}
 use Rattle.ld_machine.specs.Facts.{Happened}
-use Rattle.ld_machine.specs.World.{Made, In, from_node, made_by, page_from}
+use Rattle.ld_machine.specs.World.{Made, In, made_by}
 use Rattle.ld_machine.specs.Step as Step
 use Rattle.ld_safety.proofs.Lists.{Some_inj, cond_both, In-append, In_right, not_both}
 use Rattle.ld_safety.proofs.Names.{named_cases}
@@ -33,13 +35,14 @@ use Rattle.ld_safety.proofs.Events.{Cases, Live, refreshed}
 use Rattle.ld_safety.proofs.RegisterSteps.{Advanced, activate_granted, epochs_put, epochs_same}
 use Rattle.ld_safety.proofs.SequencerSteps.{same_sender, replied, retried}
 use Rattle.ld_safety.proofs.Numbers.{Epochs_once}
-use Rattle.ld_safety.proofs.Protocol.{plan_of, Says, StoredBy, Frozen, Kept, PlansOnce, same_message}
-use Rattle.ld_safety.proofs.Said.{Open, Reached, Said, AnyTrim, ClosedIn, AllSaid}
+use Rattle.ld_safety.proofs.Protocol.{plan_of, Says, StoredBy, PlansOnce, same_message, stored_told}
+use Rattle.ld_safety.proofs.Said.{Open, Reached, Said, AllSaid}
+use Rattle.ld_safety.proofs.Settled.{TrimFine, CloseFine, ShowFine, ReleaseFine, close_low, Acknowledged}
 use Rattle.ld_safety.proofs.Sent.{ShowsAll, PagesBounded}
 use Rattle.ld_safety.proofs.Registers.{Up}
 use Rattle.ld_safety.proofs.Carried as carried
 use Rattle.ld_safety.proofs.Digests.{Covered, ToldSoFar, DigestSoFar, PageFacts, NoPlan, page_frozen}
-use Rattle.ld_safety.proofs.Digesting.{NotSeals, Before, StageFine, InRecovery, RecoveryFine, Fine, NewPlan, begins_fine, Both, Ok, retrying_fine, acting_fine}
+use Rattle.ld_safety.proofs.Digesting.{StageFine, RecoveryFine, Fine, NewPlan, begins_fine, Both, Ok, retrying_fine, acting_fine}
 
 -- ---- while more happens ----
 module _ (c : Config) (hs next : List Happened) (made more : List Made) (sent after : List Msg) (r k : Register) (u : Up r k) (into : (m : Msg) → In m sent → In m after)
@@ -47,28 +50,29 @@ module _ (c : Config) (hs next : List Happened) (made more : List Made) (sent af
   covered_later : (l e b : ℕ) (t : Told) (n : ℕ) → Covered sent l e b t n → Covered after l e b t n
   covered_later l e b t n v = record { from = v.from; upto = v.upto; trim = v.trim; lng = v.lng; entries = v.entries; page = into _ v.page; epoch = v.epoch; low = v.low; high = v.high; told = v.told; trims = v.trims }
 
-  told_later : (l e b : ℕ) (t : Told) → ToldSoFar hs made sent r l e b t → ToldSoFar next (more ++ made) after k l e b t
+  told_later : (l e b : ℕ) (t : Told) → ToldSoFar hs made sent l e b t → ToldSoFar next (more ++ made) after l e b t
   told_later l e b t h = record {
-    frozen = λ o f i. (let a = (u l).1 in let z = h.frozen (omega arith) f i in record { below = z.below; epoch = z.epoch; place = z.place; says = grow l f.ballot f.number f.what z.says });
+    frozen = λ f i. (let z = h.frozen f i in record { below = z.below; epoch = z.epoch; place = z.place; says = grow l f.ballot f.number f.what z.says });
     covers = λ n q p g. covered_later l e b t n (h.covers n q p g);
   }
 
-  pub digest_later : (l e b : ℕ) (d : List Told) → DigestSoFar hs made sent r (spec_in l c.logs) l e b d → DigestSoFar next (more ++ made) after k (spec_in l c.logs) l e b d
+  pub digest_later : (l e b : ℕ) (d : List Told) → DigestSoFar hs made sent (spec_in l c.logs) l e b d → DigestSoFar next (more ++ made) after (spec_in l c.logs) l e b d
   digest_later l e b d h = record { told = λ t i. told_later l e b t (h.told t i); nodes = h.nodes }
 
-  stage_later : (l b e : ℕ) (s : Stage) → StageFine c hs sent made r l b e s → StageFine c next after (more ++ made) k l b e s
-  stage_later l b e (Seals d) h = digest_later l e b d h
-  stage_later l b e (Stores g) h = tt
-  stage_later l b e (Closes y) h = tt
+  module _ (acks : (l n : ℕ) → Acknowledged c hs sent l n → Acknowledged c next after l n) where
+    stage_later : (l b e : ℕ) (s : Stage) → StageFine c hs sent made r l b e s → StageFine c next after (more ++ made) k l b e s
+    stage_later l b e (Seals d) h = digest_later l e b d h
+    stage_later l b e (Stores g) h = storing_later c hs next sent after into acks made more r k u l b e g h
+    stage_later l b e (Closes y) h = λ o. summarized_later c hs next sent after into acks made more l e y (h (let z = (u l).1 in omega arith))
 
-  pub recovery_later : (l b : ℕ) (o : Option Recovery) → ((e : ℕ) (d : List Told) → In (plan_of l e b d) more → ⊥) → RecoveryFine c hs sent made r l b o → RecoveryFine c next after (more ++ made) k l b o
-  recovery_later l b None n h = tt
-  recovery_later l b (Some v) n h = record {
-    next = (let a = h.next in let z = (u l).1 in omega arith);
-    later = h.later;
-    stage = stage_later l b v.epoch v.stage h.stage;
-    before = λ e d i. elim (In-append _ more made i) [ inl a ↦ absurd (n e d a) | inr a ↦ h.before e d a ];
-  }
+    pub recovery_later : (l b : ℕ) (o : Option Recovery) → ((e : ℕ) (d : List Told) → In (plan_of l e b d) more → ⊥) → RecoveryFine c hs sent made r l b o → RecoveryFine c next after (more ++ made) k l b o
+    recovery_later l b None n h = tt
+    recovery_later l b (Some v) n h = record {
+      next = (let a = h.next in let z = (u l).1 in omega arith);
+      later = h.later;
+      stage = stage_later l b v.epoch v.stage h.stage;
+      before = λ e d i. elim (In-append _ more made i) [ inl a ↦ absurd (n e d a) | inr a ↦ h.before e d a ];
+    }
 
 pub up_same : (r : Register) → Up r r
 up_same r l = (omega arith, omega arith)
@@ -83,14 +87,15 @@ MadeBelow made r = (l e b : ℕ) (f : List Told) → In (plan_of l e b f) made �
 home_of : (n : ℕ) → 0 < esn_of n → home_epoch n ≡ epoch_of n
 home_of n h = cond_both ((esn_of n == 0) && nat_lt 0 (epoch_of n)) _ (epoch_of n) (λ x. x ≡ epoch_of n) (λ t. absurd (let p = and_parts (esn_of n == 0) (nat_lt 0 (epoch_of n)) t in let q = eqb-true (esn_of n) 0 p.0 in omega arith)) (λ t. refl)
 
-node_from : (E : ℕ → ℕ → ℕ → What → Type 0) (T : ℕ → ℕ → Type 0) (Y : ℕ → ℕ → Summary → Type 0) (O : ℕ → ℕ → Type 0) (w : Who) → carried.NodeWho E T Y O w → w ≡ whos.Node (Step.sender_node w)
-node_from E T Y O (whos.Node y) h = refl
-node_from E T Y O (whos.Sequencer b) h = absurd h
-node_from E T Y O (whos.Reader n) h = absurd h
+node_from : (E : ℕ → ℕ → ℕ → What → Type 0) (T : ℕ → ℕ → Type 0) (Y : ℕ → ℕ → Summary → Type 0) (O : ℕ → ℕ → Type 0) (V : ℕ → Bool → Entry → Type 0) (W : ℕ → ℕ → Type 0) (w : Who) → carried.NodeWho E T Y O V W w → w ≡ whos.Node (Step.sender_node w)
+node_from E T Y O V W (whos.Node y) h = refl
+node_from E T Y O V W (whos.Sequencer b) h = absurd h
+node_from E T Y O V W (whos.Reader n) h = absurd h
 
 -- ---- every event ----
 module _ (c : Config) (s : State) (e : Event) (hs : List Happened) (made : List Made) (S : AllSaid c hs made s.register s) (X : Epochs_once s.sequencers s.register)
-    (A : ShowsAll made s.network.sent s.register) (B : PagesBounded s.network.sent s.register) (M : MadeBelow made s.register) (D : AllFine c hs s.network.sent made s.register s.sequencers) where
+    (A : ShowsAll made s.network.sent) (B : PagesBounded s.network.sent) (M : MadeBelow made s.register) (D : AllFine c hs s.network.sent made s.register s.sequencers)
+    (V : StoredFrom c s.network.sent) where
   sent : List Msg
   sent = s.network.sent
 
@@ -105,7 +110,7 @@ module _ (c : Config) (s : State) (e : Event) (hs : List Happened) (made : List 
   none_once l x b f g i j = absurd i
 
   lifted : (k : Register) (more : List Made) → Up s.register k → (l b : ℕ) (o : Option Recovery) → ((x : ℕ) (f : List Told) → In (plan_of l x b f) more → ⊥) → RecoveryFine c hs s.network.sent made s.register l b o → RecoveryFine c hs s.network.sent (more ++ made) k l b o
-  lifted k more u l b o n h = recovery_later c hs hs made more s.network.sent s.network.sent s.register k u (λ m i. i) (λ l b n x z. elim z [ inl a ↦ inl a | inr a ↦ inr (record { later = a.later; digest = a.digest; planned = In_right _ more made a.planned; item = a.item }) ]) l b o n h
+  lifted k more u l b o n h = recovery_later c hs hs made more s.network.sent s.network.sent s.register k u (λ m i. i) (λ l b n x z. elim z [ inl a ↦ inl a | inr a ↦ inr (record { later = a.later; digest = a.digest; planned = In_right _ more made a.planned; item = a.item }) ]) (λ l n a. a) l b o n h
 
   stays : (d : Done) → d.state.sequencers ≡ s.sequencers → Result d []
   stays d q u = ((λ t v f. lifted d.state.register [] u v.log v.epoch v.recovery (λ x g i. i) (D t v (subst (λ (m : List (List ℕ × Sequencer)). find_named t m ≡ Some v) q f))), none_new, none_once)
@@ -139,17 +144,26 @@ module _ (c : Config) (s : State) (e : Event) (hs : List Happened) (made : List 
     )
 
     -- what a message says
-    cleaned_closed : (m : Msg) → In m s.network.sent → m.log ≡ q.log → (n : ℕ) (y : Summary) → m.body ≡ bodies.CleanHere n y → home_epoch n ≤ lce_of s.register q.log
-    cleaned_closed m i g n y h = let z : carried.BodyOk (Said hs made s.register) AnyTrim (ClosedIn s.register) (Reached s.register) m.log m.from (bodies.CleanHere n y) = subst (carried.BodyOk (Said hs made s.register) AnyTrim (ClosedIn s.register) (Reached s.register) m.log m.from) h (S.sent m i) in
-        subst (λ l. home_epoch n ≤ lce_of s.register l) g (subst (λ x. x ≤ lce_of s.register m.log) (sym (home_of n z.0)) z.1)
+    pub cleaned_closed : (m : Msg) → In m s.network.sent → m.log ≡ q.log → (n : ℕ) (y : Summary) → m.body ≡ bodies.CleanHere n y → home_epoch n ≤ lce_of s.register q.log
+    cleaned_closed m i g n y h = let z : carried.BodyOk (Said hs made s.register) (TrimFine c hs s.network.sent s.register) (CloseFine c hs made s.network.sent s.register) (Reached s.register) (ShowFine c hs made s.network.sent s.register) (ReleaseFine c hs s.network.sent s.register) m.log m.from (bodies.CleanHere n y) = subst (carried.BodyOk (Said hs made s.register) (TrimFine c hs s.network.sent s.register) (CloseFine c hs made s.network.sent s.register) (Reached s.register) (ShowFine c hs made s.network.sent s.register) (ReleaseFine c hs s.network.sent s.register) m.log m.from) h (S.sent m i) in
+        subst (λ l. home_epoch n ≤ lce_of s.register l) g (subst (λ x. x ≤ lce_of s.register m.log) (sym (home_of n z.0)) (close_low c hs made s.network.sent s.register m.log (epoch_of n) y z.1))
 
-    page : (m : Msg) → In m s.network.sent → m.to ≡ whos.Sequencer q.epoch → m.log ≡ q.log → (w : Recovery) (from upto trim lng : ℕ) (es : List Entry) → w.epoch < q.epoch → m.body ≡ bodies.DigestPage from upto trim lng es → w.epoch ≡ epoch_of from → NoPlan hs made s.network.sent s.register q.log w.epoch q.epoch
-        → PageFacts hs made s.network.sent s.register q.log w.epoch q.epoch (Step.sender_node m.from) from upto trim lng es
+    page : (m : Msg) → In m s.network.sent → m.to ≡ whos.Sequencer q.epoch → m.log ≡ q.log → (w : Recovery) (from upto trim lng : ℕ) (es : List Entry) → w.epoch < q.epoch → m.body ≡ bodies.DigestPage from upto trim lng es → w.epoch ≡ epoch_of from → NoPlan hs made s.network.sent q.log w.epoch q.epoch
+        → PageFacts hs made s.network.sent q.log w.epoch q.epoch (Step.sender_node m.from) from upto trim lng es
     page m i t g w from upto trim lng es lt h ep n =
-        let z : carried.BodyOk (Said hs made s.register) AnyTrim (ClosedIn s.register) (Reached s.register) m.log m.from (bodies.DigestPage from upto trim lng es) = subst (carried.BodyOk (Said hs made s.register) AnyTrim (ClosedIn s.register) (Reached s.register) m.log m.from) h (S.sent m i) in
-        let o = same_message m q.log (Step.sender_node m.from) q.epoch (bodies.DigestPage from upto trim lng es) (node_from (Said hs made s.register) AnyTrim (ClosedIn s.register) (Reached s.register) m.from z.1) t g h in
-        page_frozen hs made s.network.sent s.register q.log w.epoch q.epoch (Step.sender_node m.from) from upto trim lng es (subst (λ x. In x s.network.sent) o i) (sym ep) lt B
-        (λ f j. subst (λ l. Said hs made s.register l f.ballot f.number f.what) g (z.0.entries f j)) n
+        let z : carried.BodyOk (Said hs made s.register) (TrimFine c hs s.network.sent s.register) (CloseFine c hs made s.network.sent s.register) (Reached s.register) (ShowFine c hs made s.network.sent s.register) (ReleaseFine c hs s.network.sent s.register) m.log m.from (bodies.DigestPage from upto trim lng es) = subst (carried.BodyOk (Said hs made s.register) (TrimFine c hs s.network.sent s.register) (CloseFine c hs made s.network.sent s.register) (Reached s.register) (ShowFine c hs made s.network.sent s.register) (ReleaseFine c hs s.network.sent s.register) m.log m.from) h (S.sent m i) in
+        let o = same_message m q.log (Step.sender_node m.from) q.epoch (bodies.DigestPage from upto trim lng es) (node_from (Said hs made s.register) (TrimFine c hs s.network.sent s.register) (CloseFine c hs made s.network.sent s.register) (Reached s.register) (ShowFine c hs made s.network.sent s.register) (ReleaseFine c hs s.network.sent s.register) m.from z.1) t g h in
+        page_frozen hs made s.network.sent q.log w.epoch q.epoch (Step.sender_node m.from) from upto trim lng es (subst (λ x. In x s.network.sent) o i) (sym ep) lt B
+        (λ f j. let k = z.0.entries f j in (k.given.place, subst (λ l. Says hs made l f.ballot f.number f.what) g k.says)) n
+
+    pub reply : (m : Msg) → In m s.network.sent → m.to ≡ whos.Sequencer q.epoch → m.log ≡ q.log → (k : Register) → Up s.register k → ReplyFine c hs s.network.sent k q.log q.epoch (Step.sender_node m.from) m.body
+    reply m i t g k u = record {
+      stored = λ n h. (let w = same_message m q.log (Step.sender_node m.from) q.epoch (bodies.Stored n) (V m n q.epoch i h t).0 t g h in let j : StoredBy s.network.sent q.log (Step.sender_node m.from) n q.epoch = subst (λ x. In x s.network.sent) w i in
+          (in_of _ _ (subst (λ l. is_in (Step.sender_node m.from) (set_of c l) ≡ true) g (V m n q.epoch i h t).1), stored_told s.network.sent q.log n q.epoch (Step.sender_node m.from) j));
+      trimmed = λ n x h. (let z : carried.BodyOk (Said hs made s.register) (TrimFine c hs s.network.sent s.register) (CloseFine c hs made s.network.sent s.register) (Reached s.register) (ShowFine c hs made s.network.sent s.register) (ReleaseFine c hs s.network.sent s.register) m.log m.from (bodies.TrimmedHere n x)
+          = subst (carried.BodyOk (Said hs made s.register) (TrimFine c hs s.network.sent s.register) (CloseFine c hs made s.network.sent s.register) (Reached s.register) (ShowFine c hs made s.network.sent s.register) (ReleaseFine c hs s.network.sent s.register) m.log m.from) h (S.sent m i) in
+          λ p a b o. let y = (u q.log).1 in subst (λ l. Acknowledged c hs s.network.sent l p) g (z p a b (subst (λ l. Open s.register l (epoch_of p)) (sym g) (omega arith))));
+    }
 
     heard : (f : List ℕ) (m : Msg) → In m s.network.sent → m.to ≡ whos.Sequencer q.epoch → m.log ≡ q.log → Result (Step.acted c (refreshed s f) name q (on_reply (spec_in q.log c.logs) q (Step.sender_node m.from) m.body)) (made_by c (Some (name, q)) (Step.sender_node m.from) m.body)
     heard f m i t g u =
@@ -157,8 +171,9 @@ module _ (c : Config) (s : State) (e : Event) (hs : List Happened) (made : List 
         let a = on_reply (spec_in q.log c.logs) q y m.body in
         let call = called (spec_in q.log c.logs) s.register a a.tries in
         let F = lifted call.register [] u q.log q.epoch q.recovery (λ x h j. j) (D name q v.named) in
-        let both = replied c s.register name q v.there y m.body (λ x n. call ≡ x → Both c hs s.network.sent made s.register q call u (D name q v.named) F y m.body A (cleaned_closed m i g) (page m i t g) x n)
-        (acting_fine c hs s.network.sent made s.register q call u (D name q v.named) F y m.body A (cleaned_closed m i g) (page m i t g)) refl in (
+        let R = reply m i t g call.register u in
+        let both = replied c s.register name q v.there y m.body (λ x n. call ≡ x → Both c hs s.network.sent made s.register q call u (D name q v.named) F y m.body A (cleaned_closed m i g) R (page m i t g) x n)
+        (acting_fine c hs s.network.sent made s.register q call u (D name q v.named) F y m.body A (cleaned_closed m i g) R (page m i t g)) refl in (
           puts name call.acts.sequencer call.register (made_by c (Some (name, q)) y m.body) u both.0
               (λ k w b h x j n. let z = both.1 w.log x w.epoch j n in let o : k ≡ name = X.once k name w q h v.named z.1 z.2 in not_both _ (subst (λ p. same k p ≡ true) o (same-self k)) b),
           (λ l x b h n. let z = both.1 l x b h n in let o = X.drawn name q v.named in (z.0, subst (λ p. b ≤ (epochs_of s.register p).epoch) (sym z.1) (let p = z.2 in omega arith))),

@@ -1,8 +1,13 @@
 -- A sequencer in recovery has in its digest all that its pages showed, and plans an epoch only once.
-use Rattle.std.proofs.Common.{◌≡◌, ◌∙◌, ◌⊎◌, ◌≤◌, ◌<◌, ℕ, ◌+◌, inl, inr, refl, ap, sym, subst, Bool, true, false, not, ◌&&◌, nat_lt, cond, if◌then◌else◌, List, [], ◌∷◌, ◌++◌, length, Option, Some, None, arith}
-use Rattle.std.proofs.lemmas.Bool.{cases_Bool, cases_order, ltb-true}
+use Rattle.std.proofs.Common.{◌≡◌, ◌∙◌, ◌⊎◌, ◌≤◌, ◌<◌, ℕ, ◌+◌, inl, inr, refl, ap, sym, subst, Bool, true, false, not, ◌&&◌, nat_lt, if◌then◌else◌, List, [], ◌∷◌, ◌++◌, length, Option, Some, None, arith, ◌-◌}
+use Rattle.ld_safety.proofs.Plans.{trim_place_most, end_most, top_most}
+use Rattle.ld_msg.specs.declared.msg.What.TheVariants.{Bridge}
+use Rattle.ld_msg.specs.declared.msg.What.{What}
+use Rattle.ld_safety.proofs.Settled.{Summarized}
+use Rattle.ld_safety.proofs.Storings.{StoringFine, ReplyFine, settles_fine, begins_storing, ready_stands}
+use Rattle.std.proofs.lemmas.Bool.{cases_order, ltb-true}
 use Rattle.ld_table.specs.Words.{how_many}
-use Rattle.ld_lsn.specs.Number.{epoch_of, esn_of, home_epoch}
+use Rattle.ld_lsn.specs.Number.{epoch_of, esn_of, home_epoch, last_esn}
 use Rattle.ld_ids.specs.declared.set.Spec.{Spec}
 use Rattle.ld_ids.specs.Choice.{at_epoch, nodes_of}
 use Rattle.ld_config.specs.declared.config.Config.{Config}
@@ -12,14 +17,14 @@ use Rattle.ld_msg.specs.declared.msg.Msg.{Msg}
 use Rattle.ld_msg.specs.declared.msg.Body.{Body}
 use Rattle.ld_msg.specs.declared.msg.Body.TheVariants as bodies
 use Rattle.ld_msg.specs.Register.{Register, Granted, Epochs, lce_of, close, epochs_of, with_epochs, closed_epochs}
-use Rattle.ld_msg.specs.Digest.{Told, no_digest, with_page, enough, plan}
-use Rattle.ld_msg.specs.Sequencer.{Sequencer, Recovery, Stage, Seals, Stores, Closes, Storing, Acts, Called, does_nothing, recovery_of, recovery_lost, lost_stage, storing_of, settled_by, summary_of}
+use Rattle.ld_msg.specs.Digest.{Told, no_digest, with_page, enough, plan, is_bridge, plan_end, digest_trim}
+use Rattle.ld_msg.specs.Sequencer.{Sequencer, Recovery, Stage, Seals, Stores, Closes, Storing, Acts, Called, recovery_of, recovery_lost, lost_stage, storing_of, settled_by, summary_of, next_try}
 use Rattle.ld_machine.specs.Config.{spec_in}
 use Rattle.ld_machine.specs.Facts.{Happened}
 use Rattle.ld_machine.specs.World.{Made, In}
 use Rattle.ld_safety.proofs.Lists.{only}
 use Rattle.ld_safety.proofs.RegisterSteps.{close_granted, epochs_put, epochs_same}
-use Rattle.ld_safety.proofs.SequencerSteps.{Acting, Retrying, Closing, acts_with}
+use Rattle.ld_safety.proofs.SequencerSteps.{Acting, Retrying, Closing, Settling}
 use Rattle.ld_safety.proofs.Protocol.{plan_of, StoredBy, Kept, PlansOnce}
 use Rattle.ld_safety.proofs.Said.{Open}
 use Rattle.ld_safety.proofs.Sent.{ShowsAll}
@@ -36,8 +41,9 @@ Before v e = (e < v.epoch) ⊎ ((e ≡ v.epoch) × NotSeals v.stage)
 
 module _ (c : Config) (hs : List Happened) (sent : List Msg) where
   abbrev pub StageFine : List Made → Register → ℕ → ℕ → ℕ → Stage → Type 0
-  StageFine made r l b e (Seals d) = DigestSoFar hs made sent r (spec_in l c.logs) l e b d
-  StageFine made r l b e _ = Unit {0}
+  StageFine made r l b e (Seals d) = DigestSoFar hs made sent (spec_in l c.logs) l e b d
+  StageFine made r l b e (Stores g) = StoringFine c hs sent made r l b e g
+  StageFine made r l b e (Closes y) = Open r l e → Summarized c hs made sent l e y
 
   pub record InRecovery (made : List Made) (r : Register) (l b : ℕ) (v : Recovery) : Type 0 where
     pub next : v.epoch ≤ lce_of r l + 1
@@ -54,11 +60,11 @@ module _ (c : Config) (hs : List Happened) (sent : List Msg) where
 
   -- a plan that was just made
   pub record NewPlan (made : List Made) (r : Register) (l e b : ℕ) (d : List Told) : Type 0 where
-    pub digest : DigestSoFar hs made sent r (spec_in l c.logs) l e b d
+    pub digest : DigestSoFar hs made sent (spec_in l c.logs) l e b d
     pub enough_told : length (nodes_of (spec_in l c.logs)) < (spec_in l c.logs).r + how_many (λ (t : Told). t.whole && not t.lost) d
     pub later : e < b
-    pub seen : Open r l e → (t : Told) → In t d → t.whole ≡ true → (n a : ℕ) → epoch_of n ≡ e → 0 < esn_of n → a < b → StoredBy sent l t.node n a → Kept made l b t.trim t.entries n a
-    pub first : NoPlan hs made sent r l e b
+    pub seen : (t : Told) → In t d → t.whole ≡ true → (n a : ℕ) → epoch_of n ≡ e → 0 < esn_of n → a < b → StoredBy sent l t.node n a → Kept made l b t.trim t.entries n a
+    pub first : NoPlan hs made sent l e b
 
   -- ---- a recovery that begins, a stage that goes on ----
   module _ (made : List Made) (r : Register) where
@@ -66,22 +72,18 @@ module _ (c : Config) (hs : List Happened) (sent : List Msg) where
     begins_fine l q lce h n = by_later (nat_lt (lce + 1) q.epoch) refl where
       by_later : (t : Bool) → nat_lt (lce + 1) q.epoch ≡ t → RecoveryFine made r l q.epoch (if t then Some (record { epoch = lce + 1; lost = []; stage = Seals (no_digest (at_epoch (spec_in l c.logs) (lce + 1)) (lce + 1)) }) else None)
       by_later false k = tt
-      by_later true k = record { next = omega arith; later = ltb-true _ _ k; stage = begins hs made sent r (spec_in l c.logs) l (lce + 1) q.epoch; before = λ e d i. inl (n e d i) }
+      by_later true k = record { next = omega arith; later = ltb-true _ _ k; stage = begins hs made sent (spec_in l c.logs) l (lce + 1) q.epoch; before = λ e d i. inl (n e d i) }
 
     -- a stage past the seals
-    settled_stage : (l b : ℕ) (v : Recovery) (s : Stage) → NotSeals s → InRecovery made r l b v → InRecovery made r l b (record v { stage = s })
-    settled_stage l b v s n f = record { next = f.next; later = f.later; stage = any s n; before = λ e d i. elim (f.before e d i) [ inl a ↦ inl a | inr a ↦ inr (a.0, n) ] } where
-      any : (k : Stage) → NotSeals k → StageFine made r l b v.epoch k
-      any (Seals d) h = absurd h
-      any (Stores g) h = tt
-      any (Closes y) h = tt
+    settled_stage : (l b : ℕ) (v : Recovery) (s : Stage) → NotSeals s → StageFine made r l b v.epoch s → InRecovery made r l b v → InRecovery made r l b (record v { stage = s })
+    settled_stage l b v s n k f = record { next = f.next; later = f.later; stage = k; before = λ e d i. elim (f.before e d i) [ inl a ↦ inl a | inr a ↦ inr (a.0, n) ] }
 
     lost_fine : (l b y : ℕ) (v : Recovery) (g : Stage) → v.stage ≡ g → InRecovery made r l b v → InRecovery made r l b (recovery_lost y v)
     lost_fine l b y v g q f = record { next = f.next; later = f.later; stage = by_stage v.stage f.stage; before = λ e d i. elim (f.before e d i) [ inl a ↦ inl a | inr a ↦ inr (a.0, not_by v.stage a.1) ] } where
       by_stage : (k : Stage) → StageFine made r l b v.epoch k → StageFine made r l b v.epoch (lost_stage y k)
-      by_stage (Seals d) h = loses hs made sent r (spec_in l c.logs) l v.epoch b y d h
-      by_stage (Stores s) h = tt
-      by_stage (Closes s) h = tt
+      by_stage (Seals d) h = loses hs made sent (spec_in l c.logs) l v.epoch b y d h
+      by_stage (Stores s) h = h
+      by_stage (Closes s) h = h
 
       not_by : (k : Stage) → NotSeals k → NotSeals (lost_stage y k)
       not_by (Seals d) h = absurd h
@@ -128,33 +130,40 @@ module _ (c : Config) (hs : List Happened) (sent : List Msg) where
       starts lce h n = subst (λ l. RecoveryFine made call.register l a.sequencer.epoch (recovery_of (spec_in q.log c.logs) a.sequencer lce)) (sym lg)
           (begins_fine made call.register q.log a.sequencer lce h (λ e d i. n e d (subst (λ b. In (plan_of q.log e b d) made) ep i)))
 
+    storing_now : (v : Recovery) (g : Storing) → q.recovery ≡ Some v → v.stage ≡ Stores g → StoringFine c hs sent made call.register q.log q.epoch v.epoch g
+    storing_now v g e h = subst (StageFine made call.register q.log q.epoch v.epoch) h (now v e).stage
+
+    next_wave_fine : (e : ℕ) (g : Storing) → StoringFine c hs sent made call.register q.log q.epoch e g → StoringFine c hs sent made call.register q.log q.epoch e (next_try g)
+    next_wave_fine e g F = record { digest = F.digest; planned_so = F.planned_so; end = F.end; trim = F.trim; items = F.items; covers = F.covers }
+
     pub retrying_fine : Retrying c r q (λ x. call ≡ x → Ok [] x)
     retrying_fine = record {
       quiet = λ w. F;
       appends = λ f w. F;
       seals = λ v d f e h w. F;
-      stores = λ v g f e h w. settled_stage made call.register q.log q.epoch v _ tt (now v e);
+      stores = λ v g f e h w. settled_stage made call.register q.log q.epoch v (Stores (next_try g)) tt (next_wave_fine v.epoch g (storing_now v g e h)) (now v e);
       closes = λ v y f e h. close_fine _ v y e refl refl F;
     }
 
     -- what a reply brings
-    module _ (y : ℕ) (b : Body) (A : ShowsAll made sent r)
+    module _ (y : ℕ) (b : Body) (A : ShowsAll made sent)
         (cleaned_closed : (n : ℕ) (s : Summary) → b ≡ bodies.CleanHere n s → home_epoch n ≤ lce_of r q.log)
-        (page : (v : Recovery) (from upto trim lng : ℕ) (es : List Entry) → v.epoch < q.epoch → b ≡ bodies.DigestPage from upto trim lng es → v.epoch ≡ epoch_of from → NoPlan hs made sent r q.log v.epoch q.epoch → PageFacts hs made sent r q.log v.epoch q.epoch y from upto trim lng es) where
-      no_plan : (v : Recovery) (d : List Told) → q.recovery ≡ Some v → v.stage ≡ Seals d → NoPlan hs made sent r q.log v.epoch q.epoch
+        (reply : ReplyFine c hs sent call.register q.log q.epoch y b)
+        (page : (v : Recovery) (from upto trim lng : ℕ) (es : List Entry) → v.epoch < q.epoch → b ≡ bodies.DigestPage from upto trim lng es → v.epoch ≡ epoch_of from → NoPlan hs made sent q.log v.epoch q.epoch → PageFacts hs made sent q.log v.epoch q.epoch y from upto trim lng es) where
+      no_plan : (v : Recovery) (d : List Told) → q.recovery ≡ Some v → v.stage ≡ Seals d → NoPlan hs made sent q.log v.epoch q.epoch
       no_plan v d e h f i = elim ((was v e).before v.epoch f i) [ inl a ↦ (omega arith) | inr a ↦ subst NotSeals h a.1 ]
 
-      digest_of : (v : Recovery) (d : List Told) → q.recovery ≡ Some v → v.stage ≡ Seals d → DigestSoFar hs made sent r (spec_in q.log c.logs) q.log v.epoch q.epoch d
+      digest_of : (v : Recovery) (d : List Told) → q.recovery ≡ Some v → v.stage ≡ Seals d → DigestSoFar hs made sent (spec_in q.log c.logs) q.log v.epoch q.epoch d
       digest_of v d e h = subst (StageFine made r q.log q.epoch v.epoch) h (was v e).stage
 
-      digest_now : (v : Recovery) (d : List Told) → q.recovery ≡ Some v → v.stage ≡ Seals d → DigestSoFar hs made sent call.register (spec_in q.log c.logs) q.log v.epoch q.epoch d
+      digest_now : (v : Recovery) (d : List Told) → q.recovery ≡ Some v → v.stage ≡ Seals d → DigestSoFar hs made sent (spec_in q.log c.logs) q.log v.epoch q.epoch d
       digest_now v d e h = subst (StageFine made call.register q.log q.epoch v.epoch) h (now v e).stage
 
-      facts_of : (v : Recovery) (d : List Told) (from upto trim lng : ℕ) (es : List Entry) → q.recovery ≡ Some v → v.stage ≡ Seals d → b ≡ bodies.DigestPage from upto trim lng es → v.epoch ≡ epoch_of from → PageFacts hs made sent r q.log v.epoch q.epoch y from upto trim lng es
+      facts_of : (v : Recovery) (d : List Told) (from upto trim lng : ℕ) (es : List Entry) → q.recovery ≡ Some v → v.stage ≡ Seals d → b ≡ bodies.DigestPage from upto trim lng es → v.epoch ≡ epoch_of from → PageFacts hs made sent q.log v.epoch q.epoch y from upto trim lng es
       facts_of v d from upto trim lng es e h i g = page v from upto trim lng es (was v e).later i g (no_plan v d e h)
 
-      facts_now : (v : Recovery) (d : List Told) (from upto trim lng : ℕ) (es : List Entry) → q.recovery ≡ Some v → v.stage ≡ Seals d → b ≡ bodies.DigestPage from upto trim lng es → v.epoch ≡ epoch_of from → PageFacts hs made sent call.register q.log v.epoch q.epoch y from upto trim lng es
-      facts_now v d from upto trim lng es e h i g = let f = facts_of v d from upto trim lng es e h i g in let u = (U q.log).1 in record { sent_so = f.sent_so; epoch = f.epoch; frozen = λ o x j. f.frozen (omega arith) x j }
+      facts_now : (v : Recovery) (d : List Told) (from upto trim lng : ℕ) (es : List Entry) → q.recovery ≡ Some v → v.stage ≡ Seals d → b ≡ bodies.DigestPage from upto trim lng es → v.epoch ≡ epoch_of from → PageFacts hs made sent q.log v.epoch q.epoch y from upto trim lng es
+      facts_now v d from upto trim lng es e h i g = let f = facts_of v d from upto trim lng es e h i g in f
 
       abbrev pub Both : Called → List Made → Type 0
       Both x m = Ok m x × ((l e a : ℕ) (d : List Told) → In (plan_of l e a d) m → NewPlan made r l e a d × (l ≡ q.log) × (a ≡ q.epoch)) × PlansOnce m
@@ -175,42 +184,53 @@ module _ (c : Config) (hs : List Happened) (sent : List Msg) where
         sealed = λ n j f i l w. (F, none_new, none_once);
         cleaned_own = λ n s f i h w. (F, none_new, none_once);
         acks = λ n p f i h g w. (F, none_new, none_once);
-        settles_some = λ v g p f e h s u w. (settled_stage made call.register q.log q.epoch v (Stores (settled_by p y g)) tt (now v e), none_new, none_once);
-        settles_all = λ v g p f e h s u. with_none _ _ v.epoch _ (close_fine _ v _ e refl refl (settled_stage made call.register q.log q.epoch v (Closes (summary_of q.epoch (settled_by p y g))) tt (now v e)));
+        settles_some = λ v g p f e h s u w. (settled_stage made call.register q.log q.epoch v (Stores (settled_by p y g)) tt (settled_now v g p e h s) (now v e), none_new, none_once);
+        settles_all = λ v g p f e h s u. with_none _ _ v.epoch _ (close_fine _ v _ e refl refl (settled_stage made call.register q.log q.epoch v (Closes (summary_of q.epoch (settled_by p y g))) tt (λ o. ready_stands c hs sent made call.register q.log q.epoch v.epoch (settled_by p y g) (settled_now v g p e h s) u o) (now v e)));
         lost_own = λ n round g end f i h w. (F, none_new, none_once);
         lost_there = λ v n round g end f e i h w. (lost_fine made call.register q.log q.epoch y v v.stage refl (now v e), none_new, none_once);
         cleaned = λ v n s f e i h w. (let z = cleaned_closed n s i in let u = (U q.log).1 in begins_fine made call.register q.log q v.epoch (omega arith) (λ x d j. let m = at_most v e x d j in omega arith), none_new, none_once);
         asks_more = λ v d from upto trim lng es f e h i g t u w. (asks_fine v d from upto trim lng es e h i g, none_new, none_once);
         plans = λ v d from upto trim lng es f e h i g t u w. (let z = now v e in (
-          plans_fine v d from upto trim lng es e z,
+          plans_fine v d from upto trim lng es e (end_below q.log v.epoch q.epoch (with_page v.epoch y from upto trim es d) (takes hs made sent (spec_in q.log c.logs) q.log v.epoch q.epoch y from upto trim lng es d (facts_of v d from upto trim lng es e h i g) (digest_of v d e h))) z,
           (λ l x a j o. planned_new v d from upto trim lng es e h i g u l x a j (only _ _ o)),
           (λ l x a j o m n. let s = ap (λ (n : Made). n.digest) (only _ _ m) in let z = ap (λ (n : Made). n.digest) (only _ _ n) in s ∙ sym z),
         ));
       } where
+        settled_now : (v : Recovery) (g : Storing) (p : ℕ → Bool) → q.recovery ≡ Some v → v.stage ≡ Stores g → Settling b v.epoch p → StoringFine c hs sent made call.register q.log q.epoch v.epoch (settled_by p y g)
+        settled_now v g p e h s = settles_fine c hs sent call.register q.log q.epoch v.epoch y b reply made p g s (storing_now v g e h)
+
         asks_fine : (v : Recovery) (d : List Told) (from upto trim lng : ℕ) (es : List Entry) → q.recovery ≡ Some v → v.stage ≡ Seals d → b ≡ bodies.DigestPage from upto trim lng es → v.epoch ≡ epoch_of from → InRecovery made call.register q.log q.epoch (record v { stage = Seals (with_page v.epoch y from upto trim es d) })
         asks_fine v d from upto trim lng es e h i g = let z = now v e in record {
           next = z.next;
           later = z.later;
-          stage = takes hs made sent call.register (spec_in q.log c.logs) q.log v.epoch q.epoch y from upto trim lng es d (facts_now v d from upto trim lng es e h i g) (digest_now v d e h);
+          stage = takes hs made sent (spec_in q.log c.logs) q.log v.epoch q.epoch y from upto trim lng es d (facts_now v d from upto trim lng es e h i g) (digest_now v d e h);
           before = λ x j k. elim (z.before x j k) [ inl a ↦ inl a | inr a ↦ absurd (subst NotSeals h a.1) ];
         }
 
-        plans_fine : (v : Recovery) (d : List Told) (from upto trim lng : ℕ) (es : List Entry) → q.recovery ≡ Some v → InRecovery made call.register q.log q.epoch v
+        not_bridge : (x : What) → x ≡ Bridge → is_bridge x ≡ false → ⊥
+        not_bridge x q n = let z : is_bridge x ≡ true = ap is_bridge q in cc
+
+        -- a plan ends in its epoch
+        end_below : (l e b' : ℕ) (d : List Told) → DigestSoFar hs made sent (spec_in l c.logs) l e b' d → plan_end e d ≤ last_esn
+        end_below l e b' d D = let t = trim_place_most e (digest_trim d) in
+            let z = end_most e d (last_esn - 1) (top_most (last_esn - 1) d (λ u f j k n. let y = ((D.told u j).frozen f k).place.below (λ q. not_bridge f.what q n) in omega arith)) t in omega arith
+
+        plans_fine : (v : Recovery) (d : List Told) (from upto trim lng : ℕ) (es : List Entry) → q.recovery ≡ Some v → plan_end v.epoch (with_page v.epoch y from upto trim es d) ≤ last_esn → InRecovery made call.register q.log q.epoch v
             → InRecovery (plan_of q.log v.epoch q.epoch (with_page v.epoch y from upto trim es d) ∷ made) call.register q.log q.epoch (record v { stage = Stores (storing_of (plan v.epoch (with_page v.epoch y from upto trim es d))) })
-        plans_fine v d from upto trim lng es e z = record {
+        plans_fine v d from upto trim lng es e most z = record {
           next = z.next;
           later = z.later;
-          stage = tt;
+          stage = begins_storing c hs sent (plan_of q.log v.epoch q.epoch (with_page v.epoch y from upto trim es d) ∷ made) call.register q.log q.epoch v.epoch (with_page v.epoch y from upto trim es d) (inl refl) most;
           before = λ x j k. elim k [ inl o ↦ inr (ap (λ (n : Made). n.epoch) o, tt) | inr o ↦ elim (z.before x j o) [ inl a ↦ inl a | inr a ↦ inr (a.0, tt) ] ];
         }
 
         made_now : (v : Recovery) (d : List Told) (from upto trim lng : ℕ) (es : List Entry) → q.recovery ≡ Some v → v.stage ≡ Seals d → b ≡ bodies.DigestPage from upto trim lng es → v.epoch ≡ epoch_of from → enough (spec_in q.log c.logs) (with_page v.epoch y from upto trim es d) ≡ true
             → NewPlan made r q.log v.epoch q.epoch (with_page v.epoch y from upto trim es d)
-        made_now v d from upto trim lng es e h i g u = let D = takes hs made sent r (spec_in q.log c.logs) q.log v.epoch q.epoch y from upto trim lng es d (facts_of v d from upto trim lng es e h i g) (digest_of v d e h) in record {
+        made_now v d from upto trim lng es e h i g u = let D = takes hs made sent (spec_in q.log c.logs) q.log v.epoch q.epoch y from upto trim lng es d (facts_of v d from upto trim lng es e h i g) (digest_of v d e h) in record {
           digest = D;
           enough_told = ltb-true _ _ u;
           later = (was v e).later;
-          seen = λ o t j x n a ep p lt st. accounts hs made sent r (spec_in q.log c.logs) q.log v.epoch q.epoch (with_page v.epoch y from upto trim es d) D A (no_plan v d e h) o t j x n a ep p lt st;
+          seen = λ t j x n a ep p lt st. accounts hs made sent (spec_in q.log c.logs) q.log v.epoch q.epoch (with_page v.epoch y from upto trim es d) D A (no_plan v d e h) t j x n a ep p lt st;
           first = no_plan v d e h;
         }
 

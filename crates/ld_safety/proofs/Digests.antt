@@ -1,22 +1,18 @@
 -- A digest in the making has all that its pages showed, so a plan that is made from it has what recoveries need to agree.
-use Rattle.std.proofs.Common.{◌≡◌, ◌∙◌, ◌⊎◌, ◌≤◌, ◌<◌, ℕ, zero, suc, ◌+◌, ◌*◌, ◌/◌, ◌%◌, ◌^◌, max, inl, inr, refl, ap, sym, subst, Bool, true, false, not, ◌&&◌, ◌==◌, nat_lt, nat_le, cond, if◌then◌else◌, List, [], ◌∷◌, ◌++◌, map, length, Option, Some, None, arith}
-use Rattle.std.proofs.lemmas.Bool.{cases_Bool, and_parts, eqb-true, ltb-true, leb-true, cases_order, cases_lt}
-use Rattle.ld_table.specs.Words.{how_many}
+use Rattle.std.proofs.Common.{◌≡◌, ◌∙◌, ◌⊎◌, ◌≤◌, ◌<◌, ℕ, inl, inr, refl, ap, sym, subst, true, not, ◌&&◌, ◌==◌, if◌then◌else◌, List, [], ◌∷◌, map, arith}
+use Rattle.std.proofs.lemmas.Bool.{and_parts, eqb-true, leb-true, cases_order, cases_lt}
 use Rattle.ld_lsn.specs.Number.{epoch_of, esn_of, numbered, last_esn}
 use Rattle.ld_ids.specs.declared.set.Spec.{Spec}
 use Rattle.ld_ids.specs.Choice.{nodes_of}
-use Rattle.ld_msg.specs.declared.msg.What.{What}
 use Rattle.ld_msg.specs.declared.msg.Entry.{Entry}
 use Rattle.ld_msg.specs.declared.msg.Msg.{Msg}
 use Rattle.ld_msg.specs.declared.msg.Body.TheVariants as bodies
-use Rattle.ld_msg.specs.Register.{Register, epochs_of, lce_of}
-use Rattle.ld_msg.specs.Digest.{Told, told_nothing, no_digest, told_page, takes_page, with_page, told_lost, with_lost, enough}
+use Rattle.ld_msg.specs.Digest.{Told, told_nothing, no_digest, told_page, takes_page, with_page, told_lost, with_lost}
 use Rattle.ld_machine.specs.Facts.{Happened}
 use Rattle.ld_machine.specs.World.{Made, In, from_node}
-use Rattle.ld_safety.proofs.Lists.{Some_inj, not_none, cond_both, In-append, In-map, In_left, In_right}
+use Rattle.ld_safety.proofs.Lists.{cond_both, In-append, In-map, In_left, In_right}
 use Rattle.ld_safety.proofs.Given.{Place}
-use Rattle.ld_safety.proofs.Protocol.{plan_of, Says, OwnSays, PlanSays, StoredBy, Ends, Shows, Kept, Frozen, ToldFacts, DigestFacts, PlanFacts}
-use Rattle.ld_safety.proofs.Said.{Open, Said}
+use Rattle.ld_safety.proofs.Protocol.{plan_of, Says, StoredBy, Kept, Frozen}
 use Rattle.ld_safety.proofs.Sent.{ShowsAll, PagesBounded}
 
 -- a page of the node covers the number, and is in what it told
@@ -33,9 +29,9 @@ pub record Covered (sent : List Msg) (l e b : ℕ) (t : Told) (n : ℕ) : Type 0
   pub told : (f : Entry) → In f entries → In f t.entries
   pub trims : trim ≤ t.trim
 
-module _ (hs : List Happened) (made : List Made) (sent : List Msg) (r : Register) where
+module _ (hs : List Happened) (made : List Made) (sent : List Msg) where
   pub record ToldSoFar (l e b : ℕ) (t : Told) : Type 0 where
-    pub frozen : Open r l e → (f : Entry) → In f t.entries → Frozen hs made l e b f
+    pub frozen : (f : Entry) → In f t.entries → Frozen hs made l e b f
     pub covers : (n : ℕ) → epoch_of n ≡ e → 0 < esn_of n → (n < t.asked) ⊎ (t.whole ≡ true) → Covered sent l e b t n
 
   pub record DigestSoFar (s : Spec) (l e b : ℕ) (d : List Told) : Type 0 where
@@ -48,7 +44,7 @@ module _ (hs : List Happened) (made : List Made) (sent : List Msg) (r : Register
   nothing_nodes e (n ∷ ns) = ap (λ l. n ∷ l) (nothing_nodes e ns)
 
   nothing_told : (l e b y : ℕ) → ToldSoFar l e b (told_nothing e y)
-  nothing_told l e b y = record { frozen = λ o f i. absurd i; covers = λ n q p h. elim h [ inl a ↦ absurd (omega arith) | inr a ↦ absurd cc ] }
+  nothing_told l e b y = record { frozen = λ f i. absurd i; covers = λ n q p h. elim h [ inl a ↦ absurd (omega arith) | inr a ↦ absurd cc ] }
 
   pub begins : (s : Spec) (l e b : ℕ) → DigestSoFar s l e b (no_digest s e)
   begins s l e b = record {
@@ -92,7 +88,7 @@ module _ (hs : List Happened) (made : List Made) (sent : List Msg) (r : Register
   pub record PageFacts (l e b y from upto trim lng : ℕ) (es : List Entry) : Type 0 where
     pub sent_so : In (from_node l y b (bodies.DigestPage from upto trim lng es)) sent
     pub epoch : epoch_of from ≡ e
-    pub frozen : Open r l e → (f : Entry) → In f es → Frozen hs made l e b f
+    pub frozen : (f : Entry) → In f es → Frozen hs made l e b f
 
   takes_one : (s : Spec) (l e b y from upto trim lng : ℕ) (es : List Entry) (t : Told) → takes_page y from t ≡ true → PageFacts l e b y from upto trim lng es → ToldSoFar l e b t → ToldSoFar l e b (told_page e upto trim es t)
   takes_one s l e b y from upto trim lng es t h p u =
@@ -100,7 +96,7 @@ module _ (hs : List Happened) (made : List Made) (sent : List Msg) (r : Register
       let c = and_parts (t.asked == from) (not t.whole) a.1 in
       let node : t.node ≡ y = eqb-true _ _ a.0 in
       let asked : t.asked ≡ from = eqb-true _ _ c.0 in record {
-        frozen = λ o f i. elim (In-append f t.entries es i) [ inl j ↦ u.frozen o f j | inr j ↦ p.frozen o f j ];
+        frozen = λ f i. elim (In-append f t.entries es i) [ inl j ↦ u.frozen f j | inr j ↦ p.frozen f j ];
         covers = λ n q k g. elim (cases_lt n from) [
           | inl lt ↦ covered_as l e b n t (told_page e upto trim es t) refl (λ f i. In_left f t.entries es i) (omega arith) (u.covers n q k (inl (omega arith)))
           | inr ge ↦ record {
@@ -127,20 +123,20 @@ module _ (hs : List Happened) (made : List Made) (sent : List Msg) (r : Register
     nodes = page_nodes e y from upto trim es d ∙ D.nodes;
   }
 
-  -- ---- what a page of an open epoch shows, before the ballot has planned it ----
+  -- ---- what a page shows, before the ballot has planned its epoch ----
   abbrev pub NoPlan : ℕ → ℕ → ℕ → Type 0
   NoPlan l e b = (d : List Told) → In (plan_of l e b d) made → ⊥
 
-  pub page_frozen : (l e b y from upto trim lng : ℕ) (es : List Entry) → In (from_node l y b (bodies.DigestPage from upto trim lng es)) sent → epoch_of from ≡ e → e < b → PagesBounded sent r → ((f : Entry) → In f es → Said hs made r l f.ballot f.number f.what) → NoPlan l e b
+  pub page_frozen : (l e b y from upto trim lng : ℕ) (es : List Entry) → In (from_node l y b (bodies.DigestPage from upto trim lng es)) sent → epoch_of from ≡ e → e < b → PagesBounded sent → ((f : Entry) → In f es → Place f.number f.what × Says hs made l f.ballot f.number f.what) → NoPlan l e b
       → PageFacts l e b y from upto trim lng es
   page_frozen l e b y from upto trim lng es i q lt B S N = record {
     sent_so = i;
     epoch = q;
-    frozen = λ o f j. let k = B l y b from upto trim lng es f i j (subst (Open r l) (sym q) o) in let s = S f j in let ep : epoch_of f.number ≡ e = k.1 ∙ q in record {
-      below = lesser f k.0 ep (s.says (subst (Open r l) (sym ep) o));
+    frozen = λ f j. let k = B l y b from upto trim lng es f i j in let s = S f j in let ep : epoch_of f.number ≡ e = k.1 ∙ q in record {
+      below = lesser f k.0 ep s.1;
       epoch = ep;
-      place = s.given.place;
-      says = s.says (subst (Open r l) (sym ep) o);
+      place = s.0;
+      says = s.1;
     };
   } where
     lesser : (f : Entry) → f.ballot ≤ b → epoch_of f.number ≡ e → Says hs made l f.ballot f.number f.what → f.ballot < b
@@ -152,10 +148,10 @@ module _ (hs : List Happened) (made : List Made) (sent : List Msg) (r : Register
     ]
 
   -- what a whole node had stored for lesser ballots is accounted for
-  pub accounts : (s : Spec) (l e b : ℕ) (d : List Told) → DigestSoFar s l e b d → ShowsAll made sent r → NoPlan l e b → Open r l e → (t : Told) → In t d → t.whole ≡ true → (n a : ℕ) → epoch_of n ≡ e → 0 < esn_of n → a < b → StoredBy sent l t.node n a → Kept made l b t.trim t.entries n a
-  accounts s l e b d D A N o t i w n a q p lt st =
+  pub accounts : (s : Spec) (l e b : ℕ) (d : List Told) → DigestSoFar s l e b d → ShowsAll made sent → NoPlan l e b → (t : Told) → In t d → t.whole ≡ true → (n a : ℕ) → epoch_of n ≡ e → 0 < esn_of n → a < b → StoredBy sent l t.node n a → Kept made l b t.trim t.entries n a
+  accounts s l e b d D A N t i w n a q p lt st =
       let k = (D.told t i).covers n q p (inr w) in
-      elim (A l t.node b k.from k.upto k.trim k.lng k.entries n a k.page st (q ∙ sym k.epoch) k.low k.high lt (subst (Open r l) (sym q) o)) [
+      elim (A l t.node b k.from k.upto k.trim k.lng k.entries n a k.page st (q ∙ sym k.epoch) k.low k.high lt) [
         | inl z ↦ inl (let u = k.trims in omega arith)
         | inr (inl z) ↦ inr (inl (record { entry = z.entry; there = k.told z.entry z.there; number = z.number; least = z.least }))
         | inr (inr z) ↦ inr (inr (record {

@@ -1,5 +1,5 @@
 -- Each record anywhere is one that was appended, and each trim anywhere is one that was issued.
-use Rattle.std.proofs.Common.{◌≡◌, ◌∙◌, ◌⊎◌, ◌≤◌, ◌<◌, ℕ, ◌-◌, inl, inr, refl, ap, sym, subst, true, false, List, [], ◌∷◌, ◌++◌, Option, Some, None, arith}
+use Rattle.std.proofs.Common.{Bool, ◌≡◌, ◌∙◌, ◌⊎◌, ◌≤◌, ◌<◌, ℕ, ◌-◌, inl, inr, refl, ap, sym, subst, true, false, List, [], ◌∷◌, ◌++◌, Option, Some, None, arith}
 use Rattle.ld_lsn.specs.Number.{esn_of, numbered, last_esn}
 use Rattle.ld_schedule.specs.declared.event.Event.{Event}
 use Rattle.ld_msg.specs.declared.msg.What.{What}
@@ -35,6 +35,12 @@ GivenTrim hs l t = (t ≡ 0) ⊎ ((k p : ℕ) × (t ≤ p) × Issues hs l p k)
 
 abbrev pub AnyEpoch : ℕ → ℕ → Type 0
 AnyEpoch l e = Unit {0}
+
+abbrev pub AnyShown : ℕ → Bool → Entry → Type 0
+AnyShown l clean e = Unit {0}
+
+abbrev pub AnyReleased : ℕ → ℕ → Type 0
+AnyReleased l r = Unit {0}
 
 abbrev pub GivenSummary : List Happened → ℕ → ℕ → Summary → Type 0
 GivenSummary hs l e y = GivenTrim hs l y.trim × (e ≤ epoch_limit)

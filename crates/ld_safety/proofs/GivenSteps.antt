@@ -32,7 +32,7 @@ use Rattle.ld_safety.proofs.SequencerSteps.{Closing, Acting, Retrying, replied, 
 use Rattle.ld_safety.proofs.RegisterSteps.{Same, activate_leaves, close_leaves, draw_leaves, epochs_put, epochs_same}
 use Rattle.ld_safety.proofs.Numbers.{below_last}
 use Rattle.ld_safety.proofs.Base.{Base, base_kept, counts_of}
-use Rattle.ld_safety.proofs.Given.{AnyEpoch, GivenEntry, GivenTrim, GivenSummary, entry_grows, trim_grows, of_log_grows, plan_given}
+use Rattle.ld_safety.proofs.Given.{AnyEpoch, AnyShown, AnyReleased, GivenEntry, GivenTrim, GivenSummary, entry_grows, trim_grows, of_log_grows, plan_given}
 use Rattle.ld_safety.proofs.CarriedSteps.{Carries, Sources, HeardOf, carried_on}
 use Rattle.ld_safety.proofs.CarriedSequencers as sequencers
 use Rattle.ld_safety.proofs.CarriedNodes as nodes
@@ -41,10 +41,10 @@ use Rattle.ld_safety.proofs.Carried as carried
 use Rattle.ld_safety.proofs.Has as has
 
 abbrev pub Given : Config → List Happened → State → Type 0
-Given c hs s = Carries c s (events.Flow 0) (GivenEntry hs) (GivenTrim hs) (GivenSummary hs) AnyEpoch s
+Given c hs s = Carries c s (events.Flow 0) (GivenEntry hs) (GivenTrim hs) (GivenSummary hs) AnyEpoch AnyShown AnyReleased s
 
-given_sound : (hs : List Happened) → carried.Sound (GivenEntry hs) (GivenTrim hs) (GivenSummary hs) AnyEpoch
-given_sound hs = record { zero_trim = λ l. inl refl; place = λ l b n w g. g.place.above; reached = λ l b n w g. tt; closing_trim = λ l e y h. h.0; zero_closed = λ l. (inl refl, omega arith) }
+given_sound : (hs : List Happened) → carried.Sound (GivenEntry hs) (GivenTrim hs) (GivenSummary hs) AnyEpoch AnyShown AnyReleased
+given_sound hs = record { zero_trim = λ l. inl refl; place = λ l b n w g. g.place.above; reached = λ l b n w g. tt; closing_trim = λ l e y h. h.0; zero_closed = λ l. (inl refl, omega arith); zero_released = λ l. tt }
 
 -- the trims of what a register takes
 module _ (c : Config) (hs : List Happened) where
@@ -84,12 +84,12 @@ module _ (c : Config) (hs : List Happened) where
     failed = λ n j. subst (λ (d : Changed). Trims d.register) j z;
   }
 
-  module _ (r : Register) (h : Trims r) (q : Sequencer) (L : q.epoch ≤ epoch_limit) (O : carried.RecoveryOk (GivenEntry hs) (GivenTrim hs) (GivenSummary hs) AnyEpoch q.log q.epoch q.recovery) where
-    stage : (v : Recovery) (g : Stage) → q.recovery ≡ Some v → v.stage ≡ g → carried.StageOk (GivenEntry hs) (GivenTrim hs) (GivenSummary hs) AnyEpoch q.log q.epoch v.epoch g
-    stage v g e f = subst (carried.StageOk (GivenEntry hs) (GivenTrim hs) (GivenSummary hs) AnyEpoch q.log q.epoch v.epoch) f (subst (carried.RecoveryOk (GivenEntry hs) (GivenTrim hs) (GivenSummary hs) AnyEpoch q.log q.epoch) e O).1
+  module _ (r : Register) (h : Trims r) (q : Sequencer) (L : q.epoch ≤ epoch_limit) (O : carried.RecoveryOk (GivenEntry hs) (GivenTrim hs) (GivenSummary hs) AnyEpoch AnyShown AnyReleased q.log q.epoch q.recovery) where
+    stage : (v : Recovery) (g : Stage) → q.recovery ≡ Some v → v.stage ≡ g → carried.StageOk (GivenEntry hs) (GivenTrim hs) (GivenSummary hs) AnyEpoch AnyShown AnyReleased q.log q.epoch v.epoch g
+    stage v g e f = subst (carried.StageOk (GivenEntry hs) (GivenTrim hs) (GivenSummary hs) AnyEpoch AnyShown AnyReleased q.log q.epoch v.epoch) f (subst (carried.RecoveryOk (GivenEntry hs) (GivenTrim hs) (GivenSummary hs) AnyEpoch AnyShown AnyReleased q.log q.epoch) e O).1
 
     in_limit : (v : Recovery) → q.recovery ≡ Some v → v.epoch ≤ epoch_limit
-    in_limit v e = let z = (subst (carried.RecoveryOk (GivenEntry hs) (GivenTrim hs) (GivenSummary hs) AnyEpoch q.log q.epoch) e O).0.1 in omega arith
+    in_limit v e = let z = (subst (carried.RecoveryOk (GivenEntry hs) (GivenTrim hs) (GivenSummary hs) AnyEpoch AnyShown AnyReleased q.log q.epoch) e O).0.1 in omega arith
 
     acting_trims : (y : ℕ) (b : Body) → Acting c r q y b (λ k m. Trims k.register)
     acting_trims y b = record {
@@ -113,9 +113,9 @@ module _ (c : Config) (hs : List Happened) (w : World) (e : Event) (B : Base c h
   abbrev next : List Happened
   next = hs ++ happened c w.state e ∷ []
 
-  now : Carries c w.state e (GivenEntry next) (GivenTrim next) (GivenSummary next) AnyEpoch w.state
-  now = carries_grow (GivenEntry hs) (GivenTrim hs) (GivenSummary hs) AnyEpoch (GivenEntry next) (GivenTrim next) (GivenSummary next) AnyEpoch (entry_grows hs e (Step.happens c w.state e)) (trim_grows hs e (Step.happens c w.state e))
-      (λ l k y h. (trim_grows hs e (Step.happens c w.state e) l y.trim h.0, h.1)) (λ l k h. tt) c w.state e w.state G
+  now : Carries c w.state e (GivenEntry next) (GivenTrim next) (GivenSummary next) AnyEpoch AnyShown AnyReleased w.state
+  now = carries_grow (GivenEntry hs) (GivenTrim hs) (GivenSummary hs) AnyEpoch AnyShown AnyReleased (GivenEntry next) (GivenTrim next) (GivenSummary next) AnyEpoch AnyShown AnyReleased (entry_grows hs e (Step.happens c w.state e)) (trim_grows hs e (Step.happens c w.state e))
+      (λ l k y h. (trim_grows hs e (Step.happens c w.state e) l y.trim h.0, h.1)) (λ l k h. tt) (λ l b x h. tt) (λ l k h. tt) c w.state e w.state G
 
   handled : (f : List ℕ) (n : ℕ) (m : Msg) (x : Node) (o : Option Op) (b : Option Body) → Trims c next (Step.handles (with_node (refreshed w.state f) n x) n m o b).state.register
   handled f n m x None b = now.register
@@ -182,12 +182,12 @@ module _ (c : Config) (hs : List Happened) (w : World) (e : Event) (B : Base c h
   trim_given name q point v x = let y = slice_get-In _ _ (finish_In (Step.happens c w.state e) _ x) in
       inr (length hs, point, omega arith, record { name = name; told = (happened c w.state e, slice_get_last (happened c w.state e) hs [], y.0, y.1); of_log = log_known name q v })
 
-  ending_trim : (q : Sequencer) (L : q.epoch ≤ epoch_limit) (v : Recovery) (y : Summary) (f : carried.RecoveryOk (GivenEntry next) (GivenTrim next) (GivenSummary next) AnyEpoch q.log q.epoch q.recovery) → q.recovery ≡ Some v
-      → sequencers.Ending (GivenEntry next) (GivenTrim next) (GivenSummary next) AnyEpoch (given_sound next) c q (HeardOf w.state q) v y → GivenSummary next q.log v.epoch y
+  ending_trim : (q : Sequencer) (L : q.epoch ≤ epoch_limit) (v : Recovery) (y : Summary) (f : carried.RecoveryOk (GivenEntry next) (GivenTrim next) (GivenSummary next) AnyEpoch AnyShown AnyReleased q.log q.epoch q.recovery) → q.recovery ≡ Some v
+      → sequencers.Ending (GivenEntry next) (GivenTrim next) (GivenSummary next) AnyEpoch AnyShown AnyReleased (given_sound next) c q (HeardOf w.state q) v y → GivenSummary next q.log v.epoch y
   ending_trim q L v y f r (sequencers.closing_now g) = (stage c next w.state.register now.register q L f v (Closes y) r g, in_limit c next w.state.register now.register q L f v r)
   ending_trim q L v y f r (sequencers.ready_now g p z b h s k u i) = (subst (λ (x : Summary). GivenTrim next q.log x.trim) (sym i) (stage c next w.state.register now.register q L f v (Stores g) r k).0, in_limit c next w.state.register now.register q L f v r)
 
-  sources : Sources c w.state e (GivenEntry next) (GivenTrim next) (GivenSummary next) AnyEpoch
+  sources : Sources c w.state e (GivenEntry next) (GivenTrim next) (GivenSummary next) AnyEpoch AnyShown AnyReleased
   sources = record {
     sound = given_sound next;
     before = now;
@@ -199,17 +199,19 @@ module _ (c : Config) (hs : List Happened) (w : World) (e : Event) (B : Base c h
     trim = λ name q point v b x. trim_given name q point v x;
     planned = λ name q v d y from upto trim lng es l h f r g k t u D m i j. plan_given next q.log q.epoch v.epoch _ (λ z j x k. (D z j).entries x k) i j;
     closed = λ name q v y l r d k g. ending_trim q (limit_of name q l.named) v y (now.sequencers name q l.named).recovery r d;
-    refill = λ n m round from upto es i t v b u x j k. let z : carried.MsgOk (GivenEntry next) (GivenTrim next) (GivenSummary next) AnyEpoch m = now.sent m i in
-        let y : carried.EntriesOk (GivenEntry next) (GivenTrim next) (GivenSummary next) AnyEpoch m.log es = subst (carried.BodyOk (GivenEntry next) (GivenTrim next) (GivenSummary next) AnyEpoch m.log m.from) b z in
+    refill = λ n m round from upto es i t v b u x j k. let z : carried.MsgOk (GivenEntry next) (GivenTrim next) (GivenSummary next) AnyEpoch AnyShown AnyReleased m = now.sent m i in
+        let y : carried.EntriesOk (GivenEntry next) (GivenTrim next) (GivenSummary next) AnyEpoch AnyShown AnyReleased m.log es = (subst (carried.BodyOk (GivenEntry next) (GivenTrim next) (GivenSummary next) AnyEpoch AnyShown AnyReleased m.log m.from) b z).0 in
         let o = y x j in record { place = o.place; appended = o.appended };
+    shows = λ n l v. record { clean = λ f z k x a h b t i u o. tt; open_still = λ f k x t i u o. tt };
+    released = λ name q p v f. tt;
   }
 
   pub given_step : Given c (hs ++ happened c w.state e ∷ []) (next_world c w e).state
-  given_step = carried_on c w.state e (GivenEntry next) (GivenTrim next) (GivenSummary next) AnyEpoch B.0.0 sources
+  given_step = carried_on c w.state e (GivenEntry next) (GivenTrim next) (GivenSummary next) AnyEpoch AnyShown AnyReleased B.0.0 sources
 
 start_given : (c : Config) → Given c [] (start c)
 unfolding find
-start_given c = has.start_has _ _ _ _ _ _ (λ y l. tt) c (λ y. nodes.blank_ok (GivenEntry []) (GivenTrim []) (GivenSummary []) AnyEpoch (given_sound [])) (λ l e y h. absurd (not_none h))
+start_given c = has.start_has _ _ _ _ _ _ (λ y l. tt) c (λ y. nodes.blank_ok (GivenEntry []) (GivenTrim []) (GivenSummary []) AnyEpoch AnyShown AnyReleased (given_sound [])) (λ l e y h. absurd (not_none h))
 
 abbrev pub BaseGiven : Config → List Happened → World → Type 0
 BaseGiven c hs w = Base c hs w × Given c hs w.state

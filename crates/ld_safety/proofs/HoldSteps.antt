@@ -1,38 +1,28 @@
 -- In every state a node that is up is formatted and has no record cut short, and each node holds what it stored.
-use Rattle.std.proofs.Common.{◌≡◌, ◌∙◌, ◌⊎◌, ◌≤◌, ◌<◌, ℕ, zero, suc, ◌+◌, inl, inr, refl, ap, sym, subst, Bool, true, false, ◌&&◌, ◌==◌, nat_lt, nat_le, cond, if◌then◌else◌, List, [], ◌∷◌, ◌++◌, Option, Some, None, arith}
+use Rattle.std.proofs.Common.{◌≡◌, ◌∙◌, ◌<◌, ℕ, ◌+◌, inl, inr, refl, ap, subst, Bool, true, false, ◌==◌, nat_lt, if◌then◌else◌, List, [], ◌∷◌, Option, Some, None, arith}
 use Rattle.std.specs.Option.{unwrap_or}
-use Rattle.std.proofs.lemmas.Bool.{cases_Bool, and_parts, eqb-true, eqb-false, ltb-true, cases_order, leb-true}
-use Rattle.ld_table.specs.Table.{find, put}
+use Rattle.std.proofs.lemmas.Bool.{cases_Bool, eqb-false, cases_order}
+use Rattle.ld_table.specs.Table.{find}
 use Rattle.ld_table.proofs.Laws.{find-put_same}
-use Rattle.ld_lsn.specs.Number.{epoch_of, esn_of, numbered, last_esn}
 use Rattle.ld_config.specs.declared.config.Config.{Config}
 use Rattle.ld_schedule.specs.declared.event.Event.{Event}
-use Rattle.ld_schedule.specs.declared.event.Picture.{Picture}
-use Rattle.ld_msg.specs.declared.msg.What.{What}
 use Rattle.ld_msg.specs.declared.msg.Entry.{Entry}
 use Rattle.ld_msg.specs.declared.msg.Summary.{Summary}
-use Rattle.ld_msg.specs.declared.msg.Who.{Who}
-use Rattle.ld_msg.specs.declared.msg.Who.TheVariants as whos
-use Rattle.ld_msg.specs.declared.msg.Msg.{Msg}
 use Rattle.ld_msg.specs.declared.msg.Body.{Body}
 use Rattle.ld_msg.specs.declared.msg.Body.TheVariants as bodies
 use Rattle.ld_op.specs.declared.op.Op.{Op}
 use Rattle.ld_op.specs.declared.op.Op.TheVariants as ops
-use Rattle.ld_op.specs.Plain.{Plain, Log, log_of, apply, with_log}
+use Rattle.ld_op.specs.Plain.{Plain, Log, apply}
 use Rattle.ld_op.specs.Answers.{Decision, Lost, CleanAlready, Trimmed, Sealed, Same, Take, store_decision, digest_decision, taken, on_store, on_digest_ask, on_clean, clean_op, on_trim}
-use Rattle.ld_op.specs.Handles.{handled_by, ballot_of}
-use Rattle.ld_op.specs.Ticks.{Ticked, Cleans, Rebuilt, Asks, Nothing, on_tick, tick_with, lost_tick, refill_tick, lowest_unclean, gap_from, missing, on_page, page_op, refill_op, lacking, is_missing, as_closed}
-use Rattle.ld_msg.specs.Register.{Register, Granted, Changed, epochs_of, epochs_in, generation_of, lce_of, draw}
-use Rattle.ld_machine.specs.Disk.{Node, Cut, Fault, Fate, Made, FailsAt, CrashesAt, fate, new_node, keep_op, kept_by, is_full_for, load, loaded_by, load_end, kept_end, found, found_length, status_of, fault_after, Written, is_up, is_blank, Blank, Up, Failed}
-use Rattle.ld_machine.specs.State.{State, Done, node_at}
-use Rattle.ld_machine.specs.World.{World, In, from_node, made_on}
+use Rattle.ld_op.specs.Handles.{handled_by}
+use Rattle.ld_op.specs.Ticks.{on_page, page_op, refill_op, lacking}
+use Rattle.ld_msg.specs.Register.{Register, Granted, epochs_in, generation_of, draw}
+use Rattle.ld_machine.specs.Disk.{Node, Fate, Made, FailsAt, CrashesAt, fate, keep_op, kept_by, is_full_for, load, loaded_by, load_end, kept_end, found, status_of, Written, is_up, Blank, Up, Failed}
+use Rattle.ld_machine.specs.State.{State, node_at}
 use Rattle.ld_machine.specs.Step as Step
-use Rattle.ld_safety.proofs.Lists.{Some_inj, not_none, cond_both, In-map, not_both}
-use Rattle.ld_safety.proofs.Members.{In_filter, find_in}
-use Rattle.ld_safety.proofs.Events.{Serves}
-use Rattle.ld_safety.proofs.NodeSteps.{Served, store_decided, ask_decided}
+use Rattle.ld_safety.proofs.Lists.{Some_inj, cond_both}
 use Rattle.ld_safety.proofs.RegisterSteps.{draw_granted}
-use Rattle.ld_safety.proofs.NodeCases.{NodeKeeps, node_cases}
+use Rattle.ld_safety.proofs.NodeCases.{NodeKeeps}
 
 -- ---- nodes that are up ----
 abbrev pub UpFine : Node → Type 0

@@ -78,10 +78,10 @@ pub cond_both : {X : Type 0} (b : Bool) (x y : X) (P : X → Type 0) → (b ≡ 
 cond_both true x y P h g = h refl
 cond_both false x y P h g = g refl
 
-how_many-yes : {X : Type 0} (p : X → Bool) (x : X) (xs : List X) → p x ≡ true → how_many p (x ∷ xs) ≡ suc (how_many p xs)
+pub how_many-yes : {X : Type 0} (p : X → Bool) (x : X) (xs : List X) → p x ≡ true → how_many p (x ∷ xs) ≡ suc (how_many p xs)
 how_many-yes p x xs h = rw h refl
 
-how_many-no : {X : Type 0} (p : X → Bool) (x : X) (xs : List X) → p x ≡ false → how_many p (x ∷ xs) ≡ how_many p xs
+pub how_many-no : {X : Type 0} (p : X → Bool) (x : X) (xs : List X) → p x ≡ false → how_many p (x ∷ xs) ≡ how_many p xs
 how_many-no p x xs h = rw h refl
 
 -- two tests that together pass more members than there are share one

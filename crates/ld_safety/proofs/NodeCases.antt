@@ -1,11 +1,9 @@
 -- What each event may do to a node: whatever these few changes keep holds of every node after it.
-use Rattle.std.proofs.Common.{◌≡◌, ◌∙◌, ◌⊎◌, ℕ, inl, inr, refl, ap, sym, subst, Bool, true, false, ◌||◌, List, [], ◌∷◌, Option, Some, None}
+use Rattle.std.proofs.Common.{◌≡◌, ℕ, inl, inr, refl, ap, sym, subst, true, List, [], Option, Some, None}
 use Rattle.std.specs.Option.{unwrap_or}
-use Rattle.ld_table.specs.Table.{find, put}
 use Rattle.ld_table.proofs.Laws.{put_cases, find-put_same}
 use Rattle.ld_config.specs.declared.config.Config.{Config}
 use Rattle.ld_schedule.specs.declared.event.Event.{Event}
-use Rattle.ld_transcript.specs.declared.line.Line.{Line}
 use Rattle.ld_msg.specs.declared.msg.Who.TheVariants as whos
 use Rattle.ld_msg.specs.declared.msg.Summary.{Summary}
 use Rattle.ld_msg.specs.declared.msg.Msg.{Msg}
@@ -15,8 +13,8 @@ use Rattle.ld_op.specs.declared.op.Op.TheVariants as ops
 use Rattle.ld_op.specs.Plain.{log_of}
 use Rattle.ld_op.specs.Ticks.{Ticked, Cleans, Rebuilt, Asks, Nothing, on_tick}
 use Rattle.ld_msg.specs.Register.{Register, Granted, epochs_of, epochs_in, generation_of, draw}
-use Rattle.ld_machine.specs.Disk.{Node, Fault, new_node, keep_op, load, load_end, Written, is_up, is_blank, is_down, is_failed}
-use Rattle.ld_machine.specs.State.{State, Done, node_at, with_node, with_register}
+use Rattle.ld_machine.specs.Disk.{Node, Fault, new_node, keep_op, load, load_end, Written, is_blank}
+use Rattle.ld_machine.specs.State.{State, node_at, with_node, with_register}
 use Rattle.ld_machine.specs.World.{In}
 use Rattle.ld_machine.specs.Step as Step
 use Rattle.ld_safety.proofs.Events.{Cases, Serves, refreshed, loaded}

@@ -1,6 +1,7 @@
 -- What a node decides and answers, case by case.
-use Rattle.std.proofs.Common.{inl, inr, ◌≡◌, ◌≤◌, ◌<◌, ℕ, refl, sym, true, false, ◌==◌, nat_lt, nat_le, if◌then◌else◌, Option, Some, None, arith}
-use Rattle.std.proofs.lemmas.Bool.{leb-true, leb-false, ltb-true, ltb-false, eqb-true, eqb-false, cases_order}
+use Rattle.std.proofs.Common.{inl, inr, ◌≡◌, ◌≤◌, ◌<◌, ℕ, refl, sym, true, false, ◌==◌, nat_lt, nat_le, if◌then◌else◌, Option, Some, None, arith, ◌&&◌, is_none}
+use Rattle.ld_op.specs.Ticks.{is_missing, is_below_end}
+use Rattle.std.proofs.lemmas.Bool.{leb-true, leb-false, ltb-true, ltb-false, eqb-true, eqb-false, cases_order, and_parts}
 use Rattle.ld_table.specs.Table.{find}
 use Rattle.ld_lsn.specs.Number.{epoch_of, home_epoch, home_esn, numbered}
 use Rattle.ld_msg.specs.declared.msg.Entry.{Entry}
@@ -75,3 +76,14 @@ module _ (generation : ℕ) (g : Log) (released round from : ℕ) (Q : Body → 
   pub read_answered : Q (read_answer generation g released round from)
   unfolding read_answer
   read_answered = cond_both (nat_le from g.trim) _ _ Q (λ t. K.trimmed (leb-true _ _ t)) (λ t. by_summary (leb-false _ _ t) (summary_at g (home_epoch from)) refl)
+
+-- ---- refills ----
+
+-- a missing number is of an epoch that is clean there
+pub missing_clean : (g : Log) (k : ℕ) → is_missing g k ≡ true → (y : Summary) × (find (epoch_of k) g.summaries ≡ Some y)
+unfolding is_missing
+missing_clean g k h = let p = and_parts ((nat_lt g.trim k && nat_le (epoch_of k) g.lost_to) && is_below_end k (find (epoch_of k) g.summaries)) (is_none (find k g.entries)) h in
+    let q = and_parts (nat_lt g.trim k && nat_le (epoch_of k) g.lost_to) (is_below_end k (find (epoch_of k) g.summaries)) p.0 in by_found (find (epoch_of k) g.summaries) refl q.1 where
+      by_found : (o : Option Summary) → find (epoch_of k) g.summaries ≡ o → is_below_end k o ≡ true → (y : Summary) × (find (epoch_of k) g.summaries ≡ Some y)
+      by_found None f q = absurd cc
+      by_found (Some y) f q = (y, f)

@@ -1,13 +1,12 @@
 -- What each plan that was made stands on: a digest that showed all, of enough nodes.
-use Rattle.std.proofs.Common.{◌≡◌, ◌∙◌, ◌⊎◌, ◌≤◌, ◌<◌, ℕ, ◌+◌, inl, inr, ap, sym, subst, true, not, ◌&&◌, List, [], ◌++◌, length, arith}
+use Rattle.std.proofs.Common.{◌≡◌, ◌∙◌, ◌⊎◌, ◌<◌, ℕ, ◌+◌, inl, inr, sym, subst, true, not, ◌&&◌, List, [], ◌++◌, length}
 use Rattle.ld_table.specs.Words.{how_many}
 use Rattle.ld_lsn.specs.Number.{epoch_of, esn_of}
 use Rattle.ld_ids.specs.Choice.{nodes_of}
 use Rattle.ld_config.specs.declared.config.Config.{Config}
 use Rattle.ld_msg.specs.declared.msg.What.{What}
-use Rattle.ld_msg.specs.declared.msg.Entry.{Entry}
 use Rattle.ld_msg.specs.declared.msg.Msg.{Msg}
-use Rattle.ld_msg.specs.Register.{Register, lce_of}
+use Rattle.ld_msg.specs.Register.{Register}
 use Rattle.ld_msg.specs.Digest.{Told}
 use Rattle.ld_machine.specs.Config.{spec_in}
 use Rattle.ld_machine.specs.State.{Done, finish, node_at}
@@ -15,9 +14,7 @@ use Rattle.ld_machine.specs.Facts.{Happened}
 use Rattle.ld_machine.specs.World.{Made, In}
 use Rattle.ld_safety.proofs.Steps.{sent_by, sent_before}
 use Rattle.ld_safety.proofs.Protocol.{Says, StoredBy, Kept, PlanFacts}
-use Rattle.ld_safety.proofs.Said.{Open}
 use Rattle.ld_safety.proofs.HoldKept.{NodeHolds, ends_later}
-use Rattle.ld_safety.proofs.Sends.{StoredIn}
 use Rattle.ld_safety.proofs.Sent.{SendsFine, no_page}
 use Rattle.ld_safety.proofs.Registers.{Up}
 use Rattle.ld_safety.proofs.Digests.{DigestSoFar}
@@ -25,10 +22,10 @@ use Rattle.ld_safety.proofs.Digesting.{NewPlan}
 use Rattle.ld_safety.proofs.DigestKept.{digest_later, up_same}
 
 pub record PlanMade (c : Config) (hs : List Happened) (sent : List Msg) (made : List Made) (r : Register) (l e b : ℕ) (d : List Told) : Type 0 where
-  pub digest : DigestSoFar hs made sent r (spec_in l c.logs) l e b d
+  pub digest : DigestSoFar hs made sent (spec_in l c.logs) l e b d
   pub enough_told : length (nodes_of (spec_in l c.logs)) < (spec_in l c.logs).r + how_many (λ (t : Told). t.whole && not t.lost) d
   pub later : e < b
-  pub seen : Open r l e → (t : Told) → In t d → t.whole ≡ true → (n a : ℕ) → epoch_of n ≡ e → 0 < esn_of n → a < b → StoredBy sent l t.node n a → Kept made l b t.trim t.entries n a
+  pub seen : (t : Told) → In t d → t.whole ≡ true → (n a : ℕ) → epoch_of n ≡ e → 0 < esn_of n → a < b → StoredBy sent l t.node n a → Kept made l b t.trim t.entries n a
 
 pub just_made : (c : Config) (hs : List Happened) (sent : List Msg) (made : List Made) (r : Register) (l e b : ℕ) (d : List Told) → NewPlan c hs sent made r l e b d → PlanMade c hs sent made r l e b d
 just_made c hs sent made r l e b d n = record { digest = n.digest; enough_told = n.enough_told; later = n.later; seen = n.seen }
@@ -40,15 +37,15 @@ module _ (c : Config) (hs next : List Happened) (made more : List Made) (sent : 
     digest = digest_later c hs next made more sent sent r k u (λ m i. i) grow l e b d p.digest;
     enough_told = p.enough_told;
     later = p.later;
-    seen = λ o t i w n a q pl lt st. (let z = (u l).1 in kept_later l b n a t (p.seen (omega arith) t i w n a q pl lt st));
+    seen = λ t i w n a q pl lt st. (kept_later l b n a t (p.seen t i w n a q pl lt st));
   } where
     kept_later : (l b n a : ℕ) (t : Told) → Kept made l b t.trim t.entries n a → Kept (more ++ made) l b t.trim t.entries n a
     kept_later l b n a t (inl h) = inl h
     kept_later l b n a t (inr (inl h)) = inr (inl h)
-    kept_later l b n a t (inr (inr h)) = inr (inr (ends_later made more sent r k u l a b n h))
+    kept_later l b n a t (inr (inr h)) = inr (inr (ends_later made more sent l a b n h))
 
 -- while messages are sent
-module _ (c : Config) (hs : List Happened) (made : List Made) (sent : List Msg) (r : Register) (d : Done) (F : SendsFine r d.state d.sends) (Q : d.state.network.sent ≡ sent) (H : (y : ℕ) → NodeHolds made sent r y (node_at d.state y)) where
+module _ (c : Config) (hs : List Happened) (made : List Made) (sent : List Msg) (r : Register) (d : Done) (F : SendsFine d.state d.sends) (Q : d.state.network.sent ≡ sent) (H : (y : ℕ) → NodeHolds made sent y (node_at d.state y)) where
   pub into : (m : Msg) → In m sent → In m (finish d).state.network.sent
   into m i = sent_before d m (subst (λ (z : List Msg). In m z) (sym Q) i)
 
@@ -60,16 +57,16 @@ module _ (c : Config) (hs : List Happened) (made : List Made) (sent : List Msg) 
     digest = digest_later c hs hs made [] sent (finish d).state.network.sent r r (up_same r) into (λ l b n x s. s) l e b f p.digest;
     enough_told = p.enough_told;
     later = p.later;
-    seen = λ o t i w n a q pl lt st. elim (new_or_old _ st) [
-      | inl j ↦ p.seen o t i w n a q pl lt j
-      | inr j ↦ absurd (let v = (p.digest.told t i).covers n q pl (inr w) in no_page made sent r d F Q H l t.node n a b v.from v.upto v.trim v.lng v.entries v.page j (q ∙ sym v.epoch) lt (subst (Open r l) (sym q) o))
+    seen = λ t i w n a q pl lt st. elim (new_or_old _ st) [
+      | inl j ↦ p.seen t i w n a q pl lt j
+      | inr j ↦ absurd (let v = (p.digest.told t i).covers n q pl (inr w) in no_page made sent d F Q H l t.node n a b v.from v.upto v.trim v.lng v.entries v.page j (q ∙ sym v.epoch) lt)
     ];
   }
 
 -- what agreement stands on
-pub plan_facts : (c : Config) (hs : List Happened) (sent : List Msg) (made : List Made) (r : Register) (l e b : ℕ) (d : List Told) → Open r l e → PlanMade c hs sent made r l e b d → PlanFacts hs made sent (spec_in l c.logs) l e b d
-plan_facts c hs sent made r l e b d o p = record {
-  digest = record { told = λ t i. record { frozen = (p.digest.told t i).frozen o; seen = p.seen o t i }; nodes = p.digest.nodes };
+pub plan_facts : (c : Config) (hs : List Happened) (sent : List Msg) (made : List Made) (r : Register) (l e b : ℕ) (d : List Told) → PlanMade c hs sent made r l e b d → PlanFacts hs made sent (spec_in l c.logs) l e b d
+plan_facts c hs sent made r l e b d p = record {
+  digest = record { told = λ t i. record { frozen = (p.digest.told t i).frozen; seen = p.seen t i }; nodes = p.digest.nodes };
   enough = p.enough_told;
   later = p.later;
 }

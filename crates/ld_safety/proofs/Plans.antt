@@ -1,5 +1,6 @@
 -- The greatest statement of a digest, and the shape of its plan.
 use Rattle.std.proofs.Common.{◌≡◌, ◌∙◌, ◌⊎◌, ◌≤◌, ◌<◌, ℕ, suc, ◌+◌, ◌-◌, max, min, inl, inr, refl, ap, sym, subst, Bool, true, false, not, ◌&&◌, ◌==◌, nat_lt, nat_le, cond, List, [], ◌∷◌, Option, Some, None, arith}
+use Rattle.ld_table.specs.Words.{numbers_from}
 use Rattle.std.proofs.lemmas.Bool.{cases_Bool, and_parts, ltb-true, ltb-false, leb-true, leb-false, lt-ltb, eqb-true, eq-eqb}
 use Rattle.ld_lsn.specs.Number.{epoch_of, esn_of, numbered, last_esn}
 use Rattle.ld_msg.specs.declared.msg.What.{What}
@@ -7,8 +8,8 @@ use Rattle.ld_msg.specs.declared.msg.What.TheVariants.{Rec, Hole, Bridge}
 use Rattle.ld_msg.specs.declared.msg.Entry.{Entry}
 use Rattle.ld_msg.specs.Digest.{better, is_bridge, says, statement, Told, best, is_content, record_or_hole, content, digest_trim, trim_place, top_in, top_place, plan_end, plan_item, Item, record_items, plan}
 use Rattle.ld_machine.specs.World.{In}
-use Rattle.ld_safety.proofs.Lists.{Some_inj, not_none, not_both, branch, cond_both, In-append, only}
-use Rattle.ld_safety.proofs.Members.{In_numbers}
+use Rattle.ld_safety.proofs.Lists.{Some_inj, not_none, not_both, branch, cond_both, In-append, only, In_left}
+use Rattle.ld_safety.proofs.Members.{In_numbers, numbers_in}
 
 -- ---- ranks: 0 for no entry, else one more than its ballot ----
 abbrev pub rank : Option Entry → ℕ
@@ -219,3 +220,13 @@ plan_items e d i h = elim (In-append i _ (record { number = numbered e (plan_end
       record { place = r.0; number = r.2; item = plan_between e d r.0 (omega arith) (omega arith) ∙ ap Some (sym r.3); above = omega arith; below = omega arith }
   | inr a ↦ let q = only i _ a in record { place = plan_end e d; number = ap (λ (x : Item). x.number) q; item = plan_bridge e d ∙ ap Some (sym (ap (λ (x : Item). x.what) q)); above = let z = end_above_trim e d in omega arith; below = omega arith }
 ]
+
+-- each place between the trim and the end has its item
+record_items_have : (e : ℕ) (d : List Told) (ns : List ℕ) (n : ℕ) → In n ns → In (record { number = numbered e n; what = content (best (numbered e n) d) }) (record_items e d ns)
+record_items_have e d [] n i = absurd i
+record_items_have e d (m ∷ ns) n (inl q) = inl (ap (λ k. record { number = numbered e k; what = content (best (numbered e k) d) }) q)
+record_items_have e d (m ∷ ns) n (inr i) = inr (record_items_have e d ns n i)
+
+pub plan_has : (e : ℕ) (d : List Told) (n : ℕ) → trim_place e (digest_trim d) < n → n < plan_end e d → (i : Item) × In i (plan e d).items × (i.number ≡ numbered e n)
+unfolding plan
+plan_has e d n a b = (record { number = numbered e n; what = content (best (numbered e n) d) }, In_left _ (record_items e d (numbers_from (trim_place e (digest_trim d) + 1) (plan_end e d - 1 - trim_place e (digest_trim d)))) _ (record_items_have e d _ n (numbers_in n (trim_place e (digest_trim d) + 1) (plan_end e d - 1 - trim_place e (digest_trim d)) (omega arith) (omega arith))), refl)

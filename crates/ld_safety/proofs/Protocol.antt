@@ -1,6 +1,6 @@
 -- What ballots say of numbers, who stored what, and what a digest must be for recoveries to agree.
-use Rattle.std.proofs.Common.{◌≡◌, ◌∙◌, ◌⊎◌, ◌≤◌, ◌<◌, ℕ, ◌+◌, inl, inr, ap, sym, subst, Bool, true, not, ◌&&◌, ◌==◌, List, map, length, Some, arith}
-use Rattle.std.proofs.lemmas.Bool.{and_parts, eqb-true}
+use Rattle.std.proofs.Common.{refl, ◌≡◌, ◌∙◌, ◌⊎◌, ◌≤◌, ◌<◌, ℕ, ◌+◌, inl, inr, ap, sym, subst, Bool, true, not, ◌&&◌, ◌==◌, List, map, length, Some, arith, eq-eqb}
+use Rattle.std.proofs.lemmas.Bool.{and_parts, eqb-true, and_from}
 use Rattle.ld_table.specs.Words.{how_many, any_of}
 use Rattle.ld_lsn.specs.Number.{epoch_of, esn_of}
 use Rattle.ld_ids.specs.declared.set.Spec.{Spec}
@@ -16,7 +16,7 @@ use Rattle.ld_msg.specs.declared.msg.Body.TheVariants as bodies
 use Rattle.ld_msg.specs.Digest.{Told, plan_item, plan_end}
 use Rattle.ld_machine.specs.Facts.{Happened}
 use Rattle.ld_machine.specs.World.{Made, In, from_node, told_by, says_stored, is_node, is_sequencer}
-use Rattle.ld_safety.proofs.Lists.{any_in}
+use Rattle.ld_safety.proofs.Lists.{any_in, any_from}
 use Rattle.ld_safety.proofs.Given.{AppendedBy, Place}
 
 -- ---- what a ballot says of a number ----
@@ -88,6 +88,9 @@ told_stored sent l n b y h =
     let q = and_parts (m.0.log == l) (says_stored n m.0.body) p.0 in
     let r = and_parts (is_node y m.0.from) (is_sequencer b m.0.to) p.1 in
     subst (λ x. In x sent) (same_message m.0 l y b (bodies.Stored n) (node_who y m.0.from r.0) (sequencer_who b m.0.to r.1) (eqb-true _ _ q.0) (stored_body n m.0.body q.1)) m.1
+
+pub stored_told : (sent : List Msg) (l n b y : ℕ) → StoredBy sent l y n b → tells_stored sent l n b y ≡ true
+stored_told sent l n b y i = any_from (told_by (says_stored n) l y b) (from_node l y b (bodies.Stored n)) sent i (and_from _ _ (and_from _ _ (eq-eqb l l refl) (eq-eqb n n refl)) (and_from _ _ (eq-eqb y y refl) (eq-eqb b b refl)))
 
 -- as many nodes of the log as it has copies stored the number for the ballot
 abbrev pub Chosen : Spec → List Msg → ℕ → ℕ → ℕ → Type 0

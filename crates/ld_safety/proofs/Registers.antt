@@ -106,6 +106,25 @@ follows c s e N h = register_kept c s e (λ n. Follows s.register n) (logs_follo
     (λ n. elim (draw_leaves s.register n) [ inl a ↦ logs_follow s.register (draw s.register n).register a.0 h | inr a ↦ logs_follow s.register (draw s.register n).register a.0 h ])
     (λ n q. logs_follow s.register n q h) N
 
+-- summaries stay
+pub summaries_stay : (c : Config) (s : State) (e : Event) → NamesOnce s → OnlyClosed s.register → (l k : ℕ) (y : Summary) → find k (epochs_of s.register l).summaries ≡ Some y → find k (epochs_of (Step.happens c s e).state.register l).summaries ≡ Some y
+summaries_stay c s e N h = register_kept c s e (λ n. (l k : ℕ) (y : Summary) → find k (epochs_of s.register l).summaries ≡ Some y → find k (epochs_of n l).summaries ≡ Some y) (λ l k y f. f)
+    (λ l. elim (activate_leaves s.register l) [ inl a ↦ by_logs (activate s.register l).register a.0 | inr a ↦ by_put (activate s.register l).register l (next_epoch (epochs_of s.register l)) a.1 (λ k y f. f) ])
+    (λ l k y. elim (close_leaves s.register l k y) [
+      | inl a ↦ by_logs (close s.register l k y).register a.0
+      | inr a ↦ by_put (close s.register l k y).register l (closed_epochs (epochs_of s.register l) k y) a.1 (λ j z f. elim (put_cases j k y (epochs_of s.register l).summaries) [ inl b ↦ absurd (let u = h l j z f in let v = b.0 in let w = a.0 in omega arith) | inr b ↦ b.1 ∙ f ])
+    ])
+    (λ n. elim (draw_leaves s.register n) [ inl a ↦ by_logs (draw s.register n).register a.0 | inr a ↦ by_logs (draw s.register n).register a.0 ])
+    (λ n q. by_logs n q) N where
+      by_logs : (n : Register) → n.logs ≡ s.register.logs → (l k : ℕ) (y : Summary) → find k (epochs_of s.register l).summaries ≡ Some y → find k (epochs_of n l).summaries ≡ Some y
+      by_logs n q l k y f = ap (λ m. find k (unwrap_or (find l m) no_epochs).summaries) q ∙ f
+
+      by_put : (n : Register) (l : ℕ) (x : Epochs) → Same (with_epochs s.register l x) n → ((k : ℕ) (y : Summary) → find k (epochs_of s.register l).summaries ≡ Some y → find k x.summaries ≡ Some y) → (j k : ℕ) (y : Summary) → find k (epochs_of s.register j).summaries ≡ Some y → find k (epochs_of n j).summaries ≡ Some y
+      by_put n l x q g j k y f = elim (epochs_put s.register l j x) [
+        | inl p ↦ ap (λ (z : Epochs). find k z.summaries) (epochs_same (with_epochs s.register l x) n j q ∙ p.1) ∙ g k y (subst (λ z. find k (epochs_of s.register z).summaries ≡ Some y) p.0 f)
+        | inr p ↦ ap (λ (z : Epochs). find k z.summaries) (epochs_same (with_epochs s.register l x) n j q ∙ p.1) ∙ f
+      ]
+
 pub start_closed : OnlyClosed empty_register
 unfolding find
 start_closed l e y h = absurd (not_none h)

@@ -1,14 +1,15 @@
 -- Tables whose keys rise, and pages of what they hold.
-use Rattle.std.proofs.Common.{◌≡◌, ◌∙◌, ◌⊎◌, ◌≤◌, ◌<◌, ℕ, zero, suc, ◌+◌, inl, inr, refl, ap, sym, subst, Bool, true, false, cond, ◌&&◌, nat_cmp, nat_lt, nat_le, Ordering, Less, Equal, Greater, List, [], ◌∷◌, ◌++◌, length, take, filter, Option, Some, None, arith, ◌==◌}
+use Rattle.std.proofs.Common.{◌≡◌, ◌∙◌, ◌⊎◌, ◌≤◌, ◌<◌, ℕ, zero, suc, inl, inr, refl, ap, sym, subst, Bool, true, false, cond, nat_cmp, nat_lt, Ordering, Less, Equal, Greater, List, [], ◌∷◌, length, take, filter, Some, arith, ◌==◌}
+use Rattle.ld_table.proofs.Laws.{same_key, tied}
+use Rattle.std.specs.BTreeMap.{is_at}
 use Rattle.std.specs.Ordering.{match_ordering}
-use Rattle.std.specs.FinMap.{nat_cmp-IsAntisymmetric}
 use Rattle.std.proofs.lemmas.Bool.{cases_Bool, cases_order, ltb-true, ltb-false, lt-ltb, le-ltb, eq-eqb}
-use Rattle.ld_table.specs.Table.{find, put, keep, keep_keys}
+use Rattle.ld_table.specs.Table.{find, put, keep, keep_keys, passes}
 use Rattle.ld_table.specs.Words.{values}
 use Rattle.ld_msg.specs.declared.msg.Entry.{Entry}
 use Rattle.ld_op.specs.Answers.{page_upto, page_limit, last_number}
 use Rattle.ld_machine.specs.World.{In}
-use Rattle.ld_safety.proofs.Lists.{not_none, cond_both}
+use Rattle.ld_safety.proofs.Lists.{cond_both, not_both}
 use Rattle.ld_safety.proofs.Members.{In_filter, In_put, In_values}
 
 less_is : (k n : ℕ) → nat_cmp k n ≡ Less → k < n
@@ -60,6 +61,22 @@ module _ {X : Type 0} where
   unfolding put
   Rising-put k v [] r = ((λ f i. absurd i), tt)
   Rising-put k v (e ∷ m) r = put_step (nat_cmp k e.0) k v e m refl r (Rising-put k v m r.1)
+
+  -- a member is the one that is found
+  pub found_rising : (q : ℕ × X) (m : List (ℕ × X)) → Rising m → In q m → find q.0 m ≡ Some q.1
+  unfolding find
+  found_rising q [] r i = absurd i
+  found_rising q (e ∷ m) r i = by_key (is_at (nat_cmp q.0) e.0) refl i (found_rising q m r.1) where
+    by_key : (b : Bool) → is_at (nat_cmp q.0) e.0 ≡ b → In q (e ∷ m) → (In q m → find q.0 m ≡ Some q.1) → cond b (Some e.1) (find q.0 m) ≡ Some q.1
+    by_key true k (inl z) ih = ap (λ (x : ℕ × X). Some x.1) (sym z)
+    by_key true k (inr j) ih = absurd (let a = r.0 q j in let n = same_key q.0 e.0 k in omega arith)
+    by_key false k (inl z) ih = absurd (let n : is_at (nat_cmp q.0) e.0 ≡ true = tied q.0 e.0 ∙ eq-eqb q.0 e.0 (ap (λ (x : ℕ × X). x.0) z) in not_both _ n k)
+    by_key false k (inr j) ih = ih j
+
+  -- what a keep leaves passes
+  pub kept_rising : (p : ℕ → X → Bool) (m : List (ℕ × X)) (q : ℕ × X) → Rising m → In q (keep p m) → In q m × (p q.0 q.1 ≡ true)
+  unfolding keep
+  kept_rising p m q r i = let z = In_filter _ q m i in (z.0, subst (λ o. passes p q.0 o ≡ true) (found_rising q m r z.0) z.1)
 
 -- ---- entries whose numbers rise ----
 abbrev pub NumbersRising : List Entry → Type 0

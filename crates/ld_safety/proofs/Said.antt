@@ -1,9 +1,15 @@
--- While an epoch is open, each entry of it anywhere says what its ballot says.
-use Rattle.std.proofs.Common.{◌≡◌, ◌∙◌, ◌≤◌, ◌<◌, ℕ, ◌+◌, inl, inr, refl, ap, sym, subst, true, ◌&&◌, nat_lt, nat_le, is_none, List, [], ◌∷◌, ◌++◌, Option, Some, None, arith}
+-- Each entry anywhere says what its ballot says; trims, summaries, pages and released numbers are fine.
+use Rattle.std.proofs.Common.{◌≡◌, ◌∙◌, ◌≤◌, ◌<◌, ℕ, ◌+◌, inl, inr, refl, ap, sym, subst, true, ◌&&◌, nat_lt, nat_le, List, [], ◌∷◌, ◌++◌, Some, arith, Bool, false, ◌-◌, ◌⊎◌, ◌==◌, eqb-true}
+use Rattle.ld_safety.proofs.NodeSteps.{missing_clean}
+use Rattle.ld_op.specs.Answers.{lets_read}
+use Rattle.ld_machine.specs.Step.{set_read}
+use Rattle.ld_table.proofs.Laws.{find-put_same}
+use Rattle.ld_safety.proofs.CarriedSequencers as sequencers
+use Rattle.ld_msg.specs.declared.msg.Msg.{Msg}
 use Rattle.std.proofs.lemmas.Bool.{and_parts}
 use Rattle.ld_table.specs.Table.{find}
 use Rattle.ld_table.specs.Named.{find_named}
-use Rattle.ld_lsn.specs.Number.{epoch_of, esn_of, numbered, last_esn}
+use Rattle.ld_lsn.specs.Number.{epoch_of, esn_of, numbered, last_esn, home_epoch, home_esn}
 use Rattle.ld_config.specs.declared.config.Config.{Config}
 use Rattle.ld_schedule.specs.declared.event.Event.{Event}
 use Rattle.ld_schedule.specs.declared.event.Event.TheVariants as events
@@ -13,15 +19,15 @@ use Rattle.ld_msg.specs.declared.msg.Summary.{Summary}
 use Rattle.ld_msg.specs.declared.msg.Entry.{Entry}
 use Rattle.ld_msg.specs.Digest.{Told, with_page, Item, plan, plan_item}
 use Rattle.ld_msg.specs.Register.{Register, Granted, Epochs, epochs_of, lce_of, close, closed_epochs, with_epochs}
-use Rattle.ld_msg.specs.Sequencer.{Sequencer, Recovery, next_esn}
-use Rattle.ld_op.specs.Plain.{log_of}
-use Rattle.ld_op.specs.Ticks.{is_missing, is_below_end}
+use Rattle.ld_msg.specs.Sequencer.{Sequencer, Recovery, next_esn, released_of, Stage, Closes, Stores}
+use Rattle.ld_op.specs.Plain.{log_of, summary_at, is_lost}
+use Rattle.ld_op.specs.Ticks.{is_missing, as_closed, ballot_of}
 use Rattle.ld_machine.specs.State.{State, Done, node_at}
 use Rattle.ld_machine.specs.Facts.{Happened}
 use Rattle.ld_machine.specs.World.{World, Made, In, made_on}
 use Rattle.ld_machine.specs.Run.{next_world}
 use Rattle.ld_machine.specs.Step as Step
-use Rattle.ld_safety.proofs.Lists.{In_right}
+use Rattle.ld_safety.proofs.Lists.{In_right, cond_both, Some_inj}
 use Rattle.ld_safety.proofs.Members.{find_in}
 use Rattle.ld_safety.proofs.Traces.{happened}
 use Rattle.ld_safety.proofs.Steps.{told}
@@ -32,32 +38,21 @@ use Rattle.ld_safety.proofs.Plans.{plan_items}
 use Rattle.ld_safety.proofs.Base.{Base, counts_of}
 use Rattle.ld_safety.proofs.Given.{GivenEntry, entry_grows, appends_grows, plan_given, end_place}
 use Rattle.ld_safety.proofs.GivenSteps.{Given, append_given}
-use Rattle.ld_safety.proofs.CarriedSteps.{Carries, Sources, carried_on}
+use Rattle.ld_safety.proofs.CarriedSteps.{Carries, Sources, carried_on, HeardOf}
 use Rattle.ld_safety.proofs.CarriedGrows.{carries_grow}
 use Rattle.ld_safety.proofs.Carried as carried
 use Rattle.ld_safety.proofs.Protocol.{plan_of, Says}
-
-abbrev pub Open : Register → ℕ → ℕ → Type 0
-Open r l e = lce_of r l < e
-
--- an epoch that was handed out
-abbrev pub Reached : Register → ℕ → ℕ → Type 0
-Reached r l e = (0 < e) × (e ≤ (epochs_of r l).epoch)
+pub use Rattle.ld_safety.proofs.Settled.{Open, Reached}
+use Rattle.ld_safety.proofs.Settled.{TrimFine, CloseFine, ShowFine, ReleaseFine, ClosedEntry, Summarized, Stays, acked_grows, trim_fine_grows, close_fine_grows, show_grows, release_grows, summarized_grows}
+use Rattle.ld_safety.proofs.Closings.{OfSummaries, Ends_with, summaries_after}
 
 pub record Said (hs : List Happened) (made : List Made) (r : Register) (l b n : ℕ) (x : What) : Type 0 where
   pub given : GivenEntry hs l b n x
   pub reached : Reached r l (epoch_of n)
-  pub says : Open r l (epoch_of n) → Says hs made l b n x
-
-abbrev pub AnyTrim : ℕ → ℕ → Type 0
-AnyTrim l t = Unit {0}
-
--- only closed epochs are clean anywhere
-abbrev pub ClosedIn : Register → ℕ → ℕ → Summary → Type 0
-ClosedIn r l e y = e ≤ lce_of r l
+  pub says : Says hs made l b n x
 
 abbrev pub AllSaid : Config → List Happened → List Made → Register → State → Type 0
-AllSaid c hs made r s = Carries c s (events.Flow 0) (Said hs made r) AnyTrim (ClosedIn r) (Reached r) s
+AllSaid c hs made r s = Carries c s (events.Flow 0) (Said hs made r) (TrimFine c hs s.network.sent r) (CloseFine c hs made s.network.sent r) (Reached r) (ShowFine c hs made s.network.sent r) (ReleaseFine c hs s.network.sent r) s
 
 -- ---- what grows ----
 pub says_grows : (hs : List Happened) (e : Event) (d : Done) (made more : List Made) (l b n : ℕ) (x : What) → Says hs made l b n x → Says (hs ++ told e d ∷ []) (more ++ made) l b n x
@@ -68,7 +63,7 @@ pub said_grows : (hs : List Happened) (e : Event) (d : Done) (made more : List M
 said_grows hs e d made more r k u l b n x s = let v = u l in let a = v.0 in let z = v.1 in let q = s.reached in record {
   given = entry_grows hs e d l b n x s.given;
   reached = (q.0, let y = q.1 in omega arith);
-  says = λ o. says_grows hs e d made more l b n x (s.says (omega arith));
+  says = says_grows hs e d made more l b n x s.says;
 }
 
 module _ (c : Config) (hs : List Happened) (w : World) (e : Event) (B : Base c hs w) (G : Given c hs w.state) (O : OnlyClosed w.state.register) (A : AllSaid c hs w.made w.state.register w.state) where
@@ -81,79 +76,188 @@ module _ (c : Config) (hs : List Happened) (w : World) (e : Event) (B : Base c h
   abbrev pub reg : Register
   reg = (Step.happens c w.state e).state.register
 
+  abbrev pub after : List Msg
+  after = (next_world c w e).state.network.sent
+
+  abbrev pub SaidNow : ℕ → ℕ → ℕ → What → Type 0
+  SaidNow = Said next plans_now reg
+
+  abbrev pub TrimNow : ℕ → ℕ → Type 0
+  TrimNow = TrimFine c next after reg
+
+  abbrev pub CloseNow : ℕ → ℕ → Summary → Type 0
+  CloseNow = CloseFine c next plans_now after reg
+
+  abbrev pub ReachedNow : ℕ → ℕ → Type 0
+  ReachedNow = Reached reg
+
+  abbrev pub ShowNow : ℕ → Bool → Entry → Type 0
+  ShowNow = ShowFine c next plans_now after reg
+
+  abbrev pub ReleaseNow : ℕ → ℕ → Type 0
+  ReleaseNow = ReleaseFine c next after reg
+
   pub up : Up w.state.register reg
   up = (follows c w.state e B.0.0 O).0
 
-  pub now : Carries c w.state e (Said next plans_now reg) AnyTrim (ClosedIn reg) (Reached reg) w.state
-  now = carries_grow (Said hs w.made w.state.register) AnyTrim (ClosedIn w.state.register) (Reached w.state.register) (Said next plans_now reg) AnyTrim (ClosedIn reg) (Reached reg)
-      (said_grows hs e (Step.happens c w.state e) w.made (made_on c w.state e) w.state.register reg up) (λ l t h. tt) (λ l k y h. let z = (up l).1 in omega arith) (λ l k h. (h.0, let z = (up l).0 in let y = h.1 in omega arith)) c w.state e w.state A
+  -- what the step is given: summaries and messages stay, what is released before and after it, what a clean node shows, and what a recovery closes with
+  module _ (stays : Stays w.state.register reg) (into : (m : Msg) → In m w.state.network.sent → In m after)
+      (released_before : (name : List ℕ) (q : Sequencer) → find_named name w.state.sequencers ≡ Some q → ReleaseFine c hs w.state.network.sent w.state.register q.log (released_of q))
+      (released_after : (name : List ℕ) (q p : Sequencer) → Live w.state name q → find_named name (Step.happens c w.state e).state.sequencers ≡ Some p → ReleaseNow q.log (released_of p))
+      (clean_shown : (n l : ℕ) → (from : ℕ) (y : Summary) (k : ℕ) (x : Entry) → (log_of (node_at w.state n).plain l).trim < from → summary_at (log_of (node_at w.state n).plain l) (home_epoch from) ≡ Some y → home_esn from < y.end → is_lost (log_of (node_at w.state n).plain l) (home_epoch from) ≡ false
+      → In (k, x) (log_of (node_at w.state n).plain l).entries → from ≤ x.number → x.number ≤ numbered (home_epoch from) (y.end - 1) → ClosedEntry c hs w.made w.state.network.sent w.state.register l x)
+      (closing : (name : List ℕ) (q : Sequencer) (v : Recovery) (y : Summary) → Live w.state name q → q.recovery ≡ Some v → Ends_with c w.state q v y → lce_of w.state.register q.log + 1 ≡ v.epoch → Summarized c hs w.made w.state.network.sent q.log v.epoch y) where
+    G1 : (l b n : ℕ) (x : What) → Said hs w.made w.state.register l b n x → SaidNow l b n x
+    G1 = said_grows hs e (Step.happens c w.state e) w.made (made_on c w.state e) w.state.register reg up
 
-  sound : carried.Sound (Said next plans_now reg) AnyTrim (ClosedIn reg) (Reached reg)
-  sound = record { zero_trim = λ l. tt; place = λ l b n x s. s.given.place.above; reached = λ l b n x s. s.reached; closing_trim = λ l k y h. tt; zero_closed = λ l. omega arith }
+    now : Carries c w.state e SaidNow TrimNow CloseNow ReachedNow ShowNow ReleaseNow w.state
+    now = carries_grow (Said hs w.made w.state.register) (TrimFine c hs w.state.network.sent w.state.register) (CloseFine c hs w.made w.state.network.sent w.state.register) (Reached w.state.register) (ShowFine c hs w.made w.state.network.sent w.state.register) (ReleaseFine c hs w.state.network.sent w.state.register)
+        SaidNow TrimNow CloseNow ReachedNow ShowNow ReleaseNow G1
+        (trim_fine_grows c hs e (Step.happens c w.state e) w.made (made_on c w.state e) w.state.network.sent after w.state.register reg into up stays)
+        (close_fine_grows c hs e (Step.happens c w.state e) w.made (made_on c w.state e) w.state.network.sent after w.state.register reg into up stays)
+        (λ l k h. (h.0, let z = (up l).0 in let y = h.1 in omega arith))
+        (show_grows c hs e (Step.happens c w.state e) w.made (made_on c w.state e) w.state.network.sent after w.state.register reg into up stays)
+        (release_grows c hs e (Step.happens c w.state e) w.made (made_on c w.state e) w.state.network.sent after w.state.register reg into up stays) c w.state e w.state A
 
-  reached_own : (name : List ℕ) (q : Sequencer) → find_named name w.state.sequencers ≡ Some q → Reached reg q.log q.epoch
-  reached_own name q f = let o = B.0.1.epochs in let a = o.drawn name q f in let p = o.positive name q f in let u = (up q.log).0 in (p, omega arith)
+    sound : carried.Sound SaidNow TrimNow CloseNow ReachedNow ShowNow ReleaseNow
+    sound = record {
+      zero_trim = λ l n a b o. absurd (omega arith);
+      place = λ l b n x s. s.given.place.above;
+      reached = λ l b n x s. s.reached;
+      closing_trim = λ l k y h. h.0;
+      zero_closed = λ l. ((λ n a b o. absurd (omega arith)), inl (refl, refl));
+      zero_released = λ l. record { acked = λ n a b o. absurd (omega arith); closed = omega arith };
+    }
 
-  append_said : (name : List ℕ) (q : Sequencer) (payload : List ℕ) → Live w.state name q → GivenEntry next q.log q.epoch (numbered q.epoch (next_esn q)) (Rec payload) → next_esn q ≤ last_esn → Said next plans_now reg q.log q.epoch (numbered q.epoch (next_esn q)) (Rec payload)
-  append_said name q payload v g b = let ep : epoch_of (numbered q.epoch (next_esn q)) ≡ q.epoch = omega arith in record {
-    given = g;
-    reached = subst (Reached reg q.log) (sym ep) (reached_own name q v.named);
-    says = λ o. inl (record { own = sym ep; payload = payload; is = refl; appended = g.appended payload refl });
-  }
+    reached_own : (name : List ℕ) (q : Sequencer) → find_named name w.state.sequencers ≡ Some q → Reached reg q.log q.epoch
+    reached_own name q f = let o = B.0.1.epochs in let a = o.drawn name q f in let p = o.positive name q f in let u = (up q.log).0 in (p, omega arith)
 
-  plan_said : (name : List ℕ) (q : Sequencer) (v : Recovery) (d : List Told) → find_named name w.state.sequencers ≡ Some q → q.recovery ≡ Some v → In (plan_of q.log v.epoch q.epoch d) plans_now
-      → ((t : Told) → In t d → (f : Entry) → In f t.entries → GivenEntry next q.log f.ballot f.number f.what) → (i : Item) → In i (plan v.epoch d).items → Said next plans_now reg q.log q.epoch i.number i.what
-  plan_said name q v d f r m D i j =
-      let p = plan_items v.epoch d i j in
-      let en = end_place next q.log q.epoch v.epoch d D in
-      let a = p.above in let b = p.below in let nm = p.number in
-      let rec = (subst (carried.RecoveryOk (Said next plans_now reg) AnyTrim (ClosedIn reg) (Reached reg) q.log q.epoch) r (now.sequencers name q f).recovery).0 in
-      let lo = rec.0 in let hi = rec.1 in
-      let ep : epoch_of i.number ≡ v.epoch = omega arith in
-      let es : esn_of i.number ≡ p.place = omega arith in
-      let own = reached_own name q f in let top = own.1 in
-      record {
-        given = plan_given next q.log q.epoch v.epoch d D i j;
-        reached = (omega arith, omega arith);
-        says = λ o. inr (record {
-          later = omega arith;
-          digest = d;
-          planned = subst (λ k. In (plan_of q.log k q.epoch d) plans_now) (sym ep) m;
-          item = subst (λ k. plan_item k d (esn_of i.number) ≡ Some i.what) (sym ep) (subst (λ k. plan_item v.epoch d k ≡ Some i.what) (sym es) p.item);
-        });
-      }
+    append_said : (name : List ℕ) (q : Sequencer) (payload : List ℕ) → Live w.state name q → GivenEntry next q.log q.epoch (numbered q.epoch (next_esn q)) (Rec payload) → next_esn q ≤ last_esn → Said next plans_now reg q.log q.epoch (numbered q.epoch (next_esn q)) (Rec payload)
+    append_said name q payload v g b = let ep : epoch_of (numbered q.epoch (next_esn q)) ≡ q.epoch = omega arith in record {
+      given = g;
+      reached = subst (Reached reg q.log) (sym ep) (reached_own name q v.named);
+      says = inl (record { own = sym ep; payload = payload; is = refl; appended = g.appended payload refl });
+    }
 
-  closed_said : (l k : ℕ) (y : Summary) → lce_of w.state.register l + 1 ≡ k → close w.state.register l k y ≡ record { register = reg; answer = Granted } → ClosedIn reg l k y
-  closed_said l k y h g = let s = close_granted w.state.register l k y reg h g in elim (epochs_put w.state.register l l (closed_epochs (epochs_of w.state.register l) k y)) [
-    | inl a ↦ let z : lce_of reg l ≡ k = ap (λ (x : Epochs). x.lce) (epochs_same (with_epochs w.state.register l (closed_epochs (epochs_of w.state.register l) k y)) reg l s ∙ a.1) in omega arith
-    | inr a ↦ absurd (a.0 refl)
-  ]
+    plan_said : (name : List ℕ) (q : Sequencer) (v : Recovery) (d : List Told) → find_named name w.state.sequencers ≡ Some q → q.recovery ≡ Some v → In (plan_of q.log v.epoch q.epoch d) plans_now
+        → ((t : Told) → In t d → (f : Entry) → In f t.entries → GivenEntry next q.log f.ballot f.number f.what) → (i : Item) → In i (plan v.epoch d).items → Said next plans_now reg q.log q.epoch i.number i.what
+    plan_said name q v d f r m D i j =
+        let p = plan_items v.epoch d i j in
+        let en = end_place next q.log q.epoch v.epoch d D in
+        let a = p.above in let b = p.below in let nm = p.number in
+        let rec = (subst (carried.RecoveryOk SaidNow TrimNow CloseNow ReachedNow ShowNow ReleaseNow q.log q.epoch) r (now.sequencers name q f).recovery).0 in
+        let lo = rec.0 in let hi = rec.1 in
+        let ep : epoch_of i.number ≡ v.epoch = omega arith in
+        let es : esn_of i.number ≡ p.place = omega arith in
+        let own = reached_own name q f in let top = own.1 in
+        record {
+          given = plan_given next q.log q.epoch v.epoch d D i j;
+          reached = (omega arith, omega arith);
+          says = inr (record {
+            later = omega arith;
+            digest = d;
+            planned = subst (λ k. In (plan_of q.log k q.epoch d) plans_now) (sym ep) m;
+            item = subst (λ k. plan_item k d (esn_of i.number) ≡ Some i.what) (sym ep) (subst (λ k. plan_item v.epoch d k ≡ Some i.what) (sym es) p.item);
+          });
+        }
 
-  -- a missing number is of an epoch that is clean there
-  pub missing_closed : (n l s : ℕ) → is_missing (log_of (node_at w.state n).plain l) s ≡ true → epoch_of s ≤ lce_of reg l
-  unfolding is_missing
-  missing_closed n l s h = let g = log_of (node_at w.state n).plain l in let p = and_parts ((nat_lt g.trim s && nat_le (epoch_of s) g.lost_to) && is_below_end s (find (epoch_of s) g.summaries)) (is_none (find s g.entries)) h in
-      let q = and_parts (nat_lt g.trim s && nat_le (epoch_of s) g.lost_to) (is_below_end s (find (epoch_of s) g.summaries)) p.0 in by_found (find (epoch_of s) g.summaries) refl q.1 where
-        by_found : (o : Option Summary) → find (epoch_of s) (log_of (node_at w.state n).plain l).summaries ≡ o → is_below_end s o ≡ true → epoch_of s ≤ lce_of reg l
-        by_found None f q = absurd cc
-        by_found (Some y) f q = ((now.nodes n).plain l).summaries (epoch_of s, y) (find_in (epoch_of s) (log_of (node_at w.state n).plain l).summaries y f)
+    trim_said : (name : List ℕ) (q : Sequencer) (point : ℕ) → Live w.state name q → point ≤ released_of q → TrimNow q.log point
+    trim_said name q point v b n le pos o = let r = released_before name q v.named in let u = (up q.log).1 in let k = r.closed in
+        acked_grows c hs e (Step.happens c w.state e) w.made (made_on c w.state e) w.state.network.sent after w.state.register reg into up stays q.log n (r.acked n (omega arith) pos (omega arith))
 
-  sources : Sources c w.state e (Said next plans_now reg) AnyTrim (ClosedIn reg) (Reached reg)
-  sources = record {
-    sound = sound;
-    before = now;
-    apart = B.1.1;
-    epochs = λ name q f k u v. (u, let z = (reached_own name q f).1 in omega arith);
-    new_epochs = λ l r i k u v. (u, let z : (epochs_of reg l).epoch ≡ (epochs_of r l).epoch = ap (λ n. (epochs_of n l).epoch) i in omega arith);
-    register = (follows c w.state e B.0.0 O).1;
-    append = λ name q payload v a i x. append_said name q payload v (append_given c hs w e B G name q payload v a i x) (counts_of c hs w B name q v.named).small;
-    trim = λ name q point v b x. tt;
-    planned = λ name q v d y from upto trim lng es l h f r g k t u D m i j. plan_said name q v (with_page v.epoch y from upto trim es d) l.named r (subst (λ (z : List Made). In (plan_of q.log v.epoch q.epoch (with_page v.epoch y from upto trim es d)) (z ++ w.made)) (sym m) (inl refl)) (λ z p x o. ((D z p).entries x o).given) i j;
-    closed = λ name q v y l r d k g. closed_said q.log v.epoch y k g;
-    refill = λ n m round from upto es i t v b u x j k. let z : carried.MsgOk (Said next plans_now reg) AnyTrim (ClosedIn reg) (Reached reg) m = now.sent m i in
-        let y : carried.EntriesOk (Said next plans_now reg) AnyTrim (ClosedIn reg) (Reached reg) m.log es = subst (carried.BodyOk (Said next plans_now reg) AnyTrim (ClosedIn reg) (Reached reg) m.log m.from) b z in
-        let o = y x j in record { given = record { place = o.given.place; appended = o.given.appended }; reached = o.reached; says = λ p. absurd (let q = missing_closed n m.log x.number k in omega arith) };
-  }
+    ending : (q : Sequencer) (v : Recovery) (y : Summary) → sequencers.Ending SaidNow TrimNow CloseNow ReachedNow ShowNow ReleaseNow sound c q (HeardOf w.state q) v y → Ends_with c w.state q v y
+    ending q v y (sequencers.closing_now g) = inl g
+    ending q v y (sequencers.ready_now g p z b h s k u i) = inr (record { storing = g; settles = p; node = z; body = b; heard = h; settling = s; stage = k; ready = u; summary = i })
 
-  pub said_step : AllSaid c next plans_now reg (next_world c w e).state
-  said_step = carried_on c w.state e (Said next plans_now reg) AnyTrim (ClosedIn reg) (Reached reg) B.0.0 sources
+    stage_of : (name : List ℕ) (q : Sequencer) (v : Recovery) (g : Stage) → find_named name w.state.sequencers ≡ Some q → q.recovery ≡ Some v → v.stage ≡ g → carried.StageOk SaidNow TrimNow CloseNow ReachedNow ShowNow ReleaseNow q.log q.epoch v.epoch g
+    stage_of name q v g f r k = subst (carried.StageOk SaidNow TrimNow CloseNow ReachedNow ShowNow ReleaseNow q.log q.epoch v.epoch) k (subst (carried.RecoveryOk SaidNow TrimNow CloseNow ReachedNow ShowNow ReleaseNow q.log q.epoch) r (now.sequencers name q f).recovery).1
+
+    closing_trims : (name : List ℕ) (q : Sequencer) (v : Recovery) (y : Summary) → find_named name w.state.sequencers ≡ Some q → q.recovery ≡ Some v → Ends_with c w.state q v y → TrimNow q.log y.trim
+    closing_trims name q v y f r (inl g) = stage_of name q v (Closes y) f r g
+    closing_trims name q v y f r (inr g) = subst (λ (x : Summary). TrimNow q.log x.trim) (sym g.summary) (stage_of name q v (Stores g.storing) f r g.stage).0
+
+    closed_said : (name : List ℕ) (q : Sequencer) (v : Recovery) (y : Summary) → Live w.state name q → q.recovery ≡ Some v → Ends_with c w.state q v y → lce_of w.state.register q.log + 1 ≡ v.epoch → close w.state.register q.log v.epoch y ≡ record { register = reg; answer = Granted } → CloseNow q.log v.epoch y
+    closed_said name q v y live r t h g = let s = close_granted w.state.register q.log v.epoch y reg h g in elim (epochs_put w.state.register q.log q.log (closed_epochs (epochs_of w.state.register q.log) v.epoch y)) [
+      | inl a ↦
+          let eq = epochs_same (with_epochs w.state.register q.log (closed_epochs (epochs_of w.state.register q.log) v.epoch y)) reg q.log s ∙ a.1 in
+          let z : lce_of reg q.log ≡ v.epoch = ap (λ (x : Epochs). x.lce) eq in (
+            closing_trims name q v y live.named r t,
+            inr (record {
+              found_so = ap (λ (x : Epochs). find v.epoch x.summaries) eq ∙ find-put_same v.epoch v.epoch y (epochs_of w.state.register q.log).summaries refl;
+              positive = omega arith;
+              low = omega arith;
+              plan = summarized_grows c hs e (Step.happens c w.state e) w.made (made_on c w.state e) w.state.network.sent after w.state.register reg into up stays q.log v.epoch y (closing name q v y live r t h);
+            }),
+          )
+      | inr a ↦ absurd (a.0 refl)
+    ]
+
+    -- a refilled entry says what the closing plan says
+    refill_said : (n l : ℕ) (x : Entry) → ShowNow l true x → SaidNow l x.ballot x.number x.what → is_missing (log_of (node_at w.state n).plain l) x.number ≡ true → (y : Summary) × (find (epoch_of x.number) (log_of (node_at w.state n).plain l).summaries ≡ Some y) → SaidNow l (as_closed (log_of (node_at w.state n).plain l) x).ballot x.number x.what
+    refill_said n l x s d m f =
+        let k = ((now.nodes n).plain l).summaries (epoch_of x.number, f.0) (find_in (epoch_of x.number) (log_of (node_at w.state n).plain l).summaries f.0 f.1) in
+        let same : f.0 ≡ s.summary = elim k.1 [ inl z ↦ absurd (let p = s.closed.positive in let y = z.0 in omega arith) | inr z ↦ Some_inj (sym z.found_so ∙ s.closed.found_so) ] in
+        let b : ballot_of x.ballot (find (epoch_of x.number) (log_of (node_at w.state n).plain l).summaries) ≡ s.summary.ballot = ap (ballot_of x.ballot) f.1 ∙ ap (λ (z : Summary). z.ballot) same in
+        subst (λ v. SaidNow l v x.number x.what) (sym b) (record { given = record { place = d.given.place; appended = d.given.appended }; reached = d.reached; says = inr s.says })
+
+    home_low : (from : ℕ) → numbered (home_epoch from) 0 ≤ from
+    home_low from = cond_both ((esn_of from == 0) && nat_lt 0 (epoch_of from)) (epoch_of from - 1) (epoch_of from) (λ z. numbered z 0 ≤ from) (λ t. omega arith) (λ t. omega arith)
+
+    open_shown : (n l from : ℕ) (k : ℕ) (x : Entry) → lets_read (Step.released_at (node_at w.state n) l) from ≡ true → In (k, x) (log_of (node_at w.state n).plain l).entries → from ≤ x.number → x.number ≤ Step.released_at (node_at w.state n) l → ShowNow l false x
+    open_shown n l from k x h i lo hi =
+        let r = Step.released_at (node_at w.state n) l in
+        let p = and_parts (nat_lt 0 (esn_of r) && (epoch_of r == home_epoch from)) (nat_le from r) h in
+        let q = and_parts (nat_lt 0 (esn_of r)) (epoch_of r == home_epoch from) p.0 in
+        let pl = (((now.nodes n).plain l).entries (k, x) i).1.given.place.above in
+        let ep : epoch_of r ≡ home_epoch from = eqb-true _ _ q.1 in
+        let ho = home_low from in
+        ((now.nodes n).released l).acked x.number (omega arith) pl hi
+
+    -- where a summary comes from
+    Came : ℕ → ℕ → Summary → Type 0
+    Came l k y = (find k (epochs_of w.state.register l).summaries ≡ Some y) ⊎ ((name : List ℕ) × (q : Sequencer) × (v : Recovery) × Live w.state name q × (q.recovery ≡ Some v) × Ends_with c w.state q v y × (lce_of w.state.register q.log + 1 ≡ v.epoch) × (l ≡ q.log) × (k ≡ v.epoch))
+
+    came : OfSummaries Came (Step.happens c w.state e).state.register
+    unfolding Came
+    came = summaries_after c w.state e Came (λ l k y f. inl f) (λ name q v y live r t h. inr (name, q, v, live, r, t, h, refl, refl)) B.0.0
+
+    register_now : carried.RegisterOk SaidNow TrimNow CloseNow ReachedNow ShowNow ReleaseNow (Step.happens c w.state e).state.register
+    unfolding Came
+    register_now l k y f = elim (came l k y f) [
+      | inl a ↦ now.register l k y a
+      | inr (name, q, v, live, r, t, h, il, ik) ↦
+          let plan = summarized_grows c hs e (Step.happens c w.state e) w.made (made_on c w.state e) w.state.network.sent after w.state.register reg into up stays q.log v.epoch y (closing name q v y live r t h) in (
+            subst (λ z. TrimNow z y.trim) (sym il) (closing_trims name q v y live.named r t),
+            inr (record {
+              found_so = f;
+              positive = omega arith;
+              low = (follows c w.state e B.0.0 O).1 l k y f;
+              plan = subst (λ z. Summarized c next plans_now after z k y) (sym il) (subst (λ z. Summarized c next plans_now after q.log z y) (sym ik) plan);
+            }),
+          )
+    ]
+
+    sources : Sources c w.state e SaidNow TrimNow CloseNow ReachedNow ShowNow ReleaseNow
+    sources = record {
+      sound = sound;
+      before = now;
+      apart = B.1.1;
+      epochs = λ name q f k u v. (u, let z = (reached_own name q f).1 in omega arith);
+      new_epochs = λ l r i k u v. (u, let z : (epochs_of reg l).epoch ≡ (epochs_of r l).epoch = ap (λ n. (epochs_of n l).epoch) i in omega arith);
+      register = register_now;
+      append = λ name q payload v a i x. append_said name q payload v (append_given c hs w e B G name q payload v a i x) (counts_of c hs w B name q v.named).small;
+      trim = λ name q point v b x. trim_said name q point v b;
+      planned = λ name q v d y from upto trim lng es l h f r g k t u D m i j. plan_said name q v (with_page v.epoch y from upto trim es d) l.named r (subst (λ (z : List Made). In (plan_of q.log v.epoch q.epoch (with_page v.epoch y from upto trim es d)) (z ++ w.made)) (sym m) (inl refl)) (λ z p x o. ((D z p).entries x o).given) i j;
+      closed = λ name q v y l r d k g. closed_said name q v y l r (ending q v y d) k g;
+      refill = λ n m round from upto es i t v b u x j k. let z : carried.MsgOk SaidNow TrimNow CloseNow ReachedNow ShowNow ReleaseNow m = now.sent m i in
+          let y = subst (carried.BodyOk SaidNow TrimNow CloseNow ReachedNow ShowNow ReleaseNow m.log m.from) b z in
+          refill_said n m.log x (y.1 x j) (y.0 x j) k (missing_clean (log_of (node_at w.state n).plain m.log) x.number k);
+      shows = λ n l v. record {
+        clean = λ from y k x a b d f i lo hi. show_grows c hs e (Step.happens c w.state e) w.made (made_on c w.state e) w.state.network.sent after w.state.register reg into up stays l true x (clean_shown n l from y k x a b d f i lo hi);
+        open_still = λ from k x h i lo hi. open_shown n l from k x h i lo hi;
+      };
+      released = released_after;
+    }
+
+    pub said_step : AllSaid c next plans_now reg (next_world c w e).state
+    said_step = carried_on c w.state e SaidNow TrimNow CloseNow ReachedNow ShowNow ReleaseNow B.0.0 sources

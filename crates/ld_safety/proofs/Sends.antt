@@ -1,35 +1,24 @@
 -- When a node answers that it stored a number or shows a page, it holds what it says, in its one plain state.
-use Rattle.std.proofs.Common.{◌≡◌, ◌∙◌, ◌⊎◌, ◌≤◌, ◌<◌, ℕ, zero, suc, ◌+◌, ◌*◌, ◌/◌, ◌%◌, ◌^◌, inl, inr, refl, ap, sym, subst, Bool, true, false, ◌&&◌, ◌==◌, nat_lt, nat_le, cond, if◌then◌else◌, List, [], ◌∷◌, ◌++◌, take, filter, Option, Some, None, arith}
+use Rattle.std.proofs.Common.{◌≡◌, ◌∙◌, ◌≤◌, ◌<◌, ℕ, inl, inr, refl, ap, sym, subst, Bool, true, false, ◌&&◌, ◌==◌, nat_le, cond, List, [], ◌∷◌, take, filter, Option, Some, None, arith}
 use Rattle.std.specs.Option.{unwrap_or}
 use Rattle.std.proofs.lemmas.Bool.{cases_Bool, and_parts, and_from, eqb-true, le-leb, leb-true}
-use Rattle.ld_table.specs.Table.{find, put}
+use Rattle.ld_table.specs.Table.{find}
 use Rattle.ld_table.specs.Words.{values}
 use Rattle.ld_table.proofs.Laws.{find-put_same}
 use Rattle.ld_lsn.specs.Number.{epoch_of, esn_of, numbered, last_esn}
-use Rattle.ld_config.specs.declared.config.Config.{Config}
-use Rattle.ld_schedule.specs.declared.event.Event.{Event}
-use Rattle.ld_transcript.specs.declared.line.Line.{Line}
-use Rattle.ld_msg.specs.declared.msg.What.{What}
 use Rattle.ld_msg.specs.declared.msg.Entry.{Entry}
-use Rattle.ld_msg.specs.declared.msg.Summary.{Summary}
-use Rattle.ld_msg.specs.declared.msg.Who.{Who}
-use Rattle.ld_msg.specs.declared.msg.Who.TheVariants as whos
-use Rattle.ld_msg.specs.declared.msg.Msg.{Msg}
 use Rattle.ld_msg.specs.declared.msg.Body.{Body}
 use Rattle.ld_msg.specs.declared.msg.Body.TheVariants as bodies
 use Rattle.ld_op.specs.declared.op.Op.{Op}
 use Rattle.ld_op.specs.declared.op.Op.TheVariants as ops
-use Rattle.ld_op.specs.Plain.{Plain, Log, log_of, empty_log, apply, with_log, accepted, sealed_by, is_lost}
-use Rattle.ld_op.specs.Answers.{Decision, Lost, CleanAlready, Trimmed, Sealed, Same, Take, store_decision, digest_decision, taken, is_same, refusal, store_answer, digest_answer, digest_page, entries_within, page_upto, page_limit, on_store, on_digest_ask, on_clean, on_trim, read_answer}
-use Rattle.ld_op.specs.Handles.{handled_by, ballot_of, answer_message}
+use Rattle.ld_op.specs.Plain.{Plain, Log, log_of, empty_log, apply, with_log, accepted, sealed_by, summary_at}
+use Rattle.ld_op.specs.Answers.{Decision, Lost, CleanAlready, Trimmed, Sealed, Same, Take, store_decision, digest_decision, taken, is_same, refusal, store_answer, digest_answer, entries_within, page_upto, page_limit, on_store, on_digest_ask, on_clean, on_trim, read_answer}
+use Rattle.ld_op.specs.Handles.{handled_by}
 use Rattle.ld_op.specs.Ticks.{on_page}
 use Rattle.ld_op.proofs.Moves.{taken_there}
-use Rattle.ld_msg.specs.Register.{Register}
-use Rattle.ld_machine.specs.Disk.{Node, Fate, Made, FailsAt, CrashesAt, fate, keep_op, keep_end, kept_by, kept_end, with_op, is_full_for, Kept, Written, DiskFailed, Crashed, JournalFull, Failed}
-use Rattle.ld_machine.specs.State.{State, node_at}
-use Rattle.ld_machine.specs.World.{In, from_node}
-use Rattle.ld_machine.specs.Step as Step
-use Rattle.ld_safety.proofs.Lists.{Some_inj, not_none, cond_both, branch}
+use Rattle.ld_machine.specs.Disk.{Node, Fate, Made, FailsAt, CrashesAt, fate, keep_op, keep_end, kept_by, kept_end, is_full_for, Written, JournalFull, Failed}
+use Rattle.ld_machine.specs.World.{In}
+use Rattle.ld_safety.proofs.Lists.{Some_inj}
 use Rattle.ld_safety.proofs.Members.{In_filter, In_take, In_values, find_in}
 use Rattle.ld_safety.proofs.NodeSteps.{Served, store_decided, ask_decided, read_answered}
 use Rattle.ld_safety.proofs.Rising.{NumbersRising, rising_values, rising_filter, page_has}
@@ -37,13 +26,13 @@ use Rattle.ld_safety.proofs.Holdings.{HeldAt, LogFine}
 
 -- the number is stored in this plain state for the ballot
 pub record StoredIn (p : Plain) (l n b : ℕ) : Type 0 where
-  pub served : is_lost (log_of p l) (epoch_of n) ≡ false
+  pub served : Served (log_of p l) (epoch_of n)
   pub sealed : (log_of p l).sealed ≤ b
   pub held : HeldAt (log_of p l) n b
 
 -- a page shows what stands in this plain state
 pub record PageIn (p : Plain) (l b from upto t : ℕ) (es : List Entry) : Type 0 where
-  pub served : is_lost (log_of p l) (epoch_of from) ≡ false
+  pub served : Served (log_of p l) (epoch_of from)
   pub sealed : (log_of p l).sealed ≡ b
   pub trim : t ≡ (log_of p l).trim
   pub has : (k : ℕ) (f : Entry) → find k (log_of p l).entries ≡ Some f → epoch_of k ≡ epoch_of from → from ≤ k → k ≤ upto → In f es
@@ -72,9 +61,9 @@ same_held g e h = by_find (find e.number g.entries) refl h where
   by_find (Some x) f q = let p = and_parts (x.ballot == e.ballot) _ q in let z = eqb-true _ _ p.0 in record { entry = x; found_at = f; least = omega arith }
 
 taken_in : (p : Plain) (l lng : ℕ) (e : Entry) → Served (log_of p l) (epoch_of e.number) → StoredIn (after p (Some (ops.Accept l lng e))) l e.number e.ballot
-unfolding apply
+unfolding apply summary_at
 taken_in p l lng e s = let q = log_here p l (accepted (log_of p l) e) in record {
-  served = subst (λ g. is_lost g (epoch_of e.number) ≡ false) (sym q) s.found_here;
+  served = subst (λ g. Served g (epoch_of e.number)) (sym q) (record { found_here = s.found_here; unclean = s.unclean });
   sealed = subst (λ (g : Log). g.sealed ≤ e.ballot) (sym q) (omega arith);
   held = subst (λ g. HeldAt g e.number e.ballot) (sym q) (record { entry = e; found_at = taken_there (log_of p l) e; least = omega arith });
 }
@@ -85,7 +74,7 @@ store_in p generation l lng n e h = store_decided (log_of p l) e (λ d. store_an
   clean = λ y t k q. absurd cc;
   trimmed = λ s k q. absurd cc;
   sealed = λ s a k q. absurd cc;
-  same = λ s a b k q. let z : e.number ≡ n = cc in subst (λ x. StoredIn p l x e.ballot) z (record { served = s.found_here; sealed = b; held = same_held (log_of p l) e k });
+  same = λ s a b k q. let z : e.number ≡ n = cc in subst (λ x. StoredIn p l x e.ballot) z (record { served = s; sealed = b; held = same_held (log_of p l) e k });
   takes = λ s a b q. let z : e.number ≡ n = cc in subst (λ x. StoredIn (after p (Some (ops.Accept l lng e))) l x e.ballot) z (taken_in p l lng e s);
 }) h
 
@@ -104,12 +93,12 @@ filter_in p x (y ∷ xs) i h = by_test (p y) refl i (λ j. filter_in p x xs j h)
   by_test false q (inl e) ih = absurd (let z : p y ≡ true = subst (λ v. p v ≡ true) e h in cc)
   by_test false q (inr j) ih = ih j
 
-page_shows : (r : Register) (g : Log) (l b from : ℕ) → LogFine r l g → is_lost g (epoch_of from) ≡ false → 0 < esn_of from → (p : Plain) → log_of p l ≡ g → g.sealed ≡ b
+page_shows : (g : Log) (l b from : ℕ) → LogFine g → Served g (epoch_of from) → 0 < esn_of from → (p : Plain) → log_of p l ≡ g → g.sealed ≡ b
     → PageIn p l b from (page_upto (entries_within g from (numbered (epoch_of from) last_esn)) (numbered (epoch_of from) last_esn)) g.trim (take page_limit (entries_within g from (numbered (epoch_of from) last_esn)))
-page_shows r g l b from F s pos p q z =
+page_shows g l b from F s pos p q z =
     let last = numbered (epoch_of from) last_esn in
     let rising = rising_filter (λ (e : Entry). nat_le from e.number && nat_le e.number last) (values g.entries) (rising_values g.entries F.numbers F.rising) in record {
-      served = subst (λ h. is_lost h (epoch_of from) ≡ false) (sym q) s;
+      served = subst (λ h. Served h (epoch_of from)) (sym q) s;
       sealed = subst (λ (h : Log). h.sealed ≡ b) (sym q) z;
       trim = ap (λ (h : Log). h.trim) (sym q);
       has = λ k f h e lo up. shown f k (subst (λ (x : Log). find k x.entries ≡ Some f) q h) e lo up rising;
@@ -135,16 +124,16 @@ same_page f u t from upto trim lng es xs h = let q : bodies.DigestPage f u t 0 e
 as_page : (p : Plain) (l b f u t from upto trim : ℕ) (es xs : List Entry) → SamePage f u t es from upto trim xs → PageIn p l b f u t es → PageIn p l b from upto trim xs
 as_page p l b f u t from upto trim es xs q h = subst (λ z. PageIn p l b z upto trim xs) q.from_same (subst (λ z. PageIn p l b f z trim xs) q.upto_same (subst (λ z. PageIn p l b f u z xs) q.trim_same (subst (λ z. PageIn p l b f u t z) q.entries_same h)))
 
-page_in : (r : Register) (p : Plain) (generation l ballot f from upto t lng : ℕ) (es : List Entry) → LogFine r l (log_of p l) → 0 < esn_of f → digest_answer generation (log_of p l) f (digest_decision (log_of p l) ballot f) ≡ Some (bodies.DigestPage from upto t lng es)
+page_in : (p : Plain) (generation l ballot f from upto t lng : ℕ) (es : List Entry) → LogFine (log_of p l) → 0 < esn_of f → digest_answer generation (log_of p l) f (digest_decision (log_of p l) ballot f) ≡ Some (bodies.DigestPage from upto t lng es)
     → PageIn (after p (taken (ops.Seal l ballot) (digest_decision (log_of p l) ballot f))) l ballot from upto t es
-unfolding apply
-page_in r p generation l ballot f from upto t lng es F pos h = ask_decided (log_of p l) ballot f (λ d. digest_answer generation (log_of p l) f d ≡ Some (bodies.DigestPage from upto t lng es) → PageIn (after p (taken (ops.Seal l ballot) d)) l ballot from upto t es) (record {
+unfolding apply summary_at
+page_in p generation l ballot f from upto t lng es F pos h = ask_decided (log_of p l) ballot f (λ d. digest_answer generation (log_of p l) f d ≡ Some (bodies.DigestPage from upto t lng es) → PageIn (after p (taken (ops.Seal l ballot) d)) l ballot from upto t es) (record {
   lost = λ t q. absurd cc;
   clean = λ y t k q. absurd cc;
   sealed = λ s k q. absurd cc;
-  same = λ s k q. as_page p l ballot _ _ _ from upto t _ es (same_page _ _ _ from upto t lng _ es q) (page_shows r (log_of p l) l ballot f F s.found_here pos p refl (sym k));
+  same = λ s k q. as_page p l ballot _ _ _ from upto t _ es (same_page _ _ _ from upto t lng _ es q) (page_shows (log_of p l) l ballot f F s pos p refl (sym k));
   takes = λ s k q. as_page (with_log p l (sealed_by (log_of p l) ballot)) l ballot _ _ _ from upto t _ es (same_page _ _ _ from upto t lng _ es q)
-      (page_shows r (sealed_by (log_of p l) ballot) l ballot f (record { rising = F.rising; numbers = F.numbers; bounded = λ q i o u. (let z = F.bounded q i o u in omega arith) }) s.found_here pos (with_log p l (sealed_by (log_of p l) ballot)) (log_here p l (sealed_by (log_of p l) ballot)) refl);
+      (page_shows (sealed_by (log_of p l) ballot) l ballot f (record { rising = F.rising; numbers = F.numbers; bounded = λ q i u. (let z = F.bounded q i (record { found_here = u.found_here; unclean = u.unclean }) in omega arith) }) (record { found_here = s.found_here; unclean = s.unclean }) pos (with_log p l (sealed_by (log_of p l) ballot)) (log_here p l (sealed_by (log_of p l) ballot)) refl);
 }) h
 
 -- ---- what a node answers ----
@@ -157,12 +146,12 @@ read_untold : (generation : ℕ) (g : Log) (released round from : ℕ) → is_to
 read_untold generation g released round from = read_answered generation g released round from (λ b. is_told b ≡ false) (record { trimmed = λ h. refl; ended = λ y a h k. refl; lost_clean = λ y a h k t. refl; lost = λ a h t. refl; clean = λ y a h k t. refl; open_page = λ a h t u. refl; waits = λ a. refl })
 
 -- what an answer says of the plain state after it
-pub record Answered (r : Register) (p : Plain) (l b : ℕ) (x : Body) : Type 0 where
+pub record Answered (p : Plain) (l b : ℕ) (x : Body) : Type 0 where
   pub stored : (n : ℕ) → x ≡ bodies.Stored n → StoredIn p l n b
   pub page : (from upto t lng : ℕ) (es : List Entry) → x ≡ bodies.DigestPage from upto t lng es → PageIn p l b from upto t es
 
-untold : (r : Register) (p : Plain) (l b : ℕ) (x : Body) → is_told x ≡ false → Answered r p l b x
-untold r p l b x h = record { stored = λ n q. absurd (let z = ap is_told q in cc); page = λ from upto t lng es q. absurd (let z = ap is_told q in cc) }
+untold : (p : Plain) (l b : ℕ) (x : Body) → is_told x ≡ false → Answered p l b x
+untold p l b x h = record { stored = λ n q. absurd (let z = ap is_told q in cc); page = λ from upto t lng es q. absurd (let z = ap is_told q in cc) }
 
 refused_untold : (generation s : ℕ) (d : Decision) (x : Body) → refusal generation s d ≡ Some x → is_told x ≡ false
 refused_untold generation s (Lost end) x h = subst (λ b. is_told b ≡ false) (Some_inj h) refl
@@ -192,21 +181,21 @@ no_answer : (g : Log) (l : ℕ) (b x : Body) → (on_page g l b).answer ≡ Some
 unfolding on_page
 no_answer g l b x q = cc
 
-pub answered_in : (r : Register) (p : Plain) (generation l ballot released : ℕ) (b x : Body) → LogFine r l (log_of p l) → ((from : ℕ) → b ≡ bodies.DigestAsk from → 0 < esn_of from)
-    → (handled_by generation (log_of p l) l ballot released b).answer ≡ Some x → Answered r (after p (handled_by generation (log_of p l) l ballot released b).op) l ballot x
+pub answered_in : (p : Plain) (generation l ballot released : ℕ) (b x : Body) → LogFine (log_of p l) → ((from : ℕ) → b ≡ bodies.DigestAsk from → 0 < esn_of from)
+    → (handled_by generation (log_of p l) l ballot released b).answer ≡ Some x → Answered (after p (handled_by generation (log_of p l) l ballot released b).op) l ballot x
 unfolding on_store on_digest_ask on_clean on_trim
-answered_in r p generation l ballot released (bodies.Store n lng w) x F K h = let e : Entry = record { number = n; ballot = ballot; what = w } in record {
+answered_in p generation l ballot released (bodies.Store n lng w) x F K h = let e : Entry = record { number = n; ballot = ballot; what = w } in record {
   stored = λ k q. store_in p generation l lng k e (h ∙ ap Some q);
   page = λ from upto t k es q. absurd (no_page_stored generation n (store_decision (log_of p l) e) from upto t k es (h ∙ ap Some q));
 }
-answered_in r p generation l ballot released (bodies.DigestAsk from) x F K h = record {
+answered_in p generation l ballot released (bodies.DigestAsk from) x F K h = record {
   stored = λ k q. absurd (no_stored_page generation (log_of p l) from (digest_decision (log_of p l) ballot from) k (h ∙ ap Some q));
-  page = λ a upto t k es q. page_in r p generation l ballot from a upto t k es F (K from refl) (h ∙ ap Some q);
+  page = λ a upto t k es q. page_in p generation l ballot from a upto t k es F (K from refl) (h ∙ ap Some q);
 }
-answered_in r p generation l ballot released (bodies.Clean e y) x F K h = absurd cc
-answered_in r p generation l ballot released (bodies.Trim t) x F K h = absurd cc
-answered_in r p generation l ballot released (bodies.ReadAsk round from) x F K h = untold r _ l ballot x (subst (λ z. is_told z ≡ false) (Some_inj h) (read_untold generation (log_of p l) released round from))
-answered_in r p generation l ballot released b x F K h = absurd (no_answer (log_of p l) l b x h)
+answered_in p generation l ballot released (bodies.Clean e y) x F K h = absurd cc
+answered_in p generation l ballot released (bodies.Trim t) x F K h = absurd cc
+answered_in p generation l ballot released (bodies.ReadAsk round from) x F K h = untold _ l ballot x (subst (λ z. is_told z ≡ false) (Some_inj h) (read_untold generation (log_of p l) released round from))
+answered_in p generation l ballot released b x F K h = absurd (no_answer (log_of p l) l b x h)
 
 -- ---- a record that is written ----
 written_by : (x : Node) (o : Op) (f : Fate) → kept_end f ≡ Written → ((kept_by x o f).plain ≡ apply x.plain o) × ((kept_by x o f).cut ≡ x.cut)

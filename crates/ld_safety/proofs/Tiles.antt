@@ -38,7 +38,7 @@ use Rattle.ld_safety.proofs.Steps.{is_plain, filter_finish, told, became, step_b
 use Rattle.ld_safety.proofs.ReaderSteps.{ReadKeeps, answered, below_end}
 use Rattle.ld_safety.proofs.Members.{In_put}
 use Rattle.ld_safety.proofs.Base.{Base}
-use Rattle.ld_safety.proofs.Given.{AnyEpoch, GivenEntry, GivenTrim, GivenSummary}
+use Rattle.ld_safety.proofs.Given.{AnyEpoch, AnyShown, AnyReleased, GivenEntry, GivenTrim, GivenSummary}
 use Rattle.ld_safety.proofs.GivenSteps.{Given, BaseGiven, given_kept}
 use Rattle.ld_safety.proofs.Carried as carried
 use Rattle.ld_msg.specs.declared.msg.Body.TheVariants as bodies
@@ -270,9 +270,9 @@ ended_small from end e a q l = let z : home_esn from ≤ 2 ^ 32 = cond_both (is_
       | inr u ↦ (let v = eqb-false _ _ u in let pos : 0 < esn_of end = elim (cases_order 0 (esn_of end)) [ inl k ↦ absurd (v (sym k)) | inr (inl k) ↦ k | inr (inr k) ↦ absurd (omega arith) ] in omega arith)
     ])
 
-body_small : (hs : List Happened) (l : ℕ) (b : Body) → carried.HeldOk (GivenEntry hs) (GivenTrim hs) (GivenSummary hs) AnyEpoch l b → Small b
+body_small : (hs : List Happened) (l : ℕ) (b : Body) → carried.HeldOk (GivenEntry hs) (GivenTrim hs) (GivenSummary hs) AnyEpoch AnyShown AnyReleased l b → Small b
 unfolding Small
-body_small hs l b h round from end e = let k : carried.EndedOk (GivenEntry hs) (GivenTrim hs) (GivenSummary hs) AnyEpoch l from end = subst (carried.HeldOk (GivenEntry hs) (GivenTrim hs) (GivenSummary hs) AnyEpoch l) e h in ended_small from end k.summary.end k.past k.is k.closed.1
+body_small hs l b h round from end e = let k : carried.EndedOk (GivenEntry hs) (GivenTrim hs) (GivenSummary hs) AnyEpoch AnyShown AnyReleased l from end = subst (carried.HeldOk (GivenEntry hs) (GivenTrim hs) (GivenSummary hs) AnyEpoch AnyShown AnyReleased l) e h in ended_small from end k.summary.end k.past k.is k.closed.1
 
 module _ (r : List ℕ) (d : Reader) where
   gives_one : (a : Read) (i : Item) → Gives r d a → is_finished a.reader ≡ false → a.reader.next ≤ item_end a.reader.next i → Gives r d (gives a i)
@@ -384,7 +384,7 @@ module _ (c : Config) (hs : List Happened) (w : World) (e : Event) (B : Base c h
   reader_small name d f h i = body_small hs d.log h.1.body (G.readers name d f h i)
 
   message_small : (d : Reader) (m : Msg) (name : List ℕ) → In m w.state.network.sent → m.to ≡ whos.Reader d.number → find_named name w.state.readers ≡ Some d → Small m.body
-  message_small d m name i t f = body_small hs m.log m.body (carried.held_of (GivenEntry hs) (GivenTrim hs) (GivenSummary hs) AnyEpoch m.log m.from m.body (G.sent m i))
+  message_small d m name i t f = body_small hs m.log m.body (carried.held_of (GivenEntry hs) (GivenTrim hs) (GivenSummary hs) AnyEpoch AnyShown AnyReleased m.log m.from m.body (G.sent m i))
 
   got_cases : Cases c w.state e (λ d m. Result d)
   got_cases = record {

@@ -6,10 +6,10 @@ ghost use Rattle.ld_config.specs.declared.config.Config.{Config};
 ghost use Rattle.ld_config.specs.Bounds.{IsInBounds};
 ghost use Rattle.ld_schedule.specs.declared.event.Event.{Event};
 ghost use Rattle.ld_machine.specs.Run.{history};
-ghost use Rattle.ld_machine.specs.Safe.{ItemsTile, NumbersDiffer, NumbersRise, RecordsWereAppended, TrimsWereIssued};
+ghost use Rattle.ld_machine.specs.Safe.{ItemsTile, NothingHidden, NumbersDiffer, NumbersRise, RecordsWereAppended, TrimsWereIssued};
 ghost use Rattle.ld_machine.specs.World.{begin};
 ghost use Rattle.ld_machine.specs.Run.{world_after};
-ghost use Rattle.ld_safety.specs.Agreed.{AgreesOpen};
+ghost use Rattle.ld_machine.specs.Invariant.{Agrees};
 
 /// What each reader gets tiles the numbers from its first one on.
 pub fn items_tile()
@@ -31,12 +31,17 @@ pub fn records_were_appended()
     ensures { (c : Config) (es : List Event) → IsInBounds c → RecordsWereAppended c (history c es) }
 {}
 
+/// No hole or bridge that a reader gets holds a number that was acknowledged or read as a record, earlier or later.
+pub fn nothing_is_hidden()
+    ensures { (c : Config) (es : List Event) → IsInBounds c → NothingHidden c (history c es) }
+{}
+
 /// A trim gap ends at or below a point that was issued before.
 pub fn trims_were_issued()
     ensures { (c : Config) (es : List Event) → IsInBounds c → TrimsWereIssued c (history c es) }
 {}
 
-/// While an epoch is open, what as many nodes as there are copies stored for a ballot is in each plan of a greater ballot, unless it is trimmed there.
+/// What as many nodes as there are copies stored for a ballot is in each plan of a greater ballot, unless it is trimmed there.
 pub fn recoveries_agree()
-    ensures { (c : Config) (es : List Event) → IsInBounds c → AgreesOpen c (world_after c (begin c) es) }
+    ensures { (c : Config) (es : List Event) → IsInBounds c → Agrees c (world_after c (begin c) es) }
 {}

@@ -1,0 +1,135 @@
+-- Where the summaries of a register come from: they were there before the step, or a recovery closes its epoch in it.
+use Rattle.std.proofs.Common.{◌≡◌, ◌∙◌, ◌⊎◌, ℕ, ◌+◌, inl, inr, refl, ap, sym, subst, true, List, Option, Some, None, Bool}
+use Rattle.std.specs.Option.{unwrap_or}
+use Rattle.ld_table.specs.Table.{find}
+use Rattle.ld_table.proofs.Laws.{put_cases}
+use Rattle.ld_config.specs.declared.config.Config.{Config}
+use Rattle.ld_schedule.specs.declared.event.Event.{Event}
+use Rattle.ld_msg.specs.declared.msg.Summary.{Summary}
+use Rattle.ld_msg.specs.declared.msg.Msg.{Msg}
+use Rattle.ld_msg.specs.declared.msg.Body.{Body}
+use Rattle.ld_ids.specs.declared.set.Spec.{Spec}
+use Rattle.ld_op.specs.declared.op.Op.{Op}
+use Rattle.ld_op.specs.Ticks.{Ticked, Cleans, Rebuilt, Asks, Nothing}
+use Rattle.ld_machine.specs.Disk.{Node}
+use Rattle.ld_machine.specs.Config.{spec_in}
+use Rattle.ld_msg.specs.Register.{Register, Epochs, Changed, no_epochs, epochs_of, lce_of, with_epochs, next_epoch, closed_epochs, close, activate, draw}
+use Rattle.ld_msg.specs.Sequencer.{Sequencer, Acts, Recovery, Storing, Stores, Closes, is_ready, settled_by, summary_of}
+use Rattle.ld_machine.specs.State.{State, node_at, with_node}
+use Rattle.ld_machine.specs.Step as Step
+use Rattle.ld_safety.proofs.Lists.{Some_inj}
+use Rattle.ld_safety.proofs.Events.{NamesOnce, Cases, dispatch, Live, refreshed}
+use Rattle.ld_safety.proofs.SequencerSteps.{Settling, Closing, Acting, Retrying, replied, retried}
+use Rattle.ld_safety.proofs.RegisterSteps.{Same, activate_leaves, close_leaves, draw_leaves, epochs_put, epochs_same}
+use Rattle.ld_safety.proofs.CarriedSteps.{HeardOf}
+
+-- what holds of each summary of a register
+abbrev pub OfSummaries : (ℕ → ℕ → Summary → Type 0) → Register → Type 0
+OfSummaries P r = (l e : ℕ) (y : Summary) → find e (epochs_of r l).summaries ≡ Some y → P l e y
+
+module _ (P : ℕ → ℕ → Summary → Type 0) where
+  same_summaries : (r n : Register) → Same r n → OfSummaries P r → OfSummaries P n
+  same_summaries r n s h l e y f = h l e y (ap (λ (x : Epochs). find e x.summaries) (sym (epochs_same r n l s)) ∙ f)
+
+  put_summaries : (r n : Register) (l : ℕ) (x : Epochs) → ((e : ℕ) (y : Summary) → find e x.summaries ≡ Some y → P l e y) → Same (with_epochs r l x) n → OfSummaries P r → OfSummaries P n
+  put_summaries r n l x g s h k e y f = elim (epochs_put r l k x) [
+    | inl a ↦ subst (λ z. P z e y) (sym a.0) (g e y (ap (λ (z : Epochs). find e z.summaries) (sym (epochs_same (with_epochs r l x) n k s ∙ a.1)) ∙ f))
+    | inr a ↦ h k e y (ap (λ (z : Epochs). find e z.summaries) (sym (epochs_same (with_epochs r l x) n k s ∙ a.1)) ∙ f)
+  ]
+
+  close_summaries : (r : Register) (l e : ℕ) (y : Summary) → (lce_of r l + 1 ≡ e → P l e y) → OfSummaries P r → OfSummaries P (close r l e y).register
+  close_summaries r l e y t h = elim (close_leaves r l e y) [
+    | inl s ↦ same_summaries r (close r l e y).register s h
+    | inr s ↦ put_summaries r (close r l e y).register l (closed_epochs (epochs_of r l) e y) (λ k z f. elim (put_cases k e y (epochs_of r l).summaries) [
+      | inl a ↦ subst (λ j. P l j z) (sym a.0) (subst (λ (v : Summary). P l e v) (Some_inj (sym a.1 ∙ f)) (t s.0))
+      | inr a ↦ h l k z (sym a.1 ∙ f)
+    ]) s.1 h
+  ]
+
+  activate_summaries : (r : Register) (l : ℕ) → OfSummaries P r → OfSummaries P (activate r l).register
+  activate_summaries r l h = elim (activate_leaves r l) [ inl s ↦ same_summaries r (activate r l).register s h | inr s ↦ put_summaries r (activate r l).register l (next_epoch (epochs_of r l)) (λ e y f. h l e y f) s.1 h ]
+
+  draw_summaries : (r : Register) (n : ℕ) → OfSummaries P r → OfSummaries P (draw r n).register
+  draw_summaries r n h = elim (draw_leaves r n) [ inl s ↦ same_summaries r (draw r n).register s h | inr s ↦ (λ l e y f. h l e y (ap (λ m. find e (unwrap_or (find l m) no_epochs).summaries) (sym s.0) ∙ f)) ]
+
+  close_called : (r : Register) (p : Spec) (a : Acts) (e : ℕ) (y : Summary) → (lce_of r a.sequencer.log + 1 ≡ e → P a.sequencer.log e y) → OfSummaries P r → Closing r p a e y (λ k. OfSummaries P k.register)
+  close_called r p a e y t h = let z = close_summaries r a.sequencer.log e y t h in record {
+    granted = λ n i j. subst (λ (d : Changed). OfSummaries P d.register) j z;
+    overtaken = λ i. h;
+    behind = λ b i. h;
+    failed = λ n j. subst (λ (d : Changed). OfSummaries P d.register) j z;
+  }
+
+-- how a recovery closes its epoch: it tried before, or its plan is ready
+pub record Readied (c : Config) (s : State) (q : Sequencer) (v : Recovery) (y : Summary) : Type 0 where
+  pub storing : Storing
+  pub settles : ℕ → Bool
+  pub node : ℕ
+  pub body : Body
+  pub heard : HeardOf s q node body
+  pub settling : Settling body v.epoch settles
+  pub stage : v.stage ≡ Stores storing
+  pub ready : is_ready (spec_in q.log c.logs) (settled_by settles node storing) ≡ true
+  pub summary : y ≡ summary_of q.epoch (settled_by settles node storing)
+
+abbrev pub Ends_with : Config → State → Sequencer → Recovery → Summary → Type 0
+Ends_with c s q v y = (v.stage ≡ Closes y) ⊎ Readied c s q v y
+
+module _ (c : Config) (s : State) (e : Event) (P : ℕ → ℕ → Summary → Type 0) (h : OfSummaries P s.register)
+    (closes : (name : List ℕ) (q : Sequencer) (v : Recovery) (y : Summary) → Live s name q → q.recovery ≡ Some v → Ends_with c s q v y → lce_of s.register q.log + 1 ≡ v.epoch → P q.log v.epoch y) where
+  acting : (name : List ℕ) (q : Sequencer) → Live s name q → (y : ℕ) (b : Body) → HeardOf s q y b → Acting c s.register q y b (λ k m. OfSummaries P k.register)
+  acting name q live y b H = record {
+    quiet = h;
+    sealed = λ n k f i l. h;
+    cleaned_own = λ n s f i g. h;
+    acks = λ n p f i g k. h;
+    settles_some = λ v g p f e i s u. h;
+    settles_all = λ v g p f e i z u. close_called P s.register _ _ v.epoch _ (λ j. closes name q v _ live e (inr (record { storing = g; settles = p; node = y; body = b; heard = H; settling = z; stage = i; ready = u; summary = refl })) j) h;
+    lost_own = λ n round g end f i k. h;
+    lost_there = λ v n round g end f e i k. h;
+    cleaned = λ v n s f e i k. h;
+    asks_more = λ v d from upto trim lng es f e i g k t u. h;
+    plans = λ v d from upto trim lng es f e i g k t u. h;
+  }
+
+  retrying : (name : List ℕ) (q : Sequencer) → Live s name q → Retrying c s.register q (λ k. OfSummaries P k.register)
+  retrying name q live = record { quiet = h; appends = λ f. h; seals = λ v d f e i. h; stores = λ v g f e i. h; closes = λ v y f e i. close_called P s.register _ _ v.epoch y (λ j. closes name q v y live e (inl i) j) h }
+
+  handled : (f : List ℕ) (n : ℕ) (m : Msg) (x : Node) (o : Option Op) (b : Option Body) → OfSummaries P (Step.handles (with_node (refreshed s f) n x) n m o b).state.register
+  handled f n m x None b = h
+  handled f n m x (Some o) b = h
+
+  ticked : (n l : ℕ) (t : Ticked) → OfSummaries P (Step.ticks_as c s n l t).state.register
+  ticked n l (Cleans k y) = h
+  ticked n l Rebuilt = h
+  ticked n l (Asks from) = h
+  ticked n l Nothing = h
+
+  summary_cases : Cases c s e (λ d m. OfSummaries P d.state.register)
+  summary_cases = record {
+    still = λ f i. h;
+    says = λ x q. h;
+    node_hears = λ f n m i t v o. handled f n m (Step.releases (node_at s n) m.log m.body) (Step.node_handles (node_at s n) m).op (Step.node_handles (node_at s n) m).answer;
+    loads = λ n ls q b o. h;
+    draw_fails = λ n b. draw_summaries P s.register n h;
+    formats = λ n r g b v i. subst (λ (d : Changed). OfSummaries P d.register) i (draw_summaries P s.register n h);
+    ticks = λ n l t v i o. ticked n l t;
+    stops = λ n b. h;
+    wipes = λ n. h;
+    faults = λ n f o. h;
+    arms = λ k done o. h;
+    hears = λ f name q m i t l v o. replied c s.register name q v.there (Step.sender_node m.from) m.body (λ k n. OfSummaries P k.register) (acting name q v (Step.sender_node m.from) m.body (record { message = m; sent = i; to = t; log = l; from = refl; body = refl }));
+    retries = λ name q v o. retried c s.register q (λ k. OfSummaries P k.register) (retrying name q v);
+    appends = λ name q p v a i. h;
+    trims = λ name q t v b. h;
+    drops = λ name q v o. h;
+    activates = λ name l r g n i x. subst (λ (d : Changed). OfSummaries P d.register) i (activate_summaries P s.register l h);
+    activate_fails = λ name l x q. activate_summaries P s.register l h;
+    answers = λ f name d m i t v o. h;
+    polls = λ name d v o. h;
+    opens = λ name l from until o x. h;
+  }
+
+  -- each summary after the step
+  pub summaries_after : NamesOnce s → OfSummaries P (Step.happens c s e).state.register
+  summaries_after N = dispatch c s e (λ d m. OfSummaries P d.state.register) N summary_cases

@@ -1,0 +1,180 @@
+-- What a reader is given is so for good.
+use Rattle.std.proofs.Common.{◌≡◌, ◌∙◌, ◌≤◌, ◌<◌, ℕ, inl, inr, refl, ap, sym, subst, Bool, true, false, ◌==◌, nat_lt, nat_le, if◌then◌else◌, List, [], ◌∷◌, Option, Some, None, arith, ◌&&◌, ◌-◌}
+use Rattle.std.proofs.lemmas.Bool.{and_parts, eqb-true, leb-true, ltb-true}
+use Rattle.ld_table.specs.Table.{find, put}
+use Rattle.ld_table.specs.Named.{find_named}
+use Rattle.ld_lsn.specs.Number.{epoch_of, esn_of, numbered, home_epoch, last_esn}
+use Rattle.ld_config.specs.declared.config.Config.{Config}
+use Rattle.ld_transcript.specs.declared.line.Line.{Line}
+use Rattle.ld_transcript.specs.declared.line.Line.TheVariants as lines
+use Rattle.ld_transcript.specs.declared.line.GapKind.TheVariants as gaps
+use Rattle.ld_msg.specs.declared.msg.What.{What}
+use Rattle.ld_msg.specs.declared.msg.What.TheVariants.{Rec, Hole, Bridge}
+use Rattle.ld_msg.specs.declared.msg.Entry.{Entry}
+use Rattle.ld_msg.specs.declared.msg.Summary.{Summary}
+use Rattle.ld_msg.specs.declared.msg.Msg.{Msg}
+use Rattle.ld_msg.specs.declared.msg.Body.{Body}
+use Rattle.ld_msg.specs.declared.msg.Body.TheVariants as bodies
+use Rattle.ld_msg.specs.Digest.{Told}
+use Rattle.ld_msg.specs.Register.{Register}
+use Rattle.ld_msg.specs.Reading.{Held, Item, TrimTo, RecordHere, HoleHere, BridgeTo, LossHere, page_at, is_hole, hole_held, record_held, shows_end, end_held, bridge_to, trim_held}
+use Rattle.ld_msg.specs.Reader.{Reader, Read, gives, heard, held_with, is_newer, round_of}
+use Rattle.ld_machine.specs.Config.{spec_in}
+use Rattle.ld_machine.specs.State.{State}
+use Rattle.ld_machine.specs.Facts.{Happened}
+use Rattle.ld_machine.specs.World.{Made, In}
+use Rattle.ld_machine.specs.Step as Step
+use Rattle.ld_safety.proofs.Lists.{only, any_in, In-append, cond_both}
+use Rattle.ld_safety.proofs.Members.{In_put}
+use Rattle.ld_safety.proofs.Plans.{end_above_trim}
+use Rattle.ld_safety.proofs.ReaderSteps.{ReadKeeps}
+use Rattle.ld_safety.proofs.GivenItems.{PageWith, page_with, record_in}
+use Rattle.ld_safety.proofs.Protocol.{plan_of, Says, PlansOnce, AppendsOnce, PlanFacts}
+use Rattle.ld_safety.proofs.Settled.{Acknowledged, TrimFine, CloseFine, ShowFine, ReleaseFine, Reached}
+use Rattle.ld_safety.proofs.Said.{Said}
+use Rattle.ld_safety.proofs.Shown.{plan_ends}
+use Rattle.ld_safety.proofs.ItemFacts.{ClosedItem, RecordAt, BridgeAt, closed_item, acked_no_hole}
+use Rattle.ld_safety.proofs.Carried as carried
+
+hole_of : (o : Option What) → is_hole o ≡ true → o ≡ Some Hole
+hole_of (Some (Rec q)) h = absurd cc
+hole_of (Some Hole) h = refl
+hole_of (Some Bridge) h = absurd cc
+hole_of None h = absurd cc
+
+hole_in : (s : ℕ) (ds : List (ℕ × Held)) → hole_held s ds ≡ true → (h : ℕ × Held) × In h ds × PageWith s Hole h.1.body
+hole_in s ds e = let a = any_in (λ (h : ℕ × Held). is_hole (page_at s h.1.body)) ds e in (a.0, a.1, page_with s Hole a.0.1.body (hole_of _ a.2))
+
+-- an answer that tells of an end at or below the number
+record EndedAt (s : ℕ) (b : Body) : Type 0 where
+  round : ℕ
+  from : ℕ
+  end : ℕ
+  is_end : b ≡ bodies.ReadEnded round from end
+  home : home_epoch end ≡ home_epoch s
+  low : end ≤ s
+
+ended_at : (s : ℕ) (b : Body) → shows_end s b ≡ true → EndedAt s b
+ended_at s (bodies.ReadEnded round from end) h = let p = and_parts (home_epoch end == home_epoch s) (nat_le end s) h in record { round = round; from = from; end = end; is_end = refl; home = eqb-true _ _ p.0; low = leb-true _ _ p.1 }
+ended_at s _ h = absurd cc
+
+-- the home of a place of an epoch
+home_numbered : (e k : ℕ) → 0 < k → k ≤ last_esn → home_epoch (numbered e k) ≡ e
+home_numbered e k a b = cond_both ((esn_of (numbered e k) == 0) && nat_lt 0 (epoch_of (numbered e k))) (epoch_of (numbered e k) - 1) (epoch_of (numbered e k)) (λ x. x ≡ e)
+    (λ t. absurd (let p = and_parts (esn_of (numbered e k) == 0) (nat_lt 0 (epoch_of (numbered e k))) t in let q = eqb-true _ _ p.0 in omega arith)) (λ t. omega arith)
+
+module _ (c : Config) (hs : List Happened) (made : List Made) (sent : List Msg) (r : Register) (A : AppendsOnce hs) (P : PlansOnce made) (F : (l e b : ℕ) (d : List Told) → In (plan_of l e b d) made → PlanFacts hs made sent (spec_in l c.logs) l e b d) (l : ℕ) where
+  abbrev pub HeldSaid : Body → Type 0
+  HeldSaid b = carried.HeldOk (Said hs made r) (TrimFine c hs sent r) (CloseFine c hs made sent r) (Reached r) (ShowFine c hs made sent r) (ReleaseFine c hs sent r) l b
+
+  abbrev pub HeldFine : List (ℕ × Held) → Type 0
+  HeldFine ds = (h : ℕ × Held) → In h ds → HeldSaid h.1.body
+
+  -- what an item says of its number
+  abbrev pub ItemFine : ℕ → Item → Type 0
+  ItemFine s (RecordHere p) = RecordAt c hs made sent r l s
+  ItemFine s HoleHere = ClosedItem c hs made sent r l s Hole
+  ItemFine s (BridgeTo last) = BridgeAt c hs made sent r l s last
+  ItemFine s _ = Unit {0}
+
+  pub record ReadFine (a : Read) : Type 0 where
+    pub held : HeldFine a.reader.held
+    pub items : (i : ℕ × Item) → In i a.items → ItemFine i.0 i.1
+
+  by_page : (s : ℕ) (p : List ℕ) (clean : Bool) (e : Entry) → e.number ≡ s → e.what ≡ Rec p → ShowFine c hs made sent r l clean e → RecordAt c hs made sent r l s
+  by_page s p true e n w h = inr (p, closed_item c hs made sent r l s (Rec p) e n w h)
+  by_page s p false e n w h = inl (subst (Acknowledged c hs sent l) n h)
+
+  record_fine : (s : ℕ) (ds : List (ℕ × Held)) (p : List ℕ) → HeldFine ds → record_held s ds ≡ Some p → RecordAt c hs made sent r l s
+  record_fine s ds p h e =
+      let z = record_in s ds p e in let w = z.2 in
+      let o = subst HeldSaid w.is_page (h z.0 z.1) in
+      by_page s p w.clean w.entry w.number w.what (o.1 w.entry w.there)
+
+  by_hole : (s : ℕ) (clean : Bool) (e : Entry) → e.number ≡ s → e.what ≡ Hole → ShowFine c hs made sent r l clean e → Said hs made r l e.ballot e.number e.what → ClosedItem c hs made sent r l s Hole
+  by_hole s true e n w h d = closed_item c hs made sent r l s Hole e n w h
+  by_hole s false e n w h d = absurd (acked_no_hole c hs made sent r A P F l e.ballot e.number h (subst (Says hs made l e.ballot e.number) w d.says))
+
+  hole_fine : (s : ℕ) (ds : List (ℕ × Held)) → HeldFine ds → hole_held s ds ≡ true → ClosedItem c hs made sent r l s Hole
+  hole_fine s ds h e =
+      let z = hole_in s ds e in let w = z.2 in
+      let o = subst HeldSaid w.is_page (h z.0 z.1) in
+      by_hole s w.clean w.entry w.number w.what (o.1 w.entry w.there) (o.0 w.entry w.there)
+
+  by_end : (s e end : ℕ) (y : Summary) → CloseFine c hs made sent r l e y → end ≡ numbered e y.end → home_epoch end ≡ home_epoch s → end ≤ s → BridgeAt c hs made sent r l s (bridge_to s)
+  by_end s e end y (t, inl z) q h le = let ee = z.0 in let ye = z.1 in let hn = home_numbered e y.end (omega arith) (omega arith) in let hh : home_epoch s ≡ e = sym h ∙ (ap home_epoch q ∙ hn) in
+      record { epoch = e; upto = omega arith; past = inl z.0 }
+  by_end s e end y (t, inr b) q h le =
+      let k = plan_ends c hs made sent r A P F l e y.ballot b.plan.digest b.plan.planned in let m = end_above_trim e b.plan.digest in let ye = b.plan.end in
+      let hn = home_numbered e y.end (omega arith) (omega arith) in let hh : home_epoch s ≡ e = sym h ∙ (ap home_epoch q ∙ hn) in
+      record { epoch = e; upto = omega arith; past = inr (y, b, omega arith) }
+
+  bridge_fine : (s : ℕ) (ds : List (ℕ × Held)) → HeldFine ds → end_held s ds ≡ true → BridgeAt c hs made sent r l s (bridge_to s)
+  bridge_fine s ds h e =
+      let z = any_in (λ (h : ℕ × Held). shows_end s h.1.body) ds e in
+      let w = ended_at s z.0.1.body z.2 in
+      let o : carried.EndedOk (Said hs made r) (TrimFine c hs sent r) (CloseFine c hs made sent r) (Reached r) (ShowFine c hs made sent r) (ReleaseFine c hs sent r) l w.from w.end = subst HeldSaid w.is_end (h z.0 z.1) in
+      by_end s (home_epoch w.from) w.end o.summary o.closed o.is w.home w.low
+
+  gives_fine : (a : Read) (i : Item) → ReadFine a → ItemFine a.reader.next i → ReadFine (gives a i)
+  gives_fine a i g h = record {
+    held = g.held;
+    items = λ x j. elim (In-append x a.items _ j) [ inl k ↦ g.items x k | inr k ↦ (let z = only x (a.reader.next, i) k in subst (λ (y : ℕ × Item). ItemFine y.0 y.1) (sym z) h) ];
+  }
+
+  held_fine : (d : Reader) (y : ℕ) (b : Body) → HeldFine d.held → HeldSaid b → HeldFine (held_with d.held y b)
+  held_fine d y b h o = cond_both (is_newer (find y d.held) (round_of b)) (put y (record { round = round_of b; body = b }) d.held) d.held HeldFine
+      (λ t k i. elim (In_put y (record { round = round_of b; body = b }) d.held k i) [ inl q ↦ subst (λ (x : ℕ × Held). HeldSaid x.1.body) (sym q) o | inr j ↦ h k j ]) (λ t. h)
+
+  pub fine_keeps : (set : List ℕ) (d : Reader) (y : ℕ) (b : Body) → HeldFine d.held → HeldSaid b → ReadKeeps set d y b ReadFine
+  fine_keeps set d y b h o = let k = held_fine d y b h o in let start : ReadFine (record { reader = heard d y b; items = []; asks = [] }) = record { held = k; items = λ i j. absurd j } in record {
+    starts = start;
+    loss = λ u. gives_fine _ LossHere start tt;
+    trim = λ a g n t. gives_fine a (TrimTo (trim_held a.reader.held)) g tt;
+    record_there = λ a x g n t. gives_fine a (RecordHere x) g (record_fine a.reader.next a.reader.held x g.held t);
+    hole_there = λ a g n t. gives_fine a HoleHere g (hole_fine a.reader.next a.reader.held g.held t);
+    bridge = λ a g n t. gives_fine a (BridgeTo (bridge_to a.reader.next)) g (bridge_fine a.reader.next a.reader.held g.held t);
+    confirm = λ a g n m t. record { held = g.held; items = g.items };
+    polls_on = λ a g t. record { held = g.held; items = g.items };
+  }
+
+-- ---- lines ----
+
+-- what the lines of a step say, of the log of the reader that they name
+pub record ItemsTold (c : Config) (hs : List Happened) (made : List Made) (sent : List Msg) (r : Register) (s : State) (ls : List Line) : Type 0 where
+  pub records : (name : List ℕ) (n : ℕ) (p : List ℕ) → In (lines.Record name n p) ls → (d : Reader) × (find_named name s.readers ≡ Some d) × RecordAt c hs made sent r d.log n
+  pub holes : (name : List ℕ) (low high : ℕ) → In (lines.Gap name gaps.Hole low high) ls → (d : Reader) × (find_named name s.readers ≡ Some d) × (low ≡ high) × ClosedItem c hs made sent r d.log low Hole
+  pub bridges : (name : List ℕ) (low high : ℕ) → In (lines.Gap name gaps.Bridge low high) ls → (d : Reader) × (find_named name s.readers ≡ Some d) × BridgeAt c hs made sent r d.log low high
+
+lower_bridge : (c : Config) (hs : List Happened) (made : List Made) (sent : List Msg) (r : Register) (l low high last : ℕ) → high ≤ last → BridgeAt c hs made sent r l low last → BridgeAt c hs made sent r l low high
+lower_bridge c hs made sent r l low high last h b = record { epoch = b.epoch; upto = let u = b.upto in omega arith; past = b.past }
+
+pub item_lines_told : (c : Config) (hs : List Happened) (made : List Made) (sent : List Msg) (r : Register) (s : State) (A : AppendsOnce hs) (P : PlansOnce made) (F : (l e b : ℕ) (d : List Told) → In (plan_of l e b d) made → PlanFacts hs made sent (spec_in l c.logs) l e b d)
+    (name : List ℕ) (d : Reader) (until : ℕ) (is : List (ℕ × Item)) → find_named name s.readers ≡ Some d → ((i : ℕ × Item) → In i is → ItemFine c hs made sent r A P F d.log i.0 i.1) → ItemsTold c hs made sent r s (Step.item_lines name until is)
+item_lines_told c hs made sent r s A P F name d until [] f h = record { records = λ a n p i. absurd i; holes = λ a low high i. absurd i; bridges = λ a low high i. absurd i }
+item_lines_told c hs made sent r s A P F name d until (i ∷ is) f h = let z = item_lines_told c hs made sent r s A P F name d until is f (λ j k. h j (inr k)) in record {
+  records = λ a n p j. elim j [ inl e ↦ rec_at i.1 a n p (h i (inl refl)) e | inr k ↦ z.records a n p k ];
+  holes = λ a low high j. elim j [ inl e ↦ hole_at i.1 a low high (h i (inl refl)) e | inr k ↦ z.holes a low high k ];
+  bridges = λ a low high j. elim j [ inl e ↦ bridge_at i.1 a low high (h i (inl refl)) e | inr k ↦ z.bridges a low high k ];
+} where
+  rec_at : (x : Item) (a : List ℕ) (n : ℕ) (p : List ℕ) → ItemFine c hs made sent r A P F d.log i.0 x → lines.Record a n p ≡ Step.item_line name i.0 until x → (d : Reader) × (find_named a s.readers ≡ Some d) × RecordAt c hs made sent r d.log n
+  rec_at (RecordHere q) a n p g e = let x : a ≡ name = cc in let y : n ≡ i.0 = cc in (d, subst (λ k. find_named k s.readers ≡ Some d) (sym x) f, subst (RecordAt c hs made sent r d.log) (sym y) g)
+  rec_at (TrimTo last) a n p g e = absurd cc
+  rec_at HoleHere a n p g e = absurd cc
+  rec_at (BridgeTo last) a n p g e = absurd cc
+  rec_at LossHere a n p g e = absurd cc
+
+  hole_at : (x : Item) (a : List ℕ) (low high : ℕ) → ItemFine c hs made sent r A P F d.log i.0 x → lines.Gap a gaps.Hole low high ≡ Step.item_line name i.0 until x → (d : Reader) × (find_named a s.readers ≡ Some d) × (low ≡ high) × ClosedItem c hs made sent r d.log low Hole
+  hole_at HoleHere a low high g e = let x : a ≡ name = cc in let y : low ≡ i.0 = cc in let z : high ≡ i.0 = cc in (d, subst (λ k. find_named k s.readers ≡ Some d) (sym x) f, y ∙ sym z, subst (λ k. ClosedItem c hs made sent r d.log k Hole) (sym y) g)
+  hole_at (RecordHere q) a low high g e = absurd cc
+  hole_at (TrimTo last) a low high g e = absurd cc
+  hole_at (BridgeTo last) a low high g e = absurd cc
+  hole_at LossHere a low high g e = absurd cc
+
+  bridge_at : (x : Item) (a : List ℕ) (low high : ℕ) → ItemFine c hs made sent r A P F d.log i.0 x → lines.Gap a gaps.Bridge low high ≡ Step.item_line name i.0 until x → (d : Reader) × (find_named a s.readers ≡ Some d) × BridgeAt c hs made sent r d.log low high
+  bridge_at (BridgeTo last) a low high g e = let x : a ≡ name = cc in let y : low ≡ i.0 = cc in let z : high ≡ (if nat_lt until last then until else last) = cc in
+      (d, subst (λ k. find_named k s.readers ≡ Some d) (sym x) f, subst (λ k. BridgeAt c hs made sent r d.log k high) (sym y) (lower_bridge c hs made sent r d.log i.0 high last (cond_both (nat_lt until last) until last (λ k. high ≡ k → high ≤ last) (λ t w. let v = ltb-true until last t in omega arith) (λ t w. omega arith) z) g))
+  bridge_at (RecordHere q) a low high g e = absurd cc
+  bridge_at (TrimTo last) a low high g e = absurd cc
+  bridge_at HoleHere a low high g e = absurd cc
+  bridge_at LossHere a low high g e = absurd cc

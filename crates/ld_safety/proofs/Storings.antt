@@ -1,0 +1,147 @@
+-- A plan that is being stored: each of its items is settled by nodes that really stored it, or was acknowledged before; so where it is ready, it stands.
+use Rattle.std.proofs.Common.{◌≡◌, ◌∙◌, ◌⊎◌, ◌≤◌, ◌<◌, ℕ, inl, inr, refl, ap, sym, subst, Bool, true, nat_le, if◌then◌else◌, List, [], ◌∷◌, length, arith, ◌++◌}
+use Rattle.std.proofs.lemmas.Bool.{eqb-true, leb-true}
+use Rattle.ld_table.specs.Words.{with_one}
+use Rattle.ld_lsn.specs.Number.{epoch_of, esn_of, numbered, last_esn}
+use Rattle.ld_ids.specs.Choice.{nodes_of}
+use Rattle.ld_config.specs.declared.config.Config.{Config}
+use Rattle.ld_msg.specs.declared.msg.Summary.{Summary}
+use Rattle.ld_msg.specs.declared.msg.Msg.{Msg}
+use Rattle.ld_msg.specs.declared.msg.Body.{Body}
+use Rattle.ld_msg.specs.declared.msg.Body.TheVariants as bodies
+use Rattle.ld_msg.specs.Digest.{Told, Item, plan, plan_end, trim_place, digest_trim}
+use Rattle.ld_msg.specs.Register.{Register}
+use Rattle.ld_msg.specs.Sequencer.{Planned, Storing, planned, storing_of, settle, settled_by, is_ready, summary_of}
+use Rattle.ld_machine.specs.Config.{spec_in}
+use Rattle.ld_machine.specs.Facts.{Happened}
+use Rattle.ld_machine.specs.World.{Made, In}
+use Rattle.ld_safety.proofs.Registers.{Up}
+use Rattle.ld_safety.proofs.Lists.{all_in, cond_both, In_right}
+use Rattle.ld_safety.proofs.SequencerSteps.{Settling, by_stored_one, by_trimmed_to}
+use Rattle.ld_safety.proofs.Plans.{plan_items, plan_has}
+use Rattle.ld_safety.proofs.Protocol.{plan_of, tells_stored}
+use Rattle.ld_safety.proofs.Votes.{Voters, no_voters, one_more, voted}
+use Rattle.ld_safety.proofs.Settled.{Open, Acknowledged, TrimFine, Fixed, Summarized, tells_more, chosen_more}
+
+module _ (c : Config) (hs : List Happened) (sent : List Msg) where
+  -- an item of an open epoch: acknowledged, or stored by those that settled it
+  abbrev pub SettledBy : ℕ → ℕ → ℕ → List ℕ → Type 0
+  SettledBy l n b ys = Acknowledged c hs sent l n ⊎ Voters (spec_in l c.logs) sent l n b ys
+
+  pub record ItemFine (r : Register) (l e b : ℕ) (i : ℕ × Planned) : Type 0 where
+    pub epoch : epoch_of i.0 ≡ e
+    pub above : 0 < esn_of i.0
+    pub settled : Open r l e → SettledBy l i.0 b i.1.settled
+
+  pub record StoringFine (made : List Made) (r : Register) (l b e : ℕ) (g : Storing) : Type 0 where
+    pub digest : List Told
+    pub planned_so : In (plan_of l e b digest) made
+    pub end : g.end ≡ plan_end e digest
+    pub trim : g.trim ≡ digest_trim digest
+    pub items : (i : ℕ × Planned) → In i g.items → ItemFine r l e b i
+    pub covers : (n : ℕ) → epoch_of n ≡ e → trim_place e (digest_trim digest) < esn_of n → esn_of n < plan_end e digest → (i : ℕ × Planned) × In i g.items × (i.0 ≡ n)
+
+  -- ---- a plan that was just made ----
+  planned_in : (is : List Item) (p : ℕ × Planned) → In p (planned is) → (i : Item) × In i is × (p.0 ≡ i.number) × (p.1.settled ≡ [])
+  planned_in [] p h = absurd h
+  planned_in (i ∷ is) p (inl q) = (i, inl refl, ap (λ (x : ℕ × Planned). x.0) q, ap (λ (x : ℕ × Planned). x.1.settled) q)
+  planned_in (i ∷ is) p (inr h) = let r = planned_in is p h in (r.0, inr r.1, r.2, r.3)
+
+  planned_has : (is : List Item) (i : Item) → In i is → (p : ℕ × Planned) × In p (planned is) × (p.0 ≡ i.number)
+  planned_has [] i h = absurd h
+  planned_has (x ∷ is) i (inl q) = ((x.number, record { what = x.what; settled = [] }), inl refl, ap (λ (k : Item). k.number) (sym q))
+  planned_has (x ∷ is) i (inr h) = let r = planned_has is i h in (r.0, inr r.1, r.2)
+
+  pub begins_storing : (made : List Made) (r : Register) (l b e : ℕ) (d : List Told) → In (plan_of l e b d) made → plan_end e d ≤ last_esn → StoringFine made r l b e (storing_of (plan e d))
+  unfolding plan
+  begins_storing made r l b e d m most = record {
+    digest = d;
+    planned_so = m;
+    end = refl;
+    trim = refl;
+    items = λ i j. let q = planned_in (plan e d).items i j in let p = plan_items e d q.0 q.1 in let n : i.0 ≡ numbered e p.place = q.2 ∙ p.number in let a = p.above in let z = p.below in record {
+      epoch = omega arith;
+      above = omega arith;
+      settled = λ o. inr (subst (Voters (spec_in l c.logs) sent l i.0 b) (sym q.3) (no_voters (spec_in l c.logs) sent l i.0 b));
+    };
+    covers = λ n q lo hi. let h = plan_has e d (esn_of n) lo hi in let p = planned_has (plan e d).items h.0 h.1 in (p.0, p.1, let z = p.2 in let y = h.2 in omega arith);
+  }
+
+  -- ---- a node settles ----
+  settle_in : (p : ℕ → Bool) (y : ℕ) (is : List (ℕ × Planned)) (j : ℕ × Planned) → In j (settle p y is) → (i : ℕ × Planned) × In i is × (j.0 ≡ i.0) × (j.1.settled ≡ (if p i.0 then with_one y i.1.settled else i.1.settled))
+  settle_in p y [] j h = absurd h
+  settle_in p y (i ∷ is) j (inl q) = (i, inl refl, ap (λ (x : ℕ × Planned). x.0) q, ap (λ (x : ℕ × Planned). x.1.settled) q ∙ cond_both (p i.0) _ i.1 (λ (x : Planned). x.settled ≡ (if p i.0 then with_one y i.1.settled else i.1.settled)) (λ t. ap (λ b. if b then with_one y i.1.settled else i.1.settled) (sym t)) (λ t. ap (λ b. if b then with_one y i.1.settled else i.1.settled) (sym t)))
+  settle_in p y (i ∷ is) j (inr h) = let r = settle_in p y is j h in (r.0, inr r.1, r.2, r.3)
+
+  settle_has : (p : ℕ → Bool) (y : ℕ) (is : List (ℕ × Planned)) (i : ℕ × Planned) → In i is → (j : ℕ × Planned) × In j (settle p y is) × (j.0 ≡ i.0)
+  settle_has p y [] i h = absurd h
+  settle_has p y (x ∷ is) i (inl q) = (_, inl refl, ap (λ (k : ℕ × Planned). k.0) (sym q))
+  settle_has p y (x ∷ is) i (inr h) = let r = settle_has p y is i h in (r.0, inr r.1, r.2)
+
+  -- what a reply says of its node
+  pub record ReplyFine (r : Register) (l b y : ℕ) (x : Body) : Type 0 where
+    pub stored : (n : ℕ) → x ≡ bodies.Stored n → In y (nodes_of (spec_in l c.logs)) × (tells_stored sent l n b y ≡ true)
+    pub trimmed : (n t : ℕ) → x ≡ bodies.TrimmedHere n t → TrimFine c hs sent r l t
+
+  module _ (r : Register) (l b e y : ℕ) (x : Body) (R : ReplyFine r l b y x) where
+    one_settled : (p : ℕ → Bool) → Settling x e p → (n : ℕ) (ys : List ℕ) → epoch_of n ≡ e → 0 < esn_of n → Open r l e → p n ≡ true → SettledBy l n b ys → SettledBy l n b (with_one y ys)
+    one_settled p S n ys ep pos o t (inl a) = inl a
+    one_settled p S n ys ep pos o t (inr v) = by_settling S where
+      by_settling : Settling x e p → SettledBy l n b (with_one y ys)
+      by_settling (by_stored_one m i k q) = let f = R.stored m i in let z : n ≡ m = eqb-true n m (subst (λ (u : ℕ → Bool). u n ≡ true) q t) in
+          inr (one_more (spec_in l c.logs) sent l n b y ys f.0 (subst (λ u. tells_stored sent l u b y ≡ true) (sym z) f.1) v)
+      by_settling (by_trimmed_to m k i j q) = inl (R.trimmed m k i n (leb-true n k (subst (λ (u : ℕ → Bool). u n ≡ true) q t)) pos (subst (Open r l) (sym ep) o))
+
+    pub settles_fine : (made : List Made) (p : ℕ → Bool) (g : Storing) → Settling x e p → StoringFine made r l b e g → StoringFine made r l b e (settled_by p y g)
+    settles_fine made p g S F = record {
+      digest = F.digest;
+      planned_so = F.planned_so;
+      end = F.end;
+      trim = F.trim;
+      items = λ j h. let q = settle_in p y g.items j h in let f = F.items q.0 q.1 in let n = q.2 in record {
+        epoch = ap epoch_of n ∙ f.epoch;
+        above = let z = f.above in subst (λ k. 0 < esn_of k) (sym n) z;
+        settled = λ o. subst (λ k. SettledBy l k b j.1.settled) (sym n) (subst (SettledBy l q.0.0 b) (sym q.3) (cond_both (p q.0.0) (with_one y q.0.1.settled) q.0.1.settled (SettledBy l q.0.0 b)
+            (λ t. one_settled p S q.0.0 q.0.1.settled f.epoch f.above o t (f.settled o)) (λ t. f.settled o)));
+      };
+      covers = λ n q lo hi. let z = F.covers n q lo hi in let h = settle_has p y g.items z.0 z.1 in (h.0, h.1, h.2 ∙ z.2);
+    }
+
+  -- ---- a plan that is ready ----
+  pub ready_stands : (made : List Made) (r : Register) (l b e : ℕ) (g : Storing) → StoringFine made r l b e g → is_ready (spec_in l c.logs) g ≡ true → Open r l e → Summarized c hs made sent l e (summary_of b g)
+  unfolding is_ready
+  ready_stands made r l b e g F h o = record {
+    lng = refl;
+    digest = F.digest;
+    planned = F.planned_so;
+    end = F.end;
+    trim = F.trim;
+    fixed = λ n q lo hi. let z = F.covers n q lo hi in let f = F.items z.0 z.1 in let k = leb-true _ _ (all_in (λ (i : ℕ × Planned). nat_le (spec_in l c.logs).r (length i.1.settled)) z.0 g.items h z.1) in
+        subst (λ x. Fixed c hs sent l x b) z.2 (by_settled z.0.0 z.0.1.settled k (f.settled o));
+  } where
+    by_settled : (n : ℕ) (ys : List ℕ) → (spec_in l c.logs).r ≤ length ys → SettledBy l n b ys → Fixed c hs sent l n b
+    by_settled n ys k (inl a) = inl a
+    by_settled n ys k (inr v) = inr (voted (spec_in l c.logs) sent l n b ys v k)
+
+-- while more happens
+module _ (c : Config) (hs next : List Happened) (sent after : List Msg) (into : (m : Msg) → In m sent → In m after) (acks : (l n : ℕ) → Acknowledged c hs sent l n → Acknowledged c next after l n) where
+  votes_later : (l n b : ℕ) (ys : List ℕ) → SettledBy c hs sent l n b ys → SettledBy c next after l n b ys
+  votes_later l n b ys (inl a) = inl (acks l n a)
+  votes_later l n b ys (inr v) = inr (record { counted = v.counted; stored = λ y h. tells_more sent after into l n b y (v.stored y h) })
+
+  pub fixed_later : (l n b : ℕ) → Fixed c hs sent l n b → Fixed c next after l n b
+  fixed_later l n b (inl a) = inl (acks l n a)
+  fixed_later l n b (inr h) = inr (chosen_more (spec_in l c.logs) sent after into l n b h)
+
+  pub summarized_later : (made more : List Made) (l e : ℕ) (y : Summary) → Summarized c hs made sent l e y → Summarized c next (more ++ made) after l e y
+  summarized_later made more l e y h = record { lng = h.lng; digest = h.digest; planned = In_right _ more made h.planned; end = h.end; trim = h.trim; fixed = λ n a b o. fixed_later l n y.ballot (h.fixed n a b o) }
+
+  pub storing_later : (made more : List Made) (r k : Register) → Up r k → (l b e : ℕ) (g : Storing) → StoringFine c hs sent made r l b e g → StoringFine c next after (more ++ made) k l b e g
+  storing_later made more r k u l b e g F = record {
+    digest = F.digest;
+    planned_so = In_right _ more made F.planned_so;
+    end = F.end;
+    trim = F.trim;
+    items = λ i h. let f = F.items i h in record { epoch = f.epoch; above = f.above; settled = λ o. votes_later l i.0 b i.1.settled (f.settled (let z = (u l).1 in omega arith)) };
+    covers = F.covers;
+  }
