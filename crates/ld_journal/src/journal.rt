@@ -48,6 +48,7 @@ impl<D: Disk> Journal<D> {
 
         ensures failed { IfErr result (λ e. e.1 ≡ JournalFault.Disk → Rose (D.faults disk) (D.faults e.0)) }
         ensures damaged { IfErr result (λ e. (place : ℕ) → e.1 ≡ JournalFault.Damaged place → IfSome (D.seen disk) (IsDamaged place)) }
+        ensures empty { IfErr result (λ e. (place : ℕ) → e.1 ≡ JournalFault.Damaged place → (place ≡ 0) × IfSome (D.seen disk) (λ bytes. bytes ≡ [])) }
         ensures honest { IfErr result (λ e. IsHonest (D.seen disk) → ((c : List ℕ) → D.may_leave disk c → (bodies : List (List ℕ)) × IsJournal bodies c)
             → (place : ℕ) → e.1 ≢ JournalFault.Damaged place) }
         ensures full { IfErr result (λ e. e.1 ≢ JournalFault.Full) }
@@ -95,6 +96,8 @@ impl<D: Disk> Journal<D> {
         ensures failed { IsErrOf result JournalFault.Disk → Rose (D.faults (disk_of self.old)) (D.faults (disk_of self.new)) }
         ensures damaged { (place : ℕ) → IsErrOf result (JournalFault.Damaged place) → (bodies : List (List ℕ)) (rest : List ℕ)
             → HasGiven D.seen D.may_leave self.old bodies rest → IsDamaged place (records bodies ++ rest) }
+        ensures place { (place : ℕ) → IsErrOf result (JournalFault.Damaged place) → (bodies : List (List ℕ)) (rest : List ℕ)
+            → HasGiven D.seen D.may_leave self.old bodies rest → place ≡ length (records bodies) }
         ensures honest { (place : ℕ) (bodies all : List (List ℕ)) (rest : List ℕ) → HasGiven D.seen D.may_leave self.old bodies rest
             → IsJournal all (records bodies ++ rest) → result ≢ Err (JournalFault.Damaged place) }
         ensures full { result ≢ Err JournalFault.Full }
@@ -121,6 +124,13 @@ impl<D: Disk> Journal<D> {
                 Err(fault)
             }
         }
+    }
+
+    /// The place of the gate behind the bodies that were given.
+    pub fn place(&self) -> u64
+        ensures { result ≡ place_of self.now }
+    {
+        self.at
     }
 
     /// Gives the disk back, as the last call left it.
