@@ -77,17 +77,3 @@ module _ {D : Type 0} (seen : D → Option (List ℕ)) (may_leave : D → List �
           none = λ o next. none o next.op (next.format ∙ sym has.blank_is);
         }));
       }
-
--- a record that is cut short
-pub cut : (os : List Op) (bytes rest : List ℕ) (place : ℕ) → AreOps os → bytes ≡ records (bodies_of os) ++ rest → place ≡ length (records (bodies_of os)) → 0 < length rest → journals.IsDamaged place bytes → IsDamaged place bytes
-cut os bytes rest place are is place_is some damaged =
-    let same : rest ≡ damaged.rest =
-    same_rest (records (bodies_of os)) (records damaged.bodies) rest damaged.rest (sym place_is ∙ damaged.place_is) (sym is ∙ damaged.bytes_are) in
-    record {
-      ops = os;
-      rest = rest;
-      bytes_are = is;
-      place_is = place_is;
-      are = are;
-      cause = ⊎_elim (λ short. inl (subst (λ l. IsCutShort l) (sym same) short)) (λ none. absurd (omega (arith, some, ap length same, ap length none.1))) damaged.cut;
-    }

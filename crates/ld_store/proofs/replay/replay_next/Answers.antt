@@ -1,17 +1,16 @@
-use Rattle.std.proofs.Common.{◌≡◌, Ok, Err, subst, ap, sym, ◌∙◌, ⊎_elim, ◌++◌}
-use Rattle.ld_journal.specs.Format as journals
+use Rattle.std.proofs.Common.{◌≡◌, Ok, Err, subst, ap, sym, ◌∙◌, inl, ⊎_elim}
 use Rattle.ld_store.specs.Ops.{bodies_of, IsDamaged}
 use Rattle.ld_store.specs.Faults.{passed_on}
 use Rattle.ld_store.specs.declared.fault.StoreFault.TheVariants as stores
-use Rattle.ld_store.proofs.Replaying.{one_more, foreign, cut}
+use Rattle.ld_store.proofs.Replaying.{one_more, foreign}
 use Rattle.ld_store.proofs.Faults.{of_damaged, err_is, same_place, no_place}
 use Rattle.ld_store.proofs.replay.replay_next.Goals as goal
 
 pub returns-in_err-more-clause-damaged : goal.returns-in_err-more-clause-damaged
 returns-in_err-more-clause-damaged g c place is bytes has =
     let told = ap Err (of_damaged c.in_err-more.field-0.0 place (sym (err_is c.from_residual.result (stores.Damaged place) (λ e. e ≡ passed_on c.in_err-more.field-0.0) c.from_residual.ensures.1 is))) in
-    let damaged = c.in_err-more.ensures.damaged place told (bodies_of has.ops) has.rest has.given in
-    cut has.ops bytes has.rest place has.are has.bytes_are (c.in_err-more.ensures.place place told (bodies_of has.ops) has.rest has.given) has.given.some (subst (λ l. journals.IsDamaged place l) (sym has.bytes_are) damaged)
+    let cut = c.in_err-more.ensures.cut place told (bodies_of has.ops) has.rest has.given in
+    record { ops = has.ops; rest = has.rest; bytes_are = has.bytes_are; place_is = cut.0 ∙ has.given.place_is; are = has.are; cause = inl cut.1 }
 
 pub returns-in_err-replay_body-clause-damaged : goal.returns-in_err-replay_body-clause-damaged
 returns-in_err-replay_body-clause-damaged g c place is bytes has =
