@@ -126,4 +126,3 @@ changes_fit (o ∷ os) are = All-cons (λ body. length body < 2 ^ 32) (op_bytes 
 pub ops_fit : (os : List Op) → AreOps os → Fits (bodies_of os)
 ops_fit [] are = All-nil (λ body. length body < 2 ^ 32)
 ops_fit (o ∷ os) are = All-cons (λ body. length body < 2 ^ 32) (op_bytes o) (bodies_of os) (op_fits o are.0) (changes_fit os are.2)
-

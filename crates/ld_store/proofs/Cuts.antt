@@ -47,7 +47,7 @@ module _ (os : List Op) (o : Op) (bytes : List ℕ) (place : ℕ) (journal : IsJ
       let j = journal.journal in
       with_or_without true os o _ journal.ops next
       (subst (λ l. IsJournal (bodies_of os ++ op_bytes o ∷ []) (appended place (op_bytes o) l)) (sym j.bytes_are)
-        (late (bodies_of os) (op_bytes o) j.after j.gate place j.shut at j.fits (op_fits o next.op) pictures.New))
+      (late (bodies_of os) (op_bytes o) j.after j.gate place j.shut at j.fits (op_fits o next.op) pictures.New))
 
   pub safe_too : (s : State) → IsSafe bytes s → IsSafe (appended place (op_bytes o) bytes) (all_made (append_calls place (op_bytes o)) s)
   safe_too s safe = append_safe place (op_bytes o) bytes s safe

@@ -81,9 +81,9 @@ not_damaged os bytes place journal damaged =
     ⊎_elim
     (λ short. not_both place bytes (bodies_of os) journal.journal (record { bodies = bodies_of damaged.ops; rest = damaged.rest; bytes_are = damaged.bytes_are; place_is = damaged.place_is; fits = fits; cut = inl short }))
     (λ other. ⊎_elim
-      (λ foreign. none_foreign os bytes journal damaged.ops damaged.rest damaged.are damaged.bytes_are foreign)
-      (λ none. not_both place bytes (bodies_of os) journal.journal (record { bodies = bodies_of damaged.ops; rest = damaged.rest; bytes_are = damaged.bytes_are; place_is = damaged.place_is; fits = fits; cut = inr (ap bodies_of none.0, none.1) }))
-      other)
+    (λ foreign. none_foreign os bytes journal damaged.ops damaged.rest damaged.are damaged.bytes_are foreign)
+    (λ none. not_both place bytes (bodies_of os) journal.journal (record { bodies = bodies_of damaged.ops; rest = damaged.rest; bytes_are = damaged.bytes_are; place_is = damaged.place_is; fits = fits; cut = inr (ap bodies_of none.0, none.1) }))
+    other)
     damaged.cause
 
 -- ---- what a disk tells ----

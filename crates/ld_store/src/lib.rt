@@ -10,7 +10,6 @@ pub use fault::StoreFault;
 pub use law::{
     bytes_stand_for_one_state, durable_ops_are_safe, picture_decides_the_state, places_are_lengths,
 };
-
 pub use store::Store;
 
 #[cfg(test)]

@@ -53,7 +53,7 @@ impl<D: Disk> Store<D> {
         // Where the disk tells what each call will do, and no read of it fails, it is one writing call.
         ensures exact { (p : DiskPlain) → D.plain disk ≡ Some p → reads_fine p ≡ true
             → MatchResult result (λ store. (D.plain (disk_of store) ≡ Some (after_call None p)) × (succeeds p ≡ true))
-                (λ e. (e.1 ≡ StoreFault.NoMemory) ⊎ ((D.plain e.0 ≡ Some (after_call None p)) × ((e.1 ≡ StoreFault.Disk) ↔ (succeeds p ≡ false)))) }
+            (λ e. (e.1 ≡ StoreFault.NoMemory) ⊎ ((D.plain e.0 ≡ Some (after_call None p)) × ((e.1 ≡ StoreFault.Disk) ↔ (succeeds p ≡ false)))) }
 
         ensures failed { IfErr result (λ e. e.1 ≡ StoreFault.Disk → Rose (D.faults disk) (D.faults e.0)) }
         ensures damaged { IfErr result (λ e. (place : ℕ) → e.1 ≡ StoreFault.Damaged place → IfSome (D.seen disk) (IsDamaged place)) }
@@ -135,6 +135,7 @@ impl<D: Disk> Store<D> {
         ensures exact { (p : DiskPlain) → D.plain (disk_of self.old) ≡ Some p → (result ≡ Ok tt ⊎ IsErrOf result StoreFault.Disk)
             → (D.plain (disk_of self.new) ≡ Some (after_calls (append_calls (place_of self.old) (op_bytes op)) p)) × (is_ok result ≡ all_succeed (append_calls (place_of self.old) (op_bytes op)) p) }
 
+        ensures honest { IsHonest (D.seen (disk_of self.old)) → IsHonest (D.seen (disk_of self.new)) }
         ensures full { IsErrOf result StoreFault.Full → (must_load self.old ≡ false) × (2 ^ 40 < place_of self.old + op_length op + 6) }
         ensures too_long { must_load self.old ≡ false → 2 ^ 40 < place_of self.old + op_length op + 6 → IsErrOf result StoreFault.Full ⊎ IsErrOf result StoreFault.NoMemory }
         ensures needs_load { IsErrOf result StoreFault.NeedsLoad ↔ (must_load self.old ≡ true) }
@@ -196,6 +197,7 @@ impl<D: Disk> Store<D> {
         ensures exact { (p : DiskPlain) → D.plain (disk_of self.old) ≡ Some p → (result ≡ Ok tt ⊎ IsErrOf result StoreFault.Disk)
             → (D.plain (disk_of self.new) ≡ Some (after_calls (append_calls (place_of self.old) (op_bytes (kinds.Format generation epochs))) p)) × (is_ok result ≡ all_succeed (append_calls (place_of self.old) (op_bytes (kinds.Format generation epochs))) p) }
 
+        ensures honest { IsHonest (D.seen (disk_of self.old)) → IsHonest (D.seen (disk_of self.new)) }
         ensures full { IsErrOf result StoreFault.Full → (must_load self.old ≡ false) × (2 ^ 40 < place_of self.old + op_length (kinds.Format generation epochs) + 6) }
         ensures too_long { must_load self.old ≡ false → 2 ^ 40 < place_of self.old + op_length (kinds.Format generation epochs) + 6 → IsErrOf result StoreFault.Full ⊎ IsErrOf result StoreFault.NoMemory }
         ensures needs_load { IsErrOf result StoreFault.NeedsLoad ↔ (must_load self.old ≡ true) }

@@ -19,8 +19,8 @@ returns-in_err-replay_body-clause-damaged g c place is bytes has =
     ⊎_elim
     (λ none. absurd (no_place place (sym none ∙ sym told)))
     (λ bad. subst (λ n. IsDamaged n bytes) (sym c.place-at.ensures ∙ same_place c.place-at.result place (sym bad.0 ∙ sym told))
-      (foreign D.seen D.may_leave c.args.journal.now c.next_body.new.self bytes c.next_body.new.body.items c.args.plain.now.state c.args.blank has
-      (c.in_ok-more.ensures.gives (ap Ok c.if-not-more.false)) (sym c.in_ok-more.ensures.same.bytes) (λ o is_op kind body. bad.1 o is_op kind (c.deref.ensures.value ∙ body))))
+    (foreign D.seen D.may_leave c.args.journal.now c.next_body.new.self bytes c.next_body.new.body.items c.args.plain.now.state c.args.blank has
+    (c.in_ok-more.ensures.gives (ap Ok c.if-not-more.false)) (sym c.in_ok-more.ensures.same.bytes) (λ o is_op kind body. bad.1 o is_op kind (c.deref.ensures.value ∙ body))))
     c.in_err-replay_body.ensures.refused
 
 pub returns-clause-more : goal.returns-clause-more
