@@ -23,7 +23,7 @@ impl<D: Disk> Journal<D> {
     ghost use Rattle.ld_disk.specs.Images.{IsHonest};
     ghost use Rattle.ld_io.specs.Causes.{Rose};
     ghost use Rattle.ld_disk.specs.Moments.{LeavesOnly, Unchanged};
-    ghost use Rattle.ld_journal.specs.Format.{records, IsJournal, IsDamaged, IsWithOrWithout, append_calls};
+    ghost use Rattle.ld_journal.specs.Format.{records, IsJournal, IsDamaged, IsCutShort, IsWithOrWithout, append_calls};
     ghost use Rattle.ld_disk.specs.Plain.{Plain, after_call, succeeds, after_calls, all_succeed, reads_fine, armed_with};
     ghost use Rattle.std.specs.Option.{option_map};
     ghost use Rattle.ld_journal.specs.Open.{IsSettled, HasGiven, disk_of, place_of, length_of, has_ended, must_load};
@@ -48,6 +48,7 @@ impl<D: Disk> Journal<D> {
 
         ensures failed { IfErr result (λ e. e.1 ≡ JournalFault.Disk → Rose (D.faults disk) (D.faults e.0)) }
         ensures damaged { IfErr result (λ e. (place : ℕ) → e.1 ≡ JournalFault.Damaged place → IfSome (D.seen disk) (IsDamaged place)) }
+        ensures empty { IfErr result (λ e. (place : ℕ) → e.1 ≡ JournalFault.Damaged place → (place ≡ 0) × IfSome (D.seen disk) (λ bytes. bytes ≡ [])) }
         ensures honest { IfErr result (λ e. IsHonest (D.seen disk) → ((c : List ℕ) → D.may_leave disk c → (bodies : List (List ℕ)) × IsJournal bodies c)
             → (place : ℕ) → e.1 ≢ JournalFault.Damaged place) }
         ensures full { IfErr result (λ e. e.1 ≢ JournalFault.Full) }
@@ -64,6 +65,48 @@ impl<D: Disk> Journal<D> {
             }),
             Err(fault) => Err((disk, fault)),
         }
+    }
+
+    /// A journal on a disk, not opened yet: each call answers `NeedsLoad` until `reload` answers `Ok`.
+    pub fn shut(disk: D) -> Journal<D>
+        ensures disk { disk_of result ≡ disk }
+        ensures loads { must_load result ≡ true }
+    {
+        Journal {
+            disk,
+            at: 0,
+            len: 0,
+            ended: false,
+            failed: true,
+        }
+    }
+
+    /// Opens the journal anew on its disk, as `load` does, in one writing call. Its bodies are then read from the
+    /// first one on.
+    ///
+    /// It refuses with `Disk` where a call of the disk failed, with `Damaged(0)` where it has no byte, and with
+    /// `NoMemory`, which changes nothing of the disk. Until it answers `Ok` each other call answers `NeedsLoad`.
+    pub fn reload(&mut self) -> Result<(), JournalFault>
+        ensures opens { OnOk result (IfSome (D.seen (disk_of self.old)) (λ bytes. HasGiven D.seen D.may_leave self.new [] bytes)) }
+        ensures works { OnOk result ((must_load self.new ≡ false) × (has_ended self.new ≡ false) × (place_of self.new ≡ 0)) }
+        ensures loads { OnErr result (must_load self.new ≡ true) }
+        ensures counts { D.faults (disk_of self.old) ≤ D.faults (disk_of self.new) }
+        ensures any_moment { LeavesOnly D.moment D.left_since (disk_of self.old) (disk_of self.new) (D.may_leave (disk_of self.old)) }
+        ensures exact { (p : Plain) → D.plain (disk_of self.old) ≡ Some p → (IsErrOf result JournalFault.NoMemory × (D.plain (disk_of self.new) ≡ Some p))
+            ⊎ ((D.plain (disk_of self.new) ≡ Some (after_call None p)) × (IsErrOf result JournalFault.Disk ↔ (succeeds p ≡ false))) }
+        ensures honest { IsHonest (D.seen (disk_of self.old)) → IsHonest (D.seen (disk_of self.new)) }
+        ensures kept { IsErrOf result JournalFault.NoMemory → Unchanged D.seen D.may_leave D.moment D.left_since (disk_of self.old) (disk_of self.new) }
+        ensures failed { IsErrOf result JournalFault.Disk → Rose (D.faults (disk_of self.old)) (D.faults (disk_of self.new)) }
+        ensures damaged { (place : ℕ) → IsErrOf result (JournalFault.Damaged place) → (place ≡ 0) × IfSome (D.seen (disk_of self.old)) (λ bytes. bytes ≡ []) }
+        ensures full { result ≢ Err JournalFault.Full }
+        ensures needs_load { result ≢ Err JournalFault.NeedsLoad }
+    {
+        self.failed = true;
+        self.len = settle(&mut self.disk)?;
+        self.at = 0;
+        self.ended = false;
+        self.failed = false;
+        Ok(())
     }
 
     /// Puts the next body in the place of `body`. False where all bodies were given.
@@ -95,6 +138,8 @@ impl<D: Disk> Journal<D> {
         ensures failed { IsErrOf result JournalFault.Disk → Rose (D.faults (disk_of self.old)) (D.faults (disk_of self.new)) }
         ensures damaged { (place : ℕ) → IsErrOf result (JournalFault.Damaged place) → (bodies : List (List ℕ)) (rest : List ℕ)
             → HasGiven D.seen D.may_leave self.old bodies rest → IsDamaged place (records bodies ++ rest) }
+        ensures cut { (place : ℕ) → IsErrOf result (JournalFault.Damaged place) → (bodies : List (List ℕ)) (rest : List ℕ)
+            → HasGiven D.seen D.may_leave self.old bodies rest → (place ≡ place_of self.old) × IsCutShort rest }
         ensures honest { (place : ℕ) (bodies all : List (List ℕ)) (rest : List ℕ) → HasGiven D.seen D.may_leave self.old bodies rest
             → IsJournal all (records bodies ++ rest) → result ≢ Err (JournalFault.Damaged place) }
         ensures full { result ≢ Err JournalFault.Full }
@@ -121,6 +166,13 @@ impl<D: Disk> Journal<D> {
                 Err(fault)
             }
         }
+    }
+
+    /// The place of the gate behind the bodies that were given.
+    pub fn place(&self) -> u64
+        ensures { result ≡ place_of self.now }
+    {
+        self.at
     }
 
     /// Gives the disk back, as the last call left it.
@@ -161,6 +213,7 @@ impl<D: Disk> Journal<D> {
         ensures exact { (p : Plain) → D.plain (disk_of self.old) ≡ Some p → (result ≡ Ok tt ⊎ IsErrOf result JournalFault.Disk)
             → (D.plain (disk_of self.new) ≡ Some (after_calls (append_calls (place_of self.old) body.now) p)) × (is_ok result ≡ all_succeed (append_calls (place_of self.old) body.now) p) }
 
+        ensures honest { IsHonest (D.seen (disk_of self.old)) → IsHonest (D.seen (disk_of self.new)) }
         ensures full { IsErrOf result JournalFault.Full ↔ ((must_load self.old ≡ false) × (2 ^ 40 < place_of self.old + length body.now + 6)) }
         ensures needs_load { IsErrOf result JournalFault.NeedsLoad ↔ (must_load self.old ≡ true) }
         ensures counts { D.faults (disk_of self.old) ≤ D.faults (disk_of self.new) }

@@ -28,7 +28,8 @@ pub(crate) fn settle<D: Disk>(disk: &mut D) -> Result<u64, JournalFault>
     ensures settled { IfOk result (λ len. IfSome (D.seen disk.old) (λ bytes.
         (D.seen disk.new ≡ Some bytes) × (len ≡ length bytes) × (0 < len) × Only bytes (D.may_leave disk.new))) }
     ensures any_moment { LeavesOnly D.moment D.left_since disk.old disk.new (D.may_leave disk.old) }
-    ensures exact { (p : Plain) → D.plain disk.old ≡ Some p → IsErrOf result JournalFault.NoMemory
+    ensures kept { IsErrOf result JournalFault.NoMemory → Unchanged D.seen D.may_leave D.moment D.left_since disk.old disk.new }
+    ensures exact { (p : Plain) → D.plain disk.old ≡ Some p → (IsErrOf result JournalFault.NoMemory × (D.plain disk.new ≡ Some p))
         ⊎ ((D.plain disk.new ≡ Some (after_call None p)) × (IsErrOf result JournalFault.Disk ↔ (succeeds p ≡ false))) }
     ensures honest { IsHonest (D.seen disk.old) → IsHonest (D.seen disk.new) }
     ensures failed { IsErrOf result JournalFault.Disk → Rose (D.faults disk.old) (D.faults disk.new) }

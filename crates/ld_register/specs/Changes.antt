@@ -1,0 +1,64 @@
+-- The changes of a register: their bytes, which one may come next, and what each makes of the contents.
+use Rattle.std.specs.Prelude.{◌≡◌, ◌≢◌, ◌≤◌, ◌<◌, ◌+◌, ◌^◌, ℕ, Bool, true, not, ◌&&◌, ◌==◌, List, [], ◌∷◌, ◌++◌, length}
+use Rattle.std.specs.Int.{w32, w64, to_be_bytes}
+use Rattle.ld_table.specs.Table.{put}
+use Rattle.ld_ids.specs.Id.{IsLog, IsNode}
+use Rattle.ld_msg.specs.declared.msg.Summary.{Summary}
+use Rattle.ld_msg.specs.Bounds.{Is32, IsEpoch, IsSummary}
+use Rattle.ld_msg.specs.Register.{Register, epochs_of, generation_of, lce_of, record_length, with_epochs, next_epoch, closed_epochs, is_crowded}
+use Rattle.ld_register.specs.Calls.{activation_length, close_length, draw_length}
+use Rattle.ld_register.specs.declared.change.Change.{Change}
+use Rattle.ld_register.specs.declared.change.Change.TheVariants as changes
+
+-- ---- bytes ----
+
+abbrev pub summary_bytes : Summary → List ℕ
+summary_bytes y = to_be_bytes w32 y.ballot ++ (to_be_bytes w32 y.lng ++ (to_be_bytes w64 y.trim ++ to_be_bytes w32 y.end))
+
+-- the body of a change's record
+unfoldable pub change_bytes : Change → List ℕ
+change_bytes (changes.Activate l e) = 16 ∷ (to_be_bytes w32 l ++ to_be_bytes w32 e)
+change_bytes (changes.Close l e y) = 17 ∷ (to_be_bytes w32 l ++ (to_be_bytes w32 e ++ summary_bytes y))
+change_bytes (changes.Draw n g) = 18 ∷ (n ∷ to_be_bytes w32 g)
+
+-- what a record's body may carry
+abbrev pub IsChange : Change → Type 0
+IsChange (changes.Activate l e) = IsLog l × IsEpoch e
+IsChange (changes.Close l e y) = IsLog l × IsEpoch e × IsSummary e y
+IsChange (changes.Draw n g) = IsNode n × Is32 g
+
+-- a body is this change's
+pub record IsBody (body : List ℕ) (x : Change) : Type 0 where
+  pub bytes : body ≡ change_bytes x
+  pub is : IsChange x
+
+-- a body is no change's
+abbrev pub IsNoBody : List ℕ → Type 0
+IsNoBody body = (x : Change) → IsChange x → body ≢ change_bytes x
+
+-- ---- contents ----
+
+-- whether a change is the next one of its log or node
+abbrev pub is_next : Register → Change → Bool
+is_next r (changes.Activate l e) = not (is_crowded r l) && ((epochs_of r l).epoch + 1 == e)
+is_next r (changes.Close l e y) = not (is_crowded r l) && (lce_of r l + 1 == e)
+is_next r (changes.Draw n g) = generation_of r n + 1 == g
+
+abbrev pub longer : Register → ℕ → Register
+longer r body = record r { length = r.length + record_length body }
+
+-- the contents after a change
+abbrev pub changed : Register → Change → Register
+changed r (changes.Activate l e) = longer (with_epochs r l (next_epoch (epochs_of r l))) activation_length
+changed r (changes.Close l e y) = longer (with_epochs r l (closed_epochs (epochs_of r l) e y)) close_length
+changed r (changes.Draw n g) = longer (record r { generations = put n (generation_of r n + 1) r.generations }) draw_length
+
+-- a body is the next change of these contents
+pub record IsNext (r : Register) (body : List ℕ) (x : Change) : Type 0 where
+  pub body_is : IsBody body x
+  pub next : is_next r x ≡ true
+
+-- these bodies, one after the other, are the next changes, and lead from one contents to other ones
+abbrev pub Leads : Register → List (List ℕ) → Register → Type 0
+Leads r [] c = r ≡ c
+Leads r (body ∷ bodies) c = (x : Change) × IsNext r body x × Leads (changed r x) bodies c

@@ -1,0 +1,58 @@
+-- What is kept in memory of a register's contents: its tables, with room made beforehand.
+use Rattle.std.specs.Prelude.{◌≡◌, ◌≤◌, ◌<◌, ◌-◌, ◌^◌, ℕ, Bool, true, false, ◌&&◌, ◌||◌, nat_lt, nat_le, List, filter, Option, Some, None, is_some, IsSome}
+use Rattle.std.specs.Option.{unwrap_or}
+use Rattle.ld_table.specs.Table.{find, keep_keys, map_values}
+use Rattle.ld_ids.specs.Id.{IsLog, IsNode}
+use Rattle.ld_msg.specs.declared.msg.Summary.{Summary}
+use Rattle.ld_msg.specs.Bounds.{IsSummary}
+use Rattle.ld_msg.specs.Register.{Register, Epochs, no_epochs}
+use Rattle.ld_register.specs.declared.change.Change.{Change}
+use Rattle.ld_register.specs.declared.change.Change.TheVariants as changes
+
+-- ---- a log: a summary above the last closed epoch is room for one ----
+
+abbrev pub is_closed : ℕ → ℕ → Bool
+is_closed lce e = nat_le 1 e && nat_le e lce
+
+abbrev pub shown_log : Epochs → Epochs
+shown_log v = record { epoch = v.epoch; lce = v.lce; summaries = keep_keys (is_closed v.lce) v.summaries }
+
+-- numbers in their bounds, a summary of each closed epoch, and each of its own epoch
+pub record IsLogSound (v : Epochs) : Type 0 where
+  pub epoch : v.epoch ≤ 2 ^ 32 - 2
+  pub lce : v.lce ≤ 2 ^ 32 - 2
+  pub are : (e : ℕ) (y : Summary) → find e v.summaries ≡ Some y → IsSummary e y
+  pub there : (e : ℕ) → 1 ≤ e → e ≤ v.lce → IsSome (find e v.summaries)
+
+-- ---- tables: a log without an epoch and a close is room for one, and so is generation 0 ----
+
+pub record Kept : Type 0 where
+  pub logs : List (ℕ × Epochs)
+  pub generations : List (ℕ × ℕ)
+
+abbrev pub is_held : Epochs → Bool
+is_held v = nat_lt 0 v.epoch || nat_lt 0 v.lce
+
+abbrev pub shown_logs : List (ℕ × Epochs) → List (ℕ × Epochs)
+shown_logs m = filter (λ e. is_held e.1) (map_values shown_log m)
+
+abbrev pub shown_generations : List (ℕ × ℕ) → List (ℕ × ℕ)
+shown_generations m = filter (λ e. nat_lt 0 e.1) m
+
+-- the contents, with a journal of this length
+abbrev pub register_of : Kept → ℕ → Register
+register_of k n = record { logs = shown_logs k.logs; generations = shown_generations k.generations; length = n; armed = None }
+
+pub record IsSound (k : Kept) : Type 0 where
+  pub logs : (l : ℕ) (v : Epochs) → find l k.logs ≡ Some v → IsLog l × IsLogSound v
+  pub generations : (n g : ℕ) → find n k.generations ≡ Some g → IsNode n
+
+-- ---- room ----
+
+abbrev pub log_at : List (ℕ × Epochs) → ℕ → Epochs
+log_at m l = unwrap_or (find l m) no_epochs
+
+abbrev pub has_room : Kept → Change → Bool
+has_room k (changes.Activate l e) = is_some (find l k.logs)
+has_room k (changes.Close l e y) = is_some (find l k.logs) && is_some (find e (log_at k.logs l).summaries)
+has_room k (changes.Draw n g) = is_some (find n k.generations)

@@ -1,0 +1,200 @@
+// The changes of a register, and the bodies of their records.
+ghost use Rattle.std.specs.Prelude.{◌≡◌, ◌≤◌, ◌+◌, ◌++◌, ◌∷◌, [], length, take, drop, get_or, IfOk, OnOk, IfSome, IfNone};
+ghost use Rattle.std.specs.Int.{w32, w64, to_be_bytes};
+ghost use Rattle.ld_register.specs.Changes.{change_bytes, summary_bytes, IsBody, IsNoBody};
+
+use ld_ids::{LogId, NoMemory, NodeId};
+use ld_lsn::Lsn;
+use ld_msg::Summary;
+use std::alloc::Global;
+
+const ACTIVATE: u8 = 16;
+
+const CLOSE: u8 = 17;
+
+const DRAW: u8 = 18;
+/// The greatest epoch of a log.
+pub(crate) const GREATEST_EPOCH: u32 = u32::MAX - 1;
+
+/// A change of a register, as one record of its journal.
+#[derive(Clone, Copy, Debug)]
+pub(crate) enum Change {
+    /// The log's next epoch is handed out.
+    Activate {
+        log: LogId,
+        epoch: u32,
+    },
+    /// The log's epoch is closed.
+    Close {
+        log: LogId,
+        epoch: u32,
+        summary: Summary,
+    },
+    /// The node's next generation is handed out.
+    Draw {
+        node: NodeId,
+        generation: u32,
+    },
+}
+
+impl Change {
+    /// The body of the change's record.
+    #[tactic(auto, unfolding(crate::specs::Changes::change_bytes))]
+    pub(crate) fn to_bytes(&self, alloc: Global) -> Result<Vec<u8>, NoMemory>
+        ensures { IfOk result (λ bytes. bytes.items ≡ change_bytes self.now) }
+    {
+        match self {
+            Change::Activate { log, epoch } => {
+                let mut out = begun(alloc, ACTIVATE)?;
+                put_word(&mut out, log.number())?;
+                put_word(&mut out, *epoch)?;
+                Ok(out)
+            }
+            Change::Close {
+                log,
+                epoch,
+                summary,
+            } => {
+                let mut out = begun(alloc, CLOSE)?;
+                put_word(&mut out, log.number())?;
+                put_word(&mut out, *epoch)?;
+                put_summary(&mut out, summary)?;
+                Ok(out)
+            }
+            Change::Draw { node, generation } => {
+                let mut out = begun(alloc, DRAW)?;
+                out.push(node.number())?;
+                put_word(&mut out, *generation)?;
+                Ok(out)
+            }
+        }
+    }
+
+    /// The change that a body is, where it is one's.
+    pub(crate) fn read(body: &[u8]) -> Option<Change>
+        ensures some { IfSome result (IsBody body.now) }
+        ensures none { IfNone result (IsNoBody body.now) }
+    {
+        if body.len() == 9 && body[0] == ACTIVATE {
+            return read_activation(body);
+        }
+        if body.len() == 29 && body[0] == CLOSE {
+            return read_close(body);
+        }
+        if body.len() == 6 && body[0] == DRAW {
+            return read_draw(body);
+        }
+        None
+    }
+}
+
+/// The first byte of a body.
+fn begun(alloc: Global, kind: u8) -> Result<Vec<u8>, NoMemory>
+    ensures { IfOk result (λ out. out.items ≡ kind ∷ []) }
+{
+    Ok(Vec::from_slice(alloc, &[kind])?)
+}
+
+fn put_word(out: &mut Vec<u8>, number: u32) -> Result<(), NoMemory>
+    ensures { OnOk result (out.new.items ≡ out.old.items ++ to_be_bytes w32 number) }
+{
+    out.extend_from_slice(&number.to_be_bytes())?;
+    Ok(())
+}
+
+fn put_summary(out: &mut Vec<u8>, summary: &Summary) -> Result<(), NoMemory>
+    ensures { OnOk result (out.new.items ≡ out.old.items ++ summary_bytes summary.now) }
+{
+    put_word(out, summary.ballot)?;
+    put_word(out, summary.lng)?;
+    out.extend_from_slice(&summary.trim.value().to_be_bytes())?;
+    put_word(out, summary.end)
+}
+
+/// The number in the four bytes at a place.
+fn word(body: &[u8], at: usize) -> u32
+    requires { at + 4 ≤ length body.now }
+    ensures { to_be_bytes w32 result ≡ take 4 (drop at body.now) }
+{
+    u32::from_be_bytes([body[at], body[at + 1], body[at + 2], body[at + 3]])
+}
+
+/// The number in the eight bytes at a place.
+fn long_word(body: &[u8], at: usize) -> u64
+    requires { at + 8 ≤ length body.now }
+    ensures { to_be_bytes w64 result ≡ take 8 (drop at body.now) }
+{
+    u64::from_be_bytes([
+        body[at],
+        body[at + 1],
+        body[at + 2],
+        body[at + 3],
+        body[at + 4],
+        body[at + 5],
+        body[at + 6],
+        body[at + 7],
+    ])
+}
+
+fn read_activation(body: &[u8]) -> Option<Change>
+    requires len { length body.now ≡ 9 }
+    requires kind { get_or body.now 0 0 ≡ 16 }
+    ensures some { IfSome result (IsBody body.now) }
+    ensures none { IfNone result (IsNoBody body.now) }
+{
+    let number = word(body, 1);
+    let epoch = word(body, 5);
+    let Some(log) = LogId::new(number) else {
+        return None;
+    };
+    let _ = log.number();
+    if epoch == 0 || GREATEST_EPOCH < epoch {
+        return None;
+    }
+    Some(Change::Activate { log, epoch })
+}
+
+fn read_close(body: &[u8]) -> Option<Change>
+    requires len { length body.now ≡ 29 }
+    requires kind { get_or body.now 0 0 ≡ 17 }
+    ensures some { IfSome result (IsBody body.now) }
+    ensures none { IfNone result (IsNoBody body.now) }
+{
+    let number = word(body, 1);
+    let epoch = word(body, 5);
+    let summary = Summary {
+        ballot: word(body, 9),
+        lng: word(body, 13),
+        trim: Lsn::from_u64(long_word(body, 17)),
+        end: word(body, 25),
+    };
+    let Some(log) = LogId::new(number) else {
+        return None;
+    };
+    let _ = log.number();
+    if epoch == 0 || summary.ballot <= epoch {
+        return None;
+    }
+    if GREATEST_EPOCH < summary.ballot || summary.end == 0 {
+        return None;
+    }
+    Some(Change::Close {
+        log,
+        epoch,
+        summary,
+    })
+}
+
+fn read_draw(body: &[u8]) -> Option<Change>
+    requires len { length body.now ≡ 6 }
+    requires kind { get_or body.now 0 0 ≡ 18 }
+    ensures some { IfSome result (IsBody body.now) }
+    ensures none { IfNone result (IsNoBody body.now) }
+{
+    let generation = word(body, 2);
+    let Some(node) = NodeId::new(body[1]) else {
+        return None;
+    };
+    let _ = node.number();
+    Some(Change::Draw { node, generation })
+}

@@ -1,0 +1,52 @@
+// Why a register refuses.
+ghost use Rattle.std.specs.Prelude.{◌≡◌};
+ghost use Rattle.ld_register.specs.declared.fault.RegisterFault.TheVariants.{NoMemory as Memory};
+
+use ld_ids::NoMemory;
+use std::alloc::AllocError;
+use thiserror::Error;
+
+/// Why a register refuses a call.
+#[derive(Clone, Copy, Debug, PartialEq, Eq, Error)]
+pub enum RegisterFault {
+    /// A call of the outside failed. The change is made or not.
+    #[error("the register failed")]
+    Failed,
+    /// From this place on the register's bytes are no journal of its changes.
+    #[error("the register's journal is damaged")]
+    Damaged(u64),
+    /// As many other logs are held as may be.
+    #[error("the register holds no further log")]
+    LogLimit,
+    /// The last closed epoch is this one, and not the one before that which was to be closed.
+    #[error("the last closed epoch is {0}")]
+    Behind(u32),
+    /// The greatest epoch has been handed out.
+    #[error("no epoch is left")]
+    EpochLimit,
+    /// The greatest generation has been handed out.
+    #[error("no generation is left")]
+    GenLimit,
+    /// The register's journal would pass its greatest length.
+    #[error("the register's journal is full")]
+    Full,
+    /// There is no memory left.
+    #[error("out of memory")]
+    NoMemory,
+}
+
+impl From<NoMemory> for RegisterFault {
+    ghost from_gives = { λ _ e. e ≡ Memory };
+
+    fn from(_: NoMemory) -> RegisterFault {
+        RegisterFault::NoMemory
+    }
+}
+
+impl From<AllocError> for RegisterFault {
+    ghost from_gives = { λ _ e. e ≡ Memory };
+
+    fn from(_: AllocError) -> RegisterFault {
+        RegisterFault::NoMemory
+    }
+}

@@ -1,0 +1,10 @@
+//! The register that hands out epochs and generations, and keeps the summaries of closed epochs.
+#![tactic(auto)]
+
+mod change;
+mod fault;
+mod log;
+mod register;
+
+pub use fault::RegisterFault;
+pub use register::{Drawn, Grant, Register, View};

@@ -1,0 +1,170 @@
+// A register as its users see it.
+ghost use Rattle.std.specs.Prelude.{◌≡◌, ◌≢◌, ◌⊎◌, ◌≤◌, ◌-◌, ◌^◌, ℕ, IfOk, OnErr, IsErrOf, Ok, Err};
+ghost use Rattle.ld_io.specs.Causes.{Rose};
+ghost use Rattle.ld_msg.specs.Bounds.{IsEpoch, IsSummary};
+ghost use Rattle.ld_msg.specs.Register.{Register as Contents};
+ghost use Rattle.ld_op.specs.Bounds.{IsOp};
+ghost use Rattle.ld_op.specs.declared.op.Op.TheVariants.{Format};
+ghost use Rattle.ld_register.specs.Calls.{activated, after_activate, closed, after_close, drawn, after_draw, looked, IsView, IsFree, ChangedOrNot, Keeps, unarmed};
+
+use crate::RegisterFault;
+use ld_ids::{LogId, NodeId};
+use ld_msg::Summary;
+use ld_op::Epochs;
+use std::alloc::Global;
+
+/// An epoch that was handed out, and the last closed one.
+#[derive(Clone, Copy, Debug, PartialEq, Eq)]
+pub struct Grant {
+    pub epoch: u32,
+    pub lce: u32,
+}
+
+/// A generation that was handed out, and the epoch of each log that has one.
+#[derive(Debug, Drop)]
+pub struct Drawn {
+    pub gen_: u32,
+    pub epochs: Epochs,
+}
+
+/// A log's epoch, its last closed one, and the summary of the epoch that was asked for, where it is closed.
+#[derive(Clone, Copy, Debug, PartialEq, Eq)]
+pub struct View {
+    pub epoch: u32,
+    pub lce: u32,
+    pub summary: Option<Summary>,
+}
+
+/// A register: per log the greatest epoch handed out, the last closed one and the summaries of the closed ones; per
+/// node the greatest generation handed out. Its changes are the records of a journal.
+///
+/// A call that answers `Failed` has made its change or not. It comes only where the register's own count of faults
+/// rose in the call. Any other refusal has changed nothing.
+pub trait Register {
+    /// It tells what it holds.
+    ghost told: { Self → Type 0 };
+
+    /// It holds these contents, its journal has this length, and no fault is armed in them.
+    ghost holds: { Self → Contents → Type 0 };
+
+    /// A crash at this moment may leave these.
+    ghost may_hold: { Self → Contents → Type 0 };
+
+    /// Each call will answer and change just what it does of these contents with their armed fault, want of memory
+    /// aside.
+    ghost tells: { Self → Contents → Type 0 };
+
+    /// From this place on its bytes are no journal of its changes.
+    ghost damaged: { Self → ℕ → Type 0 };
+
+    /// How often a call has failed, up to the greatest 64-bit number.
+    ghost faults: { Self → ℕ };
+
+    /// Hands out the log's next epoch, from 1 on, and says which epoch is the last closed one.
+    ///
+    /// It refuses with `LogLimit` exactly where 64 other logs are held, then with `EpochLimit` exactly where the
+    /// log's epoch is 2^32-2, then with `Full` exactly where its journal would be longer than 2^40 bytes; with
+    /// `Damaged` where the bytes are no journal of changes; and with `Failed` and `NoMemory` at any point.
+    fn activate(&mut self, alloc: Global, log: LogId) -> Result<Grant, RegisterFault>
+        ensures answers { (c : Contents) → holds self.old c → IsFree result ⊎ ((result ≡ activated c log) × holds self.new (after_activate c log)) }
+        ensures told { told self.old → told self.new }
+        ensures whole { told self.old → IsFree result ⊎ ((c : Contents) × holds self.old c) }
+        ensures settled { IsFree result ⊎ ((c : Contents) → may_hold self.new c → holds self.new c) }
+        ensures done_or_not { ChangedOrNot (may_hold self.old) (may_hold self.new) (λ c. after_activate c log) }
+        ensures keeps { IsErrOf result RegisterFault.Failed ⊎ OnErr result (Keeps (holds self.old) (holds self.new) (may_hold self.old) (may_hold self.new)) }
+        ensures exact { (c : Contents) → tells self.old c
+            → (IsErrOf result RegisterFault.NoMemory × tells self.new c) ⊎ ((result ≡ activated c log) × tells self.new (after_activate c log)) }
+        ensures bounds { IfOk result (λ grant. IsEpoch grant.epoch × (grant.lce ≤ 2 ^ 32 - 2)) }
+        ensures failed { IsErrOf result RegisterFault.Failed → Rose (faults self.old) (faults self.new) }
+        ensures damaged { (place : ℕ) → IsErrOf result (RegisterFault.Damaged place) → told self.old → damaged self.old place }
+        ensures behind { (lce : ℕ) → result ≢ Err (RegisterFault.Behind lce) }
+        ensures generations { result ≢ Err RegisterFault.GenLimit }
+        ensures counts { faults self.old ≤ faults self.new };
+
+    /// Closes the log's epoch with a summary of it. It is taken exactly where the epoch before is the last closed
+    /// one.
+    ///
+    /// It refuses with `LogLimit` exactly where 64 other logs are held, then with `Behind` and the last closed epoch
+    /// exactly where that isn't the one before, then with `Full` exactly where its journal would be longer than 2^40
+    /// bytes; with `Damaged` where the bytes are no journal of changes; and with `Failed` and `NoMemory` at any point.
+    fn close(
+        &mut self,
+        alloc: Global,
+        log: LogId,
+        epoch: u32,
+        summary: &Summary,
+    ) -> Result<(), RegisterFault>
+        requires { IsSummary epoch summary.now }
+        ensures answers { (c : Contents) → holds self.old c → IsFree result ⊎ ((result ≡ closed c log epoch summary.now) × holds self.new (after_close c log epoch summary.now)) }
+        ensures told { told self.old → told self.new }
+        ensures whole { told self.old → IsFree result ⊎ ((c : Contents) × holds self.old c) }
+        ensures settled { IsFree result ⊎ ((c : Contents) → may_hold self.new c → holds self.new c) }
+        ensures done_or_not { ChangedOrNot (may_hold self.old) (may_hold self.new) (λ c. after_close c log epoch summary.now) }
+        ensures keeps { IsErrOf result RegisterFault.Failed ⊎ OnErr result (Keeps (holds self.old) (holds self.new) (may_hold self.old) (may_hold self.new)) }
+        ensures exact { (c : Contents) → tells self.old c
+            → (IsErrOf result RegisterFault.NoMemory × tells self.new c) ⊎ ((result ≡ closed c log epoch summary.now) × tells self.new (after_close c log epoch summary.now)) }
+        ensures bounds { (lce : ℕ) → IsErrOf result (RegisterFault.Behind lce) → lce ≤ 2 ^ 32 - 2 }
+        ensures failed { IsErrOf result RegisterFault.Failed → Rose (faults self.old) (faults self.new) }
+        ensures damaged { (place : ℕ) → IsErrOf result (RegisterFault.Damaged place) → told self.old → damaged self.old place }
+        ensures epochs { result ≢ Err RegisterFault.EpochLimit }
+        ensures generations { result ≢ Err RegisterFault.GenLimit }
+        ensures counts { faults self.old ≤ faults self.new };
+
+    /// Hands out the node's next generation, from 1 on, and tells the epoch of each log that has one, the logs
+    /// rising.
+    ///
+    /// It refuses with `GenLimit` exactly where the node's generation is 2^32-1, then with `Full` exactly where its
+    /// journal would be longer than 2^40 bytes; with `Damaged` where the bytes are no journal of changes; and with
+    /// `Failed` and `NoMemory` at any point.
+    fn draw(&mut self, alloc: Global, node: NodeId) -> Result<Drawn, RegisterFault>
+        ensures answers { (c : Contents) → holds self.old c → IsFree result ⊎ ((result ≡ drawn c node) × holds self.new (after_draw c node)) }
+        ensures told { told self.old → told self.new }
+        ensures whole { told self.old → IsFree result ⊎ ((c : Contents) × holds self.old c) }
+        ensures settled { IsFree result ⊎ ((c : Contents) → may_hold self.new c → holds self.new c) }
+        ensures done_or_not { ChangedOrNot (may_hold self.old) (may_hold self.new) (λ c. after_draw c node) }
+        ensures keeps { IsErrOf result RegisterFault.Failed ⊎ OnErr result (Keeps (holds self.old) (holds self.new) (may_hold self.old) (may_hold self.new)) }
+        ensures exact { (c : Contents) → tells self.old c
+            → (IsErrOf result RegisterFault.NoMemory × tells self.new c) ⊎ ((result ≡ drawn c node) × tells self.new (after_draw c node)) }
+        ensures bounds { IfOk result (λ drawn. IsOp (Format drawn.gen_ drawn.epochs)) }
+        ensures failed { IsErrOf result RegisterFault.Failed → Rose (faults self.old) (faults self.new) }
+        ensures damaged { (place : ℕ) → IsErrOf result (RegisterFault.Damaged place) → told self.old → damaged self.old place }
+        ensures logs { result ≢ Err RegisterFault.LogLimit }
+        ensures behind { (lce : ℕ) → result ≢ Err (RegisterFault.Behind lce) }
+        ensures epochs { result ≢ Err RegisterFault.EpochLimit }
+        ensures counts { faults self.old ≤ faults self.new };
+
+    /// Shows the log's epoch, its last closed one, and the summary of the epoch `e` exactly where it is closed: where
+    /// 1 <= `e` <= the last closed one. It changes nothing.
+    ///
+    /// It refuses with `Damaged` where the bytes are no journal of changes, and with `Failed` and `NoMemory` at any
+    /// point.
+    fn look(&mut self, alloc: Global, log: LogId, e: u32) -> Result<View, RegisterFault>
+        ensures answers { (c : Contents) → holds self.old c → IsFree result ⊎ ((result ≡ Ok (looked c log e)) × holds self.new c) }
+        ensures told { told self.old → told self.new }
+        ensures whole { told self.old → IsFree result ⊎ ((c : Contents) × holds self.old c) }
+        ensures settled { IsFree result ⊎ ((c : Contents) → may_hold self.new c → holds self.new c) }
+        ensures same { (c : Contents) → may_hold self.new c → may_hold self.old c }
+        ensures keeps { IsErrOf result RegisterFault.Failed ⊎ Keeps (holds self.old) (holds self.new) (may_hold self.old) (may_hold self.new) }
+        ensures exact { (c : Contents) → tells self.old c
+            → (IsErrOf result RegisterFault.NoMemory ⊎ (result ≡ Ok (looked c log e))) × tells self.new c }
+        ensures view { IfOk result (IsView e) }
+        ensures failed { IsErrOf result RegisterFault.Failed → Rose (faults self.old) (faults self.new) }
+        ensures damaged { (place : ℕ) → IsErrOf result (RegisterFault.Damaged place) → told self.old → damaged self.old place }
+        ensures free { OnErr result (IsFree result) }
+        ensures counts { faults self.old ≤ faults self.new };
+
+    /// It holds one thing.
+    ghost holds_one: { (register : Self) (c d : Contents) → holds register c → holds register d → c ≡ d };
+
+    /// A register that holds something tells so.
+    ghost held_is_told: { (register : Self) (c : Contents) → holds register c → told register };
+
+    /// What is held is one of the things that a crash may leave.
+    ghost held_may_be: { (register : Self) (c : Contents) → holds register c → may_hold register c };
+
+    /// What each call will do is told of the contents that are held.
+    ghost tells_what_is_held: { (register : Self) (c : Contents) → tells register c → holds register (unarmed c) };
+
+    /// A register that holds something isn't damaged.
+    ghost held_is_whole: { (register : Self) (c : Contents) (place : ℕ) → holds register c → damaged register place → ⊥ };
+}

@@ -1,0 +1,51 @@
+-- Which fault of a journal a store passed on.
+use Rattle.std.proofs.Common.{◌≡◌, ℕ, ap, refl, subst, sym, Result, Ok, Err}
+use Rattle.std.specs.Result.{IsErrAnd, IsErrOf}
+use Rattle.ld_journal.specs.declared.fault.JournalFault.{JournalFault}
+use Rattle.ld_journal.specs.declared.fault.JournalFault.TheVariants as journals
+use Rattle.ld_store.specs.declared.fault.StoreFault.{StoreFault}
+use Rattle.ld_store.specs.declared.fault.StoreFault.TheVariants as stores
+use Rattle.ld_store.specs.Faults.{passed_on}
+
+abbrev pub refusal : StoreFault → Result (Unit {0}) StoreFault
+refusal e = Err e
+
+abbrev pub journal_refusal : JournalFault → Result (Unit {0}) JournalFault
+journal_refusal e = Err e
+
+abbrev pub journal_ok : Result (Unit {0}) JournalFault
+journal_ok = Ok tt
+
+pub of_damaged : (e : JournalFault) (place : ℕ) → passed_on e ≡ stores.Damaged place → e ≡ journals.Damaged place
+of_damaged journals.Disk place is = absurd (cc is)
+of_damaged (journals.Damaged other) place is = ap (λ n. journals.Damaged n) (cc is)
+of_damaged journals.Full place is = absurd (cc is)
+of_damaged journals.NeedsLoad place is = absurd (cc is)
+of_damaged journals.NoMemory place is = absurd (cc is)
+
+-- what holds of an error holds of the one that it is
+pub err_is : {T E : Type 0} (r : Result T E) (e : E) (P : E → Type 0) → IsErrAnd r P → IsErrOf r e → P e
+err_is r e P and is = subst (λ r. IsErrAnd r P) is and
+
+pub same_place : (m n : ℕ) → stores.Damaged m ≡ stores.Damaged n → m ≡ n
+same_place m n is = cc
+
+pub no_place : (n : ℕ) → stores.NoMemory ≡ stores.Damaged n → ⊥
+no_place n is = absurd (cc is)
+
+pub of_full : (e : JournalFault) → passed_on e ≡ stores.Full → e ≡ journals.Full
+of_full journals.Disk is = absurd (cc is)
+of_full (journals.Damaged other) is = absurd (cc is)
+of_full journals.Full is = refl
+of_full journals.NeedsLoad is = absurd (cc is)
+of_full journals.NoMemory is = absurd (cc is)
+
+-- the error of a refusal
+pub error_in : (a b : StoreFault) → refusal a ≡ refusal b → a ≡ b
+error_in a b is = cc is
+
+pub none_refused : (e : JournalFault) → journal_ok ≡ journal_refusal e → ⊥
+none_refused e is = absurd (cc is)
+
+pub fault_in : (a b : JournalFault) → journal_refusal a ≡ journal_refusal b → a ≡ b
+fault_in a b is = cc is

@@ -1,0 +1,65 @@
+use Rattle.std.proofs.Common.{◌≡◌, Ok, Err, ap, sym, ◌∙◌, inl, inr, refl, ◌∷◌, [], ◌++◌, arith}
+use Rattle.ld_journal.specs.Format.{IsWithOrWithout}
+use Rattle.ld_op.specs.Plain.{apply}
+use Rattle.ld_op.specs.Bytes.{op_bytes}
+use Rattle.ld_store.specs.Ops.{bodies_of, StandsForEither}
+use Rattle.ld_store.specs.Open.{plain_of, disk_of}
+use Rattle.ld_journal.specs.declared.fault.JournalFault.TheVariants as journals
+use Rattle.ld_store.specs.declared.fault.StoreFault.TheVariants as stores
+use Rattle.ld_store.specs.Faults.{passed_on}
+use Rattle.ld_store.proofs.Faults.{of_full, error_in, fault_in, none_refused}
+use Rattle.ld_store.proofs.Formats.{op_rises}
+use Rattle.ld_store.proofs.Holding.{body_is, body_fits, body_long, stand_either, leaves_too, images_stand, held_too}
+use Rattle.ld_store.proofs.store.Store.apply.Goals as goal
+
+pub room-requires : goal.room-requires
+room-requires g c = op_rises c.args.op c.requires.op
+
+pub append-requires-clause-fits : goal.append-requires-clause-fits
+append-requires-clause-fits g c = body_fits c.args.op c.deref.result.now c.requires.op (body_is _ _ _ (op_bytes c.args.op) c.new-body.ensures.items c.in_ok-encode.ensures.ok c.deref.ensures.value)
+
+pub returns-in-Ok-clause-acknowledged : goal.returns-in-Ok-clause-acknowledged
+returns-in-Ok-clause-acknowledged g c ops holds =
+    let D = g.D.Disk in
+    let is = body_is _ _ _ (op_bytes c.args.op) c.new-body.ensures.items c.in_ok-encode.ensures.ok c.deref.ensures.value in
+    held_too D.seen D.may_leave c.args.self.now _ ops c.args.op c.deref.result.now holds c.requires.op c.requires.format is (c.in-Ok.ensures.acknowledged (bodies_of ops) holds.settled) (c.apply.ensures ∙ ap (λ s. apply s c.args.op) c.in_ok-room.ensures.same) refl holds.works
+
+pub returns-in-Ok-clause-images : goal.returns-in-Ok-clause-images
+returns-in-Ok-clause-images g c ops holds left =
+    let D = g.D.Disk in
+    images_stand D.seen D.may_leave _ (ops ++ c.args.op ∷ []) (returns-in-Ok-clause-acknowledged g c ops holds) left
+
+pub returns-in-Ok-clause-any_moment : goal.returns-in-Ok-clause-any_moment
+returns-in-Ok-clause-any_moment g c ops holds =
+    let D = g.D.Disk in
+    let p = plain_of c.args.self.now in
+    let is = body_is _ _ _ (op_bytes c.args.op) c.new-body.ensures.items c.in_ok-encode.ensures.ok c.deref.ensures.value in
+    leaves_too D.moment D.left_since (disk_of c.args.self.now) c.append.new.self.disk (IsWithOrWithout (bodies_of ops) c.deref.result.now) (StandsForEither p (apply p c.args.op))
+    (λ bytes either. stand_either ops c.args.op p c.args.self.now.blank c.deref.result.now bytes holds.ops c.requires.op holds.state holds.blank c.requires.format is either)
+    (c.in-Ok.ensures.any_moment (bodies_of ops) holds.settled)
+
+pub returns-in-Ok-clause-too_long : goal.returns-in-Ok-clause-too_long
+returns-in-Ok-clause-too_long g c works long =
+    let is = body_long c.args.op c.deref.result.now (body_is _ _ _ (op_bytes c.args.op) c.new-body.ensures.items c.in_ok-encode.ensures.ok c.deref.ensures.value) in
+    absurd (none_refused journals.Full (c.in-Ok.ensures.full.1 (c.args.self.now.failed_is ∙ works, omega (arith, long, is))))
+
+pub returns-in-Err-clause-any_moment : goal.returns-in-Err-clause-any_moment
+returns-in-Err-clause-any_moment g c ops holds =
+    let D = g.D.Disk in
+    let p = plain_of c.args.self.now in
+    let is = body_is _ _ _ (op_bytes c.args.op) c.new-body.ensures.items c.in_ok-encode.ensures.ok c.deref.ensures.value in
+    leaves_too D.moment D.left_since (disk_of c.args.self.now) c.append.new.self.disk (IsWithOrWithout (bodies_of ops) c.deref.result.now) (StandsForEither p (apply p c.args.op))
+    (λ bytes either. stand_either ops c.args.op p c.args.self.now.blank c.deref.result.now bytes holds.ops c.requires.op holds.state holds.blank c.requires.format is either)
+    (c.in-Err.ensures.any_moment (bodies_of ops) holds.settled)
+
+pub returns-in-Err-clause-full : goal.returns-in-Err-clause-full
+returns-in-Err-clause-full g c is =
+    let body = body_long c.args.op c.deref.result.now (body_is _ _ _ (op_bytes c.args.op) c.new-body.ensures.items c.in_ok-encode.ensures.ok c.deref.ensures.value) in
+    let full = c.in-Err.ensures.full.0 (ap Err (of_full c.in-Err.fault (sym c.from.ensures ∙ error_in c.from.result stores.Full is))) in
+    (sym c.args.self.now.failed_is ∙ full.0, omega (arith, full.1, body))
+
+pub returns-in-Err-clause-too_long : goal.returns-in-Err-clause-too_long
+returns-in-Err-clause-too_long g c works long =
+    let body = body_long c.args.op c.deref.result.now (body_is _ _ _ (op_bytes c.args.op) c.new-body.ensures.items c.in_ok-encode.ensures.ok c.deref.ensures.value) in
+    let full = c.in-Err.ensures.full.1 (c.args.self.now.failed_is ∙ works, omega (arith, long, body)) in
+    inl (ap Err (c.from.ensures ∙ ap passed_on (fault_in c.in-Err.fault journals.Full full)))

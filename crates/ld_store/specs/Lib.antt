@@ -1,0 +1,4 @@
+pub mod Ops
+pub mod Faults
+pub mod Replayed
+pub mod Open

@@ -1,0 +1,48 @@
+-- What an open store knows of its disk.
+use Rattle.std.specs.Prelude.{◌≡◌, ℕ, List, ◌++◌, length, Option, Bool, false}
+use Rattle.ld_journal.specs.Format.{records}
+use Rattle.ld_journal.specs.Open as journals
+use Rattle.ld_journal.specs.Open.{IsSettled, HasGiven}
+use Rattle.ld_journal.specs.declared.journal.Journal.{Journal}
+use Rattle.ld_op.specs.declared.op.Op.{Op}
+use Rattle.ld_op.specs.Plain.{Plain}
+use Rattle.ld_store.specs.Ops.{bodies_of, state_after, are_none, AreOps, IsJournalOf}
+use Rattle.ld_disk.specs.declared.disk.Disk.{Ghosts}
+use Rattle.ld_store.specs.declared.store.Store.{Store}
+
+module _ {D : Type 0} {g : Ghosts D} where
+  -- the disk that the store owns
+  abbrev pub disk_of : Store D g → D
+  disk_of store = journals.disk_of store.journal
+
+  -- the place of the gate behind the records
+  abbrev pub place_of : Store D g → ℕ
+  place_of store = journals.place_of store.journal
+
+  -- an earlier call answered that the disk failed
+  abbrev pub must_load : Store D g → Bool
+  must_load store = store.failed
+
+  -- no op stands in the journal
+  abbrev pub is_blank : Store D g → Bool
+  is_blank store = store.blank
+
+  -- the plain state in memory
+  abbrev pub plain_of : Store D g → Plain
+  plain_of store = store.plain.state
+
+module _ {D : Type 0} {g : Ghosts D} (seen : D → Option (List ℕ)) (may_leave : D → List ℕ → Type 0) where
+  -- the journal holds these ops, a crash leaves them, and the plain state is what they add up to
+  pub record Holds (store : Store D g) (os : List Op) : Type 0 where
+    pub settled : IsSettled seen may_leave store.journal (bodies_of os)
+    pub ops : AreOps os
+    pub state : plain_of store ≡ state_after os
+    pub blank : is_blank store ≡ are_none os
+    pub place : place_of store ≡ length (records (bodies_of os))
+    pub works : must_load store ≡ false
+
+  -- it holds the ops that these bytes are a journal of
+  pub record IsOpened (store : Store D g) (bytes : List ℕ) : Type 0 where
+    pub ops : List Op
+    pub journal : IsJournalOf ops bytes
+    pub holds : Holds store ops

@@ -1,0 +1,16 @@
+//! A node's plain state on a disk: each op is durable before it is applied.
+#![tactic(auto)]
+
+mod fault;
+mod law;
+mod replay;
+mod store;
+
+pub use fault::StoreFault;
+pub use law::{
+    bytes_stand_for_one_state, durable_ops_are_safe, picture_decides_the_state, places_are_lengths,
+};
+pub use store::Store;
+
+#[cfg(test)]
+mod tests;

@@ -1,0 +1,217 @@
+// A node's plain state, and the journal that its ops are durable in.
+ghost use Rattle.std.specs.Prelude.{◌≡◌, true};
+ghost use Rattle.ld_journal.specs.Open.{has_ended, must_load as journal_must_load};
+
+use crate::StoreFault;
+use crate::replay::replay;
+use ld_disk::{Disk, Fault};
+use ld_journal::{Journal, JournalFault};
+use ld_op::{Epochs, Op, Plain};
+use std::alloc::Global;
+
+/// A node's plain state, and the disk that its ops are kept on.
+#[derive(Drop)]
+pub struct Store<D: Disk> {
+    journal: Journal<D>,
+    plain: Plain,
+    blank: bool,
+    failed: bool,
+    ghost ended: { has_ended journal ≡ true },
+    ghost failed_is: { journal_must_load journal ≡ failed },
+}
+
+impl<D: Disk> Store<D> {
+    ghost use Rattle.std.specs.Prelude.{◌≢◌, ◌⊎◌, ◌↔◌, ◌<◌, ◌≤◌, ◌+◌, ◌^◌, ◌++◌, [], ◌∷◌, List, ℕ, length, IfOk, IfErr, IfSome, MatchResult, OnOk, OnErr, IsErrOf, Ok, Err, Some, None, is_ok, false};
+    ghost use Rattle.std.specs.Option.{option_map};
+    ghost use Rattle.ld_io.specs.Causes.{Rose};
+    ghost use Rattle.ld_disk.specs.Images.{IsHonest};
+    ghost use Rattle.ld_disk.specs.Moments.{LeavesOnly, Unchanged};
+    ghost use Rattle.ld_disk.specs.Plain.{Plain as DiskPlain, after_call, succeeds, after_calls, all_succeed, reads_fine, armed_with};
+    ghost use Rattle.ld_journal.specs.Format.{append_calls};
+    ghost use Rattle.ld_op.specs.declared.op.Op.{Op as Kind};
+    ghost use Rattle.ld_op.specs.declared.op.Op.TheVariants as kinds;
+    ghost use Rattle.ld_op.specs.Plain.{apply, op_length};
+    ghost use Rattle.ld_op.specs.Bounds.{IsOp};
+    ghost use Rattle.ld_op.specs.Bytes.{op_bytes};
+    ghost use Rattle.ld_store.specs.Ops.{is_format, StandsFor, StandsForEither, IsDamaged};
+    ghost use Rattle.ld_store.specs.Open.{disk_of, place_of, must_load, is_blank, plain_of, Holds, IsOpened};
+
+    /// Opens the store on a disk, in one writing call, and replays its ops in one walk.
+    ///
+    /// A refusal hands the disk back: `Disk` where a call of it failed, `Damaged(place)` where the record whose gate
+    /// is at that place is cut short, or its body is no op that may stand there (the first is a format, and no other
+    /// is), or the disk has no byte at all, and `NoMemory`.
+    pub fn load(alloc: Global, disk: D) -> Result<Store<D>, (D, StoreFault)>
+        ensures opens { IfOk result (λ store. IfSome (D.seen disk) (IsOpened D.seen D.may_leave store)) }
+        ensures works { IfOk result (λ store. must_load store ≡ false) }
+        ensures counts { MatchResult result (λ store. D.faults disk ≤ D.faults (disk_of store)) (λ e. D.faults disk ≤ D.faults e.0) }
+
+        // A crash at any moment leaves what a crash before the call might have left.
+        ensures any_moment { MatchResult result (λ store. LeavesOnly D.moment D.left_since disk (disk_of store) (D.may_leave disk))
+            (λ e. LeavesOnly D.moment D.left_since disk e.0 (D.may_leave disk)) }
+
+        // Where the disk tells what each call will do, and no read of it fails, it is one writing call.
+        ensures exact { (p : DiskPlain) → D.plain disk ≡ Some p → reads_fine p ≡ true
+            → MatchResult result (λ store. (D.plain (disk_of store) ≡ Some (after_call None p)) × (succeeds p ≡ true))
+            (λ e. (e.1 ≡ StoreFault.NoMemory) ⊎ ((D.plain e.0 ≡ Some (after_call None p)) × ((e.1 ≡ StoreFault.Disk) ↔ (succeeds p ≡ false)))) }
+
+        ensures failed { IfErr result (λ e. e.1 ≡ StoreFault.Disk → Rose (D.faults disk) (D.faults e.0)) }
+        ensures damaged { IfErr result (λ e. (place : ℕ) → e.1 ≡ StoreFault.Damaged place → IfSome (D.seen disk) (IsDamaged place)) }
+        ensures honest { IfErr result (λ e. IsHonest (D.seen disk) → ((c : List ℕ) → D.may_leave disk c → (state : _) × StandsFor state c)
+            → (place : ℕ) → e.1 ≢ StoreFault.Damaged place) }
+        ensures full { IfErr result (λ e. e.1 ≢ StoreFault.Full) }
+        ensures needs_load { IfErr result (λ e. e.1 ≢ StoreFault.NeedsLoad) }
+    {
+        let mut journal = match Journal::load(disk) {
+            Ok(journal) => journal,
+            Err((disk, fault)) => return Err((disk, StoreFault::from(fault))),
+        };
+        let mut plain = Plain::new(alloc);
+        match replay(alloc, &mut journal, &mut plain) {
+            Ok(blank) => Ok(Store {
+                journal,
+                plain,
+                blank,
+                failed: false,
+            }),
+            Err(fault) => Err((journal.into_disk(), fault)),
+        }
+    }
+
+    /// Whether no op stands in the journal.
+    pub fn is_blank(&self) -> bool
+        ensures { result ≡ is_blank self.now }
+    {
+        self.blank
+    }
+
+    /// The plain state.
+    pub fn plain(&self) -> &Plain
+        ensures { result.now.state ≡ plain_of self.now }
+    {
+        &self.plain
+    }
+
+    /// Gives the disk back, as the last call left it.
+    pub fn into_disk(self) -> D
+        ensures { result ≡ disk_of self }
+    {
+        self.journal.into_disk()
+    }
+
+    /// Tells a disk in memory to fail or to crash. Other disks ignore it.
+    pub fn arm(&mut self, fault: Fault)
+        ensures exact { D.plain (disk_of self.new) ≡ option_map (armed_with fault) (D.plain (disk_of self.old)) }
+        ensures same { Unchanged D.seen D.may_leave D.moment D.left_since (disk_of self.old) (disk_of self.new) }
+        ensures faults { D.faults (disk_of self.new) ≡ D.faults (disk_of self.old) }
+        ensures rest { (place_of self.new ≡ place_of self.old) × (plain_of self.new ≡ plain_of self.old) × (is_blank self.new ≡ is_blank self.old) × (must_load self.new ≡ must_load self.old) }
+    {
+        self.journal.arm(fault);
+    }
+
+    /// Makes an op durable, and then applies it. The op is one that a journal's body can carry, and a format exactly
+    /// where the store is blank.
+    ///
+    /// It refuses with `Full` where the journal would be longer than 2^40 bytes, and with `NoMemory`; then nothing has
+    /// changed. It refuses with `Disk` where a call of the disk failed: the op is then there or not, which the next
+    /// load tells, and until then each call answers `NeedsLoad`. No refusal changes the plain state in memory.
+    pub fn apply(&mut self, alloc: Global, op: Op) -> Result<(), StoreFault>
+        requires op { IsOp op }
+        requires format { is_format op ≡ is_blank self.old }
+
+        ensures acknowledged { (ops : List Kind) → Holds D.seen D.may_leave self.old ops
+            → OnOk result (Holds D.seen D.may_leave self.new (ops ++ op ∷ [])) }
+        ensures images { (ops : List Kind) → Holds D.seen D.may_leave self.old ops
+            → OnOk result ((c : List ℕ) → D.may_leave (disk_of self.new) c → StandsFor (plain_of self.new) c) }
+
+        // A crash at any moment of the call leaves what stands for the plain state before it or for that with the op.
+        ensures any_moment { (ops : List Kind) → Holds D.seen D.may_leave self.old ops
+            → LeavesOnly D.moment D.left_since (disk_of self.old) (disk_of self.new) (StandsForEither (plain_of self.old) (apply (plain_of self.old) op)) }
+
+        ensures applied { OnOk result ((plain_of self.new ≡ apply (plain_of self.old) op) × (is_blank self.new ≡ false)) }
+        ensures refused { OnErr result ((plain_of self.new ≡ plain_of self.old) × (is_blank self.new ≡ is_blank self.old)) }
+
+        // Where the disk tells what each call will do, it is four writing calls, the last of which may be the one that fails.
+        ensures exact { (p : DiskPlain) → D.plain (disk_of self.old) ≡ Some p → (result ≡ Ok tt ⊎ IsErrOf result StoreFault.Disk)
+            → (D.plain (disk_of self.new) ≡ Some (after_calls (append_calls (place_of self.old) (op_bytes op)) p)) × (is_ok result ≡ all_succeed (append_calls (place_of self.old) (op_bytes op)) p) }
+
+        ensures honest { IsHonest (D.seen (disk_of self.old)) → IsHonest (D.seen (disk_of self.new)) }
+        ensures full { IsErrOf result StoreFault.Full → (must_load self.old ≡ false) × (2 ^ 40 < place_of self.old + op_length op + 6) }
+        ensures too_long { must_load self.old ≡ false → 2 ^ 40 < place_of self.old + op_length op + 6 → IsErrOf result StoreFault.Full ⊎ IsErrOf result StoreFault.NoMemory }
+        ensures needs_load { IsErrOf result StoreFault.NeedsLoad ↔ (must_load self.old ≡ true) }
+        ensures loads { (must_load self.new ≡ true) ↔ ((must_load self.old ≡ true) ⊎ IsErrOf result StoreFault.Disk) }
+        ensures damaged { (place : ℕ) → result ≢ Err (StoreFault.Damaged place) }
+        ensures counts { D.faults (disk_of self.old) ≤ D.faults (disk_of self.new) }
+        ensures failed { IsErrOf result StoreFault.Disk → Rose (D.faults (disk_of self.old)) (D.faults (disk_of self.new)) }
+
+        // Another refusal than `Disk` changes nothing.
+        ensures stays { OnErr result (IsErrOf result StoreFault.Disk ⊎ Unchanged D.seen D.may_leave D.moment D.left_since (disk_of self.old) (disk_of self.new)) }
+        ensures keeps { OnErr result (IsErrOf result StoreFault.Disk ⊎ ((D.plain (disk_of self.new) ≡ D.plain (disk_of self.old)) × (place_of self.new ≡ place_of self.old))) }
+        ensures holds { (ops : List Kind) → Holds D.seen D.may_leave self.old ops
+            → OnErr result (IsErrOf result StoreFault.Disk ⊎ Holds D.seen D.may_leave self.new ops) }
+    {
+        if self.failed {
+            return Err(StoreFault::NeedsLoad);
+        }
+        self.plain.room(alloc, &op)?;
+        let mut body = Vec::new(alloc);
+        op.encode(alloc, &mut body)?;
+        match self.journal.append(alloc, &body) {
+            Ok(()) => {
+                self.plain.apply(op);
+                self.blank = false;
+                Ok(())
+            }
+            Err(fault) => {
+                self.failed = fault == JournalFault::Disk;
+                Err(StoreFault::from(fault))
+            }
+        }
+    }
+
+    /// Formats a blank store under a generation that was drawn for it: what the logs' epochs held so far, each at
+    /// least 1, the logs rising and at most 255 of them, is lost here. It is the `apply` of that op, and refuses as
+    /// that does.
+    pub fn format(
+        &mut self,
+        alloc: Global,
+        generation: u32,
+        epochs: Epochs,
+    ) -> Result<(), StoreFault>
+        requires blank { is_blank self.old ≡ true }
+        requires op { IsOp (kinds.Format generation epochs) }
+
+        ensures acknowledged { (ops : List Kind) → Holds D.seen D.may_leave self.old ops
+            → OnOk result (Holds D.seen D.may_leave self.new (ops ++ kinds.Format generation epochs ∷ [])) }
+        ensures images { (ops : List Kind) → Holds D.seen D.may_leave self.old ops
+            → OnOk result ((c : List ℕ) → D.may_leave (disk_of self.new) c → StandsFor (plain_of self.new) c) }
+
+        // A crash at any moment of the call leaves what stands for the plain state before it or for that with the op.
+        ensures any_moment { (ops : List Kind) → Holds D.seen D.may_leave self.old ops
+            → LeavesOnly D.moment D.left_since (disk_of self.old) (disk_of self.new) (StandsForEither (plain_of self.old) (apply (plain_of self.old) (kinds.Format generation epochs))) }
+
+        ensures applied { OnOk result ((plain_of self.new ≡ apply (plain_of self.old) (kinds.Format generation epochs)) × (is_blank self.new ≡ false)) }
+        ensures refused { OnErr result ((plain_of self.new ≡ plain_of self.old) × (is_blank self.new ≡ is_blank self.old)) }
+
+        // Where the disk tells what each call will do, it is four writing calls, the last of which may be the one that fails.
+        ensures exact { (p : DiskPlain) → D.plain (disk_of self.old) ≡ Some p → (result ≡ Ok tt ⊎ IsErrOf result StoreFault.Disk)
+            → (D.plain (disk_of self.new) ≡ Some (after_calls (append_calls (place_of self.old) (op_bytes (kinds.Format generation epochs))) p)) × (is_ok result ≡ all_succeed (append_calls (place_of self.old) (op_bytes (kinds.Format generation epochs))) p) }
+
+        ensures honest { IsHonest (D.seen (disk_of self.old)) → IsHonest (D.seen (disk_of self.new)) }
+        ensures full { IsErrOf result StoreFault.Full → (must_load self.old ≡ false) × (2 ^ 40 < place_of self.old + op_length (kinds.Format generation epochs) + 6) }
+        ensures too_long { must_load self.old ≡ false → 2 ^ 40 < place_of self.old + op_length (kinds.Format generation epochs) + 6 → IsErrOf result StoreFault.Full ⊎ IsErrOf result StoreFault.NoMemory }
+        ensures needs_load { IsErrOf result StoreFault.NeedsLoad ↔ (must_load self.old ≡ true) }
+        ensures loads { (must_load self.new ≡ true) ↔ ((must_load self.old ≡ true) ⊎ IsErrOf result StoreFault.Disk) }
+        ensures damaged { (place : ℕ) → result ≢ Err (StoreFault.Damaged place) }
+        ensures counts { D.faults (disk_of self.old) ≤ D.faults (disk_of self.new) }
+        ensures failed { IsErrOf result StoreFault.Disk → Rose (D.faults (disk_of self.old)) (D.faults (disk_of self.new)) }
+
+        // Another refusal than `Disk` changes nothing.
+        ensures stays { OnErr result (IsErrOf result StoreFault.Disk ⊎ Unchanged D.seen D.may_leave D.moment D.left_since (disk_of self.old) (disk_of self.new)) }
+        ensures keeps { OnErr result (IsErrOf result StoreFault.Disk ⊎ ((D.plain (disk_of self.new) ≡ D.plain (disk_of self.old)) × (place_of self.new ≡ place_of self.old))) }
+        ensures holds { (ops : List Kind) → Holds D.seen D.may_leave self.old ops
+            → OnErr result (IsErrOf result StoreFault.Disk ⊎ Holds D.seen D.may_leave self.new ops) }
+    {
+        self.apply(alloc, Op::Format { generation, epochs })
+    }
+}
