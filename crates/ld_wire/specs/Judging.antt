@@ -232,12 +232,14 @@ of_kind n kind bs =
     if within 1 16 kind then (if nat_lt (length bs) n then Waits else framed kind (drop n bs) (read_msg kind (take n bs)))
     else Refused (faults.BadKind kind)
 
+unfoldable pub behind : ℕ → List ℕ → Reading
+behind n bs = if length bs == 0 then Waits else of_kind n (get_or bs 0 0) bs
+
 unfoldable pub sized : ℕ → List ℕ → Reading
 sized n bs =
     if nat_lt longest n then Refused (faults.TooLong n)
     else if n == 0 then Refused (faults.BadField 0 0)
-    else if length bs == 0 then Waits
-    else of_kind n (get_or bs 0 0) bs
+    else behind n bs
 
 -- a length that is too long, one of 0 and a kind that there is not are told as soon as they are there, all else once
 -- the frame is whole
