@@ -1,5 +1,5 @@
 -- Messages as frames: a length of four bytes, and so many bytes behind it.
-use Rattle.std.specs.Prelude.{ℕ, List, [], ◌∷◌, ◌++◌, length, Bool, true, false}
+use Rattle.std.specs.Prelude.{ℕ, List, [], ◌∷◌, ◌++◌, length, Bool, true, false, ◌≤◌}
 use Rattle.byteorder.specs.Endian.{big_bytes}
 use Rattle.ld_msg.specs.declared.msg.Who.{Who}
 use Rattle.ld_msg.specs.declared.msg.Who.TheVariants as whos
@@ -10,6 +10,7 @@ use Rattle.ld_msg.specs.declared.msg.Summary.{Summary}
 use Rattle.ld_msg.specs.declared.msg.Msg.{Msg}
 use Rattle.ld_msg.specs.declared.msg.Body.{Body}
 use Rattle.ld_msg.specs.declared.msg.Body.TheVariants as bodies
+use Rattle.ld_msg.specs.Bounds.{IsShort, AreEntries}
 
 -- an actor is a tag and its number
 abbrev pub who_bytes : Who → List ℕ
@@ -82,3 +83,22 @@ msg_bytes m = big_bytes 1 (kind_of m.body) ++ (who_bytes m.from ++ (who_bytes m.
 
 unfoldable pub frame_of : Msg → List ℕ
 frame_of m = big_bytes 4 (length (msg_bytes m)) ++ msg_bytes m
+
+-- what the counts and lengths of a frame can say
+abbrev pub CanCarry : Body → Type 0
+CanCarry (bodies.Store n lng x) = IsShort x
+CanCarry (bodies.Stored n) = Unit {0}
+CanCarry (bodies.SealedHere n k) = Unit {0}
+CanCarry (bodies.LostHere n round g end) = Unit {0}
+CanCarry (bodies.CleanHere n y) = Unit {0}
+CanCarry (bodies.TrimmedHere n t) = Unit {0}
+CanCarry (bodies.DigestAsk n) = Unit {0}
+CanCarry (bodies.DigestPage n upto t lng es) = (length es ≤ 64) × AreEntries es
+CanCarry (bodies.Clean e y) = Unit {0}
+CanCarry (bodies.Release n) = Unit {0}
+CanCarry (bodies.Trim t) = Unit {0}
+CanCarry (bodies.ReadAsk round n) = Unit {0}
+CanCarry (bodies.ReadPage round n upto c es) = (length es ≤ 64) × AreEntries es
+CanCarry (bodies.ReadEnded round n end) = Unit {0}
+CanCarry (bodies.ReadTrim round n t) = Unit {0}
+CanCarry (bodies.ReadWait round n r) = Unit {0}

@@ -2,12 +2,18 @@
 #![tactic(auto)]
 
 mod actor;
+mod decoder;
 mod fault;
 mod field;
 mod fields;
+mod frame;
 mod head;
 mod item;
 mod page;
 mod role;
+mod write;
 
+pub use decoder::Decoder;
 pub use fault::WireFault;
+pub use frame::Frame;
+pub use write::encode;
