@@ -1,3 +1,5 @@
 pub mod There
 pub mod Parts
 pub mod Sizes
+pub mod Spelling
+pub mod Unspelling

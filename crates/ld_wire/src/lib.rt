@@ -9,6 +9,7 @@ mod fields;
 mod frame;
 mod head;
 mod item;
+mod laws;
 mod page;
 mod role;
 mod write;
