@@ -3,3 +3,5 @@ pub mod Parts
 pub mod Sizes
 pub mod Spelling
 pub mod Unspelling
+pub mod Judges
+pub mod Streams

@@ -64,7 +64,7 @@ all_taken : (xs : List ℕ) (n : ℕ) → length xs ≡ n → take n xs ≡ xs
 all_taken xs n h = grind (arith, common_steps)
 
 -- the bytes of the number in bytes are these
-bytes_back : (n : ℕ) (xs : List ℕ) → AreBytes xs → n ≤ length xs → bytes_high_first n (big_from 0 n xs) ≡ take n xs
+pub bytes_back : (n : ℕ) (xs : List ℕ) → AreBytes xs → n ≤ length xs → bytes_high_first n (big_from 0 n xs) ≡ take n xs
 bytes_back n xs h l = let x : ℕ = big_from 0 n xs in let c = length-bytes_high_first n x in
     sym (all_taken (bytes_high_first n x) n c)
     ∙ same_bytes n (bytes_high_first n x) xs (number_bytes n x) h (omega arith) l
@@ -86,12 +86,12 @@ pub record Spells (bs : List ℕ) (n at x next : ℕ) : Type 0 where
   pub fits : x < 256 ^ n
   pub spelled : Spelled bs at next (big_bytes n x)
 
-drop_bytes : (bs : List ℕ) (at : ℕ) → AreBytes bs → AreBytes (drop at bs)
+pub drop_bytes : (bs : List ℕ) (at : ℕ) → AreBytes bs → AreBytes (drop at bs)
 drop_bytes bs zero h i = h i
 drop_bytes [] (suc at) h i = h i
 drop_bytes (b ∷ bs) (suc at) h i = drop_bytes bs at (tail_bytes b bs h) i
 
-split_at : (n : ℕ) (xs : List ℕ) → xs ≡ take n xs ++ drop n xs
+pub split_at : (n : ℕ) (xs : List ℕ) → xs ≡ take n xs ++ drop n xs
 split_at zero xs = refl
 split_at (suc n) [] = refl
 split_at (suc n) (x ∷ xs) = ap (λ r. x ∷ r) (split_at n xs)

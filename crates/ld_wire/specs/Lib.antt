@@ -5,3 +5,4 @@ pub mod Judging
 pub mod Faults
 pub mod Resumed
 pub mod Held
+pub mod Streams

@@ -1,5 +1,6 @@
 // Frames at the front of bytes.
 ghost use Rattle.std.specs.Prelude.{◌≡◌, ◌≤◌, ◌<◌, ◌+◌, ◌^◌, ℕ, length, take, drop, IfOk, IfErr, IfSome, IfNone};
+ghost use Rattle.ld_ids.specs.Bytes.{AreBytes};
 ghost use Rattle.ld_wire.specs.Fields.{Got};
 ghost use Rattle.ld_wire.specs.Faults.{IsRefused, IsOffIn, IsOff};
 ghost use Rattle.ld_wire.specs.Judging.{Complete, Waits, judge, behind, read_msg};
@@ -23,6 +24,7 @@ pub(crate) fn read_frame(alloc: Global, bytes: &[u8]) -> Result<Option<(Msg, usi
     ensures some { IfOk result (λ o. IfSome o (λ p. judge bytes.now ≡ Complete p.0 (drop p.1 bytes.now))) }
     ensures size { IfOk result (λ o. IfSome o (λ p. p.1 ≤ length bytes.now)) }
     ensures off { IfErr result (IsRefused (judge bytes.now)) }
+    ensures bytes { AreBytes bytes.now }
 {
     let Some(size) = read_size(bytes)? else {
         return Ok(None);
