@@ -1,5 +1,5 @@
 -- What follows from how bytes are judged.
-use Rattle.std.proofs.Common.{◌≡◌, ◌<◌, ◌≤◌, ◌+◌, ◌-◌, ◌^◌, ◌%◌, ◌&&◌, ◌||◌, ◌==◌, not, ℕ, suc, zero, Bool, true, false, cond, List, [], ◌∷◌, ◌++◌, refl, ap, sym, ◌∙◌, subst, append_assoc, take, drop, length, get_or, nat_le, nat_lt, arith, length-append, length-drop}
+use Rattle.std.proofs.Common.{◌≡◌, ◌<◌, ◌≤◌, ◌+◌, ◌-◌, ◌^◌, ◌%◌, ◌&&◌, ◌||◌, ◌==◌, not, ℕ, suc, zero, Bool, true, false, cond, List, [], ◌∷◌, ◌++◌, refl, ap, sym, ◌∙◌, subst, append_assoc, take, drop, length, get_or, nat_le, nat_lt, arith, length-append, length-drop, Result, Ok, Err, IfOk, Option, None, Some, IfSome}
 use Rattle.std.proofs.lemmas.Bool.Decides.{nat_tests}
 use Rattle.std.proofs.lemmas.Grind.{common_steps}
 use Rattle.std.proofs.lemmas.List.{append-nil, take-append-le}
@@ -287,3 +287,8 @@ unfolding judge
 judge_less bs m rest r = by_cond (nat_lt (length bs) 4) _ _ _ r (λ c r. absurd cc) (λ c r.
     let w = was_sized (big_number 4 bs) (drop 4 bs) m rest r in let b = behind_less (big_number 4 bs) (drop 4 bs) m rest w.read in let d = length-drop 4 bs in
     let long : 4 ≤ length bs = grind (arith, nat_tests) in omega arith)
+
+pub message_of : (r : Result (Option (Msg × ℕ)) WireFault) (bs : List ℕ) → AreBytes bs → IfOk r (λ o. IfSome o (λ p. judge bs ≡ Complete p.0 (drop p.1 bs))) → IfOk r (λ o. IfSome o (λ p. IsMessage p.0))
+message_of (Ok None) bs h e = tt
+message_of (Ok (Some p)) bs h e = (read_back bs p.0 (drop p.1 bs) h e).1
+message_of (Err f) bs h e = tt

@@ -73,6 +73,8 @@ impl Decoder {
         ensures none { IfOk result (λ o. IfNone o ((answered self.old ≡ Waits) × (self.new ≡ self.old))) }
         ensures some { IfOk result (λ o. IfSome o (λ m. (answered self.old ≡ Complete m self.new.bytes) × (self.new.fault ≡ None))) }
         ensures fault { IfErr result (λ f. IsRefused (answered self.old) f × (self.new ≡ kept self.old f)) }
+        ensures message { IfOk result (λ o. IfSome o IsMessage) }
+        ensures frame { IfOk result (λ o. IfSome o (λ m. self.old.bytes ≡ frame_of m ++ self.new.bytes)) }
         ensures stays { (f : WireFault) → self.old.fault ≡ Some f → (result ≡ Err f) × (self.new ≡ self.old) }
     {
         if let Some(fault) = self.fault {

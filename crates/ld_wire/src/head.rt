@@ -1,7 +1,9 @@
 // Frames at the front of bytes.
-ghost use Rattle.std.specs.Prelude.{◌≡◌, ◌≤◌, ◌<◌, ◌+◌, ◌^◌, ℕ, length, take, drop, IfOk, IfErr, IfSome, IfNone};
+ghost use Rattle.std.specs.Prelude.{◌≡◌, ◌≤◌, ◌<◌, ◌+◌, ◌^◌, ◌++◌, ℕ, length, take, drop, IfOk, IfErr, IfSome, IfNone};
 ghost use Rattle.ld_ids.specs.Bytes.{AreBytes};
+ghost use Rattle.ld_msg.specs.Bounds.{IsMessage};
 ghost use Rattle.ld_wire.specs.Fields.{Got};
+ghost use Rattle.ld_wire.specs.Frames.{frame_of};
 ghost use Rattle.ld_wire.specs.Faults.{IsRefused, IsOffIn, IsOff};
 ghost use Rattle.ld_wire.specs.Judging.{Complete, Waits, judge, behind, read_msg};
 
@@ -19,7 +21,19 @@ use std::alloc::Global;
 const LONGEST: u32 = 8_388_608;
 
 /// The message that the bytes begin with, and how many bytes its frame has; None where less than a frame is there.
+#[tactic(auto, using(crate::proofs::Judges::read_back))]
 pub(crate) fn read_frame(alloc: Global, bytes: &[u8]) -> Result<Option<(Msg, usize)>, WireFault>
+    ensures none { IfOk result (λ o. IfNone o (judge bytes.now ≡ Waits)) }
+    ensures some { IfOk result (λ o. IfSome o (λ p. judge bytes.now ≡ Complete p.0 (drop p.1 bytes.now))) }
+    ensures size { IfOk result (λ o. IfSome o (λ p. p.1 ≤ length bytes.now)) }
+    ensures off { IfErr result (IsRefused (judge bytes.now)) }
+    ensures message { IfOk result (λ o. IfSome o (λ p. IsMessage p.0)) }
+    ensures frame { IfOk result (λ o. IfSome o (λ p. bytes.now ≡ frame_of p.0 ++ drop p.1 bytes.now)) }
+{
+    judged(alloc, bytes)
+}
+
+fn judged(alloc: Global, bytes: &[u8]) -> Result<Option<(Msg, usize)>, WireFault>
     ensures none { IfOk result (λ o. IfNone o (judge bytes.now ≡ Waits)) }
     ensures some { IfOk result (λ o. IfSome o (λ p. judge bytes.now ≡ Complete p.0 (drop p.1 bytes.now))) }
     ensures size { IfOk result (λ o. IfSome o (λ p. p.1 ≤ length bytes.now)) }
