@@ -1,9 +1,9 @@
 -- What follows from how bytes are judged.
-use Rattle.std.proofs.Common.{◌≡◌, ◌<◌, ◌≤◌, ◌+◌, ◌-◌, ◌^◌, ◌%◌, ◌&&◌, ◌||◌, ◌==◌, not, ℕ, suc, zero, Bool, true, false, cond, List, [], ◌∷◌, ◌++◌, refl, ap, sym, ◌∙◌, subst, append_assoc, take, drop, length, get_or, nat_le, nat_lt, arith, length-append, length-drop, Result, Ok, Err, IfOk, Option, None, Some, IfSome}
+use Rattle.std.proofs.Common.{◌≡◌, ◌<◌, ◌≤◌, ◌%◌, ◌==◌, ℕ, suc, zero, Bool, true, false, cond, List, [], ◌∷◌, ◌++◌, refl, ap, sym, ◌∙◌, subst, append_assoc, take, drop, length, get_or, nat_lt, arith, length-append, length-drop, Result, Ok, Err, IfOk, Option, None, Some, IfSome}
 use Rattle.std.proofs.lemmas.Bool.Decides.{nat_tests}
 use Rattle.std.proofs.lemmas.Grind.{common_steps}
 use Rattle.std.proofs.lemmas.List.{append-nil, take-append-le}
-use Rattle.byteorder.specs.Endian.{big_bytes, big_number, big_from}
+use Rattle.byteorder.specs.Endian.{big_bytes, big_number}
 use Rattle.byteorder.specs.Numbers.{big_number-reads_back, big_from-append, length-bytes_high_first}
 use Rattle.ld_ids.specs.Bytes.{AreBytes}
 use Rattle.ld_msg.specs.declared.msg.Body.{Body}
@@ -13,7 +13,7 @@ use Rattle.ld_msg.specs.Bounds.{IsMessage}
 use Rattle.ld_wire.specs.declared.fault.WireFault.{WireFault}
 use Rattle.ld_wire.specs.declared.fault.WireFault.TheVariants as faults
 use Rattle.ld_wire.specs.Fields.{Read, Got, Off}
-use Rattle.ld_wire.specs.Frames.{who_bytes, kind_of, body_bytes, msg_bytes, frame_of}
+use Rattle.ld_wire.specs.Frames.{kind_of, msg_bytes, frame_of}
 use Rattle.ld_wire.specs.Judging.{within, read_msg, Reading, Complete, Waits, Refused, longest, framed, of_kind, behind, sized, judge}
 use Rattle.ld_wire.proofs.Sizes.{msg_many}
 use Rattle.ld_wire.proofs.Spelling.{msg_reads, past, taken}
@@ -260,10 +260,10 @@ waits_by m xs y ys (Complete n rest) s e f = let g : Complete n (rest ++ y ∷ y
 waits_by m xs y ys Waits s e f = refl
 waits_by m xs y ys (Refused g) s e f = let h : Refused g ≡ Complete m [] = sym e ∙ f in absurd cc
 
-
 -- a proper prefix of a frame waits for more
 pub prefix_waits : (m : Msg) (xs : List ℕ) (y : ℕ) (ys : List ℕ) → IsMessage m → xs ++ y ∷ ys ≡ frame_of m → judge xs ≡ Waits
 prefix_waits m xs y ys h e = waits_by m xs y ys (judge xs) (judge (xs ++ y ∷ ys)) (judge_extends (y ∷ ys) xs) (ap judge (e ∙ sym (append-nil (frame_of m))) ∙ judge_frame m [] h)
+
 pub read_back : (bs : List ℕ) (m : Msg) (rest : List ℕ) → AreBytes bs → judge bs ≡ Complete m rest → (bs ≡ frame_of m ++ rest) × IsMessage m
 read_back bs m rest h e = let s = judge_is bs m rest h e in (s.bytes_are, s.is)
 

@@ -1,5 +1,5 @@
 -- The bytes of one entry more, and how many bytes a frame has.
-use Rattle.std.proofs.Common.{◌≡◌, ◌<◌, ◌≤◌, ◌+◌, ◌*◌, ◌^◌, ℕ, suc, zero, List, [], ◌∷◌, ◌++◌, refl, ap, sym, ◌∙◌, append_assoc, take, get_or, length, subst, arith, length-append}
+use Rattle.std.proofs.Common.{◌≡◌, ◌<◌, ◌≤◌, ◌+◌, ◌*◌, ℕ, suc, zero, List, [], ◌∷◌, ◌++◌, refl, ap, sym, ◌∙◌, append_assoc, take, get_or, length, arith, length-append}
 use Rattle.std.proofs.lemmas.List.{append-nil, take_more}
 use Rattle.byteorder.specs.Endian.{big_bytes}
 use Rattle.byteorder.specs.Numbers.{length-bytes_high_first}
@@ -12,7 +12,7 @@ use Rattle.ld_msg.specs.declared.msg.Summary.{Summary}
 use Rattle.ld_msg.specs.declared.msg.Msg.{Msg}
 use Rattle.ld_msg.specs.declared.msg.Body.{Body}
 use Rattle.ld_msg.specs.declared.msg.Body.TheVariants as bodies
-use Rattle.ld_msg.specs.Bounds.{IsEntry, IsShort, AreEntries, Fits, IsMessage}
+use Rattle.ld_msg.specs.Bounds.{IsShort, AreEntries, Fits, IsMessage}
 use Rattle.ld_wire.specs.Frames.{who_bytes, what_bytes, entry_bytes, entries_bytes, page_bytes, summary_bytes, kind_of, body_bytes, msg_bytes, CanCarry, flag}
 
 entries_bytes-append : (es : List Entry) (e : Entry) → entries_bytes (es ++ e ∷ []) ≡ entries_bytes es ++ entry_bytes e

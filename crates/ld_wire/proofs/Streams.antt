@@ -1,8 +1,7 @@
 -- A stream gives the same messages however it is cut.
-use Rattle.std.proofs.Common.{◌≡◌, ◌<◌, ◌≤◌, ◌+◌, ℕ, suc, zero, List, [], ◌∷◌, ◌++◌, refl, ap, sym, ◌∙◌, subst, append_assoc, length, Option, None, Some, arith}
+use Rattle.std.proofs.Common.{◌≡◌, ◌≤◌, ℕ, suc, zero, List, [], ◌∷◌, ◌++◌, refl, ap, sym, ◌∙◌, append_assoc, length, Option, None, Some, arith}
 use Rattle.std.proofs.lemmas.List.{append-nil}
 use Rattle.ld_msg.specs.declared.msg.Msg.{Msg}
-use Rattle.ld_msg.specs.Bounds.{IsMessage}
 use Rattle.ld_wire.specs.declared.fault.WireFault.{WireFault}
 use Rattle.ld_wire.specs.Frames.{frame_of}
 use Rattle.ld_wire.specs.Judging.{Reading, Complete, Waits, Refused, judge}

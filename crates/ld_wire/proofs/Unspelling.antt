@@ -1,15 +1,14 @@
 -- What is read as a message is spelled by its bytes.
-use Rattle.std.proofs.Common.{◌≡◌, ◌<◌, ◌≤◌, ◌+◌, ◌-◌, ◌*◌, ◌^◌, ◌%◌, ◌/◌, ◌&&◌, ◌||◌, ◌==◌, not, ◌⊎◌, inl, inr, ℕ, suc, zero, Bool, true, false, cond, List, [], ◌∷◌, ◌++◌, refl, ap, sym, ◌∙◌, subst, append_assoc, take, drop, length, get_or, nat_le, nat_lt, arith, length-append, length-drop}
+use Rattle.std.proofs.Common.{◌≡◌, ◌<◌, ◌≤◌, ◌+◌, ◌*◌, ◌^◌, ◌/◌, ◌&&◌, ◌||◌, ◌==◌, not, inl, inr, ℕ, suc, zero, Bool, true, false, cond, List, [], ◌∷◌, ◌++◌, refl, ap, sym, ◌∙◌, subst, append_assoc, take, drop, length, nat_le, nat_lt, arith, length-drop}
 use Rattle.std.proofs.Math.Nat.{mul-le-mul_right, mod-eq_of_lt, mod-lt}
 use Rattle.std.proofs.lemmas.Bool.{cases_order}
 use Rattle.std.proofs.lemmas.Bool.Decides.{nat_tests}
 use Rattle.std.proofs.lemmas.Grind.{common_steps}
 use Rattle.std.proofs.lemmas.List.{append-nil}
-use Rattle.std.specs.List.{slice_index}
 use Rattle.std.specs.Int.{byte_at, bytes_high_first}
 use Rattle.byteorder.specs.Endian.{big_bytes, big_number, big_from}
 use Rattle.byteorder.specs.Numbers.{big_from-bytes, big_from-lt, big_from-cons, length-bytes_high_first}
-use Rattle.ld_lsn.specs.Number.{epoch_of, esn_of, last_esn, home_epoch}
+use Rattle.ld_lsn.specs.Number.{epoch_of, esn_of, home_epoch}
 use Rattle.ld_ids.specs.Id.{IsLog}
 use Rattle.ld_ids.specs.Bytes.{AreBytes}
 use Rattle.ld_msg.specs.declared.msg.Who.{Who}
@@ -21,12 +20,12 @@ use Rattle.ld_msg.specs.declared.msg.Summary.{Summary}
 use Rattle.ld_msg.specs.declared.msg.Msg.{Msg}
 use Rattle.ld_msg.specs.declared.msg.Body.{Body}
 use Rattle.ld_msg.specs.declared.msg.Body.TheVariants as bodies
-use Rattle.ld_msg.specs.Bounds.{Is32, Is64, IsEpoch, IsEntry, IsSummary, IsShort, AreEntries, RiseWithin, IsPage, AreReadable, IsReadable, IsRecord, IsNodeHere, IsSequencerHere, IsAsker, IsActor, AsksIn, AnswersIn, Fits, IsMessage, ballot_of, last_place, last_reader}
+use Rattle.ld_msg.specs.Bounds.{Is32, Is64, IsEpoch, IsEntry, IsSummary, IsShort, AreEntries, RiseWithin, IsPage, AreReadable, IsReadable, IsRecord, IsActor, AsksIn, AnswersIn, Fits, IsMessage, ballot_of, last_place, last_reader}
 use Rattle.ld_wire.specs.declared.role.Role.{Role}
 use Rattle.ld_wire.specs.declared.role.Role.TheVariants as roles
 use Rattle.ld_wire.specs.Fields.{Read, Got, Off, follow, check, field, end_at}
 use Rattle.ld_wire.specs.Roles.{may_be, IsIn, sender, receiver}
-use Rattle.ld_wire.specs.Frames.{who_bytes, what_bytes, entry_bytes, entries_bytes, page_bytes, summary_bytes, kind_of, body_bytes, msg_bytes, flag}
+use Rattle.ld_wire.specs.Frames.{who_bytes, what_bytes, entry_bytes, entries_bytes, page_bytes, summary_bytes, kind_of, body_bytes, flag}
 use Rattle.ld_wire.specs.Judging.{within, greatest_epoch, is_actor, actor, read_who, is_number, is_tag, payload, tagged, read_entry, read_entries, read_page, read_upto, read_summary, asks_in, answers_in, may_store, read_store, read_sealed, read_lost, read_clean_here, read_trimmed, read_digest_ask, read_digest_page, read_clean, read_read_ask, read_asked, read_read_page, answer, read_answer, read_stored, read_told, read_body, read_log, read_msg}
 use Rattle.ld_wire.proofs.Spelling.{tag_of, after_tag, who_tag, who_number, TagsTo, sequencer_most}
 

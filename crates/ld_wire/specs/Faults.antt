@@ -1,11 +1,11 @@
 -- What an answer says of bytes that are judged.
-use Rattle.std.specs.Prelude.{◌≡◌, ℕ, List, ◌+◌}
+use Rattle.std.specs.Prelude.{◌≡◌, ℕ}
 use Rattle.ld_wire.specs.declared.fault.WireFault.{WireFault}
 use Rattle.ld_wire.specs.declared.fault.WireFault.TheVariants as faults
 use Rattle.ld_wire.specs.declared.field.FieldFault.{FieldFault}
 use Rattle.ld_wire.specs.declared.field.FieldFault.TheVariants.{Bad, NoMemory}
-use Rattle.ld_wire.specs.Fields.{Read, Got, Off}
-use Rattle.ld_wire.specs.Judging.{Reading, Complete, Waits, Refused}
+use Rattle.ld_wire.specs.Fields.{Read, Off}
+use Rattle.ld_wire.specs.Judging.{Reading, Refused}
 
 -- a fault names the place; want of memory is free
 abbrev pub IsOff : {X : Type 0} → Read X → FieldFault → Type 0

@@ -1,5 +1,5 @@
 -- How bytes are judged: the message that they begin with, or what is wrong with them.
-use Rattle.std.specs.Prelude.{ℕ, ◌+◌, ◌-◌, ◌^◌, List, [], ◌∷◌, ◌++◌, length, take, drop, Bool, true, false, ◌&&◌, ◌||◌, not, ◌==◌, nat_lt, nat_le, if◌then◌else◌, zero, suc, get_or}
+use Rattle.std.specs.Prelude.{ℕ, ◌+◌, ◌-◌, ◌^◌, List, [], ◌∷◌, length, take, drop, Bool, true, ◌&&◌, ◌||◌, not, ◌==◌, nat_lt, nat_le, if◌then◌else◌, zero, suc, get_or}
 use Rattle.byteorder.specs.Endian.{big_number}
 use Rattle.ld_lsn.specs.Number.{epoch_of, esn_of, last_esn, home_epoch}
 use Rattle.ld_msg.specs.declared.msg.Who.{Who}

@@ -1,5 +1,5 @@
 -- All that a stream of bytes gives.
-use Rattle.std.specs.Prelude.{◌≡◌, ℕ, zero, suc, List, [], ◌∷◌, ◌++◌, length, Option, None, Some}
+use Rattle.std.specs.Prelude.{ℕ, zero, suc, List, [], ◌∷◌, ◌++◌, length, Option, None, Some}
 use Rattle.ld_msg.specs.declared.msg.Msg.{Msg}
 use Rattle.ld_wire.specs.declared.fault.WireFault.{WireFault}
 use Rattle.ld_msg.specs.Bounds.{IsMessage}

@@ -77,7 +77,13 @@ fn read_stored(
 }
 
 #[tactic(auto, unfolding(crate::specs::Judging::read_told))]
-fn read_told(alloc: Global, bytes: &[u8], kind: u8, from: &Who, at: usize) -> Result<(Body, usize), FieldFault>
+fn read_told(
+    alloc: Global,
+    bytes: &[u8],
+    kind: u8,
+    from: &Who,
+    at: usize,
+) -> Result<(Body, usize), FieldFault>
     requires { at ≤ length bytes.now }
     ensures ok { IfOk result (λ p. read_told kind from.now bytes.now at ≡ Got p.0 p.1) }
     ensures next { IfOk result (λ p. p.1 ≤ length bytes.now) }
@@ -111,7 +117,12 @@ fn read_number(bytes: &[u8], at: usize) -> Result<(Lsn, usize), FieldFault>
 }
 
 #[tactic(auto, unfolding(crate::specs::Judging::read_store))]
-fn read_store(alloc: Global, bytes: &[u8], ballot: u32, at: usize) -> Result<(Body, usize), FieldFault>
+fn read_store(
+    alloc: Global,
+    bytes: &[u8],
+    ballot: u32,
+    at: usize,
+) -> Result<(Body, usize), FieldFault>
     requires { at ≤ length bytes.now }
     ensures ok { IfOk result (λ p. read_store ballot bytes.now at ≡ Got p.0 p.1) }
     ensures next { IfOk result (λ p. p.1 ≤ length bytes.now) }

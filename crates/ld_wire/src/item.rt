@@ -27,7 +27,11 @@ pub(crate) fn read_log(bytes: &[u8], at: usize) -> Result<(LogId, usize), FieldF
 
 /// The summary of the epoch at a place.
 #[tactic(auto, unfolding(crate::specs::Judging::read_summary))]
-pub(crate) fn read_summary(bytes: &[u8], epoch: u32, at: usize) -> Result<(Summary, usize), FieldFault>
+pub(crate) fn read_summary(
+    bytes: &[u8],
+    epoch: u32,
+    at: usize,
+) -> Result<(Summary, usize), FieldFault>
     requires { at ≤ length bytes.now }
     ensures ok { IfOk result (λ p. read_summary bytes.now epoch at ≡ Got p.0 p.1) }
     ensures next { IfOk result (λ p. p.1 ≤ length bytes.now) }
@@ -106,7 +110,12 @@ pub(crate) fn is_tag(number: Lsn, tag: u8) -> bool
 }
 
 /// What stands behind a tag at a place.
-pub(crate) fn read_what(alloc: Global, bytes: &[u8], at: usize, tag: u8) -> Result<(What, usize), FieldFault>
+pub(crate) fn read_what(
+    alloc: Global,
+    bytes: &[u8],
+    at: usize,
+    tag: u8,
+) -> Result<(What, usize), FieldFault>
     requires place { at ≤ length bytes.now }
     requires tag { tag ≤ 2 }
     ensures ok { IfOk result (λ p. tagged bytes.now at tag ≡ Got p.0 p.1) }

@@ -12,6 +12,12 @@ mod item;
 mod laws;
 mod page;
 mod role;
+#[cfg(test)]
+mod samples;
+#[cfg(test)]
+mod slow;
+#[cfg(test)]
+mod tests;
 mod write;
 
 pub use decoder::Decoder;

@@ -242,7 +242,13 @@ fn put_sealed(out: &mut Vec<u8>, number: Lsn, sealed: u32) -> Result<(), NoMemor
     put_u32(out, sealed)
 }
 
-fn put_lost(out: &mut Vec<u8>, number: Lsn, round: u32, generation: u32, end: Lsn) -> Result<(), NoMemory>
+fn put_lost(
+    out: &mut Vec<u8>,
+    number: Lsn,
+    round: u32,
+    generation: u32,
+    end: Lsn,
+) -> Result<(), NoMemory>
     ensures { OnOk result (out.new.items ≡ out.old.items ++ (big_bytes 8 number ++ (big_bytes 4 round ++ (big_bytes 4 generation ++ big_bytes 8 end)))) }
 {
     put_number(out, number)?;
@@ -265,7 +271,14 @@ fn put_clean(out: &mut Vec<u8>, epoch: u32, summary: &Summary) -> Result<(), NoM
     put_summary(out, summary)
 }
 
-fn put_digest_page(out: &mut Vec<u8>, from: Lsn, upto: Lsn, trim: Lsn, lng: u32, entries: &[Entry]) -> Result<(), NoMemory>
+fn put_digest_page(
+    out: &mut Vec<u8>,
+    from: Lsn,
+    upto: Lsn,
+    trim: Lsn,
+    lng: u32,
+    entries: &[Entry],
+) -> Result<(), NoMemory>
     requires few { length entries.now ≤ 64 }
     requires entries { AreEntries entries.now }
     ensures { OnOk result (out.new.items ≡ out.old.items ++ (big_bytes 8 from ++ (big_bytes 8 upto ++ (big_bytes 8 trim ++ (big_bytes 4 lng ++ page_bytes entries.now))))) }
@@ -275,7 +288,12 @@ fn put_digest_page(out: &mut Vec<u8>, from: Lsn, upto: Lsn, trim: Lsn, lng: u32,
     put_entries_from(out, trim, lng, entries)
 }
 
-fn put_entries_from(out: &mut Vec<u8>, trim: Lsn, lng: u32, entries: &[Entry]) -> Result<(), NoMemory>
+fn put_entries_from(
+    out: &mut Vec<u8>,
+    trim: Lsn,
+    lng: u32,
+    entries: &[Entry],
+) -> Result<(), NoMemory>
     requires few { length entries.now ≤ 64 }
     requires entries { AreEntries entries.now }
     ensures { OnOk result (out.new.items ≡ out.old.items ++ (big_bytes 8 trim ++ (big_bytes 4 lng ++ page_bytes entries.now))) }
@@ -285,7 +303,14 @@ fn put_entries_from(out: &mut Vec<u8>, trim: Lsn, lng: u32, entries: &[Entry]) -
     put_page(out, entries)
 }
 
-fn put_read_page(out: &mut Vec<u8>, round: u32, from: Lsn, upto: Lsn, clean: bool, entries: &[Entry]) -> Result<(), NoMemory>
+fn put_read_page(
+    out: &mut Vec<u8>,
+    round: u32,
+    from: Lsn,
+    upto: Lsn,
+    clean: bool,
+    entries: &[Entry],
+) -> Result<(), NoMemory>
     requires few { length entries.now ≤ 64 }
     requires entries { AreEntries entries.now }
     ensures { OnOk result (out.new.items ≡ out.old.items ++ (big_bytes 4 round ++ (big_bytes 8 from ++ (big_bytes 8 upto ++ (big_bytes 1 (flag clean) ++ page_bytes entries.now))))) }
@@ -295,7 +320,12 @@ fn put_read_page(out: &mut Vec<u8>, round: u32, from: Lsn, upto: Lsn, clean: boo
     put_entries_upto(out, upto, clean, entries)
 }
 
-fn put_entries_upto(out: &mut Vec<u8>, upto: Lsn, clean: bool, entries: &[Entry]) -> Result<(), NoMemory>
+fn put_entries_upto(
+    out: &mut Vec<u8>,
+    upto: Lsn,
+    clean: bool,
+    entries: &[Entry],
+) -> Result<(), NoMemory>
     requires few { length entries.now ≤ 64 }
     requires entries { AreEntries entries.now }
     ensures { OnOk result (out.new.items ≡ out.old.items ++ (big_bytes 8 upto ++ (big_bytes 1 (flag clean) ++ page_bytes entries.now))) }

@@ -1,5 +1,4 @@
-use Rattle.std.proofs.Common.{◌≡◌, ◌<◌, ◌∙◌, ◌+◌, ◌-◌, ◌++◌, ◌∷◌, [], ap, sym, arith, rules}
-use Rattle.ld_wire.specs.Fields.{Got}
+use Rattle.std.proofs.Common.{◌∙◌, ◌+◌, ◌-◌, ◌++◌, ◌∷◌, [], ap, sym, arith, rules}
 use Rattle.ld_wire.specs.Judging.{read_entries}
 use Rattle.ld_wire.specs.Faults.{IsOff}
 use Rattle.ld_wire.specs.Resumed.{resumed}
