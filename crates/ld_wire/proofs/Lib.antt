@@ -1,0 +1,7 @@
+pub mod There
+pub mod Parts
+pub mod Sizes
+pub mod Spelling
+pub mod Unspelling
+pub mod Judges
+pub mod Streams

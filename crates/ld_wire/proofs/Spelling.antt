@@ -1,0 +1,463 @@
+-- The bytes of a message are read as that message.
+use Rattle.std.proofs.Common.{◌≡◌, ◌<◌, ◌≤◌, ◌+◌, ◌^◌, ◌&&◌, ◌||◌, ◌==◌, not, ℕ, suc, Bool, true, false, cond, List, [], ◌∷◌, ◌++◌, refl, ap, sym, ◌∙◌, subst, append_assoc, take, drop, length, nat_le, arith, length-append, length-drop}
+use Rattle.std.proofs.lemmas.Bool.Decides.{nat_tests}
+use Rattle.std.proofs.lemmas.Grind.{common_steps}
+use Rattle.std.proofs.lemmas.List.{append-nil}
+use Rattle.byteorder.specs.Endian.{big_bytes, big_number}
+use Rattle.byteorder.specs.Numbers.{big_number-reads_back, length-bytes_high_first}
+use Rattle.ld_lsn.specs.Number.{epoch_of, esn_of, home_epoch}
+use Rattle.ld_ids.specs.Id.{IsLog}
+use Rattle.ld_msg.specs.declared.msg.Who.{Who}
+use Rattle.ld_msg.specs.declared.msg.Who.TheVariants as whos
+use Rattle.ld_msg.specs.declared.msg.What.{What}
+use Rattle.ld_msg.specs.declared.msg.What.TheVariants.{Rec, Hole, Bridge}
+use Rattle.ld_msg.specs.declared.msg.Entry.{Entry}
+use Rattle.ld_msg.specs.declared.msg.Summary.{Summary}
+use Rattle.ld_msg.specs.declared.msg.Msg.{Msg}
+use Rattle.ld_msg.specs.declared.msg.Body.{Body}
+use Rattle.ld_msg.specs.declared.msg.Body.TheVariants as bodies
+use Rattle.ld_msg.specs.Bounds.{Is32, Is64, IsEpoch, IsEntry, IsSummary, IsShort, AreEntries, RiseWithin, IsPage, AreReadable, IsReadable, IsRecord, IsSequencerHere, IsActor, AsksIn, AnswersIn, Fits, IsMessage, ballot_of, last_place}
+use Rattle.ld_wire.specs.declared.role.Role.{Role}
+use Rattle.ld_wire.specs.declared.role.Role.TheVariants as roles
+use Rattle.ld_wire.specs.Fields.{Read, Got, Off, follow, check, field}
+use Rattle.ld_wire.specs.Roles.{may_be, IsIn, sender, receiver}
+use Rattle.ld_wire.specs.Frames.{who_bytes, what_bytes, entry_bytes, entries_bytes, page_bytes, summary_bytes, kind_of, body_bytes, msg_bytes, flag}
+use Rattle.ld_wire.specs.Judging.{within, greatest_epoch, is_actor, actor, read_who, is_number, is_tag, payload, tagged, read_entry, read_entries, read_page, read_upto, read_summary, asks_in, answers_in, may_store, read_store, read_sealed, read_lost, read_clean_here, read_trimmed, read_digest_ask, read_digest_page, read_clean, read_read_ask, read_asked, read_read_page, answer, read_answer, read_stored, read_told, read_body, read_log, read_msg}
+use Rattle.ld_wire.proofs.There.{field_got}
+
+-- from a place on the bytes are these
+pub record Stands (bs : List ℕ) (at : ℕ) (xs : List ℕ) : Type 0 where
+  pub within : at ≤ length bs
+  pub there : drop at bs ≡ xs
+
+pub stands_as : (bs : List ℕ) (at : ℕ) (xs ys : List ℕ) → xs ≡ ys → Stands bs at xs → Stands bs at ys
+stands_as bs at xs ys e h = record { within = h.within; there = h.there ∙ e }
+
+dropped : (bs : List ℕ) (at k : ℕ) → drop (at + k) bs ≡ drop k (drop at bs)
+dropped bs at k = grind (arith, common_steps)
+
+pub past : (xs ys : List ℕ) → drop (length xs) (xs ++ ys) ≡ ys
+past [] ys = refl
+past (x ∷ xs) ys = past xs ys
+
+room_for : (bs : List ℕ) (at n : ℕ) (xs ys : List ℕ) → length xs ≡ n → Stands bs at (xs ++ ys) → at + n ≤ length bs
+room_for bs at n xs ys l h = let e = ap length h.there in let w = h.within in let d = length-drop at bs in let a = length-append xs ys in omega arith
+
+pub stands_next : (bs : List ℕ) (at n : ℕ) (xs ys : List ℕ) → length xs ≡ n → Stands bs at (xs ++ ys) → Stands bs (at + n) ys
+stands_next bs at n xs ys l h = record {
+  within = room_for bs at n xs ys l h;
+  there = dropped bs at n ∙ (ap (drop n) h.there ∙ (ap (λ k. drop k (xs ++ ys)) (sym l) ∙ past xs ys));
+}
+
+nothing : (bs : List ℕ) (at : ℕ) (xs : List ℕ) → Stands bs at xs → Stands bs at (xs ++ [])
+nothing bs at xs s = stands_as bs at xs (xs ++ []) (sym (append-nil xs)) s
+
+-- ---- what is read, and what stands behind it ----
+
+pub record Reads {X : Type 0} (bs : List ℕ) (r : Read X) (v : X) (ys : List ℕ) : Type 0 where
+  pub next : ℕ
+  pub is : r ≡ Got v next
+  pub behind : Stands bs next ys
+
+field_reads : (k x : ℕ) (bs : List ℕ) (at : ℕ) (ys : List ℕ) → x < 256 ^ suc k → Stands bs at (big_bytes (suc k) x ++ ys) → Reads bs (field (suc k) bs at) x ys
+field_reads k x bs at ys h s = record {
+  next = at + suc k;
+  is = field_got (suc k) bs at (room_for bs at (suc k) (big_bytes (suc k) x) ys (length-bytes_high_first (suc k) x) s)
+      ∙ ap (λ v. Got v (at + suc k)) (ap (big_number (suc k)) s.there ∙ big_number-reads_back (suc k) x ys h);
+  behind = stands_next bs at (suc k) (big_bytes (suc k) x) ys (length-bytes_high_first (suc k) x) s;
+}
+
+module _ {X Y : Type 0} where
+  follow_reads : (bs : List ℕ) (r : Read X) (f : X → ℕ → Read Y) (v : X) (w : Y) (ys zs : List ℕ) → Reads bs r v ys → ((next : ℕ) → Stands bs next ys → Reads bs (f v next) w zs) → Reads bs (follow r f) w zs
+  follow_reads bs r f v w ys zs h g = let t = g h.next h.behind in record { next = t.next; is = ap (λ x. follow x f) h.is ∙ t.is; behind = t.behind }
+
+module _ {X : Type 0} where
+  check_reads : (bs : List ℕ) (ok : Bool) (at : ℕ) (r : Read X) (v : X) (ys : List ℕ) → ok ≡ true → Reads bs r v ys → Reads bs (check ok at r) v ys
+  check_reads bs ok at r v ys e h = record { next = h.next; is = ap (λ b. cond b r (Off at)) e ∙ h.is; behind = h.behind }
+
+  got_reads : (bs : List ℕ) (v : X) (next : ℕ) (ys : List ℕ) → Stands bs next ys → Reads bs (Got v next) v ys
+  got_reads bs v next ys s = record { next = next; is = refl; behind = s }
+
+  reads_as : (bs : List ℕ) (r : Read X) (v w : X) (ys : List ℕ) → v ≡ w → Reads bs r v ys → Reads bs r w ys
+  reads_as bs r v w ys e h = subst (λ x. Reads bs r x ys) e h
+
+-- ---- actors ----
+
+abbrev pub who_tag : Who → ℕ
+who_tag (whos.Node n) = 0
+who_tag (whos.Sequencer e) = 1
+who_tag (whos.Reader r) = 2
+
+abbrev pub who_number : Who → ℕ
+who_number (whos.Node n) = n
+who_number (whos.Sequencer e) = e
+who_number (whos.Reader r) = r
+
+who_is : (w : Who) (ys : List ℕ) → who_bytes w ++ ys ≡ big_bytes 1 (who_tag w) ++ (big_bytes 4 (who_number w) ++ ys)
+who_is (whos.Node n) ys = refl
+who_is (whos.Sequencer e) ys = refl
+who_is (whos.Reader r) ys = refl
+
+in_actor : (role : Role) (w : Who) → IsIn role w → IsActor w
+in_actor roles.Node (whos.Node n) i = i
+in_actor roles.Node (whos.Sequencer e) i = absurd i
+in_actor roles.Node (whos.Reader r) i = absurd i
+in_actor roles.Sequencer (whos.Node n) i = absurd i
+in_actor roles.Sequencer (whos.Sequencer e) i = i
+in_actor roles.Sequencer (whos.Reader r) i = absurd i
+in_actor roles.Asker (whos.Node n) i = i
+in_actor roles.Asker (whos.Sequencer e) i = absurd i
+in_actor roles.Asker (whos.Reader r) i = i
+in_actor roles.Anyone (whos.Node n) i = i
+in_actor roles.Anyone (whos.Sequencer e) i = i
+in_actor roles.Anyone (whos.Reader r) i = i
+
+role_passes : (role : Role) (w : Who) → IsIn role w → may_be role (who_tag w) ≡ true
+role_passes roles.Node (whos.Node n) i = refl
+role_passes roles.Node (whos.Sequencer e) i = absurd i
+role_passes roles.Node (whos.Reader r) i = absurd i
+role_passes roles.Sequencer (whos.Node n) i = absurd i
+role_passes roles.Sequencer (whos.Sequencer e) i = refl
+role_passes roles.Sequencer (whos.Reader r) i = absurd i
+role_passes roles.Asker (whos.Node n) i = refl
+role_passes roles.Asker (whos.Sequencer e) i = absurd i
+role_passes roles.Asker (whos.Reader r) i = refl
+role_passes roles.Anyone (whos.Node n) i = refl
+role_passes roles.Anyone (whos.Sequencer e) i = refl
+role_passes roles.Anyone (whos.Reader r) i = refl
+
+actor_passes : (w : Who) → IsActor w → is_actor (who_tag w) (who_number w) ≡ true
+actor_passes (whos.Node n) i = let a = i.0 in let b = i.1 in grind (arith, nat_tests)
+actor_passes (whos.Sequencer e) i = let a = i.0 in let b = i.1 in grind (arith, nat_tests)
+actor_passes (whos.Reader r) i = grind (arith, nat_tests)
+
+actor_fits : (w : Who) → IsActor w → who_number w < 256 ^ 4
+actor_fits (whos.Node n) i = let b = i.1 in omega arith
+actor_fits (whos.Sequencer e) i = let b = i.1 in omega arith
+actor_fits (whos.Reader r) i = omega arith
+
+tag_small : (w : Who) → who_tag w < 256 ^ 1
+tag_small (whos.Node n) = omega arith
+tag_small (whos.Sequencer e) = omega arith
+tag_small (whos.Reader r) = omega arith
+
+actor_back : (w : Who) → actor (who_tag w) (who_number w) ≡ w
+actor_back (whos.Node n) = refl
+actor_back (whos.Sequencer e) = refl
+actor_back (whos.Reader r) = refl
+
+pub who_reads : (bs : List ℕ) (role : Role) (at : ℕ) (w : Who) (ys : List ℕ) → IsIn role w → Stands bs at (who_bytes w ++ ys) → Reads bs (read_who role bs at) w ys
+unfolding read_who
+who_reads bs role at w ys i s = let k = in_actor role w i in
+    follow_reads bs (field 1 bs at) _ (who_tag w) w _ ys (field_reads 0 (who_tag w) bs at _ (tag_small w) (stands_as bs at _ _ (who_is w ys) s)) (λ at_number t.
+    check_reads bs _ at _ w ys (role_passes role w i)
+    (follow_reads bs (field 4 bs at_number) _ (who_number w) w _ ys (field_reads 3 (who_number w) bs at_number _ (actor_fits w k) t) (λ next u.
+    check_reads bs _ at_number _ w ys (actor_passes w k) (reads_as bs _ (actor (who_tag w) (who_number w)) w ys (actor_back w) (got_reads bs _ next ys u)))))
+
+-- ---- entries ----
+
+abbrev pub tag_of : What → ℕ
+tag_of (Rec p) = 0
+tag_of Hole = 1
+tag_of Bridge = 2
+
+abbrev pub after_tag : What → List ℕ
+after_tag (Rec p) = big_bytes 2 (length p) ++ p
+after_tag Hole = []
+after_tag Bridge = []
+
+what_is : (w : What) (ys : List ℕ) → what_bytes w ++ ys ≡ big_bytes 1 (tag_of w) ++ (after_tag w ++ ys)
+what_is (Rec p) ys = append_assoc (big_bytes 1 0) (big_bytes 2 (length p) ++ p) ys
+what_is Hole ys = refl
+what_is Bridge ys = refl
+
+pub taken : (xs ys : List ℕ) → take (length xs) (xs ++ ys) ≡ xs
+taken [] ys = refl
+taken (x ∷ xs) ys = ap (λ r. x ∷ r) (taken xs ys)
+
+payload_reads : (bs : List ℕ) (at next : ℕ) (p ys : List ℕ) → Stands bs next (p ++ ys) → Reads bs (payload bs at (length p) next) (Rec p) ys
+payload_reads bs at next p ys s = check_reads bs (nat_le (next + length p) (length bs)) at _ (Rec p) ys (let h = room_for bs next (length p) p ys refl s in grind (arith, nat_tests))
+    (record { next = next + length p; is = ap (λ x. Got (Rec x) (next + length p)) (ap (take (length p)) s.there ∙ taken p ys); behind = stands_next bs next (length p) p ys refl s })
+
+tagged_reads : (bs : List ℕ) (at : ℕ) (w : What) (ys : List ℕ) → IsShort w → Stands bs at (after_tag w ++ ys) → Reads bs (tagged bs at (tag_of w)) w ys
+tagged_reads bs at (Rec p) ys h s = follow_reads bs (field 2 bs at) (payload bs at) (length p) (Rec p) (p ++ ys) ys
+    (field_reads 1 (length p) bs at (p ++ ys) (omega arith) (stands_as bs at _ _ (append_assoc (big_bytes 2 (length p)) p ys) s)) (λ next t. payload_reads bs at next p ys t)
+tagged_reads bs at Hole ys h s = got_reads bs Hole at ys s
+tagged_reads bs at Bridge ys h s = got_reads bs Bridge at ys s
+
+number_fits : (n : ℕ) → IsEpoch (epoch_of n) → n < 256 ^ 8
+number_fits n h = let a = h.1 in omega arith
+
+number_passes : (n least most : ℕ) → IsEpoch (epoch_of n) → 1 ≤ esn_of n → least ≤ n → n ≤ most → (is_number n && within least most n) ≡ true
+number_passes n least most h e l m = let a = h.0 in let b = h.1 in grind (arith, nat_tests)
+
+ballot_passes : (n b : ℕ) → n ≤ b → b ≤ greatest_epoch → within n greatest_epoch b ≡ true
+ballot_passes n b h l = grind (arith, nat_tests)
+
+tag_passes : (n : ℕ) (w : What) → esn_of n ≤ last_place w → is_tag n (tag_of w) ≡ true
+tag_passes n (Rec p) h = grind (arith, nat_tests)
+tag_passes n Hole h = grind (arith, nat_tests)
+tag_passes n Bridge h = grind (arith, nat_tests)
+
+top_passes : (n top : ℕ) (w : What) → esn_of n ≤ last_place w → tag_of w ≤ top → (is_tag n (tag_of w) && nat_le (tag_of w) top) ≡ true
+top_passes n top w h l = let e = tag_passes n w h in grind (arith, nat_tests)
+
+tag_fits : (w : What) → tag_of w < 256 ^ 1
+tag_fits (Rec p) = omega arith
+tag_fits Hole = omega arith
+tag_fits Bridge = omega arith
+
+entry_is : (e : Entry) (ys : List ℕ) → entry_bytes e ++ ys ≡ big_bytes 8 e.number ++ (big_bytes 4 e.ballot ++ (big_bytes 1 (tag_of e.what) ++ (after_tag e.what ++ ys)))
+entry_is e ys = append_assoc (big_bytes 8 e.number) (big_bytes 4 e.ballot ++ what_bytes e.what) ys
+    ∙ ap (λ r. big_bytes 8 e.number ++ r) (append_assoc (big_bytes 4 e.ballot) (what_bytes e.what) ys ∙ ap (λ r. big_bytes 4 e.ballot ++ r) (what_is e.what ys))
+
+pub entry_reads : (bs : List ℕ) (top most least at : ℕ) (e : Entry) (ys : List ℕ) → IsEntry e → tag_of e.what ≤ top → least ≤ e.number → e.number ≤ most → Stands bs at (entry_bytes e ++ ys) → Reads bs (read_entry bs top most least at) e ys
+unfolding read_entry
+entry_reads bs top most least at e ys i o l m s = follow_reads bs (field 8 bs at) _ e.number e _ ys (field_reads 7 e.number bs at _ (number_fits e.number i.epoch) (stands_as bs at _ _ (entry_is e ys) s)) (λ at_ballot t.
+    check_reads bs _ at _ e ys (number_passes e.number least most i.epoch i.from_one l m)
+    (follow_reads bs (field 4 bs at_ballot) _ e.ballot e _ ys (field_reads 3 e.ballot bs at_ballot _ (let b = i.ballot_most in omega arith) t) (λ at_tag u.
+    check_reads bs _ at_ballot _ e ys (ballot_passes (epoch_of e.number) e.ballot i.ballot i.ballot_most)
+    (follow_reads bs (field 1 bs at_tag) _ (tag_of e.what) e _ ys (field_reads 0 (tag_of e.what) bs at_tag _ (tag_fits e.what) u) (λ at_what v.
+    check_reads bs _ at_tag _ e ys (top_passes e.number top e.what i.place o)
+    (follow_reads bs (tagged bs at_what (tag_of e.what)) _ e.what e _ ys (tagged_reads bs at_what e.what ys i.short v) (λ next z. got_reads bs e next ys z)))))))
+
+-- no tag is above the top
+abbrev pub TagsTo : ℕ → List Entry → Type 0
+TagsTo top [] = Unit {0}
+TagsTo top (e ∷ es) = (tag_of e.what ≤ top) × TagsTo top es
+
+tag_two : (w : What) → tag_of w ≤ 2
+tag_two (Rec p) = omega arith
+tag_two Hole = omega arith
+tag_two Bridge = omega arith
+
+pub any_tags : (es : List Entry) → TagsTo 2 es
+any_tags [] = tt
+any_tags (e ∷ es) = (tag_two e.what, any_tags es)
+
+tag_one : (w : What) → IsReadable w → tag_of w ≤ 1
+tag_one (Rec p) h = omega arith
+tag_one Hole h = omega arith
+tag_one Bridge h = absurd h
+
+pub readable_tags : (es : List Entry) → AreReadable es → TagsTo 1 es
+readable_tags [] h = tt
+readable_tags (e ∷ es) h = (tag_one e.what h.0, readable_tags es h.1)
+
+pub entries_reads : (bs : List ℕ) (top most : ℕ) (es : List Entry) (least at : ℕ) (ys : List ℕ) → AreEntries es → TagsTo top es → RiseWithin least most es → Stands bs at (entries_bytes es ++ ys) → Reads bs (read_entries bs top most (length es) least at) es ys
+unfolding read_entries
+entries_reads bs top most [] least at ys a o r s = got_reads bs [] at ys s
+entries_reads bs top most (e ∷ es) least at ys a o r s = follow_reads bs (read_entry bs top most least at) _ e (e ∷ es) _ ys (entry_reads bs top most least at e (entries_bytes es ++ ys) a.0 o.0 r.0 r.1 (stands_as bs at _ _ (append_assoc (entry_bytes e) (entries_bytes es) ys) s)) (λ next t.
+    follow_reads bs (read_entries bs top most (length es) (e.number + 1) next) _ es (e ∷ es) _ ys (entries_reads bs top most es (e.number + 1) next ys a.1 o.1 r.2 t) (λ last u. got_reads bs (e ∷ es) last ys u))
+
+page_reads : (bs : List ℕ) (top from upto at : ℕ) (es : List Entry) → IsPage from upto es → TagsTo top es → Stands bs at (page_bytes es) → Reads bs (read_page bs top from upto at) es []
+unfolding read_page
+page_reads bs top from upto at es i o s = follow_reads bs (field 2 bs at) _ (length es) es _ [] (field_reads 1 (length es) bs at _ (let f = i.few in omega arith) s) (λ next t.
+    check_reads bs _ at _ es [] (let f = i.few in grind (arith, nat_tests)) (entries_reads bs top upto es from next [] i.entries o i.rise (nothing bs next _ t)))
+
+same_passes : (a b : ℕ) → a ≡ b → (a == b) ≡ true
+same_passes a b e = grind (arith, nat_tests)
+
+upto_passes : (from upto : ℕ) → from ≤ upto → home_epoch from ≡ home_epoch upto → (nat_le from upto && (home_epoch from == home_epoch upto)) ≡ true
+upto_passes from upto h e = let a : nat_le from upto ≡ true = grind (arith, nat_tests) in let b : (home_epoch from == home_epoch upto) ≡ true = same_passes (home_epoch from) (home_epoch upto) e in ap (λ x. x && (home_epoch from == home_epoch upto)) a ∙ b
+
+upto_reads : (bs : List ℕ) (from upto at : ℕ) (es : List Entry) (ys : List ℕ) → IsPage from upto es → Stands bs at (big_bytes 8 upto ++ ys) → Reads bs (read_upto bs from at) upto ys
+unfolding read_upto
+upto_reads bs from upto at es ys i s = follow_reads bs (field 8 bs at) _ upto upto _ ys (field_reads 7 upto bs at _ (let f = i.bound in omega arith) s) (λ next t.
+    check_reads bs _ at _ upto ys (upto_passes from upto i.range i.home) (got_reads bs upto next ys t))
+
+-- ---- summaries ----
+
+summary_reads : (bs : List ℕ) (epoch at : ℕ) (y : Summary) → IsSummary epoch y → Stands bs at (summary_bytes y) → Reads bs (read_summary bs epoch at) y []
+unfolding read_summary
+summary_reads bs epoch at y i s = follow_reads bs (field 4 bs at) _ y.ballot y _ [] (field_reads 3 y.ballot bs at _ (let b = i.ballot_most in omega arith) s) (λ at_lng t.
+    check_reads bs _ at _ y [] (ballot_passes (epoch + 1) y.ballot (let b = i.ballot in omega arith) i.ballot_most)
+    (follow_reads bs (field 4 bs at_lng) _ y.lng y _ [] (field_reads 3 y.lng bs at_lng _ (let b = i.lng in omega arith) t) (λ at_trim u.
+    follow_reads bs (field 8 bs at_trim) _ y.trim y _ [] (field_reads 7 y.trim bs at_trim _ (let b = i.trim in omega arith) u) (λ at_end v.
+    follow_reads bs (field 4 bs at_end) _ y.end y [] [] (field_reads 3 y.end bs at_end [] (let b = i.end_most in omega arith) (nothing bs at_end _ v)) (λ next z.
+    check_reads bs _ at_end _ y [] (let b = i.end in grind (arith, nat_tests)) (got_reads bs y next [] z))))))
+
+log_reads : (bs : List ℕ) (at l : ℕ) (ys : List ℕ) → IsLog l → Stands bs at (big_bytes 4 l ++ ys) → Reads bs (read_log bs at) l ys
+log_reads bs at l ys i s = follow_reads bs (field 4 bs at) _ l l ys ys (field_reads 3 l bs at ys (let b = i.1 in omega arith) s) (λ next t. check_reads bs _ at _ l ys (let a = i.0 in let b = i.1 in grind (arith, nat_tests)) (got_reads bs l next ys t))
+
+-- ---- the fields of each kind ----
+
+last_number : (bs : List ℕ) (n at : ℕ) (b : Body) (f : ℕ → Body) → f n ≡ b → Is64 n → Stands bs at (big_bytes 8 n) → Reads bs (follow (field 8 bs at) (λ v next. Got (f v) next)) b []
+last_number bs n at b f e i s = follow_reads bs (field 8 bs at) _ n b [] [] (field_reads 7 n bs at [] (omega arith) (nothing bs at _ s)) (λ next t. reads_as bs _ (f n) b [] e (got_reads bs (f n) next [] t))
+
+last_word : (bs : List ℕ) (n at : ℕ) (b : Body) (f : ℕ → Body) → f n ≡ b → Is32 n → Stands bs at (big_bytes 4 n) → Reads bs (follow (field 4 bs at) (λ v next. Got (f v) next)) b []
+last_word bs n at b f e i s = follow_reads bs (field 4 bs at) _ n b [] [] (field_reads 3 n bs at [] (omega arith) (nothing bs at _ s)) (λ next t. reads_as bs _ (f n) b [] e (got_reads bs (f n) next [] t))
+
+record_tag : (w : What) → IsRecord w → tag_of w ≡ 0
+record_tag (Rec p) h = refl
+record_tag Hole h = absurd h
+record_tag Bridge h = absurd h
+
+store_passes : (ballot n tag : ℕ) → is_tag n tag ≡ true → (epoch_of n ≡ ballot → tag ≡ 0) → (b : Bool) → (epoch_of n == ballot) ≡ b → may_store ballot n tag ≡ true
+store_passes ballot n tag h f true e = let k : epoch_of n ≡ ballot = grind (arith, nat_tests) in let z = f k in let y : (tag == 0) ≡ true = grind (arith, nat_tests) in ap (λ x. x && (not (epoch_of n == ballot) || (tag == 0))) h ∙ (ap (λ x. not x || (tag == 0)) e ∙ y)
+store_passes ballot n tag h f false e = ap (λ x. x && (not (epoch_of n == ballot) || (tag == 0))) h ∙ ap (λ x. not x || (tag == 0)) e
+
+store_reads : (bs : List ℕ) (ballot n lng at : ℕ) (w : What) → Is32 lng → IsEntry (record { number = n; ballot = ballot; what = w }) → (epoch_of n ≡ ballot → IsRecord w) → Stands bs at (big_bytes 8 n ++ (big_bytes 4 lng ++ what_bytes w)) → Reads bs (read_store ballot bs at) (bodies.Store n lng w) []
+unfolding read_store
+store_reads bs ballot n lng at w l i o s =
+    follow_reads bs (field 8 bs at) _ n _ _ [] (field_reads 7 n bs at _ (number_fits n i.epoch) s) (λ at_lng t.
+    check_reads bs _ at _ _ [] (let a = i.epoch.0 in let b = i.epoch.1 in let c = i.from_one in let d = i.ballot in grind (arith, nat_tests))
+    (follow_reads bs (field 4 bs at_lng) _ lng _ _ [] (field_reads 3 lng bs at_lng _ (omega arith) t) (λ at_tag u.
+    follow_reads bs (field 1 bs at_tag) _ (tag_of w) _ _ [] (field_reads 0 (tag_of w) bs at_tag _ (tag_fits w) (stands_as bs at_tag _ _ (sym (append-nil (what_bytes w)) ∙ what_is w []) u)) (λ at_what v.
+    check_reads bs _ at_tag _ _ [] (store_passes ballot n (tag_of w) (tag_passes n w i.place) (λ e. record_tag w (o e)) (epoch_of n == ballot) refl)
+    (follow_reads bs (tagged bs at_what (tag_of w)) _ w _ _ [] (tagged_reads bs at_what w [] i.short v) (λ next z. got_reads bs _ next [] z))))))
+
+answers_pass : (to : Who) (round : ℕ) → AnswersIn to round → answers_in to round ≡ true
+answers_pass (whos.Node n) round h = refl
+answers_pass (whos.Sequencer e) round h = grind (arith, nat_tests)
+answers_pass (whos.Reader r) round h = refl
+
+asks_pass : (from : Who) (round : ℕ) → AsksIn from round → asks_in from round ≡ true
+asks_pass (whos.Node n) round h = grind (arith, nat_tests)
+asks_pass (whos.Sequencer e) round h = refl
+asks_pass (whos.Reader r) round h = refl
+
+lost_reads : (bs : List ℕ) (to : Who) (n round g end at : ℕ) → 1 ≤ n → Is64 n → Is32 round → AnswersIn to round → Is32 g → Is64 end → Stands bs at (big_bytes 8 n ++ (big_bytes 4 round ++ (big_bytes 4 g ++ big_bytes 8 end))) → Reads bs (read_lost to bs at) (bodies.LostHere n round g end) []
+unfolding read_lost
+lost_reads bs to n round g end at one i j o k l s =
+    follow_reads bs (field 8 bs at) _ n _ _ [] (field_reads 7 n bs at _ (omega arith) s) (λ at_round t.
+    check_reads bs _ at _ _ [] (grind (arith, nat_tests))
+    (follow_reads bs (field 4 bs at_round) _ round _ _ [] (field_reads 3 round bs at_round _ (omega arith) t) (λ at_g u.
+    check_reads bs _ at_round _ _ [] (answers_pass to round o)
+    (follow_reads bs (field 4 bs at_g) _ g _ _ [] (field_reads 3 g bs at_g _ (omega arith) u) (λ at_end v. last_number bs end at_end _ (λ x. bodies.LostHere n round g x) refl l v)))))
+
+digest_ask_reads : (bs : List ℕ) (ballot n at : ℕ) → ballot ≤ greatest_epoch → 1 ≤ epoch_of n → epoch_of n < ballot → 1 ≤ esn_of n → Stands bs at (big_bytes 8 n) → Reads bs (read_digest_ask ballot bs at) (bodies.DigestAsk n) []
+unfolding read_digest_ask
+digest_ask_reads bs ballot n at m a b c s =
+    follow_reads bs (field 8 bs at) _ n _ [] [] (field_reads 7 n bs at [] (omega arith) (nothing bs at _ s)) (λ next t.
+    check_reads bs _ at _ _ [] (grind (arith, nat_tests)) (got_reads bs _ next [] t))
+
+digest_page_reads : (bs : List ℕ) (n upto t lng at : ℕ) (es : List Entry) → IsPage n upto es → Is64 t → Is32 lng → Stands bs at (big_bytes 8 n ++ (big_bytes 8 upto ++ (big_bytes 8 t ++ (big_bytes 4 lng ++ page_bytes es)))) → Reads bs (read_digest_page bs at) (bodies.DigestPage n upto t lng es) []
+unfolding read_digest_page
+digest_page_reads bs n upto t lng at es i j k s =
+    follow_reads bs (field 8 bs at) _ n _ _ [] (field_reads 7 n bs at _ (let a = i.range in let b = i.bound in omega arith) s) (λ at_upto u.
+    follow_reads bs (read_upto bs n at_upto) _ upto _ _ [] (upto_reads bs n upto at_upto es _ i u) (λ at_trim v.
+    follow_reads bs (field 8 bs at_trim) _ t _ _ [] (field_reads 7 t bs at_trim _ (omega arith) v) (λ at_lng w.
+    follow_reads bs (field 4 bs at_lng) _ lng _ _ [] (field_reads 3 lng bs at_lng _ (omega arith) w) (λ at_page x.
+    follow_reads bs (read_page bs 2 n upto at_page) _ es _ [] [] (page_reads bs 2 n upto at_page es i (any_tags es) x) (λ next y. got_reads bs _ next [] y)))))
+
+asked_reads : (bs : List ℕ) (round n at : ℕ) (ys : List ℕ) → Is32 round → 1 ≤ n → Is64 n → Stands bs at (big_bytes 4 round ++ (big_bytes 8 n ++ ys)) → Reads bs (read_asked bs at) (round, n) ys
+unfolding read_asked
+asked_reads bs round n at ys i one j s =
+    follow_reads bs (field 4 bs at) _ round _ _ ys (field_reads 3 round bs at _ (omega arith) s) (λ a t.
+    follow_reads bs (field 8 bs a) _ n _ ys ys (field_reads 7 n bs a ys (omega arith) t) (λ next u.
+    check_reads bs _ a _ _ ys (grind (arith, nat_tests)) (got_reads bs (round, n) next ys u)))
+
+flag_small : (c : Bool) → flag c < 256 ^ 1
+flag_small true = omega arith
+flag_small false = omega arith
+
+flag_passes : (c : Bool) → nat_le (flag c) 1 ≡ true
+flag_passes true = refl
+flag_passes false = refl
+
+flag_back : (c : Bool) → (flag c == 1) ≡ c
+flag_back true = refl
+flag_back false = refl
+
+read_page_reads : (bs : List ℕ) (round n upto at : ℕ) (c : Bool) (es : List Entry) → Is32 round → 1 ≤ n → Is64 n → IsPage n upto es → AreReadable es → Stands bs at (big_bytes 4 round ++ (big_bytes 8 n ++ (big_bytes 8 upto ++ (big_bytes 1 (flag c) ++ page_bytes es)))) → Reads bs (read_read_page bs at) (bodies.ReadPage round n upto c es) []
+unfolding read_read_page
+read_page_reads bs round n upto at c es i one j p o s =
+    follow_reads bs (read_asked bs at) _ (round, n) _ _ [] (asked_reads bs round n at _ i one j s) (λ at_upto t.
+    follow_reads bs (read_upto bs n at_upto) _ upto _ _ [] (upto_reads bs n upto at_upto es _ p t) (λ at_clean u.
+    follow_reads bs (field 1 bs at_clean) _ (flag c) _ _ [] (field_reads 0 (flag c) bs at_clean _ (flag_small c) u) (λ at_page v.
+    check_reads bs _ at_clean _ _ [] (flag_passes c)
+    (follow_reads bs (read_page bs 1 n upto at_page) _ es _ [] [] (page_reads bs 1 n upto at_page es p (readable_tags es o) v) (λ next y.
+    reads_as bs _ (bodies.ReadPage round n upto (flag c == 1) es) _ [] (ap (λ x. bodies.ReadPage round n upto x es) (flag_back c)) (got_reads bs _ next [] y))))))
+
+answer_reads : (bs : List ℕ) (kind round n x at : ℕ) (b : Body) → answer kind round n x ≡ b → Is32 round → 1 ≤ n → Is64 n → Is64 x → Stands bs at (big_bytes 4 round ++ (big_bytes 8 n ++ big_bytes 8 x)) → Reads bs (read_answer kind bs at) b []
+unfolding read_answer
+answer_reads bs kind round n x at b e i one j k s =
+    follow_reads bs (read_asked bs at) _ (round, n) b _ [] (asked_reads bs round n at _ i one j s) (λ a t. last_number bs x a b (λ v. answer kind round n v) e k t)
+
+pub sequencer_most : (w : Who) → IsSequencerHere w → (1 ≤ ballot_of w) × (ballot_of w ≤ greatest_epoch)
+sequencer_most (whos.Node n) h = absurd h
+sequencer_most (whos.Sequencer e) h = h
+sequencer_most (whos.Reader r) h = absurd h
+
+sealed_reads : (bs : List ℕ) (n k at : ℕ) → Is64 n → Is32 k → Stands bs at (big_bytes 8 n ++ big_bytes 4 k) → Reads bs (read_sealed bs at) (bodies.SealedHere n k) []
+unfolding read_sealed
+sealed_reads bs n k at i j s = follow_reads bs (field 8 bs at) _ n _ _ [] (field_reads 7 n bs at _ (omega arith) s) (λ a t. last_word bs k a _ (λ x. bodies.SealedHere n x) refl j t)
+
+clean_here_reads : (bs : List ℕ) (n at : ℕ) (y : Summary) → Is64 n → IsSummary (epoch_of n) y → Stands bs at (big_bytes 8 n ++ summary_bytes y) → Reads bs (read_clean_here bs at) (bodies.CleanHere n y) []
+unfolding read_clean_here
+clean_here_reads bs n at y i j s = follow_reads bs (field 8 bs at) _ n _ _ [] (field_reads 7 n bs at _ (omega arith) s) (λ a t.
+    follow_reads bs (read_summary bs (epoch_of n) a) _ y _ [] [] (summary_reads bs (epoch_of n) a y j t) (λ next u. got_reads bs _ next [] u))
+
+trimmed_reads : (bs : List ℕ) (n t at : ℕ) → Is64 n → Is64 t → Stands bs at (big_bytes 8 n ++ big_bytes 8 t) → Reads bs (read_trimmed bs at) (bodies.TrimmedHere n t) []
+unfolding read_trimmed
+trimmed_reads bs n t at i j s = follow_reads bs (field 8 bs at) _ n _ _ [] (field_reads 7 n bs at _ (omega arith) s) (λ a u. last_number bs t a _ (λ x. bodies.TrimmedHere n x) refl j u)
+
+clean_reads : (bs : List ℕ) (e at : ℕ) (y : Summary) → IsEpoch e → IsSummary e y → Stands bs at (big_bytes 4 e ++ summary_bytes y) → Reads bs (read_clean bs at) (bodies.Clean e y) []
+unfolding read_clean
+clean_reads bs e at y i j s = follow_reads bs (field 4 bs at) _ e _ _ [] (field_reads 3 e bs at _ (let b = i.1 in omega arith) s) (λ a t.
+    check_reads bs _ at _ _ [] (let b = i.0 in let c = i.1 in grind (arith, nat_tests))
+    (follow_reads bs (read_summary bs e a) _ y _ [] [] (summary_reads bs e a y j t) (λ next u. got_reads bs _ next [] u)))
+
+read_ask_reads : (bs : List ℕ) (from : Who) (round n at : ℕ) → Is32 round → AsksIn from round → 1 ≤ n → Is64 n → Stands bs at (big_bytes 4 round ++ big_bytes 8 n) → Reads bs (read_read_ask from bs at) (bodies.ReadAsk round n) []
+unfolding read_read_ask
+read_ask_reads bs from round n at i o one j s = follow_reads bs (field 4 bs at) _ round _ _ [] (field_reads 3 round bs at _ (omega arith) s) (λ a t.
+    check_reads bs _ at _ _ [] (asks_pass from round o)
+    (follow_reads bs (field 8 bs a) _ n _ [] [] (field_reads 7 n bs a [] (omega arith) (nothing bs a _ t)) (λ next u. check_reads bs _ a _ _ [] (grind (arith, nat_tests)) (got_reads bs _ next [] u))))
+
+pub body_reads : (bs : List ℕ) (from to : Who) (b : Body) (at : ℕ) → Fits from to b → Stands bs at (body_bytes b) → Reads bs (read_body (kind_of b) from to bs at) b []
+unfolding read_body read_stored read_told kind_of body_bytes
+body_reads bs from to (bodies.Store n lng x) at h s = store_reads bs (ballot_of from) n lng at x h.1 h.2 h.3 s
+body_reads bs from to (bodies.Stored n) at h s = last_number bs n at _ (λ v. bodies.Stored v) refl h.1 s
+body_reads bs from to (bodies.SealedHere n k) at h s = sealed_reads bs n k at h.1 h.2 s
+body_reads bs from to (bodies.LostHere n round g end) at h s = lost_reads bs to n round g end at h.2 h.3 h.4 h.5 h.6 h.7 s
+body_reads bs from to (bodies.CleanHere n y) at h s = clean_here_reads bs n at y h.1 h.2 s
+body_reads bs from to (bodies.TrimmedHere n t) at h s = trimmed_reads bs n t at h.1 h.2 s
+body_reads bs from to (bodies.DigestAsk n) at h s = let m = sequencer_most from h.0.0 in digest_ask_reads bs (ballot_of from) n at m.1 h.1 h.2 h.3 s
+body_reads bs from to (bodies.DigestPage n upto t lng es) at h s = digest_page_reads bs n upto t lng at es h.1 h.2 h.3 s
+body_reads bs from to (bodies.Clean e y) at h s = clean_reads bs e at y h.1 h.2 s
+body_reads bs from to (bodies.Release n) at h s = last_number bs n at _ (λ v. bodies.Release v) refl h.1 s
+body_reads bs from to (bodies.Trim t) at h s = last_number bs t at _ (λ v. bodies.Trim v) refl h.1 s
+body_reads bs from to (bodies.ReadAsk round n) at h s = read_ask_reads bs from round n at h.2 h.3 h.4 h.5 s
+body_reads bs from to (bodies.ReadPage round n upto c es) at h s = read_page_reads bs round n upto at c es h.0.2 h.0.3 h.0.4 h.1 h.2 s
+body_reads bs from to (bodies.ReadEnded round n end) at h s = answer_reads bs 14 round n end at _ refl h.0.2 h.0.3 h.0.4 h.1 s
+body_reads bs from to (bodies.ReadTrim round n t) at h s = answer_reads bs 15 round n t at _ refl h.0.2 h.0.3 h.0.4 h.1 s
+body_reads bs from to (bodies.ReadWait round n r) at h s = answer_reads bs 16 round n r at _ refl h.0.2 h.0.3 h.0.4 h.1 s
+
+-- the actors are those of the kind
+roles_fit : (from to : Who) (b : Body) → Fits from to b → IsIn (sender (kind_of b)) from × IsIn (receiver (kind_of b)) to
+unfolding sender receiver kind_of
+roles_fit from to (bodies.Store n lng x) h = (h.0.0, h.0.1)
+roles_fit from to (bodies.Stored n) h = (h.0.0, h.0.1)
+roles_fit from to (bodies.SealedHere n k) h = (h.0.0, h.0.1)
+roles_fit from to (bodies.LostHere n round g end) h = (h.0, h.1)
+roles_fit from to (bodies.CleanHere n y) h = (h.0.0, h.0.1)
+roles_fit from to (bodies.TrimmedHere n t) h = (h.0.0, h.0.1)
+roles_fit from to (bodies.DigestAsk n) h = (h.0.0, h.0.1)
+roles_fit from to (bodies.DigestPage n upto t lng es) h = (h.0.0, h.0.1)
+roles_fit from to (bodies.Clean e y) h = (h.0.0, h.0.1)
+roles_fit from to (bodies.Release n) h = (h.0.0, h.0.1)
+roles_fit from to (bodies.Trim t) h = (h.0.0, h.0.1)
+roles_fit from to (bodies.ReadAsk round n) h = (h.0, h.1)
+roles_fit from to (bodies.ReadPage round n upto c es) h = (h.0.0, h.0.1)
+roles_fit from to (bodies.ReadEnded round n end) h = (h.0.0, h.0.1)
+roles_fit from to (bodies.ReadTrim round n t) h = (h.0.0, h.0.1)
+roles_fit from to (bodies.ReadWait round n r) h = (h.0.0, h.0.1)
+
+at_end : (bs : List ℕ) (next : ℕ) → Stands bs next [] → next ≡ length bs
+at_end bs next s = let e = ap length s.there in let d = length-drop next bs in let w = s.within in omega arith
+
+after_kind : (m : Msg) → Stands (msg_bytes m) 1 (who_bytes m.from ++ (who_bytes m.to ++ (big_bytes 4 m.log ++ body_bytes m.body)))
+unfolding msg_bytes
+after_kind m = record { within = omega arith; there = refl }
+
+-- what stands behind the length of a message's frame is read as the message
+pub msg_reads : (m : Msg) → IsMessage m → read_msg (kind_of m.body) (msg_bytes m) ≡ Got m (length (msg_bytes m))
+unfolding read_msg
+msg_reads m h = let i = roles_fit m.from m.to m.body h.fits in let bs : List ℕ = msg_bytes m in
+    let r = follow_reads bs (read_who (sender (kind_of m.body)) bs 1) _ m.from m _ [] (who_reads bs (sender (kind_of m.body)) 1 m.from _ i.0 (after_kind m)) (λ at_to s.
+    follow_reads bs (read_who (receiver (kind_of m.body)) bs at_to) _ m.to m _ [] (who_reads bs (receiver (kind_of m.body)) at_to m.to _ i.1 s) (λ at_log t.
+    follow_reads bs (read_log bs at_log) _ m.log m _ [] (log_reads bs at_log m.log _ h.log t) (λ at_body u.
+    follow_reads bs (read_body (kind_of m.body) m.from m.to bs at_body) _ m.body m [] [] (body_reads bs m.from m.to m.body at_body h.fits u) (λ next v.
+    record { next = next; is = let b : nat_le (length bs) next ≡ true = (let n = at_end bs next v in grind (arith, nat_tests)) in ap (λ b. cond b (Got m next) (Off next)) b; behind = v })))) in
+    r.is ∙ ap (λ n. Got m n) (at_end bs r.next r.behind)

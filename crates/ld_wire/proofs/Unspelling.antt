@@ -1,0 +1,679 @@
+-- What is read as a message is spelled by its bytes.
+use Rattle.std.proofs.Common.{◌≡◌, ◌<◌, ◌≤◌, ◌+◌, ◌*◌, ◌^◌, ◌/◌, ◌&&◌, ◌||◌, ◌==◌, not, inl, inr, ℕ, suc, zero, Bool, true, false, cond, List, [], ◌∷◌, ◌++◌, refl, ap, sym, ◌∙◌, subst, append_assoc, take, drop, length, nat_le, nat_lt, arith, length-drop}
+use Rattle.std.proofs.Math.Nat.{mul-le-mul_right, mod-eq_of_lt, mod-lt}
+use Rattle.std.proofs.lemmas.Bool.{cases_order}
+use Rattle.std.proofs.lemmas.Bool.Decides.{nat_tests}
+use Rattle.std.proofs.lemmas.Grind.{common_steps}
+use Rattle.std.proofs.lemmas.List.{append-nil}
+use Rattle.std.specs.Int.{byte_at, bytes_high_first}
+use Rattle.byteorder.specs.Endian.{big_bytes, big_number, big_from}
+use Rattle.byteorder.specs.Numbers.{big_from-bytes, big_from-lt, big_from-cons, length-bytes_high_first}
+use Rattle.ld_lsn.specs.Number.{epoch_of, esn_of, home_epoch}
+use Rattle.ld_ids.specs.Id.{IsLog}
+use Rattle.ld_ids.specs.Bytes.{AreBytes}
+use Rattle.ld_msg.specs.declared.msg.Who.{Who}
+use Rattle.ld_msg.specs.declared.msg.Who.TheVariants as whos
+use Rattle.ld_msg.specs.declared.msg.What.{What}
+use Rattle.ld_msg.specs.declared.msg.What.TheVariants.{Rec, Hole, Bridge}
+use Rattle.ld_msg.specs.declared.msg.Entry.{Entry}
+use Rattle.ld_msg.specs.declared.msg.Summary.{Summary}
+use Rattle.ld_msg.specs.declared.msg.Msg.{Msg}
+use Rattle.ld_msg.specs.declared.msg.Body.{Body}
+use Rattle.ld_msg.specs.declared.msg.Body.TheVariants as bodies
+use Rattle.ld_msg.specs.Bounds.{Is32, Is64, IsEpoch, IsEntry, IsSummary, IsShort, AreEntries, RiseWithin, IsPage, AreReadable, IsReadable, IsRecord, IsActor, AsksIn, AnswersIn, Fits, IsMessage, ballot_of, last_place, last_reader}
+use Rattle.ld_wire.specs.declared.role.Role.{Role}
+use Rattle.ld_wire.specs.declared.role.Role.TheVariants as roles
+use Rattle.ld_wire.specs.Fields.{Read, Got, Off, follow, check, field, end_at}
+use Rattle.ld_wire.specs.Roles.{may_be, IsIn, sender, receiver}
+use Rattle.ld_wire.specs.Frames.{who_bytes, what_bytes, entry_bytes, entries_bytes, page_bytes, summary_bytes, kind_of, body_bytes, flag}
+use Rattle.ld_wire.specs.Judging.{within, greatest_epoch, is_actor, actor, read_who, is_number, is_tag, payload, tagged, read_entry, read_entries, read_page, read_upto, read_summary, asks_in, answers_in, may_store, read_store, read_sealed, read_lost, read_clean_here, read_trimmed, read_digest_ask, read_digest_page, read_clean, read_read_ask, read_asked, read_read_page, answer, read_answer, read_stored, read_told, read_body, read_log, read_msg}
+use Rattle.ld_wire.proofs.Spelling.{tag_of, after_tag, who_tag, who_number, TagsTo, sequencer_most}
+
+-- ---- numbers and their bytes ----
+
+same_quotient : (a b p y z : ℕ) → a * p + y ≡ b * p + z → y < p → z < p → (a ≡ b) × (y ≡ z)
+same_quotient a b p y z e h k = elim (cases_order a b) [
+  | inl s ↦ (s, let t = ap (λ n. n * p) s in omega arith)
+  | inr (inl l) ↦ let m : suc a * p ≤ b * p = mul-le-mul_right p l in absurd (grind arith)
+  | inr (inr l) ↦ let m : suc b * p ≤ a * p = mul-le-mul_right p l in absurd (grind arith)
+]
+
+tail_bytes : (a : ℕ) (xs : List ℕ) → AreBytes (a ∷ xs) → AreBytes xs
+tail_bytes a xs h i = h (suc i)
+
+same_bytes : (n : ℕ) (xs ys : List ℕ) → AreBytes xs → AreBytes ys → n ≤ length xs → n ≤ length ys → big_from 0 n xs ≡ big_from 0 n ys → take n xs ≡ take n ys
+same_bytes zero xs ys h k l m e = refl
+same_bytes (suc n) [] ys h k l m e = absurd (omega arith)
+same_bytes (suc n) (x ∷ xs) [] h k l m e = absurd (omega arith)
+same_bytes (suc n) (x ∷ xs) (y ∷ ys) h k l m e =
+    let q = same_quotient x y (256 ^ n) (big_from 0 n xs) (big_from 0 n ys) (ap (λ r. x * 256 ^ n + r) (sym (big_from-cons 0 n x xs)) ∙ (e ∙ ap (λ r. y * 256 ^ n + r) (big_from-cons 0 n y ys)))
+    (big_from-lt 0 n xs (tail_bytes x xs h)) (big_from-lt 0 n ys (tail_bytes y ys k)) in
+    ap (λ v. v ∷ take n xs) q.0 ∙ ap (λ r. y ∷ r) (same_bytes n xs ys (tail_bytes x xs h) (tail_bytes y ys k) (omega arith) (omega arith) q.1)
+
+one_byte : (k x : ℕ) → byte_at k x < 256
+one_byte zero x = mod-lt x (omega arith)
+one_byte (suc k) x = mod-lt (x / 256 ^ suc k) (omega arith)
+
+number_bytes : (n x : ℕ) → AreBytes (bytes_high_first n x)
+number_bytes zero x i = omega arith
+number_bytes (suc n) x zero = one_byte n x
+number_bytes (suc n) x (suc i) = number_bytes n x i
+
+all_taken : (xs : List ℕ) (n : ℕ) → length xs ≡ n → take n xs ≡ xs
+all_taken xs n h = grind (arith, common_steps)
+
+-- the bytes of the number in bytes are these
+pub bytes_back : (n : ℕ) (xs : List ℕ) → AreBytes xs → n ≤ length xs → bytes_high_first n (big_from 0 n xs) ≡ take n xs
+bytes_back n xs h l = let x : ℕ = big_from 0 n xs in let c = length-bytes_high_first n x in
+    sym (all_taken (bytes_high_first n x) n c)
+    ∙ same_bytes n (bytes_high_first n x) xs (number_bytes n x) h (omega arith) l
+    (ap (big_from 0 n) (sym (append-nil (bytes_high_first n x))) ∙ (big_from-bytes n x [] ∙ mod-eq_of_lt (big_from-lt 0 n xs h)))
+
+-- ---- what was read is spelled ----
+
+pub record Spelled (bs : List ℕ) (at next : ℕ) (xs : List ℕ) : Type 0 where
+  pub within : next ≤ length bs
+  pub there : drop at bs ≡ xs ++ drop next bs
+
+pub spelled_on : (bs : List ℕ) (at mid next : ℕ) (xs ys : List ℕ) → Spelled bs at mid xs → Spelled bs mid next ys → Spelled bs at next (xs ++ ys)
+spelled_on bs at mid next xs ys h k = record { within = k.within; there = h.there ∙ (ap (λ r. xs ++ r) k.there ∙ sym (append_assoc xs ys (drop next bs))) }
+
+pub spelled_none : (bs : List ℕ) (at : ℕ) → at ≤ length bs → Spelled bs at at []
+spelled_none bs at h = record { within = h; there = refl }
+
+pub record Spells (bs : List ℕ) (n at x next : ℕ) : Type 0 where
+  pub fits : x < 256 ^ n
+  pub spelled : Spelled bs at next (big_bytes n x)
+
+pub drop_bytes : (bs : List ℕ) (at : ℕ) → AreBytes bs → AreBytes (drop at bs)
+drop_bytes bs zero h i = h i
+drop_bytes [] (suc at) h i = h i
+drop_bytes (b ∷ bs) (suc at) h i = drop_bytes bs at (tail_bytes b bs h) i
+
+pub split_at : (n : ℕ) (xs : List ℕ) → xs ≡ take n xs ++ drop n xs
+split_at zero xs = refl
+split_at (suc n) [] = refl
+split_at (suc n) (x ∷ xs) = ap (λ r. x ∷ r) (split_at n xs)
+
+dropped : (bs : List ℕ) (at k : ℕ) → drop (at + k) bs ≡ drop k (drop at bs)
+dropped bs at k = grind (arith, common_steps)
+
+field_there : (n : ℕ) (bs : List ℕ) (at x next : ℕ) (b : Bool) → nat_le (at + n) (length bs) ≡ b → cond b (Got (big_number n (drop at bs)) (at + n)) (Off at) ≡ Got x next → (at + n ≤ length bs) × (big_number n (drop at bs) ≡ x) × (at + n ≡ next)
+field_there n bs at x next true h e = (grind (arith, nat_tests), cc, cc)
+field_there n bs at x next false h e = absurd cc
+
+field_spells : (n : ℕ) (bs : List ℕ) (at x next : ℕ) → AreBytes bs → field n bs at ≡ Got x next → Spells bs n at x next
+unfolding field
+field_spells n bs at x next h e = let t = field_there n bs at x next (nat_le (at + n) (length bs)) refl e in let d = length-drop at bs in record {
+  fits = subst (λ v. v < 256 ^ n) t.1 (big_from-lt 0 n (drop at bs) (drop_bytes bs at h));
+  spelled = record {
+    within = subst (λ v. v ≤ length bs) t.2 t.0;
+    there = split_at n (drop at bs) ∙ (ap (λ r. r ++ drop n (drop at bs)) (sym (bytes_back n (drop at bs) (drop_bytes bs at h) (let l = t.0 in omega arith)) ∙ ap (big_bytes n) t.1)
+        ∙ ap (λ r. big_bytes n x ++ r) (sym (dropped bs at n) ∙ ap (λ k. drop k bs) t.2));
+  };
+}
+
+-- ---- readings taken apart ----
+
+module _ {X Y : Type 0} where
+  pub record Followed (r : Read X) (f : X → ℕ → Read Y) (w : Y) (last : ℕ) : Type 0 where
+    pub value : X
+    pub next : ℕ
+    pub first : r ≡ Got value next
+    pub second : f value next ≡ Got w last
+
+  followed : (r : Read X) (f : X → ℕ → Read Y) (w : Y) (last : ℕ) → follow r f ≡ Got w last → Followed r f w last
+  followed (Got v n) f w last e = record { value = v; next = n; first = refl; second = e }
+  followed (Off p) f w last e = absurd cc
+
+module _ {X : Type 0} where
+  checked : (ok : Bool) (at : ℕ) (r : Read X) (w : X) (last : ℕ) → check ok at r ≡ Got w last → (ok ≡ true) × (r ≡ Got w last)
+  checked true at r w last e = (refl, e)
+  checked false at r w last e = absurd cc
+
+module _ {X Y P : Type 0} where
+  by_follow : (r : Read X) (f : X → ℕ → Read Y) (w : Y) (last : ℕ) → follow r f ≡ Got w last → ((v : X) (k : ℕ) → r ≡ Got v k → f v k ≡ Got w last → P) → P
+  by_follow r f w last e g = let t = followed r f w last e in g t.value t.next t.first t.second
+
+module _ {X P : Type 0} where
+  by_check : (ok : Bool) (at : ℕ) (r : Read X) (w : X) (last : ℕ) → check ok at r ≡ Got w last → (ok ≡ true → r ≡ Got w last → P) → P
+  by_check ok at r w last e g = let t = checked ok at r w last e in g t.0 t.1
+
+  -- what is read at the end
+  by_got : (v w : X) (n last : ℕ) → Got v n ≡ Got w last → ((v ≡ w) → (n ≡ last) → P) → P
+  by_got v w n last e g = let a : v ≡ w = cc in let b : n ≡ last = cc in g a b
+
+-- ---- entries ----
+
+pub record WhatRead (bs : List ℕ) (at next tag : ℕ) (w : What) : Type 0 where
+  pub spelled : Spelled bs at next (after_tag w)
+  pub tag_is : tag ≡ tag_of w
+  pub short : IsShort w
+
+payload_spelled : (bs : List ℕ) (at n mid : ℕ) (w : What) (next : ℕ) → n < 256 ^ 2 → Spelled bs at mid (big_bytes 2 n) → payload bs at n mid ≡ Got w next → WhatRead bs at next 0 w
+payload_spelled bs at n mid w next f s r =
+    let c = checked (nat_le (mid + n) (length bs)) at (Got (Rec (take n (drop mid bs))) (mid + n)) w next r in
+    let l : mid + n ≤ length bs = (let b = c.0 in grind (arith, nat_tests)) in
+    let e : Rec (take n (drop mid bs)) ≡ w = (let g = c.1 in cc) in
+    let k : mid + n ≡ next = (let g = c.1 in cc) in
+    let m : length (take n (drop mid bs)) ≡ n = (let d = length-drop mid bs in grind (arith, common_steps)) in
+    subst (WhatRead bs at next 0) e (record {
+      spelled = spelled_on bs at mid next (big_bytes 2 (length (take n (drop mid bs)))) (take n (drop mid bs)) (subst (λ x. Spelled bs at mid (big_bytes 2 x)) (sym m) s)
+          (record { within = subst (λ x. x ≤ length bs) k l; there = split_at n (drop mid bs) ∙ ap (λ r. take n (drop mid bs) ++ r) (sym (dropped bs mid n) ∙ ap (λ x. drop x bs) k) });
+      tag_is = refl;
+      short = omega arith;
+    })
+
+tagged_spelled : (bs : List ℕ) (at tag : ℕ) (w : What) (next : ℕ) → AreBytes bs → at ≤ length bs → tag ≤ 2 → tagged bs at tag ≡ Got w next → WhatRead bs at next tag w
+tagged_spelled bs at zero w next h a t r = let f = followed (field 2 bs at) (payload bs at) w next r in let s = field_spells 2 bs at f.value f.next h f.first in payload_spelled bs at f.value f.next w next s.fits s.spelled f.second
+tagged_spelled bs at (suc zero) w next h a t r = let e : Hole ≡ w = cc in let k : at ≡ next = cc in subst (WhatRead bs at next 1) e (record { spelled = subst (λ n. Spelled bs at n []) k (spelled_none bs at a); tag_is = refl; short = tt })
+tagged_spelled bs at (suc (suc zero)) w next h a t r = let e : Bridge ≡ w = cc in let k : at ≡ next = cc in subst (WhatRead bs at next 2) e (record { spelled = subst (λ n. Spelled bs at n []) k (spelled_none bs at a); tag_is = refl; short = tt })
+tagged_spelled bs at (suc (suc (suc tag))) w next h a t r = absurd (omega arith)
+
+pub record EntryRead (bs : List ℕ) (top most least at next : ℕ) (e : Entry) : Type 0 where
+  pub spelled : Spelled bs at next (entry_bytes e)
+  pub is : IsEntry e
+  pub least_is : least ≤ e.number
+  pub most_is : e.number ≤ most
+  pub tag_is : tag_of e.what ≤ top
+
+number_is : (n least most : ℕ) → (is_number n && within least most n) ≡ true → IsEpoch (epoch_of n) × (1 ≤ esn_of n) × (least ≤ n) × (n ≤ most)
+number_is n least most h = ((grind (arith, nat_tests), grind (arith, nat_tests)), grind (arith, nat_tests), grind (arith, nat_tests), grind (arith, nat_tests))
+
+within_is : (least most n : ℕ) → within least most n ≡ true → (least ≤ n) × (n ≤ most)
+within_is least most n h = (grind (arith, nat_tests), grind (arith, nat_tests))
+
+both_true : (a b : Bool) → (a && b) ≡ true → (a ≡ true) × (b ≡ true)
+both_true true b h = (refl, h)
+both_true false b h = absurd cc
+
+tag_most : (n tag : ℕ) → is_tag n tag ≡ true → tag ≤ 2
+tag_most n tag h = grind (arith, nat_tests)
+
+place_of : (n tag : ℕ) (w : What) → is_tag n tag ≡ true → tag ≡ tag_of w → esn_of n ≤ last_place w
+place_of n tag (Rec p) h e = grind (arith, nat_tests)
+place_of n tag Hole h e = grind (arith, nat_tests)
+place_of n tag Bridge h e = omega arith
+
+what_made : (tag : ℕ) (w : What) → tag ≡ tag_of w → big_bytes 1 tag ++ after_tag w ≡ what_bytes w
+what_made tag (Rec p) e = ap (λ t. big_bytes 1 t ++ (big_bytes 2 (length p) ++ p)) e
+what_made tag Hole e = ap (λ t. big_bytes 1 t ++ []) e
+what_made tag Bridge e = ap (λ t. big_bytes 1 t ++ []) e
+
+le_is : (a b : ℕ) → nat_le a b ≡ true → a ≤ b
+le_is a b h = grind (arith, nat_tests)
+
+entry_made : (bs : List ℕ) (top most least at a b c next number ballot tag : ℕ) (w : What) → Spells bs 8 at number a → (is_number number && within least most number) ≡ true → Spells bs 4 a ballot b → within (epoch_of number) greatest_epoch ballot ≡ true
+    → Spells bs 1 b tag c → is_tag number tag ≡ true → tag ≤ top → WhatRead bs c next tag w → EntryRead bs top most least at next (record { number = number; ballot = ballot; what = w })
+entry_made bs top most least at a b c next number ballot tag w s m t n u o p v = let i = number_is number least most m in let j = within_is (epoch_of number) greatest_epoch ballot n in record {
+  spelled = spelled_on bs at a next (big_bytes 8 number) (big_bytes 4 ballot ++ what_bytes w) s.spelled (spelled_on bs a b next (big_bytes 4 ballot) (what_bytes w) t.spelled
+      (subst (Spelled bs b next) (what_made tag w v.tag_is) (spelled_on bs b c next (big_bytes 1 tag) (after_tag w) u.spelled v.spelled)));
+  is = record { epoch = i.0; from_one = i.1; place = place_of number tag w o v.tag_is; ballot = j.0; ballot_most = j.1; short = v.short };
+  least_is = i.2;
+  most_is = i.3;
+  tag_is = subst (λ t. t ≤ top) v.tag_is p;
+}
+
+pub entry_spelled : (bs : List ℕ) (top most least at : ℕ) (e : Entry) (next : ℕ) → AreBytes bs → read_entry bs top most least at ≡ Got e next → EntryRead bs top most least at next e
+unfolding read_entry
+entry_spelled bs top most least at e next h r =
+    by_follow (field 8 bs at) _ e next r (λ number a f r. by_check _ at _ e next r (λ ok r.
+    by_follow (field 4 bs a) _ e next r (λ ballot b g r. by_check _ a _ e next r (λ ok2 r.
+    by_follow (field 1 bs b) _ e next r (λ tag c k r. by_check _ b _ e next r (λ ok3 r.
+    by_follow (tagged bs c tag) _ e next r (λ w last q r. by_got _ e last next r (λ is n.
+    let u = field_spells 1 bs b tag c h k in let o = both_true (is_tag number tag) (nat_le tag top) ok3 in
+    subst (EntryRead bs top most least at next) is (subst (λ x. EntryRead bs top most least at x (record { number = number; ballot = ballot; what = w })) n
+    (entry_made bs top most least at a b c last number ballot tag w (field_spells 8 bs at number a h f) ok (field_spells 4 bs a ballot b h g) ok2 u o.0 (le_is tag top o.1)
+    (tagged_spelled bs c tag w last h u.spelled.within (tag_most number tag o.0) q)))))))))))
+
+pub record EntriesRead (bs : List ℕ) (top most count least at next : ℕ) (es : List Entry) : Type 0 where
+  pub spelled : Spelled bs at next (entries_bytes es)
+  pub count_is : length es ≡ count
+  pub are : AreEntries es
+  pub rise : RiseWithin least most es
+  pub tags : TagsTo top es
+
+entries_more : (bs : List ℕ) (top most count least at mid next : ℕ) (e : Entry) (es : List Entry) → EntryRead bs top most least at mid e → EntriesRead bs top most count (e.number + 1) mid next es → EntriesRead bs top most (suc count) least at next (e ∷ es)
+entries_more bs top most count least at mid next e es h k = record {
+  spelled = spelled_on bs at mid next (entry_bytes e) (entries_bytes es) h.spelled k.spelled;
+  count_is = ap suc k.count_is;
+  are = (h.is, k.are);
+  rise = (h.least_is, h.most_is, k.rise);
+  tags = (h.tag_is, k.tags);
+}
+
+pub entries_spelled : (bs : List ℕ) (top most count least at : ℕ) (es : List Entry) (next : ℕ) → AreBytes bs → at ≤ length bs → read_entries bs top most count least at ≡ Got es next → EntriesRead bs top most count least at next es
+unfolding read_entries
+entries_spelled bs top most zero least at es next h a r = by_got [] es at next r (λ is n. subst (EntriesRead bs top most zero least at next) is (subst (λ x. EntriesRead bs top most zero least at x []) n
+    (record { spelled = spelled_none bs at a; count_is = refl; are = tt; rise = tt; tags = tt })))
+entries_spelled bs top most (suc count) least at es next h a r =
+    by_follow (read_entry bs top most least at) _ es next r (λ e mid f r. by_follow (read_entries bs top most count (e.number + 1) mid) _ es next r (λ fs last g r. by_got (e ∷ fs) es last next r (λ is n.
+    let u = entry_spelled bs top most least at e mid h f in
+    subst (EntriesRead bs top most (suc count) least at next) is (subst (λ x. EntriesRead bs top most (suc count) least at x (e ∷ fs)) n
+    (entries_more bs top most count least at mid last e fs u (entries_spelled bs top most count (e.number + 1) mid fs last h u.spelled.within g))))))
+
+pub record PageRead (bs : List ℕ) (top from upto at next : ℕ) (es : List Entry) : Type 0 where
+  pub spelled : Spelled bs at next (page_bytes es)
+  pub few : length es ≤ 64
+  pub are : AreEntries es
+  pub rise : RiseWithin from upto es
+  pub tags : TagsTo top es
+
+page_spelled : (bs : List ℕ) (top from upto at : ℕ) (es : List Entry) (next : ℕ) → AreBytes bs → read_page bs top from upto at ≡ Got es next → PageRead bs top from upto at next es
+unfolding read_page
+page_spelled bs top from upto at es next h r =
+    by_follow (field 2 bs at) _ es next r (λ count a f r. by_check _ at _ es next r (λ ok r.
+    let s = field_spells 2 bs at count a h f in let u = entries_spelled bs top upto count from a es next h s.spelled.within r in let e = u.count_is in let m = le_is count 64 ok in record {
+      spelled = spelled_on bs at a next (big_bytes 2 (length es)) (entries_bytes es) (subst (λ x. Spelled bs at a (big_bytes 2 x)) (sym e) s.spelled) u.spelled;
+      few = omega arith;
+      are = u.are;
+      rise = u.rise;
+      tags = u.tags;
+    }))
+
+pub record UptoRead (bs : List ℕ) (from at next upto : ℕ) : Type 0 where
+  pub spelled : Spelled bs at next (big_bytes 8 upto)
+  pub bound : Is64 upto
+  pub range : from ≤ upto
+  pub home : home_epoch from ≡ home_epoch upto
+
+same_is : (a b : ℕ) → (a == b) ≡ true → a ≡ b
+same_is a b h = grind (arith, nat_tests)
+
+upto_spelled : (bs : List ℕ) (from at upto next : ℕ) → AreBytes bs → read_upto bs from at ≡ Got upto next → UptoRead bs from at next upto
+unfolding read_upto
+upto_spelled bs from at upto next h r =
+    by_follow (field 8 bs at) _ upto next r (λ v a f r. by_check _ at _ upto next r (λ ok r. by_got v upto a next r (λ is n.
+    let s = field_spells 8 bs at v a h f in let o = both_true (nat_le from v) (home_epoch from == home_epoch v) ok in let z = s.fits in
+    subst (UptoRead bs from at next) is (subst (λ x. UptoRead bs from at x v) n (record {
+      spelled = s.spelled;
+      bound = omega arith;
+      range = le_is from v o.0;
+      home = same_is (home_epoch from) (home_epoch v) o.1;
+    })))))
+
+page_is : (bs : List ℕ) (top from upto at mid to next : ℕ) (es : List Entry) → UptoRead bs from at mid upto → PageRead bs top from upto to next es → IsPage from upto es
+page_is bs top from upto at mid to next es u p = record { range = u.range; bound = u.bound; home = u.home; few = p.few; entries = p.are; rise = p.rise }
+
+readable_of : (w : What) → tag_of w ≤ 1 → IsReadable w
+readable_of (Rec p) h = tt
+readable_of Hole h = tt
+readable_of Bridge h = absurd (omega arith)
+
+are_readable : (es : List Entry) → TagsTo 1 es → AreReadable es
+are_readable [] h = tt
+are_readable (e ∷ es) h = (readable_of e.what h.0, are_readable es h.1)
+
+-- ---- actors ----
+
+pub record WhoRead (bs : List ℕ) (role : Role) (at next : ℕ) (w : Who) : Type 0 where
+  pub spelled : Spelled bs at next (who_bytes w)
+  pub is : IsIn role w
+
+who_made : (tag n : ℕ) (w : Who) → tag ≡ who_tag w → n ≡ who_number w → big_bytes 1 tag ++ big_bytes 4 n ≡ who_bytes w
+who_made tag n (whos.Node m) e f = ap (λ t. big_bytes 1 t ++ big_bytes 4 n) e ∙ ap (λ k. big_bytes 1 0 ++ big_bytes 4 k) f
+who_made tag n (whos.Sequencer m) e f = ap (λ t. big_bytes 1 t ++ big_bytes 4 n) e ∙ ap (λ k. big_bytes 1 1 ++ big_bytes 4 k) f
+who_made tag n (whos.Reader m) e f = ap (λ t. big_bytes 1 t ++ big_bytes 4 n) e ∙ ap (λ k. big_bytes 1 2 ++ big_bytes 4 k) f
+
+role_tag : (role : Role) (tag : ℕ) → may_be role tag ≡ true → tag ≤ 2
+role_tag roles.Node tag h = grind (arith, nat_tests)
+role_tag roles.Sequencer tag h = grind (arith, nat_tests)
+role_tag roles.Asker tag h = grind (arith, nat_tests)
+role_tag roles.Anyone tag h = grind (arith, nat_tests)
+
+actor_tag : (tag n : ℕ) → tag ≤ 2 → tag ≡ who_tag (actor tag n)
+actor_tag zero n h = refl
+actor_tag (suc zero) n h = refl
+actor_tag (suc (suc zero)) n h = refl
+actor_tag (suc (suc (suc tag))) n h = absurd (omega arith)
+
+actor_number : (tag n : ℕ) → tag ≤ 2 → n ≡ who_number (actor tag n)
+actor_number zero n h = refl
+actor_number (suc zero) n h = refl
+actor_number (suc (suc zero)) n h = refl
+actor_number (suc (suc (suc tag))) n h = absurd (omega arith)
+
+actor_is : (tag n : ℕ) → tag ≤ 2 → is_actor tag n ≡ true → IsActor (actor tag n)
+actor_is zero n h e = within_is 1 16 n e
+actor_is (suc zero) n h e = within_is 1 greatest_epoch n e
+actor_is (suc (suc zero)) n h e = le_is n last_reader e
+actor_is (suc (suc (suc tag))) n h e = absurd (omega arith)
+
+in_role : (role : Role) (w : Who) → may_be role (who_tag w) ≡ true → IsActor w → IsIn role w
+in_role roles.Node (whos.Node n) h i = i
+in_role roles.Node (whos.Sequencer e) h i = absurd cc
+in_role roles.Node (whos.Reader r) h i = absurd cc
+in_role roles.Sequencer (whos.Node n) h i = absurd cc
+in_role roles.Sequencer (whos.Sequencer e) h i = i
+in_role roles.Sequencer (whos.Reader r) h i = absurd cc
+in_role roles.Asker (whos.Node n) h i = i
+in_role roles.Asker (whos.Sequencer e) h i = absurd cc
+in_role roles.Asker (whos.Reader r) h i = i
+in_role roles.Anyone (whos.Node n) h i = i
+in_role roles.Anyone (whos.Sequencer e) h i = i
+in_role roles.Anyone (whos.Reader r) h i = i
+
+pub who_spelled : (bs : List ℕ) (role : Role) (at : ℕ) (w : Who) (next : ℕ) → AreBytes bs → read_who role bs at ≡ Got w next → WhoRead bs role at next w
+unfolding read_who
+who_spelled bs role at w next h r =
+    by_follow (field 1 bs at) _ w next r (λ tag a f r. by_check _ at _ w next r (λ ok r.
+    by_follow (field 4 bs a) _ w next r (λ n b g r. by_check _ a _ w next r (λ ok2 r. by_got (actor tag n) w b next r (λ is k.
+    let s = field_spells 1 bs at tag a h f in let t = field_spells 4 bs a n b h g in let m = role_tag role tag ok in let e = actor_tag tag n m in
+    subst (WhoRead bs role at next) is (subst (λ x. WhoRead bs role at x (actor tag n)) k (record {
+      spelled = subst (Spelled bs at b) (who_made tag n (actor tag n) e (actor_number tag n m)) (spelled_on bs at a b (big_bytes 1 tag) (big_bytes 4 n) s.spelled t.spelled);
+      is = in_role role (actor tag n) (subst (λ x. may_be role x ≡ true) e ok) (actor_is tag n m ok2);
+    })))))))
+
+-- ---- summaries and logs ----
+
+pub record SummaryRead (bs : List ℕ) (epoch at next : ℕ) (y : Summary) : Type 0 where
+  pub spelled : Spelled bs at next (summary_bytes y)
+  pub is : IsSummary epoch y
+
+pub summary_spelled : (bs : List ℕ) (epoch at : ℕ) (y : Summary) (next : ℕ) → AreBytes bs → read_summary bs epoch at ≡ Got y next → SummaryRead bs epoch at next y
+unfolding read_summary
+summary_spelled bs epoch at y next h r =
+    by_follow (field 4 bs at) _ y next r (λ ballot a f r. by_check _ at _ y next r (λ ok r.
+    by_follow (field 4 bs a) _ y next r (λ lng b g r.
+    by_follow (field 8 bs b) _ y next r (λ trim c k r.
+    by_follow (field 4 bs c) _ y next r (λ end d l r. by_check _ c _ y next r (λ ok2 r. by_got _ y d next r (λ is n.
+    let s = field_spells 4 bs at ballot a h f in let t = field_spells 4 bs a lng b h g in let u = field_spells 8 bs b trim c h k in let v = field_spells 4 bs c end d h l in
+    let i = within_is (epoch + 1) greatest_epoch ballot ok in let i0 = i.0 in let i1 = i.1 in let x = t.fits in let z = u.fits in let q = v.fits in
+    subst (SummaryRead bs epoch at next) is (subst (λ m. SummaryRead bs epoch at m (record { ballot = ballot; lng = lng; trim = trim; end = end })) n (record {
+      spelled = spelled_on bs at a d (big_bytes 4 ballot) _ s.spelled (spelled_on bs a b d (big_bytes 4 lng) _ t.spelled (spelled_on bs b c d (big_bytes 8 trim) (big_bytes 4 end) u.spelled v.spelled));
+      is = record { ballot = omega arith; ballot_most = omega arith; lng = omega arith; trim = omega arith; end = le_is 1 end ok2; end_most = omega arith };
+    })))))))))
+
+pub record LogRead (bs : List ℕ) (at next l : ℕ) : Type 0 where
+  pub spelled : Spelled bs at next (big_bytes 4 l)
+  pub is : IsLog l
+
+log_spelled : (bs : List ℕ) (at l next : ℕ) → AreBytes bs → read_log bs at ≡ Got l next → LogRead bs at next l
+log_spelled bs at l next h r = by_follow (field 4 bs at) _ l next r (λ v a f r. by_check _ at _ l next r (λ ok r. by_got v l a next r (λ is n.
+    let s = field_spells 4 bs at v a h f in subst (LogRead bs at next) is (subst (λ x. LogRead bs at x v) n (record { spelled = s.spelled; is = within_is 1 65535 v ok })))))
+
+-- ---- the fields of each kind ----
+
+-- what was read as the fields of a message of the kind: its bytes, and that it fits between actors of the kind
+pub record BodyRead (bs : List ℕ) (kind : ℕ) (from to : Who) (at next : ℕ) (b : Body) : Type 0 where
+  pub spelled : Spelled bs at next (body_bytes b)
+  pub kind_is : kind_of b ≡ kind
+  pub fits : IsIn (sender kind) from → IsIn (receiver kind) to → Fits from to b
+
+module _ (bs : List ℕ) (kind : ℕ) (from to : Who) (at : ℕ) where
+  -- what was read, at the value and the place that it is said to be
+  made : (b w : Body) (last next : ℕ) → b ≡ w → last ≡ next → BodyRead bs kind from to at last b → BodyRead bs kind from to at next w
+  made b w last next e n h = subst (BodyRead bs kind from to at next) e (subst (λ x. BodyRead bs kind from to at x b) n h)
+
+record_of : (ballot n tag : ℕ) (w : What) → may_store ballot n tag ≡ true → tag ≡ tag_of w → epoch_of n ≡ ballot → IsRecord w
+record_of ballot n tag (Rec p) h e k = tt
+record_of ballot n tag Hole h e k = let b = both_true (is_tag n tag) (not (epoch_of n == ballot) || (tag == 0)) h in let x : (epoch_of n == ballot) ≡ true = grind (arith, nat_tests) in
+    let y : (tag == 0) ≡ false = grind (arith, nat_tests) in let z = sym (ap (λ v. not v || (tag == 0)) x ∙ y) ∙ b.1 in absurd cc
+record_of ballot n tag Bridge h e k = let b = both_true (is_tag n tag) (not (epoch_of n == ballot) || (tag == 0)) h in let x : (epoch_of n == ballot) ≡ true = grind (arith, nat_tests) in
+    let y : (tag == 0) ≡ false = grind (arith, nat_tests) in let z = sym (ap (λ v. not v || (tag == 0)) x ∙ y) ∙ b.1 in absurd cc
+
+store_is : (n ballot : ℕ) → (is_number n && nat_le (epoch_of n) ballot) ≡ true → IsEpoch (epoch_of n) × (1 ≤ esn_of n) × (epoch_of n ≤ ballot)
+store_is n ballot h = ((grind (arith, nat_tests), grind (arith, nat_tests)), grind (arith, nat_tests), grind (arith, nat_tests))
+
+store_spelled : (bs : List ℕ) (from to : Who) (at : ℕ) (b : Body) (next : ℕ) → AreBytes bs → read_store (ballot_of from) bs at ≡ Got b next → BodyRead bs 1 from to at next b
+unfolding read_store kind_of body_bytes sender receiver
+store_spelled bs from to at b next h r =
+    by_follow (field 8 bs at) _ b next r (λ n a f r. by_check _ at _ b next r (λ ok r.
+    by_follow (field 4 bs a) _ b next r (λ lng c g r.
+    by_follow (field 1 bs c) _ b next r (λ tag d k r. by_check _ c _ b next r (λ ok2 r.
+    by_follow (tagged bs d tag) _ b next r (λ w last q r. by_got _ b last next r (λ is e.
+    let s = field_spells 8 bs at n a h f in let t = field_spells 4 bs a lng c h g in let u = field_spells 1 bs c tag d h k in
+    let o = both_true (is_tag n tag) (not (epoch_of n == ballot_of from) || (tag == 0)) ok2 in let i = store_is n (ballot_of from) ok in
+    let v = tagged_spelled bs d tag w last h u.spelled.within (tag_most n tag o.0) q in
+    let y = t.fits in
+    made bs 1 from to at (bodies.Store n lng w) b last next is e (record {
+      spelled = spelled_on bs at a last (big_bytes 8 n) _ s.spelled (spelled_on bs a c last (big_bytes 4 lng) _ t.spelled
+          (subst (Spelled bs c last) (what_made tag w v.tag_is) (spelled_on bs c d last (big_bytes 1 tag) (after_tag w) u.spelled v.spelled)));
+      kind_is = refl;
+      fits = λ x z. let m = sequencer_most from x in ((x, z), (omega arith), record { epoch = i.0; from_one = i.1; place = place_of n tag w o.0 v.tag_is; ballot = i.2; ballot_most = m.1; short = v.short }, record_of (ballot_of from) n tag w ok2 v.tag_is);
+    }))))))))
+
+number_spelled : (bs : List ℕ) (kind : ℕ) (from to : Who) (at : ℕ) (b : Body) (next : ℕ) (f : ℕ → Body) → AreBytes bs → ((n : ℕ) → body_bytes (f n) ≡ big_bytes 8 n) → ((n : ℕ) → kind_of (f n) ≡ kind) → ((n : ℕ) → Is64 n → IsIn (sender kind) from → IsIn (receiver kind) to → Fits from to (f n))
+    → follow (field 8 bs at) (λ n next. Got (f n) next) ≡ Got b next → BodyRead bs kind from to at next b
+number_spelled bs kind from to at b next f h e k g r = by_follow (field 8 bs at) _ b next r (λ n a q r. by_got (f n) b a next r (λ is m.
+    let s = field_spells 8 bs at n a h q in let z = s.fits in
+    made bs kind from to at (f n) b a next is m (record { spelled = subst (Spelled bs at a) (sym (e n)) s.spelled; kind_is = k n; fits = g n (omega arith) })))
+
+stored_spelled : (bs : List ℕ) (from to : Who) (at : ℕ) (b : Body) (next : ℕ) → AreBytes bs → follow (field 8 bs at) (λ n next. Got (bodies.Stored n) next) ≡ Got b next → BodyRead bs 2 from to at next b
+unfolding kind_of body_bytes sender receiver
+stored_spelled bs from to at b next h r = number_spelled bs 2 from to at b next (λ n. bodies.Stored n) h (λ n. refl) (λ n. refl) (λ n i x z. ((x, z), i)) r
+
+release_spelled : (bs : List ℕ) (from to : Who) (at : ℕ) (b : Body) (next : ℕ) → AreBytes bs → follow (field 8 bs at) (λ n next. Got (bodies.Release n) next) ≡ Got b next → BodyRead bs 10 from to at next b
+unfolding kind_of body_bytes sender receiver
+release_spelled bs from to at b next h r = number_spelled bs 10 from to at b next (λ n. bodies.Release n) h (λ n. refl) (λ n. refl) (λ n i x z. ((x, z), i)) r
+
+trim_spelled : (bs : List ℕ) (from to : Who) (at : ℕ) (b : Body) (next : ℕ) → AreBytes bs → follow (field 8 bs at) (λ n next. Got (bodies.Trim n) next) ≡ Got b next → BodyRead bs 11 from to at next b
+unfolding kind_of body_bytes sender receiver
+trim_spelled bs from to at b next h r = number_spelled bs 11 from to at b next (λ n. bodies.Trim n) h (λ n. refl) (λ n. refl) (λ n i x z. ((x, z), i)) r
+
+sealed_spelled : (bs : List ℕ) (from to : Who) (at : ℕ) (b : Body) (next : ℕ) → AreBytes bs → read_sealed bs at ≡ Got b next → BodyRead bs 3 from to at next b
+unfolding read_sealed kind_of body_bytes sender receiver
+sealed_spelled bs from to at b next h r =
+    by_follow (field 8 bs at) _ b next r (λ n a f r. by_follow (field 4 bs a) _ b next r (λ k c g r. by_got _ b c next r (λ is e.
+    let s = field_spells 8 bs at n a h f in let t = field_spells 4 bs a k c h g in let y = s.fits in let w = t.fits in
+    made bs 3 from to at (bodies.SealedHere n k) b c next is e (record { spelled = spelled_on bs at a c (big_bytes 8 n) _ s.spelled t.spelled; kind_is = refl; fits = λ x z. ((x, z), omega arith, omega arith) }))))
+
+answers_of : (to : Who) (round : ℕ) → answers_in to round ≡ true → AnswersIn to round
+answers_of (whos.Node n) round h = tt
+answers_of (whos.Sequencer e) round h = same_is round 0 h
+answers_of (whos.Reader r) round h = tt
+
+asks_of : (from : Who) (round : ℕ) → asks_in from round ≡ true → AsksIn from round
+asks_of (whos.Node n) round h = same_is round 0 h
+asks_of (whos.Sequencer e) round h = tt
+asks_of (whos.Reader r) round h = tt
+
+lost_spelled : (bs : List ℕ) (from to : Who) (at : ℕ) (b : Body) (next : ℕ) → AreBytes bs → read_lost to bs at ≡ Got b next → BodyRead bs 4 from to at next b
+unfolding read_lost kind_of body_bytes sender receiver
+lost_spelled bs from to at b next h r =
+    by_follow (field 8 bs at) _ b next r (λ n a f r. by_check _ at _ b next r (λ ok r.
+    by_follow (field 4 bs a) _ b next r (λ round c g r. by_check _ a _ b next r (λ ok2 r.
+    by_follow (field 4 bs c) _ b next r (λ gen d k r.
+    by_follow (field 8 bs d) _ b next r (λ end l q r. by_got _ b l next r (λ is e.
+    let s = field_spells 8 bs at n a h f in let t = field_spells 4 bs a round c h g in let u = field_spells 4 bs c gen d h k in let v = field_spells 8 bs d end l h q in
+    let o1 = s.fits in let o2 = t.fits in let o3 = u.fits in let o4 = v.fits in
+    made bs 4 from to at (bodies.LostHere n round gen end) b l next is e (record {
+      spelled = spelled_on bs at a l (big_bytes 8 n) _ s.spelled (spelled_on bs a c l (big_bytes 4 round) _ t.spelled (spelled_on bs c d l (big_bytes 4 gen) _ u.spelled v.spelled));
+      kind_is = refl;
+      fits = λ x z. (x, z, le_is 1 n ok, omega arith, omega arith, answers_of to round ok2, omega arith, omega arith);
+    }))))))))
+
+clean_here_spelled : (bs : List ℕ) (from to : Who) (at : ℕ) (b : Body) (next : ℕ) → AreBytes bs → read_clean_here bs at ≡ Got b next → BodyRead bs 5 from to at next b
+unfolding read_clean_here kind_of body_bytes sender receiver
+clean_here_spelled bs from to at b next h r =
+    by_follow (field 8 bs at) _ b next r (λ n a f r. by_follow (read_summary bs (epoch_of n) a) _ b next r (λ y c g r. by_got _ b c next r (λ is e.
+    let s = field_spells 8 bs at n a h f in let t = summary_spelled bs (epoch_of n) a y c h g in let w = s.fits in
+    made bs 5 from to at (bodies.CleanHere n y) b c next is e (record { spelled = spelled_on bs at a c (big_bytes 8 n) _ s.spelled t.spelled; kind_is = refl; fits = λ x z. ((x, z), omega arith, t.is) }))))
+
+trimmed_spelled : (bs : List ℕ) (from to : Who) (at : ℕ) (b : Body) (next : ℕ) → AreBytes bs → read_trimmed bs at ≡ Got b next → BodyRead bs 6 from to at next b
+unfolding read_trimmed kind_of body_bytes sender receiver
+trimmed_spelled bs from to at b next h r =
+    by_follow (field 8 bs at) _ b next r (λ n a f r. by_follow (field 8 bs a) _ b next r (λ k c g r. by_got _ b c next r (λ is e.
+    let s = field_spells 8 bs at n a h f in let t = field_spells 8 bs a k c h g in let y = s.fits in let w = t.fits in
+    made bs 6 from to at (bodies.TrimmedHere n k) b c next is e (record { spelled = spelled_on bs at a c (big_bytes 8 n) _ s.spelled t.spelled; kind_is = refl; fits = λ x z. ((x, z), omega arith, omega arith) }))))
+
+asked_is : (n ballot : ℕ) → (nat_le 1 (epoch_of n) && nat_lt (epoch_of n) ballot && nat_le 1 (esn_of n)) ≡ true → (1 ≤ epoch_of n) × (epoch_of n < ballot) × (1 ≤ esn_of n)
+asked_is n ballot h = (grind (arith, nat_tests), grind (arith, nat_tests), grind (arith, nat_tests))
+
+digest_ask_spelled : (bs : List ℕ) (from to : Who) (at : ℕ) (b : Body) (next : ℕ) → AreBytes bs → read_digest_ask (ballot_of from) bs at ≡ Got b next → BodyRead bs 7 from to at next b
+unfolding read_digest_ask kind_of body_bytes sender receiver
+digest_ask_spelled bs from to at b next h r =
+    by_follow (field 8 bs at) _ b next r (λ n a f r. by_check _ at _ b next r (λ ok r. by_got _ b a next r (λ is e.
+    let s = field_spells 8 bs at n a h f in let i = asked_is n (ballot_of from) ok in
+    made bs 7 from to at (bodies.DigestAsk n) b a next is e (record { spelled = s.spelled; kind_is = refl; fits = λ x z. ((x, z), i.0, i.1, i.2) }))))
+
+digest_page_spelled : (bs : List ℕ) (from to : Who) (at : ℕ) (b : Body) (next : ℕ) → AreBytes bs → read_digest_page bs at ≡ Got b next → BodyRead bs 8 from to at next b
+unfolding read_digest_page kind_of body_bytes sender receiver
+digest_page_spelled bs from to at b next h r =
+    by_follow (field 8 bs at) _ b next r (λ n a f r.
+    by_follow (read_upto bs n a) _ b next r (λ upto c g r.
+    by_follow (field 8 bs c) _ b next r (λ trim d k r.
+    by_follow (field 4 bs d) _ b next r (λ lng l q r.
+    by_follow (read_page bs 2 n upto l) _ b next r (λ es last p r. by_got _ b last next r (λ is e.
+    let s = field_spells 8 bs at n a h f in let t = upto_spelled bs n a upto c h g in let u = field_spells 8 bs c trim d h k in let v = field_spells 4 bs d lng l h q in let w = page_spelled bs 2 n upto l es last h p in
+    let o3 = u.fits in let o4 = v.fits in
+    made bs 8 from to at (bodies.DigestPage n upto trim lng es) b last next is e (record {
+      spelled = spelled_on bs at a last (big_bytes 8 n) _ s.spelled (spelled_on bs a c last (big_bytes 8 upto) _ t.spelled (spelled_on bs c d last (big_bytes 8 trim) _ u.spelled (spelled_on bs d l last (big_bytes 4 lng) _ v.spelled w.spelled)));
+      kind_is = refl;
+      fits = λ x z. ((x, z), page_is bs 2 n upto a c l last es t w, omega arith, omega arith);
+    })))))))
+
+clean_spelled : (bs : List ℕ) (from to : Who) (at : ℕ) (b : Body) (next : ℕ) → AreBytes bs → read_clean bs at ≡ Got b next → BodyRead bs 9 from to at next b
+unfolding read_clean kind_of body_bytes sender receiver
+clean_spelled bs from to at b next h r =
+    by_follow (field 4 bs at) _ b next r (λ k a f r. by_check _ at _ b next r (λ ok r. by_follow (read_summary bs k a) _ b next r (λ y c g r. by_got _ b c next r (λ is e.
+    let s = field_spells 4 bs at k a h f in let t = summary_spelled bs k a y c h g in
+    made bs 9 from to at (bodies.Clean k y) b c next is e (record { spelled = spelled_on bs at a c (big_bytes 4 k) _ s.spelled t.spelled; kind_is = refl; fits = λ x z. ((x, z), within_is 1 greatest_epoch k ok, t.is) })))))
+
+read_ask_spelled : (bs : List ℕ) (from to : Who) (at : ℕ) (b : Body) (next : ℕ) → AreBytes bs → read_read_ask from bs at ≡ Got b next → BodyRead bs 12 from to at next b
+unfolding read_read_ask kind_of body_bytes sender receiver
+read_ask_spelled bs from to at b next h r =
+    by_follow (field 4 bs at) _ b next r (λ round a f r. by_check _ at _ b next r (λ ok r. by_follow (field 8 bs a) _ b next r (λ n c g r. by_check _ a _ b next r (λ ok2 r. by_got _ b c next r (λ is e.
+    let s = field_spells 4 bs at round a h f in let t = field_spells 8 bs a n c h g in let o1 = s.fits in let o2 = t.fits in
+    made bs 12 from to at (bodies.ReadAsk round n) b c next is e (record { spelled = spelled_on bs at a c (big_bytes 4 round) _ s.spelled t.spelled; kind_is = refl; fits = λ x z. (x, z, omega arith, asks_of from round ok, le_is 1 n ok2, omega arith) }))))))
+
+pub record AskedRead (bs : List ℕ) (at next round n : ℕ) : Type 0 where
+  pub spelled : Spelled bs at next (big_bytes 4 round ++ big_bytes 8 n)
+  pub round_fits : Is32 round
+  pub number : 1 ≤ n
+  pub fits : Is64 n
+
+asked_spelled : (bs : List ℕ) (at : ℕ) (p : ℕ × ℕ) (next : ℕ) → AreBytes bs → read_asked bs at ≡ Got p next → AskedRead bs at next p.0 p.1
+unfolding read_asked
+asked_spelled bs at p next h r =
+    by_follow (field 4 bs at) _ p next r (λ round a f r. by_follow (field 8 bs a) _ p next r (λ n c g r. by_check _ a _ p next r (λ ok r. by_got (round, n) p c next r (λ is e.
+    let s = field_spells 4 bs at round a h f in let t = field_spells 8 bs a n c h g in let o1 = s.fits in let o2 = t.fits in
+    subst (λ (q : ℕ × ℕ). AskedRead bs at next q.0 q.1) is (subst (λ x. AskedRead bs at x round n) e (record { spelled = spelled_on bs at a c (big_bytes 4 round) _ s.spelled t.spelled; round_fits = omega arith; number = le_is 1 n ok; fits = omega arith }))))))
+
+flag_of : (c : ℕ) → c ≤ 1 → c ≡ flag (c == 1)
+flag_of zero h = refl
+flag_of (suc zero) h = refl
+flag_of (suc (suc c)) h = absurd (omega arith)
+
+-- behind the round and the number that were asked for
+onto_asked : (bs : List ℕ) (at a last round n : ℕ) (xs : List ℕ) → AskedRead bs at a round n → Spelled bs a last xs → Spelled bs at last (big_bytes 4 round ++ (big_bytes 8 n ++ xs))
+onto_asked bs at a last round n xs s t = subst (Spelled bs at last) (append_assoc (big_bytes 4 round) (big_bytes 8 n) xs) (spelled_on bs at a last (big_bytes 4 round ++ big_bytes 8 n) xs s.spelled t)
+
+read_page_spelled : (bs : List ℕ) (from to : Who) (at : ℕ) (b : Body) (next : ℕ) → AreBytes bs → read_read_page bs at ≡ Got b next → BodyRead bs 13 from to at next b
+unfolding read_read_page kind_of body_bytes sender receiver
+read_page_spelled bs from to at b next h r =
+    by_follow (read_asked bs at) _ b next r (λ p a f r.
+    by_follow (read_upto bs p.1 a) _ b next r (λ upto c g r.
+    by_follow (field 1 bs c) _ b next r (λ bit d k r. by_check _ c _ b next r (λ ok r.
+    by_follow (read_page bs 1 p.1 upto d) _ b next r (λ es last q r. by_got _ b last next r (λ is e.
+    let s = asked_spelled bs at p a h f in let t = upto_spelled bs p.1 a upto c h g in let u = field_spells 1 bs c bit d h k in let w = page_spelled bs 1 p.1 upto d es last h q in
+    made bs 13 from to at (bodies.ReadPage p.0 p.1 upto (bit == 1) es) b last next is e (record {
+      spelled = onto_asked bs at a last p.0 p.1 _ s (spelled_on bs a c last (big_bytes 8 upto) _ t.spelled (spelled_on bs c d last (big_bytes 1 (flag (bit == 1))) _ (subst (λ x. Spelled bs c d (big_bytes 1 x)) (flag_of bit (le_is bit 1 ok)) u.spelled) w.spelled));
+      kind_is = refl;
+      fits = λ x z. ((x, z, s.round_fits, s.number, s.fits), page_is bs 1 p.1 upto a c d last es t w, are_readable es w.tags);
+    })))))))
+
+answer_spelled : (bs : List ℕ) (kind : ℕ) (from to : Who) (at : ℕ) (b : Body) (next : ℕ) → AreBytes bs
+    → ((round n x : ℕ) → body_bytes (answer kind round n x) ≡ big_bytes 4 round ++ (big_bytes 8 n ++ big_bytes 8 x)) → ((round n x : ℕ) → kind_of (answer kind round n x) ≡ kind)
+    → ((round n x : ℕ) → Is32 round → 1 ≤ n → Is64 n → Is64 x → IsIn (sender kind) from → IsIn (receiver kind) to → Fits from to (answer kind round n x))
+    → read_answer kind bs at ≡ Got b next → BodyRead bs kind from to at next b
+unfolding read_answer
+answer_spelled bs kind from to at b next h e k g r =
+    by_follow (read_asked bs at) _ b next r (λ p a f r. by_follow (field 8 bs a) _ b next r (λ x c q r. by_got _ b c next r (λ is m.
+    let s = asked_spelled bs at p a h f in let t = field_spells 8 bs a x c h q in let o = t.fits in
+    made bs kind from to at (answer kind p.0 p.1 x) b c next is m (record {
+      spelled = subst (Spelled bs at c) (sym (e p.0 p.1 x)) (onto_asked bs at a c p.0 p.1 _ s t.spelled);
+      kind_is = k p.0 p.1 x;
+      fits = g p.0 p.1 x s.round_fits s.number s.fits (omega arith);
+    }))))
+
+ended_spelled : (bs : List ℕ) (from to : Who) (at : ℕ) (b : Body) (next : ℕ) → AreBytes bs → read_answer 14 bs at ≡ Got b next → BodyRead bs 14 from to at next b
+unfolding kind_of body_bytes sender receiver
+ended_spelled bs from to at b next h r = answer_spelled bs 14 from to at b next h (λ round n x. refl) (λ round n x. refl) (λ round n x i j k l y z. ((y, z, i, j, k), l)) r
+
+read_trim_spelled : (bs : List ℕ) (from to : Who) (at : ℕ) (b : Body) (next : ℕ) → AreBytes bs → read_answer 15 bs at ≡ Got b next → BodyRead bs 15 from to at next b
+unfolding kind_of body_bytes sender receiver
+read_trim_spelled bs from to at b next h r = answer_spelled bs 15 from to at b next h (λ round n x. refl) (λ round n x. refl) (λ round n x i j k l y z. ((y, z, i, j, k), l)) r
+
+wait_spelled : (bs : List ℕ) (from to : Who) (at : ℕ) (b : Body) (next : ℕ) → AreBytes bs → read_answer 16 bs at ≡ Got b next → BodyRead bs 16 from to at next b
+unfolding kind_of body_bytes sender receiver
+wait_spelled bs from to at b next h r = answer_spelled bs 16 from to at b next h (λ round n x. refl) (λ round n x. refl) (λ round n x i j k l y z. ((y, z, i, j, k), l)) r
+
+module _ {X P : Type 0} where
+  by_cond : (t : Bool) (r s w : X) → cond t r s ≡ w → (t ≡ true → r ≡ w → P) → (t ≡ false → s ≡ w → P) → P
+  by_cond true r s w e f g = f refl e
+  by_cond false r s w e f g = g refl e
+
+of_kind_is : (bs : List ℕ) (k kind : ℕ) (from to : Who) (at next : ℕ) (b : Body) → (kind == k) ≡ true → BodyRead bs k from to at next b → BodyRead bs kind from to at next b
+of_kind_is bs k kind from to at next b e h = subst (λ x. BodyRead bs x from to at next b) (sym (same_is kind k e)) h
+
+stored_body : (bs : List ℕ) (kind : ℕ) (from to : Who) (at : ℕ) (b : Body) (next : ℕ) → AreBytes bs → 1 ≤ kind → kind ≤ 6 → read_stored kind from to bs at ≡ Got b next → BodyRead bs kind from to at next b
+unfolding read_stored
+stored_body bs kind from to at b next h l m r =
+    by_cond (kind == 1) _ _ _ r (λ e r. of_kind_is bs 1 kind from to at next b e (store_spelled bs from to at b next h r)) (λ e1 r.
+    by_cond (kind == 2) _ _ _ r (λ e r. of_kind_is bs 2 kind from to at next b e (stored_spelled bs from to at b next h r)) (λ e2 r.
+    by_cond (kind == 3) _ _ _ r (λ e r. of_kind_is bs 3 kind from to at next b e (sealed_spelled bs from to at b next h r)) (λ e3 r.
+    by_cond (kind == 4) _ _ _ r (λ e r. of_kind_is bs 4 kind from to at next b e (lost_spelled bs from to at b next h r)) (λ e4 r.
+    by_cond (kind == 5) _ _ _ r (λ e r. of_kind_is bs 5 kind from to at next b e (clean_here_spelled bs from to at b next h r)) (λ e5 r.
+    of_kind_is bs 6 kind from to at next b (grind (arith, nat_tests)) (trimmed_spelled bs from to at b next h r))))))
+
+told_body : (bs : List ℕ) (kind : ℕ) (from to : Who) (at : ℕ) (b : Body) (next : ℕ) → AreBytes bs → 7 ≤ kind → kind ≤ 11 → read_told kind from bs at ≡ Got b next → BodyRead bs kind from to at next b
+unfolding read_told
+told_body bs kind from to at b next h l m r =
+    by_cond (kind == 7) _ _ _ r (λ e r. of_kind_is bs 7 kind from to at next b e (digest_ask_spelled bs from to at b next h r)) (λ e1 r.
+    by_cond (kind == 8) _ _ _ r (λ e r. of_kind_is bs 8 kind from to at next b e (digest_page_spelled bs from to at b next h r)) (λ e2 r.
+    by_cond (kind == 9) _ _ _ r (λ e r. of_kind_is bs 9 kind from to at next b e (clean_spelled bs from to at b next h r)) (λ e3 r.
+    by_cond (kind == 10) _ _ _ r (λ e r. of_kind_is bs 10 kind from to at next b e (release_spelled bs from to at b next h r)) (λ e4 r.
+    of_kind_is bs 11 kind from to at next b (grind (arith, nat_tests)) (trim_spelled bs from to at b next h r)))))
+
+answer_at : (bs : List ℕ) (k kind at : ℕ) (b : Body) (next : ℕ) → (kind == k) ≡ true → read_answer kind bs at ≡ Got b next → read_answer k bs at ≡ Got b next
+answer_at bs k kind at b next e r = subst (λ x. read_answer x bs at ≡ Got b next) (same_is kind k e) r
+
+answer_body : (bs : List ℕ) (kind : ℕ) (from to : Who) (at : ℕ) (b : Body) (next : ℕ) (e f : Bool) → (kind == 14) ≡ e → (kind == 15) ≡ f → AreBytes bs → 14 ≤ kind → kind ≤ 16 → read_answer kind bs at ≡ Got b next → BodyRead bs kind from to at next b
+answer_body bs kind from to at b next true f e g h l m r = of_kind_is bs 14 kind from to at next b e (ended_spelled bs from to at b next h (answer_at bs 14 kind at b next e r))
+answer_body bs kind from to at b next false true e g h l m r = of_kind_is bs 15 kind from to at next b g (read_trim_spelled bs from to at b next h (answer_at bs 15 kind at b next g r))
+answer_body bs kind from to at b next false false e g h l m r = let k : (kind == 16) ≡ true = grind (arith, nat_tests) in of_kind_is bs 16 kind from to at next b k (wait_spelled bs from to at b next h (answer_at bs 16 kind at b next k r))
+
+body_spelled : (bs : List ℕ) (kind : ℕ) (from to : Who) (at : ℕ) (b : Body) (next : ℕ) → AreBytes bs → 1 ≤ kind → kind ≤ 16 → read_body kind from to bs at ≡ Got b next → BodyRead bs kind from to at next b
+unfolding read_body
+body_spelled bs kind from to at b next h l m r =
+    by_cond (nat_le kind 6) _ _ _ r (λ e r. stored_body bs kind from to at b next h l (le_is kind 6 e) r) (λ e1 r.
+    by_cond (nat_le kind 11) _ _ _ r (λ e r. told_body bs kind from to at b next h (grind (arith, nat_tests)) (le_is kind 11 e) r) (λ e2 r.
+    by_cond (kind == 12) _ _ _ r (λ e r. of_kind_is bs 12 kind from to at next b e (read_ask_spelled bs from to at b next h r)) (λ e3 r.
+    by_cond (kind == 13) _ _ _ r (λ e r. of_kind_is bs 13 kind from to at next b e (read_page_spelled bs from to at b next h r)) (λ e4 r.
+    answer_body bs kind from to at b next (kind == 14) (kind == 15) refl refl h (grind (arith, nat_tests)) m r))))
+
+-- ---- messages ----
+
+ended_by : (bs : List ℕ) (at : ℕ) (o w : Msg) (next : ℕ) (b : Bool) → nat_le (length bs) at ≡ b → cond b (Got o at) (Off at) ≡ Got w next → (length bs ≤ at) × (o ≡ w) × (at ≡ next)
+ended_by bs at o w next true h e = (grind (arith, nat_tests), cc, cc)
+ended_by bs at o w next false h e = absurd cc
+
+ended : (bs : List ℕ) (at : ℕ) (o w : Msg) (next : ℕ) → end_at bs at o ≡ Got w next → (length bs ≤ at) × (o ≡ w) × (at ≡ next)
+ended bs at o w next r = ended_by bs at o w next (nat_le (length bs) at) refl r
+
+gone : (bs : List ℕ) (at : ℕ) → length bs ≤ at → drop at bs ≡ []
+gone bs at h = grind (arith, common_steps)
+
+-- what stands behind the kind
+abbrev pub behind_kind : Msg → List ℕ
+behind_kind m = who_bytes m.from ++ (who_bytes m.to ++ (big_bytes 4 m.log ++ body_bytes m.body))
+
+pub record MsgRead (bs : List ℕ) (kind : ℕ) (m : Msg) : Type 0 where
+  pub there : drop 1 bs ≡ behind_kind m
+  pub kind_is : kind_of m.body ≡ kind
+  pub is : IsMessage m
+
+pub msg_spelled : (bs : List ℕ) (kind : ℕ) (m : Msg) (next : ℕ) → AreBytes bs → 1 ≤ kind → kind ≤ 16 → read_msg kind bs ≡ Got m next → MsgRead bs kind m
+unfolding read_msg
+msg_spelled bs kind m next h l k r =
+    by_follow (read_who (sender kind) bs 1) _ m next r (λ from a f r. by_follow (read_who (receiver kind) bs a) _ m next r (λ to b g r.
+    by_follow (read_log bs b) _ m next r (λ log c p r. by_follow (read_body kind from to bs c) _ m next r (λ body last q r.
+    let e = ended bs last (record { from = from; to = to; log = log; body = body }) m next r in
+    let s = who_spelled bs (sender kind) 1 from a h f in let t = who_spelled bs (receiver kind) a to b h g in let u = log_spelled bs b log c h p in let v = body_spelled bs kind from to c body last h l k q in
+    subst (MsgRead bs kind) e.1 (record {
+      there = (spelled_on bs 1 a last (who_bytes from) _ s.spelled (spelled_on bs a b last (who_bytes to) _ t.spelled (spelled_on bs b c last (big_bytes 4 log) (body_bytes body) u.spelled v.spelled))).there
+          ∙ (ap (λ x. (who_bytes from ++ (who_bytes to ++ (big_bytes 4 log ++ body_bytes body))) ++ x) (gone bs last e.0) ∙ append-nil (who_bytes from ++ (who_bytes to ++ (big_bytes 4 log ++ body_bytes body))));
+      kind_is = v.kind_is;
+      is = record { log = u.is; fits = v.fits s.is t.is };
+    })))))

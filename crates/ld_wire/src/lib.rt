@@ -1,0 +1,26 @@
+//! Messages as frames, in whatever pieces they come.
+#![tactic(auto)]
+
+mod actor;
+mod decoder;
+mod fault;
+mod field;
+mod fields;
+mod frame;
+mod head;
+mod item;
+mod laws;
+mod page;
+mod role;
+#[cfg(test)]
+mod samples;
+#[cfg(test)]
+mod slow;
+#[cfg(test)]
+mod tests;
+mod write;
+
+pub use decoder::Decoder;
+pub use fault::WireFault;
+pub use frame::Frame;
+pub use write::encode;
