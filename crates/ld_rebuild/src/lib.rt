@@ -4,6 +4,8 @@
 mod asking;
 mod missing;
 mod pages;
+#[cfg(test)]
+mod tests;
 
 pub use asking::asks;
 pub use missing::is_full;
