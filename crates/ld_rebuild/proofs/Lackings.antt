@@ -1,8 +1,6 @@
 -- The first missing number, epoch by epoch.
-use Rattle.std.proofs.Common.{◌≡◌, ◌≤◌, ◌<◌, ℕ, zero, suc, Bor, option_copied, ◌+◌, ◌-◌, ◌^◌, max, min, Bool, true, false, ◌&&◌, ◌==◌, List, [], ◌∷◌, ◌++◌, length, Option, Some, None, is_none, is_some, nat_lt, nat_le, nat_cmp, Less, if◌then◌else◌, refl, ap, sym, ◌∙◌, subst, arith}
-use Rattle.std.specs.List.{filter, flat_map, AllByRecursion}
-use Rattle.std.specs.List.Sorted.{IsStrictlySortedBy}
-use Rattle.std.specs.Map as map
+use Rattle.std.proofs.Common.{◌≡◌, ◌≤◌, ◌<◌, ℕ, suc, Bor, option_copied, ◌+◌, ◌-◌, ◌^◌, max, min, Bool, true, false, ◌==◌, List, [], ◌∷◌, ◌++◌, Option, Some, None, is_none, is_some, nat_lt, nat_le, nat_cmp, Less, if◌then◌else◌, refl, ap, sym, ◌∙◌, subst, arith}
+use Rattle.std.specs.List.{filter, flat_map}
 use Rattle.std.proofs.lemmas.Bool.Decides.{nat_tests}
 use Rattle.ld_table.specs.Table.{find, first_from, Ordered}
 use Rattle.ld_table.specs.Words.{first, numbers_from}
@@ -10,7 +8,7 @@ use Rattle.ld_lsn.specs.Number.{numbered}
 use Rattle.ld_msg.specs.declared.msg.Entry.{Entry}
 use Rattle.ld_msg.specs.declared.msg.Summary.{Summary}
 use Rattle.ld_op.specs.Plain.{Log}
-use Rattle.ld_op.specs.Ticks.{missing, missing_of, numbers_of, first_above, gap_from}
+use Rattle.ld_op.specs.Ticks.{missing, missing_of, numbers_of, gap_from}
 use Rattle.std.proofs.lemmas.Bool.{eqb-true}
 use Rattle.ld_rebuild.specs.Lacks.{lost_from, begins_with, if_lost, is_at}
 use Rattle.ld_rebuild.proofs.Walks.{rest_from, rest_zero, found, none_left, Found, AreAbove}
@@ -116,9 +114,9 @@ pub is_over : (g : Log) (from : ℕ) → Ordered g.summaries → lost_from g fro
 is_over g from o h = elim (first_from from g.summaries) as (λ r. first_from from g.summaries ≡ r → if_lost g.lost_to r ≡ None → first (flat_map (missing_of g) (rest_from from g.summaries)) ≡ None) [
   | None ↦ λ t n. ap (λ r. first (flat_map (missing_of g) r)) (none_left from g.summaries t)
   | Some e ↦ λ t n.
-    let f = found from g.summaries e o t in
-    let b : nat_le e.0 g.lost_to ≡ false = unless g.lost_to e (nat_le e.0 g.lost_to) refl n in
-    ap (λ r. first (flat_map (missing_of g) r)) f.here ∙ (ap (λ r. first (r ++ flat_map (missing_of g) f.rest)) (missing_unless g e b) ∙ ap first (none_above g e.0 f.rest f.above (is_past e.0 g.lost_to b)))
+      let f = found from g.summaries e o t in
+      let b : nat_le e.0 g.lost_to ≡ false = unless g.lost_to e (nat_le e.0 g.lost_to) refl n in
+      ap (λ r. first (flat_map (missing_of g) r)) f.here ∙ (ap (λ r. first (r ++ flat_map (missing_of g) f.rest)) (missing_unless g e b) ∙ ap first (none_above g e.0 f.rest f.above (is_past e.0 g.lost_to b)))
 ] refl h
 
 pub at_start : (g : Log) → first (missing g) ≡ first (flat_map (missing_of g) (rest_from 0 g.summaries))
@@ -139,9 +137,9 @@ pub clean_on : (g : Log) (from lowest : ℕ) → Ordered g.summaries → begins_
 clean_on g from lowest o h = elim (first_from from g.summaries) as (λ r. first_from from g.summaries ≡ r → is_at lowest r ≡ true → gap_from lowest (rest_from from g.summaries) ≡ gap_from (lowest + 1) (rest_from (lowest + 1) g.summaries)) [
   | None ↦ λ t n. absurd cc
   | Some e ↦ λ t n.
-    let f = found from g.summaries e o t in
-    let s : e.0 ≡ lowest = eqb-true e.0 lowest n in
-    ap (gap_from lowest) f.here ∙ (ap (λ (b : Bool). if b then gap_from (lowest + 1) f.rest else lowest) n ∙ ap (gap_from (lowest + 1)) (sym f.next ∙ ap (λ k. rest_from (k + 1) g.summaries) s))
+      let f = found from g.summaries e o t in
+      let s : e.0 ≡ lowest = eqb-true e.0 lowest n in
+      ap (gap_from lowest) f.here ∙ (ap (λ (b : Bool). if b then gap_from (lowest + 1) f.rest else lowest) n ∙ ap (gap_from (lowest + 1)) (sym f.next ∙ ap (λ k. rest_from (k + 1) g.summaries) s))
 ] refl h
 
 pub clean_off : (g : Log) (from lowest : ℕ) → Ordered g.summaries → begins_with g from lowest ≡ false → gap_from lowest (rest_from from g.summaries) ≡ lowest

@@ -87,6 +87,22 @@ fn page(alloc: Global, number: Lsn, clean: bool) -> Result<Body, NoMemory> {
     })
 }
 
+// Refills by an answer.
+fn refill(alloc: Global, plain: &mut Plain, msg: &Msg) -> Result<(), NoMemory> {
+    match on_page(alloc, plain, msg)? {
+        Some(op) => take(alloc, plain, msg.log, op),
+        None => Ok(()),
+    }
+}
+
+// Takes the entries of an op.
+fn take(alloc: Global, plain: &mut Plain, log: LogId, op: Op) -> Result<(), NoMemory> {
+    if let Op::Refill { entries, .. } = op {
+        keep(alloc, plain, Op::Refill { log, entries })?;
+    }
+    Ok(())
+}
+
 // What a node makes of an answer: `r`, a number and a ballot for one entry that it takes, `t` and a number for a trim,
 // and `n` for nothing.
 fn outcome(
@@ -201,11 +217,8 @@ fn a_node_is_full_once_all_epochs_are_clean_and_no_number_is_missing(
         keep(alloc, &mut plain, close(log, 2, 1))?;
         assert!(rt; !is_full(&plain, log));
         let first = Lsn::new(1, 1);
-        if let Some(msg) = answer(log, page(alloc, first, true)?)
-            && let Some(op) = on_page(alloc, &plain, &msg)?
-        {
-            plain.room(alloc, &op)?;
-            plain.apply(op);
+        if let Some(msg) = answer(log, page(alloc, first, true)?) {
+            refill(alloc, &mut plain, &msg)?;
         }
         assert!(rt; is_full(&plain, log));
         let again = outcome(alloc, &plain, log, page(alloc, first, true)?)?;

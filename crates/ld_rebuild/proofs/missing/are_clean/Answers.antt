@@ -1,9 +1,9 @@
-use Rattle.std.proofs.Common.{◌≡◌, ◌≤◌, ◌+◌, Bool, nat_lt, ap, sym, ◌∙◌, arith}
+use Rattle.std.proofs.Common.{ap, sym, ◌∙◌, arith}
 use Rattle.std.proofs.lemmas.Bool.Decides.{nat_tests}
 use Rattle.ld_op.specs.Plain.{log_of}
-use Rattle.ld_op.specs.Ticks.{gap_from, lowest_unclean}
-use Rattle.ld_rebuild.proofs.Walks.{rest_from, rest_zero}
-use Rattle.ld_rebuild.proofs.Lackings.{gap_least, clean_on, clean_off, all_clean, one_unclean, last_is, is_true}
+use Rattle.ld_op.specs.Ticks.{gap_from}
+use Rattle.ld_rebuild.proofs.Walks.{rest_zero}
+use Rattle.ld_rebuild.proofs.Lackings.{clean_on, all_clean, one_unclean, last_is, is_true}
 use Rattle.ld_rebuild.proofs.missing.are_clean.Goals as goal
 
 pub epochs-init : goal.epochs-init

@@ -1,4 +1,4 @@
-use Rattle.std.proofs.Common.{◌≡◌, ◌∙◌, ap, sym, arith}
+use Rattle.std.proofs.Common.{◌∙◌, ap, arith}
 use Rattle.ld_table.specs.Table.{find}
 use Rattle.ld_op.specs.Plain.{log_of}
 use Rattle.ld_rebuild.proofs.Lackings.{has_entry, there}

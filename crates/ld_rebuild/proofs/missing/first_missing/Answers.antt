@@ -1,4 +1,4 @@
-use Rattle.std.proofs.Common.{◌≡◌, ◌∙◌, sym, arith}
+use Rattle.std.proofs.Common.{◌∙◌, sym}
 use Rattle.ld_op.specs.Plain.{log_of}
 use Rattle.ld_rebuild.proofs.Lackings.{at_start, goes_on, is_here, is_last, is_over, no_number, some_number, less_left}
 use Rattle.ld_rebuild.proofs.missing.first_missing.Goals as goal
