@@ -191,14 +191,6 @@ pub page_handled : (gen : ℕ) (g : Log) (l bal r : ℕ) (b : Body) (done : decl
     → IsHandled done (on_page g l b) → IsHandled done (handled_by gen g l bal r b)
 page_handled gen g l bal r b done h d c t a k = subst (λ x. IsHandled done x) (sym (page_case gen g l bal r b h d c t a)) k
 
-page_quiet : (b : Bool) (o : Option Op) → b ≡ false → (if b then o else None) ≡ None
-page_quiet true o h = absurd cc
-page_quiet false o h = refl
-
-pub page_nothing : (g : Log) (l : ℕ) (b : Body) (done : declared.Handled) → g.lost ≡ false → done.op ≡ None → done.answer ≡ None → IsHandled done (on_page g l b)
-unfolding on_page
-page_nothing g l b done h o a = record { op = o ∙ sym (page_quiet g.lost (page_op g l b) h); answer = a }
-
 -- ---- one op ----
 
 pub kept_full : (x : Node) (o : Op) → journal_limit < x.length + record_length (op_length o) → keep_op x o ≡ record x { status = disk.Failed }
