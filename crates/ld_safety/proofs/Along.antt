@@ -17,7 +17,7 @@ use Rattle.ld_safety.proofs.Cleans.{Keyed}
 use Rattle.ld_safety.proofs.Appends.{RowOf}
 use Rattle.ld_safety.proofs.AcksKept.{ActsFine, acks_cases}
 use Rattle.ld_safety.proofs.CleansKept.{NodeClean, start_clean, cleans_keep}
-use Rattle.ld_safety.proofs.Senders.{StoredFrom, sender_cases}
+use Rattle.ld_safety.proofs.Senders.{AnswersFrom, sender_cases}
 use Rattle.std.specs.Option.{unwrap_or}
 use Rattle.std.specs.Ordering.{nat_cmp}
 use Rattle.std.specs.BTreeMap.{is_at}
@@ -78,7 +78,7 @@ pub record Along (c : Config) (hs : List Happened) (w : World) : Type 0 where
   pub once : PlansOnce w.made
   pub recoveries : AllFine c hs w.state.network.sent w.made w.state.register w.state.sequencers
   pub plans : (l e b : ℕ) (f : List Told) → In (plan_of l e b f) w.made → PlanMade c hs w.state.network.sent w.made w.state.register l e b f
-  pub stored_from : StoredFrom c w.state.network.sent
+  pub stored_from : AnswersFrom c w.state.network.sent
   pub acks : (t : List ℕ) (q : Sequencer) → find_named t w.state.sequencers ≡ Some q → AcksFine c hs w.state.network.sent w.state.register q
   pub cleans : (y : ℕ) → NodeClean y (node_at w.state y)
 
@@ -114,7 +114,7 @@ start_along c = record {
   once = λ l e b d f i j. absurd i;
   recoveries = λ t v f. absurd (not_none f);
   plans = λ l e b f i. absurd i;
-  stored_from = λ m n b i. absurd i;
+  stored_from = λ m b i. absurd i;
   acks = λ t q f. absurd (not_none f);
   cleans = λ y. subst (NodeClean y) (sym (start_node y (members c.nodes))) (start_clean y);
 }
@@ -226,7 +226,7 @@ module _ (c : Config) (hs : List Happened) (w : World) (e : Event) (B : Base c h
   acks_before t q f = acks_later c hs (hs ++ happened c w.state e ∷ []) w.state.network.sent w.state.network.sent (λ m i. i) (λ l n p a. (a.0, appends_grows hs e (Step.happens c w.state e) l n a.0 p a.1)) acks_next w.state.register w.state.register (up_same w.state.register) q (R.acks t q f)
 
   pub stored_told_now : (name : List ℕ) (q : Sequencer) → Live w.state name q → (m : Msg) → In m w.state.network.sent → m.to ≡ whos.Sequencer q.epoch → m.log ≡ q.log → (n : ℕ) → m.body ≡ bodies.Stored n → In (Step.sender_node m.from) (nodes_of (spec_in q.log c.logs)) × (tells_stored w.state.network.sent q.log n q.epoch (Step.sender_node m.from) ≡ true)
-  stored_told_now name q v m i t l n h = (reply c w.state e hs w.made R.said B.0.1.epochs R.shows R.bounded R.below R.recoveries R.stored_from name q v m i t l w.state.register (up_same w.state.register)).stored n h
+  stored_told_now name q v m i t l n h = let z = (reply c w.state e hs w.made R.said B.0.1.epochs R.shows R.bounded R.below R.recoveries R.stored_from name q v m i t l w.state.register (up_same w.state.register)).stored n h in (z.0, z.1)
 
   pub rows_before : (t : List ℕ) (v : Sequencer) → find_named t w.state.sequencers ≡ Some v → RowOf v
   rows_before t v f = (counts_of c hs w B t v f).row
@@ -316,9 +316,9 @@ module _ (c : Config) (hs : List Happened) (w : World) (e : Event) (B : Base c h
       | inl a ↦ plan_next l x b f (just_made c hs w.state.network.sent w.made w.state.register l x b f (new_plan l x b f a).0)
       | inr a ↦ plan_next l x b f (R.plans l x b f a)
     ];
-    stored_from = λ m n b i h t. elim (sent_by (Step.happens c w.state e) m i) [
-      | inl a ↦ R.stored_from m n b (subst (λ (z : List Msg). In m z) same_sent a) h t
-      | inr a ↦ dispatch c w.state e (λ d m. StoredFrom c d.sends) B.0.0 (sender_cases c w.state e) m n b a h t
+    stored_from = λ m b i t. elim (sent_by (Step.happens c w.state e) m i) [
+      | inl a ↦ R.stored_from m b (subst (λ (z : List Msg). In m z) same_sent a) t
+      | inr a ↦ dispatch c w.state e (λ d m. AnswersFrom c d.sends) B.0.0 (sender_cases c w.state e) m b a t
     ];
     acks = acks_next_state;
     cleans = cleans_now;
