@@ -1,5 +1,9 @@
 -- Nodes, pages, digests and plans along every run.
 use Rattle.std.proofs.Common.{◌≡◌, ◌∙◌, ◌⊎◌, ◌≤◌, ◌<◌, ℕ, ◌+◌, inl, inr, refl, ap, sym, subst, Bool, true, false, cond, List, [], ◌∷◌, ◌++◌, Option, Some, arith, ◌-◌}
+use Rattle.ld_safety.proofs.Copies.{KnownSettled}
+use Rattle.ld_safety.proofs.Members.{find_in}
+use Rattle.ld_msg.specs.declared.msg.Who.{Who}
+use Rattle.ld_safety.proofs.CopiesKept.{NodeCopies, copies_later, start_copies, copies_keep, copies_sent}
 use Rattle.ld_safety.proofs.Storings.{ReplyFine, ready_stands, settles_fine}
 use Rattle.ld_safety.proofs.CarriedSteps.{HeardOf}
 use Rattle.ld_safety.proofs.Shown.{clean_entry}
@@ -11,6 +15,7 @@ use Rattle.ld_safety.proofs.Carried.{LogOk, held_of}
 use Rattle.ld_machine.specs.Config.{spec_in}
 use Rattle.ld_safety.proofs.Numbers.{one_payload, below_last}
 use Rattle.ld_msg.specs.declared.msg.Summary.{Summary}
+use Rattle.ld_op.specs.Handles.{ballot_of}
 use Rattle.ld_op.specs.Plain.{Plain, log_of, summary_at, is_lost}
 use Rattle.ld_safety.proofs.Acks.{AcksFine, released_fine, acks_later}
 use Rattle.ld_safety.proofs.Cleans.{Keyed}
@@ -40,7 +45,7 @@ use Rattle.ld_machine.specs.Facts.{Happened}
 use Rattle.ld_machine.specs.World.{World, Made, In, begin, made_on}
 use Rattle.ld_machine.specs.Run.{next_world}
 use Rattle.ld_machine.specs.Step as Step
-use Rattle.ld_safety.proofs.Lists.{not_none, In-append}
+use Rattle.ld_safety.proofs.Lists.{not_none, In-append, Some_inj}
 use Rattle.ld_safety.proofs.Traces.{Keeps, beside_kept, happened}
 use Rattle.ld_safety.proofs.Steps.{sent_by}
 use Rattle.ld_safety.proofs.Events.{dispatch, Live}
@@ -48,7 +53,7 @@ use Rattle.ld_safety.proofs.RegisterSteps.{draw_leaves}
 use Rattle.ld_safety.proofs.Registers.{Up, OnlyClosed, follows, start_closed, summaries_stay}
 use Rattle.ld_safety.proofs.Base.{Base, counts_of}
 use Rattle.ld_safety.proofs.GivenSteps.{Given, BaseGiven, given_kept, append_given}
-use Rattle.ld_safety.proofs.Protocol.{plan_of, Says, Kept, PlansOnce, AppendsOnce, PlanFacts, tells_stored}
+use Rattle.ld_safety.proofs.Protocol.{plan_of, Says, Kept, PlansOnce, AppendsOnce, PlanFacts, tells_stored, StoredBy, TrimmedBy}
 use Rattle.ld_safety.proofs.Said.{Reached, Said, AllSaid, says_grows, said_step}
 use Rattle.ld_safety.proofs.Settled.{TrimFine, CloseFine, ShowFine, ReleaseFine, Stays, Acknowledged, acked_grows, chosen_more, Summarized, ClosedEntry}
 use Rattle.ld_safety.proofs.Holdings.{Known, blank_holds, Holding}
@@ -81,6 +86,7 @@ pub record Along (c : Config) (hs : List Happened) (w : World) : Type 0 where
   pub stored_from : AnswersFrom c w.state.network.sent
   pub acks : (t : List ℕ) (q : Sequencer) → find_named t w.state.sequencers ≡ Some q → AcksFine c hs w.state.network.sent w.state.register q
   pub cleans : (y : ℕ) → NodeClean y (node_at w.state y)
+  pub copies : (y : ℕ) → NodeCopies w.made w.state.network.sent y (node_at w.state y)
 
 -- ---- the start ----
 start_node : (y : ℕ) (ns : List ℕ) → unwrap_or (find y (new_nodes ns)) new_node ≡ new_node
@@ -117,9 +123,13 @@ start_along c = record {
   stored_from = λ m b i. absurd i;
   acks = λ t q f. absurd (not_none f);
   cleans = λ y. subst (NodeClean y) (sym (start_node y (members c.nodes))) (start_clean y);
+  copies = λ y. subst (NodeCopies [] [] y) (sym (start_node y (members c.nodes))) (start_copies y);
 }
 
 -- ---- every step ----
+abbrev pub BodySaidIn : Config → List Happened → World → ℕ → Who → Body → Type 0
+BodySaidIn c hs w l from b = carried.BodyOk (Said hs w.made w.state.register) (TrimFine c hs w.state.network.sent w.state.register) (CloseFine c hs w.made w.state.network.sent w.state.register) (Reached w.state.register) (ShowFine c hs w.made w.state.network.sent w.state.register) (ReleaseFine c hs w.state.network.sent w.state.register) l from b
+
 abbrev PlainSaid : Config → List Happened → World → Plain → Type 0
 PlainSaid c hs w p = carried.PlainOk (Said hs w.made w.state.register) (TrimFine c hs w.state.network.sent w.state.register) (CloseFine c hs w.made w.state.network.sent w.state.register) (Reached w.state.register) (ShowFine c hs w.made w.state.network.sent w.state.register) (ReleaseFine c hs w.state.network.sent w.state.register) p
 
@@ -276,6 +286,34 @@ module _ (c : Config) (hs : List Happened) (w : World) (e : Event) (B : Base c h
   cleans_now = dispatch c w.state e (λ d m. (y : ℕ) → NodeClean y (node_at d.state y)) B.0.0
       (node_cases c w.state e NodeClean (cleans_keep c w.state e R.cleans (λ y l. keyed_plain y (node_at w.state y).plain (R.said.nodes y).plain (R.holds y).0 l) keyed_load told_clean (λ l k y f. no_lng l k y (R.said.register l k y f))))
 
+  body_says : (l : ℕ) (from : Who) (n lng : ℕ) (x : What) → BodySaidIn c hs w l from (bodies.Store n lng x) → Said hs w.made w.state.register l (ballot_of from) n x
+  body_says l from n lng x h = h
+
+  store_says : (m : Msg) (n lng : ℕ) (x : What) → In m w.state.network.sent → m.body ≡ bodies.Store n lng x → Says hs w.made m.log (ballot_of m.from) n x
+  store_says m n lng x i h = (body_says m.log m.from n lng x (subst (BodySaidIn c hs w m.log m.from) h (R.said.sent m i))).says
+
+  same_summaries : (n l k : ℕ) (y z : Summary) → 0 < k → find k (epochs_of w.state.register l).summaries ≡ Some y → find k (log_of (node_at w.state n).plain l).summaries ≡ Some z → z ≡ y
+  same_summaries n l k y z p f g = elim (((R.said.nodes n).plain l).summaries (k, z) (find_in k (log_of (node_at w.state n).plain l).summaries z g)).1 [
+    | inl a ↦ absurd (let q = a.0 in omega arith)
+    | inr a ↦ Some_inj (sym a.found_so ∙ f)
+  ]
+
+  settled_known : (n : ℕ) (k : Register) → draw w.state.register n ≡ record { register = k; answer = Granted } → KnownSettled w.made w.state.network.sent k
+  settled_known n k q = record { reached = λ l y s b i. reached_settled l y s b i } where
+    logs : k.logs ≡ w.state.register.logs
+    logs = ap (λ (x : Changed). x.register.logs) (sym q) ∙ elim (draw_leaves w.state.register n) [ inl a ↦ a.0 | inr a ↦ a.0 ]
+
+    as_drawn : (l x : ℕ) → Reached w.state.register l x → Reached k l x
+    as_drawn l x h = (h.0, let z : (epochs_of k l).epoch ≡ (epochs_of w.state.register l).epoch = ap (λ m. (unwrap_or (find l m) no_epochs).epoch) logs in let y = h.1 in omega arith)
+
+    reached_settled : (l y s b : ℕ) → StoredBy w.state.network.sent l y s b ⊎ TrimmedBy w.state.network.sent l y s b → Reached k l (epoch_of s)
+    reached_settled l y s b (inl i) = as_drawn l (epoch_of s) (R.said.sent _ i)
+    reached_settled l y s b (inr t) = as_drawn l (epoch_of s) (subst (Reached w.state.register l) t.epoch (R.said.sent _ t.told_so).1)
+
+  copies_now : (y : ℕ) → NodeCopies w.made w.state.network.sent y (node_at (Step.happens c w.state e).state y)
+  copies_now = dispatch c w.state e (λ d m. (y : ℕ) → NodeCopies w.made w.state.network.sent y (node_at d.state y)) B.0.0
+      (node_cases c w.state e (NodeCopies w.made w.state.network.sent) (copies_keep c w.state e hs w.made R.copies (λ y l. (R.holds y).0.fine l) (λ y l. (load_node w.made w.state.network.sent y (node_at w.state y) (R.holds y)).0.fine l) (λ y l. (R.cleans y).plain l) store_says same_summaries settled_known))
+
   pub clean_shown : (n l : ℕ) → (from : ℕ) (y : Summary) (k : ℕ) (x : Entry) → (log_of (node_at w.state n).plain l).trim < from → summary_at (log_of (node_at w.state n).plain l) (home_epoch from) ≡ Some y → home_esn from < y.end → is_lost (log_of (node_at w.state n).plain l) (home_epoch from) ≡ false
       → In (k, x) (log_of (node_at w.state n).plain l).entries → from ≤ x.number → x.number ≤ numbered (home_epoch from) (y.end - 1) → ClosedEntry c hs w.made w.state.network.sent w.state.register l x
   clean_shown n l from y k x a b d f i lo hi = clean_entry c hs w.made w.state.network.sent w.state.register once_before R.once facts_before l (log_of (node_at w.state n).plain l) ((R.said.nodes n).plain l) ((R.cleans n).plain l) from y k x b i lo hi
@@ -322,6 +360,7 @@ module _ (c : Config) (hs : List Happened) (w : World) (e : Event) (B : Base c h
     ];
     acks = acks_next_state;
     cleans = cleans_now;
+    copies = λ y. copies_later w.made (made_on c w.state e) after_sent y (node_at (Step.happens c w.state e).state y) (copies_sent w.made w.state.network.sent (Step.happens c w.state e) sends_now same_sent copies_now y);
   }
 
 pub along_kept : (c : Config) → Keeps c (λ hs w. BaseGiven c hs w × Along c hs w)

@@ -52,6 +52,8 @@ pub mod Digests
 pub mod Digesting
 pub mod DigestKept
 pub mod Plannings
+pub mod Copies
+pub mod CopiesKept
 pub mod Shown
 pub mod Along
 pub mod Agreed
