@@ -130,7 +130,7 @@ start_along c = record {
 abbrev pub BodySaidIn : Config → List Happened → World → ℕ → Who → Body → Type 0
 BodySaidIn c hs w l from b = carried.BodyOk (Said hs w.made w.state.register) (TrimFine c hs w.state.network.sent w.state.register) (CloseFine c hs w.made w.state.network.sent w.state.register) (Reached w.state.register) (ShowFine c hs w.made w.state.network.sent w.state.register) (ReleaseFine c hs w.state.network.sent w.state.register) l from b
 
-abbrev PlainSaid : Config → List Happened → World → Plain → Type 0
+abbrev pub PlainSaid : Config → List Happened → World → Plain → Type 0
 PlainSaid c hs w p = carried.PlainOk (Said hs w.made w.state.register) (TrimFine c hs w.state.network.sent w.state.register) (CloseFine c hs w.made w.state.network.sent w.state.register) (Reached w.state.register) (ShowFine c hs w.made w.state.network.sent w.state.register) (ReleaseFine c hs w.state.network.sent w.state.register) p
 
 zero_release : (c : Config) (hs : List Happened) (w : World) (l : ℕ) → ReleaseFine c hs w.state.network.sent w.state.register l 0

@@ -61,3 +61,4 @@ pub mod ItemFacts
 pub mod ItemsShown
 pub mod Told
 pub mod Unhidden
+pub mod CopiesStand
