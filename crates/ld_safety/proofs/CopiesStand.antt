@@ -35,7 +35,7 @@ use Rattle.ld_safety.proofs.Agreed.{found_plan, item_is}
 use Rattle.ld_safety.proofs.Copies.{CopiesAt, Copied, Elsewhere}
 
 -- a plan that was made is in the book
-in_book : (l e b : ℕ) (ms : List Made) (d : List Told) → In (plan_of l e b d) ms → (f : List Told) × (digest_in l e b ms ≡ Some f)
+pub in_book : (l e b : ℕ) (ms : List Made) (d : List Told) → In (plan_of l e b d) ms → (f : List Told) × (digest_in l e b ms ≡ Some f)
 in_book l e b [] d i = absurd i
 in_book l e b (m ∷ ms) d i = by_test (is_made l e b m) refl i (in_book l e b ms d) where
   by_test : (t : Bool) → is_made l e b m ≡ t → In (plan_of l e b d) (m ∷ ms) → (In (plan_of l e b d) ms → (f : List Told) × (digest_in l e b ms ≡ Some f)) → (f : List Told) × ((if t then Some m.digest else digest_in l e b ms) ≡ Some f)

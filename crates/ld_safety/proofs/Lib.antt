@@ -62,3 +62,4 @@ pub mod ItemsShown
 pub mod Told
 pub mod Unhidden
 pub mod CopiesStand
+pub mod Retained
