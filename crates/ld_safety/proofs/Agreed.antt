@@ -30,7 +30,8 @@ use Rattle.ld_safety.proofs.Said.{Reached, Said}
 use Rattle.ld_safety.proofs.Settled.{TrimFine, CloseFine, ShowFine, ReleaseFine}
 use Rattle.ld_safety.proofs.Agreement.{agrees}
 use Rattle.ld_safety.proofs.Plannings.{plan_facts}
-use Rattle.ld_safety.proofs.Along.{Along, along_kept}
+use Rattle.ld_safety.proofs.Along.{Along}
+use Rattle.ld_safety.proofs.AlongSteps.{along_kept}
 use Rattle.ld_safety.proofs.Carried as carried
 
 -- ---- reading the book and the messages ----

@@ -1,8 +1,8 @@
 -- A node that settled a number for a ballot is blank, lost for its epoch, trimmed at it, has it with at least this ballot, knows of a later plan that cut it off, or is clean there by another plan: each op keeps it.
-use Rattle.std.proofs.Common.{◌≡◌, ◌∙◌, ◌⊎◌, ◌≤◌, ◌<◌, ℕ, ◌+◌, max, inl, inr, refl, ap, sym, subst, Bool, true, false, not, ◌&&◌, ◌||◌, ◌==◌, nat_lt, nat_le, cond, List, [], ◌∷◌, Option, Some, None, arith}
+use Rattle.std.proofs.Common.{◌≡◌, ◌∙◌, ◌⊎◌, ◌≤◌, ◌<◌, ℕ, ◌+◌, max, inl, inr, refl, ap, sym, subst, true, false, not, ◌||◌, ◌==◌, nat_lt, nat_le, cond, List, Some, None, arith}
 use Rattle.std.specs.Option.{unwrap_or}
-use Rattle.std.proofs.lemmas.Bool.{cases_Bool, and_from, or_left, or_right, ltb-false, leb-false, ne_eqb, cases_order}
-use Rattle.ld_table.specs.Table.{find, put}
+use Rattle.std.proofs.lemmas.Bool.{cases_Bool, and_from, or_left, or_right, ltb-false, leb-false, ne_eqb}
+use Rattle.ld_table.specs.Table.{find}
 use Rattle.ld_table.proofs.Laws.{put_cases, find-keep, find-keep_keys, kept}
 use Rattle.ld_lsn.specs.Number.{epoch_of, esn_of}
 use Rattle.ld_msg.specs.declared.msg.Entry.{Entry}
@@ -11,14 +11,14 @@ use Rattle.ld_msg.specs.declared.msg.Msg.{Msg}
 use Rattle.ld_msg.specs.Register.{Register, epochs_in}
 use Rattle.ld_op.specs.declared.op.Op.{Op}
 use Rattle.ld_op.specs.declared.op.Op.TheVariants as ops
-use Rattle.ld_op.specs.Plain.{Plain, Log, log_of, empty_log, unformatted, with_log, lost_logs, accepted, sealed_by, trimmed_to, cleaned, survives_clean, refill_entries, refilled_with, refilled, apply, is_lost}
+use Rattle.ld_op.specs.Plain.{Plain, Log, log_of, empty_log, unformatted, with_log, lost_logs, accepted, sealed_by, trimmed_to, cleaned, survives_clean, refilled_with, refilled, apply, is_lost}
 use Rattle.ld_op.proofs.Moves.{taken_there}
 use Rattle.ld_machine.specs.World.{Made, In}
-use Rattle.ld_safety.proofs.Lists.{Some_inj, not_none}
+use Rattle.ld_safety.proofs.Lists.{not_none}
 use Rattle.ld_safety.proofs.Members.{find_in}
 use Rattle.ld_safety.proofs.NodeSteps.{Served}
 use Rattle.ld_safety.proofs.Settled.{Reached}
-use Rattle.ld_safety.proofs.Holdings.{HeldAt, KeptBy, LogFine, Taking, entry_stays, cut_off, wider, lost_now, refill_in, refill_same}
+use Rattle.ld_safety.proofs.Holdings.{HeldAt, KeptBy, LogFine, Taking, entry_stays, cut_off, wider, lost_now, refill_same}
 use Rattle.ld_safety.proofs.Protocol.{StoredBy, TrimmedBy}
 
 -- clean there with a summary of another ballot, or of an end at or below the number

@@ -4,7 +4,7 @@ use Rattle.ld_safety.proofs.Steps.{sent_by}
 use Rattle.ld_safety.proofs.Sent.{SendsFine}
 use Rattle.ld_machine.specs.Facts.{Happened}
 use Rattle.ld_machine.specs.Step.{happens}
-use Rattle.std.proofs.lemmas.Bool.{and_parts, ltb-true, leb-true, eqb-true, cases_order, cases_Bool, cases_lt, le-leb, cases_eq}
+use Rattle.std.proofs.lemmas.Bool.{and_parts, ltb-true, leb-true, cases_lt, le-leb, cases_eq}
 use Rattle.ld_table.specs.Table.{find}
 use Rattle.ld_table.specs.Words.{numbers_from}
 use Rattle.ld_lsn.specs.Number.{epoch_of, esn_of, numbered}
@@ -19,12 +19,12 @@ use Rattle.ld_msg.specs.declared.msg.Body.{Body}
 use Rattle.ld_msg.specs.declared.msg.Body.TheVariants as bodies
 use Rattle.ld_op.specs.declared.op.Op.{Op}
 use Rattle.ld_op.specs.declared.op.Op.TheVariants as ops
-use Rattle.ld_op.specs.Plain.{Plain, Log, log_of, apply, is_lost, summary_at}
+use Rattle.ld_op.specs.Plain.{Plain, Log, log_of, is_lost, summary_at}
 use Rattle.ld_op.specs.Answers.{store_decision, digest_decision, taken, on_store, on_digest_ask, on_clean, clean_op, on_trim}
 use Rattle.ld_op.specs.Handles.{handled_by, ballot_of}
-use Rattle.ld_op.specs.Ticks.{Ticked, Cleans, Rebuilt, Asks, Nothing, on_tick, tick_with, lost_tick, refill_tick, lowest_unclean, gap_from, missing, missing_of, numbers_of, first_above, on_page, page_op, refill_op, lacking, is_missing, is_below_end, as_closed}
-use Rattle.ld_msg.specs.Register.{Register, Granted, epochs_of, epochs_in, generation_of, draw}
-use Rattle.ld_machine.specs.Disk.{Node, load, keep_op, new_node, Cut, kept_by}
+use Rattle.ld_op.specs.Ticks.{Cleans, Rebuilt, Nothing, on_tick, tick_with, refill_tick, lowest_unclean, gap_from, missing, missing_of, numbers_of, first_above, on_page, page_op, refill_op, lacking, is_missing, is_below_end, as_closed}
+use Rattle.ld_msg.specs.Register.{Register, Granted, epochs_of, draw}
+use Rattle.ld_machine.specs.Disk.{Node, load, new_node, Cut}
 use Rattle.ld_machine.specs.State.{State, node_at, Done, finish}
 use Rattle.ld_machine.specs.World.{Made, In}
 use Rattle.ld_machine.specs.Step as Step
@@ -34,11 +34,11 @@ use Rattle.ld_safety.proofs.NodeSteps.{store_decided, ask_decided}
 use Rattle.ld_safety.proofs.NodeCases.{NodeKeeps}
 use Rattle.ld_safety.proofs.HoldSteps.{released_parts}
 use Rattle.ld_safety.proofs.HoldKept.{clean_found, gap_in, found_there, kept_later}
-use Rattle.ld_safety.proofs.Holdings.{LogFine, Taking, HeldAt, KeptBy}
+use Rattle.ld_safety.proofs.Holdings.{LogFine, KeptBy}
 use Rattle.ld_safety.proofs.Protocol.{Says, StoredBy, TrimmedBy}
 use Rattle.ld_safety.proofs.Cleans.{LogClean}
 use Rattle.ld_safety.proofs.CleansKept.{AnyReleased, AnyMessage, AnySequencer, AnyReader, AnyRegister, tick_found}
-use Rattle.ld_safety.proofs.Copies.{Elsewhere, Copied, CopiesAt, KnownSettled, OpCopies, Refilled_full, op_copies, blank_copies}
+use Rattle.ld_safety.proofs.Copies.{Elsewhere, Copied, CopiesAt, KnownSettled, OpCopies, op_copies, blank_copies}
 use Rattle.ld_safety.proofs.Has as has
 
 -- ---- a refill that ends ----

@@ -1,13 +1,12 @@
 -- In every state the copies of a closed epoch stand, but where nodes were lost or trimmed.
-use Rattle.std.proofs.Common.{◌≡◌, ◌∙◌, ◌⊎◌, ◌≤◌, ◌<◌, ℕ, ◌+◌, ◌*◌, ◌^◌, inl, inr, refl, ap, sym, subst, Bool, true, false, List, [], ◌∷◌, Option, Some, None, arith, if◌then◌else◌}
+use Rattle.std.proofs.Common.{◌≡◌, ◌∙◌, ◌⊎◌, ◌≤◌, ◌<◌, ℕ, inl, inr, refl, ap, sym, subst, Bool, true, false, List, [], ◌∷◌, Option, Some, None, arith, if◌then◌else◌}
 use Rattle.ld_msg.specs.declared.msg.Msg.{Msg}
 use Rattle.std.proofs.lemmas.Bool.{le-leb, and_from, eq-eqb}
-use Rattle.ld_table.specs.Table.{find}
-use Rattle.ld_lsn.specs.Number.{epoch_of, esn_of, numbered, last_esn}
+use Rattle.ld_lsn.specs.Number.{epoch_of, esn_of, numbered}
 use Rattle.ld_config.specs.declared.config.Config.{Config}
 use Rattle.ld_schedule.specs.declared.event.Event.{Event}
 use Rattle.ld_msg.specs.declared.msg.What.{What}
-use Rattle.ld_msg.specs.declared.msg.What.TheVariants.{Rec, Bridge}
+use Rattle.ld_msg.specs.declared.msg.What.TheVariants.{Rec}
 use Rattle.ld_msg.specs.declared.msg.Summary.{Summary}
 use Rattle.ld_msg.specs.Digest.{Told, best, content, plan_item, plan_end, trim_place, digest_trim}
 use Rattle.ld_op.specs.Plain.{Plain, log_of, is_lost}
@@ -15,22 +14,23 @@ use Rattle.ld_machine.specs.Config.{spec_in}
 use Rattle.ld_machine.specs.Disk.{Cut}
 use Rattle.ld_machine.specs.State.{node_at}
 use Rattle.ld_machine.specs.Facts.{Happened}
-use Rattle.ld_machine.specs.World.{World, Made, In, begin, MayHold, is_made, digest_in, item, settled, has_told, says_settled}
+use Rattle.ld_machine.specs.World.{World, Made, In, begin, is_made, digest_in, item, settled, has_told, says_settled}
 use Rattle.ld_machine.specs.Invariant.{Closed, CopyAt, CopiesOf, HoldsItem}
 use Rattle.ld_machine.specs.Run.{world_after, trace}
-use Rattle.ld_safety.proofs.Lists.{Some_inj, branch, not_none, not_both}
+use Rattle.ld_safety.proofs.Lists.{Some_inj, not_none, not_both}
 use Rattle.ld_safety.proofs.Members.{find_in}
 use Rattle.ld_safety.proofs.Traces.{later}
 use Rattle.ld_safety.proofs.Plans.{plan_shape, plan_between, content_no_bridge, end_above_trim}
 use Rattle.ld_safety.proofs.Numbers.{one_payload}
 use Rattle.ld_safety.proofs.Base.{Base}
 use Rattle.ld_safety.proofs.GivenSteps.{BaseGiven}
-use Rattle.ld_safety.proofs.Protocol.{plan_of, PlanSays, PlansOnce, AppendsOnce, PlanFacts, Ends, told_settled}
+use Rattle.ld_safety.proofs.Protocol.{plan_of, PlanSays, AppendsOnce, PlanFacts, Ends, told_settled}
 use Rattle.ld_safety.proofs.Agreement.{agrees}
 use Rattle.ld_safety.proofs.Settled.{Fixed, Summarized, ClosedBy}
 use Rattle.ld_safety.proofs.Plannings.{plan_facts}
 use Rattle.ld_safety.proofs.Shown.{plan_ends, acked_item, closed_says, above_trim}
-use Rattle.ld_safety.proofs.Along.{Along, along_kept, PlainSaid}
+use Rattle.ld_safety.proofs.Along.{Along, PlainSaid}
+use Rattle.ld_safety.proofs.AlongSteps.{along_kept}
 use Rattle.ld_safety.proofs.Agreed.{found_plan, item_is}
 use Rattle.ld_safety.proofs.Copies.{CopiesAt, Copied, Elsewhere}
 

@@ -56,6 +56,7 @@ pub mod Copies
 pub mod CopiesKept
 pub mod Shown
 pub mod Along
+pub mod AlongSteps
 pub mod Agreed
 pub mod ItemFacts
 pub mod ItemsShown

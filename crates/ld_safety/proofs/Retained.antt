@@ -1,29 +1,26 @@
 -- In every state nodes have what they stored and are sealed as they answered, where they serve the epoch.
-use Rattle.std.proofs.Common.{◌≡◌, ◌∙◌, ◌⊎◌, ◌≤◌, ◌<◌, ℕ, ◌+◌, inl, inr, refl, ap, sym, subst, Bool, true, false, is_some, List, Option, Some, None, arith, []}
+use Rattle.std.proofs.Common.{◌≡◌, ◌∙◌, ◌⊎◌, ◌≤◌, ℕ, ◌+◌, inl, inr, ap, sym, subst, is_some, List, Option, Some, None, arith, []}
 use Rattle.std.proofs.lemmas.Bool.{le-leb}
-use Rattle.ld_table.specs.Table.{find}
-use Rattle.ld_lsn.specs.Number.{epoch_of, esn_of}
+use Rattle.ld_lsn.specs.Number.{epoch_of}
 use Rattle.ld_config.specs.declared.config.Config.{Config}
 use Rattle.ld_schedule.specs.declared.event.Event.{Event}
-use Rattle.ld_msg.specs.declared.msg.Entry.{Entry}
-use Rattle.ld_msg.specs.declared.msg.Body.TheVariants as bodies
-use Rattle.ld_msg.specs.Digest.{Told, plan_end}
-use Rattle.ld_op.specs.Plain.{Plain, log_of, is_lost, summary_at}
+use Rattle.ld_op.specs.Plain.{Plain, log_of}
 use Rattle.ld_machine.specs.Disk.{Cut}
 use Rattle.ld_machine.specs.State.{node_at}
 use Rattle.ld_machine.specs.Facts.{Happened}
 use Rattle.ld_machine.specs.World.{World, In, Sent, Stored, begin, MayHold, HasPlan, Holds, from_node, has_at_least}
 use Rattle.ld_machine.specs.World as world
-use Rattle.ld_machine.specs.Invariant.{AtNodes, Retains, SealsHold, CutAbove}
+use Rattle.ld_machine.specs.Invariant.{Retains, SealsHold, CutAbove}
 use Rattle.ld_machine.specs.Run.{world_after, trace}
 use Rattle.ld_safety.proofs.Lists.{Some_inj, not_none}
 use Rattle.ld_safety.proofs.Traces.{later}
 use Rattle.ld_safety.proofs.GivenSteps.{BaseGiven}
 use Rattle.ld_safety.proofs.Protocol.{Ends}
-use Rattle.ld_safety.proofs.Serving.{Gone, Unserved}
-use Rattle.ld_safety.proofs.Holdings.{Holding, KeptBy}
+use Rattle.ld_safety.proofs.Serving.{Gone}
+use Rattle.ld_safety.proofs.Holdings.{Holding}
 use Rattle.ld_safety.proofs.HoldKept.{CutHolds}
-use Rattle.ld_safety.proofs.Along.{Along, along_kept}
+use Rattle.ld_safety.proofs.Along.{Along}
+use Rattle.ld_safety.proofs.AlongSteps.{along_kept}
 use Rattle.ld_safety.proofs.Agreed.{found_plan}
 use Rattle.ld_safety.proofs.CopiesStand.{in_book}
 

@@ -7,7 +7,6 @@ use Rattle.ld_msg.specs.declared.msg.Who.{Who}
 use Rattle.ld_msg.specs.declared.msg.Who.TheVariants as whos
 use Rattle.ld_msg.specs.declared.msg.Msg.{Msg}
 use Rattle.ld_msg.specs.declared.msg.Body.{Body}
-use Rattle.ld_msg.specs.declared.msg.Body.TheVariants as bodies
 use Rattle.ld_op.specs.declared.op.Op.{Op}
 use Rattle.ld_op.specs.Handles.{answer_message}
 use Rattle.ld_op.specs.Ticks.{Ticked, Cleans, Rebuilt, Asks, Nothing}

@@ -16,7 +16,7 @@ use Rattle.ld_machine.specs.Config.{spec_in}
 use Rattle.ld_machine.specs.State.{Done}
 use Rattle.ld_machine.specs.Facts.{Happened}
 use Rattle.ld_machine.specs.World.{Made, In, told_by, says_stored, says_settled}
-use Rattle.ld_safety.proofs.Lists.{any_from, any_in, count_mono, In_right, how_many-no}
+use Rattle.ld_safety.proofs.Lists.{any_from, any_in, count_mono, In_right}
 use Rattle.ld_safety.proofs.Steps.{told}
 use Rattle.ld_safety.proofs.Registers.{Up}
 use Rattle.ld_safety.proofs.Given.{AppendedBy, appends_grows}

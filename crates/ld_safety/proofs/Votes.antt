@@ -7,7 +7,7 @@ use Rattle.ld_ids.specs.Choice.{nodes_of}
 use Rattle.ld_msg.specs.declared.msg.Msg.{Msg}
 use Rattle.ld_machine.specs.World.{In}
 use Rattle.ld_safety.proofs.Lists.{how_many-yes, how_many-no, count_mono}
-use Rattle.ld_safety.proofs.Protocol.{Chosen, tells_stored, tells_settled}
+use Rattle.ld_safety.proofs.Protocol.{tells_stored, tells_settled}
 
 pub in_of : (y : ℕ) (xs : List ℕ) → is_in y xs ≡ true → In y xs
 in_of y [] h = absurd cc
