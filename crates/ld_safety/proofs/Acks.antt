@@ -19,7 +19,7 @@ use Rattle.ld_safety.proofs.Members.{find_in, In_put}
 use Rattle.ld_safety.proofs.Registers.{Up}
 use Rattle.ld_safety.proofs.Appends.{InRow, RowOf, put_in_row}
 use Rattle.ld_safety.proofs.Given.{AppendedBy}
-use Rattle.ld_safety.proofs.Votes.{Voters, one_more, voted}
+use Rattle.ld_safety.proofs.Votes.{Voters, one_voter, counted_votes}
 use Rattle.ld_safety.proofs.Settled.{Acknowledged, ReleaseFine, tells_more}
 
 -- ---- lists of appends ----
@@ -72,13 +72,13 @@ module _ (c : Config) (hs : List Happened) (sent : List Msg) where
     below = f.below;
     payload = p.1.payload;
     appended = f.appended;
-    chosen = subst (λ (k : ℕ). (spec_in l c.logs).r ≤ how_many (tells_stored sent l p.0 k) (nodes_of (spec_in l c.logs))) (sym f.epoch) (voted (spec_in l c.logs) sent l p.0 b p.1.stored f.votes (leb-true _ _ a));
+    chosen = subst (λ (k : ℕ). (spec_in l c.logs).r ≤ how_many (tells_stored sent l p.0 k) (nodes_of (spec_in l c.logs))) (sym f.epoch) (counted_votes (spec_in l c.logs) (tells_stored sent l p.0 b) p.1.stored f.votes (leb-true _ _ a));
   }
 
   -- a node stored an append
   module _ (r : Register) (q : Sequencer) (A : AcksFine r q) (y n : ℕ) (p : Append) (f : find n q.appends ≡ Some p) (V : In y (nodes_of (spec_in q.log c.logs)) × (tells_stored sent q.log n q.epoch y ≡ true)) where
     pub stored_fine : AppendFine q.log q.epoch (n, stored_at p y)
-    stored_fine = let o = A.appends (n, p) (find_in n q.appends p f) in record { epoch = o.epoch; above = o.above; below = o.below; appended = o.appended; votes = one_more (spec_in q.log c.logs) sent q.log n q.epoch y p.stored V.0 V.1 o.votes }
+    stored_fine = let o = A.appends (n, p) (find_in n q.appends p f) in record { epoch = o.epoch; above = o.above; below = o.below; appended = o.appended; votes = one_voter (spec_in q.log c.logs) (tells_stored sent q.log n q.epoch) y p.stored V.0 V.1 o.votes }
 
     put_fine : (x : ℕ × Append) → In x (put n (stored_at p y) q.appends) → AppendFine q.log q.epoch x
     put_fine x i = elim (In_put n (stored_at p y) q.appends x i) [ inl e ↦ subst (AppendFine q.log q.epoch) (sym e) stored_fine | inr j ↦ A.appends x j ]

@@ -33,7 +33,7 @@ use Rattle.ld_safety.proofs.RegisterSteps.{activate_granted, close_granted, epoc
 use Rattle.ld_safety.proofs.Registers.{Up}
 use Rattle.ld_safety.proofs.Appends.{RowOf}
 use Rattle.ld_safety.proofs.Given.{AppendedBy}
-use Rattle.ld_safety.proofs.Votes.{no_voters}
+use Rattle.ld_safety.proofs.Votes.{nobody}
 use Rattle.ld_safety.proofs.Settled.{Acknowledged}
 use Rattle.ld_safety.proofs.Acks.{AppendFine, AcksFine, acks_fine, acks_now, raised_fine}
 
@@ -147,7 +147,7 @@ module _ (c : Config) (s : State) (e : Event) (hs : List Happened) (D : (t : Lis
         told_now = numbers name q payload v a i (subst (λ (d : Done). In (lines.Appended name (numbered q.epoch (next_esn q))) d.lines) (sym w) (inl refl))
 
         fresh : AppendFine c hs s.network.sent q.log q.epoch (numbered q.epoch (next_esn q), fresh_append payload)
-        fresh = let b = told_now.0 in record { epoch = omega arith; above = omega arith; below = omega arith; appended = told_now.1; votes = no_voters (spec_in q.log c.logs) s.network.sent q.log (numbered q.epoch (next_esn q)) q.epoch }
+        fresh = let b = told_now.0 in record { epoch = omega arith; above = omega arith; below = omega arith; appended = told_now.1; votes = nobody (spec_in q.log c.logs) (tells_stored s.network.sent q.log (numbered q.epoch (next_esn q)) q.epoch) }
 
   activate_result : (name : List ℕ) (l : ℕ) (k : Register) → find_named name s.sequencers ≡ None → activate s.register l ≡ record { register = k; answer = Granted } → Result (Step.activated_as c s name l k (epochs_of k l).epoch (lce_of k l)) []
   unfolding SameLog activated

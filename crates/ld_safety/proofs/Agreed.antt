@@ -30,7 +30,8 @@ use Rattle.ld_safety.proofs.Said.{Reached, Said}
 use Rattle.ld_safety.proofs.Settled.{TrimFine, CloseFine, ShowFine, ReleaseFine}
 use Rattle.ld_safety.proofs.Agreement.{agrees}
 use Rattle.ld_safety.proofs.Plannings.{plan_facts}
-use Rattle.ld_safety.proofs.Along.{Along, along_kept}
+use Rattle.ld_safety.proofs.Along.{Along}
+use Rattle.ld_safety.proofs.AlongSteps.{along_kept}
 use Rattle.ld_safety.proofs.Carried as carried
 
 -- ---- reading the book and the messages ----
@@ -112,7 +113,7 @@ module _ (c : Config) (hs : List Happened) (w : World) (B : Base c hs w) (R : Al
   unfolding chosen
   chosen_here l n b h = leb-true _ _ h
 
-  item_is : (l n g : ℕ) (d : List Told) (x : What) → epoch_of n < g → digest_in l (epoch_of n) g w.made ≡ Some d → plan_item (epoch_of n) d (esn_of n) ≡ Some x → item w l n g ≡ Some x
+  pub item_is : (l n g : ℕ) (d : List Told) (x : What) → epoch_of n < g → digest_in l (epoch_of n) g w.made ≡ Some d → plan_item (epoch_of n) d (esn_of n) ≡ Some x → item w l n g ≡ Some x
   unfolding item
   item_is l n g d x lt q h = cond_both (g == epoch_of n) (append_in l n w.state.network.sent) (item_in (epoch_of n) (esn_of n) (digest_in l (epoch_of n) g w.made)) (λ o. o ≡ Some x)
       (λ t. absurd (let z = eqb-true g (epoch_of n) t in omega arith)) (λ t. ap (item_in (epoch_of n) (esn_of n)) q ∙ h)

@@ -68,7 +68,7 @@ module _ (E : ℕ → ℕ → ℕ → What → Type 0) (T : ℕ → ℕ → Type
   BodyOk l from (bodies.Store n lng w) = E l (ballot_of from) n w
   BodyOk l from (bodies.Stored n) = O l (epoch_of n)
   BodyOk l from (bodies.CleanHere n y) = (0 < esn_of n) × Y l (epoch_of n) y
-  BodyOk l from (bodies.TrimmedHere n t) = T l t
+  BodyOk l from (bodies.TrimmedHere n t) = T l t × O l (epoch_of n)
   BodyOk l from (bodies.DigestAsk n) = (0 < esn_of n) × O l (epoch_of n)
   BodyOk l from (bodies.DigestPage n upto t lng es) = PageOk l n upto t es × NodeWho from
   BodyOk l from (bodies.Clean e y) = Y l e y

@@ -25,7 +25,7 @@ module _ (E : ℕ → ℕ → ℕ → What → Type 0) (T : ℕ → ℕ → Type
   body_grows l from (bodies.Store n lng x) h = e l _ n x h
   body_grows l from (bodies.Stored n) h = o l _ h
   body_grows l from (bodies.CleanHere n z) h = (h.0, y l _ z h.1)
-  body_grows l from (bodies.TrimmedHere n k) h = t l k h
+  body_grows l from (bodies.TrimmedHere n k) h = (t l k h.0, o l _ h.1)
   body_grows l from (bodies.DigestAsk n) h = (h.0, o l _ h.1)
   body_grows l from (bodies.DigestPage n upto k lng es) h = (record { entries = λ x i. e l _ _ _ (h.0.entries x i); trim = t l k h.0.trim; place = h.0.place; reached = o l _ h.0.reached; upto_place = h.0.upto_place; same_epoch = h.0.same_epoch }, h.1)
   body_grows l from (bodies.Clean k z) h = y l k z h

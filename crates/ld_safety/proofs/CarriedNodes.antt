@@ -140,7 +140,7 @@ module _ (E : ℕ → ℕ → ℕ → What → Type 0) (T : ℕ → ℕ → Type
   within_ok l g from last a e i = let f = In_filter _ e (values g.entries) i in let v = In_values e g.entries f.0 in (a.entries (v.0, e) v.1).1
 
   -- an answer to a refused message
-  refused_ok : (l generation s : ℕ) (y : ℕ) (d : Decision) (b : Body) → ((z : Summary) → d ≡ CleanAlready z → (0 < esn_of s) × Y l (epoch_of s) z) → ((t : ℕ) → d ≡ Trimmed t → T l t) → refusal generation s d ≡ Some b → carried.BodyOk E T Y O V W l (whos.Node y) b
+  refused_ok : (l generation s : ℕ) (y : ℕ) (d : Decision) (b : Body) → ((z : Summary) → d ≡ CleanAlready z → (0 < esn_of s) × Y l (epoch_of s) z) → ((t : ℕ) → d ≡ Trimmed t → T l t × O l (epoch_of s)) → refusal generation s d ≡ Some b → carried.BodyOk E T Y O V W l (whos.Node y) b
   refused_ok l generation s y (Lost end) b c t h = subst (carried.BodyOk E T Y O V W l (whos.Node y)) (Some_inj h) tt
   refused_ok l generation s y (CleanAlready z) b c t h = subst (carried.BodyOk E T Y O V W l (whos.Node y)) (Some_inj h) (c z refl)
   refused_ok l generation s y (Trimmed k) b c t h = subst (carried.BodyOk E T Y O V W l (whos.Node y)) (Some_inj h) (t k refl)
@@ -149,10 +149,10 @@ module _ (E : ℕ → ℕ → ℕ → What → Type 0) (T : ℕ → ℕ → Type
   refused_ok l generation s y Take b c t h = absurd cc
 
   stored_ok : (l generation s y : ℕ) (g : Log) (d : Decision) (b : Body) → carried.LogOk E T Y O V W l g → 0 < esn_of s → O l (epoch_of s) → ((z : Summary) → d ≡ CleanAlready z → Y l (epoch_of s) z) → ((t : ℕ) → d ≡ Trimmed t → T l t) → store_answer generation s d ≡ Some b → carried.BodyOk E T Y O V W l (whos.Node y) b
-  stored_ok l generation s y g (Lost end) b a p o c t h = refused_ok l generation s y (Lost end) b (λ z e. absurd cc) t h
-  stored_ok l generation s y g (CleanAlready z) b a p o c t h = refused_ok l generation s y (CleanAlready z) b (λ z e. (p, c z e)) t h
-  stored_ok l generation s y g (Trimmed k) b a p o c t h = refused_ok l generation s y (Trimmed k) b (λ z e. absurd cc) t h
-  stored_ok l generation s y g (Sealed k) b a p o c t h = refused_ok l generation s y (Sealed k) b (λ z e. absurd cc) t h
+  stored_ok l generation s y g (Lost end) b a p o c t h = refused_ok l generation s y (Lost end) b (λ z e. absurd cc) (λ k e. (t k e, o)) h
+  stored_ok l generation s y g (CleanAlready z) b a p o c t h = refused_ok l generation s y (CleanAlready z) b (λ z e. (p, c z e)) (λ k e. (t k e, o)) h
+  stored_ok l generation s y g (Trimmed k) b a p o c t h = refused_ok l generation s y (Trimmed k) b (λ z e. absurd cc) (λ j e. (t j e, o)) h
+  stored_ok l generation s y g (Sealed k) b a p o c t h = refused_ok l generation s y (Sealed k) b (λ z e. absurd cc) (λ j e. (t j e, o)) h
   stored_ok l generation s y g Same b a p o c t h = subst (carried.BodyOk E T Y O V W l (whos.Node y)) (Some_inj h) o
   stored_ok l generation s y g Take b a p o c t h = subst (carried.BodyOk E T Y O V W l (whos.Node y)) (Some_inj h) o
 
@@ -171,10 +171,10 @@ module _ (E : ℕ → ℕ → ℕ → What → Type 0) (T : ℕ → ℕ → Type
   )
 
   told_ok : (l generation from y : ℕ) (g : Log) (d : Decision) (b : Body) → carried.LogOk E T Y O V W l g → 0 < esn_of from → O l (epoch_of from) → ((z : Summary) → d ≡ CleanAlready z → Y l (epoch_of from) z) → ((t : ℕ) → d ≡ Trimmed t → T l t) → digest_answer generation g from d ≡ Some b → carried.BodyOk E T Y O V W l (whos.Node y) b
-  told_ok l generation from y g (Lost end) b a p o c t h = refused_ok l generation from y (Lost end) b (λ z e. absurd cc) t h
-  told_ok l generation from y g (CleanAlready z) b a p o c t h = refused_ok l generation from y (CleanAlready z) b (λ z e. (p, c z e)) t h
-  told_ok l generation from y g (Trimmed k) b a p o c t h = refused_ok l generation from y (Trimmed k) b (λ z e. absurd cc) t h
-  told_ok l generation from y g (Sealed k) b a p o c t h = refused_ok l generation from y (Sealed k) b (λ z e. absurd cc) t h
+  told_ok l generation from y g (Lost end) b a p o c t h = refused_ok l generation from y (Lost end) b (λ z e. absurd cc) (λ j e. (t j e, o)) h
+  told_ok l generation from y g (CleanAlready z) b a p o c t h = refused_ok l generation from y (CleanAlready z) b (λ z e. (p, c z e)) (λ j e. (t j e, o)) h
+  told_ok l generation from y g (Trimmed k) b a p o c t h = refused_ok l generation from y (Trimmed k) b (λ z e. absurd cc) (λ j e. (t j e, o)) h
+  told_ok l generation from y g (Sealed k) b a p o c t h = refused_ok l generation from y (Sealed k) b (λ z e. absurd cc) (λ j e. (t j e, o)) h
   told_ok l generation from y g Same b a p o c t h = subst (carried.BodyOk E T Y O V W l (whos.Node y)) (Some_inj h) (page_ok l from y g a p o)
   told_ok l generation from y g Take b a p o c t h = subst (carried.BodyOk E T Y O V W l (whos.Node y)) (Some_inj h) (page_ok l from y g a p o)
 

@@ -1,6 +1,6 @@
 -- After each event the digests of all recoveries have what their pages showed, and each plan was made from such a digest.
 use Rattle.std.proofs.Common.{◌≡◌, ◌∙◌, ◌≤◌, ◌<◌, ℕ, ◌+◌, inl, inr, refl, ap, sym, subst, Bool, true, false, ◌&&◌, ◌==◌, nat_lt, List, [], ◌++◌, Option, Some, None, arith}
-use Rattle.ld_safety.proofs.Senders.{StoredFrom}
+use Rattle.ld_safety.proofs.Senders.{AnswersFrom}
 use Rattle.ld_safety.proofs.Votes.{in_of}
 use Rattle.ld_safety.proofs.Storings.{storing_later, summarized_later, ReplyFine}
 use Rattle.std.proofs.lemmas.Bool.{and_parts, eqb-true}
@@ -35,7 +35,7 @@ use Rattle.ld_safety.proofs.Events.{Cases, Live, refreshed}
 use Rattle.ld_safety.proofs.RegisterSteps.{Advanced, activate_granted, epochs_put, epochs_same}
 use Rattle.ld_safety.proofs.SequencerSteps.{same_sender, replied, retried}
 use Rattle.ld_safety.proofs.Numbers.{Epochs_once}
-use Rattle.ld_safety.proofs.Protocol.{plan_of, Says, StoredBy, PlansOnce, same_message, stored_told}
+use Rattle.ld_safety.proofs.Protocol.{plan_of, Says, StoredBy, PlansOnce, same_message, stored_told, stored_settles}
 use Rattle.ld_safety.proofs.Said.{Open, Reached, Said, AllSaid}
 use Rattle.ld_safety.proofs.Settled.{TrimFine, CloseFine, ShowFine, ReleaseFine, close_low, Acknowledged}
 use Rattle.ld_safety.proofs.Sent.{ShowsAll, PagesBounded}
@@ -95,7 +95,7 @@ node_from E T Y O V W (whos.Reader n) h = absurd h
 -- ---- every event ----
 module _ (c : Config) (s : State) (e : Event) (hs : List Happened) (made : List Made) (S : AllSaid c hs made s.register s) (X : Epochs_once s.sequencers s.register)
     (A : ShowsAll made s.network.sent) (B : PagesBounded s.network.sent) (M : MadeBelow made s.register) (D : AllFine c hs s.network.sent made s.register s.sequencers)
-    (V : StoredFrom c s.network.sent) where
+    (V : AnswersFrom c s.network.sent) where
   sent : List Msg
   sent = s.network.sent
 
@@ -158,11 +158,12 @@ module _ (c : Config) (s : State) (e : Event) (hs : List Happened) (made : List 
 
     pub reply : (m : Msg) → In m s.network.sent → m.to ≡ whos.Sequencer q.epoch → m.log ≡ q.log → (k : Register) → Up s.register k → ReplyFine c hs s.network.sent k q.log q.epoch (Step.sender_node m.from) m.body
     reply m i t g k u = record {
-      stored = λ n h. (let w = same_message m q.log (Step.sender_node m.from) q.epoch (bodies.Stored n) (V m n q.epoch i h t).0 t g h in let j : StoredBy s.network.sent q.log (Step.sender_node m.from) n q.epoch = subst (λ x. In x s.network.sent) w i in
-          (in_of _ _ (subst (λ l. is_in (Step.sender_node m.from) (set_of c l) ≡ true) g (V m n q.epoch i h t).1), stored_told s.network.sent q.log n q.epoch (Step.sender_node m.from) j));
+      stored = λ n h. (let w = same_message m q.log (Step.sender_node m.from) q.epoch (bodies.Stored n) (V m q.epoch i t).0 t g h in let j : StoredBy s.network.sent q.log (Step.sender_node m.from) n q.epoch = subst (λ x. In x s.network.sent) w i in
+          (in_of _ _ (subst (λ l. is_in (Step.sender_node m.from) (set_of c l) ≡ true) g (V m q.epoch i t).1), stored_told s.network.sent q.log n q.epoch (Step.sender_node m.from) j, stored_settles s.network.sent q.log n q.epoch (Step.sender_node m.from) j));
+      told_trim = λ n x h. (in_of _ _ (subst (λ l. is_in (Step.sender_node m.from) (set_of c l) ≡ true) g (V m q.epoch i t).1), subst (λ y. In y s.network.sent) (same_message m q.log (Step.sender_node m.from) q.epoch (bodies.TrimmedHere n x) (V m q.epoch i t).0 t g h) i);
       trimmed = λ n x h. (let z : carried.BodyOk (Said hs made s.register) (TrimFine c hs s.network.sent s.register) (CloseFine c hs made s.network.sent s.register) (Reached s.register) (ShowFine c hs made s.network.sent s.register) (ReleaseFine c hs s.network.sent s.register) m.log m.from (bodies.TrimmedHere n x)
           = subst (carried.BodyOk (Said hs made s.register) (TrimFine c hs s.network.sent s.register) (CloseFine c hs made s.network.sent s.register) (Reached s.register) (ShowFine c hs made s.network.sent s.register) (ReleaseFine c hs s.network.sent s.register) m.log m.from) h (S.sent m i) in
-          λ p a b o. let y = (u q.log).1 in subst (λ l. Acknowledged c hs s.network.sent l p) g (z p a b (subst (λ l. Open s.register l (epoch_of p)) (sym g) (omega arith))));
+          λ p a b o. let y = (u q.log).1 in subst (λ l. Acknowledged c hs s.network.sent l p) g (z.0 p a b (subst (λ l. Open s.register l (epoch_of p)) (sym g) (omega arith))));
     }
 
     heard : (f : List ℕ) (m : Msg) → In m s.network.sent → m.to ≡ whos.Sequencer q.epoch → m.log ≡ q.log → Result (Step.acted c (refreshed s f) name q (on_reply (spec_in q.log c.logs) q (Step.sender_node m.from) m.body)) (made_by c (Some (name, q)) (Step.sender_node m.from) m.body)

@@ -93,7 +93,7 @@ module _ (made more : List worlds.Made) (sent : List Msg) where
   pub ends_later : (l lo hi n : ℕ) → Ends made l lo hi n → Ends (more ++ made) l lo hi n
   ends_later l lo hi n e = record { ballot = e.ballot; digest = e.digest; planned = In_right _ more made e.planned; above = e.above; below = e.below; before = e.before }
 
-  kept_later : (g : Log) (l n b : ℕ) → KeptBy made g l n b → KeptBy (more ++ made) g l n b
+  pub kept_later : (g : Log) (l n b : ℕ) → KeptBy made g l n b → KeptBy (more ++ made) g l n b
   kept_later g l n b (inl h) = inl h
   kept_later g l n b (inr (inl h)) = inr (inl h)
   kept_later g l n b (inr (inr h)) = inr (inr (ends_later l b (g.sealed + 1) n h))
@@ -113,7 +113,7 @@ module _ (made more : List worlds.Made) (sent : List Msg) where
   node_later y x h = (holding_later y x.plain h.0, cut_later y x.cut h.1)
 
 -- ---- an epoch that a tick passed is clean ----
-gap_in : (e k : ℕ) (ss : List (ℕ × Summary)) → e ≤ k → k < gap_from e ss → (y : Summary) × In (k, y) ss
+pub gap_in : (e k : ℕ) (ss : List (ℕ × Summary)) → e ≤ k → k < gap_from e ss → (y : Summary) × In (k, y) ss
 gap_in e k [] a b = absurd (omega arith)
 gap_in e k (s ∷ ss) a b = by_key (s.0 == e) refl b (gap_in (e + 1) k ss) where
   by_key : (t : Bool) → (s.0 == e) ≡ t → k < (if t then gap_from (e + 1) ss else e) → (e + 1 ≤ k → k < gap_from (e + 1) ss → (y : Summary) × In (k, y) ss) → (y : Summary) × In (k, y) (s ∷ ss)
@@ -125,7 +125,7 @@ gap_in e k (s ∷ ss) a b = by_key (s.0 == e) refl b (gap_in (e + 1) k ss) where
   ]
 
 -- a summary that is there is found
-found_there : (k : ℕ) (ss : List (ℕ × Summary)) (y : Summary) → In (k, y) ss → (z : Summary) × (find k ss ≡ Some z)
+pub found_there : (k : ℕ) (ss : List (ℕ × Summary)) (y : Summary) → In (k, y) ss → (z : Summary) × (find k ss ≡ Some z)
 unfolding find
 found_there k [] y i = absurd i
 found_there k (s ∷ ss) y i = by_key (is_at (nat_cmp k) s.0) refl i (found_there k ss y) where

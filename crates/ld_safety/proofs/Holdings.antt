@@ -46,7 +46,7 @@ pub record LogFine (g : Log) : Type 0 where
   pub bounded : (q : ℕ × Entry) → In q g.entries → Served g (epoch_of q.0) → q.1.ballot ≤ g.sealed
 
 -- an entry stays, is replaced, or is taken away by a bridge below it
-entry_stays : (e : Entry) (w : What) (m : List (ℕ × Entry)) (q : ℕ) (f : Entry) → find q m ≡ Some f →
+pub entry_stays : (e : Entry) (w : What) (m : List (ℕ × Entry)) (q : ℕ) (f : Entry) → find q m ≡ Some f →
     (find q (accept_entry e w m) ≡ Some f) ⊎ ((q ≡ e.number) ⊎ ((w ≡ Bridge) × (survives_bridge e f ≡ false)))
 entry_stays e (Rec p) m q f h = grind (arith, table_rules)
 entry_stays e Hole m q f h = grind (arith, table_rules)
@@ -68,7 +68,7 @@ module _ (made : List Made) (sent : List Msg) where
   stays : (l : ℕ) (g : Log) → LogFine g → Moves l g g
   stays l g F = record { fine = F; gone_stays = λ e h. h; sealed = omega arith; keeps = λ n b s k. inr k }
 
-  wider : (l lo hi ho n : ℕ) → hi ≤ ho → Ends made l lo hi n → Ends made l lo ho n
+  pub wider : (l lo hi ho n : ℕ) → hi ≤ ho → Ends made l lo hi n → Ends made l lo ho n
   wider l lo hi ho n h e = record { ballot = e.ballot; digest = e.digest; planned = e.planned; above = e.above; below = let z = e.below in omega arith; before = e.before }
 
   -- ---- a log that moves moves its node ----
@@ -119,7 +119,7 @@ module _ (made : List Made) (sent : List Msg) where
   accept_rising e Bridge m h = Rising-put e.number e _ (Rising-keep _ m h)
 
   -- a bridge that takes an entry away is one of a later plan's ends
-  cut_off : (l : ℕ) (g : Log) (e f : Entry) (n b : ℕ) → LogFine g → Taking l g e → find n g.entries ≡ Some f → b ≤ f.ballot → e.what ≡ Bridge → survives_bridge e f ≡ false → Ends made l b (e.ballot + 1) n
+  pub cut_off : (l : ℕ) (g : Log) (e f : Entry) (n b : ℕ) → LogFine g → Taking l g e → find n g.entries ≡ Some f → b ≤ f.ballot → e.what ≡ Bridge → survives_bridge e f ≡ false → Ends made l b (e.ballot + 1) n
   cut_off l g e f n b F T h bf w s =
       let num : f.number ≡ n = F.numbers (n, f) (find_in n g.entries f h) in
       let p = or_parts (nat_le f.number e.number) (not (epoch_of f.number == epoch_of e.number) || nat_le e.ballot f.ballot) s in
@@ -233,7 +233,7 @@ module _ (made : List Made) (sent : List Msg) where
     clean_gone e (inl h) = inl h
     clean_gone e (inr h) = elim (put_summary g (cleaned g k y) k e y refl) [ inl q ↦ inr q.1 | inr q ↦ inr (h.0, q.1 ∙ h.1) ]
 
-  refill_same : (n : ℕ) (es : List Entry) (m : List (ℕ × Entry)) → ((e : Entry) → In e es → n ≡ e.number → ⊥) → find n (refill_entries es m) ≡ find n m
+  pub refill_same : (n : ℕ) (es : List Entry) (m : List (ℕ × Entry)) → ((e : Entry) → In e es → n ≡ e.number → ⊥) → find n (refill_entries es m) ≡ find n m
   refill_same n [] m h = refl
   refill_same n (e ∷ es) m h = refill_same n es (put e.number e m) (λ x i. h x (inr i)) ∙ find-put_other n e.number e m (h e (inl refl))
 
@@ -298,7 +298,7 @@ module _ (made : List Made) (sent : List Msg) where
     by_key false q true u f ih = ih f p
     by_key false q false u f ih = ap (λ b. cond b (Some (lost_log e.1.epoch)) (find l (lost_logs (epochs_in es)))) q ∙ ih f p
 
-  lost_now : (k : Register) (l e : ℕ) → Reached k l e → is_lost (unwrap_or (find l (lost_logs (epochs_in k.logs))) empty_log) e ≡ true
+  pub lost_now : (k : Register) (l e : ℕ) → Reached k l e → is_lost (unwrap_or (find l (lost_logs (epochs_in k.logs))) empty_log) e ≡ true
   lost_now k l e q = by_find (find l k.logs) refl where
     by_find : (o : Option Epochs) → find l k.logs ≡ o → is_lost (unwrap_or (find l (lost_logs (epochs_in k.logs))) empty_log) e ≡ true
     by_find None f = absurd (let z : (epochs_of k l).epoch ≡ 0 = ap (λ o. (unwrap_or o no_epochs).epoch) f in let a = q.0 in let b = q.1 in omega arith)

@@ -52,10 +52,15 @@ pub mod Digests
 pub mod Digesting
 pub mod DigestKept
 pub mod Plannings
+pub mod Copies
+pub mod CopiesKept
 pub mod Shown
 pub mod Along
+pub mod AlongSteps
 pub mod Agreed
 pub mod ItemFacts
 pub mod ItemsShown
 pub mod Told
 pub mod Unhidden
+pub mod CopiesStand
+pub mod Retained

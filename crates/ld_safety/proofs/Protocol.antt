@@ -1,5 +1,5 @@
 -- What ballots say of numbers, who stored what, and what a digest must be for recoveries to agree.
-use Rattle.std.proofs.Common.{refl, ◌≡◌, ◌∙◌, ◌⊎◌, ◌≤◌, ◌<◌, ℕ, ◌+◌, inl, inr, ap, sym, subst, Bool, true, not, ◌&&◌, ◌==◌, List, map, length, Some, arith, eq-eqb}
+use Rattle.std.proofs.Common.{refl, ◌≡◌, ◌∙◌, ◌⊎◌, ◌≤◌, ◌<◌, ℕ, ◌+◌, inl, inr, ap, sym, subst, Bool, true, not, ◌&&◌, ◌==◌, List, map, length, Some, arith, eq-eqb, le-leb, nat_le, leb-true}
 use Rattle.std.proofs.lemmas.Bool.{and_parts, eqb-true, and_from}
 use Rattle.ld_table.specs.Words.{how_many, any_of}
 use Rattle.ld_lsn.specs.Number.{epoch_of, esn_of}
@@ -15,7 +15,7 @@ use Rattle.ld_msg.specs.declared.msg.Body.{Body}
 use Rattle.ld_msg.specs.declared.msg.Body.TheVariants as bodies
 use Rattle.ld_msg.specs.Digest.{Told, plan_item, plan_end}
 use Rattle.ld_machine.specs.Facts.{Happened}
-use Rattle.ld_machine.specs.World.{Made, In, from_node, told_by, says_stored, is_node, is_sequencer}
+use Rattle.ld_machine.specs.World.{Made, In, from_node, told_by, says_stored, is_node, is_sequencer, says_settled}
 use Rattle.ld_safety.proofs.Lists.{any_in, any_from}
 use Rattle.ld_safety.proofs.Given.{AppendedBy, Place}
 
@@ -91,6 +91,43 @@ told_stored sent l n b y h =
 
 pub stored_told : (sent : List Msg) (l n b y : ℕ) → StoredBy sent l y n b → tells_stored sent l n b y ≡ true
 stored_told sent l n b y i = any_from (told_by (says_stored n) l y b) (from_node l y b (bodies.Stored n)) sent i (and_from _ _ (and_from _ _ (eq-eqb l l refl) (eq-eqb n n refl)) (and_from _ _ (eq-eqb y y refl) (eq-eqb b b refl)))
+
+-- ---- who settled what ----
+
+-- the node stored the number for the ballot, or is trimmed at or above it
+abbrev pub tells_settled : List Msg → ℕ → ℕ → ℕ → ℕ → Bool
+tells_settled sent l n b y = any_of (told_by (says_settled n) l y b) sent
+
+pub stored_settles : (sent : List Msg) (l n b y : ℕ) → StoredBy sent l y n b → tells_settled sent l n b y ≡ true
+stored_settles sent l n b y i = any_from (told_by (says_settled n) l y b) (from_node l y b (bodies.Stored n)) sent i (and_from _ _ (and_from _ _ (eq-eqb l l refl) (eq-eqb n n refl)) (and_from _ _ (eq-eqb y y refl) (eq-eqb b b refl)))
+
+pub trimmed_settles : (sent : List Msg) (l n b y s t : ℕ) → In (from_node l y b (bodies.TrimmedHere s t)) sent → epoch_of s ≡ epoch_of n → n ≤ t → tells_settled sent l n b y ≡ true
+trimmed_settles sent l n b y s t i e h = any_from (told_by (says_settled n) l y b) (from_node l y b (bodies.TrimmedHere s t)) sent i
+    (and_from _ _ (and_from _ _ (eq-eqb l l refl) (and_from _ _ (eq-eqb (epoch_of s) (epoch_of n) e) (le-leb n t h))) (and_from _ _ (eq-eqb y y refl) (eq-eqb b b refl)))
+
+-- how a node settled a number
+pub record TrimmedBy (sent : List Msg) (l y n b : ℕ) : Type 0 where
+  pub asked : ℕ
+  pub trim : ℕ
+  pub epoch : epoch_of asked ≡ epoch_of n
+  pub covers : n ≤ trim
+  pub told_so : In (from_node l y b (bodies.TrimmedHere asked trim)) sent
+
+settled_body : (n : ℕ) (b : Body) → says_settled n b ≡ true → (b ≡ bodies.Stored n) ⊎ ((s t : ℕ) × (b ≡ bodies.TrimmedHere s t) × (epoch_of s ≡ epoch_of n) × (n ≤ t))
+settled_body n (bodies.Stored s) h = inl (ap bodies.Stored (eqb-true s n h))
+settled_body n (bodies.TrimmedHere s t) h = let p = and_parts (epoch_of s == epoch_of n) (nat_le n t) h in inr (s, t, refl, eqb-true _ _ p.0, leb-true _ _ p.1)
+settled_body n _ h = absurd cc
+
+pub told_settled : (sent : List Msg) (l n b y : ℕ) → tells_settled sent l n b y ≡ true → StoredBy sent l y n b ⊎ TrimmedBy sent l y n b
+told_settled sent l n b y h =
+    let m = any_in (told_by (says_settled n) l y b) sent h in
+    let p = and_parts ((m.0.log == l) && says_settled n m.0.body) (is_node y m.0.from && is_sequencer b m.0.to) m.2 in
+    let q = and_parts (m.0.log == l) (says_settled n m.0.body) p.0 in
+    let r = and_parts (is_node y m.0.from) (is_sequencer b m.0.to) p.1 in
+    elim (settled_body n m.0.body q.1) [
+      | inl z ↦ inl (subst (λ x. In x sent) (same_message m.0 l y b (bodies.Stored n) (node_who y m.0.from r.0) (sequencer_who b m.0.to r.1) (eqb-true _ _ q.0) z) m.1)
+      | inr z ↦ inr (record { asked = z.0; trim = z.1; epoch = z.3; covers = z.4; told_so = subst (λ x. In x sent) (same_message m.0 l y b (bodies.TrimmedHere z.0 z.1) (node_who y m.0.from r.0) (sequencer_who b m.0.to r.1) (eqb-true _ _ q.0) z.2) m.1 })
+    ]
 
 -- as many nodes of the log as it has copies stored the number for the ballot
 abbrev pub Chosen : Spec → List Msg → ℕ → ℕ → ℕ → Type 0

@@ -1,4 +1,4 @@
--- Answers of a store come from nodes that keep the log.
+-- Answers to sequencers come from nodes that keep the log.
 use Rattle.std.proofs.Common.{◌≡◌, ℕ, inl, inr, refl, sym, ap, subst, true, cond, List, [], Option, Some, None}
 use Rattle.ld_table.specs.Words.{is_in}
 use Rattle.ld_config.specs.declared.config.Config.{Config}
@@ -7,7 +7,6 @@ use Rattle.ld_msg.specs.declared.msg.Who.{Who}
 use Rattle.ld_msg.specs.declared.msg.Who.TheVariants as whos
 use Rattle.ld_msg.specs.declared.msg.Msg.{Msg}
 use Rattle.ld_msg.specs.declared.msg.Body.{Body}
-use Rattle.ld_msg.specs.declared.msg.Body.TheVariants as bodies
 use Rattle.ld_op.specs.declared.op.Op.{Op}
 use Rattle.ld_op.specs.Handles.{answer_message}
 use Rattle.ld_op.specs.Ticks.{Ticked, Cleans, Rebuilt, Asks, Nothing}
@@ -19,28 +18,28 @@ use Rattle.ld_machine.specs.Step as Step
 use Rattle.ld_safety.proofs.Events.{Cases, Serves, refreshed}
 use Rattle.ld_safety.proofs.Sent.{to_nodes}
 
-abbrev pub StoredFrom : Config → List Msg → Type 0
-StoredFrom c ms = (m : Msg) (n b : ℕ) → In m ms → m.body ≡ bodies.Stored n → m.to ≡ whos.Sequencer b → (m.from ≡ whos.Node (Step.sender_node m.from)) × (is_in (Step.sender_node m.from) (set_of c m.log) ≡ true)
+abbrev pub AnswersFrom : Config → List Msg → Type 0
+AnswersFrom c ms = (m : Msg) (b : ℕ) → In m ms → m.to ≡ whos.Sequencer b → (m.from ≡ whos.Node (Step.sender_node m.from)) × (is_in (Step.sender_node m.from) (set_of c m.log) ≡ true)
 
-none_from : (c : Config) → StoredFrom c []
-none_from c m n b i h t = absurd i
+none_from : (c : Config) → AnswersFrom c []
+none_from c m b i t = absurd i
 
-posted_from : (c : Config) (who : Who) (l : ℕ) (bs : List (ℕ × Body)) → StoredFrom c (posted who l bs)
-posted_from c who l bs m n b i h t = absurd (to_nodes who l bs m b i t)
+posted_from : (c : Config) (who : Who) (l : ℕ) (bs : List (ℕ × Body)) → AnswersFrom c (posted who l bs)
+posted_from c who l bs m b i t = absurd (to_nodes who l bs m b i t)
 
-answer_from : (c : Config) (n : ℕ) (m : Msg) (o : Option Body) → is_in n (set_of c m.log) ≡ true → StoredFrom c (answer_message n m o)
-answer_from c n m None k x s b i h t = absurd i
-answer_from c n m (Some z) k x s b (inl e) h t = let f : x.from ≡ whos.Node n = ap (λ (y : Msg). y.from) e in
+answer_from : (c : Config) (n : ℕ) (m : Msg) (o : Option Body) → is_in n (set_of c m.log) ≡ true → AnswersFrom c (answer_message n m o)
+answer_from c n m None k x b i t = absurd i
+answer_from c n m (Some z) k x b (inl e) t = let f : x.from ≡ whos.Node n = ap (λ (y : Msg). y.from) e in
     subst (λ w. (w ≡ whos.Node (Step.sender_node w)) × (is_in (Step.sender_node w) (set_of c x.log) ≡ true)) (sym f) (refl, subst (λ l. is_in n (set_of c l) ≡ true) (sym (ap (λ (y : Msg). y.log) e)) k)
-answer_from c n m (Some z) k x s b (inr i) h t = absurd i
+answer_from c n m (Some z) k x b (inr i) t = absurd i
 
-if_written : (c : Config) (k : Kept) (ms : List Msg) → StoredFrom c ms → StoredFrom c (cond (Step.is_written k) ms [])
+if_written : (c : Config) (k : Kept) (ms : List Msg) → AnswersFrom c ms → AnswersFrom c (cond (Step.is_written k) ms [])
 if_written c Written ms h = h
 if_written c DiskFailed ms h = none_from c
 if_written c Crashed ms h = none_from c
 if_written c JournalFull ms h = none_from c
 
-pub sender_cases : (c : Config) (s : State) (e : Event) → Cases c s e (λ d m. StoredFrom c d.sends)
+pub sender_cases : (c : Config) (s : State) (e : Event) → Cases c s e (λ d m. AnswersFrom c d.sends)
 sender_cases c s e = record {
   still = λ f i. none_from c;
   says = λ x q. none_from c;
@@ -64,11 +63,11 @@ sender_cases c s e = record {
   polls = λ name d v o. posted_from c (whos.Reader d.number) d.log _;
   opens = λ name l from until o x. none_from c;
 } where
-  handled : (f : List ℕ) (n : ℕ) (m : Msg) (o : Option Op) (b : Option Body) → Serves c s n m.log → StoredFrom c (Step.handles (with_node (refreshed s f) n (Step.releases (node_at s n) m.log m.body)) n m o b).sends
+  handled : (f : List ℕ) (n : ℕ) (m : Msg) (o : Option Op) (b : Option Body) → Serves c s n m.log → AnswersFrom c (Step.handles (with_node (refreshed s f) n (Step.releases (node_at s n) m.log m.body)) n m o b).sends
   handled f n m None b v = answer_from c n m b v.keeps
   handled f n m (Some o) b v = if_written c _ (answer_message n m b) (answer_from c n m b v.keeps)
 
-  ticked : (n l : ℕ) (t : Ticked) → StoredFrom c (Step.ticks_as c s n l t).sends
+  ticked : (n l : ℕ) (t : Ticked) → AnswersFrom c (Step.ticks_as c s n l t).sends
   ticked n l (Cleans k y) = if_written c _ [] (none_from c)
   ticked n l Rebuilt = if_written c _ [] (none_from c)
   ticked n l (Asks from) = posted_from c (whos.Node n) l _

@@ -140,6 +140,7 @@ page_in p generation l ballot f from upto t lng es F pos h = ask_decided (log_of
 abbrev is_told : Body → Bool
 is_told (bodies.Stored n) = true
 is_told (bodies.DigestPage from upto t lng es) = true
+is_told (bodies.TrimmedHere n t) = true
 is_told _ = false
 
 read_untold : (generation : ℕ) (g : Log) (released round from : ℕ) → is_told (read_answer generation g released round from) ≡ false
@@ -149,17 +150,10 @@ read_untold generation g released round from = read_answered generation g releas
 pub record Answered (p : Plain) (l b : ℕ) (x : Body) : Type 0 where
   pub stored : (n : ℕ) → x ≡ bodies.Stored n → StoredIn p l n b
   pub page : (from upto t lng : ℕ) (es : List Entry) → x ≡ bodies.DigestPage from upto t lng es → PageIn p l b from upto t es
+  pub trimmed : (n t : ℕ) → x ≡ bodies.TrimmedHere n t → t ≤ (log_of p l).trim
 
 untold : (p : Plain) (l b : ℕ) (x : Body) → is_told x ≡ false → Answered p l b x
-untold p l b x h = record { stored = λ n q. absurd (let z = ap is_told q in cc); page = λ from upto t lng es q. absurd (let z = ap is_told q in cc) }
-
-refused_untold : (generation s : ℕ) (d : Decision) (x : Body) → refusal generation s d ≡ Some x → is_told x ≡ false
-refused_untold generation s (Lost end) x h = subst (λ b. is_told b ≡ false) (Some_inj h) refl
-refused_untold generation s (CleanAlready y) x h = subst (λ b. is_told b ≡ false) (Some_inj h) refl
-refused_untold generation s (Trimmed t) x h = subst (λ b. is_told b ≡ false) (Some_inj h) refl
-refused_untold generation s (Sealed b) x h = subst (λ b. is_told b ≡ false) (Some_inj h) refl
-refused_untold generation s Same x h = absurd cc
-refused_untold generation s Take x h = absurd cc
+untold p l b x h = record { stored = λ n q. absurd (let z = ap is_told q in cc); page = λ from upto t lng es q. absurd (let z = ap is_told q in cc); trimmed = λ n t q. absurd (let z = ap is_told q in cc) }
 
 no_page_stored : (generation s : ℕ) (d : Decision) (from upto t lng : ℕ) (es : List Entry) → store_answer generation s d ≡ Some (bodies.DigestPage from upto t lng es) → ⊥
 no_page_stored generation s (Lost end) from upto t lng es h = cc
@@ -181,16 +175,31 @@ no_answer : (g : Log) (l : ℕ) (b x : Body) → (on_page g l b).answer ≡ Some
 unfolding on_page
 no_answer g l b x q = cc
 
+trim_told : (p : Plain) (generation l lng n t : ℕ) (e : Entry) → store_answer generation e.number (store_decision (log_of p l) e) ≡ Some (bodies.TrimmedHere n t) → t ≤ (log_of (after p (taken (ops.Accept l lng e) (store_decision (log_of p l) e))) l).trim
+trim_told p generation l lng n t e h = store_decided (log_of p l) e (λ d. store_answer generation e.number d ≡ Some (bodies.TrimmedHere n t) → t ≤ (log_of (after p (taken (ops.Accept l lng e) d)) l).trim) (record {
+  lost = λ t q. absurd cc;
+  clean = λ y t k q. absurd cc;
+  trimmed = λ s k q. (let z : (log_of p l).trim ≡ t = cc in omega arith);
+  sealed = λ s a k q. absurd cc;
+  same = λ s a b k q. absurd cc;
+  takes = λ s a b q. absurd cc;
+}) h
+
+no_trim_page : (generation : ℕ) (g : Log) (ballot s n t : ℕ) → digest_answer generation g s (digest_decision g ballot s) ≡ Some (bodies.TrimmedHere n t) → ⊥
+no_trim_page generation g ballot s n t h = ask_decided g ballot s (λ d. digest_answer generation g s d ≡ Some (bodies.TrimmedHere n t) → ⊥) (record { lost = λ t q. cc; clean = λ y t k q. cc; sealed = λ s k q. cc; same = λ s k q. cc; takes = λ s k q. cc }) h
+
 pub answered_in : (p : Plain) (generation l ballot released : ℕ) (b x : Body) → LogFine (log_of p l) → ((from : ℕ) → b ≡ bodies.DigestAsk from → 0 < esn_of from)
     → (handled_by generation (log_of p l) l ballot released b).answer ≡ Some x → Answered (after p (handled_by generation (log_of p l) l ballot released b).op) l ballot x
 unfolding on_store on_digest_ask on_clean on_trim
 answered_in p generation l ballot released (bodies.Store n lng w) x F K h = let e : Entry = record { number = n; ballot = ballot; what = w } in record {
   stored = λ k q. store_in p generation l lng k e (h ∙ ap Some q);
   page = λ from upto t k es q. absurd (no_page_stored generation n (store_decision (log_of p l) e) from upto t k es (h ∙ ap Some q));
+  trimmed = λ k t q. trim_told p generation l lng k t e (h ∙ ap Some q);
 }
 answered_in p generation l ballot released (bodies.DigestAsk from) x F K h = record {
   stored = λ k q. absurd (no_stored_page generation (log_of p l) from (digest_decision (log_of p l) ballot from) k (h ∙ ap Some q));
   page = λ a upto t k es q. page_in p generation l ballot from a upto t k es F (K from refl) (h ∙ ap Some q);
+  trimmed = λ k t q. absurd (no_trim_page generation (log_of p l) ballot from k t (h ∙ ap Some q));
 }
 answered_in p generation l ballot released (bodies.Clean e y) x F K h = absurd cc
 answered_in p generation l ballot released (bodies.Trim t) x F K h = absurd cc

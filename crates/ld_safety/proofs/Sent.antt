@@ -48,6 +48,7 @@ pub record Allowed (x : Node) : Type 0 where
 pub record SendsFine (t : State) (ms : List Msg) : Type 0 where
   pub stored : (l y n b : ℕ) → In (from_node l y b (bodies.Stored n)) ms → Allowed (node_at t y) × StoredIn (node_at t y).plain l n b
   pub pages : (l y b from upto trim lng : ℕ) (es : List Entry) → In (from_node l y b (bodies.DigestPage from upto trim lng es)) ms → Allowed (node_at t y) × PageIn (node_at t y).plain l b from upto trim es
+  pub trimmed : (l y n trim b : ℕ) → In (from_node l y b (bodies.TrimmedHere n trim)) ms → Allowed (node_at t y) × (trim ≤ (log_of (node_at t y).plain l).trim)
   pub alone : (l y n b m z a from upto trim lng : ℕ) (es : List Entry) → In (from_node l y b (bodies.Stored n)) ms → In (from_node m z a (bodies.DigestPage from upto trim lng es)) ms → ⊥
 
 -- messages to nodes are neither
@@ -60,11 +61,12 @@ posted_fine : (t : State) (who : Who) (l : ℕ) (bs : List (ℕ × Body)) → Se
 posted_fine t who l bs = record {
   stored = λ k y n b i. absurd (to_nodes who l bs _ b i refl);
   pages = λ k y b from upto trim lng es i. absurd (to_nodes who l bs _ b i refl);
+  trimmed = λ k y n trim b i. absurd (to_nodes who l bs _ b i refl);
   alone = λ k y n b m z a from upto trim lng es i j. to_nodes who l bs _ b i refl;
 }
 
 none_fine : (t : State) → SendsFine t []
-none_fine t = record { stored = λ l y n b i. absurd i; pages = λ l y b from upto trim lng es i. absurd i; alone = λ l y n b m z a from upto trim lng es i j. i }
+none_fine t = record { stored = λ l y n b i. absurd i; pages = λ l y b from upto trim lng es i. absurd i; trimmed = λ l y n trim b i. absurd i; alone = λ l y n b m z a from upto trim lng es i j. i }
 
 -- one answer of a node
 record Answer (n : ℕ) (m : Msg) (x : Body) (l y b : ℕ) (z : Body) : Type 0 where
@@ -83,6 +85,7 @@ answer_fine t n m x a h = record {
       subst (λ z. Allowed (node_at t z) × StoredIn (node_at t z).plain l k b) (sym q.node) (a, subst (λ z. StoredIn (node_at t n).plain z k b) (sym q.log) (subst (λ z. StoredIn (node_at t n).plain m.log k z) (ap ballot_of (sym q.to)) (h.stored k (sym q.body)))));
   pages = λ l y b from upto trim lng es i. (let q = answer_is n m x l y b (bodies.DigestPage from upto trim lng es) i in
       subst (λ z. Allowed (node_at t z) × PageIn (node_at t z).plain l b from upto trim es) (sym q.node) (a, subst (λ z. PageIn (node_at t n).plain z b from upto trim es) (sym q.log) (subst (λ z. PageIn (node_at t n).plain m.log z from upto trim es) (ap ballot_of (sym q.to)) (h.page from upto trim lng es (sym q.body)))));
+  trimmed = λ l y k trim b i. (let q = answer_is n m x l y b (bodies.TrimmedHere k trim) i in subst (λ z. Allowed (node_at t z) × (trim ≤ (log_of (node_at t z).plain l).trim)) (sym q.node) (a, subst (λ z. trim ≤ (log_of (node_at t n).plain z).trim) (sym q.log) (h.trimmed k trim (sym q.body))));
   alone = λ l y k b j z a from upto trim lng es i u. (let q = answer_is n m x l y b (bodies.Stored k) i in let v = answer_is n m x j z a (bodies.DigestPage from upto trim lng es) u in
       let e : bodies.Stored k ≡ bodies.DigestPage from upto trim lng es = q.body ∙ sym v.body in cc);
 }

@@ -1,5 +1,6 @@
 -- What is settled for good: acknowledged appends, trims, closed epochs, and what readers are shown of these.
 use Rattle.std.proofs.Common.{◌≡◌, ◌⊎◌, ◌≤◌, ◌<◌, ℕ, ◌+◌, inl, inr, Bool, true, false, List, ◌++◌, [], ◌∷◌, Some, arith}
+use Rattle.ld_table.specs.Words.{how_many}
 use Rattle.ld_table.specs.Table.{find}
 use Rattle.ld_lsn.specs.Number.{epoch_of, esn_of, last_esn}
 use Rattle.ld_ids.specs.declared.set.Spec.{Spec}
@@ -14,12 +15,12 @@ use Rattle.ld_msg.specs.Register.{Register, epochs_of, lce_of}
 use Rattle.ld_machine.specs.Config.{spec_in}
 use Rattle.ld_machine.specs.State.{Done}
 use Rattle.ld_machine.specs.Facts.{Happened}
-use Rattle.ld_machine.specs.World.{Made, In, told_by, says_stored}
+use Rattle.ld_machine.specs.World.{Made, In, told_by, says_stored, says_settled}
 use Rattle.ld_safety.proofs.Lists.{any_from, any_in, count_mono, In_right}
 use Rattle.ld_safety.proofs.Steps.{told}
 use Rattle.ld_safety.proofs.Registers.{Up}
 use Rattle.ld_safety.proofs.Given.{AppendedBy, appends_grows}
-use Rattle.ld_safety.proofs.Protocol.{plan_of, PlanSays, Chosen, tells_stored}
+use Rattle.ld_safety.proofs.Protocol.{plan_of, PlanSays, Chosen, tells_stored, tells_settled}
 
 abbrev pub Open : Register → ℕ → ℕ → Type 0
 Open r l e = lce_of r l < e
@@ -57,6 +58,7 @@ pub record Summarized (c : Config) (hs : List Happened) (made : List Made) (sent
   pub planned : In (plan_of l e y.ballot digest) made
   pub end : y.end ≡ plan_end e digest
   pub trim : y.trim ≡ digest_trim digest
+  pub copies : (n : ℕ) → epoch_of n ≡ e → trim_place e (digest_trim digest) < esn_of n → esn_of n < plan_end e digest → (spec_in l c.logs).r ≤ how_many (tells_settled sent l n y.ballot) (nodes_of (spec_in l c.logs))
   pub fixed : (n : ℕ) → epoch_of n ≡ e → trim_place e (digest_trim digest) < esn_of n → esn_of n < plan_end e digest → Fixed c hs sent l n y.ballot
 
 -- an epoch that is closed with this summary
@@ -90,6 +92,12 @@ Stays r k = (l e : ℕ) (y : Summary) → find e (epochs_of r l).summaries ≡ S
 pub tells_more : (sent after : List Msg) (into : (m : Msg) → In m sent → In m after) (l n b y : ℕ) → tells_stored sent l n b y ≡ true → tells_stored after l n b y ≡ true
 tells_more sent after into l n b y h = let a = any_in (told_by (says_stored n) l y b) sent h in any_from (told_by (says_stored n) l y b) a.0 after (into a.0 a.1) a.2
 
+pub settles_more : (sent after : List Msg) (into : (m : Msg) → In m sent → In m after) (l n b y : ℕ) → tells_settled sent l n b y ≡ true → tells_settled after l n b y ≡ true
+settles_more sent after into l n b y h = let a = any_in (told_by (says_settled n) l y b) sent h in any_from (told_by (says_settled n) l y b) a.0 after (into a.0 a.1) a.2
+
+pub copies_more : (s : Spec) (sent after : List Msg) (into : (m : Msg) → In m sent → In m after) (l n b : ℕ) → s.r ≤ how_many (tells_settled sent l n b) (nodes_of s) → s.r ≤ how_many (tells_settled after l n b) (nodes_of s)
+copies_more s sent after into l n b h = let z = count_mono (tells_settled sent l n b) (tells_settled after l n b) (nodes_of s) (λ y i t. settles_more sent after into l n b y t) in omega arith
+
 pub chosen_more : (s : Spec) (sent after : List Msg) (into : (m : Msg) → In m sent → In m after) (l n b : ℕ) → Chosen s sent l n b → Chosen s after l n b
 chosen_more s sent after into l n b h = let z = count_mono (tells_stored sent l n b) (tells_stored after l n b) (nodes_of s) (λ y i t. tells_more sent after into l n b y t) in omega arith
 
@@ -111,7 +119,7 @@ module _ (c : Config) (hs : List Happened) (e : Event) (d : Done) (made more : L
   fixed_grows l n b (inr h) = inr (chosen_more (spec_in l c.logs) sent after into l n b h)
 
   pub summarized_grows : (l x : ℕ) (y : Summary) → Summarized c hs made sent l x y → Summarized c (hs ++ told e d ∷ []) (more ++ made) after l x y
-  summarized_grows l x y h = record { lng = h.lng; digest = h.digest; planned = In_right _ more made h.planned; end = h.end; trim = h.trim; fixed = λ n a b o. fixed_grows l n y.ballot (h.fixed n a b o) }
+  summarized_grows l x y h = record { lng = h.lng; digest = h.digest; planned = In_right _ more made h.planned; end = h.end; trim = h.trim; copies = λ n a b o. copies_more (spec_in l c.logs) sent after into l n y.ballot (h.copies n a b o); fixed = λ n a b o. fixed_grows l n y.ballot (h.fixed n a b o) }
 
   pub closed_grows : (l x : ℕ) (y : Summary) → ClosedBy c hs made sent r l x y → ClosedBy c (hs ++ told e d ∷ []) (more ++ made) after k l x y
   closed_grows l x y h = record { found_so = s l x y h.found_so; positive = h.positive; low = let z = (u l).1 in let w = h.low in omega arith; plan = summarized_grows l x y h.plan }

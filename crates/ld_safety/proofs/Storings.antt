@@ -1,7 +1,7 @@
 -- A plan that is being stored: each of its items is settled by nodes that really stored it, or was acknowledged before; so where it is ready, it stands.
 use Rattle.std.proofs.Common.{◌≡◌, ◌∙◌, ◌⊎◌, ◌≤◌, ◌<◌, ℕ, inl, inr, refl, ap, sym, subst, Bool, true, nat_le, if◌then◌else◌, List, [], ◌∷◌, length, arith, ◌++◌}
 use Rattle.std.proofs.lemmas.Bool.{eqb-true, leb-true}
-use Rattle.ld_table.specs.Words.{with_one}
+use Rattle.ld_table.specs.Words.{with_one, how_many}
 use Rattle.ld_lsn.specs.Number.{epoch_of, esn_of, numbered, last_esn}
 use Rattle.ld_ids.specs.Choice.{nodes_of}
 use Rattle.ld_config.specs.declared.config.Config.{Config}
@@ -14,14 +14,14 @@ use Rattle.ld_msg.specs.Register.{Register}
 use Rattle.ld_msg.specs.Sequencer.{Planned, Storing, planned, storing_of, settle, settled_by, is_ready, summary_of}
 use Rattle.ld_machine.specs.Config.{spec_in}
 use Rattle.ld_machine.specs.Facts.{Happened}
-use Rattle.ld_machine.specs.World.{Made, In}
+use Rattle.ld_machine.specs.World.{Made, In, from_node}
 use Rattle.ld_safety.proofs.Registers.{Up}
 use Rattle.ld_safety.proofs.Lists.{all_in, cond_both, In_right}
 use Rattle.ld_safety.proofs.SequencerSteps.{Settling, by_stored_one, by_trimmed_to}
 use Rattle.ld_safety.proofs.Plans.{plan_items, plan_has}
-use Rattle.ld_safety.proofs.Protocol.{plan_of, tells_stored}
-use Rattle.ld_safety.proofs.Votes.{Voters, no_voters, one_more, voted}
-use Rattle.ld_safety.proofs.Settled.{Open, Acknowledged, TrimFine, Fixed, Summarized, tells_more, chosen_more}
+use Rattle.ld_safety.proofs.Protocol.{plan_of, tells_stored, tells_settled, trimmed_settles}
+use Rattle.ld_safety.proofs.Votes.{Voters, nobody, one_voter, counted_votes, Settlers}
+use Rattle.ld_safety.proofs.Settled.{Open, Acknowledged, TrimFine, Fixed, Summarized, tells_more, chosen_more, copies_more, settles_more}
 
 module _ (c : Config) (hs : List Happened) (sent : List Msg) where
   -- an item of an open epoch: acknowledged, or stored by those that settled it
@@ -31,6 +31,7 @@ module _ (c : Config) (hs : List Happened) (sent : List Msg) where
   pub record ItemFine (r : Register) (l e b : ℕ) (i : ℕ × Planned) : Type 0 where
     pub epoch : epoch_of i.0 ≡ e
     pub above : 0 < esn_of i.0
+    pub settlers : Settlers (spec_in l c.logs) sent l i.0 b i.1.settled
     pub settled : Open r l e → SettledBy l i.0 b i.1.settled
 
   pub record StoringFine (made : List Made) (r : Register) (l b e : ℕ) (g : Storing) : Type 0 where
@@ -62,7 +63,8 @@ module _ (c : Config) (hs : List Happened) (sent : List Msg) where
     items = λ i j. let q = planned_in (plan e d).items i j in let p = plan_items e d q.0 q.1 in let n : i.0 ≡ numbered e p.place = q.2 ∙ p.number in let a = p.above in let z = p.below in record {
       epoch = omega arith;
       above = omega arith;
-      settled = λ o. inr (subst (Voters (spec_in l c.logs) sent l i.0 b) (sym q.3) (no_voters (spec_in l c.logs) sent l i.0 b));
+      settlers = subst (Settlers (spec_in l c.logs) sent l i.0 b) (sym q.3) (nobody (spec_in l c.logs) (tells_settled sent l i.0 b));
+      settled = λ o. inr (subst (Voters (spec_in l c.logs) sent l i.0 b) (sym q.3) (nobody (spec_in l c.logs) (tells_stored sent l i.0 b)));
     };
     covers = λ n q lo hi. let h = plan_has e d (esn_of n) lo hi in let p = planned_has (plan e d).items h.0 h.1 in (p.0, p.1, let z = p.2 in let y = h.2 in omega arith);
   }
@@ -80,8 +82,9 @@ module _ (c : Config) (hs : List Happened) (sent : List Msg) where
 
   -- what a reply says of its node
   pub record ReplyFine (r : Register) (l b y : ℕ) (x : Body) : Type 0 where
-    pub stored : (n : ℕ) → x ≡ bodies.Stored n → In y (nodes_of (spec_in l c.logs)) × (tells_stored sent l n b y ≡ true)
+    pub stored : (n : ℕ) → x ≡ bodies.Stored n → In y (nodes_of (spec_in l c.logs)) × (tells_stored sent l n b y ≡ true) × (tells_settled sent l n b y ≡ true)
     pub trimmed : (n t : ℕ) → x ≡ bodies.TrimmedHere n t → TrimFine c hs sent r l t
+    pub told_trim : (n t : ℕ) → x ≡ bodies.TrimmedHere n t → In y (nodes_of (spec_in l c.logs)) × In (from_node l y b (bodies.TrimmedHere n t)) sent
 
   module _ (r : Register) (l b e y : ℕ) (x : Body) (R : ReplyFine r l b y x) where
     one_settled : (p : ℕ → Bool) → Settling x e p → (n : ℕ) (ys : List ℕ) → epoch_of n ≡ e → 0 < esn_of n → Open r l e → p n ≡ true → SettledBy l n b ys → SettledBy l n b (with_one y ys)
@@ -89,8 +92,16 @@ module _ (c : Config) (hs : List Happened) (sent : List Msg) where
     one_settled p S n ys ep pos o t (inr v) = by_settling S where
       by_settling : Settling x e p → SettledBy l n b (with_one y ys)
       by_settling (by_stored_one m i k q) = let f = R.stored m i in let z : n ≡ m = eqb-true n m (subst (λ (u : ℕ → Bool). u n ≡ true) q t) in
-          inr (one_more (spec_in l c.logs) sent l n b y ys f.0 (subst (λ u. tells_stored sent l u b y ≡ true) (sym z) f.1) v)
+          inr (one_voter (spec_in l c.logs) (tells_stored sent l n b) y ys f.0 (subst (λ u. tells_stored sent l u b y ≡ true) (sym z) f.1) v)
       by_settling (by_trimmed_to m k i j q) = inl (R.trimmed m k i n (leb-true n k (subst (λ (u : ℕ → Bool). u n ≡ true) q t)) pos (subst (Open r l) (sym ep) o))
+
+    one_settler : (p : ℕ → Bool) → Settling x e p → (n : ℕ) (ys : List ℕ) → epoch_of n ≡ e → p n ≡ true → Settlers (spec_in l c.logs) sent l n b ys → Settlers (spec_in l c.logs) sent l n b (with_one y ys)
+    one_settler p S n ys ep t v = by_settling S where
+      by_settling : Settling x e p → Settlers (spec_in l c.logs) sent l n b (with_one y ys)
+      by_settling (by_stored_one m i k q) = let f = R.stored m i in let z : n ≡ m = eqb-true n m (subst (λ (u : ℕ → Bool). u n ≡ true) q t) in
+          one_voter (spec_in l c.logs) (tells_settled sent l n b) y ys f.0 (subst (λ u. tells_settled sent l u b y ≡ true) (sym z) f.2) v
+      by_settling (by_trimmed_to m k i j q) = let f = R.told_trim m k i in
+          one_voter (spec_in l c.logs) (tells_settled sent l n b) y ys f.0 (trimmed_settles sent l n b y m k f.1 (j ∙ sym ep) (leb-true n k (subst (λ (u : ℕ → Bool). u n ≡ true) q t))) v
 
     pub settles_fine : (made : List Made) (p : ℕ → Bool) (g : Storing) → Settling x e p → StoringFine made r l b e g → StoringFine made r l b e (settled_by p y g)
     settles_fine made p g S F = record {
@@ -101,6 +112,8 @@ module _ (c : Config) (hs : List Happened) (sent : List Msg) where
       items = λ j h. let q = settle_in p y g.items j h in let f = F.items q.0 q.1 in let n = q.2 in record {
         epoch = ap epoch_of n ∙ f.epoch;
         above = let z = f.above in subst (λ k. 0 < esn_of k) (sym n) z;
+        settlers = subst (λ k. Settlers (spec_in l c.logs) sent l k b j.1.settled) (sym n) (subst (Settlers (spec_in l c.logs) sent l q.0.0 b) (sym q.3) (cond_both (p q.0.0) (with_one y q.0.1.settled) q.0.1.settled (Settlers (spec_in l c.logs) sent l q.0.0 b)
+            (λ t. one_settler p S q.0.0 q.0.1.settled f.epoch t f.settlers) (λ t. f.settlers)));
         settled = λ o. subst (λ k. SettledBy l k b j.1.settled) (sym n) (subst (SettledBy l q.0.0 b) (sym q.3) (cond_both (p q.0.0) (with_one y q.0.1.settled) q.0.1.settled (SettledBy l q.0.0 b)
             (λ t. one_settled p S q.0.0 q.0.1.settled f.epoch f.above o t (f.settled o)) (λ t. f.settled o)));
       };
@@ -116,12 +129,14 @@ module _ (c : Config) (hs : List Happened) (sent : List Msg) where
     planned = F.planned_so;
     end = F.end;
     trim = F.trim;
+    copies = λ n q lo hi. let z = F.covers n q lo hi in let f = F.items z.0 z.1 in let k = leb-true _ _ (all_in (λ (i : ℕ × Planned). nat_le (spec_in l c.logs).r (length i.1.settled)) z.0 g.items h z.1) in
+        subst (λ x. (spec_in l c.logs).r ≤ how_many (tells_settled sent l x b) (nodes_of (spec_in l c.logs))) z.2 (counted_votes (spec_in l c.logs) (tells_settled sent l z.0.0 b) z.0.1.settled f.settlers k);
     fixed = λ n q lo hi. let z = F.covers n q lo hi in let f = F.items z.0 z.1 in let k = leb-true _ _ (all_in (λ (i : ℕ × Planned). nat_le (spec_in l c.logs).r (length i.1.settled)) z.0 g.items h z.1) in
         subst (λ x. Fixed c hs sent l x b) z.2 (by_settled z.0.0 z.0.1.settled k (f.settled o));
   } where
     by_settled : (n : ℕ) (ys : List ℕ) → (spec_in l c.logs).r ≤ length ys → SettledBy l n b ys → Fixed c hs sent l n b
     by_settled n ys k (inl a) = inl a
-    by_settled n ys k (inr v) = inr (voted (spec_in l c.logs) sent l n b ys v k)
+    by_settled n ys k (inr v) = inr (counted_votes (spec_in l c.logs) (tells_stored sent l n b) ys v k)
 
 -- while more happens
 module _ (c : Config) (hs next : List Happened) (sent after : List Msg) (into : (m : Msg) → In m sent → In m after) (acks : (l n : ℕ) → Acknowledged c hs sent l n → Acknowledged c next after l n) where
@@ -134,7 +149,7 @@ module _ (c : Config) (hs next : List Happened) (sent after : List Msg) (into : 
   fixed_later l n b (inr h) = inr (chosen_more (spec_in l c.logs) sent after into l n b h)
 
   pub summarized_later : (made more : List Made) (l e : ℕ) (y : Summary) → Summarized c hs made sent l e y → Summarized c next (more ++ made) after l e y
-  summarized_later made more l e y h = record { lng = h.lng; digest = h.digest; planned = In_right _ more made h.planned; end = h.end; trim = h.trim; fixed = λ n a b o. fixed_later l n y.ballot (h.fixed n a b o) }
+  summarized_later made more l e y h = record { lng = h.lng; digest = h.digest; planned = In_right _ more made h.planned; end = h.end; trim = h.trim; copies = λ n a b o. copies_more (spec_in l c.logs) sent after into l n y.ballot (h.copies n a b o); fixed = λ n a b o. fixed_later l n y.ballot (h.fixed n a b o) }
 
   pub storing_later : (made more : List Made) (r k : Register) → Up r k → (l b e : ℕ) (g : Storing) → StoringFine c hs sent made r l b e g → StoringFine c next after (more ++ made) k l b e g
   storing_later made more r k u l b e g F = record {
@@ -142,6 +157,6 @@ module _ (c : Config) (hs next : List Happened) (sent after : List Msg) (into : 
     planned_so = In_right _ more made F.planned_so;
     end = F.end;
     trim = F.trim;
-    items = λ i h. let f = F.items i h in record { epoch = f.epoch; above = f.above; settled = λ o. votes_later l i.0 b i.1.settled (f.settled (let z = (u l).1 in omega arith)) };
+    items = λ i h. let f = F.items i h in record { epoch = f.epoch; above = f.above; settlers = record { counted = f.settlers.counted; stored = λ y h. settles_more sent after into l i.0 b y (f.settlers.stored y h) }; settled = λ o. votes_later l i.0 b i.1.settled (f.settled (let z = (u l).1 in omega arith)) };
     covers = F.covers;
   }

@@ -44,7 +44,7 @@ use Rattle.ld_safety.proofs.Along.{Along}
 use Rattle.ld_safety.proofs.ItemFacts.{ClosedItem, RecordAt, BridgeAt}
 use Rattle.ld_safety.proofs.ItemsShown.{ItemsTold, ReadFine, fine_keeps, item_lines_told}
 use Rattle.ld_safety.proofs.Carried as carried
-use Rattle.ld_safety.proofs.Along as along
+use Rattle.ld_safety.proofs.AlongSteps as along
 
 -- ---- what grows ----
 module _ (c : Config) (hs : List Happened) (e : Event) (d : Done) (made more : List Made) (sent after : List Msg) (r k : Register) (into : (m : Msg) → In m sent → In m after) (u : Up r k) (s : Stays r k) where

@@ -19,7 +19,8 @@ use Rattle.ld_safety.proofs.Tiles.{Reads, tiles_kept}
 use Rattle.ld_safety.proofs.GivenSteps.{BaseGiven}
 use Rattle.ld_safety.proofs.Protocol.{plan_of, AppendsOnce, PlanFacts}
 use Rattle.ld_safety.proofs.Plannings.{plan_facts}
-use Rattle.ld_safety.proofs.Along.{Along, along_kept}
+use Rattle.ld_safety.proofs.Along.{Along}
+use Rattle.ld_safety.proofs.AlongSteps.{along_kept}
 use Rattle.ld_safety.proofs.ItemFacts.{ClosedItem, RecordAt, BridgeAt, no_hole, no_bridge_over}
 use Rattle.ld_safety.proofs.Told.{AllTold, start_told, told_step}
 

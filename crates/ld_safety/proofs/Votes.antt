@@ -7,7 +7,7 @@ use Rattle.ld_ids.specs.Choice.{nodes_of}
 use Rattle.ld_msg.specs.declared.msg.Msg.{Msg}
 use Rattle.ld_machine.specs.World.{In}
 use Rattle.ld_safety.proofs.Lists.{how_many-yes, how_many-no, count_mono}
-use Rattle.ld_safety.proofs.Protocol.{Chosen, tells_stored}
+use Rattle.ld_safety.proofs.Protocol.{tells_stored, tells_settled}
 
 pub in_of : (y : ℕ) (xs : List ℕ) → is_in y xs ≡ true → In y xs
 in_of y [] h = absurd cc
@@ -40,22 +40,30 @@ count_more p q y (x ∷ xs) h (inr i) a b = let ih : suc (how_many p xs) ≤ how
   | inr t ↦ elim (cases_Bool (q x)) [ inl u ↦ omega (arith, how_many-no p x xs t, how_many-yes q x xs u) | inr u ↦ omega (arith, how_many-no p x xs t, how_many-no q x xs u) ]
 ]
 
--- these nodes of the log stored the number for the ballot
-pub record Voters (s : Spec) (sent : List Msg) (l n b : ℕ) (ys : List ℕ) : Type 0 where
+-- these nodes of the log pass a test
+pub record VotersBy (s : Spec) (tells : ℕ → Bool) (ys : List ℕ) : Type 0 where
   pub counted : length ys ≤ how_many (λ x. is_in x ys) (nodes_of s)
-  pub stored : (y : ℕ) → is_in y ys ≡ true → tells_stored sent l n b y ≡ true
+  pub stored : (y : ℕ) → is_in y ys ≡ true → tells y ≡ true
 
-pub no_voters : (s : Spec) (sent : List Msg) (l n b : ℕ) → Voters s sent l n b []
-no_voters s sent l n b = record { counted = omega arith; stored = λ y h. absurd cc }
+pub nobody : (s : Spec) (tells : ℕ → Bool) → VotersBy s tells []
+nobody s tells = record { counted = omega arith; stored = λ y h. absurd cc }
 
-pub one_more : (s : Spec) (sent : List Msg) (l n b y : ℕ) (ys : List ℕ) → In y (nodes_of s) → tells_stored sent l n b y ≡ true → Voters s sent l n b ys → Voters s sent l n b (with_one y ys)
-one_more s sent l n b y ys i t v = elim (cases_Bool (is_in y ys)) [
-  | inl h ↦ subst (λ k. Voters s sent l n b (if k then ys else ys ++ y ∷ [])) (sym h) v
-  | inr h ↦ subst (λ k. Voters s sent l n b (if k then ys else ys ++ y ∷ [])) (sym h) (record {
+pub one_voter : (s : Spec) (tells : ℕ → Bool) (y : ℕ) (ys : List ℕ) → In y (nodes_of s) → tells y ≡ true → VotersBy s tells ys → VotersBy s tells (with_one y ys)
+one_voter s tells y ys i t v = elim (cases_Bool (is_in y ys)) [
+  | inl h ↦ subst (λ k. VotersBy s tells (if k then ys else ys ++ y ∷ [])) (sym h) v
+  | inr h ↦ subst (λ k. VotersBy s tells (if k then ys else ys ++ y ∷ [])) (sym h) (record {
     counted = let c = count_more (λ x. is_in x ys) (λ x. is_in x (ys ++ y ∷ [])) y (nodes_of s) (λ x j g. is_in-left x y ys g) i h (is_in-last y ys) in let u = v.counted in let w = length-append ys (y ∷ []) in omega arith;
-    stored = λ z g. elim (is_in-end z y ys g) [ inl a ↦ v.stored z a | inr a ↦ subst (λ x. tells_stored sent l n b x ≡ true) (sym a) t ];
+    stored = λ z g. elim (is_in-end z y ys g) [ inl a ↦ v.stored z a | inr a ↦ subst (λ x. tells x ≡ true) (sym a) t ];
   })
 ]
 
-pub voted : (s : Spec) (sent : List Msg) (l n b : ℕ) (ys : List ℕ) → Voters s sent l n b ys → s.r ≤ length ys → Chosen s sent l n b
-voted s sent l n b ys v h = let c = count_mono (λ x. is_in x ys) (tells_stored sent l n b) (nodes_of s) (λ x i g. v.stored x g) in let u = v.counted in omega arith
+pub counted_votes : (s : Spec) (tells : ℕ → Bool) (ys : List ℕ) → VotersBy s tells ys → s.r ≤ length ys → s.r ≤ how_many tells (nodes_of s)
+counted_votes s tells ys v h = let c = count_mono (λ x. is_in x ys) tells (nodes_of s) (λ x i g. v.stored x g) in let u = v.counted in omega arith
+
+-- these nodes of the log stored the number for the ballot
+abbrev pub Voters : Spec → List Msg → ℕ → ℕ → ℕ → List ℕ → Type 0
+Voters s sent l n b ys = VotersBy s (tells_stored sent l n b) ys
+
+-- these stored it or trimmed it away
+abbrev pub Settlers : Spec → List Msg → ℕ → ℕ → ℕ → List ℕ → Type 0
+Settlers s sent l n b ys = VotersBy s (tells_settled sent l n b) ys

@@ -1,7 +1,9 @@
 //! What holds of every run of the written machine, as laws on empty functions.
 #![tactic(auto)]
 
-ghost use Rattle.std.specs.Prelude.{List};
+ghost use Rattle.std.specs.Prelude.{ℕ, ◌<◌, List};
+ghost use Rattle.ld_lsn.specs.Number.{numbered};
+ghost use Rattle.ld_msg.specs.declared.msg.Summary.{Summary};
 ghost use Rattle.ld_config.specs.declared.config.Config.{Config};
 ghost use Rattle.ld_config.specs.Bounds.{IsInBounds};
 ghost use Rattle.ld_schedule.specs.declared.event.Event.{Event};
@@ -9,7 +11,7 @@ ghost use Rattle.ld_machine.specs.Run.{history};
 ghost use Rattle.ld_machine.specs.Safe.{ItemsTile, NothingHidden, NumbersDiffer, NumbersRise, RecordsWereAppended, TrimsWereIssued};
 ghost use Rattle.ld_machine.specs.World.{begin};
 ghost use Rattle.ld_machine.specs.Run.{world_after};
-ghost use Rattle.ld_machine.specs.Invariant.{Agrees};
+ghost use Rattle.ld_machine.specs.Invariant.{Agrees, Closed, CopiesOf, Retains, SealsHold};
 
 /// What each reader gets tiles the numbers from its first one on.
 pub fn items_tile()
@@ -44,4 +46,19 @@ pub fn trims_were_issued()
 /// What as many nodes as there are copies stored for a ballot is in each plan of a greater ballot, unless it is trimmed there.
 pub fn recoveries_agree()
     ensures { (c : Config) (es : List Event) → IsInBounds c → Agrees c (world_after c (begin c) es) }
+{}
+
+/// In every state, each number of a closed epoch between its trim and its end was settled for the closing plan by as many nodes as there are copies, and each of these is blank, or lost for the epoch, or trimmed at the number, or has what the closing plan says.
+pub fn copies_stand()
+    ensures { (c : Config) (es : List Event) → IsInBounds c → (l e k : ℕ) (s : Summary) → Closed (world_after c (begin c) es) l e s → s.trim < numbered e k → 0 < k → k < s.end → CopiesOf c (world_after c (begin c) es) l (numbered e k) s.ballot }
+{}
+
+/// In every state, what a node stored for a ballot it still has with at least that ballot, unless it doesn't serve the epoch, was trimmed at the number, or a later plan cut the number off.
+pub fn stored_stays()
+    ensures { (c : Config) (es : List Event) → IsInBounds c → Retains (world_after c (begin c) es) }
+{}
+
+/// In every state, a node that gave a page for a ballot is sealed at it, unless it doesn't serve the epoch.
+pub fn seals_hold()
+    ensures { (c : Config) (es : List Event) → IsInBounds c → SealsHold (world_after c (begin c) es) }
 {}
