@@ -44,3 +44,5 @@ pub mod DigestKept
 pub mod Plannings
 pub mod Along
 pub mod Agreed
+pub mod LostNodes
+pub mod Generations
