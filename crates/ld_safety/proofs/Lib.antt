@@ -46,3 +46,4 @@ pub mod Along
 pub mod Agreed
 pub mod LostNodes
 pub mod Generations
+pub mod LostTalk
