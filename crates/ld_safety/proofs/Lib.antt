@@ -47,3 +47,4 @@ pub mod Agreed
 pub mod LostNodes
 pub mod Generations
 pub mod LostTalk
+pub mod LostReads
