@@ -36,22 +36,22 @@ drawn_generations r n k d y = elim (put_cases y n (generation_of r n + 1) r.gene
   | inr a ↦ (let z : generation_of k y ≡ generation_of r y = ap (λ m. unwrap_or (find y m) 0) d.1 ∙ ap (λ o. unwrap_or o 0) a.1 in omega arith)
 ]
 
-activate_generations : (r : Register) (l : ℕ) → NoneFalls r (activate r l).register
+pub activate_generations : (r : Register) (l : ℕ) → NoneFalls r (activate r l).register
 activate_generations r l = elim (activate_leaves r l) [ inl a ↦ same_generations r (activate r l).register a.1 | inr a ↦ same_generations r (activate r l).register a.1.1 ]
 
 close_generations : (r : Register) (l e : ℕ) (y : Summary) → NoneFalls r (close r l e y).register
 close_generations r l e y = elim (close_leaves r l e y) [ inl a ↦ same_generations r (close r l e y).register a.1 | inr a ↦ same_generations r (close r l e y).register a.1.1 ]
 
-draw_generations : (r : Register) (n : ℕ) → NoneFalls r (draw r n).register
+pub draw_generations : (r : Register) (n : ℕ) → NoneFalls r (draw r n).register
 draw_generations r n = elim (draw_leaves r n) [ inl a ↦ same_generations r (draw r n).register a.1 | inr a ↦ drawn_generations r n (draw r n).register a ]
+
+pub call_generations : (r : Register) (p : Spec) (a : Acts) (ts : List (ℕ × Summary)) → NoneFalls r (called p r a ts).register
+call_generations r p a [] = same_generations r r refl
+call_generations r p a (t ∷ ts) = close_generations r a.sequencer.log t.0 t.1
 
 module _ (c : Config) (s : State) (e : Event) where
   same : NoneFalls s.register s.register
   same = same_generations s.register s.register refl
-
-  by_call : (p : Spec) (a : Acts) (ts : List (ℕ × Summary)) → NoneFalls s.register (called p s.register a ts).register
-  by_call p a [] = same
-  by_call p a (t ∷ ts) = close_generations s.register a.sequencer.log t.0 t.1
 
   handled : (f : List ℕ) (n : ℕ) (m : Msg) (x : Node) (o : Option Op) (b : Option Body) → NoneFalls s.register (Step.handles (with_node (refreshed s f) n x) n m o b).state.register
   handled f n m x None b = same
@@ -76,8 +76,8 @@ module _ (c : Config) (s : State) (e : Event) where
     wipes = λ n. same;
     faults = λ n f o. same;
     arms = λ k done o. same_generations s.register (Step.armed s.register k done) refl;
-    hears = λ f name q m i t l v o. by_call _ _ _;
-    retries = λ name q v o. by_call _ _ _;
+    hears = λ f name q m i t l v o. call_generations s.register _ _ _;
+    retries = λ name q v o. call_generations s.register _ _ _;
     appends = λ name q p v a i. same;
     trims = λ name q t v b. same;
     drops = λ name q v o. same;

@@ -48,3 +48,4 @@ pub mod LostNodes
 pub mod Generations
 pub mod LostTalk
 pub mod LostReads
+pub mod GenerationsHeld
