@@ -49,3 +49,4 @@ pub mod Generations
 pub mod LostTalk
 pub mod LostReads
 pub mod GenerationsHeld
+pub mod LostRounds
