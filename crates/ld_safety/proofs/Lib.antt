@@ -50,3 +50,4 @@ pub mod LostTalk
 pub mod LostReads
 pub mod GenerationsHeld
 pub mod LostRounds
+pub mod LostAlong
