@@ -51,3 +51,4 @@ pub mod LostReads
 pub mod GenerationsHeld
 pub mod LostRounds
 pub mod LostAlong
+pub mod LostSince

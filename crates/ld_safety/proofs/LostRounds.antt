@@ -99,10 +99,10 @@ ask_answer generation g l ballot released b x q h = subst (Answers generation q.
 pub found_in : {X : Type 0} (t s : List ℕ) (x y : X) (ds : List (List ℕ × X)) → find_named t (put_named s x ds) ≡ Some y → ((t ≡ s) × (x ≡ y)) ⊎ ((same t s ≡ false) × (find_named t ds ≡ Some y))
 found_in t s x y ds i = elim (named_cases t s x ds) [ inl c ↦ inl (c.0, Some_inj (sym c.1 ∙ i)) | inr c ↦ inr (c.0, sym c.1 ∙ i) ]
 
-not_same : (t s : List ℕ) → same t s ≡ false → t ≡ s → ⊥
+pub not_same : (t s : List ℕ) → same t s ≡ false → t ≡ s → ⊥
 not_same t s h e = not_both (same s s) (same-self s) (subst (λ x. same x s ≡ false) e h)
 
-posted_to : (who : Who) (l : ℕ) (bs : List (ℕ × Body)) (m : Msg) → In m (posted who l bs) → (b : ℕ × Body) × In b bs × (m ≡ record { from = who; to = whos.Node b.0; log = l; body = b.1 })
+pub posted_to : (who : Who) (l : ℕ) (bs : List (ℕ × Body)) (m : Msg) → In m (posted who l bs) → (b : ℕ × Body) × In b bs × (m ≡ record { from = who; to = whos.Node b.0; log = l; body = b.1 })
 posted_to who l [] m i = absurd i
 posted_to who l (b ∷ bs) m (inl e) = (b, inl refl, e)
 posted_to who l (b ∷ bs) m (inr i) = let r = posted_to who l bs m i in (r.0, inr r.1, r.2)
