@@ -52,3 +52,4 @@ pub mod GenerationsHeld
 pub mod LostRounds
 pub mod LostAlong
 pub mod LostSince
+pub mod LostBegins
