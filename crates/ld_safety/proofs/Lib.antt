@@ -53,3 +53,4 @@ pub mod LostRounds
 pub mod LostAlong
 pub mod LostSince
 pub mod LostBegins
+pub mod LostLines

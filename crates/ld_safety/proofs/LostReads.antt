@@ -96,7 +96,7 @@ not_not : (b : Bool) → not b ≡ false → b ≡ true
 not_not true h = refl
 not_not false h = absurd cc
 
-heard_lasts : (d : Reader) (y : ℕ) (b : Body) (v : Confirmation) → (heard d y b).confirming ≡ Some v → Lasts d y b (heard d y b) v
+pub heard_lasts : (d : Reader) (y : ℕ) (b : Body) (v : Confirmation) → (heard d y b).confirming ≡ Some v → Lasts d y b (heard d y b) v
 heard_lasts d y b v h = by_confirming d.confirming refl h where
   by_confirming : (o : Option Confirmation) → d.confirming ≡ o → confirming_with o y b ≡ Some v → Lasts d y b (heard d y b) v
   by_confirming None e q = absurd cc

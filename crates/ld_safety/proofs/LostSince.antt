@@ -144,16 +144,18 @@ module _ (then : World) (r l s round : ℕ) (asked : List (ℕ × ℕ)) where
         ];
       }
 
+    -- who says again that it is lost was so then
+    pub again : (m : Msg) → In m w.state.network.sent → m.to ≡ whos.Reader r → (u : Confirmation) (z : ℕ) → z ≡ Step.sender_node m.from → u.round ≡ round → u.asked ≡ asked → SaysAgain u (Step.sender_node m.from) m.body → LostThen z
+    again m i t u z a b x g = let y = Step.sender_node m.from in let j : find y asked ≡ Some g.generation = subst (λ (k : List (ℕ × ℕ)). find y k ≡ Some g.generation) x g.asked in
+        subst LostThen (sym a) (record { generation = g.generation; held = j; lost = (P.talk.sent m i).answer t g.number g.generation g.end (g.is ∙ ap (λ k. bodies.LostHere g.number k g.generation g.end) b) (P.drawn y g.generation j) })
+
     -- what an answer makes of a confirmation of the round
     read_since : (set : List ℕ) (name : List ℕ) (d : Reader) (m : Msg) → find_named name w.state.readers ≡ Some d → In m w.state.network.sent → m.to ≡ whos.Reader d.number → ReadOn set d (Step.sender_node m.from) m.body (on_answer set d (Step.sender_node m.from) m.body)
         → d.number ≡ r → (v : Confirmation) → (on_answer set d (Step.sender_node m.from) m.body).reader.confirming ≡ Some v → v.round ≡ round → SinceConfirming (on_answer set d (Step.sender_node m.from) m.body).reader v
     read_since set name d m f i t G q v h k = let D = P.talk.readers name d f q in elim (G.confirming v h) [
-      | inl o ↦ (let C = D.confirming o.before o.was (sym o.round ∙ k) in record { same = o.asked ∙ C.same; next = o.next ∙ C.next; told = λ z j. elim (o.told z j) [ inl a ↦ C.told z a | inr a ↦ again o.before z a.0 (sym o.round ∙ k) C.same a.1 ] })
+      | inl o ↦ (let C = D.confirming o.before o.was (sym o.round ∙ k) in record { same = o.asked ∙ C.same; next = o.next ∙ C.next; told = λ z j. elim (o.told z j) [ inl a ↦ C.told z a | inr a ↦ again m i (t ∙ ap whos.Reader q) o.before z a.0 (sym o.round ∙ k) C.same a.1 ] })
       | inr n ↦ absurd (let a = n.higher in let b = D.up in omega arith)
-    ] where
-      again : (u : Confirmation) (z : ℕ) → z ≡ Step.sender_node m.from → u.round ≡ round → u.asked ≡ asked → SaysAgain u (Step.sender_node m.from) m.body → LostThen z
-      again u z a b x g = let y = Step.sender_node m.from in let j : find y asked ≡ Some g.generation = subst (λ (k : List (ℕ × ℕ)). find y k ≡ Some g.generation) x g.asked in
-          subst LostThen (sym a) (record { generation = g.generation; held = j; lost = (P.talk.sent m i).answer (t ∙ ap whos.Reader q) g.number g.generation g.end (g.is ∙ ap (λ k. bodies.LostHere g.number k g.generation g.end) b) (P.drawn y g.generation j) })
+    ]
 
     opened_since : (name : List ℕ) (k from until : ℕ) → find_named name w.state.readers ≡ None → SinceTalk [] (put_named name (opened k (length w.state.readers) from until) w.state.readers)
     opened_since name k from until n = let o = P.talk.there in let x = opened k (length w.state.readers) from until in record {
