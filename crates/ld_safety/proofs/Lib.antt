@@ -54,3 +54,4 @@ pub mod LostAlong
 pub mod LostSince
 pub mod LostBegins
 pub mod LostLines
+pub mod LostMoments
