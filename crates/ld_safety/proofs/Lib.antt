@@ -55,3 +55,4 @@ pub mod LostSince
 pub mod LostBegins
 pub mod LostLines
 pub mod LostMoments
+pub mod LostStanding
