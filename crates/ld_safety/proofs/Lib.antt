@@ -56,3 +56,4 @@ pub mod LostBegins
 pub mod LostLines
 pub mod LostMoments
 pub mod LostStanding
+pub mod LostStands

@@ -82,7 +82,7 @@ kept_up x o Made h u = h
 kept_up x o (FailsAt k) h u = absurd cc
 kept_up x o (CrashesAt k p) h u = absurd cc
 
-keep_up : (x : Node) (o : Op) → (x.cut ≡ None) × (0 < (apply x.plain o).generation) → is_up (keep_op x o).status ≡ true → ((keep_op x o).cut ≡ None) × (0 < (keep_op x o).plain.generation)
+pub keep_up : (x : Node) (o : Op) → (x.cut ≡ None) × (0 < (apply x.plain o).generation) → is_up (keep_op x o).status ≡ true → ((keep_op x o).cut ≡ None) × (0 < (keep_op x o).plain.generation)
 unfolding keep_op
 keep_up x o h = cond_both (is_full_for x o) (record x { status = Failed }) (kept_by x o (fate 4 x.fault)) (λ z. is_up z.status ≡ true → (z.cut ≡ None) × (0 < z.plain.generation)) (λ t u. absurd cc) (λ t. kept_up x o (fate 4 x.fault) h)
 
