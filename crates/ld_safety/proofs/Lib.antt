@@ -57,3 +57,5 @@ pub mod LostLines
 pub mod LostMoments
 pub mod LostStanding
 pub mod LostStands
+pub mod LostKept
+pub mod LostActive
