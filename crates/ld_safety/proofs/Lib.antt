@@ -59,3 +59,4 @@ pub mod LostStanding
 pub mod LostStands
 pub mod LostKept
 pub mod LostActive
+pub mod LostActiveKept

@@ -78,13 +78,13 @@ module _ (c : Config) (hs : List Happened) where
     ]) s.1 h
   ]
 
-  activate_closed : (r : Register) (l : ℕ) → ClosedActive r → ClosedActive (activate r l).register
+  pub activate_closed : (r : Register) (l : ℕ) → ClosedActive r → ClosedActive (activate r l).register
   activate_closed r l h = elim (activate_leaves r l) [ inl s ↦ same_closed r (activate r l).register s h | inr s ↦ put_closed r (activate r l).register l (next_epoch (epochs_of r l)) (λ e y f. h l e y f) s.1 h ]
 
-  logs_closed : (r n : Register) → n.logs ≡ r.logs → ClosedActive r → ClosedActive n
+  pub logs_closed : (r n : Register) → n.logs ≡ r.logs → ClosedActive r → ClosedActive n
   logs_closed r n q h l e y f = h l e y (ap (λ m. find e (unwrap_or (find l m) no_epochs).summaries) (sym q) ∙ f)
 
-  draw_closed : (r : Register) (n : ℕ) → ClosedActive r → ClosedActive (draw r n).register
+  pub draw_closed : (r : Register) (n : ℕ) → ClosedActive r → ClosedActive (draw r n).register
   draw_closed r n h = elim (draw_leaves r n) [ inl s ↦ logs_closed r (draw r n).register s.0 h | inr s ↦ logs_closed r (draw r n).register s.0 h ]
 
   close_called : (r : Register) (p : Spec) (a : Acts) (e : ℕ) (y : Summary) → has_epoch a.sequencer.log e hs ≡ true → ClosedActive r → Closing r p a e y (λ k. ClosedActive k.register)
@@ -99,7 +99,7 @@ module _ (c : Config) (hs : List Happened) where
     lower : (v : Recovery) → q.recovery ≡ Some v → has_epoch q.log v.epoch hs ≡ true
     lower v e = epoch_lower q.log v.epoch q.epoch hs (let z = B v e in omega arith) A
 
-    acting_closed : (y : ℕ) (b : Body) → Acting c r q y b (λ k m. ClosedActive k.register)
+    pub acting_closed : (y : ℕ) (b : Body) → Acting c r q y b (λ k m. ClosedActive k.register)
     acting_closed y b = record {
       quiet = h;
       sealed = λ n k f i l. h;
@@ -114,8 +114,8 @@ module _ (c : Config) (hs : List Happened) where
       plans = λ v d from upto trim lng es f e i g k t u. h;
     }
 
-    retrying_closed : Retrying c r q (λ k. ClosedActive k.register)
+    pub retrying_closed : Retrying c r q (λ k. ClosedActive k.register)
     retrying_closed = record { quiet = h; appends = λ f. h; seals = λ v d f e i. h; stores = λ v g f e i. h; closes = λ v y f e i. close_called r _ _ v.epoch y (lower v e) h }
 
-  put_active : (name : List ℕ) (q : Sequencer) (qs : List (List ℕ × Sequencer)) → has_epoch q.log q.epoch hs ≡ true → AllActive qs → AllActive (put_named name q qs)
+  pub put_active : (name : List ℕ) (q : Sequencer) (qs : List (List ℕ × Sequencer)) → has_epoch q.log q.epoch hs ≡ true → AllActive qs → AllActive (put_named name q qs)
   put_active name q qs a h t z f = elim (found_in t name q z qs f) [ inl p ↦ subst (λ (y : Sequencer). has_epoch y.log y.epoch hs ≡ true) p.1 a | inr p ↦ h t z p.1 ]
