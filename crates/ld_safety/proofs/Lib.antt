@@ -60,3 +60,4 @@ pub mod LostStands
 pub mod LostKept
 pub mod LostActive
 pub mod LostActiveKept
+pub mod LostLaw
