@@ -61,3 +61,5 @@ pub mod LostKept
 pub mod LostActive
 pub mod LostActiveKept
 pub mod LostLaw
+pub mod LostStood
+pub mod LostLaws
