@@ -10,6 +10,7 @@ ghost use Rattle.ld_machine.specs.Safe.{ItemsTile, NumbersDiffer, NumbersRise, R
 ghost use Rattle.ld_machine.specs.World.{begin};
 ghost use Rattle.ld_machine.specs.Run.{world_after};
 ghost use Rattle.ld_safety.specs.Agreed.{AgreesOpen};
+ghost use Rattle.ld_safety.specs.Lost.{LossesWereSeen, LostOnce};
 
 /// What each reader gets tiles the numbers from its first one on.
 pub fn items_tile()
@@ -39,4 +40,14 @@ pub fn trims_were_issued()
 /// While an epoch is open, what as many nodes as there are copies stored for a ballot is in each plan of a greater ballot, unless it is trimmed there.
 pub fn recoveries_agree()
     ensures { (c : Config) (es : List Event) → IsInBounds c → AgreesOpen c (world_after c (begin c) es) }
+{}
+
+/// A node that is lost for an epoch under a generation, and is so at a later moment, was so at each moment between.
+pub fn lost_once()
+    ensures { LostOnce }
+{}
+
+/// When a reader asks once more for a number that it then calls lost, each node of the log may be lost for its epoch and stands lost in the lines, or had shown the reader a clean page without the number.
+pub fn losses_were_seen()
+    ensures { LossesWereSeen }
 {}
