@@ -1,7 +1,7 @@
 -- Along a run no node's generation at the register falls, so a node that is lost later under a generation of before was lost all the time between.
-use Rattle.std.proofs.Common.{◌≡◌, ◌∙◌, ◌⊎◌, ◌≤◌, ◌<◌, ℕ, ◌+◌, inl, inr, refl, ap, sym, subst, Bool, true, false, List, [], ◌∷◌, Option, Some, None, arith}
+use Rattle.std.proofs.Common.{◌≡◌, ◌∙◌, ◌≤◌, ℕ, ◌+◌, inl, inr, refl, ap, subst, List, [], ◌∷◌, Option, Some, None, arith}
 use Rattle.std.specs.Option.{unwrap_or}
-use Rattle.ld_table.specs.Table.{find, put}
+use Rattle.ld_table.specs.Table.{find}
 use Rattle.ld_table.proofs.Laws.{put_cases}
 use Rattle.ld_config.specs.declared.config.Config.{Config}
 use Rattle.ld_schedule.specs.declared.event.Event.{Event}
@@ -19,8 +19,8 @@ use Rattle.ld_machine.specs.World.{World}
 use Rattle.ld_machine.specs.Run.{next_world}
 use Rattle.ld_machine.specs.Step as Step
 use Rattle.ld_safety.proofs.Events.{NamesOnce, Cases, dispatch, refreshed}
-use Rattle.ld_safety.proofs.RegisterSteps.{Same, Drawn, activate_leaves, close_leaves, draw_leaves}
-use Rattle.ld_safety.proofs.NodeCases.{NodeKeeps, node_cases}
+use Rattle.ld_safety.proofs.RegisterSteps.{Drawn, activate_leaves, close_leaves, draw_leaves}
+use Rattle.ld_safety.proofs.NodeCases.{node_cases}
 use Rattle.ld_safety.proofs.LostNodes.{LostIn, lost_keeps}
 
 -- no generation falls

@@ -1,31 +1,29 @@
 -- Each generation at a node was drawn for it at the register.
-use Rattle.std.proofs.Common.{◌≡◌, ◌∙◌, ◌⊎◌, ◌≤◌, ℕ, ◌+◌, inl, inr, refl, ap, sym, subst, Bool, true, false, if◌then◌else◌, List, [], ◌∷◌, Option, Some, None, arith}
+use Rattle.std.proofs.Common.{◌≡◌, ◌≤◌, ℕ, inl, inr, refl, ap, sym, subst, Bool, true, false, if◌then◌else◌, List, [], ◌∷◌, Option, Some, None, arith}
 use Rattle.std.specs.Option.{unwrap_or}
-use Rattle.ld_table.specs.Table.{find, put}
+use Rattle.ld_table.specs.Table.{find}
 use Rattle.ld_table.proofs.Laws.{put_cases, find-put_same}
 use Rattle.ld_ids.specs.Set.{members}
 use Rattle.ld_config.specs.declared.config.Config.{Config}
 use Rattle.ld_schedule.specs.declared.event.Event.{Event}
-use Rattle.ld_ids.specs.declared.set.Spec.{Spec}
-use Rattle.ld_msg.specs.declared.msg.Summary.{Summary}
 use Rattle.ld_msg.specs.declared.msg.Msg.{Msg}
 use Rattle.ld_msg.specs.declared.msg.Body.{Body}
 use Rattle.ld_op.specs.declared.op.Op.{Op}
 use Rattle.ld_op.specs.declared.op.Op.TheVariants as ops
-use Rattle.ld_op.specs.Plain.{Plain, apply, unformatted}
+use Rattle.ld_op.specs.Plain.{Plain, apply}
 use Rattle.ld_op.specs.Ticks.{Ticked, Cleans, Rebuilt, Asks, Nothing}
-use Rattle.ld_msg.specs.Register.{Register, Changed, Granted, generation_of, epochs_in, draw, close, activate}
-use Rattle.ld_msg.specs.Sequencer.{Acts, called, on_reply, on_retry}
+use Rattle.ld_msg.specs.Register.{Register, Changed, Granted, generation_of, epochs_in, draw, activate}
+use Rattle.ld_msg.specs.Sequencer.{called, on_reply, on_retry}
 use Rattle.ld_machine.specs.Config.{spec_in}
 use Rattle.ld_machine.specs.Disk.{Node, new_node, keep_op, load}
 use Rattle.ld_machine.specs.State.{State, start, new_nodes, finish, node_at, with_node, with_register}
-use Rattle.ld_machine.specs.World.{World, In, MayHold}
+use Rattle.ld_machine.specs.World.{World, MayHold}
 use Rattle.ld_machine.specs.Run.{next_world}
 use Rattle.ld_machine.specs.Step as Step
 use Rattle.ld_safety.proofs.Lists.{not_none}
 use Rattle.ld_safety.proofs.Events.{NamesOnce, Cases, dispatch, refreshed, loaded}
 use Rattle.ld_safety.proofs.HoldSteps.{is_format, same_generation, handled_plain}
-use Rattle.ld_safety.proofs.LostNodes.{kept_from, loaded_from, released_from, drawn_above}
+use Rattle.ld_safety.proofs.LostNodes.{kept_from, loaded_from, released_from}
 use Rattle.ld_safety.proofs.Generations.{NoneFalls, activate_generations, draw_generations, call_generations}
 
 -- each plain state that a load may find at the node

@@ -1,8 +1,8 @@
 -- An epoch that is closed at the register has an active line of its log with at least this epoch.
-use Rattle.std.proofs.Common.{◌≡◌, ◌∙◌, ◌⊎◌, ◌≤◌, ◌<◌, ℕ, ◌+◌, inl, inr, refl, ap, sym, subst, Bool, true, false, ◌&&◌, ◌==◌, nat_le, List, [], ◌∷◌, ◌++◌, Option, Some, None, arith}
+use Rattle.std.proofs.Common.{◌≡◌, ◌∙◌, ◌≤◌, ◌<◌, ℕ, inl, inr, ap, sym, subst, true, ◌==◌, List, ◌++◌, Some, arith}
 use Rattle.std.specs.Option.{unwrap_or}
-use Rattle.std.proofs.lemmas.Bool.{and_parts, and_from, eq-eqb, leb-true, le-leb}
-use Rattle.ld_table.specs.Table.{find, put}
+use Rattle.std.proofs.lemmas.Bool.{and_parts, and_from, leb-true, le-leb}
+use Rattle.ld_table.specs.Table.{find}
 use Rattle.ld_table.specs.Named.{find_named, put_named}
 use Rattle.ld_table.specs.Words.{any_of}
 use Rattle.ld_table.proofs.Laws.{put_cases}
@@ -13,28 +13,13 @@ use Rattle.ld_transcript.specs.declared.line.Line.{Line}
 use Rattle.ld_transcript.specs.declared.line.Line.TheVariants as lines
 use Rattle.ld_ids.specs.declared.set.Spec.{Spec}
 use Rattle.ld_msg.specs.declared.msg.Summary.{Summary}
-use Rattle.ld_msg.specs.declared.msg.Msg.{Msg}
 use Rattle.ld_msg.specs.declared.msg.Body.{Body}
-use Rattle.ld_op.specs.declared.op.Op.{Op}
-use Rattle.ld_op.specs.Ticks.{Ticked, Cleans, Rebuilt, Asks, Nothing}
-use Rattle.ld_machine.specs.Config.{spec_in}
-use Rattle.ld_machine.specs.Disk.{Node}
-use Rattle.ld_msg.specs.Register.{Register, Epochs, Changed, no_epochs, epochs_of, with_epochs, next_epoch, closed_epochs, activate, close, draw, lce_of, empty_register}
-use Rattle.ld_msg.specs.Sequencer.{Sequencer, Acts, Recovery, called, appended, activated, on_reply, on_retry}
-use Rattle.ld_machine.specs.State.{State, finish, node_at, with_node}
+use Rattle.ld_msg.specs.Register.{Register, Epochs, Changed, no_epochs, epochs_of, with_epochs, next_epoch, closed_epochs, activate, close, draw}
+use Rattle.ld_msg.specs.Sequencer.{Sequencer, Acts, Recovery}
 use Rattle.ld_machine.specs.Facts.{Happened, active_line, activates_log, has_epoch}
-use Rattle.ld_machine.specs.World.{World, In, Made, begin}
-use Rattle.ld_machine.specs.Run.{next_world}
-use Rattle.ld_machine.specs.Step as Step
-use Rattle.ld_safety.proofs.Lists.{not_none, any_in, any_from, In_left, In_right}
-use Rattle.ld_safety.proofs.Traces.{Keeps, happened, beside_kept}
-use Rattle.ld_safety.proofs.Steps.{told, finish_In}
-use Rattle.ld_safety.proofs.Events.{NamesOnce, Cases, dispatch, refreshed, Live}
+use Rattle.ld_safety.proofs.Lists.{any_in, any_from, In_left}
 use Rattle.ld_safety.proofs.RegisterSteps.{Same, activate_leaves, close_leaves, draw_leaves, epochs_put, epochs_same}
-use Rattle.ld_safety.proofs.SequencerSteps.{Closing, Acting, Retrying, replied, retried}
-use Rattle.ld_safety.proofs.Continues.{reply_continues, retry_continues}
-use Rattle.ld_safety.proofs.Base.{Base, counts_of}
-use Rattle.ld_safety.proofs.GivenSteps.{BaseGiven, given_kept}
+use Rattle.ld_safety.proofs.SequencerSteps.{Closing, Acting, Retrying}
 use Rattle.ld_safety.proofs.LostRounds.{found_in}
 
 -- ---- words on lines ----

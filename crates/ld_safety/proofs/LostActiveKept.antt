@@ -1,5 +1,5 @@
 -- Along a run each sequencer's epoch and each closed epoch has an active line of its log.
-use Rattle.std.proofs.Common.{◌≡◌, ◌∙◌, ◌⊎◌, ◌≤◌, ◌<◌, ℕ, ◌+◌, inl, inr, refl, ap, sym, subst, Bool, true, false, ◌&&◌, ◌==◌, nat_le, List, [], ◌∷◌, ◌++◌, Option, Some, None, arith}
+use Rattle.std.proofs.Common.{◌≡◌, ◌<◌, ℕ, inl, refl, sym, subst, true, ◌==◌, List, [], ◌∷◌, ◌++◌, Option, Some, None, arith}
 use Rattle.std.proofs.lemmas.Bool.{and_from, eq-eqb, le-leb}
 use Rattle.ld_table.specs.Named.{find_named, put_named}
 use Rattle.ld_table.specs.Words.{any_of}
@@ -8,7 +8,6 @@ use Rattle.ld_schedule.specs.declared.event.Event.{Event}
 use Rattle.ld_schedule.specs.declared.event.Event.TheVariants as events
 use Rattle.ld_transcript.specs.declared.line.Line.TheVariants as lines
 use Rattle.ld_msg.specs.declared.msg.Msg.{Msg}
-use Rattle.ld_msg.specs.declared.msg.Summary.{Summary}
 use Rattle.ld_msg.specs.declared.msg.Body.{Body}
 use Rattle.ld_op.specs.declared.op.Op.{Op}
 use Rattle.ld_op.specs.Ticks.{Ticked, Cleans, Rebuilt, Asks, Nothing}
@@ -16,7 +15,7 @@ use Rattle.ld_machine.specs.Config.{spec_in}
 use Rattle.ld_machine.specs.Disk.{Node}
 use Rattle.ld_table.specs.Table.{find}
 use Rattle.ld_msg.specs.Register.{Register, Changed, Granted, epochs_of, activate, lce_of}
-use Rattle.ld_msg.specs.Sequencer.{Sequencer, Acts, Recovery, called, appended, activated, on_reply, on_retry}
+use Rattle.ld_msg.specs.Sequencer.{Sequencer, Recovery, appended, activated, on_reply, on_retry}
 use Rattle.ld_machine.specs.State.{State, Done, finish, node_at, with_node}
 use Rattle.ld_machine.specs.Facts.{Happened, active_line, activates_log, has_epoch}
 use Rattle.ld_machine.specs.World.{World, In, begin}
@@ -96,8 +95,11 @@ module _ (c : Config) (hs : List Happened) (w : World) (e : Event) (B : Base c h
   register_only d r p q h = (subst (ClosedActive c (hs ++ told e d ∷ [])) (sym p) (h (hs ++ told e d ∷ []) (closed d)), subst (AllActive c (hs ++ told e d ∷ [])) (sym q) (active d))
 
   sequencer_only : (d : Done) (name : List ℕ) (q p : Sequencer) → d.state.register ≡ w.state.register → d.state.sequencers ≡ put_named name p w.state.sequencers → find_named name w.state.sequencers ≡ Some q → p.log ≡ q.log → p.epoch ≡ q.epoch → Result d
-  sequencer_only d name q p x y f l k = (subst (ClosedActive c (hs ++ told e d ∷ [])) (sym x) (closed d), subst (AllActive c (hs ++ told e d ∷ [])) (sym y)
-      (put_active c (hs ++ told e d ∷ []) name p w.state.sequencers (subst (λ z. has_epoch z p.epoch (hs ++ told e d ∷ []) ≡ true) (sym l) (subst (λ z. has_epoch q.log z (hs ++ told e d ∷ []) ≡ true) (sym k) (active d name q f))) (active d)))
+  sequencer_only d name q p x y f l k = (
+    subst (ClosedActive c (hs ++ told e d ∷ [])) (sym x) (closed d),
+    subst (AllActive c (hs ++ told e d ∷ [])) (sym y)
+        (put_active c (hs ++ told e d ∷ []) name p w.state.sequencers (subst (λ z. has_epoch z p.epoch (hs ++ told e d ∷ []) ≡ true) (sym l) (subst (λ z. has_epoch q.log z (hs ++ told e d ∷ []) ≡ true) (sym k) (active d name q f))) (active d)),
+  )
 
   active_cases : Cases c w.state e (λ d m. Result d)
   active_cases = record {

@@ -1,5 +1,5 @@
 -- Along a run: names and logs of readers, drawn generations, and rounds.
-use Rattle.std.proofs.Common.{◌≡◌, ◌∙◌, ◌⊎◌, ◌≤◌, ◌<◌, ℕ, ◌+◌, inl, inr, refl, ap, sym, subst, List, [], ◌∷◌, length, Option, Some, None, arith}
+use Rattle.std.proofs.Common.{◌≡◌, ◌⊎◌, ◌≤◌, ℕ, inl, inr, refl, sym, subst, List, [], Some, arith}
 use Rattle.ld_table.specs.Named.{find_named}
 use Rattle.ld_config.specs.declared.config.Config.{Config}
 use Rattle.ld_schedule.specs.declared.event.Event.{Event}
@@ -9,21 +9,21 @@ use Rattle.ld_msg.specs.declared.msg.Who.TheVariants as whos
 use Rattle.ld_msg.specs.declared.msg.Body.{Body}
 use Rattle.ld_msg.specs.Reading.{Held}
 use Rattle.ld_msg.specs.Reader.{Reader, Confirmation, polled, on_answer, poll_asks}
-use Rattle.ld_msg.specs.Register.{Register, generation_of}
+use Rattle.ld_msg.specs.Register.{Register}
 use Rattle.ld_op.specs.Plain.{log_of}
-use Rattle.ld_machine.specs.State.{State, start, finish, node_at}
+use Rattle.ld_machine.specs.State.{State, node_at}
 use Rattle.ld_machine.specs.Facts.{Happened}
 use Rattle.ld_machine.specs.World.{World, In, Sent, begin}
 use Rattle.ld_machine.specs.Run.{next_world}
 use Rattle.ld_machine.specs.Step as Step
 use Rattle.ld_safety.proofs.Lists.{not_none}
 use Rattle.ld_safety.proofs.ReaderLogs.{Apart}
-use Rattle.ld_safety.proofs.Traces.{Keeps, happened, beside_kept}
+use Rattle.ld_safety.proofs.Traces.{Keeps, beside_kept}
 use Rattle.ld_safety.proofs.Base.{Base, base_kept}
-use Rattle.ld_safety.proofs.Events.{NamesOnce, Reading}
+use Rattle.ld_safety.proofs.Events.{NamesOnce}
 use Rattle.ld_safety.proofs.Generations.{NoneFalls, generations_step}
 use Rattle.ld_safety.proofs.GenerationsHeld.{AllDrawn, drawn_step, start_drawn}
-use Rattle.ld_safety.proofs.LostReads.{ReadOn, Lasts, Begins, new_held, poll_are, polled_up, read_on, AskOf}
+use Rattle.ld_safety.proofs.LostReads.{ReadOn, new_held, poll_are, polled_up, read_on}
 use Rattle.ld_safety.proofs.LostTalk.{TalkKeeps, Talked, talked, new_or_old, same_readers}
 use Rattle.ld_safety.proofs.LostTalk as talk
 use Rattle.ld_safety.proofs.Steps.{sent_now}

@@ -1,6 +1,6 @@
 -- A confirmation after a step lasted through it, or begins in it: then what has happened since its asks is known.
-use Rattle.std.proofs.Common.{◌≡◌, ◌∙◌, ◌⊎◌, ◌≤◌, ◌<◌, ℕ, ◌+◌, inl, inr, refl, ap, sym, subst, Bool, true, false, cond, ◌==◌, if◌then◌else◌, List, [], ◌∷◌, ◌++◌, flat_map, length, Option, Some, None, arith}
-use Rattle.std.proofs.lemmas.Bool.{cases_Bool, eqb-true}
+use Rattle.std.proofs.Common.{◌≡◌, ◌∙◌, ◌⊎◌, ◌≤◌, ◌<◌, ℕ, inl, inr, refl, ap, sym, subst, true, ◌==◌, List, [], ◌∷◌, length, Some, None, arith}
+use Rattle.std.proofs.lemmas.Bool.{eqb-true}
 use Rattle.ld_table.specs.Table.{find}
 use Rattle.ld_table.specs.Named.{find_named, put_named}
 use Rattle.ld_table.specs.Words.{is_in}
@@ -8,27 +8,25 @@ use Rattle.ld_lsn.specs.Number.{home_epoch}
 use Rattle.ld_config.specs.declared.config.Config.{Config}
 use Rattle.ld_schedule.specs.declared.event.Event.{Event}
 use Rattle.ld_msg.specs.declared.msg.Msg.{Msg}
-use Rattle.ld_msg.specs.declared.msg.Who.{Who}
 use Rattle.ld_msg.specs.declared.msg.Who.TheVariants as whos
 use Rattle.ld_msg.specs.declared.msg.Body.{Body}
 use Rattle.ld_msg.specs.declared.msg.Body.TheVariants as bodies
 use Rattle.ld_msg.specs.Reading.{Held, lost_held, lost_generation, is_loss}
-use Rattle.ld_msg.specs.Reader.{Reader, Confirmation, opened, polled, on_answer, poll_asks}
+use Rattle.ld_msg.specs.Reader.{Reader, Confirmation, opened, polled, on_answer}
 use Rattle.ld_msg.specs.Register.{generation_of}
 use Rattle.ld_machine.specs.Config.{set_of}
-use Rattle.ld_machine.specs.State.{State, node_at, posted}
+use Rattle.ld_machine.specs.State.{State, posted}
 use Rattle.ld_machine.specs.World.{World, In, Sent}
 use Rattle.ld_machine.specs.Run.{next_world}
 use Rattle.ld_machine.specs.Step as Step
 use Rattle.ld_safety.proofs.Lists.{Some_inj, not_none, In-append, cond_both}
 use Rattle.ld_safety.proofs.Members.{find_in}
-use Rattle.ld_safety.proofs.ReaderLogs.{Apart, Concerns}
-use Rattle.ld_safety.proofs.Events.{NamesOnce, Reading, Opens}
-use Rattle.ld_safety.proofs.LostNodes.{LostIn}
-use Rattle.ld_safety.proofs.Generations.{Back, back_here}
-use Rattle.ld_safety.proofs.LostReads.{ReadOn, Lasts, Begins, read_on}
-use Rattle.ld_safety.proofs.LostTalk.{Elsewhere, TalkKeeps, talked, new_or_old, same_readers}
-use Rattle.ld_safety.proofs.LostRounds.{wave_of, AtMost, answer_to, found_in, posted_to}
+use Rattle.ld_safety.proofs.ReaderLogs.{Apart}
+use Rattle.ld_safety.proofs.Events.{NamesOnce}
+use Rattle.ld_safety.proofs.Generations.{back_here}
+use Rattle.ld_safety.proofs.LostReads.{ReadOn, read_on}
+use Rattle.ld_safety.proofs.LostTalk.{TalkKeeps, talked, new_or_old, same_readers}
+use Rattle.ld_safety.proofs.LostRounds.{wave_of, answer_to, found_in, posted_to}
 use Rattle.ld_safety.proofs.LostAlong.{RoundsOf}
 use Rattle.ld_safety.proofs.LostSince.{Since, SinceMsg, SinceReader}
 

@@ -1,26 +1,24 @@
 -- Along a run the register's logs rise, and a node with a plain state that is lost for an epoch stands lost for it in the lines.
-use Rattle.std.proofs.Common.{◌≡◌, ◌∙◌, ◌⊎◌, ◌≤◌, ◌<◌, ℕ, ◌+◌, inl, inr, refl, ap, sym, subst, Bool, true, false, cond, List, [], ◌∷◌, ◌++◌, Option, Some, None, arith}
+use Rattle.std.proofs.Common.{◌≡◌, ℕ, inl, inr, sym, subst, Bool, true, false, cond, List, [], ◌∷◌, ◌++◌, Option, Some}
 use Rattle.std.specs.Option.{unwrap_or}
-use Rattle.ld_table.specs.Table.{find, put}
+use Rattle.ld_table.specs.Table.{find}
 use Rattle.ld_table.specs.Words.{is_in}
 use Rattle.ld_ids.specs.Set.{members}
 use Rattle.ld_config.specs.declared.config.Config.{Config}
 use Rattle.ld_schedule.specs.declared.event.Event.{Event}
-use Rattle.ld_msg.specs.declared.msg.Summary.{Summary}
-use Rattle.ld_msg.specs.Register.{Register, empty_register, activate, close, draw, with_epochs, next_epoch, closed_epochs, epochs_of}
+use Rattle.ld_msg.specs.Register.{Register, activate, close, draw, with_epochs, next_epoch, closed_epochs, epochs_of}
 use Rattle.ld_machine.specs.Config.{set_of}
 use Rattle.ld_machine.specs.Disk.{Node, new_node}
-use Rattle.ld_machine.specs.State.{State, start, new_nodes, finish, node_at}
+use Rattle.ld_machine.specs.State.{new_nodes, finish, node_at}
 use Rattle.ld_machine.specs.Facts.{Happened, Lost, standing, stands_for}
-use Rattle.ld_machine.specs.World.{World, begin}
+use Rattle.ld_machine.specs.World.{World}
 use Rattle.ld_machine.specs.Run.{next_world}
-use Rattle.ld_machine.specs.Step as Step
 use Rattle.ld_safety.proofs.Traces.{Keeps, happened, beside_kept}
 use Rattle.ld_safety.proofs.Base.{Base, base_kept}
 use Rattle.ld_safety.proofs.Steps.{told}
 use Rattle.ld_safety.proofs.Events.{NamesOnce, dispatch}
 use Rattle.ld_safety.proofs.Rising.{Rising, Rising-put}
-use Rattle.ld_safety.proofs.RegisterSteps.{Same, activate_leaves, close_leaves, draw_leaves}
+use Rattle.ld_safety.proofs.RegisterSteps.{activate_leaves, close_leaves, draw_leaves}
 use Rattle.ld_safety.proofs.Registers.{register_kept}
 use Rattle.ld_safety.proofs.LostNodes.{LostIn}
 use Rattle.ld_safety.proofs.LostStanding.{Stands, new_stands}

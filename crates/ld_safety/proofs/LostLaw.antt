@@ -1,5 +1,5 @@
 -- A number that is called lost had a moment at which as many nodes as it has copies stood lost, where those that settled it for the closing plan show no clean page without it.
-use Rattle.std.proofs.Common.{◌≡◌, ◌∙◌, ◌⊎◌, ◌≤◌, ◌<◌, ℕ, zero, suc, ◌+◌, inl, inr, refl, ap, sym, subst, Bool, true, false, ◌&&◌, ◌||◌, ◌==◌, take, List, [], ◌∷◌, ◌++◌, length, append_assoc, Option, Some, None, arith}
+use Rattle.std.proofs.Common.{◌≡◌, ◌∙◌, ◌≤◌, ℕ, ◌+◌, inl, inr, refl, ap, sym, subst, true, ◌==◌, take, List, [], ◌∷◌, ◌++◌, length, append_assoc, Some, arith}
 use Rattle.std.proofs.lemmas.Bool.{and_from, or_left, or_right, eq-eqb}
 use Rattle.ld_table.specs.Table.{find}
 use Rattle.ld_table.specs.Named.{find_named}
@@ -7,14 +7,12 @@ use Rattle.ld_table.specs.Words.{is_in, how_many}
 use Rattle.ld_lsn.specs.Number.{home_epoch}
 use Rattle.ld_config.specs.declared.config.Config.{Config}
 use Rattle.ld_schedule.specs.declared.event.Event.{Event}
-use Rattle.ld_transcript.specs.declared.line.Line.TheVariants as lines
-use Rattle.ld_transcript.specs.declared.line.GapKind.TheVariants as gaps
 use Rattle.ld_msg.specs.declared.msg.Summary.{Summary}
-use Rattle.ld_msg.specs.Reading.{Held, lacks, is_lost_for, is_loss}
+use Rattle.ld_msg.specs.Reading.{Held, lacks, is_loss}
 use Rattle.ld_msg.specs.Reader.{Reader}
 use Rattle.ld_machine.specs.Config.{spec_of, set_at, set_of}
 use Rattle.ld_machine.specs.State.{node_at}
-use Rattle.ld_machine.specs.Facts.{Happened, GivesGap, Lost, standing, stands_for, stands_lost, has_epoch}
+use Rattle.ld_machine.specs.Facts.{Happened, Lost, standing, stands_for, stands_lost, has_epoch}
 use Rattle.ld_machine.specs.Safe.{LossesHappened, Lacking}
 use Rattle.ld_machine.specs.World.{World, In, has_told, says_settled}
 use Rattle.ld_machine.specs.Invariant.{Closed}
@@ -28,7 +26,7 @@ use Rattle.ld_safety.proofs.LostKept.{Standings, standings_kept, stands_there}
 use Rattle.ld_safety.proofs.LostActiveKept.{Active, active_kept}
 use Rattle.ld_safety.proofs.Base.{Base}
 use Rattle.ld_safety.proofs.GivenSteps.{BaseGiven}
-use Rattle.ld_safety.proofs.LostMoments.{Known, LossLine, LossMoment, OpenAt, loss_line, open_at}
+use Rattle.ld_safety.proofs.LostMoments.{Known, LossMoment, loss_line, open_at}
 
 -- ---- lists ----
 pub take_all : {X : Type 0} (xs ys : List X) → take (length xs) (xs ++ ys) ≡ xs
@@ -79,8 +77,8 @@ module _ (c : Config) (Q : List Happened → World → Type 0) where
     pub lacking_then : (spec_of c d.log (home_epoch s)).r ≤ how_many (stands_lost d.log (home_epoch s) m.before) (set_at c d.log (home_epoch s))
     lacking_then = let a = settled_apart.enough in
         let b = count_mono (has_told m.then (says_settled s) d.log settled_apart.summary.ballot) (stands_lost d.log (home_epoch s) m.before) (set_at c d.log (home_epoch s)) (λ y i t. let o = settled_lost y i t in
-          and_from (has_epoch d.log (home_epoch s) m.before) (stands_for (home_epoch s) (standing y d.log m.before Lost)) (m.holds.1.1.1.0.1.0 d.log (home_epoch s) settled_apart.summary settled_apart.closed)
-          (stands_there c m.before m.then m.holds.1.1.0.1 y d.log (home_epoch s) o.0 (in_set y (set_of c d.log) i) o.1)) in omega arith
+        and_from (has_epoch d.log (home_epoch s) m.before) (stands_for (home_epoch s) (standing y d.log m.before Lost)) (m.holds.1.1.1.0.1.0 d.log (home_epoch s) settled_apart.summary settled_apart.closed)
+        (stands_there c m.before m.then m.holds.1.1.0.1 y d.log (home_epoch s) o.0 (in_set y (set_of c d.log) i) o.1)) in omega arith
 
   pub losses_happened : Keeps c Q → LossesSettled → (es : List Event) → LossesHappened c (history c es)
   losses_happened K P es l low high n k g a b =
@@ -89,6 +87,6 @@ module _ (c : Config) (Q : List Happened → World → Type 0) where
       let e : n ≡ low = (let u = x.first in let v = x.last in omega arith) in
       let lg : x.reader.log ≡ l = same_log c x.before x.after (history c es) l g.name x.reader x.split (got_of c x.before x.world x.holds.0.1.1.1.1.1 g.name x.reader x.named) g.of_log in
       let t : take (m.step + 1) (history c es) ≡ m.before = subst (λ (z : List Happened). take (m.step + 1) z ≡ m.before) (sym (x.split ∙ (ap (λ z. z ++ x.after) m.split ∙ append_assoc m.before m.after x.after)))
-          (subst (λ z. take z (m.before ++ (m.after ++ x.after)) ≡ m.before) m.place (take_all m.before (m.after ++ x.after))) in
+      (subst (λ z. take z (m.before ++ (m.after ++ x.after)) ≡ m.before) m.place (take_all m.before (m.after ++ x.after))) in
       let w : Lacking c (history c es) x.reader.log (home_epoch low) m.step = subst (λ (z : List Happened). (spec_of c x.reader.log (home_epoch low)).r ≤ how_many (stands_lost x.reader.log (home_epoch low) z) (set_at c x.reader.log (home_epoch low))) (sym t) (lacking_then P x.before k low x.reader m) in
       (m.step, (let u = m.earlier in omega arith), subst (λ z. Lacking c (history c es) l (home_epoch z) m.step) (sym e) (subst (λ z. Lacking c (history c es) z (home_epoch low) m.step) lg w))

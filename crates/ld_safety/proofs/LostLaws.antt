@@ -1,33 +1,27 @@
 -- The laws on lost nodes over every list of events.
-use Rattle.std.proofs.Common.{◌≡◌, ◌∙◌, ◌⊎◌, ◌≤◌, ℕ, ◌+◌, inl, inr, refl, ap, sym, subst, Bool, true, ◌&&◌, ◌==◌, List, [], ◌∷◌, ◌++◌, Some, arith}
+use Rattle.std.proofs.Common.{◌≡◌, ◌≤◌, ℕ, inl, inr, sym, subst, true, ◌&&◌, ◌==◌, List, [], ◌∷◌, ◌++◌, arith}
 use Rattle.std.proofs.lemmas.Bool.{and_from, or_cases, eqb-true}
-use Rattle.ld_table.specs.Table.{find}
-use Rattle.ld_table.specs.Named.{find_named}
-use Rattle.ld_table.specs.Words.{is_in, how_many}
+use Rattle.ld_table.specs.Words.{is_in}
 use Rattle.ld_lsn.specs.Number.{home_epoch}
 use Rattle.ld_config.specs.declared.config.Config.{Config}
-use Rattle.ld_config.specs.Bounds.{IsInBounds}
 use Rattle.ld_schedule.specs.declared.event.Event.{Event}
 use Rattle.ld_msg.specs.Reading.{is_loss}
-use Rattle.ld_msg.specs.Reader.{Reader}
 use Rattle.ld_msg.specs.Register.{generation_of}
-use Rattle.ld_op.specs.Plain.{Plain}
-use Rattle.ld_machine.specs.Config.{set_of, set_at, spec_of}
+use Rattle.ld_machine.specs.Config.{set_of, set_at}
 use Rattle.ld_machine.specs.State.{node_at}
 use Rattle.ld_machine.specs.Facts.{Happened}
 use Rattle.ld_machine.specs.World.{World, In, begin, has_told, says_settled}
 use Rattle.ld_machine.specs.Run.{next_world, world_after}
 use Rattle.ld_machine.specs.Losses.{EndsAsLoss}
-use Rattle.ld_safety.specs.Lost.{LostUnder, LostOnce, LossesWereSeen, SeenLost, ShowsWithout, CopiesMayBeLost, may_be_lost}
+use Rattle.ld_safety.specs.Lost.{LostOnce, LossesWereSeen, CopiesMayBeLost, may_be_lost}
 use Rattle.ld_safety.proofs.Lists.{count_mono}
 use Rattle.ld_safety.proofs.Traces.{Keeps, happened, trace, later, both_kept}
-use Rattle.ld_safety.proofs.LostNodes.{LostIn}
 use Rattle.ld_safety.proofs.Generations.{Back, back_here, back_on, back_step, lost_between}
 use Rattle.ld_safety.proofs.LostAlong.{Asked, asked_kept}
 use Rattle.ld_safety.proofs.LostKept.{standings_kept, stands_there}
-use Rattle.ld_safety.proofs.LostMoments.{Known, OpenAt, open_at}
-use Rattle.ld_safety.proofs.LostLaw.{SettledApart, LossesSettled, in_set}
-use Rattle.ld_safety.proofs.LostStood.{AtAsks, at_asks, lost_may, lost_under, lost_in_state}
+use Rattle.ld_safety.proofs.LostMoments.{Known, open_at}
+use Rattle.ld_safety.proofs.LostLaw.{SettledApart, LossesSettled}
+use Rattle.ld_safety.proofs.LostStood.{at_asks, lost_may, lost_under, lost_in_state}
 
 -- ---- lost once ----
 back_along : (c : Config) (hs : List Happened) (w : World) (es : List Event) → Asked c hs w → Back w (world_after c w es)
@@ -78,8 +72,8 @@ module _ (c : Config) (Q : List Happened → World → Type 0) (K : Keeps c Q) (
       let B : Keeps c (Known c Q) = both_kept c (Asked c) Q (asked_kept c) K in
       let h : Known c Q (hs ++ happened c w.state asks ∷ []) t = B.goes_on hs w asks (later c (Known c Q) B [] (begin c) before B.begins) in
       let z : SettledApart c t l s a.reader.held = subst (λ k. SettledApart c t l k a.reader.held) a.next (subst (λ k. SettledApart c t k a.reader.next a.reader.held) a.log
-          (P (hs ++ happened c w.state asks ∷ []) t h name a.reader a.there (subst (λ k. is_loss a.reader.next (set_of c k) a.reader.held ≡ true) (sym a.log) (subst (λ k. is_loss k (set_of c l) a.reader.held ≡ true) (sym a.next) a.loss)))) in
+      (P (hs ++ happened c w.state asks ∷ []) t h name a.reader a.there (subst (λ k. is_loss a.reader.next (set_of c k) a.reader.held ≡ true) (sym a.log) (subst (λ k. is_loss k (set_of c l) a.reader.held ≡ true) (sym a.next) a.loss)))) in
       let m = count_mono (has_told t (says_settled s) l z.summary.ballot) (λ n. may_be_lost l (home_epoch s) (node_at t.state n) && has_told t (says_settled s) l z.summary.ballot n) (set_at c l (home_epoch s)) (λ y i q.
-        let o = open_at s y (set_of c l) a.reader.held a.loss i in and_from (may_be_lost l (home_epoch s) (node_at t.state y)) (has_told t (says_settled s) l z.summary.ballot y)
-        (elim o.how [ inl v ↦ absurd (z.apart y o.answer i o.held v q) | inr v ↦ let k = a.lost y o.answer o.held v in lost_may (node_at t.state y) l (home_epoch s) k.0 k.1 ]) q) in
+      let o = open_at s y (set_of c l) a.reader.held a.loss i in and_from (may_be_lost l (home_epoch s) (node_at t.state y)) (has_told t (says_settled s) l z.summary.ballot y)
+      (elim o.how [ inl v ↦ absurd (z.apart y o.answer i o.held v q) | inr v ↦ let k = a.lost y o.answer o.held v in lost_may (node_at t.state y) l (home_epoch s) k.0 k.1 ]) q) in
       (z.summary, z.closed, let n = z.enough in omega arith)

@@ -1,10 +1,7 @@
 -- A line that calls a number lost comes of a confirmation that each asked node answered: each was lost when the asks were sent.
-use Rattle.std.proofs.Common.{◌≡◌, ◌∙◌, ◌⊎◌, ℕ, inl, inr, refl, ap, sym, subst, Bool, true, false, ◌==◌, ◌&&◌, cond, List, [], ◌∷◌, Option, Some, None}
-use Rattle.std.proofs.lemmas.Bool.{cases_Bool}
-use Rattle.ld_table.specs.Table.{find}
+use Rattle.std.proofs.Common.{◌≡◌, ◌∙◌, ℕ, inl, inr, refl, ap, sym, subst, true, cond, List, [], ◌∷◌, Option, Some, None}
 use Rattle.ld_table.specs.Named.{find_named}
-use Rattle.ld_table.specs.Words.{is_in, all_of}
-use Rattle.ld_lsn.specs.Number.{home_epoch}
+use Rattle.ld_table.specs.Words.{is_in}
 use Rattle.ld_config.specs.declared.config.Config.{Config}
 use Rattle.ld_schedule.specs.declared.event.Event.{Event}
 use Rattle.ld_transcript.specs.declared.line.Line.{Line}
@@ -21,10 +18,9 @@ use Rattle.ld_machine.specs.World.{World, In}
 use Rattle.ld_machine.specs.Step as Step
 use Rattle.ld_safety.proofs.Lists.{Some_inj, In_left, In_right, all_in}
 use Rattle.ld_safety.proofs.Events.{NamesOnce, Reading, dispatch, is_quiet}
-use Rattle.ld_safety.proofs.Lines.{Group, OfItems, group, AllOf}
 use Rattle.ld_safety.proofs.ItemLines.{line_cases}
 use Rattle.ld_safety.proofs.ReaderLogs.{Apart}
-use Rattle.ld_safety.proofs.LostReads.{ReadOn, Lasts, read_on, heard_lasts}
+use Rattle.ld_safety.proofs.LostReads.{read_on, heard_lasts}
 use Rattle.ld_safety.proofs.LostAlong.{RoundsOf}
 use Rattle.ld_safety.proofs.LostSince.{Since, LostThen, again}
 
@@ -76,8 +72,8 @@ losses_given c s e N = dispatch c s e (λ d m. LossesOf s d.lines) N (line_cases
     (λ g ls n a name low high i. absurd (n (sym (a _ i))))
     (λ f name d m i t v. reads_losses c s name d m i t v)
     (λ ls q name low high i. absurd (no_quiet name low high (q _ i)))) where
-  no_quiet : (name : List ℕ) (low high : ℕ) → is_quiet (lines.Gap name gaps.DataLoss low high) ≡ true → ⊥
-  no_quiet name low high h = cc
+      no_quiet : (name : List ℕ) (low high : ℕ) → is_quiet (lines.Gap name gaps.DataLoss low high) ≡ true → ⊥
+      no_quiet name low high h = cc
 
 -- ---- who was told ----
 abbrev OneOf : ℕ → ℕ → List (ℕ × ℕ) → Type 0

@@ -1,16 +1,16 @@
 -- Each line that calls a number lost had a moment: the end of the step that sent the confirming asks. Each node of the log was lost then, or the reader held a clean page of it that lacks the number.
-use Rattle.std.proofs.Common.{◌≡◌, ◌∙◌, ◌⊎◌, ◌≤◌, ◌<◌, ℕ, ◌+◌, suc, inl, inr, refl, ap, sym, subst, Bool, true, false, ◌||◌, List, [], ◌∷◌, ◌++◌, length, Option, Some, None, append_assoc, append-nil, length-append, slice_get, arith}
+use Rattle.std.proofs.Common.{◌≡◌, ◌∙◌, ◌⊎◌, ◌<◌, ℕ, ◌+◌, inl, inr, refl, ap, sym, subst, true, List, [], ◌∷◌, ◌++◌, length, Option, Some, None, append_assoc, append-nil, length-append, arith}
 use Rattle.std.proofs.lemmas.Bool.{and_parts, or_cases}
 use Rattle.ld_table.specs.Table.{find}
 use Rattle.ld_table.specs.Named.{find_named}
-use Rattle.ld_table.specs.Words.{all_of, any_of}
+use Rattle.ld_table.specs.Words.{any_of}
 use Rattle.ld_lsn.specs.Number.{home_epoch}
 use Rattle.ld_config.specs.declared.config.Config.{Config}
 use Rattle.ld_schedule.specs.declared.event.Event.{Event}
 use Rattle.ld_transcript.specs.declared.line.Line.TheVariants as lines
 use Rattle.ld_transcript.specs.declared.line.GapKind.TheVariants as gaps
 use Rattle.ld_msg.specs.Reading.{Held, is_loss, leaves_open, lacks, is_lost_for, lost_held, knows_end_above}
-use Rattle.ld_msg.specs.Reader.{Reader, Confirmation, heard, is_confirmed, confirming_with}
+use Rattle.ld_msg.specs.Reader.{Reader, Confirmation, heard, is_confirmed}
 use Rattle.ld_msg.specs.declared.msg.Body.{Body}
 use Rattle.ld_machine.specs.Config.{set_of}
 use Rattle.ld_machine.specs.State.{node_at}
@@ -20,16 +20,15 @@ use Rattle.ld_machine.specs.Run.{next_world, history}
 use Rattle.ld_machine.specs.Step as Step
 use Rattle.ld_safety.proofs.Lists.{not_none, all_in}
 use Rattle.ld_safety.proofs.Members.{find_in}
-use Rattle.ld_safety.proofs.Lines.{OfMessages}
-use Rattle.ld_safety.proofs.Traces.{Keeps, happened, both_kept, beside_kept, Moment, at_step}
-use Rattle.ld_safety.proofs.GivenItems.{LineAt, line_at}
+use Rattle.ld_safety.proofs.Traces.{Keeps, happened, both_kept, beside_kept, at_step}
+use Rattle.ld_safety.proofs.GivenItems.{line_at}
 use Rattle.ld_safety.proofs.LostNodes.{LostIn}
-use Rattle.ld_safety.proofs.LostReads.{Lasts, heard_lasts}
+use Rattle.ld_safety.proofs.LostReads.{heard_lasts}
 use Rattle.ld_safety.proofs.LostRounds.{AtMost, answer_to}
 use Rattle.ld_safety.proofs.LostAlong.{Asked, asked_kept}
-use Rattle.ld_safety.proofs.LostSince.{Since, LostThen, since_step}
-use Rattle.ld_safety.proofs.LostBegins.{StillThere, NewHere, Came, came, since_new}
-use Rattle.ld_safety.proofs.LostLines.{LossGiven, losses_given, AmongLost, among_lost, confirmed_lost}
+use Rattle.ld_safety.proofs.LostSince.{Since, since_step}
+use Rattle.ld_safety.proofs.LostBegins.{StillThere, NewHere, came, since_new}
+use Rattle.ld_safety.proofs.LostLines.{LossGiven, losses_given, among_lost, confirmed_lost}
 
 -- Q is whatever else is known of each state of the run
 module _ (c : Config) (Q : List Happened → World → Type 0) where

@@ -1,16 +1,16 @@
 -- What an answer leaves of a reader's rounds and of its confirmation.
-use Rattle.std.proofs.Common.{◌≡◌, ◌∙◌, ◌⊎◌, ◌≤◌, ◌<◌, ℕ, ◌+◌, ◌-◌, ◌^◌, min, inl, inr, refl, ap, sym, subst, Bool, true, false, ◌&&◌, ◌||◌, not, ◌==◌, nat_lt, if◌then◌else◌, cond, List, [], ◌∷◌, ◌++◌, Option, Some, None, arith}
-use Rattle.std.proofs.lemmas.Bool.{cases_Bool, and_parts, or_parts, or_cases, ltb-false, eqb-true}
+use Rattle.std.proofs.Common.{◌≡◌, ◌∙◌, ◌⊎◌, ◌≤◌, ◌<◌, ℕ, ◌+◌, min, inl, inr, refl, ap, sym, subst, Bool, true, false, ◌||◌, not, ◌==◌, nat_lt, if◌then◌else◌, cond, List, [], ◌∷◌, ◌++◌, Option, Some, None, arith}
+use Rattle.std.proofs.lemmas.Bool.{cases_Bool, or_cases, ltb-false, eqb-true}
 use Rattle.ld_table.specs.Table.{find, put}
-use Rattle.ld_table.specs.Words.{is_in, with_one, any_of}
+use Rattle.ld_table.specs.Words.{is_in, with_one}
 use Rattle.ld_msg.specs.declared.msg.Body.{Body}
 use Rattle.ld_msg.specs.declared.msg.Body.TheVariants as bodies
 use Rattle.ld_msg.specs.Reading.{Held, Item, TrimTo, RecordHere, HoleHere, BridgeTo, LossHere, trim_held, is_loss, lost_held, bridge_to}
-use Rattle.ld_msg.specs.Reader.{Reader, Read, Confirmation, is_finished, may_confirm, is_confirming, gives, confirms, heard, held_with, is_newer, round_of, confirming_with, confirms_loss, same_generation, is_confirmed, asks_on, gave_item, reaches, polled, poll_asks, asks_of, keys, last_round, item_end, on_answer}
+use Rattle.ld_msg.specs.Reader.{Reader, Read, Confirmation, is_finished, gives, confirms, heard, is_newer, round_of, confirming_with, confirms_loss, same_generation, is_confirmed, polled, poll_asks, asks_of, keys, last_round, item_end, on_answer}
 use Rattle.ld_machine.specs.World.{In}
 use Rattle.ld_safety.proofs.Lists.{Some_inj, not_none, cond_both, In-append, only}
 use Rattle.ld_safety.proofs.Members.{In_put}
-use Rattle.ld_safety.proofs.ReaderSteps.{ReadKeeps, answered, below_end}
+use Rattle.ld_safety.proofs.ReaderSteps.{answered, below_end}
 
 -- an ask of a round, at or below the next number
 pub record AskOf (round next : ℕ) (b : Body) : Type 0 where

@@ -1,34 +1,29 @@
 -- Rounds of readers and their asks: what is in a message to or from a reader came of an ask of at most its round, and what it holds was sent to it.
-use Rattle.std.proofs.Common.{◌≡◌, ◌∙◌, ◌⊎◌, ◌≤◌, ◌<◌, ℕ, ◌+◌, inl, inr, refl, ap, sym, subst, Bool, true, false, List, [], ◌∷◌, length, Option, Some, None, arith}
-use Rattle.ld_table.specs.Table.{find}
+use Rattle.std.proofs.Common.{◌≡◌, ◌∙◌, ◌⊎◌, ◌≤◌, ℕ, inl, inr, refl, ap, sym, subst, true, false, List, [], ◌∷◌, length, Some, arith}
 use Rattle.ld_table.specs.Named.{same, find_named, put_named}
 use Rattle.ld_lsn.specs.Number.{home_epoch}
-use Rattle.ld_config.specs.declared.config.Config.{Config}
-use Rattle.ld_schedule.specs.declared.event.Event.{Event}
 use Rattle.ld_msg.specs.declared.msg.Msg.{Msg}
 use Rattle.ld_msg.specs.declared.msg.Who.{Who}
 use Rattle.ld_msg.specs.declared.msg.Who.TheVariants as whos
 use Rattle.ld_msg.specs.declared.msg.Body.{Body}
 use Rattle.ld_msg.specs.declared.msg.Body.TheVariants as bodies
 use Rattle.ld_msg.specs.Reading.{Held}
-use Rattle.ld_msg.specs.Reader.{Reader, Confirmation, opened, polled, on_answer, poll_asks, round_of}
+use Rattle.ld_msg.specs.Reader.{Reader, Confirmation, opened, round_of}
 use Rattle.ld_msg.specs.Register.{Register, generation_of}
-use Rattle.ld_op.specs.Plain.{Log, log_of, is_lost}
+use Rattle.ld_op.specs.Plain.{Log, is_lost}
 use Rattle.ld_op.specs.Answers.{read_answer}
-use Rattle.ld_op.specs.Handles.{handled_by, ballot_of}
-use Rattle.ld_machine.specs.State.{State, node_at, posted}
+use Rattle.ld_op.specs.Handles.{handled_by}
+use Rattle.ld_machine.specs.State.{posted}
 use Rattle.ld_machine.specs.World.{In}
 use Rattle.ld_machine.specs.Step as Step
 use Rattle.ld_safety.proofs.Lists.{Some_inj, not_none, not_both, only}
 use Rattle.ld_safety.proofs.Names.{named_cases}
 use Rattle.ld_table.proofs.NameLaws.{same-self}
-use Rattle.ld_safety.proofs.ReaderLogs.{Apart, Concerns, SameReader}
+use Rattle.ld_safety.proofs.ReaderLogs.{Apart, Concerns}
 use Rattle.ld_safety.proofs.NodeSteps.{read_answered}
-use Rattle.ld_safety.proofs.Events.{Serves, Reading, Opens}
 use Rattle.ld_safety.proofs.Generations.{NoneFalls}
-use Rattle.ld_safety.proofs.GenerationsHeld.{AllDrawn}
-use Rattle.ld_safety.proofs.LostReads.{AskOf, ReadOn, Lasts, Begins, new_held, poll_are, polled_up, read_on}
-use Rattle.ld_safety.proofs.LostTalk.{Elsewhere, TalkKeeps}
+use Rattle.ld_safety.proofs.LostReads.{AskOf}
+use Rattle.ld_safety.proofs.LostTalk.{Elsewhere}
 
 -- the round and the number of an ask or of an answer to it
 abbrev pub wave_of : Body → ℕ

@@ -1,32 +1,31 @@
 -- Since the asks of a confirmation were sent: each node that says in its round that it is lost was so at that moment, and nobody else is told.
-use Rattle.std.proofs.Common.{◌≡◌, ◌∙◌, ◌⊎◌, ◌≤◌, ◌<◌, ℕ, ◌+◌, inl, inr, refl, ap, sym, subst, Bool, true, false, List, [], ◌∷◌, length, Option, Some, None, arith}
+use Rattle.std.proofs.Common.{◌≡◌, ◌∙◌, ◌≤◌, ◌<◌, ℕ, inl, inr, refl, ap, sym, subst, true, List, [], length, Some, None, arith}
 use Rattle.ld_table.specs.Table.{find}
-use Rattle.ld_table.specs.Named.{same, find_named, put_named}
+use Rattle.ld_table.specs.Named.{find_named, put_named}
 use Rattle.ld_table.specs.Words.{is_in}
 use Rattle.ld_lsn.specs.Number.{home_epoch}
 use Rattle.ld_config.specs.declared.config.Config.{Config}
 use Rattle.ld_schedule.specs.declared.event.Event.{Event}
 use Rattle.ld_msg.specs.declared.msg.Msg.{Msg}
-use Rattle.ld_msg.specs.declared.msg.Who.{Who}
 use Rattle.ld_msg.specs.declared.msg.Who.TheVariants as whos
 use Rattle.ld_msg.specs.declared.msg.Body.{Body}
 use Rattle.ld_msg.specs.declared.msg.Body.TheVariants as bodies
 use Rattle.ld_msg.specs.Reader.{Reader, Confirmation, opened, polled, on_answer, poll_asks}
 use Rattle.ld_msg.specs.Register.{generation_of}
 use Rattle.ld_op.specs.Plain.{Plain, log_of, is_lost}
-use Rattle.ld_machine.specs.State.{State, node_at, posted}
-use Rattle.ld_machine.specs.World.{World, In, Sent}
+use Rattle.ld_machine.specs.State.{node_at, posted}
+use Rattle.ld_machine.specs.World.{World, In}
 use Rattle.ld_machine.specs.Run.{next_world}
 use Rattle.ld_machine.specs.Step as Step
 use Rattle.ld_safety.proofs.Lists.{Some_inj, not_none, only}
 use Rattle.ld_safety.proofs.Names.{named_cases}
 use Rattle.ld_safety.proofs.ReaderLogs.{Apart, Concerns}
-use Rattle.ld_safety.proofs.Events.{NamesOnce, Serves, Reading, Opens}
+use Rattle.ld_safety.proofs.Events.{NamesOnce}
 use Rattle.ld_safety.proofs.LostNodes.{LostIn}
 use Rattle.ld_safety.proofs.Generations.{Back, back_on, back_step}
-use Rattle.ld_safety.proofs.LostReads.{AskOf, ReadOn, Lasts, Begins, SaysAgain, poll_are, polled_up, read_on}
+use Rattle.ld_safety.proofs.LostReads.{ReadOn, SaysAgain, poll_are, polled_up, read_on}
 use Rattle.ld_safety.proofs.LostTalk.{Elsewhere, TalkKeeps, talked, new_or_old, same_readers}
-use Rattle.ld_safety.proofs.LostRounds.{IsAsk, Answers, ask_answer, found_in, posted_to}
+use Rattle.ld_safety.proofs.LostRounds.{ask_answer, found_in, posted_to}
 use Rattle.ld_safety.proofs.LostAlong.{RoundsOf}
 
 -- the world in which the asks were sent; the reader's number and log, the number asked, the round, and the nodes asked with their generations

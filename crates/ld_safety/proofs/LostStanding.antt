@@ -1,10 +1,10 @@
 -- Whether a node stands lost in the lines, and what its plain states say: node by node and line by line.
-use Rattle.std.proofs.Common.{◌≡◌, ◌∙◌, ◌⊎◌, ◌≤◌, ◌<◌, ℕ, ◌+◌, inl, inr, refl, ap, sym, subst, Bool, true, false, ◌&&◌, ◌==◌, nat_lt, nat_le, cond, if◌then◌else◌, List, [], ◌∷◌, ◌++◌, append-nil, Option, Some, None, arith}
+use Rattle.std.proofs.Common.{◌≡◌, ◌∙◌, ◌≤◌, ◌<◌, ℕ, inl, inr, refl, ap, sym, subst, Bool, true, false, ◌&&◌, ◌==◌, nat_lt, nat_le, cond, if◌then◌else◌, List, [], ◌∷◌, ◌++◌, Option, Some, None, arith}
 use Rattle.std.specs.Option.{unwrap_or}
 use Rattle.std.specs.Ordering.{nat_cmp}
 use Rattle.std.specs.BTreeMap.{is_at}
-use Rattle.std.proofs.lemmas.Bool.{cases_Bool, and_parts, and_from, eqb-true, eqb-false, eq-eqb, lt-ltb, le-leb, leb-true, ltb-true, cases_order}
-use Rattle.ld_table.specs.Table.{find, put}
+use Rattle.std.proofs.lemmas.Bool.{cases_Bool, and_parts, and_from, eqb-true, eqb-false, eq-eqb, lt-ltb, leb-true, cases_order}
+use Rattle.ld_table.specs.Table.{find}
 use Rattle.ld_table.specs.Words.{is_in}
 use Rattle.ld_table.proofs.Laws.{same_key, find-put_same}
 use Rattle.ld_ids.specs.declared.set.Spec.{Spec}
@@ -13,15 +13,15 @@ use Rattle.ld_transcript.specs.declared.line.Line.{Line}
 use Rattle.ld_transcript.specs.declared.line.Line.TheVariants as lines
 use Rattle.ld_op.specs.declared.op.Op.{Op}
 use Rattle.ld_op.specs.declared.op.Op.TheVariants as ops
-use Rattle.ld_op.specs.Plain.{Plain, Log, log_of, empty_log, is_lost, lost_log, lost_logs, apply, unformatted, with_log, refilled}
+use Rattle.ld_op.specs.Plain.{Plain, Log, log_of, empty_log, is_lost, lost_log, lost_logs, apply, with_log, refilled}
 use Rattle.ld_msg.specs.Register.{Register, Epochs, no_epochs, epochs_of, epochs_in}
 use Rattle.ld_ids.specs.Set.{members_from}
 use Rattle.ld_machine.specs.Config.{spec_in, no_spec}
 use Rattle.ld_machine.specs.Disk.{Node, Fate, Made, FailsAt, CrashesAt, fate, new_node, keep_op, kept_by, kept_end, is_full_for, load, loaded_by, load_end, found, status_of, Written, is_up, is_blank, Blank, Up, Failed}
-use Rattle.ld_machine.specs.Facts.{Happened, Standing, Lost, LostTo, Sound, lost_to, formatted_as, standing_after, standing_in, standing, stands_for}
+use Rattle.ld_machine.specs.Facts.{Happened, Standing, Lost, lost_to, standing_after, standing_in, standing, stands_for}
 use Rattle.ld_machine.specs.World.{In, MayHold}
 use Rattle.ld_machine.specs.Step as Step
-use Rattle.ld_safety.proofs.Lists.{Some_inj, not_none, not_both, cond_both}
+use Rattle.ld_safety.proofs.Lists.{Some_inj, not_both, cond_both}
 use Rattle.ld_safety.proofs.Members.{find_in}
 use Rattle.ld_safety.proofs.Rising.{Rising}
 use Rattle.ld_safety.proofs.HoldSteps.{is_format, same_generation}

@@ -1,8 +1,7 @@
 -- In every state a node with a plain state that is lost for an epoch of a log that it keeps stands lost for it in the lines.
-use Rattle.std.proofs.Common.{◌≡◌, ◌∙◌, ◌⊎◌, ◌≤◌, ◌<◌, ℕ, ◌+◌, inl, inr, refl, ap, sym, subst, Bool, true, false, ◌&&◌, ◌||◌, ◌==◌, cond, List, [], ◌∷◌, ◌++◌, append-nil, Option, Some, None, arith}
+use Rattle.std.proofs.Common.{◌≡◌, ◌∙◌, ◌≤◌, ◌<◌, ℕ, inl, inr, refl, ap, sym, subst, Bool, true, false, ◌&&◌, ◌==◌, cond, List, [], ◌∷◌, ◌++◌, append-nil, Option, Some, None, arith}
 use Rattle.std.specs.Option.{unwrap_or}
-use Rattle.std.proofs.lemmas.Bool.{cases_Bool, eq-eqb, eqb-true, le-leb}
-use Rattle.ld_table.specs.Table.{find, put}
+use Rattle.std.proofs.lemmas.Bool.{eq-eqb, eqb-true, le-leb}
 use Rattle.ld_table.specs.Words.{is_in}
 use Rattle.ld_table.proofs.Laws.{put_cases, find-put_same}
 use Rattle.ld_ids.specs.declared.set.Spec.{Spec}
@@ -10,31 +9,30 @@ use Rattle.ld_config.specs.declared.config.Config.{Config}
 use Rattle.ld_schedule.specs.declared.event.Event.{Event}
 use Rattle.ld_transcript.specs.declared.line.Line.{Line}
 use Rattle.ld_transcript.specs.declared.line.Line.TheVariants as lines
-use Rattle.ld_msg.specs.declared.msg.Summary.{Summary}
 use Rattle.ld_msg.specs.declared.msg.Msg.{Msg}
 use Rattle.ld_msg.specs.declared.msg.Body.{Body}
 use Rattle.ld_msg.specs.declared.msg.Body.TheVariants as bodies
 use Rattle.ld_op.specs.declared.op.Op.{Op}
 use Rattle.ld_op.specs.declared.op.Op.TheVariants as ops
-use Rattle.ld_op.specs.Plain.{Plain, log_of, is_lost, apply, lost_logs}
+use Rattle.ld_op.specs.Plain.{Plain, log_of, is_lost, apply}
 use Rattle.ld_op.specs.Ticks.{Ticked, Cleans, Rebuilt, Asks, Nothing}
 use Rattle.ld_msg.specs.Register.{Register, Granted, draw, generation_of, epochs_of, epochs_in}
 use Rattle.ld_msg.specs.Sequencer.{called, on_reply, on_retry}
 use Rattle.ld_machine.specs.Config.{spec_in, set_of}
-use Rattle.ld_machine.specs.Disk.{Node, new_node, keep_op, keep_end, load, load_end, Kept, Written, DiskFailed, Crashed, JournalFull, is_up, is_blank, is_down, is_failed, Down}
+use Rattle.ld_machine.specs.Disk.{Node, new_node, keep_op, keep_end, load, load_end, Kept, Written, DiskFailed, Crashed, JournalFull, is_up, is_blank}
 use Rattle.ld_machine.specs.State.{State, Done, finish, node_at, with_node, with_register, with_line}
-use Rattle.ld_machine.specs.Facts.{Happened, Standing, Lost, LostTo, Sound, lost_to, formatted_as, standing_after, standing_in, standing, stands_for}
-use Rattle.ld_machine.specs.World.{In, MayHold}
+use Rattle.ld_machine.specs.Facts.{Happened, Standing, Lost, Sound, lost_to, formatted_as, standing_after, standing_in, standing, stands_for}
+use Rattle.ld_machine.specs.World.{In}
 use Rattle.ld_machine.specs.Step as Step
-use Rattle.ld_safety.proofs.Lists.{Some_inj, not_none, not_both, cond_both, In-append}
+use Rattle.ld_safety.proofs.Lists.{not_none, not_both, In-append}
 use Rattle.ld_safety.proofs.Rising.{Rising}
 use Rattle.ld_safety.proofs.Lines.{Group, OfNodes, OfActs, OfItems, group, AllOf, acted_of, items_of}
 use Rattle.ld_safety.proofs.Steps.{is_plain, In_finish, told}
-use Rattle.ld_safety.proofs.Events.{Cases, Serves, is_quiet, refreshed, loaded}
+use Rattle.ld_safety.proofs.Events.{Cases, is_quiet, refreshed, loaded}
 use Rattle.ld_safety.proofs.RegisterSteps.{draw_granted}
 use Rattle.ld_safety.proofs.HoldSteps.{handled_plain, same_generation}
 use Rattle.ld_safety.proofs.Sends.{written}
-use Rattle.ld_safety.proofs.LostNodes.{released_from, drawn_above}
+use Rattle.ld_safety.proofs.LostNodes.{drawn_above}
 use Rattle.ld_safety.proofs.LostStanding.{Stands, Still, moves, standing_grows, stays_in, new_stands, op_stands, format_stands, load_stands, load_whole, keep_status, keep_up, not_lost_after, formatted_lost, lines_told}
 
 -- ---- lines that say nothing of it ----

@@ -1,41 +1,37 @@
 -- From the confirming asks for a number to the step that calls it lost: who was lost at the asks.
-use Rattle.std.proofs.Common.{◌≡◌, ◌∙◌, ◌⊎◌, ◌≤◌, ◌<◌, ℕ, ◌+◌, inl, inr, refl, ap, sym, subst, Bool, true, false, ◌&&◌, ◌||◌, List, [], ◌∷◌, ◌++◌, append_assoc, append-nil, Option, Some, None, arith}
-use Rattle.std.proofs.lemmas.Bool.{or_left, or_right, and_from}
+use Rattle.std.proofs.Common.{◌≡◌, ◌∙◌, ℕ, inl, inr, refl, ap, sym, subst, true, List, [], ◌∷◌, ◌++◌, append_assoc, append-nil, Option, Some, None, arith}
+use Rattle.std.proofs.lemmas.Bool.{or_left, or_right}
 use Rattle.ld_table.specs.Table.{find}
 use Rattle.ld_table.specs.Named.{find_named, put_named}
-use Rattle.ld_table.specs.Words.{is_in, how_many}
 use Rattle.ld_lsn.specs.Number.{home_epoch}
 use Rattle.ld_config.specs.declared.config.Config.{Config}
 use Rattle.ld_schedule.specs.declared.event.Event.{Event}
-use Rattle.ld_transcript.specs.declared.line.Line.TheVariants as lines
-use Rattle.ld_transcript.specs.declared.line.GapKind.TheVariants as gaps
-use Rattle.ld_msg.specs.declared.msg.Msg.{Msg}
 use Rattle.ld_msg.specs.declared.msg.Who.TheVariants as whos
-use Rattle.ld_msg.specs.Reading.{Held, lost_held, is_loss, is_lost_for, lacks}
-use Rattle.ld_msg.specs.Reader.{Reader, Confirmation, heard, is_confirmed, opened, polled, on_answer}
-use Rattle.ld_machine.specs.Config.{set_of, set_at, spec_of}
+use Rattle.ld_msg.specs.Reading.{Held, lost_held, is_loss, is_lost_for}
+use Rattle.ld_msg.specs.Reader.{Reader, heard, is_confirmed, polled}
+use Rattle.ld_machine.specs.Config.{set_of}
 use Rattle.ld_machine.specs.Disk.{Node, Cut}
 use Rattle.ld_machine.specs.State.{State, node_at}
-use Rattle.ld_machine.specs.Facts.{Happened, Lost, standing, stands_for}
-use Rattle.ld_machine.specs.World.{World, In, begin, MayHold, has_told, says_settled}
+use Rattle.ld_machine.specs.Facts.{Happened}
+use Rattle.ld_machine.specs.World.{World, In, begin}
 use Rattle.ld_machine.specs.Run.{next_world, world_after}
-use Rattle.ld_machine.specs.Losses.{IsConfirming, IsBefore, EndsAsLoss}
+use Rattle.ld_machine.specs.Losses.{EndsAsLoss}
 use Rattle.ld_machine.specs.Step as Step
 use Rattle.ld_op.specs.Plain.{Plain, log_of, is_lost}
-use Rattle.ld_safety.specs.Lost.{LostUnder, may_be_lost, cut_may, ShowsWithout, SeenLost, CopiesMayBeLost}
-use Rattle.ld_safety.proofs.Lists.{Some_inj, not_none, count_mono}
+use Rattle.ld_safety.specs.Lost.{LostUnder, may_be_lost, cut_may}
+use Rattle.ld_safety.proofs.Lists.{Some_inj, not_none}
 use Rattle.ld_safety.proofs.Names.{named_cases}
 use Rattle.ld_safety.proofs.Members.{find_in}
 use Rattle.ld_safety.proofs.Lines.{line_of}
-use Rattle.ld_safety.proofs.Traces.{Keeps, happened, trace, later, both_kept}
+use Rattle.ld_safety.proofs.Traces.{happened, trace, later}
 use Rattle.ld_safety.proofs.Events.{NamesOnce}
 use Rattle.ld_safety.proofs.LostNodes.{LostIn}
-use Rattle.ld_safety.proofs.LostReads.{ReadOn, read_on}
+use Rattle.ld_safety.proofs.LostReads.{read_on}
 use Rattle.ld_safety.proofs.LostTalk.{TalkKeeps, talked, same_readers}
 use Rattle.ld_safety.proofs.LostAlong.{Asked, asked_kept}
-use Rattle.ld_safety.proofs.LostSince.{Since, SinceConfirming, LostThen, since_step}
-use Rattle.ld_safety.proofs.LostBegins.{StillThere, NewHere, came, since_new}
-use Rattle.ld_safety.proofs.LostLines.{LossGiven, losses_given, among_lost, confirmed_lost}
+use Rattle.ld_safety.proofs.LostSince.{Since, SinceConfirming, since_step}
+use Rattle.ld_safety.proofs.LostBegins.{NewHere, came, since_new}
+use Rattle.ld_safety.proofs.LostLines.{losses_given, among_lost, confirmed_lost}
 
 -- ---- words ----
 pub lost_may : (x : Node) (l e g : ℕ) → LostIn x l e g → may_be_lost l e x ≡ true
@@ -154,7 +150,7 @@ module _ (c : Config) (name : List ℕ) (l s round : ℕ) (before : List Event) 
       let round : u.round ≡ v.round = E.still.here ∙ sym E.asked.here in
       let C : SinceConfirming _ x.number x.log x.next v.round v.asked d u = (o.since.talk.readers name d E.still.there number).confirming u E.still.lasts round in
       let S : Since _ d.number d.log d.next u.round u.asked _ = subst (λ y. Since _ d.number d.log d.next u.round y _) (sym C.same) (subst (λ y. Since _ d.number d.log d.next y v.asked _) (sym round) (subst (λ y. Since _ d.number d.log y v.round v.asked _) (sym C.next)
-          (subst (λ y. Since _ d.number y x.next v.round v.asked _) (sym log) (subst (λ y. Since _ y x.log x.next v.round v.asked _) (sym number) o.since)))) in
+      (subst (λ y. Since _ d.number y x.next v.round v.asked _) (sym log) (subst (λ y. Since _ y x.log x.next v.round v.asked _) (sym number) o.since)))) in
       let g = losses_given c _ gives o.known.0.0.0 name s s (line_of (Step.happens c _ gives) _ (λ h. cc) E.told) in
       let same : g.reader ≡ d = Some_inj (sym g.named ∙ E.still.there) in
       let lg : x.log ≡ l = sym log ∙ E.of_log in
@@ -168,6 +164,6 @@ module _ (c : Config) (name : List ℕ) (l s round : ℕ) (before : List Event) 
             let k = among_lost s y h x.held (find_in y x.held h f) z in
             let i : In {X = ℕ × ℕ} (y, k.generation) v.asked = subst (λ (m : List (ℕ × ℕ)). In {X = ℕ × ℕ} (y, k.generation) m) (sym n.asked) (subst (λ j. In {X = ℕ × ℕ} (y, k.generation) (lost_held j x.held)) (sym E.asked.next) k.there) in
             let t = confirmed_lost c _ _ gives o.known.0.1.1 o.known.1.1 name d u S E.still.there E.still.lasts g.message g.sent (g.to ∙ ap (λ (j : Reader). whos.Reader j.number) same)
-                (subst (λ (j : Reader). is_confirmed (heard j (Step.sender_node g.message.from) g.message.body).confirming ≡ true) same g.confirmed) y k.generation (subst (λ (m : List (ℕ × ℕ)). In {X = ℕ × ℕ} (y, k.generation) m) (sym C.same) i) in
+            (subst (λ (j : Reader). is_confirmed (heard j (Step.sender_node g.message.from) g.message.body).confirming ≡ true) same g.confirmed) y k.generation (subst (λ (m : List (ℕ × ℕ)). In {X = ℕ × ℕ} (y, k.generation) m) (sym C.same) i) in
             (t.generation, let p : Node = node_at (next_world c (world_after c (begin c) before) asks).state y in subst (λ j. LostIn p l (home_epoch j) t.generation) (C.next ∙ E.asked.next) (subst (λ j. LostIn p j (home_epoch d.next) t.generation) E.of_log t.lost));
       }

@@ -1,6 +1,6 @@
 -- What each event sends and which readers it leaves: whoever speaks of messages and readers answers these few cases.
-use Rattle.std.proofs.Common.{◌≡◌, ◌∙◌, ◌⊎◌, ℕ, inl, inr, refl, ap, sym, subst, Bool, true, false, cond, List, [], ◌∷◌, length, Option, Some, None}
-use Rattle.ld_table.specs.Named.{find_named, put_named}
+use Rattle.std.proofs.Common.{◌≡◌, ◌∙◌, ◌⊎◌, ℕ, inl, inr, refl, ap, sym, subst, cond, List, [], ◌∷◌, length, Option, Some, None}
+use Rattle.ld_table.specs.Named.{put_named}
 use Rattle.ld_config.specs.declared.config.Config.{Config}
 use Rattle.ld_schedule.specs.declared.event.Event.{Event}
 use Rattle.ld_msg.specs.declared.msg.Who.{Who}
@@ -19,8 +19,7 @@ use Rattle.ld_msg.specs.Reader.{Reader, opened, polled, on_answer, poll_asks}
 use Rattle.ld_machine.specs.State.{State, Done, finish, node_at, with_node, with_register, posted}
 use Rattle.ld_machine.specs.World.{In}
 use Rattle.ld_machine.specs.Step as Step
-use Rattle.ld_safety.proofs.Lists.{only}
-use Rattle.ld_safety.proofs.Steps.{sent_by, sent_before, sent_now}
+use Rattle.ld_safety.proofs.Steps.{sent_by, sent_before}
 use Rattle.ld_safety.proofs.Events.{NamesOnce, Cases, dispatch, Serves, Reading, Opens, refreshed, loaded}
 
 -- a message to a node that isn't from a reader
