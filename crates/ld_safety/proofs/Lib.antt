@@ -63,3 +63,4 @@ pub mod LostActiveKept
 pub mod LostLaw
 pub mod LostStood
 pub mod LostLaws
+pub mod LostUnserved
