@@ -64,3 +64,4 @@ pub mod LostLaw
 pub mod LostStood
 pub mod LostLaws
 pub mod LostUnserved
+pub mod LostTold
