@@ -65,3 +65,4 @@ pub mod LostStood
 pub mod LostLaws
 pub mod LostUnserved
 pub mod LostTold
+pub mod LostPages
