@@ -66,3 +66,4 @@ pub mod LostLaws
 pub mod LostUnserved
 pub mod LostTold
 pub mod LostPages
+pub mod LostShown
