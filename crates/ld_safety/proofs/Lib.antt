@@ -67,3 +67,4 @@ pub mod LostUnserved
 pub mod LostTold
 pub mod LostPages
 pub mod LostShown
+pub mod LostSettled
