@@ -68,3 +68,5 @@ pub mod LostTold
 pub mod LostPages
 pub mod LostShown
 pub mod LostSettled
+pub mod LostFull
+pub mod LostFullKept

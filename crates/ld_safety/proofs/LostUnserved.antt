@@ -154,7 +154,7 @@ full_log : (g : Log) → nat_lt g.lost_to (lowest_unclean g) ≡ true → FullCl
 unfolding summary_at
 full_log g h e a b = cond_both (e == 0) (Some epoch_zero) (find e g.summaries) (λ o. is_some o ≡ true) (λ t. refl) (λ t. gap_clean 1 e g.summaries a (let z = ltb-true g.lost_to (lowest_unclean g) h in omega arith))
 
-rebuilt_full : (g : Log) (closed : List (ℕ × Summary)) → on_tick g closed ≡ Rebuilt → FullClean g
+pub rebuilt_full : (g : Log) (closed : List (ℕ × Summary)) → on_tick g closed ≡ Rebuilt → FullClean g
 unfolding on_tick
 rebuilt_full g closed h = by_found (find (lowest_unclean g) closed) h where
   by_lost : (b : Bool) (ns : List ℕ) → refill_tick b ns ≡ Rebuilt → b ≡ true
