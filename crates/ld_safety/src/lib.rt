@@ -12,6 +12,8 @@ ghost use Rattle.ld_machine.specs.Safe.{ItemsTile, NothingHidden, NumbersDiffer,
 ghost use Rattle.ld_machine.specs.World.{begin};
 ghost use Rattle.ld_machine.specs.Run.{world_after};
 ghost use Rattle.ld_machine.specs.Invariant.{Agrees, Closed, CopiesOf, Retains, SealsHold};
+ghost use Rattle.ld_safety.specs.Agreed.{AgreesOpen};
+ghost use Rattle.ld_safety.specs.Lost.{LossesWereSeen, LostOnce};
 
 /// What each reader gets tiles the numbers from its first one on.
 pub fn items_tile()
@@ -61,4 +63,14 @@ pub fn stored_stays()
 /// In every state, a node that gave a page for a ballot is sealed at it, unless it doesn't serve the epoch.
 pub fn seals_hold()
     ensures { (c : Config) (es : List Event) → IsInBounds c → SealsHold (world_after c (begin c) es) }
+{}
+
+/// A node that is lost for an epoch under a generation, and is so at a later moment, was so at each moment between.
+pub fn lost_once()
+    ensures { LostOnce }
+{}
+
+/// When a reader asks once more for a number that it then calls lost, each node of the log may be lost for its epoch and stands lost in the lines, or had shown the reader a clean page without the number.
+pub fn losses_were_seen()
+    ensures { LossesWereSeen }
 {}

@@ -1,0 +1,113 @@
+-- A line that calls a number lost comes of a confirmation that each asked node answered: each was lost when the asks were sent.
+use Rattle.std.proofs.Common.{◌≡◌, ◌∙◌, ℕ, inl, inr, refl, ap, sym, subst, true, cond, List, [], ◌∷◌, Option, Some, None}
+use Rattle.ld_table.specs.Named.{find_named}
+use Rattle.ld_table.specs.Words.{is_in}
+use Rattle.ld_config.specs.declared.config.Config.{Config}
+use Rattle.ld_schedule.specs.declared.event.Event.{Event}
+use Rattle.ld_transcript.specs.declared.line.Line.{Line}
+use Rattle.ld_transcript.specs.declared.line.Line.TheVariants as lines
+use Rattle.ld_transcript.specs.declared.line.GapKind.TheVariants as gaps
+use Rattle.ld_msg.specs.declared.msg.Msg.{Msg}
+use Rattle.ld_msg.specs.declared.msg.Who.TheVariants as whos
+use Rattle.ld_msg.specs.declared.msg.Body.{Body}
+use Rattle.ld_msg.specs.declared.msg.Body.TheVariants as bodies
+use Rattle.ld_msg.specs.Reading.{Held, Item, TrimTo, RecordHere, HoleHere, BridgeTo, LossHere, lost_held, lost_generation, is_lost_for}
+use Rattle.ld_msg.specs.Reader.{Reader, Confirmation, heard, is_confirmed, on_answer}
+use Rattle.ld_machine.specs.State.{State}
+use Rattle.ld_machine.specs.World.{World, In}
+use Rattle.ld_machine.specs.Step as Step
+use Rattle.ld_safety.proofs.Lists.{Some_inj, In_left, In_right, all_in}
+use Rattle.ld_safety.proofs.Events.{NamesOnce, Reading, dispatch, is_quiet}
+use Rattle.ld_safety.proofs.ItemLines.{line_cases}
+use Rattle.ld_safety.proofs.ReaderLogs.{Apart}
+use Rattle.ld_safety.proofs.LostReads.{read_on, heard_lasts}
+use Rattle.ld_safety.proofs.LostAlong.{RoundsOf}
+use Rattle.ld_safety.proofs.LostSince.{Since, LostThen, again}
+
+-- ---- lines ----
+pub record LossGiven (s : State) (name : List ℕ) (low high : ℕ) : Type 0 where
+  pub reader : Reader
+  pub named : find_named name s.readers ≡ Some reader
+  pub message : Msg
+  pub sent : In message s.network.sent
+  pub to : message.to ≡ whos.Reader reader.number
+  pub confirmed : is_confirmed (heard reader (Step.sender_node message.from) message.body).confirming ≡ true
+  pub first : low ≡ reader.next
+  pub last : high ≡ reader.next
+
+record LossItem (r : List ℕ) (is : List (ℕ × Item)) (name : List ℕ) (low high : ℕ) : Type 0 where
+  item : ℕ × Item
+  there : In item is
+  loss : item.1 ≡ LossHere
+  whose : name ≡ r
+  first : low ≡ item.0
+  last : high ≡ item.0
+
+one_item : (r : List ℕ) (until s : ℕ) (i : Item) (name : List ℕ) (low high : ℕ) → lines.Gap name gaps.DataLoss low high ≡ Step.item_line r s until i → (i ≡ LossHere) × (name ≡ r) × (low ≡ s) × (high ≡ s)
+one_item r until s (TrimTo last) name low high e = absurd cc
+one_item r until s (RecordHere p) name low high e = absurd cc
+one_item r until s HoleHere name low high e = absurd cc
+one_item r until s (BridgeTo last) name low high e = absurd cc
+one_item r until s LossHere name low high e = (refl, cc, cc, cc)
+
+loss_item : (r : List ℕ) (until : ℕ) (is : List (ℕ × Item)) (name : List ℕ) (low high : ℕ) → In (lines.Gap name gaps.DataLoss low high) (Step.item_lines r until is) → LossItem r is name low high
+loss_item r until [] name low high i = absurd i
+loss_item r until (j ∷ is) name low high (inl e) = let k = one_item r until j.0 j.1 name low high e in record { item = j; there = inl refl; loss = k.0; whose = k.1; first = k.2; last = k.3 }
+loss_item r until (j ∷ is) name low high (inr i) = let k = loss_item r until is name low high i in record { item = k.item; there = inr k.there; loss = k.loss; whose = k.whose; first = k.first; last = k.last }
+
+abbrev LossesOf : State → List Line → Type 0
+LossesOf s ls = (name : List ℕ) (low high : ℕ) → In (lines.Gap name gaps.DataLoss low high) ls → LossGiven s name low high
+
+reads_losses : (c : Config) (s : State) (name : List ℕ) (d : Reader) (m : Msg) → In m s.network.sent → m.to ≡ whos.Reader d.number → Reading s name d
+    → LossesOf s (Step.item_lines name (on_answer (Step.set_read c d) d (Step.sender_node m.from) m.body).reader.until (on_answer (Step.set_read c d) d (Step.sender_node m.from) m.body).items)
+reads_losses c s name d m i t v r low high j =
+    let y = Step.sender_node m.from in
+    let G = read_on (Step.set_read c d) d y m.body v.open_still in
+    let k = loss_item name _ _ r low high j in
+    let z = G.losses k.item k.there k.loss in
+    record { reader = d; named = subst (λ (u : List ℕ). find_named u s.readers ≡ Some d) (sym k.whose) v.named; message = m; sent = i; to = t; confirmed = z.1; first = k.first ∙ z.0; last = k.last ∙ z.0 }
+
+pub losses_given : (c : Config) (s : State) (e : Event) → NamesOnce s → LossesOf s (Step.happens c s e).lines
+losses_given c s e N = dispatch c s e (λ d m. LossesOf s d.lines) N (line_cases c s e (LossesOf s)
+    (λ g ls n a name low high i. absurd (n (sym (a _ i))))
+    (λ f name d m i t v. reads_losses c s name d m i t v)
+    (λ ls q name low high i. absurd (no_quiet name low high (q _ i)))) where
+      no_quiet : (name : List ℕ) (low high : ℕ) → is_quiet (lines.Gap name gaps.DataLoss low high) ≡ true → ⊥
+      no_quiet name low high h = cc
+
+-- ---- who was told ----
+abbrev OneOf : ℕ → ℕ → List (ℕ × ℕ) → Type 0
+OneOf y g m = In {X = ℕ × ℕ} (y, g) m
+
+-- each node that is held as lost is among those asked
+pub record AmongLost (s y : ℕ) (hs : List (ℕ × Held)) : Type 0 where
+  pub generation : ℕ
+  pub there : OneOf y generation (lost_held s hs)
+
+one_among : (s y : ℕ) (b : Body) → is_lost_for s b ≡ true → (g : ℕ) × OneOf y g (lost_generation s y b)
+one_among s y (bodies.LostHere n u g end) h = (g, subst (λ t. OneOf y g (cond t ((y, g) ∷ []) [])) (sym h) (inl refl))
+one_among s y _ h = absurd cc
+
+pub among_lost : (s y : ℕ) (h : Held) (hs : List (ℕ × Held)) → In {X = ℕ × Held} (y, h) hs → is_lost_for s h.body ≡ true → AmongLost s y hs
+among_lost s y h [] i l = absurd i
+among_lost s y h (k ∷ hs) (inl e) l = let a = one_among s y h.body l in record { generation = a.0; there = In_left {X = ℕ × ℕ} _ (lost_generation s k.0 k.1.body) (lost_held s hs) (subst (λ (z : ℕ × Held). OneOf y a.0 (lost_generation s z.0 z.1.body)) e a.1) }
+among_lost s y h (k ∷ hs) (inr i) l = let a = among_lost s y h hs i l in record { generation = a.generation; there = In_right {X = ℕ × ℕ} _ (lost_generation s k.0 k.1.body) (lost_held s hs) a.there }
+
+-- when the last asked node has said again that it is lost, each of them was lost at the moment of the asks
+module _ (c : Config) (then w : World) (e : Event) (A : Apart w.state.network.sent w.state.readers) (R : RoundsOf w) (name : List ℕ) (d : Reader) (u : Confirmation) (P : Since then d.number d.log d.next u.round u.asked w)
+    (f : find_named name w.state.readers ≡ Some d) (was : d.confirming ≡ Some u) (m : Msg) (i : In m w.state.network.sent) (t : m.to ≡ whos.Reader d.number) where
+  all_told : (o : Option Confirmation) → (heard d (Step.sender_node m.from) m.body).confirming ≡ o → is_confirmed o ≡ true → (z g : ℕ) → OneOf z g u.asked → LostThen then d.number d.log d.next u.round u.asked z
+  all_told None q h z g j = absurd cc
+  all_told (Some v) q h z g j =
+      let o = heard_lasts d (Step.sender_node m.from) m.body v q in
+      let k : o.before ≡ u = Some_inj (sym o.was ∙ was) in
+      let x : OneOf z g v.asked = subst (OneOf z g) (sym (o.asked ∙ ap (λ (y : Confirmation). y.asked) k)) j in
+      let D = P.talk.readers name d f refl in
+      let C = D.confirming u was refl in
+      elim (o.told z (all_in (λ (y : ℕ × ℕ). is_in y.0 v.told) (z, g) v.asked h x)) [
+        | inl a ↦ C.told z (subst (λ (y : Confirmation). is_in z y.told ≡ true) k a)
+        | inr a ↦ again then d.number d.log d.next u.round u.asked c w e A R P m i t o.before z a.0 (ap (λ (y : Confirmation). y.round) k) (ap (λ (y : Confirmation). y.asked) k) a.1
+      ]
+
+  pub confirmed_lost : is_confirmed (heard d (Step.sender_node m.from) m.body).confirming ≡ true → (z g : ℕ) → OneOf z g u.asked → LostThen then d.number d.log d.next u.round u.asked z
+  confirmed_lost h z g j = all_told _ refl h z g j

@@ -1,0 +1,212 @@
+-- What an answer leaves of a reader's rounds and of its confirmation.
+use Rattle.std.proofs.Common.{◌≡◌, ◌∙◌, ◌⊎◌, ◌≤◌, ◌<◌, ℕ, ◌+◌, min, inl, inr, refl, ap, sym, subst, Bool, true, false, ◌||◌, not, ◌==◌, nat_lt, if◌then◌else◌, cond, List, [], ◌∷◌, ◌++◌, Option, Some, None, arith}
+use Rattle.std.proofs.lemmas.Bool.{cases_Bool, or_cases, ltb-false, eqb-true}
+use Rattle.ld_table.specs.Table.{find, put}
+use Rattle.ld_table.specs.Words.{is_in, with_one}
+use Rattle.ld_msg.specs.declared.msg.Body.{Body}
+use Rattle.ld_msg.specs.declared.msg.Body.TheVariants as bodies
+use Rattle.ld_msg.specs.Reading.{Held, Item, TrimTo, RecordHere, HoleHere, BridgeTo, LossHere, trim_held, is_loss, lost_held, bridge_to}
+use Rattle.ld_msg.specs.Reader.{Reader, Read, Confirmation, is_finished, gives, confirms, heard, is_newer, round_of, confirming_with, confirms_loss, same_generation, is_confirmed, polled, poll_asks, asks_of, keys, last_round, item_end, on_answer}
+use Rattle.ld_machine.specs.World.{In}
+use Rattle.ld_safety.proofs.Lists.{Some_inj, not_none, cond_both, In-append, only}
+use Rattle.ld_safety.proofs.Members.{In_put}
+use Rattle.ld_safety.proofs.ReaderSteps.{answered, below_end}
+
+-- an ask of a round, at or below the next number
+pub record AskOf (round next : ℕ) (b : Body) : Type 0 where
+  pub from : ℕ
+  pub is : b ≡ bodies.ReadAsk round from
+  pub below : from ≤ next
+
+-- the node says again that it is lost, under the generation that was held for it
+pub record SaysAgain (u : Confirmation) (y : ℕ) (b : Body) : Type 0 where
+  pub number : ℕ
+  pub generation : ℕ
+  pub end : ℕ
+  pub is : b ≡ bodies.LostHere number u.round generation end
+  pub asked : find y u.asked ≡ Some generation
+
+-- the confirmation that lasted goes on
+pub record Lasts (d : Reader) (y : ℕ) (b : Body) (r : Reader) (v : Confirmation) : Type 0 where
+  pub before : Confirmation
+  pub was : d.confirming ≡ Some before
+  pub round : v.round ≡ before.round
+  pub asked : v.asked ≡ before.asked
+  pub told : (z : ℕ) → is_in z v.told ≡ true → (is_in z before.told ≡ true) ⊎ ((z ≡ y) × SaysAgain before y b)
+  pub next : r.next ≡ d.next
+
+-- a new one begins
+pub record Begins (set : List ℕ) (d : Reader) (a : Read) (v : Confirmation) : Type 0 where
+  pub round : v.round ≡ a.reader.round
+  pub higher : d.round < v.round
+  pub told : v.told ≡ []
+  pub asked : v.asked ≡ lost_held a.reader.next a.reader.held
+  pub loss : is_loss a.reader.next set a.reader.held ≡ true
+  pub asks : (x : ℕ × Body) → In x a.asks → x.1 ≡ bodies.ReadAsk v.round a.reader.next
+
+abbrev pub new_held : ℕ → Body → ℕ × Held
+new_held y b = (y, record { round = round_of b; body = b })
+
+pub record ReadOn (set : List ℕ) (d : Reader) (y : ℕ) (b : Body) (a : Read) : Type 0 where
+  pub number : a.reader.number ≡ d.number
+  pub log : a.reader.log ≡ d.log
+  pub until : a.reader.until ≡ d.until
+  pub round : d.round ≤ a.reader.round
+  pub next : d.next ≤ a.reader.next
+  pub asks : (x : ℕ × Body) → In x a.asks → AskOf a.reader.round a.reader.next x.1 × (d.round < a.reader.round)
+  pub confirming : (v : Confirmation) → a.reader.confirming ≡ Some v → Lasts d y b a.reader v ⊎ Begins set d a v
+  pub held : (h : ℕ × Held) → In h a.reader.held → In h d.held ⊎ (h ≡ new_held y b)
+  pub losses : (i : ℕ × Item) → In i a.items → i.1 ≡ LossHere → (i.0 ≡ d.next) × (is_confirmed (heard d y b).confirming ≡ true)
+
+-- ---- asks ----
+pub asks_are : (round next : ℕ) (set : List ℕ) (x : ℕ × Body) → In x (asks_of round next set) → x.1 ≡ bodies.ReadAsk round next
+asks_are round next [] x i = absurd i
+asks_are round next (y ∷ ys) x (inl e) = ap (λ (z : ℕ × Body). z.1) e
+asks_are round next (y ∷ ys) x (inr i) = asks_are round next ys x i
+
+-- a poll's asks are of its new round
+pub poll_are : (set : List ℕ) (d : Reader) (x : ℕ × Body) → In x (poll_asks set d) → (x.1 ≡ bodies.ReadAsk (polled d).round d.next) × (d.round < (polled d).round)
+poll_are set d x i = by_limit (nat_lt d.round last_round) i where
+  by_limit : (t : Bool) → In x (cond t (asks_of (d.round + 1) d.next set) []) → (x.1 ≡ bodies.ReadAsk (cond t (d.round + 1) d.round) d.next) × (d.round < cond t (d.round + 1) d.round)
+  by_limit true j = (asks_are (d.round + 1) d.next set x j, omega arith)
+  by_limit false j = absurd j
+
+pub polled_up : (d : Reader) → d.round ≤ (polled d).round
+polled_up d = cond_both (nat_lt d.round last_round) (d.round + 1) d.round (λ r. d.round ≤ r) (λ t. omega arith) (λ t. omega arith)
+
+-- ---- what comes of an answer that is heard ----
+same_is : (o : Option ℕ) (g : ℕ) → same_generation o g ≡ true → o ≡ Some g
+same_is None g h = absurd cc
+same_is (Some k) g h = ap Some (eqb-true k g h)
+
+with_one_in : (y z : ℕ) (xs : List ℕ) → is_in z (with_one y xs) ≡ true → (is_in z xs ≡ true) ⊎ (z ≡ y)
+with_one_in y z xs h = cond_both (is_in y xs) xs (xs ++ y ∷ []) (λ l. is_in z l ≡ true → (is_in z xs ≡ true) ⊎ (z ≡ y)) (λ t q. inl q) (λ t q. at_end xs q) h where
+  at_end : (ys : List ℕ) → is_in z (ys ++ y ∷ []) ≡ true → (is_in z ys ≡ true) ⊎ (z ≡ y)
+  at_end [] q = elim (or_cases (y == z) false q) [ inl e ↦ inr (sym (eqb-true y z e)) | inr e ↦ absurd cc ]
+  at_end (x ∷ ys) q = elim (cases_Bool (x == z)) [
+    | inl e ↦ inl (subst (λ b. (b || is_in z ys) ≡ true) (sym e) refl)
+    | inr e ↦ elim (at_end ys (subst (λ b. (b || is_in z (ys ++ y ∷ [])) ≡ true) e q)) [ inl k ↦ inl (subst (λ b. (b || is_in z ys) ≡ true) (sym e) k) | inr k ↦ inr k ]
+  ]
+
+says_again : (u : Confirmation) (y : ℕ) (b : Body) → round_of b ≡ u.round → confirms_loss u.asked y b ≡ true → SaysAgain u y b
+says_again u y (bodies.LostHere n round g end) e h = record { number = n; generation = g; end = end; is = ap (λ r. bodies.LostHere n r g end) e; asked = same_is (find y u.asked) g h }
+says_again u y _ e h = absurd cc
+
+not_not : (b : Bool) → not b ≡ false → b ≡ true
+not_not true h = refl
+not_not false h = absurd cc
+
+pub heard_lasts : (d : Reader) (y : ℕ) (b : Body) (v : Confirmation) → (heard d y b).confirming ≡ Some v → Lasts d y b (heard d y b) v
+heard_lasts d y b v h = by_confirming d.confirming refl h where
+  by_confirming : (o : Option Confirmation) → d.confirming ≡ o → confirming_with o y b ≡ Some v → Lasts d y b (heard d y b) v
+  by_confirming None e q = absurd cc
+  by_confirming (Some u) e q = cond_both (not (round_of b == u.round)) (Some u) (if confirms_loss u.asked y b then Some (record { round = u.round; asked = u.asked; told = with_one y u.told }) else None) (λ x. x ≡ Some v → Lasts d y b (heard d y b) v)
+      (λ t x. let z : u ≡ v = Some_inj x in record { before = u; was = e; round = ap (λ (k : Confirmation). k.round) (sym z); asked = ap (λ (k : Confirmation). k.asked) (sym z); told = λ i j. inl (subst (λ (k : Confirmation). is_in i k.told ≡ true) (sym z) j); next = refl })
+      (λ t. cond_both (confirms_loss u.asked y b) (Some (record { round = u.round; asked = u.asked; told = with_one y u.told })) None (λ x. x ≡ Some v → Lasts d y b (heard d y b) v)
+      (λ r x. let z : record { round = u.round; asked = u.asked; told = with_one y u.told } ≡ v = Some_inj x in record {
+        before = u;
+        was = e;
+        round = ap (λ (k : Confirmation). k.round) (sym z);
+        asked = ap (λ (k : Confirmation). k.asked) (sym z);
+        told = λ i j. elim (with_one_in y i u.told (subst (λ (k : Confirmation). is_in i k.told ≡ true) (sym z) j)) [ inl k ↦ inl k | inr k ↦ inr (k, says_again u y b (eqb-true _ _ (not_not _ t)) r) ];
+        next = refl;
+      })
+      (λ r x. absurd cc)) q
+
+heard_held : (d : Reader) (y : ℕ) (b : Body) (h : ℕ × Held) → In h (heard d y b).held → In h d.held ⊎ (h ≡ new_held y b)
+heard_held d y b h = cond_both (is_newer (find y d.held) (round_of b)) (put y (record { round = round_of b; body = b }) d.held) d.held (λ x. In h x → In h d.held ⊎ (h ≡ new_held y b))
+    (λ t i. elim (In_put y (record { round = round_of b; body = b }) d.held h i) [ inl q ↦ inr q | inr j ↦ inl j ]) (λ t i. inl i)
+
+-- ---- items ----
+pub not_finished : (d : Reader) → is_finished d ≡ false → d.next ≤ d.until
+not_finished d h = ltb-false d.until d.next h
+
+item_up : (n e u : ℕ) → n ≤ e → n ≤ u → n ≤ min e u + 1
+item_up n e u a b = omega arith
+
+module _ (set : List ℕ) (d : Reader) (y : ℕ) (b : Body) where
+  given : (a : Read) (i : Item) → ReadOn set d y b a → is_finished a.reader ≡ false → a.reader.next ≤ item_end a.reader.next i → (i ≡ LossHere → ⊥) → ReadOn set d y b (gives a i)
+  given a i g f up n =
+      let lower = item_up a.reader.next (item_end a.reader.next i) a.reader.until up (not_finished a.reader f) in
+      record {
+        number = g.number;
+        log = g.log;
+        until = g.until;
+        round = g.round;
+        next = let z = g.next in omega arith;
+        asks = λ x j. let k = g.asks x j in (record { from = k.0.from; is = k.0.is; below = let z = k.0.below in omega arith }, k.1);
+        confirming = λ v q. absurd (not_none q);
+        held = g.held;
+        losses = λ j k q. elim (In-append j a.items _ k) [ inl o ↦ g.losses j o q | inr o ↦ absurd (n (sym (ap (λ (x : ℕ × Item). x.1) (only j (a.reader.next, i) o)) ∙ q)) ];
+      }
+
+  started : ReadOn set d y b (record { reader = heard d y b; items = []; asks = [] })
+  started = record {
+    number = refl;
+    log = refl;
+    until = refl;
+    round = omega arith;
+    next = omega arith;
+    asks = λ x j. absurd j;
+    confirming = λ v q. inl (heard_lasts d y b v q);
+    held = heard_held d y b;
+    losses = λ i j q. absurd j;
+  }
+
+  lost_first : is_finished d ≡ false → is_confirmed (heard d y b).confirming ≡ true → ReadOn set d y b (gives (record { reader = heard d y b; items = []; asks = [] }) LossHere)
+  lost_first f h = let lower = item_up d.next d.next d.until (omega arith) (not_finished d f) in record {
+    number = refl;
+    log = refl;
+    until = refl;
+    round = omega arith;
+    next = omega arith;
+    asks = λ x j. absurd j;
+    confirming = λ v q. absurd (not_none q);
+    held = heard_held d y b;
+    losses = λ i j q. (ap (λ (x : ℕ × Item). x.0) (only i (d.next, LossHere) j), h);
+  }
+
+  begun : (a : Read) → ReadOn set d y b a → is_loss a.reader.next set a.reader.held ≡ true → ReadOn set d y b (confirms a (lost_held a.reader.next a.reader.held))
+  begun a g l = record {
+    number = g.number;
+    log = g.log;
+    until = g.until;
+    round = let z = g.round in omega arith;
+    next = g.next;
+    asks = λ x j. (record { from = a.reader.next; is = asks_are (a.reader.round + 1) a.reader.next (keys (lost_held a.reader.next a.reader.held)) x j; below = omega arith }, let z = g.round in omega arith);
+    confirming = λ v q. inr (let z : record { round = a.reader.round + 1; asked = lost_held a.reader.next a.reader.held; told = [] } ≡ v = Some_inj q in record {
+      round = ap (λ (k : Confirmation). k.round) (sym z);
+      higher = let e : a.reader.round + 1 ≡ v.round = ap (λ (k : Confirmation). k.round) z in let z = g.round in omega arith;
+      told = ap (λ (k : Confirmation). k.told) (sym z);
+      asked = ap (λ (k : Confirmation). k.asked) (sym z);
+      loss = l;
+      asks = λ x j. asks_are (a.reader.round + 1) a.reader.next (keys (lost_held a.reader.next a.reader.held)) x j ∙ ap (λ r. bodies.ReadAsk r a.reader.next) (ap (λ (k : Confirmation). k.round) z);
+    });
+    held = g.held;
+    losses = g.losses;
+  }
+
+  asked_on : (a : Read) → ReadOn set d y b a → ReadOn set d y b (record { reader = polled a.reader; items = a.items; asks = poll_asks set a.reader })
+  asked_on a g = let up = polled_up a.reader in record {
+    number = g.number;
+    log = g.log;
+    until = g.until;
+    round = let z = g.round in omega arith;
+    next = g.next;
+    asks = λ x j. let k = poll_are set a.reader x j in (record { from = a.reader.next; is = k.0; below = omega arith }, let z = g.round in let l = k.1 in omega arith);
+    confirming = λ v q. absurd (not_none q);
+    held = g.held;
+    losses = g.losses;
+  }
+
+  pub read_on : is_finished d ≡ false → ReadOn set d y b (on_answer set d y b)
+  read_on f = answered set d y b (ReadOn set d y b) (record {
+    starts = started;
+    loss = λ h. lost_first f h;
+    trim = λ a g n t. given a (TrimTo (trim_held a.reader.held)) g n t (λ q. cc);
+    record_there = λ a p g n t. given a (RecordHere p) g n (omega arith) (λ q. cc);
+    hole_there = λ a g n t. given a HoleHere g n (omega arith) (λ q. cc);
+    bridge = λ a g n t. given a (BridgeTo (bridge_to a.reader.next)) g n (below_end a.reader.next) (λ q. cc);
+    confirm = λ a g n m t. begun a g t;
+    polls_on = λ a g t. asked_on a g;
+  })

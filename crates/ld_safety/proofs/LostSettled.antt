@@ -1,0 +1,139 @@
+-- Where nodes keep what was settled, a number that a reader may call lost was settled by as many nodes as there are copies, and none of them shows a clean page without it.
+use Rattle.std.proofs.Common.{◌≡◌, ◌∙◌, ◌⊎◌, ◌≤◌, ◌<◌, ℕ, ◌+◌, ◌*◌, ◌^◌, inl, inr, refl, ap, sym, subst, Bool, true, false, not, ◌&&◌, ◌==◌, nat_lt, nat_le, List, [], ◌∷◌, Option, Some, None, is_some, arith}
+use Rattle.std.proofs.lemmas.Bool.{cases_Bool, and_parts, eqb-true, ltb-true, leb-true}
+use Rattle.ld_table.specs.Table.{find}
+use Rattle.ld_table.specs.Named.{find_named}
+use Rattle.ld_table.specs.Words.{all_of, any_of, how_many}
+use Rattle.ld_lsn.specs.Number.{numbered, home_epoch}
+use Rattle.ld_config.specs.declared.config.Config.{Config}
+use Rattle.ld_schedule.specs.declared.event.Event.{Event}
+use Rattle.ld_msg.specs.declared.msg.Msg.{Msg}
+use Rattle.ld_msg.specs.declared.msg.Entry.{Entry}
+use Rattle.ld_msg.specs.declared.msg.Summary.{Summary}
+use Rattle.ld_msg.specs.declared.msg.Body.{Body}
+use Rattle.ld_msg.specs.declared.msg.Body.TheVariants as bodies
+use Rattle.ld_msg.specs.Reading.{Held, is_loss, leaves_open, lacks, is_lost_for, knows_end_above, entry_at}
+use Rattle.ld_msg.specs.Reader.{Reader}
+use Rattle.ld_machine.specs.Config.{set_of, set_at}
+use Rattle.ld_machine.specs.Facts.{Happened}
+use Rattle.ld_machine.specs.Safe.{LossesHappened}
+use Rattle.ld_machine.specs.World.{World, In, begin, has_told, says_settled}
+use Rattle.ld_machine.specs.Invariant.{Closed}
+use Rattle.ld_machine.specs.Losses.{EndsAsLoss}
+use Rattle.ld_machine.specs.Run.{history, next_world, world_after}
+use Rattle.ld_safety.specs.Lost.{CopiesMayBeLost}
+use Rattle.ld_safety.proofs.Lists.{Some_inj, any_in, not_both}
+use Rattle.ld_safety.proofs.Members.{find_in}
+use Rattle.ld_safety.proofs.Traces.{Keeps}
+use Rattle.ld_safety.proofs.LostRounds.{answer_to, place_of}
+use Rattle.ld_safety.proofs.LostAlong.{Asked, RoundsOf}
+use Rattle.ld_safety.proofs.LostMoments.{Known}
+use Rattle.ld_safety.proofs.LostLaw.{SettledApart, LossesSettled, losses_happened}
+use Rattle.ld_safety.proofs.LostLaws.{copies_may_be_lost}
+use Rattle.ld_safety.proofs.LostPages.{CleanKept, CleanPage, KnownEnd, home_is}
+use Rattle.ld_safety.proofs.LostShown.{Facts, PageFacts, Shown, shown_kept}
+
+-- ---- what is held ----
+
+-- a clean page that covers the number without it
+pub record Lacking (s : ℕ) (b : Body) : Type 0 where
+  pub round : ℕ
+  pub from : ℕ
+  pub upto : ℕ
+  pub entries : List Entry
+  pub is : b ≡ bodies.ReadPage round from upto true entries
+  pub low : from ≤ s
+  pub high : s ≤ upto
+  pub without : is_some (entry_at s entries) ≡ false
+
+not_is : (b : Bool) → not b ≡ true → b ≡ false
+not_is true h = absurd cc
+not_is false h = refl
+
+lacks_parts : (s : ℕ) (b : Body) → lacks s b ≡ true → Lacking s b
+lacks_parts s (bodies.ReadPage round from upto clean es) h =
+    let p = and_parts clean ((nat_le from s && nat_le s upto) && not (is_some (entry_at s es))) h in
+    let q = and_parts (nat_le from s && nat_le s upto) (not (is_some (entry_at s es))) p.1 in
+    let r = and_parts (nat_le from s) (nat_le s upto) q.0 in
+    record { round = round; from = from; upto = upto; entries = es; is = ap (λ z. bodies.ReadPage round from upto z es) p.0; low = leb-true _ _ r.0; high = leb-true _ _ r.1; without = not_is _ q.1 }
+lacks_parts s _ h = absurd cc
+
+-- a lost node that knows an end above the number
+pub record KnowsAbove (s : ℕ) (b : Body) : Type 0 where
+  pub number : ℕ
+  pub round : ℕ
+  pub generation : ℕ
+  pub end : ℕ
+  pub is : b ≡ bodies.LostHere number round generation end
+  pub home : home_epoch number ≡ home_epoch s
+  pub above : s < end
+
+knows_cases : (s : ℕ) (b : Body) → knows_end_above s b ≡ true → KnowsAbove s b ⊎ Lacking s b
+knows_cases s (bodies.LostHere n u g end) h = let p = and_parts (home_epoch n == home_epoch s) (nat_lt s end) h in inl (record { number = n; round = u; generation = g; end = end; is = refl; home = eqb-true _ _ p.0; above = ltb-true _ _ p.1 })
+knows_cases s (bodies.ReadPage round from upto clean es) h = inr (lacks_parts s (bodies.ReadPage round from upto clean es) h)
+knows_cases s _ h = absurd cc
+
+-- the closed epoch of the number, which lies between its plan's trim and end
+pub record Within (w : World) (l s : ℕ) : Type 0 where
+  pub summary : Summary
+  pub closed : Closed w l (home_epoch s) summary
+  pub above : summary.trim < s
+  pub below : s < numbered (home_epoch s) summary.end
+
+page_home : (w : World) (y l s from upto : ℕ) (es : List Entry) → CleanPage w y l from upto es → from ≤ s → s ≤ upto → home_epoch s ≡ home_epoch from
+page_home w y l s from upto es P lo hi = let a = P.starts in let z = P.ends in let x = P.place in (home_is s (home_epoch from) (omega arith) (omega arith)).0
+
+module _ (c : Config) (w : World) (A : RoundsOf w) (F : (m : Msg) → In m w.state.network.sent → Facts w m) (name : List ℕ) (d : Reader) (f : find_named name w.state.readers ≡ Some d) where
+  facts_of : (h : ℕ × Held) → In h d.held → PageFacts w h.0 d.log h.1.body
+  facts_of h i = F (answer_to h.0 d h.1.body) (A.held name d h f i) d.number refl
+
+  page_held : (h : ℕ × Held) → In h d.held → (k : Lacking d.next h.1.body) → CleanPage w h.0 d.log k.from k.upto k.entries
+  page_held h i k = (facts_of h i).pages k.round k.from k.upto k.entries k.is
+
+  within_page : (h : ℕ × Held) → In h d.held → (k : Lacking d.next h.1.body) → Within w d.log d.next
+  within_page h i k = let P = page_held h i k in let q = page_home w h.0 d.log d.next k.from k.upto k.entries P k.low k.high in let a = P.above in let lo = k.low in let hi = k.high in let z = P.ends in record {
+    summary = P.summary;
+    closed = subst (λ j. Closed w d.log j P.summary) (sym q) P.closed;
+    above = omega arith;
+    below = subst (λ j. d.next < numbered j P.summary.end) (sym q) (omega arith);
+  }
+
+  within_known : (h : ℕ × Held) → In h d.held → (k : KnowsAbove d.next h.1.body) → Within w d.log d.next
+  within_known h i k =
+      let e = (facts_of h i).ends k.number k.round k.generation k.end k.is (let z = k.above in omega arith) in
+      let t : k.number ≤ d.next = subst (λ b. place_of b ≤ d.next) k.is (A.waves (answer_to h.0 d h.1.body) d.number name d (A.held name d h f i) (inl refl) f refl).place in
+      record {
+        summary = e.summary;
+        closed = subst (λ j. Closed w d.log j e.summary) k.home e.closed;
+        above = let a = e.above in omega arith;
+        below = subst (λ j. d.next < numbered j e.summary.end) k.home (let a = e.is in let z = k.above in omega arith);
+      }
+
+  pub within : is_loss d.next (set_of c d.log) d.held ≡ true → Within w d.log d.next
+  unfolding is_loss
+  within l = let p = and_parts (all_of (λ y. leaves_open d.next (find y d.held)) (set_of c d.log) && any_of (λ h. is_lost_for d.next h.1.body) d.held) (any_of (λ h. knows_end_above d.next h.1.body) d.held) l in
+      let x = any_in (λ (h : ℕ × Held). knows_end_above d.next h.1.body) d.held p.1 in elim (knows_cases d.next x.0.1.body x.2) [ inl k ↦ within_known x.0 x.1 k | inr k ↦ within_page x.0 x.1 k ]
+
+  pub settled_apart : CleanKept c w → is_loss d.next (set_of c d.log) d.held ≡ true → SettledApart c w d.log d.next d.held
+  settled_apart K l = let z = within l in record {
+    summary = z.summary;
+    closed = z.closed;
+    enough = K.settled d.log d.next z.summary z.closed z.above z.below;
+    apart = λ y h i q b t.
+        let k = lacks_parts d.next h.body b in
+        let P = page_held (y, h) (find_in y d.held h q) k in
+        let e = page_home w y d.log d.next k.from k.upto k.entries P k.low k.high in
+        let same : z.summary ≡ P.summary = Some_inj (sym z.closed ∙ subst (λ j. Closed w d.log j P.summary) (sym e) P.closed) in
+        not_both _ (P.has d.next k.low k.high (subst (λ (u : Summary). has_told w (says_settled d.next) d.log u.ballot y ≡ true) same t)) k.without;
+  }
+
+-- ---- the laws, where nodes keep what was settled ----
+module _ (c : Config) (Q : List Happened → World → Type 0) (C : (hs : List Happened) (w : World) → Q hs w → CleanKept c w) where
+  pub losses_settled : LossesSettled c (Shown c Q C)
+  losses_settled hs w K name d f l = settled_apart c w K.0.1.1 K.1.1.1 name d f (C hs w K.1.0.0.1) l
+
+  pub happened : Keeps c Q → (es : List Event) → LossesHappened c (history c es)
+  happened K es = losses_happened c (Shown c Q C) (shown_kept c Q C K) losses_settled es
+
+  pub stood : Keeps c Q → (name : List ℕ) (l s round : ℕ) (before : List Event) (asks : Event) (between : List Event) (gives : Event) → EndsAsLoss c name l s round before asks between gives → CopiesMayBeLost c (next_world c (world_after c (begin c) before) asks) l s
+  stood K name l s round before asks between gives E = copies_may_be_lost c (Shown c Q C) (shown_kept c Q C K) losses_settled name l s round before asks between gives E

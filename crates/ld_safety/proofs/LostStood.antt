@@ -1,0 +1,169 @@
+-- From the confirming asks for a number to the step that calls it lost: who was lost at the asks.
+use Rattle.std.proofs.Common.{◌≡◌, ◌∙◌, ℕ, inl, inr, refl, ap, sym, subst, true, List, [], ◌∷◌, ◌++◌, append_assoc, append-nil, Option, Some, None, arith}
+use Rattle.std.proofs.lemmas.Bool.{or_left, or_right}
+use Rattle.ld_table.specs.Table.{find}
+use Rattle.ld_table.specs.Named.{find_named, put_named}
+use Rattle.ld_lsn.specs.Number.{home_epoch}
+use Rattle.ld_config.specs.declared.config.Config.{Config}
+use Rattle.ld_schedule.specs.declared.event.Event.{Event}
+use Rattle.ld_msg.specs.declared.msg.Who.TheVariants as whos
+use Rattle.ld_msg.specs.Reading.{Held, lost_held, is_loss, is_lost_for}
+use Rattle.ld_msg.specs.Reader.{Reader, heard, is_confirmed, polled}
+use Rattle.ld_machine.specs.Config.{set_of}
+use Rattle.ld_machine.specs.Disk.{Node, Cut}
+use Rattle.ld_machine.specs.State.{State, node_at}
+use Rattle.ld_machine.specs.Facts.{Happened}
+use Rattle.ld_machine.specs.World.{World, In, begin}
+use Rattle.ld_machine.specs.Run.{next_world, world_after}
+use Rattle.ld_machine.specs.Losses.{EndsAsLoss}
+use Rattle.ld_machine.specs.Step as Step
+use Rattle.ld_op.specs.Plain.{Plain, log_of, is_lost}
+use Rattle.ld_safety.specs.Lost.{LostUnder, may_be_lost, cut_may}
+use Rattle.ld_safety.proofs.Lists.{Some_inj, not_none}
+use Rattle.ld_safety.proofs.Names.{named_cases}
+use Rattle.ld_safety.proofs.Members.{find_in}
+use Rattle.ld_safety.proofs.Lines.{line_of}
+use Rattle.ld_safety.proofs.Traces.{happened, trace, later}
+use Rattle.ld_safety.proofs.Events.{NamesOnce}
+use Rattle.ld_safety.proofs.LostNodes.{LostIn}
+use Rattle.ld_safety.proofs.LostReads.{read_on}
+use Rattle.ld_safety.proofs.LostTalk.{TalkKeeps, talked, same_readers}
+use Rattle.ld_safety.proofs.LostAlong.{Asked, asked_kept}
+use Rattle.ld_safety.proofs.LostSince.{Since, SinceConfirming, since_step}
+use Rattle.ld_safety.proofs.LostBegins.{NewHere, came, since_new}
+use Rattle.ld_safety.proofs.LostLines.{losses_given, among_lost, confirmed_lost}
+
+-- ---- words ----
+pub lost_may : (x : Node) (l e g : ℕ) → LostIn x l e g → may_be_lost l e x ≡ true
+lost_may x l e g h = elim h.held [
+  | inl q ↦ or_left (is_lost (log_of x.plain l) e) (cut_may l e x.cut) (subst (λ (p : Plain). is_lost (log_of p l) e ≡ true) q h.lost)
+  | inr q ↦ or_right (is_lost (log_of x.plain l) e) (cut_may l e x.cut) (subst (λ (o : Option Cut). cut_may l e o ≡ true) (sym q.1) (subst (λ (p : Plain). is_lost (log_of p l) e ≡ true) q.2 h.lost))
+]
+
+pub lost_under : (x : Node) (l e g : ℕ) → LostIn x l e g → LostUnder x l e g
+lost_under x l e g h = (h.plain, h.held, h.generation, h.lost)
+
+pub lost_in_state : (x : Node) (l e g : ℕ) → LostUnder x l e g → LostIn x l e g
+lost_in_state x l e g h = record { plain = h.0; held = h.1; generation = h.2; lost = h.3 }
+
+-- ---- a reader keeps its name and its number ----
+pub record Named (ds : List (List ℕ × Reader)) (name : List ℕ) (n l : ℕ) : Type 0 where
+  pub reader : Reader
+  pub there : find_named name ds ≡ Some reader
+  pub number : reader.number ≡ n
+  pub log : reader.log ≡ l
+
+module _ (c : Config) (s : State) (e : Event) (name : List ℕ) (n l : ℕ) (h : Named s.readers name n l) where
+  named_put : (t : List ℕ) (d x : Reader) → find_named t s.readers ≡ Some d → x.number ≡ d.number → x.log ≡ d.log → Named (put_named t x s.readers) name n l
+  named_put t d x f p q = elim (named_cases name t x s.readers) [
+    | inl a ↦ (let z : d ≡ h.reader = Some_inj (sym f ∙ subst (λ k. find_named k s.readers ≡ Some h.reader) a.0 h.there) in record { reader = x; there = a.1; number = p ∙ (ap (λ (y : Reader). y.number) z ∙ h.number); log = q ∙ (ap (λ (y : Reader). y.log) z ∙ h.log) })
+    | inr a ↦ record { reader = h.reader; there = a.1 ∙ h.there; number = h.number; log = h.log }
+  ]
+
+  named_new : (t : List ℕ) (x : Reader) → find_named t s.readers ≡ None → Named (put_named t x s.readers) name n l
+  named_new t x f = elim (named_cases name t x s.readers) [
+    | inl a ↦ absurd (not_none (sym f ∙ subst (λ k. find_named k s.readers ≡ Some h.reader) a.0 h.there))
+    | inr a ↦ record { reader = h.reader; there = a.1 ∙ h.there; number = h.number; log = h.log }
+  ]
+
+  named_talk : TalkKeeps c s e (λ ms ds. Named ds name n l)
+  named_talk = record {
+    quiet = h;
+    elsewhere = λ ms k. h;
+    answers = λ k m x i t v q. h;
+    reads = λ t d m i q v. let G = read_on (Step.set_read c d) d (Step.sender_node m.from) m.body v.open_still in named_put t d _ v.named G.number G.log;
+    polls = λ t d v. named_put t d (polled d) v.named refl refl;
+    opens = λ t k from until o. named_new t _ o.fresh_name;
+  }
+
+named_step : (c : Config) (w : World) (e : Event) → NamesOnce w.state → (name : List ℕ) (n l : ℕ) → Named w.state.readers name n l → Named (next_world c w e).state.readers name n l
+named_step c w e N name n l h = subst (λ ds. Named ds name n l) (sym (same_readers (Step.happens c w.state e))) (talked c w.state e (λ ms ds. Named ds name n l) (named_talk c w.state e name n l h) N).talk
+
+-- ---- from the asks on ----
+pub record Onward (c : Config) (then w : World) (hs : List Happened) (name : List ℕ) (r l s round : ℕ) (asked : List (ℕ × ℕ)) : Type 0 where
+  pub known : Asked c hs w
+  pub since : Since then r l s round asked w
+  pub named : Named w.state.readers name r l
+
+pub onward : (c : Config) (then w : World) (hs : List Happened) (name : List ℕ) (r l s round : ℕ) (asked : List (ℕ × ℕ)) (es : List Event) → Onward c then w hs name r l s round asked → Onward c then (world_after c w es) (hs ++ trace c w es) name r l s round asked
+unfolding world_after
+onward c then w hs name r l s round asked [] h = subst (λ k. Onward c then w k name r l s round asked) (sym (append-nil hs)) h
+onward c then w hs name r l s round asked (e ∷ es) h = subst (λ k. Onward c then (world_after c (next_world c w e) es) k name r l s round asked) (append_assoc hs (happened c w.state e ∷ []) (trace c (next_world c w e) es))
+    (onward c then (next_world c w e) (hs ++ happened c w.state e ∷ []) name r l s round asked es (record {
+      known = (asked_kept c).goes_on hs w e h.known;
+      since = since_step then r l s round asked c w e h.known.0.1.1 h.known.1.1 h.since h.known.0.0.0;
+      named = named_step c w e h.known.0.0.0 name r l h.named;
+    }))
+
+-- ---- what was so at the asks ----
+pub record AtAsks (c : Config) (then : World) (name : List ℕ) (l s : ℕ) : Type 0 where
+  pub reader : Reader
+  pub there : find_named name then.state.readers ≡ Some reader
+  pub log : reader.log ≡ l
+  pub next : reader.next ≡ s
+  pub loss : is_loss s (set_of c l) reader.held ≡ true
+  pub lost : (y : ℕ) (h : Held) → find y reader.held ≡ Some h → is_lost_for s h.body ≡ true → (g : ℕ) × LostIn (node_at then.state y) l (home_epoch s) g
+
+module _ (c : Config) (name : List ℕ) (l s round : ℕ) (before : List Event) (asks : Event) (between : List Event) (gives : Event) (E : EndsAsLoss c name l s round before asks between gives) where
+  abbrev first : World
+  first = world_after c (begin c) before
+
+  abbrev then : World
+  then = next_world c (world_after c (begin c) before) asks
+
+  abbrev last : World
+  last = world_after c (next_world c (world_after c (begin c) before) asks) between
+
+  known_first : Asked c (trace c (begin c) before) (world_after c (begin c) before)
+  known_first = later c (Asked c) (asked_kept c) [] (begin c) before (asked_kept c).begins
+
+  known_then : Asked c (trace c (begin c) before ++ happened c (world_after c (begin c) before).state asks ∷ []) (next_world c (world_after c (begin c) before) asks)
+  known_then = (asked_kept c).goes_on (trace c (begin c) before) (world_after c (begin c) before) asks known_first
+
+  -- the confirmation begins in the step of the asks
+  begins_there : NewHere c (world_after c (begin c) before).state (Step.happens c (world_after c (begin c) before).state asks).sends name E.asked.reader E.asked.confirmation
+  begins_there = elim (came c (world_after c (begin c) before) asks known_first.0.0.0 name E.asked.reader E.asked.confirmation E.asked.there E.asked.lasts) [
+    | inl o ↦ absurd (let q : o.reader ≡ E.not_yet.reader = Some_inj (sym o.named ∙ E.not_yet.there) in let a = known_first.1.1.confirming name o.reader o.before o.named o.was in let b = o.round in let z = E.asked.here in let u = ap (λ (y : Reader). y.round) q in let v = E.not_yet.lower in omega arith)
+    | inr n ↦ n
+  ]
+
+  abbrev x : Reader
+  x = E.asked.reader
+
+  start_onward : Onward c (next_world c (world_after c (begin c) before) asks) (next_world c (world_after c (begin c) before) asks) (trace c (begin c) before ++ happened c (world_after c (begin c) before).state asks ∷ []) name E.asked.reader.number E.asked.reader.log E.asked.reader.next E.asked.confirmation.round E.asked.confirmation.asked
+  start_onward = record {
+    known = known_then;
+    since = since_new c (world_after c (begin c) before) asks known_first.0.0.0 known_first.0.1.1 known_first.1.1 known_then.0.1.1 known_then.1.1 name E.asked.reader E.asked.confirmation E.asked.there E.asked.lasts begins_there;
+    named = record { reader = E.asked.reader; there = E.asked.there; number = refl; log = refl };
+  }
+
+  pub at_asks : AtAsks c (next_world c (world_after c (begin c) before) asks) name l s
+  at_asks =
+      let v = E.asked.confirmation in
+      let n = begins_there in
+      let o = onward c _ _ _ name x.number x.log x.next v.round v.asked between start_onward in
+      let d = E.still.reader in
+      let u = E.still.confirmation in
+      let q : o.named.reader ≡ d = Some_inj (sym o.named.there ∙ E.still.there) in
+      let number : d.number ≡ x.number = ap (λ (y : Reader). y.number) (sym q) ∙ o.named.number in
+      let log : d.log ≡ x.log = ap (λ (y : Reader). y.log) (sym q) ∙ o.named.log in
+      let round : u.round ≡ v.round = E.still.here ∙ sym E.asked.here in
+      let C : SinceConfirming _ x.number x.log x.next v.round v.asked d u = (o.since.talk.readers name d E.still.there number).confirming u E.still.lasts round in
+      let S : Since _ d.number d.log d.next u.round u.asked _ = subst (λ y. Since _ d.number d.log d.next u.round y _) (sym C.same) (subst (λ y. Since _ d.number d.log d.next y v.asked _) (sym round) (subst (λ y. Since _ d.number d.log y v.round v.asked _) (sym C.next)
+      (subst (λ y. Since _ d.number y x.next v.round v.asked _) (sym log) (subst (λ y. Since _ y x.log x.next v.round v.asked _) (sym number) o.since)))) in
+      let g = losses_given c _ gives o.known.0.0.0 name s s (line_of (Step.happens c _ gives) _ (λ h. cc) E.told) in
+      let same : g.reader ≡ d = Some_inj (sym g.named ∙ E.still.there) in
+      let lg : x.log ≡ l = sym log ∙ E.of_log in
+      record {
+        reader = x;
+        there = E.asked.there;
+        log = lg;
+        next = E.asked.next;
+        loss = subst (λ y. is_loss s (set_of c y) x.held ≡ true) lg (subst (λ y. is_loss y (set_of c x.log) x.held ≡ true) E.asked.next n.loss);
+        lost = λ y h f z.
+            let k = among_lost s y h x.held (find_in y x.held h f) z in
+            let i : In {X = ℕ × ℕ} (y, k.generation) v.asked = subst (λ (m : List (ℕ × ℕ)). In {X = ℕ × ℕ} (y, k.generation) m) (sym n.asked) (subst (λ j. In {X = ℕ × ℕ} (y, k.generation) (lost_held j x.held)) (sym E.asked.next) k.there) in
+            let t = confirmed_lost c _ _ gives o.known.0.1.1 o.known.1.1 name d u S E.still.there E.still.lasts g.message g.sent (g.to ∙ ap (λ (j : Reader). whos.Reader j.number) same)
+            (subst (λ (j : Reader). is_confirmed (heard j (Step.sender_node g.message.from) g.message.body).confirming ≡ true) same g.confirmed) y k.generation (subst (λ (m : List (ℕ × ℕ)). In {X = ℕ × ℕ} (y, k.generation) m) (sym C.same) i) in
+            (t.generation, let p : Node = node_at (next_world c (world_after c (begin c) before) asks).state y in subst (λ j. LostIn p l (home_epoch j) t.generation) (C.next ∙ E.asked.next) (subst (λ j. LostIn p j (home_epoch d.next) t.generation) E.of_log t.lost));
+      }

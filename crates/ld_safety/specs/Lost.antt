@@ -1,0 +1,68 @@
+-- Nodes that may be lost: in one of the states that a load may find, where a crash left two.
+use Rattle.std.specs.Prelude.{ℕ, ◌≡◌, ◌≤◌, ◌⊎◌, List, [], ◌∷◌, ◌++◌, Option, Some, None, Bool, true, false, ◌&&◌, ◌||◌}
+use Rattle.ld_table.specs.Table.{find}
+use Rattle.ld_table.specs.Named.{find_named}
+use Rattle.ld_table.specs.Words.{is_in, how_many}
+use Rattle.ld_lsn.specs.Number.{home_epoch}
+use Rattle.ld_config.specs.declared.config.Config.{Config}
+use Rattle.ld_config.specs.Bounds.{IsInBounds}
+use Rattle.ld_schedule.specs.declared.event.Event.{Event}
+use Rattle.ld_msg.specs.declared.msg.Summary.{Summary}
+use Rattle.ld_msg.specs.Reading.{Held, lacks}
+use Rattle.ld_msg.specs.Reader.{Reader}
+use Rattle.ld_op.specs.Plain.{Plain, log_of, is_lost}
+use Rattle.ld_machine.specs.Config.{spec_of, set_at}
+use Rattle.ld_machine.specs.Disk.{Node, Cut}
+use Rattle.ld_machine.specs.State.{node_at}
+use Rattle.ld_machine.specs.Facts.{Lost, standing, stands_for}
+use Rattle.ld_machine.specs.World.{World, begin, MayHold, has_told, says_settled}
+use Rattle.ld_machine.specs.Run.{next_world, world_after, happened, trace}
+use Rattle.ld_machine.specs.Invariant.{Closed}
+use Rattle.ld_machine.specs.Losses.{EndsAsLoss}
+
+-- ---- lost under a generation ----
+
+-- a state that a load may find at the node is lost for the epoch of the log, under the generation
+abbrev pub LostUnder : Node → ℕ → ℕ → ℕ → Type 0
+LostUnder x l e g = (p : Plain) × MayHold x p × (p.generation ≡ g) × (is_lost (log_of p l) e ≡ true)
+
+-- a node that is lost under a generation, and is so later, was so all the time between
+abbrev pub LostOnce : Type 0
+LostOnce = (c : Config) (first between last : List Event) (y l e g : ℕ) → IsInBounds c →
+    LostUnder (node_at (world_after c (begin c) first).state y) l e g →
+    LostUnder (node_at (world_after c (world_after c (world_after c (begin c) first) between) last).state y) l e g →
+    LostUnder (node_at (world_after c (world_after c (begin c) first) between).state y) l e g
+
+-- ---- when the confirming asks are sent ----
+
+abbrev pub cut_may : ℕ → ℕ → Option Cut → Bool
+cut_may l e None = false
+cut_may l e (Some k) = is_lost (log_of k.plain l) e
+
+-- the node may be lost for the epoch
+abbrev pub may_be_lost : ℕ → ℕ → Node → Bool
+may_be_lost l e x = is_lost (log_of x.plain l) e || cut_may l e x.cut
+
+-- the reader of the name holds a clean page of the node that covers the number without it
+pub record ShowsWithout (w : World) (name : List ℕ) (s y : ℕ) : Type 0 where
+  pub reader : Reader
+  pub there : find_named name w.state.readers ≡ Some reader
+  pub answer : Held
+  pub held : find y reader.held ≡ Some answer
+  pub without : lacks s answer.body ≡ true
+
+-- the node may be lost for the number's epoch, and stands lost for it in the lines where an epoch as great is active
+pub record SeenLost (c : Config) (before : List Event) (asks : Event) (l s y : ℕ) : Type 0 where
+  pub state : may_be_lost l (home_epoch s) (node_at (next_world c (world_after c (begin c) before) asks).state y) ≡ true
+  pub lines : stands_for (home_epoch s) (standing y l (trace c (begin c) before ++ happened c (world_after c (begin c) before).state asks ∷ []) Lost) ≡ true
+
+-- when a reader asks once more for a number that it then calls lost, each node of the log is lost for it, or had shown the reader a clean page without it
+abbrev pub LossesWereSeen : Type 0
+LossesWereSeen = (c : Config) (name : List ℕ) (l s round : ℕ) (before : List Event) (asks : Event) (between : List Event) (gives : Event) (y : ℕ) → IsInBounds c →
+    EndsAsLoss c name l s round before asks between gives → is_in y (set_at c l (home_epoch s)) ≡ true →
+    SeenLost c before asks l s y ⊎ ShowsWithout (next_world c (world_after c (begin c) before) asks) name s y
+
+-- as many nodes as the log has copies may be lost that had answered the number to the closing plan
+abbrev pub CopiesMayBeLost : Config → World → ℕ → ℕ → Type 0
+CopiesMayBeLost c w l s = (y : Summary) × Closed w l (home_epoch s) y ×
+    ((spec_of c l (home_epoch s)).r ≤ how_many (λ n. may_be_lost l (home_epoch s) (node_at w.state n) && has_told w (says_settled s) l y.ballot n) (set_at c l (home_epoch s)))
