@@ -12,7 +12,6 @@ ghost use Rattle.ld_machine.specs.Safe.{ItemsTile, NothingHidden, NumbersDiffer,
 ghost use Rattle.ld_machine.specs.World.{begin};
 ghost use Rattle.ld_machine.specs.Run.{world_after};
 ghost use Rattle.ld_machine.specs.Invariant.{Agrees, Closed, CopiesOf, Retains, SealsHold};
-ghost use Rattle.ld_safety.specs.Agreed.{AgreesOpen};
 ghost use Rattle.ld_safety.specs.Lost.{LossesWereSeen, LostOnce};
 
 /// What each reader gets tiles the numbers from its first one on.
