@@ -16,12 +16,11 @@ use Rattle.ld_machine.specs.Config.{spec_of, set_at}
 use Rattle.ld_machine.specs.Disk.{Cut}
 use Rattle.ld_machine.specs.State.{node_at}
 use Rattle.ld_machine.specs.Facts.{Happened}
-use Rattle.ld_machine.specs.Safe.{LossesHappened}
-use Rattle.ld_machine.specs.World.{World, begin, MayHold, item, settled, has_told, says_settled}
+use Rattle.ld_machine.specs.Safe.{LossesHappened, Safe}
+use Rattle.ld_machine.specs.World.{World, MayHold, item, settled, has_told, says_settled}
 use Rattle.ld_machine.specs.Invariant.{Closed, CopiesOf, HoldsItem}
-use Rattle.ld_machine.specs.Losses.{EndsAsLoss}
-use Rattle.ld_machine.specs.Run.{history, next_world, world_after}
-use Rattle.ld_safety.specs.Lost.{CopiesMayBeLost}
+use Rattle.ld_machine.specs.Run.{history}
+use Rattle.ld_safety.specs.Lost.{CopiesWereLost}
 use Rattle.ld_safety.proofs.Lists.{Some_inj, not_none, not_both}
 use Rattle.ld_safety.proofs.Members.{find_in}
 use Rattle.ld_safety.proofs.Plans.{plan_between, content_no_bridge}
@@ -36,6 +35,10 @@ use Rattle.ld_safety.proofs.CopiesStand.{in_book, once, facts, copies_here}
 use Rattle.ld_safety.proofs.Retained.{at_nodes}
 use Rattle.ld_safety.proofs.LostPages.{CleanKept, HasEntry}
 use Rattle.ld_safety.proofs.LostSettled as settled_losses
+use Rattle.ld_safety.proofs.Tiles as tiles
+use Rattle.ld_safety.proofs.GivenItems as items
+use Rattle.ld_safety.proofs.Unhidden as unhidden
+use Rattle.ld_safety.proofs.Numbers as numbers
 
 -- ---- numbers ----
 
@@ -173,5 +176,17 @@ clean_kept c hs w B = record {
 pub losses_happened : (c : Config) (es : List Event) → LossesHappened c (history c es)
 losses_happened c es = settled_losses.happened c (λ hs w. BaseGiven c hs w × Along c hs w) (clean_kept c) (along_kept c) es
 
-pub copies_were_lost : (c : Config) (name : List ℕ) (l s round : ℕ) (before : List Event) (asks : Event) (between : List Event) (gives : Event) → EndsAsLoss c name l s round before asks between gives → CopiesMayBeLost c (next_world c (world_after c (begin c) before) asks) l s
-copies_were_lost c = settled_losses.stood c (λ hs w. BaseGiven c hs w × Along c hs w) (clean_kept c) (along_kept c)
+pub copies_were_lost : CopiesWereLost
+copies_were_lost c name l s round before asks between gives b E = settled_losses.stood c (λ hs w. BaseGiven c hs w × Along c hs w) (clean_kept c) (along_kept c) name l s round before asks between gives E
+
+-- all seven laws at once
+pub every_run_is_safe : (c : Config) (es : List Event) → Safe c (history c es)
+every_run_is_safe c es = record {
+  tiles = tiles.items_tile c es;
+  records = items.records c es;
+  hidden = unhidden.nothing_hidden c es;
+  trims = items.trims c es;
+  losses = losses_happened c es;
+  rise = numbers.rise c es;
+  differ = numbers.differ c es;
+}
