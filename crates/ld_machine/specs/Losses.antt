@@ -1,4 +1,4 @@
--- A number that a reader calls lost: what stood when the reader asked the lost nodes once more.
+-- A number that a reader calls lost: the step in which the reader asked the lost nodes once more, and the one that called it lost.
 use Rattle.std.specs.Prelude.{ℕ, ◌≡◌, ◌≤◌, ◌<◌, List, [], Option, Some, None, Bool, true, ◌&&◌}
 use Rattle.ld_table.specs.Words.{how_many}
 use Rattle.ld_table.specs.Named.{find_named}
@@ -40,20 +40,3 @@ pub record EndsAsLoss (c : Config) (name : List ℕ) (log s round : ℕ) (before
   pub still : IsConfirming (world_after c (next_world c (world_after c (begin c) before) asks) between) name s round
   pub of_log : still.reader.log ≡ log
   pub told : In (lines.Gap name gaps.DataLoss s s) (happened c (world_after c (next_world c (world_after c (begin c) before) asks) between).state gives).lines
-
-abbrev pub cut_lost : ℕ → ℕ → Option Cut → Bool
-cut_lost l e None = true
-cut_lost l e (Some k) = is_lost (log_of k.plain l) e
-
--- the node is lost for the epoch, also where a crash left two states
-abbrev pub lost_here : ℕ → ℕ → Node → Bool
-lost_here l e x = is_lost (log_of x.plain l) e && cut_lost l e x.cut
-
--- as many nodes as the log has copies are lost that had answered the number to the closing plan
-abbrev pub CopiesLost : Config → World → ℕ → ℕ → Type 0
-CopiesLost c w l s = (y : Summary) × Closed w l (home_epoch s) y ×
-    ((spec_of c l (home_epoch s)).r ≤ how_many (λ n. lost_here l (home_epoch s) (node_at w.state n) && has_told w (says_settled s) l y.ballot n) (set_at c l (home_epoch s)))
-
-abbrev pub LossesStood : Type 0
-LossesStood = (c : Config) (name : List ℕ) (l s round : ℕ) (before : List Event) (asks : Event) (between : List Event) (gives : Event) → IsInBounds c →
-    EndsAsLoss c name l s round before asks between gives → CopiesLost c (next_world c (world_after c (begin c) before) asks) l s

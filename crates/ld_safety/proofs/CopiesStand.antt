@@ -52,10 +52,10 @@ CutCopies made sent y None = Unit {0}
 CutCopies made sent y (Some k) = CopiesAt made sent y k.plain
 
 module _ (c : Config) (hs : List Happened) (w : World) (B : Base c hs w) (R : Along c hs w) where
-  once : AppendsOnce hs
+  pub once : AppendsOnce hs
   once l n p q a b = one_payload hs w.state.sequencers w.state.register B.0.1 l n a.0 b.0 p q a.1 b.1
 
-  facts : (l x b : ℕ) (d : List Told) → In (plan_of l x b d) w.made → PlanFacts hs w.made w.state.network.sent (spec_in l c.logs) l x b d
+  pub facts : (l x b : ℕ) (d : List Told) → In (plan_of l x b d) w.made → PlanFacts hs w.made w.state.network.sent (spec_in l c.logs) l x b d
   facts l x b d i = plan_facts c hs w.state.network.sent w.made w.state.register l x b d (R.plans l x b d i)
 
   -- no later plan ends below a number of the closing plan

@@ -90,3 +90,4 @@ pub mod LostShown
 pub mod LostSettled
 pub mod LostFull
 pub mod LostFullKept
+pub mod LostJoined

@@ -30,13 +30,13 @@ use Rattle.ld_safety.proofs.Appends.{Continues}
 use Rattle.ld_safety.proofs.Continues.{reply_continues, retry_continues}
 use Rattle.ld_safety.proofs.Base.{Base, counts_of}
 use Rattle.ld_safety.proofs.Carried as carried
-use Rattle.ld_safety.proofs.Given.{AnyEpoch, GivenEntry, GivenTrim, GivenSummary}
+use Rattle.ld_safety.proofs.Given.{AnyEpoch, AnyShown, AnyReleased, GivenEntry, GivenTrim, GivenSummary}
 use Rattle.ld_safety.proofs.GivenSteps.{Given, BaseGiven, given_kept}
 use Rattle.ld_safety.proofs.LostActive.{ClosedActive, AllActive, epoch_grows, acting_closed, retrying_closed, activate_closed, draw_closed, logs_closed, put_active}
 
 -- a sequencer recovers epochs below its own alone
 recovers_below : (c : Config) (hs : List Happened) (s : State) → Given c hs s → (name : List ℕ) (q : Sequencer) → find_named name s.sequencers ≡ Some q → (v : Recovery) → q.recovery ≡ Some v → v.epoch < q.epoch
-recovers_below c hs s G name q f v e = (subst (carried.RecoveryOk (GivenEntry hs) (GivenTrim hs) (GivenSummary hs) AnyEpoch q.log q.epoch) e (G.sequencers name q f).recovery).0.1
+recovers_below c hs s G name q f v e = (subst (carried.RecoveryOk (GivenEntry hs) (GivenTrim hs) (GivenSummary hs) AnyEpoch AnyShown AnyReleased q.log q.epoch) e (G.sequencers name q f).recovery).0.1
 
 module _ (c : Config) (hs : List Happened) (w : World) (e : Event) (B : Base c hs w) (G : Given c hs w.state) (H : ClosedActive c hs w.state.register) (S : AllActive c hs w.state.sequencers) where
   abbrev after : Done → List Happened

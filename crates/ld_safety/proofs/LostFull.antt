@@ -1,19 +1,18 @@
 -- A log that isn't lost has each number above its trim and below the ends of the clean epochs that were lost: op by op.
-use Rattle.std.proofs.Common.{◌≡◌, ◌∙◌, ◌⊎◌, ◌≤◌, ◌<◌, ℕ, ◌+◌, ◌-◌, ◌*◌, ◌/◌, ◌%◌, ◌^◌, max, inl, inr, refl, ap, sym, subst, Bool, true, false, not, ◌&&◌, ◌||◌, ◌==◌, nat_lt, nat_le, cond, if◌then◌else◌, List, [], ◌∷◌, ◌++◌, filter, flat_map, Option, Some, None, is_some, is_none, arith}
-use Rattle.std.specs.Option.{unwrap_or}
-use Rattle.std.proofs.lemmas.Bool.{cases_Bool, and_parts, and_from, or_left, or_right, eqb-true, eqb-false, ltb-true, ltb-false, leb-true, lt-ltb, le-leb, ne_eqb, cases_eq, cases_order}
+use Rattle.std.proofs.Common.{◌≡◌, ◌∙◌, ◌≤◌, ◌<◌, ℕ, ◌+◌, ◌-◌, max, inl, inr, refl, ap, sym, subst, Bool, true, false, not, ◌==◌, nat_lt, nat_le, cond, if◌then◌else◌, List, [], ◌∷◌, ◌++◌, filter, flat_map, Option, Some, None, is_some, is_none, arith}
+use Rattle.std.proofs.lemmas.Bool.{and_from, or_left, or_right, eqb-true, eqb-false, ltb-false, lt-ltb, le-leb, ne_eqb}
 use Rattle.ld_table.specs.Table.{find, put, keep, keep_keys}
-use Rattle.ld_table.proofs.Laws.{put_cases, find-keep, find-keep_keys, find-put_other, kept}
+use Rattle.ld_table.proofs.Laws.{put_cases, find-keep, find-keep_keys, kept}
 use Rattle.ld_table.specs.Words.{numbers_from}
 use Rattle.ld_lsn.specs.Number.{epoch_of, esn_of, numbered}
 use Rattle.ld_msg.specs.declared.msg.What.{What}
 use Rattle.ld_msg.specs.declared.msg.What.TheVariants.{Rec, Hole, Bridge}
 use Rattle.ld_msg.specs.declared.msg.Entry.{Entry}
 use Rattle.ld_msg.specs.declared.msg.Summary.{Summary}
-use Rattle.ld_op.specs.Plain.{Plain, Log, log_of, empty_log, summary_at, epoch_zero, accepted, accept_entry, survives_bridge, sealed_by, trimmed_to, cleaned, survives_clean, refilled_with, refill_entries, refilled, lost_log}
-use Rattle.ld_op.specs.Ticks.{missing, missing_of, numbers_of, first_above, lowest_unclean, gap_from}
+use Rattle.ld_op.specs.Plain.{Log, empty_log, summary_at, epoch_zero, accepted, accept_entry, survives_bridge, sealed_by, trimmed_to, cleaned, survives_clean, refilled_with, refill_entries, refilled, lost_log}
+use Rattle.ld_op.specs.Ticks.{missing, missing_of, numbers_of, lowest_unclean, gap_from}
 use Rattle.ld_machine.specs.World.{In}
-use Rattle.ld_safety.proofs.Lists.{Some_inj, not_none, not_both, cond_both, In_left, In_right}
+use Rattle.ld_safety.proofs.Lists.{Some_inj, not_none, not_both, cond_both}
 use Rattle.ld_safety.proofs.Members.{In_put, find_in, numbers_in}
 use Rattle.ld_safety.proofs.NodeSteps.{Served}
 use Rattle.ld_safety.proofs.Rising.{Rising, Rising-put}

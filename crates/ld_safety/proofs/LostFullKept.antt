@@ -1,12 +1,12 @@
 -- Along a run each log of a node that isn't lost has the numbers of the clean epochs that were lost.
-use Rattle.std.proofs.Common.{◌≡◌, ◌∙◌, ◌⊎◌, ◌≤◌, ◌<◌, ℕ, zero, suc, ◌+◌, inl, inr, refl, ap, sym, subst, Bool, true, false, ◌==◌, nat_lt, cond, if◌then◌else◌, List, [], ◌∷◌, ◌++◌, Option, Some, None, is_some, arith}
+use Rattle.std.proofs.Common.{◌≡◌, ◌∙◌, ◌≤◌, ◌<◌, ℕ, zero, suc, ◌+◌, inl, inr, refl, sym, subst, Bool, true, false, ◌==◌, nat_lt, cond, if◌then◌else◌, List, [], ◌∷◌, Option, Some, None, arith}
 use Rattle.std.specs.Option.{unwrap_or}
 use Rattle.std.specs.Ordering.{nat_cmp}
 use Rattle.std.specs.BTreeMap.{is_at}
-use Rattle.ld_table.specs.Table.{find, put}
+use Rattle.ld_table.specs.Table.{find}
 use Rattle.ld_table.proofs.Laws.{put_cases}
 use Rattle.ld_ids.specs.Set.{members}
-use Rattle.ld_lsn.specs.Number.{epoch_of, esn_of}
+use Rattle.ld_lsn.specs.Number.{epoch_of}
 use Rattle.ld_config.specs.declared.config.Config.{Config}
 use Rattle.ld_schedule.specs.declared.event.Event.{Event}
 use Rattle.ld_msg.specs.declared.msg.Entry.{Entry}
@@ -15,19 +15,18 @@ use Rattle.ld_msg.specs.declared.msg.Body.{Body}
 use Rattle.ld_msg.specs.declared.msg.Body.TheVariants as bodies
 use Rattle.ld_op.specs.declared.op.Op.{Op}
 use Rattle.ld_op.specs.declared.op.Op.TheVariants as ops
-use Rattle.ld_op.specs.Plain.{Plain, Log, log_of, empty_log, is_lost, summary_at, unformatted, apply, with_log, lost_log, lost_logs}
+use Rattle.ld_op.specs.Plain.{Plain, Log, log_of, empty_log, summary_at, apply, with_log, lost_log, lost_logs}
 use Rattle.ld_op.specs.Answers.{Decision, Lost, CleanAlready, Trimmed, Sealed, Same, Take, store_decision, digest_decision, taken, on_store, on_digest_ask, on_clean, clean_op, on_trim}
 use Rattle.ld_op.specs.Handles.{handled_by}
 use Rattle.ld_op.specs.Ticks.{Ticked, Cleans, Rebuilt, Asks, Nothing, on_tick, tick_with, lost_tick, refill_tick, lowest_unclean, gap_from, missing, on_page, page_op, refill_op, lacking}
-use Rattle.ld_msg.specs.Register.{Register, epochs_of, epochs_in, generation_of}
+use Rattle.ld_msg.specs.Register.{epochs_of, epochs_in, generation_of}
 use Rattle.ld_machine.specs.Disk.{Node, new_node, keep_op, load}
-use Rattle.ld_machine.specs.State.{State, start, new_nodes, finish, node_at}
-use Rattle.ld_machine.specs.Facts.{Happened}
-use Rattle.ld_machine.specs.World.{World, In, MayHold, begin}
+use Rattle.ld_machine.specs.State.{State, new_nodes, finish, node_at}
+use Rattle.ld_machine.specs.World.{World, MayHold}
 use Rattle.ld_machine.specs.Run.{next_world}
 use Rattle.ld_machine.specs.Step as Step
-use Rattle.ld_safety.proofs.Lists.{Some_inj, not_none, not_both, cond_both}
-use Rattle.ld_safety.proofs.Traces.{Keeps, happened, beside_kept}
+use Rattle.ld_safety.proofs.Lists.{Some_inj, not_none, cond_both}
+use Rattle.ld_safety.proofs.Traces.{Keeps, beside_kept}
 use Rattle.ld_safety.proofs.Base.{Base, base_kept}
 use Rattle.ld_safety.proofs.Events.{NamesOnce, dispatch}
 use Rattle.ld_safety.proofs.NodeSteps.{Served, store_decided}

@@ -1,27 +1,24 @@
 -- What a clean page shows, and what a lost node knows of an epoch's end, where nodes keep what was settled.
-use Rattle.std.proofs.Common.{◌≡◌, ◌∙◌, ◌⊎◌, ◌≤◌, ◌<◌, ℕ, ◌+◌, ◌-◌, ◌*◌, ◌/◌, ◌%◌, ◌^◌, inl, inr, refl, ap, sym, subst, Bool, true, false, not, ◌&&◌, ◌==◌, nat_lt, nat_le, cond, if◌then◌else◌, List, [], ◌∷◌, filter, take, Option, Some, None, is_some, arith}
-use Rattle.std.proofs.lemmas.Bool.{cases_Bool, and_parts, and_from, eqb-true, eqb-false, ltb-true, leb-true, le-leb, lt-ltb, eq-eqb, cases_order}
+use Rattle.std.proofs.Common.{◌≡◌, ◌∙◌, ◌⊎◌, ◌≤◌, ◌<◌, ℕ, ◌+◌, ◌-◌, ◌*◌, ◌^◌, inl, inr, refl, ap, sym, subst, Bool, true, false, not, ◌&&◌, ◌==◌, nat_lt, nat_le, cond, if◌then◌else◌, List, [], ◌∷◌, filter, take, Some, is_some, arith}
+use Rattle.std.proofs.lemmas.Bool.{cases_Bool, and_parts, and_from, eqb-true, eqb-false, leb-true, le-leb, lt-ltb, eq-eqb, cases_order}
 use Rattle.ld_table.specs.Table.{find}
 use Rattle.ld_table.specs.Words.{values, how_many}
 use Rattle.ld_lsn.specs.Number.{epoch_of, esn_of, numbered, home_epoch, home_esn, is_epoch_end, last_esn}
 use Rattle.ld_config.specs.declared.config.Config.{Config}
 use Rattle.ld_msg.specs.declared.msg.Entry.{Entry}
 use Rattle.ld_msg.specs.declared.msg.Summary.{Summary}
-use Rattle.ld_msg.specs.declared.msg.Body.{Body}
-use Rattle.ld_msg.specs.declared.msg.Body.TheVariants as bodies
 use Rattle.ld_msg.specs.Digest.{is_bridge}
 use Rattle.ld_msg.specs.Reading.{entry_at}
 use Rattle.ld_msg.specs.Register.{epochs_of}
 use Rattle.ld_op.specs.Plain.{Plain, Log, log_of, is_lost, summary_at, epoch_zero}
-use Rattle.ld_op.specs.Answers.{read_answer, clean_page, readable, entries_within, page_upto, page_limit}
+use Rattle.ld_op.specs.Answers.{readable, entries_within, page_upto, page_limit}
 use Rattle.ld_machine.specs.Config.{spec_of, set_at}
 use Rattle.ld_machine.specs.State.{node_at}
 use Rattle.ld_machine.specs.World.{World, In, MayHold, Unserved, says_settled, has_told}
 use Rattle.ld_machine.specs.Invariant.{Closed}
-use Rattle.ld_safety.proofs.Lists.{Some_inj, not_none, not_both, cond_both}
+use Rattle.ld_safety.proofs.Lists.{Some_inj, not_both, cond_both}
 use Rattle.ld_safety.proofs.Members.{In_filter, find_in}
 use Rattle.ld_safety.proofs.Rising.{Rising, rising_values, rising_filter, page_has}
-use Rattle.ld_safety.proofs.NodeSteps.{read_answered}
 use Rattle.ld_safety.proofs.CarriedNodes.{upto_cases}
 use Rattle.ld_safety.proofs.LostUnserved.{AllUnserved}
 
@@ -32,9 +29,9 @@ HasEntry g s = (f : Entry) × (find s g.entries ≡ Some f) × (is_bridge f.what
 -- what is asked of the nodes of a state
 pub record CleanKept (c : Config) (w : World) : Type 0 where
   -- a closed epoch was handed out, and ends at a place
-  pub bounded : (l e : ℕ) (z : Summary) → Closed w l e z → (0 < e) × (e ≤ (epochs_of w.state.register l).epoch) × (z.end ≤ last_esn)
+  pub bounded : (l e : ℕ) (z : Summary) → Closed w l e z → 0 < e → (e ≤ (epochs_of w.state.register l).epoch) × (z.end ≤ last_esn)
   -- a node's summaries are the register's, and it is trimmed as they say
-  pub summaries : (y l e : ℕ) (p : Plain) (z : Summary) → MayHold (node_at w.state y) p → find e (log_of p l).summaries ≡ Some z → Closed w l e z × (z.trim ≤ (log_of p l).trim)
+  pub summaries : (y l e : ℕ) (p : Plain) (z : Summary) → MayHold (node_at w.state y) p → 0 < e → find e (log_of p l).summaries ≡ Some z → Closed w l e z × (z.trim ≤ (log_of p l).trim)
   pub tables : (y l : ℕ) (p : Plain) → MayHold (node_at w.state y) p → Rising (log_of p l).entries × ((q : ℕ × Entry) → In q (log_of p l).entries → q.1.number ≡ q.0)
   -- each number between the closing plan's trim and its end was settled for it by as many nodes as there are copies
   pub settled : (l s : ℕ) (z : Summary) → Closed w l (home_epoch s) z → z.trim < s → s < numbered (home_epoch s) z.end → (spec_of c l (home_epoch s)).r ≤ how_many (has_told w (says_settled s) l z.ballot) (set_at c l (home_epoch s))
@@ -84,6 +81,7 @@ pub record CleanPage (w : World) (y l from upto : ℕ) (es : List Entry) : Type 
   pub summary : Summary
   pub closed : Closed w l (home_epoch from) summary
   pub above : summary.trim < from
+  pub positive : 0 < home_epoch from
   pub starts : home_epoch from * 2 ^ 32 < from
   pub ends : upto < numbered (home_epoch from) summary.end
   pub place : summary.end ≤ last_esn
@@ -98,15 +96,17 @@ pub record KnownEnd (w : World) (l n end : ℕ) : Type 0 where
   pub is : end ≡ numbered (home_epoch n) summary.end
 
 module _ (c : Config) (w : World) (K : CleanKept c w) (y l : ℕ) (p : Plain) (held : MayHold (node_at w.state y) p) where
-  no_zero : (from : ℕ) (z : Summary) → (log_of p l).trim < from → summary_at (log_of p l) (home_epoch from) ≡ Some z → home_esn from < z.end → find (home_epoch from) (log_of p l).summaries ≡ Some z
+  no_zero : (from : ℕ) (z : Summary) → (log_of p l).trim < from → summary_at (log_of p l) (home_epoch from) ≡ Some z → home_esn from < z.end → (0 < home_epoch from) × (find (home_epoch from) (log_of p l).summaries ≡ Some z)
   unfolding summary_at
   no_zero from z a h b = elim (cases_Bool (home_epoch from == 0)) [
     | inl t ↦ absurd (let q : epoch_zero ≡ z = Some_inj (sym (ap (λ v. cond v (Some epoch_zero) (find (home_epoch from) (log_of p l).summaries)) t) ∙ h) in let e = ap (λ (v : Summary). v.end) q in let u = home_place from 1 (omega arith) (omega arith) in let k = eqb-true (home_epoch from) 0 t in let v = u.1 in let x = u.2 in omega arith)
-    | inr t ↦ sym (ap (λ v. cond v (Some epoch_zero) (find (home_epoch from) (log_of p l).summaries)) t) ∙ h
-  ]
+    | inr t ↦ (not_zero (home_epoch from) (eqb-false (home_epoch from) 0 t), sym (ap (λ v. cond v (Some epoch_zero) (find (home_epoch from) (log_of p l).summaries)) t) ∙ h)
+  ] where
+    not_zero : (e : ℕ) → (e ≡ 0 → ⊥) → 0 < e
+    not_zero e n = elim (cases_order e 0) [ inl q ↦ absurd (n q) | inr (inl q) ↦ absurd (omega arith) | inr (inr q) ↦ q ]
 
   pub known_end : (from : ℕ) (z : Summary) → (log_of p l).trim < from → summary_at (log_of p l) (home_epoch from) ≡ Some z → home_esn from < z.end → KnownEnd w l from (numbered (home_epoch from) z.end)
-  known_end from z a h b = let k = K.summaries y l (home_epoch from) p z held (no_zero from z a h b) in record { summary = z; closed = k.0; above = (let u = k.1 in omega arith); is = refl }
+  known_end from z a h b = let n = no_zero from z a h b in let k = K.summaries y l (home_epoch from) p z held n.0 n.1 in record { summary = z; closed = k.0; above = (let u = k.1 in omega arith); is = refl }
 
   -- what is in a page
   module _ (generation : 0 < p.generation) (whole : (q : Plain) → MayHold (node_at w.state y) q → q ≡ p) (from : ℕ) (z : Summary) (a : (log_of p l).trim < from) (h : summary_at (log_of p l) (home_epoch from) ≡ Some z) (b : home_esn from < z.end) (found : is_lost (log_of p l) (home_epoch from) ≡ false) where
@@ -114,10 +114,10 @@ module _ (c : Config) (w : World) (K : CleanKept c w) (y l : ℕ) (p : Plain) (h
     bound = numbered (home_epoch from) (z.end - 1)
 
     closed : Closed w l (home_epoch from) z × (z.trim ≤ (log_of p l).trim)
-    closed = K.summaries y l (home_epoch from) p z held (no_zero from z a h b)
+    closed = let n = no_zero from z a h b in K.summaries y l (home_epoch from) p z held n.0 n.1
 
     place : home_epoch from * 2 ^ 32 < from
-    place = let u = K.bounded l (home_epoch from) z closed.0 in let v = u.2 in (home_place from z.end b v).0 u.0
+    place = let n = (no_zero from z a h b).0 in let u = K.bounded l (home_epoch from) z closed.0 n in let v = u.1 in (home_place from z.end b v).0 n
 
     up : page_upto (readable (log_of p l) from (numbered (home_epoch from) (z.end - 1))) (numbered (home_epoch from) (z.end - 1)) ≤ numbered (home_epoch from) (z.end - 1)
     up = elim (upto_cases (readable (log_of p l) from (numbered (home_epoch from) (z.end - 1))) (numbered (home_epoch from) (z.end - 1))) [
@@ -140,10 +140,11 @@ module _ (c : Config) (w : World) (K : CleanKept c w) (y l : ℕ) (p : Plain) (h
 
     pub page_of : CleanPage w y l from (page_upto (readable (log_of p l) from (numbered (home_epoch from) (z.end - 1))) (numbered (home_epoch from) (z.end - 1))) (take page_limit (readable (log_of p l) from (numbered (home_epoch from) (z.end - 1))))
     unfolding summary_at
-    page_of = let k = K.bounded l (home_epoch from) z closed.0 in let e = k.2 in let o = place in let u = up in let t = closed.1 in record {
+    page_of = let m = (no_zero from z a h b).0 in let k = K.bounded l (home_epoch from) z closed.0 m in let e = k.1 in let o = place in let u = up in let t = closed.1 in record {
       summary = z;
       closed = closed.0;
       above = omega arith;
+      positive = m;
       starts = place;
       ends = omega arith;
       place = e;

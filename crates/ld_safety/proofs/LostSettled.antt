@@ -1,9 +1,9 @@
 -- Where nodes keep what was settled, a number that a reader may call lost was settled by as many nodes as there are copies, and none of them shows a clean page without it.
-use Rattle.std.proofs.Common.{◌≡◌, ◌∙◌, ◌⊎◌, ◌≤◌, ◌<◌, ℕ, ◌+◌, ◌*◌, ◌^◌, inl, inr, refl, ap, sym, subst, Bool, true, false, not, ◌&&◌, ◌==◌, nat_lt, nat_le, List, [], ◌∷◌, Option, Some, None, is_some, arith}
-use Rattle.std.proofs.lemmas.Bool.{cases_Bool, and_parts, eqb-true, ltb-true, leb-true}
+use Rattle.std.proofs.Common.{◌≡◌, ◌∙◌, ◌⊎◌, ◌≤◌, ◌<◌, ℕ, inl, inr, refl, ap, sym, subst, Bool, true, false, not, ◌&&◌, ◌==◌, nat_lt, nat_le, List, Some, is_some, arith}
+use Rattle.std.proofs.lemmas.Bool.{and_parts, eqb-true, ltb-true, leb-true}
 use Rattle.ld_table.specs.Table.{find}
 use Rattle.ld_table.specs.Named.{find_named}
-use Rattle.ld_table.specs.Words.{all_of, any_of, how_many}
+use Rattle.ld_table.specs.Words.{all_of, any_of}
 use Rattle.ld_lsn.specs.Number.{numbered, home_epoch}
 use Rattle.ld_config.specs.declared.config.Config.{Config}
 use Rattle.ld_schedule.specs.declared.event.Event.{Event}
@@ -14,7 +14,7 @@ use Rattle.ld_msg.specs.declared.msg.Body.{Body}
 use Rattle.ld_msg.specs.declared.msg.Body.TheVariants as bodies
 use Rattle.ld_msg.specs.Reading.{Held, is_loss, leaves_open, lacks, is_lost_for, knows_end_above, entry_at}
 use Rattle.ld_msg.specs.Reader.{Reader}
-use Rattle.ld_machine.specs.Config.{set_of, set_at}
+use Rattle.ld_machine.specs.Config.{set_of}
 use Rattle.ld_machine.specs.Facts.{Happened}
 use Rattle.ld_machine.specs.Safe.{LossesHappened}
 use Rattle.ld_machine.specs.World.{World, In, begin, has_told, says_settled}
@@ -26,11 +26,10 @@ use Rattle.ld_safety.proofs.Lists.{Some_inj, any_in, not_both}
 use Rattle.ld_safety.proofs.Members.{find_in}
 use Rattle.ld_safety.proofs.Traces.{Keeps}
 use Rattle.ld_safety.proofs.LostRounds.{answer_to, place_of}
-use Rattle.ld_safety.proofs.LostAlong.{Asked, RoundsOf}
-use Rattle.ld_safety.proofs.LostMoments.{Known}
+use Rattle.ld_safety.proofs.LostAlong.{RoundsOf}
 use Rattle.ld_safety.proofs.LostLaw.{SettledApart, LossesSettled, losses_happened}
 use Rattle.ld_safety.proofs.LostLaws.{copies_may_be_lost}
-use Rattle.ld_safety.proofs.LostPages.{CleanKept, CleanPage, KnownEnd, home_is}
+use Rattle.ld_safety.proofs.LostPages.{CleanKept, CleanPage, home_is}
 use Rattle.ld_safety.proofs.LostShown.{Facts, PageFacts, Shown, shown_kept}
 
 -- ---- what is held ----

@@ -1,10 +1,9 @@
 -- Along a run in which nodes keep what was settled, clean pages and known ends that readers are told stay right.
-use Rattle.std.proofs.Common.{◌≡◌, ◌∙◌, ◌⊎◌, ◌≤◌, ◌<◌, ℕ, ◌+◌, ◌*◌, ◌^◌, inl, inr, refl, ap, sym, subst, Bool, true, false, List, [], ◌∷◌, ◌++◌, take, Option, Some, None, arith}
+use Rattle.std.proofs.Common.{◌≡◌, ◌∙◌, ◌<◌, ℕ, inl, inr, refl, ap, sym, subst, true, List, Some, None, arith}
 use Rattle.std.specs.Option.{unwrap_or}
 use Rattle.ld_table.specs.Table.{find}
 use Rattle.ld_table.proofs.Laws.{put_cases}
-use Rattle.ld_table.specs.Words.{is_in}
-use Rattle.ld_lsn.specs.Number.{epoch_of, numbered, home_epoch, home_esn}
+use Rattle.ld_lsn.specs.Number.{numbered, home_epoch}
 use Rattle.ld_config.specs.declared.config.Config.{Config}
 use Rattle.ld_schedule.specs.declared.event.Event.{Event}
 use Rattle.ld_msg.specs.declared.msg.Msg.{Msg}
@@ -14,27 +13,26 @@ use Rattle.ld_msg.specs.declared.msg.Entry.{Entry}
 use Rattle.ld_msg.specs.declared.msg.Summary.{Summary}
 use Rattle.ld_msg.specs.declared.msg.Body.{Body}
 use Rattle.ld_msg.specs.declared.msg.Body.TheVariants as bodies
-use Rattle.ld_msg.specs.Register.{Register, Epochs, no_epochs, epochs_of, lce_of, with_epochs, next_epoch, closed_epochs, activate, close, draw}
+use Rattle.ld_msg.specs.Register.{Register, Epochs, no_epochs, epochs_of, with_epochs, next_epoch, closed_epochs, activate, close, draw}
 use Rattle.ld_op.specs.Plain.{Plain, log_of}
 use Rattle.ld_op.specs.Answers.{read_answer}
 use Rattle.ld_op.specs.Handles.{handled_by, ballot_of}
-use Rattle.ld_machine.specs.Config.{set_of}
 use Rattle.ld_machine.specs.Disk.{Node}
-use Rattle.ld_machine.specs.State.{State, finish, node_at, posted}
+use Rattle.ld_machine.specs.State.{finish, node_at, posted}
 use Rattle.ld_machine.specs.Facts.{Happened}
-use Rattle.ld_machine.specs.World.{World, In, Sent, begin, MayHold, Unserved}
+use Rattle.ld_machine.specs.World.{World, In, Sent, MayHold, Unserved}
 use Rattle.ld_machine.specs.Invariant.{Closed}
 use Rattle.ld_machine.specs.Run.{next_world}
 use Rattle.ld_machine.specs.Step as Step
 use Rattle.ld_safety.proofs.Lists.{Some_inj, not_none, only}
-use Rattle.ld_safety.proofs.Traces.{Keeps, happened, both_kept, beside_kept}
+use Rattle.ld_safety.proofs.Traces.{Keeps, both_kept, beside_kept}
 use Rattle.ld_safety.proofs.Base.{Base}
 use Rattle.ld_safety.proofs.Events.{NamesOnce, Serves}
 use Rattle.ld_safety.proofs.NodeSteps.{read_answered}
 use Rattle.ld_safety.proofs.RegisterSteps.{Same, activate_leaves, close_leaves, draw_leaves, epochs_put, epochs_same}
 use Rattle.ld_safety.proofs.Registers.{OnlyClosed, register_kept, follows, start_closed}
-use Rattle.ld_safety.proofs.LostTalk.{Elsewhere, TalkKeeps, talked, new_or_old}
-use Rattle.ld_safety.proofs.LostRounds.{IsAsk, posted_to}
+use Rattle.ld_safety.proofs.LostTalk.{TalkKeeps, talked, new_or_old}
+use Rattle.ld_safety.proofs.LostRounds.{posted_to}
 use Rattle.ld_safety.proofs.LostAlong.{Asked, RoundsOf, asked_kept}
 use Rattle.ld_safety.proofs.LostKept.{Standings, standings_kept}
 use Rattle.ld_safety.proofs.LostUnserved.{unserved_step}
@@ -83,16 +81,17 @@ module _ (c : Config) (w : World) (v : Event) (N : NamesOnce w.state) (O : OnlyC
   closed_later l e z h = closed_step c w v N O l e z h
 
   page_later : (y l from upto : ℕ) (es : List Entry) → CleanPage w y l from upto es → CleanPage (next_world c w v) y l from upto es
-  page_later y l from upto es P = let k = K.bounded l (home_epoch from) P.summary P.closed in let b = k.1 in record {
+  page_later y l from upto es P = let k = K.bounded l (home_epoch from) P.summary P.closed P.positive in let b = k.0 in record {
     summary = P.summary;
     closed = closed_later l (home_epoch from) P.summary P.closed;
     above = P.above;
+    positive = P.positive;
     starts = P.starts;
     ends = P.ends;
     place = P.place;
     has = λ s lo hi t. let a = P.starts in let z = P.ends in let x = P.place in let q = home_is s (home_epoch from) (omega arith) (omega arith) in
         P.has s lo hi (told_before c w v (λ n j u. (up n j u).1) N y l s P.summary.ballot (λ p i. subst (λ j. Unserved p l j) (sym q.1) (P.unserved p i)) t);
-    unserved = unserved_step c w v N y l (home_epoch from) k.0 b P.unserved;
+    unserved = unserved_step c w v N y l (home_epoch from) P.positive b P.unserved;
   }
 
   facts_later : (y l : ℕ) (b : Body) → PageFacts w y l b → PageFacts (next_world c w v) y l b

@@ -1,5 +1,5 @@
 -- A node where an epoch isn't served tells no sequencer any more that a number of it is stored or trimmed.
-use Rattle.std.proofs.Common.{◌≡◌, ◌∙◌, ◌⊎◌, ◌≤◌, ◌<◌, ℕ, ◌+◌, inl, inr, refl, ap, sym, subst, Bool, true, false, ◌&&◌, ◌==◌, nat_le, List, [], ◌∷◌, Option, Some, None, is_some, arith}
+use Rattle.std.proofs.Common.{◌≡◌, ◌<◌, ℕ, inl, inr, refl, ap, sym, subst, true, false, ◌&&◌, ◌==◌, nat_le, List, [], ◌∷◌, Some, is_some, arith}
 use Rattle.std.proofs.lemmas.Bool.{and_parts, eqb-true}
 use Rattle.ld_lsn.specs.Number.{epoch_of}
 use Rattle.ld_config.specs.declared.config.Config.{Config}
@@ -11,17 +11,17 @@ use Rattle.ld_msg.specs.declared.msg.Entry.{Entry}
 use Rattle.ld_msg.specs.declared.msg.Body.{Body}
 use Rattle.ld_msg.specs.declared.msg.Body.TheVariants as bodies
 use Rattle.ld_op.specs.Plain.{Plain, Log, log_of, is_lost, summary_at}
-use Rattle.ld_op.specs.Answers.{Decision, store_decision, digest_decision, store_answer, digest_answer, on_store, on_digest_ask, on_clean, on_trim, read_answer}
+use Rattle.ld_op.specs.Answers.{store_decision, digest_decision, store_answer, digest_answer, on_store, on_digest_ask, on_clean, on_trim, read_answer}
 use Rattle.ld_op.specs.Handles.{handled_by}
 use Rattle.ld_op.specs.Ticks.{on_page}
-use Rattle.ld_machine.specs.State.{State, node_at, posted}
+use Rattle.ld_machine.specs.State.{node_at, posted}
 use Rattle.ld_machine.specs.World.{World, In, Unserved, is_node, is_sequencer, says_settled, told_by, has_told}
 use Rattle.ld_machine.specs.Run.{next_world}
 use Rattle.ld_machine.specs.Step as Step
 use Rattle.ld_safety.proofs.Lists.{Some_inj, only, any_in, any_from, not_both}
 use Rattle.ld_safety.proofs.NodeSteps.{Served, store_decided, ask_decided, read_answered}
 use Rattle.ld_safety.proofs.Events.{NamesOnce, Serves}
-use Rattle.ld_safety.proofs.LostTalk.{Elsewhere, TalkKeeps, talked, new_or_old}
+use Rattle.ld_safety.proofs.LostTalk.{TalkKeeps, talked, new_or_old}
 use Rattle.ld_safety.proofs.LostRounds.{posted_to}
 use Rattle.ld_safety.proofs.LostUnserved.{AllUnserved}
 

@@ -17,15 +17,15 @@ use Rattle.ld_op.specs.declared.op.Op.TheVariants as ops
 use Rattle.ld_op.specs.Plain.{Plain, Log, log_of, empty_log, is_lost, summary_at, epoch_zero, apply, with_log, cleaned, refilled, lost_log, lost_logs}
 use Rattle.ld_op.specs.Answers.{Decision, Lost, CleanAlready, Trimmed, Sealed, Same, Take, store_decision, digest_decision, taken, on_store, on_digest_ask, on_clean, clean_op, on_trim}
 use Rattle.ld_op.specs.Handles.{handled_by}
-use Rattle.ld_op.specs.Ticks.{Ticked, Cleans, Rebuilt, Asks, Nothing, on_tick, tick_with, lost_tick, refill_tick, lowest_unclean, gap_from, missing, on_page, page_op, refill_op, lacking}
+use Rattle.ld_op.specs.Ticks.{Rebuilt, Nothing, on_tick, tick_with, refill_tick, lowest_unclean, gap_from, missing, on_page, page_op, refill_op, lacking}
 use Rattle.ld_msg.specs.Register.{Register, Epochs, no_epochs, epochs_of, epochs_in, draw, Granted, generation_of}
 use Rattle.ld_machine.specs.Disk.{Node, new_node, keep_op, load}
 use Rattle.ld_machine.specs.State.{State, finish, node_at}
-use Rattle.ld_machine.specs.World.{World, In, MayHold, Unserved}
+use Rattle.ld_machine.specs.World.{World, MayHold, Unserved}
 use Rattle.ld_machine.specs.Run.{next_world}
 use Rattle.ld_machine.specs.Step as Step
 use Rattle.ld_safety.proofs.Lists.{Some_inj, not_none, not_both, cond_both}
-use Rattle.ld_safety.proofs.Events.{NamesOnce, Serves, dispatch}
+use Rattle.ld_safety.proofs.Events.{NamesOnce, dispatch}
 use Rattle.ld_safety.proofs.RegisterSteps.{draw_granted}
 use Rattle.ld_safety.proofs.HoldSteps.{is_format, same_generation, handled_plain}
 use Rattle.ld_safety.proofs.NodeCases.{NodeKeeps, node_cases}

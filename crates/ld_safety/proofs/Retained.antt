@@ -45,7 +45,7 @@ module _ (c : Config) (hs : List Happened) (w : World) (R : Along c hs w) where
   ]
 
   -- both plain states
-  at_nodes : (y : ℕ) (p : Plain) → MayHold (node_at w.state y) p → Holding w.made w.state.network.sent y p
+  pub at_nodes : (y : ℕ) (p : Plain) → MayHold (node_at w.state y) p → Holding w.made w.state.network.sent y p
   at_nodes y p (inl q) = subst (Holding w.made w.state.network.sent y) (sym q) (R.holds y).0
   at_nodes y p (inr h) = subst (Holding w.made w.state.network.sent y) (sym h.2) (by_cut (node_at w.state y).cut h.1 (R.holds y).1) where
     by_cut : (o : Option Cut) → o ≡ Some h.0 → CutHolds w.made w.state.network.sent y o → Holding w.made w.state.network.sent y h.0.plain

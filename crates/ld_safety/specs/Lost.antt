@@ -62,7 +62,17 @@ LossesWereSeen = (c : Config) (name : List ℕ) (l s round : ℕ) (before : List
     EndsAsLoss c name l s round before asks between gives → is_in y (set_at c l (home_epoch s)) ≡ true →
     SeenLost c before asks l s y ⊎ ShowsWithout (next_world c (world_after c (begin c) before) asks) name s y
 
--- as many nodes as the log has copies may be lost that had answered the number to the closing plan
+-- as many nodes as the log has copies may be lost that had answered the number to the closing plan.
+-- "May be", since a crash can cut short the record by which a lost node says that it is refilled: it then has two states, lost in one and not in the other, and the next load finds either.
+-- Where the load finds the first, the node tells the reader that it is lost, in the generation that it was asked for, and rightly so: it was lost all the time between (LostOnce).
+-- So it doesn't hold that each of these nodes was lost in both states when it was asked. With two nodes and two copies: the first one is wiped, formatted and lost, a reader hears that,
+-- the node gets the number back from the second one and crashes in the record that it is refilled; the second one is wiped and formatted; the reader hears that it is lost too, and asks both once more;
+-- the first one loads, is found as before the record, and answers that it is lost, as does the second: the reader calls the number lost, and only one of the two nodes had been lost in both its states.
 abbrev pub CopiesMayBeLost : Config → World → ℕ → ℕ → Type 0
 CopiesMayBeLost c w l s = (y : Summary) × Closed w l (home_epoch s) y ×
     ((spec_of c l (home_epoch s)).r ≤ how_many (λ n. may_be_lost l (home_epoch s) (node_at w.state n) && has_told w (says_settled s) l y.ballot n) (set_at c l (home_epoch s)))
+
+-- that holds where the reader asks once more for a number that it then calls lost
+abbrev pub CopiesWereLost : Type 0
+CopiesWereLost = (c : Config) (name : List ℕ) (l s round : ℕ) (before : List Event) (asks : Event) (between : List Event) (gives : Event) → IsInBounds c →
+    EndsAsLoss c name l s round before asks between gives → CopiesMayBeLost c (next_world c (world_after c (begin c) before) asks) l s

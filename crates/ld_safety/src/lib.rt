@@ -8,11 +8,11 @@ ghost use Rattle.ld_config.specs.declared.config.Config.{Config};
 ghost use Rattle.ld_config.specs.Bounds.{IsInBounds};
 ghost use Rattle.ld_schedule.specs.declared.event.Event.{Event};
 ghost use Rattle.ld_machine.specs.Run.{history};
-ghost use Rattle.ld_machine.specs.Safe.{ItemsTile, NothingHidden, NumbersDiffer, NumbersRise, RecordsWereAppended, TrimsWereIssued};
+ghost use Rattle.ld_machine.specs.Safe.{ItemsTile, LossesHappened, NothingHidden, NumbersDiffer, NumbersRise, RecordsWereAppended, Safe, TrimsWereIssued};
 ghost use Rattle.ld_machine.specs.World.{begin};
 ghost use Rattle.ld_machine.specs.Run.{world_after};
 ghost use Rattle.ld_machine.specs.Invariant.{Agrees, Closed, CopiesOf, Retains, SealsHold};
-ghost use Rattle.ld_safety.specs.Lost.{LossesWereSeen, LostOnce};
+ghost use Rattle.ld_safety.specs.Lost.{CopiesWereLost, LossesWereSeen, LostOnce};
 
 /// What each reader gets tiles the numbers from its first one on.
 pub fn items_tile()
@@ -72,4 +72,19 @@ pub fn lost_once()
 /// When a reader asks once more for a number that it then calls lost, each node of the log may be lost for its epoch and stands lost in the lines, or had shown the reader a clean page without the number.
 pub fn losses_were_seen()
     ensures { LossesWereSeen }
+{}
+
+/// A number that a reader calls lost had a moment before at which as many nodes of its log as it has copies stood lost for its epoch.
+pub fn losses_happened()
+    ensures { (c : Config) (es : List Event) → IsInBounds c → LossesHappened c (history c es) }
+{}
+
+/// When a reader asks once more for a number that it then calls lost, the number's epoch is closed, and as many nodes as the log has copies may be lost for it of those that settled the number for the closing plan.
+pub fn copies_were_lost()
+    ensures { CopiesWereLost }
+{}
+
+/// Every run is safe: what readers get tiles their numbers, records were appended before, nothing that was acknowledged or read is hidden, trims were issued, losses happened, and the numbers of appends rise and differ.
+pub fn every_run_is_safe()
+    ensures { (c : Config) (es : List Event) → IsInBounds c → Safe c (history c es) }
 {}
