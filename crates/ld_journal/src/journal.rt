@@ -48,6 +48,7 @@ impl<D: Disk> Journal<D> {
 
         ensures failed { IfErr result (λ e. e.1 ≡ JournalFault.Disk → Rose (D.faults disk) (D.faults e.0)) }
         ensures damaged { IfErr result (λ e. (place : ℕ) → e.1 ≡ JournalFault.Damaged place → IfSome (D.seen disk) (IsDamaged place)) }
+        ensures empty { IfErr result (λ e. (place : ℕ) → e.1 ≡ JournalFault.Damaged place → (place ≡ 0) × IfSome (D.seen disk) (λ bytes. bytes ≡ [])) }
         ensures honest { IfErr result (λ e. IsHonest (D.seen disk) → ((c : List ℕ) → D.may_leave disk c → (bodies : List (List ℕ)) × IsJournal bodies c)
             → (place : ℕ) → e.1 ≢ JournalFault.Damaged place) }
         ensures full { IfErr result (λ e. e.1 ≢ JournalFault.Full) }
@@ -165,6 +166,13 @@ impl<D: Disk> Journal<D> {
                 Err(fault)
             }
         }
+    }
+
+    /// The place of the gate behind the bodies that were given.
+    pub fn place(&self) -> u64
+        ensures { result ≡ place_of self.now }
+    {
+        self.at
     }
 
     /// Gives the disk back, as the last call left it.

@@ -44,6 +44,11 @@ is_next r (changes.Activate l e) = not (is_crowded r l) && ((epochs_of r l).epoc
 is_next r (changes.Close l e y) = not (is_crowded r l) && (lce_of r l + 1 == e)
 is_next r (changes.Draw n g) = generation_of r n + 1 == g
 
+abbrev pub body_length : Change → ℕ
+body_length (changes.Activate l e) = activation_length
+body_length (changes.Close l e y) = close_length
+body_length (changes.Draw n g) = draw_length
+
 abbrev pub longer : Register → ℕ → Register
 longer r body = record r { length = r.length + record_length body }
 

@@ -2,6 +2,7 @@
 #![tactic(auto)]
 
 mod change;
+mod contents;
 mod fault;
 mod log;
 mod register;
