@@ -1,3 +1,5 @@
 pub mod Bytes
 pub mod Logs
 pub mod Tables
+pub mod Leading
+pub mod Faulty

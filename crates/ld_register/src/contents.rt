@@ -103,6 +103,23 @@ impl Contents {
         Ok(Epochs::new(active))
     }
 
+    /// Whether a change is the next one of its log or node.
+    pub(crate) fn is_next(&self, change: &Change) -> bool
+        ensures { (n : ℕ) → result ≡ is_next (register_of self.now n) change.now }
+    {
+        match change {
+            Change::Activate { log, epoch } => {
+                is_behind(self.is_crowded(*log), self.epoch(*log), *epoch)
+            }
+            Change::Close { log, epoch, .. } => {
+                is_behind(self.is_crowded(*log), self.lce(*log), *epoch)
+            }
+            Change::Draw { node, generation } => {
+                is_behind(false, self.generation(*node), *generation)
+            }
+        }
+    }
+
     /// Makes room for a change that is the next one. Without memory nothing changes.
     pub(crate) fn room(&mut self, alloc: Global, change: &Change) -> Result<(), NoMemory>
         requires is { IsChange change.now }
@@ -148,6 +165,13 @@ impl Contents {
     {
         LOG_LIMIT <= count_others(&self.logs, log)
     }
+}
+
+/// Whether a number is the one behind another, and there is room for it.
+fn is_behind(crowded: bool, before: u32, number: u32) -> bool
+    ensures { result ≡ (not crowded && (before + 1 == number)) }
+{
+    !crowded && before < number && number - before == 1
 }
 
 /// Makes room for a log. Without memory nothing changes.

@@ -6,6 +6,7 @@ mod contents;
 mod fault;
 mod log;
 mod register;
+mod replay;
 
 pub use fault::RegisterFault;
 pub use register::{Drawn, Grant, Register, View};
