@@ -3,3 +3,5 @@ pub mod Logs
 pub mod Tables
 pub mod Leading
 pub mod Faulty
+pub mod Committing
+pub mod Meeting

@@ -3,10 +3,12 @@
 
 mod change;
 mod contents;
+mod disk;
 mod fault;
 mod log;
 mod register;
 mod replay;
 
+pub use disk::DiskRegister;
 pub use fault::RegisterFault;
 pub use register::{Drawn, Grant, Register, View};

@@ -10,5 +10,8 @@ pub apply-requires-clause-next : goal.apply-requires-clause-next
 apply-requires-clause-next c = ap (λ r. is_next r c.in-Some.change) (c.in_ok-room.ensures.same 0) ∙ (sym (c.is_next.ensures 0) ∙ c.if-not-is_next.false)
 
 pub returns-clause-made : goal.returns-clause-made
-returns-clause-made c h kept = (c.in-Some.change, record { body_is = c.in-Some.ensures.some; next = next_in c.args.contents.now h 0 c.in-Some.change kept ∙ (sym (c.is_next.ensures 0) ∙ c.if-not-is_next.false) },
-    made_kept c.args.contents.now c.apply.new.self h c.in-Some.change kept (λ n m e. c.apply.ensures n m e ∙ ap (λ r. changed r c.in-Some.change) (c.in_ok-room.ensures.same n)))
+returns-clause-made c h kept = (
+  c.in-Some.change,
+  record { body_is = c.in-Some.ensures.some; next = next_in c.args.contents.now h 0 c.in-Some.change kept ∙ (sym (c.is_next.ensures 0) ∙ c.if-not-is_next.false) },
+  made_kept c.args.contents.now c.apply.new.self h c.in-Some.change kept (λ n m e. c.apply.ensures n m e ∙ ap (λ r. changed r c.in-Some.change) (c.in_ok-room.ensures.same n)),
+)
