@@ -5,3 +5,4 @@ pub mod Leading
 pub mod Faulty
 pub mod Committing
 pub mod Meeting
+pub mod Answering

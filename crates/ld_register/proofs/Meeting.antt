@@ -15,7 +15,7 @@ use Rattle.ld_register.specs.declared.fault.RegisterFault.{RegisterFault}
 use Rattle.ld_register.specs.declared.fault.RegisterFault.TheVariants as faults
 use Rattle.ld_register.specs.declared.disk.DiskRegister.{DiskRegister}
 use Rattle.ld_register.specs.declared.change.Change.{Change}
-use Rattle.ld_register.specs.Calls.{IsFree, Keeps}
+use Rattle.ld_register.specs.Calls.{IsFree, Keeps, ChangedOrNot}
 use Rattle.ld_register.specs.Changes.{changed, body_length, Leads, IsNext}
 use Rattle.ld_register.specs.Kept.{register_of}
 use Rattle.ld_register.specs.Stands.{StandsFor, IsDamaged, IsForeign, IsReplayed}
@@ -32,10 +32,18 @@ none_after : (bodies : List (List ℕ)) (bytes rest : List ℕ) → bytes ≡ re
 none_after [] bytes rest e n j = let l = ap length (sym j.bytes_are ∙ (e ∙ n)) in absurd (omega arith)
 none_after (b ∷ bodies) bytes rest e n j = let l = ap length (sym j.bytes_are ∙ (e ∙ n)) in absurd (omega arith)
 
-module _ {D : Type 0} {g : Ghosts D} where
-  told_once : {bytes other : List ℕ} → Some bytes ≡ Some other → bytes ≡ other
-  told_once is = cc
+pub some_bytes : (o : Option (List ℕ)) → IsSome o → (bytes : List ℕ) × (o ≡ Some bytes)
+some_bytes None h = absurd (cc h)
+some_bytes (Some b) h = (b, refl)
 
+pub given_of : (o : Option (List ℕ)) (bytes : List ℕ) (P : List ℕ → Type 0) → o ≡ Some bytes → IfSome o P → P bytes
+given_of o bytes P e h = subst (λ o. IfSome o P) e h
+
+some_is : (o : Option (List ℕ)) (bytes : List ℕ) → o ≡ Some bytes → IsSome o
+some_is None bytes e = absurd cc
+some_is (Some b) bytes e = refl
+
+module _ {D : Type 0} {g : Ghosts D} where
   pub reads_one : (r : DiskRegister D g) (c d : Register) → ReadsAs r c → ReadsAs r d → c ≡ d
   reads_one r c d h k = stands_one k.bytes c d (subst (λ b. StandsFor b c) (same_bytes (sym h.seen_is ∙ k.seen_is)) h.stands) k.stands
     where
@@ -48,13 +56,6 @@ module _ {D : Type 0} {g : Ghosts D} where
     seen_is = a.bytes;
     stands = record { bodies = h.bodies; journal = record { gate = a.gate; after = a.after; bytes_are = refl; shut = a.shut; fits = a.fits }; leads = h.leads };
   }
-
-  pub replays_holds : (r : DiskRegister D g) (c : Register) → Replays r c → Holds r c
-  replays_holds r c h = record { reads = replays_reads r c h; loaded = λ l. h }
-
-  some_is : (o : Option (List ℕ)) (bytes : List ℕ) → o ≡ Some bytes → IsSome o
-  some_is None bytes e = absurd cc
-  some_is (Some b) bytes e = refl
 
   pub replays_tells : (r : DiskRegister D g) (c : Register) → Replays r c → Tells r
   replays_tells r c h = record { honest = some_is (g.seen (owned r)) _ h.settled.rests.bytes; loaded = λ l. (c, h) }
@@ -69,15 +70,15 @@ module _ {D : Type 0} {g : Ghosts D} where
 abbrev pub failure : (T : Type 0) → RegisterFault → Result T RegisterFault
 failure T e = Err e
 
-pub free_as : {S T : Type 0} (e : RegisterFault) → IsFree (failure S e) → IsFree (failure T e)
-free_as faults.Failed h = h
-free_as (faults.Damaged place) h = h
-free_as faults.LogLimit h = h
-free_as (faults.Behind lce) h = h
-free_as faults.EpochLimit h = h
-free_as faults.GenLimit h = h
-free_as faults.Full h = h
-free_as faults.NoMemory h = h
+pub free_as : (S T : Type 0) (e : RegisterFault) → IsFree (failure S e) → IsFree (failure T e)
+free_as S T faults.Failed h = h
+free_as S T (faults.Damaged place) h = h
+free_as S T faults.LogLimit h = h
+free_as S T (faults.Behind lce) h = h
+free_as S T faults.EpochLimit h = h
+free_as S T faults.GenLimit h = h
+free_as S T faults.Full h = h
+free_as S T faults.NoMemory h = h
 
 same_fault : {T : Type 0} (e f : RegisterFault) → failure T e ≡ failure T f → e ≡ f
 same_fault e f is = cc is
@@ -89,7 +90,7 @@ leads_split : (r : Register) (some more : List (List ℕ)) (c : Register) → Le
 leads_split r [] more c h = (r, refl, h)
 leads_split r (b ∷ some) more c h = let t = leads_split (changed r h.0) some more c h.2 in (t.0, (h.0, h.1, t.1), t.2)
 
-first : List ℕ → ℕ
+abbrev first : List ℕ → ℕ
 first [] = 0
 first (x ∷ xs) = x
 
@@ -112,6 +113,9 @@ not_damaged place bytes c s d = elim d.wrong [
   | inr (inr none) ↦ not_both place bytes s.bodies s.journal (record { bodies = d.bodies; rest = d.rest; bytes_are = d.bytes_are; place_is = d.place_is; fits = d.fits; cut = inr none })
 ]
 
+rose_from : (a b c : ℕ) → a ≤ b → Rose b c → Rose a c
+rose_from a b c h r = omega arith
+
 is_broken : (o : Option (List ℕ)) (bytes : List ℕ) (place : ℕ) → o ≡ Some bytes → IfSome o (IsDamaged place) → IsDamaged place bytes
 is_broken o bytes place e h = subst (λ o. IfSome o (IsDamaged place)) e h
 
@@ -127,12 +131,30 @@ leaves_both moment left_since old mid new P Q R p q h k = record {
 }
 
 module _ {D : Type 0} {g : Ghosts D} where
+  pub replays_holds : (r : DiskRegister D g) (c : Register) → Replays r c → Holds r c
+  replays_holds r c h = let a = replays_reads r c h in record {
+    reads = a;
+    one = λ d k. reads_one r c d a k;
+    whole = λ place b. not_damaged place a.bytes c a.stands (is_broken (g.seen (owned r)) a.bytes place a.seen_is b);
+    loaded = λ l. h;
+  }
+
+  foretells_by : (r : DiskRegister D g) (c : Register) → Replays r c → (q : Plain) → g.plain (owned r) ≡ Some q → IsQuiet q → Foretells r c
+  foretells_by r c h q is quiet = record { holds = replays_holds r c h; unarmed = leads_armed empty_register h.bodies c h.leads; told = q; plain_is = is; quiet = quiet }
+
   image_from : (counts : (disk : D) (t : ℕ) (c : List ℕ) → t ≤ g.moment disk → g.may_leave disk c → g.left_since disk t c) (old new : DiskRegister D g) (P : List ℕ → Type 0) → LeavesOnly g.moment g.left_since (owned old) (owned new) P
       → (bytes : List ℕ) → g.may_leave (owned new) bytes → P bytes
   image_from counts old new P h bytes m = h.each bytes (counts (owned new) (g.moment (owned old)) bytes h.later m)
 
-  not_broken : (r : DiskRegister D g) (c : Register) (place : ℕ) → Holds r c → IsBroken r place → ⊥
-  not_broken r c place h b = not_damaged place h.reads.bytes c h.reads.stands (is_broken (g.seen (owned r)) h.reads.bytes place h.reads.seen_is b)
+  settles_by : (new : DiskRegister D g) (w : Register) → Replays new w → (c : Register) → MayHold new c → Holds new c
+  settles_by new w h c m = subst (Holds new) (stands_one m.0 w c (image_stands new w h m.0 m.1) m.2) (replays_holds new w h)
+
+  done_by : (counts : (disk : D) (t : ℕ) (c : List ℕ) → t ≤ g.moment disk → g.may_leave disk c → g.left_since disk t c) (image : (disk : D) (bytes : List ℕ) → g.seen disk ≡ Some bytes → g.may_leave disk bytes) (old new : DiskRegister D g) (after : Register → Register)
+      → LeavesOnly g.moment g.left_since (owned old) (owned new) (LeftBy old after) → ChangedOrNot (MayHold old) (MayHold new) after
+  done_by counts image old new after h c m = elim (image_from counts old new (LeftBy old after) h m.0 m.1) [
+    | inl b ↦ (c, (m.0, b, m.2), inl refl)
+    | inr w ↦ (w.0, (w.1.reads.bytes, image (owned old) w.1.reads.bytes w.1.reads.seen_is, w.1.reads.stands), elim w.2 [ inl s ↦ inl (stands_one m.0 c w.0 m.2 s) | inr s ↦ inr (stands_one m.0 c (after w.0) m.2 s) ])
+  ]
 
   -- a load was refused
   unready_keeps : {T : Type 0} (counts : (disk : D) (t : ℕ) (c : List ℕ) → t ≤ g.moment disk → g.may_leave disk c → g.left_since disk t c) (old new : DiskRegister D g) (e : RegisterFault) (r : Result T RegisterFault) → r ≡ failure T e
@@ -140,7 +162,7 @@ module _ {D : Type 0} {g : Ghosts D} where
   unready_keeps counts old new e r is l n = elim n.stays [
     | inl f ↦ inl (is ∙ err_as e faults.Failed f)
     | inr (inl same) ↦ inr (on_err r _ (record {
-      held = λ c h. record { reads = record { bytes = h.reads.bytes; seen_is = same ∙ h.reads.seen_is; stands = h.reads.stands }; loaded = λ t. absurd (not_true (is_loaded new) t n.unloaded) };
+      held = λ c h. record { reads = record { bytes = h.reads.bytes; seen_is = same ∙ h.reads.seen_is; stands = h.reads.stands }; one = λ d k. h.one d (record { bytes = k.bytes; seen_is = sym same ∙ k.seen_is; stands = k.stands }); whole = λ place b. h.whole place (subst (λ o. IfSome o (IsDamaged place)) same b); loaded = λ t. absurd (not_true (is_loaded new) t n.unloaded) };
       may = λ c m. (m.0, image_from counts old new _ l.moments m.0 m.1, m.2);
     }))
     | inr (inr none) ↦ inr (on_err r _ (record {
@@ -152,7 +174,7 @@ module _ {D : Type 0} {g : Ghosts D} where
   unready_exact : {T : Type 0} (old new : DiskRegister D g) (e : RegisterFault) (r : Result T RegisterFault) → r ≡ failure T e → Loads old new (failure (Unit {0}) e) → IsNotReady old new (failure (Unit {0}) e)
       → IsFree (failure T e) → IsErrOf r faults.Failed ⊎ OnErr r (Keeps (Holds old) (Holds new) (MayHold old) (MayHold new)) → (c : Register) → Foretells old c → IsErrOf r faults.NoMemory × Foretells new c
   unready_exact old new faults.Failed r is l n free keeps c f = absurd (l.steady f.told f.plain_is f.quiet refl)
-  unready_exact old new (faults.Damaged place) r is l n free keeps c f = absurd (not_broken old c place f.holds (n.damaged place refl))
+  unready_exact old new (faults.Damaged place) r is l n free keeps c f = absurd (f.holds.whole place (n.damaged place refl))
   unready_exact old new faults.LogLimit r is l n free keeps c f = absurd free
   unready_exact old new (faults.Behind lce) r is l n free keeps c f = absurd free
   unready_exact old new faults.EpochLimit r is l n free keeps c f = absurd free
@@ -160,7 +182,7 @@ module _ {D : Type 0} {g : Ghosts D} where
   unready_exact old new faults.Full r is l n free keeps c f = absurd free
   unready_exact {T = T} old new faults.NoMemory r is l n free keeps c f =
       let q = l.quiet f.told f.plain_is f.quiet in
-      (is, record { holds = (kept_of r is keeps).held c f.holds; told = q.0; plain_is = q.1; quiet = q.2 })
+      (is, record { holds = (kept_of r is keeps).held c f.holds; unarmed = f.unarmed; told = q.0; plain_is = q.1; quiet = q.2 })
     where
       not_failed : failure T faults.NoMemory ≡ failure T faults.Failed → ⊥
       not_failed h = absurd (cc h)
@@ -169,10 +191,10 @@ module _ {D : Type 0} {g : Ghosts D} where
       kept_of r is (inl h) = absurd (not_failed (sym is ∙ h))
       kept_of r is (inr k) = subst (λ r. OnErr r (Keeps (Holds old) (Holds new) (MayHold old) (MayHold new))) is k
 
-  pub meets_unready : {T : Type 0} (counts : (disk : D) (t : ℕ) (c : List ℕ) → t ≤ g.moment disk → g.may_leave disk c → g.left_since disk t c) (old new : DiskRegister D g) (e : RegisterFault) (r : Result T RegisterFault) (answer : Register → Result T RegisterFault) (after : Register → Register)
+  pub meets_unready : {T : Type 0} (counts : (disk : D) (t : ℕ) (c : List ℕ) → t ≤ g.moment disk → g.may_leave disk c → g.left_since disk t c) (image : (disk : D) (bytes : List ℕ) → g.seen disk ≡ Some bytes → g.may_leave disk bytes) (old new : DiskRegister D g) (e : RegisterFault) (r : Result T RegisterFault) (answer : Register → Result T RegisterFault) (after : Register → Register)
       → r ≡ failure T e → Loads old new (failure (Unit {0}) e) → IsNotReady old new (failure (Unit {0}) e) → Meets old new r answer after
-  meets_unready {T = T} counts old new e r answer after is l n =
-      let free : IsFree r = subst IsFree (sym is) (free_as {S = Unit {0}} {T = T} e n.free.1) in
+  meets_unready {T = T} counts image old new e r answer after is l n =
+      let free : IsFree r = subst IsFree (sym is) (free_as (Unit {0}) T e n.free.1) in
       let keeps = unready_keeps counts old new e r is l n in
       record {
         answers = λ c h. inl free;
@@ -180,8 +202,10 @@ module _ {D : Type 0} {g : Ghosts D} where
         whole = λ t. inl free;
         settled = λ t. inl free;
         moments = λ t. leaves_map g.moment g.left_since (owned old) (owned new) _ (LeftBy old after) (λ c m. inl m) l.moments;
+        settles = λ t. inl free;
+        done_or_not = λ t. done_by counts image old new after (leaves_map g.moment g.left_since (owned old) (owned new) _ (LeftBy old after) (λ c m. inl m) l.moments);
         keeps = keeps;
-        exact = λ c f. inl (unready_exact old new e r is l n (free_as {S = Unit {0}} {T = T} e n.free.1) keeps c f);
+        exact = λ c f. inl (unready_exact old new e r is l n (free_as (Unit {0}) T e n.free.1) keeps c f);
         failed = λ f. n.failed (err_as e faults.Failed (sym is ∙ f));
         damaged = λ place f. n.damaged place (err_as e (faults.Damaged place) (sym is ∙ f));
         counts = l.counts;
@@ -191,56 +215,61 @@ module _ {D : Type 0} {g : Ghosts D} where
   held_replays old mid y c h = let w = y.whole (holds_tells old c h) in subst (Replays mid) (reads_one old w.0 c w.2.reads h.reads) w.1
 
   -- it is loaded, and the answer changes nothing
-  pub meets_answered : {T : Type 0} (counts : (disk : D) (t : ℕ) (c : List ℕ) → t ≤ g.moment disk → g.may_leave disk c → g.left_since disk t c) (old mid : DiskRegister D g) (done : Result (Unit {0}) RegisterFault) (r : Result T RegisterFault) (answer : Register → Result T RegisterFault) (after : Register → Register)
+  pub meets_answered : {T : Type 0} (counts : (disk : D) (t : ℕ) (c : List ℕ) → t ≤ g.moment disk → g.may_leave disk c → g.left_since disk t c) (image : (disk : D) (bytes : List ℕ) → g.seen disk ≡ Some bytes → g.may_leave disk bytes) (old mid : DiskRegister D g) (done : Result (Unit {0}) RegisterFault) (r : Result T RegisterFault) (answer : Register → Result T RegisterFault) (after : Register → Register)
       → Loads old mid done → IsReady old mid → (IsErrOf r faults.Failed → ⊥) → ((place : ℕ) → IsErrOf r (faults.Damaged place) → ⊥)
       → ((c : Register) → Replays mid c → (r ≡ answer c) × (after c ≡ c)) → Meets old mid r answer after
-  meets_answered counts old mid done r answer after l y steady whole says = record {
+  meets_answered counts image old mid done r answer after l y steady whole says = record {
     answers = λ c h. let m = held_replays old mid y c h in let s = says c m in inr (s.0, subst (Holds mid) (sym s.1) (replays_holds mid c m));
     told = λ t. let w = y.whole t in replays_tells mid w.0 w.1;
     whole = λ t. let w = y.whole t in inr (w.0, w.2);
     settled = λ t. let w = y.whole t in inr (λ bytes m. (w.0, image_stands mid w.0 w.1 bytes m, replays_holds mid w.0 w.1));
     moments = λ t. leaves_map g.moment g.left_since (owned old) (owned mid) _ (LeftBy old after) (λ c m. inl m) l.moments;
+    settles = λ t. let w = y.whole t in inr (λ c m. settles_by mid w.0 w.1 c m);
+    done_or_not = λ t. done_by counts image old mid after (leaves_map g.moment g.left_since (owned old) (owned mid) _ (LeftBy old after) (λ c m. inl m) l.moments);
     keeps = inr (on_err r _ (record { held = λ c h. replays_holds mid c (held_replays old mid y c h); may = λ c m. (m.0, image_from counts old mid _ l.moments m.0 m.1, m.2) }));
     exact = λ c f. let m = held_replays old mid y c f.holds in let s = says c m in let q = l.quiet f.told f.plain_is f.quiet in
-        inr (s.0, record { holds = subst (Holds mid) (sym s.1) (replays_holds mid c m); told = q.0; plain_is = q.1; quiet = q.2 });
+        inr (s.0, subst (Foretells mid) (sym s.1) (foretells_by mid c m q.0 q.1 q.2));
     failed = λ f. absurd (steady f);
     damaged = λ place f. absurd (whole place f);
     counts = l.counts;
   }
 
   -- the change was made
-  pub meets_made : {T : Type 0} (old mid new : DiskRegister D g) (x : Change) (done made : Result (Unit {0}) RegisterFault) (r : Result T RegisterFault) (answer : Register → Result T RegisterFault) (after : Register → Register)
+  pub meets_made : {T : Type 0} (counts : (disk : D) (t : ℕ) (c : List ℕ) → t ≤ g.moment disk → g.may_leave disk c → g.left_since disk t c) (image : (disk : D) (bytes : List ℕ) → g.seen disk ≡ Some bytes → g.may_leave disk bytes) (old mid new : DiskRegister D g) (x : Change) (done made : Result (Unit {0}) RegisterFault) (r : Result T RegisterFault) (answer : Register → Result T RegisterFault) (after : Register → Register)
       → Loads old mid done → IsReady old mid → Commits mid new x made → IsMade mid new x → (IsErrOf r faults.Failed → ⊥) → ((place : ℕ) → IsErrOf r (faults.Damaged place) → ⊥) → ((A : Type 0) → OnErr r A)
       → ((c : Register) → Replays mid c → place_of mid.journal + body_length x + 6 ≤ 2 ^ 40 → (r ≡ answer c) × (after c ≡ changed c x)) → Meets old new r answer after
-  meets_made old mid new x done made r answer after l y k a steady whole ok says = record {
+  meets_made counts image old mid new x done made r answer after l y k a steady whole ok says = record {
     answers = λ c h. let m = held_replays old mid y c h in let s = says c m a.fits in inr (s.0, subst (Holds new) (sym s.1) (replays_holds new _ (a.replays c m)));
     told = λ t. let w = y.whole t in replays_tells new _ (a.replays w.0 w.1);
     whole = λ t. let w = y.whole t in inr (w.0, w.2);
     settled = λ t. let w = y.whole t in inr (λ bytes m. (changed w.0 x, image_stands new _ (a.replays w.0 w.1) bytes m, replays_holds new _ (a.replays w.0 w.1)));
     moments = λ t. let w = y.whole t in let s = says w.0 w.1 a.fits in leaves_both g.moment g.left_since (owned old) (owned mid) (owned new) _ _ (LeftBy old after) (λ c m. inl m)
         (λ c m. inr (w.0, w.2, elim m [ inl b ↦ inl b | inr b ↦ inr (subst (StandsFor c) (sym s.1) b) ])) l.moments (k.moments w.0 w.1);
+    settles = λ t. let w = y.whole t in inr (λ c m. settles_by new _ (a.replays w.0 w.1) c m);
+    done_or_not = λ t. done_by counts image old new after (let w = y.whole t in let s = says w.0 w.1 a.fits in leaves_both g.moment g.left_since (owned old) (owned mid) (owned new) _ _ (LeftBy old after) (λ c m. inl m)
+        (λ c m. inr (w.0, w.2, elim m [ inl b ↦ inl b | inr b ↦ inr (subst (StandsFor c) (sym s.1) b) ])) l.moments (k.moments w.0 w.1));
     keeps = inr (ok _);
     exact = λ c f. let m = held_replays old mid y c f.holds in let s = says c m a.fits in let q = l.quiet f.told f.plain_is f.quiet in let p = k.quiet q.0 q.1 q.2 in
-        inr (s.0, record { holds = subst (Holds new) (sym s.1) (replays_holds new _ (a.replays c m)); told = p.0; plain_is = p.1; quiet = p.2 });
+        inr (s.0, subst (Foretells new) (sym s.1) (foretells_by new _ (a.replays c m) p.0 p.1 p.2));
     failed = λ f. absurd (steady f);
     damaged = λ place f. absurd (whole place f);
     counts = let b = l.counts in let c = k.counts in omega arith;
   }
 
-  rose_from : (a b c : ℕ) → a ≤ b → Rose b c → Rose a c
-  rose_from a b c h r = omega arith
-
   -- the change failed, done or not
-  refused_failed : {T : Type 0} (old mid new : DiskRegister D g) (x : Change) (done : Result (Unit {0}) RegisterFault) (r : Result T RegisterFault) (answer : Register → Result T RegisterFault) (after : Register → Register)
+  refused_failed : {T : Type 0} (counts : (disk : D) (t : ℕ) (c : List ℕ) → t ≤ g.moment disk → g.may_leave disk c → g.left_since disk t c) (image : (disk : D) (bytes : List ℕ) → g.seen disk ≡ Some bytes → g.may_leave disk bytes) (old mid new : DiskRegister D g) (x : Change) (done : Result (Unit {0}) RegisterFault) (r : Result T RegisterFault) (answer : Register → Result T RegisterFault) (after : Register → Register)
       → r ≡ failure T faults.Failed → Loads old mid done → IsReady old mid → Commits mid new x (failure (Unit {0}) faults.Failed) → is_loaded new ≡ false → Rose (g.faults (owned mid)) (g.faults (owned new)) → place_of mid.journal + body_length x + 6 ≤ 2 ^ 40
       → ((c : Register) → Replays mid c → place_of mid.journal + body_length x + 6 ≤ 2 ^ 40 → after c ≡ changed c x) → Meets old new r answer after
-  refused_failed {T = T} old mid new x done r answer after is l y k unloaded rose fit says = let free : IsFree r = subst IsFree (sym is) tt in record {
+  refused_failed {T = T} counts image old mid new x done r answer after is l y k unloaded rose fit says = let free : IsFree r = subst IsFree (sym is) tt in record {
     answers = λ c h. inl free;
     told = λ t. record { honest = k.honest (l.honest t.honest); loaded = λ b. absurd (not_true (is_loaded new) b unloaded) };
     whole = λ t. inl free;
     settled = λ t. inl free;
     moments = λ t. let w = y.whole t in leaves_both g.moment g.left_since (owned old) (owned mid) (owned new) _ _ (LeftBy old after) (λ c m. inl m)
         (λ c m. inr (w.0, w.2, elim m [ inl b ↦ inl b | inr b ↦ inr (subst (StandsFor c) (sym (says w.0 w.1 fit)) b) ])) l.moments (k.moments w.0 w.1);
+    settles = λ t. inl free;
+    done_or_not = λ t. done_by counts image old new after (let w = y.whole t in leaves_both g.moment g.left_since (owned old) (owned mid) (owned new) _ _ (LeftBy old after) (λ c m. inl m)
+        (λ c m. inr (w.0, w.2, elim m [ inl b ↦ inl b | inr b ↦ inr (subst (StandsFor c) (sym (says w.0 w.1 fit)) b) ])) l.moments (k.moments w.0 w.1));
     keeps = inl is;
     exact = λ c f. let q = l.quiet f.told f.plain_is f.quiet in absurd (k.steady q.0 q.1 q.2 refl);
     failed = λ f. rose_from (g.faults (owned old)) (g.faults (owned mid)) (g.faults (owned new)) l.counts rose;
@@ -249,10 +278,10 @@ module _ {D : Type 0} {g : Ghosts D} where
   }
 
   -- it is as it was
-  refused_kept : {T : Type 0} (counts : (disk : D) (t : ℕ) (c : List ℕ) → t ≤ g.moment disk → g.may_leave disk c → g.left_since disk t c) (old mid new : DiskRegister D g) (x : Change) (done made : Result (Unit {0}) RegisterFault) (e : RegisterFault) (r : Result T RegisterFault) (answer : Register → Result T RegisterFault) (after : Register → Register)
+  refused_kept : {T : Type 0} (counts : (disk : D) (t : ℕ) (c : List ℕ) → t ≤ g.moment disk → g.may_leave disk c → g.left_since disk t c) (image : (disk : D) (bytes : List ℕ) → g.seen disk ≡ Some bytes → g.may_leave disk bytes) (old mid new : DiskRegister D g) (x : Change) (done made : Result (Unit {0}) RegisterFault) (e : RegisterFault) (r : Result T RegisterFault) (answer : Register → Result T RegisterFault) (after : Register → Register)
       → r ≡ failure T e → Loads old mid done → IsReady old mid → Commits mid new x made → (e ≡ faults.NoMemory) ⊎ ((e ≡ faults.Full) × ((c : Register) → Replays mid c → (failure T faults.Full ≡ answer c) × (after c ≡ c)))
       → ((c : Register) → Replays mid c → Replays new c) → LeavesOnly g.moment g.left_since (owned mid) (owned new) (g.may_leave (owned mid)) → Meets old new r answer after
-  refused_kept {T = T} counts old mid new x done made e r answer after is l y k which stays leaves =
+  refused_kept {T = T} counts image old mid new x done made e r answer after is l y k which stays leaves =
       let images : (bytes : List ℕ) → g.may_leave (owned mid) bytes → g.may_leave (owned old) bytes = λ bytes m. image_from counts old mid _ l.moments bytes m in
       record {
         answers = λ c h. let m = held_replays old mid y c h in elim which [
@@ -263,10 +292,12 @@ module _ {D : Type 0} {g : Ghosts D} where
         whole = λ t. let w = y.whole t in inr (w.0, w.2);
         settled = λ t. let w = y.whole t in inr (λ bytes m. (w.0, image_stands new w.0 (stays w.0 w.1) bytes m, replays_holds new w.0 (stays w.0 w.1)));
         moments = λ t. leaves_both g.moment g.left_since (owned old) (owned mid) (owned new) _ _ (LeftBy old after) (λ c m. inl m) (λ c m. inl (images c m)) l.moments leaves;
+        settles = λ t. let w = y.whole t in inr (λ c m. settles_by new w.0 (stays w.0 w.1) c m);
+        done_or_not = λ t. done_by counts image old new after (leaves_both g.moment g.left_since (owned old) (owned mid) (owned new) _ _ (LeftBy old after) (λ c m. inl m) (λ c m. inl (images c m)) l.moments leaves);
         keeps = inr (on_err r _ (record { held = λ c h. replays_holds new c (stays c (held_replays old mid y c h)); may = λ c m. (m.0, images m.0 (image_from counts mid new _ leaves m.0 m.1), m.2) }));
         exact = λ c f. let m = held_replays old mid y c f.holds in let q = l.quiet f.told f.plain_is f.quiet in let p = k.quiet q.0 q.1 q.2 in elim which [
-          | inl n ↦ inl (is ∙ ap (λ e. failure T e) n, record { holds = replays_holds new c (stays c m); told = p.0; plain_is = p.1; quiet = p.2 })
-          | inr f ↦ let s = f.1 c m in inr ((is ∙ ap (λ e. failure T e) f.0) ∙ s.0, record { holds = subst (Holds new) (sym s.1) (replays_holds new c (stays c m)); told = p.0; plain_is = p.1; quiet = p.2 })
+          | inl n ↦ inl (is ∙ ap (λ e. failure T e) n, foretells_by new c (stays c m) p.0 p.1 p.2)
+          | inr f ↦ let s = f.1 c m in inr ((is ∙ ap (λ e. failure T e) f.0) ∙ s.0, subst (Foretells new) (sym s.1) (foretells_by new c (stays c m) p.0 p.1 p.2))
         ];
         failed = λ f. absurd (never which (same_fault e faults.Failed (sym is ∙ f)));
         damaged = λ place f. absurd (nowhere place which (same_fault e (faults.Damaged place) (sym is ∙ f)));
@@ -281,14 +312,25 @@ module _ {D : Type 0} {g : Ghosts D} where
       nowhere place (inl n) f = absurd (let h = sym n ∙ f in cc h)
       nowhere place (inr n) f = absurd (let h = sym n.0 ∙ f in cc h)
 
-  pub meets_refused : {T : Type 0} (counts : (disk : D) (t : ℕ) (c : List ℕ) → t ≤ g.moment disk → g.may_leave disk c → g.left_since disk t c) (old mid new : DiskRegister D g) (x : Change) (done : Result (Unit {0}) RegisterFault) (e : RegisterFault) (r : Result T RegisterFault) (answer : Register → Result T RegisterFault) (after : Register → Register)
+  pub meets_refused : {T : Type 0} (counts : (disk : D) (t : ℕ) (c : List ℕ) → t ≤ g.moment disk → g.may_leave disk c → g.left_since disk t c) (image : (disk : D) (bytes : List ℕ) → g.seen disk ≡ Some bytes → g.may_leave disk bytes) (old mid new : DiskRegister D g) (x : Change) (done : Result (Unit {0}) RegisterFault) (e : RegisterFault) (r : Result T RegisterFault) (answer : Register → Result T RegisterFault) (after : Register → Register)
       → r ≡ failure T e → Loads old mid done → IsReady old mid → Commits mid new x (failure (Unit {0}) e) → IsRefused mid new x (failure (Unit {0}) e)
       → ((c : Register) → Replays mid c → 2 ^ 40 < place_of mid.journal + body_length x + 6 → (failure T faults.Full ≡ answer c) × (after c ≡ c))
       → ((c : Register) → Replays mid c → place_of mid.journal + body_length x + 6 ≤ 2 ^ 40 → after c ≡ changed c x) → Meets old new r answer after
-  meets_refused {T = T} counts old mid new x done e r answer after is l y k n full fits = elim n.cause [
-    | inl f ↦ refused_failed old mid new x done r answer after (is ∙ err_as e faults.Failed f.0) l y (subst (λ m. Commits mid new x m) f.0 k) f.1 f.2 f.3 fits
-    | inr s ↦ refused_kept counts old mid new x done (failure (Unit {0}) e) e r answer after is l y k (elim s.0 [
+  meets_refused {T = T} counts image old mid new x done e r answer after is l y k n full fits = elim n.cause [
+    | inl f ↦ refused_failed counts image old mid new x done r answer after (is ∙ err_as e faults.Failed f.0) l y (subst (λ m. Commits mid new x m) f.0 k) f.1 f.2 f.3 fits
+    | inr s ↦ refused_kept counts image old mid new x done (failure (Unit {0}) e) e r answer after is l y k (elim s.0 [
       | inl m ↦ inl (same_fault e faults.NoMemory m)
       | inr m ↦ inr (same_fault e faults.Full m.0, (λ c h. full c h m.1))
     ]) s.2 s.3
   ]
+
+  pub holds_unloaded : (r : DiskRegister D g) (c : Register) → ReadsAs r c → is_loaded r ≡ false → Holds r c
+  holds_unloaded r c a l = record {
+    reads = a;
+    one = λ d k. reads_one r c d a k;
+    whole = λ place b. not_damaged place a.bytes c a.stands (is_broken (g.seen (owned r)) a.bytes place a.seen_is b);
+    loaded = λ t. absurd (not_true (is_loaded r) t l);
+  }
+
+  pub replays_length : (r : DiskRegister D g) (c : Register) → Replays r c → c.length ≡ place_of r.journal + 1
+  replays_length r c h = let a = leads_length empty_register h.bodies c h.leads in let b = h.settled.rests.place_is in omega arith

@@ -1,5 +1,6 @@
 -- What a register on a disk holds, and what its calls do.
-use Rattle.std.specs.Prelude.{◌≡◌, ◌⊎◌, ◌≤◌, ◌<◌, ◌+◌, ◌^◌, ◌==◌, ℕ, Bool, true, false, List, Option, None, Some, IfSome, IsErrOf, OnErr, IsErr}
+use Rattle.std.specs.Prelude.{◌≡◌, ◌⊎◌, ◌≤◌, ◌<◌, ◌+◌, ◌^◌, ◌==◌, ℕ, Bool, true, false, List, Option, None, Some, IfSome, IsSome, IsErrOf, OnErr, IsErr}
+use Rattle.std.proofs.Common.{subst, sym, refl}
 use Rattle.std.specs.declared.result.Result.{Result}
 use Rattle.ld_io.specs.Causes.{Rose}
 use Rattle.ld_disk.specs.Images.{IsHonest}
@@ -14,7 +15,7 @@ use Rattle.ld_register.specs.declared.fault.RegisterFault.{RegisterFault}
 use Rattle.ld_register.specs.declared.fault.RegisterFault.TheVariants as faults
 use Rattle.ld_register.specs.declared.disk.DiskRegister.{DiskRegister}
 use Rattle.ld_register.specs.declared.change.Change.{Change}
-use Rattle.ld_register.specs.Calls.{IsFree, Keeps}
+use Rattle.ld_register.specs.Calls.{IsFree, Keeps, ChangedOrNot, unarmed}
 use Rattle.ld_register.specs.Changes.{changed, body_length}
 use Rattle.ld_register.specs.Stands.{StandsFor, IsDamaged, IsReplayed}
 
@@ -45,8 +46,14 @@ module _ {D : Type 0} {g : Ghosts D} where
     pub seen_is : g.seen (owned r) ≡ Some bytes
     pub stands : StandsFor bytes c
 
+  abbrev pub IsBroken : DiskRegister D g → ℕ → Type 0
+  IsBroken r place = IfSome (g.seen (owned r)) (IsDamaged place)
+
+  -- the bytes stand for it and for nothing else, and what is in memory once it is loaded is what they stand for
   pub record Holds (r : DiskRegister D g) (c : Register) : Type 0 where
     pub reads : ReadsAs r c
+    pub one : (d : Register) → ReadsAs r d → c ≡ d
+    pub whole : (place : ℕ) → IsBroken r place → ⊥
     pub loaded : is_loaded r ≡ true → Replays r c
 
   pub record Tells (r : DiskRegister D g) : Type 0 where
@@ -57,12 +64,10 @@ module _ {D : Type 0} {g : Ghosts D} where
   abbrev pub MayHold : DiskRegister D g → Register → Type 0
   MayHold r c = (bytes : List ℕ) × g.may_leave (owned r) bytes × StandsFor bytes c
 
-  abbrev pub IsBroken : DiskRegister D g → ℕ → Type 0
-  IsBroken r place = IfSome (g.seen (owned r)) (IsDamaged place)
-
   -- its disk tells what each call will do, and none will fail
   pub record Foretells (r : DiskRegister D g) (c : Register) : Type 0 where
     pub holds : Holds r c
+    pub unarmed : c.armed ≡ None
     pub told : Plain
     pub plain_is : g.plain (owned r) ≡ Some told
     pub quiet : IsQuiet told
@@ -121,9 +126,19 @@ module _ {D : Type 0} {g : Ghosts D} where
     pub whole : Tells old → IsFree result ⊎ ((c : Register) × Holds old c)
     pub settled : Tells old → IsFree result ⊎ ((bytes : List ℕ) → g.may_leave (owned new) bytes → (c : Register) × StandsFor bytes c × Holds new c)
     pub moments : Tells old → LeavesOnly g.moment g.left_since (owned old) (owned new) (LeftBy old after)
+    pub settles : Tells old → IsFree result ⊎ ((c : Register) → MayHold new c → Holds new c)
+    pub done_or_not : Tells old → ChangedOrNot (MayHold old) (MayHold new) after
     pub keeps : IsErrOf result faults.Failed ⊎ OnErr result (Keeps (Holds old) (Holds new) (MayHold old) (MayHold new))
     pub exact : (c : Register) → Foretells old c
         → (IsErrOf result faults.NoMemory × Foretells new c) ⊎ ((result ≡ answer c) × Foretells new (after c))
     pub failed : IsErrOf result faults.Failed → Rose (g.faults (owned old)) (g.faults (owned new))
     pub damaged : (place : ℕ) → IsErrOf result (faults.Damaged place) → IsBroken old place
     pub counts : g.faults (owned old) ≤ g.faults (owned new)
+
+  -- ---- the laws of a register ----
+
+  pub holds_is_told : (r : DiskRegister D g) (c : Register) → Holds r c → Tells r
+  holds_is_told r c h = record { honest = subst (λ o. IsSome o) (sym h.reads.seen_is) refl; loaded = λ l. (c, h.loaded l) }
+
+  pub told_is_held : (r : DiskRegister D g) (c : Register) → Foretells r c → Holds r (unarmed c)
+  told_is_held r c t = subst (λ a. Holds r (record c { armed = a })) t.unarmed t.holds

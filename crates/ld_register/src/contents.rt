@@ -1,5 +1,5 @@
 // What a register holds, kept in memory.
-ghost use Rattle.std.specs.Prelude.{◌≡◌, ◌≤◌, ◌<◌, ◌+◌, ◌-◌, ◌^◌, ◌++◌, ◌∷◌, [], ℕ, true, not, ◌==◌, ◌&&◌, nat_le, IfOk, OnOk, IfSome, IsSome, is_some, ◌↔◌};
+ghost use Rattle.std.specs.Prelude.{◌≡◌, ◌≤◌, ◌<◌, ◌+◌, ◌-◌, ◌^◌, ◌++◌, ◌∷◌, [], ℕ, length, true, not, ◌==◌, ◌&&◌, nat_le, IfOk, OnOk, IfSome, IsSome, is_some, ◌↔◌};
 ghost use Rattle.ld_table.specs.Table.{find, put};
 ghost use Rattle.ld_table.specs.Words.{how_many};
 ghost use Rattle.ld_ids.specs.Id.{IsLog};
@@ -98,8 +98,12 @@ impl Contents {
     pub(crate) fn active(&self, alloc: Global) -> Result<Epochs, NoMemory>
         ensures epochs { IfOk result (λ epochs. (n : ℕ) → epochs ≡ epochs_in (register_of self.now n).logs) }
         ensures bounds { IfOk result (λ epochs. AreEpochs 1 epochs) }
+        ensures few { IfOk result (λ epochs. length epochs ≤ 64) }
     {
         let active = active_logs(alloc, &self.logs)?;
+        if LOG_LIMIT < active.len() {
+            return Err(NoMemory);
+        }
         Ok(Epochs::new(active))
     }
 
