@@ -15,6 +15,7 @@ use Rattle.ld_register.specs.declared.fault.RegisterFault.{RegisterFault}
 use Rattle.ld_register.specs.declared.fault.RegisterFault.TheVariants as faults
 use Rattle.ld_register.specs.declared.disk.DiskRegister.{DiskRegister}
 use Rattle.ld_register.specs.declared.change.Change.{Change}
+use Rattle.ld_register.specs.declared.register.View.{View}
 use Rattle.ld_register.specs.Calls.{IsFree, Keeps, ChangedOrNot}
 use Rattle.ld_register.specs.Changes.{changed, body_length, Leads, IsNext}
 use Rattle.ld_register.specs.Kept.{register_of}
@@ -334,3 +335,36 @@ module _ {D : Type 0} {g : Ghosts D} where
 
   pub replays_length : (r : DiskRegister D g) (c : Register) → Replays r c → c.length ≡ place_of r.journal + 1
   replays_length r c h = let a = leads_length empty_register h.bodies c h.leads in let b = h.settled.rests.place_is in omega arith
+
+  pub hold_on : (old mid : DiskRegister D g) (c : Register) → IsReady old mid → Holds old c → Holds mid c
+  hold_on old mid c y h = replays_holds mid c (held_replays old mid y c h)
+
+  -- it is loaded, and there is no memory
+  pub meets_no_memory : {T : Type 0} (counts : (disk : D) (t : ℕ) (c : List ℕ) → t ≤ g.moment disk → g.may_leave disk c → g.left_since disk t c) (image : (disk : D) (bytes : List ℕ) → g.seen disk ≡ Some bytes → g.may_leave disk bytes)
+      (old mid : DiskRegister D g) (done : Result (Unit {0}) RegisterFault) (r : Result T RegisterFault) (answer : Register → Result T RegisterFault) (after : Register → Register) → r ≡ failure T faults.NoMemory → Loads old mid done → IsReady old mid → Meets old mid r answer after
+  meets_no_memory {T = T} counts image old mid done r answer after is l y =
+      let free : IsFree r = subst IsFree (sym is) tt in record {
+        answers = λ c h. inl free;
+        told = λ t. let w = y.whole t in replays_tells mid w.0 w.1;
+        whole = λ t. inl free;
+        settled = λ t. inl free;
+        moments = λ t. leaves_map g.moment g.left_since (owned old) (owned mid) _ (LeftBy old after) (λ c m. inl m) l.moments;
+        settles = λ t. inl free;
+        done_or_not = λ t. done_by counts image old mid after (leaves_map g.moment g.left_since (owned old) (owned mid) _ (LeftBy old after) (λ c m. inl m) l.moments);
+        keeps = inr (on_err r _ (record { held = λ c h. replays_holds mid c (held_replays old mid y c h); may = λ c m. (m.0, image_from counts old mid _ l.moments m.0 m.1, m.2) }));
+        exact = λ c f. let q = l.quiet f.told f.plain_is f.quiet in inl (is, foretells_by mid c (held_replays old mid y c f.holds) q.0 q.1 q.2);
+        failed = λ f. absurd (let e = same_fault faults.NoMemory faults.Failed (sym is ∙ f) in cc e);
+        damaged = λ place f. absurd (let e = same_fault faults.NoMemory (faults.Damaged place) (sym is ∙ f) in cc e);
+        counts = l.counts;
+      }
+
+pub look_keeps : {T : Type 0} (r : Result T RegisterFault) (e : RegisterFault) (K : Type 0) → r ≡ failure T e → IsErrOf r faults.Failed ⊎ OnErr r K → IsErrOf r faults.Failed ⊎ K
+look_keeps r e K is (inl f) = inl f
+look_keeps r e K is (inr k) = inr (subst (λ r. OnErr r K) is k)
+
+pub look_exact : {T : Type 0} (r : Result T RegisterFault) (v : Result T RegisterFault) (A : Type 0) → (IsErrOf r faults.NoMemory × A) ⊎ ((r ≡ v) × A) → (IsErrOf r faults.NoMemory ⊎ (r ≡ v)) × A
+look_exact r v A (inl h) = (inl h.0, h.1)
+look_exact r v A (inr h) = (inr h.0, h.1)
+
+abbrev pub ok_view : View → Result View RegisterFault
+ok_view v = Ok v

@@ -160,6 +160,7 @@ impl<D: Disk> Register for DiskRegister<D> {
         epoch: u32,
         summary: &Summary,
     ) -> Result<(), RegisterFault>
+        requires { IsSummary epoch summary.now }
         ensures meets { Meets self.old self.new result (λ c. closed c log epoch summary.now) (λ c. after_close c log epoch summary.now) }
         ensures bounds { (lce : ℕ) → IsErrOf result (RegisterFault.Behind lce) → lce ≤ 2 ^ 32 - 2 }
         ensures epochs { result ≢ Err RegisterFault.EpochLimit }
