@@ -12,3 +12,6 @@ mod replay;
 pub use disk::DiskRegister;
 pub use fault::RegisterFault;
 pub use register::{Drawn, Grant, Register, View};
+
+#[cfg(test)]
+mod tests;

@@ -31,7 +31,7 @@ pub commit-requires-clause-is : goal.commit-requires-clause-is
 commit-requires-clause-is g c = let e = c.if-lce-epoch.false in let b = c.requires.ballot in let m = c.requires.ballot_most in (c.number.ensures.bounds, (omega arith, omega arith), c.requires)
 
 pub commit-requires-clause-next : goal.commit-requires-clause-next
-commit-requires-clause-next g c = 
+commit-requires-clause-next g c =
     ap (λ b. not b && (lce_of (register_of c.ready.new.self.contents 0) c.args.log + 1 == c.args.epoch)) (sym (c.is_crowded.ensures 0) ∙ c.if-is_crowded.false) ∙ eq-eqb _ _ (ap (λ n. n + 1) (sym (c.lce-lce.ensures.value 0)) ∙ c.if-lce-epoch.false)
 
 full : (g : _) (c : goal.After-from_residual-in_err-commit g) (h : Register) → Replays c.ready.new.self h → 2 ^ 40 < place_of c.ready.new.self.journal + 29 + 6 → (failure _ faults.Full ≡ closed h c.args.log c.args.epoch c.args.summary.now) × (after_close h c.args.log c.args.epoch c.args.summary.now ≡ h)

@@ -25,9 +25,12 @@ returns-in_err-ready-clause-exact g c h t = look_exact c.from_residual.result (o
 
 pub returns-clause-meets : goal.returns-clause-meets
 returns-clause-meets g c = meets_answered g.met.D.Disk.counts_now g.met.D.Disk.reads_an_image c.args.self.now c.ready.new.self _ _ _ _ c.in_ok-ready.ensures.loads c.in_ok-ready.ensures.ready (λ f. absurd (cc f)) (λ p f. absurd (cc f))
-    (λ h m. (subst (λ r. ok_view (record { epoch = c.epoch.result; lce = c.lce.result; summary = c.summary.result }) ≡ ok_view (looked r c.args.log c.args.e)) m.kept
-    (ap (λ v. ok_view (record { epoch = v; lce = c.lce.result; summary = c.summary.result })) (c.epoch.ensures.value h.length) ∙ (ap (λ v. ok_view (record { epoch = (epochs_of (register_of c.ready.new.self.contents h.length) c.args.log).epoch; lce = v; summary = c.summary.result })) (c.lce.ensures.value h.length)
-    ∙ ap (λ v. ok_view (record { epoch = (epochs_of (register_of c.ready.new.self.contents h.length) c.args.log).epoch; lce = lce_of (register_of c.ready.new.self.contents h.length) c.args.log; summary = v })) (c.summary.ensures.value h.length))), refl))
+    (λ h m. (
+      subst (λ r. ok_view (record { epoch = c.epoch.result; lce = c.lce.result; summary = c.summary.result }) ≡ ok_view (looked r c.args.log c.args.e)) m.kept
+          (ap (λ v. ok_view (record { epoch = v; lce = c.lce.result; summary = c.summary.result })) (c.epoch.ensures.value h.length) ∙ (ap (λ v. ok_view (record { epoch = (epochs_of (register_of c.ready.new.self.contents h.length) c.args.log).epoch; lce = v; summary = c.summary.result })) (c.lce.ensures.value h.length)
+          ∙ ap (λ v. ok_view (record { epoch = (epochs_of (register_of c.ready.new.self.contents h.length) c.args.log).epoch; lce = lce_of (register_of c.ready.new.self.contents h.length) c.args.log; summary = v })) (c.summary.ensures.value h.length))),
+      refl,
+    ))
 
 pub returns-clause-keeps : goal.returns-clause-keeps
 returns-clause-keeps g c = inr (record { held = λ h k. hold_on c.args.self.now c.ready.new.self h c.in_ok-ready.ensures.ready k; may = λ h m. (m.0, c.in_ok-ready.ensures.loads.moments.each m.0 (g.met.D.Disk.counts_now _ _ m.0 c.in_ok-ready.ensures.loads.moments.later m.1), m.2) })
