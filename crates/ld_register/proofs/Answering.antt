@@ -1,19 +1,15 @@
 -- What each call answers by the contents.
-use Rattle.std.proofs.Common.{◌≡◌, ◌≢◌, ◌≤◌, ◌<◌, ◌+◌, ◌-◌, ◌^◌, ◌==◌, ◌⊎◌, inl, inr, ℕ, Bool, true, false, not, List, [], ◌∷◌, Option, Some, None, Result, Ok, Err, refl, ap, sym, ◌∙◌, subst, arith, nat_lt, nat_le, if◌then◌else◌}
+use Rattle.std.proofs.Common.{◌≡◌, ◌≤◌, ◌<◌, ◌+◌, ◌^◌, ℕ, Bool, true, false, List, None, Ok, Err, refl, ap, sym, ◌∙◌, arith, if◌then◌else◌}
 use Rattle.std.specs.Option.{unwrap_or}
 use Rattle.std.proofs.lemmas.Bool.{lt-ltb, le-ltb, lt-leb, le-leb, eq-eqb, ne_eqb}
-use Rattle.ld_table.specs.Table.{find, put}
+use Rattle.ld_table.specs.Table.{put}
 use Rattle.ld_table.proofs.Laws.{find-put_same}
 use Rattle.ld_msg.specs.declared.msg.Summary.{Summary}
-use Rattle.ld_msg.specs.Register.{Register, Epochs, Changed, Answer, Granted, AtLimit, Behind, Fails, no_epochs, epochs_of, generation_of, lce_of, epoch_limit, generation_limit, journal_limit, record_length, change, activate, close, draw, next_epoch, closed_epochs, with_epochs, is_crowded, epochs_in}
-use Rattle.ld_register.specs.declared.fault.RegisterFault.{RegisterFault}
+use Rattle.ld_msg.specs.Register.{Register, Changed, Answer, Granted, AtLimit, Behind, Fails, no_epochs, epochs_of, generation_of, lce_of, epoch_limit, generation_limit, journal_limit, record_length, change, activate, close, draw, next_epoch, closed_epochs, with_epochs, is_crowded, epochs_in}
 use Rattle.ld_register.specs.declared.fault.RegisterFault.TheVariants as faults
-use Rattle.ld_register.specs.declared.register.Grant.{Grant}
-use Rattle.ld_register.specs.declared.register.Drawn.{Drawn}
-use Rattle.ld_register.specs.declared.change.Change.{Change}
 use Rattle.ld_register.specs.declared.change.Change.TheVariants as changes
-use Rattle.ld_register.specs.Calls.{ended, is_full, activated, after_activate, granted, closed, after_close, drawn, after_draw, handed}
-use Rattle.ld_register.specs.Changes.{changed, longer}
+use Rattle.ld_register.specs.Calls.{ended, is_full, activated, after_activate, granted, closed, after_close, drawn, after_draw}
+use Rattle.ld_register.specs.Changes.{changed}
 use Rattle.ld_register.specs.Kept.{Kept, register_of}
 
 abbrev pub to : Register → Answer → Changed

@@ -1,5 +1,5 @@
 -- A change that is committed.
-use Rattle.std.proofs.Common.{◌≡◌, ◌≢◌, ◌≤◌, ◌<◌, ◌+◌, ◌-◌, ◌^◌, ◌==◌, ◌⊎◌, ◌↔◌, inl, inr, ℕ, Bool, true, false, not, List, [], ◌∷◌, ◌++◌, Option, Some, None, Result, Ok, Err, OnOk, OnErr, is_ok, length, refl, ap, sym, ◌∙◌, subst, arith, if◌then◌else◌}
+use Rattle.std.proofs.Common.{◌≡◌, ◌≢◌, ◌≤◌, ◌<◌, ◌+◌, ◌-◌, ◌^◌, ◌==◌, ◌⊎◌, ◌↔◌, inl, inr, ℕ, Bool, true, false, not, List, [], ◌∷◌, ◌++◌, Option, Some, None, Result, Ok, Err, OnErr, length, refl, ap, sym, ◌∙◌, subst, arith, if◌then◌else◌}
 use Rattle.std.specs.Result.{IsErrOf, IsErrAnd}
 use Rattle.ld_journal.specs.declared.journal.Journal.{Journal}
 use Rattle.std.proofs.lemmas.Bool.{cases_order}
@@ -12,22 +12,20 @@ use Rattle.ld_disk.specs.declared.disk.Disk.{Ghosts}
 use Rattle.ld_disk.specs.declared.disk.Fault.{Fault}
 use Rattle.ld_disk.specs.declared.disk.Fault.TheVariants as disk_faults
 use Rattle.ld_disk.specs.declared.fate.Fate.TheVariants as fates
-use Rattle.ld_journal.specs.Format.{IsJournal, IsWithOrWithout, append_calls}
-use Rattle.ld_journal.specs.Open.{IsSettled, HasGiven, disk_of, place_of, must_load}
+use Rattle.ld_journal.specs.Format.{IsWithOrWithout}
+use Rattle.ld_journal.specs.Open.{IsSettled, disk_of, place_of, must_load}
 use Rattle.ld_journal.specs.declared.fault.JournalFault.{JournalFault}
 use Rattle.ld_journal.specs.declared.fault.JournalFault.TheVariants as journals
 use Rattle.ld_msg.specs.Register.{Register, empty_register}
 use Rattle.ld_register.specs.declared.fault.RegisterFault.{RegisterFault}
 use Rattle.ld_register.specs.declared.fault.RegisterFault.TheVariants as faults
-use Rattle.ld_register.specs.declared.disk.DiskRegister.{DiskRegister}
 use Rattle.ld_register.specs.declared.change.Change.{Change}
 use Rattle.ld_register.specs.Faults.{passed_on, is_disk}
-use Rattle.ld_register.specs.Calls.{IsFree, Keeps}
-use Rattle.ld_register.specs.Changes.{changed, change_bytes, body_length, is_next, IsChange, IsNext, Leads}
+use Rattle.ld_register.specs.Changes.{changed, change_bytes, body_length, is_next, IsChange, IsNext}
 use Rattle.ld_register.specs.Kept.{Kept, register_of}
-use Rattle.ld_register.specs.Stands.{StandsFor, IsDamaged, IsReplayed}
-use Rattle.ld_register.specs.Held.{IsQuiet, never_falls, owned, is_loaded, Replays, ReadsAs, Holds, Tells, MayHold, IsBroken, Foretells, StaysQuiet, Commits, IsMade, IsRefused}
-use Rattle.ld_register.proofs.Leading.{leads_push, next_in, made_kept, length_is}
+use Rattle.ld_register.specs.Stands.{StandsFor, IsReplayed}
+use Rattle.ld_register.specs.Held.{IsQuiet, never_falls}
+use Rattle.ld_register.proofs.Leading.{leads_push, next_in, made_kept}
 
 -- ---- quiet disks ----
 

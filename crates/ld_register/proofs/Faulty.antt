@@ -1,9 +1,8 @@
 -- Which fault of a journal a register passed on.
-use Rattle.std.proofs.Common.{◌≡◌, ℕ, ap, refl, subst, sym, Result, Ok, Err}
+use Rattle.std.proofs.Common.{◌≡◌, ℕ, ap, subst, Result}
 use Rattle.std.specs.Result.{IsErrAnd, IsErrOf}
 use Rattle.ld_journal.specs.declared.fault.JournalFault.{JournalFault}
 use Rattle.ld_journal.specs.declared.fault.JournalFault.TheVariants as journals
-use Rattle.ld_register.specs.declared.fault.RegisterFault.{RegisterFault}
 use Rattle.ld_register.specs.declared.fault.RegisterFault.TheVariants as registers
 use Rattle.ld_register.specs.Faults.{passed_on}
 

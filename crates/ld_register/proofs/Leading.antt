@@ -1,19 +1,18 @@
 -- Rows of changes, and the contents that they lead to.
-use Rattle.std.proofs.Common.{◌≡◌, ◌≢◌, ◌≤◌, ◌<◌, ◌+◌, ◌-◌, ◌^◌, ◌&&◌, ◌==◌, ◌⊎◌, inl, inr, ℕ, zero, suc, Bool, true, false, not, List, [], ◌∷◌, ◌++◌, Option, Some, None, length, get_or, take, drop, refl, ap, sym, ◌∙◌, subst, arith, length-append}
-use Rattle.std.specs.Int.{w32, w64, to_be_bytes}
+use Rattle.std.proofs.Common.{◌≡◌, ◌<◌, ◌+◌, ◌^◌, inl, inr, ℕ, List, [], ◌∷◌, ◌++◌, Option, Some, length, get_or, take, drop, refl, ap, sym, ◌∙◌, subst, arith, length-append}
 use Rattle.std.proofs.lemmas.List.{drop_at}
 use Rattle.std.proofs.Math.Seq.{get_or-append_seam}
 use Rattle.ld_journal.proofs.Records.{records-push}
 use Rattle.ld_journal.specs.Open.{HasGiven, IsSettled}
 use Rattle.ld_journal.specs.declared.journal.Journal.{Journal}
-use Rattle.ld_journal.specs.Format.{framed, records, Fits, IsJournal, IsCutShort}
+use Rattle.ld_journal.specs.Format.{framed, records, Fits, IsCutShort}
 use Rattle.ld_msg.specs.declared.msg.Summary.{Summary}
-use Rattle.ld_msg.specs.Register.{Register, empty_register, record_length, epochs_of, generation_of}
+use Rattle.ld_msg.specs.Register.{Register, empty_register, record_length}
 use Rattle.ld_register.specs.declared.change.Change.{Change}
 use Rattle.ld_register.specs.declared.change.Change.TheVariants as changes
-use Rattle.ld_register.specs.Changes.{change_bytes, summary_bytes, IsChange, IsBody, IsNoBody, IsNext, Leads, is_next, changed, body_length}
+use Rattle.ld_register.specs.Changes.{change_bytes, IsChange, IsBody, IsNext, Leads, is_next, changed, body_length}
 use Rattle.ld_register.specs.Kept.{Kept, register_of}
-use Rattle.ld_register.specs.Stands.{StandsFor, IsForeign, IsDamaged, HasReplayed, IsReplayed}
+use Rattle.ld_register.specs.Stands.{IsDamaged, HasReplayed, IsReplayed}
 use Rattle.ld_register.proofs.Bytes.{same_word, same_long}
 
 -- ---- one change a body ----

@@ -1,15 +1,13 @@
 -- What a whole call makes of its parts: a load where it isn't loaded, and then an answer or a change.
-use Rattle.std.proofs.Common.{◌≡◌, ◌≢◌, ◌≤◌, ◌<◌, ◌+◌, ◌-◌, ◌^◌, ◌⊎◌, inl, inr, ℕ, Bool, true, false, List, [], ◌∷◌, ◌++◌, Option, Some, None, Result, Ok, Err, OnErr, length, append_assoc, refl, ap, sym, ◌∙◌, subst, arith, IsSome, IfSome}
-use Rattle.std.specs.Result.{IsErrOf, IsErrAnd, IsErr}
+use Rattle.std.proofs.Common.{◌≡◌, ◌≤◌, ◌<◌, ◌+◌, ◌^◌, ◌⊎◌, inl, inr, ℕ, Bool, true, false, List, [], ◌∷◌, ◌++◌, Option, Some, None, Result, Ok, Err, OnErr, length, append_assoc, refl, ap, sym, ◌∙◌, subst, arith, IsSome, IfSome}
+use Rattle.std.specs.Result.{IsErrOf}
 use Rattle.ld_io.specs.Causes.{Rose}
-use Rattle.ld_disk.specs.Images.{IsHonest}
 use Rattle.ld_disk.specs.Moments.{LeavesOnly}
 use Rattle.ld_disk.specs.Plain.{Plain}
 use Rattle.ld_disk.specs.declared.disk.Disk.{Ghosts}
 use Rattle.ld_journal.specs.Format.{framed, records, IsJournal}
-use Rattle.ld_journal.specs.Open.{IsSettled, disk_of, place_of}
+use Rattle.ld_journal.specs.Open.{place_of}
 use Rattle.ld_journal.proofs.Reading.{one_reading, behind_them, not_both, unframe}
-use Rattle.ld_journal.specs.Format as journals
 use Rattle.ld_msg.specs.Register.{Register, empty_register}
 use Rattle.ld_register.specs.declared.fault.RegisterFault.{RegisterFault}
 use Rattle.ld_register.specs.declared.fault.RegisterFault.TheVariants as faults
@@ -18,10 +16,9 @@ use Rattle.ld_register.specs.declared.change.Change.{Change}
 use Rattle.ld_register.specs.declared.register.View.{View}
 use Rattle.ld_register.specs.Calls.{IsFree, Keeps, ChangedOrNot}
 use Rattle.ld_register.specs.Changes.{changed, body_length, Leads, IsNext}
-use Rattle.ld_register.specs.Kept.{register_of}
-use Rattle.ld_register.specs.Stands.{StandsFor, IsDamaged, IsForeign, IsReplayed}
-use Rattle.ld_register.specs.Held.{IsQuiet, owned, is_loaded, Replays, ReadsAs, Holds, Tells, MayHold, IsBroken, Foretells, StaysQuiet, Loads, IsReady, IsNotReady, Commits, IsMade, IsRefused, LeftBy, Meets}
-use Rattle.ld_register.proofs.Leading.{leads_one, leads_length, leads_armed, one_body}
+use Rattle.ld_register.specs.Stands.{StandsFor, IsDamaged, IsForeign}
+use Rattle.ld_register.specs.Held.{IsQuiet, owned, is_loaded, Replays, ReadsAs, Holds, Tells, MayHold, Foretells, Loads, IsReady, IsNotReady, Commits, IsMade, IsRefused, LeftBy, Meets}
+use Rattle.ld_register.proofs.Leading.{leads_one, leads_length, leads_armed}
 use Rattle.ld_register.proofs.Committing.{leaves_map, on_err}
 
 -- ---- bytes stand for one thing ----

@@ -1,8 +1,8 @@
 -- What is shown of the tables that are kept.
-use Rattle.std.proofs.Common.{Result, Ok, Err, OnOk, OnErr, ◌≡◌, ◌≢◌, ◌≤◌, ◌<◌, ◌+◌, ◌-◌, ◌^◌, ◌&&◌, ◌||◌, ◌==◌, ◌⊎◌, inl, inr, ℕ, zero, suc, Bool, true, false, not, cond, List, [], ◌∷◌, ◌++◌, Option, Some, None, is_some, IsSome, option_map, Less, refl, ap, sym, ◌∙◌, subst, arith, eqb, nat_cmp, nat_lt, nat_le, filter, length, length-append, if◌then◌else◌}
+use Rattle.std.proofs.Common.{◌≡◌, ◌≤◌, ◌<◌, ◌+◌, ◌-◌, ◌^◌, ◌&&◌, ◌==◌, inl, inr, ℕ, zero, suc, Bool, true, false, not, cond, List, [], ◌∷◌, ◌++◌, Option, Some, None, is_some, IsSome, option_map, Less, refl, ap, sym, ◌∙◌, subst, arith, eqb, nat_cmp, nat_lt, nat_le, filter, length, length-append, if◌then◌else◌}
 use Rattle.std.specs.Option.{unwrap_or}
 use Rattle.std.specs.Map as map
-use Rattle.std.specs.BTreeMap.{is_at, insert_entry}
+use Rattle.std.specs.BTreeMap.{is_at}
 use Rattle.std.specs.Cmp.{nat_cmp_total, eq_by_cmp_equiv}
 use Rattle.std.specs.Ordering.{eq_by_cmp, is_eq}
 use Rattle.std.specs.List.{AllByRecursion}
@@ -10,17 +10,16 @@ use Rattle.std.specs.List.Sorted.{IsStrictlySortedBy}
 use Rattle.std.proofs.lemmas.Map.{lookup-set_value, keys-set_value}
 use Rattle.ld_ids.specs.Id.{IsLog}
 use Rattle.ld_op.specs.Bounds.{AreEpochs}
-use Rattle.std.proofs.lemmas.Bool.{cases_eq, cases_Bool}
+use Rattle.std.proofs.lemmas.Bool.{cases_eq}
 use Rattle.std.proofs.lemmas.Bool.Decides.{nat_tests}
-use Rattle.ld_table.specs.Table.{find, put, keep, keep_keys, map_values, Ordered}
+use Rattle.ld_table.specs.Table.{find, put, keep_keys, map_values, Ordered}
 use Rattle.ld_table.specs.Words.{how_many}
-use Rattle.ld_table.proofs.Laws.{same_key, tied, find-keep_keys, find-put, find-put_same, find-put_other, find-keep, kept, find-map_values, map_values-put, put_cases, find-empty, table_rules}
+use Rattle.ld_table.proofs.Laws.{same_key, tied, find-keep_keys, find-put, find-put_same, find-put_other, find-keep, kept, find-map_values, map_values-put, put_cases, find-empty}
 use Rattle.ld_table.proofs.Order.{Ordered-put, Ordered-keep, keep_is, same_table, found}
 use Rattle.ld_op.proofs.There.{Ordered-map_values}
 use Rattle.ld_msg.specs.declared.msg.Summary.{Summary}
-use Rattle.ld_msg.specs.Bounds.{IsSummary}
-use Rattle.ld_msg.specs.Register.{Register, Epochs, no_epochs, epochs_of, generation_of, summary_shown, epochs_in, next_epoch, closed_epochs}
-use Rattle.ld_register.specs.Kept.{is_closed, shown_log, IsLogSound, Kept, is_held, shown_logs, shown_generations, register_of, log_at, AreLogs}
+use Rattle.ld_msg.specs.Register.{Epochs, no_epochs, epochs_of, generation_of, summary_shown, epochs_in}
+use Rattle.ld_register.specs.Kept.{is_closed, shown_log, Kept, is_held, shown_logs, shown_generations, register_of, log_at, AreLogs}
 
 module _ {X : Type 0} (p : X → Bool) where
   -- the entries that pass, as a table

@@ -5,7 +5,7 @@ use Rattle.std.specs.declared.result.Result.{Result}
 use Rattle.ld_io.specs.Causes.{Rose}
 use Rattle.ld_disk.specs.Images.{IsHonest}
 use Rattle.ld_disk.specs.Moments.{LeavesOnly}
-use Rattle.ld_disk.specs.Plain.{Plain, succeeds, after_call}
+use Rattle.ld_disk.specs.Plain.{Plain}
 use Rattle.ld_disk.specs.declared.disk.Disk.{Ghosts}
 use Rattle.ld_disk.specs.declared.disk.Fault.{Fault}
 use Rattle.ld_disk.specs.declared.disk.Fault.TheVariants as disk_faults

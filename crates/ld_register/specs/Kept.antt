@@ -1,5 +1,5 @@
 -- What is kept in memory of a register's contents: its tables, with room made beforehand.
-use Rattle.std.specs.Prelude.{◌≡◌, ◌≤◌, ◌<◌, ◌-◌, ◌^◌, ℕ, Bool, true, false, ◌&&◌, ◌||◌, nat_lt, nat_le, List, filter, Option, Some, None, is_some, IsSome}
+use Rattle.std.specs.Prelude.{◌≡◌, ◌≤◌, ◌-◌, ◌^◌, ℕ, Bool, ◌&&◌, ◌||◌, nat_lt, nat_le, List, filter, Some, None, is_some, IsSome}
 use Rattle.std.specs.Option.{unwrap_or}
 use Rattle.ld_table.specs.Table.{find, keep_keys, map_values}
 use Rattle.ld_ids.specs.Id.{IsLog}

@@ -1,5 +1,5 @@
 -- What the bytes of a register's disk stand for.
-use Rattle.std.specs.Prelude.{◌≡◌, ◌⊎◌, ◌<◌, ◌^◌, ℕ, List, [], ◌∷◌, ◌++◌, length, Option}
+use Rattle.std.specs.Prelude.{◌≡◌, ◌⊎◌, ◌<◌, ◌^◌, ℕ, List, [], ◌++◌, length, Option}
 use Rattle.ld_msg.specs.Register.{Register, empty_register}
 use Rattle.ld_journal.specs.Format.{framed, records, Fits, IsJournal, IsCutShort}
 use Rattle.ld_journal.specs.Open.{HasGiven, IsSettled}

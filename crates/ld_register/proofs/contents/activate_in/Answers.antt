@@ -1,8 +1,8 @@
-use Rattle.std.proofs.Common.{◌≡◌, ◌≢◌, ◌<◌, ◌-◌, ◌^◌, ◌∙◌, ap, sym, subst, arith, is_some, true, rules, Some, None}
+use Rattle.std.proofs.Common.{◌≡◌, ◌<◌, ◌-◌, ◌^◌, ◌∙◌, ap, sym, subst, arith, true, rules, Some, None}
 use Rattle.std.proofs.lemmas.Bool.Decides.{nat_tests}
 use Rattle.ld_table.specs.Table.{find, put}
 use Rattle.ld_msg.specs.Register.{next_epoch}
-use Rattle.ld_register.specs.Kept.{shown_log, shown_logs, is_held, log_at}
+use Rattle.ld_register.specs.Kept.{shown_log, shown_logs, is_held}
 use Rattle.ld_register.proofs.Tables.{written, Written, written_shown, shown_there, at_shown, never_there}
 use Rattle.ld_register.proofs.contents.activate_in.Goals as goal
 

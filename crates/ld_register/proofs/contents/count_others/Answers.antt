@@ -1,4 +1,4 @@
-use Rattle.std.proofs.Common.{◌≡◌, ◌∙◌, ◌+◌, ◌<◌, ◌^◌, ◌∷◌, ◌++◌, [], map, length, ap, sym, refl, arith, if◌then◌else◌, suc, true, false}
+use Rattle.std.proofs.Common.{◌≡◌, ◌∙◌, ◌+◌, ◌∷◌, ◌++◌, [], map, length, ap, sym, refl, arith, suc, true, false}
 use Rattle.std.specs.Map.Iter.{deref_pair}
 use Rattle.ld_op.proofs.Pages.{walk_on, walk_end, map_on}
 use Rattle.ld_register.proofs.Tables.{others, others-push, others_are, room_to_count}

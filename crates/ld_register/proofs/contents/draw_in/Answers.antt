@@ -1,4 +1,4 @@
-use Rattle.std.proofs.Common.{◌≡◌, ◌∙◌, ap, is_some, true}
+use Rattle.std.proofs.Common.{◌∙◌, ap, is_some}
 use Rattle.ld_table.specs.Table.{find}
 use Rattle.ld_register.proofs.Logs.{put_there}
 use Rattle.ld_register.proofs.Tables.{drawn_generation}

@@ -1,6 +1,5 @@
-use Rattle.std.proofs.Common.{◌≡◌, ◌∙◌, ap, sym, is_some, true, refl}
+use Rattle.std.proofs.Common.{◌≡◌, ◌∙◌, ap, sym, is_some, true}
 use Rattle.ld_table.specs.Table.{find, put}
-use Rattle.ld_msg.specs.Register.{no_epochs}
 use Rattle.ld_register.specs.Kept.{shown_logs, log_at, AreLogs}
 use Rattle.ld_register.proofs.Tables.{room_logs}
 use Rattle.ld_register.proofs.contents.room_for_log.Goals as goal

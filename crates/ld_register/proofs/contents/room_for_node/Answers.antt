@@ -1,6 +1,5 @@
-use Rattle.std.proofs.Common.{◌≡◌, ◌∙◌, ap, sym, is_some, true}
+use Rattle.std.proofs.Common.{◌∙◌, ap, sym, is_some}
 use Rattle.ld_table.specs.Table.{find, put}
-use Rattle.ld_register.specs.Kept.{shown_generations}
 use Rattle.ld_register.proofs.Tables.{room_generation}
 use Rattle.ld_register.proofs.contents.room_for_node.Goals as goal
 

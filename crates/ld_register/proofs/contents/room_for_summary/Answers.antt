@@ -1,4 +1,4 @@
-use Rattle.std.proofs.Common.{◌≡◌, ◌<◌, ◌∙◌, ap, sym, subst, arith, is_some, true, rules, Some, None}
+use Rattle.std.proofs.Common.{◌≡◌, ◌<◌, ◌∙◌, ap, subst, arith, is_some, rules, Some}
 use Rattle.ld_table.specs.Table.{find}
 use Rattle.ld_op.proofs.There.{on_ok_with}
 use Rattle.ld_register.proofs.Tables.{written, Written, written_same, shown_there}

@@ -1,4 +1,4 @@
-use Rattle.std.proofs.Common.{◌≡◌, ◌∙◌, ◌+◌, ap, sym, inr, refl, true, false}
+use Rattle.std.proofs.Common.{◌∙◌, ap, sym, inr, refl}
 use Rattle.ld_register.specs.Changes.{is_next, changed}
 use Rattle.ld_register.proofs.Leading.{one_body, next_in, made_kept}
 use Rattle.ld_register.proofs.replay.replay_body.Goals as goal

@@ -1,4 +1,4 @@
-use Rattle.std.proofs.Common.{◌≡◌, Ok, Err, subst, ap, sym, ◌∙◌, inl, ⊎_elim}
+use Rattle.std.proofs.Common.{◌≡◌, Ok, Err, subst, ap, sym, ◌∙◌, ⊎_elim}
 use Rattle.ld_register.specs.Stands.{IsDamaged}
 use Rattle.ld_register.specs.Faults.{passed_on}
 use Rattle.ld_register.specs.declared.fault.RegisterFault.TheVariants as registers

@@ -1,4 +1,4 @@
-use Rattle.std.proofs.Common.{◌≡◌, ◌∙◌, ◌+◌, ◌&&◌, ◌==◌, ap, sym, not}
+use Rattle.std.proofs.Common.{◌∙◌, ◌+◌, ◌&&◌, ◌==◌, ap, sym, not}
 use Rattle.ld_msg.specs.Register.{is_crowded}
 use Rattle.ld_register.specs.Changes.{is_next}
 use Rattle.ld_register.specs.Kept.{register_of}

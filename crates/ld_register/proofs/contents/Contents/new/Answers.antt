@@ -1,4 +1,4 @@
-use Rattle.std.proofs.Common.{subst, sym, [], List, ℕ}
+use Rattle.std.proofs.Common.{subst, sym, List, ℕ}
 use Rattle.ld_msg.specs.Register.{Epochs}
 use Rattle.ld_register.specs.Kept.{AreLogs}
 use Rattle.ld_register.proofs.Tables.{no_logs}

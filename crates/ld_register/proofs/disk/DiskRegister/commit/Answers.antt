@@ -1,11 +1,9 @@
-use Rattle.std.proofs.Common.{◌≡◌, ◌≤◌, ◌+◌, ◌^◌, ◌∙◌, ap, sym, refl, subst, inl, inr, arith, Ok, Err, length, true, false, not}
-use Rattle.ld_disk.specs.Plain.{Plain}
+use Rattle.std.proofs.Common.{◌+◌, ◌^◌, ◌∙◌, ap, sym, refl, inl, inr, arith, Err, length, not}
 use Rattle.ld_journal.specs.Format.{append_calls}
 use Rattle.ld_journal.specs.Open.{place_of, must_load}
-use Rattle.ld_register.specs.Changes.{is_next, change_bytes, body_length, changed}
-use Rattle.ld_register.specs.Kept.{register_of}
+use Rattle.ld_register.specs.Changes.{is_next, body_length}
 use Rattle.ld_register.proofs.Leading.{length_is, short}
-use Rattle.ld_register.proofs.Committing.{on_err, leaves_none, err_in, moments_by, made_by, kept_by, refused_by, quiet_calls, quiet_refused, steady_append, refusal, is_not_ok, err_of, same_refusal, fits_by, not_both}
+use Rattle.ld_register.proofs.Committing.{on_err, leaves_none, moments_by, made_by, kept_by, refused_by, quiet_calls, quiet_refused, steady_append, is_not_ok, err_of, same_refusal, fits_by, not_both}
 use Rattle.ld_journal.specs.declared.fault.JournalFault.TheVariants as journals
 use Rattle.ld_register.specs.declared.fault.RegisterFault.TheVariants as faults
 use Rattle.ld_register.proofs.disk.DiskRegister.commit.Goals as goal

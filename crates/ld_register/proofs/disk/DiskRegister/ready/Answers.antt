@@ -1,4 +1,4 @@
-use Rattle.std.proofs.Common.{◌≡◌, ◌≤◌, ◌∙◌, refl, ap, sym, subst, arith, Ok, Err, Some, None}
+use Rattle.std.proofs.Common.{◌∙◌, refl, ap, sym, subst, arith, Err, None}
 use Rattle.ld_disk.specs.Plain.{after_call}
 use Rattle.ld_disk.specs.Images.{IsHonest}
 use Rattle.ld_register.specs.declared.fault.RegisterFault.TheVariants as faults

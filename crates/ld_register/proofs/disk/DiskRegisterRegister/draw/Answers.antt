@@ -1,17 +1,15 @@
-use Rattle.std.proofs.Common.{◌≡◌, ◌≢◌, ◌≤◌, ◌<◌, ◌+◌, ◌-◌, ◌^◌, ◌==◌, ◌∙◌, ◌&&◌, ◌⊎◌, ap, sym, refl, subst, inl, inr, arith, ℕ, Ok, Err, true, false, not, Result}
+use Rattle.std.proofs.Common.{◌≡◌, ◌≤◌, ◌<◌, ◌+◌, ◌-◌, ◌^◌, ◌∙◌, ap, sym, refl, subst, arith, ℕ, Ok}
 use Rattle.std.proofs.lemmas.Bool.{eq-eqb}
-use Rattle.std.specs.Result.{IsErrOf}
 use Rattle.ld_journal.specs.Open.{place_of}
-use Rattle.ld_msg.specs.Register.{Register, epochs_of, lce_of, generation_of, is_crowded, epochs_in}
+use Rattle.ld_msg.specs.Register.{Register, generation_of}
 use Rattle.ld_register.specs.declared.fault.RegisterFault.TheVariants as faults
 use Rattle.ld_register.specs.declared.change.Change.TheVariants as changes
-use Rattle.ld_register.specs.Changes.{changed, is_next}
-use Rattle.ld_register.specs.Kept.{register_of}
-use Rattle.ld_register.specs.Calls.{activated, after_activate, closed, after_close, drawn, after_draw, looked, Keeps}
-use Rattle.ld_register.specs.Held.{Replays, Meets, Holds, MayHold, Foretells}
+use Rattle.ld_register.specs.Changes.{changed}
+use Rattle.ld_register.specs.Calls.{drawn, after_draw}
+use Rattle.ld_register.specs.Held.{Replays}
 use Rattle.ld_register.proofs.Committing.{err_of}
 use Rattle.ld_register.proofs.Meeting.{meets_unready, meets_answered, meets_made, meets_refused, replays_length, failure, meets_no_memory}
-use Rattle.ld_register.proofs.Answering.{crowded_activate, limit_activate, full_activate, made_activate, crowded_close, behind_close, full_close, made_close, limit_draw, full_draw, made_draw}
+use Rattle.ld_register.proofs.Answering.{limit_draw, full_draw, made_draw}
 use Rattle.ld_register.proofs.disk.DiskRegisterRegister.draw.Goals as goal
 
 pub returns-in_err-ready-clause-meets : goal.returns-in_err-ready-clause-meets
