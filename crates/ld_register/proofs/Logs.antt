@@ -1,15 +1,14 @@
 -- One log: what is shown of it where room is made, and after a close.
-use Rattle.std.proofs.Common.{Result, Ok, Err, OnOk, OnErr, ◌≡◌, ◌≢◌, ◌≤◌, ◌<◌, ◌+◌, ◌-◌, ◌^◌, ◌&&◌, ◌||◌, ◌⊎◌, inl, inr, ℕ, zero, suc, Bool, true, false, not, cond, List, [], ◌∷◌, Option, Some, None, is_some, IsSome, refl, ap, sym, ◌∙◌, subst, arith, eqb, nat_cmp, nat_lt, nat_le, filter, if◌then◌else◌}
-use Rattle.std.specs.Map as map
-use Rattle.std.specs.BTreeMap.{is_at, insert_entry}
-use Rattle.std.proofs.lemmas.Bool.{cases_eq, cases_Bool}
+use Rattle.std.proofs.Common.{Result, Ok, Err, OnOk, OnErr, ◌≡◌, ◌≤◌, ◌<◌, ◌+◌, ◌⊎◌, inl, inr, ℕ, Bool, true, false, cond, List, [], Option, Some, None, is_some, IsSome, refl, ap, sym, ◌∙◌, subst, arith, nat_cmp}
+use Rattle.std.specs.BTreeMap.{insert_entry}
+use Rattle.std.proofs.lemmas.Bool.{cases_eq}
 use Rattle.std.proofs.lemmas.Bool.Decides.{nat_tests}
-use Rattle.ld_table.specs.Table.{find, put, keep, keep_keys, map_values, Ordered}
-use Rattle.ld_table.proofs.Laws.{find-put, find-put_same, find-put_other, find-keep_keys, put_cases, find-empty, table_rules}
+use Rattle.ld_table.specs.Table.{find, put, keep_keys, Ordered}
+use Rattle.ld_table.proofs.Laws.{find-put_same, find-put_other, find-keep_keys, put_cases, find-empty, table_rules}
 use Rattle.ld_table.proofs.Order.{Ordered-put, Ordered-keep, keep_is, same_table}
 use Rattle.ld_msg.specs.declared.msg.Summary.{Summary}
 use Rattle.ld_msg.specs.Bounds.{IsSummary}
-use Rattle.ld_msg.specs.Register.{Epochs, no_epochs, next_epoch, closed_epochs}
+use Rattle.ld_msg.specs.Register.{Epochs, no_epochs, closed_epochs}
 use Rattle.ld_register.specs.Kept.{is_closed, shown_log, IsLogSound}
 
 module _ {X : Type 0} where

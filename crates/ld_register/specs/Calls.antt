@@ -1,5 +1,5 @@
 -- What a register answers by its contents, and what a call makes of them.
-use Rattle.std.specs.Prelude.{◌≡◌, ◌≤◌, ◌⊎◌, ◌↔◌, ◌+◌, ◌-◌, ◌^◌, ℕ, Bool, true, false, Option, None, nat_lt, if◌then◌else◌, Ok, Err, IfSome, IsSome, IsErrOf}
+use Rattle.std.specs.Prelude.{◌≡◌, ◌≤◌, ◌⊎◌, ◌↔◌, ◌+◌, ◌-◌, ◌^◌, ℕ, Bool, true, false, None, nat_lt, if◌then◌else◌, Ok, Err, IfSome, IsSome}
 use Rattle.std.specs.declared.result.Result.{Result}
 use Rattle.ld_msg.specs.declared.msg.Summary.{Summary}
 use Rattle.ld_msg.specs.Bounds.{IsSummary}

@@ -1,5 +1,5 @@
 -- The changes of a register: their bytes, which one may come next, and what each makes of the contents.
-use Rattle.std.specs.Prelude.{◌≡◌, ◌≢◌, ◌≤◌, ◌<◌, ◌+◌, ◌^◌, ℕ, Bool, true, not, ◌&&◌, ◌==◌, List, [], ◌∷◌, ◌++◌, length}
+use Rattle.std.specs.Prelude.{◌≡◌, ◌≢◌, ◌+◌, ℕ, Bool, true, not, ◌&&◌, ◌==◌, List, [], ◌∷◌, ◌++◌}
 use Rattle.std.specs.Int.{w32, w64, to_be_bytes}
 use Rattle.ld_table.specs.Table.{put}
 use Rattle.ld_ids.specs.Id.{IsLog, IsNode}
@@ -43,6 +43,11 @@ abbrev pub is_next : Register → Change → Bool
 is_next r (changes.Activate l e) = not (is_crowded r l) && ((epochs_of r l).epoch + 1 == e)
 is_next r (changes.Close l e y) = not (is_crowded r l) && (lce_of r l + 1 == e)
 is_next r (changes.Draw n g) = generation_of r n + 1 == g
+
+abbrev pub body_length : Change → ℕ
+body_length (changes.Activate l e) = activation_length
+body_length (changes.Close l e y) = close_length
+body_length (changes.Draw n g) = draw_length
 
 abbrev pub longer : Register → ℕ → Register
 longer r body = record r { length = r.length + record_length body }

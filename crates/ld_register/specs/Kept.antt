@@ -1,8 +1,8 @@
 -- What is kept in memory of a register's contents: its tables, with room made beforehand.
-use Rattle.std.specs.Prelude.{◌≡◌, ◌≤◌, ◌<◌, ◌-◌, ◌^◌, ℕ, Bool, true, false, ◌&&◌, ◌||◌, nat_lt, nat_le, List, filter, Option, Some, None, is_some, IsSome}
+use Rattle.std.specs.Prelude.{◌≡◌, ◌≤◌, ◌-◌, ◌^◌, ℕ, Bool, ◌&&◌, ◌||◌, nat_lt, nat_le, List, filter, Some, None, is_some, IsSome}
 use Rattle.std.specs.Option.{unwrap_or}
 use Rattle.ld_table.specs.Table.{find, keep_keys, map_values}
-use Rattle.ld_ids.specs.Id.{IsLog, IsNode}
+use Rattle.ld_ids.specs.Id.{IsLog}
 use Rattle.ld_msg.specs.declared.msg.Summary.{Summary}
 use Rattle.ld_msg.specs.Bounds.{IsSummary}
 use Rattle.ld_msg.specs.Register.{Register, Epochs, no_epochs}
@@ -43,14 +43,14 @@ shown_generations m = filter (λ e. nat_lt 0 e.1) m
 abbrev pub register_of : Kept → ℕ → Register
 register_of k n = record { logs = shown_logs k.logs; generations = shown_generations k.generations; length = n; armed = None }
 
-pub record IsSound (k : Kept) : Type 0 where
-  pub logs : (l : ℕ) (v : Epochs) → find l k.logs ≡ Some v → IsLog l × IsLogSound v
-  pub generations : (n g : ℕ) → find n k.generations ≡ Some g → IsNode n
-
--- ---- room ----
+-- each stands under a log's number, and its epoch is one that may be handed out
+abbrev pub AreLogs : List (ℕ × Epochs) → Type 0
+AreLogs m = (l : ℕ) (v : Epochs) → find l m ≡ Some v → IsLog l × (v.epoch ≤ 2 ^ 32 - 2)
 
 abbrev pub log_at : List (ℕ × Epochs) → ℕ → Epochs
 log_at m l = unwrap_or (find l m) no_epochs
+
+-- ---- room ----
 
 abbrev pub has_room : Kept → Change → Bool
 has_room k (changes.Activate l e) = is_some (find l k.logs)

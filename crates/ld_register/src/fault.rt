@@ -3,6 +3,7 @@ ghost use Rattle.std.specs.Prelude.{◌≡◌};
 ghost use Rattle.ld_register.specs.declared.fault.RegisterFault.TheVariants.{NoMemory as Memory};
 
 use ld_ids::NoMemory;
+use ld_journal::JournalFault;
 use std::alloc::AllocError;
 use thiserror::Error;
 
@@ -48,5 +49,21 @@ impl From<AllocError> for RegisterFault {
 
     fn from(_: AllocError) -> RegisterFault {
         RegisterFault::NoMemory
+    }
+}
+
+impl From<JournalFault> for RegisterFault {
+    ghost use Rattle.ld_register.specs.Faults.{passed_on};
+
+    ghost from_gives = { λ fault e. e ≡ passed_on fault };
+
+    fn from(fault: JournalFault) -> RegisterFault {
+        match fault {
+            JournalFault::Disk => RegisterFault::Failed,
+            JournalFault::Damaged(place) => RegisterFault::Damaged(place),
+            JournalFault::Full => RegisterFault::Full,
+            JournalFault::NeedsLoad => RegisterFault::Failed,
+            JournalFault::NoMemory => RegisterFault::NoMemory,
+        }
     }
 }

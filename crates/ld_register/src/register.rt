@@ -69,8 +69,8 @@ pub trait Register {
         ensures answers { (c : Contents) → holds self.old c → IsFree result ⊎ ((result ≡ activated c log) × holds self.new (after_activate c log)) }
         ensures told { told self.old → told self.new }
         ensures whole { told self.old → IsFree result ⊎ ((c : Contents) × holds self.old c) }
-        ensures settled { IsFree result ⊎ ((c : Contents) → may_hold self.new c → holds self.new c) }
-        ensures done_or_not { ChangedOrNot (may_hold self.old) (may_hold self.new) (λ c. after_activate c log) }
+        ensures settled { told self.old → IsFree result ⊎ ((c : Contents) → may_hold self.new c → holds self.new c) }
+        ensures done_or_not { told self.old → ChangedOrNot (may_hold self.old) (may_hold self.new) (λ c. after_activate c log) }
         ensures keeps { IsErrOf result RegisterFault.Failed ⊎ OnErr result (Keeps (holds self.old) (holds self.new) (may_hold self.old) (may_hold self.new)) }
         ensures exact { (c : Contents) → tells self.old c
             → (IsErrOf result RegisterFault.NoMemory × tells self.new c) ⊎ ((result ≡ activated c log) × tells self.new (after_activate c log)) }
@@ -98,8 +98,8 @@ pub trait Register {
         ensures answers { (c : Contents) → holds self.old c → IsFree result ⊎ ((result ≡ closed c log epoch summary.now) × holds self.new (after_close c log epoch summary.now)) }
         ensures told { told self.old → told self.new }
         ensures whole { told self.old → IsFree result ⊎ ((c : Contents) × holds self.old c) }
-        ensures settled { IsFree result ⊎ ((c : Contents) → may_hold self.new c → holds self.new c) }
-        ensures done_or_not { ChangedOrNot (may_hold self.old) (may_hold self.new) (λ c. after_close c log epoch summary.now) }
+        ensures settled { told self.old → IsFree result ⊎ ((c : Contents) → may_hold self.new c → holds self.new c) }
+        ensures done_or_not { told self.old → ChangedOrNot (may_hold self.old) (may_hold self.new) (λ c. after_close c log epoch summary.now) }
         ensures keeps { IsErrOf result RegisterFault.Failed ⊎ OnErr result (Keeps (holds self.old) (holds self.new) (may_hold self.old) (may_hold self.new)) }
         ensures exact { (c : Contents) → tells self.old c
             → (IsErrOf result RegisterFault.NoMemory × tells self.new c) ⊎ ((result ≡ closed c log epoch summary.now) × tells self.new (after_close c log epoch summary.now)) }
@@ -120,8 +120,8 @@ pub trait Register {
         ensures answers { (c : Contents) → holds self.old c → IsFree result ⊎ ((result ≡ drawn c node) × holds self.new (after_draw c node)) }
         ensures told { told self.old → told self.new }
         ensures whole { told self.old → IsFree result ⊎ ((c : Contents) × holds self.old c) }
-        ensures settled { IsFree result ⊎ ((c : Contents) → may_hold self.new c → holds self.new c) }
-        ensures done_or_not { ChangedOrNot (may_hold self.old) (may_hold self.new) (λ c. after_draw c node) }
+        ensures settled { told self.old → IsFree result ⊎ ((c : Contents) → may_hold self.new c → holds self.new c) }
+        ensures done_or_not { told self.old → ChangedOrNot (may_hold self.old) (may_hold self.new) (λ c. after_draw c node) }
         ensures keeps { IsErrOf result RegisterFault.Failed ⊎ OnErr result (Keeps (holds self.old) (holds self.new) (may_hold self.old) (may_hold self.new)) }
         ensures exact { (c : Contents) → tells self.old c
             → (IsErrOf result RegisterFault.NoMemory × tells self.new c) ⊎ ((result ≡ drawn c node) × tells self.new (after_draw c node)) }
@@ -142,7 +142,7 @@ pub trait Register {
         ensures answers { (c : Contents) → holds self.old c → IsFree result ⊎ ((result ≡ Ok (looked c log e)) × holds self.new c) }
         ensures told { told self.old → told self.new }
         ensures whole { told self.old → IsFree result ⊎ ((c : Contents) × holds self.old c) }
-        ensures settled { IsFree result ⊎ ((c : Contents) → may_hold self.new c → holds self.new c) }
+        ensures settled { told self.old → IsFree result ⊎ ((c : Contents) → may_hold self.new c → holds self.new c) }
         ensures same { (c : Contents) → may_hold self.new c → may_hold self.old c }
         ensures keeps { IsErrOf result RegisterFault.Failed ⊎ Keeps (holds self.old) (holds self.new) (may_hold self.old) (may_hold self.new) }
         ensures exact { (c : Contents) → tells self.old c

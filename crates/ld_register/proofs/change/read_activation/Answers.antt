@@ -1,6 +1,5 @@
-use Rattle.std.proofs.Common.{◌≡◌, ◌≤◌, ◌-◌, ◌^◌, ◌∙◌, ap, sym, subst, arith}
+use Rattle.std.proofs.Common.{◌∙◌, ap, arith}
 use Rattle.std.specs.Int.{w32, to_be_bytes}
-use Rattle.ld_ids.specs.Id.{IsLog}
 use Rattle.ld_register.proofs.Bytes.{activation_is, no_activation}
 use Rattle.ld_register.proofs.change.read_activation.Goals as goal
 

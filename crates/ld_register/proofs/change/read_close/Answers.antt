@@ -1,7 +1,5 @@
-use Rattle.std.proofs.Common.{◌≡◌, ◌≤◌, ◌-◌, ◌^◌, ◌∙◌, ap, sym, subst, arith}
+use Rattle.std.proofs.Common.{◌∙◌, ap, arith}
 use Rattle.std.specs.Int.{w32, w64, to_be_bytes}
-use Rattle.ld_ids.specs.Id.{IsLog}
-use Rattle.ld_msg.specs.declared.msg.Summary.{Summary}
 use Rattle.ld_register.proofs.Bytes.{close_is, no_close}
 use Rattle.ld_register.proofs.change.read_close.Goals as goal
 

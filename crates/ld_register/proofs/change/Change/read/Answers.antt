@@ -1,4 +1,3 @@
-use Rattle.std.proofs.Common.{◌≡◌, arith}
 use Rattle.ld_register.proofs.Bytes.{no_change}
 use Rattle.ld_register.proofs.change.Change.read.Goals.{else-body-eq9-via-then-body-eq9+else-body-eq-ACTIVATE, else-body-eq9-via-else-body-eq9, else-body-eq29-via-then-body-eq29+else-body-eq-CLOSE, else-body-eq29-via-else-body-eq29, else-body-eq6-via-then-body-eq6+else-body-eq-DRAW, else-body-eq6-via-else-body-eq6}
 use Rattle.ld_register.proofs.change.Change.read.Goals as goal

@@ -1,4 +1,4 @@
-use Rattle.std.proofs.Common.{◌≡◌, ◌+◌, ◌∙◌, refl, ap, sym, inr, is_some, true}
+use Rattle.std.proofs.Common.{◌≡◌, ◌+◌, ◌∙◌, refl, ap, sym, inr, is_some}
 use Rattle.ld_table.specs.Table.{find, put}
 use Rattle.ld_register.proofs.Logs.{put_there, sound_put, close_shown}
 use Rattle.ld_register.proofs.log.LogState.close.Goals as goal

@@ -1,4 +1,4 @@
-use Rattle.std.proofs.Common.{◌≡◌, subst, sym, [], List, ℕ}
+use Rattle.std.proofs.Common.{subst, sym, List, ℕ}
 use Rattle.ld_msg.specs.declared.msg.Summary.{Summary}
 use Rattle.ld_register.specs.Kept.{IsLogSound}
 use Rattle.ld_register.proofs.Logs.{sound_new}

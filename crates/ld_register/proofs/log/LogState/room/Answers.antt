@@ -1,5 +1,5 @@
 use Rattle.std.proofs.Common.{◌≡◌, refl, inl}
-use Rattle.ld_table.specs.Table.{find, put}
+use Rattle.ld_table.specs.Table.{put}
 use Rattle.ld_register.proofs.Logs.{sound_put, room_shown, put_is_there}
 use Rattle.ld_register.proofs.log.LogState.room.Goals as goal
 

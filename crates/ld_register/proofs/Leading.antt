@@ -1,0 +1,164 @@
+-- Rows of changes, and the contents that they lead to.
+use Rattle.std.proofs.Common.{◌≡◌, ◌<◌, ◌+◌, ◌^◌, inl, inr, ℕ, List, [], ◌∷◌, ◌++◌, Option, Some, length, get_or, take, drop, refl, ap, sym, ◌∙◌, subst, arith, length-append}
+use Rattle.std.proofs.lemmas.List.{drop_at}
+use Rattle.std.proofs.Math.Seq.{get_or-append_seam}
+use Rattle.ld_journal.proofs.Records.{records-push}
+use Rattle.ld_journal.specs.Open.{HasGiven, IsSettled}
+use Rattle.ld_journal.specs.declared.journal.Journal.{Journal}
+use Rattle.ld_journal.specs.Format.{framed, records, Fits, IsCutShort}
+use Rattle.ld_msg.specs.declared.msg.Summary.{Summary}
+use Rattle.ld_msg.specs.Register.{Register, empty_register, record_length}
+use Rattle.ld_register.specs.declared.change.Change.{Change}
+use Rattle.ld_register.specs.declared.change.Change.TheVariants as changes
+use Rattle.ld_register.specs.Changes.{change_bytes, IsChange, IsBody, IsNext, Leads, is_next, changed, body_length}
+use Rattle.ld_register.specs.Kept.{Kept, register_of}
+use Rattle.ld_register.specs.Stands.{IsDamaged, HasReplayed, IsReplayed}
+use Rattle.ld_register.proofs.Bytes.{same_word, same_long}
+
+-- ---- one change a body ----
+
+first_same : (a b : ℕ) (xs ys : List ℕ) → a ∷ xs ≡ b ∷ ys → (a ≡ b) × (xs ≡ ys)
+first_same a b xs ys e = (ap (λ l. get_or l 0 0) e, ap (λ l. drop 1 l) e)
+
+same_summary : (y z : Summary) → y.ballot ≡ z.ballot → y.lng ≡ z.lng → y.trim ≡ z.trim → y.end ≡ z.end → y ≡ z
+same_summary y z a b c d = ap (λ n. record { ballot = n; lng = y.lng; trim = y.trim; end = y.end }) a ∙ (ap (λ n. record { ballot = z.ballot; lng = n; trim = y.trim; end = y.end }) b
+    ∙ (ap (λ n. record { ballot = z.ballot; lng = z.lng; trim = n; end = y.end }) c ∙ ap (λ n. record { ballot = z.ballot; lng = z.lng; trim = z.trim; end = n }) d))
+
+pub same_change : (x y : Change) → IsChange x → IsChange y → change_bytes x ≡ change_bytes y → x ≡ y
+unfolding change_bytes
+same_change (changes.Activate l e) (changes.Activate m f) i j h =
+    let a : l ≡ m = (let p = i.0.1 in let q = j.0.1 in same_word l m (omega arith) (omega arith) (ap (λ b. take 4 (drop 1 b)) h)) in
+    let b : e ≡ f = (let p = i.1.1 in let q = j.1.1 in same_word e f (omega arith) (omega arith) (ap (λ b. take 4 (drop 5 b)) h)) in
+    ap (λ n. changes.Activate n e) a ∙ ap (λ n. changes.Activate m n) b
+same_change (changes.Close l e y) (changes.Close m f z) i j h =
+    let a : l ≡ m = (let p = i.0.1 in let q = j.0.1 in same_word l m (omega arith) (omega arith) (ap (λ b. take 4 (drop 1 b)) h)) in
+    let b : e ≡ f = (let p = i.1.1 in let q = j.1.1 in same_word e f (omega arith) (omega arith) (ap (λ b. take 4 (drop 5 b)) h)) in
+    let s : y ≡ z = same_summary y z
+    (let p = i.2.ballot_most in let q = j.2.ballot_most in same_word y.ballot z.ballot (omega arith) (omega arith) (ap (λ b. take 4 (drop 9 b)) h))
+    (same_word y.lng z.lng i.2.lng j.2.lng (ap (λ b. take 4 (drop 13 b)) h))
+    (same_long y.trim z.trim i.2.trim j.2.trim (ap (λ b. take 8 (drop 17 b)) h))
+    (let p = i.2.end_most in let q = j.2.end_most in same_word y.end z.end (omega arith) (omega arith) (ap (λ b. take 4 (drop 25 b)) h)) in
+    ap (λ n. changes.Close n e y) a ∙ (ap (λ n. changes.Close m n y) b ∙ ap (λ n. changes.Close m f n) s)
+same_change (changes.Draw n g) (changes.Draw m k) i j h = ap (λ a. changes.Draw a g) (ap (λ b. get_or b 1 0) h) ∙ ap (λ a. changes.Draw m a) (same_word g k i.1 j.1 (ap (λ b. take 4 (drop 2 b)) h))
+same_change (changes.Activate l e) (changes.Close m f z) i j h = absurd (omega (arith, ap (λ b. get_or b 0 0) h))
+same_change (changes.Activate l e) (changes.Draw m k) i j h = absurd (omega (arith, ap (λ b. get_or b 0 0) h))
+same_change (changes.Close l e y) (changes.Activate m f) i j h = absurd (omega (arith, ap (λ b. get_or b 0 0) h))
+same_change (changes.Close l e y) (changes.Draw m k) i j h = absurd (omega (arith, ap (λ b. get_or b 0 0) h))
+same_change (changes.Draw n g) (changes.Activate m f) i j h = absurd (omega (arith, ap (λ b. get_or b 0 0) h))
+same_change (changes.Draw n g) (changes.Close m f z) i j h = absurd (omega (arith, ap (λ b. get_or b 0 0) h))
+
+pub one_body : (body : List ℕ) (x y : Change) → IsBody body x → IsBody body y → x ≡ y
+one_body body x y b d = same_change x y b.is d.is (sym b.bytes ∙ d.bytes)
+
+pub length_is : (x : Change) → length (change_bytes x) ≡ body_length x
+unfolding change_bytes
+length_is (changes.Activate l e) = refl
+length_is (changes.Close l e y) = refl
+length_is (changes.Draw n g) = refl
+
+pub longer_by : (r : Register) (x : Change) → (changed r x).length ≡ r.length + record_length (body_length x)
+longer_by r (changes.Activate l e) = refl
+longer_by r (changes.Close l e y) = refl
+longer_by r (changes.Draw n g) = refl
+
+pub as_armed : (r : Register) (x : Change) → (changed r x).armed ≡ r.armed
+as_armed r (changes.Activate l e) = refl
+as_armed r (changes.Close l e y) = refl
+as_armed r (changes.Draw n g) = refl
+
+pub short : (x : Change) → body_length x < 2 ^ 32
+short (changes.Activate l e) = omega arith
+short (changes.Close l e y) = omega arith
+short (changes.Draw n g) = omega arith
+
+pub next_any : (k : Kept) (n m : ℕ) (x : Change) → is_next (register_of k n) x ≡ is_next (register_of k m) x
+next_any k n m (changes.Activate l e) = refl
+next_any k n m (changes.Close l e y) = refl
+next_any k n m (changes.Draw a g) = refl
+
+-- ---- rows ----
+
+pub leads_push : (r : Register) (bodies : List (List ℕ)) (body : List ℕ) (c : Register) (x : Change) → Leads r bodies c → IsNext c body x → Leads r (bodies ++ body ∷ []) (changed c x)
+leads_push r [] body c x h n = (x, subst (λ s. IsNext s body x) (sym h) n, ap (λ s. changed s x) h)
+leads_push r (b ∷ bodies) body c x h n = (h.0, h.1, leads_push (changed r h.0) bodies body c x h.2 n)
+
+pub leads_one : (r : Register) (bodies : List (List ℕ)) (c d : Register) → Leads r bodies c → Leads r bodies d → c ≡ d
+leads_one r [] c d h k = sym h ∙ k
+leads_one r (b ∷ bodies) c d h k = leads_one (changed r h.0) bodies c d h.2 (subst (λ x. Leads (changed r x) bodies d) (one_body b k.0 h.0 k.1.body_is h.1.body_is) k.2)
+
+pub leads_armed : (r : Register) (bodies : List (List ℕ)) (c : Register) → Leads r bodies c → c.armed ≡ r.armed
+leads_armed r [] c h = ap (λ s. s.armed) (sym h)
+leads_armed r (b ∷ bodies) c h = leads_armed (changed r h.0) bodies c h.2 ∙ as_armed r h.0
+
+pub leads_length : (r : Register) (bodies : List (List ℕ)) (c : Register) → Leads r bodies c → c.length ≡ r.length + length (records bodies)
+leads_length r [] c h = ap (λ s. s.length) (sym h) ∙ omega arith
+leads_length r (b ∷ bodies) c h = let l = leads_length (changed r h.0) bodies c h.2 in let m = longer_by r h.0 in let n = ap length h.1.body_is.bytes ∙ length_is h.0 in omega (arith, l, m, n, length-append (framed b) (records bodies))
+
+-- ---- what is replayed ----
+
+pub is_length : (c : Register) (body : List ℕ) (x : Change) → IsNext c body x → (changed c x).length ≡ c.length + record_length (body_length x)
+is_length c body x n = longer_by c x
+
+pub next_in : (k : Kept) (c : Register) (n : ℕ) (x : Change) → register_of k c.length ≡ c → is_next c x ≡ is_next (register_of k n) x
+next_in k c n x h = ap (λ r. is_next r x) (sym h) ∙ next_any k c.length n x
+
+pub made_kept : (k j : Kept) (c : Register) (x : Change) → register_of k c.length ≡ c → ((n m : ℕ) → m ≡ n + record_length (body_length x) → register_of j m ≡ changed (register_of k n) x) → register_of j (changed c x).length ≡ changed c x
+made_kept k j c x h f = f c.length (changed c x).length (longer_by c x) ∙ ap (λ r. changed r x) h
+
+told_once : {bytes other : List ℕ} → Some bytes ≡ Some other → bytes ≡ other
+told_once is = cc
+
+same_rest : (x a b : List ℕ) → x ++ a ≡ x ++ b → a ≡ b
+same_rest x a b same = sym (drop_at x a (length x) refl) ∙ ap (λ l. drop (length x) l) same ∙ drop_at x b (length x) refl
+
+last_fits : (bodies : List (List ℕ)) (body : List ℕ) → Fits (bodies ++ body ∷ []) → length body < 2 ^ 32
+last_fits bodies body fits = subst (λ (b : List ℕ). length b < 2 ^ 32) (get_or-append_seam bodies body [] []) (fits (length bodies) [] (omega (arith, length-append bodies (body ∷ []))))
+
+module _ {D : Type 0} (seen : D → Option (List ℕ)) (may_leave : D → List ℕ → Type 0) where
+  -- a record whose change was made
+  pub one_more : (old new : Journal D) (bytes body : List ℕ) (k j : Kept) → (has : HasReplayed seen may_leave old bytes k)
+      → ((bodies : List (List ℕ)) (rest : List ℕ) → HasGiven seen may_leave old bodies rest → (after : List ℕ) × HasGiven seen may_leave new (bodies ++ body ∷ []) after)
+      → seen old.disk ≡ seen new.disk → (x : Change) → IsNext has.contents body x → register_of j (changed has.contents x).length ≡ changed has.contents x
+      → HasReplayed seen may_leave new bytes j
+  one_more old new bytes body k j has gives same x n kept =
+      let next = gives has.bodies has.rest has.given in record {
+        bodies = has.bodies ++ body ∷ [];
+        rest = next.0;
+        given = next.1;
+        bytes_are = has.bytes_are ∙ told_once (sym has.given.bytes ∙ same ∙ next.1.bytes);
+        contents = changed has.contents x;
+        leads = leads_push empty_register has.bodies body has.contents x has.leads n;
+        kept = kept;
+      }
+
+  -- a record whose body is no next change
+  pub foreign : (old new : Journal D) (bytes body : List ℕ) (k : Kept) → (has : HasReplayed seen may_leave old bytes k)
+      → ((bodies : List (List ℕ)) (rest : List ℕ) → HasGiven seen may_leave old bodies rest → (after : List ℕ) × HasGiven seen may_leave new (bodies ++ body ∷ []) after)
+      → seen old.disk ≡ seen new.disk → ((x : Change) → IsNext has.contents body x → ⊥) → IsDamaged old.at bytes
+  foreign old new bytes body k has gives same none =
+      let next = gives has.bodies has.rest has.given in record {
+        bodies = has.bodies;
+        rest = has.rest;
+        contents = has.contents;
+        leads = has.leads;
+        bytes_are = has.bytes_are;
+        place_is = has.given.place_is;
+        fits = has.given.fits;
+        wrong = inr (inl (record {
+          body = body;
+          after = next.0;
+          rest_is = same_rest (records has.bodies) has.rest (framed body ++ next.0) (told_once (sym has.given.bytes ∙ same ∙ next.1.bytes) ∙ records-push has.bodies body next.0);
+          some = next.1.some;
+          fits = last_fits has.bodies body next.1.fits;
+          none = none;
+        }));
+      }
+
+  pub cut_off : (old : Journal D) (bytes : List ℕ) (k : Kept) (place : ℕ) → (has : HasReplayed seen may_leave old bytes k) → (place ≡ old.at) × IsCutShort has.rest → IsDamaged place bytes
+  cut_off old bytes k place has cut = record { bodies = has.bodies; rest = has.rest; contents = has.contents; leads = has.leads; bytes_are = has.bytes_are; place_is = cut.0 ∙ has.given.place_is; fits = has.given.fits; wrong = inl cut.1 }
+
+  pub all_replayed : (old new : Journal D) (bytes : List ℕ) (k : Kept) → (has : HasReplayed seen may_leave old bytes k) → IsSettled seen may_leave new has.bodies → (c : Register) × IsReplayed seen may_leave new k c
+  all_replayed old new bytes k has settled = (has.contents, record { bodies = has.bodies; settled = settled; leads = has.leads; kept = has.kept })
+
+  pub none_replayed : (journal : Journal D) (bytes : List ℕ) (k : Kept) → register_of k 1 ≡ empty_register → HasGiven seen may_leave journal [] bytes → HasReplayed seen may_leave journal bytes k
+  none_replayed journal bytes k e given = record { bodies = []; rest = bytes; given = given; bytes_are = refl; contents = empty_register; leads = refl; kept = e }

@@ -1,0 +1,367 @@
+-- What a whole call makes of its parts: a load where it isn't loaded, and then an answer or a change.
+use Rattle.std.proofs.Common.{◌≡◌, ◌≤◌, ◌<◌, ◌+◌, ◌^◌, ◌⊎◌, inl, inr, ℕ, Bool, true, false, List, [], ◌∷◌, ◌++◌, Option, Some, None, Result, Ok, Err, OnErr, length, append_assoc, refl, ap, sym, ◌∙◌, subst, arith, IsSome, IfSome}
+use Rattle.std.specs.Result.{IsErrOf}
+use Rattle.ld_io.specs.Causes.{Rose}
+use Rattle.ld_disk.specs.Moments.{LeavesOnly}
+use Rattle.ld_disk.specs.Plain.{Plain}
+use Rattle.ld_disk.specs.declared.disk.Disk.{Ghosts}
+use Rattle.ld_journal.specs.Format.{framed, records, IsJournal}
+use Rattle.ld_journal.specs.Open.{place_of}
+use Rattle.ld_journal.proofs.Reading.{one_reading, behind_them, not_both, unframe}
+use Rattle.ld_msg.specs.Register.{Register, empty_register}
+use Rattle.ld_register.specs.declared.fault.RegisterFault.{RegisterFault}
+use Rattle.ld_register.specs.declared.fault.RegisterFault.TheVariants as faults
+use Rattle.ld_register.specs.declared.disk.DiskRegister.{DiskRegister}
+use Rattle.ld_register.specs.declared.change.Change.{Change}
+use Rattle.ld_register.specs.declared.register.View.{View}
+use Rattle.ld_register.specs.Calls.{IsFree, Keeps, ChangedOrNot}
+use Rattle.ld_register.specs.Changes.{changed, body_length, Leads, IsNext}
+use Rattle.ld_register.specs.Stands.{StandsFor, IsDamaged, IsForeign}
+use Rattle.ld_register.specs.Held.{IsQuiet, owned, is_loaded, Replays, ReadsAs, Holds, Tells, MayHold, Foretells, Loads, IsReady, IsNotReady, Commits, IsMade, IsRefused, LeftBy, Meets}
+use Rattle.ld_register.proofs.Leading.{leads_one, leads_length, leads_armed}
+use Rattle.ld_register.proofs.Committing.{leaves_map, on_err}
+
+-- ---- bytes stand for one thing ----
+
+pub stands_one : (bytes : List ℕ) (c d : Register) → StandsFor bytes c → StandsFor bytes d → c ≡ d
+stands_one bytes c d s t = leads_one empty_register s.bodies c d s.leads (subst (λ b. Leads empty_register b d) (one_reading bytes t.bodies s.bodies t.journal s.journal) t.leads)
+
+none_after : (bodies : List (List ℕ)) (bytes rest : List ℕ) → bytes ≡ records [] ++ rest → rest ≡ [] → IsJournal bodies bytes → ⊥
+none_after [] bytes rest e n j = let l = ap length (sym j.bytes_are ∙ (e ∙ n)) in absurd (omega arith)
+none_after (b ∷ bodies) bytes rest e n j = let l = ap length (sym j.bytes_are ∙ (e ∙ n)) in absurd (omega arith)
+
+pub some_bytes : (o : Option (List ℕ)) → IsSome o → (bytes : List ℕ) × (o ≡ Some bytes)
+some_bytes None h = absurd (cc h)
+some_bytes (Some b) h = (b, refl)
+
+pub given_of : (o : Option (List ℕ)) (bytes : List ℕ) (P : List ℕ → Type 0) → o ≡ Some bytes → IfSome o P → P bytes
+given_of o bytes P e h = subst (λ o. IfSome o P) e h
+
+some_is : (o : Option (List ℕ)) (bytes : List ℕ) → o ≡ Some bytes → IsSome o
+some_is None bytes e = absurd cc
+some_is (Some b) bytes e = refl
+
+module _ {D : Type 0} {g : Ghosts D} where
+  pub reads_one : (r : DiskRegister D g) (c d : Register) → ReadsAs r c → ReadsAs r d → c ≡ d
+  reads_one r c d h k = stands_one k.bytes c d (subst (λ b. StandsFor b c) (same_bytes (sym h.seen_is ∙ k.seen_is)) h.stands) k.stands
+    where
+      same_bytes : Some h.bytes ≡ Some k.bytes → h.bytes ≡ k.bytes
+      same_bytes is = cc
+
+  pub replays_reads : (r : DiskRegister D g) (c : Register) → Replays r c → ReadsAs r c
+  replays_reads r c h = let a = h.settled.rests in record {
+    bytes = records h.bodies ++ a.gate ∷ a.after;
+    seen_is = a.bytes;
+    stands = record { bodies = h.bodies; journal = record { gate = a.gate; after = a.after; bytes_are = refl; shut = a.shut; fits = a.fits }; leads = h.leads };
+  }
+
+  pub replays_tells : (r : DiskRegister D g) (c : Register) → Replays r c → Tells r
+  replays_tells r c h = record { honest = some_is (g.seen (owned r)) _ h.settled.rests.bytes; loaded = λ l. (c, h) }
+
+  pub holds_tells : (r : DiskRegister D g) (c : Register) → Holds r c → Tells r
+  holds_tells r c h = record { honest = some_is (g.seen (owned r)) h.reads.bytes h.reads.seen_is; loaded = λ l. (c, h.loaded l) }
+
+  -- what a crash leaves of a loaded register
+  pub image_stands : (r : DiskRegister D g) (c : Register) → Replays r c → (bytes : List ℕ) → g.may_leave (owned r) bytes → StandsFor bytes c
+  image_stands r c h bytes m = let a = h.settled.rests in record { bodies = h.bodies; journal = record { gate = a.gate; after = a.after; bytes_are = a.stable bytes m; shut = a.shut; fits = a.fits }; leads = h.leads }
+
+abbrev pub failure : (T : Type 0) → RegisterFault → Result T RegisterFault
+failure T e = Err e
+
+pub free_as : (S T : Type 0) (e : RegisterFault) → IsFree (failure S e) → IsFree (failure T e)
+free_as S T faults.Failed h = h
+free_as S T (faults.Damaged place) h = h
+free_as S T faults.LogLimit h = h
+free_as S T (faults.Behind lce) h = h
+free_as S T faults.EpochLimit h = h
+free_as S T faults.GenLimit h = h
+free_as S T faults.Full h = h
+free_as S T faults.NoMemory h = h
+
+same_fault : {T : Type 0} (e f : RegisterFault) → failure T e ≡ failure T f → e ≡ f
+same_fault e f is = cc is
+
+err_as : {S T : Type 0} (e f : RegisterFault) → failure T e ≡ failure T f → failure S e ≡ failure S f
+err_as e f is = ap (λ e. Err e) (same_fault e f is)
+
+leads_split : (r : Register) (some more : List (List ℕ)) (c : Register) → Leads r (some ++ more) c → (m : Register) × Leads r some m × Leads m more c
+leads_split r [] more c h = (r, refl, h)
+leads_split r (b ∷ some) more c h = let t = leads_split (changed r h.0) some more c h.2 in (t.0, (h.0, h.1, t.1), t.2)
+
+abbrev first : List ℕ → ℕ
+first [] = 0
+first (x ∷ xs) = x
+
+foreign_more : (more : List (List ℕ)) (m c : Register) (rest : List ℕ) → IsForeign m rest → IsJournal more rest → Leads m more c → ⊥
+foreign_more [] m c rest f j l = j.shut (ap first (sym j.bytes_are ∙ f.rest_is))
+foreign_more (q ∷ more) m c rest f j l =
+    let u = unframe q f.body (records more ++ j.gate ∷ j.after) f.after (j.fits 0 [] (omega arith)) f.fits (sym (append_assoc (framed q) (records more) (j.gate ∷ j.after)) ∙ (sym j.bytes_are ∙ f.rest_is)) in
+    f.none l.0 (subst (λ b. IsNext m b l.0) u.0 l.1)
+
+not_foreign : (place : ℕ) (bytes : List ℕ) (c : Register) (s : StandsFor bytes c) (d : IsDamaged place bytes) → IsForeign d.contents d.rest → ⊥
+not_foreign place bytes c s d f =
+    let b = behind_them d.bodies s.bodies bytes d.rest d.fits d.bytes_are s.journal in
+    let t = leads_split empty_register d.bodies b.more c (subst (λ l. Leads empty_register l c) b.all_are s.leads) in
+    foreign_more b.more d.contents c d.rest f b.journal (subst (λ m. Leads m b.more c) (leads_one empty_register d.bodies t.0 d.contents t.1 d.leads) t.2)
+
+pub not_damaged : (place : ℕ) (bytes : List ℕ) (c : Register) → StandsFor bytes c → IsDamaged place bytes → ⊥
+not_damaged place bytes c s d = elim d.wrong [
+  | inl cut ↦ not_both place bytes s.bodies s.journal (record { bodies = d.bodies; rest = d.rest; bytes_are = d.bytes_are; place_is = d.place_is; fits = d.fits; cut = inl cut })
+  | inr (inl foreign) ↦ not_foreign place bytes c s d foreign
+  | inr (inr none) ↦ not_both place bytes s.bodies s.journal (record { bodies = d.bodies; rest = d.rest; bytes_are = d.bytes_are; place_is = d.place_is; fits = d.fits; cut = inr none })
+]
+
+rose_from : (a b c : ℕ) → a ≤ b → Rose b c → Rose a c
+rose_from a b c h r = omega arith
+
+is_broken : (o : Option (List ℕ)) (bytes : List ℕ) (place : ℕ) → o ≡ Some bytes → IfSome o (IsDamaged place) → IsDamaged place bytes
+is_broken o bytes place e h = subst (λ o. IfSome o (IsDamaged place)) e h
+
+not_true : (b : Bool) → b ≡ true → b ≡ false → ⊥
+not_true b h k = let e = sym h ∙ k in absurd cc
+
+leaves_both : {D : Type 0} (moment : D → ℕ) (left_since : D → ℕ → List ℕ → Type 0) (old mid new : D) (P Q R : List ℕ → Type 0) → ((c : List ℕ) → P c → R c) → ((c : List ℕ) → Q c → R c)
+    → LeavesOnly moment left_since old mid P → LeavesOnly moment left_since mid new Q → LeavesOnly moment left_since old new R
+leaves_both moment left_since old mid new P Q R p q h k = record {
+  later = let a = h.later in let b = k.later in omega arith;
+  each = λ c l. elim (k.before (moment old) c h.later l) [ inl a ↦ p c (h.each c a) | inr b ↦ q c b ];
+  before = λ t c le l. elim (k.before t c (let a = h.later in omega arith) l) [ inl a ↦ elim (h.before t c le a) [ inl x ↦ inl x | inr y ↦ inr (p c y) ] | inr b ↦ inr (q c b) ];
+}
+
+module _ {D : Type 0} {g : Ghosts D} where
+  pub replays_holds : (r : DiskRegister D g) (c : Register) → Replays r c → Holds r c
+  replays_holds r c h = let a = replays_reads r c h in record {
+    reads = a;
+    one = λ d k. reads_one r c d a k;
+    whole = λ place b. not_damaged place a.bytes c a.stands (is_broken (g.seen (owned r)) a.bytes place a.seen_is b);
+    loaded = λ l. h;
+  }
+
+  foretells_by : (r : DiskRegister D g) (c : Register) → Replays r c → (q : Plain) → g.plain (owned r) ≡ Some q → IsQuiet q → Foretells r c
+  foretells_by r c h q is quiet = record { holds = replays_holds r c h; unarmed = leads_armed empty_register h.bodies c h.leads; told = q; plain_is = is; quiet = quiet }
+
+  image_from : (counts : (disk : D) (t : ℕ) (c : List ℕ) → t ≤ g.moment disk → g.may_leave disk c → g.left_since disk t c) (old new : DiskRegister D g) (P : List ℕ → Type 0) → LeavesOnly g.moment g.left_since (owned old) (owned new) P
+      → (bytes : List ℕ) → g.may_leave (owned new) bytes → P bytes
+  image_from counts old new P h bytes m = h.each bytes (counts (owned new) (g.moment (owned old)) bytes h.later m)
+
+  settles_by : (new : DiskRegister D g) (w : Register) → Replays new w → (c : Register) → MayHold new c → Holds new c
+  settles_by new w h c m = subst (Holds new) (stands_one m.0 w c (image_stands new w h m.0 m.1) m.2) (replays_holds new w h)
+
+  done_by : (counts : (disk : D) (t : ℕ) (c : List ℕ) → t ≤ g.moment disk → g.may_leave disk c → g.left_since disk t c) (image : (disk : D) (bytes : List ℕ) → g.seen disk ≡ Some bytes → g.may_leave disk bytes) (old new : DiskRegister D g) (after : Register → Register)
+      → LeavesOnly g.moment g.left_since (owned old) (owned new) (LeftBy old after) → ChangedOrNot (MayHold old) (MayHold new) after
+  done_by counts image old new after h c m = elim (image_from counts old new (LeftBy old after) h m.0 m.1) [
+    | inl b ↦ (c, (m.0, b, m.2), inl refl)
+    | inr w ↦ (w.0, (w.1.reads.bytes, image (owned old) w.1.reads.bytes w.1.reads.seen_is, w.1.reads.stands), elim w.2 [ inl s ↦ inl (stands_one m.0 c w.0 m.2 s) | inr s ↦ inr (stands_one m.0 c (after w.0) m.2 s) ])
+  ]
+
+  -- a load was refused
+  unready_keeps : {T : Type 0} (counts : (disk : D) (t : ℕ) (c : List ℕ) → t ≤ g.moment disk → g.may_leave disk c → g.left_since disk t c) (old new : DiskRegister D g) (e : RegisterFault) (r : Result T RegisterFault) → r ≡ failure T e
+      → Loads old new (failure (Unit {0}) e) → IsNotReady old new (failure (Unit {0}) e) → IsErrOf r faults.Failed ⊎ OnErr r (Keeps (Holds old) (Holds new) (MayHold old) (MayHold new))
+  unready_keeps counts old new e r is l n = elim n.stays [
+    | inl f ↦ inl (is ∙ err_as e faults.Failed f)
+    | inr (inl same) ↦ inr (on_err r _ (record {
+      held = λ c h. record { reads = record { bytes = h.reads.bytes; seen_is = same ∙ h.reads.seen_is; stands = h.reads.stands }; one = λ d k. h.one d (record { bytes = k.bytes; seen_is = sym same ∙ k.seen_is; stands = k.stands }); whole = λ place b. h.whole place (subst (λ o. IfSome o (IsDamaged place)) same b); loaded = λ t. absurd (not_true (is_loaded new) t n.unloaded) };
+      may = λ c m. (m.0, image_from counts old new _ l.moments m.0 m.1, m.2);
+    }))
+    | inr (inr none) ↦ inr (on_err r _ (record {
+      held = λ c h. absurd (none c h.reads);
+      may = λ c m. (m.0, image_from counts old new _ l.moments m.0 m.1, m.2);
+    }))
+  ]
+
+  unready_exact : {T : Type 0} (old new : DiskRegister D g) (e : RegisterFault) (r : Result T RegisterFault) → r ≡ failure T e → Loads old new (failure (Unit {0}) e) → IsNotReady old new (failure (Unit {0}) e)
+      → IsFree (failure T e) → IsErrOf r faults.Failed ⊎ OnErr r (Keeps (Holds old) (Holds new) (MayHold old) (MayHold new)) → (c : Register) → Foretells old c → IsErrOf r faults.NoMemory × Foretells new c
+  unready_exact old new faults.Failed r is l n free keeps c f = absurd (l.steady f.told f.plain_is f.quiet refl)
+  unready_exact old new (faults.Damaged place) r is l n free keeps c f = absurd (f.holds.whole place (n.damaged place refl))
+  unready_exact old new faults.LogLimit r is l n free keeps c f = absurd free
+  unready_exact old new (faults.Behind lce) r is l n free keeps c f = absurd free
+  unready_exact old new faults.EpochLimit r is l n free keeps c f = absurd free
+  unready_exact old new faults.GenLimit r is l n free keeps c f = absurd free
+  unready_exact old new faults.Full r is l n free keeps c f = absurd free
+  unready_exact {T = T} old new faults.NoMemory r is l n free keeps c f =
+      let q = l.quiet f.told f.plain_is f.quiet in
+      (is, record { holds = (kept_of r is keeps).held c f.holds; unarmed = f.unarmed; told = q.0; plain_is = q.1; quiet = q.2 })
+    where
+      not_failed : failure T faults.NoMemory ≡ failure T faults.Failed → ⊥
+      not_failed h = absurd (cc h)
+
+      kept_of : (r : Result T RegisterFault) → r ≡ failure T faults.NoMemory → IsErrOf r faults.Failed ⊎ OnErr r (Keeps (Holds old) (Holds new) (MayHold old) (MayHold new)) → Keeps (Holds old) (Holds new) (MayHold old) (MayHold new)
+      kept_of r is (inl h) = absurd (not_failed (sym is ∙ h))
+      kept_of r is (inr k) = subst (λ r. OnErr r (Keeps (Holds old) (Holds new) (MayHold old) (MayHold new))) is k
+
+  pub meets_unready : {T : Type 0} (counts : (disk : D) (t : ℕ) (c : List ℕ) → t ≤ g.moment disk → g.may_leave disk c → g.left_since disk t c) (image : (disk : D) (bytes : List ℕ) → g.seen disk ≡ Some bytes → g.may_leave disk bytes) (old new : DiskRegister D g) (e : RegisterFault) (r : Result T RegisterFault) (answer : Register → Result T RegisterFault) (after : Register → Register)
+      → r ≡ failure T e → Loads old new (failure (Unit {0}) e) → IsNotReady old new (failure (Unit {0}) e) → Meets old new r answer after
+  meets_unready {T = T} counts image old new e r answer after is l n =
+      let free : IsFree r = subst IsFree (sym is) (free_as (Unit {0}) T e n.free.1) in
+      let keeps = unready_keeps counts old new e r is l n in
+      record {
+        answers = λ c h. inl free;
+        told = λ t. record { honest = l.honest t.honest; loaded = λ y. absurd (not_true (is_loaded new) y n.unloaded) };
+        whole = λ t. inl free;
+        settled = λ t. inl free;
+        moments = λ t. leaves_map g.moment g.left_since (owned old) (owned new) _ (LeftBy old after) (λ c m. inl m) l.moments;
+        settles = λ t. inl free;
+        done_or_not = λ t. done_by counts image old new after (leaves_map g.moment g.left_since (owned old) (owned new) _ (LeftBy old after) (λ c m. inl m) l.moments);
+        keeps = keeps;
+        exact = λ c f. inl (unready_exact old new e r is l n (free_as (Unit {0}) T e n.free.1) keeps c f);
+        failed = λ f. n.failed (err_as e faults.Failed (sym is ∙ f));
+        damaged = λ place f. n.damaged place (err_as e (faults.Damaged place) (sym is ∙ f));
+        counts = l.counts;
+      }
+
+  held_replays : (old mid : DiskRegister D g) → IsReady old mid → (c : Register) → Holds old c → Replays mid c
+  held_replays old mid y c h = let w = y.whole (holds_tells old c h) in subst (Replays mid) (reads_one old w.0 c w.2.reads h.reads) w.1
+
+  -- it is loaded, and the answer changes nothing
+  pub meets_answered : {T : Type 0} (counts : (disk : D) (t : ℕ) (c : List ℕ) → t ≤ g.moment disk → g.may_leave disk c → g.left_since disk t c) (image : (disk : D) (bytes : List ℕ) → g.seen disk ≡ Some bytes → g.may_leave disk bytes) (old mid : DiskRegister D g) (done : Result (Unit {0}) RegisterFault) (r : Result T RegisterFault) (answer : Register → Result T RegisterFault) (after : Register → Register)
+      → Loads old mid done → IsReady old mid → (IsErrOf r faults.Failed → ⊥) → ((place : ℕ) → IsErrOf r (faults.Damaged place) → ⊥)
+      → ((c : Register) → Replays mid c → (r ≡ answer c) × (after c ≡ c)) → Meets old mid r answer after
+  meets_answered counts image old mid done r answer after l y steady whole says = record {
+    answers = λ c h. let m = held_replays old mid y c h in let s = says c m in inr (s.0, subst (Holds mid) (sym s.1) (replays_holds mid c m));
+    told = λ t. let w = y.whole t in replays_tells mid w.0 w.1;
+    whole = λ t. let w = y.whole t in inr (w.0, w.2);
+    settled = λ t. let w = y.whole t in inr (λ bytes m. (w.0, image_stands mid w.0 w.1 bytes m, replays_holds mid w.0 w.1));
+    moments = λ t. leaves_map g.moment g.left_since (owned old) (owned mid) _ (LeftBy old after) (λ c m. inl m) l.moments;
+    settles = λ t. let w = y.whole t in inr (λ c m. settles_by mid w.0 w.1 c m);
+    done_or_not = λ t. done_by counts image old mid after (leaves_map g.moment g.left_since (owned old) (owned mid) _ (LeftBy old after) (λ c m. inl m) l.moments);
+    keeps = inr (on_err r _ (record { held = λ c h. replays_holds mid c (held_replays old mid y c h); may = λ c m. (m.0, image_from counts old mid _ l.moments m.0 m.1, m.2) }));
+    exact = λ c f. let m = held_replays old mid y c f.holds in let s = says c m in let q = l.quiet f.told f.plain_is f.quiet in
+        inr (s.0, subst (Foretells mid) (sym s.1) (foretells_by mid c m q.0 q.1 q.2));
+    failed = λ f. absurd (steady f);
+    damaged = λ place f. absurd (whole place f);
+    counts = l.counts;
+  }
+
+  -- the change was made
+  pub meets_made : {T : Type 0} (counts : (disk : D) (t : ℕ) (c : List ℕ) → t ≤ g.moment disk → g.may_leave disk c → g.left_since disk t c) (image : (disk : D) (bytes : List ℕ) → g.seen disk ≡ Some bytes → g.may_leave disk bytes) (old mid new : DiskRegister D g) (x : Change) (done made : Result (Unit {0}) RegisterFault) (r : Result T RegisterFault) (answer : Register → Result T RegisterFault) (after : Register → Register)
+      → Loads old mid done → IsReady old mid → Commits mid new x made → IsMade mid new x → (IsErrOf r faults.Failed → ⊥) → ((place : ℕ) → IsErrOf r (faults.Damaged place) → ⊥) → ((A : Type 0) → OnErr r A)
+      → ((c : Register) → Replays mid c → place_of mid.journal + body_length x + 6 ≤ 2 ^ 40 → (r ≡ answer c) × (after c ≡ changed c x)) → Meets old new r answer after
+  meets_made counts image old mid new x done made r answer after l y k a steady whole ok says = record {
+    answers = λ c h. let m = held_replays old mid y c h in let s = says c m a.fits in inr (s.0, subst (Holds new) (sym s.1) (replays_holds new _ (a.replays c m)));
+    told = λ t. let w = y.whole t in replays_tells new _ (a.replays w.0 w.1);
+    whole = λ t. let w = y.whole t in inr (w.0, w.2);
+    settled = λ t. let w = y.whole t in inr (λ bytes m. (changed w.0 x, image_stands new _ (a.replays w.0 w.1) bytes m, replays_holds new _ (a.replays w.0 w.1)));
+    moments = λ t. let w = y.whole t in let s = says w.0 w.1 a.fits in leaves_both g.moment g.left_since (owned old) (owned mid) (owned new) _ _ (LeftBy old after) (λ c m. inl m)
+        (λ c m. inr (w.0, w.2, elim m [ inl b ↦ inl b | inr b ↦ inr (subst (StandsFor c) (sym s.1) b) ])) l.moments (k.moments w.0 w.1);
+    settles = λ t. let w = y.whole t in inr (λ c m. settles_by new _ (a.replays w.0 w.1) c m);
+    done_or_not = λ t. done_by counts image old new after (let w = y.whole t in let s = says w.0 w.1 a.fits in leaves_both g.moment g.left_since (owned old) (owned mid) (owned new) _ _ (LeftBy old after) (λ c m. inl m)
+        (λ c m. inr (w.0, w.2, elim m [ inl b ↦ inl b | inr b ↦ inr (subst (StandsFor c) (sym s.1) b) ])) l.moments (k.moments w.0 w.1));
+    keeps = inr (ok _);
+    exact = λ c f. let m = held_replays old mid y c f.holds in let s = says c m a.fits in let q = l.quiet f.told f.plain_is f.quiet in let p = k.quiet q.0 q.1 q.2 in
+        inr (s.0, subst (Foretells new) (sym s.1) (foretells_by new _ (a.replays c m) p.0 p.1 p.2));
+    failed = λ f. absurd (steady f);
+    damaged = λ place f. absurd (whole place f);
+    counts = let b = l.counts in let c = k.counts in omega arith;
+  }
+
+  -- the change failed, done or not
+  refused_failed : {T : Type 0} (counts : (disk : D) (t : ℕ) (c : List ℕ) → t ≤ g.moment disk → g.may_leave disk c → g.left_since disk t c) (image : (disk : D) (bytes : List ℕ) → g.seen disk ≡ Some bytes → g.may_leave disk bytes) (old mid new : DiskRegister D g) (x : Change) (done : Result (Unit {0}) RegisterFault) (r : Result T RegisterFault) (answer : Register → Result T RegisterFault) (after : Register → Register)
+      → r ≡ failure T faults.Failed → Loads old mid done → IsReady old mid → Commits mid new x (failure (Unit {0}) faults.Failed) → is_loaded new ≡ false → Rose (g.faults (owned mid)) (g.faults (owned new)) → place_of mid.journal + body_length x + 6 ≤ 2 ^ 40
+      → ((c : Register) → Replays mid c → place_of mid.journal + body_length x + 6 ≤ 2 ^ 40 → after c ≡ changed c x) → Meets old new r answer after
+  refused_failed {T = T} counts image old mid new x done r answer after is l y k unloaded rose fit says = let free : IsFree r = subst IsFree (sym is) tt in record {
+    answers = λ c h. inl free;
+    told = λ t. record { honest = k.honest (l.honest t.honest); loaded = λ b. absurd (not_true (is_loaded new) b unloaded) };
+    whole = λ t. inl free;
+    settled = λ t. inl free;
+    moments = λ t. let w = y.whole t in leaves_both g.moment g.left_since (owned old) (owned mid) (owned new) _ _ (LeftBy old after) (λ c m. inl m)
+        (λ c m. inr (w.0, w.2, elim m [ inl b ↦ inl b | inr b ↦ inr (subst (StandsFor c) (sym (says w.0 w.1 fit)) b) ])) l.moments (k.moments w.0 w.1);
+    settles = λ t. inl free;
+    done_or_not = λ t. done_by counts image old new after (let w = y.whole t in leaves_both g.moment g.left_since (owned old) (owned mid) (owned new) _ _ (LeftBy old after) (λ c m. inl m)
+        (λ c m. inr (w.0, w.2, elim m [ inl b ↦ inl b | inr b ↦ inr (subst (StandsFor c) (sym (says w.0 w.1 fit)) b) ])) l.moments (k.moments w.0 w.1));
+    keeps = inl is;
+    exact = λ c f. let q = l.quiet f.told f.plain_is f.quiet in absurd (k.steady q.0 q.1 q.2 refl);
+    failed = λ f. rose_from (g.faults (owned old)) (g.faults (owned mid)) (g.faults (owned new)) l.counts rose;
+    damaged = λ place f. absurd (let e = same_fault faults.Failed (faults.Damaged place) (sym is ∙ f) in cc e);
+    counts = let b = l.counts in let c = k.counts in omega arith;
+  }
+
+  -- it is as it was
+  refused_kept : {T : Type 0} (counts : (disk : D) (t : ℕ) (c : List ℕ) → t ≤ g.moment disk → g.may_leave disk c → g.left_since disk t c) (image : (disk : D) (bytes : List ℕ) → g.seen disk ≡ Some bytes → g.may_leave disk bytes) (old mid new : DiskRegister D g) (x : Change) (done made : Result (Unit {0}) RegisterFault) (e : RegisterFault) (r : Result T RegisterFault) (answer : Register → Result T RegisterFault) (after : Register → Register)
+      → r ≡ failure T e → Loads old mid done → IsReady old mid → Commits mid new x made → (e ≡ faults.NoMemory) ⊎ ((e ≡ faults.Full) × ((c : Register) → Replays mid c → (failure T faults.Full ≡ answer c) × (after c ≡ c)))
+      → ((c : Register) → Replays mid c → Replays new c) → LeavesOnly g.moment g.left_since (owned mid) (owned new) (g.may_leave (owned mid)) → Meets old new r answer after
+  refused_kept {T = T} counts image old mid new x done made e r answer after is l y k which stays leaves =
+      let images : (bytes : List ℕ) → g.may_leave (owned mid) bytes → g.may_leave (owned old) bytes = λ bytes m. image_from counts old mid _ l.moments bytes m in
+      record {
+        answers = λ c h. let m = held_replays old mid y c h in elim which [
+          | inl n ↦ inl (subst IsFree (sym (is ∙ ap (λ e. failure T e) n)) tt)
+          | inr f ↦ let s = f.1 c m in inr ((is ∙ ap (λ e. failure T e) f.0) ∙ s.0, subst (Holds new) (sym s.1) (replays_holds new c (stays c m)))
+        ];
+        told = λ t. let w = y.whole t in replays_tells new w.0 (stays w.0 w.1);
+        whole = λ t. let w = y.whole t in inr (w.0, w.2);
+        settled = λ t. let w = y.whole t in inr (λ bytes m. (w.0, image_stands new w.0 (stays w.0 w.1) bytes m, replays_holds new w.0 (stays w.0 w.1)));
+        moments = λ t. leaves_both g.moment g.left_since (owned old) (owned mid) (owned new) _ _ (LeftBy old after) (λ c m. inl m) (λ c m. inl (images c m)) l.moments leaves;
+        settles = λ t. let w = y.whole t in inr (λ c m. settles_by new w.0 (stays w.0 w.1) c m);
+        done_or_not = λ t. done_by counts image old new after (leaves_both g.moment g.left_since (owned old) (owned mid) (owned new) _ _ (LeftBy old after) (λ c m. inl m) (λ c m. inl (images c m)) l.moments leaves);
+        keeps = inr (on_err r _ (record { held = λ c h. replays_holds new c (stays c (held_replays old mid y c h)); may = λ c m. (m.0, images m.0 (image_from counts mid new _ leaves m.0 m.1), m.2) }));
+        exact = λ c f. let m = held_replays old mid y c f.holds in let q = l.quiet f.told f.plain_is f.quiet in let p = k.quiet q.0 q.1 q.2 in elim which [
+          | inl n ↦ inl (is ∙ ap (λ e. failure T e) n, foretells_by new c (stays c m) p.0 p.1 p.2)
+          | inr f ↦ let s = f.1 c m in inr ((is ∙ ap (λ e. failure T e) f.0) ∙ s.0, subst (Foretells new) (sym s.1) (foretells_by new c (stays c m) p.0 p.1 p.2))
+        ];
+        failed = λ f. absurd (never which (same_fault e faults.Failed (sym is ∙ f)));
+        damaged = λ place f. absurd (nowhere place which (same_fault e (faults.Damaged place) (sym is ∙ f)));
+        counts = let b = l.counts in let c = k.counts in omega arith;
+      }
+    where
+      never : {A : Type 0} → (e ≡ faults.NoMemory) ⊎ ((e ≡ faults.Full) × A) → e ≡ faults.Failed → ⊥
+      never (inl n) f = absurd (let h = sym n ∙ f in cc h)
+      never (inr n) f = absurd (let h = sym n.0 ∙ f in cc h)
+
+      nowhere : {A : Type 0} (place : ℕ) → (e ≡ faults.NoMemory) ⊎ ((e ≡ faults.Full) × A) → e ≡ faults.Damaged place → ⊥
+      nowhere place (inl n) f = absurd (let h = sym n ∙ f in cc h)
+      nowhere place (inr n) f = absurd (let h = sym n.0 ∙ f in cc h)
+
+  pub meets_refused : {T : Type 0} (counts : (disk : D) (t : ℕ) (c : List ℕ) → t ≤ g.moment disk → g.may_leave disk c → g.left_since disk t c) (image : (disk : D) (bytes : List ℕ) → g.seen disk ≡ Some bytes → g.may_leave disk bytes) (old mid new : DiskRegister D g) (x : Change) (done : Result (Unit {0}) RegisterFault) (e : RegisterFault) (r : Result T RegisterFault) (answer : Register → Result T RegisterFault) (after : Register → Register)
+      → r ≡ failure T e → Loads old mid done → IsReady old mid → Commits mid new x (failure (Unit {0}) e) → IsRefused mid new x (failure (Unit {0}) e)
+      → ((c : Register) → Replays mid c → 2 ^ 40 < place_of mid.journal + body_length x + 6 → (failure T faults.Full ≡ answer c) × (after c ≡ c))
+      → ((c : Register) → Replays mid c → place_of mid.journal + body_length x + 6 ≤ 2 ^ 40 → after c ≡ changed c x) → Meets old new r answer after
+  meets_refused {T = T} counts image old mid new x done e r answer after is l y k n full fits = elim n.cause [
+    | inl f ↦ refused_failed counts image old mid new x done r answer after (is ∙ err_as e faults.Failed f.0) l y (subst (λ m. Commits mid new x m) f.0 k) f.1 f.2 f.3 fits
+    | inr s ↦ refused_kept counts image old mid new x done (failure (Unit {0}) e) e r answer after is l y k (elim s.0 [
+      | inl m ↦ inl (same_fault e faults.NoMemory m)
+      | inr m ↦ inr (same_fault e faults.Full m.0, (λ c h. full c h m.1))
+    ]) s.2 s.3
+  ]
+
+  pub holds_unloaded : (r : DiskRegister D g) (c : Register) → ReadsAs r c → is_loaded r ≡ false → Holds r c
+  holds_unloaded r c a l = record {
+    reads = a;
+    one = λ d k. reads_one r c d a k;
+    whole = λ place b. not_damaged place a.bytes c a.stands (is_broken (g.seen (owned r)) a.bytes place a.seen_is b);
+    loaded = λ t. absurd (not_true (is_loaded r) t l);
+  }
+
+  pub replays_length : (r : DiskRegister D g) (c : Register) → Replays r c → c.length ≡ place_of r.journal + 1
+  replays_length r c h = let a = leads_length empty_register h.bodies c h.leads in let b = h.settled.rests.place_is in omega arith
+
+  pub hold_on : (old mid : DiskRegister D g) (c : Register) → IsReady old mid → Holds old c → Holds mid c
+  hold_on old mid c y h = replays_holds mid c (held_replays old mid y c h)
+
+  -- it is loaded, and there is no memory
+  pub meets_no_memory : {T : Type 0} (counts : (disk : D) (t : ℕ) (c : List ℕ) → t ≤ g.moment disk → g.may_leave disk c → g.left_since disk t c) (image : (disk : D) (bytes : List ℕ) → g.seen disk ≡ Some bytes → g.may_leave disk bytes)
+      (old mid : DiskRegister D g) (done : Result (Unit {0}) RegisterFault) (r : Result T RegisterFault) (answer : Register → Result T RegisterFault) (after : Register → Register) → r ≡ failure T faults.NoMemory → Loads old mid done → IsReady old mid → Meets old mid r answer after
+  meets_no_memory {T = T} counts image old mid done r answer after is l y =
+      let free : IsFree r = subst IsFree (sym is) tt in record {
+        answers = λ c h. inl free;
+        told = λ t. let w = y.whole t in replays_tells mid w.0 w.1;
+        whole = λ t. inl free;
+        settled = λ t. inl free;
+        moments = λ t. leaves_map g.moment g.left_since (owned old) (owned mid) _ (LeftBy old after) (λ c m. inl m) l.moments;
+        settles = λ t. inl free;
+        done_or_not = λ t. done_by counts image old mid after (leaves_map g.moment g.left_since (owned old) (owned mid) _ (LeftBy old after) (λ c m. inl m) l.moments);
+        keeps = inr (on_err r _ (record { held = λ c h. replays_holds mid c (held_replays old mid y c h); may = λ c m. (m.0, image_from counts old mid _ l.moments m.0 m.1, m.2) }));
+        exact = λ c f. let q = l.quiet f.told f.plain_is f.quiet in inl (is, foretells_by mid c (held_replays old mid y c f.holds) q.0 q.1 q.2);
+        failed = λ f. absurd (let e = same_fault faults.NoMemory faults.Failed (sym is ∙ f) in cc e);
+        damaged = λ place f. absurd (let e = same_fault faults.NoMemory (faults.Damaged place) (sym is ∙ f) in cc e);
+        counts = l.counts;
+      }
+
+pub look_keeps : {T : Type 0} (r : Result T RegisterFault) (e : RegisterFault) (K : Type 0) → r ≡ failure T e → IsErrOf r faults.Failed ⊎ OnErr r K → IsErrOf r faults.Failed ⊎ K
+look_keeps r e K is (inl f) = inl f
+look_keeps r e K is (inr k) = inr (subst (λ r. OnErr r K) is k)
+
+pub look_exact : {T : Type 0} (r : Result T RegisterFault) (v : Result T RegisterFault) (A : Type 0) → (IsErrOf r faults.NoMemory × A) ⊎ ((r ≡ v) × A) → (IsErrOf r faults.NoMemory ⊎ (r ≡ v)) × A
+look_exact r v A (inl h) = (inl h.0, h.1)
+look_exact r v A (inr h) = (inr h.0, h.1)
+
+abbrev pub ok_view : View → Result View RegisterFault
+ok_view v = Ok v

@@ -1,0 +1,16 @@
+use Rattle.std.proofs.Common.{◌∙◌, ◌+◌, ◌&&◌, ◌==◌, ap, sym, not}
+use Rattle.ld_msg.specs.Register.{is_crowded}
+use Rattle.ld_register.specs.Changes.{is_next}
+use Rattle.ld_register.specs.Kept.{register_of}
+use Rattle.ld_register.proofs.contents.Contents.is_next.Goals as goal
+
+pub returns-in-Activate : goal.returns-in-Activate
+returns-in-Activate c n = c.is_behind.ensures ∙ (ap (λ b. not b && (c.epoch.result + 1 == c.in-Activate.epoch)) (c.is_crowded.ensures n)
+    ∙ (ap (λ e. not (is_crowded (register_of c.args.self.now n) c.in-Activate.log) && (e + 1 == c.in-Activate.epoch)) (c.epoch.ensures.value n) ∙ ap (is_next (register_of c.args.self.now n)) (sym c.in-Activate.is)))
+
+pub returns-in-Close : goal.returns-in-Close
+returns-in-Close c n = c.is_behind-in-Close.ensures ∙ (ap (λ b. not b && (c.lce.result + 1 == c.in-Close.epoch)) (c.is_crowded-in-Close.ensures n)
+    ∙ (ap (λ e. not (is_crowded (register_of c.args.self.now n) c.in-Close.log) && (e + 1 == c.in-Close.epoch)) (c.lce.ensures.value n) ∙ ap (is_next (register_of c.args.self.now n)) (sym c.in-Close.is)))
+
+pub returns-in-Draw : goal.returns-in-Draw
+returns-in-Draw c n = c.is_behind-in-Draw.ensures ∙ (ap (λ e. e + 1 == c.in-Draw.generation) (c.generation.ensures n) ∙ ap (is_next (register_of c.args.self.now n)) (sym c.in-Draw.is))

@@ -1,0 +1,234 @@
+// A register on a disk.
+ghost use Rattle.std.specs.Prelude.{◌≡◌, true, false};
+ghost use Rattle.ld_journal.specs.Open.{has_ended, must_load};
+ghost use Rattle.ld_register.specs.Faults.{is_disk};
+
+use crate::change::{Change, GREATEST_EPOCH};
+use crate::contents::Contents;
+use crate::replay::replay;
+use crate::{Drawn, Grant, Register, RegisterFault, View};
+use ld_disk::{Disk, Fault};
+use ld_ids::{LogId, NodeId};
+use ld_journal::{Journal, JournalFault};
+use ld_msg::Summary;
+use std::alloc::Global;
+
+/// A register and the disk that its changes are kept on. It is loaded by the first call, and again by the next call
+/// after one that answered `Failed` or `Damaged`.
+#[derive(Drop)]
+pub struct DiskRegister<D: Disk> {
+    journal: Journal<D>,
+    contents: Contents,
+    loaded: bool,
+    ghost ended: { loaded ≡ true → has_ended journal ≡ true },
+    ghost works: { loaded ≡ true → must_load journal ≡ false },
+}
+
+impl<D: Disk> DiskRegister<D> {
+    ghost use Rattle.std.specs.Prelude.{◌⊎◌, ◌<◌, ◌+◌, ◌^◌, ℕ, OnOk, OnErr};
+    ghost use Rattle.std.specs.Option.{option_map};
+    ghost use Rattle.ld_disk.specs.Moments.{Unchanged};
+    ghost use Rattle.ld_disk.specs.Plain.{armed_with};
+    ghost use Rattle.ld_register.specs.Changes.{IsChange, is_next};
+    ghost use Rattle.ld_register.specs.Kept.{register_of};
+    ghost use Rattle.ld_register.specs.Held.{owned, is_loaded, Loads, IsReady, IsNotReady, Commits, IsMade, IsRefused};
+
+    /// The register on a disk. Its first call loads it.
+    pub fn new(alloc: Global, disk: D) -> DiskRegister<D>
+        ensures disk { owned result ≡ disk }
+        ensures loads { is_loaded result ≡ false }
+    {
+        DiskRegister {
+            journal: Journal::shut(disk),
+            contents: Contents::new(alloc),
+            loaded: false,
+        }
+    }
+
+    /// Gives the disk back, as the last call left it.
+    pub fn into_disk(self) -> D
+        ensures { result ≡ owned self }
+    {
+        self.journal.into_disk()
+    }
+
+    /// Tells a disk in memory to fail or to crash. Other disks ignore it.
+    pub fn arm(&mut self, fault: Fault)
+        ensures exact { D.plain (owned self.new) ≡ option_map (armed_with fault) (D.plain (owned self.old)) }
+        ensures same { Unchanged D.seen D.may_leave D.moment D.left_since (owned self.old) (owned self.new) }
+        ensures faults { D.faults (owned self.new) ≡ D.faults (owned self.old) }
+        ensures loaded { is_loaded self.new ≡ is_loaded self.old }
+    {
+        self.journal.arm(fault);
+    }
+
+    /// Loads it, where it isn't loaded.
+    fn ready(&mut self, alloc: Global) -> Result<(), RegisterFault>
+        ensures loads { Loads self.old self.new result }
+        ensures ready { OnOk result (IsReady self.old self.new) }
+        ensures refused { OnErr result (IsNotReady self.old self.new result) }
+    {
+        if self.loaded {
+            return Ok(());
+        }
+        self.contents = Contents::new(alloc);
+        self.journal.reload()?;
+        replay(alloc, &mut self.journal, &mut self.contents)?;
+        self.loaded = true;
+        Ok(())
+    }
+
+    /// Makes a change that is the next one, once it is loaded: it is durable before it is made in memory.
+    fn commit(&mut self, alloc: Global, change: &Change) -> Result<(), RegisterFault>
+        requires loaded { is_loaded self.old ≡ true }
+        requires is { IsChange change.now }
+        requires next { is_next (register_of self.old.contents 0) change.now ≡ true }
+        ensures commits { Commits self.old self.new change.now result }
+        ensures made { OnOk result (IsMade self.old self.new change.now) }
+        ensures refused { OnErr result (IsRefused self.old self.new change.now result) }
+    {
+        self.contents.room(alloc, change)?;
+        let body = change.to_bytes(alloc)?;
+        match self.journal.append(alloc, &body) {
+            Ok(()) => {
+                self.contents.apply(change);
+                Ok(())
+            }
+            Err(fault) => {
+                self.loaded = !is_disk(fault);
+                Err(RegisterFault::from(fault))
+            }
+        }
+    }
+}
+
+impl<D: Disk> Register for DiskRegister<D> {
+    ghost use Rattle.std.specs.Prelude.{◌≢◌, ◌⊎◌, ◌≤◌, ◌-◌, ◌^◌, ℕ, IfOk, IsErrOf, OnErr, Ok, Err};
+    ghost use Rattle.ld_msg.specs.Bounds.{IsEpoch, IsSummary};
+    ghost use Rattle.ld_op.specs.Bounds.{IsOp};
+    ghost use Rattle.ld_op.specs.declared.op.Op.TheVariants.{Format};
+    ghost use Rattle.ld_register.specs.Calls.{activated, after_activate, closed, after_close, drawn, after_draw, looked, IsView, IsFree, Keeps};
+    ghost use Rattle.ld_msg.specs.Register.{Register as Held};
+    ghost use Rattle.ld_register.specs.Held.{owned, Holds, MayHold, Tells, Foretells, IsBroken, Meets, holds_is_told, told_is_held};
+
+    ghost told = { λ r. Tells r };
+
+    ghost holds = { λ r c. Holds r c };
+
+    ghost may_hold = { λ r c. MayHold r c };
+
+    ghost tells = { λ r c. Foretells r c };
+
+    ghost damaged = { λ r place. IsBroken r place };
+
+    ghost faults = { λ r. D.faults (owned r) };
+
+    ghost holds_one = { λ r c d h k. h.one d k.reads };
+
+    ghost held_is_told = { λ r c h. holds_is_told r c h };
+
+    ghost held_may_be = { λ r c h. (h.reads.bytes, D.reads_an_image (owned r) h.reads.bytes h.reads.seen_is, h.reads.stands) };
+
+    ghost tells_what_is_held = { λ r c t. told_is_held r c t };
+
+    ghost held_is_whole = { λ r c place h b. h.whole place b };
+
+    fn activate(&mut self, alloc: Global, log: LogId) -> Result<Grant, RegisterFault>
+        ensures meets { Meets self.old self.new result (λ c. activated c log) (λ c. after_activate c log) }
+        ensures bounds { IfOk result (λ grant. IsEpoch grant.epoch × (grant.lce ≤ 2 ^ 32 - 2)) }
+        ensures behind { (lce : ℕ) → result ≢ Err (RegisterFault.Behind lce) }
+        ensures generations { result ≢ Err RegisterFault.GenLimit }
+    {
+        self.ready(alloc)?;
+        if self.contents.is_crowded(log) {
+            return Err(RegisterFault::LogLimit);
+        }
+        let before = self.contents.epoch(log);
+        let lce = self.contents.lce(log);
+        if GREATEST_EPOCH <= before {
+            return Err(RegisterFault::EpochLimit);
+        }
+        let epoch = before + 1;
+        self.commit(alloc, &Change::Activate { log, epoch })?;
+        Ok(Grant { epoch, lce })
+    }
+
+    fn close(
+        &mut self,
+        alloc: Global,
+        log: LogId,
+        epoch: u32,
+        summary: &Summary,
+    ) -> Result<(), RegisterFault>
+        requires { IsSummary epoch summary.now }
+        ensures meets { Meets self.old self.new result (λ c. closed c log epoch summary.now) (λ c. after_close c log epoch summary.now) }
+        ensures bounds { (lce : ℕ) → IsErrOf result (RegisterFault.Behind lce) → lce ≤ 2 ^ 32 - 2 }
+        ensures epochs { result ≢ Err RegisterFault.EpochLimit }
+        ensures generations { result ≢ Err RegisterFault.GenLimit }
+    {
+        self.ready(alloc)?;
+        if self.contents.is_crowded(log) {
+            return Err(RegisterFault::LogLimit);
+        }
+        let lce = self.contents.lce(log);
+        if lce + 1 != epoch {
+            return Err(RegisterFault::Behind(lce));
+        }
+        let _ = log.number();
+        let summary = *summary;
+        self.commit(
+            alloc,
+            &Change::Close {
+                log,
+                epoch,
+                summary,
+            },
+        )?;
+        Ok(())
+    }
+
+    fn draw(&mut self, alloc: Global, node: NodeId) -> Result<Drawn, RegisterFault>
+        ensures meets { Meets self.old self.new result (λ c. drawn c node) (λ c. after_draw c node) }
+        ensures bounds { IfOk result (λ drawn. IsOp (Format drawn.gen_ drawn.epochs)) }
+        ensures logs { result ≢ Err RegisterFault.LogLimit }
+        ensures behind { (lce : ℕ) → result ≢ Err (RegisterFault.Behind lce) }
+        ensures epochs { result ≢ Err RegisterFault.EpochLimit }
+    {
+        self.ready(alloc)?;
+        let before = self.contents.generation(node);
+        if before == u32::MAX {
+            return Err(RegisterFault::GenLimit);
+        }
+        let epochs = self.contents.active(alloc)?;
+        let generation = before + 1;
+        self.commit(alloc, &Change::Draw { node, generation })?;
+        Ok(Drawn {
+            gen_: generation,
+            epochs,
+        })
+    }
+
+    fn look(&mut self, alloc: Global, log: LogId, e: u32) -> Result<View, RegisterFault>
+        ensures meets { Meets self.old self.new result (λ c. Ok (looked c log e)) (λ c. c) }
+        ensures same { (c : Held) → MayHold self.new c → MayHold self.old c }
+        ensures keeps { IsErrOf result RegisterFault.Failed ⊎ Keeps (Holds self.old) (Holds self.new) (MayHold self.old) (MayHold self.new) }
+        ensures exact { (c : Held) → Foretells self.old c
+            → (IsErrOf result RegisterFault.NoMemory ⊎ (result ≡ Ok (looked c log e))) × Foretells self.new c }
+        ensures view { IfOk result (IsView e) }
+        ensures free { OnErr result (IsFree result) }
+    {
+        self.ready(alloc)?;
+        Ok(View {
+            epoch: self.contents.epoch(log),
+            lce: self.contents.lce(log),
+            summary: self.contents.summary(log, e),
+        })
+    }
+}
+
+/// Whether a call of the disk failed.
+fn is_disk(fault: JournalFault) -> bool
+    ensures { result ≡ is_disk fault }
+{
+    matches!(fault, JournalFault::Disk)
+}
