@@ -1,0 +1,4 @@
+pub mod Planning
+pub mod Sending
+pub mod Recovering
+pub mod Stages
