@@ -1,2 +1,4 @@
 pub mod Settling
 pub mod Posting
+pub mod Digesting
+pub mod Replies

@@ -2,3 +2,4 @@ pub mod Planning
 pub mod Sending
 pub mod Recovering
 pub mod Stages
+pub mod States

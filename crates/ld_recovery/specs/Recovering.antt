@@ -72,6 +72,12 @@ when_going (IsDone s) x y = y
 when_going (IsGone l) x y = y
 when_going (IsPreempted k) x y = y
 
+abbrev pub is_going : Ending → Bool
+is_going Goes = true
+is_going (IsDone s) = false
+is_going (IsGone l) = false
+is_going (IsPreempted k) = false
+
 -- ---- replies ----
 
 abbrev pub reply_acts : Recovering → ℕ → Body → Acts

@@ -3,15 +3,13 @@ use Rattle.std.specs.Prelude.{ℕ, ◌≡◌, List, [], ◌∷◌, Bool, if◌th
 use Rattle.ld_ids.specs.declared.set.Spec.{Spec}
 use Rattle.ld_msg.specs.declared.msg.Entry.{Entry}
 use Rattle.ld_msg.specs.declared.msg.Body.{Body}
-use Rattle.ld_msg.specs.declared.msg.Body.TheVariants as bodies
-use Rattle.ld_msg.specs.Digest.{enough, plan}
+use Rattle.ld_msg.specs.Digest.{enough, plan, with_page}
 use Rattle.ld_msg.specs.Sequencer as sequencer
-use Rattle.ld_msg.specs.Sequencer.{Acts, settled_by, is_ready, summary_of, storing_of, planned, item_stores, digests, retries_stage, does_nothing}
-use Rattle.ld_digest.specs.Gathering.{Gathering}
+use Rattle.ld_msg.specs.Sequencer.{settled_by, is_ready, summary_of, storing_of, planned, item_stores, takes_any, next_ask, next_try, next_wave, digest_asks}
+use Rattle.ld_digest.specs.Gathering.{Gathering, with_told}
 use Rattle.ld_recovery.specs.declared.stage.Stage.{Stage}
 use Rattle.ld_recovery.specs.declared.stage.Stage.TheVariants.{Seals, Stores, Closes}
 use Rattle.ld_recovery.specs.Planning.{Plans, with_storing}
-use Rattle.ld_recovery.specs.Recovering.{Recovering, Goes, as_sequencer}
 
 abbrev pub shown : Stage → sequencer.Stage
 shown (Seals d) = sequencer.Seals d.told
@@ -34,10 +32,6 @@ settled ballot p y (Seals d) = sequencer.Seals d.told
 settled ballot p y (Stores g) = closed_if_ready ballot (with_storing g (settled_by p y g.storing))
 settled ballot p y (Closes s) = sequencer.Closes s
 
--- the recovery of an epoch in this stage
-abbrev pub in_stage : Spec → ℕ → ℕ → List ℕ → Stage → Recovering
-in_stage spec ballot epoch lost s = record { spec = spec; ballot = ballot; recovery = record { epoch = epoch; lost = lost; stage = shown s }; ending = Goes }
-
 -- what has been told is planned, where it is enough
 abbrev pub gathered : Gathering → sequencer.Stage
 gathered d = if enough d.spec d.told then sequencer.Stores (storing_of (plan d.epoch d.told)) else sequencer.Seals d.told
@@ -46,6 +40,27 @@ gathered d = if enough d.spec d.told then sequencer.Stores (storing_of (plan d.e
 abbrev pub gathered_sends : List ℕ → Gathering → List (ℕ × Body) → List (ℕ × Body)
 gathered_sends lost d asks = if enough d.spec d.told then item_stores d.spec lost 0 (planned (plan d.epoch d.told).items) else asks
 
--- what a page does to the recovery in this stage
-abbrev pub page_acts : Spec → ℕ → ℕ → List ℕ → Stage → ℕ → ℕ → ℕ → ℕ → List Entry → Acts
-page_acts spec ballot epoch lost s y from upto trim es = digests spec (does_nothing (as_sequencer (in_stage spec ballot epoch lost s))) (in_stage spec ballot epoch lost s).recovery y from upto trim es (shown s)
+-- a page of a node comes to a digest
+abbrev pub paged : Gathering → ℕ → ℕ → ℕ → ℕ → List Entry → Gathering
+paged d y from upto trim es = with_told d (with_page d.epoch y from upto trim es d.told)
+
+abbrev pub page_stage : Stage → ℕ → ℕ → ℕ → ℕ → List Entry → sequencer.Stage
+page_stage (Seals d) y from upto trim es = if takes_any y from d.told then gathered (paged d y from upto trim es) else sequencer.Seals d.told
+page_stage (Stores p) y from upto trim es = sequencer.Stores p.storing
+page_stage (Closes s) y from upto trim es = sequencer.Closes s
+
+abbrev pub page_sends : List ℕ → Stage → ℕ → ℕ → ℕ → ℕ → List Entry → List (ℕ × Body)
+page_sends lost (Seals d) y from upto trim es = if takes_any y from d.told then gathered_sends lost (paged d y from upto trim es) (next_ask y (paged d y from upto trim es).told) else []
+page_sends lost (Stores p) y from upto trim es = []
+page_sends lost (Closes s) y from upto trim es = []
+
+-- a stage is tried again
+abbrev pub retried_stage : Stage → sequencer.Stage
+retried_stage (Seals d) = sequencer.Seals d.told
+retried_stage (Stores p) = sequencer.Stores (next_try p.storing)
+retried_stage (Closes y) = sequencer.Closes y
+
+abbrev pub retry_sends : List ℕ → Stage → List (ℕ × Body)
+retry_sends lost (Seals d) = digest_asks d.told
+retry_sends lost (Stores p) = item_stores p.spec lost (next_wave p.storing.wave) p.storing.items
+retry_sends lost (Closes y) = []

@@ -2,10 +2,14 @@
 #![tactic(auto)]
 
 mod planned;
+mod recovery;
 mod send;
 mod stage;
+mod state;
 mod storing;
 
 pub use planned::Planned;
+pub use recovery::Recovery;
 pub use send::Sender;
+pub use state::{Answer, State};
 pub use storing::Storing;
