@@ -12,7 +12,8 @@ use Rattle.ld_msg.specs.declared.msg.Entry.{Entry}
 use Rattle.ld_msg.specs.declared.msg.Body.{Body}
 use Rattle.ld_msg.specs.declared.msg.Body.TheVariants as bodies
 use Rattle.ld_msg.specs.Sequencer as sequencer
-use Rattle.ld_msg.specs.Sequencer.{try_close, Sequencer, Append, Recovery, Stage, Seals, Stores, Closes, Storing, Acts, does_nothing, by_reply, on_reply, on_retry, acks_append, in_recovery, settles, closes_ready, settled_by, is_ready, summary_of, recovery_lost, lost_stage, preempt, becomes, to_each, digests}
+use Rattle.ld_msg.specs.Register.{Granted, Behind, Fails}
+use Rattle.ld_msg.specs.Sequencer.{retries_stage, retries_appends, next_try, next_wave, digest_asks, item_stores, try_close, tells_clean, after_close, Sequencer, Append, Recovery, Stage, Seals, Stores, Closes, Storing, Acts, does_nothing, by_reply, on_reply, on_retry, acks_append, in_recovery, settles, closes_ready, settled_by, is_ready, summary_of, recovery_lost, lost_stage, preempt, becomes, to_each, digests}
 use Rattle.ld_recovery.specs.Recovering as own
 use Rattle.ld_recovery.specs.Recovering.{Recovering, Ending, Goes, IsDone, IsPreempted, as_sequencer, goes_on, ended, is_open, replied, replied_with, reply_acts, reply_messages, sent_by, messages, when_going, ending_told, summary_told}
 
@@ -140,3 +141,114 @@ lost_here r y n round gen end h o l =
     let k : by_reply r.spec (acts0 r) y (bodies.LostHere n round gen end) ≡ lost_acts r y n false true =
       ap (λ (b : Bool). lost_acts r y n b (r.recovery.epoch == home_epoch n)) (other (λ e. absurd (omega arith))) ∙ ap (λ (c : Bool). lost_acts r y n false c) (same (sym o)) in
     record { value = value_of r y (bodies.LostHere n round gen end) _ h k refl; sent = sent_of r y (bodies.LostHere n round gen end) _ h k refl }
+
+-- ---- clean ----
+
+abbrev clean_acts : Recovering → ℕ → Summary → Bool → Bool → Acts
+clean_acts r n s b c = if b then preempt (acts0 r) s.ballot else if c then sequencer.goes_on r.spec (tells_clean r.spec (acts0 r) r.recovery.epoch s) r.recovery.epoch else acts0 r
+
+pub clean_own : (r : Recovering) (y n : ℕ) (s : Summary) → r.ending ≡ Goes → home_epoch n ≡ r.ballot → Replied r y (bodies.CleanHere n s) (preempted r s.ballot) []
+clean_own r y n s h o = preempts r y (bodies.CleanHere n s) s.ballot h (ap (λ (b : Bool). clean_acts r n s b (r.recovery.epoch == home_epoch n)) (same o))
+
+pub clean_elsewhere : (r : Recovering) (y n : ℕ) (s : Summary) → r.ending ≡ Goes → (home_epoch n ≡ r.ballot → ⊥) → (home_epoch n ≡ r.recovery.epoch → ⊥) → Replied r y (bodies.CleanHere n s) r []
+clean_elsewhere r y n s h o e = quiet r y (bodies.CleanHere n s) h (ap (λ (b : Bool). clean_acts r n s b (r.recovery.epoch == home_epoch n)) (other o) ∙ ap (λ (c : Bool). clean_acts r n s false c) (other (λ x. e (sym x))))
+
+abbrev pub done_with : Recovering → Summary → Recovering
+done_with r s = record { spec = r.spec; ballot = r.ballot; recovery = r.recovery; ending = IsDone s }
+
+pub clean_here : (r : Recovering) (y n : ℕ) (s : Summary) → r.ending ≡ Goes → (home_epoch n ≡ r.ballot → ⊥) → home_epoch n ≡ r.recovery.epoch → 1 ≤ r.recovery.epoch → Replied r y (bodies.CleanHere n s) (done_with r s) (to_each (bodies.Clean r.recovery.epoch s) (nodes_of r.spec))
+unfolding on_reply
+clean_here r y n s h o e l =
+    let a = sequencer.goes_on r.spec (tells_clean r.spec (acts0 r) r.recovery.epoch s) r.recovery.epoch in
+    let b = bodies.CleanHere n s in
+    let k : by_reply r.spec (acts0 r) y b ≡ a = ap (λ (t : Bool). clean_acts r n s t (r.recovery.epoch == home_epoch n)) (other o) ∙ ap (λ (t : Bool). clean_acts r n s false t) (same (sym e)) in
+    let shut : (r.recovery.epoch == r.recovery.epoch - 1) ≡ false = other (λ x. absurd (omega arith)) in
+    record {
+      value = ap (λ (x : Ending). when_going x (replied_with r b (reply_acts r y b)) r) h ∙ (ap (replied_with r b) k ∙ ap (λ (t : Bool). if t then goes_on r a else done_with r s) shut);
+      sent = ap (λ (x : Ending). when_going x (messages r (sent_by r (reply_acts r y b))) []) h ∙ (ap (λ x. messages r (sent_by r x)) k ∙ ap (λ (t : Bool). messages r (if t then a.asks ++ a.stores else a.cleans)) shut);
+    }
+
+-- ---- the close ----
+
+pub granted : (r : Recovering) (y : Summary) → own.close_messages r y Granted ≡ messages r (to_each (bodies.Clean r.recovery.epoch y) (nodes_of r.spec))
+unfolding after_close
+granted r y = refl
+
+behind_if : (r : Recovering) (l : ℕ) (b : Bool) → (if b then preempt (acts0 r) (l + 1) else sequencer.goes_on r.spec (acts0 r) l).sequencer.preempted ≡ (if b then Some (l + 1) else None)
+behind_if r l true = refl
+behind_if r l false = refl
+
+behind_quiet : (r : Recovering) (l : ℕ) (b : Bool) → (if b then preempt (acts0 r) (l + 1) else sequencer.goes_on r.spec (acts0 r) l).cleans ≡ []
+behind_quiet r l true = refl
+behind_quiet r l false = refl
+
+pub behind_ends : (r : Recovering) (y : Summary) (l : ℕ) → own.ending_closed r y (Behind l) ≡ own.ending_behind l (if nat_le r.ballot l then Some (l + 1) else None)
+unfolding after_close
+behind_ends r y l = ap (own.ending_behind l) (behind_if r l (nat_le r.ballot l))
+
+pub behind_sends : (r : Recovering) (y : Summary) (l : ℕ) → own.close_messages r y (Behind l) ≡ []
+unfolding after_close
+behind_sends r y l = ap (messages r) (behind_quiet r l (nat_le r.ballot l))
+
+pub fails_sends : (r : Recovering) (y : Summary) → own.close_messages r y Fails ≡ []
+unfolding after_close
+fails_sends r y = refl
+
+-- ---- other bodies ----
+
+pub other_body : (r : Recovering) (y : ℕ) (b : Body) → r.ending ≡ Goes → ((n : ℕ) → b ≡ bodies.Stored n → ⊥) → ((n k : ℕ) → b ≡ bodies.SealedHere n k → ⊥) → ((n ro g e : ℕ) → b ≡ bodies.LostHere n ro g e → ⊥) → ((n : ℕ) (s : Summary) → b ≡ bodies.CleanHere n s → ⊥) → ((n t : ℕ) → b ≡ bodies.TrimmedHere n t → ⊥) → ((f u t l : ℕ) (es : List Entry) → b ≡ bodies.DigestPage f u t l es → ⊥) → Replied r y b r []
+other_body r y (bodies.Store n l w) h a b c d e f = quiet r y (bodies.Store n l w) h refl
+other_body r y (bodies.Stored n) h a b c d e f = absurd (a n refl)
+other_body r y (bodies.SealedHere n k) h a b c d e f = absurd (b n k refl)
+other_body r y (bodies.LostHere n ro g en) h a b c d e f = absurd (c n ro g en refl)
+other_body r y (bodies.CleanHere n s) h a b c d e f = absurd (d n s refl)
+other_body r y (bodies.TrimmedHere n t) h a b c d e f = absurd (e n t refl)
+other_body r y (bodies.DigestAsk n) h a b c d e f = quiet r y (bodies.DigestAsk n) h refl
+other_body r y (bodies.DigestPage fr u t l es) h a b c d e f = absurd (f fr u t l es refl)
+other_body r y (bodies.Clean ep s) h a b c d e f = quiet r y (bodies.Clean ep s) h refl
+other_body r y (bodies.Release n) h a b c d e f = quiet r y (bodies.Release n) h refl
+other_body r y (bodies.Trim n) h a b c d e f = quiet r y (bodies.Trim n) h refl
+other_body r y (bodies.ReadAsk ro n) h a b c d e f = quiet r y (bodies.ReadAsk ro n) h refl
+other_body r y (bodies.ReadPage ro n u cl es) h a b c d e f = quiet r y (bodies.ReadPage ro n u cl es) h refl
+other_body r y (bodies.ReadEnded ro n en) h a b c d e f = quiet r y (bodies.ReadEnded ro n en) h refl
+other_body r y (bodies.ReadTrim ro n t) h a b c d e f = quiet r y (bodies.ReadTrim ro n t) h refl
+other_body r y (bodies.ReadWait ro n t) h a b c d e f = quiet r y (bodies.ReadWait ro n t) h refl
+
+-- ---- a retry ----
+
+abbrev pub again : Stage → Stage
+again (Seals d) = Seals d
+again (Stores g) = Stores (next_try g)
+again (Closes y) = Closes y
+
+abbrev pub again_sends : Spec → List ℕ → Stage → List (ℕ × Body)
+again_sends spec lost (Seals d) = digest_asks d
+again_sends spec lost (Stores g) = item_stores spec lost (next_wave g.wave) g.items
+again_sends spec lost (Closes y) = []
+
+abbrev again_acts : Recovering → Stage → Acts
+again_acts r s = retries_stage r.spec (retries_appends r.spec (acts0 r)) r.recovery s
+
+again_moves : (r : Recovering) (s : Stage) → r.recovery.stage ≡ s → goes_on r (again_acts r s) ≡ going r (with_stage r.recovery (again s))
+again_moves r (Seals d) h = ap (λ (s : Stage). going r (with_stage r.recovery s)) h
+again_moves r (Stores g) h = refl
+again_moves r (Closes y) h = ap (λ (s : Stage). going r (with_stage r.recovery s)) h
+
+again_open : (r : Recovering) (s : Stage) → (again_acts r s).sequencer.lce ≡ r.recovery.epoch - 1
+again_open r (Seals d) = refl
+again_open r (Stores g) = refl
+again_open r (Closes y) = refl
+
+again_sent : (r : Recovering) (s : Stage) → (again_acts r s).asks ++ (again_acts r s).stores ≡ again_sends r.spec r.recovery.lost s
+again_sent r (Seals d) = append-nil (digest_asks d)
+again_sent r (Stores g) = append-nil (item_stores r.spec r.recovery.lost (next_wave g.wave) g.items)
+again_sent r (Closes y) = refl
+
+pub retried_is : (r : Recovering) → r.ending ≡ Goes → own.retried r ≡ going r (with_stage r.recovery (again r.recovery.stage))
+unfolding on_retry
+retried_is r h = ap (λ (x : Ending). when_going x (goes_on r (on_retry r.spec (as_sequencer r))) r) h ∙ again_moves r r.recovery.stage refl
+
+pub retry_sent : (r : Recovering) → r.ending ≡ Goes → own.retry_messages r ≡ messages r (again_sends r.spec r.recovery.lost r.recovery.stage)
+unfolding on_retry
+retry_sent r h = ap (λ (x : Ending). when_going x (messages r (sent_by r (on_retry r.spec (as_sequencer r)))) []) h
+    ∙ (ap (λ (t : Bool). messages r (if t then (again_acts r r.recovery.stage).asks ++ (again_acts r r.recovery.stage).stores else (again_acts r r.recovery.stage).cleans)) (same (again_open r r.recovery.stage)) ∙ ap (messages r) (again_sent r r.recovery.stage))

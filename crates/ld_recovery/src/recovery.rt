@@ -1,5 +1,5 @@
 // The recovery of an epoch.
-ghost use Rattle.std.specs.Prelude.{◌≡◌, ◌≤◌, ◌<◌, ◌+◌, ◌-◌, ◌^◌, ◌++◌, [], ℕ, nat_le, if◌then◌else◌, Some, None, IfOk, OnOk};
+ghost use Rattle.std.specs.Prelude.{◌≡◌, ◌≤◌, ◌<◌, ◌+◌, ◌-◌, ◌^◌, ◌++◌, [], ℕ, true, nat_le, if◌then◌else◌, Some, None, IfOk, OnOk};
 ghost use Rattle.ld_ids.specs.declared.set.Spec.{Spec as Config};
 ghost use Rattle.ld_ids.specs.Choice.{at_epoch};
 ghost use Rattle.ld_msg.specs.declared.msg.Summary.{Summary as Told};
@@ -14,7 +14,7 @@ ghost use Rattle.ld_recovery.specs.Recovering.{Goes, is_going, started, replied,
 ghost use Rattle.ld_recovery.specs.States.{state_of, answer_of, is_epoch_answer, shown_ending};
 
 use crate::send::Sender;
-use crate::stage::{Scope, Stage, nothing, on_page};
+use crate::stage::{Scope, Stage};
 use crate::state::{Answer, State};
 use ld_copyset::NodeList;
 use ld_digest::{Digest, Page};
@@ -23,7 +23,6 @@ use ld_lsn::Lsn;
 use ld_msg::{Body, Msg, Outbox, Summary, Who};
 use std::alloc::Global;
 use std::marker::Model;
-use std::mem;
 
 /// How a recovery ended, where it did.
 #[derive(Clone, Copy, Debug, PartialEq, Eq)]
@@ -259,7 +258,6 @@ impl Recovery {
         ensures sent { (lng : ℕ) → OnOk result (out.new ≡ out.old ++ reply_messages self.old node (DigestPage page.now.from page.now.upto page.now.trim lng page.now.entries.now)) }
     {
         if page.from.epoch() == self.epoch {
-            let stage = mem::replace(&mut self.stage, nothing());
             let sender = self.sender();
             let scope = Scope {
                 spec: &self.spec,
@@ -267,8 +265,7 @@ impl Recovery {
                 epoch: self.epoch,
                 lost: &self.lost,
             };
-            let stage = on_page(alloc, stage, &scope, node, page, out)?;
-            self.stage = stage;
+            self.stage.take_page(alloc, &scope, node, page, out)?;
         }
         Ok(())
     }
@@ -281,9 +278,7 @@ impl Recovery {
     {
         if self.goes_on() {
             let sender = self.sender();
-            let stage = mem::replace(&mut self.stage, nothing());
-            let stage = stage.retry(alloc, &sender, &self.lost, out)?;
-            self.stage = stage;
+            self.stage.try_again(alloc, &sender, &self.lost, out)?;
         }
         Ok(())
     }

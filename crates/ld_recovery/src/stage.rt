@@ -106,6 +106,45 @@ impl Stage {
         *self = stage.on_lost(node);
     }
 
+    /// What is still wanted is asked for again. Without memory a part may have been sent, and the stage is lost.
+    pub(crate) fn try_again(
+        &mut self,
+        alloc: Global,
+        sender: &Sender,
+        lost: &NodeList,
+        out: &mut Outbox,
+    ) -> Result<(), NoMemory>
+        ensures shown { OnOk result (shown self.new ≡ retried_stage self.old) }
+        ensures of { (spec : Config) (epoch : ℕ) → IsOf spec epoch self.old → IsOf spec epoch self.new }
+        ensures sent { OnOk result (out.new ≡ out.old ++ sent sender.now (retry_sends lost.now self.old)) }
+    {
+        let stage = mem::replace(self, nothing());
+        *self = stage.retry(alloc, sender, lost, out)?;
+        Ok(())
+    }
+
+    /// A page of the node comes. Without memory a part of what is to be sent may have been, and the stage is lost.
+    pub(crate) fn take_page(
+        &mut self,
+        alloc: Global,
+        scope: &Scope,
+        node: NodeId,
+        page: &Page,
+        out: &mut Outbox,
+    ) -> Result<(), NoMemory>
+        requires factor { 1 ≤ scope.now.spec.now.r }
+        requires upto { page.now.upto < 2 ^ 64 - 1 }
+        requires entries { AreInPlace page.now.entries.now }
+        requires of { IsOf scope.now.spec.now scope.now.epoch self.old }
+        ensures shown { OnOk result (shown self.new ≡ page_stage self.old node page.now.from page.now.upto page.now.trim page.now.entries.now) }
+        ensures of { IsOf scope.now.spec.now scope.now.epoch self.new }
+        ensures sent { OnOk result (out.new ≡ out.old ++ sent scope.now.sender.now (page_sends scope.now.lost.now self.old node page.now.from page.now.upto page.now.trim page.now.entries.now)) }
+    {
+        let stage = mem::replace(self, nothing());
+        *self = on_page(alloc, stage, scope, node, page, out)?;
+        Ok(())
+    }
+
     /// The summary with which the epoch is to be closed, once the plan is stored.
     pub(crate) fn summary(&self) -> Option<Summary>
         ensures { result ≡ summary_in (shown self.now) }
@@ -129,7 +168,7 @@ impl Stage {
     }
 
     /// What is still wanted is asked for again. Without memory a part may have been sent.
-    pub(crate) fn retry(
+    fn retry(
         self,
         alloc: Global,
         sender: &Sender,
@@ -176,8 +215,8 @@ pub(crate) struct Scope<'a> {
     pub(crate) lost: &'a NodeList,
 }
 
-/// A page of the node comes. Without memory a part of what is to be sent may have been.
-pub(crate) fn on_page(
+// A page of the node comes. Without memory a part of what is to be sent may have been.
+fn on_page(
     alloc: Global,
     stage: Stage,
     scope: &Scope,
@@ -286,7 +325,7 @@ fn store(
 }
 
 // A stage that stands in for one that is being changed.
-pub(crate) fn nothing() -> Stage
+fn nothing() -> Stage
     ensures { (spec : Config) (epoch : ℕ) → IsOf spec epoch result }
 {
     Stage::Closes(Summary {
