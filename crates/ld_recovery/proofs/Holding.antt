@@ -4,6 +4,9 @@ use Rattle.ld_table.specs.Words.{with_one}
 use Rattle.ld_ids.specs.declared.set.Spec.{Spec}
 use Rattle.ld_msg.specs.declared.msg.Msg.{Msg}
 use Rattle.ld_msg.specs.declared.msg.Body.{Body}
+use Rattle.ld_lsn.specs.Number.{epoch_of}
+use Rattle.ld_msg.specs.declared.msg.Entry.{Entry}
+use Rattle.ld_msg.specs.declared.msg.Body.TheVariants as bodies
 use Rattle.ld_msg.specs.declared.msg.Summary.{Summary}
 use Rattle.ld_msg.specs.declared.msg.Who.TheVariants as whos
 use Rattle.ld_msg.specs.Network.{posted}
@@ -15,9 +18,9 @@ use Rattle.ld_recovery.specs.declared.stage.Stage.{Stage}
 use Rattle.ld_recovery.specs.declared.stage.Stage.TheVariants.{Seals, Stores, Closes}
 use Rattle.ld_recovery.specs.declared.recovery.Ending as declared
 use Rattle.ld_recovery.specs.Recovering.{Recovering, Ending, Goes, IsDone, IsGone, IsPreempted, is_going, replied, reply_messages, messages, retried, retry_messages}
-use Rattle.ld_recovery.specs.Stages.{shown, IsOf, settled, retried_stage, retry_sends}
+use Rattle.ld_recovery.specs.Stages.{shown, IsOf, settled, retried_stage, retry_sends, page_stage, page_sends}
 use Rattle.ld_recovery.specs.States.{shown_ending, summary_in}
-use Rattle.ld_recovery.proofs.Replies.{Replied, going, with_stage, settled_in, lost_too, again, again_sends, retried_is, retry_sent}
+use Rattle.ld_recovery.proofs.Replies.{Replied, going, with_stage, settled_in, lost_too, again, again_sends, retried_is, retry_sent, page_in, page_out, page_here}
 
 abbrev pub held : Spec → ℕ → ℕ → List ℕ → Stage → declared.Ending → Recovering
 held spec epoch ballot lost s e = record { spec = spec; ballot = ballot; recovery = record { epoch = epoch; lost = lost; stage = shown s }; ending = shown_ending e }
@@ -71,3 +74,28 @@ goes_if Goes h = refl
 goes_if (IsDone s) h = absurd cc
 goes_if (IsGone l) h = absurd cc
 goes_if (IsPreempted k) h = absurd cc
+
+page_shown : (spec : Spec) (epoch y from upto trim : ℕ) (es : List Entry) (s : Stage) → IsOf spec epoch s → page_stage s y from upto trim es ≡ page_in spec epoch y from upto trim es (shown s)
+page_shown spec epoch y from upto trim es (Seals d) h =
+    ap (λ (x : Spec). page_in x d.epoch y from upto trim es (sequencer.Seals d.told)) h.0 ∙ ap (λ (n : ℕ). page_in spec n y from upto trim es (sequencer.Seals d.told)) h.1
+page_shown spec epoch y from upto trim es (Stores g) h = refl
+page_shown spec epoch y from upto trim es (Closes z) h = refl
+
+page_told : (spec : Spec) (epoch : ℕ) (lost : List ℕ) (y from upto trim : ℕ) (es : List Entry) (s : Stage) → IsOf spec epoch s → page_sends lost s y from upto trim es ≡ page_out spec epoch lost y from upto trim es (shown s)
+page_told spec epoch lost y from upto trim es (Seals d) h =
+    ap (λ (x : Spec). page_out x d.epoch lost y from upto trim es (sequencer.Seals d.told)) h.0 ∙ ap (λ (n : ℕ). page_out spec n lost y from upto trim es (sequencer.Seals d.told)) h.1
+page_told spec epoch lost y from upto trim es (Stores g) h = refl
+page_told spec epoch lost y from upto trim es (Closes z) h = refl
+
+pub page_value : (spec : Spec) (epoch ballot : ℕ) (lost : List ℕ) (s t : Stage) (e : declared.Ending) (y from upto trim lng : ℕ) (es : List Entry) → shown_ending e ≡ Goes → IsOf spec epoch s → epoch_of from ≡ epoch → shown t ≡ page_stage s y from upto trim es
+    → held spec epoch ballot lost t e ≡ replied (held spec epoch ballot lost s e) y (bodies.DigestPage from upto trim lng es)
+page_value spec epoch ballot lost s t e y from upto trim lng es h o n m =
+    ap (λ (x : sequencer.Stage). record { spec = spec; ballot = ballot; recovery = record { epoch = epoch; lost = lost; stage = x }; ending = shown_ending e }) (m ∙ page_shown spec epoch y from upto trim es s o)
+    ∙ (ap (λ (x : Ending). record { spec = spec; ballot = ballot; recovery = record { epoch = epoch; lost = lost; stage = page_in spec epoch y from upto trim es (shown s) }; ending = x }) h
+    ∙ sym (page_here (held spec epoch ballot lost s e) y from upto trim lng es h n).value)
+
+pub page_sends_are : (spec : Spec) (epoch ballot : ℕ) (lost : List ℕ) (s : Stage) (e : declared.Ending) (x : Sender) (y from upto trim lng : ℕ) (es : List Entry) → shown_ending e ≡ Goes → IsOf spec epoch s → epoch_of from ≡ epoch → x.log ≡ spec.log → x.epoch ≡ ballot
+    → sent x (page_sends lost s y from upto trim es) ≡ reply_messages (held spec epoch ballot lost s e) y (bodies.DigestPage from upto trim lng es)
+page_sends_are spec epoch ballot lost s e x y from upto trim lng es h o n l b =
+    ap (sent x) (page_told spec epoch lost y from upto trim es s o)
+    ∙ (sent_is x (held spec epoch ballot lost s e) (page_out spec epoch lost y from upto trim es (shown s)) l b ∙ sym (page_here (held spec epoch ballot lost s e) y from upto trim lng es h n).sent)

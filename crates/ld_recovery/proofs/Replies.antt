@@ -13,7 +13,8 @@ use Rattle.ld_msg.specs.declared.msg.Body.{Body}
 use Rattle.ld_msg.specs.declared.msg.Body.TheVariants as bodies
 use Rattle.ld_msg.specs.Sequencer as sequencer
 use Rattle.ld_msg.specs.Register.{Granted, Behind, Fails}
-use Rattle.ld_msg.specs.Sequencer.{retries_stage, retries_appends, next_try, next_wave, digest_asks, item_stores, try_close, tells_clean, after_close, Sequencer, Append, Recovery, Stage, Seals, Stores, Closes, Storing, Acts, does_nothing, by_reply, on_reply, on_retry, acks_append, in_recovery, settles, closes_ready, settled_by, is_ready, summary_of, recovery_lost, lost_stage, preempt, becomes, to_each, digests}
+use Rattle.ld_msg.specs.Digest.{Told, with_page, enough, plan}
+use Rattle.ld_msg.specs.Sequencer.{takes_any, next_ask, storing_of, planned, stores_plan, retries_stage, retries_appends, next_try, next_wave, digest_asks, item_stores, try_close, tells_clean, after_close, Sequencer, Append, Recovery, Stage, Seals, Stores, Closes, Storing, Acts, does_nothing, by_reply, on_reply, on_retry, acks_append, in_recovery, settles, closes_ready, settled_by, is_ready, summary_of, recovery_lost, lost_stage, preempt, becomes, to_each, digests}
 use Rattle.ld_recovery.specs.Recovering as own
 use Rattle.ld_recovery.specs.Recovering.{Recovering, Ending, Goes, IsDone, IsPreempted, as_sequencer, goes_on, ended, is_open, replied, replied_with, reply_acts, reply_messages, sent_by, messages, when_going, ending_told, summary_told}
 
@@ -252,3 +253,51 @@ pub retry_sent : (r : Recovering) → r.ending ≡ Goes → own.retry_messages r
 unfolding on_retry
 retry_sent r h = ap (λ (x : Ending). when_going x (messages r (sent_by r (on_retry r.spec (as_sequencer r)))) []) h
     ∙ (ap (λ (t : Bool). messages r (if t then (again_acts r r.recovery.stage).asks ++ (again_acts r r.recovery.stage).stores else (again_acts r r.recovery.stage).cleans)) (same (again_open r r.recovery.stage)) ∙ ap (messages r) (again_sent r r.recovery.stage))
+
+-- ---- pages ----
+
+abbrev page_stages : Spec → ℕ → List Told → List Told → Bool → Bool → Stage
+page_stages spec epoch d new b c = if b then (if c then Stores (storing_of (plan epoch new)) else Seals new) else Seals d
+
+abbrev page_outs : Spec → ℕ → List ℕ → ℕ → List Told → Bool → Bool → List (ℕ × Body)
+page_outs spec epoch lost y new b c = if b then (if c then item_stores spec lost 0 (planned (plan epoch new).items) else next_ask y new) else []
+
+abbrev pub page_in : Spec → ℕ → ℕ → ℕ → ℕ → ℕ → List Entry → Stage → Stage
+page_in spec epoch y from upto trim es (Seals d) = if takes_any y from d then (if enough spec (with_page epoch y from upto trim es d) then Stores (storing_of (plan epoch (with_page epoch y from upto trim es d))) else Seals (with_page epoch y from upto trim es d)) else Seals d
+page_in spec epoch y from upto trim es (Stores g) = Stores g
+page_in spec epoch y from upto trim es (Closes s) = Closes s
+
+abbrev pub page_out : Spec → ℕ → List ℕ → ℕ → ℕ → ℕ → ℕ → List Entry → Stage → List (ℕ × Body)
+page_out spec epoch lost y from upto trim es (Seals d) = if takes_any y from d then (if enough spec (with_page epoch y from upto trim es d) then item_stores spec lost 0 (planned (plan epoch (with_page epoch y from upto trim es d)).items) else next_ask y (with_page epoch y from upto trim es d)) else []
+page_out spec epoch lost y from upto trim es (Stores g) = []
+page_out spec epoch lost y from upto trim es (Closes s) = []
+
+record Pages (r : Recovering) (a : Acts) (v : Recovery) (bs : List (ℕ × Body)) : Type 0 where
+  value : goes_on r a ≡ going r v
+  lce : a.sequencer.lce ≡ r.recovery.epoch - 1
+  sent : a.asks ++ a.stores ≡ bs
+
+abbrev page_acts : Recovering → ℕ → List Told → Bool → Bool → Acts
+page_acts r y new b c = if b then (if c then stores_plan r.spec (acts0 r) r.recovery (plan r.recovery.epoch new) else record (acts0 r) { sequencer = sequencer.with_stage (as_sequencer r) r.recovery (Seals new); asks = next_ask y new }) else acts0 r
+
+pages_if : (r : Recovering) (y : ℕ) (d new : List Told) (b c : Bool) → r.recovery.stage ≡ Seals d → Pages r (page_acts r y new b c) (with_stage r.recovery (page_stages r.spec r.recovery.epoch d new b c)) (page_outs r.spec r.recovery.epoch r.recovery.lost y new b c)
+pages_if r y d new true true h = record { value = refl; lce = refl; sent = refl }
+pages_if r y d new true false h = record { value = refl; lce = refl; sent = append-nil (next_ask y new) }
+pages_if r y d new false c h = record { value = ap (λ (s : Stage). going r (with_stage r.recovery s)) h; lce = refl; sent = refl }
+
+pages : (r : Recovering) (y from upto trim : ℕ) (es : List Entry) (s : Stage) → r.recovery.stage ≡ s → Pages r (digests r.spec (acts0 r) r.recovery y from upto trim es s) (with_stage r.recovery (page_in r.spec r.recovery.epoch y from upto trim es s)) (page_out r.spec r.recovery.epoch r.recovery.lost y from upto trim es s)
+pages r y from upto trim es (Seals d) h = pages_if r y d (with_page r.recovery.epoch y from upto trim es d) (takes_any y from d) (enough r.spec (with_page r.recovery.epoch y from upto trim es d)) h
+pages r y from upto trim es (Stores g) h = record { value = ap (λ (s : Stage). going r (with_stage r.recovery s)) h; lce = refl; sent = refl }
+pages r y from upto trim es (Closes z) h = record { value = ap (λ (s : Stage). going r (with_stage r.recovery s)) h; lce = refl; sent = refl }
+
+pub page_here : (r : Recovering) (y from upto trim lng : ℕ) (es : List Entry) → r.ending ≡ Goes → epoch_of from ≡ r.recovery.epoch
+    → Replied r y (bodies.DigestPage from upto trim lng es) (going r (with_stage r.recovery (page_in r.spec r.recovery.epoch y from upto trim es r.recovery.stage))) (page_out r.spec r.recovery.epoch r.recovery.lost y from upto trim es r.recovery.stage)
+page_here r y from upto trim lng es h o =
+    let b = bodies.DigestPage from upto trim lng es in
+    let a = digests r.spec (acts0 r) r.recovery y from upto trim es r.recovery.stage in
+    let k : by_reply r.spec (acts0 r) y b ≡ a = ap (λ (t : Bool). if t then digests r.spec (acts0 r) r.recovery y from upto trim es r.recovery.stage else acts0 r) (same (sym o)) in
+    let m = pages r y from upto trim es r.recovery.stage refl in
+    record { value = value_of r y b a h k m.lce ∙ m.value; sent = sent_of r y b a h k m.lce ∙ ap (messages r) m.sent }
+
+pub page_elsewhere : (r : Recovering) (y from upto trim lng : ℕ) (es : List Entry) → r.ending ≡ Goes → (epoch_of from ≡ r.recovery.epoch → ⊥) → Replied r y (bodies.DigestPage from upto trim lng es) r []
+page_elsewhere r y from upto trim lng es h o = quiet r y (bodies.DigestPage from upto trim lng es) h (ap (λ (t : Bool). if t then digests r.spec (acts0 r) r.recovery y from upto trim es r.recovery.stage else acts0 r) (other (λ e. o (sym e))))
