@@ -17,9 +17,10 @@ use Rattle.ld_msg.specs.Sequencer.{is_ready, summary_of, settled_by, lost_stage,
 use Rattle.ld_recovery.specs.declared.stage.Stage.{Stage}
 use Rattle.ld_recovery.specs.declared.stage.Stage.TheVariants.{Seals, Stores, Closes}
 use Rattle.ld_recovery.specs.declared.recovery.Ending as declared
-use Rattle.ld_recovery.specs.Recovering.{Recovering, Ending, Goes, IsDone, IsGone, IsPreempted, is_going, replied, reply_messages, messages, retried, retry_messages}
+use Rattle.ld_recovery.specs.declared.state.State.TheVariants as states
+use Rattle.ld_recovery.specs.Recovering.{Recovering, Ending, Goes, IsDone, IsGone, IsPreempted, is_going, Closing, replied, reply_messages, messages, retried, retry_messages}
 use Rattle.ld_recovery.specs.Stages.{shown, IsOf, settled, retried_stage, retry_sends, page_stage, page_sends}
-use Rattle.ld_recovery.specs.States.{shown_ending, summary_in}
+use Rattle.ld_recovery.specs.States.{shown_ending, summary_in, state_by, state_of}
 use Rattle.ld_recovery.proofs.Replies.{Replied, going, with_stage, settled_in, lost_too, again, again_sends, retried_is, retry_sent, page_in, page_out, page_here}
 
 abbrev pub held : Spec → ℕ → ℕ → List ℕ → Stage → declared.Ending → Recovering
@@ -99,3 +100,15 @@ pub page_sends_are : (spec : Spec) (epoch ballot : ℕ) (lost : List ℕ) (s : S
 page_sends_are spec epoch ballot lost s e x y from upto trim lng es h o n l b =
     ap (sent x) (page_told spec epoch lost y from upto trim es s o)
     ∙ (sent_is x (held spec epoch ballot lost s e) (page_out spec epoch lost y from upto trim es (shown s)) l b ∙ sym (page_here (held spec epoch ballot lost s e) y from upto trim lng es h n).sent)
+
+closing_if : (e : Ending) (s : sequencer.Stage) (y : Summary) → state_by e s ≡ states.Closing y → (e ≡ Goes) × (s ≡ sequencer.Closes y)
+closing_if Goes (sequencer.Seals d) y h = absurd cc
+closing_if Goes (sequencer.Stores g) y h = absurd cc
+closing_if Goes (sequencer.Closes z) y h = let k : z ≡ y = cc in (refl, ap sequencer.Closes k)
+closing_if (IsDone z) s y h = absurd cc
+closing_if (IsGone l) s y h = absurd cc
+closing_if (IsPreempted k) s y h = absurd cc
+
+-- a state that shows a close is one of a recovery that is closing
+pub closing_is : (r : Recovering) (y : Summary) → state_of r ≡ states.Closing y → Closing r y
+closing_is r y h = closing_if r.ending r.recovery.stage y h

@@ -7,6 +7,8 @@ mod send;
 mod stage;
 mod state;
 mod storing;
+#[cfg(test)]
+mod tests;
 
 pub use planned::Planned;
 pub use recovery::Recovery;
