@@ -1,8 +1,7 @@
 -- A recovery as its fields hold it.
-use Rattle.std.proofs.Common.{◌≡◌, ◌≤◌, ◌<◌, ℕ, Bool, true, Some, None, List, [], ◌∷◌, ◌++◌, if◌then◌else◌, refl, ap, sym, subst, ◌∙◌, append-nil}
+use Rattle.std.proofs.Common.{◌≡◌, ℕ, Bool, true, Some, List, [], if◌then◌else◌, refl, ap, sym, ◌∙◌}
 use Rattle.ld_table.specs.Words.{with_one}
 use Rattle.ld_ids.specs.declared.set.Spec.{Spec}
-use Rattle.ld_msg.specs.declared.msg.Msg.{Msg}
 use Rattle.ld_msg.specs.declared.msg.Body.{Body}
 use Rattle.ld_lsn.specs.Number.{epoch_of}
 use Rattle.ld_msg.specs.declared.msg.Entry.{Entry}

@@ -1,5 +1,5 @@
 -- Messages in the order of sending.
-use Rattle.std.proofs.Common.{◌≡◌, ℕ, zero, suc, ◌+◌, ◌<◌, Bool, true, false, List, [], ◌∷◌, ◌++◌, length, drop, get_or, Some, None, nat_lt, if◌then◌else◌, refl, ap, sym, ◌∙◌, append_assoc, append-nil, arith, add-one}
+use Rattle.std.proofs.Common.{◌≡◌, ℕ, zero, suc, ◌+◌, ◌<◌, Bool, true, false, List, [], ◌∷◌, ◌++◌, length, drop, get_or, Some, None, if◌then◌else◌, refl, ap, sym, ◌∙◌, append_assoc, append-nil, arith, add-one}
 use Rattle.std.specs.List.{slice_get}
 use Rattle.ld_ids.specs.declared.set.Spec.{Spec}
 use Rattle.ld_msg.specs.declared.msg.Msg.{Msg}

@@ -1,5 +1,5 @@
 -- What a reply does to a recovery that goes on.
-use Rattle.std.proofs.Common.{◌≡◌, ◌≤◌, ◌<◌, ◌≢◌, ℕ, ◌+◌, ◌-◌, Bool, true, false, ◌==◌, nat_lt, nat_le, List, [], ◌∷◌, ◌++◌, append-nil, Option, Some, None, if◌then◌else◌, refl, ap, sym, ◌∙◌, arith}
+use Rattle.std.proofs.Common.{◌≡◌, ◌≤◌, ◌<◌, ℕ, ◌+◌, ◌-◌, Bool, true, false, ◌==◌, nat_lt, nat_le, List, [], ◌++◌, append-nil, Some, None, if◌then◌else◌, refl, ap, sym, ◌∙◌, arith}
 use Rattle.std.proofs.lemmas.Bool.Decides.{nat_tests}
 use Rattle.ld_table.specs.Table.{find}
 use Rattle.ld_table.specs.Words.{with_one}
@@ -140,7 +140,7 @@ lost_elsewhere r y n round gen end h o = lost_quiet r y n round gen end (home_ep
 pub lost_here : (r : Recovering) (y n round gen end : ℕ) → r.ending ≡ Goes → home_epoch n ≡ r.recovery.epoch → r.recovery.epoch < r.ballot → Replied r y (bodies.LostHere n round gen end) (lost_too r y) []
 lost_here r y n round gen end h o l =
     let k : by_reply r.spec (acts0 r) y (bodies.LostHere n round gen end) ≡ lost_acts r y n false true =
-      ap (λ (b : Bool). lost_acts r y n b (r.recovery.epoch == home_epoch n)) (other (λ e. absurd (omega arith))) ∙ ap (λ (c : Bool). lost_acts r y n false c) (same (sym o)) in
+    ap (λ (b : Bool). lost_acts r y n b (r.recovery.epoch == home_epoch n)) (other (λ e. absurd (omega arith))) ∙ ap (λ (c : Bool). lost_acts r y n false c) (same (sym o)) in
     record { value = value_of r y (bodies.LostHere n round gen end) _ h k refl; sent = sent_of r y (bodies.LostHere n round gen end) _ h k refl }
 
 -- ---- clean ----

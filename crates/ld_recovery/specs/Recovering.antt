@@ -1,5 +1,5 @@
 -- The recovery of an epoch on its own, and the sequencer that it is a part of.
-use Rattle.std.specs.Prelude.{ℕ, ◌≡◌, ◌<◌, ◌+◌, ◌-◌, ◌^◌, List, [], ◌∷◌, ◌++◌, Option, Some, None, Bool, true, false, ◌==◌, if◌then◌else◌}
+use Rattle.std.specs.Prelude.{ℕ, ◌≡◌, ◌<◌, ◌-◌, ◌^◌, List, [], ◌++◌, Option, Some, None, Bool, true, false, ◌==◌, if◌then◌else◌}
 use Rattle.ld_ids.specs.declared.set.Spec.{Spec}
 use Rattle.ld_ids.specs.Choice.{at_epoch}
 use Rattle.ld_msg.specs.declared.msg.Who.{Who}
@@ -11,8 +11,7 @@ use Rattle.ld_msg.specs.declared.msg.Body.TheVariants as bodies
 use Rattle.ld_msg.specs.Digest.{no_digest}
 use Rattle.ld_msg.specs.Network.{posted}
 use Rattle.ld_msg.specs.Register.{Answer, Granted, AtLimit, Behind, Fails}
-use Rattle.ld_msg.specs.Sequencer as sequencer
-use Rattle.ld_msg.specs.Sequencer.{Sequencer, Recovery, Stage, Seals, Stores, Closes, Acts, does_nothing, on_reply, on_retry, after_close, digest_asks}
+use Rattle.ld_msg.specs.Sequencer.{Sequencer, Recovery, Seals, Closes, Acts, does_nothing, on_reply, on_retry, after_close}
 use Rattle.ld_digest.specs.Gathering.{AreInPlace}
 
 -- how a recovery ended, where it did

@@ -107,12 +107,7 @@ impl Recovery {
     /// for a seal of a greater ballot and a close of the sequencer's own epoch, which preempt. The page of a digest ends
     /// before the greatest number, and only a bridge may stand at the last place of an epoch. Without memory a part may
     /// have been done: the recovery isn't used again.
-    pub fn on_reply(
-        &mut self,
-        alloc: Global,
-        msg: &Msg,
-        out: &mut Outbox,
-    ) -> Result<(), NoMemory>
+    pub fn on_reply(&mut self, alloc: Global, msg: &Msg, out: &mut Outbox) -> Result<(), NoMemory>
         requires node { IsNodeHere msg.now.from }
         requires page { IsInPlace msg.now.body }
         ensures value { OnOk result (self.new ≡ replied self.old (sender_of msg.now.from) msg.now.body) }

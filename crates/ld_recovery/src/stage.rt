@@ -306,12 +306,7 @@ fn asked_on(
 }
 
 // What has been told is planned, and the plan is sent in its first wave.
-fn store(
-    alloc: Global,
-    digest: Digest,
-    scope: &Scope,
-    out: &mut Outbox,
-) -> Result<Stage, NoMemory>
+fn store(alloc: Global, digest: Digest, scope: &Scope, out: &mut Outbox) -> Result<Stage, NoMemory>
     requires factor { 1 ≤ scope.now.spec.now.r }
     requires of { (digest.spec ≡ scope.now.spec.now) × (digest.epoch ≡ scope.now.epoch) }
     ensures of { IfOk result (λ stage'. IsOf scope.now.spec.now scope.now.epoch stage') }

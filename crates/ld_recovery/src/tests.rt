@@ -82,16 +82,51 @@ fn enough_pages_are_planned_stored_and_closed(rt: HostRuntime) -> Result<(), Fai
         let mut out = Outbox::empty(alloc);
         let mut recovery = Recovery::start(alloc, &spec, 1, 2, &mut out)?;
         assert!(rt; out.len() == 3);
-        comes(alloc, &mut recovery, log, one, nothing_there(alloc), &mut out)?;
+        comes(
+            alloc,
+            &mut recovery,
+            log,
+            one,
+            nothing_there(alloc),
+            &mut out,
+        )?;
         assert!(rt; recovery.state() == State::Sealing);
-        comes(alloc, &mut recovery, log, two, nothing_there(alloc), &mut out)?;
+        comes(
+            alloc,
+            &mut recovery,
+            log,
+            two,
+            nothing_there(alloc),
+            &mut out,
+        )?;
         assert!(rt; recovery.state() == State::Storing);
         assert!(rt; out.len() == 5);
         let number = Lsn::new(1, 1);
-        comes(alloc, &mut recovery, log, three, Body::Stored { number }, &mut out)?;
-        comes(alloc, &mut recovery, log, three, Body::Stored { number }, &mut out)?;
+        comes(
+            alloc,
+            &mut recovery,
+            log,
+            three,
+            Body::Stored { number },
+            &mut out,
+        )?;
+        comes(
+            alloc,
+            &mut recovery,
+            log,
+            three,
+            Body::Stored { number },
+            &mut out,
+        )?;
         assert!(rt; recovery.state() == State::Storing);
-        comes(alloc, &mut recovery, log, one, Body::Stored { number }, &mut out)?;
+        comes(
+            alloc,
+            &mut recovery,
+            log,
+            one,
+            Body::Stored { number },
+            &mut out,
+        )?;
         assert!(rt; recovery.state() == State::Closing(nothing_stored()));
     }
     Ok(())
@@ -119,10 +154,38 @@ fn stored(
 {
     let number = Lsn::new(1, 1);
     let mut recovery = Recovery::start(alloc, spec, 1, 2, out)?;
-    comes(alloc, &mut recovery, spec.log, one, nothing_there(alloc), out)?;
-    comes(alloc, &mut recovery, spec.log, two, nothing_there(alloc), out)?;
-    comes(alloc, &mut recovery, spec.log, one, Body::Stored { number }, out)?;
-    comes(alloc, &mut recovery, spec.log, two, Body::Stored { number }, out)?;
+    comes(
+        alloc,
+        &mut recovery,
+        spec.log,
+        one,
+        nothing_there(alloc),
+        out,
+    )?;
+    comes(
+        alloc,
+        &mut recovery,
+        spec.log,
+        two,
+        nothing_there(alloc),
+        out,
+    )?;
+    comes(
+        alloc,
+        &mut recovery,
+        spec.log,
+        one,
+        Body::Stored { number },
+        out,
+    )?;
+    comes(
+        alloc,
+        &mut recovery,
+        spec.log,
+        two,
+        Body::Stored { number },
+        out,
+    )?;
     Ok(recovery)
 }
 

@@ -1,5 +1,4 @@
-use Rattle.std.proofs.Common.{◌≡◌, false, subst}
-use Rattle.ld_msg.specs.Sequencer.{takes_any}
+use Rattle.std.proofs.Common.{subst}
 use Rattle.ld_digest.specs.declared.added.Added.{Added}
 use Rattle.ld_digest.specs.Added.{IsAdded}
 use Rattle.ld_recovery.proofs.Digesting.{ignored}

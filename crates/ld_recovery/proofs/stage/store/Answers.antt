@@ -1,4 +1,4 @@
-use Rattle.std.proofs.Common.{◌≡◌, ◌∙◌, ap, subst, sym}
+use Rattle.std.proofs.Common.{ap}
 use Rattle.ld_msg.specs.Digest.{Plan}
 use Rattle.ld_recovery.proofs.Settling.{from_planned}
 use Rattle.ld_recovery.proofs.stage.store.Goals as goal

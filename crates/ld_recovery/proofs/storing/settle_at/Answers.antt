@@ -1,4 +1,3 @@
-use Rattle.std.proofs.Common.{◌≡◌, ◌∙◌, ap, sym, arith}
 use Rattle.ld_recovery.proofs.Settling.{settles_at, counts_at}
 use Rattle.ld_recovery.proofs.storing.settle_at.Goals as goal
 

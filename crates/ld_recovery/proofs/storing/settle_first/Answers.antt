@@ -1,5 +1,5 @@
 use Rattle.std.proofs.Common.{arith}
-use Rattle.ld_recovery.proofs.Settling.{first_at_zero, first_counted, all_place, places_then}
+use Rattle.ld_recovery.proofs.Settling.{first_at_zero, all_place, places_then}
 use Rattle.ld_recovery.proofs.storing.settle_first.Goals as goal
 
 pub items-init : goal.items-init

@@ -1,4 +1,4 @@
-use Rattle.std.proofs.Common.{◌≡◌, ◌-◌, ◌∙◌, refl, ap, sym, arith}
+use Rattle.std.proofs.Common.{◌-◌, refl, sym, arith}
 use Rattle.ld_recovery.proofs.Settling.{settle_below, none_there, one_there}
 use Rattle.ld_recovery.proofs.storing.settle_number.Goals as goal
 

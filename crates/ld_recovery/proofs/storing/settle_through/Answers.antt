@@ -1,4 +1,4 @@
-use Rattle.std.proofs.Common.{◌≡◌, ◌∙◌, ap, sym, arith, min, length, ◌+◌, ◌-◌}
+use Rattle.std.proofs.Common.{◌≡◌, ◌∙◌, ap, arith, min, length, ◌+◌, ◌-◌}
 use Rattle.ld_recovery.proofs.Settling.{through}
 use Rattle.ld_recovery.proofs.storing.settle_through.Goals as goal
 

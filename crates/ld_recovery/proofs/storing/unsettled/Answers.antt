@@ -1,4 +1,4 @@
-use Rattle.std.proofs.Common.{◌≡◌, ◌++◌, ◌∷◌, [], ℕ, ◌∙◌, ap, sym, append_assoc}
+use Rattle.std.proofs.Common.{◌++◌, ◌∷◌, [], ℕ, ◌∙◌, ap, sym, append_assoc}
 use Rattle.ld_msg.specs.Digest.{Item}
 use Rattle.ld_msg.specs.Sequencer.{Planned}
 use Rattle.ld_recovery.proofs.Settling.{planned_more}

@@ -1,4 +1,4 @@
-use Rattle.std.proofs.Common.{◌≡◌, ◌∙◌, sym}
+use Rattle.std.proofs.Common.{◌∙◌, sym}
 use Rattle.ld_recovery.proofs.Holding.{closing_is}
 use Rattle.ld_recovery.proofs.tests.close.Goals as goal
 

@@ -1,6 +1,6 @@
-use Rattle.std.proofs.Common.{◌≡◌, ◌++◌, List, [], ap, sym, subst, ◌∙◌, append-nil}
+use Rattle.std.proofs.Common.{◌≡◌, ◌++◌, List, ap, sym, subst, ◌∙◌, append-nil}
 use Rattle.ld_msg.specs.declared.msg.Msg.{Msg}
-use Rattle.ld_msg.specs.Register.{Answer, Behind, Fails}
+use Rattle.ld_msg.specs.Register.{Answer, Behind}
 use Rattle.ld_recovery.specs.Recovering.{Recovering, Ending, ended, closed_by, close_messages}
 use Rattle.ld_recovery.specs.States.{answer_of, shown_ending}
 use Rattle.ld_recovery.proofs.Replies.{behind_ends, behind_sends, fails_sends}

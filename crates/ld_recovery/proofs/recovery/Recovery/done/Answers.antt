@@ -1,10 +1,10 @@
-use Rattle.std.proofs.Common.{◌≡◌, ◌++◌, List, [], ap, sym, subst, ◌∙◌}
+use Rattle.std.proofs.Common.{◌≡◌, ◌++◌, List, ap, sym, ◌∙◌}
 use Rattle.ld_ids.specs.Choice.{nodes_of}
 use Rattle.ld_msg.specs.declared.msg.Msg.{Msg}
 use Rattle.ld_msg.specs.declared.msg.Summary.{Summary}
 use Rattle.ld_msg.specs.declared.msg.Body.TheVariants.{Clean}
 use Rattle.ld_msg.specs.Sequencer.{to_each}
-use Rattle.ld_recovery.specs.Recovering.{Recovering, messages}
+use Rattle.ld_recovery.specs.Recovering.{Recovering}
 use Rattle.ld_recovery.specs.Sending.{sent}
 use Rattle.ld_recovery.specs.Stages.{shown}
 use Rattle.ld_recovery.proofs.Replies.{granted}

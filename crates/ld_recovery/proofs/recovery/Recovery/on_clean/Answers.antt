@@ -1,4 +1,4 @@
-use Rattle.std.proofs.Common.{◌≡◌, ◌++◌, List, ℕ, [], ap, sym, subst, ◌∙◌, append-nil, arith}
+use Rattle.std.proofs.Common.{◌≡◌, ◌++◌, List, ℕ, ap, sym, subst, ◌∙◌, append-nil}
 use Rattle.ld_lsn.specs.Number.{home_epoch}
 use Rattle.ld_msg.specs.declared.msg.Msg.{Msg}
 use Rattle.ld_msg.specs.declared.msg.Body.TheVariants.{CleanHere, Clean}
@@ -51,6 +51,6 @@ returns-else-epoch-self-2-clause-value c = sym (clean_elsewhere c.args.self.now 
 pub returns-else-epoch-self-2-clause-sent : goal.returns-else-epoch-self-2-clause-sent
 returns-else-epoch-self-2-clause-sent c =
     let q = clean_elsewhere c.args.self.now c.args.node c.args.number c.args.summary.now c.requires
-        (λ e. c.if-epoch-self.false (c.home-epoch.ensures.epoch ∙ (e ∙ sym (ap (λ (r : Recovering). r.ballot) c.self.view_is))))
-        (λ e. c.if-epoch-self-2.false (c.home-epoch.ensures.epoch ∙ (e ∙ sym (ap (λ (r : Recovering). r.recovery.epoch) c.self.view_is)))) in
+    (λ e. c.if-epoch-self.false (c.home-epoch.ensures.epoch ∙ (e ∙ sym (ap (λ (r : Recovering). r.ballot) c.self.view_is))))
+    (λ e. c.if-epoch-self-2.false (c.home-epoch.ensures.epoch ∙ (e ∙ sym (ap (λ (r : Recovering). r.recovery.epoch) c.self.view_is)))) in
     sym (ap (λ (l : List Msg). c.args.out.now ++ l) q.sent ∙ append-nil c.args.out.now)

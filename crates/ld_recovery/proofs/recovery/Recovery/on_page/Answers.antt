@@ -1,5 +1,4 @@
-use Rattle.std.proofs.Common.{◌≡◌, ◌++◌, List, ℕ, ap, sym, subst, ◌∙◌, append-nil}
-use Rattle.ld_lsn.specs.Number.{epoch_of}
+use Rattle.std.proofs.Common.{◌≡◌, ◌++◌, List, ap, sym, subst, ◌∙◌, append-nil}
 use Rattle.ld_msg.specs.declared.msg.Msg.{Msg}
 use Rattle.ld_msg.specs.declared.msg.Body.TheVariants.{DigestPage}
 use Rattle.ld_recovery.specs.Recovering.{Recovering, Goes, replied, reply_messages}

@@ -1,6 +1,6 @@
-use Rattle.std.proofs.Common.{◌≡◌, ◌<◌, ℕ, [], ap, sym, subst, ◌∙◌, arith}
+use Rattle.std.proofs.Common.{◌≡◌, ap, sym, subst, ◌∙◌, arith}
 use Rattle.ld_msg.specs.declared.msg.Body.TheVariants.{SealedHere}
-use Rattle.ld_recovery.specs.Recovering.{Recovering, Goes, replied, reply_messages}
+use Rattle.ld_recovery.specs.Recovering.{Recovering, Goes, replied}
 use Rattle.ld_recovery.specs.States.{shown_ending}
 use Rattle.ld_recovery.proofs.Replies.{sealed_above, sealed_below, preempted}
 use Rattle.ld_recovery.proofs.Holding.{held}

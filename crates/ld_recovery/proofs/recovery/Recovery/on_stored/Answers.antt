@@ -1,4 +1,4 @@
-use Rattle.std.proofs.Common.{◌≡◌, ◌<◌, ◌==◌, ℕ, [], ap, sym, subst, ◌∙◌, arith}
+use Rattle.std.proofs.Common.{◌≡◌, ◌==◌, [], ap, sym, subst, ◌∙◌}
 use Rattle.ld_lsn.specs.Number.{epoch_of}
 use Rattle.ld_msg.specs.declared.msg.Body.TheVariants.{Stored}
 use Rattle.ld_recovery.specs.Recovering.{Recovering, Goes, replied, reply_messages}

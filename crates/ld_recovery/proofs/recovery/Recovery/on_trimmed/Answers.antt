@@ -1,4 +1,4 @@
-use Rattle.std.proofs.Common.{◌≡◌, ◌<◌, nat_le, ℕ, [], ap, sym, subst, ◌∙◌, arith}
+use Rattle.std.proofs.Common.{◌≡◌, nat_le, [], ap, sym, subst, ◌∙◌}
 use Rattle.ld_lsn.specs.Number.{epoch_of}
 use Rattle.ld_msg.specs.declared.msg.Body.TheVariants.{TrimmedHere}
 use Rattle.ld_recovery.specs.Recovering.{Recovering, Goes, replied, reply_messages}

@@ -1,4 +1,4 @@
-use Rattle.std.proofs.Common.{◌≡◌, ◌++◌, List, ap, sym, ◌∙◌, append-nil}
+use Rattle.std.proofs.Common.{◌++◌, List, ap, sym, ◌∙◌, append-nil}
 use Rattle.ld_msg.specs.declared.msg.Msg.{Msg}
 use Rattle.ld_recovery.proofs.Replies.{other_body}
 use Rattle.ld_recovery.proofs.recovery.Recovery.reply.Goals as goal

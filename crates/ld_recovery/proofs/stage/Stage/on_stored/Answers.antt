@@ -1,4 +1,4 @@
-use Rattle.std.proofs.Common.{◌≡◌, ◌∙◌, ap, subst}
+use Rattle.std.proofs.Common.{◌∙◌, ap, subst}
 use Rattle.ld_recovery.specs.declared.stage.Stage.{Stage}
 use Rattle.ld_recovery.specs.Planning.{Plans}
 use Rattle.ld_recovery.specs.Stages.{IsOf}

@@ -1,4 +1,4 @@
-use Rattle.std.proofs.Common.{◌≡◌, ◌∙◌, List, length, ap, sym, subst, arith}
+use Rattle.std.proofs.Common.{◌≡◌, List, length, subst, arith}
 use Rattle.ld_msg.specs.Digest.{Item}
 use Rattle.ld_msg.specs.Sequencer.{planned}
 use Rattle.ld_recovery.specs.Planning.{AreFrom}

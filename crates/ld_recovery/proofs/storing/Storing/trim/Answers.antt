@@ -1,4 +1,4 @@
-use Rattle.std.proofs.Common.{◌≡◌, ◌==◌, nat_le, arith}
+use Rattle.std.proofs.Common.{nat_le, arith}
 use Rattle.ld_recovery.proofs.Settling.{stay_from}
 use Rattle.ld_recovery.proofs.storing.Storing.trim.Goals as goal
 
