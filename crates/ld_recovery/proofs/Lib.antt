@@ -1,0 +1,5 @@
+pub mod Settling
+pub mod Posting
+pub mod Digesting
+pub mod Replies
+pub mod Holding

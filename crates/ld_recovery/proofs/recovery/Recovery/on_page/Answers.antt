@@ -1,0 +1,38 @@
+use Rattle.std.proofs.Common.{◌≡◌, ◌++◌, List, ap, sym, subst, ◌∙◌, append-nil}
+use Rattle.ld_msg.specs.declared.msg.Msg.{Msg}
+use Rattle.ld_msg.specs.declared.msg.Body.TheVariants.{DigestPage}
+use Rattle.ld_recovery.specs.Recovering.{Recovering, Goes, replied, reply_messages}
+use Rattle.ld_recovery.specs.Sending.{sent}
+use Rattle.ld_recovery.specs.Stages.{page_sends}
+use Rattle.ld_recovery.specs.States.{shown_ending}
+use Rattle.ld_recovery.proofs.Replies.{page_elsewhere}
+use Rattle.ld_recovery.proofs.Holding.{held, page_value, page_sends_are}
+use Rattle.ld_recovery.proofs.recovery.Recovery.on_page.Goals as goal
+
+pub returns-in_ok-take_page-clause-value : goal.returns-in_ok-take_page-clause-value
+returns-in_ok-take_page-clause-value c = λ lng.
+    let a = c.self.inside in
+    let p = c.args.page.now in
+    let h : shown_ending a.ending ≡ Goes = ap (λ (r : Recovering). r.ending) c.self.view_is ∙ c.requires.going in
+    subst (λ (r : Recovering). held a.spec a.epoch a.ballot a.lost c.take_page.new.self a.ending ≡ replied r c.args.node (DigestPage p.from p.upto p.trim lng p.entries.now)) c.self.view_is
+    (page_value a.spec a.epoch a.ballot a.lost a.stage c.take_page.new.self a.ending c.args.node p.from p.upto p.trim lng p.entries.now h c.self.invariant.0 (sym c.epoch.ensures ∙ c.if-epoch-self.true) c.in_ok-take_page.ensures.shown)
+
+pub returns-in_ok-take_page-clause-sent : goal.returns-in_ok-take_page-clause-sent
+returns-in_ok-take_page-clause-sent c = λ lng.
+    let a = c.self.inside in
+    let p = c.args.page.now in
+    let h : shown_ending a.ending ≡ Goes = ap (λ (r : Recovering). r.ending) c.self.view_is ∙ c.requires.going in
+    c.in_ok-take_page.ensures.sent ∙ subst (λ (r : Recovering). c.args.out.now ++ sent c.sender-sender.result (page_sends a.lost a.stage c.args.node p.from p.upto p.trim p.entries.now) ≡ c.args.out.now ++ reply_messages r c.args.node (DigestPage p.from p.upto p.trim lng p.entries.now)) c.self.view_is
+    (ap (λ (l : List Msg). c.args.out.now ++ l) (page_sends_are a.spec a.epoch a.ballot a.lost a.stage a.ending c.sender-sender.result c.args.node p.from p.upto p.trim lng p.entries.now h c.self.invariant.0 (sym c.epoch.ensures ∙ c.if-epoch-self.true)
+    (c.sender-sender.ensures.log ∙ sym (ap (λ (r : Recovering). r.spec.log) c.self.view_is)) (c.sender-sender.ensures.epoch ∙ sym (ap (λ (r : Recovering). r.ballot) c.self.view_is))))
+
+pub returns-else-epoch-self-clause-value : goal.returns-else-epoch-self-clause-value
+returns-else-epoch-self-clause-value c = λ lng.
+    let p = c.args.page.now in
+    sym (page_elsewhere c.args.self.now c.args.node p.from p.upto p.trim lng p.entries.now c.requires.going (λ e. c.if-epoch-self.false (c.epoch.ensures ∙ (e ∙ sym (ap (λ (r : Recovering). r.recovery.epoch) c.self.view_is))))).value
+
+pub returns-else-epoch-self-clause-sent : goal.returns-else-epoch-self-clause-sent
+returns-else-epoch-self-clause-sent c = λ lng.
+    let p = c.args.page.now in
+    let q = page_elsewhere c.args.self.now c.args.node p.from p.upto p.trim lng p.entries.now c.requires.going (λ e. c.if-epoch-self.false (c.epoch.ensures ∙ (e ∙ sym (ap (λ (r : Recovering). r.recovery.epoch) c.self.view_is)))) in
+    sym (ap (λ (l : List Msg). c.args.out.now ++ l) q.sent ∙ append-nil c.args.out.now)

@@ -1,0 +1,28 @@
+use Rattle.std.proofs.Common.{◌≡◌, ◌++◌, List, ap, sym, subst, ◌∙◌}
+use Rattle.ld_msg.specs.declared.msg.Msg.{Msg}
+use Rattle.ld_recovery.specs.Recovering.{Recovering, Goes, retried, retry_messages}
+use Rattle.ld_recovery.specs.Sending.{sent}
+use Rattle.ld_recovery.specs.Stages.{retry_sends}
+use Rattle.ld_recovery.specs.States.{shown_ending}
+use Rattle.ld_recovery.proofs.Holding.{held, retry_value, retry_sends_are, goes_if}
+use Rattle.ld_recovery.proofs.recovery.Recovery.retry.Goals as goal
+
+pub invariant_of-self : goal.invariant_of-self
+invariant_of-self c = (c.try_again.ensures.of c.self.inside.spec c.self.inside.epoch c.self.invariant.0, c.self.invariant.1, c.self.invariant.2, c.self.invariant.3, c.self.invariant.4)
+
+pub invariant_of-self-in_err-try_again : goal.invariant_of-self-in_err-try_again
+invariant_of-self-in_err-try_again c = (c.try_again.ensures.of c.self.inside.spec c.self.inside.epoch c.self.invariant.0, c.self.invariant.1, c.self.invariant.2, c.self.invariant.3, c.self.invariant.4)
+
+pub returns-in_ok-try_again-clause-value : goal.returns-in_ok-try_again-clause-value
+returns-in_ok-try_again-clause-value c =
+    let a = c.self.inside in
+    let h : shown_ending a.ending ≡ Goes = ap (λ (r : Recovering). r.ending) c.self.view_is ∙ goes_if c.args.self.now.ending c.if-goes_on.ensures in
+    subst (λ (r : Recovering). held a.spec a.epoch a.ballot a.lost c.try_again.new.self a.ending ≡ retried r) c.self.view_is (retry_value a.spec a.epoch a.ballot a.lost a.stage c.try_again.new.self a.ending h c.in_ok-try_again.ensures.shown)
+
+pub returns-in_ok-try_again-clause-sent : goal.returns-in_ok-try_again-clause-sent
+returns-in_ok-try_again-clause-sent c =
+    let a = c.self.inside in
+    let h : shown_ending a.ending ≡ Goes = ap (λ (r : Recovering). r.ending) c.self.view_is ∙ goes_if c.args.self.now.ending c.if-goes_on.ensures in
+    c.in_ok-try_again.ensures.sent ∙ subst (λ (r : Recovering). c.args.out.now ++ sent c.sender-sender.result (retry_sends a.lost a.stage) ≡ c.args.out.now ++ retry_messages r) c.self.view_is
+    (ap (λ (l : List Msg). c.args.out.now ++ l) (retry_sends_are a.spec a.epoch a.ballot a.lost a.stage a.ending c.sender-sender.result h c.self.invariant.0
+    (c.sender-sender.ensures.log ∙ sym (ap (λ (r : Recovering). r.spec.log) c.self.view_is)) (c.sender-sender.ensures.epoch ∙ sym (ap (λ (r : Recovering). r.ballot) c.self.view_is))))

@@ -1,0 +1,9 @@
+use Rattle.std.proofs.Common.{◌==◌, arith}
+use Rattle.ld_recovery.proofs.Settling.{stay_from}
+use Rattle.ld_recovery.proofs.storing.Storing.store.Goals as goal
+
+pub invariant_of-self : goal.invariant_of-self
+invariant_of-self c = (
+  omega (arith, c.self.invariant.0, c.settle_number-settled.ensures.left),
+  stay_from (λ s. s == c.args.number) c.args.node c.self.inside.first c.self.inside.items.items c.settle_number-settled.new.items.items c.self.invariant.1 c.settle_number-settled.ensures.items,
+)

@@ -1,0 +1,5 @@
+pub mod Planning
+pub mod Sending
+pub mod Recovering
+pub mod Stages
+pub mod States

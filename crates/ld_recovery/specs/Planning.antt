@@ -1,0 +1,41 @@
+-- A plan that is being stored, its items under numbers that follow each other.
+use Rattle.std.specs.Prelude.{ℕ, zero, suc, ◌≡◌, ◌+◌, List, [], ◌∷◌, Bool, nat_lt, length, if◌then◌else◌}
+use Rattle.ld_table.specs.Words.{with_one}
+use Rattle.ld_ids.specs.declared.set.Spec.{Spec}
+use Rattle.ld_msg.specs.Sequencer.{Planned, Storing}
+
+-- a plan with what is said of its log
+pub record Plans : Type 0 where
+  pub spec : Spec
+  pub storing : Storing
+
+abbrev pub with_storing : Plans → Storing → Plans
+with_storing p g = record { spec = p.spec; storing = g }
+
+-- items have the numbers from one on
+abbrev pub AreFrom : ℕ → List (ℕ × Planned) → Type 0
+AreFrom n [] = Unit {0}
+AreFrom n (e ∷ m) = (e.0 ≡ n) × AreFrom (n + 1) m
+
+-- fewer nodes than the factor settled the item
+abbrev pub lacks : ℕ → ℕ × Planned → Bool
+lacks factor e = nat_lt (length e.1.settled) factor
+
+-- the node settled the item
+abbrev pub settled_one : ℕ → ℕ × Planned → ℕ × Planned
+settled_one y e = (e.0, record { what = e.1.what; settled = with_one y e.1.settled })
+
+-- the node settled the item at the place, where there is one
+unfoldable pub settle_at : ℕ → ℕ → List (ℕ × Planned) → List (ℕ × Planned)
+settle_at i y [] = []
+settle_at zero y (e ∷ m) = settled_one y e ∷ m
+settle_at (suc i) y (e ∷ m) = e ∷ settle_at i y m
+
+-- the node settled so many items, from the first one on
+unfoldable pub settle_first : ℕ → ℕ → List (ℕ × Planned) → List (ℕ × Planned)
+settle_first k y [] = []
+settle_first zero y (e ∷ m) = e ∷ m
+settle_first (suc k) y (e ∷ m) = settled_one y e ∷ settle_first k y m
+
+abbrev pub one_if : Bool → ℕ
+one_if b = if b then 1 else 0

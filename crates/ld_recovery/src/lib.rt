@@ -1,0 +1,17 @@
+//! The recovery of an epoch: its digest, its plan, the storing of the plan, and the close.
+#![tactic(auto)]
+
+mod planned;
+mod recovery;
+mod send;
+mod stage;
+mod state;
+mod storing;
+#[cfg(test)]
+mod tests;
+
+pub use planned::Planned;
+pub use recovery::Recovery;
+pub use send::Sender;
+pub use state::{Answer, State};
+pub use storing::Storing;

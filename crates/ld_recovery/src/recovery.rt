@@ -1,0 +1,345 @@
+// The recovery of an epoch.
+ghost use Rattle.std.specs.Prelude.{◌≡◌, ◌≤◌, ◌<◌, ◌+◌, ◌-◌, ◌^◌, ◌++◌, [], ℕ, true, nat_le, if◌then◌else◌, Some, None, IfOk, OnOk};
+ghost use Rattle.ld_ids.specs.declared.set.Spec.{Spec as Config};
+ghost use Rattle.ld_ids.specs.Choice.{at_epoch};
+ghost use Rattle.ld_msg.specs.declared.msg.Summary.{Summary as Told};
+ghost use Rattle.ld_msg.specs.declared.msg.Body.TheVariants.{Stored, SealedHere, LostHere, CleanHere, TrimmedHere, DigestPage};
+ghost use Rattle.ld_msg.specs.Register.{Granted};
+ghost use Rattle.ld_digest.specs.Gathering.{AreInPlace};
+ghost use Rattle.ld_recovery.specs.Stages.{IsOf};
+ghost use Rattle.ld_msg.specs.Bounds.{IsNodeHere};
+ghost use Rattle.ld_msg.specs.Digest.{no_digest};
+ghost use Rattle.ld_msg.specs.Sequencer.{digest_asks};
+ghost use Rattle.ld_recovery.specs.Recovering.{Goes, is_going, started, replied, reply_messages, sender_of, retried, retry_messages, Closing, closed_by, close_messages, messages, ending_behind, IsInPlace};
+ghost use Rattle.ld_recovery.specs.States.{state_of, answer_of, is_epoch_answer, shown_ending};
+
+use crate::send::Sender;
+use crate::stage::{Scope, Stage};
+use crate::state::{Answer, State};
+use ld_copyset::NodeList;
+use ld_digest::{Digest, Page};
+use ld_ids::{NoMemory, NodeId, Spec};
+use ld_lsn::Lsn;
+use ld_msg::{Body, Msg, Outbox, Summary, Who};
+use std::alloc::Global;
+use std::marker::Model;
+
+/// How a recovery ended, where it did.
+#[derive(Clone, Copy, Debug, PartialEq, Eq)]
+pub(crate) enum Ending {
+    Goes,
+    Done(Summary),
+    Gone(u32),
+    Preempted(u32),
+}
+
+/// The recovery of an epoch by the sequencer of a later one: the nodes are sealed and tell what they have; from what
+/// enough of them told a plan is made and stored; once it is stored the epoch is to be closed in the register.
+#[derive(Drop)]
+pub struct Recovery {
+    spec: Spec,
+    epoch: u32,
+    ballot: u32,
+    lost: NodeList,
+    stage: Stage,
+    ending: Ending,
+}
+
+impl Model for Recovery {
+    ghost use Rattle.std.specs.Prelude.{◌≡◌, ◌≤◌, ◌<◌, ◌-◌, ◌^◌};
+    ghost use Rattle.ld_recovery.specs.Recovering.{Recovering};
+    ghost use Rattle.ld_recovery.specs.Stages.{shown, IsOf};
+    ghost use Rattle.ld_recovery.specs.States.{shown_ending};
+
+    ghost Value = { Recovering };
+
+    ghost view = { λ a. record { spec = a.spec; ballot = a.ballot; recovery = record { epoch = a.epoch; lost = a.lost; stage = shown a.stage }; ending = shown_ending a.ending } };
+
+    ghost invariant = { λ a. IsOf a.spec a.epoch a.stage × (1 ≤ a.spec.r) × (1 ≤ a.epoch) × (a.epoch < a.ballot) × (a.ballot ≤ 2 ^ 32 - 2) };
+}
+
+impl Recovery {
+    /// Begins to recover the epoch of the log, by the sequencer of a later one: all nodes are asked for what they have.
+    /// Without memory a part of the asks may have been sent.
+    pub fn start(
+        alloc: Global,
+        spec: &Spec,
+        epoch: u32,
+        ballot: u32,
+        out: &mut Outbox,
+    ) -> Result<Recovery, NoMemory>
+        requires factor { 1 ≤ spec.now.r }
+        requires epoch { 1 ≤ epoch }
+        requires later { epoch < ballot }
+        requires ballot { ballot ≤ 2 ^ 32 - 2 }
+        ensures value { IfOk result (λ recovery. recovery ≡ started spec.now epoch ballot) }
+        ensures sent { OnOk result (out.new ≡ out.old ++ messages (started spec.now epoch ballot) (digest_asks (no_digest (at_epoch spec.now epoch) epoch))) }
+    {
+        let digest = Digest::new(alloc, spec, epoch)?;
+        let sender = Sender {
+            log: spec.log,
+            epoch: ballot,
+        };
+        sender.ask_for_digest(digest.told(), out)?;
+        Ok(Recovery {
+            spec: *spec,
+            epoch,
+            ballot,
+            lost: NodeList::empty(),
+            stage: Stage::Seals(digest),
+            ending: Ending::Goes,
+        })
+    }
+
+    /// Where it stands.
+    pub fn state(&self) -> State
+        ensures { result ≡ state_of self.now }
+    {
+        match self.ending {
+            Ending::Done(summary) => State::Done(summary),
+            Ending::Gone(lce) => State::Gone(lce),
+            Ending::Preempted(by) => State::Preempted(by),
+            Ending::Goes => self.stage.state(),
+        }
+    }
+
+    /// A node's message comes. A recovery that has ended ignores it, and so does any of what doesn't speak of its epoch, but
+    /// for a seal of a greater ballot and a close of the sequencer's own epoch, which preempt. The page of a digest ends
+    /// before the greatest number, and only a bridge may stand at the last place of an epoch. Without memory a part may
+    /// have been done: the recovery isn't used again.
+    pub fn on_reply(&mut self, alloc: Global, msg: &Msg, out: &mut Outbox) -> Result<(), NoMemory>
+        requires node { IsNodeHere msg.now.from }
+        requires page { IsInPlace msg.now.body }
+        ensures value { OnOk result (self.new ≡ replied self.old (sender_of msg.now.from) msg.now.body) }
+        ensures sent { OnOk result (out.new ≡ out.old ++ reply_messages self.old (sender_of msg.now.from) msg.now.body) }
+    {
+        if !self.goes_on() {
+            return Ok(());
+        }
+        match msg.from {
+            Who::Node(node) => self.reply(alloc, node, &msg.body, out),
+            _ => Ok(()),
+        }
+    }
+
+    // A node's message comes to a recovery that goes on.
+    fn reply(
+        &mut self,
+        alloc: Global,
+        node: NodeId,
+        body: &Body,
+        out: &mut Outbox,
+    ) -> Result<(), NoMemory>
+        requires going { self.old.ending ≡ Goes }
+        requires page { IsInPlace body.now }
+        ensures value { OnOk result (self.new ≡ replied self.old node body.now) }
+        ensures sent { OnOk result (out.new ≡ out.old ++ reply_messages self.old node body.now) }
+    {
+        match body {
+            Body::Stored { number } => {
+                self.on_stored(*number, node);
+                Ok(())
+            }
+            Body::SealedHere { number, sealed } => {
+                self.on_sealed(*number, *sealed, node);
+                Ok(())
+            }
+            Body::LostHere { number, .. } => {
+                self.on_lost(*number, node);
+                Ok(())
+            }
+            Body::CleanHere { number, summary } => self.on_clean(*number, summary, node, out),
+            Body::TrimmedHere { number, trim } => {
+                self.on_trimmed(*number, *trim, node);
+                Ok(())
+            }
+            Body::DigestPage {
+                from,
+                upto,
+                trim,
+                entries,
+                ..
+            } => {
+                let page = Page {
+                    from: *from,
+                    upto: *upto,
+                    trim: *trim,
+                    entries,
+                };
+                self.on_page(alloc, node, &page, out)
+            }
+            _ => Ok(()),
+        }
+    }
+
+    fn on_stored(&mut self, number: Lsn, node: NodeId)
+        requires { self.old.ending ≡ Goes }
+        ensures value { self.new ≡ replied self.old node (Stored number) }
+        ensures quiet { reply_messages self.old node (Stored number) ≡ [] }
+    {
+        if number.epoch() == self.epoch {
+            self.stage.store(self.ballot, number, node);
+        }
+    }
+
+    fn on_trimmed(&mut self, number: Lsn, trim: Lsn, node: NodeId)
+        requires { self.old.ending ≡ Goes }
+        ensures value { self.new ≡ replied self.old node (TrimmedHere number trim) }
+        ensures quiet { reply_messages self.old node (TrimmedHere number trim) ≡ [] }
+    {
+        if number.epoch() == self.epoch {
+            self.stage.trim(self.ballot, trim, node);
+        }
+    }
+
+    fn on_sealed(&mut self, number: Lsn, sealed: u32, node: NodeId)
+        requires { self.old.ending ≡ Goes }
+        ensures value { self.new ≡ replied self.old node (SealedHere number sealed) }
+        ensures quiet { reply_messages self.old node (SealedHere number sealed) ≡ [] }
+    {
+        let _ = (number, node);
+        if self.ballot < sealed {
+            self.ending = Ending::Preempted(sealed);
+        }
+    }
+
+    fn on_lost(&mut self, number: Lsn, node: NodeId)
+        requires { self.old.ending ≡ Goes }
+        ensures value { (round generation end : ℕ) → self.new ≡ replied self.old node (LostHere number round generation end) }
+        ensures quiet { (round generation end : ℕ) → reply_messages self.old node (LostHere number round generation end) ≡ [] }
+    {
+        let (epoch, _) = number.home();
+        if epoch == self.epoch {
+            self.lost.add(node);
+            self.stage.lose(node);
+        }
+    }
+
+    fn on_clean(
+        &mut self,
+        number: Lsn,
+        summary: &Summary,
+        node: NodeId,
+        out: &mut Outbox,
+    ) -> Result<(), NoMemory>
+        requires { self.old.ending ≡ Goes }
+        ensures value { OnOk result (self.new ≡ replied self.old node (CleanHere number summary.now)) }
+        ensures sent { OnOk result (out.new ≡ out.old ++ reply_messages self.old node (CleanHere number summary.now)) }
+    {
+        let (epoch, _) = number.home();
+        if epoch == self.ballot {
+            self.ending = Ending::Preempted(summary.ballot);
+            return Ok(());
+        }
+        if epoch == self.epoch {
+            let sender = self.sender();
+            sender.tell_clean(&self.spec.set, epoch, summary, out)?;
+            self.ending = Ending::Done(*summary);
+        }
+        Ok(())
+    }
+
+    fn on_page(
+        &mut self,
+        alloc: Global,
+        node: NodeId,
+        page: &Page,
+        out: &mut Outbox,
+    ) -> Result<(), NoMemory>
+        requires going { self.old.ending ≡ Goes }
+        requires upto { page.now.upto < 2 ^ 64 - 1 }
+        requires entries { AreInPlace page.now.entries.now }
+        ensures value { (lng : ℕ) → OnOk result (self.new ≡ replied self.old node (DigestPage page.now.from page.now.upto page.now.trim lng page.now.entries.now)) }
+        ensures sent { (lng : ℕ) → OnOk result (out.new ≡ out.old ++ reply_messages self.old node (DigestPage page.now.from page.now.upto page.now.trim lng page.now.entries.now)) }
+    {
+        if page.from.epoch() == self.epoch {
+            let sender = self.sender();
+            let scope = Scope {
+                spec: &self.spec,
+                sender: &sender,
+                epoch: self.epoch,
+                lost: &self.lost,
+            };
+            self.stage.take_page(alloc, &scope, node, page, out)?;
+        }
+        Ok(())
+    }
+
+    /// What is still wanted is asked for again: a page of each node that isn't whole, or, in a new wave, each item that has
+    /// too few nodes. A recovery that is closing or has ended sends nothing.
+    pub fn retry(&mut self, alloc: Global, out: &mut Outbox) -> Result<(), NoMemory>
+        ensures value { OnOk result (self.new ≡ retried self.old) }
+        ensures sent { OnOk result (out.new ≡ out.old ++ retry_messages self.old) }
+    {
+        if self.goes_on() {
+            let sender = self.sender();
+            self.stage.try_again(alloc, &sender, &self.lost, out)?;
+        }
+        Ok(())
+    }
+
+    /// The register's answer to the close. The recovery is closing.
+    pub fn closed(&mut self, answer: Answer, out: &mut Outbox) -> Result<(), NoMemory>
+        requires closing { (summary : Told) × Closing self.old summary }
+        requires answer { is_epoch_answer answer ≡ true }
+        ensures value { (summary : Told) → Closing self.old summary → OnOk result (self.new ≡ closed_by self.old summary (answer_of answer)) }
+        ensures sent { (summary : Told) → Closing self.old summary → OnOk result (out.new ≡ out.old ++ close_messages self.old summary (answer_of answer)) }
+    {
+        match answer {
+            Answer::Taken => self.done(out),
+            Answer::Behind(lce) => {
+                self.ending = behind(self.ballot, lce);
+                Ok(())
+            }
+            Answer::Failed => Ok(()),
+        }
+    }
+
+    // The epoch is closed as planned.
+    fn done(&mut self, out: &mut Outbox) -> Result<(), NoMemory>
+        requires { (summary : Told) × Closing self.old summary }
+        ensures value { (summary : Told) → Closing self.old summary → OnOk result (self.new ≡ closed_by self.old summary Granted) }
+        ensures sent { (summary : Told) → Closing self.old summary → OnOk result (out.new ≡ out.old ++ close_messages self.old summary Granted) }
+    {
+        if let Some(summary) = self.stage.summary() {
+            let sender = self.sender();
+            sender.tell_clean(&self.spec.set, self.epoch, &summary, out)?;
+            self.ending = Ending::Done(summary);
+        }
+        Ok(())
+    }
+
+    // Whether it hasn't ended.
+    fn goes_on(&self) -> bool
+        ensures { result ≡ is_going self.now.ending }
+    {
+        match self.ending {
+            Ending::Goes => true,
+            Ending::Done(_) => false,
+            Ending::Gone(_) => false,
+            Ending::Preempted(_) => false,
+        }
+    }
+
+    fn sender(&self) -> Sender
+        ensures log { result.log ≡ self.now.spec.log }
+        ensures epoch { result.epoch ≡ self.now.ballot }
+    {
+        Sender {
+            log: self.spec.log,
+            epoch: self.ballot,
+        }
+    }
+}
+
+// How a recovery ends where the register's last closed epoch is another one than the one before.
+fn behind(ballot: u32, lce: u32) -> Ending
+    requires { lce ≤ 2 ^ 32 - 2 }
+    ensures { shown_ending result ≡ ending_behind lce (if nat_le ballot lce then Some (lce + 1) else None) }
+{
+    if ballot <= lce {
+        Ending::Preempted(lce + 1)
+    } else {
+        Ending::Gone(lce)
+    }
+}

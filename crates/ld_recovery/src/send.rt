@@ -1,0 +1,120 @@
+// Messages of a sequencer to nodes.
+ghost use Rattle.std.specs.Prelude.{◌≡◌, ◌++◌, ◌∷◌, [], IfOk, OnOk};
+ghost use Rattle.ld_ids.specs.Set.{members};
+ghost use Rattle.ld_msg.specs.declared.msg.Body.TheVariants.{Store, Clean, DigestAsk};
+ghost use Rattle.ld_msg.specs.Sequencer.{to_each, digest_asks};
+ghost use Rattle.ld_recovery.specs.Sending.{sent};
+
+use ld_copyset::NodeList;
+use ld_digest::Told;
+use ld_ids::{LogId, NoMemory, NodeId, NodeSet};
+use ld_lsn::Lsn;
+use ld_msg::{Body, Msg, Outbox, Summary, What, Who};
+use std::alloc::Global;
+
+/// The sequencer of an epoch of a log, as its messages name it.
+#[derive(Clone, Copy, Debug)]
+pub struct Sender {
+    pub log: LogId,
+    pub epoch: u32,
+}
+
+impl Sender {
+    /// Sends a message to the node. Without memory nothing is sent.
+    fn send(&self, node: NodeId, body: Body, out: &mut Outbox) -> Result<(), NoMemory>
+        ensures { OnOk result (out.new ≡ out.old ++ sent self.now ((node, body) ∷ [])) }
+    {
+        out.push(Msg {
+            from: Who::Sequencer(self.epoch),
+            to: Who::Node(node),
+            log: self.log,
+            body,
+        })
+    }
+
+    /// Asks each node that isn't whole for its next page.
+    pub fn ask_for_digest(&self, told: &[Told], out: &mut Outbox) -> Result<(), NoMemory>
+        ensures { OnOk result (out.new ≡ out.old ++ sent self.now (digest_asks told.now)) }
+    {
+        for one in told {
+            self.ask_one(one, out)?;
+        }
+        Ok(())
+    }
+
+    /// Asks a node that isn't whole for its next page.
+    pub fn ask_one(&self, told: &Told, out: &mut Outbox) -> Result<(), NoMemory>
+        ensures { OnOk result (out.new ≡ out.old ++ sent self.now (digest_asks (told.now ∷ []))) }
+    {
+        if told.is_whole() {
+            return Ok(());
+        }
+        self.ask(told.node(), told.asked(), out)
+    }
+
+    /// Asks the node for its page from a number on.
+    pub fn ask(&self, node: NodeId, from: Lsn, out: &mut Outbox) -> Result<(), NoMemory>
+        ensures { OnOk result (out.new ≡ out.old ++ sent self.now ((node, DigestAsk from) ∷ [])) }
+    {
+        self.send(node, Body::DigestAsk { from }, out)
+    }
+
+    /// Tells all nodes of the set how an epoch is closed.
+    pub fn tell_clean(
+        &self,
+        set: &NodeSet,
+        epoch: u32,
+        summary: &Summary,
+        out: &mut Outbox,
+    ) -> Result<(), NoMemory>
+        ensures { OnOk result (out.new ≡ out.old ++ sent self.now (to_each (Clean epoch summary.now) (members set.now))) }
+    {
+        'nodes: for place in 0..set.len() {
+            if let Some(node) = set.nth(place) {
+                self.send(node, clean(epoch, summary), out)?;
+            }
+        }
+        Ok(())
+    }
+
+    /// Sends an item to each of the nodes, in their order.
+    pub fn send_item(
+        &self,
+        alloc: Global,
+        number: Lsn,
+        what: &What,
+        nodes: &NodeList,
+        out: &mut Outbox,
+    ) -> Result<(), NoMemory>
+        ensures { OnOk result (out.new ≡ out.old ++ sent self.now (to_each (Store number 0 what.now) nodes.now)) }
+    {
+        'nodes: for place in 0..nodes.len() {
+            if let Some(node) = nodes.nth(place) {
+                let body = store(alloc, number, what)?;
+                self.send(node, body, out)?;
+            }
+        }
+        Ok(())
+    }
+}
+
+// A close of an epoch.
+fn clean(epoch: u32, summary: &Summary) -> Body
+    ensures { result ≡ Clean epoch summary.now }
+{
+    Body::Clean {
+        epoch,
+        summary: *summary,
+    }
+}
+
+// A store of an item.
+fn store(alloc: Global, number: Lsn, what: &What) -> Result<Body, NoMemory>
+    ensures { IfOk result (λ body. body ≡ Store number 0 what.now) }
+{
+    Ok(Body::Store {
+        number,
+        lng: 0,
+        what: what.copy(alloc)?,
+    })
+}

@@ -1,0 +1,332 @@
+// The stages of a recovery.
+ghost use Rattle.std.specs.Prelude.{◌≡◌, ◌≤◌, ◌<◌, ◌-◌, ◌^◌, ◌==◌, ◌++◌, ◌∷◌, [], ℕ, nat_le, IfOk, OnOk};
+ghost use Rattle.ld_msg.specs.declared.msg.Body.TheVariants.{DigestAsk};
+ghost use Rattle.ld_msg.specs.Digest.{plan};
+ghost use Rattle.ld_digest.specs.Gathering.{AreInPlace};
+ghost use Rattle.ld_recovery.specs.declared.stage.Stage.TheVariants.{Seals};
+ghost use Rattle.ld_recovery.specs.Sending.{sent};
+ghost use Rattle.ld_recovery.specs.States.{summary_in, state_in};
+ghost use Rattle.ld_ids.specs.declared.set.Spec.{Spec as Config};
+ghost use Rattle.ld_msg.specs.Sequencer.{lost_stage, storing_of, item_stores, planned, Stores as Stored};
+ghost use Rattle.ld_recovery.specs.Stages.{shown, settled, closed_if_ready, retried_stage, retry_sends, page_stage, page_sends, gathered, gathered_sends, IsOf};
+
+use crate::send::Sender;
+use crate::state::State;
+use crate::storing::Storing;
+use ld_copyset::NodeList;
+use ld_digest::{Added, Digest, Page};
+use ld_ids::{NoMemory, NodeId, Spec};
+use ld_lsn::Lsn;
+use ld_msg::{Outbox, Summary};
+use ld_plan::plan;
+use std::alloc::Global;
+use std::mem;
+
+/// Where a recovery is.
+#[derive(Drop)]
+pub(crate) enum Stage {
+    /// It gathers what the nodes tell.
+    Seals(Digest),
+    /// It stores the plan.
+    Stores(Storing),
+    /// The plan is stored, and the epoch is to be closed so.
+    Closes(Summary),
+}
+
+impl Stage {
+    /// The node stored the item of a number.
+    fn on_stored(self, ballot: u32, number: Lsn, node: NodeId) -> Stage
+        ensures shown { shown result ≡ settled ballot (λ s. s == number) node self }
+        ensures of { (spec : Config) (epoch : ℕ) → IsOf spec epoch self → IsOf spec epoch result }
+    {
+        match self {
+            Stage::Stores(mut storing) => {
+                storing.store(number, node);
+                closed_if_ready(storing, ballot)
+            }
+            Stage::Seals(digest) => Stage::Seals(digest),
+            Stage::Closes(summary) => Stage::Closes(summary),
+        }
+    }
+
+    /// The node trimmed all up to a number.
+    fn on_trimmed(self, ballot: u32, trim: Lsn, node: NodeId) -> Stage
+        ensures shown { shown result ≡ settled ballot (λ s. nat_le s trim) node self }
+        ensures of { (spec : Config) (epoch : ℕ) → IsOf spec epoch self → IsOf spec epoch result }
+    {
+        match self {
+            Stage::Stores(mut storing) => {
+                storing.trim(trim, node);
+                closed_if_ready(storing, ballot)
+            }
+            Stage::Seals(digest) => Stage::Seals(digest),
+            Stage::Closes(summary) => Stage::Closes(summary),
+        }
+    }
+
+    /// The node said that it is lost.
+    fn on_lost(self, node: NodeId) -> Stage
+        ensures shown { shown result ≡ lost_stage node (shown self) }
+        ensures of { (spec : Config) (epoch : ℕ) → IsOf spec epoch self → IsOf spec epoch result }
+    {
+        match self {
+            Stage::Seals(mut digest) => {
+                digest.lost(node);
+                Stage::Seals(digest)
+            }
+            Stage::Stores(storing) => Stage::Stores(storing),
+            Stage::Closes(summary) => Stage::Closes(summary),
+        }
+    }
+
+    /// The node stored the item of a number.
+    pub(crate) fn store(&mut self, ballot: u32, number: Lsn, node: NodeId)
+        ensures shown { shown self.new ≡ settled ballot (λ s. s == number) node self.old }
+        ensures of { (spec : Config) (epoch : ℕ) → IsOf spec epoch self.old → IsOf spec epoch self.new }
+    {
+        let stage = mem::replace(self, nothing());
+        *self = stage.on_stored(ballot, number, node);
+    }
+
+    /// The node trimmed all up to a number.
+    pub(crate) fn trim(&mut self, ballot: u32, trim: Lsn, node: NodeId)
+        ensures shown { shown self.new ≡ settled ballot (λ s. nat_le s trim) node self.old }
+        ensures of { (spec : Config) (epoch : ℕ) → IsOf spec epoch self.old → IsOf spec epoch self.new }
+    {
+        let stage = mem::replace(self, nothing());
+        *self = stage.on_trimmed(ballot, trim, node);
+    }
+
+    /// The node said that it is lost.
+    pub(crate) fn lose(&mut self, node: NodeId)
+        ensures shown { shown self.new ≡ lost_stage node (shown self.old) }
+        ensures of { (spec : Config) (epoch : ℕ) → IsOf spec epoch self.old → IsOf spec epoch self.new }
+    {
+        let stage = mem::replace(self, nothing());
+        *self = stage.on_lost(node);
+    }
+
+    /// What is still wanted is asked for again. Without memory a part may have been sent, and the stage is lost.
+    pub(crate) fn try_again(
+        &mut self,
+        alloc: Global,
+        sender: &Sender,
+        lost: &NodeList,
+        out: &mut Outbox,
+    ) -> Result<(), NoMemory>
+        ensures shown { OnOk result (shown self.new ≡ retried_stage self.old) }
+        ensures of { (spec : Config) (epoch : ℕ) → IsOf spec epoch self.old → IsOf spec epoch self.new }
+        ensures sent { OnOk result (out.new ≡ out.old ++ sent sender.now (retry_sends lost.now self.old)) }
+    {
+        let stage = mem::replace(self, nothing());
+        *self = stage.retry(alloc, sender, lost, out)?;
+        Ok(())
+    }
+
+    /// A page of the node comes. Without memory a part of what is to be sent may have been, and the stage is lost.
+    pub(crate) fn take_page(
+        &mut self,
+        alloc: Global,
+        scope: &Scope,
+        node: NodeId,
+        page: &Page,
+        out: &mut Outbox,
+    ) -> Result<(), NoMemory>
+        requires factor { 1 ≤ scope.now.spec.now.r }
+        requires upto { page.now.upto < 2 ^ 64 - 1 }
+        requires entries { AreInPlace page.now.entries.now }
+        requires of { IsOf scope.now.spec.now scope.now.epoch self.old }
+        ensures shown { OnOk result (shown self.new ≡ page_stage self.old node page.now.from page.now.upto page.now.trim page.now.entries.now) }
+        ensures of { IsOf scope.now.spec.now scope.now.epoch self.new }
+        ensures sent { OnOk result (out.new ≡ out.old ++ sent scope.now.sender.now (page_sends scope.now.lost.now self.old node page.now.from page.now.upto page.now.trim page.now.entries.now)) }
+    {
+        let stage = mem::replace(self, nothing());
+        *self = on_page(alloc, stage, scope, node, page, out)?;
+        Ok(())
+    }
+
+    /// The summary with which the epoch is to be closed, once the plan is stored.
+    pub(crate) fn summary(&self) -> Option<Summary>
+        ensures { result ≡ summary_in (shown self.now) }
+    {
+        match self {
+            Stage::Closes(summary) => Some(*summary),
+            Stage::Seals(_) => None,
+            Stage::Stores(_) => None,
+        }
+    }
+
+    /// The state of a recovery that goes on.
+    pub(crate) fn state(&self) -> State
+        ensures { result ≡ state_in (shown self.now) }
+    {
+        match self {
+            Stage::Closes(summary) => State::Closing(*summary),
+            Stage::Seals(_) => State::Sealing,
+            Stage::Stores(_) => State::Storing,
+        }
+    }
+
+    /// What is still wanted is asked for again. Without memory a part may have been sent.
+    fn retry(
+        self,
+        alloc: Global,
+        sender: &Sender,
+        lost: &NodeList,
+        out: &mut Outbox,
+    ) -> Result<Stage, NoMemory>
+        ensures shown { IfOk result (λ stage'. shown stage' ≡ retried_stage self) }
+        ensures of { IfOk result (λ stage'. (spec : Config) (epoch : ℕ) → IsOf spec epoch self → IsOf spec epoch stage') }
+        ensures sent { OnOk result (out.new ≡ out.old ++ sent sender.now (retry_sends lost.now self)) }
+    {
+        match self {
+            Stage::Seals(digest) => {
+                sender.ask_for_digest(digest.told(), out)?;
+                Ok(Stage::Seals(digest))
+            }
+            Stage::Stores(mut storing) => {
+                storing.raise();
+                storing.send(alloc, sender, lost, out)?;
+                Ok(Stage::Stores(storing))
+            }
+            Stage::Closes(summary) => Ok(Stage::Closes(summary)),
+        }
+    }
+}
+
+// A plan is closed, where each of its items has enough nodes.
+fn closed_if_ready(storing: Storing, ballot: u32) -> Stage
+    ensures shown { shown result ≡ closed_if_ready ballot storing }
+    ensures of { (spec : Config) (epoch : ℕ) → storing.spec ≡ spec → IsOf spec epoch result }
+{
+    if storing.is_ready() {
+        Stage::Closes(storing.summary(ballot))
+    } else {
+        Stage::Stores(storing)
+    }
+}
+
+/// Who recovers which epoch of a log, and the nodes that choices leave out.
+#[derive(Drop)]
+pub(crate) struct Scope<'a> {
+    pub(crate) spec: &'a Spec,
+    pub(crate) sender: &'a Sender,
+    pub(crate) epoch: u32,
+    pub(crate) lost: &'a NodeList,
+}
+
+// A page of the node comes. Without memory a part of what is to be sent may have been.
+fn on_page(
+    alloc: Global,
+    stage: Stage,
+    scope: &Scope,
+    node: NodeId,
+    page: &Page,
+    out: &mut Outbox,
+) -> Result<Stage, NoMemory>
+    requires factor { 1 ≤ scope.now.spec.now.r }
+    requires upto { page.now.upto < 2 ^ 64 - 1 }
+    requires entries { AreInPlace page.now.entries.now }
+    requires of { IsOf scope.now.spec.now scope.now.epoch stage }
+    ensures of { IfOk result (λ stage'. IsOf scope.now.spec.now scope.now.epoch stage') }
+    ensures stage { IfOk result (λ stage'. shown stage' ≡ page_stage stage node page.now.from page.now.upto page.now.trim page.now.entries.now) }
+    ensures sent { OnOk result (out.new ≡ out.old ++ sent scope.now.sender.now (page_sends scope.now.lost.now stage node page.now.from page.now.upto page.now.trim page.now.entries.now)) }
+{
+    match stage {
+        Stage::Seals(digest) => add_page(alloc, digest, scope, node, page, out),
+        Stage::Stores(storing) => Ok(Stage::Stores(storing)),
+        Stage::Closes(summary) => Ok(Stage::Closes(summary)),
+    }
+}
+
+// A page of the node comes to a digest.
+fn add_page(
+    alloc: Global,
+    digest: Digest,
+    scope: &Scope,
+    node: NodeId,
+    page: &Page,
+    out: &mut Outbox,
+) -> Result<Stage, NoMemory>
+    requires factor { 1 ≤ scope.now.spec.now.r }
+    requires upto { page.now.upto < 2 ^ 64 - 1 }
+    requires entries { AreInPlace page.now.entries.now }
+    requires of { (digest.spec ≡ scope.now.spec.now) × (digest.epoch ≡ scope.now.epoch) }
+    ensures of { IfOk result (λ stage'. IsOf scope.now.spec.now scope.now.epoch stage') }
+    ensures stage { IfOk result (λ stage'. shown stage' ≡ page_stage (Seals digest) node page.now.from page.now.upto page.now.trim page.now.entries.now) }
+    ensures sent { OnOk result (out.new ≡ out.old ++ sent scope.now.sender.now (page_sends scope.now.lost.now (Seals digest) node page.now.from page.now.upto page.now.trim page.now.entries.now)) }
+{
+    let mut digest = digest;
+    match digest.add(alloc, node, page)? {
+        Added::Ignored => Ok(Stage::Seals(digest)),
+        Added::Whole => gathered(alloc, digest, scope, out),
+        Added::Ask(next) => asked_on(alloc, digest, scope, node, next, out),
+    }
+}
+
+// A node is whole: what has been told is planned, where it is enough.
+fn gathered(
+    alloc: Global,
+    digest: Digest,
+    scope: &Scope,
+    out: &mut Outbox,
+) -> Result<Stage, NoMemory>
+    requires factor { 1 ≤ scope.now.spec.now.r }
+    requires of { (digest.spec ≡ scope.now.spec.now) × (digest.epoch ≡ scope.now.epoch) }
+    ensures of { IfOk result (λ stage'. IsOf scope.now.spec.now scope.now.epoch stage') }
+    ensures stage { IfOk result (λ stage'. shown stage' ≡ gathered digest) }
+    ensures sent { OnOk result (out.new ≡ out.old ++ sent scope.now.sender.now (gathered_sends scope.now.lost.now digest [])) }
+{
+    if digest.enough() {
+        return store(alloc, digest, scope, out);
+    }
+    Ok(Stage::Seals(digest))
+}
+
+// A node is to be asked on: what has been told is planned, where it is enough, and else the node is asked.
+fn asked_on(
+    alloc: Global,
+    digest: Digest,
+    scope: &Scope,
+    node: NodeId,
+    next: Lsn,
+    out: &mut Outbox,
+) -> Result<Stage, NoMemory>
+    requires factor { 1 ≤ scope.now.spec.now.r }
+    requires of { (digest.spec ≡ scope.now.spec.now) × (digest.epoch ≡ scope.now.epoch) }
+    ensures of { IfOk result (λ stage'. IsOf scope.now.spec.now scope.now.epoch stage') }
+    ensures stage { IfOk result (λ stage'. shown stage' ≡ gathered digest) }
+    ensures sent { OnOk result (out.new ≡ out.old ++ sent scope.now.sender.now (gathered_sends scope.now.lost.now digest ((node, DigestAsk next) ∷ []))) }
+{
+    if digest.enough() {
+        return store(alloc, digest, scope, out);
+    }
+    scope.sender.ask(node, next, out)?;
+    Ok(Stage::Seals(digest))
+}
+
+// What has been told is planned, and the plan is sent in its first wave.
+fn store(alloc: Global, digest: Digest, scope: &Scope, out: &mut Outbox) -> Result<Stage, NoMemory>
+    requires factor { 1 ≤ scope.now.spec.now.r }
+    requires of { (digest.spec ≡ scope.now.spec.now) × (digest.epoch ≡ scope.now.epoch) }
+    ensures of { IfOk result (λ stage'. IsOf scope.now.spec.now scope.now.epoch stage') }
+    ensures stage { IfOk result (λ stage'. shown stage' ≡ Stored (storing_of (plan digest.epoch digest.told))) }
+    ensures sent { OnOk result (out.new ≡ out.old ++ sent scope.now.sender.now (item_stores digest.spec scope.now.lost.now 0 (planned (plan digest.epoch digest.told).items))) }
+{
+    let plan = plan(alloc, &digest)?;
+    let storing = Storing::new(alloc, scope.spec, plan)?;
+    storing.send(alloc, scope.sender, scope.lost, out)?;
+    Ok(Stage::Stores(storing))
+}
+
+// A stage that stands in for one that is being changed.
+fn nothing() -> Stage
+    ensures { (spec : Config) (epoch : ℕ) → IsOf spec epoch result }
+{
+    Stage::Closes(Summary {
+        ballot: 0,
+        lng: 0,
+        trim: Lsn::from_u64(0),
+        end: 1,
+    })
+}

@@ -1,0 +1,253 @@
+// A plan that is being stored.
+ghost use Rattle.std.specs.Prelude.{◌≡◌, ◌≤◌, ◌<◌, ◌+◌, ◌-◌, ◌==◌, ℕ, ◌&&◌, not, length, min, nat_le, ◌++◌, ◌∷◌, [], IfOk, OnOk};
+ghost use Rattle.ld_table.specs.Words.{how_many};
+ghost use Rattle.ld_msg.specs.Sequencer.{planned, storing_of, settle, settled_by, is_ready, next_try, summary_of, item_stores};
+ghost use Rattle.ld_recovery.specs.Sending.{sent};
+ghost use Rattle.ld_recovery.specs.Planning.{with_storing, lacks, settle_at, settle_first, one_if, AreFrom};
+
+use crate::Planned;
+use crate::send::Sender;
+use ld_copyset::{NodeList, choose_for};
+use ld_ids::{NoMemory, NodeId, Spec};
+use ld_lsn::Lsn;
+use ld_msg::{Outbox, Summary};
+use ld_plan::{Item, Plan};
+use std::alloc::Global;
+use std::marker::Model;
+
+/// A plan that is being stored: the items under numbers that follow each other, the wave that they were sent in last, and
+/// how many of them fewer nodes than the log's factor have settled.
+#[derive(Drop)]
+pub struct Storing {
+    spec: Spec,
+    trim: Lsn,
+    end: u32,
+    first: Lsn,
+    items: Vec<Planned>,
+    wave: u32,
+    lacking: usize,
+}
+
+impl Model for Storing {
+    ghost use Rattle.std.specs.Prelude.{◌≡◌};
+    ghost use Rattle.ld_table.specs.Words.{how_many};
+    ghost use Rattle.ld_recovery.specs.Planning.{Plans, lacks, AreFrom};
+
+    ghost Value = { Plans };
+
+    ghost view = { λ a. record { spec = a.spec; storing = record { trim = a.trim; end = a.end; items = a.items.items; wave = a.wave } } };
+
+    ghost invariant = { λ a. (a.lacking ≡ how_many (lacks a.spec.r) a.items.items) × AreFrom a.first a.items.items };
+}
+
+impl Storing {
+    /// A plan that is to be sent in its wave 0. Its items have the numbers from one on.
+    pub fn new(alloc: Global, spec: &Spec, plan: Plan) -> Result<Storing, NoMemory>
+        requires factor { 1 ≤ spec.now.r }
+        requires numbers { (first : ℕ) × AreFrom first (planned plan.items) }
+        ensures { IfOk result (λ storing. storing ≡ record { spec = spec.now; storing = storing_of plan }) }
+    {
+        let Plan { trim, end, items } = plan;
+        let items = items.into_vec();
+        let first = first_number(&items);
+        let items = unsettled(alloc, items)?;
+        let lacking = items.len();
+        Ok(Storing {
+            spec: *spec,
+            trim,
+            end,
+            first,
+            items,
+            wave: 0,
+            lacking,
+        })
+    }
+
+    /// The node stored the item of the number, where there is one. It takes constant time.
+    pub fn store(&mut self, number: Lsn, node: NodeId)
+        ensures { self.new ≡ with_storing self.old (settled_by (λ s. s == number) node self.old.storing) }
+    {
+        let settled = settle_number(&mut self.items, self.first, number, node, self.spec.r);
+        self.lacking -= settled;
+    }
+
+    /// The node trimmed all up to a number. It takes time in the items up to it.
+    pub fn trim(&mut self, trim: Lsn, node: NodeId)
+        ensures { self.new ≡ with_storing self.old (settled_by (λ s. nat_le s trim) node self.old.storing) }
+    {
+        let settled = settle_through(&mut self.items, self.first, trim, node, self.spec.r);
+        self.lacking -= settled;
+    }
+
+    /// Sends each item that has too few nodes to the choice of the wave, which leaves the lost nodes out. Without memory a
+    /// part may have been sent.
+    pub fn send(
+        &self,
+        alloc: Global,
+        sender: &Sender,
+        lost: &NodeList,
+        out: &mut Outbox,
+    ) -> Result<(), NoMemory>
+        ensures { OnOk result (out.new ≡ out.old ++ sent sender.now (item_stores self.now.spec lost.now self.now.storing.wave self.now.storing.items)) }
+    {
+        for item in &self.items {
+            self.send_one(alloc, sender, item, lost, out)?;
+        }
+        Ok(())
+    }
+
+    // Sends the item, where it has too few nodes.
+    fn send_one(
+        &self,
+        alloc: Global,
+        sender: &Sender,
+        item: &Planned,
+        lost: &NodeList,
+        out: &mut Outbox,
+    ) -> Result<(), NoMemory>
+        ensures { OnOk result (out.new ≡ out.old ++ sent sender.now (item_stores self.now.spec lost.now self.now.storing.wave (item.now ∷ []))) }
+    {
+        if !item.lacks(self.spec.r) {
+            return Ok(());
+        }
+        let nodes = choose_for(&self.spec, item.number(), self.wave, &lost.to_set());
+        sender.send_item(alloc, item.number(), item.what(), &nodes, out)
+    }
+
+    /// Whether each item has enough nodes. It takes constant time.
+    #[tactic(auto, unfolding(ld_msg::specs::Sequencer::is_ready))]
+    pub fn is_ready(&self) -> bool
+        ensures { result ≡ is_ready self.now.spec self.now.storing }
+    {
+        self.lacking == 0
+    }
+
+    /// The next wave; the last one, 2^32-1, stays.
+    pub fn raise(&mut self)
+        ensures { self.new ≡ with_storing self.old (next_try self.old.storing) }
+    {
+        self.wave = self.wave.saturating_add(1);
+    }
+
+    /// The summary with which the epoch is closed by the sequencer of this epoch.
+    pub fn summary(&self, ballot: u32) -> Summary
+        ensures { result ≡ summary_of ballot self.now.storing }
+    {
+        Summary {
+            ballot,
+            lng: 0,
+            trim: self.trim,
+            end: self.end,
+        }
+    }
+}
+
+// The node settled the item of the number, where there is one. Tells how many then had enough nodes that had one too few.
+fn settle_number(
+    items: &mut Vec<Planned>,
+    first: Lsn,
+    number: Lsn,
+    node: NodeId,
+    factor: u8,
+) -> usize
+    requires { AreFrom first items.old.items }
+    ensures items { items.new.items ≡ settle (λ s. s == number) node items.old.items }
+    ensures left { how_many (lacks factor) items.old.items ≡ how_many (lacks factor) items.new.items + result }
+{
+    if number.value() < first.value() {
+        return 0;
+    }
+    let place = number.value() - first.value();
+    if place < items.len() as u64 {
+        return settle_at(items, place as usize, node, factor);
+    }
+    0
+}
+
+// The node settled the items up to a number. Tells how many then had enough nodes that had one too few.
+fn settle_through(
+    items: &mut Vec<Planned>,
+    first: Lsn,
+    trim: Lsn,
+    node: NodeId,
+    factor: u8,
+) -> usize
+    requires { AreFrom first items.old.items }
+    ensures items { items.new.items ≡ settle (λ s. nat_le s trim) node items.old.items }
+    ensures left { how_many (lacks factor) items.old.items ≡ how_many (lacks factor) items.new.items + result }
+{
+    let count = count_through(first, trim, items.len());
+    settle_first(items, count, node, factor)
+}
+
+// Of so many items from a number on those up to another.
+fn count_through(first: Lsn, trim: Lsn, len: usize) -> usize
+    ensures { result ≡ min (trim + 1 - first) len }
+{
+    if trim.value() < first.value() {
+        return 0;
+    }
+    let above = trim.value() - first.value();
+    if above < len as u64 {
+        above as usize + 1
+    } else {
+        len
+    }
+}
+
+// The node settled so many items, from the first one on. Tells how many then had enough nodes that had one too few.
+fn settle_first(items: &mut Vec<Planned>, count: usize, node: NodeId, factor: u8) -> usize
+    requires { count ≤ length items.old.items }
+    ensures items { items.new.items ≡ settle_first count node items.old.items }
+    ensures left { how_many (lacks factor) items.old.items ≡ how_many (lacks factor) items.new.items + result }
+{
+    let mut settled = 0;
+    'items: for place in 0..count {
+        settled += settle_at(items, place, node, factor);
+    }
+    settled
+}
+
+// The node settled the item at the place. Tells whether it then had enough nodes and had one too few, as 1 or 0.
+fn settle_at(items: &mut Vec<Planned>, place: usize, node: NodeId, factor: u8) -> usize
+    requires { place < length items.old.items }
+    ensures items { items.new.items ≡ settle_at place node items.old.items }
+    ensures left { how_many (lacks factor) items.old.items ≡ how_many (lacks factor) items.new.items + result }
+    ensures one { result ≤ 1 }
+{
+    let item = &mut items[place];
+    let lacked = item.lacks(factor);
+    item.settle(node);
+    let lacks = item.lacks(factor);
+    one_if(lacked, lacks)
+}
+
+// 1 where the last one that was wanted came, else 0.
+fn one_if(lacked: bool, lacks: bool) -> usize
+    ensures value { result ≡ one_if (lacked && not lacks) }
+    ensures one { result ≤ 1 }
+{
+    if lacked && !lacks { 1 } else { 0 }
+}
+
+// The number of the first item.
+fn first_number(items: &[Item]) -> Lsn
+    requires { (first : ℕ) × AreFrom first (planned items.now) }
+    ensures { AreFrom result (planned items.now) }
+{
+    match items.first() {
+        Some(item) => item.number,
+        None => Lsn::from_u64(0),
+    }
+}
+
+// The items, settled by no node.
+fn unsettled(alloc: Global, items: Vec<Item>) -> Result<Vec<Planned>, NoMemory>
+    ensures { IfOk result (λ unsettled'. unsettled'.items ≡ planned items.items) }
+{
+    let mut list = Vec::new(alloc);
+    for item in items {
+        list.push(Planned::new(item.number, item.what))?;
+    }
+    Ok(list)
+}
