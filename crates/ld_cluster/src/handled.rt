@@ -1,5 +1,5 @@
 // What a node makes of a message.
-ghost use Rattle.std.specs.Prelude.{◌≡◌, ℕ, None, IfOk};
+ghost use Rattle.std.specs.Prelude.{◌≡◌, ℕ, IfOk};
 ghost use Rattle.ld_msg.specs.declared.msg.What.{What as Content};
 ghost use Rattle.ld_msg.specs.declared.msg.Body.TheVariants.{Store};
 ghost use Rattle.ld_op.specs.declared.op.Op.TheVariants.{Accept, Seal};
@@ -21,19 +21,6 @@ use std::alloc::Global;
 pub struct Handled {
     pub op: Option<Op>,
     pub answer: Option<Body>,
-}
-
-impl Handled {
-    /// Neither.
-    fn nothing() -> Handled
-        ensures op { result.op ≡ None }
-        ensures answer { result.answer ≡ None }
-    {
-        Handled {
-            op: None,
-            answer: None,
-        }
-    }
 }
 
 /// What a node makes of a message, where readers may have all up to the released number.
@@ -111,7 +98,7 @@ fn answer(alloc: Global, plain: &Plain, released: Lsn, msg: &Msg) -> Result<Hand
             })
         }
         _ => {
-            let handled = on_page(plain, msg)?;
+            let handled = on_page(alloc, plain, msg)?;
             Ok(handled)
         }
     }
@@ -197,12 +184,13 @@ fn page(alloc: Global, plain: &Plain, msg: &Msg) -> Result<Body, NoMemory>
     Ok(page.body)
 }
 
-/// What a node makes of a page: nothing, as long as nothing is lost there.
-fn on_page(plain: &Plain, msg: &Msg) -> Result<Handled, NoMemory>
+/// What a node makes of a page: it takes what is missing, where something is lost there.
+#[tactic(auto, unfolding(ld_op::specs::Ticks::on_page))]
+fn on_page(alloc: Global, plain: &Plain, msg: &Msg) -> Result<Handled, NoMemory>
     ensures { IfOk result (λ handled. IsHandled handled (on_page (log_of plain.now.state msg.now.log) msg.now.log msg.now.body)) }
 {
-    if plain.is_lost(msg.log) {
-        return Err(NoMemory);
-    }
-    Ok(Handled::nothing())
+    Ok(Handled {
+        op: ld_rebuild::on_page(alloc, plain, msg)?,
+        answer: None,
+    })
 }

@@ -1,6 +1,6 @@
 // One log's part of a node's plain state.
 ghost use Rattle.std.specs.Prelude.{◌≡◌, ◌≢◌, true, false, None, OnOk, IfOk, option_copied, take, max};
-ghost use Rattle.ld_table.specs.Table.{find, first_from};
+ghost use Rattle.ld_table.specs.Table.{find, first_from, Ordered};
 ghost use Rattle.ld_op.specs.Plain.{empty_log, epoch_zero, summary_at, lost_log, accepted, sealed_by, cleaned, trimmed_to, refilled_with, refilled};
 ghost use Rattle.ld_op.specs.Places.{has_place};
 ghost use Rattle.ld_op.specs.Picks.{picked};
@@ -123,6 +123,20 @@ impl LogState {
         ensures { result ≡ first_from epoch self.now.log.summaries }
     {
         self.summaries.first_from(epoch)
+    }
+
+    /// The summary that is kept of the epoch.
+    pub(crate) fn kept_summary(&self, epoch: u32) -> Option<Summary>
+        ensures { result ≡ find epoch self.now.log.summaries }
+    {
+        self.summaries.get(epoch)
+    }
+
+    /// The epochs of the summaries rise.
+    pub(crate) fn summaries_rise(&self)
+        ensures { Ordered self.now.log.summaries }
+    {
+        self.summaries.rise();
     }
 
     /// Whether something is lost here.

@@ -108,6 +108,27 @@ impl Plain {
         }
     }
 
+    /// The summary that is kept of the epoch. Of epoch 0, which is clean everywhere, none needs to be kept.
+    #[tactic(auto, using(ld_table::proofs::Laws::table_rules))]
+    pub fn kept_summary(&self, log: LogId, epoch: u32) -> Option<Summary>
+        ensures { result ≡ find epoch (log_of self.now.state log).summaries }
+    {
+        match self.log(log) {
+            Some(state) => state.kept_summary(epoch),
+            None => None,
+        }
+    }
+
+    /// The epochs of the log's summaries rise strictly.
+    pub fn summaries_rise(&self, log: LogId)
+        ensures { Ordered (log_of self.now.state log).summaries }
+    {
+        match self.log(log) {
+            Some(state) => state.summaries_rise(),
+            None => {}
+        }
+    }
+
     /// Whether entries of the log are lost here.
     pub fn is_lost(&self, log: LogId) -> bool
         ensures { result ≡ (log_of self.now.state log).lost }

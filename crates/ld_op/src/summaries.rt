@@ -1,6 +1,6 @@
 // The summaries of a log's clean epochs, with places for those to come.
 ghost use Rattle.std.specs.Prelude.{◌≡◌, ℕ, [], true, OnOk};
-ghost use Rattle.ld_table.specs.Table.{find, put, first_from};
+ghost use Rattle.ld_table.specs.Table.{find, put, first_from, Ordered};
 ghost use Rattle.ld_op.specs.Places.{filled, has_place};
 
 use ld_ids::NoMemory;
@@ -55,6 +55,13 @@ impl SummaryMap {
             }
         }
         None
+    }
+
+    /// Their epochs rise.
+    pub(crate) fn rise(&self)
+        ensures { Ordered (filled self.now) }
+    {
+        let _ = self.map.len();
     }
 
     /// Makes a place for the epoch where nothing stands under it. Without memory nothing changes.

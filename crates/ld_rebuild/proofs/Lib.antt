@@ -1,0 +1,4 @@
+pub mod Walks
+pub mod Lackings
+pub mod Askings
+pub mod Refills
