@@ -6,3 +6,4 @@ pub mod Readings
 pub mod FineAfter
 pub mod Holding
 pub mod Cuts
+pub mod Wells

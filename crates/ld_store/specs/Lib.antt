@@ -2,3 +2,4 @@ pub mod Ops
 pub mod Faults
 pub mod Replayed
 pub mod Open
+pub mod Well

@@ -9,6 +9,7 @@ ghost use Rattle.ld_op.specs.Plain.{apply, unformatted};
 ghost use Rattle.ld_op.specs.Bounds.{IsOp};
 ghost use Rattle.ld_op.specs.Bytes.{op_bytes};
 ghost use Rattle.ld_store.specs.Ops.{is_format, bodies_of, state_after, are_none, AreOps, IsDamaged};
+ghost use Rattle.ld_store.specs.Well.{IsWell};
 ghost use Rattle.ld_store.specs.Replayed.{HasReplayed, IsReplayed};
 
 use crate::StoreFault;
@@ -51,9 +52,11 @@ pub(crate) fn replay_body(
     blank: bool,
     at: u64,
 ) -> Result<(), StoreFault>
+    requires well { IsWell plain.old.state }
     ensures applied { OnOk result ((op : Kind) × (body.now ≡ op_bytes op) × IsOp op × (is_format op ≡ blank) × (plain.new.state ≡ apply plain.old.state op)) }
     ensures refused { IfErr result (λ fault. (fault ≡ StoreFault.NoMemory)
         ⊎ ((fault ≡ StoreFault.Damaged at) × ((op : Kind) → IsOp op → is_format op ≡ blank → body.now ≢ op_bytes op))) }
+    ensures well { OnOk result (IsWell plain.new.state) }
 {
     let op = read_op(alloc, body, blank, at)?;
     plain.room(alloc, &op)?;
@@ -70,6 +73,7 @@ pub(crate) fn replay_next<D: Disk>(
     blank: bool,
 ) -> Result<bool, StoreFault>
     requires works { must_load journal.old ≡ false }
+    requires well { IsWell plain.old.state }
     ensures more { result ≡ Ok true → (bytes : List ℕ) → HasReplayed D.seen D.may_leave journal.old bytes plain.old.state blank
         → HasReplayed D.seen D.may_leave journal.new bytes plain.new.state false }
     ensures all { result ≡ Ok false → (bytes : List ℕ) → HasReplayed D.seen D.may_leave journal.old bytes plain.old.state blank
@@ -87,6 +91,7 @@ pub(crate) fn replay_next<D: Disk>(
     ensures works { OnOk result (must_load journal.new ≡ false) }
     ensures full { result ≢ Err StoreFault.Full }
     ensures needs_load { result ≢ Err StoreFault.NeedsLoad }
+    ensures well { OnOk result (IsWell plain.new.state) }
 {
     let at = journal.place();
     let more = journal.next_body(body)?;
@@ -104,6 +109,7 @@ pub(crate) fn replay<D: Disk>(
     plain: &mut Plain,
 ) -> Result<bool, StoreFault>
     requires works { must_load journal.old ≡ false }
+    requires well { IsWell plain.old.state }
     requires new { plain.old.state ≡ unformatted }
     ensures opened { IfOk result (λ blank. (bytes : List ℕ) → HasGiven D.seen D.may_leave journal.old [] bytes
         → IsReplayed D.seen D.may_leave journal.new bytes plain.new.state blank) }
@@ -118,6 +124,7 @@ pub(crate) fn replay<D: Disk>(
     ensures works { OnOk result (must_load journal.new ≡ false) }
     ensures full { result ≢ Err StoreFault.Full }
     ensures needs_load { result ≢ Err StoreFault.NeedsLoad }
+    ensures well { OnOk result (IsWell plain.new.state) }
 {
     let mut body = Vec::new(alloc);
     let mut blank = true;

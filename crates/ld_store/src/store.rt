@@ -1,6 +1,7 @@
 // A node's plain state, and the journal that its ops are durable in.
 ghost use Rattle.std.specs.Prelude.{◌≡◌, true};
 ghost use Rattle.ld_journal.specs.Open.{has_ended, must_load as journal_must_load};
+ghost use Rattle.ld_store.specs.Well.{IsWell, IsWell-prop};
 
 use crate::StoreFault;
 use crate::replay::replay;
@@ -9,7 +10,8 @@ use ld_journal::{Journal, JournalFault};
 use ld_op::{Epochs, Op, Plain};
 use std::alloc::Global;
 
-/// A node's plain state, and the disk that its ops are kept on.
+/// A node's plain state, and the disk that its ops are kept on. Each summary in the state is one of the epoch that it
+/// stands under.
 #[derive(Drop)]
 pub struct Store<D: Disk> {
     journal: Journal<D>,
@@ -18,6 +20,7 @@ pub struct Store<D: Disk> {
     failed: bool,
     ghost ended: { has_ended journal ≡ true },
     ghost failed_is: { journal_must_load journal ≡ failed },
+    pub ghost well: { IsWell plain.state } by { IsWell-prop plain.state },
 }
 
 impl<D: Disk> Store<D> {
@@ -85,9 +88,17 @@ impl<D: Disk> Store<D> {
         self.blank
     }
 
-    /// The plain state.
+    /// Whether an earlier call answered `Disk`.
+    pub fn needs_load(&self) -> bool
+        ensures { result ≡ must_load self.now }
+    {
+        self.failed
+    }
+
+    /// The plain state. Each summary in it is one of the epoch that it stands under.
     pub fn plain(&self) -> &Plain
-        ensures { result.now.state ≡ plain_of self.now }
+        ensures state { result.now.state ≡ plain_of self.now }
+        ensures well { IsWell (plain_of self.now) }
     {
         &self.plain
     }

@@ -3,6 +3,7 @@ use Rattle.ld_disk.specs.Moments.{Unchanged}
 use Rattle.ld_disk.specs.Plain.{Plain as DiskPlain}
 use Rattle.ld_disk.specs.Plain.{reads_fine}
 use Rattle.ld_journal.specs.Open.{HasGiven, disk_of, place_of, length_of, must_load}
+use Rattle.ld_store.specs.Well.{IsWell}
 use Rattle.ld_store.specs.Replayed.{HasReplayed}
 use Rattle.ld_store.proofs.replay.replay.Given as goal
 
@@ -13,6 +14,7 @@ invariant-records g l =
     × Unchanged g.D.Disk.seen g.D.Disk.may_leave g.D.Disk.moment g.D.Disk.left_since (disk_of l.fn.journal) (disk_of l.journal)
     × (g.D.Disk.faults (disk_of l.fn.journal) ≤ g.D.Disk.faults (disk_of l.journal))
     × (must_load l.journal ≡ false)
+    × IsWell l.plain.state
 
 abbrev pub decreases-records : goal.decreases-records
 decreases-records g l = length_of l.journal - place_of l.journal

@@ -8,6 +8,7 @@ use Rattle.ld_journal.specs.declared.fault.JournalFault.TheVariants as journals
 use Rattle.ld_store.specs.declared.fault.StoreFault.TheVariants as stores
 use Rattle.ld_store.specs.Faults.{passed_on}
 use Rattle.ld_store.proofs.Faults.{of_full, error_in, fault_in, none_refused}
+use Rattle.ld_store.proofs.Wells.{well_too}
 use Rattle.ld_store.proofs.Formats.{op_rises}
 use Rattle.ld_store.proofs.Holding.{body_is, body_fits, body_long, stand_either, leaves_too, images_stand, held_too}
 use Rattle.ld_store.proofs.store.Store.apply.Goals as goal
@@ -63,3 +64,6 @@ returns-in-Err-clause-too_long g c works long =
     let body = body_long c.args.op c.deref.result.now (body_is _ _ _ (op_bytes c.args.op) c.new-body.ensures.items c.in_ok-encode.ensures.ok c.deref.ensures.value) in
     let full = c.in-Err.ensures.full.1 (c.args.self.now.failed_is ∙ works, omega (arith, long, body)) in
     inl (ap Err (c.from.ensures ∙ ap passed_on (fault_in c.in-Err.fault journals.Full full)))
+
+pub invariant_of-self-in-Ok-clause-well : goal.invariant_of-self-in-Ok-clause-well
+invariant_of-self-in-Ok-clause-well g c = well_too c.args.self.now.plain.state c.apply.new.self.state c.args.op c.args.self.now.well c.requires.op (c.apply.ensures ∙ ap (λ s. apply s c.args.op) c.in_ok-room.ensures.same)

@@ -4,6 +4,7 @@ use Rattle.ld_journal.specs.Open.{HasGiven}
 use Rattle.ld_store.specs.Ops.{IsDamaged}
 use Rattle.ld_store.proofs.Faults.{of_damaged}
 use Rattle.ld_store.proofs.FineAfter.{fine_after}
+use Rattle.ld_store.proofs.Wells.{well_new}
 use Rattle.ld_store.proofs.Readings.{if_some, empty_is_damaged, none_damaged}
 use Rattle.ld_store.proofs.store.Store.load.Goals as goal
 
@@ -28,3 +29,6 @@ returns-in-Err-replay-clause-honest g c tells each place is =
     let D = g.D.Disk in
     none_damaged (D.seen c.args.disk) (D.may_leave c.args.disk) place tells (g.met.D.Disk.reads_an_image c.args.disk) each
     (if_some (D.seen c.args.disk) (λ bytes. HasGiven D.seen D.may_leave c.in-Ok.journal [] bytes) (IsDamaged place) (λ bytes given. c.in-Err-replay.ensures.damaged place (ap Err is) bytes given) c.in-Ok.ensures.opens)
+
+pub replay-requires-clause-well : goal.replay-requires-clause-well
+replay-requires-clause-well g c = well_new c.new-plain.result.state c.new-plain.ensures
