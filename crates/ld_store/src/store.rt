@@ -98,7 +98,7 @@ impl<D: Disk> Store<D> {
     /// The plain state. Each summary in it is one of the epoch that it stands under.
     pub fn plain(&self) -> &Plain
         ensures state { result.now.state ≡ plain_of self.now }
-        ensures well { IsWell (plain_of self.now) }
+        ensures well { IsWell result.now.state }
     {
         &self.plain
     }

@@ -1,0 +1,5 @@
+pub mod Handling
+pub mod Changes
+pub mod Faults
+pub mod Msgs
+pub mod Node

@@ -1,0 +1,11 @@
+//! A node: what it makes of messages, and what its store keeps first.
+#![tactic(auto)]
+
+mod fault;
+mod handled;
+mod keep;
+mod msgs;
+mod node;
+
+pub use fault::NodeFault;
+pub use node::Node;

@@ -1,0 +1,95 @@
+// A node over its store.
+use crate::NodeFault;
+use crate::keep::keep;
+use crate::msgs::{decide, release, released_by};
+use ld_disk::Disk;
+use ld_ids::{NodeId, NodeSet};
+use ld_lsn::Lsn;
+use ld_msg::{Msg, Replies};
+use ld_store::Store;
+use std::alloc::Global;
+use std::collections::BTreeMap;
+
+/// A node: its number, its store, the nodes of each log that it keeps, and the released numbers of its logs, which
+/// are kept in memory alone.
+#[derive(Drop)]
+pub struct Node<D: Disk> {
+    id: NodeId,
+    store: Store<D>,
+    sets: BTreeMap<u32, NodeSet>,
+    released: BTreeMap<u32, Lsn>,
+}
+
+
+impl<D: Disk> Node<D> {
+    ghost use Rattle.std.specs.Prelude.{◌≡◌, ◌≢◌, ◌⊎◌, ◌↔◌, ◌≤◌, ℕ, List, IfOk, OnOk, OnErr, IsErrOf, Ok, Err, Some, is_ok, true, false};
+    ghost use Rattle.ld_io.specs.Causes.{Rose};
+    ghost use Rattle.ld_disk.specs.Images.{IsHonest};
+    ghost use Rattle.ld_disk.specs.Moments.{LeavesOnly, Unchanged};
+    ghost use Rattle.ld_disk.specs.Plain.{Plain as DiskPlain, after_calls, all_succeed};
+    ghost use Rattle.ld_msg.specs.Bounds.{IsMessage};
+    ghost use Rattle.ld_op.specs.declared.op.Op.{Op as Kind};
+    ghost use Rattle.ld_op.specs.Handles.{answer_message};
+    ghost use Rattle.ld_store.specs.Ops.{StandsForEither};
+    ghost use Rattle.ld_node.specs.Changes.{kept, with_op, calls_of, IsPast};
+    ghost use Rattle.ld_node.specs.Msgs.{handled, released_after};
+    ghost use Rattle.ld_node.specs.Node.{id_of, sets_of, released_of, disk_of, place_of, must_load, is_blank, plain_of, Holds};
+
+    /// What a node makes of a message: the op that it keeps, and then what it answers. A message for another node, or
+    /// of a log that it doesn't keep, does nothing and has no answer.
+    ///
+    /// It refuses with `Full` where its journal would be longer than 2^40 bytes, and with `NoMemory`; then nothing has
+    /// changed. It refuses with `Disk` where a call of the disk failed: the op is then there or not, which the next
+    /// load tells, and until then each call answers `NeedsLoad`. No refusal changes anything in memory.
+    pub fn on_msg(&mut self, alloc: Global, msg: &Msg) -> Result<Replies, NodeFault>
+        requires msg { IsMessage msg.now }
+        requires formatted { is_blank self.old ≡ false }
+
+        ensures replies { IfOk result (λ replies. replies ≡ answer_message (id_of self.old) msg.now (handled (id_of self.old) (sets_of self.old) (released_of self.old) (plain_of self.old) msg.now).answer) }
+        ensures kept { OnOk result (plain_of self.new ≡ kept (handled (id_of self.old) (sets_of self.old) (released_of self.old) (plain_of self.old) msg.now).op (plain_of self.old)) }
+        ensures released { OnOk result (released_of self.new ≡ released_after (id_of self.old) (sets_of self.old) (released_of self.old) msg.now) }
+        ensures refused { OnErr result ((plain_of self.new ≡ plain_of self.old) × (released_of self.new ≡ released_of self.old)) }
+        ensures rest { (id_of self.new ≡ id_of self.old) × (sets_of self.new ≡ sets_of self.old) × (is_blank self.new ≡ false) }
+
+        // At `Ok` the op is durable: from then on each crash leaves a journal that has it.
+        ensures acknowledged { (ops : List Kind) → Holds D.seen D.may_leave self.old ops
+            → OnOk result (Holds D.seen D.may_leave self.new (with_op ops (handled (id_of self.old) (sets_of self.old) (released_of self.old) (plain_of self.old) msg.now).op)) }
+
+        // A crash at any moment of the call leaves what stands for the plain state before it or for that with the op.
+        ensures any_moment { (ops : List Kind) → Holds D.seen D.may_leave self.old ops
+            → LeavesOnly D.moment D.left_since (disk_of self.old) (disk_of self.new) (StandsForEither (plain_of self.old) (kept (handled (id_of self.old) (sets_of self.old) (released_of self.old) (plain_of self.old) msg.now).op (plain_of self.old))) }
+
+        // Where the disk tells what each call will do, it is the four writing calls of the op's record, or none.
+        ensures exact { (p : DiskPlain) → D.plain (disk_of self.old) ≡ Some p → (is_ok result ≡ true ⊎ IsErrOf result NodeFault.Disk)
+            → (D.plain (disk_of self.new) ≡ Some (after_calls (calls_of (place_of self.old) (handled (id_of self.old) (sets_of self.old) (released_of self.old) (plain_of self.old) msg.now).op) p))
+                × (is_ok result ≡ all_succeed (calls_of (place_of self.old) (handled (id_of self.old) (sets_of self.old) (released_of self.old) (plain_of self.old) msg.now).op) p) }
+
+        ensures full { IsErrOf result NodeFault.Full → IsPast (place_of self.old) (handled (id_of self.old) (sets_of self.old) (released_of self.old) (plain_of self.old) msg.now).op }
+        ensures needs_load { IsErrOf result NodeFault.NeedsLoad ↔ (must_load self.old ≡ true) }
+        ensures loads { (must_load self.new ≡ true) ↔ ((must_load self.old ≡ true) ⊎ IsErrOf result NodeFault.Disk) }
+        ensures damaged { (place : ℕ) → result ≢ Err (NodeFault.Damaged place) }
+        ensures counts { D.faults (disk_of self.old) ≤ D.faults (disk_of self.new) }
+        ensures failed { IsErrOf result NodeFault.Disk → Rose (D.faults (disk_of self.old)) (D.faults (disk_of self.new)) }
+
+        // Another refusal than `Disk` changes nothing.
+        ensures stays { OnErr result (IsErrOf result NodeFault.Disk ⊎ Unchanged D.seen D.may_leave D.moment D.left_since (disk_of self.old) (disk_of self.new)) }
+        ensures holds { (ops : List Kind) → Holds D.seen D.may_leave self.old ops
+            → OnErr result (IsErrOf result NodeFault.Disk ⊎ Holds D.seen D.may_leave self.new ops) }
+    {
+        if self.store.needs_load() {
+            return Err(NodeFault::NeedsLoad);
+        }
+        let (op, replies) = decide(
+            alloc,
+            self.id,
+            &self.sets,
+            &self.released,
+            self.store.plain(),
+            msg,
+        )?;
+        let number = released_by(self.id, &self.sets, msg);
+        release(&mut self.released, msg.log, number)?;
+        keep(alloc, &mut self.store, op)?;
+        Ok(replies)
+    }
+}
