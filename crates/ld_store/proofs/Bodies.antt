@@ -1,5 +1,5 @@
 -- Ops as bodies of a journal.
-use Rattle.std.proofs.Common.{◌≡◌, ◌≢◌, ◌<◌, ◌≤◌, ◌+◌, ◌*◌, ◌^◌, ℕ, List, [], ◌∷◌, ◌++◌, length, sym, ◌∙◌, ap, refl, arith, subst, true, false, Bool, not, length-append}
+use Rattle.std.proofs.Common.{◌≡◌, ◌≢◌, ◌<◌, ◌≤◌, ◌+◌, ◌*◌, ◌^◌, ℕ, List, [], ◌∷◌, ◌++◌, length, sym, ◌∙◌, ap, refl, arith, true, false, Bool, not, length-append}
 use mathlib.Core.Bool.{beq}
 use Rattle.std.proofs.lemmas.List.Elements.{All-nil, All-cons}
 use Rattle.byteorder.specs.Endian.{big_bytes}
@@ -13,7 +13,7 @@ use Rattle.ld_op.specs.declared.op.Op.TheVariants as ops
 use Rattle.ld_op.specs.Plain.{Plain, unformatted, apply, op_length, what_length, entry_length, entries_length, epochs_length}
 use Rattle.ld_op.specs.Bounds.{IsOp}
 use Rattle.ld_op.specs.Fields.{Read, Got, Off}
-use Rattle.ld_op.specs.Bytes.{op_bytes, what_bytes, entry_bytes, entries_bytes, epochs_bytes, summary_bytes, judge}
+use Rattle.ld_op.specs.Bytes.{op_bytes, what_bytes, entry_bytes, entries_bytes, epochs_bytes, judge}
 use Rattle.ld_op.proofs.Spelling.{judge-op_bytes}
 use Rattle.ld_store.specs.Ops.{bodies_of, apply_all, state_after, place_behind, is_format, are_none, AreChanges, AreOps, MayFollow}
 

@@ -1,5 +1,5 @@
 -- What a fault leaves of an op's record.
-use Rattle.std.proofs.Common.{◌≡◌, ◌≤◌, ◌+◌, ℕ, List, [], ◌∷◌, ◌++◌, length, Bool, true, false, if◌then◌else◌, Option, sym, ◌∙◌, ap, refl, subst, arith}
+use Rattle.std.proofs.Common.{◌≡◌, ◌≤◌, ◌+◌, ℕ, List, [], ◌∷◌, ◌++◌, length, Bool, true, false, if◌then◌else◌, Option, sym, ◌∙◌, refl, subst, arith}
 use Rattle.ld_disk.specs.Record.{State}
 use Rattle.ld_disk.specs.Plain.{Plain as DiskPlain, IsTold, after_calls, all_made}
 use Rattle.ld_disk.specs.declared.disk.Picture.{Picture}
@@ -9,7 +9,7 @@ use Rattle.ld_journal.specs.Pictures.{IsSafe, is_there, crashed_by, appended}
 use Rattle.ld_journal.proofs.Pictured.{pictures_decide, append_safe, late}
 use Rattle.ld_msg.specs.Register.{record_length}
 use Rattle.ld_op.specs.declared.op.Op.{Op}
-use Rattle.ld_op.specs.Plain.{Plain, apply, op_length}
+use Rattle.ld_op.specs.Plain.{apply, op_length}
 use Rattle.ld_op.specs.Bytes.{op_bytes}
 use Rattle.ld_store.specs.Ops.{bodies_of, state_after, place_behind, MayFollow, IsJournalOf, StandsFor, AreOps}
 use Rattle.ld_store.proofs.Bodies.{bodies-push, state-push, ops-push, places, op_fits}

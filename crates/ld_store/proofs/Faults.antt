@@ -1,5 +1,5 @@
 -- Which fault of a journal a store passed on.
-use Rattle.std.proofs.Common.{◌≡◌, ℕ, ap, refl, subst, sym, Result, Ok, Err}
+use Rattle.std.proofs.Common.{◌≡◌, ℕ, ap, refl, subst, Result, Ok, Err}
 use Rattle.std.specs.Result.{IsErrAnd, IsErrOf}
 use Rattle.ld_journal.specs.declared.fault.JournalFault.{JournalFault}
 use Rattle.ld_journal.specs.declared.fault.JournalFault.TheVariants as journals

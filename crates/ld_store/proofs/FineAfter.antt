@@ -1,5 +1,5 @@
 -- Reads after a writing call that succeeded.
-use Rattle.std.proofs.Common.{◌≡◌, Option, None, Some, Bool, true, false, refl, ◌==◌, if◌then◌else◌, ◌-◌, ℕ, subst, sym, ap}
+use Rattle.std.proofs.Common.{◌≡◌, Option, None, Some, Bool, true, false, refl, ◌==◌, if◌then◌else◌, ◌-◌, ℕ}
 use Rattle.ld_disk.specs.Plain.{Plain, Call, fate, is_made, armed_after, crashed_after, read_fine, reads_fine, succeeds, after_call}
 use Rattle.ld_disk.specs.declared.disk.Picture.{Picture}
 use Rattle.ld_disk.specs.declared.disk.Fault.{Fault}

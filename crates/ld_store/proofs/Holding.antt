@@ -1,15 +1,15 @@
 -- What a store holds after one op more.
-use Rattle.std.proofs.Common.{◌≡◌, ◌⊎◌, inl, inr, ⊎_elim, ◌<◌, ◌≤◌, ◌+◌, ◌^◌, ℕ, List, [], ◌∷◌, ◌++◌, length, Option, Bool, true, false, sym, ◌∙◌, ap, refl, subst, arith}
+use Rattle.std.proofs.Common.{◌≡◌, inl, inr, ⊎_elim, ◌<◌, ◌^◌, ℕ, List, [], ◌∷◌, ◌++◌, length, Option, Bool, false, sym, ◌∙◌, ap, subst}
 use Rattle.ld_disk.specs.Moments.{LeavesOnly}
 use Rattle.ld_disk.specs.declared.disk.Disk.{Ghosts}
-use Rattle.ld_journal.specs.Format.{records, IsJournal, IsWithOrWithout}
+use Rattle.ld_journal.specs.Format.{IsJournal, IsWithOrWithout}
 use Rattle.ld_journal.specs.Open.{IsSettled}
 use Rattle.ld_op.specs.declared.op.Op.{Op}
 use Rattle.ld_op.specs.Plain.{Plain, apply, op_length}
 use Rattle.ld_op.specs.Bounds.{IsOp}
 use Rattle.ld_op.specs.Bytes.{op_bytes}
-use Rattle.ld_store.specs.Ops.{bodies_of, state_after, is_format, are_none, AreOps, MayFollow, IsJournalOf, StandsFor, StandsForEither}
-use Rattle.ld_store.specs.Open.{disk_of, place_of, must_load, is_blank, plain_of, Holds}
+use Rattle.ld_store.specs.Ops.{bodies_of, state_after, is_format, are_none, AreOps, StandsFor, StandsForEither}
+use Rattle.ld_store.specs.Open.{disk_of, must_load, is_blank, plain_of, Holds}
 use Rattle.ld_store.specs.declared.store.Store.{Store}
 use Rattle.ld_store.proofs.Bodies.{bodies-push, state-push, ops-push, some-push, op_long, op_fits}
 

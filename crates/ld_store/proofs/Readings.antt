@@ -1,12 +1,12 @@
 -- Bytes are a journal of one list of ops at most, or damaged, not both.
-use Rattle.std.proofs.Common.{◌≡◌, ◌≢◌, ◌⊎◌, inl, inr, ⊎_elim, ◌<◌, ◌≤◌, ◌+◌, ◌^◌, ℕ, List, [], ◌∷◌, ◌++◌, length, Bool, true, false, sym, ◌∙◌, ap, refl, subst, arith, append_assoc, Option, Some, None, IfSome, IsSome}
-use Rattle.ld_journal.specs.Format.{framed, records, IsCutShort, IsJournal, Fits}
+use Rattle.std.proofs.Common.{◌≡◌, inl, inr, ⊎_elim, ◌<◌, ◌^◌, ℕ, List, [], ◌∷◌, ◌++◌, length, false, sym, ◌∙◌, ap, refl, subst, arith, append_assoc, Option, Some, None, IfSome, IsSome}
+use Rattle.ld_journal.specs.Format.{framed, records, IsJournal}
 use Rattle.ld_journal.proofs.Reading.{one_reading, behind_them, unframe, not_both}
 use Rattle.ld_op.specs.declared.op.Op.{Op}
 use Rattle.ld_op.specs.Plain.{Plain}
 use Rattle.ld_op.specs.Bounds.{IsOp}
 use Rattle.ld_op.specs.Bytes.{op_bytes}
-use Rattle.ld_store.specs.Ops.{bodies_of, state_after, is_format, are_none, AreChanges, AreOps, MayFollow, IsForeign, IsDamaged, IsJournalOf, StandsFor}
+use Rattle.ld_store.specs.Ops.{bodies_of, state_after, is_format, AreChanges, AreOps, MayFollow, IsForeign, IsDamaged, IsJournalOf, StandsFor}
 use Rattle.ld_store.proofs.Bodies.{same_op, ops_fit}
 
 abbrev head_of : List (List ℕ) → List ℕ

@@ -1,17 +1,16 @@
 -- One record more that was replayed.
-use Rattle.std.proofs.Common.{◌≡◌, ◌≢◌, ◌⊎◌, inl, inr, ⊎_elim, ◌<◌, ◌≤◌, ◌+◌, ◌^◌, drop, ℕ, List, [], ◌∷◌, ◌++◌, length, Option, Some, Bool, true, false, sym, ◌∙◌, ap, refl, subst, arith, append_assoc, length-append}
+use Rattle.std.proofs.Common.{◌≡◌, ◌≢◌, inl, inr, ◌<◌, ◌^◌, drop, ℕ, List, [], ◌∷◌, ◌++◌, length, Option, Some, Bool, false, sym, ◌∙◌, ap, refl, subst, arith, length-append}
 use Rattle.std.proofs.lemmas.List.{drop_at}
 use Rattle.std.proofs.Math.Seq.{get_or-append_seam}
-use Rattle.ld_journal.specs.Format.{framed, records, IsCutShort, IsJournal, Fits}
-use Rattle.ld_journal.specs.Format as journals
+use Rattle.ld_journal.specs.Format.{framed, records, Fits}
 use Rattle.ld_journal.specs.Open.{HasGiven}
 use Rattle.ld_journal.specs.declared.journal.Journal.{Journal}
 use Rattle.ld_journal.proofs.Records.{records-push}
 use Rattle.ld_op.specs.declared.op.Op.{Op}
-use Rattle.ld_op.specs.Plain.{Plain, unformatted, apply, op_length}
+use Rattle.ld_op.specs.Plain.{Plain, apply}
 use Rattle.ld_op.specs.Bounds.{IsOp}
 use Rattle.ld_op.specs.Bytes.{op_bytes}
-use Rattle.ld_store.specs.Ops.{bodies_of, state_after, is_format, are_none, AreOps, MayFollow, IsForeign, IsDamaged, IsJournalOf}
+use Rattle.ld_store.specs.Ops.{bodies_of, is_format, IsDamaged}
 use Rattle.ld_store.specs.Replayed.{HasReplayed}
 use Rattle.ld_store.proofs.Bodies.{bodies-push, state-push, ops-push, some-push}
 

@@ -1,5 +1,5 @@
 -- Plain states stay well.
-use Rattle.std.proofs.Common.{◌≡◌, ◌≢◌, ◌⊎◌, inl, inr, ⊎_elim, ℕ, List, [], ◌∷◌, Option, Some, None, sym, ◌∙◌, ap, refl, subst, arith, Bool, true, false, cond}
+use Rattle.std.proofs.Common.{◌≡◌, ⊎_elim, ℕ, List, [], ◌∷◌, Option, Some, sym, ◌∙◌, ap, refl, subst, Bool, true, false, cond}
 use Rattle.std.specs.Option.{unwrap_or}
 use Rattle.ld_table.specs.Table.{find, put}
 use Rattle.ld_table.proofs.Laws.{find-put_same, find-put_other, find-empty}
@@ -20,10 +20,12 @@ none_well e y is = let empty = find-empty {X = Summary} e in absurd (cc is)
 
 module _ (p : Plain) (l : ℕ) (g : Log) (well : IsWell p) (new : (e : ℕ) (y : Summary) → find e g.summaries ≡ Some y → IsSummary e y) where
   pub with_log_well : IsWell (with_log p l g)
-  with_log_well = record { summaries = λ k e y is. ⊎_elim
-      (λ same. new e y (sym (ap (λ o. find e (unwrap_or o empty_log).summaries) (find-put_same k l g p.logs same)) ∙ is))
-      (λ other. well.summaries k e y (sym (ap (λ o. find e (unwrap_or o empty_log).summaries) (find-put_other k l g p.logs other)) ∙ is))
-      (cases_eq k l) }
+  with_log_well = record {
+    summaries = λ k e y is. ⊎_elim
+        (λ same. new e y (sym (ap (λ o. find e (unwrap_or o empty_log).summaries) (find-put_same k l g p.logs same)) ∙ is))
+        (λ other. well.summaries k e y (sym (ap (λ o. find e (unwrap_or o empty_log).summaries) (find-put_other k l g p.logs other)) ∙ is))
+        (cases_eq k l);
+  }
 
 put_well : (m : List (ℕ × Summary)) (k : ℕ) (z : Summary) → ((e : ℕ) (y : Summary) → find e m ≡ Some y → IsSummary e y) → IsSummary k z → (e : ℕ) (y : Summary) → find e (put k z m) ≡ Some y → IsSummary e y
 put_well m k z well is_z e y is = ⊎_elim

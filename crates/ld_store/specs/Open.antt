@@ -1,9 +1,8 @@
 -- What an open store knows of its disk.
-use Rattle.std.specs.Prelude.{◌≡◌, ℕ, List, ◌++◌, length, Option, Bool, false}
+use Rattle.std.specs.Prelude.{◌≡◌, ℕ, List, length, Option, Bool, false}
 use Rattle.ld_journal.specs.Format.{records}
 use Rattle.ld_journal.specs.Open as journals
 use Rattle.ld_journal.specs.Open.{IsSettled, HasGiven}
-use Rattle.ld_journal.specs.declared.journal.Journal.{Journal}
 use Rattle.ld_op.specs.declared.op.Op.{Op}
 use Rattle.ld_op.specs.Plain.{Plain}
 use Rattle.ld_store.specs.Ops.{bodies_of, state_after, are_none, AreOps, IsJournalOf}

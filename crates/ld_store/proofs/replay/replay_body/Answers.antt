@@ -1,4 +1,4 @@
-use Rattle.std.proofs.Common.{◌≡◌, ◌∙◌, ap}
+use Rattle.std.proofs.Common.{◌∙◌, ap}
 use Rattle.ld_op.specs.Plain.{apply}
 use Rattle.ld_store.proofs.Wells.{well_too}
 use Rattle.ld_store.proofs.replay.replay_body.Goals as goal

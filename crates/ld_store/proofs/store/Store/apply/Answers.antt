@@ -1,4 +1,4 @@
-use Rattle.std.proofs.Common.{◌≡◌, Ok, Err, ap, sym, ◌∙◌, inl, inr, refl, ◌∷◌, [], ◌++◌, arith}
+use Rattle.std.proofs.Common.{Err, ap, sym, ◌∙◌, inl, refl, ◌∷◌, [], ◌++◌, arith}
 use Rattle.ld_journal.specs.Format.{IsWithOrWithout}
 use Rattle.ld_op.specs.Plain.{apply}
 use Rattle.ld_op.specs.Bytes.{op_bytes}

@@ -1,4 +1,4 @@
-use Rattle.std.proofs.Common.{◌≡◌, [], Err, Some, None, IfSome, ap, sym, ◌∙◌, inr}
+use Rattle.std.proofs.Common.{◌≡◌, [], Err, None, ap, sym, ◌∙◌, inr}
 use Rattle.ld_disk.specs.Plain.{after_call}
 use Rattle.ld_journal.specs.Open.{HasGiven}
 use Rattle.ld_store.specs.Ops.{IsDamaged}
