@@ -2,4 +2,5 @@ pub mod Handling
 pub mod Changes
 pub mod Faults
 pub mod Msgs
+pub mod Sets
 pub mod Node

@@ -41,3 +41,7 @@ module _ {D : Type 0} {g : Ghosts D} (seen : D → Option (List ℕ)) (may_leave
   -- its store holds these ops
   abbrev pub Holds : Node D g → List Op → Type 0
   Holds node ops = stores.Holds seen may_leave node.store ops
+
+  -- it holds the ops that these bytes are a journal of
+  abbrev pub IsOpened : Node D g → List ℕ → Type 0
+  IsOpened node bytes = stores.IsOpened seen may_leave node.store bytes

@@ -53,3 +53,17 @@ impl From<StoreFault> for NodeFault {
         }
     }
 }
+
+impl From<RegisterFault> for NodeFault {
+    ghost use Rattle.std.specs.Prelude.{◌≡◌};
+    ghost use Rattle.ld_node.specs.Faults.{of_register};
+
+    ghost from_gives = { λ fault e. e ≡ of_register fault };
+
+    fn from(fault: RegisterFault) -> NodeFault {
+        match fault {
+            RegisterFault::NoMemory => NodeFault::NoMemory,
+            _ => NodeFault::Register(fault),
+        }
+    }
+}

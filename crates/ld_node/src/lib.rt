@@ -6,6 +6,7 @@ mod handled;
 mod keep;
 mod msgs;
 mod node;
+mod sets;
 
 pub use fault::NodeFault;
 pub use node::Node;

@@ -2,7 +2,9 @@
 use crate::NodeFault;
 use crate::keep::keep;
 use crate::msgs::{decide, release, released_by};
-use ld_disk::Disk;
+use crate::sets::sets_in;
+use ld_config::Config;
+use ld_disk::{Disk, Fault};
 use ld_ids::{NodeId, NodeSet};
 use ld_lsn::Lsn;
 use ld_msg::{Msg, Replies};
@@ -22,18 +24,92 @@ pub struct Node<D: Disk> {
 
 
 impl<D: Disk> Node<D> {
-    ghost use Rattle.std.specs.Prelude.{◌≡◌, ◌≢◌, ◌⊎◌, ◌↔◌, ◌≤◌, ℕ, List, IfOk, OnOk, OnErr, IsErrOf, Ok, Err, Some, is_ok, true, false};
+    ghost use Rattle.std.specs.Prelude.{◌≡◌, ◌≢◌, ◌⊎◌, ◌↔◌, ◌≤◌, [], ℕ, List, IfOk, IfErr, IfSome, MatchResult, OnOk, OnErr, IsErrOf, Ok, Err, None, Some, is_ok, true, false};
+    ghost use Rattle.std.specs.Option.{option_map};
     ghost use Rattle.ld_io.specs.Causes.{Rose};
     ghost use Rattle.ld_disk.specs.Images.{IsHonest};
     ghost use Rattle.ld_disk.specs.Moments.{LeavesOnly, Unchanged};
-    ghost use Rattle.ld_disk.specs.Plain.{Plain as DiskPlain, after_calls, all_succeed};
+    ghost use Rattle.ld_disk.specs.Plain.{Plain as DiskPlain, after_call, succeeds, after_calls, all_succeed, reads_fine, armed_with};
     ghost use Rattle.ld_msg.specs.Bounds.{IsMessage};
     ghost use Rattle.ld_op.specs.declared.op.Op.{Op as Kind};
     ghost use Rattle.ld_op.specs.Handles.{answer_message};
-    ghost use Rattle.ld_store.specs.Ops.{StandsForEither};
+    ghost use Rattle.ld_store.specs.Ops.{StandsFor, StandsForEither, IsDamaged};
+    ghost use Rattle.ld_node.specs.Sets.{sets_in};
     ghost use Rattle.ld_node.specs.Changes.{kept, with_op, calls_of, IsPast};
     ghost use Rattle.ld_node.specs.Msgs.{handled, released_after};
-    ghost use Rattle.ld_node.specs.Node.{id_of, sets_of, released_of, disk_of, place_of, must_load, is_blank, plain_of, Holds};
+    ghost use Rattle.ld_node.specs.Node.{id_of, sets_of, released_of, disk_of, place_of, must_load, is_blank, plain_of, Holds, IsOpened};
+
+    /// Loads the node of this number from its disk, in one writing call, with the logs of the configuration whose
+    /// sets have it. Nothing is released yet.
+    ///
+    /// A refusal hands the disk back: `Disk` where a call of it failed, `Damaged(place)` where the record whose gate
+    /// is at that place is cut short, or its body is no op that may stand there, or the disk has no byte at all, and
+    /// `NoMemory`.
+    pub fn load(
+        alloc: Global,
+        id: NodeId,
+        disk: D,
+        config: &Config,
+    ) -> Result<Node<D>, (D, NodeFault)>
+        ensures node { IfOk result (λ node. (id_of node ≡ id) × (sets_of node ≡ sets_in id config.now.logs) × (released_of node ≡ [])) }
+        ensures opens { IfOk result (λ node. IfSome (D.seen disk) (IsOpened D.seen D.may_leave node)) }
+        ensures works { IfOk result (λ node. must_load node ≡ false) }
+        ensures counts { MatchResult result (λ node. D.faults disk ≤ D.faults (disk_of node)) (λ e. D.faults disk ≤ D.faults e.0) }
+
+        // A crash at any moment leaves what a crash before the call might have left.
+        ensures any_moment { MatchResult result (λ node. LeavesOnly D.moment D.left_since disk (disk_of node) (D.may_leave disk))
+            (λ e. LeavesOnly D.moment D.left_since disk e.0 (D.may_leave disk)) }
+
+        // Where the disk tells what each call will do, and no read of it fails, it is one writing call.
+        ensures exact { (p : DiskPlain) → D.plain disk ≡ Some p → reads_fine p ≡ true
+            → MatchResult result (λ node. (D.plain (disk_of node) ≡ Some (after_call None p)) × (succeeds p ≡ true))
+                (λ e. (e.1 ≡ NodeFault.NoMemory) ⊎ ((D.plain e.0 ≡ Some (after_call None p)) × ((e.1 ≡ NodeFault.Disk) ↔ (succeeds p ≡ false)))) }
+
+        ensures failed { IfErr result (λ e. e.1 ≡ NodeFault.Disk → Rose (D.faults disk) (D.faults e.0)) }
+        ensures damaged { IfErr result (λ e. (place : ℕ) → e.1 ≡ NodeFault.Damaged place → IfSome (D.seen disk) (IsDamaged place)) }
+        ensures honest { IfErr result (λ e. IsHonest (D.seen disk) → ((c : List ℕ) → D.may_leave disk c → (state : _) × StandsFor state c)
+            → (place : ℕ) → e.1 ≢ NodeFault.Damaged place) }
+        ensures full { IfErr result (λ e. e.1 ≢ NodeFault.Full) }
+        ensures needs_load { IfErr result (λ e. e.1 ≢ NodeFault.NeedsLoad) }
+    {
+        let sets = match sets_in(alloc, id, config.logs.as_slice()) {
+            Ok(sets) => sets,
+            Err(_) => return Err((disk, NodeFault::NoMemory)),
+        };
+        match Store::load(alloc, disk) {
+            Ok(store) => Ok(Node {
+                id,
+                store,
+                sets,
+                released: BTreeMap::new(alloc),
+            }),
+            Err((disk, fault)) => Err((disk, NodeFault::from(fault))),
+        }
+    }
+
+    /// Whether its store isn't formatted.
+    pub fn is_blank(&self) -> bool
+        ensures { result ≡ is_blank self.now }
+    {
+        self.store.is_blank()
+    }
+
+    /// Gives the disk back, as the last call left it.
+    pub fn into_disk(self) -> D
+        ensures { result ≡ disk_of self }
+    {
+        self.store.into_disk()
+    }
+
+    /// Tells a disk in memory to fail or to crash. Other disks ignore it.
+    pub fn arm(&mut self, fault: Fault)
+        ensures exact { D.plain (disk_of self.new) ≡ option_map (armed_with fault) (D.plain (disk_of self.old)) }
+        ensures same { Unchanged D.seen D.may_leave D.moment D.left_since (disk_of self.old) (disk_of self.new) }
+        ensures faults { D.faults (disk_of self.new) ≡ D.faults (disk_of self.old) }
+        ensures rest { (plain_of self.new ≡ plain_of self.old) × (released_of self.new ≡ released_of self.old) × (id_of self.new ≡ id_of self.old) × (sets_of self.new ≡ sets_of self.old) × (is_blank self.new ≡ is_blank self.old) × (must_load self.new ≡ must_load self.old) }
+    {
+        self.store.arm(fault);
+    }
 
     /// What a node makes of a message: the op that it keeps, and then what it answers. A message for another node, or
     /// of a log that it doesn't keep, does nothing and has no answer.
