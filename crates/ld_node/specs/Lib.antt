@@ -3,4 +3,5 @@ pub mod Changes
 pub mod Faults
 pub mod Msgs
 pub mod Sets
+pub mod Draws
 pub mod Node

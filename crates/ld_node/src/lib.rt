@@ -1,6 +1,7 @@
 //! A node: what it makes of messages, and what its store keeps first.
 #![tactic(auto)]
 
+mod epochs;
 mod fault;
 mod handled;
 mod keep;

@@ -1,5 +1,6 @@
 // A node over its store.
 use crate::NodeFault;
+use crate::epochs::copy;
 use crate::keep::keep;
 use crate::msgs::{decide, release, released_by};
 use crate::sets::sets_in;
@@ -8,6 +9,7 @@ use ld_disk::{Disk, Fault};
 use ld_ids::{NodeId, NodeSet};
 use ld_lsn::Lsn;
 use ld_msg::{Msg, Replies};
+use ld_register::{Drawn, Register};
 use ld_store::Store;
 use std::alloc::Global;
 use std::collections::BTreeMap;
@@ -24,7 +26,7 @@ pub struct Node<D: Disk> {
 
 
 impl<D: Disk> Node<D> {
-    ghost use Rattle.std.specs.Prelude.{◌≡◌, ◌≢◌, ◌⊎◌, ◌↔◌, ◌≤◌, [], ℕ, List, IfOk, IfErr, IfSome, MatchResult, OnOk, OnErr, IsErrOf, Ok, Err, None, Some, is_ok, true, false};
+    ghost use Rattle.std.specs.Prelude.{◌≡◌, ◌≢◌, ◌⊎◌, ◌↔◌, ◌≤◌, ◌++◌, [], ◌∷◌, ℕ, List, IfOk, IfErr, IfSome, MatchResult, OnOk, OnErr, IsErrOf, Ok, Err, None, Some, is_ok, true, false};
     ghost use Rattle.std.specs.Option.{option_map};
     ghost use Rattle.ld_io.specs.Causes.{Rose};
     ghost use Rattle.ld_disk.specs.Images.{IsHonest};
@@ -34,7 +36,13 @@ impl<D: Disk> Node<D> {
     ghost use Rattle.ld_op.specs.declared.op.Op.{Op as Kind};
     ghost use Rattle.ld_op.specs.Handles.{answer_message};
     ghost use Rattle.ld_store.specs.Ops.{StandsFor, StandsForEither, IsDamaged};
+    ghost use Rattle.ld_op.specs.declared.op.Op.TheVariants as kinds;
+    ghost use Rattle.ld_op.specs.Plain.{apply};
+    ghost use Rattle.ld_msg.specs.Register.{Register as Contents};
+    ghost use Rattle.ld_register.specs.Calls.{drawn as drawn_by, after_draw, ChangedOrNot};
+    ghost use Rattle.ld_register.specs.declared.fault.RegisterFault.TheVariants as faults;
     ghost use Rattle.ld_node.specs.Sets.{sets_in};
+    ghost use Rattle.ld_node.specs.Draws.{answered};
     ghost use Rattle.ld_node.specs.Changes.{kept, with_op, calls_of, IsPast};
     ghost use Rattle.ld_node.specs.Msgs.{handled, released_after};
     ghost use Rattle.ld_node.specs.Node.{id_of, sets_of, released_of, disk_of, place_of, must_load, is_blank, plain_of, Holds, IsOpened};
@@ -167,5 +175,39 @@ impl<D: Disk> Node<D> {
         release(&mut self.released, msg.log, number)?;
         keep(alloc, &mut self.store, op)?;
         Ok(replies)
+    }
+
+    /// Formats a blank node under a generation that the register draws for it: what the logs' epochs held so far is
+    /// lost here. The answer is what was drawn.
+    ///
+    /// It refuses with `Register` as the register's `draw` does. Once it is drawn it refuses with `Full` where its
+    /// journal would be longer than 2^40 bytes, and with `NoMemory`; then nothing else has changed. It refuses with
+    /// `Disk` where a call of the disk failed: the format is then there or not, which the next load tells, and until
+    /// then each call answers `NeedsLoad`.
+    pub fn format<G: Register>(&mut self, alloc: Global, reg: &mut G) -> Result<Drawn, NodeFault>
+        requires blank { is_blank self.old ≡ true }
+
+        ensures drawn { (c : Contents) → G.holds reg.old c → IfOk result (λ drawn. (answered drawn ≡ drawn_by c (id_of self.old)) × G.holds reg.new (after_draw c (id_of self.old))) }
+        ensures done_or_not { ChangedOrNot (G.may_hold reg.old) (G.may_hold reg.new) (λ c. after_draw c (id_of self.old)) }
+        ensures applied { IfOk result (λ drawn. (plain_of self.new ≡ apply (plain_of self.old) (kinds.Format drawn.gen_ drawn.epochs)) × (is_blank self.new ≡ false)) }
+        ensures acknowledged { (ops : List Kind) → Holds D.seen D.may_leave self.old ops
+            → IfOk result (λ drawn. Holds D.seen D.may_leave self.new (ops ++ kinds.Format drawn.gen_ drawn.epochs ∷ [])) }
+        ensures refused { OnErr result ((plain_of self.new ≡ plain_of self.old) × (is_blank self.new ≡ is_blank self.old)) }
+        ensures rest { (id_of self.new ≡ id_of self.old) × (sets_of self.new ≡ sets_of self.old) × (released_of self.new ≡ released_of self.old) }
+        ensures needs_load { IsErrOf result NodeFault.NeedsLoad ↔ (must_load self.old ≡ true) }
+        ensures loads { (must_load self.new ≡ true) ↔ ((must_load self.old ≡ true) ⊎ IsErrOf result NodeFault.Disk) }
+        ensures damaged { (place : ℕ) → result ≢ Err (NodeFault.Damaged place) }
+        ensures memory { result ≢ Err (NodeFault.Register faults.NoMemory) }
+        ensures counts { (D.faults (disk_of self.old) ≤ D.faults (disk_of self.new)) × (G.faults reg.old ≤ G.faults reg.new) }
+        ensures failed { IsErrOf result NodeFault.Disk → Rose (D.faults (disk_of self.old)) (D.faults (disk_of self.new)) }
+        ensures register_failed { IsErrOf result (NodeFault.Register faults.Failed) → Rose (G.faults reg.old) (G.faults reg.new) }
+    {
+        if self.store.needs_load() {
+            return Err(NodeFault::NeedsLoad);
+        }
+        let drawn = reg.draw(alloc, self.id)?;
+        let epochs = copy(alloc, &drawn.epochs)?;
+        self.store.format(alloc, drawn.gen_, epochs)?;
+        Ok(drawn)
     }
 }
