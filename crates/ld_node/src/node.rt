@@ -24,7 +24,6 @@ pub struct Node<D: Disk> {
     released: BTreeMap<u32, Lsn>,
 }
 
-
 impl<D: Disk> Node<D> {
     ghost use Rattle.std.specs.Prelude.{◌≡◌, ◌≢◌, ◌⊎◌, ◌↔◌, ◌≤◌, ◌++◌, [], ◌∷◌, ℕ, List, IfOk, IfErr, IfSome, MatchResult, OnOk, OnErr, IsErrOf, Ok, Err, None, Some, is_ok, true, false};
     ghost use Rattle.std.specs.Option.{option_map};
@@ -71,7 +70,7 @@ impl<D: Disk> Node<D> {
         // Where the disk tells what each call will do, and no read of it fails, it is one writing call.
         ensures exact { (p : DiskPlain) → D.plain disk ≡ Some p → reads_fine p ≡ true
             → MatchResult result (λ node. (D.plain (disk_of node) ≡ Some (after_call None p)) × (succeeds p ≡ true))
-                (λ e. (e.1 ≡ NodeFault.NoMemory) ⊎ ((D.plain e.0 ≡ Some (after_call None p)) × ((e.1 ≡ NodeFault.Disk) ↔ (succeeds p ≡ false)))) }
+            (λ e. (e.1 ≡ NodeFault.NoMemory) ⊎ ((D.plain e.0 ≡ Some (after_call None p)) × ((e.1 ≡ NodeFault.Disk) ↔ (succeeds p ≡ false)))) }
 
         ensures failed { IfErr result (λ e. e.1 ≡ NodeFault.Disk → Rose (D.faults disk) (D.faults e.0)) }
         ensures damaged { IfErr result (λ e. (place : ℕ) → e.1 ≡ NodeFault.Damaged place → IfSome (D.seen disk) (IsDamaged place)) }
@@ -146,7 +145,7 @@ impl<D: Disk> Node<D> {
         // Where the disk tells what each call will do, it is the four writing calls of the op's record, or none.
         ensures exact { (p : DiskPlain) → D.plain (disk_of self.old) ≡ Some p → (is_ok result ≡ true ⊎ IsErrOf result NodeFault.Disk)
             → (D.plain (disk_of self.new) ≡ Some (after_calls (calls_of (place_of self.old) (handled (id_of self.old) (sets_of self.old) (released_of self.old) (plain_of self.old) msg.now).op) p))
-                × (is_ok result ≡ all_succeed (calls_of (place_of self.old) (handled (id_of self.old) (sets_of self.old) (released_of self.old) (plain_of self.old) msg.now).op) p) }
+            × (is_ok result ≡ all_succeed (calls_of (place_of self.old) (handled (id_of self.old) (sets_of self.old) (released_of self.old) (plain_of self.old) msg.now).op) p) }
 
         ensures full { IsErrOf result NodeFault.Full → IsPast (place_of self.old) (handled (id_of self.old) (sets_of self.old) (released_of self.old) (plain_of self.old) msg.now).op }
         ensures needs_load { IsErrOf result NodeFault.NeedsLoad ↔ (must_load self.old ≡ true) }

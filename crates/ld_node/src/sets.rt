@@ -10,11 +10,7 @@ use std::collections::BTreeMap;
 
 /// Adds the nodes of a log, where the node is one of them.
 #[tactic(auto, unfolding(ld_table::specs::Table::put))]
-fn add_set(
-    sets: &mut BTreeMap<u32, NodeSet>,
-    id: NodeId,
-    spec: &Spec,
-) -> Result<(), NoMemory>
+fn add_set(sets: &mut BTreeMap<u32, NodeSet>, id: NodeId, spec: &Spec) -> Result<(), NoMemory>
     ensures { OnOk result (sets.new.entries ≡ (if has_node id spec.now.set then put spec.now.log spec.now.set sets.old.entries else sets.old.entries)) }
 {
     if spec.set.has(id) {
