@@ -1,0 +1,47 @@
+-- What a node is, as contracts see it.
+use Rattle.std.specs.Prelude.{ℕ, List, Option, Bool}
+use Rattle.ld_disk.specs.declared.disk.Disk.{Ghosts}
+use Rattle.ld_op.specs.declared.op.Op.{Op}
+use Rattle.ld_op.specs.Plain.{Plain}
+use Rattle.ld_store.specs.Open as stores
+use Rattle.ld_node.specs.declared.node.Node.{Node}
+
+module _ {D : Type 0} {g : Ghosts D} where
+  -- its number
+  abbrev pub id_of : Node D g → ℕ
+  id_of node = node.id
+
+  -- the nodes of each log that it keeps
+  abbrev pub sets_of : Node D g → List (ℕ × List Bool)
+  sets_of node = node.sets.entries
+
+  -- the released numbers by log, which are kept in memory alone
+  abbrev pub released_of : Node D g → List (ℕ × ℕ)
+  released_of node = node.released.entries
+
+  abbrev pub disk_of : Node D g → D
+  disk_of node = stores.disk_of node.store
+
+  -- the place of the gate behind the records of its journal
+  abbrev pub place_of : Node D g → ℕ
+  place_of node = stores.place_of node.store
+
+  -- an earlier call answered that the disk failed
+  abbrev pub must_load : Node D g → Bool
+  must_load node = stores.must_load node.store
+
+  -- its store isn't formatted
+  abbrev pub is_blank : Node D g → Bool
+  is_blank node = stores.is_blank node.store
+
+  abbrev pub plain_of : Node D g → Plain
+  plain_of node = stores.plain_of node.store
+
+module _ {D : Type 0} {g : Ghosts D} (seen : D → Option (List ℕ)) (may_leave : D → List ℕ → Type 0) where
+  -- its store holds these ops
+  abbrev pub Holds : Node D g → List Op → Type 0
+  Holds node ops = stores.Holds seen may_leave node.store ops
+
+  -- it holds the ops that these bytes are a journal of
+  abbrev pub IsOpened : Node D g → List ℕ → Type 0
+  IsOpened node bytes = stores.IsOpened seen may_leave node.store bytes
