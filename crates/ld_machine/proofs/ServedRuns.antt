@@ -1,5 +1,5 @@
 -- Runs of the machine while it is being built: one event more, and the run of the whole machine that they are.
-use Rattle.std.proofs.Common.{◌≡◌, ℕ, Bool, true, false, List, [], ◌∷◌, ◌++◌, refl, sym, ap, ◌∙◌}
+use Rattle.std.proofs.Common.{◌≡◌, List, [], ◌∷◌, ◌++◌, refl, sym, ap, ◌∙◌}
 use Rattle.std.proofs.lemmas.List.{append_assoc, append-nil}
 use Rattle.ld_schedule.specs.declared.event.Event.{Event}
 use Rattle.ld_config.specs.declared.config.Config.{Config}

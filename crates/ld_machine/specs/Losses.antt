@@ -1,22 +1,13 @@
 -- A number that a reader calls lost: the step in which the reader asked the lost nodes once more, and the one that called it lost.
-use Rattle.std.specs.Prelude.{ℕ, ◌≡◌, ◌≤◌, ◌<◌, List, [], Option, Some, None, Bool, true, ◌&&◌}
-use Rattle.ld_table.specs.Words.{how_many}
+use Rattle.std.specs.Prelude.{ℕ, ◌≡◌, ◌<◌, List, Some}
 use Rattle.ld_table.specs.Named.{find_named}
-use Rattle.ld_lsn.specs.Number.{home_epoch}
 use Rattle.ld_schedule.specs.declared.event.Event.{Event}
 use Rattle.ld_transcript.specs.declared.line.Line.TheVariants as lines
 use Rattle.ld_transcript.specs.declared.line.GapKind.TheVariants as gaps
-use Rattle.ld_msg.specs.declared.msg.Summary.{Summary}
 use Rattle.ld_msg.specs.Reader.{Reader, Confirmation}
-use Rattle.ld_op.specs.Plain.{log_of, is_lost}
 use Rattle.ld_config.specs.declared.config.Config.{Config}
-use Rattle.ld_config.specs.Bounds.{IsInBounds}
-use Rattle.ld_machine.specs.Config.{spec_of, set_at}
-use Rattle.ld_machine.specs.Disk.{Node, Cut}
-use Rattle.ld_machine.specs.State.{node_at}
-use Rattle.ld_machine.specs.World.{World, In, begin, has_told, says_settled}
+use Rattle.ld_machine.specs.World.{World, In, begin}
 use Rattle.ld_machine.specs.Run.{next_world, world_after, happened}
-use Rattle.ld_machine.specs.Invariant.{Closed}
 
 -- the reader confirms in this round that the number is lost
 pub record IsConfirming (w : World) (name : List ℕ) (s round : ℕ) : Type 0 where

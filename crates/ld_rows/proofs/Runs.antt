@@ -26,9 +26,9 @@ use Rattle.ld_table.specs.Table.{find, put, keep, keep_keys}
 use Rattle.ld_transcript.specs.Text.{kind_text, gap_text, actor_text, line_text}
 use Rattle.hex.specs.Hex.{encode_with}
 use Rattle.std.specs.Fmt.{digits}
-use Rattle.ld_rows.specs.Schedules.{three_nodes, five_nodes, one_append, half_stored, cut_off, trimmed, rebuilt, lost, hole_between, two_recoveries, register_fault}
-use Rattle.ld_rows.specs.Texts.{one_append_text, half_stored_text, cut_off_text, trimmed_text, rebuilt_text, lost_text, hole_between_text, two_recoveries_text, register_fault_text}
-use Rattle.ld_rows.specs.Told.{told_text, has_loss, kept_by_call}
+use Rattle.ld_rows.specs.Schedules.{three_nodes, five_nodes, one_append, half_stored, cut_off, trimmed, rebuilt, lost, hole_between, two_recoveries, register_fault, torn_rebuild, torn_rebuild_asked, torn_rebuild_heard}
+use Rattle.ld_rows.specs.Texts.{one_append_text, half_stored_text, cut_off_text, trimmed_text, rebuilt_text, lost_text, hole_between_text, two_recoveries_text, register_fault_text, torn_rebuild_text}
+use Rattle.ld_rows.specs.Told.{told_text, has_loss, kept_by_call, lost_states, asks_again}
 
 pub one_append_is : transcript three_nodes one_append ≡ one_append_text
 unfolding hex_text choice_at members_from pair_text is_found keep_op keep_end load step lines_of finish delivers happens statement with_page with_lost enough best digest_trim top_place plan_end plan message on_answer is_loss decide change activate close draw after_close is_ready on_reply on_retry appending activated store_decision on_store digest_decision on_digest_ask on_clean on_trim on_release read_answer summary_at apply op_length missing is_missing on_page on_tick same find_named put_named find put keep keep_keys kind_text gap_text actor_text line_text encode_with digits
@@ -93,3 +93,27 @@ new_kept = refl
 pub digits_kept : kept_by_call (pictures.Byte 7) ≡ false ∷ false ∷ false ∷ false ∷ []
 unfolding hex_text choice_at members_from pair_text is_found keep_op keep_end load step lines_of finish delivers happens statement with_page with_lost enough best digest_trim top_place plan_end plan message on_answer is_loss decide change activate close draw after_close is_ready on_reply on_retry appending activated store_decision on_store digest_decision on_digest_ask on_clean on_trim on_release read_answer summary_at apply op_length missing is_missing on_page on_tick same find_named put_named find put keep keep_keys kind_text gap_text actor_text line_text encode_with digits state_after
 digits_kept = refl
+
+pub torn_rebuild_is : told_text three_nodes torn_rebuild ≡ torn_rebuild_text
+unfolding hex_text choice_at members_from pair_text is_found keep_op keep_end load step lines_of finish delivers happens statement with_page with_lost enough best digest_trim top_place plan_end plan message on_answer is_loss decide change activate close draw after_close is_ready on_reply on_retry appending activated store_decision on_store digest_decision on_digest_ask on_clean on_trim on_release read_answer summary_at apply op_length missing is_missing on_page on_tick same find_named put_named find put keep keep_keys kind_text gap_text actor_text line_text encode_with digits
+torn_rebuild_is = refl
+
+pub lost_at_1 : lost_states 1 1 torn_rebuild_asked ≡ true ∷ []
+unfolding hex_text choice_at members_from pair_text is_found keep_op keep_end load step lines_of state_after finish delivers happens statement with_page with_lost enough best digest_trim top_place plan_end plan message on_answer is_loss decide change activate close draw after_close is_ready on_reply on_retry appending activated store_decision on_store digest_decision on_digest_ask on_clean on_trim on_release read_answer summary_at apply op_length missing is_missing on_page on_tick same find_named put_named find put keep keep_keys kind_text gap_text actor_text line_text encode_with digits
+lost_at_1 = refl
+
+pub lost_at_2 : lost_states 1 2 torn_rebuild_asked ≡ false ∷ []
+unfolding hex_text choice_at members_from pair_text is_found keep_op keep_end load step lines_of state_after finish delivers happens statement with_page with_lost enough best digest_trim top_place plan_end plan message on_answer is_loss decide change activate close draw after_close is_ready on_reply on_retry appending activated store_decision on_store digest_decision on_digest_ask on_clean on_trim on_release read_answer summary_at apply op_length missing is_missing on_page on_tick same find_named put_named find put keep keep_keys kind_text gap_text actor_text line_text encode_with digits
+lost_at_2 = refl
+
+pub lost_at_3 : lost_states 1 3 torn_rebuild_asked ≡ true ∷ false ∷ []
+unfolding hex_text choice_at members_from pair_text is_found keep_op keep_end load step lines_of state_after finish delivers happens statement with_page with_lost enough best digest_trim top_place plan_end plan message on_answer is_loss decide change activate close draw after_close is_ready on_reply on_retry appending activated store_decision on_store digest_decision on_digest_ask on_clean on_trim on_release read_answer summary_at apply op_length missing is_missing on_page on_tick same find_named put_named find put keep keep_keys kind_text gap_text actor_text line_text encode_with digits
+lost_at_3 = refl
+
+pub not_yet_asked : asks_again torn_rebuild_heard ≡ []
+unfolding hex_text choice_at members_from pair_text is_found keep_op keep_end load step lines_of state_after finish delivers happens statement with_page with_lost enough best digest_trim top_place plan_end plan message on_answer is_loss decide change activate close draw after_close is_ready on_reply on_retry appending activated store_decision on_store digest_decision on_digest_ask on_clean on_trim on_release read_answer summary_at apply op_length missing is_missing on_page on_tick same find_named put_named find put keep keep_keys kind_text gap_text actor_text line_text encode_with digits
+not_yet_asked = refl
+
+pub asked_again : asks_again torn_rebuild_asked ≡ 2 ∷ []
+unfolding hex_text choice_at members_from pair_text is_found keep_op keep_end load step lines_of state_after finish delivers happens statement with_page with_lost enough best digest_trim top_place plan_end plan message on_answer is_loss decide change activate close draw after_close is_ready on_reply on_retry appending activated store_decision on_store digest_decision on_digest_ask on_clean on_trim on_release read_answer summary_at apply op_length missing is_missing on_page on_tick same find_named put_named find put keep keep_keys kind_text gap_text actor_text line_text encode_with digits
+asked_again = refl

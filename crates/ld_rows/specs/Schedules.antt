@@ -4,6 +4,7 @@ use Rattle.ld_lsn.specs.Number.{numbered}
 use Rattle.ld_schedule.specs.declared.event.Event.{Event}
 use Rattle.ld_schedule.specs.declared.event.Event.TheVariants as events
 use Rattle.ld_schedule.specs.declared.event.Picture.{Picture}
+use Rattle.ld_schedule.specs.declared.event.Picture.TheVariants as pictures
 use Rattle.ld_config.specs.declared.config.Config.{Config}
 
 -- the first nodes, as many as the number says
@@ -109,3 +110,19 @@ abbrev pub torn : ℕ → Picture → List Event
 torn call picture =
     events.Format 1 ∷ events.Format 2 ∷ events.Format 3 ∷ events.Activate sequencer_a 1 ∷ events.Append sequencer_a (104 ∷ 105 ∷ []) ∷ events.Tear 3 call picture ∷
     events.Deliver 0 ∷ events.Up 3 ∷ []
+
+-- a record is on nodes 1 and 3; node 3 is wiped and refills from node 1, which is wiped then; a reader hears that node 3 is lost, and node 3 crashes in the record that it is rebuilt
+abbrev pub torn_rebuild_heard : List Event
+torn_rebuild_heard =
+    events.Format 1 ∷ events.Format 2 ∷ events.Format 3 ∷ events.Activate sequencer_a 1 ∷ events.Append sequencer_a (97 ∷ []) ∷ events.Flow 100 ∷
+    events.Activate sequencer_b 1 ∷ events.Flow 200 ∷ events.Wipe 3 ∷ events.Format 3 ∷ events.Activate sequencer_c 1 ∷ events.Flow 300 ∷ events.Tick 3 1 ∷
+    events.Tick 3 1 ∷ events.Flow 20 ∷ events.Wipe 1 ∷ events.Format 1 ∷ events.Open reader_r 1 (numbered 1 1) (numbered 1 1) ∷ events.Poll reader_r ∷
+    events.Flow 5 ∷ events.Tear 3 1 pictures.Old ∷ events.Tick 3 1 ∷ []
+
+-- one answer more, and the reader asks the lost nodes once more
+abbrev pub torn_rebuild_asked : List Event
+torn_rebuild_asked = torn_rebuild_heard ++ events.Flow 1 ∷ []
+
+-- node 3 loads, and both answer
+abbrev pub torn_rebuild : List Event
+torn_rebuild = torn_rebuild_asked ++ events.Up 3 ∷ events.Flow 20 ∷ []

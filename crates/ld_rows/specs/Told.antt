@@ -1,6 +1,7 @@
 -- What is read from a run: its lines but those of messages, and whether a number was called lost.
-use Rattle.std.specs.Prelude.{ℕ, List, [], ◌∷◌, filter, map, is_some, Bool, true, false}
+use Rattle.std.specs.Prelude.{ℕ, List, [], ◌∷◌, filter, map, Option, Some, None, is_some, Bool, true, false}
 use Rattle.ld_table.specs.Table.{find}
+use Rattle.ld_table.specs.Named.{find_named}
 use Rattle.ld_table.specs.Words.{any_of}
 use Rattle.ld_lsn.specs.Number.{numbered}
 use Rattle.ld_schedule.specs.declared.event.Event.{Event}
@@ -10,11 +11,13 @@ use Rattle.ld_transcript.specs.declared.line.Line.TheVariants as lines
 use Rattle.ld_transcript.specs.declared.line.GapKind.TheVariants as gaps
 use Rattle.ld_transcript.specs.Text.{text}
 use Rattle.ld_config.specs.declared.config.Config.{Config}
-use Rattle.ld_op.specs.Plain.{log_of}
+use Rattle.ld_msg.specs.Reader.{Reader, Confirmation}
+use Rattle.ld_op.specs.Plain.{log_of, is_lost}
+use Rattle.ld_machine.specs.Disk.{Cut, Node}
 use Rattle.ld_machine.specs.State.{start, node_at}
 use Rattle.ld_machine.specs.Run.{lines_of, state_after}
 use Rattle.ld_machine.specs.Exercise.{is_gap}
-use Rattle.ld_rows.specs.Schedules.{three_nodes, torn}
+use Rattle.ld_rows.specs.Schedules.{three_nodes, reader_r, torn}
 
 abbrev pub is_telling : Line → Bool
 is_telling (lines.Message i from to kind n) = false
@@ -34,3 +37,23 @@ is_kept call picture = is_some (find (numbered 1 1) (log_of (node_at (state_afte
 -- for each of a record's four writing calls
 abbrev pub kept_by_call : Picture → List Bool
 kept_by_call picture = map (λ call. is_kept call picture) (1 ∷ 2 ∷ 3 ∷ 4 ∷ [])
+
+-- whether a node is lost for an epoch of log 1 in the state before a record that was cut short, and in the one after it
+abbrev pub cut_states : ℕ → Option Cut → List Bool
+cut_states e None = []
+cut_states e (Some k) = is_lost (log_of k.plain 1) e ∷ []
+
+abbrev pub lost_states : ℕ → ℕ → List Event → List Bool
+lost_states e n es = let x : Node = node_at (state_after three_nodes (start three_nodes) es) n in is_lost (log_of x.plain 1) e ∷ cut_states e x.cut
+
+-- the round in which a reader asks lost nodes once more, if it does
+abbrev pub again_in : Option Confirmation → List ℕ
+again_in None = []
+again_in (Some v) = v.round ∷ []
+
+abbrev pub again_of : Option Reader → List ℕ
+again_of None = []
+again_of (Some d) = again_in d.confirming
+
+abbrev pub asks_again : List Event → List ℕ
+asks_again es = again_of (find_named reader_r (state_after three_nodes (start three_nodes) es).readers)

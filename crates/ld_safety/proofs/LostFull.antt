@@ -112,7 +112,7 @@ full_clean g k y pos n F = record {
   full = λ l s z h b u p q. elim (put_cases (epoch_of s) k y g.summaries) [
     | inl a ↦ absurd (clean_apart g k k (F.clean l) pos (let x = a.0 in omega arith) n refl)
     | inr a ↦ keep_some (λ s e. survives_clean (max g.trim y.trim) k y e) s g.entries (F.full l s z (sym a.1 ∙ h) b (omega arith) p q) (λ f x. let m = F.numbers s f x in
-      and_from _ _ (subst (λ v. nat_lt (max g.trim y.trim) v ≡ true) (sym m) (lt-ltb (max g.trim y.trim) s u)) (or_left (not (epoch_of f.number == k)) _ (not_same (epoch_of f.number) k (λ v. a.0 (ap epoch_of (sym m) ∙ v)))))
+        and_from _ _ (subst (λ v. nat_lt (max g.trim y.trim) v ≡ true) (sym m) (lt-ltb (max g.trim y.trim) s u)) (or_left (not (epoch_of f.number == k)) _ (not_same (epoch_of f.number) k (λ v. a.0 (ap epoch_of (sym m) ∙ v)))))
   ];
 } where
   still : (e : ℕ) → is_some (if e == 0 then Some epoch_zero else find e g.summaries) ≡ true → is_some (if e == 0 then Some epoch_zero else find e (put k y g.summaries)) ≡ true

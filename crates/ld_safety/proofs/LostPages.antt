@@ -48,10 +48,14 @@ pub home_place : (f k : ℕ) → home_esn f < k → k ≤ last_esn → (0 < home
 home_place f k = by_end (is_epoch_end f) refl where
   by_end : (b : Bool) → is_epoch_end f ≡ b → (if b then 2 ^ 32 else esn_of f) < k → k ≤ last_esn → (0 < (if b then epoch_of f - 1 else epoch_of f) → (if b then epoch_of f - 1 else epoch_of f) * 2 ^ 32 < f) × ((if b then epoch_of f - 1 else epoch_of f) * 2 ^ 32 ≤ f) × (f < (if b then epoch_of f - 1 else epoch_of f) * 2 ^ 32 + k)
   by_end true t a b = absurd (omega arith)
-  by_end false t a b = (λ z. elim (cases_Bool (esn_of f == 0)) [
-    | inl u ↦ absurd (let v : is_epoch_end f ≡ true = and_from (esn_of f == 0) (nat_lt 0 (epoch_of f)) u (lt-ltb 0 (epoch_of f) z) in not_both _ v t)
-    | inr u ↦ let v = eqb-false (esn_of f) 0 u in elim (cases_order (esn_of f) 0) [ inl k ↦ absurd (v k) | inr (inl k) ↦ absurd (omega arith) | inr (inr k) ↦ omega arith ]
-  ], omega arith, omega arith)
+  by_end false t a b = (
+    λ z. elim (cases_Bool (esn_of f == 0)) [
+      | inl u ↦ absurd (let v : is_epoch_end f ≡ true = and_from (esn_of f == 0) (nat_lt 0 (epoch_of f)) u (lt-ltb 0 (epoch_of f) z) in not_both _ v t)
+      | inr u ↦ let v = eqb-false (esn_of f) 0 u in elim (cases_order (esn_of f) 0) [ inl k ↦ absurd (v k) | inr (inl k) ↦ absurd (omega arith) | inr (inr k) ↦ omega arith ]
+    ],
+    omega arith,
+    omega arith,
+  )
 
 -- ---- lists ----
 in_values : (k : ℕ) (f : Entry) (m : List (ℕ × Entry)) → In (k, f) m → In f (values m)

@@ -63,11 +63,9 @@ LossesWereSeen = (c : Config) (name : List ℕ) (l s round : ℕ) (before : List
     SeenLost c before asks l s y ⊎ ShowsWithout (next_world c (world_after c (begin c) before) asks) name s y
 
 -- as many nodes as the log has copies may be lost that had answered the number to the closing plan.
--- "May be", since a crash can cut short the record by which a lost node says that it is refilled: it then has two states, lost in one and not in the other, and the next load finds either.
--- Where the load finds the first, the node tells the reader that it is lost, in the generation that it was asked for, and rightly so: it was lost all the time between (LostOnce).
--- So it doesn't hold that each of these nodes was lost in both states when it was asked. With two nodes and two copies: the first one is wiped, formatted and lost, a reader hears that,
--- the node gets the number back from the second one and crashes in the record that it is refilled; the second one is wiped and formatted; the reader hears that it is lost too, and asks both once more;
--- the first one loads, is found as before the record, and answers that it is lost, as does the second: the reader calls the number lost, and only one of the two nodes had been lost in both its states.
+-- It doesn't hold that each of them is lost in both states that a crash leaves. A crash can cut short the record by which a lost node says that it is rebuilt: then it is lost before this record and not after it, and a load finds either.
+-- With three nodes and two copies: nodes 1 and 3 have a record; node 3 is wiped and gets it back from node 1, which is wiped then; a reader hears that node 3 is lost, which crashes in that record; the reader hears that node 1 is lost, and asks both once more.
+-- Node 3 loads, is found lost, and says so under the generation that was held for it, as does node 1: the number is called lost, and one node alone had been lost in both states when they were asked (the run is `torn_rebuild` in ld_rows).
 abbrev pub CopiesMayBeLost : Config → World → ℕ → ℕ → Type 0
 CopiesMayBeLost c w l s = (y : Summary) × Closed w l (home_epoch s) y ×
     ((spec_of c l (home_epoch s)).r ≤ how_many (λ n. may_be_lost l (home_epoch s) (node_at w.state n) && has_told w (says_settled s) l y.ballot n) (set_at c l (home_epoch s)))
