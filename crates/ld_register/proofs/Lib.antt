@@ -6,3 +6,4 @@ pub mod Faulty
 pub mod Committing
 pub mod Meeting
 pub mod Answering
+pub mod Growing
