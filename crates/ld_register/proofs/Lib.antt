@@ -7,3 +7,4 @@ pub mod Committing
 pub mod Meeting
 pub mod Answering
 pub mod Growing
+pub mod Few
