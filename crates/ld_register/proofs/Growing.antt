@@ -1,7 +1,7 @@
 -- Over any list of calls, failed ones among them, numbers that were handed out don't fall, and what is closed stays.
 use Rattle.std.proofs.Common.{◌≡◌, ◌∙◌, ◌≤◌, ◌<◌, ◌⊎◌, ◌+◌, ℕ, inl, inr, refl, ap, sym, subst, Bool, true, false, cond, ◌==◌, ◌&&◌, nat_lt, nat_le, Option, Some, None, List, [], ◌∷◌, ◌++◌, Result, Ok, Err, arith}
 use Rattle.std.specs.Option.{unwrap_or}
-use Rattle.std.proofs.lemmas.Bool.{cases_Bool, eqb-true, leb-true, le-leb, or_parts}
+use Rattle.std.proofs.lemmas.Bool.{eqb-true, leb-true, le-leb, or_parts}
 use Rattle.ld_table.specs.Table.{find, put}
 use Rattle.ld_table.proofs.Laws.{put_cases, find-put_same}
 use Rattle.ld_msg.specs.declared.msg.Summary.{Summary}
@@ -315,8 +315,7 @@ looks_agree c d before between after l e k v w r =
     let (i, middle, (f, q, last)) = runs_split b between (Looks l k (Ok w) ∷ after) d rest in
     let x = looks_ok a b l e v p in
     let z = looks_ok i f l k w q in
-    let g = (runs_grow b between i middle).logs l in
-    (
+    let g = (runs_grow b between i middle).logs l in (
       (let s = ap (λ (x : View). x.epoch) x.0 in let t = ap (λ (x : View). x.epoch) z.0 in let u = ap (λ n. (epochs_of n l).epoch) x.1 in let n = g.epoch in omega arith),
       (let s = ap (λ (x : View). x.lce) x.0 in let t = ap (λ (x : View). x.lce) z.0 in let u = ap (λ n. lce_of n l) x.1 in let n = g.lce in omega arith),
       (λ y m h. ap (λ (x : View). x.summary) z.0 ∙ summary_stays b i between l k y middle (subst (λ j. summary_shown b l j ≡ Some y) m (ap (λ n. summary_shown n l e) x.1 ∙ (sym (ap (λ (x : View). x.summary) x.0) ∙ h)))),
