@@ -6,3 +6,5 @@ pub mod Faulty
 pub mod Committing
 pub mod Meeting
 pub mod Answering
+pub mod Growing
+pub mod Few

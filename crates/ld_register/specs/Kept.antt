@@ -1,5 +1,5 @@
 -- What is kept in memory of a register's contents: its tables, with room made beforehand.
-use Rattle.std.specs.Prelude.{◌≡◌, ◌≤◌, ◌-◌, ◌^◌, ℕ, Bool, ◌&&◌, ◌||◌, nat_lt, nat_le, List, filter, Some, None, is_some, IsSome}
+use Rattle.std.specs.Prelude.{◌≡◌, ◌≤◌, ◌-◌, ◌^◌, ℕ, Bool, ◌&&◌, ◌||◌, nat_lt, nat_le, List, length, filter, Some, None, is_some, IsSome}
 use Rattle.std.specs.Option.{unwrap_or}
 use Rattle.ld_table.specs.Table.{find, keep_keys, map_values}
 use Rattle.ld_ids.specs.Id.{IsLog}
@@ -46,6 +46,11 @@ register_of k n = record { logs = shown_logs k.logs; generations = shown_generat
 -- each stands under a log's number, and its epoch is one that may be handed out
 abbrev pub AreLogs : List (ℕ × Epochs) → Type 0
 AreLogs m = (l : ℕ) (v : Epochs) → find l m ≡ Some v → IsLog l × (v.epoch ≤ 2 ^ 32 - 2)
+
+-- and at most so many are held
+pub record AreFewLogs (m : List (ℕ × Epochs)) : Type 0 where
+  pub logs : AreLogs m
+  pub few : length (shown_logs m) ≤ 64
 
 abbrev pub log_at : List (ℕ × Epochs) → ℕ → Epochs
 log_at m l = unwrap_or (find l m) no_epochs

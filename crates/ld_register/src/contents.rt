@@ -29,13 +29,13 @@ pub(crate) struct Contents {
 }
 
 impl Model for Contents {
-    ghost use Rattle.ld_register.specs.Kept.{Kept, AreLogs};
+    ghost use Rattle.ld_register.specs.Kept.{Kept, AreFewLogs};
 
     ghost Value = { Kept };
 
     ghost view = { λ a. record { logs = a.logs.entries; generations = a.generations.entries } };
 
-    ghost invariant = { λ a. AreLogs a.logs.entries };
+    ghost invariant = { λ a. AreFewLogs a.logs.entries };
 }
 
 impl Contents {
@@ -101,9 +101,6 @@ impl Contents {
         ensures few { IfOk result (λ epochs. length epochs ≤ 64) }
     {
         let active = active_logs(alloc, &self.logs)?;
-        if LOG_LIMIT < active.len() {
-            return Err(NoMemory);
-        }
         Ok(Epochs::new(active))
     }
 
@@ -222,6 +219,7 @@ fn activate_in(logs: &mut BTreeMap<u32, LogState>, log: LogId)
     requires room { is_some (find log logs.old.entries) ≡ true }
     requires bound { (log_at (shown_logs logs.old.entries) log).epoch < 2 ^ 32 - 2 }
     ensures shown { shown_logs logs.new.entries ≡ put log (next_epoch (log_at (shown_logs logs.old.entries) log)) (shown_logs logs.old.entries) }
+    ensures few { how_many (λ k. not (k.0 == log)) (shown_logs logs.old.entries) < 64 → length (shown_logs logs.new.entries) ≤ 64 }
     ensures logs { AreLogs logs.old.entries → AreLogs logs.new.entries }
 {
     let Some(state) = logs.get_mut(&log.number()) else {
@@ -237,6 +235,7 @@ fn close_in(logs: &mut BTreeMap<u32, LogState>, log: LogId, e: u32, summary: &Su
     requires next { e ≡ (log_at (shown_logs logs.old.entries) log).lce + 1 }
     requires summary { IsSummary e summary.now }
     ensures shown { shown_logs logs.new.entries ≡ put log (closed_epochs (log_at (shown_logs logs.old.entries) log) e summary.now) (shown_logs logs.old.entries) }
+    ensures few { how_many (λ k. not (k.0 == log)) (shown_logs logs.old.entries) < 64 → length (shown_logs logs.new.entries) ≤ 64 }
     ensures logs { AreLogs logs.old.entries → AreLogs logs.new.entries }
 {
     let Some(state) = logs.get_mut(&log.number()) else {
@@ -287,6 +286,7 @@ fn add_active(number: u32, state: &LogState, active: &mut Vec<(LogId, u32)>) -> 
 fn active_logs(alloc: Global, logs: &BTreeMap<u32, LogState>) -> Result<Vec<(LogId, u32)>, NoMemory>
     requires { AreLogs logs.now.entries }
     ensures active { IfOk result (λ active. active.items ≡ epochs_in (shown_logs logs.now.entries)) }
+    ensures few { IfOk result (λ active. length active.items ≤ length (shown_logs logs.now.entries)) }
     ensures bounds { IfOk result (λ active. AreEpochs 1 active.items) }
 {
     let mut active = Vec::new(alloc);

@@ -14,7 +14,8 @@ use ld_msg::Summary;
 use std::alloc::Global;
 
 /// A register and the disk that its changes are kept on. It is loaded by the first call, and again by the next call
-/// after one that answered `Failed` or `Damaged`.
+/// after one that answered `Failed` or `Damaged`. While it is loaded, a look answers, and needs neither disk nor
+/// memory. `Failed` comes only where the disk's count of failed calls rose.
 #[derive(Drop)]
 pub struct DiskRegister<D: Disk> {
     journal: Journal<D>,
@@ -25,7 +26,7 @@ pub struct DiskRegister<D: Disk> {
 }
 
 impl<D: Disk> DiskRegister<D> {
-    ghost use Rattle.std.specs.Prelude.{◌⊎◌, ◌<◌, ◌+◌, ◌^◌, ℕ, OnOk, OnErr};
+    ghost use Rattle.std.specs.Prelude.{◌⊎◌, ◌<◌, ◌+◌, ◌^◌, ℕ, OnOk, OnErr, IsOk};
     ghost use Rattle.std.specs.Option.{option_map};
     ghost use Rattle.ld_disk.specs.Moments.{Unchanged};
     ghost use Rattle.ld_disk.specs.Plain.{armed_with};
@@ -67,6 +68,7 @@ impl<D: Disk> DiskRegister<D> {
         ensures loads { Loads self.old self.new result }
         ensures ready { OnOk result (IsReady self.old self.new) }
         ensures refused { OnErr result (IsNotReady self.old self.new result) }
+        ensures again { is_loaded self.old ≡ true → IsOk result × (self.new ≡ self.old) }
     {
         if self.loaded {
             return Ok(());
@@ -103,13 +105,13 @@ impl<D: Disk> DiskRegister<D> {
 }
 
 impl<D: Disk> Register for DiskRegister<D> {
-    ghost use Rattle.std.specs.Prelude.{◌≢◌, ◌⊎◌, ◌≤◌, ◌-◌, ◌^◌, ℕ, IfOk, IsErrOf, OnErr, Ok, Err};
+    ghost use Rattle.std.specs.Prelude.{◌≢◌, ◌⊎◌, ◌≤◌, ◌-◌, ◌^◌, ℕ, IfOk, IsErrOf, IsOk, OnOk, OnErr, Ok, Err};
     ghost use Rattle.ld_msg.specs.Bounds.{IsEpoch, IsSummary};
     ghost use Rattle.ld_op.specs.Bounds.{IsOp};
     ghost use Rattle.ld_op.specs.declared.op.Op.TheVariants.{Format};
     ghost use Rattle.ld_register.specs.Calls.{activated, after_activate, closed, after_close, drawn, after_draw, looked, IsView, IsFree, Keeps};
     ghost use Rattle.ld_msg.specs.Register.{Register as Held};
-    ghost use Rattle.ld_register.specs.Held.{owned, Holds, MayHold, Tells, Foretells, IsBroken, Meets, holds_is_told, told_is_held};
+    ghost use Rattle.ld_register.specs.Held.{owned, is_loaded, Holds, MayHold, Tells, Foretells, IsBroken, Meets, holds_is_told, told_is_held};
 
     ghost told = { λ r. Tells r };
 
@@ -135,6 +137,7 @@ impl<D: Disk> Register for DiskRegister<D> {
 
     fn activate(&mut self, alloc: Global, log: LogId) -> Result<Grant, RegisterFault>
         ensures meets { Meets self.old self.new result (λ c. activated c log) (λ c. after_activate c log) }
+        ensures loaded { OnOk result (is_loaded self.new ≡ true) }
         ensures bounds { IfOk result (λ grant. IsEpoch grant.epoch × (grant.lce ≤ 2 ^ 32 - 2)) }
         ensures behind { (lce : ℕ) → result ≢ Err (RegisterFault.Behind lce) }
         ensures generations { result ≢ Err RegisterFault.GenLimit }
@@ -162,6 +165,7 @@ impl<D: Disk> Register for DiskRegister<D> {
     ) -> Result<(), RegisterFault>
         requires { IsSummary epoch summary.now }
         ensures meets { Meets self.old self.new result (λ c. closed c log epoch summary.now) (λ c. after_close c log epoch summary.now) }
+        ensures loaded { OnOk result (is_loaded self.new ≡ true) }
         ensures bounds { (lce : ℕ) → IsErrOf result (RegisterFault.Behind lce) → lce ≤ 2 ^ 32 - 2 }
         ensures epochs { result ≢ Err RegisterFault.EpochLimit }
         ensures generations { result ≢ Err RegisterFault.GenLimit }
@@ -189,6 +193,7 @@ impl<D: Disk> Register for DiskRegister<D> {
 
     fn draw(&mut self, alloc: Global, node: NodeId) -> Result<Drawn, RegisterFault>
         ensures meets { Meets self.old self.new result (λ c. drawn c node) (λ c. after_draw c node) }
+        ensures loaded { OnOk result (is_loaded self.new ≡ true) }
         ensures bounds { IfOk result (λ drawn. IsOp (Format drawn.gen_ drawn.epochs)) }
         ensures logs { result ≢ Err RegisterFault.LogLimit }
         ensures behind { (lce : ℕ) → result ≢ Err (RegisterFault.Behind lce) }
@@ -210,6 +215,8 @@ impl<D: Disk> Register for DiskRegister<D> {
 
     fn look(&mut self, alloc: Global, log: LogId, e: u32) -> Result<View, RegisterFault>
         ensures meets { Meets self.old self.new result (λ c. Ok (looked c log e)) (λ c. c) }
+        ensures loaded { OnOk result (is_loaded self.new ≡ true) }
+        ensures again { is_loaded self.old ≡ true → IsOk result × (self.new ≡ self.old) }
         ensures same { (c : Held) → MayHold self.new c → MayHold self.old c }
         ensures keeps { IsErrOf result RegisterFault.Failed ⊎ Keeps (Holds self.old) (Holds self.new) (MayHold self.old) (MayHold self.new) }
         ensures exact { (c : Held) → Foretells self.old c

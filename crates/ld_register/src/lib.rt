@@ -5,12 +5,17 @@ mod change;
 mod contents;
 mod disk;
 mod fault;
+mod laws;
 mod log;
 mod register;
 mod replay;
 
 pub use disk::DiskRegister;
 pub use fault::RegisterFault;
+pub use laws::{
+    calls_are_steps, closes_are_shown, epochs_rise, generations_rise, looks_agree, nothing_falls,
+    summaries_stay,
+};
 pub use register::{Drawn, Grant, Register, View};
 
 #[cfg(test)]

@@ -2,13 +2,18 @@ use Rattle.std.proofs.Common.{◌≡◌, ◌<◌, ◌-◌, ◌^◌, ◌∙◌, a
 use Rattle.std.proofs.lemmas.Bool.Decides.{nat_tests}
 use Rattle.ld_table.specs.Table.{find, put}
 use Rattle.ld_msg.specs.Register.{next_epoch}
-use Rattle.ld_register.specs.Kept.{shown_log, shown_logs, is_held}
+use Rattle.ld_register.specs.Kept.{shown_log, shown_logs, is_held, log_at}
 use Rattle.ld_register.proofs.Tables.{written, Written, written_shown, shown_there, at_shown, never_there}
+use Rattle.ld_register.proofs.Few.{shown_few}
 use Rattle.ld_register.proofs.contents.activate_in.Goals as goal
 
 pub returns-in_default-clause-shown : goal.returns-in_default-clause-shown
 unfolding find
 returns-in_default-clause-shown c = let f : find c.number.result c.args.logs.now.entries ≡ None = search rules in absurd (never_there c.number.result c.args.log c.args.logs.now.entries c.number.ensures.value f c.requires.room)
+
+pub returns-in_default-clause-few : goal.returns-in_default-clause-few
+unfolding find
+returns-in_default-clause-few c = let f : find c.number.result c.args.logs.now.entries ≡ None = search rules in λ room. absurd (never_there c.number.result c.args.log c.args.logs.now.entries c.number.ensures.value f c.requires.room)
 
 pub activate-requires : goal.activate-requires
 unfolding find
@@ -28,9 +33,15 @@ wr c = let f : find c.number.result c.args.logs.now.entries ≡ Some c.in-Some.s
 held : (c : goal.After-logs-2-1) → is_held c.activate.new.self ≡ true
 held c = ap is_held c.activate.ensures ∙ grind (arith, nat_tests)
 
-pub returns-clause-shown : goal.returns-clause-shown
-returns-clause-shown c = written_shown c.args.log c.in-Some.state.now c.activate.new.self c.args.logs.now.entries _ c.get_mut.ensures.ordered (wr c) (held c)
+shown : (c : goal.After-logs-2-1) → shown_logs (c.get_mut.follows.lender c.activate.new.self).entries ≡ put c.args.log (next_epoch (log_at (shown_logs c.args.logs.now.entries) c.args.log)) (shown_logs c.args.logs.now.entries)
+shown c = written_shown c.args.log c.in-Some.state.now c.activate.new.self c.args.logs.now.entries _ c.get_mut.ensures.ordered (wr c) (held c)
     ∙ ap (λ v. put c.args.log v (shown_logs c.args.logs.now.entries)) (ap shown_log c.activate.ensures ∙ ap next_epoch (sym (at_shown c.args.log c.args.logs.now.entries c.get_mut.ensures.ordered ∙ ap shown_log (wr c).at_was)))
+
+pub returns-clause-shown : goal.returns-clause-shown
+returns-clause-shown c = shown c
+
+pub returns-clause-few : goal.returns-clause-few
+returns-clause-few c = λ room. shown_few c.args.log (next_epoch (log_at (shown_logs c.args.logs.now.entries) c.args.log)) c.args.logs.now.entries (c.get_mut.follows.lender c.activate.new.self).entries (shown c) c.get_mut.ensures.ordered room
 
 pub returns-clause-logs : goal.returns-clause-logs
 returns-clause-logs c = (wr c).logs (λ b. let r = bound c in let s = ap (λ v. v.epoch) c.activate.ensures in omega arith)

@@ -1,4 +1,4 @@
-use Rattle.std.proofs.Common.{◌≡◌, ◌∙◌, ◌++◌, ◌∷◌, [], map, ap, sym, subst, refl, List, ℕ}
+use Rattle.std.proofs.Common.{◌≡◌, ◌∙◌, ◌++◌, ◌∷◌, [], map, length, arith, ap, sym, subst, refl, List, ℕ}
 use Rattle.std.specs.Map.Iter.{deref_pair}
 use Rattle.std.specs.Cmp.{nat_cmp_total}
 use Rattle.std.proofs.lemmas.Map.Iter.{btree_map_turn}
@@ -7,6 +7,8 @@ use Rattle.ld_msg.specs.Register.{epochs_in}
 use Rattle.ld_op.specs.Bounds.{AreEpochs}
 use Rattle.ld_op.proofs.Pages.{walk_on, walk_end, map_on}
 use Rattle.ld_register.proofs.Tables.{active-push, active_is, active_bounds}
+use Rattle.ld_register.specs.Kept.{shown_logs}
+use Rattle.ld_register.proofs.Few.{active_few}
 use Rattle.ld_register.proofs.contents.active_logs.Goals as goal
 
 pub logs-init : goal.logs-init
@@ -31,6 +33,9 @@ all_yielded c = c.logs.invariant.active ∙ ap epochs_in (walk_end deref_pair c.
 
 pub returns-clause-active : goal.returns-clause-active
 returns-clause-active c = all_yielded c ∙ active_is c.args.logs.now.entries
+
+pub returns-clause-few : goal.returns-clause-few
+returns-clause-few c = let a = ap length (all_yielded c ∙ active_is c.args.logs.now.entries) in let b = active_few (shown_logs c.args.logs.now.entries) in omega arith
 
 pub returns-clause-bounds : goal.returns-clause-bounds
 returns-clause-bounds c = subst (λ (l : List (ℕ × ℕ)). AreEpochs 1 l) (sym (all_yielded c)) (active_bounds c.args.logs.now.entries c.len.ensures.ordered c.requires)

@@ -4,11 +4,16 @@ use Rattle.ld_table.specs.Table.{find, put}
 use Rattle.ld_msg.specs.Register.{closed_epochs}
 use Rattle.ld_register.specs.Kept.{shown_log, shown_logs, is_held, log_at}
 use Rattle.ld_register.proofs.Tables.{written, Written, written_shown, at_there, shown_there, at_shown, never_there}
+use Rattle.ld_register.proofs.Few.{shown_few}
 use Rattle.ld_register.proofs.contents.close_in.Goals as goal
 
 pub returns-in_default-clause-shown : goal.returns-in_default-clause-shown
 unfolding find
 returns-in_default-clause-shown c = let f : find c.number.result c.args.logs.now.entries ≡ None = search rules in absurd (never_there c.number.result c.args.log c.args.logs.now.entries c.number.ensures.value f c.requires.there)
+
+pub returns-in_default-clause-few : goal.returns-in_default-clause-few
+unfolding find
+returns-in_default-clause-few c = let f : find c.number.result c.args.logs.now.entries ≡ None = search rules in λ room. absurd (never_there c.number.result c.args.log c.args.logs.now.entries c.number.ensures.value f c.requires.there)
 
 at : (c : goal.In-Some) → log_at c.args.logs.now.entries c.args.log ≡ c.in-Some.state.now
 unfolding find
@@ -30,9 +35,15 @@ wr c = let f : find c.number.result c.args.logs.now.entries ≡ Some c.in-Some.s
 held : (c : goal.After-logs-2-1) → is_held c.close.new.self ≡ true
 held c = let l = ap (λ v. v.lce) c.close.ensures in let n = c.requires.next in grind (arith, nat_tests)
 
-pub returns-clause-shown : goal.returns-clause-shown
-returns-clause-shown c = written_shown c.args.log c.in-Some.state.now c.close.new.self c.args.logs.now.entries _ c.get_mut.ensures.ordered (wr c) (held c)
+shown : (c : goal.After-logs-2-1) → shown_logs (c.get_mut.follows.lender c.close.new.self).entries ≡ put c.args.log (closed_epochs (log_at (shown_logs c.args.logs.now.entries) c.args.log) c.args.e c.args.summary.now) (shown_logs c.args.logs.now.entries)
+shown c = written_shown c.args.log c.in-Some.state.now c.close.new.self c.args.logs.now.entries _ c.get_mut.ensures.ordered (wr c) (held c)
     ∙ ap (λ v. put c.args.log v (shown_logs c.args.logs.now.entries)) (c.close.ensures ∙ ap (λ v. closed_epochs v c.args.e c.args.summary.now) (sym (at_shown c.args.log c.args.logs.now.entries c.get_mut.ensures.ordered ∙ ap shown_log (wr c).at_was)))
+
+pub returns-clause-shown : goal.returns-clause-shown
+returns-clause-shown c = shown c
+
+pub returns-clause-few : goal.returns-clause-few
+returns-clause-few c = λ room. shown_few c.args.log (closed_epochs (log_at (shown_logs c.args.logs.now.entries) c.args.log) c.args.e c.args.summary.now) c.args.logs.now.entries (c.get_mut.follows.lender c.close.new.self).entries (shown c) c.get_mut.ensures.ordered room
 
 pub returns-clause-logs : goal.returns-clause-logs
 returns-clause-logs c = (wr c).logs (λ b. let s = ap (λ v. v.epoch) c.close.ensures in omega arith)

@@ -1,0 +1,62 @@
+// What holds of a register's answers over any list of calls.
+ghost use Rattle.std.specs.Prelude.{◌≡◌, ◌≤◌, ◌<◌, ◌⊎◌, ◌++◌, ◌∷◌, ℕ, List, Ok, Some};
+ghost use Rattle.std.specs.declared.result.Result.{Result as Outcome};
+ghost use Rattle.ld_msg.specs.declared.msg.Summary.{Summary};
+ghost use Rattle.ld_msg.specs.Register.{Register as Contents, lce_of, epochs_of, generation_of, summary_shown};
+ghost use Rattle.ld_register.specs.declared.fault.RegisterFault.{RegisterFault};
+ghost use Rattle.ld_register.specs.declared.register.Grant.{Grant};
+ghost use Rattle.ld_register.specs.declared.register.Drawn.{Drawn};
+ghost use Rattle.ld_register.specs.declared.register.View.{View};
+ghost use Rattle.ld_register.specs.Calls.{IsFree, ChangedOrNot};
+ghost use Rattle.ld_register.specs.Histories.{Call, Activates, Closes, Draws, Looks, Ends, Runs};
+
+use crate::Register;
+
+/// Of two activations of a log that answered, the later one got a greater epoch, whatever calls failed.
+pub fn epochs_rise()
+    ensures { (c d : Contents) (before between after : List Call) (l : ℕ) (first second : Grant)
+        → Runs c (before ++ Activates l (Ok first) ∷ (between ++ Activates l (Ok second) ∷ after)) d → first.epoch < second.epoch }
+{}
+
+/// Of two draws of a node that answered, the later one got a greater generation, whatever calls failed.
+pub fn generations_rise()
+    ensures { (c d : Contents) (before between after : List Call) (n : ℕ) (first second : Drawn)
+        → Runs c (before ++ Draws n (Ok first) ∷ (between ++ Draws n (Ok second) ∷ after)) d → first.gen_ < second.gen_ }
+{}
+
+/// No epoch, last closed epoch or generation falls.
+pub fn nothing_falls()
+    ensures epoch { (c d : Contents) (calls : List Call) (l : ℕ) → Runs c calls d → (epochs_of c l).epoch ≤ (epochs_of d l).epoch }
+    ensures lce { (c d : Contents) (calls : List Call) (l : ℕ) → Runs c calls d → lce_of c l ≤ lce_of d l }
+    ensures generation { (c d : Contents) (calls : List Call) (n : ℕ) → Runs c calls d → generation_of c n ≤ generation_of d n }
+{}
+
+/// The summary of a closed epoch never changes.
+pub fn summaries_stay()
+    ensures { (c d : Contents) (calls : List Call) (l e : ℕ) (y : Summary) → Runs c calls d → summary_shown c l e ≡ Some y → summary_shown d l e ≡ Some y }
+{}
+
+/// Each look after a close that answered shows the summary of that close.
+pub fn closes_are_shown()
+    ensures { (c d : Contents) (before between after : List Call) (l e : ℕ) (y : Summary) (view : View)
+        → Runs c (before ++ Closes l e y (Ok tt) ∷ (between ++ Looks l e (Ok view) ∷ after)) d → view.summary ≡ Some y }
+{}
+
+/// Of two looks at a log that answered, the later one shows no smaller epoch and no smaller last closed epoch, and of
+/// the same epoch the same summary.
+pub fn looks_agree()
+    ensures { (c d : Contents) (before between after : List Call) (l e k : ℕ) (first second : View)
+        → Runs c (before ++ Looks l e (Ok first) ∷ (between ++ Looks l k (Ok second) ∷ after)) d
+        → (first.epoch ≤ second.epoch) × (first.lce ≤ second.lce) × ((y : Summary) → e ≡ k → first.summary ≡ Some y → second.summary ≡ Some y) }
+{}
+
+/// A call of a register is one step of such a list: what may be held after it is led to from what might be held
+/// before it. It follows from what each call's contract says of the contents that are held and that may be.
+pub fn calls_are_steps<R: Register, T>()
+    ensures { (old new : R) (result : Outcome T RegisterFault) (answer : Contents → Outcome T RegisterFault) (change : Contents → Contents)
+        → ((c : Contents) → R.holds old c → IsFree result ⊎ ((result ≡ answer c) × R.holds new (change c)))
+        → IsFree result ⊎ ((c : Contents) × R.holds old c)
+        → IsFree result ⊎ ((c : Contents) → R.may_hold new c → R.holds new c)
+        → ChangedOrNot (R.may_hold old) (R.may_hold new) change
+        → (d : Contents) → R.may_hold new d → (c : Contents) × R.may_hold old c × Ends result (answer c) c (change c) d }
+{}
