@@ -1,0 +1,4 @@
+pub mod Counted
+pub mod Marks
+pub mod Rows
+pub mod Windows

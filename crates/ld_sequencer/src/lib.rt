@@ -1,0 +1,6 @@
+//! A log's sequencer: it numbers appends, counts the nodes that stored them, and says what is released.
+#![tactic(auto)]
+
+mod row;
+
+pub use row::Row;
