@@ -1,5 +1,5 @@
 // The choice.
-ghost use Rattle.std.specs.Prelude.{◌≡◌, ◌≤◌, ◌<◌, ◌+◌, ◌-◌, ◌++◌, ℕ, length, take, drop, true, false, IfOk, IfErr, OnOk};
+ghost use Rattle.std.specs.Prelude.{◌≡◌, ◌≤◌, ◌<◌, ◌+◌, ◌-◌, ◌++◌, ℕ, List, length, take, drop, true, false, IfOk, IfErr, OnOk};
 ghost use Rattle.ld_table.specs.Words.{is_in, without};
 ghost use Rattle.ld_ids.specs.Set.{members};
 ghost use Rattle.ld_ids.specs.Choice.{choice_at, ring};
@@ -48,7 +48,8 @@ pub fn choose(
 
 /// The same for a log, but where fewer nodes than its replication factor would be left none are excluded.
 pub fn choose_for(spec: &Spec, lsn: Lsn, wave: u32, excluded: &NodeSet) -> Choice
-    ensures { result ≡ choice_at spec.now (members excluded.now) (place_of lsn wave) }
+    ensures set { result ≡ choice_at spec.now (members excluded.now) (place_of lsn wave) }
+    ensures same { (nodes : List ℕ) → ((node : ℕ) → is_in node (members excluded.now) ≡ is_in node nodes) → result ≡ choice_at spec.now nodes (place_of lsn wave) }
 {
     let mut left = around(&spec.set, lsn, wave, excluded);
     if left.len() < usize::from(spec.r) {

@@ -1,12 +1,13 @@
 // Lists of nodes.
-ghost use Rattle.std.specs.Prelude.{◌≡◌, ◌≤◌, false, ◌++◌, ◌∷◌, [], length, take, slice_get};
+ghost use Rattle.std.specs.Prelude.{◌≡◌, ◌≤◌, ℕ, false, ◌++◌, ◌∷◌, [], length, take, slice_get};
 ghost use Rattle.std.specs.List.{All};
 ghost use Rattle.ld_table.specs.Words.{is_in, with_one};
 ghost use Rattle.ld_ids.specs.Id.{IsNode};
+ghost use Rattle.ld_ids.specs.Set.{members};
 ghost use Rattle.ld_copyset.specs.Copyset.{AreDistinct};
 
 use arrayvec::ArrayVec;
-use ld_ids::NodeId;
+use ld_ids::{NodeId, NodeSet};
 use std::marker::Model;
 
 /// Distinct nodes, in an order that tells something. It takes no memory.
@@ -78,6 +79,19 @@ impl NodeList {
         if !self.has(node) {
             self.push(node);
         }
+    }
+
+    /// The same nodes as a set.
+    pub fn to_set(&self) -> NodeSet
+        ensures { (node : ℕ) → is_in node (members result) ≡ is_in node self.now }
+    {
+        let mut set = NodeSet::empty();
+        'nodes: for place in 0..self.len() {
+            if let Some(node) = self.nth(place) {
+                set = set.with(node);
+            }
+        }
+        set
     }
 
     /// Keeps so many, from the first one on.

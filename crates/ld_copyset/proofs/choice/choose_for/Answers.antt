@@ -1,12 +1,13 @@
 use Rattle.std.proofs.Common.{◌≡◌, ◌∙◌, ◌+◌, ◌≤◌, ◌<◌, sym, ap, arith, take, length}
-use Rattle.ld_ids.specs.Set.{no_nodes}
+use Rattle.ld_ids.specs.Set.{no_nodes, members}
 use Rattle.ld_copyset.specs.Copyset.{place_of, left_at}
 use Rattle.ld_copyset.proofs.Choices.{choice-enough, choice-few}
+use Rattle.ld_copyset.proofs.Sets.{choice_same}
 use Rattle.ld_copyset.proofs.choice.choose_for.Goals as goal
 use Rattle.ld_copyset.proofs.choice.choose_for.Goals.{then-len-from, else-len-from}
 
-pub returns : goal.returns
-returns c =
+pub returns-clause-set : goal.returns-clause-set
+returns-clause-set c =
     let spec = c.args.spec.now in
     let excluded = c.args.excluded.now in
     let place = place_of c.args.lsn c.args.wave in
@@ -22,3 +23,6 @@ returns c =
           let enough : spec.r ≤ length (left_at spec.set excluded place) = omega (arith, ap length c.around-left.ensures) in
           taken ∙ ap (take count) (w.left-is ∙ c.around-left.ensures) ∙ sym (choice-enough spec excluded place enough)
     ]
+
+pub returns-clause-same : goal.returns-clause-same
+returns-clause-same c nodes h = returns-clause-set c ∙ choice_same c.args.spec.now (members c.args.excluded.now) nodes (place_of c.args.lsn c.args.wave) h
