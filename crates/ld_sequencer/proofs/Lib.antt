@@ -1,4 +1,5 @@
 pub mod Counted
 pub mod Marks
 pub mod Rows
+pub mod Sends
 pub mod Windows

@@ -2,5 +2,6 @@
 #![tactic(auto)]
 
 mod row;
+mod send;
 
 pub use row::Row;

@@ -1,0 +1,90 @@
+// Sending stores.
+ghost use Rattle.std.specs.Prelude.{◌≡◌, ◌++◌, ◌∷◌, [], IfOk, OnOk, OnErr, take, length, false};
+ghost use Rattle.ld_table.specs.Words.{is_in, without};
+ghost use Rattle.ld_msg.specs.declared.msg.Who.TheVariants.{Sequencer as of_sequencer};
+ghost use Rattle.ld_msg.specs.declared.msg.What.TheVariants.{Rec};
+ghost use Rattle.ld_msg.specs.declared.msg.Body.TheVariants.{Store};
+ghost use Rattle.ld_msg.specs.Network.{posted};
+ghost use Rattle.ld_msg.specs.Sequencer.{to_each};
+
+use ld_appender::Pending;
+use ld_copyset::NodeList;
+use ld_ids::{LogId, NoMemory, NodeId, Payload};
+use ld_lsn::Lsn;
+use ld_msg::{Body, Msg, Outbox, What, Who};
+use std::alloc::Global;
+
+/// The sequencer of an epoch of a log, as its messages name it.
+#[derive(Clone, Copy, Debug)]
+pub struct Sender {
+    pub log: LogId,
+    pub epoch: u32,
+}
+
+impl Sender {
+    /// Sends a store of the record to each of the nodes, in their order. Without memory some may have been sent.
+    pub fn send_stores(
+        &self,
+        alloc: Global,
+        number: Lsn,
+        payload: &Payload,
+        nodes: &NodeList,
+        out: &mut Outbox,
+    ) -> Result<(), NoMemory>
+        ensures { OnOk result (out.new ≡ out.old ++ posted (of_sequencer self.now.epoch) self.now.log (to_each (Store number 0 (Rec payload.now)) nodes.now)) }
+    {
+        'nodes: for place in 0..nodes.len() {
+            if let Some(node) = nodes.nth(place) {
+                let body = store(alloc, number, payload)?;
+                out.push(self.to_node(node, body))?;
+            }
+        }
+        Ok(())
+    }
+
+    /// A message to a node.
+    fn to_node(&self, node: NodeId, body: Body) -> Msg
+        ensures { posted (of_sequencer self.now.epoch) self.now.log ((node, body) ∷ []) ≡ result ∷ [] }
+    {
+        Msg {
+            from: Who::Sequencer(self.epoch),
+            to: Who::Node(node),
+            log: self.log,
+            body,
+        }
+    }
+}
+
+/// A store of a record.
+fn store(alloc: Global, number: Lsn, payload: &Payload) -> Result<Body, NoMemory>
+    ensures { IfOk result (λ body. body ≡ Store number 0 (Rec payload.now)) }
+{
+    Ok(Body::Store {
+        number,
+        lng: 0,
+        what: What::Rec(payload.copy(alloc)?),
+    })
+}
+
+/// Those of the nodes that haven't stored it, in their order.
+pub fn unstored(nodes: &NodeList, pending: &Pending) -> NodeList
+    ensures { result ≡ without pending.now.append.stored nodes.now }
+{
+    let mut left = NodeList::empty();
+    'nodes: for place in 0..nodes.len() {
+        if let Some(node) = nodes.nth(place) {
+            add_unstored(&mut left, node, pending);
+        }
+    }
+    left
+}
+
+/// Adds the node, where it hasn't stored it.
+fn add_unstored(left: &mut NodeList, node: NodeId, pending: &Pending)
+    requires { is_in node pending.now.append.stored ≡ false → is_in node left.old ≡ false }
+    ensures { left.new ≡ left.old ++ without pending.now.append.stored (node ∷ []) }
+{
+    if !pending.has(node) {
+        left.push(node);
+    }
+}
