@@ -4,7 +4,7 @@ use Rattle.ld_table.specs.Table.{find, put}
 use Rattle.ld_ids.specs.declared.set.Spec.{Spec}
 use Rattle.ld_lsn.specs.Number.{numbered}
 use Rattle.ld_window.specs.Flags.{leading}
-use Rattle.ld_appender.specs.Waiting.{Waiting, is_enough}
+use Rattle.ld_appender.specs.Waiting.{Waiting, is_enough, with_next_wave}
 use Rattle.ld_msg.specs.Sequencer.{Append, fresh_append, is_acked, stored_at, acked_first, unacked_from, raised}
 
 -- the log's nodes and factor, the epoch, the last number such that it and all below are acknowledged, and the appends above it by number
@@ -67,3 +67,7 @@ raises r = record r { appends = raised r.spec r.appends }
 -- the flags with one more set, where that is so
 abbrev pub flags_after : Bool → ℕ → List Bool → List Bool
 flags_after b at flags = if b then set flags at true else flags
+
+-- an append that isn't stored often enough goes to its next wave
+abbrev pub raised_one : Waiting → Waiting
+raised_one w = if is_enough w then w else with_next_wave w

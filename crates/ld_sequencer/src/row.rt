@@ -1,14 +1,20 @@
 // The appends that wait.
-ghost use Rattle.std.specs.Prelude.{◌≡◌, ◌<◌, ◌≤◌, ◌+◌, ◌-◌, ◌^◌, ℕ, length, drop, set, slice_get, Some, None, IfSome, IfNone, IfOk, OnOk, OnErr};
+ghost use Rattle.std.specs.Prelude.{◌≡◌, ◌<◌, ◌≤◌, ◌+◌, ◌-◌, ◌^◌, ℕ, length, ◌∷◌, [], ◌++◌, List, map, drop, set, slice_get, Some, None, IfSome, IfNone, IfOk, OnOk, OnErr};
 ghost use Rattle.ld_table.specs.Table.{find};
+ghost use Rattle.ld_msg.specs.declared.msg.Who.TheVariants.{Sequencer as of_sequencer};
+ghost use Rattle.ld_msg.specs.Network.{posted};
+ghost use Rattle.ld_msg.specs.Sequencer.{append_stores};
 ghost use Rattle.ld_lsn.specs.Number.{numbered};
 ghost use Rattle.ld_window.specs.Flags.{leading};
 ghost use Rattle.ld_appender.specs.Waiting.{Waiting, with_stored, is_enough};
-ghost use Rattle.ld_sequencer.specs.Appends.{empty_row, next_place, pushed, stores, acks, raises, flags_after};
+ghost use Rattle.ld_sequencer.specs.Appends.{empty_row, next_place, pushed, stores, acks, raises, flags_after, raised_one};
 
+use crate::send::Round;
 use ld_appender::{Pending, Progress};
+use ld_copyset::NodeList;
 use ld_ids::{NoMemory, NodeId, Payload, Spec};
 use ld_lsn::Lsn;
+use ld_msg::Outbox;
 use ld_window::Window;
 use std::alloc::Global;
 use std::collections::VecDeque;
@@ -102,6 +108,33 @@ impl Row {
         }
     }
 
+    /// Each append that isn't acknowledged goes to its next wave.
+    #[tactic(auto, using(crate::proofs::Waves::wave_rules))]
+    pub fn raise(&mut self)
+        ensures { self.new ≡ raises self.old }
+    {
+        raise_all(&mut self.waiting);
+    }
+
+    /// Sends each append that isn't acknowledged, in the order of their numbers, to those nodes of its wave's choice that
+    /// haven't stored it; nodes that are lost are chosen only where too few others are left. Without memory some may have
+    /// been sent.
+    pub fn send(&self, alloc: Global, lost: &NodeList, out: &mut Outbox) -> Result<(), NoMemory>
+        ensures { OnOk result (out.new ≡ out.old ++ posted (of_sequencer self.now.epoch) self.now.spec.log (append_stores self.now.spec lost.now self.now.appends)) }
+    {
+        let round = Round {
+            spec: self.spec,
+            epoch: self.epoch,
+            excluded: lost.to_set(),
+        };
+        let first = Lsn::new(self.epoch, self.window.lng() + 1).value();
+        'waiting: for place in 0..self.waiting.len() {
+            let number = Lsn::from_u64(first + place as u64);
+            round.send(alloc, number, &self.waiting[place], out)?;
+        }
+        Ok(())
+    }
+
     /// The place of a number among those that wait.
     #[tactic(auto, using(crate::proofs::Rows::row_rules))]
     fn place_of(&self, number: Lsn) -> Option<usize>
@@ -139,6 +172,27 @@ fn store_at(waiting: &mut VecDeque<Pending>, place: usize, node: NodeId) -> (boo
     let was = pending.progress() == Progress::Done;
     let is = pending.stored(node) == Progress::Done;
     (was, is)
+}
+
+/// Each one that isn't stored often enough goes to its next wave.
+fn raise_all(waiting: &mut VecDeque<Pending>)
+    ensures { waiting.new.items ≡ map raised_one waiting.old.items }
+{
+    'waiting: for place in 0..waiting.len() {
+        raise_at(waiting, place);
+    }
+}
+
+/// The one of this place goes to its next wave, where it isn't stored often enough.
+fn raise_at(waiting: &mut VecDeque<Pending>, place: usize)
+    requires { place < length waiting.old.items }
+    ensures len { length waiting.new.items ≡ length waiting.old.items }
+    ensures items { (w : Waiting) → slice_get waiting.old.items place ≡ Some w → waiting.new.items ≡ set waiting.old.items place (raised_one w) }
+{
+    let pending = &mut waiting[place];
+    if pending.progress() == Progress::More {
+        pending.raise();
+    }
 }
 
 /// Marks the number of a place above the last one such that it and all below are stored, where it is stored.

@@ -1,15 +1,16 @@
 // Sending stores.
-ghost use Rattle.std.specs.Prelude.{◌≡◌, ◌++◌, ◌∷◌, [], IfOk, OnOk, OnErr, take, length, false};
+ghost use Rattle.std.specs.Prelude.{◌≡◌, ℕ, List, ◌++◌, ◌∷◌, [], IfOk, OnOk, OnErr, take, length, false};
 ghost use Rattle.ld_table.specs.Words.{is_in, without};
+ghost use Rattle.ld_ids.specs.Set.{members};
 ghost use Rattle.ld_msg.specs.declared.msg.Who.TheVariants.{Sequencer as of_sequencer};
 ghost use Rattle.ld_msg.specs.declared.msg.What.TheVariants.{Rec};
 ghost use Rattle.ld_msg.specs.declared.msg.Body.TheVariants.{Store};
 ghost use Rattle.ld_msg.specs.Network.{posted};
-ghost use Rattle.ld_msg.specs.Sequencer.{to_each};
+ghost use Rattle.ld_msg.specs.Sequencer.{to_each, append_stores};
 
-use ld_appender::Pending;
-use ld_copyset::NodeList;
-use ld_ids::{LogId, NoMemory, NodeId, Payload};
+use ld_appender::{Pending, Progress};
+use ld_copyset::{NodeList, choose_for};
+use ld_ids::{LogId, NoMemory, NodeId, NodeSet, Payload, Spec};
 use ld_lsn::Lsn;
 use ld_msg::{Body, Msg, Outbox, What, Who};
 use std::alloc::Global;
@@ -64,6 +65,46 @@ fn store(alloc: Global, number: Lsn, payload: &Payload) -> Result<Body, NoMemory
         lng: 0,
         what: What::Rec(payload.copy(alloc)?),
     })
+}
+
+/// A round of sending appends that aren't acknowledged, with the nodes that are lost for their epoch.
+#[derive(Clone, Copy, Debug)]
+pub(crate) struct Round {
+    pub(crate) spec: Spec,
+    pub(crate) epoch: u32,
+    pub(crate) excluded: NodeSet,
+}
+
+impl Round {
+    /// Sends what waits, where it isn't acknowledged, to those nodes of its wave's choice that haven't stored it. Without
+    /// memory some may have been sent.
+    #[tactic(auto, using(crate::proofs::Rounds::round_rules))]
+    pub(crate) fn send(
+        &self,
+        alloc: Global,
+        number: Lsn,
+        pending: &Pending,
+        out: &mut Outbox,
+    ) -> Result<(), NoMemory>
+        requires { pending.now.factor ≡ self.now.spec.r }
+        ensures { OnOk result ((lost : List ℕ) → ((node : ℕ) → is_in node (members self.now.excluded) ≡ is_in node lost) → out.new ≡ out.old ++ posted (of_sequencer self.now.epoch) self.now.spec.log (append_stores self.now.spec lost ((number, pending.now.append) ∷ []))) }
+    {
+        if pending.progress() == Progress::Done {
+            return Ok(());
+        }
+        let nodes = choose_for(&self.spec, number, pending.wave(), &self.excluded);
+        let sender = Sender {
+            log: self.spec.log,
+            epoch: self.epoch,
+        };
+        sender.send_stores(
+            alloc,
+            number,
+            pending.payload(),
+            &unstored(&nodes, pending),
+            out,
+        )
+    }
 }
 
 /// Those of the nodes that haven't stored it, in their order.
