@@ -1,5 +1,7 @@
+pub mod Begins
 pub mod Counted
 pub mod Marks
+pub mod Replies
 pub mod Rounds
 pub mod Rows
 pub mod Sends

@@ -57,6 +57,20 @@ impl Row {
         })
     }
 
+    /// What is said of the log.
+    pub fn spec(&self) -> &Spec
+        ensures { result.now ≡ self.now.spec }
+    {
+        &self.spec
+    }
+
+    /// The epoch.
+    pub fn epoch(&self) -> u32
+        ensures { result ≡ self.now.epoch }
+    {
+        self.epoch
+    }
+
     /// The greatest place such that it and all below are acknowledged, 0 where the first isn't.
     pub fn lng(&self) -> u32
         ensures { result ≡ self.now.lng }

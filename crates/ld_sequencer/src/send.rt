@@ -7,6 +7,7 @@ ghost use Rattle.ld_msg.specs.declared.msg.What.TheVariants.{Rec};
 ghost use Rattle.ld_msg.specs.declared.msg.Body.TheVariants.{Store};
 ghost use Rattle.ld_msg.specs.Network.{posted};
 ghost use Rattle.ld_msg.specs.Sequencer.{to_each, append_stores};
+ghost use Rattle.ld_sequencer.specs.Sending.{BeginsWith, told};
 
 use ld_appender::{Pending, Progress};
 use ld_copyset::{NodeList, choose_for};
@@ -32,12 +33,42 @@ impl Sender {
         nodes: &NodeList,
         out: &mut Outbox,
     ) -> Result<(), NoMemory>
-        ensures { OnOk result (out.new ≡ out.old ++ posted (of_sequencer self.now.epoch) self.now.log (to_each (Store number 0 (Rec payload.now)) nodes.now)) }
+        ensures sent { OnOk result (out.new ≡ out.old ++ posted (of_sequencer self.now.epoch) self.now.log (to_each (Store number 0 (Rec payload.now)) nodes.now)) }
+        ensures begins { OnErr result (BeginsWith out.old out.new) }
     {
         'nodes: for place in 0..nodes.len() {
             if let Some(node) = nodes.nth(place) {
                 let body = store(alloc, number, payload)?;
                 out.push(self.to_node(node, body))?;
+            }
+        }
+        Ok(())
+    }
+
+    /// Tells each node of the set, in their order. Without memory nothing is sent.
+    #[tactic(auto, using(crate::proofs::Begins::back_rules))]
+    pub fn tell(&self, set: &NodeSet, notice: &Notice, out: &mut Outbox) -> Result<(), NoMemory>
+        ensures sent { OnOk result (out.new ≡ out.old ++ posted (of_sequencer self.now.epoch) self.now.log (to_each (told notice.now) (members set.now))) }
+        ensures unsent { OnErr result (out.new ≡ out.old) }
+    {
+        let count = out.len();
+        match self.tell_each(set, notice, out) {
+            Ok(()) => Ok(()),
+            Err(_) => {
+                out.truncate(count);
+                Err(NoMemory)
+            }
+        }
+    }
+
+    /// Tells each node of the set, in their order. Without memory some may have been told.
+    fn tell_each(&self, set: &NodeSet, notice: &Notice, out: &mut Outbox) -> Result<(), NoMemory>
+        ensures sent { OnOk result (out.new ≡ out.old ++ posted (of_sequencer self.now.epoch) self.now.log (to_each (told notice.now) (members set.now))) }
+        ensures begins { OnErr result (BeginsWith out.old out.new) }
+    {
+        'nodes: for place in 0..set.len() {
+            if let Some(node) = set.nth(place) {
+                out.push(self.to_node(node, notice.body()))?;
             }
         }
         Ok(())
@@ -52,6 +83,29 @@ impl Sender {
             to: Who::Node(node),
             log: self.log,
             body,
+        }
+    }
+}
+
+/// What all nodes of a log are told.
+#[derive(Clone, Copy, Debug)]
+pub enum Notice {
+    /// Readers may have all up to the number.
+    Release(Lsn),
+    /// All up to the number may go.
+    Trim(Lsn),
+}
+
+impl Notice {
+    /// As a message says it.
+    fn body(&self) -> Body
+        ensures { result ≡ told self.now }
+    {
+        match self {
+            Notice::Release(released) => Body::Release {
+                released: *released,
+            },
+            Notice::Trim(trim) => Body::Trim { trim: *trim },
         }
     }
 }
