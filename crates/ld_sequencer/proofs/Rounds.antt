@@ -47,7 +47,7 @@ round_one who log s lost first place ws w sent e =
     let one : List (ℕ × Body) = append_stores s lost ((first + place, w.append) ∷ []) in
     let rest : List (ℕ × Append) = numbered_from (first + place + 1) (carried (drop (place + 1) ws)) in
     let all : append_stores s lost (numbered_from (first + place) (carried (drop place ws))) ≡ one ++ append_stores s lost rest =
-        ap (λ vs. append_stores s lost (numbered_from (first + place) (carried vs))) (drop_next ws place w e) ∙ ap (λ bs. bs ++ append_stores s lost rest) (sym (append-nil _)) in
+    ap (λ vs. append_stores s lost (numbered_from (first + place) (carried vs))) (drop_next ws place w e) ∙ ap (λ bs. bs ++ append_stores s lost rest) (sym (append-nil _)) in
     let next : first + (place + 1) ≡ first + place + 1 = omega arith in
     append_assoc sent _ _ ∙ ap (λ ms. sent ++ ms) (ap (λ n. posted who log one ++ posted who log (append_stores s lost (numbered_from n (carried (drop (place + 1) ws))))) next ∙ (sym (posted_append who log one (append_stores s lost rest)) ∙ ap (posted who log) (sym all)))
 

@@ -26,8 +26,15 @@ spec_of o = o.row.spec
 
 abbrev pub sequencer_of : Own → Sequencer
 sequencer_of o = record {
-  log = o.row.spec.log; epoch = o.row.epoch; lce = o.lce; lng = o.row.lng; appends = o.row.appends;
-  lost = o.lost; recovery = None; preempted = o.preempted; gone = false;
+  log = o.row.spec.log;
+  epoch = o.row.epoch;
+  lce = o.lce;
+  lng = o.row.lng;
+  appends = o.row.appends;
+  lost = o.lost;
+  recovery = None;
+  preempted = o.preempted;
+  gone = false;
 }
 
 -- one that has become what the sequencer is, and is of the same log

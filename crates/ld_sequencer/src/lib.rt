@@ -5,6 +5,8 @@ mod fault;
 mod own;
 mod row;
 mod send;
+#[cfg(test)]
+mod tests;
 
 pub use fault::SequencerFault;
 pub use own::{OwnEpoch, Report};

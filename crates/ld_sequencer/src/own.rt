@@ -294,12 +294,7 @@ impl OwnEpoch {
 
     /// Sends the next append and lets it wait. Without memory nothing waits, and some may have been sent.
     #[tactic(auto, using(crate::proofs::Begins::back_rules))]
-    fn add(
-        &mut self,
-        alloc: Global,
-        payload: Payload,
-        out: &mut Outbox,
-    ) -> Result<Lsn, NoMemory>
+    fn add(&mut self, alloc: Global, payload: Payload, out: &mut Outbox) -> Result<Lsn, NoMemory>
         requires room { length self.old.row.appends < 128 }
         requires place { next_place self.old.row ≤ 2 ^ 32 - 2 }
         ensures number { IfOk result (λ number. number ≡ numbered self.old.row.epoch (next_place self.old.row)) }

@@ -24,7 +24,7 @@ waiting-preserved c =
     let w = c.index.result.now in
     let there = at_index i.waiting.items c.waiting.place w (let a = c.len-place-end.ensures in omega arith) c.index.ensures in
     let one : c.send.new.out ≡ c.waiting.out ++ posted who i.spec.log (append_stores i.spec c.args.lost.now ((c.value-first.result + c.waiting.place, w.append) ∷ [])) =
-        c.in_ok-send.ensures c.args.lost.now c.to_set.ensures ∙ ap (λ n. c.waiting.out ++ posted who i.spec.log (append_stores i.spec c.args.lost.now ((n, w.append) ∷ []))) c.from_u64-number.ensures in
+    c.in_ok-send.ensures c.args.lost.now c.to_set.ensures ∙ ap (λ n. c.waiting.out ++ posted who i.spec.log (append_stores i.spec c.args.lost.now ((n, w.append) ∷ []))) c.from_u64-number.ensures in
     ap (λ o. o ++ stores_from who i.spec.log i.spec c.args.lost.now c.value-first.result (c.waiting.place + 1) i.waiting.items) one
     ∙ (round_one who i.spec.log i.spec c.args.lost.now c.value-first.result c.waiting.place i.waiting.items w c.waiting.out there ∙ c.waiting.invariant)
 
@@ -37,6 +37,6 @@ returns c =
     let g = c.lng.ensures.value in
     let first : c.value-first.result + 0 ≡ numbered i.epoch (leading i.window + 1) = omega arith in
     let all : c.waiting.out ≡ c.args.out.now ++ stores_from who i.spec.log i.spec c.args.lost.now c.value-first.result 0 i.waiting.items =
-        sym (none_left who i.spec.log i.spec c.args.lost.now c.value-first.result c.waiting.place i.waiting.items c.waiting.out (let a = c.len-place-end.ensures in omega arith)) ∙ c.waiting.invariant in
+    sym (none_left who i.spec.log i.spec c.args.lost.now c.value-first.result c.waiting.place i.waiting.items c.waiting.out (let a = c.len-place-end.ensures in omega arith)) ∙ c.waiting.invariant in
     subst (λ r. c.waiting.out ≡ c.args.out.now ++ posted (Sequencer r.epoch) r.spec.log (append_stores r.spec c.args.lost.now r.appends)) c.self.view_is
     (all ∙ ap (λ m. c.args.out.now ++ posted who i.spec.log (append_stores i.spec c.args.lost.now (numbered_from m (carried i.waiting.items)))) first)
