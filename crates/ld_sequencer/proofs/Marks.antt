@@ -1,13 +1,13 @@
 -- The window's flags beside the appends that wait.
-use Rattle.std.proofs.Common.{◌≡◌, ℕ, zero, suc, ◌+◌, ◌-◌, ◌^◌, ◌<◌, ◌≤◌, Bool, true, false, not, ◌&&◌, List, [], ◌∷◌, ◌++◌, length, map, drop, set, slice_get, unwrap_or, Option, Some, None, refl, ap, sym, ◌∙◌, subst, inl, inr, arith, if◌then◌else◌, nat_le}
+use Rattle.std.proofs.Common.{◌≡◌, ℕ, zero, suc, ◌+◌, ◌-◌, ◌^◌, ◌<◌, ◌≤◌, Bool, true, false, List, [], ◌∷◌, ◌++◌, length, map, drop, set, slice_get, unwrap_or, Some, refl, ap, sym, ◌∙◌, inl, inr, arith, if◌then◌else◌, nat_le}
 use Rattle.std.proofs.lemmas.Bool.{cases_Bool, lt-leb, leb-false}
 use Rattle.std.proofs.lemmas.List.{length-append, length-set, drop-drop, length-drop, length-map, map_push, map-set, drop-set-add, drop-map}
 use Rattle.ld_table.specs.Table.{find, put}
 use Rattle.ld_lsn.specs.Number.{numbered}
 use Rattle.ld_table.specs.Words.{with_one, is_in}
 use Rattle.ld_ids.specs.declared.set.Spec.{Spec}
-use Rattle.ld_msg.specs.Sequencer.{Append, stored_at, is_acked, fresh_append, acked_first, unacked_from}
-use Rattle.ld_window.specs.Flags.{leading, above}
+use Rattle.ld_msg.specs.Sequencer.{Append, stored_at, is_acked, acked_first, unacked_from}
+use Rattle.ld_window.specs.Flags.{leading}
 use Rattle.ld_appender.specs.Waiting.{Waiting, is_enough, with_stored, starts}
 use Rattle.ld_sequencer.specs.Appends.{IsInStep, HaveFactor, carried, shown, numbered_from, with_append, flags_after}
 use Rattle.ld_sequencer.proofs.Windows.{acked_run, acked_first_is, unacked_is, put_at, find_at}

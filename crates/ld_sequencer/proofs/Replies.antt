@@ -1,9 +1,8 @@
 -- What a node's answer does to an epoch's own sequencer.
-use Rattle.std.proofs.Common.{◌≡◌, ℕ, Bool, true, false, not, ◌&&◌, ◌==◌, List, [], ◌∷◌, ◌++◌, Option, Some, None, refl, ap, sym, ◌∙◌, subst, inl, inr, if◌then◌else◌, nat_lt, append-nil, ◌+◌, ◌<◌, ◌≤◌, arith}
+use Rattle.std.proofs.Common.{◌≡◌, ℕ, Bool, true, false, not, ◌&&◌, ◌==◌, List, [], ◌∷◌, ◌++◌, Option, Some, None, refl, ap, sym, ◌∙◌, subst, if◌then◌else◌, nat_lt, append-nil, ◌+◌, ◌<◌, ◌≤◌, arith}
 use Rattle.std.proofs.lemmas.Bool.Decides.{nat_tests}
 use Rattle.ld_table.specs.Table.{find}
 use Rattle.ld_table.specs.Words.{with_one}
-use Rattle.ld_ids.specs.declared.set.Spec.{Spec}
 use Rattle.ld_lsn.specs.Number.{epoch_of, home_epoch, epoch_end, numbered}
 use Rattle.ld_ids.specs.Choice.{nodes_of}
 use Rattle.ld_msg.specs.declared.msg.Body.{Body}

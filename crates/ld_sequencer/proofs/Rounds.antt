@@ -1,10 +1,9 @@
 -- What a round sends of one append.
-use Rattle.std.proofs.Common.{◌≡◌, ℕ, ◌+◌, ◌<◌, Bool, true, false, List, [], ◌∷◌, ◌++◌, length, refl, ap, sym, ◌∙◌, if◌then◌else◌, nat_le, append-nil, append_assoc, arith, drop, slice_get, get_or, Some, ◌≤◌, inl, inr}
+use Rattle.std.proofs.Common.{◌≡◌, ℕ, ◌+◌, ◌<◌, Bool, true, false, List, [], ◌∷◌, ◌++◌, length, refl, ap, sym, ◌∙◌, nat_le, append-nil, append_assoc, arith, drop, slice_get, get_or, Some, ◌≤◌, inl, inr}
 use Rattle.std.proofs.lemmas.List.{drop_all}
 use Rattle.std.proofs.lemmas.Option.{slice_get_cases, get_or_from_slice_get}
 use Rattle.ld_table.specs.Words.{without}
 use Rattle.ld_ids.specs.declared.set.Spec.{Spec}
-use Rattle.ld_lsn.specs.Number.{epoch_of, esn_of}
 use Rattle.ld_ids.specs.Choice.{choice_at}
 use Rattle.ld_copyset.specs.Copyset.{place_of}
 use Rattle.ld_msg.specs.declared.msg.Msg.{Msg}

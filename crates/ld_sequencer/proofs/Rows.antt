@@ -1,5 +1,5 @@
 -- A row of appends as its code has it.
-use Rattle.std.proofs.Common.{◌≡◌, ℕ, Result, Ok, Err, OnOk, OnErr, ◌+◌, ◌-◌, ◌<◌, ◌≤◌, List, [], ◌∷◌, ◌++◌, Bool, false, None, length, ap, sym, subst, arith, ◌∙◌}
+use Rattle.std.proofs.Common.{◌≡◌, ℕ, Result, Ok, Err, OnOk, OnErr, ◌+◌, ◌<◌, ◌≤◌, List, [], ◌∷◌, ◌++◌, Bool, false, None, length, ap, sym, subst, arith, ◌∙◌}
 use Rattle.ld_table.specs.Table.{find}
 use Rattle.ld_msg.specs.Sequencer.{fresh_append}
 use Rattle.std.proofs.lemmas.List.{length-map, map_push}

@@ -1,12 +1,11 @@
 -- Nodes one after another.
-use Rattle.std.proofs.Common.{◌≡◌, ℕ, zero, suc, ◌+◌, ◌<◌, Bool, true, false, not, ◌||◌, ◌==◌, List, [], ◌∷◌, ◌++◌, length, drop, slice_get, Some, None, if◌then◌else◌, refl, ap, sym, ◌∙◌, append_assoc, arith, add-one, subst, inl, inr}
+use Rattle.std.proofs.Common.{◌≡◌, ℕ, zero, suc, ◌+◌, ◌<◌, true, false, not, ◌==◌, List, [], ◌∷◌, ◌++◌, length, drop, slice_get, Some, None, if◌then◌else◌, refl, ap, sym, ◌∙◌, append_assoc, arith, add-one, subst, inl, inr}
 use Rattle.std.proofs.lemmas.Bool.{or_parts, or_from, eq-eqb, ne_eqb, cases_eq}
 use Rattle.ld_copyset.proofs.Rings.{distinct-without}
 use Rattle.ld_table.specs.Words.{is_in, without}
 use Rattle.ld_copyset.specs.Copyset.{AreDistinct}
 use Rattle.ld_msg.specs.declared.msg.Msg.{Msg}
 use Rattle.ld_msg.specs.declared.msg.Who.{Who}
-use Rattle.ld_msg.specs.declared.msg.Who.TheVariants as whos
 use Rattle.ld_msg.specs.declared.msg.Body.{Body}
 use Rattle.ld_msg.specs.Network.{posted}
 use Rattle.ld_msg.specs.Sequencer.{to_each}

@@ -1,6 +1,6 @@
 -- The appends of an epoch from the first one on that isn't acknowledged.
 use Rattle.std.specs.Prelude.{ℕ, ◌≡◌, ◌≤◌, ◌+◌, ◌^◌, Bool, true, false, not, set, if◌then◌else◌, ◌-◌, ◌&&◌, List, [], ◌∷◌, ◌++◌, map, drop, length, Option, Some, None}
-use Rattle.ld_table.specs.Table.{find, put}
+use Rattle.ld_table.specs.Table.{put}
 use Rattle.ld_ids.specs.declared.set.Spec.{Spec}
 use Rattle.ld_lsn.specs.Number.{numbered}
 use Rattle.ld_window.specs.Flags.{leading}

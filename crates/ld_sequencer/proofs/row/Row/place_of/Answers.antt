@@ -1,4 +1,4 @@
-use Rattle.std.proofs.Common.{◌≡◌, ◌<◌, None, arith, subst}
+use Rattle.std.proofs.Common.{◌≡◌, None, arith, subst}
 use Rattle.ld_table.specs.Table.{find}
 use Rattle.ld_sequencer.proofs.Rows.{below_shown, above_shown}
 use Rattle.ld_sequencer.proofs.row.Row.place_of.Goals as goal
