@@ -1,4 +1,5 @@
-//! A log's sequencer: it numbers appends, counts the nodes that stored them, and says what is released.
+//! What a log's sequencer does for its own epoch: it numbers appends, counts the nodes that stored them, and says what is
+//! released. The recovery of earlier epochs and the register stand outside of it.
 #![tactic(auto)]
 
 mod fault;
