@@ -191,3 +191,15 @@ fn nothing_is_released_before_earlier_epochs_are_closed(rt: HostRuntime) -> Resu
     assert_eq!(rt; out.len(), 8);
     Ok(())
 }
+
+#[test]
+fn a_retry_sends_to_those_that_have_not_stored(rt: HostRuntime) -> Result<(), Fail> {
+    let alloc = rt.alloc();
+    let log = LogId::new(1).expect(&rt, "a log");
+    let mut out = Outbox::empty(alloc);
+    let mut own = OwnEpoch::new(alloc, &three_nodes(log), 3, 2)?;
+    append_many(alloc, &mut own, 1, &mut out)?;
+    own.retry(alloc, &mut out)?;
+    assert_eq!(rt; out.len(), 4);
+    Ok(())
+}
