@@ -84,7 +84,7 @@ distinct-drop zero xs h = h
 distinct-drop (suc k) [] h = tt
 distinct-drop (suc k) (x ∷ xs) h = distinct-drop k xs h.1
 
-distinct-without : (ys xs : List ℕ) → AreDistinct xs → AreDistinct (without ys xs)
+pub distinct-without : (ys xs : List ℕ) → AreDistinct xs → AreDistinct (without ys xs)
 distinct-without ys [] h = tt
 distinct-without ys (x ∷ xs) h =
     elim (not (is_in x ys)) as (λ b. AreDistinct (if b then x ∷ without ys xs else without ys xs)) [

@@ -1,5 +1,5 @@
 // Lists of messages.
-ghost use Rattle.std.specs.Prelude.{◌≡◌, ◌↔◌, ◌++◌, ◌∷◌, [], IfOk, OnOk, OnErr, IsTrue, length};
+ghost use Rattle.std.specs.Prelude.{◌≡◌, ◌↔◌, ◌++◌, ◌∷◌, [], IfOk, OnOk, OnErr, IsTrue, length, take};
 
 use crate::Msg;
 use ld_ids::NoMemory;
@@ -73,6 +73,13 @@ impl Outbox {
     {
         self.list.push(one)?;
         Ok(())
+    }
+
+    /// Keeps so many, from the first one on.
+    pub fn truncate(&mut self, count: usize)
+        ensures { self.new ≡ take count self.old }
+    {
+        self.list.truncate(count);
     }
 
     /// The same list once more.

@@ -187,7 +187,7 @@ impl<D: Disk> Node<D> {
         requires blank { is_blank self.old ≡ true }
 
         ensures drawn { (c : Contents) → G.holds reg.old c → IfOk result (λ drawn. (answered drawn ≡ drawn_by c (id_of self.old)) × G.holds reg.new (after_draw c (id_of self.old))) }
-        ensures done_or_not { ChangedOrNot (G.may_hold reg.old) (G.may_hold reg.new) (λ c. after_draw c (id_of self.old)) }
+        ensures done_or_not { G.told reg.old → ChangedOrNot (G.may_hold reg.old) (G.may_hold reg.new) (λ c. after_draw c (id_of self.old)) }
         ensures applied { IfOk result (λ drawn. (plain_of self.new ≡ apply (plain_of self.old) (kinds.Format drawn.gen_ drawn.epochs)) × (is_blank self.new ≡ false)) }
         ensures acknowledged { (ops : List Kind) → Holds D.seen D.may_leave self.old ops
             → IfOk result (λ drawn. Holds D.seen D.may_leave self.new (ops ++ kinds.Format drawn.gen_ drawn.epochs ∷ [])) }

@@ -1,0 +1,9 @@
+pub mod Begins
+pub mod Counted
+pub mod Marks
+pub mod Replies
+pub mod Rounds
+pub mod Rows
+pub mod Sends
+pub mod Waves
+pub mod Windows

@@ -1,0 +1,9 @@
+use Rattle.std.proofs.Common.{◌++◌, ap, ◌∙◌}
+use Rattle.ld_sequencer.specs.Own.{sent_by, released_above}
+use Rattle.ld_sequencer.proofs.Replies.{heard_sent}
+use Rattle.ld_sequencer.proofs.own.OwnEpoch.on_reply.Goals as goal
+
+pub returns-clause-out : goal.returns-clause-out
+returns-clause-out c =
+    heard_sent c.args.self.now c.hear-report.new.self c.in-Node.node c.args.msg.now.from c.args.msg.now.body c.hear-report.result c.args.out.now c.tell_released.new.out c.in-Node.is c.hear-report.ensures
+    (c.in_ok-tell_released.ensures ∙ ap (λ r. c.args.out.now ++ sent_by c.hear-report.new.self (released_above r c.hear-report.new.self)) c.released-released.ensures)

@@ -1,0 +1,38 @@
+// Why a sequencer refuses.
+ghost use Rattle.std.specs.Prelude.{◌≡◌};
+ghost use Rattle.ld_sequencer.specs.declared.fault.SequencerFault.TheVariants.{NoMemory as Memory};
+
+use ld_ids::NoMemory;
+use ld_lsn::Lsn;
+use thiserror::Error;
+
+/// Why a sequencer refuses a call.
+#[derive(Clone, Copy, Debug, PartialEq, Eq, Error)]
+pub enum SequencerFault {
+    /// The payload has so many bytes, more than 65,535.
+    #[error("a payload of {0} bytes is too long")]
+    PayloadTooLong(usize),
+    /// The sequencer of this greater epoch is at work.
+    #[error("preempted by epoch {0}")]
+    Preempted(u32),
+    /// The next place would be 2^32-1.
+    #[error("the epoch is full")]
+    EpochFull,
+    /// 128 appends wait.
+    #[error("the window is full")]
+    WindowFull,
+    /// A trim goes past this released number.
+    #[error("the number is above the released one")]
+    PastReleased(Lsn),
+    /// There is no memory left.
+    #[error("out of memory")]
+    NoMemory,
+}
+
+impl From<NoMemory> for SequencerFault {
+    ghost from_gives = { λ _ e. e ≡ Memory };
+
+    fn from(_: NoMemory) -> SequencerFault {
+        SequencerFault::NoMemory
+    }
+}

@@ -1,0 +1,336 @@
+// What a sequencer does for its own epoch.
+ghost use Rattle.std.specs.Prelude.{◌≡◌, ◌≤◌, ◌<◌, ◌+◌, ◌-◌, ◌^◌, ◌++◌, ℕ, length, IfOk, IfErr, OnOk, OnErr, None, nat_lt, if◌then◌else◌};
+ghost use Rattle.ld_ids.specs.Choice.{nodes_of};
+ghost use Rattle.ld_lsn.specs.Number.{numbered};
+ghost use Rattle.ld_msg.specs.declared.msg.Body.TheVariants.{Trim};
+ghost use Rattle.ld_msg.specs.Sequencer.{released_of, appending, Numbered, appended, first_stores, next_esn, to_each, does_nothing, on_reply, by_stored, by_lost, by_clean, preempt as preempts, on_retry, acted_messages};
+ghost use Rattle.ld_sequencer.specs.Appends.{pushed, next_place};
+ghost use Rattle.ld_sequencer.specs.Own.{Own, IsNow, new_own, spec_of, sequencer_of, sent_by, append_fault, trim_fault, heard, released_above, with_lce, preempted_as, Does};
+ghost use Rattle.ld_sequencer.specs.Sending.{BeginsWith};
+
+use crate::Row;
+use crate::fault::SequencerFault;
+use crate::send::{Notice, Sender};
+use ld_copyset::{NodeList, choose_for};
+use ld_ids::{NoMemory, NodeId, Payload, Spec};
+use ld_lsn::Lsn;
+use ld_msg::{Body, Msg, Outbox, Summary, Who};
+use std::alloc::Global;
+use std::marker::Model;
+
+/// The greatest length of a payload, in bytes.
+const PAYLOAD_LIMIT: usize = 65_535;
+
+/// How many appends may wait.
+const WINDOW_LIMIT: usize = 128;
+
+/// What a call of a sequencer learnt.
+#[derive(Clone, Copy, Debug, PartialEq, Eq)]
+pub struct Report {
+    /// The append that was acknowledged.
+    pub acked: Option<Lsn>,
+    /// The epoch of the sequencer that preempts this one.
+    pub preempted: Option<u32>,
+}
+
+impl Report {
+    /// Nothing.
+    pub fn nothing() -> Report
+        ensures acked { result.acked ≡ None }
+        ensures preempted { result.preempted ≡ None }
+    {
+        Report {
+            acked: None,
+            preempted: None,
+        }
+    }
+}
+
+/// A sequencer without the recovery of earlier epochs: the appends of its epoch, who stored them, what is released, and
+/// who preempted it. It is seen as the sequencer of a log that recovers no epoch.
+#[derive(Drop)]
+pub struct OwnEpoch {
+    row: Row,
+    lce: u32,
+    lost: NodeList,
+    preempted: Option<u32>,
+}
+
+impl Model for OwnEpoch {
+    ghost use Rattle.ld_sequencer.specs.Own.{Own};
+
+    ghost Value = { Own };
+
+    ghost view = { λ o. record { row = o.row; lce = o.lce; lost = o.lost; preempted = o.preempted } };
+}
+
+impl OwnEpoch {
+    /// The sequencer of this epoch of a log, with no append yet. All epochs up to `lce` are closed.
+    pub fn new(alloc: Global, spec: &Spec, epoch: u32, lce: u32) -> Result<OwnEpoch, NoMemory>
+        requires { 1 ≤ spec.now.r }
+        ensures { IfOk result (λ own. own ≡ new_own spec.now epoch lce) }
+    {
+        let row = Row::new(alloc, spec, epoch)?;
+        Ok(OwnEpoch {
+            row,
+            lce,
+            lost: NodeList::empty(),
+            preempted: None,
+        })
+    }
+
+    /// Its epoch.
+    pub fn epoch(&self) -> u32
+        ensures { result ≡ (sequencer_of self.now).epoch }
+    {
+        self.row.epoch()
+    }
+
+    /// The greatest number such that readers may have all up to it: before all earlier epochs are closed the end of the
+    /// last closed one, and from then on the last of its own numbers such that it and all below are acknowledged.
+    #[tactic(auto, using(crate::proofs::Replies::released_rules))]
+    pub fn released(&self) -> Lsn
+        ensures { result ≡ released_of (sequencer_of self.now) }
+    {
+        let epoch = self.row.epoch();
+        if self.lce < epoch && self.lce + 1 < epoch {
+            Lsn::epoch_end(self.lce)
+        } else {
+            Lsn::new(epoch, self.row.lng())
+        }
+    }
+
+    /// Numbers the payload and sends it to as many nodes as are to store it, and some more as the log says. It is refused
+    /// with `PayloadTooLong` and its length exactly above 65,535 bytes, then with `Preempted` and the greater epoch exactly
+    /// where one was learnt, then with `EpochFull` exactly where the next place is 2^32-1, then with `WindowFull` exactly
+    /// where 128 appends wait, and then for want of memory. A refused append has changed nothing and sent nothing.
+    #[tactic(auto, using(crate::proofs::Begins::back_rules))]
+    pub fn append(
+        &mut self,
+        alloc: Global,
+        payload: Payload,
+        out: &mut Outbox,
+    ) -> Result<Lsn, SequencerFault>
+        ensures number { IfOk result (λ number. number ≡ numbered (sequencer_of self.old).epoch (next_esn (sequencer_of self.old))) }
+        ensures taken { OnOk result (appending (sequencer_of self.old) payload ≡ Numbered) }
+        ensures now { OnOk result (IsNow self.old self.new (appended (sequencer_of self.old) payload)) }
+        ensures out { OnOk result (out.new ≡ out.old ++ sent_by self.old (first_stores (spec_of self.old) (sequencer_of self.old) payload)) }
+        ensures refused { IfErr result (λ fault. fault ≡ append_fault (length payload) (appending (sequencer_of self.old) payload)) }
+        ensures same { OnErr result (self.new ≡ self.old) }
+        ensures unsent { OnErr result (out.new ≡ out.old) }
+    {
+        self.check(&payload)?;
+        let count = out.len();
+        match self.add(alloc, payload, out) {
+            Ok(number) => Ok(number),
+            Err(_) => {
+                out.truncate(count);
+                Err(SequencerFault::NoMemory)
+            }
+        }
+    }
+
+    /// Tells all nodes of the log that all up to the number may go. It is refused with `PastReleased` and the released
+    /// number exactly where the number is above it, and then for want of memory. A refused trim has sent nothing.
+    pub fn trim(&self, lsn: Lsn, out: &mut Outbox) -> Result<(), SequencerFault>
+        ensures within { OnOk result (lsn ≤ released_of (sequencer_of self.now)) }
+        ensures out { OnOk result (out.new ≡ out.old ++ sent_by self.now (to_each (Trim lsn) (nodes_of (spec_of self.now)))) }
+        ensures refused { IfErr result (λ fault. fault ≡ trim_fault (released_of (sequencer_of self.now)) lsn) }
+        ensures unsent { OnErr result (out.new ≡ out.old) }
+    {
+        let released = self.released();
+        if lsn > released {
+            return Err(SequencerFault::PastReleased(released));
+        }
+        self.sender()
+            .tell(&self.row.spec().set, &Notice::Trim(lsn), out)?;
+        Ok(())
+    }
+
+    /// Takes a node's answer. An append is acknowledged by it where as many nodes as the log's factor says have stored it
+    /// now, and hadn't before. A seal of a greater epoch preempts it, and so does word that its own epoch is closed. A node
+    /// may be lost for its epoch. Where the released number rises all nodes are told so. A preempted sequencer ignores all
+    /// answers, and so it does messages that are no node's. After want of memory it isn't to be used again.
+    #[tactic(auto, using(crate::proofs::Replies::heard_rules))]
+    pub fn on_reply(&mut self, msg: &Msg, out: &mut Outbox) -> Result<Report, NoMemory>
+        ensures does { IfOk result (λ report. Does self.old self.new report (heard self.old msg.now.from msg.now.body)) }
+        ensures out { OnOk result (out.new ≡ out.old ++ sent_by self.old (acted_messages (spec_of self.old) (sequencer_of self.old) (heard self.old msg.now.from msg.now.body))) }
+    {
+        let Who::Node(node) = msg.from else {
+            return Ok(Report::nothing());
+        };
+        let released = self.released();
+        let report = self.hear(node, &msg.body);
+        self.tell_released(released, out)?;
+        Ok(report)
+    }
+
+    /// Sends each append that isn't acknowledged once more, in its next wave, to the nodes chosen that haven't stored it. A
+    /// preempted sequencer sends nothing. After want of memory it isn't to be used again.
+    #[tactic(auto, using(crate::proofs::Replies::retry_rules))]
+    pub fn retry(&mut self, alloc: Global, out: &mut Outbox) -> Result<(), NoMemory>
+        ensures now { OnOk result (IsNow self.old self.new (on_retry (spec_of self.old) (sequencer_of self.old)).sequencer) }
+        ensures out { OnOk result (out.new ≡ out.old ++ sent_by self.old (acted_messages (spec_of self.old) (sequencer_of self.old) (on_retry (spec_of self.old) (sequencer_of self.old)))) }
+    {
+        if self.preempted.is_none() {
+            self.row.raise();
+            self.row.send(alloc, &self.lost, out)?;
+        }
+        Ok(())
+    }
+
+    /// All epochs up to this one are closed. Where the released number rises all nodes are told so.
+    pub fn close_through(&mut self, lce: u32, out: &mut Outbox) -> Result<(), NoMemory>
+        ensures now { self.new ≡ with_lce self.old lce }
+        ensures out { OnOk result (out.new ≡ out.old ++ sent_by self.old (released_above (released_of (sequencer_of self.old)) (with_lce self.old lce))) }
+    {
+        let released = self.released();
+        self.lce = lce;
+        self.tell_released(released, out)
+    }
+
+    /// The sequencer of this greater epoch preempts it.
+    pub fn preempt(&mut self, by: u32)
+        ensures { self.new ≡ preempted_as self.old by }
+    {
+        self.preempted = Some(by);
+    }
+
+    /// What a node's answer does.
+    #[tactic(auto, using(crate::proofs::Replies::reply_rules))]
+    fn hear(&mut self, node: NodeId, body: &Body) -> Report
+        ensures { Does self.old self.new result (on_reply (spec_of self.old) (sequencer_of self.old) node body.now) }
+    {
+        if self.preempted.is_some() {
+            return Report::nothing();
+        }
+        match body {
+            Body::Stored { number } => self.count(node, *number),
+            Body::SealedHere { sealed, .. } => self.seal(*sealed),
+            Body::LostHere { number, .. } => self.lose(node, *number),
+            Body::CleanHere { number, summary } => self.clean(*number, summary),
+            _ => Report::nothing(),
+        }
+    }
+
+    /// A node stored what has the number.
+    #[tactic(auto, using(crate::proofs::Replies::count_rules))]
+    fn count(&mut self, node: NodeId, number: Lsn) -> Report
+        ensures { Does self.old self.new result (by_stored (spec_of self.old) (does_nothing (sequencer_of self.old)) node number) }
+    {
+        if number.epoch() != self.row.epoch() {
+            return Report::nothing();
+        }
+        let is_acked = self.row.stored(node, number);
+        Report {
+            acked: if is_acked { Some(number) } else { None },
+            preempted: None,
+        }
+    }
+
+    /// A node is sealed by the sequencer of an epoch.
+    #[tactic(auto, using(crate::proofs::Replies::seal_rules))]
+    fn seal(&mut self, sealed: u32) -> Report
+        ensures { Does self.old self.new result (if nat_lt (sequencer_of self.old).epoch sealed then preempts (does_nothing (sequencer_of self.old)) sealed else does_nothing (sequencer_of self.old)) }
+    {
+        if sealed <= self.row.epoch() {
+            return Report::nothing();
+        }
+        self.preempt(sealed);
+        Report {
+            acked: None,
+            preempted: Some(sealed),
+        }
+    }
+
+    /// A node is lost for the number's epoch.
+    #[tactic(auto, using(crate::proofs::Replies::lose_rules))]
+    fn lose(&mut self, node: NodeId, number: Lsn) -> Report
+        ensures { Does self.old self.new result (by_lost (does_nothing (sequencer_of self.old)) node number) }
+    {
+        if number.home().0 == self.row.epoch() {
+            self.lost.add(node);
+        }
+        Report::nothing()
+    }
+
+    /// The number's epoch is closed by the sequencer of this ballot.
+    #[tactic(auto, using(crate::proofs::Replies::clean_rules))]
+    fn clean(&mut self, number: Lsn, summary: &Summary) -> Report
+        ensures { Does self.old self.new result (by_clean (spec_of self.old) (does_nothing (sequencer_of self.old)) number summary.now) }
+    {
+        if number.home().0 != self.row.epoch() {
+            return Report::nothing();
+        }
+        self.preempt(summary.ballot);
+        Report {
+            acked: None,
+            preempted: Some(summary.ballot),
+        }
+    }
+
+    /// Whether the append is taken.
+    #[tactic(auto, unfolding(ld_msg::specs::Sequencer::appending))]
+    fn check(&self, payload: &Payload) -> Result<(), SequencerFault>
+        ensures ok { OnOk result (appending (sequencer_of self.now) payload.now ≡ Numbered) }
+        ensures room { OnOk result (length self.now.row.appends < 128) }
+        ensures place { OnOk result (next_place self.now.row ≤ 2 ^ 32 - 2) }
+        ensures err { IfErr result (λ fault. fault ≡ append_fault (length payload.now) (appending (sequencer_of self.now) payload.now)) }
+    {
+        if payload.len() > PAYLOAD_LIMIT {
+            return Err(SequencerFault::PayloadTooLong(payload.len()));
+        }
+        if let Some(by) = self.preempted {
+            return Err(SequencerFault::Preempted(by));
+        }
+        if self.row.next_place() == u32::MAX {
+            return Err(SequencerFault::EpochFull);
+        }
+        if self.row.len() >= WINDOW_LIMIT {
+            return Err(SequencerFault::WindowFull);
+        }
+        Ok(())
+    }
+
+    /// Sends the next append and lets it wait. Without memory nothing waits, and some may have been sent.
+    #[tactic(auto, using(crate::proofs::Begins::back_rules))]
+    fn add(&mut self, alloc: Global, payload: Payload, out: &mut Outbox) -> Result<Lsn, NoMemory>
+        requires room { length self.old.row.appends < 128 }
+        requires place { next_place self.old.row ≤ 2 ^ 32 - 2 }
+        ensures number { IfOk result (λ number. number ≡ numbered self.old.row.epoch (next_place self.old.row)) }
+        ensures now { OnOk result (self.new ≡ record self.old { row = pushed self.old.row payload }) }
+        ensures out { OnOk result (out.new ≡ out.old ++ sent_by self.old (first_stores (spec_of self.old) (sequencer_of self.old) payload)) }
+        ensures same { OnErr result (self.new ≡ self.old) }
+        ensures begins { OnErr result (BeginsWith out.old out.new) }
+    {
+        let number = Lsn::new(self.row.epoch(), self.row.next_place());
+        let nodes = choose_for(self.row.spec(), number, 0, &self.lost.to_set());
+        self.sender()
+            .send_stores(alloc, number, &payload, &nodes, out)?;
+        self.row.push(payload)?;
+        Ok(number)
+    }
+
+    /// As its messages name it.
+    fn sender(&self) -> Sender
+        ensures log { result.log ≡ self.now.row.spec.log }
+        ensures epoch { result.epoch ≡ self.now.row.epoch }
+    {
+        Sender {
+            log: self.row.spec().log,
+            epoch: self.row.epoch(),
+        }
+    }
+
+    /// Tells all nodes the released number, where it is above this one.
+    fn tell_released(&self, before: Lsn, out: &mut Outbox) -> Result<(), NoMemory>
+        ensures { OnOk result (out.new ≡ out.old ++ sent_by self.now (released_above before self.now)) }
+    {
+        let released = self.released();
+        if released > before {
+            self.sender()
+                .tell(&self.row.spec().set, &Notice::Release(released), out)?;
+        }
+        Ok(())
+    }
+}
