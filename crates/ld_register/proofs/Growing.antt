@@ -243,6 +243,11 @@ pub runs_split : (c : Register) (xs ys : List Call) (d : Register) → Runs c (x
 runs_split c [] ys d h = (c, refl, h)
 runs_split c (x ∷ xs) ys d (a, p, h) = let s = runs_split a xs ys d h in (s.0, (a, p, s.1), s.2)
 
+-- a call behind the others
+pub runs_on : (c : Register) (xs : List Call) (b d : Register) (x : Call) → Runs c xs b → Passes b x d → Runs c (xs ++ x ∷ []) d
+runs_on c [] b d x h p = (d, subst (λ z. Passes z x d) (sym h) p, refl)
+runs_on c (y ∷ ys) b d x (a, q, h) p = (a, q, runs_on a ys b d x h p)
+
 -- a call that answered
 ends_ok : {T : Type 0} (v : T) (answer : Result T RegisterFault) (c a d : Register) → Ends (Ok v) answer c a d → (Ok v ≡ answer) × (d ≡ a)
 ends_ok v answer c a d (inl p) = absurd p.0

@@ -1,5 +1,5 @@
 // What holds of a register's answers over any list of calls.
-ghost use Rattle.std.specs.Prelude.{◌≡◌, ◌≤◌, ◌<◌, ◌⊎◌, ◌++◌, ◌∷◌, ℕ, List, Ok, Some};
+ghost use Rattle.std.specs.Prelude.{◌≡◌, ◌≤◌, ◌<◌, ◌⊎◌, ◌++◌, ◌∷◌, [], ℕ, List, Ok, Some};
 ghost use Rattle.std.specs.declared.result.Result.{Result as Outcome};
 ghost use Rattle.ld_msg.specs.declared.msg.Summary.{Summary};
 ghost use Rattle.ld_msg.specs.Register.{Register as Contents, lce_of, epochs_of, generation_of, summary_shown};
@@ -8,7 +8,7 @@ ghost use Rattle.ld_register.specs.declared.register.Grant.{Grant};
 ghost use Rattle.ld_register.specs.declared.register.Drawn.{Drawn};
 ghost use Rattle.ld_register.specs.declared.register.View.{View};
 ghost use Rattle.ld_register.specs.Calls.{IsFree, ChangedOrNot};
-ghost use Rattle.ld_register.specs.Histories.{Call, Activates, Closes, Draws, Looks, Ends, Runs};
+ghost use Rattle.ld_register.specs.Histories.{Call, Activates, Closes, Draws, Looks, Ends, Passes, Runs};
 
 use crate::Register;
 
@@ -59,4 +59,10 @@ pub fn calls_are_steps<R: Register, T>()
         → IsFree result ⊎ ((c : Contents) → R.may_hold new c → R.holds new c)
         → ChangedOrNot (R.may_hold old) (R.may_hold new) change
         → (d : Contents) → R.may_hold new d → (c : Contents) × R.may_hold old c × Ends result (answer c) c (change c) d }
+{}
+
+/// A step behind a list makes a longer list, so that the calls of a register, one after the other, are such a list.
+pub fn steps_make_lists()
+    ensures none { (c : Contents) → Runs c [] c }
+    ensures more { (c b d : Contents) (calls : List Call) (call : Call) → Runs c calls b → Passes b call d → Runs c (calls ++ call ∷ []) d }
 {}

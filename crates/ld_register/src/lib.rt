@@ -14,7 +14,7 @@ pub use disk::DiskRegister;
 pub use fault::RegisterFault;
 pub use laws::{
     calls_are_steps, closes_are_shown, epochs_rise, generations_rise, looks_agree, nothing_falls,
-    summaries_stay,
+    steps_make_lists, summaries_stay,
 };
 pub use register::{Drawn, Grant, Register, View};
 
