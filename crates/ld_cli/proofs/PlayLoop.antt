@@ -9,8 +9,9 @@ use Rattle.ld_transcript.specs.Text.{line_text, text}
 use Rattle.ld_config.specs.declared.config.Config.{Config}
 use Rattle.ld_machine.specs.State.{State, start}
 use Rattle.ld_machine.specs.Served.{One, served_step, served_lines}
-use Rattle.ld_machine.specs.ServedRun.{served_state}
-use Rattle.ld_served.proofs.Safe.{served_safe}
+use Rattle.ld_machine.specs.ServedRun.{served_state, served_events, served_history}
+use Rattle.ld_machine.specs.Safe.{Safe}
+use Rattle.ld_safety.proofs.LostJoined.{every_run_is_safe}
 use Rattle.ld_machine.proofs.ServedRuns.{served_state-push, served_lines-push}
 use Rattle.ld_cluster.specs.Standing.{Standing}
 use Rattle.ld_cluster.specs.Steps.{serves}
@@ -100,6 +101,10 @@ played left mid new old written written' cluster stepped number e playing can ta
     }
 
 -- ---- its ends ----
+
+-- a run of what is served is a run of the whole machine
+served_safe : (c : Config) (es : List Event) → Safe c (served_history One c es)
+served_safe c es = every_run_is_safe c (served_events One c (start c) es)
 
 pub silent : (left written : Option (List ℕ)) → IfSome left (λ bytes. IsCut bytes written written)
 silent None written = tt
