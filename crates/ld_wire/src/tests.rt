@@ -576,6 +576,44 @@ fn a_fault_in_the_length_or_the_kind_is_told_at_once(rt: HostRuntime) -> Result<
 }
 
 #[test]
+fn a_wrong_trim_is_refused_at_its_field(rt: HostRuntime) -> Result<(), Fail> {
+    let alloc = rt.alloc();
+    // Cut short by its last byte.
+    assert!(rt;
+        is_refused(
+            alloc,
+            b"\x00\x00\x00\x16\x0b\x01\x00\x00\x00\x01\x00\x00\x00\x00\x01\x00\x00\x00\x01\x00\x00\x00\x01\x00\x00\x00",
+            WireFault::BadField(11, 15)
+        )?
+    );
+    // One byte more.
+    assert!(rt;
+        is_refused(
+            alloc,
+            b"\x00\x00\x00\x18\x0b\x01\x00\x00\x00\x01\x00\x00\x00\x00\x01\x00\x00\x00\x01\x00\x00\x00\x01\x00\x00\x00\x01\x00",
+            WireFault::BadField(11, 23)
+        )?
+    );
+    // From a node.
+    assert!(rt;
+        is_refused(
+            alloc,
+            b"\x00\x00\x00\x17\x0b\x00\x00\x00\x00\x01\x00\x00\x00\x00\x01\x00\x00\x00\x01\x00\x00\x00\x01\x00\x00\x00\x01",
+            WireFault::BadField(11, 1)
+        )?
+    );
+    // To nobody.
+    assert!(rt;
+        is_refused(
+            alloc,
+            b"\x00\x00\x00\x17\x0b\x01\x00\x00\x00\x01\x03\x00\x00\x00\x01\x00\x00\x00\x01\x00\x00\x00\x01\x00\x00\x00\x01",
+            WireFault::BadField(11, 6)
+        )?
+    );
+    Ok(())
+}
+
+#[test]
 fn a_stream_is_the_same_in_any_pieces(rt: HostRuntime) -> Result<(), Fail> {
     let alloc = rt.alloc();
     let bytes = stream(alloc)?;
