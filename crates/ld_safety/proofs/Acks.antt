@@ -11,7 +11,7 @@ use Rattle.ld_config.specs.declared.config.Config.{Config}
 use Rattle.ld_msg.specs.declared.msg.Msg.{Msg}
 use Rattle.ld_msg.specs.Register.{Register, lce_of}
 use Rattle.ld_msg.specs.Sequencer.{Sequencer, Append, released_of, own_spec, is_acked, acked_first, unacked_from, stored_at, with_append, raised, next_wave, next_esn}
-use Rattle.ld_machine.specs.Config.{spec_in}
+use Rattle.ld_machine.specs.Config.{spec_in, has_log}
 use Rattle.ld_machine.specs.Facts.{Happened}
 use Rattle.ld_machine.specs.World.{In}
 use Rattle.ld_safety.proofs.Lists.{cond_both}
@@ -23,7 +23,7 @@ use Rattle.ld_safety.proofs.Votes.{Voters, one_voter, counted_votes}
 use Rattle.ld_safety.proofs.Settled.{Acknowledged, ReleaseFine, tells_more}
 
 -- ---- lists of appends ----
-acked_in_row : (s : Spec) (n : ℕ) (m : List (ℕ × Append)) (k : ℕ) → InRow n m → n ≤ k → k < n + acked_first s m → (p : ℕ × Append) × In p m × (p.0 ≡ k) × (is_acked s p.1 ≡ true)
+pub acked_in_row : (s : Spec) (n : ℕ) (m : List (ℕ × Append)) (k : ℕ) → InRow n m → n ≤ k → k < n + acked_first s m → (p : ℕ × Append) × In p m × (p.0 ≡ k) × (is_acked s p.1 ≡ true)
 acked_in_row s n [] k r lo hi = absurd (omega arith)
 acked_in_row s n (p ∷ m) k r lo hi = by_acked (is_acked s p.1) refl hi (acked_in_row s (n + 1) m k r.1) where
   by_acked : (b : Bool) → is_acked s p.1 ≡ b → k < n + (if b then suc (acked_first s m) else 0) → (n + 1 ≤ k → k < n + 1 + acked_first s m → (p : ℕ × Append) × In p m × (p.0 ≡ k) × (is_acked s p.1 ≡ true)) → (x : ℕ × Append) × In x (p ∷ m) × (x.0 ≡ k) × (is_acked s x.1 ≡ true)
@@ -34,12 +34,12 @@ acked_in_row s n (p ∷ m) k r lo hi = by_acked (is_acked s p.1) refl hi (acked_
     | inr (inr l) ↦ absurd (omega arith)
   ]
 
-unacked_in : (s : Spec) (m : List (ℕ × Append)) (x : ℕ × Append) → In x (unacked_from s m) → In x m
+pub unacked_in : (s : Spec) (m : List (ℕ × Append)) (x : ℕ × Append) → In x (unacked_from s m) → In x m
 unacked_in s [] x i = absurd i
 unacked_in s (p ∷ m) x i = cond_both (is_acked s p.1) (unacked_from s m) (p ∷ m) (λ l. In x l → In x (p ∷ m)) (λ t j. inr (unacked_in s m x j)) (λ t j. j) i
 
 -- an append that is sent in a later wave
-raised_in : (s : Spec) (m : List (ℕ × Append)) (x : ℕ × Append) → In x (raised s m) → (p : ℕ × Append) × In p m × (x.0 ≡ p.0) × (x.1.payload ≡ p.1.payload) × (x.1.stored ≡ p.1.stored)
+pub raised_in : (s : Spec) (m : List (ℕ × Append)) (x : ℕ × Append) → In x (raised s m) → (p : ℕ × Append) × In p m × (x.0 ≡ p.0) × (x.1.payload ≡ p.1.payload) × (x.1.stored ≡ p.1.stored)
 raised_in s [] x i = absurd i
 raised_in s (p ∷ m) x (inl e) = (
   p,
@@ -61,6 +61,7 @@ module _ (c : Config) (hs : List Happened) (sent : List Msg) where
 
   pub record AcksFine (r : Register) (q : Sequencer) : Type 0 where
     pub positive : 0 < q.epoch
+    pub kept : has_log c q.log ≡ true
     pub appends : (p : ℕ × Append) → In p q.appends → AppendFine q.log q.epoch p
     pub acked : (k : ℕ) → 0 < k → k ≤ q.lng → Acknowledged c hs sent q.log (numbered q.epoch k)
     pub closed : q.lce ≤ lce_of r q.log
@@ -86,6 +87,7 @@ module _ (c : Config) (hs : List Happened) (sent : List Msg) where
     pub acks_fine : RowOf q → AcksFine r (with_append (own_spec (spec_in q.log c.logs) q) q n (stored_at p y))
     acks_fine R = record {
       positive = A.positive;
+      kept = A.kept;
       appends = λ x i. put_fine x (unacked_in (spec_in q.log c.logs) (put n (stored_at p y) q.appends) x i);
       acked = λ k lo hi. elim (cases_order k (q.lng + 1)) [
         | inl e ↦ newly k lo hi (omega arith)
@@ -123,6 +125,7 @@ pub acks_later : (c : Config) (hs next : List Happened) (sent after : List Msg) 
     (r k : Register) → Up r k → (q : Sequencer) → AcksFine c hs sent r q → AcksFine c next after k q
 acks_later c hs next sent after into more acks r k u q A = record {
   positive = A.positive;
+  kept = A.kept;
   appends = λ p i. let f = A.appends p i in record { epoch = f.epoch; above = f.above; below = f.below; appended = more q.log p.0 p.1.payload f.appended; votes = record { counted = f.votes.counted; stored = λ y h. tells_more sent after into q.log p.0 q.epoch y (f.votes.stored y h) } };
   acked = λ j a b. acks q.log (numbered q.epoch j) (A.acked j a b);
   closed = let z = (u q.log).1 in let y = A.closed in omega arith;

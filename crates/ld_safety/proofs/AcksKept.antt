@@ -19,7 +19,7 @@ use Rattle.ld_op.specs.declared.op.Op.{Op}
 use Rattle.ld_op.specs.Ticks.{Ticked, Cleans, Rebuilt, Asks, Nothing}
 use Rattle.ld_msg.specs.Register.{Register, Epochs, Granted, epochs_of, lce_of, close, activate, closed_epochs, with_epochs, next_epoch}
 use Rattle.ld_msg.specs.Sequencer.{Sequencer, Acts, Append, Called, called, on_reply, on_retry, own_spec, is_acked, stored_at, raised, activated, appended, appending, Numbered, next_esn, fresh_append}
-use Rattle.ld_machine.specs.Config.{spec_in}
+use Rattle.ld_machine.specs.Config.{spec_in, has_log}
 use Rattle.ld_machine.specs.Disk.{Node}
 use Rattle.ld_machine.specs.State.{State, Done, node_at, with_node, with_sequencer, only_state}
 use Rattle.ld_machine.specs.Facts.{Happened}
@@ -45,7 +45,7 @@ module _ (c : Config) (hs : List Happened) (sent : List Msg) where
     pub acked : (n : ℕ) → In n k.acts.acked → Acknowledged c hs sent q.log n
 
   weaken : (r k : Register) (q : Sequencer) → AcksFine c hs sent r q → Up r k → AcksFine c hs sent k q
-  weaken r k q A u = record { positive = A.positive; appends = A.appends; acked = A.acked; closed = let z = (u q.log).1 in let y = A.closed in omega arith }
+  weaken r k q A u = record { positive = A.positive; kept = A.kept; appends = A.appends; acked = A.acked; closed = let z = (u q.log).1 in let y = A.closed in omega arith }
 
   closed_lce : (r n : Register) (l e : ℕ) (y : Summary) → lce_of r l + 1 ≡ e → close r l e y ≡ record { register = n; answer = Granted } → lce_of n l ≡ e
   closed_lce r n l e y h g = let s = close_granted r l e y n h g in elim (epochs_put r l l (closed_epochs (epochs_of r l) e y)) [
@@ -56,9 +56,9 @@ module _ (c : Config) (hs : List Happened) (sent : List Msg) where
   module _ (r : Register) (q : Sequencer) where
     close_acks : (p : Spec) (a : Acts) (e : ℕ) (y : Summary) → a.sequencer.log ≡ q.log → AcksFine c hs sent r a.sequencer → ((n : ℕ) → In n a.acked → ⊥) → Closing r p a e y (ActsFine r q)
     close_acks p a e y lg A none = record {
-      granted = λ n h g. record { log = lg; fine = λ u. record { positive = A.positive; appends = A.appends; acked = A.acked; closed = let z = closed_lce r n a.sequencer.log e y h g in omega arith }; acked = λ n i. absurd (none n i) };
-      overtaken = λ h. record { log = lg; fine = λ u. record { positive = A.positive; appends = A.appends; acked = A.acked; closed = A.closed }; acked = λ n i. absurd (none n i) };
-      behind = λ b h. record { log = lg; fine = λ u. record { positive = A.positive; appends = A.appends; acked = A.acked; closed = omega arith }; acked = λ n i. absurd (none n i) };
+      granted = λ n h g. record { log = lg; fine = λ u. record { positive = A.positive; kept = A.kept; appends = A.appends; acked = A.acked; closed = let z = closed_lce r n a.sequencer.log e y h g in omega arith }; acked = λ n i. absurd (none n i) };
+      overtaken = λ h. record { log = lg; fine = λ u. record { positive = A.positive; kept = A.kept; appends = A.appends; acked = A.acked; closed = A.closed }; acked = λ n i. absurd (none n i) };
+      behind = λ b h. record { log = lg; fine = λ u. record { positive = A.positive; kept = A.kept; appends = A.appends; acked = A.acked; closed = omega arith }; acked = λ n i. absurd (none n i) };
       failed = λ n g. record { log = lg; fine = λ u. weaken r n a.sequencer A u; acked = λ n i. absurd (none n i) };
     }
 
@@ -70,16 +70,16 @@ module _ (c : Config) (hs : List Happened) (sent : List Msg) where
       acting_acks : (y : ℕ) (b : Body) → RowOf q → ((n : ℕ) → b ≡ bodies.Stored n → In y (nodes_of (spec_in q.log c.logs)) × (tells_stored sent q.log n q.epoch y ≡ true)) → ((n : ℕ) (s : Summary) → b ≡ bodies.CleanHere n s → home_epoch n ≤ lce_of r q.log) → Acting c r q y b (λ k m. ActsFine r q k)
       acting_acks y b R V C = record {
         quiet = still _ refl (weaken r r q A) (λ n i. i);
-        sealed = λ n k f i l. still _ refl (λ u. record { positive = A.positive; appends = A.appends; acked = A.acked; closed = A.closed }) (λ n i. i);
-        cleaned_own = λ n s f i h. still _ refl (λ u. record { positive = A.positive; appends = A.appends; acked = A.acked; closed = A.closed }) (λ n i. i);
+        sealed = λ n k f i l. still _ refl (λ u. record { positive = A.positive; kept = A.kept; appends = A.appends; acked = A.acked; closed = A.closed }) (λ n i. i);
+        cleaned_own = λ n s f i h. still _ refl (λ u. record { positive = A.positive; kept = A.kept; appends = A.appends; acked = A.acked; closed = A.closed }) (λ n i. i);
         acks = λ n p f i h g. record { log = refl; fine = λ u. acks_fine c hs sent r q A y n p g (V n i) R; acked = λ k j. acked_one n p i h g k j };
-        settles_some = λ v g p f e h s u. still _ refl (λ w. record { positive = A.positive; appends = A.appends; acked = A.acked; closed = A.closed }) (λ n i. i);
-        settles_all = λ v g p f e h s u. close_acks _ _ v.epoch _ refl (record { positive = A.positive; appends = A.appends; acked = A.acked; closed = A.closed }) (λ n i. i);
-        lost_own = λ n round g end f i h. still _ refl (λ w. record { positive = A.positive; appends = A.appends; acked = A.acked; closed = A.closed }) (λ n i. i);
-        lost_there = λ v n round g end f e i h. still _ refl (λ w. record { positive = A.positive; appends = A.appends; acked = A.acked; closed = A.closed }) (λ n i. i);
-        cleaned = λ v n s f e i h. still _ refl (λ w. record { positive = A.positive; appends = A.appends; acked = A.acked; closed = let z = C n s i in omega arith }) (λ n i. i);
-        asks_more = λ v d from upto trim lng es f e h i g t u. still _ refl (λ w. record { positive = A.positive; appends = A.appends; acked = A.acked; closed = A.closed }) (λ n i. i);
-        plans = λ v d from upto trim lng es f e h i g t u. still _ refl (λ w. record { positive = A.positive; appends = A.appends; acked = A.acked; closed = A.closed }) (λ n i. i);
+        settles_some = λ v g p f e h s u. still _ refl (λ w. record { positive = A.positive; kept = A.kept; appends = A.appends; acked = A.acked; closed = A.closed }) (λ n i. i);
+        settles_all = λ v g p f e h s u. close_acks _ _ v.epoch _ refl (record { positive = A.positive; kept = A.kept; appends = A.appends; acked = A.acked; closed = A.closed }) (λ n i. i);
+        lost_own = λ n round g end f i h. still _ refl (λ w. record { positive = A.positive; kept = A.kept; appends = A.appends; acked = A.acked; closed = A.closed }) (λ n i. i);
+        lost_there = λ v n round g end f e i h. still _ refl (λ w. record { positive = A.positive; kept = A.kept; appends = A.appends; acked = A.acked; closed = A.closed }) (λ n i. i);
+        cleaned = λ v n s f e i h. still _ refl (λ w. record { positive = A.positive; kept = A.kept; appends = A.appends; acked = A.acked; closed = let z = C n s i in omega arith }) (λ n i. i);
+        asks_more = λ v d from upto trim lng es f e h i g t u. still _ refl (λ w. record { positive = A.positive; kept = A.kept; appends = A.appends; acked = A.acked; closed = A.closed }) (λ n i. i);
+        plans = λ v d from upto trim lng es f e h i g t u. still _ refl (λ w. record { positive = A.positive; kept = A.kept; appends = A.appends; acked = A.acked; closed = A.closed }) (λ n i. i);
       } where
         acked_one : (n : ℕ) (p : Append) → b ≡ bodies.Stored n → epoch_of n ≡ q.epoch → find n q.appends ≡ Some p → (k : ℕ) → In k (if is_acked (spec_in q.log c.logs) p then [] else if is_acked (spec_in q.log c.logs) (stored_at p y) then n ∷ [] else []) → Acknowledged c hs sent q.log k
         acked_one n p i h g k j = cond_both (is_acked (spec_in q.log c.logs) p) [] (if is_acked (spec_in q.log c.logs) (stored_at p y) then n ∷ [] else []) (λ l. In k l → Acknowledged c hs sent q.log k) (λ t j. absurd j)
@@ -90,11 +90,11 @@ module _ (c : Config) (hs : List Happened) (sent : List Msg) where
         quiet = still _ refl (weaken r r q A) (λ n i. i);
         appends = λ f. still _ refl (λ u. up) (λ n i. i);
         seals = λ v d f e h. still _ refl (λ u. up) (λ n i. i);
-        stores = λ v g f e h. still _ refl (λ u. record { positive = A.positive; appends = raised_fine c hs sent r q A; acked = A.acked; closed = A.closed }) (λ n i. i);
+        stores = λ v g f e h. still _ refl (λ u. record { positive = A.positive; kept = A.kept; appends = raised_fine c hs sent r q A; acked = A.acked; closed = A.closed }) (λ n i. i);
         closes = λ v y f e h. close_acks _ _ v.epoch y refl up (λ n i. i);
       } where
         up : AcksFine c hs sent r (record q { appends = raised (own_spec (spec_in q.log c.logs) q) q.appends })
-        up = record { positive = A.positive; appends = raised_fine c hs sent r q A; acked = A.acked; closed = A.closed }
+        up = record { positive = A.positive; kept = A.kept; appends = raised_fine c hs sent r q A; acked = A.acked; closed = A.closed }
 
 -- ---- every event ----
 module _ (c : Config) (s : State) (e : Event) (hs : List Happened) (D : (t : List ℕ) (v : Sequencer) → find_named t s.sequencers ≡ Some v → AcksFine c hs s.network.sent s.register v)
@@ -138,7 +138,7 @@ module _ (c : Config) (s : State) (e : Event) (hs : List Happened) (D : (t : Lis
 
   append_result : (name : List ℕ) (q : Sequencer) (payload : List ℕ) → Live s name q → appending q payload ≡ Numbered → e ≡ events.Append name payload → Result (Step.append_done c s name q payload Numbered) []
   unfolding SameLog
-  append_result name q payload v a i w = puts (Step.append_done c s name q payload Numbered) name (appended q payload) refl (λ u. record { positive = A.positive; appends = λ p j. elim (In-append p q.appends _ j) [ inl k ↦ A.appends p k | inr k ↦ subst (AppendFine c hs s.network.sent q.log q.epoch) (sym (only p (numbered q.epoch (next_esn q), fresh_append payload) k)) fresh ]; acked = A.acked; closed = A.closed })
+  append_result name q payload v a i w = puts (Step.append_done c s name q payload Numbered) name (appended q payload) refl (λ u. record { positive = A.positive; kept = A.kept; appends = λ p j. elim (In-append p q.appends _ j) [ inl k ↦ A.appends p k | inr k ↦ subst (AppendFine c hs s.network.sent q.log q.epoch) (sym (only p (numbered q.epoch (next_esn q), fresh_append payload) k)) fresh ]; acked = A.acked; closed = A.closed })
       (λ p g. ap (λ (x : Sequencer). x.log) (Some_inj (sym v.named ∙ g))) w where
         A : AcksFine c hs s.network.sent s.register q
         A = D name q v.named
@@ -149,10 +149,10 @@ module _ (c : Config) (s : State) (e : Event) (hs : List Happened) (D : (t : Lis
         fresh : AppendFine c hs s.network.sent q.log q.epoch (numbered q.epoch (next_esn q), fresh_append payload)
         fresh = let b = told_now.0 in record { epoch = omega arith; above = omega arith; below = omega arith; appended = told_now.1; votes = nobody (spec_in q.log c.logs) (tells_stored s.network.sent q.log (numbered q.epoch (next_esn q)) q.epoch) }
 
-  activate_result : (name : List ℕ) (l : ℕ) (k : Register) → find_named name s.sequencers ≡ None → activate s.register l ≡ record { register = k; answer = Granted } → Result (Step.activated_as c s name l k (epochs_of k l).epoch (lce_of k l)) []
+  activate_result : (name : List ℕ) (l : ℕ) (k : Register) → has_log c l ≡ true → find_named name s.sequencers ≡ None → activate s.register l ≡ record { register = k; answer = Granted } → Result (Step.activated_as c s name l k (epochs_of k l).epoch (lce_of k l)) []
   unfolding SameLog activated
-  activate_result name l k n i = puts (Step.activated_as c s name l k (epochs_of k l).epoch (lce_of k l)) name (activated (spec_in l c.logs) l (epochs_of k l).epoch (lce_of k l)) refl
-      (λ u. record { positive = (let w = new_epoch in omega arith); appends = λ p j. absurd j; acked = λ j a b. absurd (omega arith); closed = omega arith }) (λ p g. absurd (not_none (sym n ∙ g))) where
+  activate_result name l k hl n i = puts (Step.activated_as c s name l k (epochs_of k l).epoch (lce_of k l)) name (activated (spec_in l c.logs) l (epochs_of k l).epoch (lce_of k l)) refl
+      (λ u. record { positive = (let w = new_epoch in omega arith); kept = hl; appends = λ p j. absurd j; acked = λ j a b. absurd (omega arith); closed = omega arith }) (λ p g. absurd (not_none (sym n ∙ g))) where
         new_epoch : (epochs_of k l).epoch ≡ (epochs_of s.register l).epoch + 1
         new_epoch = let z = epochs_same (with_epochs s.register l (next_epoch (epochs_of s.register l))) k l (activate_granted s.register l k i) in elim (epochs_put s.register l l (next_epoch (epochs_of s.register l))) [
           | inl y ↦ ap (λ (x : Epochs). x.epoch) (z ∙ y.1)
@@ -187,8 +187,8 @@ module _ (c : Config) (s : State) (e : Event) (hs : List Happened) (D : (t : Lis
     retries = λ name q v o. called_result s.network.fresh name q (on_retry (spec_in q.log c.logs) q) [] v (retry_acts name q v);
     appends = λ name q p v a i. append_result name q p v a i;
     trims = λ name q t v b. stays _ refl;
-    drops = λ name q v o. puts (only_state (with_sequencer s name (Step.dropped q))) name (Step.dropped q) refl (λ u. let A = D name q v.named in record { positive = A.positive; appends = A.appends; acked = A.acked; closed = A.closed }) (λ p g. ap (λ (x : Sequencer). x.log) (Some_inj (sym v.named ∙ g)));
-    activates = λ name l k g n i x. activate_result name l k n i;
+    drops = λ name q v o. puts (only_state (with_sequencer s name (Step.dropped q))) name (Step.dropped q) refl (λ u. let A = D name q v.named in record { positive = A.positive; kept = A.kept; appends = A.appends; acked = A.acked; closed = A.closed }) (λ p g. ap (λ (x : Sequencer). x.log) (Some_inj (sym v.named ∙ g)));
+    activates = λ name l k g n i x. activate_result name l k g n i;
     activate_fails = λ name l x q. stays _ refl;
     answers = λ f name d m i t v o. stays _ refl;
     polls = λ name d v o. stays _ refl;

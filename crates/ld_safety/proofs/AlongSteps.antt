@@ -101,7 +101,7 @@ module _ (c : Config) (hs : List Happened) (w : World) (e : Event) (B : Base c h
   same_sent : (Step.happens c w.state e).state.network.sent ≡ w.state.network.sent
   same_sent = network_same c w.state e B.0.0
 
-  digests_now : Result c w.state e hs w.made R.said B.0.1.epochs R.shows R.bounded R.below R.recoveries R.stored_from (Step.happens c w.state e) (made_on c w.state e)
+  pub digests_now : Result c w.state e hs w.made R.said B.0.1.epochs R.shows R.bounded R.below R.recoveries R.stored_from (Step.happens c w.state e) (made_on c w.state e)
   digests_now = dispatch c w.state e (Result c w.state e hs w.made R.said B.0.1.epochs R.shows R.bounded R.below R.recoveries R.stored_from) B.0.0 (digest_cases c w.state e hs w.made R.said B.0.1.epochs R.shows R.bounded R.below R.recoveries R.stored_from)
 
   abbrev after_sent : List Msg
@@ -127,7 +127,7 @@ module _ (c : Config) (hs : List Happened) (w : World) (e : Event) (B : Base c h
   bounded_next : PagesBounded after_sent
   bounded_next l y b from upto t lng es f i j = bounded_sent w.made w.state.network.sent (Step.happens c w.state e) sends_now same_sent holds_now R.bounded l y b from upto t lng es f i j
 
-  new_plan : (l x b : ℕ) (f : List Told) → In (plan_of l x b f) (made_on c w.state e) → NewPlan c hs w.state.network.sent w.made w.state.register l x b f × (b ≤ (epochs_of w.state.register l).epoch)
+  pub new_plan : (l x b : ℕ) (f : List Told) → In (plan_of l x b f) (made_on c w.state e) → NewPlan c hs w.state.network.sent w.made w.state.register l x b f × (b ≤ (epochs_of w.state.register l).epoch)
   new_plan = (digests_now follow.0).1
 
   grows_now : (l b n : ℕ) (x : What) → Says hs w.made l b n x → Says next all_made l b n x

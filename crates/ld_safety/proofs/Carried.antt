@@ -77,6 +77,7 @@ module _ (E : ℕ → ℕ → ℕ → What → Type 0) (T : ℕ → ℕ → Type
   BodyOk l from (bodies.ReadPage round n upto clean es) = EntriesOk l es × ShownOk l clean es
   BodyOk l from (bodies.ReadEnded round n end) = EndedOk l n end
   BodyOk l from (bodies.ReadTrim round n t) = T l t
+  BodyOk l from (bodies.ReadWait round n r) = W l r
   BodyOk l from _ = Unit {0}
 
   abbrev pub MsgOk : Msg → Type 0

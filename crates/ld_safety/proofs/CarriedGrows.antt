@@ -34,6 +34,7 @@ module _ (E : ℕ → ℕ → ℕ → What → Type 0) (T : ℕ → ℕ → Type
   body_grows l from (bodies.ReadPage round n upto clean es) h = ((λ x i. e l _ _ _ (h.0 x i)), (λ x i. v l clean x (h.1 x i)))
   body_grows l from (bodies.ReadEnded round n end) h = record { summary = h.summary; closed = y l _ _ h.closed; past = h.past; is = h.is }
   body_grows l from (bodies.ReadTrim round n k) h = t l k h
+  body_grows l from (bodies.ReadWait round n k) h = w l k h
   body_grows l from _ h = tt
 
   held_grows : (l : ℕ) (b : Body) → carried.HeldOk E T Y O V W l b → carried.HeldOk E₂ T₂ Y₂ O₂ V₂ W₂ l b

@@ -211,15 +211,15 @@ module _ (E : ℕ → ℕ → ℕ → What → Type 0) (T : ℕ → ℕ → Type
   shown_of : (l : ℕ) (clean : Bool) (g : Log) (from last : ℕ) → ((k : ℕ) (e : Entry) → In (k, e) g.entries → from ≤ e.number → e.number ≤ last → V l clean e) → carried.ShownOk E T Y O V W l clean (take page_limit (readable g from last))
   shown_of l clean g from last h e i = let f = In_filter _ e _ (In_take page_limit e _ i) in let w = within g from last e f.0 in let u = In_filter _ e (values g.entries) f.0 in let v = In_values e g.entries u.0 in h v.0 e v.1 w.0 w.1
 
-  read_ok : (l generation released round from y : ℕ) (g : Log) → carried.LogOk E T Y O V W l g → Shows l g released → carried.BodyOk E T Y O V W l (whos.Node y) (read_answer generation g released round from)
-  read_ok l generation released round from y g a S = read_answered generation g released round from (carried.BodyOk E T Y O V W l (whos.Node y)) (record {
+  read_ok : (l generation released round from y : ℕ) (g : Log) → carried.LogOk E T Y O V W l g → Shows l g released → W l released → carried.BodyOk E T Y O V W l (whos.Node y) (read_answer generation g released round from)
+  read_ok l generation released round from y g a S rel = read_answered generation g released round from (carried.BodyOk E T Y O V W l (whos.Node y)) (record {
     trimmed = λ h. a.trim;
     ended = λ z x h k. record { summary = z; closed = summary_ok l (home_epoch from) g z a h; past = k; is = refl };
     lost_clean = λ z x h k t. tt;
     lost = λ x h t. tt;
     clean = λ z x h k t. ((λ e i. within_ok l g _ _ a e (In_filter _ e _ (In_take page_limit e _ i)).0), shown_of l true g from (numbered (home_epoch from) (z.end - 1)) (λ j e u v w. S.clean from z j e x h k t u v w));
     open_page = λ x h t u. ((λ e i. within_ok l g _ _ a e (In_filter _ e _ (In_take page_limit e _ i)).0), shown_of l false g from released (λ j e v w z. S.open_still from j e u v w z));
-    waits = λ x. tt;
+    waits = λ x. rel;
   })
 
   -- what a refill is given
@@ -270,19 +270,19 @@ module _ (E : ℕ → ℕ → ℕ → What → Type 0) (T : ℕ → ℕ → Type
     pub keeps : (p : Op) → h.op ≡ Some p → OpOk p
     pub answers : (b : Body) → h.answer ≡ Some b → carried.BodyOk E T Y O V W l (whos.Node y) b
 
-  pub message_ok : (generation l released y : ℕ) (g : Log) (w : Who) (b : Body) → carried.LogOk E T Y O V W l g → Shows l g released → carried.BodyOk E T Y O V W l w b
+  pub message_ok : (generation l released y : ℕ) (g : Log) (w : Who) (b : Body) → carried.LogOk E T Y O V W l g → Shows l g released → W l released → carried.BodyOk E T Y O V W l w b
       → ((round n upto : ℕ) (es : List Entry) → b ≡ bodies.ReadPage round n upto true es → g.lost ≡ true → RefillOk l g es) → HandlesOk l y (handled_by generation g l (ballot_of w) released b)
   unfolding on_store on_digest_ask on_clean on_trim Telling
-  message_ok generation l released y g w (bodies.Store n lng x) a S h r =
+  message_ok generation l released y g w (bodies.Store n lng x) a S rel h r =
       let e : Entry = record { number = n; ballot = ballot_of w; what = x } in let t = store_tells l g e a in record {
         keeps = λ p q. taken_ok (ops.Accept l lng e) p (store_decision g e) h q;
         answers = λ b q. stored_ok l generation n y g (store_decision g e) b a (K.place l (ballot_of w) n x h) (K.reached l (ballot_of w) n x h) t.0 t.1 q;
       }
-  message_ok generation l released y g w (bodies.DigestAsk from) a S h r = let t = ask_tells l g (ballot_of w) from a in record {
+  message_ok generation l released y g w (bodies.DigestAsk from) a S rel h r = let t = ask_tells l g (ballot_of w) from a in record {
     keeps = λ p q. taken_ok (ops.Seal l (ballot_of w)) p (digest_decision g (ballot_of w) from) tt q;
     answers = λ b q. told_ok l generation from y g (digest_decision g (ballot_of w) from) b a h.0 h.1 t.0 t.1 q;
   }
-  message_ok generation l released y g w (bodies.Clean e s) a S h r = record { keeps = λ p q. clean_ok l e s (summary_at g e) p h q; answers = λ b q. absurd cc }
-  message_ok generation l released y g w (bodies.Trim t) a S h r = record { keeps = λ p q. if_some (nat_lt g.trim t) (Some (ops.Trim l t)) p (λ u e. subst OpOk (Some_inj e) h) q; answers = λ b q. absurd cc }
-  message_ok generation l released y g w (bodies.ReadAsk round from) a S h r = record { keeps = λ p q. absurd cc; answers = λ b q. subst (carried.BodyOk E T Y O V W l (whos.Node y)) (Some_inj q) (read_ok l generation released round from y g a S) }
-  message_ok generation l released y g w b a S h r = record { keeps = λ p q. keeps_page l w g b p h r q; answers = λ x q. absurd (no_answer g l b x q) }
+  message_ok generation l released y g w (bodies.Clean e s) a S rel h r = record { keeps = λ p q. clean_ok l e s (summary_at g e) p h q; answers = λ b q. absurd cc }
+  message_ok generation l released y g w (bodies.Trim t) a S rel h r = record { keeps = λ p q. if_some (nat_lt g.trim t) (Some (ops.Trim l t)) p (λ u e. subst OpOk (Some_inj e) h) q; answers = λ b q. absurd cc }
+  message_ok generation l released y g w (bodies.ReadAsk round from) a S rel h r = record { keeps = λ p q. absurd cc; answers = λ b q. subst (carried.BodyOk E T Y O V W l (whos.Node y)) (Some_inj q) (read_ok l generation released round from y g a S rel) }
+  message_ok generation l released y g w b a S rel h r = record { keeps = λ p q. keeps_page l w g b p h r q; answers = λ x q. absurd (no_answer g l b x q) }

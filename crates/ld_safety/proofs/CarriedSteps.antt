@@ -116,7 +116,7 @@ module _ (c : Config) (s : State) (e : Event) (E : ℕ → ℕ → ℕ → What 
     hears f n m i t v =
         let x : Node = node_at s n in
         let g = log_of x.plain m.log in
-        let h = nodes.message_ok E T Y O V W K.sound x.plain.generation m.log (Step.released_at x m.log) n g m.from m.body ((K.before.nodes n).plain m.log) (K.shows n m.log v) (K.before.sent m i) (λ round from upto es b u. K.refill n m round from upto es i t v b u) in
+        let h = nodes.message_ok E T Y O V W K.sound x.plain.generation m.log (Step.released_at x m.log) n g m.from m.body ((K.before.nodes n).plain m.log) (K.shows n m.log v) ((K.before.nodes n).released m.log) (K.before.sent m i) (λ round from upto es b u. K.refill n m round from upto es i t v b u) in
         let y : Node = Step.releases x m.log m.body in
         let p : (node_at (with_node (refreshed s f) n y) n).plain ≡ x.plain = ap (λ (z : Node). z.plain) (node_here (refreshed s f) n y) ∙ released_same x m.log m.body in
         has.handles_has _ _ _ _ _ _ (with_node (refreshed s f) n y) n m (Step.node_handles x m).op (Step.node_handles x m).answer

@@ -52,6 +52,8 @@ module _ (c : Config) (hs next : List Happened) (made more : List Made) (sent af
 
   told_later : (l e b : ℕ) (t : Told) → ToldSoFar hs made sent l e b t → ToldSoFar next (more ++ made) after l e b t
   told_later l e b t h = record {
+    paged = λ f i. (let z = h.paged f i in record { from = z.from; upto = z.upto; trim = z.trim; lng = z.lng; entries = z.entries; page = into _ z.page; there = z.there });
+    trimmed = elim h.trimmed [ inl z ↦ inl z | inr z ↦ inr (record { from = z.from; upto = z.upto; lng = z.lng; entries = z.entries; page = into _ z.page }) ];
     frozen = λ f i. (let z = h.frozen f i in record { below = z.below; epoch = z.epoch; place = z.place; says = grow l f.ballot f.number f.what z.says });
     covers = λ n q p g. covered_later l e b t n (h.covers n q p g);
   }

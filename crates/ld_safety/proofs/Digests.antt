@@ -1,5 +1,5 @@
 -- A digest in the making has all that its pages showed, so a plan that is made from it has what recoveries need to agree.
-use Rattle.std.proofs.Common.{◌≡◌, ◌∙◌, ◌⊎◌, ◌≤◌, ◌<◌, ℕ, inl, inr, refl, ap, sym, subst, true, not, ◌&&◌, ◌==◌, if◌then◌else◌, List, [], ◌∷◌, map, arith}
+use Rattle.std.proofs.Common.{◌≡◌, ◌∙◌, ◌⊎◌, ◌≤◌, ◌<◌, ℕ, max, inl, inr, refl, ap, sym, subst, true, not, ◌&&◌, ◌==◌, if◌then◌else◌, List, [], ◌∷◌, map, arith}
 use Rattle.std.proofs.lemmas.Bool.{and_parts, eqb-true, leb-true, cases_order, cases_lt}
 use Rattle.ld_lsn.specs.Number.{epoch_of, esn_of, numbered, last_esn}
 use Rattle.ld_ids.specs.declared.set.Spec.{Spec}
@@ -29,8 +29,28 @@ pub record Covered (sent : List Msg) (l e b : ℕ) (t : Told) (n : ℕ) : Type 0
   pub told : (f : Entry) → In f entries → In f t.entries
   pub trims : trim ≤ t.trim
 
+-- an entry came in a page of the node
+pub record Paged (sent : List Msg) (l b y : ℕ) (f : Entry) : Type 0 where
+  pub from : ℕ
+  pub upto : ℕ
+  pub trim : ℕ
+  pub lng : ℕ
+  pub entries : List Entry
+  pub page : In (from_node l y b (bodies.DigestPage from upto trim lng entries)) sent
+  pub there : In f entries
+
+-- a trim came in a page of the node
+pub record TrimPaged (sent : List Msg) (l b y t : ℕ) : Type 0 where
+  pub from : ℕ
+  pub upto : ℕ
+  pub lng : ℕ
+  pub entries : List Entry
+  pub page : In (from_node l y b (bodies.DigestPage from upto t lng entries)) sent
+
 module _ (hs : List Happened) (made : List Made) (sent : List Msg) where
   pub record ToldSoFar (l e b : ℕ) (t : Told) : Type 0 where
+    pub paged : (f : Entry) → In f t.entries → Paged sent l b t.node f
+    pub trimmed : (t.trim ≡ 0) ⊎ TrimPaged sent l b t.node t.trim
     pub frozen : (f : Entry) → In f t.entries → Frozen hs made l e b f
     pub covers : (n : ℕ) → epoch_of n ≡ e → 0 < esn_of n → (n < t.asked) ⊎ (t.whole ≡ true) → Covered sent l e b t n
 
@@ -44,7 +64,7 @@ module _ (hs : List Happened) (made : List Made) (sent : List Msg) where
   nothing_nodes e (n ∷ ns) = ap (λ l. n ∷ l) (nothing_nodes e ns)
 
   nothing_told : (l e b y : ℕ) → ToldSoFar l e b (told_nothing e y)
-  nothing_told l e b y = record { frozen = λ f i. absurd i; covers = λ n q p h. elim h [ inl a ↦ absurd (omega arith) | inr a ↦ absurd cc ] }
+  nothing_told l e b y = record { paged = λ f i. absurd i; trimmed = inl refl; frozen = λ f i. absurd i; covers = λ n q p h. elim h [ inl a ↦ absurd (omega arith) | inr a ↦ absurd cc ] }
 
   pub begins : (s : Spec) (l e b : ℕ) → DigestSoFar s l e b (no_digest s e)
   begins s l e b = record {
@@ -75,7 +95,7 @@ module _ (hs : List Happened) (made : List Made) (sent : List Msg) where
   pub loses : (s : Spec) (l e b y : ℕ) (d : List Told) → DigestSoFar s l e b d → DigestSoFar s l e b (with_lost y d)
   unfolding with_lost
   loses s l e b y d D = record {
-    told = λ t i. (let m = In-map (told_lost y) t d i in let u = D.told m.0 m.1 in subst (ToldSoFar l e b) (sym m.2) (record { frozen = u.frozen; covers = λ n q p h. covered_as l e b n m.0 (told_lost y m.0) refl (λ f j. j) (omega arith) (u.covers n q p h) }));
+    told = λ t i. (let m = In-map (told_lost y) t d i in let u = D.told m.0 m.1 in subst (ToldSoFar l e b) (sym m.2) (record { paged = u.paged; trimmed = u.trimmed; frozen = u.frozen; covers = λ n q p h. covered_as l e b n m.0 (told_lost y m.0) refl (λ f j. j) (omega arith) (u.covers n q p h) }));
     nodes = lost_nodes y d ∙ D.nodes;
   }
 
@@ -90,12 +110,23 @@ module _ (hs : List Happened) (made : List Made) (sent : List Msg) where
     pub epoch : epoch_of from ≡ e
     pub frozen : (f : Entry) → In f es → Frozen hs made l e b f
 
+  greater_trim : (l b y t k : ℕ) → (t ≡ 0) ⊎ TrimPaged sent l b y t → TrimPaged sent l b y k → (max t k ≡ 0) ⊎ TrimPaged sent l b y (max t k)
+  greater_trim l b y t k (inl z) p = inr (subst (TrimPaged sent l b y) (let q : k ≡ max t k = omega arith in q) p)
+  greater_trim l b y t k (inr o) p = elim (cases_order t k) [
+    | inl z ↦ inr (subst (TrimPaged sent l b y) (let q : k ≡ max t k = omega arith in q) p)
+    | inr (inl z) ↦ inr (subst (TrimPaged sent l b y) (let q : k ≡ max t k = omega arith in q) p)
+    | inr (inr z) ↦ inr (subst (TrimPaged sent l b y) (let q : t ≡ max t k = omega arith in q) o)
+  ]
+
   takes_one : (s : Spec) (l e b y from upto trim lng : ℕ) (es : List Entry) (t : Told) → takes_page y from t ≡ true → PageFacts l e b y from upto trim lng es → ToldSoFar l e b t → ToldSoFar l e b (told_page e upto trim es t)
   takes_one s l e b y from upto trim lng es t h p u =
       let a = and_parts (t.node == y) ((t.asked == from) && not t.whole) h in
       let c = and_parts (t.asked == from) (not t.whole) a.1 in
       let node : t.node ≡ y = eqb-true _ _ a.0 in
-      let asked : t.asked ≡ from = eqb-true _ _ c.0 in record {
+      let asked : t.asked ≡ from = eqb-true _ _ c.0 in
+      let page : In (from_node l t.node b (bodies.DigestPage from upto trim lng es)) sent = subst (λ z. In (from_node l z b (bodies.DigestPage from upto trim lng es)) sent) (sym node) p.sent_so in record {
+        paged = λ f i. elim (In-append f t.entries es i) [ inl j ↦ u.paged f j | inr j ↦ record { from = from; upto = upto; trim = trim; lng = lng; entries = es; page = page; there = j } ];
+        trimmed = greater_trim l b t.node t.trim trim u.trimmed (record { from = from; upto = upto; lng = lng; entries = es; page = page });
         frozen = λ f i. elim (In-append f t.entries es i) [ inl j ↦ u.frozen f j | inr j ↦ p.frozen f j ];
         covers = λ n q k g. elim (cases_lt n from) [
           | inl lt ↦ covered_as l e b n t (told_page e upto trim es t) refl (λ f i. In_left f t.entries es i) (omega arith) (u.covers n q k (inl (omega arith)))
@@ -105,7 +136,7 @@ module _ (hs : List Happened) (made : List Made) (sent : List Msg) where
             trim = trim;
             lng = lng;
             entries = es;
-            page = subst (λ z. In (from_node l z b (bodies.DigestPage from upto trim lng es)) sent) (sym node) p.sent_so;
+            page = page;
             epoch = p.epoch;
             low = ge;
             high = elim g [ inl z ↦ (omega arith) | inr z ↦ (let w = leb-true (numbered e last_esn) upto z in omega arith) ];

@@ -29,9 +29,9 @@ pub record GivenEntry (hs : List Happened) (l b n : ℕ) (w : What) : Type 0 whe
   pub place : Place n w
   pub appended : (p : List ℕ) → w ≡ Rec p → AppendedBy hs l n p
 
--- a trim is none, or at or below an issued point
+-- a trim is none, or an issued point
 abbrev pub GivenTrim : List Happened → ℕ → ℕ → Type 0
-GivenTrim hs l t = (t ≡ 0) ⊎ ((k p : ℕ) × (t ≤ p) × Issues hs l p k)
+GivenTrim hs l t = (t ≡ 0) ⊎ ((k p : ℕ) × (t ≡ p) × Issues hs l p k)
 
 abbrev pub AnyEpoch : ℕ → ℕ → Type 0
 AnyEpoch l e = Unit {0}

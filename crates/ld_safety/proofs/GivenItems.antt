@@ -127,7 +127,7 @@ module _ (hs : List Happened) (l : ℕ) where
   }
 
   trim_item : (s : ℕ) (ds : List (ℕ × Held)) → HeldGiven ds → 0 < s → s ≤ trim_held ds → ItemGiven s (TrimTo (trim_held ds))
-  trim_item s ds h p q = elim (trim_held_given ds h) [ inl e ↦ absurd (omega arith) | inr e ↦ e ]
+  trim_item s ds h p q = elim (trim_held_given ds h) [ inl e ↦ absurd (omega arith) | inr e ↦ (e.0, e.1, (let z = e.2 in omega arith), e.3) ]
 
   held_given : (d : Reader) (y : ℕ) (b : Body) → HeldGiven d.held → carried.HeldOk (GivenEntry hs) (GivenTrim hs) (GivenSummary hs) AnyEpoch AnyShown AnyReleased l b → HeldGiven (held_with d.held y b)
   unfolding HeldGiven

@@ -86,7 +86,7 @@ module _ (c : Config) (hs : List Happened) (w : World) (e : Event) (B : Base c h
 
   trim_given : (name : List ℕ) (q : Sequencer) (point : ℕ) → Live w.state name q → In (lines.Trimmed name point) (Step.happens c w.state e).lines → GivenTrim next q.log point
   trim_given name q point v x = let y = slice_get-In _ _ (finish_In (Step.happens c w.state e) _ x) in
-      inr (length hs, point, omega arith, record { name = name; told = (happened c w.state e, slice_get_last (happened c w.state e) hs [], y.0, y.1); of_log = log_known name q v })
+      inr (length hs, point, refl, record { name = name; told = (happened c w.state e, slice_get_last (happened c w.state e) hs [], y.0, y.1); of_log = log_known name q v })
 
   ending : (q : Sequencer) (v : Recovery) (y : Summary) → sequencers.Ending (GivenEntry next) (GivenTrim next) (GivenSummary next) AnyEpoch AnyShown AnyReleased (given_sound next) c q (HeardOf w.state q) v y → Ends_with c w.state q v y
   ending q v y (sequencers.closing_now g) = inl g

@@ -91,3 +91,16 @@ pub mod LostSettled
 pub mod LostFull
 pub mod LostFullKept
 pub mod LostJoined
+pub mod Sequencing
+pub mod Formats
+pub mod Handed
+pub mod HandedLaws
+pub mod Holding
+pub mod Issued
+pub mod Rebuilt
+pub mod AppendsSent
+pub mod Entries
+pub mod Standing
+pub mod AckedLines
+pub mod Released
+pub mod Invariants

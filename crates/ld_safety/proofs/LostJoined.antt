@@ -76,7 +76,7 @@ CutClean (Some k) = PlainClean k.plain
 
 module _ (c : Config) (hs : List Happened) (w : World) (B : BaseGiven c hs w × Along c hs w) where
   -- ---- both plain states ----
-  said_at : (y : ℕ) (p : Plain) → MayHold (node_at w.state y) p → PlainSaid c hs w p
+  pub said_at : (y : ℕ) (p : Plain) → MayHold (node_at w.state y) p → PlainSaid c hs w p
   said_at y p (inl q) = subst (PlainSaid c hs w) (sym q) (B.1.said.nodes y).plain
   said_at y p (inr h) = subst (PlainSaid c hs w) (sym h.2) (by_cut (node_at w.state y).cut h.1 (B.1.said.nodes y).cut) where
     by_cut : (o : Option Cut) → o ≡ Some h.0 → CutSaid c hs w o → PlainSaid c hs w h.0.plain

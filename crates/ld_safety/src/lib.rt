@@ -1,18 +1,24 @@
 //! What holds of every run of the written machine, as laws on empty functions.
 #![tactic(auto)]
 
-ghost use Rattle.std.specs.Prelude.{ℕ, ◌<◌, List};
-ghost use Rattle.ld_lsn.specs.Number.{numbered};
+ghost use Rattle.std.specs.Prelude.{ℕ, ◌≡◌, ◌<◌, List, [], false, true};
+ghost use Rattle.ld_table.specs.Words.{is_in};
+ghost use Rattle.ld_lsn.specs.Number.{epoch_of, numbered};
 ghost use Rattle.ld_msg.specs.declared.msg.Summary.{Summary};
 ghost use Rattle.ld_config.specs.declared.config.Config.{Config};
 ghost use Rattle.ld_config.specs.Bounds.{IsInBounds};
 ghost use Rattle.ld_schedule.specs.declared.event.Event.{Event};
-ghost use Rattle.ld_machine.specs.Run.{history};
 ghost use Rattle.ld_machine.specs.Safe.{ItemsTile, LossesHappened, NothingHidden, NumbersDiffer, NumbersRise, RecordsWereAppended, Safe, TrimsWereIssued};
-ghost use Rattle.ld_machine.specs.World.{begin};
-ghost use Rattle.ld_machine.specs.Run.{world_after};
-ghost use Rattle.ld_machine.specs.Invariant.{Agrees, Closed, CopiesOf, Retains, SealsHold};
-ghost use Rattle.ld_safety.specs.Lost.{CopiesWereLost, LossesWereSeen, LostOnce};
+ghost use Rattle.ld_transcript.specs.declared.line.Line.TheVariants.{NodeRebuilt, NodeWiped};
+ghost use Rattle.ld_op.specs.Plain.{Plain, log_of};
+ghost use Rattle.ld_op.specs.Ticks.{missing};
+ghost use Rattle.ld_machine.specs.Config.{set_of};
+ghost use Rattle.ld_machine.specs.State.{node_at};
+ghost use Rattle.ld_machine.specs.Facts.{Lost, Writes, standing, stands_for};
+ghost use Rattle.ld_machine.specs.World.{MayHold, Stored, begin, chosen};
+ghost use Rattle.ld_machine.specs.Run.{InvariantHolds, history, trace, world_after};
+ghost use Rattle.ld_machine.specs.Invariant.{Acked, Agrees, BallotsDrawn, Closed, CopiesOf, CopyAt, EntriesAreItems, GenerationsDrawn, HeldWasSent, IsOpen, OnePlan, OpenTrims, ReleasesAcked, Retains, SealsHold, SequencersDrawn, StandsOn, SummariesAgree, TrimsIssued};
+ghost use Rattle.ld_safety.specs.Lost.{CopiesWereLost, LossesWereSeen, LostOnce, may_be_lost};
 
 /// What each reader gets tiles the numbers from its first one on.
 pub fn items_tile()
@@ -64,6 +70,79 @@ pub fn seals_hold()
     ensures { (c : Config) (es : List Event) → IsInBounds c → SealsHold (world_after c (begin c) es) }
 {}
 
+/// In every state, each sequencer has an epoch that was handed out, and no two of a log have the same.
+pub fn epochs_are_drawn_once()
+    ensures { (c : Config) (es : List Event) → IsInBounds c → SequencersDrawn (world_after c (begin c) es) }
+{}
+
+/// In every state, each generation at a node and in what a node says was handed out to that node, and no two formats of a node have the same.
+pub fn generations_are_drawn_once()
+    ensures { (c : Config) (es : List Event) → IsInBounds c → GenerationsDrawn (trace c (begin c) es) (world_after c (begin c) es) }
+{}
+
+/// In every state, each entry at a node, in a store or in a page has a ballot that was handed out, at least its epoch, and nodes are sealed at ballots that were handed out, as they say.
+pub fn ballots_were_drawn()
+    ensures { (c : Config) (es : List Event) → IsInBounds c → BallotsDrawn (world_after c (begin c) es) }
+{}
+
+/// In every state, each summary at a node or in a message is the one that closed its epoch in the register, and its ballot was handed out after the epoch.
+pub fn summaries_agree()
+    ensures { (c : Config) (es : List Event) → IsInBounds c → SummariesAgree (world_after c (begin c) es) }
+{}
+
+/// In every state, each answer that a reader holds was sent to it by that node, and each entry in a recovery's digest came in a page of that node to the recovery's sequencer.
+pub fn what_is_held_was_sent()
+    ensures { (c : Config) (es : List Event) → IsInBounds c → HeldWasSent (world_after c (begin c) es) }
+{}
+
+/// In every state, a ballot has planned an epoch of a log at most once.
+pub fn plans_are_made_once()
+    ensures { (c : Config) (es : List Event) → IsInBounds c → OnePlan (world_after c (begin c) es) }
+{}
+
+/// In every state, each trim at a node, in a summary of the register or in a message is none, or a point that was issued for the log.
+pub fn trims_are_issued_points()
+    ensures { (c : Config) (es : List Event) → IsInBounds c → TrimsIssued (trace c (begin c) es) (world_after c (begin c) es) }
+{}
+
+/// In every state, each entry at a node, in a store or in a page says what its ballot says of its number, and a record is the payload that was appended under it.
+pub fn entries_are_items()
+    ensures { (c : Config) (es : List Event) → IsInBounds c → EntriesAreItems (trace c (begin c) es) (world_after c (begin c) es) }
+{}
+
+/// In every state, what a plan says that closed its epoch, or that is settled while its epoch is open, is in each plan of a greater ballot, unless it is trimmed there, and none of these ends before it.
+pub fn what_stands_is_followed()
+    ensures { (c : Config) (es : List Event) → IsInBounds c → StandsOn c (world_after c (begin c) es) }
+{}
+
+/// In every state, a released number with a place covers only numbers of its epoch that lines acknowledged, and the epochs before it are closed.
+pub fn releases_cover_acknowledged()
+    ensures { (c : Config) (es : List Event) → IsInBounds c → ReleasesAcked (trace c (begin c) es) (world_after c (begin c) es) }
+{}
+
+/// In every state, a point of an open epoch that was issued covers only numbers of the epoch that lines acknowledged.
+pub fn open_trims_cover_acknowledged()
+    ensures { (c : Config) (es : List Event) → IsInBounds c → OpenTrims (trace c (begin c) es) (world_after c (begin c) es) }
+{}
+
+/// In every state, an acknowledged number of an open epoch was stored by as many nodes as there are copies, and each node that stored it is blank, or lost for the epoch, or trimmed at the number, or has the record.
+pub fn acknowledged_copies_stand()
+    ensures enough { (c : Config) (es : List Event) → IsInBounds c → (l n : ℕ) → IsOpen (world_after c (begin c) es) l (epoch_of n) → Acked (trace c (begin c) es) l n → chosen c (world_after c (begin c) es) l n (epoch_of n) ≡ true }
+    ensures kept { (c : Config) (es : List Event) → IsInBounds c → (l n y : ℕ) → IsOpen (world_after c (begin c) es) l (epoch_of n) → Acked (trace c (begin c) es) l n → Stored (world_after c (begin c) es) l y n (epoch_of n) → CopyAt (world_after c (begin c) es) l n (epoch_of n) y }
+{}
+
+/// In every state, a log that isn't lost at a node has each number above its trim of the clean epochs that were lost; a node that was rebuilt isn't lost again before it is wiped, nor rebuilt again.
+pub fn rebuilt_once()
+    ensures full { (c : Config) (es : List Event) → IsInBounds c → (y l : ℕ) (p : Plain) → MayHold (node_at (world_after c (begin c) es).state y) p → (log_of p l).lost ≡ false → missing (log_of p l) ≡ [] }
+    ensures stays { (c : Config) (es : List Event) → IsInBounds c → (n l j : ℕ) → Writes (trace c (begin c) es) j (NodeRebuilt n l) → ((k : ℕ) → Writes (trace c (begin c) es) k (NodeWiped n) → k < j) → (p : Plain) → MayHold (node_at (world_after c (begin c) es).state n) p → (log_of p l).lost ≡ false }
+    ensures once { (c : Config) (es : List Event) → IsInBounds c → (n l i j : ℕ) → Writes (trace c (begin c) es) i (NodeRebuilt n l) → Writes (trace c (begin c) es) j (NodeRebuilt n l) → i < j → (k : ℕ) × (i < k) × (k < j) × Writes (trace c (begin c) es) k (NodeWiped n) }
+{}
+
+/// In every state, a node of a log that may be lost for an epoch stands lost for it in the lines.
+pub fn lost_stands_in_lines()
+    ensures { (c : Config) (es : List Event) → IsInBounds c → (y l e : ℕ) → is_in y (set_of c l) ≡ true → may_be_lost l e (node_at (world_after c (begin c) es).state y) ≡ true → stands_for e (standing y l (trace c (begin c) es) Lost) ≡ true }
+{}
+
 /// A node that is lost for an epoch under a generation, and is so at a later moment, was so at each moment between.
 pub fn lost_once()
     ensures { LostOnce }
@@ -87,4 +166,9 @@ pub fn copies_were_lost()
 /// Every run is safe: what readers get tiles their numbers, records were appended before, nothing that was acknowledged or read is hidden, trims were issued, losses happened, and the numbers of appends rise and differ.
 pub fn every_run_is_safe()
     ensures { (c : Config) (es : List Event) → IsInBounds c → Safe c (history c es) }
+{}
+
+/// The invariant of the written machine holds in every state of every run: its parts, which are laws above, at once.
+pub fn invariants_hold()
+    ensures { InvariantHolds }
 {}

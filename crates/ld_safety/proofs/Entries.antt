@@ -1,0 +1,150 @@
+-- Each entry says what its ballot says of its number, and the copies of acknowledged numbers of open epochs stand.
+use Rattle.std.proofs.Common.{◌≡◌, ◌∙◌, ◌⊎◌, ◌≤◌, ℕ, ◌+◌, inl, inr, refl, ap, sym, subst, Bool, true, false, ◌&&◌, ◌==◌, if◌then◌else◌, List, [], ◌∷◌, Some, arith}
+use Rattle.std.proofs.lemmas.Bool.{and_parts, and_from, eq-eqb, eqb-true, eqb-false}
+use Rattle.ld_table.specs.Table.{find}
+use Rattle.ld_lsn.specs.Number.{epoch_of, esn_of}
+use Rattle.ld_config.specs.declared.config.Config.{Config}
+use Rattle.ld_config.specs.Bounds.{IsInBounds}
+use Rattle.ld_schedule.specs.declared.event.Event.{Event}
+use Rattle.ld_msg.specs.declared.msg.What.{What}
+use Rattle.ld_msg.specs.declared.msg.What.TheVariants.{Rec}
+use Rattle.ld_msg.specs.declared.msg.Entry.{Entry}
+use Rattle.ld_msg.specs.declared.msg.Summary.{Summary}
+use Rattle.ld_msg.specs.declared.msg.Msg.{Msg}
+use Rattle.ld_msg.specs.declared.msg.Body.{Body}
+use Rattle.ld_msg.specs.declared.msg.Body.TheVariants as bodies
+use Rattle.ld_msg.specs.Digest.{Told, plan_item}
+use Rattle.ld_op.specs.Plain.{log_of, is_lost, summary_at, epoch_zero}
+use Rattle.ld_machine.specs.Facts.{Happened}
+use Rattle.ld_machine.specs.World.{World, In, Stored, begin, item, append_in, what_sent, stored_what, stores_at, is_sequencer, digest_in, item_in, to_node_of}
+use Rattle.ld_machine.specs.Invariant.{EntriesAreItems, IsItem, IsOpen, Acked, CopyAt, Copies, HoldsItem}
+use Rattle.ld_machine.specs.Run.{world_after, trace}
+use Rattle.ld_safety.proofs.Lists.{Some_inj, not_both, branch, cond_both}
+use Rattle.ld_safety.proofs.Members.{find_in}
+use Rattle.ld_safety.proofs.Traces.{Keeps, later, both_kept}
+use Rattle.ld_safety.proofs.Plans.{plan_shape, end_above_trim}
+use Rattle.ld_safety.proofs.Given.{AppendedBy}
+use Rattle.ld_safety.proofs.GivenSteps.{BaseGiven}
+use Rattle.ld_safety.proofs.Protocol.{plan_of, Says, Ends}
+use Rattle.ld_safety.proofs.Settled.{Acknowledged, close_low}
+use Rattle.ld_safety.proofs.Said.{Said}
+use Rattle.ld_safety.proofs.Shown.{acked_item}
+use Rattle.ld_safety.proofs.Along.{Along, PlainSaid}
+use Rattle.ld_safety.proofs.Agreed.{found_plan, item_is, store_said}
+use Rattle.ld_safety.proofs.CopiesStand.{in_book, once, facts, copies_here}
+use Rattle.ld_safety.proofs.Holdings.{KeptBy}
+use Rattle.ld_safety.proofs.Serving.{Gone}
+use Rattle.ld_safety.proofs.Retained.{at_nodes}
+use Rattle.ld_safety.proofs.LostJoined.{said_at}
+use Rattle.ld_safety.proofs.Told.{AllTold}
+use Rattle.ld_safety.proofs.Unhidden.{Everything, everything_kept}
+use Rattle.ld_safety.proofs.AppendsSent.{StoreSent, AllSent, sending_kept}
+use Rattle.ld_safety.proofs.Sequencing.{acknowledged_of, acked_chosen}
+use Rattle.ld_safety.proofs.HandedLaws.{said_in}
+use Rattle.ld_safety.proofs.Handed.{HandedOut, handed_kept}
+
+-- ---- a store that was sent is found ----
+stored_some : (n : ℕ) (b : Body) → stores_at n b ≡ true → (x : What) × (stored_what b ≡ Some x)
+stored_some n (bodies.Store s lng x) h = (x, refl)
+stored_some n _ h = absurd cc
+
+in_append : (l n : ℕ) (ms : List Msg) → StoreSent ms l n → (x : What) × (append_in l n ms ≡ Some x)
+in_append l n [] h = absurd h.there
+in_append l n (m ∷ ms) h = by_test (λ i. in_append l n ms (record { node = h.node; lng = h.lng; what = h.what; there = i })) (what_sent l (epoch_of n) n m) refl h.there where
+  by_test : (In (to_node_of l (epoch_of n) h.node (bodies.Store n h.lng h.what)) ms → (x : What) × (append_in l n ms ≡ Some x)) → (t : Bool) → what_sent l (epoch_of n) n m ≡ t → In (to_node_of l (epoch_of n) h.node (bodies.Store n h.lng h.what)) (m ∷ ms) → (x : What) × ((if t then stored_what m.body else append_in l n ms) ≡ Some x)
+  by_test ih true q i = let p = and_parts (m.log == l) (is_sequencer (epoch_of n) m.from && stores_at n m.body) q in stored_some n m.body (and_parts (is_sequencer (epoch_of n) m.from) (stores_at n m.body) p.1).1
+  by_test ih false q (inl e) = absurd (not_both (what_sent l (epoch_of n) n m) (subst (λ (z : Msg). what_sent l (epoch_of n) n z ≡ true) e (and_from (l == l) _ (eq-eqb l l refl) (and_from (epoch_of n == epoch_of n) (n == n) (eq-eqb (epoch_of n) (epoch_of n) refl) (eq-eqb n n refl)))) q)
+  by_test ih false q (inr i) = ih i
+
+module _ (c : Config) (hs : List Happened) (w : World) (B : BaseGiven c hs w × Along c hs w) (S : AllSent hs w) where
+  own_item : (l n : ℕ) (p : List ℕ) → AppendedBy hs l n p → append_in l n w.state.network.sent ≡ Some (Rec p)
+  own_item l n p a =
+      let z = in_append l n w.state.network.sent (S l n a.0 a.1.name a.1.told a.1.of_log) in
+      z.1 ∙ ap Some (elim (store_said c hs w B.0.0 B.1 l n z.0 z.1).says [
+        | inl o ↦ o.is ∙ ap Rec (once c hs w B.0.0 B.1 l n o.payload p o.appended a)
+        | inr o ↦ absurd (let y = o.later in omega arith)
+      ])
+
+  item_says : (l n b : ℕ) (x : What) → Says hs w.made l b n x → item w l n b ≡ Some x
+  unfolding item
+  item_says l n b x (inl o) = cond_both (b == epoch_of n) (append_in l n w.state.network.sent) (item_in (epoch_of n) (esn_of n) (digest_in l (epoch_of n) b w.made)) (λ v. v ≡ Some x)
+      (λ t. own_item l n o.payload o.appended ∙ ap Some (sym o.is)) (λ t. absurd (eqb-false b (epoch_of n) t o.own))
+  item_says l n b x (inr o) = let z = in_book l (epoch_of n) b w.made o.digest o.planned in
+      let q : z.0 ≡ o.digest = B.1.once l (epoch_of n) b z.0 o.digest (found_plan l (epoch_of n) b w.made z.0 z.1) o.planned in
+      item_is c hs w B.0.0 B.1 l n b o.digest x o.later (z.1 ∙ ap Some q) o.item
+
+  is_item : (l : ℕ) (e : Entry) → Said hs w.made w.state.register l e.ballot e.number e.what → IsItem hs w l e
+  is_item l e s = record { item = item_says l e.number e.ballot e.what s.says; appended = s.given.appended }
+
+  pub entries_here : HandedOut w → EntriesAreItems hs w
+  entries_here H = record {
+    at_nodes = λ y p m l n e f. let z = (said_at c hs w B y p m l).entries (n, e) (find_in n (log_of p l).entries e f) in (z.0, is_item l e z.1);
+    in_messages = λ m e i j. is_item m.log e (said_in c hs w B H m e m.body (B.1.said.sent m i) j);
+  }
+
+  -- ---- copies in open epochs ----
+  open_copy : AllTold c hs w → (l n y : ℕ) → IsOpen w l (epoch_of n) → Acked hs l n → Stored w l y n (epoch_of n) → CopyAt w l n (epoch_of n) y
+  unfolding summary_at
+  open_copy T l n y o k i p m = by_kept ((at_nodes c hs w B.1 y p m).retains l n (epoch_of n) i) where
+    a : Acknowledged c hs w.state.network.sent l n
+    a = acknowledged_of c hs w T l n k
+
+    O : PlainSaid c hs w p
+    O = said_at c hs w B y p m
+
+    Copy : Type 0
+    Copy = (p.generation ≡ 0) ⊎ ((is_lost (log_of p l) (epoch_of n) ≡ true) ⊎ ((n ≤ (log_of p l).trim) ⊎ ((x : What) × (item w l n (epoch_of n) ≡ Some x) × HoldsItem p l n (epoch_of n) x)))
+
+    not_clean : (s : Summary) → (if epoch_of n == 0 then Some epoch_zero else find (epoch_of n) (log_of p l).summaries) ≡ Some s → ⊥
+    not_clean s h = elim (branch (epoch_of n == 0) (Some epoch_zero) (find (epoch_of n) (log_of p l).summaries) (Some s) h) [
+      | inl t ↦ (let z = eqb-true _ _ t.0 in let u = a.epoch in omega arith)
+      | inr t ↦ (let z = close_low c hs w.made w.state.network.sent w.state.register l (epoch_of n) s ((O l).summaries (epoch_of n, s) (find_in (epoch_of n) (log_of p l).summaries s t.1)) in omega arith)
+    ]
+
+    planned_is : (b : ℕ) (d : List Told) (x : What) → In (plan_of l (epoch_of n) b d) w.made → plan_item (epoch_of n) d (esn_of n) ≡ Some x → Rec a.payload ≡ x
+    planned_is b d x j h = elim (acked_item c hs w.made w.state.network.sent w.state.register (once c hs w B.0.0 B.1) B.1.once (facts c hs w B.0.0 B.1) l n b d a j) [
+      | inl q ↦ Some_inj (sym q ∙ h)
+      | inr q ↦ absurd (let z = (plan_shape (epoch_of n) d (esn_of n) x h).above in omega arith)
+    ]
+
+    not_ended : Ends w.made l (epoch_of n) ((log_of p l).sealed + 1) n → ⊥
+    not_ended en = elim (acked_item c hs w.made w.state.network.sent w.state.register (once c hs w B.0.0 B.1) B.1.once (facts c hs w B.0.0 B.1) l n en.ballot en.digest a en.planned) [
+      | inl q ↦ let k = plan_shape (epoch_of n) en.digest (esn_of n) (Rec a.payload) q in let v = en.before in elim k.kind [ inl u ↦ (let z = u.0 in omega arith) | inr u ↦ (let z = u.0 in omega arith) ]
+      | inr q ↦ (let z = end_above_trim (epoch_of n) en.digest in let v = en.before in omega arith)
+    ]
+
+    held_what : (f : Entry) → Says hs w.made l f.ballot n f.what → Rec a.payload ≡ f.what
+    held_what f (inl s) = ap Rec (once c hs w B.0.0 B.1 l n a.payload s.payload a.appended s.appended) ∙ sym s.is
+    held_what f (inr s) = planned_is f.ballot s.digest f.what s.planned s.item
+
+    by_kept : Gone p l (epoch_of n) ⊎ KeptBy w.made (log_of p l) l n (epoch_of n) → Copy
+    by_kept (inl (inl h)) = inl h
+    by_kept (inl (inr (inl h))) = inr (inl h)
+    by_kept (inl (inr (inr h))) = absurd (not_clean h.0 h.1)
+    by_kept (inr (inl h)) = inr (inr (inl h))
+    by_kept (inr (inr (inr h))) = absurd (not_ended h)
+    by_kept (inr (inr (inl h))) =
+        let f = h.entry in
+        let z = (O l).entries (n, f) (find_in n (log_of p l).entries f h.found_at) in
+        let q = held_what f (subst (λ k. Says hs w.made l f.ballot k f.what) z.0 z.1.says) in
+        inr (inr (inr (Rec a.payload, item_says l n (epoch_of n) (Rec a.payload) (inl (record { own = refl; payload = a.payload; is = refl; appended = a.appended })), (f, h.found_at, h.least, sym q))))
+
+  pub all_copies : AllTold c hs w → Copies c hs w
+  all_copies T = record {
+    acked = λ l n o a. acked_chosen c hs w T l n a;
+    open_epochs = open_copy T;
+    closed_epochs = copies_here c hs w B.0.0 B.1;
+  }
+
+abbrev pub Sending : Config → List Happened → World → Type 0
+Sending c hs w = (((BaseGiven c hs w × Along c hs w) × AllSent hs w) × ((BaseGiven c hs w × Along c hs w) × HandedOut w)) × Everything c hs w
+
+pub all_sending : (c : Config) → IsInBounds c → Keeps c (Sending c)
+all_sending c b = both_kept c (λ hs w. ((BaseGiven c hs w × Along c hs w) × AllSent hs w) × ((BaseGiven c hs w × Along c hs w) × HandedOut w)) (Everything c)
+    (both_kept c (λ hs w. (BaseGiven c hs w × Along c hs w) × AllSent hs w) (λ hs w. (BaseGiven c hs w × Along c hs w) × HandedOut w) (sending_kept c b) (handed_kept c)) (everything_kept c)
+
+pub entries_are_items : (c : Config) (es : List Event) → IsInBounds c → EntriesAreItems (trace c (begin c) es) (world_after c (begin c) es)
+entries_are_items c es b = let p = later c (Sending c) (all_sending c b) [] (begin c) es (all_sending c b).begins in entries_here c (trace c (begin c) es) (world_after c (begin c) es) p.0.0.0 p.0.0.1 p.0.1.1
+
+pub all_copies_stand : (c : Config) (es : List Event) → IsInBounds c → Copies c (trace c (begin c) es) (world_after c (begin c) es)
+all_copies_stand c es b = let p = later c (Sending c) (all_sending c b) [] (begin c) es (all_sending c b).begins in all_copies c (trace c (begin c) es) (world_after c (begin c) es) p.0.0.0 p.0.0.1 p.1.1

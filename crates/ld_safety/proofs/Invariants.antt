@@ -1,0 +1,32 @@
+-- The invariant holds in every state of every run.
+use Rattle.ld_machine.specs.Run.{InvariantHolds}
+use Rattle.ld_safety.proofs.Sequencing as sequencing
+use Rattle.ld_safety.proofs.HandedLaws as handed_laws
+use Rattle.ld_safety.proofs.Issued as issued
+use Rattle.ld_safety.proofs.Released as released
+use Rattle.ld_safety.proofs.Holding as holding
+use Rattle.ld_safety.proofs.Entries as entries
+use Rattle.ld_safety.proofs.Retained as retained
+use Rattle.ld_safety.proofs.Agreed as agreed
+use Rattle.ld_safety.proofs.Standing as standing
+use Rattle.ld_safety.proofs.Rebuilt as rebuilt
+
+pub invariants_hold : InvariantHolds
+invariants_hold c es b = record {
+  sequencers = sequencing.epochs_are_drawn_once c es;
+  generations = handed_laws.generations_are_drawn_once c es;
+  ballots = handed_laws.ballots_were_drawn c es;
+  summaries = handed_laws.summaries_agree c es;
+  trims = issued.trims_are_issued_points c es;
+  open_trims = released.open_trims_cover_acknowledged c es b;
+  released = released.releases_cover_acknowledged c es b;
+  held = holding.what_is_held_was_sent c es;
+  one_plan = holding.plans_are_made_once c es;
+  entries = entries.entries_are_items c es b;
+  retains = retained.stored_stays c es;
+  seals = retained.seals_hold c es;
+  agrees = agreed.recoveries_agree c es;
+  stands = standing.what_stands_is_followed c es;
+  copies = entries.all_copies_stand c es b;
+  lost_once = rebuilt.rebuilt_once c es;
+}
