@@ -1,0 +1,218 @@
+-- What a reader asks is one that a frame can carry, and each answer leaves it in its bounds.
+use Rattle.std.proofs.Common.{◌≡◌, ◌≤◌, ◌<◌, ℕ, zero, suc, ◌+◌, refl, Bool, true, false, ◌==◌, ◌&&◌, not, nat_lt, nat_le, cond, List, [], ◌∷◌, Option, Some, None, arith}
+use Rattle.std.specs.List.{AllByRecursion}
+use Rattle.std.proofs.lemmas.Bool.{cond_both, and_parts, ltb-true, ltb-false}
+use Rattle.ld_table.specs.Table.{find, put}
+use Rattle.ld_ids.specs.Id.{IsNode}
+use Rattle.ld_lsn.specs.Number.{home_epoch}
+use Rattle.ld_config.specs.declared.config.Config.{Config}
+use Rattle.ld_msg.specs.declared.msg.Who.{Who}
+use Rattle.ld_msg.specs.declared.msg.Who.TheVariants as whos
+use Rattle.ld_msg.specs.declared.msg.Body.{Body}
+use Rattle.ld_msg.specs.declared.msg.Body.TheVariants as bodies
+use Rattle.ld_msg.specs.Bounds.{Is32, Is64, IsNodeHere, Fits, last_reader}
+use Rattle.ld_msg.specs.Reading.{Held, Item, TrimTo, BridgeTo, LossHere, Verdict, Gives, Confirms, NotYet, decide, trim_held, record_held, hole_held, end_held, bridge_to, is_loss, lost_held, lost_generation, entry_verdict, loss_verdict}
+use Rattle.ld_msg.specs.Reader.{Reader, Read, opened, is_finished, last_round, asks_of, keys, polled, poll_asks, gives, confirms, may_confirm, is_confirming, verdict, gives_all, most_items, round_of, is_newer, held_with, is_confirmed, heard, loses, asks_on, on_answer}
+use Rattle.ld_machine.specs.Config.{has_log}
+use Rattle.ld_machine.specs.Step.{sender_node}
+use Rattle.ld_bounds.specs.Readers.{IsAnswer, IsReader}
+use Rattle.ld_bounds.proofs.Alls.{all-append, all-put}
+use Rattle.ld_bounds.proofs.Posts.{IsPost}
+
+-- ---- who answers a reader ----
+
+pub node_sent : (w : Who) (r : ℕ) (b : Body) → Fits w (whos.Reader r) b → IsNodeHere w
+node_sent w r (bodies.Store n lng x) f = absurd f.0.1
+node_sent w r (bodies.Stored n) f = f.0.0
+node_sent w r (bodies.SealedHere n k) f = f.0.0
+node_sent w r (bodies.LostHere n round g end) f = f.0
+node_sent w r (bodies.CleanHere n y) f = f.0.0
+node_sent w r (bodies.TrimmedHere n t) f = f.0.0
+node_sent w r (bodies.DigestAsk n) f = absurd f.0.1
+node_sent w r (bodies.DigestPage n upto t lng es) f = f.0.0
+node_sent w r (bodies.Clean e y) f = absurd f.0.1
+node_sent w r (bodies.Release n) f = absurd f.0.1
+node_sent w r (bodies.Trim t) f = absurd f.0.1
+node_sent w r (bodies.ReadAsk round n) f = absurd f.1
+node_sent w r (bodies.ReadPage round n upto c es) f = f.0.0
+node_sent w r (bodies.ReadEnded round n end) f = f.0.0
+node_sent w r (bodies.ReadTrim round n t) f = f.0.0
+node_sent w r (bodies.ReadWait round n k) f = f.0.0
+
+-- the answer, as one of its node
+pub record IsFromNode (w : Who) (r : ℕ) (b : Body) : Type 0 where
+  pub node : IsNode (sender_node w)
+  pub fits : Fits (whos.Node (sender_node w)) (whos.Reader r) b
+
+from_here : (w : Who) (r : ℕ) (b : Body) → IsNodeHere w → Fits w (whos.Reader r) b → IsFromNode w r b
+from_here (whos.Node n) r b h f = record { node = h; fits = f }
+from_here (whos.Sequencer e) r b h f = absurd h
+from_here (whos.Reader d) r b h f = absurd h
+
+pub from_node : (w : Who) (r : ℕ) (b : Body) → Fits w (whos.Reader r) b → IsFromNode w r b
+from_node w r b f = from_here w r b (node_sent w r b f) f
+
+round_is : (y r : ℕ) (b : Body) → Fits (whos.Node y) (whos.Reader r) b → Is32 (round_of b)
+round_is y r (bodies.Store n lng x) f = absurd f.0.1
+round_is y r (bodies.Stored n) f = omega arith
+round_is y r (bodies.SealedHere n k) f = omega arith
+round_is y r (bodies.LostHere n round g end) f = f.4
+round_is y r (bodies.CleanHere n s) f = omega arith
+round_is y r (bodies.TrimmedHere n t) f = omega arith
+round_is y r (bodies.DigestAsk n) f = omega arith
+round_is y r (bodies.DigestPage n upto t lng es) f = omega arith
+round_is y r (bodies.Clean e s) f = omega arith
+round_is y r (bodies.Release n) f = omega arith
+round_is y r (bodies.Trim t) f = omega arith
+round_is y r (bodies.ReadAsk round n) f = absurd f.1
+round_is y r (bodies.ReadPage round n upto c es) f = f.0.2
+round_is y r (bodies.ReadEnded round n end) f = f.0.2
+round_is y r (bodies.ReadTrim round n t) f = f.0.2
+round_is y r (bodies.ReadWait round n k) f = f.0.2
+
+-- ---- asks ----
+
+pub asks_are : (r round next : ℕ) (ys : List ℕ) → r ≤ last_reader → Is32 round → 1 ≤ next → Is64 next → AllByRecursion IsNode ys → AllByRecursion (IsPost (whos.Reader r)) (asks_of round next ys)
+asks_are r round next [] h i one b a = tt
+asks_are r round next (y ∷ ys) h i one b a = ((h, a.0, i, tt, one, b), asks_are r round next ys h i one b a.1)
+
+-- the node of an answer
+abbrev IsHeldBy : ℕ × ℕ → Type 0
+IsHeldBy k = IsNode k.0
+
+lost_keys : (s number : ℕ) (h : ℕ × Held) → IsAnswer number h → (b : Body) → AllByRecursion IsHeldBy (lost_generation s h.0 b)
+lost_keys s number h a (bodies.LostHere n round g end) = cond_both (home_epoch n == home_epoch s) ((h.0, g) ∷ []) [] (AllByRecursion IsHeldBy) (λ t. (a.node, tt)) (λ t. tt)
+lost_keys s number h a (bodies.Store n lng x) = tt
+lost_keys s number h a (bodies.Stored n) = tt
+lost_keys s number h a (bodies.SealedHere n k) = tt
+lost_keys s number h a (bodies.CleanHere n y) = tt
+lost_keys s number h a (bodies.TrimmedHere n t) = tt
+lost_keys s number h a (bodies.DigestAsk n) = tt
+lost_keys s number h a (bodies.DigestPage n upto t lng es) = tt
+lost_keys s number h a (bodies.Clean e y) = tt
+lost_keys s number h a (bodies.Release n) = tt
+lost_keys s number h a (bodies.Trim t) = tt
+lost_keys s number h a (bodies.ReadAsk round n) = tt
+lost_keys s number h a (bodies.ReadPage round n upto c es) = tt
+lost_keys s number h a (bodies.ReadEnded round n end) = tt
+lost_keys s number h a (bodies.ReadTrim round n t) = tt
+lost_keys s number h a (bodies.ReadWait round n k) = tt
+
+lost_nodes : (s number : ℕ) (hs : List (ℕ × Held)) → AllByRecursion (IsAnswer number) hs → AllByRecursion IsHeldBy (lost_held s hs)
+lost_nodes s number [] a = tt
+lost_nodes s number (h ∷ hs) a = all-append IsHeldBy (lost_generation s h.0 h.1.body) (lost_held s hs) (lost_keys s number h a.0 h.1.body) (lost_nodes s number hs a.1)
+
+keys_nodes : (ks : List (ℕ × ℕ)) → AllByRecursion IsHeldBy ks → AllByRecursion IsNode (keys ks)
+keys_nodes [] a = tt
+keys_nodes (k ∷ ks) a = (a.0, keys_nodes ks a.1)
+
+-- ---- an answer ----
+
+-- the reader and its asks
+pub record IsRead (c : Config) (old : Reader) (a : Read) : Type 0 where
+  pub reader : IsReader c a.reader
+  pub number : a.reader.number ≡ old.number
+  pub log : a.reader.log ≡ old.log
+  pub asks : AllByRecursion (IsPost (whos.Reader a.reader.number)) a.asks
+
+-- what a verdict may be
+abbrev IsVerdict : Reader → Verdict → Type 0
+IsVerdict d (Gives i) = Unit {0}
+IsVerdict d (Confirms lost) = AllByRecursion IsNode (keys lost) × (d.round < last_round) × (d.next ≤ d.until)
+IsVerdict d NotYet = Unit {0}
+
+module _ (c : Config) where
+  pub polled_is : (d : Reader) → IsReader c d → IsReader c (polled d)
+  polled_is d D = record {
+    log = D.log;
+    number = D.number;
+    from_one = D.from_one;
+    next = D.next;
+    until = D.until;
+    held = D.held;
+    round = cond_both (nat_lt d.round last_round) (d.round + 1) d.round Is32 (λ t. let z = ltb-true d.round last_round t in omega arith) (λ t. D.round);
+  }
+
+  pub poll_sent : (set : List ℕ) (d : Reader) → AllByRecursion IsNode set → d.next ≤ d.until → IsReader c d → AllByRecursion (IsPost (whos.Reader d.number)) (poll_asks set d)
+  poll_sent set d N l D = let u = D.until in cond_both (nat_lt d.round last_round) (asks_of (d.round + 1) d.next set) [] (AllByRecursion (IsPost (whos.Reader d.number)))
+      (λ t. let z = ltb-true d.round last_round t in asks_are d.number (d.round + 1) d.next set D.number (omega arith) D.from_one (omega arith) N) (λ t. tt)
+
+  module _ (old : Reader) (set : List ℕ) (N : AllByRecursion IsNode set) where
+    -- ---- verdicts ----
+    entry_is : (d : Reader) (o : Option (List ℕ)) (hole : Bool) (v : Verdict) → IsVerdict d v → IsVerdict d (entry_verdict o hole v)
+    entry_is d (Some p) hole v h = tt
+    entry_is d None true v h = tt
+    entry_is d None false v h = h
+
+    loss_is : (d : Reader) → IsReader c d → d.next ≤ d.until → IsVerdict d (loss_verdict d.next (may_confirm d) set d.held)
+    loss_is d D l = cond_both (may_confirm d && is_loss d.next set d.held) (Confirms (lost_held d.next d.held)) NotYet (IsVerdict d)
+        (λ t. let p = (and_parts (may_confirm d) (is_loss d.next set d.held) t).0 in let q = (and_parts (not (is_confirming d.confirming)) (nat_lt d.round last_round) p).1 in
+        (keys_nodes (lost_held d.next d.held) (lost_nodes d.next d.number d.held D.held), ltb-true d.round last_round q, l)) (λ t. tt)
+
+    decided : (d : Reader) → IsReader c d → d.next ≤ d.until → IsVerdict d (decide d.next (may_confirm d) set d.held)
+    unfolding decide
+    decided d D l = cond_both (nat_le d.next (trim_held d.held)) (Gives (TrimTo (trim_held d.held))) (entry_verdict (record_held d.next d.held) (hole_held d.next d.held) (cond (end_held d.next d.held) (Gives (BridgeTo (bridge_to d.next))) (loss_verdict d.next (may_confirm d) set d.held))) (IsVerdict d)
+        (λ t. tt) (λ t. entry_is d (record_held d.next d.held) (hole_held d.next d.held) (cond (end_held d.next d.held) (Gives (BridgeTo (bridge_to d.next))) (loss_verdict d.next (may_confirm d) set d.held))
+        (cond_both (end_held d.next d.held) (Gives (BridgeTo (bridge_to d.next))) (loss_verdict d.next (may_confirm d) set d.held) (IsVerdict d) (λ u. tt) (λ u. loss_is d D l)))
+
+    verdict_is : (d : Reader) → IsReader c d → IsVerdict d (verdict set d)
+    verdict_is d D = cond_both (is_finished d) NotYet (decide d.next (may_confirm d) set d.held) (IsVerdict d) (λ t. tt) (λ t. decided d D (ltb-false d.until d.next t))
+
+    -- ---- items ----
+    item_is : (a : Read) (i : Item) → IsRead c old a → IsRead c old (gives a i)
+    item_is a i A = let D = A.reader in record {
+      reader = record { log = D.log; number = D.number; from_one = omega arith; next = omega arith; until = D.until; round = D.round; held = D.held };
+      number = A.number;
+      log = A.log;
+      asks = A.asks;
+    }
+
+    confirms_is : (a : Read) (lost : List (ℕ × ℕ)) → IsVerdict a.reader (Confirms lost) → IsRead c old a → IsRead c old (confirms a lost)
+    confirms_is a lost v A = let D = A.reader in let r = v.1 in let l = v.2 in let u = D.until in record {
+      reader = record { log = D.log; number = D.number; from_one = D.from_one; next = D.next; until = D.until; round = omega arith; held = D.held };
+      number = A.number;
+      log = A.log;
+      asks = asks_are a.reader.number (a.reader.round + 1) a.reader.next (keys lost) D.number (omega arith) D.from_one (omega arith) v.0;
+    }
+
+    going : (k : ℕ) (a : Read) → Verdict → Read
+    going k a v = elim v as (λ _. Read) [ Gives i ↦ gives_all k set (gives a i) | Confirms lost ↦ confirms a lost | NotYet ↦ a ]
+
+    going_is : (k : ℕ) (a : Read) (v : Verdict) → IsVerdict a.reader v → IsRead c old a → ((b : Read) → IsRead c old b → IsRead c old (gives_all k set b)) → IsRead c old (going k a v)
+    unfolding going
+    going_is k a (Gives i) v A f = f (gives a i) (item_is a i A)
+    going_is k a (Confirms lost) v A f = confirms_is a lost v A
+    going_is k a NotYet v A f = A
+
+    all_is : (k : ℕ) (a : Read) → IsRead c old a → IsRead c old (gives_all k set a)
+    unfolding going
+    all_is zero a A = A
+    all_is (suc k) a A = going_is k a (verdict set a.reader) (verdict_is a.reader A.reader) A (λ b B. all_is k b B)
+
+    round_on : (a : Read) → IsRead c old a → (b : Bool) → asks_on a ≡ b → IsRead c old (record { reader = cond b (polled a.reader) a.reader; items = a.items; asks = cond b (poll_asks set a.reader) a.asks })
+    round_on a A true h = let p = (and_parts _ _ h).0 in let q = (and_parts _ _ p).1 in record {
+      reader = polled_is a.reader A.reader;
+      number = A.number;
+      log = A.log;
+      asks = poll_sent set a.reader N (ltb-false a.reader.until a.reader.next (finished_not (is_finished a.reader) q)) A.reader;
+    } where
+      finished_not : (b : Bool) → not b ≡ true → b ≡ false
+      finished_not true h = absurd cc
+      finished_not false h = refl
+    round_on a A false h = A
+
+  pub answer_is : (set : List ℕ) (d : Reader) (y : ℕ) (b : Body) → AllByRecursion IsNode set → IsReader c d → IsNode y → Fits (whos.Node y) (whos.Reader d.number) b → IsRead c d (on_answer set d y b)
+  unfolding on_answer
+  answer_is set d y b N D n f =
+      let h : IsReader c (heard d y b) = record { log = D.log; number = D.number; from_one = D.from_one; next = D.next; until = D.until; round = D.round; held = held_is } in
+      let s : IsRead c d (record { reader = heard d y b; items = []; asks = [] }) = record { reader = h; number = refl; log = refl; asks = tt } in
+      let l : IsRead c d (loses (heard d y b)) = cond_both (is_confirmed (heard d y b).confirming) (gives (record { reader = heard d y b; items = []; asks = [] }) LossHere) (record { reader = heard d y b; items = []; asks = [] }) (IsRead c d)
+      (λ t. item_is d set N (record { reader = heard d y b; items = []; asks = [] }) LossHere s) (λ t. s) in
+      let g : Read = gives_all (most_items (heard d y b)) set (loses (heard d y b)) in
+      round_on d set N g (all_is d set N (most_items (heard d y b)) (loses (heard d y b)) l) (asks_on g) refl where
+        held_is : AllByRecursion (IsAnswer d.number) (held_with d.held y b)
+        held_is = cond_both (is_newer (find y d.held) (round_of b)) (put y (record { round = round_of b; body = b }) d.held) d.held (AllByRecursion (IsAnswer d.number))
+            (λ t. all-put (IsAnswer d.number) y (record { round = round_of b; body = b }) d.held (record { node = n; round = round_is y d.number b f; fits = f }) D.held) (λ t. D.held)
+
+  pub opened_is : (l number from until : ℕ) → has_log c l ≡ true → number ≤ last_reader → 1 ≤ from → from ≤ until → Is64 until → IsReader c (opened l number from until)
+  opened_is l number from until h n one o u = record { log = h; number = n; from_one = one; next = omega (arith, o); until = u; round = omega arith; held = tt }

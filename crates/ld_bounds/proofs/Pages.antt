@@ -1,0 +1,142 @@
+-- What a node shows of its entries is a page: its numbers rise in their range, and it is short.
+use Rattle.std.proofs.Common.{◌≡◌, ◌≤◌, ◌<◌, ℕ, zero, suc, ◌+◌, sym, subst, Bool, true, ◌&&◌, not, List, [], ◌∷◌, filter, take, length, nat_cmp, nat_le, nat_lt, Less, arith}
+use Rattle.std.specs.Map as map
+use Rattle.std.specs.List.{AllByRecursion}
+use Rattle.std.specs.List.Sorted.{IsStrictlySortedBy}
+use Rattle.std.proofs.lemmas.Bool.{cond_both, and_parts, leb-true, ltb-true}
+use Rattle.std.proofs.lemmas.Bool.Decides.{nat_tests}
+use Rattle.ld_table.specs.Table.{Ordered}
+use Rattle.ld_table.specs.Words.{values}
+use Rattle.ld_lsn.specs.Number.{home_epoch}
+use Rattle.ld_msg.specs.declared.msg.Entry.{Entry}
+use Rattle.ld_msg.specs.declared.msg.What.{What}
+use Rattle.ld_msg.specs.declared.msg.What.TheVariants.{Rec, Hole, Bridge}
+use Rattle.ld_msg.specs.Digest.{is_bridge}
+use Rattle.ld_msg.specs.Bounds.{Is64, IsEntry, AreEntries, IsReadable, AreReadable, RiseWithin, IsPage}
+use Rattle.ld_op.specs.Plain.{Log}
+use Rattle.ld_op.specs.Answers.{entries_within, readable, page_limit, page_upto, last_number}
+use Rattle.ld_bounds.specs.Nodes.{IsStored, IsLogState}
+use Rattle.ld_bounds.proofs.Numbers.{home_between}
+
+-- entries from a number on, their numbers rising
+abbrev Rises : ℕ → List Entry → Type 0
+Rises from [] = Unit {0}
+Rises from (e ∷ es) = (from ≤ e.number) × IsEntry e × Rises (e.number + 1) es
+
+after : (x y : ℕ) → nat_cmp x y ≡ Less → x + 1 ≤ y
+after x y h = grind (arith, nat_tests)
+
+all_after : (x : ℕ) (ks : List ℕ) → AllByRecursion (λ y. nat_cmp x y ≡ Less) ks → AllByRecursion (λ y. x + 1 ≤ y) ks
+all_after x [] h = tt
+all_after x (k ∷ ks) h = (after x k h.0, all_after x ks h.1)
+
+table_rises : (from : ℕ) (m : List (ℕ × Entry)) → Ordered m → AllByRecursion IsStored m → AllByRecursion (λ y. from ≤ y) (map.keys_of m) → Rises from (values m)
+unfolding IsStrictlySortedBy
+table_rises from [] o a b = tt
+table_rises from (e ∷ m) o a b = let q = a.0.number in
+    (omega (arith, b.0, q), a.0.entry, table_rises (e.1.number + 1) m o.1 a.1 (subst (λ x. AllByRecursion (λ y. x + 1 ≤ y) (map.keys_of m)) (sym q) (all_after e.0 (map.keys_of m) o.0)))
+
+from_zero : (ks : List ℕ) → AllByRecursion (λ y. 0 ≤ y) ks
+from_zero [] = tt
+from_zero (k ∷ ks) = (omega arith, from_zero ks)
+
+-- ---- a range ----
+
+within_rises : (low from upto bound : ℕ) (es : List Entry) → ((n : ℕ) → low ≤ n → from ≤ n → bound ≤ n) → Rises low es → RiseWithin bound upto (filter (λ e. nat_le from e.number && nat_le e.number upto) es)
+within_rises low from upto bound [] b r = tt
+within_rises low from upto bound (e ∷ es) b r =
+    cond_both (nat_le from e.number && nat_le e.number upto) (e ∷ filter (λ e. nat_le from e.number && nat_le e.number upto) es) (filter (λ e. nat_le from e.number && nat_le e.number upto) es) (RiseWithin bound upto)
+    (λ t. let p = and_parts (nat_le from e.number) (nat_le e.number upto) t in let lo = leb-true from e.number p.0 in
+    (b e.number r.0 lo, leb-true e.number upto p.1, within_rises (e.number + 1) from upto (e.number + 1) es (λ n i j. i) r.2))
+    (λ t. within_rises (e.number + 1) from upto bound es (λ n i j. b n (let z = r.0 in omega arith) j) r.2)
+
+rise_entries : (from : ℕ) (es : List Entry) → Rises from es → AreEntries es
+rise_entries from [] r = tt
+rise_entries from (e ∷ es) r = (r.1, rise_entries (e.number + 1) es r.2)
+
+pub entries-filter : (p : Entry → Bool) (es : List Entry) → AreEntries es → AreEntries (filter p es)
+entries-filter p [] a = tt
+entries-filter p (e ∷ es) a = cond_both (p e) (e ∷ filter p es) (filter p es) AreEntries (λ t. (a.0, entries-filter p es a.1)) (λ t. entries-filter p es a.1)
+
+rise_down : (low high upto : ℕ) (es : List Entry) → low ≤ high → RiseWithin high upto es → RiseWithin low upto es
+rise_down low high upto [] h r = tt
+rise_down low high upto (e ∷ es) h r = (let z = r.0 in omega arith, r.1, r.2)
+
+rise_filter : (p : Entry → Bool) (from upto : ℕ) (es : List Entry) → RiseWithin from upto es → RiseWithin from upto (filter p es)
+rise_filter p from upto [] r = tt
+rise_filter p from upto (e ∷ es) r = let rest : RiseWithin (e.number + 1) upto (filter p es) = rise_filter p (e.number + 1) upto es r.2 in
+    cond_both (p e) (e ∷ filter p es) (filter p es) (RiseWithin from upto) (λ t. (r.0, r.1, rest)) (λ t. rise_down from (e.number + 1) upto (filter p es) (let z = r.0 in omega arith) rest)
+
+not_bridge : (x : What) → not (is_bridge x) ≡ true → IsReadable x
+not_bridge (Rec p) h = tt
+not_bridge Hole h = tt
+not_bridge Bridge h = absurd cc
+
+readable-filter : (es : List Entry) → AreReadable (filter (λ e. not (is_bridge e.what)) es)
+readable-filter [] = tt
+readable-filter (e ∷ es) = cond_both (not (is_bridge e.what)) (e ∷ filter (λ e. not (is_bridge e.what)) es) (filter (λ e. not (is_bridge e.what)) es) AreReadable (λ t. (not_bridge e.what t, readable-filter es)) (λ t. readable-filter es)
+
+-- ---- a page's length ----
+
+entries-take : (k : ℕ) (es : List Entry) → AreEntries es → AreEntries (take k es)
+entries-take zero es a = tt
+entries-take (suc k) [] a = tt
+entries-take (suc k) (e ∷ es) a = (a.0, entries-take k es a.1)
+
+readable-take : (k : ℕ) (es : List Entry) → AreReadable es → AreReadable (take k es)
+readable-take zero es a = tt
+readable-take (suc k) [] a = tt
+readable-take (suc k) (e ∷ es) a = (a.0, readable-take k es a.1)
+
+rise-take : (k from upto : ℕ) (es : List Entry) → RiseWithin from upto es → RiseWithin from upto (take k es)
+rise-take zero from upto es r = tt
+rise-take (suc k) from upto [] r = tt
+rise-take (suc k) from upto (e ∷ es) r = (r.0, r.1, rise-take k (e.number + 1) upto es r.2)
+
+few-take : (k : ℕ) (es : List Entry) → length (take k es) ≤ k
+few-take zero es = omega arith
+few-take (suc k) [] = omega arith
+few-take (suc k) (e ∷ es) = omega (arith, few-take k es)
+
+some-take : (k : ℕ) (es : List Entry) → 1 ≤ k → k < length es → 1 ≤ length (take k es)
+some-take zero es h i = absurd (omega arith)
+some-take (suc k) [] h i = absurd (omega arith)
+some-take (suc k) (e ∷ es) h i = omega arith
+
+-- up to the last one
+record Last (from upto : ℕ) (es : List Entry) : Type 0 where
+  least : from ≤ last_number es
+  most : last_number es ≤ upto
+  rise : RiseWithin from (last_number es) es
+
+rise_last : (from upto : ℕ) (es : List Entry) → 1 ≤ length es → RiseWithin from upto es → Last from upto es
+rise_last from upto [] h r = absurd (omega arith)
+rise_last from upto (e ∷ []) h r = record { least = r.0; most = r.1; rise = (r.0, omega arith, tt) }
+rise_last from upto (e ∷ f ∷ es) h r = let i = rise_last (e.number + 1) upto (f ∷ es) (omega arith) r.2 in let z = r.0 in let k = i.least in
+    record { least = omega arith; most = i.most; rise = (r.0, omega arith, i.rise) }
+
+pub page_is : (from bound : ℕ) (es : List Entry) → 1 ≤ from → from ≤ bound → Is64 bound → home_epoch from ≡ home_epoch bound → AreEntries es → RiseWithin from bound es → IsPage from (page_upto es bound) (take page_limit es)
+page_is from bound es one le b h a r = cond_both (nat_lt page_limit (length es)) (last_number (take page_limit es)) bound (λ u. IsPage from u (take page_limit es))
+    (λ t. let l = rise_last from bound (take page_limit es) (some-take page_limit es (omega arith) (ltb-true page_limit (length es) t)) (rise-take page_limit from bound es r) in
+    let lo = l.least in let hi = l.most in
+    record { range = lo; bound = omega (arith, b, hi); home = home_between from (last_number (take page_limit es)) bound one lo hi h; few = few-take page_limit es; entries = entries-take page_limit es a; rise = l.rise })
+    (λ t. record { range = le; bound = b; home = h; few = few-take page_limit es; entries = entries-take page_limit es a; rise = rise-take page_limit from bound es r })
+
+module _ (g : Log) (G : IsLogState g) where
+  log_rises : Rises 0 (values g.entries)
+  log_rises = table_rises 0 g.entries G.rise G.entries (from_zero (map.keys_of g.entries))
+
+  pub within_is : (from upto : ℕ) → RiseWithin from upto (entries_within g from upto)
+  within_is from upto = within_rises 0 from upto from (values g.entries) (λ n i j. j) log_rises
+
+  pub within_entries : (from upto : ℕ) → AreEntries (entries_within g from upto)
+  within_entries from upto = entries-filter (λ e. nat_le from e.number && nat_le e.number upto) (values g.entries) (rise_entries 0 (values g.entries) log_rises)
+
+  pub digest_is : (from bound : ℕ) → 1 ≤ from → from ≤ bound → Is64 bound → home_epoch from ≡ home_epoch bound → IsPage from (page_upto (entries_within g from bound) bound) (take page_limit (entries_within g from bound))
+  digest_is from bound one le b h = page_is from bound (entries_within g from bound) one le b h (within_entries from bound) (within_is from bound)
+
+  pub read_is : (from bound : ℕ) → 1 ≤ from → from ≤ bound → Is64 bound → home_epoch from ≡ home_epoch bound → IsPage from (page_upto (readable g from bound) bound) (take page_limit (readable g from bound))
+  read_is from bound one le b h = page_is from bound (readable g from bound) one le b h (entries-filter (λ e. not (is_bridge e.what)) (entries_within g from bound) (within_entries from bound)) (rise_filter (λ e. not (is_bridge e.what)) from bound (entries_within g from bound) (within_is from bound))
+
+  pub read_readable : (from bound : ℕ) → AreReadable (take page_limit (readable g from bound))
+  read_readable from bound = readable-take page_limit (readable g from bound) (readable-filter (entries_within g from bound))

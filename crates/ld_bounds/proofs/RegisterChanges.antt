@@ -1,0 +1,194 @@
+-- Each change of the register leaves it in its bounds, and no epoch falls.
+use Rattle.std.proofs.Common.{inl, inr, ◌≡◌, ◌∙◌, ◌≤◌, ◌<◌, ℕ, ◌+◌, ◌-◌, ◌^◌, refl, ap, sym, subst, Bool, true, false, not, ◌||◌, ◌==◌, nat_lt, nat_le, cond, List, Option, Some, None, arith}
+use Rattle.std.specs.Option.{unwrap_or}
+use Rattle.std.specs.List.{AllByRecursion}
+use Rattle.std.proofs.lemmas.Bool.{cond_both, leb-false, eqb-true}
+use Rattle.ld_table.specs.Table.{find, put, Ordered}
+use Rattle.ld_table.proofs.Laws.{put_cases}
+use Rattle.ld_table.proofs.Order.{Ordered-put}
+use Rattle.ld_ids.specs.Id.{IsNode}
+use Rattle.ld_config.specs.declared.config.Config.{Config}
+use Rattle.ld_msg.specs.declared.msg.Summary.{Summary}
+use Rattle.ld_msg.specs.Bounds.{Is32, IsEpoch, IsSummary}
+use Rattle.ld_msg.specs.Register.{Register, Epochs, Armed, Changed, Answer, Granted, AtLimit, Behind, Fails, activate, close, draw, change, made, unmade, is_made, falls, journal_limit, record_length, no_epochs, epochs_of, generation_of, lce_of, with_epochs, next_epoch, closed_epochs, epoch_limit, generation_limit}
+use Rattle.ld_machine.specs.Config.{has_log}
+use Rattle.ld_bounds.specs.Nodes.{IsClosed}
+use Rattle.ld_bounds.specs.Registers.{IsClosedBy, IsEpochs, IsKnownLog, IsGeneration, IsRegister}
+use Rattle.ld_bounds.proofs.Alls.{all-put, all-find, all_weaker}
+
+-- the same contents
+abbrev pub Same : Register → Register → Type 0
+Same r n = (n.logs ≡ r.logs) × (n.generations ≡ r.generations)
+
+-- a register in its bounds, in which no epoch is below that of the one before
+pub record Follows (c : Config) (r n : Register) : Type 0 where
+  pub register : IsRegister c n
+  pub up : (l : ℕ) → (epochs_of r l).epoch ≤ (epochs_of n l).epoch
+
+-- ---- a change ----
+
+-- how a change ends
+record Changing (r next : Register) (Q : Register → Answer → Type 0) : Type 0 where
+  granted : (n : Register) → Same next n → Q n Granted
+  made_and_fails : (n : Register) → Same next n → Q n Fails
+  fails : (n : Register) → Same r n → Q n Fails
+
+module _ (r next : Register) (body : ℕ) (Q : Register → Answer → Type 0) (K : Changing r next Q) where
+  by_fault : (t done : Bool) → Q (cond (not t || done) (made r next body) (unmade r)) (cond t Fails Granted)
+  by_fault true true = K.made_and_fails (made r next body) (refl, refl)
+  by_fault true false = K.fails (unmade r) (refl, refl)
+  by_fault false done = K.granted (made r next body) (refl, refl)
+
+  by_armed : (a : Option Armed) → Q (cond (is_made a) (made r next body) (unmade r)) (cond (falls a) Fails Granted)
+  by_armed None = K.granted (made r next body) (refl, refl)
+  by_armed (Some a) = by_fault (nat_le a.left 1) a.done
+
+  by_limit : (full : Bool) → Q (cond full r (cond (is_made r.armed) (made r next body) (unmade r))) (cond (full || falls r.armed) Fails Granted)
+  by_limit true = K.fails r (refl, refl)
+  by_limit false = by_armed r.armed
+
+  changed : Q (change r next body).register (change r next body).answer
+  unfolding change
+  changed = by_limit (nat_lt journal_limit (r.length + record_length body))
+
+-- ---- what is kept ----
+
+module _ (c : Config) where
+  pub same_register : (r n : Register) → Same r n → IsRegister c r → IsRegister c n
+  same_register r n s R = record {
+    rise = subst Ordered (sym s.0) R.rise;
+    logs = subst (AllByRecursion (IsKnownLog c)) (sym s.0) R.logs;
+    generations = subst (AllByRecursion IsGeneration) (sym s.1) R.generations;
+  }
+
+  pub same_epochs : (r n : Register) (l : ℕ) → Same r n → epochs_of n l ≡ epochs_of r l
+  same_epochs r n l s = ap (λ m. unwrap_or (find l m) no_epochs) s.0
+
+  pub follows_same : (r next n : Register) → Same next n → Follows c r next → Follows c r n
+  follows_same r next n s F = record { register = same_register next n s F.register; up = λ l. let u = F.up l in let e = ap (λ (x : Epochs). x.epoch) (same_epochs next n l s) in omega arith }
+
+  pub follows_self : (r : Register) → IsRegister c r → Follows c r r
+  follows_self r R = record { register = R; up = λ l. omega arith }
+
+  changed_follows : (r next : Register) (body : ℕ) → IsRegister c r → Follows c r next → Follows c r (change r next body).register
+  changed_follows r next body R F = changed r next body (λ n a. Follows c r n) (record {
+    granted = λ n s. follows_same r next n s F;
+    made_and_fails = λ n s. follows_same r next n s F;
+    fails = λ n s. follows_same r r n s (follows_self r R);
+  })
+
+  or_none : (r : Register) (l : ℕ) (o : Option Epochs) → ((v : Epochs) → o ≡ Some v → IsEpochs v) → 1 ≤ (unwrap_or o no_epochs).epoch → IsEpochs (unwrap_or o no_epochs)
+  or_none r l None f h = absurd (omega arith)
+  or_none r l (Some v) f h = f v refl
+
+  pub epochs_are : (r : Register) (l : ℕ) → IsRegister c r → 1 ≤ (epochs_of r l).epoch → IsEpochs (epochs_of r l)
+  epochs_are r l R h = or_none r l (find l r.logs) (λ v e. (all-find (IsKnownLog c) l r.logs v R.logs e).epochs) h
+
+  -- also of a log that has no epoch yet
+  record Begun (v : Epochs) : Type 0 where
+    epoch_most : v.epoch ≤ 2 ^ 32 - 2
+    lce : v.lce ≤ v.epoch
+    summaries : AllByRecursion (IsClosedBy v.lce) v.summaries
+
+  or_not_begun : (o : Option Epochs) → ((v : Epochs) → o ≡ Some v → IsEpochs v) → Begun (unwrap_or o no_epochs)
+  or_not_begun None f = record { epoch_most = omega arith; lce = omega arith; summaries = tt }
+  or_not_begun (Some v) f = let e = f v refl in let z = e.lce in record { epoch_most = e.epoch.1; lce = omega arith; summaries = e.summaries }
+
+  begun : (r : Register) (l : ℕ) → IsRegister c r → Begun (epochs_of r l)
+  begun r l R = or_not_begun (find l r.logs) (λ v e. (all-find (IsKnownLog c) l r.logs v R.logs e).epochs)
+
+  -- each summary of a log is one of the epoch under which it stands
+  pub closed_summary : (r : Register) (l e : ℕ) (y : Summary) → IsRegister c r → find e (epochs_of r l).summaries ≡ Some y → IsClosed (e, y)
+  closed_summary r l e y R h = let b = begun r l R in (all-find (IsClosedBy (epochs_of r l).lce) e (epochs_of r l).summaries y b.summaries h).summary
+
+  with_follows : (r : Register) (l : ℕ) (v : Epochs) → IsRegister c r → has_log c l ≡ true → IsEpochs v → (epochs_of r l).epoch ≤ v.epoch → Follows c r (with_epochs r l v)
+  with_follows r l v R h E u = record {
+    register = record { rise = Ordered-put l v r.logs R.rise; logs = all-put (IsKnownLog c) l v r.logs (record { log = h; epochs = E }) R.logs; generations = R.generations };
+    up = λ k. elim (put_cases k l v r.logs) [
+      | inl a ↦ (let e = ap (λ o. (unwrap_or o no_epochs).epoch) a.1 in let z = ap (λ j. (epochs_of r j).epoch) a.0 in omega arith)
+      | inr a ↦ (let e = ap (λ o. (unwrap_or o no_epochs).epoch) a.1 in omega arith)
+    ];
+  }
+
+  -- ---- epochs ----
+  next_is : (r : Register) (l : ℕ) → IsRegister c r → (epochs_of r l).epoch < epoch_limit → IsEpochs (next_epoch (epochs_of r l))
+  next_is r l R h = let b = begun r l R in let z = b.lce in record { epoch = (omega arith, omega arith); lce = omega arith; summaries = b.summaries }
+
+  next_follows : (r : Register) (l : ℕ) → IsRegister c r → has_log c l ≡ true → (epochs_of r l).epoch < epoch_limit → Follows c r (with_epochs r l (next_epoch (epochs_of r l)))
+  next_follows r l R h b = with_follows r l (next_epoch (epochs_of r l)) R h (next_is r l R b) (omega arith)
+
+  pub activate_follows : (r : Register) (l : ℕ) → IsRegister c r → has_log c l ≡ true → Follows c r (activate r l).register
+  unfolding activate
+  activate_follows r l R h = cond_both (nat_le epoch_limit (epochs_of r l).epoch) (record { register = r; answer = AtLimit }) (change r (with_epochs r l (next_epoch (epochs_of r l))) 9) (λ (d : Changed). Follows c r d.register)
+      (λ t. follows_self r R) (λ t. changed_follows r (with_epochs r l (next_epoch (epochs_of r l))) 9 R (next_follows r l R h (leb-false epoch_limit (epochs_of r l).epoch t)))
+
+  -- an epoch that was handed out
+  pub record Handed (n : Register) (l : ℕ) : Type 0 where
+    pub epoch : IsEpoch (epochs_of n l).epoch
+    pub lce : lce_of n l < (epochs_of n l).epoch
+
+  abbrev WhereGranted : ℕ → Register → Answer → Type 0
+  WhereGranted l n a = a ≡ Granted → Handed n l
+
+  handed_now : (r n : Register) (l : ℕ) → IsRegister c r → (epochs_of r l).epoch < epoch_limit → Same (with_epochs r l (next_epoch (epochs_of r l))) n → Handed n l
+  handed_now r n l R h s =
+      let b = begun r l R in let z = b.lce in
+      let e : epochs_of n l ≡ next_epoch (epochs_of r l) = same_epochs (with_epochs r l (next_epoch (epochs_of r l))) n l s ∙ there in
+      let u = ap (λ (x : Epochs). x.epoch) e in let v = ap (λ (x : Epochs). x.lce) e in
+      record { epoch = (omega arith, omega arith); lce = omega arith } where
+        there : epochs_of (with_epochs r l (next_epoch (epochs_of r l))) l ≡ next_epoch (epochs_of r l)
+        there = elim (put_cases l l (next_epoch (epochs_of r l)) r.logs) [ inl a ↦ ap (λ o. unwrap_or o no_epochs) a.1 | inr a ↦ absurd (a.0 refl) ]
+
+  pub activate_hands : (r : Register) (l : ℕ) → IsRegister c r → (activate r l).answer ≡ Granted → Handed (activate r l).register l
+  unfolding activate
+  activate_hands r l R = cond_both (nat_le epoch_limit (epochs_of r l).epoch) (record { register = r; answer = AtLimit }) (change r (with_epochs r l (next_epoch (epochs_of r l))) 9) (λ (d : Changed). WhereGranted l d.register d.answer)
+      (λ t h. absurd (let z : AtLimit ≡ Granted = h in cc))
+      (λ t. changed r (with_epochs r l (next_epoch (epochs_of r l))) 9 (WhereGranted l) (record {
+        granted = λ n s h. handed_now r n l R (leb-false epoch_limit (epochs_of r l).epoch t) s;
+        made_and_fails = λ n s h. absurd (let z : Fails ≡ Granted = h in cc);
+        fails = λ n s h. absurd (let z : Fails ≡ Granted = h in cc);
+      }))
+
+  -- ---- closes ----
+  earlier : (lce : ℕ) (m : List (ℕ × Summary)) → AllByRecursion (IsClosedBy lce) m → AllByRecursion (IsClosedBy (lce + 1)) m
+  earlier lce m a = all_weaker (IsClosedBy lce) (IsClosedBy (lce + 1)) m (λ y b. record { closed = (let z = b.closed in omega arith); summary = b.summary }) a
+
+  closed_is : (r : Register) (l e : ℕ) (y : Summary) → IsRegister c r → IsEpoch e → IsSummary e y → e < (epochs_of r l).epoch → lce_of r l + 1 ≡ e → IsEpochs (closed_epochs (epochs_of r l) e y)
+  closed_is r l e y R i s u q = let E = epochs_are r l R (let z = i.0 in omega arith) in record {
+    epoch = E.epoch;
+    lce = u;
+    summaries = all-put (IsClosedBy e) e y (epochs_of r l).summaries (record { closed = omega arith; summary = record { epoch = i; summary = s } }) (subst (λ k. AllByRecursion (IsClosedBy k) (epochs_of r l).summaries) q (earlier (lce_of r l) (epochs_of r l).summaries E.summaries));
+  }
+
+  pub close_follows : (r : Register) (l e : ℕ) (y : Summary) → IsRegister c r → has_log c l ≡ true → IsEpoch e → IsSummary e y → e < (epochs_of r l).epoch → Follows c r (close r l e y).register
+  unfolding close
+  close_follows r l e y R h i s u = cond_both (lce_of r l + 1 == e) (change r (with_epochs r l (closed_epochs (epochs_of r l) e y)) 29) (record { register = r; answer = Behind (lce_of r l) }) (λ (d : Changed). Follows c r d.register)
+      (λ t. changed_follows r (with_epochs r l (closed_epochs (epochs_of r l) e y)) 29 R (with_follows r l (closed_epochs (epochs_of r l) e y) R h (closed_is r l e y R i s u (eqb-true (lce_of r l + 1) e t)) (omega arith)))
+      (λ t. follows_self r R)
+
+  -- the answer to a close: a last closed epoch is in its bounds
+  abbrev pub IsAnswered : Answer → Type 0
+  IsAnswered (Behind lce) = lce ≤ 2 ^ 32 - 2
+  IsAnswered _ = Unit {0}
+
+  pub close_answers : (r : Register) (l e : ℕ) (y : Summary) → IsRegister c r → IsAnswered (close r l e y).answer
+  unfolding close
+  close_answers r l e y R = cond_both (lce_of r l + 1 == e) (change r (with_epochs r l (closed_epochs (epochs_of r l) e y)) 29) (record { register = r; answer = Behind (lce_of r l) }) (λ (d : Changed). IsAnswered d.answer)
+      (λ t. changed r (with_epochs r l (closed_epochs (epochs_of r l) e y)) 29 (λ n a. IsAnswered a) (record { granted = λ n s. tt; made_and_fails = λ n s. tt; fails = λ n s. tt }))
+      (λ t. let b = begun r l R in let p = b.epoch_most in let q = b.lce in omega arith)
+
+  -- ---- generations ----
+  or_first : (o : Option ℕ) → ((g : ℕ) → o ≡ Some g → Is32 g) → Is32 (unwrap_or o 0)
+  or_first None f = omega arith
+  or_first (Some g) f = f g refl
+
+  pub generation_is : (r : Register) (n : ℕ) → IsRegister c r → Is32 (generation_of r n)
+  generation_is r n R = or_first (find n r.generations) (λ g h. (all-find IsGeneration n r.generations g R.generations h).generation)
+
+  drawn_follows : (r : Register) (n : ℕ) → IsRegister c r → IsNode n → generation_of r n < generation_limit → Follows c r (record r { generations = put n (generation_of r n + 1) r.generations })
+  drawn_follows r n R i h = record { register = record { rise = R.rise; logs = R.logs; generations = all-put IsGeneration n (generation_of r n + 1) r.generations (record { node = i; generation = omega arith }) R.generations }; up = λ l. omega arith }
+
+  pub draw_follows : (r : Register) (n : ℕ) → IsRegister c r → IsNode n → Follows c r (draw r n).register
+  unfolding draw
+  draw_follows r n R i = cond_both (nat_le generation_limit (generation_of r n)) (record { register = r; answer = AtLimit }) (change r (record r { generations = put n (generation_of r n + 1) r.generations }) 6) (λ (d : Changed). Follows c r d.register)
+      (λ t. follows_self r R) (λ t. changed_follows r (record r { generations = put n (generation_of r n + 1) r.generations }) 6 R (drawn_follows r n R i (leb-false generation_limit (generation_of r n) t)))

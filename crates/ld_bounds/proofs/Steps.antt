@@ -1,0 +1,445 @@
+-- Each event leaves a sound state sound, and sends messages that a frame can carry.
+use Rattle.std.proofs.Common.{◌≡◌, ◌≤◌, ◌<◌, ℕ, zero, suc, ◌+◌, ◌-◌, refl, sym, subst, Bool, true, false, ◌==◌, ◌&&◌, ◌||◌, not, nat_lt, nat_le, cond, List, [], ◌∷◌, ◌++◌, length, Option, Some, None, is_some, slice_get, arith}
+use Rattle.std.specs.List.{AllByRecursion, IsDistinct}
+use Rattle.std.specs.List.Sorted.{IsStrictlySortedBy}
+use Rattle.std.proofs.lemmas.Bool.{cond_both, and_parts, or_parts, ltb-false, leb-false, eqb-false}
+use Rattle.ld_table.specs.Named.{find_named, Distinct}
+use Rattle.ld_table.specs.Table.{Ordered}
+use Rattle.ld_table.specs.Words.{is_in}
+use Rattle.ld_ids.specs.Id.{IsNode, IsLog}
+use Rattle.ld_ids.specs.Set.{members}
+use Rattle.ld_lsn.specs.Number.{numbered, last_esn}
+use Rattle.ld_config.specs.declared.config.Config.{Config}
+use Rattle.ld_config.specs.Bounds.{IsInBounds}
+use Rattle.ld_schedule.specs.declared.event.Event.{Event}
+use Rattle.ld_schedule.specs.declared.event.Event.TheVariants as events
+use Rattle.ld_transcript.specs.declared.line.Line.{Line}
+use Rattle.ld_msg.specs.declared.msg.Who.{Who}
+use Rattle.ld_msg.specs.declared.msg.Who.TheVariants as whos
+use Rattle.ld_msg.specs.declared.msg.Msg.{Msg}
+use Rattle.ld_msg.specs.declared.msg.Body.{Body}
+use Rattle.ld_msg.specs.declared.msg.Body.TheVariants as bodies
+use Rattle.ld_msg.specs.Bounds.{Is64, IsEpoch, Fits, IsMessage}
+use Rattle.ld_msg.specs.Network.{Network, send, send_all, message, oldest_new, posted}
+use Rattle.ld_msg.specs.Choice.{choice}
+use Rattle.ld_msg.specs.Register.{Register, Epochs, Answer, Granted, AtLimit, Behind, Fails, epochs_of, epochs_in, generation_of, lce_of, activate, draw}
+use Rattle.ld_msg.specs.Sequencer.{Sequencer, Acts, called, acted_messages, on_reply, on_retry, released_of, to_each, activated, bare, recovery_asks, Appending, TooLong, Preempted, EpochFull, WindowFull, Numbered, or_preempted, appending, appended, fresh_append, first_stores, next_esn, payload_limit, window_limit}
+use Rattle.ld_msg.specs.Reader.{Reader, Read, opened, is_finished, polled, poll_asks, on_answer}
+use Rattle.ld_op.specs.declared.op.Op.{Op}
+use Rattle.ld_op.specs.declared.op.Op.TheVariants as ops
+use Rattle.ld_op.specs.Plain.{log_of}
+use Rattle.ld_op.specs.Ticks.{Ticked, Cleans, Rebuilt, Asks, Nothing, on_tick, node_asks}
+use Rattle.ld_op.specs.Handles.{answer_message}
+use Rattle.ld_machine.specs.Config.{spec_in, set_of, has_log, has_node}
+use Rattle.ld_machine.specs.Disk.{Node, Kept, Written, DiskFailed, Crashed, JournalFull, new_node, is_up, is_blank, is_down, is_failed, keep_op, keep_end, load, load_end}
+use Rattle.ld_machine.specs.State.{State, Done, Stepped, sent_state, start, new_nodes, finish, unchanged, only_state, with_line, node_at, with_node, with_register, with_sequencer, with_reader, sequencer_of, reader_of}
+use Rattle.ld_machine.specs.Step as Step
+use Rattle.ld_machine.specs.Step.{happens, delivers}
+use Rattle.ld_machine.specs.Run.{flows, step, state_after}
+use Rattle.ld_bounds.specs.Nodes.{IsNodeState, IsNodeAt}
+use Rattle.ld_bounds.specs.Sequencers.{IsAppend, IsSequencer, IsNamedSequencer}
+use Rattle.ld_bounds.specs.Readers.{IsReader, IsNamedReader}
+use Rattle.ld_bounds.specs.Sound.{IsEvent, AreMessages, IsSound, IsDoneSoundly}
+use Rattle.ld_bounds.proofs.Alls.{all_if, all-append, all-slice_get, all_weaker, all-put, all-put_named, all-find_named}
+use Rattle.ld_bounds.proofs.Numbers.{epoch_numbered, esn_numbered}
+use Rattle.ld_bounds.proofs.Configs.{members_nodes, log_nodes, log_is, node_is, served_log, served_node}
+use Rattle.ld_bounds.proofs.NodeOps.{IsKept, log_state}
+use Rattle.ld_bounds.proofs.NodeAnswers.{MayKeep, MayAnswer, handled_is, answers_sent}
+use Rattle.ld_bounds.proofs.NodeStates.{new_is, node_there, released_is, releases_is, keep_is, load_is, stopped_is, fault_is}
+use Rattle.ld_bounds.proofs.RegisterChanges.{Follows, follows_same, follows_self, activate_follows, Handed, activate_hands, generation_is, draw_follows, closed_summary}
+use Rattle.ld_bounds.proofs.Posts.{posts_sent, choice_nodes}
+use Rattle.ld_bounds.proofs.Rows.{numbered_end, length_end}
+use Rattle.ld_bounds.proofs.SequencerSends.{append_sent, trims_sent, released_bound}
+use Rattle.ld_bounds.proofs.SequencerActs.{IsActs, first_recovery, first_asks, reply_is, retry_is, grown, dropped_is, called_is, acted_sent}
+use Rattle.ld_bounds.proofs.Asks.{from_node, polled_is, poll_sent, answer_is, opened_is}
+use Rattle.ld_bounds.proofs.Places.{distinct-put, length-there, length-put, places-there, places-new, reader_found, number_found, reader_named, sequencer_found, epoch_found}
+use Rattle.ld_bounds.proofs.Ticking.{IsTicked, ticked_is, asks_sent, epochs_told}
+
+-- ---- messages are sent ----
+
+all_sent : (w : Network) (ms : List Msg) → AreMessages w.sent → AreMessages ms → AreMessages (send_all w ms).sent
+all_sent w [] a b = a
+all_sent w (m ∷ ms) a b = all_sent (send w m) ms (b.0, a) b.1
+
+message_by : (b : Bool) (w : Network) (i : ℕ) (m : Msg) → AreMessages w.sent → cond b (slice_get w.sent (w.count - 1 - i)) None ≡ Some m → IsMessage m
+message_by true w i m a h = all-slice_get IsMessage w.sent (w.count - 1 - i) m a h
+message_by false w i m a h = absurd cc
+
+pub message_in : (w : Network) (i : ℕ) (m : Msg) → AreMessages w.sent → message w i ≡ Some m → IsMessage m
+unfolding message
+message_in w i m a h = message_by (nat_lt i w.count) w i m a h
+
+module _ (c : Config) where
+  pub sent_is : (s : State) (ms : List Msg) → IsSound c s → AreMessages ms → IsSound c (sent_state s ms)
+  sent_is s ms S a = record { messages = all_sent s.network ms S.messages a; nodes = S.nodes; register = S.register; sequencers = S.sequencers; readers = S.readers; reader_names = S.reader_names; reader_places = S.reader_places; few_readers = S.few_readers }
+
+  pub finish_is : (d : Done) → IsDoneSoundly c d → IsSound c (finish d).state
+  unfolding finish
+  finish_is d D = sent_is d.state d.sends D.state D.sends
+
+  -- ---- parts of a state ----
+  module _ (s : State) (S : IsSound c s) where
+    quietly : IsDoneSoundly c (unchanged s)
+    quietly = record { state = S; sends = tt }
+
+    saying : (x : Line) → IsDoneSoundly c (with_line s x)
+    saying x = record { state = S; sends = tt }
+
+    either : (b : Bool) (d e : Done) → (b ≡ true → IsDoneSoundly c d) → (b ≡ false → IsDoneSoundly c e) → IsDoneSoundly c (cond b d e)
+    either b d e f g = cond_both b d e (IsDoneSoundly c) f g
+
+    pub node_is_sound : (n : ℕ) → IsNodeState (node_at s n)
+    node_is_sound n = node_there s.nodes n S.nodes
+
+    node_put : (n : ℕ) (x : Node) → IsNode n → IsNodeState x → IsSound c (with_node s n x)
+    node_put n x h i = record { messages = S.messages; nodes = all-put IsNodeAt n x s.nodes (record { node = h; state = i }) S.nodes; register = S.register; sequencers = S.sequencers; readers = S.readers; reader_names = S.reader_names; reader_places = S.reader_places; few_readers = S.few_readers }
+
+    pub marked_is : (i : ℕ) → IsSound c (Step.marked s i)
+    marked_is i = record { messages = S.messages; nodes = S.nodes; register = S.register; sequencers = S.sequencers; readers = S.readers; reader_names = S.reader_names; reader_places = S.reader_places; few_readers = S.few_readers }
+
+    sequencers_grown : (r : Register) → Follows c s.register r → AllByRecursion (IsNamedSequencer c r) s.sequencers
+    sequencers_grown r F = all_weaker (IsNamedSequencer c s.register) (IsNamedSequencer c r) s.sequencers (λ q Q. grown c s.register r q.1 F.up Q) S.sequencers
+
+    register_put : (r : Register) → Follows c s.register r → IsSound c (with_register s r)
+    register_put r F = record { messages = S.messages; nodes = S.nodes; register = F.register; sequencers = sequencers_grown r F; readers = S.readers; reader_names = S.reader_names; reader_places = S.reader_places; few_readers = S.few_readers }
+
+    -- a sequencer, and the register with it
+    both_put : (name : List ℕ) (q : Sequencer) (r : Register) → Follows c s.register r → IsSequencer c r q → IsSound c (with_register (with_sequencer s name q) r)
+    both_put name q r F Q = record { messages = S.messages; nodes = S.nodes; register = F.register; sequencers = all-put_named (IsSequencer c r) name q s.sequencers Q (sequencers_grown r F); readers = S.readers; reader_names = S.reader_names; reader_places = S.reader_places; few_readers = S.few_readers }
+
+    sequencer_put : (name : List ℕ) (q : Sequencer) → IsSequencer c s.register q → IsSound c (with_sequencer s name q)
+    sequencer_put name q Q = record { messages = S.messages; nodes = S.nodes; register = S.register; sequencers = all-put_named (IsSequencer c s.register) name q s.sequencers Q S.sequencers; readers = S.readers; reader_names = S.reader_names; reader_places = S.reader_places; few_readers = S.few_readers }
+
+    -- a reader that is there
+    reader_put : (name : List ℕ) (d x : Reader) → find_named name s.readers ≡ Some d → x.number ≡ d.number → IsReader c x → IsSound c (with_reader s name x)
+    reader_put name d x h q X = let l = length-there name x d s.readers h in let few = S.few_readers in record {
+      messages = S.messages;
+      nodes = S.nodes;
+      register = S.register;
+      sequencers = S.sequencers;
+      readers = all-put_named (IsReader c) name x s.readers X S.readers;
+      reader_names = distinct-put name x s.readers S.reader_names;
+      reader_places = places-there 0 name x d s.readers q h S.reader_places;
+      few_readers = omega arith;
+    }
+
+    reader_new : (name : List ℕ) (x : Reader) → find_named name s.readers ≡ None → x.number ≡ length s.readers → length s.readers < Step.reader_limit → IsReader c x → IsSound c (with_reader s name x)
+    reader_new name x h q l X = let g = length-put name x s.readers in record {
+      messages = S.messages;
+      nodes = S.nodes;
+      register = S.register;
+      sequencers = S.sequencers;
+      readers = all-put_named (IsReader c) name x s.readers X S.readers;
+      reader_names = distinct-put name x s.readers S.reader_names;
+      reader_places = places-new 0 name x s.readers (omega arith) h S.reader_places;
+      few_readers = omega arith;
+    }
+
+    -- ---- nodes ----
+    written_only : (k : Kept) (ms : List Msg) → AreMessages ms → AreMessages (cond (Step.is_written k) ms [])
+    written_only k ms a = all_if IsMessage (Step.is_written k) ms a
+
+    keeps_is : (n : ℕ) (o : Op) (ls : List Line) (ms : List Msg) → IsNode n → IsKept o → AreMessages ms → IsDoneSoundly c (Step.keeps_op s n o ls ms)
+    keeps_is n o ls ms h k a = record { state = node_put n (keep_op (node_at s n) o) h (keep_is (node_at s n) (node_is_sound n) o k); sends = written_only (keep_end (node_at s n) o) ms a }
+
+    handles_is : (n : ℕ) (m : Msg) (o : Option Op) (b : Option Body) → IsNode n → IsLog m.log → MayKeep o → MayAnswer n m.from b → IsDoneSoundly c (Step.handles s n m o b)
+    handles_is n m None b h l k a = record { state = S; sends = answers_sent n m b l a }
+    handles_is n m (Some o) b h l k a = keeps_is n o [] (answer_message n m b) h k (answers_sent n m b l a)
+
+  module _ (B : IsInBounds c) where
+    up_node : (s : State) → IsSound c s → (n : ℕ) (m : Msg) → IsNode n → IsLog m.log → Fits m.from (whos.Node n) m.body → IsDoneSoundly c (Step.to_up_node s n m)
+    up_node s S n m h l f =
+        let x : Node = node_at s n in
+        let X = node_is_sound s S n in
+        let H = handled_is n h x.plain.generation X.plain.generation (log_of x.plain m.log) (log_state x.plain m.log X.plain) m.log l m.from (Step.released_at x m.log) (released_is x X m.log) m.body f in
+        handles_is (with_node s n (Step.releases x m.log m.body)) (node_put s S n (Step.releases x m.log m.body) h (releases_is x X m.log m.from (whos.Node n) m.body l f)) n m (Step.node_handles x m).op (Step.node_handles x m).answer h l H.op H.answer
+
+    module _ (s : State) (S : IsSound c s) where
+      to_node : (n : ℕ) (m : Msg) → IsLog m.log → Fits m.from (whos.Node n) m.body → IsDoneSoundly c (Step.to_node c s n m)
+      to_node n m l f = either s S (is_up (node_at s n).status && is_in n (set_of c m.log)) (Step.to_up_node s n m) (unchanged s)
+          (λ t. let p = (and_parts (is_up (node_at s n).status) (is_in n (set_of c m.log)) t).1 in up_node s S n m (served_node c B n m.log p) l f) (λ t. quietly s S)
+
+      -- ---- sequencers ----
+      acted_is : (name : List ℕ) (q : Sequencer) (a : Acts) → IsSequencer c s.register q → IsActs c s.register q a → IsDoneSoundly c (Step.acted c s name q a)
+      acted_is name q a Q A = let k = called_is c s.register S.register q (spec_in q.log c.logs) (log_nodes c B q.log) a a.tries A.tries A in record {
+        state = both_put s S name k_acts_sequencer k_register k.register k.acts.sequencer;
+        sends = posts_sent (whos.Sequencer q.epoch) q.log (acted_messages (spec_in q.log c.logs) q k_acts) (log_is c B q.log Q.log) (acted_sent c s.register S.register q (spec_in q.log c.logs) (log_nodes c B q.log) k_register k_acts Q.epoch k.acts);
+      } where
+        k_acts : Acts
+        k_acts = (called (spec_in q.log c.logs) s.register a a.tries).acts
+
+        k_acts_sequencer : Sequencer
+        k_acts_sequencer = (called (spec_in q.log c.logs) s.register a a.tries).acts.sequencer
+
+        k_register : Register
+        k_register = (called (spec_in q.log c.logs) s.register a a.tries).register
+
+      to_live : (name : List ℕ) (q : Sequencer) (m : Msg) → IsSequencer c s.register q → Fits m.from (whos.Sequencer q.epoch) m.body → IsDoneSoundly c (Step.to_live c s name q m)
+      to_live name q m Q f = either s S q.gone (unchanged s) (Step.acted c s name q (on_reply (spec_in q.log c.logs) q (Step.sender_node m.from) m.body)) (λ t. quietly s S)
+          (λ t. acted_is name q (on_reply (spec_in q.log c.logs) q (Step.sender_node m.from) m.body) Q (reply_is c s.register q (spec_in q.log c.logs) (log_nodes c B q.log) q Q refl refl m.from (Step.sender_node m.from) m.body f))
+
+      to_sequencer : (m : Msg) (e : ℕ) (o : Option (List ℕ × Sequencer)) → sequencer_of m.log e s.sequencers ≡ o → Fits m.from (whos.Sequencer e) m.body → IsDoneSoundly c (Step.to_sequencer c s m o)
+      to_sequencer m e None h f = quietly s S
+      to_sequencer m e (Some q) h f = to_live q.0 q.1 m (sequencer_found (IsSequencer c s.register) m.log e s.sequencers q S.sequencers h) (subst (λ k. Fits m.from (whos.Sequencer k) m.body) (sym (epoch_found m.log e s.sequencers q h)) f)
+
+      -- ---- readers ----
+      set_nodes : (d : Reader) → AllByRecursion IsNode (Step.set_read c d)
+      set_nodes d = log_nodes c B d.log
+
+      to_open : (name : List ℕ) (d : Reader) (m : Msg) → find_named name s.readers ≡ Some d → IsReader c d → Fits m.from (whos.Reader d.number) m.body → IsDoneSoundly c (Step.to_open c s name d m)
+      to_open name d m h D f = either s S (is_finished d) (unchanged s) (Step.read s name (on_answer (Step.set_read c d) d (Step.sender_node m.from) m.body)) (λ t. quietly s S)
+          (λ t. let z = from_node m.from d.number m.body f in
+          let a = answer_is c (Step.set_read c d) d (Step.sender_node m.from) m.body (set_nodes d) D z.node z.fits in
+          let x : Read = on_answer (Step.set_read c d) d (Step.sender_node m.from) m.body in
+          record { state = reader_put s S name d x.reader h a.number a.reader; sends = posts_sent (whos.Reader x.reader.number) x.reader.log x.asks (log_is c B x.reader.log a.reader.log) a.asks })
+
+      to_reader : (m : Msg) (r : ℕ) (o : Option (List ℕ × Reader)) → reader_of r s.readers ≡ o → Fits m.from (whos.Reader r) m.body → IsDoneSoundly c (Step.to_reader c s m o)
+      to_reader m r None h f = quietly s S
+      to_reader m r (Some d) h f = to_open d.0 d.1 m (reader_named r s.readers d S.reader_names h) (reader_found (IsNamedReader c) r s.readers d S.readers h) (subst (λ k. Fits m.from (whos.Reader k) m.body) (sym (number_found r s.readers d h)) f)
+
+      -- ---- deliveries ----
+      comes : (m : Msg) (w : Who) → IsLog m.log → Fits m.from w m.body → IsDoneSoundly c (Step.comes_to c s m w)
+      comes m (whos.Node n) l f = to_node n m l f
+      comes m (whos.Sequencer e) l f = to_sequencer m e (sequencer_of m.log e s.sequencers) refl f
+      comes m (whos.Reader r) l f = to_reader m r (reader_of r s.readers) refl f
+
+    message_is : (s : State) → IsSound c s → (i : ℕ) (m : Msg) → message s.network i ≡ Some m → IsMessage m
+    message_is s S i m h = message_in s.network i m S.messages h
+
+    delivered : (s : State) → IsSound c s → (i : ℕ) (o : Option Msg) → message s.network i ≡ o → IsDoneSoundly c (Step.delivers_it c s i o)
+    delivered s S i None h = quietly s S
+    delivered s S i (Some m) h = let M = message_is s S i m h in comes (Step.marked s i) (marked_is s S i) m m.to M.log M.fits
+
+    module _ (s : State) (S : IsSound c s) where
+      pub delivers_is : (i : ℕ) → IsDoneSoundly c (delivers c s i)
+      unfolding delivers
+      delivers_is i = delivered s S i (message s.network i) refl
+
+      -- ---- events of sequencers ----
+      live_by : (o : Option Sequencer) (f : Sequencer → Done) → ((q : Sequencer) → o ≡ Some q → IsSequencer c s.register q) → ((q : Sequencer) → IsSequencer c s.register q → IsDoneSoundly c (f q)) → IsDoneSoundly c (Step.on_live s o f)
+      live_by None f g h = quietly s S
+      live_by (Some q) f g h = either s S q.gone (unchanged s) (f q) (λ t. quietly s S) (λ t. h q (g q refl))
+
+      live : (name : List ℕ) (f : Sequencer → Done) → ((q : Sequencer) → IsSequencer c s.register q → IsDoneSoundly c (f q)) → IsDoneSoundly c (Step.live s name f)
+      live name f h = live_by (find_named name s.sequencers) f (λ q e. all-find_named (IsSequencer c s.register) name s.sequencers q S.sequencers e) h
+
+      -- how an append ends
+      abbrev IsAppending : Sequencer → List ℕ → Appending → Type 0
+      IsAppending q payload Numbered = (length payload ≤ payload_limit) × (next_esn q ≤ last_esn - 1)
+      IsAppending q payload _ = Unit {0}
+
+      preempted_or : (q : Sequencer) (payload : List ℕ) (p : Option ℕ) (o : Appending) → IsAppending q payload o → IsAppending q payload (or_preempted p o)
+      preempted_or q payload None o h = h
+      preempted_or q payload (Some k) o h = tt
+
+      appending_is : (q : Sequencer) (payload : List ℕ) → IsSequencer c s.register q → IsAppending q payload (appending q payload)
+      unfolding appending
+      appending_is q payload Q = let n = Q.numbers in cond_both (nat_lt payload_limit (length payload)) TooLong (or_preempted q.preempted (cond (next_esn q == last_esn) EpochFull (cond (nat_le window_limit (length q.appends)) WindowFull Numbered))) (IsAppending q payload)
+          (λ t. tt) (λ t. preempted_or q payload q.preempted (cond (next_esn q == last_esn) EpochFull (cond (nat_le window_limit (length q.appends)) WindowFull Numbered))
+          (cond_both (next_esn q == last_esn) EpochFull (cond (nat_le window_limit (length q.appends)) WindowFull Numbered) (IsAppending q payload) (λ u. tt)
+          (λ u. cond_both (nat_le window_limit (length q.appends)) WindowFull Numbered (IsAppending q payload) (λ v. tt) (λ v. (ltb-false payload_limit (length payload) t, (let z = eqb-false (next_esn q) last_esn u in omega arith))))))
+
+      append_now : (q : Sequencer) (payload : List ℕ) → length payload ≤ payload_limit → next_esn q ≤ last_esn - 1 → IsAppend q.epoch (numbered q.epoch (next_esn q), fresh_append payload)
+      append_now q payload p n = let z = esn_numbered q.epoch (next_esn q) (omega arith) in record { epoch_is = epoch_numbered q.epoch (next_esn q) (omega arith); from_one = omega arith; place = omega arith; short = p; wave = omega arith }
+
+      appended_is : (q : Sequencer) (payload : List ℕ) → length payload ≤ payload_limit → next_esn q ≤ last_esn - 1 → IsSequencer c s.register q → IsSequencer c s.register (appended q payload)
+      appended_is q payload p n Q = let l = length_end (numbered q.epoch (next_esn q), fresh_append payload) q.appends in record {
+        log = Q.log;
+        epoch = Q.epoch;
+        handed_out = Q.handed_out;
+        lce = Q.lce;
+        numbers = omega arith;
+        appends = all-append (IsAppend q.epoch) q.appends ((numbered q.epoch (next_esn q), fresh_append payload) ∷ []) Q.appends (append_now q payload p n, tt);
+        rows = numbered_end (numbered q.epoch (q.lng + 1)) (numbered q.epoch (next_esn q)) (fresh_append payload) q.appends (omega arith) Q.rows;
+        recovery = Q.recovery;
+        preempted = Q.preempted;
+      }
+
+      append_by : (name : List ℕ) (q : Sequencer) (payload : List ℕ) (o : Appending) → IsSequencer c s.register q → IsAppending q payload o → IsDoneSoundly c (Step.append_done c s name q payload o)
+      append_by name q payload TooLong Q h = saying s S _
+      append_by name q payload (Preempted k) Q h = saying s S _
+      append_by name q payload EpochFull Q h = saying s S _
+      append_by name q payload WindowFull Q h = saying s S _
+      append_by name q payload Numbered Q h = record {
+        state = sequencer_put s S name (appended q payload) (appended_is q payload h.0 h.1 Q);
+        sends = posts_sent (whos.Sequencer q.epoch) q.log (first_stores (spec_in q.log c.logs) q payload) (log_is c B q.log Q.log)
+            (append_sent q.epoch Q.epoch (numbered q.epoch (next_esn q), fresh_append payload) (choice (spec_in q.log c.logs) q.lost (numbered q.epoch (next_esn q)) 0) (append_now q payload h.0 h.1)
+            (choice_nodes (spec_in q.log c.logs) q.lost (numbered q.epoch (next_esn q)) 0 (log_nodes c B q.log)));
+      }
+
+      trim_by : (name : List ℕ) (q : Sequencer) (point : ℕ) → IsSequencer c s.register q → IsDoneSoundly c (Step.trim_done c s name q point)
+      trim_by name q point Q = let n = Q.numbers in either s S (nat_lt (released_of q) point) _ _ (λ t. saying s S _)
+          (λ t. let z = ltb-false (released_of q) point t in let b = released_bound q Q.epoch (omega arith) in
+          record { state = S; sends = posts_sent (whos.Sequencer q.epoch) q.log (to_each (bodies.Trim point) (set_of c q.log)) (log_is c B q.log Q.log) (trims_sent q.epoch Q.epoch point (set_of c q.log) (omega arith) (log_nodes c B q.log)) })
+
+      retry_by : (name : List ℕ) (q : Sequencer) → IsSequencer c s.register q → IsDoneSoundly c (Step.acted c s name q (on_retry (spec_in q.log c.logs) q))
+      retry_by name q Q = acted_is s S name q (on_retry (spec_in q.log c.logs) q) Q (retry_is c s.register q (spec_in q.log c.logs) (log_nodes c B q.log) q Q refl refl)
+
+      -- ---- activations ----
+      activated_is : (r : Register) (l e lce : ℕ) → has_log c l ≡ true → IsEpoch e → e ≤ (epochs_of r l).epoch → lce < e → IsSequencer c r (activated (spec_in l c.logs) l e lce)
+      unfolding activated
+      activated_is r l e lce h i u b = record { log = h; epoch = i; handed_out = u; lce = b; numbers = omega arith; appends = tt; rows = tt; recovery = first_recovery c r (bare l e lce) (spec_in l c.logs) (log_nodes c B l) (bare l e lce) lce; preempted = tt }
+
+      activated_asks : (r : Register) (l e lce : ℕ) → has_log c l ≡ true → IsEpoch e → AreMessages (posted (whos.Sequencer e) l (recovery_asks (spec_in l c.logs) (activated (spec_in l c.logs) l e lce) lce))
+      unfolding activated
+      activated_asks r l e lce h i = posts_sent (whos.Sequencer e) l (recovery_asks (spec_in l c.logs) (activated (spec_in l c.logs) l e lce) lce) (log_is c B l h) (first_asks c r (bare l e lce) (spec_in l c.logs) (log_nodes c B l) (activated (spec_in l c.logs) l e lce) lce i)
+
+      activated_by : (name : List ℕ) (l : ℕ) (r : Register) (o : Answer) → has_log c l ≡ true → Follows c s.register r → (o ≡ Granted → Handed c r l) → IsDoneSoundly c (Step.activates_by c s name l r o)
+      activated_by name l r Granted h F g = let k = g refl in record {
+        state = both_put s S name (activated (spec_in l c.logs) l (epochs_of r l).epoch (lce_of r l)) r F (activated_is r l (epochs_of r l).epoch (lce_of r l) h k.epoch (omega arith) k.lce);
+        sends = activated_asks r l (epochs_of r l).epoch (lce_of r l) h k.epoch;
+      }
+      activated_by name l r AtLimit h F g = record { state = register_put s S r F; sends = tt }
+      activated_by name l r (Behind lce) h F g = quietly s S
+      activated_by name l r Fails h F g = record { state = register_put s S r F; sends = tt }
+
+      activates_is : (name : List ℕ) (l : ℕ) → has_log c l ≡ true → IsDoneSoundly c (Step.activates c s name l (activate s.register l))
+      activates_is name l h = activated_by name l (activate s.register l).register (activate s.register l).answer h (activate_follows c s.register l S.register h) (λ e. activate_hands c s.register l S.register e)
+
+      -- ---- events of readers ----
+      none_of : {X : Type 0} (o : Option X) → not (is_some o) ≡ true → o ≡ None
+      none_of None h = refl
+      none_of (Some x) h = absurd cc
+
+      opens_is : (name : List ℕ) (l from until : ℕ) → has_log c l ≡ true → find_named name s.readers ≡ None → Is64 until → IsDoneSoundly c (Step.opens s name l from until)
+      opens_is name l from until h f u = either s S ((from == 0) || nat_lt until from) _ _ (λ t. saying s S _)
+          (λ t. either s S (nat_le Step.reader_limit (length s.readers)) _ _ (λ k. saying s S _)
+          (λ k. let p = or_parts (from == 0) (nat_lt until from) t in let z = eqb-false from 0 p.0 in let o = ltb-false until from p.1 in let b = leb-false Step.reader_limit (length s.readers) k in
+          record { state = reader_new s S name (opened l (length s.readers) from until) f refl b (opened_is c l (length s.readers) from until h (omega arith) (omega arith) o u); sends = tt }))
+
+      polls_is : (name : List ℕ) (o : Option Reader) → find_named name s.readers ≡ o → IsDoneSoundly c (Step.polls c s name o)
+      polls_is name None h = quietly s S
+      polls_is name (Some d) h = let D = all-find_named (IsReader c) name s.readers d S.readers h in either s S (is_finished d) _ _ (λ t. quietly s S)
+          (λ t. record { state = reader_put s S name d (polled d) h refl (polled_is c d D); sends = posts_sent (whos.Reader d.number) d.log (poll_asks (Step.set_read c d) d) (log_is c B d.log D.log) (poll_sent c (Step.set_read c d) d (set_nodes s S d) (ltb-false d.until d.next t) D) })
+
+      -- ---- events of nodes ----
+      where_node : (n : ℕ) (b : Bool) (d : Done) → (IsNode n → IsDoneSoundly c d) → IsDoneSoundly c (Step.where_node c s n b d)
+      where_node n b d f = either s S (has_node c n && b) d (unchanged s) (λ t. f (node_is c B n (and_parts (has_node c n) b t).0)) (λ t. quietly s S)
+
+      node_done : (n : ℕ) (x : Node) (ls : List Line) → IsNode n → IsNodeState x → IsDoneSoundly c (record { state = with_node s n x; lines = ls; sends = [] })
+      node_done n x ls h i = record { state = node_put s S n x h i; sends = tt }
+
+      formats_by : (n : ℕ) (r : Register) (o : Answer) → IsNode n → Follows c s.register r → IsDoneSoundly c (Step.formats_by c s n r o)
+      formats_by n r Granted h F = keeps_is (with_register s r) (register_put s S r F) n (ops.Format (generation_of r n) (epochs_in r.logs)) (Step.format_lines c n r) [] h (generation_is c r n F.register, epochs_told c B r.logs F.register.logs) tt
+      formats_by n r AtLimit h F = saying s S _
+      formats_by n r (Behind lce) h F = quietly s S
+      formats_by n r Fails h F = record { state = register_put s S r F; sends = tt }
+
+      formats_loaded : (n : ℕ) (k : Kept) → IsNode n → IsDoneSoundly c (Step.formats_loaded c s n k)
+      formats_loaded n Written h = formats_by n (draw s.register n).register (draw s.register n).answer h (draw_follows c s.register n S.register h)
+      formats_loaded n DiskFailed h = saying s S _
+      formats_loaded n Crashed h = saying s S _
+      formats_loaded n JournalFull h = quietly s S
+
+      ticks_by : (n l : ℕ) (t : Ticked) → IsNode n → IsLog l → IsTicked (log_of (node_at s n).plain l) (log_state (node_at s n).plain l (node_is_sound s S n).plain) t → IsDoneSoundly c (Step.ticks_as c s n l t)
+      ticks_by n l (Cleans epoch y) h i k = keeps_is s S n (ops.Clean l epoch y) [] [] h (i, k.0, k.1) tt
+      ticks_by n l Rebuilt h i k = keeps_is s S n (ops.Refilled l) _ [] h i tt
+      ticks_by n l (Asks from) h i k = record { state = S; sends = posts_sent (whos.Node n) l (node_asks n (set_of c l) from) i (asks_sent n from (set_of c l) h k.0 k.1 (log_nodes c B l)) }
+      ticks_by n l Nothing h i k = quietly s S
+
+      ticks_is : (n l : ℕ) → IsNode n → IsDoneSoundly c (Step.ticks c s n l)
+      ticks_is n l h = let x : Node = node_at s n in either s S (is_up (node_at s n).status && is_in n (set_of c l)) _ _
+          (λ t. let p = (and_parts (is_up (node_at s n).status) (is_in n (set_of c l)) t).1 in
+          ticks_by n l (on_tick (log_of x.plain l) (epochs_of s.register l).summaries) h (log_is c B l (served_log c B n l p))
+          (ticked_is (log_of x.plain l) (log_state x.plain l (node_is_sound s S n).plain) (epochs_of s.register l).summaries (λ e y f. closed_summary c s.register l e y S.register f)))
+          (λ t. quietly s S)
+
+    formats_is : (s : State) → IsSound c s → (n : ℕ) → IsNode n → IsDoneSoundly c (Step.formats c s n)
+    formats_is s S n h = formats_loaded (with_node s n (load (node_at s n))) (node_put s S n (load (node_at s n)) h (load_is (node_at s n) (node_is_sound s S n))) n (load_end (node_at s n)) h
+
+    -- ---- all events ----
+    pub happens_is : (s : State) (e : Event) → IsEvent e → IsSound c s → IsDoneSoundly c (happens c s e)
+    unfolding happens
+    happens_is s (events.Format n) i S = where_node s S n (is_blank (node_at s n).status) (Step.formats c s n) (λ h. formats_is s S n h)
+    happens_is s (events.Activate name l) i S = either s S (has_log c l && not (is_some (find_named name s.sequencers))) _ _ (λ t. activates_is s S name l (and_parts (has_log c l) _ t).0) (λ t. quietly s S)
+    happens_is s (events.Append name payload) i S = live s S name (λ q. Step.append_done c s name q payload (appending q payload)) (λ q Q. append_by s S name q payload (appending q payload) Q (appending_is s S q payload Q))
+    happens_is s (events.Trim name point) i S = live s S name (λ q. Step.trim_done c s name q point) (λ q Q. trim_by s S name q point Q)
+    happens_is s (events.Retry name) i S = live s S name (λ q. Step.acted c s name q (on_retry (spec_in q.log c.logs) q)) (λ q Q. retry_by s S name q Q)
+    happens_is s (events.Drop name) i S = live s S name (λ q. only_state (with_sequencer s name (Step.dropped q))) (λ q Q. record { state = sequencer_put s S name (Step.dropped q) (dropped_is c s.register q Q); sends = tt })
+    happens_is s (events.Deliver k) i S = delivers_is s S k
+    happens_is s (events.Lose k) i S = record { state = marked_is s S k; sends = tt }
+    happens_is s (events.Flow k) i S = quietly s S
+    happens_is s (events.Open name l from until) i S = either s S (has_log c l && not (is_some (find_named name s.readers))) _ _
+        (λ t. let p = and_parts (has_log c l) (not (is_some (find_named name s.readers))) t in opens_is s S name l from until p.0 (none_of s S (find_named name s.readers) p.1) i) (λ t. quietly s S)
+    happens_is s (events.Poll name) i S = polls_is s S name (find_named name s.readers) refl
+    happens_is s (events.Tick n l) i S = where_node s S n true (Step.ticks c s n l) (λ h. ticks_is s S n l h)
+    happens_is s (events.Down n) i S = where_node s S n (is_up (node_at s n).status || is_failed (node_at s n).status) _ (λ h. node_done s S n (Step.stopped (node_at s n)) _ h (stopped_is (node_at s n) (node_is_sound s S n)))
+    happens_is s (events.Up n) i S = where_node s S n (is_down (node_at s n).status) (Step.comes_up s n) (λ h. node_done s S n (load (node_at s n)) _ h (load_is (node_at s n) (node_is_sound s S n)))
+    happens_is s (events.Wipe n) i S = where_node s S n true _ (λ h. node_done s S n new_node _ h new_is)
+    happens_is s (events.Fail n k) i S = where_node s S n true _ (λ h. node_done s S n (Step.with_fault (node_at s n) (record { left = k; crash = None })) [] h (fault_is (node_at s n) (node_is_sound s S n) (record { left = k; crash = None })))
+    happens_is s (events.Tear n k picture) i S = where_node s S n true _ (λ h. node_done s S n (Step.with_fault (node_at s n) (record { left = k; crash = Some picture })) [] h (fault_is (node_at s n) (node_is_sound s S n) (record { left = k; crash = Some picture })))
+    happens_is s (events.RegFail k done) i S = record { state = register_put s S (Step.armed s.register k done) (follows_same c s.register s.register (Step.armed s.register k done) (refl, refl) (follows_self c s.register S.register)); sends = tt }
+
+    -- ---- steps and runs ----
+    pub delivery_is : (s : State) (i : ℕ) → IsSound c s → IsSound c (finish (delivers c s i)).state
+    delivery_is s i S = finish_is (delivers c s i) (delivers_is s S i)
+
+    flowing : ℕ → State → Option ℕ → Stepped
+    flowing k s o = elim o as (λ _. Stepped) [
+      | None ↦ record { state = s; lines = [] }
+      | Some i ↦ (let r : Stepped = finish (delivers c s i) in let rest : Stepped = flows k c r.state in record { state = rest.state; lines = r.lines ++ rest.lines })
+    ]
+
+    flowing_is : (k : ℕ) (s : State) (o : Option ℕ) → IsSound c s → ((t : State) → IsSound c t → IsSound c (flows k c t).state) → IsSound c (flowing k s o).state
+    unfolding flowing
+    flowing_is k s None S f = S
+    flowing_is k s (Some i) S f = f (finish (delivers c s i)).state (delivery_is s i S)
+
+    flows_is : (k : ℕ) (s : State) → IsSound c s → IsSound c (flows k c s).state
+    unfolding flowing
+    flows_is zero s S = S
+    flows_is (suc k) s S = flowing_is k s (oldest_new s.network) S (λ t T. flows_is k t T)
+
+    one_is : (s : State) (e : Event) → IsEvent e → IsSound c s → IsSound c (finish (happens c s e)).state
+    one_is s e i S = finish_is (happens c s e) (happens_is s e i S)
+
+    pub step_is : (s : State) (e : Event) → IsEvent e → IsSound c s → IsSound c (step c s e).state
+    unfolding step
+    step_is s (events.Flow k) i S = flows_is k s S
+    step_is s (events.Format n) i S = one_is s (events.Format n) i S
+    step_is s (events.Activate name l) i S = one_is s (events.Activate name l) i S
+    step_is s (events.Append name payload) i S = one_is s (events.Append name payload) i S
+    step_is s (events.Trim name point) i S = one_is s (events.Trim name point) i S
+    step_is s (events.Retry name) i S = one_is s (events.Retry name) i S
+    step_is s (events.Drop name) i S = one_is s (events.Drop name) i S
+    step_is s (events.Deliver k) i S = one_is s (events.Deliver k) i S
+    step_is s (events.Lose k) i S = one_is s (events.Lose k) i S
+    step_is s (events.Open name l from until) i S = one_is s (events.Open name l from until) i S
+    step_is s (events.Poll name) i S = one_is s (events.Poll name) i S
+    step_is s (events.Tick n l) i S = one_is s (events.Tick n l) i S
+    step_is s (events.Down n) i S = one_is s (events.Down n) i S
+    step_is s (events.Up n) i S = one_is s (events.Up n) i S
+    step_is s (events.Wipe n) i S = one_is s (events.Wipe n) i S
+    step_is s (events.Fail n k) i S = one_is s (events.Fail n k) i S
+    step_is s (events.Tear n k picture) i S = one_is s (events.Tear n k picture) i S
+    step_is s (events.RegFail k done) i S = one_is s (events.RegFail k done) i S
+
+    -- ---- the start ----
+    new_nodes_are : (ns : List ℕ) → AllByRecursion IsNode ns → AllByRecursion IsNodeAt (new_nodes ns)
+    new_nodes_are [] a = tt
+    new_nodes_are (n ∷ ns) a = (record { node = a.0; state = new_is }, new_nodes_are ns a.1)
+
+    nothing_ordered : Ordered {X = Epochs} []
+    unfolding IsStrictlySortedBy
+    nothing_ordered = tt
+
+    nobody_twice : Distinct {X = Reader} []
+    unfolding IsDistinct
+    nobody_twice = tt
+
+    pub start_is : IsSound c (start c)
+    start_is = record {
+      messages = tt;
+      nodes = new_nodes_are (members c.nodes) (members_nodes c.nodes B.nodes);
+      register = record { rise = nothing_ordered; logs = tt; generations = tt };
+      sequencers = tt;
+      readers = tt;
+      reader_names = nobody_twice;
+      reader_places = tt;
+      few_readers = omega arith;
+    }
+
+    pub run_is : (s : State) (es : List Event) → AllByRecursion IsEvent es → IsSound c s → IsSound c (state_after c s es)
+    unfolding state_after
+    run_is s [] a S = S
+    run_is s (e ∷ es) a S = run_is (step c s e).state es a.1 (step_is s e a.0 S)

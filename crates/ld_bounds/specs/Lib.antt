@@ -1,0 +1,5 @@
+pub mod Nodes
+pub mod Registers
+pub mod Sequencers
+pub mod Readers
+pub mod Sound
