@@ -27,7 +27,7 @@ change_made k n next b h = rw (le-ltb journal_limit (n + record_length b) h) ref
 
 -- ---- an activation ----
 
-activated_by : (r : Register) (l : ℕ) (ch : Changed) (full : Bool) → is_crowded r l ≡ false → activate r l ≡ ch → is_full r 9 ≡ full
+pub activated_by : (r : Register) (l : ℕ) (ch : Changed) (full : Bool) → is_crowded r l ≡ false → activate r l ≡ ch → is_full r 9 ≡ full
     → (ended ch.answer full faults.EpochLimit (record { epoch = (epochs_of ch.register l).epoch; lce = lce_of r l }) ≡ activated r l) × (after_activate r l ≡ ch.register)
 activated_by r l ch full c a f =
     let after : after_activate r l ≡ ch.register = ap (λ b. if b then r else (activate r l).register) c ∙ ap (λ x. x.register) a in
@@ -64,7 +64,7 @@ made_activate k n l e c h f is =
 
 -- ---- a close ----
 
-closed_by : (r : Register) (l e : ℕ) (y : Summary) (ch : Changed) (full : Bool) → is_crowded r l ≡ false → close r l e y ≡ ch → is_full r 29 ≡ full
+pub closed_by : (r : Register) (l e : ℕ) (y : Summary) (ch : Changed) (full : Bool) → is_crowded r l ≡ false → close r l e y ≡ ch → is_full r 29 ≡ full
     → (ended ch.answer full faults.EpochLimit (tt {0}) ≡ closed r l e y) × (after_close r l e y ≡ ch.register)
 closed_by r l e y ch full c a f = (
   sym (ap (λ b. if b then Err faults.LogLimit else ended (close r l e y).answer (is_full r 29) faults.EpochLimit tt) c
@@ -94,7 +94,7 @@ made_close k n l e y c h f = let r = register_of k n in closed_by r l e y (to (c
 
 -- ---- a draw ----
 
-drawn_by : (r : Register) (a : ℕ) (ch : Changed) (full : Bool) → draw r a ≡ ch → is_full r 6 ≡ full
+pub drawn_by : (r : Register) (a : ℕ) (ch : Changed) (full : Bool) → draw r a ≡ ch → is_full r 6 ≡ full
     → (ended ch.answer full faults.GenLimit (record { gen_ = generation_of ch.register a; epochs = epochs_in ch.register.logs }) ≡ drawn r a) × (after_draw r a ≡ ch.register)
 drawn_by r a ch full d f = (
   sym (ap (λ x. ended x.answer (is_full r 6) faults.GenLimit (record { gen_ = generation_of x.register a; epochs = epochs_in x.register.logs })) d

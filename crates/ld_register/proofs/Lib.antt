@@ -2,9 +2,10 @@ pub mod Bytes
 pub mod Logs
 pub mod Tables
 pub mod Leading
-pub mod Faulty
+pub mod Refusing
 pub mod Committing
 pub mod Meeting
 pub mod Answering
+pub mod Arming
 pub mod Growing
 pub mod Few

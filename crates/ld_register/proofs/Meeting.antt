@@ -3,7 +3,7 @@ use Rattle.std.proofs.Common.{◌≡◌, ◌≤◌, ◌<◌, ◌+◌, ◌^◌, �
 use Rattle.std.specs.Result.{IsErrOf}
 use Rattle.ld_io.specs.Causes.{Rose}
 use Rattle.ld_disk.specs.Moments.{LeavesOnly}
-use Rattle.ld_disk.specs.Plain.{Plain}
+use Rattle.ld_disk.specs.Plain.{Plain, new_disk}
 use Rattle.ld_disk.specs.declared.disk.Disk.{Ghosts}
 use Rattle.ld_journal.specs.Format.{framed, records, IsJournal}
 use Rattle.ld_journal.specs.Open.{place_of}
@@ -17,7 +17,7 @@ use Rattle.ld_register.specs.declared.register.View.{View}
 use Rattle.ld_register.specs.Calls.{IsFree, Keeps, ChangedOrNot}
 use Rattle.ld_register.specs.Changes.{changed, body_length, Leads, IsNext}
 use Rattle.ld_register.specs.Stands.{StandsFor, IsDamaged, IsForeign}
-use Rattle.ld_register.specs.Held.{IsQuiet, owned, is_loaded, Replays, ReadsAs, Holds, Tells, MayHold, Foretells, Loads, IsReady, IsNotReady, Commits, IsMade, IsRefused, LeftBy, Meets}
+use Rattle.ld_register.specs.Held.{IsQuiet, owned, is_loaded, Replays, ReadsAs, Holds, Tells, MayHold, Foretells, Loads, IsReady, IsNotReady, Commits, IsMade, IsRefused, IsDue, LeftBy, Meets, granting}
 use Rattle.ld_register.proofs.Leading.{leads_one, leads_length, leads_armed}
 use Rattle.ld_register.proofs.Committing.{leaves_map, on_err}
 
@@ -354,6 +354,44 @@ module _ {D : Type 0} {g : Ghosts D} where
         damaged = λ place f. absurd (let e = same_fault faults.NoMemory (faults.Damaged place) (sym is ∙ f) in cc e);
         counts = l.counts;
       }
+
+empty_stands : StandsFor (0 ∷ []) empty_register
+empty_stands = record { bodies = []; journal = record { gate = 0; after = []; bytes_are = refl; shut = λ e. absurd (cc e); fits = λ n x h. absurd (omega arith) }; leads = refl }
+
+module _ {D : Type 0} {g : Ghosts D} where
+  pub meets_as : {T : Type 0} (old new : DiskRegister D g) (e : RegisterFault) (r : Result T RegisterFault) (answer : Register → Result T RegisterFault) (after : Register → Register) → r ≡ failure T e → Meets old new (failure T e) answer after → Meets old new r answer after
+  meets_as old new e r answer after is m = subst (λ r. Meets old new r answer after) (sym is) m
+
+  pub loads_granted : {T : Type 0} (old mid : DiskRegister D g) (done : Result (Unit {0}) RegisterFault) (given : T) → Loads old mid done → Loads old mid (granting given)
+  loads_granted old mid done given l = record { moments = l.moments; counts = l.counts; honest = l.honest; quiet = l.quiet; steady = λ p is q f. absurd (cc f) }
+
+  as_done : {T : Type 0} {old mid : DiskRegister D g} {given : T} → Loads old mid (granting given) → Loads old mid (granting (tt {0}))
+  as_done l = record { moments = l.moments; counts = l.counts; honest = l.honest; quiet = l.quiet; steady = λ p is q f. absurd (cc f) }
+
+  -- the change that was due is made
+  pub meets_due : {T : Type 0} (counts : (disk : D) (t : ℕ) (c : List ℕ) → t ≤ g.moment disk → g.may_leave disk c → g.left_since disk t c) (image : (disk : D) (bytes : List ℕ) → g.seen disk ≡ Some bytes → g.may_leave disk bytes) (old mid new : DiskRegister D g) (x : Change) (made : Result (Unit {0}) RegisterFault) (given : T) (answer : Register → Result T RegisterFault) (after : Register → Register)
+      → IsDue old mid x given answer after → Commits mid new x made → IsMade mid new x → Meets old new (granting given) answer after
+  meets_due {T = T} counts image old mid new x made given answer after d k a = meets_made counts image old mid new x (granting (tt {0})) made (granting given) answer after (as_done d.loads) d.ready k a (λ f. absurd (cc f)) (λ p f. absurd (cc f)) (λ A. tt) (λ c m fit. d.answers c m)
+
+  -- the change that was due failed, or there was no memory for it
+  pub meets_undone : {T : Type 0} (counts : (disk : D) (t : ℕ) (c : List ℕ) → t ≤ g.moment disk → g.may_leave disk c → g.left_since disk t c) (image : (disk : D) (bytes : List ℕ) → g.seen disk ≡ Some bytes → g.may_leave disk bytes) (old mid new : DiskRegister D g) (x : Change) (given : T) (e : RegisterFault) (r : Result T RegisterFault) (answer : Register → Result T RegisterFault) (after : Register → Register)
+      → r ≡ failure T e → IsDue old mid x given answer after → Commits mid new x (failure (Unit {0}) e) → IsRefused mid new x (failure (Unit {0}) e) → Meets old new r answer after
+  meets_undone counts image old mid new x given e r answer after is d k n = meets_refused counts image old mid new x (granting (tt {0})) e r answer after is (as_done d.loads) d.ready k n (λ c m big. absurd (let f = d.fits in omega arith)) (λ c m fit. (d.answers c m).1)
+
+  -- the change that was due is not made
+  pub meets_unmade : {T : Type 0} (counts : (disk : D) (t : ℕ) (c : List ℕ) → t ≤ g.moment disk → g.may_leave disk c → g.left_since disk t c) (image : (disk : D) (bytes : List ℕ) → g.seen disk ≡ Some bytes → g.may_leave disk bytes) (old mid : DiskRegister D g) (x : Change) (given : T) (answer : Register → Result T RegisterFault) (after : Register → Register)
+      → IsDue old mid x given answer after → Meets old mid (granting given) answer (λ c. c)
+  meets_unmade counts image old mid x given answer after d = meets_answered counts image old mid (granting (tt {0})) (granting given) answer (λ c. c) (as_done d.loads) d.ready (λ f. absurd (cc f)) (λ p f. absurd (cc f)) (λ c m. ((d.answers c m).0, refl))
+
+  -- a new disk in memory stands for nothing
+  pub foretells_empty : (seen_is : (disk : D) (p : Plain) → g.plain disk ≡ Some p → g.seen disk ≡ Some p.state.bytes) (r : DiskRegister D g) → is_loaded r ≡ false → g.plain (owned r) ≡ Some new_disk → Foretells r empty_register
+  foretells_empty seen_is r unloaded is = record {
+    holds = holds_unloaded r empty_register (record { bytes = 0 ∷ []; seen_is = seen_is (owned r) new_disk is; stands = empty_stands }) unloaded;
+    unarmed = refl;
+    told = new_disk;
+    plain_is = is;
+    quiet = record { stands = refl; told = refl };
+  }
 
 pub look_keeps : {T : Type 0} (r : Result T RegisterFault) (e : RegisterFault) (K : Type 0) → r ≡ failure T e → IsErrOf r faults.Failed ⊎ OnErr r K → IsErrOf r faults.Failed ⊎ K
 look_keeps r e K is (inl f) = inl f

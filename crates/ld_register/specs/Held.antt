@@ -1,5 +1,5 @@
 -- What a register on a disk holds, and what its calls do.
-use Rattle.std.specs.Prelude.{◌≡◌, ◌⊎◌, ◌≤◌, ◌<◌, ◌+◌, ◌^◌, ◌==◌, ℕ, Bool, true, false, List, Option, None, Some, IfSome, IsSome, IsErrOf, OnErr, IsErr}
+use Rattle.std.specs.Prelude.{◌≡◌, ◌⊎◌, ◌≤◌, ◌<◌, ◌+◌, ◌^◌, ◌==◌, ℕ, Bool, true, false, List, Option, None, Some, IfSome, IsSome, Ok, IsErrOf, OnErr, IsErr}
 use Rattle.std.proofs.Common.{subst, sym, refl}
 use Rattle.std.specs.declared.result.Result.{Result}
 use Rattle.ld_io.specs.Causes.{Rose}
@@ -16,7 +16,8 @@ use Rattle.ld_register.specs.declared.fault.RegisterFault.TheVariants as faults
 use Rattle.ld_register.specs.declared.disk.DiskRegister.{DiskRegister}
 use Rattle.ld_register.specs.declared.change.Change.{Change}
 use Rattle.ld_register.specs.Calls.{IsFree, Keeps, ChangedOrNot, unarmed}
-use Rattle.ld_register.specs.Changes.{changed, body_length}
+use Rattle.ld_register.specs.Changes.{changed, body_length, is_next, IsChange}
+use Rattle.ld_register.specs.Kept.{register_of}
 use Rattle.ld_register.specs.Stands.{StandsFor, IsDamaged, IsReplayed}
 
 -- no writing call is told to fail, and the disk stands
@@ -29,6 +30,9 @@ never_falls (Some (disk_faults.FailReadAt k)) = false
 pub record IsQuiet (p : Plain) : Type 0 where
   pub stands : p.crashed ≡ false
   pub told : never_falls p.armed ≡ true
+
+abbrev pub granting : {T : Type 0} → T → Result T RegisterFault
+granting given = Ok given
 
 module _ {D : Type 0} {g : Ghosts D} where
   abbrev pub owned : DiskRegister D g → D
@@ -134,6 +138,15 @@ module _ {D : Type 0} {g : Ghosts D} where
     pub failed : IsErrOf result faults.Failed → Rose (g.faults (owned old)) (g.faults (owned new))
     pub damaged : (place : ℕ) → IsErrOf result (faults.Damaged place) → IsBroken old place
     pub counts : g.faults (owned old) ≤ g.faults (owned new)
+
+  -- a call has loaded the register, and this change is the one that it is to make, for which its journal has room
+  pub record IsDue {T : Type 0} (old mid : DiskRegister D g) (x : Change) (given : T) (answer : Register → Result T RegisterFault) (after : Register → Register) : Type 0 where
+    pub loads : Loads old mid (granting given)
+    pub ready : IsReady old mid
+    pub is : IsChange x
+    pub next : is_next (register_of mid.contents 0) x ≡ true
+    pub fits : place_of mid.journal + body_length x + 6 ≤ 2 ^ 40
+    pub answers : (c : Register) → Replays mid c → (granting given ≡ answer c) × (after c ≡ changed c x)
 
   -- ---- the laws of a register ----
 

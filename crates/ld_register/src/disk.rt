@@ -13,6 +13,18 @@ use ld_journal::{Journal, JournalFault};
 use ld_msg::Summary;
 use std::alloc::Global;
 
+/// The greatest length of a register's journal, in bytes.
+const JOURNAL_LIMIT: u64 = 1 << 40;
+
+/// The length of the body of an activation's record, in bytes.
+const ACTIVATION_LENGTH: u64 = 9;
+
+/// The length of the body of a close's record, in bytes.
+const CLOSE_LENGTH: u64 = 29;
+
+/// The length of the body of a draw's record, in bytes.
+const DRAW_LENGTH: u64 = 6;
+
 /// A register and the disk that its changes are kept on. It is loaded by the first call, and again by the next call
 /// after one that answered `Failed` or `Damaged`. While it is loaded, a look answers, and needs neither disk nor
 /// memory. `Failed` comes only where the disk's count of failed calls rose.
@@ -26,18 +38,26 @@ pub struct DiskRegister<D: Disk> {
 }
 
 impl<D: Disk> DiskRegister<D> {
-    ghost use Rattle.std.specs.Prelude.{◌⊎◌, ◌<◌, ◌+◌, ◌^◌, ℕ, OnOk, OnErr, IsOk};
+    ghost use Rattle.std.specs.Prelude.{◌≢◌, ◌⊎◌, ◌≤◌, ◌<◌, ◌+◌, ◌-◌, ◌^◌, ℕ, Some, Err, IfOk, IsErrOf, OnOk, OnErr, IsOk};
     ghost use Rattle.std.specs.Option.{option_map};
     ghost use Rattle.ld_disk.specs.Moments.{Unchanged};
-    ghost use Rattle.ld_disk.specs.Plain.{armed_with};
+    ghost use Rattle.ld_disk.specs.Plain.{armed_with, new_disk};
+    ghost use Rattle.ld_journal.specs.Open.{place_of};
+    ghost use Rattle.ld_msg.specs.Bounds.{IsEpoch, IsSummary};
+    ghost use Rattle.ld_msg.specs.Register.{empty_register};
+    ghost use Rattle.ld_msg.specs.declared.msg.Summary.{Summary as Closing};
+    ghost use Rattle.ld_op.specs.Bounds.{IsOp};
+    ghost use Rattle.ld_op.specs.declared.op.Op.TheVariants.{Format};
+    ghost use Rattle.ld_register.specs.Calls.{activated, after_activate, closed, after_close, drawn, after_draw};
     ghost use Rattle.ld_register.specs.Changes.{IsChange, is_next};
     ghost use Rattle.ld_register.specs.Kept.{register_of};
-    ghost use Rattle.ld_register.specs.Held.{owned, is_loaded, Loads, IsReady, IsNotReady, Commits, IsMade, IsRefused};
+    ghost use Rattle.ld_register.specs.Held.{owned, is_loaded, Foretells, Loads, IsReady, IsNotReady, Commits, IsMade, IsRefused, IsDue, Meets};
 
-    /// The register on a disk. Its first call loads it.
+    /// The register on a disk. Its first call loads it. On a new disk in memory it holds nothing.
     pub fn new(alloc: Global, disk: D) -> DiskRegister<D>
         ensures disk { owned result ≡ disk }
         ensures loads { is_loaded result ≡ false }
+        ensures empty { D.plain disk ≡ Some new_disk → Foretells result empty_register }
     {
         DiskRegister {
             journal: Journal::shut(disk),
@@ -78,6 +98,99 @@ impl<D: Disk> DiskRegister<D> {
         replay(alloc, &mut self.journal, &mut self.contents)?;
         self.loaded = true;
         Ok(())
+    }
+
+    /// Whether a record with a body of this length would make the journal too long, once it is loaded.
+    fn is_full(&self, body: u64) -> bool
+        requires { body < 2 ^ 32 }
+        ensures full { result ≡ true → 2 ^ 40 < place_of self.now.journal + body + 6 }
+        ensures fits { result ≡ false → place_of self.now.journal + body + 6 ≤ 2 ^ 40 }
+    {
+        let place = self.journal.place();
+        place > JOURNAL_LIMIT || body + 6 > JOURNAL_LIMIT - place
+    }
+
+    /// What an activation would hand out, or why it would be refused. It loads the register, and changes nothing.
+    pub(crate) fn check_activate(
+        &mut self,
+        alloc: Global,
+        log: LogId,
+    ) -> Result<Grant, RegisterFault>
+        ensures due { IfOk result (λ grant. IsDue self.old self.new (Change.Activate log grant.epoch) grant (λ c. activated c log) (λ c. after_activate c log)) }
+        ensures refused { OnErr result (Meets self.old self.new result (λ c. activated c log) (λ c. after_activate c log)) }
+        ensures bounds { IfOk result (λ grant. IsEpoch grant.epoch × (grant.lce ≤ 2 ^ 32 - 2)) }
+        ensures behind { (lce : ℕ) → result ≢ Err (RegisterFault.Behind lce) }
+        ensures generations { result ≢ Err RegisterFault.GenLimit }
+    {
+        self.ready(alloc)?;
+        if self.contents.is_crowded(log) {
+            return Err(RegisterFault::LogLimit);
+        }
+        let before = self.contents.epoch(log);
+        let lce = self.contents.lce(log);
+        if GREATEST_EPOCH <= before {
+            return Err(RegisterFault::EpochLimit);
+        }
+        if self.is_full(ACTIVATION_LENGTH) {
+            return Err(RegisterFault::Full);
+        }
+        let _ = log.number();
+        let epoch = before + 1;
+        Ok(Grant { epoch, lce })
+    }
+
+    /// Whether a close would be taken, or why it would be refused. It loads the register, and changes nothing.
+    pub(crate) fn check_close(
+        &mut self,
+        alloc: Global,
+        log: LogId,
+        epoch: u32,
+    ) -> Result<(), RegisterFault>
+        ensures due { (y : Closing) → IsSummary epoch y → IfOk result (λ given. IsDue self.old self.new (Change.Close log epoch y) given (λ c. closed c log epoch y) (λ c. after_close c log epoch y)) }
+        ensures refused { (y : Closing) → OnErr result (Meets self.old self.new result (λ c. closed c log epoch y) (λ c. after_close c log epoch y)) }
+        ensures bounds { (lce : ℕ) → IsErrOf result (RegisterFault.Behind lce) → lce ≤ 2 ^ 32 - 2 }
+        ensures epochs { result ≢ Err RegisterFault.EpochLimit }
+        ensures generations { result ≢ Err RegisterFault.GenLimit }
+    {
+        self.ready(alloc)?;
+        if self.contents.is_crowded(log) {
+            return Err(RegisterFault::LogLimit);
+        }
+        let lce = self.contents.lce(log);
+        if lce + 1 != epoch {
+            return Err(RegisterFault::Behind(lce));
+        }
+        if self.is_full(CLOSE_LENGTH) {
+            return Err(RegisterFault::Full);
+        }
+        let _ = log.number();
+        Ok(())
+    }
+
+    /// What a draw would hand out, or why it would be refused. It loads the register, and changes nothing.
+    pub(crate) fn check_draw(&mut self, alloc: Global, node: NodeId) -> Result<Drawn, RegisterFault>
+        ensures due { IfOk result (λ handed. IsDue self.old self.new (Change.Draw node handed.gen_) handed (λ c. drawn c node) (λ c. after_draw c node)) }
+        ensures refused { OnErr result (Meets self.old self.new result (λ c. drawn c node) (λ c. after_draw c node)) }
+        ensures bounds { IfOk result (λ handed. IsOp (Format handed.gen_ handed.epochs)) }
+        ensures logs { result ≢ Err RegisterFault.LogLimit }
+        ensures behind { (lce : ℕ) → result ≢ Err (RegisterFault.Behind lce) }
+        ensures epochs { result ≢ Err RegisterFault.EpochLimit }
+    {
+        self.ready(alloc)?;
+        let before = self.contents.generation(node);
+        if before == u32::MAX {
+            return Err(RegisterFault::GenLimit);
+        }
+        if self.is_full(DRAW_LENGTH) {
+            return Err(RegisterFault::Full);
+        }
+        let epochs = self.contents.active(alloc)?;
+        let _ = node.number();
+        let generation = before + 1;
+        Ok(Drawn {
+            gen_: generation,
+            epochs,
+        })
     }
 
     /// Makes a change that is the next one, once it is loaded: it is durable before it is made in memory.
@@ -142,18 +255,10 @@ impl<D: Disk> Register for DiskRegister<D> {
         ensures behind { (lce : ℕ) → result ≢ Err (RegisterFault.Behind lce) }
         ensures generations { result ≢ Err RegisterFault.GenLimit }
     {
-        self.ready(alloc)?;
-        if self.contents.is_crowded(log) {
-            return Err(RegisterFault::LogLimit);
-        }
-        let before = self.contents.epoch(log);
-        let lce = self.contents.lce(log);
-        if GREATEST_EPOCH <= before {
-            return Err(RegisterFault::EpochLimit);
-        }
-        let epoch = before + 1;
+        let grant = self.check_activate(alloc, log)?;
+        let epoch = grant.epoch;
         self.commit(alloc, &Change::Activate { log, epoch })?;
-        Ok(Grant { epoch, lce })
+        Ok(grant)
     }
 
     fn close(
@@ -170,15 +275,7 @@ impl<D: Disk> Register for DiskRegister<D> {
         ensures epochs { result ≢ Err RegisterFault.EpochLimit }
         ensures generations { result ≢ Err RegisterFault.GenLimit }
     {
-        self.ready(alloc)?;
-        if self.contents.is_crowded(log) {
-            return Err(RegisterFault::LogLimit);
-        }
-        let lce = self.contents.lce(log);
-        if lce + 1 != epoch {
-            return Err(RegisterFault::Behind(lce));
-        }
-        let _ = log.number();
+        self.check_close(alloc, log, epoch)?;
         let summary = *summary;
         self.commit(
             alloc,
@@ -199,18 +296,10 @@ impl<D: Disk> Register for DiskRegister<D> {
         ensures behind { (lce : ℕ) → result ≢ Err (RegisterFault.Behind lce) }
         ensures epochs { result ≢ Err RegisterFault.EpochLimit }
     {
-        self.ready(alloc)?;
-        let before = self.contents.generation(node);
-        if before == u32::MAX {
-            return Err(RegisterFault::GenLimit);
-        }
-        let epochs = self.contents.active(alloc)?;
-        let generation = before + 1;
+        let handed = self.check_draw(alloc, node)?;
+        let generation = handed.gen_;
         self.commit(alloc, &Change::Draw { node, generation })?;
-        Ok(Drawn {
-            gen_: generation,
-            epochs,
-        })
+        Ok(handed)
     }
 
     fn look(&mut self, alloc: Global, log: LogId, e: u32) -> Result<View, RegisterFault>

@@ -1,16 +1,22 @@
 // What holds of a register's answers over any list of calls.
 ghost use Rattle.std.specs.Prelude.{◌≡◌, ◌≤◌, ◌<◌, ◌⊎◌, ◌++◌, ◌∷◌, [], ℕ, List, Ok, Some};
 ghost use Rattle.std.specs.declared.result.Result.{Result as Outcome};
+ghost use Rattle.ld_disk.specs.Plain.{Plain};
 ghost use Rattle.ld_msg.specs.declared.msg.Summary.{Summary};
 ghost use Rattle.ld_msg.specs.Register.{Register as Contents, lce_of, epochs_of, generation_of, summary_shown};
 ghost use Rattle.ld_register.specs.declared.fault.RegisterFault.{RegisterFault};
+ghost use Rattle.ld_register.specs.declared.faulty.FaultyRegister.{FaultyRegister};
 ghost use Rattle.ld_register.specs.declared.register.Grant.{Grant};
 ghost use Rattle.ld_register.specs.declared.register.Drawn.{Drawn};
 ghost use Rattle.ld_register.specs.declared.register.View.{View};
-ghost use Rattle.ld_register.specs.Calls.{IsFree, ChangedOrNot};
+ghost use Rattle.ld_register.specs.Calls.{IsFree, ChangedOrNot, unarmed};
+ghost use Rattle.ld_register.specs.Stands.{StandsFor};
+ghost use Rattle.ld_register.specs.Held.{Holds};
+ghost use Rattle.ld_register.specs.Arming.{kept_in, disk_in, Foresees};
 ghost use Rattle.ld_register.specs.Histories.{Call, Activates, Closes, Draws, Looks, Ends, Passes, Runs};
 
 use crate::Register;
+use ld_disk::Disk;
 
 /// Of two activations of a log that answered, the later one got a greater epoch, whatever calls failed.
 pub fn epochs_rise()
@@ -65,4 +71,12 @@ pub fn calls_are_steps<R: Register, T>()
 pub fn steps_make_lists()
     ensures none { (c : Contents) → Runs c [] c }
     ensures more { (c b d : Contents) (calls : List Call) (call : Call) → Runs c calls b → Passes b call d → Runs c (calls ++ call ∷ []) d }
+{}
+
+/// The bytes of the disk of a register are a journal of changes that lead to what it holds, and to what it tells but
+/// for the armed fault.
+pub fn bytes_lead_to_contents<D: Disk>()
+    ensures holds { (r : FaultyRegister D D.Disk) (c : Contents) (bytes : List ℕ) → Holds (kept_in r) c → D.seen (disk_in r) ≡ Some bytes → StandsFor bytes c }
+    ensures tells { (r : FaultyRegister D D.Disk) (c : Contents) (bytes : List ℕ) → Foresees r c → D.seen (disk_in r) ≡ Some bytes → StandsFor bytes (unarmed c) }
+    ensures plain { (r : FaultyRegister D D.Disk) (c : Contents) (p : Plain) → Foresees r c → D.plain (disk_in r) ≡ Some p → StandsFor p.state.bytes (unarmed c) }
 {}

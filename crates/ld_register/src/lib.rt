@@ -5,6 +5,7 @@ mod change;
 mod contents;
 mod disk;
 mod fault;
+mod faulty;
 mod laws;
 mod log;
 mod register;
@@ -12,11 +13,14 @@ mod replay;
 
 pub use disk::DiskRegister;
 pub use fault::RegisterFault;
+pub use faulty::FaultyRegister;
 pub use laws::{
-    calls_are_steps, closes_are_shown, epochs_rise, generations_rise, looks_agree, nothing_falls,
-    steps_make_lists, summaries_stay,
+    bytes_lead_to_contents, calls_are_steps, closes_are_shown, epochs_rise, generations_rise,
+    looks_agree, nothing_falls, steps_make_lists, summaries_stay,
 };
 pub use register::{Drawn, Grant, Register, View};
 
+#[cfg(test)]
+mod faulty_tests;
 #[cfg(test)]
 mod tests;

@@ -23,21 +23,21 @@ fn again(alloc: Global, register: DiskRegister<MemDisk>) -> DiskRegister<MemDisk
     DiskRegister::new(alloc, disk)
 }
 
-fn first_log() -> Result<LogId, RegisterFault> {
+pub(crate) fn first_log() -> Result<LogId, RegisterFault> {
     match LogId::new(1) {
         Some(log) => Ok(log),
         None => Err(RegisterFault::NoMemory),
     }
 }
 
-fn first_node() -> Result<NodeId, RegisterFault> {
+pub(crate) fn first_node() -> Result<NodeId, RegisterFault> {
     match NodeId::new(1) {
         Some(node) => Ok(node),
         None => Err(RegisterFault::NoMemory),
     }
 }
 
-fn first_summary() -> Summary
+pub(crate) fn first_summary() -> Summary
     ensures { IsSummary 1 result }
 {
     Summary {

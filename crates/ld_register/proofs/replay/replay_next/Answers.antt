@@ -3,7 +3,7 @@ use Rattle.ld_register.specs.Stands.{IsDamaged}
 use Rattle.ld_register.specs.Faults.{passed_on}
 use Rattle.ld_register.specs.declared.fault.RegisterFault.TheVariants as registers
 use Rattle.ld_register.proofs.Leading.{one_more, foreign, cut_off}
-use Rattle.ld_register.proofs.Faulty.{of_damaged, err_is, same_place, no_place}
+use Rattle.ld_register.proofs.Refusing.{of_damaged, err_is, same_place, no_place}
 use Rattle.ld_register.specs.Changes.{IsNext}
 use Rattle.ld_register.proofs.replay.replay_next.Goals as goal
 

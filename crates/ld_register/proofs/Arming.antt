@@ -1,0 +1,321 @@
+-- What an armed fault makes of a call.
+use Rattle.std.proofs.Common.{◌≡◌, ◌≤◌, ◌<◌, ◌+◌, ◌-◌, ◌^◌, ◌==◌, ◌⊎◌, inl, inr, ℕ, Bool, true, false, not, ◌||◌, min, Option, Some, None, List, Result, Ok, Err, OnOk, OnErr, IfOk, refl, ap, sym, ◌∙◌, subst, arith, if◌then◌else◌}
+use Rattle.std.specs.Prelude.{nat_le, nat_lt}
+use Rattle.std.specs.Result.{IsErrOf}
+use Rattle.ld_io.specs.Causes.{Rose}
+use Rattle.ld_table.specs.Table.{put}
+use Rattle.ld_disk.specs.declared.disk.Disk.{Ghosts}
+use Rattle.ld_msg.specs.declared.msg.Summary.{Summary}
+use Rattle.ld_msg.specs.Register.{Register, Armed, Changed, Answer, Granted, AtLimit, Behind, Fails, epochs_of, generation_of, lce_of, epoch_limit, generation_limit, journal_limit, record_length, falls, armed_after, is_made, made, unmade, change, activate, close, draw, next_epoch, closed_epochs, with_epochs, is_crowded, epochs_in}
+use Rattle.ld_register.specs.declared.fault.RegisterFault.{RegisterFault}
+use Rattle.ld_register.specs.declared.fault.RegisterFault.TheVariants as faults
+use Rattle.ld_register.specs.declared.disk.DiskRegister.{DiskRegister}
+use Rattle.ld_register.specs.declared.faulty.FaultyRegister.{FaultyRegister}
+use Rattle.ld_register.specs.declared.change.Change.{Change}
+use Rattle.ld_register.specs.declared.register.Drawn.{Drawn}
+use Rattle.ld_register.specs.declared.register.Grant.{Grant}
+use Rattle.ld_register.specs.Calls.{IsFree, ended, is_full, activated, after_activate, closed, after_close, drawn, after_draw, unarmed}
+use Rattle.ld_register.specs.Held.{owned, MayHold, Foretells, IsDue, Meets, granting}
+use Rattle.ld_register.specs.Arming.{kept_in, disk_in, armed_of, own_faults, faults_in, Foresees, MeetsArmed}
+use Rattle.ld_register.proofs.Committing.{on_err}
+use Rattle.ld_register.proofs.Meeting.{failure, meets_unmade}
+use Rattle.ld_register.proofs.Answering.{to, activated_by, crowded_activate, closed_by, crowded_close, drawn_by}
+
+-- ---- a call, by what it answers with no fault armed ----
+
+abbrev pub with_armed : Register → Option Armed → Register
+with_armed r a = record r { armed = a }
+
+pub record Arms {T : Type 0} (answer : Register → Result T RegisterFault) (after : Register → Register) : Type 0 where
+  pub refused : (c : Register) (e : RegisterFault) → failure T e ≡ answer (unarmed c) → (failure T e ≡ answer c) × (after c ≡ c)
+  pub granted : (c : Register) (x : T) → granting x ≡ answer (unarmed c) → ((if falls c.armed then failure T faults.Failed else granting x) ≡ answer c) × (after c ≡ with_armed (if is_made c.armed then after (unarmed c) else c) (armed_after c.armed))
+
+pub not_falling : (a : Option Armed) → falls a ≡ false → is_made a ≡ true
+not_falling None h = refl
+not_falling (Some a) h = ap (λ b. not b || a.done) h
+
+ended_by : {T : Type 0} (f m : Bool) (limit : RegisterFault) (given : Register → T) (u v : Register) (x : T) → (f ≡ false → m ≡ true) → granting x ≡ granting (given u)
+    → (if f then failure T faults.Failed else granting x) ≡ ended (if f then Fails else Granted) false limit (given (if m then u else v))
+ended_by true m limit given u v x n h = refl
+ended_by false true limit given u v x n h = h
+ended_by false false limit given u v x n h = absurd (let q = n refl in cc q)
+
+made_by : (c next : Register) (b : ℕ) (m : Bool) → is_made c.armed ≡ m → (if m then made c next b else unmade c) ≡ with_armed (if m then record next { length = c.length + record_length b; armed = None } else c) (armed_after c.armed)
+made_by c next b true h = ap (λ v. record next { length = if v then c.length + record_length b else c.length; armed = armed_after c.armed }) h
+made_by c next b false h = refl
+
+arms_grant : {T : Type 0} (c : Register) (x : T) (next : Register) (b : ℕ) (limit : RegisterFault) (given : Register → T) (answer : Result T RegisterFault) (after unarmed_after : Register)
+    → ended (if falls c.armed then Fails else Granted) false limit (given (if is_made c.armed then made c next b else unmade c)) ≡ answer
+    → after ≡ (if is_made c.armed then made c next b else unmade c)
+    → granting x ≡ granting (given (made c next b))
+    → record next { length = c.length + record_length b; armed = None } ≡ unarmed_after
+    → ((if falls c.armed then failure T faults.Failed else granting x) ≡ answer) × (after ≡ with_armed (if is_made c.armed then unarmed_after else c) (armed_after c.armed))
+arms_grant c x next b limit given answer after unarmed_after s t h n = (
+  ended_by (falls c.armed) (is_made c.armed) limit given (made c next b) (unmade c) x (not_falling c.armed) h ∙ s,
+  (t ∙ made_by c next b (is_made c.armed) refl) ∙ ap (λ n. with_armed (if is_made c.armed then n else c) (armed_after c.armed)) n,
+)
+
+not_granted : {T : Type 0} (e : RegisterFault) (x : T) → failure T e ≡ granting x → ⊥
+not_granted e x h = absurd (cc h)
+
+-- ---- a change ----
+
+abbrev outcome : Register → Register → ℕ → Bool → Changed
+outcome r next b full = record {
+  register = if full then r else if is_made r.armed then made r next b else unmade r;
+  answer = if full || falls r.armed then Fails else Granted;
+}
+
+changes_by : (r next : Register) (b : ℕ) (full : Bool) → is_full r b ≡ full → change r next b ≡ outcome r next b full
+unfolding change
+changes_by r next b full h = ap (outcome r next b) h
+
+-- ---- an activation ----
+
+abbrev activation : Register → ℕ → Register
+activation r l = with_epochs r l (next_epoch (epochs_of r l))
+
+activate_at : (r : Register) (l : ℕ) (b : Bool) → nat_le epoch_limit (epochs_of r l).epoch ≡ b → activate r l ≡ (if b then to r AtLimit else change r (activation r l) 9)
+unfolding activate
+activate_at r l b h = ap (λ b. if b then to r AtLimit else change r (activation r l) 9) h
+
+ends_activate : (r : Register) (l : ℕ) (full : Bool) → is_crowded r l ≡ false → nat_le epoch_limit (epochs_of r l).epoch ≡ false → is_full r 9 ≡ full
+    → (ended (outcome r (activation r l) 9 full).answer full faults.EpochLimit (record { epoch = (epochs_of (outcome r (activation r l) 9 full).register l).epoch; lce = lce_of r l }) ≡ activated r l) × (after_activate r l ≡ (outcome r (activation r l) 9 full).register)
+ends_activate r l full c h f = activated_by r l (outcome r (activation r l) 9 full) full c (activate_at r l false h ∙ changes_by r (activation r l) 9 full f) f
+
+refused_activate : (c : Register) (l : ℕ) (e : RegisterFault) (crowded limit full : Bool) → is_crowded c l ≡ crowded → nat_le epoch_limit (epochs_of c l).epoch ≡ limit → is_full c 9 ≡ full
+    → failure Grant e ≡ activated (unarmed c) l → (failure Grant e ≡ activated c l) × (after_activate c l ≡ c)
+refused_activate c l e true limit full a b d h = let s = crowded_activate c l a in let t = crowded_activate (unarmed c) l a in ((h ∙ sym t.0) ∙ s.0, s.1)
+refused_activate c l e false true full a b d h = let s = activated_by c l (to c AtLimit) full a (activate_at c l true b) d in let t = activated_by (unarmed c) l (to (unarmed c) AtLimit) full a (activate_at (unarmed c) l true b) d in ((h ∙ sym t.0) ∙ s.0, s.1)
+refused_activate c l e false false true a b d h = let s = ends_activate c l true a b d in let t = ends_activate (unarmed c) l true a b d in ((h ∙ sym t.0) ∙ s.0, s.1)
+refused_activate c l e false false false a b d h = let t = ends_activate (unarmed c) l false a b d in absurd (not_granted e _ (h ∙ sym t.0))
+
+granted_activate : (c : Register) (l : ℕ) (x : Grant) (crowded limit full : Bool) → is_crowded c l ≡ crowded → nat_le epoch_limit (epochs_of c l).epoch ≡ limit → is_full c 9 ≡ full
+    → granting x ≡ activated (unarmed c) l → ((if falls c.armed then failure Grant faults.Failed else granting x) ≡ activated c l) × (after_activate c l ≡ with_armed (if is_made c.armed then after_activate (unarmed c) l else c) (armed_after c.armed))
+granted_activate c l x true limit full a b d h = let t = crowded_activate (unarmed c) l a in absurd (not_granted faults.LogLimit x (sym (h ∙ sym t.0)))
+granted_activate c l x false true full a b d h = let t = activated_by (unarmed c) l (to (unarmed c) AtLimit) full a (activate_at (unarmed c) l true b) d in absurd (not_granted faults.EpochLimit x (sym (h ∙ sym t.0)))
+granted_activate c l x false false true a b d h = let t = ends_activate (unarmed c) l true a b d in absurd (not_granted faults.Full x (sym (h ∙ sym t.0)))
+granted_activate c l x false false false a b d h = let s = ends_activate c l false a b d in let t = ends_activate (unarmed c) l false a b d in
+    arms_grant c x (activation c l) 9 faults.EpochLimit (λ r. record { epoch = (epochs_of r l).epoch; lce = lce_of c l }) (activated c l) (after_activate c l) (after_activate (unarmed c) l) s.0 s.1 (h ∙ sym t.0) (sym t.1)
+
+pub arms_activate : (l : ℕ) → Arms (λ c. activated c l) (λ c. after_activate c l)
+arms_activate l = record {
+  refused = λ c e h. refused_activate c l e (is_crowded c l) (nat_le epoch_limit (epochs_of c l).epoch) (is_full c 9) refl refl refl h;
+  granted = λ c x h. granted_activate c l x (is_crowded c l) (nat_le epoch_limit (epochs_of c l).epoch) (is_full c 9) refl refl refl h;
+}
+
+-- ---- a close ----
+
+abbrev closing : Register → ℕ → ℕ → Summary → Register
+closing r l e y = with_epochs r l (closed_epochs (epochs_of r l) e y)
+
+close_at : (r : Register) (l e : ℕ) (y : Summary) (b : Bool) → (lce_of r l + 1 == e) ≡ b → close r l e y ≡ (if b then change r (closing r l e y) 29 else to r (Behind (lce_of r l)))
+unfolding close
+close_at r l e y b h = ap (λ b. if b then change r (closing r l e y) 29 else to r (Behind (lce_of r l))) h
+
+ends_close : (r : Register) (l e : ℕ) (y : Summary) (full : Bool) → is_crowded r l ≡ false → (lce_of r l + 1 == e) ≡ true → is_full r 29 ≡ full
+    → (ended (outcome r (closing r l e y) 29 full).answer full faults.EpochLimit (tt {0}) ≡ closed r l e y) × (after_close r l e y ≡ (outcome r (closing r l e y) 29 full).register)
+ends_close r l e y full c h f = closed_by r l e y (outcome r (closing r l e y) 29 full) full c (close_at r l e y true h ∙ changes_by r (closing r l e y) 29 full f) f
+
+refused_close : (c : Register) (l k : ℕ) (y : Summary) (e : RegisterFault) (crowded next full : Bool) → is_crowded c l ≡ crowded → (lce_of c l + 1 == k) ≡ next → is_full c 29 ≡ full
+    → failure (Unit {0}) e ≡ closed (unarmed c) l k y → (failure (Unit {0}) e ≡ closed c l k y) × (after_close c l k y ≡ c)
+refused_close c l k y e true next full a b d h = let s = crowded_close c l k y a in let t = crowded_close (unarmed c) l k y a in ((h ∙ sym t.0) ∙ s.0, s.1)
+refused_close c l k y e false false full a b d h = let s = closed_by c l k y (to c (Behind (lce_of c l))) full a (close_at c l k y false b) d in let t = closed_by (unarmed c) l k y (to (unarmed c) (Behind (lce_of c l))) full a (close_at (unarmed c) l k y false b) d in ((h ∙ sym t.0) ∙ s.0, s.1)
+refused_close c l k y e false true true a b d h = let s = ends_close c l k y true a b d in let t = ends_close (unarmed c) l k y true a b d in ((h ∙ sym t.0) ∙ s.0, s.1)
+refused_close c l k y e false true false a b d h = let t = ends_close (unarmed c) l k y false a b d in absurd (not_granted e _ (h ∙ sym t.0))
+
+granted_close : (c : Register) (l k : ℕ) (y : Summary) (x : Unit {0}) (crowded next full : Bool) → is_crowded c l ≡ crowded → (lce_of c l + 1 == k) ≡ next → is_full c 29 ≡ full
+    → granting x ≡ closed (unarmed c) l k y → ((if falls c.armed then failure (Unit {0}) faults.Failed else granting x) ≡ closed c l k y) × (after_close c l k y ≡ with_armed (if is_made c.armed then after_close (unarmed c) l k y else c) (armed_after c.armed))
+granted_close c l k y x true next full a b d h = let t = crowded_close (unarmed c) l k y a in absurd (not_granted faults.LogLimit x (sym (h ∙ sym t.0)))
+granted_close c l k y x false false full a b d h = let t = closed_by (unarmed c) l k y (to (unarmed c) (Behind (lce_of c l))) full a (close_at (unarmed c) l k y false b) d in absurd (not_granted (faults.Behind (lce_of c l)) x (sym (h ∙ sym t.0)))
+granted_close c l k y x false true true a b d h = let t = ends_close (unarmed c) l k y true a b d in absurd (not_granted faults.Full x (sym (h ∙ sym t.0)))
+granted_close c l k y x false true false a b d h = let s = ends_close c l k y false a b d in let t = ends_close (unarmed c) l k y false a b d in
+    arms_grant c x (closing c l k y) 29 faults.EpochLimit (λ r. tt {0}) (closed c l k y) (after_close c l k y) (after_close (unarmed c) l k y) s.0 s.1 (h ∙ sym t.0) (sym t.1)
+
+pub arms_close : (l e : ℕ) (y : Summary) → Arms (λ c. closed c l e y) (λ c. after_close c l e y)
+arms_close l k y = record {
+  refused = λ c e h. refused_close c l k y e (is_crowded c l) (lce_of c l + 1 == k) (is_full c 29) refl refl refl h;
+  granted = λ c x h. granted_close c l k y x (is_crowded c l) (lce_of c l + 1 == k) (is_full c 29) refl refl refl h;
+}
+
+-- ---- a draw ----
+
+abbrev drawing : Register → ℕ → Register
+drawing r n = record r { generations = put n (generation_of r n + 1) r.generations }
+
+draw_at : (r : Register) (n : ℕ) (b : Bool) → nat_le generation_limit (generation_of r n) ≡ b → draw r n ≡ (if b then to r AtLimit else change r (drawing r n) 6)
+unfolding draw
+draw_at r n b h = ap (λ b. if b then to r AtLimit else change r (drawing r n) 6) h
+
+abbrev handing : ℕ → Register → Drawn
+handing n r = record { gen_ = generation_of r n; epochs = epochs_in r.logs }
+
+ends_draw : (r : Register) (n : ℕ) (full : Bool) → nat_le generation_limit (generation_of r n) ≡ false → is_full r 6 ≡ full
+    → (ended (outcome r (drawing r n) 6 full).answer full faults.GenLimit (handing n (outcome r (drawing r n) 6 full).register) ≡ drawn r n) × (after_draw r n ≡ (outcome r (drawing r n) 6 full).register)
+ends_draw r n full h f = drawn_by r n (outcome r (drawing r n) 6 full) full (draw_at r n false h ∙ changes_by r (drawing r n) 6 full f) f
+
+refused_draw : (c : Register) (n : ℕ) (e : RegisterFault) (limit full : Bool) → nat_le generation_limit (generation_of c n) ≡ limit → is_full c 6 ≡ full
+    → failure Drawn e ≡ drawn (unarmed c) n → (failure Drawn e ≡ drawn c n) × (after_draw c n ≡ c)
+refused_draw c n e true full b d h = let s = drawn_by c n (to c AtLimit) full (draw_at c n true b) d in let t = drawn_by (unarmed c) n (to (unarmed c) AtLimit) full (draw_at (unarmed c) n true b) d in ((h ∙ sym t.0) ∙ s.0, s.1)
+refused_draw c n e false true b d h = let s = ends_draw c n true b d in let t = ends_draw (unarmed c) n true b d in ((h ∙ sym t.0) ∙ s.0, s.1)
+refused_draw c n e false false b d h = let t = ends_draw (unarmed c) n false b d in absurd (not_granted e _ (h ∙ sym t.0))
+
+granted_draw : (c : Register) (n : ℕ) (x : Drawn) (limit full : Bool) → nat_le generation_limit (generation_of c n) ≡ limit → is_full c 6 ≡ full
+    → granting x ≡ drawn (unarmed c) n → ((if falls c.armed then failure Drawn faults.Failed else granting x) ≡ drawn c n) × (after_draw c n ≡ with_armed (if is_made c.armed then after_draw (unarmed c) n else c) (armed_after c.armed))
+granted_draw c n x true full b d h = let t = drawn_by (unarmed c) n (to (unarmed c) AtLimit) full (draw_at (unarmed c) n true b) d in absurd (not_granted faults.GenLimit x (sym (h ∙ sym t.0)))
+granted_draw c n x false true b d h = let t = ends_draw (unarmed c) n true b d in absurd (not_granted faults.Full x (sym (h ∙ sym t.0)))
+granted_draw c n x false false b d h = let s = ends_draw c n false b d in let t = ends_draw (unarmed c) n false b d in
+    arms_grant c x (drawing c n) 6 faults.GenLimit (handing n) (drawn c n) (after_draw c n) (after_draw (unarmed c) n) s.0 s.1 (h ∙ sym t.0) (sym t.1)
+
+pub arms_draw : (n : ℕ) → Arms (λ c. drawn c n) (λ c. after_draw c n)
+arms_draw n = record {
+  refused = λ c e h. refused_draw c n e (nat_le generation_limit (generation_of c n)) (is_full c 6) refl refl h;
+  granted = λ c x h. granted_draw c n x (nat_le generation_limit (generation_of c n)) (is_full c 6) refl refl h;
+}
+
+-- ---- what a call owes that is made, or only checked ----
+
+pub not_made : (p b : Bool) → p ≡ not b → p ≡ true → b ≡ false
+not_made p true h t = absurd (let q = sym h ∙ t in cc q)
+not_made p false h t = refl
+
+pub is_done : (p b : Bool) → p ≡ not b → p ≡ false → b ≡ true
+is_done p true h t = refl
+is_done p false h t = absurd (let q = sym h ∙ t in cc q)
+
+module _ {D : Type 0} {g : Ghosts D} where
+  pub attempt_checked : {T : Type 0} (counts : (disk : D) (t : ℕ) (c : List ℕ) → t ≤ g.moment disk → g.may_leave disk c → g.left_since disk t c) (image : (disk : D) (bytes : List ℕ) → g.seen disk ≡ Some bytes → g.may_leave disk bytes) (old mid : DiskRegister D g) (x : T → Change) (made : Bool) (r : Result T RegisterFault) (answer : Register → Result T RegisterFault) (after : Register → Register)
+      → made ≡ false → IfOk r (λ given. IsDue old mid (x given) given answer after) → OnOk r (Meets old mid r answer (λ c. if made then after c else c))
+  attempt_checked counts image old mid x made (Ok given) answer after is d = subst (λ b. Meets old mid (granting given) answer (λ c. if b then after c else c)) (sym is) (meets_unmade counts image old mid (x given) given answer after d)
+  attempt_checked counts image old mid x made (Err e) answer after is d = tt
+
+  pub attempt_made : {T : Type 0} (old mid : DiskRegister D g) (made : Bool) (r : Result T RegisterFault) (answer : Register → Result T RegisterFault) (after : Register → Register)
+      → made ≡ true → Meets old mid r answer after → OnOk r (Meets old mid r answer (λ c. if made then after c else c))
+  attempt_made old mid made (Ok given) answer after is m = subst (λ b. Meets old mid (granting given) answer (λ c. if b then after c else c)) (sym is) m
+  attempt_made old mid made (Err e) answer after is m = tt
+
+-- ---- counts of faults ----
+
+counts_on : (a b f k m : ℕ) → b ≡ a → f ≤ k → min (a + f) m ≤ min (b + k) m
+counts_on a b f k m h l = omega arith
+
+counts_one : (a b f k m : ℕ) → b ≡ min (a + 1) m → f ≤ k → min (a + f) m ≤ min (b + k) m
+counts_one a b f k m h l = omega arith
+
+rose_inside : (a b f k m : ℕ) → b ≡ a → min (f + 1) m ≤ k → min (min (a + f) m + 1) m ≤ min (b + k) m
+rose_inside a b f k m h l = omega arith
+
+rose_one : (a b f k m : ℕ) → b ≡ min (a + 1) m → f ≤ k → min (min (a + f) m + 1) m ≤ min (b + k) m
+rose_one a b f k m h l = omega arith
+
+-- ---- a whole call ----
+
+module _ {D : Type 0} {g : Ghosts D} where
+  foretells_unarmed : (r : DiskRegister D g) (c : Register) → Foretells r c → Foretells r (unarmed c)
+  foretells_unarmed r c t = subst (λ a. Foretells r (with_armed c a)) t.unarmed t
+
+  foresees_after : (new : FaultyRegister D g) (c : Register) (b : Bool) (after : Register → Register) (a : Option Armed) → Foretells (kept_in new) (if b then after (unarmed c) else unarmed c) → a ≡ armed_of new → Foresees new (with_armed (if b then after (unarmed c) else c) a)
+  foresees_after new c true after a f is = record { foretells = foretells_unarmed (kept_in new) (after (unarmed c)) f; armed = is }
+  foresees_after new c false after a f is = record { foretells = f; armed = is }
+
+  done_of : (made : Bool) (old : DiskRegister D g) (after : Register → Register) (c : Register) → (b : Register) × MayHold old b × ((c ≡ b) ⊎ (c ≡ (if made then after b else b))) → (b : Register) × MayHold old b × ((c ≡ b) ⊎ (c ≡ after b))
+  done_of true old after c h = h
+  done_of false old after c h = (h.0, h.1, elim h.2 [ inl e ↦ inl e | inr e ↦ inl e ])
+
+  exact_granted : {T : Type 0} (old new : FaultyRegister D g) (given : T) (r : Result T RegisterFault) (answer : Register → Result T RegisterFault) (after : Register → Register) → Arms answer after → r ≡ (if falls (armed_of old) then failure T faults.Failed else granting given)
+      → armed_of new ≡ armed_after (armed_of old) → Meets (kept_in old) (kept_in new) (granting given) answer (λ c. if is_made (armed_of old) then after c else c)
+      → (c : Register) → Foresees old c → (IsErrOf r faults.NoMemory × Foresees new c) ⊎ ((r ≡ answer c) × Foresees new (after c))
+  exact_granted {T = T} old new given r answer after arms is armed m c f = elim (m.exact (unarmed c) f.foretells) [
+    | inl n ↦ absurd (not_granted faults.NoMemory given (sym n.0))
+    | inr s ↦ let a = arms.granted c given s.0 in inr (
+      is ∙ (ap (λ a. if falls a then failure T faults.Failed else granting given) (sym f.armed) ∙ a.0),
+      subst (Foresees new) (sym a.1) (foresees_after new c (is_made c.armed) after (armed_after c.armed) (subst (λ a. Foretells (kept_in new) (if is_made a then after (unarmed c) else unarmed c)) (sym f.armed) s.1) (ap armed_after f.armed ∙ sym armed)),
+    )
+  ]
+
+  fell_by : {T : Type 0} (old new : FaultyRegister D g) (given : T) (r : Result T RegisterFault) (answer : Register → Result T RegisterFault) (after : Register → Register) → Arms answer after → r ≡ failure T faults.Failed → falls (armed_of old) ≡ true
+      → armed_of new ≡ armed_after (armed_of old) → own_faults new ≡ min (own_faults old + 1) (2 ^ 64 - 1)
+      → Meets (kept_in old) (kept_in new) (granting given) answer (λ c. if is_made (armed_of old) then after c else c) → MeetsArmed old new r answer after
+  fell_by {T = T} old new given r answer after arms is fell armed own m = let free : IsFree r = subst IsFree (sym is) tt in record {
+    answers = λ c h. inl free;
+    told = m.told;
+    whole = λ t. inl free;
+    settles = λ t. inl free;
+    done_or_not = λ t c h. done_of (is_made (armed_of old)) (kept_in old) after c (m.done_or_not t c h);
+    keeps = inl is;
+    exact = exact_granted old new given r answer after arms (is ∙ ap (λ b. if b then failure T faults.Failed else granting given) (sym fell)) armed m;
+    failed = λ f. rose_one (own_faults old) (own_faults new) (g.faults (disk_in old)) (g.faults (disk_in new)) (2 ^ 64 - 1) own m.counts;
+    cause = λ f. inl fell;
+    damaged = λ place f. absurd (not_damaged place (sym is ∙ f));
+    counts = counts_one (own_faults old) (own_faults new) (g.faults (disk_in old)) (g.faults (disk_in new)) (2 ^ 64 - 1) own m.counts;
+  }
+    where
+      not_damaged : (place : ℕ) → failure T faults.Failed ≡ failure T (faults.Damaged place) → ⊥
+      not_damaged place h = absurd (cc h)
+
+  -- the armed fault fell
+  pub armed_fell : {T : Type 0} (old mid new : FaultyRegister D g) (given : T) (r : Result T RegisterFault) (answer : Register → Result T RegisterFault) (after : Register → Register) → Arms answer after → r ≡ failure T faults.Failed → falls (armed_of old) ≡ true → kept_in new ≡ kept_in mid
+      → armed_of new ≡ armed_after (armed_of old) → own_faults new ≡ min (own_faults old + 1) (2 ^ 64 - 1)
+      → Meets (kept_in old) (kept_in mid) (granting given) answer (λ c. if is_made (armed_of old) then after c else c) → MeetsArmed old new r answer after
+  armed_fell old mid new given r answer after arms is fell kept armed own m =
+      fell_by old new given r answer after arms is fell armed own (subst (λ k. Meets (kept_in old) k (granting given) answer (λ c. if is_made (armed_of old) then after c else c)) (sym kept) m)
+
+  passed_by : {T : Type 0} (old new : FaultyRegister D g) (given : T) (answer : Register → Result T RegisterFault) (after : Register → Register) → Arms answer after → falls (armed_of old) ≡ false
+      → armed_of new ≡ armed_after (armed_of old) → own_faults new ≡ own_faults old
+      → Meets (kept_in old) (kept_in new) (granting given) answer (λ c. if is_made (armed_of old) then after c else c) → MeetsArmed old new (granting given) answer after
+  passed_by {T = T} old new given answer after arms passes armed own m =
+      let k : Meets (kept_in old) (kept_in new) (granting given) answer after = subst (λ b. Meets (kept_in old) (kept_in new) (granting given) answer (λ c. if b then after c else c)) (not_falling (armed_of old) passes) m in record {
+        answers = k.answers;
+        told = k.told;
+        whole = k.whole;
+        settles = k.settles;
+        done_or_not = k.done_or_not;
+        keeps = k.keeps;
+        exact = exact_granted old new given (granting given) answer after arms (ap (λ b. if b then failure T faults.Failed else granting given) (sym passes)) armed m;
+        failed = λ f. absurd (not_granted faults.Failed given (sym f));
+        cause = λ f. absurd (not_granted faults.Failed given (sym f));
+        damaged = λ place f. absurd (not_granted (faults.Damaged place) given (sym f));
+        counts = counts_on (own_faults old) (own_faults new) (g.faults (disk_in old)) (g.faults (disk_in new)) (2 ^ 64 - 1) own k.counts;
+      }
+
+  -- the call was made, and no armed fault fell
+  pub armed_passed : {T : Type 0} (old mid new : FaultyRegister D g) (given : T) (answer : Register → Result T RegisterFault) (after : Register → Register) → Arms answer after → falls (armed_of old) ≡ false → kept_in new ≡ kept_in mid
+      → armed_of new ≡ armed_after (armed_of old) → own_faults new ≡ own_faults old
+      → Meets (kept_in old) (kept_in mid) (granting given) answer (λ c. if is_made (armed_of old) then after c else c) → MeetsArmed old new (granting given) answer after
+  armed_passed old mid new given answer after arms passes kept armed own m =
+      passed_by old new given answer after arms passes armed own (subst (λ k. Meets (kept_in old) k (granting given) answer (λ c. if is_made (armed_of old) then after c else c)) (sym kept) m)
+
+  inner_by : {T : Type 0} (old new : FaultyRegister D g) (r : Result T RegisterFault) (answer : Register → Result T RegisterFault) (after : Register → Register) → own_faults new ≡ own_faults old → Meets (kept_in old) (kept_in new) r answer after
+      → ((c : Register) → Foresees old c → (IsErrOf r faults.NoMemory × Foresees new c) ⊎ ((r ≡ answer c) × Foresees new (after c))) → MeetsArmed old new r answer after
+  inner_by old new r answer after own m exact = record {
+    answers = m.answers;
+    told = m.told;
+    whole = m.whole;
+    settles = m.settles;
+    done_or_not = m.done_or_not;
+    keeps = m.keeps;
+    exact = exact;
+    failed = λ f. rose_inside (own_faults old) (own_faults new) (g.faults (disk_in old)) (g.faults (disk_in new)) (2 ^ 64 - 1) own (m.failed f);
+    cause = λ f. inr (m.failed f);
+    damaged = m.damaged;
+    counts = counts_on (own_faults old) (own_faults new) (g.faults (disk_in old)) (g.faults (disk_in new)) (2 ^ 64 - 1) own m.counts;
+  }
+
+  -- the register refused the call
+  pub armed_refused : {T : Type 0} (old new : FaultyRegister D g) (e : RegisterFault) (r : Result T RegisterFault) (answer : Register → Result T RegisterFault) (after : Register → Register) → Arms answer after → r ≡ failure T e → armed_of new ≡ armed_of old → own_faults new ≡ own_faults old
+      → Meets (kept_in old) (kept_in new) (failure T e) answer after → MeetsArmed old new r answer after
+  armed_refused {T = T} old new e r answer after arms is armed own n =
+      let m : Meets (kept_in old) (kept_in new) r answer after = subst (λ r. Meets (kept_in old) (kept_in new) r answer after) (sym is) n in
+      inner_by old new r answer after own m (λ c f. elim (m.exact (unarmed c) f.foretells) [
+        | inl n ↦ inl (n.0, record { foretells = n.1; armed = f.armed ∙ sym armed })
+        | inr s ↦ let a = arms.refused c e (sym is ∙ s.0) in let b = arms.refused (unarmed c) e (sym is ∙ s.0) in
+            inr (is ∙ a.0, subst (Foresees new) (sym a.1) (record { foretells = subst (Foretells (kept_in new)) b.1 s.1; armed = f.armed ∙ sym armed }))
+      ])
+
+  -- a look, which doesn't see the armed fault
+  pub armed_looked : {T : Type 0} (old new : FaultyRegister D g) (r : Result T RegisterFault) (answer : Register → Result T RegisterFault) → ((c : Register) → answer (unarmed c) ≡ answer c) → armed_of new ≡ armed_of old → own_faults new ≡ own_faults old
+      → Meets (kept_in old) (kept_in new) r answer (λ c. c) → MeetsArmed old new r answer (λ c. c)
+  armed_looked old new r answer same armed own m = inner_by old new r answer (λ c. c) own m (λ c f. elim (m.exact (unarmed c) f.foretells) [
+    | inl n ↦ inl (n.0, record { foretells = n.1; armed = f.armed ∙ sym armed })
+    | inr s ↦ inr (s.0 ∙ same c, record { foretells = s.1; armed = f.armed ∙ sym armed })
+  ])

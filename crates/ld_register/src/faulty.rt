@@ -1,0 +1,248 @@
+// A register on a disk, which fails where it is told to.
+ghost use Rattle.std.specs.Prelude.{◌≡◌};
+
+use crate::{DiskRegister, Drawn, Grant, Register, RegisterFault, View};
+use ld_disk::Disk;
+use ld_ids::{LogId, NodeId};
+use ld_msg::Summary;
+use std::alloc::Global;
+
+/// The change of this count from now on fails, with the change made or not.
+#[derive(Clone, Copy)]
+struct Armed {
+    left: u64,
+    done: bool,
+}
+
+/// A register on a disk, of which one call that would make a change can be told to fail. A call that makes no change,
+/// because it is refused, doesn't count.
+///
+/// `Failed` comes only where the armed fault falls, or where the disk's count of failed calls rose.
+#[derive(Drop)]
+pub struct FaultyRegister<D: Disk> {
+    register: DiskRegister<D>,
+    armed: Option<Armed>,
+    faults: u64,
+}
+
+impl<D: Disk> FaultyRegister<D> {
+    ghost use Rattle.std.specs.Prelude.{◌≢◌, ◌≤◌, ◌+◌, ◌-◌, ◌^◌, ℕ, List, true, false, not, None, Some, Err, min, if◌then◌else◌, IfOk, IfErr, OnOk, OnErr, IsErrOf};
+    ghost use Rattle.ld_disk.specs.Plain.{Plain, new_disk};
+    ghost use Rattle.ld_msg.specs.Bounds.{IsEpoch, IsSummary};
+    ghost use Rattle.ld_msg.specs.Register.{Register as Contents, empty_register, falls, armed_after, is_made};
+    ghost use Rattle.ld_op.specs.Bounds.{IsOp};
+    ghost use Rattle.ld_op.specs.declared.op.Op.TheVariants.{Format};
+    ghost use Rattle.ld_register.specs.Calls.{activated, after_activate, closed, after_close, drawn, after_draw, unarmed};
+    ghost use Rattle.ld_register.specs.Stands.{StandsFor};
+    ghost use Rattle.ld_register.specs.Held.{Holds, Meets};
+    ghost use Rattle.ld_register.specs.Arming.{kept_in, disk_in, armed_of, own_faults, Foresees};
+
+    /// The register on a disk, with no fault armed. Its first call loads it. On a new disk in memory it holds nothing.
+    pub fn new(alloc: Global, disk: D) -> FaultyRegister<D>
+        ensures disk { disk_in result ≡ disk }
+        ensures armed { armed_of result ≡ None }
+        ensures faults { own_faults result ≡ 0 }
+        ensures empty { D.plain disk ≡ Some new_disk → Foresees result empty_register }
+    {
+        FaultyRegister {
+            register: DiskRegister::new(alloc, disk),
+            armed: None,
+            faults: 0,
+        }
+    }
+
+    /// The call of this count from now on that would make a change fails, with its change made where `done` says so.
+    /// This replaces what was armed before. A count of 1 is the next such call.
+    pub fn arm(&mut self, left: u64, done: bool)
+        requires { 1 ≤ left }
+        ensures tells { (c : Contents) → Foresees self.old c → Foresees self.new (record c { armed = Some (record { left = left; done = done }) }) }
+        ensures armed { armed_of self.new ≡ Some (record { left = left; done = done }) }
+        ensures register { kept_in self.new ≡ kept_in self.old }
+        ensures faults { own_faults self.new ≡ own_faults self.old }
+    {
+        self.armed = Some(Armed { left, done });
+    }
+
+    /// Gives the disk back, as the last call left it. Its bytes are a journal of changes that lead to what was held.
+    pub fn into_disk(self) -> D
+        ensures disk { result ≡ disk_in self }
+        ensures holds { (c : Contents) → Holds (kept_in self) c → (bytes : List ℕ) × (D.seen result ≡ Some bytes) × StandsFor bytes c }
+        ensures tells { (c : Contents) (p : Plain) → Foresees self c → D.plain result ≡ Some p → StandsFor p.state.bytes (unarmed c) }
+    {
+        self.register.into_disk()
+    }
+
+    /// Whether the next change fails and isn't made.
+    fn is_prevented(&self) -> bool
+        ensures { result ≡ not (is_made (armed_of self.now)) }
+    {
+        match self.armed {
+            Some(armed) => armed.left <= 1 && !armed.done,
+            None => false,
+        }
+    }
+
+    /// Counts a change, and fails where the armed fault falls.
+    fn count_down(&mut self) -> Result<(), RegisterFault>
+        ensures register { kept_in self.new ≡ kept_in self.old }
+        ensures armed { armed_of self.new ≡ armed_after (armed_of self.old) }
+        ensures passes { OnOk result ((falls (armed_of self.old) ≡ false) × (own_faults self.new ≡ own_faults self.old)) }
+        ensures falls { IfErr result (λ fault. (fault ≡ RegisterFault.Failed) × (falls (armed_of self.old) ≡ true)
+            × (own_faults self.new ≡ min (own_faults self.old + 1) (2 ^ 64 - 1))) }
+    {
+        let Some(armed) = self.armed else {
+            return Ok(());
+        };
+        if armed.left <= 1 {
+            self.armed = None;
+            self.faults = self.faults.saturating_add(1);
+            return Err(RegisterFault::Failed);
+        }
+        let left = armed.left - 1;
+        let done = armed.done;
+        self.armed = Some(Armed { left, done });
+        Ok(())
+    }
+
+    /// Makes an activation, or only checks it where the armed fault prevents it.
+    fn attempt_activate(&mut self, alloc: Global, log: LogId) -> Result<Grant, RegisterFault>
+        ensures armed { armed_of self.new ≡ armed_of self.old }
+        ensures faults { own_faults self.new ≡ own_faults self.old }
+        ensures granted { OnOk result (Meets (kept_in self.old) (kept_in self.new) result (λ c. activated c log) (λ c. if is_made (armed_of self.old) then after_activate c log else c)) }
+        ensures refused { OnErr result (Meets (kept_in self.old) (kept_in self.new) result (λ c. activated c log) (λ c. after_activate c log)) }
+        ensures bounds { IfOk result (λ grant. IsEpoch grant.epoch × (grant.lce ≤ 2 ^ 32 - 2)) }
+        ensures behind { (lce : ℕ) → result ≢ Err (RegisterFault.Behind lce) }
+        ensures generations { result ≢ Err RegisterFault.GenLimit }
+    {
+        if self.is_prevented() {
+            return self.register.check_activate(alloc, log);
+        }
+        self.register.activate(alloc, log)
+    }
+
+    /// Makes a close, or only checks it where the armed fault prevents it.
+    fn attempt_close(
+        &mut self,
+        alloc: Global,
+        log: LogId,
+        epoch: u32,
+        summary: &Summary,
+    ) -> Result<(), RegisterFault>
+        requires { IsSummary epoch summary.now }
+        ensures armed { armed_of self.new ≡ armed_of self.old }
+        ensures faults { own_faults self.new ≡ own_faults self.old }
+        ensures granted { OnOk result (Meets (kept_in self.old) (kept_in self.new) result (λ c. closed c log epoch summary.now) (λ c. if is_made (armed_of self.old) then after_close c log epoch summary.now else c)) }
+        ensures refused { OnErr result (Meets (kept_in self.old) (kept_in self.new) result (λ c. closed c log epoch summary.now) (λ c. after_close c log epoch summary.now)) }
+        ensures bounds { (lce : ℕ) → IsErrOf result (RegisterFault.Behind lce) → lce ≤ 2 ^ 32 - 2 }
+        ensures epochs { result ≢ Err RegisterFault.EpochLimit }
+        ensures generations { result ≢ Err RegisterFault.GenLimit }
+    {
+        if self.is_prevented() {
+            return self.register.check_close(alloc, log, epoch);
+        }
+        self.register.close(alloc, log, epoch, summary)
+    }
+
+    /// Makes a draw, or only checks it where the armed fault prevents it.
+    fn attempt_draw(&mut self, alloc: Global, node: NodeId) -> Result<Drawn, RegisterFault>
+        ensures armed { armed_of self.new ≡ armed_of self.old }
+        ensures faults { own_faults self.new ≡ own_faults self.old }
+        ensures granted { OnOk result (Meets (kept_in self.old) (kept_in self.new) result (λ c. drawn c node) (λ c. if is_made (armed_of self.old) then after_draw c node else c)) }
+        ensures refused { OnErr result (Meets (kept_in self.old) (kept_in self.new) result (λ c. drawn c node) (λ c. after_draw c node)) }
+        ensures bounds { IfOk result (λ handed. IsOp (Format handed.gen_ handed.epochs)) }
+        ensures logs { result ≢ Err RegisterFault.LogLimit }
+        ensures behind { (lce : ℕ) → result ≢ Err (RegisterFault.Behind lce) }
+        ensures epochs { result ≢ Err RegisterFault.EpochLimit }
+    {
+        if self.is_prevented() {
+            return self.register.check_draw(alloc, node);
+        }
+        self.register.draw(alloc, node)
+    }
+}
+
+impl<D: Disk> Register for FaultyRegister<D> {
+    ghost use Rattle.std.specs.Prelude.{◌≢◌, ◌⊎◌, ◌≤◌, ◌-◌, ◌^◌, ℕ, IfOk, IsErrOf, OnErr, Ok, Err};
+    ghost use Rattle.ld_msg.specs.Bounds.{IsEpoch, IsSummary};
+    ghost use Rattle.ld_msg.specs.Register.{Register as Contents};
+    ghost use Rattle.ld_op.specs.Bounds.{IsOp};
+    ghost use Rattle.ld_op.specs.declared.op.Op.TheVariants.{Format};
+    ghost use Rattle.ld_register.specs.Calls.{activated, after_activate, closed, after_close, drawn, after_draw, looked, IsView, IsFree, Keeps};
+    ghost use Rattle.ld_register.specs.Held.{Holds, MayHold, Tells, IsBroken, holds_is_told};
+    ghost use Rattle.ld_register.specs.Arming.{kept_in, disk_in, faults_in, Foresees, MeetsArmed};
+
+    ghost told = { λ r. Tells (kept_in r) };
+
+    ghost holds = { λ r c. Holds (kept_in r) c };
+
+    ghost may_hold = { λ r c. MayHold (kept_in r) c };
+
+    ghost tells = { λ r c. Foresees r c };
+
+    ghost damaged = { λ r place. IsBroken (kept_in r) place };
+
+    ghost faults = { λ r. faults_in r };
+
+    ghost holds_one = { λ r c d h k. h.one d k.reads };
+
+    ghost held_is_told = { λ r c h. holds_is_told (kept_in r) c h };
+
+    ghost held_may_be = { λ r c h. (h.reads.bytes, D.reads_an_image (disk_in r) h.reads.bytes h.reads.seen_is, h.reads.stands) };
+
+    ghost tells_what_is_held = { λ r c t. t.foretells.holds };
+
+    ghost held_is_whole = { λ r c place h b. h.whole place b };
+
+    fn activate(&mut self, alloc: Global, log: LogId) -> Result<Grant, RegisterFault>
+        ensures meets { MeetsArmed self.old self.new result (λ c. activated c log) (λ c. after_activate c log) }
+        ensures bounds { IfOk result (λ grant. IsEpoch grant.epoch × (grant.lce ≤ 2 ^ 32 - 2)) }
+        ensures behind { (lce : ℕ) → result ≢ Err (RegisterFault.Behind lce) }
+        ensures generations { result ≢ Err RegisterFault.GenLimit }
+    {
+        let grant = self.attempt_activate(alloc, log)?;
+        self.count_down()?;
+        Ok(grant)
+    }
+
+    fn close(
+        &mut self,
+        alloc: Global,
+        log: LogId,
+        epoch: u32,
+        summary: &Summary,
+    ) -> Result<(), RegisterFault>
+        requires { IsSummary epoch summary.now }
+        ensures meets { MeetsArmed self.old self.new result (λ c. closed c log epoch summary.now) (λ c. after_close c log epoch summary.now) }
+        ensures bounds { (lce : ℕ) → IsErrOf result (RegisterFault.Behind lce) → lce ≤ 2 ^ 32 - 2 }
+        ensures epochs { result ≢ Err RegisterFault.EpochLimit }
+        ensures generations { result ≢ Err RegisterFault.GenLimit }
+    {
+        self.attempt_close(alloc, log, epoch, summary)?;
+        self.count_down()?;
+        Ok(())
+    }
+
+    fn draw(&mut self, alloc: Global, node: NodeId) -> Result<Drawn, RegisterFault>
+        ensures meets { MeetsArmed self.old self.new result (λ c. drawn c node) (λ c. after_draw c node) }
+        ensures bounds { IfOk result (λ handed. IsOp (Format handed.gen_ handed.epochs)) }
+        ensures logs { result ≢ Err RegisterFault.LogLimit }
+        ensures behind { (lce : ℕ) → result ≢ Err (RegisterFault.Behind lce) }
+        ensures epochs { result ≢ Err RegisterFault.EpochLimit }
+    {
+        let handed = self.attempt_draw(alloc, node)?;
+        self.count_down()?;
+        Ok(handed)
+    }
+
+    fn look(&mut self, alloc: Global, log: LogId, e: u32) -> Result<View, RegisterFault>
+        ensures meets { MeetsArmed self.old self.new result (λ c. Ok (looked c log e)) (λ c. c) }
+        ensures same { (c : Contents) → MayHold (kept_in self.new) c → MayHold (kept_in self.old) c }
+        ensures keeps { IsErrOf result RegisterFault.Failed ⊎ Keeps (Holds (kept_in self.old)) (Holds (kept_in self.new)) (MayHold (kept_in self.old)) (MayHold (kept_in self.new)) }
+        ensures exact { (c : Contents) → Foresees self.old c
+            → (IsErrOf result RegisterFault.NoMemory ⊎ (result ≡ Ok (looked c log e))) × Foresees self.new c }
+        ensures view { IfOk result (IsView e) }
+        ensures free { OnErr result (IsFree result) }
+    {
+        self.register.look(alloc, log, e)
+    }
+}
