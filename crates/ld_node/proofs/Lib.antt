@@ -1,3 +1,4 @@
 pub mod Handles
 pub mod Changes
 pub mod Quiet
+pub mod Looks

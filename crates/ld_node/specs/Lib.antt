@@ -4,4 +4,6 @@ pub mod Faults
 pub mod Msgs
 pub mod Sets
 pub mod Draws
+pub mod Formats
+pub mod Looks
 pub mod Node

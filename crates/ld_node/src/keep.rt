@@ -8,6 +8,7 @@ ghost use Rattle.ld_op.specs.declared.op.Op.{Op as Kind};
 ghost use Rattle.ld_store.specs.Ops.{StandsForEither};
 ghost use Rattle.ld_store.specs.Open.{disk_of, place_of, must_load, is_blank, plain_of, Holds};
 ghost use Rattle.ld_node.specs.Changes.{AreChanges, kept, with_op, calls_of, IsPast};
+ghost use Rattle.ld_register.specs.declared.fault.RegisterFault.{RegisterFault};
 
 use crate::NodeFault;
 use ld_disk::Disk;
@@ -39,6 +40,7 @@ pub(crate) fn keep<D: Disk>(
     ensures needs_load { result ≢ Err NodeFault.NeedsLoad }
     ensures loads { (must_load store.new ≡ true) ↔ IsErrOf result NodeFault.Disk }
     ensures damaged { (place : ℕ) → result ≢ Err (NodeFault.Damaged place) }
+    ensures register { (fault : RegisterFault) → result ≢ Err (NodeFault.Register fault) }
     ensures counts { D.faults (disk_of store.old) ≤ D.faults (disk_of store.new) }
     ensures failed { IsErrOf result NodeFault.Disk → Rose (D.faults (disk_of store.old)) (D.faults (disk_of store.new)) }
     ensures stays { OnErr result (IsErrOf result NodeFault.Disk ⊎ Unchanged D.seen D.may_leave D.moment D.left_since (disk_of store.old) (disk_of store.new)) }

@@ -3,11 +3,16 @@
 
 mod epochs;
 mod fault;
+mod format;
 mod handled;
 mod keep;
 mod msgs;
 mod node;
 mod sets;
+#[cfg(test)]
+mod tests;
+mod tick;
 
 pub use fault::NodeFault;
 pub use node::Node;
+pub use tick::Ticked;

@@ -1,12 +1,13 @@
 // A node over its store.
 use crate::NodeFault;
-use crate::epochs::copy;
+use crate::format::format_store;
 use crate::keep::keep;
 use crate::msgs::{decide, release, released_by};
-use crate::sets::sets_in;
+use crate::sets::{nodes_of, sets_in};
+use crate::tick::{Ticked, look};
 use ld_config::Config;
 use ld_disk::{Disk, Fault};
-use ld_ids::{NodeId, NodeSet};
+use ld_ids::{LogId, NodeId, NodeSet};
 use ld_lsn::Lsn;
 use ld_msg::{Msg, Replies};
 use ld_register::{Drawn, Register};
@@ -25,7 +26,7 @@ pub struct Node<D: Disk> {
 }
 
 impl<D: Disk> Node<D> {
-    ghost use Rattle.std.specs.Prelude.{◌≡◌, ◌≢◌, ◌⊎◌, ◌↔◌, ◌≤◌, ◌++◌, [], ◌∷◌, ℕ, List, IfOk, IfErr, IfSome, MatchResult, OnOk, OnErr, IsErrOf, Ok, Err, None, Some, is_ok, true, false};
+    ghost use Rattle.std.specs.Prelude.{◌≡◌, ◌≢◌, ◌⊎◌, ◌↔◌, ◌≤◌, ◌++◌, [], ◌∷◌, ℕ, List, IfOk, IfErr, IfSome, MatchResult, OnOk, OnErr, IsErrOf, Ok, Err, None, Some, is_ok, is_some, true, false};
     ghost use Rattle.std.specs.Option.{option_map};
     ghost use Rattle.ld_io.specs.Causes.{Rose};
     ghost use Rattle.ld_disk.specs.Images.{IsHonest};
@@ -35,15 +36,21 @@ impl<D: Disk> Node<D> {
     ghost use Rattle.ld_op.specs.declared.op.Op.{Op as Kind};
     ghost use Rattle.ld_op.specs.Handles.{answer_message};
     ghost use Rattle.ld_store.specs.Ops.{StandsFor, StandsForEither, IsDamaged};
-    ghost use Rattle.ld_op.specs.declared.op.Op.TheVariants as kinds;
     ghost use Rattle.ld_op.specs.Plain.{apply};
     ghost use Rattle.ld_msg.specs.Register.{Register as Contents};
-    ghost use Rattle.ld_register.specs.Calls.{drawn as drawn_by, after_draw, ChangedOrNot};
+    ghost use Rattle.ld_register.specs.Calls.{drawn as drawn_by, after_draw, ChangedOrNot, IsFree};
+    ghost use Rattle.ld_register.specs.declared.register.Drawn.{Drawn as Drawing};
+    ghost use Rattle.ld_register.specs.declared.fault.RegisterFault.{RegisterFault as Refusal};
+    ghost use Rattle.ld_table.specs.Table.{find};
     ghost use Rattle.ld_register.specs.declared.fault.RegisterFault.TheVariants as faults;
     ghost use Rattle.ld_node.specs.Sets.{sets_in};
-    ghost use Rattle.ld_node.specs.Draws.{answered};
-    ghost use Rattle.ld_node.specs.Changes.{kept, with_op, calls_of, IsPast};
+    ghost use Rattle.ld_op.specs.Bounds.{IsOp};
+    ghost use Rattle.ld_node.specs.Draws.{answered, not_drawn};
+    ghost use Rattle.ld_node.specs.Changes.{AreChanges, kept, with_op, calls_of, IsPast};
     ghost use Rattle.ld_node.specs.Msgs.{handled, released_after};
+    ghost use Rattle.ld_node.specs.Formats.{format_of, FormatsBy, LeftByFormat};
+    ghost use Rattle.ld_node.specs.declared.tick.Ticked.TheVariants as answers;
+    ghost use Rattle.ld_node.specs.Looks.{nodes_in, ticked, op_of, answer_of, IsOfLook};
     ghost use Rattle.ld_node.specs.Node.{id_of, sets_of, released_of, disk_of, place_of, must_load, is_blank, plain_of, Holds, IsOpened};
 
     /// Loads the node of this number from its disk, in one writing call, with the logs of the configuration whose
@@ -78,6 +85,7 @@ impl<D: Disk> Node<D> {
             → (place : ℕ) → e.1 ≢ NodeFault.Damaged place) }
         ensures full { IfErr result (λ e. e.1 ≢ NodeFault.Full) }
         ensures needs_load { IfErr result (λ e. e.1 ≢ NodeFault.NeedsLoad) }
+        ensures register { IfErr result (λ e. (fault : Refusal) → e.1 ≢ NodeFault.Register fault) }
     {
         let sets = match sets_in(alloc, id, config.logs.as_slice()) {
             Ok(sets) => sets,
@@ -114,6 +122,8 @@ impl<D: Disk> Node<D> {
         ensures same { Unchanged D.seen D.may_leave D.moment D.left_since (disk_of self.old) (disk_of self.new) }
         ensures faults { D.faults (disk_of self.new) ≡ D.faults (disk_of self.old) }
         ensures rest { (plain_of self.new ≡ plain_of self.old) × (released_of self.new ≡ released_of self.old) × (id_of self.new ≡ id_of self.old) × (sets_of self.new ≡ sets_of self.old) × (is_blank self.new ≡ is_blank self.old) × (must_load self.new ≡ must_load self.old) }
+        ensures place { place_of self.new ≡ place_of self.old }
+        ensures holds { (ops : List Kind) → Holds D.seen D.may_leave self.old ops → Holds D.seen D.may_leave self.new ops }
     {
         self.store.arm(fault);
     }
@@ -148,14 +158,17 @@ impl<D: Disk> Node<D> {
             × (is_ok result ≡ all_succeed (calls_of (place_of self.old) (handled (id_of self.old) (sets_of self.old) (released_of self.old) (plain_of self.old) msg.now).op) p) }
 
         ensures full { IsErrOf result NodeFault.Full → IsPast (place_of self.old) (handled (id_of self.old) (sets_of self.old) (released_of self.old) (plain_of self.old) msg.now).op }
+        ensures too_long { must_load self.old ≡ false → IsPast (place_of self.old) (handled (id_of self.old) (sets_of self.old) (released_of self.old) (plain_of self.old) msg.now).op → IsErrOf result NodeFault.Full ⊎ IsErrOf result NodeFault.NoMemory }
         ensures needs_load { IsErrOf result NodeFault.NeedsLoad ↔ (must_load self.old ≡ true) }
         ensures loads { (must_load self.new ≡ true) ↔ ((must_load self.old ≡ true) ⊎ IsErrOf result NodeFault.Disk) }
+        ensures register { (fault : Refusal) → result ≢ Err (NodeFault.Register fault) }
         ensures damaged { (place : ℕ) → result ≢ Err (NodeFault.Damaged place) }
         ensures counts { D.faults (disk_of self.old) ≤ D.faults (disk_of self.new) }
         ensures failed { IsErrOf result NodeFault.Disk → Rose (D.faults (disk_of self.old)) (D.faults (disk_of self.new)) }
 
         // Another refusal than `Disk` changes nothing.
         ensures stays { OnErr result (IsErrOf result NodeFault.Disk ⊎ Unchanged D.seen D.may_leave D.moment D.left_since (disk_of self.old) (disk_of self.new)) }
+        ensures keeps { OnErr result (IsErrOf result NodeFault.Disk ⊎ ((D.plain (disk_of self.new) ≡ D.plain (disk_of self.old)) × (place_of self.new ≡ place_of self.old))) }
         ensures holds { (ops : List Kind) → Holds D.seen D.may_leave self.old ops
             → OnErr result (IsErrOf result NodeFault.Disk ⊎ Holds D.seen D.may_leave self.new ops) }
     {
@@ -188,25 +201,147 @@ impl<D: Disk> Node<D> {
 
         ensures drawn { (c : Contents) → G.holds reg.old c → IfOk result (λ drawn. (answered drawn ≡ drawn_by c (id_of self.old)) × G.holds reg.new (after_draw c (id_of self.old))) }
         ensures done_or_not { G.told reg.old → ChangedOrNot (G.may_hold reg.old) (G.may_hold reg.new) (λ c. after_draw c (id_of self.old)) }
-        ensures applied { IfOk result (λ drawn. (plain_of self.new ≡ apply (plain_of self.old) (kinds.Format drawn.gen_ drawn.epochs)) × (is_blank self.new ≡ false)) }
+        ensures told { G.told reg.old → G.told reg.new }
+        ensures applied { IfOk result (λ drawn. (plain_of self.new ≡ apply (plain_of self.old) (format_of drawn)) × (is_blank self.new ≡ false)) }
+
+        // At `Ok` the format is durable: from then on each crash leaves a journal that has it.
         ensures acknowledged { (ops : List Kind) → Holds D.seen D.may_leave self.old ops
-            → IfOk result (λ drawn. Holds D.seen D.may_leave self.new (ops ++ kinds.Format drawn.gen_ drawn.epochs ∷ [])) }
+            → IfOk result (λ drawn. Holds D.seen D.may_leave self.new (ops ++ format_of drawn ∷ [])) }
+
+        // A crash at any moment of the call leaves what stands for the plain state before it or for that with the format.
+        ensures any_moment { (ops : List Kind) → Holds D.seen D.may_leave self.old ops
+            → LeavesOnly D.moment D.left_since (disk_of self.old) (disk_of self.new)
+            (LeftByFormat (plain_of self.old) (λ drawn. (c : Contents) → G.holds reg.old c → answered drawn ≡ drawn_by c (id_of self.old))) }
+
+        // Where the register and the disk tell what each call will do, the answer and the disk are just these.
+        ensures exact { (c : Contents) (disk : DiskPlain) → must_load self.old ≡ false → G.tells reg.old c → D.plain (disk_of self.old) ≡ Some disk
+            → IsErrOf result NodeFault.NoMemory ⊎ FormatsBy (place_of self.old) disk (drawn_by c (id_of self.old)) (D.plain (disk_of self.new)) result }
+
+        // Want of memory comes before the draw or after it; each other answer comes after it.
+        ensures tells { (c : Contents) → must_load self.old ≡ false → G.tells reg.old c
+            → (IsErrOf result NodeFault.NoMemory × G.tells reg.new c) ⊎ G.tells reg.new (after_draw c (id_of self.old)) }
+
         ensures refused { OnErr result ((plain_of self.new ≡ plain_of self.old) × (is_blank self.new ≡ is_blank self.old)) }
         ensures rest { (id_of self.new ≡ id_of self.old) × (sets_of self.new ≡ sets_of self.old) × (released_of self.new ≡ released_of self.old) }
+
+        // What was held is held with the draw or without it, but where the register failed.
+        ensures held { (c : Contents) → G.holds reg.old c → IsErrOf result (NodeFault.Register faults.Failed) ⊎ G.holds reg.new c ⊎ G.holds reg.new (after_draw c (id_of self.old)) }
+
+        // A refusal of the register is one of its draw, and nothing of the node has changed.
+        ensures register { (c : Contents) (fault : Refusal) → G.holds reg.old c → IsErrOf result (NodeFault.Register fault)
+            → IsFree (not_drawn fault) ⊎ ((not_drawn fault ≡ drawn_by c (id_of self.old)) × G.holds reg.new (after_draw c (id_of self.old))) }
+        ensures register_damaged { (place : ℕ) → IsErrOf result (NodeFault.Register (faults.Damaged place)) → G.told reg.old → G.damaged reg.old place }
+
+        ensures full { (c : Contents) → G.holds reg.old c → IsErrOf result NodeFault.Full
+            → (drawn : Drawing) × (answered drawn ≡ drawn_by c (id_of self.old)) × IsPast (place_of self.old) (Some (format_of drawn)) }
+        ensures too_long { (c : Contents) (drawn : Drawing) → must_load self.old ≡ false → G.holds reg.old c → answered drawn ≡ drawn_by c (id_of self.old) → IsPast (place_of self.old) (Some (format_of drawn))
+            → IsErrOf result NodeFault.Full ⊎ IsErrOf result NodeFault.NoMemory ⊎ ((fault : Refusal) × IsErrOf result (NodeFault.Register fault)) }
+
+        // Where it got as far as the disk, or the journal's limit, the format is one that a journal's body can carry.
+        ensures op { (c : Contents) → G.tells reg.old c → IsErrOf result NodeFault.Disk ⊎ IsErrOf result NodeFault.Full
+            → (drawn : Drawing) × (answered drawn ≡ drawn_by c (id_of self.old)) × IsOp (format_of drawn) }
+
         ensures needs_load { IsErrOf result NodeFault.NeedsLoad ↔ (must_load self.old ≡ true) }
+        ensures needs_no_draw { must_load self.old ≡ true → reg.new ≡ reg.old }
         ensures loads { (must_load self.new ≡ true) ↔ ((must_load self.old ≡ true) ⊎ IsErrOf result NodeFault.Disk) }
         ensures damaged { (place : ℕ) → result ≢ Err (NodeFault.Damaged place) }
         ensures memory { result ≢ Err (NodeFault.Register faults.NoMemory) }
         ensures counts { (D.faults (disk_of self.old) ≤ D.faults (disk_of self.new)) × (G.faults reg.old ≤ G.faults reg.new) }
         ensures failed { IsErrOf result NodeFault.Disk → Rose (D.faults (disk_of self.old)) (D.faults (disk_of self.new)) }
         ensures register_failed { IsErrOf result (NodeFault.Register faults.Failed) → Rose (G.faults reg.old) (G.faults reg.new) }
+
+        // Another refusal than `Disk` changes nothing of the node.
+        ensures stays { OnErr result (IsErrOf result NodeFault.Disk ⊎ Unchanged D.seen D.may_leave D.moment D.left_since (disk_of self.old) (disk_of self.new)) }
+        ensures keeps { OnErr result (IsErrOf result NodeFault.Disk ⊎ ((D.plain (disk_of self.new) ≡ D.plain (disk_of self.old)) × (place_of self.new ≡ place_of self.old))) }
+        ensures holds { (ops : List Kind) → Holds D.seen D.may_leave self.old ops
+            → OnErr result (IsErrOf result NodeFault.Disk ⊎ Holds D.seen D.may_leave self.new ops) }
     {
         if self.store.needs_load() {
             return Err(NodeFault::NeedsLoad);
         }
         let drawn = reg.draw(alloc, self.id)?;
-        let epochs = copy(alloc, &drawn.epochs)?;
-        self.store.format(alloc, drawn.gen_, epochs)?;
-        Ok(drawn)
+        format_store(alloc, &mut self.store, drawn)
+    }
+
+    /// Looks at the register for a log and does what the node has to do for it: the lowest epoch that isn't clean here,
+    /// where it is closed there, is cleaned with its summary; else, where what was lost is all there again, the node is
+    /// lost for the log no more; else, where a number is missing, it asks the other nodes of the log from the lowest
+    /// missing number on; else nothing. For a log that it doesn't keep it does nothing, and doesn't look.
+    ///
+    /// It refuses with `Register` as the register's `look` does, with `Full` where its journal would be longer than
+    /// 2^40 bytes, and with `NoMemory`; then nothing has changed. It refuses with `Disk` where a call of the disk
+    /// failed: the op is then there or not, which the next load tells, and until then each call answers `NeedsLoad`.
+    /// No refusal changes anything in memory.
+    pub fn tick<G: Register>(
+        &mut self,
+        alloc: Global,
+        log: LogId,
+        reg: &mut G,
+    ) -> Result<Ticked, NodeFault>
+        requires formatted { is_blank self.old ≡ false }
+
+        ensures answer { (c : Contents) → G.holds reg.old c → IfOk result (λ answer. answer ≡ answer_of (id_of self.old) log (nodes_in (sets_of self.old) log) (ticked (sets_of self.old) (plain_of self.old) log c)) }
+        ensures kept { (c : Contents) → G.holds reg.old c → OnOk result (plain_of self.new ≡ kept (op_of log (ticked (sets_of self.old) (plain_of self.old) log c)) (plain_of self.old)) }
+        ensures looked { (c : Contents) → G.holds reg.old c → IsErrOf result (NodeFault.Register faults.Failed) ⊎ G.holds reg.new c }
+        ensures refused { OnErr result (plain_of self.new ≡ plain_of self.old) }
+        ensures rest { (id_of self.new ≡ id_of self.old) × (sets_of self.new ≡ sets_of self.old) × (released_of self.new ≡ released_of self.old) × (is_blank self.new ≡ false) }
+
+        // For a log that it doesn't keep there is nothing to do, and no look.
+        ensures foreign { must_load self.old ≡ false → is_some (find log (sets_of self.old)) ≡ false → (result ≡ Ok answers.Nothing) × (self.new ≡ self.old) × (reg.new ≡ reg.old) }
+
+        // At `Ok` the op is durable: from then on each crash leaves a journal that has it.
+        ensures acknowledged { (ops : List Kind) (c : Contents) → Holds D.seen D.may_leave self.old ops → G.holds reg.old c
+            → OnOk result (Holds D.seen D.may_leave self.new (with_op ops (op_of log (ticked (sets_of self.old) (plain_of self.old) log c)))) }
+
+        // A crash at any moment of the call leaves what stands for the plain state before it or for that with the op.
+        ensures any_moment { (ops : List Kind) (c : Contents) → Holds D.seen D.may_leave self.old ops → G.holds reg.old c
+            → LeavesOnly D.moment D.left_since (disk_of self.old) (disk_of self.new) (StandsForEither (plain_of self.old) (kept (op_of log (ticked (sets_of self.old) (plain_of self.old) log c)) (plain_of self.old))) }
+
+        // Where the disk tells what each call will do, it is the four writing calls of the op's record, or none.
+        ensures exact { (c : Contents) (disk : DiskPlain) → G.holds reg.old c → D.plain (disk_of self.old) ≡ Some disk → (is_ok result ≡ true ⊎ IsErrOf result NodeFault.Disk)
+            → (D.plain (disk_of self.new) ≡ Some (after_calls (calls_of (place_of self.old) (op_of log (ticked (sets_of self.old) (plain_of self.old) log c))) disk))
+            × (is_ok result ≡ all_succeed (calls_of (place_of self.old) (op_of log (ticked (sets_of self.old) (plain_of self.old) log c))) disk) }
+
+        // A look changes nothing, and where the register tells what it will do, it isn't refused.
+        ensures tells { (c : Contents) → G.tells reg.old c → G.tells reg.new c }
+        ensures foretold { (c : Contents) (fault : Refusal) → G.tells reg.old c → result ≢ Err (NodeFault.Register fault) }
+
+        // A refusal of the register is one of its look, for a log that the node keeps.
+        ensures register { (fault : Refusal) → IsErrOf result (NodeFault.Register fault) → IsOfLook fault × (is_some (find log (sets_of self.old)) ≡ true) }
+        ensures register_failed { IsErrOf result (NodeFault.Register faults.Failed) → Rose (G.faults reg.old) (G.faults reg.new) }
+        ensures register_damaged { (place : ℕ) → IsErrOf result (NodeFault.Register (faults.Damaged place)) → G.told reg.old → G.damaged reg.old place }
+        ensures told { G.told reg.old → G.told reg.new }
+        ensures same { (c : Contents) → G.may_hold reg.new c → G.may_hold reg.old c }
+
+        ensures full { (c : Contents) → G.holds reg.old c → IsErrOf result NodeFault.Full → IsPast (place_of self.old) (op_of log (ticked (sets_of self.old) (plain_of self.old) log c)) }
+        ensures too_long { (c : Contents) → G.holds reg.old c → must_load self.old ≡ false → IsPast (place_of self.old) (op_of log (ticked (sets_of self.old) (plain_of self.old) log c))
+            → IsErrOf result NodeFault.Full ⊎ IsErrOf result NodeFault.NoMemory ⊎ ((fault : Refusal) × IsErrOf result (NodeFault.Register fault)) }
+
+        // Where it got as far as the disk, or the journal's limit, the op is one that a journal's body can carry.
+        ensures change { (c : Contents) → G.holds reg.old c → IsErrOf result NodeFault.Disk ⊎ IsErrOf result NodeFault.Full
+            → AreChanges (op_of log (ticked (sets_of self.old) (plain_of self.old) log c)) }
+
+        ensures needs_load { IsErrOf result NodeFault.NeedsLoad ↔ (must_load self.old ≡ true) }
+        ensures needs_no_look { must_load self.old ≡ true → reg.new ≡ reg.old }
+        ensures loads { (must_load self.new ≡ true) ↔ ((must_load self.old ≡ true) ⊎ IsErrOf result NodeFault.Disk) }
+        ensures damaged { (place : ℕ) → result ≢ Err (NodeFault.Damaged place) }
+        ensures counts { (D.faults (disk_of self.old) ≤ D.faults (disk_of self.new)) × (G.faults reg.old ≤ G.faults reg.new) }
+        ensures failed { IsErrOf result NodeFault.Disk → Rose (D.faults (disk_of self.old)) (D.faults (disk_of self.new)) }
+
+        // Another refusal than `Disk` changes nothing.
+        ensures stays { OnErr result (IsErrOf result NodeFault.Disk ⊎ Unchanged D.seen D.may_leave D.moment D.left_since (disk_of self.old) (disk_of self.new)) }
+        ensures keeps { OnErr result (IsErrOf result NodeFault.Disk ⊎ ((D.plain (disk_of self.new) ≡ D.plain (disk_of self.old)) × (place_of self.new ≡ place_of self.old))) }
+        ensures holds { (ops : List Kind) → Holds D.seen D.may_leave self.old ops
+            → OnErr result (IsErrOf result NodeFault.Disk ⊎ Holds D.seen D.may_leave self.new ops) }
+    {
+        if self.store.needs_load() {
+            return Err(NodeFault::NeedsLoad);
+        }
+        let Some(set) = nodes_of(&self.sets, log) else {
+            return Ok(Ticked::Nothing);
+        };
+        let step = look(alloc, self.id, log, &set, self.store.plain(), reg)?;
+        keep(alloc, &mut self.store, step.op)?;
+        Ok(step.ticked)
     }
 }

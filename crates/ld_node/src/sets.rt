@@ -1,10 +1,11 @@
 // The logs that a node keeps.
 ghost use Rattle.std.specs.Prelude.{◌≡◌, IfOk, if◌then◌else◌, OnOk};
-ghost use Rattle.ld_table.specs.Table.{put};
+ghost use Rattle.ld_table.specs.Table.{find, put};
+ghost use Rattle.ld_ids.specs.Id.{IsLog};
 ghost use Rattle.ld_ids.specs.Set.{has_node};
 ghost use Rattle.ld_node.specs.Sets.{sets_in};
 
-use ld_ids::{NoMemory, NodeId, NodeSet, Spec};
+use ld_ids::{LogId, NoMemory, NodeId, NodeSet, Spec};
 use std::alloc::Global;
 use std::collections::BTreeMap;
 
@@ -32,4 +33,13 @@ pub(crate) fn sets_in(
         add_set(&mut sets, id, spec)?;
     }
     Ok(sets)
+}
+
+/// The nodes of a log that the node keeps.
+#[tactic(auto, unfolding(ld_table::specs::Table::find))]
+pub(crate) fn nodes_of(sets: &BTreeMap<u32, NodeSet>, log: LogId) -> Option<NodeSet>
+    ensures nodes { result ≡ find log sets.now.entries }
+    ensures log { IsLog log }
+{
+    sets.get(&log.number()).copied()
 }

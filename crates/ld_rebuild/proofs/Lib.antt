@@ -2,3 +2,4 @@ pub mod Walks
 pub mod Lackings
 pub mod Askings
 pub mod Refills
+pub mod Uncleans

@@ -1,7 +1,8 @@
 // What a lost node lacks.
-ghost use Rattle.std.specs.Prelude.{◌≡◌, filter, is_none, nat_lt, Some};
+ghost use Rattle.std.specs.Prelude.{◌≡◌, ◌-◌, ◌^◌, filter, is_none, nat_lt, Some};
 ghost use Rattle.ld_table.specs.Table.{find};
 ghost use Rattle.ld_table.specs.Words.{first};
+ghost use Rattle.ld_msg.specs.declared.msg.Summary.{Summary as Closing};
 ghost use Rattle.ld_op.specs.Plain.{log_of};
 ghost use Rattle.ld_op.specs.Ticks.{missing, numbers_of, lowest_unclean, is_full};
 ghost use Rattle.ld_rebuild.specs.Lacks.{lost_from, begins_with};
@@ -23,7 +24,7 @@ pub fn is_full(plain: &Plain, log: LogId) -> bool
 
 /// The lowest number of the log that is missing: it stands above the trim and below the end of a clean epoch that was
 /// lost, and has no entry. It takes time in the entries of these epochs below the number.
-pub(crate) fn first_missing(plain: &Plain, log: LogId) -> Option<Lsn>
+pub fn first_missing(plain: &Plain, log: LogId) -> Option<Lsn>
     ensures { result ≡ first (missing (log_of plain.now.state log)) }
 {
     plain.summaries_rise(log);
@@ -70,6 +71,21 @@ fn first_in(plain: &Plain, log: LogId, epoch: u32, summary: Summary) -> Option<L
         }
     }
     None
+}
+
+/// The lowest epoch of the log, from one on, that isn't clean here. It takes time in the clean epochs below it.
+pub fn lowest_unclean(plain: &Plain, log: LogId) -> u32
+    requires { (y : Closing) → find (2 ^ 32 - 1) (log_of plain.now.state log).summaries ≡ Some y → ⊥ }
+    ensures { result ≡ lowest_unclean (log_of plain.now.state log) }
+{
+    plain.summaries_rise(log);
+    let mut from = 0;
+    let mut lowest = 1;
+    'epochs: while begins_with(plain, log, from, lowest) {
+        lowest += 1;
+        from = lowest;
+    }
+    lowest
 }
 
 /// Whether all epochs from one up to the one up to which the log was lost are clean here.
