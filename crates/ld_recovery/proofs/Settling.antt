@@ -216,6 +216,10 @@ plan_from epoch d = items_from epoch (trim_place epoch (digest_trim d) + 1) (pla
 pub from_planned : (items : List Item) (epoch : ℕ) (d : List Told) → items ≡ (plan epoch d).items → (f : ℕ) × AreFrom f (planned items)
 from_planned items epoch d h = (numbered epoch (trim_place epoch (digest_trim d) + 1), subst (λ (l : List Item). AreFrom (numbered epoch (trim_place epoch (digest_trim d) + 1)) (planned l)) (sym h) (plan_from epoch d))
 
+pub ends_above : (end epoch : ℕ) (d : List Told) → end ≡ (plan epoch d).end → 1 ≤ end
+unfolding plan plan_end
+ends_above end epoch d h = omega (arith, h)
+
 pub settle_from : (p : ℕ → Bool) (y f : ℕ) (m : List (ℕ × Planned)) → AreFrom f m → AreFrom f (settle p y m)
 settle_from p y f [] a = tt
 settle_from p y f (e ∷ m) a = (a.0, settle_from p y (f + 1) m a.1)

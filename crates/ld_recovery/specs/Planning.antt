@@ -1,7 +1,10 @@
 -- A plan that is being stored, its items under numbers that follow each other.
-use Rattle.std.specs.Prelude.{ℕ, zero, suc, ◌≡◌, ◌+◌, List, [], ◌∷◌, Bool, nat_lt, length, if◌then◌else◌}
+use Rattle.std.specs.Prelude.{ℕ, zero, suc, ◌≡◌, ◌≤◌, ◌+◌, List, [], ◌∷◌, Bool, nat_lt, length, if◌then◌else◌}
 use Rattle.ld_table.specs.Words.{with_one}
+use Rattle.ld_lsn.specs.Number.{last_esn}
 use Rattle.ld_ids.specs.declared.set.Spec.{Spec}
+use Rattle.ld_msg.specs.declared.msg.Summary.{Summary}
+use Rattle.ld_msg.specs.Bounds.{Is64}
 use Rattle.ld_msg.specs.Sequencer.{Planned, Storing}
 
 -- a plan with what is said of its log
@@ -11,6 +14,14 @@ pub record Plans : Type 0 where
 
 abbrev pub with_storing : Plans → Storing → Plans
 with_storing p g = record { spec = p.spec; storing = g }
+
+-- a summary that a plan gives to the sequencer of an epoch
+pub record IsClose (by : ℕ) (y : Summary) : Type 0 where
+  pub ballot : y.ballot ≡ by
+  pub lng : y.lng ≡ 0
+  pub trim : Is64 y.trim
+  pub end : 1 ≤ y.end
+  pub end_most : y.end ≤ last_esn
 
 -- items have the numbers from one on
 abbrev pub AreFrom : ℕ → List (ℕ × Planned) → Type 0

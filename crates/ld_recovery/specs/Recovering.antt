@@ -1,18 +1,21 @@
 -- The recovery of an epoch on its own, and the sequencer that it is a part of.
-use Rattle.std.specs.Prelude.{ℕ, ◌≡◌, ◌<◌, ◌-◌, ◌^◌, List, [], ◌++◌, Option, Some, None, Bool, true, false, ◌==◌, if◌then◌else◌}
+use Rattle.std.specs.Prelude.{ℕ, ◌≡◌, ◌≤◌, ◌<◌, ◌-◌, ◌^◌, List, [], ◌++◌, Option, Some, None, Bool, true, false, ◌==◌, if◌then◌else◌}
 use Rattle.ld_ids.specs.declared.set.Spec.{Spec}
 use Rattle.ld_ids.specs.Choice.{at_epoch}
+use Rattle.ld_lsn.specs.Number.{epoch_of}
 use Rattle.ld_msg.specs.declared.msg.Who.{Who}
 use Rattle.ld_msg.specs.declared.msg.Who.TheVariants as whos
 use Rattle.ld_msg.specs.declared.msg.Msg.{Msg}
 use Rattle.ld_msg.specs.declared.msg.Summary.{Summary}
 use Rattle.ld_msg.specs.declared.msg.Body.{Body}
 use Rattle.ld_msg.specs.declared.msg.Body.TheVariants as bodies
+use Rattle.ld_ids.specs.Id.{IsNode}
+use Rattle.ld_msg.specs.Bounds.{IsSummary, IsPage, Fits}
 use Rattle.ld_msg.specs.Digest.{no_digest}
 use Rattle.ld_msg.specs.Network.{posted}
 use Rattle.ld_msg.specs.Register.{Answer, Granted, AtLimit, Behind, Fails}
 use Rattle.ld_msg.specs.Sequencer.{Sequencer, Recovery, Seals, Closes, Acts, does_nothing, on_reply, on_retry, after_close}
-use Rattle.ld_digest.specs.Gathering.{AreInPlace}
+use Rattle.ld_recovery.specs.Planning.{IsClose}
 
 -- how a recovery ended, where it did
 pub data Ending : Type 0 where
@@ -139,7 +142,29 @@ abbrev pub sender_of : Who → ℕ
 sender_of (whos.Node n) = n
 sender_of _ = 0
 
--- a page ends before the greatest number, and only a bridge may stand at the last place of an epoch
-abbrev pub IsInPlace : Body → Type 0
-IsInPlace (bodies.DigestPage from upto trim lng es) = (upto < 2 ^ 64 - 1) × AreInPlace es
-IsInPlace _ = Unit {0}
+-- what holds of the replies that a message may carry
+abbrev pub IsReply : Body → Type 0
+IsReply (bodies.CleanHere n y) = IsSummary (epoch_of n) y
+IsReply (bodies.DigestPage from upto trim lng es) = IsPage from upto es
+IsReply _ = Unit {0}
+
+-- a node's reply to the sequencer of an epoch
+abbrev pub IsReplyTo : ℕ → Body → Type 0
+IsReplyTo epoch b = (n : ℕ) → IsNode n → Fits (whos.Node n) (whos.Sequencer epoch) b
+
+-- ---- what holds of each recovery ----
+
+pub record IsRecovery (r : Recovering) : Type 0 where
+  pub factor : 1 ≤ r.spec.r
+  pub epoch : 1 ≤ r.recovery.epoch
+  pub later : r.recovery.epoch < r.ballot
+  pub ballot : r.ballot ≤ 2 ^ 32 - 2
+  pub closes : (y : Summary) → r.recovery.stage ≡ Closes y → IsClose r.ballot y
+  pub done : (y : Summary) → r.ending ≡ IsDone y → IsSummary r.recovery.epoch y
+
+-- the epoch is to be closed with this summary of it, by the sequencer, with no number known to be good
+pub record IsClosing (r : Recovering) (y : Summary) : Type 0 where
+  pub closing : Closing r y
+  pub summary : IsSummary r.recovery.epoch y
+  pub ballot : y.ballot ≡ r.ballot
+  pub lng : y.lng ≡ 0

@@ -8,19 +8,21 @@ use Rattle.ld_msg.specs.Sequencer as sequencer
 use Rattle.ld_msg.specs.Sequencer.{settled_by, is_ready, summary_of, storing_of, planned, item_stores, takes_any, next_ask, next_try, next_wave, digest_asks}
 use Rattle.ld_digest.specs.Gathering.{Gathering, with_told}
 use Rattle.ld_recovery.specs.declared.stage.Stage.{Stage}
-use Rattle.ld_recovery.specs.declared.stage.Stage.TheVariants.{Seals, Stores, Closes}
-use Rattle.ld_recovery.specs.Planning.{Plans, with_storing}
+use Rattle.ld_recovery.specs.declared.stage.Stage.TheVariants.{Seals, Stores, Closes, Stopped}
+use Rattle.ld_recovery.specs.Planning.{Plans, with_storing, IsClose}
 
 abbrev pub shown : Stage → sequencer.Stage
 shown (Seals d) = sequencer.Seals d.told
 shown (Stores p) = sequencer.Stores p.storing
 shown (Closes y) = sequencer.Closes y
+shown Stopped = sequencer.Seals []
 
--- it is a log's, and of an epoch
-abbrev pub IsOf : Spec → ℕ → Stage → Type 0
-IsOf spec epoch (Seals d) = (d.spec ≡ spec) × (d.epoch ≡ epoch)
-IsOf spec epoch (Stores p) = p.spec ≡ spec
-IsOf spec epoch (Closes y) = Unit {0}
+-- it is a log's, of an epoch, and closes by a sequencer
+abbrev pub IsOf : Spec → ℕ → ℕ → Stage → Type 0
+IsOf spec epoch ballot (Seals d) = (d.spec ≡ spec) × (d.epoch ≡ epoch)
+IsOf spec epoch ballot (Stores p) = p.spec ≡ spec
+IsOf spec epoch ballot (Closes y) = IsClose ballot y
+IsOf spec epoch ballot Stopped = Unit {0}
 
 -- a plan is closed, where it is ready
 abbrev pub closed_if_ready : ℕ → Plans → sequencer.Stage
@@ -31,6 +33,7 @@ abbrev pub settled : ℕ → (ℕ → Bool) → ℕ → Stage → sequencer.Stag
 settled ballot p y (Seals d) = sequencer.Seals d.told
 settled ballot p y (Stores g) = closed_if_ready ballot (with_storing g (settled_by p y g.storing))
 settled ballot p y (Closes s) = sequencer.Closes s
+settled ballot p y Stopped = sequencer.Seals []
 
 -- what has been told is planned, where it is enough
 abbrev pub gathered : Gathering → sequencer.Stage
@@ -48,19 +51,23 @@ abbrev pub page_stage : Stage → ℕ → ℕ → ℕ → ℕ → List Entry →
 page_stage (Seals d) y from upto trim es = if takes_any y from d.told then gathered (paged d y from upto trim es) else sequencer.Seals d.told
 page_stage (Stores p) y from upto trim es = sequencer.Stores p.storing
 page_stage (Closes s) y from upto trim es = sequencer.Closes s
+page_stage Stopped y from upto trim es = sequencer.Seals []
 
 abbrev pub page_sends : List ℕ → Stage → ℕ → ℕ → ℕ → ℕ → List Entry → List (ℕ × Body)
 page_sends lost (Seals d) y from upto trim es = if takes_any y from d.told then gathered_sends lost (paged d y from upto trim es) (next_ask y (paged d y from upto trim es).told) else []
 page_sends lost (Stores p) y from upto trim es = []
 page_sends lost (Closes s) y from upto trim es = []
+page_sends lost Stopped y from upto trim es = []
 
 -- a stage is tried again
 abbrev pub retried_stage : Stage → sequencer.Stage
 retried_stage (Seals d) = sequencer.Seals d.told
 retried_stage (Stores p) = sequencer.Stores (next_try p.storing)
 retried_stage (Closes y) = sequencer.Closes y
+retried_stage Stopped = sequencer.Seals []
 
 abbrev pub retry_sends : List ℕ → Stage → List (ℕ × Body)
 retry_sends lost (Seals d) = digest_asks d.told
 retry_sends lost (Stores p) = item_stores p.spec lost (next_wave p.storing.wave) p.storing.items
 retry_sends lost (Closes y) = []
+retry_sends lost Stopped = []

@@ -1,6 +1,7 @@
 //! The recovery of an epoch: its digest, its plan, the storing of the plan, and the close.
 #![tactic(auto)]
 
+mod laws;
 mod planned;
 mod recovery;
 mod send;
@@ -10,6 +11,7 @@ mod storing;
 #[cfg(test)]
 mod tests;
 
+pub use laws::{closings_are_summaries, recoveries_hold};
 pub use planned::Planned;
 pub use recovery::Recovery;
 pub use send::Sender;

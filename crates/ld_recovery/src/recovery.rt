@@ -5,13 +5,14 @@ ghost use Rattle.ld_ids.specs.Choice.{at_epoch};
 ghost use Rattle.ld_msg.specs.declared.msg.Summary.{Summary as Told};
 ghost use Rattle.ld_msg.specs.declared.msg.Body.TheVariants.{Stored, SealedHere, LostHere, CleanHere, TrimmedHere, DigestPage};
 ghost use Rattle.ld_msg.specs.Register.{Granted};
-ghost use Rattle.ld_digest.specs.Gathering.{AreInPlace};
 ghost use Rattle.ld_recovery.specs.Stages.{IsOf};
-ghost use Rattle.ld_msg.specs.Bounds.{IsNodeHere};
+ghost use Rattle.ld_msg.specs.Bounds.{IsMessage, IsSummary, IsPage};
+ghost use Rattle.ld_lsn.specs.Number.{epoch_of};
 ghost use Rattle.ld_msg.specs.Digest.{no_digest};
 ghost use Rattle.ld_msg.specs.Sequencer.{digest_asks};
-ghost use Rattle.ld_recovery.specs.Recovering.{Goes, is_going, started, replied, reply_messages, sender_of, retried, retry_messages, Closing, closed_by, close_messages, messages, ending_behind, IsInPlace};
-ghost use Rattle.ld_recovery.specs.States.{state_of, answer_of, is_epoch_answer, shown_ending};
+ghost use Rattle.ld_recovery.specs.Recovering.{Goes, is_going, started, replied, reply_messages, sender_of, retried, retry_messages, Closing, closed_by, close_messages, messages, ending_behind, IsReply, IsRecovery, IsClosing};
+ghost use Rattle.ld_recovery.specs.States.{state_of, answer_of, is_epoch_answer, shown_ending, ended_state, IsEnding, IsTold};
+ghost use Rattle.ld_recovery.specs.declared.state.State.TheVariants as states;
 
 use crate::send::Sender;
 use crate::stage::{Scope, Stage};
@@ -33,6 +34,20 @@ pub(crate) enum Ending {
     Preempted(u32),
 }
 
+impl Ending {
+    // The state of a recovery that ended so, where it did.
+    fn state(&self) -> Option<State>
+        ensures { result ≡ ended_state self.now }
+    {
+        match self {
+            Ending::Goes => None,
+            Ending::Done(summary) => Some(State::Done(*summary)),
+            Ending::Gone(lce) => Some(State::Gone(*lce)),
+            Ending::Preempted(by) => Some(State::Preempted(*by)),
+        }
+    }
+}
+
 /// The recovery of an epoch by the sequencer of a later one: the nodes are sealed and tell what they have; from what
 /// enough of them told a plan is made and stored; once it is stored the epoch is to be closed in the register.
 #[derive(Drop)]
@@ -49,13 +64,13 @@ impl Model for Recovery {
     ghost use Rattle.std.specs.Prelude.{◌≡◌, ◌≤◌, ◌<◌, ◌-◌, ◌^◌};
     ghost use Rattle.ld_recovery.specs.Recovering.{Recovering};
     ghost use Rattle.ld_recovery.specs.Stages.{shown, IsOf};
-    ghost use Rattle.ld_recovery.specs.States.{shown_ending};
+    ghost use Rattle.ld_recovery.specs.States.{shown_ending, IsEnding};
 
     ghost Value = { Recovering };
 
     ghost view = { λ a. record { spec = a.spec; ballot = a.ballot; recovery = record { epoch = a.epoch; lost = a.lost; stage = shown a.stage }; ending = shown_ending a.ending } };
 
-    ghost invariant = { λ a. IsOf a.spec a.epoch a.stage × (1 ≤ a.spec.r) × (1 ≤ a.epoch) × (a.epoch < a.ballot) × (a.ballot ≤ 2 ^ 32 - 2) };
+    ghost invariant = { λ a. IsOf a.spec a.epoch a.ballot a.stage × (1 ≤ a.spec.r) × (1 ≤ a.epoch) × (a.epoch < a.ballot) × (a.ballot ≤ 2 ^ 32 - 2) × IsEnding a.epoch a.ending };
 }
 
 impl Recovery {
@@ -91,27 +106,32 @@ impl Recovery {
         })
     }
 
-    /// Where it stands.
-    pub fn state(&self) -> State
-        ensures { result ≡ state_of self.now }
+    /// The epoch that is recovered.
+    pub fn epoch(&self) -> u32
+        ensures { result ≡ self.now.recovery.epoch }
     {
-        match self.ending {
-            Ending::Done(summary) => State::Done(summary),
-            Ending::Gone(lce) => State::Gone(lce),
-            Ending::Preempted(by) => State::Preempted(by),
-            Ending::Goes => self.stage.state(),
-        }
+        self.epoch
+    }
+
+    /// Where it stands. A summary that it is closing or done with is one that the register takes for its epoch; one that it
+    /// is closing with names its ballot, and no number that is known to be good.
+    pub fn state(&self) -> State
+        ensures value { result ≡ state_of self.now }
+        ensures holds { IsRecovery self.now }
+        ensures closing { (summary : Told) → result ≡ states.Closing summary → IsClosing self.now summary }
+        ensures done { (summary : Told) → result ≡ states.Done summary → IsSummary self.now.recovery.epoch summary }
+    {
+        self.ending.state().unwrap_or(self.stage.state())
     }
 
     /// A node's message comes. A recovery that has ended ignores it, and so does any of what doesn't speak of its epoch, but
-    /// for a seal of a greater ballot and a close of the sequencer's own epoch, which preempt. The page of a digest ends
-    /// before the greatest number, and only a bridge may stand at the last place of an epoch. Without memory a part may
-    /// have been done: the recovery isn't used again.
+    /// for a seal of a greater ballot and a close of the sequencer's own epoch, which preempt. Other messages than a node's
+    /// replies do nothing. Without memory a part may have been done: the recovery isn't used again.
     pub fn on_reply(&mut self, alloc: Global, msg: &Msg, out: &mut Outbox) -> Result<(), NoMemory>
-        requires node { IsNodeHere msg.now.from }
-        requires page { IsInPlace msg.now.body }
+        requires { IsMessage msg.now }
         ensures value { OnOk result (self.new ≡ replied self.old (sender_of msg.now.from) msg.now.body) }
         ensures sent { OnOk result (out.new ≡ out.old ++ reply_messages self.old (sender_of msg.now.from) msg.now.body) }
+        ensures done { OnOk result ((summary : Told) → state_of self.new ≡ states.Done summary → IsTold self.old msg.now.body summary) }
     {
         if !self.goes_on() {
             return Ok(());
@@ -131,7 +151,7 @@ impl Recovery {
         out: &mut Outbox,
     ) -> Result<(), NoMemory>
         requires going { self.old.ending ≡ Goes }
-        requires page { IsInPlace body.now }
+        requires reply { IsReply body.now }
         ensures value { OnOk result (self.new ≡ replied self.old node body.now) }
         ensures sent { OnOk result (out.new ≡ out.old ++ reply_messages self.old node body.now) }
     {
@@ -222,7 +242,8 @@ impl Recovery {
         node: NodeId,
         out: &mut Outbox,
     ) -> Result<(), NoMemory>
-        requires { self.old.ending ≡ Goes }
+        requires going { self.old.ending ≡ Goes }
+        requires summary { IsSummary (epoch_of number) summary.now }
         ensures value { OnOk result (self.new ≡ replied self.old node (CleanHere number summary.now)) }
         ensures sent { OnOk result (out.new ≡ out.old ++ reply_messages self.old node (CleanHere number summary.now)) }
     {
@@ -247,8 +268,7 @@ impl Recovery {
         out: &mut Outbox,
     ) -> Result<(), NoMemory>
         requires going { self.old.ending ≡ Goes }
-        requires upto { page.now.upto < 2 ^ 64 - 1 }
-        requires entries { AreInPlace page.now.entries.now }
+        requires page { IsPage page.now.from page.now.upto page.now.entries.now }
         ensures value { (lng : ℕ) → OnOk result (self.new ≡ replied self.old node (DigestPage page.now.from page.now.upto page.now.trim lng page.now.entries.now)) }
         ensures sent { (lng : ℕ) → OnOk result (out.new ≡ out.old ++ reply_messages self.old node (DigestPage page.now.from page.now.upto page.now.trim lng page.now.entries.now)) }
     {
@@ -335,7 +355,8 @@ impl Recovery {
 // How a recovery ends where the register's last closed epoch is another one than the one before.
 fn behind(ballot: u32, lce: u32) -> Ending
     requires { lce ≤ 2 ^ 32 - 2 }
-    ensures { shown_ending result ≡ ending_behind lce (if nat_le ballot lce then Some (lce + 1) else None) }
+    ensures ending { shown_ending result ≡ ending_behind lce (if nat_le ballot lce then Some (lce + 1) else None) }
+    ensures open { (epoch : ℕ) → IsEnding epoch result }
 {
     if ballot <= lce {
         Ending::Preempted(lce + 1)

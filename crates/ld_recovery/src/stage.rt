@@ -31,13 +31,15 @@ pub(crate) enum Stage {
     Stores(Storing),
     /// The plan is stored, and the epoch is to be closed so.
     Closes(Summary),
+    /// It ran out of memory: it asks for nothing, takes nothing and never closes.
+    Stopped,
 }
 
 impl Stage {
     /// The node stored the item of a number.
     fn on_stored(self, ballot: u32, number: Lsn, node: NodeId) -> Stage
         ensures shown { shown result ≡ settled ballot (λ s. s == number) node self }
-        ensures of { (spec : Config) (epoch : ℕ) → IsOf spec epoch self → IsOf spec epoch result }
+        ensures of { (spec : Config) (epoch : ℕ) → IsOf spec epoch ballot self → IsOf spec epoch ballot result }
     {
         match self {
             Stage::Stores(mut storing) => {
@@ -46,13 +48,14 @@ impl Stage {
             }
             Stage::Seals(digest) => Stage::Seals(digest),
             Stage::Closes(summary) => Stage::Closes(summary),
+            Stage::Stopped => Stage::Stopped,
         }
     }
 
     /// The node trimmed all up to a number.
     fn on_trimmed(self, ballot: u32, trim: Lsn, node: NodeId) -> Stage
         ensures shown { shown result ≡ settled ballot (λ s. nat_le s trim) node self }
-        ensures of { (spec : Config) (epoch : ℕ) → IsOf spec epoch self → IsOf spec epoch result }
+        ensures of { (spec : Config) (epoch : ℕ) → IsOf spec epoch ballot self → IsOf spec epoch ballot result }
     {
         match self {
             Stage::Stores(mut storing) => {
@@ -61,13 +64,14 @@ impl Stage {
             }
             Stage::Seals(digest) => Stage::Seals(digest),
             Stage::Closes(summary) => Stage::Closes(summary),
+            Stage::Stopped => Stage::Stopped,
         }
     }
 
     /// The node said that it is lost.
     fn on_lost(self, node: NodeId) -> Stage
         ensures shown { shown result ≡ lost_stage node (shown self) }
-        ensures of { (spec : Config) (epoch : ℕ) → IsOf spec epoch self → IsOf spec epoch result }
+        ensures of { (spec : Config) (epoch ballot : ℕ) → IsOf spec epoch ballot self → IsOf spec epoch ballot result }
     {
         match self {
             Stage::Seals(mut digest) => {
@@ -76,37 +80,38 @@ impl Stage {
             }
             Stage::Stores(storing) => Stage::Stores(storing),
             Stage::Closes(summary) => Stage::Closes(summary),
+            Stage::Stopped => Stage::Stopped,
         }
     }
 
     /// The node stored the item of a number.
     pub(crate) fn store(&mut self, ballot: u32, number: Lsn, node: NodeId)
         ensures shown { shown self.new ≡ settled ballot (λ s. s == number) node self.old }
-        ensures of { (spec : Config) (epoch : ℕ) → IsOf spec epoch self.old → IsOf spec epoch self.new }
+        ensures of { (spec : Config) (epoch : ℕ) → IsOf spec epoch ballot self.old → IsOf spec epoch ballot self.new }
     {
-        let stage = mem::replace(self, nothing());
+        let stage = mem::replace(self, Stage::Stopped);
         *self = stage.on_stored(ballot, number, node);
     }
 
     /// The node trimmed all up to a number.
     pub(crate) fn trim(&mut self, ballot: u32, trim: Lsn, node: NodeId)
         ensures shown { shown self.new ≡ settled ballot (λ s. nat_le s trim) node self.old }
-        ensures of { (spec : Config) (epoch : ℕ) → IsOf spec epoch self.old → IsOf spec epoch self.new }
+        ensures of { (spec : Config) (epoch : ℕ) → IsOf spec epoch ballot self.old → IsOf spec epoch ballot self.new }
     {
-        let stage = mem::replace(self, nothing());
+        let stage = mem::replace(self, Stage::Stopped);
         *self = stage.on_trimmed(ballot, trim, node);
     }
 
     /// The node said that it is lost.
     pub(crate) fn lose(&mut self, node: NodeId)
         ensures shown { shown self.new ≡ lost_stage node (shown self.old) }
-        ensures of { (spec : Config) (epoch : ℕ) → IsOf spec epoch self.old → IsOf spec epoch self.new }
+        ensures of { (spec : Config) (epoch ballot : ℕ) → IsOf spec epoch ballot self.old → IsOf spec epoch ballot self.new }
     {
-        let stage = mem::replace(self, nothing());
+        let stage = mem::replace(self, Stage::Stopped);
         *self = stage.on_lost(node);
     }
 
-    /// What is still wanted is asked for again. Without memory a part may have been sent, and the stage is lost.
+    /// What is still wanted is asked for again. Without memory a part may have been sent, and it is stopped.
     pub(crate) fn try_again(
         &mut self,
         alloc: Global,
@@ -115,15 +120,15 @@ impl Stage {
         out: &mut Outbox,
     ) -> Result<(), NoMemory>
         ensures shown { OnOk result (shown self.new ≡ retried_stage self.old) }
-        ensures of { (spec : Config) (epoch : ℕ) → IsOf spec epoch self.old → IsOf spec epoch self.new }
+        ensures of { (spec : Config) (epoch ballot : ℕ) → IsOf spec epoch ballot self.old → IsOf spec epoch ballot self.new }
         ensures sent { OnOk result (out.new ≡ out.old ++ sent sender.now (retry_sends lost.now self.old)) }
     {
-        let stage = mem::replace(self, nothing());
+        let stage = mem::replace(self, Stage::Stopped);
         *self = stage.retry(alloc, sender, lost, out)?;
         Ok(())
     }
 
-    /// A page of the node comes. Without memory a part of what is to be sent may have been, and the stage is lost.
+    /// A page of the node comes. Without memory a part of what is to be sent may have been, and it is stopped.
     pub(crate) fn take_page(
         &mut self,
         alloc: Global,
@@ -135,12 +140,12 @@ impl Stage {
         requires factor { 1 ≤ scope.now.spec.now.r }
         requires upto { page.now.upto < 2 ^ 64 - 1 }
         requires entries { AreInPlace page.now.entries.now }
-        requires of { IsOf scope.now.spec.now scope.now.epoch self.old }
+        requires of { IsOf scope.now.spec.now scope.now.epoch scope.now.sender.now.epoch self.old }
         ensures shown { OnOk result (shown self.new ≡ page_stage self.old node page.now.from page.now.upto page.now.trim page.now.entries.now) }
-        ensures of { IsOf scope.now.spec.now scope.now.epoch self.new }
+        ensures of { IsOf scope.now.spec.now scope.now.epoch scope.now.sender.now.epoch self.new }
         ensures sent { OnOk result (out.new ≡ out.old ++ sent scope.now.sender.now (page_sends scope.now.lost.now self.old node page.now.from page.now.upto page.now.trim page.now.entries.now)) }
     {
-        let stage = mem::replace(self, nothing());
+        let stage = mem::replace(self, Stage::Stopped);
         *self = on_page(alloc, stage, scope, node, page, out)?;
         Ok(())
     }
@@ -153,6 +158,7 @@ impl Stage {
             Stage::Closes(summary) => Some(*summary),
             Stage::Seals(_) => None,
             Stage::Stores(_) => None,
+            Stage::Stopped => None,
         }
     }
 
@@ -164,6 +170,7 @@ impl Stage {
             Stage::Closes(summary) => State::Closing(*summary),
             Stage::Seals(_) => State::Sealing,
             Stage::Stores(_) => State::Storing,
+            Stage::Stopped => State::Sealing,
         }
     }
 
@@ -176,7 +183,7 @@ impl Stage {
         out: &mut Outbox,
     ) -> Result<Stage, NoMemory>
         ensures shown { IfOk result (λ stage'. shown stage' ≡ retried_stage self) }
-        ensures of { IfOk result (λ stage'. (spec : Config) (epoch : ℕ) → IsOf spec epoch self → IsOf spec epoch stage') }
+        ensures of { IfOk result (λ stage'. (spec : Config) (epoch ballot : ℕ) → IsOf spec epoch ballot self → IsOf spec epoch ballot stage') }
         ensures sent { OnOk result (out.new ≡ out.old ++ sent sender.now (retry_sends lost.now self)) }
     {
         match self {
@@ -190,6 +197,7 @@ impl Stage {
                 Ok(Stage::Stores(storing))
             }
             Stage::Closes(summary) => Ok(Stage::Closes(summary)),
+            Stage::Stopped => Ok(Stage::Stopped),
         }
     }
 }
@@ -197,7 +205,7 @@ impl Stage {
 // A plan is closed, where each of its items has enough nodes.
 fn closed_if_ready(storing: Storing, ballot: u32) -> Stage
     ensures shown { shown result ≡ closed_if_ready ballot storing }
-    ensures of { (spec : Config) (epoch : ℕ) → storing.spec ≡ spec → IsOf spec epoch result }
+    ensures of { (spec : Config) (epoch : ℕ) → storing.spec ≡ spec → IsOf spec epoch ballot result }
 {
     if storing.is_ready() {
         Stage::Closes(storing.summary(ballot))
@@ -227,8 +235,8 @@ fn on_page(
     requires factor { 1 ≤ scope.now.spec.now.r }
     requires upto { page.now.upto < 2 ^ 64 - 1 }
     requires entries { AreInPlace page.now.entries.now }
-    requires of { IsOf scope.now.spec.now scope.now.epoch stage }
-    ensures of { IfOk result (λ stage'. IsOf scope.now.spec.now scope.now.epoch stage') }
+    requires of { IsOf scope.now.spec.now scope.now.epoch scope.now.sender.now.epoch stage }
+    ensures of { IfOk result (λ stage'. IsOf scope.now.spec.now scope.now.epoch scope.now.sender.now.epoch stage') }
     ensures stage { IfOk result (λ stage'. shown stage' ≡ page_stage stage node page.now.from page.now.upto page.now.trim page.now.entries.now) }
     ensures sent { OnOk result (out.new ≡ out.old ++ sent scope.now.sender.now (page_sends scope.now.lost.now stage node page.now.from page.now.upto page.now.trim page.now.entries.now)) }
 {
@@ -236,6 +244,7 @@ fn on_page(
         Stage::Seals(digest) => add_page(alloc, digest, scope, node, page, out),
         Stage::Stores(storing) => Ok(Stage::Stores(storing)),
         Stage::Closes(summary) => Ok(Stage::Closes(summary)),
+        Stage::Stopped => Ok(Stage::Stopped),
     }
 }
 
@@ -252,7 +261,7 @@ fn add_page(
     requires upto { page.now.upto < 2 ^ 64 - 1 }
     requires entries { AreInPlace page.now.entries.now }
     requires of { (digest.spec ≡ scope.now.spec.now) × (digest.epoch ≡ scope.now.epoch) }
-    ensures of { IfOk result (λ stage'. IsOf scope.now.spec.now scope.now.epoch stage') }
+    ensures of { IfOk result (λ stage'. IsOf scope.now.spec.now scope.now.epoch scope.now.sender.now.epoch stage') }
     ensures stage { IfOk result (λ stage'. shown stage' ≡ page_stage (Seals digest) node page.now.from page.now.upto page.now.trim page.now.entries.now) }
     ensures sent { OnOk result (out.new ≡ out.old ++ sent scope.now.sender.now (page_sends scope.now.lost.now (Seals digest) node page.now.from page.now.upto page.now.trim page.now.entries.now)) }
 {
@@ -273,7 +282,7 @@ fn gathered(
 ) -> Result<Stage, NoMemory>
     requires factor { 1 ≤ scope.now.spec.now.r }
     requires of { (digest.spec ≡ scope.now.spec.now) × (digest.epoch ≡ scope.now.epoch) }
-    ensures of { IfOk result (λ stage'. IsOf scope.now.spec.now scope.now.epoch stage') }
+    ensures of { IfOk result (λ stage'. IsOf scope.now.spec.now scope.now.epoch scope.now.sender.now.epoch stage') }
     ensures stage { IfOk result (λ stage'. shown stage' ≡ gathered digest) }
     ensures sent { OnOk result (out.new ≡ out.old ++ sent scope.now.sender.now (gathered_sends scope.now.lost.now digest [])) }
 {
@@ -294,7 +303,7 @@ fn asked_on(
 ) -> Result<Stage, NoMemory>
     requires factor { 1 ≤ scope.now.spec.now.r }
     requires of { (digest.spec ≡ scope.now.spec.now) × (digest.epoch ≡ scope.now.epoch) }
-    ensures of { IfOk result (λ stage'. IsOf scope.now.spec.now scope.now.epoch stage') }
+    ensures of { IfOk result (λ stage'. IsOf scope.now.spec.now scope.now.epoch scope.now.sender.now.epoch stage') }
     ensures stage { IfOk result (λ stage'. shown stage' ≡ gathered digest) }
     ensures sent { OnOk result (out.new ≡ out.old ++ sent scope.now.sender.now (gathered_sends scope.now.lost.now digest ((node, DigestAsk next) ∷ []))) }
 {
@@ -309,7 +318,7 @@ fn asked_on(
 fn store(alloc: Global, digest: Digest, scope: &Scope, out: &mut Outbox) -> Result<Stage, NoMemory>
     requires factor { 1 ≤ scope.now.spec.now.r }
     requires of { (digest.spec ≡ scope.now.spec.now) × (digest.epoch ≡ scope.now.epoch) }
-    ensures of { IfOk result (λ stage'. IsOf scope.now.spec.now scope.now.epoch stage') }
+    ensures of { IfOk result (λ stage'. IsOf scope.now.spec.now scope.now.epoch scope.now.sender.now.epoch stage') }
     ensures stage { IfOk result (λ stage'. shown stage' ≡ Stored (storing_of (plan digest.epoch digest.told))) }
     ensures sent { OnOk result (out.new ≡ out.old ++ sent scope.now.sender.now (item_stores digest.spec scope.now.lost.now 0 (planned (plan digest.epoch digest.told).items))) }
 {
@@ -317,16 +326,4 @@ fn store(alloc: Global, digest: Digest, scope: &Scope, out: &mut Outbox) -> Resu
     let storing = Storing::new(alloc, scope.spec, plan)?;
     storing.send(alloc, scope.sender, scope.lost, out)?;
     Ok(Stage::Stores(storing))
-}
-
-// A stage that stands in for one that is being changed.
-fn nothing() -> Stage
-    ensures { (spec : Config) (epoch : ℕ) → IsOf spec epoch result }
-{
-    Stage::Closes(Summary {
-        ballot: 0,
-        lng: 0,
-        trim: Lsn::from_u64(0),
-        end: 1,
-    })
 }

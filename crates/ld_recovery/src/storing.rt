@@ -3,7 +3,7 @@ ghost use Rattle.std.specs.Prelude.{◌≡◌, ◌≤◌, ◌<◌, ◌+◌, ◌-
 ghost use Rattle.ld_table.specs.Words.{how_many};
 ghost use Rattle.ld_msg.specs.Sequencer.{planned, storing_of, settle, settled_by, is_ready, next_try, summary_of, item_stores};
 ghost use Rattle.ld_recovery.specs.Sending.{sent};
-ghost use Rattle.ld_recovery.specs.Planning.{with_storing, lacks, settle_at, settle_first, one_if, AreFrom};
+ghost use Rattle.ld_recovery.specs.Planning.{with_storing, lacks, settle_at, settle_first, one_if, AreFrom, IsClose};
 
 use crate::Planned;
 use crate::send::Sender;
@@ -29,7 +29,7 @@ pub struct Storing {
 }
 
 impl Model for Storing {
-    ghost use Rattle.std.specs.Prelude.{◌≡◌};
+    ghost use Rattle.std.specs.Prelude.{◌≡◌, ◌≤◌};
     ghost use Rattle.ld_table.specs.Words.{how_many};
     ghost use Rattle.ld_recovery.specs.Planning.{Plans, lacks, AreFrom};
 
@@ -37,14 +37,15 @@ impl Model for Storing {
 
     ghost view = { λ a. record { spec = a.spec; storing = record { trim = a.trim; end = a.end; items = a.items.items; wave = a.wave } } };
 
-    ghost invariant = { λ a. (a.lacking ≡ how_many (lacks a.spec.r) a.items.items) × AreFrom a.first a.items.items };
+    ghost invariant = { λ a. (a.lacking ≡ how_many (lacks a.spec.r) a.items.items) × AreFrom a.first a.items.items × (1 ≤ a.end) };
 }
 
 impl Storing {
-    /// A plan that is to be sent in its wave 0. Its items have the numbers from one on.
+    /// A plan that is to be sent in its wave 0. Its items have the numbers from one on, and its end is at least 1.
     pub fn new(alloc: Global, spec: &Spec, plan: Plan) -> Result<Storing, NoMemory>
         requires factor { 1 ≤ spec.now.r }
         requires numbers { (first : ℕ) × AreFrom first (planned plan.items) }
+        requires end { 1 ≤ plan.end }
         ensures { IfOk result (λ storing. storing ≡ record { spec = spec.now; storing = storing_of plan }) }
     {
         let Plan { trim, end, items } = plan;
@@ -131,14 +132,25 @@ impl Storing {
 
     /// The summary with which the epoch is closed by the sequencer of this epoch.
     pub fn summary(&self, ballot: u32) -> Summary
-        ensures { result ≡ summary_of ballot self.now.storing }
+        ensures value { result ≡ summary_of ballot self.now.storing }
+        ensures close { IsClose ballot result }
     {
-        Summary {
-            ballot,
-            lng: 0,
-            trim: self.trim,
-            end: self.end,
-        }
+        summary(ballot, self.trim, self.end)
+    }
+}
+
+// The summary with which the sequencer of this epoch closes. No number is known to be good.
+fn summary(ballot: u32, trim: Lsn, end: u32) -> Summary
+    requires { 1 ≤ end }
+    ensures value { result ≡ record { ballot = ballot; lng = 0; trim = trim; end = end } }
+    ensures close { IsClose ballot result }
+{
+    let _ = trim.value();
+    Summary {
+        ballot,
+        lng: 0,
+        trim,
+        end,
     }
 }
 

@@ -13,7 +13,7 @@ returns-in-Behind-clause-value c = λ y h.
     let w = held a.spec a.epoch a.ballot a.lost a.stage a.ending in
     let e : answer_of c.args.answer ≡ Behind c.in-Behind.lce = ap answer_of c.in-Behind.is in
     subst (λ (r : Recovering). ended w (shown_ending c.behind-self-inside.result) ≡ closed_by r y (answer_of c.args.answer)) c.self.view_is
-    (ap (λ (x : Ending). ended w x) (c.behind-self-inside.ensures ∙ sym (behind_ends w y c.in-Behind.lce)) ∙ sym (ap (λ (d : Answer). closed_by w y d) e))
+    (ap (λ (x : Ending). ended w x) (c.behind-self-inside.ensures.ending ∙ sym (behind_ends w y c.in-Behind.lce)) ∙ sym (ap (λ (d : Answer). closed_by w y d) e))
 
 pub returns-in-Behind-clause-sent : goal.returns-in-Behind-clause-sent
 returns-in-Behind-clause-sent c = λ y h. sym (ap (λ (l : List Msg). c.args.out.now ++ l) (ap (λ (d : Answer). close_messages c.args.self.now y d) (ap answer_of c.in-Behind.is) ∙ behind_sends c.args.self.now y c.in-Behind.lce) ∙ append-nil c.args.out.now)

@@ -15,20 +15,20 @@ pub returns-then-epoch-self-clause-value : goal.returns-then-epoch-self-clause-v
 returns-then-epoch-self-clause-value c =
     let a = c.self.inside in
     let w = held a.spec a.epoch a.ballot a.lost a.stage a.ending in
-    let h : shown_ending a.ending ≡ Goes = ap (λ (r : Recovering). r.ending) c.self.view_is ∙ c.requires in
+    let h : shown_ending a.ending ≡ Goes = ap (λ (r : Recovering). r.ending) c.self.view_is ∙ c.requires.going in
     subst (λ (r : Recovering). preempted w c.args.summary.now.ballot ≡ replied r c.args.node (CleanHere c.args.number c.args.summary.now)) c.self.view_is
     (sym (clean_own w c.args.node c.args.number c.args.summary.now h (sym c.home-epoch.ensures.epoch ∙ c.if-epoch-self.true)).value)
 
 pub returns-then-epoch-self-clause-sent : goal.returns-then-epoch-self-clause-sent
 returns-then-epoch-self-clause-sent c =
     let e : home_epoch c.args.number ≡ c.args.self.now.ballot = sym c.home-epoch.ensures.epoch ∙ (c.if-epoch-self.true ∙ ap (λ (r : Recovering). r.ballot) c.self.view_is) in
-    sym (ap (λ (l : List Msg). c.args.out.now ++ l) (clean_own c.args.self.now c.args.node c.args.number c.args.summary.now c.requires e).sent ∙ append-nil c.args.out.now)
+    sym (ap (λ (l : List Msg). c.args.out.now ++ l) (clean_own c.args.self.now c.args.node c.args.number c.args.summary.now c.requires.going e).sent ∙ append-nil c.args.out.now)
 
 pub returns-in_ok-tell_clean-clause-value : goal.returns-in_ok-tell_clean-clause-value
 returns-in_ok-tell_clean-clause-value c =
     let a = c.self.inside in
     let w = held a.spec a.epoch a.ballot a.lost a.stage a.ending in
-    let h : shown_ending a.ending ≡ Goes = ap (λ (r : Recovering). r.ending) c.self.view_is ∙ c.requires in
+    let h : shown_ending a.ending ≡ Goes = ap (λ (r : Recovering). r.ending) c.self.view_is ∙ c.requires.going in
     subst (λ (r : Recovering). done_with w c.args.summary.now ≡ replied r c.args.node (CleanHere c.args.number c.args.summary.now)) c.self.view_is
     (sym (clean_here w c.args.node c.args.number c.args.summary.now h (λ e. c.if-epoch-self.false (c.home-epoch.ensures.epoch ∙ e)) (sym c.home-epoch.ensures.epoch ∙ c.if-epoch-self-2.true) c.self.invariant.2).value)
 
@@ -36,7 +36,7 @@ pub returns-in_ok-tell_clean-clause-sent : goal.returns-in_ok-tell_clean-clause-
 returns-in_ok-tell_clean-clause-sent c =
     let a = c.self.inside in
     let w = held a.spec a.epoch a.ballot a.lost a.stage a.ending in
-    let h : shown_ending a.ending ≡ Goes = ap (λ (r : Recovering). r.ending) c.self.view_is ∙ c.requires in
+    let h : shown_ending a.ending ≡ Goes = ap (λ (r : Recovering). r.ending) c.self.view_is ∙ c.requires.going in
     let s = (clean_here w c.args.node c.args.number c.args.summary.now h (λ e. c.if-epoch-self.false (c.home-epoch.ensures.epoch ∙ e)) (sym c.home-epoch.ensures.epoch ∙ c.if-epoch-self-2.true) c.self.invariant.2).sent in
     let n : messages w (to_each (Clean c.home-epoch.result.0 c.args.summary.now) (members a.spec.set)) ≡ messages w (to_each (Clean a.epoch c.args.summary.now) (members a.spec.set)) = ap (λ (e : ℕ). messages w (to_each (Clean e c.args.summary.now) (members a.spec.set))) c.if-epoch-self-2.true in
     let k = sent_is c.sender-sender.result w (to_each (Clean c.home-epoch.result.0 c.args.summary.now) (members a.spec.set)) (c.sender-sender.ensures.log ∙ sym (ap (λ (r : Recovering). r.spec.log) c.self.view_is)) (c.sender-sender.ensures.epoch ∙ sym (ap (λ (r : Recovering). r.ballot) c.self.view_is)) in
@@ -44,13 +44,13 @@ returns-in_ok-tell_clean-clause-sent c =
     (ap (λ (l : List Msg). c.args.out.now ++ l) (k ∙ (n ∙ sym s)))
 
 pub returns-else-epoch-self-2-clause-value : goal.returns-else-epoch-self-2-clause-value
-returns-else-epoch-self-2-clause-value c = sym (clean_elsewhere c.args.self.now c.args.node c.args.number c.args.summary.now c.requires
+returns-else-epoch-self-2-clause-value c = sym (clean_elsewhere c.args.self.now c.args.node c.args.number c.args.summary.now c.requires.going
     (λ e. c.if-epoch-self.false (c.home-epoch.ensures.epoch ∙ (e ∙ sym (ap (λ (r : Recovering). r.ballot) c.self.view_is))))
     (λ e. c.if-epoch-self-2.false (c.home-epoch.ensures.epoch ∙ (e ∙ sym (ap (λ (r : Recovering). r.recovery.epoch) c.self.view_is))))).value
 
 pub returns-else-epoch-self-2-clause-sent : goal.returns-else-epoch-self-2-clause-sent
 returns-else-epoch-self-2-clause-sent c =
-    let q = clean_elsewhere c.args.self.now c.args.node c.args.number c.args.summary.now c.requires
+    let q = clean_elsewhere c.args.self.now c.args.node c.args.number c.args.summary.now c.requires.going
     (λ e. c.if-epoch-self.false (c.home-epoch.ensures.epoch ∙ (e ∙ sym (ap (λ (r : Recovering). r.ballot) c.self.view_is))))
     (λ e. c.if-epoch-self-2.false (c.home-epoch.ensures.epoch ∙ (e ∙ sym (ap (λ (r : Recovering). r.recovery.epoch) c.self.view_is)))) in
     sym (ap (λ (l : List Msg). c.args.out.now ++ l) q.sent ∙ append-nil c.args.out.now)

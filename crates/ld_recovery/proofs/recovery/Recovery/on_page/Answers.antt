@@ -5,9 +5,13 @@ use Rattle.ld_recovery.specs.Recovering.{Recovering, Goes, replied, reply_messag
 use Rattle.ld_recovery.specs.Sending.{sent}
 use Rattle.ld_recovery.specs.Stages.{page_sends}
 use Rattle.ld_recovery.specs.States.{shown_ending}
+use Rattle.ld_recovery.proofs.Numbers.{in_place}
 use Rattle.ld_recovery.proofs.Replies.{page_elsewhere}
 use Rattle.ld_recovery.proofs.Holding.{held, page_value, page_sends_are}
 use Rattle.ld_recovery.proofs.recovery.Recovery.on_page.Goals as goal
+
+pub take_page-requires-clause-entries : goal.take_page-requires-clause-entries
+take_page-requires-clause-entries c = in_place c.args.page.now.entries.now c.requires.page.entries
 
 pub returns-in_ok-take_page-clause-value : goal.returns-in_ok-take_page-clause-value
 returns-in_ok-take_page-clause-value c = λ lng.

@@ -8,7 +8,7 @@ use Rattle.ld_recovery.proofs.Holding.{held, settle_value}
 use Rattle.ld_recovery.proofs.recovery.Recovery.on_trimmed.Goals as goal
 
 pub invariant_of-self : goal.invariant_of-self
-invariant_of-self c = (c.trim.ensures.of c.self.inside.spec c.self.inside.epoch c.self.invariant.0, c.self.invariant.1, c.self.invariant.2, c.self.invariant.3, c.self.invariant.4)
+invariant_of-self c = (c.trim.ensures.of c.self.inside.spec c.self.inside.epoch c.self.invariant.0, c.self.invariant.1, c.self.invariant.2, c.self.invariant.3, c.self.invariant.4, c.self.invariant.5)
 
 pub returns-then-epoch-self-clause-value : goal.returns-then-epoch-self-clause-value
 returns-then-epoch-self-clause-value c =

@@ -8,10 +8,10 @@ use Rattle.ld_recovery.proofs.Holding.{held, retry_value, retry_sends_are, goes_
 use Rattle.ld_recovery.proofs.recovery.Recovery.retry.Goals as goal
 
 pub invariant_of-self : goal.invariant_of-self
-invariant_of-self c = (c.try_again.ensures.of c.self.inside.spec c.self.inside.epoch c.self.invariant.0, c.self.invariant.1, c.self.invariant.2, c.self.invariant.3, c.self.invariant.4)
+invariant_of-self c = (c.try_again.ensures.of c.self.inside.spec c.self.inside.epoch c.self.inside.ballot c.self.invariant.0, c.self.invariant.1, c.self.invariant.2, c.self.invariant.3, c.self.invariant.4, c.self.invariant.5)
 
 pub invariant_of-self-in_err-try_again : goal.invariant_of-self-in_err-try_again
-invariant_of-self-in_err-try_again c = (c.try_again.ensures.of c.self.inside.spec c.self.inside.epoch c.self.invariant.0, c.self.invariant.1, c.self.invariant.2, c.self.invariant.3, c.self.invariant.4)
+invariant_of-self-in_err-try_again c = (c.try_again.ensures.of c.self.inside.spec c.self.inside.epoch c.self.inside.ballot c.self.invariant.0, c.self.invariant.1, c.self.invariant.2, c.self.invariant.3, c.self.invariant.4, c.self.invariant.5)
 
 pub returns-in_ok-try_again-clause-value : goal.returns-in_ok-try_again-clause-value
 returns-in_ok-try_again-clause-value c =

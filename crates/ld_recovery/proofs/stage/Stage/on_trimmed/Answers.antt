@@ -5,4 +5,4 @@ use Rattle.ld_recovery.specs.Stages.{IsOf}
 use Rattle.ld_recovery.proofs.stage.Stage.on_trimmed.Goals as goal
 
 pub returns-in-Stores-clause-of : goal.returns-in-Stores-clause-of
-returns-in-Stores-clause-of c = λ spec epoch h. c.closed_if_ready.ensures.of spec epoch (ap (λ (p : Plans). p.spec) c.trim.ensures ∙ subst (λ (s : Stage). IsOf spec epoch s) c.in-Stores.is h)
+returns-in-Stores-clause-of c = λ spec epoch h. c.closed_if_ready.ensures.of spec epoch (ap (λ (p : Plans). p.spec) c.trim.ensures ∙ subst (λ (s : Stage). IsOf spec epoch c.args.ballot s) c.in-Stores.is h)

@@ -4,4 +4,4 @@ use Rattle.ld_recovery.specs.Stages.{IsOf}
 use Rattle.ld_recovery.proofs.stage.Stage.store.Goals as goal
 
 pub returns-clause-of : goal.returns-clause-of
-returns-clause-of c = λ spec epoch h. c.on_stored.ensures.of spec epoch (subst (λ (s : Stage). IsOf spec epoch s) (sym c.replace-stage.ensures.value) h)
+returns-clause-of c = λ spec epoch h. c.on_stored.ensures.of spec epoch (subst (λ (s : Stage). IsOf spec epoch c.args.ballot s) (sym c.replace-stage.ensures.value) h)

@@ -4,4 +4,4 @@ use Rattle.ld_recovery.specs.Stages.{IsOf}
 use Rattle.ld_recovery.proofs.stage.Stage.take_page.Goals as goal
 
 pub returns-in_err-self-clause-of : goal.returns-in_err-self-clause-of
-returns-in_err-self-clause-of c = subst (λ (s : Stage). IsOf c.args.scope.now.spec.now c.args.scope.now.epoch s) (sym c.replace-stage.ensures.after) (c.nothing.ensures c.args.scope.now.spec.now c.args.scope.now.epoch)
+returns-in_err-self-clause-of c = subst (λ (s : Stage). IsOf c.args.scope.now.spec.now c.args.scope.now.epoch c.args.scope.now.sender.now.epoch s) (sym c.replace-stage.ensures.after) tt

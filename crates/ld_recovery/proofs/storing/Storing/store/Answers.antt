@@ -6,4 +6,5 @@ pub invariant_of-self : goal.invariant_of-self
 invariant_of-self c = (
   omega (arith, c.self.invariant.0, c.settle_number-settled.ensures.left),
   stay_from (λ s. s == c.args.number) c.args.node c.self.inside.first c.self.inside.items.items c.settle_number-settled.new.items.items c.self.invariant.1 c.settle_number-settled.ensures.items,
+  c.self.invariant.2,
 )
