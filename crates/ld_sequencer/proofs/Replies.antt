@@ -15,13 +15,13 @@ use Rattle.ld_msg.specs.declared.msg.Body.TheVariants.{Release}
 use Rattle.ld_msg.specs.declared.msg.Msg.{Msg}
 use Rattle.ld_msg.specs.Network.{posted}
 use Rattle.ld_sequencer.specs.Appends.{stores, acks, raises}
-use Rattle.ld_sequencer.specs.declared.own.Report.{Report}
+use Rattle.ld_sequencer.specs.declared.own.Learnt.{Learnt}
 use Rattle.ld_sequencer.specs.Own.{Own, IsNow, Does, listed, spec_of, sequencer_of, heard, released_above, preempted_as, sent_by}
 
 abbrev nothing : Own → Acts
 nothing o = does_nothing (sequencer_of o)
 
-pub stays : (o : Own) (r : Report) → r.acked ≡ None → r.preempted ≡ None → Does o o r (nothing o)
+pub stays : (o : Own) (r : Learnt) → r.acked ≡ None → r.preempted ≡ None → Does o o r (nothing o)
 stays o r a p = record { now = record { spec = refl; sequencer = refl }; acked = ap listed a; preempted = ap listed p }
 
 -- ---- an append is stored ----
@@ -31,7 +31,7 @@ one_acked n true is = refl
 one_acked n false true = refl
 one_acked n false false = refl
 
-pub counted : (o : Own) (y n : ℕ) (w : Option Append) (r : Report) → r.acked ≡ (if acks (spec_of o) y w then Some n else None) → r.preempted ≡ None → Does o (record o { row = stores o.row y n w }) r (acks_append (spec_of o) (nothing o) y n w)
+pub counted : (o : Own) (y n : ℕ) (w : Option Append) (r : Learnt) → r.acked ≡ (if acks (spec_of o) y w then Some n else None) → r.preempted ≡ None → Does o (record o { row = stores o.row y n w }) r (acks_append (spec_of o) (nothing o) y n w)
 counted o y n None r a p = stays o r a p
 counted o y n (Some w) r a p = record {
   now = record { spec = refl; sequencer = refl };
@@ -39,11 +39,11 @@ counted o y n (Some w) r a p = record {
   preempted = ap listed p;
 }
 
-pub own_stored : (o : Own) (y n : ℕ) (r : Report) → (epoch_of n == o.row.epoch) ≡ true → r.acked ≡ (if acks (spec_of o) y (find n o.row.appends) then Some n else None) → r.preempted ≡ None
+pub own_stored : (o : Own) (y n : ℕ) (r : Learnt) → (epoch_of n == o.row.epoch) ≡ true → r.acked ≡ (if acks (spec_of o) y (find n o.row.appends) then Some n else None) → r.preempted ≡ None
     → Does o (record o { row = stores o.row y n (find n o.row.appends) }) r (by_stored (spec_of o) (nothing o) y n)
 own_stored o y n r e a p = rw e (counted o y n (find n o.row.appends) r a p)
 
-pub other_stored : (o : Own) (y n : ℕ) (r : Report) → (epoch_of n == o.row.epoch) ≡ false → r.acked ≡ None → r.preempted ≡ None → Does o o r (by_stored (spec_of o) (nothing o) y n)
+pub other_stored : (o : Own) (y n : ℕ) (r : Learnt) → (epoch_of n == o.row.epoch) ≡ false → r.acked ≡ None → r.preempted ≡ None → Does o o r (by_stored (spec_of o) (nothing o) y n)
 other_stored o y n r e a p = rw e (stays o r a p)
 
 pub ruleset count_rules = (own_stored, other_stored)
@@ -53,29 +53,29 @@ pub ruleset count_rules = (own_stored, other_stored)
 abbrev sealed : Own → ℕ → Acts
 sealed o k = if nat_lt o.row.epoch k then preempt (nothing o) k else nothing o
 
-pub preempts : (o : Own) (k : ℕ) (r : Report) → r.acked ≡ None → r.preempted ≡ Some k → Does o (preempted_as o k) r (preempt (nothing o) k)
+pub preempts : (o : Own) (k : ℕ) (r : Learnt) → r.acked ≡ None → r.preempted ≡ Some k → Does o (preempted_as o k) r (preempt (nothing o) k)
 preempts o k r a p = record { now = record { spec = refl; sequencer = refl }; acked = ap listed a; preempted = ap listed p }
 
-pub is_sealed : (o : Own) (k : ℕ) (r : Report) → nat_lt o.row.epoch k ≡ true → r.acked ≡ None → r.preempted ≡ Some k → Does o (preempted_as o k) r (sealed o k)
+pub is_sealed : (o : Own) (k : ℕ) (r : Learnt) → nat_lt o.row.epoch k ≡ true → r.acked ≡ None → r.preempted ≡ Some k → Does o (preempted_as o k) r (sealed o k)
 is_sealed o k r e a p = rw e (preempts o k r a p)
 
-pub isnt_sealed : (o : Own) (k : ℕ) (r : Report) → nat_lt o.row.epoch k ≡ false → r.acked ≡ None → r.preempted ≡ None → Does o o r (sealed o k)
+pub isnt_sealed : (o : Own) (k : ℕ) (r : Learnt) → nat_lt o.row.epoch k ≡ false → r.acked ≡ None → r.preempted ≡ None → Does o o r (sealed o k)
 isnt_sealed o k r e a p = rw e (stays o r a p)
 
 pub ruleset seal_rules = (is_sealed, isnt_sealed)
 
-pub is_lost : (o : Own) (y n : ℕ) (r : Report) → (home_epoch n == o.row.epoch) ≡ true → r.acked ≡ None → r.preempted ≡ None → Does o (record o { lost = with_one y o.lost }) r (by_lost (nothing o) y n)
+pub is_lost : (o : Own) (y n : ℕ) (r : Learnt) → (home_epoch n == o.row.epoch) ≡ true → r.acked ≡ None → r.preempted ≡ None → Does o (record o { lost = with_one y o.lost }) r (by_lost (nothing o) y n)
 is_lost o y n r e a p = rw e (record { now = record { spec = refl; sequencer = refl }; acked = ap listed a; preempted = ap listed p })
 
-pub isnt_lost : (o : Own) (y n : ℕ) (r : Report) → (home_epoch n == o.row.epoch) ≡ false → r.acked ≡ None → r.preempted ≡ None → Does o o r (by_lost (nothing o) y n)
+pub isnt_lost : (o : Own) (y n : ℕ) (r : Learnt) → (home_epoch n == o.row.epoch) ≡ false → r.acked ≡ None → r.preempted ≡ None → Does o o r (by_lost (nothing o) y n)
 isnt_lost o y n r e a p = rw e (stays o r a p)
 
 pub ruleset lose_rules = (is_lost, isnt_lost)
 
-pub is_clean : (o : Own) (n : ℕ) (y : Summary) (r : Report) → (home_epoch n == o.row.epoch) ≡ true → r.acked ≡ None → r.preempted ≡ Some y.ballot → Does o (preempted_as o y.ballot) r (by_clean (spec_of o) (nothing o) n y)
+pub is_clean : (o : Own) (n : ℕ) (y : Summary) (r : Learnt) → (home_epoch n == o.row.epoch) ≡ true → r.acked ≡ None → r.preempted ≡ Some y.ballot → Does o (preempted_as o y.ballot) r (by_clean (spec_of o) (nothing o) n y)
 is_clean o n y r e a p = rw e (preempts o y.ballot r a p)
 
-pub isnt_clean : (o : Own) (n : ℕ) (y : Summary) (r : Report) → (home_epoch n == o.row.epoch) ≡ false → r.acked ≡ None → r.preempted ≡ None → Does o o r (by_clean (spec_of o) (nothing o) n y)
+pub isnt_clean : (o : Own) (n : ℕ) (y : Summary) (r : Learnt) → (home_epoch n == o.row.epoch) ≡ false → r.acked ≡ None → r.preempted ≡ None → Does o o r (by_clean (spec_of o) (nothing o) n y)
 isnt_clean o n y r e a p = rw e (stays o r a p)
 
 pub ruleset clean_rules = (is_clean, isnt_clean)
@@ -156,12 +156,12 @@ acts_sent o now a q n =
     ∙ (ap (λ s. posted (whos.Sequencer o.row.epoch) s.log (released_above (released_of (sequencer_of o)) now)) n.spec
     ∙ ap (sent_by o) (sym (heard_messages o now a q n)))
 
-pub heard_sent : (o now : Own) (y : ℕ) (w : Who) (b : Body) (r : Report) (old out : List Msg) → w ≡ whos.Node y → Does o now r (on_reply (spec_of o) (sequencer_of o) y b) → out ≡ old ++ released_sent o now
+pub heard_sent : (o now : Own) (y : ℕ) (w : Who) (b : Body) (r : Learnt) (old out : List Msg) → w ≡ whos.Node y → Does o now r (on_reply (spec_of o) (sequencer_of o) y b) → out ≡ old ++ released_sent o now
     → out ≡ old ++ sent_by o (acted_messages (spec_of o) (sequencer_of o) (heard o w b))
 heard_sent o now y w b r old out e d s =
     s ∙ ap (λ m. old ++ m) (acts_sent o now (on_reply (spec_of o) (sequencer_of o) y b) (quiet_reply o y b) d.now ∙ ap (λ w. sent_by o (acted_messages (spec_of o) (sequencer_of o) (heard o w b))) (sym e))
 
-pub heard_does : (o now : Own) (y : ℕ) (w : Who) (b : Body) (r : Report) → w ≡ whos.Node y → Does o now r (on_reply (spec_of o) (sequencer_of o) y b) → Does o now r (heard o w b)
+pub heard_does : (o now : Own) (y : ℕ) (w : Who) (b : Body) (r : Learnt) → w ≡ whos.Node y → Does o now r (on_reply (spec_of o) (sequencer_of o) y b) → Does o now r (heard o w b)
 heard_does o now y w b r e d = subst (λ w. Does o now r (heard o w b)) (sym e) d
 
 pub ruleset heard_rules = (heard_does, heard_sent, stays)

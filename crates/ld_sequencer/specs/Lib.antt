@@ -1,3 +1,5 @@
 pub mod Appends
 pub mod Own
+pub mod Register
 pub mod Sending
+pub mod Whole

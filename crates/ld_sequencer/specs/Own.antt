@@ -8,9 +8,9 @@ use Rattle.ld_msg.specs.declared.msg.Msg.{Msg}
 use Rattle.ld_msg.specs.declared.msg.Body.{Body}
 use Rattle.ld_msg.specs.declared.msg.Body.TheVariants.{Release}
 use Rattle.ld_msg.specs.Network.{posted}
-use Rattle.ld_msg.specs.Sequencer.{Sequencer, Acts, Appending, TooLong, Preempted, EpochFull, WindowFull, Numbered, released_of, to_each, does_nothing, on_reply}
-use Rattle.ld_sequencer.specs.Appends.{Row, empty_row}
-use Rattle.ld_sequencer.specs.declared.own.Report.{Report}
+use Rattle.ld_msg.specs.Sequencer.{Sequencer, Acts, Appending, TooLong, Preempted, EpochFull, WindowFull, Numbered, released_of, to_each, does_nothing, on_reply, append_stores}
+use Rattle.ld_sequencer.specs.Appends.{Row, empty_row, raises}
+use Rattle.ld_sequencer.specs.declared.own.Learnt.{Learnt}
 use Rattle.ld_sequencer.specs.declared.fault.SequencerFault.{SequencerFault}
 use Rattle.ld_sequencer.specs.declared.fault.SequencerFault.TheVariants as faults
 
@@ -41,6 +41,12 @@ sequencer_of o = record {
 pub record IsNow (before after : Own) (q : Sequencer) : Type 0 where
   pub spec : spec_of after ≡ spec_of before
   pub sequencer : sequencer_of after ≡ q
+
+-- its log, its epoch and its last closed epoch are the same
+pub record IsKept (before after : Own) : Type 0 where
+  pub spec : after.row.spec ≡ before.row.spec
+  pub epoch : after.row.epoch ≡ before.row.epoch
+  pub lce : after.lce ≡ before.lce
 
 abbrev pub new_own : Spec → ℕ → ℕ → Own
 new_own spec epoch lce = record { row = empty_row spec epoch; lce = lce; lost = []; preempted = None }
@@ -76,12 +82,20 @@ with_lce o lce = record o { lce = lce }
 abbrev pub preempted_as : Own → ℕ → Own
 preempted_as o k = record o { preempted = Some k }
 
-abbrev pub listed : Option ℕ → List ℕ
+-- each append that isn't acknowledged is in its next wave
+abbrev pub raised_own : Own → Own
+raised_own o = record o { row = raises o.row }
+
+-- the stores of the appends that aren't acknowledged
+abbrev pub pending : Own → List (ℕ × Body)
+pending o = append_stores o.row.spec o.lost o.row.appends
+
+abbrev pub listed : {X : Type 0} → Option X → List X
 listed None = []
-listed (Some n) = n ∷ []
+listed (Some x) = x ∷ []
 
 -- a call has done this to its own epoch and reports it
-pub record Does (before after : Own) (report : Report) (a : Acts) : Type 0 where
+pub record Does (before after : Own) (report : Learnt) (a : Acts) : Type 0 where
   pub now : IsNow before after a.sequencer
   pub acked : listed report.acked ≡ a.acked
   pub preempted : listed report.preempted ≡ a.preempts

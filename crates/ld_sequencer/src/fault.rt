@@ -4,6 +4,7 @@ ghost use Rattle.ld_sequencer.specs.declared.fault.SequencerFault.TheVariants.{N
 
 use ld_ids::NoMemory;
 use ld_lsn::Lsn;
+use ld_register::RegisterFault;
 use thiserror::Error;
 
 /// Why a sequencer refuses a call.
@@ -24,6 +25,9 @@ pub enum SequencerFault {
     /// A trim goes past this released number.
     #[error("the number is above the released one")]
     PastReleased(Lsn),
+    /// The register refused so. It is never want of memory.
+    #[error("the register refused: {0}")]
+    Register(RegisterFault),
     /// There is no memory left.
     #[error("out of memory")]
     NoMemory,
@@ -34,5 +38,18 @@ impl From<NoMemory> for SequencerFault {
 
     fn from(_: NoMemory) -> SequencerFault {
         SequencerFault::NoMemory
+    }
+}
+
+impl From<RegisterFault> for SequencerFault {
+    ghost use Rattle.ld_sequencer.specs.Register.{of_register};
+
+    ghost from_gives = { λ fault e. e ≡ of_register fault };
+
+    fn from(fault: RegisterFault) -> SequencerFault {
+        match fault {
+            RegisterFault::NoMemory => SequencerFault::NoMemory,
+            _ => SequencerFault::Register(fault),
+        }
     }
 }

@@ -1,14 +1,19 @@
-//! What a log's sequencer does for its own epoch: it numbers appends, counts the nodes that stored them, and says what is
-//! released. The recovery of earlier epochs and the register stand outside of it.
+//! A log's sequencer. It gets its epoch from a register, numbers appends, counts the nodes that stored them, recovers and
+//! closes the epochs before its own, and says what is released.
 #![tactic(auto)]
 
+mod close;
 mod fault;
 mod own;
 mod row;
 mod send;
 #[cfg(test)]
 mod tests;
+#[cfg(test)]
+mod ways;
+mod whole;
 
 pub use fault::SequencerFault;
-pub use own::{OwnEpoch, Report};
+pub use own::{Learnt, OwnEpoch};
 pub use row::Row;
+pub use whole::{Report, Sequencer};

@@ -1,11 +1,11 @@
 // What a sequencer does for its own epoch.
-ghost use Rattle.std.specs.Prelude.{◌≡◌, ◌≤◌, ◌<◌, ◌+◌, ◌-◌, ◌^◌, ◌++◌, ℕ, length, IfOk, IfErr, OnOk, OnErr, None, nat_lt, if◌then◌else◌};
+ghost use Rattle.std.specs.Prelude.{◌≡◌, ◌≤◌, ◌<◌, ◌+◌, ◌-◌, ◌^◌, ◌++◌, ℕ, length, IfOk, IfErr, OnOk, OnErr, None, is_some, nat_lt, if◌then◌else◌};
 ghost use Rattle.ld_ids.specs.Choice.{nodes_of};
 ghost use Rattle.ld_lsn.specs.Number.{numbered};
 ghost use Rattle.ld_msg.specs.declared.msg.Body.TheVariants.{Trim};
 ghost use Rattle.ld_msg.specs.Sequencer.{released_of, appending, Numbered, appended, first_stores, next_esn, to_each, does_nothing, on_reply, by_stored, by_lost, by_clean, preempt as preempts, on_retry, acted_messages};
 ghost use Rattle.ld_sequencer.specs.Appends.{pushed, next_place};
-ghost use Rattle.ld_sequencer.specs.Own.{Own, IsNow, new_own, spec_of, sequencer_of, sent_by, append_fault, trim_fault, heard, released_above, with_lce, preempted_as, Does};
+ghost use Rattle.ld_sequencer.specs.Own.{Own, IsNow, IsKept, new_own, spec_of, sequencer_of, sent_by, append_fault, trim_fault, heard, released_above, with_lce, preempted_as, raised_own, pending, Does};
 ghost use Rattle.ld_sequencer.specs.Sending.{BeginsWith};
 
 use crate::Row;
@@ -26,20 +26,20 @@ const WINDOW_LIMIT: usize = 128;
 
 /// What a call of a sequencer learnt.
 #[derive(Clone, Copy, Debug, PartialEq, Eq)]
-pub struct Report {
+pub struct Learnt {
     /// The append that was acknowledged.
     pub acked: Option<Lsn>,
     /// The epoch of the sequencer that preempts this one.
     pub preempted: Option<u32>,
 }
 
-impl Report {
+impl Learnt {
     /// Nothing.
-    pub fn nothing() -> Report
+    pub fn nothing() -> Learnt
         ensures acked { result.acked ≡ None }
         ensures preempted { result.preempted ≡ None }
     {
-        Report {
+        Learnt {
             acked: None,
             preempted: None,
         }
@@ -77,6 +77,27 @@ impl OwnEpoch {
             lost: NodeList::empty(),
             preempted: None,
         })
+    }
+
+    /// What is said of its log.
+    pub fn spec(&self) -> &Spec
+        ensures { result.now ≡ spec_of self.now }
+    {
+        self.row.spec()
+    }
+
+    /// The last closed epoch that it knows of.
+    pub fn lce(&self) -> u32
+        ensures { result ≡ self.now.lce }
+    {
+        self.lce
+    }
+
+    /// Whether a greater epoch's sequencer preempted it.
+    pub fn is_preempted(&self) -> bool
+        ensures { result ≡ is_some self.now.preempted }
+    {
+        self.preempted.is_some()
     }
 
     /// Its epoch.
@@ -151,13 +172,14 @@ impl OwnEpoch {
     /// now, and hadn't before. A seal of a greater epoch preempts it, and so does word that its own epoch is closed. A node
     /// may be lost for its epoch. Where the released number rises all nodes are told so. A preempted sequencer ignores all
     /// answers, and so it does messages that are no node's. After want of memory it isn't to be used again.
-    #[tactic(auto, using(crate::proofs::Replies::heard_rules))]
-    pub fn on_reply(&mut self, msg: &Msg, out: &mut Outbox) -> Result<Report, NoMemory>
+    #[tactic(auto, using(crate::proofs::Kept::kept_rules))]
+    pub fn on_reply(&mut self, msg: &Msg, out: &mut Outbox) -> Result<Learnt, NoMemory>
         ensures does { IfOk result (λ report. Does self.old self.new report (heard self.old msg.now.from msg.now.body)) }
         ensures out { OnOk result (out.new ≡ out.old ++ sent_by self.old (acted_messages (spec_of self.old) (sequencer_of self.old) (heard self.old msg.now.from msg.now.body))) }
+        ensures kept { IsKept self.old self.new }
     {
         let Who::Node(node) = msg.from else {
-            return Ok(Report::nothing());
+            return Ok(Learnt::nothing());
         };
         let released = self.released();
         let report = self.hear(node, &msg.body);
@@ -173,10 +195,25 @@ impl OwnEpoch {
         ensures out { OnOk result (out.new ≡ out.old ++ sent_by self.old (acted_messages (spec_of self.old) (sequencer_of self.old) (on_retry (spec_of self.old) (sequencer_of self.old)))) }
     {
         if self.preempted.is_none() {
-            self.row.raise();
-            self.row.send(alloc, &self.lost, out)?;
+            self.raise();
+            self.send(alloc, out)?;
         }
         Ok(())
+    }
+
+    /// Each append that isn't acknowledged goes to its next wave.
+    pub fn raise(&mut self)
+        ensures { self.new ≡ raised_own self.old }
+    {
+        self.row.raise();
+    }
+
+    /// Sends each append that isn't acknowledged to those nodes of its wave's choice that haven't stored it. Without memory
+    /// some may have been sent.
+    pub fn send(&self, alloc: Global, out: &mut Outbox) -> Result<(), NoMemory>
+        ensures { OnOk result (out.new ≡ out.old ++ sent_by self.now (pending self.now)) }
+    {
+        self.row.send(alloc, &self.lost, out)
     }
 
     /// All epochs up to this one are closed. Where the released number rises all nodes are told so.
@@ -198,31 +235,31 @@ impl OwnEpoch {
 
     /// What a node's answer does.
     #[tactic(auto, using(crate::proofs::Replies::reply_rules))]
-    fn hear(&mut self, node: NodeId, body: &Body) -> Report
+    fn hear(&mut self, node: NodeId, body: &Body) -> Learnt
         ensures { Does self.old self.new result (on_reply (spec_of self.old) (sequencer_of self.old) node body.now) }
     {
         if self.preempted.is_some() {
-            return Report::nothing();
+            return Learnt::nothing();
         }
         match body {
             Body::Stored { number } => self.count(node, *number),
             Body::SealedHere { sealed, .. } => self.seal(*sealed),
             Body::LostHere { number, .. } => self.lose(node, *number),
             Body::CleanHere { number, summary } => self.clean(*number, summary),
-            _ => Report::nothing(),
+            _ => Learnt::nothing(),
         }
     }
 
     /// A node stored what has the number.
     #[tactic(auto, using(crate::proofs::Replies::count_rules))]
-    fn count(&mut self, node: NodeId, number: Lsn) -> Report
+    fn count(&mut self, node: NodeId, number: Lsn) -> Learnt
         ensures { Does self.old self.new result (by_stored (spec_of self.old) (does_nothing (sequencer_of self.old)) node number) }
     {
         if number.epoch() != self.row.epoch() {
-            return Report::nothing();
+            return Learnt::nothing();
         }
         let is_acked = self.row.stored(node, number);
-        Report {
+        Learnt {
             acked: if is_acked { Some(number) } else { None },
             preempted: None,
         }
@@ -230,14 +267,14 @@ impl OwnEpoch {
 
     /// A node is sealed by the sequencer of an epoch.
     #[tactic(auto, using(crate::proofs::Replies::seal_rules))]
-    fn seal(&mut self, sealed: u32) -> Report
+    fn seal(&mut self, sealed: u32) -> Learnt
         ensures { Does self.old self.new result (if nat_lt (sequencer_of self.old).epoch sealed then preempts (does_nothing (sequencer_of self.old)) sealed else does_nothing (sequencer_of self.old)) }
     {
         if sealed <= self.row.epoch() {
-            return Report::nothing();
+            return Learnt::nothing();
         }
         self.preempt(sealed);
-        Report {
+        Learnt {
             acked: None,
             preempted: Some(sealed),
         }
@@ -245,25 +282,25 @@ impl OwnEpoch {
 
     /// A node is lost for the number's epoch.
     #[tactic(auto, using(crate::proofs::Replies::lose_rules))]
-    fn lose(&mut self, node: NodeId, number: Lsn) -> Report
+    fn lose(&mut self, node: NodeId, number: Lsn) -> Learnt
         ensures { Does self.old self.new result (by_lost (does_nothing (sequencer_of self.old)) node number) }
     {
         if number.home().0 == self.row.epoch() {
             self.lost.add(node);
         }
-        Report::nothing()
+        Learnt::nothing()
     }
 
     /// The number's epoch is closed by the sequencer of this ballot.
     #[tactic(auto, using(crate::proofs::Replies::clean_rules))]
-    fn clean(&mut self, number: Lsn, summary: &Summary) -> Report
+    fn clean(&mut self, number: Lsn, summary: &Summary) -> Learnt
         ensures { Does self.old self.new result (by_clean (spec_of self.old) (does_nothing (sequencer_of self.old)) number summary.now) }
     {
         if number.home().0 != self.row.epoch() {
-            return Report::nothing();
+            return Learnt::nothing();
         }
         self.preempt(summary.ballot);
-        Report {
+        Learnt {
             acked: None,
             preempted: Some(summary.ballot),
         }

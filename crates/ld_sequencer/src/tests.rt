@@ -1,7 +1,7 @@
 // A sequencer's own epoch against answers as nodes give them.
 ghost use Rattle.std.specs.Prelude.{◌≡◌};
 
-use crate::{OwnEpoch, Report, SequencerFault};
+use crate::{Learnt, OwnEpoch, SequencerFault};
 use ld_ids::{LogId, NodeId, NodeSet, Payload, Spec};
 use ld_lsn::Lsn;
 use ld_msg::{Body, Msg, Outbox, Summary, Who};
@@ -115,7 +115,7 @@ fn a_greater_seal_preempts(rt: HostRuntime) -> Result<(), Fail> {
     append_many(alloc, &mut own, 1, &mut out)?;
     let number = Lsn::new(3, 1);
     let same = from_node(log, 1, Body::SealedHere { number, sealed: 3 });
-    assert_eq!(rt; own.on_reply(&same, &mut out)?, Report::nothing());
+    assert_eq!(rt; own.on_reply(&same, &mut out)?, Learnt::nothing());
     let greater = from_node(log, 1, Body::SealedHere { number, sealed: 5 });
     assert_eq!(rt; own.on_reply(&greater, &mut out)?.preempted, Some(5));
     let refused = own.append(alloc, payload(alloc, 1)?, &mut out);
@@ -123,11 +123,11 @@ fn a_greater_seal_preempts(rt: HostRuntime) -> Result<(), Fail> {
     own.retry(alloc, &mut out)?;
     assert_eq!(rt;
         own.on_reply(&stored(log, 1, 3, 1), &mut out)?,
-        Report::nothing()
+        Learnt::nothing()
     );
     assert_eq!(rt;
         own.on_reply(&stored(log, 2, 3, 1), &mut out)?,
-        Report::nothing()
+        Learnt::nothing()
     );
     assert_eq!(rt; out.len(), 2);
     Ok(())
@@ -147,7 +147,7 @@ fn word_that_its_epoch_is_closed_preempts(rt: HostRuntime) -> Result<(), Fail> {
     };
     let number = Lsn::new(2, 1);
     let other = from_node(log, 1, Body::CleanHere { number, summary });
-    assert_eq!(rt; own.on_reply(&other, &mut out)?, Report::nothing());
+    assert_eq!(rt; own.on_reply(&other, &mut out)?, Learnt::nothing());
     let number = Lsn::new(4, 0);
     let own_epoch = from_node(log, 1, Body::CleanHere { number, summary });
     assert_eq!(rt; own.on_reply(&own_epoch, &mut out)?.preempted, Some(4));

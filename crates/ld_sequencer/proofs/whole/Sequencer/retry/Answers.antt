@@ -1,0 +1,67 @@
+use Rattle.std.proofs.Common.{◌≡◌, ◌++◌, ◌∙◌, sym, ap, inr, false}
+use Rattle.ld_msg.specs.Register.{is_crowded}
+use Rattle.std.proofs.Common.{is_some}
+use Rattle.ld_sequencer.specs.Whole.{Whole, joined, sent_as, pending_stores}
+use Rattle.ld_sequencer.proofs.Retrying.{still_exact, still_acted, still_room, raised_whole, retry_exact, retry_acted, retry_held, retry_refused, retry_room}
+use Rattle.ld_sequencer.proofs.whole.Sequencer.retry.Goals as goal
+
+pub returns-then-is_preempted-clause-exact : goal.returns-then-is_preempted-clause-exact
+returns-then-is_preempted-clause-exact g c = λ x h. let w = c.args.self.now in let t = c.nothing.ensures in let p = ap (λ (z : Whole). is_some z.sequencer.preempted) (sym c.self.view_is) ∙ (sym c.is_preempted.ensures ∙ c.if-is_preempted.true) in
+    still_exact w c.nothing.result c.args.out.now p t.acked t.closed t.preempted t.failed t.released x (g.G.Register.tells c.args.reg.now) h
+
+pub returns-then-is_preempted-clause-acted : goal.returns-then-is_preempted-clause-acted
+returns-then-is_preempted-clause-acted g c = let w = c.args.self.now in let t = c.nothing.ensures in let p = ap (λ (z : Whole). is_some z.sequencer.preempted) (sym c.self.view_is) ∙ (sym c.is_preempted.ensures ∙ c.if-is_preempted.true) in
+    still_acted w c.nothing.result c.args.out.now p t.acked t.closed t.preempted t.failed t.released
+
+pub returns-then-is_preempted-clause-held : goal.returns-then-is_preempted-clause-held
+returns-then-is_preempted-clause-held g c = λ x h. let w = c.args.self.now in let t = c.nothing.ensures in let p = ap (λ (z : Whole). is_some z.sequencer.preempted) (sym c.self.view_is) ∙ (sym c.is_preempted.ensures ∙ c.if-is_preempted.true) in
+    inr (still_exact w c.nothing.result c.args.out.now p t.acked t.closed t.preempted t.failed t.released x (g.G.Register.holds c.args.reg.now) h)
+
+pub returns-then-is_preempted-clause-room : goal.returns-then-is_preempted-clause-room
+returns-then-is_preempted-clause-room g c = λ x h. let w = c.args.self.now in let t = c.nothing.ensures in let p = ap (λ (z : Whole). is_some z.sequencer.preempted) (sym c.self.view_is) ∙ (sym c.is_preempted.ensures ∙ c.if-is_preempted.true) in
+    still_room w (is_crowded x w.sequencer.log ≡ false) p
+
+pub returns-clause-exact : goal.returns-clause-exact
+returns-clause-exact g c = λ x h.
+    let w = c.args.self.now in let m = c.self.inside.recovery in let n = c.retry_recovery-report.new.self in let r = c.retry_recovery-report.result in let om = c.retry_recovery-report.new.out in
+    let v = joined c.raise.new.self m in
+    let e = ap raised_whole (sym c.self.view_is) ∙ ap (λ x. joined x m) (sym c.raise.ensures) in
+    let p = ap (λ (z : Whole). is_some z.sequencer.preempted) (sym c.self.view_is) ∙ (sym c.is_preempted.ensures ∙ c.if-is_preempted.false) in
+    let s = c.in_ok-send.ensures ∙ ap (λ (z : Whole). om ++ sent_as z (pending_stores z)) c.self-2.view_is in
+    retry_exact w v n r c.args.out.now om c.send.new.out x (g.G.Register.tells c.retry_recovery-report.new.reg) e p s (c.retry_recovery-report.ensures.exact x h)
+
+pub returns-clause-acted : goal.returns-clause-acted
+returns-clause-acted g c =
+    let w = c.args.self.now in let m = c.self.inside.recovery in let n = c.retry_recovery-report.new.self in let r = c.retry_recovery-report.result in let om = c.retry_recovery-report.new.out in
+    let v = joined c.raise.new.self m in
+    let e = ap raised_whole (sym c.self.view_is) ∙ ap (λ x. joined x m) (sym c.raise.ensures) in
+    let p = ap (λ (z : Whole). is_some z.sequencer.preempted) (sym c.self.view_is) ∙ (sym c.is_preempted.ensures ∙ c.if-is_preempted.false) in
+    let s = c.in_ok-send.ensures ∙ ap (λ (z : Whole). om ++ sent_as z (pending_stores z)) c.self-2.view_is in
+    retry_acted w v n r c.args.out.now om c.send.new.out e p s c.retry_recovery-report.ensures.acted
+
+pub returns-clause-held : goal.returns-clause-held
+returns-clause-held g c = λ x h.
+    let w = c.args.self.now in let m = c.self.inside.recovery in let n = c.retry_recovery-report.new.self in let r = c.retry_recovery-report.result in let om = c.retry_recovery-report.new.out in
+    let v = joined c.raise.new.self m in
+    let e = ap raised_whole (sym c.self.view_is) ∙ ap (λ x. joined x m) (sym c.raise.ensures) in
+    let p = ap (λ (z : Whole). is_some z.sequencer.preempted) (sym c.self.view_is) ∙ (sym c.is_preempted.ensures ∙ c.if-is_preempted.false) in
+    let s = c.in_ok-send.ensures ∙ ap (λ (z : Whole). om ++ sent_as z (pending_stores z)) c.self-2.view_is in
+    retry_held w v n r c.args.out.now om c.send.new.out x (g.G.Register.holds c.retry_recovery-report.new.reg) e p s (c.retry_recovery-report.ensures.held x h)
+
+pub returns-clause-refused : goal.returns-clause-refused
+returns-clause-refused g c =
+    let w = c.args.self.now in let m = c.self.inside.recovery in let n = c.retry_recovery-report.new.self in let r = c.retry_recovery-report.result in let om = c.retry_recovery-report.new.out in
+    let v = joined c.raise.new.self m in
+    let e = ap raised_whole (sym c.self.view_is) ∙ ap (λ x. joined x m) (sym c.raise.ensures) in
+    let p = ap (λ (z : Whole). is_some z.sequencer.preempted) (sym c.self.view_is) ∙ (sym c.is_preempted.ensures ∙ c.if-is_preempted.false) in
+    let s = c.in_ok-send.ensures ∙ ap (λ (z : Whole). om ++ sent_as z (pending_stores z)) c.self-2.view_is in
+    retry_refused w v n r c.args.out.now om c.send.new.out e p s c.retry_recovery-report.ensures.refused
+
+pub returns-clause-room : goal.returns-clause-room
+returns-clause-room g c = λ x h.
+    let w = c.args.self.now in let m = c.self.inside.recovery in let n = c.retry_recovery-report.new.self in let r = c.retry_recovery-report.result in let om = c.retry_recovery-report.new.out in
+    let v = joined c.raise.new.self m in
+    let e = ap raised_whole (sym c.self.view_is) ∙ ap (λ x. joined x m) (sym c.raise.ensures) in
+    let p = ap (λ (z : Whole). is_some z.sequencer.preempted) (sym c.self.view_is) ∙ (sym c.is_preempted.ensures ∙ c.if-is_preempted.false) in
+    let s = c.in_ok-send.ensures ∙ ap (λ (z : Whole). om ++ sent_as z (pending_stores z)) c.self-2.view_is in
+    retry_room w v r (λ l. is_crowded x l ≡ false) e p (c.retry_recovery-report.ensures.room x h)

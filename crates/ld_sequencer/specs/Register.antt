@@ -1,0 +1,22 @@
+-- A register's answers as a sequencer passes them on.
+use Rattle.ld_register.specs.declared.fault.RegisterFault.{RegisterFault}
+use Rattle.ld_register.specs.declared.fault.RegisterFault.TheVariants as registers
+use Rattle.ld_sequencer.specs.declared.fault.SequencerFault.{SequencerFault}
+use Rattle.ld_sequencer.specs.declared.fault.SequencerFault.TheVariants as sequencers
+
+-- want of memory passes as such
+abbrev pub of_register : RegisterFault → SequencerFault
+of_register registers.NoMemory = sequencers.NoMemory
+of_register registers.Failed = sequencers.Register registers.Failed
+of_register (registers.Damaged place) = sequencers.Register (registers.Damaged place)
+of_register registers.LogLimit = sequencers.Register registers.LogLimit
+of_register (registers.Behind lce) = sequencers.Register (registers.Behind lce)
+of_register registers.EpochLimit = sequencers.Register registers.EpochLimit
+of_register registers.GenLimit = sequencers.Register registers.GenLimit
+of_register registers.Full = sequencers.Register registers.Full
+
+-- a fault that may come whatever the register holds
+abbrev pub MayCome : SequencerFault → Type 0
+MayCome (sequencers.Register registers.Failed) = Unit {0}
+MayCome (sequencers.Register (registers.Damaged place)) = Unit {0}
+MayCome _ = ⊥

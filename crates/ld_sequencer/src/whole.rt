@@ -1,0 +1,625 @@
+// A log's sequencer.
+ghost use Rattle.std.specs.Prelude.{◌≡◌, ◌≢◌, ◌⊎◌, ◌≤◌, ◌<◌, ◌+◌, ◌-◌, ◌^◌, ◌++◌, [], ◌∷◌, ℕ, true, false, length, is_some, nat_lt, if◌then◌else◌, None, Some, IfOk, IfErr, IfSome, OnOk, OnErr, IsErrOf, IsErrAnd};
+ghost use Rattle.ld_io.specs.Causes.{Rose};
+ghost use Rattle.ld_ids.specs.Choice.{nodes_of};
+ghost use Rattle.ld_lsn.specs.Number.{numbered};
+ghost use Rattle.ld_msg.specs.Bounds.{IsEpoch, IsMessage, IsNodeHere, IsSummary};
+ghost use Rattle.ld_msg.specs.declared.msg.Body.TheVariants.{Trim};
+ghost use Rattle.ld_msg.specs.Register.{Register as Contents, Answer as Ends, Granted, Behind, close as closes, is_crowded};
+ghost use Rattle.ld_msg.specs.Sequencer.{released_of, appending, Numbered, appended, first_stores, next_esn, to_each, does_nothing, goes_on, acted_messages, after_close, recovery_of, recovery_asks, release_messages};
+ghost use Rattle.ld_recovery.specs.States.{answer_of, is_epoch_answer};
+ghost use Rattle.ld_register.specs.Calls.{activated as answered, after_activate, ChangedOrNot, is_full, close_length};
+ghost use Rattle.ld_register.specs.declared.register.Grant.{Grant};
+ghost use Rattle.ld_register.specs.declared.fault.RegisterFault.TheVariants as registers;
+ghost use Rattle.ld_sequencer.specs.declared.fault.SequencerFault.TheVariants as faults;
+ghost use Rattle.ld_sequencer.specs.Own.{append_fault, trim_fault, listed};
+ghost use Rattle.ld_sequencer.specs.Register.{MayCome};
+ghost use Rattle.ld_recovery.specs.declared.state.Answer.TheVariants as answers;
+ghost use Rattle.ld_sequencer.specs.Sending.{BeginsWith};
+ghost use Rattle.ld_sequencer.specs.Whole.{as_now, sent_as, next_in, closed_acts, closing_of, is_of_earlier, is_for_recovery, reply_acts, retry_acts, recovery_acts, pending_stores, tried, called_by, risen, Acted, IsFresh, IsRefused, IsUntimely, active, first_asks, Activates, IsActive};
+
+use crate::close::close;
+use crate::fault::SequencerFault;
+use crate::own::OwnEpoch;
+use ld_ids::{NoMemory, Payload, Spec};
+use ld_lsn::Lsn;
+use ld_msg::{Body, Msg, Outbox, Summary, Who};
+use ld_recovery::{Answer, Recovery, State};
+use ld_register::{Grant, Register, View};
+use std::alloc::Global;
+use std::marker::Model;
+
+/// The greatest epoch.
+const GREATEST_EPOCH: u32 = 4_294_967_294;
+
+/// What a call of a sequencer did.
+#[derive(Clone, Copy, Debug, PartialEq, Eq)]
+pub struct Report {
+    /// The append that was acknowledged.
+    pub acked: Option<Lsn>,
+    /// The end of the epoch that was closed.
+    pub closed: Option<Lsn>,
+    /// The epoch of the sequencer that preempts this one.
+    pub preempted: Option<u32>,
+    /// A close was tried and isn't known to be made, since the register failed or its journal is full. A retry tries it
+    /// again.
+    pub register_failed: bool,
+    /// The released number, where it rose.
+    pub released: Option<Lsn>,
+}
+
+impl Report {
+    /// Nothing.
+    pub fn nothing() -> Report
+        ensures acked { result.acked ≡ None }
+        ensures closed { result.closed ≡ None }
+        ensures preempted { result.preempted ≡ None }
+        ensures failed { result.register_failed ≡ false }
+        ensures released { result.released ≡ None }
+    {
+        Report {
+            acked: None,
+            closed: None,
+            preempted: None,
+            register_failed: false,
+            released: None,
+        }
+    }
+}
+
+/// A log's sequencer: its own epoch, and the recovery of the first epoch before it that isn't closed.
+#[derive(Drop)]
+pub struct Sequencer {
+    own: OwnEpoch,
+    recovery: Option<Recovery>,
+}
+
+impl Model for Sequencer {
+    ghost use Rattle.ld_sequencer.specs.Whole.{Whole, joined, AreOne};
+
+    ghost Value = { Whole };
+
+    ghost view = { λ s. joined s.own s.recovery };
+
+    ghost invariant = { λ s. AreOne s.own s.recovery };
+}
+
+impl Sequencer {
+    /// Gets the log's next epoch from the register. The recovery of the first epoch that isn't closed begins, where that is
+    /// before its own: all nodes are asked for what they have.
+    ///
+    /// It is refused with `Register` as the register refuses the activation, and for want of memory. A refused activation
+    /// has sent nothing, and for want of memory no epoch is handed out by a register that holds to what it holds.
+    pub fn activate<G: Register>(
+        alloc: Global,
+        spec: &Spec,
+        reg: &mut G,
+        out: &mut Outbox,
+    ) -> Result<Sequencer, SequencerFault>
+        requires { 1 ≤ spec.now.r }
+        ensures exact { (c : Contents) → G.tells reg.old c
+            → (IsErrOf result faults.NoMemory × G.tells reg.new c) ⊎ (Activates spec.now out.old out.new result (answered c spec.now.log) × G.tells reg.new (after_activate c spec.now.log)) }
+        ensures held { (c : Contents) → G.holds reg.old c
+            → IsErrAnd result MayCome ⊎ (IsErrOf result faults.NoMemory × G.holds reg.new c) ⊎ (Activates spec.now out.old out.new result (answered c spec.now.log) × G.holds reg.new (after_activate c spec.now.log)) }
+        ensures active { IfOk result (λ sequencer. (grant : Grant) × IsEpoch grant.epoch × IsActive spec.now grant sequencer out.old out.new) }
+        ensures unsent { OnErr result (out.new ≡ out.old) }
+        ensures memory { IfErr result (λ fault. fault ≢ faults.Register registers.NoMemory) }
+        ensures failed { IsErrOf result (faults.Register registers.Failed) → Rose (G.faults reg.old) (G.faults reg.new) }
+        ensures told { G.told reg.old → G.told reg.new }
+        ensures done_or_not { G.told reg.old → ChangedOrNot (G.may_hold reg.old) (G.may_hold reg.new) (λ c. after_activate c spec.now.log) }
+        ensures counts { G.faults reg.old ≤ G.faults reg.new }
+    {
+        let view = reg.look(alloc, spec.log, 0)?;
+        let expected = next_grant(&view);
+        let count = out.len();
+        let sequencer = Sequencer::start(alloc, spec, expected, out)?;
+        match reg.activate(alloc, spec.log) {
+            Ok(grant) if is_same(grant, expected) => Ok(sequencer),
+            Ok(grant) => {
+                out.truncate(count);
+                Ok(Sequencer::start(alloc, spec, grant, out)?)
+            }
+            Err(fault) => {
+                out.truncate(count);
+                Err(SequencerFault::from(fault))
+            }
+        }
+    }
+
+    /// What is said of its log.
+    pub fn spec(&self) -> &Spec
+        ensures { result.now ≡ self.now.spec }
+    {
+        self.own.spec()
+    }
+
+    /// Its epoch.
+    pub fn epoch(&self) -> u32
+        ensures { result ≡ self.now.sequencer.epoch }
+    {
+        self.own.epoch()
+    }
+
+    /// The greatest number such that readers may have all up to it: before all earlier epochs are closed the end of the
+    /// last closed one, and from then on the last of its own numbers such that it and all below are acknowledged.
+    pub fn released(&self) -> Lsn
+        ensures { result ≡ released_of self.now.sequencer }
+    {
+        self.own.released()
+    }
+
+    /// Numbers the payload and sends it to as many nodes as are to store it, and some more as the log says. It is refused
+    /// with `PayloadTooLong` and its length exactly above 65,535 bytes, then with `Preempted` and the greater epoch exactly
+    /// where one was learnt, then with `EpochFull` exactly where the next place is 2^32-1, then with `WindowFull` exactly
+    /// where 128 appends wait, and then for want of memory. A refused append has changed nothing and sent nothing.
+    #[tactic(auto, unfolding(ld_msg::specs::Sequencer::appending))]
+    pub fn append(
+        &mut self,
+        alloc: Global,
+        payload: Payload,
+        out: &mut Outbox,
+    ) -> Result<Lsn, SequencerFault>
+        ensures number { IfOk result (λ number. number ≡ numbered self.old.sequencer.epoch (next_esn self.old.sequencer)) }
+        ensures taken { OnOk result (appending self.old.sequencer payload ≡ Numbered) }
+        ensures now { OnOk result (self.new ≡ as_now self.old (appended self.old.sequencer payload)) }
+        ensures out { OnOk result (out.new ≡ out.old ++ sent_as self.old (first_stores self.old.spec self.old.sequencer payload)) }
+        ensures refused { IfErr result (λ fault. fault ≡ append_fault (length payload) (appending self.old.sequencer payload)) }
+        ensures same { OnErr result (self.new ≡ self.old) }
+        ensures unsent { OnErr result (out.new ≡ out.old) }
+    {
+        self.own.append(alloc, payload, out)
+    }
+
+    /// Tells all nodes of the log that all up to the number may go. It is refused with `PastReleased` and the released
+    /// number exactly where the number is above it, and then for want of memory. A refused trim has sent nothing.
+    pub fn trim(&self, lsn: Lsn, out: &mut Outbox) -> Result<(), SequencerFault>
+        ensures within { OnOk result (lsn ≤ released_of self.now.sequencer) }
+        ensures out { OnOk result (out.new ≡ out.old ++ sent_as self.now (to_each (Trim lsn) (nodes_of self.now.spec))) }
+        ensures refused { IfErr result (λ fault. fault ≡ trim_fault (released_of self.now.sequencer) lsn) }
+        ensures unsent { OnErr result (out.new ≡ out.old) }
+    {
+        self.own.trim(lsn, out)
+    }
+
+    /// Takes a node's message. An append of its own is acknowledged by it where as many nodes as the log's factor says have
+    /// stored it now, and hadn't before. A seal of a greater epoch preempts it, and so does word that its own epoch is
+    /// closed. What speaks of the epoch that is recovered goes to the recovery. Once its plan is stored the epoch is closed
+    /// in the register, all nodes are told so, and the next epoch is recovered, up to its own; where another sequencer
+    /// closed it, the recovery goes on behind the last closed epoch, or the sequencer is preempted, where that isn't before
+    /// its own. A close for which the register fails or is full is reported, and tried again by a retry alone. Where the
+    /// released number rises all nodes are told so. A preempted sequencer ignores all messages, and so it does those that
+    /// are no node's.
+    ///
+    /// It is refused with `Register` and `LogLimit` exactly where 64 other logs are held, and with `Register` and `Damaged`
+    /// where the register's bytes are no journal: then all has been done but the close, which a retry tries again. After
+    /// `NoMemory` it isn't to be used again.
+    pub fn on_reply<G: Register>(
+        &mut self,
+        alloc: Global,
+        msg: &Msg,
+        reg: &mut G,
+        out: &mut Outbox,
+    ) -> Result<Report, SequencerFault>
+        requires { IsMessage msg.now }
+        ensures exact { (c : Contents) → G.tells reg.old c
+            → IfOk result (λ report. Acted self.old self.new report out.old out.new (called_by self.old c (reply_acts self.old msg.now.from msg.now.body)).acts × G.tells reg.new (called_by self.old c (reply_acts self.old msg.now.from msg.now.body)).register) }
+        ensures acted { IfOk result (λ report. (d : Ends) × Acted self.old self.new report out.old out.new (tried self.old (reply_acts self.old msg.now.from msg.now.body) d)) }
+        ensures held { (c : Contents) → G.holds reg.old c
+            → IfOk result (λ report. (report.register_failed ≡ true) ⊎ (Acted self.old self.new report out.old out.new (called_by self.old c (reply_acts self.old msg.now.from msg.now.body)).acts × G.holds reg.new (called_by self.old c (reply_acts self.old msg.now.from msg.now.body)).register)) }
+        ensures failed { G.told reg.old → IfOk result (λ report. report.register_failed ≡ true → Rose (G.faults reg.old) (G.faults reg.new) ⊎ ((c : Contents) × G.holds reg.old c × (is_full c close_length ≡ true))) }
+        ensures refused { IfErr result (λ fault. IsRefused self.old self.new fault out.old out.new (reply_acts self.old msg.now.from msg.now.body)) }
+        ensures crowded { (c : Contents) → G.tells reg.old c
+            → IfErr result (λ fault. (fault ≡ faults.NoMemory) ⊎ ((fault ≡ faults.Register registers.LogLimit) × (is_crowded c self.old.sequencer.log ≡ true) × G.tells reg.new c)) }
+        ensures room { (c : Contents) → G.tells reg.old c → OnOk result (((reply_acts self.old msg.now.from msg.now.body).tries ≡ []) ⊎ (is_crowded c self.old.sequencer.log ≡ false)) }
+        ensures told { G.told reg.old → G.told reg.new }
+        ensures counts { G.faults reg.old ≤ G.faults reg.new }
+    {
+        let was_closing = self.closing().is_some();
+        let report = self.hear(alloc, msg, out)?;
+        if was_closing {
+            return Ok(report);
+        }
+        match self.closing() {
+            Some((epoch, summary)) => self.close(alloc, epoch, &summary, reg, out),
+            None => Ok(report),
+        }
+    }
+
+    /// Sends again what is still wanted: what the recovery waits for, or its close is tried again in the register, and each
+    /// append that isn't acknowledged, in its next wave, to the nodes chosen that haven't stored it. A preempted sequencer
+    /// does nothing.
+    ///
+    /// The register's answer to a close does what it does in `on_reply`, and so do its refusals: then all has been done but
+    /// the close. After `NoMemory` it isn't to be used again.
+    pub fn retry<G: Register>(
+        &mut self,
+        alloc: Global,
+        reg: &mut G,
+        out: &mut Outbox,
+    ) -> Result<Report, SequencerFault>
+        ensures exact { (c : Contents) → G.tells reg.old c
+            → IfOk result (λ report. Acted self.old self.new report out.old out.new (called_by self.old c (retry_acts self.old)).acts × G.tells reg.new (called_by self.old c (retry_acts self.old)).register) }
+        ensures acted { IfOk result (λ report. (d : Ends) × Acted self.old self.new report out.old out.new (tried self.old (retry_acts self.old) d)) }
+        ensures held { (c : Contents) → G.holds reg.old c
+            → IfOk result (λ report. (report.register_failed ≡ true) ⊎ (Acted self.old self.new report out.old out.new (called_by self.old c (retry_acts self.old)).acts × G.holds reg.new (called_by self.old c (retry_acts self.old)).register)) }
+        ensures failed { G.told reg.old → IfOk result (λ report. report.register_failed ≡ true → Rose (G.faults reg.old) (G.faults reg.new) ⊎ ((c : Contents) × G.holds reg.old c × (is_full c close_length ≡ true))) }
+        ensures refused { IfErr result (λ fault. IsRefused self.old self.new fault out.old out.new (retry_acts self.old)) }
+        ensures crowded { (c : Contents) → G.tells reg.old c
+            → IfErr result (λ fault. (fault ≡ faults.NoMemory) ⊎ ((fault ≡ faults.Register registers.LogLimit) × (is_crowded c self.old.sequencer.log ≡ true) × G.tells reg.new c)) }
+        ensures room { (c : Contents) → G.tells reg.old c → OnOk result (((retry_acts self.old).tries ≡ []) ⊎ (is_crowded c self.old.sequencer.log ≡ false)) }
+        ensures told { G.told reg.old → G.told reg.new }
+        ensures counts { G.faults reg.old ≤ G.faults reg.new }
+    {
+        if self.own.is_preempted() {
+            return Ok(Report::nothing());
+        }
+        self.own.raise();
+        let report = self.retry_recovery(alloc, reg, out);
+        self.own.send(alloc, out)?;
+        report
+    }
+
+    /// The sequencer of an epoch that was handed out. Without memory nothing is sent.
+    fn start(
+        alloc: Global,
+        spec: &Spec,
+        grant: Grant,
+        out: &mut Outbox,
+    ) -> Result<Sequencer, NoMemory>
+        requires copies { 1 ≤ spec.now.r }
+        requires epoch { IsEpoch grant.epoch }
+        requires lce { grant.lce ≤ 2 ^ 32 - 2 }
+        ensures active { IfOk result (λ sequencer. IsActive spec.now grant sequencer out.old out.new) }
+        ensures unsent { OnErr result (out.new ≡ out.old) }
+    {
+        let own = OwnEpoch::new(alloc, spec, grant.epoch, grant.lce)?;
+        let mut asks = Outbox::empty(alloc);
+        let recovery = next_recovery(alloc, spec, grant.epoch, grant.lce, &mut asks)?;
+        send_all(asks, out)?;
+        Ok(Sequencer { own, recovery })
+    }
+
+    /// What a message does without a close.
+    fn hear(&mut self, alloc: Global, msg: &Msg, out: &mut Outbox) -> Result<Report, NoMemory>
+        requires { IsMessage msg.now }
+        ensures acted { IfOk result (λ report. Acted self.old self.new report out.old out.new (reply_acts self.old msg.now.from msg.now.body)) }
+        ensures fresh { IsFresh self.old (reply_acts self.old msg.now.from msg.now.body) }
+        ensures failed { IfOk result (λ report. report.register_failed ≡ false) }
+    {
+        if self.is_for_recovery(&msg.body) {
+            return self.hear_for_recovery(alloc, msg, out);
+        }
+        let before = self.released();
+        let learnt = self.own.on_reply(msg, out)?;
+        Ok(Report {
+            acked: learnt.acked,
+            closed: None,
+            preempted: learnt.preempted,
+            register_failed: false,
+            released: self.risen(before),
+        })
+    }
+
+    /// What a message for the recovery does without a close.
+    fn hear_for_recovery(
+        &mut self,
+        alloc: Global,
+        msg: &Msg,
+        out: &mut Outbox,
+    ) -> Result<Report, NoMemory>
+        requires message { IsMessage msg.now }
+        requires recovery { is_for_recovery self.old msg.now.body ≡ true }
+        ensures acted { IfOk result (λ report. Acted self.old self.new report out.old out.new (reply_acts self.old msg.now.from msg.now.body)) }
+        ensures failed { IfOk result (λ report. report.register_failed ≡ false) }
+    {
+        let before = self.released();
+        let Some(mut recovery) = self.recovery.take() else {
+            return Ok(Report::nothing());
+        };
+        recovery.on_reply(alloc, msg, out)?;
+        if let State::Done(_) = recovery.state() {
+            self.go_on(alloc, recovery.epoch(), out)?;
+            return Ok(Report {
+                acked: None,
+                closed: None,
+                preempted: None,
+                register_failed: false,
+                released: self.risen(before),
+            });
+        }
+        self.recovery = Some(recovery);
+        Ok(Report::nothing())
+    }
+
+    /// Whether a message is for the recovery.
+    fn is_for_recovery(&self, body: &Body) -> bool
+        ensures { result ≡ is_for_recovery self.now body.now }
+    {
+        !self.own.is_preempted() && self.recovery.is_some() && is_of_earlier(self.own.epoch(), body)
+    }
+
+    /// All epochs up to this one are closed: where the released number rises all nodes are told so, and the recovery of the
+    /// next epoch begins, where that is before its own. It recovers none at the moment.
+    fn go_on(&mut self, alloc: Global, lce: u32, out: &mut Outbox) -> Result<(), NoMemory>
+        requires lce { lce ≤ 2 ^ 32 - 2 }
+        ensures now { OnOk result (self.new ≡ as_now self.old (goes_on self.old.spec (does_nothing self.old.sequencer) lce).sequencer) }
+        ensures out { OnOk result (out.new ≡ out.old ++ sent_as self.old (acted_messages self.old.spec self.old.sequencer (goes_on self.old.spec (does_nothing self.old.sequencer) lce))) }
+    {
+        self.recovery = None;
+        self.own.close_through(lce, out)?;
+        self.recovery = next_recovery(alloc, self.own.spec(), self.own.epoch(), lce, out)?;
+        Ok(())
+    }
+
+    /// Tries the close that is due.
+    fn close<G: Register>(
+        &mut self,
+        alloc: Global,
+        epoch: u32,
+        summary: &Summary,
+        reg: &mut G,
+        out: &mut Outbox,
+    ) -> Result<Report, SequencerFault>
+        requires due { closing_of self.old ≡ Some (epoch, summary.now) }
+        requires summary { IsSummary epoch summary.now }
+        ensures exact { (c : Contents) → G.tells reg.old c
+            → IfOk result (λ report. Acted self.old self.new report out.old out.new (closed_acts self.old epoch summary.now (closes c self.old.sequencer.log epoch summary.now).answer) × (is_crowded c self.old.sequencer.log ≡ false) × G.tells reg.new (closes c self.old.sequencer.log epoch summary.now).register) }
+        ensures acted { IfOk result (λ report. (d : Ends) × Acted self.old self.new report out.old out.new (closed_acts self.old epoch summary.now d)) }
+        ensures held { (c : Contents) → G.holds reg.old c
+            → IfOk result (λ report. (report.register_failed ≡ true) ⊎ (Acted self.old self.new report out.old out.new (closed_acts self.old epoch summary.now (closes c self.old.sequencer.log epoch summary.now).answer) × G.holds reg.new (closes c self.old.sequencer.log epoch summary.now).register)) }
+        ensures failed { G.told reg.old → IfOk result (λ report. report.register_failed ≡ true → Rose (G.faults reg.old) (G.faults reg.new) ⊎ ((c : Contents) × G.holds reg.old c × (is_full c close_length ≡ true))) }
+        ensures refused { IfErr result (λ fault. (fault ≡ faults.NoMemory) ⊎ (IsUntimely fault × (self.new ≡ self.old) × (out.new ≡ out.old))) }
+        ensures crowded { (c : Contents) → G.tells reg.old c
+            → IfErr result (λ fault. (fault ≡ faults.NoMemory) ⊎ ((fault ≡ faults.Register registers.LogLimit) × (is_crowded c self.old.sequencer.log ≡ true) × G.tells reg.new c)) }
+        ensures told { G.told reg.old → G.told reg.new }
+        ensures counts { G.faults reg.old ≤ G.faults reg.new }
+    {
+        let answer = close(alloc, reg, self.own.spec().log, epoch, summary)?;
+        Ok(self.after_close(alloc, answer, epoch, summary, out)?)
+    }
+
+    /// What the register's answer to a close does.
+    fn after_close(
+        &mut self,
+        alloc: Global,
+        answer: Answer,
+        epoch: u32,
+        summary: &Summary,
+        out: &mut Outbox,
+    ) -> Result<Report, NoMemory>
+        requires due { closing_of self.old ≡ Some (epoch, summary.now) }
+        requires bound { is_epoch_answer answer ≡ true }
+        ensures acted { IfOk result (λ report. Acted self.old self.new report out.old out.new (closed_acts self.old epoch summary.now (answer_of answer))) }
+        ensures failed { IfOk result (λ report. report.register_failed ≡ true → answer ≡ answers.Failed) }
+    {
+        match answer {
+            Answer::Taken => self.finish(alloc, epoch, summary, out),
+            Answer::Behind(lce) => self.fall_behind(alloc, lce, epoch, summary, out),
+            Answer::Failed => Ok(Report {
+                acked: None,
+                closed: None,
+                preempted: None,
+                register_failed: true,
+                released: None,
+            }),
+        }
+    }
+
+    /// The epoch is closed as it was to be.
+    fn finish(
+        &mut self,
+        alloc: Global,
+        epoch: u32,
+        summary: &Summary,
+        out: &mut Outbox,
+    ) -> Result<Report, NoMemory>
+        requires due { closing_of self.old ≡ Some (epoch, summary.now) }
+        ensures acted { IfOk result (λ report. Acted self.old self.new report out.old out.new (closed_acts self.old epoch summary.now Granted)) }
+        ensures failed { IfOk result (λ report. report.register_failed ≡ false) }
+    {
+        let before = self.released();
+        match self.recovery.take() {
+            Some(mut recovery) => recovery.closed(Answer::Taken, out)?,
+            None => {}
+        }
+        self.go_on(alloc, epoch, out)?;
+        Ok(Report {
+            acked: None,
+            closed: Some(Lsn::new(epoch, summary.end)),
+            preempted: None,
+            register_failed: false,
+            released: self.risen(before),
+        })
+    }
+
+    /// The last closed epoch is this one, and not the one before that which is to be closed.
+    fn fall_behind(
+        &mut self,
+        alloc: Global,
+        lce: u32,
+        epoch: u32,
+        summary: &Summary,
+        out: &mut Outbox,
+    ) -> Result<Report, NoMemory>
+        requires { lce ≤ 2 ^ 32 - 2 }
+        ensures acted { IfOk result (λ report. Acted self.old self.new report out.old out.new (closed_acts self.old epoch summary.now (Behind lce))) }
+        ensures failed { IfOk result (λ report. report.register_failed ≡ false) }
+    {
+        if self.own.epoch() <= lce {
+            self.own.preempt(lce + 1);
+            return Ok(Report {
+                acked: None,
+                closed: None,
+                preempted: Some(lce + 1),
+                register_failed: false,
+                released: None,
+            });
+        }
+        let before = self.released();
+        self.go_on(alloc, lce, out)?;
+        Ok(Report {
+            acked: None,
+            closed: None,
+            preempted: None,
+            register_failed: false,
+            released: self.risen(before),
+        })
+    }
+
+    /// Tries the close that is due, or asks again for what the recovery waits for.
+    fn retry_recovery<G: Register>(
+        &mut self,
+        alloc: Global,
+        reg: &mut G,
+        out: &mut Outbox,
+    ) -> Result<Report, SequencerFault>
+        requires { self.old.sequencer.preempted ≡ None }
+        ensures exact { (c : Contents) → G.tells reg.old c
+            → IfOk result (λ report. Acted self.old self.new report out.old out.new (called_by self.old c (recovery_acts self.old)).acts × G.tells reg.new (called_by self.old c (recovery_acts self.old)).register) }
+        ensures acted { IfOk result (λ report. (d : Ends) × Acted self.old self.new report out.old out.new (tried self.old (recovery_acts self.old) d)) }
+        ensures held { (c : Contents) → G.holds reg.old c
+            → IfOk result (λ report. (report.register_failed ≡ true) ⊎ (Acted self.old self.new report out.old out.new (called_by self.old c (recovery_acts self.old)).acts × G.holds reg.new (called_by self.old c (recovery_acts self.old)).register)) }
+        ensures failed { G.told reg.old → IfOk result (λ report. report.register_failed ≡ true → Rose (G.faults reg.old) (G.faults reg.new) ⊎ ((c : Contents) × G.holds reg.old c × (is_full c close_length ≡ true))) }
+        ensures refused { IfErr result (λ fault. IsRefused self.old self.new fault out.old out.new (recovery_acts self.old)) }
+        ensures crowded { (c : Contents) → G.tells reg.old c
+            → IfErr result (λ fault. (fault ≡ faults.NoMemory) ⊎ ((fault ≡ faults.Register registers.LogLimit) × (is_crowded c self.old.sequencer.log ≡ true) × G.tells reg.new c)) }
+        ensures room { (c : Contents) → G.tells reg.old c → OnOk result (((recovery_acts self.old).tries ≡ []) ⊎ (is_crowded c self.old.sequencer.log ≡ false)) }
+        ensures told { G.told reg.old → G.told reg.new }
+        ensures counts { G.faults reg.old ≤ G.faults reg.new }
+    {
+        match self.closing() {
+            Some((epoch, summary)) => self.close(alloc, epoch, &summary, reg, out),
+            None => {
+                self.ask_again(alloc, out)?;
+                Ok(Report::nothing())
+            }
+        }
+    }
+
+    /// Asks again for what the recovery waits for. It isn't closing.
+    fn ask_again(&mut self, alloc: Global, out: &mut Outbox) -> Result<(), NoMemory>
+        requires { closing_of self.old ≡ None }
+        ensures now { OnOk result (self.new ≡ as_now self.old (recovery_acts self.old).sequencer) }
+        ensures out { OnOk result (out.new ≡ out.old ++ sent_as self.old ((recovery_acts self.old).asks ++ (recovery_acts self.old).stores)) }
+    {
+        if let Some(mut recovery) = self.recovery.take() {
+            recovery.retry(alloc, out)?;
+            self.recovery = Some(recovery);
+        }
+        Ok(())
+    }
+
+    /// An epoch that is to be closed, with its summary: its plan is stored.
+    fn closing(&self) -> Option<(u32, Summary)>
+        ensures closing { result ≡ closing_of self.now }
+        ensures summary { IfSome result (λ due. IsSummary due.0 due.1) }
+    {
+        match &self.recovery {
+            Some(recovery) => match recovery.state() {
+                State::Closing(summary) => Some((recovery.epoch(), summary)),
+                _ => None,
+            },
+            None => None,
+        }
+    }
+
+    /// The released number, where it rose above this one.
+    fn risen(&self, before: Lsn) -> Option<Lsn>
+        ensures { listed result ≡ (if nat_lt before (released_of self.now.sequencer) then released_of self.now.sequencer ∷ [] else []) }
+    {
+        let released = self.released();
+        if released > before {
+            Some(released)
+        } else {
+            None
+        }
+    }
+}
+
+/// The recovery of the first epoch that isn't closed, where that is before the sequencer's own: all nodes are asked for what
+/// they have. Without memory some may have been asked.
+#[tactic(auto, using(crate::proofs::Serving::begin_rules))]
+fn next_recovery(
+    alloc: Global,
+    spec: &Spec,
+    epoch: u32,
+    lce: u32,
+    out: &mut Outbox,
+) -> Result<Option<Recovery>, NoMemory>
+    requires copies { 1 ≤ spec.now.r }
+    requires epoch { IsEpoch epoch }
+    requires lce { lce ≤ 2 ^ 32 - 2 }
+    ensures value { IfOk result (λ recovery. recovery ≡ next_in spec.now epoch lce) }
+    ensures sent { OnOk result (out.new ≡ out.old ++ sent_as (active spec.now epoch lce) (recovery_asks spec.now (active spec.now epoch lce).sequencer lce)) }
+{
+    if lce + 1 < epoch {
+        return Ok(Some(Recovery::start(alloc, spec, lce + 1, epoch, out)?));
+    }
+    Ok(None)
+}
+
+/// Whether a message speaks of an epoch before this one, and not of it.
+fn is_of_earlier(epoch: u32, body: &Body) -> bool
+    ensures { result ≡ is_of_earlier epoch body.now }
+{
+    match body {
+        Body::Stored { number } => number.epoch() != epoch,
+        Body::LostHere { number, .. } => number.home().0 != epoch,
+        Body::CleanHere { number, .. } => number.home().0 != epoch,
+        Body::TrimmedHere { .. } => true,
+        Body::DigestPage { .. } => true,
+        _ => false,
+    }
+}
+
+/// The grant that a register is to give next.
+fn next_grant(view: &View) -> Grant
+    requires lce { view.now.lce ≤ 2 ^ 32 - 2 }
+    ensures epoch { IsEpoch result.epoch }
+    ensures next { view.now.epoch < 2 ^ 32 - 2 → result.epoch ≡ view.now.epoch + 1 }
+    ensures lce { result.lce ≡ view.now.lce }
+{
+    let epoch = if view.epoch < GREATEST_EPOCH {
+        view.epoch + 1
+    } else {
+        GREATEST_EPOCH
+    };
+    Grant {
+        epoch,
+        lce: view.lce,
+    }
+}
+
+/// Whether a grant is as expected.
+fn is_same(grant: Grant, expected: Grant) -> bool
+    ensures yes { result ≡ true → grant ≡ expected }
+    ensures no { grant ≡ expected → result ≡ true }
+{
+    grant == expected
+}
+
+/// Sends these. Without memory nothing is sent.
+#[tactic(auto, using(crate::proofs::Begins::back_rules))]
+fn send_all(asks: Outbox, out: &mut Outbox) -> Result<(), NoMemory>
+    ensures sent { OnOk result (out.new ≡ out.old ++ asks) }
+    ensures unsent { OnErr result (out.new ≡ out.old) }
+{
+    let count = out.len();
+    let sent = add_all(asks, out);
+    if sent.is_err() {
+        out.truncate(count);
+    }
+    sent
+}
+
+/// Sends these. Without memory some may have been sent.
+#[tactic(auto, using(crate::proofs::Begins::back_rules))]
+fn add_all(asks: Outbox, out: &mut Outbox) -> Result<(), NoMemory>
+    ensures sent { OnOk result (out.new ≡ out.old ++ asks) }
+    ensures begins { OnErr result (BeginsWith out.old out.new) }
+{
+    'asks: for ask in asks.into_vec() {
+        out.push(ask)?;
+    }
+    Ok(())
+}
