@@ -1,0 +1,14 @@
+pub mod Fates
+pub mod Keeping
+pub mod Loading
+pub mod Fulls
+pub mod Ending
+pub mod Logs
+pub mod Done
+pub mod Rising
+pub mod Stopping
+pub mod Answering
+pub mod Standings
+pub mod Ticking
+pub mod Formatting
+pub mod Bytes

@@ -1,0 +1,121 @@
+-- A disk that is new, stopped or armed.
+use Rattle.std.proofs.Common.{◌≡◌, ◌≢◌, ◌≤◌, ◌<◌, ◌^◌, ℕ, List, [], ◌∷◌, length, None, Some, refl, sym, ◌∙◌, ap, subst, arith}
+use Rattle.std.specs.Option.{option_map}
+use Rattle.std.proofs.lemmas.List.Elements.{All-nil}
+use Rattle.ld_disk.specs.Memory.{disk_plain}
+use Rattle.ld_disk.specs.Plain.{Plain as DiskPlain, new_disk, armed_with, fault_of}
+use Rattle.ld_disk.specs.declared.disk.Disk.{Ghosts}
+use Rattle.ld_disk.specs.declared.disk.Fault.{Fault as DiskFault}
+use Rattle.ld_disk.specs.declared.memory.MemDisk.{MemDisk}
+use Rattle.ld_store.specs.Ops.{IsJournalOf}
+use Rattle.ld_node.specs.Node.{id_of, sets_of, released_of, disk_of, Holds}
+use Rattle.ld_node.specs.declared.node.Node.{Node as Running}
+use Rattle.ld_op.specs.declared.op.Op.{Op}
+use Rattle.ld_config.specs.declared.config.Config.{Config}
+use Rattle.ld_machine.specs.Disk.{Node, Fault, Blank, Up, Down, Failed, new_node}
+use Rattle.ld_machine.specs.Step.{with_fault, stopped}
+use Rattle.ld_host.specs.declared.state.State.{State}
+use Rattle.ld_host.specs.declared.state.State.TheVariants as states
+use Rattle.ld_host.specs.States.{disk_in}
+use Rattle.ld_host.specs.Faults.{crash_of, IsArmed}
+use Rattle.ld_host.specs.Lies.{Rests, Lies}
+use Rattle.ld_host.specs.Stands.{Runs, IsBlank, IsStopped, StandsAs, seen_in, leaves_of}
+use Rattle.ld_host.proofs.Rising.{some_is}
+
+-- ---- a new disk ----
+
+not_one : (gate : ℕ) → gate ≡ 0 → gate ≢ 1
+not_one gate shut is = absurd (omega (arith, shut, is))
+
+empty_journal : IsJournalOf [] (0 ∷ [])
+empty_journal = record { journal = record { gate = 0; after = []; bytes_are = refl; shut = not_one 0 refl; fits = All-nil (λ (body : List ℕ). length body < 2 ^ 32) }; ops = tt }
+
+new_lies : Lies new_disk new_node
+new_lies = record {
+  ops = [];
+  plain = refl;
+  length = refl;
+  formatted = refl;
+  rests = record { bytes = 0 ∷ []; journal = empty_journal; safe = refl };
+  armed = record { stands = refl; told = refl; counts = tt };
+}
+
+pub new_blank : (m : MemDisk) → disk_plain m ≡ new_disk → IsBlank m new_node
+new_blank m is = record { status = refl; plain = refl; cut = refl; lies = subst (λ p. Lies p new_node) (sym is) new_lies }
+
+-- ---- a node that stops ----
+
+stopped_lies : (p : DiskPlain) (x : Node) → Lies p x → Lies p (stopped x)
+stopped_lies p x lies = record { ops = lies.ops; plain = lies.plain; length = lies.length; formatted = lies.formatted; rests = lies.rests; armed = lies.armed }
+
+module _ (c : Config) (n : ℕ) where
+  pub lies_in : (s : State) (x : Node) (m : MemDisk) → StandsAs c n s x → disk_in s ≡ Some m → Lies (disk_plain m) x
+  lies_in (states.Blank d) x m stands is = subst (λ d. Lies (disk_plain d) x) (some_is d m is) stands.lies
+  lies_in (states.Up node) x m stands is = subst (λ d. Lies (disk_plain d) x) (some_is (disk_of node) m is) stands.lies
+  lies_in (states.Down d) x m stands is = subst (λ d. Lies (disk_plain d) x) (some_is d m is) stands.lies
+  lies_in (states.Failed d) x m stands is = subst (λ d. Lies (disk_plain d) x) (some_is d m is) stands.lies
+  lies_in states.Gone x m stands is = absurd stands
+
+  pub not_gone : (s : State) (x : Node) → StandsAs c n s x → disk_in s ≡ None → ⊥
+  not_gone (states.Blank d) x stands is = absurd (cc is)
+  not_gone (states.Up node) x stands is = absurd (cc is)
+  not_gone (states.Down d) x stands is = absurd (cc is)
+  not_gone (states.Failed d) x stands is = absurd (cc is)
+  not_gone states.Gone x stands is = absurd stands
+
+  pub stops : (s : State) (x : Node) (m : MemDisk) → StandsAs c n s x → disk_in s ≡ Some m → IsStopped Down m (stopped x)
+  stops s x m stands is = record { is = refl; lies = stopped_lies (disk_plain m) x (lies_in s x m stands is) }
+
+blank_up : Up ≡ Blank → ⊥
+blank_up is = absurd (cc is)
+
+blank_down : Down ≡ Blank → ⊥
+blank_down is = absurd (cc is)
+
+blank_failed : Failed ≡ Blank → ⊥
+blank_failed is = absurd (cc is)
+
+pub blank_here : (c : Config) (n : ℕ) (s : State) (x : Node) (m : MemDisk) → StandsAs c n s x → x.status ≡ Blank → disk_in s ≡ Some m → IsBlank m x
+blank_here c n (states.Blank d) x m stands blank is = subst (λ d. IsBlank d x) (some_is d m is) stands
+blank_here c n (states.Up node) x m stands blank is = absurd (blank_up (sym stands.status ∙ blank))
+blank_here c n (states.Down d) x m stands blank is = absurd (blank_down (sym stands.is ∙ blank))
+blank_here c n (states.Failed d) x m stands blank is = absurd (blank_failed (sym stands.is ∙ blank))
+blank_here c n states.Gone x m stands blank is = absurd stands
+
+-- ---- a disk that is armed ----
+
+unfoldable pub armed_lies : (p : DiskPlain) (x : Node) (f : Fault) (fault : DiskFault) → fault ≡ fault_of f.left (crash_of f.crash) → 1 ≤ f.left → Lies p x → Lies (armed_with fault p) (with_fault x f)
+armed_lies p x f fault is counts lies = record {
+  ops = lies.ops;
+  plain = lies.plain;
+  length = lies.length;
+  formatted = lies.formatted;
+  rests = lies.rests;
+  armed = record { stands = lies.armed.stands; told = ap (λ o. Some o) is; counts = counts };
+}
+
+pub armed_too : (m new : MemDisk) (fault : DiskFault) → Some (disk_plain new) ≡ option_map (armed_with fault) (Some (disk_plain m)) → disk_plain new ≡ armed_with fault (disk_plain m)
+armed_too m new fault is = some_is (disk_plain new) (armed_with fault (disk_plain m)) is
+
+module _ {g : Ghosts MemDisk} (c : Config) (n : ℕ) (node new : Running MemDisk g) (x : Node) (f : Fault) (fault : DiskFault) where
+  pub armed_runs : fault ≡ fault_of f.left (crash_of f.crash) → 1 ≤ f.left → Runs c n node x → disk_plain (disk_of new) ≡ armed_with fault (disk_plain (disk_of node))
+      → id_of new ≡ id_of node → sets_of new ≡ sets_of node → released_of new ≡ released_of node → ((ops : List Op) → Holds seen_in leaves_of node ops → Holds seen_in leaves_of new ops) → Runs c n new (with_fault x f)
+  unfolding armed_lies
+  armed_runs is counts runs disk id sets released holds =
+      let now = armed_lies (disk_plain (disk_of node)) x f fault is counts runs.lies in
+      record {
+        status = runs.status;
+        id = id ∙ runs.id;
+        sets = sets ∙ runs.sets;
+        released = released ∙ runs.released;
+        cut = runs.cut;
+        lies = record {
+          ops = runs.lies.ops;
+          plain = runs.lies.plain;
+          length = runs.lies.length;
+          formatted = runs.lies.formatted;
+          rests = subst (λ q. Rests runs.lies.ops x.plain x.length x.cut q.state) (sym disk) runs.lies.rests;
+          armed = subst (λ q. IsArmed (Some f) q) (sym disk) now.armed;
+        };
+        holds = holds runs.lies.ops runs.holds;
+      }

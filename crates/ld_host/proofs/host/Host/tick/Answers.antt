@@ -1,0 +1,9 @@
+use Rattle.std.proofs.Common.{sym, ◌∙◌, subst}
+use Rattle.ld_host.specs.Stands.{StandsAs}
+use Rattle.ld_host.proofs.host.Host.tick.Goals as goal
+
+pub returns : goal.returns
+returns g c settings n x r stands up bounds keeps closed tells =
+    let runs = subst (λ s. StandsAs settings n s x) (sym c.replace-state.ensures.value ∙ c.in-Up.is) stands.state in
+    let done = c.in_ok-state.ensures.stands settings n x r runs bounds keeps closed tells in
+    (record { id = stands.id; state = done.0 }, done.1, done.2, done.3)

@@ -1,0 +1,342 @@
+// Hosts whose disks fail and crash, beside a register on a disk of its own.
+ghost use Rattle.std.specs.Prelude.{◌≡◌, ◌≤◌, IfOk};
+ghost use Rattle.ld_msg.specs.Bounds.{IsMessage, Fits};
+ghost use Rattle.ld_msg.specs.declared.msg.Who.TheVariants as whos;
+
+use crate::{Formatted, Host, Hosts, Kept, Status};
+use ld_config::{Config, Specs};
+use ld_disk::MemDisk;
+use ld_ids::{LogId, NoMemory, NodeId, NodeSet, Payload, Spec};
+use ld_lsn::Lsn;
+use ld_msg::{Body, Msg, What, Who};
+use ld_register::DiskRegister;
+use ld_schedule::Picture;
+use std::alloc::Global;
+use std::test::Fail;
+
+fn log_of(number: u32) -> Result<LogId, NoMemory>
+    ensures { IfOk result (λ log. log ≡ number) }
+{
+    match LogId::new(number) {
+        Some(log) => Ok(log),
+        None => Err(NoMemory),
+    }
+}
+
+fn node_of(number: u8) -> Result<NodeId, NoMemory>
+    ensures { IfOk result (λ node. node ≡ number) }
+{
+    match NodeId::new(number) {
+        Some(node) => Ok(node),
+        None => Err(NoMemory),
+    }
+}
+
+fn new_register(alloc: Global) -> Result<DiskRegister<MemDisk>, NoMemory> {
+    match MemDisk::new(alloc) {
+        Ok(disk) => Ok(DiskRegister::new(alloc, disk)),
+        Err(_) => Err(NoMemory),
+    }
+}
+
+/// Log 1 on the nodes 1, 2 and 3.
+fn config(alloc: Global) -> Result<Config, NoMemory> {
+    let set = NodeSet::empty()
+        .with(node_of(1)?)
+        .with(node_of(2)?)
+        .with(node_of(3)?);
+    let mut logs = Specs::new(alloc);
+    logs.push(Spec {
+        log: log_of(1)?,
+        set,
+        r: 2,
+        extras: 0,
+    })?;
+    Ok(Config { nodes: set, logs })
+}
+
+/// Formats a host, and says whether that was done.
+fn format_by(
+    alloc: Global,
+    host: &mut Host,
+    reg: &mut DiskRegister<MemDisk>,
+) -> Result<bool, NoMemory> {
+    let config = config(alloc)?;
+    match &host.format(alloc, &config, reg)? {
+        Formatted::Done(_) => Ok(true),
+        _ => Ok(false),
+    }
+}
+
+/// Formats a host by a new register, and says whether that was done.
+fn format(alloc: Global, host: &mut Host) -> Result<bool, NoMemory> {
+    let mut reg = new_register(alloc)?;
+    format_by(alloc, host, &mut reg)
+}
+
+fn load(alloc: Global, host: &mut Host) -> Result<Kept, NoMemory> {
+    let config = config(alloc)?;
+    host.load(alloc, &config)
+}
+
+/// A message of log 1 to node 1.
+fn to_node(from: Who, body: Body) -> Result<Msg, NoMemory>
+    requires { Fits from (whos.Node 1) body }
+    ensures { IfOk result IsMessage }
+{
+    Ok(Msg {
+        from,
+        to: Who::Node(node_of(1)?),
+        log: log_of(1)?,
+        body,
+    })
+}
+
+/// What the sequencer of epoch 1 has stored at place 1.
+fn store(alloc: Global) -> Result<Msg, NoMemory>
+    ensures { IfOk result IsMessage }
+{
+    let mut bytes = Vec::new(alloc);
+    bytes.push(9)?;
+    to_node(
+        Who::Sequencer(1),
+        Body::Store {
+            number: Lsn::new(1, 1),
+            lng: 0,
+            what: What::Rec(Payload::new(bytes)),
+        },
+    )
+}
+
+/// The sequencer of epoch 2 asks for what stands in epoch 1.
+fn digest_ask() -> Result<Msg, NoMemory>
+    ensures { IfOk result IsMessage }
+{
+    to_node(
+        Who::Sequencer(2),
+        Body::DigestAsk {
+            from: Lsn::new(1, 1),
+        },
+    )
+}
+
+/// How a message ends at a host, and how many are sent.
+fn give(alloc: Global, host: &mut Host, msg: &Msg) -> Result<(Kept, usize), NoMemory>
+    requires { IsMessage msg.now }
+{
+    let (kept, sends) = host.on_msg(alloc, msg)?;
+    Ok((kept, sends.len()))
+}
+
+fn give_store(alloc: Global, host: &mut Host) -> Result<(Kept, usize), NoMemory> {
+    let msg = store(alloc)?;
+    give(alloc, host, &msg)
+}
+
+/// How many entries a message tells of, 9 where it is no page.
+fn entries_in(msg: &Msg) -> usize {
+    match &msg.body {
+        Body::DigestPage { entries, .. } => entries.as_slice().len(),
+        _ => 9,
+    }
+}
+
+/// How many entries a host's node tells of.
+fn entries(alloc: Global, host: &mut Host) -> Result<usize, NoMemory> {
+    let msg = digest_ask()?;
+    let (_, sends) = host.on_msg(alloc, &msg)?;
+    match sends.as_slice().first() {
+        Some(one) => Ok(entries_in(one)),
+        None => Ok(8),
+    }
+}
+
+/// How a store ends in whose record the call of this count fails or crashes, how many messages are sent, and how many
+/// entries are found afterwards.
+fn cut_at(
+    alloc: Global,
+    host: &mut Host,
+    call: u64,
+    crash: Option<Picture>,
+) -> Result<(Kept, usize, usize), NoMemory>
+    requires { 1 ≤ call }
+{
+    let _ = format(alloc, host)?;
+    host.arm(call, crash);
+    let (kept, sent) = give_store(alloc, host)?;
+    host.stop();
+    let _ = load(alloc, host)?;
+    Ok((kept, sent, entries(alloc, host)?))
+}
+
+fn cut(alloc: Global, call: u64, crash: Option<Picture>) -> Result<(Kept, usize, usize), NoMemory>
+    requires { 1 ≤ call }
+{
+    let mut host = Host::new(alloc, node_of(1)?)?;
+    cut_at(alloc, &mut host, call, crash)
+}
+
+const WRITTEN: (Kept, usize, usize) = (Kept::Written, 1, 1);
+
+const GONE: (Kept, usize, usize) = (Kept::Crashed, 0, 0);
+
+const THERE: (Kept, usize, usize) = (Kept::Crashed, 0, 1);
+
+#[test]
+fn a_store_that_is_written_is_answered(rt: HostRuntime) -> Result<(), Fail> {
+    assert_eq!(rt; cut(rt.alloc(), 10, None)?, WRITTEN);
+    assert_eq!(rt; cut(rt.alloc(), 10, Some(Picture::Old))?, WRITTEN);
+    Ok(())
+}
+
+#[test]
+fn a_store_that_fails_is_there_after_its_gate(rt: HostRuntime) -> Result<(), Fail> {
+    assert_eq!(rt; cut(rt.alloc(), 1, None)?, (Kept::Failed, 0, 0));
+    assert_eq!(rt; cut(rt.alloc(), 3, None)?, (Kept::Failed, 0, 0));
+    assert_eq!(rt; cut(rt.alloc(), 4, None)?, (Kept::Failed, 0, 1));
+    Ok(())
+}
+
+#[test]
+fn a_crash_in_the_body_leaves_nothing(rt: HostRuntime) -> Result<(), Fail> {
+    assert_eq!(rt; cut(rt.alloc(), 1, Some(Picture::Old))?, GONE);
+    assert_eq!(rt; cut(rt.alloc(), 1, Some(Picture::Byte(1)))?, GONE);
+    assert_eq!(rt; cut(rt.alloc(), 2, Some(Picture::New))?, GONE);
+    Ok(())
+}
+
+#[test]
+fn the_picture_of_the_gate_decides(rt: HostRuntime) -> Result<(), Fail> {
+    assert_eq!(rt; cut(rt.alloc(), 3, Some(Picture::Old))?, GONE);
+    assert_eq!(rt; cut(rt.alloc(), 3, Some(Picture::New))?, THERE);
+    assert_eq!(rt; cut(rt.alloc(), 3, Some(Picture::Byte(1)))?, THERE);
+    assert_eq!(rt; cut(rt.alloc(), 3, Some(Picture::Byte(9)))?, GONE);
+    Ok(())
+}
+
+#[test]
+fn the_picture_of_the_last_sync_decides(rt: HostRuntime) -> Result<(), Fail> {
+    assert_eq!(rt; cut(rt.alloc(), 4, Some(Picture::Old))?, GONE);
+    assert_eq!(rt; cut(rt.alloc(), 4, Some(Picture::New))?, THERE);
+    assert_eq!(rt; cut(rt.alloc(), 4, Some(Picture::Byte(0)))?, GONE);
+    Ok(())
+}
+
+/// How a load crashes behind a store that crashed, how the next one ends, and how many entries are found.
+fn crash_twice(alloc: Global, host: &mut Host) -> Result<(Kept, Kept, usize), NoMemory> {
+    let _ = format(alloc, host)?;
+    host.arm(4, Some(Picture::New));
+    let _ = give_store(alloc, host)?;
+    host.arm(1, Some(Picture::Old));
+    let first = load(alloc, host)?;
+    let second = load(alloc, host)?;
+    Ok((first, second, entries(alloc, host)?))
+}
+
+#[test]
+fn a_crash_in_a_load_shows_its_own_picture(rt: HostRuntime) -> Result<(), Fail> {
+    let mut host = Host::new(rt.alloc(), node_of(1)?)?;
+    assert_eq!(rt;
+        crash_twice(rt.alloc(), &mut host)?,
+        (Kept::Crashed, Kept::Written, 0)
+    );
+    Ok(())
+}
+
+/// How a host is once it is formatted, stopped and wiped.
+fn statuses(alloc: Global, host: &mut Host) -> Result<(Status, Status, Status), NoMemory> {
+    let _ = format(alloc, host)?;
+    let first = host.status();
+    host.stop();
+    let second = host.status();
+    host.wipe();
+    Ok((first, second, host.status()))
+}
+
+#[test]
+fn a_wiped_host_is_blank(rt: HostRuntime) -> Result<(), Fail> {
+    let mut host = Host::new(rt.alloc(), node_of(1)?)?;
+    assert_eq!(rt;
+        statuses(rt.alloc(), &mut host)?,
+        (Status::Up, Status::Down, Status::Blank)
+    );
+    Ok(())
+}
+
+/// How a format crashes in the first call of its record, and how the node is after a load.
+fn crash_in_format(
+    alloc: Global,
+    hosts: &mut Hosts,
+    config: &Config,
+    reg: &mut DiskRegister<MemDisk>,
+) -> Result<(Kept, Status), NoMemory> {
+    let node = node_of(2)?;
+    hosts.arm(alloc, node, 2, Some(Picture::New))?;
+    let kept = match &hosts.format(alloc, node, config, reg)? {
+        Formatted::NotKept(kept) => *kept,
+        _ => Kept::Written,
+    };
+    let _ = hosts.load(alloc, node, config)?;
+    Ok((kept, hosts.status(node)))
+}
+
+fn format_crashes(alloc: Global) -> Result<(Kept, Status), NoMemory> {
+    let config = config(alloc)?;
+    let mut reg = new_register(alloc)?;
+    let mut hosts = Hosts::new(alloc, &config)?;
+    crash_in_format(alloc, &mut hosts, &config, &mut reg)
+}
+
+#[test]
+fn a_format_that_crashes_is_not_kept(rt: HostRuntime) -> Result<(), Fail> {
+    assert_eq!(rt; format_crashes(rt.alloc())?, (Kept::Crashed, Status::Blank));
+    Ok(())
+}
+
+/// How a store and then a tick end at node 1, how many messages it sends, and how node 1 and node 2 are once node 1
+/// is stopped.
+fn run_one(
+    alloc: Global,
+    hosts: &mut Hosts,
+    config: &Config,
+    reg: &mut DiskRegister<MemDisk>,
+) -> Result<(Kept, usize, Kept), NoMemory> {
+    let node = node_of(1)?;
+    let _ = hosts.format(alloc, node, config, reg)?;
+    let msg = store(alloc)?;
+    let (kept, sends) = hosts.on_msg(alloc, node, &msg)?;
+    let (ticked, _) = hosts.tick(alloc, node, log_of(1)?, reg)?;
+    Ok((kept, sends.len(), ticked))
+}
+
+/// How node 1 is once it is stopped, and once it is wiped, and how node 2 is.
+fn stop_one(alloc: Global, hosts: &mut Hosts) -> Result<(Status, Status, Status), NoMemory> {
+    let node = node_of(1)?;
+    hosts.stop(alloc, node)?;
+    let stopped = hosts.status(node);
+    hosts.wipe(alloc, node)?;
+    Ok((stopped, hosts.status(node), hosts.status(node_of(2)?)))
+}
+
+fn runs(alloc: Global) -> Result<(Kept, usize, Kept), NoMemory> {
+    let config = config(alloc)?;
+    let mut reg = new_register(alloc)?;
+    let mut hosts = Hosts::new(alloc, &config)?;
+    run_one(alloc, &mut hosts, &config, &mut reg)
+}
+
+fn stops(alloc: Global) -> Result<(Status, Status, Status), NoMemory> {
+    let config = config(alloc)?;
+    let mut hosts = Hosts::new(alloc, &config)?;
+    stop_one(alloc, &mut hosts)
+}
+
+#[test]
+fn hosts_go_their_own_ways(rt: HostRuntime) -> Result<(), Fail> {
+    assert_eq!(rt; runs(rt.alloc())?, (Kept::Written, 1, Kept::Written));
+    assert_eq!(rt;
+        stops(rt.alloc())?,
+        (Status::Down, Status::Blank, Status::Blank)
+    );
+    Ok(())
+}
