@@ -1,0 +1,227 @@
+-- What each call of one sequencer does to a state that has it under a name.
+use Rattle.std.proofs.Common.{◌≡◌, ◌≢◌, ◌⊎◌, inl, inr, ℕ, ◌≤◌, Bool, true, false, List, [], ◌∷◌, ◌++◌, length, Some, Ok, Err, IfOk, IfErr, refl, ap, sym, ◌∙◌, subst, nat_lt, if◌then◌else◌}
+use Rattle.std.specs.declared.result.Result.{Result}
+use Rattle.std.proofs.lemmas.Bool.{le-ltb}
+use Rattle.ld_table.specs.Named.{put_named}
+use Rattle.ld_transcript.specs.declared.line.Line.{Line}
+use Rattle.ld_transcript.specs.declared.line.Line.TheVariants as lines
+use Rattle.ld_lsn.specs.Number.{numbered}
+use Rattle.ld_ids.specs.declared.set.Spec.{Spec}
+use Rattle.ld_ids.specs.Choice.{nodes_of}
+use Rattle.ld_msg.specs.declared.msg.Who.{Who}
+use Rattle.ld_msg.specs.declared.msg.Who.TheVariants as whos
+use Rattle.ld_msg.specs.declared.msg.Msg.{Msg}
+use Rattle.ld_msg.specs.declared.msg.Body.TheVariants as bodies
+use Rattle.ld_msg.specs.Register.{Register, Answer, is_crowded}
+use Rattle.ld_msg.specs.Sequencer as sequencer
+use Rattle.ld_msg.specs.Sequencer.{Sequencer, Acts, Called, called, Appending, appending, appended, first_stores, next_esn, released_of, rose, to_each, acted_messages, on_reply, on_retry}
+use Rattle.ld_config.specs.declared.config.Config.{Config}
+use Rattle.ld_machine.specs.Config.{spec_in}
+use Rattle.ld_machine.specs.State.{State, Done, unchanged, only_state, with_line, with_sequencer, with_register, posted}
+use Rattle.ld_machine.specs.Step as step
+use Rattle.ld_recovery.specs.Recovering.{sender_of}
+use Rattle.ld_register.specs.declared.fault.RegisterFault.TheVariants as registers
+use Rattle.ld_sequencer.specs.declared.fault.SequencerFault.{SequencerFault}
+use Rattle.ld_sequencer.specs.declared.fault.SequencerFault.TheVariants as faults
+use Rattle.ld_sequencer.specs.declared.whole.Report.{Report}
+use Rattle.ld_sequencer.specs.Own.{append_fault, trim_fault}
+use Rattle.ld_sequencer.specs.Whole.{Whole, as_now, sent_as, Acted, IsRefused, tried, called_by, reply_acts, retry_acts}
+use Rattle.ld_clients.specs.declared.client.Client.{Client}
+use Rattle.ld_clients.specs.declared.outcome.Outcome.{Outcome}
+use Rattle.ld_clients.specs.Serving.{shown, IsWhole, GoesOn}
+use Rattle.ld_clients.specs.Acting.{IsNamed, HasActed, Stays, report_lines}
+use Rattle.ld_clients.specs.Refusing.{fault_lines, told_lines}
+use Rattle.ld_clients.proofs.Names.{put_same}
+use Rattle.ld_clients.proofs.Rows.{if_yes, if_not}
+use Rattle.ld_clients.proofs.Keeping.{Same, same_after, same_tried}
+
+shown_gone : (b : Bool) (q : Sequencer) → q.gone ≡ false → (if b then step.dropped q else q).gone ≡ b
+shown_gone true q h = refl
+shown_gone false q h = h
+
+sender_is : (w : Who) → step.sender_node w ≡ sender_of w
+sender_is (whos.Node n) = refl
+sender_is (whos.Sequencer e) = refl
+sender_is (whos.Reader r) = refl
+
+when_is : (b : Bool) (name : List ℕ) (n : ℕ) → step.numbered_lines (lines.Released name) (if b then n ∷ [] else []) ≡ step.when b (lines.Released name n)
+when_is true name n = refl
+when_is false name n = refl
+
+-- a report tells what was done
+told_as : (name : List ℕ) (before after : Whole) (r : Report) (old new : List Msg) (a : Acts) → Acted before after r old new a → report_lines name r ≡ step.acted_lines name before.sequencer a
+told_as name before after r old new a h = λ i. step.numbered_lines (lines.RefusedPreempted name) (h.preempted i) ++ (step.when (h.failed i) (lines.RefusedRegister name)
+    ++ (step.numbered_lines (lines.Acked name) (h.acked i) ++ (step.numbered_lines (lines.Clean name) (h.closed i)
+    ++ (ap (step.numbered_lines (lines.Released name)) h.released ∙ when_is (rose before.sequencer a.sequencer) name (released_of a.sequencer)) i)))
+
+-- ---- refusals ----
+
+unnumbered : (c : Config) (s : State) (name p : List ℕ) (q : Sequencer) (a : Appending) (fault : SequencerFault) → fault ≡ append_fault (length p) a → (fault ≡ faults.NoMemory → ⊥)
+    → step.append_done c s name q p a ≡ record { state = s; lines = fault_lines name fault; sends = [] }
+unnumbered c s name p q sequencer.TooLong fault e n = ap (λ f. record { state = s; lines = fault_lines name f; sends = [] }) (sym e)
+unnumbered c s name p q (sequencer.Preempted by) fault e n = ap (λ f. record { state = s; lines = fault_lines name f; sends = [] }) (sym e)
+unnumbered c s name p q sequencer.EpochFull fault e n = ap (λ f. record { state = s; lines = fault_lines name f; sends = [] }) (sym e)
+unnumbered c s name p q sequencer.WindowFull fault e n = ap (λ f. record { state = s; lines = fault_lines name f; sends = [] }) (sym e)
+unnumbered c s name p q sequencer.Numbered fault e n = absurd (n e)
+
+untrimmed : (b : Bool) (s : State) (name : List ℕ) (released : ℕ) (d : Done) (fault : SequencerFault) → fault ≡ (if b then faults.PastReleased released else faults.NoMemory) → (fault ≡ faults.NoMemory → ⊥)
+    → (if b then with_line s (lines.RefusedPast name released) else d) ≡ record { state = s; lines = fault_lines name fault; sends = [] }
+untrimmed true s name released d fault e n = ap (λ f. record { state = s; lines = fault_lines name f; sends = [] }) (sym e)
+untrimmed false s name released d fault e n = absurd (n e)
+
+-- ---- calls ----
+
+module _ (c : Config) (s : State) (name : List ℕ) (k : Client) (h : IsNamed c s name k) (w : IsWhole k.sequencer) where
+  abbrev q : Sequencer
+  q = k.sequencer.sequencer
+
+  acted_as : (g : Client) (o : Outcome) (told : Register → Type 0) (d e : Done) → d ≡ e → HasActed s name g o told e → HasActed s name g o told d
+  acted_as g o told d e p r = subst (λ (x : Done). HasActed s name g o told x) (sym p) r
+
+  -- it stays the same
+  quiet : (g : Client) → g ≡ k → s ≡ record (with_sequencer s name (shown g)) { register = s.register }
+  quiet g e = ap (λ x. record s { sequencers = x }) (sym (ap (λ (x : Client). put_named name (shown x) s.sequencers) e ∙ put_same name (shown k) s.sequencers h.found))
+
+  nothing_done : (g : Client) (o : Outcome) (told : Register → Type 0) (d : Done) → g ≡ k → d ≡ unchanged s → told s.register → o.lines.items ≡ [] → o.sends ≡ [] → HasActed s name g o told d
+  nothing_done g o told d e p t ls ms = acted_as g o told d (unchanged s) p record { state = quiet g e; register = t; lines = ls; sends = ms }
+
+  lines_done : (g : Client) (o : Outcome) (d : Done) (xs : List Line) → g ≡ k → d ≡ record { state = s; lines = xs; sends = [] } → o.lines.items ≡ xs → o.sends ≡ [] → HasActed s name g o (Stays s) d
+  lines_done g o d xs e p ls ms = acted_as g o (Stays s) d _ p record { state = quiet g e; register = refl; lines = ls; sends = ms }
+
+  gone_row : (f : Sequencer → Done) → k.dropped ≡ true → step.on_live s (Some (shown k)) f ≡ unchanged s
+  gone_row f e = if_yes (shown k).gone (unchanged s) (f (shown k)) (shown_gone k.dropped q w.live ∙ e)
+
+  shown_is : k.dropped ≡ false → shown k ≡ q
+  shown_is e = ap (λ b. if b then step.dropped q else q) e
+
+  live_row : (f : Sequencer → Done) → k.dropped ≡ false → step.on_live s (Some (shown k)) f ≡ f q
+  live_row f e = ap (λ x. step.on_live s (Some x) f) (shown_is e) ∙ if_not q.gone (unchanged s) (f q) w.live
+
+  pub gone_done : (g : Client) (o : Outcome) (told : Register → Type 0) (f : Sequencer → Done) → g ≡ k → k.dropped ≡ true → told s.register → o.lines.items ≡ [] → o.sends ≡ [] → HasActed s name g o told (step.on_live s (Some (shown k)) f)
+  gone_done g o told f e d t ls ms = nothing_done g o told _ e (gone_row f d) t ls ms
+
+  shown_now : (g : Client) (x : Sequencer) → g.dropped ≡ false → g.sequencer.sequencer ≡ x → shown g ≡ x
+  shown_now g x e p = ap (λ b. if b then step.dropped g.sequencer.sequencer else g.sequencer.sequencer) e ∙ p
+
+  spec_is : spec_in q.log c.logs ≡ k.sequencer.spec
+  spec_is = sym h.knows.spec
+
+  -- ---- a drop ----
+
+  drop_at : (b : Bool) → k.dropped ≡ b → (g : Client) (o : Outcome) → g ≡ record k { dropped = true } → o.lines.items ≡ [] → o.sends ≡ [] → HasActed s name g o (Stays s) (step.on_live s (Some (shown k)) (λ x. only_state (with_sequencer s name (step.dropped x))))
+  drop_at true e g o p ls ms = gone_done g o (Stays s) (λ x. only_state (with_sequencer s name (step.dropped x))) (p ∙ ap (λ b. record k { dropped = b }) (sym e)) e refl ls ms
+  drop_at false e g o p ls ms = acted_as g o (Stays s) _ _ (live_row (λ x. only_state (with_sequencer s name (step.dropped x))) e)
+      record { state = ap (λ (x : Client). with_sequencer s name (shown x)) (sym p); register = refl; lines = ls; sends = ms }
+
+  pub drop_done : (g : Client) (o : Outcome) → g ≡ record k { dropped = true } → o.lines.items ≡ [] → o.sends ≡ [] → HasActed s name g o (Stays s) (step.on_live s (Some (shown k)) (λ x. only_state (with_sequencer s name (step.dropped x))))
+  drop_done g o p ls ms = drop_at k.dropped refl g o p ls ms
+
+  module _ (live : k.dropped ≡ false) where
+    -- ---- an append ----
+
+    pub append_refused : (g : Client) (p : List ℕ) (fault : SequencerFault) (o : Outcome) → g ≡ k → fault ≡ append_fault (length p) (appending q p) → (fault ≡ faults.NoMemory → ⊥)
+        → o.lines.items ≡ fault_lines name fault → o.sends ≡ [] → HasActed s name g o (Stays s) (step.on_live s (Some (shown k)) (λ x. step.append_done c s name x p (appending x p)))
+    append_refused g p fault o e f n ls ms = lines_done g o _ (fault_lines name fault) e (live_row (λ x. step.append_done c s name x p (appending x p)) live ∙ unnumbered c s name p q (appending q p) fault f n) ls ms
+
+    pub append_done : (g : Client) (p own : List ℕ) (number : ℕ) (o : Outcome) → g.dropped ≡ false → g.sequencer ≡ as_now k.sequencer (appended q p) → appending q p ≡ sequencer.Numbered → own ≡ name → number ≡ numbered q.epoch (next_esn q)
+        → o.lines.items ≡ lines.Appended own number ∷ [] → o.sends ≡ sent_as k.sequencer (first_stores k.sequencer.spec q p) → HasActed s name g o (Stays s) (step.on_live s (Some (shown k)) (λ x. step.append_done c s name x p (appending x p)))
+    append_done g p own number o e v n u m ls ms = acted_as g o (Stays s) _ (step.append_done c s name q p sequencer.Numbered)
+        (live_row (λ x. step.append_done c s name x p (appending x p)) live ∙ ap (step.append_done c s name q p) n)
+        record {
+          state = ap (λ x. with_sequencer s name x) (sym (shown_now g (appended q p) e (ap (λ (x : Whole). x.sequencer) v)));
+          register = refl;
+          lines = ls ∙ (λ i. lines.Appended (u i) (m i) ∷ []);
+          sends = ms ∙ ap (λ (x : Spec). posted (whos.Sequencer q.epoch) q.log (first_stores x q p)) h.knows.spec;
+        }
+
+    -- ---- a trim ----
+
+    pub trim_refused : (point : ℕ) (fault : SequencerFault) (o : Outcome) → fault ≡ trim_fault (released_of q) point → (fault ≡ faults.NoMemory → ⊥)
+        → o.lines.items ≡ fault_lines name fault → o.sends ≡ [] → HasActed s name k o (Stays s) (step.on_live s (Some (shown k)) (λ x. step.trim_done c s name x point))
+    trim_refused point fault o f n ls ms = lines_done k o _ (fault_lines name fault) refl (live_row (λ x. step.trim_done c s name x point) live ∙ untrimmed (nat_lt (released_of q) point) s name (released_of q) _ fault f n) ls ms
+
+    pub trim_done : (point : ℕ) (own : List ℕ) (o : Outcome) → point ≤ released_of q → own ≡ name
+        → o.lines.items ≡ lines.Trimmed own point ∷ [] → o.sends ≡ sent_as k.sequencer (to_each (bodies.Trim point) (nodes_of k.sequencer.spec)) → HasActed s name k o (Stays s) (step.on_live s (Some (shown k)) (λ x. step.trim_done c s name x point))
+    trim_done point own o l u ls ms = acted_as k o (Stays s) _ _ (live_row (λ x. step.trim_done c s name x point) live ∙ if_not (nat_lt (released_of q) point) _ _ (le-ltb (released_of q) point l))
+        record {
+          state = quiet k refl;
+          register = refl;
+          lines = ls ∙ ap (λ x. lines.Trimmed x point ∷ []) u;
+          sends = ms ∙ ap (λ (x : Spec). posted (whos.Sequencer q.epoch) q.log (to_each (bodies.Trim point) (nodes_of x))) h.knows.spec;
+        }
+
+    -- ---- a reply or a retry ----
+
+    abbrev told_by : Spec → Called → Done
+    told_by p x = record { state = with_register (with_sequencer s name x.acts.sequencer) x.register; lines = step.acted_lines name q x.acts; sends = posted (whos.Sequencer q.epoch) q.log (acted_messages p q x.acts) }
+
+    told_done : (g : Client) (r : Report) (old new : List Msg) (a : Acts) (o : Outcome) (told : Register → Type 0) (d : Done) → d ≡ told_by k.sequencer.spec (called_by k.sequencer s.register a) → g.dropped ≡ false
+        → Acted k.sequencer g.sequencer r old new (called_by k.sequencer s.register a).acts → told (called_by k.sequencer s.register a).register → old ≡ [] → o.lines.items ≡ report_lines name r → o.sends ≡ new → HasActed s name g o told d
+    told_done g r old new a o told d e live_now t u b ls ms = acted_as g o told d _ e
+        record {
+          state = ap (λ x. with_register (with_sequencer s name x) (called_by k.sequencer s.register a).register) (sym (shown_now g (called_by k.sequencer s.register a).acts.sequencer live_now (ap (λ (x : Whole). x.sequencer) t.now)));
+          register = u;
+          lines = ls ∙ told_as name k.sequencer g.sequencer r old new (called_by k.sequencer s.register a).acts t;
+          sends = ms ∙ (t.sent ∙ ap (λ x. x ++ sent_as k.sequencer (acted_messages k.sequencer.spec q (called_by k.sequencer s.register a).acts)) b);
+        }
+
+    crowded : (r : Result Report SequencerFault) (fault : SequencerFault) (T : Type 0) → r ≡ Err fault → (r ≢ Err faults.NoMemory) → is_crowded s.register k.sequencer.sequencer.log ≡ false
+        → (fault ≡ faults.NoMemory) ⊎ ((fault ≡ faults.Register registers.LogLimit) × (is_crowded s.register k.sequencer.sequencer.log ≡ true) × T) → ⊥
+    crowded r fault T e n room (inl m) = n (e ∙ ap (λ (f : SequencerFault). Err f) m)
+    crowded r fault T e n room (inr x) = let f = sym room ∙ x.1 in absurd cc
+
+    answered_done : (r : Result Report SequencerFault) (g : Client) (old new : List Msg) (a : Acts) (o : Outcome) (told : Register → Type 0) (d : Done) → d ≡ told_by k.sequencer.spec (called_by k.sequencer s.register a) → g.dropped ≡ false
+        → IfOk r (λ report. Acted k.sequencer g.sequencer report old new (called_by k.sequencer s.register a).acts × told (called_by k.sequencer s.register a).register)
+        → IfErr r (λ fault. (fault ≡ faults.NoMemory) ⊎ ((fault ≡ faults.Register registers.LogLimit) × (is_crowded s.register k.sequencer.sequencer.log ≡ true) × told s.register))
+        → (r ≢ Err faults.NoMemory) → is_crowded s.register k.sequencer.sequencer.log ≡ false → old ≡ [] → o.lines.items ≡ told_lines name r → o.sends ≡ new → HasActed s name g o told d
+    answered_done (Ok report) g old new a o told d e n t x m room b ls ms = told_done g report old new a o told d e n t.0 t.1 b ls ms
+    answered_done (Err fault) g old new a o told d e n t x m room b ls ms = absurd (crowded (Err fault) fault (told s.register) refl m room x)
+
+    retry_row : step.on_live s (Some (shown k)) (λ x. step.acted c s name x (on_retry (spec_in x.log c.logs) x)) ≡ told_by k.sequencer.spec (called_by k.sequencer s.register (retry_acts k.sequencer))
+    retry_row = live_row (λ x. step.acted c s name x (on_retry (spec_in x.log c.logs) x)) live
+        ∙ ap (λ (p : Spec). told_by p (called p s.register (on_retry p q) (on_retry p q).tries)) spec_is
+
+    reply_row : (m : Msg) → step.to_live c s name (shown k) m ≡ told_by k.sequencer.spec (called_by k.sequencer s.register (reply_acts k.sequencer m.from m.body))
+    reply_row m = live_row (λ x. step.acted c s name x (on_reply (spec_in x.log c.logs) x (step.sender_node m.from) m.body)) live
+        ∙ (λ i. told_by (spec_is i) (called (spec_is i) s.register (on_reply (spec_is i) q (sender_is m.from i) m.body) (on_reply (spec_is i) q (sender_is m.from i) m.body).tries))
+
+    pub retry_done : (r : Result Report SequencerFault) (g : Client) (old new : List Msg) (o : Outcome) (told : Register → Type 0) → g.dropped ≡ false
+        → IfOk r (λ report. Acted k.sequencer g.sequencer report old new (called_by k.sequencer s.register (retry_acts k.sequencer)).acts × told (called_by k.sequencer s.register (retry_acts k.sequencer)).register)
+        → IfErr r (λ fault. (fault ≡ faults.NoMemory) ⊎ ((fault ≡ faults.Register registers.LogLimit) × (is_crowded s.register k.sequencer.sequencer.log ≡ true) × told s.register))
+        → (r ≢ Err faults.NoMemory) → is_crowded s.register k.sequencer.sequencer.log ≡ false → old ≡ [] → o.lines.items ≡ told_lines name r → o.sends ≡ new
+        → HasActed s name g o told (step.on_live s (Some (shown k)) (λ x. step.acted c s name x (on_retry (spec_in x.log c.logs) x)))
+    retry_done r g old new o told n t x m room b ls ms = answered_done r g old new (retry_acts k.sequencer) o told _ retry_row n t x m room b ls ms
+
+    pub reply_done : (m : Msg) (r : Result Report SequencerFault) (g : Client) (old new : List Msg) (o : Outcome) (told : Register → Type 0) → g.dropped ≡ false
+        → IfOk r (λ report. Acted k.sequencer g.sequencer report old new (called_by k.sequencer s.register (reply_acts k.sequencer m.from m.body)).acts × told (called_by k.sequencer s.register (reply_acts k.sequencer m.from m.body)).register)
+        → IfErr r (λ fault. (fault ≡ faults.NoMemory) ⊎ ((fault ≡ faults.Register registers.LogLimit) × (is_crowded s.register k.sequencer.sequencer.log ≡ true) × told s.register))
+        → (r ≢ Err faults.NoMemory) → is_crowded s.register k.sequencer.sequencer.log ≡ false → old ≡ [] → o.lines.items ≡ told_lines name r → o.sends ≡ new
+        → HasActed s name g o told (step.to_live c s name (shown k) m)
+    reply_done m r g old new o told n t x f room b ls ms = answered_done r g old new (reply_acts k.sequencer m.from m.body) o told _ (reply_row m) n t x f room b ls ms
+
+-- ---- the same sequencer after a call ----
+
+goes_as : (k g : Client) (x : Sequencer) → g.dropped ≡ k.dropped → g.sequencer ≡ as_now k.sequencer x → Same k.sequencer.sequencer x → GoesOn k g
+goes_as k g x d e m = record {
+  spec = ap (λ (y : Whole). y.spec) e;
+  log = ap (λ (y : Whole). y.sequencer.log) e ∙ m.log;
+  gone = ap (λ (y : Whole). y.sequencer.gone) e ∙ m.gone;
+  dropped = d;
+}
+
+refused_goes : (k g : Client) (fault : SequencerFault) (r : Result Report SequencerFault) (old new : List Msg) (a : Acts) → r ≡ Err fault → (r ≢ Err faults.NoMemory) → g.dropped ≡ k.dropped → Same k.sequencer.sequencer a.sequencer → IsRefused k.sequencer g.sequencer fault old new a → GoesOn k g
+refused_goes k g fault r old new a e n d m (inl f) = absurd (n (e ∙ ap (λ (x : SequencerFault). Err x) f))
+refused_goes k g fault r old new a e n d m (inr u) = goes_as k g a.sequencer d u.now m
+
+pub answered_goes : (k g : Client) (r : Result Report SequencerFault) (old new : List Msg) (a : Acts) → Same k.sequencer.sequencer a.sequencer → g.dropped ≡ k.dropped
+    → IfOk r (λ report. (d : Answer) × Acted k.sequencer g.sequencer report old new (tried k.sequencer a d))
+    → IfErr r (λ fault. IsRefused k.sequencer g.sequencer fault old new a) → (r ≢ Err faults.NoMemory) → GoesOn k g
+answered_goes k g (Ok report) old new a m d t x n = goes_as k g (tried k.sequencer a t.0).sequencer d t.1.now
+    (same_after k.sequencer.sequencer a.sequencer (tried k.sequencer a t.0).sequencer m (same_tried k.sequencer.spec a t.0 a.tries))
+answered_goes k g (Err fault) old new a m d t x n = refused_goes k g fault (Err fault) old new a refl n d m x
+
+pub appended_goes : (k g : Client) (p : List ℕ) → g.dropped ≡ k.dropped → g.sequencer ≡ as_now k.sequencer (appended k.sequencer.sequencer p) → GoesOn k g
+appended_goes k g p d e = goes_as k g (appended k.sequencer.sequencer p) d e record { log = refl; gone = refl }
+
+pub same_goes : (k g : Client) → g ≡ k → GoesOn k g
+same_goes k g e = record { spec = ap (λ (x : Client). x.sequencer.spec) e; log = ap (λ (x : Client). x.sequencer.sequencer.log) e; gone = ap (λ (x : Client). x.sequencer.sequencer.gone) e; dropped = ap (λ (x : Client). x.dropped) e }

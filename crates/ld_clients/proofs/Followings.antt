@@ -1,0 +1,185 @@
+-- Readers by name: their numbers are their places, and each keeps its log.
+use Rattle.std.proofs.Common.{◌≡◌, ℕ, zero, suc, ◌+◌, Bool, true, false, ◌==◌, List, [], ◌∷◌, ◌++◌, length, slice_get, Option, Some, None, option_map, refl, ap, sym, ◌∙◌, subst, arith, cond, if◌then◌else◌}
+use Rattle.std.proofs.lemmas.Bool.{eq-eqb, ne_eqb}
+use Rattle.ld_table.specs.Named.{same, find_named, put_named}
+use Rattle.ld_table.specs.Words.{numbers_from}
+use Rattle.ld_msg.specs.declared.msg.Who.{Who}
+use Rattle.ld_msg.specs.declared.msg.Who.TheVariants as whos
+use Rattle.ld_msg.specs.declared.msg.Msg.{Msg}
+use Rattle.ld_msg.specs.declared.msg.Body.{Body}
+use Rattle.ld_ids.specs.Choice.{nodes_of}
+use Rattle.ld_ids.specs.declared.set.Spec.{Spec}
+use Rattle.ld_config.specs.declared.config.Config.{Config}
+use Rattle.ld_msg.specs.Reading.{Verdict, Gives, Confirms, NotYet, LossHere}
+use Rattle.ld_msg.specs.Reader.{opened, Reader, Read, gives, confirms, gives_all, verdict, heard, loses, polled, asks_on, most_items, on_answer, is_confirmed, is_finished}
+use Rattle.ld_machine.specs.State.{reader_of, name_of}
+use Rattle.ld_machine.specs.Config.{spec_in}
+use Rattle.ld_reader.specs.Following.{Following, replied, answered, asked, with_reader}
+use Rattle.ld_clients.specs.Followers.{readers_of, reader_in, numbers_in, AreNumbered, Knows, KnowTheirLogs}
+use Rattle.ld_clients.proofs.Names.{all_put, found_name}
+use Rattle.ld_clients.proofs.Logs.{spec_log}
+
+abbrev Followers : Type 0
+Followers = List (List ℕ × Following)
+
+-- ---- by number ----
+
+of_step : (b : Bool) (f : List ℕ × Following) (o : Option (List ℕ × Following)) (p : Option (List ℕ × Reader)) → p ≡ option_map (λ (x : List ℕ × Following). (x.0, x.1.reader)) o
+    → (if b then Some (f.0, f.1.reader) else p) ≡ option_map (λ (x : List ℕ × Following). (x.0, x.1.reader)) (if b then Some f else o)
+of_step true f o p h = refl
+of_step false f o p h = h
+
+pub reader_of_is : (n : ℕ) (fs : Followers) → reader_of n (readers_of fs) ≡ option_map (λ (x : List ℕ × Following). (x.0, x.1.reader)) (reader_in n fs)
+reader_of_is n [] = refl
+reader_of_is n (f ∷ fs) = of_step (f.1.reader.number == n) f _ _ (reader_of_is n fs)
+
+name_map : (o : Option (List ℕ × Following)) → name_of (option_map (λ (x : List ℕ × Following). (x.0, x.1.reader)) o) ≡ name_of o
+name_map None = refl
+name_map (Some e) = refl
+
+-- the name of a reader of the machine
+pub reader_named : (n : ℕ) (fs : Followers) → name_of (reader_of n (readers_of fs)) ≡ name_of (reader_in n fs)
+reader_named n fs = ap name_of (reader_of_is n fs) ∙ name_map (reader_in n fs)
+
+names_map : (o : Option (List ℕ × Following)) → option_map (λ (e : List ℕ × Following). e.0) o ≡ option_map (λ (e : List ℕ × Reader). e.0) (option_map (λ (x : List ℕ × Following). (x.0, x.1.reader)) o)
+names_map None = refl
+names_map (Some f) = refl
+
+pub names_are : (n : ℕ) (fs : Followers) → option_map (λ (e : List ℕ × Following). e.0) (reader_in n fs) ≡ option_map (λ (e : List ℕ × Reader). e.0) (reader_of n (readers_of fs))
+names_are n fs = names_map (reader_in n fs) ∙ ap (option_map (λ (x : List ℕ × Reader). x.0)) (sym (reader_of_is n fs))
+
+-- ---- numbers ----
+
+head_is : (a b : ℕ) (xs ys : List ℕ) → a ∷ xs ≡ b ∷ ys → a ≡ b
+head_is a b xs ys h = cc
+
+tail_is : (a b : ℕ) (xs ys : List ℕ) → a ∷ xs ≡ b ∷ ys → xs ≡ ys
+tail_is a b xs ys h = cc
+
+pub numbered_at : (k n i : ℕ) (fs : Followers) → numbers_in fs ≡ numbers_from k (length fs) → n ≡ k + i → reader_in n fs ≡ slice_get fs i
+numbered_at k n i [] h e = refl
+numbered_at k n zero (f ∷ fs) h e = let a = head_is _ _ _ _ h in rw (eq-eqb f.1.reader.number n (omega arith)) refl
+numbered_at k n (suc i) (f ∷ fs) h e = let a = head_is _ _ _ _ h in rw (ne_eqb f.1.reader.number n (omega arith)) (numbered_at (k + 1) n i fs (tail_is _ _ _ _ h) (omega arith))
+
+numbers_from-push : (k n : ℕ) → numbers_from k (suc n) ≡ numbers_from k n ++ (k + n) ∷ []
+numbers_from-push k zero = ap (λ j. j ∷ []) (omega arith)
+numbers_from-push k (suc n) = ap (λ l. k ∷ l) (numbers_from-push (k + 1) n ∙ ap (λ j. numbers_from (k + 1) n ++ j ∷ []) (omega arith))
+
+old_step : (b : Bool) (f : List ℕ × Following) (g v : Following) (fs gs : Followers) (o : Option Following) → g.reader.number ≡ v.reader.number → cond b (Some f.1) o ≡ Some v → (o ≡ Some v → numbers_in gs ≡ numbers_in fs)
+    → numbers_in (if b then (f.0, g) ∷ fs else f ∷ gs) ≡ f.1.reader.number ∷ numbers_in fs
+old_step true f g v fs gs o e h ih = let s : f.1 ≡ v = cc in ap (λ n. n ∷ numbers_in fs) (e ∙ sym (ap (λ (x : Following). x.reader.number) s))
+old_step false f g v fs gs o e h ih = ap (λ l. f.1.reader.number ∷ l) (ih h)
+
+numbers_old : (name : List ℕ) (g v : Following) (fs : Followers) → g.reader.number ≡ v.reader.number → find_named name fs ≡ Some v → numbers_in (put_named name g fs) ≡ numbers_in fs
+unfolding put_named find_named
+numbers_old name g v [] e h = absurd cc
+numbers_old name g v (f ∷ fs) e h = old_step (same name f.0) f g v fs _ _ e h (λ k. numbers_old name g v fs e k)
+
+length_step : (b : Bool) (f : List ℕ × Following) (g v : Following) (fs gs : Followers) (o : Option Following) → cond b (Some f.1) o ≡ Some v → (o ≡ Some v → length gs ≡ length fs) → length (if b then (f.0, g) ∷ fs else f ∷ gs) ≡ suc (length fs)
+length_step true f g v fs gs o h ih = refl
+length_step false f g v fs gs o h ih = ap suc (ih h)
+
+length_old : (name : List ℕ) (g v : Following) (fs : Followers) → find_named name fs ≡ Some v → length (put_named name g fs) ≡ length fs
+unfolding put_named find_named
+length_old name g v [] h = absurd cc
+length_old name g v (f ∷ fs) h = length_step (same name f.0) f g v fs _ _ h (λ k. length_old name g v fs k)
+
+-- a reader that is there keeps its number
+pub numbered_old : (name : List ℕ) (g v : Following) (fs : Followers) → g.reader.number ≡ v.reader.number → find_named name fs ≡ Some v → AreNumbered fs → AreNumbered (put_named name g fs)
+numbered_old name g v fs e h a = numbers_old name g v fs e h ∙ (a ∙ ap (numbers_from 0) (sym (length_old name g v fs h)))
+
+new_step : (b : Bool) (f h : List ℕ × Following) (g : Following) (fs gs : Followers) (o : Option Following) → cond b (Some f.1) o ≡ None → (o ≡ None → gs ≡ fs ++ h ∷ []) → (if b then (f.0, g) ∷ fs else f ∷ gs) ≡ f ∷ fs ++ h ∷ []
+new_step true f h g fs gs o e ih = absurd cc
+new_step false f h g fs gs o e ih = ap (λ l. f ∷ l) (ih e)
+
+-- a name that is not there comes last
+put_new : (name : List ℕ) (g : Following) (fs : Followers) → find_named name fs ≡ None → put_named name g fs ≡ fs ++ (name, g) ∷ []
+unfolding put_named find_named
+put_new name g [] h = refl
+put_new name g (f ∷ fs) h = new_step (same name f.0) f (name, g) g fs _ _ h (λ k. put_new name g fs k)
+
+numbers_in-push : (fs : Followers) (f : List ℕ × Following) → numbers_in (fs ++ f ∷ []) ≡ numbers_in fs ++ f.1.reader.number ∷ []
+numbers_in-push [] f = refl
+numbers_in-push (g ∷ fs) f = ap (λ l. g.1.reader.number ∷ l) (numbers_in-push fs f)
+
+length-push : (fs : Followers) (f : List ℕ × Following) → length (fs ++ f ∷ []) ≡ suc (length fs)
+length-push [] f = refl
+length-push (g ∷ fs) f = ap suc (length-push fs f)
+
+pub numbered_new : (name : List ℕ) (g : Following) (fs : Followers) → g.reader.number ≡ length fs → find_named name fs ≡ None → AreNumbered fs → AreNumbered (put_named name g fs)
+numbered_new name g fs e h a = let start : length fs ≡ 0 + length fs = omega arith in subst (λ x. AreNumbered x) (sym (put_new name g fs h))
+    (numbers_in-push fs (name, g) ∙ ((λ i. a i ++ e i ∷ []) ∙ (ap (λ n. numbers_from 0 (length fs) ++ n ∷ []) start ∙ (sym (numbers_from-push 0 (length fs)) ∙ ap (numbers_from 0) (sym (length-push fs (name, g)))))))
+
+-- ---- what an answer leaves ----
+
+pub record Stays (d e : Reader) : Type 0 where
+  pub log : e.log ≡ d.log
+  pub number : e.number ≡ d.number
+  pub until : e.until ≡ d.until
+
+stays_if : (b : Bool) (d e f : Reader) → Stays d e → Stays d f → Stays d (if b then e else f)
+stays_if true d e f h k = h
+stays_if false d e f h k = k
+
+stays_on : (k : ℕ) (set : List ℕ) (a : Read) (v : Verdict) (d : Reader) → Stays d a.reader → ((b : Read) → Stays d b.reader → Stays d (gives_all k set b).reader)
+    → Stays d (elim v as (λ _. Read) [ Gives i ↦ gives_all k set (gives a i) | Confirms lost ↦ confirms a lost | NotYet ↦ a ]).reader
+stays_on k set a (Gives i) d h ih = ih (gives a i) record { log = h.log; number = h.number; until = h.until }
+stays_on k set a (Confirms lost) d h ih = record { log = h.log; number = h.number; until = h.until }
+stays_on k set a NotYet d h ih = h
+
+stays_all : (k : ℕ) (set : List ℕ) (a : Read) (d : Reader) → Stays d a.reader → Stays d (gives_all k set a).reader
+stays_all zero set a d h = h
+stays_all (suc k) set a d h = stays_on k set a (verdict set a.reader) d h (λ b g. stays_all k set b d g)
+
+loses_stays : (b : Bool) (d : Reader) → Stays d (if b then gives (record { reader = d; items = []; asks = [] }) LossHere else record { reader = d; items = []; asks = [] }).reader
+loses_stays true d = record { log = refl; number = refl; until = refl }
+loses_stays false d = record { log = refl; number = refl; until = refl }
+
+from_heard : (d : Reader) (y : ℕ) (b : Body) (e : Reader) → Stays (heard d y b) e → Stays d e
+from_heard d y b e h = record { log = h.log; number = h.number; until = h.until }
+
+pub answer_stays : (set : List ℕ) (d : Reader) (y : ℕ) (b : Body) → Stays d (on_answer set d y b).reader
+unfolding on_answer
+answer_stays set d y b =
+    let k : ℕ = most_items (heard d y b) in
+    let a : Read = gives_all k set (loses (heard d y b)) in
+    let h : Stays d a.reader = from_heard d y b a.reader (stays_all k set (loses (heard d y b)) (heard d y b) (loses_stays (is_confirmed (heard d y b).confirming) (heard d y b))) in
+    stays_if (asks_on a) d (polled a.reader) a.reader record { log = h.log; number = h.number; until = h.until } h
+
+nothing_or : (b : Bool) (d : Reader) (a r : Read) → Stays d a.reader → Stays d r.reader → Stays d (if b then a else r).reader
+nothing_or true d a r h k = h
+nothing_or false d a r h k = k
+
+who_stays : (set : List ℕ) (d : Reader) (w : Who) (b : Body) → Stays d (answered set d w b).reader
+who_stays set d (whos.Node y) b = nothing_or (is_finished d) d _ (on_answer set d y b) record { log = refl; number = refl; until = refl } (answer_stays set d y b)
+who_stays set d (whos.Sequencer e) b = record { log = refl; number = refl; until = refl }
+who_stays set d (whos.Reader r) b = record { log = refl; number = refl; until = refl }
+
+pub reply_stays : (f : Following) (m : Msg) → Stays f.reader (replied f m).reader
+reply_stays f m = who_stays (nodes_of f.spec) f.reader m.from m.body
+
+pub ask_stays : (f : Following) → Stays f.reader (asked f.reader)
+ask_stays f = stays_if (is_finished f.reader) f.reader f.reader (polled f.reader) record { log = refl; number = refl; until = refl } record { log = refl; number = refl; until = refl }
+
+-- ---- what each has said of its log, after a call ----
+
+pub know_asked : (c : Config) (fs : Followers) (name : List ℕ) (f : Following) → find_named name fs ≡ Some f → KnowTheirLogs c fs → KnowTheirLogs c (put_named name (with_reader f (asked f.reader)) fs)
+know_asked c fs name f h k = all_put (Knows c) name (with_reader f (asked f.reader)) fs (k name f h ∙ ap (λ l. spec_in l c.logs) (sym (ask_stays f).log)) k
+
+pub know_replied : (c : Config) (fs : Followers) (name : List ℕ) (f : Following) (m : Msg) → find_named name fs ≡ Some f → KnowTheirLogs c fs → KnowTheirLogs c (put_named name (with_reader f (replied f m).reader) fs)
+know_replied c fs name f m h k = all_put (Knows c) name (with_reader f (replied f m).reader) fs (k name f h ∙ ap (λ l. spec_in l c.logs) (sym (reply_stays f m).log)) k
+
+pub know_polled : (c : Config) (fs gs : Followers) (name : List ℕ) → ((f : Following) → find_named name fs ≡ Some f → gs ≡ put_named name (with_reader f (asked f.reader)) fs) → (find_named name fs ≡ None → gs ≡ fs) → KnowTheirLogs c fs → KnowTheirLogs c gs
+know_polled c fs gs name s n k = elim (find_named name fs) as (λ o. find_named name fs ≡ o → KnowTheirLogs c gs) [
+  | None ↦ λ e. subst (λ x. KnowTheirLogs c x) (sym (n e)) k
+  | Some f ↦ λ e. subst (λ x. KnowTheirLogs c x) (sym (s f e)) (know_asked c fs name f e k)
+] refl
+
+pub know_read : (c : Config) (fs gs : Followers) (m : Msg) (number : ℕ) (found name : List ℕ) → Some found ≡ option_map (λ e. e.0) (reader_in number fs) → name ≡ found → ((e : List ℕ × Following) → reader_in number fs ≡ Some e → find_named e.0 fs ≡ Some e.1)
+    → ((f : Following) → find_named name fs ≡ Some f → gs ≡ put_named name (with_reader f (replied f m).reader) fs) → KnowTheirLogs c fs → KnowTheirLogs c gs
+know_read c fs gs m number found name h n u g k = let p = found_name found name fs (reader_in number fs) h n u in
+    subst (λ x. KnowTheirLogs c x) (sym (g p.0 p.2)) (know_replied c fs name p.0 m p.2 k)
+
+pub know_opened : (c : Config) (fs : Followers) (name : List ℕ) (spec : Spec) (f : Following) (l number from until : ℕ) → spec ≡ spec_in l c.logs → f.spec ≡ spec → f.reader ≡ opened spec.log number from until → KnowTheirLogs c fs → KnowTheirLogs c (put_named name f fs)
+know_opened c fs name spec f l number from until s e r k = all_put (Knows c) name f fs
+    (e ∙ (s ∙ ap (λ n. spec_in n c.logs) (sym (ap (λ (d : Reader). d.log) r ∙ (ap (λ (x : Spec). x.log) s ∙ spec_log l c.logs))))) k

@@ -1,0 +1,13 @@
+pub mod Acting
+pub mod Activating
+pub mod Bounds
+pub mod Followings
+pub mod Items
+pub mod Keeping
+pub mod Logs
+pub mod Names
+pub mod Placing
+pub mod Reading
+pub mod Refusing
+pub mod Rows
+pub mod Serving

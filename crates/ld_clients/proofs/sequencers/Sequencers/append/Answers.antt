@@ -1,0 +1,36 @@
+use Rattle.std.proofs.Common.{◌∙◌, sym, ap, subst}
+use Rattle.ld_table.specs.Named.{same, find_named, put_named}
+use Rattle.ld_clients.specs.Acting.{IsActed, Stays}
+use Rattle.ld_clients.specs.Serving.{KnowTheirLogs}
+use Rattle.ld_machine.specs.Step.{happens}
+use Rattle.ld_schedule.specs.declared.event.Event.TheVariants.{Append}
+use Rattle.ld_clients.proofs.Names.{set_named_is_put}
+use Rattle.ld_clients.proofs.Rows.{on_ok}
+use Rattle.ld_clients.proofs.Serving.{are_whole_after, know_after}
+use Rattle.ld_clients.proofs.Placing.{named, append_nobody, append_somebody}
+use Rattle.ld_clients.proofs.sequencers.Sequencers.append.Goals as goal
+
+pub returns-in_default-clause-done : goal.returns-in_default-clause-done
+unfolding find_named same
+returns-in_default-clause-done c = λ d s h. subst (λ ks. IsActed s ks c.nothing.result (Stays s) (happens d s (Append c.args.name.now c.args.payload.now))) (sym ((λ i. (c.get_mut.follows.holds-at-none i).entries) ∙ c.self.view_is))
+    (append_nobody d s c.args.self.now h c.args.name.now c.nothing.result c.args.payload.now (ap (find_named c.args.name.now) (sym c.self.view_is) ∙ sym c.in_default.ensures.value) c.nothing.ensures.lines c.nothing.ensures.sends)
+
+pub returns-in_default-clause-logs : goal.returns-in_default-clause-logs
+returns-in_default-clause-logs c = λ d k. subst (KnowTheirLogs d) (sym ((λ i. (c.get_mut.follows.holds-at-none i).entries) ∙ c.self.view_is)) k
+
+pub append-requires : goal.append-requires
+unfolding find_named same
+append-requires c = (c.self.invariant c.args.name.now c.in-Some.client.now (sym c.in-Some.ensures.value))
+
+pub invariant_of-self-2 : goal.invariant_of-self-2
+unfolding find_named same
+invariant_of-self-2 c = are_whole_after c.args.name.now c.in-Some.client.now c.append.new.self c.self.inside.map.entries (c.get_mut.follows.lender c.append.new.self).entries (sym c.in-Some.ensures.value) c.append.ensures.goes_on ((c.get_mut.follows.holds c.append.new.self).0 ∙ set_named_is_put c.args.name.now c.in-Some.client.now c.append.new.self c.self.inside.map.entries (sym c.in-Some.ensures.value)) c.self.invariant
+
+pub returns-clause-done : goal.returns-clause-done
+unfolding find_named same
+returns-clause-done c = on_ok _ _ c.append.result (λ o e d s h. append_somebody d s c.args.self.now h c.args.name.now o c.args.payload.now c.in-Some.client.now c.append.new.self (c.get_mut.follows.lender c.append.new.self).entries (ap (find_named c.args.name.now) (sym c.self.view_is) ∙ sym c.in-Some.ensures.value) ((c.get_mut.follows.holds c.append.new.self).0 ∙ (set_named_is_put c.args.name.now c.in-Some.client.now c.append.new.self c.self.inside.map.entries (sym c.in-Some.ensures.value) ∙ ap (put_named c.args.name.now c.append.new.self) c.self.view_is))
+    (e d s (named d s c.args.self.now h c.args.name.now c.in-Some.client.now (ap (find_named c.args.name.now) (sym c.self.view_is) ∙ sym c.in-Some.ensures.value)))) c.append.ensures.done
+
+pub returns-clause-logs : goal.returns-clause-logs
+unfolding find_named same
+returns-clause-logs c = λ d k. know_after d c.args.name.now c.in-Some.client.now c.append.new.self c.args.self.now (c.get_mut.follows.lender c.append.new.self).entries (ap (find_named c.args.name.now) (sym c.self.view_is) ∙ sym c.in-Some.ensures.value) c.append.ensures.goes_on ((c.get_mut.follows.holds c.append.new.self).0 ∙ (set_named_is_put c.args.name.now c.in-Some.client.now c.append.new.self c.self.inside.map.entries (sym c.in-Some.ensures.value) ∙ ap (put_named c.args.name.now c.append.new.self) c.self.view_is)) k

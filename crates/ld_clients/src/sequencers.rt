@@ -1,0 +1,262 @@
+// The sequencers by name, in the order of their activation.
+ghost use Rattle.std.specs.Prelude.{◌≡◌, is_some, ℕ, List, [], ◌∷◌, Some, false, IfOk, OnOk, OnErr, option_copied, option_map};
+ghost use Rattle.ld_config.specs.declared.config.Config.{Config as Contents};
+ghost use Rattle.ld_config.specs.Bounds.{IsInBounds};
+ghost use Rattle.ld_schedule.specs.declared.event.Event.TheVariants.{Activate, Append, Trim, Retry, Drop as Drops};
+ghost use Rattle.ld_transcript.specs.declared.line.Line.TheVariants.{Active};
+ghost use Rattle.ld_table.specs.Named.{find_named, put_named};
+ghost use Rattle.ld_msg.specs.Bounds.{IsMessage};
+ghost use Rattle.ld_machine.specs.State.{State, sequencer_of};
+ghost use Rattle.ld_machine.specs.Step.{happens, to_sequencer, to_live};
+ghost use Rattle.ld_clients.specs.declared.client.Client.{Client as Seen};
+ghost use Rattle.ld_clients.specs.Acting.{AreSequencers, IsActed, Stays};
+ghost use Rattle.ld_clients.specs.Serving.{serving_in, KnowTheirLogs, HasRoom, IsWhole, shown, sequencers_of};
+
+use crate::Outcome;
+use crate::client::Client;
+use crate::lookup::find_spec;
+use crate::report::refused;
+use indexmap::IndexMap;
+use ld_config::Config;
+use ld_ids::{LogId, Name, NoMemory, Payload};
+use ld_lsn::Lsn;
+use ld_msg::{Msg, Outbox};
+use ld_register::Register;
+use ld_sequencer::Sequencer;
+use ld_transcript::Line;
+use std::alloc::Global;
+use std::marker::Model;
+
+/// Sequencers by name. After want of memory in a call they are of no use.
+#[derive(Drop)]
+pub struct Sequencers {
+    map: IndexMap<Name, Client>,
+}
+
+impl Model for Sequencers {
+    ghost use Rattle.std.specs.Prelude.{List, ℕ};
+    ghost use Rattle.ld_clients.specs.declared.client.Client.{Client};
+    ghost use Rattle.ld_clients.specs.Serving.{AreWhole};
+
+    ghost Value = { List (List ℕ × Client) };
+
+    ghost view = { λ a. a.map.entries };
+
+    ghost invariant = { λ a. AreWhole a.map.entries };
+}
+
+impl Sequencers {
+    /// None.
+    pub fn new(alloc: Global) -> Sequencers
+        ensures { result ≡ [] }
+    {
+        Sequencers {
+            map: IndexMap::new(alloc),
+        }
+    }
+
+    /// Whether the name is taken.
+    #[tactic(auto, unfolding(ld_table::specs::Named::find_named, ld_table::specs::Named::same))]
+    pub fn has(&self, name: &Name) -> bool
+        ensures { result ≡ is_some (find_named name.now self.now) }
+    {
+        self.map.contains_key(name)
+    }
+
+    /// The name of the sequencer of an epoch of a log, dropped or not.
+    pub fn name_of(&self, log: LogId, epoch: u32) -> Option<&Name>
+        ensures actor { option_copied result ≡ option_map (λ e. e.0) (sequencer_of log epoch (sequencers_of self.now)) }
+        ensures name { option_copied result ≡ option_map (λ e. e.0) (serving_in log epoch self.now) }
+        ensures unique { (e : List ℕ × Seen) → serving_in log epoch self.now ≡ Some e → find_named e.0 self.now ≡ Some e.1 }
+    {
+        for index in 0..self.map.len() {
+            let Some((name, client)) = self.map.get_index(index) else {
+                return None;
+            };
+            if client.is_of(log, epoch) {
+                return Some(name);
+            }
+        }
+        None
+    }
+
+    /// Activates a sequencer of the log's next epoch, which asks for what stands in the epochs before it that aren't closed.
+    /// Nothing comes of it where the name is taken or the log is none of the configuration's. It is refused with a line
+    /// `epochlimit` where the log's epochs are used up, and with a line `register` where the register refuses otherwise.
+    pub fn activate<G: Register>(
+        &mut self,
+        alloc: Global,
+        config: &Config,
+        name: &Name,
+        log: LogId,
+        reg: &mut G,
+    ) -> Result<Outcome, NoMemory>
+        requires { IsInBounds config.now }
+        ensures done { IfOk result (λ outcome. (s : State) → AreSequencers config.now s self.old → G.tells reg.old s.register → HasRoom config.now s.register
+            → IsActed s self.new outcome (G.tells reg.new) (happens config.now s (Activate name.now log))) }
+        ensures logs { KnowTheirLogs config.now self.old → KnowTheirLogs config.now self.new }
+    {
+        if self.has(name) {
+            return Ok(Outcome::nothing(alloc));
+        }
+        let Some(spec) = find_spec(config, log) else {
+            return Ok(Outcome::nothing(alloc));
+        };
+        let mut sends = Outbox::empty(alloc);
+        match Sequencer::activate(alloc, &spec, reg, &mut sends) {
+            Ok(sequencer) => {
+                let outcome = self.begin(alloc, name, sequencer, sends)?;
+                Ok(outcome)
+            }
+            Err(fault) => {
+                let outcome = refused(alloc, name, fault, sends)?;
+                Ok(outcome)
+            }
+        }
+    }
+
+    /// The sequencer of the name numbers the payload and sends it. It is refused with a line `long` above 65,535 bytes, then
+    /// with `preempted` where a sequencer of a greater epoch is at work, then with `epochfull` where the epoch's places are
+    /// used up, and then with `windowfull` where 128 appends wait. One that isn't there or was dropped does nothing.
+    pub fn append(
+        &mut self,
+        alloc: Global,
+        name: &Name,
+        payload: &Payload,
+    ) -> Result<Outcome, NoMemory>
+        ensures done { IfOk result (λ outcome. (c : Contents) (s : State) → AreSequencers c s self.old
+            → IsActed s self.new outcome (Stays s) (happens c s (Append name.now payload.now))) }
+        ensures logs { (c : Contents) → KnowTheirLogs c self.old → KnowTheirLogs c self.new }
+    {
+        let Some(client) = self.map.get_mut(name) else {
+            return Ok(Outcome::nothing(alloc));
+        };
+        client.append(alloc, name, payload)
+    }
+
+    /// The sequencer of the name tells all nodes of its log that all up to the point may go. It is refused with a line
+    /// `past` where the point is above the released number. One that isn't there or was dropped does nothing.
+    pub fn trim(&self, alloc: Global, name: &Name, point: Lsn) -> Result<Outcome, NoMemory>
+        ensures { IfOk result (λ outcome. (c : Contents) (s : State) → AreSequencers c s self.now
+            → IsActed s self.now outcome (Stays s) (happens c s (Trim name.now point))) }
+    {
+        let Some(client) = self.map.get(name) else {
+            return Ok(Outcome::nothing(alloc));
+        };
+        client.trim(alloc, name, point)
+    }
+
+    /// The sequencer of the name sends again what is still wanted, and tries its close again. One that isn't there or was
+    /// dropped does nothing.
+    pub fn retry<G: Register>(
+        &mut self,
+        alloc: Global,
+        name: &Name,
+        reg: &mut G,
+    ) -> Result<Outcome, NoMemory>
+        ensures done { IfOk result (λ outcome. (c : Contents) (s : State) → AreSequencers c s self.old → G.tells reg.old s.register → HasRoom c s.register
+            → IsActed s self.new outcome (G.tells reg.new) (happens c s (Retry name.now))) }
+        ensures logs { (c : Contents) → KnowTheirLogs c self.old → KnowTheirLogs c self.new }
+    {
+        let Some(client) = self.map.get_mut(name) else {
+            return Ok(Outcome::nothing(alloc));
+        };
+        match client.retry(alloc, name, reg) {
+            Ok(outcome) => Ok(outcome),
+            Err(refused) => {
+                self.map.clear();
+                Err(refused)
+            }
+        }
+    }
+
+    /// The sequencer of the name is gone: from now on it does nothing, but its name stays taken.
+    pub fn drop(&mut self, alloc: Global, name: &Name) -> Outcome
+        ensures done { (c : Contents) (s : State) → AreSequencers c s self.old
+            → IsActed s self.new result (Stays s) (happens c s (Drops name.now)) }
+        ensures logs { (c : Contents) → KnowTheirLogs c self.old → KnowTheirLogs c self.new }
+    {
+        let Some(client) = self.map.get_mut(name) else {
+            return Outcome::nothing(alloc);
+        };
+        client.retire();
+        Outcome::nothing(alloc)
+    }
+
+    /// The sequencer of an epoch of the message's log gets the message. What it did is written in this order: what
+    /// preempted it, the register's failure, what was acknowledged, the end of the epoch that was closed, and the released
+    /// number, where it rose. One that isn't there or was dropped does nothing.
+    pub fn on_reply<G: Register>(
+        &mut self,
+        alloc: Global,
+        epoch: u32,
+        msg: &Msg,
+        reg: &mut G,
+    ) -> Result<Outcome, NoMemory>
+        requires { IsMessage msg.now }
+        ensures done { IfOk result (λ outcome. (c : Contents) (s : State) → AreSequencers c s self.old → G.tells reg.old s.register → HasRoom c s.register
+            → IsActed s self.new outcome (G.tells reg.new) (to_sequencer c s msg.now (sequencer_of msg.now.log epoch s.sequencers))) }
+        ensures logs { (c : Contents) → KnowTheirLogs c self.old → KnowTheirLogs c self.new }
+    {
+        let Some(found) = self.name_of(msg.log, epoch) else {
+            return Ok(Outcome::nothing(alloc));
+        };
+        let name = found.copy(alloc)?;
+        self.hear(alloc, &name, msg, reg)
+    }
+
+    /// A new sequencer under a new name. Without memory nothing changes.
+    #[tactic(auto, unfolding(ld_table::specs::Named::put_named, ld_table::specs::Named::same))]
+    fn begin(
+        &mut self,
+        alloc: Global,
+        name: &Name,
+        sequencer: Sequencer,
+        sends: Outbox,
+    ) -> Result<Outcome, NoMemory>
+        requires { IsWhole sequencer }
+        ensures sequencers { OnOk result (self.new ≡ put_named name.now (record { sequencer = sequencer; dropped = false }) self.old) }
+        ensures lines { IfOk result (λ outcome. outcome.lines.items ≡ Active name.now sequencer.sequencer.epoch ∷ []) }
+        ensures sends { IfOk result (λ outcome. outcome.sends ≡ sends) }
+        ensures err { OnErr result (self.new ≡ self.old) }
+    {
+        let line = Line::Active {
+            name: name.copy(alloc)?,
+            epoch: sequencer.epoch(),
+        };
+        let outcome = Outcome::sent(alloc, line, sends)?;
+        let taken = name.copy(alloc)?;
+        let client = Client {
+            sequencer,
+            dropped: false,
+        };
+        self.map.insert(taken, client)?;
+        Ok(outcome)
+    }
+
+    /// The sequencer of the name gets the message. Without memory all sequencers are forgotten.
+    fn hear<G: Register>(
+        &mut self,
+        alloc: Global,
+        name: &Name,
+        msg: &Msg,
+        reg: &mut G,
+    ) -> Result<Outcome, NoMemory>
+        requires { IsMessage msg.now }
+        ensures done { IfOk result (λ outcome. (k : Seen) → find_named name.now self.old ≡ Some k
+            → (c : Contents) (s : State) → AreSequencers c s self.old → G.tells reg.old s.register → HasRoom c s.register
+            → IsActed s self.new outcome (G.tells reg.new) (to_live c s name.now (shown k) msg.now)) }
+        ensures logs { (c : Contents) → KnowTheirLogs c self.old → KnowTheirLogs c self.new }
+    {
+        let Some(client) = self.map.get_mut(name) else {
+            return Ok(Outcome::nothing(alloc));
+        };
+        match client.on_reply(alloc, name, msg, reg) {
+            Ok(outcome) => Ok(outcome),
+            Err(refused) => {
+                self.map.clear();
+                Err(refused)
+            }
+        }
+    }
+}
