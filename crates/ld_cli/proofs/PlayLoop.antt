@@ -8,17 +8,17 @@ use Rattle.ld_schedule.specs.declared.event.Event.{Event}
 use Rattle.ld_transcript.specs.Text.{line_text, text}
 use Rattle.ld_config.specs.declared.config.Config.{Config}
 use Rattle.ld_machine.specs.State.{State, start}
-use Rattle.ld_machine.specs.Served.{One, served_step, served_lines}
-use Rattle.ld_machine.specs.ServedRun.{served_state, served_events, served_history}
+use Rattle.ld_machine.specs.Run.{step, state_after, lines_of, history}
 use Rattle.ld_machine.specs.Safe.{Safe}
 use Rattle.ld_safety.proofs.LostJoined.{every_run_is_safe}
-use Rattle.ld_machine.proofs.ServedRuns.{served_state-push, served_lines-push}
-use Rattle.ld_cluster.specs.Standing.{Standing}
-use Rattle.ld_cluster.specs.Steps.{serves}
+use Rattle.ld_schedule.specs.declared.event.Event.TheVariants as events
+use Rattle.ld_cluster.specs.Standing.{config_of, past_of, state_of, IsReached}
+use Rattle.ld_cluster.specs.Steps.{Counts}
+use Rattle.ld_cluster.specs.declared.cluster.Cluster.{Cluster}
 use Rattle.ld_cli.specs.Lines.{ended}
 use Rattle.ld_cli.specs.Schedule.{Configures, IsSpelt, AreSpelt, event_line, schedule_text, IsOffFirst, IsOffLater}
 use Rattle.ld_cli.specs.NextEvent.{TakesConfig}
-use Rattle.ld_cli.specs.Step.{IsStep}
+use Rattle.ld_cli.specs.Step.{IsTaken}
 use Rattle.ld_cli.specs.Output.{AppendsPart}
 use Rattle.ld_cli.specs.declared.status.Stop.{Stop}
 use Rattle.ld_cli.specs.declared.status.Stop.TheVariants as stops
@@ -27,14 +27,15 @@ use Rattle.ld_cli.specs.Ends.{written_by, IsReplayed, StopsFirst, StopsLater, Is
 use Rattle.ld_cli.proofs.Left.{Consumes-trans, Appends-trans, Appends-nil}
 
 -- the lines of the configuration and of some events were read, and the transcript of the events was written
-pub record Playing (input_old input_new written_old written_new : Option (List ℕ)) (cluster : Standing) (number : ℕ) : Type 0 where
+pub record Playing (input_old input_new written_old written_new : Option (List ℕ)) (cluster : Cluster) (number : ℕ) : Type 0 where
   pub first : List ℕ
   pub events : List Event
-  pub configures : Configures first cluster.config
+  pub configures : Configures first (config_of cluster)
   pub spelt : AreSpelt events
   pub read : Consumes input_old input_new (schedule_text first events)
-  pub state : cluster.state ≡ served_state One cluster.config (start cluster.config) events
-  pub written : Appends written_old written_new (written_by cluster.config events)
+  pub state : state_of cluster ≡ state_after (config_of cluster) (start (config_of cluster)) events
+  pub reached : IsReached cluster
+  pub written : Appends written_old written_new (written_by (config_of cluster) events)
   pub count : number ≡ length events + 2
 
 -- ---- one event more ----
@@ -50,12 +51,45 @@ unfolding AreSpelt
 AreSpelt-push [] e spelt can = (can, tt)
 AreSpelt-push (x ∷ es) e spelt can = (spelt.0, AreSpelt-push es e spelt.1 can)
 
-written_by-push : (c : Config) (s : State) (es : List Event) (e : Event) → s ≡ served_state One c (start c) es
-    → written_by c (es ++ e ∷ []) ≡ written_by c es ++ text (serves c s e).lines
+state_after-push : (c : Config) (s : State) (es : List Event) (e : Event) → state_after c s (es ++ e ∷ []) ≡ (step c (state_after c s es) e).state
+unfolding state_after
+state_after-push c s [] e = refl
+state_after-push c s (x ∷ es) e = state_after-push c (step c s x).state es e
+
+lines_of-push : (c : Config) (s : State) (es : List Event) (e : Event) → lines_of c s (es ++ e ∷ []) ≡ lines_of c s es ++ (step c (state_after c s es) e).lines
+unfolding state_after lines_of
+lines_of-push c s [] e = append-nil (step c s e).lines
+lines_of-push c s (x ∷ es) e =
+    ap (λ l. (step c s x).lines ++ l) (lines_of-push c (step c s x).state es e)
+    ∙ sym (append_assoc (step c s x).lines (lines_of c (step c s x).state es) (step c (state_after c (step c s x).state es) e).lines)
+
+written_by-push : (c : Config) (s : State) (es : List Event) (e : Event) → s ≡ state_after c (start c) es
+    → written_by c (es ++ e ∷ []) ≡ written_by c es ++ text (step c s e).lines
 written_by-push c s es e is =
-    ap text (served_lines-push One c (start c) es e)
-    ∙ flat_map-append line_text (served_lines One c (start c) es) (served_step One c (served_state One c (start c) es) e).lines
-    ∙ ap (λ t. written_by c es ++ text (serves c t e).lines) (sym is)
+    ap text (lines_of-push c (start c) es e)
+    ∙ flat_map-append line_text (lines_of c (start c) es) (step c (state_after c (start c) es) e).lines
+    ∙ ap (λ t. written_by c es ++ text (step c t e).lines) (sym is)
+
+-- what a schedule names counts from 1 on
+pub spelt_counts : (e : Event) → IsSpelt e → Counts e
+spelt_counts (events.Fail node call) h = h.0.1.0
+spelt_counts (events.Tear node call picture) h = h.0.1.0
+spelt_counts (events.RegFail call done) h = h.0.0
+spelt_counts (events.Format n) h = tt
+spelt_counts (events.Activate name l) h = tt
+spelt_counts (events.Append name p) h = tt
+spelt_counts (events.Trim name t) h = tt
+spelt_counts (events.Retry name) h = tt
+spelt_counts (events.Drop name) h = tt
+spelt_counts (events.Deliver i) h = tt
+spelt_counts (events.Lose i) h = tt
+spelt_counts (events.Flow k) h = tt
+spelt_counts (events.Open name l from until) h = tt
+spelt_counts (events.Poll name) h = tt
+spelt_counts (events.Tick n l) h = tt
+spelt_counts (events.Down n) h = tt
+spelt_counts (events.Up n) h = tt
+spelt_counts (events.Wipe n) h = tt
 
 -- ---- the loop ----
 
@@ -68,43 +102,41 @@ first_text : (first : List ℕ) → ended first ≡ schedule_text first []
 unfolding schedule_text
 first_text first = sym (append-nil (ended first))
 
-pub begun : (left new written : Option (List ℕ)) (config : Config) (cluster : Standing) → cluster.config ≡ config → cluster.state ≡ start config
+pub begun : (left new written : Option (List ℕ)) (config : Config) (cluster : Cluster) → config_of cluster ≡ config → past_of cluster ≡ [] → IsReached cluster
     → TakesConfig (prepend_known [] left) new config → Playing left new written written cluster 2
-unfolding AreSpelt served_state served_lines
-begun left new written config cluster same state taken =
+unfolding AreSpelt state_after lines_of
+begun left new written config cluster same past reached taken =
     record {
       first = taken.line;
       events = [];
       configures = rw same taken.configures;
       spelt = tt;
       read = rw (← first_text) (from_held left new (ended taken.line) taken.taken);
-      state = state ∙ ap start (sym same);
+      state = ap (λ es. state_after (config_of cluster) (start (config_of cluster)) es) past;
+      reached = reached;
       written = Appends-nil written;
       count = refl;
     }
 
-pub played : (left mid new old written written' : Option (List ℕ)) (cluster stepped : Standing) (number : ℕ) (e : Event) → Playing left mid old written cluster number
-    → IsSpelt e → Consumes mid new (event_line e) → IsStep cluster e stepped → Appends written written' (text (serves cluster.config cluster.state e).lines)
+pub played : (left mid new old written written' : Option (List ℕ)) (cluster stepped : Cluster) (number : ℕ) (e : Event) → Playing left mid old written cluster number
+    → IsSpelt e → Consumes mid new (event_line e) → IsTaken cluster e stepped → Appends written written' (text (step (config_of cluster) (state_of cluster) e).lines)
     → Playing left new old written' stepped (number + 1)
-played left mid new old written written' cluster stepped number e playing can taken step more =
-    let c = cluster.config in
+played left mid new old written written' cluster stepped number e playing can taken took more =
+    let c : Config = config_of cluster in
     record {
       first = playing.first;
       events = playing.events ++ e ∷ [];
-      configures = rw step.config playing.configures;
+      configures = rw took.config playing.configures;
       spelt = AreSpelt-push playing.events e playing.spelt can;
       read = rw schedule_text-push (Consumes-trans _ _ _ _ _ playing.read taken);
-      state = step.state ∙ ap (λ s. (serves c s e).state) playing.state ∙ sym (served_state-push One c (start c) playing.events e)
-          ∙ ap (λ d. served_state One d (start d) (playing.events ++ e ∷ [])) (sym step.config);
-      written = rw (step.config, written_by-push c cluster.state playing.events e playing.state) (Appends-trans _ _ _ _ _ playing.written more);
+      state = took.state ∙ ap (λ s. (step c s e).state) playing.state ∙ sym (state_after-push c (start c) playing.events e)
+          ∙ ap (λ d. state_after d (start d) (playing.events ++ e ∷ [])) (sym took.config);
+      reached = took.reached;
+      written = rw (took.config, written_by-push c (state_of cluster) playing.events e playing.state) (Appends-trans _ _ _ _ _ playing.written more);
       count = omega (arith, playing.count, length-append playing.events (e ∷ []));
     }
 
 -- ---- its ends ----
-
--- a run of what is served is a run of the whole machine
-served_safe : (c : Config) (es : List Event) → Safe c (served_history One c es)
-served_safe c es = every_run_is_safe c (served_events One c (start c) es)
 
 pub silent : (left written : Option (List ℕ)) → IfSome left (λ bytes. IsCut bytes written written)
 silent None written = tt
@@ -115,14 +147,14 @@ pub off_first : (held : List ℕ) (left written : Option (List ℕ)) (place : �
 off_first held None written place none off = tt
 off_first held (Some bytes) written place none off = inl (record { off = subst (λ l. IsOffFirst (l ++ bytes) place) none off; line = refl; written = Appends-nil written })
 
-pub off_later : (left new old written : Option (List ℕ)) (cluster : Standing) (number place : ℕ) → Playing left new old written cluster number
+pub off_later : (left new old written : Option (List ℕ)) (cluster : Cluster) (number place : ℕ) → Playing left new old written cluster number
     → IfSome new (λ bytes. IsOffLater bytes place) → IfSome left (λ bytes. IsStopped bytes old written number place)
 off_later None new old written cluster number place playing off = tt
 off_later (Some bytes) None old written cluster number place playing off = absurd playing.read
 off_later (Some bytes) (Some rest) old written cluster number place playing off =
     inr (record {
       first = playing.first;
-      config = cluster.config;
+      config = config_of cluster;
       events = playing.events;
       rest = rest;
       configures = playing.configures;
@@ -131,52 +163,52 @@ off_later (Some bytes) (Some rest) old written cluster number place playing off 
       off = off;
       line = playing.count;
       written = playing.written;
-      safe = served_safe cluster.config playing.events;
+      safe = every_run_is_safe (config_of cluster) playing.events;
     })
 
-pub replayed : (left new old written : Option (List ℕ)) (cluster : Standing) (number : ℕ) → Playing left new old written cluster number
+pub replayed : (left new old written : Option (List ℕ)) (cluster : Cluster) (number : ℕ) → Playing left new old written cluster number
     → IsAtEnd new → IfSome left (λ bytes. IsReplayed bytes old written)
 replayed None new old written cluster number playing ends = tt
 replayed (Some bytes) None old written cluster number playing ends = absurd playing.read
 replayed (Some bytes) (Some rest) old written cluster number playing ends =
     record {
       line = playing.first;
-      config = cluster.config;
+      config = config_of cluster;
       events = playing.events;
       configures = playing.configures;
       spelt = playing.spelt;
       whole = playing.read ∙ ap (λ l. schedule_text playing.first playing.events ++ l) ends ∙ append-nil (schedule_text playing.first playing.events);
       written = playing.written;
-      safe = served_safe cluster.config playing.events;
+      safe = every_run_is_safe (config_of cluster) playing.events;
     }
 
-pub cut_here : (left new old written : Option (List ℕ)) (cluster : Standing) (number : ℕ) → Playing left new old written cluster number
+pub cut_here : (left new old written : Option (List ℕ)) (cluster : Cluster) (number : ℕ) → Playing left new old written cluster number
     → IfSome left (λ bytes. IsCut bytes old written)
 cut_here None new old written cluster number playing = tt
 cut_here (Some bytes) None old written cluster number playing = absurd playing.read
 cut_here (Some bytes) (Some rest) old written cluster number playing =
     inr (record {
       first = playing.first;
-      config = cluster.config;
+      config = config_of cluster;
       events = playing.events;
       rest = rest;
       configures = playing.configures;
       spelt = playing.spelt;
       read = playing.read;
-      part = written_by cluster.config playing.events;
+      part = written_by (config_of cluster) playing.events;
       missing = [];
       written = playing.written;
-      prefix = sym (append-nil (written_by cluster.config playing.events));
-      safe = served_safe cluster.config playing.events;
+      prefix = sym (append-nil (written_by (config_of cluster) playing.events));
+      safe = every_run_is_safe (config_of cluster) playing.events;
     })
 
-pub cut_in : (left mid new old written written' : Option (List ℕ)) (cluster : Standing) (number : ℕ) (e : Event) → Playing left mid old written cluster number
-    → IsSpelt e → Consumes mid new (event_line e) → AppendsPart written written' (text (serves cluster.config cluster.state e).lines)
+pub cut_in : (left mid new old written written' : Option (List ℕ)) (cluster : Cluster) (number : ℕ) (e : Event) → Playing left mid old written cluster number
+    → IsSpelt e → Consumes mid new (event_line e) → AppendsPart written written' (text (step (config_of cluster) (state_of cluster) e).lines)
     → IfSome left (λ bytes. IsCut bytes old written')
 cut_in None mid new old written written' cluster number e playing can taken more = tt
 cut_in (Some bytes) mid None old written written' cluster number e playing can taken more = absurd (Consumes-trans (Some bytes) mid None _ _ playing.read taken)
 cut_in (Some bytes) mid (Some rest) old written written' cluster number e playing can taken more =
-    let c = cluster.config in
+    let c : Config = config_of cluster in
     let all : bytes ≡ schedule_text playing.first (playing.events ++ e ∷ []) ++ rest =
     Consumes-trans (Some bytes) mid (Some rest) _ _ playing.read taken ∙ ap (λ l. l ++ rest) (sym (schedule_text-push playing.first playing.events e)) in
     inr (record {
@@ -190,9 +222,9 @@ cut_in (Some bytes) mid (Some rest) old written written' cluster number e playin
       part = written_by c playing.events ++ more.part;
       missing = more.missing;
       written = Appends-trans _ _ _ _ _ playing.written more.written;
-      prefix = written_by-push c cluster.state playing.events e playing.state
+      prefix = written_by-push c (state_of cluster) playing.events e playing.state
           ∙ ap (λ l. written_by c playing.events ++ l) more.whole ∙ sym (append_assoc (written_by c playing.events) more.part more.missing);
-      safe = served_safe c (playing.events ++ e ∷ []);
+      safe = every_run_is_safe c (playing.events ++ e ∷ []);
     })
 
 pub at_end : (held : List ℕ) (left : Option (List ℕ)) → IsAtEnd (prepend_known held left) → IsAtEnd left

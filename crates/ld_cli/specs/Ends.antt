@@ -3,8 +3,7 @@ use Rattle.std.specs.Prelude.{ℕ, ◌≡◌, ◌+◌, ◌⊎◌, List, [], ◌�
 use Rattle.std.specs.Io.KnownBytes.{Appends}
 use Rattle.ld_schedule.specs.declared.event.Event.{Event}
 use Rattle.ld_config.specs.declared.config.Config.{Config}
-use Rattle.ld_machine.specs.Served.{One, served_transcript}
-use Rattle.ld_machine.specs.ServedRun.{served_history}
+use Rattle.ld_machine.specs.Run.{transcript, history}
 use Rattle.ld_machine.specs.Safe.{Safe}
 use Rattle.ld_cli.specs.declared.status.Stop.{Stop}
 use Rattle.ld_cli.specs.declared.status.Stop.TheVariants as stops
@@ -14,12 +13,12 @@ use Rattle.ld_cli.specs.Schedule.{Configures, AreSpelt, schedule_text, IsOffFirs
 
 -- the bytes that a run of these events writes
 abbrev pub written_by : Config → List Event → List ℕ
-written_by config events = served_transcript One config events
+written_by config events = transcript config events
 
 -- the headline: in the run of these events what each reader gets tiles the numbers from its first one on, a record is the payload that was appended under its
 -- number, no hole or bridge holds a number that was acknowledged or read as a record, a trim gap ends at an issued point, and a data loss had its moment
 abbrev pub IsSafe : Config → List Event → Type 0
-IsSafe config events = Safe config (served_history One config events)
+IsSafe config events = Safe config (history config events)
 
 -- the input is a schedule, and its whole transcript was written
 pub record IsReplayed (bytes : List ℕ) (old new : Option (List ℕ)) : Type 0 where

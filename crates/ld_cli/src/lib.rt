@@ -15,4 +15,6 @@ pub use replay::run;
 pub use status::Status;
 
 #[cfg(test)]
+mod rows;
+#[cfg(test)]
 mod tests;

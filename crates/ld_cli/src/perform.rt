@@ -2,8 +2,10 @@
 ghost use Rattle.std.specs.Prelude.{◌≡◌, ◌≤◌, ◌++◌, OnOk, IfErr, MatchResult};
 ghost use Rattle.std.specs.Io.KnownBytes.{Appends};
 ghost use Rattle.ld_transcript.specs.Text.{text};
-ghost use Rattle.ld_cluster.specs.Steps.{serves};
-ghost use Rattle.ld_cli.specs.Step.{IsStep};
+ghost use Rattle.ld_machine.specs.Run.{step};
+ghost use Rattle.ld_cluster.specs.Standing.{config_of, state_of, IsReached};
+ghost use Rattle.ld_cluster.specs.Steps.{Counts};
+ghost use Rattle.ld_cli.specs.Step.{IsTaken};
 ghost use Rattle.ld_cli.specs.Output.{AppendsPart};
 ghost use Rattle.ld_cli.specs.Causes.{IsWriteStop};
 
@@ -22,10 +24,12 @@ pub fn perform<O: Sink>(
     event: &Event,
     out: &mut O,
 ) -> Result<(), Stop>
-    ensures step { OnOk result (IsStep cluster.old event.now cluster.new) }
+    requires reached { IsReached cluster.old }
+    requires counts { Counts event.now }
+    ensures step { OnOk result (IsTaken cluster.old event.now cluster.new) }
     ensures written { MatchResult result
-        (λ _. Appends (O.written out.old) (O.written out.new) (text (serves cluster.old.config cluster.old.state event.now).lines))
-        (λ _. AppendsPart (O.written out.old) (O.written out.new) (text (serves cluster.old.config cluster.old.state event.now).lines)) }
+        (λ _. Appends (O.written out.old) (O.written out.new) (text (step (config_of cluster.old) (state_of cluster.old) event.now).lines))
+        (λ _. AppendsPart (O.written out.old) (O.written out.new) (text (step (config_of cluster.old) (state_of cluster.old) event.now).lines)) }
     ensures later { O.faults out.old ≤ O.faults out.new }
     ensures cause { IfErr result (IsWriteStop (O.faults out.old) (O.faults out.new)) }
 {

@@ -1,63 +1,9 @@
 // Replays over sources and sinks in memory.
 use super::*;
+use crate::rows::{FOUND, NOT_FOUND, ROWS, STORED};
 use ld_io::{Failed, MemSink, MemSource, Sink, Source};
 use std::alloc::Global;
 use std::test::Fail;
-
-/// One append on three nodes, read back.
-const STORED_RUN: &str = concat!(
-    "{\"nodes\":[1,2,3],\"logs\":[{\"id\":1,\"set\":[1,2,3],\"r\":2}]}\n",
-    "format 1\n",
-    "format 2\n",
-    "format 3\n",
-    "activate a 1\n",
-    "append a 6869\n",
-    "flow 10\n",
-    "open r 1 e0n1 e1n1\n",
-    "poll r\n",
-    "flow 20\n",
-);
-
-/// Its transcript.
-const TRANSCRIPT: &str = concat!(
-    "node 1 formatted 1\n",
-    "node 2 formatted 1\n",
-    "node 3 formatted 1\n",
-    "active a 1\n",
-    "appended a e1n1\n",
-    "msg 0 s.a n.3 store e1n1\n",
-    "msg 1 s.a n.1 store e1n1\n",
-    "msg 2 n.3 s.a stored e1n1\n",
-    "msg 3 n.1 s.a stored e1n1\n",
-    "none\n",
-    "acked a e1n1\n",
-    "released a e1n1\n",
-    "msg 4 s.a n.1 release e1n1\n",
-    "msg 5 s.a n.2 release e1n1\n",
-    "msg 6 s.a n.3 release e1n1\n",
-    "none\n",
-    "none\n",
-    "none\n",
-    "none\n",
-    "msg 7 r.r n.1 readask e0n1\n",
-    "msg 8 r.r n.2 readask e0n1\n",
-    "msg 9 r.r n.3 readask e0n1\n",
-    "msg 10 n.1 r.r readended e0n1\n",
-    "msg 11 n.2 r.r readended e0n1\n",
-    "msg 12 n.3 r.r readended e0n1\n",
-    "gap r bridge e0n1 e1n0\n",
-    "msg 13 r.r n.1 readask e1n1\n",
-    "msg 14 r.r n.2 readask e1n1\n",
-    "msg 15 r.r n.3 readask e1n1\n",
-    "none\n",
-    "none\n",
-    "msg 16 n.1 r.r readpage e1n1\n",
-    "msg 17 n.2 r.r readpage e1n1\n",
-    "msg 18 n.3 r.r readpage e1n1\n",
-    "record r e1n1 6869\n",
-    "none\n",
-    "none\n",
-);
 
 /// A replay of this input, with the calls that are to fail. Answers the status and what was written.
 fn replayed(
@@ -76,11 +22,75 @@ fn replayed(
     Ok((status, Vec::from_slice(alloc, sink.bytes())?))
 }
 
+/// Whether a replay of the schedule gives the transcript.
+fn gives(alloc: Global, schedule: &[u8], transcript: &[u8]) -> Result<bool, Fail> {
+    let (status, written) = replayed(alloc, schedule, &[], &[])?;
+    Ok(status == Status::Ok && written.as_slice() == transcript)
+}
+
 #[test]
-fn replays_the_stored_run(rt: HostRuntime) -> Result<(), Fail> {
-    let (status, written) = replayed(rt.alloc(), STORED_RUN.as_bytes(), &[], &[])?;
-    assert_eq!(rt; status, Status::Ok);
-    assert_eq!(rt; written.as_slice(), TRANSCRIPT.as_bytes());
+fn replays_worked_schedules(rt: HostRuntime) -> Result<(), Fail> {
+    for (schedule, transcript) in ROWS {
+        assert!(rt; gives(rt.alloc(), schedule.as_bytes(), transcript.as_bytes())?);
+    }
+    Ok(())
+}
+
+/// A schedule whose node 3 crashes in a writing call of its first record, and what is done behind it.
+fn torn(alloc: Global, call: &str, picture: &str) -> Result<Vec<u8>, Fail> {
+    let mut schedule = Vec::from_slice(alloc, TORN_BEGINS.as_bytes())?;
+    schedule.extend_from_slice(call.as_bytes())?;
+    schedule.extend_from_slice(b" ")?;
+    schedule.extend_from_slice(picture.as_bytes())?;
+    schedule.extend_from_slice(TORN_ENDS.as_bytes())?;
+    Ok(schedule)
+}
+
+/// A torn append, up to the call that it is torn in.
+const TORN_BEGINS: &str = concat!(
+    "{\"nodes\":[1,2,3],\"logs\":[{\"id\":1,\"set\":[1,2,3],\"r\":2}]}\n",
+    "format 1\n",
+    "format 2\n",
+    "format 3\n",
+    "activate a 1\n",
+    "append a 6869\n",
+    "lose 1\n",
+    "tear 3 ",
+);
+
+/// What comes behind its picture.
+const TORN_ENDS: &str = concat!(
+    "\n",
+    "deliver 0\n",
+    "up 3\n",
+    "activate b 1\n",
+    "lose 3\n",
+    "deliver 2\n",
+    "deliver 4\n",
+    "flow 99\n",
+);
+
+// The gate is written by the third call and synced by the fourth: the append is there exactly where the picture has it
+// open.
+#[test]
+fn a_torn_append_is_there_or_not(rt: HostRuntime) -> Result<(), Fail> {
+    for (call, picture, transcript) in [
+        ("1", "old", NOT_FOUND),
+        ("1", "new", NOT_FOUND),
+        ("1", "07", NOT_FOUND),
+        ("2", "old", NOT_FOUND),
+        ("2", "new", NOT_FOUND),
+        ("2", "07", NOT_FOUND),
+        ("3", "old", NOT_FOUND),
+        ("3", "new", FOUND),
+        ("3", "07", NOT_FOUND),
+        ("4", "old", NOT_FOUND),
+        ("4", "new", FOUND),
+        ("4", "07", NOT_FOUND),
+    ] {
+        let schedule = torn(rt.alloc(), call, picture)?;
+        assert!(rt; gives(rt.alloc(), &schedule, transcript.as_bytes())?);
+    }
     Ok(())
 }
 
@@ -90,24 +100,24 @@ fn says_where_a_line_is_off(rt: HostRuntime) -> Result<(), Fail> {
     assert_eq!(rt; status, Status::BadSchedule { line: 1, place: 0 });
     assert_eq!(rt; written.len(), 0);
     // the stored run, cut in its seventh line
-    let front = &STORED_RUN.as_bytes()[..116];
+    let front = &STORED.0.as_bytes()[..116];
     let (status, written) = replayed(rt.alloc(), front, &[], &[])?;
     assert_eq!(rt; status, Status::BadSchedule { line: 7, place: 6 });
-    assert!(rt; TRANSCRIPT.as_bytes().starts_with(&written));
+    assert!(rt; STORED.1.as_bytes().starts_with(&written));
     Ok(())
 }
 
 #[test]
 fn hands_faults_on(rt: HostRuntime) -> Result<(), Fail> {
     for call in 0..2 {
-        let (status, written) = replayed(rt.alloc(), STORED_RUN.as_bytes(), &[call], &[])?;
+        let (status, written) = replayed(rt.alloc(), STORED.0.as_bytes(), &[call], &[])?;
         assert_eq!(rt; status, Status::Read);
-        assert!(rt; TRANSCRIPT.as_bytes().starts_with(&written));
+        assert!(rt; STORED.1.as_bytes().starts_with(&written));
     }
     for call in 0..9 {
-        let (status, written) = replayed(rt.alloc(), STORED_RUN.as_bytes(), &[], &[call])?;
+        let (status, written) = replayed(rt.alloc(), STORED.0.as_bytes(), &[], &[call])?;
         assert_eq!(rt; status, Status::Write);
-        assert!(rt; TRANSCRIPT.as_bytes().starts_with(&written));
+        assert!(rt; STORED.1.as_bytes().starts_with(&written));
     }
     Ok(())
 }

@@ -9,8 +9,6 @@ mod readers;
 mod reads;
 mod report;
 mod sequencers;
-#[cfg(test)]
-mod tests;
 
 pub use lookup::find_spec;
 pub use outcome::Outcome;

@@ -1,27 +1,26 @@
 -- Steps one after the other.
-use Rattle.std.proofs.Common.{◌≡◌, ℕ, zero, suc, ◌+◌, ◌⊎◌, inl, inr, Bool, true, false, List, [], ◌∷◌, ◌++◌, Option, Some, None, refl, ap, sym, ◌∙◌, subst, append_assoc, add-one, is_some, length, ◌==◌, cond, if◌then◌else◌}
+use Rattle.std.proofs.Common.{◌≡◌, ℕ, zero, suc, ◌+◌, ◌⊎◌, inl, inr, Bool, true, false, List, [], ◌∷◌, ◌++◌, Option, Some, None, refl, ap, sym, ◌∙◌, subst, append_assoc, add-one, is_some, length, ◌==◌, if◌then◌else◌}
 use Rattle.std.proofs.lemmas.List.{append-nil}
 use Rattle.ld_schedule.specs.declared.event.Event.{Event}
 use Rattle.ld_schedule.specs.declared.event.Event.TheVariants as events
 use Rattle.ld_transcript.specs.declared.line.Line.{Line}
+use Rattle.ld_transcript.specs.declared.line.Line.TheVariants as lines
 use Rattle.ld_config.specs.declared.config.Config.{Config}
 use Rattle.ld_msg.specs.Network.{oldest_new}
-use Rattle.ld_machine.specs.State.{State, Stepped, start, finish, unchanged, or_none}
+use Rattle.ld_machine.specs.State.{State, Stepped, Done, start, finish}
 use Rattle.ld_machine.specs.Step.{happens, delivers}
-use Rattle.ld_machine.specs.Run.{flows, flowed, step}
-use Rattle.ld_machine.specs.Served.{One, is_served, served_step, or_unserved}
-use Rattle.ld_cluster.specs.Standing.{Standing, IsReached}
-use Rattle.ld_cluster.specs.Steps.{serves, after_steps, delivers_new, delivers_oldest, delivery, more_deliveries, steps_of}
-use Rattle.ld_cluster.specs.Outcomes.{does, is_flow, IsFlowing, HasFlowed, IsFlown, IsTaken, IsDone, grown, with_state, ended}
-use Rattle.ld_cluster.specs.declared.outcome.Outcome.{Outcome}
-use Rattle.ld_cluster.proofs.Finishing.{ended_is, ended_lines, none_added}
-use Rattle.ld_transcript.specs.declared.line.Line.TheVariants as lines
+use Rattle.ld_machine.specs.Run.{flows, flowed, step, state_after}
+use Rattle.ld_bounds.specs.Sound.{IsSound, IsEvent}
+use Rattle.ld_bounds.proofs.Steps.{step_is}
+use Rattle.ld_clients.specs.declared.outcome.Outcome.{Outcome}
+use Rattle.ld_cluster.specs.declared.cluster.Cluster.{Cluster}
+use Rattle.ld_cluster.specs.Standing.{config_of, past_of, state_of, Parts, IsReached}
+use Rattle.ld_cluster.specs.Steps.{delivers_new, delivers_oldest, delivery, more_deliveries, steps_of, is_flow, IsStep, HasFlowed, IsFlowing}
+use Rattle.ld_cluster.specs.Outcomes.{IsDone, IsFinished, ended}
+use Rattle.ld_cluster.proofs.Finishing.{none_added}
 
-or_unserved_is : (b : Bool) (c : Config) (s : State) (e : Event) → step c s e ≡ finish (happens c s e) → or_unserved b c s e ≡ finish (if b then happens c s e else unchanged s)
-or_unserved_is true c s e h = h
-or_unserved_is false c s e h = refl
-
-one_step : (c : Config) (s : State) (e : Event) → is_flow e ≡ false → step c s e ≡ finish (happens c s e)
+-- an event that is one step
+pub one_step : (c : Config) (s : State) (e : Event) → is_flow e ≡ false → step c s e ≡ finish (happens c s e)
 unfolding step
 one_step c s (events.Format n) h = refl
 one_step c s (events.Activate name l) h = refl
@@ -42,20 +41,15 @@ one_step c s (events.Fail n k) h = refl
 one_step c s (events.Tear n k p) h = refl
 one_step c s (events.RegFail k done) h = refl
 
--- an event that is one step
-pub serves_is : (c : Config) (s : State) (e : Event) → is_flow e ≡ false → serves c s e ≡ finish (does c s e)
-unfolding served_step does
-serves_is c s e h = or_unserved_is (is_served One c s e) c s e (one_step c s e h)
+delivery_step : (c : Config) (s : State) (i : ℕ) → step c s (events.Deliver i) ≡ finish (delivers c s i)
+unfolding step happens
+delivery_step c s i = refl
 
-pub serves_delivery : (c : Config) (s : State) (i : ℕ) → serves c s (events.Deliver i) ≡ finish (delivers c s i)
-unfolding served_step is_served step happens
-serves_delivery c s i = refl
+flow_step : (c : Config) (s : State) (k : ℕ) → step c s (events.Flow k) ≡ flowed (flows k c s)
+unfolding step
+flow_step c s k = refl
 
-pub serves_flow : (c : Config) (s : State) (k : ℕ) → serves c s (events.Flow k) ≡ flowed (flows k c s)
-unfolding served_step is_served step
-serves_flow c s k = refl
-
-pub steps_of_one : (c : Config) (s : State) (e : Event) → is_flow e ≡ false → steps_of c s e ≡ e ∷ []
+steps_of_one : (c : Config) (s : State) (e : Event) → is_flow e ≡ false → steps_of c s e ≡ e ∷ []
 unfolding steps_of
 steps_of_one c s (events.Format n) h = refl
 steps_of_one c s (events.Activate name l) h = refl
@@ -90,20 +84,42 @@ none_from (Some i) h = absurd cc
 
 -- ---- what steps lead to ----
 
-after_steps-push : (c : Config) (s : State) (es : List Event) (e : Event) → after_steps c s (es ++ e ∷ []) ≡ (serves c (after_steps c s es) e).state
-unfolding after_steps
-after_steps-push c s [] e = refl
-after_steps-push c s (x ∷ es) e = after_steps-push c (serves c s x).state es e
+state_after-push : (c : Config) (s : State) (es : List Event) (e : Event) → state_after c s (es ++ e ∷ []) ≡ (step c (state_after c s es) e).state
+unfolding state_after
+state_after-push c s [] e = refl
+state_after-push c s (x ∷ es) e = state_after-push c (step c s x).state es e
 
 -- one step more
-pub reached_more : (old new : Standing) (e : Event) → new.config ≡ old.config → new.past ≡ old.past ++ e ∷ [] → new.state ≡ (serves old.config old.state e).state → IsReached old → IsReached new
-reached_more old new e g p s h = s
-    ∙ (ap (λ t. (serves old.config t e).state) h
-    ∙ (sym (after_steps-push old.config (start old.config) old.past e)
-    ∙ (ap (λ es. after_steps old.config (start old.config) es) (sym p) ∙ ap (λ c. after_steps c (start c) new.past) (sym g))))
+state_more : (old new : Cluster) (e : Event) → config_of new ≡ config_of old → past_of new ≡ past_of old ++ e ∷ [] → state_of new ≡ (step (config_of old) (state_of old) e).state
+state_more old new e g p =
+    ap (λ c. state_after c (start c) (past_of new)) g
+    ∙ (ap (λ es. state_after (config_of old) (start (config_of old)) es) p ∙ state_after-push (config_of old) (start (config_of old)) (past_of old) e)
 
-pub reached_same : (old new : Standing) → new ≡ old → IsReached old → IsReached new
-reached_same old new e h = subst (λ k. IsReached k) (sym e) h
+-- an event that is one step was taken
+pub taken : (k0 k1 k2 k3 : Cluster) (e : Event) (o : Outcome) (l0 l1 : List Line) → IsReached k0 → IsEvent e → is_flow e ≡ false
+    → IsDone k0 k1 o (happens (config_of k0) (state_of k0) e) → ((s : State) → Parts k1 s → IsFinished k1 k2 l0 l1 (ended s o))
+    → config_of k3 ≡ config_of k2 → past_of k3 ≡ past_of k2 ++ e ∷ [] → ((s : State) → Parts k2 s → Parts k3 s)
+    → IsStep k0 k3 l0 l1 (step (config_of k0) (state_of k0) e) (steps_of (config_of k0) (state_of k0) e)
+taken k0 k1 k2 k3 e o l0 l1 r v f d ends c3 p3 parts3 =
+    let c : Config = config_of k0 in
+    let s : State = state_of k0 in
+    let d0 : Done = happens c s e in
+    let fin : IsFinished k1 k2 l0 l1 (finish d0) = subst (λ (x : Stepped). IsFinished k1 k2 l0 l1 x) (λ i. finish (record { state = d0.state; lines = d.lines i; sends = d.sends i })) (ends d0.state d.parts) in
+    let g : config_of k3 ≡ c = c3 ∙ (fin.same.config ∙ d.same.config) in
+    let p : past_of k3 ≡ past_of k0 ++ e ∷ [] = p3 ∙ ap (λ es. es ++ e ∷ []) (fin.same.past ∙ d.same.past) in
+    let st : state_of k3 ≡ (step c s e).state = state_more k0 k3 e g p in
+    let one : finish d0 ≡ step c s e = sym (one_step c s e f) in
+    record {
+      config = g;
+      past = p ∙ ap (λ es. past_of k0 ++ es) (sym (steps_of_one c s e f));
+      state = st;
+      lines = fin.lines ∙ ap (λ (x : Stepped). l0 ++ x.lines) one;
+      reached = record {
+        parts = subst (λ (t : State). Parts k3 t) (ap (λ (x : Stepped). x.state) one ∙ sym st) (parts3 (finish d0).state fin.parts);
+        bounds = rw g r.bounds;
+        sound = subst (λ (t : State). IsSound (config_of k3) t) (sym st) (subst (λ (x : Config). IsSound x (step c s e).state) (sym g) (step_is c r.bounds s e v r.sound));
+      };
+    }
 
 -- ---- a flow ----
 
@@ -132,99 +148,93 @@ more_ends : (k : ℕ) (c : Config) (s : State) → (k ≡ 0) ⊎ (oldest_new s.n
 more_ends k c s (inl e) = ap (λ n. more_deliveries c s n (oldest_new s.network)) e ∙ more_zero c s (oldest_new s.network)
 more_ends k c s (inr n) = more_none k c s n
 
-pub flowing_start : (k : Standing) (ls : List Line) (most : ℕ) → IsFlowing k ls most k ls most
-flowing_start k ls most = record { config = refl; state = refl; lines = refl; past = refl; reached = λ h. h }
+pub flowing_start : (k : Cluster) (ls : List Line) (most : ℕ) → IsReached k → IsFlowing k ls most k ls most
+flowing_start k ls most r = record { config = refl; state = refl; lines = refl; past = refl; reached = r }
 
-pub flowing_more : (k now new : Standing) (ls ln lm : List Line) (most left rest i : ℕ) → IsFlowing k ls most now ln left → left ≡ suc rest → oldest_new now.state.network ≡ Some i
-    → new.config ≡ now.config → new.state ≡ (delivers_oldest now.config now.state).state → lm ≡ ln ++ (delivers_oldest now.config now.state).lines → new.past ≡ now.past ++ delivery (oldest_new now.state.network) → (IsReached now → IsReached new)
+flowing_more : (k now new : Cluster) (ls ln lm : List Line) (most left rest i : ℕ) → IsFlowing k ls most now ln left → left ≡ suc rest → oldest_new (state_of now).network ≡ Some i
+    → IsStep now new ln lm (delivers_oldest (config_of now) (state_of now)) (delivery (oldest_new (state_of now).network))
     → IsFlowing k ls most new lm rest
-flowing_more k now new ls ln lm most left rest i h e o g s l p r =
-    let c : Config = k.config in
-    let d : Stepped = finish (delivers c now.state i) in
-    let here : (x : Config) → x ≡ c → delivers_oldest x now.state ≡ d = λ x q. ap (λ y. delivers_oldest y now.state) q ∙ ap (delivers_new c now.state) o in
-    let there : delivers_oldest now.config now.state ≡ d = here now.config h.config in
-    let st : new.state ≡ d.state = s ∙ ap (λ x. x.state) there in
-    let fl : flows left c now.state ≡ record { state = (flows rest c new.state).state; lines = d.lines ++ (flows rest c new.state).lines }
-    = ap (λ n. flows n c now.state) e ∙ (flows_some rest c now.state i o ∙ ap (λ t. record { state = (flows rest c t).state; lines = d.lines ++ (flows rest c t).lines }) (sym st)) in
-    let mo : more_deliveries c now.state left (oldest_new now.state.network) ≡ events.Deliver i ∷ more_deliveries c new.state rest (oldest_new new.state.network)
-    = ap (λ n. more_deliveries c now.state n (oldest_new now.state.network)) e ∙ (more_some rest c now.state i o ∙ ap (λ (t : State). events.Deliver i ∷ more_deliveries c t rest (oldest_new t.network)) (sym st)) in
+flowing_more k now new ls ln lm most left rest i h e o t =
+    let c : Config = config_of k in
+    let d : Stepped = finish (delivers c (state_of now) i) in
+    let here : (x : Config) → x ≡ c → delivers_oldest x (state_of now) ≡ d = λ x q. ap (λ y. delivers_oldest y (state_of now)) q ∙ ap (delivers_new c (state_of now)) o in
+    let there : delivers_oldest (config_of now) (state_of now) ≡ d = here (config_of now) h.config in
+    let st : state_of new ≡ d.state = t.state ∙ ap (λ (x : Stepped). x.state) there in
+    let fl : flows left c (state_of now) ≡ record { state = (flows rest c (state_of new)).state; lines = d.lines ++ (flows rest c (state_of new)).lines }
+    = ap (λ n. flows n c (state_of now)) e ∙ (flows_some rest c (state_of now) i o ∙ ap (λ (t : State). record { state = (flows rest c t).state; lines = d.lines ++ (flows rest c t).lines }) (sym st)) in
+    let mo : more_deliveries c (state_of now) left (oldest_new (state_of now).network) ≡ events.Deliver i ∷ more_deliveries c (state_of new) rest (oldest_new (state_of new).network)
+    = ap (λ n. more_deliveries c (state_of now) n (oldest_new (state_of now).network)) e ∙ (more_some rest c (state_of now) i o ∙ ap (λ (t : State). events.Deliver i ∷ more_deliveries c t rest (oldest_new t.network)) (sym st)) in
     record {
-      config = g ∙ h.config;
-      state = sym (ap (λ x. x.state) fl) ∙ h.state;
-      lines = ap (λ x. x ++ (flows rest c new.state).lines) (l ∙ ap (λ x. ln ++ x.lines) there) ∙ (append_assoc ln d.lines (flows rest c new.state).lines ∙ (ap (λ x. ln ++ x.lines) (sym fl) ∙ h.lines));
-      past = ap (λ x. x ++ more_deliveries c new.state rest (oldest_new new.state.network)) (p ∙ ap (λ x. now.past ++ delivery x) o) ∙ (append_assoc now.past (events.Deliver i ∷ []) _ ∙ (ap (λ x. now.past ++ x) (sym mo) ∙ h.past));
-      reached = λ x. r (h.reached x);
+      config = t.config ∙ h.config;
+      state = sym (ap (λ (x : Stepped). x.state) fl) ∙ h.state;
+      lines = ap (λ x. x ++ (flows rest c (state_of new)).lines) (t.lines ∙ ap (λ (x : Stepped). ln ++ x.lines) there) ∙ (append_assoc ln d.lines (flows rest c (state_of new)).lines ∙ (ap (λ (x : Stepped). ln ++ x.lines) (sym fl) ∙ h.lines));
+      past = ap (λ x. x ++ more_deliveries c (state_of new) rest (oldest_new (state_of new).network)) (t.past ∙ ap (λ x. past_of now ++ delivery x) o) ∙ (append_assoc (past_of now) (events.Deliver i ∷ []) _ ∙ (ap (λ x. past_of now ++ x) (sym mo) ∙ h.past));
+      reached = t.reached;
     }
 
-pub flowing_end : (k now : Standing) (ls ln : List Line) (most left : ℕ) → IsFlowing k ls most now ln left → (left ≡ 0) ⊎ (oldest_new now.state.network ≡ None) → HasFlowed k ls most now ln
+pub flowing_end : (k now : Cluster) (ls ln : List Line) (most left : ℕ) → IsFlowing k ls most now ln left → (left ≡ 0) ⊎ (oldest_new (state_of now).network ≡ None) → HasFlowed k ls most now ln
 flowing_end k now ls ln most left h e =
-    let fl : flows left k.config now.state ≡ record { state = now.state; lines = [] } = flow_ends left k.config now.state e in
-    let mo : more_deliveries k.config now.state left (oldest_new now.state.network) ≡ [] = more_ends left k.config now.state e in
+    let fl : flows left (config_of k) (state_of now) ≡ record { state = state_of now; lines = [] } = flow_ends left (config_of k) (state_of now) e in
+    let mo : more_deliveries (config_of k) (state_of now) left (oldest_new (state_of now).network) ≡ [] = more_ends left (config_of k) (state_of now) e in
     record {
-      state = sym (ap (λ x. x.state) fl) ∙ h.state;
-      lines = sym (append-nil ln) ∙ (ap (λ x. ln ++ x.lines) (sym fl) ∙ h.lines);
-      past = sym (append-nil now.past) ∙ (ap (λ x. now.past ++ x) (sym mo) ∙ h.past);
+      config = h.config;
+      state = sym (ap (λ (x : Stepped). x.state) fl) ∙ h.state;
+      lines = sym (append-nil ln) ∙ (ap (λ (x : Stepped). ln ++ x.lines) (sym fl) ∙ h.lines);
+      past = sym (append-nil (past_of now)) ∙ (ap (λ x. past_of now ++ x) (sym mo) ∙ h.past);
       reached = h.reached;
     }
 
 -- one step of a flow, as its answer says
-pub flowing_by : (k now new : Standing) (ls ln lm : List Line) (most left rest : ℕ) → IsFlowing k ls most now ln left → left ≡ rest + 1 → new.config ≡ now.config → IsFlown now ln true new lm → IsFlowing k ls most new lm rest
-flowing_by k now new ls ln lm most left rest h e g f =
-    let o = some_from (oldest_new now.state.network) (sym f.more) in
-    flowing_more k now new ls ln lm most left rest o.0 h (e ∙ add-one rest) o.1 g f.state f.lines f.past f.reached
+pub flowing_by : (k now new : Cluster) (ls ln lm : List Line) (most left rest : ℕ) (more : Bool) → IsFlowing k ls most now ln left → left ≡ rest + 1 → more ≡ true
+    → more ≡ is_some (oldest_new (state_of now).network)
+    → IsStep now new ln lm (delivers_oldest (config_of now) (state_of now)) (delivery (oldest_new (state_of now).network)) → IsFlowing k ls most new lm rest
+flowing_by k now new ls ln lm most left rest more h e g m f =
+    let o = some_from (oldest_new (state_of now).network) (sym m ∙ g) in
+    flowing_more k now new ls ln lm most left rest o.0 h (e ∙ add-one rest) o.1 f
 
-pub flowing_over : (k now new : Standing) (ls ln lm : List Line) (most left : ℕ) → IsFlowing k ls most now ln left → new.config ≡ now.config → IsFlown now ln false new lm → HasFlowed k ls most new lm
-flowing_over k now new ls ln lm most left h g f =
-    let n = none_from (oldest_new now.state.network) (sym f.more) in
-    let st : new.state ≡ now.state = f.state ∙ ap (λ o. (delivers_new now.config now.state o).state) n in
-    let li : lm ≡ ln = f.lines ∙ (ap (λ o. ln ++ (delivers_new now.config now.state o).lines) n ∙ append-nil ln) in
-    let pa : new.past ≡ now.past = f.past ∙ (ap (λ o. now.past ++ delivery o) n ∙ append-nil now.past) in
+pub flowing_over : (k now new : Cluster) (ls ln lm : List Line) (most left : ℕ) (more : Bool) → IsFlowing k ls most now ln left → more ≡ false
+    → more ≡ is_some (oldest_new (state_of now).network)
+    → IsStep now new ln lm (delivers_oldest (config_of now) (state_of now)) (delivery (oldest_new (state_of now).network)) → HasFlowed k ls most new lm
+flowing_over k now new ls ln lm most left more h g m f =
+    let n = none_from (oldest_new (state_of now).network) (sym m ∙ g) in
+    let st : state_of new ≡ state_of now = f.state ∙ ap (λ o. (delivers_new (config_of now) (state_of now) o).state) n in
+    let li : lm ≡ ln = f.lines ∙ (ap (λ o. ln ++ (delivers_new (config_of now) (state_of now) o).lines) n ∙ append-nil ln) in
+    let pa : past_of new ≡ past_of now = f.past ∙ (ap (λ o. past_of now ++ delivery o) n ∙ append-nil (past_of now)) in
     let en = flowing_end k now ls ln most left h (inr n) in
-    record { state = st ∙ en.state; lines = li ∙ en.lines; past = pa ∙ en.past; reached = λ x. f.reached (en.reached x) }
+    record { config = f.config ∙ en.config; state = st ∙ en.state; lines = li ∙ en.lines; past = pa ∙ en.past; reached = f.reached }
 
--- ---- a step that is taken ----
-
-taken_at : (k0 k2 k3 : Standing) (e : Event) (o : Outcome) (l0 l3 : List Line) → is_flow e ≡ false → IsDone (grown k0 e) k2 o (does k0.config k0.state e) → k3 ≡ with_state k2 (ended k2.state o).state → l3 ≡ l0 ++ (ended k2.state o).lines → IsTaken k0 l0 e k3 l3
-taken_at k0 k2 k3 e o l0 l3 f d g l =
-    let w : k3 ≡ with_state (grown k0 e) (finish (does k0.config k0.state e)).state = ended_is (grown k0 e) k2 k3 o (does k0.config k0.state e) d g in
-    let s : k3.state ≡ (serves k0.config k0.state e).state = ap (λ (x : Standing). x.state) w ∙ ap (λ (x : Stepped). x.state) (sym (serves_is k0.config k0.state e f)) in
-    record {
-      state = s;
-      lines = l ∙ ap (λ x. l0 ++ x) (ended_lines (grown k0 e) k2 o (does k0.config k0.state e) d ∙ ap (λ (x : Stepped). x.lines) (sym (serves_is k0.config k0.state e f)));
-      past = ap (λ (x : Standing). x.past) w ∙ ap (λ x. k0.past ++ x) (sym (steps_of_one k0.config k0.state e f));
-      reached = reached_more k0 k3 e (ap (λ (x : Standing). x.config) w) (ap (λ (x : Standing). x.past) w) s;
-    }
-
-pub taken_by : (k0 k1 k2 k3 : Standing) (e : Event) (o : Outcome) (l0 l3 : List Line) → is_flow e ≡ false → k1 ≡ grown k0 e → IsDone k1 k2 o (does k1.config k1.state e) → k3 ≡ with_state k2 (ended k2.state o).state → l3 ≡ l0 ++ (ended k2.state o).lines → IsTaken k0 l0 e k3 l3
-taken_by k0 k1 k2 k3 e o l0 l3 f p d g l = taken_at k0 k2 k3 e o l0 l3 f (subst (λ (k : Standing). IsDone k k2 o (does k.config k.state e)) p d) g l
-
-pub flown_by : (k0 k1 : Standing) (l0 l1 : List Line) (i : ℕ) → oldest_new k0.state.network ≡ Some i → IsTaken k0 l0 (events.Deliver i) k1 l1 → IsFlown k0 l0 true k1 l1
+pub flown_by : (k0 k1 : Cluster) (l0 l1 : List Line) (i : ℕ) → oldest_new (state_of k0).network ≡ Some i
+    → IsStep k0 k1 l0 l1 (step (config_of k0) (state_of k0) (events.Deliver i)) (steps_of (config_of k0) (state_of k0) (events.Deliver i))
+    → IsStep k0 k1 l0 l1 (delivers_oldest (config_of k0) (state_of k0)) (delivery (oldest_new (state_of k0).network))
 flown_by k0 k1 l0 l1 i h t =
-    let s : serves k0.config k0.state (events.Deliver i) ≡ delivers_oldest k0.config k0.state = serves_delivery k0.config k0.state i ∙ sym (ap (delivers_new k0.config k0.state) h) in
+    let s : step (config_of k0) (state_of k0) (events.Deliver i) ≡ delivers_oldest (config_of k0) (state_of k0) = delivery_step (config_of k0) (state_of k0) i ∙ sym (ap (delivers_new (config_of k0) (state_of k0)) h) in
     record {
-      more = sym (ap is_some h);
+      config = t.config;
+      past = t.past ∙ ap (λ x. past_of k0 ++ x) (steps_of_one (config_of k0) (state_of k0) (events.Deliver i) refl ∙ sym (ap delivery h));
       state = t.state ∙ ap (λ (x : Stepped). x.state) s;
       lines = t.lines ∙ ap (λ (x : Stepped). l0 ++ x.lines) s;
-      past = t.past ∙ ap (λ x. k0.past ++ x) (steps_of_one k0.config k0.state (events.Deliver i) refl ∙ sym (ap delivery h));
       reached = t.reached;
     }
 
-pub flown_not : (k0 k1 : Standing) (l0 : List Line) → k1 ≡ k0 → oldest_new k0.state.network ≡ None → IsFlown k0 l0 false k1 l0
-flown_not k0 k1 l0 e h = record {
-  more = sym (ap is_some h);
-  state = ap (λ (x : Standing). x.state) e ∙ sym (ap (λ o. (delivers_new k0.config k0.state o).state) h);
-  lines = sym (append-nil l0) ∙ ap (λ o. l0 ++ (delivers_new k0.config k0.state o).lines) (sym h);
-  past = ap (λ (x : Standing). x.past) e ∙ (sym (append-nil k0.past) ∙ ap (λ o. k0.past ++ delivery o) (sym h));
-  reached = reached_same k0 k1 e;
+pub flown_not : (k : Cluster) (l : List Line) → IsReached k → oldest_new (state_of k).network ≡ None
+    → IsStep k k l l (delivers_oldest (config_of k) (state_of k)) (delivery (oldest_new (state_of k).network))
+flown_not k l r h = record {
+  config = refl;
+  past = sym (append-nil (past_of k)) ∙ ap (λ o. past_of k ++ delivery o) (sym h);
+  state = ap (λ o. (delivers_new (config_of k) (state_of k) o).state) (sym h);
+  lines = sym (append-nil l) ∙ ap (λ o. l ++ (delivers_new (config_of k) (state_of k) o).lines) (sym h);
+  reached = r;
 }
 
 -- a flow that wrote its lines, and `none` where there was none
-pub flow_taken : (k0 k1 : Standing) (l0 l1 l2 : List Line) (most before : ℕ) → before ≡ length l0 → HasFlowed k0 l0 most k1 l1 → l2 ≡ (if length l1 == before then l1 ++ lines.Nothing ∷ [] else l1) → IsTaken k0 l0 (events.Flow most) k1 l2
+pub flow_taken : (k0 k1 : Cluster) (l0 l1 l2 : List Line) (most before : ℕ) → before ≡ length l0 → HasFlowed k0 l0 most k1 l1 → l2 ≡ (if length l1 == before then l1 ++ lines.Nothing ∷ [] else l1)
+    → IsStep k0 k1 l0 l2 (step (config_of k0) (state_of k0) (events.Flow most)) (steps_of (config_of k0) (state_of k0) (events.Flow most))
 flow_taken k0 k1 l0 l1 l2 most before b h e =
-    let s : serves k0.config k0.state (events.Flow most) ≡ flowed (flows most k0.config k0.state) = serves_flow k0.config k0.state most in
+    let s : step (config_of k0) (state_of k0) (events.Flow most) ≡ flowed (flows most (config_of k0) (state_of k0)) = flow_step (config_of k0) (state_of k0) most in
     record {
+      config = h.config;
+      past = h.past ∙ ap (λ x. past_of k0 ++ x) (sym (steps_of_flow (config_of k0) (state_of k0) most));
       state = h.state ∙ ap (λ (x : Stepped). x.state) (sym s);
-      lines = none_added before l0 l0 l1 l2 [] (flows most k0.config k0.state).lines b (sym (append-nil l0)) h.lines e ∙ ap (λ (x : Stepped). l0 ++ x.lines) (sym s);
-      past = h.past ∙ ap (λ x. k0.past ++ x) (sym (steps_of_flow k0.config k0.state most));
+      lines = none_added before l0 l0 l1 l2 [] (flows most (config_of k0) (state_of k0)).lines b (sym (append-nil l0)) h.lines e ∙ ap (λ (x : Stepped). l0 ++ x.lines) (sym s);
       reached = h.reached;
     }

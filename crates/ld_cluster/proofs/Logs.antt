@@ -1,17 +1,13 @@
--- What is said of a log.
-use Rattle.std.proofs.Common.{◌≡◌, ℕ, Bool, true, false, ◌==◌, List, [], ◌∷◌, refl, if◌then◌else◌}
-use Rattle.std.proofs.lemmas.Bool.{eqb-true}
+-- Logs that the configuration lacks.
+use Rattle.std.proofs.Common.{◌≡◌, ℕ, Bool, true, false, ◌||◌, ◌==◌, List, [], ◌∷◌, refl, if◌then◌else◌}
+use Rattle.ld_table.specs.Words.{any_of}
 use Rattle.ld_ids.specs.declared.set.Spec.{Spec}
-use Rattle.ld_config.specs.declared.config.Config.{Config}
-use Rattle.ld_machine.specs.Config.{spec_in}
+use Rattle.ld_machine.specs.Config.{no_spec, spec_in}
 
-log_step : (b : Bool) (l : ℕ) (s t : Spec) → (s.log == l) ≡ b → t.log ≡ l → (if b then s else t).log ≡ l
-log_step true l s t e h = eqb-true s.log l e
-log_step false l s t e h = h
+missing_by : (b d : Bool) (s t u : Spec) → (b || d) ≡ false → (d ≡ false → t ≡ u) → (if b then s else t) ≡ u
+missing_by true d s t u h k = absurd cc
+missing_by false d s t u h k = k h
 
-spec_log_in : (l : ℕ) (ss : List Spec) → (spec_in l ss).log ≡ l
-spec_log_in l [] = refl
-spec_log_in l (s ∷ ss) = log_step (s.log == l) l s (spec_in l ss) refl (spec_log_in l ss)
-
-pub spec_log : (c : Config) (l : ℕ) → (spec_in l c.logs).log ≡ l
-spec_log c l = spec_log_in l c.logs
+pub no_spec_in : (l : ℕ) (ss : List Spec) → any_of (λ s. s.log == l) ss ≡ false → spec_in l ss ≡ no_spec l
+no_spec_in l [] h = refl
+no_spec_in l (s ∷ ss) h = missing_by (s.log == l) (any_of (λ x. x.log == l) ss) s (spec_in l ss) (no_spec l) h (λ k. no_spec_in l ss k)

@@ -1,11 +1,6 @@
-pub mod Followers
-pub mod Handling
-pub mod Items
-pub mod Looked
-pub mod NodeSteps
-pub mod Outcomes
-pub mod Replies
-pub mod Reports
-pub mod Shown
 pub mod Standing
 pub mod Steps
+pub mod Outcomes
+pub mod Formats
+pub mod Ticking
+pub mod Bytes

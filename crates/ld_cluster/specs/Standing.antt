@@ -1,26 +1,43 @@
--- What a cluster stands for.
-use Rattle.std.specs.Prelude.{ℕ, ◌≡◌, List}
+-- What a cluster stands for: a state of the machine.
+use Rattle.std.specs.Prelude.{◌≡◌, List}
 use Rattle.ld_schedule.specs.declared.event.Event.{Event}
 use Rattle.ld_config.specs.declared.config.Config.{Config}
-use Rattle.ld_msg.specs.Register.{Register}
-use Rattle.ld_msg.specs.Network.{Network}
-use Rattle.ld_msg.specs.Sequencer.{Sequencer}
-use Rattle.ld_reader.specs.Following.{Following}
-use Rattle.ld_machine.specs.Disk.{Node}
+use Rattle.ld_config.specs.Bounds.{IsInBounds}
 use Rattle.ld_machine.specs.State.{State, start}
-use Rattle.ld_cluster.specs.Followers.{readers_of}
-use Rattle.ld_cluster.specs.Steps.{after_steps}
+use Rattle.ld_machine.specs.Run.{state_after}
+use Rattle.ld_bounds.specs.Sound.{IsSound}
+use Rattle.ld_register.specs.Arming.{Foresees}
+use Rattle.ld_host.specs.Standing.{AreHosts}
+use Rattle.ld_clients.specs.Acting.{AreSequencers}
+use Rattle.ld_clients.specs.Reads.{AreReaders}
+use Rattle.ld_cluster.specs.declared.cluster.Cluster.{Cluster}
 
--- the configuration, the steps that were taken, each with its event, and the machine's state
-pub record Standing : Type 0 where
-  pub config : Config
-  pub past : List Event
-  pub state : State
+-- its configuration
+abbrev pub config_of : Cluster → Config
+config_of k = k.config
 
--- the state is the one that the steps lead to
-abbrev pub IsReached : Standing → Type 0
-IsReached s = s.state ≡ after_steps s.config (start s.config) s.past
+-- the steps that it took, each with its event; of a flow each delivery is one
+abbrev pub past_of : Cluster → List Event
+past_of k = k.past.items
 
--- a cluster by its parts
-abbrev pub seen : Config → List Event → List (ℕ × Node) → Register → Network → List (List ℕ × Sequencer) → List (List ℕ × Following) → Standing
-seen config past nodes register network sequencers followers = record { config = config; past = past; state = record { nodes = nodes; register = register; network = network; sequencers = sequencers; readers = readers_of followers } }
+-- the state that its steps lead to
+abbrev pub state_of : Cluster → State
+state_of k = state_after (config_of k) (start (config_of k)) (past_of k)
+
+-- each part is what the state says of it: each node with the bytes of its own disk, and the register with those of its own
+pub record Parts (k : Cluster) (s : State) : Type 0 where
+  pub nodes : AreHosts k.config k.hosts s.nodes
+  pub register : Foresees k.register s.register
+  pub network : s.network ≡ k.network
+  pub sequencers : AreSequencers k.config s k.sequencers
+  pub readers : AreReaders k.config s k.readers
+
+-- it stands for a state that a run of its configuration may reach
+pub record Stands (k : Cluster) (s : State) : Type 0 where
+  pub parts : Parts k s
+  pub bounds : IsInBounds (config_of k)
+  pub sound : IsSound (config_of k) s
+
+-- it stands for the state that its steps lead to
+abbrev pub IsReached : Cluster → Type 0
+IsReached k = Stands k (state_of k)

@@ -1,21 +1,15 @@
 -- The steps of a cluster: an event is one step, but for a flow, each of whose deliveries is one.
-use Rattle.std.specs.Prelude.{ℕ, suc, zero, List, [], ◌∷◌, Option, Some, None}
+use Rattle.std.specs.Prelude.{ℕ, suc, zero, ◌≡◌, ◌≤◌, List, [], ◌∷◌, ◌++◌, Option, Some, None, Bool, true, false}
 use Rattle.ld_schedule.specs.declared.event.Event.{Event}
 use Rattle.ld_schedule.specs.declared.event.Event.TheVariants as events
+use Rattle.ld_transcript.specs.declared.line.Line.{Line}
 use Rattle.ld_config.specs.declared.config.Config.{Config}
 use Rattle.ld_msg.specs.Network.{oldest_new}
 use Rattle.ld_machine.specs.State.{State, Stepped, finish}
 use Rattle.ld_machine.specs.Step.{delivers}
-use Rattle.ld_machine.specs.Served.{One, served_step}
-
--- what is done of the machine's step: the first stage
-abbrev pub serves : Config → State → Event → Stepped
-serves c s e = served_step One c s e
-
--- the state after some steps
-unfoldable pub after_steps : Config → State → List Event → State
-after_steps c s [] = s
-after_steps c s (e ∷ es) = after_steps c (serves c s e).state es
+use Rattle.ld_machine.specs.Run.{flows}
+use Rattle.ld_cluster.specs.Standing.{config_of, past_of, state_of, IsReached}
+use Rattle.ld_cluster.specs.declared.cluster.Cluster.{Cluster}
 
 -- ---- one delivery of a flow ----
 
@@ -41,3 +35,39 @@ more_deliveries c s (suc k) (Some i) = events.Deliver i ∷ more_deliveries c (f
 unfoldable pub steps_of : Config → State → Event → List Event
 steps_of c s (events.Flow k) = more_deliveries c s k (oldest_new s.network)
 steps_of c s e = e ∷ []
+
+abbrev pub is_flow : Event → Bool
+is_flow (events.Flow most) = true
+is_flow _ = false
+
+-- a call of a disk or a change of the register is counted from 1 on
+abbrev pub Counts : Event → Type 0
+Counts (events.Fail node call) = 1 ≤ call
+Counts (events.Tear node call picture) = 1 ≤ call
+Counts (events.RegFail call done) = 1 ≤ call
+Counts _ = Unit {0}
+
+-- ---- a step that was taken ----
+
+pub record IsStep (old new : Cluster) (lines_old lines_new : List Line) (stepped : Stepped) (steps : List Event) : Type 0 where
+  pub config : config_of new ≡ config_of old
+  pub past : past_of new ≡ past_of old ++ steps
+  pub state : state_of new ≡ stepped.state
+  pub lines : lines_new ≡ lines_old ++ stepped.lines
+  pub reached : IsReached new
+
+-- so many deliveries were made, as long as a message was new
+pub record HasFlowed (old : Cluster) (lines_old : List Line) (most : ℕ) (new : Cluster) (lines_new : List Line) : Type 0 where
+  pub config : config_of new ≡ config_of old
+  pub past : past_of new ≡ past_of old ++ more_deliveries (config_of old) (state_of old) most (oldest_new (state_of old).network)
+  pub state : state_of new ≡ (flows most (config_of old) (state_of old)).state
+  pub lines : lines_new ≡ lines_old ++ (flows most (config_of old) (state_of old)).lines
+  pub reached : IsReached new
+
+-- some of the deliveries of a flow were made
+pub record IsFlowing (old : Cluster) (lines_old : List Line) (most : ℕ) (now : Cluster) (lines_now : List Line) (left : ℕ) : Type 0 where
+  pub config : config_of now ≡ config_of old
+  pub state : (flows left (config_of old) (state_of now)).state ≡ (flows most (config_of old) (state_of old)).state
+  pub lines : lines_now ++ (flows left (config_of old) (state_of now)).lines ≡ lines_old ++ (flows most (config_of old) (state_of old)).lines
+  pub past : past_of now ++ more_deliveries (config_of old) (state_of now) left (oldest_new (state_of now).network) ≡ past_of old ++ more_deliveries (config_of old) (state_of old) most (oldest_new (state_of old).network)
+  pub reached : IsReached now

@@ -1,75 +1,66 @@
 // The cluster.
-ghost use Rattle.std.specs.Prelude.{◌≡◌, [], ◌++◌, is_some, IfOk, OnOk};
+ghost use Rattle.std.specs.Prelude.{◌≡◌, [], is_some, IfOk, OnOk};
 ghost use Rattle.ld_config.specs.Bounds.{IsInBounds};
+ghost use Rattle.ld_disk.specs.Memory.{disk_plain};
+ghost use Rattle.ld_disk.specs.Plain.{new_disk};
 ghost use Rattle.ld_msg.specs.Network.{oldest_new};
-ghost use Rattle.ld_machine.specs.State.{start};
-ghost use Rattle.ld_cluster.specs.Standing.{IsReached};
-ghost use Rattle.ld_cluster.specs.Steps.{serves, delivers_oldest, delivery, steps_of};
+ghost use Rattle.ld_machine.specs.Run.{step};
+ghost use Rattle.ld_cluster.specs.Standing.{config_of, past_of, state_of, IsReached};
+ghost use Rattle.ld_cluster.specs.Steps.{IsStep, Counts, delivers_oldest, delivery, steps_of};
 
-use crate::nodes::Nodes;
-use crate::readers::Readers;
-use crate::register::Register;
-use crate::sequencers::Sequencers;
+use ld_clients::{Readers, Sequencers};
 use ld_config::Config;
+use ld_disk::MemDisk;
+use ld_host::Hosts;
 use ld_ids::NoMemory;
 use ld_net::Net;
+use ld_register::FaultyRegister;
 use ld_schedule::Event;
 use ld_transcript::Lines;
 use std::alloc::Global;
-use std::marker::Model;
 
 /// A cluster that takes a schedule's events one after the other, and the steps that it took.
+///
+/// Each node is a store on a disk in memory of its own, and so is the register; both fail and crash where events tell
+/// them to.
 #[derive(Drop)]
 pub struct Cluster {
     pub(crate) config: Config,
     pub(crate) past: Vec<Event>,
-    pub(crate) nodes: Nodes,
-    pub(crate) register: Register,
+    pub(crate) hosts: Hosts,
+    pub(crate) register: FaultyRegister<MemDisk>,
     pub(crate) network: Net,
     pub(crate) sequencers: Sequencers,
     pub(crate) readers: Readers,
 }
 
-impl Model for Cluster {
-    ghost use Rattle.ld_cluster.specs.Standing.{Standing, seen};
-    ghost use Rattle.ld_cluster.specs.Outcomes.{IsWell};
-
-    ghost Value = { Standing };
-
-    ghost view = { λ c. seen c.config c.past.items c.nodes c.register c.network c.sequencers c.readers };
-
-    ghost invariant = { λ c. IsWell c.config c.network c.readers };
-}
-
 impl Cluster {
-    /// A new cluster of this configuration: all nodes are blank.
+    /// A new cluster of this configuration: all nodes are blank, on new disks.
     pub fn new(alloc: Global, config: Config) -> Result<Cluster, NoMemory>
         requires { IsInBounds config }
-        ensures config { IfOk result (λ cluster. cluster.config ≡ config) }
-        ensures past { IfOk result (λ cluster. cluster.past ≡ []) }
-        ensures state { IfOk result (λ cluster. cluster.state ≡ start config) }
+        ensures config { IfOk result (λ cluster. config_of cluster ≡ config) }
+        ensures past { IfOk result (λ cluster. past_of cluster ≡ []) }
         ensures reached { IfOk result (λ cluster. IsReached cluster) }
     {
-        let nodes = Nodes::new(alloc, &config.nodes)?;
+        let hosts = Hosts::new(alloc, &config)?;
+        let disk = new_disk(alloc)?;
         Ok(Cluster {
             config,
             past: Vec::new(alloc),
-            nodes,
-            register: Register::new(alloc),
+            hosts,
+            register: FaultyRegister::new(alloc, disk),
             network: Net::new(alloc),
             sequencers: Sequencers::new(alloc),
             readers: Readers::new(alloc),
         })
     }
 
-    /// Takes the event, and adds its lines. An event that isn't served yet changes nothing and
-    /// writes `none`. After an `Err` the cluster may have done a part, and is of no use.
+    /// Takes the event as one step of the machine, or, for a `flow`, as one step for each delivery, and adds the lines.
+    /// After an `Err` the cluster may have done a part, and is of no use.
     pub fn step(&mut self, alloc: Global, event: &Event, lines: &mut Lines) -> Result<(), NoMemory>
-        ensures config { self.new.config ≡ self.old.config }
-        ensures state { OnOk result (self.new.state ≡ (serves self.old.config self.old.state event.now).state) }
-        ensures lines { OnOk result (lines.new ≡ lines.old ++ (serves self.old.config self.old.state event.now).lines) }
-        ensures past { OnOk result (self.new.past ≡ self.old.past ++ steps_of self.old.config self.old.state event.now) }
-        ensures reached { OnOk result (IsReached self.old → IsReached self.new) }
+        requires reached { IsReached self.old }
+        requires counts { Counts event.now }
+        ensures { OnOk result (IsStep self.old self.new lines.old lines.new (step (config_of self.old) (state_of self.old) event.now) (steps_of (config_of self.old) (state_of self.old) event.now)) }
     {
         if let Event::Flow { most } = event {
             self.flow_most(alloc, *most, lines)?;
@@ -79,16 +70,12 @@ impl Cluster {
         Ok(())
     }
 
-    /// Delivers the oldest new message, and adds the lines of that step. Answers false exactly
-    /// where no message is new: nothing changes then. After an `Err` the cluster may have done a
-    /// part, and is of no use.
+    /// Delivers the oldest new message, and adds the lines of that step. Answers false exactly where no message is new:
+    /// nothing changes then. After an `Err` the cluster may have done a part, and is of no use.
     pub fn flow(&mut self, alloc: Global, lines: &mut Lines) -> Result<bool, NoMemory>
-        ensures config { self.new.config ≡ self.old.config }
-        ensures more { IfOk result (λ more. more ≡ is_some (oldest_new self.old.state.network)) }
-        ensures state { OnOk result (self.new.state ≡ (delivers_oldest self.old.config self.old.state).state) }
-        ensures lines { OnOk result (lines.new ≡ lines.old ++ (delivers_oldest self.old.config self.old.state).lines) }
-        ensures past { OnOk result (self.new.past ≡ self.old.past ++ delivery (oldest_new self.old.state.network)) }
-        ensures reached { OnOk result (IsReached self.old → IsReached self.new) }
+        requires reached { IsReached self.old }
+        ensures more { IfOk result (λ more. more ≡ is_some (oldest_new (state_of self.old).network)) }
+        ensures step { OnOk result (IsStep self.old self.new lines.old lines.new (delivers_oldest (config_of self.old) (state_of self.old)) (delivery (oldest_new (state_of self.old).network))) }
     {
         let Some(message) = self.network.oldest_new() else {
             return Ok(false);
@@ -96,5 +83,15 @@ impl Cluster {
         let event = Event::Deliver { message };
         self.take(alloc, &event, lines)?;
         Ok(true)
+    }
+}
+
+/// A new disk for the register.
+fn new_disk(alloc: Global) -> Result<MemDisk, NoMemory>
+    ensures { IfOk result (λ disk. disk_plain disk ≡ new_disk) }
+{
+    match MemDisk::new(alloc) {
+        Ok(disk) => Ok(disk),
+        Err(_) => Err(NoMemory),
     }
 }

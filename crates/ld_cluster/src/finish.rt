@@ -1,30 +1,28 @@
 // How a step ends: its messages are sent, and its lines written.
-ghost use Rattle.std.specs.Prelude.{◌≡◌, ◌==◌, ◌∷◌, [], ◌++◌, true, length, if◌then◌else◌, IfOk, OnOk, option_copied};
+ghost use Rattle.std.specs.Prelude.{◌≡◌, ◌==◌, ◌∷◌, [], ◌++◌, length, if◌then◌else◌, IfOk, OnOk, option_copied};
 ghost use Rattle.ld_transcript.specs.declared.line.Line.TheVariants.{Nothing};
-ghost use Rattle.ld_machine.specs.State.{actor_of, message_line, message_lines, sent_state};
-ghost use Rattle.ld_cluster.specs.Outcomes.{AreFair, is_fair, with_state, with_message, ended, name_or_empty};
+ghost use Rattle.ld_machine.specs.State.{State, actor_of, message_line};
+ghost use Rattle.ld_cluster.specs.Standing.{Parts};
+ghost use Rattle.ld_cluster.specs.Outcomes.{IsFinished, IsSent, ended, name_or_empty};
 
 use crate::cluster::Cluster;
 use crate::kinds::{kind_of, shown};
-use crate::outcome::Outcome;
+use ld_clients::Outcome;
 use ld_ids::{LogId, Name, NoMemory};
 use ld_msg::{Msg, Outbox, Who};
 use ld_transcript::{Actor, Line, Lines};
 use std::alloc::Global;
 
 impl Cluster {
-    /// Sends the messages, and writes the lines: those of the outcome, one for each message, and
-    /// `none` where there is no other.
+    /// Sends the messages, and writes the lines: those of the outcome, one for each message, and `none` where there is
+    /// no other.
     pub(crate) fn finish(
         &mut self,
         alloc: Global,
         outcome: Outcome,
         lines: &mut Lines,
     ) -> Result<(), NoMemory>
-        requires { AreFair outcome.sends }
-        ensures config { self.new.config ≡ self.old.config }
-        ensures standing { OnOk result (self.new ≡ with_state self.old (ended self.old.state outcome).state) }
-        ensures lines { OnOk result (lines.new ≡ lines.old ++ (ended self.old.state outcome).lines) }
+        ensures { (s : State) → Parts self.old s → OnOk result (IsFinished self.old self.new lines.old lines.new (ended s outcome)) }
     {
         let before = lines.len();
         add_all(outcome.lines, lines)?;
@@ -35,10 +33,7 @@ impl Cluster {
 
     /// Sends messages, and adds their lines.
     fn send_each(&mut self, alloc: Global, sends: Outbox, lines: &mut Lines) -> Result<(), NoMemory>
-        requires { AreFair sends }
-        ensures config { self.new.config ≡ self.old.config }
-        ensures standing { OnOk result (self.new ≡ with_state self.old (sent_state self.old.state sends)) }
-        ensures lines { OnOk result (lines.new ≡ lines.old ++ message_lines self.old.state self.old.state.network.count sends) }
+        ensures { (s : State) → Parts self.old s → OnOk result (IsSent self.old self.new lines.old lines.new s sends) }
     {
         for msg in sends.into_vec() {
             self.send(alloc, msg, lines)?;
@@ -48,10 +43,7 @@ impl Cluster {
 
     /// Sends a message, and adds its line.
     fn send(&mut self, alloc: Global, msg: Msg, lines: &mut Lines) -> Result<(), NoMemory>
-        requires { is_fair msg ≡ true }
-        ensures config { self.new.config ≡ self.old.config }
-        ensures standing { OnOk result (self.new ≡ with_message self.old msg) }
-        ensures lines { OnOk result (lines.new ≡ lines.old ++ message_line self.old.state self.old.state.network.count msg ∷ []) }
+        ensures { (s : State) → Parts self.old s → OnOk result (IsSent self.old self.new lines.old lines.new s (msg ∷ [])) }
     {
         let line = self.message_line(alloc, &msg)?;
         lines.push(line)?;
@@ -61,7 +53,7 @@ impl Cluster {
 
     /// The line of the next message.
     fn message_line(&self, alloc: Global, msg: &Msg) -> Result<Line, NoMemory>
-        ensures { IfOk result (λ line. line ≡ message_line self.now.state self.now.state.network.count msg.now) }
+        ensures { (s : State) → Parts self.now s → IfOk result (λ line. line ≡ message_line s s.network.count msg.now) }
     {
         let from = self.actor(alloc, msg.log, &msg.from)?;
         let to = self.actor(alloc, msg.log, &msg.to)?;
@@ -76,7 +68,7 @@ impl Cluster {
 
     /// An end of a message of a log.
     fn actor(&self, alloc: Global, log: LogId, who: &Who) -> Result<Actor, NoMemory>
-        ensures { IfOk result (λ actor. actor ≡ actor_of self.now.state log who.now) }
+        ensures { (s : State) → Parts self.now s → IfOk result (λ actor. actor ≡ actor_of s log who.now) }
     {
         match who {
             Who::Node(node) => Ok(Actor::Node(*node)),

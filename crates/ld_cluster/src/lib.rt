@@ -1,30 +1,21 @@
-//! A cluster: nodes, a register, sequencers, readers and all messages between them, event by event.
+//! A cluster: nodes on their disks, a register, sequencers, readers and all messages between them, event by event.
 #![tactic(auto)]
 
-mod append;
-mod appends;
-mod choice;
+mod calls;
 mod cluster;
 mod copy;
 mod deliver;
+mod disks;
 mod finish;
+mod flow;
 mod formats;
-mod handled;
 mod kinds;
-mod length;
+mod law;
 mod lines;
 mod lookup;
-mod node;
 mod nodes;
-mod opens;
-mod outcome;
-mod post;
-mod readers;
-mod register;
-mod report;
-mod sequencer;
-mod sequencers;
-mod served;
-mod taking;
+mod take;
+mod ticks;
 
 pub use cluster::Cluster;
+pub use law::bytes_stand_for_the_state;

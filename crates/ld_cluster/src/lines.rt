@@ -1,49 +1,83 @@
-// The lines of a formatted node and of a reader's items.
-ghost use Rattle.std.specs.Prelude.{◌≡◌, ◌++◌, ℕ, List, IfOk, OnOk};
-ghost use Rattle.ld_transcript.specs.declared.line.Line.TheVariants.{Gap};
-ghost use Rattle.ld_msg.specs.Reading.{Item as Seen};
-ghost use Rattle.ld_msg.specs.Register.{epochs_of};
-ghost use Rattle.ld_machine.specs.Step.{format_lines, lost_line};
-ghost use Rattle.ld_cluster.specs.Items.{given_line, given_lines};
+// The lines of nodes.
+ghost use Rattle.std.specs.Prelude.{◌≡◌, ◌++◌, ◌∷◌, [], IfOk, OnOk};
+ghost use Rattle.ld_host.specs.Done.{shown_kept};
+ghost use Rattle.ld_machine.specs.Step.{kept_lines, lost_line};
+ghost use Rattle.ld_cluster.specs.Formats.{epoch_among, drawn_lines};
 
-use crate::register::Register;
 use ld_config::Config;
-use ld_ids::{Name, NoMemory, NodeId, Spec};
-use ld_lsn::Lsn;
-use ld_reader::{Given, Item};
-use ld_transcript::{GapKind, Line};
+use ld_host::Kept;
+use ld_ids::{LogId, NoMemory, NodeId, Spec};
+use ld_op::Epochs;
+use ld_register::Drawn;
+use ld_transcript::Line;
 use std::alloc::Global;
 
+/// One line.
+pub(crate) fn one_line(alloc: Global, line: Line) -> Result<Vec<Line>, NoMemory>
+    ensures { IfOk result (λ lines. lines.items ≡ line ∷ []) }
+{
+    let mut lines = Vec::new(alloc);
+    lines.push(line)?;
+    Ok(lines)
+}
+
+/// The line of a record that wasn't kept, and the given ones of one that was.
+pub(crate) fn kept(
+    alloc: Global,
+    node: NodeId,
+    end: Kept,
+    written: Vec<Line>,
+) -> Result<Vec<Line>, NoMemory>
+    ensures { IfOk result (λ lines. lines.items ≡ kept_lines node written.items (shown_kept end)) }
+{
+    match end {
+        Kept::Written => Ok(written),
+        Kept::Failed => {
+            let lines = one_line(alloc, Line::NodeFailed { node })?;
+            Ok(lines)
+        }
+        Kept::Crashed => {
+            let lines = one_line(alloc, Line::NodeDown { node })?;
+            Ok(lines)
+        }
+        Kept::Full => {
+            let lines = one_line(alloc, Line::NodeFull { node })?;
+            Ok(lines)
+        }
+    }
+}
+
 /// The lines of a formatted node: its generation, and the logs for which it is lost.
-pub fn format_lines(
+pub(crate) fn format_lines(
     alloc: Global,
     config: &Config,
     node: NodeId,
-    register: &Register,
+    drawn: &Drawn,
 ) -> Result<Vec<Line>, NoMemory>
-    ensures { IfOk result (λ lines. lines.items ≡ format_lines config.now node register.now) }
+    ensures { IfOk result (λ lines. lines.items ≡ drawn_lines config.now node drawn.now) }
 {
     let mut lines = Vec::new(alloc);
     lines.push(Line::NodeFormatted {
         node,
-        generation: register.generation(node),
+        generation: drawn.gen_,
     })?;
     let specs = config.logs.as_slice();
     for spec in specs {
-        add_lost(node, register, spec, &mut lines)?;
+        add_lost(node, &drawn.epochs, spec, &mut lines)?;
     }
     Ok(lines)
 }
 
+/// Adds the line of a log for which the node is lost, where it is.
 fn add_lost(
     node: NodeId,
-    register: &Register,
+    epochs: &Epochs,
     spec: &Spec,
     lines: &mut Vec<Line>,
 ) -> Result<(), NoMemory>
-    ensures { OnOk result (lines.new.items ≡ lines.old.items ++ lost_line node (epochs_of register.now spec.now.log).epoch spec.now) }
+    ensures { OnOk result (lines.new.items ≡ lines.old.items ++ lost_line node (epoch_among spec.now.log epochs.now) spec.now) }
 {
-    let epoch = register.epoch(spec.log);
+    let epoch = epoch_in(epochs, spec.log);
     if spec.set.has(node) && 0 < epoch {
         lines.push(Line::NodeLost {
             node,
@@ -54,48 +88,14 @@ fn add_lost(
     Ok(())
 }
 
-/// Adds the lines of a reader's items, none of which passes its last number.
-pub fn add_items(
-    alloc: Global,
-    name: &Name,
-    items: &[Given],
-    lines: &mut Vec<Line>,
-) -> Result<(), NoMemory>
-    ensures { OnOk result (lines.new.items ≡ lines.old.items ++ given_lines name.now items.now) }
+/// The epoch of the log, 0 where it has none.
+fn epoch_in(epochs: &Epochs, log: LogId) -> u32
+    ensures { result ≡ epoch_among log epochs.now }
 {
-    for given in items {
-        let line = given_line(alloc, name, given)?;
-        lines.push(line)?;
+    for (other, epoch) in epochs.as_slice() {
+        if *other == log {
+            return *epoch;
+        }
     }
-    Ok(())
-}
-
-/// The line of an item.
-fn given_line(alloc: Global, name: &Name, given: &Given) -> Result<Line, NoMemory>
-    ensures { IfOk result (λ line. line ≡ given_line name.now given.now.0 given.now.1) }
-{
-    let name = name.copy(alloc)?;
-    let from = given.from;
-    match &given.item {
-        Item::Record(payload) => Ok(Line::Record {
-            name,
-            number: from,
-            payload: payload.copy(alloc)?,
-        }),
-        Item::Trim(last) => Ok(gap(name, GapKind::Trim, from, *last)),
-        Item::Hole => Ok(gap(name, GapKind::Hole, from, from)),
-        Item::Bridge(last) => Ok(gap(name, GapKind::Bridge, from, *last)),
-        Item::Loss => Ok(gap(name, GapKind::DataLoss, from, from)),
-    }
-}
-
-fn gap(name: Name, kind: GapKind, low: Lsn, high: Lsn) -> Line
-    ensures { result ≡ Gap name kind low high }
-{
-    Line::Gap {
-        name,
-        kind,
-        low,
-        high,
-    }
+    0
 }

@@ -1,26 +1,13 @@
 // What the configuration says of a log.
-ghost use Rattle.std.specs.Prelude.{◌≡◌, true, false, IfSome, IfNone};
-ghost use Rattle.ld_machine.specs.Config.{no_spec, spec_in, has_log};
+ghost use Rattle.std.specs.Prelude.{◌≡◌};
+ghost use Rattle.ld_machine.specs.Config.{spec_in};
 
+use ld_clients::find_spec;
 use ld_config::Config;
 use ld_ids::{LogId, NodeSet, Spec};
 
-/// What is said of the log, where it is one of the configuration's.
-pub fn find_spec(config: &Config, log: LogId) -> Option<Spec>
-    ensures found { IfSome result (λ spec. (spec ≡ spec_in log config.now.logs) × (has_log config.now log ≡ true)) }
-    ensures none { IfNone result ((spec_in log config.now.logs ≡ no_spec log) × (has_log config.now log ≡ false)) }
-{
-    let specs = config.logs.as_slice();
-    for spec in specs {
-        if spec.log == log {
-            return Some(*spec);
-        }
-    }
-    None
-}
-
 /// What is said of the log. One that is none of the configuration's has no nodes.
-pub fn spec_for(config: &Config, log: LogId) -> Spec
+pub(crate) fn spec_for(config: &Config, log: LogId) -> Spec
     ensures { result ≡ spec_in log config.now.logs }
 {
     match find_spec(config, log) {

@@ -9,8 +9,6 @@ mod row;
 mod send;
 #[cfg(test)]
 mod tests;
-#[cfg(test)]
-mod ways;
 mod whole;
 
 pub use fault::SequencerFault;

@@ -1,6 +1,6 @@
 use Rattle.std.proofs.Common.{ap, length, arith, ◌∙◌}
 use Rattle.std.proofs.lemmas.Result.{err_from_is_err_and}
-use Rattle.ld_cli.proofs.PlayLoop.{begun, played, replayed, off_first, off_later, cut_here, cut_in, at_end, read_cuts, write_cuts, write_stops}
+use Rattle.ld_cli.proofs.PlayLoop.{begun, played, replayed, off_first, off_later, cut_here, cut_in, at_end, read_cuts, write_cuts, write_stops, spelt_counts}
 use Rattle.ld_cli.proofs.replay.replay.Goals as goal
 
 pub events-init : goal.events-init
@@ -8,7 +8,7 @@ events-init g c =
     let empty = c.in_ok-buffer.ensures in
     let taken = rw (c.in-Taken.is, empty) at c.in_ok-config.ensures.taken in
     let fewer = rw c.in-Taken.is at c.in_ok-config.ensures.budget in (
-      begun _ _ _ c.in-Taken.config _ c.in_ok-cluster.ensures.config c.in_ok-cluster.ensures.state taken,
+      begun _ _ _ c.in-Taken.config _ c.in_ok-cluster.ensures.config c.in_ok-cluster.ensures.past c.in_ok-cluster.ensures.reached taken,
       omega (arith, fewer, ap length empty),
       c.in_ok-config.ensures.later,
       omega arith,
@@ -53,3 +53,9 @@ pub returns-in_err-perform-in-Taken-2-clause-cause : goal.returns-in_err-perform
 returns-in_err-perform-in-Taken-2-clause-cause g c =
     let p = err_from_is_err_and c.from_residual-in_err-perform-in-Taken-2.result c.from_residual-in_err-perform-in-Taken-2.ensures.1 in
     rw (p.1, p.2) (write_stops _ _ _ _ _ _ c.events.invariant.3 c.in_err-perform-in-Taken-2.ensures.cause)
+
+pub perform-requires-clause-reached : goal.perform-requires-clause-reached
+perform-requires-clause-reached g c = c.events.invariant.0.reached
+
+pub perform-requires-clause-counts : goal.perform-requires-clause-counts
+perform-requires-clause-counts g c = spelt_counts _ (rw c.in-Taken-2.is at c.in_ok-event.ensures.taken).0

@@ -1,4 +1,4 @@
-use Rattle.std.proofs.Common.{◌≡◌, ◌++◌, ◌∷◌, [], ◌∙◌, ap, sym, append_assoc}
+use Rattle.std.proofs.Common.{◌++◌, ◌∷◌, [], ◌∙◌, ap, sym, append_assoc}
 use Rattle.ld_cluster.proofs.finish.add_all.Goals as goal
 
 pub loop-line-preserved : goal.loop-line-preserved

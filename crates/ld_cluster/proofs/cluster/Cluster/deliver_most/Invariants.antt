@@ -1,4 +1,4 @@
-use Rattle.ld_cluster.specs.Outcomes.{IsFlowing}
+use Rattle.ld_cluster.specs.Steps.{IsFlowing}
 use Rattle.ld_cluster.proofs.cluster.Cluster.deliver_most.Given as goal
 
 abbrev pub invariant-deliveries : goal.invariant-deliveries

@@ -1,14 +1,17 @@
-use Rattle.std.proofs.Common.{◌≡◌, ◌∙◌, sym, ap, subst}
-use Rattle.ld_table.specs.Words.{is_in}
-use Rattle.ld_ids.specs.declared.set.Spec.{Spec}
-use Rattle.ld_ids.specs.Set.{members}
-use Rattle.ld_machine.specs.Step.{to_node}
-use Rattle.ld_cluster.specs.Standing.{Standing, seen}
-use Rattle.ld_cluster.specs.Outcomes.{IsDone}
-use Rattle.ld_cluster.proofs.Events.{node_done}
+use Rattle.std.proofs.Common.{◌∙◌, sym}
+use Rattle.ld_cluster.specs.Standing.{state_of}
+use Rattle.ld_machine.specs.Step.{marked, kept_lines}
+use Rattle.ld_cluster.proofs.Chosen.{first_of, second_of}
+use Rattle.ld_cluster.proofs.Parting.{up_is}
+use Rattle.ld_cluster.proofs.Delivering.{not_served, served_done}
 use Rattle.ld_cluster.proofs.cluster.Cluster.to_node.Goals as goal
 
-pub returns-clause-done : goal.returns-clause-done
-returns-clause-done c = subst (λ (k : Standing). IsDone k (seen c.self.inside.config c.self.inside.past.items c.on_message.new.self c.self.inside.register c.self.inside.network c.self.inside.sequencers c.self.inside.readers) c.in_ok-outcome.outcome (to_node k.config k.state c.args.node c.args.msg.now)) c.self.view_is
-    (node_done c.self.inside.config c.self.inside.past.items c.self.inside.nodes c.self.inside.register c.self.inside.network c.self.inside.sequencers c.self.inside.readers c.args.node c.args.msg.now c.on_message.new.self c.in_ok-outcome.outcome (sym c.is_up.ensures ∙ c.if-not-is_up.false)
-    (ap (λ (x : Spec). is_in c.args.node (members x.set)) (sym c.spec_for-spec.ensures) ∙ (sym c.has.ensures.member ∙ c.if-not-has.false)) c.in_ok-outcome.ensures.nodes c.in_ok-outcome.ensures.lines c.in_ok-outcome.ensures.sends)
+pub returns-then-not-serves : goal.returns-then-not-serves
+returns-then-not-serves c = not_served c.args.self.now (marked (state_of c.args.self.now) c.args.number) c.args.node c.args.msg.now c.nothing.result c.requires.stands.parts (sym (c.serves.ensures (marked (state_of c.args.self.now) c.args.number) c.requires.stands.parts) ∙ c.if-not-serves.true) c.nothing.ensures.lines c.nothing.ensures.sends
+
+pub returns : goal.returns
+returns c =
+    let b = sym (c.serves.ensures (marked (state_of c.args.self.now) c.args.number) c.requires.stands.parts) ∙ c.if-not-serves.false in
+    let d = c.in_ok-end.ensures _ (marked (state_of c.args.self.now) c.args.number).nodes c.requires.stands.parts.nodes (up_is _ (first_of _ _ b)) c.requires.stands.bounds c.requires.to (second_of _ _ b) in
+    served_done c.args.self.now (marked (state_of c.args.self.now) c.args.number) c.on_msg.new.self c.args.node c.args.msg.now (record { lines = c.in_ok-lines.lines; sends = c.in_ok-end.sends }) c.requires.stands.parts b d.0
+    (c.in_ok-lines.ensures ∙ (λ i. kept_lines c.args.node (c.new.ensures.items i) (d.1 i))) d.2

@@ -1,6 +1,0 @@
-use Rattle.std.proofs.Common.{◌≡◌, drop}
-use Rattle.ld_table.specs.Words.{is_in}
-use Rattle.ld_cluster.proofs.choice.is_among.Given as goal
-
-abbrev pub invariant-loop-other : goal.invariant-loop-other
-invariant-loop-other l = is_in l.node (drop l.other-index l.nodes) ≡ is_in l.node l.nodes

@@ -1,0 +1,102 @@
+// What the callers of a cluster do: sequencers and readers.
+ghost use Rattle.std.specs.Prelude.{IfOk};
+ghost use Rattle.ld_schedule.specs.declared.event.Event.TheVariants.{Activate, Append, Trim, Retry, Drop, Open, Poll};
+ghost use Rattle.ld_machine.specs.Step.{happens};
+ghost use Rattle.ld_cluster.specs.Standing.{config_of, state_of, IsReached};
+ghost use Rattle.ld_cluster.specs.Outcomes.{IsDone};
+
+use crate::cluster::Cluster;
+use ld_clients::Outcome;
+use ld_ids::{LogId, Name, NoMemory, Payload};
+use ld_lsn::Lsn;
+use std::alloc::Global;
+
+impl Cluster {
+    /// A new sequencer of a log, of its next epoch.
+    pub(crate) fn activate(
+        &mut self,
+        alloc: Global,
+        name: &Name,
+        log: LogId,
+    ) -> Result<Outcome, NoMemory>
+        requires reached { IsReached self.old }
+        ensures { IfOk result (λ outcome. IsDone self.old self.new outcome (happens (config_of self.old) (state_of self.old) (Activate name.now log))) }
+    {
+        let outcome = self
+            .sequencers
+            .activate(alloc, &self.config, name, log, &mut self.register)?;
+        Ok(outcome)
+    }
+
+    /// A sequencer numbers a payload.
+    pub(crate) fn append(
+        &mut self,
+        alloc: Global,
+        name: &Name,
+        payload: &Payload,
+    ) -> Result<Outcome, NoMemory>
+        requires reached { IsReached self.old }
+        ensures { IfOk result (λ outcome. IsDone self.old self.new outcome (happens (config_of self.old) (state_of self.old) (Append name.now payload.now))) }
+    {
+        let outcome = self.sequencers.append(alloc, name, payload)?;
+        Ok(outcome)
+    }
+
+    /// A sequencer trims its log.
+    pub(crate) fn trim(
+        &mut self,
+        alloc: Global,
+        name: &Name,
+        point: Lsn,
+    ) -> Result<Outcome, NoMemory>
+        requires reached { IsReached self.old }
+        ensures { IfOk result (λ outcome. IsDone self.old self.new outcome (happens (config_of self.old) (state_of self.old) (Trim name.now point))) }
+    {
+        let outcome = self.sequencers.trim(alloc, name, point)?;
+        Ok(outcome)
+    }
+
+    /// A sequencer asks and sends again.
+    pub(crate) fn retry(&mut self, alloc: Global, name: &Name) -> Result<Outcome, NoMemory>
+        requires reached { IsReached self.old }
+        ensures { IfOk result (λ outcome. IsDone self.old self.new outcome (happens (config_of self.old) (state_of self.old) (Retry name.now))) }
+    {
+        let outcome = self.sequencers.retry(alloc, name, &mut self.register)?;
+        Ok(outcome)
+    }
+
+    /// A sequencer is gone.
+    pub(crate) fn retire(&mut self, alloc: Global, name: &Name) -> Result<Outcome, NoMemory>
+        requires reached { IsReached self.old }
+        ensures { IfOk result (λ outcome. IsDone self.old self.new outcome (happens (config_of self.old) (state_of self.old) (Drop name.now))) }
+    {
+        Ok(self.sequencers.drop(alloc, name))
+    }
+
+    /// A new reader of a log.
+    pub(crate) fn open(
+        &mut self,
+        alloc: Global,
+        name: &Name,
+        log: LogId,
+        from: Lsn,
+        until: Lsn,
+    ) -> Result<Outcome, NoMemory>
+        requires reached { IsReached self.old }
+        ensures { IfOk result (λ outcome. IsDone self.old self.new outcome (happens (config_of self.old) (state_of self.old) (Open name.now log from until))) }
+    {
+        let outcome = self
+            .readers
+            .open(alloc, &self.config, name, log, from, until)?;
+        Ok(outcome)
+    }
+
+    /// A reader asks the nodes of its log.
+    pub(crate) fn poll(&mut self, alloc: Global, name: &Name) -> Result<Outcome, NoMemory>
+        requires reached { IsReached self.old }
+        ensures { IfOk result (λ outcome. IsDone self.old self.new outcome (happens (config_of self.old) (state_of self.old) (Poll name.now))) }
+    {
+        let outcome = self.readers.poll(alloc, name)?;
+        Ok(outcome)
+    }
+}

@@ -1,0 +1,75 @@
+// Nodes that look at the register.
+ghost use Rattle.std.specs.Prelude.{◌≡◌, IfOk};
+ghost use Rattle.ld_schedule.specs.declared.event.Event.TheVariants.{Tick};
+ghost use Rattle.ld_machine.specs.Step.{happens};
+ghost use Rattle.ld_cluster.specs.Standing.{config_of, state_of, IsReached};
+ghost use Rattle.ld_cluster.specs.Outcomes.{IsDone};
+ghost use Rattle.ld_cluster.specs.Ticking.{tick_lines, asks_of};
+
+use crate::cluster::Cluster;
+use crate::lines::{kept, one_line};
+use ld_clients::Outcome;
+use ld_host::Ticked;
+use ld_ids::{LogId, NoMemory, NodeId};
+use ld_msg::Outbox;
+use ld_transcript::Line;
+use std::alloc::Global;
+
+impl Cluster {
+    /// A node that is up and one of the log's looks at the log in the register.
+    pub(crate) fn tick(
+        &mut self,
+        alloc: Global,
+        node: NodeId,
+        log: LogId,
+    ) -> Result<Outcome, NoMemory>
+        requires reached { IsReached self.old }
+        ensures { IfOk result (λ outcome. IsDone self.old self.new outcome (happens (config_of self.old) (state_of self.old) (Tick node log))) }
+    {
+        if !self.config.nodes.has(node) {
+            return Ok(Outcome::nothing(alloc));
+        }
+        if !self.serves(node, log) {
+            return Ok(Outcome::nothing(alloc));
+        }
+        let (end, ticked) = self.hosts.tick(alloc, node, log, &mut self.register)?;
+        let line = tick_lines(alloc, node, log, &ticked)?;
+        let lines = kept(alloc, node, end, line)?;
+        Ok(Outcome {
+            lines,
+            sends: asks(alloc, ticked),
+        })
+    }
+}
+
+/// The line of a tick that was kept.
+fn tick_lines(
+    alloc: Global,
+    node: NodeId,
+    log: LogId,
+    ticked: &Ticked,
+) -> Result<Vec<Line>, NoMemory>
+    ensures { IfOk result (λ lines. lines.items ≡ tick_lines node log ticked.now) }
+{
+    match ticked {
+        Ticked::Rebuilt => {
+            let lines = one_line(alloc, Line::NodeRebuilt { node, log })?;
+            Ok(lines)
+        }
+        Ticked::Cleaned(_) => Ok(Vec::new(alloc)),
+        Ticked::Asked(_) => Ok(Vec::new(alloc)),
+        Ticked::Nothing => Ok(Vec::new(alloc)),
+    }
+}
+
+/// What a tick sends.
+fn asks(alloc: Global, ticked: Ticked) -> Outbox
+    ensures { result ≡ asks_of ticked }
+{
+    match ticked {
+        Ticked::Asked(asks) => Outbox::new(asks.into_vec()),
+        Ticked::Cleaned(_) => Outbox::empty(alloc),
+        Ticked::Rebuilt => Outbox::empty(alloc),
+        Ticked::Nothing => Outbox::empty(alloc),
+    }
+}
