@@ -7,7 +7,5 @@ pub mod Invariant
 pub mod Facts
 pub mod Safe
 pub mod Run
-pub mod Served
 pub mod Losses
 pub mod Exercise
-pub mod ServedRun
