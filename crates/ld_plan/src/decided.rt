@@ -1,5 +1,5 @@
 // What claims decide.
-ghost use Rattle.std.specs.Prelude.{◌≡◌, OnOk, option_copied, Option};
+ghost use Rattle.std.specs.Prelude.{◌≡◌, OnOk, OnErr, option_copied, Option};
 ghost use Rattle.ld_table.specs.Table.{find, put};
 ghost use Rattle.ld_plan.specs.Claims.{nothing_decided, is_bridged, is_decided, claimed};
 
@@ -72,10 +72,11 @@ impl<'a> Decided<'a> {
     }
 
     /// Takes a claim. It counts for its number where that isn't decided; a bridge counts above its
-    /// number too.
+    /// number too. Without memory nothing changes.
     #[tactic(auto, unfolding(ld_table::specs::Table::put))]
     pub fn claim(&mut self, claim: Claim<'a>) -> Result<(), NoMemory>
-        ensures { OnOk result (self.new ≡ claimed claim.entry self.old) }
+        ensures ok { OnOk result (self.new ≡ claimed claim.entry self.old) }
+        ensures err { OnErr result (self.new ≡ self.old) }
     {
         let number = claim.number();
         let is_bridge = claim.is_bridge();

@@ -1,5 +1,6 @@
 pub mod Settling
 pub mod Posting
+mod Begins
 pub mod Digesting
 pub mod Replies
 pub mod Holding

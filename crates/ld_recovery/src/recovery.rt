@@ -1,5 +1,5 @@
 // The recovery of an epoch.
-ghost use Rattle.std.specs.Prelude.{◌≡◌, ◌≤◌, ◌<◌, ◌+◌, ◌-◌, ◌^◌, ◌++◌, [], ℕ, true, nat_le, if◌then◌else◌, Some, None, IfOk, OnOk};
+ghost use Rattle.std.specs.Prelude.{◌≡◌, ◌≤◌, ◌<◌, ◌+◌, ◌-◌, ◌^◌, ◌++◌, [], ℕ, true, nat_le, if◌then◌else◌, Some, None, IfOk, OnOk, OnErr};
 ghost use Rattle.ld_ids.specs.declared.set.Spec.{Spec as Config};
 ghost use Rattle.ld_ids.specs.Choice.{at_epoch};
 ghost use Rattle.ld_msg.specs.declared.msg.Summary.{Summary as Told};
@@ -75,7 +75,7 @@ impl Model for Recovery {
 
 impl Recovery {
     /// Begins to recover the epoch of the log, by the sequencer of a later one: all nodes are asked for what they have.
-    /// Without memory a part of the asks may have been sent.
+    /// Without memory nothing is sent.
     pub fn start(
         alloc: Global,
         spec: &Spec,
@@ -89,6 +89,7 @@ impl Recovery {
         requires ballot { ballot ≤ 2 ^ 32 - 2 }
         ensures value { IfOk result (λ recovery. recovery ≡ started spec.now epoch ballot) }
         ensures sent { OnOk result (out.new ≡ out.old ++ messages (started spec.now epoch ballot) (digest_asks (no_digest (at_epoch spec.now epoch) epoch))) }
+        ensures unsent { OnErr result (out.new ≡ out.old) }
     {
         let digest = Digest::new(alloc, spec, epoch)?;
         let sender = Sender {

@@ -1,9 +1,9 @@
 // Messages of a sequencer to nodes.
-ghost use Rattle.std.specs.Prelude.{◌≡◌, ◌++◌, ◌∷◌, [], IfOk, OnOk};
+ghost use Rattle.std.specs.Prelude.{◌≡◌, ◌++◌, ◌∷◌, [], IfOk, OnOk, OnErr};
 ghost use Rattle.ld_ids.specs.Set.{members};
 ghost use Rattle.ld_msg.specs.declared.msg.Body.TheVariants.{Store, Clean, DigestAsk};
 ghost use Rattle.ld_msg.specs.Sequencer.{to_each, digest_asks};
-ghost use Rattle.ld_recovery.specs.Sending.{sent};
+ghost use Rattle.ld_recovery.specs.Sending.{sent, BeginsWith};
 
 use ld_copyset::NodeList;
 use ld_digest::Told;
@@ -22,7 +22,8 @@ pub struct Sender {
 impl Sender {
     /// Sends a message to the node. Without memory nothing is sent.
     fn send(&self, node: NodeId, body: Body, out: &mut Outbox) -> Result<(), NoMemory>
-        ensures { OnOk result (out.new ≡ out.old ++ sent self.now ((node, body) ∷ [])) }
+        ensures sent { OnOk result (out.new ≡ out.old ++ sent self.now ((node, body) ∷ [])) }
+        ensures unsent { OnErr result (out.new ≡ out.old) }
     {
         out.push(Msg {
             from: Who::Sequencer(self.epoch),
@@ -32,9 +33,25 @@ impl Sender {
         })
     }
 
-    /// Asks each node that isn't whole for its next page.
+    /// Asks each node that isn't whole for its next page. Without memory nothing is sent.
+    #[tactic(auto, using(crate::proofs::Begins::back_rules))]
     pub fn ask_for_digest(&self, told: &[Told], out: &mut Outbox) -> Result<(), NoMemory>
-        ensures { OnOk result (out.new ≡ out.old ++ sent self.now (digest_asks told.now)) }
+        ensures sent { OnOk result (out.new ≡ out.old ++ sent self.now (digest_asks told.now)) }
+        ensures unsent { OnErr result (out.new ≡ out.old) }
+    {
+        let count = out.len();
+        let asked = self.ask_each(told, out);
+        if asked.is_err() {
+            out.truncate(count);
+        }
+        asked
+    }
+
+    /// Asks each node that isn't whole for its next page. Without memory some may have been asked.
+    #[tactic(auto, using(crate::proofs::Begins::begin_rules))]
+    fn ask_each(&self, told: &[Told], out: &mut Outbox) -> Result<(), NoMemory>
+        ensures sent { OnOk result (out.new ≡ out.old ++ sent self.now (digest_asks told.now)) }
+        ensures begins { OnErr result (BeginsWith out.old out.new) }
     {
         for one in told {
             self.ask_one(one, out)?;
@@ -42,9 +59,10 @@ impl Sender {
         Ok(())
     }
 
-    /// Asks a node that isn't whole for its next page.
+    /// Asks a node that isn't whole for its next page. Without memory nothing is sent.
     pub fn ask_one(&self, told: &Told, out: &mut Outbox) -> Result<(), NoMemory>
-        ensures { OnOk result (out.new ≡ out.old ++ sent self.now (digest_asks (told.now ∷ []))) }
+        ensures sent { OnOk result (out.new ≡ out.old ++ sent self.now (digest_asks (told.now ∷ []))) }
+        ensures unsent { OnErr result (out.new ≡ out.old) }
     {
         if told.is_whole() {
             return Ok(());
@@ -52,9 +70,10 @@ impl Sender {
         self.ask(told.node(), told.asked(), out)
     }
 
-    /// Asks the node for its page from a number on.
+    /// Asks the node for its page from a number on. Without memory nothing is sent.
     pub fn ask(&self, node: NodeId, from: Lsn, out: &mut Outbox) -> Result<(), NoMemory>
-        ensures { OnOk result (out.new ≡ out.old ++ sent self.now ((node, DigestAsk from) ∷ [])) }
+        ensures sent { OnOk result (out.new ≡ out.old ++ sent self.now ((node, DigestAsk from) ∷ [])) }
+        ensures unsent { OnErr result (out.new ≡ out.old) }
     {
         self.send(node, Body::DigestAsk { from }, out)
     }

@@ -16,7 +16,7 @@ loop-claim-preserved c =
     let w = c.loop-claim.invariant in (
       c.in-Some.claim ∷ w.0,
       sym (append_assoc c.pop.new.self.items (c.in-Some.claim ∷ []) w.0) ∙ (ap (λ l. l ++ w.0) (sym c.in-Some.ensures.items) ∙ w.1),
-      c.in_ok-claim.ensures ∙ (ap (claimed c.in-Some.claim) w.2 ∙ decided_more c.in-Some.claim w.0),
+      c.in_ok-claim.ensures.ok ∙ (ap (claimed c.in-Some.claim) w.2 ∙ decided_more c.in-Some.claim w.0),
     )
 
 pub returns : goal.returns

@@ -14,7 +14,7 @@ nodes-preserved c = elim c.match-nth.branch [
   | in-Some+in_ok-send w ↦
       let s = c.args.self.now in
       let b = Clean c.args.epoch c.args.summary.now in
-      let one : c.match-nth.out ≡ c.nodes.out ++ sent s (to_each b (w.in-Some.node ∷ [])) = rw w.out-is (w.in_ok-send.ensures ∙ ap (λ (x : Body). c.nodes.out ++ sent s ((w.in-Some.node, x) ∷ [])) w.clean.ensures) in
+      let one : c.match-nth.out ≡ c.nodes.out ++ sent s (to_each b (w.in-Some.node ∷ [])) = rw w.out-is (w.in_ok-send.ensures.sent ∙ ap (λ (x : Body). c.nodes.out ++ sent s ((w.in-Some.node, x) ∷ [])) w.clean.ensures) in
       ap (λ (r : List Msg). r ++ sent s (to_each b (drop (c.nodes.place + 1) (members c.args.set.now)))) one ∙ (told_one s b (members c.args.set.now) c.nodes.place w.in-Some.node c.nodes.out (sym w.in-Some.ensures.node) ∙ c.nodes.invariant)
   | in_default w ↦ absurd (there_is (members c.args.set.now) c.nodes.place (omega (arith, c.nodes-test.true, c.len-place-end.ensures.count)) (sym w.in_default.ensures.node))
 ]
