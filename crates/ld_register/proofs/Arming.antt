@@ -15,8 +15,8 @@ use Rattle.ld_register.specs.declared.change.Change.{Change}
 use Rattle.ld_register.specs.declared.register.Drawn.{Drawn}
 use Rattle.ld_register.specs.declared.register.Grant.{Grant}
 use Rattle.ld_register.specs.Calls.{IsFree, ended, is_full, activated, after_activate, closed, after_close, drawn, after_draw, unarmed}
-use Rattle.ld_register.specs.Held.{owned, MayHold, Foretells, IsDue, Meets, granting}
-use Rattle.ld_register.specs.Arming.{kept_in, disk_in, armed_of, own_faults, faults_in, Foresees, MeetsArmed}
+use Rattle.ld_register.specs.Held.{owned, Holds, MayHold, Foretells, IsDue, Meets, granting}
+use Rattle.ld_register.specs.Arming.{kept_in, disk_in, armed_of, own_faults, faults_in, Foresees, MeetsArmed, StaysArmed, HasCounted, HasFallen}
 use Rattle.ld_register.proofs.Committing.{on_err}
 use Rattle.ld_register.proofs.Meeting.{failure, meets_unmade}
 use Rattle.ld_register.proofs.Answering.{to, activated_by, crowded_activate, closed_by, crowded_close, drawn_by}
@@ -214,6 +214,9 @@ module _ {D : Type 0} {g : Ghosts D} where
   foretells_unarmed : (r : DiskRegister D g) (c : Register) → Foretells r c → Foretells r (unarmed c)
   foretells_unarmed r c t = subst (λ a. Foretells r (with_armed c a)) t.unarmed t
 
+  pub foresees_none : (r : FaultyRegister D g) (c : Register) → armed_of r ≡ None → Foretells (kept_in r) c → Foresees r c
+  foresees_none r c none t = record { foretells = foretells_unarmed (kept_in r) c t; armed = t.unarmed ∙ sym none }
+
   foresees_after : (new : FaultyRegister D g) (c : Register) (b : Bool) (after : Register → Register) (a : Option Armed) → Foretells (kept_in new) (if b then after (unarmed c) else unarmed c) → a ≡ armed_of new → Foresees new (with_armed (if b then after (unarmed c) else c) a)
   foresees_after new c true after a f is = record { foretells = foretells_unarmed (kept_in new) (after (unarmed c)) f; armed = is }
   foresees_after new c false after a f is = record { foretells = f; armed = is }
@@ -319,3 +322,25 @@ module _ {D : Type 0} {g : Ghosts D} where
     | inl n ↦ inl (n.0, record { foretells = n.1; armed = f.armed ∙ sym armed })
     | inr s ↦ inr (s.0 ∙ same c, record { foretells = s.1; armed = f.armed ∙ sym armed })
   ])
+
+  -- ---- what is armed after a call ----
+
+  -- a call that would have answered with this failed where the armed fault fell
+  pub fallen : {T : Type 0} (old mid new : FaultyRegister D g) (given : T) (r : Result T RegisterFault) (answer : Register → Result T RegisterFault) (after : Register → Register) → r ≡ failure T faults.Failed → falls (armed_of old) ≡ true → kept_in new ≡ kept_in mid
+      → armed_of new ≡ armed_after (armed_of old) → own_faults new ≡ min (own_faults old + 1) (2 ^ 64 - 1)
+      → Meets (kept_in old) (kept_in mid) (granting given) answer (λ c. if is_made (armed_of old) then after c else c) → HasFallen old new r after
+  fallen old mid new given r answer after is fell kept armed own m = record {
+    due = fell;
+    failed = is;
+    armed = armed ∙ over (armed_of old) fell;
+    faults = own;
+    holds = λ c h. subst (λ k. Holds k (if is_made (armed_of old) then after c else c)) (sym kept) (held c (m.answers c h));
+  }
+    where
+      over : (a : Option Armed) → falls a ≡ true → armed_after a ≡ None
+      over None f = refl
+      over (Some a) f = ap (λ b. if b then None else Some (record { left = a.left - 1; done = a.done })) f
+
+      held : (c : Register) → ⊥ ⊎ ((granting given ≡ answer c) × Holds (kept_in mid) (if is_made (armed_of old) then after c else c)) → Holds (kept_in mid) (if is_made (armed_of old) then after c else c)
+      held c (inl f) = absurd f
+      held c (inr s) = s.1

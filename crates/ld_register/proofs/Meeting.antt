@@ -2,11 +2,13 @@
 use Rattle.std.proofs.Common.{◌≡◌, ◌≤◌, ◌<◌, ◌+◌, ◌^◌, ◌⊎◌, inl, inr, ℕ, Bool, true, false, List, [], ◌∷◌, ◌++◌, Option, Some, None, Result, Ok, Err, OnErr, length, append_assoc, refl, ap, sym, ◌∙◌, subst, arith, IsSome, IfSome}
 use Rattle.std.specs.Result.{IsErrOf}
 use Rattle.ld_io.specs.Causes.{Rose}
-use Rattle.ld_disk.specs.Moments.{LeavesOnly}
+use Rattle.ld_disk.specs.Images.{IsHonest}
+use Rattle.ld_disk.specs.Moments.{LeavesOnly, Unchanged}
 use Rattle.ld_disk.specs.Plain.{Plain, new_disk}
 use Rattle.ld_disk.specs.declared.disk.Disk.{Ghosts}
 use Rattle.ld_journal.specs.Format.{framed, records, IsJournal}
-use Rattle.ld_journal.specs.Open.{place_of}
+use Rattle.ld_journal.specs.Open.{IsSettled, disk_of, place_of, has_ended, must_load}
+use Rattle.ld_journal.specs.declared.journal.Journal.{Journal}
 use Rattle.ld_journal.proofs.Reading.{one_reading, behind_them, not_both, unframe}
 use Rattle.ld_msg.specs.Register.{Register, empty_register}
 use Rattle.ld_register.specs.declared.fault.RegisterFault.{RegisterFault}
@@ -16,6 +18,7 @@ use Rattle.ld_register.specs.declared.change.Change.{Change}
 use Rattle.ld_register.specs.declared.register.View.{View}
 use Rattle.ld_register.specs.Calls.{IsFree, Keeps, ChangedOrNot}
 use Rattle.ld_register.specs.Changes.{changed, body_length, Leads, IsNext}
+use Rattle.ld_register.specs.Kept.{register_of}
 use Rattle.ld_register.specs.Stands.{StandsFor, IsDamaged, IsForeign}
 use Rattle.ld_register.specs.Held.{IsQuiet, owned, is_loaded, Replays, ReadsAs, Holds, Tells, MayHold, Foretells, Loads, IsReady, IsNotReady, Commits, IsMade, IsRefused, IsDue, LeftBy, Meets, granting}
 use Rattle.ld_register.proofs.Leading.{leads_one, leads_length, leads_armed}
@@ -40,6 +43,15 @@ given_of o bytes P e h = subst (λ o. IfSome o P) e h
 some_is : (o : Option (List ℕ)) (bytes : List ℕ) → o ≡ Some bytes → IsSome o
 some_is None bytes e = absurd cc
 some_is (Some b) bytes e = refl
+
+-- a journal whose disk is armed
+settled_armed : {D : Type 0} (g : Ghosts D) (old new : Journal D) (bodies : List (List ℕ)) → Unchanged g.seen g.may_leave g.moment g.left_since (disk_of old) (disk_of new) → place_of new ≡ place_of old → has_ended new ≡ has_ended old → must_load new ≡ must_load old
+    → IsSettled g.seen g.may_leave old bodies → IsSettled g.seen g.may_leave new bodies
+settled_armed g old new bodies same place ended works s = let r = s.rests in record {
+  rests = record { gate = r.gate; after = r.after; bytes = same.bytes ∙ r.bytes; shut = r.shut; place_is = place ∙ r.place_is; stable = λ c m. r.stable c (same.crash c m); fits = r.fits };
+  ended = ended ∙ s.ended;
+  works = works ∙ s.works;
+}
 
 module _ {D : Type 0} {g : Ghosts D} where
   pub reads_one : (r : DiskRegister D g) (c d : Register) → ReadsAs r c → ReadsAs r d → c ≡ d
@@ -328,6 +340,40 @@ module _ {D : Type 0} {g : Ghosts D} where
     one = λ d k. reads_one r c d a k;
     whole = λ place b. not_damaged place a.bytes c a.stands (is_broken (g.seen (owned r)) a.bytes place a.seen_is b);
     loaded = λ t. absurd (not_true (is_loaded r) t l);
+  }
+
+  pub tells_unloaded : (r : DiskRegister D g) → IsHonest (g.seen (owned r)) → is_loaded r ≡ false → Tells r
+  tells_unloaded r h l = record { honest = h; loaded = λ t. absurd (not_true (is_loaded r) t l) }
+
+  pub foretells_unloaded : (r : DiskRegister D g) (c : Register) (p : Plain) → ReadsAs r c → is_loaded r ≡ false → g.plain (owned r) ≡ Some p → IsQuiet p → Foretells r c
+  foretells_unloaded r c p a l is quiet = record { holds = holds_unloaded r c a l; unarmed = leads_armed empty_register a.stands.bodies c a.stands.leads; told = p; plain_is = is; quiet = quiet }
+
+  -- ---- a fault of the disk is armed ----
+
+  replays_armed : (old new : DiskRegister D g) → Unchanged g.seen g.may_leave g.moment g.left_since (owned old) (owned new) → place_of new.journal ≡ place_of old.journal → has_ended new.journal ≡ has_ended old.journal → must_load new.journal ≡ must_load old.journal
+      → new.contents ≡ old.contents → (c : Register) → Replays old c → Replays new c
+  replays_armed old new same place ended works contents c h = record {
+    bodies = h.bodies;
+    settled = settled_armed g old.journal new.journal h.bodies same place ended works h.settled;
+    leads = h.leads;
+    kept = ap (λ k. register_of k c.length) contents ∙ h.kept;
+  }
+
+  pub holds_armed : (old new : DiskRegister D g) → Unchanged g.seen g.may_leave g.moment g.left_since (owned old) (owned new) → place_of new.journal ≡ place_of old.journal → has_ended new.journal ≡ has_ended old.journal → must_load new.journal ≡ must_load old.journal
+      → new.contents ≡ old.contents → is_loaded new ≡ is_loaded old → (c : Register) → Holds old c → Holds new c
+  holds_armed old new same place ended works contents loaded c h =
+      let a : ReadsAs new c = record { bytes = h.reads.bytes; seen_is = same.bytes ∙ h.reads.seen_is; stands = h.reads.stands } in record {
+        reads = a;
+        one = λ d k. reads_one new c d a k;
+        whole = λ at b. not_damaged at a.bytes c a.stands (is_broken (g.seen (owned new)) a.bytes at a.seen_is b);
+        loaded = λ l. replays_armed old new same place ended works contents c (h.loaded (sym loaded ∙ l));
+      }
+
+  pub tells_armed : (old new : DiskRegister D g) → Unchanged g.seen g.may_leave g.moment g.left_since (owned old) (owned new) → place_of new.journal ≡ place_of old.journal → has_ended new.journal ≡ has_ended old.journal → must_load new.journal ≡ must_load old.journal
+      → new.contents ≡ old.contents → is_loaded new ≡ is_loaded old → Tells old → Tells new
+  tells_armed old new same place ended works contents loaded t = record {
+    honest = subst IsHonest (sym same.bytes) t.honest;
+    loaded = λ l. let w = t.loaded (sym loaded ∙ l) in (w.0, replays_armed old new same place ended works contents w.0 w.1);
   }
 
   pub replays_length : (r : DiskRegister D g) (c : Register) → Replays r c → c.length ≡ place_of r.journal + 1

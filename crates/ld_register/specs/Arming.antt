@@ -1,9 +1,9 @@
 -- What a register on a disk tells that has an armed fault, and what its calls do.
-use Rattle.std.specs.Prelude.{◌≡◌, ◌⊎◌, ◌≤◌, ◌+◌, ◌-◌, ◌^◌, ℕ, true, Option, None, Some, min, IsErrOf, OnErr}
+use Rattle.std.specs.Prelude.{◌≡◌, ◌⊎◌, ◌≤◌, ◌+◌, ◌-◌, ◌^◌, ℕ, true, false, Option, None, Some, min, if◌then◌else◌, IsErrOf, OnErr}
 use Rattle.std.specs.declared.result.Result.{Result}
 use Rattle.ld_io.specs.Causes.{Rose}
 use Rattle.ld_disk.specs.declared.disk.Disk.{Ghosts}
-use Rattle.ld_msg.specs.Register.{Register, Armed, falls}
+use Rattle.ld_msg.specs.Register.{Register, Armed, falls, armed_after, is_made}
 use Rattle.ld_register.specs.declared.fault.RegisterFault.{RegisterFault}
 use Rattle.ld_register.specs.declared.fault.RegisterFault.TheVariants as faults
 use Rattle.ld_register.specs.declared.disk.DiskRegister.{DiskRegister}
@@ -54,6 +54,25 @@ module _ {D : Type 0} {g : Ghosts D} where
     pub cause : IsErrOf result faults.Failed → (falls (armed_of old) ≡ true) ⊎ Rose (g.faults (disk_in old)) (g.faults (disk_in new))
     pub damaged : (place : ℕ) → IsErrOf result (faults.Damaged place) → IsBroken (kept_in old) place
     pub counts : faults_in old ≤ faults_in new
+
+  -- what is armed is as it was, and no armed fault fell
+  pub record StaysArmed (old new : FaultyRegister D g) : Type 0 where
+    pub armed : armed_of new ≡ armed_of old
+    pub faults : own_faults new ≡ own_faults old
+
+  -- a change that is made is counted, and no armed fault fell
+  pub record HasCounted (old new : FaultyRegister D g) : Type 0 where
+    pub passes : falls (armed_of old) ≡ false
+    pub armed : armed_of new ≡ armed_after (armed_of old)
+    pub faults : own_faults new ≡ own_faults old
+
+  -- the armed fault fell, and is armed no more; what was held is held with the change or without it, as was told
+  pub record HasFallen {T : Type 0} (old new : FaultyRegister D g) (result : Result T RegisterFault) (after : Register → Register) : Type 0 where
+    pub due : falls (armed_of old) ≡ true
+    pub failed : IsErrOf result faults.Failed
+    pub armed : armed_of new ≡ None
+    pub faults : own_faults new ≡ min (own_faults old + 1) (2 ^ 64 - 1)
+    pub holds : (c : Register) → Holds (kept_in old) c → Holds (kept_in new) (if is_made (armed_of old) then after c else c)
 
   -- the bytes of its disk are a journal of changes that lead to what it tells
   pub foreseen_stands : (r : FaultyRegister D g) (c : Register) → Foresees r c → ReadsAs (kept_in r) (unarmed c)

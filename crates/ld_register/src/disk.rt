@@ -38,25 +38,31 @@ pub struct DiskRegister<D: Disk> {
 }
 
 impl<D: Disk> DiskRegister<D> {
-    ghost use Rattle.std.specs.Prelude.{◌≢◌, ◌⊎◌, ◌≤◌, ◌<◌, ◌+◌, ◌-◌, ◌^◌, ℕ, Some, Err, IfOk, IsErrOf, OnOk, OnErr, IsOk};
+    ghost use Rattle.std.specs.Prelude.{◌≢◌, ◌⊎◌, ◌≤◌, ◌<◌, ◌+◌, ◌-◌, ◌^◌, ℕ, List, Some, Err, IfOk, IsErrOf, OnOk, OnErr, IsOk};
     ghost use Rattle.std.specs.Option.{option_map};
+    ghost use Rattle.ld_disk.specs.Images.{IsHonest};
     ghost use Rattle.ld_disk.specs.Moments.{Unchanged};
-    ghost use Rattle.ld_disk.specs.Plain.{armed_with, new_disk};
+    ghost use Rattle.ld_disk.specs.Plain.{Plain, armed_with, new_disk};
     ghost use Rattle.ld_journal.specs.Open.{place_of};
     ghost use Rattle.ld_msg.specs.Bounds.{IsEpoch, IsSummary};
-    ghost use Rattle.ld_msg.specs.Register.{empty_register};
+    ghost use Rattle.ld_msg.specs.Register.{Register as Held, empty_register};
     ghost use Rattle.ld_msg.specs.declared.msg.Summary.{Summary as Closing};
     ghost use Rattle.ld_op.specs.Bounds.{IsOp};
     ghost use Rattle.ld_op.specs.declared.op.Op.TheVariants.{Format};
     ghost use Rattle.ld_register.specs.Calls.{activated, after_activate, closed, after_close, drawn, after_draw};
     ghost use Rattle.ld_register.specs.Changes.{IsChange, is_next};
     ghost use Rattle.ld_register.specs.Kept.{register_of};
-    ghost use Rattle.ld_register.specs.Held.{owned, is_loaded, Foretells, Loads, IsReady, IsNotReady, Commits, IsMade, IsRefused, IsDue, Meets};
+    ghost use Rattle.ld_register.specs.Stands.{StandsFor};
+    ghost use Rattle.ld_register.specs.Held.{IsQuiet, owned, is_loaded, Holds, Tells, Foretells, Loads, IsReady, IsNotReady, Commits, IsMade, IsRefused, IsDue, Meets};
 
-    /// The register on a disk. Its first call loads it. On a new disk in memory it holds nothing.
+    /// The register on a disk. Its first call loads it. On a new disk in memory it holds nothing, and on a disk whose
+    /// bytes are a journal of changes what they lead to.
     pub fn new(alloc: Global, disk: D) -> DiskRegister<D>
         ensures disk { owned result ≡ disk }
         ensures loads { is_loaded result ≡ false }
+        ensures told { IsHonest (D.seen disk) → Tells result }
+        ensures holds { (c : Held) (bytes : List ℕ) → D.seen disk ≡ Some bytes → StandsFor bytes c → Holds result c }
+        ensures tells { (c : Held) (p : Plain) → D.plain disk ≡ Some p → IsQuiet p → StandsFor p.state.bytes c → Foretells result c }
         ensures empty { D.plain disk ≡ Some new_disk → Foretells result empty_register }
     {
         DiskRegister {
@@ -79,6 +85,8 @@ impl<D: Disk> DiskRegister<D> {
         ensures same { Unchanged D.seen D.may_leave D.moment D.left_since (owned self.old) (owned self.new) }
         ensures faults { D.faults (owned self.new) ≡ D.faults (owned self.old) }
         ensures loaded { is_loaded self.new ≡ is_loaded self.old }
+        ensures told { Tells self.old → Tells self.new }
+        ensures holds { (c : Held) → Holds self.old c → Holds self.new c }
     {
         self.journal.arm(fault);
     }

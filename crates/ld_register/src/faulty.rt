@@ -27,6 +27,7 @@ pub struct FaultyRegister<D: Disk> {
 
 impl<D: Disk> FaultyRegister<D> {
     ghost use Rattle.std.specs.Prelude.{◌≢◌, ◌≤◌, ◌+◌, ◌-◌, ◌^◌, ℕ, List, true, false, not, None, Some, Err, min, if◌then◌else◌, IfOk, IfErr, OnOk, OnErr, IsErrOf};
+    ghost use Rattle.ld_disk.specs.Images.{IsHonest};
     ghost use Rattle.ld_disk.specs.Plain.{Plain, new_disk};
     ghost use Rattle.ld_msg.specs.Bounds.{IsEpoch, IsSummary};
     ghost use Rattle.ld_msg.specs.Register.{Register as Contents, empty_register, falls, armed_after, is_made};
@@ -34,14 +35,18 @@ impl<D: Disk> FaultyRegister<D> {
     ghost use Rattle.ld_op.specs.declared.op.Op.TheVariants.{Format};
     ghost use Rattle.ld_register.specs.Calls.{activated, after_activate, closed, after_close, drawn, after_draw, unarmed};
     ghost use Rattle.ld_register.specs.Stands.{StandsFor};
-    ghost use Rattle.ld_register.specs.Held.{Holds, Meets};
+    ghost use Rattle.ld_register.specs.Held.{IsQuiet, Holds, Tells, Meets};
     ghost use Rattle.ld_register.specs.Arming.{kept_in, disk_in, armed_of, own_faults, Foresees};
 
-    /// The register on a disk, with no fault armed. Its first call loads it. On a new disk in memory it holds nothing.
+    /// The register on a disk, with no fault armed. Its first call loads it. On a new disk in memory it holds nothing,
+    /// and on a disk whose bytes are a journal of changes what they lead to.
     pub fn new(alloc: Global, disk: D) -> FaultyRegister<D>
         ensures disk { disk_in result ≡ disk }
         ensures armed { armed_of result ≡ None }
         ensures faults { own_faults result ≡ 0 }
+        ensures told { IsHonest (D.seen disk) → Tells (kept_in result) }
+        ensures holds { (c : Contents) (bytes : List ℕ) → D.seen disk ≡ Some bytes → StandsFor bytes c → Holds (kept_in result) c }
+        ensures tells { (c : Contents) (p : Plain) → D.plain disk ≡ Some p → IsQuiet p → StandsFor p.state.bytes c → Foresees result c }
         ensures empty { D.plain disk ≡ Some new_disk → Foresees result empty_register }
     {
         FaultyRegister {
@@ -162,14 +167,14 @@ impl<D: Disk> FaultyRegister<D> {
 }
 
 impl<D: Disk> Register for FaultyRegister<D> {
-    ghost use Rattle.std.specs.Prelude.{◌≢◌, ◌⊎◌, ◌≤◌, ◌-◌, ◌^◌, ℕ, IfOk, IsErrOf, OnErr, Ok, Err};
+    ghost use Rattle.std.specs.Prelude.{◌≢◌, ◌⊎◌, ◌≤◌, ◌-◌, ◌^◌, ℕ, IfOk, IsErrOf, OnOk, OnErr, Ok, Err};
     ghost use Rattle.ld_msg.specs.Bounds.{IsEpoch, IsSummary};
     ghost use Rattle.ld_msg.specs.Register.{Register as Contents};
     ghost use Rattle.ld_op.specs.Bounds.{IsOp};
     ghost use Rattle.ld_op.specs.declared.op.Op.TheVariants.{Format};
     ghost use Rattle.ld_register.specs.Calls.{activated, after_activate, closed, after_close, drawn, after_draw, looked, IsView, IsFree, Keeps};
     ghost use Rattle.ld_register.specs.Held.{Holds, MayHold, Tells, IsBroken, holds_is_told};
-    ghost use Rattle.ld_register.specs.Arming.{kept_in, disk_in, faults_in, Foresees, MeetsArmed};
+    ghost use Rattle.ld_register.specs.Arming.{kept_in, disk_in, faults_in, Foresees, MeetsArmed, StaysArmed, HasCounted, HasFallen};
 
     ghost told = { λ r. Tells (kept_in r) };
 
@@ -195,6 +200,8 @@ impl<D: Disk> Register for FaultyRegister<D> {
 
     fn activate(&mut self, alloc: Global, log: LogId) -> Result<Grant, RegisterFault>
         ensures meets { MeetsArmed self.old self.new result (λ c. activated c log) (λ c. after_activate c log) }
+        ensures passes { OnOk result (HasCounted self.old self.new) }
+        ensures fell { OnErr result (StaysArmed self.old self.new ⊎ HasFallen self.old self.new result (λ c. after_activate c log)) }
         ensures bounds { IfOk result (λ grant. IsEpoch grant.epoch × (grant.lce ≤ 2 ^ 32 - 2)) }
         ensures behind { (lce : ℕ) → result ≢ Err (RegisterFault.Behind lce) }
         ensures generations { result ≢ Err RegisterFault.GenLimit }
@@ -213,6 +220,8 @@ impl<D: Disk> Register for FaultyRegister<D> {
     ) -> Result<(), RegisterFault>
         requires { IsSummary epoch summary.now }
         ensures meets { MeetsArmed self.old self.new result (λ c. closed c log epoch summary.now) (λ c. after_close c log epoch summary.now) }
+        ensures passes { OnOk result (HasCounted self.old self.new) }
+        ensures fell { OnErr result (StaysArmed self.old self.new ⊎ HasFallen self.old self.new result (λ c. after_close c log epoch summary.now)) }
         ensures bounds { (lce : ℕ) → IsErrOf result (RegisterFault.Behind lce) → lce ≤ 2 ^ 32 - 2 }
         ensures epochs { result ≢ Err RegisterFault.EpochLimit }
         ensures generations { result ≢ Err RegisterFault.GenLimit }
@@ -224,6 +233,8 @@ impl<D: Disk> Register for FaultyRegister<D> {
 
     fn draw(&mut self, alloc: Global, node: NodeId) -> Result<Drawn, RegisterFault>
         ensures meets { MeetsArmed self.old self.new result (λ c. drawn c node) (λ c. after_draw c node) }
+        ensures passes { OnOk result (HasCounted self.old self.new) }
+        ensures fell { OnErr result (StaysArmed self.old self.new ⊎ HasFallen self.old self.new result (λ c. after_draw c node)) }
         ensures bounds { IfOk result (λ handed. IsOp (Format handed.gen_ handed.epochs)) }
         ensures logs { result ≢ Err RegisterFault.LogLimit }
         ensures behind { (lce : ℕ) → result ≢ Err (RegisterFault.Behind lce) }
@@ -236,6 +247,7 @@ impl<D: Disk> Register for FaultyRegister<D> {
 
     fn look(&mut self, alloc: Global, log: LogId, e: u32) -> Result<View, RegisterFault>
         ensures meets { MeetsArmed self.old self.new result (λ c. Ok (looked c log e)) (λ c. c) }
+        ensures armed { StaysArmed self.old self.new }
         ensures same { (c : Contents) → MayHold (kept_in self.new) c → MayHold (kept_in self.old) c }
         ensures keeps { IsErrOf result RegisterFault.Failed ⊎ Keeps (Holds (kept_in self.old)) (Holds (kept_in self.new)) (MayHold (kept_in self.old)) (MayHold (kept_in self.new)) }
         ensures exact { (c : Contents) → Foresees self.old c
