@@ -28,7 +28,7 @@ pub struct Host {
 }
 
 impl Host {
-    ghost use Rattle.std.specs.Prelude.{◌≤◌, ℕ, true, IfOk};
+    ghost use Rattle.std.specs.Prelude.{◌≤◌, ◌≢◌, ℕ, true, [], IfOk};
     ghost use Rattle.ld_table.specs.Words.{is_in};
     ghost use Rattle.ld_msg.specs.Bounds.{IsMessage};
     ghost use Rattle.ld_msg.specs.declared.msg.Who.TheVariants as whos;
@@ -112,10 +112,12 @@ impl Host {
         Ok(kept)
     }
 
-    /// What the node makes of a message, where it is up: the op that it keeps, and then what it answers.
+    /// What the node makes of a message, where it is up: the op that it keeps, and then what it answers. Where it isn't
+    /// up, nothing happens.
     pub fn on_msg(&mut self, alloc: Global, msg: &Msg) -> Result<(Kept, Outbox), NoMemory>
         requires { IsMessage msg.now }
-        ensures { (c : Settings) (n : ℕ) (x : Node) → Stands c n self.old x → x.status ≡ Up → IsInBounds c → msg.now.to ≡ whos.Node n → is_in n (set_of c msg.now.log) ≡ true
+        ensures idle { (c : Settings) (n : ℕ) (x : Node) → Stands c n self.old x → x.status ≢ Up → IfOk result (λ done. Stands c n self.new x × (done.0 ≡ Kept.Written) × (done.1 ≡ [])) }
+        ensures up { (c : Settings) (n : ℕ) (x : Node) → Stands c n self.old x → x.status ≡ Up → IsInBounds c → msg.now.to ≡ whos.Node n → is_in n (set_of c msg.now.log) ≡ true
             → IfOk result (λ done. Stands c n self.new (message_done n x msg.now).node × (shown_kept done.0 ≡ (message_done n x msg.now).end) × (done.1 ≡ (message_done n x msg.now).sends)) }
     {
         let state = mem::replace(&mut self.state, State::Gone);
@@ -147,14 +149,16 @@ impl Host {
         Ok(formatted)
     }
 
-    /// The node looks at the register for a log, where it is up, and does what that makes it do.
+    /// The node looks at the register for a log, where it is up, and does what that makes it do. Where it isn't up,
+    /// nothing happens.
     pub fn tick<G: Register>(
         &mut self,
         alloc: Global,
         log: LogId,
         reg: &mut G,
     ) -> Result<(Kept, Ticked), NoMemory>
-        ensures { (c : Settings) (n : ℕ) (x : Node) (r : Contents) → Stands c n self.old x → x.status ≡ Up → IsInBounds c → is_in n (set_of c log) ≡ true → AreClosed r log → G.tells reg.old r
+        ensures idle { (c : Settings) (n : ℕ) (x : Node) → Stands c n self.old x → x.status ≢ Up → IfOk result (λ done. Stands c n self.new x × (reg.new ≡ reg.old) × (done.0 ≡ Kept.Written) × (done.1 ≡ Ticked.Nothing)) }
+        ensures up { (c : Settings) (n : ℕ) (x : Node) (r : Contents) → Stands c n self.old x → x.status ≡ Up → IsInBounds c → is_in n (set_of c log) ≡ true → AreClosed r log → G.tells reg.old r
             → IfOk result (λ done. Stands c n self.new (tick_done c n x log r).node × G.tells reg.new r × (shown_kept done.0 ≡ (tick_done c n x log r).end) × (done.1 ≡ tick_answer c n x log r)) }
     {
         let state = mem::replace(&mut self.state, State::Gone);

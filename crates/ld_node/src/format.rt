@@ -1,6 +1,7 @@
 // Keeping the record of a format under what was drawn.
 ghost use Rattle.std.specs.Prelude.{◌≡◌, ◌≢◌, ◌⊎◌, ◌↔◌, ◌≤◌, ◌++◌, ◌∷◌, [], ℕ, List, IfOk, OnErr, IsErrOf, Err, Some, true, false};
 ghost use Rattle.ld_io.specs.Causes.{Rose};
+ghost use Rattle.ld_disk.specs.Images.{IsHonest};
 ghost use Rattle.ld_disk.specs.Moments.{LeavesOnly, Unchanged};
 ghost use Rattle.ld_disk.specs.Plain.{Plain as DiskPlain};
 ghost use Rattle.ld_op.specs.declared.op.Op.{Op as Kind};
@@ -36,6 +37,7 @@ pub(crate) fn format_store<D: Disk>(
         → LeavesOnly D.moment D.left_since (disk_of store.old) (disk_of store.new) (StandsForEither (plain_of store.old) (apply (plain_of store.old) (format_of drawn))) }
     ensures exact { (disk : DiskPlain) → D.plain (disk_of store.old) ≡ Some disk
         → IsErrOf result NodeFault.NoMemory ⊎ KeepsFormat (place_of store.old) disk drawn (D.plain (disk_of store.new)) result }
+    ensures honest { IsHonest (D.seen (disk_of store.old)) → IsHonest (D.seen (disk_of store.new)) }
     ensures refused { OnErr result ((plain_of store.new ≡ plain_of store.old) × (is_blank store.new ≡ is_blank store.old)) }
     ensures full { IsErrOf result NodeFault.Full → IsPast (place_of store.old) (Some (format_of drawn)) }
     ensures too_long { IsPast (place_of store.old) (Some (format_of drawn)) → IsErrOf result NodeFault.Full ⊎ IsErrOf result NodeFault.NoMemory }

@@ -29,6 +29,7 @@ pub(crate) fn keep<D: Disk>(
     ensures any_moment { (ops : List Kind) → Holds D.seen D.may_leave store.old ops
         → LeavesOnly D.moment D.left_since (disk_of store.old) (disk_of store.new) (StandsForEither (plain_of store.old) (kept op (plain_of store.old))) }
     ensures none { op ≡ None → result ≡ Ok tt }
+    ensures none_kept { op ≡ None → store.new ≡ store.old }
     ensures applied { OnOk result (plain_of store.new ≡ kept op (plain_of store.old)) }
     ensures refused { OnErr result (plain_of store.new ≡ plain_of store.old) }
     ensures blank { is_blank store.new ≡ false }

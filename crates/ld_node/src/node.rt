@@ -157,6 +157,11 @@ impl<D: Disk> Node<D> {
             → (D.plain (disk_of self.new) ≡ Some (after_calls (calls_of (place_of self.old) (handled (id_of self.old) (sets_of self.old) (released_of self.old) (plain_of self.old) msg.now).op) p))
             × (is_ok result ≡ all_succeed (calls_of (place_of self.old) (handled (id_of self.old) (sets_of self.old) (released_of self.old) (plain_of self.old) msg.now).op) p) }
 
+        // A message of which nothing is kept makes no call of the disk.
+        ensures silent { (handled (id_of self.old) (sets_of self.old) (released_of self.old) (plain_of self.old) msg.now).op ≡ None → (disk_of self.new ≡ disk_of self.old) × (place_of self.new ≡ place_of self.old) }
+        ensures silent_works { (handled (id_of self.old) (sets_of self.old) (released_of self.old) (plain_of self.old) msg.now).op ≡ None → result ≢ Err NodeFault.Disk }
+        ensures honest { IsHonest (D.seen (disk_of self.old)) → IsHonest (D.seen (disk_of self.new)) }
+
         ensures full { IsErrOf result NodeFault.Full → IsPast (place_of self.old) (handled (id_of self.old) (sets_of self.old) (released_of self.old) (plain_of self.old) msg.now).op }
         ensures too_long { must_load self.old ≡ false → IsPast (place_of self.old) (handled (id_of self.old) (sets_of self.old) (released_of self.old) (plain_of self.old) msg.now).op → IsErrOf result NodeFault.Full ⊎ IsErrOf result NodeFault.NoMemory }
         ensures needs_load { IsErrOf result NodeFault.NeedsLoad ↔ (must_load self.old ≡ true) }
@@ -202,6 +207,7 @@ impl<D: Disk> Node<D> {
         ensures drawn { (c : Contents) → G.holds reg.old c → IfOk result (λ drawn. (answered drawn ≡ drawn_by c (id_of self.old)) × G.holds reg.new (after_draw c (id_of self.old))) }
         ensures done_or_not { G.told reg.old → ChangedOrNot (G.may_hold reg.old) (G.may_hold reg.new) (λ c. after_draw c (id_of self.old)) }
         ensures told { G.told reg.old → G.told reg.new }
+        ensures settled { G.told reg.old → OnOk result ((c : Contents) → G.may_hold reg.new c → G.holds reg.new c) }
         ensures applied { IfOk result (λ drawn. (plain_of self.new ≡ apply (plain_of self.old) (format_of drawn)) × (is_blank self.new ≡ false)) }
 
         // At `Ok` the format is durable: from then on each crash leaves a journal that has it.
@@ -243,6 +249,7 @@ impl<D: Disk> Node<D> {
 
         ensures needs_load { IsErrOf result NodeFault.NeedsLoad ↔ (must_load self.old ≡ true) }
         ensures needs_no_draw { must_load self.old ≡ true → reg.new ≡ reg.old }
+        ensures honest { IsHonest (D.seen (disk_of self.old)) → IsHonest (D.seen (disk_of self.new)) }
         ensures loads { (must_load self.new ≡ true) ↔ ((must_load self.old ≡ true) ⊎ IsErrOf result NodeFault.Disk) }
         ensures damaged { (place : ℕ) → result ≢ Err (NodeFault.Damaged place) }
         ensures memory { result ≢ Err (NodeFault.Register faults.NoMemory) }
@@ -302,6 +309,11 @@ impl<D: Disk> Node<D> {
             → (D.plain (disk_of self.new) ≡ Some (after_calls (calls_of (place_of self.old) (op_of log (ticked (sets_of self.old) (plain_of self.old) log c))) disk))
             × (is_ok result ≡ all_succeed (calls_of (place_of self.old) (op_of log (ticked (sets_of self.old) (plain_of self.old) log c))) disk) }
 
+        // A tick in which nothing is kept makes no call of the disk.
+        ensures silent { (c : Contents) → G.holds reg.old c → op_of log (ticked (sets_of self.old) (plain_of self.old) log c) ≡ None → (disk_of self.new ≡ disk_of self.old) × (place_of self.new ≡ place_of self.old) }
+        ensures silent_works { (c : Contents) → G.holds reg.old c → op_of log (ticked (sets_of self.old) (plain_of self.old) log c) ≡ None → result ≢ Err NodeFault.Disk }
+        ensures honest { IsHonest (D.seen (disk_of self.old)) → IsHonest (D.seen (disk_of self.new)) }
+
         // A look changes nothing, and where the register tells what it will do, it isn't refused.
         ensures tells { (c : Contents) → G.tells reg.old c → G.tells reg.new c }
         ensures foretold { (c : Contents) (fault : Refusal) → G.tells reg.old c → result ≢ Err (NodeFault.Register fault) }
@@ -311,6 +323,7 @@ impl<D: Disk> Node<D> {
         ensures register_failed { IsErrOf result (NodeFault.Register faults.Failed) → Rose (G.faults reg.old) (G.faults reg.new) }
         ensures register_damaged { (place : ℕ) → IsErrOf result (NodeFault.Register (faults.Damaged place)) → G.told reg.old → G.damaged reg.old place }
         ensures told { G.told reg.old → G.told reg.new }
+        ensures settled { G.told reg.old → is_some (find log (sets_of self.old)) ≡ true → OnOk result ((c : Contents) → G.may_hold reg.new c → G.holds reg.new c) }
         ensures same { (c : Contents) → G.may_hold reg.new c → G.may_hold reg.old c }
 
         ensures full { (c : Contents) → G.holds reg.old c → IsErrOf result NodeFault.Full → IsPast (place_of self.old) (op_of log (ticked (sets_of self.old) (plain_of self.old) log c)) }

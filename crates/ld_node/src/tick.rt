@@ -1,5 +1,5 @@
 // What a tick makes a node do.
-ghost use Rattle.std.specs.Prelude.{◌≡◌, ◌≢◌, ◌⊎◌, ◌≤◌, ℕ, List, [], IfOk, IfErr, IfSome, IsErrOf, Err, None};
+ghost use Rattle.std.specs.Prelude.{◌≡◌, ◌≢◌, ◌⊎◌, ◌≤◌, ℕ, List, [], IfOk, IfErr, IfSome, OnOk, IsErrOf, Err, None};
 ghost use Rattle.ld_io.specs.Causes.{Rose};
 ghost use Rattle.ld_ids.specs.Id.{IsLog};
 ghost use Rattle.ld_ids.specs.Set.{members};
@@ -58,6 +58,7 @@ pub(crate) fn look<G: Register>(
     ensures foretold { (c : Contents) → G.tells reg.old c → IfErr result (λ fault. fault ≡ NodeFault.NoMemory) }
     ensures change { IfOk result (λ step. AreChanges step.op) }
     ensures told { G.told reg.old → G.told reg.new }
+    ensures settled { G.told reg.old → OnOk result ((c : Contents) → G.may_hold reg.new c → G.holds reg.new c) }
     ensures same { (c : Contents) → G.may_hold reg.new c → G.may_hold reg.old c }
     ensures register { (fault : Refusal) → IsErrOf result (NodeFault.Register fault) → IsOfLook fault }
     ensures register_failed { IsErrOf result (NodeFault.Register faults.Failed) → Rose (G.faults reg.old) (G.faults reg.new) }

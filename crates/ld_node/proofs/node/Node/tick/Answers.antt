@@ -4,7 +4,7 @@ use Rattle.ld_disk.specs.Moments.{LeavesOnly}
 use Rattle.ld_disk.specs.Plain.{after_calls, all_succeed}
 use Rattle.ld_store.specs.Ops.{StandsForEither}
 use Rattle.ld_store.specs.Open.{Holds}
-use Rattle.ld_store.specs.Open.{disk_of as store_disk}
+use Rattle.ld_store.specs.Open.{disk_of as store_disk, place_of as store_place}
 use Rattle.ld_node.specs.Changes.{AreChanges, kept, with_op, calls_of, IsPast}
 use Rattle.ld_node.specs.Looks.{nodes_in, ticked, op_of, answer_of}
 use Rattle.ld_node.specs.Node.{id_of, sets_of, disk_of, place_of, plain_of}
@@ -89,6 +89,19 @@ returns-in_err-keep-clause-change g c ct h is =
     (op_is (sets_of node) (plain_of node) c.plain.result.now.state c.args.log ct c.in-Some.set c.in_ok-step.step.op (sym c.in-Some.is ∙ c.nodes_of.ensures.nodes) c.plain.ensures.state (c.in_ok-step.ensures.step ct h).op)
     c.in_ok-step.ensures.change
 
+pub returns-in_err-keep-clause-silent : goal.returns-in_err-keep-clause-silent
+returns-in_err-keep-clause-silent g c ct h none =
+    let node = c.args.self.now in
+    let same = c.in_err-keep.ensures.none_kept
+    (op_is (sets_of node) (plain_of node) c.plain.result.now.state c.args.log ct c.in-Some.set c.in_ok-step.step.op (sym c.in-Some.is ∙ c.nodes_of.ensures.nodes) c.plain.ensures.state (c.in_ok-step.ensures.step ct h).op ∙ none) in
+    (ap store_disk same, ap store_place same)
+
+pub returns-in_err-keep-clause-silent_works : goal.returns-in_err-keep-clause-silent_works
+returns-in_err-keep-clause-silent_works g c ct h none =
+    let node = c.args.self.now in
+    absurd (cc (c.in_err-keep.ensures.none
+    (op_is (sets_of node) (plain_of node) c.plain.result.now.state c.args.log ct c.in-Some.set c.in_ok-step.step.op (sym c.in-Some.is ∙ c.nodes_of.ensures.nodes) c.plain.ensures.state (c.in_ok-step.ensures.step ct h).op ∙ none)))
+
 -- ---- an op that is kept ----
 
 pub returns-clause-answer : goal.returns-clause-answer
@@ -130,3 +143,10 @@ returns-clause-too_long g c ct h works past =
     let node = c.args.self.now in
     let o = op_is (sets_of node) (plain_of node) c.plain.result.now.state c.args.log ct c.in-Some.set c.in_ok-step.step.op (sym c.in-Some.is ∙ c.nodes_of.ensures.nodes) c.plain.ensures.state (c.in_ok-step.ensures.step ct h).op in
     absurd (⊎_elim (λ e. no_refusal c.in_ok-keep.field-0 nodes.Full e) (λ e. no_refusal c.in_ok-keep.field-0 nodes.NoMemory e) (c.in_ok-keep.ensures.too_long (subst (λ o. IsPast (place_of node) o) (sym o) past)))
+
+pub returns-clause-silent : goal.returns-clause-silent
+returns-clause-silent g c ct h none =
+    let node = c.args.self.now in
+    let same = c.in_ok-keep.ensures.none_kept
+    (op_is (sets_of node) (plain_of node) c.plain.result.now.state c.args.log ct c.in-Some.set c.in_ok-step.step.op (sym c.in-Some.is ∙ c.nodes_of.ensures.nodes) c.plain.ensures.state (c.in_ok-step.ensures.step ct h).op ∙ none) in
+    (ap store_disk same, ap store_place same)
