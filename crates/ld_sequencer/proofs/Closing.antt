@@ -9,7 +9,9 @@ use Rattle.ld_msg.specs.Sequencer.{Sequencer, Recovery, Stage, Seals, Stores, Cl
 use Rattle.ld_recovery.specs.declared.state.Answer as answered
 use Rattle.ld_recovery.specs.declared.state.Answer.TheVariants as answers
 use Rattle.ld_recovery.specs.States.{answer_of}
+use Rattle.ld_register.specs.Calls.{after_close as after_the_close, ChangedOrNot}
 use Rattle.ld_sequencer.specs.Own.{listed}
+use Rattle.ld_sequencer.specs.Register.{after_tries}
 use Rattle.ld_sequencer.specs.declared.whole.Report.{Report}
 use Rattle.ld_sequencer.specs.declared.fault.SequencerFault.{SequencerFault}
 use Rattle.ld_sequencer.specs.Whole.{Whole, as_now, sent_as, with_recovery, closing_in, closing_stage, closing_of, closed_acts, tried, tried_with, called_by, recovery_acts, Acted, IsFresh}
@@ -201,3 +203,11 @@ pub held_by : (w n : Whole) (r : Report) (old new : List Msg) (e : ℕ) (y : Sum
     → (r.register_failed ≡ true) ⊎ (Acted w n r old new (closed_acts w e y (close c w.sequencer.log e y).answer) × K (close c w.sequencer.log e y).register)
 held_by w n r old new e y d c K a (inl f) = inl (failed_shown w n r old new e y d f a)
 held_by w n r old new e y d c K a (inr k) = inr (subst (λ (x : Answer). Acted w n r old new (closed_acts w e y x)) k.0 a, k.1)
+
+-- ---- what a crash may leave of the register ----
+
+pub into_changed : (w : Whole) (q : Sequencer) (a : Acts) (e : ℕ) (y : Summary) (P Q : Register → Type 0) → Into w q a e y → ChangedOrNot P Q (λ c. after_the_close c w.sequencer.log e y) → ChangedOrNot P Q (λ c. after_tries c w.sequencer.log a.tries)
+into_changed w q a e y P Q h k = subst (λ (x : Acts). ChangedOrNot P Q (λ c. after_tries c w.sequencer.log x.tries)) (sym h) k
+
+pub due_changed : (old mid : Whole) (o om : List Msg) (a : Acts) (e : ℕ) (y : Summary) (P Q : Register → Type 0) → Due old mid o om a e y → ChangedOrNot P Q (λ c. after_the_close c mid.sequencer.log e y) → ChangedOrNot P Q (λ c. after_tries c old.sequencer.log a.tries)
+due_changed old mid o om a e y P Q d k = into_changed old (with_recovery d.recovery old.sequencer) a e y P Q d.acts (subst (λ (m : Whole). ChangedOrNot P Q (λ c. after_the_close c m.sequencer.log e y)) d.now k)

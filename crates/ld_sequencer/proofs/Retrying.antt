@@ -8,6 +8,8 @@ use Rattle.ld_msg.specs.declared.msg.Body.{Body}
 use Rattle.ld_msg.specs.declared.msg.Who.TheVariants as whos
 use Rattle.ld_msg.specs.Register.{Register, Answer, Granted, AtLimit, Behind, Fails, close}
 use Rattle.ld_msg.specs.Sequencer.{Sequencer, Recovery, Stage, Seals, Stores, Closes, Acts, called, does_nothing, after_close, preempt, goes_on, acted_messages, release_messages, retries_recovery, retries_stage, retries_appends, on_retry, unless_preempted, raised, item_stores, next_wave, recovery_of}
+use Rattle.ld_register.specs.Calls.{ChangedOrNot}
+use Rattle.ld_sequencer.specs.Register.{after_tries}
 use Rattle.ld_sequencer.specs.declared.whole.Report.{Report}
 use Rattle.ld_sequencer.specs.declared.fault.SequencerFault.{SequencerFault}
 use Rattle.ld_sequencer.specs.Whole.{Whole, as_now, sent_as, tried, tried_with, called_by, recovery_acts, retry_acts, pending_stores, Acted, Unclosed, IsRefused}
@@ -207,3 +209,6 @@ retry_refused w v n (Err f) o om on e p t h = refused_then w n f o om on p t (su
 pub retry_room : (w v : Whole) (r : Result Report SequencerFault) (Z : ℕ → Type 0) → raised_whole w ≡ v → is_some w.sequencer.preempted ≡ false → OnOk r (((recovery_acts v).tries ≡ []) ⊎ Z v.sequencer.log) → OnOk r (((retry_acts w).tries ≡ []) ⊎ Z w.sequencer.log)
 retry_room w v (Ok x) Z e p h = subst (λ (z : Acts). (z.tries ≡ []) ⊎ Z w.sequencer.log) (sym (retry_is w p)) (subst (λ (z : Whole). ((recovery_acts z).tries ≡ []) ⊎ Z z.sequencer.log) (sym e) h)
 retry_room w v (Err f) Z e p h = tt
+
+pub retry_changed : (w v : Whole) (P Q : Register → Type 0) → raised_whole w ≡ v → is_some w.sequencer.preempted ≡ false → ChangedOrNot P Q (λ c. after_tries c v.sequencer.log (recovery_acts v).tries) → ChangedOrNot P Q (λ c. after_tries c w.sequencer.log (retry_acts w).tries)
+retry_changed w v P Q e p h = subst (λ (z : Acts). ChangedOrNot P Q (λ c. after_tries c w.sequencer.log z.tries)) (sym (retry_is w p)) (subst (λ (z : Whole). ChangedOrNot P Q (λ c. after_tries c z.sequencer.log (recovery_acts z).tries)) (sym e) h)

@@ -1,4 +1,8 @@
--- A register's answers as a sequencer passes them on.
+-- A register's answers as a sequencer passes them on, and what its closes leave.
+use Rattle.std.specs.Prelude.{ℕ, List, [], ◌∷◌}
+use Rattle.ld_msg.specs.declared.msg.Summary.{Summary}
+use Rattle.ld_msg.specs.Register.{Register}
+use Rattle.ld_register.specs.Calls.{after_close}
 use Rattle.ld_register.specs.declared.fault.RegisterFault.{RegisterFault}
 use Rattle.ld_register.specs.declared.fault.RegisterFault.TheVariants as registers
 use Rattle.ld_sequencer.specs.declared.fault.SequencerFault.{SequencerFault}
@@ -20,3 +24,8 @@ abbrev pub MayCome : SequencerFault → Type 0
 MayCome (sequencers.Register registers.Failed) = Unit {0}
 MayCome (sequencers.Register (registers.Damaged place)) = Unit {0}
 MayCome _ = ⊥
+
+-- these contents after the close of a log's epoch that a call tries, where it tries one
+abbrev pub after_tries : Register → ℕ → List (ℕ × Summary) → Register
+after_tries c log [] = c
+after_tries c log (t ∷ ts) = after_close c log t.0 t.1

@@ -1,11 +1,11 @@
 // The close of an epoch in the register.
-ghost use Rattle.std.specs.Prelude.{◌≡◌, ◌⊎◌, ◌≤◌, ◌-◌, ◌^◌, true, false, IfOk, IfErr};
+ghost use Rattle.std.specs.Prelude.{◌≡◌, ◌⊎◌, ◌≤◌, ◌-◌, ◌^◌, true, false, IfOk, IfErr, OnErr};
 ghost use Rattle.ld_io.specs.Causes.{Rose};
 ghost use Rattle.ld_msg.specs.Bounds.{IsSummary};
 ghost use Rattle.ld_msg.specs.Register.{Register as Contents, close as closes, is_crowded};
 ghost use Rattle.ld_recovery.specs.States.{answer_of, is_epoch_answer};
 ghost use Rattle.ld_recovery.specs.declared.state.Answer.TheVariants as answers;
-ghost use Rattle.ld_register.specs.Calls.{after_close, ChangedOrNot, is_full, close_length};
+ghost use Rattle.ld_register.specs.Calls.{after_close, ChangedOrNot, Keeps, is_full, close_length};
 ghost use Rattle.ld_register.specs.declared.fault.RegisterFault.TheVariants as registers;
 ghost use Rattle.ld_sequencer.specs.declared.fault.SequencerFault.TheVariants as faults;
 ghost use Rattle.ld_sequencer.specs.Whole.{IsUntimely};
@@ -39,6 +39,7 @@ pub(crate) fn close<G: Register>(
     ensures refused { IfErr result (λ fault. (fault ≡ faults.NoMemory) ⊎ IsUntimely fault) }
     ensures told { G.told reg.old → G.told reg.new }
     ensures done_or_not { G.told reg.old → ChangedOrNot (G.may_hold reg.old) (G.may_hold reg.new) (λ c. after_close c log epoch summary.now) }
+    ensures keeps { OnErr result (Keeps (G.holds reg.old) (G.holds reg.new) (G.may_hold reg.old) (G.may_hold reg.new)) }
     ensures counts { G.faults reg.old ≤ G.faults reg.new }
 {
     match reg.close(alloc, log, epoch, summary) {

@@ -10,6 +10,8 @@ mod send;
 #[cfg(test)]
 mod tests;
 mod whole;
+#[cfg(test)]
+mod whole_tests;
 
 pub use fault::SequencerFault;
 pub use own::{Learnt, OwnEpoch};

@@ -8,12 +8,12 @@ ghost use Rattle.ld_msg.specs.declared.msg.Body.TheVariants.{Trim};
 ghost use Rattle.ld_msg.specs.Register.{Register as Contents, Answer as Ends, Granted, Behind, close as closes, is_crowded};
 ghost use Rattle.ld_msg.specs.Sequencer.{released_of, appending, Numbered, appended, first_stores, next_esn, to_each, does_nothing, goes_on, acted_messages, after_close, recovery_of, recovery_asks, release_messages};
 ghost use Rattle.ld_recovery.specs.States.{answer_of, is_epoch_answer};
-ghost use Rattle.ld_register.specs.Calls.{activated as answered, after_activate, ChangedOrNot, is_full, close_length};
+ghost use Rattle.ld_register.specs.Calls.{activated as answered, after_activate, after_close as after_the_close, ChangedOrNot, Keeps, is_full, close_length};
 ghost use Rattle.ld_register.specs.declared.register.Grant.{Grant};
 ghost use Rattle.ld_register.specs.declared.fault.RegisterFault.TheVariants as registers;
 ghost use Rattle.ld_sequencer.specs.declared.fault.SequencerFault.TheVariants as faults;
 ghost use Rattle.ld_sequencer.specs.Own.{append_fault, trim_fault, listed};
-ghost use Rattle.ld_sequencer.specs.Register.{MayCome};
+ghost use Rattle.ld_sequencer.specs.Register.{MayCome, after_tries};
 ghost use Rattle.ld_recovery.specs.declared.state.Answer.TheVariants as answers;
 ghost use Rattle.ld_sequencer.specs.Sending.{BeginsWith};
 ghost use Rattle.ld_sequencer.specs.Whole.{as_now, sent_as, next_in, closed_acts, closing_of, is_of_earlier, is_for_recovery, reply_acts, retry_acts, recovery_acts, pending_stores, tried, called_by, risen, Acted, IsFresh, IsRefused, IsUntimely, active, first_asks, Activates, IsActive};
@@ -191,8 +191,11 @@ impl Sequencer {
     /// are no node's.
     ///
     /// It is refused with `Register` and `LogLimit` exactly where 64 other logs are held, and with `Register` and `Damaged`
-    /// where the register's bytes are no journal: then all has been done but the close, which a retry tries again. After
-    /// `NoMemory` it isn't to be used again.
+    /// where the register's bytes are no journal: then all has been done but the close, which a retry tries again, and the
+    /// register holds what it held. After `NoMemory` it isn't to be used again.
+    ///
+    /// Whatever the register answers, what a crash may leave of it is what it might leave before, with the close that was
+    /// tried made or not.
     pub fn on_reply<G: Register>(
         &mut self,
         alloc: Global,
@@ -212,6 +215,8 @@ impl Sequencer {
             → IfErr result (λ fault. (fault ≡ faults.NoMemory) ⊎ ((fault ≡ faults.Register registers.LogLimit) × (is_crowded c self.old.sequencer.log ≡ true) × G.tells reg.new c)) }
         ensures room { (c : Contents) → G.tells reg.old c → OnOk result (((reply_acts self.old msg.now.from msg.now.body).tries ≡ []) ⊎ (is_crowded c self.old.sequencer.log ≡ false)) }
         ensures told { G.told reg.old → G.told reg.new }
+        ensures done_or_not { G.told reg.old → ChangedOrNot (G.may_hold reg.old) (G.may_hold reg.new) (λ c. after_tries c self.old.sequencer.log (reply_acts self.old msg.now.from msg.now.body).tries) }
+        ensures keeps { IfErr result (λ fault. (fault ≡ faults.NoMemory) ⊎ Keeps (G.holds reg.old) (G.holds reg.new) (G.may_hold reg.old) (G.may_hold reg.new)) }
         ensures counts { G.faults reg.old ≤ G.faults reg.new }
     {
         let was_closing = self.closing().is_some();
@@ -230,7 +235,8 @@ impl Sequencer {
     /// does nothing.
     ///
     /// The register's answer to a close does what it does in `on_reply`, and so do its refusals: then all has been done but
-    /// the close. After `NoMemory` it isn't to be used again.
+    /// the close, and the register holds what it held. After `NoMemory` it isn't to be used again. What a crash may leave of
+    /// the register is as it is there.
     pub fn retry<G: Register>(
         &mut self,
         alloc: Global,
@@ -248,6 +254,8 @@ impl Sequencer {
             → IfErr result (λ fault. (fault ≡ faults.NoMemory) ⊎ ((fault ≡ faults.Register registers.LogLimit) × (is_crowded c self.old.sequencer.log ≡ true) × G.tells reg.new c)) }
         ensures room { (c : Contents) → G.tells reg.old c → OnOk result (((retry_acts self.old).tries ≡ []) ⊎ (is_crowded c self.old.sequencer.log ≡ false)) }
         ensures told { G.told reg.old → G.told reg.new }
+        ensures done_or_not { G.told reg.old → ChangedOrNot (G.may_hold reg.old) (G.may_hold reg.new) (λ c. after_tries c self.old.sequencer.log (retry_acts self.old).tries) }
+        ensures keeps { IfErr result (λ fault. (fault ≡ faults.NoMemory) ⊎ Keeps (G.holds reg.old) (G.holds reg.new) (G.may_hold reg.old) (G.may_hold reg.new)) }
         ensures counts { G.faults reg.old ≤ G.faults reg.new }
     {
         if self.own.is_preempted() {
@@ -372,6 +380,8 @@ impl Sequencer {
         ensures crowded { (c : Contents) → G.tells reg.old c
             → IfErr result (λ fault. (fault ≡ faults.NoMemory) ⊎ ((fault ≡ faults.Register registers.LogLimit) × (is_crowded c self.old.sequencer.log ≡ true) × G.tells reg.new c)) }
         ensures told { G.told reg.old → G.told reg.new }
+        ensures done_or_not { G.told reg.old → ChangedOrNot (G.may_hold reg.old) (G.may_hold reg.new) (λ c. after_the_close c self.old.sequencer.log epoch summary.now) }
+        ensures keeps { IfErr result (λ fault. (fault ≡ faults.NoMemory) ⊎ Keeps (G.holds reg.old) (G.holds reg.new) (G.may_hold reg.old) (G.may_hold reg.new)) }
         ensures counts { G.faults reg.old ≤ G.faults reg.new }
     {
         let answer = close(alloc, reg, self.own.spec().log, epoch, summary)?;
@@ -485,6 +495,8 @@ impl Sequencer {
             → IfErr result (λ fault. (fault ≡ faults.NoMemory) ⊎ ((fault ≡ faults.Register registers.LogLimit) × (is_crowded c self.old.sequencer.log ≡ true) × G.tells reg.new c)) }
         ensures room { (c : Contents) → G.tells reg.old c → OnOk result (((recovery_acts self.old).tries ≡ []) ⊎ (is_crowded c self.old.sequencer.log ≡ false)) }
         ensures told { G.told reg.old → G.told reg.new }
+        ensures done_or_not { G.told reg.old → ChangedOrNot (G.may_hold reg.old) (G.may_hold reg.new) (λ c. after_tries c self.old.sequencer.log (recovery_acts self.old).tries) }
+        ensures keeps { IfErr result (λ fault. (fault ≡ faults.NoMemory) ⊎ Keeps (G.holds reg.old) (G.holds reg.new) (G.may_hold reg.old) (G.may_hold reg.new)) }
         ensures counts { G.faults reg.old ≤ G.faults reg.new }
     {
         match self.closing() {

@@ -2,7 +2,7 @@ use Rattle.std.proofs.Common.{◌≡◌, ◌++◌, ◌∙◌, sym, ap, inr, fals
 use Rattle.ld_msg.specs.Register.{is_crowded}
 use Rattle.std.proofs.Common.{is_some}
 use Rattle.ld_sequencer.specs.Whole.{Whole, joined, sent_as, pending_stores}
-use Rattle.ld_sequencer.proofs.Retrying.{still_exact, still_acted, still_room, raised_whole, retry_exact, retry_acted, retry_held, retry_refused, retry_room}
+use Rattle.ld_sequencer.proofs.Retrying.{still_exact, still_acted, still_room, raised_whole, retry_exact, retry_acted, retry_held, retry_refused, retry_room, retry_changed}
 use Rattle.ld_sequencer.proofs.whole.Sequencer.retry.Goals as goal
 
 pub returns-then-is_preempted-clause-exact : goal.returns-then-is_preempted-clause-exact
@@ -65,3 +65,19 @@ returns-clause-room g c = λ x h.
     let p = ap (λ (z : Whole). is_some z.sequencer.preempted) (sym c.self.view_is) ∙ (sym c.is_preempted.ensures ∙ c.if-is_preempted.false) in
     let s = c.in_ok-send.ensures ∙ ap (λ (z : Whole). om ++ sent_as z (pending_stores z)) c.self-2.view_is in
     retry_room w v r (λ l. is_crowded x l ≡ false) e p (c.retry_recovery-report.ensures.room x h)
+
+pub returns-in_err-send-clause-done_or_not : goal.returns-in_err-send-clause-done_or_not
+returns-in_err-send-clause-done_or_not g c = λ t.
+    let w = c.args.self.now in let m = c.self.inside.recovery in
+    let v = joined c.raise.new.self m in
+    let e = ap raised_whole (sym c.self.view_is) ∙ ap (λ x. joined x m) (sym c.raise.ensures) in
+    let p = ap (λ (z : Whole). is_some z.sequencer.preempted) (sym c.self.view_is) ∙ (sym c.is_preempted.ensures ∙ c.if-is_preempted.false) in
+    retry_changed w v (g.G.Register.may_hold c.args.reg.now) (g.G.Register.may_hold c.retry_recovery-report.new.reg) e p (c.retry_recovery-report.ensures.done_or_not t)
+
+pub returns-clause-done_or_not : goal.returns-clause-done_or_not
+returns-clause-done_or_not g c = λ t.
+    let w = c.args.self.now in let m = c.self.inside.recovery in
+    let v = joined c.raise.new.self m in
+    let e = ap raised_whole (sym c.self.view_is) ∙ ap (λ x. joined x m) (sym c.raise.ensures) in
+    let p = ap (λ (z : Whole). is_some z.sequencer.preempted) (sym c.self.view_is) ∙ (sym c.is_preempted.ensures ∙ c.if-is_preempted.false) in
+    retry_changed w v (g.G.Register.may_hold c.args.reg.now) (g.G.Register.may_hold c.retry_recovery-report.new.reg) e p (c.retry_recovery-report.ensures.done_or_not t)

@@ -1,7 +1,7 @@
 use Rattle.std.proofs.Common.{◌≡◌, ◌∙◌, sym, false}
 use Rattle.ld_msg.specs.Register.{is_crowded}
 use Rattle.ld_sequencer.specs.Whole.{recovery_acts}
-use Rattle.ld_sequencer.proofs.Closing.{tries_due, into_exact, into_acted, into_held}
+use Rattle.ld_sequencer.proofs.Closing.{tries_due, into_exact, into_acted, into_held, into_changed}
 use Rattle.ld_sequencer.proofs.whole.Sequencer.retry_recovery.Goals as goal
 
 pub returns-in-Some-clause-exact : goal.returns-in-Some-clause-exact
@@ -18,3 +18,8 @@ pub returns-in-Some-clause-held : goal.returns-in-Some-clause-held
 returns-in-Some-clause-held g c = λ x h.
     let w = c.args.self.now in let e = c.in-Some.epoch in let y = c.in-Some.summary in
     into_held w c.close.new.self w.sequencer c.close.result c.args.out.now c.close.new.out (recovery_acts w) e y x (g.G.Register.holds c.close.new.reg) (tries_due w e y (sym c.closing.ensures.closing ∙ c.in-Some.is)) (c.close.ensures.held x h)
+
+pub returns-in-Some-clause-done_or_not : goal.returns-in-Some-clause-done_or_not
+returns-in-Some-clause-done_or_not g c = λ t.
+    let w = c.args.self.now in let e = c.in-Some.epoch in let y = c.in-Some.summary in
+    into_changed w w.sequencer (recovery_acts w) e y (g.G.Register.may_hold c.args.reg.now) (g.G.Register.may_hold c.close.new.reg) (tries_due w e y (sym c.closing.ensures.closing ∙ c.in-Some.is)) (c.close.ensures.done_or_not t)
