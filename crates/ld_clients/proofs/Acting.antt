@@ -205,6 +205,7 @@ goes_as : (k g : Client) (x : Sequencer) → g.dropped ≡ k.dropped → g.seque
 goes_as k g x d e m = record {
   spec = ap (λ (y : Whole). y.spec) e;
   log = ap (λ (y : Whole). y.sequencer.log) e ∙ m.log;
+  epoch = ap (λ (y : Whole). y.sequencer.epoch) e ∙ m.epoch;
   gone = ap (λ (y : Whole). y.sequencer.gone) e ∙ m.gone;
   dropped = d;
 }
@@ -221,7 +222,7 @@ answered_goes k g (Ok report) old new a m d t x n = goes_as k g (tried k.sequenc
 answered_goes k g (Err fault) old new a m d t x n = refused_goes k g fault (Err fault) old new a refl n d m x
 
 pub appended_goes : (k g : Client) (p : List ℕ) → g.dropped ≡ k.dropped → g.sequencer ≡ as_now k.sequencer (appended k.sequencer.sequencer p) → GoesOn k g
-appended_goes k g p d e = goes_as k g (appended k.sequencer.sequencer p) d e record { log = refl; gone = refl }
+appended_goes k g p d e = goes_as k g (appended k.sequencer.sequencer p) d e record { log = refl; epoch = refl; gone = refl }
 
 pub same_goes : (k g : Client) → g ≡ k → GoesOn k g
-same_goes k g e = record { spec = ap (λ (x : Client). x.sequencer.spec) e; log = ap (λ (x : Client). x.sequencer.sequencer.log) e; gone = ap (λ (x : Client). x.sequencer.sequencer.gone) e; dropped = ap (λ (x : Client). x.dropped) e }
+same_goes k g e = record { spec = ap (λ (x : Client). x.sequencer.spec) e; log = ap (λ (x : Client). x.sequencer.sequencer.log) e; epoch = ap (λ (x : Client). x.sequencer.sequencer.epoch) e; gone = ap (λ (x : Client). x.sequencer.sequencer.gone) e; dropped = ap (λ (x : Client). x.dropped) e }

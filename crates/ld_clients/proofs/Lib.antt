@@ -11,3 +11,4 @@ pub mod Reading
 pub mod Refusing
 pub mod Rows
 pub mod Serving
+pub mod Standing

@@ -1,5 +1,5 @@
 -- Sequencers by name.
-use Rattle.std.proofs.Common.{◌≡◌, ℕ, zero, suc, ◌+◌, ◌≤◌, Bool, true, false, ◌&&◌, ◌==◌, List, [], ◌∷◌, length, drop, slice_get, Option, Some, None, option_map, refl, ap, sym, ◌∙◌, subst, arith, if◌then◌else◌}
+use Rattle.std.proofs.Common.{◌≡◌, ℕ, Bool, true, false, ◌&&◌, ◌==◌, List, [], ◌∷◌, Option, Some, None, option_map, refl, ap, sym, ◌∙◌, subst, if◌then◌else◌}
 use Rattle.ld_table.specs.Named.{find_named, put_named}
 use Rattle.ld_config.specs.declared.config.Config.{Config}
 use Rattle.ld_msg.specs.Sequencer.{Sequencer}
@@ -8,34 +8,13 @@ use Rattle.ld_machine.specs.Step.{dropped}
 use Rattle.ld_machine.specs.Config.{spec_in, has_log}
 use Rattle.ld_clients.specs.declared.client.Client.{Client}
 use Rattle.ld_clients.specs.Serving.{shown, sequencers_of, serving_in, IsWhole, GoesOn, AreWhole, Knows, KnowTheirLogs}
+use Rattle.ld_clients.specs.Places.{serves}
 use Rattle.ld_clients.proofs.Names.{all_put}
 
 abbrev Serving : Type 0
 Serving = List (List ℕ × Client)
 
-abbrev is_of : ℕ → ℕ → List ℕ × Client → Bool
-is_of l e k = (k.1.sequencer.sequencer.log == l) && (k.1.sequencer.sequencer.epoch == e)
-
 -- ---- by log and epoch ----
-
-here : (l e : ℕ) (ks : Serving) (i : ℕ) (k : List ℕ × Client) → slice_get ks i ≡ Some k → serving_in l e (drop i ks) ≡ (if is_of l e k then Some k else serving_in l e (drop (suc i) ks))
-here l e [] i k h = absurd (cc)
-here l e (x ∷ ks) zero k h = let s : x ≡ k = cc in ap (λ y. if is_of l e y then Some y else serving_in l e ks) s
-here l e (x ∷ ks) (suc i) k h = here l e ks i k h
-
-pub found_here : (l e : ℕ) (ks : Serving) (i : ℕ) (k : List ℕ × Client) → slice_get ks i ≡ Some k → is_of l e k ≡ true → serving_in l e (drop i ks) ≡ Some k
-found_here l e ks i k h t = here l e ks i k h ∙ ap (λ b. if b then Some k else serving_in l e (drop (suc i) ks)) t
-
-pub found_later : (l e : ℕ) (ks : Serving) (i : ℕ) (k : List ℕ × Client) → slice_get ks i ≡ Some k → is_of l e k ≡ false → serving_in l e (drop (i + 1) ks) ≡ serving_in l e (drop i ks)
-found_later l e ks i k h t =
-    let n : i + 1 ≡ suc i = omega arith in
-    ap (λ j. serving_in l e (drop j ks)) n ∙ sym (here l e ks i k h ∙ ap (λ b. if b then Some k else serving_in l e (drop (suc i) ks)) t)
-
-pub found_nowhere : (l e : ℕ) (ks : Serving) (i : ℕ) → length ks ≤ i → serving_in l e (drop i ks) ≡ None
-found_nowhere l e [] zero h = refl
-found_nowhere l e [] (suc i) h = refl
-found_nowhere l e (k ∷ ks) zero h = absurd (omega arith)
-found_nowhere l e (k ∷ ks) (suc i) h = found_nowhere l e ks i (omega arith)
 
 abbrev pub as_shown : List ℕ × Client → List ℕ × Sequencer
 as_shown k = (k.0, shown k.1)
@@ -59,7 +38,7 @@ of_step false true k o p e h = absurd cc
 
 pub sequencer_of_is : (l e : ℕ) (ks : Serving) → sequencer_of l e (sequencers_of ks) ≡ option_map as_shown (serving_in l e ks)
 sequencer_of_is l e [] = refl
-sequencer_of_is l e (k ∷ ks) = of_step (is_of l e k) _ k _ _ (same_test l e k.1) (sequencer_of_is l e ks)
+sequencer_of_is l e (k ∷ ks) = of_step (serves l e k.1) _ k _ _ (same_test l e k.1) (sequencer_of_is l e ks)
 
 name_map : (o : Option (List ℕ × Client)) → name_of (option_map as_shown o) ≡ name_of o
 name_map None = refl

@@ -3,6 +3,7 @@ pub mod Followers
 pub mod Items
 pub mod Looked
 pub mod Names
+pub mod Places
 pub mod Reads
 pub mod Refusing
 pub mod Serving

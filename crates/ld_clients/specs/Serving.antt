@@ -31,6 +31,7 @@ pub record IsWhole (w : Whole) : Type 0 where
 pub record GoesOn (before after : Client) : Type 0 where
   pub spec : after.sequencer.spec ≡ before.sequencer.spec
   pub log : after.sequencer.sequencer.log ≡ before.sequencer.sequencer.log
+  pub epoch : after.sequencer.sequencer.epoch ≡ before.sequencer.sequencer.epoch
   pub gone : after.sequencer.sequencer.gone ≡ before.sequencer.sequencer.gone
   pub dropped : after.dropped ≡ before.dropped
 

@@ -1,5 +1,5 @@
 // One sequencer of a run, which may have been dropped.
-ghost use Rattle.std.specs.Prelude.{◌≡◌, ◌==◌, ◌&&◌, true, false, Some, IfOk, OnOk};
+ghost use Rattle.std.specs.Prelude.{◌≡◌, true, false, Some, IfOk, OnOk};
 ghost use Rattle.ld_config.specs.declared.config.Config.{Config as Contents};
 ghost use Rattle.ld_msg.specs.Bounds.{IsMessage};
 ghost use Rattle.ld_msg.specs.Register.{is_crowded};
@@ -28,12 +28,19 @@ pub(crate) struct Client {
 }
 
 impl Client {
-    /// Whether it is the sequencer of the epoch of the log.
-    pub(crate) fn is_of(&self, log: LogId, epoch: u32) -> bool
+    /// The log that it is a sequencer of.
+    pub(crate) fn log(&self) -> LogId
         requires { IsWhole self.now.sequencer }
-        ensures { result ≡ ((self.now.sequencer.sequencer.log == log) && (self.now.sequencer.sequencer.epoch == epoch)) }
+        ensures { result ≡ self.now.sequencer.sequencer.log }
     {
-        self.sequencer.spec().log == log && self.sequencer.epoch() == epoch
+        self.sequencer.spec().log
+    }
+
+    /// The epoch that it is the sequencer of.
+    pub(crate) fn epoch(&self) -> u32
+        ensures { result ≡ self.now.sequencer.sequencer.epoch }
+    {
+        self.sequencer.epoch()
     }
 
     /// It is dropped, or was so before.

@@ -5,6 +5,7 @@ mod client;
 mod lines;
 mod lookup;
 mod outcome;
+mod places;
 mod readers;
 mod reads;
 mod report;

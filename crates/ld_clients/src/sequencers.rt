@@ -1,5 +1,5 @@
 // The sequencers by name, in the order of their activation.
-ghost use Rattle.std.specs.Prelude.{◌≡◌, is_some, ℕ, List, [], ◌∷◌, Some, false, IfOk, OnOk, OnErr, option_copied, option_map};
+ghost use Rattle.std.specs.Prelude.{◌≡◌, is_some, ℕ, List, [], ◌∷◌, Some, None, false, IfOk, OnOk, OnErr, option_copied, option_map};
 ghost use Rattle.ld_config.specs.declared.config.Config.{Config as Contents};
 ghost use Rattle.ld_config.specs.Bounds.{IsInBounds};
 ghost use Rattle.ld_schedule.specs.declared.event.Event.TheVariants.{Activate, Append, Trim, Retry, Drop as Drops};
@@ -15,6 +15,7 @@ ghost use Rattle.ld_clients.specs.Serving.{serving_in, KnowTheirLogs, HasRoom, I
 use crate::Outcome;
 use crate::client::Client;
 use crate::lookup::find_spec;
+use crate::places::Places;
 use crate::report::refused;
 use indexmap::IndexMap;
 use ld_config::Config;
@@ -31,18 +32,19 @@ use std::marker::Model;
 #[derive(Drop)]
 pub struct Sequencers {
     map: IndexMap<Name, Client>,
+    places: Places,
 }
 
 impl Model for Sequencers {
     ghost use Rattle.std.specs.Prelude.{List, ℕ};
     ghost use Rattle.ld_clients.specs.declared.client.Client.{Client};
-    ghost use Rattle.ld_clients.specs.Serving.{AreWhole};
+    ghost use Rattle.ld_clients.specs.Places.{AreServed};
 
     ghost Value = { List (List ℕ × Client) };
 
     ghost view = { λ a. a.map.entries };
 
-    ghost invariant = { λ a. AreWhole a.map.entries };
+    ghost invariant = { λ a. AreServed a.map.entries a.places };
 }
 
 impl Sequencers {
@@ -52,6 +54,7 @@ impl Sequencers {
     {
         Sequencers {
             map: IndexMap::new(alloc),
+            places: Places::new(alloc),
         }
     }
 
@@ -69,15 +72,13 @@ impl Sequencers {
         ensures name { option_copied result ≡ option_map (λ e. e.0) (serving_in log epoch self.now) }
         ensures unique { (e : List ℕ × Seen) → serving_in log epoch self.now ≡ Some e → find_named e.0 self.now ≡ Some e.1 }
     {
-        for index in 0..self.map.len() {
-            let Some((name, client)) = self.map.get_index(index) else {
-                return None;
-            };
-            if client.is_of(log, epoch) {
-                return Some(name);
-            }
-        }
-        None
+        let Some(place) = self.places.get(log, epoch) else {
+            return None;
+        };
+        let Some((name, _)) = self.map.get_index(place) else {
+            return None;
+        };
+        Some(name)
     }
 
     /// Activates a sequencer of the log's next epoch, which asks for what stands in the epochs before it that aren't closed.
@@ -165,6 +166,7 @@ impl Sequencers {
             Ok(outcome) => Ok(outcome),
             Err(refused) => {
                 self.map.clear();
+                self.places.clear();
                 Err(refused)
             }
         }
@@ -206,7 +208,6 @@ impl Sequencers {
     }
 
     /// A new sequencer under a new name. Without memory nothing changes.
-    #[tactic(auto, unfolding(ld_table::specs::Named::put_named, ld_table::specs::Named::same))]
     fn begin(
         &mut self,
         alloc: Global,
@@ -214,7 +215,8 @@ impl Sequencers {
         sequencer: Sequencer,
         sends: Outbox,
     ) -> Result<Outcome, NoMemory>
-        requires { IsWhole sequencer }
+        requires whole { IsWhole sequencer }
+        requires new { find_named name.now self.old ≡ None }
         ensures sequencers { OnOk result (self.new ≡ put_named name.now (record { sequencer = sequencer; dropped = false }) self.old) }
         ensures lines { IfOk result (λ outcome. outcome.lines.items ≡ Active name.now sequencer.sequencer.epoch ∷ []) }
         ensures sends { IfOk result (λ outcome. outcome.sends ≡ sends) }
@@ -230,8 +232,23 @@ impl Sequencers {
             sequencer,
             dropped: false,
         };
-        self.map.insert(taken, client)?;
+        self.add(taken, client)?;
         Ok(outcome)
+    }
+
+    /// A sequencer under a new name, the last in the order of activation. Without memory nothing changes.
+    #[tactic(auto, unfolding(ld_table::specs::Named::put_named, ld_table::specs::Named::same))]
+    fn add(&mut self, name: Name, client: Client) -> Result<(), NoMemory>
+        requires whole { IsWhole client.sequencer }
+        requires new { find_named name self.old ≡ None }
+        ensures ok { OnOk result (self.new ≡ put_named name client self.old) }
+        ensures err { OnErr result (self.new ≡ self.old) }
+    {
+        let place = self.map.len();
+        self.map.reserve(1)?;
+        self.places.note(client.log(), client.epoch(), place)?;
+        self.map.insert(name, client)?;
+        Ok(())
     }
 
     /// The sequencer of the name gets the message. Without memory all sequencers are forgotten.
@@ -255,6 +272,7 @@ impl Sequencers {
             Ok(outcome) => Ok(outcome),
             Err(refused) => {
                 self.map.clear();
+                self.places.clear();
                 Err(refused)
             }
         }

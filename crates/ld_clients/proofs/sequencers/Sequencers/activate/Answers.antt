@@ -1,5 +1,7 @@
 use Rattle.std.proofs.Common.{◌∙◌, refl, sym, subst}
+use Rattle.ld_table.specs.Named.{find_named}
 use Rattle.ld_clients.specs.Serving.{KnowTheirLogs}
+use Rattle.ld_clients.proofs.Names.{none_is}
 use Rattle.ld_clients.proofs.Bounds.{copies_in}
 use Rattle.ld_clients.proofs.Activating.{taken_done, unknown_done, granted_done, refused_done, know_active}
 use Rattle.ld_clients.proofs.sequencers.Sequencers.activate.Goals as goal
@@ -12,6 +14,9 @@ returns-in_default-clause-done g c = λ s h t r. unknown_done c.args.config.now 
 
 pub activate-requires : goal.activate-requires
 activate-requires g c = copies_in c.args.config.now c.args.log c.in-Some.spec c.requires c.in-Some.ensures.found.0 c.in-Some.ensures.found.1
+
+pub begin-requires-clause-new : goal.begin-requires-clause-new
+begin-requires-clause-new g c = none_is (find_named c.args.name.now c.args.self.now) (sym c.has.ensures ∙ c.if-has.false)
 
 pub returns-in_err-outcome-in-Ok-clause-logs : goal.returns-in_err-outcome-in-Ok-clause-logs
 returns-in_err-outcome-in-Ok-clause-logs g c = λ k. subst (KnowTheirLogs c.args.config.now) (sym c.in_err-outcome-in-Ok.ensures.err) k

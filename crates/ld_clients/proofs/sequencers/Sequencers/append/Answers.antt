@@ -6,8 +6,9 @@ use Rattle.ld_machine.specs.Step.{happens}
 use Rattle.ld_schedule.specs.declared.event.Event.TheVariants.{Append}
 use Rattle.ld_clients.proofs.Names.{set_named_is_put}
 use Rattle.ld_clients.proofs.Rows.{on_ok}
-use Rattle.ld_clients.proofs.Serving.{are_whole_after, know_after}
+use Rattle.ld_clients.proofs.Serving.{know_after}
 use Rattle.ld_clients.proofs.Placing.{named, append_nobody, append_somebody}
+use Rattle.ld_clients.proofs.Standing.{served_after}
 use Rattle.ld_clients.proofs.sequencers.Sequencers.append.Goals as goal
 
 pub returns-in_default-clause-done : goal.returns-in_default-clause-done
@@ -20,11 +21,11 @@ returns-in_default-clause-logs c = λ d k. subst (KnowTheirLogs d) (sym ((λ i. 
 
 pub append-requires : goal.append-requires
 unfolding find_named same
-append-requires c = (c.self.invariant c.args.name.now c.in-Some.client.now (sym c.in-Some.ensures.value))
+append-requires c = (c.self.invariant.whole c.args.name.now c.in-Some.client.now (sym c.in-Some.ensures.value))
 
 pub invariant_of-self-2 : goal.invariant_of-self-2
 unfolding find_named same
-invariant_of-self-2 c = are_whole_after c.args.name.now c.in-Some.client.now c.append.new.self c.self.inside.map.entries (c.get_mut.follows.lender c.append.new.self).entries (sym c.in-Some.ensures.value) c.append.ensures.goes_on ((c.get_mut.follows.holds c.append.new.self).0 ∙ set_named_is_put c.args.name.now c.in-Some.client.now c.append.new.self c.self.inside.map.entries (sym c.in-Some.ensures.value)) c.self.invariant
+invariant_of-self-2 c = served_after c.args.name.now c.in-Some.client.now c.append.new.self c.self.inside.map.entries (c.get_mut.follows.lender c.append.new.self).entries c.self.inside.places (sym c.in-Some.ensures.value) c.append.ensures.goes_on ((c.get_mut.follows.holds c.append.new.self).0 ∙ set_named_is_put c.args.name.now c.in-Some.client.now c.append.new.self c.self.inside.map.entries (sym c.in-Some.ensures.value)) c.self.invariant
 
 pub returns-clause-done : goal.returns-clause-done
 unfolding find_named same

@@ -5,9 +5,10 @@ use Rattle.ld_clients.specs.Acting.{HasActed}
 use Rattle.ld_clients.specs.Serving.{shown}
 use Rattle.ld_clients.proofs.Placing.{named, room_for, placed}
 use Rattle.ld_clients.specs.declared.client.Client.{Client}
-use Rattle.ld_clients.specs.Serving.{IsWhole, Knows, KnowTheirLogs, AreWhole}
+use Rattle.ld_clients.specs.Serving.{Knows, KnowTheirLogs}
 use Rattle.ld_clients.proofs.Names.{set_named_is_put, all_none}
-use Rattle.ld_clients.proofs.Serving.{are_whole_after, know_after}
+use Rattle.ld_clients.proofs.Serving.{know_after}
+use Rattle.ld_clients.proofs.Standing.{served_after, served_none}
 use Rattle.ld_clients.proofs.sequencers.Sequencers.hear.Goals as goal
 
 pub returns-in_default-clause-done : goal.returns-in_default-clause-done
@@ -19,14 +20,14 @@ returns-in_default-clause-logs g c = λ d k. subst (KnowTheirLogs d) (sym ((λ i
 
 pub on_reply-requires-clause-whole : goal.on_reply-requires-clause-whole
 unfolding find_named same
-on_reply-requires-clause-whole g c = (c.self.invariant c.args.name.now c.in-Some.client.now (sym c.in-Some.ensures.value))
+on_reply-requires-clause-whole g c = (c.self.invariant.whole c.args.name.now c.in-Some.client.now (sym c.in-Some.ensures.value))
 
 pub invariant_of-self-in-Ok : goal.invariant_of-self-in-Ok
 unfolding find_named same
-invariant_of-self-in-Ok g c = are_whole_after c.args.name.now c.in-Some.client.now c.on_reply.new.self c.self.inside.map.entries (c.get_mut.follows.lender c.on_reply.new.self).entries (sym c.in-Some.ensures.value) c.in-Ok.ensures.goes_on ((c.get_mut.follows.holds c.on_reply.new.self).0 ∙ set_named_is_put c.args.name.now c.in-Some.client.now c.on_reply.new.self c.self.inside.map.entries (sym c.in-Some.ensures.value)) c.self.invariant
+invariant_of-self-in-Ok g c = served_after c.args.name.now c.in-Some.client.now c.on_reply.new.self c.self.inside.map.entries (c.get_mut.follows.lender c.on_reply.new.self).entries c.self.inside.places (sym c.in-Some.ensures.value) c.in-Ok.ensures.goes_on ((c.get_mut.follows.holds c.on_reply.new.self).0 ∙ set_named_is_put c.args.name.now c.in-Some.client.now c.on_reply.new.self c.self.inside.map.entries (sym c.in-Some.ensures.value)) c.self.invariant
 
 pub invariant_of-self-in-Err : goal.invariant_of-self-in-Err
-invariant_of-self-in-Err g c = subst AreWhole (sym c.clear.ensures.empty) (all_none (λ (k : Client). IsWhole k.sequencer))
+invariant_of-self-in-Err g c = served_none c.clear.new.self.entries c.clear-in-Err.new.self c.clear.ensures.empty c.clear-in-Err.ensures
 
 pub returns-in-Ok-clause-done : goal.returns-in-Ok-clause-done
 unfolding find_named same

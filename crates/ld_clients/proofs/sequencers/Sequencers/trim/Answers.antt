@@ -11,7 +11,7 @@ returns-in_default c = λ d s h. trim_nobody d s c.args.self.now h c.args.name.n
 
 pub trim-requires : goal.trim-requires
 unfolding find_named same
-trim-requires c = (c.self.invariant c.args.name.now c.in-Some.client.now (sym c.in-Some.ensures.value))
+trim-requires c = (c.self.invariant.whole c.args.name.now c.in-Some.client.now (sym c.in-Some.ensures.value))
 
 pub returns : goal.returns
 unfolding find_named same
