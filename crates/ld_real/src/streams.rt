@@ -16,8 +16,12 @@ pub struct StdSource<R: Read + Drop> {
 }
 
 impl<R: Read + Drop> StdSource<R> {
-    /// A source over this reader.
-    pub fn new(inner: R) -> StdSource<R> {
+    /// A source over this reader. It has given nothing yet, and no read has failed.
+    pub fn new(inner: R) -> StdSource<R>
+        ensures over { result.inner ≡ inner }
+        ensures given { result.given ≡ 0 }
+        ensures faults { result.faults ≡ 0 }
+    {
         StdSource {
             inner,
             given: 0,
@@ -56,8 +60,11 @@ pub struct StdSink<W: Write + Drop> {
 }
 
 impl<W: Write + Drop> StdSink<W> {
-    /// A sink over this writer.
-    pub fn new(inner: W) -> StdSink<W> {
+    /// A sink over this writer. No write has failed yet.
+    pub fn new(inner: W) -> StdSink<W>
+        ensures over { result.inner ≡ inner }
+        ensures faults { result.faults ≡ 0 }
+    {
         StdSink { inner, faults: 0 }
     }
 }
