@@ -1,17 +1,16 @@
 -- The first line of an input.
-use Rattle.std.proofs.Common.{◌≡◌, ◌≤◌, ◌⊎◌, inl, inr, ℕ, Bool, true, false, List, length, sym, ◌∙◌, refl}
-use Rattle.std.specs.Prelude.{Option, Result, Ok, Err}
+use Rattle.std.proofs.Common.{◌≡◌, ◌≤◌, inl, inr, ℕ, Bool, true, false, List, length, sym, ◌∙◌, refl}
+use Rattle.std.specs.Prelude.{Option, Ok, Err}
 use Rattle.std.specs.Io.KnownBytes.{Consumes}
 use Rattle.std.specs.Str.{IsUtf8, is_utf8}
 use Rattle.std.proofs.lemmas.Str.{IsUtf8-from_is_utf8, is_utf8-from_IsUtf8}
 use Rattle.serde_json.specs.Read.{read}
 use Rattle.ld_lsn.specs.Text.{Lacks}
 use Rattle.ld_config.specs.declared.config.Config.{Config}
-use Rattle.ld_config.specs.declared.fault.ConfigFault.{ConfigFault}
 use Rattle.ld_config.specs.declared.fault.ConfigFault.TheVariants.{NotJson, NoMemory}
 use Rattle.ld_config.specs.Config.{config_of_text, OrNoMemory}
 use Rattle.ld_cli.specs.Lines.{longest, ended}
-use Rattle.ld_cli.specs.Schedule.{Says, Configures}
+use Rattle.ld_cli.specs.Schedule.{Says}
 use Rattle.ld_cli.specs.NextEvent.{TakesConfig}
 
 by_test : (b : Bool) (line : List ℕ) (config : Config) → is_utf8 line ≡ b → ((IsUtf8 line → ⊥) → OrNoMemory (Err NotJson) (Ok config)) → IsUtf8 line

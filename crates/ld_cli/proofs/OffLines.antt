@@ -1,5 +1,5 @@
 -- Lines that are off, by what was taken of the input.
-use Rattle.std.proofs.Common.{◌≡◌, ◌≢◌, ◌⊎◌, inl, inr, ◌≤◌, ◌<◌, ◌+◌, ℕ, List, [], ◌∷◌, ◌++◌, length, None, Some, refl, sym, ap, ◌∙◌, arith}
+use Rattle.std.proofs.Common.{◌≡◌, ◌≢◌, inl, inr, ◌≤◌, ◌<◌, ◌+◌, ℕ, List, [], ◌∷◌, ◌++◌, length, None, Some, refl, sym, ap, ◌∙◌, arith}
 use Rattle.std.specs.Prelude.{Option, IfSome, Result, Ok, Err}
 use Rattle.std.specs.Io.KnownBytes.{Consumes, IsAtEnd}
 use Rattle.std.specs.Str.{IsUtf8}
@@ -10,10 +10,10 @@ use Rattle.ld_schedule.specs.Grammar.{IsNamed, event_text}
 use Rattle.ld_schedule.specs.Reading.{IsOff}
 use Rattle.ld_config.specs.declared.config.Config.{Config}
 use Rattle.ld_config.specs.declared.fault.ConfigFault.{ConfigFault}
-use Rattle.ld_config.specs.declared.fault.ConfigFault.TheVariants.{NotJson, NoMemory}
+use Rattle.ld_config.specs.declared.fault.ConfigFault.TheVariants.{NoMemory}
 use Rattle.ld_config.specs.Config.{config_of_text, OrNoMemory}
 use Rattle.ld_cli.specs.Lines.{longest, ended}
-use Rattle.ld_cli.specs.Schedule.{Says, IsLong, IsCutLine, Begins, IsNoEvent, IsNoConfiguration, IsOffFirst, IsOffLater}
+use Rattle.ld_cli.specs.Schedule.{Says, IsLong, IsCutLine, Begins, IsOffFirst, IsOffLater}
 
 -- ---- what the bytes are ----
 

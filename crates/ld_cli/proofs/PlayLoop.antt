@@ -8,9 +8,8 @@ use Rattle.ld_schedule.specs.declared.event.Event.{Event}
 use Rattle.ld_transcript.specs.Text.{line_text, text}
 use Rattle.ld_config.specs.declared.config.Config.{Config}
 use Rattle.ld_machine.specs.State.{State, start}
-use Rattle.ld_machine.specs.Run.{step, state_after, lines_of, history}
-use Rattle.ld_machine.specs.Safe.{Safe}
-use Rattle.ld_safety.proofs.LostJoined.{every_run_is_safe}
+use Rattle.ld_machine.specs.Run.{step, state_after, lines_of}
+use Rattle.ld_safety.proofs.LostJoined.{every_run_is_safe, copies_were_lost}
 use Rattle.ld_schedule.specs.declared.event.Event.TheVariants as events
 use Rattle.ld_cluster.specs.Standing.{config_of, past_of, state_of, IsReached}
 use Rattle.ld_cluster.specs.Steps.{Counts}
@@ -23,7 +22,7 @@ use Rattle.ld_cli.specs.Output.{AppendsPart}
 use Rattle.ld_cli.specs.declared.status.Stop.{Stop}
 use Rattle.ld_cli.specs.declared.status.Stop.TheVariants as stops
 use Rattle.ld_cli.specs.Causes.{IsReadStop, IsWriteStop, IsStop}
-use Rattle.ld_cli.specs.Ends.{written_by, IsReplayed, StopsFirst, StopsLater, IsStopped, IsCut, StopsBy}
+use Rattle.ld_cli.specs.Ends.{written_by, IsSafe, IsReplayed, IsStopped, IsCut, StopsBy}
 use Rattle.ld_cli.proofs.Left.{Consumes-trans, Appends-trans, Appends-nil}
 
 -- the lines of the configuration and of some events were read, and the transcript of the events was written
@@ -37,6 +36,14 @@ pub record Playing (input_old input_new written_old written_new : Option (List �
   pub reached : IsReached cluster
   pub written : Appends written_old written_new (written_by (config_of cluster) events)
   pub count : number ≡ length events + 2
+
+-- every run of a cluster's configuration is safe
+safe_run : (cluster : Cluster) → IsReached cluster → (events : List Event) → IsSafe (config_of cluster) events
+safe_run cluster reached events =
+    record {
+      lines = every_run_is_safe (config_of cluster) events;
+      losses = λ name log number round before asks between gives after whole ends. copies_were_lost (config_of cluster) name log number round before asks between gives reached.bounds ends;
+    }
 
 -- ---- one event more ----
 
@@ -163,7 +170,7 @@ off_later (Some bytes) (Some rest) old written cluster number place playing off 
       off = off;
       line = playing.count;
       written = playing.written;
-      safe = every_run_is_safe (config_of cluster) playing.events;
+      safe = safe_run cluster playing.reached playing.events;
     })
 
 pub replayed : (left new old written : Option (List ℕ)) (cluster : Cluster) (number : ℕ) → Playing left new old written cluster number
@@ -179,7 +186,7 @@ replayed (Some bytes) (Some rest) old written cluster number playing ends =
       spelt = playing.spelt;
       whole = playing.read ∙ ap (λ l. schedule_text playing.first playing.events ++ l) ends ∙ append-nil (schedule_text playing.first playing.events);
       written = playing.written;
-      safe = every_run_is_safe (config_of cluster) playing.events;
+      safe = safe_run cluster playing.reached playing.events;
     }
 
 pub cut_here : (left new old written : Option (List ℕ)) (cluster : Cluster) (number : ℕ) → Playing left new old written cluster number
@@ -199,7 +206,7 @@ cut_here (Some bytes) (Some rest) old written cluster number playing =
       missing = [];
       written = playing.written;
       prefix = sym (append-nil (written_by (config_of cluster) playing.events));
-      safe = every_run_is_safe (config_of cluster) playing.events;
+      safe = safe_run cluster playing.reached playing.events;
     })
 
 pub cut_in : (left mid new old written written' : Option (List ℕ)) (cluster : Cluster) (number : ℕ) (e : Event) → Playing left mid old written cluster number
@@ -224,7 +231,7 @@ cut_in (Some bytes) mid (Some rest) old written written' cluster number e playin
       written = Appends-trans _ _ _ _ _ playing.written more.written;
       prefix = written_by-push c (state_of cluster) playing.events e playing.state
           ∙ ap (λ l. written_by c playing.events ++ l) more.whole ∙ sym (append_assoc (written_by c playing.events) more.part more.missing);
-      safe = every_run_is_safe c (playing.events ++ e ∷ []);
+      safe = safe_run cluster playing.reached (playing.events ++ e ∷ []);
     })
 
 pub at_end : (held : List ℕ) (left : Option (List ℕ)) → IsAtEnd (prepend_known held left) → IsAtEnd left
@@ -253,3 +260,10 @@ write_stops read_before read_now before between now stops.NoMemory later cause =
 write_stops read_before read_now before between now stops.Write later cause = omega (arith, later, cause)
 write_stops read_before read_now before between now stops.Read later cause = absurd cause
 write_stops read_before read_now before between now (stops.BadSchedule line place) later cause = tt
+
+-- what a failed read answers, by the counts since the beginning
+pub read_stops : (before between now write_before write_now : ℕ) (stop : Stop) → before ≤ between → IsReadStop between now stop → IsStop before now write_before write_now stop
+read_stops before between now write_before write_now stops.NoMemory later cause = tt
+read_stops before between now write_before write_now stops.Read later cause = omega (arith, later, cause)
+read_stops before between now write_before write_now stops.Write later cause = absurd cause
+read_stops before between now write_before write_now (stops.BadSchedule line place) later cause = absurd cause

@@ -1,5 +1,5 @@
 -- The next event of the input.
-use Rattle.std.specs.Prelude.{ℕ, List, Option, IfSome, Result}
+use Rattle.std.specs.Prelude.{ℕ, List, Option, IfSome}
 use Rattle.std.specs.Io.KnownBytes.{Consumes, IsAtEnd}
 use Rattle.ld_config.specs.declared.config.Config.{Config}
 use Rattle.ld_cli.specs.Lines.{ended}

@@ -1,7 +1,10 @@
 // Replays over sources and sinks in memory.
 use super::*;
 use crate::rows::{FOUND, NOT_FOUND, ROWS, STORED};
+use ld_config::{Config, ConfigFault, Field};
+use ld_ids::LogId;
 use ld_io::{Failed, MemSink, MemSource, Sink, Source};
+use ld_lsn::Lsn;
 use std::alloc::Global;
 use std::test::Fail;
 
@@ -90,6 +93,141 @@ fn a_torn_append_is_there_or_not(rt: HostRuntime) -> Result<(), Fail> {
     ] {
         let schedule = torn(rt.alloc(), call, picture)?;
         assert!(rt; gives(rt.alloc(), &schedule, transcript.as_bytes())?);
+    }
+    Ok(())
+}
+
+/// Three nodes that serve a log of two copies, and its first sequencer.
+const BEGINS: (&str, &str) = (
+    concat!(
+        "{\"nodes\":[1,2,3],\"logs\":[{\"id\":1,\"set\":[1,2,3],\"r\":2}]}\n",
+        "format 1\n",
+        "format 2\n",
+        "format 3\n",
+        "activate a 1\n",
+    ),
+    concat!(
+        "node 1 formatted 1\n",
+        "node 2 formatted 1\n",
+        "node 3 formatted 1\n",
+        "active a 1\n",
+    ),
+);
+
+/// What comes behind the 129th append while 128 wait: the first one is stored, and then there is room.
+const MAKES_ROOM: (&str, &str) = (
+    concat!(
+        "append a 00\n",
+        "deliver 0\n",
+        "deliver 1\n",
+        "deliver 256\n",
+        "deliver 257\n",
+        "append a 00\n",
+    ),
+    concat!(
+        "refused a windowfull\n",
+        "msg 256 n.3 s.a stored e1n1\n",
+        "msg 257 n.1 s.a stored e1n1\n",
+        "none\n",
+        "acked a e1n1\n",
+        "released a e1n1\n",
+        "msg 258 s.a n.1 release e1n1\n",
+        "msg 259 s.a n.2 release e1n1\n",
+        "msg 260 s.a n.3 release e1n1\n",
+        "appended a e1n129\n",
+        "msg 261 s.a n.2 store e1n129\n",
+        "msg 262 s.a n.3 store e1n129\n",
+    ),
+);
+
+/// The lines of an append behind so many others; the copies go round the nodes.
+fn numbered(alloc: Global, before: u32) -> Result<String, Fail> {
+    let (one, other) = match before % 3 {
+        0 => (3, 1),
+        1 => (1, 2),
+        _ => (2, 3),
+    };
+    let number = u64::from(before) + 1;
+    let message = 2 * u64::from(before);
+    let next = message + 1;
+    let lines = format!(in alloc;
+        "appended a e1n{number}\nmsg {message} s.a n.{one} store e1n{number}\nmsg {next} s.a n.{other} store e1n{number}\n"
+    )?;
+    Ok(lines)
+}
+
+#[test]
+fn a_window_holds_128_appends(rt: HostRuntime) -> Result<(), Fail> {
+    let alloc = rt.alloc();
+    let mut schedule = Vec::from_slice(alloc, BEGINS.0.as_bytes())?;
+    let mut transcript = Vec::from_slice(alloc, BEGINS.1.as_bytes())?;
+    for before in 0..128u32 {
+        schedule.extend_from_slice(b"append a 00\n")?;
+        transcript.extend_from_slice(numbered(alloc, before)?.as_bytes())?;
+    }
+    schedule.extend_from_slice(MAKES_ROOM.0.as_bytes())?;
+    transcript.extend_from_slice(MAKES_ROOM.1.as_bytes())?;
+    assert!(rt; gives(alloc, &schedule, &transcript)?);
+    Ok(())
+}
+
+/// A payload of so many bytes is appended.
+fn appends(alloc: Global, bytes: usize) -> Result<Vec<u8>, Fail> {
+    let mut schedule = Vec::from_slice(alloc, BEGINS.0.as_bytes())?;
+    schedule.extend_from_slice(b"append a ")?;
+    for _ in 0..bytes {
+        schedule.extend_from_slice(b"ab")?;
+    }
+    schedule.push(b'\n')?;
+    Ok(schedule)
+}
+
+#[test]
+fn a_payload_has_at_most_65535_bytes(rt: HostRuntime) -> Result<(), Fail> {
+    let alloc = rt.alloc();
+    let mut transcript = Vec::from_slice(alloc, BEGINS.1.as_bytes())?;
+    transcript.extend_from_slice(numbered(alloc, 0)?.as_bytes())?;
+    assert!(rt; gives(alloc, &appends(alloc, 65_535)?, &transcript)?);
+    let mut transcript = Vec::from_slice(alloc, BEGINS.1.as_bytes())?;
+    transcript.extend_from_slice(b"refused a long 65536\n")?;
+    assert!(rt; gives(alloc, &appends(alloc, 65_536)?, &transcript)?);
+    Ok(())
+}
+
+#[test]
+fn numbers_have_one_spelling(rt: HostRuntime) -> Result<(), Fail> {
+    let rows: [(&[u8], Option<u64>); 6] = [
+        (b"e1n1", Some(4_294_967_297)),
+        (b"e0n0", Some(0)),
+        (b"e01n1", None),
+        (b"e1n", None),
+        (b"E1n1", None),
+        (b"e4294967296n0", None),
+    ];
+    for (text, value) in rows {
+        assert_eq!(rt; Lsn::parse(text).map(|number| number.value()), value);
+    }
+    Ok(())
+}
+
+#[test]
+fn a_configuration_has_its_first_fault(rt: HostRuntime) -> Result<(), Fail> {
+    let alloc = rt.alloc();
+    let log = LogId::new(1).expect(&rt, "a log");
+    let rows: [(&[u8], ConfigFault); 4] = [
+        (b"{", ConfigFault::NotJson),
+        (b"[]", ConfigFault::Shape(Field::Top)),
+        (
+            br#"{"nodes":[1,2,3],"logs":[{"id":1,"set":[1,2,3],"r":4}]}"#,
+            ConfigFault::Range(Field::R, 4),
+        ),
+        (
+            br#"{"nodes":[1,2,3],"logs":[{"id":1,"set":[1,2,3],"r":2},{"id":1,"set":[1,2,3],"r":2}]}"#,
+            ConfigFault::Twice(log),
+        ),
+    ];
+    for (text, fault) in rows {
+        assert_eq!(rt; Config::read(alloc, text).err(), Some(fault));
     }
     Ok(())
 }

@@ -1,5 +1,4 @@
-use Rattle.std.proofs.Common.{◌≡◌, ◌≢◌, true, false, sym, ◌∙◌}
-use Rattle.ld_config.specs.declared.fault.ConfigFault.TheVariants.{NoMemory}
+use Rattle.std.proofs.Common.{◌≡◌, true, false}
 use Rattle.ld_cli.proofs.FirstLines.{took}
 use Rattle.ld_cli.proofs.OffLines.{says_none, first_refused}
 use Rattle.ld_cli.proofs.events.begin.Goals as goal

@@ -1,6 +1,6 @@
-use Rattle.std.proofs.Common.{ap, length, arith, ◌∙◌}
+use Rattle.std.proofs.Common.{ap, length, arith}
 use Rattle.std.proofs.lemmas.Result.{err_from_is_err_and}
-use Rattle.ld_cli.proofs.PlayLoop.{begun, played, replayed, off_first, off_later, cut_here, cut_in, at_end, read_cuts, write_cuts, write_stops, spelt_counts}
+use Rattle.ld_cli.proofs.PlayLoop.{begun, played, replayed, off_first, off_later, cut_here, cut_in, at_end, read_cuts, read_stops, write_cuts, write_stops, spelt_counts}
 use Rattle.ld_cli.proofs.replay.replay.Goals as goal
 
 pub events-init : goal.events-init
@@ -59,3 +59,8 @@ perform-requires-clause-reached g c = c.events.invariant.0.reached
 
 pub perform-requires-clause-counts : goal.perform-requires-clause-counts
 perform-requires-clause-counts g c = spelt_counts _ (rw c.in-Taken-2.is at c.in_ok-event.ensures.taken).0
+
+pub returns-in_err-event-clause-cause : goal.returns-in_err-event-clause-cause
+returns-in_err-event-clause-cause g c =
+    let p = err_from_is_err_and c.from_residual-in_err-event.result c.from_residual-in_err-event.ensures.1 in
+    rw (p.1, p.2) (read_stops _ _ _ _ _ _ c.events.invariant.2 c.in_err-event.ensures.cause)
