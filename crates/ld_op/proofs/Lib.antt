@@ -1,5 +1,11 @@
 pub mod Moves
 pub mod Places
+pub mod Wholes
+pub mod Firsts
+pub mod Nexts
+pub mod Gaps
+pub mod Closed
+pub mod Older
 pub mod Accepts
 pub mod HavePlaces
 pub mod There

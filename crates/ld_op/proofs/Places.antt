@@ -1,5 +1,5 @@
 -- What a map with places holds after a change.
-use Rattle.std.proofs.Common.{◌≡◌, ◌<◌, drop, nat_lt, nat_le, ℕ, Bool, true, false, not, cond, List, [], ◌∷◌, Option, Some, None, refl, ap, sym, ◌∙◌, subst, arith, eqb, nat_cmp, Less, is_some, Result, Ok, Err, OnOk, OnErr}
+use Rattle.std.proofs.Common.{◌≡◌, ◌<◌, drop, nat_lt, nat_le, ℕ, Bool, true, false, cond, List, [], ◌∷◌, Option, Some, None, refl, ap, sym, ◌∙◌, subst, arith, eqb, nat_cmp, Less, is_some, Result, Ok, Err, OnOk, OnErr}
 use Rattle.std.specs.Ordering.{is_eq}
 use Rattle.std.specs.BTreeMap.{is_at, insert_entry}
 use Rattle.std.specs.Map as map
@@ -11,7 +11,6 @@ use Rattle.ld_table.specs.Table.{find, put, keep, keep_keys, Ordered}
 use Rattle.ld_table.proofs.Laws.{find-put, find-keep, find-keep_keys, same_key, kept}
 use Rattle.ld_table.proofs.Order.{Ordered-put, Ordered-keep, same_table}
 use Rattle.ld_msg.specs.declared.msg.Entry.{Entry}
-use Rattle.ld_op.specs.Plain.{survives_bridge}
 use Rattle.ld_op.specs.Places.{filled, filled_one, has_place, place_passes, starts_by, AreUnderTheirNumbers}
 
 by_result : {T E : Type 0} (r : Result T E) (P Q : Type 0) → OnOk r P → OnErr r Q → (Q → ⊥) → P
@@ -232,6 +231,3 @@ none_under = λ k e h. absurd cc
 
 pub under_after_keep_keys : (p : ℕ → Bool) (n s : List (ℕ × Option Entry)) → filled n ≡ keep_keys p (filled s) → AreUnderTheirNumbers s → AreUnderTheirNumbers n
 under_after_keep_keys p n s e u = λ k f h. let i = u k f in let g = ap (find k) (sym e) ∙ h in grind (arith, find-keep_keys)
-
-pub bridge_stands : (b : Entry) (m : List (ℕ × Option Entry)) → Ordered m → AreUnderTheirNumbers m → (v : Entry) → find b.number m ≡ Some (Some v) → survives_bridge b v ≡ true
-bridge_stands b m h u v f = let i = u b.number v (find-filled b.number m h ∙ ap flat f) in grind (arith, nat_tests)

@@ -1,7 +1,10 @@
 pub mod Places
+pub mod Older
 pub mod Plain
 pub mod Answers
 pub mod Ticks
+pub mod Whole
+pub mod Closed
 pub mod Handles
 pub mod Bounds
 pub mod Room

@@ -1,15 +1,21 @@
 // The entries of a log by number, with places for those to come.
-ghost use Rattle.std.specs.Prelude.{◌≡◌, ℕ, [], true, OnOk, option_copied, nat_lt, drop};
+ghost use Rattle.std.specs.Prelude.{◌≡◌, ◌≤◌, ℕ, [], true, OnOk, option_copied, nat_lt, drop};
+ghost use Rattle.std.specs.Ordering.{nat_cmp};
+ghost use Rattle.std.specs.BTreeMap.Range.{entries_between};
+ghost use Rattle.std.specs.declared.ops.Bound.TheVariants.{Included, Excluded};
 ghost use Rattle.ld_table.specs.Table.{find, put, keep, keep_keys, Ordered};
 ghost use Rattle.ld_op.specs.Places.{filled, has_place, place_passes, starts_by};
+ghost use Rattle.ld_op.specs.Older.{stands_between, is_older, first_older};
 ghost use Rattle.ld_op.specs.Plain.{accept_entry, survives_bridge, survives_clean, refill_entries};
 ghost use Rattle.ld_op.specs.Room.{have_places};
 
 use ld_ids::NoMemory;
+use ld_lsn::Lsn;
 use ld_msg::{Entries, Entry, Summary};
 use std::alloc::Global;
 use std::collections::BTreeMap;
 use std::marker::Model;
+use std::ops::Bound;
 
 /// Entries by number. A number may have a place instead, made before its entry comes.
 #[derive(Drop)]
@@ -74,20 +80,18 @@ impl EntryMap {
     }
 
     /// Takes the entries away that a bridge ends: those above it in its epoch with a smaller ballot.
+    /// Takes time in what is above it in its epoch, not in all entries of the log.
     pub(crate) fn end_at(&mut self, bridge: &Entry)
         ensures value { filled self.new ≡ keep (λ s e. survives_bridge bridge.now e) (filled self.old) }
         ensures place { has_place bridge.now.number self.old ≡ true → has_place bridge.now.number self.new ≡ true }
     {
-        self.map.retain(
-            |number, place| -> bool
-                ensures answer { result ≡ place_passes (λ s e. survives_bridge bridge.entry.now e) number.now place.old }
-                ensures same { place.new ≡ place.old }
-            {
-                match place {
-                    Some(entry) => stands_at(bridge, entry),
-                    None => true,
-                }
-            },
+        let _ = self.map.len();
+        let last = Lsn::new(bridge.number.epoch(), u32::MAX);
+        drop_older(
+            &mut self.map,
+            bridge.ballot,
+            bridge.number.value(),
+            last.value(),
         );
     }
 
@@ -123,21 +127,16 @@ impl EntryMap {
         }
     }
 
-    /// Takes the entries away that a close of the epoch leaves out, and those up to the trim.
+    /// Takes the entries away that a close of the epoch leaves out, and those up to the trim. Takes
+    /// time in those, and in what is in the epoch above what was known good.
     pub(crate) fn close(&mut self, trim: u64, epoch: u32, summary: &Summary)
         ensures { filled self.new ≡ keep (λ s e. survives_clean trim epoch summary.now e) (filled self.old) }
     {
-        self.map.retain(
-            |number, place| -> bool
-                ensures answer { result ≡ place_passes (λ s e. survives_clean trim epoch summary.entry.now e) number.now place.old }
-                ensures same { place.new ≡ place.old }
-            {
-                match place {
-                    Some(entry) => stands_in(trim, epoch, summary, entry),
-                    None => true,
-                }
-            },
-        );
+        let _ = self.map.len();
+        drop_through(&mut self.map, trim);
+        let good = Lsn::new(epoch, summary.lng);
+        let last = Lsn::new(epoch, u32::MAX);
+        drop_older(&mut self.map, summary.ballot, good.value(), last.value());
     }
 
     /// Takes the entries up to the number away, in time of their count.
@@ -148,23 +147,46 @@ impl EntryMap {
     }
 }
 
-/// Whether an entry stands beside a bridge.
-fn stands_at(bridge: &Entry, entry: &Entry) -> bool
-    ensures { result ≡ survives_bridge bridge.now entry.now }
+/// Takes the entries with a smaller ballot out of a tree that are above one number and at most
+/// another, in time of what stands there.
+fn drop_older(map: &mut BTreeMap<u64, Option<Entry>>, ballot: u32, above: u64, last: u64)
+    requires { above ≤ last }
+    ensures { map.new.entries ≡ keep (place_passes (stands_between ballot above last)) map.old.entries }
 {
-    entry.number.value() <= bridge.number.value()
-        || entry.number.epoch() != bridge.number.epoch()
-        || bridge.ballot <= entry.ballot
+    let mut above = above;
+    'taken: while let Some(number) = first_older(map, ballot, above, last) {
+        let _ = map.remove(&number);
+        above = number;
+    }
 }
 
-/// Whether an entry stands once the epoch is closed.
-fn stands_in(trim: u64, epoch: u32, summary: &Summary, entry: &Entry) -> bool
-    ensures { result ≡ survives_clean trim epoch summary.now entry.now }
+/// The first number above one and at most another whose entry has a smaller ballot.
+fn first_older(
+    map: &BTreeMap<u64, Option<Entry>>,
+    ballot: u32,
+    above: u64,
+    last: u64,
+) -> Option<u64>
+    requires { above ≤ last }
+    ensures first { result ≡ first_older ballot (entries_between nat_cmp (Excluded above) (Included last) map.now.entries) }
+    ensures ordered { Ordered map.now.entries }
 {
-    trim < entry.number.value()
-        && (entry.number.epoch() != epoch
-            || summary.ballot <= entry.ballot
-            || entry.number.esn() <= summary.lng)
+    'places: for (number, place) in map.range((Bound::Excluded(above), Bound::Included(last))) {
+        if is_older(ballot, place) {
+            return Some(*number);
+        }
+    }
+    None
+}
+
+/// Whether an entry stands in a place and has a smaller ballot.
+fn is_older(ballot: u32, place: &Option<Entry>) -> bool
+    ensures { result ≡ is_older ballot place.now }
+{
+    match place {
+        Some(entry) => entry.ballot < ballot,
+        None => false,
+    }
 }
 
 /// Whether the least number is at most another.

@@ -8,6 +8,7 @@ mod fault;
 mod field;
 mod log;
 mod logs;
+mod missing;
 mod op;
 mod page;
 mod plain;

@@ -1,10 +1,12 @@
 // One log's part of a node's plain state.
-ghost use Rattle.std.specs.Prelude.{◌≡◌, ◌≢◌, true, false, None, OnOk, IfOk, option_copied, take, max};
+ghost use Rattle.std.specs.Prelude.{◌≡◌, ◌≢◌, true, false, None, OnOk, IfOk, option_copied, take, min, max};
 ghost use Rattle.ld_table.specs.Table.{find, first_from, Ordered};
 ghost use Rattle.ld_op.specs.Plain.{empty_log, epoch_zero, summary_at, lost_log, accepted, sealed_by, cleaned, trimmed_to, refilled_with, refilled};
 ghost use Rattle.ld_op.specs.Places.{has_place};
 ghost use Rattle.ld_op.specs.Picks.{picked};
+ghost use Rattle.ld_op.specs.Ticks.{lowest_unclean};
 ghost use Rattle.ld_op.specs.Answers.{page_limit, page_upto};
+ghost use Rattle.ld_op.specs.Whole.{EndInEpochs};
 ghost use Rattle.ld_op.specs.Room.{log_after, log_has_room, log_named, have_places};
 
 use crate::entries::EntryMap;
@@ -16,7 +18,8 @@ use ld_msg::{Entries, Entry, Summary};
 use std::alloc::Global;
 use std::marker::Model;
 
-/// One log's state. One that isn't there yet is room for it.
+/// One log's state. One that isn't there yet is room for it. It keeps up to where no number is missing, so that to look
+/// for the lowest that is takes no walk over those before it.
 #[derive(Drop)]
 pub(crate) struct LogState {
     there: bool,
@@ -26,6 +29,7 @@ pub(crate) struct LogState {
     summaries: SummaryMap,
     lost: bool,
     lost_to: u32,
+    pub(crate) whole: Lsn,
 }
 
 impl Model for LogState {
@@ -37,10 +41,11 @@ impl Model for LogState {
     ghost Value = { Held };
 
     ghost use Rattle.ld_op.specs.Shown.{shown_log, shown};
+    ghost use Rattle.ld_op.specs.Whole.{IsWhole};
 
     ghost view = { shown };
 
-    ghost invariant = { λ a. a.there ≡ false → shown_log a ≡ empty_log };
+    ghost invariant = { λ a. record { empty : a.there ≡ false → shown_log a ≡ empty_log; whole : IsWhole (shown_log a) a.whole } };
 }
 
 impl LogState {
@@ -58,6 +63,7 @@ impl LogState {
             summaries: SummaryMap::new(alloc),
             lost: false,
             lost_to: 0,
+            whole: Lsn::from_u64(0),
         }
     }
 
@@ -75,6 +81,7 @@ impl LogState {
             summaries: SummaryMap::new(alloc),
             lost: 0 < epoch,
             lost_to: epoch,
+            whole: Lsn::from_u64(0),
         }
     }
 
@@ -132,11 +139,19 @@ impl LogState {
         self.summaries.get(epoch)
     }
 
-    /// The epochs of the summaries rise.
+    /// The epochs of the summaries rise, and their ends are places of an epoch.
     pub(crate) fn summaries_rise(&self)
-        ensures { Ordered self.now.log.summaries }
+        ensures ordered { Ordered self.now.log.summaries }
+        ensures ends { EndInEpochs self.now.log }
     {
         self.summaries.rise();
+    }
+
+    /// The lowest epoch from one on that isn't clean here. It takes time in the logarithm of the number of clean epochs.
+    pub(crate) fn lowest_unclean(&self) -> u64
+        ensures { result ≡ lowest_unclean self.now.log }
+    {
+        self.summaries.lowest_unclean()
     }
 
     /// Whether something is lost here.
@@ -174,8 +189,10 @@ impl LogState {
         ensures log { self.new.log ≡ accepted self.old.log entry }
         ensures there { self.new.there ≡ true }
     {
+        self.entries.numbers_agree();
         self.there = true;
         self.sealed = entry.ballot;
+        self.whole = earlier(self.whole, entry.number);
         self.entries.accept(entry);
     }
 
@@ -204,8 +221,10 @@ impl LogState {
         ensures log { self.new.log ≡ cleaned self.old.log epoch summary }
         ensures there { self.new.there ≡ true }
     {
+        self.entries.numbers_agree();
         self.there = true;
         self.trim = later(self.trim, summary.trim);
+        self.whole = earlier(self.whole, Lsn::new(epoch, 0));
         self.entries.close(self.trim.value(), epoch, &summary);
         self.summaries.put(epoch, summary);
     }
@@ -229,6 +248,17 @@ impl LogState {
         self.entries.refill(entries);
     }
 
+    /// Looks for the number again up to which nothing is missing.
+    fn raise(&mut self)
+        ensures log { self.new.log ≡ self.old.log }
+        ensures there { self.new.there ≡ self.old.there }
+    {
+        self.whole = match self.first_missing() {
+            Some(number) => number,
+            None => Lsn::from_u64(u64::MAX),
+        };
+    }
+
     /// Makes places for what an op adds. Without memory nothing changes.
     pub(crate) fn room(&mut self, op: &Op) -> Result<(), NoMemory>
         ensures there { self.new.there ≡ self.old.there }
@@ -248,6 +278,18 @@ impl LogState {
 
     /// Applies an op of this log, for which there is room.
     pub(crate) fn apply(&mut self, op: Op)
+        requires room { log_has_room self.old op ≡ true }
+        requires names { log_named op ≢ None }
+        ensures log { self.new.log ≡ log_after self.old.log op }
+        ensures there { self.new.there ≡ true }
+        ensures was { self.old.there ≡ false → self.old.log ≡ empty_log }
+    {
+        self.change(op);
+        self.raise();
+    }
+
+    /// Changes what an op of this log changes.
+    fn change(&mut self, op: Op)
         requires room { log_has_room self.old op ≡ true }
         requires names { log_named op ≢ None }
         ensures log { self.new.log ≡ log_after self.old.log op }
@@ -276,6 +318,17 @@ pub(crate) fn epoch_zero() -> Summary
         lng: 0,
         trim: Lsn::from_u64(0),
         end: 1,
+    }
+}
+
+/// The earlier of two numbers.
+fn earlier(one: Lsn, other: Lsn) -> Lsn
+    ensures { result ≡ min one other }
+{
+    if other.value() < one.value() {
+        other
+    } else {
+        one
     }
 }
 

@@ -1,10 +1,12 @@
 // A node's plain state: what its journal's ops add up to.
 ghost use Rattle.std.specs.Prelude.{◌≡◌, [], None, OnOk, IfOk, option_copied, take};
 ghost use Rattle.ld_table.specs.Table.{find, first_from, Ordered};
+ghost use Rattle.ld_table.specs.Words.{first};
 ghost use Rattle.ld_op.specs.Plain.{empty_log, unformatted, log_of, summary_at, is_lost, end_here, apply, lost_logs};
 ghost use Rattle.ld_op.specs.Room.{HasRoom, held_log, log_named, there_of};
 ghost use Rattle.ld_op.specs.Rising.{IsRising};
 ghost use Rattle.ld_op.specs.Picks.{picked};
+ghost use Rattle.ld_op.specs.Ticks.{lowest_unclean, missing};
 ghost use Rattle.ld_op.specs.Answers.{page_limit, page_upto};
 
 use crate::log::{LogState, epoch_zero};
@@ -126,6 +128,29 @@ impl Plain {
         match self.log(log) {
             Some(state) => state.summaries_rise(),
             None => {}
+        }
+    }
+
+    /// The lowest number of the log that is missing: it stands above the trim and below the end of a clean epoch that was
+    /// lost, and has no entry. Each op looks for it from where it was, so that here it takes logarithmic time.
+    #[tactic(auto, unfolding(crate::specs::Ticks::missing))]
+    pub fn first_missing(&self, log: LogId) -> Option<Lsn>
+        ensures { result ≡ first (missing (log_of self.now.state log)) }
+    {
+        match self.log(log) {
+            Some(state) => state.first_missing(),
+            None => None,
+        }
+    }
+
+    /// The lowest epoch of the log from one on that isn't clean here. It takes time in the logarithm of the number of
+    /// clean epochs, and of the number of logs.
+    pub fn lowest_unclean(&self, log: LogId) -> u64
+        ensures { result ≡ lowest_unclean (log_of self.now.state log) }
+    {
+        match self.log(log) {
+            Some(state) => state.lowest_unclean(),
+            None => 1,
         }
     }
 

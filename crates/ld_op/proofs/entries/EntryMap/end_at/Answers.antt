@@ -1,25 +1,26 @@
-use Rattle.std.proofs.Common.{◌≡◌, ◌∙◌, ap, subst, rules}
-use Rattle.std.proofs.lemmas.Map.Made.{filter_same_pairs}
+use Rattle.std.proofs.Common.{◌≡◌, ◌∙◌, ap, subst}
 use Rattle.ld_table.specs.Table.{keep, Ordered}
-use Rattle.ld_table.proofs.Order.{keep_is}
+use Rattle.ld_lsn.specs.Number.{numbered, last_esn}
 use Rattle.ld_op.specs.Plain.{survives_bridge}
 use Rattle.ld_op.specs.Places.{filled, place_passes, AreUnderTheirNumbers}
-use Rattle.ld_op.proofs.Places.{filled-keep, under_after_keep, place_kept, bridge_stands}
+use Rattle.ld_op.specs.Older.{stands_between}
+use Rattle.ld_op.proofs.Places.{under_after_keep, place_kept}
+use Rattle.ld_op.proofs.Older.{ended_by, stands_itself}
 use Rattle.ld_op.proofs.entries.EntryMap.end_at.Goals as goal
 
-kept : (c : goal.After-retain) → c.retain.new.self.entries ≡ keep (place_passes (λ s e. survives_bridge c.args.bridge.now e)) c.args.self.now
-kept c = filter_same_pairs _ _ _ (λ k v b w f' t. search rules) _ _ c.retain.ensures.filtered
-    ∙ keep_is (place_passes (λ s e. survives_bridge c.args.bridge.now e)) c.self.inside.map.entries c.retain.ensures.was_ordered ∙ ap (keep (place_passes (λ s e. survives_bridge c.args.bridge.now e))) c.self.view_is
+kept : (c : goal.After-drop_older) → c.drop_older.new.map.entries ≡ keep (place_passes (stands_between c.args.bridge.now.ballot c.args.bridge.now.number c.value-2.result)) c.args.self.now
+kept c = c.drop_older.ensures ∙ (ap (λ a. keep (place_passes (stands_between c.args.bridge.now.ballot a c.value-2.result)) c.self.inside.map.entries) c.value.ensures ∙ ap (keep (place_passes (stands_between c.args.bridge.now.ballot c.args.bridge.now.number c.value-2.result))) c.self.view_is)
 
-left : (c : goal.After-retain) → filled c.retain.new.self.entries ≡ keep (λ s e. survives_bridge c.args.bridge.now e) (filled c.args.self.now)
-left c = ap filled (kept c) ∙ filled-keep (λ s e. survives_bridge c.args.bridge.now e) c.args.self.now (subst Ordered c.self.view_is c.retain.ensures.was_ordered)
+left : (c : goal.After-drop_older) → filled c.drop_older.new.map.entries ≡ keep (λ s e. survives_bridge c.args.bridge.now e) (filled c.args.self.now)
+left c = ended_by c.args.bridge.now c.value-2.result c.args.self.now c.drop_older.new.map.entries (subst Ordered c.self.view_is c.len.ensures.ordered) (subst AreUnderTheirNumbers c.self.view_is c.self.invariant)
+    (c.value-2.ensures ∙ (c.new-last.ensures ∙ ap (λ e. numbered e last_esn) c.epoch.ensures)) (kept c)
 
 pub returns-clause-value : goal.returns-clause-value
 returns-clause-value c = left c
 
 pub returns-clause-place : goal.returns-clause-place
-returns-clause-place c = place_kept (λ s e. survives_bridge c.args.bridge.now e) c.args.bridge.now.number c.args.self.now c.retain.new.self.entries (kept c)
-    (bridge_stands c.args.bridge.now c.args.self.now (subst Ordered c.self.view_is c.retain.ensures.was_ordered) (subst AreUnderTheirNumbers c.self.view_is c.self.invariant))
+returns-clause-place c = place_kept (stands_between c.args.bridge.now.ballot c.args.bridge.now.number c.value-2.result) c.args.bridge.now.number c.args.self.now c.drop_older.new.map.entries (kept c)
+    (stands_itself c.args.bridge.now c.value-2.result c.args.self.now)
 
 pub invariant_of-self : goal.invariant_of-self
-invariant_of-self c = under_after_keep (λ s e. survives_bridge c.args.bridge.now e) c.retain.new.self.entries c.args.self.now (left c) (subst AreUnderTheirNumbers c.self.view_is c.self.invariant)
+invariant_of-self c = under_after_keep (λ s e. survives_bridge c.args.bridge.now e) c.drop_older.new.map.entries c.args.self.now (left c) (subst AreUnderTheirNumbers c.self.view_is c.self.invariant)
