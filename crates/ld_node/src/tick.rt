@@ -121,7 +121,7 @@ fn refill(
     if !plain.is_lost(log) {
         return Ok(quiet());
     }
-    if ld_rebuild::first_missing(plain, log).is_none() {
+    if plain.first_missing(log).is_none() {
         return Ok(refilled(log, plain.lost_to(log) < epoch));
     }
     let mut asks = Outbox::empty(alloc);

@@ -1,6 +1,6 @@
 // A node's plain state: what its journal's ops add up to.
 ghost use Rattle.std.specs.Prelude.{◌≡◌, [], None, OnOk, IfOk, option_copied, take};
-ghost use Rattle.ld_table.specs.Table.{find, first_from, Ordered};
+ghost use Rattle.ld_table.specs.Table.{find, Ordered};
 ghost use Rattle.ld_table.specs.Words.{first};
 ghost use Rattle.ld_op.specs.Plain.{empty_log, unformatted, log_of, summary_at, is_lost, end_here, apply, lost_logs};
 ghost use Rattle.ld_op.specs.Room.{HasRoom, held_log, log_named, there_of};
@@ -99,17 +99,6 @@ impl Plain {
         }
     }
 
-    /// The first epoch of the log from one on that is clean here, and its summary. Epoch 0 is left out.
-    #[tactic(auto, unfolding(ld_table::specs::Table::first_from))]
-    pub fn clean_from(&self, log: LogId, epoch: u32) -> Option<(u32, Summary)>
-        ensures { result ≡ first_from epoch (log_of self.now.state log).summaries }
-    {
-        match self.log(log) {
-            Some(state) => state.clean_from(epoch),
-            None => None,
-        }
-    }
-
     /// The summary that is kept of the epoch. Of epoch 0, which is clean everywhere, none needs to be kept.
     #[tactic(auto, using(ld_table::proofs::Laws::table_rules))]
     pub fn kept_summary(&self, log: LogId, epoch: u32) -> Option<Summary>
@@ -118,16 +107,6 @@ impl Plain {
         match self.log(log) {
             Some(state) => state.kept_summary(epoch),
             None => None,
-        }
-    }
-
-    /// The epochs of the log's summaries rise strictly.
-    pub fn summaries_rise(&self, log: LogId)
-        ensures { Ordered (log_of self.now.state log).summaries }
-    {
-        match self.log(log) {
-            Some(state) => state.summaries_rise(),
-            None => {}
         }
     }
 

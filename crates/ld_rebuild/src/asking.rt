@@ -7,7 +7,6 @@ ghost use Rattle.ld_op.specs.Plain.{log_of};
 ghost use Rattle.ld_op.specs.Ticks.{refill_asks};
 ghost use Rattle.ld_rebuild.specs.Lacks.{asks_of};
 
-use crate::missing::first_missing;
 use ld_ids::{LogId, NoMemory, NodeId, NodeSet};
 use ld_lsn::Lsn;
 use ld_msg::{Body, Msg, Outbox, Who};
@@ -17,7 +16,8 @@ use std::mem;
 
 /// Asks all other nodes of the set for what stands from the lowest missing number on. The node is `id`. Nothing is sent
 /// where it isn't lost for the log, or no number of a clean epoch is missing. The asks have round 0, and go to the nodes
-/// in rising order. Without memory nothing is sent. It takes time in the entries of the lost epochs below that number.
+/// in rising order. Without memory nothing is sent. It takes time in
+/// what it sends, and logarithmic time to find that number.
 #[tactic(auto, unfolding(ld_op::specs::Ticks::refill_asks))]
 pub fn asks(
     alloc: Global,
@@ -33,7 +33,7 @@ pub fn asks(
     if !plain.is_lost(log) {
         return Ok(());
     }
-    match first_missing(plain, log) {
+    match plain.first_missing(log) {
         Some(from) => send_asks(alloc, &Ask { id, log, from }, set, out),
         None => Ok(()),
     }

@@ -8,5 +8,5 @@ mod pages;
 mod tests;
 
 pub use asking::asks;
-pub use missing::{first_missing, is_full, lowest_unclean};
+pub use missing::{is_full, lowest_unclean};
 pub use pages::on_page;
