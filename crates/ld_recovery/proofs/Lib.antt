@@ -1,4 +1,5 @@
 pub mod Settling
+pub mod Marking
 pub mod Posting
 mod Begins
 pub mod Digesting

@@ -184,9 +184,6 @@ count_at r i y [] e h = absurd cc
 count_at r zero y (d ∷ m) e h = let s : d ≡ e = cc in subst (λ (x : ℕ × Planned). how_many (lacks r) (d ∷ m) ≡ how_many (lacks r) (settled_one y d ∷ m) + one_if (lacks r x && not (lacks r (settled_one y x)))) s (count_here r y d m (lacks r d) (lacks r (settled_one y d)) refl refl)
 count_at r (suc i) y (d ∷ m) e h = count_behind r _ d m (settle_at i y m) (lacks r d) refl (count_at r i y m e h)
 
-pub first_at_zero : (y : ℕ) (m : List (ℕ × Planned)) → m ≡ settle_first 0 y m
-first_at_zero y m = sym (first_none y m)
-
 -- ---- the items of a plan ----
 
 -- at first each item lacks nodes

@@ -1,3 +1,4 @@
+pub mod Marks
 pub mod Planning
 pub mod Sending
 pub mod Recovering

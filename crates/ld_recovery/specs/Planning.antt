@@ -1,11 +1,12 @@
 -- A plan that is being stored, its items under numbers that follow each other.
-use Rattle.std.specs.Prelude.{ℕ, zero, suc, ◌≡◌, ◌≤◌, ◌+◌, List, [], ◌∷◌, Bool, nat_lt, length, if◌then◌else◌}
-use Rattle.ld_table.specs.Words.{with_one}
+use Rattle.std.specs.Prelude.{ℕ, zero, suc, ◌≡◌, ◌≤◌, ◌+◌, List, [], ◌∷◌, Bool, true, nat_lt, length, if◌then◌else◌}
+use Rattle.ld_table.specs.Words.{is_in, with_one, how_many}
 use Rattle.ld_lsn.specs.Number.{last_esn}
 use Rattle.ld_ids.specs.declared.set.Spec.{Spec}
 use Rattle.ld_msg.specs.declared.msg.Summary.{Summary}
 use Rattle.ld_msg.specs.Bounds.{Is64}
 use Rattle.ld_msg.specs.Sequencer.{Planned, Storing}
+use Rattle.ld_recovery.specs.Marks.{mark}
 
 -- a plan with what is said of its log
 pub record Plans : Type 0 where
@@ -50,3 +51,20 @@ settle_first (suc k) y (e ∷ m) = settled_one y e ∷ settle_first k y m
 
 abbrev pub one_if : Bool → ℕ
 one_if b = if b then 1 else 0
+
+-- the node is among those that settled each of so many items, from the first one on
+unfoldable pub HasSettled : ℕ → ℕ → List (ℕ × Planned) → Type 0
+HasSettled k y [] = Unit {0}
+HasSettled zero y (e ∷ m) = Unit {0}
+HasSettled (suc k) y (e ∷ m) = (is_in y e.1.settled ≡ true) × HasSettled k y m
+
+-- each node has settled as many items as its count says
+abbrev pub AreMarked : List ℕ → List (ℕ × Planned) → Type 0
+AreMarked marks m = (y : ℕ) → 1 ≤ y → HasSettled (mark y marks) y m
+
+-- what is kept beside the items of a plan says what they are
+pub record IsKept (factor first lacking end : ℕ) (marks : List ℕ) (items : List (ℕ × Planned)) : Type 0 where
+  pub numbers : AreFrom first items
+  pub lack : lacking ≡ how_many (lacks factor) items
+  pub some : 1 ≤ end
+  pub marked : AreMarked marks items

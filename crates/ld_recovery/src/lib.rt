@@ -2,6 +2,7 @@
 #![tactic(auto)]
 
 mod laws;
+mod marks;
 mod planned;
 mod recovery;
 mod send;

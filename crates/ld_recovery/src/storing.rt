@@ -3,9 +3,10 @@ ghost use Rattle.std.specs.Prelude.{◌≡◌, ◌≤◌, ◌<◌, ◌+◌, ◌-
 ghost use Rattle.ld_table.specs.Words.{how_many};
 ghost use Rattle.ld_msg.specs.Sequencer.{planned, storing_of, settle, settled_by, is_ready, next_try, summary_of, item_stores};
 ghost use Rattle.ld_recovery.specs.Sending.{sent};
-ghost use Rattle.ld_recovery.specs.Planning.{with_storing, lacks, settle_at, settle_first, one_if, AreFrom, IsClose};
+ghost use Rattle.ld_recovery.specs.Planning.{with_storing, lacks, settle_at, settle_first, one_if, AreFrom, HasSettled, IsClose};
 
 use crate::Planned;
+use crate::marks::Marks;
 use crate::send::Sender;
 use ld_copyset::{NodeList, choose_for};
 use ld_ids::{NoMemory, NodeId, Spec};
@@ -15,8 +16,8 @@ use ld_plan::{Item, Plan};
 use std::alloc::Global;
 use std::marker::Model;
 
-/// A plan that is being stored: the items under numbers that follow each other, the wave that they were sent in last, and
-/// how many of them fewer nodes than the log's factor have settled.
+/// A plan that is being stored: the items under numbers that follow each other, the wave that they were sent in last,
+/// how many of them fewer nodes than the log's factor have settled, and for each node how many its trims have settled.
 #[derive(Drop)]
 pub struct Storing {
     spec: Spec,
@@ -26,18 +27,17 @@ pub struct Storing {
     items: Vec<Planned>,
     wave: u32,
     lacking: usize,
+    trimmed: Marks,
 }
 
 impl Model for Storing {
-    ghost use Rattle.std.specs.Prelude.{◌≡◌, ◌≤◌};
-    ghost use Rattle.ld_table.specs.Words.{how_many};
-    ghost use Rattle.ld_recovery.specs.Planning.{Plans, lacks, AreFrom};
+    ghost use Rattle.ld_recovery.specs.Planning.{Plans, IsKept};
 
     ghost Value = { Plans };
 
     ghost view = { λ a. record { spec = a.spec; storing = record { trim = a.trim; end = a.end; items = a.items.items; wave = a.wave } } };
 
-    ghost invariant = { λ a. (a.lacking ≡ how_many (lacks a.spec.r) a.items.items) × AreFrom a.first a.items.items × (1 ≤ a.end) };
+    ghost invariant = { λ a. IsKept a.spec.r a.first a.lacking a.end a.trimmed a.items.items };
 }
 
 impl Storing {
@@ -61,6 +61,7 @@ impl Storing {
             items,
             wave: 0,
             lacking,
+            trimmed: Marks::none(),
         })
     }
 
@@ -72,11 +73,15 @@ impl Storing {
         self.lacking -= settled;
     }
 
-    /// The node trimmed all up to a number. It takes time in the items up to it.
+    /// The node trimmed all up to a number. It passes only the items that no earlier trim of the node has passed, so all
+    /// trims of a node together take time in the items.
     pub fn trim(&mut self, trim: Lsn, node: NodeId)
         ensures { self.new ≡ with_storing self.old (settled_by (λ s. nat_le s trim) node self.old.storing) }
     {
-        let settled = settle_through(&mut self.items, self.first, trim, node, self.spec.r);
+        let done = self.trimmed.count(node);
+        let count = count_through(self.first, trim, self.items.len());
+        let settled = settle_first(&mut self.items, done, count, node, self.spec.r);
+        self.trimmed.raise(node, count);
         self.lacking -= settled;
     }
 
@@ -176,22 +181,6 @@ fn settle_number(
     0
 }
 
-// The node settled the items up to a number. Tells how many then had enough nodes that had one too few.
-fn settle_through(
-    items: &mut Vec<Planned>,
-    first: Lsn,
-    trim: Lsn,
-    node: NodeId,
-    factor: u8,
-) -> usize
-    requires { AreFrom first items.old.items }
-    ensures items { items.new.items ≡ settle (λ s. nat_le s trim) node items.old.items }
-    ensures left { how_many (lacks factor) items.old.items ≡ how_many (lacks factor) items.new.items + result }
-{
-    let count = count_through(first, trim, items.len());
-    settle_first(items, count, node, factor)
-}
-
 // Of so many items from a number on those up to another.
 fn count_through(first: Lsn, trim: Lsn, len: usize) -> usize
     ensures { result ≡ min (trim + 1 - first) len }
@@ -207,14 +196,25 @@ fn count_through(first: Lsn, trim: Lsn, len: usize) -> usize
     }
 }
 
-// The node settled so many items, from the first one on. Tells how many then had enough nodes that had one too few.
-fn settle_first(items: &mut Vec<Planned>, count: usize, node: NodeId, factor: u8) -> usize
-    requires { count ≤ length items.old.items }
+// The node settled so many items, from the first one on, of which it has settled some before: only the others are passed.
+// Tells how many then had enough nodes that had one too few.
+fn settle_first(
+    items: &mut Vec<Planned>,
+    done: usize,
+    count: usize,
+    node: NodeId,
+    factor: u8,
+) -> usize
+    requires count { count ≤ length items.old.items }
+    requires done { HasSettled done node items.old.items }
     ensures items { items.new.items ≡ settle_first count node items.old.items }
     ensures left { how_many (lacks factor) items.old.items ≡ how_many (lacks factor) items.new.items + result }
 {
+    if count <= done {
+        return 0;
+    }
     let mut settled = 0;
-    'items: for place in 0..count {
+    'items: for place in done..count {
         settled += settle_at(items, place, node, factor);
     }
     settled

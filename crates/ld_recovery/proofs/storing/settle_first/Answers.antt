@@ -1,12 +1,16 @@
 use Rattle.std.proofs.Common.{arith}
-use Rattle.ld_recovery.proofs.Settling.{first_at_zero, all_place, places_then}
+use Rattle.ld_recovery.proofs.Settling.{all_place, places_then}
+use Rattle.ld_recovery.proofs.Marking.{first_again}
 use Rattle.ld_recovery.proofs.storing.settle_first.Goals as goal
 
+pub returns-then-count-done-clause-items : goal.returns-then-count-done-clause-items
+returns-then-count-done-clause-items c = first_again c.args.count c.args.done c.args.node c.args.items.now.items c.if-count-done.true c.requires.done
+
 pub items-init : goal.items-init
-items-init c = record { items = first_at_zero c.args.node c.args.items.now.items; left = omega arith; few = omega arith }
+items-init c = record { items = first_again c.args.done c.args.done c.args.node c.args.items.now.items (omega arith) c.requires.done; left = omega arith; few = omega arith }
 
 pub settle_at-settled-requires : goal.settle_at-settled-requires
-settle_at-settled-requires c = all_place c.items.place c.args.count c.args.node c.args.items.now.items c.items.items.items c.items.invariant.items c.items-test.true c.requires
+settle_at-settled-requires c = all_place c.items.place c.args.count c.args.node c.args.items.now.items c.items.items.items c.items.invariant.items c.items-test.true c.requires.count
 
 pub items-preserved : goal.items-preserved
 items-preserved c = record {

@@ -6,4 +6,4 @@ use Rattle.ld_recovery.proofs.storing.Storing.is_ready.Goals as goal
 
 pub returns : goal.returns
 unfolding is_ready
-returns c = ap (λ n. n == 0) c.self.invariant.0 ∙ (all_enough c.self.inside.spec.r c.self.inside.items.items ∙ ap (λ (p : Plans). is_ready p.spec p.storing) c.self.view_is)
+returns c = ap (λ n. n == 0) c.self.invariant.lack ∙ (all_enough c.self.inside.spec.r c.self.inside.items.items ∙ ap (λ (p : Plans). is_ready p.spec p.storing) c.self.view_is)
