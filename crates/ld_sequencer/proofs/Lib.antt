@@ -1,5 +1,6 @@
 pub mod Activating
 pub mod Begins
+pub mod Causes
 pub mod Closing
 pub mod Counted
 pub mod Doing

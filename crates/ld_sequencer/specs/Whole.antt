@@ -11,7 +11,7 @@ use Rattle.ld_msg.specs.declared.msg.Body.{Body}
 use Rattle.ld_msg.specs.declared.msg.Body.TheVariants as bodies
 use Rattle.ld_msg.specs.Bounds.{IsEpoch}
 use Rattle.ld_msg.specs.Network.{posted}
-use Rattle.ld_msg.specs.Register.{Register, Answer}
+use Rattle.ld_msg.specs.Register.{Register, Answer, is_crowded}
 use Rattle.ld_msg.specs.Sequencer.{Sequencer, Recovery, Stage, Seals, Stores, Closes, Acts, Called, called, on_reply, on_retry, does_nothing, after_close, retries_recovery, append_stores, acted_messages, rose, released_of, activated, recovery_asks}
 use Rattle.ld_recovery.specs.Recovering.{Recovering, Goes, started, sender_of}
 use Rattle.ld_sequencer.specs.Own.{Own, sequencer_of, listed}
@@ -151,6 +151,13 @@ abbrev pub IsUntimely : SequencerFault → Type 0
 IsUntimely (faults.Register registers.LogLimit) = Unit {0}
 IsUntimely (faults.Register (registers.Damaged place)) = Unit {0}
 IsUntimely _ = ⊥
+
+-- why a register refuses a close, by what it holds and from where on it is damaged: it holds as many other logs as it may, or its bytes are no journal. Want of memory has no cause, and nothing else is refused.
+abbrev pub IsCaused : (Register → Type 0) → (ℕ → Type 0) → ℕ → SequencerFault → Type 0
+IsCaused holds damaged log (faults.Register registers.LogLimit) = (c : Register) × holds c × (is_crowded c log ≡ true)
+IsCaused holds damaged log (faults.Register (registers.Damaged place)) = damaged place
+IsCaused holds damaged log faults.NoMemory = Unit {0}
+IsCaused holds damaged log _ = ⊥
 
 -- the call has done all but the close that it tried
 pub record Unclosed (before after : Whole) (fault : SequencerFault) (old new : List Msg) (a : Acts) : Type 0 where

@@ -8,7 +8,7 @@ ghost use Rattle.ld_recovery.specs.declared.state.Answer.TheVariants as answers;
 ghost use Rattle.ld_register.specs.Calls.{after_close, ChangedOrNot, Keeps, is_full, close_length};
 ghost use Rattle.ld_register.specs.declared.fault.RegisterFault.TheVariants as registers;
 ghost use Rattle.ld_sequencer.specs.declared.fault.SequencerFault.TheVariants as faults;
-ghost use Rattle.ld_sequencer.specs.Whole.{IsUntimely};
+ghost use Rattle.ld_sequencer.specs.Whole.{IsCaused, IsUntimely};
 
 use crate::fault::SequencerFault;
 use ld_ids::LogId;
@@ -18,8 +18,8 @@ use ld_register::{Register, RegisterFault};
 use std::alloc::Global;
 
 /// Closes the log's epoch in the register. Its answer is `Failed` where the register's journal is full or a call of it
-/// failed. It is refused with `LogLimit` exactly where 64 other logs are held, with `Damaged` where the register's bytes are
-/// no journal, and for want of memory.
+/// failed. It is refused with `LogLimit` exactly where 64 other logs are held, with `Damaged` and a place where the
+/// register's bytes are no journal from there on, and for want of memory.
 pub(crate) fn close<G: Register>(
     alloc: Global,
     reg: &mut G,
@@ -37,6 +37,7 @@ pub(crate) fn close<G: Register>(
     ensures failed { G.told reg.old → IfOk result (λ answer. answer ≡ answers.Failed → Rose (G.faults reg.old) (G.faults reg.new) ⊎ ((c : Contents) × G.holds reg.old c × (is_full c close_length ≡ true))) }
     ensures bound { IfOk result (λ answer. is_epoch_answer answer ≡ true) }
     ensures refused { IfErr result (λ fault. (fault ≡ faults.NoMemory) ⊎ IsUntimely fault) }
+    ensures caused { G.told reg.old → IfErr result (IsCaused (G.holds reg.old) (G.damaged reg.old) log) }
     ensures told { G.told reg.old → G.told reg.new }
     ensures done_or_not { G.told reg.old → ChangedOrNot (G.may_hold reg.old) (G.may_hold reg.new) (λ c. after_close c log epoch summary.now) }
     ensures keeps { OnErr result (Keeps (G.holds reg.old) (G.holds reg.new) (G.may_hold reg.old) (G.may_hold reg.new)) }

@@ -16,7 +16,7 @@ ghost use Rattle.ld_sequencer.specs.Own.{append_fault, trim_fault, listed};
 ghost use Rattle.ld_sequencer.specs.Register.{MayCome, after_tries};
 ghost use Rattle.ld_recovery.specs.declared.state.Answer.TheVariants as answers;
 ghost use Rattle.ld_sequencer.specs.Sending.{BeginsWith};
-ghost use Rattle.ld_sequencer.specs.Whole.{as_now, sent_as, next_in, closed_acts, closing_of, is_of_earlier, is_for_recovery, reply_acts, retry_acts, recovery_acts, pending_stores, tried, called_by, risen, Acted, IsFresh, IsRefused, IsUntimely, active, first_asks, Activates, IsActive};
+ghost use Rattle.ld_sequencer.specs.Whole.{as_now, sent_as, next_in, closed_acts, closing_of, is_of_earlier, is_for_recovery, reply_acts, retry_acts, recovery_acts, pending_stores, tried, called_by, risen, Acted, IsCaused, IsFresh, IsRefused, IsUntimely, active, first_asks, Activates, IsActive};
 
 use crate::close::close;
 use crate::fault::SequencerFault;
@@ -88,8 +88,10 @@ impl Sequencer {
     /// Gets the log's next epoch from the register. The recovery of the first epoch that isn't closed begins, where that is
     /// before its own: all nodes are asked for what they have.
     ///
-    /// It is refused with `Register` as the register refuses the activation, and for want of memory. A refused activation
-    /// has sent nothing, and for want of memory no epoch is handed out by a register that holds to what it holds.
+    /// It is refused with `Register` as the register refuses the activation, and for want of memory. Of a register that tells
+    /// what it holds that is with `Failed` only where its count of faults rose, with `Damaged` and a place only where its
+    /// bytes are no journal from there on, and else just as what it holds says. A refused activation has sent nothing, and
+    /// for want of memory no epoch is handed out by a register that holds to what it holds.
     pub fn activate<G: Register>(
         alloc: Global,
         spec: &Spec,
@@ -104,6 +106,8 @@ impl Sequencer {
         ensures active { IfOk result (λ sequencer. (grant : Grant) × IsEpoch grant.epoch × IsActive spec.now grant sequencer out.old out.new) }
         ensures unsent { OnErr result (out.new ≡ out.old) }
         ensures memory { IfErr result (λ fault. fault ≢ faults.Register registers.NoMemory) }
+        ensures whole { G.told reg.old → IsErrOf result faults.NoMemory ⊎ IsErrAnd result MayCome ⊎ ((c : Contents) × G.holds reg.old c) }
+        ensures damaged { (place : ℕ) → IsErrOf result (faults.Register (registers.Damaged place)) → G.told reg.old → G.damaged reg.old place }
         ensures failed { IsErrOf result (faults.Register registers.Failed) → Rose (G.faults reg.old) (G.faults reg.new) }
         ensures told { G.told reg.old → G.told reg.new }
         ensures done_or_not { G.told reg.old → ChangedOrNot (G.may_hold reg.old) (G.may_hold reg.new) (λ c. after_activate c spec.now.log) }
@@ -190,9 +194,9 @@ impl Sequencer {
     /// released number rises all nodes are told so. A preempted sequencer ignores all messages, and so it does those that
     /// are no node's.
     ///
-    /// It is refused with `Register` and `LogLimit` exactly where 64 other logs are held, and with `Register` and `Damaged`
-    /// where the register's bytes are no journal: then all has been done but the close, which a retry tries again, and the
-    /// register holds what it held. After `NoMemory` it isn't to be used again.
+    /// It is refused with `Register` and `LogLimit` exactly where 64 other logs are held, and with `Register`, `Damaged` and a
+    /// place where the register's bytes are no journal from there on: then all has been done but the close, which a retry
+    /// tries again, and the register holds what it held. After `NoMemory` it isn't to be used again.
     ///
     /// Whatever the register answers, what a crash may leave of it is what it might leave before, with the close that was
     /// tried made or not.
@@ -211,6 +215,7 @@ impl Sequencer {
             → IfOk result (λ report. (report.register_failed ≡ true) ⊎ (Acted self.old self.new report out.old out.new (called_by self.old c (reply_acts self.old msg.now.from msg.now.body)).acts × G.holds reg.new (called_by self.old c (reply_acts self.old msg.now.from msg.now.body)).register)) }
         ensures failed { G.told reg.old → IfOk result (λ report. report.register_failed ≡ true → Rose (G.faults reg.old) (G.faults reg.new) ⊎ ((c : Contents) × G.holds reg.old c × (is_full c close_length ≡ true))) }
         ensures refused { IfErr result (λ fault. IsRefused self.old self.new fault out.old out.new (reply_acts self.old msg.now.from msg.now.body)) }
+        ensures caused { G.told reg.old → IfErr result (IsCaused (G.holds reg.old) (G.damaged reg.old) self.old.sequencer.log) }
         ensures crowded { (c : Contents) → G.tells reg.old c
             → IfErr result (λ fault. (fault ≡ faults.NoMemory) ⊎ ((fault ≡ faults.Register registers.LogLimit) × (is_crowded c self.old.sequencer.log ≡ true) × G.tells reg.new c)) }
         ensures room { (c : Contents) → G.tells reg.old c → OnOk result (((reply_acts self.old msg.now.from msg.now.body).tries ≡ []) ⊎ (is_crowded c self.old.sequencer.log ≡ false)) }
@@ -250,6 +255,7 @@ impl Sequencer {
             → IfOk result (λ report. (report.register_failed ≡ true) ⊎ (Acted self.old self.new report out.old out.new (called_by self.old c (retry_acts self.old)).acts × G.holds reg.new (called_by self.old c (retry_acts self.old)).register)) }
         ensures failed { G.told reg.old → IfOk result (λ report. report.register_failed ≡ true → Rose (G.faults reg.old) (G.faults reg.new) ⊎ ((c : Contents) × G.holds reg.old c × (is_full c close_length ≡ true))) }
         ensures refused { IfErr result (λ fault. IsRefused self.old self.new fault out.old out.new (retry_acts self.old)) }
+        ensures caused { G.told reg.old → IfErr result (IsCaused (G.holds reg.old) (G.damaged reg.old) self.old.sequencer.log) }
         ensures crowded { (c : Contents) → G.tells reg.old c
             → IfErr result (λ fault. (fault ≡ faults.NoMemory) ⊎ ((fault ≡ faults.Register registers.LogLimit) × (is_crowded c self.old.sequencer.log ≡ true) × G.tells reg.new c)) }
         ensures room { (c : Contents) → G.tells reg.old c → OnOk result (((retry_acts self.old).tries ≡ []) ⊎ (is_crowded c self.old.sequencer.log ≡ false)) }
@@ -377,6 +383,7 @@ impl Sequencer {
             → IfOk result (λ report. (report.register_failed ≡ true) ⊎ (Acted self.old self.new report out.old out.new (closed_acts self.old epoch summary.now (closes c self.old.sequencer.log epoch summary.now).answer) × G.holds reg.new (closes c self.old.sequencer.log epoch summary.now).register)) }
         ensures failed { G.told reg.old → IfOk result (λ report. report.register_failed ≡ true → Rose (G.faults reg.old) (G.faults reg.new) ⊎ ((c : Contents) × G.holds reg.old c × (is_full c close_length ≡ true))) }
         ensures refused { IfErr result (λ fault. (fault ≡ faults.NoMemory) ⊎ (IsUntimely fault × (self.new ≡ self.old) × (out.new ≡ out.old))) }
+        ensures caused { G.told reg.old → IfErr result (IsCaused (G.holds reg.old) (G.damaged reg.old) self.old.sequencer.log) }
         ensures crowded { (c : Contents) → G.tells reg.old c
             → IfErr result (λ fault. (fault ≡ faults.NoMemory) ⊎ ((fault ≡ faults.Register registers.LogLimit) × (is_crowded c self.old.sequencer.log ≡ true) × G.tells reg.new c)) }
         ensures told { G.told reg.old → G.told reg.new }
@@ -491,6 +498,7 @@ impl Sequencer {
             → IfOk result (λ report. (report.register_failed ≡ true) ⊎ (Acted self.old self.new report out.old out.new (called_by self.old c (recovery_acts self.old)).acts × G.holds reg.new (called_by self.old c (recovery_acts self.old)).register)) }
         ensures failed { G.told reg.old → IfOk result (λ report. report.register_failed ≡ true → Rose (G.faults reg.old) (G.faults reg.new) ⊎ ((c : Contents) × G.holds reg.old c × (is_full c close_length ≡ true))) }
         ensures refused { IfErr result (λ fault. IsRefused self.old self.new fault out.old out.new (recovery_acts self.old)) }
+        ensures caused { G.told reg.old → IfErr result (IsCaused (G.holds reg.old) (G.damaged reg.old) self.old.sequencer.log) }
         ensures crowded { (c : Contents) → G.tells reg.old c
             → IfErr result (λ fault. (fault ≡ faults.NoMemory) ⊎ ((fault ≡ faults.Register registers.LogLimit) × (is_crowded c self.old.sequencer.log ≡ true) × G.tells reg.new c)) }
         ensures room { (c : Contents) → G.tells reg.old c → OnOk result (((recovery_acts self.old).tries ≡ []) ⊎ (is_crowded c self.old.sequencer.log ≡ false)) }

@@ -1,5 +1,6 @@
-use Rattle.ld_register.specs.Calls.{activated, after_activate}
+use Rattle.ld_register.specs.Calls.{activated, after_activate, looked}
 use Rattle.ld_sequencer.proofs.Activating.{err_exact, err_held, taken_off, again_active, ok_exact, ok_held, look_held, done_then, never_exact, never_held}
+use Rattle.ld_sequencer.proofs.Causes.{held_then, damaged_of}
 use Rattle.ld_sequencer.proofs.whole.Sequencer.activate.Goals as goal
 
 pub returns-in_err-start-in-Ok-2-clause-exact : goal.returns-in_err-start-in-Ok-2-clause-exact
@@ -48,3 +49,9 @@ returns-in-Err-clause-held g c = λ x h.
     let same = taken_off c.args.spec.now c.next_grant-expected.result c.in_ok-sequencer.sequencer o c.start.new.out n c.len-count.result c.in_ok-sequencer.ensures.active c.len-count.ensures c.truncate-in-Err.ensures in
     let mid = look_held c.look.result _ c.in_ok-view.view (g.G.Register.holds c.look.new.self x) c.in_ok-view.was (c.look.ensures.answers x h) in
     err_held c.args.spec.now o n c.activate.result (activated x log) c.in-Err.fault c.from.result (g.G.Register.holds c.activate.new.self x) (g.G.Register.holds c.activate.new.self (after_activate x log)) _ c.in-Err.is c.from.ensures same c.activate.ensures.keeps (λ k. k.held x mid) (c.activate.ensures.answers x mid)
+
+pub returns-in-Err-clause-damaged : goal.returns-in-Err-clause-damaged
+returns-in-Err-clause-damaged g c = λ place h t.
+    let p = held_then c.look.result c.in_ok-view.view (λ x. looked x c.args.spec.now.log 0) (g.G.Register.holds c.args.reg.now) (g.G.Register.holds c.look.new.self) c.in_ok-view.was (c.look.ensures.whole t) c.look.ensures.answers in
+    let d = damaged_of c.in-Err.fault c.from.result c.activate.result place c.in-Err.is c.from.ensures h in
+    absurd (g.met.G.Register.held_is_whole c.look.new.self p.0 place p.1 (c.activate.ensures.damaged place d (c.look.ensures.told t)))
