@@ -1,5 +1,5 @@
 -- The lowest missing number is the first of the missing ones.
-use Rattle.std.proofs.Common.{◌≡◌, ◌≤◌, ◌<◌, ◌+◌, ◌-◌, ◌^◌, ◌⊎◌, inl, inr, ℕ, zero, suc, max, Bool, true, false, ◌==◌, nat_lt, nat_le, nat_cmp, Less, is_none, List, [], ◌∷◌, ◌++◌, Option, Some, None, refl, ap, sym, ◌∙◌, subst, cond, if◌then◌else◌, arith}
+use Rattle.std.proofs.Common.{◌≡◌, ◌≤◌, ◌<◌, ◌+◌, ◌-◌, ◌⊎◌, inl, inr, ℕ, zero, suc, max, Bool, true, false, nat_lt, nat_le, nat_cmp, Less, is_none, List, [], ◌∷◌, ◌++◌, Option, Some, None, refl, ap, sym, ◌∙◌, cond, if◌then◌else◌, arith}
 use Rattle.std.specs.List.{filter, flat_map, AllByRecursion}
 use Rattle.std.specs.List.Sorted.{IsStrictlySortedBy}
 use Rattle.std.specs.Map as map
@@ -14,7 +14,7 @@ use Rattle.ld_msg.specs.declared.msg.Entry.{Entry}
 use Rattle.ld_msg.specs.declared.msg.Summary.{Summary}
 use Rattle.ld_op.specs.Plain.{Log}
 use Rattle.ld_op.specs.Ticks.{missing, missing_of, numbers_of, first_above}
-use Rattle.ld_op.specs.Whole.{Lacks, IsWhole, HasAll, IsLowest}
+use Rattle.ld_op.specs.Whole.{Lacks, HasAll, IsLowest}
 use Rattle.ld_op.proofs.Wholes.{order}
 
 -- ---- numbers that follow each other ----

@@ -1,5 +1,5 @@
 -- Places for many entries.
-use Rattle.std.proofs.Common.{◌≡◌, ◌+◌, ◌<◌, ℕ, Bool, true, false, ◌&&◌, List, [], ◌∷◌, ◌++◌, Option, refl, ap, sym, ◌∙◌, take, get_or, length, arith}
+use Rattle.std.proofs.Common.{◌≡◌, ℕ, Bool, true, false, ◌&&◌, List, [], ◌∷◌, ◌++◌, Option, refl}
 use Rattle.ld_msg.specs.declared.msg.Entry.{Entry}
 use Rattle.ld_table.specs.Table.{put}
 use Rattle.ld_op.specs.Plain.{refill_entries}

@@ -1,9 +1,8 @@
 -- What follows from how bytes are judged.
-use Rattle.std.proofs.Common.{◌≡◌, ◌∙◌, ap, sym, List, ℕ, length, Result, Ok, Err, IfOk, IfErr, refl}
+use Rattle.std.proofs.Common.{◌≡◌, ◌∙◌, ap, List, ℕ, Result, Ok, Err, IfOk, IfErr, refl}
 use Rattle.ld_op.specs.declared.op.Op.{Op}
 use Rattle.ld_op.specs.declared.fault.OpFault.{OpFault}
 use Rattle.ld_op.specs.declared.fault.OpFault.TheVariants.{Bad, NoMemory}
-use Rattle.ld_op.specs.Fields.{Got, Off}
 use Rattle.ld_op.specs.Bounds.{IsOp}
 use Rattle.ld_op.specs.Bytes.{op_bytes, judge}
 use Rattle.ld_op.specs.Judged.{IsOff}

@@ -1,9 +1,8 @@
 -- A walk over the clean epochs that were lost.
-use Rattle.std.proofs.Common.{◌≡◌, ◌≤◌, ◌<◌, ◌+◌, ◌^◌, ◌⊎◌, inl, inr, ℕ, Bool, true, false, nat_lt, nat_le, nat_cmp, eqb, Less, is_none, is_some, IfSome, IfNone, List, [], ◌∷◌, Option, Some, None, refl, ap, sym, ◌∙◌, subst, cond, if◌then◌else◌, arith}
+use Rattle.std.proofs.Common.{◌≡◌, ◌≤◌, ◌<◌, ◌+◌, inl, inr, ℕ, Bool, true, false, nat_lt, nat_cmp, Less, is_none, is_some, IfSome, IfNone, List, [], ◌∷◌, Option, Some, None, refl, ap, sym, ◌∙◌, subst, cond, if◌then◌else◌, arith}
 use Rattle.std.specs.List.{AllByRecursion}
 use Rattle.std.specs.List.Sorted.{IsStrictlySortedBy}
 use Rattle.std.specs.Map as map
-use Rattle.std.specs.BTreeMap.{is_at}
 use Rattle.std.proofs.lemmas.Bool.{eq-eqb, ne_eqb}
 use Rattle.std.proofs.lemmas.Bool.Decides.{nat_tests}
 use Rattle.ld_table.specs.Table.{find, first_from, Ordered}

@@ -1,5 +1,5 @@
 -- The logs that are there, after a change of one.
-use Rattle.std.proofs.Common.{◌≡◌, ◌<◌, suc, zero, ℕ, Bool, true, false, cond, List, [], ◌∷◌, ◌++◌, Option, Some, None, refl, ap, sym, ◌∙◌, subst, arith, eqb, nat_cmp, Less, Greater, is_some, IsSome, option_map, take, Result, Ok, Err, OnOk}
+use Rattle.std.proofs.Common.{◌≡◌, suc, zero, ℕ, Bool, true, false, cond, List, [], ◌∷◌, ◌++◌, Option, Some, None, refl, ap, sym, ◌∙◌, subst, eqb, nat_cmp, Less, Greater, is_some, IsSome, option_map, take, Result, Ok, Err, OnOk}
 use Rattle.std.specs.Option.{unwrap_or}
 use Rattle.std.specs.Cmp.{nat_cmp_total, eq_by_cmp_equiv}
 use Rattle.std.specs.Ordering.{eq_by_cmp, is_eq, ordering_reverse, match_ordering}
@@ -15,7 +15,7 @@ use Rattle.ld_table.proofs.Order.{Ordered-put, same_table}
 use Rattle.ld_op.specs.declared.op.Op.{Op}
 use Rattle.ld_op.specs.declared.op.Op.TheVariants as ops
 use Rattle.ld_op.specs.Plain.{Log, Plain, empty_log, log_of, with_log, lost_log, lost_logs, apply}
-use Rattle.ld_op.specs.Places.{filled, filled_one}
+use Rattle.ld_op.specs.Places.{filled}
 use Rattle.ld_op.specs.Room.{Held, if_there, there_of, log_named, log_after}
 use Rattle.ld_op.proofs.Places.{flat, find-filled, filled-put, Ordered-filled}
 

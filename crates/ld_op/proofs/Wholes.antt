@@ -1,9 +1,9 @@
 -- Up to where nothing is missing, after each change of a log.
-use Rattle.std.proofs.Common.{◌≡◌, ◌≤◌, ◌<◌, ◌+◌, ◌^◌, ◌⊎◌, inl, inr, ℕ, max, min, Bool, true, false, not, ◌==◌, ◌&&◌, ◌||◌, nat_lt, nat_le, cond, List, [], ◌∷◌, Option, Some, None, refl, ap, sym, ◌∙◌, subst, arith}
+use Rattle.std.proofs.Common.{◌≡◌, ◌≤◌, ◌<◌, ◌⊎◌, inl, inr, ℕ, max, min, Bool, true, false, nat_lt, cond, List, [], ◌∷◌, Option, Some, None, refl, ap, sym, ◌∙◌, subst, arith}
 use Rattle.std.proofs.lemmas.Bool.Decides.{nat_tests}
 use Rattle.ld_table.specs.Table.{find, put, keep, keep_keys}
 use Rattle.ld_table.proofs.Laws.{find-put_other, put_cases, find-keep, find-keep_keys, find-empty, kept}
-use Rattle.ld_lsn.specs.Number.{numbered, epoch_of, esn_of}
+use Rattle.ld_lsn.specs.Number.{numbered, epoch_of}
 use Rattle.ld_msg.specs.declared.msg.Entry.{Entry}
 use Rattle.ld_msg.specs.declared.msg.Summary.{Summary}
 use Rattle.ld_msg.specs.declared.msg.What.{What}

@@ -1,9 +1,9 @@
 -- The bytes of one part more.
-use Rattle.std.proofs.Common.{◌≡◌, ◌<◌, ◌+◌, ℕ, suc, zero, List, [], ◌∷◌, ◌++◌, refl, ap, sym, ◌∙◌, append_assoc, take, get_or, length, subst, arith}
+use Rattle.std.proofs.Common.{◌≡◌, ◌<◌, ◌+◌, ℕ, suc, zero, List, [], ◌∷◌, ◌++◌, refl, ap, sym, ◌∙◌, append_assoc, take, get_or, length, arith}
 use Rattle.std.proofs.lemmas.List.{append-nil, take_more}
 use Rattle.byteorder.specs.Endian.{big_bytes}
 use Rattle.ld_msg.specs.declared.msg.Entry.{Entry}
-use Rattle.ld_msg.specs.Bounds.{IsEntry, IsShort, AreEntries}
+use Rattle.ld_msg.specs.Bounds.{IsShort, AreEntries}
 use Rattle.ld_op.specs.Bytes.{entry_bytes, entries_bytes, epochs_bytes}
 
 entries_bytes-append : (es : List Entry) (e : Entry) → entries_bytes (es ++ e ∷ []) ≡ entries_bytes es ++ entry_bytes e

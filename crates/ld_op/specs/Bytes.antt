@@ -1,5 +1,5 @@
 -- Ops as bytes, and how bytes are judged.
-use Rattle.std.specs.Prelude.{ℕ, ◌+◌, ◌-◌, ◌^◌, List, [], ◌∷◌, ◌++◌, length, take, drop, Bool, true, false, ◌&&◌, ◌||◌, not, ◌==◌, nat_lt, nat_le, if◌then◌else◌, zero, suc}
+use Rattle.std.specs.Prelude.{ℕ, ◌+◌, ◌-◌, ◌^◌, List, [], ◌∷◌, ◌++◌, length, take, drop, Bool, ◌&&◌, ◌||◌, ◌==◌, nat_lt, nat_le, if◌then◌else◌, zero, suc}
 use Rattle.byteorder.specs.Endian.{big_bytes}
 use Rattle.ld_lsn.specs.Number.{epoch_of, esn_of, last_esn}
 use Rattle.ld_msg.specs.declared.msg.What.{What}
@@ -8,7 +8,7 @@ use Rattle.ld_msg.specs.declared.msg.Entry.{Entry}
 use Rattle.ld_msg.specs.declared.msg.Summary.{Summary}
 use Rattle.ld_op.specs.declared.op.Op.{Op}
 use Rattle.ld_op.specs.declared.op.Op.TheVariants as ops
-use Rattle.ld_op.specs.Fields.{Read, Got, Off, follow, check, field, end_at}
+use Rattle.ld_op.specs.Fields.{Read, Got, follow, check, field, end_at}
 
 -- ---- the bytes of an op ----
 

@@ -2,7 +2,7 @@
 use Rattle.std.specs.Prelude.{◌≡◌, ◌<◌, ℕ, List, slice_index}
 use Rattle.ld_op.specs.declared.fault.OpFault.{OpFault}
 use Rattle.ld_op.specs.declared.fault.OpFault.TheVariants.{Bad, NoMemory}
-use Rattle.ld_op.specs.Fields.{Read, Got, Off}
+use Rattle.ld_op.specs.Fields.{Read, Off}
 
 -- a fault names the place; want of memory is free
 abbrev pub IsOff : {X : Type 0} → Read X → OpFault → Type 0

@@ -1,5 +1,5 @@
 -- Up to where nothing is missing.
-use Rattle.std.specs.Prelude.{◌≡◌, ◌≤◌, ◌<◌, ◌^◌, ℕ, false, Option, Some, None, is_none}
+use Rattle.std.specs.Prelude.{◌≡◌, ◌≤◌, ◌<◌, ◌^◌, ℕ, false, Some, None, is_none}
 use Rattle.ld_table.specs.Table.{find}
 use Rattle.ld_lsn.specs.Number.{numbered}
 use Rattle.ld_msg.specs.declared.msg.Entry.{Entry}

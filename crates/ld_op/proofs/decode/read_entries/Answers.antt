@@ -1,5 +1,4 @@
-use Rattle.std.proofs.Common.{◌≡◌, ◌<◌, ◌∙◌, ◌+◌, ◌-◌, ◌++◌, ◌∷◌, [], ap, sym, arith, rules}
-use Rattle.ld_op.specs.Fields.{Got}
+use Rattle.std.proofs.Common.{◌∙◌, ◌+◌, ◌-◌, ◌++◌, ◌∷◌, [], ap, sym, arith, rules}
 use Rattle.ld_op.specs.Bytes.{read_entries}
 use Rattle.ld_op.specs.Judged.{IsOff}
 use Rattle.ld_op.specs.Resumed.{resumed}

@@ -1,4 +1,4 @@
-use Rattle.std.proofs.Common.{◌≡◌, ◌<◌, ◌∙◌, ◌+◌, ◌-◌, ◌++◌, ◌∷◌, [], ap, sym, arith, rules}
+use Rattle.std.proofs.Common.{◌∙◌, ◌+◌, ◌-◌, ◌++◌, ◌∷◌, [], ap, sym, arith, rules}
 use Rattle.ld_op.specs.Fields.{Got}
 use Rattle.ld_op.specs.Bytes.{read_epochs}
 use Rattle.ld_op.specs.Judged.{IsOff}

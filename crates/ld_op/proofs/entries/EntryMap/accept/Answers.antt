@@ -1,4 +1,4 @@
-use Rattle.std.proofs.Common.{◌≡◌, ◌∙◌, true, ap, sym, subst, arith, rules, cond}
+use Rattle.std.proofs.Common.{◌≡◌, ◌∙◌, true, ap, sym, subst, cond}
 use Rattle.ld_table.specs.Table.{put, keep}
 use Rattle.ld_op.specs.Plain.{survives_bridge}
 use Rattle.ld_op.specs.Places.{filled, has_place}

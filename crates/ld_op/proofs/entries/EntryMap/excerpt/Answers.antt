@@ -1,10 +1,8 @@
-use Rattle.std.proofs.Common.{◌≡◌, ◌∙◌, ap, sym, subst, take, map, ◌++◌, ◌∷◌, [], List, ℕ, Option, Some, None, rules, arith, append_assoc, length, Bor}
+use Rattle.std.proofs.Common.{◌≡◌, ◌∙◌, ap, sym, take, map, ◌++◌, ◌∷◌, [], arith, length}
 use Rattle.std.proofs.lemmas.Grind.{common_steps}
 use Rattle.std.specs.Map.Iter.{deref_pair}
-use Rattle.ld_msg.specs.declared.msg.Entry.{Entry}
-use Rattle.ld_table.specs.Table.{Ordered}
-use Rattle.ld_op.specs.Places.{filled, AreUnderTheirNumbers}
-use Rattle.ld_op.specs.Picks.{picked, picked_one}
+use Rattle.ld_op.specs.Places.{filled}
+use Rattle.ld_op.specs.Picks.{picked}
 use Rattle.ld_op.specs.Answers.{page_upto, page_limit, last_number}
 use Rattle.ld_op.proofs.Pages.{walk_on, walk_at, walk_end, map_on, ranged, picked-crossed, gather, gather_on, gather_more, gather_same, full_page, full_upto, short_page, short_upto}
 use Rattle.ld_op.proofs.entries.EntryMap.excerpt.Goals as goal

@@ -1,7 +1,5 @@
-use Rattle.std.proofs.Common.{arith, subst, sym, [], Some, ◌≡◌, List, ℕ, Option}
-use Rattle.ld_table.specs.Table.{find}
-use Rattle.ld_msg.specs.declared.msg.Entry.{Entry}
-use Rattle.ld_op.specs.Places.{filled, AreUnderTheirNumbers}
+use Rattle.std.proofs.Common.{subst, sym}
+use Rattle.ld_op.specs.Places.{AreUnderTheirNumbers}
 use Rattle.ld_op.proofs.Places.{none_under}
 use Rattle.ld_op.proofs.entries.EntryMap.new.Goals as goal
 

@@ -1,4 +1,4 @@
-use Rattle.std.proofs.Common.{rules, ◌≡◌, ◌∙◌, None, ℕ, cond, eqb, true, subst, ap, sym}
+use Rattle.std.proofs.Common.{◌≡◌, ◌∙◌, ℕ, cond, eqb, true, subst, ap, sym}
 use Rattle.ld_table.specs.Table.{find}
 use Rattle.ld_op.specs.Places.{filled, has_place, AreUnderTheirNumbers}
 use Rattle.ld_op.proofs.Places.{filled-place_by, has_place-place, place_made, places_stay, under_after, not_there}

@@ -1,8 +1,7 @@
-use Rattle.std.proofs.Common.{rules, ◌≡◌, ◌∙◌, refl, ap, sym, true, min}
-use Rattle.ld_lsn.specs.Number.{numbered}
-use Rattle.ld_op.specs.Plain.{accepted, refilled_with, trimmed_to, cleaned}
+use Rattle.std.proofs.Common.{rules, ◌≡◌, sym, true, min}
+use Rattle.ld_op.specs.Plain.{accepted}
 use Rattle.ld_op.specs.Shown.{shown_log}
-use Rattle.ld_op.proofs.Wholes.{whole_as, whole_accepted, whole_refilled, whole_trimmed, whole_cleaned}
+use Rattle.ld_op.proofs.Wholes.{whole_as, whole_accepted}
 use Rattle.ld_op.proofs.log.LogState.accept.Goals as goal
 
 pub invariant_of-self : goal.invariant_of-self

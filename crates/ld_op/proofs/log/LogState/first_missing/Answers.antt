@@ -1,4 +1,4 @@
-use Rattle.std.proofs.Common.{◌≡◌, ◌∙◌, sym, subst}
+use Rattle.std.proofs.Common.{◌∙◌, sym, subst}
 use Rattle.ld_op.specs.Whole.{IsLast, HasAll}
 use Rattle.ld_op.proofs.Firsts.{none_missing}
 use Rattle.ld_op.proofs.Nexts.{first_is, first_whole, none_of, whole_behind, all_there, all_up_to, next_at}

@@ -1,5 +1,4 @@
-use Rattle.std.proofs.Common.{◌≤◌, ◌<◌, sym, arith}
-use Rattle.std.proofs.lemmas.Bool.Decides.{nat_tests}
+use Rattle.std.proofs.Common.{sym, arith}
 use Rattle.ld_op.proofs.Nexts.{next_of, last_of, last_none}
 use Rattle.ld_op.proofs.log.LogState.lost_from.Goals as goal
 

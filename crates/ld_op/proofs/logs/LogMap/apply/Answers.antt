@@ -1,4 +1,4 @@
-use Rattle.std.proofs.Common.{◌≡◌, ◌∙◌, ap, sym, rules, Some, None, true}
+use Rattle.std.proofs.Common.{◌≡◌, ◌∙◌, ap, sym, rules, Some, None}
 use Rattle.ld_table.specs.Table.{find}
 use Rattle.ld_op.specs.Room.{has_room_in}
 use Rattle.ld_op.proofs.There.{log_changed_by}

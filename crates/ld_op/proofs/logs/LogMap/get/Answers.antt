@@ -1,8 +1,7 @@
-use Rattle.std.proofs.Common.{◌≡◌, ◌∙◌, ap, sym, subst, rules, Some, None}
+use Rattle.std.proofs.Common.{◌≡◌, ◌∙◌, ap, sym, subst, rules, None}
 use Rattle.std.specs.Option.{unwrap_or}
 use Rattle.ld_table.specs.Table.{find, Ordered}
 use Rattle.ld_op.specs.Plain.{empty_log}
-use Rattle.ld_op.specs.Room.{there_of}
 use Rattle.ld_op.proofs.There.{held_is, find-there_of, there_at}
 use Rattle.ld_op.proofs.logs.LogMap.get.Goals as goal
 

@@ -1,4 +1,4 @@
-use Rattle.std.proofs.Common.{◌≡◌, ◌∙◌, ap, sym, subst, rules, Some, true}
+use Rattle.std.proofs.Common.{◌≡◌, ◌∙◌, ap, sym, rules, Some}
 use Rattle.ld_table.specs.Table.{find}
 use Rattle.ld_op.specs.Room.{there_of, has_room_in}
 use Rattle.ld_op.proofs.There.{written_alike, found_written, on_ok_with}

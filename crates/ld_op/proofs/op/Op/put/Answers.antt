@@ -1,4 +1,4 @@
-use Rattle.std.proofs.Common.{◌≡◌, ◌∙◌, ◌++◌, ap, sym}
+use Rattle.std.proofs.Common.{◌∙◌, ◌++◌, ap, sym}
 use Rattle.byteorder.specs.Endian.{big_bytes}
 use Rattle.ld_op.specs.Bytes.{op_bytes, entry_bytes, summary_bytes}
 use Rattle.ld_op.proofs.There.{on_ok_with}

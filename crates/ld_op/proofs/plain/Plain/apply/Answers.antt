@@ -1,4 +1,4 @@
-use Rattle.std.proofs.Common.{◌≡◌, ◌∙◌, ap, sym, subst, ℕ, List}
+use Rattle.std.proofs.Common.{◌∙◌, ap, sym, subst, ℕ, List}
 use Rattle.ld_op.specs.Plain.{Log, Plain, apply}
 use Rattle.ld_op.specs.Room.{Kept, IsFresh, there_of}
 use Rattle.ld_op.specs.ShownPlain.{shown}

@@ -1,4 +1,4 @@
-use Rattle.std.proofs.Common.{◌≡◌, ◌∙◌, ap, sym, map, refl}
+use Rattle.std.proofs.Common.{◌∙◌, ap, sym, map, refl}
 use Rattle.std.specs.Map.Iter.{deref_pair}
 use Rattle.ld_op.specs.Places.{filled}
 use Rattle.ld_op.proofs.Pages.{walk_on, walk_at, walk_end, map_on}
