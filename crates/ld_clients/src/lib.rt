@@ -10,6 +10,8 @@ mod readers;
 mod reads;
 mod report;
 mod sequencers;
+#[cfg(test)]
+mod tests;
 
 pub use lookup::find_spec;
 pub use outcome::Outcome;
