@@ -60,6 +60,9 @@ pub trait Disk {
     /// How often a call has failed, up to the greatest 64-bit number.
     ghost faults: { Self → ℕ };
 
+    /// Which disk it is: no call changes that.
+    ghost identity: { Self → ℕ };
+
     /// Fills all of `buf` that lies before the disk's end, and says how much that is.
     fn read(&mut self, at: u64, buf: &mut [u8]) -> Result<usize, Failed>
         ensures bound { IfOk result (λ n. n ≤ length buf.new) }
@@ -69,6 +72,7 @@ pub trait Disk {
         ensures exact { IfSome (plain self.old) (λ p. (plain self.new ≡ Some (after_read p)) × (is_ok result ≡ read_succeeds p.crashed p.armed)) }
         ensures same { Unchanged seen may_leave moment left_since self.old self.new }
         ensures room { (room self.new ≡ room self.old) × (reach self.new ≡ reach self.old) }
+        ensures itself { identity self.new ≡ identity self.old }
         ensures cause { HasCause (faults self.old) (faults self.new) result };
 
     /// Writes over what is there, and past the end; a gap before the place reads as zeros.
@@ -81,6 +85,7 @@ pub trait Disk {
         ensures crash { Follows (Torn at (length bytes.now)) (may_leave self.old) (may_leave self.new) }
         ensures time { Elapses (moment self.old) (moment self.new) (left_since self.old) (left_since self.new) (may_leave self.new) }
         ensures spends { SpendsOne (room self.old) (room self.new) (reach self.old) (reach self.new) }
+        ensures itself { identity self.new ≡ identity self.old }
         ensures cause { HasCause (faults self.old) (faults self.new) result };
 
     /// After it, a crash leaves what a read gives.
@@ -93,6 +98,7 @@ pub trait Disk {
         ensures crash { (c : List ℕ) → may_leave self.new c → may_leave self.old c }
         ensures time { Elapses (moment self.old) (moment self.new) (left_since self.old) (left_since self.new) (may_leave self.new) }
         ensures spends { SpendsOne (room self.old) (room self.new) (reach self.old) (reach self.new) }
+        ensures itself { identity self.new ≡ identity self.old }
         ensures cause { HasCause (faults self.old) (faults self.new) result };
 
     /// How many bytes there are.
@@ -101,6 +107,7 @@ pub trait Disk {
         ensures len { IfOk result (λ n. IfSome (seen self.old) (λ bytes. n ≡ length bytes)) }
         ensures same { Unchanged seen may_leave moment left_since self.old self.new }
         ensures room { (room self.new ≡ room self.old) × (reach self.new ≡ reach self.old) }
+        ensures itself { identity self.new ≡ identity self.old }
         ensures cause { HasCause (faults self.old) (faults self.new) result };
 
     /// Makes room for that many further calls of `write_at` and `sync`, the writes up to place `end`. It is the one
@@ -110,6 +117,7 @@ pub trait Disk {
         ensures exact { plain self.new ≡ plain self.old }
         ensures no_less { (room self.old ≤ room self.new) × (reach self.old ≤ reach self.new) }
         ensures same { Unchanged seen may_leave moment left_since self.old self.new }
+        ensures itself { identity self.new ≡ identity self.old }
         ensures faults { faults self.new ≡ faults self.old };
 
     /// Tells a disk in memory to fail. Others ignore it.
@@ -117,6 +125,7 @@ pub trait Disk {
         ensures exact { plain self.new ≡ option_map (armed_with fault) (plain self.old) }
         ensures same { Unchanged seen may_leave moment left_since self.old self.new }
         ensures room { (room self.new ≡ room self.old) × (reach self.new ≡ reach self.old) }
+        ensures itself { identity self.new ≡ identity self.old }
         ensures faults { faults self.new ≡ faults self.old };
 
     /// What is read is one of the things that a crash may leave.

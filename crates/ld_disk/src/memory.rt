@@ -179,6 +179,8 @@ impl Disk for MemDisk {
 
     ghost faults = { λ m. m.faults };
 
+    ghost identity = { λ _. 0 };
+
     ghost reads_an_image = { λ m bytes is. inl (bytes_of is) };
 
     ghost plain_is_seen = { λ m p is. ap (option_map (λ q. q.state.bytes)) is };

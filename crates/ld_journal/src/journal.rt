@@ -44,13 +44,16 @@ impl<D: Disk> Journal<D> {
 
         // Where the disk tells what each call will do, it is one writing call.
         ensures exact { (p : Plain) → D.plain disk ≡ Some p → MatchResult result (λ journal. (D.plain (disk_of journal) ≡ Some (after_call None p)) × (succeeds p ≡ true))
-            (λ e. (e.1 ≡ JournalFault.NoMemory) ⊎ ((D.plain e.0 ≡ Some (after_call None p)) × ((e.1 ≡ JournalFault.Disk) ↔ (succeeds p ≡ false)))) }
+            (λ e. ((e.1 ≡ JournalFault.NoMemory) × (D.plain e.0 ≡ Some p)) ⊎ ((D.plain e.0 ≡ Some (after_call None p)) × ((e.1 ≡ JournalFault.Disk) ↔ (succeeds p ≡ false)))) }
 
+        ensures seen { MatchResult result (λ journal. D.seen (disk_of journal) ≡ D.seen disk) (λ e. (e.1 ≡ JournalFault.Disk) ⊎ (D.seen e.0 ≡ D.seen disk)) }
+        ensures kept { IfErr result (λ e. e.1 ≡ JournalFault.NoMemory → Unchanged D.seen D.may_leave D.moment D.left_since disk e.0) }
         ensures failed { IfErr result (λ e. e.1 ≡ JournalFault.Disk → Rose (D.faults disk) (D.faults e.0)) }
         ensures damaged { IfErr result (λ e. (place : ℕ) → e.1 ≡ JournalFault.Damaged place → IfSome (D.seen disk) (IsDamaged place)) }
         ensures empty { IfErr result (λ e. (place : ℕ) → e.1 ≡ JournalFault.Damaged place → (place ≡ 0) × IfSome (D.seen disk) (λ bytes. bytes ≡ [])) }
         ensures honest { IfErr result (λ e. IsHonest (D.seen disk) → ((c : List ℕ) → D.may_leave disk c → (bodies : List (List ℕ)) × IsJournal bodies c)
             → (place : ℕ) → e.1 ≢ JournalFault.Damaged place) }
+        ensures itself { MatchResult result (λ journal. D.identity (disk_of journal) ≡ D.identity disk) (λ e. D.identity e.0 ≡ D.identity disk) }
         ensures full { IfErr result (λ e. e.1 ≢ JournalFault.Full) }
         ensures needs_load { IfErr result (λ e. e.1 ≢ JournalFault.NeedsLoad) }
     {
@@ -90,6 +93,7 @@ impl<D: Disk> Journal<D> {
         ensures opens { OnOk result (IfSome (D.seen (disk_of self.old)) (λ bytes. HasGiven D.seen D.may_leave self.new [] bytes)) }
         ensures works { OnOk result ((must_load self.new ≡ false) × (has_ended self.new ≡ false) × (place_of self.new ≡ 0)) }
         ensures loads { OnErr result (must_load self.new ≡ true) }
+        ensures itself { D.identity (disk_of self.new) ≡ D.identity (disk_of self.old) }
         ensures counts { D.faults (disk_of self.old) ≤ D.faults (disk_of self.new) }
         ensures any_moment { LeavesOnly D.moment D.left_since (disk_of self.old) (disk_of self.new) (D.may_leave (disk_of self.old)) }
         ensures exact { (p : Plain) → D.plain (disk_of self.old) ≡ Some p → (IsErrOf result JournalFault.NoMemory × (D.plain (disk_of self.new) ≡ Some p))
@@ -134,6 +138,7 @@ impl<D: Disk> Journal<D> {
         ensures advances { result ≡ Ok true → (place_of self.old < place_of self.new) × (place_of self.new < length_of self.new) }
         ensures len { length_of self.new ≡ length_of self.old }
         ensures same { Unchanged D.seen D.may_leave D.moment D.left_since (disk_of self.old) (disk_of self.new) }
+        ensures itself { D.identity (disk_of self.new) ≡ D.identity (disk_of self.old) }
         ensures counts { D.faults (disk_of self.old) ≤ D.faults (disk_of self.new) }
         ensures failed { IsErrOf result JournalFault.Disk → Rose (D.faults (disk_of self.old)) (D.faults (disk_of self.new)) }
         ensures damaged { (place : ℕ) → IsErrOf result (JournalFault.Damaged place) → (bodies : List (List ℕ)) (rest : List ℕ)
@@ -186,6 +191,7 @@ impl<D: Disk> Journal<D> {
     pub fn arm(&mut self, fault: Fault)
         ensures exact { D.plain (disk_of self.new) ≡ option_map (armed_with fault) (D.plain (disk_of self.old)) }
         ensures same { Unchanged D.seen D.may_leave D.moment D.left_since (disk_of self.old) (disk_of self.new) }
+        ensures itself { D.identity (disk_of self.new) ≡ D.identity (disk_of self.old) }
         ensures faults { D.faults (disk_of self.new) ≡ D.faults (disk_of self.old) }
         ensures rest { (place_of self.new ≡ place_of self.old) × (length_of self.new ≡ length_of self.old) × (has_ended self.new ≡ has_ended self.old) × (must_load self.new ≡ must_load self.old) }
     {
@@ -216,6 +222,7 @@ impl<D: Disk> Journal<D> {
         ensures honest { IsHonest (D.seen (disk_of self.old)) → IsHonest (D.seen (disk_of self.new)) }
         ensures full { IsErrOf result JournalFault.Full ↔ ((must_load self.old ≡ false) × (2 ^ 40 < place_of self.old + length body.now + 6)) }
         ensures needs_load { IsErrOf result JournalFault.NeedsLoad ↔ (must_load self.old ≡ true) }
+        ensures itself { D.identity (disk_of self.new) ≡ D.identity (disk_of self.old) }
         ensures counts { D.faults (disk_of self.old) ≤ D.faults (disk_of self.new) }
         ensures failed { IsErrOf result JournalFault.Disk → Rose (D.faults (disk_of self.old)) (D.faults (disk_of self.new)) }
         ensures stays { OnErr result (IsErrOf result JournalFault.Disk ⊎ Unchanged D.seen D.may_leave D.moment D.left_since (disk_of self.old) (disk_of self.new)) }

@@ -28,6 +28,7 @@ pub(crate) fn settle<D: Disk>(disk: &mut D) -> Result<u64, JournalFault>
     ensures settled { IfOk result (λ len. IfSome (D.seen disk.old) (λ bytes.
         (D.seen disk.new ≡ Some bytes) × (len ≡ length bytes) × (0 < len) × Only bytes (D.may_leave disk.new))) }
     ensures any_moment { LeavesOnly D.moment D.left_since disk.old disk.new (D.may_leave disk.old) }
+    ensures seen { IsErrOf result JournalFault.Disk ⊎ (D.seen disk.new ≡ D.seen disk.old) }
     ensures kept { IsErrOf result JournalFault.NoMemory → Unchanged D.seen D.may_leave D.moment D.left_since disk.old disk.new }
     ensures exact { (p : Plain) → D.plain disk.old ≡ Some p → (IsErrOf result JournalFault.NoMemory × (D.plain disk.new ≡ Some p))
         ⊎ ((D.plain disk.new ≡ Some (after_call None p)) × (IsErrOf result JournalFault.Disk ↔ (succeeds p ≡ false))) }
@@ -35,6 +36,7 @@ pub(crate) fn settle<D: Disk>(disk: &mut D) -> Result<u64, JournalFault>
     ensures failed { IsErrOf result JournalFault.Disk → Rose (D.faults disk.old) (D.faults disk.new) }
     ensures damaged { (place : ℕ) → IsErrOf result (JournalFault.Damaged place)
         → (place ≡ 0) × IfSome (D.seen disk.old) (λ bytes. bytes ≡ []) }
+    ensures itself { D.identity disk.new ≡ D.identity disk.old }
     ensures counts { D.faults disk.old ≤ D.faults disk.new }
     ensures full { result ≢ Err JournalFault.Full }
     ensures needs_load { result ≢ Err JournalFault.NeedsLoad }
@@ -60,6 +62,7 @@ pub(crate) fn read_head<D: Disk>(disk: &mut D, at: u64) -> Result<Head, JournalF
         → (D.plain disk.new ≡ Some p) × (result ≢ Err JournalFault.Disk) }
     ensures same { Unchanged D.seen D.may_leave D.moment D.left_since disk.old disk.new }
     ensures failed { IsErrOf result JournalFault.Disk → Rose (D.faults disk.old) (D.faults disk.new) }
+    ensures itself { D.identity disk.new ≡ D.identity disk.old }
     ensures counts { D.faults disk.old ≤ D.faults disk.new }
     ensures full { result ≢ Err JournalFault.Full }
     ensures needs_load { result ≢ Err JournalFault.NeedsLoad }
@@ -117,6 +120,7 @@ fn read_body<D: Disk>(
         → (D.plain disk.new ≡ Some p) × (result ≢ Err JournalFault.Disk) }
     ensures same { Unchanged D.seen D.may_leave D.moment D.left_since disk.old disk.new }
     ensures failed { IsErrOf result JournalFault.Disk → Rose (D.faults disk.old) (D.faults disk.new) }
+    ensures itself { D.identity disk.new ≡ D.identity disk.old }
     ensures counts { D.faults disk.old ≤ D.faults disk.new }
     ensures full { result ≢ Err JournalFault.Full }
     ensures needs_load { result ≢ Err JournalFault.NeedsLoad }
@@ -150,6 +154,7 @@ pub(crate) fn read_record<D: Disk>(
         → (D.plain disk.new ≡ Some p) × (result ≢ Err JournalFault.Disk) }
     ensures same { Unchanged D.seen D.may_leave D.moment D.left_since disk.old disk.new }
     ensures failed { IsErrOf result JournalFault.Disk → Rose (D.faults disk.old) (D.faults disk.new) }
+    ensures itself { D.identity disk.new ≡ D.identity disk.old }
     ensures counts { D.faults disk.old ≤ D.faults disk.new }
     ensures full { result ≢ Err JournalFault.Full }
     ensures needs_load { result ≢ Err JournalFault.NeedsLoad }

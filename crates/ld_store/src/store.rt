@@ -47,6 +47,7 @@ impl<D: Disk> Store<D> {
     pub fn load(alloc: Global, disk: D) -> Result<Store<D>, (D, StoreFault)>
         ensures opens { IfOk result (λ store. IfSome (D.seen disk) (IsOpened D.seen D.may_leave store)) }
         ensures works { IfOk result (λ store. must_load store ≡ false) }
+        ensures itself { MatchResult result (λ store. D.identity (disk_of store) ≡ D.identity disk) (λ e. D.identity e.0 ≡ D.identity disk) }
         ensures counts { MatchResult result (λ store. D.faults disk ≤ D.faults (disk_of store)) (λ e. D.faults disk ≤ D.faults e.0) }
 
         // A crash at any moment leaves what a crash before the call might have left.
@@ -56,8 +57,9 @@ impl<D: Disk> Store<D> {
         // Where the disk tells what each call will do, and no read of it fails, it is one writing call.
         ensures exact { (p : DiskPlain) → D.plain disk ≡ Some p → reads_fine p ≡ true
             → MatchResult result (λ store. (D.plain (disk_of store) ≡ Some (after_call None p)) × (succeeds p ≡ true))
-            (λ e. (e.1 ≡ StoreFault.NoMemory) ⊎ ((D.plain e.0 ≡ Some (after_call None p)) × ((e.1 ≡ StoreFault.Disk) ↔ (succeeds p ≡ false)))) }
+            (λ e. ((e.1 ≡ StoreFault.NoMemory) × ((D.plain e.0 ≡ Some p) ⊎ (D.plain e.0 ≡ Some (after_call None p)))) ⊎ ((D.plain e.0 ≡ Some (after_call None p)) × ((e.1 ≡ StoreFault.Disk) ↔ (succeeds p ≡ false)))) }
 
+        ensures seen { MatchResult result (λ store. D.seen (disk_of store) ≡ D.seen disk) (λ e. (e.1 ≡ StoreFault.Disk) ⊎ (D.seen e.0 ≡ D.seen disk)) }
         ensures failed { IfErr result (λ e. e.1 ≡ StoreFault.Disk → Rose (D.faults disk) (D.faults e.0)) }
         ensures damaged { IfErr result (λ e. (place : ℕ) → e.1 ≡ StoreFault.Damaged place → IfSome (D.seen disk) (IsDamaged place)) }
         ensures honest { IfErr result (λ e. IsHonest (D.seen disk) → ((c : List ℕ) → D.may_leave disk c → (state : _) × StandsFor state c)
@@ -114,6 +116,7 @@ impl<D: Disk> Store<D> {
     pub fn arm(&mut self, fault: Fault)
         ensures exact { D.plain (disk_of self.new) ≡ option_map (armed_with fault) (D.plain (disk_of self.old)) }
         ensures same { Unchanged D.seen D.may_leave D.moment D.left_since (disk_of self.old) (disk_of self.new) }
+        ensures itself { D.identity (disk_of self.new) ≡ D.identity (disk_of self.old) }
         ensures faults { D.faults (disk_of self.new) ≡ D.faults (disk_of self.old) }
         ensures rest { (place_of self.new ≡ place_of self.old) × (plain_of self.new ≡ plain_of self.old) × (is_blank self.new ≡ is_blank self.old) × (must_load self.new ≡ must_load self.old) }
     {
@@ -152,6 +155,7 @@ impl<D: Disk> Store<D> {
         ensures needs_load { IsErrOf result StoreFault.NeedsLoad ↔ (must_load self.old ≡ true) }
         ensures loads { (must_load self.new ≡ true) ↔ ((must_load self.old ≡ true) ⊎ IsErrOf result StoreFault.Disk) }
         ensures damaged { (place : ℕ) → result ≢ Err (StoreFault.Damaged place) }
+        ensures itself { D.identity (disk_of self.new) ≡ D.identity (disk_of self.old) }
         ensures counts { D.faults (disk_of self.old) ≤ D.faults (disk_of self.new) }
         ensures failed { IsErrOf result StoreFault.Disk → Rose (D.faults (disk_of self.old)) (D.faults (disk_of self.new)) }
 
@@ -214,6 +218,7 @@ impl<D: Disk> Store<D> {
         ensures needs_load { IsErrOf result StoreFault.NeedsLoad ↔ (must_load self.old ≡ true) }
         ensures loads { (must_load self.new ≡ true) ↔ ((must_load self.old ≡ true) ⊎ IsErrOf result StoreFault.Disk) }
         ensures damaged { (place : ℕ) → result ≢ Err (StoreFault.Damaged place) }
+        ensures itself { D.identity (disk_of self.new) ≡ D.identity (disk_of self.old) }
         ensures counts { D.faults (disk_of self.old) ≤ D.faults (disk_of self.new) }
         ensures failed { IsErrOf result StoreFault.Disk → Rose (D.faults (disk_of self.old)) (D.faults (disk_of self.new)) }
 

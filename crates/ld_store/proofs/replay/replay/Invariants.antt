@@ -14,6 +14,7 @@ invariant-records g l =
     × Unchanged g.D.Disk.seen g.D.Disk.may_leave g.D.Disk.moment g.D.Disk.left_since (disk_of l.fn.journal) (disk_of l.journal)
     × (g.D.Disk.faults (disk_of l.fn.journal) ≤ g.D.Disk.faults (disk_of l.journal))
     × (must_load l.journal ≡ false)
+    × (g.D.Disk.identity (disk_of l.journal) ≡ g.D.Disk.identity (disk_of l.fn.journal))
     × IsWell l.plain.state
 
 abbrev pub decreases-records : goal.decreases-records
