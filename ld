@@ -1,6 +1,6 @@
 #!/usr/bin/env bash
 # Runs the program `ld` with the words and the standard input that it is given. Where the program isn't built, or is
-# older than its sources, it is proved and built first; what that does goes to standard error.
+# older than its sources, it is proved and built first; how far that is goes to standard error.
 set -u
 top=$(cd "$(dirname "${BASH_SOURCE[0]}")" && pwd) || exit 1
 program=$top/crates/ld/out/ld
@@ -8,17 +8,43 @@ is_current() {
   [ -x "$program" ] && [ -z "$(find "$top/crates" "$top/crates.txt" -path '*/out' -prune -o \
     \( -name '*.rt' -o -name '*.antt' -o -name crates.txt \) -newer "$program" -print -quit)" ]
 }
-if ! is_current; then
-  echo "ld: proving and building the program (minutes, the first time)" >&2
-  built=$(mktemp) || exit 1
+
+# how many crates of how many are proved, the crate that is proved now, and the time so far
+say_progress() {
+  local proved now seconds=$((SECONDS - began))
+  proved=$(grep -c '^\(crate\|library\) ld' "$built")
+  now=$(sed -n 's/^rt: chose .* for \(ld[a-z_]*\)$/\1/p' "$built" | tail -n 1)
+  [ "$proved $now" = "$said" ] && [ ! -t 2 ] && return
+  said="$proved $now"
+  printf '%sld: %d of %d crates, %d:%02d so far; now %s%s' "$begin" "$proved" "$crates" $((seconds / 60)) $((seconds % 60)) "${now:-the first one}" "$end" >&2
+}
+
+prove_and_build() {
+  local made=0
+  crates=$(grep -c '^ld' "$top/crates.txt") said= began=$SECONDS begin= end=$'\n'
+  if [ -t 2 ]; then begin=$'\r\e[K' end=; fi
+  echo "ld: proving and building the program: some minutes, or an hour where nothing is proved on this machine yet" >&2
   # `rt run` also runs what it built: on the stored run, whose output is of no use here
-  if ! (cd "$top/crates/ld" && rt run -- replay < stdin) > "$built" 2>&1; then
+  (cd "$top/crates/ld" && exec rt run -- replay < stdin) > "$built" 2>&1 &
+  while kill -0 $! 2> /dev/null; do
+    say_progress
+    sleep 2
+  done
+  wait $! || made=1
+  [ -t 2 ] && echo >&2
+  return $made
+}
+
+if ! is_current; then
+  built=$(mktemp) || exit 1
+  trap 'rm -f "$built"' EXIT
+  if ! prove_and_build; then
     cat "$built" >&2
-    rm -f "$built"
     echo "ld: the program wasn't built" >&2
     exit 1
   fi
   rm -f "$built"
+  trap - EXIT
   touch "$program"
 fi
 exec "$program" "$@"
