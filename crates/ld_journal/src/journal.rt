@@ -37,6 +37,7 @@ impl<D: Disk> Journal<D> {
         ensures opens { IfOk result (λ journal. IfSome (D.seen disk) (λ bytes. HasGiven D.seen D.may_leave journal [] bytes)) }
         ensures works { IfOk result (λ journal. (must_load journal ≡ false) × (has_ended journal ≡ false) × (place_of journal ≡ 0)) }
         ensures counts { MatchResult result (λ journal. D.faults disk ≤ D.faults (disk_of journal)) (λ e. D.faults disk ≤ D.faults e.0) }
+        ensures steady { MatchResult result (λ journal. D.faults (disk_of journal) ≡ D.faults disk) (λ e. (e.1 ≡ JournalFault.Disk) ⊎ (D.faults e.0 ≡ D.faults disk)) }
 
         // A crash at any moment leaves what a crash before the call might have left.
         ensures any_moment { MatchResult result (λ journal. LeavesOnly D.moment D.left_since disk (disk_of journal) (D.may_leave disk))
@@ -95,6 +96,7 @@ impl<D: Disk> Journal<D> {
         ensures loads { OnErr result (must_load self.new ≡ true) }
         ensures itself { D.identity (disk_of self.new) ≡ D.identity (disk_of self.old) }
         ensures counts { D.faults (disk_of self.old) ≤ D.faults (disk_of self.new) }
+        ensures steady { IsErrOf result JournalFault.Disk ⊎ (D.faults (disk_of self.new) ≡ D.faults (disk_of self.old)) }
         ensures any_moment { LeavesOnly D.moment D.left_since (disk_of self.old) (disk_of self.new) (D.may_leave (disk_of self.old)) }
         ensures exact { (p : Plain) → D.plain (disk_of self.old) ≡ Some p → (IsErrOf result JournalFault.NoMemory × (D.plain (disk_of self.new) ≡ Some p))
             ⊎ ((D.plain (disk_of self.new) ≡ Some (after_call None p)) × (IsErrOf result JournalFault.Disk ↔ (succeeds p ≡ false))) }
@@ -140,6 +142,7 @@ impl<D: Disk> Journal<D> {
         ensures same { Unchanged D.seen D.may_leave D.moment D.left_since (disk_of self.old) (disk_of self.new) }
         ensures itself { D.identity (disk_of self.new) ≡ D.identity (disk_of self.old) }
         ensures counts { D.faults (disk_of self.old) ≤ D.faults (disk_of self.new) }
+        ensures steady { IsErrOf result JournalFault.Disk ⊎ (D.faults (disk_of self.new) ≡ D.faults (disk_of self.old)) }
         ensures failed { IsErrOf result JournalFault.Disk → Rose (D.faults (disk_of self.old)) (D.faults (disk_of self.new)) }
         ensures damaged { (place : ℕ) → IsErrOf result (JournalFault.Damaged place) → (bodies : List (List ℕ)) (rest : List ℕ)
             → HasGiven D.seen D.may_leave self.old bodies rest → IsDamaged place (records bodies ++ rest) }
@@ -224,6 +227,7 @@ impl<D: Disk> Journal<D> {
         ensures needs_load { IsErrOf result JournalFault.NeedsLoad ↔ (must_load self.old ≡ true) }
         ensures itself { D.identity (disk_of self.new) ≡ D.identity (disk_of self.old) }
         ensures counts { D.faults (disk_of self.old) ≤ D.faults (disk_of self.new) }
+        ensures steady { IsErrOf result JournalFault.Disk ⊎ (D.faults (disk_of self.new) ≡ D.faults (disk_of self.old)) }
         ensures failed { IsErrOf result JournalFault.Disk → Rose (D.faults (disk_of self.old)) (D.faults (disk_of self.new)) }
         ensures stays { OnErr result (IsErrOf result JournalFault.Disk ⊎ Unchanged D.seen D.may_leave D.moment D.left_since (disk_of self.old) (disk_of self.new)) }
         // Another refusal than `Disk` changes nothing.

@@ -38,6 +38,7 @@ pub(crate) fn settle<D: Disk>(disk: &mut D) -> Result<u64, JournalFault>
         → (place ≡ 0) × IfSome (D.seen disk.old) (λ bytes. bytes ≡ []) }
     ensures itself { D.identity disk.new ≡ D.identity disk.old }
     ensures counts { D.faults disk.old ≤ D.faults disk.new }
+    ensures steady { IsErrOf result JournalFault.Disk ⊎ (D.faults disk.new ≡ D.faults disk.old) }
     ensures full { result ≢ Err JournalFault.Full }
     ensures needs_load { result ≢ Err JournalFault.NeedsLoad }
 {
@@ -64,6 +65,7 @@ pub(crate) fn read_head<D: Disk>(disk: &mut D, at: u64) -> Result<Head, JournalF
     ensures failed { IsErrOf result JournalFault.Disk → Rose (D.faults disk.old) (D.faults disk.new) }
     ensures itself { D.identity disk.new ≡ D.identity disk.old }
     ensures counts { D.faults disk.old ≤ D.faults disk.new }
+    ensures steady { IsErrOf result JournalFault.Disk ⊎ (D.faults disk.new ≡ D.faults disk.old) }
     ensures full { result ≢ Err JournalFault.Full }
     ensures needs_load { result ≢ Err JournalFault.NeedsLoad }
 {
@@ -122,6 +124,7 @@ fn read_body<D: Disk>(
     ensures failed { IsErrOf result JournalFault.Disk → Rose (D.faults disk.old) (D.faults disk.new) }
     ensures itself { D.identity disk.new ≡ D.identity disk.old }
     ensures counts { D.faults disk.old ≤ D.faults disk.new }
+    ensures steady { IsErrOf result JournalFault.Disk ⊎ (D.faults disk.new ≡ D.faults disk.old) }
     ensures full { result ≢ Err JournalFault.Full }
     ensures needs_load { result ≢ Err JournalFault.NeedsLoad }
 {
@@ -156,6 +159,7 @@ pub(crate) fn read_record<D: Disk>(
     ensures failed { IsErrOf result JournalFault.Disk → Rose (D.faults disk.old) (D.faults disk.new) }
     ensures itself { D.identity disk.new ≡ D.identity disk.old }
     ensures counts { D.faults disk.old ≤ D.faults disk.new }
+    ensures steady { IsErrOf result JournalFault.Disk ⊎ (D.faults disk.new ≡ D.faults disk.old) }
     ensures full { result ≢ Err JournalFault.Full }
     ensures needs_load { result ≢ Err JournalFault.NeedsLoad }
 {
