@@ -1,0 +1,21 @@
+// A borrowed link is one.
+use crate::Link;
+use ld_io::Failed;
+
+impl<L: Link> Link for &mut L {
+    ghost peers = { λ l. L.peers l.now };
+
+    ghost faults = { λ l. L.faults l.now };
+
+    fn next_peer(&mut self) -> Result<bool, Failed> {
+        (**self).next_peer()
+    }
+
+    fn read(&mut self, buf: &mut [u8]) -> Result<usize, Failed> {
+        (**self).read(buf)
+    }
+
+    fn write(&mut self, piece: &[u8]) -> Result<usize, Failed> {
+        (**self).write(piece)
+    }
+}

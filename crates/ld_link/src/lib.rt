@@ -1,0 +1,49 @@
+//! Links: peers that come one after the other, each with bytes in and out, and the faults of a link's calls.
+#![tactic(auto)]
+
+ghost use Rattle.std.specs.Prelude.{◌≡◌, ◌<◌, ◌≤◌, ℕ, length, IfOk, IfSome, Option};
+ghost use Rattle.std.specs.Io.{ReadsAtMost, WritesAtMost};
+ghost use Rattle.ld_io.specs.Causes.{HasCause};
+ghost use Rattle.ld_link.specs.Peers.{Peers, Turns, Reads, Writes};
+
+mod borrowed;
+mod memory;
+mod talk;
+
+use ld_io::Failed;
+pub use memory::MemLink;
+
+#[cfg(test)]
+mod tests;
+
+/// Peers that come one after the other: before the first `next_peer` none is there. A call fails only where the link's
+/// own count of faults rose in it, and any other answer leaves that count.
+pub trait Link {
+    /// What was read of each peer so far and written to it, what is left of each, and which peers are still to come,
+    /// where the link tells.
+    ghost peers: { Self → Option Peers };
+
+    /// How often a call has failed, up to the greatest 64-bit number.
+    ghost faults: { Self → ℕ };
+
+    /// Makes the next peer the present one, whatever the one before has left to say. It answers false exactly where
+    /// there is no next peer, and then the present one stays. A failed call changes no peer.
+    fn next_peer(&mut self) -> Result<bool, Failed>
+        ensures peer { IfSome (peers self.old) (λ old. Turns old (peers self.new) result) }
+        ensures cause { HasCause (faults self.old) (faults self.new) result };
+
+    /// Takes the next bytes of the present peer, and says how many. None for a buffer that isn't empty is that peer's
+    /// end, or says that none has come. A failed call takes nothing.
+    fn read(&mut self, buf: &mut [u8]) -> Result<usize, Failed>
+        ensures bound { ReadsAtMost result buf.new }
+        ensures bytes { IfSome (peers self.old) (λ old. Reads old (peers self.new) buf.new result) }
+        ensures cause { HasCause (faults self.old) (faults self.new) result };
+
+    /// Writes some of the bytes from the front to the present peer, and says how many. To take none of a piece that
+    /// isn't empty is a fault. A failed call writes nothing.
+    fn write(&mut self, piece: &[u8]) -> Result<usize, Failed>
+        ensures bound { WritesAtMost result piece.now }
+        ensures some { IfOk result (λ n. 0 < length piece.now → 0 < n) }
+        ensures bytes { IfSome (peers self.old) (λ old. Writes old (peers self.new) piece.now result) }
+        ensures cause { HasCause (faults self.old) (faults self.new) result };
+}
