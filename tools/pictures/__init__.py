@@ -1,0 +1,1 @@
+"""Pictures of runs: what `draw` and `view` share."""

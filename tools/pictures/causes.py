@@ -1,0 +1,109 @@
+"""Why a reader got a gap: the lines that led to it, each with a sentence."""
+from .formats import home, lsn
+
+
+class Causes:
+    """Looks up, for each gap of a story, the lines behind it."""
+
+    def __init__(self, story):
+        self.story = story
+        self.cleans, self.trims, self.appends, self.acks, self.stores, self.losthere = {}, {}, {}, {}, {}, {}
+        for at, line in enumerate(story.lines):
+            log = story.log_of.get(line.actor)
+            if line.kind == "clean":
+                self.cleans[log, home(line.fields[0])] = at
+            elif line.kind == "trimmed":
+                self.trims.setdefault(log, []).append(at)
+            elif line.kind == "appended":
+                self.appends[log, line.fields[0]] = at
+            elif line.kind == "acked":
+                self.acks[log, line.fields[0]] = at
+        for message in story.messages:
+            if message.kind == "store":
+                self.stores.setdefault((message.sender, home(message.lsn)), []).append(message)
+            elif message.kind == "losthere" and message.taker in story.readers:
+                self.losthere.setdefault(message.taker, []).append(message)
+
+    def of(self, item):
+        """A list of (sentence, indices of lines)."""
+        log = self.story.log_of[item.reader]
+        if item.kind == "trim":
+            return self.of_trim(item, log)
+        if item.kind == "dataloss":
+            return self.of_loss(item, log)
+        return self.of_closing(item, log)
+
+    def of_trim(self, item, log):
+        before = [at for at in self.trims.get(log, []) if at < item.line]
+        fitting = [at for at in before if lsn(self.story.lines[at].fields[0]) >= lsn(item.high)]
+        if not fitting:
+            return [("No trim of this point is told: the log was trimmed up to it by a sequencer whose line isn't here.", [])]
+        best = min(fitting, key=lambda at: (lsn(self.story.lines[at].fields[0]), at))
+        point, name = self.story.lines[best].fields[0], self.story.lines[best].actor[2:]
+        told = [m.line for m in self.story.messages if m.kind == "trim" and m.lsn == point and m.sender[2:] == name]
+        return [(f"Sequencer {name} let all up to {point} go.", [best]), ("It told the nodes.", told)]
+
+    def of_closing(self, item, log):
+        epoch = home(item.low)
+        if epoch == 0:
+            return [("Epoch 0 never had a record. It counts as closed, and a reader is led over it.", [])]
+        at = self.cleans.get((log, epoch))
+        if at is None:
+            return [(f"Epoch {epoch} has no `clean` line: it was closed in a call of the register that failed after its change.", [])] + self.of_plans(item, epoch, log)
+        name, end = self.story.lines[at].actor, self.story.lines[at].fields[0]
+        told = [(f"Sequencer {name[2:]} closed epoch {epoch}; it ends at {end}.", [at])]
+        plan = self.stores.get((name, epoch), [])
+        if item.kind == "hole":
+            mine = [m.line for m in plan if lsn(item.low) <= lsn(m.lsn) <= lsn(item.high)]
+            told.append(("Its plan put the hole there, in these stores.", mine))
+            told += self.of_append(item, log)
+        else:
+            mine = [m.line for m in plan if m.lsn == end]
+            told.append(("Its plan put the bridge at the end, in these stores.", mine))
+        rest = [m.line for m in plan if m.line not in set(mine)]
+        told.append(("The other stores of that plan.", rest))
+        pages = [m.line for m in self.story.messages if m.kind == "digestpage" and m.taker == name and home(m.lsn) == epoch and m.first() is not None and m.line < at]
+        told.append(("The plan was made from digest pages; these were taken.", pages))
+        return [part for part in told if part[1]]
+
+    def of_plans(self, item, epoch, log):
+        """The stores of each sequencer that recovered the epoch."""
+        return [
+            (f"Sequencer {name[2:]} recovered epoch {epoch} with these stores.", [m.line for m in plan])
+            for (name, e), plan in self.stores.items()
+            if e == epoch and self.story.log_of.get(name) == log and lsn(self.own_epoch(name))[0] > epoch
+        ]
+
+    def own_epoch(self, name):
+        line = next(l for l in self.story.lines if l.kind == "active" and l.actor == name)
+        return f"e{line.fields[0]}n0"
+
+    def of_append(self, item, log):
+        """What became of the append whose number is a hole now."""
+        at = self.appends.get((log, item.low))
+        if at is None:
+            return [("No append had this number; it lies below one that was kept.", [])]
+        name = self.story.lines[at].actor
+        sent = [m for m in self.story.messages if m.kind == "store" and m.sender == name and m.lsn == item.low]
+        fates = {"taken": "taken", "lost": "lost", "never": "never delivered"}
+        said = ", ".join(f"{m.taker[2:]} ({fates[m.fate()]})" for m in sent)
+        return [(f"Its append by {name[2:]}, which was never acknowledged.", [at]), (f"Stores went to nodes {said}.", [m.line for m in sent])]
+
+    def of_loss(self, item, log):
+        """The last moment before the gap at which as many nodes as the replication factor stood lost for the epoch."""
+        epoch, copies, nodes = home(item.low), self.story.config.logs[log].copies, self.story.config.logs[log].nodes
+        moment = max((s.step for n in nodes for s in self.story.spans[n] if s.step < item.step), default=0)
+        marks = sorted({s.step for n in nodes for s in self.story.spans[n] if s.step < item.step}, reverse=True)
+        for moment in marks:
+            spans = {n: self.story.span_at(n, moment) for n in nodes}
+            lost = {n: s for n, s in spans.items() if log in s.lost and (s.lost[log] is None or s.lost[log] >= epoch)}
+            if len(lost) >= copies:
+                break
+        else:
+            return [("No moment is told at which enough nodes stood lost.", [])]
+        told = [(f"After step {moment + 1}, nodes {', '.join(map(str, lost))} stood lost for epoch {epoch}: with a replication factor of {copies} these may have been all that kept it.", [])]
+        for node, span in lost.items():
+            told.append((f"Node {node} stood lost since these lines.", span.since.get(log, [])))
+        confirmed = [m for m in self.losthere.get(item.reader, []) if m.line < item.line and m.lsn == item.low]
+        told.append(("They said so when the reader asked.", [m.line for m in confirmed]))
+        return told

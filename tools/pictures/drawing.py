@@ -1,0 +1,247 @@
+"""Draws a story: pieces of SVG for each step, message and span, and the whole picture of them."""
+from html import escape
+from math import hypot
+
+from . import ink
+from .formats import shorten
+from .ink import ROW, pill, short, text
+
+SPACE, BETWEEN, TOP = 104, 14, 100
+
+MARKS = {"appended": "appended", "acked": "acked", "released": "released", "trimmed": "trimmed", "clean": "closed"}
+MOST_ITEMS, MOST_TEXT = 6, 20
+
+# events that write `none` also where they do something
+QUIET = ("drop", "lose", "open", "fail", "tear", "regfail")
+
+
+class Drawing:
+    """The pieces of a picture. `rows` has one piece a step; `arrows` and `spans` have their first and last step before
+    the piece, and an arrow its message."""
+
+    def __init__(self, story):
+        self.story = story
+        self.place_columns()
+        self.width = 0
+        self.items_of = {}
+        for number, item in enumerate(story.items):
+            self.items_of.setdefault(item.line, (number, item))
+        self.rows = [self.row(n, s) for n, s in enumerate(story.steps)]
+        self.width = max([self.width] + list(self.columns.values())) + 24
+        self.arrows = [a for m in story.messages for a in self.arrows_of(m)]
+        self.spans = self.lifelines()
+
+    def place_columns(self):
+        """Register, sequencers, nodes, readers: messages go between neighbours then."""
+        story = self.story
+        groups = [["register"], story.sequencers, [f"n.{n}" for n in story.config.nodes], story.readers]
+        longest = max((len(shorten(e.text, MOST_TEXT)) for e in story.events), default=0)
+        self.columns, x = {}, 44 + ink.width("m" * longest, 12.5) + 34
+        for group in groups:
+            for key in group:
+                self.columns[key] = x
+                # right of the register stands what it gave, left of a sequencer what it took
+                x += SPACE + (78 if key == "register" and story.sequencers else 0)
+            x += BETWEEN if group else 0
+
+    def y(self, step):
+        return step * ROW + ROW / 2
+
+    # ---- heads
+
+    def heads(self):
+        """The columns' heads, their bottom at 0."""
+        kinds = {"r": "reader", "s": "sequencer", "n": "node"}
+        out = []
+        for key, x in self.columns.items():
+            if key == "register":
+                out.append(text(x, -8, "head", "register"))
+            else:
+                out.append(text(x, -23, "kind", kinds[key[0]]) + text(x, -8, "head", key[2:]))
+        return "".join(out)
+
+    # ---- rows
+
+    def row(self, number, step):
+        story, y = self.story, self.y(number)
+        event, lines = story.events[step.event], story.text_of(step)
+        out = [text(34, y + 3.6, "number", str(number + 1))]
+        if step.turn == 0:
+            is_idle = lines[0].kind == "none" and step.message is None and event.word not in QUIET
+            out.append(f'<path class="rule" d="M0,{short(y - ROW / 2)}h9999"/>')
+            out.append(text(44, y + 4, "event idle" if is_idle else "event", shorten(event.text, MOST_TEXT)))
+        out.append(self.call(number, step, lines))
+        x = self.columns.get(step.actor)
+        if x is not None and event.word != "lose":
+            out.append(self.acted(step, event, lines, x, y))
+        elif event.word == "regfail":
+            out.append(pill(self.columns["register"] + 8, y, "bad", f"call {event.args[0]} will fail, {event.args[1]}")[0])
+        return "".join(out)
+
+    def acted(self, step, event, lines, x, y):
+        """The dot at the actor, what it took and what it wrote."""
+        is_quiet = lines[0].kind == "none"
+        out = [f'<circle class="dot{" none" if is_quiet else ""}" cx="{short(x)}" cy="{short(y)}" r="{3.6 if is_quiet else 4.4}"/>']
+        at = x + 10
+        if step.message is not None:
+            message = self.story.messages[step.message]
+            label, family = f"{message.kind} {message.lsn}", ink.FAMILY[message.kind]
+            if self.columns.get(message.sender, 0) > x:
+                # on the side that the arrow doesn't come from
+                out.append(text(x - 9, y + 3.7, f"label {family} before", label))
+            else:
+                out.append(text(at, y + 3.7, f"label {family}", label))
+                at += ink.width(label, 11.5) + 8
+        items = 0
+        for kind, words in self.marks(event, lines):
+            piece, at = pill(at, y, kind, words)
+            out.append(piece)
+            at += 5
+        for line in lines:
+            if line.number - 1 in self.items_of:
+                items += 1
+                if items <= MOST_ITEMS:
+                    number, item = self.items_of[line.number - 1]
+                    piece, at = ink.cell(at, y, item, number)
+                    out.append(piece)
+                    at += 4
+        if items > MOST_ITEMS:
+            out.append(text(at, y + 3.7, "said", f"and {items - MOST_ITEMS} more"))
+            at += 80
+        self.width = max(self.width, at)
+        return "".join(out)
+
+    def marks(self, event, lines):
+        """What is told at the actor: pairs of a pill's kind and its words."""
+        for line in lines:
+            words = line.fields
+            if line.kind in MARKS:
+                yield MARKS[line.kind], f"{MARKS[line.kind]} {words[0]}"
+            elif line.kind == "active":
+                yield "plain", f"active, epoch {words[0]}"
+            elif line.kind == "refused":
+                yield "refused", "refused: " + " ".join(words)
+            elif line.kind == "unformatted":
+                yield "refused", "refused: " + words[-1]
+            elif line.kind == "formatted":
+                yield "plain", f"formatted, generation {words[0]}"
+            elif line.kind == "lost":
+                yield "lost", f"lost, log {words[0]} to epoch {words[1]}"
+            elif line.kind == "rebuilt":
+                yield "released", f"rebuilt, log {words[0]}"
+            elif line.kind == "up":
+                yield "plain", "up"
+            elif line.kind in ("down", "failed", "full", "wiped"):
+                yield "bad", "crashed" if line.kind == "down" and event.word != "down" else line.kind
+        if event.word in ("fail", "tear"):
+            yield "bad", f"armed: {event.word} in call {event.args[1]}" + (f", {event.args[2]}" if event.word == "tear" else "")
+        elif event.word == "drop" and lines[0].kind == "none":
+            yield "plain", "dropped"
+        elif event.word == "open" and lines[0].kind == "none":
+            yield "plain", f"log {event.args[1]}, {event.args[2]} to {event.args[3]}"
+
+    def call(self, number, step, lines):
+        """The call of the register in a step, where one is told: a dotted line to it and what it gave."""
+        told = {"active": "epoch {}", "clean": "closed {}", "formatted": "generation {}"}
+        for line in lines:
+            is_refused = line.kind in ("refused", "unformatted") and line.fields[-1] in ("register", "epochlimit", "genlimit")
+            if (line.kind in told or is_refused) and step.actor in self.columns:
+                x, y = self.columns["register"], self.y(number)
+                path = f'<path class="call" d="M{short(x)},{short(y)}H{short(self.columns[step.actor])}"/>'
+                mark = f'<path class="diamond" d="M{short(x - 6)},{short(y)}l6,-6 6,6 -6,6z"/>'
+                words = "call failed" if is_refused else told[line.kind].format(line.fields[0])
+                return path + mark + text(x + 10, y + 3.7, "said", words)
+        return ""
+
+    # ---- messages
+
+    def point(self, actor, step):
+        return self.columns[actor], self.y(step)
+
+    def arrow(self, start, end, gap=7):
+        """A line and its tip; and the direction at its end."""
+        (a, b), (c, d) = start, end
+        far = hypot(c - a, d - b) or 1
+        u, v = (c - a) / far, (d - b) / far
+        c, d = c - u * gap, d - v * gap
+        tips = f"M{short(c)},{short(d)}L{short(c - 7 * u + 3 * v)},{short(d - 7 * v - 3 * u)} {short(c - 7 * u - 3 * v)},{short(d - 7 * v + 3 * u)}z"
+        return f"M{short(a + 4 * u)},{short(b + 4 * v)}L{short(c - 5 * u)},{short(d - 5 * v)}", tips
+
+    def arrows_of(self, message):
+        """The arrow of a message, and one for each repeat."""
+        if message.sender not in self.columns or message.taker not in self.columns:
+            return []
+        start = self.point(message.sender, message.sent)
+        family, fate = ink.FAMILY[message.kind], message.fate()
+        title = f"<title>message {message.id}: {message.kind} {message.lsn}, {message.sender} to {message.taker}"
+        if fate == "taken":
+            end = message.first()
+            line, tip = self.arrow(start, self.point(message.taker, end))
+            body = f'<path class="arrow" d="{line}"/><path class="tip" d="{tip}"/>'
+        elif fate == "lost":
+            end = message.lost
+            x, y = self.point(message.taker, end)
+            x += -16 if x > start[0] else 16
+            line, _ = self.arrow(start, (x, y), 6)
+            label = f"{message.kind} {message.lsn}, lost"
+            body = f'<path class="arrow" d="{line}"/><path class="cross" d="M{short(x - 5)},{short(y - 5)}l10,10m0,-10l-10,10"/>' + text(x + 10, y + 3.7, "label", label)
+            self.width = max(self.width, x + 18 + ink.width(label, 11.5))
+        else:
+            end = message.sent
+            x, y = start[0] + (self.columns[message.taker] - start[0]) * 0.42, start[1] + ROW * 0.62
+            body = f'<path class="arrow" d="M{short(start[0])},{short(start[1])}L{short(x)},{short(y)}"/><circle class="ring" cx="{short(x)}" cy="{short(y)}" r="3.4"/>'
+        ends = {"taken": "", "lost": ", lost", "never": ", never delivered"}[fate]
+        found = [(message.sent, end, message.id, f'<g class="msg {family} fate-{fate}" data-m="{message.id}">{title}{ends}</title>{body}</g>')]
+        for taking in message.takings:
+            if taking.is_repeat:
+                line, tip = self.arrow(start, self.point(message.taker, taking.step))
+                body = f'<path class="arrow" d="{line}"/><path class="tip" d="{tip}"/>'
+                found.append((message.sent, taking.step, message.id, f'<g class="again {family}" data-again="{message.id}">{title}, again</title>{body}</g>'))
+        return found
+
+    # ---- how long things stand
+
+    def lifelines(self):
+        story, last = self.story, len(self.story.steps) - 1
+        spans = [self.line("register", 0, last, "thin")]
+        for node in story.config.nodes:
+            spans += self.of_node(node, last)
+        for actor in story.sequencers:
+            spans += self.of_sequencer(actor, last)
+        ends = {i.reader: i.step for i in story.items if i.high == story.until.get(i.reader)}
+        for actor in story.readers:
+            end = ends.get(actor, last)
+            spans.append(self.line(actor, story.born[actor], end, "life"))
+            if end < last:
+                spans.append(self.line(actor, end, last, "dead"))
+        return spans
+
+    def line(self, column, first, last, kind):
+        x, low = self.columns[column], 0 if first == 0 else self.y(first)
+        return first, last, f'<path class="{kind}" d="M{short(x)},{short(low)}V{short(self.y(last) + ROW / 2)}"/>'
+
+    def band(self, column, first, last, kind, wide):
+        x, low = self.columns[column], self.y(first)
+        return first, last, f'<rect class="{kind}" x="{short(x - wide / 2)}" y="{short(low)}" width="{wide}" height="{short(self.y(last) - low)}" rx="2"/>'
+
+    def of_node(self, node, last):
+        spans, out, key = self.story.spans[node], [], f"n.{node}"
+        for at, span in enumerate(spans):
+            end = spans[at + 1].step if at + 1 < len(spans) else last
+            if span.lost and span.state != "blank":
+                out.append(self.band(key, span.step, end, "lost", 13))
+            if span.state in ("down", "failed"):
+                out.append(self.band(key, span.step, end, span.state, 9))
+            else:
+                out.append(self.line(key, span.step, end, "life" if span.state == "up" else "blank"))
+        return out
+
+    def of_sequencer(self, actor, last):
+        """In full while it works, thin from the step in which it learns that it is preempted, then to its drop."""
+        story = self.story
+        born, gone = story.born[actor], story.gone.get(actor, last)
+        learnt = min((story.step_of[l.number - 1] for l in story.lines if l.kind == "refused" and l.actor == actor and l.fields[0] == "preempted"), default=gone)
+        out = [self.line(actor, born, min(learnt, gone), "life")]
+        if learnt < gone:
+            out.append(self.line(actor, learnt, gone, "dead"))
+        return out

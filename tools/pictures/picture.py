@@ -1,0 +1,80 @@
+"""The whole picture of a run as one SVG: heads, rows, arrows, each reader's strip, and what the signs mean."""
+from html import escape
+
+from . import ink
+from .drawing import TOP, Drawing
+from .ink import ROW, pill, short, text
+from .story import Item
+
+
+def strips(drawing, top):
+    """Each reader's items, one after the other, as a strip of cells; and where they end."""
+    story, out, y = drawing.story, [], top
+    for reader in story.readers:
+        out.append(text(24, y + 14, "event", f"reader {reader[2:]}"))
+        x = 120
+        mine = [(n, i) for n, i in enumerate(story.items) if i.reader == reader]
+        for number, item in mine:
+            piece, wide = ink.tape(x, y, item, number)
+            if x + wide > drawing.width - 24 and x > 120:
+                x, y = 120, y + 42
+                piece, wide = ink.tape(x, y, item, number)
+            out.append(piece)
+            x += wide
+        if not mine:
+            out.append(text(x, y + 14, "soft", "nothing"))
+        y += 46
+    return "".join(out), y
+
+
+def legend(drawing, top):
+    """What the signs mean, in three rows; and where they end."""
+    y, x, out = top + 12, 24, []
+    names = {"write": "store, stored", "digest": "digests", "tell": "clean, release, trim", "read": "reading", "turn": "sealed, lost, clean or trimmed here"}
+    for family, words in names.items():
+        out.append(f'<g class="{family}"><path class="arrow" d="M{x},{y}h26"/><path class="tip" d="M{x + 32},{y}l-8,-3.5v7z"/>{text(x + 38, y + 4, "label", words)}</g>')
+        x += 56 + ink.width(words, 11.5)
+    y, x = y + 24, 24
+    for kind, mark, words in (
+        ("fate-lost", f'<path class="cross" d="M{{}},{y - 5}l10,10m0,-10l-10,10"/>', "lost"),
+        ("fate-never", f'<circle class="ring" cx="{{}}" cy="{y}" r="3.4"/>', "never delivered"),
+        ("again", f'<path class="tip" d="M{{}},{y - 3.5}l8,3.5 -8,3.5z"/>', "delivered again, or after it was lost"),
+    ):
+        out.append(f'<g class="write {kind}"><path class="arrow" d="M{x},{y}h24"/>{mark.format(x + 26)}</g>' + text(x + 42, y + 4, "", words))
+        x += 60 + ink.width(words, 11.5)
+    for kind, words in (("life", "up"), ("blank", "blank"), ("down", "down"), ("failed", "failed"), ("lost", "lost for a log")):
+        mark = f'<path class="{kind}" d="M{short(x + 6)},{y - 8}v16"/>' if kind in ("life", "blank") else f'<rect class="{kind}" x="{short(x + 1)}" y="{y - 8}" width="10" height="16" rx="2"/>'
+        out.append(mark + text(x + 18, y + 4, "", words))
+        x += 36 + ink.width(words, 11.5)
+    y, x = y + 24, 24
+    for kind, words in (("record", "record"), ("trim", "trim gap"), ("hole", "hole"), ("bridge", "bridge to the next epoch"), ("dataloss", "data loss")):
+        piece, x = ink.cell(x, y, Item("", kind, words, words, "", 0, 0), -1)
+        out.append(piece.replace(' data-item="-1"', ""))
+        x += 10
+    for kind, words in (("appended", "appended"), ("acked", "acked"), ("released", "released"), ("trimmed", "trimmed"), ("closed", "closed")):
+        piece, x = pill(x, y, kind, words)
+        out.append(piece)
+        x += 6
+    return "".join(out), y + 24, x + 20
+
+
+def draw(story):
+    """The picture, as the text of an SVG file."""
+    drawing = Drawing(story)
+    height = len(story.steps) * ROW
+    below, bottom = strips(drawing, height + 56)
+    signs, bottom, least = legend(drawing, bottom + 6)
+    wide, high = max(drawing.width, least), TOP + bottom
+    notes = "".join(text(24, 52 + 15 * n, "note", note) for n, note in enumerate(story.notes))
+    parts = [
+        f'<svg xmlns="http://www.w3.org/2000/svg" class="run" width="{short(wide)}" height="{short(high)}" viewBox="0 0 {short(wide)} {short(high)}">',
+        f"<title>{escape(story.name)}</title><style>{ink.STYLE}</style>{ink.DEFS}",
+        f'<rect class="paper" width="{short(wide)}" height="{short(high)}"/>{text(24, 32, "title", story.name)}{notes}',
+        f'<g transform="translate(0,{TOP})">{drawing.heads()}',
+        "<g>" + "\n".join(piece for _, _, piece in drawing.spans) + "</g>",
+        "<g>" + "\n".join(piece for _, _, _, piece in drawing.arrows) + "</g>",
+        "<g>" + "\n".join(drawing.rows) + "</g>",
+        text(24, height + 36, "title", "What each reader got") if story.readers else "",
+        below, signs, "</g></svg>",
+    ]
+    return "\n".join(p for p in parts if p) + "\n"

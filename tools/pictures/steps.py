@@ -1,0 +1,300 @@
+"""Splits the lines of a transcript into the steps of its schedule.
+
+An event is a step; `flow K` is up to K steps, a delivery each. A transcript doesn't say where a step ends, but the lines of
+a step are all of one actor, which the event or the message that is delivered names, and each kind of step has lines of
+few kinds, in one order (SHAPES). What the network holds is read from the `msg` lines, so each delivery of a flow is known.
+Where more than one split is left (items of one reader in deliveries that follow one another), the search goes on to one
+in which all lines find their step.
+"""
+import re
+from typing import NamedTuple
+
+from .formats import Unreadable, home, lsn, shorten
+
+# a letter for each kind of line
+LETTERS = {
+    "none": "0", "formatted": "F", "lost": "L", "up": "U", "down": "D", "wiped": "W", "failed": "X", "full": "Y",
+    "rebuilt": "B", "unformatted": "Z", "active": "a", "appended": "p", "refused": "z", "acked": "k", "clean": "c",
+    "trimmed": "t", "released": "r", "record": "1",
+}
+GAP_LETTERS = {"hole": "2", "bridge": "3", "trim": "4", "dataloss": "5"}
+MESSAGE_LETTERS = {"clean": "C", "release": "R", "trim": "T", "digestask": "G", "store": "S", "readask": "K"}
+
+# what a step may write, by its event, or by who takes which message; nothing but `none` where it isn't here
+SHAPES = {
+    "format": "FL*|[DXYZ]", "up": "[UDX]", "down": "D", "wipe": "W", "activate": "aG*|z", "append": "pS*|z",
+    "trim": "tT*|z", "retry": "z?c?r?C*R*G*S*", "open": "z", "poll": "K*", "tick": "[DXYB]|K+",
+    "n store": "[DXYM]", "n digestask": "[DXYM]", "n readask": "[DXYM]", "n clean": "[DXY]", "n trim": "[DXY]",
+    "n release": "[DXY]", "n readpage": "[DXY]", "n readtrim": "[DXY]",
+    "s stored own": "k?r?R*", "s stored": "z?c?r?C*R*G*", "s trimmedhere": "z?c?r?C*R*G*", "s cleanhere": "z|r?C*R*G*",
+    "s sealedhere": "z", "s digestpage": "G|S*",
+    "r readpage": "([12][1-5]*)?K*", "r readended": "(3[1-5]*)?K*", "r readtrim": "(4[1-5]*)?K*", "r losthere": "(5[1-5]*)?K*",
+    "r readwait": "K*",
+}
+SHAPES = {step: re.compile(shape) for step, shape in SHAPES.items()}
+REFUSE_AT_ONCE = 200_000
+
+
+class Step(NamedTuple):
+    """One step: its event, which one of a flow it is, who acts (None: nobody), the message taken (None: none), whether
+    that was new, and its lines from `first` up to `end`."""
+
+    event: int
+    turn: int
+    actor: str
+    message: int
+    was_new: bool
+    first: int
+    end: int
+
+
+class Split(NamedTuple):
+    """The steps, and the index of the first event that has no lines any more (the count of events where there is none)."""
+
+    steps: list
+    done: int
+
+
+def actor_of(event):
+    """Who acts in an event that is no delivery."""
+    if event.word in ("activate", "append", "trim", "retry", "drop"):
+        return "s." + event.args[0]
+    if event.word in ("open", "poll"):
+        return "r." + event.args[0]
+    return None if event.word == "regfail" else "n." + event.args[0]
+
+
+class Splitter:
+    def __init__(self, schedule, lines, name):
+        self.events, self.lines, self.name = schedule.events, lines, name
+        self.messages = [l for l in lines if l.kind == "msg"]
+        self.letters = "".join(self.letter(l) for l in lines)
+        self.epochs = {}
+        for line in lines:
+            if line.kind == "active":
+                self.epochs[line.actor] = int(line.fields[0])
+        self.count_ahead()
+        self.gather()
+        self.is_new = bytearray(b"\1" * len(self.messages))
+        self.oldest = 0
+        self.steps, self.choices = [], []
+        self.event = self.turn = self.line = self.farthest = 0
+        self.stuck = None
+
+    def letter(self, line):
+        if line.kind == "msg":
+            return MESSAGE_LETTERS.get(line.fields[3], "M")
+        return GAP_LETTERS[line.fields[0]] if line.kind == "gap" else LETTERS[line.kind]
+
+    def count_ahead(self):
+        """Before each line, how many messages were sent; from each line on, where the lines of its actor end."""
+        self.sent, self.same = [0], [0] * len(self.lines)
+        for line in self.lines:
+            self.sent.append(self.sent[-1] + (line.kind == "msg"))
+        for at in reversed(range(len(self.lines))):
+            goes_on = at + 1 < len(self.lines) and self.lines[at + 1].actor == self.lines[at].actor
+            self.same[at] = self.same[at + 1] if goes_on else at + 1
+
+    def gather(self):
+        """Who has which log, which numbers each node is known to have stored and for which epoch's sequencer, by whom each
+        epoch was closed, and when each node lost its disk."""
+        self.log_of, self.stored, self.wiped, self.closed, self.taken = {}, {}, {}, {}, {}
+        for event in self.events:
+            if event.word in ("activate", "open"):
+                self.log_of.setdefault(actor_of(event), int(event.args[1]))
+        for line in self.lines:
+            if line.kind == "wiped":
+                self.wiped.setdefault(line.actor, []).append(line.number)
+            elif line.kind == "clean":
+                key = self.log_of.get(line.actor), home(line.fields[0])
+                self.closed.setdefault(key, (line.number, self.epochs.get(line.actor, 0)))
+            elif line.kind == "msg" and line.fields[3] == "stored":
+                key = line.actor, self.log_of.get(line.fields[2]), line.fields[4]
+                self.stored.setdefault(key, []).append((line.number, self.epochs.get(line.fields[2], 0)))
+
+    def rises(self, before, after):
+        """Whether two messages of one kind stand in the order of a step: by number, each addressee once."""
+        one, two = before.fields, after.fields
+        if one[3] != two[3]:
+            return True
+        if one[3] == "store":
+            return lsn(one[4]) <= lsn(two[4])
+        return int(one[2][2:]) < int(two[2][2:])
+
+    def in_order(self, at, end):
+        """How far the messages from `at` on are in the order of one step, each told once."""
+        told = set()
+        for k in range(at, end):
+            line = self.lines[k]
+            if line.kind != "msg":
+                continue
+            what = tuple(line.fields[2:])
+            if what in told or (k > at and self.letters[k - 1] == self.letters[k] and not self.rises(self.lines[k - 1], line)):
+                return k
+            told.add(what)
+        return end
+
+    def ends(self, shape, actor, message):
+        """Where a step that begins at this line may end, the likeliest end last."""
+        at = self.line
+        if self.letters[at] == "0":
+            return [at + 1]
+        if shape not in SHAPES or self.lines[at].actor != actor:
+            return []
+        found = SHAPES[shape].match(self.letters, at, self.same[at])
+        end = self.in_order(at, found.end() if found else at)
+        if end == at:
+            return []
+        if shape == "tick":
+            return list(range(at + 1, end + 1))
+        if shape[0] != "r":
+            return [end]
+        if self.letters[at] == "K" and not self.has_lost(actor, message):
+            return []
+        inside = [k for k in range(at + 1, end) if self.letters[k - 1] in "12345"]
+        gaps = [k for k in inside if shape == "r readpage" and not self.is_held(actor, message, self.lines[k])]
+        likely = gaps[0] if gaps else end
+        return [k for k in inside + [end] if k != likely] + [likely]
+
+    def has_lost(self, reader, message):
+        """Whether the reader took an answer of a lost node. Without one it asks in a delivery only after an item."""
+        pages = [message] + [s.message for s in self.taken.get(reader, [])]
+        return any(self.messages[page].fields[3] == "losthere" for page in pages)
+
+    def is_held(self, reader, message, item):
+        """Whether the reader may have this item from what it took so far: false of a record or hole that no node is known
+        to have stored before it sent a page to this reader."""
+        if item.kind != "record" and item.fields[0] != "hole":
+            return True
+        number = item.fields[0 if item.kind == "record" else 1]
+        pages = [message] + [s.message for s in self.taken.get(reader, [])]
+        asked = self.messages[message].fields[4]
+        return any(self.messages[p].fields[4] == asked and self.shows(self.messages[p], reader, number) for p in pages)
+
+    def shows(self, page, reader, number):
+        """Whether a page has the number for all that is known: its node stored it, for the sequencer that closed the epoch
+        or a later one where the epoch was closed before, and has that disk still."""
+        if page.fields[3] != "readpage" or home(page.fields[4]) != home(number) or lsn(page.fields[4]) > lsn(number):
+            return False
+        log = self.log_of.get(reader)
+        closed, ballot = self.closed.get((log, home(number)), (page.number, 0))
+        for k, epoch in self.stored.get((page.actor, log, number), []):
+            is_there = k < page.number and not any(k < w < page.number for w in self.wiped.get(page.actor, []))
+            if is_there and (closed >= page.number or epoch >= ballot):
+                return True
+        return False
+
+    def next_shape(self):
+        """The step that comes next: its shape, its actor and its message; None where the events are over."""
+        while self.event < len(self.events):
+            event = self.events[self.event]
+            if event.word == "flow":
+                while self.oldest < self.sent[self.line] and not self.is_new[self.oldest]:
+                    self.oldest += 1
+                if self.turn < int(event.args[0]) and self.oldest < self.sent[self.line]:
+                    return self.delivery(self.oldest)
+                if self.turn == 0:
+                    return "flow", None, None
+                self.event, self.turn = self.event + 1, 0
+                continue
+            if event.word in ("deliver", "lose"):
+                message = int(event.args[0])
+                if message >= self.sent[self.line]:
+                    return event.word, None, None
+                return self.delivery(message) if event.word == "deliver" else ("lose", None, message)
+            return event.word, actor_of(event), None
+        return None
+
+    def delivery(self, message):
+        sender, taker, kind, number = self.messages[message].fields[1:]
+        shape = f"{taker[0]} {kind}"
+        if shape == "s stored" and lsn(number)[0] == self.epochs.get(taker):
+            shape += " own"
+        return shape, taker, message
+
+    def take(self, actor, message, end):
+        was_new = message is not None and bool(self.is_new[message])
+        self.steps.append(Step(self.event, self.turn, actor, message, was_new, self.line, end))
+        if was_new:
+            self.is_new[message] = 0
+        if message is not None and actor:
+            self.taken.setdefault(actor, []).append(self.steps[-1])
+        self.line = end
+        if self.events[self.event].word == "flow" and message is not None:
+            self.turn += 1
+        else:
+            self.event, self.turn = self.event + 1, 0
+
+    def go_back(self):
+        """Goes back to the last step with another end, and takes that; false where there is none."""
+        while self.choices:
+            count, ends = self.choices.pop()
+            while len(self.steps) > count:
+                step = self.steps.pop()
+                if step.message is not None and step.actor:
+                    self.taken[step.actor].pop()
+                if step.was_new:
+                    self.is_new[step.message] = 1
+                    self.oldest = min(self.oldest, step.message)
+            self.event, self.turn, self.line = step.event, step.turn, step.first
+            self.choose(step.actor, step.message, ends)
+            return True
+        return False
+
+    def choose(self, actor, message, ends):
+        end = ends.pop()
+        if ends:
+            self.choices.append((len(self.steps), ends))
+        self.take(actor, message, end)
+
+    def search(self):
+        """Goes on to a split in which all lines are used; false where there is none (any more)."""
+        self.partial, budget = None, REFUSE_AT_ONCE
+        while True:
+            step = self.next_shape()
+            if self.line == len(self.lines):
+                if step is None:
+                    return True
+                if self.partial is None:
+                    self.partial = Split(list(self.steps), self.event)
+                ends = []
+            else:
+                ends = self.ends(*step) if step else []
+                if not ends and self.line >= self.farthest:
+                    self.farthest, self.stuck = self.line, (self.event, step)
+            if ends:
+                self.choose(step[1], step[2], ends)
+                continue
+            budget -= 1
+            if budget == 0 or not self.go_back():
+                return False
+
+    def refuse(self):
+        line, (event, step) = self.lines[self.farthest], self.stuck
+        if step is None:
+            why = "no event is left whose line this is"
+        else:
+            told = self.events[event]
+            taken = "" if step[2] is None else f", which delivers message {step[2]}"
+            why = f"isn't a line of its step, line {told.number} of the schedule, `{shorten(told.text, 40)}`{taken}"
+        raise Unreadable(self.name, line.number, why, line.text)
+
+
+def split(schedule, lines, name):
+    """The steps of a run. A transcript may end early, between two steps."""
+    splitter = Splitter(schedule, lines, name)
+    if splitter.search():
+        return Split(splitter.steps, len(schedule.events))
+    if splitter.partial is None:
+        splitter.refuse()
+    return splitter.partial
+
+
+def count_splits(schedule, lines, name, most):
+    """How many splits there are, counted up to `most`."""
+    splitter, count = Splitter(schedule, lines, name), 0
+    found = splitter.search()
+    while found and count < most:
+        count += 1
+        found = splitter.go_back() and splitter.search()
+    return count
