@@ -88,6 +88,7 @@ pub(crate) fn replay_next<D: Disk>(
     ensures same { Unchanged D.seen D.may_leave D.moment D.left_since (disk_of journal.old) (disk_of journal.new) }
     ensures itself { D.identity (disk_of journal.new) ≡ D.identity (disk_of journal.old) }
     ensures counts { D.faults (disk_of journal.old) ≤ D.faults (disk_of journal.new) }
+    ensures steady { IsErrOf result StoreFault.Disk ⊎ (D.faults (disk_of journal.new) ≡ D.faults (disk_of journal.old)) }
     ensures failed { IsErrOf result StoreFault.Disk → Rose (D.faults (disk_of journal.old)) (D.faults (disk_of journal.new)) }
     ensures works { OnOk result (must_load journal.new ≡ false) }
     ensures full { result ≢ Err StoreFault.Full }
@@ -122,6 +123,7 @@ pub(crate) fn replay<D: Disk>(
     ensures same { Unchanged D.seen D.may_leave D.moment D.left_since (disk_of journal.old) (disk_of journal.new) }
     ensures itself { D.identity (disk_of journal.new) ≡ D.identity (disk_of journal.old) }
     ensures counts { D.faults (disk_of journal.old) ≤ D.faults (disk_of journal.new) }
+    ensures steady { IsErrOf result StoreFault.Disk ⊎ (D.faults (disk_of journal.new) ≡ D.faults (disk_of journal.old)) }
     ensures failed { IsErrOf result StoreFault.Disk → Rose (D.faults (disk_of journal.old)) (D.faults (disk_of journal.new)) }
     ensures works { OnOk result (must_load journal.new ≡ false) }
     ensures full { result ≢ Err StoreFault.Full }

@@ -49,6 +49,7 @@ impl<D: Disk> Store<D> {
         ensures works { IfOk result (λ store. must_load store ≡ false) }
         ensures itself { MatchResult result (λ store. D.identity (disk_of store) ≡ D.identity disk) (λ e. D.identity e.0 ≡ D.identity disk) }
         ensures counts { MatchResult result (λ store. D.faults disk ≤ D.faults (disk_of store)) (λ e. D.faults disk ≤ D.faults e.0) }
+        ensures steady { MatchResult result (λ store. D.faults (disk_of store) ≡ D.faults disk) (λ e. (e.1 ≡ StoreFault.Disk) ⊎ (D.faults e.0 ≡ D.faults disk)) }
 
         // A crash at any moment leaves what a crash before the call might have left.
         ensures any_moment { MatchResult result (λ store. LeavesOnly D.moment D.left_since disk (disk_of store) (D.may_leave disk))
@@ -157,6 +158,7 @@ impl<D: Disk> Store<D> {
         ensures damaged { (place : ℕ) → result ≢ Err (StoreFault.Damaged place) }
         ensures itself { D.identity (disk_of self.new) ≡ D.identity (disk_of self.old) }
         ensures counts { D.faults (disk_of self.old) ≤ D.faults (disk_of self.new) }
+        ensures steady { IsErrOf result StoreFault.Disk ⊎ (D.faults (disk_of self.new) ≡ D.faults (disk_of self.old)) }
         ensures failed { IsErrOf result StoreFault.Disk → Rose (D.faults (disk_of self.old)) (D.faults (disk_of self.new)) }
 
         // Another refusal than `Disk` changes nothing.
@@ -220,6 +222,7 @@ impl<D: Disk> Store<D> {
         ensures damaged { (place : ℕ) → result ≢ Err (StoreFault.Damaged place) }
         ensures itself { D.identity (disk_of self.new) ≡ D.identity (disk_of self.old) }
         ensures counts { D.faults (disk_of self.old) ≤ D.faults (disk_of self.new) }
+        ensures steady { IsErrOf result StoreFault.Disk ⊎ (D.faults (disk_of self.new) ≡ D.faults (disk_of self.old)) }
         ensures failed { IsErrOf result StoreFault.Disk → Rose (D.faults (disk_of self.old)) (D.faults (disk_of self.new)) }
 
         // Another refusal than `Disk` changes nothing.

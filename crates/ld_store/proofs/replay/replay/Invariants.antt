@@ -12,7 +12,7 @@ invariant-records g l =
     ((bytes : List ℕ) → HasGiven g.D.Disk.seen g.D.Disk.may_leave l.fn.journal [] bytes → HasReplayed g.D.Disk.seen g.D.Disk.may_leave l.journal bytes l.plain.state l.blank)
     × ((p : DiskPlain) → g.D.Disk.plain (disk_of l.fn.journal) ≡ Some p → reads_fine p ≡ true → g.D.Disk.plain (disk_of l.journal) ≡ Some p)
     × Unchanged g.D.Disk.seen g.D.Disk.may_leave g.D.Disk.moment g.D.Disk.left_since (disk_of l.fn.journal) (disk_of l.journal)
-    × (g.D.Disk.faults (disk_of l.fn.journal) ≤ g.D.Disk.faults (disk_of l.journal))
+    × (g.D.Disk.faults (disk_of l.journal) ≡ g.D.Disk.faults (disk_of l.fn.journal))
     × (must_load l.journal ≡ false)
     × (g.D.Disk.identity (disk_of l.journal) ≡ g.D.Disk.identity (disk_of l.fn.journal))
     × IsWell l.plain.state
