@@ -5,3 +5,4 @@ pub mod Spelling
 pub mod Unspelling
 pub mod Judges
 pub mod Streams
+pub mod Bounds

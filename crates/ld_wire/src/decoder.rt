@@ -1,5 +1,5 @@
 // Messages out of bytes that come in pieces.
-ghost use Rattle.std.specs.Prelude.{◌≡◌, ◌≤◌, ◌++◌, [], length, drop, Option, None, Some, Ok, Err, OnOk, OnErr, IfOk, IfErr, IfSome, IfNone};
+ghost use Rattle.std.specs.Prelude.{◌≡◌, ◌≤◌, ◌<◌, ◌++◌, [], length, drop, Option, None, Some, Ok, Err, OnOk, OnErr, IfOk, IfErr, IfSome, IfNone};
 ghost use Rattle.ld_msg.specs.Bounds.{IsMessage};
 ghost use Rattle.ld_wire.specs.Frames.{frame_of};
 ghost use Rattle.ld_wire.specs.Judging.{Complete, Waits};
@@ -64,13 +64,14 @@ impl Decoder {
 
     /// Takes the message of the frame that the bytes begin with, and removes the frame.
     ///
-    /// None comes exactly where there is no fault yet and the bytes are empty or less than one frame; nothing changes
-    /// then. A fault comes exactly where the bytes begin with what is no frame: a length above 8,388,608 as soon as
+    /// None comes exactly where there is no fault yet and the bytes are empty or less than one frame, which has at most
+    /// 8,388,612 bytes with its length; nothing changes then. A fault comes exactly where the bytes begin with what is no frame: a length above 8,388,608 as soon as
     /// the length is there, a length of 0 too, a kind outside 1 to 16 as soon as the kind is there, and a wrong field
     /// once the whole frame is there. The bytes stay, and from then on each call answers that fault. Want of memory
     /// changes nothing.
     pub fn take(&mut self, alloc: Global) -> Result<Option<Msg>, WireFault>
         ensures none { IfOk result (λ o. IfNone o ((answered self.old ≡ Waits) × (self.new ≡ self.old))) }
+        ensures short { IfOk result (λ o. IfNone o (length self.new.bytes < 8388612)) }
         ensures some { IfOk result (λ o. IfSome o (λ m. (answered self.old ≡ Complete m self.new.bytes) × (self.new.fault ≡ None))) }
         ensures fault { IfErr result (λ f. IsRefused (answered self.old) f × (self.new ≡ kept self.old f)) }
         ensures message { IfOk result (λ o. IfSome o IsMessage) }
