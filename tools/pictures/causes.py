@@ -27,6 +27,8 @@ class Causes:
     def of(self, item):
         """A list of (sentence, indices of lines)."""
         log = self.story.log_of[item.reader]
+        if item.kind == "record":
+            return self.of_record(item, log)
         if item.kind == "trim":
             return self.of_trim(item, log)
         if item.kind == "dataloss":
@@ -41,7 +43,33 @@ class Causes:
         best = min(fitting, key=lambda at: (lsn(self.story.lines[at].fields[0]), at))
         point, name = self.story.lines[best].fields[0], self.story.lines[best].actor[2:]
         told = [m.line for m in self.story.messages if m.kind == "trim" and m.lsn == point and m.sender[2:] == name]
-        return [(f"Sequencer {name} let all up to {point} go.", [best]), ("It told the nodes.", told)]
+        closes = [at for (of, _), at in self.cleans.items() if of == log and best < at < item.line]
+        answers = [m.line for m in self.story.messages if m.kind == "readtrim" and m.taker == item.reader and m.lsn == item.high and m.line < item.line]
+        parts = [
+            (f"Sequencer {name} let all up to {point} go.", [best]),
+            ("It told the nodes.", told),
+            ("Epochs that were closed later; a close takes on the trim point that its digest found.", closes),
+            ("Nodes answered the reader that it is trimmed.", answers),
+        ]
+        return [part for part in parts if part[1]]
+
+    def of_record(self, item, log):
+        """The append of a record, what was sent of it, and who acknowledged it or copied it."""
+        told, epoch, at = [], home(item.low), self.appends.get((log, item.low))
+        if at is not None:
+            name = self.story.lines[at].actor
+            told.append((f"Sequencer {name[2:]} appended it.", [at]))
+            told.append(("Its stores.", [m.line for m in self.stores.get((name, epoch), []) if m.lsn == item.low]))
+        acked, closed = self.acks.get((log, item.low)), self.cleans.get((log, epoch))
+        if acked is not None:
+            told.append(("It was acknowledged.", [acked]))
+        else:
+            told.append(("It was never acknowledged.", []))
+        if closed is not None and closed < item.line:
+            name = self.story.lines[closed].actor
+            told.append((f"Sequencer {name[2:]} closed its epoch.", [closed]))
+            told.append(("The plan of that close copied it.", [m.line for m in self.stores.get((name, epoch), []) if m.lsn == item.low]))
+        return [part for part in told if part[1] or "never" in part[0]]
 
     def of_closing(self, item, log):
         epoch = home(item.low)
@@ -62,8 +90,9 @@ class Causes:
             told.append(("Its plan put the bridge at the end, in these stores.", mine))
         rest = [m.line for m in plan if m.line not in set(mine)]
         told.append(("The other stores of that plan.", rest))
-        pages = [m.line for m in self.story.messages if m.kind == "digestpage" and m.taker == name and home(m.lsn) == epoch and m.first() is not None and m.line < at]
-        told.append(("The plan was made from digest pages; these were taken.", pages))
+        made = min((m.sent for m in plan), default=-1)
+        pages = [m.line for m in self.story.messages if m.kind == "digestpage" and m.taker == name and home(m.lsn) == epoch and m.takings and m.takings[0].step <= made]
+        told.append(("The plan was made from these digest pages.", pages))
         return [part for part in told if part[1]]
 
     def of_plans(self, item, epoch, log):
@@ -85,14 +114,11 @@ class Causes:
             return [("No append had this number; it lies below one that was kept.", [])]
         name = self.story.lines[at].actor
         sent = [m for m in self.story.messages if m.kind == "store" and m.sender == name and m.lsn == item.low]
-        fates = {"taken": "taken", "lost": "lost", "never": "never delivered"}
-        said = ", ".join(f"{m.taker[2:]} ({fates[m.fate()]})" for m in sent)
-        return [(f"Its append by {name[2:]}, which was never acknowledged.", [at]), (f"Stores went to nodes {said}.", [m.line for m in sent])]
+        return [(f"Its append by {name[2:]}, which was never acknowledged.", [at]), ("The stores of that append.", [m.line for m in sent])]
 
     def of_loss(self, item, log):
         """The last moment before the gap at which as many nodes as the replication factor stood lost for the epoch."""
         epoch, copies, nodes = home(item.low), self.story.config.logs[log].copies, self.story.config.logs[log].nodes
-        moment = max((s.step for n in nodes for s in self.story.spans[n] if s.step < item.step), default=0)
         marks = sorted({s.step for n in nodes for s in self.story.spans[n] if s.step < item.step}, reverse=True)
         for moment in marks:
             spans = {n: self.story.span_at(n, moment) for n in nodes}

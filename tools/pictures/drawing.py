@@ -9,15 +9,15 @@ from .ink import ROW, pill, short, text
 SPACE, BETWEEN, TOP = 104, 14, 100
 
 MARKS = {"appended": "appended", "acked": "acked", "released": "released", "trimmed": "trimmed", "clean": "closed"}
-MOST_ITEMS, MOST_TEXT = 6, 20
+MOST_ITEMS, MOST_TEXT, MOST_COLUMNS = 6, 20, 6
 
 # events that write `none` also where they do something
 QUIET = ("drop", "lose", "open", "fail", "tear", "regfail")
 
 
 class Drawing:
-    """The pieces of a picture. `rows` has one piece a step; `arrows` and `spans` have their first and last step before
-    the piece, and an arrow its message."""
+    """The pieces of a picture. `gutters` (number and event) and `rows` have one piece a step; `arrows` and `spans` have
+    their first and last step before the piece, and an arrow its message."""
 
     def __init__(self, story):
         self.story = story
@@ -26,6 +26,7 @@ class Drawing:
         self.items_of = {}
         for number, item in enumerate(story.items):
             self.items_of.setdefault(item.line, (number, item))
+        self.gutters = [self.gutter(n, s) for n, s in enumerate(story.steps)]
         self.rows = [self.row(n, s) for n, s in enumerate(story.steps)]
         self.width = max([self.width] + list(self.columns.values())) + 24
         self.arrows = [a for m in story.messages for a in self.arrows_of(m)]
@@ -34,15 +35,32 @@ class Drawing:
     def place_columns(self):
         """Register, sequencers, nodes, readers: messages go between neighbours then."""
         story = self.story
-        groups = [["register"], story.sequencers, [f"n.{n}" for n in story.config.nodes], story.readers]
+        nodes = [[f"n.{n}"] for n in story.config.nodes]
+        self.groups = [[["register"]], self.share(story.sequencers), nodes, self.share(story.readers)]
+        self.is_shared = {actor: len(actors) > 1 for group in self.groups for actors in group for actor in actors}
         longest = max((len(shorten(e.text, MOST_TEXT)) for e in story.events), default=0)
-        self.columns, x = {}, 44 + ink.width("m" * longest, 12.5) + 34
-        for group in groups:
-            for key in group:
-                self.columns[key] = x
+        self.left = 54 + ink.width("m" * longest, 11.5)
+        self.columns, x = {}, self.left + 26
+        for group in self.groups:
+            for actors in group:
+                for actor in actors:
+                    self.columns[actor] = x
                 # right of the register stands what it gave, left of a sequencer what it took
-                x += SPACE + (78 if key == "register" and story.sequencers else 0)
+                x += SPACE + (78 if actors == ["register"] and story.sequencers else 0)
             x += BETWEEN if group else 0
+
+    def share(self, actors):
+        """The actors of each column: one, where there are few; else one after the other, each from its birth to its last step."""
+        if len(actors) <= MOST_COLUMNS:
+            return [[actor] for actor in actors]
+        columns = []
+        for actor in actors:
+            free = [c for c in columns if self.story.seen[c[-1]] + 1 < self.story.born[actor]]
+            if free:
+                free[0].append(actor)
+            else:
+                columns.append([actor])
+        return columns
 
     def y(self, step):
         return step * ROW + ROW / 2
@@ -53,23 +71,32 @@ class Drawing:
         """The columns' heads, their bottom at 0."""
         kinds = {"r": "reader", "s": "sequencer", "n": "node"}
         out = []
-        for key, x in self.columns.items():
-            if key == "register":
+        for actors in (a for group in self.groups for a in group):
+            x, names = self.columns[actors[0]], " ".join(a[2:] for a in actors)
+            if actors == ["register"]:
                 out.append(text(x, -8, "head", "register"))
+            elif len(actors) == 1:
+                out.append(text(x, -23, "kind", kinds[actors[0][0]]) + text(x, -8, "head", names))
             else:
-                out.append(text(x, -23, "kind", kinds[key[0]]) + text(x, -8, "head", key[2:]))
+                out.append(text(x, -23, "kind", kinds[actors[0][0]] + "s") + f"<g><title>{names}</title>{text(x, -8, 'head', shorten(names, 13))}</g>")
         return "".join(out)
 
     # ---- rows
 
-    def row(self, number, step):
-        story, y = self.story, self.y(number)
-        event, lines = story.events[step.event], story.text_of(step)
+    def gutter(self, number, step):
+        event, lines, y = self.story.events[step.event], self.story.text_of(step), self.y(number)
         out = [text(34, y + 3.6, "number", str(number + 1))]
         if step.turn == 0:
+            out.append(f'<path class="rule" d="M0,{short(y - ROW / 2)}h{short(self.left)}"/>')
             is_idle = lines[0].kind == "none" and step.message is None and event.word not in QUIET
-            out.append(f'<path class="rule" d="M0,{short(y - ROW / 2)}h9999"/>')
             out.append(text(44, y + 4, "event idle" if is_idle else "event", shorten(event.text, MOST_TEXT)))
+        return "".join(out)
+
+    def row(self, number, step):
+        story, y = self.story, self.y(number)
+        event, lines, out = story.events[step.event], story.text_of(step), []
+        if step.turn == 0:
+            out.append(f'<path class="rule" d="M{short(self.left)},{short(y - ROW / 2)}h9999"/>')
         out.append(self.call(number, step, lines))
         x = self.columns.get(step.actor)
         if x is not None and event.word != "lose":
@@ -85,7 +112,7 @@ class Drawing:
         at = x + 10
         if step.message is not None:
             message = self.story.messages[step.message]
-            label, family = f"{message.kind} {message.lsn}", ink.FAMILY[message.kind]
+            label, family = self.named(step.actor, f"{message.kind} {message.lsn}"), ink.FAMILY[message.kind]
             if self.columns.get(message.sender, 0) > x:
                 # on the side that the arrow doesn't come from
                 out.append(text(x - 9, y + 3.7, f"label {family} before", label))
@@ -94,7 +121,7 @@ class Drawing:
                 at += ink.width(label, 11.5) + 8
         items = 0
         for kind, words in self.marks(event, lines):
-            piece, at = pill(at, y, kind, words)
+            piece, at = pill(at, y, kind, self.named(step.actor, words) if step.message is None else words)
             out.append(piece)
             at += 5
         for line in lines:
@@ -110,6 +137,10 @@ class Drawing:
             at += 80
         self.width = max(self.width, at)
         return "".join(out)
+
+    def named(self, actor, words):
+        """The words, with the actor's name where its column has others too."""
+        return f"{actor[2:]}: {words}" if self.is_shared.get(actor) else words
 
     def marks(self, event, lines):
         """What is told at the actor: pairs of a pill's kind and its words."""
@@ -206,14 +237,19 @@ class Drawing:
         spans = [self.line("register", 0, last, "thin")]
         for node in story.config.nodes:
             spans += self.of_node(node, last)
+        self.learnt = {}
+        for line in story.lines:
+            if line.kind == "refused" and line.fields[0] == "preempted":
+                self.learnt.setdefault(line.actor, story.step_of[line.number - 1])
         for actor in story.sequencers:
             spans += self.of_sequencer(actor, last)
         ends = {i.reader: i.step for i in story.items if i.high == story.until.get(i.reader)}
         for actor in story.readers:
-            end = ends.get(actor, last)
+            gone = self.last_of(actor, last)
+            end = min(ends.get(actor, gone), gone)
             spans.append(self.line(actor, story.born[actor], end, "life"))
-            if end < last:
-                spans.append(self.line(actor, end, last, "dead"))
+            if end < gone:
+                spans.append(self.line(actor, end, gone, "dead"))
         return spans
 
     def line(self, column, first, last, kind):
@@ -236,11 +272,15 @@ class Drawing:
                 out.append(self.line(key, span.step, end, "life" if span.state == "up" else "blank"))
         return out
 
+    def last_of(self, actor, last):
+        """The last step that an actor's line reaches to."""
+        return self.story.seen[actor] if self.is_shared[actor] else last
+
     def of_sequencer(self, actor, last):
         """In full while it works, thin from the step in which it learns that it is preempted, then to its drop."""
         story = self.story
-        born, gone = story.born[actor], story.gone.get(actor, last)
-        learnt = min((story.step_of[l.number - 1] for l in story.lines if l.kind == "refused" and l.actor == actor and l.fields[0] == "preempted"), default=gone)
+        born, gone = story.born[actor], min(story.gone.get(actor, last), self.last_of(actor, last))
+        learnt = self.learnt.get(actor, gone)
         out = [self.line(actor, born, min(learnt, gone), "life")]
         if learnt < gone:
             out.append(self.line(actor, learnt, gone, "dead"))

@@ -27,7 +27,7 @@ def strips(drawing, top):
     return "".join(out), y
 
 
-def legend(drawing, top):
+def legend(top):
     """What the signs mean, in three rows; and where they end."""
     y, x, out = top + 12, 24, []
     names = {"write": "store, stored", "digest": "digests", "tell": "clean, release, trim", "read": "reading", "turn": "sealed, lost, clean or trimmed here"}
@@ -63,7 +63,7 @@ def draw(story):
     drawing = Drawing(story)
     height = len(story.steps) * ROW
     below, bottom = strips(drawing, height + 56)
-    signs, bottom, least = legend(drawing, bottom + 6)
+    signs, bottom, least = legend(bottom + 6)
     wide, high = max(drawing.width, least), TOP + bottom
     notes = "".join(text(24, 52 + 15 * n, "note", note) for n, note in enumerate(story.notes))
     parts = [
@@ -73,7 +73,7 @@ def draw(story):
         f'<g transform="translate(0,{TOP})">{drawing.heads()}',
         "<g>" + "\n".join(piece for _, _, piece in drawing.spans) + "</g>",
         "<g>" + "\n".join(piece for _, _, _, piece in drawing.arrows) + "</g>",
-        "<g>" + "\n".join(drawing.rows) + "</g>",
+        "<g>" + "\n".join(a + b for a, b in zip(drawing.gutters, drawing.rows)) + "</g>",
         text(24, height + 36, "title", "What each reader got") if story.readers else "",
         below, signs, "</g></svg>",
     ]

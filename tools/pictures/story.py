@@ -26,6 +26,15 @@ class Message:
     def fate(self):
         return "taken" if self.first() is not None else "never" if self.lost is None else "lost"
 
+    def ends(self):
+        """What became of it, in a few words; steps are counted from 1."""
+        parts = ["never delivered"] if self.fate() == "never" and not self.takings else []
+        if self.lost is not None:
+            parts.append(f"lost in {self.lost + 1}")
+        if self.takings:
+            parts.append("→ " + ", ".join(str(t.step + 1) for t in self.takings))
+        return " ".join(parts)
+
 
 class Item(NamedTuple):
     """An item of a reader; `line` and `step` are indices from 0."""
@@ -84,10 +93,11 @@ class Story:
 
     def gather_actors(self):
         """The sequencers and readers that came to be, in their order, with the steps of their lives."""
-        self.born, self.gone = {}, {}
+        self.born, self.gone, self.seen = {}, {}, {}
         for number, step in enumerate(self.steps):
             event, lines = self.events[step.event], self.text_of(step)
             name = step.actor
+            self.seen[name] = number
             if event.word == "activate" and lines[0].kind == "active":
                 self.born[name], self.log_of[name] = number, int(event.args[1])
             if event.word == "open" and lines[0].kind == "none" and name not in self.born and int(event.args[1]) in self.config.logs:
@@ -105,6 +115,7 @@ class Story:
             message = self.messages[step.message]
             if self.events[step.event].word == "lose":
                 message.lost = number if step.was_new else message.lost
+                self.seen[message.taker] = number
             else:
                 message.takings.append(Taking(number, not step.was_new))
 
