@@ -20,11 +20,9 @@ def read_story(schedule, transcript=None):
     path = pathlib.Path(schedule)
     data = path.read_bytes()
     read = read_schedule(data, path.name)
-    if transcript is None:
-        lines = read_transcript(replay(data), "the transcript of " + path.name)
-    else:
-        lines = read_transcript(pathlib.Path(transcript).read_bytes(), pathlib.Path(transcript).name)
-    return Story(path.stem, read, lines)
+    name = f"the transcript of {path.name}" if transcript is None else pathlib.Path(transcript).name
+    printed = replay(data) if transcript is None else pathlib.Path(transcript).read_bytes()
+    return Story(path.stem, read, read_transcript(printed, name), name)
 
 
 def main(usage, make):

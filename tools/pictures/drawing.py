@@ -103,6 +103,8 @@ class Drawing:
             out.append(self.acted(step, event, lines, x, y))
         elif event.word == "regfail":
             out.append(pill(self.columns["register"] + 8, y, "bad", f"call {event.args[0]} will fail, {event.args[1]}")[0])
+        elif step.actor and lines[0].kind == "refused":
+            out.append(self.stillborn(step.actor, lines[0], y))
         return "".join(out)
 
     def acted(self, step, event, lines, x, y):
@@ -141,6 +143,12 @@ class Drawing:
     def named(self, actor, words):
         """The words, with the actor's name where its column has others too."""
         return f"{actor[2:]}: {words}" if self.is_shared.get(actor) else words
+
+    def stillborn(self, actor, line, y):
+        """A sequencer or reader that was refused has no column: it is told beside the register."""
+        x = self.columns["register"]
+        mark = "" if actor[0] == "r" else f'<path class="diamond" d="M{short(x - 6)},{short(y)}l6,-6 6,6 -6,6z"/>'
+        return mark + pill(x + 9, y, "refused", f"{actor[2:]} refused: " + " ".join(line.fields))[0]
 
     def marks(self, event, lines):
         """What is told at the actor: pairs of a pill's kind and its words."""

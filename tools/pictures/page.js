@@ -21,20 +21,21 @@ function drawPicture(always) {
   shown = [top, end];
   const inside = piece => piece[0] < end && piece[1] >= top;
   const now = state.step >= top && state.step < end ? `<rect class="now" x="0" y="${state.step * run.row}" width="${run.width}" height="${run.row}"/>` : "";
+  // a row more, for what a message of the last step reaches to
   for (const [part, wide] of [[svg, run.width], [gutter, run.left]]) {
     part.style.top = `${top * tall}px`;
     part.setAttribute("width", wide * state.zoom);
-    part.setAttribute("height", (end - top) * tall);
-    part.setAttribute("viewBox", `0 ${top * run.row} ${wide} ${(end - top) * run.row}`);
+    part.setAttribute("height", (end - top + 1) * tall);
+    part.setAttribute("viewBox", `0 ${top * run.row} ${wide} ${(end - top + 1) * run.row}`);
   }
-  gutter.innerHTML = `<rect class="shade" y="${top * run.row}" width="${run.left}" height="${(end - top) * run.row}"/>${now}${run.gutters.slice(top, end).join("")}`;
+  gutter.innerHTML = `<rect class="shade" y="${top * run.row}" width="${run.left}" height="${(end - top + 1) * run.row}"/>${now}${run.gutters.slice(top, end).join("")}`;
   svg.innerHTML = now + run.spans.filter(inside).map(piece => piece[2]).join("") +
     run.arrows.filter(inside).map(piece => piece[3]).join("") + run.rows.slice(top, end).join("");
   light();
 }
 
 function sizePicture() {
-  $("room").style.height = `${run.steps.length * run.row * state.zoom + 20}px`;
+  $("room").style.height = `${(run.steps.length + 1) * run.row * state.zoom}px`;
   $("room").style.width = `${run.width * state.zoom}px`;
   const heads = `<svg class="run" width="${run.width * state.zoom}" height="${40 * state.zoom}" viewBox="0 -40 ${run.width} 40">${run.heads}</svg>`;
   $("heads").innerHTML = heads;

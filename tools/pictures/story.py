@@ -65,9 +65,9 @@ class Span(NamedTuple):
 
 
 class Story:
-    def __init__(self, name, schedule, lines):
+    def __init__(self, name, schedule, lines, transcript="the transcript"):
         self.name, self.config, self.events, self.lines = name, schedule.config, schedule.events, lines
-        split = steps.split(schedule, lines, name + ".transcript")
+        split = steps.split(schedule, lines, transcript)
         self.steps = split.steps
         self.notes = self.endings(schedule, split)
         self.step_of = [0] * len(lines)
