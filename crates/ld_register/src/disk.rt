@@ -27,7 +27,7 @@ const DRAW_LENGTH: u64 = 6;
 
 /// A register and the disk that its changes are kept on. It is loaded by the first call, and again by the next call
 /// after one that answered `Failed` or `Damaged`. While it is loaded, a look answers, and needs neither disk nor
-/// memory. `Failed` comes only where the disk's count of failed calls rose.
+/// memory. `Failed` comes only where the disk's count of failed calls rose, and any other answer leaves that count.
 #[derive(Drop)]
 pub struct DiskRegister<D: Disk> {
     journal: Journal<D>,
@@ -83,6 +83,7 @@ impl<D: Disk> DiskRegister<D> {
     pub fn arm(&mut self, fault: Fault)
         ensures exact { D.plain (owned self.new) ≡ option_map (armed_with fault) (D.plain (owned self.old)) }
         ensures same { Unchanged D.seen D.may_leave D.moment D.left_since (owned self.old) (owned self.new) }
+        ensures itself { D.identity (owned self.new) ≡ D.identity (owned self.old) }
         ensures faults { D.faults (owned self.new) ≡ D.faults (owned self.old) }
         ensures loaded { is_loaded self.new ≡ is_loaded self.old }
         ensures told { Tells self.old → Tells self.new }
@@ -96,6 +97,8 @@ impl<D: Disk> DiskRegister<D> {
         ensures loads { Loads self.old self.new result }
         ensures ready { OnOk result (IsReady self.old self.new) }
         ensures refused { OnErr result (IsNotReady self.old self.new result) }
+        ensures steady { IsErrOf result RegisterFault.Failed ⊎ (D.faults (owned self.new) ≡ D.faults (owned self.old)) }
+        ensures itself { D.identity (owned self.new) ≡ D.identity (owned self.old) }
         ensures again { is_loaded self.old ≡ true → IsOk result × (self.new ≡ self.old) }
     {
         if self.loaded {
@@ -126,6 +129,8 @@ impl<D: Disk> DiskRegister<D> {
     ) -> Result<Grant, RegisterFault>
         ensures due { IfOk result (λ grant. IsDue self.old self.new (Change.Activate log grant.epoch) grant (λ c. activated c log) (λ c. after_activate c log)) }
         ensures refused { OnErr result (Meets self.old self.new result (λ c. activated c log) (λ c. after_activate c log)) }
+        ensures steady { IsErrOf result RegisterFault.Failed ⊎ (D.faults (owned self.new) ≡ D.faults (owned self.old)) }
+        ensures itself { D.identity (owned self.new) ≡ D.identity (owned self.old) }
         ensures bounds { IfOk result (λ grant. IsEpoch grant.epoch × (grant.lce ≤ 2 ^ 32 - 2)) }
         ensures behind { (lce : ℕ) → result ≢ Err (RegisterFault.Behind lce) }
         ensures generations { result ≢ Err RegisterFault.GenLimit }
@@ -156,6 +161,8 @@ impl<D: Disk> DiskRegister<D> {
     ) -> Result<(), RegisterFault>
         ensures due { (y : Closing) → IsSummary epoch y → IfOk result (λ given. IsDue self.old self.new (Change.Close log epoch y) given (λ c. closed c log epoch y) (λ c. after_close c log epoch y)) }
         ensures refused { (y : Closing) → OnErr result (Meets self.old self.new result (λ c. closed c log epoch y) (λ c. after_close c log epoch y)) }
+        ensures steady { IsErrOf result RegisterFault.Failed ⊎ (D.faults (owned self.new) ≡ D.faults (owned self.old)) }
+        ensures itself { D.identity (owned self.new) ≡ D.identity (owned self.old) }
         ensures bounds { (lce : ℕ) → IsErrOf result (RegisterFault.Behind lce) → lce ≤ 2 ^ 32 - 2 }
         ensures epochs { result ≢ Err RegisterFault.EpochLimit }
         ensures generations { result ≢ Err RegisterFault.GenLimit }
@@ -179,6 +186,8 @@ impl<D: Disk> DiskRegister<D> {
     pub(crate) fn check_draw(&mut self, alloc: Global, node: NodeId) -> Result<Drawn, RegisterFault>
         ensures due { IfOk result (λ handed. IsDue self.old self.new (Change.Draw node handed.gen_) handed (λ c. drawn c node) (λ c. after_draw c node)) }
         ensures refused { OnErr result (Meets self.old self.new result (λ c. drawn c node) (λ c. after_draw c node)) }
+        ensures steady { IsErrOf result RegisterFault.Failed ⊎ (D.faults (owned self.new) ≡ D.faults (owned self.old)) }
+        ensures itself { D.identity (owned self.new) ≡ D.identity (owned self.old) }
         ensures bounds { IfOk result (λ handed. IsOp (Format handed.gen_ handed.epochs)) }
         ensures logs { result ≢ Err RegisterFault.LogLimit }
         ensures behind { (lce : ℕ) → result ≢ Err (RegisterFault.Behind lce) }
@@ -209,6 +218,8 @@ impl<D: Disk> DiskRegister<D> {
         ensures commits { Commits self.old self.new change.now result }
         ensures made { OnOk result (IsMade self.old self.new change.now) }
         ensures refused { OnErr result (IsRefused self.old self.new change.now result) }
+        ensures steady { IsErrOf result RegisterFault.Failed ⊎ (D.faults (owned self.new) ≡ D.faults (owned self.old)) }
+        ensures itself { D.identity (owned self.new) ≡ D.identity (owned self.old) }
     {
         self.contents.room(alloc, change)?;
         let body = change.to_bytes(alloc)?;
@@ -246,6 +257,8 @@ impl<D: Disk> Register for DiskRegister<D> {
 
     ghost faults = { λ r. D.faults (owned r) };
 
+    ghost identity = { λ r. D.identity (owned r) };
+
     ghost holds_one = { λ r c d h k. h.one d k.reads };
 
     ghost held_is_told = { λ r c h. holds_is_told r c h };
@@ -258,6 +271,8 @@ impl<D: Disk> Register for DiskRegister<D> {
 
     fn activate(&mut self, alloc: Global, log: LogId) -> Result<Grant, RegisterFault>
         ensures meets { Meets self.old self.new result (λ c. activated c log) (λ c. after_activate c log) }
+        ensures steady { IsErrOf result RegisterFault.Failed ⊎ (D.faults (owned self.new) ≡ D.faults (owned self.old)) }
+        ensures itself { D.identity (owned self.new) ≡ D.identity (owned self.old) }
         ensures loaded { OnOk result (is_loaded self.new ≡ true) }
         ensures bounds { IfOk result (λ grant. IsEpoch grant.epoch × (grant.lce ≤ 2 ^ 32 - 2)) }
         ensures behind { (lce : ℕ) → result ≢ Err (RegisterFault.Behind lce) }
@@ -278,6 +293,8 @@ impl<D: Disk> Register for DiskRegister<D> {
     ) -> Result<(), RegisterFault>
         requires { IsSummary epoch summary.now }
         ensures meets { Meets self.old self.new result (λ c. closed c log epoch summary.now) (λ c. after_close c log epoch summary.now) }
+        ensures steady { IsErrOf result RegisterFault.Failed ⊎ (D.faults (owned self.new) ≡ D.faults (owned self.old)) }
+        ensures itself { D.identity (owned self.new) ≡ D.identity (owned self.old) }
         ensures loaded { OnOk result (is_loaded self.new ≡ true) }
         ensures bounds { (lce : ℕ) → IsErrOf result (RegisterFault.Behind lce) → lce ≤ 2 ^ 32 - 2 }
         ensures epochs { result ≢ Err RegisterFault.EpochLimit }
@@ -298,6 +315,8 @@ impl<D: Disk> Register for DiskRegister<D> {
 
     fn draw(&mut self, alloc: Global, node: NodeId) -> Result<Drawn, RegisterFault>
         ensures meets { Meets self.old self.new result (λ c. drawn c node) (λ c. after_draw c node) }
+        ensures steady { IsErrOf result RegisterFault.Failed ⊎ (D.faults (owned self.new) ≡ D.faults (owned self.old)) }
+        ensures itself { D.identity (owned self.new) ≡ D.identity (owned self.old) }
         ensures loaded { OnOk result (is_loaded self.new ≡ true) }
         ensures bounds { IfOk result (λ drawn. IsOp (Format drawn.gen_ drawn.epochs)) }
         ensures logs { result ≢ Err RegisterFault.LogLimit }
@@ -312,6 +331,8 @@ impl<D: Disk> Register for DiskRegister<D> {
 
     fn look(&mut self, alloc: Global, log: LogId, e: u32) -> Result<View, RegisterFault>
         ensures meets { Meets self.old self.new result (λ c. Ok (looked c log e)) (λ c. c) }
+        ensures steady { IsErrOf result RegisterFault.Failed ⊎ (D.faults (owned self.new) ≡ D.faults (owned self.old)) }
+        ensures itself { D.identity (owned self.new) ≡ D.identity (owned self.old) }
         ensures loaded { OnOk result (is_loaded self.new ≡ true) }
         ensures again { is_loaded self.old ≡ true → IsOk result × (self.new ≡ self.old) }
         ensures same { (c : Held) → MayHold self.new c → MayHold self.old c }

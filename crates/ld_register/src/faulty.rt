@@ -26,7 +26,7 @@ pub struct FaultyRegister<D: Disk> {
 }
 
 impl<D: Disk> FaultyRegister<D> {
-    ghost use Rattle.std.specs.Prelude.{◌≢◌, ◌≤◌, ◌+◌, ◌-◌, ◌^◌, ℕ, List, true, false, not, None, Some, Err, min, if◌then◌else◌, IfOk, IfErr, OnOk, OnErr, IsErrOf};
+    ghost use Rattle.std.specs.Prelude.{◌≢◌, ◌⊎◌, ◌≤◌, ◌+◌, ◌-◌, ◌^◌, ℕ, List, true, false, not, None, Some, Err, min, if◌then◌else◌, IfOk, IfErr, OnOk, OnErr, IsErrOf};
     ghost use Rattle.ld_disk.specs.Images.{IsHonest};
     ghost use Rattle.ld_disk.specs.Plain.{Plain, new_disk};
     ghost use Rattle.ld_msg.specs.Bounds.{IsEpoch, IsSummary};
@@ -115,6 +115,8 @@ impl<D: Disk> FaultyRegister<D> {
         ensures faults { own_faults self.new ≡ own_faults self.old }
         ensures granted { OnOk result (Meets (kept_in self.old) (kept_in self.new) result (λ c. activated c log) (λ c. if is_made (armed_of self.old) then after_activate c log else c)) }
         ensures refused { OnErr result (Meets (kept_in self.old) (kept_in self.new) result (λ c. activated c log) (λ c. after_activate c log)) }
+        ensures steady { IsErrOf result RegisterFault.Failed ⊎ (D.faults (disk_in self.new) ≡ D.faults (disk_in self.old)) }
+        ensures itself { D.identity (disk_in self.new) ≡ D.identity (disk_in self.old) }
         ensures bounds { IfOk result (λ grant. IsEpoch grant.epoch × (grant.lce ≤ 2 ^ 32 - 2)) }
         ensures behind { (lce : ℕ) → result ≢ Err (RegisterFault.Behind lce) }
         ensures generations { result ≢ Err RegisterFault.GenLimit }
@@ -138,6 +140,8 @@ impl<D: Disk> FaultyRegister<D> {
         ensures faults { own_faults self.new ≡ own_faults self.old }
         ensures granted { OnOk result (Meets (kept_in self.old) (kept_in self.new) result (λ c. closed c log epoch summary.now) (λ c. if is_made (armed_of self.old) then after_close c log epoch summary.now else c)) }
         ensures refused { OnErr result (Meets (kept_in self.old) (kept_in self.new) result (λ c. closed c log epoch summary.now) (λ c. after_close c log epoch summary.now)) }
+        ensures steady { IsErrOf result RegisterFault.Failed ⊎ (D.faults (disk_in self.new) ≡ D.faults (disk_in self.old)) }
+        ensures itself { D.identity (disk_in self.new) ≡ D.identity (disk_in self.old) }
         ensures bounds { (lce : ℕ) → IsErrOf result (RegisterFault.Behind lce) → lce ≤ 2 ^ 32 - 2 }
         ensures epochs { result ≢ Err RegisterFault.EpochLimit }
         ensures generations { result ≢ Err RegisterFault.GenLimit }
@@ -154,6 +158,8 @@ impl<D: Disk> FaultyRegister<D> {
         ensures faults { own_faults self.new ≡ own_faults self.old }
         ensures granted { OnOk result (Meets (kept_in self.old) (kept_in self.new) result (λ c. drawn c node) (λ c. if is_made (armed_of self.old) then after_draw c node else c)) }
         ensures refused { OnErr result (Meets (kept_in self.old) (kept_in self.new) result (λ c. drawn c node) (λ c. after_draw c node)) }
+        ensures steady { IsErrOf result RegisterFault.Failed ⊎ (D.faults (disk_in self.new) ≡ D.faults (disk_in self.old)) }
+        ensures itself { D.identity (disk_in self.new) ≡ D.identity (disk_in self.old) }
         ensures bounds { IfOk result (λ handed. IsOp (Format handed.gen_ handed.epochs)) }
         ensures logs { result ≢ Err RegisterFault.LogLimit }
         ensures behind { (lce : ℕ) → result ≢ Err (RegisterFault.Behind lce) }
@@ -188,6 +194,8 @@ impl<D: Disk> Register for FaultyRegister<D> {
 
     ghost faults = { λ r. faults_in r };
 
+    ghost identity = { λ r. D.identity (disk_in r) };
+
     ghost holds_one = { λ r c d h k. h.one d k.reads };
 
     ghost held_is_told = { λ r c h. holds_is_told (kept_in r) c h };
@@ -200,6 +208,8 @@ impl<D: Disk> Register for FaultyRegister<D> {
 
     fn activate(&mut self, alloc: Global, log: LogId) -> Result<Grant, RegisterFault>
         ensures meets { MeetsArmed self.old self.new result (λ c. activated c log) (λ c. after_activate c log) }
+        ensures steady { IsErrOf result RegisterFault.Failed ⊎ (faults_in self.new ≡ faults_in self.old) }
+        ensures itself { D.identity (disk_in self.new) ≡ D.identity (disk_in self.old) }
         ensures passes { OnOk result (HasCounted self.old self.new) }
         ensures fell { OnErr result (StaysArmed self.old self.new ⊎ HasFallen self.old self.new result (λ c. after_activate c log)) }
         ensures bounds { IfOk result (λ grant. IsEpoch grant.epoch × (grant.lce ≤ 2 ^ 32 - 2)) }
@@ -220,6 +230,8 @@ impl<D: Disk> Register for FaultyRegister<D> {
     ) -> Result<(), RegisterFault>
         requires { IsSummary epoch summary.now }
         ensures meets { MeetsArmed self.old self.new result (λ c. closed c log epoch summary.now) (λ c. after_close c log epoch summary.now) }
+        ensures steady { IsErrOf result RegisterFault.Failed ⊎ (faults_in self.new ≡ faults_in self.old) }
+        ensures itself { D.identity (disk_in self.new) ≡ D.identity (disk_in self.old) }
         ensures passes { OnOk result (HasCounted self.old self.new) }
         ensures fell { OnErr result (StaysArmed self.old self.new ⊎ HasFallen self.old self.new result (λ c. after_close c log epoch summary.now)) }
         ensures bounds { (lce : ℕ) → IsErrOf result (RegisterFault.Behind lce) → lce ≤ 2 ^ 32 - 2 }
@@ -233,6 +245,8 @@ impl<D: Disk> Register for FaultyRegister<D> {
 
     fn draw(&mut self, alloc: Global, node: NodeId) -> Result<Drawn, RegisterFault>
         ensures meets { MeetsArmed self.old self.new result (λ c. drawn c node) (λ c. after_draw c node) }
+        ensures steady { IsErrOf result RegisterFault.Failed ⊎ (faults_in self.new ≡ faults_in self.old) }
+        ensures itself { D.identity (disk_in self.new) ≡ D.identity (disk_in self.old) }
         ensures passes { OnOk result (HasCounted self.old self.new) }
         ensures fell { OnErr result (StaysArmed self.old self.new ⊎ HasFallen self.old self.new result (λ c. after_draw c node)) }
         ensures bounds { IfOk result (λ handed. IsOp (Format handed.gen_ handed.epochs)) }
@@ -247,6 +261,8 @@ impl<D: Disk> Register for FaultyRegister<D> {
 
     fn look(&mut self, alloc: Global, log: LogId, e: u32) -> Result<View, RegisterFault>
         ensures meets { MeetsArmed self.old self.new result (λ c. Ok (looked c log e)) (λ c. c) }
+        ensures steady { IsErrOf result RegisterFault.Failed ⊎ (faults_in self.new ≡ faults_in self.old) }
+        ensures itself { D.identity (disk_in self.new) ≡ D.identity (disk_in self.old) }
         ensures armed { StaysArmed self.old self.new }
         ensures same { (c : Contents) → MayHold (kept_in self.new) c → MayHold (kept_in self.old) c }
         ensures keeps { IsErrOf result RegisterFault.Failed ⊎ Keeps (Holds (kept_in self.old)) (Holds (kept_in self.new)) (MayHold (kept_in self.old)) (MayHold (kept_in self.new)) }

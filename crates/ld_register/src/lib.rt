@@ -1,6 +1,7 @@
 //! The register that hands out epochs and generations, and keeps the summaries of closed epochs.
 #![tactic(auto)]
 
+mod borrowed;
 mod change;
 mod contents;
 mod disk;

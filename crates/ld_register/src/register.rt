@@ -39,7 +39,7 @@ pub struct View {
 /// node the greatest generation handed out. Its changes are the records of a journal.
 ///
 /// A call that answers `Failed` has made its change or not. It comes only where the register's own count of faults
-/// rose in the call. Any other refusal has changed nothing.
+/// rose in the call. Any other refusal has changed nothing, and any other answer leaves the count.
 pub trait Register {
     /// It tells what it holds.
     ghost told: { Self → Type 0 };
@@ -60,6 +60,9 @@ pub trait Register {
     /// How often a call has failed, up to the greatest 64-bit number.
     ghost faults: { Self → ℕ };
 
+    /// Which register it is: no call changes that.
+    ghost identity: { Self → ℕ };
+
     /// Hands out the log's next epoch, from 1 on, and says which epoch is the last closed one.
     ///
     /// It refuses with `LogLimit` exactly where 64 other logs are held, then with `EpochLimit` exactly where the
@@ -79,6 +82,8 @@ pub trait Register {
         ensures damaged { (place : ℕ) → IsErrOf result (RegisterFault.Damaged place) → told self.old → damaged self.old place }
         ensures behind { (lce : ℕ) → result ≢ Err (RegisterFault.Behind lce) }
         ensures generations { result ≢ Err RegisterFault.GenLimit }
+        ensures steady { IsErrOf result RegisterFault.Failed ⊎ (faults self.new ≡ faults self.old) }
+        ensures itself { identity self.new ≡ identity self.old }
         ensures counts { faults self.old ≤ faults self.new };
 
     /// Closes the log's epoch with a summary of it. It is taken exactly where the epoch before is the last closed
@@ -108,6 +113,8 @@ pub trait Register {
         ensures damaged { (place : ℕ) → IsErrOf result (RegisterFault.Damaged place) → told self.old → damaged self.old place }
         ensures epochs { result ≢ Err RegisterFault.EpochLimit }
         ensures generations { result ≢ Err RegisterFault.GenLimit }
+        ensures steady { IsErrOf result RegisterFault.Failed ⊎ (faults self.new ≡ faults self.old) }
+        ensures itself { identity self.new ≡ identity self.old }
         ensures counts { faults self.old ≤ faults self.new };
 
     /// Hands out the node's next generation, from 1 on, and tells the epoch of each log that has one, the logs
@@ -131,6 +138,8 @@ pub trait Register {
         ensures logs { result ≢ Err RegisterFault.LogLimit }
         ensures behind { (lce : ℕ) → result ≢ Err (RegisterFault.Behind lce) }
         ensures epochs { result ≢ Err RegisterFault.EpochLimit }
+        ensures steady { IsErrOf result RegisterFault.Failed ⊎ (faults self.new ≡ faults self.old) }
+        ensures itself { identity self.new ≡ identity self.old }
         ensures counts { faults self.old ≤ faults self.new };
 
     /// Shows the log's epoch, its last closed one, and the summary of the epoch `e` exactly where it is closed: where
@@ -151,6 +160,8 @@ pub trait Register {
         ensures failed { IsErrOf result RegisterFault.Failed → Rose (faults self.old) (faults self.new) }
         ensures damaged { (place : ℕ) → IsErrOf result (RegisterFault.Damaged place) → told self.old → damaged self.old place }
         ensures free { OnErr result (IsFree result) }
+        ensures steady { IsErrOf result RegisterFault.Failed ⊎ (faults self.new ≡ faults self.old) }
+        ensures itself { identity self.new ≡ identity self.old }
         ensures counts { faults self.old ≤ faults self.new };
 
     /// It holds one thing.

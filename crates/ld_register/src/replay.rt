@@ -61,6 +61,8 @@ pub(crate) fn replay_next<D: Disk>(
     ensures advances { result ≡ Ok true → (place_of journal.old < place_of journal.new) × (place_of journal.new < length_of journal.new) }
     ensures len { length_of journal.new ≡ length_of journal.old }
     ensures same { Unchanged D.seen D.may_leave D.moment D.left_since (disk_of journal.old) (disk_of journal.new) }
+    ensures steady { IsErrOf result RegisterFault.Failed ⊎ (D.faults (disk_of journal.new) ≡ D.faults (disk_of journal.old)) }
+    ensures itself { D.identity (disk_of journal.new) ≡ D.identity (disk_of journal.old) }
     ensures counts { D.faults (disk_of journal.old) ≤ D.faults (disk_of journal.new) }
     ensures failed { IsErrOf result RegisterFault.Failed → Rose (D.faults (disk_of journal.old)) (D.faults (disk_of journal.new)) }
     ensures works { OnOk result (must_load journal.new ≡ false) }
@@ -91,6 +93,8 @@ pub(crate) fn replay<D: Disk>(
         → (D.plain (disk_of journal.new) ≡ Some p) × (result ≢ Err RegisterFault.Failed) }
     ensures ended { OnOk result (has_ended journal.new ≡ true) }
     ensures same { Unchanged D.seen D.may_leave D.moment D.left_since (disk_of journal.old) (disk_of journal.new) }
+    ensures steady { IsErrOf result RegisterFault.Failed ⊎ (D.faults (disk_of journal.new) ≡ D.faults (disk_of journal.old)) }
+    ensures itself { D.identity (disk_of journal.new) ≡ D.identity (disk_of journal.old) }
     ensures counts { D.faults (disk_of journal.old) ≤ D.faults (disk_of journal.new) }
     ensures failed { IsErrOf result RegisterFault.Failed → Rose (D.faults (disk_of journal.old)) (D.faults (disk_of journal.new)) }
     ensures works { OnOk result (must_load journal.new ≡ false) }
