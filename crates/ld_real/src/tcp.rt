@@ -1,0 +1,213 @@
+// A link over the sockets of this machine.
+ghost use Rattle.std.specs.Prelude.{◌≡◌, ◌<◌, ◌≤◌, length, true, None, Ok, IfOk, IfSome, is_ok};
+ghost use Rattle.std.specs.Io.{ReadsAtMost, WritesAtMost};
+ghost use Rattle.ld_io.specs.Causes.{HasCause};
+
+use ld_io::Failed;
+use ld_link::Link;
+use std::io;
+use std::io::{ErrorKind, Read, Write};
+use std::net::{Ipv4Addr, Net, TcpListener, TcpStream};
+
+/// A link whose peers are those that connect to a port of 127.0.0.1, which is bound at the first call. It has no last
+/// peer: where none is there it waits.
+///
+/// A peer whose connection breaks is one that has ended: a read gives nothing from then on, and what is written to it
+/// is taken and goes nowhere, as bytes in a buffer of the system would. So no peer makes a call fail. The faults are
+/// those of the port: it is taken, or the system gives no further connection.
+#[derive(Drop)]
+pub struct TcpLink<'a, R: Net<Listener = TcpListener, Stream = TcpStream>> {
+    rt: &'a R,
+    port: u16,
+    listener: Option<TcpListener>,
+    // none where no peer has come, or its connection broke
+    present: Option<TcpStream>,
+    faults: u64,
+}
+
+impl<'a, R: Net<Listener = TcpListener, Stream = TcpStream>> TcpLink<'a, R> {
+    /// A link at this port, which isn't bound yet. No call has failed yet.
+    pub fn new(rt: &'a R, port: u16) -> TcpLink<'a, R>
+        ensures port { result.port ≡ port }
+        ensures faults { result.faults ≡ 0 }
+    {
+        TcpLink {
+            rt,
+            port,
+            listener: None,
+            present: None,
+            faults: 0,
+        }
+    }
+
+    /// Binds the port where it isn't bound. It fails where the port is taken or the system has no socket left, and
+    /// the next call tries again.
+    pub fn ready(&mut self) -> Result<(), Failed>
+        ensures cause { HasCause self.old.faults self.new.faults result }
+    {
+        let answer = self.bind();
+        self.count(answer)
+    }
+
+    /// The port that is bound: where the port 0 was asked for, the system chose one. It fails where `ready` does.
+    pub fn port(&mut self) -> Result<u16, Failed>
+        ensures cause { HasCause self.old.faults self.new.faults result }
+    {
+        let answer = match self.bind() {
+            Ok(()) => bound_port(&self.listener),
+            Err(error) => Err(error),
+        };
+        self.count(answer)
+    }
+
+    fn bind(&mut self) -> io::Result<()>
+        ensures faults { self.new.faults ≡ self.old.faults }
+    {
+        if self.listener.is_none() {
+            let address = (Ipv4Addr::LOCALHOST, self.port);
+            self.listener = Some(TcpListener::bind(self.rt, address)?);
+        }
+        Ok(())
+    }
+
+    /// Closes the connection of the peer that was there, and waits for the next.
+    fn accept(&mut self) -> io::Result<()>
+        ensures faults { self.new.faults ≡ self.old.faults }
+    {
+        self.present = None;
+        self.present = Some(accepted(&self.listener)?);
+        Ok(())
+    }
+
+    /// Counts a call that failed.
+    fn count<T: Drop>(&mut self, answer: io::Result<T>) -> Result<T, Failed>
+        ensures cause { HasCause self.old.faults self.new.faults result }
+        ensures value { IfOk result (λ v. answer ≡ Ok v) }
+    {
+        match answer {
+            Ok(value) => Ok(value),
+            Err(_) => {
+                self.faults = self.faults.saturating_add(1);
+                Err(Failed)
+            }
+        }
+    }
+}
+
+fn bound_port(listener: &Option<TcpListener>) -> io::Result<u16> {
+    match listener {
+        Some(listener) => Ok(listener.local_addr()?.port()),
+        None => Err(ErrorKind::NotConnected.into()),
+    }
+}
+
+/// Waits for the next peer, past those that were gone before they were accepted. Small answers go out at once.
+fn accepted(listener: &Option<TcpListener>) -> io::Result<TcpStream> {
+    let Some(listener) = listener else {
+        return Err(ErrorKind::NotConnected.into());
+    };
+    for _ in 0..u64::MAX {
+        match listener.accept() {
+            Ok((stream, _)) => {
+                let _ = stream.set_nodelay(true);
+                return Ok(stream);
+            }
+            Err(error) if is_of_a_peer(error.kind()) => {}
+            Err(error) => return Err(error),
+        }
+    }
+    Err(ErrorKind::ConnectionAborted.into())
+}
+
+/// The connection broke before it was accepted.
+fn is_of_a_peer(kind: ErrorKind) -> bool {
+    matches!(
+        kind,
+        ErrorKind::ConnectionAborted | ErrorKind::ConnectionReset | ErrorKind::Interrupted
+    )
+}
+
+/// Reads from the peer's stream. None where the connection broke.
+fn read_from(stream: &mut TcpStream, buf: &mut [u8]) -> Option<usize>
+    ensures bound { IfSome result (λ n. n ≤ length buf.new) }
+    ensures len { length buf.new ≡ length buf.old }
+{
+    for _ in 0..u64::MAX {
+        match stream.read(buf) {
+            Ok(count) => return Some(count),
+            Err(error) if error.kind() == ErrorKind::Interrupted => {}
+            Err(_) => return None,
+        }
+    }
+    None
+}
+
+/// Writes to the peer's stream. None where the connection broke, or nothing was taken of a piece that isn't empty.
+fn write_to(stream: &mut TcpStream, piece: &[u8]) -> Option<usize>
+    ensures bound { IfSome result (λ n. n ≤ length piece.now) }
+    ensures some { IfSome result (λ n. 0 < length piece.now → 0 < n) }
+{
+    for _ in 0..u64::MAX {
+        match stream.write(piece) {
+            Ok(count) if count > 0 || piece.is_empty() => return Some(count),
+            Err(error) if error.kind() == ErrorKind::Interrupted => {}
+            _ => return None,
+        }
+    }
+    None
+}
+
+impl<'a, R: Net<Listener = TcpListener, Stream = TcpStream>> Link for TcpLink<'a, R> {
+    ghost peers = { λ _. None };
+
+    ghost faults = { λ l. l.faults };
+
+    /// Binds the port where it isn't bound, closes the connection of the peer that was there, and waits for the next.
+    /// It never answers false. A call that fails leaves no peer.
+    fn next_peer(&mut self) -> Result<bool, Failed>
+        ensures cause { HasCause self.old.faults self.new.faults result }
+        ensures always { IfOk result (λ there. there ≡ true) }
+    {
+        self.ready()?;
+        let answer = self.accept();
+        self.count(answer)?;
+        Ok(true)
+    }
+
+    /// Never fails: where the connection breaks, the peer has ended.
+    fn read(&mut self, buf: &mut [u8]) -> Result<usize, Failed>
+        ensures bound { ReadsAtMost result buf.new }
+        ensures cause { HasCause self.old.faults self.new.faults result }
+        ensures no_fault { is_ok result ≡ true }
+    {
+        let Some(stream) = &mut self.present else {
+            return Ok(0);
+        };
+        match read_from(stream, buf) {
+            Some(count) => Ok(count),
+            None => {
+                self.present = None;
+                Ok(0)
+            }
+        }
+    }
+
+    /// Never fails: where the connection breaks, what is written goes nowhere.
+    fn write(&mut self, piece: &[u8]) -> Result<usize, Failed>
+        ensures bound { WritesAtMost result piece.now }
+        ensures some { IfOk result (λ n. 0 < length piece.now → 0 < n) }
+        ensures cause { HasCause self.old.faults self.new.faults result }
+        ensures no_fault { is_ok result ≡ true }
+    {
+        let Some(stream) = &mut self.present else {
+            return Ok(piece.len());
+        };
+        match write_to(stream, piece) {
+            Some(count) => Ok(count),
+            None => {
+                self.present = None;
+                Ok(piece.len())
+            }
+        }
+    }
+}

@@ -1,0 +1,58 @@
+// The disk and the link once, over a real file and a real connection.
+use crate::{FileDisk, TcpLink};
+use ld_disk::Disk;
+use ld_link::Link;
+use std::fs;
+use std::io::{Read, Write};
+use std::net::{Ipv4Addr, TcpStream};
+use std::test::Fail;
+
+#[test]
+fn a_file_keeps_what_was_written(rt: HostRuntime) -> Result<(), Fail> {
+    let path = "ld_real_test_disk";
+    let _ = fs::remove_file(&rt, path);
+    {
+        let mut disk = FileDisk::new(&rt, path);
+        assert_eq!(rt; disk.len(), Ok(1));
+        assert_eq!(rt; disk.write_at(3, &[7, 8]), Ok(()));
+        assert_eq!(rt; disk.sync(), Ok(()));
+    }
+    let mut disk = FileDisk::new(&rt, path);
+    let mut buf = [9; 6];
+    assert_eq!(rt; disk.read(0, &mut buf), Ok(5));
+    assert_eq!(rt; buf, [0, 0, 0, 7, 8, 9]);
+    fs::remove_file(&rt, path)?;
+    Ok(())
+}
+
+#[test]
+fn a_peer_is_answered_until_it_ends(rt: HostRuntime) -> Result<(), Fail> {
+    let mut link = TcpLink::new(&rt, 0);
+    let address = (Ipv4Addr::LOCALHOST, link.port()?);
+    let mut peer = TcpStream::connect(&rt, address)?;
+    peer.write_all(&[1, 2])?;
+    assert_eq!(rt; link.next_peer(), Ok(true));
+    let mut buf = [0; 4];
+    assert_eq!(rt; link.read(&mut buf), Ok(2));
+    assert_eq!(rt; link.write(&[3]), Ok(1));
+    assert_eq!(rt; peer.read(&mut buf)?, 1);
+    assert_eq!(rt; buf[0], 3);
+    drop(peer);
+    assert_eq!(rt; link.read(&mut buf), Ok(0));
+    Ok(())
+}
+
+/// A connection that is closed before what was sent to it is read is reset.
+#[test]
+fn a_peer_that_is_reset_has_ended(rt: HostRuntime) -> Result<(), Fail> {
+    let mut link = TcpLink::new(&rt, 0);
+    let address = (Ipv4Addr::LOCALHOST, link.port()?);
+    let peer = TcpStream::connect(&rt, address)?;
+    assert_eq!(rt; link.next_peer(), Ok(true));
+    assert_eq!(rt; link.write(&[3]), Ok(1));
+    drop(peer);
+    let mut buf = [0; 4];
+    assert_eq!(rt; link.read(&mut buf), Ok(0));
+    assert_eq!(rt; link.write(&[3, 4]), Ok(2));
+    Ok(())
+}
