@@ -1,0 +1,47 @@
+-- The command line, as clap reads it.
+use Rattle.std.specs.Prelude.{List, [], ◌∷◌, codes, true, false, Option, None, Some}
+use Rattle.clap.specs.Simple.{App, Shape, new_shape, new_rule, subcommand_of}
+use Rattle.clap.specs.Walk.{Rule, Row, Text}
+use Rattle.clap.specs.Kinds.{Kinds}
+use Rattle.clap.specs.Faults.{fault_of}
+use Rattle.clap.specs.declared.builder.action.ArgAction.TheVariants.{SetTrue}
+
+-- an option with a value, which has to be given
+abbrev pub option_rule : Text → Rule
+option_rule name = record (new_rule name) { long = Some name; required = true }
+
+-- an option with no value, which may be left out
+abbrev pub flag_rule : Text → Rule
+flag_rule name = record (new_rule name) { long = Some name; action = Some SetTrue }
+
+abbrev pub exercise_shape : Shape
+exercise_shape = record (new_shape (codes "exercise")) {
+  rules = option_rule (codes "seed") ∷ option_rule (codes "events") ∷ [];
+}
+
+abbrev pub node_shape : Shape
+node_shape = record (new_shape (codes "node")) {
+  rules = option_rule (codes "id") ∷ option_rule (codes "config") ∷ option_rule (codes "store") ∷ option_rule (codes "register")
+      ∷ option_rule (codes "port") ∷ option_rule (codes "turns") ∷ flag_rule (codes "format") ∷ [];
+}
+
+-- the commands, with no help and no version
+abbrev pub ld_app : App
+ld_app = record {
+  top = record (new_shape (codes "ld")) {
+    is_leaf = false;
+    no_binary_name = true;
+    disable_help_flag = true;
+    disable_help_subcommand = true;
+    subcommand_required = true;
+  };
+  subs = new_shape (codes "replay") ∷ exercise_shape ∷ node_shape ∷ [];
+}
+
+abbrev pub if_fine : {X : Type 0} → Kinds → Option X → Option X
+if_fine [] found = found
+if_fine (kind ∷ kinds) found = None
+
+-- the command that the words name, and the values of its arguments; None where clap finds a fault in the words
+unfoldable pub found : List Text → Option (Text × List Row)
+found words = if_fine (fault_of ld_app words) (subcommand_of ld_app words)

@@ -1,0 +1,111 @@
+-- What the words ask for.
+use Rattle.std.specs.Prelude.{◌≡◌, ◌≤◌, ◌<◌, ◌^◌, ◌-◌, ℕ, List, codes, decimal, Bool, true, false, Option, None, Some, Ok}
+use Rattle.std.specs.Str.{IsUtf8, bytes_eq}
+use Rattle.clap.specs.Walk.{Row, Text, first_of}
+use Rattle.serde_json.specs.Read.{read}
+use Rattle.ld_ids.specs.Id.{IsNode}
+use Rattle.ld_ids.specs.Set.{has_node}
+use Rattle.ld_config.specs.declared.config.Config.{Config}
+use Rattle.ld_config.specs.Config.{config_of_text}
+use Rattle.ld_words.specs.declared.command.NodeWords.{NodeWords}
+use Rattle.ld_words.specs.declared.command.Places.{Places}
+use Rattle.ld_words.specs.declared.command.Command.{Command}
+use Rattle.ld_words.specs.declared.command.Command.TheVariants.{Replay, Exercise, Node}
+use Rattle.ld_words.specs.Grammar.{found}
+
+-- ---- values
+
+-- the text spells no number of 64 bits
+abbrev pub IsNoNumber : Text → Type 0
+IsNoNumber text = (n : ℕ) → n < 2 ^ 64 → text ≡ decimal n → ⊥
+
+-- the text is the number, in digits without a sign or a leading zero, and within the bounds
+pub record Spells (text : Text) (least most n : ℕ) : Type 0 where
+  pub digits : text ≡ decimal n
+  pub from : least ≤ n
+  pub to : n ≤ most
+
+-- the argument is this text
+abbrev pub Is : Text → List Row → Text → Type 0
+Is name rows text = first_of name rows ≡ Some text
+
+-- the argument is the number, in digits without a sign or a leading zero, and within the bounds
+pub record IsNumber (name : Text) (rows : List Row) (least most n : ℕ) : Type 0 where
+  pub text : Is name rows (decimal n)
+  pub from : least ≤ n
+  pub to : n ≤ most
+
+-- a flag that is given
+abbrev pub is_true : Option Text → Bool
+is_true None = false
+is_true (Some text) = bytes_eq text (codes "true")
+
+-- the text is this configuration
+abbrev pub Says : Text → Config → Type 0
+Says text config = IsUtf8 text × (config_of_text (read text) ≡ Ok config)
+
+-- the argument is this configuration
+pub record IsConfig (name : Text) (rows : List Row) (config : Config) : Type 0 where
+  pub text : Text
+  pub is : Is name rows text
+  pub says : Says text config
+
+-- the number is that of a node, and the node is one of the configuration's
+pub record IsMember (number : ℕ) (config : Config) : Type 0 where
+  pub node : IsNode number
+  pub member : has_node number config.nodes ≡ true
+
+-- ---- commands
+
+pub record IsExercise (rows : List Row) (start count : ℕ) : Type 0 where
+  pub seed : IsNumber (codes "seed") rows 0 (2 ^ 64 - 1) start
+  pub events : IsNumber (codes "events") rows 0 100000 count
+
+pub record IsNodeWords (rows : List Row) (n : NodeWords) : Type 0 where
+  pub id : IsNumber (codes "id") rows 1 16 n.id
+  pub config : IsConfig (codes "config") rows n.config
+  pub member : IsMember n.id n.config
+  pub store : Is (codes "store") rows n.store
+  pub register : Is (codes "register") rows n.register
+  pub port : IsNumber (codes "port") rows 0 65535 n.port
+  pub turns : IsNumber (codes "turns") rows 1 1000000000 n.turns
+  pub format : n.format ≡ is_true (first_of (codes "format") rows)
+
+-- the command has this name, and these values of its arguments
+abbrev pub IsNamed : Text → List Row → Command → Type 0
+IsNamed name rows Replay = name ≡ codes "replay"
+IsNamed name rows (Exercise seed events) = (name ≡ codes "exercise") × IsExercise rows seed events
+IsNamed name rows (Node n) = (name ≡ codes "node") × IsNodeWords rows n
+
+-- the command is what clap finds in the words
+pub record IsFound (found : Option (Text × List Row)) (command : Command) : Type 0 where
+  pub name : Text
+  pub rows : List Row
+  pub is : found ≡ Some (name, rows)
+  pub meaning : IsNamed name rows command
+
+-- the words ask for this command
+abbrev pub Asks : List Text → Command → Type 0
+Asks words command = IsFound (found words) command
+
+-- the words are no command
+abbrev pub IsNoCommand : List Text → Type 0
+IsNoCommand words = (command : Command) → Asks words command → ⊥
+
+-- ---- places
+
+-- these are the files and the port of the node
+pub record ArePlacesOf (n : NodeWords) (places : Places) : Type 0 where
+  pub store : places.store ≡ n.store
+  pub register : places.register ≡ n.register
+  pub port : places.port ≡ n.port
+
+-- the words ask for a node with these files and this port
+pub record AskForPlaces (words : List Text) (places : Places) : Type 0 where
+  pub node : NodeWords
+  pub asks : Asks words (Node node)
+  pub are : ArePlacesOf node places
+
+-- the words ask for no node
+abbrev pub AskForNoNode : List Text → Type 0
+AskForNoNode words = (n : NodeWords) → Asks words (Node n) → ⊥

@@ -1,0 +1,114 @@
+// The arguments of a command.
+ghost use Rattle.std.specs.Prelude.{◌≡◌, ℕ, true, None, Some, MatchResult, IfOk, option_map};
+ghost use Rattle.clap.specs.Words.{rows_of, found_of, first_of};
+ghost use Rattle.ld_ids.specs.Set.{has_node};
+ghost use Rattle.ld_config.specs.Bounds.{IsInBounds};
+ghost use Rattle.ld_config.specs.declared.config.Config.{Config as Configuration};
+ghost use Rattle.ld_words.specs.Meaning.{IsNumber, IsMember, Says, is_true};
+ghost use Rattle.ld_words.specs.Refuses.{Refuses};
+
+use crate::FileName;
+use crate::number::spelt;
+use crate::refusal::Refusal;
+use clap::ArgMatches;
+use ld_config::{Config, ConfigFault};
+use ld_ids::NodeId;
+use std::alloc::Global;
+
+/// The value of an argument, as it stands in the words.
+fn value<'a>(matches: &ArgMatches<'a>, name: &str) -> Option<&'a str>
+    ensures { option_map (λ s. s.now) result ≡ first_of name.now (rows_of (found_of matches.now)) }
+{
+    matches.get_str(name)
+}
+
+/// The text that an argument is.
+pub fn text<'a>(matches: &ArgMatches<'a>, name: &'static str) -> Result<&'a str, Refusal>
+    ensures { MatchResult result
+        (λ s. first_of name.now (rows_of (found_of matches.now)) ≡ Some s.now)
+        (Refuses (first_of name.now (rows_of (found_of matches.now)) ≡ None)) }
+{
+    match value(matches, name) {
+        Some(text) => Ok(text),
+        None => Err(Refusal::Missing { name }),
+    }
+}
+
+/// The name of a file that an argument is.
+pub fn file_name(
+    alloc: Global,
+    matches: &ArgMatches<'_>,
+    name: &'static str,
+) -> Result<FileName, Refusal>
+    ensures { MatchResult result
+        (λ file. first_of name.now (rows_of (found_of matches.now)) ≡ Some file)
+        (Refuses (first_of name.now (rows_of (found_of matches.now)) ≡ None)) }
+{
+    let text = text(matches, name)?;
+    Ok(FileName::new(String::from_str(alloc, text)?))
+}
+
+/// The number that an argument is, within bounds.
+pub fn number(
+    matches: &ArgMatches<'_>,
+    name: &'static str,
+    least: u64,
+    most: u64,
+) -> Result<u64, Refusal>
+    ensures { MatchResult result
+        (IsNumber name.now (rows_of (found_of matches.now)) least most)
+        (Refuses ((n : ℕ) → IsNumber name.now (rows_of (found_of matches.now)) least most n → ⊥)) }
+{
+    let text = text(matches, name)?;
+    match spelt(text, least, most) {
+        Some(number) => Ok(number),
+        None => Err(Refusal::Number { name, least, most }),
+    }
+}
+
+/// Whether a flag is given.
+pub fn flag(matches: &ArgMatches<'_>, name: &str) -> bool
+    ensures { result ≡ is_true (first_of name.now (rows_of (found_of matches.now))) }
+{
+    match value(matches, name) {
+        Some(text) => text == "true",
+        None => false,
+    }
+}
+
+/// The configuration that a text says.
+pub fn config(alloc: Global, text: &str) -> Result<Config, Refusal>
+    ensures says { MatchResult result (Says text.now) (Refuses ((c : Configuration) → Says text.now c → ⊥)) }
+    ensures bounds { IfOk result IsInBounds }
+{
+    match Config::read(alloc, text.as_bytes()) {
+        Ok(config) => Ok(config),
+        Err(fault) => {
+            if fault == ConfigFault::NoMemory {
+                return Err(Refusal::NoMemory);
+            }
+            Err(Refusal::Config(fault))
+        }
+    }
+}
+
+/// The node of this number, among the configuration's nodes.
+pub fn member(number: u64, config: &Config) -> Result<NodeId, Refusal>
+    ensures { MatchResult result (λ node. (node ≡ number) × IsMember number config.now) (Refuses (IsMember number config.now → ⊥)) }
+{
+    if number < 1 || number > 16 {
+        return Err(Refusal::Number {
+            name: "id",
+            least: 1,
+            most: 16,
+        });
+    }
+    let Some(node) = NodeId::new(number as u8) else {
+        unreachable!();
+    };
+    if config.nodes.has(node) {
+        Ok(node)
+    } else {
+        Err(Refusal::Stranger(node))
+    }
+}

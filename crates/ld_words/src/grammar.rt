@@ -1,0 +1,69 @@
+// The commands and their arguments, as clap has them.
+ghost use Rattle.std.specs.Prelude.{◌≡◌, IfOk, MatchResult, false, map, string_bytes};
+ghost use Rattle.clap.specs.Words.{app_of, rule_of, subcommand_rows_of};
+ghost use Rattle.ld_words.specs.Grammar.{option_rule, flag_rule, ld_app, found};
+ghost use Rattle.ld_words.specs.Meaning.{IsNoCommand};
+ghost use Rattle.ld_words.specs.Refuses.{Refuses};
+
+use crate::refusal::Refusal;
+use clap::error::ErrorKind;
+use clap::{Arg, ArgAction, ArgMatches, Command};
+use std::alloc::{AllocError, Global};
+
+/// An option with a value, which has to be given.
+fn option<'a>(alloc: Global, name: &'a str) -> Arg<'a>
+    ensures rule { rule_of result ≡ option_rule name.now }
+    ensures own { result.global ≡ false }
+{
+    Arg::new(alloc, name).long(name).required(true)
+}
+
+/// An option with no value, which may be left out.
+fn flag<'a>(alloc: Global, name: &'a str) -> Arg<'a>
+    ensures rule { rule_of result ≡ flag_rule name.now }
+    ensures own { result.global ≡ false }
+{
+    Arg::new(alloc, name).long(name).action(ArgAction::SetTrue)
+}
+
+/// The commands, with no help and no version.
+fn ld_command<'a>(alloc: Global) -> Result<Command<'a>, AllocError>
+    ensures { IfOk result (λ command. app_of command ≡ ld_app) }
+{
+    let node = Command::new(alloc, "node")
+        .arg(option(alloc, "id"))?
+        .arg(option(alloc, "config"))?
+        .arg(option(alloc, "store"))?
+        .arg(option(alloc, "register"))?
+        .arg(option(alloc, "port"))?
+        .arg(option(alloc, "turns"))?
+        .arg(flag(alloc, "format"))?;
+    let exercise = Command::new(alloc, "exercise")
+        .arg(option(alloc, "seed"))?
+        .arg(option(alloc, "events"))?;
+    let replay = Command::new(alloc, "replay");
+    let ld = Command::new(alloc, "ld")
+        .no_binary_name(true)
+        .disable_help_flag(true)
+        .disable_help_subcommand(true)
+        .subcommand_required(true);
+    ld.subcommand(replay)?
+        .subcommand(exercise)?
+        .subcommand(node)
+}
+
+/// What clap finds in the words.
+pub fn matches<'a>(alloc: Global, words: &'a [String]) -> Result<ArgMatches<'a>, Refusal>
+    ensures { MatchResult result (λ m. found (map string_bytes words.now) ≡ subcommand_rows_of m) (Refuses (IsNoCommand (map string_bytes words.now))) }
+{
+    let command = ld_command(alloc)?;
+    match command.try_get_matches_from(words) {
+        Ok(matches) => Ok(matches),
+        Err(error) => {
+            if error.kind() == ErrorKind::OutOfMemory {
+                return Err(Refusal::NoMemory);
+            }
+            Err(Refusal::Form(error))
+        }
+    }
+}

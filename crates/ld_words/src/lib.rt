@@ -1,0 +1,20 @@
+//! The words of the command line: which command they ask for, and why they are none.
+#![tactic(auto)]
+
+mod arguments;
+mod cause;
+mod command;
+mod file_name;
+mod grammar;
+mod law;
+mod number;
+mod refusal;
+mod words;
+
+pub use command::{Command, NodeWords, Places};
+pub use file_name::FileName;
+pub use law::words_ask_for_one_command;
+pub use words::{places, read, reason};
+
+#[cfg(test)]
+mod tests;

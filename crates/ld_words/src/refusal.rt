@@ -1,0 +1,77 @@
+// Why the words are no command.
+ghost use Rattle.std.specs.Prelude.{◌≡◌, ◌≢◌, MatchBool};
+ghost use Rattle.ld_words.specs.declared.refusal.Refusal.TheVariants.{NoMemory as Memory};
+
+use crate::cause::config_cause;
+use clap::Error;
+use ld_config::ConfigFault;
+use ld_ids::{NoMemory, NodeId};
+use std::alloc::{AllocError, Global};
+
+/// Why the words are no command.
+#[derive(Drop)]
+pub enum Refusal {
+    /// They are none by their form: an unknown word, one too many, one that is missing.
+    Form(Error),
+    /// The argument's value isn't there.
+    Missing {
+        name: &'static str,
+    },
+    /// The argument's value isn't a number within these bounds, in digits without a sign or a leading zero.
+    Number {
+        name: &'static str,
+        least: u64,
+        most: u64,
+    },
+    /// The configuration is refused.
+    Config(ConfigFault),
+    /// The node is none of the configuration's.
+    Stranger(NodeId),
+    /// There is no command of this name.
+    Unknown,
+    /// There is no memory left to tell.
+    NoMemory,
+}
+
+impl Refusal {
+    /// Whether memory was wanting.
+    pub fn is_memory(&self) -> bool
+        ensures { MatchBool result (self.now ≡ Memory) (self.now ≢ Memory) }
+    {
+        matches!(self, Refusal::NoMemory)
+    }
+
+    /// A text for a person.
+    pub fn text(&self, alloc: Global) -> Result<String, AllocError> {
+        match self {
+            Refusal::Form(error) => format!(in alloc; "{error}"),
+            Refusal::Missing { name } => format!(in alloc; "--{name} has no value"),
+            Refusal::Number { name, least, most } => format!(in alloc;
+                "--{name} isn't a number from {least} to {most}, in digits without a sign or a leading zero"
+            ),
+            Refusal::Config(fault) => config_cause(alloc, fault),
+            Refusal::Stranger(node) => format!(in alloc;
+                "--id is {}, which isn't one of the configuration's nodes",
+                node.number()
+            ),
+            Refusal::Unknown => format!(in alloc; "there is no such command"),
+            Refusal::NoMemory => format!(in alloc; "out of memory"),
+        }
+    }
+}
+
+impl From<NoMemory> for Refusal {
+    ghost from_gives = { λ _ refusal. refusal ≡ Memory };
+
+    fn from(_: NoMemory) -> Refusal {
+        Refusal::NoMemory
+    }
+}
+
+impl From<AllocError> for Refusal {
+    ghost from_gives = { λ _ refusal. refusal ≡ Memory };
+
+    fn from(_: AllocError) -> Refusal {
+        Refusal::NoMemory
+    }
+}

@@ -1,0 +1,145 @@
+// The command that the words ask for.
+ghost use Rattle.std.specs.Prelude.{◌≡◌, ℕ, IfOk, MatchOption, MatchResult, IfSome, map, string_bytes};
+ghost use Rattle.clap.specs.Words.{rows_of, found_of, subcommand_rows_of};
+ghost use Rattle.ld_config.specs.Bounds.{IsInBounds};
+ghost use Rattle.ld_words.specs.declared.command.NodeWords.{NodeWords as Words};
+ghost use Rattle.ld_words.specs.declared.command.Command.{Command as Choice};
+ghost use Rattle.ld_words.specs.Meaning.{IsExercise, IsNodeWords, IsNamed, IsFound, Asks, IsNoCommand, ArePlacesOf, AskForPlaces, AskForNoNode};
+ghost use Rattle.ld_words.specs.Refuses.{Refuses};
+ghost use Rattle.ld_words.specs.Bounds.{HasBounds};
+
+use crate::arguments::{config, file_name, flag, member, number, text};
+use crate::grammar::matches;
+use crate::refusal::Refusal;
+use crate::{Command, NodeWords, Places};
+use clap::ArgMatches;
+use ld_ids::NoMemory;
+use std::alloc::Global;
+
+/// What the arguments say of a node.
+#[tactic(auto, using(crate::proofs::OneCommand::member_of))]
+fn node_words(alloc: Global, matches: &ArgMatches<'_>) -> Result<NodeWords, Refusal>
+    ensures says { MatchResult result
+        (IsNodeWords (rows_of (found_of matches.now)))
+        (Refuses ((n : Words) → IsNodeWords (rows_of (found_of matches.now)) n → ⊥)) }
+    ensures bounds { IfOk result (λ n. IsInBounds n.config) }
+{
+    let id = number(matches, "id", 1, 16)?;
+    let config = config(alloc, text(matches, "config")?)?;
+    let id = member(id, &config)?;
+    let store = file_name(alloc, matches, "store")?;
+    let register = file_name(alloc, matches, "register")?;
+    let port = number(matches, "port", 0, 65_535)?;
+    let turns = number(matches, "turns", 1, 1_000_000_000)?;
+    Ok(NodeWords {
+        id,
+        config,
+        store,
+        register,
+        port: port as u16,
+        turns: turns as u32,
+        format: flag(matches, "format"),
+    })
+}
+
+/// The seed and the number of events that the arguments say.
+fn exercise(matches: &ArgMatches<'_>) -> Result<(u64, u32), Refusal>
+    ensures { MatchResult result
+        (λ e. IsExercise (rows_of (found_of matches.now)) e.0 e.1)
+        (Refuses ((seed events : ℕ) → IsExercise (rows_of (found_of matches.now)) seed events → ⊥)) }
+{
+    let seed = number(matches, "seed", 0, u64::MAX)?;
+    let events = number(matches, "events", 0, 100_000)?;
+    Ok((seed, events as u32))
+}
+
+/// The command of this name, with these arguments.
+fn named(alloc: Global, name: &str, matches: &ArgMatches<'_>) -> Result<Command, Refusal>
+    ensures means { MatchResult result
+        (IsNamed name.now (rows_of (found_of matches.now)))
+        (Refuses ((c : Choice) → IsNamed name.now (rows_of (found_of matches.now)) c → ⊥)) }
+    ensures bounds { IfOk result HasBounds }
+{
+    if name == "replay" {
+        return Ok(Command::Replay);
+    }
+    if name == "exercise" {
+        let (seed, events) = exercise(matches)?;
+        return Ok(Command::Exercise { seed, events });
+    }
+    if name == "node" {
+        return Ok(Command::Node(node_words(alloc, matches)?));
+    }
+    Err(Refusal::Unknown)
+}
+
+/// The command that was found.
+fn command(alloc: Global, matches: &ArgMatches<'_>) -> Result<Command, Refusal>
+    ensures means { MatchResult result
+        (IsFound (subcommand_rows_of matches.now))
+        (Refuses ((c : Choice) → IsFound (subcommand_rows_of matches.now) c → ⊥)) }
+    ensures bounds { IfOk result HasBounds }
+{
+    match matches.subcommand() {
+        Some((name, inner)) => named(alloc, name, inner),
+        None => Err(Refusal::Unknown),
+    }
+}
+
+/// The command that the words ask for, or why there is none.
+fn try_read(alloc: Global, words: &[String]) -> Result<Command, Refusal>
+    ensures asks { MatchResult result (Asks (map string_bytes words.now)) (Refuses (IsNoCommand (map string_bytes words.now))) }
+    ensures bounds { IfOk result HasBounds }
+{
+    let matches = matches(alloc, words)?;
+    command(alloc, &matches)
+}
+
+/// Reads the words of the command line, which are without the program's name. None exactly where they ask for no command;
+/// `NoMemory` is the one fault.
+pub fn read(alloc: Global, words: &[String]) -> Result<Option<Command>, NoMemory>
+    ensures asks { IfOk result (λ command. MatchOption command (IsNoCommand (map string_bytes words.now)) (Asks (map string_bytes words.now))) }
+    ensures bounds { IfOk result (λ command. IfSome command HasBounds) }
+{
+    match try_read(alloc, words) {
+        Ok(command) => Ok(Some(command)),
+        Err(refusal) => {
+            if refusal.is_memory() {
+                return Err(NoMemory);
+            }
+            Ok(None)
+        }
+    }
+}
+
+/// The files and the port of a command, where it is a node.
+fn node_places(command: Command) -> Option<Places>
+    ensures { MatchOption result ((n : Words) → command ≡ Command.Node n → ⊥) (λ p. (n : Words) × (command ≡ Command.Node n) × ArePlacesOf n p) }
+{
+    match command {
+        Command::Node(node) => Some(Places {
+            store: node.store,
+            register: node.register,
+            port: node.port,
+        }),
+        _ => None,
+    }
+}
+
+/// The files and the port that the words name. None exactly where they ask for no node; `NoMemory` is the one fault.
+pub fn places(alloc: Global, words: &[String]) -> Result<Option<Places>, NoMemory>
+    ensures { IfOk result (λ places. MatchOption places (AskForNoNode (map string_bytes words.now)) (AskForPlaces (map string_bytes words.now))) }
+{
+    match read(alloc, words)? {
+        Some(command) => Ok(node_places(command)),
+        None => Ok(None),
+    }
+}
+
+/// A text for a person that says why the words ask for no command. It is empty where they ask for one.
+pub fn reason(alloc: Global, words: &[String]) -> Result<String, NoMemory> {
+    match try_read(alloc, words) {
+        Ok(_) => Ok(String::new(alloc)),
+        Err(refusal) => Ok(refusal.text(alloc)?),
+    }
+}
