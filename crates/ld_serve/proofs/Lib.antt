@@ -1,0 +1,5 @@
+pub mod Talks
+pub mod Writing
+pub mod Hearing
+pub mod Frames
+pub mod Courses

@@ -1,0 +1,56 @@
+-- Why a node stops serving, and where it may.
+use Rattle.std.specs.Prelude.{◌≡◌, ℕ, List}
+use Rattle.ld_io.specs.Causes.{Rose}
+use Rattle.ld_wire.specs.Judging.{Refused, judge}
+use Rattle.ld_serve.specs.declared.stop.Stop.{Stop}
+use Rattle.ld_serve.specs.declared.stop.Which.TheVariants as journals
+use Rattle.ld_serve.specs.declared.stop.Stop.TheVariants.{NoMemory, Link, Disk, Register, Full, BadFrame}
+
+-- the count of a link's faults, by why it stopped: it rose where the link failed, and else it is the same
+abbrev pub LinkCounts : ℕ → ℕ → Stop → Type 0
+LinkCounts before now Link = Rose before now
+LinkCounts before now _ = now ≡ before
+
+-- no frame could be taken of the bytes that are held: for want of memory, or of more bytes as the link failed, or since they begin none
+abbrev pub IsUnread : List ℕ → Stop → Type 0
+IsUnread held NoMemory = Unit {0}
+IsUnread held Link = Unit {0}
+IsUnread held (BadFrame fault) = judge held ≡ Refused fault
+IsUnread held _ = ⊥
+
+-- the node refused a frame that was taken
+abbrev pub IsNodeStop : Stop → Type 0
+IsNodeStop NoMemory = Unit {0}
+IsNodeStop Disk = Unit {0}
+IsNodeStop (Full journals.Store) = Unit {0}
+IsNodeStop _ = ⊥
+
+-- answers weren't written to their end
+abbrev pub IsUnsent : Stop → Type 0
+IsUnsent NoMemory = Unit {0}
+IsUnsent Link = Unit {0}
+IsUnsent _ = ⊥
+
+-- the next peer wasn't taken
+abbrev pub IsLinkStop : Stop → Type 0
+IsLinkStop Link = Unit {0}
+IsLinkStop _ = ⊥
+
+-- the count of a disk's faults, by why it stopped: it rose where the disk failed, and else it is the same
+abbrev pub DiskCounts : ℕ → ℕ → Stop → Type 0
+DiskCounts before now Disk = Rose before now
+DiskCounts before now _ = now ≡ before
+
+-- that of a register's likewise
+abbrev pub RegisterCounts : ℕ → ℕ → Stop → Type 0
+RegisterCounts before now Register = Rose before now
+RegisterCounts before now _ = now ≡ before
+
+-- while it serves it stops for want of memory, or with the disk, the link, bytes that begin no frame, or a store that is full
+abbrev pub IsServingStop : Stop → Type 0
+IsServingStop NoMemory = Unit {0}
+IsServingStop Disk = Unit {0}
+IsServingStop Link = Unit {0}
+IsServingStop (BadFrame fault) = Unit {0}
+IsServingStop (Full journals.Store) = Unit {0}
+IsServingStop _ = ⊥
