@@ -7,7 +7,8 @@ class Causes:
 
     def __init__(self, story):
         self.story = story
-        self.cleans, self.trims, self.appends, self.acks, self.stores, self.losthere = {}, {}, {}, {}, {}, {}
+        self.cleans, self.trims, self.appends, self.acks, self.stores = {}, {}, {}, {}, {}
+        self.sent_by, self.taken_by = {}, {}
         for at, line in enumerate(story.lines):
             log = story.log_of.get(line.actor)
             if line.kind == "clean":
@@ -19,10 +20,10 @@ class Causes:
             elif line.kind == "acked":
                 self.acks[log, line.fields[0]] = at
         for message in story.messages:
+            self.sent_by.setdefault((message.kind, message.sender), []).append(message)
+            self.taken_by.setdefault((message.kind, message.taker), []).append(message)
             if message.kind == "store":
                 self.stores.setdefault((message.sender, home(message.lsn)), []).append(message)
-            elif message.kind == "losthere" and message.taker in story.readers:
-                self.losthere.setdefault(message.taker, []).append(message)
 
     def of(self, item):
         """A list of (sentence, indices of lines)."""
@@ -42,9 +43,9 @@ class Causes:
             return [("No trim of this point is told: the log was trimmed up to it by a sequencer whose line isn't here.", [])]
         best = min(fitting, key=lambda at: (lsn(self.story.lines[at].fields[0]), at))
         point, name = self.story.lines[best].fields[0], self.story.lines[best].actor[2:]
-        told = [m.line for m in self.story.messages if m.kind == "trim" and m.lsn == point and m.sender[2:] == name]
+        told = [m.line for m in self.sent_by.get(("trim", f"s.{name}"), []) if m.lsn == point]
         closes = [at for (of, _), at in self.cleans.items() if of == log and best < at < item.line]
-        answers = [m.line for m in self.story.messages if m.kind == "readtrim" and m.taker == item.reader and m.lsn == item.high and m.line < item.line]
+        answers = [m.line for m in self.taken_by.get(("readtrim", item.reader), []) if m.lsn == item.high and m.line < item.line]
         parts = [
             (f"Sequencer {name} let all up to {point} go.", [best]),
             ("It told the nodes.", told),
@@ -91,7 +92,7 @@ class Causes:
         rest = [m.line for m in plan if m.line not in set(mine)]
         told.append(("The other stores of that plan.", rest))
         made = min((m.sent for m in plan), default=-1)
-        pages = [m.line for m in self.story.messages if m.kind == "digestpage" and m.taker == name and home(m.lsn) == epoch and m.takings and m.takings[0].step <= made]
+        pages = [m.line for m in self.taken_by.get(("digestpage", name), []) if home(m.lsn) == epoch and m.takings and m.takings[0].step <= made]
         told.append(("The plan was made from these digest pages.", pages))
         return [part for part in told if part[1]]
 
@@ -113,23 +114,32 @@ class Causes:
         if at is None:
             return [("No append had this number; it lies below one that was kept.", [])]
         name = self.story.lines[at].actor
-        sent = [m for m in self.story.messages if m.kind == "store" and m.sender == name and m.lsn == item.low]
+        sent = [m for m in self.sent_by.get(("store", name), []) if m.lsn == item.low]
         return [(f"Its append by {name[2:]}, which was never acknowledged.", [at]), ("The stores of that append.", [m.line for m in sent])]
 
     def of_loss(self, item, log):
-        """The last moment before the gap at which as many nodes as the replication factor stood lost for the epoch."""
-        epoch, copies, nodes = home(item.low), self.story.config.logs[log].copies, self.story.config.logs[log].nodes
-        marks = sorted({s.step for n in nodes for s in self.story.spans[n] if s.step < item.step}, reverse=True)
-        for moment in marks:
-            spans = {n: self.story.span_at(n, moment) for n in nodes}
-            lost = {n: s for n, s in spans.items() if log in s.lost and (s.lost[log] is None or s.lost[log] >= epoch)}
-            if len(lost) >= copies:
-                break
-        else:
+        """The last time before the gap in which as many nodes as the replication factor stood lost for the epoch."""
+        epoch, copies = home(item.low), self.story.config.logs[log].copies
+        moment, lost = self.moment(item.step, log, epoch, copies)
+        if not lost:
             return [("No moment is told at which enough nodes stood lost.", [])]
-        told = [(f"After step {moment + 1}, nodes {', '.join(map(str, lost))} stood lost for epoch {epoch}: with a replication factor of {copies} these may have been all that kept it.", [])]
+        told = [(f"From step {moment + 1} on, nodes {', '.join(map(str, lost))} stood lost for epoch {epoch}: with a replication factor of {copies} these may have been all that kept it.", [])]
         for node, span in lost.items():
-            told.append((f"Node {node} stood lost since these lines.", span.since.get(log, [])))
-        confirmed = [m for m in self.losthere.get(item.reader, []) if m.line < item.line and m.lsn == item.low]
+            since = span.since.get(log, [])
+            told.append((f"Node {node} stood lost since these lines." if since else f"Node {node} was blank from the start.", since))
+        confirmed = [m for m in self.taken_by.get(("losthere", item.reader), []) if m.line < item.line and m.lsn == item.low]
         told.append(("They said so when the reader asked.", [m.line for m in confirmed]))
         return told
+
+    def moment(self, end, log, epoch, copies):
+        """The step at which the last such time before `end` began, and the nodes that stood lost then, each with its last
+        span in that time."""
+        nodes, found, begin = self.story.config.logs[log].nodes, {}, 0
+        for step in sorted({s.step for n in nodes for s in self.story.spans[n] if s.step < end}, reverse=True):
+            spans = {n: self.story.span_at(n, step) for n in nodes}
+            lost = {n: s for n, s in spans.items() if log in s.lost and (s.lost[log] is None or s.lost[log] >= epoch)}
+            if len(lost) >= copies:
+                begin, found = step, {n: found.get(n, s) for n, s in lost.items()}
+            elif found:
+                break
+        return begin, found
