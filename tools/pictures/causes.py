@@ -45,7 +45,8 @@ class Causes:
         point, name = self.story.lines[best].fields[0], self.story.lines[best].actor[2:]
         told = [m.line for m in self.sent_by.get(("trim", f"s.{name}"), []) if m.lsn == point]
         closes = [at for (of, _), at in self.cleans.items() if of == log and best < at < item.line]
-        answers = [m.line for m in self.taken_by.get(("readtrim", item.reader), []) if m.lsn == item.high and m.line < item.line]
+        answers = [m.line for m in self.taken_by.get(("readtrim", item.reader), []) if m.lsn == item.high]
+        answers = [at for at in answers if at < item.line]
         parts = [
             (f"Sequencer {name} let all up to {point} go.", [best]),
             ("It told the nodes.", told),
@@ -78,7 +79,8 @@ class Causes:
             return [("Epoch 0 never had a record. It counts as closed, and a reader is led over it.", [])]
         at = self.cleans.get((log, epoch))
         if at is None:
-            return [(f"Epoch {epoch} has no `clean` line: it was closed in a call of the register that failed after its change.", [])] + self.of_plans(item, epoch, log)
+            told = f"Epoch {epoch} has no `clean` line: it was closed in a call of the register that failed after its change."
+            return [(told, [])] + self.of_plans(epoch, log)
         name, end = self.story.lines[at].actor, self.story.lines[at].fields[0]
         told = [(f"Sequencer {name[2:]} closed epoch {epoch}; it ends at {end}.", [at])]
         plan = self.stores.get((name, epoch), [])
@@ -92,11 +94,11 @@ class Causes:
         rest = [m.line for m in plan if m.line not in set(mine)]
         told.append(("The other stores of that plan.", rest))
         made = min((m.sent for m in plan), default=-1)
-        pages = [m.line for m in self.taken_by.get(("digestpage", name), []) if home(m.lsn) == epoch and m.takings and m.takings[0].step <= made]
-        told.append(("The plan was made from these digest pages.", pages))
+        pages = [m for m in self.taken_by.get(("digestpage", name), []) if home(m.lsn) == epoch and m.takings]
+        told.append(("The plan was made from these digest pages.", [m.line for m in pages if m.takings[0].step <= made]))
         return [part for part in told if part[1]]
 
-    def of_plans(self, item, epoch, log):
+    def of_plans(self, epoch, log):
         """The stores of each sequencer that recovered the epoch."""
         return [
             (f"Sequencer {name[2:]} recovered epoch {epoch} with these stores.", [m.line for m in plan])
@@ -123,7 +125,9 @@ class Causes:
         moment, lost = self.moment(item.step, log, epoch, copies)
         if not lost:
             return [("No moment is told at which enough nodes stood lost.", [])]
-        told = [(f"From step {moment + 1} on, nodes {', '.join(map(str, lost))} stood lost for epoch {epoch}: with a replication factor of {copies} these may have been all that kept it.", [])]
+        names = ", ".join(map(str, lost))
+        what = f"From step {moment + 1} on, nodes {names} stood lost for epoch {epoch}."
+        told = [(f"{what} A record is acknowledged once {copies} keep it, so these may have been all that did.", [])]
         for node, span in lost.items():
             since = span.since.get(log, [])
             told.append((f"Node {node} stood lost since these lines." if since else f"Node {node} was blank from the start.", since))

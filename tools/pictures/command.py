@@ -37,6 +37,8 @@ def main(usage, make):
         story = read_story(*words)
     except (Unreadable, OSError) as why:
         sys.exit(str(why))
+    if not story.steps:
+        sys.exit("\n".join(story.notes + ["no event was run, so there is nothing to draw"]))
     for note in story.notes:
         print(note, file=sys.stderr)
     made = make(story)

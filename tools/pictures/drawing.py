@@ -1,7 +1,4 @@
 """Draws a story: pieces of SVG for each step, message and span, and the whole picture of them."""
-from html import escape
-from math import hypot
-
 from . import ink
 from .formats import shorten
 from .ink import ROW, pill, short, text
@@ -78,7 +75,8 @@ class Drawing:
             elif len(actors) == 1:
                 out.append(text(x, -23, "kind", kinds[actors[0][0]]) + text(x, -8, "head", names))
             else:
-                out.append(text(x, -23, "kind", kinds[actors[0][0]] + "s") + f"<g><title>{names}</title>{text(x, -8, 'head', shorten(names, 13))}</g>")
+                shown = f"<g><title>{names}</title>{text(x, -8, 'head', shorten(names, 13))}</g>"
+                out.append(text(x, -23, "kind", kinds[actors[0][0]] + "s") + shown)
         return "".join(out)
 
     # ---- rows
@@ -109,36 +107,33 @@ class Drawing:
 
     def acted(self, step, event, lines, x, y):
         """The dot at the actor, what it took and what it wrote."""
-        is_quiet = lines[0].kind == "none"
-        out = [f'<circle class="dot{" none" if is_quiet else ""}" cx="{short(x)}" cy="{short(y)}" r="{3.6 if is_quiet else 4.4}"/>']
-        at = x + 10
+        kind, radius = ("dot none", 3.6) if lines[0].kind == "none" else ("dot", 4.4)
+        out, at = [f'<circle class="{kind}" cx="{short(x)}" cy="{short(y)}" r="{radius}"/>'], x + 10
         if step.message is not None:
-            message = self.story.messages[step.message]
-            label, family = self.named(step.actor, f"{message.kind} {message.lsn}"), ink.FAMILY[message.kind]
-            if self.columns.get(message.sender, 0) > x:
-                # on the side that the arrow doesn't come from
-                out.append(text(x - 9, y + 3.7, f"label {family} before", label))
-            else:
-                out.append(text(at, y + 3.7, f"label {family}", label))
-                at += ink.width(label, 11.5) + 8
-        items = 0
+            piece, at = self.taken_label(step, x, at, y)
+            out.append(piece)
         for kind, words in self.marks(event, lines):
             piece, at = pill(at, y, kind, self.named(step.actor, words) if step.message is None else words)
             out.append(piece)
             at += 5
-        for line in lines:
-            if line.number - 1 in self.items_of:
-                items += 1
-                if items <= MOST_ITEMS:
-                    number, item = self.items_of[line.number - 1]
-                    piece, at = ink.cell(at, y, item, number)
-                    out.append(piece)
-                    at += 4
-        if items > MOST_ITEMS:
-            out.append(text(at, y + 3.7, "said", f"and {items - MOST_ITEMS} more"))
+        items = [self.items_of[l.number - 1] for l in lines if l.number - 1 in self.items_of]
+        for number, item in items[:MOST_ITEMS]:
+            piece, at = ink.cell(at, y, item, number)
+            out.append(piece)
+            at += 4
+        if len(items) > MOST_ITEMS:
+            out.append(text(at, y + 3.7, "said", f"and {len(items) - MOST_ITEMS} more"))
             at += 80
         self.width = max(self.width, at)
         return "".join(out)
+
+    def taken_label(self, step, x, at, y):
+        """What a step took, on the side that the arrow doesn't come from; and where what follows may begin."""
+        message = self.story.messages[step.message]
+        label, family = self.named(step.actor, f"{message.kind} {message.lsn}"), ink.FAMILY[message.kind]
+        if self.columns.get(message.sender, 0) > x:
+            return text(x - 9, y + 3.7, f"label {family} before", label), at
+        return text(at, y + 3.7, f"label {family}", label), at + ink.width(label, 11.5) + 8
 
     def named(self, actor, words):
         """The words, with the actor's name where its column has others too."""
@@ -147,7 +142,7 @@ class Drawing:
     def stillborn(self, actor, line, y):
         """A sequencer or reader that was refused has no column: it is told beside the register."""
         x = self.columns["register"]
-        mark = "" if actor[0] == "r" else f'<path class="diamond" d="M{short(x - 6)},{short(y)}l6,-6 6,6 -6,6z"/>'
+        mark = "" if actor[0] == "r" else ink.diamond(x, y)
         return mark + pill(x + 9, y, "refused", f"{actor[2:]} refused: " + " ".join(line.fields))[0]
 
     def marks(self, event, lines):
@@ -182,14 +177,14 @@ class Drawing:
     def call(self, number, step, lines):
         """The call of the register in a step, where one is told: a dotted line to it and what it gave."""
         told = {"active": "epoch {}", "clean": "closed {}", "formatted": "generation {}"}
+        refusals = ("register", "epochlimit", "genlimit")
         for line in lines:
-            is_refused = line.kind in ("refused", "unformatted") and line.fields[-1] in ("register", "epochlimit", "genlimit")
+            is_refused = line.kind in ("refused", "unformatted") and line.fields[-1] in refusals
             if (line.kind in told or is_refused) and step.actor in self.columns:
                 x, y = self.columns["register"], self.y(number)
                 path = f'<path class="call" d="M{short(x)},{short(y)}H{short(self.columns[step.actor])}"/>'
-                mark = f'<path class="diamond" d="M{short(x - 6)},{short(y)}l6,-6 6,6 -6,6z"/>'
                 words = "call failed" if is_refused else told[line.kind].format(line.fields[0])
-                return path + mark + text(x + 10, y + 3.7, "said", words)
+                return path + ink.diamond(x, y) + text(x + 10, y + 3.7, "said", words)
         return ""
 
     # ---- messages
@@ -197,50 +192,44 @@ class Drawing:
     def point(self, actor, step):
         return self.columns[actor], self.y(step)
 
-    def arrow(self, start, end, gap=7):
-        """A line and its tip; and the direction at its end."""
-        (a, b), (c, d) = start, end
-        far = hypot(c - a, d - b) or 1
-        u, v = (c - a) / far, (d - b) / far
-        c, d = c - u * gap, d - v * gap
-        tips = f"M{short(c)},{short(d)}L{short(c - 7 * u + 3 * v)},{short(d - 7 * v - 3 * u)} {short(c - 7 * u - 3 * v)},{short(d - 7 * v + 3 * u)}z"
-        return f"M{short(a + 4 * u)},{short(b + 4 * v)}L{short(c - 5 * u)},{short(d - 5 * v)}", tips
-
     def arrows_of(self, message):
         """The arrow of a message, and one for each repeat."""
         if message.sender not in self.columns or message.taker not in self.columns:
             return []
-        start = self.point(message.sender, message.sent)
-        family, fate = ink.FAMILY[message.kind], message.fate()
-        title = f"<title>message {message.id}: {message.kind} {message.lsn}, {message.sender} to {message.taker}"
-        if fate == "taken":
-            end = message.first()
-            line, tip = self.arrow(start, self.point(message.taker, end))
-            body = f'<path class="arrow" d="{line}"/><path class="tip" d="{tip}"/>'
-        elif fate == "lost":
-            end = message.lost
-            x, y = self.point(message.taker, end)
-            x += -16 if x > start[0] else 16
-            line, _ = self.arrow(start, (x, y), 6)
-            label = f"{message.kind} {message.lsn}, lost"
-            body = f'<path class="arrow" d="{line}"/><path class="cross" d="M{short(x - 5)},{short(y - 5)}l10,10m0,-10l-10,10"/>' + text(x + 10, y + 3.7, "label", label)
-            self.width = max(self.width, x + 18 + ink.width(label, 11.5))
-        else:
-            end = message.sent
-            x, y = start[0] + (self.columns[message.taker] - start[0]) * 0.42, start[1] + ROW * 0.62
-            body = f'<path class="arrow" d="M{short(start[0])},{short(start[1])}L{short(x)},{short(y)}"/><circle class="ring" cx="{short(x)}" cy="{short(y)}" r="3.4"/>'
+        start, family, fate = self.point(message.sender, message.sent), ink.FAMILY[message.kind], message.fate()
+        drawn = {"taken": self.taken, "lost": self.lost, "never": self.never}[fate]
+        body, end = drawn(message, start)
+        title = f"message {message.id}: {message.kind} {message.lsn}, {message.sender} to {message.taker}"
         ends = {"taken": "", "lost": ", lost", "never": ", never delivered"}[fate]
-        found = [(message.sent, end, message.id, f'<g class="msg {family} fate-{fate}" data-m="{message.id}">{title}{ends}</title>{body}</g>')]
+        group = f'<g class="msg {family} fate-{fate}" data-m="{message.id}"><title>{title}{ends}</title>{body}</g>'
+        found = [(message.sent, end, message.id, group)]
         for taking in message.takings:
             if taking.is_repeat:
-                line, tip = self.arrow(start, self.point(message.taker, taking.step))
-                body = f'<path class="arrow" d="{line}"/><path class="tip" d="{tip}"/>'
-                found.append((message.sent, taking.step, message.id, f'<g class="again {family}" data-again="{message.id}">{title}, again</title>{body}</g>'))
+                body = ink.arrow(start, self.point(message.taker, taking.step))
+                group = f'<g class="again {family}" data-again="{message.id}"><title>{title}, again</title>{body}</g>'
+                found.append((message.sent, taking.step, message.id, group))
         return found
+
+    def taken(self, message, start):
+        return ink.arrow(start, self.point(message.taker, message.first())), message.first()
+
+    def lost(self, message, start):
+        """To a cross beside the one it was for, in the step that lost it."""
+        x, y = self.point(message.taker, message.lost)
+        x += -16 if x > start[0] else 16
+        label = f"{message.kind} {message.lsn}, lost"
+        self.width = max(self.width, x + 18 + ink.width(label, 11.5))
+        return ink.line(start, (x, y)) + ink.cross(x, y) + text(x + 10, y + 3.7, "label", label), message.lost
+
+    def never(self, message, start):
+        """A stub with a ring, towards the one it is for."""
+        x, y = start[0] + (self.columns[message.taker] - start[0]) * 0.42, start[1] + ROW * 0.62
+        return ink.line(start, (x, y)) + f'<circle class="ring" cx="{short(x)}" cy="{short(y)}" r="3.4"/>', message.sent
 
     # ---- how long things stand
 
     def lifelines(self):
+        """The lines and bands of all columns."""
         story, last = self.story, len(self.story.steps) - 1
         spans = [self.line("register", 0, last, "thin")]
         for node in story.config.nodes:
@@ -265,8 +254,9 @@ class Drawing:
         return first, last, f'<path class="{kind}" d="M{short(x)},{short(low)}V{short(self.y(last) + ROW / 2)}"/>'
 
     def band(self, column, first, last, kind, wide):
-        x, low = self.columns[column], self.y(first)
-        return first, last, f'<rect class="{kind}" x="{short(x - wide / 2)}" y="{short(low)}" width="{wide}" height="{short(self.y(last) - low)}" rx="2"/>'
+        x, low = self.columns[column] - wide / 2, self.y(first)
+        box = f'x="{short(x)}" y="{short(low)}" width="{wide}" height="{short(self.y(last) - low)}" rx="2"'
+        return first, last, f'<rect class="{kind}" {box}/>'
 
     def of_node(self, node, last):
         spans, out, key = self.story.spans[node], [], f"n.{node}"

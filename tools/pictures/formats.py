@@ -68,8 +68,11 @@ class Unreadable(Exception):
 
 
 class Log(NamedTuple):
+    """A log's nodes, its replication factor and its extras."""
+
     nodes: list
     copies: int
+    extras: int
 
 
 class Config(NamedTuple):
@@ -135,7 +138,7 @@ def read_config(text, name):
         config = json.loads(text)
         nodes, logs = config["nodes"], {}
         for log in config["logs"]:
-            logs[log["id"]] = Log(sorted(log["set"]), log["r"])
+            logs[log["id"]] = Log(sorted(log["set"]), log["r"], log.get("extras", 0))
             if not set(log["set"]) <= set(nodes) or not 1 <= log["r"] <= len(log["set"]):
                 refuse(f"log {log['id']} has a set or an `r` that doesn't fit")
         if not nodes or not all(type(n) is int and 1 <= n <= 16 for n in nodes):

@@ -20,7 +20,8 @@ function drawPicture(always) {
   if (!always && shown[0] === top && shown[1] === end) return;
   shown = [top, end];
   const inside = piece => piece[0] < end && piece[1] >= top;
-  const now = state.step >= top && state.step < end ? `<rect class="now" x="0" y="${state.step * run.row}" width="${run.width}" height="${run.row}"/>` : "";
+  const isThere = state.step >= top && state.step < end;
+  const now = isThere ? `<rect class="now" y="${state.step * run.row}" width="${run.width}" height="${run.row}"/>` : "";
   // a row more, for what a message of the last step reaches to
   for (const [part, wide] of [[svg, run.width], [gutter, run.left]]) {
     part.style.top = `${top * tall}px`;
@@ -28,7 +29,8 @@ function drawPicture(always) {
     part.setAttribute("height", (end - top + 1) * tall);
     part.setAttribute("viewBox", `0 ${top * run.row} ${wide} ${(end - top + 1) * run.row}`);
   }
-  gutter.innerHTML = `<rect class="shade" y="${top * run.row}" width="${run.left}" height="${(end - top + 1) * run.row}"/>${now}${run.gutters.slice(top, end).join("")}`;
+  const shade = `<rect class="shade" y="${top * run.row}" width="${run.left}" height="${(end - top + 1) * run.row}"/>`;
+  gutter.innerHTML = shade + now + run.gutters.slice(top, end).join("");
   svg.innerHTML = now + run.spans.filter(inside).map(piece => piece[2]).join("") +
     run.arrows.filter(inside).map(piece => piece[3]).join("") + run.rows.slice(top, end).join("");
   light();
@@ -37,8 +39,8 @@ function drawPicture(always) {
 function sizePicture() {
   $("room").style.height = `${(run.steps.length + 1) * run.row * state.zoom}px`;
   $("room").style.width = `${run.width * state.zoom}px`;
-  const heads = `<svg class="run" width="${run.width * state.zoom}" height="${40 * state.zoom}" viewBox="0 -40 ${run.width} 40">${run.heads}</svg>`;
-  $("heads").innerHTML = heads;
+  const size = `width="${run.width * state.zoom}" height="${40 * state.zoom}" viewBox="0 -40 ${run.width} 40"`;
+  $("heads").innerHTML = `<svg class="run" ${size}>${run.heads}</svg>`;
   $("zoom").textContent = `${Math.round(state.zoom * 100)}%`;
   drawPicture(true);
 }
@@ -134,7 +136,8 @@ function drawStanding() {
   $("step").textContent = `step ${state.step + 1} of ${last + 1}`;
   const rows = run.standing.map(([node, spans]) => {
     const [, name, lost] = standingAt(spans, state.step);
-    return `<tr data-node="${node}"><td>node ${node}</td><td><span class="state ${name}">${name}</span> ${lost ? `<span class="state lost">${lost}</span>` : ""}</td></tr>`;
+    const more = lost ? ` <span class="state lost">${lost}</span>` : "";
+    return `<tr data-node="${node}"><td>node ${node}</td><td><span class="state ${name}">${name}</span>${more}</td></tr>`;
   });
   $("standing").querySelector("table").innerHTML = rows.join("");
   const flying = run.flying[state.step];
@@ -199,10 +202,14 @@ function tellHits() {
 
 // ---- what readers got, and why
 
+function tapeCell(item, number) {
+  const title = `${item.kind} ${item.label}`;
+  return `<button class="cell ${item.letter}" data-item="${number}" title="${title}"><b>${item.letter}</b>${item.label}</button>`;
+}
+
 function drawTapes() {
   $("tapes").innerHTML = run.readers.map(([name, told]) => {
-    const cells = run.items.map((item, number) => item.reader !== name ? "" :
-      `<button class="cell ${item.letter}" data-item="${number}" title="${item.kind} ${item.label}"><b>${item.letter}</b>${item.label}</button>`);
+    const cells = run.items.map((item, number) => item.reader !== name ? "" : tapeCell(item, number));
     return `<div class="tape"><b title="${told}">reader ${name}</b><div>${cells.join("") || "nothing yet"}</div></div>`;
   }).join("");
 }
@@ -217,18 +224,23 @@ function showWhy(number) {
       state.ledLines.add(line);
       if (run.message[line] >= 0) state.led.add(run.message[line]);
     }
-    const told = lines.map(line => `<button class="line" data-line="${line}"><i>${run.stepOf[line] + 1}</i>${lineText(line)}</button>`).join("");
-    return `<p>${escaped(sentence)}</p>${told}${more ? `<p>and ${more} more</p>` : ""}`;
+    const button = line => `<button class="line" data-line="${line}"><i>${run.stepOf[line] + 1}</i>${lineText(line)}</button>`;
+    return `<p>${escaped(sentence)}</p>${lines.map(button).join("")}${more ? `<p>and ${more} more</p>` : ""}`;
   });
   $("why").hidden = false;
   $("why").querySelector("h2").textContent = `Why reader ${item.reader} got ${NAMES[item.kind]} ${item.label}`;
   $("why").querySelector("div").innerHTML = parts.join("");
-  for (const cell of document.querySelectorAll(".cell")) cell.classList.toggle("chosen", Number(cell.dataset.item) === number);
+  choose(number);
   state.pinned = -1;
   goTo(item.step);
   // where the lines that led to it fit into sight with it, they are
   const begin = Math.min(item.step, ...[...state.ledLines].map(line => run.stepOf[line])), tall = run.row * state.zoom;
-  if ((item.step - begin + 4) * tall < $("picture").clientHeight - $("heads").offsetHeight) $("picture").scrollTop = (begin - 1) * tall;
+  const room = $("picture").clientHeight - $("heads").offsetHeight;
+  if ((item.step - begin + 4) * tall < room) $("picture").scrollTop = (begin - 1) * tall;
+}
+
+function choose(number) {
+  for (const cell of document.querySelectorAll(".cell")) cell.classList.toggle("chosen", Number(cell.dataset.item) === number);
 }
 
 function closeWhy() {
@@ -236,6 +248,6 @@ function closeWhy() {
   state.led = new Set();
   state.ledLines = new Set();
   state.pinned = state.item = -1;
-  document.querySelectorAll(".cell.chosen").forEach(cell => cell.classList.remove("chosen"));
+  choose(-1);
   drawLines();
 }

@@ -9,6 +9,7 @@ from .formats import shorten
 from .picture import legend
 
 HERE = pathlib.Path(__file__).resolve().parent
+SCRIPTS = ("page.js", "page-test.js", "page-input.js")
 MOST_LINES, MOST_TEXT = 60, 160
 
 
@@ -44,9 +45,8 @@ def items(story):
     out = []
     for item in story.items:
         why = [[sentence, lines[:MOST_LINES], max(0, len(lines) - MOST_LINES)] for sentence, lines in causes.of(item)]
-        out.append(
-            {"reader": item.reader[2:], "kind": item.kind, "letter": item.letter(), "label": item.label(), "line": item.line, "step": item.step, "why": why}
-        )
+        told = {"reader": item.reader[2:], "kind": item.kind, "letter": item.letter(), "label": item.label()}
+        out.append(told | {"line": item.line, "step": item.step, "why": why})
     return out
 
 
@@ -84,7 +84,7 @@ def make(story):
     parts = {
         "@TITLE@": escape(story.name),
         "@STYLE@": ink.STYLE + (HERE / "page.css").read_text(),
-        "@SCRIPT@": (HERE / "page.js").read_text() + (HERE / "page-ears.js").read_text(),
+        "@SCRIPT@": "".join((HERE / f).read_text() for f in SCRIPTS),
         "@DATA@": told,
     }
     page = (HERE / "page.html").read_text()

@@ -28,34 +28,58 @@ def strips(drawing, top):
 
 
 def legend(top):
-    """What the signs mean, in three rows; and where they end."""
-    y, x, out = top + 12, 24, []
-    names = {"write": "store, stored", "digest": "digests", "tell": "clean, release, trim", "read": "reading", "turn": "sealed, lost, clean or trimmed here"}
+    """What the signs mean, in three rows; where they end below, and on the right."""
+    rows = [families(top + 12), fates_and_standings(top + 36), items_and_marks(top + 60)]
+    return "".join(piece for piece, _ in rows), top + 84, max(x for _, x in rows) + 20
+
+
+def families(y):
+    names = {
+        "write": "store, stored", "digest": "digests", "tell": "clean, release, trim", "read": "reading",
+        "turn": "sealed, lost, clean or trimmed here",
+    }
+    x, out = 24, []
     for family, words in names.items():
-        out.append(f'<g class="{family}"><path class="arrow" d="M{x},{y}h26"/><path class="tip" d="M{x + 32},{y}l-8,-3.5v7z"/>{text(x + 38, y + 4, "label", words)}</g>')
+        out.append(f'<g class="{family}">{ink.arrow((x - 4, y), (x + 40, y))}{text(x + 38, y + 4, "label", words)}</g>')
         x += 56 + ink.width(words, 11.5)
-    y, x = y + 24, 24
-    for kind, mark, words in (
-        ("fate-lost", f'<path class="cross" d="M{{}},{y - 5}l10,10m0,-10l-10,10"/>', "lost"),
-        ("fate-never", f'<circle class="ring" cx="{{}}" cy="{y}" r="3.4"/>', "never delivered"),
-        ("again", f'<path class="tip" d="M{{}},{y - 3.5}l8,3.5 -8,3.5z"/>', "delivered again, or after it was lost"),
-    ):
-        out.append(f'<g class="write {kind}"><path class="arrow" d="M{x},{y}h24"/>{mark.format(x + 26)}</g>' + text(x + 42, y + 4, "", words))
+    return "".join(out), x
+
+
+def fates_and_standings(y):
+    x, out = 24, []
+    for kind, words in (("fate-lost", "lost"), ("fate-never", "never delivered"), ("again", "delivered again, or after it was lost")):
+        if kind == "again":
+            sign = ink.arrow((x, y), (x + 41, y))
+        else:
+            sign = ink.line((x, y), (x + 26, y)) + (ink.cross(x + 31, y) if kind == "fate-lost" else ring(x + 28, y))
+        out.append(f'<g class="write {kind}">{sign}</g>{text(x + 42, y + 4, "", words)}')
         x += 60 + ink.width(words, 11.5)
     for kind, words in (("life", "up"), ("blank", "blank"), ("down", "down"), ("failed", "failed"), ("lost", "lost for a log")):
-        mark = f'<path class="{kind}" d="M{short(x + 6)},{y - 8}v16"/>' if kind in ("life", "blank") else f'<rect class="{kind}" x="{short(x + 1)}" y="{y - 8}" width="10" height="16" rx="2"/>'
-        out.append(mark + text(x + 18, y + 4, "", words))
+        if kind in ("life", "blank"):
+            sign = f'<path class="{kind}" d="M{short(x + 6)},{y - 8}v16"/>'
+        else:
+            sign = f'<rect class="{kind}" x="{short(x + 1)}" y="{y - 8}" width="10" height="16" rx="2"/>'
+        out.append(sign + text(x + 18, y + 4, "", words))
         x += 36 + ink.width(words, 11.5)
-    y, x = y + 24, 24
-    for kind, words in (("record", "record"), ("trim", "trim gap"), ("hole", "hole"), ("bridge", "bridge to the next epoch"), ("dataloss", "data loss")):
+    return "".join(out), x
+
+
+def ring(x, y):
+    return f'<circle class="ring" cx="{short(x)}" cy="{short(y)}" r="3.4"/>'
+
+
+def items_and_marks(y):
+    x, out = 24, []
+    kinds = {"record": "record", "trim": "trim gap", "hole": "hole", "bridge": "bridge to the next epoch", "dataloss": "data loss"}
+    for kind, words in kinds.items():
         piece, x = ink.cell(x, y, Item("", kind, words, words, "", 0, 0), -1)
         out.append(piece.replace(' data-item="-1"', ""))
         x += 10
-    for kind, words in (("appended", "appended"), ("acked", "acked"), ("released", "released"), ("trimmed", "trimmed"), ("closed", "closed")):
-        piece, x = pill(x, y, kind, words)
+    for kind in ("appended", "acked", "released", "trimmed", "closed"):
+        piece, x = pill(x, y, kind, kind)
         out.append(piece)
         x += 6
-    return "".join(out), y + 24, x + 20
+    return "".join(out), x
 
 
 def draw(story):
@@ -64,12 +88,13 @@ def draw(story):
     height = len(story.steps) * ROW
     below, bottom = strips(drawing, height + 56)
     signs, bottom, least = legend(bottom + 6)
-    wide, high = max(drawing.width, least), TOP + bottom
+    wide, high = short(max(drawing.width, least)), short(TOP + bottom)
     notes = "".join(text(24, 52 + 15 * n, "note", note) for n, note in enumerate(story.notes))
+    size = f'width="{wide}" height="{high}"'
     parts = [
-        f'<svg xmlns="http://www.w3.org/2000/svg" class="run" width="{short(wide)}" height="{short(high)}" viewBox="0 0 {short(wide)} {short(high)}">',
+        f'<svg xmlns="http://www.w3.org/2000/svg" class="run" {size} viewBox="0 0 {wide} {high}">',
         f"<title>{escape(story.name)}</title><style>{ink.STYLE}</style>{ink.DEFS}",
-        f'<rect class="paper" width="{short(wide)}" height="{short(high)}"/>{text(24, 32, "title", story.name)}{notes}',
+        f'<rect class="paper" {size}/>{text(24, 32, "title", story.name)}{notes}',
         f'<g transform="translate(0,{TOP})">{drawing.heads()}',
         "<g>" + "\n".join(piece for _, _, piece in drawing.spans) + "</g>",
         "<g>" + "\n".join(piece for _, _, _, piece in drawing.arrows) + "</g>",

@@ -66,7 +66,7 @@ def actor_of(event):
 
 class Splitter:
     def __init__(self, schedule, lines, name):
-        self.events, self.lines, self.name = schedule.events, lines, name
+        self.events, self.lines, self.name, self.logs = schedule.events, lines, name, schedule.config.logs
         self.messages = [l for l in lines if l.kind == "msg"]
         self.letters = "".join(self.letter(l) for l in lines)
         self.epochs = {}
@@ -98,10 +98,13 @@ class Splitter:
     def gather(self):
         """Who has which log, which numbers each node is known to have stored and for which epoch's sequencer, by whom each
         epoch was closed, and when each node lost its disk."""
-        self.log_of, self.stored, self.wiped, self.closed, self.taken = {}, {}, {}, {}, {}
+        self.log_of, self.stored, self.wiped, self.closed, self.taken, self.choice = {}, {}, {}, {}, {}, {}
         for event in self.events:
             if event.word in ("activate", "open"):
                 self.log_of.setdefault(actor_of(event), int(event.args[1]))
+        for actor, log in self.log_of.items():
+            if log in self.logs:
+                self.choice[actor] = self.logs[log].copies + self.logs[log].extras
         for line in self.lines:
             if line.kind == "wiped":
                 self.wiped.setdefault(line.actor, []).append(line.number)
@@ -122,8 +125,9 @@ class Splitter:
         return int(one[2][2:]) < int(two[2][2:])
 
     def in_order(self, at, end):
-        """How far the messages from `at` on are in the order of one step, each told once."""
-        told = set()
+        """How far the messages from `at` on are in the order of one step, each told once, and no number stored at more
+        nodes than a choice has."""
+        told, stores, most = set(), {}, self.choice.get(self.lines[at].actor, 16)
         for k in range(at, end):
             line = self.lines[k]
             if line.kind != "msg":
@@ -131,6 +135,10 @@ class Splitter:
             what = tuple(line.fields[2:])
             if what in told or (k > at and self.letters[k - 1] == self.letters[k] and not self.rises(self.lines[k - 1], line)):
                 return k
+            if line.fields[3] == "store":
+                stores[line.fields[4]] = stores.get(line.fields[4], 0) + 1
+                if stores[line.fields[4]] > most:
+                    return k
             told.add(what)
         return end
 
@@ -145,8 +153,8 @@ class Splitter:
         end = self.in_order(at, found.end() if found else at)
         if end == at:
             return []
-        if shape == "tick":
-            return list(range(at + 1, end + 1))
+        if shape in ("append", "retry", "tick"):
+            return [k for k in range(at + 1, end) if self.lines[k].kind == "msg"] + [end]
         if shape[0] != "r":
             return [end]
         if self.letters[at] == "K" and not self.has_lost(actor, message):
