@@ -1,8 +1,9 @@
 // Digests of pages as nodes give them.
 use crate::{Added, Digest, Page};
-use ld_ids::{LogId, NodeId, NodeSet, Spec};
+use ld_ids::{LogId, NoMemory, NodeId, NodeSet, Spec};
 use ld_lsn::Lsn;
 use ld_msg::Entries;
+use std::alloc::Global;
 use std::test::Fail;
 
 // The greatest place of an epoch.
@@ -24,44 +25,50 @@ fn five_nodes(log: LogId) -> Spec {
     }
 }
 
+// What a node's page without entries leads to, from a place of epoch 1 up to another: the place to ask on from, 1 where the node
+// is whole, 0 where the page is ignored.
+fn adds(
+    alloc: Global,
+    digest: &mut Digest,
+    node: NodeId,
+    from: u32,
+    upto: u32,
+) -> Result<u32, NoMemory> {
+    let entries = Entries::empty(alloc);
+    let page = Page {
+        from: Lsn::new(1, from),
+        upto: Lsn::new(1, upto),
+        trim: Lsn::from_u64(0),
+        entries: &entries,
+    };
+    match digest.add(alloc, node, &page)? {
+        Added::Ask(next) => Ok(next.esn()),
+        Added::Whole => Ok(1),
+        Added::Ignored => Ok(0),
+    }
+}
+
 #[test]
 fn three_whole_nodes_of_five_are_enough(rt: HostRuntime) -> Result<(), Fail> {
     let alloc = rt.alloc();
-    if let (Some(log), Some(one), Some(two), Some(three), Some(six)) = (
-        LogId::new(1),
-        NodeId::new(1),
-        NodeId::new(2),
-        NodeId::new(3),
-        NodeId::new(6),
-    ) {
-        let entries = Entries::empty(alloc);
-        let first = Page {
-            from: Lsn::new(1, 1),
-            upto: Lsn::new(1, 64),
-            trim: Lsn::from_u64(0),
-            entries: &entries,
-        };
-        let last = Page {
-            from: Lsn::new(1, 65),
-            upto: Lsn::new(1, LAST),
-            ..first
-        };
-        let whole = Page {
-            upto: Lsn::new(1, LAST),
-            ..first
-        };
-        let mut digest = Digest::new(alloc, &five_nodes(log), 1)?;
-        assert!(rt; digest.add(alloc, one, &first)? == Added::Ask(Lsn::new(1, 65)));
-        assert!(rt; digest.add(alloc, one, &first)? == Added::Ignored);
-        assert!(rt; digest.add(alloc, one, &last)? == Added::Whole);
-        assert!(rt; digest.add(alloc, one, &last)? == Added::Ignored);
-        assert!(rt; digest.add(alloc, six, &whole)? == Added::Ignored);
-        assert!(rt; digest.add(alloc, two, &whole)? == Added::Whole);
-        assert!(rt; !digest.enough());
-        assert!(rt; digest.add(alloc, three, &whole)? == Added::Whole);
-        assert!(rt; digest.enough());
-        digest.lost(three);
-        assert!(rt; !digest.enough());
+    let log = LogId::new(1).expect(&rt, "a log");
+    let mut digest = Digest::new(alloc, &five_nodes(log), 1)?;
+    // a node, where its page begins and ends, what that leads to, and whether it is enough
+    let rows = [
+        (1, 1, 64, 65, false),
+        (1, 1, 64, 0, false),
+        (1, 65, LAST, 1, false),
+        (1, 65, LAST, 0, false),
+        (6, 1, LAST, 0, false),
+        (2, 1, LAST, 1, false),
+        (3, 1, LAST, 1, true),
+    ];
+    'rows: for (number, from, upto, added, enough) in rows {
+        let node = NodeId::new(number).expect(&rt, "a node");
+        assert_eq!(rt; adds(alloc, &mut digest, node, from, upto)?, added);
+        assert_eq!(rt; digest.enough(), enough);
     }
+    digest.lost(NodeId::new(3).expect(&rt, "a node"));
+    assert!(rt; !digest.enough());
     Ok(())
 }
