@@ -6,9 +6,9 @@ use ld_msg::{Body, Entries};
 use std::alloc::Global;
 use std::test::Fail;
 
-// What a verdict is, as one letter.
-fn letter(verdict: &Verdict) -> u8 {
-    match verdict {
+// What the answers that are held show of e1n1, as one letter, where a loss may be confirmed.
+fn letter(set: &NodeSet, held: &Held) -> u8 {
+    match decide(Lsn::new(1, 1), true, set, held) {
         Verdict::Gives(Item::Trim(_)) => b't',
         Verdict::Gives(Item::Record(_)) => b'r',
         Verdict::Gives(Item::Hole) => b'h',
@@ -18,40 +18,60 @@ fn letter(verdict: &Verdict) -> u8 {
     }
 }
 
-// A page of e1n1 to e1n9 without entries.
-fn empty_page(alloc: Global, clean: bool) -> Body {
-    Body::ReadPage {
-        round: 1,
-        from: Lsn::new(1, 1),
-        upto: Lsn::new(1, 9),
-        clean,
-        entries: Entries::empty(alloc),
-    }
+// A node gives a page of e1n1 to e1n9 without entries.
+fn hold_empty_page(alloc: Global, held: &mut Held, node: NodeId, clean: bool) {
+    held.hold(
+        node,
+        Body::ReadPage {
+            round: 1,
+            from: Lsn::new(1, 1),
+            upto: Lsn::new(1, 9),
+            clean,
+            entries: Entries::empty(alloc),
+        },
+    );
+}
+
+// A node says that it lost epoch 1.
+fn hold_lost(held: &mut Held, node: NodeId) {
+    held.hold(
+        node,
+        Body::LostHere {
+            number: Lsn::new(1, 1),
+            round: 1,
+            generation: 2,
+            end: Lsn::from_u64(0),
+        },
+    );
+}
+
+// A node tells a trim up to a place of epoch 1.
+fn hold_trim(held: &mut Held, node: NodeId, round: u32, esn: u32) {
+    held.hold(
+        node,
+        Body::ReadTrim {
+            round,
+            from: Lsn::new(1, 1),
+            trim: Lsn::new(1, esn),
+        },
+    );
 }
 
 #[test]
 fn only_clean_pages_and_lost_nodes_together_are_a_loss(rt: HostRuntime) -> Result<(), Fail> {
     let alloc = rt.alloc();
-    if let (Some(one), Some(two)) = (NodeId::new(1), NodeId::new(2)) {
-        let set = NodeSet::empty().with(one).with(two);
-        let next = Lsn::new(1, 1);
-        let mut held = Held::nothing();
-        assert!(rt; letter(&decide(next, true, &set, &held)) == b'n');
-        held.hold(one, empty_page(alloc, true));
-        held.hold(two, empty_page(alloc, true));
-        assert!(rt; letter(&decide(next, true, &set, &held)) == b'n');
-        let lost = Body::LostHere {
-            number: next,
-            round: 1,
-            generation: 2,
-            end: Lsn::from_u64(0),
-        };
-        held.hold(two, lost);
-        assert!(rt; letter(&decide(next, true, &set, &held)) == b'c');
-        assert!(rt; letter(&decide(next, false, &set, &held)) == b'n');
-        held.hold(one, empty_page(alloc, false));
-        assert!(rt; letter(&decide(next, true, &set, &held)) == b'n');
-    }
+    let one = NodeId::new(1).expect(&rt, "a node");
+    let two = NodeId::new(2).expect(&rt, "a node");
+    let set = NodeSet::empty().with(one).with(two);
+    let mut held = Held::nothing();
+    hold_empty_page(alloc, &mut held, one, true);
+    assert_eq!(rt; letter(&set, &held), b'n');
+    hold_empty_page(alloc, &mut held, two, true);
+    assert_eq!(rt; letter(&set, &held), b'n');
+    hold_lost(&mut held, two);
+    assert_eq!(rt; letter(&set, &held), b'c');
+    hold_empty_page(alloc, &mut held, one, false);
+    assert_eq!(rt; letter(&set, &held), b'n');
     Ok(())
 }
 
@@ -59,21 +79,13 @@ fn only_clean_pages_and_lost_nodes_together_are_a_loss(rt: HostRuntime) -> Resul
 fn an_answer_of_an_equal_round_replaces_one_of_a_greater_round_stays(
     rt: HostRuntime,
 ) -> Result<(), Fail> {
-    if let Some(one) = NodeId::new(1) {
-        let set = NodeSet::empty().with(one);
-        let next = Lsn::new(1, 2);
-        let trimmed = |round: u32, esn: u32| Body::ReadTrim {
-            round,
-            from: Lsn::new(1, 1),
-            trim: Lsn::new(1, esn),
-        };
-        let mut held = Held::nothing();
-        held.hold(one, trimmed(2, 1));
-        assert!(rt; letter(&decide(next, true, &set, &held)) == b'n');
-        held.hold(one, trimmed(1, 2));
-        assert!(rt; letter(&decide(next, true, &set, &held)) == b'n');
-        held.hold(one, trimmed(2, 2));
-        assert!(rt; letter(&decide(next, true, &set, &held)) == b't');
-    }
+    let one = NodeId::new(1).expect(&rt, "a node");
+    let set = NodeSet::empty().with(one);
+    let mut held = Held::nothing();
+    hold_trim(&mut held, one, 2, 0);
+    hold_trim(&mut held, one, 1, 1);
+    assert_eq!(rt; letter(&set, &held), b'n');
+    hold_trim(&mut held, one, 2, 1);
+    assert_eq!(rt; letter(&set, &held), b't');
     Ok(())
 }
