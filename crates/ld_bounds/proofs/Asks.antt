@@ -16,8 +16,8 @@ use Rattle.ld_msg.specs.Reader.{Reader, Read, opened, is_finished, last_round, a
 use Rattle.ld_machine.specs.Config.{has_log}
 use Rattle.ld_machine.specs.Step.{sender_node}
 use Rattle.ld_bounds.specs.Readers.{IsAnswer, IsReader}
-use Rattle.ld_bounds.proofs.Alls.{all-append, all-put}
-use Rattle.ld_bounds.proofs.Posts.{IsPost}
+use Rattle.ld_node_bounds.proofs.Alls.{all-append, all-put}
+use Rattle.ld_node_bounds.proofs.Posts.{IsPost}
 
 -- ---- who answers a reader ----
 

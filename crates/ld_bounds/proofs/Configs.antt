@@ -1,5 +1,5 @@
 -- The nodes and logs of a configuration in its bounds.
-use Rattle.std.proofs.Common.{inl, inr, ◌≡◌, ◌≤◌, ◌<◌, ℕ, ◌+◌, refl, subst, Bool, true, ◌==◌, cond, List, [], ◌∷◌, length, arith}
+use Rattle.std.proofs.Common.{inl, inr, ◌≡◌, ℕ, refl, subst, Bool, true, ◌==◌, cond, List, [], ◌∷◌}
 use Rattle.std.specs.List.{AllByRecursion}
 use Rattle.std.proofs.lemmas.Bool.{cond_both, cases_Bool, eqb-true, or_cases, or_left, or_right}
 use Rattle.ld_table.specs.Words.{is_in, any_of}
@@ -9,26 +9,10 @@ use Rattle.ld_ids.specs.Choice.{nodes_of}
 use Rattle.ld_ids.specs.declared.set.Spec.{Spec}
 use Rattle.ld_config.specs.declared.config.Config.{Config}
 use Rattle.ld_config.specs.Bounds.{IsInBounds, AreSpecsOf}
+use Rattle.ld_node_bounds.proofs.Members.{members_nodes}
 use Rattle.ld_machine.specs.Config.{spec_in, set_of, has_log, has_node}
 
 -- ---- nodes ----
-
-abbrev Between : ℕ → ℕ → ℕ → Type 0
-Between low high n = (low ≤ n) × (n < high)
-
-members_between : (low node high : ℕ) (flags : List Bool) → low ≤ node → node + length flags ≤ high → AllByRecursion (Between low high) (members_from node flags)
-unfolding members_from
-members_between low node high [] l h = tt
-members_between low node high (b ∷ flags) l h =
-    let rest : AllByRecursion (Between low high) (members_from (node + 1) flags) = members_between low (node + 1) high flags (omega arith) (omega (arith, h)) in
-    cond_both b (node ∷ members_from (node + 1) flags) (members_from (node + 1) flags) (AllByRecursion (Between low high)) (λ t. ((l, omega (arith, h)), rest)) (λ t. rest)
-
-all_nodes : (ns : List ℕ) → AllByRecursion (Between 1 17) ns → AllByRecursion IsNode ns
-all_nodes [] a = tt
-all_nodes (n ∷ ns) a = let p = a.0 in ((p.0, omega (arith, p.1)), all_nodes ns a.1)
-
-pub members_nodes : (flags : List Bool) → IsSet flags → AllByRecursion IsNode (members flags)
-members_nodes flags h = all_nodes (members flags) (members_between 1 1 17 flags (omega arith) (omega (arith, h)))
 
 pub in_nodes : (n : ℕ) (ns : List ℕ) → AllByRecursion IsNode ns → is_in n ns ≡ true → IsNode n
 in_nodes n [] a h = absurd cc

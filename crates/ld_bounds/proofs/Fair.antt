@@ -7,7 +7,8 @@ use Rattle.ld_msg.specs.declared.msg.Msg.{Msg}
 use Rattle.ld_msg.specs.declared.msg.Body.{Body}
 use Rattle.ld_msg.specs.declared.msg.Body.TheVariants as bodies
 use Rattle.ld_msg.specs.Bounds.{IsNodeHere, Fits, IsMessage}
-use Rattle.ld_bounds.specs.Sound.{is_node, is_fair, AreFair, AreMessages}
+use Rattle.ld_node_bounds.specs.Messages.{AreMessages}
+use Rattle.ld_bounds.specs.Sound.{is_node, is_fair, AreFair}
 
 node_there : (w : Who) → IsNodeHere w → is_node w ≡ true
 node_there (whos.Node n) h = refl

@@ -1,9 +1,5 @@
 pub mod Alls
-pub mod Numbers
 pub mod Configs
-pub mod Pages
-pub mod NodeOps
-pub mod NodeAnswers
 pub mod NodeStates
 pub mod RegisterChanges
 pub mod Posts

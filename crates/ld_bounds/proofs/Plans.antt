@@ -14,8 +14,9 @@ use Rattle.ld_msg.specs.Bounds.{Is64, IsEntry, AreEntries, IsShort, IsPage, last
 use Rattle.ld_msg.specs.Digest.{Told, better, is_bridge, says, statement, told_nothing, no_digest, told_page, takes_page, with_page, told_lost, with_lost, best, is_content, record_or_hole, content, digest_trim, trim_place, top_in, top_place, plan_end, Item, record_items, places_between, plan_to, plan}
 use Rattle.ld_msg.specs.Sequencer.{planned, storing_of}
 use Rattle.ld_bounds.specs.Sequencers.{IsTold, IsPlanned, IsStoring}
-use Rattle.ld_bounds.proofs.Alls.{all-append, all-map}
-use Rattle.ld_bounds.proofs.Numbers.{epoch_numbered, esn_numbered}
+use Rattle.ld_node_bounds.proofs.Alls.{all-append}
+use Rattle.ld_bounds.proofs.Alls.{all-map}
+use Rattle.ld_node_bounds.proofs.Numbers.{epoch_numbered, esn_numbered}
 
 -- ---- digests ----
 

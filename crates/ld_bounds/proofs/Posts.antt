@@ -1,35 +1,15 @@
--- What an actor sends to nodes is in its bounds, and so is what it is chosen for.
-use Rattle.std.proofs.Common.{ℕ, zero, suc, ◌+◌, ◌%◌, not, nat_lt, List, [], ◌∷◌, take, drop, length}
+-- What an actor is chosen for is in its bounds.
+use Rattle.std.proofs.Common.{ℕ, zero, suc, ◌+◌, ◌%◌, nat_lt, List, [], ◌∷◌, take, drop, length}
 use Rattle.std.specs.List.{AllByRecursion}
 use Rattle.std.proofs.lemmas.Bool.{cond_both}
-use Rattle.ld_table.specs.Words.{is_in, without}
-use Rattle.ld_ids.specs.Id.{IsNode, IsLog}
+use Rattle.ld_table.specs.Words.{without}
+use Rattle.ld_ids.specs.Id.{IsNode}
 use Rattle.ld_ids.specs.declared.set.Spec.{Spec}
 use Rattle.ld_ids.specs.Choice.{nodes_of, ring, left_out, choice_at}
 use Rattle.ld_lsn.specs.Number.{epoch_of, esn_of}
-use Rattle.ld_msg.specs.declared.msg.Who.{Who}
-use Rattle.ld_msg.specs.declared.msg.Who.TheVariants as whos
-use Rattle.ld_msg.specs.declared.msg.Body.{Body}
 use Rattle.ld_msg.specs.Choice.{choice}
-use Rattle.ld_msg.specs.Bounds.{Fits}
-use Rattle.ld_msg.specs.Network.{posted}
-use Rattle.ld_msg.specs.Sequencer.{to_each}
-use Rattle.ld_bounds.specs.Sound.{AreMessages}
-use Rattle.ld_bounds.proofs.Alls.{all-append, all-filter}
-
--- a body to a node
-abbrev pub IsPost : Who → ℕ × Body → Type 0
-IsPost who p = Fits who (whos.Node p.0) p.1
-
-pub posts_sent : (who : Who) (l : ℕ) (bs : List (ℕ × Body)) → IsLog l → AllByRecursion (IsPost who) bs → AreMessages (posted who l bs)
-posts_sent who l [] h a = tt
-posts_sent who l (b ∷ bs) h a = (record { log = h; fits = a.0 }, posts_sent who l bs h a.1)
-
-pub each_post : (who : Who) (b : Body) (ys : List ℕ) → ((y : ℕ) → IsNode y → Fits who (whos.Node y) b) → AllByRecursion IsNode ys → AllByRecursion (IsPost who) (to_each b ys)
-each_post who b [] f a = tt
-each_post who b (y ∷ ys) f a = (f y a.0, each_post who b ys f a.1)
-
--- ---- choices ----
+use Rattle.ld_node_bounds.proofs.Alls.{all-append}
+use Rattle.ld_node_bounds.proofs.Posts.{without_nodes}
 
 module _ {X : Type 0} (P : X → Type 0) where
   pub all-take : (k : ℕ) (xs : List X) → AllByRecursion P xs → AllByRecursion P (take k xs)
@@ -41,9 +21,6 @@ module _ {X : Type 0} (P : X → Type 0) where
   all-drop zero xs a = a
   all-drop (suc k) [] a = tt
   all-drop (suc k) (x ∷ xs) a = all-drop k xs a.1
-
-pub without_nodes : (ys xs : List ℕ) → AllByRecursion IsNode xs → AllByRecursion IsNode (without ys xs)
-without_nodes ys xs a = all-filter IsNode (λ x. not (is_in x ys)) xs a
 
 ring_nodes : (p : ℕ) (xs : List ℕ) → AllByRecursion IsNode xs → AllByRecursion IsNode (ring p xs)
 ring_nodes p xs a = all-append IsNode (drop p xs) (take p xs) (all-drop IsNode p xs a) (all-take IsNode p xs a)

@@ -12,9 +12,10 @@ use Rattle.ld_msg.specs.declared.msg.Summary.{Summary}
 use Rattle.ld_msg.specs.Bounds.{Is32, IsEpoch, IsSummary}
 use Rattle.ld_msg.specs.Register.{Register, Epochs, Armed, Changed, Answer, Granted, AtLimit, Behind, Fails, activate, close, draw, change, made, unmade, is_made, falls, journal_limit, record_length, no_epochs, epochs_of, generation_of, lce_of, with_epochs, next_epoch, closed_epochs, epoch_limit, generation_limit}
 use Rattle.ld_machine.specs.Config.{has_log}
-use Rattle.ld_bounds.specs.Nodes.{IsClosed}
+use Rattle.ld_node_bounds.specs.States.{IsClosed}
 use Rattle.ld_bounds.specs.Registers.{IsClosedBy, IsEpochs, IsKnownLog, IsGeneration, IsRegister}
-use Rattle.ld_bounds.proofs.Alls.{all-put, all-find, all_weaker}
+use Rattle.ld_node_bounds.proofs.Alls.{all-put, all-find}
+use Rattle.ld_bounds.proofs.Alls.{all_weaker}
 
 -- the same contents
 abbrev pub Same : Register → Register → Type 0

@@ -21,10 +21,10 @@ use Rattle.ld_msg.specs.Digest.{Told, no_digest, with_page, enough, plan}
 use Rattle.ld_msg.specs.Sequencer.{Sequencer, Append, Planned, Storing, Stage, Seals, Stores, Closes, Recovery, Acts, own_spec, does_nothing, becomes, with_stage, preempt, recovery_of, recovery_asks, goes_on, tells_clean, after_close, try_close, storing_of, planned, item_stores, is_ready, summary_of, stores_plan, closes_ready, settle, settled_by, settles, next_ask, takes_any, adds_page, digests, lost_stage, recovery_lost, acked_first, unacked_from, stored_at, with_append, acks_append, in_recovery, by_stored, by_trimmed, by_lost, by_clean, by_reply, unless_preempted, on_reply, raised, next_wave, last_wave, retries_appends, next_try, retries_stage, retries_recovery, on_retry, digest_asks, Called, called, acted_messages, release_messages}
 use Rattle.ld_bounds.specs.Registers.{IsRegister}
 use Rattle.ld_bounds.specs.Sequencers.{IsAppend, IsTold, IsPlanned, IsStoring, IsStage, IsRecovery, MayRecover, IsSequencer, AreNumbered}
-use Rattle.ld_bounds.proofs.Alls.{all-append, all-put, all-find}
-use Rattle.ld_bounds.proofs.Numbers.{home_at_most}
+use Rattle.ld_node_bounds.proofs.Alls.{all-append, all-put, all-find}
+use Rattle.ld_node_bounds.proofs.Numbers.{home_at_most}
 use Rattle.ld_bounds.proofs.Rows.{put_kept, acked_parts, unacked_numbered, unacked_are, raised_length, raised_numbered, raised_are}
-use Rattle.ld_bounds.proofs.Posts.{IsPost}
+use Rattle.ld_node_bounds.proofs.Posts.{IsPost}
 use Rattle.ld_bounds.proofs.Plans.{no_digest_is, with_page_is, with_lost_is, plan_is}
 use Rattle.ld_bounds.proofs.SequencerSends.{asks_are, next_ask_is, items_sent, cleans_sent, appends_sent, releases_sent, released_bound}
 use Rattle.ld_bounds.proofs.RegisterChanges.{Follows, follows_self, IsAnswered, close_follows, close_answers}

@@ -17,8 +17,9 @@ use Rattle.ld_msg.specs.Bounds.{Is64, IsEpoch, IsSummary, Fits}
 use Rattle.ld_msg.specs.Digest.{Told}
 use Rattle.ld_msg.specs.Sequencer.{Sequencer, Append, Planned, released_of, own_spec, to_each, digest_asks, item_stores, next_ask, is_acked, append_stores, rose, release_messages}
 use Rattle.ld_bounds.specs.Sequencers.{IsAppend, IsTold, IsPlanned}
-use Rattle.ld_bounds.proofs.Alls.{all-append}
-use Rattle.ld_bounds.proofs.Posts.{IsPost, each_post, choice_nodes, without_nodes}
+use Rattle.ld_node_bounds.proofs.Alls.{all-append}
+use Rattle.ld_node_bounds.proofs.Posts.{IsPost, each_post, without_nodes}
+use Rattle.ld_bounds.proofs.Posts.{choice_nodes}
 
 -- the sequencer of an epoch sends to nodes
 module _ (own : ℕ) (E : IsEpoch own) where

@@ -39,21 +39,27 @@ use Rattle.ld_machine.specs.Run.{flows, step, state_after}
 use Rattle.ld_bounds.specs.Nodes.{IsNodeState, IsNodeAt}
 use Rattle.ld_bounds.specs.Sequencers.{IsAppend, IsSequencer, IsNamedSequencer}
 use Rattle.ld_bounds.specs.Readers.{IsReader, IsNamedReader}
-use Rattle.ld_bounds.specs.Sound.{IsEvent, AreMessages, IsSound, IsDoneSoundly}
-use Rattle.ld_bounds.proofs.Alls.{all_if, all-append, all-slice_get, all_weaker, all-put, all-put_named, all-find_named}
-use Rattle.ld_bounds.proofs.Numbers.{epoch_numbered, esn_numbered}
-use Rattle.ld_bounds.proofs.Configs.{members_nodes, log_nodes, log_is, node_is, served_log, served_node}
-use Rattle.ld_bounds.proofs.NodeOps.{IsKept, log_state}
-use Rattle.ld_bounds.proofs.NodeAnswers.{MayKeep, MayAnswer, handled_is, answers_sent}
+use Rattle.ld_node_bounds.specs.States.{last_handed_out}
+use Rattle.ld_node_bounds.specs.Messages.{AreMessages, IsKept, MayKeep, MayAnswer, IsTicked}
+use Rattle.ld_bounds.specs.Sound.{IsEvent, IsSound, IsDoneSoundly}
+use Rattle.ld_node_bounds.proofs.Alls.{all_if, all-append, all-put}
+use Rattle.ld_bounds.proofs.Alls.{all-slice_get, all_weaker, all-put_named, all-find_named}
+use Rattle.ld_node_bounds.proofs.Numbers.{epoch_numbered, esn_numbered}
+use Rattle.ld_node_bounds.proofs.Members.{members_nodes}
+use Rattle.ld_bounds.proofs.Configs.{log_nodes, log_is, node_is, served_log, served_node}
+use Rattle.ld_node_bounds.proofs.Ops.{log_state}
+use Rattle.ld_node_bounds.proofs.Handling.{handled_is, answers_sent}
 use Rattle.ld_bounds.proofs.NodeStates.{new_is, node_there, released_is, releases_is, keep_is, load_is, stopped_is, fault_is}
 use Rattle.ld_bounds.proofs.RegisterChanges.{Follows, follows_same, follows_self, activate_follows, Handed, activate_hands, generation_is, draw_follows, closed_summary}
-use Rattle.ld_bounds.proofs.Posts.{posts_sent, choice_nodes}
+use Rattle.ld_node_bounds.proofs.Posts.{posts_sent}
+use Rattle.ld_bounds.proofs.Posts.{choice_nodes}
 use Rattle.ld_bounds.proofs.Rows.{numbered_end, length_end}
 use Rattle.ld_bounds.proofs.SequencerSends.{append_sent, trims_sent, released_bound}
 use Rattle.ld_bounds.proofs.SequencerActs.{IsActs, first_recovery, first_asks, reply_is, retry_is, grown, dropped_is, called_is, acted_sent}
 use Rattle.ld_bounds.proofs.Asks.{from_node, polled_is, poll_sent, answer_is, opened_is}
 use Rattle.ld_bounds.proofs.Places.{distinct-put, length-there, length-put, places-there, places-new, reader_found, number_found, reader_named, sequencer_found, epoch_found}
-use Rattle.ld_bounds.proofs.Ticking.{IsTicked, ticked_is, asks_sent, epochs_told}
+use Rattle.ld_node_bounds.proofs.Ticking.{ticked_is, asks_sent}
+use Rattle.ld_bounds.proofs.Ticking.{epochs_told}
 
 -- ---- messages are sent ----
 
@@ -139,10 +145,10 @@ module _ (c : Config) where
     written_only : (k : Kept) (ms : List Msg) → AreMessages ms → AreMessages (cond (Step.is_written k) ms [])
     written_only k ms a = all_if IsMessage (Step.is_written k) ms a
 
-    keeps_is : (n : ℕ) (o : Op) (ls : List Line) (ms : List Msg) → IsNode n → IsKept o → AreMessages ms → IsDoneSoundly c (Step.keeps_op s n o ls ms)
+    keeps_is : (n : ℕ) (o : Op) (ls : List Line) (ms : List Msg) → IsNode n → IsKept last_handed_out o → AreMessages ms → IsDoneSoundly c (Step.keeps_op s n o ls ms)
     keeps_is n o ls ms h k a = record { state = node_put n (keep_op (node_at s n) o) h (keep_is (node_at s n) (node_is_sound n) o k); sends = written_only (keep_end (node_at s n) o) ms a }
 
-    handles_is : (n : ℕ) (m : Msg) (o : Option Op) (b : Option Body) → IsNode n → IsLog m.log → MayKeep o → MayAnswer n m.from b → IsDoneSoundly c (Step.handles s n m o b)
+    handles_is : (n : ℕ) (m : Msg) (o : Option Op) (b : Option Body) → IsNode n → IsLog m.log → MayKeep last_handed_out o → MayAnswer n m.from b → IsDoneSoundly c (Step.handles s n m o b)
     handles_is n m None b h l k a = record { state = S; sends = answers_sent n m b l a }
     handles_is n m (Some o) b h l k a = keeps_is n o [] (answer_message n m b) h k (answers_sent n m b l a)
 
@@ -151,7 +157,7 @@ module _ (c : Config) where
     up_node s S n m h l f =
         let x : Node = node_at s n in
         let X = node_is_sound s S n in
-        let H = handled_is n h x.plain.generation X.plain.generation (log_of x.plain m.log) (log_state x.plain m.log X.plain) m.log l m.from (Step.released_at x m.log) (released_is x X m.log) m.body f in
+        let H = handled_is n h x.plain.generation X.plain.generation (omega arith) (log_of x.plain m.log) (log_state last_handed_out x.plain m.log X.plain) m.log l m.from (Step.released_at x m.log) (released_is x X m.log) m.body f in
         handles_is (with_node s n (Step.releases x m.log m.body)) (node_put s S n (Step.releases x m.log m.body) h (releases_is x X m.log m.from (whos.Node n) m.body l f)) n m (Step.node_handles x m).op (Step.node_handles x m).answer h l H.op H.answer
 
     module _ (s : State) (S : IsSound c s) where
@@ -331,7 +337,7 @@ module _ (c : Config) where
       formats_loaded n Crashed h = saying s S _
       formats_loaded n JournalFull h = quietly s S
 
-      ticks_by : (n l : ℕ) (t : Ticked) → IsNode n → IsLog l → IsTicked (log_of (node_at s n).plain l) (log_state (node_at s n).plain l (node_is_sound s S n).plain) t → IsDoneSoundly c (Step.ticks_as c s n l t)
+      ticks_by : (n l : ℕ) (t : Ticked) → IsNode n → IsLog l → IsTicked t → IsDoneSoundly c (Step.ticks_as c s n l t)
       ticks_by n l (Cleans epoch y) h i k = keeps_is s S n (ops.Clean l epoch y) [] [] h (i, k.0, k.1) tt
       ticks_by n l Rebuilt h i k = keeps_is s S n (ops.Refilled l) _ [] h i tt
       ticks_by n l (Asks from) h i k = record { state = S; sends = posts_sent (whos.Node n) l (node_asks n (set_of c l) from) i (asks_sent n from (set_of c l) h k.0 k.1 (log_nodes c B l)) }
@@ -341,7 +347,7 @@ module _ (c : Config) where
       ticks_is n l h = let x : Node = node_at s n in either s S (is_up (node_at s n).status && is_in n (set_of c l)) _ _
           (λ t. let p = (and_parts (is_up (node_at s n).status) (is_in n (set_of c l)) t).1 in
           ticks_by n l (on_tick (log_of x.plain l) (epochs_of s.register l).summaries) h (log_is c B l (served_log c B n l p))
-          (ticked_is (log_of x.plain l) (log_state x.plain l (node_is_sound s S n).plain) (epochs_of s.register l).summaries (λ e y f. closed_summary c s.register l e y S.register f)))
+          (ticked_is (log_of x.plain l) (log_state last_handed_out x.plain l (node_is_sound s S n).plain) (epochs_of s.register l).summaries (λ e y f. closed_summary c s.register l e y S.register f)))
           (λ t. quietly s S)
 
     formats_is : (s : State) → IsSound c s → (n : ℕ) → IsNode n → IsDoneSoundly c (Step.formats c s n)

@@ -8,7 +8,7 @@ use Rattle.ld_msg.specs.declared.msg.Summary.{Summary}
 use Rattle.ld_msg.specs.Bounds.{Is32, IsEpoch}
 use Rattle.ld_msg.specs.Register.{Register, Epochs}
 use Rattle.ld_machine.specs.Config.{has_log}
-use Rattle.ld_bounds.specs.Nodes.{IsClosed}
+use Rattle.ld_node_bounds.specs.States.{IsClosed}
 
 -- a summary of an epoch up to the last closed one
 pub record IsClosedBy (lce : ℕ) (y : ℕ × Summary) : Type 0 where

@@ -8,9 +8,10 @@ use Rattle.ld_schedule.specs.declared.event.Event.TheVariants as events
 use Rattle.ld_msg.specs.declared.msg.Who.{Who}
 use Rattle.ld_msg.specs.declared.msg.Who.TheVariants as whos
 use Rattle.ld_msg.specs.declared.msg.Msg.{Msg}
-use Rattle.ld_msg.specs.Bounds.{Is64, IsMessage}
+use Rattle.ld_msg.specs.Bounds.{Is64}
 use Rattle.ld_machine.specs.State.{State, Done}
 use Rattle.ld_machine.specs.Step.{reader_limit}
+use Rattle.ld_node_bounds.specs.Messages.{AreMessages}
 use Rattle.ld_bounds.specs.Nodes.{IsNodeAt}
 use Rattle.ld_bounds.specs.Registers.{IsRegister}
 use Rattle.ld_bounds.specs.Sequencers.{IsNamedSequencer}
@@ -20,9 +21,6 @@ use Rattle.ld_bounds.specs.Readers.{IsNamedReader, AreInPlace}
 abbrev pub IsEvent : Event → Type 0
 IsEvent (events.Open name l from until) = Is64 until
 IsEvent _ = Unit {0}
-
-abbrev pub AreMessages : List Msg → Type 0
-AreMessages ms = AllByRecursion IsMessage ms
 
 pub record IsSound (c : Config) (s : State) : Type 0 where
   pub messages : AreMessages s.network.sent

@@ -20,7 +20,8 @@ ghost use Rattle.ld_machine.specs.Run.{step, state_after};
 ghost use Rattle.ld_bounds.specs.Nodes.{IsNodeState};
 ghost use Rattle.ld_bounds.specs.Sequencers.{IsSequencer};
 ghost use Rattle.ld_bounds.specs.Readers.{IsReader};
-ghost use Rattle.ld_bounds.specs.Sound.{IsEvent, IsSound, IsDoneSoundly, AreMessages, AreFair, is_node};
+ghost use Rattle.ld_node_bounds.specs.Messages.{AreMessages};
+ghost use Rattle.ld_bounds.specs.Sound.{IsEvent, IsSound, IsDoneSoundly, AreFair, is_node};
 
 use ld_schedule::Event;
 

@@ -15,8 +15,8 @@ use Rattle.ld_msg.specs.Digest.{is_bridge}
 use Rattle.ld_msg.specs.Bounds.{Is64, IsEntry, AreEntries, IsReadable, AreReadable, RiseWithin, IsPage}
 use Rattle.ld_op.specs.Plain.{Log}
 use Rattle.ld_op.specs.Answers.{entries_within, readable, page_limit, page_upto, last_number}
-use Rattle.ld_bounds.specs.Nodes.{IsStored, IsLogState}
-use Rattle.ld_bounds.proofs.Numbers.{home_between}
+use Rattle.ld_node_bounds.specs.States.{IsStored, IsLogState}
+use Rattle.ld_node_bounds.proofs.Numbers.{home_between}
 
 -- entries from a number on, their numbers rising
 abbrev Rises : ℕ → List Entry → Type 0
@@ -122,7 +122,7 @@ page_is from bound es one le b h a r = cond_both (nat_lt page_limit (length es))
     record { range = lo; bound = omega (arith, b, hi); home = home_between from (last_number (take page_limit es)) bound one lo hi h; few = few-take page_limit es; entries = entries-take page_limit es a; rise = l.rise })
     (λ t. record { range = le; bound = b; home = h; few = few-take page_limit es; entries = entries-take page_limit es a; rise = rise-take page_limit from bound es r })
 
-module _ (g : Log) (G : IsLogState g) where
+module _ {most : ℕ} (g : Log) (G : IsLogState most g) where
   log_rises : Rises 0 (values g.entries)
   log_rises = table_rises 0 g.entries G.rise G.entries (from_zero (map.keys_of g.entries))
 

@@ -11,33 +11,21 @@ use Rattle.ld_msg.specs.declared.msg.Summary.{Summary}
 use Rattle.ld_msg.specs.declared.msg.Msg.{Msg}
 use Rattle.ld_msg.specs.declared.msg.Body.{Body}
 use Rattle.ld_msg.specs.declared.msg.Body.TheVariants as bodies
-use Rattle.ld_msg.specs.Bounds.{Is32, Is64, IsEpoch, IsEntry, IsSummary, AreEntries, IsSequencerHere, IsActor, IsAsker, AnswersIn, ballot_of, Fits}
+use Rattle.ld_msg.specs.Bounds.{Is32, Is64, IsEpoch, IsEntry, IsSummary, AreEntries, IsSequencerHere, IsActor, IsAsker, AnswersIn, ballot_of, Fits, IsMessage}
 use Rattle.ld_op.specs.declared.op.Op.{Op}
 use Rattle.ld_op.specs.declared.op.Op.TheVariants as ops
-use Rattle.ld_op.specs.Plain.{Log, summary_at, epoch_zero, end_here, end_of, is_lost}
+use Rattle.ld_op.specs.Plain.{Plain, Log, log_of, summary_at, epoch_zero, end_here, end_of, is_lost}
 use Rattle.ld_op.specs.Answers as answers
 use Rattle.ld_op.specs.Answers.{Handled, Decision, or_clean, is_same, store_decision, store_answer, taken, on_store, digest_decision, digest_answer, on_digest_ask, entries_within, page_upto, page_limit, clean_op, on_clean, on_trim, lets_read, readable, read_page, open_answer, clean_page, epoch_answer, read_answer}
 use Rattle.ld_op.specs.Ticks as ticks
 use Rattle.ld_op.specs.Ticks.{as_closed, is_missing, lacking, refill_op, page_op, on_page}
 use Rattle.ld_op.specs.Handles.{handled_by, answer_message}
-use Rattle.ld_bounds.specs.Nodes.{IsClosed, IsLogState}
-use Rattle.ld_bounds.specs.Sound.{AreMessages}
-use Rattle.ld_bounds.proofs.Alls.{all-find}
-use Rattle.ld_bounds.proofs.Numbers.{home_is, numbered_bound, number_bound, epoch_bound, number_from_one, epoch_numbered, esn_numbered, home_of_place, home_at_most, home_esn_is}
-use Rattle.ld_bounds.proofs.Pages.{digest_is, read_is, read_readable, entries-filter}
-use Rattle.ld_bounds.proofs.NodeOps.{IsKept}
-
-abbrev pub MayKeep : Option Op → Type 0
-MayKeep None = Unit {0}
-MayKeep (Some o) = IsKept o
-
-abbrev pub MayAnswer : ℕ → Who → Option Body → Type 0
-MayAnswer n to None = Unit {0}
-MayAnswer n to (Some b) = Fits (whos.Node n) to b
-
-pub record IsHandled (n : ℕ) (to : Who) (h : Handled) : Type 0 where
-  pub op : MayKeep h.op
-  pub answer : MayAnswer n to h.answer
+use Rattle.ld_node_bounds.specs.States.{last_handed_out, last_carried, IsClosed, IsLogState, IsPlain}
+use Rattle.ld_node_bounds.specs.Messages.{AreMessages, IsKept, MayKeep, MayAnswer, IsHandled}
+use Rattle.ld_node_bounds.proofs.Alls.{all-find}
+use Rattle.ld_node_bounds.proofs.Numbers.{home_is, numbered_bound, number_bound, epoch_bound, number_from_one, epoch_numbered, esn_numbered, home_of_place, home_at_most, home_esn_is}
+use Rattle.ld_node_bounds.proofs.Ops.{log_state}
+use Rattle.ld_node_bounds.proofs.Pages.{digest_is, read_is, read_readable, entries-filter}
 
 -- ---- who is answered ----
 
@@ -67,7 +55,7 @@ IsDecision s (answers.Sealed by) = Is32 by
 IsDecision s answers.Same = Unit {0}
 IsDecision s answers.Take = Unit {0}
 
-taken_is : (o : Op) (d : Decision) → IsKept o → MayKeep (taken o d)
+taken_is : (o : Op) (d : Decision) → IsKept last_handed_out o → MayKeep last_handed_out (taken o d)
 taken_is o (answers.Lost end) k = tt
 taken_is o (answers.CleanAlready y) k = tt
 taken_is o (answers.Trimmed t) k = tt
@@ -75,7 +63,7 @@ taken_is o (answers.Sealed by) k = tt
 taken_is o answers.Same k = tt
 taken_is o answers.Take k = k
 
-module _ (g : Log) (G : IsLogState g) where
+module _ {most : ℕ} (small : most ≤ last_carried) (g : Log) (G : IsLogState most g) where
   pub summary_is : (e : ℕ) (y : Summary) → summary_at g e ≡ Some y → ((e ≡ 0) × (y ≡ epoch_zero)) ⊎ IsClosed (e, y)
   unfolding summary_at
   summary_is e y h = elim (cases_Bool (e == 0)) [
@@ -99,7 +87,7 @@ module _ (g : Log) (G : IsLogState g) where
   or_clean_is s (Some y) d l h i = summary_later (epoch_of s) y l h
 
   sealed_is : Is32 g.sealed
-  sealed_is = let h = G.sealed in omega arith
+  sealed_is = omega (arith, G.sealed, small)
 
   store_decided : (e : Entry) → 1 ≤ epoch_of e.number → epoch_of e.number ≤ 2 ^ 32 - 2 → IsDecision e.number (store_decision g e)
   unfolding store_decision
@@ -117,7 +105,7 @@ module _ (g : Log) (G : IsLogState g) where
       (λ t. or_clean_is from (summary_at g (epoch_of from)) _ l refl (cond_both (nat_lt ballot g.sealed) (answers.Sealed g.sealed) _ (IsDecision from) (λ v. sealed_is)
       (λ v. cond_both (ballot == g.sealed) answers.Same answers.Take (IsDecision from) (λ w. tt) (λ w. tt))))
 
-module _ (n : ℕ) (N : IsNode n) (generation : ℕ) (gen_is : Is32 generation) (g : Log) (G : IsLogState g) (l : ℕ) (L : IsLog l) where
+module _ (n : ℕ) (N : IsNode n) (generation : ℕ) (gen_is : Is32 generation) {most : ℕ} (small : most ≤ last_carried) (g : Log) (G : IsLogState most g) (l : ℕ) (L : IsLog l) where
   -- ---- stores and asks of a sequencer ----
   stored_is : (s : ℕ) (w : Who) (d : Decision) → IsSequencerHere w → 1 ≤ s → Is64 s → IsDecision s d → MayAnswer n w (store_answer generation s d)
   stored_is s w (answers.Lost end) q one b i = let a = sequencer_actor w q in (N, a.0, one, b, omega arith, a.1, gen_is, i)
@@ -131,7 +119,7 @@ module _ (n : ℕ) (N : IsNode n) (generation : ℕ) (gen_is : Is32 generation) 
   unfolding on_store
   store_handled w lng e q i = let d = i.epoch in let b : Is64 e.number = number_bound e.number d.1 in let one : 1 ≤ e.number = number_from_one e.number i.from_one in record {
     op = taken_is (ops.Accept l lng e) (store_decision g e) (L, i);
-    answer = stored_is e.number w (store_decision g e) q one b (store_decided g G e d.0 d.1);
+    answer = stored_is e.number w (store_decision g e) q one b (store_decided small g G e d.0 d.1);
   }
 
   digest_shown : (from : ℕ) (w : Who) → IsSequencerHere w → 1 ≤ esn_of from → epoch_of from ≤ 2 ^ 32 - 2
@@ -158,11 +146,11 @@ module _ (n : ℕ) (N : IsNode n) (generation : ℕ) (gen_is : Is32 generation) 
   unfolding on_digest_ask
   digest_handled w from q one below k = let b = ballot_most w q in let m : epoch_of from ≤ 2 ^ 32 - 2 = omega arith in record {
     op = taken_is (ops.Seal l (ballot_of w)) (digest_decision g (ballot_of w) from) (L, b);
-    answer = digest_answered from w (digest_decision g (ballot_of w) from) q k m (digest_decided g G (ballot_of w) from one m);
+    answer = digest_answered from w (digest_decision g (ballot_of w) from) q k m (digest_decided small g G (ballot_of w) from one m);
   }
 
   -- ---- closes and trims ----
-  cleaned_op : (epoch : ℕ) (y : Summary) (o : Option Summary) → IsEpoch epoch → IsSummary epoch y → MayKeep (clean_op l epoch y o)
+  cleaned_op : (epoch : ℕ) (y : Summary) (o : Option Summary) → IsEpoch epoch → IsSummary epoch y → MayKeep last_handed_out (clean_op l epoch y o)
   cleaned_op epoch y None e s = (L, e, s)
   cleaned_op epoch y (Some z) e s = tt
 
@@ -172,7 +160,7 @@ module _ (n : ℕ) (N : IsNode n) (generation : ℕ) (gen_is : Is32 generation) 
 
   pub trim_handled : (w : Who) (t : ℕ) → Is64 t → IsHandled n w (on_trim g l t)
   unfolding on_trim
-  trim_handled w t b = record { op = cond_both (nat_lt g.trim t) (Some (ops.Trim l t)) None MayKeep (λ u. (L, b)) (λ u. tt); answer = tt }
+  trim_handled w t b = record { op = cond_both (nat_lt g.trim t) (Some (ops.Trim l t)) None (MayKeep last_handed_out) (λ u. (L, b)) (λ u. tt); answer = tt }
 
   -- ---- asks of readers ----
   module _ (w : Who) (asks : IsAsker w) (round : ℕ) (round_is : Is32 round) (from : ℕ) (one : 1 ≤ from) (from_is : Is64 from) (released : ℕ) (released_is : Is64 released) where
@@ -188,7 +176,7 @@ module _ (n : ℕ) (N : IsNode n) (generation : ℕ) (gen_is : Is32 generation) 
 
     clean_is : (y : Summary) → summary_at g (home_epoch from) ≡ Some y → home_esn from < y.end → Fits (whos.Node n) w (clean_page g round from y)
     clean_is y h below =
-        let m = summary_end g G (home_epoch from) y h in
+        let m = summary_end small g G (home_epoch from) y h in
         let top = m.1 in
         let p = home_esn_is from (omega arith) in
         let a = p.0 in let b = p.1 in
@@ -206,7 +194,7 @@ module _ (n : ℕ) (N : IsNode n) (generation : ℕ) (gen_is : Is32 generation) 
 
     by_summary : (o : Option Summary) → summary_at g (home_epoch from) ≡ o → Fits (whos.Node n) w (epoch_answer generation g released round from o)
     by_summary None h = cond_both (is_lost g (home_epoch from)) (bodies.LostHere from round generation 0) (open_answer g released round from) (Fits (whos.Node n) w) (λ t. lost_is 0 (omega arith)) (λ t. open_is)
-    by_summary (Some y) h = let top = (summary_end g G (home_epoch from) y h).1 in let he = home_at_most from in let eb = epoch_bound from from_is in
+    by_summary (Some y) h = let top = (summary_end small g G (home_epoch from) y h).1 in let he = home_at_most from in let eb = epoch_bound from from_is in
         let b : Is64 (numbered (home_epoch from) y.end) = numbered_bound (home_epoch from) y.end (omega arith) (omega arith) in
         cond_both (nat_le y.end (home_esn from)) (bodies.ReadEnded round from (numbered (home_epoch from) y.end)) _ (Fits (whos.Node n) w)
         (λ t. ((N, asks, round_is, one, from_is), b))
@@ -227,20 +215,20 @@ module _ (n : ℕ) (N : IsNode n) (generation : ℕ) (gen_is : Is32 generation) 
   closed_entries [] a = tt
   closed_entries (e ∷ es) a = (as_closed_is e (find (epoch_of e.number) g.summaries) refl a.0, closed_entries es a.1)
 
-  refill_is : (es : List Entry) → AreEntries es → MayKeep (refill_op l es)
+  refill_is : (es : List Entry) → AreEntries es → MayKeep last_handed_out (refill_op l es)
   refill_is [] a = tt
   refill_is (e ∷ es) a = (L, a)
 
-  paged : (w : Who) (b : Body) → MayKeep (page_op g l b) → IsHandled n w (on_page g l b)
+  paged : (w : Who) (b : Body) → MayKeep last_handed_out (page_op g l b) → IsHandled n w (on_page g l b)
   unfolding on_page
-  paged w b k = record { op = cond_both g.lost (page_op g l b) None MayKeep (λ t. k) (λ t. tt); answer = tt }
+  paged w b k = record { op = cond_both g.lost (page_op g l b) None (MayKeep last_handed_out) (λ t. k) (λ t. tt); answer = tt }
 
   page_is : (w v : Who) (round from upto : ℕ) (clean : Bool) (es : List Entry) → AreEntries es → IsHandled n w (on_page g l (bodies.ReadPage round from upto clean es))
   page_is w v round from upto clean es a = paged w (bodies.ReadPage round from upto clean es)
-      (cond_both clean (refill_op l (lacking g es)) None MayKeep (λ t. refill_is (lacking g es) (closed_entries (filter (λ e. is_missing g e.number) es) (entries-filter (λ e. is_missing g e.number) es a))) (λ t. tt))
+      (cond_both clean (refill_op l (lacking g es)) None (MayKeep last_handed_out) (λ t. refill_is (lacking g es) (closed_entries (filter (λ e. is_missing g e.number) es) (entries-filter (λ e. is_missing g e.number) es a))) (λ t. tt))
 
   trim_page_is : (w : Who) (round from t : ℕ) → Is64 t → IsHandled n w (on_page g l (bodies.ReadTrim round from t))
-  trim_page_is w round from t b = paged w (bodies.ReadTrim round from t) (cond_both (nat_lt g.trim t) (Some (ops.Trim l t)) None MayKeep (λ u. (L, b)) (λ u. tt))
+  trim_page_is w round from t b = paged w (bodies.ReadTrim round from t) (cond_both (nat_lt g.trim t) (Some (ops.Trim l t)) None (MayKeep last_handed_out) (λ u. (L, b)) (λ u. tt))
 
   -- ---- all messages ----
   pub handled_is : (w : Who) (released : ℕ) → Is64 released → (b : Body) → Fits w (whos.Node n) b → IsHandled n w (handled_by generation g l (ballot_of w) released b)
@@ -264,3 +252,9 @@ module _ (n : ℕ) (N : IsNode n) (generation : ℕ) (gen_is : Is32 generation) 
 pub answers_sent : (n : ℕ) (m : Msg) (o : Option Body) → IsLog m.log → MayAnswer n m.from o → AreMessages (answer_message n m o)
 answers_sent n m None l a = tt
 answers_sent n m (Some b) l a = (record { log = l; fits = a }, tt)
+
+-- a message to the node
+pub message_handled : {most : ℕ} (small : most ≤ last_carried) (p : Plain) (P : IsPlain most p) (n : ℕ) → IsNode n → (released : ℕ) → Is64 released → (m : Msg) → IsMessage m → m.to ≡ whos.Node n
+    → IsHandled n m.from (handled_by p.generation (log_of p m.log) m.log (ballot_of m.from) released m.body)
+message_handled {most} small p P n h released r m i to =
+    handled_is n h p.generation P.generation small (log_of p m.log) (log_state most p m.log P) m.log i.log m.from released r m.body (subst (λ w. Fits m.from w m.body) to i.fits)

@@ -1,0 +1,9 @@
+pub mod Alls
+pub mod Numbers
+pub mod Members
+pub mod Posts
+pub mod Pages
+pub mod Ops
+pub mod Released
+pub mod Handling
+pub mod Ticking
