@@ -9,7 +9,7 @@ use Rattle.ld_machine.specs.Config.{has_log}
 use Rattle.ld_machine.specs.Disk.{Status, Blank, Up, Down, Failed, is_up, is_blank}
 use Rattle.ld_bounds.specs.Sound.{IsSound}
 use Rattle.ld_bounds.specs.Registers.{IsClosedBy, IsEpochs, IsKnownLog}
-use Rattle.ld_bounds.proofs.Alls.{all-find}
+use Rattle.ld_node_bounds.proofs.Alls.{all-find}
 use Rattle.ld_bounds.proofs.Fewness.{room_there}
 use Rattle.ld_node.specs.Looks.{AreClosed}
 use Rattle.ld_config.specs.declared.config.Config.{Config}

@@ -10,8 +10,8 @@ use ld_journal::{Journal, JournalFault};
 use ld_op::{Epochs, Op, Plain};
 use std::alloc::Global;
 
-/// A node's plain state, and the disk that its ops are kept on. Each summary in the state is one of the epoch that it
-/// stands under.
+/// A node's plain state, and the disk that its ops are kept on. The state's numbers are what a journal's body can carry;
+/// its entries rise, each is one and stands under its number, and each summary is one of the epoch that it stands under.
 #[derive(Drop)]
 pub struct Store<D: Disk> {
     journal: Journal<D>,
@@ -98,7 +98,8 @@ impl<D: Disk> Store<D> {
         self.failed
     }
 
-    /// The plain state. Each summary in it is one of the epoch that it stands under.
+    /// The plain state. Its numbers are what a journal's body can carry; its entries rise, each is one and stands under
+    /// its number, and each summary is one of the epoch that it stands under.
     pub fn plain(&self) -> &Plain
         ensures state { result.now.state ≡ plain_of self.now }
         ensures well { IsWell result.now.state }
