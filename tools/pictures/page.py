@@ -53,7 +53,7 @@ def items(story):
 def signs():
     """What the signs mean, as a picture of its own."""
     body, bottom, wide = legend(0)
-    return f'<svg class="run" width="{wide:.0f}" height="{bottom}">{body}</svg>'
+    return f'<svg class="run" width="{wide:.0f}" viewBox="0 0 {wide:.0f} {bottom}">{body}</svg>'
 
 
 def data(story):

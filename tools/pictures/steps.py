@@ -65,6 +65,8 @@ def actor_of(event):
 
 
 class Splitter:
+    """A search for the steps, one after the other; where a step may end at several lines, the likeliest is tried first."""
+
     def __init__(self, schedule, lines, name):
         self.events, self.lines, self.name, self.logs = schedule.events, lines, name, schedule.config.logs
         self.messages = [l for l in lines if l.kind == "msg"]
@@ -77,7 +79,7 @@ class Splitter:
         self.gather()
         self.is_new = bytearray(b"\1" * len(self.messages))
         self.oldest = 0
-        self.steps, self.choices = [], []
+        self.steps, self.choices, self.pages, self.answers = [], [], {}, {}
         self.event = self.turn = self.line = self.farthest = 0
         self.stuck = None
 
@@ -98,7 +100,7 @@ class Splitter:
     def gather(self):
         """Who has which log, which numbers each node is known to have stored and for which epoch's sequencer, by whom each
         epoch was closed, and when each node lost its disk."""
-        self.log_of, self.stored, self.wiped, self.closed, self.taken, self.choice = {}, {}, {}, {}, {}, {}
+        self.log_of, self.stored, self.wiped, self.closed, self.choice = {}, {}, {}, {}, {}
         for event in self.events:
             if event.word in ("activate", "open"):
                 self.log_of.setdefault(actor_of(event), int(event.args[1]))
@@ -155,7 +157,7 @@ class Splitter:
             return []
         if shape in ("append", "retry", "tick"):
             return [k for k in range(at + 1, end) if self.lines[k].kind == "msg"] + [end]
-        if shape[0] != "r":
+        if shape[:2] != "r ":
             return [end]
         if self.letters[at] == "K" and not self.has_lost(actor, message):
             return []
@@ -166,8 +168,7 @@ class Splitter:
 
     def has_lost(self, reader, message):
         """Whether the reader took an answer of a lost node. Without one it asks in a delivery only after an item."""
-        pages = [message] + [s.message for s in self.taken.get(reader, [])]
-        return any(self.messages[page].fields[3] == "losthere" for page in pages)
+        return self.messages[message].fields[3] == "losthere" or self.answers.get((reader, "losthere"), 0) > 0
 
     def is_held(self, reader, message, item):
         """Whether the reader may have this item from what it took so far: false of a record or hole that no node is known
@@ -175,9 +176,17 @@ class Splitter:
         if item.kind != "record" and item.fields[0] != "hole":
             return True
         number = item.fields[0 if item.kind == "record" else 1]
-        pages = [message] + [s.message for s in self.taken.get(reader, [])]
-        asked = self.messages[message].fields[4]
-        return any(self.messages[p].fields[4] == asked and self.shows(self.messages[p], reader, number) for p in pages)
+        pages = [message] + self.pages.get((reader, self.messages[message].fields[4]), [])
+        return any(self.shows(self.messages[page], reader, number) for page in pages)
+
+    def remember(self, step, by):
+        """Counts what a reader took (1), or takes it back (-1)."""
+        if step.message is None or not step.actor or step.actor[0] != "r":
+            return
+        kind, number = self.messages[step.message].fields[3:]
+        self.answers[step.actor, kind] = self.answers.get((step.actor, kind), 0) + by
+        pages = self.pages.setdefault((step.actor, number), [])
+        pages.append(step.message) if by > 0 else pages.pop()
 
     def shows(self, page, reader, number):
         """Whether a page has the number for all that is known: its node stored it, for the sequencer that closed the epoch
@@ -225,8 +234,7 @@ class Splitter:
         self.steps.append(Step(self.event, self.turn, actor, message, was_new, self.line, end))
         if was_new:
             self.is_new[message] = 0
-        if message is not None and actor:
-            self.taken.setdefault(actor, []).append(self.steps[-1])
+        self.remember(self.steps[-1], 1)
         self.line = end
         if self.events[self.event].word == "flow" and message is not None:
             self.turn += 1
@@ -239,8 +247,7 @@ class Splitter:
             count, ends = self.choices.pop()
             while len(self.steps) > count:
                 step = self.steps.pop()
-                if step.message is not None and step.actor:
-                    self.taken[step.actor].pop()
+                self.remember(step, -1)
                 if step.was_new:
                     self.is_new[step.message] = 1
                     self.oldest = min(self.oldest, step.message)
