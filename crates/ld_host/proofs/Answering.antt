@@ -24,6 +24,8 @@ use Rattle.ld_disk.specs.declared.disk.Disk.{Ghosts}
 use Rattle.ld_disk.specs.declared.memory.MemDisk.{MemDisk}
 use Rattle.ld_msg.specs.Bounds.{IsMessage}
 use Rattle.ld_store.specs.Ops.{place_behind}
+use Rattle.ld_node_bounds.specs.States.{last_carried}
+use Rattle.ld_node_bounds.proofs.Ops.{summaries_are}
 use Rattle.ld_store.specs.Well.{IsWell}
 use Rattle.ld_store.proofs.Bodies.{places}
 use Rattle.ld_register.specs.declared.fault.RegisterFault.{RegisterFault}
@@ -152,7 +154,7 @@ module _ {g : Ghosts MemDisk} (c : Config) (n : ℕ) (node : Running MemDisk g) 
 
   changes : AreChanges (node_handles x m).op
   changes = changes_of (node_handles x m).op
-      (λ o taken. handled_change (log_of x.plain m.log) (well_here.summaries m.log) x.plain.generation m.log (released_at x m.log) m.from m.to m.body o is.log is.fits taken)
+      (λ o taken. handled_change (log_of x.plain m.log) (λ e y there. summaries_are last_carried x.plain m.log e y well_here there) x.plain.generation m.log (released_at x m.log) m.from m.to m.body o is.log is.fits taken)
 
   may : MayKeepAny runs.lies.ops x.plain (node_handles x m).op
   may = change_may runs.lies.ops x.plain (node_handles x m).op changes (sym runs.holds.blank ∙ formatted) runs.lies.formatted

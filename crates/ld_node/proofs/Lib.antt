@@ -2,3 +2,4 @@ pub mod Handles
 pub mod Changes
 pub mod Quiet
 pub mod Looks
+pub mod Sends

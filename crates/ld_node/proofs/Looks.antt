@@ -14,6 +14,8 @@ use Rattle.ld_msg.specs.Register.{Register, epochs_of, lce_of, summary_shown}
 use Rattle.ld_op.specs.declared.op.Op.{Op}
 use Rattle.ld_op.specs.Plain.{Plain, Log, log_of}
 use Rattle.ld_op.specs.Ticks.{Ticked, Nothing, Asks, tick_with, on_tick, lost_tick, refill_tick, refill_asks, asks_first, node_asks, missing, lowest_unclean}
+use Rattle.ld_node_bounds.specs.States.{last_carried}
+use Rattle.ld_node_bounds.proofs.Ops.{summaries_are}
 use Rattle.ld_store.specs.Well.{IsWell}
 use Rattle.ld_register.specs.Calls.{unarmed}
 use Rattle.ld_node.specs.Looks.{AreClosed, seen, ticked, nodes_in, op_of, answer_of}
@@ -81,7 +83,7 @@ no_greatest y is = omega (arith, is.ballot, is.ballot_most)
 
 -- a summary's epoch is below the greatest one
 pub none_greatest : (p : Plain) (l : ℕ) → IsWell p → (y : Summary) → find (2 ^ 32 - 1) (log_of p l).summaries ≡ Some y → ⊥
-none_greatest p l well y e = no_greatest y (well.summaries l (2 ^ 32 - 1) y e)
+none_greatest p l well y e = no_greatest y (summaries_are last_carried p l (2 ^ 32 - 1) y well e)
 
 module _ (id l : ℕ) (set : List ℕ) (g : Log) where
   asks_some : (all : Bool) (ms : List ℕ) → is_some (first ms) ≡ true → answer_of id l set (refill_tick all ms) ≡ answers.Asked (posted (whos.Node id) l (asks_first id set ms))

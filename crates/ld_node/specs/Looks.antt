@@ -11,6 +11,7 @@ use Rattle.ld_op.specs.declared.op.Op.{Op}
 use Rattle.ld_op.specs.declared.op.Op.TheVariants as ops
 use Rattle.ld_op.specs.Plain.{Plain, Log, log_of}
 use Rattle.ld_op.specs.Ticks.{Ticked, Cleans, Rebuilt, Asks, Nothing, tick_with, lowest_unclean, node_asks}
+use Rattle.ld_node_bounds.specs.Messages.{AreMessages}
 use Rattle.ld_register.specs.declared.fault.RegisterFault.{RegisterFault}
 use Rattle.ld_register.specs.declared.fault.RegisterFault.TheVariants as faults
 use Rattle.ld_node.specs.declared.tick.Ticked as declared
@@ -47,6 +48,13 @@ answer_of id l set Nothing = answers.Nothing
 pub record IsStep (id l : ℕ) (set : List ℕ) (step : Step) (done : Ticked) : Type 0 where
   pub op : step.op ≡ op_of l done
   pub answer : step.ticked ≡ answer_of id l set done
+
+-- what it asks is messages that a frame can carry
+abbrev pub AskMessages : declared.Ticked → Type 0
+AskMessages (answers.Cleaned epoch) = Unit {0}
+AskMessages answers.Rebuilt = Unit {0}
+AskMessages (answers.Asked sends) = AreMessages sends
+AskMessages answers.Nothing = Unit {0}
 
 -- each summary is one of a closed epoch
 abbrev pub AreClosed : Register → ℕ → Type 0

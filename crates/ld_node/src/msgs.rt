@@ -4,7 +4,8 @@ ghost use Rattle.std.specs.Option.{unwrap_or};
 ghost use Rattle.ld_table.specs.Table.{find, put};
 ghost use Rattle.ld_op.specs.Answers.{on_release};
 ghost use Rattle.ld_op.specs.Handles.{answer_message};
-ghost use Rattle.ld_msg.specs.Bounds.{IsMessage};
+ghost use Rattle.ld_msg.specs.Bounds.{Is64, IsMessage};
+ghost use Rattle.ld_node_bounds.specs.Messages.{AreMessages};
 ghost use Rattle.ld_store.specs.Well.{IsWell};
 ghost use Rattle.ld_node.specs.Changes.{AreChanges};
 ghost use Rattle.ld_node.specs.Msgs.{is_node, is_for, released_in, released_by, raised, handled};
@@ -39,12 +40,15 @@ pub(crate) fn is_for(id: NodeId, sets: &BTreeMap<u32, NodeSet>, msg: &Msg) -> bo
 /// The released number of a log, 0 where none was told.
 #[tactic(auto, unfolding(ld_table::specs::Table::find))]
 pub(crate) fn released_in(released: &BTreeMap<u32, Lsn>, log: LogId) -> Lsn
-    ensures { result ≡ released_in released.now.entries log }
+    ensures value { result ≡ released_in released.now.entries log }
+    ensures bound { Is64 result }
 {
-    released
+    let number = released
         .get(&log.number())
         .copied()
-        .unwrap_or(Lsn::from_u64(0))
+        .unwrap_or(Lsn::from_u64(0));
+    let _value = number.value();
+    number
 }
 
 /// The greater of two released numbers.
@@ -130,11 +134,13 @@ pub(crate) fn decide(
     ensures op { IfOk result (λ done. done.0 ≡ (handled id sets.now.entries released.now.entries plain.now.state msg.now).op) }
     ensures replies { IfOk result (λ done. done.1 ≡ answer_message id msg.now (handled id sets.now.entries released.now.entries plain.now.state msg.now).answer) }
     ensures change { IfOk result (λ done. AreChanges done.0) }
+    ensures messages { IfOk result (λ done. AreMessages done.1) }
 {
     if !is_for(id, sets, msg) {
         return Ok((None, Replies::empty(alloc)));
     }
     let before = released_in(released, msg.log);
+    let _node = id.number();
     let handled = handle(alloc, plain, before, msg)?;
     let replies = reply(alloc, id, msg, handled.answer)?;
     Ok((handled.op, replies))

@@ -35,6 +35,7 @@ impl<D: Disk> Node<D> {
     ghost use Rattle.ld_msg.specs.Bounds.{IsMessage};
     ghost use Rattle.ld_op.specs.declared.op.Op.{Op as Kind};
     ghost use Rattle.ld_op.specs.Handles.{answer_message};
+    ghost use Rattle.ld_node_bounds.specs.Messages.{AreMessages};
     ghost use Rattle.ld_store.specs.Ops.{StandsFor, StandsForEither, IsDamaged};
     ghost use Rattle.ld_op.specs.Plain.{apply};
     ghost use Rattle.ld_msg.specs.Register.{Register as Contents};
@@ -50,7 +51,7 @@ impl<D: Disk> Node<D> {
     ghost use Rattle.ld_node.specs.Msgs.{handled, released_after};
     ghost use Rattle.ld_node.specs.Formats.{format_of, FormatsBy, LeftByFormat};
     ghost use Rattle.ld_node.specs.declared.tick.Ticked.TheVariants as answers;
-    ghost use Rattle.ld_node.specs.Looks.{nodes_in, ticked, op_of, answer_of, IsOfLook};
+    ghost use Rattle.ld_node.specs.Looks.{nodes_in, ticked, op_of, answer_of, IsOfLook, AskMessages};
     ghost use Rattle.ld_node.specs.Node.{id_of, sets_of, released_of, disk_of, place_of, must_load, is_blank, plain_of, Holds, IsOpened};
 
     /// Loads the node of this number from its disk, in one writing call, with the logs of the configuration whose
@@ -128,8 +129,8 @@ impl<D: Disk> Node<D> {
         self.store.arm(fault);
     }
 
-    /// What a node makes of a message: the op that it keeps, and then what it answers. A message for another node, or
-    /// of a log that it doesn't keep, does nothing and has no answer.
+    /// What a node makes of a message: the op that it keeps, and then what it answers, which a frame can carry. A
+    /// message for another node, or of a log that it doesn't keep, does nothing and has no answer.
     ///
     /// It refuses with `Full` where its journal would be longer than 2^40 bytes, and with `NoMemory`; then nothing has
     /// changed. It refuses with `Disk` where a call of the disk failed: the op is then there or not, which the next
@@ -139,6 +140,10 @@ impl<D: Disk> Node<D> {
         requires formatted { is_blank self.old ≡ false }
 
         ensures replies { IfOk result (λ replies. replies ≡ answer_message (id_of self.old) msg.now (handled (id_of self.old) (sets_of self.old) (released_of self.old) (plain_of self.old) msg.now).answer) }
+
+        // Each answer is a message that a frame can carry.
+        ensures messages { IfOk result (λ replies. AreMessages replies) }
+
         ensures kept { OnOk result (plain_of self.new ≡ kept (handled (id_of self.old) (sets_of self.old) (released_of self.old) (plain_of self.old) msg.now).op (plain_of self.old)) }
         ensures released { OnOk result (released_of self.new ≡ released_after (id_of self.old) (sets_of self.old) (released_of self.old) msg.now) }
         ensures refused { OnErr result ((plain_of self.new ≡ plain_of self.old) × (released_of self.new ≡ released_of self.old)) }
@@ -273,7 +278,8 @@ impl<D: Disk> Node<D> {
     /// Looks at the register for a log and does what the node has to do for it: the lowest epoch that isn't clean here,
     /// where it is closed there, is cleaned with its summary; else, where what was lost is all there again, the node is
     /// lost for the log no more; else, where a number is missing, it asks the other nodes of the log from the lowest
-    /// missing number on; else nothing. For a log that it doesn't keep it does nothing, and doesn't look.
+    /// missing number on, in messages that a frame can carry; else nothing. For a log that it doesn't keep it does
+    /// nothing, and doesn't look.
     ///
     /// It refuses with `Register` as the register's `look` does, with `Full` where its journal would be longer than
     /// 2^40 bytes, and with `NoMemory`; then nothing has changed. It refuses with `Disk` where a call of the disk
@@ -288,6 +294,10 @@ impl<D: Disk> Node<D> {
         requires formatted { is_blank self.old ≡ false }
 
         ensures answer { (c : Contents) → G.holds reg.old c → IfOk result (λ answer. answer ≡ answer_of (id_of self.old) log (nodes_in (sets_of self.old) log) (ticked (sets_of self.old) (plain_of self.old) log c)) }
+
+        // Each ask is a message that a frame can carry.
+        ensures messages { IfOk result (λ answer. AskMessages answer) }
+
         ensures kept { (c : Contents) → G.holds reg.old c → OnOk result (plain_of self.new ≡ kept (op_of log (ticked (sets_of self.old) (plain_of self.old) log c)) (plain_of self.old)) }
         ensures looked { (c : Contents) → G.holds reg.old c → IsErrOf result (NodeFault.Register faults.Failed) ⊎ G.holds reg.new c }
         ensures refused { OnErr result (plain_of self.new ≡ plain_of self.old) }

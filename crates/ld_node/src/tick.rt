@@ -12,7 +12,7 @@ ghost use Rattle.ld_register.specs.declared.fault.RegisterFault.TheVariants as f
 ghost use Rattle.ld_store.specs.Well.{IsWell};
 ghost use Rattle.ld_node.specs.Changes.{AreChanges};
 ghost use Rattle.ld_node.specs.declared.tick.Ticked.TheVariants as answers;
-ghost use Rattle.ld_node.specs.Looks.{seen, IsStep, IsOfLook};
+ghost use Rattle.ld_node.specs.Looks.{seen, IsStep, IsOfLook, AskMessages};
 
 use crate::NodeFault;
 use ld_ids::{LogId, NoMemory, NodeId, NodeSet};
@@ -57,6 +57,7 @@ pub(crate) fn look<G: Register>(
     ensures tells { (c : Contents) → G.tells reg.old c → G.tells reg.new c }
     ensures foretold { (c : Contents) → G.tells reg.old c → IfErr result (λ fault. fault ≡ NodeFault.NoMemory) }
     ensures change { IfOk result (λ step. AreChanges step.op) }
+    ensures messages { IfOk result (λ step. AskMessages step.ticked) }
     ensures told { G.told reg.old → G.told reg.new }
     ensures settled { G.told reg.old → OnOk result ((c : Contents) → G.may_hold reg.new c → G.holds reg.new c) }
     ensures same { (c : Contents) → G.may_hold reg.new c → G.may_hold reg.old c }
@@ -86,10 +87,12 @@ fn by_shown(
     shown: Option<Summary>,
 ) -> Result<Step, NoMemory>
     requires log { IsLog log }
+    requires well { IsWell plain.now.state }
     requires lowest { epoch ≡ lowest_unclean (log_of plain.now.state log) }
     requires shown { IfSome shown (λ y. IsEpoch epoch × IsSummary epoch y) }
     ensures step { IfOk result (λ step. IsStep id log (members set.now) step (tick_with (log_of plain.now.state log) shown)) }
     ensures change { IfOk result (λ step. AreChanges step.op) }
+    ensures messages { IfOk result (λ step. AskMessages step.ticked) }
 {
     match shown {
         Some(summary) => Ok(Step {
@@ -114,9 +117,11 @@ fn refill(
     epoch: u32,
 ) -> Result<Step, NoMemory>
     requires log { IsLog log }
+    requires well { IsWell plain.now.state }
     requires lowest { epoch ≡ lowest_unclean (log_of plain.now.state log) }
     ensures step { IfOk result (λ step. IsStep id log (members set.now) step (lost_tick (log_of plain.now.state log))) }
     ensures change { IfOk result (λ step. AreChanges step.op) }
+    ensures messages { IfOk result (λ step. AskMessages step.ticked) }
 {
     if !plain.is_lost(log) {
         return Ok(quiet());
@@ -124,6 +129,8 @@ fn refill(
     if plain.first_missing(log).is_none() {
         return Ok(refilled(log, plain.lost_to(log) < epoch));
     }
+    let _node = id.number();
+    let _there = set.has(id);
     let mut asks = Outbox::empty(alloc);
     ld_rebuild::asks(alloc, plain, id, log, set, &mut asks)?;
     Ok(Step {
@@ -137,6 +144,7 @@ fn refilled(log: LogId, all_clean: bool) -> Step
     requires log { IsLog log }
     ensures step { (id : ℕ) (set : List ℕ) → IsStep id log set result (refill_tick all_clean []) }
     ensures change { AreChanges result.op }
+    ensures messages { AskMessages result.ticked }
 {
     if !all_clean {
         return quiet();
@@ -151,6 +159,7 @@ fn refilled(log: LogId, all_clean: bool) -> Step
 fn quiet() -> Step
     ensures op { result.op ≡ None }
     ensures answer { result.ticked ≡ answers.Nothing }
+    ensures messages { AskMessages result.ticked }
 {
     Step {
         op: None,

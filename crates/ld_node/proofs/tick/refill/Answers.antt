@@ -7,6 +7,8 @@ use Rattle.ld_op.specs.Plain.{log_of}
 use Rattle.ld_op.specs.Ticks.{refill_tick, refill_asks}
 use Rattle.ld_node.specs.Looks.{IsStep}
 use Rattle.ld_node.specs.declared.tick.Ticked.TheVariants as answers
+use Rattle.ld_node_bounds.specs.Messages.{AreMessages}
+use Rattle.ld_node.proofs.Sends.{asks_are}
 use Rattle.ld_node.proofs.Looks.{asked, asked_op, nothing_missing}
 use Rattle.ld_node.proofs.tick.refill.Goals as goal
 
@@ -31,3 +33,11 @@ returns-clause-step c =
       op = asked_op c.args.id c.args.log set g lost some;
       answer = ap (λ r. answers.Asked r) sent ∙ asked c.args.id c.args.log set g lost some;
     }
+
+pub returns-clause-messages : goal.returns-clause-messages
+returns-clause-messages c =
+    let p = c.args.plain.now.state in
+    let g = log_of p c.args.log in
+    let set = members c.args.set.now in
+    let sent = c.new.ensures ∙ (c.into_vec.ensures ∙ (c.in_ok-asks.ensures.ok ∙ ap (λ r. r ++ posted (whos.Node c.args.id) c.args.log (refill_asks c.args.id set g)) c.empty-asks.ensures)) in
+    subst (λ r. AreMessages r) (sym sent) (asks_are p c.args.id c.args.log c.args.set.now c.requires.well c.number-node.ensures.bounds c.requires.log c.has-there.ensures.set)
