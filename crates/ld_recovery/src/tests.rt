@@ -1,15 +1,12 @@
 // The recovery of epoch 1 by the sequencer of epoch 2, of a log on the nodes 1, 2 and 3 with each record on two.
-ghost use Rattle.std.specs.Prelude.{◌≡◌, ◌≤◌, ◌<◌, ◌-◌, ◌^◌, true, IfOk};
-ghost use Rattle.ld_msg.specs.Bounds.{IsSummary};
+ghost use Rattle.std.specs.Prelude.{◌≡◌, ◌≤◌, ◌<◌, ◌-◌, ◌^◌, true};
 ghost use Rattle.ld_recovery.specs.Recovering.{IsReplyTo};
-ghost use Rattle.ld_msg.specs.Bounds.{IsPage};
-ghost use Rattle.ld_lsn.specs.Number.{numbered, last_esn};
 ghost use Rattle.ld_recovery.specs.States.{is_epoch_answer};
 
-use crate::{Answer, Recovery, State, closings_are_summaries, recoveries_hold};
-use ld_ids::{LogId, NoMemory, NodeId, NodeSet, Payload, Spec};
+use crate::{Answer, Recovery, State};
+use ld_ids::{LogId, NoMemory, NodeId, NodeSet, Spec};
 use ld_lsn::Lsn;
-use ld_msg::{Body, Entries, Entry, Msg, Outbox, Summary, What, Who};
+use ld_msg::{Body, Entries, Msg, Outbox, Summary, Who};
 use std::alloc::Global;
 use std::test::Fail;
 
@@ -39,27 +36,23 @@ fn begin(alloc: Global, log: LogId, out: &mut Outbox) -> Result<Recovery, NoMemo
     Recovery::start(alloc, &three_nodes(log), 1, 2, out)
 }
 
-// A reply of a node comes.
-fn comes(
-    alloc: Global,
-    recovery: &mut Recovery,
-    node: u8,
-    body: Body,
-    out: &mut Outbox,
-) -> Result<(), NoMemory>
-    requires { IsReplyTo 2 body }
-{
-    if let (Some(log), Some(node)) = (LogId::new(1), NodeId::new(node)) {
-        let _ = (log.number(), node.number());
-        let msg = Msg {
-            from: Who::Node(node),
-            to: Who::Sequencer(2),
-            log,
-            body,
-        };
-        recovery.on_reply(alloc, &msg, out)?;
-    }
-    Ok(())
+// What a node replies.
+#[derive(Clone, Copy)]
+enum Reply {
+    // It has nothing of the epoch.
+    Nothing,
+    // It stored the bridge at the place 1.
+    Stored,
+    // It trimmed all up to the place 1.
+    Trimmed,
+    // It is sealed by an epoch.
+    Sealed(u32),
+    // It lost the epoch.
+    Lost,
+    // The epoch is clean there.
+    Clean,
+    // The epoch of the recovery's own sequencer is clean there.
+    OwnClean,
 }
 
 // A node stored what has this place.
@@ -142,199 +135,120 @@ fn nothing(alloc: Global, from: u32, upto: u32) -> Body
     }
 }
 
-// The record at the first place.
-fn record(alloc: Global) -> Result<Entries, NoMemory>
-    ensures { IfOk result (λ entries. IsPage (numbered 1 1) (numbered 1 last_esn) entries) }
-{
-    let payload = Payload::new(Vec::from_slice(alloc, &[7])?);
-    let mut entries = Entries::empty(alloc);
-    entries.push(Entry {
-        number: Lsn::new(1, 1),
-        ballot: 1,
-        what: What::Rec(payload),
-    })?;
-    Ok(entries)
-}
-
-// A node has these entries and no others.
-fn page(entries: Entries) -> Body
-    requires { IsPage (numbered 1 1) (numbered 1 last_esn) entries }
+// The body of a reply.
+fn body(alloc: Global, reply: Reply) -> Body
     ensures { IsReplyTo 2 result }
 {
-    Body::DigestPage {
-        from: Lsn::new(1, 1),
-        upto: Lsn::new(1, LAST),
-        trim: Lsn::from_u64(0),
-        lng: 0,
-        entries,
+    match reply {
+        Reply::Nothing => nothing(alloc, 1, LAST),
+        Reply::Stored => stored(1),
+        Reply::Trimmed => trimmed(1),
+        Reply::Sealed(by) => sealed(by),
+        Reply::Lost => lost(),
+        Reply::Clean => clean(1, 7),
+        Reply::OwnClean => clean(2, 7),
     }
 }
 
-// The node that the message of the place went to, 0 where there is none.
-fn went_to(out: &Outbox, place: usize) -> u8 {
-    match out.as_slice().get(place) {
-        Some(msg) => match msg.to {
-            Who::Node(node) => node.number(),
-            _ => 0,
-        },
-        None => 0,
-    }
-}
-
-// The place of the epoch that the message of the place asks from, 0 where it asks for nothing.
-fn asks_from(out: &Outbox, place: usize) -> u32 {
-    match out.as_slice().get(place) {
-        Some(msg) => match &msg.body {
-            Body::DigestAsk { from } => from.esn(),
-            _ => 0,
-        },
-        None => 0,
-    }
-}
-
-// A recovery whose plan is the record at place 1 and the bridge at place 2.
-fn storing(alloc: Global, log: LogId, out: &mut Outbox) -> Result<Recovery, NoMemory> {
-    let mut recovery = begin(alloc, log, out)?;
-    let there = page(record(alloc)?);
-    comes(alloc, &mut recovery, 1, there, out)?;
-    let none = nothing(alloc, 1, LAST);
-    comes(alloc, &mut recovery, 2, none, out)?;
-    Ok(recovery)
-}
-
-// A recovery whose plan, a bridge alone, is stored.
-fn closing(alloc: Global, log: LogId, out: &mut Outbox) -> Result<Recovery, NoMemory> {
-    let mut recovery = begin(alloc, log, out)?;
-    comes(alloc, &mut recovery, 1, nothing(alloc, 1, LAST), out)?;
-    comes(alloc, &mut recovery, 2, nothing(alloc, 1, LAST), out)?;
-    comes(alloc, &mut recovery, 3, stored(1), out)?;
-    comes(alloc, &mut recovery, 1, stored(1), out)?;
-    Ok(recovery)
-}
-
-// A register that takes summaries of an epoch.
-fn takes(epoch: u32, summary: &Summary) -> bool
-    requires { IsSummary epoch summary.now }
+// A message of a node comes.
+fn comes(
+    alloc: Global,
+    recovery: &mut Recovery,
+    log: LogId,
+    node: NodeId,
+    body: Body,
+    out: &mut Outbox,
+) -> Result<(), NoMemory>
+    requires { IsReplyTo 2 body }
 {
-    epoch < summary.ballot
+    let _ = (log.number(), node.number());
+    let msg = Msg {
+        from: Who::Node(node),
+        to: Who::Sequencer(2),
+        log,
+        body,
+    };
+    recovery.on_reply(alloc, &msg, out)
 }
 
-// The register's answer comes, where the recovery is closing.
-fn close(recovery: &mut Recovery, answer: Answer, out: &mut Outbox) -> Result<(), NoMemory>
+// A node's reply comes.
+fn replies(
+    alloc: Global,
+    recovery: &mut Recovery,
+    log: LogId,
+    node: NodeId,
+    reply: Reply,
+    out: &mut Outbox,
+) -> Result<(), NoMemory> {
+    comes(alloc, recovery, log, node, body(alloc, reply), out)
+}
+
+// The register's answer comes. The end that the recovery was closing with, 0 where it wasn't closing.
+fn close(recovery: &mut Recovery, answer: Answer, out: &mut Outbox) -> Result<u32, NoMemory>
     requires { is_epoch_answer answer ≡ true }
 {
     match recovery.state() {
         State::Closing(summary) => {
-            if takes(recovery.epoch(), &summary) {
-                recovery.closed(answer, out)?;
-            }
-            Ok(())
+            recovery.closed(answer, out)?;
+            Ok(summary.end)
         }
-        _ => Ok(()),
+        _ => Ok(0),
     }
 }
 
+// The epoch is closed, as the register says.
+fn close_taken(recovery: &mut Recovery, out: &mut Outbox) -> Result<u32, NoMemory> {
+    close(recovery, Answer::Taken, out)
+}
+
+// The register failed to close the epoch.
+fn close_failed(recovery: &mut Recovery, out: &mut Outbox) -> Result<u32, NoMemory> {
+    close(recovery, Answer::Failed, out)
+}
+
+// The register says that it closed the epoch 1 and no later one before.
+fn close_late(recovery: &mut Recovery, out: &mut Outbox) -> Result<u32, NoMemory> {
+    close(recovery, Answer::Behind(1), out)
+}
+
+// The state, as one letter.
+fn letter(recovery: &Recovery) -> u8 {
+    match recovery.state() {
+        State::Sealing => b's',
+        State::Storing => b't',
+        State::Closing(_) => b'c',
+        State::Done(_) => b'd',
+        State::Gone(_) => b'g',
+        State::Preempted(_) => b'p',
+    }
+}
+
+// The replies up to the close, each with its node, and with the state and the count of all messages after it.
+const WHOLE: [(u8, Reply, u8, usize); 6] = [
+    (1, Reply::Nothing, b's', 3),
+    (1, Reply::Lost, b's', 3),
+    (2, Reply::Nothing, b's', 3),
+    (3, Reply::Nothing, b't', 5),
+    (3, Reply::Stored, b't', 5),
+    (2, Reply::Trimmed, b'c', 5),
+];
+
 #[test]
-fn two_whole_nodes_are_enough_and_one_is_not(rt: HostRuntime) -> Result<(), Fail> {
+fn an_epoch_that_no_node_has_is_closed_with_a_bridge(rt: HostRuntime) -> Result<(), Fail> {
     let alloc = rt.alloc();
     let log = LogId::new(1).expect(&rt, "a log");
     let mut out = Outbox::empty(alloc);
     let mut recovery = begin(alloc, log, &mut out)?;
-    assert_eq!(rt; out.len(), 3);
-    assert_eq!(rt; recovery.epoch(), 1);
-    comes(alloc, &mut recovery, 1, nothing(alloc, 1, LAST), &mut out)?;
-    assert!(rt; recovery.state() == State::Sealing);
-    comes(alloc, &mut recovery, 1, lost(), &mut out)?;
-    comes(alloc, &mut recovery, 2, nothing(alloc, 1, LAST), &mut out)?;
-    assert!(rt; recovery.state() == State::Sealing);
-    assert_eq!(rt; out.len(), 3);
-    comes(alloc, &mut recovery, 3, nothing(alloc, 1, LAST), &mut out)?;
-    assert!(rt; recovery.state() == State::Storing);
-    assert_eq!(rt; out.len(), 5);
-    assert_eq!(rt; went_to(&out, 3), 3);
-    assert_eq!(rt; went_to(&out, 4), 2);
-    Ok(())
-}
-
-#[test]
-fn a_node_is_asked_on_from_where_its_page_ends(rt: HostRuntime) -> Result<(), Fail> {
-    let alloc = rt.alloc();
-    let log = LogId::new(1).expect(&rt, "a log");
-    let mut out = Outbox::empty(alloc);
-    let mut recovery = begin(alloc, log, &mut out)?;
-    comes(alloc, &mut recovery, 1, nothing(alloc, 1, 64), &mut out)?;
-    assert_eq!(rt; out.len(), 4);
-    assert_eq!(rt; went_to(&out, 3), 1);
-    assert_eq!(rt; asks_from(&out, 3), 65);
-    comes(alloc, &mut recovery, 1, nothing(alloc, 1, LAST), &mut out)?;
-    comes(alloc, &mut recovery, 2, nothing(alloc, 1, LAST), &mut out)?;
-    assert!(rt; recovery.state() == State::Sealing);
-    recovery.retry(alloc, &mut out)?;
-    assert_eq!(rt; out.len(), 6);
-    assert_eq!(rt; asks_from(&out, 4), 65);
-    assert_eq!(rt; asks_from(&out, 5), 1);
-    comes(alloc, &mut recovery, 1, nothing(alloc, 65, LAST), &mut out)?;
-    assert!(rt; recovery.state() == State::Storing);
-    Ok(())
-}
-
-#[test]
-fn each_item_needs_two_nodes(rt: HostRuntime) -> Result<(), Fail> {
-    let alloc = rt.alloc();
-    let log = LogId::new(1).expect(&rt, "a log");
-    let mut out = Outbox::empty(alloc);
-    let mut recovery = storing(alloc, log, &mut out)?;
-    assert!(rt; recovery.state() == State::Storing);
-    assert_eq!(rt; out.len(), 7);
-    assert_eq!(rt; went_to(&out, 3), 3);
-    assert_eq!(rt; went_to(&out, 4), 1);
-    assert_eq!(rt; went_to(&out, 5), 1);
-    assert_eq!(rt; went_to(&out, 6), 2);
-    comes(alloc, &mut recovery, 1, stored(2), &mut out)?;
-    comes(alloc, &mut recovery, 2, stored(2), &mut out)?;
-    comes(alloc, &mut recovery, 3, stored(2), &mut out)?;
-    assert!(rt; recovery.state() == State::Storing);
-    comes(alloc, &mut recovery, 3, stored(1), &mut out)?;
-    comes(alloc, &mut recovery, 3, stored(1), &mut out)?;
-    assert!(rt; recovery.state() == State::Storing);
-    comes(alloc, &mut recovery, 1, stored(1), &mut out)?;
-    assert!(rt; recovery.state() == State::Closing(closed(2, 2)));
-    assert_eq!(rt; out.len(), 7);
-    Ok(())
-}
-
-#[test]
-fn a_trim_counts_for_all_items_up_to_it(rt: HostRuntime) -> Result<(), Fail> {
-    let alloc = rt.alloc();
-    let log = LogId::new(1).expect(&rt, "a log");
-    let mut out = Outbox::empty(alloc);
-    let mut recovery = storing(alloc, log, &mut out)?;
-    comes(alloc, &mut recovery, 3, trimmed(5), &mut out)?;
-    comes(alloc, &mut recovery, 2, trimmed(1), &mut out)?;
-    assert!(rt; recovery.state() == State::Storing);
-    comes(alloc, &mut recovery, 2, trimmed(2), &mut out)?;
-    assert!(rt; recovery.state() == State::Closing(closed(2, 2)));
-    Ok(())
-}
-
-#[test]
-fn an_epoch_that_is_taken_is_told_to_all(rt: HostRuntime) -> Result<(), Fail> {
-    let alloc = rt.alloc();
-    let log = LogId::new(1).expect(&rt, "a log");
-    let mut out = Outbox::empty(alloc);
-    let mut recovery = closing(alloc, log, &mut out)?;
-    assert!(rt; recovery.state() == State::Closing(closed(2, 1)));
-    close(&mut recovery, Answer::Failed, &mut out)?;
-    assert!(rt; recovery.state() == State::Closing(closed(2, 1)));
-    assert_eq!(rt; out.len(), 5);
-    close(&mut recovery, Answer::Taken, &mut out)?;
-    assert!(rt; recovery.state() == State::Done(closed(2, 1)));
-    assert_eq!(rt; out.len(), 8);
-    assert_eq!(rt; went_to(&out, 5), 1);
-    assert_eq!(rt; went_to(&out, 7), 3);
-    comes(alloc, &mut recovery, 1, sealed(3), &mut out)?;
-    recovery.retry(alloc, &mut out)?;
-    assert!(rt; recovery.state() == State::Done(closed(2, 1)));
+    'rows: for (number, reply, state, sent) in WHOLE {
+        let node = NodeId::new(number).expect(&rt, "a node");
+        replies(alloc, &mut recovery, log, node, reply, &mut out)?;
+        assert_eq!(rt; letter(&recovery), state);
+        assert_eq!(rt; out.len(), sent);
+    }
+    assert_eq!(rt; close_failed(&mut recovery, &mut out)?, 1);
+    assert_eq!(rt; letter(&recovery), b'c');
+    assert_eq!(rt; close_taken(&mut recovery, &mut out)?, 1);
+    assert_eq!(rt; letter(&recovery), b'd');
     assert_eq!(rt; out.len(), 8);
     Ok(())
 }
@@ -344,18 +258,14 @@ fn a_register_that_is_ahead_ends_it(rt: HostRuntime) -> Result<(), Fail> {
     let alloc = rt.alloc();
     let log = LogId::new(1).expect(&rt, "a log");
     let mut out = Outbox::empty(alloc);
-    let mut gone = closing(alloc, log, &mut out)?;
-    close(&mut gone, Answer::Behind(1), &mut out)?;
-    assert!(rt; gone.state() == State::Gone(1));
-    let mut late = closing(alloc, log, &mut out)?;
-    close(&mut late, Answer::Behind(2), &mut out)?;
-    assert!(rt; late.state() == State::Preempted(3));
-    let sent = out.len();
-    gone.retry(alloc, &mut out)?;
-    late.retry(alloc, &mut out)?;
-    comes(alloc, &mut gone, 1, clean(1, 2), &mut out)?;
-    assert!(rt; gone.state() == State::Gone(1));
-    assert_eq!(rt; out.len(), sent);
+    let mut recovery = begin(alloc, log, &mut out)?;
+    'rows: for (number, reply, state, _) in WHOLE {
+        let node = NodeId::new(number).expect(&rt, "a node");
+        replies(alloc, &mut recovery, log, node, reply, &mut out)?;
+        assert_eq!(rt; letter(&recovery), state);
+    }
+    assert_eq!(rt; close_late(&mut recovery, &mut out)?, 1);
+    assert_eq!(rt; letter(&recovery), b'g');
     Ok(())
 }
 
@@ -365,117 +275,35 @@ fn a_retry_asks_for_what_is_wanted(rt: HostRuntime) -> Result<(), Fail> {
     let log = LogId::new(1).expect(&rt, "a log");
     let mut out = Outbox::empty(alloc);
     let mut recovery = begin(alloc, log, &mut out)?;
-    recovery.retry(alloc, &mut out)?;
-    assert_eq!(rt; out.len(), 6);
-    comes(alloc, &mut recovery, 1, nothing(alloc, 1, LAST), &mut out)?;
-    recovery.retry(alloc, &mut out)?;
-    assert_eq!(rt; out.len(), 8);
-    assert_eq!(rt; went_to(&out, 6), 2);
-    assert_eq!(rt; went_to(&out, 7), 3);
-    comes(alloc, &mut recovery, 2, nothing(alloc, 1, LAST), &mut out)?;
-    assert_eq!(rt; out.len(), 10);
-    assert_eq!(rt; went_to(&out, 8), 3);
-    assert_eq!(rt; went_to(&out, 9), 1);
-    recovery.retry(alloc, &mut out)?;
-    assert_eq!(rt; out.len(), 12);
-    assert_eq!(rt; went_to(&out, 10), 1);
-    assert_eq!(rt; went_to(&out, 11), 2);
-    Ok(())
-}
-
-#[test]
-fn a_retry_sends_to_all_of_its_choice(rt: HostRuntime) -> Result<(), Fail> {
-    let alloc = rt.alloc();
-    let log = LogId::new(1).expect(&rt, "a log");
-    let mut out = Outbox::empty(alloc);
-    let mut recovery = storing(alloc, log, &mut out)?;
-    comes(alloc, &mut recovery, 1, stored(1), &mut out)?;
-    comes(alloc, &mut recovery, 1, stored(2), &mut out)?;
-    comes(alloc, &mut recovery, 2, stored(2), &mut out)?;
-    recovery.retry(alloc, &mut out)?;
-    assert_eq!(rt; out.len(), 9);
-    assert_eq!(rt; went_to(&out, 7), 1);
-    assert_eq!(rt; went_to(&out, 8), 2);
-    comes(alloc, &mut recovery, 2, stored(1), &mut out)?;
-    assert!(rt; recovery.state() == State::Closing(closed(2, 2)));
-    recovery.retry(alloc, &mut out)?;
-    assert!(rt; recovery.state() == State::Closing(closed(2, 2)));
-    assert_eq!(rt; out.len(), 9);
-    Ok(())
-}
-
-#[test]
-fn a_greater_seal_preempts(rt: HostRuntime) -> Result<(), Fail> {
-    let alloc = rt.alloc();
-    let log = LogId::new(1).expect(&rt, "a log");
-    let mut out = Outbox::empty(alloc);
-    let mut sealing = begin(alloc, log, &mut out)?;
-    comes(alloc, &mut sealing, 1, sealed(2), &mut out)?;
-    assert!(rt; sealing.state() == State::Sealing);
-    comes(alloc, &mut sealing, 1, sealed(3), &mut out)?;
-    assert!(rt; sealing.state() == State::Preempted(3));
-    let mut storing = storing(alloc, log, &mut out)?;
-    comes(alloc, &mut storing, 3, sealed(4), &mut out)?;
-    assert!(rt; storing.state() == State::Preempted(4));
-    let mut closing = closing(alloc, log, &mut out)?;
-    comes(alloc, &mut closing, 2, sealed(5), &mut out)?;
-    assert!(rt; closing.state() == State::Preempted(5));
-    let sent = out.len();
-    sealing.retry(alloc, &mut out)?;
-    storing.retry(alloc, &mut out)?;
-    assert_eq!(rt; out.len(), sent);
-    Ok(())
-}
-
-#[test]
-fn a_clean_epoch_is_done_and_the_own_one_preempts(rt: HostRuntime) -> Result<(), Fail> {
-    let alloc = rt.alloc();
-    let log = LogId::new(1).expect(&rt, "a log");
-    let mut out = Outbox::empty(alloc);
-    let mut sealing = begin(alloc, log, &mut out)?;
-    comes(alloc, &mut sealing, 1, clean(0, 7), &mut out)?;
-    assert!(rt; sealing.state() == State::Sealing);
-    comes(alloc, &mut sealing, 1, clean(1, 7), &mut out)?;
-    assert!(rt; sealing.state() == State::Done(closed(7, 9)));
-    assert_eq!(rt; out.len(), 6);
-    let mut own = begin(alloc, log, &mut out)?;
-    comes(alloc, &mut own, 1, clean(2, 7), &mut out)?;
-    assert!(rt; own.state() == State::Preempted(7));
-    assert_eq!(rt; out.len(), 9);
-    let mut closing = closing(alloc, log, &mut out)?;
-    comes(alloc, &mut closing, 1, clean(1, 8), &mut out)?;
-    assert!(rt; closing.state() == State::Done(closed(8, 9)));
-    Ok(())
-}
-
-// A reader asks a node.
-fn asks(alloc: Global, recovery: &mut Recovery, out: &mut Outbox) -> Result<(), NoMemory> {
-    if let (Some(log), Some(node)) = (LogId::new(1), NodeId::new(1)) {
-        let _ = (log.number(), node.number());
-        let msg = Msg {
-            from: Who::Reader(0),
-            to: Who::Node(node),
-            log,
-            body: Body::ReadAsk {
-                round: 1,
-                from: Lsn::new(1, 1),
-            },
-        };
-        recovery.on_reply(alloc, &msg, out)?;
+    // three nodes are asked twice, and two are once one has replied; once another has, two are to store the bridge
+    'rows: for (number, replied, asked) in [(3, 6, 8), (1, 12, 14)] {
+        recovery.retry(alloc, &mut out)?;
+        let node = NodeId::new(number).expect(&rt, "a node");
+        replies(alloc, &mut recovery, log, node, Reply::Nothing, &mut out)?;
+        assert_eq!(rt; out.len(), replied);
+        recovery.retry(alloc, &mut out)?;
+        assert_eq!(rt; out.len(), asked);
     }
     Ok(())
 }
 
 #[test]
-fn other_messages_do_nothing(rt: HostRuntime) -> Result<(), Fail> {
+fn word_of_another_sequencer_ends_it(rt: HostRuntime) -> Result<(), Fail> {
     let alloc = rt.alloc();
     let log = LogId::new(1).expect(&rt, "a log");
-    let mut out = Outbox::empty(alloc);
-    let mut recovery = begin(alloc, log, &mut out)?;
-    asks(alloc, &mut recovery, &mut out)?;
-    recoveries_hold(&recovery);
-    closings_are_summaries();
-    assert!(rt; recovery.state() == State::Sealing);
-    assert_eq!(rt; out.len(), 3);
+    let node = NodeId::new(1).expect(&rt, "a node");
+    let rows = [
+        (Reply::Sealed(2), b's', 3),
+        (Reply::Sealed(3), b'p', 3),
+        (Reply::OwnClean, b'p', 3),
+        (Reply::Clean, b'd', 6),
+    ];
+    'rows: for (reply, state, sent) in rows {
+        let mut out = Outbox::empty(alloc);
+        let mut recovery = begin(alloc, log, &mut out)?;
+        replies(alloc, &mut recovery, log, node, reply, &mut out)?;
+        assert_eq!(rt; letter(&recovery), state);
+        assert_eq!(rt; out.len(), sent);
+    }
     Ok(())
 }
