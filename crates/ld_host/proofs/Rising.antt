@@ -178,7 +178,7 @@ module _ (c : Config) (n : ℕ) (p : DiskPlain) (x : Node) (lies : Lies p x) whe
 
   -- what is known of a load that was refused
   pub record NotLoaded (fault : NodeFault) (q : DiskPlain) : Type 0 where
-    pub exact : (fault ≡ faults.NoMemory) ⊎ ((Some q ≡ Some (after_call None p)) × ((fault ≡ faults.Disk) ↔ (succeeds p ≡ false)))
+    pub exact : ((fault ≡ faults.NoMemory) × ((Some q ≡ Some p) ⊎ (Some q ≡ Some (after_call None p)))) ⊎ ((Some q ≡ Some (after_call None p)) × ((fault ≡ faults.Disk) ↔ (succeeds p ≡ false)))
     pub damaged : (place : ℕ) → fault ≡ faults.Damaged place → IsDamaged place p.state.bytes
     pub full : fault ≢ faults.Full
     pub loaded : fault ≢ faults.NeedsLoad
@@ -189,7 +189,7 @@ module _ (c : Config) (n : ℕ) (p : DiskPlain) (x : Node) (lies : Lies p x) whe
 
   pub falls : (fault : NodeFault) (q : DiskPlain) (done : State × HostKept) → NotLoaded fault q → Refuses fault q done → Falls done
   falls faults.Disk q done not refuses = ⊎_elim
-      (λ is. absurd (no_memory is))
+      (λ is. absurd (no_memory is.0))
       (λ exact. falls_made q done (some_is q (after_call None p) exact.0) (exact.1.0 refl) refuses)
       not.exact
   falls (faults.Damaged place) q done not refuses = let f = finds p x lies in absurd (not_damaged f.ops p.state.bytes place f.journal (not.damaged place refl))

@@ -3,3 +3,4 @@ pub mod Changes
 pub mod Quiet
 pub mod Looks
 pub mod Sends
+pub mod Draws

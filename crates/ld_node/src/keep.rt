@@ -42,7 +42,9 @@ pub(crate) fn keep<D: Disk>(
     ensures loads { (must_load store.new ≡ true) ↔ IsErrOf result NodeFault.Disk }
     ensures damaged { (place : ℕ) → result ≢ Err (NodeFault.Damaged place) }
     ensures register { (fault : RegisterFault) → result ≢ Err (NodeFault.Register fault) }
+    ensures itself { D.identity (disk_of store.new) ≡ D.identity (disk_of store.old) }
     ensures counts { D.faults (disk_of store.old) ≤ D.faults (disk_of store.new) }
+    ensures steady { IsErrOf result NodeFault.Disk ⊎ (D.faults (disk_of store.new) ≡ D.faults (disk_of store.old)) }
     ensures failed { IsErrOf result NodeFault.Disk → Rose (D.faults (disk_of store.old)) (D.faults (disk_of store.new)) }
     ensures stays { OnErr result (IsErrOf result NodeFault.Disk ⊎ Unchanged D.seen D.may_leave D.moment D.left_since (disk_of store.old) (disk_of store.new)) }
     ensures keeps { OnErr result (IsErrOf result NodeFault.Disk ⊎ ((D.plain (disk_of store.new) ≡ D.plain (disk_of store.old)) × (place_of store.new ≡ place_of store.old))) }

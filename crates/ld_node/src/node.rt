@@ -26,7 +26,7 @@ pub struct Node<D: Disk> {
 }
 
 impl<D: Disk> Node<D> {
-    ghost use Rattle.std.specs.Prelude.{◌≡◌, ◌≢◌, ◌⊎◌, ◌↔◌, ◌≤◌, ◌++◌, [], ◌∷◌, ℕ, List, IfOk, IfErr, IfSome, MatchResult, OnOk, OnErr, IsErrOf, Ok, Err, None, Some, is_ok, is_some, true, false};
+    ghost use Rattle.std.specs.Prelude.{◌≡◌, ◌≢◌, ◌⊎◌, ◌↔◌, ◌≤◌, ◌-◌, ◌^◌, ◌++◌, [], ◌∷◌, ℕ, List, IfOk, IfErr, IfSome, MatchResult, OnOk, OnErr, IsErrOf, Ok, Err, None, Some, is_ok, is_some, true, false};
     ghost use Rattle.std.specs.Option.{option_map};
     ghost use Rattle.ld_io.specs.Causes.{Rose};
     ghost use Rattle.ld_disk.specs.Images.{IsHonest};
@@ -38,8 +38,8 @@ impl<D: Disk> Node<D> {
     ghost use Rattle.ld_node_bounds.specs.Messages.{AreMessages};
     ghost use Rattle.ld_store.specs.Ops.{StandsFor, StandsForEither, IsDamaged};
     ghost use Rattle.ld_op.specs.Plain.{apply};
-    ghost use Rattle.ld_msg.specs.Register.{Register as Contents};
-    ghost use Rattle.ld_register.specs.Calls.{drawn as drawn_by, after_draw, ChangedOrNot, IsFree};
+    ghost use Rattle.ld_msg.specs.Register.{Register as Contents, generation_of};
+    ghost use Rattle.ld_register.specs.Calls.{drawn as drawn_by, after_draw, ChangedOrNot, IsFree, Keeps, is_full, draw_length};
     ghost use Rattle.ld_register.specs.declared.register.Drawn.{Drawn as Drawing};
     ghost use Rattle.ld_register.specs.declared.fault.RegisterFault.{RegisterFault as Refusal};
     ghost use Rattle.ld_table.specs.Table.{find};
@@ -69,7 +69,9 @@ impl<D: Disk> Node<D> {
         ensures node { IfOk result (λ node. (id_of node ≡ id) × (sets_of node ≡ sets_in id config.now.logs) × (released_of node ≡ [])) }
         ensures opens { IfOk result (λ node. IfSome (D.seen disk) (IsOpened D.seen D.may_leave node)) }
         ensures works { IfOk result (λ node. must_load node ≡ false) }
+        ensures itself { MatchResult result (λ node. D.identity (disk_of node) ≡ D.identity disk) (λ e. D.identity e.0 ≡ D.identity disk) }
         ensures counts { MatchResult result (λ node. D.faults disk ≤ D.faults (disk_of node)) (λ e. D.faults disk ≤ D.faults e.0) }
+        ensures steady { MatchResult result (λ node. D.faults (disk_of node) ≡ D.faults disk) (λ e. (e.1 ≡ NodeFault.Disk) ⊎ (D.faults e.0 ≡ D.faults disk)) }
 
         // A crash at any moment leaves what a crash before the call might have left.
         ensures any_moment { MatchResult result (λ node. LeavesOnly D.moment D.left_since disk (disk_of node) (D.may_leave disk))
@@ -78,8 +80,9 @@ impl<D: Disk> Node<D> {
         // Where the disk tells what each call will do, and no read of it fails, it is one writing call.
         ensures exact { (p : DiskPlain) → D.plain disk ≡ Some p → reads_fine p ≡ true
             → MatchResult result (λ node. (D.plain (disk_of node) ≡ Some (after_call None p)) × (succeeds p ≡ true))
-            (λ e. (e.1 ≡ NodeFault.NoMemory) ⊎ ((D.plain e.0 ≡ Some (after_call None p)) × ((e.1 ≡ NodeFault.Disk) ↔ (succeeds p ≡ false)))) }
+            (λ e. ((e.1 ≡ NodeFault.NoMemory) × ((D.plain e.0 ≡ Some p) ⊎ (D.plain e.0 ≡ Some (after_call None p)))) ⊎ ((D.plain e.0 ≡ Some (after_call None p)) × ((e.1 ≡ NodeFault.Disk) ↔ (succeeds p ≡ false)))) }
 
+        ensures seen { MatchResult result (λ node. D.seen (disk_of node) ≡ D.seen disk) (λ e. (e.1 ≡ NodeFault.Disk) ⊎ (D.seen e.0 ≡ D.seen disk)) }
         ensures failed { IfErr result (λ e. e.1 ≡ NodeFault.Disk → Rose (D.faults disk) (D.faults e.0)) }
         ensures damaged { IfErr result (λ e. (place : ℕ) → e.1 ≡ NodeFault.Damaged place → IfSome (D.seen disk) (IsDamaged place)) }
         ensures honest { IfErr result (λ e. IsHonest (D.seen disk) → ((c : List ℕ) → D.may_leave disk c → (state : _) × StandsFor state c)
@@ -121,6 +124,7 @@ impl<D: Disk> Node<D> {
     pub fn arm(&mut self, fault: Fault)
         ensures exact { D.plain (disk_of self.new) ≡ option_map (armed_with fault) (D.plain (disk_of self.old)) }
         ensures same { Unchanged D.seen D.may_leave D.moment D.left_since (disk_of self.old) (disk_of self.new) }
+        ensures itself { D.identity (disk_of self.new) ≡ D.identity (disk_of self.old) }
         ensures faults { D.faults (disk_of self.new) ≡ D.faults (disk_of self.old) }
         ensures rest { (plain_of self.new ≡ plain_of self.old) × (released_of self.new ≡ released_of self.old) × (id_of self.new ≡ id_of self.old) × (sets_of self.new ≡ sets_of self.old) × (is_blank self.new ≡ is_blank self.old) × (must_load self.new ≡ must_load self.old) }
         ensures place { place_of self.new ≡ place_of self.old }
@@ -173,7 +177,9 @@ impl<D: Disk> Node<D> {
         ensures loads { (must_load self.new ≡ true) ↔ ((must_load self.old ≡ true) ⊎ IsErrOf result NodeFault.Disk) }
         ensures register { (fault : Refusal) → result ≢ Err (NodeFault.Register fault) }
         ensures damaged { (place : ℕ) → result ≢ Err (NodeFault.Damaged place) }
+        ensures itself { D.identity (disk_of self.new) ≡ D.identity (disk_of self.old) }
         ensures counts { D.faults (disk_of self.old) ≤ D.faults (disk_of self.new) }
+        ensures steady { IsErrOf result NodeFault.Disk ⊎ (D.faults (disk_of self.new) ≡ D.faults (disk_of self.old)) }
         ensures failed { IsErrOf result NodeFault.Disk → Rose (D.faults (disk_of self.old)) (D.faults (disk_of self.new)) }
 
         // Another refusal than `Disk` changes nothing.
@@ -202,10 +208,12 @@ impl<D: Disk> Node<D> {
     /// Formats a blank node under a generation that the register draws for it: what the logs' epochs held so far is
     /// lost here. The answer is what was drawn.
     ///
-    /// It refuses with `Register` as the register's `draw` does. Once it is drawn it refuses with `Full` where its
-    /// journal would be longer than 2^40 bytes, and with `NoMemory`; then nothing else has changed. It refuses with
-    /// `Disk` where a call of the disk failed: the format is then there or not, which the next load tells, and until
-    /// then each call answers `NeedsLoad`.
+    /// It refuses with `Register` as the register's `draw` does: with `GenLimit` only where the node's generation there is
+    /// 2^32-1, with `Full` only where the register's journal has no room, with `Damaged` only where its bytes are no
+    /// journal of its changes, and with `Failed` only where its count of faults rose. Once it is drawn it refuses with
+    /// `Full` where its own journal would be longer than 2^40 bytes, and with `NoMemory`; then nothing else has changed.
+    /// It refuses with `Disk` where a call of the disk failed: the format is then there or not, which the next load
+    /// tells, and until then each call answers `NeedsLoad`.
     pub fn format<G: Register>(&mut self, alloc: Global, reg: &mut G) -> Result<Drawn, NodeFault>
         requires blank { is_blank self.old ≡ true }
 
@@ -241,6 +249,15 @@ impl<D: Disk> Node<D> {
         // A refusal of the register is one of its draw, and nothing of the node has changed.
         ensures register { (c : Contents) (fault : Refusal) → G.holds reg.old c → IsErrOf result (NodeFault.Register fault)
             → IsFree (not_drawn fault) ⊎ ((not_drawn fault ≡ drawn_by c (id_of self.old)) × G.holds reg.new (after_draw c (id_of self.old))) }
+        ensures register_whole { (fault : Refusal) → IsErrOf result (NodeFault.Register fault) → G.told reg.old → IsFree (not_drawn fault) ⊎ ((c : Contents) × G.holds reg.old c) }
+        ensures register_keeps { (fault : Refusal) → IsErrOf result (NodeFault.Register fault) → (fault ≡ faults.Failed) ⊎ Keeps (G.holds reg.old) (G.holds reg.new) (G.may_hold reg.old) (G.may_hold reg.new) }
+
+        // The node's generation in the register is the greatest; the register's journal has no room for the draw.
+        ensures generations { IsErrOf result (NodeFault.Register faults.GenLimit) → G.told reg.old → (c : Contents) × G.holds reg.old c × (2 ^ 32 - 1 ≤ generation_of c (id_of self.old)) }
+        ensures register_full { IsErrOf result (NodeFault.Register faults.Full) → G.told reg.old → (c : Contents) × G.holds reg.old c × (is_full c draw_length ≡ true) }
+        ensures logs { result ≢ Err (NodeFault.Register faults.LogLimit) }
+        ensures behind { (lce : ℕ) → result ≢ Err (NodeFault.Register (faults.Behind lce)) }
+        ensures epochs { result ≢ Err (NodeFault.Register faults.EpochLimit) }
         ensures register_damaged { (place : ℕ) → IsErrOf result (NodeFault.Register (faults.Damaged place)) → G.told reg.old → G.damaged reg.old place }
 
         ensures full { (c : Contents) → G.holds reg.old c → IsErrOf result NodeFault.Full
@@ -258,7 +275,10 @@ impl<D: Disk> Node<D> {
         ensures loads { (must_load self.new ≡ true) ↔ ((must_load self.old ≡ true) ⊎ IsErrOf result NodeFault.Disk) }
         ensures damaged { (place : ℕ) → result ≢ Err (NodeFault.Damaged place) }
         ensures memory { result ≢ Err (NodeFault.Register faults.NoMemory) }
+        ensures itself { (D.identity (disk_of self.new) ≡ D.identity (disk_of self.old)) × (G.identity reg.new ≡ G.identity reg.old) }
         ensures counts { (D.faults (disk_of self.old) ≤ D.faults (disk_of self.new)) × (G.faults reg.old ≤ G.faults reg.new) }
+        ensures steady { IsErrOf result NodeFault.Disk ⊎ (D.faults (disk_of self.new) ≡ D.faults (disk_of self.old)) }
+        ensures register_steady { IsErrOf result (NodeFault.Register faults.Failed) ⊎ (G.faults reg.new ≡ G.faults reg.old) }
         ensures failed { IsErrOf result NodeFault.Disk → Rose (D.faults (disk_of self.old)) (D.faults (disk_of self.new)) }
         ensures register_failed { IsErrOf result (NodeFault.Register faults.Failed) → Rose (G.faults reg.old) (G.faults reg.new) }
 
@@ -348,7 +368,10 @@ impl<D: Disk> Node<D> {
         ensures needs_no_look { must_load self.old ≡ true → reg.new ≡ reg.old }
         ensures loads { (must_load self.new ≡ true) ↔ ((must_load self.old ≡ true) ⊎ IsErrOf result NodeFault.Disk) }
         ensures damaged { (place : ℕ) → result ≢ Err (NodeFault.Damaged place) }
+        ensures itself { (D.identity (disk_of self.new) ≡ D.identity (disk_of self.old)) × (G.identity reg.new ≡ G.identity reg.old) }
         ensures counts { (D.faults (disk_of self.old) ≤ D.faults (disk_of self.new)) × (G.faults reg.old ≤ G.faults reg.new) }
+        ensures steady { IsErrOf result NodeFault.Disk ⊎ (D.faults (disk_of self.new) ≡ D.faults (disk_of self.old)) }
+        ensures register_steady { IsErrOf result (NodeFault.Register faults.Failed) ⊎ (G.faults reg.new ≡ G.faults reg.old) }
         ensures failed { IsErrOf result NodeFault.Disk → Rose (D.faults (disk_of self.old)) (D.faults (disk_of self.new)) }
 
         // Another refusal than `Disk` changes nothing.

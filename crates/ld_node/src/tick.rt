@@ -68,7 +68,9 @@ pub(crate) fn look<G: Register>(
     ensures full { result ≢ Err NodeFault.Full }
     ensures needs_load { result ≢ Err NodeFault.NeedsLoad }
     ensures damaged { (place : ℕ) → result ≢ Err (NodeFault.Damaged place) }
+    ensures itself { G.identity reg.new ≡ G.identity reg.old }
     ensures counts { G.faults reg.old ≤ G.faults reg.new }
+    ensures register_steady { IsErrOf result (NodeFault.Register faults.Failed) ⊎ (G.faults reg.new ≡ G.faults reg.old) }
 {
     let epoch = ld_rebuild::lowest_unclean(plain, log);
     let view = reg.look(alloc, log, epoch)?;
