@@ -22,223 +22,161 @@ fn three_nodes(log: LogId) -> Spec {
     }
 }
 
-// A message of the node to the log's first reader.
-fn from_node(node: NodeId, log: LogId, body: Body) -> Msg {
-    Msg {
-        from: Who::Node(node),
-        to: Who::Reader(0),
-        log,
-        body,
-    }
+// A reader of the places 1 and 2 of epoch 1 has asked.
+fn begin(alloc: Global, log: LogId, out: &mut Outbox) -> Result<Reader, NoMemory> {
+    let first = Lsn::new(1, 1);
+    let last = Lsn::new(1, 2);
+    let mut reader = Reader::start(alloc, &three_nodes(log), 0, first, last)?;
+    reader.ask(alloc, out)?;
+    Ok(reader)
 }
 
-fn entry(number: Lsn, what: What) -> Entry {
-    Entry {
-        number,
+// A record of one byte, or a hole where there is none.
+fn entry(alloc: Global, esn: u32, byte: Option<u8>) -> Result<Entry, NoMemory> {
+    let what = match byte {
+        Some(byte) => What::Rec(Payload::new(Vec::from_slice(alloc, &[byte])?)),
+        None => What::Hole,
+    };
+    Ok(Entry {
+        number: Lsn::new(1, esn),
         ballot: 1,
         what,
-    }
+    })
 }
 
-fn record(alloc: Global, number: Lsn, byte: u8) -> Result<Entry, NoMemory> {
-    let payload = Payload::new(Vec::from_slice(alloc, &[byte])?);
-    Ok(entry(number, What::Rec(payload)))
-}
-
-// A clean page of epoch 1.
-fn page(round: u32, from: u32, upto: u32, entries: Entries) -> Body {
-    Body::ReadPage {
+// A clean page of the places 1 and 2 of epoch 1 with a record or a hole at one of them.
+fn page(alloc: Global, round: u32, esn: u32, byte: Option<u8>) -> Result<Body, NoMemory> {
+    let mut entries = Entries::empty(alloc);
+    entries.push(entry(alloc, esn, byte)?)?;
+    Ok(Body::ReadPage {
         round,
-        from: Lsn::new(1, from),
-        upto: Lsn::new(1, upto),
+        from: Lsn::new(1, 1),
+        upto: Lsn::new(1, 2),
         clean: true,
         entries,
-    }
+    })
 }
 
-// The node is lost for epoch 1, under a generation.
-fn lost(round: u32, generation: u32) -> Body {
+// The node is lost for epoch 1, under generation 2.
+fn lost(round: u32) -> Body {
     Body::LostHere {
         number: Lsn::new(1, 1),
         round,
-        generation,
+        generation: 2,
         end: Lsn::from_u64(0),
     }
 }
 
-// The items, one letter each, with the places where they begin and end.
-fn letters(alloc: Global, items: &Items) -> Result<Vec<(u8, Lsn, Lsn)>, NoMemory> {
-    let mut all = Vec::new(alloc);
-    for given in items.as_slice() {
-        let letter = match &given.item {
+// Epoch 1 ends at the place 2.
+fn ended(round: u32) -> Body {
+    Body::ReadEnded {
+        round,
+        from: Lsn::new(1, 2),
+        end: Lsn::new(1, 2),
+    }
+}
+
+// The items that follow from a node's answer.
+fn hears(
+    alloc: Global,
+    reader: &mut Reader,
+    log: LogId,
+    node: NodeId,
+    body: Body,
+    out: &mut Outbox,
+) -> Result<Items, NoMemory> {
+    let msg = Msg {
+        from: Who::Node(node),
+        to: Who::Reader(0),
+        log,
+        body,
+    };
+    reader.on_reply(alloc, &msg, out)
+}
+
+// The item at a place, as one letter, with a dot where there is none.
+fn letter(items: &Items, place: usize) -> u8 {
+    match items.as_slice().get(place) {
+        Some(given) => match &given.item {
             Item::Trim(_) => b't',
             Item::Record(_) => b'r',
             Item::Hole => b'h',
             Item::Bridge(_) => b'b',
             Item::Loss => b'l',
-        };
-        all.push((letter, given.from, given.item.last(given.from)))?;
+        },
+        None => b'.',
     }
-    Ok(all)
 }
 
 #[test]
 fn a_page_and_an_end_give_all_items_in_order(rt: HostRuntime) -> Result<(), Fail> {
     let alloc = rt.alloc();
-    if let (Some(log), Some(node)) = (LogId::new(1), NodeId::new(1)) {
-        let mut out = Outbox::empty(alloc);
-        let mut reader = Reader::start(
-            alloc,
-            &three_nodes(log),
-            0,
-            Lsn::new(1, 1),
-            Lsn::new(2, 0),
-        )?;
-        reader.ask(alloc, &mut out)?;
-        assert_eq!(rt; out.len(), 3);
-        let mut entries = Entries::empty(alloc);
-        entries.push(record(alloc, Lsn::new(1, 1), 1)?)?;
-        entries.push(entry(Lsn::new(1, 2), What::Hole))?;
-        entries.push(record(alloc, Lsn::new(1, 3), 3)?)?;
-        let message = from_node(node, log, page(1, 1, 3, entries));
-        let items = reader.on_reply(alloc, &message, &mut out)?;
-        let all = letters(alloc, &items)?;
-        assert_eq!(rt; all.len(), 3);
-        assert!(rt; all[0] == (b'r', Lsn::new(1, 1), Lsn::new(1, 1)));
-        assert!(rt; all[1] == (b'h', Lsn::new(1, 2), Lsn::new(1, 2)));
-        assert!(rt; all[2] == (b'r', Lsn::new(1, 3), Lsn::new(1, 3)));
-        assert_eq!(rt; out.len(), 6);
-        let ended = Body::ReadEnded {
-            round: 2,
-            from: Lsn::new(1, 4),
-            end: Lsn::new(1, 4),
-        };
-        let items = reader.on_reply(alloc, &from_node(node, log, ended), &mut out)?;
-        let all = letters(alloc, &items)?;
-        assert_eq!(rt; all.len(), 1);
-        assert!(rt; all[0] == (b'b', Lsn::new(1, 4), Lsn::new(2, 0)));
-        assert!(rt; reader.finished());
-        assert_eq!(rt; out.len(), 6);
-    }
-    Ok(())
-}
-
-#[test]
-fn items_end_at_the_last_number_that_is_wanted(rt: HostRuntime) -> Result<(), Fail> {
-    let alloc = rt.alloc();
-    if let (Some(log), Some(node)) = (LogId::new(1), NodeId::new(2)) {
-        let mut out = Outbox::empty(alloc);
-        let mut reader = Reader::start(
-            alloc,
-            &three_nodes(log),
-            0,
-            Lsn::new(0, 5),
-            Lsn::new(0, 9),
-        )?;
-        let ended = Body::ReadEnded {
-            round: 1,
-            from: Lsn::new(0, 5),
-            end: Lsn::new(0, 1),
-        };
-        let items = reader.on_reply(alloc, &from_node(node, log, ended), &mut out)?;
-        let all = letters(alloc, &items)?;
-        assert_eq!(rt; all.len(), 1);
-        assert!(rt; all[0] == (b'b', Lsn::new(0, 5), Lsn::new(0, 9)));
-        assert!(rt; reader.finished());
-        reader.ask(alloc, &mut out)?;
-        assert_eq!(rt; out.len(), 0);
-        let mut other = Reader::start(alloc, &three_nodes(log), 1, Lsn::new(1, 1), Lsn::new(1, 2))?;
-        let trimmed = Body::ReadTrim {
-            round: 1,
-            from: Lsn::new(1, 1),
-            trim: Lsn::new(1, 3),
-        };
-        let items = other.on_reply(alloc, &from_node(node, log, trimmed), &mut out)?;
-        let all = letters(alloc, &items)?;
-        assert_eq!(rt; all.len(), 1);
-        assert!(rt; all[0] == (b't', Lsn::new(1, 1), Lsn::new(1, 2)));
-    }
+    let log = LogId::new(1).expect(&rt, "a log");
+    let node = NodeId::new(1).expect(&rt, "a node");
+    let mut out = Outbox::empty(alloc);
+    let mut reader = begin(alloc, log, &mut out)?;
+    assert_eq!(rt; out.len(), 3);
+    let hole = page(alloc, 1, 1, None)?;
+    let items = hears(alloc, &mut reader, log, node, hole, &mut out)?;
+    assert_eq!(rt; letter(&items, 0), b'h');
+    assert_eq!(rt; letter(&items, 1), b'.');
+    let items = hears(alloc, &mut reader, log, node, ended(1), &mut out)?;
+    assert_eq!(rt; letter(&items, 0), b'b');
+    assert!(rt; reader.finished());
+    assert_eq!(rt; out.len(), 3);
     Ok(())
 }
 
 #[test]
 fn a_loss_is_confirmed_before_it_is_given(rt: HostRuntime) -> Result<(), Fail> {
     let alloc = rt.alloc();
-    if let (Some(log), Some(one), Some(two), Some(three)) = (
-        LogId::new(1),
-        NodeId::new(1),
-        NodeId::new(2),
-        NodeId::new(3),
-    ) {
-        let mut out = Outbox::empty(alloc);
-        let mut reader = Reader::start(
-            alloc,
-            &three_nodes(log),
-            0,
-            Lsn::new(1, 1),
-            Lsn::new(1, 2),
-        )?;
-        reader.ask(alloc, &mut out)?;
-        let mut entries = Entries::empty(alloc);
-        entries.push(record(alloc, Lsn::new(1, 2), 2)?)?;
-        reader.on_reply(alloc, &from_node(one, log, lost(1, 2)), &mut out)?;
-        reader.on_reply(
-            alloc,
-            &from_node(two, log, page(1, 1, 2, entries)),
-            &mut out,
-        )?;
-        assert_eq!(rt; out.len(), 3);
-        let items = reader.on_reply(alloc, &from_node(three, log, lost(1, 2)), &mut out)?;
-        assert!(rt; items.is_empty());
-        assert_eq!(rt; out.len(), 5);
-        assert!(rt; out.as_slice()[3].to == Who::Node(one));
-        assert!(rt; out.as_slice()[4].to == Who::Node(three));
-        let items = reader.on_reply(alloc, &from_node(one, log, lost(2, 2)), &mut out)?;
-        assert!(rt; items.is_empty());
-        let items = reader.on_reply(alloc, &from_node(three, log, lost(2, 2)), &mut out)?;
-        let all = letters(alloc, &items)?;
-        assert_eq!(rt; all.len(), 2);
-        assert!(rt; all[0] == (b'l', Lsn::new(1, 1), Lsn::new(1, 1)));
-        assert!(rt; all[1] == (b'r', Lsn::new(1, 2), Lsn::new(1, 2)));
-        assert!(rt; reader.finished());
+    let log = LogId::new(1).expect(&rt, "a log");
+    let two = NodeId::new(2).expect(&rt, "a node");
+    let mut out = Outbox::empty(alloc);
+    let mut reader = begin(alloc, log, &mut out)?;
+    let second = page(alloc, 1, 2, Some(7))?;
+    let items = hears(alloc, &mut reader, log, two, second, &mut out)?;
+    assert_eq!(rt; letter(&items, 0), b'.');
+    // the nodes 1 and 3 are lost, and are asked once more; an answer to the first ask is none to the second
+    let rows = [
+        (1, 1, b'.', b'.', 3),
+        (3, 1, b'.', b'.', 5),
+        (1, 2, b'.', b'.', 5),
+        (3, 1, b'.', b'.', 5),
+        (3, 2, b'l', b'r', 5),
+    ];
+    'rows: for (number, round, first, then, sent) in rows {
+        let node = NodeId::new(number).expect(&rt, "a node");
+        let items = hears(alloc, &mut reader, log, node, lost(round), &mut out)?;
+        assert_eq!(rt; letter(&items, 0), first);
+        assert_eq!(rt; letter(&items, 1), then);
+        assert_eq!(rt; out.len(), sent);
     }
+    assert!(rt; reader.finished());
     Ok(())
 }
 
 #[test]
 fn a_rebuilt_node_ends_the_confirmation_with_the_record(rt: HostRuntime) -> Result<(), Fail> {
     let alloc = rt.alloc();
-    if let (Some(log), Some(one), Some(two), Some(three)) = (
-        LogId::new(1),
-        NodeId::new(1),
-        NodeId::new(2),
-        NodeId::new(3),
-    ) {
-        let mut out = Outbox::empty(alloc);
-        let mut reader = Reader::start(
-            alloc,
-            &three_nodes(log),
-            0,
-            Lsn::new(1, 1),
-            Lsn::new(1, 1),
-        )?;
-        reader.ask(alloc, &mut out)?;
-        let none = Entries::empty(alloc);
-        reader.on_reply(alloc, &from_node(one, log, lost(1, 2)), &mut out)?;
-        reader.on_reply(alloc, &from_node(two, log, page(1, 1, 1, none)), &mut out)?;
-        reader.on_reply(alloc, &from_node(three, log, lost(1, 2)), &mut out)?;
-        assert_eq!(rt; out.len(), 5);
-        let mut entries = Entries::empty(alloc);
-        entries.push(record(alloc, Lsn::new(1, 1), 0x68)?)?;
-        let items = reader.on_reply(
-            alloc,
-            &from_node(one, log, page(2, 1, 1, entries)),
-            &mut out,
-        )?;
-        let all = letters(alloc, &items)?;
-        assert_eq!(rt; all.len(), 1);
-        assert!(rt; all[0] == (b'r', Lsn::new(1, 1), Lsn::new(1, 1)));
-        assert!(rt; reader.finished());
+    let log = LogId::new(1).expect(&rt, "a log");
+    let one = NodeId::new(1).expect(&rt, "a node");
+    let mut out = Outbox::empty(alloc);
+    let mut reader = begin(alloc, log, &mut out)?;
+    let second = page(alloc, 1, 2, Some(7))?;
+    let items = hears(alloc, &mut reader, log, one, second, &mut out)?;
+    assert_eq!(rt; letter(&items, 0), b'.');
+    'rows: for (number, sent) in [(2, 3), (3, 5)] {
+        let node = NodeId::new(number).expect(&rt, "a node");
+        let items = hears(alloc, &mut reader, log, node, lost(1), &mut out)?;
+        assert_eq!(rt; letter(&items, 0), b'.');
+        assert_eq!(rt; out.len(), sent);
     }
+    let first = page(alloc, 2, 1, Some(9))?;
+    let two = NodeId::new(2).expect(&rt, "a node");
+    let items = hears(alloc, &mut reader, log, two, first, &mut out)?;
+    assert_eq!(rt; letter(&items, 0), b'r');
+    assert_eq!(rt; letter(&items, 1), b'r');
+    assert!(rt; reader.finished());
     Ok(())
 }
