@@ -34,47 +34,43 @@ fn wiped(alloc: Global, log: LogId) -> Result<Plain, NoMemory> {
     Ok(plain)
 }
 
-// The op that closes an epoch by the sequencer of the next one, without a trim.
-fn close(log: LogId, epoch: u32, end: u32) -> Op
-    ensures { IsRising result }
-{
-    Op::Clean {
+// An epoch is clean on the node, closed by epoch 3 without a trim.
+fn keep_close(
+    alloc: Global,
+    plain: &mut Plain,
+    log: LogId,
+    epoch: u32,
+    end: u32,
+) -> Result<(), NoMemory> {
+    let summary = Summary {
+        ballot: 3,
+        lng: 0,
+        trim: Lsn::from_u64(0),
+        end,
+    };
+    let op = Op::Clean {
         log,
         epoch,
-        summary: Summary {
-            ballot: epoch.saturating_add(1),
-            lng: 0,
-            trim: Lsn::from_u64(0),
-            end,
-        },
+        summary,
+    };
+    keep(alloc, plain, op)
+}
+
+// An answer of node `from` to node `to`.
+fn answer(log: LogId, from: NodeId, to: NodeId, body: Body) -> Msg {
+    Msg {
+        from: Who::Node(from),
+        to: Who::Node(to),
+        log,
+        body,
     }
 }
 
-// A node that lost epochs 1 and 2, where epoch 1 is clean and has the number e1n1 alone.
-fn wiped_and_clean(alloc: Global, log: LogId) -> Result<Plain, NoMemory> {
-    let mut plain = wiped(alloc, log)?;
-    keep(alloc, &mut plain, close(log, 1, 2))?;
-    Ok(plain)
-}
-
-// An answer of node 2 to node 1.
-fn answer(log: LogId, body: Body) -> Option<Msg> {
-    if let (Some(one), Some(two)) = (NodeId::new(1), NodeId::new(2)) {
-        return Some(Msg {
-            from: Who::Node(two),
-            to: Who::Node(one),
-            log,
-            body,
-        });
-    }
-    None
-}
-
-// A page of one entry, which has ballot 1.
-fn page(alloc: Global, number: Lsn, clean: bool) -> Result<Body, NoMemory> {
+// A page of the places 1 to 9 of epoch 1 with a record at the place 1.
+fn page(alloc: Global, clean: bool) -> Result<Body, NoMemory> {
     let mut entries = Vec::new(alloc);
     entries.push(Entry {
-        number,
+        number: Lsn::new(1, 1),
         ballot: 1,
         what: What::Rec(Payload::new(Vec::new(alloc))),
     })?;
@@ -87,11 +83,33 @@ fn page(alloc: Global, number: Lsn, clean: bool) -> Result<Body, NoMemory> {
     })
 }
 
-// Refills by an answer.
-fn refill(alloc: Global, plain: &mut Plain, msg: &Msg) -> Result<(), NoMemory> {
+// A trim to the place 1 of epoch 1.
+fn trimmed() -> Body {
+    Body::ReadTrim {
+        round: 0,
+        from: Lsn::new(1, 1),
+        trim: Lsn::new(1, 1),
+    }
+}
+
+// What the node makes of an answer, of which it takes entries: `r` for entries, `t` for a trim, `n` for nothing.
+fn takes(alloc: Global, plain: &mut Plain, msg: &Msg) -> Result<u8, NoMemory> {
     match on_page(alloc, plain, msg)? {
-        Some(op) => take(alloc, plain, msg.log, op),
-        None => Ok(()),
+        Some(op) => {
+            let found = letter(&op);
+            take(alloc, plain, msg.log, op)?;
+            Ok(found)
+        }
+        None => Ok(b'n'),
+    }
+}
+
+// An op, as one letter.
+fn letter(op: &Op) -> u8 {
+    match op {
+        Op::Refill { .. } => b'r',
+        Op::Trim { .. } => b't',
+        _ => b'?',
     }
 }
 
@@ -103,85 +121,48 @@ fn take(alloc: Global, plain: &mut Plain, log: LogId, op: Op) -> Result<(), NoMe
     Ok(())
 }
 
-// What a node makes of an answer: `r`, a number and a ballot for one entry that it takes, `t` and a number for a trim,
-// and `n` for nothing.
-fn outcome(
+// The node trims all up to the place 1 of epoch 1.
+fn keep_trim(alloc: Global, plain: &mut Plain, log: LogId) -> Result<(), NoMemory> {
+    let trim = Lsn::new(1, 1);
+    keep(alloc, plain, Op::Trim { log, trim })
+}
+
+// The node's asks of the others of a set.
+fn ask(
     alloc: Global,
     plain: &Plain,
+    node: NodeId,
     log: LogId,
-    body: Body,
-) -> Result<(u8, u64, u32), NoMemory> {
-    let Some(msg) = answer(log, body) else {
-        return Ok((b'?', 0, 0));
-    };
-    let op = on_page(alloc, plain, &msg)?;
-    Ok(shown(&op))
-}
-
-// The same of an op.
-fn shown(op: &Option<Op>) -> (u8, u64, u32) {
-    match op {
-        Some(Op::Refill { entries, .. }) => match entries.as_slice().first() {
-            Some(entry) => (b'r', entry.number.value(), entry.ballot),
-            None => (b'?', 0, 0),
-        },
-        Some(Op::Trim { trim, .. }) => (b't', trim.value(), 0),
-        Some(_) => (b'?', 0, 0),
-        None => (b'n', 0, 0),
-    }
+    set: &NodeSet,
+) -> Result<usize, NoMemory> {
+    let mut out = Outbox::empty(alloc);
+    asks(alloc, plain, node, log, set, &mut out)?;
+    Ok(out.len())
 }
 
 #[test]
-fn a_missing_number_is_asked_of_all_others(rt: HostRuntime) -> Result<(), Fail> {
+fn a_wiped_node_asks_all_others_until_it_is_full(rt: HostRuntime) -> Result<(), Fail> {
     let alloc = rt.alloc();
-    if let (Some(log), Some(one), Some(two), Some(three)) = (
-        LogId::new(1),
-        NodeId::new(1),
-        NodeId::new(2),
-        NodeId::new(3),
-    ) {
-        let set = NodeSet::empty().with(one).with(two).with(three);
-        let plain = wiped_and_clean(alloc, log)?;
-        let mut out = Outbox::empty(alloc);
-        asks(alloc, &plain, two, log, &set, &mut out)?;
-        let from = Lsn::new(1, 1);
-        assert!(rt; out.len() == 2);
-        assert!(rt; out.as_slice()[0].from == Who::Node(two));
-        assert!(rt; out.as_slice()[0].to == Who::Node(one));
-        assert!(rt; out.as_slice()[1].to == Who::Node(three));
-        assert!(rt; out.as_slice()[1].body == Body::ReadAsk { round: 0, from });
-    }
-    Ok(())
-}
-
-#[test]
-fn nothing_is_asked_before_an_epoch_is_clean(rt: HostRuntime) -> Result<(), Fail> {
-    let alloc = rt.alloc();
-    if let (Some(log), Some(one), Some(two)) = (LogId::new(1), NodeId::new(1), NodeId::new(2)) {
-        let set = NodeSet::empty().with(one).with(two);
-        let plain = wiped(alloc, log)?;
-        let mut out = Outbox::empty(alloc);
-        asks(alloc, &plain, two, log, &set, &mut out)?;
-        assert!(rt; out.is_empty());
+    let log = LogId::new(1).expect(&rt, "a log");
+    let one = NodeId::new(1).expect(&rt, "a node");
+    let two = NodeId::new(2).expect(&rt, "a node");
+    let three = NodeId::new(3).expect(&rt, "a node");
+    let set = NodeSet::empty().with(one).with(two).with(three);
+    let mut plain = wiped(alloc, log)?;
+    assert_eq!(rt; ask(alloc, &plain, two, log, &set)?, 0);
+    'closes: for (epoch, end) in [(1, 2), (2, 1)] {
+        keep_close(alloc, &mut plain, log, epoch, end)?;
+        assert_eq!(rt; ask(alloc, &plain, two, log, &set)?, 2);
         assert!(rt; !is_full(&plain, log));
     }
-    Ok(())
-}
-
-#[test]
-fn a_clean_page_refills(rt: HostRuntime) -> Result<(), Fail> {
-    let alloc = rt.alloc();
-    if let Some(log) = LogId::new(1) {
-        let plain = wiped_and_clean(alloc, log)?;
-        let first = Lsn::new(1, 1);
-        let taken = outcome(alloc, &plain, log, page(alloc, first, true)?)?;
-        assert!(rt; taken == (b'r', first.value(), 2));
-        let unmarked = outcome(alloc, &plain, log, page(alloc, first, false)?)?;
-        assert!(rt; unmarked.0 == b'n');
-        let behind = outcome(alloc, &plain, log, page(alloc, Lsn::new(1, 2), true)?)?;
-        assert!(rt; behind.0 == b'n');
-        let open = outcome(alloc, &plain, log, page(alloc, Lsn::new(2, 1), true)?)?;
-        assert!(rt; open.0 == b'n');
+    'pages: for (clean, taken, full) in [
+        (false, b'n', false),
+        (true, b'r', true),
+        (true, b'n', true),
+    ] {
+        let msg = answer(log, one, two, page(alloc, clean)?);
+        assert_eq!(rt; takes(alloc, &mut plain, &msg)?, taken);
+        assert_eq!(rt; is_full(&plain, log), full);
     }
     Ok(())
 }
@@ -189,40 +170,13 @@ fn a_clean_page_refills(rt: HostRuntime) -> Result<(), Fail> {
 #[test]
 fn a_trim_above_the_nodes_is_taken(rt: HostRuntime) -> Result<(), Fail> {
     let alloc = rt.alloc();
-    if let Some(log) = LogId::new(1) {
-        let mut plain = wiped_and_clean(alloc, log)?;
-        let first = Lsn::new(1, 1);
-        let body = Body::ReadTrim {
-            round: 0,
-            from: first,
-            trim: first,
-        };
-        let again = body.copy(alloc)?;
-        assert!(rt; outcome(alloc, &plain, log, body)? == (b't', first.value(), 0));
-        keep(alloc, &mut plain, Op::Trim { log, trim: first })?;
-        assert!(rt; outcome(alloc, &plain, log, again)?.0 == b'n');
-        let late = outcome(alloc, &plain, log, page(alloc, first, true)?)?;
-        assert!(rt; late.0 == b'n');
-    }
-    Ok(())
-}
-
-#[test]
-fn a_node_is_full_once_all_epochs_are_clean_and_no_number_is_missing(
-    rt: HostRuntime,
-) -> Result<(), Fail> {
-    let alloc = rt.alloc();
-    if let Some(log) = LogId::new(1) {
-        let mut plain = wiped_and_clean(alloc, log)?;
-        keep(alloc, &mut plain, close(log, 2, 1))?;
-        assert!(rt; !is_full(&plain, log));
-        let first = Lsn::new(1, 1);
-        if let Some(msg) = answer(log, page(alloc, first, true)?) {
-            refill(alloc, &mut plain, &msg)?;
-        }
-        assert!(rt; is_full(&plain, log));
-        let again = outcome(alloc, &plain, log, page(alloc, first, true)?)?;
-        assert!(rt; again.0 == b'n');
-    }
+    let log = LogId::new(1).expect(&rt, "a log");
+    let one = NodeId::new(1).expect(&rt, "a node");
+    let two = NodeId::new(2).expect(&rt, "a node");
+    let mut plain = wiped(alloc, log)?;
+    let msg = answer(log, one, two, trimmed());
+    assert_eq!(rt; takes(alloc, &mut plain, &msg)?, b't');
+    keep_trim(alloc, &mut plain, log)?;
+    assert_eq!(rt; takes(alloc, &mut plain, &msg)?, b'n');
     Ok(())
 }
