@@ -10,7 +10,7 @@ use Rattle.ld_msg.specs.declared.msg.Summary.{Summary}
 use Rattle.ld_msg.specs.declared.msg.Entry.{Entry}
 use Rattle.ld_msg.specs.declared.msg.Body.{Body}
 use Rattle.ld_msg.specs.declared.msg.Body.TheVariants as bodies
-use Rattle.ld_msg.specs.Bounds.{Is32, IsEntry, IsSummary, AreEntries, RiseWithin, IsSequencerHere, Fits, IsMessage, ballot_of}
+use Rattle.ld_msg.specs.Bounds.{IsEpoch, IsEntry, IsSummary, AreEntries, RiseWithin, IsSequencerHere, Fits, IsMessage, ballot_of}
 use Rattle.ld_ids.specs.Id.{IsLog}
 use Rattle.ld_op.specs.declared.op.Op.{Op}
 use Rattle.ld_op.specs.declared.op.Op.TheVariants as ops
@@ -43,9 +43,9 @@ clean_change : (l e : ℕ) (y : Summary) (o : Option Summary) (p : Op) → IsCha
 clean_change l e y None p is same = some_change (ops.Clean l e y) p is same
 clean_change l e y (Some z) p is same = absurd cc
 
-sequencer_ballot : (w : Who) → IsSequencerHere w → Is32 (ballot_of w)
+sequencer_ballot : (w : Who) → IsSequencerHere w → IsEpoch (ballot_of w)
 sequencer_ballot (whos.Node n) is = absurd is
-sequencer_ballot (whos.Sequencer e) is = omega (arith, is.1)
+sequencer_ballot (whos.Sequencer e) is = is
 sequencer_ballot (whos.Reader r) is = absurd is
 
 -- ---- the entries of a page that are missing ----

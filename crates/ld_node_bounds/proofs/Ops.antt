@@ -156,7 +156,7 @@ epochs_carried from (d ∷ ds) a = (record { log = a.1; epoch = omega (arith, a.
 pub op_carried : (o : Op) → IsOp o → IsKept last_carried o
 op_carried (ops.Format generation epochs) i = (i.0, epochs_carried 1 epochs i.2)
 op_carried (ops.Accept l lng e) i = (i.0, i.2)
-op_carried (ops.Seal l b) i = (i.0, omega (arith, i.1))
+op_carried (ops.Seal l b) i = (i.0, omega (arith, i.1.1))
 op_carried (ops.Clean l epoch y) i = i
 op_carried (ops.Trim l t) i = i
 op_carried (ops.Refill l es) i = (i.0, i.3)

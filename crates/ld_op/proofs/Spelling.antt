@@ -16,7 +16,7 @@ use Rattle.ld_op.specs.declared.op.Op.{Op}
 use Rattle.ld_op.specs.declared.op.Op.TheVariants as ops
 use Rattle.ld_op.specs.Bounds.{IsOp, AreEpochs, RiseFrom}
 use Rattle.ld_op.specs.Fields.{Read, Got, Off, follow, check, field, end_at}
-use Rattle.ld_op.specs.Bytes.{what_bytes, entry_bytes, entries_bytes, summary_bytes, epochs_bytes, op_bytes, within, greatest_epoch, is_number, is_tag, payload, tagged, read_entry, read_entries, read_summary, read_epoch, read_epochs, read_log, read_format, read_accept, read_clean, read_refill, read_fields, read_body, judge}
+use Rattle.ld_op.specs.Bytes.{what_bytes, entry_bytes, entries_bytes, summary_bytes, epochs_bytes, op_bytes, within, greatest_epoch, is_number, is_tag, payload, tagged, read_entry, read_entries, read_summary, read_epoch, read_epochs, read_log, read_format, read_accept, read_seal, read_clean, read_refill, read_fields, read_body, judge}
 use Rattle.ld_op.proofs.Fields.{field_got}
 
 -- from a place on the bytes are these
@@ -193,7 +193,7 @@ nothing bs at xs s = stands_as bs at xs (xs ++ []) (sym (append-nil xs)) s
 
 -- the bytes of an op are judged to be that op
 pub judge-op_bytes : (o : Op) → IsOp o → judge (op_bytes o) ≡ Got o (length (op_bytes o))
-unfolding op_bytes read_body read_format read_fields read_accept read_clean read_refill
+unfolding op_bytes read_body read_format read_fields read_accept read_seal read_clean read_refill
 judge-op_bytes (ops.Format generation epochs) i = framed _ 1 _ (ops.Format generation epochs) (omega arith) refl refl (λ at s.
     follow_reads _ (field 4 _ at) _ generation _ _ [] (field_reads 3 generation _ at _ (let g = i.0 in omega arith) s) (λ at_count t.
     follow_reads _ (field 1 _ at_count) _ (length epochs) _ _ [] (field_reads 0 (length epochs) _ at_count _ (let n = i.1 in omega arith) t) (λ at_epochs u.
@@ -204,7 +204,8 @@ judge-op_bytes (ops.Accept l lng e) i = framed _ 2 _ (ops.Accept l lng e) (omega
     follow_reads _ (read_entry _ 0 at_entry) _ e _ [] [] (entry_reads _ 0 at_entry e [] i.2 (omega arith) (nothing _ at_entry _ u)) (λ next v. got_reads _ _ next [] v))))
 judge-op_bytes (ops.Seal l b) i = framed _ 3 _ (ops.Seal l b) (omega arith) refl refl (λ at s.
     fields_read _ 3 at l _ _ i.0 s (λ at_b t.
-    follow_reads _ (field 4 _ at_b) _ b _ [] [] (field_reads 3 b _ at_b [] (let n = i.1 in omega arith) (nothing _ at_b _ t)) (λ next v. got_reads _ _ next [] v)))
+    follow_reads _ (field 4 _ at_b) _ b _ [] [] (field_reads 3 b _ at_b [] (let n = i.1.1 in omega arith) (nothing _ at_b _ t)) (λ next v.
+    check_reads _ _ at_b _ _ [] (let a = i.1.0 in let n = i.1.1 in grind (arith, nat_tests)) (got_reads _ _ next [] v))))
 judge-op_bytes (ops.Clean l epoch y) i = framed _ 4 _ (ops.Clean l epoch y) (omega arith) refl refl (λ at s.
     fields_read _ 4 at l _ _ i.0 s (λ at_e t.
     follow_reads _ (field 4 _ at_e) _ epoch _ _ [] (field_reads 3 epoch _ at_e _ (let n = i.1.1 in omega arith) t) (λ at_y u.

@@ -18,7 +18,7 @@ use Rattle.ld_msg.specs.Bounds.{Is32, IsEpoch, IsEntry, IsSummary, IsShort, AreE
 use Rattle.ld_op.specs.declared.op.Op.{Op}
 use Rattle.ld_op.specs.declared.op.Op.TheVariants as ops
 use Rattle.ld_op.specs.Bounds.{IsOp, AreEpochs, RiseFrom}
-use Rattle.ld_op.specs.Bytes.{what_bytes, entry_bytes, entries_bytes, summary_bytes, epochs_bytes, op_bytes, within, greatest_epoch, is_number, is_tag, payload, tagged, read_entry, read_entries, read_summary, read_epoch, read_epochs, read_log, read_format, read_accept, read_clean, read_refill, read_fields, read_body, judge}
+use Rattle.ld_op.specs.Bytes.{what_bytes, entry_bytes, entries_bytes, summary_bytes, epochs_bytes, op_bytes, within, greatest_epoch, is_number, is_tag, payload, tagged, read_entry, read_entries, read_summary, read_epoch, read_epochs, read_log, read_format, read_accept, read_seal, read_clean, read_refill, read_fields, read_body, judge}
 use Rattle.ld_op.specs.Judged.{AreBytes}
 use Rattle.ld_op.proofs.Spelling.{tag_of, after_tag}
 use Rattle.ld_op.specs.Fields.{Read, Got, Off, follow, check, field, end_at}
@@ -350,10 +350,10 @@ accept_spelled bs l at next o h r =
       is = λ i. (i, omega arith, u.is);
     })))))
 
-seal_spelled : (bs : List ℕ) (l at next : ℕ) (o : Op) → AreBytes bs → follow (field 4 bs at) (λ b next. Got (ops.Seal l b) next) ≡ Got o next → FieldsRead bs 3 l at next o
-unfolding op_bytes
-seal_spelled bs l at next o h r = by_follow (field 4 bs at) _ o next r (λ b a f r. by_got (ops.Seal l b) o a next r (λ is n. let s = field_spells 4 bs at b a h f in let z = s.fits in
-    subst (FieldsRead bs 3 l at next) is (subst (λ x. FieldsRead bs 3 l at x (ops.Seal l b)) n (record { rest = big_bytes 4 b; spelled = s.spelled; bytes_are = refl; is = λ i. (i, omega arith) }))))
+seal_spelled : (bs : List ℕ) (l at next : ℕ) (o : Op) → AreBytes bs → read_seal bs l at ≡ Got o next → FieldsRead bs 3 l at next o
+unfolding read_seal op_bytes
+seal_spelled bs l at next o h r = by_follow (field 4 bs at) _ o next r (λ b a f r. by_check _ at _ o next r (λ ok r. by_got (ops.Seal l b) o a next r (λ is n. let s = field_spells 4 bs at b a h f in
+    subst (FieldsRead bs 3 l at next) is (subst (λ x. FieldsRead bs 3 l at x (ops.Seal l b)) n (record { rest = big_bytes 4 b; spelled = s.spelled; bytes_are = refl; is = λ i. (i, within_is 1 greatest_epoch b ok) })))))
 
 clean_spelled : (bs : List ℕ) (l at next : ℕ) (o : Op) → AreBytes bs → read_clean bs l at ≡ Got o next → FieldsRead bs 4 l at next o
 unfolding read_clean op_bytes

@@ -20,7 +20,7 @@ RiseFrom from (e ∷ es) = (from ≤ e.number) × RiseFrom (e.number + 1) es
 abbrev pub IsOp : Op → Type 0
 IsOp (ops.Format generation epochs) = Is32 generation × (length epochs ≤ 255) × AreEpochs 1 epochs
 IsOp (ops.Accept l lng e) = IsLog l × Is32 lng × IsEntry e
-IsOp (ops.Seal l b) = IsLog l × Is32 b
+IsOp (ops.Seal l b) = IsLog l × IsEpoch b
 IsOp (ops.Clean l epoch y) = IsLog l × IsEpoch epoch × IsSummary epoch y
 IsOp (ops.Trim l t) = IsLog l × Is64 t
 IsOp (ops.Refill l es) = IsLog l × (1 ≤ length es) × (length es ≤ 64) × AreEntries es × RiseFrom 0 es

@@ -110,6 +110,10 @@ read_format bs at =
 unfoldable pub read_accept : List ℕ → ℕ → ℕ → Read Op
 read_accept bs l at = follow (field 4 bs at) (λ lng at_entry. follow (read_entry bs 0 at_entry) (λ e next. Got (ops.Accept l lng e) next))
 
+-- a ballot is the epoch of a sequencer
+unfoldable pub read_seal : List ℕ → ℕ → ℕ → Read Op
+read_seal bs l at = follow (field 4 bs at) (λ b next. check (within 1 greatest_epoch b) at (Got (ops.Seal l b) next))
+
 unfoldable pub read_clean : List ℕ → ℕ → ℕ → Read Op
 read_clean bs l at =
     follow (field 4 bs at) (λ epoch at_summary. check (within 1 greatest_epoch epoch) at (
@@ -124,7 +128,7 @@ read_refill bs l at =
 unfoldable pub read_fields : List ℕ → ℕ → ℕ → ℕ → Read Op
 read_fields bs kind l at =
     if kind == 2 then read_accept bs l at
-    else if kind == 3 then follow (field 4 bs at) (λ b next. Got (ops.Seal l b) next)
+    else if kind == 3 then read_seal bs l at
     else if kind == 4 then read_clean bs l at
     else if kind == 5 then follow (field 8 bs at) (λ t next. Got (ops.Trim l t) next)
     else if kind == 6 then read_refill bs l at

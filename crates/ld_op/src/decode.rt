@@ -2,7 +2,7 @@
 ghost use Rattle.std.specs.Prelude.{◌≡◌, ◌≤◌, ◌+◌, ◌++◌, ◌∷◌, [], true, length, IfOk, IfErr, OnOk};
 ghost use Rattle.ld_op.specs.Fields.{Got};
 ghost use Rattle.ld_op.specs.Judged.{AreBytes, IsOff};
-ghost use Rattle.ld_op.specs.Bytes.{is_number, is_tag, tagged, read_entry, read_entries, read_summary, read_epoch, read_epochs, read_log, read_format, read_accept, read_clean, read_refill, read_fields, read_body, judge, op_bytes};
+ghost use Rattle.ld_op.specs.Bytes.{is_number, is_tag, tagged, read_entry, read_entries, read_summary, read_epoch, read_epochs, read_log, read_format, read_accept, read_seal, read_clean, read_refill, read_fields, read_body, judge, op_bytes};
 ghost use Rattle.ld_op.specs.Bounds.{IsOp};
 
 use crate::field::{check, read_u8, read_u16, read_u32, read_u64};
@@ -72,8 +72,7 @@ fn read_fields(
         return read_accept(alloc, bytes, log, at);
     }
     if kind == 3 {
-        let (ballot, next) = read_u32(bytes, at)?;
-        return Ok((Op::Seal { log, ballot }, next));
+        return read_seal(bytes, log, at);
     }
     if kind == 4 {
         return read_clean(bytes, log, at);
@@ -112,6 +111,18 @@ fn read_accept(alloc: Global, bytes: &[u8], log: LogId, at: usize) -> Result<(Op
     let (lng, at_entry) = read_u32(bytes, at)?;
     let (entry, next) = read_entry(alloc, bytes, 0, at_entry)?;
     Ok((Op::Accept { log, lng, entry }, next))
+}
+
+#[tactic(auto, unfolding(crate::specs::Bytes::read_seal))]
+fn read_seal(bytes: &[u8], log: LogId, at: usize) -> Result<(Op, usize), OpFault>
+    requires { at ≤ length bytes.now }
+    ensures ok { IfOk result (λ p. read_seal bytes.now log at ≡ Got p.0 p.1) }
+    ensures next { IfOk result (λ p. p.1 ≤ length bytes.now) }
+    ensures off { IfErr result (IsOff (read_seal bytes.now log at)) }
+{
+    let (ballot, next) = read_u32(bytes, at)?;
+    check(1 <= ballot && ballot <= GREATEST_EPOCH, at)?;
+    Ok((Op::Seal { log, ballot }, next))
 }
 
 #[tactic(auto, unfolding(crate::specs::Bytes::read_clean))]
