@@ -3,3 +3,7 @@ pub mod Writing
 pub mod Hearing
 pub mod Frames
 pub mod Courses
+pub mod Serving
+pub mod Stops
+pub mod Openings
+pub mod Wholes

@@ -1,9 +1,19 @@
-//! Serving: peers are taken one after the other, and each of their frames is one step of a node and its answers.
+//! Serving: a node is opened on its disk, peers are taken one after the other, and each of their frames is one step of
+//! the node and its answers.
 #![tactic(auto)]
 
 mod answer;
 mod input;
+mod opening;
 mod output;
+mod peers;
 mod stop;
+#[cfg(test)]
+mod tests;
+mod turn;
+mod whole;
 
+pub use opening::open;
+pub use peers::serve_peers;
 pub use stop::{Stop, Which};
+pub use whole::serve;

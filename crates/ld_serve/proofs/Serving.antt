@@ -1,0 +1,51 @@
+-- A node that serves, and its disk.
+use Rattle.std.proofs.Common.{◌≡◌, ◌⊎◌, ◌≤◌, ℕ, List, length, Option, Bool, false, ap, sym, ◌∙◌, subst, refl}
+use Rattle.ld_msg.specs.declared.msg.Msg.{Msg}
+use Rattle.ld_disk.specs.Moments.{LeavesOnly}
+use Rattle.ld_disk.specs.declared.disk.Disk.{Ghosts}
+use Rattle.ld_journal.specs.Format.{records}
+use Rattle.ld_op.specs.declared.op.Op.{Op}
+use Rattle.ld_op.specs.Plain.{Plain}
+use Rattle.ld_store.specs.Ops.{StandsFor, StandsForEither, IsJournalOf, bodies_of, state_after}
+use Rattle.ld_node.specs.declared.node.Node.{Node}
+use Rattle.ld_node.specs.Changes.{IsPast}
+use Rattle.ld_node.specs.Node.{plain_of, released_of, disk_of, place_of, Holds}
+use Rattle.ld_serve.specs.declared.stop.Stop.{Stop}
+use Rattle.ld_serve.specs.Course.{Cut, Idle, Unread, Refused, Unsent}
+use Rattle.ld_serve.specs.Serving.{State, state_of, IsHeld, PastLimit, IsCut}
+
+abbrev pub the_state : Plain → List (ℕ × ℕ) → State
+the_state p r = record { plain = p; released = r }
+
+pub state_is : (p q : Plain) (r t : List (ℕ × ℕ)) → p ≡ q → r ≡ t → the_state p r ≡ the_state q t
+state_is p q r t e f = ap (λ (x : Plain). the_state x r) e ∙ ap (λ (x : List (ℕ × ℕ)). the_state q x) f
+
+module _ {D : Type 0} {g : Ghosts D} (seen : D → Option (List ℕ)) (may_leave : D → List ℕ → Type 0) where
+  -- what a crash leaves of a node that holds ops
+  pub journal_left : (node : Node D g) (os : List Op) → Holds seen may_leave node os → (c : List ℕ) → may_leave (disk_of node) c → IsJournalOf os c
+  journal_left node os holds c left =
+      let rests = holds.settled.rests in
+      record { journal = record { gate = rests.gate; after = rests.after; bytes_are = rests.stable c left; shut = rests.shut; fits = rests.fits }; ops = holds.ops }
+
+  pub stand : (node : Node D g) (p : Plain) → p ≡ plain_of node → IsHeld seen may_leave node → (c : List ℕ) → may_leave (disk_of node) c → StandsFor p c
+  stand node p is held c left = record { ops = held.0; journal = journal_left node held.0 held.1 c left; state = is ∙ held.1.state }
+
+  -- a record that would pass the limit
+  pub past_limit : (old new : Node D g) (os : List Op) (op : Option Op) → Holds seen may_leave old os → Holds seen may_leave new os → IsPast (place_of old) op
+      → PastLimit (may_leave (disk_of new)) (plain_of old) op
+  past_limit old new os op held still past =
+      record { ops = os; state = held.state; journal = journal_left new os still; past = subst (λ (n : ℕ). IsPast n op) held.place past }
+
+module _ {D : Type 0} (may_leave : D → List ℕ → Type 0) (moment : D → ℕ) (left_since : D → ℕ → List ℕ → Type 0) where
+  -- what is left now is what a crash at some moment leaves
+  pub left_now : ((disk : D) (t : ℕ) (c : List ℕ) → t ≤ moment disk → may_leave disk c → left_since disk t c) → (old new : D) (P : List ℕ → Type 0)
+      → LeavesOnly moment left_since old new P → (c : List ℕ) → may_leave new c → P c
+  left_now counts_now old new P leaves c left = leaves.each c (counts_now new (moment old) c leaves.later left)
+
+-- where a disk may have told more before, less is known of where it stopped
+pub told_before : (id : ℕ) (sets : List (ℕ × List Bool)) (Before Told : Type 0) (left : List ℕ → Type 0) (stop : Stop) → (Before → Told)
+    → (x : Cut State) → IsCut id sets Told left stop x → IsCut id sets Before left stop x
+told_before id sets Before Told left stop f (Idle s) cut = (cut.0, λ b. cut.1 (f b))
+told_before id sets Before Told left stop f (Unread held s) cut = (cut.0, λ b. cut.1 (f b))
+told_before id sets Before Told left stop f (Refused s m) cut = (cut.0, λ b. cut.1 (f b), λ b. cut.2 (f b))
+told_before id sets Before Told left stop f (Unsent s) cut = (cut.0, λ b. cut.1 (f b))

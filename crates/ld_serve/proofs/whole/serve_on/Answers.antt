@@ -1,0 +1,52 @@
+use Rattle.std.proofs.Common.{◌≡◌, ℕ, List, [], Bool, OnOk, subst, sym, ◌∙◌, inl, refl}
+use Rattle.std.specs.Prelude.{IfErr}
+use Rattle.ld_op.specs.Plain.{Plain}
+use Rattle.ld_node.specs.Sets.{sets_in}
+use Rattle.ld_node.specs.Node.{id_of, sets_of, released_of, plain_of, disk_of}
+use Rattle.ld_serve.specs.Course.{IsServed, IsStopped}
+use Rattle.ld_serve.specs.Serving.{state_of, after, answers, IsHeld, IsCut}
+use Rattle.ld_serve.proofs.Serving.{the_state, stand}
+use Rattle.ld_serve.proofs.Wholes.{told_of, has_served, has_stopped, is_serving, register_counts, stands_whole}
+use Rattle.ld_serve.proofs.whole.serve_on.Goals as goal
+
+pub returns-in-Err-clause-stopped : goal.returns-in-Err-clause-stopped
+returns-in-Err-clause-stopped g c start is = inl (record { link = refl; cause = c.in-Err.ensures.cause; bytes = c.in-Err.ensures.seen; leaves = c.in-Err.ensures.leaves })
+
+pub returns-in-Err-clause-opening : goal.returns-in-Err-clause-opening
+returns-in-Err-clause-opening g c = inl (record { link = refl; cause = c.in-Err.ensures.cause; bytes = c.in-Err.ensures.seen; leaves = c.in-Err.ensures.leaves })
+
+pub returns-clause-served : goal.returns-clause-served
+returns-clause-served g c start is =
+    let node = c.in-Ok.node in
+    let new = c.serve_peers-served.new.node in
+    let r = c.serve_peers-served.result in
+    let peers = g.L.Link.peers c.serve_peers-served.new.link in
+    let opened = c.in-Ok.ensures.node in
+    let kept = sets_in c.args.id c.args.config.now.logs in
+    let left = g.D.Disk.may_leave (disk_of new) in
+    let course : (i : ℕ) (sets : List (ℕ × List Bool)) (released : List (ℕ × ℕ)) → Type 0 = λ i sets released. OnOk r (IsServed (after i sets) (answers i sets) start (the_state (plain_of node) released) peers (state_of new) c.args.turns) in
+    rw c.into_disk.ensures (has_served (g.D.Disk.seen c.args.disk) left (g.G.Register.holds c.args.reg.now) c.args.id kept c.args.format r start peers c.args.turns (plain_of node) (state_of new) c.in-Ok.ensures.opens
+    (subst (λ i. course i kept []) opened.0 (subst (λ sets. course (id_of node) sets []) opened.1 (subst (λ released. course (id_of node) (sets_of node) released) opened.2 (c.serve_peers-served.ensures.served start is))))
+    (stands_whole (g.D.Disk.seen c.args.disk) r (IsHeld g.D.Disk.seen g.D.Disk.may_leave node) (IsHeld g.D.Disk.seen g.D.Disk.may_leave new) left _ c.in-Ok.ensures.holds (λ held. c.serve_peers-served.ensures.holds held.0 held.1)
+    (λ held. stand g.D.Disk.seen g.D.Disk.may_leave new (plain_of new) refl held)))
+
+pub returns-clause-stopped : goal.returns-clause-stopped
+returns-clause-stopped g c start is =
+    let node = c.in-Ok.node in
+    let new = c.serve_peers-served.new.node in
+    let r = c.serve_peers-served.result in
+    let peers = g.L.Link.peers c.serve_peers-served.new.link in
+    let opened = c.in-Ok.ensures.node in
+    let kept = sets_in c.args.id c.args.config.now.logs in
+    let left = g.D.Disk.may_leave (disk_of new) in
+    let held = IsHeld g.D.Disk.seen g.D.Disk.may_leave node in
+    let course : (i : ℕ) (sets : List (ℕ × List Bool)) (released : List (ℕ × ℕ)) → Type 0 = λ i sets released. IfErr r (λ stop. IsStopped (after i sets) (answers i sets) (IsCut i sets held left stop) start (the_state (plain_of node) released) peers (state_of new)) in
+    rw c.into_disk.ensures (has_stopped (g.D.Disk.seen c.args.disk) left (g.G.Register.holds c.args.reg.now) c.args.id kept c.args.format r start peers (plain_of node) (state_of new) held _ c.in-Ok.ensures.opens
+    (told_of (g.D.Disk.seen c.args.disk) held c.in-Ok.ensures.holds)
+    (subst (λ i. course i kept []) opened.0 (subst (λ sets. course (id_of node) sets []) opened.1 (subst (λ released. course (id_of node) (sets_of node) released) opened.2 (c.serve_peers-served.ensures.stopped start is)))))
+
+pub returns-clause-opening : goal.returns-clause-opening
+returns-clause-opening g c = is_serving _ _ c.serve_peers-served.ensures.stops
+
+pub returns-clause-register_counts : goal.returns-clause-register_counts
+returns-clause-register_counts g c = register_counts _ _ _ c.serve_peers-served.ensures.stops c.in-Ok.ensures.register_counts

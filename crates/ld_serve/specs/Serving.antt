@@ -1,0 +1,63 @@
+-- A node that serves: what a message makes of it, and what its disk stands for.
+use Rattle.std.specs.Prelude.{◌≡◌, ℕ, List, length, Bool, Option}
+use Rattle.ld_msg.specs.declared.msg.Msg.{Msg}
+use Rattle.ld_journal.specs.Format.{records}
+use Rattle.ld_op.specs.declared.op.Op.{Op}
+use Rattle.ld_op.specs.Plain.{Plain}
+use Rattle.ld_op.specs.Answers.{Handled}
+use Rattle.ld_op.specs.Handles.{answer_message}
+use Rattle.ld_store.specs.Ops.{StandsFor, StandsForEither, IsJournalOf, bodies_of, state_after}
+use Rattle.ld_node.specs.Changes.{kept, IsPast}
+use Rattle.ld_node.specs.Msgs.{handled, released_after}
+use Rattle.ld_disk.specs.declared.disk.Disk.{Ghosts}
+use Rattle.ld_node.specs.declared.node.Node.{Node}
+use Rattle.ld_node.specs.Node.{plain_of, released_of, Holds}
+use Rattle.ld_serve.specs.declared.stop.Stop.{Stop}
+use Rattle.ld_serve.specs.declared.stop.Stop.TheVariants.{Full}
+use Rattle.ld_serve.specs.declared.stop.Which.TheVariants.{Store}
+use Rattle.ld_serve.specs.Course.{Cut, Idle, Unread, Refused, Unsent}
+use Rattle.ld_serve.specs.Stops.{IsLinkStop, IsUnread, IsNodeStop, IsUnsent}
+
+-- what a node has in memory: its plain state, and the released numbers of its logs
+pub record State : Type 0 where
+  pub plain : Plain
+  pub released : List (ℕ × ℕ)
+
+module _ {D : Type 0} {g : Ghosts D} where
+  abbrev pub state_of : Node D g → State
+  state_of node = record { plain = plain_of node; released = released_of node }
+
+  -- the node's store holds some ops
+  abbrev pub IsHeld : (D → Option (List ℕ)) → (D → List ℕ → Type 0) → Node D g → Type 0
+  IsHeld seen may_leave node = (ops : List Op) × Holds seen may_leave node ops
+
+-- some ops add up to this plain state, each thing that may be left is their journal, and with one more it would pass its limit
+pub record PastLimit (left : List ℕ → Type 0) (p : Plain) (op : Option Op) : Type 0 where
+  pub ops : List Op
+  pub state : p ≡ state_after ops
+  pub journal : (bytes : List ℕ) → left bytes → IsJournalOf ops bytes
+  pub past : IsPast (length (records (bodies_of ops))) op
+
+-- the node of this number, which keeps the logs with these sets
+module _ (id : ℕ) (sets : List (ℕ × List Bool)) where
+  -- what it makes of a message
+  abbrev pub done : State → Msg → Handled
+  done s m = handled id sets s.released s.plain m
+
+  abbrev pub after : State → Msg → State
+  after s m = record { plain = kept (done s m).op s.plain; released = released_after id sets s.released m }
+
+  abbrev pub answers : State → Msg → List Msg
+  answers s m = answer_message id m (done s m).answer
+
+  -- where it stopped, why, and what may be left of its disk then, where the disk has told what it holds
+  module _ (Told : Type 0) (left : List ℕ → Type 0) (stop : Stop) where
+    -- all that may be left is such
+    abbrev pub Leaves : (List ℕ → Type 0) → Type 0
+    Leaves P = Told → (bytes : List ℕ) → left bytes → P bytes
+
+    abbrev pub IsCut : Cut State → Type 0
+    IsCut (Idle s) = IsLinkStop stop × Leaves (StandsFor s.plain)
+    IsCut (Unread held s) = IsUnread held stop × Leaves (StandsFor s.plain)
+    IsCut (Refused s m) = IsNodeStop stop × Leaves (StandsForEither s.plain (after s m).plain) × (Told → stop ≡ Full Store → PastLimit left s.plain (done s m).op)
+    IsCut (Unsent s) = IsUnsent stop × Leaves (StandsFor s.plain)

@@ -1,0 +1,140 @@
+// A node on a disk in memory, over a link in memory.
+use crate::{Stop, serve};
+use ld_config::{Config, Specs};
+use ld_disk::MemDisk;
+use ld_ids::{LogId, NoMemory, NodeId, NodeSet, Spec};
+use ld_link::MemLink;
+use ld_register::DiskRegister;
+use ld_wire::WireFault;
+use std::alloc::Global;
+use std::test::Fail;
+use std::vec;
+
+/// A reader's ask of round 1 for log 1 at node 1, from number 1 on.
+const ASK: [u8; 31] = [
+    0, 0, 0, 27, 12, 2, 0, 0, 0, 0, 0, 0, 0, 0, 1, 0, 0, 0, 1, 0, 0, 0, 1, 0, 0, 0, 0, 0, 0, 0, 1,
+];
+
+/// That the log has nothing from number 1 on.
+const ENDED: [u8; 39] = [
+    0, 0, 0, 35, 14, 0, 0, 0, 0, 1, 2, 0, 0, 0, 0, 0, 0, 0, 1, 0, 0, 0, 1, 0, 0, 0, 0, 0, 0, 0, 1,
+    0, 0, 0, 0, 0, 0, 0, 1,
+];
+
+/// Log 1 on node 1.
+fn config(alloc: Global) -> Result<Config, NoMemory> {
+    let (Some(node), Some(log)) = (NodeId::new(1), LogId::new(1)) else {
+        return Err(NoMemory);
+    };
+    let nodes = NodeSet::empty().with(node);
+    let mut logs = Specs::new(alloc);
+    logs.push(Spec {
+        log,
+        set: nodes,
+        r: 1,
+        extras: 0,
+    })?;
+    Ok(Config { nodes, logs })
+}
+
+fn new_disk(alloc: Global) -> Result<MemDisk, NoMemory> {
+    match MemDisk::new(alloc) {
+        Ok(disk) => Ok(disk),
+        Err(_) => Err(NoMemory),
+    }
+}
+
+fn new_link(alloc: Global, peers: Vec<Vec<u8>>, fails: Vec<u64>) -> Result<MemLink, NoMemory> {
+    match MemLink::new(alloc, peers, 100, fails) {
+        Ok(link) => Ok(link),
+        Err(_) => Err(NoMemory),
+    }
+}
+
+fn ask(alloc: Global) -> Result<Vec<u8>, NoMemory> {
+    let mut bytes = Vec::new(alloc);
+    bytes.extend_from_slice(&ASK)?;
+    Ok(bytes)
+}
+
+/// Node 1 serves on a blank disk.
+fn serves(alloc: Global, format: bool, turns: u64, link: &mut MemLink) -> Result<(), Stop> {
+    let (Ok(config), Ok(mut disk), Ok(register), Some(node)) = (
+        config(alloc),
+        new_disk(alloc),
+        new_disk(alloc),
+        NodeId::new(1),
+    ) else {
+        return Err(Stop::NoMemory);
+    };
+    let mut reg = DiskRegister::new(alloc, register);
+    serve(
+        alloc, node, &config, format, turns, &mut disk, &mut reg, link,
+    )
+}
+
+#[test]
+fn an_ask_is_answered(rt: HostRuntime) -> Result<(), Fail> {
+    let alloc = rt.alloc();
+    let mut link = new_link(alloc, vec![in alloc; ask(alloc)?]?, Vec::new(alloc))?;
+    assert_eq!(rt; serves(alloc, true, 1, &mut link), Ok(()));
+    assert_eq!(rt; link.sent(0), Some(ENDED.as_slice()));
+    Ok(())
+}
+
+#[test]
+fn frames_are_answered_in_order_up_to_the_last_turn(rt: HostRuntime) -> Result<(), Fail> {
+    let alloc = rt.alloc();
+    let mut asks = ask(alloc)?;
+    asks.extend_from_slice(&ASK)?;
+    asks.extend_from_slice(&ASK)?;
+    let mut link = new_link(alloc, vec![in alloc; asks]?, Vec::new(alloc))?;
+    assert_eq!(rt; serves(alloc, true, 2, &mut link), Ok(()));
+    let mut answers = Vec::new(alloc);
+    answers.extend_from_slice(&ENDED)?;
+    answers.extend_from_slice(&ENDED)?;
+    assert_eq!(rt; link.sent(0), Some(answers.as_slice()));
+    Ok(())
+}
+
+#[test]
+fn a_frame_that_is_cut_is_dropped(rt: HostRuntime) -> Result<(), Fail> {
+    let alloc = rt.alloc();
+    let cut = vec![in alloc; 0, 0, 0, 27, 12]?;
+    let mut link = new_link(alloc, vec![in alloc; cut, ask(alloc)?]?, Vec::new(alloc))?;
+    assert_eq!(rt; serves(alloc, true, 9, &mut link), Ok(()));
+    let none: [u8; 0] = [];
+    assert_eq!(rt; link.sent(0), Some(none.as_slice()));
+    assert_eq!(rt; link.sent(1), Some(ENDED.as_slice()));
+    Ok(())
+}
+
+#[test]
+fn what_is_no_frame_stops_it(rt: HostRuntime) -> Result<(), Fail> {
+    let alloc = rt.alloc();
+    let bytes = vec![in alloc; 0, 0, 0, 1, 200]?;
+    let mut link = new_link(alloc, vec![in alloc; bytes]?, Vec::new(alloc))?;
+    assert_eq!(rt;
+        serves(alloc, true, 9, &mut link),
+        Err(Stop::BadFrame(WireFault::BadKind(200)))
+    );
+    Ok(())
+}
+
+#[test]
+fn a_failed_write_stops_it(rt: HostRuntime) -> Result<(), Fail> {
+    let alloc = rt.alloc();
+    // the next peer, a read, a write
+    let mut link = new_link(alloc, vec![in alloc; ask(alloc)?]?, vec![in alloc; 2]?)?;
+    assert_eq!(rt; serves(alloc, true, 9, &mut link), Err(Stop::Link));
+    Ok(())
+}
+
+#[test]
+fn a_blank_disk_is_refused(rt: HostRuntime) -> Result<(), Fail> {
+    let alloc = rt.alloc();
+    let mut link = new_link(alloc, vec![in alloc; ask(alloc)?]?, Vec::new(alloc))?;
+    assert_eq!(rt; serves(alloc, false, 9, &mut link), Err(Stop::Blank));
+    assert_eq!(rt; link.sent(0), None);
+    Ok(())
+}
