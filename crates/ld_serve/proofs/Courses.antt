@@ -1,5 +1,5 @@
 -- One turn more.
-use Rattle.std.proofs.Common.{◌≡◌, ◌⊎◌, ◌≤◌, ◌<◌, ◌+◌, ◌++◌, ℕ, List, [], ◌∷◌, take, drop, length, map, None, Some, refl, sym, ap, ◌∙◌, subst, append_assoc, inl, inr, arith}
+use Rattle.std.proofs.Common.{◌≡◌, ◌+◌, ◌++◌, ℕ, List, [], ◌∷◌, take, drop, length, map, Some, refl, sym, ap, ◌∙◌, subst, append_assoc, inl, inr, arith}
 use Rattle.std.specs.Prelude.{Option, IfSome}
 use Rattle.std.specs.Option.{option_map}
 use Rattle.std.proofs.lemmas.List.{append-nil, take-append-drop, length-append, map-append}
@@ -9,9 +9,9 @@ use Rattle.ld_wire.specs.Frames.{frame_of}
 use Rattle.ld_wire.specs.Streams.{frames_of, AreMessages}
 use Rattle.ld_wire.specs.Judging.{judge, Waits}
 use Rattle.ld_wire.specs.Held.{Held}
-use Rattle.ld_link.specs.Peers.{Talk, Peers, heard, said, on_present, left_of, as_list, fresh, arrived, Comes, Lacks}
+use Rattle.ld_link.specs.Peers.{Talk, Peers, heard, said, on_present, left_of, as_list, arrived, Comes, Lacks}
 use Rattle.ld_serve.specs.Hearing.{Hears, HearsFrame, HearsEnd, HearsSome, Says, SaysPart}
-use Rattle.ld_serve.specs.Course.{Cut, Idle, Unread, Refused, Unsent, IsCutOff, Early, IsStopped, Speech, bytes_of, AreSpeeches, turns_of, talks, after_all, answers_all, after_peers, whole_talk, whole_talks, BetweenPeers, WithPeer, InTurn, NoMore, Between}
+use Rattle.ld_serve.specs.Course.{Cut, Idle, Unread, Refused, Unsent, IsCutOff, IsStopped, Speech, bytes_of, AreSpeeches, turns_of, talks, after_all, answers_all, after_peers, whole_talk, whole_talks, BetweenPeers, WithPeer, InTurn, NoMore}
 use Rattle.ld_serve.proofs.Talks.{said_nothing}
 use Rattle.ld_serve.proofs.Frames.{frames_of-append}
 
@@ -228,10 +228,6 @@ module _ {S : Type 0} (after : S → Msg → S) (answers : S → Msg → List Ms
   none_came start s now new state turns b lacks =
       let l = now_at now new b.peers (λ p. Lacks p new) b.told lacks in
       record { between = unmoved start s now new state turns b l.peers; none = l.none }
-
-  pub same_between : (start : Peers) (s : S) (now new : Option Peers) (state : S) (turns : ℕ) → (b : BetweenPeers after answers start s now state turns)
-      → IfSome now (λ p. new ≡ Some p) → BetweenPeers after answers start s new state turns
-  same_between start s now new state turns b same = unmoved start s now new state turns b (now_at now new b.peers (λ p. new ≡ Some p) b.told same)
 
   pub one_came : (start : Peers) (s : S) (now new : Option Peers) (state : S) (turns : ℕ) → (b : BetweenPeers after answers start s now state turns)
       → IfSome now (λ p. Comes p new) → WithPeer after answers start s new [] state turns

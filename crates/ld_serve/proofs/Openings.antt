@@ -1,14 +1,13 @@
 -- A node is opened.
-use Rattle.std.proofs.Common.{◌≡◌, ◌⊎◌, ◌≤◌, ◌-◌, ◌^◌, ◌++◌, ℕ, List, [], ◌∷◌, length, Bool, true, false, Option, None, Some, ap, sym, ◌∙◌, subst, refl, inl, inr, ⊎_elim}
-use Rattle.std.specs.Prelude.{IfSome, IsSome}
+use Rattle.std.proofs.Common.{◌≡◌, ◌⊎◌, ◌≤◌, ◌-◌, ◌^◌, ℕ, List, [], ◌∷◌, length, Bool, true, Option, None, Some, ap, sym, ◌∙◌, subst, refl, inl, inr, ⊎_elim}
+use Rattle.std.specs.Prelude.{IfSome}
 use Rattle.ld_io.specs.Causes.{Rose}
-use Rattle.ld_disk.specs.Moments.{LeavesOnly, Unchanged}
 use Rattle.ld_disk.specs.declared.disk.Disk.{Ghosts}
 use Rattle.ld_msg.specs.Register.{Register as Contents, generation_of}
 use Rattle.ld_op.specs.declared.op.Op.{Op}
 use Rattle.ld_op.specs.Plain.{Plain, unformatted, apply}
 use Rattle.ld_journal.specs.Format.{records}
-use Rattle.ld_store.specs.Ops.{StandsFor, IsJournalOf, IsDamaged, are_none, bodies_of, state_after}
+use Rattle.ld_store.specs.Ops.{StandsFor, IsJournalOf, are_none, bodies_of, state_after}
 use Rattle.ld_register.specs.declared.fault.RegisterFault.TheVariants as refusals
 use Rattle.ld_register.specs.declared.register.Drawn.{Drawn}
 use Rattle.ld_register.specs.Calls.{drawn, is_full, draw_length}
@@ -18,88 +17,17 @@ use Rattle.ld_node.specs.declared.fault.NodeFault.TheVariants as nodes
 use Rattle.ld_node.specs.Draws.{answered}
 use Rattle.ld_node.specs.Formats.{format_of}
 use Rattle.ld_node.specs.Formats as formats
-use Rattle.ld_node.specs.Node.{plain_of, disk_of, is_blank, place_of, Holds, IsOpened}
+use Rattle.ld_node.specs.Node.{plain_of, is_blank, place_of, Holds, IsOpened}
 use Rattle.ld_node.specs.Changes.{IsPast}
-use Rattle.ld_serve.specs.declared.stop.Stop.{Stop}
-use Rattle.ld_serve.specs.declared.stop.Stop.TheVariants as stops
-use Rattle.ld_serve.specs.Stops.{DiskCounts, RegisterCounts}
-use Rattle.ld_serve.specs.Serving.{IsHeld}
-use Rattle.ld_serve.specs.Opening.{IsBlank, IsOpening, IsFormatted, IsFormattedNow, Draws, LeftByFormat, Formats, StoreIsFull, IsOpeningStop, stop_of_load, stop_of_format}
+use Rattle.ld_serve.specs.Opening.{IsBlank, Draws, LeftByFormat, Formats, StoreIsFull, IsOpeningStop, stop_of_format}
 
 none_is : (os : List Op) → are_none os ≡ true → os ≡ []
 none_is [] e = refl
 none_is (o ∷ os) e = absurd cc
 
-pub some_too : (o : Option (List ℕ)) (X : Type 0) → X → IfSome o (λ _. X)
-some_too None X x = tt
-some_too (Some bytes) X x = x
-
--- ---- a load that is refused, and a format ----
-
-pub load_counts : (fault : NodeFault) (before now : ℕ) → (fault ≡ nodes.Disk → Rose before now) → (fault ≡ nodes.Disk) ⊎ (now ≡ before) → DiskCounts before now (stop_of_load fault)
-load_counts nodes.Disk before now rose steady = rose refl
-load_counts (nodes.Damaged place) before now rose steady = ⊎_elim (λ e. absurd cc) (λ same. same) steady
-load_counts nodes.Full before now rose steady = ⊎_elim (λ e. absurd cc) (λ same. same) steady
-load_counts nodes.NeedsLoad before now rose steady = ⊎_elim (λ e. absurd cc) (λ same. same) steady
-load_counts (nodes.Register fault) before now rose steady = ⊎_elim (λ e. absurd cc) (λ same. same) steady
-load_counts nodes.NoMemory before now rose steady = ⊎_elim (λ e. absurd cc) (λ same. same) steady
-
-pub load_register : (fault : NodeFault) (count : ℕ) → RegisterCounts count count (stop_of_load fault)
-load_register nodes.Disk count = refl
-load_register (nodes.Damaged place) count = refl
-load_register nodes.Full count = refl
-load_register nodes.NeedsLoad count = refl
-load_register (nodes.Register fault) count = refl
-load_register nodes.NoMemory count = refl
-
-pub format_counts : (fault : NodeFault) (before now : ℕ) → (fault ≡ nodes.Disk → Rose before now) → (fault ≡ nodes.Disk) ⊎ (now ≡ before) → DiskCounts before now (stop_of_format fault)
-format_counts nodes.Disk before now rose steady = rose refl
-format_counts (nodes.Damaged place) before now rose steady = ⊎_elim (λ e. absurd cc) (λ same. same) steady
-format_counts nodes.Full before now rose steady = ⊎_elim (λ e. absurd cc) (λ same. same) steady
-format_counts nodes.NeedsLoad before now rose steady = ⊎_elim (λ e. absurd cc) (λ same. same) steady
-format_counts (nodes.Register refusals.Failed) before now rose steady = ⊎_elim (λ e. absurd cc) (λ same. same) steady
-format_counts (nodes.Register (refusals.Damaged place)) before now rose steady = ⊎_elim (λ e. absurd cc) (λ same. same) steady
-format_counts (nodes.Register refusals.LogLimit) before now rose steady = ⊎_elim (λ e. absurd cc) (λ same. same) steady
-format_counts (nodes.Register (refusals.Behind lce)) before now rose steady = ⊎_elim (λ e. absurd cc) (λ same. same) steady
-format_counts (nodes.Register refusals.EpochLimit) before now rose steady = ⊎_elim (λ e. absurd cc) (λ same. same) steady
-format_counts (nodes.Register refusals.GenLimit) before now rose steady = ⊎_elim (λ e. absurd cc) (λ same. same) steady
-format_counts (nodes.Register refusals.Full) before now rose steady = ⊎_elim (λ e. absurd cc) (λ same. same) steady
-format_counts (nodes.Register refusals.NoMemory) before now rose steady = ⊎_elim (λ e. absurd cc) (λ same. same) steady
-format_counts nodes.NoMemory before now rose steady = ⊎_elim (λ e. absurd cc) (λ same. same) steady
-
-pub format_register : (fault : NodeFault) (before now : ℕ) → (fault ≡ nodes.Register refusals.Failed → Rose before now) → (fault ≡ nodes.Register refusals.Failed) ⊎ (now ≡ before)
-    → RegisterCounts before now (stop_of_format fault)
-format_register nodes.Disk before now rose steady = ⊎_elim (λ e. absurd cc) (λ same. same) steady
-format_register (nodes.Damaged place) before now rose steady = ⊎_elim (λ e. absurd cc) (λ same. same) steady
-format_register nodes.Full before now rose steady = ⊎_elim (λ e. absurd cc) (λ same. same) steady
-format_register nodes.NeedsLoad before now rose steady = ⊎_elim (λ e. absurd cc) (λ same. same) steady
-format_register (nodes.Register refusals.Failed) before now rose steady = rose refl
-format_register (nodes.Register (refusals.Damaged place)) before now rose steady = ⊎_elim (λ e. absurd cc) (λ same. same) steady
-format_register (nodes.Register refusals.LogLimit) before now rose steady = ⊎_elim (λ e. absurd cc) (λ same. same) steady
-format_register (nodes.Register (refusals.Behind lce)) before now rose steady = ⊎_elim (λ e. absurd cc) (λ same. same) steady
-format_register (nodes.Register refusals.EpochLimit) before now rose steady = ⊎_elim (λ e. absurd cc) (λ same. same) steady
-format_register (nodes.Register refusals.GenLimit) before now rose steady = ⊎_elim (λ e. absurd cc) (λ same. same) steady
-format_register (nodes.Register refusals.Full) before now rose steady = ⊎_elim (λ e. absurd cc) (λ same. same) steady
-format_register (nodes.Register refusals.NoMemory) before now rose steady = ⊎_elim (λ e. absurd cc) (λ same. same) steady
-format_register nodes.NoMemory before now rose steady = ⊎_elim (λ e. absurd cc) (λ same. same) steady
-
--- but for a failed disk the bytes are the same
-pub load_seen : (fault : NodeFault) (X : Type 0) → (fault ≡ nodes.Disk) ⊎ X → (stop_of_load fault ≡ stops.Disk) ⊎ X
-load_seen fault X either = ⊎_elim (λ e. inl (ap stop_of_load e)) (λ x. inr x) either
-
-pub format_seen : (fault : NodeFault) (X : Type 0) → (fault ≡ nodes.Disk) ⊎ X → (stop_of_format fault ≡ stops.Disk) ⊎ X
-format_seen fault X either = ⊎_elim (λ e. inl (ap stop_of_format e)) (λ x. inr x) either
+-- ---- a format that is refused ----
 
 module _ (disk_before disk_now : ℕ) (seen : Option (List ℕ)) (register_before register_now : ℕ) (Told : Type 0) (holds : Contents → Type 0) (damaged : ℕ → Type 0) (id : ℕ) (format : Bool) where
-  pub load_caused : (fault : NodeFault) → (fault ≡ nodes.Disk → Rose disk_before disk_now) → ((place : ℕ) → fault ≡ nodes.Damaged place → IfSome seen (IsDamaged place))
-      → IsOpeningStop disk_before disk_now seen register_before register_now Told holds damaged id format (stop_of_load fault)
-  load_caused nodes.Disk rose place = rose refl
-  load_caused (nodes.Damaged at) rose place = place at refl
-  load_caused nodes.Full rose place = tt
-  load_caused nodes.NeedsLoad rose place = tt
-  load_caused (nodes.Register fault) rose place = tt
-  load_caused nodes.NoMemory rose place = tt
-
   pub format_caused : (fault : NodeFault) → Formats disk_before disk_now seen register_before register_now Told holds damaged id format
       → (fault ≡ nodes.Disk → Rose disk_before disk_now) → (fault ≡ nodes.Register refusals.Failed → Rose register_before register_now)
       → ((place : ℕ) → fault ≡ nodes.Register (refusals.Damaged place) → Told → damaged place)
@@ -124,14 +52,6 @@ module _ (disk_before disk_now : ℕ) (seen : Option (List ℕ)) (register_befor
 -- ---- what the node holds then, where the disk has shown some bytes ----
 
 module _ {D : Type 0} {g : Ghosts D} (seen : D → Option (List ℕ)) (may_leave : D → List ℕ → Type 0) (holds : Contents → Type 0) (id : ℕ) (format : Bool) where
-  pub loaded_opens : (o : Option (List ℕ)) (node : Node D g) → is_blank node ≡ false → IfSome o (IsOpened seen may_leave node) → IfSome o (IsOpening holds id format (plain_of node))
-  loaded_opens None node some opened = tt
-  loaded_opens (Some bytes) node some opened = inl (record { ops = opened.ops; some = sym opened.holds.blank ∙ some; journal = opened.journal; state = opened.holds.state })
-
-  pub opened_holds : (o : Option (List ℕ)) (node : Node D g) → IfSome o (IsOpened seen may_leave node) → IfSome o (λ _. IsHeld seen may_leave node)
-  opened_holds None node opened = tt
-  opened_holds (Some bytes) node opened = (opened.ops, opened.holds)
-
   blank_is : (bytes : List ℕ) (node : Node D g) → is_blank node ≡ true → (opened : IsOpened seen may_leave node bytes) → opened.ops ≡ []
   blank_is bytes node blank opened = none_is opened.ops (sym opened.holds.blank ∙ blank)
 
@@ -141,22 +61,6 @@ module _ {D : Type 0} {g : Ghosts D} (seen : D → Option (List ℕ)) (may_leave
 
   blank_state : (bytes : List ℕ) (node : Node D g) → is_blank node ≡ true → IsOpened seen may_leave node bytes → plain_of node ≡ unformatted
   blank_state bytes node blank opened = opened.holds.state ∙ ap state_after (blank_is bytes node blank opened)
-
-  pub format_opens : (o : Option (List ℕ)) (old new : Node D g) (given : Drawn) → format ≡ true → is_blank old ≡ true → IfSome o (IsOpened seen may_leave old) → Draws holds id given
-      → plain_of new ≡ apply (plain_of old) (format_of given) → IfSome o (IsOpening holds id format (plain_of new))
-  format_opens None old new given asked blank opened draws applied = tt
-  format_opens (Some bytes) old new given asked blank opened draws applied = inr (record {
-    asked = asked;
-    blank = blank_opens (Some bytes) old blank opened;
-    given = given;
-    drawn = draws;
-    state = applied ∙ ap (λ (p : Plain). apply p (format_of given)) (blank_state bytes old blank opened);
-  })
-
-  pub format_holds : (o : Option (List ℕ)) (old new : Node D g) (given : Drawn) → IfSome o (IsOpened seen may_leave old)
-      → ((ops : List Op) → Holds seen may_leave old ops → Holds seen may_leave new (ops ++ format_of given ∷ [])) → IfSome o (λ _. IsHeld seen may_leave new)
-  format_holds None old new given opened kept = tt
-  format_holds (Some bytes) old new given opened kept = (_, kept opened.ops opened.holds)
 
   -- the place of a blank store's first record is 0
   pub blank_full : (o : Option (List ℕ)) (old : Node D g) → is_blank old ≡ true → IfSome o (IsOpened seen may_leave old)

@@ -1,18 +1,16 @@
 -- A node that serves, and its disk.
-use Rattle.std.proofs.Common.{◌≡◌, ◌⊎◌, ◌≤◌, ℕ, List, length, Option, Bool, false, ap, sym, ◌∙◌, subst, refl}
-use Rattle.ld_msg.specs.declared.msg.Msg.{Msg}
+use Rattle.std.proofs.Common.{◌≡◌, ◌≤◌, ℕ, List, Option, Bool, ap, ◌∙◌, subst}
 use Rattle.ld_disk.specs.Moments.{LeavesOnly}
 use Rattle.ld_disk.specs.declared.disk.Disk.{Ghosts}
-use Rattle.ld_journal.specs.Format.{records}
 use Rattle.ld_op.specs.declared.op.Op.{Op}
 use Rattle.ld_op.specs.Plain.{Plain}
-use Rattle.ld_store.specs.Ops.{StandsFor, StandsForEither, IsJournalOf, bodies_of, state_after}
+use Rattle.ld_store.specs.Ops.{StandsFor, IsJournalOf}
 use Rattle.ld_node.specs.declared.node.Node.{Node}
 use Rattle.ld_node.specs.Changes.{IsPast}
-use Rattle.ld_node.specs.Node.{plain_of, released_of, disk_of, place_of, Holds}
+use Rattle.ld_node.specs.Node.{plain_of, disk_of, place_of, Holds}
 use Rattle.ld_serve.specs.declared.stop.Stop.{Stop}
 use Rattle.ld_serve.specs.Course.{Cut, Idle, Unread, Refused, Unsent}
-use Rattle.ld_serve.specs.Serving.{State, state_of, IsHeld, PastLimit, IsCut}
+use Rattle.ld_serve.specs.Serving.{State, IsHeld, PastLimit, IsCut}
 
 abbrev pub the_state : Plain → List (ℕ × ℕ) → State
 the_state p r = record { plain = p; released = r }

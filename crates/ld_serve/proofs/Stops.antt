@@ -1,9 +1,9 @@
 -- Reasons to stop, by where it stopped.
-use Rattle.std.proofs.Common.{◌≡◌, ◌⊎◌, ℕ, List}
+use Rattle.std.proofs.Common.{◌≡◌, ℕ, List}
 use Rattle.ld_serve.specs.declared.stop.Stop.{Stop}
 use Rattle.ld_serve.specs.declared.stop.Stop.TheVariants.{NoMemory, Disk, Register, Link, BadFrame, Damaged, Blank, Full, GenLimit}
 use Rattle.ld_serve.specs.declared.stop.Which.TheVariants as journals
-use Rattle.ld_serve.specs.Stops.{IsUnread, IsNodeStop, IsUnsent, IsLinkStop, IsServingStop, DiskCounts, RegisterCounts}
+use Rattle.ld_serve.specs.Stops.{IsUnread, IsNodeStop, IsUnsent, IsServingStop, DiskCounts, RegisterCounts}
 
 pub unread_serving : (held : List ℕ) (stop : Stop) → IsUnread held stop → IsServingStop stop
 unread_serving held NoMemory u = tt
@@ -60,28 +60,6 @@ node_serving Blank u = absurd u
 node_serving (Full journals.Store) u = tt
 node_serving (Full journals.Register) u = absurd u
 node_serving GenLimit u = absurd u
-
-pub link_serving : (stop : Stop) → IsLinkStop stop → IsServingStop stop
-link_serving NoMemory u = absurd u
-link_serving Disk u = absurd u
-link_serving Register u = absurd u
-link_serving Link u = tt
-link_serving (BadFrame fault) u = absurd u
-link_serving (Damaged which place) u = absurd u
-link_serving Blank u = absurd u
-link_serving (Full which) u = absurd u
-link_serving GenLimit u = absurd u
-
-pub link_disk : (stop : Stop) (before now : ℕ) → IsLinkStop stop → now ≡ before → DiskCounts before now stop
-link_disk NoMemory before now u e = absurd u
-link_disk Disk before now u e = absurd u
-link_disk Register before now u e = absurd u
-link_disk Link before now u e = e
-link_disk (BadFrame fault) before now u e = absurd u
-link_disk (Damaged which place) before now u e = absurd u
-link_disk Blank before now u e = absurd u
-link_disk (Full which) before now u e = absurd u
-link_disk GenLimit before now u e = absurd u
 
 pub serving_register : (stop : Stop) (before now : ℕ) → IsServingStop stop → now ≡ before → RegisterCounts before now stop
 serving_register NoMemory before now u e = e

@@ -1,5 +1,5 @@
 -- A node that is opened and serves.
-use Rattle.std.proofs.Common.{◌≡◌, ◌⊎◌, ℕ, List, [], Bool, true, false, Option, None, Some, Ok, Err, OnOk, refl, inl, inr}
+use Rattle.std.proofs.Common.{◌≡◌, ◌⊎◌, ℕ, List, Bool, Option, None, Some, Ok, Err, OnOk, inr}
 use Rattle.std.specs.Prelude.{IfSome, IsSome, IfErr, MatchResult}
 use Rattle.std.specs.declared.result.Result.{Result}
 use Rattle.ld_msg.specs.Register.{Register as Contents}

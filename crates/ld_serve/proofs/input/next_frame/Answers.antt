@@ -1,4 +1,4 @@
-use Rattle.std.proofs.Common.{◌≡◌, ◌<◌, true, ap, sym, ◌∙◌, subst, length, arith}
+use Rattle.std.proofs.Common.{ap, ◌∙◌, subst, length, arith}
 use Rattle.std.proofs.lemmas.Result.{err_from_is_err_and}
 use Rattle.ld_wire.specs.Faults.{IsRefused}
 use Rattle.ld_serve.proofs.Hearing.{fails_here, fails_on, judged, next_on, the_first}

@@ -1,4 +1,4 @@
-use Rattle.std.proofs.Common.{◌≡◌, ◌≤◌, ◌-◌, ◌+◌, None, length, IfSome}
+use Rattle.std.proofs.Common.{◌≡◌, ◌-◌, None, length, IfSome}
 use Rattle.ld_serve.specs.Hearing.{Hears}
 use Rattle.ld_serve.proofs.input.next_frame.Given as goal
 

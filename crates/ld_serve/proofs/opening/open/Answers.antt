@@ -1,4 +1,4 @@
-use Rattle.std.proofs.Common.{◌≡◌, ◌⊎◌, ◌≤◌, ◌-◌, ◌^◌, ℕ, List, true, Some, Err, ap, sym, ◌∙◌, subst, inl, inr}
+use Rattle.std.proofs.Common.{◌≡◌, ◌≤◌, ◌-◌, ◌^◌, ℕ, List, true, Some, Err, ap, sym, ◌∙◌, subst}
 use Rattle.ld_io.specs.Causes.{Rose}
 use Rattle.ld_msg.specs.Register.{Register as Contents, generation_of}
 use Rattle.ld_register.specs.declared.register.Drawn.{Drawn}

@@ -1,11 +1,10 @@
-use Rattle.std.proofs.Common.{◌≡◌, ◌<◌, ℕ, List, Bool, ap, sym, ◌∙◌, subst, inl, inr, refl, arith}
+use Rattle.std.proofs.Common.{◌≡◌, ℕ, List, Bool, ap, subst, inl, inr, refl, arith}
 use Rattle.std.proofs.lemmas.Result.{err_from_is_err_and}
 use Rattle.ld_node.specs.Node.{id_of, sets_of, disk_of, plain_of}
 use Rattle.ld_serve.specs.Course.{Goes, WithPeer, InTurn}
 use Rattle.ld_serve.specs.Serving.{after, answers, state_of, IsHeld, IsCut}
 use Rattle.ld_serve.proofs.Courses.{begun, less_in_turn}
 use Rattle.ld_serve.proofs.Serving.{stand, told_before}
-use Rattle.ld_serve.proofs.Stops.{link_serving, link_disk}
 use Rattle.ld_serve.proofs.peers.serve_peers.Goals as goal
 
 pub turns-init : goal.turns-init

@@ -1,4 +1,4 @@
-use Rattle.std.proofs.Common.{◌≡◌, None, Some, false, List, ℕ}
+use Rattle.std.proofs.Common.{◌≡◌, None, Some, false, List}
 use Rattle.ld_link.specs.Peers.{Peers}
 use Rattle.ld_op.specs.declared.op.Op.{Op}
 use Rattle.ld_node.specs.Node.{id_of, sets_of, disk_of, must_load, is_blank, Holds}

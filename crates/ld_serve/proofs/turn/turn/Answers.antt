@@ -1,8 +1,7 @@
-use Rattle.std.proofs.Common.{◌≡◌, Err, subst, sym, ap, ◌∙◌, refl, inl, inr, ⊎_elim}
+use Rattle.std.proofs.Common.{Err, subst, sym, ap, ◌∙◌, refl, inl, inr, ⊎_elim}
 use Rattle.std.proofs.lemmas.Result.{err_from_is_err_and}
 use Rattle.ld_wire.specs.Streams.{AreMessages}
-use Rattle.ld_node.specs.Node.{id_of, sets_of, plain_of, released_of, disk_of}
-use Rattle.ld_serve.specs.Serving.{IsCut, IsHeld, state_of}
+use Rattle.ld_node.specs.Node.{plain_of, disk_of}
 use Rattle.ld_serve.specs.Stops.{LinkCounts}
 use Rattle.ld_serve.proofs.Serving.{state_is, stand, past_limit, left_now}
 use Rattle.ld_serve.proofs.Stops.{unread_serving, unread_counts, node_serving, unsent_serving, unsent_counts}

@@ -1,8 +1,7 @@
-use Rattle.std.proofs.Common.{◌≡◌, ℕ, List, [], Bool, OnOk, subst, sym, ◌∙◌, inl, refl}
+use Rattle.std.proofs.Common.{ℕ, List, [], Bool, OnOk, subst, inl, refl}
 use Rattle.std.specs.Prelude.{IfErr}
-use Rattle.ld_op.specs.Plain.{Plain}
 use Rattle.ld_node.specs.Sets.{sets_in}
-use Rattle.ld_node.specs.Node.{id_of, sets_of, released_of, plain_of, disk_of}
+use Rattle.ld_node.specs.Node.{id_of, sets_of, plain_of, disk_of}
 use Rattle.ld_serve.specs.Course.{IsServed, IsStopped}
 use Rattle.ld_serve.specs.Serving.{state_of, after, answers, IsHeld, IsCut}
 use Rattle.ld_serve.proofs.Serving.{the_state, stand}
