@@ -1,48 +1,65 @@
-// The program `ld`: the top call over the standard streams.
+// The program `ld`: the top call over the standard streams, files and sockets.
 #![tactic(auto)]
 
+mod causes;
+
+use causes::tell;
 use ld_cli::{Status, run};
-use ld_real::{StdSink, StdSource};
+use ld_hints::Recent;
+use ld_real::{FileDisk, StdSink, StdSource, TcpLink};
+use ld_register::DiskRegister;
+use ld_words::{FileName, Places, places};
 use std::io::writer;
 use std::process::ExitCode;
 
 fn main(rt: HostRuntime) -> ExitCode {
     let status = match words_of(&rt) {
-        Ok(words) => {
-            let mut input = StdSource::new(rt.reader());
-            let mut out = StdSink::new(writer(&rt));
-            run(rt.alloc(), &words, &mut input, &mut out)
-        }
+        Ok(words) => perform(&rt, &words),
         // A word that is no text is no command.
-        Err(_) => Status::Usage,
+        Err(_) => {
+            let _ = tell(&rt, &[], Status::Usage, None);
+            Status::Usage
+        }
     };
-    if status != Status::Ok {
-        // Where standard error can't be written, there is nobody left to tell.
-        let _ = tell(&rt, status);
-    }
     ExitCode::from(status.code())
 }
 
-/// Writes the status to standard error, and its cause in plain words.
-fn tell(rt: &HostRuntime, status: Status) -> std::io::Result<()> {
-    eprintln!(rt; "ld: status {}", status.code())?;
-    match status {
-        Status::Ok => Ok(()),
-        Status::Usage => eprintln!(rt;
-            "ld: the words aren't a command; usage: ld replay < SCHEDULE"
-        ),
-        Status::BadSchedule { line, place } => {
-            let reason = if line == 1 {
-                "this is no configuration"
-            } else {
-                "no event is spelt so"
-            };
-            eprintln!(rt; "ld: line {line} place {place}: {reason}")
-        }
-        Status::NoMemory => eprintln!(rt; "ld: out of memory"),
-        Status::Read => eprintln!(rt; "ld: reading standard input failed"),
-        Status::Write => eprintln!(rt; "ld: writing standard output failed"),
+/// Makes what the words name, calls the top call, and tells its status where it isn't Ok.
+fn perform(rt: &HostRuntime, words: &[String]) -> Status {
+    let alloc = rt.alloc();
+    let mut input = Recent::new(alloc, StdSource::new(rt.reader()));
+    let Ok(places) = places(alloc, words) else {
+        let _ = tell(rt, words, Status::NoMemory, None);
+        return Status::NoMemory;
+    };
+    // What a command has no use for is never opened.
+    let places = places.unwrap_or(Places {
+        store: FileName::new(String::new(alloc)),
+        register: FileName::new(String::new(alloc)),
+        port: 0,
+    });
+    let mut disk = FileDisk::new(rt, places.store.as_str());
+    let mut register = DiskRegister::new(alloc, FileDisk::new(rt, places.register.as_str()));
+    let mut link = TcpLink::new(rt, places.port);
+    let mut out = StdSink::new(writer(rt));
+    let status = run(
+        alloc,
+        words,
+        &mut input,
+        &mut out,
+        &mut disk,
+        &mut register,
+        &mut link,
+    );
+    if status != Status::Ok {
+        let line = match status {
+            Status::BadSchedule { line, .. } => input.line(line),
+            _ => None,
+        };
+        // Where standard error can't be written, there is nobody left to tell.
+        let _ = tell(rt, words, status, line);
     }
+    status
 }
 
 /// The words of the command line after the program's name.

@@ -1,8 +1,10 @@
 pub mod Left
 pub mod LineLoop
 pub mod Writing
-pub mod CommandWords
 pub mod OffLines
 pub mod PlayLoop
 pub mod FirstLines
 pub mod OneReading
+pub mod MadeRun
+pub mod StatusOf
+pub mod Asked

@@ -7,16 +7,16 @@ use Rattle.serde_json.specs.Read.{read}
 use Rattle.ld_lsn.specs.Text.{Lacks}
 use Rattle.ld_lsn.proofs.Texts.{parted, Lacks-not}
 use Rattle.ld_schedule.specs.declared.event.Event.{Event}
-use Rattle.ld_schedule.specs.Grammar.{IsNamed, event_text}
+use Rattle.ld_schedule.specs.Grammar.{event_text}
 use Rattle.ld_schedule.proofs.OneEvent.{one_event}
 use Rattle.ld_schedule.proofs.LineEnds.{text_lacks}
 use Rattle.ld_config.specs.declared.config.Config.{Config}
 use Rattle.ld_config.specs.Config.{config_of_text}
-use Rattle.ld_cli.specs.Lines.{longest, ended}
-use Rattle.ld_cli.specs.Schedule.{Configures, IsSpelt, AreSpelt, event_line, schedule_text, IsLong, IsCutLine, IsNoEvent, IsNoConfiguration, IsOffFirst, IsOffLater}
+use Rattle.ld_cli.specs.Lines.{ended}
+use Rattle.ld_cli.specs.Schedule.{Configures, IsSpelt, AreSpelt, event_line, schedule_text, IsOffFirst, IsOffLater}
 use Rattle.ld_cli.specs.declared.status.Stop.{Stop}
 use Rattle.ld_cli.specs.declared.status.Stop.TheVariants.{BadSchedule}
-use Rattle.ld_cli.specs.Ends.{IsSchedule, StopsFirst, StopsLater, IsStopped, StopsBy}
+use Rattle.ld_cli.specs.Ends.{IsSchedule, StopsLater, IsStopped, StopsBy}
 use Rattle.ld_cli.specs.OneReading.{Ends}
 
 -- no byte among the first ones is c

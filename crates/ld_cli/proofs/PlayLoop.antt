@@ -58,12 +58,12 @@ unfolding AreSpelt
 AreSpelt-push [] e spelt can = (can, tt)
 AreSpelt-push (x ∷ es) e spelt can = (spelt.0, AreSpelt-push es e spelt.1 can)
 
-state_after-push : (c : Config) (s : State) (es : List Event) (e : Event) → state_after c s (es ++ e ∷ []) ≡ (step c (state_after c s es) e).state
+pub state_after-push : (c : Config) (s : State) (es : List Event) (e : Event) → state_after c s (es ++ e ∷ []) ≡ (step c (state_after c s es) e).state
 unfolding state_after
 state_after-push c s [] e = refl
 state_after-push c s (x ∷ es) e = state_after-push c (step c s x).state es e
 
-lines_of-push : (c : Config) (s : State) (es : List Event) (e : Event) → lines_of c s (es ++ e ∷ []) ≡ lines_of c s es ++ (step c (state_after c s es) e).lines
+pub lines_of-push : (c : Config) (s : State) (es : List Event) (e : Event) → lines_of c s (es ++ e ∷ []) ≡ lines_of c s es ++ (step c (state_after c s es) e).lines
 unfolding state_after lines_of
 lines_of-push c s [] e = append-nil (step c s e).lines
 lines_of-push c s (x ∷ es) e =

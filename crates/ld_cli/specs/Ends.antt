@@ -103,11 +103,20 @@ StopsBy bytes old new stops.Write = IsCut bytes old new
 -- what a run has written, by its status
 abbrev pub EndsBy : List ℕ → Option (List ℕ) → Option (List ℕ) → Status → Type 0
 EndsBy bytes old new statuses.Ok = IsReplayed bytes old new
-EndsBy bytes old new statuses.Usage = IsSilent old new
 EndsBy bytes old new (statuses.BadSchedule line place) = IsStopped bytes old new line place
 EndsBy bytes old new statuses.NoMemory = IsCut bytes old new
 EndsBy bytes old new statuses.Read = IsCut bytes old new
 EndsBy bytes old new statuses.Write = IsCut bytes old new
+EndsBy bytes old new _ = ⊥
+
+-- the statuses of a replay
+abbrev pub IsOfReplay : Status → Type 0
+IsOfReplay statuses.Ok = Unit {0}
+IsOfReplay (statuses.BadSchedule line place) = Unit {0}
+IsOfReplay statuses.NoMemory = Unit {0}
+IsOfReplay statuses.Read = Unit {0}
+IsOfReplay statuses.Write = Unit {0}
+IsOfReplay _ = ⊥
 
 -- the input is a schedule: the line of a configuration, and lines of events
 pub record IsSchedule (bytes : List ℕ) : Type 0 where
@@ -118,11 +127,10 @@ pub record IsSchedule (bytes : List ℕ) : Type 0 where
   pub spelt : AreSpelt events
   pub whole : bytes ≡ schedule_text line events
 
--- how a schedule may end: its status is Ok, but for other words, a fault of the source or the sink, and want of memory
-abbrev pub Completes : Type 0 → Type 0 → Type 0 → Status → Type 0
-Completes words read write statuses.Ok = Unit {0}
-Completes words read write statuses.Usage = words → ⊥
-Completes words read write (statuses.BadSchedule line place) = ⊥
-Completes words read write statuses.NoMemory = Unit {0}
-Completes words read write statuses.Read = read
-Completes words read write statuses.Write = write
+-- how a schedule may end: its status is Ok, but for a fault of the source or the sink, and want of memory
+abbrev pub Completes : Type 0 → Type 0 → Status → Type 0
+Completes read write statuses.Ok = Unit {0}
+Completes read write statuses.NoMemory = Unit {0}
+Completes read write statuses.Read = read
+Completes read write statuses.Write = write
+Completes read write _ = ⊥

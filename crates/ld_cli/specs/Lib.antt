@@ -5,7 +5,8 @@ pub mod Ends
 pub mod Causes
 pub mod Output
 pub mod NextEvent
-pub mod Words
 pub mod OneReading
 pub mod Step
 pub mod Code
+pub mod Exercise
+pub mod Serving

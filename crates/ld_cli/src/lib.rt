@@ -1,20 +1,22 @@
-//! The top call: a schedule from a source, its transcript to a sink.
+//! The top call: a command's words, and what it works on.
 #![tactic(auto)]
 
 mod events;
+mod exercise;
 mod input;
 mod law;
 mod lines;
 mod output;
 mod perform;
 mod replay;
+mod serving;
 mod status;
+mod top;
 
 pub use law::has_one_reading;
-pub use replay::run;
+pub use ld_serve::Which;
 pub use status::Status;
+pub use top::run;
 
-#[cfg(test)]
-mod rows;
 #[cfg(test)]
 mod tests;

@@ -1,10 +1,9 @@
-// The top call.
-ghost use Rattle.std.specs.Prelude.{◌≡◌, ◌≤◌, ◌+◌, ◌↔◌, List, map, string_bytes, IfSome, OnOk, IfErr, MatchBool};
+// A schedule is replayed.
+ghost use Rattle.std.specs.Prelude.{◌≡◌, ◌≤◌, ◌+◌, IfSome, OnOk, IfErr};
 ghost use Rattle.std.specs.Io.KnownBytes.{IsAtEnd};
 ghost use Rattle.ld_io.specs.Causes.{Rose};
 ghost use Rattle.ld_cli.specs.Causes.{IsStop};
-ghost use Rattle.ld_cli.specs.Ends.{StopsBy, IsReplayed, EndsBy, IsSchedule, Completes};
-ghost use Rattle.ld_cli.specs.Words.{IsReplay};
+ghost use Rattle.ld_cli.specs.Ends.{StopsBy, IsReplayed, EndsBy, IsSchedule, Completes, IsOfReplay};
 
 use crate::events::{First, Next, begin, next_event};
 use crate::input::Buffer;
@@ -12,45 +11,23 @@ use crate::perform::perform;
 use crate::status::{Status, Stop};
 use ld_cluster::Cluster;
 use ld_io::{Sink, Source};
-use ld_lsn::text::same;
 use std::alloc::Global;
 
-/// Runs the command that the words name, from the input to the output.
-pub fn run<I: Source, O: Sink>(
-    alloc: Global,
-    words: &[String],
-    input: &mut I,
-    out: &mut O,
-) -> Status
-    // What was written, by how the run ends.
+/// Replays the schedule of the input.
+pub(crate) fn replayed<I: Source, O: Sink>(alloc: Global, input: &mut I, out: &mut O) -> Status
     ensures ends { IfSome (I.left input.old) (λ bytes. EndsBy bytes (O.written out.old) (O.written out.new) result) }
-    // At the status Ok the input was read to its end.
     ensures read_to_end { result ≡ Status.Ok → IsAtEnd (I.left input.new) }
-    ensures usage { (result ≡ Status.Usage) ↔ (IsReplay words.now → ⊥) }
     ensures read { result ≡ Status.Read → Rose (I.faults input.old) (I.faults input.new) }
     ensures write { result ≡ Status.Write → Rose (O.faults out.old) (O.faults out.new) }
-    // A schedule is replayed to its end, unless the source, the sink or the memory fails.
-    ensures complete { IfSome (I.left input.old) (λ bytes. IsSchedule bytes → Completes (IsReplay words.now) (Rose (I.faults input.old) (I.faults input.new)) (Rose (O.faults out.old) (O.faults out.new)) result) }
+    ensures complete { IfSome (I.left input.old) (λ bytes. IsSchedule bytes → Completes (Rose (I.faults input.old) (I.faults input.new)) (Rose (O.faults out.old) (O.faults out.new)) result) }
+    ensures replays { IsOfReplay result }
 {
-    if !is_replay(words) {
-        return Status::Usage;
-    }
     match replay(alloc, input, out) {
         Ok(()) => Status::Ok,
         Err(Stop::BadSchedule { line, place }) => Status::BadSchedule { line, place },
         Err(Stop::NoMemory) => Status::NoMemory,
         Err(Stop::Read) => Status::Read,
         Err(Stop::Write) => Status::Write,
-    }
-}
-
-/// Whether the words are the one word `replay`.
-fn is_replay(words: &[String]) -> bool
-    ensures { MatchBool result (IsReplay words.now) (IsReplay words.now → ⊥) }
-{
-    match words {
-        [word] => same(word.as_bytes(), b"replay"),
-        _ => false,
     }
 }
 

@@ -3,12 +3,14 @@ ghost use Rattle.std.specs.Prelude.{◌≡◌};
 ghost use Rattle.ld_cli.specs.declared.status.Stop.TheVariants.{NoMemory as Memory};
 ghost use Rattle.ld_cli.specs.Code.{code};
 
+use ld_serve::Which;
+use ld_wire::WireFault;
 use std::alloc::{AllocError, AllocFailed};
 
 /// How a run ends.
 #[derive(Clone, Copy, Debug, PartialEq, Eq)]
 pub enum Status {
-    /// The input was read to its end.
+    /// The schedule was read to its end, the made one was run, or all turns were taken.
     Ok,
     /// The words are no command.
     Usage,
@@ -20,6 +22,22 @@ pub enum Status {
     Read,
     /// The output failed.
     Write,
+    /// The store's disk failed.
+    Disk,
+    /// The register failed.
+    Register,
+    /// The link failed.
+    Link,
+    /// The bytes of a peer begin no frame.
+    BadFrame(WireFault),
+    /// The bytes of the store or of the register are no journal, from the place on.
+    Damaged { which: Which, place: u64 },
+    /// The store isn't formatted, and isn't to be.
+    Blank,
+    /// The journal of the store or of the register would be longer than 2^40 bytes.
+    JournalFull(Which),
+    /// The node was formatted as often as it can be.
+    GenLimit,
 }
 
 impl Status {
@@ -34,6 +52,14 @@ impl Status {
             Status::NoMemory => 4,
             Status::Read => 5,
             Status::Write => 6,
+            Status::Disk => 7,
+            Status::Register => 8,
+            Status::Link => 9,
+            Status::BadFrame(_) => 10,
+            Status::Damaged { .. } => 11,
+            Status::Blank => 12,
+            Status::JournalFull(_) => 13,
+            Status::GenLimit => 14,
         }
     }
 }

@@ -1,261 +1,226 @@
-// Replays over sources and sinks in memory.
+// Commands over what is in memory.
 use super::*;
-use crate::rows::{FOUND, NOT_FOUND, ROWS, STORED};
-use ld_config::{Config, ConfigFault, Field};
-use ld_ids::LogId;
-use ld_io::{Failed, MemSink, MemSource, Sink, Source};
-use ld_lsn::Lsn;
+use ld_disk::MemDisk;
+use ld_io::{MemSink, MemSource};
+use ld_link::MemLink;
+use ld_register::DiskRegister;
 use std::alloc::Global;
 use std::test::Fail;
 
-/// A replay of this input, with the calls that are to fail. Answers the status and what was written.
+/// A new store, a new register, and a link.
+#[derive(Drop)]
+struct Outside {
+    store: MemDisk,
+    register: DiskRegister<MemDisk>,
+    link: MemLink,
+}
+
+/// A new store and a new register, and this link.
+fn outside_with(alloc: Global, link: MemLink) -> Result<Outside, Fail> {
+    Ok(Outside {
+        store: MemDisk::new(alloc)?,
+        register: DiskRegister::new(alloc, MemDisk::new(alloc)?),
+        link,
+    })
+}
+
+/// A link with no peer.
+fn no_peer(alloc: Global) -> Result<MemLink, Fail> {
+    Ok(MemLink::new(alloc, Vec::new(alloc), 0, Vec::new(alloc))?)
+}
+
+/// A link with one peer, which sends these bytes.
+fn one_peer(alloc: Global, bytes: &[u8]) -> Result<MemLink, Fail> {
+    let mut peers = Vec::new(alloc);
+    peers.push(Vec::from_slice(alloc, bytes)?)?;
+    Ok(MemLink::new(alloc, peers, 100, Vec::new(alloc))?)
+}
+
+/// The words of a command.
+fn strings(alloc: Global, words: &[&str]) -> Result<Vec<String>, Fail> {
+    let mut strings = Vec::new(alloc);
+    for word in words {
+        strings.push(String::from_str(alloc, word)?)?;
+    }
+    Ok(strings)
+}
+
+/// A source of these bytes, whose calls with these numbers fail.
+fn source(alloc: Global, bytes: &[u8], fails: &[u64]) -> Result<MemSource, Fail> {
+    let bytes = Vec::from_slice(alloc, bytes)?;
+    Ok(MemSource::new(bytes, Vec::from_slice(alloc, fails)?))
+}
+
+/// A sink whose calls with these numbers fail.
+fn sink(alloc: Global, fails: &[u64]) -> Result<MemSink, Fail> {
+    let fails = Vec::from_slice(alloc, fails)?;
+    Ok(MemSink::new(alloc, 1_000, fails)?)
+}
+
+/// A command over a source and a sink: its status, and what was written.
+fn performed(
+    alloc: Global,
+    words: &[&str],
+    mut input: MemSource,
+    mut out: MemSink,
+) -> Result<(Status, Vec<u8>), Fail> {
+    let words = strings(alloc, words)?;
+    let mut o = outside_with(alloc, no_peer(alloc)?)?;
+    let status = run(
+        alloc,
+        &words,
+        &mut input,
+        &mut out,
+        &mut o.store,
+        &mut o.register,
+        &mut o.link,
+    );
+    Ok((status, Vec::from_slice(alloc, out.bytes())?))
+}
+
+/// A replay of this input, with the calls that are to fail.
 fn replayed(
     alloc: Global,
-    input: &[u8],
+    input: &str,
     read_fails: &[u64],
     write_fails: &[u64],
 ) -> Result<(Status, Vec<u8>), Fail> {
-    let words = vec![in alloc; String::from_str(alloc, "replay")?]?;
-    let mut source = MemSource::new(
-        Vec::from_slice(alloc, input)?,
-        Vec::from_slice(alloc, read_fails)?,
-    );
-    let mut sink = MemSink::new(alloc, 100_000, Vec::from_slice(alloc, write_fails)?)?;
-    let status = run(alloc, &words, &mut source, &mut sink);
-    Ok((status, Vec::from_slice(alloc, sink.bytes())?))
+    let input = source(alloc, input.as_bytes(), read_fails)?;
+    let out = sink(alloc, write_fails)?;
+    performed(alloc, &["replay"], input, out)
 }
 
-/// Whether a replay of the schedule gives the transcript.
-fn gives(alloc: Global, schedule: &[u8], transcript: &[u8]) -> Result<bool, Fail> {
-    let (status, written) = replayed(alloc, schedule, &[], &[])?;
-    Ok(status == Status::Ok && written.as_slice() == transcript)
+/// A command without input: its status, and what was written.
+fn alone(alloc: Global, words: &[&str]) -> Result<(Status, Vec<u8>), Fail> {
+    let input = source(alloc, b"", &[])?;
+    let out = sink(alloc, &[])?;
+    performed(alloc, words, input, out)
 }
 
-#[test]
-fn replays_worked_schedules(rt: HostRuntime) -> Result<(), Fail> {
-    for (schedule, transcript) in ROWS {
-        assert!(rt; gives(rt.alloc(), schedule.as_bytes(), transcript.as_bytes())?);
-    }
-    Ok(())
-}
-
-/// A schedule whose node 3 crashes in a writing call of its first record, and what is done behind it.
-fn torn(alloc: Global, call: &str, picture: &str) -> Result<Vec<u8>, Fail> {
-    let mut schedule = Vec::from_slice(alloc, TORN_BEGINS.as_bytes())?;
-    schedule.extend_from_slice(call.as_bytes())?;
-    schedule.extend_from_slice(b" ")?;
-    schedule.extend_from_slice(picture.as_bytes())?;
-    schedule.extend_from_slice(TORN_ENDS.as_bytes())?;
-    Ok(schedule)
-}
-
-/// A torn append, up to the call that it is torn in.
-const TORN_BEGINS: &str = concat!(
-    "{\"nodes\":[1,2,3],\"logs\":[{\"id\":1,\"set\":[1,2,3],\"r\":2}]}\n",
+/// Two nodes that are formatted.
+const SCHEDULE: &str = concat!(
+    "{\"nodes\":[1,2],\"logs\":[{\"id\":1,\"set\":[1,2],\"r\":1}]}\n",
     "format 1\n",
     "format 2\n",
-    "format 3\n",
-    "activate a 1\n",
-    "append a 6869\n",
-    "lose 1\n",
-    "tear 3 ",
 );
 
-/// What comes behind its picture.
-const TORN_ENDS: &str = concat!(
-    "\n",
-    "deliver 0\n",
-    "up 3\n",
-    "activate b 1\n",
-    "lose 3\n",
-    "deliver 2\n",
-    "deliver 4\n",
-    "flow 99\n",
+/// What is written of it.
+const TRANSCRIPT: &str = "node 1 formatted 1\nnode 2 formatted 1\n";
+
+#[test]
+fn replays_a_schedule(rt: HostRuntime) -> Result<(), Fail> {
+    let (status, written) = replayed(rt.alloc(), SCHEDULE, &[], &[])?;
+    assert_eq!(rt; status, Status::Ok);
+    assert!(rt; written.as_slice() == TRANSCRIPT.as_bytes());
+    Ok(())
+}
+
+/// The schedule, cut in its third line.
+const CUT: &str = concat!(
+    "{\"nodes\":[1,2],\"logs\":[{\"id\":1,\"set\":[1,2],\"r\":1}]}\n",
+    "format 1\n",
+    "format",
 );
-
-// The gate is written by the third call and synced by the fourth: the append is there exactly where the picture has it
-// open.
-#[test]
-fn a_torn_append_is_there_or_not(rt: HostRuntime) -> Result<(), Fail> {
-    for (call, picture, transcript) in [
-        ("1", "old", NOT_FOUND),
-        ("1", "new", NOT_FOUND),
-        ("1", "07", NOT_FOUND),
-        ("2", "old", NOT_FOUND),
-        ("2", "new", NOT_FOUND),
-        ("2", "07", NOT_FOUND),
-        ("3", "old", NOT_FOUND),
-        ("3", "new", FOUND),
-        ("3", "07", NOT_FOUND),
-        ("4", "old", NOT_FOUND),
-        ("4", "new", FOUND),
-        ("4", "07", NOT_FOUND),
-    ] {
-        let schedule = torn(rt.alloc(), call, picture)?;
-        assert!(rt; gives(rt.alloc(), &schedule, transcript.as_bytes())?);
-    }
-    Ok(())
-}
-
-/// Three nodes that serve a log of two copies, and its first sequencer.
-const BEGINS: (&str, &str) = (
-    concat!(
-        "{\"nodes\":[1,2,3],\"logs\":[{\"id\":1,\"set\":[1,2,3],\"r\":2}]}\n",
-        "format 1\n",
-        "format 2\n",
-        "format 3\n",
-        "activate a 1\n",
-    ),
-    concat!(
-        "node 1 formatted 1\n",
-        "node 2 formatted 1\n",
-        "node 3 formatted 1\n",
-        "active a 1\n",
-    ),
-);
-
-/// What comes behind the 129th append while 128 wait: the first one is stored, and then there is room.
-const MAKES_ROOM: (&str, &str) = (
-    concat!(
-        "append a 00\n",
-        "deliver 0\n",
-        "deliver 1\n",
-        "deliver 256\n",
-        "deliver 257\n",
-        "append a 00\n",
-    ),
-    concat!(
-        "refused a windowfull\n",
-        "msg 256 n.3 s.a stored e1n1\n",
-        "msg 257 n.1 s.a stored e1n1\n",
-        "none\n",
-        "acked a e1n1\n",
-        "released a e1n1\n",
-        "msg 258 s.a n.1 release e1n1\n",
-        "msg 259 s.a n.2 release e1n1\n",
-        "msg 260 s.a n.3 release e1n1\n",
-        "appended a e1n129\n",
-        "msg 261 s.a n.2 store e1n129\n",
-        "msg 262 s.a n.3 store e1n129\n",
-    ),
-);
-
-/// The lines of an append behind so many others; the copies go round the nodes.
-fn numbered(alloc: Global, before: u32) -> Result<String, Fail> {
-    let (one, other) = match before % 3 {
-        0 => (3, 1),
-        1 => (1, 2),
-        _ => (2, 3),
-    };
-    let number = u64::from(before) + 1;
-    let message = 2 * u64::from(before);
-    let next = message + 1;
-    let lines = format!(in alloc;
-        "appended a e1n{number}\nmsg {message} s.a n.{one} store e1n{number}\nmsg {next} s.a n.{other} store e1n{number}\n"
-    )?;
-    Ok(lines)
-}
-
-#[test]
-fn a_window_holds_128_appends(rt: HostRuntime) -> Result<(), Fail> {
-    let alloc = rt.alloc();
-    let mut schedule = Vec::from_slice(alloc, BEGINS.0.as_bytes())?;
-    let mut transcript = Vec::from_slice(alloc, BEGINS.1.as_bytes())?;
-    for before in 0..128u32 {
-        schedule.extend_from_slice(b"append a 00\n")?;
-        transcript.extend_from_slice(numbered(alloc, before)?.as_bytes())?;
-    }
-    schedule.extend_from_slice(MAKES_ROOM.0.as_bytes())?;
-    transcript.extend_from_slice(MAKES_ROOM.1.as_bytes())?;
-    assert!(rt; gives(alloc, &schedule, &transcript)?);
-    Ok(())
-}
-
-/// A payload of so many bytes is appended.
-fn appends(alloc: Global, bytes: usize) -> Result<Vec<u8>, Fail> {
-    let mut schedule = Vec::from_slice(alloc, BEGINS.0.as_bytes())?;
-    schedule.extend_from_slice(b"append a ")?;
-    for _ in 0..bytes {
-        schedule.extend_from_slice(b"ab")?;
-    }
-    schedule.push(b'\n')?;
-    Ok(schedule)
-}
-
-#[test]
-fn a_payload_has_at_most_65535_bytes(rt: HostRuntime) -> Result<(), Fail> {
-    let alloc = rt.alloc();
-    let mut transcript = Vec::from_slice(alloc, BEGINS.1.as_bytes())?;
-    transcript.extend_from_slice(numbered(alloc, 0)?.as_bytes())?;
-    assert!(rt; gives(alloc, &appends(alloc, 65_535)?, &transcript)?);
-    let mut transcript = Vec::from_slice(alloc, BEGINS.1.as_bytes())?;
-    transcript.extend_from_slice(b"refused a long 65536\n")?;
-    assert!(rt; gives(alloc, &appends(alloc, 65_536)?, &transcript)?);
-    Ok(())
-}
-
-#[test]
-fn numbers_have_one_spelling(rt: HostRuntime) -> Result<(), Fail> {
-    let rows: [(&[u8], Option<u64>); 6] = [
-        (b"e1n1", Some(4_294_967_297)),
-        (b"e0n0", Some(0)),
-        (b"e01n1", None),
-        (b"e1n", None),
-        (b"E1n1", None),
-        (b"e4294967296n0", None),
-    ];
-    for (text, value) in rows {
-        assert_eq!(rt; Lsn::parse(text).map(|number| number.value()), value);
-    }
-    Ok(())
-}
-
-#[test]
-fn a_configuration_has_its_first_fault(rt: HostRuntime) -> Result<(), Fail> {
-    let alloc = rt.alloc();
-    let log = LogId::new(1).expect(&rt, "a log");
-    let rows: [(&[u8], ConfigFault); 4] = [
-        (b"{", ConfigFault::NotJson),
-        (b"[]", ConfigFault::Shape(Field::Top)),
-        (
-            br#"{"nodes":[1,2,3],"logs":[{"id":1,"set":[1,2,3],"r":4}]}"#,
-            ConfigFault::Range(Field::R, 4),
-        ),
-        (
-            br#"{"nodes":[1,2,3],"logs":[{"id":1,"set":[1,2,3],"r":2},{"id":1,"set":[1,2,3],"r":2}]}"#,
-            ConfigFault::Twice(log),
-        ),
-    ];
-    for (text, fault) in rows {
-        assert_eq!(rt; Config::read(alloc, text).err(), Some(fault));
-    }
-    Ok(())
-}
 
 #[test]
 fn says_where_a_line_is_off(rt: HostRuntime) -> Result<(), Fail> {
-    let (status, written) = replayed(rt.alloc(), b"", &[], &[])?;
+    let (status, written) = replayed(rt.alloc(), "", &[], &[])?;
     assert_eq!(rt; status, Status::BadSchedule { line: 1, place: 0 });
     assert_eq!(rt; written.len(), 0);
-    // the stored run, cut in its seventh line
-    let front = &STORED.0.as_bytes()[..116];
-    let (status, written) = replayed(rt.alloc(), front, &[], &[])?;
-    assert_eq!(rt; status, Status::BadSchedule { line: 7, place: 6 });
-    assert!(rt; STORED.1.as_bytes().starts_with(&written));
+    let (status, written) = replayed(rt.alloc(), CUT, &[], &[])?;
+    assert_eq!(rt; status, Status::BadSchedule { line: 3, place: 6 });
+    assert!(rt; written.as_slice() == b"node 1 formatted 1\n".as_slice());
     Ok(())
 }
 
 #[test]
 fn hands_faults_on(rt: HostRuntime) -> Result<(), Fail> {
     for call in 0..2 {
-        let (status, written) = replayed(rt.alloc(), STORED.0.as_bytes(), &[call], &[])?;
+        let (status, written) = replayed(rt.alloc(), SCHEDULE, &[call], &[])?;
         assert_eq!(rt; status, Status::Read);
-        assert!(rt; STORED.1.as_bytes().starts_with(&written));
+        assert!(rt; TRANSCRIPT.as_bytes().starts_with(&written));
     }
-    for call in 0..9 {
-        let (status, written) = replayed(rt.alloc(), STORED.0.as_bytes(), &[], &[call])?;
+    for call in 0..2 {
+        let (status, written) = replayed(rt.alloc(), SCHEDULE, &[], &[call])?;
         assert_eq!(rt; status, Status::Write);
-        assert!(rt; STORED.1.as_bytes().starts_with(&written));
+        assert!(rt; TRANSCRIPT.as_bytes().starts_with(&written));
     }
+    Ok(())
+}
+
+// The counts come from another program that follows the same rules.
+#[test]
+fn sums_up_a_made_schedule(rt: HostRuntime) -> Result<(), Fail> {
+    let words = ["exercise", "--seed", "1", "--events", "1"];
+    let (status, written) = alone(rt.alloc(), &words)?;
+    assert_eq!(rt; status, Status::Ok);
+    let line = "events 8 appended 0 acked 0 record 0 trim 0 hole 0 bridge 0 dataloss 0\n";
+    assert!(rt; written.as_slice() == line.as_bytes());
+    Ok(())
+}
+
+#[test]
+fn refuses_what_is_no_command(rt: HostRuntime) -> Result<(), Fail> {
+    let (status, written) = alone(rt.alloc(), &[])?;
+    assert_eq!(rt; status, Status::Usage);
+    assert_eq!(rt; written.len(), 0);
+    let (status, _) = alone(rt.alloc(), &["replay", "it"])?;
+    assert_eq!(rt; status, Status::Usage);
+    Ok(())
+}
+
+/// The words of a node that serves one turn.
+const NODE: [&str; 13] = [
+    "node",
+    "--id",
+    "1",
+    "--config",
+    "{\"nodes\":[1],\"logs\":[{\"id\":1,\"set\":[1],\"r\":1}]}",
+    "--store",
+    "store",
+    "--register",
+    "register",
+    "--port",
+    "0",
+    "--turns",
+    "1",
+];
+
+/// A reader asks from `e0n1` on.
+const ASK: &[u8] =
+    b"\x00\x00\x00\x1b\x0c\x02\x00\x00\x00\x00\x00\x00\x00\x00\x01\x00\x00\x00\x01\x00\x00\x00\x01\x00\x00\x00\x00\x00\x00\x00\x01";
+
+/// The log's home epoch 0 has ended at `e0n1`.
+const ENDED: &[u8] =
+    b"\x00\x00\x00\x23\x0e\x00\x00\x00\x00\x01\x02\x00\x00\x00\x00\x00\x00\x00\x01\x00\x00\x00\x01\x00\x00\x00\x00\x00\x00\x00\x01\x00\x00\x00\x00\x00\x00\x00\x01";
+
+/// A node on a new store, which serves a turn to a peer that asks: its status, and what the peer was told.
+fn served(alloc: Global, words: &[String]) -> Result<(Status, Vec<u8>), Fail> {
+    let mut input = source(alloc, b"", &[])?;
+    let mut out = sink(alloc, &[])?;
+    let mut o = outside_with(alloc, one_peer(alloc, ASK)?)?;
+    let status = run(
+        alloc,
+        words,
+        &mut input,
+        &mut out,
+        &mut o.store,
+        &mut o.register,
+        &mut o.link,
+    );
+    let sent = o.link.sent(0).unwrap_or(b"");
+    Ok((status, Vec::from_slice(alloc, sent)?))
+}
+
+#[test]
+fn a_node_answers_a_peer(rt: HostRuntime) -> Result<(), Fail> {
+    let mut words = strings(rt.alloc(), &NODE)?;
+    let (status, sent) = served(rt.alloc(), &words)?;
+    assert_eq!(rt; status, Status::Blank);
+    assert_eq!(rt; sent.len(), 0);
+    words.push(String::from_str(rt.alloc(), "--format")?)?;
+    let (status, sent) = served(rt.alloc(), &words)?;
+    assert_eq!(rt; status, Status::Ok);
+    assert!(rt; sent.as_slice() == ENDED);
     Ok(())
 }

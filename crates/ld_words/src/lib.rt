@@ -11,6 +11,7 @@ mod number;
 mod refusal;
 mod words;
 
+pub use cause::config_cause;
 pub use command::{Command, NodeWords, Places};
 pub use file_name::FileName;
 pub use law::words_ask_for_one_command;

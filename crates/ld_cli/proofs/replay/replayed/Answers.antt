@@ -1,5 +1,5 @@
 use Rattle.ld_cli.proofs.OneReading.{never_off_by}
-use Rattle.ld_cli.proofs.replay.run.Goals as goal
+use Rattle.ld_cli.proofs.replay.replayed.Goals as goal
 
 pub returns-in-Err-BadSchedule-clause-complete : goal.returns-in-Err-BadSchedule-clause-complete
 returns-in-Err-BadSchedule-clause-complete g c =

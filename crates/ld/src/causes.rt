@@ -1,0 +1,118 @@
+// What a person is told of a run that didn't end well.
+use ld_cli::{Status, Which};
+use ld_config::{Config, ConfigFault};
+use ld_hints::explain;
+use ld_wire::WireFault;
+use ld_words::{config_cause, reason};
+use std::io::Result;
+
+/// Writes the status to standard error, and its cause in plain words: of the words, and of the input's line that is off, where
+/// it is kept.
+pub fn tell(rt: &HostRuntime, words: &[String], status: Status, line: Option<&[u8]>) -> Result<()> {
+    eprintln!(rt; "ld: status {}", status.code())?;
+    match status {
+        Status::Ok => Ok(()),
+        Status::Usage => tell_usage(rt, words),
+        Status::BadSchedule {
+            line: number,
+            place,
+        } => tell_line(rt, number, place, line),
+        Status::NoMemory => eprintln!(rt; "ld: out of memory"),
+        Status::Read => eprintln!(rt; "ld: reading standard input failed"),
+        Status::Write => eprintln!(rt; "ld: writing standard output failed"),
+        Status::Disk => eprintln!(rt; "ld: the store's file failed"),
+        Status::Register => eprintln!(rt; "ld: the register's file failed"),
+        Status::Link => eprintln!(rt; "ld: listening failed: is the port free?"),
+        Status::BadFrame(fault) => tell_frame(rt, fault),
+        Status::Damaged { which, place } => {
+            eprintln!(rt;
+                "ld: {} place {place}: the record there is none that this program wrote",
+                name_of(which)
+            )
+        }
+        Status::Blank => eprintln!(rt; "ld: the store isn't formatted; --format formats it"),
+        Status::JournalFull(which) => {
+            eprintln!(rt;
+                "ld: the {}'s journal is full: it has at most 2^40 bytes",
+                name_of(which)
+            )
+        }
+        Status::GenLimit => {
+            eprintln!(rt; "ld: this node was formatted 2^32-1 times, which is all that there are")
+        }
+    }
+}
+
+/// The journal by its name.
+fn name_of(which: Which) -> &'static str {
+    match which {
+        Which::Store => "store",
+        Which::Register => "register",
+    }
+}
+
+/// How the commands are spelt.
+const USAGE: &str = "ld: usage: ld replay < SCHEDULE
+ld:        ld exercise --seed N --events M
+ld:        ld node --id N --config TEXT --store FILE --register FILE --port P --turns K [--format]";
+
+/// Tells why the words are no command.
+fn tell_usage(rt: &HostRuntime, words: &[String]) -> Result<()> {
+    match reason(rt.alloc(), words) {
+        Ok(reason) => eprintln!(rt; "ld: the words are no command: {}", reason.as_str().trim())?,
+        Err(_) => eprintln!(rt; "ld: the words are no command")?,
+    }
+    eprintln!(rt; "{USAGE}")
+}
+
+/// Tells which line is off, where it is, and how such a line is spelt.
+fn tell_line(rt: &HostRuntime, number: u64, place: u64, line: Option<&[u8]>) -> Result<()> {
+    let reason = if number == 1 {
+        "this is no configuration"
+    } else {
+        "no event is spelt so"
+    };
+    eprintln!(rt; "ld: line {number} place {place}: {reason}")?;
+    let Some(bytes) = line else {
+        return Ok(());
+    };
+    if number == 1 {
+        return tell_config(rt, bytes);
+    }
+    match explain(rt.alloc(), bytes, place as usize) {
+        Ok(shown) => eprint!(rt; "{shown}"),
+        Err(_) => Ok(()),
+    }
+}
+
+/// Tells which field of a configuration is at fault, and its value.
+fn tell_config(rt: &HostRuntime, line: &[u8]) -> Result<()> {
+    let alloc = rt.alloc();
+    let fault = match Config::read(alloc, line) {
+        Ok(_) => return eprintln!(rt; "ld: the line has to end with one byte 10"),
+        Err(ConfigFault::NoMemory) => return Ok(()),
+        Err(fault) => fault,
+    };
+    match config_cause(alloc, &fault) {
+        Ok(cause) => eprintln!(rt; "ld: {cause}"),
+        Err(_) => Ok(()),
+    }
+}
+
+/// Tells where the bytes of a peer begin no frame.
+fn tell_frame(rt: &HostRuntime, fault: WireFault) -> Result<()> {
+    match fault {
+        WireFault::TooLong(length) => {
+            eprintln!(rt;
+                "ld: frame length {length}: a frame has at most 8388608 bytes behind its length"
+            )
+        }
+        WireFault::BadKind(kind) => eprintln!(rt; "ld: frame kind {kind}: there is no such kind"),
+        WireFault::BadField(kind, place) => {
+            eprintln!(rt;
+                "ld: frame kind {kind} place {place}: the field there is cut off or out of its range"
+            )
+        }
+        WireFault::NoMemory => eprintln!(rt; "ld: out of memory"),
+    }
+}

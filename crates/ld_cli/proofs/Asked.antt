@@ -1,0 +1,15 @@
+-- What was read of the words is what they ask for.
+use Rattle.std.proofs.Common.{◌≡◌, List, Option, None, Some, subst}
+use Rattle.std.specs.Prelude.{MatchOption}
+use Rattle.clap.specs.Walk.{Text}
+use Rattle.ld_words.specs.declared.command.Command.{Command}
+use Rattle.ld_words.specs.Meaning.{Asks, IsNoCommand}
+use Rattle.ld_words.proofs.OneCommand.{one_command}
+
+pub asked_one : (words : List Text) (read : Option Command) (command other : Command) → read ≡ Some command
+    → MatchOption read (IsNoCommand words) (Asks words) → Asks words other → command ≡ other
+asked_one words read command other is asks also =
+    one_command words command other (subst (λ o. MatchOption o (IsNoCommand words) (Asks words)) is asks) also
+
+pub asked_none : (words : List Text) (read : Option Command) (other : Command) → read ≡ None → MatchOption read (IsNoCommand words) (Asks words) → Asks words other → ⊥
+asked_none words read other is none also = subst (λ o. MatchOption o (IsNoCommand words) (Asks words)) is none other also
