@@ -6,17 +6,19 @@ use ld_wire::WireFault;
 use ld_words::{config_cause, reason};
 use std::io::Result;
 
-/// Writes the status to standard error, and its cause in plain words: of the words, and of the input's line that is off, where
-/// it is kept.
-pub fn tell(rt: &HostRuntime, words: &[String], status: Status, line: Option<&[u8]>) -> Result<()> {
+/// Writes the status to standard error, and its cause in plain words. Of a line that is off `shown` is what was read of
+/// it, where that is kept.
+pub fn tell(
+    rt: &HostRuntime,
+    words: &[String],
+    status: Status,
+    shown: Option<&[u8]>,
+) -> Result<()> {
     eprintln!(rt; "ld: status {}", status.code())?;
     match status {
         Status::Ok => Ok(()),
         Status::Usage => tell_usage(rt, words),
-        Status::BadSchedule {
-            line: number,
-            place,
-        } => tell_line(rt, number, place, line),
+        Status::BadSchedule { line, place } => tell_line(rt, line, place, shown),
         Status::NoMemory => eprintln!(rt; "ld: out of memory"),
         Status::Read => eprintln!(rt; "ld: reading standard input failed"),
         Status::Write => eprintln!(rt; "ld: writing standard output failed"),
@@ -59,24 +61,37 @@ ld:        ld node --id N --config TEXT --store FILE --register FILE --port P --
 /// Tells why the words are no command.
 fn tell_usage(rt: &HostRuntime, words: &[String]) -> Result<()> {
     match reason(rt.alloc(), words) {
-        Ok(reason) => eprintln!(rt; "ld: the words are no command: {}", reason.as_str().trim())?,
+        Ok(reason) => eprintln!(rt;
+            "ld: the words are no command: {}",
+            first_part(reason.as_str())
+        )?,
         Err(_) => eprintln!(rt; "ld: the words are no command")?,
     }
     eprintln!(rt; "{USAGE}")
 }
 
+/// A reason up to its first empty line: behind it stands how the commands are spelt, which is told here in another way.
+fn first_part(reason: &str) -> &str {
+    let reason = reason.trim();
+    let reason = reason.strip_prefix("error: ").unwrap_or(reason);
+    match reason.split_once("\n\n") {
+        Some((first, _)) => first,
+        None => reason,
+    }
+}
+
 /// Tells which line is off, where it is, and how such a line is spelt.
-fn tell_line(rt: &HostRuntime, number: u64, place: u64, line: Option<&[u8]>) -> Result<()> {
-    let reason = if number == 1 {
+fn tell_line(rt: &HostRuntime, line: u64, place: u64, shown: Option<&[u8]>) -> Result<()> {
+    let reason = if line == 1 {
         "this is no configuration"
     } else {
         "no event is spelt so"
     };
-    eprintln!(rt; "ld: line {number} place {place}: {reason}")?;
-    let Some(bytes) = line else {
+    eprintln!(rt; "ld: line {line} place {place}: {reason}")?;
+    let Some(bytes) = shown else {
         return Ok(());
     };
-    if number == 1 {
+    if line == 1 {
         return tell_config(rt, bytes);
     }
     match explain(rt.alloc(), bytes, place as usize) {

@@ -6,22 +6,30 @@ mod causes;
 use causes::tell;
 use ld_cli::{Status, run};
 use ld_hints::Recent;
+use ld_io::Source;
 use ld_real::{FileDisk, StdSink, StdSource, TcpLink};
 use ld_register::DiskRegister;
 use ld_words::{FileName, Places, places};
-use std::io::writer;
+use std::io::{Error, ErrorKind, writer};
 use std::process::ExitCode;
 
 fn main(rt: HostRuntime) -> ExitCode {
     let status = match words_of(&rt) {
         Ok(words) => perform(&rt, &words),
-        // A word that is no text is no command.
-        Err(_) => {
-            let _ = tell(&rt, &[], Status::Usage, None);
-            Status::Usage
-        }
+        Err(error) => without_words(&rt, &error),
     };
     ExitCode::from(status.code())
+}
+
+/// Tells why there are no words: memory ended, or a word is no text, which is no command.
+fn without_words(rt: &HostRuntime, error: &Error) -> Status {
+    let status = if error.kind() == ErrorKind::OutOfMemory {
+        Status::NoMemory
+    } else {
+        Status::Usage
+    };
+    let _ = tell(rt, &[], status, None);
+    status
 }
 
 /// Makes what the words name, calls the top call, and tells its status where it isn't Ok.
@@ -52,14 +60,18 @@ fn perform(rt: &HostRuntime, words: &[String]) -> Status {
         &mut link,
     );
     if status != Status::Ok {
-        let line = match status {
-            Status::BadSchedule { line, .. } => input.line(line),
-            _ => None,
-        };
         // Where standard error can't be written, there is nobody left to tell.
-        let _ = tell(rt, words, status, line);
+        let _ = tell(rt, words, status, shown(&status, &input));
     }
     status
+}
+
+/// What was read of the line that is off, where the status names one.
+fn shown<'a, S: Source + Drop>(status: &Status, input: &'a Recent<S>) -> Option<&'a [u8]> {
+    match status {
+        Status::BadSchedule { line, .. } => input.line(*line),
+        _ => None,
+    }
 }
 
 /// The words of the command line after the program's name.
