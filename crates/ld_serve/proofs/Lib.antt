@@ -7,3 +7,4 @@ pub mod Serving
 pub mod Stops
 pub mod Openings
 pub mod Wholes
+pub mod Completing

@@ -5,6 +5,7 @@ ghost use Rattle.ld_register.specs.Calls.{after_draw, ChangedOrNot};
 ghost use Rattle.ld_node.specs.Sets.{sets_in};
 ghost use Rattle.ld_serve.specs.Whole.{HasServed, HasStopped, IsNotOpened};
 ghost use Rattle.ld_serve.specs.Opening.{IsBlank};
+ghost use Rattle.ld_serve.specs.Complete.{AreSpoken, MayOpen, IsFaultOrLimit};
 ghost use Rattle.ld_serve.specs.Stops.{IsServingStop, LinkCounts, DiskCounts, RegisterCounts};
 
 use crate::Stop;
@@ -73,7 +74,8 @@ fn serve_on<D: Disk, G: Register, L: Link>(
 /// It refuses before the link is called as `open` does: `Disk`, `Damaged`, `Blank`, `Register`, `GenLimit`, `Full`,
 /// `NoMemory`. Then it stops as `serve_peers` does: `Link`, `BadFrame`, `Disk`, `Full(Store)`, `NoMemory`; what was done
 /// before stands, the last answers may be written in part, and the disk stands for the state before the last step or
-/// after it. `Disk`, `Register` and `Link` come only where that one's own count of faults rose in this call.
+/// after it. `Disk`, `Register` and `Link` come only where that one's own count of faults rose in this call. `BadFrame`,
+/// `Damaged` and `Blank` don't come where the peers speak in frames and the disk holds a formatted store.
 pub fn serve<D: Disk, G: Register, L: Link>(
     alloc: Global,
     id: NodeId,
@@ -101,6 +103,12 @@ pub fn serve<D: Disk, G: Register, L: Link>(
     ensures opening { IfErr result (λ stop. IsNotOpened (D.faults disk.old) (D.faults disk.new) (D.seen disk.old) (D.seen disk.new) (D.may_leave disk.old) (D.may_leave disk.new)
         (G.faults reg.old) (G.faults reg.new) (G.told reg.old) (G.holds reg.old) (G.damaged reg.old) id format link.old link.new stop
         ⊎ IsServingStop stop) }
+
+    // Where the peers' bytes are frames, but for a last one that may be cut, and the disk's bytes are a formatted store's
+    // journal, or are blank, to be formatted, beside a register that isn't damaged: it ends with Ok, or for want of
+    // memory, a fault of one of the three, or a limit, which have their causes above.
+    ensures complete { (start : Peers) (bytes : List ℕ) → L.peers link.old ≡ Some start → AreSpoken start.coming → D.seen disk.old ≡ Some bytes
+        → MayOpen (G.told reg.old) (G.damaged reg.old) format bytes → IfErr result IsFaultOrLimit }
     ensures unasked { format ≡ false → reg.new ≡ reg.old }
     ensures formatted { (bytes : List ℕ) → D.seen disk.old ≡ Some bytes → (IsBlank bytes → ⊥) → reg.new ≡ reg.old }
     ensures drawn { G.told reg.old → ChangedOrNot (G.may_hold reg.old) (G.may_hold reg.new) (λ c. after_draw c id) }
