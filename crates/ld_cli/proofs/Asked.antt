@@ -1,8 +1,10 @@
 -- What was read of the words is what they ask for.
-use Rattle.std.proofs.Common.{◌≡◌, List, Option, None, Some, subst}
+use Rattle.std.proofs.Common.{◌≡◌, List, Option, None, Some, ap, subst}
 use Rattle.std.specs.Prelude.{MatchOption}
 use Rattle.clap.specs.Walk.{Text}
+use Rattle.ld_words.specs.declared.command.NodeWords.{NodeWords}
 use Rattle.ld_words.specs.declared.command.Command.{Command}
+use Rattle.ld_words.specs.declared.command.Command.TheVariants.{Node}
 use Rattle.ld_words.specs.Meaning.{Asks, IsNoCommand}
 use Rattle.ld_words.proofs.OneCommand.{one_command}
 
@@ -13,3 +15,10 @@ asked_one words read command other is asks also =
 
 pub asked_none : (words : List Text) (read : Option Command) (other : Command) → read ≡ None → MatchOption read (IsNoCommand words) (Asks words) → Asks words other → ⊥
 asked_none words read other is none also = subst (λ o. MatchOption o (IsNoCommand words) (Asks words)) is none other also
+
+abbrev node_or : NodeWords → Command → NodeWords
+node_or other (Node n) = n
+node_or other _ = other
+
+pub one_node : (m n : NodeWords) → Node m ≡ Node n → m ≡ n
+one_node m n same = ap (node_or m) same

@@ -3,6 +3,7 @@ ghost use Rattle.std.specs.Prelude.{◌≡◌, ◌⊎◌, ⊤, ℕ, List, Some, 
 ghost use Rattle.ld_link.specs.Peers.{Peers};
 ghost use Rattle.ld_register.specs.Calls.{after_draw, ChangedOrNot};
 ghost use Rattle.ld_node.specs.Sets.{sets_in};
+ghost use Rattle.ld_serve.specs.Complete.{AreSpoken, MayOpen, IsFaultOrLimit};
 ghost use Rattle.ld_serve.specs.Opening.{IsBlank};
 ghost use Rattle.ld_serve.specs.Stops.{IsServingStop};
 ghost use Rattle.ld_serve.specs.Whole.{HasServed, HasStopped, IsNotOpened};
@@ -33,6 +34,8 @@ pub(crate) fn served<D: Disk, G: Register, L: Link>(
         (λ stop. IsNotOpened (D.faults disk.old) (D.faults disk.new) (D.seen disk.old) (D.seen disk.new) (D.may_leave disk.old) (D.may_leave disk.new)
         (G.faults reg.old) (G.faults reg.new) (G.told reg.old) (G.holds reg.old) (G.damaged reg.old) node.now.id node.now.format link.old link.new stop
         ⊎ IsServingStop stop) result }
+    ensures complete { (start : Peers) (bytes : List ℕ) → L.peers link.old ≡ Some start → AreSpoken start.coming → D.seen disk.old ≡ Some bytes
+        → MayOpen (G.told reg.old) (G.damaged reg.old) node.now.format bytes → EndsServing ⊤ IsFaultOrLimit result }
     ensures unasked { node.now.format ≡ false → reg.new ≡ reg.old }
     ensures formatted { (bytes : List ℕ) → D.seen disk.old ≡ Some bytes → (IsBlank bytes → ⊥) → reg.new ≡ reg.old }
     ensures drawn { G.told reg.old → ChangedOrNot (G.may_hold reg.old) (G.may_hold reg.new) (λ c. after_draw c node.now.id) }

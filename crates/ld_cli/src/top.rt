@@ -5,6 +5,7 @@ ghost use Rattle.ld_io.specs.Causes.{Rose};
 ghost use Rattle.ld_link.specs.Peers.{Peers};
 ghost use Rattle.ld_register.specs.Calls.{after_draw, ChangedOrNot};
 ghost use Rattle.ld_node.specs.Sets.{sets_in};
+ghost use Rattle.ld_serve.specs.Complete.{AreSpoken, MayOpen, IsFaultOrLimit};
 ghost use Rattle.ld_serve.specs.Opening.{IsBlank};
 ghost use Rattle.ld_serve.specs.Stops.{IsServingStop};
 ghost use Rattle.ld_serve.specs.Whole.{HasServed, HasStopped, IsNotOpened};
@@ -61,6 +62,11 @@ pub fn run<I: Source, O: Sink, D: Disk, G: Register, L: Link>(
         (λ stop. IsNotOpened (D.faults disk.old) (D.faults disk.new) (D.seen disk.old) (D.seen disk.new) (D.may_leave disk.old) (D.may_leave disk.new)
         (G.faults reg.old) (G.faults reg.new) (G.told reg.old) (G.holds reg.old) (G.damaged reg.old) n.id n.format link.old link.new stop
         ⊎ IsServingStop stop) result }
+    // Where the peers' bytes are frames, but for a last one that may be cut, and the disk's bytes are a formatted store's
+    // journal, or are blank, to be formatted, beside a register that isn't damaged: it serves its turns, unless one of the
+    // three or the memory fails, or a limit is reached.
+    ensures complete_node { (n : Wanted) (start : Peers) (bytes : List ℕ) → Asks (map string_bytes words.now) (Serve n) → L.peers link.old ≡ Some start → AreSpoken start.coming
+        → D.seen disk.old ≡ Some bytes → MayOpen (G.told reg.old) (G.damaged reg.old) n.format bytes → EndsServing ⊤ IsFaultOrLimit result }
     // The register is called only where a format is asked for and the disk is blank, and then it is one draw at most.
     ensures unasked { (n : Wanted) → Asks (map string_bytes words.now) (Serve n) → n.format ≡ false → reg.new ≡ reg.old }
     ensures formatted { (n : Wanted) (bytes : List ℕ) → Asks (map string_bytes words.now) (Serve n) → D.seen disk.old ≡ Some bytes → (IsBlank bytes → ⊥) → reg.new ≡ reg.old }
@@ -110,6 +116,8 @@ fn carry_out<I: Source, O: Sink, D: Disk, G: Register, L: Link>(
         (λ stop. IsNotOpened (D.faults disk.old) (D.faults disk.new) (D.seen disk.old) (D.seen disk.new) (D.may_leave disk.old) (D.may_leave disk.new)
         (G.faults reg.old) (G.faults reg.new) (G.told reg.old) (G.holds reg.old) (G.damaged reg.old) n.id n.format link.old link.new stop
         ⊎ IsServingStop stop) result }
+    ensures complete_node { (n : Wanted) (start : Peers) (bytes : List ℕ) → command ≡ Serve n → L.peers link.old ≡ Some start → AreSpoken start.coming
+        → D.seen disk.old ≡ Some bytes → MayOpen (G.told reg.old) (G.damaged reg.old) n.format bytes → EndsServing ⊤ IsFaultOrLimit result }
     ensures unasked { (n : Wanted) → command ≡ Serve n → n.format ≡ false → reg.new ≡ reg.old }
     ensures formatted { (n : Wanted) (bytes : List ℕ) → command ≡ Serve n → D.seen disk.old ≡ Some bytes → (IsBlank bytes → ⊥) → reg.new ≡ reg.old }
     ensures drawn { (n : Wanted) → command ≡ Serve n → G.told reg.old → ChangedOrNot (G.may_hold reg.old) (G.may_hold reg.new) (λ c. after_draw c n.id) }

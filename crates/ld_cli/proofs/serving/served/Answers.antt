@@ -1,5 +1,7 @@
 use Rattle.std.proofs.Common.{◌⊎◌}
+use Rattle.std.specs.Prelude.{⊤}
 use Rattle.ld_node.specs.Sets.{sets_in}
+use Rattle.ld_serve.specs.Complete.{IsFaultOrLimit}
 use Rattle.ld_serve.specs.Whole.{HasServed, HasStopped, IsNotOpened}
 use Rattle.ld_cli.proofs.StatusOf.{ends_so}
 use Rattle.ld_cli.proofs.serving.served.Goals as goal
@@ -18,3 +20,7 @@ returns-in-Err-clause-served g c = λ start told.
     ⊎ HasStopped (g.D.Disk.seen c.args.disk.now) (g.D.Disk.may_leave c.serve.new.disk) (g.G.Register.holds c.args.reg.now) c.args.node.now.id sets
     c.args.node.now.format start (g.L.Link.peers c.serve.new.link) stop)
     c.in-Err.stop c.status_of.result c.status_of.ensures (c.in-Err.ensures.stopped start told)
+
+pub returns-in-Err-clause-complete : goal.returns-in-Err-clause-complete
+returns-in-Err-clause-complete g c = λ start bytes told spoken is may.
+    ends_so ⊤ IsFaultOrLimit c.in-Err.stop c.status_of.result c.status_of.ensures (c.in-Err.ensures.complete start bytes told spoken is may)

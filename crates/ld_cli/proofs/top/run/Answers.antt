@@ -15,6 +15,10 @@ pub returns-in-Ok-Some-clause-opening : goal.returns-in-Ok-Some-clause-opening
 returns-in-Ok-Some-clause-opening g c = λ n asks.
     c.carry_out.ensures.opening n (asked_one (map string_bytes c.args.words.now) c.in-Ok-Some.field-0 c.in-Ok-Some.command (Node n) c.in-Ok-Some.field-0-is c.in-Ok-Some.ensures.asks asks)
 
+pub returns-in-Ok-Some-clause-complete_node : goal.returns-in-Ok-Some-clause-complete_node
+returns-in-Ok-Some-clause-complete_node g c = λ n start bytes asks told spoken is may.
+    c.carry_out.ensures.complete_node n start bytes (asked_one (map string_bytes c.args.words.now) c.in-Ok-Some.field-0 c.in-Ok-Some.command (Node n) c.in-Ok-Some.field-0-is c.in-Ok-Some.ensures.asks asks) told spoken is may
+
 pub returns-in-Ok-Some-clause-drawn : goal.returns-in-Ok-Some-clause-drawn
 returns-in-Ok-Some-clause-drawn g c = λ n asks told.
     c.carry_out.ensures.drawn n (asked_one (map string_bytes c.args.words.now) c.in-Ok-Some.field-0 c.in-Ok-Some.command (Node n) c.in-Ok-Some.field-0-is c.in-Ok-Some.ensures.asks asks) told
@@ -35,4 +39,8 @@ returns-in-Ok-None-clause-served g c = λ n start asks told.
 
 pub returns-in-Ok-None-clause-opening : goal.returns-in-Ok-None-clause-opening
 returns-in-Ok-None-clause-opening g c = λ n asks.
+    asked_none (map string_bytes c.args.words.now) c.in-Ok-None.field-0 (Node n) c.in-Ok-None.field-0-is c.in-Ok-None.ensures.asks asks
+
+pub returns-in-Ok-None-clause-complete_node : goal.returns-in-Ok-None-clause-complete_node
+returns-in-Ok-None-clause-complete_node g c = λ n start bytes asks told spoken is may.
     asked_none (map string_bytes c.args.words.now) c.in-Ok-None.field-0 (Node n) c.in-Ok-None.field-0-is c.in-Ok-None.ensures.asks asks
