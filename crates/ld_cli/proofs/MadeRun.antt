@@ -149,9 +149,11 @@ pub record Making (seed m : ℕ) (maker : Maker) (left : ℕ) (cluster : Cluster
   pub whole : events ++ made_from maker left ≡ made seed m
   pub played : HasPlayed cluster t events left
 
-pub making_begins : (seed m : ℕ) (maker : Maker) (k : Cluster) (t : Tally) → m < 2 ^ 32 → maker ≡ begin seed → HasPlayed k t first_events (2 ^ 32) → Making seed m maker m k t
+pub making_begins : (seed m : ℕ) (maker : Maker) (k : Cluster) (t : Tally) → m < 2 ^ 32 → maker ≡ begin seed → HasPlayed k t first_events (2 ^ 32) → Making seed m maker (m - 0) k t
 making_begins seed m maker k t few is played =
-    record { events = first_events; whole = ap (λ x. first_events ++ made_from x m) is; played = played_fewer k t first_events m (2 ^ 32) played (omega (arith, few)) }
+    let all : m - 0 ≡ m = omega arith in
+    subst (λ left. Making seed m maker left k t) (sym all)
+    (record { events = first_events; whole = ap (λ x. first_events ++ made_from x m) is; played = played_fewer k t first_events m (2 ^ 32) played (omega (arith, few)) })
 
 made_on : (maker next : Maker) (e : Event) (n : ℕ) → e ≡ next_event maker → next ≡ next_maker maker → made_from maker (suc n) ≡ e ∷ made_from next n
 unfolding made_from
