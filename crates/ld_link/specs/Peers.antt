@@ -78,3 +78,12 @@ Reads old new buf (Err e) = new ≡ Some old
 abbrev pub Writes : {E : Type 0} → Peers → Option Peers → List ℕ → Result ℕ E → Type 0
 Writes old new piece (Ok n) = new ≡ Some (on_present (said (take n piece)) old)
 Writes old new piece (Err e) = new ≡ Some old
+
+-- a peer that wasn't waited for is reached, with some bytes of its own, and the one before is past
+pub record Meets (old : Peers) (new : Option Peers) : Type 0 where
+  pub bytes : List ℕ
+  pub peers : new ≡ Some (arrived bytes old.coming old)
+
+abbrev pub Reaches : {E : Type 0} → Peers → Option Peers → Result (Unit {0}) E → Type 0
+Reaches old new (Ok _) = Meets old new
+Reaches old new (Err e) = new ≡ Some old

@@ -1,5 +1,5 @@
 // A borrowed link is one.
-use crate::Link;
+use crate::{Dial, Link};
 use ld_io::Failed;
 
 impl<L: Link> Link for &mut L {
@@ -17,5 +17,11 @@ impl<L: Link> Link for &mut L {
 
     fn write(&mut self, piece: &[u8]) -> Result<usize, Failed> {
         (**self).write(piece)
+    }
+}
+
+impl<L: Dial> Dial for &mut L {
+    fn dial(&mut self, node: u8) -> Result<(), Failed> {
+        (**self).dial(node)
     }
 }

@@ -1,10 +1,10 @@
-//! Links: peers that come one after the other, each with bytes in and out, and the faults of a link's calls.
+//! Links: peers that come or are dialed, one after the other, each with bytes in and out, and the faults of a link's calls.
 #![tactic(auto)]
 
 ghost use Rattle.std.specs.Prelude.{◌≡◌, ◌<◌, ◌≤◌, ℕ, length, IfOk, IfSome, Option};
 ghost use Rattle.std.specs.Io.{ReadsAtMost, WritesAtMost};
 ghost use Rattle.ld_io.specs.Causes.{HasCause};
-ghost use Rattle.ld_link.specs.Peers.{Peers, Turns, Reads, Writes};
+ghost use Rattle.ld_link.specs.Peers.{Peers, Turns, Reads, Writes, Reaches};
 
 mod borrowed;
 mod memory;
@@ -46,4 +46,13 @@ pub trait Link {
         ensures some { IfOk result (λ n. 0 < length piece.now → 0 < n) }
         ensures bytes { IfSome (peers self.old) (λ old. Writes old (peers self.new) piece.now result) }
         ensures cause { HasCause (faults self.old) (faults self.new) result };
+}
+
+/// A link whose peers can be dialed too, each under a number.
+pub trait Dial: Link {
+    /// Makes the node of this number the present peer, beside those that are still to come. The one before is past,
+    /// whatever it has left to say. A failed call changes no peer.
+    fn dial(&mut self, node: u8) -> Result<(), Failed>
+        ensures peer { IfSome (Self.peers self.old) (λ old. Reaches old (Self.peers self.new) result) }
+        ensures cause { HasCause (Self.faults self.old) (Self.faults self.new) result };
 }

@@ -1,5 +1,5 @@
 // A link in memory, which fails where it is told to.
-ghost use Rattle.std.specs.Prelude.{◌≡◌, ◌≤◌, ◌<◌, ◌+◌, ◌++◌, ◌∷◌, [], length, map, min, Some, None, IfOk, is_ok, MatchOption};
+ghost use Rattle.std.specs.Prelude.{◌≡◌, ◌≤◌, ◌<◌, ◌+◌, ◌++◌, ◌∷◌, [], length, map, min, Some, None, IfOk, is_ok, false, MatchOption};
 ghost use Rattle.std.specs.List.{All, slice_get};
 ghost use Rattle.std.specs.Option.{option_map};
 ghost use Rattle.std.specs.Vec.{vec_capacity};
@@ -9,8 +9,8 @@ ghost use Rattle.ld_io.specs.Memory.{is_listed, one_more};
 ghost use Rattle.ld_link.specs.Memory.{call_succeeds, write_succeeds, taken, talks};
 ghost use Rattle.ld_link.specs.Peers.{Turns, Reads, Writes, as_list, left_of};
 
-use crate::Link;
 use crate::talk::{Coming, MemTalk, Outgoing};
+use crate::{Dial, Link};
 use ld_io::{Failed, NoMemory};
 use std::alloc::Global;
 use std::marker::Model;
@@ -205,5 +205,16 @@ impl Link for MemLink {
             return Err(count_fault(&mut self.faults));
         }
         Ok(count)
+    }
+}
+
+impl Dial for MemLink {
+    /// Always fails: no peer in memory has a number. Only the count of faults changes.
+    fn dial(&mut self, _node: u8) -> Result<(), Failed>
+        ensures cause { HasCause self.old.faults self.new.faults result }
+        ensures never { is_ok result ≡ false }
+        ensures same { self.new ≡ record self.old { faults = one_more self.old.faults } }
+    {
+        Err(count_fault(&mut self.faults))
     }
 }

@@ -1,5 +1,5 @@
 // A link in memory, call by call.
-use crate::{Link, MemLink};
+use crate::{Dial, Link, MemLink};
 use ld_io::Failed;
 use std::alloc::Global;
 use std::test::Fail;
@@ -36,5 +36,19 @@ fn each_peer_takes_bytes_up_to_its_room(rt: HostRuntime) -> Result<(), Fail> {
     assert_eq!(rt; link.sent(0), Some([1, 2, 3].as_slice()));
     assert_eq!(rt; link.sent(1), Some([9].as_slice()));
     assert_eq!(rt; link.sent(2), None);
+    Ok(())
+}
+
+#[test]
+fn no_node_is_dialed_in_memory(rt: HostRuntime) -> Result<(), Fail> {
+    let alloc = rt.alloc();
+    let mut link = MemLink::new(
+        alloc,
+        vec![in alloc; vec![in alloc; 5]?]?,
+        0,
+        Vec::new(alloc),
+    )?;
+    assert_eq!(rt; link.dial(1), Err(Failed));
+    assert_eq!(rt; link.next_peer(), Ok(true));
     Ok(())
 }
