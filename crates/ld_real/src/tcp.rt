@@ -1,41 +1,62 @@
 // A link over the sockets of this machine.
-ghost use Rattle.std.specs.Prelude.{◌≡◌, ◌<◌, ◌≤◌, length, true, None, Ok, IfOk, IfSome, is_ok};
+ghost use Rattle.std.specs.Prelude.{◌≡◌, ◌<◌, ◌≤◌, length, true, false, None, Ok, IfOk, IfSome, is_ok};
 ghost use Rattle.std.specs.Io.{ReadsAtMost, WritesAtMost};
 ghost use Rattle.ld_io.specs.Causes.{HasCause};
+ghost use Rattle.ld_real.specs.Dialed.{is_dialed};
 
 use ld_io::Failed;
-use ld_link::Link;
+use ld_link::{Dial, Link};
 use std::io;
 use std::io::{ErrorKind, Read, Write};
-use std::net::{Ipv4Addr, Net, TcpListener, TcpStream};
+use std::net::{Ipv4Addr, Net, SocketAddr, TcpListener, TcpStream};
+use std::time::Duration;
 
-/// A link whose peers are those that connect to a port of 127.0.0.1, which is bound at the first call. It has no last
-/// peer: where none is there it waits.
+/// How many seconds a call of a dialed connection takes at most.
+const LIMIT: u64 = 10;
+
+/// The present peer.
+#[derive(Drop)]
+pub(crate) enum Peer {
+    /// None has come, or its connection broke.
+    Nobody,
+    /// It connected to the port.
+    Came(TcpStream),
+    /// It was dialed; none where nobody took the call, or the connection broke.
+    Dialed(Option<TcpStream>),
+}
+
+/// A link whose peers are those that connect to a port of 127.0.0.1, and those that are dialed. The port is bound at
+/// the first call that waits for a peer, so a link that only dials never binds it. There is no last peer: where none is
+/// there it waits.
 ///
-/// A peer whose connection breaks is one that has ended: a read gives nothing from then on, and what is written to it
-/// is taken and goes nowhere, as bytes in a buffer of the system would. So no peer makes a call fail. The faults are
-/// those of the port: it is taken, or the system gives no further connection.
+/// A peer that came and whose connection breaks is one that has ended: a read gives nothing from then on, and what is
+/// written to it is taken and goes nowhere, as bytes in a buffer of the system would. So no peer that came makes a call
+/// fail. The faults are those of the port: it is taken, or the system gives no further connection.
+///
+/// Whoever dials has to know more. A dial that nobody takes is a fault, and so is a read or a write of a dialed
+/// connection that breaks, or that the node keeps waiting for 10 seconds. After it each read and write fails, until the
+/// next peer is present. A dialed node that ends is no fault.
 #[derive(Drop)]
 pub struct TcpLink<'a, R: Net<Listener = TcpListener, Stream = TcpStream>> {
     rt: &'a R,
     port: u16,
     listener: Option<TcpListener>,
-    // none where no peer has come, or its connection broke
-    present: Option<TcpStream>,
+    present: Peer,
     faults: u64,
 }
 
 impl<'a, R: Net<Listener = TcpListener, Stream = TcpStream>> TcpLink<'a, R> {
-    /// A link at this port, which isn't bound yet. No call has failed yet.
+    /// A link at this port, which isn't bound yet. No peer is there, and no call has failed yet.
     pub fn new(rt: &'a R, port: u16) -> TcpLink<'a, R>
         ensures port { result.port ≡ port }
+        ensures nobody { is_dialed result.present ≡ false }
         ensures faults { result.faults ≡ 0 }
     {
         TcpLink {
             rt,
             port,
             listener: None,
-            present: None,
+            present: Peer::Nobody,
             faults: 0,
         }
     }
@@ -73,9 +94,10 @@ impl<'a, R: Net<Listener = TcpListener, Stream = TcpStream>> TcpLink<'a, R> {
     /// Closes the connection of the peer that was there, and waits for the next.
     fn accept(&mut self) -> io::Result<()>
         ensures faults { self.new.faults ≡ self.old.faults }
+        ensures came { is_dialed self.new.present ≡ false }
     {
-        self.present = None;
-        self.present = Some(accepted(&self.listener)?);
+        self.present = Peer::Nobody;
+        self.present = Peer::Came(accepted(&self.listener)?);
         Ok(())
     }
 
@@ -83,6 +105,7 @@ impl<'a, R: Net<Listener = TcpListener, Stream = TcpStream>> TcpLink<'a, R> {
     fn count<T: Drop>(&mut self, answer: io::Result<T>) -> Result<T, Failed>
         ensures cause { HasCause self.old.faults self.new.faults result }
         ensures value { IfOk result (λ v. answer ≡ Ok v) }
+        ensures present { self.new.present ≡ self.old.present }
     {
         match answer {
             Ok(value) => Ok(value),
@@ -127,6 +150,59 @@ fn is_of_a_peer(kind: ErrorKind) -> bool {
     )
 }
 
+/// Connects to the port of 127.0.0.1 that comes so many behind this one. Small messages go out at once.
+fn connected<R: Net<Listener = TcpListener, Stream = TcpStream>>(
+    rt: &R,
+    port: u16,
+    node: u8,
+) -> io::Result<TcpStream> {
+    let Some(port) = port.checked_add(u16::from(node)) else {
+        return Err(ErrorKind::InvalidInput.into());
+    };
+    let limit = Duration::from_secs(LIMIT);
+    let address = SocketAddr::from((Ipv4Addr::LOCALHOST, port));
+    let stream = TcpStream::connect_timeout(rt, &address, limit)?;
+    let _ = stream.set_nodelay(true);
+    stream.set_read_timeout(Some(limit))?;
+    stream.set_write_timeout(Some(limit))?;
+    Ok(stream)
+}
+
+/// Reads from a peer that was dialed. A connection that broke is closed.
+fn read_dialed(stream: &mut Option<TcpStream>, buf: &mut [u8]) -> io::Result<usize>
+    ensures bound { ReadsAtMost result buf.new }
+{
+    let answer = match stream {
+        Some(stream) => read_from(stream, buf),
+        None => None,
+    };
+    match answer {
+        Some(count) => Ok(count),
+        None => {
+            *stream = None;
+            Err(ErrorKind::NotConnected.into())
+        }
+    }
+}
+
+/// Writes to a peer that was dialed. A connection that broke is closed.
+fn write_dialed(stream: &mut Option<TcpStream>, piece: &[u8]) -> io::Result<usize>
+    ensures bound { WritesAtMost result piece.now }
+    ensures some { IfOk result (λ n. 0 < length piece.now → 0 < n) }
+{
+    let answer = match stream {
+        Some(stream) => write_to(stream, piece),
+        None => None,
+    };
+    match answer {
+        Some(count) => Ok(count),
+        None => {
+            *stream = None;
+            Err(ErrorKind::NotConnected.into())
+        }
+    }
+}
+
 /// Reads from the peer's stream. None where the connection broke.
 fn read_from(stream: &mut TcpStream, buf: &mut [u8]) -> Option<usize>
     ensures bound { IfSome result (λ n. n ≤ length buf.new) }
@@ -163,10 +239,10 @@ impl<'a, R: Net<Listener = TcpListener, Stream = TcpStream>> Link for TcpLink<'a
     ghost faults = { λ l. l.faults };
 
     /// Binds the port where it isn't bound, closes the connection of the peer that was there, and waits for the next.
-    /// It never answers false. A call that fails leaves no peer.
+    /// It never answers false. A call that fails leaves no peer, once the port is bound.
     fn next_peer(&mut self) -> Result<bool, Failed>
         ensures cause { HasCause self.old.faults self.new.faults result }
-        ensures always { IfOk result (λ there. there ≡ true) }
+        ensures always { IfOk result (λ there. (there ≡ true) × (is_dialed self.new.present ≡ false)) }
     {
         self.ready()?;
         let answer = self.accept();
@@ -174,40 +250,66 @@ impl<'a, R: Net<Listener = TcpListener, Stream = TcpStream>> Link for TcpLink<'a
         Ok(true)
     }
 
-    /// Never fails: where the connection breaks, the peer has ended.
+    /// Never fails where the peer came: where the connection breaks, the peer has ended.
     fn read(&mut self, buf: &mut [u8]) -> Result<usize, Failed>
         ensures bound { ReadsAtMost result buf.new }
         ensures cause { HasCause self.old.faults self.new.faults result }
-        ensures no_fault { is_ok result ≡ true }
+        ensures no_fault { is_dialed self.old.present ≡ false → is_ok result ≡ true }
+        ensures same { is_dialed self.new.present ≡ is_dialed self.old.present }
     {
-        let Some(stream) = &mut self.present else {
-            return Ok(0);
-        };
-        match read_from(stream, buf) {
-            Some(count) => Ok(count),
-            None => {
-                self.present = None;
-                Ok(0)
+        match &mut self.present {
+            Peer::Nobody => Ok(0),
+            Peer::Came(stream) => match read_from(stream, buf) {
+                Some(count) => Ok(count),
+                None => {
+                    self.present = Peer::Nobody;
+                    Ok(0)
+                }
+            },
+            Peer::Dialed(stream) => {
+                let answer = read_dialed(stream, buf);
+                self.count(answer)
             }
         }
     }
 
-    /// Never fails: where the connection breaks, what is written goes nowhere.
+    /// Never fails where the peer came: where the connection breaks, what is written goes nowhere.
     fn write(&mut self, piece: &[u8]) -> Result<usize, Failed>
         ensures bound { WritesAtMost result piece.now }
         ensures some { IfOk result (λ n. 0 < length piece.now → 0 < n) }
         ensures cause { HasCause self.old.faults self.new.faults result }
-        ensures no_fault { is_ok result ≡ true }
+        ensures no_fault { is_dialed self.old.present ≡ false → is_ok result ≡ true }
+        ensures same { is_dialed self.new.present ≡ is_dialed self.old.present }
     {
-        let Some(stream) = &mut self.present else {
-            return Ok(piece.len());
-        };
-        match write_to(stream, piece) {
-            Some(count) => Ok(count),
-            None => {
-                self.present = None;
-                Ok(piece.len())
+        match &mut self.present {
+            Peer::Nobody => Ok(piece.len()),
+            Peer::Came(stream) => match write_to(stream, piece) {
+                Some(count) => Ok(count),
+                None => {
+                    self.present = Peer::Nobody;
+                    Ok(piece.len())
+                }
+            },
+            Peer::Dialed(stream) => {
+                let answer = write_dialed(stream, piece);
+                self.count(answer)
             }
         }
+    }
+}
+
+impl<'a, R: Net<Listener = TcpListener, Stream = TcpStream>> Dial for TcpLink<'a, R> {
+    /// Closes the connection of the peer that was there, and dials the port of 127.0.0.1 that comes as many behind the
+    /// link's own as the node's number. The link's own port isn't bound by it. It fails where nobody takes the call
+    /// within 10 seconds, and then there is no peer: each read and write fails.
+    fn dial(&mut self, node: u8) -> Result<(), Failed>
+        ensures cause { HasCause self.old.faults self.new.faults result }
+        ensures dialed { is_dialed self.new.present ≡ true }
+    {
+        self.present = Peer::Dialed(None);
+        let answer = connected(self.rt, self.port, node);
+        let stream = self.count(answer)?;
+        self.present = Peer::Dialed(Some(stream));
+        Ok(())
     }
 }

@@ -1,10 +1,11 @@
 // The disk and the link once, over a real file and a real connection.
 use crate::{FileDisk, TcpLink};
 use ld_disk::Disk;
-use ld_link::Link;
+use ld_io::Failed;
+use ld_link::{Dial, Link};
 use std::fs;
 use std::io::{Read, Write};
-use std::net::{Ipv4Addr, TcpStream};
+use std::net::{Ipv4Addr, TcpListener, TcpStream};
 use std::test::Fail;
 
 #[test]
@@ -54,5 +55,33 @@ fn a_peer_that_is_reset_has_ended(rt: HostRuntime) -> Result<(), Fail> {
     let mut buf = [0; 4];
     assert_eq!(rt; link.read(&mut buf), Ok(0));
     assert_eq!(rt; link.write(&[3, 4]), Ok(2));
+    Ok(())
+}
+
+#[test]
+fn a_node_is_dialed_and_answers_until_it_ends(rt: HostRuntime) -> Result<(), Fail> {
+    let listener = TcpListener::bind(&rt, (Ipv4Addr::LOCALHOST, 0))?;
+    let mut link = TcpLink::new(&rt, listener.local_addr()?.port().saturating_sub(2));
+    assert_eq!(rt; link.dial(2), Ok(()));
+    let (mut node, _) = listener.accept()?;
+    assert_eq!(rt; link.write(&[1, 2]), Ok(2));
+    let mut buf = [0; 4];
+    assert_eq!(rt; node.read(&mut buf)?, 2);
+    assert_eq!(rt; buf, [1, 2, 0, 0]);
+    node.write_all(&[3])?;
+    drop(node);
+    assert_eq!(rt; link.read(&mut buf), Ok(1));
+    assert_eq!(rt; buf[0], 3);
+    assert_eq!(rt; link.read(&mut buf), Ok(0));
+    Ok(())
+}
+
+#[test]
+fn a_dial_that_nobody_takes_fails(rt: HostRuntime) -> Result<(), Fail> {
+    let listener = TcpListener::bind(&rt, (Ipv4Addr::LOCALHOST, 0))?;
+    let mut link = TcpLink::new(&rt, listener.local_addr()?.port());
+    drop(listener);
+    assert_eq!(rt; link.dial(0), Err(Failed));
+    assert_eq!(rt; link.write(&[1]), Err(Failed));
     Ok(())
 }
