@@ -1,8 +1,9 @@
 // A reader of a log.
-ghost use Rattle.std.specs.Prelude.{◌≡◌, ◌≤◌, ◌<◌, ◌++◌, ◌∷◌, [], ◌&&◌, not, Bool, false, IfSome, IfOk, OnOk, OnErr, ℕ};
+ghost use Rattle.std.specs.Prelude.{◌≡◌, ◌≤◌, ◌<◌, ◌++◌, ◌∷◌, [], ◌&&◌, not, Bool, false, IfSome, IfOk, OnOk, OnErr, All, ℕ};
 ghost use Rattle.ld_table.specs.Words.{any_of};
 ghost use Rattle.ld_ids.specs.Set.{members};
 ghost use Rattle.ld_ids.specs.Choice.{nodes_of};
+ghost use Rattle.ld_msg.specs.Bounds.{IsMessage, last_reader};
 ghost use Rattle.ld_msg.specs.Reader.{opened, is_finished, asks_of, heard, after_item, is_confirmed, verdict, last_round, confirms, is_confirming, reaches, loses, on_answer};
 ghost use Rattle.ld_msg.specs.Reading.{Confirms};
 ghost use Rattle.ld_reader.specs.Clipped.{all_clipped, clipped_verdict};
@@ -41,6 +42,7 @@ pub struct Reader {
 impl Model for Reader {
     ghost use Rattle.std.specs.Prelude.{◌≤◌};
     ghost use Rattle.std.specs.Option.{ForSome};
+    ghost use Rattle.ld_msg.specs.Bounds.{last_reader};
     ghost use Rattle.ld_reader.specs.Following.{Following};
     ghost use Rattle.ld_reader.specs.Shown.{shown_next, shown_confirming};
 
@@ -59,12 +61,12 @@ impl Model for Reader {
       };
     } };
 
-    ghost invariant = { λ a. ForSome a.next (λ next. (1 ≤ next) × (next ≤ a.until)) };
+    ghost invariant = { λ a. (a.number ≤ last_reader) × ForSome a.next (λ next. (1 ≤ next) × (next ≤ a.until)) };
 }
 
 impl Reader {
     /// A reader of the log from a number to another, both included; `number` is its place in the
-    /// order of opening.
+    /// order of opening, at most 999.
     pub fn start(
         alloc: Global,
         spec: &Spec,
@@ -72,6 +74,7 @@ impl Reader {
         from: Lsn,
         until: Lsn,
     ) -> Result<Reader, NoMemory>
+        requires number { number ≤ last_reader }
         requires first { 1 ≤ from }
         requires last { from ≤ until }
         ensures spec { IfOk result (λ reader. reader.spec ≡ spec.now) }
@@ -110,6 +113,7 @@ impl Reader {
         ensures ok { OnOk result (out.new ≡ out.old ++ messages_from self.now.reader.number self.now.reader.log
             (asks_of round self.now.reader.next (members nodes.now))) }
         ensures err { OnErr result (out.new ≡ out.old) }
+        ensures messages { All IsMessage out.old → All IsMessage out.new }
     {
         if let Some(from) = self.next {
             let ask = Ask {
@@ -125,13 +129,15 @@ impl Reader {
 
     /// Asks all nodes of the log for the next number, under a new round; after the last round
     /// nothing more is sent. This ends a confirmation. A reader that is finished asks nothing.
-    /// Without memory nothing is sent, and the reader is as it was.
+    /// Each ask is a message that a frame can carry. Without memory nothing is sent, and the reader
+    /// is as it was.
     pub fn ask(&mut self, alloc: Global, out: &mut Outbox) -> Result<(), NoMemory>
         ensures reader { OnOk result (self.new ≡ with_reader self.old (asked self.old.reader)) }
         ensures sent { OnOk result (out.new ≡ out.old ++ messages_from self.old.reader.number self.old.reader.log
             (asks (nodes_of self.old.spec) self.old.reader)) }
         ensures reader_err { OnErr result (self.new ≡ self.old) }
         ensures sent_err { OnErr result (out.new ≡ out.old) }
+        ensures messages { All IsMessage out.old → All IsMessage out.new }
     {
         if self.finished() {
             return Ok(());
@@ -247,6 +253,8 @@ impl Reader {
             ≡ with_reader self.old (confirms (nothing_read self.old.reader) lost).reader) }
         ensures sent { OnOk result (out.new ≡ out.old ++ messages_from self.old.reader.number self.old.reader.log
             (confirms (nothing_read self.old.reader) lost).asks) }
+        ensures sent_err { OnErr result (out.new ≡ out.old) }
+        ensures messages { All IsMessage out.old → All IsMessage out.new }
     {
         let round = self.round + 1;
         self.send(alloc, &lost.nodes(), round, out)?;
@@ -280,6 +288,8 @@ impl Reader {
             (going_on (nodes_of self.old.spec) lost (read_so_far self.old.reader items.now)).reader) }
         ensures sent { OnOk result (out.new ≡ out.old ++ messages_from self.old.reader.number self.old.reader.log
             (going_on (nodes_of self.old.spec) lost (read_so_far self.old.reader items.now)).asks) }
+        ensures sent_err { OnErr result (out.new ≡ out.old) }
+        ensures messages { All IsMessage out.old → All IsMessage out.new }
     {
         match lost {
             Some(lost) => self.confirm(alloc, lost, out),
@@ -308,6 +318,8 @@ impl Reader {
             (on_answer (nodes_of self.old.spec) self.old.reader node body).items) }
         ensures sent { OnOk result (out.new ≡ out.old ++ messages_from self.old.reader.number self.old.reader.log
             (on_answer (nodes_of self.old.spec) self.old.reader node body).asks) }
+        ensures sent_err { OnErr result (out.new ≡ out.old) }
+        ensures messages { All IsMessage out.old → All IsMessage out.new }
     {
         let mut items = Items::empty(alloc);
         self.hear(node, body, &mut items)?;
@@ -322,8 +334,9 @@ impl Reader {
     /// else all nodes are asked under a new round, where there was an item, the reader isn't
     /// finished, no confirmation lasts, and no page that is held reaches the next number.
     ///
-    /// A message does nothing to a reader that is finished, or where it comes from no node. After
-    /// want of memory the reader is not to be used again.
+    /// A message does nothing to a reader that is finished, or where it comes from no node. Each ask
+    /// is a message that a frame can carry. Without memory nothing is sent, and the reader is not to
+    /// be used again.
     pub fn on_reply(
         &mut self,
         alloc: Global,
@@ -335,6 +348,8 @@ impl Reader {
             ≡ all_clipped self.old.reader.until (replied self.old msg.now).items) }
         ensures sent { OnOk result (out.new ≡ out.old ++ messages_from self.old.reader.number self.old.reader.log
             (replied self.old msg.now).asks) }
+        ensures sent_err { OnErr result (out.new ≡ out.old) }
+        ensures messages { All IsMessage out.old → All IsMessage out.new }
     {
         let Who::Node(node) = msg.from else {
             return Ok(Items::empty(alloc));

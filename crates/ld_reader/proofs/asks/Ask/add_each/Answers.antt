@@ -1,5 +1,7 @@
-use Rattle.std.proofs.Common.{◌≡◌, ◌++◌, ◌∷◌, [], ◌∙◌, sym, arith, length-append}
+use Rattle.std.proofs.Common.{◌≡◌, ◌++◌, ◌∷◌, [], ◌∙◌, ap, sym, arith, length-append}
+use Rattle.std.proofs.lemmas.List.Elements.{All-push}
 use Rattle.ld_ids.specs.Set.{members}
+use Rattle.ld_msg.specs.Bounds.{IsMessage}
 use Rattle.ld_gap.proofs.Places.{there_is}
 use Rattle.ld_reader.proofs.Asking.{asking, asked_one, keeps_front}
 use Rattle.ld_reader.proofs.asks.Ask.add_each.Goals as goal
@@ -9,9 +11,14 @@ pub loop-place-preserved : goal.loop-place-preserved
 loop-place-preserved c = elim c.match-nth.branch [
   | in-Some+in_ok-push w ↦
       let s = c.args.self.now in
-      let sent : c.match-nth.list.items ≡ c.loop-place.list.items ++ asking s.reader s.log s.round s.from w.in-Some.node ∷ [] = rw w.list-is w.in_ok-push.ensures.items in
+      let sent : c.match-nth.list.items ≡ c.loop-place.list.items ++ asking s.reader s.log s.round s.from w.in-Some.node ∷ [] = rw w.list-is (w.in_ok-push.ensures.items ∙ ap (λ m. c.loop-place.list.items ++ m ∷ []) w.message_to.ensures.exact) in
       let more = asked_one s.reader s.log s.round s.from (members c.args.nodes.now) c.loop-place.place w.in-Some.node c.loop-place.list.items (sym w.in-Some.ensures.node) in
       let front = keeps_front c.args.list.now.items c.loop-place.list.items (asking s.reader s.log s.round s.from w.in-Some.node) c.loop-place.invariant.longer c.loop-place.invariant.front in
-      record { all = rw sent (more ∙ c.loop-place.invariant.all); longer = rw sent (omega (arith, length-append c.loop-place.list.items (asking s.reader s.log s.round s.from w.in-Some.node ∷ []))); front = rw sent front }
+      record {
+        all = rw sent (more ∙ c.loop-place.invariant.all);
+        longer = rw sent (omega (arith, length-append c.loop-place.list.items (asking s.reader s.log s.round s.from w.in-Some.node ∷ [])));
+        front = rw sent front;
+        messages = λ h. rw w.list-is (rw w.in_ok-push.ensures.items (All-push IsMessage c.loop-place.list.items w.message_to.result (c.loop-place.invariant.messages h) w.message_to.ensures.message));
+      }
   | in_default w ↦ absurd (there_is (members c.args.nodes.now) c.loop-place.place (omega arith) (sym w.in_default.ensures.node))
 ]
