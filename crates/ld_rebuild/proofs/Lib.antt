@@ -1,3 +1,4 @@
 pub mod Askings
+pub mod LowestMissing
 pub mod Refills
 pub mod Uncleans

@@ -12,6 +12,6 @@ loop-place-preserved c = elim c.match-nth.branch [
       let sent : c.match-nth.list.items ≡ c.loop-place.list.items ++ asks_of s.id s.log s.from (w.in-Some.node ∷ []) = rw w.list-is w.in_ok-add_ask.ensures.ok in
       let more = asked_one s.id s.log s.from (members c.args.set.now) c.loop-place.place w.in-Some.node c.loop-place.list.items (sym w.in-Some.ensures.node) in
       let front = keeps_front c.args.list.now.items c.loop-place.list.items (asks_of s.id s.log s.from (w.in-Some.node ∷ [])) c.loop-place.invariant.longer c.loop-place.invariant.front in
-      record { all = rw sent (more ∙ c.loop-place.invariant.all); longer = rw sent (omega (arith, length-append c.loop-place.list.items (asks_of s.id s.log s.from (w.in-Some.node ∷ [])))); front = rw sent front }
+      record { all = rw sent (more ∙ c.loop-place.invariant.all); longer = rw sent (omega (arith, length-append c.loop-place.list.items (asks_of s.id s.log s.from (w.in-Some.node ∷ [])))); front = rw sent front; messages = λ h. rw w.list-is (w.in_ok-add_ask.ensures.messages (c.loop-place.invariant.messages h)) }
   | in_default w ↦ absurd (there_is (members c.args.set.now) c.loop-place.place (omega arith) (sym w.in_default.ensures.node))
 ]
