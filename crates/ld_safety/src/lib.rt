@@ -19,6 +19,17 @@ ghost use Rattle.ld_machine.specs.World.{MayHold, Stored, begin, chosen};
 ghost use Rattle.ld_machine.specs.Run.{InvariantHolds, history, trace, world_after};
 ghost use Rattle.ld_machine.specs.Invariant.{Acked, Agrees, BallotsDrawn, Closed, CopiesOf, CopyAt, EntriesAreItems, GenerationsDrawn, HeldWasSent, IsOpen, OnePlan, OpenTrims, ReleasesAcked, Retains, SealsHold, SequencersDrawn, StandsOn, SummariesAgree, TrimsIssued};
 ghost use Rattle.ld_safety.specs.Lost.{CopiesWereLost, LossesWereSeen, LostOnce, may_be_lost};
+ghost use Rattle.ld_safety.specs.OneRun.{LinesAreTheSteps, StepsAreTheTrace};
+
+/// But for `none`, the lines of a run's steps are those of its transcript.
+pub fn lines_are_the_steps()
+    ensures { LinesAreTheSteps }
+{}
+
+/// The steps of a run are the trace of their own events, which lead to the run's state.
+pub fn steps_are_the_trace()
+    ensures { StepsAreTheTrace }
+{}
 
 /// What each reader gets tiles the numbers from its first one on.
 pub fn items_tile()
