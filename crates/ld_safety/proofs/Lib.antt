@@ -78,6 +78,7 @@ pub mod LostMoments
 pub mod LostStanding
 pub mod LostStands
 pub mod LostKept
+pub mod LostSpoken
 pub mod LostActive
 pub mod LostActiveKept
 pub mod LostLaw

@@ -1,5 +1,5 @@
 -- The laws on lost nodes over every list of events.
-use Rattle.std.proofs.Common.{◌≡◌, ◌≤◌, ℕ, inl, inr, sym, subst, true, ◌&&◌, ◌==◌, List, [], ◌∷◌, ◌++◌, arith}
+use Rattle.std.proofs.Common.{◌≡◌, ◌≤◌, ℕ, inl, inr, refl, sym, subst, true, ◌&&◌, ◌==◌, List, [], ◌∷◌, ◌++◌, arith}
 use Rattle.std.proofs.lemmas.Bool.{and_from, or_cases, eqb-true}
 use Rattle.ld_table.specs.Words.{is_in}
 use Rattle.ld_lsn.specs.Number.{home_epoch}
@@ -13,15 +13,15 @@ use Rattle.ld_machine.specs.Facts.{Happened}
 use Rattle.ld_machine.specs.World.{World, In, begin, has_told, says_settled}
 use Rattle.ld_machine.specs.Run.{next_world, world_after}
 use Rattle.ld_machine.specs.Losses.{EndsAsLoss}
-use Rattle.ld_safety.specs.Lost.{LostOnce, LossesWereSeen, CopiesMayBeLost, may_be_lost}
+use Rattle.ld_safety.specs.Lost.{LostOnce, LossesWereSeen, CopiesAreLost, is_lost_at}
 use Rattle.ld_safety.proofs.Lists.{count_mono}
 use Rattle.ld_safety.proofs.Traces.{Keeps, happened, trace, later, both_kept}
 use Rattle.ld_safety.proofs.Generations.{Back, back_here, back_on, back_step, lost_between}
 use Rattle.ld_safety.proofs.LostAlong.{Asked, asked_kept}
-use Rattle.ld_safety.proofs.LostKept.{standings_kept, stands_there}
+use Rattle.ld_safety.proofs.LostKept.{standings_kept}
 use Rattle.ld_safety.proofs.LostMoments.{Known, open_at}
 use Rattle.ld_safety.proofs.LostLaw.{SettledApart, LossesSettled}
-use Rattle.ld_safety.proofs.LostStood.{at_asks, lost_may, lost_under, lost_in_state}
+use Rattle.ld_safety.proofs.LostStood.{at_asks, lost_under, lost_in_state}
 
 -- ---- lost once ----
 back_along : (c : Config) (hs : List Happened) (w : World) (es : List Event) → Asked c hs w → Back w (world_after c w es)
@@ -58,13 +58,13 @@ losses_were_seen c name l s round before asks between gives y b E i =
     elim o.how [
       | inl t ↦ inr (record { reader = a.reader; there = a.there; answer = o.answer; held = o.held; without = t })
       | inr t ↦ let k = a.lost y o.answer o.held t in
-          inl (record { state = lost_may (node_at (next_world c w asks).state y) l (home_epoch s) k.0 k.1; lines = stands_there c (hs ++ happened c w.state asks ∷ []) (next_world c w asks) S.1 y l (home_epoch s) k.0 i k.1 })
+          inl (record { state = k; lines = (S.1.1 y l i).lost (node_at (next_world c w asks).state y).plain (home_epoch s) (inl refl) k })
     ]
 
 -- ---- with what is left to be shown of the nodes ----
 module _ (c : Config) (Q : List Happened → World → Type 0) (K : Keeps c Q) (P : LossesSettled c Q) where
-  pub copies_may_be_lost : (name : List ℕ) (l s round : ℕ) (before : List Event) (asks : Event) (between : List Event) (gives : Event) → EndsAsLoss c name l s round before asks between gives → CopiesMayBeLost c (next_world c (world_after c (begin c) before) asks) l s
-  copies_may_be_lost name l s round before asks between gives E =
+  pub copies_are_lost : (name : List ℕ) (l s round : ℕ) (before : List Event) (asks : Event) (between : List Event) (gives : Event) → EndsAsLoss c name l s round before asks between gives → CopiesAreLost c (next_world c (world_after c (begin c) before) asks) l s
+  copies_are_lost name l s round before asks between gives E =
       let w = world_after c (begin c) before in
       let t = next_world c w asks in
       let hs = trace c (begin c) before in
@@ -73,7 +73,7 @@ module _ (c : Config) (Q : List Happened → World → Type 0) (K : Keeps c Q) (
       let h : Known c Q (hs ++ happened c w.state asks ∷ []) t = B.goes_on hs w asks (later c (Known c Q) B [] (begin c) before B.begins) in
       let z : SettledApart c t l s a.reader.held = subst (λ k. SettledApart c t l k a.reader.held) a.next (subst (λ k. SettledApart c t k a.reader.next a.reader.held) a.log
       (P (hs ++ happened c w.state asks ∷ []) t h name a.reader a.there (subst (λ k. is_loss a.reader.next (set_of c k) a.reader.held ≡ true) (sym a.log) (subst (λ k. is_loss k (set_of c l) a.reader.held ≡ true) (sym a.next) a.loss)))) in
-      let m = count_mono (has_told t (says_settled s) l z.summary.ballot) (λ n. may_be_lost l (home_epoch s) (node_at t.state n) && has_told t (says_settled s) l z.summary.ballot n) (set_at c l (home_epoch s)) (λ y i q.
-      let o = open_at s y (set_of c l) a.reader.held a.loss i in and_from (may_be_lost l (home_epoch s) (node_at t.state y)) (has_told t (says_settled s) l z.summary.ballot y)
-      (elim o.how [ inl v ↦ absurd (z.apart y o.answer i o.held v q) | inr v ↦ let k = a.lost y o.answer o.held v in lost_may (node_at t.state y) l (home_epoch s) k.0 k.1 ]) q) in
+      let m = count_mono (has_told t (says_settled s) l z.summary.ballot) (λ n. is_lost_at l (home_epoch s) (node_at t.state n) && has_told t (says_settled s) l z.summary.ballot n) (set_at c l (home_epoch s)) (λ y i q.
+      let o = open_at s y (set_of c l) a.reader.held a.loss i in and_from (is_lost_at l (home_epoch s) (node_at t.state y)) (has_told t (says_settled s) l z.summary.ballot y)
+      (elim o.how [ inl v ↦ absurd (z.apart y o.answer i o.held v q) | inr v ↦ a.lost y o.answer o.held v ]) q) in
       (z.summary, z.closed, let n = z.enough in omega arith)

@@ -21,14 +21,14 @@ use Rattle.ld_machine.specs.World.{World, In, begin, has_told, says_settled}
 use Rattle.ld_machine.specs.Invariant.{Closed}
 use Rattle.ld_machine.specs.Losses.{EndsAsLoss}
 use Rattle.ld_machine.specs.Run.{history, next_world, world_after}
-use Rattle.ld_safety.specs.Lost.{CopiesMayBeLost}
+use Rattle.ld_safety.specs.Lost.{CopiesAreLost}
 use Rattle.ld_safety.proofs.Lists.{Some_inj, any_in, not_both}
 use Rattle.ld_safety.proofs.Members.{find_in}
 use Rattle.ld_safety.proofs.Traces.{Keeps}
 use Rattle.ld_safety.proofs.LostRounds.{answer_to, place_of}
 use Rattle.ld_safety.proofs.LostAlong.{RoundsOf}
 use Rattle.ld_safety.proofs.LostLaw.{SettledApart, LossesSettled, losses_happened}
-use Rattle.ld_safety.proofs.LostLaws.{copies_may_be_lost}
+use Rattle.ld_safety.proofs.LostLaws.{copies_are_lost}
 use Rattle.ld_safety.proofs.LostPages.{CleanKept, CleanPage, home_is}
 use Rattle.ld_safety.proofs.LostShown.{Facts, PageFacts, Shown, shown_kept}
 
@@ -134,5 +134,5 @@ module _ (c : Config) (Q : List Happened → World → Type 0) (C : (hs : List H
   pub happened : Keeps c Q → (es : List Event) → LossesHappened c (history c es)
   happened K es = losses_happened c (Shown c Q C) (shown_kept c Q C K) losses_settled es
 
-  pub stood : Keeps c Q → (name : List ℕ) (l s round : ℕ) (before : List Event) (asks : Event) (between : List Event) (gives : Event) → EndsAsLoss c name l s round before asks between gives → CopiesMayBeLost c (next_world c (world_after c (begin c) before) asks) l s
-  stood K name l s round before asks between gives E = copies_may_be_lost c (Shown c Q C) (shown_kept c Q C K) losses_settled name l s round before asks between gives E
+  pub stood : Keeps c Q → (name : List ℕ) (l s round : ℕ) (before : List Event) (asks : Event) (between : List Event) (gives : Event) → EndsAsLoss c name l s round before asks between gives → CopiesAreLost c (next_world c (world_after c (begin c) before) asks) l s
+  stood K name l s round before asks between gives E = copies_are_lost c (Shown c Q C) (shown_kept c Q C K) losses_settled name l s round before asks between gives E

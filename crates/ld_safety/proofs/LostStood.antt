@@ -1,6 +1,5 @@
 -- From the confirming asks for a number to the step that calls it lost: who was lost at the asks.
-use Rattle.std.proofs.Common.{◌≡◌, ◌∙◌, ℕ, inl, inr, refl, ap, sym, subst, true, List, [], ◌∷◌, ◌++◌, append_assoc, append-nil, Option, Some, None, arith}
-use Rattle.std.proofs.lemmas.Bool.{or_left, or_right}
+use Rattle.std.proofs.Common.{◌≡◌, ◌∙◌, ℕ, inl, inr, refl, ap, sym, subst, true, List, [], ◌∷◌, ◌++◌, append_assoc, append-nil, Some, None, arith}
 use Rattle.ld_table.specs.Table.{find}
 use Rattle.ld_table.specs.Named.{find_named, put_named}
 use Rattle.ld_lsn.specs.Number.{home_epoch}
@@ -10,15 +9,14 @@ use Rattle.ld_msg.specs.declared.msg.Who.TheVariants as whos
 use Rattle.ld_msg.specs.Reading.{Held, lost_held, is_loss, is_lost_for}
 use Rattle.ld_msg.specs.Reader.{Reader, heard, is_confirmed, polled}
 use Rattle.ld_machine.specs.Config.{set_of}
-use Rattle.ld_machine.specs.Disk.{Node, Cut}
+use Rattle.ld_machine.specs.Disk.{Node}
 use Rattle.ld_machine.specs.State.{State, node_at}
 use Rattle.ld_machine.specs.Facts.{Happened}
 use Rattle.ld_machine.specs.World.{World, In, begin}
 use Rattle.ld_machine.specs.Run.{next_world, world_after}
 use Rattle.ld_machine.specs.Losses.{EndsAsLoss}
 use Rattle.ld_machine.specs.Step as Step
-use Rattle.ld_op.specs.Plain.{Plain, log_of, is_lost}
-use Rattle.ld_safety.specs.Lost.{LostUnder, may_be_lost, cut_may}
+use Rattle.ld_safety.specs.Lost.{LostUnder, is_lost_at}
 use Rattle.ld_safety.proofs.Lists.{Some_inj, not_none}
 use Rattle.ld_safety.proofs.Names.{named_cases}
 use Rattle.ld_safety.proofs.Members.{find_in}
@@ -28,18 +26,14 @@ use Rattle.ld_safety.proofs.Events.{NamesOnce}
 use Rattle.ld_safety.proofs.LostNodes.{LostIn}
 use Rattle.ld_safety.proofs.LostReads.{read_on}
 use Rattle.ld_safety.proofs.LostTalk.{TalkKeeps, talked, same_readers}
+use Rattle.ld_safety.proofs.LostRounds.{answer_to}
 use Rattle.ld_safety.proofs.LostAlong.{Asked, asked_kept}
 use Rattle.ld_safety.proofs.LostSince.{Since, SinceConfirming, since_step}
-use Rattle.ld_safety.proofs.LostBegins.{NewHere, came, since_new}
+use Rattle.ld_safety.proofs.LostBegins.{NewHere, lost_in, came, since_new}
+use Rattle.ld_safety.proofs.LostSpoken.{CutOld, Spoken, Answering, answering_kept, lost_plain}
 use Rattle.ld_safety.proofs.LostLines.{losses_given, among_lost, confirmed_lost}
 
 -- ---- words ----
-pub lost_may : (x : Node) (l e g : ℕ) → LostIn x l e g → may_be_lost l e x ≡ true
-lost_may x l e g h = elim h.held [
-  | inl q ↦ or_left (is_lost (log_of x.plain l) e) (cut_may l e x.cut) (subst (λ (p : Plain). is_lost (log_of p l) e ≡ true) q h.lost)
-  | inr q ↦ or_right (is_lost (log_of x.plain l) e) (cut_may l e x.cut) (subst (λ (o : Option Cut). cut_may l e o ≡ true) (sym q.1) (subst (λ (p : Plain). is_lost (log_of p l) e ≡ true) q.2 h.lost))
-]
-
 pub lost_under : (x : Node) (l e g : ℕ) → LostIn x l e g → LostUnder x l e g
 lost_under x l e g h = (h.plain, h.held, h.generation, h.lost)
 
@@ -102,7 +96,7 @@ pub record AtAsks (c : Config) (then : World) (name : List ℕ) (l s : ℕ) : Ty
   pub log : reader.log ≡ l
   pub next : reader.next ≡ s
   pub loss : is_loss s (set_of c l) reader.held ≡ true
-  pub lost : (y : ℕ) (h : Held) → find y reader.held ≡ Some h → is_lost_for s h.body ≡ true → (g : ℕ) × LostIn (node_at then.state y) l (home_epoch s) g
+  pub lost : (y : ℕ) (h : Held) → find y reader.held ≡ Some h → is_lost_for s h.body ≡ true → is_lost_at l (home_epoch s) (node_at then.state y) ≡ true
 
 module _ (c : Config) (name : List ℕ) (l s round : ℕ) (before : List Event) (asks : Event) (between : List Event) (gives : Event) (E : EndsAsLoss c name l s round before asks between gives) where
   abbrev first : World
@@ -137,6 +131,15 @@ module _ (c : Config) (name : List ℕ) (l s round : ℕ) (before : List Event) 
     named = record { reader = E.asked.reader; there = E.asked.there; number = refl; log = refl };
   }
 
+  spoken_then : Spoken (next_world c (world_after c (begin c) before) asks)
+  spoken_then = ((answering_kept c).goes_on (trace c (begin c) before) (world_after c (begin c) before) asks (later c (Answering c) (answering_kept c) [] (begin c) before (answering_kept c).begins)).1
+
+  -- a node that is asked once more said under that generation that it is lost
+  asked_old : (y g : ℕ) → find y E.asked.confirmation.asked ≡ Some g → CutOld (node_at (next_world c (world_after c (begin c) before) asks).state y) g
+  asked_old y g q = let o = lost_in x.next y g x.held (find_in y _ g (subst (λ (k : List (ℕ × ℕ)). find y k ≡ Some g) begins_there.asked q)) in
+      subst (λ z. CutOld (node_at (next_world c (world_after c (begin c) before) asks).state z) g) o.node
+      (spoken_then (answer_to o.answer.0 x o.answer.1.body) (known_then.1.1.held name x o.answer E.asked.there o.there) x.number o.number o.round g o.end refl o.is)
+
   pub at_asks : AtAsks c (next_world c (world_after c (begin c) before) asks) name l s
   at_asks =
       let v = E.asked.confirmation in
@@ -165,5 +168,7 @@ module _ (c : Config) (name : List ℕ) (l s round : ℕ) (before : List Event) 
             let i : In {X = ℕ × ℕ} (y, k.generation) v.asked = subst (λ (m : List (ℕ × ℕ)). In {X = ℕ × ℕ} (y, k.generation) m) (sym n.asked) (subst (λ j. In {X = ℕ × ℕ} (y, k.generation) (lost_held j x.held)) (sym E.asked.next) k.there) in
             let t = confirmed_lost c _ _ gives o.known.0.1.1 o.known.1.1 name d u S E.still.there E.still.lasts g.message g.sent (g.to ∙ ap (λ (j : Reader). whos.Reader j.number) same)
             (subst (λ (j : Reader). is_confirmed (heard j (Step.sender_node g.message.from) g.message.body).confirming ≡ true) same g.confirmed) y k.generation (subst (λ (m : List (ℕ × ℕ)). In {X = ℕ × ℕ} (y, k.generation) m) (sym C.same) i) in
-            (t.generation, let p : Node = node_at (next_world c (world_after c (begin c) before) asks).state y in subst (λ j. LostIn p l (home_epoch j) t.generation) (C.next ∙ E.asked.next) (subst (λ j. LostIn p j (home_epoch d.next) t.generation) E.of_log t.lost));
+            let p : Node = node_at (next_world c (world_after c (begin c) before) asks).state y in
+            lost_plain p l (home_epoch s) t.generation (asked_old y t.generation (subst (λ (m : List (ℕ × ℕ)). find y m ≡ Some t.generation) C.same t.held))
+            (subst (λ j. LostIn p l (home_epoch j) t.generation) (C.next ∙ E.asked.next) (subst (λ j. LostIn p j (home_epoch d.next) t.generation) E.of_log t.lost));
       }

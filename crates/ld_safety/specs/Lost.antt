@@ -1,4 +1,4 @@
--- Nodes that may be lost: in one of the states that a load may find, where a crash left two.
+-- Nodes that are lost, and those that may be: where a crash left two states that a load may find, in one of them.
 use Rattle.std.specs.Prelude.{ℕ, ◌≡◌, ◌≤◌, ◌⊎◌, List, [], ◌∷◌, ◌++◌, Option, Some, None, Bool, true, false, ◌&&◌, ◌||◌}
 use Rattle.ld_table.specs.Table.{find}
 use Rattle.ld_table.specs.Named.{find_named}
@@ -35,13 +35,17 @@ LostOnce = (c : Config) (first between last : List Event) (y l e g : ℕ) → Is
 
 -- ---- when the confirming asks are sent ----
 
+-- the node is lost for the epoch in its plain state: before a record that was cut short, where there is one
+abbrev pub is_lost_at : ℕ → ℕ → Node → Bool
+is_lost_at l e x = is_lost (log_of x.plain l) e
+
 abbrev pub cut_may : ℕ → ℕ → Option Cut → Bool
 cut_may l e None = false
 cut_may l e (Some k) = is_lost (log_of k.plain l) e
 
--- the node may be lost for the epoch
+-- the node may be lost for the epoch: before that record, or after it
 abbrev pub may_be_lost : ℕ → ℕ → Node → Bool
-may_be_lost l e x = is_lost (log_of x.plain l) e || cut_may l e x.cut
+may_be_lost l e x = is_lost_at l e x || cut_may l e x.cut
 
 -- the reader of the name holds a clean page of the node that covers the number without it
 pub record ShowsWithout (w : World) (name : List ℕ) (s y : ℕ) : Type 0 where
@@ -51,9 +55,9 @@ pub record ShowsWithout (w : World) (name : List ℕ) (s y : ℕ) : Type 0 where
   pub held : find y reader.held ≡ Some answer
   pub without : lacks s answer.body ≡ true
 
--- the node may be lost for the number's epoch, and stands lost for it in the lines where an epoch as great is active
+-- the node is lost for the number's epoch, and stands lost for it in the lines
 pub record SeenLost (c : Config) (before : List Event) (asks : Event) (l s y : ℕ) : Type 0 where
-  pub state : may_be_lost l (home_epoch s) (node_at (next_world c (world_after c (begin c) before) asks).state y) ≡ true
+  pub state : is_lost_at l (home_epoch s) (node_at (next_world c (world_after c (begin c) before) asks).state y) ≡ true
   pub lines : stands_for (home_epoch s) (standing y l (trace c (begin c) before ++ happened c (world_after c (begin c) before).state asks ∷ []) Lost) ≡ true
 
 -- when a reader asks once more for a number that it then calls lost, each node of the log is lost for it, or had shown the reader a clean page without it
@@ -62,15 +66,16 @@ LossesWereSeen = (c : Config) (name : List ℕ) (l s round : ℕ) (before : List
     EndsAsLoss c name l s round before asks between gives → is_in y (set_at c l (home_epoch s)) ≡ true →
     SeenLost c before asks l s y ⊎ ShowsWithout (next_world c (world_after c (begin c) before) asks) name s y
 
--- as many nodes as the log has copies may be lost that had answered the number to the closing plan.
--- It doesn't hold that each of them is lost in both states that a crash leaves. A crash can cut short the record by which a lost node says that it is rebuilt: then it is lost before this record and not after it, and a load finds either.
--- With three nodes and two copies: nodes 1 and 3 have a record; node 3 is wiped and gets it back from node 1, which is wiped then; a reader hears that node 3 is lost, which crashes in that record; the reader hears that node 1 is lost, and asks both once more.
--- Node 3 loads, is found lost, and says so under the generation that was held for it, as does node 1: the number is called lost, and one node alone had been lost in both states when they were asked (the run is `torn_rebuild` in ld_rows).
-abbrev pub CopiesMayBeLost : Config → World → ℕ → ℕ → Type 0
-CopiesMayBeLost c w l s = (y : Summary) × Closed w l (home_epoch s) y ×
-    ((spec_of c l (home_epoch s)).r ≤ how_many (λ n. may_be_lost l (home_epoch s) (node_at w.state n) && has_told w (says_settled s) l y.ballot n) (set_at c l (home_epoch s)))
+-- as many nodes as the log has copies are lost that had answered the number to the closing plan: each in its plain state, which a crash leaves where the record that the node writes is lost.
+-- It doesn't hold that each of them is lost in both states that a crash leaves, nor in the one that a load would find: a lost node that crashes in the record that it is rebuilt is not lost after this record.
+-- With three nodes and two copies: nodes 1 and 3 have a record; node 3 is wiped and gets it back from node 1, which is wiped then; a reader hears that node 3 is lost, which crashes in that record, at the third writing call, with a picture of the open gate.
+-- The reader hears that node 1 is lost, and asks both once more. A load of node 3 would find it rebuilt now; it crashes in its next load with a picture of the closed gate, loads, is found lost, and says so under the generation that was held for it, as does node 1.
+-- So the number is called lost, and one node alone had been lost in both states, and in the state that a load would find (the run is `torn_later` in ld_rows).
+abbrev pub CopiesAreLost : Config → World → ℕ → ℕ → Type 0
+CopiesAreLost c w l s = (y : Summary) × Closed w l (home_epoch s) y ×
+    ((spec_of c l (home_epoch s)).r ≤ how_many (λ n. is_lost_at l (home_epoch s) (node_at w.state n) && has_told w (says_settled s) l y.ballot n) (set_at c l (home_epoch s)))
 
 -- that holds where the reader asks once more for a number that it then calls lost
 abbrev pub CopiesWereLost : Type 0
 CopiesWereLost = (c : Config) (name : List ℕ) (l s round : ℕ) (before : List Event) (asks : Event) (between : List Event) (gives : Event) → IsInBounds c →
-    EndsAsLoss c name l s round before asks between gives → CopiesMayBeLost c (next_world c (world_after c (begin c) before) asks) l s
+    EndsAsLoss c name l s round before asks between gives → CopiesAreLost c (next_world c (world_after c (begin c) before) asks) l s

@@ -159,7 +159,7 @@ pub fn lost_once()
     ensures { LostOnce }
 {}
 
-/// When a reader asks once more for a number that it then calls lost, each node of the log may be lost for its epoch and stands lost in the lines, or had shown the reader a clean page without the number.
+/// When a reader asks once more for a number that it then calls lost, each node of the log is lost for its epoch, in its plain state and in the lines, or had shown the reader a clean page without the number.
 pub fn losses_were_seen()
     ensures { LossesWereSeen }
 {}
@@ -169,7 +169,7 @@ pub fn losses_happened()
     ensures { (c : Config) (es : List Event) → IsInBounds c → LossesHappened c (history c es) }
 {}
 
-/// When a reader asks once more for a number that it then calls lost, the number's epoch is closed, and as many nodes as the log has copies may be lost for it of those that settled the number for the closing plan.
+/// When a reader asks once more for a number that it then calls lost, the number's epoch is closed, and of the nodes that settled the number for the closing plan as many as the log has copies are lost for it, each in its plain state: before a record that was cut short, where there is one.
 pub fn copies_were_lost()
     ensures { CopiesWereLost }
 {}
