@@ -1,5 +1,5 @@
 -- What holds of every state of a run, beside the steps so far and the book of plans.
-use Rattle.std.specs.Prelude.{ℕ, ◌≡◌, ◌≤◌, ◌<◌, ◌⊎◌, ◌+◌, List, [], ◌∷◌, Some, true, false}
+use Rattle.std.specs.Prelude.{ℕ, ◌≡◌, ◌≤◌, ◌<◌, ◌⊎◌, ◌+◌, List, [], ◌∷◌, map, Some, true, false}
 use Rattle.ld_table.specs.Table.{find}
 use Rattle.ld_table.specs.Words.{how_many}
 use Rattle.ld_lsn.specs.Number.{epoch_of, esn_of, numbered, home_epoch}
@@ -16,15 +16,15 @@ use Rattle.ld_msg.specs.declared.msg.Body.TheVariants as bodies
 use Rattle.ld_msg.specs.Bounds.{ballot_of}
 use Rattle.ld_msg.specs.Digest.{Told, plan_end}
 use Rattle.ld_msg.specs.Reading.{Held}
-use Rattle.ld_msg.specs.Reader.{Reader}
+use Rattle.ld_msg.specs.Reader.{Reader, Confirmation}
 use Rattle.ld_op.specs.Plain.{Plain, log_of, is_lost}
 use Rattle.ld_op.specs.Ticks.{missing}
 use Rattle.ld_config.specs.declared.config.Config.{Config}
 use Rattle.ld_msg.specs.Register.{epochs_of, generation_of, lce_of}
-use Rattle.ld_msg.specs.Sequencer.{Sequencer, Recovery, Seals}
+use Rattle.ld_msg.specs.Sequencer.{Sequencer, Recovery, Stage, Seals, Stores, Closes, Planned, Append}
 use Rattle.ld_machine.specs.State.{node_at}
 use Rattle.ld_machine.specs.Facts.{Happened, Writes, Appends, Acks, Issues}
-use Rattle.ld_machine.specs.World.{World, In, Sent, Stored, from_node, to_node_of, has_told, says_settled, chosen, settled, is_made, HasPlan, item, plan_trim, MayHold, Unserved, Holds}
+use Rattle.ld_machine.specs.World.{World, Made, In, Sent, Stored, from_node, to_node_of, has_told, says_settled, chosen, settled, is_made, HasPlan, item, plan_trim, MayHold, Unserved, Holds}
 
 -- every plain state that some node may hold
 abbrev pub AtNodes : World → (ℕ → Plain → Type 0) → Type 0
@@ -55,8 +55,10 @@ generations_in (bodies.LostHere n round g end) = g ∷ []
 generations_in _ = []
 
 abbrev pub trims_in : Body → List ℕ
+trims_in (bodies.CleanHere n y) = y.trim ∷ []
 trims_in (bodies.TrimmedHere n t) = t ∷ []
 trims_in (bodies.DigestPage n upto t lng es) = t ∷ []
+trims_in (bodies.Clean e y) = y.trim ∷ []
 trims_in (bodies.Trim t) = t ∷ []
 trims_in (bodies.ReadTrim round n t) = t ∷ []
 trims_in _ = []
@@ -65,6 +67,19 @@ abbrev pub released_in : Body → List ℕ
 released_in (bodies.Release r) = r ∷ []
 released_in (bodies.ReadWait round n r) = r ∷ []
 released_in _ = []
+
+-- ---- what stands in a recovery ----
+
+-- the trims that nodes told, that of the plan that is stored, that of the summary to close with
+abbrev pub trims_of : Stage → List ℕ
+trims_of (Seals ts) = map (λ t. t.trim) ts
+trims_of (Stores g) = g.trim ∷ []
+trims_of (Closes y) = y.trim ∷ []
+
+-- what a plan that is stored says of its numbers
+abbrev pub planned_in : Stage → List (ℕ × Planned)
+planned_in (Stores g) = g.items
+planned_in _ = []
 
 -- ---- what was handed out ----
 
@@ -80,6 +95,7 @@ pub record SequencersDrawn (w : World) : Type 0 where
 pub record GenerationsDrawn (hs : List Happened) (w : World) : Type 0 where
   pub at_nodes : AtNodes w (λ y p. p.generation ≤ generation_of w.state.register y)
   pub in_messages : (m : Msg) (y g : ℕ) → Sent w m → m.from ≡ whos.Node y → In g (generations_in m.body) → g ≤ generation_of w.state.register y
+  pub in_confirmations : (d : List ℕ × Reader) (v : Confirmation) (y g : ℕ) → In d w.state.readers → d.1.confirming ≡ Some v → In {X = ℕ × ℕ} (y, g) v.asked → g ≤ generation_of w.state.register y
   pub once : (n g j k : ℕ) → Writes hs j (lines.NodeFormatted n g) → Writes hs k (lines.NodeFormatted n g) → j ≡ k
 
 -- an entry's epoch and ballot were handed out
@@ -102,7 +118,7 @@ Closed w l e y = find e (epochs_of w.state.register l).summaries ≡ Some y
 abbrev pub IsOpen : World → ℕ → ℕ → Type 0
 IsOpen w l e = lce_of w.state.register l < e
 
--- each summary anywhere is the register's, and its ballot was handed out
+-- each summary at a node or in a message is the register's, and its ballot was handed out
 pub record SummariesAgree (w : World) : Type 0 where
   pub at_nodes : AtNodes w (λ y p. (l e : ℕ) (s : Summary) → find e (log_of p l).summaries ≡ Some s → Closed w l e s)
   pub in_cleans : (l b y e : ℕ) (s : Summary) → Sent w (to_node_of l b y (bodies.Clean e s)) → Closed w l e s
@@ -118,6 +134,8 @@ pub record TrimsIssued (hs : List Happened) (w : World) : Type 0 where
   pub at_nodes : AtNodes w (λ y p. (l : ℕ) → IsTrim hs l (log_of p l).trim)
   pub in_summaries : (l e : ℕ) (s : Summary) → Closed w l e s → IsTrim hs l s.trim
   pub in_messages : (m : Msg) (t : ℕ) → Sent w m → In t (trims_in m.body) → IsTrim hs m.log t
+  pub in_recoveries : (q : List ℕ × Sequencer) (v : Recovery) (t : ℕ) → In q w.state.sequencers → q.1.recovery ≡ Some v → In t (trims_of v.stage) → IsTrim hs q.1.log t
+  pub in_plans : (m : Made) (d : Told) → In m w.made → In d m.digest → IsTrim hs m.log d.trim
 
 -- while an epoch is open, a point in it has only acknowledged numbers up to it
 abbrev pub OpenTrims : List Happened → World → Type 0
@@ -153,10 +171,14 @@ pub record IsItem (hs : List Happened) (w : World) (l : ℕ) (e : Entry) : Type 
   pub item : item w l e.number e.ballot ≡ Some e.what
   pub appended : (p : List ℕ) → e.what ≡ Rec p → (k : ℕ) × Appends hs l e.number p k
 
--- each entry at a node, in a store or in a page
+-- each entry at a node, in a store or in a page; each item of a plan that is stored, and each append that waits
 pub record EntriesAreItems (hs : List Happened) (w : World) : Type 0 where
   pub at_nodes : AtNodes w (λ y p. (l n : ℕ) (e : Entry) → find n (log_of p l).entries ≡ Some e → (e.number ≡ n) × IsItem hs w l e)
   pub in_messages : (m : Msg) (e : Entry) → Sent w m → In e (entries_of m.from m.body) → IsItem hs w m.log e
+  pub in_plans : (q : List ℕ × Sequencer) (v : Recovery) (i : ℕ × Planned) → In q w.state.sequencers → q.1.recovery ≡ Some v → In i (planned_in v.stage) →
+      IsItem hs w q.1.log (record { number = i.0; ballot = q.1.epoch; what = i.1.what })
+  pub in_appends : (q : List ℕ × Sequencer) (p : ℕ × Append) → In q w.state.sequencers → In p q.1.appends →
+      IsItem hs w q.1.log (record { number = p.0; ballot = q.1.epoch; what = Rec p.1.payload })
 
 -- ---- what was stored stays ----
 

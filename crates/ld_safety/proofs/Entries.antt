@@ -14,10 +14,11 @@ use Rattle.ld_msg.specs.declared.msg.Msg.{Msg}
 use Rattle.ld_msg.specs.declared.msg.Body.{Body}
 use Rattle.ld_msg.specs.declared.msg.Body.TheVariants as bodies
 use Rattle.ld_msg.specs.Digest.{Told, plan_item}
+use Rattle.ld_msg.specs.Sequencer.{Sequencer, Recovery, Stage, Seals, Stores, Closes, Planned}
 use Rattle.ld_op.specs.Plain.{log_of, is_lost, summary_at, epoch_zero}
 use Rattle.ld_machine.specs.Facts.{Happened}
 use Rattle.ld_machine.specs.World.{World, In, Stored, begin, item, append_in, what_sent, stored_what, stores_at, is_sequencer, digest_in, item_in, to_node_of}
-use Rattle.ld_machine.specs.Invariant.{EntriesAreItems, IsItem, IsOpen, Acked, CopyAt, Copies, HoldsItem}
+use Rattle.ld_machine.specs.Invariant.{EntriesAreItems, IsItem, planned_in, IsOpen, Acked, CopyAt, Copies, HoldsItem}
 use Rattle.ld_machine.specs.Run.{world_after, trace}
 use Rattle.ld_safety.proofs.Lists.{Some_inj, not_both, branch, cond_both}
 use Rattle.ld_safety.proofs.Members.{find_in}
@@ -26,7 +27,9 @@ use Rattle.ld_safety.proofs.Plans.{plan_shape, end_above_trim}
 use Rattle.ld_safety.proofs.Given.{AppendedBy}
 use Rattle.ld_safety.proofs.GivenSteps.{BaseGiven}
 use Rattle.ld_safety.proofs.Protocol.{plan_of, Says, Ends}
-use Rattle.ld_safety.proofs.Settled.{Acknowledged, close_low}
+use Rattle.ld_safety.proofs.Settled.{Acknowledged, Reached, TrimFine, CloseFine, ShowFine, ReleaseFine, close_low}
+use Rattle.ld_safety.proofs.Carried as carried
+use Rattle.ld_safety.proofs.Names.{found}
 use Rattle.ld_safety.proofs.Said.{Said}
 use Rattle.ld_safety.proofs.Shown.{acked_item}
 use Rattle.ld_safety.proofs.Along.{Along, PlainSaid}
@@ -76,10 +79,25 @@ module _ (c : Config) (hs : List Happened) (w : World) (B : BaseGiven c hs w × 
   is_item : (l : ℕ) (e : Entry) → Said hs w.made w.state.register l e.ballot e.number e.what → IsItem hs w l e
   is_item l e s = record { item = item_says l e.number e.ballot e.what s.says; appended = s.given.appended }
 
+  said_of : (q : List ℕ × Sequencer) → In q w.state.sequencers → carried.SequencerOk (Said hs w.made w.state.register) (TrimFine c hs w.state.network.sent w.state.register) (CloseFine c hs w.made w.state.network.sent w.state.register) (Reached w.state.register) (ShowFine c hs w.made w.state.network.sent w.state.register) (ReleaseFine c hs w.state.network.sent w.state.register) q.0 q.1
+  said_of q i = B.1.said.sequencers q.0 q.1 (found w.state.sequencers q B.0.0.0.0.0 i)
+
+  stage_said : (l b e : ℕ) (g : Stage) (i : ℕ × Planned) → carried.StageOk (Said hs w.made w.state.register) (TrimFine c hs w.state.network.sent w.state.register) (CloseFine c hs w.made w.state.network.sent w.state.register) (Reached w.state.register) (ShowFine c hs w.made w.state.network.sent w.state.register) (ReleaseFine c hs w.state.network.sent w.state.register) l b e g
+      → In i (planned_in g) → Said hs w.made w.state.register l b i.0 i.1.what
+  stage_said l b e (Seals ts) i h j = absurd j
+  stage_said l b e (Stores g) i h j = h.1 i j
+  stage_said l b e (Closes y) i h j = absurd j
+
+  plan_said : (q : List ℕ × Sequencer) (v : Recovery) (i : ℕ × Planned) → In q w.state.sequencers → q.1.recovery ≡ Some v → In i (planned_in v.stage) → IsItem hs w q.1.log (record { number = i.0; ballot = q.1.epoch; what = i.1.what })
+  plan_said q v i k r j = is_item q.1.log (record { number = i.0; ballot = q.1.epoch; what = i.1.what }) (stage_said q.1.log q.1.epoch v.epoch v.stage i
+      (subst (carried.RecoveryOk (Said hs w.made w.state.register) (TrimFine c hs w.state.network.sent w.state.register) (CloseFine c hs w.made w.state.network.sent w.state.register) (Reached w.state.register) (ShowFine c hs w.made w.state.network.sent w.state.register) (ReleaseFine c hs w.state.network.sent w.state.register) q.1.log q.1.epoch) r (said_of q k).recovery).1 j)
+
   pub entries_here : HandedOut w → EntriesAreItems hs w
   entries_here H = record {
     at_nodes = λ y p m l n e f. let z = (said_at c hs w B y p m l).entries (n, e) (find_in n (log_of p l).entries e f) in (z.0, is_item l e z.1);
     in_messages = λ m e i j. is_item m.log e (said_in c hs w B H m e m.body (B.1.said.sent m i) j);
+    in_plans = plan_said;
+    in_appends = λ q p i j. is_item q.1.log (record { number = p.0; ballot = q.1.epoch; what = Rec p.1.payload }) ((said_of q i).appends p j);
   }
 
   -- ---- copies in open epochs ----

@@ -32,6 +32,14 @@ use Rattle.ld_safety.proofs.Formats.{FormatsOnce, formats_kept}
 use Rattle.ld_safety.proofs.Handed.{HandedOut, handed_kept}
 use Rattle.ld_safety.proofs.LostFullKept.{AllFull, full_kept}
 use Rattle.ld_safety.proofs.LostJoined.{said_at}
+use Rattle.ld_safety.proofs.LostMoments.{Moments, moments_kept, confirmed_drawn}
+use Rattle.ld_safety.proofs.Names.{found}
+
+abbrev AnyState : List Happened → World → Type 0
+AnyState hs w = Unit {0}
+
+any_kept : (c : Config) → Keeps c AnyState
+any_kept c = record { begins = tt; goes_on = λ hs w e p. tt }
 
 module _ (c : Config) (hs : List Happened) (w : World) (B : BaseGiven c hs w × Along c hs w) (H : HandedOut w) where
   -- ---- generations ----
@@ -39,8 +47,13 @@ module _ (c : Config) (hs : List Happened) (w : World) (B : BaseGiven c hs w × 
   lost_told y g m (bodies.LostHere n u k end) i f q j = (H.messages m i).generation y n u g end f (q ∙ ap (λ x. bodies.LostHere n u x end) (sym (only g k j)))
   lost_told y g m _ i f q j = absurd j
 
-  pub generations_here : FormatsOnce hs w → GenerationsDrawn hs w
-  generations_here F = record { at_nodes = λ y p m. H.generations y p m; in_messages = λ m y g i f j. lost_told y g m m.body i f refl j; once = F.once }
+  pub generations_here : FormatsOnce hs w → Moments c AnyState hs w → GenerationsDrawn hs w
+  generations_here F M = record {
+    at_nodes = λ y p m. H.generations y p m;
+    in_messages = λ m y g i f j. lost_told y g m m.body i f refl j;
+    in_confirmations = λ d v y g i f j. confirmed_drawn c AnyState hs w M d.0 d.1 v y g (found w.state.readers d B.0.0.0.0.1 i) f j;
+    once = F.once;
+  }
 
   -- ---- ballots ----
   pub entry_drawn : (l : ℕ) (e : Entry) → Said hs w.made w.state.register l e.ballot e.number e.what → EntryDrawn w l e
@@ -119,7 +132,10 @@ handing : (c : Config) (es : List Event) → Handing c (trace c (begin c) es) (w
 handing c es = later c (Handing c) (handing_kept c) [] (begin c) es (handing_kept c).begins
 
 pub generations_are_drawn_once : (c : Config) (es : List Event) → GenerationsDrawn (trace c (begin c) es) (world_after c (begin c) es)
-generations_are_drawn_once c es = let p = handing c es in generations_here c (trace c (begin c) es) (world_after c (begin c) es) p.0.0.0.0 p.0.0.0.1 p.0.0.1.1
+generations_are_drawn_once c es =
+    let p = handing c es in
+    let K = moments_kept c AnyState (any_kept c) in
+    generations_here c (trace c (begin c) es) (world_after c (begin c) es) p.0.0.0.0 p.0.0.0.1 p.0.0.1.1 (later c (Moments c AnyState) K [] (begin c) es K.begins)
 
 pub ballots_were_drawn : (c : Config) (es : List Event) → BallotsDrawn (world_after c (begin c) es)
 ballots_were_drawn c es = let p = handing c es in ballots_here c (trace c (begin c) es) (world_after c (begin c) es) p.0.0.0.0 p.0.0.0.1

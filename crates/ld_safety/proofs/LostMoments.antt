@@ -1,5 +1,5 @@
 -- Each line that calls a number lost had a moment: the end of the step that sent the confirming asks. Each node of the log was lost then, or the reader held a clean page of it that lacks the number.
-use Rattle.std.proofs.Common.{◌≡◌, ◌∙◌, ◌⊎◌, ◌<◌, ℕ, ◌+◌, inl, inr, refl, ap, sym, subst, true, List, [], ◌∷◌, ◌++◌, length, Option, Some, None, append_assoc, append-nil, length-append, arith}
+use Rattle.std.proofs.Common.{◌≡◌, ◌∙◌, ◌⊎◌, ◌≤◌, ◌<◌, ℕ, ◌+◌, inl, inr, refl, ap, sym, subst, true, List, [], ◌∷◌, ◌++◌, length, Option, Some, None, append_assoc, append-nil, length-append, arith}
 use Rattle.std.proofs.lemmas.Bool.{and_parts, or_cases}
 use Rattle.ld_table.specs.Table.{find}
 use Rattle.ld_table.specs.Named.{find_named}
@@ -12,6 +12,7 @@ use Rattle.ld_transcript.specs.declared.line.GapKind.TheVariants as gaps
 use Rattle.ld_msg.specs.Reading.{Held, is_loss, leaves_open, lacks, is_lost_for, lost_held, knows_end_above}
 use Rattle.ld_msg.specs.Reader.{Reader, Confirmation, heard, is_confirmed}
 use Rattle.ld_msg.specs.declared.msg.Body.{Body}
+use Rattle.ld_msg.specs.Register.{generation_of}
 use Rattle.ld_machine.specs.Config.{set_of}
 use Rattle.ld_machine.specs.State.{node_at}
 use Rattle.ld_machine.specs.Facts.{Happened, Writes}
@@ -27,7 +28,7 @@ use Rattle.ld_safety.proofs.LostReads.{heard_lasts}
 use Rattle.ld_safety.proofs.LostRounds.{AtMost, answer_to}
 use Rattle.ld_safety.proofs.LostAlong.{Asked, asked_kept}
 use Rattle.ld_safety.proofs.LostSince.{Since, since_step}
-use Rattle.ld_safety.proofs.LostBegins.{StillThere, NewHere, came, since_new}
+use Rattle.ld_safety.proofs.LostBegins.{StillThere, NewHere, lost_in, came, since_new}
 use Rattle.ld_safety.proofs.LostLines.{LossGiven, losses_given, among_lost, confirmed_lost}
 
 -- Q is whatever else is known of each state of the run
@@ -115,6 +116,17 @@ module _ (c : Config) (Q : List Happened → World → Type 0) where
 
   pub moments_kept : Keeps c Q → Keeps c Moments
   moments_kept K = beside_kept c Known AllBegan (both_kept c (Asked c) Q (asked_kept c) K) start_began (λ hs w e a b g. began_step hs w e a b g)
+
+  -- the nodes that are asked once more said that they are lost, under a generation that was drawn
+  pub confirmed_drawn : (hs : List Happened) (w : World) → Moments hs w → (t : List ℕ) (d : Reader) (v : Confirmation) (y g : ℕ) → find_named t w.state.readers ≡ Some d → d.confirming ≡ Some v → In {X = ℕ × ℕ} (y, g) v.asked → g ≤ generation_of w.state.register y
+  confirmed_drawn hs w M t d v y g f h i =
+      let b = M.1 t d v f h in
+      let R = b.holds.0.1.1 in
+      let o = lost_in d.next y g b.reader.held (subst (λ (k : List (ℕ × ℕ)). In {X = ℕ × ℕ} (y, g) k) b.asked_held i) in
+      let then_drawn : g ≤ generation_of b.then.state.register y = subst (λ z. g ≤ generation_of b.then.state.register z) o.node
+      (R.generations (answer_to o.answer.0 b.reader o.answer.1.body) b.reader.number o.number o.round g o.end (R.held b.name b.reader o.answer b.named o.there) refl o.is) in
+      let later = b.since.back.generations y in
+      omega (arith, then_drawn, later)
 
   -- ---- a number that is called lost ----
 

@@ -1,5 +1,5 @@
 -- A node that was rebuilt isn't lost again, and isn't rebuilt again, before it is wiped.
-use Rattle.std.proofs.Common.{◌≡◌, ◌∙◌, ◌⊎◌, ◌<◌, ℕ, inl, inr, refl, ap, sym, subst, Bool, true, false, ◌||◌, nat_lt, cond, if◌then◌else◌, List, [], ◌∷◌, ◌++◌, length, Option, Some, None, arith}
+use Rattle.std.proofs.Common.{◌≡◌, ◌∙◌, ◌⊎◌, ◌<◌, ℕ, zero, suc, inl, inr, refl, ap, sym, subst, Bool, true, false, ◌||◌, nat_lt, cond, if◌then◌else◌, List, [], ◌∷◌, ◌++◌, length, Option, Some, None, arith}
 use Rattle.std.specs.Option.{unwrap_or}
 use Rattle.ld_table.specs.Table.{find}
 use Rattle.ld_table.specs.Words.{is_in}
@@ -22,13 +22,14 @@ use Rattle.ld_machine.specs.Config.{spec_in, set_of}
 use Rattle.ld_machine.specs.Disk.{Node, Cut, new_node, keep_op, keep_end, load, Kept, Written, DiskFailed, Crashed, JournalFull, is_blank, is_up}
 use Rattle.ld_machine.specs.State.{State, Done, finish, node_at, with_node, with_register, with_line}
 use Rattle.ld_machine.specs.Facts.{Happened, Writes, Lost, standing, stands_for}
-use Rattle.ld_machine.specs.World.{World, In, begin, MayHold}
+use Rattle.ld_machine.specs.World.{World, In, begin}
 use Rattle.ld_machine.specs.Invariant.{LostOnce}
 use Rattle.ld_machine.specs.Run.{next_world, world_after, trace}
 use Rattle.ld_machine.specs.Step as Step
 use Rattle.std.proofs.lemmas.Bool.{cases_Bool}
-use Rattle.ld_safety.specs.Lost.{cut_may, may_be_lost}
-use Rattle.ld_safety.proofs.Lists.{not_none, not_both, In-append, slice_get_below, slice_get_last, slice_get-In}
+use Rattle.ld_safety.specs.Lost.{cut_may, may_be_lost, WholeStays}
+use Rattle.ld_safety.specs.Lost.{IsWhole as Whole}
+use Rattle.ld_safety.proofs.Lists.{Some_inj, not_none, not_both, In-append, In-slice_get, slice_get_below, slice_get_last, slice_get-In}
 use Rattle.ld_safety.proofs.Traces.{Keeps, happened, later, beside_kept, both_kept}
 use Rattle.ld_safety.proofs.Steps.{writes_cases, writes_before, finish_In}
 use Rattle.ld_safety.proofs.Lines.{Group, OfNodes, OfActs, OfItems, AllOf, acted_of, items_of, line_of}
@@ -43,10 +44,6 @@ use Rattle.ld_safety.proofs.LostFullKept.{AllFull, full_kept}
 use Rattle.ld_safety.proofs.Along.{Along}
 use Rattle.ld_safety.proofs.AlongSteps.{along_kept}
 use Rattle.ld_safety.proofs.Holding.{full_here}
-
--- formatted, and not lost for the log, in each plain state that a load may find
-abbrev pub Whole : ℕ → Node → Type 0
-Whole l x = (p : Plain) → MayHold x p → (0 < p.generation) × ((log_of p l).lost ≡ false)
 
 -- a node that is blank is unformatted
 abbrev pub BlankFine : Node → Type 0
@@ -333,6 +330,34 @@ lost_once_here c hs w R = record {
 
 pub rebuilt_once : (c : Config) (es : List Event) → LostOnce (trace c (begin c) es) (world_after c (begin c) es)
 rebuilt_once c es = lost_once_here c (trace c (begin c) es) (world_after c (begin c) es) (later c (Rebuilding c) (rebuilding_kept c) [] (begin c) es (rebuilding_kept c).begins)
+
+-- ---- whole from a moment on ----
+first_line : (h : Happened) (hs : List Happened) (x : Line) → In x h.lines → Writes (h ∷ hs) 0 x
+first_line h hs x i = let y = slice_get-In _ _ i in (h, refl, y.0, y.1)
+
+next_line : (h : Happened) (hs : List Happened) (k : ℕ) (x : Line) → Writes hs k x → Writes (h ∷ hs) (suc k) x
+next_line h hs k x v = v
+
+whole_on : (c : Config) (hs : List Happened) (w : World) (es : List Event) (y l : ℕ) → Rebuilding c hs w → is_in y (set_of c l) ≡ true → Whole l (node_at w.state y) → ((k : ℕ) → Writes (trace c w es) k (lines.NodeWiped y) → ⊥)
+    → Whole l (node_at (world_after c w es).state y) × ((k : ℕ) → Writes (trace c w es) k (lines.NodeRebuilt y l) → ⊥)
+unfolding world_after finish
+whole_on c hs w [] y l R i W n = (W, λ k x. absurd (not_none x.1))
+whole_on c hs w (e ∷ es) y l R i W n =
+    let N = R.0.0.0.0.0.0.0 in
+    let U = R.0.0.0.1.ups in
+    let K : (z k : ℕ) → is_in z (set_of c k) ≡ true → BlankFine (node_at w.state z) = λ z k v h. ((R.0.0.1.1.1 z k v).idle h).0 in
+    elim (still_whole c hs w e N U K R.1 y l i W) [
+      | inl a ↦ absurd (n 0 (first_line (happened c w.state e) (trace c (next_world c w e) es) (lines.NodeWiped y) (finish_In (Step.happens c w.state e) _ a)))
+      | inr a ↦ let rest = whole_on c (hs ++ happened c w.state e ∷ []) (next_world c w e) es y l ((rebuilding_kept c).goes_on hs w e R) i a (λ k x. n (suc k) (next_line (happened c w.state e) (trace c (next_world c w e) es) k _ x)) in
+          (rest.0, no_line rest.1)
+    ] where
+      no_line : ((k : ℕ) → Writes (trace c (next_world c w e) es) k (lines.NodeRebuilt y l) → ⊥) → (k : ℕ) → Writes (trace c w (e ∷ es)) k (lines.NodeRebuilt y l) → ⊥
+      no_line r zero x = let z = rebuilds_now c hs w e R.0.0.0.0.0.0.0 R.0.0.0.1.ups (λ z k v h. ((R.0.0.1.1.1 z k v).idle h).0) R.1 y l (subst (λ (h : Happened). In (lines.NodeRebuilt y l) h.lines) (Some_inj (sym x.1)) (In-slice_get _ _ x.2 x.3)) in
+          not_both (log_of (node_at w.state y).plain l).lost z.1 (W (node_at w.state y).plain (inl refl)).1
+      no_line r (suc k) x = r k x
+
+pub whole_stays : WholeStays
+whole_stays c first last y l b i W n = whole_on c (trace c (begin c) first) (world_after c (begin c) first) last y l (later c (Rebuilding c) (rebuilding_kept c) [] (begin c) first (rebuilding_kept c).begins) i W n
 
 -- ---- lost in the lines ----
 lost_cut : (l e : ℕ) (o : Option Cut) → cut_may l e o ≡ true → (k : Cut) × (o ≡ Some k) × (is_lost (log_of k.plain l) e ≡ true)

@@ -1,5 +1,5 @@
 -- Nodes that are lost, and those that may be: where a crash left two states that a load may find, in one of them.
-use Rattle.std.specs.Prelude.{ℕ, ◌≡◌, ◌≤◌, ◌⊎◌, List, [], ◌∷◌, ◌++◌, Option, Some, None, Bool, true, false, ◌&&◌, ◌||◌}
+use Rattle.std.specs.Prelude.{ℕ, ◌≡◌, ◌≤◌, ◌<◌, ◌⊎◌, List, [], ◌∷◌, ◌++◌, Option, Some, None, Bool, true, false, ◌&&◌, ◌||◌}
 use Rattle.ld_table.specs.Table.{find}
 use Rattle.ld_table.specs.Named.{find_named}
 use Rattle.ld_table.specs.Words.{is_in, how_many}
@@ -7,14 +7,15 @@ use Rattle.ld_lsn.specs.Number.{home_epoch}
 use Rattle.ld_config.specs.declared.config.Config.{Config}
 use Rattle.ld_config.specs.Bounds.{IsInBounds}
 use Rattle.ld_schedule.specs.declared.event.Event.{Event}
+use Rattle.ld_transcript.specs.declared.line.Line.TheVariants as lines
 use Rattle.ld_msg.specs.declared.msg.Summary.{Summary}
 use Rattle.ld_msg.specs.Reading.{Held, lacks}
 use Rattle.ld_msg.specs.Reader.{Reader}
 use Rattle.ld_op.specs.Plain.{Plain, log_of, is_lost}
-use Rattle.ld_machine.specs.Config.{spec_of, set_at}
+use Rattle.ld_machine.specs.Config.{spec_of, set_at, set_of}
 use Rattle.ld_machine.specs.Disk.{Node, Cut}
 use Rattle.ld_machine.specs.State.{node_at}
-use Rattle.ld_machine.specs.Facts.{Lost, standing, stands_for}
+use Rattle.ld_machine.specs.Facts.{Writes, Lost, standing, stands_for}
 use Rattle.ld_machine.specs.World.{World, begin, MayHold, has_told, says_settled}
 use Rattle.ld_machine.specs.Run.{next_world, world_after, happened, trace}
 use Rattle.ld_machine.specs.Invariant.{Closed}
@@ -32,6 +33,19 @@ LostOnce = (c : Config) (first between last : List Event) (y l e g : ℕ) → Is
     LostUnder (node_at (world_after c (begin c) first).state y) l e g →
     LostUnder (node_at (world_after c (world_after c (world_after c (begin c) first) between) last).state y) l e g →
     LostUnder (node_at (world_after c (world_after c (begin c) first) between).state y) l e g
+
+-- ---- rebuilt ----
+
+-- formatted, and not lost for the log, in each plain state that a load may find
+abbrev pub IsWhole : ℕ → Node → Type 0
+IsWhole l x = (p : Plain) → MayHold x p → (0 < p.generation) × ((log_of p l).lost ≡ false)
+
+-- a node that is so stays so, and no line says that it is rebuilt, until a line says that it is wiped: also where a crash hid the record that it is rebuilt, so that no line told of it, and a load found it
+abbrev pub WholeStays : Type 0
+WholeStays = (c : Config) (first last : List Event) (y l : ℕ) → IsInBounds c → is_in y (set_of c l) ≡ true →
+    IsWhole l (node_at (world_after c (begin c) first).state y) →
+    ((k : ℕ) → Writes (trace c (world_after c (begin c) first) last) k (lines.NodeWiped y) → ⊥) →
+    IsWhole l (node_at (world_after c (world_after c (begin c) first) last).state y) × ((k : ℕ) → Writes (trace c (world_after c (begin c) first) last) k (lines.NodeRebuilt y l) → ⊥)
 
 -- ---- when the confirming asks are sent ----
 

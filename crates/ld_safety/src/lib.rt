@@ -18,7 +18,7 @@ ghost use Rattle.ld_machine.specs.Facts.{Lost, Writes, standing, stands_for};
 ghost use Rattle.ld_machine.specs.World.{MayHold, Stored, begin, chosen};
 ghost use Rattle.ld_machine.specs.Run.{InvariantHolds, history, trace, world_after};
 ghost use Rattle.ld_machine.specs.Invariant.{Acked, Agrees, BallotsDrawn, Closed, CopiesOf, CopyAt, EntriesAreItems, GenerationsDrawn, HeldWasSent, IsOpen, OnePlan, OpenTrims, ReleasesAcked, Retains, SealsHold, SequencersDrawn, StandsOn, SummariesAgree, TrimsIssued};
-ghost use Rattle.ld_safety.specs.Lost.{CopiesWereLost, LossesWereSeen, LostOnce, may_be_lost};
+ghost use Rattle.ld_safety.specs.Lost.{CopiesWereLost, LossesWereSeen, LostOnce, WholeStays, may_be_lost};
 ghost use Rattle.ld_safety.specs.OneRun.{LinesAreTheSteps, StepsAreTheTrace};
 
 /// But for `none`, the lines of a run's steps are those of its transcript.
@@ -86,7 +86,7 @@ pub fn epochs_are_drawn_once()
     ensures { (c : Config) (es : List Event) → IsInBounds c → SequencersDrawn (world_after c (begin c) es) }
 {}
 
-/// In every state, each generation at a node and in what a node says was handed out to that node, and no two formats of a node have the same.
+/// In every state, each generation at a node, in what a node says and in what a reader asks it once more for was handed out to that node, and no two formats of a node have the same.
 pub fn generations_are_drawn_once()
     ensures { (c : Config) (es : List Event) → IsInBounds c → GenerationsDrawn (trace c (begin c) es) (world_after c (begin c) es) }
 {}
@@ -111,12 +111,12 @@ pub fn plans_are_made_once()
     ensures { (c : Config) (es : List Event) → IsInBounds c → OnePlan (world_after c (begin c) es) }
 {}
 
-/// In every state, each trim at a node, in a summary of the register or in a message is none, or a point that was issued for the log.
+/// In every state, each trim at a node, in a summary, in a message, in a recovery's digest, plan or summary, and in a digest that a plan was made from is none, or a point that was issued for the log.
 pub fn trims_are_issued_points()
     ensures { (c : Config) (es : List Event) → IsInBounds c → TrimsIssued (trace c (begin c) es) (world_after c (begin c) es) }
 {}
 
-/// In every state, each entry at a node, in a store or in a page says what its ballot says of its number, and a record is the payload that was appended under it.
+/// In every state, each entry at a node, in a store or in a page, each item of a plan that is stored and each append that waits says what its ballot says of its number, and a record is the payload that was appended under it.
 pub fn entries_are_items()
     ensures { (c : Config) (es : List Event) → IsInBounds c → EntriesAreItems (trace c (begin c) es) (world_after c (begin c) es) }
 {}
@@ -142,11 +142,12 @@ pub fn acknowledged_copies_stand()
     ensures kept { (c : Config) (es : List Event) → IsInBounds c → (l n y : ℕ) → IsOpen (world_after c (begin c) es) l (epoch_of n) → Acked (trace c (begin c) es) l n → Stored (world_after c (begin c) es) l y n (epoch_of n) → CopyAt (world_after c (begin c) es) l n (epoch_of n) y }
 {}
 
-/// In every state, a log that isn't lost at a node has each number above its trim of the clean epochs that were lost; a node that was rebuilt isn't lost again before it is wiped, nor rebuilt again.
+/// In every state, a log that isn't lost at a node has each number above its trim of the clean epochs that were lost; a node that was rebuilt isn't lost again before it is wiped, nor rebuilt again, and the same holds from any state on in which it isn't lost, also where a crash hid the record that it is rebuilt.
 pub fn rebuilt_once()
     ensures full { (c : Config) (es : List Event) → IsInBounds c → (y l : ℕ) (p : Plain) → MayHold (node_at (world_after c (begin c) es).state y) p → (log_of p l).lost ≡ false → missing (log_of p l) ≡ [] }
     ensures stays { (c : Config) (es : List Event) → IsInBounds c → (n l j : ℕ) → Writes (trace c (begin c) es) j (NodeRebuilt n l) → ((k : ℕ) → Writes (trace c (begin c) es) k (NodeWiped n) → k < j) → (p : Plain) → MayHold (node_at (world_after c (begin c) es).state n) p → (log_of p l).lost ≡ false }
     ensures once { (c : Config) (es : List Event) → IsInBounds c → (n l i j : ℕ) → Writes (trace c (begin c) es) i (NodeRebuilt n l) → Writes (trace c (begin c) es) j (NodeRebuilt n l) → i < j → (k : ℕ) × (i < k) × (k < j) × Writes (trace c (begin c) es) k (NodeWiped n) }
+    ensures hidden { WholeStays }
 {}
 
 /// In every state, a node of a log that may be lost for an epoch stands lost for it in the lines.

@@ -9,3 +9,6 @@ returns-clause-stays c = λ k es b. (rebuilt.rebuilt_once k es).stays
 
 pub returns-clause-once : goal.returns-clause-once
 returns-clause-once c = λ k es b. (rebuilt.rebuilt_once k es).once
+
+pub returns-clause-hidden : goal.returns-clause-hidden
+returns-clause-hidden c = rebuilt.whole_stays
