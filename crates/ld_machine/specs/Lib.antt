@@ -8,4 +8,3 @@ pub mod Facts
 pub mod Safe
 pub mod Run
 pub mod Losses
-pub mod Exercise

@@ -1,17 +1,17 @@
 -- The runs, by computation.
 use Rattle.std.specs.Prelude.{◌≡◌, refl, codes, [], ◌∷◌, true, false}
 use Rattle.ld_schedule.specs.declared.event.Picture.TheVariants as pictures
-use Rattle.ld_machine.specs.Exercise.{exercise}
 use Rattle.ld_machine.specs.Run.{transcript}
 use Rattle.ld_ids.specs.Bytes.{hex_text}
 use Rattle.ld_ids.specs.Choice.{choice_at}
 use Rattle.ld_ids.specs.Set.{members_from}
 use Rattle.ld_lsn.specs.Number.{pair_text}
 use Rattle.ld_machine.specs.Disk.{is_found, keep_op, keep_end, load}
-use Rattle.ld_machine.specs.Exercise.{made_event, after_made, drawn_events, summary_line}
 use Rattle.ld_machine.specs.Run.{step, lines_of, state_after}
 use Rattle.ld_machine.specs.State.{finish}
 use Rattle.ld_machine.specs.Step.{delivers, happens}
+use Rattle.ld_maker.specs.Event.{event_of}
+use Rattle.ld_maker.specs.Made.{made_from}
 use Rattle.ld_msg.specs.Digest.{statement, with_page, with_lost, enough, best, digest_trim, top_place, plan_end, plan}
 use Rattle.ld_msg.specs.Network.{message}
 use Rattle.ld_msg.specs.Reader.{on_answer}
@@ -26,9 +26,9 @@ use Rattle.ld_table.specs.Table.{find, put, keep, keep_keys}
 use Rattle.ld_transcript.specs.Text.{kind_text, gap_text, actor_text, line_text}
 use Rattle.hex.specs.Hex.{encode_with}
 use Rattle.std.specs.Fmt.{digits}
-use Rattle.ld_rows.specs.Schedules.{three_nodes, five_nodes, one_append, half_stored, cut_off, trimmed, rebuilt, lost, hole_between, two_recoveries, register_fault, torn_rebuild, torn_rebuild_asked, torn_rebuild_heard}
+use Rattle.ld_rows.specs.Schedules.{three_nodes, five_nodes, one_append, half_stored, cut_off, trimmed, rebuilt, lost, hole_between, two_recoveries, register_fault, torn_rebuild, torn_rebuild_asked, torn_rebuild_heard, torn_later, torn_later_asked}
 use Rattle.ld_rows.specs.Texts.{one_append_text, half_stored_text, cut_off_text, trimmed_text, rebuilt_text, lost_text, hole_between_text, two_recoveries_text, register_fault_text, torn_rebuild_text}
-use Rattle.ld_rows.specs.Told.{told_text, has_loss, kept_by_call, lost_states, asks_again}
+use Rattle.ld_rows.specs.Told.{told_text, made_summary, has_loss, kept_by_call, lost_states, found_lost, asks_again}
 
 pub one_append_is : transcript three_nodes one_append ≡ one_append_text
 unfolding hex_text choice_at members_from pair_text is_found keep_op keep_end load step lines_of finish delivers happens statement with_page with_lost enough best digest_trim top_place plan_end plan message on_answer is_loss decide change activate close draw after_close is_ready on_reply on_retry appending activated store_decision on_store digest_decision on_digest_ask on_clean on_trim on_release read_answer summary_at apply op_length missing is_missing on_page on_tick same find_named put_named find put keep keep_keys kind_text gap_text actor_text line_text encode_with digits
@@ -54,12 +54,12 @@ pub lost_is : told_text three_nodes lost ≡ lost_text
 unfolding hex_text choice_at members_from pair_text is_found keep_op keep_end load step lines_of finish delivers happens statement with_page with_lost enough best digest_trim top_place plan_end plan message on_answer is_loss decide change activate close draw after_close is_ready on_reply on_retry appending activated store_decision on_store digest_decision on_digest_ask on_clean on_trim on_release read_answer summary_at apply op_length missing is_missing on_page on_tick same find_named put_named find put keep keep_keys kind_text gap_text actor_text line_text encode_with digits
 lost_is = refl
 
-pub none_made : exercise 1 0 ≡ codes "events 7 appended 0 acked 0 record 0 trim 0 hole 0 bridge 0 dataloss 0\n"
-unfolding hex_text choice_at members_from pair_text is_found keep_op keep_end load made_event after_made drawn_events summary_line step lines_of finish delivers happens statement with_page with_lost enough best digest_trim top_place plan_end plan message on_answer is_loss decide change activate close draw after_close is_ready on_reply on_retry appending activated store_decision on_store digest_decision on_digest_ask on_clean on_trim on_release read_answer summary_at apply op_length missing is_missing on_page on_tick same find_named put_named find put keep keep_keys kind_text gap_text actor_text line_text encode_with digits
+pub none_made : made_summary 1 0 ≡ codes "events 7 appended 0 acked 0 record 0 trim 0 hole 0 bridge 0 dataloss 0\n"
+unfolding hex_text choice_at members_from pair_text is_found keep_op keep_end load event_of made_from step lines_of finish delivers happens statement with_page with_lost enough best digest_trim top_place plan_end plan message on_answer is_loss decide change activate close draw after_close is_ready on_reply on_retry appending activated store_decision on_store digest_decision on_digest_ask on_clean on_trim on_release read_answer summary_at apply op_length missing is_missing on_page on_tick same find_named put_named find put keep keep_keys kind_text gap_text actor_text line_text encode_with digits
 none_made = refl
 
-pub one_made : exercise 1 1 ≡ codes "events 8 appended 0 acked 0 record 0 trim 0 hole 0 bridge 0 dataloss 0\n"
-unfolding hex_text choice_at members_from pair_text is_found keep_op keep_end load made_event after_made drawn_events summary_line step lines_of finish delivers happens statement with_page with_lost enough best digest_trim top_place plan_end plan message on_answer is_loss decide change activate close draw after_close is_ready on_reply on_retry appending activated store_decision on_store digest_decision on_digest_ask on_clean on_trim on_release read_answer summary_at apply op_length missing is_missing on_page on_tick same find_named put_named find put keep keep_keys kind_text gap_text actor_text line_text encode_with digits
+pub one_made : made_summary 1 1 ≡ codes "events 8 appended 0 acked 0 record 0 trim 0 hole 0 bridge 0 dataloss 0\n"
+unfolding hex_text choice_at members_from pair_text is_found keep_op keep_end load event_of made_from step lines_of finish delivers happens statement with_page with_lost enough best digest_trim top_place plan_end plan message on_answer is_loss decide change activate close draw after_close is_ready on_reply on_retry appending activated store_decision on_store digest_decision on_digest_ask on_clean on_trim on_release read_answer summary_at apply op_length missing is_missing on_page on_tick same find_named put_named find put keep keep_keys kind_text gap_text actor_text line_text encode_with digits
 one_made = refl
 
 pub lost_told : has_loss three_nodes lost ≡ true
@@ -117,3 +117,23 @@ not_yet_asked = refl
 pub asked_again : asks_again torn_rebuild_asked ≡ 2 ∷ []
 unfolding hex_text choice_at members_from pair_text is_found keep_op keep_end load step lines_of state_after finish delivers happens statement with_page with_lost enough best digest_trim top_place plan_end plan message on_answer is_loss decide change activate close draw after_close is_ready on_reply on_retry appending activated store_decision on_store digest_decision on_digest_ask on_clean on_trim on_release read_answer summary_at apply op_length missing is_missing on_page on_tick same find_named put_named find put keep keep_keys kind_text gap_text actor_text line_text encode_with digits
 asked_again = refl
+
+pub later_told : has_loss three_nodes torn_later ≡ true
+unfolding hex_text choice_at members_from pair_text is_found keep_op keep_end load step lines_of state_after finish delivers happens statement with_page with_lost enough best digest_trim top_place plan_end plan message on_answer is_loss decide change activate close draw after_close is_ready on_reply on_retry appending activated store_decision on_store digest_decision on_digest_ask on_clean on_trim on_release read_answer summary_at apply op_length missing is_missing on_page on_tick same find_named put_named find put keep keep_keys kind_text gap_text actor_text line_text encode_with digits
+later_told = refl
+
+pub later_asked : asks_again torn_later_asked ≡ 2 ∷ []
+unfolding hex_text choice_at members_from pair_text is_found keep_op keep_end load step lines_of state_after finish delivers happens statement with_page with_lost enough best digest_trim top_place plan_end plan message on_answer is_loss decide change activate close draw after_close is_ready on_reply on_retry appending activated store_decision on_store digest_decision on_digest_ask on_clean on_trim on_release read_answer summary_at apply op_length missing is_missing on_page on_tick same find_named put_named find put keep keep_keys kind_text gap_text actor_text line_text encode_with digits
+later_asked = refl
+
+pub later_first : found_lost 1 1 torn_later_asked ≡ true
+unfolding hex_text choice_at members_from pair_text is_found keep_op keep_end load step lines_of state_after finish delivers happens statement with_page with_lost enough best digest_trim top_place plan_end plan message on_answer is_loss decide change activate close draw after_close is_ready on_reply on_retry appending activated store_decision on_store digest_decision on_digest_ask on_clean on_trim on_release read_answer summary_at apply op_length missing is_missing on_page on_tick same find_named put_named find put keep keep_keys kind_text gap_text actor_text line_text encode_with digits
+later_first = refl
+
+pub later_third : found_lost 1 3 torn_later_asked ≡ false
+unfolding hex_text choice_at members_from pair_text is_found keep_op keep_end load step lines_of state_after finish delivers happens statement with_page with_lost enough best digest_trim top_place plan_end plan message on_answer is_loss decide change activate close draw after_close is_ready on_reply on_retry appending activated store_decision on_store digest_decision on_digest_ask on_clean on_trim on_release read_answer summary_at apply op_length missing is_missing on_page on_tick same find_named put_named find put keep keep_keys kind_text gap_text actor_text line_text encode_with digits
+later_third = refl
+
+pub later_states : lost_states 1 3 torn_later_asked ≡ true ∷ false ∷ []
+unfolding hex_text choice_at members_from pair_text is_found keep_op keep_end load step lines_of state_after finish delivers happens statement with_page with_lost enough best digest_trim top_place plan_end plan message on_answer is_loss decide change activate close draw after_close is_ready on_reply on_retry appending activated store_decision on_store digest_decision on_digest_ask on_clean on_trim on_release read_answer summary_at apply op_length missing is_missing on_page on_tick same find_named put_named find put keep keep_keys kind_text gap_text actor_text line_text encode_with digits
+later_states = refl

@@ -111,13 +111,17 @@ torn call picture =
     events.Format 1 ∷ events.Format 2 ∷ events.Format 3 ∷ events.Activate sequencer_a 1 ∷ events.Append sequencer_a (104 ∷ 105 ∷ []) ∷ events.Tear 3 call picture ∷
     events.Deliver 0 ∷ events.Up 3 ∷ []
 
--- a record is on nodes 1 and 3; node 3 is wiped and refills from node 1, which is wiped then; a reader hears that node 3 is lost, and node 3 crashes in the record that it is rebuilt
-abbrev pub torn_rebuild_heard : List Event
-torn_rebuild_heard =
+-- a record is on nodes 1 and 3; node 3 is wiped and refills from node 1, which is wiped then; a reader hears that node 3 is lost, and node 3 crashes in a writing call of the record that it is rebuilt
+abbrev pub rebuild_torn : ℕ → Picture → List Event
+rebuild_torn call picture =
     events.Format 1 ∷ events.Format 2 ∷ events.Format 3 ∷ events.Activate sequencer_a 1 ∷ events.Append sequencer_a (97 ∷ []) ∷ events.Flow 100 ∷
     events.Activate sequencer_b 1 ∷ events.Flow 200 ∷ events.Wipe 3 ∷ events.Format 3 ∷ events.Activate sequencer_c 1 ∷ events.Flow 300 ∷ events.Tick 3 1 ∷
     events.Tick 3 1 ∷ events.Flow 20 ∷ events.Wipe 1 ∷ events.Format 1 ∷ events.Open reader_r 1 (numbered 1 1) (numbered 1 1) ∷ events.Poll reader_r ∷
-    events.Flow 5 ∷ events.Tear 3 1 pictures.Old ∷ events.Tick 3 1 ∷ []
+    events.Flow 5 ∷ events.Tear 3 call picture ∷ events.Tick 3 1 ∷ []
+
+-- in the first call: the record isn't there
+abbrev pub torn_rebuild_heard : List Event
+torn_rebuild_heard = rebuild_torn 1 pictures.Old
 
 -- one answer more, and the reader asks the lost nodes once more
 abbrev pub torn_rebuild_asked : List Event
@@ -126,3 +130,11 @@ torn_rebuild_asked = torn_rebuild_heard ++ events.Flow 1 ∷ []
 -- node 3 loads, and both answer
 abbrev pub torn_rebuild : List Event
 torn_rebuild = torn_rebuild_asked ++ events.Up 3 ∷ events.Flow 20 ∷ []
+
+-- in the third call, with a picture of the open gate: the record is there for a load, when the reader asks once more
+abbrev pub torn_later_asked : List Event
+torn_later_asked = rebuild_torn 3 pictures.New ++ events.Flow 1 ∷ []
+
+-- node 3 crashes in its load, with a picture of the gate that was closed, loads without the record, and both answer
+abbrev pub torn_later : List Event
+torn_later = torn_later_asked ++ events.Tear 3 1 pictures.Old ∷ events.Up 3 ∷ events.Up 3 ∷ events.Flow 20 ∷ []

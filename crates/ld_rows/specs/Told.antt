@@ -1,5 +1,5 @@
--- What is read from a run: its lines but those of messages, and whether a number was called lost.
-use Rattle.std.specs.Prelude.{ℕ, List, [], ◌∷◌, filter, map, Option, Some, None, is_some, Bool, true, false}
+-- What is read from a run: its lines but those of messages, whether a number was called lost, and the summary of a made one.
+use Rattle.std.specs.Prelude.{ℕ, ◌+◌, List, [], ◌∷◌, filter, map, Option, Some, None, is_some, Bool, true, false}
 use Rattle.ld_table.specs.Table.{find}
 use Rattle.ld_table.specs.Named.{find_named}
 use Rattle.ld_table.specs.Words.{any_of}
@@ -8,15 +8,15 @@ use Rattle.ld_schedule.specs.declared.event.Event.{Event}
 use Rattle.ld_schedule.specs.declared.event.Picture.{Picture}
 use Rattle.ld_transcript.specs.declared.line.Line.{Line}
 use Rattle.ld_transcript.specs.declared.line.Line.TheVariants as lines
-use Rattle.ld_transcript.specs.declared.line.GapKind.TheVariants as gaps
 use Rattle.ld_transcript.specs.Text.{text}
 use Rattle.ld_config.specs.declared.config.Config.{Config}
 use Rattle.ld_msg.specs.Reader.{Reader, Confirmation}
 use Rattle.ld_op.specs.Plain.{log_of, is_lost}
-use Rattle.ld_machine.specs.Disk.{Cut, Node}
+use Rattle.ld_machine.specs.Disk.{Cut, Node, found}
 use Rattle.ld_machine.specs.State.{start, node_at}
 use Rattle.ld_machine.specs.Run.{lines_of, state_after}
-use Rattle.ld_machine.specs.Exercise.{is_gap}
+use Rattle.ld_maker.specs.Made.{made_config, made}
+use Rattle.ld_maker.specs.Tally.{is_data_loss, summary, tally}
 use Rattle.ld_rows.specs.Schedules.{three_nodes, reader_r, torn}
 
 abbrev pub is_telling : Line → Bool
@@ -28,7 +28,11 @@ abbrev pub told_text : Config → List Event → List ℕ
 told_text c es = text (filter is_telling (lines_of c (start c) es))
 
 abbrev pub has_loss : Config → List Event → Bool
-has_loss c es = any_of (is_gap gaps.DataLoss) (lines_of c (start c) es)
+has_loss c es = any_of is_data_loss (lines_of c (start c) es)
+
+-- the summary of the made schedule's run, of so many events behind the first seven
+abbrev pub made_summary : ℕ → ℕ → List ℕ
+made_summary seed m = summary (m + 7) (tally (lines_of made_config (start made_config) (made seed m)))
 
 -- whether the record that was torn is there once the node is loaded
 abbrev pub is_kept : ℕ → Picture → Bool
@@ -45,6 +49,10 @@ cut_states e (Some k) = is_lost (log_of k.plain 1) e ∷ []
 
 abbrev pub lost_states : ℕ → ℕ → List Event → List Bool
 lost_states e n es = let x : Node = node_at (state_after three_nodes (start three_nodes) es) n in is_lost (log_of x.plain 1) e ∷ cut_states e x.cut
+
+-- whether the state that a load would find is lost for an epoch of log 1
+abbrev pub found_lost : ℕ → ℕ → List Event → Bool
+found_lost e n es = let x : Node = node_at (state_after three_nodes (start three_nodes) es) n in is_lost (log_of (found x x.cut) 1) e
 
 -- the round in which a reader asks lost nodes once more, if it does
 abbrev pub again_in : Option Confirmation → List ℕ

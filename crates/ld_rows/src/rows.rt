@@ -1,11 +1,11 @@
 // Runs that are known line by line: each law is the value of its run.
 ghost use Rattle.std.specs.Prelude.{◌≡◌, codes, [], ◌∷◌, true, false};
 ghost use Rattle.ld_schedule.specs.declared.event.Picture.TheVariants as pictures;
-ghost use Rattle.ld_machine.specs.Exercise.{drawn, value_of, exercise};
 ghost use Rattle.ld_machine.specs.Run.{transcript};
-ghost use Rattle.ld_rows.specs.Schedules.{three_nodes, five_nodes, one_append, half_stored, cut_off, trimmed, rebuilt, lost, hole_between, two_recoveries, register_fault, torn_rebuild, torn_rebuild_asked, torn_rebuild_heard};
+ghost use Rattle.ld_maker.specs.Draw.{drawn, value_of};
+ghost use Rattle.ld_rows.specs.Schedules.{three_nodes, five_nodes, one_append, half_stored, cut_off, trimmed, rebuilt, lost, hole_between, two_recoveries, register_fault, torn_rebuild, torn_rebuild_asked, torn_rebuild_heard, torn_later, torn_later_asked};
 ghost use Rattle.ld_rows.specs.Texts.{one_append_text, half_stored_text, cut_off_text, trimmed_text, rebuilt_text, lost_text, hole_between_text, two_recoveries_text, register_fault_text, torn_rebuild_text};
-ghost use Rattle.ld_rows.specs.Told.{told_text, kept_by_call, lost_states, asks_again};
+ghost use Rattle.ld_rows.specs.Told.{told_text, made_summary, has_loss, kept_by_call, lost_states, found_lost, asks_again};
 
 /// A record goes to two of three nodes, is acknowledged and released, and a reader gets it behind the bridge of
 /// epoch 0: the whole transcript.
@@ -65,8 +65,8 @@ pub fn copies_are_lost()
 pub fn made_schedules_are_known()
     ensures state { drawn 1 ≡ 7806831264735756412 }
     ensures value { value_of (drawn 1) ≡ 908834774 }
-    ensures none { exercise 1 0 ≡ codes "events 7 appended 0 acked 0 record 0 trim 0 hole 0 bridge 0 dataloss 0\n" }
-    ensures one { exercise 1 1 ≡ codes "events 8 appended 0 acked 0 record 0 trim 0 hole 0 bridge 0 dataloss 0\n" }
+    ensures none { made_summary 1 0 ≡ codes "events 7 appended 0 acked 0 record 0 trim 0 hole 0 bridge 0 dataloss 0\n" }
+    ensures one { made_summary 1 1 ≡ codes "events 8 appended 0 acked 0 record 0 trim 0 hole 0 bridge 0 dataloss 0\n" }
 {}
 
 /// A reader asks nodes 1 and 3 once more for a number that it then calls lost. In the state at that ask node 3 crashed in
@@ -79,4 +79,15 @@ pub fn a_torn_rebuild_is_lost_still()
     ensures first { lost_states 1 1 torn_rebuild_asked ≡ true ∷ [] }
     ensures second { lost_states 1 2 torn_rebuild_asked ≡ false ∷ [] }
     ensures third { lost_states 1 3 torn_rebuild_asked ≡ true ∷ false ∷ [] }
+{}
+
+/// A reader asks nodes 1 and 3 once more for a number that it then calls lost. In the state at that ask node 3 crashed in
+/// the record that it is rebuilt, and a load would find this record, so that the node isn't lost. It crashes once more, in
+/// the load, and is found lost: in the first of its two states, in which it was lost at the ask.
+pub fn a_torn_rebuild_is_found_lost_later()
+    ensures told { has_loss three_nodes torn_later ≡ true }
+    ensures asked { asks_again torn_later_asked ≡ 2 ∷ [] }
+    ensures first { found_lost 1 1 torn_later_asked ≡ true }
+    ensures third { found_lost 1 3 torn_later_asked ≡ false }
+    ensures states { lost_states 1 3 torn_later_asked ≡ true ∷ false ∷ [] }
 {}
