@@ -1,13 +1,12 @@
 -- A number that a reader calls lost: the step in which the reader asked the lost nodes once more, and the one that called it lost.
 use Rattle.std.specs.Prelude.{ℕ, ◌≡◌, ◌<◌, List, Some}
 use Rattle.ld_table.specs.Named.{find_named}
-use Rattle.ld_schedule.specs.declared.event.Event.{Event}
 use Rattle.ld_transcript.specs.declared.line.Line.TheVariants as lines
 use Rattle.ld_transcript.specs.declared.line.GapKind.TheVariants as gaps
 use Rattle.ld_msg.specs.Reader.{Reader, Confirmation}
 use Rattle.ld_config.specs.declared.config.Config.{Config}
 use Rattle.ld_machine.specs.World.{World, In, begin}
-use Rattle.ld_machine.specs.Run.{next_world, world_after, happened}
+use Rattle.ld_machine.specs.Run.{Move, after_step, world_after, step_happened}
 
 -- the reader confirms in this round that the number is lost
 pub record IsConfirming (w : World) (name : List ℕ) (s round : ℕ) : Type 0 where
@@ -25,9 +24,9 @@ pub record IsBefore (w : World) (name : List ℕ) (round : ℕ) : Type 0 where
   pub lower : reader.round < round
 
 -- after some steps the reader sends the confirming asks for a number in a step, and after some more another step calls the number lost
-pub record EndsAsLoss (c : Config) (name : List ℕ) (log s round : ℕ) (before : List Event) (asks : Event) (between : List Event) (gives : Event) : Type 0 where
+pub record EndsAsLoss (c : Config) (name : List ℕ) (log s round : ℕ) (before : List Move) (asks : Move) (between : List Move) (gives : Move) : Type 0 where
   pub not_yet : IsBefore (world_after c (begin c) before) name round
-  pub asked : IsConfirming (next_world c (world_after c (begin c) before) asks) name s round
-  pub still : IsConfirming (world_after c (next_world c (world_after c (begin c) before) asks) between) name s round
+  pub asked : IsConfirming (after_step c (world_after c (begin c) before) asks) name s round
+  pub still : IsConfirming (world_after c (after_step c (world_after c (begin c) before) asks) between) name s round
   pub of_log : still.reader.log ≡ log
-  pub told : In (lines.Gap name gaps.DataLoss s s) (happened c (world_after c (next_world c (world_after c (begin c) before) asks) between).state gives).lines
+  pub told : In (lines.Gap name gaps.DataLoss s s) (step_happened c (world_after c (after_step c (world_after c (begin c) before) asks) between).state gives).lines

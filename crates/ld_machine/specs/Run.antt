@@ -48,6 +48,10 @@ part low count c es = text (take count (drop low (lines_of c (start c) es)))
 
 -- ---- the steps of a run, one for each delivery of a flow ----
 
+-- what one step takes: an event; of a flow each delivery is one
+pub data Move : Type 0 where
+  Takes : (event : Event) → Move
+
 pub record Went : Type 0 where
   pub state : State
   pub happened : List Happened
@@ -74,29 +78,55 @@ history_from c s (e ∷ es) = let w : Went = steps_of c s e in w.happened ++ his
 abbrev pub history : Config → List Event → List Happened
 history c es = history_from c (start c) es
 
+-- what the steps of one event take
+abbrev pub flow_moves : ℕ → Config → State → List Move
+flow_moves zero c s = []
+flow_moves (suc k) c s = elim (oldest_new s.network) [ None ↦ [] | Some i ↦ Takes (events.Deliver i) ∷ flow_moves k c (finish (delivers c s i)).state ]
+
+abbrev pub moves_of : Config → State → Event → List Move
+moves_of c s (events.Flow k) = flow_moves k c s
+moves_of c s e = Takes e ∷ []
+
+abbrev pub moves_from : Config → State → List Event → List Move
+moves_from c s [] = []
+moves_from c s (e ∷ es) = moves_of c s e ++ moves_from c (steps_of c s e).state es
+
+-- what the steps of a run take
+abbrev pub moves : Config → List Event → List Move
+moves c es = moves_from c (start c) es
+
 -- the headline: every run is safe
 abbrev pub EveryRunIsSafe : Type 0
 EveryRunIsSafe = (c : Config) (es : List Event) → IsInBounds c → Safe c (history c es)
 
 -- ---- the world along a run ----
 
+-- what an event makes of a world
 abbrev pub next_world : Config → World → Event → World
 next_world c w e = record { state = (finish (happens c w.state e)).state; made = made_on c w.state e ++ w.made }
 
--- events are those of the steps, each delivery of a flow for itself
-unfoldable pub world_after : Config → World → List Event → World
-world_after c w [] = w
-world_after c w (e ∷ es) = world_after c (next_world c w e) es
+-- what a step makes of it
+abbrev pub after_step : Config → World → Move → World
+after_step c w (Takes e) = next_world c w e
 
--- one step, as it is told
+-- after these steps
+unfoldable pub world_after : Config → World → List Move → World
+world_after c w [] = w
+world_after c w (m ∷ ms) = world_after c (after_step c w m) ms
+
+-- an event, as it is told
 abbrev pub happened : Config → State → Event → Happened
 happened c s e = record { event = e; lines = (finish (happens c s e)).lines }
 
--- the steps of events that are none of them a flow
-abbrev pub trace : Config → World → List Event → List Happened
-trace c w [] = []
-trace c w (e ∷ es) = happened c w.state e ∷ trace c (next_world c w e) es
+-- a step, as it is told
+abbrev pub step_happened : Config → State → Move → Happened
+step_happened c s (Takes e) = happened c s e
 
--- the invariant holds in every state of every run
+-- these steps, as they are told
+abbrev pub trace : Config → World → List Move → List Happened
+trace c w [] = []
+trace c w (m ∷ ms) = step_happened c w.state m ∷ trace c (after_step c w m) ms
+
+-- the invariant holds after any steps
 abbrev pub InvariantHolds : Type 0
-InvariantHolds = (c : Config) (es : List Event) → IsInBounds c → Invariant c (trace c (begin c) es) (world_after c (begin c) es)
+InvariantHolds = (c : Config) (ms : List Move) → IsInBounds c → Invariant c (trace c (begin c) ms) (world_after c (begin c) ms)

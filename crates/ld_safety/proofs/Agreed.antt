@@ -18,7 +18,7 @@ use Rattle.ld_machine.specs.Config.{spec_in}
 use Rattle.ld_machine.specs.Facts.{Happened}
 use Rattle.ld_machine.specs.World.{World, Made, In, begin, chosen, item, item_in, append_in, digest_in, is_made, what_sent, stored_what, stores_at, is_sequencer}
 use Rattle.ld_machine.specs.Invariant.{Agrees}
-use Rattle.ld_machine.specs.Run.{world_after, trace}
+use Rattle.ld_machine.specs.Run.{Move, world_after, trace}
 use Rattle.ld_safety.proofs.Lists.{Some_inj, not_none, branch, cond_both}
 use Rattle.ld_safety.proofs.Traces.{later}
 use Rattle.ld_safety.proofs.Numbers.{one_payload}
@@ -127,5 +127,5 @@ module _ (c : Config) (hs : List Happened) (w : World) (B : Base c hs w) (R : Al
         | inr z ↦ inr z
       ]
 
-pub recoveries_agree : (c : Config) (es : List Event) → Agrees c (world_after c (begin c) es)
+pub recoveries_agree : (c : Config) (es : List Move) → Agrees c (world_after c (begin c) es)
 recoveries_agree c es = let p = later c (λ hs w. BaseGiven c hs w × Along c hs w) (along_kept c) [] (begin c) es (along_kept c).begins in agree_here c (trace c (begin c) es) (world_after c (begin c) es) p.0.0 p.1

@@ -16,7 +16,7 @@ use Rattle.ld_machine.specs.State.{node_at}
 use Rattle.ld_machine.specs.Facts.{Happened}
 use Rattle.ld_machine.specs.World.{World, Made, In, begin, is_made, digest_in, item, settled, has_told, says_settled}
 use Rattle.ld_machine.specs.Invariant.{Closed, CopyAt, CopiesOf, HoldsItem}
-use Rattle.ld_machine.specs.Run.{world_after, trace}
+use Rattle.ld_machine.specs.Run.{Move, world_after, trace}
 use Rattle.ld_safety.proofs.Lists.{Some_inj, not_none, not_both}
 use Rattle.ld_safety.proofs.Members.{find_in}
 use Rattle.ld_safety.proofs.Traces.{later}
@@ -141,5 +141,5 @@ module _ (c : Config) (hs : List Happened) (w : World) (B : Base c hs w) (R : Al
       kept = λ z t. copy_at l n z y a tr pos hi t;
     }
 
-pub copies_stand : (c : Config) (es : List Event) → (l e k : ℕ) (s : Summary) → Closed (world_after c (begin c) es) l e s → s.trim < numbered e k → 0 < k → k < s.end → CopiesOf c (world_after c (begin c) es) l (numbered e k) s.ballot
+pub copies_stand : (c : Config) (es : List Move) → (l e k : ℕ) (s : Summary) → Closed (world_after c (begin c) es) l e s → s.trim < numbered e k → 0 < k → k < s.end → CopiesOf c (world_after c (begin c) es) l (numbered e k) s.ballot
 copies_stand c es = let p = later c (λ hs w. BaseGiven c hs w × Along c hs w) (along_kept c) [] (begin c) es (along_kept c).begins in copies_here c (trace c (begin c) es) (world_after c (begin c) es) p.0.0 p.1

@@ -19,7 +19,7 @@ use Rattle.ld_op.specs.Plain.{log_of, is_lost, summary_at, epoch_zero}
 use Rattle.ld_machine.specs.Facts.{Happened}
 use Rattle.ld_machine.specs.World.{World, In, Stored, begin, item, append_in, what_sent, stored_what, stores_at, is_sequencer, digest_in, item_in, to_node_of}
 use Rattle.ld_machine.specs.Invariant.{EntriesAreItems, IsItem, planned_in, IsOpen, Acked, CopyAt, Copies, HoldsItem}
-use Rattle.ld_machine.specs.Run.{world_after, trace}
+use Rattle.ld_machine.specs.Run.{Move, world_after, trace}
 use Rattle.ld_safety.proofs.Lists.{Some_inj, not_both, branch, cond_both}
 use Rattle.ld_safety.proofs.Members.{find_in}
 use Rattle.ld_safety.proofs.Traces.{Keeps, later, both_kept}
@@ -161,8 +161,8 @@ pub all_sending : (c : Config) → IsInBounds c → Keeps c (Sending c)
 all_sending c b = both_kept c (λ hs w. ((BaseGiven c hs w × Along c hs w) × AllSent hs w) × ((BaseGiven c hs w × Along c hs w) × HandedOut w)) (Everything c)
     (both_kept c (λ hs w. (BaseGiven c hs w × Along c hs w) × AllSent hs w) (λ hs w. (BaseGiven c hs w × Along c hs w) × HandedOut w) (sending_kept c b) (handed_kept c)) (everything_kept c)
 
-pub entries_are_items : (c : Config) (es : List Event) → IsInBounds c → EntriesAreItems (trace c (begin c) es) (world_after c (begin c) es)
+pub entries_are_items : (c : Config) (es : List Move) → IsInBounds c → EntriesAreItems (trace c (begin c) es) (world_after c (begin c) es)
 entries_are_items c es b = let p = later c (Sending c) (all_sending c b) [] (begin c) es (all_sending c b).begins in entries_here c (trace c (begin c) es) (world_after c (begin c) es) p.0.0.0 p.0.0.1 p.0.1.1
 
-pub all_copies_stand : (c : Config) (es : List Event) → IsInBounds c → Copies c (trace c (begin c) es) (world_after c (begin c) es)
+pub all_copies_stand : (c : Config) (es : List Move) → IsInBounds c → Copies c (trace c (begin c) es) (world_after c (begin c) es)
 all_copies_stand c es b = let p = later c (Sending c) (all_sending c b) [] (begin c) es (all_sending c b).begins in all_copies c (trace c (begin c) es) (world_after c (begin c) es) p.0.0.0 p.0.0.1 p.1.1

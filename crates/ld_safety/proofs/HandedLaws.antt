@@ -18,7 +18,7 @@ use Rattle.ld_machine.specs.State.{finish}
 use Rattle.ld_machine.specs.Facts.{Happened}
 use Rattle.ld_machine.specs.World.{World, In, Sent, begin}
 use Rattle.ld_machine.specs.Invariant.{GenerationsDrawn, BallotsDrawn, SummariesAgree, EntryDrawn, Epoch, Closed, entries_of, seals_in, generations_in}
-use Rattle.ld_machine.specs.Run.{world_after, next_world, trace}
+use Rattle.ld_machine.specs.Run.{Move, world_after, next_world, trace}
 use Rattle.ld_safety.proofs.Members.{find_in}
 use Rattle.ld_safety.proofs.Lists.{not_none, only}
 use Rattle.ld_safety.proofs.Traces.{Keeps, later, beside_kept, both_kept}
@@ -128,17 +128,17 @@ handing_kept c = both_kept c (λ hs w. (((BaseGiven c hs w × Along c hs w) × H
     (both_kept c (λ hs w. (BaseGiven c hs w × Along c hs w) × HandedOut w) (λ hs w. Base c hs w × FormatsOnce hs w) (handed_kept c) (formats_kept c)) (full_kept c))
     (beside_kept c (Base c) (λ hs w. FromOneOn w) (base_kept c) (starts_from_one c) (λ hs w e B C h. from_one_step c hs w e B h))
 
-handing : (c : Config) (es : List Event) → Handing c (trace c (begin c) es) (world_after c (begin c) es)
+handing : (c : Config) (es : List Move) → Handing c (trace c (begin c) es) (world_after c (begin c) es)
 handing c es = later c (Handing c) (handing_kept c) [] (begin c) es (handing_kept c).begins
 
-pub generations_are_drawn_once : (c : Config) (es : List Event) → GenerationsDrawn (trace c (begin c) es) (world_after c (begin c) es)
+pub generations_are_drawn_once : (c : Config) (es : List Move) → GenerationsDrawn (trace c (begin c) es) (world_after c (begin c) es)
 generations_are_drawn_once c es =
     let p = handing c es in
     let K = moments_kept c AnyState (any_kept c) in
     generations_here c (trace c (begin c) es) (world_after c (begin c) es) p.0.0.0.0 p.0.0.0.1 p.0.0.1.1 (later c (Moments c AnyState) K [] (begin c) es K.begins)
 
-pub ballots_were_drawn : (c : Config) (es : List Event) → BallotsDrawn (world_after c (begin c) es)
+pub ballots_were_drawn : (c : Config) (es : List Move) → BallotsDrawn (world_after c (begin c) es)
 ballots_were_drawn c es = let p = handing c es in ballots_here c (trace c (begin c) es) (world_after c (begin c) es) p.0.0.0.0 p.0.0.0.1
 
-pub summaries_agree : (c : Config) (es : List Event) → SummariesAgree (world_after c (begin c) es)
+pub summaries_agree : (c : Config) (es : List Move) → SummariesAgree (world_after c (begin c) es)
 summaries_agree c es = let p = handing c es in summaries_here c (trace c (begin c) es) (world_after c (begin c) es) p.0.0.0.0 p.0.0.0.1 p.0.1.1 p.1.1

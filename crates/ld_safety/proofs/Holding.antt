@@ -24,7 +24,7 @@ use Rattle.ld_machine.specs.State.{State, node_at}
 use Rattle.ld_machine.specs.Facts.{Happened}
 use Rattle.ld_machine.specs.World.{World, Made, In, begin, MayHold, if_enough, made_in, made_with, made_by, made_for, made_at, made_on, page_from, is_made}
 use Rattle.ld_machine.specs.Invariant.{HeldWasSent, OnePlan}
-use Rattle.ld_machine.specs.Run.{next_world, world_after, trace}
+use Rattle.ld_machine.specs.Run.{Move, next_world, world_after, trace}
 use Rattle.ld_machine.specs.State.{sequencer_of}
 use Rattle.ld_safety.proofs.Lists.{cond_both, some_or_none, how_many-yes, how_many-no}
 use Rattle.ld_safety.proofs.Names.{found}
@@ -145,11 +145,11 @@ full_here c hs w B F y p m l h = nothing_missing (log_of p l) (F y p m l) h (λ 
     (K.bounded l q.0 q.1 (K.summaries y l q.0 p q.1 m pos f).0 pos).1)
 
 -- ---- the laws ----
-pub what_is_held_was_sent : (c : Config) (es : List Event) → HeldWasSent (world_after c (begin c) es)
+pub what_is_held_was_sent : (c : Config) (es : List Move) → HeldWasSent (world_after c (begin c) es)
 what_is_held_was_sent c es =
     let P : List Happened → World → Type 0 = λ hs w. (BaseGiven c hs w × Along c hs w) × Asked c hs w in
     let K : Keeps c P = both_kept c (λ hs w. BaseGiven c hs w × Along c hs w) (Asked c) (along_kept c) (asked_kept c) in
     let p = later c P K [] (begin c) es K.begins in held_here c (trace c (begin c) es) (world_after c (begin c) es) p.0.0.0 p.0.1 p.1.1.1
 
-pub plans_are_made_once : (c : Config) (es : List Event) → OnePlan (world_after c (begin c) es)
+pub plans_are_made_once : (c : Config) (es : List Move) → OnePlan (world_after c (begin c) es)
 plans_are_made_once c es = (later c (Planning c) (planning_kept c) [] (begin c) es (planning_kept c).begins).1

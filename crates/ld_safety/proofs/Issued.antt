@@ -14,7 +14,7 @@ use Rattle.ld_machine.specs.State.{node_at}
 use Rattle.ld_machine.specs.Facts.{Happened, Issues}
 use Rattle.ld_machine.specs.World.{World, Made, In, begin, MayHold}
 use Rattle.ld_machine.specs.Invariant.{TrimsIssued, IsTrim, trims_in, trims_of}
-use Rattle.ld_machine.specs.Run.{world_after, trace}
+use Rattle.ld_machine.specs.Run.{Move, world_after, trace}
 use Rattle.ld_safety.proofs.Lists.{Some_inj, not_none, only, In-map}
 use Rattle.ld_safety.proofs.Names.{found}
 use Rattle.ld_safety.proofs.Traces.{later}
@@ -84,5 +84,5 @@ module _ (c : Config) (hs : List Happened) (w : World) (B : BaseGiven c hs w) wh
     in_plans = plan_trim R;
   }
 
-pub trims_are_issued_points : (c : Config) (es : List Event) → TrimsIssued (trace c (begin c) es) (world_after c (begin c) es)
+pub trims_are_issued_points : (c : Config) (es : List Move) → TrimsIssued (trace c (begin c) es) (world_after c (begin c) es)
 trims_are_issued_points c es = let p = later c (λ hs w. BaseGiven c hs w × Along c hs w) (along_kept c) [] (begin c) es (along_kept c).begins in trims_here c (trace c (begin c) es) (world_after c (begin c) es) p.0 p.1

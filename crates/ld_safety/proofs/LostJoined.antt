@@ -19,7 +19,7 @@ use Rattle.ld_machine.specs.Facts.{Happened}
 use Rattle.ld_machine.specs.Safe.{LossesHappened, Safe}
 use Rattle.ld_machine.specs.World.{World, MayHold, item, settled, has_told, says_settled}
 use Rattle.ld_machine.specs.Invariant.{Closed, CopiesOf, HoldsItem}
-use Rattle.ld_machine.specs.Run.{history}
+use Rattle.ld_machine.specs.Run.{Takes, history}
 use Rattle.ld_safety.specs.Lost.{CopiesWereLost}
 use Rattle.ld_safety.proofs.Lists.{Some_inj, not_none, not_both}
 use Rattle.ld_safety.proofs.Members.{find_in}
@@ -177,7 +177,7 @@ pub losses_happened : (c : Config) (es : List Event) → LossesHappened c (histo
 losses_happened c es = settled_losses.happened c (λ hs w. BaseGiven c hs w × Along c hs w) (clean_kept c) (along_kept c) es
 
 pub copies_were_lost : CopiesWereLost
-copies_were_lost c name l s round before asks between gives b E = settled_losses.stood c (λ hs w. BaseGiven c hs w × Along c hs w) (clean_kept c) (along_kept c) name l s round before asks between gives E
+copies_were_lost c name l s round before (Takes asks) between (Takes gives) b E = settled_losses.stood c (λ hs w. BaseGiven c hs w × Along c hs w) (clean_kept c) (along_kept c) name l s round before asks between gives E
 
 -- all seven laws at once
 pub every_run_is_safe : (c : Config) (es : List Event) → Safe c (history c es)

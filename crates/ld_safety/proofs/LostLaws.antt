@@ -11,7 +11,7 @@ use Rattle.ld_machine.specs.Config.{set_of, set_at}
 use Rattle.ld_machine.specs.State.{node_at}
 use Rattle.ld_machine.specs.Facts.{Happened}
 use Rattle.ld_machine.specs.World.{World, In, begin, has_told, says_settled}
-use Rattle.ld_machine.specs.Run.{next_world, world_after}
+use Rattle.ld_machine.specs.Run.{Move, Takes, next_world, world_after}
 use Rattle.ld_machine.specs.Losses.{EndsAsLoss}
 use Rattle.ld_safety.specs.Lost.{LostOnce, LossesWereSeen, CopiesAreLost, is_lost_at}
 use Rattle.ld_safety.proofs.Lists.{count_mono}
@@ -24,10 +24,10 @@ use Rattle.ld_safety.proofs.LostLaw.{SettledApart, LossesSettled}
 use Rattle.ld_safety.proofs.LostStood.{at_asks, lost_under, lost_in_state}
 
 -- ---- lost once ----
-back_along : (c : Config) (hs : List Happened) (w : World) (es : List Event) → Asked c hs w → Back w (world_after c w es)
+back_along : (c : Config) (hs : List Happened) (w : World) (es : List Move) → Asked c hs w → Back w (world_after c w es)
 unfolding world_after
 back_along c hs w [] h = back_here w
-back_along c hs w (e ∷ es) h = back_on w (next_world c w e) (world_after c (next_world c w e) es) (back_step c w e h.0.0.0) (back_along c (hs ++ happened c w.state e ∷ []) (next_world c w e) es ((asked_kept c).goes_on hs w e h))
+back_along c hs w (Takes e ∷ es) h = back_on w (next_world c w e) (world_after c (next_world c w e) es) (back_step c w e h.0.0.0) (back_along c (hs ++ happened c w.state e ∷ []) (next_world c w e) es ((asked_kept c).goes_on hs w e h))
 
 pub lost_once : LostOnce
 lost_once c first between last y l e g b was will =
@@ -49,7 +49,7 @@ is_member y (x ∷ xs) h = elim (or_cases (x == y) (is_in y xs) h) [
 ]
 
 pub losses_were_seen : LossesWereSeen
-losses_were_seen c name l s round before asks between gives y b E i =
+losses_were_seen c name l s round before (Takes asks) between (Takes gives) y b E i =
     let w = world_after c (begin c) before in
     let hs = trace c (begin c) before in
     let a = at_asks c name l s round before asks between gives E in
@@ -63,7 +63,7 @@ losses_were_seen c name l s round before asks between gives y b E i =
 
 -- ---- with what is left to be shown of the nodes ----
 module _ (c : Config) (Q : List Happened → World → Type 0) (K : Keeps c Q) (P : LossesSettled c Q) where
-  pub copies_are_lost : (name : List ℕ) (l s round : ℕ) (before : List Event) (asks : Event) (between : List Event) (gives : Event) → EndsAsLoss c name l s round before asks between gives → CopiesAreLost c (next_world c (world_after c (begin c) before) asks) l s
+  pub copies_are_lost : (name : List ℕ) (l s round : ℕ) (before : List Move) (asks : Event) (between : List Move) (gives : Event) → EndsAsLoss c name l s round before (Takes asks) between (Takes gives) → CopiesAreLost c (next_world c (world_after c (begin c) before) asks) l s
   copies_are_lost name l s round before asks between gives E =
       let w = world_after c (begin c) before in
       let t = next_world c w asks in

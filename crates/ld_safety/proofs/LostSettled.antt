@@ -20,7 +20,7 @@ use Rattle.ld_machine.specs.Safe.{LossesHappened}
 use Rattle.ld_machine.specs.World.{World, In, begin, has_told, says_settled}
 use Rattle.ld_machine.specs.Invariant.{Closed}
 use Rattle.ld_machine.specs.Losses.{EndsAsLoss}
-use Rattle.ld_machine.specs.Run.{history, next_world, world_after}
+use Rattle.ld_machine.specs.Run.{Move, Takes, history, next_world, world_after}
 use Rattle.ld_safety.specs.Lost.{CopiesAreLost}
 use Rattle.ld_safety.proofs.Lists.{Some_inj, any_in, not_both}
 use Rattle.ld_safety.proofs.Members.{find_in}
@@ -134,5 +134,5 @@ module _ (c : Config) (Q : List Happened → World → Type 0) (C : (hs : List H
   pub happened : Keeps c Q → (es : List Event) → LossesHappened c (history c es)
   happened K es = losses_happened c (Shown c Q C) (shown_kept c Q C K) losses_settled es
 
-  pub stood : Keeps c Q → (name : List ℕ) (l s round : ℕ) (before : List Event) (asks : Event) (between : List Event) (gives : Event) → EndsAsLoss c name l s round before asks between gives → CopiesAreLost c (next_world c (world_after c (begin c) before) asks) l s
+  pub stood : Keeps c Q → (name : List ℕ) (l s round : ℕ) (before : List Move) (asks : Event) (between : List Move) (gives : Event) → EndsAsLoss c name l s round before (Takes asks) between (Takes gives) → CopiesAreLost c (next_world c (world_after c (begin c) before) asks) l s
   stood K name l s round before asks between gives E = copies_are_lost c (Shown c Q C) (shown_kept c Q C K) losses_settled name l s round before asks between gives E

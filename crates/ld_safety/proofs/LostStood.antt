@@ -13,7 +13,7 @@ use Rattle.ld_machine.specs.Disk.{Node}
 use Rattle.ld_machine.specs.State.{State, node_at}
 use Rattle.ld_machine.specs.Facts.{Happened}
 use Rattle.ld_machine.specs.World.{World, In, begin}
-use Rattle.ld_machine.specs.Run.{next_world, world_after}
+use Rattle.ld_machine.specs.Run.{Move, Takes, next_world, world_after}
 use Rattle.ld_machine.specs.Losses.{EndsAsLoss}
 use Rattle.ld_machine.specs.Step as Step
 use Rattle.ld_safety.specs.Lost.{LostUnder, is_lost_at}
@@ -79,10 +79,10 @@ pub record Onward (c : Config) (then w : World) (hs : List Happened) (name : Lis
   pub since : Since then r l s round asked w
   pub named : Named w.state.readers name r l
 
-pub onward : (c : Config) (then w : World) (hs : List Happened) (name : List ℕ) (r l s round : ℕ) (asked : List (ℕ × ℕ)) (es : List Event) → Onward c then w hs name r l s round asked → Onward c then (world_after c w es) (hs ++ trace c w es) name r l s round asked
+pub onward : (c : Config) (then w : World) (hs : List Happened) (name : List ℕ) (r l s round : ℕ) (asked : List (ℕ × ℕ)) (es : List Move) → Onward c then w hs name r l s round asked → Onward c then (world_after c w es) (hs ++ trace c w es) name r l s round asked
 unfolding world_after
 onward c then w hs name r l s round asked [] h = subst (λ k. Onward c then w k name r l s round asked) (sym (append-nil hs)) h
-onward c then w hs name r l s round asked (e ∷ es) h = subst (λ k. Onward c then (world_after c (next_world c w e) es) k name r l s round asked) (append_assoc hs (happened c w.state e ∷ []) (trace c (next_world c w e) es))
+onward c then w hs name r l s round asked (Takes e ∷ es) h = subst (λ k. Onward c then (world_after c (next_world c w e) es) k name r l s round asked) (append_assoc hs (happened c w.state e ∷ []) (trace c (next_world c w e) es))
     (onward c then (next_world c w e) (hs ++ happened c w.state e ∷ []) name r l s round asked es (record {
       known = (asked_kept c).goes_on hs w e h.known;
       since = since_step then r l s round asked c w e h.known.0.1.1 h.known.1.1 h.since h.known.0.0.0;
@@ -98,7 +98,7 @@ pub record AtAsks (c : Config) (then : World) (name : List ℕ) (l s : ℕ) : Ty
   pub loss : is_loss s (set_of c l) reader.held ≡ true
   pub lost : (y : ℕ) (h : Held) → find y reader.held ≡ Some h → is_lost_for s h.body ≡ true → is_lost_at l (home_epoch s) (node_at then.state y) ≡ true
 
-module _ (c : Config) (name : List ℕ) (l s round : ℕ) (before : List Event) (asks : Event) (between : List Event) (gives : Event) (E : EndsAsLoss c name l s round before asks between gives) where
+module _ (c : Config) (name : List ℕ) (l s round : ℕ) (before : List Move) (asks : Event) (between : List Move) (gives : Event) (E : EndsAsLoss c name l s round before (Takes asks) between (Takes gives)) where
   abbrev first : World
   first = world_after c (begin c) before
 

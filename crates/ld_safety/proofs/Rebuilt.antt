@@ -24,7 +24,7 @@ use Rattle.ld_machine.specs.State.{State, Done, finish, node_at, with_node, with
 use Rattle.ld_machine.specs.Facts.{Happened, Writes, Lost, standing, stands_for}
 use Rattle.ld_machine.specs.World.{World, In, begin}
 use Rattle.ld_machine.specs.Invariant.{LostOnce}
-use Rattle.ld_machine.specs.Run.{next_world, world_after, trace}
+use Rattle.ld_machine.specs.Run.{Move, Takes, next_world, world_after, trace}
 use Rattle.ld_machine.specs.Step as Step
 use Rattle.std.proofs.lemmas.Bool.{cases_Bool}
 use Rattle.ld_safety.specs.Lost.{cut_may, may_be_lost, WholeStays}
@@ -328,7 +328,7 @@ lost_once_here c hs w R = record {
   once = R.1.once;
 }
 
-pub rebuilt_once : (c : Config) (es : List Event) → LostOnce (trace c (begin c) es) (world_after c (begin c) es)
+pub rebuilt_once : (c : Config) (es : List Move) → LostOnce (trace c (begin c) es) (world_after c (begin c) es)
 rebuilt_once c es = lost_once_here c (trace c (begin c) es) (world_after c (begin c) es) (later c (Rebuilding c) (rebuilding_kept c) [] (begin c) es (rebuilding_kept c).begins)
 
 -- ---- whole from a moment on ----
@@ -338,11 +338,11 @@ first_line h hs x i = let y = slice_get-In _ _ i in (h, refl, y.0, y.1)
 next_line : (h : Happened) (hs : List Happened) (k : ℕ) (x : Line) → Writes hs k x → Writes (h ∷ hs) (suc k) x
 next_line h hs k x v = v
 
-whole_on : (c : Config) (hs : List Happened) (w : World) (es : List Event) (y l : ℕ) → Rebuilding c hs w → is_in y (set_of c l) ≡ true → Whole l (node_at w.state y) → ((k : ℕ) → Writes (trace c w es) k (lines.NodeWiped y) → ⊥)
+whole_on : (c : Config) (hs : List Happened) (w : World) (es : List Move) (y l : ℕ) → Rebuilding c hs w → is_in y (set_of c l) ≡ true → Whole l (node_at w.state y) → ((k : ℕ) → Writes (trace c w es) k (lines.NodeWiped y) → ⊥)
     → Whole l (node_at (world_after c w es).state y) × ((k : ℕ) → Writes (trace c w es) k (lines.NodeRebuilt y l) → ⊥)
 unfolding world_after finish
 whole_on c hs w [] y l R i W n = (W, λ k x. absurd (not_none x.1))
-whole_on c hs w (e ∷ es) y l R i W n =
+whole_on c hs w (Takes e ∷ es) y l R i W n =
     let N = R.0.0.0.0.0.0.0 in
     let U = R.0.0.0.1.ups in
     let K : (z k : ℕ) → is_in z (set_of c k) ≡ true → BlankFine (node_at w.state z) = λ z k v h. ((R.0.0.1.1.1 z k v).idle h).0 in
@@ -351,7 +351,7 @@ whole_on c hs w (e ∷ es) y l R i W n =
       | inr a ↦ let rest = whole_on c (hs ++ happened c w.state e ∷ []) (next_world c w e) es y l ((rebuilding_kept c).goes_on hs w e R) i a (λ k x. n (suc k) (next_line (happened c w.state e) (trace c (next_world c w e) es) k _ x)) in
           (rest.0, no_line rest.1)
     ] where
-      no_line : ((k : ℕ) → Writes (trace c (next_world c w e) es) k (lines.NodeRebuilt y l) → ⊥) → (k : ℕ) → Writes (trace c w (e ∷ es)) k (lines.NodeRebuilt y l) → ⊥
+      no_line : ((k : ℕ) → Writes (trace c (next_world c w e) es) k (lines.NodeRebuilt y l) → ⊥) → (k : ℕ) → Writes (trace c w (Takes e ∷ es)) k (lines.NodeRebuilt y l) → ⊥
       no_line r zero x = let z = rebuilds_now c hs w e R.0.0.0.0.0.0.0 R.0.0.0.1.ups (λ z k v h. ((R.0.0.1.1.1 z k v).idle h).0) R.1 y l (subst (λ (h : Happened). In (lines.NodeRebuilt y l) h.lines) (Some_inj (sym x.1)) (In-slice_get _ _ x.2 x.3)) in
           not_both (log_of (node_at w.state y).plain l).lost z.1 (W (node_at w.state y).plain (inl refl)).1
       no_line r (suc k) x = r k x
@@ -370,5 +370,5 @@ stands_in_lines c hs w S y l e i h = let x = node_at w.state y in elim (cases_Bo
   | inr t ↦ let k = lost_cut l e x.cut (subst (λ b. (b || cut_may l e x.cut) ≡ true) t h) in (S.1 y l i).lost k.0.plain e (inr (k.0, k.1, refl)) k.2
 ]
 
-pub lost_stands_in_lines : (c : Config) (es : List Event) (y l e : ℕ) → is_in y (set_of c l) ≡ true → may_be_lost l e (node_at (world_after c (begin c) es).state y) ≡ true → stands_for e (standing y l (trace c (begin c) es) Lost) ≡ true
+pub lost_stands_in_lines : (c : Config) (es : List Move) (y l e : ℕ) → is_in y (set_of c l) ≡ true → may_be_lost l e (node_at (world_after c (begin c) es).state y) ≡ true → stands_for e (standing y l (trace c (begin c) es) Lost) ≡ true
 lost_stands_in_lines c es = stands_in_lines c (trace c (begin c) es) (world_after c (begin c) es) (later c (λ hs w. Base c hs w × Standings c hs w) (standings_kept c) [] (begin c) es (standings_kept c).begins).1

@@ -25,7 +25,7 @@ use Rattle.ld_machine.specs.State.{State, Done, start, finish, node_at, with_nod
 use Rattle.ld_machine.specs.Facts.{Happened, Writes, OfLog}
 use Rattle.ld_machine.specs.World.{World, In, begin}
 use Rattle.ld_machine.specs.Invariant.{ReleasesAcked, ReleasedAcked, OpenTrims, Acked, IsOpen, released_in}
-use Rattle.ld_machine.specs.Run.{next_world, world_after, trace}
+use Rattle.ld_machine.specs.Run.{Move, next_world, world_after, trace}
 use Rattle.ld_machine.specs.Step as Step
 use Rattle.ld_safety.proofs.Lists.{Some_inj, not_none, not_both, only, cond_both}
 use Rattle.ld_safety.proofs.Traces.{Keeps, happened, later, beside_kept}
@@ -234,8 +234,8 @@ module _ (c : Config) (hs : List Happened) (w : World) (R : Releasing c hs w) wh
       let k : z.0 ≡ l = Some_inj (sym z.1 ∙ i.1.of_log) in
       subst (λ x. Acked hs x n) k (z.2 (subst (λ x. IsOpen w x (home_epoch t)) (sym k) (subst (IsOpen w l) (sym q) o)) n (subst (λ x. numbered x 1 ≤ n) (sym q) lo) hi)
 
-pub releases_cover_acknowledged : (c : Config) (es : List Event) → IsInBounds c → ReleasesAcked (trace c (begin c) es) (world_after c (begin c) es)
+pub releases_cover_acknowledged : (c : Config) (es : List Move) → IsInBounds c → ReleasesAcked (trace c (begin c) es) (world_after c (begin c) es)
 releases_cover_acknowledged c es b = releases_here c (trace c (begin c) es) (world_after c (begin c) es) (later c (Releasing c) (releasing_kept c b) [] (begin c) es (releasing_kept c b).begins)
 
-pub open_trims_cover_acknowledged : (c : Config) (es : List Event) → IsInBounds c → OpenTrims (trace c (begin c) es) (world_after c (begin c) es)
+pub open_trims_cover_acknowledged : (c : Config) (es : List Move) → IsInBounds c → OpenTrims (trace c (begin c) es) (world_after c (begin c) es)
 open_trims_cover_acknowledged c es b = open_trims_here c (trace c (begin c) es) (world_after c (begin c) es) (later c (Releasing c) (releasing_kept c b) [] (begin c) es (releasing_kept c b).begins)

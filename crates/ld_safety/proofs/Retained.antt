@@ -11,7 +11,7 @@ use Rattle.ld_machine.specs.Facts.{Happened}
 use Rattle.ld_machine.specs.World.{World, In, Sent, Stored, begin, MayHold, HasPlan, Holds, from_node, has_at_least}
 use Rattle.ld_machine.specs.World as world
 use Rattle.ld_machine.specs.Invariant.{Retains, SealsHold, CutAbove}
-use Rattle.ld_machine.specs.Run.{world_after, trace}
+use Rattle.ld_machine.specs.Run.{Move, world_after, trace}
 use Rattle.ld_safety.proofs.Lists.{Some_inj, not_none}
 use Rattle.ld_safety.proofs.Traces.{later}
 use Rattle.ld_safety.proofs.GivenSteps.{BaseGiven}
@@ -58,8 +58,8 @@ module _ (c : Config) (hs : List Happened) (w : World) (R : Along c hs w) where
   pub seals_here : SealsHold w
   seals_here y p m l b from upto t lng es i = elim ((at_nodes y p m).seals l b from upto t lng es i) [ inl h ↦ inl (unserved p l (epoch_of from) h) | inr h ↦ inr h ]
 
-pub stored_stays : (c : Config) (es : List Event) → Retains (world_after c (begin c) es)
+pub stored_stays : (c : Config) (es : List Move) → Retains (world_after c (begin c) es)
 stored_stays c es = let p = later c (λ hs w. BaseGiven c hs w × Along c hs w) (along_kept c) [] (begin c) es (along_kept c).begins in retains_here c (trace c (begin c) es) (world_after c (begin c) es) p.1
 
-pub seals_hold : (c : Config) (es : List Event) → SealsHold (world_after c (begin c) es)
+pub seals_hold : (c : Config) (es : List Move) → SealsHold (world_after c (begin c) es)
 seals_hold c es = let p = later c (λ hs w. BaseGiven c hs w × Along c hs w) (along_kept c) [] (begin c) es (along_kept c).begins in seals_here c (trace c (begin c) es) (world_after c (begin c) es) p.1

@@ -7,7 +7,7 @@ use Rattle.ld_schedule.specs.declared.event.Event.{Event}
 use Rattle.ld_machine.specs.Facts.{Happened}
 use Rattle.ld_machine.specs.World.{World, begin, chosen}
 use Rattle.ld_machine.specs.Invariant.{SequencersDrawn, Acked}
-use Rattle.ld_machine.specs.Run.{world_after, trace}
+use Rattle.ld_machine.specs.Run.{Move, world_after, trace}
 use Rattle.ld_safety.proofs.Lists.{Some_inj}
 use Rattle.ld_safety.proofs.Names.{found}
 use Rattle.ld_safety.proofs.Traces.{later}
@@ -28,5 +28,5 @@ pub acked_chosen : (c : Config) (hs : List Happened) (w : World) → AllTold c h
 unfolding chosen
 acked_chosen c hs w T l n a = le-leb _ _ (acknowledged_of c hs w T l n a).chosen
 
-pub epochs_are_drawn_once : (c : Config) (es : List Event) → SequencersDrawn (world_after c (begin c) es)
+pub epochs_are_drawn_once : (c : Config) (es : List Move) → SequencersDrawn (world_after c (begin c) es)
 epochs_are_drawn_once c es = sequencers_here c (trace c (begin c) es) (world_after c (begin c) es) (later c (Base c) (base_kept c) [] (begin c) es (base_kept c).begins)

@@ -17,7 +17,7 @@ use Rattle.ld_machine.specs.State.{finish}
 use Rattle.ld_machine.specs.Facts.{Happened}
 use Rattle.ld_machine.specs.World.{World, In, begin, item, settled, HasPlan, plan_trim}
 use Rattle.ld_machine.specs.Invariant.{StandsOn, Follows, Closed, IsOpen, Ready}
-use Rattle.ld_machine.specs.Run.{next_world, world_after, trace}
+use Rattle.ld_machine.specs.Run.{Move, next_world, world_after, trace}
 use Rattle.ld_safety.proofs.Lists.{not_none, cond_both, count_mono, not_both}
 use Rattle.ld_safety.proofs.Traces.{Keeps, happened, later, beside_kept, both_kept}
 use Rattle.ld_safety.proofs.HandedLaws.{Handing, handing_kept}
@@ -257,5 +257,5 @@ StandingOn c hs w = ((BaseGiven c hs w × Along c hs w) × TrimAcked c hs w) × 
 pub standing_kept : (c : Config) → Keeps c (StandingOn c)
 standing_kept c = both_kept c (λ hs w. (BaseGiven c hs w × Along c hs w) × TrimAcked c hs w) (Handing c) (trim_acked_kept c) (handing_kept c)
 
-pub what_stands_is_followed : (c : Config) (es : List Event) → StandsOn c (world_after c (begin c) es)
+pub what_stands_is_followed : (c : Config) (es : List Move) → StandsOn c (world_after c (begin c) es)
 what_stands_is_followed c es = let p = later c (StandingOn c) (standing_kept c) [] (begin c) es (standing_kept c).begins in stands_here c (trace c (begin c) es) (world_after c (begin c) es) p.0.0 p.0.1 p.1.1.1

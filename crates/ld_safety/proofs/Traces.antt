@@ -12,37 +12,19 @@ use Rattle.ld_machine.specs.State.{State, Stepped, start, finish, or_none}
 use Rattle.ld_machine.specs.Step.{happens, delivers}
 use Rattle.ld_machine.specs.Facts.{Happened}
 use Rattle.ld_machine.specs.World.{World, begin}
-use Rattle.ld_machine.specs.Run.{Went, flow_steps, flows, one_step, steps_of, step, history_from, history, lines_of, state_after, next_world, world_after}
+use Rattle.ld_machine.specs.Run.{Went, Move, Takes, flow_steps, flow_moves, flows, one_step, steps_of, moves_of, step, history_from, history, moves_from, moves, lines_of, state_after, next_world, world_after}
 pub use Rattle.ld_machine.specs.Run.{happened, trace}
-use Rattle.ld_safety.specs.OneRun.{says_something, lines_in, events_in, LinesAreTheSteps, StepsAreTheTrace}
+use Rattle.ld_safety.specs.OneRun.{says_something, lines_in, LinesAreTheSteps, StepsAreTheTrace}
 
--- the deliveries of a flow
-abbrev flow_atoms : ℕ → Config → State → List Event
-flow_atoms zero c s = []
-flow_atoms (suc k) c s = elim (oldest_new s.network) [ None ↦ [] | Some i ↦ events.Deliver i ∷ flow_atoms k c (finish (delivers c s i)).state ]
-
-abbrev atoms_of : Config → State → Event → List Event
-atoms_of c s (events.Flow k) = flow_atoms k c s
-atoms_of c s e = e ∷ []
-
-abbrev atoms : Config → State → List Event → List Event
-atoms c s [] = []
-atoms c s (e ∷ es) = atoms_of c s e ++ atoms c (steps_of c s e).state es
-
-trace-append : (c : Config) (w : World) (es fs : List Event) → trace c w (es ++ fs) ≡ trace c w es ++ trace c (world_after c w es) fs
+trace-append : (c : Config) (w : World) (es fs : List Move) → trace c w (es ++ fs) ≡ trace c w es ++ trace c (world_after c w es) fs
 unfolding world_after
 trace-append c w [] fs = refl
-trace-append c w (e ∷ es) fs = ap (λ t. happened c w.state e ∷ t) (trace-append c (next_world c w e) es fs)
+trace-append c w (Takes e ∷ es) fs = ap (λ t. happened c w.state e ∷ t) (trace-append c (next_world c w e) es fs)
 
-after-append : (c : Config) (w : World) (es fs : List Event) → world_after c w (es ++ fs) ≡ world_after c (world_after c w es) fs
+after-append : (c : Config) (w : World) (es fs : List Move) → world_after c w (es ++ fs) ≡ world_after c (world_after c w es) fs
 unfolding world_after
 after-append c w [] fs = refl
-after-append c w (e ∷ es) fs = after-append c (next_world c w e) es fs
-
--- the events of a trace are those that it was made of
-traced : (c : Config) (w : World) (es : List Event) → events_in (trace c w es) ≡ es
-traced c w [] = refl
-traced c w (e ∷ es) = ap (λ fs. e ∷ fs) (traced c (next_world c w e) es)
+after-append c w (Takes e ∷ es) fs = after-append c (next_world c w e) es fs
 
 abbrev telling : List Line → List Line
 telling ls = filter says_something ls
@@ -51,16 +33,16 @@ telling-append : (hs gs : List Happened) → telling (lines_in (hs ++ gs)) ≡ t
 telling-append hs gs = ap telling (flat_map-append (λ (h : Happened). h.lines) hs gs) ∙ filter-append says_something (lines_in hs) (lines_in gs)
 
 -- some steps are those of their events, one for each, and come to the same as one event
-record SameSteps (c : Config) (w : World) (v : Went) (f : Stepped) (es : List Event) : Type 0 where
+record SameSteps (c : Config) (w : World) (v : Went) (f : Stepped) (es : List Move) : Type 0 where
   steps : v.happened ≡ trace c w es
   state : v.state ≡ (world_after c w es).state
   reached : v.state ≡ f.state
   lines : telling (lines_in v.happened) ≡ telling f.lines
 
-flow_case : (k : ℕ) (c : Config) (w : World) → ((v : World) → SameSteps c v (flow_steps k c v.state) (flows k c v.state) (flow_atoms k c v.state)) → (o : Option ℕ) → SameSteps c w
+flow_case : (k : ℕ) (c : Config) (w : World) → ((v : World) → SameSteps c v (flow_steps k c v.state) (flows k c v.state) (flow_moves k c v.state)) → (o : Option ℕ) → SameSteps c w
     (elim o as (λ _. Went) [ None ↦ record { state = w.state; happened = [] } | Some i ↦ (let r : Stepped = finish (delivers c w.state i) in let rest : Went = flow_steps k c r.state in record { state = rest.state; happened = record { event = events.Deliver i; lines = r.lines } ∷ rest.happened }) ])
     (elim o as (λ _. Stepped) [ None ↦ record { state = w.state; lines = [] } | Some i ↦ (let r : Stepped = finish (delivers c w.state i) in let rest : Stepped = flows k c r.state in record { state = rest.state; lines = r.lines ++ rest.lines }) ])
-    (elim o as (λ _. List Event) [ None ↦ [] | Some i ↦ events.Deliver i ∷ flow_atoms k c (finish (delivers c w.state i)).state ])
+    (elim o as (λ _. List Move) [ None ↦ [] | Some i ↦ Takes (events.Deliver i) ∷ flow_moves k c (finish (delivers c w.state i)).state ])
 unfolding happens world_after
 flow_case k c w ih None = record { steps = refl; state = refl; reached = refl; lines = refl }
 flow_case k c w ih (Some i) = let v = next_world c w (events.Deliver i) in let ls : List Line = (finish (delivers c w.state i)).lines in let r = ih v in record {
@@ -70,7 +52,7 @@ flow_case k c w ih (Some i) = let v = next_world c w (events.Deliver i) in let l
   lines = filter-append says_something ls (lines_in (flow_steps k c v.state).happened) ∙ ap (λ t. telling ls ++ t) r.lines ∙ sym (filter-append says_something ls (flows k c v.state).lines);
 }
 
-flow_same : (k : ℕ) (c : Config) (w : World) → SameSteps c w (flow_steps k c w.state) (flows k c w.state) (flow_atoms k c w.state)
+flow_same : (k : ℕ) (c : Config) (w : World) → SameSteps c w (flow_steps k c w.state) (flows k c w.state) (flow_moves k c w.state)
 unfolding world_after
 flow_same zero c w = record { steps = refl; state = refl; reached = refl; lines = refl }
 flow_same (suc k) c w = flow_case k c w (λ v. flow_same k c v) (oldest_new w.state.network)
@@ -79,11 +61,11 @@ no_none : (ls : List Line) → telling ls ≡ telling (or_none ls)
 no_none [] = refl
 no_none (l ∷ ls) = refl
 
-one_same : (c : Config) (w : World) (e : Event) → SameSteps c w (one_step e (finish (happens c w.state e))) (finish (happens c w.state e)) (e ∷ [])
+one_same : (c : Config) (w : World) (e : Event) → SameSteps c w (one_step e (finish (happens c w.state e))) (finish (happens c w.state e)) (Takes e ∷ [])
 unfolding world_after
 one_same c w e = record { steps = refl; state = refl; reached = refl; lines = ap telling (append-nil (finish (happens c w.state e)).lines) }
 
-event_same : (c : Config) (w : World) (e : Event) → SameSteps c w (steps_of c w.state e) (step c w.state e) (atoms_of c w.state e)
+event_same : (c : Config) (w : World) (e : Event) → SameSteps c w (steps_of c w.state e) (step c w.state e) (moves_of c w.state e)
 unfolding steps_of step
 event_same c w (events.Flow k) = let r = flow_same k c w in record { steps = r.steps; state = r.state; reached = r.reached; lines = r.lines ∙ no_none (flows k c w.state).lines }
 event_same c w (events.Format n) = one_same c w (events.Format n)
@@ -106,8 +88,8 @@ event_same c w (events.RegFail k done) = one_same c w (events.RegFail k done)
 
 -- so are the steps of a run
 record SameRun (c : Config) (w : World) (es : List Event) : Type 0 where
-  steps : history_from c w.state es ≡ trace c w (atoms c w.state es)
-  state : (world_after c w (atoms c w.state es)).state ≡ state_after c w.state es
+  steps : history_from c w.state es ≡ trace c w (moves_from c w.state es)
+  state : (world_after c w (moves_from c w.state es)).state ≡ state_after c w.state es
   lines : telling (lines_in (history_from c w.state es)) ≡ telling (lines_of c w.state es)
 
 run_same : (c : Config) (w : World) (es : List Event) → SameRun c w es
@@ -115,20 +97,20 @@ unfolding history_from world_after state_after lines_of
 run_same c w [] = record { steps = refl; state = refl; lines = refl }
 run_same c w (e ∷ es) =
     let r = event_same c w e in
-    let v : World = world_after c w (atoms_of c w.state e) in
+    let v : World = world_after c w (moves_of c w.state e) in
     let s : State = (steps_of c w.state e).state in
     let f : Stepped = step c w.state e in
     let rest : SameRun c v es = run_same c v es in
-    let steps : history_from c s es ≡ trace c v (atoms c s es) = subst (λ t. history_from c t es ≡ trace c v (atoms c t es)) (sym r.state) rest.steps in
-    let state : (world_after c v (atoms c s es)).state ≡ state_after c s es = subst (λ t. (world_after c v (atoms c t es)).state ≡ state_after c t es) (sym r.state) rest.state in
+    let steps : history_from c s es ≡ trace c v (moves_from c s es) = subst (λ t. history_from c t es ≡ trace c v (moves_from c t es)) (sym r.state) rest.steps in
+    let state : (world_after c v (moves_from c s es)).state ≡ state_after c s es = subst (λ t. (world_after c v (moves_from c t es)).state ≡ state_after c t es) (sym r.state) rest.state in
     let lines : telling (lines_in (history_from c s es)) ≡ telling (lines_of c s es) = subst (λ t. telling (lines_in (history_from c t es)) ≡ telling (lines_of c t es)) (sym r.state) rest.lines in record {
-      steps = (λ i. r.steps i ++ steps i) ∙ sym (trace-append c w (atoms_of c w.state e) (atoms c s es));
-      state = ap (λ u. u.state) (after-append c w (atoms_of c w.state e) (atoms c s es)) ∙ state ∙ ap (λ t. state_after c t es) r.reached;
+      steps = (λ i. r.steps i ++ steps i) ∙ sym (trace-append c w (moves_of c w.state e) (moves_from c s es));
+      state = ap (λ u. u.state) (after-append c w (moves_of c w.state e) (moves_from c s es)) ∙ state ∙ ap (λ t. state_after c t es) r.reached;
       lines = telling-append (steps_of c w.state e).happened (history_from c s es) ∙ (λ i. r.lines i ++ lines i)
           ∙ ap (λ t. telling f.lines ++ telling (lines_of c t es)) r.reached ∙ sym (filter-append says_something f.lines (lines_of c f.state es));
     }
 
-history_same : (c : Config) (es : List Event) → history c es ≡ trace c (begin c) (atoms c (start c) es)
+history_same : (c : Config) (es : List Event) → history c es ≡ trace c (begin c) (moves c es)
 history_same c es = (run_same c (begin c) es).steps
 
 -- ---- one run ----
@@ -136,10 +118,7 @@ pub lines_are_the_steps : LinesAreTheSteps
 lines_are_the_steps c es = (run_same c (begin c) es).lines
 
 pub steps_are_the_trace : StepsAreTheTrace
-steps_are_the_trace c es =
-    let r = run_same c (begin c) es in
-    let e : events_in (history c es) ≡ atoms c (start c) es = ap events_in r.steps ∙ traced c (begin c) (atoms c (start c) es) in
-    (ap (trace c (begin c)) e ∙ sym r.steps, ap (λ fs. (world_after c (begin c) fs).state) e ∙ r.state)
+steps_are_the_trace c es = let r = run_same c (begin c) es in (sym r.steps, r.state)
 
 -- ---- what each step keeps ----
 
@@ -160,30 +139,30 @@ pub record Moment (c : Config) (P : List Happened → World → Type 0) (hs : Li
   pub place : length before ≡ k
 
 module _ (c : Config) (P : List Happened → World → Type 0) (K : Keeps c P) where
-  pub later : (hs : List Happened) (w : World) (es : List Event) → P hs w → P (hs ++ trace c w es) (world_after c w es)
+  pub later : (hs : List Happened) (w : World) (es : List Move) → P hs w → P (hs ++ trace c w es) (world_after c w es)
   unfolding world_after
   later hs w [] p = subst (λ t. P t w) (sym (append-nil hs)) p
-  later hs w (e ∷ es) p = subst (λ t. P t (world_after c (next_world c w e) es)) (append_assoc hs (happened c w.state e ∷ []) (trace c (next_world c w e) es))
+  later hs w (Takes e ∷ es) p = subst (λ t. P t (world_after c (next_world c w e) es)) (append_assoc hs (happened c w.state e ∷ []) (trace c (next_world c w e) es))
       (later (hs ++ happened c w.state e ∷ []) (next_world c w e) es (K.goes_on hs w e p))
 
   -- it holds at the end
   pub at_end : (es : List Event) → (w : World) × P (history c es) w
-  at_end es = (world_after c (begin c) (atoms c (start c) es), subst (λ t. P t (world_after c (begin c) (atoms c (start c) es))) (sym (history_same c es)) (later [] (begin c) (atoms c (start c) es) K.begins))
+  at_end es = (world_after c (begin c) (moves c es), subst (λ t. P t (world_after c (begin c) (moves c es))) (sym (history_same c es)) (later [] (begin c) (moves c es) K.begins))
 
   moved : {hs gs : List Happened} {j k : ℕ} {h : Happened} → hs ≡ gs → j ≡ k → Moment c P hs j h → Moment c P gs k h
   moved e f m = record { before = m.before; after = m.after; world = m.world; event = m.event; holds = m.holds; is = m.is; split = sym e ∙ m.split; place = m.place ∙ f }
 
-  moment_later : (hs : List Happened) (w : World) (es : List Event) (k : ℕ) (h : Happened) → P hs w → slice_get (trace c w es) k ≡ Some h → Moment c P (hs ++ trace c w es) (length hs + k) h
+  moment_later : (hs : List Happened) (w : World) (es : List Move) (k : ℕ) (h : Happened) → P hs w → slice_get (trace c w es) k ≡ Some h → Moment c P (hs ++ trace c w es) (length hs + k) h
   moment_later hs w [] k h p g = absurd cc
-  moment_later hs w (e ∷ es) zero h p g = record { before = hs; after = trace c (next_world c w e) es; world = w; event = e; holds = p; is = cc; split = let q : h ≡ happened c w.state e = cc in ap (λ t. hs ++ (t ∷ trace c (next_world c w e) es)) (sym q); place = omega arith }
-  moment_later hs w (e ∷ es) (suc k) h p g =
+  moment_later hs w (Takes e ∷ es) zero h p g = record { before = hs; after = trace c (next_world c w e) es; world = w; event = e; holds = p; is = cc; split = let q : h ≡ happened c w.state e = cc in ap (λ t. hs ++ (t ∷ trace c (next_world c w e) es)) (sym q); place = omega arith }
+  moment_later hs w (Takes e ∷ es) (suc k) h p g =
       moved (append_assoc hs (happened c w.state e ∷ []) (trace c (next_world c w e) es)) (let n = length-append hs (happened c w.state e ∷ []) in omega arith)
       (moment_later (hs ++ happened c w.state e ∷ []) (next_world c w e) es k h (K.goes_on hs w e p) g)
 
   -- and before each step
   pub at_step : (es : List Event) (k : ℕ) (h : Happened) → slice_get (history c es) k ≡ Some h → Moment c P (history c es) k h
   at_step es k h g = let s = history_same c es in
-      moved (sym s) (omega arith) (moment_later [] (begin c) (atoms c (start c) es) k h K.begins (subst (λ t. slice_get t k ≡ Some h) s g))
+      moved (sym s) (omega arith) (moment_later [] (begin c) (moves c es) k h K.begins (subst (λ t. slice_get t k ≡ Some h) s g))
 
 -- two that are kept are kept together
 pub both_kept : (c : Config) (P Q : List Happened → World → Type 0) → Keeps c P → Keeps c Q → Keeps c (λ hs w. P hs w × Q hs w)

@@ -6,7 +6,6 @@ use Rattle.ld_table.specs.Words.{is_in, how_many}
 use Rattle.ld_lsn.specs.Number.{home_epoch}
 use Rattle.ld_config.specs.declared.config.Config.{Config}
 use Rattle.ld_config.specs.Bounds.{IsInBounds}
-use Rattle.ld_schedule.specs.declared.event.Event.{Event}
 use Rattle.ld_transcript.specs.declared.line.Line.TheVariants as lines
 use Rattle.ld_msg.specs.declared.msg.Summary.{Summary}
 use Rattle.ld_msg.specs.Reading.{Held, lacks}
@@ -17,7 +16,7 @@ use Rattle.ld_machine.specs.Disk.{Node, Cut}
 use Rattle.ld_machine.specs.State.{node_at}
 use Rattle.ld_machine.specs.Facts.{Writes, Lost, standing, stands_for}
 use Rattle.ld_machine.specs.World.{World, begin, MayHold, has_told, says_settled}
-use Rattle.ld_machine.specs.Run.{next_world, world_after, happened, trace}
+use Rattle.ld_machine.specs.Run.{Move, after_step, world_after, step_happened, trace}
 use Rattle.ld_machine.specs.Invariant.{Closed}
 use Rattle.ld_machine.specs.Losses.{EndsAsLoss}
 
@@ -29,7 +28,7 @@ LostUnder x l e g = (p : Plain) × MayHold x p × (p.generation ≡ g) × (is_lo
 
 -- a node that is lost under a generation, and is so later, was so all the time between
 abbrev pub LostOnce : Type 0
-LostOnce = (c : Config) (first between last : List Event) (y l e g : ℕ) → IsInBounds c →
+LostOnce = (c : Config) (first between last : List Move) (y l e g : ℕ) → IsInBounds c →
     LostUnder (node_at (world_after c (begin c) first).state y) l e g →
     LostUnder (node_at (world_after c (world_after c (world_after c (begin c) first) between) last).state y) l e g →
     LostUnder (node_at (world_after c (world_after c (begin c) first) between).state y) l e g
@@ -42,7 +41,7 @@ IsWhole l x = (p : Plain) → MayHold x p → (0 < p.generation) × ((log_of p l
 
 -- a node that is so stays so, and no line says that it is rebuilt, until a line says that it is wiped: also where a crash hid the record that it is rebuilt, so that no line told of it, and a load found it
 abbrev pub WholeStays : Type 0
-WholeStays = (c : Config) (first last : List Event) (y l : ℕ) → IsInBounds c → is_in y (set_of c l) ≡ true →
+WholeStays = (c : Config) (first last : List Move) (y l : ℕ) → IsInBounds c → is_in y (set_of c l) ≡ true →
     IsWhole l (node_at (world_after c (begin c) first).state y) →
     ((k : ℕ) → Writes (trace c (world_after c (begin c) first) last) k (lines.NodeWiped y) → ⊥) →
     IsWhole l (node_at (world_after c (world_after c (begin c) first) last).state y) × ((k : ℕ) → Writes (trace c (world_after c (begin c) first) last) k (lines.NodeRebuilt y l) → ⊥)
@@ -70,15 +69,15 @@ pub record ShowsWithout (w : World) (name : List ℕ) (s y : ℕ) : Type 0 where
   pub without : lacks s answer.body ≡ true
 
 -- the node is lost for the number's epoch, and stands lost for it in the lines
-pub record SeenLost (c : Config) (before : List Event) (asks : Event) (l s y : ℕ) : Type 0 where
-  pub state : is_lost_at l (home_epoch s) (node_at (next_world c (world_after c (begin c) before) asks).state y) ≡ true
-  pub lines : stands_for (home_epoch s) (standing y l (trace c (begin c) before ++ happened c (world_after c (begin c) before).state asks ∷ []) Lost) ≡ true
+pub record SeenLost (c : Config) (before : List Move) (asks : Move) (l s y : ℕ) : Type 0 where
+  pub state : is_lost_at l (home_epoch s) (node_at (after_step c (world_after c (begin c) before) asks).state y) ≡ true
+  pub lines : stands_for (home_epoch s) (standing y l (trace c (begin c) before ++ step_happened c (world_after c (begin c) before).state asks ∷ []) Lost) ≡ true
 
 -- when a reader asks once more for a number that it then calls lost, each node of the log is lost for it, or had shown the reader a clean page without it
 abbrev pub LossesWereSeen : Type 0
-LossesWereSeen = (c : Config) (name : List ℕ) (l s round : ℕ) (before : List Event) (asks : Event) (between : List Event) (gives : Event) (y : ℕ) → IsInBounds c →
+LossesWereSeen = (c : Config) (name : List ℕ) (l s round : ℕ) (before : List Move) (asks : Move) (between : List Move) (gives : Move) (y : ℕ) → IsInBounds c →
     EndsAsLoss c name l s round before asks between gives → is_in y (set_at c l (home_epoch s)) ≡ true →
-    SeenLost c before asks l s y ⊎ ShowsWithout (next_world c (world_after c (begin c) before) asks) name s y
+    SeenLost c before asks l s y ⊎ ShowsWithout (after_step c (world_after c (begin c) before) asks) name s y
 
 -- as many nodes as the log has copies are lost that had answered the number to the closing plan: each in its plain state, which a crash leaves where the record that the node writes is lost.
 -- It doesn't hold that each of them is lost in both states that a crash leaves, nor in the one that a load would find: a lost node that crashes in the record that it is rebuilt is not lost after this record.
@@ -91,5 +90,5 @@ CopiesAreLost c w l s = (y : Summary) × Closed w l (home_epoch s) y ×
 
 -- that holds where the reader asks once more for a number that it then calls lost
 abbrev pub CopiesWereLost : Type 0
-CopiesWereLost = (c : Config) (name : List ℕ) (l s round : ℕ) (before : List Event) (asks : Event) (between : List Event) (gives : Event) → IsInBounds c →
-    EndsAsLoss c name l s round before asks between gives → CopiesAreLost c (next_world c (world_after c (begin c) before) asks) l s
+CopiesWereLost = (c : Config) (name : List ℕ) (l s round : ℕ) (before : List Move) (asks : Move) (between : List Move) (gives : Move) → IsInBounds c →
+    EndsAsLoss c name l s round before asks between gives → CopiesAreLost c (after_step c (world_after c (begin c) before) asks) l s

@@ -16,7 +16,7 @@ ghost use Rattle.ld_machine.specs.Config.{set_of};
 ghost use Rattle.ld_machine.specs.State.{node_at};
 ghost use Rattle.ld_machine.specs.Facts.{Lost, Writes, standing, stands_for};
 ghost use Rattle.ld_machine.specs.World.{MayHold, Stored, begin, chosen};
-ghost use Rattle.ld_machine.specs.Run.{InvariantHolds, history, trace, world_after};
+ghost use Rattle.ld_machine.specs.Run.{InvariantHolds, Move, history, trace, world_after};
 ghost use Rattle.ld_machine.specs.Invariant.{Acked, Agrees, BallotsDrawn, Closed, CopiesOf, CopyAt, EntriesAreItems, GenerationsDrawn, HeldWasSent, IsOpen, OnePlan, OpenTrims, ReleasesAcked, Retains, SealsHold, SequencersDrawn, StandsOn, SummariesAgree, TrimsIssued};
 ghost use Rattle.ld_safety.specs.Lost.{CopiesWereLost, LossesWereSeen, LostOnce, WholeStays, may_be_lost};
 ghost use Rattle.ld_safety.specs.OneRun.{LinesAreTheSteps, StepsAreTheTrace};
@@ -26,7 +26,7 @@ pub fn lines_are_the_steps()
     ensures { LinesAreTheSteps }
 {}
 
-/// The steps of a run are the trace of their own events, which lead to the run's state.
+/// The steps of a run are the trace of what they take, which leads to the run's state.
 pub fn steps_are_the_trace()
     ensures { StepsAreTheTrace }
 {}
@@ -63,96 +63,96 @@ pub fn trims_were_issued()
 
 /// What as many nodes as there are copies stored for a ballot is in each plan of a greater ballot, unless it is trimmed there.
 pub fn recoveries_agree()
-    ensures { (c : Config) (es : List Event) → IsInBounds c → Agrees c (world_after c (begin c) es) }
+    ensures { (c : Config) (ms : List Move) → IsInBounds c → Agrees c (world_after c (begin c) ms) }
 {}
 
 /// In every state, each number of a closed epoch between its trim and its end was settled for the closing plan by as many nodes as there are copies, and each of these is blank, or lost for the epoch, or trimmed at the number, or has what the closing plan says.
 pub fn copies_stand()
-    ensures { (c : Config) (es : List Event) → IsInBounds c → (l e k : ℕ) (s : Summary) → Closed (world_after c (begin c) es) l e s → s.trim < numbered e k → 0 < k → k < s.end → CopiesOf c (world_after c (begin c) es) l (numbered e k) s.ballot }
+    ensures { (c : Config) (ms : List Move) → IsInBounds c → (l e k : ℕ) (s : Summary) → Closed (world_after c (begin c) ms) l e s → s.trim < numbered e k → 0 < k → k < s.end → CopiesOf c (world_after c (begin c) ms) l (numbered e k) s.ballot }
 {}
 
 /// In every state, what a node stored for a ballot it still has with at least that ballot, unless it doesn't serve the epoch, was trimmed at the number, or a later plan cut the number off.
 pub fn stored_stays()
-    ensures { (c : Config) (es : List Event) → IsInBounds c → Retains (world_after c (begin c) es) }
+    ensures { (c : Config) (ms : List Move) → IsInBounds c → Retains (world_after c (begin c) ms) }
 {}
 
 /// In every state, a node that gave a page for a ballot is sealed at it, unless it doesn't serve the epoch.
 pub fn seals_hold()
-    ensures { (c : Config) (es : List Event) → IsInBounds c → SealsHold (world_after c (begin c) es) }
+    ensures { (c : Config) (ms : List Move) → IsInBounds c → SealsHold (world_after c (begin c) ms) }
 {}
 
 /// In every state, each sequencer has an epoch that was handed out, and no two of a log have the same.
 pub fn epochs_are_drawn_once()
-    ensures { (c : Config) (es : List Event) → IsInBounds c → SequencersDrawn (world_after c (begin c) es) }
+    ensures { (c : Config) (ms : List Move) → IsInBounds c → SequencersDrawn (world_after c (begin c) ms) }
 {}
 
 /// In every state, each generation at a node, in what a node says and in what a reader asks it once more for was handed out to that node, and no two formats of a node have the same.
 pub fn generations_are_drawn_once()
-    ensures { (c : Config) (es : List Event) → IsInBounds c → GenerationsDrawn (trace c (begin c) es) (world_after c (begin c) es) }
+    ensures { (c : Config) (ms : List Move) → IsInBounds c → GenerationsDrawn (trace c (begin c) ms) (world_after c (begin c) ms) }
 {}
 
 /// In every state, each entry at a node, in a store or in a page has a ballot that was handed out, at least its epoch, and nodes are sealed at ballots that were handed out, as they say.
 pub fn ballots_were_drawn()
-    ensures { (c : Config) (es : List Event) → IsInBounds c → BallotsDrawn (world_after c (begin c) es) }
+    ensures { (c : Config) (ms : List Move) → IsInBounds c → BallotsDrawn (world_after c (begin c) ms) }
 {}
 
 /// In every state, each summary at a node or in a message is the one that closed its epoch in the register, and its ballot was handed out after the epoch.
 pub fn summaries_agree()
-    ensures { (c : Config) (es : List Event) → IsInBounds c → SummariesAgree (world_after c (begin c) es) }
+    ensures { (c : Config) (ms : List Move) → IsInBounds c → SummariesAgree (world_after c (begin c) ms) }
 {}
 
 /// In every state, each answer that a reader holds was sent to it by that node, and each entry in a recovery's digest came in a page of that node to the recovery's sequencer.
 pub fn what_is_held_was_sent()
-    ensures { (c : Config) (es : List Event) → IsInBounds c → HeldWasSent (world_after c (begin c) es) }
+    ensures { (c : Config) (ms : List Move) → IsInBounds c → HeldWasSent (world_after c (begin c) ms) }
 {}
 
 /// In every state, a ballot has planned an epoch of a log at most once.
 pub fn plans_are_made_once()
-    ensures { (c : Config) (es : List Event) → IsInBounds c → OnePlan (world_after c (begin c) es) }
+    ensures { (c : Config) (ms : List Move) → IsInBounds c → OnePlan (world_after c (begin c) ms) }
 {}
 
 /// In every state, each trim at a node, in a summary, in a message, in a recovery's digest, plan or summary, and in a digest that a plan was made from is none, or a point that was issued for the log.
 pub fn trims_are_issued_points()
-    ensures { (c : Config) (es : List Event) → IsInBounds c → TrimsIssued (trace c (begin c) es) (world_after c (begin c) es) }
+    ensures { (c : Config) (ms : List Move) → IsInBounds c → TrimsIssued (trace c (begin c) ms) (world_after c (begin c) ms) }
 {}
 
 /// In every state, each entry at a node, in a store or in a page, each item of a plan that is stored and each append that waits says what its ballot says of its number, and a record is the payload that was appended under it.
 pub fn entries_are_items()
-    ensures { (c : Config) (es : List Event) → IsInBounds c → EntriesAreItems (trace c (begin c) es) (world_after c (begin c) es) }
+    ensures { (c : Config) (ms : List Move) → IsInBounds c → EntriesAreItems (trace c (begin c) ms) (world_after c (begin c) ms) }
 {}
 
 /// In every state, what a plan says that closed its epoch, or that is settled while its epoch is open, is in each plan of a greater ballot, unless it is trimmed there, and none of these ends before it.
 pub fn what_stands_is_followed()
-    ensures { (c : Config) (es : List Event) → IsInBounds c → StandsOn c (world_after c (begin c) es) }
+    ensures { (c : Config) (ms : List Move) → IsInBounds c → StandsOn c (world_after c (begin c) ms) }
 {}
 
 /// In every state, a released number with a place covers only numbers of its epoch that lines acknowledged, and the epochs before it are closed.
 pub fn releases_cover_acknowledged()
-    ensures { (c : Config) (es : List Event) → IsInBounds c → ReleasesAcked (trace c (begin c) es) (world_after c (begin c) es) }
+    ensures { (c : Config) (ms : List Move) → IsInBounds c → ReleasesAcked (trace c (begin c) ms) (world_after c (begin c) ms) }
 {}
 
 /// In every state, a point of an open epoch that was issued covers only numbers of the epoch that lines acknowledged.
 pub fn open_trims_cover_acknowledged()
-    ensures { (c : Config) (es : List Event) → IsInBounds c → OpenTrims (trace c (begin c) es) (world_after c (begin c) es) }
+    ensures { (c : Config) (ms : List Move) → IsInBounds c → OpenTrims (trace c (begin c) ms) (world_after c (begin c) ms) }
 {}
 
 /// In every state, an acknowledged number of an open epoch was stored by as many nodes as there are copies, and each node that stored it is blank, or lost for the epoch, or trimmed at the number, or has the record.
 pub fn acknowledged_copies_stand()
-    ensures enough { (c : Config) (es : List Event) → IsInBounds c → (l n : ℕ) → IsOpen (world_after c (begin c) es) l (epoch_of n) → Acked (trace c (begin c) es) l n → chosen c (world_after c (begin c) es) l n (epoch_of n) ≡ true }
-    ensures kept { (c : Config) (es : List Event) → IsInBounds c → (l n y : ℕ) → IsOpen (world_after c (begin c) es) l (epoch_of n) → Acked (trace c (begin c) es) l n → Stored (world_after c (begin c) es) l y n (epoch_of n) → CopyAt (world_after c (begin c) es) l n (epoch_of n) y }
+    ensures enough { (c : Config) (ms : List Move) → IsInBounds c → (l n : ℕ) → IsOpen (world_after c (begin c) ms) l (epoch_of n) → Acked (trace c (begin c) ms) l n → chosen c (world_after c (begin c) ms) l n (epoch_of n) ≡ true }
+    ensures kept { (c : Config) (ms : List Move) → IsInBounds c → (l n y : ℕ) → IsOpen (world_after c (begin c) ms) l (epoch_of n) → Acked (trace c (begin c) ms) l n → Stored (world_after c (begin c) ms) l y n (epoch_of n) → CopyAt (world_after c (begin c) ms) l n (epoch_of n) y }
 {}
 
 /// In every state, a log that isn't lost at a node has each number above its trim of the clean epochs that were lost; a node that was rebuilt isn't lost again before it is wiped, nor rebuilt again, and the same holds from any state on in which it isn't lost, also where a crash hid the record that it is rebuilt.
 pub fn rebuilt_once()
-    ensures full { (c : Config) (es : List Event) → IsInBounds c → (y l : ℕ) (p : Plain) → MayHold (node_at (world_after c (begin c) es).state y) p → (log_of p l).lost ≡ false → missing (log_of p l) ≡ [] }
-    ensures stays { (c : Config) (es : List Event) → IsInBounds c → (n l j : ℕ) → Writes (trace c (begin c) es) j (NodeRebuilt n l) → ((k : ℕ) → Writes (trace c (begin c) es) k (NodeWiped n) → k < j) → (p : Plain) → MayHold (node_at (world_after c (begin c) es).state n) p → (log_of p l).lost ≡ false }
-    ensures once { (c : Config) (es : List Event) → IsInBounds c → (n l i j : ℕ) → Writes (trace c (begin c) es) i (NodeRebuilt n l) → Writes (trace c (begin c) es) j (NodeRebuilt n l) → i < j → (k : ℕ) × (i < k) × (k < j) × Writes (trace c (begin c) es) k (NodeWiped n) }
+    ensures full { (c : Config) (ms : List Move) → IsInBounds c → (y l : ℕ) (p : Plain) → MayHold (node_at (world_after c (begin c) ms).state y) p → (log_of p l).lost ≡ false → missing (log_of p l) ≡ [] }
+    ensures stays { (c : Config) (ms : List Move) → IsInBounds c → (n l j : ℕ) → Writes (trace c (begin c) ms) j (NodeRebuilt n l) → ((k : ℕ) → Writes (trace c (begin c) ms) k (NodeWiped n) → k < j) → (p : Plain) → MayHold (node_at (world_after c (begin c) ms).state n) p → (log_of p l).lost ≡ false }
+    ensures once { (c : Config) (ms : List Move) → IsInBounds c → (n l i j : ℕ) → Writes (trace c (begin c) ms) i (NodeRebuilt n l) → Writes (trace c (begin c) ms) j (NodeRebuilt n l) → i < j → (k : ℕ) × (i < k) × (k < j) × Writes (trace c (begin c) ms) k (NodeWiped n) }
     ensures hidden { WholeStays }
 {}
 
 /// In every state, a node of a log that may be lost for an epoch stands lost for it in the lines.
 pub fn lost_stands_in_lines()
-    ensures { (c : Config) (es : List Event) → IsInBounds c → (y l e : ℕ) → is_in y (set_of c l) ≡ true → may_be_lost l e (node_at (world_after c (begin c) es).state y) ≡ true → stands_for e (standing y l (trace c (begin c) es) Lost) ≡ true }
+    ensures { (c : Config) (ms : List Move) → IsInBounds c → (y l e : ℕ) → is_in y (set_of c l) ≡ true → may_be_lost l e (node_at (world_after c (begin c) ms).state y) ≡ true → stands_for e (standing y l (trace c (begin c) ms) Lost) ≡ true }
 {}
 
 /// A node that is lost for an epoch under a generation, and is so at a later moment, was so at each moment between.
