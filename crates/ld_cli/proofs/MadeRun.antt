@@ -12,6 +12,7 @@ use Rattle.ld_config.specs.declared.config.Config.{Config}
 use Rattle.ld_machine.specs.State.{State, start}
 use Rattle.ld_machine.specs.Run.{step, state_after, lines_of}
 use Rattle.ld_safety.proofs.LostJoined.{every_run_is_safe, copies_were_lost}
+use Rattle.ld_safety.proofs.Traces.{lines_are_the_steps}
 use Rattle.ld_cluster.specs.Standing.{config_of, past_of, state_of, IsReached}
 use Rattle.ld_cluster.specs.Steps.{Counts}
 use Rattle.ld_cluster.specs.declared.cluster.Cluster.{Cluster}
@@ -60,6 +61,7 @@ first_one_counts xs i e are inside at =
 pub made_is_safe : (events : List Event) → IsSafe made_config events
 made_is_safe events =
     record {
+      told = lines_are_the_steps made_config events;
       lines = every_run_is_safe made_config events;
       losses = λ name log number round before asks between gives after whole ends. copies_were_lost made_config name log number round before asks between gives made_in_bounds ends;
     }

@@ -10,6 +10,7 @@ use Rattle.ld_config.specs.declared.config.Config.{Config}
 use Rattle.ld_machine.specs.State.{State, start}
 use Rattle.ld_machine.specs.Run.{step, state_after, lines_of}
 use Rattle.ld_safety.proofs.LostJoined.{every_run_is_safe, copies_were_lost}
+use Rattle.ld_safety.proofs.Traces.{lines_are_the_steps}
 use Rattle.ld_schedule.specs.declared.event.Event.TheVariants as events
 use Rattle.ld_cluster.specs.Standing.{config_of, past_of, state_of, IsReached}
 use Rattle.ld_cluster.specs.Steps.{Counts}
@@ -41,6 +42,7 @@ pub record Playing (input_old input_new written_old written_new : Option (List �
 safe_run : (cluster : Cluster) → IsReached cluster → (events : List Event) → IsSafe (config_of cluster) events
 safe_run cluster reached events =
     record {
+      told = lines_are_the_steps (config_of cluster) events;
       lines = every_run_is_safe (config_of cluster) events;
       losses = λ name log number round before asks between gives after whole ends. copies_were_lost (config_of cluster) name log number round before asks between gives reached.bounds ends;
     }

@@ -1,13 +1,14 @@
 -- How a replay ends, by the bytes of the input and what was written.
-use Rattle.std.specs.Prelude.{ℕ, ◌≡◌, ◌+◌, ◌⊎◌, List, [], ◌∷◌, ◌++◌, length, map, Option}
+use Rattle.std.specs.Prelude.{ℕ, ◌≡◌, ◌+◌, ◌⊎◌, List, [], ◌∷◌, ◌++◌, length, Option}
 use Rattle.std.specs.Io.KnownBytes.{Appends}
 use Rattle.ld_schedule.specs.declared.event.Event.{Event}
 use Rattle.ld_config.specs.declared.config.Config.{Config}
-use Rattle.ld_machine.specs.Run.{transcript, history, next_world, world_after}
+use Rattle.ld_machine.specs.Run.{Move, transcript, history, moves, after_step, world_after}
 use Rattle.ld_machine.specs.World.{begin}
 use Rattle.ld_machine.specs.Losses.{EndsAsLoss}
 use Rattle.ld_machine.specs.Safe.{Safe}
-use Rattle.ld_safety.specs.Lost.{CopiesMayBeLost}
+use Rattle.ld_safety.specs.Lost.{CopiesAreLost}
+use Rattle.ld_safety.specs.OneRun.{AreOneRun}
 use Rattle.ld_cli.specs.declared.status.Stop.{Stop}
 use Rattle.ld_cli.specs.declared.status.Stop.TheVariants as stops
 use Rattle.ld_cli.specs.declared.status.Status.{Status}
@@ -18,22 +19,19 @@ use Rattle.ld_cli.specs.Schedule.{Configures, AreSpelt, schedule_text, IsOffFirs
 abbrev pub written_by : Config → List Event → List ℕ
 written_by config events = transcript config events
 
--- the steps of a run: each delivery of a flow is one of its own
-abbrev pub steps_of_run : Config → List Event → List Event
-steps_of_run config events = map (λ h. h.event) (history config events)
-
--- where a reader of the run asks once more for a number that it then calls lost, the number's epoch is closed, and as many nodes as the log has copies may be lost
--- for it of those that settled the number for the closing plan
+-- where a reader of the run asks once more for a number that it then calls lost, the number's epoch is closed, and of the nodes that settled the number for the
+-- closing plan as many as the log has copies are lost for it, each before a record that was cut short, where there is one
 abbrev pub LossesStood : Config → List Event → Type 0
-LossesStood config events = (name : List ℕ) (log number round : ℕ) (before : List Event) (asks : Event) (between : List Event) (gives : Event) (after : List Event)
-    → steps_of_run config events ≡ before ++ asks ∷ between ++ gives ∷ after
+LossesStood config events = (name : List ℕ) (log number round : ℕ) (before : List Move) (asks : Move) (between : List Move) (gives : Move) (after : List Move)
+    → moves config events ≡ before ++ asks ∷ between ++ gives ∷ after
     → EndsAsLoss config name log number round before asks between gives
-    → CopiesMayBeLost config (next_world config (world_after config (begin config) before) asks) log number
+    → CopiesAreLost config (after_step config (world_after config (begin config) before) asks) log number
 
 -- the headline: in the run of these events what each reader gets tiles the numbers from its first one on, a record is the payload that was appended under its
 -- number, no hole or bridge holds a number that was acknowledged or read as a record, a trim gap ends at an issued point, and a data loss had its moment, in the
--- lines and in the state
+-- lines and in the state; and these are the lines of the transcript, but for `none`
 pub record IsSafe (config : Config) (events : List Event) : Type 0 where
+  pub told : AreOneRun config events
   pub lines : Safe config (history config events)
   pub losses : LossesStood config events
 
