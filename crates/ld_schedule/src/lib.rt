@@ -10,8 +10,6 @@ mod law;
 mod number;
 mod read;
 #[cfg(test)]
-mod slow;
-#[cfg(test)]
 mod tests;
 mod words;
 
