@@ -1,6 +1,6 @@
 -- Lists that begin with a list.
-use Rattle.std.proofs.Common.{◌≡◌, ℕ, List, ◌++◌, length, take, ap, ◌∙◌, arith}
-use Rattle.std.proofs.lemmas.List.{length-take, take-append-le, take_all}
+use Rattle.std.proofs.Common.{◌≡◌, ℕ, List, ◌++◌, length, take, drop, ap, sym, ◌∙◌, arith}
+use Rattle.std.proofs.lemmas.List.{length-take, take-append-le, take-append-drop, take_all}
 use Rattle.ld_recovery.specs.Sending.{BeginsWith}
 
 pub begins_itself : {X : Type 0} (xs : List X) → BeginsWith xs xs
@@ -15,6 +15,10 @@ begins_on old out more now e b =
 pub taken_back : {X : Type 0} (old out now : List X) (n : ℕ) → n ≡ length old → now ≡ take n out → BeginsWith old out → now ≡ old
 taken_back old out now n e t b = t ∙ (ap (λ k. take k out) e ∙ b)
 
-pub ruleset begin_rules = (begins_itself, begins_on)
+pub begins_then : {X : Type 0} (old out now : List X) → BeginsWith out now → BeginsWith old out → BeginsWith old now
+begins_then {X = X} old out now c b =
+    begins_on old out (drop (length out) now) now (sym (ap (λ (l : List X). l ++ drop (length out) now) (sym c) ∙ take-append-drop (length out) now)) b
+
+pub ruleset begin_rules = (begins_itself, begins_on, begins_then)
 
 pub ruleset back_rules = (taken_back)

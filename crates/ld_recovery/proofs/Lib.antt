@@ -9,3 +9,4 @@ mod Numbers
 mod Sound
 mod Told
 mod Replying
+pub mod Bounded

@@ -11,6 +11,7 @@ use Rattle.ld_recovery.specs.declared.stage.Stage.TheVariants.{Seals, Stores, Cl
 use Rattle.ld_recovery.specs.declared.recovery.Ending as declared
 use Rattle.ld_recovery.specs.declared.recovery.Ending.TheVariants as endings
 use Rattle.ld_recovery.specs.declared.state.State.TheVariants as states
+use Rattle.ld_sequencer_bounds.specs.Sequencers.{IsStage, IsNamed}
 use Rattle.ld_recovery.specs.Planning.{IsClose}
 use Rattle.ld_recovery.specs.Recovering.{Recovering, IsDone, Closing, IsRecovery, IsClosing}
 use Rattle.ld_recovery.specs.Stages.{shown, IsOf}
@@ -36,7 +37,7 @@ done_if epoch (endings.Done z) y o h = let k : z ≡ y = cc in subst (λ (x : Su
 done_if epoch (endings.Gone l) y o h = absurd cc
 done_if epoch (endings.Preempted k) y o h = absurd cc
 
-pub holds : (spec : Spec) (epoch ballot : ℕ) (lost : List ℕ) (s : Stage) (e : declared.Ending) → IsOf spec epoch ballot s × (1 ≤ spec.r) × (1 ≤ epoch) × (epoch < ballot) × (ballot ≤ 2 ^ 32 - 2) × IsEnding epoch e → IsRecovery (held spec epoch ballot lost s e)
+pub holds : (spec : Spec) (epoch ballot : ℕ) (lost : List ℕ) (s : Stage) (e : declared.Ending) → IsOf spec epoch ballot s × (1 ≤ spec.r) × (1 ≤ epoch) × (epoch < ballot) × (ballot ≤ 2 ^ 32 - 2) × IsEnding epoch e × IsStage epoch (shown s) × IsNamed spec → IsRecovery (held spec epoch ballot lost s e)
 holds spec epoch ballot lost s e i = record {
   factor = i.1;
   epoch = i.2;
@@ -44,6 +45,8 @@ holds spec epoch ballot lost s e i = record {
   ballot = i.4;
   closes = λ y h. closes_if spec epoch ballot s y i.0 h;
   done = λ y h. done_if epoch e y i.5 h;
+  stage = i.6;
+  named = i.7;
 }
 
 summary_by : (epoch ballot : ℕ) (y : Summary) → epoch < ballot → ballot ≤ 2 ^ 32 - 2 → IsClose ballot y → IsSummary epoch y

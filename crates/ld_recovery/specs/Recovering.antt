@@ -15,6 +15,7 @@ use Rattle.ld_msg.specs.Digest.{no_digest}
 use Rattle.ld_msg.specs.Network.{posted}
 use Rattle.ld_msg.specs.Register.{Answer, Granted, AtLimit, Behind, Fails}
 use Rattle.ld_msg.specs.Sequencer.{Sequencer, Recovery, Seals, Closes, Acts, does_nothing, on_reply, on_retry, after_close}
+use Rattle.ld_sequencer_bounds.specs.Sequencers.{IsStage, IsNamed}
 use Rattle.ld_recovery.specs.Planning.{IsClose}
 
 -- how a recovery ended, where it did
@@ -161,6 +162,8 @@ pub record IsRecovery (r : Recovering) : Type 0 where
   pub ballot : r.ballot ≤ 2 ^ 32 - 2
   pub closes : (y : Summary) → r.recovery.stage ≡ Closes y → IsClose r.ballot y
   pub done : (y : Summary) → r.ending ≡ IsDone y → IsSummary r.recovery.epoch y
+  pub stage : IsStage r.recovery.epoch r.recovery.stage
+  pub named : IsNamed r.spec
 
 -- the epoch is to be closed with this summary of it, by the sequencer, with no number known to be good
 pub record IsClosing (r : Recovering) (y : Summary) : Type 0 where

@@ -5,6 +5,7 @@ ghost use Rattle.ld_ids.specs.Choice.{at_epoch};
 ghost use Rattle.ld_msg.specs.declared.msg.Summary.{Summary as Told};
 ghost use Rattle.ld_msg.specs.declared.msg.Body.TheVariants.{Stored, SealedHere, LostHere, CleanHere, TrimmedHere, DigestPage};
 ghost use Rattle.ld_msg.specs.Register.{Granted};
+ghost use Rattle.ld_node_bounds.specs.Messages.{AreMessages};
 ghost use Rattle.ld_recovery.specs.Stages.{IsOf};
 ghost use Rattle.ld_msg.specs.Bounds.{IsMessage, IsSummary, IsPage};
 ghost use Rattle.ld_lsn.specs.Number.{epoch_of};
@@ -65,17 +66,18 @@ impl Model for Recovery {
     ghost use Rattle.ld_recovery.specs.Recovering.{Recovering};
     ghost use Rattle.ld_recovery.specs.Stages.{shown, IsOf};
     ghost use Rattle.ld_recovery.specs.States.{shown_ending, IsEnding};
+    ghost use Rattle.ld_sequencer_bounds.specs.Sequencers.{IsStage, IsNamed};
 
     ghost Value = { Recovering };
 
     ghost view = { λ a. record { spec = a.spec; ballot = a.ballot; recovery = record { epoch = a.epoch; lost = a.lost; stage = shown a.stage }; ending = shown_ending a.ending } };
 
-    ghost invariant = { λ a. IsOf a.spec a.epoch a.ballot a.stage × (1 ≤ a.spec.r) × (1 ≤ a.epoch) × (a.epoch < a.ballot) × (a.ballot ≤ 2 ^ 32 - 2) × IsEnding a.epoch a.ending };
+    ghost invariant = { λ a. IsOf a.spec a.epoch a.ballot a.stage × (1 ≤ a.spec.r) × (1 ≤ a.epoch) × (a.epoch < a.ballot) × (a.ballot ≤ 2 ^ 32 - 2) × IsEnding a.epoch a.ending × IsStage a.epoch (shown a.stage) × IsNamed a.spec };
 }
 
 impl Recovery {
     /// Begins to recover the epoch of the log, by the sequencer of a later one: all nodes are asked for what they have.
-    /// Without memory nothing is sent.
+    /// Without memory nothing is sent. Behind messages it sends messages.
     pub fn start(
         alloc: Global,
         spec: &Spec,
@@ -90,7 +92,9 @@ impl Recovery {
         ensures value { IfOk result (λ recovery. recovery ≡ started spec.now epoch ballot) }
         ensures sent { OnOk result (out.new ≡ out.old ++ messages (started spec.now epoch ballot) (digest_asks (no_digest (at_epoch spec.now epoch) epoch))) }
         ensures unsent { OnErr result (out.new ≡ out.old) }
+        ensures messages { AreMessages out.old → AreMessages out.new }
     {
+        let _ = (spec.log.number(), spec.set.len());
         let digest = Digest::new(alloc, spec, epoch)?;
         let sender = Sender {
             log: spec.log,
@@ -127,12 +131,14 @@ impl Recovery {
 
     /// A node's message comes. A recovery that has ended ignores it, and so does any of what doesn't speak of its epoch, but
     /// for a seal of a greater ballot and a close of the sequencer's own epoch, which preempt. Other messages than a node's
-    /// replies do nothing. Without memory a part may have been done: the recovery isn't used again.
+    /// replies do nothing. Without memory nothing is sent, and the recovery isn't used again. Behind messages it sends messages.
     pub fn on_reply(&mut self, alloc: Global, msg: &Msg, out: &mut Outbox) -> Result<(), NoMemory>
         requires { IsMessage msg.now }
         ensures value { OnOk result (self.new ≡ replied self.old (sender_of msg.now.from) msg.now.body) }
         ensures sent { OnOk result (out.new ≡ out.old ++ reply_messages self.old (sender_of msg.now.from) msg.now.body) }
         ensures done { OnOk result ((summary : Told) → state_of self.new ≡ states.Done summary → IsTold self.old msg.now.body summary) }
+        ensures unsent { OnErr result (out.new ≡ out.old) }
+        ensures messages { AreMessages out.old → AreMessages out.new }
     {
         if !self.goes_on() {
             return Ok(());
@@ -155,6 +161,8 @@ impl Recovery {
         requires reply { IsReply body.now }
         ensures value { OnOk result (self.new ≡ replied self.old node body.now) }
         ensures sent { OnOk result (out.new ≡ out.old ++ reply_messages self.old node body.now) }
+        ensures unsent { OnErr result (out.new ≡ out.old) }
+        ensures messages { AreMessages out.old → AreMessages out.new }
     {
         match body {
             Body::Stored { number } => {
@@ -247,6 +255,8 @@ impl Recovery {
         requires summary { IsSummary (epoch_of number) summary.now }
         ensures value { OnOk result (self.new ≡ replied self.old node (CleanHere number summary.now)) }
         ensures sent { OnOk result (out.new ≡ out.old ++ reply_messages self.old node (CleanHere number summary.now)) }
+        ensures unsent { OnErr result (out.new ≡ out.old) }
+        ensures messages { AreMessages out.old → AreMessages out.new }
     {
         let (epoch, _) = number.home();
         if epoch == self.ballot {
@@ -272,6 +282,8 @@ impl Recovery {
         requires page { IsPage page.now.from page.now.upto page.now.entries.now }
         ensures value { (lng : ℕ) → OnOk result (self.new ≡ replied self.old node (DigestPage page.now.from page.now.upto page.now.trim lng page.now.entries.now)) }
         ensures sent { (lng : ℕ) → OnOk result (out.new ≡ out.old ++ reply_messages self.old node (DigestPage page.now.from page.now.upto page.now.trim lng page.now.entries.now)) }
+        ensures unsent { OnErr result (out.new ≡ out.old) }
+        ensures messages { AreMessages out.old → AreMessages out.new }
     {
         if page.from.epoch() == self.epoch {
             let sender = self.sender();
@@ -281,16 +293,20 @@ impl Recovery {
                 epoch: self.epoch,
                 lost: &self.lost,
             };
+            let _ = page.trim.value();
             self.stage.take_page(alloc, &scope, node, page, out)?;
         }
         Ok(())
     }
 
     /// What is still wanted is asked for again: a page of each node that isn't whole, or, in a new wave, each item that has
-    /// too few nodes. A recovery that is closing or has ended sends nothing.
+    /// too few nodes. A recovery that is closing or has ended sends nothing. Without memory nothing is sent, and the recovery
+    /// isn't used again. Behind messages it sends messages.
     pub fn retry(&mut self, alloc: Global, out: &mut Outbox) -> Result<(), NoMemory>
         ensures value { OnOk result (self.new ≡ retried self.old) }
         ensures sent { OnOk result (out.new ≡ out.old ++ retry_messages self.old) }
+        ensures unsent { OnErr result (out.new ≡ out.old) }
+        ensures messages { AreMessages out.old → AreMessages out.new }
     {
         if self.goes_on() {
             let sender = self.sender();
@@ -299,12 +315,15 @@ impl Recovery {
         Ok(())
     }
 
-    /// The register's answer to the close. The recovery is closing.
+    /// The register's answer to the close. The recovery is closing. Without memory nothing is sent. Behind messages it sends
+    /// messages.
     pub fn closed(&mut self, answer: Answer, out: &mut Outbox) -> Result<(), NoMemory>
         requires closing { (summary : Told) × Closing self.old summary }
         requires answer { is_epoch_answer answer ≡ true }
         ensures value { (summary : Told) → Closing self.old summary → OnOk result (self.new ≡ closed_by self.old summary (answer_of answer)) }
         ensures sent { (summary : Told) → Closing self.old summary → OnOk result (out.new ≡ out.old ++ close_messages self.old summary (answer_of answer)) }
+        ensures unsent { OnErr result (out.new ≡ out.old) }
+        ensures messages { AreMessages out.old → AreMessages out.new }
     {
         match answer {
             Answer::Taken => self.done(out),
@@ -321,6 +340,8 @@ impl Recovery {
         requires { (summary : Told) × Closing self.old summary }
         ensures value { (summary : Told) → Closing self.old summary → OnOk result (self.new ≡ closed_by self.old summary Granted) }
         ensures sent { (summary : Told) → Closing self.old summary → OnOk result (out.new ≡ out.old ++ close_messages self.old summary Granted) }
+        ensures unsent { OnErr result (out.new ≡ out.old) }
+        ensures messages { AreMessages out.old → AreMessages out.new }
     {
         if let Some(summary) = self.stage.summary() {
             let sender = self.sender();

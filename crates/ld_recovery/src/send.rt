@@ -78,7 +78,8 @@ impl Sender {
         self.send(node, Body::DigestAsk { from }, out)
     }
 
-    /// Tells all nodes of the set how an epoch is closed.
+    /// Tells all nodes of the set how an epoch is closed. Without memory nothing is sent.
+    #[tactic(auto, using(crate::proofs::Begins::back_rules))]
     pub fn tell_clean(
         &self,
         set: &NodeSet,
@@ -86,7 +87,28 @@ impl Sender {
         summary: &Summary,
         out: &mut Outbox,
     ) -> Result<(), NoMemory>
-        ensures { OnOk result (out.new ≡ out.old ++ sent self.now (to_each (Clean epoch summary.now) (members set.now))) }
+        ensures sent { OnOk result (out.new ≡ out.old ++ sent self.now (to_each (Clean epoch summary.now) (members set.now))) }
+        ensures unsent { OnErr result (out.new ≡ out.old) }
+    {
+        let count = out.len();
+        let told = self.tell_each(set, epoch, summary, out);
+        if told.is_err() {
+            out.truncate(count);
+        }
+        told
+    }
+
+    /// Tells all nodes of the set how an epoch is closed. Without memory some may have been told.
+    #[tactic(auto, using(crate::proofs::Begins::begin_rules))]
+    fn tell_each(
+        &self,
+        set: &NodeSet,
+        epoch: u32,
+        summary: &Summary,
+        out: &mut Outbox,
+    ) -> Result<(), NoMemory>
+        ensures sent { OnOk result (out.new ≡ out.old ++ sent self.now (to_each (Clean epoch summary.now) (members set.now))) }
+        ensures begins { OnErr result (BeginsWith out.old out.new) }
     {
         'nodes: for place in 0..set.len() {
             if let Some(node) = set.nth(place) {
@@ -96,7 +118,8 @@ impl Sender {
         Ok(())
     }
 
-    /// Sends an item to each of the nodes, in their order.
+    /// Sends an item to each of the nodes, in their order. Without memory some may have been sent.
+    #[tactic(auto, using(crate::proofs::Begins::begin_rules))]
     pub fn send_item(
         &self,
         alloc: Global,
@@ -105,7 +128,8 @@ impl Sender {
         nodes: &NodeList,
         out: &mut Outbox,
     ) -> Result<(), NoMemory>
-        ensures { OnOk result (out.new ≡ out.old ++ sent self.now (to_each (Store number 0 what.now) nodes.now)) }
+        ensures sent { OnOk result (out.new ≡ out.old ++ sent self.now (to_each (Store number 0 what.now) nodes.now)) }
+        ensures begins { OnErr result (BeginsWith out.old out.new) }
     {
         'nodes: for place in 0..nodes.len() {
             if let Some(node) = nodes.nth(place) {

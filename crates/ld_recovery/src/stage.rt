@@ -1,9 +1,9 @@
 // The stages of a recovery.
-ghost use Rattle.std.specs.Prelude.{◌≡◌, ◌≤◌, ◌<◌, ◌-◌, ◌^◌, ◌==◌, ◌++◌, ◌∷◌, [], ℕ, nat_le, IfOk, OnOk};
+ghost use Rattle.std.specs.Prelude.{◌≡◌, ◌≤◌, ◌<◌, ◌-◌, ◌^◌, ◌==◌, ◌++◌, ◌∷◌, [], ℕ, nat_le, IfOk, OnOk, OnErr};
 ghost use Rattle.ld_msg.specs.declared.msg.Body.TheVariants.{DigestAsk};
 ghost use Rattle.ld_msg.specs.Digest.{plan};
 ghost use Rattle.ld_digest.specs.Gathering.{AreInPlace};
-ghost use Rattle.ld_recovery.specs.declared.stage.Stage.TheVariants.{Seals};
+ghost use Rattle.ld_recovery.specs.declared.stage.Stage.TheVariants.{Seals, Stopped};
 ghost use Rattle.ld_recovery.specs.Sending.{sent};
 ghost use Rattle.ld_recovery.specs.States.{summary_in, state_in};
 ghost use Rattle.ld_ids.specs.declared.set.Spec.{Spec as Config};
@@ -111,7 +111,7 @@ impl Stage {
         *self = stage.on_lost(node);
     }
 
-    /// What is still wanted is asked for again. Without memory a part may have been sent, and it is stopped.
+    /// What is still wanted is asked for again. Without memory nothing is sent, and it is stopped.
     pub(crate) fn try_again(
         &mut self,
         alloc: Global,
@@ -120,15 +120,17 @@ impl Stage {
         out: &mut Outbox,
     ) -> Result<(), NoMemory>
         ensures shown { OnOk result (shown self.new ≡ retried_stage self.old) }
+        ensures stopped { OnErr result (self.new ≡ Stopped) }
         ensures of { (spec : Config) (epoch ballot : ℕ) → IsOf spec epoch ballot self.old → IsOf spec epoch ballot self.new }
         ensures sent { OnOk result (out.new ≡ out.old ++ sent sender.now (retry_sends lost.now self.old)) }
+        ensures unsent { OnErr result (out.new ≡ out.old) }
     {
         let stage = mem::replace(self, Stage::Stopped);
         *self = stage.retry(alloc, sender, lost, out)?;
         Ok(())
     }
 
-    /// A page of the node comes. Without memory a part of what is to be sent may have been, and it is stopped.
+    /// A page of the node comes. Without memory nothing is sent, and it is stopped.
     pub(crate) fn take_page(
         &mut self,
         alloc: Global,
@@ -142,8 +144,10 @@ impl Stage {
         requires entries { AreInPlace page.now.entries.now }
         requires of { IsOf scope.now.spec.now scope.now.epoch scope.now.sender.now.epoch self.old }
         ensures shown { OnOk result (shown self.new ≡ page_stage self.old node page.now.from page.now.upto page.now.trim page.now.entries.now) }
+        ensures stopped { OnErr result (self.new ≡ Stopped) }
         ensures of { IsOf scope.now.spec.now scope.now.epoch scope.now.sender.now.epoch self.new }
         ensures sent { OnOk result (out.new ≡ out.old ++ sent scope.now.sender.now (page_sends scope.now.lost.now self.old node page.now.from page.now.upto page.now.trim page.now.entries.now)) }
+        ensures unsent { OnErr result (out.new ≡ out.old) }
     {
         let stage = mem::replace(self, Stage::Stopped);
         *self = on_page(alloc, stage, scope, node, page, out)?;
@@ -174,7 +178,7 @@ impl Stage {
         }
     }
 
-    /// What is still wanted is asked for again. Without memory a part may have been sent.
+    /// What is still wanted is asked for again. Without memory nothing is sent.
     fn retry(
         self,
         alloc: Global,
@@ -185,6 +189,7 @@ impl Stage {
         ensures shown { IfOk result (λ stage'. shown stage' ≡ retried_stage self) }
         ensures of { IfOk result (λ stage'. (spec : Config) (epoch ballot : ℕ) → IsOf spec epoch ballot self → IsOf spec epoch ballot stage') }
         ensures sent { OnOk result (out.new ≡ out.old ++ sent sender.now (retry_sends lost.now self)) }
+        ensures unsent { OnErr result (out.new ≡ out.old) }
     {
         match self {
             Stage::Seals(digest) => {
@@ -223,7 +228,7 @@ pub(crate) struct Scope<'a> {
     pub(crate) lost: &'a NodeList,
 }
 
-// A page of the node comes. Without memory a part of what is to be sent may have been.
+// A page of the node comes. Without memory nothing is sent.
 fn on_page(
     alloc: Global,
     stage: Stage,
@@ -239,6 +244,7 @@ fn on_page(
     ensures of { IfOk result (λ stage'. IsOf scope.now.spec.now scope.now.epoch scope.now.sender.now.epoch stage') }
     ensures stage { IfOk result (λ stage'. shown stage' ≡ page_stage stage node page.now.from page.now.upto page.now.trim page.now.entries.now) }
     ensures sent { OnOk result (out.new ≡ out.old ++ sent scope.now.sender.now (page_sends scope.now.lost.now stage node page.now.from page.now.upto page.now.trim page.now.entries.now)) }
+    ensures unsent { OnErr result (out.new ≡ out.old) }
 {
     match stage {
         Stage::Seals(digest) => add_page(alloc, digest, scope, node, page, out),
@@ -264,6 +270,7 @@ fn add_page(
     ensures of { IfOk result (λ stage'. IsOf scope.now.spec.now scope.now.epoch scope.now.sender.now.epoch stage') }
     ensures stage { IfOk result (λ stage'. shown stage' ≡ page_stage (Seals digest) node page.now.from page.now.upto page.now.trim page.now.entries.now) }
     ensures sent { OnOk result (out.new ≡ out.old ++ sent scope.now.sender.now (page_sends scope.now.lost.now (Seals digest) node page.now.from page.now.upto page.now.trim page.now.entries.now)) }
+    ensures unsent { OnErr result (out.new ≡ out.old) }
 {
     let mut digest = digest;
     match digest.add(alloc, node, page)? {
@@ -285,6 +292,7 @@ fn gathered(
     ensures of { IfOk result (λ stage'. IsOf scope.now.spec.now scope.now.epoch scope.now.sender.now.epoch stage') }
     ensures stage { IfOk result (λ stage'. shown stage' ≡ gathered digest) }
     ensures sent { OnOk result (out.new ≡ out.old ++ sent scope.now.sender.now (gathered_sends scope.now.lost.now digest [])) }
+    ensures unsent { OnErr result (out.new ≡ out.old) }
 {
     if digest.enough() {
         return store(alloc, digest, scope, out);
@@ -306,6 +314,7 @@ fn asked_on(
     ensures of { IfOk result (λ stage'. IsOf scope.now.spec.now scope.now.epoch scope.now.sender.now.epoch stage') }
     ensures stage { IfOk result (λ stage'. shown stage' ≡ gathered digest) }
     ensures sent { OnOk result (out.new ≡ out.old ++ sent scope.now.sender.now (gathered_sends scope.now.lost.now digest ((node, DigestAsk next) ∷ []))) }
+    ensures unsent { OnErr result (out.new ≡ out.old) }
 {
     if digest.enough() {
         return store(alloc, digest, scope, out);
@@ -321,6 +330,7 @@ fn store(alloc: Global, digest: Digest, scope: &Scope, out: &mut Outbox) -> Resu
     ensures of { IfOk result (λ stage'. IsOf scope.now.spec.now scope.now.epoch scope.now.sender.now.epoch stage') }
     ensures stage { IfOk result (λ stage'. shown stage' ≡ Stored (storing_of (plan digest.epoch digest.told))) }
     ensures sent { OnOk result (out.new ≡ out.old ++ sent scope.now.sender.now (item_stores digest.spec scope.now.lost.now 0 (planned (plan digest.epoch digest.told).items))) }
+    ensures unsent { OnErr result (out.new ≡ out.old) }
 {
     let plan = plan(alloc, &digest)?;
     let storing = Storing::new(alloc, scope.spec, plan)?;

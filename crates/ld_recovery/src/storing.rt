@@ -1,8 +1,8 @@
 // A plan that is being stored.
-ghost use Rattle.std.specs.Prelude.{◌≡◌, ◌≤◌, ◌<◌, ◌+◌, ◌-◌, ◌==◌, ℕ, ◌&&◌, not, length, min, nat_le, ◌++◌, ◌∷◌, [], IfOk, OnOk};
+ghost use Rattle.std.specs.Prelude.{◌≡◌, ◌≤◌, ◌<◌, ◌+◌, ◌-◌, ◌==◌, ℕ, ◌&&◌, not, length, min, nat_le, ◌++◌, ◌∷◌, [], IfOk, OnOk, OnErr};
 ghost use Rattle.ld_table.specs.Words.{how_many};
 ghost use Rattle.ld_msg.specs.Sequencer.{planned, storing_of, settle, settled_by, is_ready, next_try, summary_of, item_stores};
-ghost use Rattle.ld_recovery.specs.Sending.{sent};
+ghost use Rattle.ld_recovery.specs.Sending.{sent, BeginsWith};
 ghost use Rattle.ld_recovery.specs.Planning.{with_storing, lacks, settle_at, settle_first, one_if, AreFrom, HasSettled, IsClose};
 
 use crate::Planned;
@@ -85,8 +85,9 @@ impl Storing {
         self.lacking -= settled;
     }
 
-    /// Sends each item that has too few nodes to the choice of the wave, which leaves the lost nodes out. Without memory a
-    /// part may have been sent.
+    /// Sends each item that has too few nodes to the choice of the wave, which leaves the lost nodes out. Without memory
+    /// nothing is sent.
+    #[tactic(auto, using(crate::proofs::Begins::back_rules))]
     pub fn send(
         &self,
         alloc: Global,
@@ -94,7 +95,28 @@ impl Storing {
         lost: &NodeList,
         out: &mut Outbox,
     ) -> Result<(), NoMemory>
-        ensures { OnOk result (out.new ≡ out.old ++ sent sender.now (item_stores self.now.spec lost.now self.now.storing.wave self.now.storing.items)) }
+        ensures sent { OnOk result (out.new ≡ out.old ++ sent sender.now (item_stores self.now.spec lost.now self.now.storing.wave self.now.storing.items)) }
+        ensures unsent { OnErr result (out.new ≡ out.old) }
+    {
+        let count = out.len();
+        let sends = self.send_each(alloc, sender, lost, out);
+        if sends.is_err() {
+            out.truncate(count);
+        }
+        sends
+    }
+
+    // Sends each item that has too few nodes. Without memory a part may have been sent.
+    #[tactic(auto, using(crate::proofs::Begins::begin_rules))]
+    fn send_each(
+        &self,
+        alloc: Global,
+        sender: &Sender,
+        lost: &NodeList,
+        out: &mut Outbox,
+    ) -> Result<(), NoMemory>
+        ensures sent { OnOk result (out.new ≡ out.old ++ sent sender.now (item_stores self.now.spec lost.now self.now.storing.wave self.now.storing.items)) }
+        ensures begins { OnErr result (BeginsWith out.old out.new) }
     {
         for item in &self.items {
             self.send_one(alloc, sender, item, lost, out)?;
@@ -102,7 +124,7 @@ impl Storing {
         Ok(())
     }
 
-    // Sends the item, where it has too few nodes.
+    // Sends the item, where it has too few nodes. Without memory a part may have been sent.
     fn send_one(
         &self,
         alloc: Global,
@@ -111,7 +133,8 @@ impl Storing {
         lost: &NodeList,
         out: &mut Outbox,
     ) -> Result<(), NoMemory>
-        ensures { OnOk result (out.new ≡ out.old ++ sent sender.now (item_stores self.now.spec lost.now self.now.storing.wave (item.now ∷ []))) }
+        ensures sent { OnOk result (out.new ≡ out.old ++ sent sender.now (item_stores self.now.spec lost.now self.now.storing.wave (item.now ∷ []))) }
+        ensures begins { OnErr result (BeginsWith out.old out.new) }
     {
         if !item.lacks(self.spec.r) {
             return Ok(());

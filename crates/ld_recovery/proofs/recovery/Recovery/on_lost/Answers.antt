@@ -3,12 +3,24 @@ use Rattle.ld_lsn.specs.Number.{home_epoch}
 use Rattle.ld_msg.specs.declared.msg.Body.TheVariants.{LostHere}
 use Rattle.ld_recovery.specs.Recovering.{Recovering, Goes, replied, reply_messages}
 use Rattle.ld_recovery.specs.States.{shown_ending}
+use Rattle.ld_recovery.specs.Stages.{shown}
+use Rattle.ld_sequencer_bounds.specs.Sequencers.{IsStage}
+use Rattle.ld_recovery.proofs.Bounded.{lost_is}
 use Rattle.ld_recovery.proofs.Replies.{lost_here, lost_elsewhere}
 use Rattle.ld_recovery.proofs.Holding.{held, lost_value}
 use Rattle.ld_recovery.proofs.recovery.Recovery.on_lost.Goals as goal
 
 pub invariant_of-self : goal.invariant_of-self
-invariant_of-self c = (c.lose.ensures.of c.self.inside.spec c.self.inside.epoch c.self.inside.ballot c.self.invariant.0, c.self.invariant.1, c.self.invariant.2, c.self.invariant.3, c.self.invariant.4, c.self.invariant.5)
+invariant_of-self c = (
+  c.lose.ensures.of c.self.inside.spec c.self.inside.epoch c.self.inside.ballot c.self.invariant.0,
+  c.self.invariant.1,
+  c.self.invariant.2,
+  c.self.invariant.3,
+  c.self.invariant.4,
+  c.self.invariant.5,
+  subst (IsStage c.self.inside.epoch) (sym c.lose.ensures.shown) (lost_is c.self.inside.epoch c.args.node (shown c.self.inside.stage) c.self.invariant.6),
+  c.self.invariant.7,
+)
 
 pub returns-then-epoch-self-clause-value : goal.returns-then-epoch-self-clause-value
 returns-then-epoch-self-clause-value c = λ round gen end.

@@ -3,12 +3,23 @@ use Rattle.ld_lsn.specs.Number.{epoch_of}
 use Rattle.ld_msg.specs.declared.msg.Body.TheVariants.{Stored}
 use Rattle.ld_recovery.specs.Recovering.{Recovering, Goes, replied, reply_messages}
 use Rattle.ld_recovery.specs.States.{shown_ending}
+use Rattle.ld_sequencer_bounds.specs.Sequencers.{IsStage}
+use Rattle.ld_recovery.proofs.Bounded.{settling_is}
 use Rattle.ld_recovery.proofs.Replies.{stored_here, stored_elsewhere}
 use Rattle.ld_recovery.proofs.Holding.{held, settle_value}
 use Rattle.ld_recovery.proofs.recovery.Recovery.on_stored.Goals as goal
 
 pub invariant_of-self : goal.invariant_of-self
-invariant_of-self c = (c.store.ensures.of c.self.inside.spec c.self.inside.epoch c.self.invariant.0, c.self.invariant.1, c.self.invariant.2, c.self.invariant.3, c.self.invariant.4, c.self.invariant.5)
+invariant_of-self c = (
+  c.store.ensures.of c.self.inside.spec c.self.inside.epoch c.self.invariant.0,
+  c.self.invariant.1,
+  c.self.invariant.2,
+  c.self.invariant.3,
+  c.self.invariant.4,
+  c.self.invariant.5,
+  subst (IsStage c.self.inside.epoch) (sym c.store.ensures.shown) (settling_is c.self.inside.epoch c.self.inside.ballot c.self.invariant.2 c.self.invariant.3 c.self.invariant.4 (λ s. s == c.args.number) c.args.node c.self.inside.stage c.self.invariant.6),
+  c.self.invariant.7,
+)
 
 pub returns-then-epoch-self-clause-value : goal.returns-then-epoch-self-clause-value
 returns-then-epoch-self-clause-value c =

@@ -1,9 +1,0 @@
-use Rattle.std.proofs.Common.{◌≡◌, ◌++◌, drop}
-use Rattle.ld_ids.specs.Set.{members}
-use Rattle.ld_msg.specs.declared.msg.Body.TheVariants.{Clean}
-use Rattle.ld_msg.specs.Sequencer.{to_each}
-use Rattle.ld_recovery.specs.Sending.{sent}
-use Rattle.ld_recovery.proofs.send.Sender.tell_clean.Given as goal
-
-abbrev pub invariant-nodes : goal.invariant-nodes
-invariant-nodes l = l.out ++ sent l.self (to_each (Clean l.epoch l.summary) (drop l.place (members l.set))) ≡ l.initial.out ++ sent l.self (to_each (Clean l.epoch l.summary) (members l.set))

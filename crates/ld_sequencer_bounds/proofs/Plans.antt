@@ -1,0 +1,186 @@
+-- A digest stays in its bounds page by page, and so is the plan that follows from it.
+use Rattle.std.proofs.Common.{◌≡◌, ◌≤◌, ◌<◌, ℕ, Bool, zero, suc, ◌+◌, ◌-◌, min, max, refl, subst, true, ◌&&◌, ◌==◌, not, nat_lt, cond, List, [], ◌∷◌, ◌++◌, Option, Some, None, arith}
+use Rattle.std.specs.List.{AllByRecursion}
+use Rattle.std.proofs.lemmas.Bool.{cond_both, and_parts, eqb-true, leb-false, not-true}
+use Rattle.ld_table.specs.Words.{numbers_from}
+use Rattle.ld_ids.specs.Id.{IsNode}
+use Rattle.ld_ids.specs.declared.set.Spec.{Spec}
+use Rattle.ld_ids.specs.Choice.{nodes_of}
+use Rattle.ld_lsn.specs.Number.{epoch_of, esn_of, numbered, last_esn}
+use Rattle.ld_msg.specs.declared.msg.What.{What}
+use Rattle.ld_msg.specs.declared.msg.What.TheVariants.{Rec, Hole, Bridge}
+use Rattle.ld_msg.specs.declared.msg.Entry.{Entry}
+use Rattle.ld_msg.specs.Bounds.{Is64, IsEntry, AreEntries, IsShort, IsPage, last_place}
+use Rattle.ld_msg.specs.Digest.{Told, better, is_bridge, says, statement, told_nothing, no_digest, told_page, takes_page, with_page, told_lost, with_lost, best, is_content, record_or_hole, content, digest_trim, trim_place, top_in, top_place, plan_end, Item, record_items, places_between, plan_to, plan}
+use Rattle.ld_table.specs.Words.{with_one}
+use Rattle.ld_msg.specs.Sequencer.{Planned, Storing, planned, storing_of, settle, settled_by}
+use Rattle.ld_sequencer_bounds.specs.Sequencers.{IsTold, IsPlanned, IsStoring}
+use Rattle.ld_node_bounds.proofs.Alls.{all-append}
+use Rattle.ld_sequencer_bounds.proofs.Posts.{all-map}
+use Rattle.ld_node_bounds.proofs.Numbers.{epoch_numbered, esn_numbered}
+
+-- ---- digests ----
+
+pub no_digest_is : (s : Spec) (e : ℕ) → AllByRecursion IsNode (nodes_of s) → AllByRecursion (IsTold e) (no_digest s e)
+no_digest_is s e a = all-map IsNode (IsTold e) (told_nothing e) (nodes_of s) (λ y h. record {
+  node = h;
+  asked = λ w. (epoch_numbered e 1 (omega arith), (let z = esn_numbered e 1 (omega arith) in omega arith));
+  entries = tt;
+  trim = omega arith;
+}) a
+
+entries-append : (xs ys : List Entry) → AreEntries xs → AreEntries ys → AreEntries (xs ++ ys)
+entries-append [] ys a b = b
+entries-append (x ∷ xs) ys a b = (a.0, entries-append xs ys a.1 b)
+
+module _ (e y from upto trim : ℕ) (es : List Entry) (page : IsPage from upto es) (trim_is : Is64 trim) where
+  next_number : epoch_of from ≡ e → 1 ≤ esn_of from → upto < numbered e last_esn → (epoch_of (upto + 1) ≡ e) × (1 ≤ esn_of (upto + 1))
+  next_number h k l = let r = page.range in (omega arith, omega arith)
+
+  paged : (t : Told) → takes_page y from t ≡ true → IsTold e t → IsTold e (told_page e upto trim es t)
+  paged t h i =
+      let p = and_parts (t.node == y) ((t.asked == from) && not t.whole) h in
+      let q = and_parts (t.asked == from) (not t.whole) p.1 in
+      let a = i.asked (not-true t.whole q.1) in
+      let z : t.asked ≡ from = eqb-true t.asked from q.0 in
+      record {
+        node = i.node;
+        asked = λ w. next_number (subst (λ n. epoch_of n ≡ e) z a.0) (subst (λ n. 1 ≤ esn_of n) z a.1) (leb-false (numbered e last_esn) upto w);
+        entries = entries-append t.entries es i.entries page.entries;
+        trim = (let b = i.trim in omega (arith, trim_is));
+      }
+
+  pub with_page_is : (d : List Told) → AllByRecursion (IsTold e) d → AllByRecursion (IsTold e) (with_page e y from upto trim es d)
+  unfolding with_page
+  with_page_is d a = all-map (IsTold e) (IsTold e) (λ t. cond (takes_page y from t) (told_page e upto trim es t) t) d
+      (λ t i. cond_both (takes_page y from t) (told_page e upto trim es t) t (IsTold e) (λ h. paged t h i) (λ h. i)) a
+
+pub with_lost_is : (e y : ℕ) (d : List Told) → AllByRecursion (IsTold e) d → AllByRecursion (IsTold e) (with_lost y d)
+unfolding with_lost
+with_lost_is e y d a = all-map (IsTold e) (IsTold e) (told_lost y) d (λ t i. record { node = i.node; asked = i.asked; entries = i.entries; trim = i.trim }) a
+
+-- ---- what a digest says of a number ----
+
+abbrev MayBe : Option Entry → Type 0
+MayBe None = Unit {0}
+MayBe (Some e) = IsEntry e
+
+better_is : (o p : Option Entry) → MayBe o → MayBe p → MayBe (better o p)
+better_is None p a b = b
+better_is (Some e) None a b = a
+better_is (Some e) (Some f) a b = cond_both (nat_lt e.ballot f.ballot) (Some f) (Some e) MayBe (λ t. b) (λ t. a)
+
+says_is : (s : ℕ) (e : Entry) → IsEntry e → MayBe (says s e)
+says_is s e i = cond_both (e.number == s) (Some e) (cond (is_bridge e.what && nat_lt e.number s) (Some e) None) MayBe (λ t. i) (λ t. cond_both (is_bridge e.what && nat_lt e.number s) (Some e) None MayBe (λ u. i) (λ u. tt))
+
+statement_is : (s : ℕ) (es : List Entry) → AreEntries es → MayBe (statement s es)
+unfolding statement
+statement_is s [] a = tt
+statement_is s (e ∷ es) a = better_is (statement s es) (says s e) (statement_is s es a.1) (says_is s e a.0)
+
+short_of : (x : What) → IsShort x → IsShort (record_or_hole x)
+short_of (Rec p) h = h
+short_of Hole h = tt
+short_of Bridge h = tt
+
+place_of : (x : What) → last_place (record_or_hole x) ≡ last_esn - 1
+place_of (Rec p) = refl
+place_of Hole = refl
+place_of Bridge = refl
+
+content_short : (o : Option Entry) → MayBe o → IsShort (content o)
+content_short None a = tt
+content_short (Some e) a = short_of e.what a.short
+
+content_place : (o : Option Entry) → last_place (content o) ≡ last_esn - 1
+content_place None = refl
+content_place (Some e) = place_of e.what
+
+below_bridge : (x : What) → not (is_bridge x) ≡ true → last_place x ≡ last_esn - 1
+below_bridge (Rec p) h = refl
+below_bridge Hole h = refl
+below_bridge Bridge h = absurd cc
+
+top_in_most : (d : List Told) (es : List Entry) → AreEntries es → top_in d es ≤ last_esn - 1
+top_in_most d [] a = omega arith
+top_in_most d (e ∷ es) a = let rest : top_in d es ≤ last_esn - 1 = top_in_most d es a.1 in
+    cond_both (not (is_bridge e.what) && is_content (best e.number d)) (max (esn_of e.number) (top_in d es)) (top_in d es) (λ n. n ≤ last_esn - 1)
+    (λ t. let p = (and_parts (not (is_bridge e.what)) (is_content (best e.number d)) t).0 in let q = below_bridge e.what p in let z = a.0.place in omega (arith, rest)) (λ t. rest)
+
+trim_place_most : (e trim : ℕ) → trim_place e trim ≤ last_esn - 1
+trim_place_most e trim = cond_both (nat_lt (epoch_of trim) e) 0 (cond (nat_lt e (epoch_of trim)) (last_esn - 1) (min (esn_of trim) (last_esn - 1))) (λ n. n ≤ last_esn - 1) (λ t. omega arith)
+    (λ t. cond_both (nat_lt e (epoch_of trim)) (last_esn - 1) (min (esn_of trim) (last_esn - 1)) (λ n. n ≤ last_esn - 1) (λ u. omega arith) (λ u. omega arith))
+
+module _ (e : ℕ) where
+  best_is : (s : ℕ) (d : List Told) → AllByRecursion (IsTold e) d → MayBe (best s d)
+  unfolding best
+  best_is s [] a = tt
+  best_is s (t ∷ d) a = better_is (statement s t.entries) (best s d) (statement_is s t.entries a.0.entries) (best_is s d a.1)
+
+  top_place_most : (d rest : List Told) → AllByRecursion (IsTold e) rest → top_place d rest ≤ last_esn - 1
+  unfolding top_place
+  top_place_most d [] a = omega arith
+  top_place_most d (t ∷ rest) a = let p = top_in_most d t.entries a.0.entries in let q = top_place_most d rest a.1 in omega arith
+
+  digest_trim_is : (d : List Told) → AllByRecursion (IsTold e) d → Is64 (digest_trim d)
+  unfolding digest_trim
+  digest_trim_is [] a = omega arith
+  digest_trim_is (t ∷ d) a = let p = a.0.trim in let q = digest_trim_is d a.1 in omega arith
+
+  end_is : (d : List Told) → AllByRecursion (IsTold e) d → (1 ≤ plan_end e d) × (plan_end e d ≤ last_esn)
+  unfolding plan_end
+  end_is d a = let p = top_place_most d d a in let q = trim_place_most e (digest_trim d) in (omega arith, omega arith)
+
+  -- ---- the plan ----
+
+  record IsItem (i : Item) : Type 0 where
+    epoch_is : epoch_of i.number ≡ e
+    from_one : 1 ≤ esn_of i.number
+    place : esn_of i.number ≤ last_place i.what
+    short : IsShort i.what
+
+  abbrev IsPlace : ℕ → Type 0
+  IsPlace n = (1 ≤ n) × (n ≤ last_esn - 1)
+
+  places_are : (first k : ℕ) → 1 ≤ first → first + k ≤ last_esn → AllByRecursion IsPlace (numbers_from first k)
+  places_are first zero h i = tt
+  places_are first (suc k) h i = ((h, omega arith), places_are (first + 1) k (omega arith) (omega arith))
+
+  items_are : (d : List Told) (ns : List ℕ) → AllByRecursion (IsTold e) d → AllByRecursion IsPlace ns → AllByRecursion IsItem (record_items e d ns)
+  items_are d [] a b = tt
+  items_are d (n ∷ ns) a b = let p = b.0 in let lo = p.0 in let hi = p.1 in
+      let z = esn_numbered e n (omega arith) in let w = content_place (best (numbered e n) d) in
+      (record { epoch_is = epoch_numbered e n (omega arith); from_one = omega arith; place = omega arith; short = content_short (best (numbered e n) d) (best_is (numbered e n) d a) }, items_are d ns a b.1)
+
+  planned_are : (is : List Item) → AllByRecursion IsItem is → AllByRecursion (IsPlanned e) (planned is)
+  planned_are [] a = tt
+  planned_are (i ∷ is) a = (record { epoch_is = a.0.epoch_is; from_one = a.0.from_one; place = a.0.place; short = a.0.short }, planned_are is a.1)
+
+  pub plan_is : (d : List Told) → AllByRecursion (IsTold e) d → IsStoring e (storing_of (plan e d))
+  unfolding plan
+  plan_is d a =
+      let b = end_is d a in let lo = b.0 in let hi = b.1 in
+      let t = trim_place_most e (digest_trim d) in
+      let z = esn_numbered e (plan_end e d) (omega arith) in
+      record {
+        trim = digest_trim_is d a;
+        end = lo;
+        end_most = hi;
+        items = planned_are (plan_to e d (plan_end e d)).items
+            (all-append IsItem (record_items e d (places_between (trim_place e (digest_trim d)) (plan_end e d))) (record { number = numbered e (plan_end e d); what = Bridge } ∷ [])
+            (items_are d (places_between (trim_place e (digest_trim d)) (plan_end e d)) a (places_are (trim_place e (digest_trim d) + 1) (plan_end e d - 1 - trim_place e (digest_trim d)) (omega arith) (omega arith)))
+            (record { epoch_is = epoch_numbered e (plan_end e d) (omega arith); from_one = omega arith; place = omega arith; short = tt }, tt));
+      }
+
+  -- ---- what nodes settle ----
+
+  settle_are : (p : ℕ → Bool) (y : ℕ) (is : List (ℕ × Planned)) → AllByRecursion (IsPlanned e) is → AllByRecursion (IsPlanned e) (settle p y is)
+  settle_are p y [] a = tt
+  settle_are p y (i ∷ is) a = (
+    cond_both (p i.0) (record { what = i.1.what; settled = with_one y i.1.settled }) i.1 (λ (x : Planned). IsPlanned e (i.0, x))
+        (λ t. record { epoch_is = a.0.epoch_is; from_one = a.0.from_one; place = a.0.place; short = a.0.short }) (λ t. a.0),
+    settle_are p y is a.1,
+  )
+
+  pub settled_is : (p : ℕ → Bool) (y : ℕ) (g : Storing) → IsStoring e g → IsStoring e (settled_by p y g)
+  settled_is p y g G = record { trim = G.trim; end = G.end; end_most = G.end_most; items = settle_are p y g.items G.items }
