@@ -1,0 +1,50 @@
+"""What bounds a node or a log on this machine, as the scripts beside this file measure it in their own run."""
+import os, socket, time
+
+
+def two_syncs(folder, size, seconds):
+    """How many records with two syncs each, written straight to a file, the disk takes a second."""
+    path = f"{folder}/straight"
+    file = os.open(path, os.O_RDWR | os.O_CREAT)
+    os.pwrite(file, b"\0", 0)
+    os.fsync(file)
+    record, at, count, begun = bytes(size + 30), 0, 0, time.monotonic()
+    while time.monotonic() - begun < seconds:
+        os.pwrite(file, record, at + 1)
+        os.fdatasync(file)
+        os.pwrite(file, b"\1", at)
+        os.fdatasync(file)
+        at, count = at + len(record), count + 1
+    took = time.monotonic() - begun
+    os.close(file)
+    os.remove(path)
+    return count / took
+
+
+def round_trips(seconds):
+    """How often a second another process answers a byte over loopback, one byte after the other."""
+    listener = socket.create_server(("127.0.0.1", 0))
+    child = os.fork()
+    if child == 0:
+        peer, _ = listener.accept()
+        peer.setsockopt(socket.IPPROTO_TCP, socket.TCP_NODELAY, 1)
+        while piece := peer.recv(1):
+            peer.sendall(piece)
+        os._exit(0)
+    peer = socket.create_connection(listener.getsockname())
+    peer.setsockopt(socket.IPPROTO_TCP, socket.TCP_NODELAY, 1)
+    count, begun = 0, time.monotonic()
+    while time.monotonic() - begun < seconds:
+        peer.sendall(b"x")
+        peer.recv(1)
+        count += 1
+    took = time.monotonic() - begun
+    peer.close()
+    listener.close()
+    os.waitpid(child, 0)
+    return count / took
+
+
+def one_after_the_other(*rates):
+    """How many a second of what takes each of these in turn."""
+    return 1 / sum(1 / rate for rate in rates)
