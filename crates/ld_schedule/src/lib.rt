@@ -13,6 +13,7 @@ mod read;
 mod tests;
 mod words;
 
+pub use digits::parse_payload;
 pub use event::{Event, Picture};
 pub use fault::LineFault;
 pub use law::spells_one_event;
