@@ -76,22 +76,27 @@ fn ended(round: u32) -> Body {
     }
 }
 
-// The items that follow from a node's answer.
+// What a node's answer gives: the first two items as letters, and how many messages were sent until
+// then.
 fn hears(
     alloc: Global,
     reader: &mut Reader,
     log: LogId,
-    node: NodeId,
+    number: u8,
     body: Body,
     out: &mut Outbox,
-) -> Result<Items, NoMemory> {
+) -> Result<(u8, u8, usize), NoMemory> {
+    let Some(node) = NodeId::new(number) else {
+        return Err(NoMemory);
+    };
     let msg = Msg {
         from: Who::Node(node),
         to: Who::Reader(0),
         log,
         body,
     };
-    reader.on_reply(alloc, &msg, out)
+    let items = reader.on_reply(alloc, &msg, out)?;
+    Ok((letter(&items, 0), letter(&items, 1), out.len()))
 }
 
 // The item at a place, as one letter, with a dot where there is none.
@@ -112,18 +117,18 @@ fn letter(items: &Items, place: usize) -> u8 {
 fn a_page_and_an_end_give_all_items_in_order(rt: HostRuntime) -> Result<(), Fail> {
     let alloc = rt.alloc();
     let log = LogId::new(1).expect(&rt, "a log");
-    let node = NodeId::new(1).expect(&rt, "a node");
     let mut out = Outbox::empty(alloc);
     let mut reader = begin(alloc, log, &mut out)?;
-    assert_eq!(rt; out.len(), 3);
     let hole = page(alloc, 1, 1, None)?;
-    let items = hears(alloc, &mut reader, log, node, hole, &mut out)?;
-    assert_eq!(rt; letter(&items, 0), b'h');
-    assert_eq!(rt; letter(&items, 1), b'.');
-    let items = hears(alloc, &mut reader, log, node, ended(1), &mut out)?;
-    assert_eq!(rt; letter(&items, 0), b'b');
+    assert_eq!(rt;
+        hears(alloc, &mut reader, log, 1, hole, &mut out)?,
+        (b'h', b'.', 3)
+    );
+    assert_eq!(rt;
+        hears(alloc, &mut reader, log, 1, ended(1), &mut out)?,
+        (b'b', b'.', 3)
+    );
     assert!(rt; reader.finished());
-    assert_eq!(rt; out.len(), 3);
     Ok(())
 }
 
@@ -131,26 +136,25 @@ fn a_page_and_an_end_give_all_items_in_order(rt: HostRuntime) -> Result<(), Fail
 fn a_loss_is_confirmed_before_it_is_given(rt: HostRuntime) -> Result<(), Fail> {
     let alloc = rt.alloc();
     let log = LogId::new(1).expect(&rt, "a log");
-    let two = NodeId::new(2).expect(&rt, "a node");
     let mut out = Outbox::empty(alloc);
     let mut reader = begin(alloc, log, &mut out)?;
     let second = page(alloc, 1, 2, Some(7))?;
-    let items = hears(alloc, &mut reader, log, two, second, &mut out)?;
-    assert_eq!(rt; letter(&items, 0), b'.');
+    assert_eq!(rt;
+        hears(alloc, &mut reader, log, 2, second, &mut out)?,
+        (b'.', b'.', 3)
+    );
     // the nodes 1 and 3 are lost, and are asked once more; an answer to the first ask is none to the second
-    let rows = [
-        (1, 1, b'.', b'.', 3),
-        (3, 1, b'.', b'.', 5),
-        (1, 2, b'.', b'.', 5),
-        (3, 1, b'.', b'.', 5),
-        (3, 2, b'l', b'r', 5),
-    ];
-    'rows: for (number, round, first, then, sent) in rows {
-        let node = NodeId::new(number).expect(&rt, "a node");
-        let items = hears(alloc, &mut reader, log, node, lost(round), &mut out)?;
-        assert_eq!(rt; letter(&items, 0), first);
-        assert_eq!(rt; letter(&items, 1), then);
-        assert_eq!(rt; out.len(), sent);
+    'rows: for (number, round, given) in [
+        (1, 1, (b'.', b'.', 3)),
+        (3, 1, (b'.', b'.', 5)),
+        (1, 2, (b'.', b'.', 5)),
+        (3, 1, (b'.', b'.', 5)),
+        (3, 2, (b'l', b'r', 5)),
+    ] {
+        assert_eq!(rt;
+            hears(alloc, &mut reader, log, number, lost(round), &mut out)?,
+            given
+        );
     }
     assert!(rt; reader.finished());
     Ok(())
@@ -160,23 +164,26 @@ fn a_loss_is_confirmed_before_it_is_given(rt: HostRuntime) -> Result<(), Fail> {
 fn a_rebuilt_node_ends_the_confirmation_with_the_record(rt: HostRuntime) -> Result<(), Fail> {
     let alloc = rt.alloc();
     let log = LogId::new(1).expect(&rt, "a log");
-    let one = NodeId::new(1).expect(&rt, "a node");
     let mut out = Outbox::empty(alloc);
     let mut reader = begin(alloc, log, &mut out)?;
     let second = page(alloc, 1, 2, Some(7))?;
-    let items = hears(alloc, &mut reader, log, one, second, &mut out)?;
-    assert_eq!(rt; letter(&items, 0), b'.');
-    'rows: for (number, sent) in [(2, 3), (3, 5)] {
-        let node = NodeId::new(number).expect(&rt, "a node");
-        let items = hears(alloc, &mut reader, log, node, lost(1), &mut out)?;
-        assert_eq!(rt; letter(&items, 0), b'.');
-        assert_eq!(rt; out.len(), sent);
-    }
+    assert_eq!(rt;
+        hears(alloc, &mut reader, log, 1, second, &mut out)?,
+        (b'.', b'.', 3)
+    );
+    assert_eq!(rt;
+        hears(alloc, &mut reader, log, 2, lost(1), &mut out)?,
+        (b'.', b'.', 3)
+    );
+    assert_eq!(rt;
+        hears(alloc, &mut reader, log, 3, lost(1), &mut out)?,
+        (b'.', b'.', 5)
+    );
     let first = page(alloc, 2, 1, Some(9))?;
-    let two = NodeId::new(2).expect(&rt, "a node");
-    let items = hears(alloc, &mut reader, log, two, first, &mut out)?;
-    assert_eq!(rt; letter(&items, 0), b'r');
-    assert_eq!(rt; letter(&items, 1), b'r');
+    assert_eq!(rt;
+        hears(alloc, &mut reader, log, 2, first, &mut out)?,
+        (b'r', b'r', 5)
+    );
     assert!(rt; reader.finished());
     Ok(())
 }
