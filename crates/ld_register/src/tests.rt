@@ -1,8 +1,7 @@
-// What a failure and a crash at each writing call of a change leave.
-ghost use Rattle.std.specs.Prelude.{IfOk};
+// What a register on a disk answers, and what a failure and a crash at each writing call of a change leave.
 ghost use Rattle.ld_msg.specs.Bounds.{IsSummary};
 
-use crate::{DiskRegister, Register, RegisterFault};
+use crate::{DiskRegister, Register, RegisterFault, View};
 use ld_disk::{Disk, Fault, MemDisk, Picture};
 use ld_ids::{LogId, NodeId};
 use ld_lsn::Lsn;
@@ -23,21 +22,21 @@ fn again(alloc: Global, register: DiskRegister<MemDisk>) -> DiskRegister<MemDisk
     DiskRegister::new(alloc, disk)
 }
 
-pub(crate) fn first_log() -> Result<LogId, RegisterFault> {
-    match LogId::new(1) {
+fn log_of(number: u32) -> Result<LogId, RegisterFault> {
+    match LogId::new(number) {
         Some(log) => Ok(log),
         None => Err(RegisterFault::NoMemory),
     }
 }
 
-pub(crate) fn first_node() -> Result<NodeId, RegisterFault> {
+fn first_node() -> Result<NodeId, RegisterFault> {
     match NodeId::new(1) {
         Some(node) => Ok(node),
         None => Err(RegisterFault::NoMemory),
     }
 }
 
-pub(crate) fn first_summary() -> Summary
+fn summary() -> Summary
     ensures { IsSummary 1 result }
 {
     Summary {
@@ -48,95 +47,123 @@ pub(crate) fn first_summary() -> Summary
     }
 }
 
-/// The epoch that is handed out after a second activation in which the disk does this.
-fn epoch_after(alloc: Global, fault: Fault) -> Result<u32, RegisterFault> {
-    let log = first_log()?;
-    let mut register = new_register(alloc)?;
-    let _ = register.activate(alloc, log)?;
-    register.arm(fault);
-    if register.activate(alloc, log) != Err(RegisterFault::Failed) {
-        return Ok(100);
-    }
-    let mut register = again(alloc, register);
-    let grant = register.activate(alloc, log)?;
+/// The epoch that an activation of the log hands out.
+pub(crate) fn epoch<R: Register>(
+    alloc: Global,
+    register: &mut R,
+    log: u32,
+) -> Result<u32, RegisterFault> {
+    let grant = register.activate(alloc, log_of(log)?)?;
     Ok(grant.epoch)
 }
 
-/// The last closed epoch after a close of the first one in which the disk does this.
-fn lce_after(alloc: Global, fault: Fault) -> Result<u32, RegisterFault> {
-    let log = first_log()?;
-    let mut register = new_register(alloc)?;
-    let _ = register.activate(alloc, log)?;
-    register.arm(fault);
-    if register.close(alloc, log, 1, &first_summary()) != Err(RegisterFault::Failed) {
-        return Ok(100);
-    }
-    let mut register = again(alloc, register);
-    let view = register.look(alloc, log, 1)?;
-    Ok(view.lce)
+/// Closes epoch 1 of log 1.
+pub(crate) fn close<R: Register>(alloc: Global, register: &mut R) -> Result<(), RegisterFault> {
+    register.close(alloc, log_of(1)?, 1, &summary())
 }
 
-/// The next generation after a draw in which the disk does this.
-fn generation_after(alloc: Global, fault: Fault) -> Result<u32, RegisterFault> {
-    let log = first_log()?;
-    let node = first_node()?;
-    let mut register = new_register(alloc)?;
-    let _ = register.activate(alloc, log)?;
-    register.arm(fault);
-    if register.draw(alloc, node).is_ok() {
-        return Ok(100);
-    }
-    let mut register = again(alloc, register);
-    let drawn = register.draw(alloc, node)?;
-    Ok(drawn.gen_)
+/// What is shown of log 1 and its epoch 1.
+fn view<R: Register>(alloc: Global, register: &mut R) -> Result<View, RegisterFault> {
+    register.look(alloc, log_of(1)?, 1)
 }
 
-#[test]
-fn a_failure_in_the_last_sync_alone_leaves_the_activation(rt: HostRuntime) -> Result<(), Fail> {
-    let alloc = rt.alloc();
-    for k in 1..5 {
-        let expected = if k == 4 { 3 } else { 2 };
-        assert_eq!(rt; epoch_after(alloc, Fault::FailAt(k))?, expected);
-    }
-    Ok(())
+/// The generation that a draw hands out, and how many logs have an epoch.
+pub(crate) fn drawn<R: Register>(
+    alloc: Global,
+    register: &mut R,
+) -> Result<(u32, usize), RegisterFault> {
+    let drawn = register.draw(alloc, first_node()?)?;
+    Ok((drawn.gen_, drawn.epochs.as_slice().len()))
 }
 
-#[test]
-fn a_crash_leaves_the_activation_or_does_not(rt: HostRuntime) -> Result<(), Fail> {
-    let alloc = rt.alloc();
-    for k in 1..5 {
-        for picture in [Picture::Old, Picture::New, Picture::Byte(7)] {
-            let is_there = k >= 3 && picture == Picture::New;
-            let expected = if is_there { 3 } else { 2 };
-            assert_eq!(rt; epoch_after(alloc, Fault::CrashAt(k, picture))?, expected);
+/// A change of a register of whose log 1 one epoch was handed out.
+#[derive(Clone, Copy)]
+pub(crate) enum Change {
+    Activation,
+    Close,
+    Draw,
+}
+
+/// The changes, and what is told afterwards where the change wasn't made, and where it was.
+pub(crate) const CHANGES: [(Change, u32, u32); 3] = [
+    (Change::Activation, 2, 3),
+    (Change::Close, 0, 1),
+    (Change::Draw, 1, 2),
+];
+
+/// Makes a change.
+pub(crate) fn make<R: Register>(
+    alloc: Global,
+    register: &mut R,
+    change: Change,
+) -> Result<(), RegisterFault> {
+    match change {
+        Change::Activation => {
+            let _ = epoch(alloc, register, 1)?;
+        }
+        Change::Close => close(alloc, register)?,
+        Change::Draw => {
+            let _ = drawn(alloc, register)?;
         }
     }
     Ok(())
 }
 
-#[test]
-fn a_crash_leaves_the_close_or_does_not(rt: HostRuntime) -> Result<(), Fail> {
-    let alloc = rt.alloc();
-    for k in 1..5 {
-        for picture in [Picture::Old, Picture::New, Picture::Byte(7)] {
-            let is_there = k >= 3 && picture == Picture::New;
-            let expected = if is_there { 1 } else { 0 };
-            assert_eq!(rt; lce_after(alloc, Fault::CrashAt(k, picture))?, expected);
+/// What is told of a change: the next epoch, the last closed one, or the next generation.
+pub(crate) fn told<R: Register>(
+    alloc: Global,
+    register: &mut R,
+    change: Change,
+) -> Result<u32, RegisterFault> {
+    match change {
+        Change::Activation => epoch(alloc, register, 1),
+        Change::Close => {
+            let view = view(alloc, register)?;
+            Ok(view.lce)
+        }
+        Change::Draw => {
+            let (generation, _) = drawn(alloc, register)?;
+            Ok(generation)
         }
     }
+}
+
+/// What is told after a change in which the disk does this, a restart and a load; 100 where the change didn't fail.
+fn told_after(alloc: Global, change: Change, fault: Fault) -> Result<u32, RegisterFault> {
+    let mut register = new_register(alloc)?;
+    let _ = epoch(alloc, &mut register, 1)?;
+    register.arm(fault);
+    if make(alloc, &mut register, change) != Err(RegisterFault::Failed) {
+        return Ok(100);
+    }
+    let mut register = again(alloc, register);
+    told(alloc, &mut register, change)
+}
+
+#[test]
+fn an_epoch_is_handed_out_and_closed(rt: HostRuntime) -> Result<(), Fail> {
+    let alloc = rt.alloc();
+    let mut register = new_register(alloc)?;
+    assert_eq!(rt; epoch(alloc, &mut register, 1), Ok(1));
+    assert_eq!(rt; close(alloc, &mut register), Ok(()));
+    let shown = View {
+        epoch: 1,
+        lce: 1,
+        summary: Some(summary()),
+    };
+    assert_eq!(rt; view(alloc, &mut register), Ok(shown));
+    assert_eq!(rt; drawn(alloc, &mut register), Ok((1, 1)));
     Ok(())
 }
 
 #[test]
-fn a_crash_leaves_the_draw_or_does_not(rt: HostRuntime) -> Result<(), Fail> {
-    let alloc = rt.alloc();
-    for k in 1..5 {
-        for picture in [Picture::Old, Picture::New, Picture::Byte(7)] {
-            let is_there = k >= 3 && picture == Picture::New;
-            let expected = if is_there { 2 } else { 1 };
+fn a_failure_in_the_last_sync_alone_leaves_the_change(rt: HostRuntime) -> Result<(), Fail> {
+    for (change, before, after) in CHANGES {
+        for k in 1..5 {
+            let expected = if k == 4 { after } else { before };
             assert_eq!(rt;
-                generation_after(alloc, Fault::CrashAt(k, picture))?,
-                expected
+                told_after(rt.alloc(), change, Fault::FailAt(k)),
+                Ok(expected)
             );
         }
     }
@@ -144,12 +171,16 @@ fn a_crash_leaves_the_draw_or_does_not(rt: HostRuntime) -> Result<(), Fail> {
 }
 
 #[test]
-fn failures_of_a_close_and_a_draw(rt: HostRuntime) -> Result<(), Fail> {
-    let alloc = rt.alloc();
-    for k in 1..5 {
-        let made: u32 = if k == 4 { 1 } else { 0 };
-        assert_eq!(rt; lce_after(alloc, Fault::FailAt(k))?, made);
-        assert_eq!(rt; generation_after(alloc, Fault::FailAt(k))?, made + 1);
+fn a_crash_leaves_the_change_or_does_not(rt: HostRuntime) -> Result<(), Fail> {
+    for (change, before, after) in CHANGES {
+        for k in 1..5 {
+            for picture in [Picture::Old, Picture::New, Picture::Byte(7)] {
+                let is_there = k >= 3 && picture == Picture::New;
+                let expected = if is_there { after } else { before };
+                let fault = Fault::CrashAt(k, picture);
+                assert_eq!(rt; told_after(rt.alloc(), change, fault), Ok(expected));
+            }
+        }
     }
     Ok(())
 }
@@ -157,9 +188,8 @@ fn failures_of_a_close_and_a_draw(rt: HostRuntime) -> Result<(), Fail> {
 #[test]
 fn an_activation_is_a_record_of_nine_bytes(rt: HostRuntime) -> Result<(), Fail> {
     let alloc = rt.alloc();
-    let log = first_log()?;
     let mut register = new_register(alloc)?;
-    let _ = register.activate(alloc, log)?;
+    assert_eq!(rt; epoch(alloc, &mut register, 1), Ok(1));
     let mut disk = register.into_disk();
     let mut bytes = [9; 16];
     assert_eq!(rt; disk.read(0, &mut bytes)?, 15);
