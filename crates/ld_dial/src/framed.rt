@@ -139,4 +139,8 @@ impl<L: Dial> Nodes for Framed<L> {
             }
         }
     }
+
+    fn failures(&self) -> u64 {
+        self.link.failures()
+    }
 }

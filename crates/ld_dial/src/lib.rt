@@ -53,4 +53,8 @@ pub trait Nodes {
         ensures counts { CountsFault (faults self.old) (faults self.new) result }
         ensures received { (c : Config) (far : Far) → tells self.old c far → Receives far (tells self.new c) result }
         ensures silent { silent self.new ≡ silent self.old };
+
+    /// How often a call has failed, up to the greatest 64-bit number.
+    fn failures(&self) -> u64
+        ensures { result ≡ faults self.now };
 }

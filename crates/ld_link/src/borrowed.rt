@@ -24,4 +24,8 @@ impl<L: Dial> Dial for &mut L {
     fn dial(&mut self, node: u8) -> Result<(), Failed> {
         (**self).dial(node)
     }
+
+    fn failures(&self) -> u64 {
+        (**self).failures()
+    }
 }

@@ -55,4 +55,8 @@ pub trait Dial: Link {
     fn dial(&mut self, node: u8) -> Result<(), Failed>
         ensures peer { IfSome (Self.peers self.old) (λ old. Reaches old (Self.peers self.new) result) }
         ensures cause { HasCause (Self.faults self.old) (Self.faults self.new) result };
+
+    /// How often a call has failed, up to the greatest 64-bit number.
+    fn failures(&self) -> u64
+        ensures { result ≡ Self.faults self.now };
 }

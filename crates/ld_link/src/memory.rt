@@ -217,4 +217,8 @@ impl Dial for MemLink {
     {
         Err(count_fault(&mut self.faults))
     }
+
+    fn failures(&self) -> u64 {
+        self.faults
+    }
 }

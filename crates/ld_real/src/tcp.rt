@@ -312,4 +312,8 @@ impl<'a, R: Net<Listener = TcpListener, Stream = TcpStream>> Dial for TcpLink<'a
         self.present = Peer::Dialed(Some(stream));
         Ok(())
     }
+
+    fn failures(&self) -> u64 {
+        self.faults
+    }
 }
