@@ -13,6 +13,8 @@ mod laws;
 mod page;
 mod role;
 #[cfg(test)]
+mod said_tests;
+#[cfg(test)]
 mod samples;
 #[cfg(test)]
 mod slow;
