@@ -10,9 +10,9 @@ use Rattle.ld_wire.specs.Streams.{frames_of, AreMessages}
 use Rattle.ld_wire.specs.Judging.{judge, Waits}
 use Rattle.ld_wire.specs.Held.{Held}
 use Rattle.ld_link.specs.Peers.{Talk, Peers, heard, said, on_present, left_of, as_list, arrived, Comes, Lacks}
-use Rattle.ld_serve.specs.Hearing.{Hears, HearsFrame, HearsEnd, HearsSome, Says, SaysPart}
+use Rattle.ld_framed.specs.Hearing.{Hears, HearsFrame, HearsEnd, HearsSome, Says, SaysPart}
 use Rattle.ld_serve.specs.Course.{Cut, Idle, Unread, Refused, Unsent, IsCutOff, IsStopped, Speech, bytes_of, AreSpeeches, turns_of, talks, after_all, answers_all, after_peers, whole_talk, whole_talks, BetweenPeers, WithPeer, InTurn, NoMore}
-use Rattle.ld_serve.proofs.Talks.{said_nothing}
+use Rattle.ld_framed.proofs.Talks.{said_nothing}
 use Rattle.ld_serve.proofs.Frames.{frames_of-append}
 
 abbrev talk : List ℕ → List ℕ → List ℕ → Talk

@@ -1,6 +1,3 @@
-pub mod Talks
-pub mod Writing
-pub mod Hearing
 pub mod Frames
 pub mod Courses
 pub mod Serving

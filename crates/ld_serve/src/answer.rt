@@ -1,11 +1,11 @@
 // Answers to the present peer.
 ghost use Rattle.std.specs.Prelude.{◌≡◌, IfSome, IfOk, IfErr, MatchResult};
 ghost use Rattle.ld_wire.specs.Streams.{frames_of, AreMessages};
-ghost use Rattle.ld_serve.specs.Hearing.{Says, SaysPart};
+ghost use Rattle.ld_framed.specs.Hearing.{Says, SaysPart};
 ghost use Rattle.ld_serve.specs.Stops.{IsUnsent, LinkCounts};
 
 use crate::Stop;
-use crate::output::write_all;
+use ld_framed::write_all;
 use ld_ids::NoMemory;
 use ld_link::Link;
 use ld_msg::Msg;

@@ -5,7 +5,6 @@
 mod answer;
 mod input;
 mod opening;
-mod output;
 mod peers;
 mod stop;
 #[cfg(test)]

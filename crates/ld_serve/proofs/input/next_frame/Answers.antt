@@ -1,47 +1,11 @@
-use Rattle.std.proofs.Common.{ap, ◌∙◌, subst, length, arith}
-use Rattle.std.proofs.lemmas.Result.{err_from_is_err_and}
-use Rattle.ld_wire.specs.Faults.{IsRefused}
-use Rattle.ld_serve.proofs.Hearing.{fails_here, fails_on, judged, next_on, the_first}
+use Rattle.ld_framed.proofs.Hearing.{heard_as}
 use Rattle.ld_serve.proofs.input.next_frame.Goals as goal
 
 pub returns-in-Err-clause-heard : goal.returns-in-Err-clause-heard
-returns-in-Err-clause-heard g c =
-    fails_here _ _ _ c.pieces.decoder.bytes _ c.pieces.invariant.0
-    (c.stop_of.ensures.told c.pieces.decoder.bytes (subst (λ r. IsRefused r c.in-Err.fault) (judged c.pieces.decoder c.pieces.invariant.1) c.in-Err.ensures.fault.0))
-
-pub returns-in_err-fill-clause-heard : goal.returns-in_err-fill-clause-heard
-returns-in_err-fill-clause-heard g c =
-    let p = err_from_is_err_and c.from_residual.result c.from_residual.ensures.1 in
-    let none = rw c.in-Ok-None.field-0-is at c.in-Ok-None.ensures.none in
-    rw (p.1, p.2) (fails_on _ _ _ _ c.pieces.decoder c.take.new.self _ none.1 c.pieces.invariant.0 c.in_err-fill.ensures.heard)
-
-pub pieces-smaller : goal.pieces-smaller
-pieces-smaller g c =
-    let none = rw c.in-Ok-None.field-0-is at c.in-Ok-None.ensures.none in
-    let same = none.1 in
-    let short = rw c.in-Ok-None.field-0-is at c.in-Ok-None.ensures.short in
-    let more = rw c.if-not-branch.false at c.in_ok-fill.ensures.more in
-    let size = ap (λ h. length h.bytes) same in
-    omega (arith, short, more, size)
-
-pub pieces-preserved : goal.pieces-preserved
-pieces-preserved g c =
-    let none = rw c.in-Ok-None.field-0-is at c.in-Ok-None.ensures.none in
-    let same = none.1 in (
-      next_on _ _ _ _ c.pieces.decoder c.take.new.self _ same c.pieces.invariant.0 (the_first _ _ _ c.in_ok-fill.ensures.heard),
-      c.in_ok-fill.ensures.fault ∙ ap (λ h. h.fault) same ∙ c.pieces.invariant.1,
-      c.in_ok-fill.ensures.len ∙ c.pieces.invariant.2,
-      c.in_ok-fill.ensures.counts ∙ c.pieces.invariant.3,
-    )
+returns-in-Err-clause-heard g c = heard_as _ _ _ _ _ c.stop_of.ensures.told c.in-Err.ensures.heard
 
 pub returns-in-Err-clause-cause : goal.returns-in-Err-clause-cause
-returns-in-Err-clause-cause g c =
-    (c.pieces.decoder.bytes, c.stop_of.ensures.told c.pieces.decoder.bytes (subst (λ r. IsRefused r c.in-Err.fault) (judged c.pieces.decoder c.pieces.invariant.1) c.in-Err.ensures.fault.0))
+returns-in-Err-clause-cause g c = (c.in-Err.ensures.cause.0, c.stop_of.ensures.told _ c.in-Err.ensures.cause.1)
 
 pub returns-in-Err-clause-counts : goal.returns-in-Err-clause-counts
-returns-in-Err-clause-counts g c = rw c.pieces.invariant.3 (c.stop_of.ensures.counts _)
-
-pub returns-in_err-fill-clause-cause : goal.returns-in_err-fill-clause-cause
-returns-in_err-fill-clause-cause g c =
-    let p = err_from_is_err_and c.from_residual.result c.from_residual.ensures.1 in
-    rw (p.1, p.2) (c.pieces.decoder.bytes, c.in_err-fill.ensures.cause c.pieces.decoder.bytes)
+returns-in-Err-clause-counts g c = c.stop_of.ensures.counts _ _ c.in-Err.ensures.counts
