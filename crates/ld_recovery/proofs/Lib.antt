@@ -1,7 +1,7 @@
 pub mod Settling
 pub mod Marking
 pub mod Posting
-mod Begins
+pub mod Begins
 pub mod Digesting
 pub mod Replies
 pub mod Holding

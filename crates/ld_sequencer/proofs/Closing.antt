@@ -6,13 +6,11 @@ use Rattle.ld_msg.specs.declared.msg.Msg.{Msg}
 use Rattle.ld_msg.specs.declared.msg.Body.{Body}
 use Rattle.ld_msg.specs.Register.{Register, Answer, Granted, AtLimit, Behind, Fails, Changed, close}
 use Rattle.ld_msg.specs.Sequencer.{Sequencer, Recovery, Stage, Seals, Stores, Closes, Acts, called, does_nothing, after_close, preempt, goes_on, acted_messages, retries_recovery, retries_stage, retries_recovery}
-use Rattle.ld_recovery.specs.declared.state.Answer as answered
-use Rattle.ld_recovery.specs.declared.state.Answer.TheVariants as answers
-use Rattle.ld_recovery.specs.States.{answer_of}
+use Rattle.ld_sequencer.specs.declared.close.Tried.{Tried}
 use Rattle.ld_register.specs.Calls.{after_close as after_the_close, ChangedOrNot}
 use Rattle.ld_sequencer.specs.Own.{listed}
-use Rattle.ld_sequencer.specs.Register.{after_tries}
-use Rattle.ld_sequencer.specs.declared.whole.Report.{Report}
+use Rattle.ld_sequencer.specs.Register.{after_tries, answer_of}
+use Rattle.ld_sequencer.specs.declared.report.Report.{Report}
 use Rattle.ld_sequencer.specs.declared.fault.SequencerFault.{SequencerFault}
 use Rattle.ld_sequencer.specs.Whole.{Whole, as_now, sent_as, with_recovery, closing_in, closing_stage, closing_of, closed_acts, tried, tried_with, called_by, recovery_acts, Acted, IsFresh}
 use Rattle.ld_sequencer.proofs.Doing.{same_quiet}
@@ -103,14 +101,14 @@ into_acted w n q (Ok x) old new a e y h k = (k.0, into_tried w n q x old new a e
 into_acted w n q (Err f) old new a e y h k = tt
 
 held_or : (w n : Whole) (q : Sequencer) (r : Report) (old new : List Msg) (a : Acts) (e : ℕ) (y : Summary) (c : Register) (K : Register → Type 0) → Into w q a e y
-    → (r.register_failed ≡ true) ⊎ (Acted w n r old new (after_close w.spec (does_nothing q) e y (close c q.log e y).answer) × K (close c q.log e y).register)
-    → (r.register_failed ≡ true) ⊎ (Acted w n r old new (called_by w c a).acts × K (called_by w c a).register)
+    → (is_some r.register ≡ true) ⊎ (Acted w n r old new (after_close w.spec (does_nothing q) e y (close c q.log e y).answer) × K (close c q.log e y).register)
+    → (is_some r.register ≡ true) ⊎ (Acted w n r old new (called_by w c a).acts × K (called_by w c a).register)
 held_or w n q r old new a e y c K h (inl f) = inl f
 held_or w n q r old new a e y c K h (inr k) = inr (into_acts w n q r old new a e y c h k.0, into_register w q a e y c K h k.1)
 
 pub into_held : (w n : Whole) (q : Sequencer) (r : Result Report SequencerFault) (old new : List Msg) (a : Acts) (e : ℕ) (y : Summary) (c : Register) (K : Register → Type 0) → Into w q a e y
-    → IfOk r (λ report. (report.register_failed ≡ true) ⊎ (Acted w n report old new (after_close w.spec (does_nothing q) e y (close c q.log e y).answer) × K (close c q.log e y).register))
-    → IfOk r (λ report. (report.register_failed ≡ true) ⊎ (Acted w n report old new (called_by w c a).acts × K (called_by w c a).register))
+    → IfOk r (λ report. (is_some report.register ≡ true) ⊎ (Acted w n report old new (after_close w.spec (does_nothing q) e y (close c q.log e y).answer) × K (close c q.log e y).register))
+    → IfOk r (λ report. (is_some report.register ≡ true) ⊎ (Acted w n report old new (called_by w c a).acts × K (called_by w c a).register))
 into_held w n q (Ok x) old new a e y c K h k = held_or w n q x old new a e y c K h k
 into_held w n q (Err f) old new a e y c K h k = tt
 
@@ -176,8 +174,8 @@ due_acted old mid n (Ok x) o om on a e y d k = (k.0, into_tried old n (with_reco
 due_acted old mid n (Err f) o om on a e y d k = tt
 
 due_or_failed : (old mid n : Whole) (r : Report) (o om on : List Msg) (a : Acts) (e : ℕ) (y : Summary) (c : Register) (K : Register → Type 0) → Due old mid o om a e y
-    → (r.register_failed ≡ true) ⊎ (Acted mid n r om on (closed_acts mid e y (close c mid.sequencer.log e y).answer) × K (close c mid.sequencer.log e y).register)
-    → (r.register_failed ≡ true) ⊎ (Acted old n r o on (called_by old c a).acts × K (called_by old c a).register)
+    → (is_some r.register ≡ true) ⊎ (Acted mid n r om on (closed_acts mid e y (close c mid.sequencer.log e y).answer) × K (close c mid.sequencer.log e y).register)
+    → (is_some r.register ≡ true) ⊎ (Acted old n r o on (called_by old c a).acts × K (called_by old c a).register)
 due_or_failed old mid n r o om on a e y c K d (inl f) = inl f
 due_or_failed old mid n r o om on a e y c K d (inr k) =
     let q = with_recovery d.recovery old.sequencer in
@@ -187,20 +185,20 @@ due_or_failed old mid n r o om on a e y c K d (inr k) =
     )
 
 pub due_held : (old mid n : Whole) (r : Result Report SequencerFault) (o om on : List Msg) (a : Acts) (e : ℕ) (y : Summary) (c : Register) (K : Register → Type 0) → Due old mid o om a e y
-    → IfOk r (λ report. (report.register_failed ≡ true) ⊎ (Acted mid n report om on (closed_acts mid e y (close c mid.sequencer.log e y).answer) × K (close c mid.sequencer.log e y).register))
-    → IfOk r (λ report. (report.register_failed ≡ true) ⊎ (Acted old n report o on (called_by old c a).acts × K (called_by old c a).register))
+    → IfOk r (λ report. (is_some report.register ≡ true) ⊎ (Acted mid n report om on (closed_acts mid e y (close c mid.sequencer.log e y).answer) × K (close c mid.sequencer.log e y).register))
+    → IfOk r (λ report. (is_some report.register ≡ true) ⊎ (Acted old n report o on (called_by old c a).acts × K (called_by old c a).register))
 due_held old mid n (Ok x) o om on a e y c K d k = due_or_failed old mid n x o om on a e y c K d k
 due_held old mid n (Err f) o om on a e y c K d k = tt
 
 -- ---- the register failed ----
 
-pub failed_shown : (w n : Whole) (r : Report) (old new : List Msg) (e : ℕ) (y : Summary) (d : answered.Answer) → d ≡ answers.Failed → Acted w n r old new (closed_acts w e y (answer_of d)) → r.register_failed ≡ true
+pub failed_shown : (w n : Whole) (r : Report) (old new : List Msg) (e : ℕ) (y : Summary) (d : Tried) → answer_of d ≡ Fails → Acted w n r old new (closed_acts w e y (answer_of d)) → is_some r.register ≡ true
 unfolding after_close
-failed_shown w n r old new e y d h a = a.failed ∙ ap (λ (x : answered.Answer). (closed_acts w e y (answer_of x)).failed) h
+failed_shown w n r old new e y d h a = a.failed ∙ ap (λ (x : Answer). (closed_acts w e y x).failed) h
 
-pub held_by : (w n : Whole) (r : Report) (old new : List Msg) (e : ℕ) (y : Summary) (d : answered.Answer) (c : Register) (K : Register → Type 0) → Acted w n r old new (closed_acts w e y (answer_of d))
-    → (d ≡ answers.Failed) ⊎ ((answer_of d ≡ (close c w.sequencer.log e y).answer) × K (close c w.sequencer.log e y).register)
-    → (r.register_failed ≡ true) ⊎ (Acted w n r old new (closed_acts w e y (close c w.sequencer.log e y).answer) × K (close c w.sequencer.log e y).register)
+pub held_by : (w n : Whole) (r : Report) (old new : List Msg) (e : ℕ) (y : Summary) (d : Tried) (c : Register) (K : Register → Type 0) → Acted w n r old new (closed_acts w e y (answer_of d))
+    → (answer_of d ≡ Fails) ⊎ ((answer_of d ≡ (close c w.sequencer.log e y).answer) × K (close c w.sequencer.log e y).register)
+    → (is_some r.register ≡ true) ⊎ (Acted w n r old new (closed_acts w e y (close c w.sequencer.log e y).answer) × K (close c w.sequencer.log e y).register)
 held_by w n r old new e y d c K a (inl f) = inl (failed_shown w n r old new e y d f a)
 held_by w n r old new e y d c K a (inr k) = inr (subst (λ (x : Answer). Acted w n r old new (closed_acts w e y x)) k.0 a, k.1)
 

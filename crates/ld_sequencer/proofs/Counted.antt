@@ -62,7 +62,7 @@ module _ (s : Spec) (flags now : List Bool) (ws after : List Waiting) (i y lng :
 
   acked : (epoch number : ℕ) → number ≡ numbered epoch (leading flags + 1) + i → (is && not was) ≡ acks s y (find number (before epoch).appends)
   acked epoch number n =
-      let f : w.factor ≡ s.r = marks.factor_get s.r ws i w h.factor g in
+      let f : w.factor ≡ s.r = (marks.waiting_get s.r ws i w h.waiting g).factor in
       let a : was ≡ is_acked s w.append = (c w g).1 ∙ ap (λ r. nat_le r (length w.append.stored)) f in
       let b : is ≡ is_acked s (stored_at w.append y) = (c w g).2 ∙ ap (λ r. nat_le r (length (stored_at w.append y).stored)) f in
       ap (λ x. x && not was) b ∙ (ap (λ x. is_acked s (stored_at w.append y) && not x) a ∙ (swap (is_acked s (stored_at w.append y)) (is_acked s w.append) ∙ sym (ap (acks s y) (marks.stored_found s flags ws i y w h g epoch number n))))

@@ -1,5 +1,5 @@
 -- What the parts of a call have done is what the call does.
-use Rattle.std.proofs.Common.{◌≡◌, ℕ, ◌+◌, ◌<◌, ◌≤◌, Bool, true, false, nat_lt, nat_le, List, [], ◌∷◌, ◌++◌, append-nil, Option, Some, None, if◌then◌else◌, refl, ap, sym, subst, ◌∙◌, arith}
+use Rattle.std.proofs.Common.{◌≡◌, ℕ, ◌+◌, ◌<◌, ◌≤◌, Bool, true, false, nat_lt, nat_le, List, [], ◌∷◌, ◌++◌, append-nil, Option, Some, None, is_some, if◌then◌else◌, refl, ap, sym, subst, ◌∙◌, arith}
 use Rattle.std.proofs.lemmas.List.{append_assoc}
 use Rattle.std.proofs.lemmas.Bool.Decides.{nat_tests}
 use Rattle.ld_ids.specs.declared.set.Spec.{Spec}
@@ -16,7 +16,8 @@ use Rattle.ld_msg.specs.Sequencer.{Sequencer, Stage, Seals, Stores, Closes, Acts
 use Rattle.ld_recovery.specs.Recovering.{Recovering, messages, close_messages, Closing}
 use Rattle.ld_recovery.proofs.Replies.{granted}
 use Rattle.ld_sequencer.specs.Own.{Own, sequencer_of, spec_of, sent_by, released_above, with_lce, preempted_as, listed}
-use Rattle.ld_sequencer.specs.declared.whole.Report.{Report}
+use Rattle.ld_sequencer.specs.declared.fault.CloseFault.{CloseFault}
+use Rattle.ld_sequencer.specs.declared.report.Report.{Report}
 use Rattle.ld_sequencer.specs.Whole.{Whole, as_now, sent_as, joined, AreOne, closing_stage, closing_of, closed_acts, risen, Acted, active}
 use Rattle.ld_sequencer.proofs.Serving.{sent_of, posted_both, served}
 
@@ -36,18 +37,18 @@ nothing_more w old bs e = sym (ap (λ (cs : List (ℕ × Body)). old ++ sent_as 
 
 -- ---- reports ----
 
-abbrev pub report_of : Option ℕ → Option ℕ → Option ℕ → Bool → Option ℕ → Report
-report_of acked closed preempted failed released = record { acked = acked; closed = closed; preempted = preempted; register_failed = failed; released = released }
+abbrev pub report_of : Option ℕ → Option ℕ → Option ℕ → Option CloseFault → Option ℕ → Report
+report_of acked closed preempted failed released = record { acked = acked; closed = closed; preempted = preempted; register = failed; released = released }
 
 -- nothing was done
-pub quiet_acted : (w : Whole) (r : Report) (old : List Msg) → r.acked ≡ None → r.closed ≡ None → r.preempted ≡ None → r.register_failed ≡ false → r.released ≡ None → Acted w w r old old (does_nothing w.sequencer)
+pub quiet_acted : (w : Whole) (r : Report) (old : List Msg) → r.acked ≡ None → r.closed ≡ None → r.preempted ≡ None → r.register ≡ None → r.released ≡ None → Acted w w r old old (does_nothing w.sequencer)
 quiet_acted w r old a c p f e = record {
   now = refl;
   sent = nothing_more w old (acted_messages w.spec w.sequencer (does_nothing w.sequencer)) (ap (λ (m : List (ℕ × Body)). m ++ []) (same_quiet w.spec w.sequencer w.sequencer refl));
   acked = ap listed a;
   closed = ap listed c;
   preempted = ap listed p;
-  failed = f;
+  failed = ap is_some f;
   released = ap listed e ∙ same_risen w.sequencer w.sequencer refl;
 }
 
@@ -85,12 +86,12 @@ onward w lce = goes_on w.spec (does_nothing w.sequencer) lce
 pub gone_acted : (w n : Whole) (o : Own) (m : Option Recovering) (e lce before : ℕ) (y : Summary) (released : Option ℕ) (old new : List Msg) → lce < w.sequencer.epoch → before ≡ released_of w.sequencer
     → n ≡ as_now w (onward w lce).sequencer → new ≡ old ++ sent_as w (acted_messages w.spec w.sequencer (onward w lce))
     → listed released ≡ (if nat_lt before (released_of n.sequencer) then released_of n.sequencer ∷ [] else [])
-    → Acted w n (report_of None None None false released) old new (closed_acts w e y (Behind lce))
+    → Acted w n (report_of None None None None released) old new (closed_acts w e y (Behind lce))
 unfolding after_close
 gone_acted w n o m e lce before y released old new l b h k r =
     let t : nat_le w.sequencer.epoch lce ≡ false = grind (arith, nat_tests) in
     let f : (if nat_le w.sequencer.epoch lce then preempt (does_nothing w.sequencer) (lce + 1) else onward w lce) ≡ onward w lce = ap (λ (c : Bool). if c then preempt (does_nothing w.sequencer) (lce + 1) else onward w lce) t in
-    subst (Acted w n (report_of None None None false released) old new) (sym f) (record {
+    subst (Acted w n (report_of None None None None released) old new) (sym f) (record {
       now = h;
       sent = k;
       acked = refl;
@@ -103,13 +104,13 @@ gone_acted w n o m e lce before y released old new l b h k r =
 
 -- it is preempted
 pub late_acted : (w n : Whole) (o : Own) (m : Option Recovering) (e lce : ℕ) (y : Summary) (old : List Msg) → w.sequencer.epoch ≤ lce → joined o m ≡ w → n ≡ joined (preempted_as o (lce + 1)) m
-    → Acted w n (report_of None None (Some (lce + 1)) false None) old old (closed_acts w e y (Behind lce))
+    → Acted w n (report_of None None (Some (lce + 1)) None None) old old (closed_acts w e y (Behind lce))
 unfolding after_close
 late_acted w n o m e lce y old l j h =
     let t : nat_le w.sequencer.epoch lce ≡ true = grind (arith, nat_tests) in
     let q = preempt (does_nothing w.sequencer) (lce + 1) in
     let f : (if nat_le w.sequencer.epoch lce then q else onward w lce) ≡ q = ap (λ (c : Bool). if c then q else onward w lce) t in
-    subst (Acted w n (report_of None None (Some (lce + 1)) false None) old old) (sym f) (record {
+    subst (Acted w n (report_of None None (Some (lce + 1)) None None) old old) (sym f) (record {
       now = h ∙ ap (λ (x : Whole). as_now x (preempt (does_nothing x.sequencer) (lce + 1)).sequencer) j;
       sent = nothing_more w old (acted_messages w.spec w.sequencer q) (ap (λ (ms : List (ℕ × Body)). ms ++ []) (same_quiet w.spec w.sequencer q.sequencer refl));
       acked = refl;
@@ -120,9 +121,9 @@ late_acted w n o m e lce y old l j h =
     })
 
 -- the register failed
-pub failed_acted : (w : Whole) (e : ℕ) (y : Summary) (old : List Msg) → Acted w w (report_of None None None true None) old old (closed_acts w e y Fails)
+pub failed_acted : (w : Whole) (e : ℕ) (y : Summary) (f : CloseFault) (old : List Msg) → Acted w w (report_of None None None (Some f) None) old old (closed_acts w e y Fails)
 unfolding after_close
-failed_acted w e y old = record {
+failed_acted w e y f old = record {
   now = refl;
   sent = nothing_more w old (acted_messages w.spec w.sequencer (does_nothing w.sequencer)) (ap (λ (m : List (ℕ × Body)). m ++ []) (same_quiet w.spec w.sequencer w.sequencer refl));
   acked = refl;
@@ -166,7 +167,7 @@ pub made_acted : (w n : Whole) (o : Own) (m : Option Recovering) (r : Recovering
     → before ≡ released_of w.sequencer → end ≡ numbered e y.end → mid ≡ old ++ close_messages r y Granted
     → n ≡ as_now (joined o None) (onward (joined o None) e).sequencer → new ≡ mid ++ sent_as (joined o None) (acted_messages (joined o None).spec (joined o None).sequencer (onward (joined o None) e))
     → listed released ≡ (if nat_lt before (released_of n.sequencer) then released_of n.sequencer ∷ [] else [])
-    → Acted w n (report_of None (Some end) None false released) old new (closed_acts w e y Granted)
+    → Acted w n (report_of None (Some end) None None released) old new (closed_acts w e y Granted)
 unfolding after_close
 made_acted w n o m r e before end y released old mid new j h k c b f g i s l =
     let x : r.recovery.epoch ≡ e = (closing_held o m r w e y j k c).0 in

@@ -17,7 +17,7 @@ use Rattle.ld_recovery.specs.Recovering.{Recovering, Ending, Goes, IsDone, as_se
 use Rattle.ld_recovery.specs.States.{state_of}
 use Rattle.ld_recovery.proofs.Replies.{going}
 use Rattle.ld_sequencer.specs.Own.{Own, listed}
-use Rattle.ld_sequencer.specs.declared.whole.Report.{Report}
+use Rattle.ld_sequencer.specs.declared.report.Report.{Report}
 use Rattle.ld_sequencer.specs.Whole.{Whole, as_now, sent_as, joined, recovery_in, with_recovery, Serves, AreOne, is_of_earlier, is_for_recovery, reply_acts, Acted}
 use Rattle.ld_sequencer.proofs.Parts.{only, rejoin, join_by, Moves, Cleans, either_by, moved}
 use Rattle.ld_sequencer.proofs.Serving.{sent_of, posted_both, served, as_is, serves_on, one_with}
@@ -127,7 +127,7 @@ hears_end o r x y b z e h (inr p) = p
 pub onward_one : (o : Own) (m : Option Recovering) (r x : Recovering) (y : ℕ) (b : Body) → AreOne o m → m ≡ Some r → x ≡ replied r y b → Onward o r y b → AreOne o (Some x)
 onward_one o m r x y b h k e p = one_with o m (Some x) h (subst (λ (z : Recovering). Serves o z) (sym (e ∙ p.value)) (serves_on o r p.moves.now (served o m r k h) p.moves.epoch))
 
-moved_acted : (o : Own) (r : Recovering) (t : Report) (v : Recovery) (ts : List (ℕ × Summary)) (bs ss : List (ℕ × Body)) (old new : List Msg) → t.acked ≡ None → t.closed ≡ None → t.preempted ≡ None → t.register_failed ≡ false → t.released ≡ None
+moved_acted : (o : Own) (r : Recovering) (t : Report) (v : Recovery) (ts : List (ℕ × Summary)) (bs ss : List (ℕ × Body)) (old new : List Msg) → t.acked ≡ None → t.closed ≡ None → t.preempted ≡ None → t.register ≡ None → t.released ≡ None
     → new ≡ old ++ sent_as (joined o (Some r)) (bs ++ ss) → Acted (joined o (Some r)) (joined o (Some (going r v))) t old new (moved (joined o (Some r)).sequencer v ts bs ss)
 moved_acted o r t v ts bs ss old new a c p f l s =
     let q = (joined o (Some r)).sequencer in
@@ -137,12 +137,12 @@ moved_acted o r t v ts bs ss old new a c p f l s =
       acked = ap listed a;
       closed = ap listed c;
       preempted = ap listed p;
-      failed = f;
+      failed = ap is_some f;
       released = ap listed l ∙ same_risen q (with_recovery (Some v) q) refl;
     }
 
 pub onward_acted : (w : Whole) (o : Own) (m : Option Recovering) (r x : Recovering) (t : Report) (who : Who) (b : Body) (old new : List Msg) → joined o m ≡ w → m ≡ Some r → x ≡ replied r (sender_of who) b → Onward o r (sender_of who) b
-    → t.acked ≡ None → t.closed ≡ None → t.preempted ≡ None → t.register_failed ≡ false → t.released ≡ None
+    → t.acked ≡ None → t.closed ≡ None → t.preempted ≡ None → t.register ≡ None → t.released ≡ None
     → new ≡ old ++ reply_messages r (sender_of who) b → Acted w (joined o (Some x)) t old new (reply_acts w who b)
 onward_acted w o m r x t who b old new j k e p ta tc tp tf tl s =
     let d = p.moves in
@@ -164,10 +164,10 @@ ended_there : (o : Own) (r : Recovering) (n : Whole) (who : Who) (b : Body) (bef
     → before ≡ released_of (joined o (Some r)).sequencer → mid ≡ old ++ reply_messages r (sender_of who) b
     → n ≡ as_now (joined o (Some r)) (onward (joined o (Some r)) r.recovery.epoch).sequencer → new ≡ mid ++ sent_as (joined o (Some r)) (acted_messages o.row.spec (joined o (Some r)).sequencer (onward (joined o (Some r)) r.recovery.epoch))
     → listed released ≡ (if nat_lt before (released_of n.sequencer) then released_of n.sequencer ∷ [] else [])
-    → Acted (joined o (Some r)) n (report_of None None None false released) old new (reply_acts (joined o (Some r)) who b)
+    → Acted (joined o (Some r)) n (report_of None None None None released) old new (reply_acts (joined o (Some r)) who b)
 ended_there o r n who b before released old mid new p bf g i s l =
     let w = joined o (Some r) in let e = r.recovery.epoch in
-    subst (Acted w n (report_of None None None false released) old new) (sym p.acts) (record {
+    subst (Acted w n (report_of None None None None released) old new) (sym p.acts) (record {
       now = i;
       sent = clean_out o r e p.summary old mid new (g ∙ ap (λ (ms : List Msg). old ++ ms) p.sent) s;
       acked = refl;
@@ -182,11 +182,11 @@ pub ended_acted : (w n : Whole) (o : Own) (m : Option Recovering) (r x : Recover
     → before ≡ released_of w.sequencer → mid ≡ old ++ reply_messages r (sender_of who) b
     → n ≡ as_now (joined o None) (onward (joined o None) e).sequencer → new ≡ mid ++ sent_as (joined o None) (acted_messages (joined o None).spec (joined o None).sequencer (onward (joined o None) e))
     → listed released ≡ (if nat_lt before (released_of n.sequencer) then released_of n.sequencer ∷ [] else [])
-    → Ended o r (sender_of who) b → Acted w n (report_of None None None false released) old new (reply_acts w who b)
+    → Ended o r (sender_of who) b → Acted w n (report_of None None None None released) old new (reply_acts w who b)
 ended_acted w n o m r x who b e before released old mid new j k f g bf t i s l p =
     let z : joined o (Some r) ≡ w = ap (joined o) (sym k) ∙ j in
     let d : e ≡ r.recovery.epoch = g ∙ ap (λ (q : Recovering). q.recovery.epoch) (f ∙ p.value) in
-    subst (λ (q : Whole). Acted q n (report_of None None None false released) old new (reply_acts q who b)) z
+    subst (λ (q : Whole). Acted q n (report_of None None None None released) old new (reply_acts q who b)) z
     (ended_there o r n who b before released old mid new p (bf ∙ ap (λ (q : Whole). released_of q.sequencer) (sym z)) t
     (i ∙ ap (λ (y : ℕ). as_now (joined o None) (onward (joined o None) y).sequencer) d)
     (s ∙ ap (λ (y : ℕ). mid ++ sent_as (joined o None) (acted_messages (joined o None).spec (joined o None).sequencer (onward (joined o None) y))) d) l)

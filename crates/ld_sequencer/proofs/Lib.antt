@@ -18,3 +18,5 @@ pub mod Serving
 pub mod Starting
 pub mod Waves
 pub mod Windows
+pub mod Bounded
+pub mod Settled

@@ -1,15 +1,15 @@
 -- The window's flags beside the appends that wait.
-use Rattle.std.proofs.Common.{◌≡◌, ℕ, zero, suc, ◌+◌, ◌-◌, ◌^◌, ◌<◌, ◌≤◌, Bool, true, false, List, [], ◌∷◌, ◌++◌, length, map, drop, set, slice_get, unwrap_or, Some, refl, ap, sym, ◌∙◌, inl, inr, arith, if◌then◌else◌, nat_le}
+use Rattle.std.proofs.Common.{◌≡◌, ℕ, zero, suc, ◌+◌, ◌-◌, ◌^◌, ◌<◌, ◌≤◌, Bool, true, false, List, [], ◌∷◌, ◌++◌, length, map, drop, set, slice_get, unwrap_or, Some, refl, ap, sym, subst, ◌∙◌, inl, inr, arith, if◌then◌else◌, nat_le}
 use Rattle.std.proofs.lemmas.Bool.{cases_Bool, lt-leb, leb-false}
 use Rattle.std.proofs.lemmas.List.{length-append, length-set, drop-drop, length-drop, length-map, map_push, map-set, drop-set-add, drop-map}
 use Rattle.ld_table.specs.Table.{find, put}
 use Rattle.ld_lsn.specs.Number.{numbered}
 use Rattle.ld_table.specs.Words.{with_one, is_in}
 use Rattle.ld_ids.specs.declared.set.Spec.{Spec}
-use Rattle.ld_msg.specs.Sequencer.{Append, stored_at, is_acked, acked_first, unacked_from}
+use Rattle.ld_msg.specs.Sequencer.{Append, stored_at, is_acked, acked_first, unacked_from, payload_limit}
 use Rattle.ld_window.specs.Flags.{leading}
 use Rattle.ld_appender.specs.Waiting.{Waiting, is_enough, with_stored, starts}
-use Rattle.ld_sequencer.specs.Appends.{IsInStep, HaveFactor, carried, shown, numbered_from, with_append, flags_after}
+use Rattle.ld_sequencer.specs.Appends.{IsWaiting, AreWaiting, IsInStep, carried, shown, numbered_from, with_append, flags_after}
 use Rattle.ld_sequencer.proofs.Windows.{acked_run, acked_first_is, unacked_is, put_at, find_at}
 
 pub leading_within : (flags : List Bool) → leading flags ≤ length flags
@@ -33,16 +33,16 @@ drop_push : (flags : List Bool) → drop (leading flags) (flags ++ false ∷ [])
 drop_push [] = refl
 drop_push (b ∷ flags) = elim b as (λ b. drop (if b then suc (leading flags) else 0) (b ∷ flags ++ false ∷ []) ≡ drop (if b then suc (leading flags) else 0) (b ∷ flags) ++ false ∷ []) [ true ↦ drop_push flags | false ↦ refl ]
 
-factor_push : (r : ℕ) (ws : List Waiting) (w : Waiting) → HaveFactor r ws → w.factor ≡ r → HaveFactor r (ws ++ w ∷ [])
-factor_push r [] w h e = (e, tt)
-factor_push r (v ∷ ws) w h e = (h.0, factor_push r ws w h.1 e)
+waiting_push : (r : ℕ) (ws : List Waiting) (w : Waiting) → AreWaiting r ws → IsWaiting r w → AreWaiting r (ws ++ w ∷ [])
+waiting_push r [] w h e = (e, tt)
+waiting_push r (v ∷ ws) w h e = (h.0, waiting_push r ws w h.1 e)
 
 not_enough : (n r : ℕ) (p : List ℕ) → 1 ≤ r → is_enough (starts n p r) ≡ false
 not_enough n r p h = lt-leb r 0 h
 
-pub push_keeps : (r n : ℕ) (flags : List Bool) (ws : List Waiting) (p : List ℕ) → IsInStep r flags ws → leading flags + length ws + 1 ≤ 2 ^ 32 - 2 → IsInStep r (flags ++ false ∷ []) (ws ++ starts n p r ∷ [])
-push_keeps r n flags ws p h b = record {
-  factor = factor_push r ws (starts n p r) h.factor refl;
+pub push_keeps : (r n : ℕ) (flags : List Bool) (ws : List Waiting) (p : List ℕ) → IsInStep r flags ws → leading flags + length ws + 1 ≤ 2 ^ 32 - 2 → length p ≤ payload_limit → IsInStep r (flags ++ false ∷ []) (ws ++ starts n p r ∷ [])
+push_keeps r n flags ws p h b l = record {
+  waiting = waiting_push r ws (starts n p r) h.waiting (record { factor = refl; short = l });
   marks = ap (λ k. drop k (flags ++ false ∷ [])) (leading_push flags) ∙ (drop_push flags ∙ (ap (λ m. m ++ false ∷ []) h.marks ∙ (ap (λ b. map is_enough ws ++ b ∷ []) (sym (not_enough n r p h.copies)) ∙ sym (map_push is_enough ws (starts n p r)))));
   bound = let a = waits r flags ws h in let e : length (flags ++ false ∷ []) ≡ length flags + 1 = length-append flags (false ∷ []) in omega arith;
   copies = h.copies;
@@ -73,20 +73,20 @@ map_get f [] i x h = absurd cc
 map_get f (y ∷ xs) zero x h = ap (λ o. Some (f (unwrap_or o x))) h
 map_get f (y ∷ xs) (suc i) x h = map_get f xs i x h
 
-factor_set : (r : ℕ) (ws : List Waiting) (i : ℕ) (w : Waiting) → HaveFactor r ws → w.factor ≡ r → HaveFactor r (set ws i w)
-factor_set r [] i w h e = tt
-factor_set r (v ∷ ws) zero w h e = (e, h.1)
-factor_set r (v ∷ ws) (suc i) w h e = (h.0, factor_set r ws i w h.1 e)
+waiting_set : (r : ℕ) (ws : List Waiting) (i : ℕ) (w : Waiting) → AreWaiting r ws → IsWaiting r w → AreWaiting r (set ws i w)
+waiting_set r [] i w h e = tt
+waiting_set r (v ∷ ws) zero w h e = (e, h.1)
+waiting_set r (v ∷ ws) (suc i) w h e = (h.0, waiting_set r ws i w h.1 e)
 
-factor_drop : (r k : ℕ) (ws : List Waiting) → HaveFactor r ws → HaveFactor r (drop k ws)
-factor_drop r zero ws h = h
-factor_drop r (suc k) [] h = tt
-factor_drop r (suc k) (w ∷ ws) h = factor_drop r k ws h.1
+waiting_drop : (r k : ℕ) (ws : List Waiting) → AreWaiting r ws → AreWaiting r (drop k ws)
+waiting_drop r zero ws h = h
+waiting_drop r (suc k) [] h = tt
+waiting_drop r (suc k) (w ∷ ws) h = waiting_drop r k ws h.1
 
-pub factor_get : (r : ℕ) (ws : List Waiting) (i : ℕ) (w : Waiting) → HaveFactor r ws → slice_get ws i ≡ Some w → w.factor ≡ r
-factor_get r [] i w h g = absurd cc
-factor_get r (v ∷ ws) zero w h g = ap (λ o. (unwrap_or o w).factor) (sym g) ∙ h.0
-factor_get r (v ∷ ws) (suc i) w h g = factor_get r ws i w h.1 g
+pub waiting_get : (r : ℕ) (ws : List Waiting) (i : ℕ) (w : Waiting) → AreWaiting r ws → slice_get ws i ≡ Some w → IsWaiting r w
+waiting_get r [] i w h g = absurd cc
+waiting_get r (v ∷ ws) zero w h g = let e : v ≡ w = cc in subst (IsWaiting r) e h.0
+waiting_get r (v ∷ ws) (suc i) w h g = waiting_get r ws i w h.1 g
 
 longer : (y : ℕ) (ys : List ℕ) → length ys ≤ length (with_one y ys)
 longer y ys = elim (is_in y ys) as (λ b. length ys ≤ length (if b then ys else ys ++ y ∷ [])) [ true ↦ omega arith | false ↦ let e : length (ys ++ y ∷ []) ≡ length ys + 1 = length-append ys (y ∷ []) in omega arith ]
@@ -104,9 +104,9 @@ marks_after r flags ws i y w h g = (elim (cases_Bool (is_enough (with_stored w y
 ]) ∙ sym (map-set is_enough ws i (with_stored w y))
 
 -- as many of the first flags are set as of the first appends are acknowledged
-pub run_is : (s : Spec) (ws : List Waiting) → HaveFactor s.r ws → leading (map is_enough ws) ≡ acked_run s (carried ws)
+pub run_is : (s : Spec) (ws : List Waiting) → AreWaiting s.r ws → leading (map is_enough ws) ≡ acked_run s (carried ws)
 run_is s [] h = refl
-run_is s (w ∷ ws) h = ap (λ r. if nat_le r (length w.append.stored) then suc (leading (map is_enough ws)) else 0) h.0 ∙ ap (λ k. if is_acked s w.append then suc k else 0) (run_is s ws h.1)
+run_is s (w ∷ ws) h = ap (λ r. if nat_le r (length w.append.stored) then suc (leading (map is_enough ws)) else 0) h.0.factor ∙ ap (λ k. if is_acked s w.append then suc k else 0) (run_is s ws h.1)
 
 module _ (s : Spec) (flags : List Bool) (ws : List Waiting) (i y : ℕ) (w : Waiting) (h : IsInStep s.r flags ws) (g : slice_get ws i ≡ Some w) where
   abbrev stored : List Waiting
@@ -121,14 +121,14 @@ module _ (s : Spec) (flags : List Bool) (ws : List Waiting) (i y : ℕ) (w : Wai
   above_is : drop (leading flags) now ≡ map is_enough stored
   above_is = marks_after s.r flags ws i y w h g
 
-  have_factor : HaveFactor s.r stored
-  have_factor = factor_set s.r ws i (with_stored w y) h.factor (factor_get s.r ws i w h.factor g)
+  all_wait : AreWaiting s.r stored
+  all_wait = let a = waiting_get s.r ws i w h.waiting g in waiting_set s.r ws i (with_stored w y) h.waiting (record { factor = a.factor; short = a.short })
 
   -- the last number rises by the acknowledged ones
   pub run_now : leading now ≡ leading flags + acked_run s (carried stored)
   run_now =
       let a = leading_split (leading flags) now rises in
-      let b : leading (drop (leading flags) now) ≡ acked_run s (carried stored) = ap leading above_is ∙ run_is s stored have_factor in
+      let b : leading (drop (leading flags) now) ≡ acked_run s (carried stored) = ap leading above_is ∙ run_is s stored all_wait in
       omega arith
 
   pub length_now : length now ≡ length flags
@@ -136,7 +136,7 @@ module _ (s : Spec) (flags : List Bool) (ws : List Waiting) (i y : ℕ) (w : Wai
 
   pub stored_keeps : (k : ℕ) → leading now ≡ leading flags + k → IsInStep s.r now (drop k stored)
   stored_keeps k e = record {
-    factor = factor_drop s.r k stored have_factor;
+    waiting = waiting_drop s.r k stored all_wait;
     marks = ap (λ n. drop n now) e ∙ (sym (drop-drop k (leading flags) now) ∙ (ap (drop k) above_is ∙ drop-map is_enough k stored));
     bound = let a = h.bound in let b = length_now in omega arith;
     copies = h.copies;

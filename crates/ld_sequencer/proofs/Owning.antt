@@ -70,13 +70,13 @@ reply_own o m (whos.Reader e) to b h k = strange o.row.spec (joined o m).sequenc
 own_there : (o p : Own) (m : Option Recovering) (l : Learnt) (who to : Who) (b : Body) (before : ℕ) (released : Option ℕ) (old new : List Msg) → Fits who to b → is_for_recovery (joined o m) b ≡ false → Does o p l (heard o who b)
     → new ≡ old ++ sent_by o (acted_messages (spec_of o) (sequencer_of o) (heard o who b)) → before ≡ released_of (joined o m).sequencer
     → listed released ≡ (if nat_lt before (released_of (joined p m).sequencer) then released_of (joined p m).sequencer ∷ [] else [])
-    → Acted (joined o m) (joined p m) (report_of l.acked None l.preempted false released) old new (reply_acts (joined o m) who b)
+    → Acted (joined o m) (joined p m) (report_of l.acked None l.preempted None released) old new (reply_acts (joined o m) who b)
 own_there o p m l who to b before released old new h k d s bf r =
     let v = recovery_in m in
     let a = heard o who b in
     let now : joined p m ≡ as_now (joined o m) (with_recovery v a.sequencer) =
     ap (λ (x : Spec). record { spec = x; sequencer = with_recovery v (sequencer_of p) }) d.now.spec ∙ ap (λ (q : Sequencer). record { spec = o.row.spec; sequencer = with_recovery v q }) d.now.sequencer in
-    subst (Acted (joined o m) (joined p m) (report_of l.acked None l.preempted false released) old new) (sym (reply_own o m who to b h k)) (record {
+    subst (Acted (joined o m) (joined p m) (report_of l.acked None l.preempted None released) old new) (sym (reply_own o m who to b h k)) (record {
       now = now;
       sent = s;
       acked = d.acked;
@@ -90,9 +90,9 @@ own_there o p m l who to b before released old new h k d s bf r =
 pub own_acted : (w : Whole) (o p : Own) (m : Option Recovering) (l : Learnt) (who to : Who) (b : Body) (f : Bool) (before : ℕ) (released : Option ℕ) (old new : List Msg) → joined o m ≡ w → Fits who to b → f ≡ is_for_recovery w b → f ≡ false → Does o p l (heard o who b)
     → new ≡ old ++ sent_by o (acted_messages (spec_of o) (sequencer_of o) (heard o who b)) → before ≡ released_of w.sequencer
     → listed released ≡ (if nat_lt before (released_of (joined p m).sequencer) then released_of (joined p m).sequencer ∷ [] else [])
-    → Acted w (joined p m) (report_of l.acked None l.preempted false released) old new (reply_acts w who b)
+    → Acted w (joined p m) (report_of l.acked None l.preempted None released) old new (reply_acts w who b)
 own_acted w o p m l who to b f before released old new j h e k d s bf r =
-    subst (λ (x : Whole). Acted x (joined p m) (report_of l.acked None l.preempted false released) old new (reply_acts x who b)) j
+    subst (λ (x : Whole). Acted x (joined p m) (report_of l.acked None l.preempted None released) old new (reply_acts x who b)) j
     (own_there o p m l who to b before released old new h (ap (λ (x : Whole). is_for_recovery x b) j ∙ (sym e ∙ k)) d s (bf ∙ ap (λ (x : Whole). released_of x.sequencer) (sym j)) r)
 
 -- ---- a close is tried where it is due only now ----

@@ -10,7 +10,7 @@ use Rattle.ld_msg.specs.Register.{Register, Answer, Granted, AtLimit, Behind, Fa
 use Rattle.ld_msg.specs.Sequencer.{Sequencer, Recovery, Stage, Seals, Stores, Closes, Acts, called, does_nothing, after_close, preempt, goes_on, acted_messages, release_messages, retries_recovery, retries_stage, retries_appends, on_retry, unless_preempted, raised, item_stores, next_wave, recovery_of}
 use Rattle.ld_register.specs.Calls.{ChangedOrNot}
 use Rattle.ld_sequencer.specs.Register.{after_tries}
-use Rattle.ld_sequencer.specs.declared.whole.Report.{Report}
+use Rattle.ld_sequencer.specs.declared.report.Report.{Report}
 use Rattle.ld_sequencer.specs.declared.fault.SequencerFault.{SequencerFault}
 use Rattle.ld_sequencer.specs.Whole.{Whole, as_now, sent_as, tried, tried_with, called_by, recovery_acts, retry_acts, pending_stores, Acted, Unclosed, IsRefused}
 use Rattle.ld_sequencer.proofs.Doing.{quiet_acted}
@@ -26,7 +26,7 @@ still : (w : Whole) → is_some w.sequencer.preempted ≡ true → retry_acts w 
 unfolding on_retry
 still w h = still_if w.spec w.sequencer w.sequencer.preempted h
 
-module _ (w : Whole) (r : Report) (o : List Msg) (h : is_some w.sequencer.preempted ≡ true) (a : r.acked ≡ None) (c : r.closed ≡ None) (p : r.preempted ≡ None) (f : r.register_failed ≡ false) (e : r.released ≡ None) where
+module _ (w : Whole) (r : Report) (o : List Msg) (h : is_some w.sequencer.preempted ≡ true) (a : r.acked ≡ None) (c : r.closed ≡ None) (p : r.preempted ≡ None) (f : r.register ≡ None) (e : r.released ≡ None) where
   pub still_exact : (x : Register) (K : Register → Type 0) → K x → Acted w w r o o (called_by w x (retry_acts w)).acts × K (called_by w x (retry_acts w)).register
   still_exact x K k = subst (λ (z : Acts). Acted w w r o o (called_by w x z).acts × K (called_by w x z).register) (sym (still w h)) (quiet_acted w r o a c p f e, k)
 
@@ -173,8 +173,8 @@ tried_then w n r o om on d p t h =
     (subst (Acted w n r o on) (sym (tried_more w.spec b ss d b.tries)) (acted_more w n r o om on (tried v b d) (keeps_tried w.spec v.sequencer b d b.tries (keeps_acts v)) h t))
 
 held_then : (w n : Whole) (r : Report) (o om on : List Msg) (c : Register) (K : Register → Type 0) → is_some w.sequencer.preempted ≡ false → on ≡ om ++ sent_as n (pending_stores n)
-    → (r.register_failed ≡ true) ⊎ (Acted (raised_whole w) n r o om (called_by (raised_whole w) c (recovery_acts (raised_whole w))).acts × K (called_by (raised_whole w) c (recovery_acts (raised_whole w))).register)
-    → (r.register_failed ≡ true) ⊎ (Acted w n r o on (called_by w c (retry_acts w)).acts × K (called_by w c (retry_acts w)).register)
+    → (is_some r.register ≡ true) ⊎ (Acted (raised_whole w) n r o om (called_by (raised_whole w) c (recovery_acts (raised_whole w))).acts × K (called_by (raised_whole w) c (recovery_acts (raised_whole w))).register)
+    → (is_some r.register ≡ true) ⊎ (Acted w n r o on (called_by w c (retry_acts w)).acts × K (called_by w c (retry_acts w)).register)
 held_then w n r o om on c K p t (inl f) = inl f
 held_then w n r o om on c K p t (inr h) = inr (called_then w n r o om on c K p t h)
 
@@ -196,9 +196,9 @@ retry_acted w v n (Ok x) o om on e p t h = (h.0, tried_then w n x o om on h.0 p 
 retry_acted w v n (Err f) o om on e p t h = tt
 
 pub retry_held : (w v n : Whole) (r : Result Report SequencerFault) (o om on : List Msg) (c : Register) (K : Register → Type 0) → raised_whole w ≡ v → is_some w.sequencer.preempted ≡ false → on ≡ om ++ sent_as n (pending_stores n)
-    → IfOk r (λ report. (report.register_failed ≡ true) ⊎ (Acted v n report o om (called_by v c (recovery_acts v)).acts × K (called_by v c (recovery_acts v)).register))
-    → IfOk r (λ report. (report.register_failed ≡ true) ⊎ (Acted w n report o on (called_by w c (retry_acts w)).acts × K (called_by w c (retry_acts w)).register))
-retry_held w v n (Ok x) o om on c K e p t h = held_then w n x o om on c K p t (subst (λ (z : Whole). (x.register_failed ≡ true) ⊎ (Acted z n x o om (called_by z c (recovery_acts z)).acts × K (called_by z c (recovery_acts z)).register)) (sym e) h)
+    → IfOk r (λ report. (is_some report.register ≡ true) ⊎ (Acted v n report o om (called_by v c (recovery_acts v)).acts × K (called_by v c (recovery_acts v)).register))
+    → IfOk r (λ report. (is_some report.register ≡ true) ⊎ (Acted w n report o on (called_by w c (retry_acts w)).acts × K (called_by w c (retry_acts w)).register))
+retry_held w v n (Ok x) o om on c K e p t h = held_then w n x o om on c K p t (subst (λ (z : Whole). (is_some x.register ≡ true) ⊎ (Acted z n x o om (called_by z c (recovery_acts z)).acts × K (called_by z c (recovery_acts z)).register)) (sym e) h)
 retry_held w v n (Err f) o om on c K e p t h = tt
 
 pub retry_refused : (w v n : Whole) (r : Result Report SequencerFault) (o om on : List Msg) → raised_whole w ≡ v → is_some w.sequencer.preempted ≡ false → on ≡ om ++ sent_as n (pending_stores n)

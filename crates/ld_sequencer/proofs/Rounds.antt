@@ -18,7 +18,7 @@ use Rattle.ld_msg.specs.Network.{posted}
 use Rattle.ld_msg.specs.Sequencer.{Append, to_each, is_acked, append_stores}
 use Rattle.ld_appender.specs.Waiting.{Waiting, is_enough}
 
-acked_is : (s : Spec) (w : Waiting) (b : Bool) → w.factor ≡ s.r → is_enough w ≡ b → is_acked s w.append ≡ b
+pub acked_is : (s : Spec) (w : Waiting) (b : Bool) → w.factor ≡ s.r → is_enough w ≡ b → is_acked s w.append ≡ b
 acked_is s w b f e = ap (λ r. nat_le r (length w.append.stored)) (sym f) ∙ e
 
 pub nothing_sent : (who : Who) (log : ℕ) (s : Spec) (lost : List ℕ) (n : ℕ) (w : Waiting) (out : List Msg) → w.factor ≡ s.r → is_enough w ≡ true → out ≡ out ++ posted who log (append_stores s lost ((n, w.append) ∷ []))

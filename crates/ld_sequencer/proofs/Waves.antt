@@ -8,7 +8,7 @@ use Rattle.ld_lsn.specs.Number.{numbered}
 use Rattle.ld_window.specs.Flags.{leading}
 use Rattle.ld_appender.specs.Waiting.{Waiting, is_enough, with_next_wave}
 use Rattle.ld_msg.specs.Sequencer.{Append, is_acked, raised, next_wave}
-use Rattle.ld_sequencer.specs.Appends.{IsInStep, HaveFactor, shown, carried, numbered_from, raised_one, raises}
+use Rattle.ld_sequencer.specs.Appends.{IsWaiting, AreWaiting, IsInStep, shown, carried, numbered_from, raised_one, raises}
 
 same_marks : (w : Waiting) → is_enough (raised_one w) ≡ is_enough w
 same_marks w = elim (is_enough w) as (λ b. is_enough (if b then w else with_next_wave w) ≡ is_enough w) [ true ↦ refl | false ↦ refl ]
@@ -17,15 +17,15 @@ map_marks : (ws : List Waiting) → map is_enough (map raised_one ws) ≡ map is
 map_marks [] = refl
 map_marks (w ∷ ws) = λ j. same_marks w j ∷ map_marks ws j
 
-same_factor : (r : ℕ) (w : Waiting) → w.factor ≡ r → (raised_one w).factor ≡ r
-same_factor r w h = elim (is_enough w) as (λ b. (if b then w else with_next_wave w).factor ≡ r) [ true ↦ h | false ↦ h ]
+still_waits : (r : ℕ) (w : Waiting) → IsWaiting r w → IsWaiting r (raised_one w)
+still_waits r w h = elim (is_enough w) as (λ b. IsWaiting r (if b then w else with_next_wave w)) [ true ↦ h | false ↦ record { factor = h.factor; short = h.short } ]
 
-factors : (r : ℕ) (ws : List Waiting) → HaveFactor r ws → HaveFactor r (map raised_one ws)
-factors r [] h = tt
-factors r (w ∷ ws) h = (same_factor r w h.0, factors r ws h.1)
+all_wait : (r : ℕ) (ws : List Waiting) → AreWaiting r ws → AreWaiting r (map raised_one ws)
+all_wait r [] h = tt
+all_wait r (w ∷ ws) h = (still_waits r w h.0, all_wait r ws h.1)
 
 pub raise_keeps : (r : ℕ) (flags : List Bool) (ws : List Waiting) → IsInStep r flags ws → IsInStep r flags (map raised_one ws)
-raise_keeps r flags ws h = record { factor = factors r ws h.factor; marks = h.marks ∙ sym (map_marks ws); bound = h.bound; copies = h.copies }
+raise_keeps r flags ws h = record { waiting = all_wait r ws h.waiting; marks = h.marks ∙ sym (map_marks ws); bound = h.bound; copies = h.copies }
 
 abbrev raised_append : Spec → Append → Append
 raised_append s p = if is_acked s p then p else record { payload = p.payload; wave = next_wave p.wave; stored = p.stored }
@@ -34,12 +34,12 @@ one_append : (s : Spec) (w : Waiting) → w.factor ≡ s.r → (raised_one w).ap
 one_append s w h = elim (is_enough w) as (λ b. (if b then w else with_next_wave w).append ≡ (if b then w.append else record { payload = w.append.payload; wave = next_wave w.append.wave; stored = w.append.stored })) [ true ↦ refl | false ↦ refl ]
     ∙ ap (λ r. if nat_le r (length w.append.stored) then w.append else record { payload = w.append.payload; wave = next_wave w.append.wave; stored = w.append.stored }) h
 
-appends : (s : Spec) (f : ℕ) (ws : List Waiting) → HaveFactor s.r ws → numbered_from f (carried (map raised_one ws)) ≡ raised s (numbered_from f (carried ws))
+appends : (s : Spec) (f : ℕ) (ws : List Waiting) → AreWaiting s.r ws → numbered_from f (carried (map raised_one ws)) ≡ raised s (numbered_from f (carried ws))
 appends s f [] h = refl
-appends s f (w ∷ ws) h = λ j. (f, one_append s w h.0 j) ∷ appends s (f + 1) ws h.1 j
+appends s f (w ∷ ws) h = λ j. (f, one_append s w h.0.factor j) ∷ appends s (f + 1) ws h.1 j
 
 pub raise_shown : (s : Spec) (epoch : ℕ) (flags : List Bool) (ws : List Waiting) → IsInStep s.r flags ws → shown s epoch flags (map raised_one ws) ≡ raises (shown s epoch flags ws)
-raise_shown s epoch flags ws h = ap (λ m. record (shown s epoch flags ws) { appends = m }) (appends s (numbered epoch (leading flags + 1)) ws h.factor)
+raise_shown s epoch flags ws h = ap (λ m. record (shown s epoch flags ws) { appends = m }) (appends s (numbered epoch (leading flags + 1)) ws h.waiting)
 
 pub ruleset wave_rules = (raise_keeps, raise_shown)
 

@@ -1,11 +1,12 @@
 -- The appends of an epoch from the first one on that isn't acknowledged.
 use Rattle.std.specs.Prelude.{ℕ, ◌≡◌, ◌≤◌, ◌+◌, ◌^◌, Bool, true, false, not, set, if◌then◌else◌, ◌-◌, ◌&&◌, List, [], ◌∷◌, ◌++◌, map, drop, length, Option, Some, None}
 use Rattle.ld_table.specs.Table.{put}
+use Rattle.ld_table.specs.Words.{all_of}
 use Rattle.ld_ids.specs.declared.set.Spec.{Spec}
 use Rattle.ld_lsn.specs.Number.{numbered}
 use Rattle.ld_window.specs.Flags.{leading}
 use Rattle.ld_appender.specs.Waiting.{Waiting, is_enough, with_next_wave}
-use Rattle.ld_msg.specs.Sequencer.{Append, fresh_append, is_acked, stored_at, acked_first, unacked_from, raised}
+use Rattle.ld_msg.specs.Sequencer.{Append, fresh_append, is_acked, stored_at, acked_first, unacked_from, raised, payload_limit}
 
 -- the log's nodes and factor, the epoch, the last number such that it and all below are acknowledged, and the appends above it by number
 pub record Row : Type 0 where
@@ -25,17 +26,25 @@ carried ws = map (λ w. w.append) ws
 abbrev pub shown : Spec → ℕ → List Bool → List Waiting → Row
 shown spec epoch flags ws = record { spec = spec; epoch = epoch; lng = leading flags; appends = numbered_from (numbered epoch (leading flags + 1)) (carried ws) }
 
--- each append is to be stored as often as the log's factor says
-abbrev pub HaveFactor : ℕ → List Waiting → Type 0
-HaveFactor r [] = Unit {0}
-HaveFactor r (w ∷ ws) = (w.factor ≡ r) × HaveFactor r ws
+-- an append is to be stored as often as the log's factor says, and its payload is one that a message can carry
+pub record IsWaiting (r : ℕ) (w : Waiting) : Type 0 where
+  pub factor : w.factor ≡ r
+  pub short : length w.append.payload ≤ payload_limit
+
+abbrev pub AreWaiting : ℕ → List Waiting → Type 0
+AreWaiting r [] = Unit {0}
+AreWaiting r (w ∷ ws) = IsWaiting r w × AreWaiting r ws
 
 -- the flags of the window above its last number are those of the appends
 pub record IsInStep (r : ℕ) (flags : List Bool) (ws : List Waiting) : Type 0 where
-  pub factor : HaveFactor r ws
+  pub waiting : AreWaiting r ws
   pub marks : drop (leading flags) flags ≡ map is_enough ws
   pub bound : length flags ≤ 2 ^ 32 - 2
   pub copies : 1 ≤ r
+
+-- each is stored as often as the log's factor says
+abbrev pub all_acked : Spec → List (ℕ × Append) → Bool
+all_acked s m = all_of (λ p. is_acked s p.1) m
 
 -- ---- changes ----
 

@@ -14,8 +14,9 @@ use Rattle.ld_msg.specs.Network.{posted}
 use Rattle.ld_msg.specs.Register.{Register, Answer, is_crowded}
 use Rattle.ld_msg.specs.Sequencer.{Sequencer, Recovery, Stage, Seals, Stores, Closes, Acts, Called, called, on_reply, on_retry, does_nothing, after_close, retries_recovery, append_stores, acted_messages, rose, released_of, activated, recovery_asks}
 use Rattle.ld_recovery.specs.Recovering.{Recovering, Goes, started, sender_of}
+use Rattle.ld_sequencer.specs.Appends.{all_acked}
 use Rattle.ld_sequencer.specs.Own.{Own, sequencer_of, listed}
-use Rattle.ld_sequencer.specs.declared.whole.Report.{Report}
+use Rattle.ld_sequencer.specs.declared.report.Report.{Report}
 use Rattle.ld_sequencer.specs.declared.fault.SequencerFault.{SequencerFault}
 use Rattle.ld_sequencer.specs.declared.fault.SequencerFault.TheVariants as faults
 use Rattle.ld_register.specs.declared.fault.RegisterFault.{RegisterFault}
@@ -34,6 +35,10 @@ as_now w q = record { spec = w.spec; sequencer = q }
 -- its messages to nodes
 abbrev pub sent_as : Whole → List (ℕ × Body) → List Msg
 sent_as w bs = posted (whos.Sequencer w.sequencer.epoch) w.sequencer.log bs
+
+-- each append is acknowledged, and all epochs before its own are closed
+abbrev pub is_settled : Whole → Bool
+is_settled w = all_acked w.spec w.sequencer.appends && (w.sequencer.lce + 1 == w.sequencer.epoch)
 
 -- ---- its two parts ----
 
@@ -136,7 +141,7 @@ pub record Acted (before after : Whole) (report : Report) (old new : List Msg) (
   pub acked : listed report.acked ≡ a.acked
   pub closed : listed report.closed ≡ a.closed
   pub preempted : listed report.preempted ≡ a.preempts
-  pub failed : report.register_failed ≡ a.failed
+  pub failed : is_some report.register ≡ a.failed
   pub released : listed report.released ≡ risen before.sequencer a.sequencer
 
 -- a close is tried exactly where it was not due before and is now, and then nothing else is done

@@ -33,6 +33,15 @@ pub enum SequencerFault {
     NoMemory,
 }
 
+/// Why the close of an epoch isn't known to be made.
+#[derive(Clone, Copy, Debug, PartialEq, Eq)]
+pub enum CloseFault {
+    /// A call of the register failed: the close is made or not.
+    Failed,
+    /// The register's journal has no room for it: it isn't made.
+    Full,
+}
+
 impl From<NoMemory> for SequencerFault {
     ghost from_gives = { λ _ e. e ≡ Memory };
 

@@ -3,17 +3,21 @@
 #![tactic(auto)]
 
 mod close;
+mod earlier;
 mod fault;
 mod own;
+mod report;
 mod row;
 mod send;
+mod start;
 #[cfg(test)]
 mod tests;
 mod whole;
 #[cfg(test)]
 mod whole_tests;
 
-pub use fault::SequencerFault;
+pub use fault::{CloseFault, SequencerFault};
 pub use own::{Learnt, OwnEpoch};
+pub use report::Report;
 pub use row::Row;
-pub use whole::{Report, Sequencer};
+pub use whole::Sequencer;

@@ -1,10 +1,12 @@
 // What a sequencer does for its own epoch.
-ghost use Rattle.std.specs.Prelude.{◌≡◌, ◌≤◌, ◌<◌, ◌+◌, ◌-◌, ◌^◌, ◌++◌, ℕ, length, IfOk, IfErr, OnOk, OnErr, None, is_some, nat_lt, if◌then◌else◌};
+ghost use Rattle.std.specs.Prelude.{◌≡◌, ◌≤◌, ◌<◌, ◌+◌, ◌-◌, ◌^◌, ◌++◌, ◌&&◌, ◌==◌, ℕ, length, IfOk, IfErr, OnOk, OnErr, None, is_some, nat_lt, if◌then◌else◌};
 ghost use Rattle.ld_ids.specs.Choice.{nodes_of};
 ghost use Rattle.ld_lsn.specs.Number.{numbered};
 ghost use Rattle.ld_msg.specs.declared.msg.Body.TheVariants.{Trim};
-ghost use Rattle.ld_msg.specs.Sequencer.{released_of, appending, Numbered, appended, first_stores, next_esn, to_each, does_nothing, on_reply, by_stored, by_lost, by_clean, preempt as preempts, on_retry, acted_messages};
-ghost use Rattle.ld_sequencer.specs.Appends.{pushed, next_place};
+ghost use Rattle.ld_msg.specs.Sequencer.{released_of, appending, Numbered, appended, first_stores, next_esn, to_each, does_nothing, on_reply, by_stored, by_lost, by_clean, preempt as preempts, on_retry, acted_messages, payload_limit};
+ghost use Rattle.ld_msg.specs.Bounds.{IsEpoch};
+ghost use Rattle.ld_node_bounds.specs.Messages.{AreMessages};
+ghost use Rattle.ld_sequencer.specs.Appends.{pushed, next_place, all_acked};
 ghost use Rattle.ld_sequencer.specs.Own.{Own, IsNow, IsKept, new_own, spec_of, sequencer_of, sent_by, append_fault, trim_fault, heard, released_above, with_lce, preempted_as, raised_own, pending, Does};
 ghost use Rattle.ld_sequencer.specs.Sending.{BeginsWith};
 
@@ -121,11 +123,19 @@ impl OwnEpoch {
         }
     }
 
+    /// Whether each append is acknowledged, and all epochs before its own are closed.
+    pub fn settled(&self) -> bool
+        ensures { result ≡ (all_acked (spec_of self.now) self.now.row.appends && (self.now.lce + 1 == self.now.row.epoch)) }
+    {
+        self.row.is_acked() && self.lce < self.row.epoch() && self.lce + 1 == self.row.epoch()
+    }
+
     /// Numbers the payload and sends it to as many nodes as are to store it, and some more as the log says. It is refused
     /// with `PayloadTooLong` and its length exactly above 65,535 bytes, then with `Preempted` and the greater epoch exactly
     /// where one was learnt, then with `EpochFull` exactly where the next place is 2^32-1, then with `WindowFull` exactly
-    /// where 128 appends wait, and then for want of memory. A refused append has changed nothing and sent nothing.
-    #[tactic(auto, using(crate::proofs::Begins::back_rules))]
+    /// where 128 appends wait, and then for want of memory. A refused append has changed nothing and sent nothing. Behind
+    /// messages it sends messages, and so does each other call.
+    #[tactic(auto, using(crate::proofs::Begins::back_rules, crate::proofs::Bounded::message_rules))]
     pub fn append(
         &mut self,
         alloc: Global,
@@ -139,8 +149,10 @@ impl OwnEpoch {
         ensures refused { IfErr result (λ fault. fault ≡ append_fault (length payload) (appending (sequencer_of self.old) payload)) }
         ensures same { OnErr result (self.new ≡ self.old) }
         ensures unsent { OnErr result (out.new ≡ out.old) }
+        ensures messages { IsEpoch (sequencer_of self.old).epoch → AreMessages out.old → AreMessages out.new }
     {
         self.check(&payload)?;
+        let _ = (self.spec().log.number(), self.spec().set.len());
         let count = out.len();
         match self.add(alloc, payload, out) {
             Ok(number) => Ok(number),
@@ -158,6 +170,7 @@ impl OwnEpoch {
         ensures out { OnOk result (out.new ≡ out.old ++ sent_by self.now (to_each (Trim lsn) (nodes_of (spec_of self.now)))) }
         ensures refused { IfErr result (λ fault. fault ≡ trim_fault (released_of (sequencer_of self.now)) lsn) }
         ensures unsent { OnErr result (out.new ≡ out.old) }
+        ensures messages { IsEpoch (sequencer_of self.now).epoch → AreMessages out.old → AreMessages out.new }
     {
         let released = self.released();
         if lsn > released {
@@ -177,6 +190,7 @@ impl OwnEpoch {
         ensures does { IfOk result (λ report. Does self.old self.new report (heard self.old msg.now.from msg.now.body)) }
         ensures out { OnOk result (out.new ≡ out.old ++ sent_by self.old (acted_messages (spec_of self.old) (sequencer_of self.old) (heard self.old msg.now.from msg.now.body))) }
         ensures kept { IsKept self.old self.new }
+        ensures messages { IsEpoch (sequencer_of self.old).epoch → AreMessages out.old → AreMessages out.new }
     {
         let Who::Node(node) = msg.from else {
             return Ok(Learnt::nothing());
@@ -193,6 +207,7 @@ impl OwnEpoch {
     pub fn retry(&mut self, alloc: Global, out: &mut Outbox) -> Result<(), NoMemory>
         ensures now { OnOk result (IsNow self.old self.new (on_retry (spec_of self.old) (sequencer_of self.old)).sequencer) }
         ensures out { OnOk result (out.new ≡ out.old ++ sent_by self.old (acted_messages (spec_of self.old) (sequencer_of self.old) (on_retry (spec_of self.old) (sequencer_of self.old)))) }
+        ensures messages { IsEpoch (sequencer_of self.old).epoch → AreMessages out.old → AreMessages out.new }
     {
         if self.preempted.is_none() {
             self.raise();
@@ -209,9 +224,10 @@ impl OwnEpoch {
     }
 
     /// Sends each append that isn't acknowledged to those nodes of its wave's choice that haven't stored it. Without memory
-    /// some may have been sent.
+    /// nothing is sent. Behind messages it sends messages.
     pub fn send(&self, alloc: Global, out: &mut Outbox) -> Result<(), NoMemory>
-        ensures { OnOk result (out.new ≡ out.old ++ sent_by self.now (pending self.now)) }
+        ensures sent { OnOk result (out.new ≡ out.old ++ sent_by self.now (pending self.now)) }
+        ensures messages { IsEpoch (sequencer_of self.now).epoch → AreMessages out.old → AreMessages out.new }
     {
         self.row.send(alloc, &self.lost, out)
     }
@@ -220,6 +236,7 @@ impl OwnEpoch {
     pub fn close_through(&mut self, lce: u32, out: &mut Outbox) -> Result<(), NoMemory>
         ensures now { self.new ≡ with_lce self.old lce }
         ensures out { OnOk result (out.new ≡ out.old ++ sent_by self.old (released_above (released_of (sequencer_of self.old)) (with_lce self.old lce))) }
+        ensures messages { IsEpoch (sequencer_of self.old).epoch → AreMessages out.old → AreMessages out.new }
     {
         let released = self.released();
         self.lce = lce;
@@ -312,6 +329,7 @@ impl OwnEpoch {
         ensures ok { OnOk result (appending (sequencer_of self.now) payload.now ≡ Numbered) }
         ensures room { OnOk result (length self.now.row.appends < 128) }
         ensures place { OnOk result (next_place self.now.row ≤ 2 ^ 32 - 2) }
+        ensures short { OnOk result (length payload.now ≤ payload_limit) }
         ensures err { IfErr result (λ fault. fault ≡ append_fault (length payload.now) (appending (sequencer_of self.now) payload.now)) }
     {
         if payload.len() > PAYLOAD_LIMIT {
@@ -334,6 +352,7 @@ impl OwnEpoch {
     fn add(&mut self, alloc: Global, payload: Payload, out: &mut Outbox) -> Result<Lsn, NoMemory>
         requires room { length self.old.row.appends < 128 }
         requires place { next_place self.old.row ≤ 2 ^ 32 - 2 }
+        requires short { length payload ≤ payload_limit }
         ensures number { IfOk result (λ number. number ≡ numbered self.old.row.epoch (next_place self.old.row)) }
         ensures now { OnOk result (self.new ≡ record self.old { row = pushed self.old.row payload }) }
         ensures out { OnOk result (out.new ≡ out.old ++ sent_by self.old (first_stores (spec_of self.old) (sequencer_of self.old) payload)) }
@@ -359,9 +378,10 @@ impl OwnEpoch {
         }
     }
 
-    /// Tells all nodes the released number, where it is above this one.
+    /// Tells all nodes the released number, where it is above this one. Without memory nothing is sent.
     fn tell_released(&self, before: Lsn, out: &mut Outbox) -> Result<(), NoMemory>
-        ensures { OnOk result (out.new ≡ out.old ++ sent_by self.now (released_above before self.now)) }
+        ensures sent { OnOk result (out.new ≡ out.old ++ sent_by self.now (released_above before self.now)) }
+        ensures messages { IsEpoch (sequencer_of self.now).epoch → AreMessages out.old → AreMessages out.new }
     {
         let released = self.released();
         if released > before {

@@ -3,11 +3,14 @@ ghost use Rattle.std.specs.Prelude.{◌≡◌, ◌<◌, ◌≤◌, ◌+◌, ◌-
 ghost use Rattle.ld_table.specs.Table.{find};
 ghost use Rattle.ld_msg.specs.declared.msg.Who.TheVariants.{Sequencer as of_sequencer};
 ghost use Rattle.ld_msg.specs.Network.{posted};
-ghost use Rattle.ld_msg.specs.Sequencer.{append_stores};
+ghost use Rattle.ld_msg.specs.Bounds.{IsEpoch};
+ghost use Rattle.ld_msg.specs.Sequencer.{append_stores, payload_limit};
+ghost use Rattle.ld_node_bounds.specs.Messages.{AreMessages};
 ghost use Rattle.ld_lsn.specs.Number.{numbered};
 ghost use Rattle.ld_window.specs.Flags.{leading};
 ghost use Rattle.ld_appender.specs.Waiting.{Waiting, with_stored, is_enough};
-ghost use Rattle.ld_sequencer.specs.Appends.{empty_row, next_place, pushed, stores, acks, raises, flags_after, raised_one};
+ghost use Rattle.ld_sequencer.specs.Appends.{empty_row, next_place, pushed, stores, acks, raises, flags_after, raised_one, all_acked};
+ghost use Rattle.ld_sequencer.specs.Sending.{BeginsWith};
 
 use crate::send::Round;
 use ld_appender::{Pending, Progress};
@@ -86,6 +89,13 @@ impl Row {
         self.waiting.len()
     }
 
+    /// Whether each append is acknowledged.
+    pub fn is_acked(&self) -> bool
+        ensures { result ≡ all_acked self.now.spec self.now.appends }
+    {
+        self.waiting.len() == 0
+    }
+
     /// The place that the next append gets.
     #[tactic(auto, using(crate::proofs::Rows::row_rules))]
     pub fn next_place(&self) -> u32
@@ -99,6 +109,7 @@ impl Row {
     pub fn push(&mut self, payload: Payload) -> Result<(), NoMemory>
         requires room { length self.old.appends < 128 }
         requires place { next_place self.old ≤ 2 ^ 32 - 2 }
+        requires short { length payload ≤ payload_limit }
         ensures ok { OnOk result (self.new ≡ pushed self.old payload) }
         ensures err { OnErr result (self.new ≡ self.old) }
     {
@@ -131,10 +142,29 @@ impl Row {
     }
 
     /// Sends each append that isn't acknowledged, in the order of their numbers, to those nodes of its wave's choice that
-    /// haven't stored it; nodes that are lost are chosen only where too few others are left. Without memory some may have
-    /// been sent.
+    /// haven't stored it; nodes that are lost are chosen only where too few others are left. Without memory nothing is sent.
+    /// Behind messages it sends messages.
+    #[tactic(auto, using(crate::proofs::Begins::back_rules, crate::proofs::Bounded::message_rules))]
     pub fn send(&self, alloc: Global, lost: &NodeList, out: &mut Outbox) -> Result<(), NoMemory>
-        ensures { OnOk result (out.new ≡ out.old ++ posted (of_sequencer self.now.epoch) self.now.spec.log (append_stores self.now.spec lost.now self.now.appends)) }
+        ensures sent { OnOk result (out.new ≡ out.old ++ posted (of_sequencer self.now.epoch) self.now.spec.log (append_stores self.now.spec lost.now self.now.appends)) }
+        ensures unsent { OnErr result (out.new ≡ out.old) }
+        ensures messages { IsEpoch self.now.epoch → AreMessages out.old → AreMessages out.new }
+    {
+        let _ = (self.spec.log.number(), self.spec.set.len());
+        let count = out.len();
+        match self.send_each(alloc, lost, out) {
+            Ok(()) => Ok(()),
+            Err(_) => {
+                out.truncate(count);
+                Err(NoMemory)
+            }
+        }
+    }
+
+    /// Sends each append that isn't acknowledged. Without memory some may have been sent.
+    fn send_each(&self, alloc: Global, lost: &NodeList, out: &mut Outbox) -> Result<(), NoMemory>
+        ensures sent { OnOk result (out.new ≡ out.old ++ posted (of_sequencer self.now.epoch) self.now.spec.log (append_stores self.now.spec lost.now self.now.appends)) }
+        ensures begins { OnErr result (BeginsWith out.old out.new) }
     {
         let round = Round {
             spec: self.spec,

@@ -7,7 +7,9 @@ ghost use Rattle.ld_msg.specs.declared.msg.What.TheVariants.{Rec};
 ghost use Rattle.ld_msg.specs.declared.msg.Body.TheVariants.{Store};
 ghost use Rattle.ld_msg.specs.Network.{posted};
 ghost use Rattle.ld_msg.specs.Sequencer.{to_each, append_stores};
-ghost use Rattle.ld_sequencer.specs.Sending.{BeginsWith, told};
+ghost use Rattle.ld_msg.specs.Bounds.{Is64, IsEpoch};
+ghost use Rattle.ld_node_bounds.specs.Messages.{AreMessages};
+ghost use Rattle.ld_sequencer.specs.Sending.{BeginsWith, told, number_told};
 
 use ld_appender::{Pending, Progress};
 use ld_copyset::{NodeList, choose_for};
@@ -45,12 +47,14 @@ impl Sender {
         Ok(())
     }
 
-    /// Tells each node of the set, in their order. Without memory nothing is sent.
-    #[tactic(auto, using(crate::proofs::Begins::back_rules))]
+    /// Tells each node of the set, in their order. Without memory nothing is sent. Behind messages it sends messages.
+    #[tactic(auto, using(crate::proofs::Begins::back_rules, crate::proofs::Bounded::message_rules))]
     pub fn tell(&self, set: &NodeSet, notice: &Notice, out: &mut Outbox) -> Result<(), NoMemory>
         ensures sent { OnOk result (out.new ≡ out.old ++ posted (of_sequencer self.now.epoch) self.now.log (to_each (told notice.now) (members set.now))) }
         ensures unsent { OnErr result (out.new ≡ out.old) }
+        ensures messages { IsEpoch self.now.epoch → AreMessages out.old → AreMessages out.new }
     {
+        let _ = (self.log.number(), set.len(), notice.body());
         let count = out.len();
         match self.tell_each(set, notice, out) {
             Ok(()) => Ok(()),
@@ -99,13 +103,20 @@ pub enum Notice {
 impl Notice {
     /// As a message says it.
     fn body(&self) -> Body
-        ensures { result ≡ told self.now }
+        ensures value { result ≡ told self.now }
+        ensures number { Is64 (number_told self.now) }
     {
         match self {
-            Notice::Release(released) => Body::Release {
-                released: *released,
-            },
-            Notice::Trim(trim) => Body::Trim { trim: *trim },
+            Notice::Release(released) => {
+                let _ = released.value();
+                Body::Release {
+                    released: *released,
+                }
+            }
+            Notice::Trim(trim) => {
+                let _ = trim.value();
+                Body::Trim { trim: *trim }
+            }
         }
     }
 }
@@ -141,7 +152,8 @@ impl Round {
         out: &mut Outbox,
     ) -> Result<(), NoMemory>
         requires { pending.now.factor ≡ self.now.spec.r }
-        ensures { OnOk result ((lost : List ℕ) → ((node : ℕ) → is_in node (members self.now.excluded) ≡ is_in node lost) → out.new ≡ out.old ++ posted (of_sequencer self.now.epoch) self.now.spec.log (append_stores self.now.spec lost ((number, pending.now.append) ∷ []))) }
+        ensures sent { OnOk result ((lost : List ℕ) → ((node : ℕ) → is_in node (members self.now.excluded) ≡ is_in node lost) → out.new ≡ out.old ++ posted (of_sequencer self.now.epoch) self.now.spec.log (append_stores self.now.spec lost ((number, pending.now.append) ∷ []))) }
+        ensures begins { OnErr result (BeginsWith out.old out.new) }
     {
         if pending.progress() == Progress::Done {
             return Ok(());

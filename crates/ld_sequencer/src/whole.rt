@@ -2,70 +2,35 @@
 ghost use Rattle.std.specs.Prelude.{◌≡◌, ◌≢◌, ◌⊎◌, ◌≤◌, ◌<◌, ◌+◌, ◌-◌, ◌^◌, ◌++◌, [], ◌∷◌, ℕ, true, false, length, is_some, nat_lt, if◌then◌else◌, None, Some, IfOk, IfErr, IfSome, OnOk, OnErr, IsErrOf, IsErrAnd};
 ghost use Rattle.ld_io.specs.Causes.{Rose};
 ghost use Rattle.ld_ids.specs.Choice.{nodes_of};
+ghost use Rattle.ld_node_bounds.specs.Messages.{AreMessages};
 ghost use Rattle.ld_lsn.specs.Number.{numbered};
 ghost use Rattle.ld_msg.specs.Bounds.{IsEpoch, IsMessage, IsNodeHere, IsSummary};
 ghost use Rattle.ld_msg.specs.declared.msg.Body.TheVariants.{Trim};
 ghost use Rattle.ld_msg.specs.Register.{Register as Contents, Answer as Ends, Granted, Behind, close as closes, is_crowded};
 ghost use Rattle.ld_msg.specs.Sequencer.{released_of, appending, Numbered, appended, first_stores, next_esn, to_each, does_nothing, goes_on, acted_messages, after_close, recovery_of, recovery_asks, release_messages};
-ghost use Rattle.ld_recovery.specs.States.{answer_of, is_epoch_answer};
 ghost use Rattle.ld_register.specs.Calls.{activated as answered, after_activate, after_close as after_the_close, ChangedOrNot, Keeps, is_full, close_length};
 ghost use Rattle.ld_register.specs.declared.register.Grant.{Grant};
 ghost use Rattle.ld_register.specs.declared.fault.RegisterFault.TheVariants as registers;
 ghost use Rattle.ld_sequencer.specs.declared.fault.SequencerFault.TheVariants as faults;
 ghost use Rattle.ld_sequencer.specs.Own.{append_fault, trim_fault, listed};
-ghost use Rattle.ld_sequencer.specs.Register.{MayCome, after_tries};
-ghost use Rattle.ld_recovery.specs.declared.state.Answer.TheVariants as answers;
+ghost use Rattle.ld_sequencer.specs.Register.{MayCome, after_tries, answer_of, fault_in, is_epoch_answer};
+ghost use Rattle.ld_sequencer.specs.declared.fault.CloseFault.TheVariants as unclosed;
 ghost use Rattle.ld_sequencer.specs.Sending.{BeginsWith};
-ghost use Rattle.ld_sequencer.specs.Whole.{as_now, sent_as, next_in, closed_acts, closing_of, is_of_earlier, is_for_recovery, reply_acts, retry_acts, recovery_acts, pending_stores, tried, called_by, risen, Acted, IsCaused, IsFresh, IsRefused, IsUntimely, active, first_asks, Activates, IsActive};
+ghost use Rattle.ld_sequencer.specs.Whole.{as_now, sent_as, next_in, closed_acts, closing_of, is_of_earlier, is_for_recovery, reply_acts, retry_acts, recovery_acts, pending_stores, tried, called_by, risen, Acted, IsCaused, IsFresh, IsRefused, IsUntimely, active, first_asks, Activates, IsActive, is_settled};
 
-use crate::close::close;
+use crate::close::{Tried, close};
+use crate::earlier::is_of_earlier;
 use crate::fault::SequencerFault;
 use crate::own::OwnEpoch;
+use crate::report::Report;
+use crate::start::{next_recovery, send_all};
 use ld_ids::{NoMemory, Payload, Spec};
 use ld_lsn::Lsn;
 use ld_msg::{Body, Msg, Outbox, Summary, Who};
 use ld_recovery::{Answer, Recovery, State};
-use ld_register::{Grant, Register, View};
+use ld_register::{Grant, Register};
 use std::alloc::Global;
 use std::marker::Model;
-
-/// The greatest epoch.
-const GREATEST_EPOCH: u32 = 4_294_967_294;
-
-/// What a call of a sequencer did.
-#[derive(Clone, Copy, Debug, PartialEq, Eq)]
-pub struct Report {
-    /// The append that was acknowledged.
-    pub acked: Option<Lsn>,
-    /// The end of the epoch that was closed.
-    pub closed: Option<Lsn>,
-    /// The epoch of the sequencer that preempts this one.
-    pub preempted: Option<u32>,
-    /// A close was tried and isn't known to be made, since the register failed or its journal is full. A retry tries it
-    /// again.
-    pub register_failed: bool,
-    /// The released number, where it rose.
-    pub released: Option<Lsn>,
-}
-
-impl Report {
-    /// Nothing.
-    pub fn nothing() -> Report
-        ensures acked { result.acked ≡ None }
-        ensures closed { result.closed ≡ None }
-        ensures preempted { result.preempted ≡ None }
-        ensures failed { result.register_failed ≡ false }
-        ensures released { result.released ≡ None }
-    {
-        Report {
-            acked: None,
-            closed: None,
-            preempted: None,
-            register_failed: false,
-            released: None,
-        }
-    }
-}
 
 /// A log's sequencer: its own epoch, and the recovery of the first epoch before it that isn't closed.
 #[derive(Drop)]
@@ -85,51 +50,6 @@ impl Model for Sequencer {
 }
 
 impl Sequencer {
-    /// Gets the log's next epoch from the register. The recovery of the first epoch that isn't closed begins, where that is
-    /// before its own: all nodes are asked for what they have.
-    ///
-    /// It is refused with `Register` as the register refuses the activation, and for want of memory. Of a register that tells
-    /// what it holds that is with `Failed` only where its count of faults rose, with `Damaged` and a place only where its
-    /// bytes are no journal from there on, and else just as what it holds says. A refused activation has sent nothing, and
-    /// for want of memory no epoch is handed out by a register that holds to what it holds.
-    pub fn activate<G: Register>(
-        alloc: Global,
-        spec: &Spec,
-        reg: &mut G,
-        out: &mut Outbox,
-    ) -> Result<Sequencer, SequencerFault>
-        requires { 1 ≤ spec.now.r }
-        ensures exact { (c : Contents) → G.tells reg.old c
-            → (IsErrOf result faults.NoMemory × G.tells reg.new c) ⊎ (Activates spec.now out.old out.new result (answered c spec.now.log) × G.tells reg.new (after_activate c spec.now.log)) }
-        ensures held { (c : Contents) → G.holds reg.old c
-            → IsErrAnd result MayCome ⊎ (IsErrOf result faults.NoMemory × G.holds reg.new c) ⊎ (Activates spec.now out.old out.new result (answered c spec.now.log) × G.holds reg.new (after_activate c spec.now.log)) }
-        ensures active { IfOk result (λ sequencer. (grant : Grant) × IsEpoch grant.epoch × IsActive spec.now grant sequencer out.old out.new) }
-        ensures unsent { OnErr result (out.new ≡ out.old) }
-        ensures memory { IfErr result (λ fault. fault ≢ faults.Register registers.NoMemory) }
-        ensures whole { G.told reg.old → IsErrOf result faults.NoMemory ⊎ IsErrAnd result MayCome ⊎ ((c : Contents) × G.holds reg.old c) }
-        ensures damaged { (place : ℕ) → IsErrOf result (faults.Register (registers.Damaged place)) → G.told reg.old → G.damaged reg.old place }
-        ensures failed { IsErrOf result (faults.Register registers.Failed) → Rose (G.faults reg.old) (G.faults reg.new) }
-        ensures told { G.told reg.old → G.told reg.new }
-        ensures done_or_not { G.told reg.old → ChangedOrNot (G.may_hold reg.old) (G.may_hold reg.new) (λ c. after_activate c spec.now.log) }
-        ensures counts { G.faults reg.old ≤ G.faults reg.new }
-    {
-        let view = reg.look(alloc, spec.log, 0)?;
-        let expected = next_grant(&view);
-        let count = out.len();
-        let sequencer = Sequencer::start(alloc, spec, expected, out)?;
-        match reg.activate(alloc, spec.log) {
-            Ok(grant) if is_same(grant, expected) => Ok(sequencer),
-            Ok(grant) => {
-                out.truncate(count);
-                Ok(Sequencer::start(alloc, spec, grant, out)?)
-            }
-            Err(fault) => {
-                out.truncate(count);
-                Err(SequencerFault::from(fault))
-            }
-        }
-    }
-
     /// What is said of its log.
     pub fn spec(&self) -> &Spec
         ensures { result.now ≡ self.now.spec }
@@ -152,6 +72,13 @@ impl Sequencer {
         self.own.released()
     }
 
+    /// Whether nothing is left to be done: each append is acknowledged, and all epochs before its own are closed.
+    pub fn settled(&self) -> bool
+        ensures { result ≡ is_settled self.now }
+    {
+        self.own.settled()
+    }
+
     /// Numbers the payload and sends it to as many nodes as are to store it, and some more as the log says. It is refused
     /// with `PayloadTooLong` and its length exactly above 65,535 bytes, then with `Preempted` and the greater epoch exactly
     /// where one was learnt, then with `EpochFull` exactly where the next place is 2^32-1, then with `WindowFull` exactly
@@ -170,6 +97,7 @@ impl Sequencer {
         ensures refused { IfErr result (λ fault. fault ≡ append_fault (length payload) (appending self.old.sequencer payload)) }
         ensures same { OnErr result (self.new ≡ self.old) }
         ensures unsent { OnErr result (out.new ≡ out.old) }
+        ensures messages { AreMessages out.old → AreMessages out.new }
     {
         self.own.append(alloc, payload, out)
     }
@@ -181,6 +109,7 @@ impl Sequencer {
         ensures out { OnOk result (out.new ≡ out.old ++ sent_as self.now (to_each (Trim lsn) (nodes_of self.now.spec))) }
         ensures refused { IfErr result (λ fault. fault ≡ trim_fault (released_of self.now.sequencer) lsn) }
         ensures unsent { OnErr result (out.new ≡ out.old) }
+        ensures messages { AreMessages out.old → AreMessages out.new }
     {
         self.own.trim(lsn, out)
     }
@@ -190,8 +119,9 @@ impl Sequencer {
     /// closed. What speaks of the epoch that is recovered goes to the recovery. Once its plan is stored the epoch is closed
     /// in the register, all nodes are told so, and the next epoch is recovered, up to its own; where another sequencer
     /// closed it, the recovery goes on behind the last closed epoch, or the sequencer is preempted, where that isn't before
-    /// its own. A close for which the register fails or is full is reported, and tried again by a retry alone. Where the
-    /// released number rises all nodes are told so. A preempted sequencer ignores all messages, and so it does those that
+    /// its own. A close for which the register fails or is full is reported, with all else of the call done, and tried again by
+    /// a retry alone; it is reported as failed only where the register's count of faults rose in the call, which else stays
+    /// as it was. Where the released number rises all nodes are told so. A preempted sequencer ignores all messages, and so it does those that
     /// are no node's.
     ///
     /// It is refused with `Register` and `LogLimit` exactly where 64 other logs are held, and with `Register`, `Damaged` and a
@@ -212,8 +142,11 @@ impl Sequencer {
             → IfOk result (λ report. Acted self.old self.new report out.old out.new (called_by self.old c (reply_acts self.old msg.now.from msg.now.body)).acts × G.tells reg.new (called_by self.old c (reply_acts self.old msg.now.from msg.now.body)).register) }
         ensures acted { IfOk result (λ report. (d : Ends) × Acted self.old self.new report out.old out.new (tried self.old (reply_acts self.old msg.now.from msg.now.body) d)) }
         ensures held { (c : Contents) → G.holds reg.old c
-            → IfOk result (λ report. (report.register_failed ≡ true) ⊎ (Acted self.old self.new report out.old out.new (called_by self.old c (reply_acts self.old msg.now.from msg.now.body)).acts × G.holds reg.new (called_by self.old c (reply_acts self.old msg.now.from msg.now.body)).register)) }
-        ensures failed { G.told reg.old → IfOk result (λ report. report.register_failed ≡ true → Rose (G.faults reg.old) (G.faults reg.new) ⊎ ((c : Contents) × G.holds reg.old c × (is_full c close_length ≡ true))) }
+            → IfOk result (λ report. (is_some report.register ≡ true) ⊎ (Acted self.old self.new report out.old out.new (called_by self.old c (reply_acts self.old msg.now.from msg.now.body)).acts × G.holds reg.new (called_by self.old c (reply_acts self.old msg.now.from msg.now.body)).register)) }
+        ensures failed { IfOk result (λ report. report.register ≡ Some unclosed.Failed → Rose (G.faults reg.old) (G.faults reg.new)) }
+        ensures full { G.told reg.old → IfOk result (λ report. report.register ≡ Some unclosed.Full → (c : Contents) × G.holds reg.old c × (is_full c close_length ≡ true)) }
+        ensures steady { IfOk result (λ report. (report.register ≡ Some unclosed.Failed) ⊎ (G.faults reg.new ≡ G.faults reg.old)) }
+        ensures unfailed { IfErr result (λ fault. (fault ≡ faults.NoMemory) ⊎ (G.faults reg.new ≡ G.faults reg.old)) }
         ensures refused { IfErr result (λ fault. IsRefused self.old self.new fault out.old out.new (reply_acts self.old msg.now.from msg.now.body)) }
         ensures caused { G.told reg.old → IfErr result (IsCaused (G.holds reg.old) (G.damaged reg.old) self.old.sequencer.log) }
         ensures crowded { (c : Contents) → G.tells reg.old c
@@ -223,6 +156,7 @@ impl Sequencer {
         ensures done_or_not { G.told reg.old → ChangedOrNot (G.may_hold reg.old) (G.may_hold reg.new) (λ c. after_tries c self.old.sequencer.log (reply_acts self.old msg.now.from msg.now.body).tries) }
         ensures keeps { IfErr result (λ fault. (fault ≡ faults.NoMemory) ⊎ Keeps (G.holds reg.old) (G.holds reg.new) (G.may_hold reg.old) (G.may_hold reg.new)) }
         ensures counts { G.faults reg.old ≤ G.faults reg.new }
+        ensures messages { AreMessages out.old → AreMessages out.new }
     {
         let was_closing = self.closing().is_some();
         let report = self.hear(alloc, msg, out)?;
@@ -252,8 +186,11 @@ impl Sequencer {
             → IfOk result (λ report. Acted self.old self.new report out.old out.new (called_by self.old c (retry_acts self.old)).acts × G.tells reg.new (called_by self.old c (retry_acts self.old)).register) }
         ensures acted { IfOk result (λ report. (d : Ends) × Acted self.old self.new report out.old out.new (tried self.old (retry_acts self.old) d)) }
         ensures held { (c : Contents) → G.holds reg.old c
-            → IfOk result (λ report. (report.register_failed ≡ true) ⊎ (Acted self.old self.new report out.old out.new (called_by self.old c (retry_acts self.old)).acts × G.holds reg.new (called_by self.old c (retry_acts self.old)).register)) }
-        ensures failed { G.told reg.old → IfOk result (λ report. report.register_failed ≡ true → Rose (G.faults reg.old) (G.faults reg.new) ⊎ ((c : Contents) × G.holds reg.old c × (is_full c close_length ≡ true))) }
+            → IfOk result (λ report. (is_some report.register ≡ true) ⊎ (Acted self.old self.new report out.old out.new (called_by self.old c (retry_acts self.old)).acts × G.holds reg.new (called_by self.old c (retry_acts self.old)).register)) }
+        ensures failed { IfOk result (λ report. report.register ≡ Some unclosed.Failed → Rose (G.faults reg.old) (G.faults reg.new)) }
+        ensures full { G.told reg.old → IfOk result (λ report. report.register ≡ Some unclosed.Full → (c : Contents) × G.holds reg.old c × (is_full c close_length ≡ true)) }
+        ensures steady { IfOk result (λ report. (report.register ≡ Some unclosed.Failed) ⊎ (G.faults reg.new ≡ G.faults reg.old)) }
+        ensures unfailed { IfErr result (λ fault. (fault ≡ faults.NoMemory) ⊎ (G.faults reg.new ≡ G.faults reg.old)) }
         ensures refused { IfErr result (λ fault. IsRefused self.old self.new fault out.old out.new (retry_acts self.old)) }
         ensures caused { G.told reg.old → IfErr result (IsCaused (G.holds reg.old) (G.damaged reg.old) self.old.sequencer.log) }
         ensures crowded { (c : Contents) → G.tells reg.old c
@@ -263,6 +200,7 @@ impl Sequencer {
         ensures done_or_not { G.told reg.old → ChangedOrNot (G.may_hold reg.old) (G.may_hold reg.new) (λ c. after_tries c self.old.sequencer.log (retry_acts self.old).tries) }
         ensures keeps { IfErr result (λ fault. (fault ≡ faults.NoMemory) ⊎ Keeps (G.holds reg.old) (G.holds reg.new) (G.may_hold reg.old) (G.may_hold reg.new)) }
         ensures counts { G.faults reg.old ≤ G.faults reg.new }
+        ensures messages { AreMessages out.old → AreMessages out.new }
     {
         if self.own.is_preempted() {
             return Ok(Report::nothing());
@@ -274,7 +212,8 @@ impl Sequencer {
     }
 
     /// The sequencer of an epoch that was handed out. Without memory nothing is sent.
-    fn start(
+    #[tactic(auto, using(crate::proofs::Bounded::message_rules))]
+    pub(crate) fn start(
         alloc: Global,
         spec: &Spec,
         grant: Grant,
@@ -285,6 +224,7 @@ impl Sequencer {
         requires lce { grant.lce ≤ 2 ^ 32 - 2 }
         ensures active { IfOk result (λ sequencer. IsActive spec.now grant sequencer out.old out.new) }
         ensures unsent { OnErr result (out.new ≡ out.old) }
+        ensures messages { AreMessages out.old → AreMessages out.new }
     {
         let own = OwnEpoch::new(alloc, spec, grant.epoch, grant.lce)?;
         let mut asks = Outbox::empty(alloc);
@@ -298,7 +238,8 @@ impl Sequencer {
         requires { IsMessage msg.now }
         ensures acted { IfOk result (λ report. Acted self.old self.new report out.old out.new (reply_acts self.old msg.now.from msg.now.body)) }
         ensures fresh { IsFresh self.old (reply_acts self.old msg.now.from msg.now.body) }
-        ensures failed { IfOk result (λ report. report.register_failed ≡ false) }
+        ensures failed { IfOk result (λ report. report.register ≡ None) }
+        ensures messages { AreMessages out.old → AreMessages out.new }
     {
         if self.is_for_recovery(&msg.body) {
             return self.hear_for_recovery(alloc, msg, out);
@@ -309,7 +250,7 @@ impl Sequencer {
             acked: learnt.acked,
             closed: None,
             preempted: learnt.preempted,
-            register_failed: false,
+            register: None,
             released: self.risen(before),
         })
     }
@@ -324,7 +265,8 @@ impl Sequencer {
         requires message { IsMessage msg.now }
         requires recovery { is_for_recovery self.old msg.now.body ≡ true }
         ensures acted { IfOk result (λ report. Acted self.old self.new report out.old out.new (reply_acts self.old msg.now.from msg.now.body)) }
-        ensures failed { IfOk result (λ report. report.register_failed ≡ false) }
+        ensures failed { IfOk result (λ report. report.register ≡ None) }
+        ensures messages { AreMessages out.old → AreMessages out.new }
     {
         let before = self.released();
         let Some(mut recovery) = self.recovery.take() else {
@@ -337,7 +279,7 @@ impl Sequencer {
                 acked: None,
                 closed: None,
                 preempted: None,
-                register_failed: false,
+                register: None,
                 released: self.risen(before),
             });
         }
@@ -358,6 +300,7 @@ impl Sequencer {
         requires lce { lce ≤ 2 ^ 32 - 2 }
         ensures now { OnOk result (self.new ≡ as_now self.old (goes_on self.old.spec (does_nothing self.old.sequencer) lce).sequencer) }
         ensures out { OnOk result (out.new ≡ out.old ++ sent_as self.old (acted_messages self.old.spec self.old.sequencer (goes_on self.old.spec (does_nothing self.old.sequencer) lce))) }
+        ensures messages { AreMessages out.old → AreMessages out.new }
     {
         self.recovery = None;
         self.own.close_through(lce, out)?;
@@ -380,8 +323,11 @@ impl Sequencer {
             → IfOk result (λ report. Acted self.old self.new report out.old out.new (closed_acts self.old epoch summary.now (closes c self.old.sequencer.log epoch summary.now).answer) × (is_crowded c self.old.sequencer.log ≡ false) × G.tells reg.new (closes c self.old.sequencer.log epoch summary.now).register) }
         ensures acted { IfOk result (λ report. (d : Ends) × Acted self.old self.new report out.old out.new (closed_acts self.old epoch summary.now d)) }
         ensures held { (c : Contents) → G.holds reg.old c
-            → IfOk result (λ report. (report.register_failed ≡ true) ⊎ (Acted self.old self.new report out.old out.new (closed_acts self.old epoch summary.now (closes c self.old.sequencer.log epoch summary.now).answer) × G.holds reg.new (closes c self.old.sequencer.log epoch summary.now).register)) }
-        ensures failed { G.told reg.old → IfOk result (λ report. report.register_failed ≡ true → Rose (G.faults reg.old) (G.faults reg.new) ⊎ ((c : Contents) × G.holds reg.old c × (is_full c close_length ≡ true))) }
+            → IfOk result (λ report. (is_some report.register ≡ true) ⊎ (Acted self.old self.new report out.old out.new (closed_acts self.old epoch summary.now (closes c self.old.sequencer.log epoch summary.now).answer) × G.holds reg.new (closes c self.old.sequencer.log epoch summary.now).register)) }
+        ensures failed { IfOk result (λ report. report.register ≡ Some unclosed.Failed → Rose (G.faults reg.old) (G.faults reg.new)) }
+        ensures full { G.told reg.old → IfOk result (λ report. report.register ≡ Some unclosed.Full → (c : Contents) × G.holds reg.old c × (is_full c close_length ≡ true)) }
+        ensures steady { IfOk result (λ report. (report.register ≡ Some unclosed.Failed) ⊎ (G.faults reg.new ≡ G.faults reg.old)) }
+        ensures unfailed { IfErr result (λ fault. (fault ≡ faults.NoMemory) ⊎ (G.faults reg.new ≡ G.faults reg.old)) }
         ensures refused { IfErr result (λ fault. (fault ≡ faults.NoMemory) ⊎ (IsUntimely fault × (self.new ≡ self.old) × (out.new ≡ out.old))) }
         ensures caused { G.told reg.old → IfErr result (IsCaused (G.holds reg.old) (G.damaged reg.old) self.old.sequencer.log) }
         ensures crowded { (c : Contents) → G.tells reg.old c
@@ -390,33 +336,35 @@ impl Sequencer {
         ensures done_or_not { G.told reg.old → ChangedOrNot (G.may_hold reg.old) (G.may_hold reg.new) (λ c. after_the_close c self.old.sequencer.log epoch summary.now) }
         ensures keeps { IfErr result (λ fault. (fault ≡ faults.NoMemory) ⊎ Keeps (G.holds reg.old) (G.holds reg.new) (G.may_hold reg.old) (G.may_hold reg.new)) }
         ensures counts { G.faults reg.old ≤ G.faults reg.new }
+        ensures messages { AreMessages out.old → AreMessages out.new }
     {
-        let answer = close(alloc, reg, self.own.spec().log, epoch, summary)?;
-        Ok(self.after_close(alloc, answer, epoch, summary, out)?)
+        let tried = close(alloc, reg, self.own.spec().log, epoch, summary)?;
+        Ok(self.after_close(alloc, tried, epoch, summary, out)?)
     }
 
     /// What the register's answer to a close does.
     fn after_close(
         &mut self,
         alloc: Global,
-        answer: Answer,
+        tried: Tried,
         epoch: u32,
         summary: &Summary,
         out: &mut Outbox,
     ) -> Result<Report, NoMemory>
         requires due { closing_of self.old ≡ Some (epoch, summary.now) }
-        requires bound { is_epoch_answer answer ≡ true }
-        ensures acted { IfOk result (λ report. Acted self.old self.new report out.old out.new (closed_acts self.old epoch summary.now (answer_of answer))) }
-        ensures failed { IfOk result (λ report. report.register_failed ≡ true → answer ≡ answers.Failed) }
+        requires bound { is_epoch_answer tried ≡ true }
+        ensures acted { IfOk result (λ report. Acted self.old self.new report out.old out.new (closed_acts self.old epoch summary.now (answer_of tried))) }
+        ensures failed { IfOk result (λ report. report.register ≡ fault_in tried) }
+        ensures messages { AreMessages out.old → AreMessages out.new }
     {
-        match answer {
-            Answer::Taken => self.finish(alloc, epoch, summary, out),
-            Answer::Behind(lce) => self.fall_behind(alloc, lce, epoch, summary, out),
-            Answer::Failed => Ok(Report {
+        match tried {
+            Tried::Taken => self.finish(alloc, epoch, summary, out),
+            Tried::Behind(lce) => self.fall_behind(alloc, lce, epoch, summary, out),
+            Tried::Unclosed(fault) => Ok(Report {
                 acked: None,
                 closed: None,
                 preempted: None,
-                register_failed: true,
+                register: Some(fault),
                 released: None,
             }),
         }
@@ -432,7 +380,8 @@ impl Sequencer {
     ) -> Result<Report, NoMemory>
         requires due { closing_of self.old ≡ Some (epoch, summary.now) }
         ensures acted { IfOk result (λ report. Acted self.old self.new report out.old out.new (closed_acts self.old epoch summary.now Granted)) }
-        ensures failed { IfOk result (λ report. report.register_failed ≡ false) }
+        ensures failed { IfOk result (λ report. report.register ≡ None) }
+        ensures messages { AreMessages out.old → AreMessages out.new }
     {
         let before = self.released();
         match self.recovery.take() {
@@ -444,7 +393,7 @@ impl Sequencer {
             acked: None,
             closed: Some(Lsn::new(epoch, summary.end)),
             preempted: None,
-            register_failed: false,
+            register: None,
             released: self.risen(before),
         })
     }
@@ -460,7 +409,8 @@ impl Sequencer {
     ) -> Result<Report, NoMemory>
         requires { lce ≤ 2 ^ 32 - 2 }
         ensures acted { IfOk result (λ report. Acted self.old self.new report out.old out.new (closed_acts self.old epoch summary.now (Behind lce))) }
-        ensures failed { IfOk result (λ report. report.register_failed ≡ false) }
+        ensures failed { IfOk result (λ report. report.register ≡ None) }
+        ensures messages { AreMessages out.old → AreMessages out.new }
     {
         if self.own.epoch() <= lce {
             self.own.preempt(lce + 1);
@@ -468,7 +418,7 @@ impl Sequencer {
                 acked: None,
                 closed: None,
                 preempted: Some(lce + 1),
-                register_failed: false,
+                register: None,
                 released: None,
             });
         }
@@ -478,7 +428,7 @@ impl Sequencer {
             acked: None,
             closed: None,
             preempted: None,
-            register_failed: false,
+            register: None,
             released: self.risen(before),
         })
     }
@@ -495,8 +445,11 @@ impl Sequencer {
             → IfOk result (λ report. Acted self.old self.new report out.old out.new (called_by self.old c (recovery_acts self.old)).acts × G.tells reg.new (called_by self.old c (recovery_acts self.old)).register) }
         ensures acted { IfOk result (λ report. (d : Ends) × Acted self.old self.new report out.old out.new (tried self.old (recovery_acts self.old) d)) }
         ensures held { (c : Contents) → G.holds reg.old c
-            → IfOk result (λ report. (report.register_failed ≡ true) ⊎ (Acted self.old self.new report out.old out.new (called_by self.old c (recovery_acts self.old)).acts × G.holds reg.new (called_by self.old c (recovery_acts self.old)).register)) }
-        ensures failed { G.told reg.old → IfOk result (λ report. report.register_failed ≡ true → Rose (G.faults reg.old) (G.faults reg.new) ⊎ ((c : Contents) × G.holds reg.old c × (is_full c close_length ≡ true))) }
+            → IfOk result (λ report. (is_some report.register ≡ true) ⊎ (Acted self.old self.new report out.old out.new (called_by self.old c (recovery_acts self.old)).acts × G.holds reg.new (called_by self.old c (recovery_acts self.old)).register)) }
+        ensures failed { IfOk result (λ report. report.register ≡ Some unclosed.Failed → Rose (G.faults reg.old) (G.faults reg.new)) }
+        ensures full { G.told reg.old → IfOk result (λ report. report.register ≡ Some unclosed.Full → (c : Contents) × G.holds reg.old c × (is_full c close_length ≡ true)) }
+        ensures steady { IfOk result (λ report. (report.register ≡ Some unclosed.Failed) ⊎ (G.faults reg.new ≡ G.faults reg.old)) }
+        ensures unfailed { IfErr result (λ fault. (fault ≡ faults.NoMemory) ⊎ (G.faults reg.new ≡ G.faults reg.old)) }
         ensures refused { IfErr result (λ fault. IsRefused self.old self.new fault out.old out.new (recovery_acts self.old)) }
         ensures caused { G.told reg.old → IfErr result (IsCaused (G.holds reg.old) (G.damaged reg.old) self.old.sequencer.log) }
         ensures crowded { (c : Contents) → G.tells reg.old c
@@ -506,6 +459,7 @@ impl Sequencer {
         ensures done_or_not { G.told reg.old → ChangedOrNot (G.may_hold reg.old) (G.may_hold reg.new) (λ c. after_tries c self.old.sequencer.log (recovery_acts self.old).tries) }
         ensures keeps { IfErr result (λ fault. (fault ≡ faults.NoMemory) ⊎ Keeps (G.holds reg.old) (G.holds reg.new) (G.may_hold reg.old) (G.may_hold reg.new)) }
         ensures counts { G.faults reg.old ≤ G.faults reg.new }
+        ensures messages { AreMessages out.old → AreMessages out.new }
     {
         match self.closing() {
             Some((epoch, summary)) => self.close(alloc, epoch, &summary, reg, out),
@@ -521,6 +475,7 @@ impl Sequencer {
         requires { closing_of self.old ≡ None }
         ensures now { OnOk result (self.new ≡ as_now self.old (recovery_acts self.old).sequencer) }
         ensures out { OnOk result (out.new ≡ out.old ++ sent_as self.old ((recovery_acts self.old).asks ++ (recovery_acts self.old).stores)) }
+        ensures messages { AreMessages out.old → AreMessages out.new }
     {
         if let Some(mut recovery) = self.recovery.take() {
             recovery.retry(alloc, out)?;
@@ -554,92 +509,4 @@ impl Sequencer {
             None
         }
     }
-}
-
-/// The recovery of the first epoch that isn't closed, where that is before the sequencer's own: all nodes are asked for what
-/// they have. Without memory some may have been asked.
-#[tactic(auto, using(crate::proofs::Serving::begin_rules))]
-fn next_recovery(
-    alloc: Global,
-    spec: &Spec,
-    epoch: u32,
-    lce: u32,
-    out: &mut Outbox,
-) -> Result<Option<Recovery>, NoMemory>
-    requires copies { 1 ≤ spec.now.r }
-    requires epoch { IsEpoch epoch }
-    requires lce { lce ≤ 2 ^ 32 - 2 }
-    ensures value { IfOk result (λ recovery. recovery ≡ next_in spec.now epoch lce) }
-    ensures sent { OnOk result (out.new ≡ out.old ++ sent_as (active spec.now epoch lce) (recovery_asks spec.now (active spec.now epoch lce).sequencer lce)) }
-{
-    if lce + 1 < epoch {
-        return Ok(Some(Recovery::start(alloc, spec, lce + 1, epoch, out)?));
-    }
-    Ok(None)
-}
-
-/// Whether a message speaks of an epoch before this one, and not of it.
-fn is_of_earlier(epoch: u32, body: &Body) -> bool
-    ensures { result ≡ is_of_earlier epoch body.now }
-{
-    match body {
-        Body::Stored { number } => number.epoch() != epoch,
-        Body::LostHere { number, .. } => number.home().0 != epoch,
-        Body::CleanHere { number, .. } => number.home().0 != epoch,
-        Body::TrimmedHere { .. } => true,
-        Body::DigestPage { .. } => true,
-        _ => false,
-    }
-}
-
-/// The grant that a register is to give next.
-fn next_grant(view: &View) -> Grant
-    requires lce { view.now.lce ≤ 2 ^ 32 - 2 }
-    ensures epoch { IsEpoch result.epoch }
-    ensures next { view.now.epoch < 2 ^ 32 - 2 → result.epoch ≡ view.now.epoch + 1 }
-    ensures lce { result.lce ≡ view.now.lce }
-{
-    let epoch = if view.epoch < GREATEST_EPOCH {
-        view.epoch + 1
-    } else {
-        GREATEST_EPOCH
-    };
-    Grant {
-        epoch,
-        lce: view.lce,
-    }
-}
-
-/// Whether a grant is as expected.
-fn is_same(grant: Grant, expected: Grant) -> bool
-    ensures yes { result ≡ true → grant ≡ expected }
-    ensures no { grant ≡ expected → result ≡ true }
-{
-    grant == expected
-}
-
-/// Sends these. Without memory nothing is sent.
-#[tactic(auto, using(crate::proofs::Begins::back_rules))]
-fn send_all(asks: Outbox, out: &mut Outbox) -> Result<(), NoMemory>
-    ensures sent { OnOk result (out.new ≡ out.old ++ asks) }
-    ensures unsent { OnErr result (out.new ≡ out.old) }
-{
-    let count = out.len();
-    let sent = add_all(asks, out);
-    if sent.is_err() {
-        out.truncate(count);
-    }
-    sent
-}
-
-/// Sends these. Without memory some may have been sent.
-#[tactic(auto, using(crate::proofs::Begins::back_rules))]
-fn add_all(asks: Outbox, out: &mut Outbox) -> Result<(), NoMemory>
-    ensures sent { OnOk result (out.new ≡ out.old ++ asks) }
-    ensures begins { OnErr result (BeginsWith out.old out.new) }
-{
-    'asks: for ask in asks.into_vec() {
-        out.push(ask)?;
-    }
-    Ok(())
 }

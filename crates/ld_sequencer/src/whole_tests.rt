@@ -3,7 +3,7 @@ ghost use Rattle.std.specs.Prelude.{◌≡◌, IfOk};
 ghost use Rattle.ld_msg.specs.Bounds.{IsMessage};
 ghost use Rattle.ld_recovery.specs.Recovering.{IsReplyTo};
 
-use crate::{Report, Sequencer, SequencerFault};
+use crate::{CloseFault, Report, Sequencer, SequencerFault};
 use ld_disk::{Fault, MemDisk};
 use ld_ids::{LogId, NoMemory, NodeId, NodeSet, Payload, Spec};
 use ld_lsn::Lsn;
@@ -126,19 +126,6 @@ fn has_nothing<G: Register>(
     comes(alloc, sequencer, &msg, reg, out)
 }
 
-// The node is sealed by the sequencer of epoch 5.
-fn is_sealed<G: Register>(
-    alloc: Global,
-    sequencer: &mut Sequencer,
-    node: u8,
-    reg: &mut G,
-    out: &mut Outbox,
-) -> Result<Report, SequencerFault> {
-    let number = Lsn::new(1, 1);
-    let msg = reply(node, Body::SealedHere { number, sealed: 5 })?;
-    comes(alloc, sequencer, &msg, reg, out)
-}
-
 // All that is wanted is sent again.
 fn retries<G: Register>(
     alloc: Global,
@@ -199,14 +186,16 @@ fn an_append_is_released_at_the_second_node(rt: HostRuntime) -> Result<(), Fail>
     let mut reg = new_register(alloc)?;
     let mut first = next(alloc, &mut reg, &mut out)?;
     assert!(rt; first.epoch() == 1);
-    assert!(rt; out.len() == 0);
+    assert!(rt; first.settled());
     let number = appends(alloc, &mut first, &mut out)?;
     assert!(rt; number == Lsn::new(1, 1));
     let one = stores(alloc, &mut first, 1, &mut reg, &mut out)?;
     assert!(rt; one == Report::nothing());
+    assert!(rt; !first.settled());
     let two = stores(alloc, &mut first, 2, &mut reg, &mut out)?;
     assert!(rt; two.acked == Some(number));
     assert!(rt; two.released == Some(number));
+    assert!(rt; first.settled());
     // two stores, and three times the word that it is released
     assert!(rt; out.len() == 5);
     Ok(())
@@ -219,6 +208,7 @@ fn the_next_sequencer_closes_the_epoch(rt: HostRuntime) -> Result<(), Fail> {
     let mut reg = new_register(alloc)?;
     let mut second = nearly_closed(alloc, &mut reg, &mut out)?;
     assert!(rt; second.released() == Lsn::new(1, 0));
+    assert!(rt; !second.settled());
     let sent = out.len();
     let report = stores(alloc, &mut second, 1, &mut reg, &mut out)?;
     assert!(rt; report.closed == Some(Lsn::new(1, 1)));
@@ -229,66 +219,28 @@ fn the_next_sequencer_closes_the_epoch(rt: HostRuntime) -> Result<(), Fail> {
 }
 
 #[test]
-fn what_another_closed_is_not_reported(rt: HostRuntime) -> Result<(), Fail> {
-    let alloc = rt.alloc();
-    let mut out = Outbox::empty(alloc);
-    let mut reg = new_register(alloc)?;
-    let mut second = nearly_closed(alloc, &mut reg, &mut out)?;
-    let mut third = next(alloc, &mut reg, &mut out)?;
-    recovers(alloc, &mut third, &mut reg, &mut out)?;
-    let its = stores(alloc, &mut third, 1, &mut reg, &mut out)?;
-    assert!(rt; its.closed == Some(Lsn::new(1, 1)));
-    let report = stores(alloc, &mut second, 1, &mut reg, &mut out)?;
-    assert!(rt; report.closed == None);
-    assert!(rt; report.released == Some(Lsn::new(2, 0)));
-    Ok(())
-}
-
-#[test]
-fn a_failed_close_is_tried_again_by_a_retry_alone(rt: HostRuntime) -> Result<(), Fail> {
+fn a_failed_close_is_tried_again_by_a_retry(rt: HostRuntime) -> Result<(), Fail> {
     let alloc = rt.alloc();
     let mut out = Outbox::empty(alloc);
     let mut reg = new_register(alloc)?;
     let mut second = nearly_closed(alloc, &mut reg, &mut out)?;
     will_fail(&mut reg);
     let failed = stores(alloc, &mut second, 1, &mut reg, &mut out)?;
-    assert!(rt; failed.register_failed);
-    assert!(rt; failed.closed == None);
-    let again = stores(alloc, &mut second, 2, &mut reg, &mut out)?;
-    assert!(rt; again == Report::nothing());
+    assert!(rt; failed.register == Some(CloseFault::Failed));
     let retried = retries(alloc, &mut second, &mut reg, &mut out)?;
     assert!(rt; retried.closed == Some(Lsn::new(1, 1)));
     Ok(())
 }
 
 #[test]
-fn a_preempted_sequencer_refuses_appends(rt: HostRuntime) -> Result<(), Fail> {
+fn a_trim_goes_up_to_what_is_released(rt: HostRuntime) -> Result<(), Fail> {
     let alloc = rt.alloc();
     let mut out = Outbox::empty(alloc);
     let mut reg = new_register(alloc)?;
-    let mut first = next(alloc, &mut reg, &mut out)?;
-    let sealed = is_sealed(alloc, &mut first, 1, &mut reg, &mut out)?;
-    assert!(rt; sealed.preempted == Some(5));
-    let refused = appends(alloc, &mut first, &mut out);
-    assert!(rt; refused == Err(SequencerFault::Preempted(5)));
-    assert!(rt; out.len() == 0);
-    Ok(())
-}
-
-#[test]
-fn trims_stay_below_what_is_released(rt: HostRuntime) -> Result<(), Fail> {
-    let alloc = rt.alloc();
-    let mut out = Outbox::empty(alloc);
-    let mut reg = new_register(alloc)?;
-    let mut first = next(alloc, &mut reg, &mut out)?;
-    let _ = appends(alloc, &mut first, &mut out)?;
+    let first = next(alloc, &mut reg, &mut out)?;
     let past = trims(&first, 1, &mut out);
     assert!(rt; past == Err(SequencerFault::PastReleased(Lsn::new(1, 0))));
-    assert!(rt; out.len() == 2);
-    let _ = stores(alloc, &mut first, 1, &mut reg, &mut out)?;
-    let _ = stores(alloc, &mut first, 2, &mut reg, &mut out)?;
-    trims(&first, 1, &mut out)?;
-    // two stores, three times the word that it is released, and three trims
-    assert!(rt; out.len() == 8);
+    trims(&first, 0, &mut out)?;
+    assert!(rt; out.len() == 3);
     Ok(())
 }

@@ -16,4 +16,4 @@ invariant_of-self-2 c =
     subst (λ g. IsInStep i.spec.r g c.push_back.new.self.items) (sym flags)
     (subst (IsInStep i.spec.r (i.window ++ false ∷ [])) (sym c.in_ok-push_back.ensures.items)
     (subst (λ w. IsInStep i.spec.r (i.window ++ false ∷ []) (i.waiting.items ++ w ∷ [])) (sym c.new-pending.ensures)
-    (push_keeps i.spec.r c.new.result i.window i.waiting.items c.args.payload c.self.invariant place)))
+    (push_keeps i.spec.r c.new.result i.window i.waiting.items c.args.payload c.self.invariant place c.requires.short)))

@@ -17,7 +17,7 @@ nodes-preserved c = elim c.match-nth.branch [
       let b = told c.args.notice.now in
       let y = w.in-Some.node in
       let one : c.match-nth.out ≡ c.nodes.out ++ posted who log ((y, b) ∷ []) =
-      w.out-is ∙ (w.in_ok-push.ensures.ok ∙ ap (λ ms. c.nodes.out ++ ms) (sym w.to_node.ensures ∙ ap (λ x. posted who log ((y, x) ∷ [])) w.body.ensures)) in
+      w.out-is ∙ (w.in_ok-push.ensures.ok ∙ ap (λ ms. c.nodes.out ++ ms) (sym w.to_node.ensures ∙ ap (λ x. posted who log ((y, x) ∷ [])) w.body.ensures.value)) in
       ap (λ o. o ++ posted who log (to_each b (drop (c.nodes.place + 1) (members c.args.set.now)))) one
       ∙ (sent_one who log b (members c.args.set.now) c.nodes.place y c.nodes.out (sym c.nth.ensures.node ∙ w.in-Some.is) ∙ c.nodes.invariant)
   | in_default w ↦ absurd (there_is (members c.args.set.now) c.nodes.place (let a = c.len-place-end.ensures.count in omega arith) (sym c.nth.ensures.node ∙ w.in_default.is))

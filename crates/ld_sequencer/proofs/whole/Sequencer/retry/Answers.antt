@@ -27,7 +27,7 @@ returns-clause-exact g c = λ x h.
     let v = joined c.raise.new.self m in
     let e = ap raised_whole (sym c.self.view_is) ∙ ap (λ x. joined x m) (sym c.raise.ensures) in
     let p = ap (λ (z : Whole). is_some z.sequencer.preempted) (sym c.self.view_is) ∙ (sym c.is_preempted.ensures ∙ c.if-is_preempted.false) in
-    let s = c.in_ok-send.ensures ∙ ap (λ (z : Whole). om ++ sent_as z (pending_stores z)) c.self-2.view_is in
+    let s = c.in_ok-send.ensures.sent ∙ ap (λ (z : Whole). om ++ sent_as z (pending_stores z)) c.self-2.view_is in
     retry_exact w v n r c.args.out.now om c.send.new.out x (g.G.Register.tells c.retry_recovery-report.new.reg) e p s (c.retry_recovery-report.ensures.exact x h)
 
 pub returns-clause-acted : goal.returns-clause-acted
@@ -36,7 +36,7 @@ returns-clause-acted g c =
     let v = joined c.raise.new.self m in
     let e = ap raised_whole (sym c.self.view_is) ∙ ap (λ x. joined x m) (sym c.raise.ensures) in
     let p = ap (λ (z : Whole). is_some z.sequencer.preempted) (sym c.self.view_is) ∙ (sym c.is_preempted.ensures ∙ c.if-is_preempted.false) in
-    let s = c.in_ok-send.ensures ∙ ap (λ (z : Whole). om ++ sent_as z (pending_stores z)) c.self-2.view_is in
+    let s = c.in_ok-send.ensures.sent ∙ ap (λ (z : Whole). om ++ sent_as z (pending_stores z)) c.self-2.view_is in
     retry_acted w v n r c.args.out.now om c.send.new.out e p s c.retry_recovery-report.ensures.acted
 
 pub returns-clause-held : goal.returns-clause-held
@@ -45,7 +45,7 @@ returns-clause-held g c = λ x h.
     let v = joined c.raise.new.self m in
     let e = ap raised_whole (sym c.self.view_is) ∙ ap (λ x. joined x m) (sym c.raise.ensures) in
     let p = ap (λ (z : Whole). is_some z.sequencer.preempted) (sym c.self.view_is) ∙ (sym c.is_preempted.ensures ∙ c.if-is_preempted.false) in
-    let s = c.in_ok-send.ensures ∙ ap (λ (z : Whole). om ++ sent_as z (pending_stores z)) c.self-2.view_is in
+    let s = c.in_ok-send.ensures.sent ∙ ap (λ (z : Whole). om ++ sent_as z (pending_stores z)) c.self-2.view_is in
     retry_held w v n r c.args.out.now om c.send.new.out x (g.G.Register.holds c.retry_recovery-report.new.reg) e p s (c.retry_recovery-report.ensures.held x h)
 
 pub returns-clause-refused : goal.returns-clause-refused
@@ -54,7 +54,7 @@ returns-clause-refused g c =
     let v = joined c.raise.new.self m in
     let e = ap raised_whole (sym c.self.view_is) ∙ ap (λ x. joined x m) (sym c.raise.ensures) in
     let p = ap (λ (z : Whole). is_some z.sequencer.preempted) (sym c.self.view_is) ∙ (sym c.is_preempted.ensures ∙ c.if-is_preempted.false) in
-    let s = c.in_ok-send.ensures ∙ ap (λ (z : Whole). om ++ sent_as z (pending_stores z)) c.self-2.view_is in
+    let s = c.in_ok-send.ensures.sent ∙ ap (λ (z : Whole). om ++ sent_as z (pending_stores z)) c.self-2.view_is in
     retry_refused w v n r c.args.out.now om c.send.new.out e p s c.retry_recovery-report.ensures.refused
 
 pub returns-clause-room : goal.returns-clause-room
@@ -63,7 +63,7 @@ returns-clause-room g c = λ x h.
     let v = joined c.raise.new.self m in
     let e = ap raised_whole (sym c.self.view_is) ∙ ap (λ x. joined x m) (sym c.raise.ensures) in
     let p = ap (λ (z : Whole). is_some z.sequencer.preempted) (sym c.self.view_is) ∙ (sym c.is_preempted.ensures ∙ c.if-is_preempted.false) in
-    let s = c.in_ok-send.ensures ∙ ap (λ (z : Whole). om ++ sent_as z (pending_stores z)) c.self-2.view_is in
+    let s = c.in_ok-send.ensures.sent ∙ ap (λ (z : Whole). om ++ sent_as z (pending_stores z)) c.self-2.view_is in
     retry_room w v r (λ l. is_crowded x l ≡ false) e p (c.retry_recovery-report.ensures.room x h)
 
 pub returns-in_err-send-clause-done_or_not : goal.returns-in_err-send-clause-done_or_not

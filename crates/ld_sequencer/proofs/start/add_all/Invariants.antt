@@ -1,5 +1,5 @@
 use Rattle.std.proofs.Common.{◌≡◌, ◌++◌}
-use Rattle.ld_sequencer.proofs.whole.add_all.Given as goal
+use Rattle.ld_sequencer.proofs.start.add_all.Given as goal
 
 abbrev pub invariant-asks : goal.invariant-asks
 invariant-asks l = record {
