@@ -1,0 +1,156 @@
+-- The steps that a drive takes.
+use Rattle.std.proofs.Common.{◌≡◌, ℕ, ◌+◌, Bool, true, false, ◌&&◌, List, [], ◌∷◌, ◌++◌, Option, Some, None, refl, ap, sym, ◌∙◌, append_assoc, if◌then◌else◌}
+use Rattle.std.specs.List.{AllByRecursion}
+use Rattle.std.proofs.lemmas.List.{append-nil}
+use Rattle.std.proofs.lemmas.List.Elements.{filter-append}
+use Rattle.ld_table.specs.Table.{put}
+use Rattle.ld_table.specs.Words.{is_in}
+use Rattle.ld_config.specs.declared.config.Config.{Config}
+use Rattle.ld_schedule.specs.declared.event.Event.{Event}
+use Rattle.ld_schedule.specs.declared.event.Event.TheVariants as events
+use Rattle.ld_transcript.specs.declared.line.Line.{Line}
+use Rattle.ld_msg.specs.declared.msg.Msg.{Msg}
+use Rattle.ld_msg.specs.declared.msg.Body.{Body}
+use Rattle.ld_msg.specs.Network.{message}
+use Rattle.ld_op.specs.declared.op.Op.{Op}
+use Rattle.ld_op.specs.Handles.{answer_message}
+use Rattle.ld_machine.specs.Config.{set_of}
+use Rattle.ld_machine.specs.Disk.{Node, is_up, keep_end, Kept, Written, DiskFailed, Crashed, JournalFull}
+use Rattle.ld_machine.specs.State.{State, Done, only_state, unchanged, finish, or_none, message_lines, node_at, sent_state}
+use Rattle.ld_machine.specs.Step as machine
+use Rattle.ld_machine.specs.Step.{happens, delivers, comes_to, marked, to_node, is_written, kept_lines}
+use Rattle.ld_machine.specs.Run.{step, state_after, lines_of}
+use Rattle.ld_dial.specs.Far.{alone, handed}
+use Rattle.ld_rounds.specs.News.{is_answer}
+use Rattle.ld_rounds.specs.Drives.{is_own, own_lines, IsDriven, Goes}
+
+-- ---- lines ----
+
+own_messages : (s : State) (i : ℕ) (ms : List Msg) → own_lines (message_lines s i ms) ≡ []
+own_messages s i [] = refl
+own_messages s i (m ∷ ms) = own_messages s (i + 1) ms
+
+own_or_none : (ls : List Line) → own_lines (or_none ls) ≡ own_lines ls
+own_or_none [] = refl
+own_or_none (l ∷ ls) = refl
+
+pub own-append : (xs ys : List Line) → own_lines (xs ++ ys) ≡ own_lines xs ++ own_lines ys
+own-append xs ys = filter-append is_own xs ys
+
+pub own_finished : (d : Done) → own_lines (finish d).lines ≡ own_lines d.lines
+unfolding finish
+own_finished d =
+    let ms : List Line = message_lines d.state d.state.network.count d.sends in
+    own_or_none (d.lines ++ ms) ∙ (own-append d.lines ms ∙ (ap (λ l. own_lines d.lines ++ l) (own_messages d.state d.state.network.count d.sends) ∙ append-nil (own_lines d.lines)))
+
+-- ---- one after the other ----
+
+after-append : (c : Config) (s : State) (es fs : List Event) → state_after c s (es ++ fs) ≡ state_after c (state_after c s es) fs
+unfolding state_after
+after-append c s [] fs = refl
+after-append c s (e ∷ es) fs = after-append c (step c s e).state es fs
+
+lines-append : (c : Config) (s : State) (es fs : List Event) → lines_of c s (es ++ fs) ≡ lines_of c s es ++ lines_of c (state_after c s es) fs
+unfolding state_after lines_of
+lines-append c s [] fs = refl
+lines-append c s (e ∷ es) fs =
+    ap (λ l. (step c s e).lines ++ l) (lines-append c (step c s e).state es fs) ∙ sym (append_assoc (step c s e).lines (lines_of c (step c s e).state es) (lines_of c (state_after c (step c s e).state es) fs))
+
+all-append : {X : Type 0} (P : X → Type 0) (xs ys : List X) → AllByRecursion P xs → AllByRecursion P ys → AllByRecursion P (xs ++ ys)
+all-append P [] ys a b = b
+all-append P (x ∷ xs) ys a b = (a.0, all-append P xs ys a.1 b)
+
+module _ (name : List ℕ) (c : Config) where
+  pub stays : (s : State) → Goes name c s s []
+  unfolding state_after lines_of
+  stays s = record { steps = []; driven = tt; state = refl; lines = refl }
+
+  pub goes_on : (s t u : State) (xs ys : List Line) → Goes name c s t xs → Goes name c t u ys → Goes name c s u (xs ++ ys)
+  goes_on s t u xs ys g h = record {
+    steps = g.steps ++ h.steps;
+    driven = all-append (IsDriven name) g.steps h.steps g.driven h.driven;
+    state = h.state ∙ (ap (λ x. state_after c x h.steps) g.state ∙ sym (after-append c s g.steps h.steps));
+    lines = ap (λ l. l ++ ys) g.lines ∙ (ap (λ l. own_lines (lines_of c s g.steps) ++ l) (h.lines ∙ ap (λ x. own_lines (lines_of c x h.steps)) g.state)
+        ∙ (sym (own-append (lines_of c s g.steps) (lines_of c (state_after c s g.steps) h.steps)) ∙ ap own_lines (sym (lines-append c s g.steps h.steps))));
+  }
+
+  -- one step
+  pub goes_by : (s : State) (e : Event) (d : Done) → IsDriven name e → step c s e ≡ finish d → Goes name c s (finish d).state (own_lines d.lines)
+  unfolding state_after lines_of
+  goes_by s e d m h = record {
+    steps = e ∷ [];
+    driven = (m, tt);
+    state = ap (λ r. r.state) (sym h);
+    lines = sym (own_finished d) ∙ (ap (λ r. own_lines r.lines) (sym h) ∙ ap own_lines (sym (append-nil (step c s e).lines)));
+  }
+
+-- ---- the steps of a visit ----
+
+pub delivery_is : (c : Config) (s : State) (i : ℕ) (m : Msg) → message s.network i ≡ Some m → step c s (events.Deliver i) ≡ finish (comes_to c (marked s i) m m.to)
+unfolding step happens delivers
+delivery_is c s i m h = ap (λ o. finish (machine.delivers_it c s i o)) h
+
+pub loss_is : (c : Config) (s : State) (i : ℕ) → step c s (events.Lose i) ≡ finish (only_state (marked s i))
+unfolding step happens
+loss_is c s i = refl
+
+-- the state after a loss
+pub lost_state : (s : State) (i : ℕ) → (finish (only_state (marked s i))).state ≡ marked s i
+unfolding finish
+lost_state s i = refl
+
+pub finished_state : (d : Done) → (finish d).state ≡ sent_state d.state d.sends
+unfolding finish
+finished_state d = refl
+
+-- ---- what a node does rests on the nodes alone ----
+
+abbrev with_nodes : State → List (ℕ × Node) → State
+with_nodes s nodes = record s { nodes = nodes }
+
+-- only the nodes have changed, and no line is an actor's
+pub record IsFar (s : State) (d e : Done) : Type 0 where
+  pub state : d.state ≡ record s { nodes = e.state.nodes }
+  pub sends : d.sends ≡ e.sends
+  pub quiet : own_lines d.lines ≡ []
+
+kept_quiet : (n : ℕ) (k : Kept) → own_lines (kept_lines n [] k) ≡ []
+kept_quiet n Written = refl
+kept_quiet n DiskFailed = refl
+kept_quiet n Crashed = refl
+kept_quiet n JournalFull = refl
+
+handles_far : (s : State) (n : ℕ) (x : Node) (m : Msg) (o : Option Op) (b : Option Body) → IsFar s (machine.handles (record s { nodes = put n x s.nodes }) n m o b) (machine.handles (record (alone s.nodes) { nodes = put n x s.nodes }) n m o b)
+handles_far s n x m None b = record { state = refl; sends = refl; quiet = refl }
+handles_far s n x m (Some o) b = record { state = refl; sends = refl; quiet = kept_quiet n (keep_end (node_at (record s { nodes = put n x s.nodes }) n) o) }
+
+to_node_by : (b : Bool) (s : State) (d e : Done) → IsFar s d e → IsFar s (if b then d else unchanged s) (if b then e else unchanged (alone s.nodes))
+to_node_by true s d e h = h
+to_node_by false s d e h = record { state = refl; sends = refl; quiet = refl }
+
+pub to_node_far : (c : Config) (s : State) (n : ℕ) (m : Msg) → IsFar s (to_node c s n m) (handed c s.nodes n m)
+to_node_far c s n m =
+    to_node_by (is_up (node_at s n).status && is_in n (set_of c m.log)) s _ _
+    (handles_far s n (machine.releases (node_at s n) m.log m.body) m (machine.node_handles (node_at s n) m).op (machine.node_handles (node_at s n) m).answer)
+
+-- what it answers comes from a node
+answer_from : (n : ℕ) (m : Msg) (b : Option Body) → AllByRecursion (λ x. is_answer x ≡ true) (answer_message n m b)
+answer_from n m None = tt
+answer_from n m (Some b) = (refl, tt)
+
+when_from : (b : Bool) (ms : List Msg) → AllByRecursion (λ x. is_answer x ≡ true) ms → AllByRecursion (λ x. is_answer x ≡ true) (if b then ms else [])
+when_from true ms a = a
+when_from false ms a = tt
+
+handles_from : (s : State) (n : ℕ) (m : Msg) (o : Option Op) (b : Option Body) → AllByRecursion (λ x. is_answer x ≡ true) (machine.handles s n m o b).sends
+handles_from s n m None b = answer_from n m b
+handles_from s n m (Some o) b = when_from (is_written (keep_end (node_at s n) o)) (answer_message n m b) (answer_from n m b)
+
+answers_by : (b : Bool) (s : State) (d : Done) → AllByRecursion (λ x. is_answer x ≡ true) d.sends → AllByRecursion (λ x. is_answer x ≡ true) (if b then d else unchanged s).sends
+answers_by true s d h = h
+answers_by false s d h = tt
+
+pub answers_from : (c : Config) (s : State) (n : ℕ) (m : Msg) → AllByRecursion (λ x. is_answer x ≡ true) (to_node c s n m).sends
+answers_from c s n m =
+    answers_by (is_up (node_at s n).status && is_in n (set_of c m.log)) s _
+    (handles_from _ n m (machine.node_handles (node_at s n) m).op (machine.node_handles (node_at s n) m).answer)

@@ -1,0 +1,94 @@
+-- A node is visited.
+use Rattle.std.proofs.Common.{◌≡◌, ◌⊎◌, ℕ, Bool, true, List, [], ◌∷◌, ◌++◌, set, Option, Some, None, Err, refl, ap, sym, ◌∙◌, subst, inl, inr}
+use Rattle.std.specs.declared.result.Result.{Result}
+use Rattle.ld_table.specs.Words.{first as first_of}
+use Rattle.ld_ids.specs.Id.{IsNode}
+use Rattle.ld_config.specs.declared.config.Config.{Config}
+use Rattle.ld_config.specs.Bounds.{IsInBounds}
+use Rattle.ld_msg.specs.declared.msg.Msg.{Msg}
+use Rattle.ld_machine.specs.State.{State}
+use Rattle.ld_dial.specs.declared.fault.Fault.{Fault}
+use Rattle.ld_dial.specs.declared.fault.Fault.TheVariants as faults
+use Rattle.ld_dial.specs.Far.{Far, handed, IsHanded, IsNext, Receives, SendsTo}
+use Rattle.ld_rounds.specs.declared.ended.Ended.{Ended}
+use Rattle.ld_rounds.specs.Queued.{queue_of, behind}
+use Rattle.std.proofs.lemmas.List.{set-get_or}
+use Rattle.ld_rounds.specs.Telling.{missed_by}
+use Rattle.ld_rounds.specs.Drives.{IsApart, Holds, Went, GoesOn, WithNode}
+use Rattle.ld_rounds.proofs.News.{first_waits}
+use Rattle.ld_rounds.proofs.Driving.{lose_first, lose_answer, lose_queue, turn_to, hand_first, moved_on}
+use Rattle.ld_rounds.proofs.Going.{went_quietly, went_on, stopped_here, goes_as}
+
+some_is : {X : Type 0} {a b : X} → Some a ≡ Some b → a ≡ b
+some_is {X} {a} {b} e = ap (λ o. of o a) e
+  where
+    of : Option X → X → X
+    of None d = d
+    of (Some r) d = r
+
+-- the queue whose first message is taken
+pub fronted : (ms : List Msg) (m : Msg) → Some m ≡ first_of ms → ms ≡ m ∷ behind ms
+fronted [] m h = absurd cc
+fronted (x ∷ xs) m h = ap (λ z. z ∷ xs) (sym (some_is h))
+
+pub not_taken : (qs now : List (List Msg)) (y : ℕ) → None ≡ first_of (queue_of qs y) → now ≡ set qs y (behind (queue_of qs y)) → now ≡ qs
+not_taken qs now y h e = e ∙ (ap (set qs y) (none_behind (queue_of qs y) h) ∙ set-get_or qs y [])
+  where
+    none_behind : (ms : List Msg) → None ≡ first_of ms → behind ms ≡ ms
+    none_behind [] f = refl
+    none_behind (x ∷ xs) f = absurd cc
+
+module _ (name : List ℕ) (c : Config) (first : ℕ) (b : IsInBounds c) (A : Config → State → Type 0) (apart : IsApart A) (s : State) where
+  -- an answer does nothing
+  pub ignored : (far : Far) (qs : List (List Msg)) (m : Msg) (rest : List Msg) (w : Option (List ℕ)) → far.answers ≡ m ∷ rest → Holds A c first s far qs
+      → Went name A (λ now. now ≡ record far { answers = rest }) c first s qs w w
+  ignored far qs m rest w e h = went_quietly name c first b A (λ now. now ≡ record far { answers = rest }) s (record far { answers = rest }) qs w refl (lose_answer name c first b A apart s far qs m rest h e)
+
+  module _ (tells : Config → Far → Type 0) (far : Far) (y : ℕ) (present : far.present ≡ Some y) (is : IsNode y) (w : Option (List ℕ)) where
+    -- the first message is handled by the node
+    pub handed_on : (qs : List (List Msg)) (m : Msg) (rest : List Msg) → Holds A c first s far qs → queue_of qs y ≡ m ∷ rest → IsHanded c far m (tells c) → Went name A (WithNode tells c y) c first s (set qs y rest) w w
+    handed_on qs m rest h q i =
+        let same : i.node ≡ y = some_is (sym i.present ∙ present) in
+        let t = subst (λ n. tells c (record { nodes = (handed c far.nodes n m).state.nodes; present = Some n; answers = far.answers ++ (handed c far.nodes n m).sends })) same i.told in
+        went_quietly name c first b A (WithNode tells c y) s (record { nodes = (handed c far.nodes y m).state.nodes; present = Some y; answers = far.answers ++ (handed c far.nodes y m).sends }) (set qs y rest) w
+        (t, refl) (hand_first name c first b A apart s far qs y m rest h is q (first_waits first s.network qs far.answers y m rest h.news is q))
+
+    -- the first message is lost
+    pub gone_on : (qs : List (List Msg)) (m : Msg) (rest : List Msg) → Holds A c first s far qs → queue_of qs y ≡ m ∷ rest → tells c far → Went name A (WithNode tells c y) c first s (set qs y rest) w w
+    gone_on qs m rest h q t = went_quietly name c first b A (WithNode tells c y) s far (set qs y rest) w (t, present) (lose_first name c first b A apart s far qs y m rest h is q)
+
+  -- an answer was taken, and heard or ignored
+  pub next_on : {R : Type 0} (tells : Config → Far → Type 0) (far : Far) (y : ℕ) (B : Config → State → Type 0) (rs : List (List Msg)) (old new : Option (List ℕ)) (m : Msg) (r : Result R Ended) → far.present ≡ Some y → (i : IsNext far (tells c) m)
+      → GoesOn name B (λ now. now ≡ record far { answers = i.rest }) c first s rs old new r → GoesOn name B (WithNode tells c y) c first s rs old new r
+  next_on tells far y B rs old new m r present i g =
+      goes_as name c first b B (λ now. now ≡ record far { answers = i.rest }) (WithNode tells c y) s rs old new r (λ now e. subst (λ x. WithNode tells c y x) (sym e) (i.told, present)) g
+
+  -- nothing is taken
+  pub unheard : (T U : Far → Type 0) (far : Far) (qs : List (List Msg)) (w : Option (List ℕ)) (f : Fault) → Receives far T (Err f) → GoesOn name A U c first s qs w w (missed_by f)
+  unheard T U far qs w faults.Link h = absurd h
+  unheard T U far qs w (faults.BadFrame fault) h = absurd h
+  unheard T U far qs w faults.NoMemory h = stopped_here name c first b s w
+
+  -- nothing is sent
+  pub unsent : (tells : Config → Far → Type 0) (quiet : Bool) (far : Far) (y : ℕ) (m : Msg) (rest : List Msg) (qs now : List (List Msg)) (w : Option (List ℕ)) (f : Fault) → far.present ≡ Some y → IsNode y → Holds A c first s far qs
+      → queue_of qs y ≡ m ∷ rest → now ≡ set qs y rest → SendsTo c far m quiet (tells c) (Err f) → (quiet ≡ true) ⊎ GoesOn name A (WithNode tells c y) c first s now w w (missed_by f)
+  unsent tells quiet far y m rest qs now w faults.Link present is h q e (inl gone) = inr (subst (λ (x : List (List Msg)). Went name A (WithNode tells c y) c first s x w w) (sym e) (gone_on tells far y present is w qs m rest h q gone.told))
+  unsent tells quiet far y m rest qs now w faults.Link present is h q e (inr silent) = inl silent
+  unsent tells quiet far y m rest qs now w (faults.BadFrame fault) present is h q e sent = absurd sent
+  unsent tells quiet far y m rest qs now w faults.NoMemory present is h q e sent = inr (stopped_here name c first b s w)
+
+  -- a node is dialed
+  pub dialed : (tells : Config → Far → Type 0) (far : Far) (y : ℕ) (qs : List (List Msg)) (w : Option (List ℕ)) → Holds A c first s far qs → tells c (record { nodes = far.nodes; present = Some y; answers = [] }) → Went name A (WithNode tells c y) c first s qs w w
+  dialed tells far y qs w h t = went_quietly name c first b A (WithNode tells c y) s (record { nodes = far.nodes; present = Some y; answers = [] }) qs w (t, refl) (turn_to name c first b A apart s far (Some y) qs h)
+
+  -- a node wasn't reached, and what waits for it is dropped
+  pub missed : (T : Far → Type 0) (far : Far) (y : ℕ) (qs : List (List Msg)) (w : Option (List ℕ)) → IsNode y → Holds A c first s far qs → T (record { nodes = far.nodes; present = None; answers = [] }) → Went name A T c first s (set qs y []) w w
+  missed T far y qs w is h t =
+      let end : Far = record { nodes = far.nodes; present = None; answers = [] } in
+      let m = turn_to name c first b A apart s far None qs h in
+      went_quietly name c first b A T s end (set qs y []) w t (moved_on name c first b A A s end end qs (set qs y []) [] [] m (lose_queue name c first b A apart m.state end qs y m.holds is))
+
+  -- what waits for a node is dropped
+  pub dropped : (T : Far → Type 0) (qs : List (List Msg)) (y : ℕ) (old new : Option (List ℕ)) → IsNode y → Went name A T c first s qs old new → Went name A T c first s (set qs y []) old new
+  dropped T qs y old new is w =
+      went_on name c first b A A T T s qs (set qs y []) old new new w (went_quietly name c first b A T w.moved.state w.far (set qs y []) new w.told (lose_queue name c first b A apart w.moved.state w.far qs y w.moved.holds is))

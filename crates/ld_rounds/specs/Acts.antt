@@ -1,0 +1,18 @@
+-- What a step of an actor does.
+use Rattle.std.specs.Prelude.{◌≡◌, List, false}
+use Rattle.std.specs.List.{AllByRecursion}
+use Rattle.ld_machine.specs.State.{State, Done}
+use Rattle.ld_transcript.specs.declared.line.Line.{Line}
+use Rattle.ld_msg.specs.declared.msg.Msg.{Msg}
+use Rattle.ld_rounds.specs.News.{is_answer}
+use Rattle.ld_rounds.specs.Drives.{own_lines}
+
+-- the actor stands for its part of the state then, neither nodes nor messages have changed, and the lines and the messages are those, all its own
+pub record IsActed (stands : State → Type 0) (s : State) (ls : List Line) (ms : List Msg) (done : Done) : Type 0 where
+  pub actor : stands done.state
+  pub nodes : done.state.nodes ≡ s.nodes
+  pub network : done.state.network ≡ s.network
+  pub lines : ls ≡ done.lines
+  pub sends : ms ≡ done.sends
+  pub own : own_lines ls ≡ ls
+  pub asks : AllByRecursion (λ m. is_answer m ≡ false) ms

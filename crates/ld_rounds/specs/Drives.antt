@@ -1,0 +1,108 @@
+-- What a drive stands for, and the steps of the written machine that it takes.
+use Rattle.std.specs.Prelude.{ℕ, ◌≡◌, List, length, Bool, true, false, filter, Option, Some}
+use Rattle.std.specs.List.{AllByRecursion}
+use Rattle.std.specs.Io.KnownBytes.{Appends}
+use Rattle.ld_config.specs.declared.config.Config.{Config}
+use Rattle.ld_schedule.specs.declared.event.Event.{Event}
+use Rattle.ld_schedule.specs.declared.event.Event.TheVariants as events
+use Rattle.ld_transcript.specs.declared.line.Line.{Line}
+use Rattle.ld_transcript.specs.declared.line.Line.TheVariants as lines
+use Rattle.ld_transcript.specs.Text.{text}
+use Rattle.ld_msg.specs.declared.msg.Msg.{Msg}
+use Rattle.ld_msg.specs.Network.{Network}
+use Rattle.ld_machine.specs.Disk.{Node}
+use Rattle.ld_machine.specs.State.{State}
+use Rattle.ld_machine.specs.Run.{state_after, lines_of}
+use Rattle.ld_bounds.specs.Sound.{IsSound}
+use Rattle.ld_dial.specs.Far.{Far}
+use Rattle.std.specs.declared.result.Result.{Result}
+use Rattle.std.specs.declared.result.Result.TheVariants.{Ok, Err}
+use Rattle.ld_rounds.specs.declared.ended.Ended.{Ended}
+use Rattle.ld_rounds.specs.declared.ended.Ended.TheVariants as ends
+use Rattle.ld_rounds.specs.News.{AreNews}
+use Rattle.ld_rounds.specs.Output.{AppendsPart}
+
+-- a line of an actor, and not of a node, of a message or of a step without lines
+abbrev pub is_own : Line → Bool
+is_own (lines.NodeFormatted node generation) = false
+is_own (lines.NodeLost node log epoch) = false
+is_own (lines.NodeUp node) = false
+is_own (lines.NodeDown node) = false
+is_own (lines.NodeWiped node) = false
+is_own (lines.NodeFailed node) = false
+is_own (lines.NodeFull node) = false
+is_own (lines.NodeRebuilt node log) = false
+is_own (lines.NodeRefusedRegister node) = false
+is_own (lines.NodeRefusedGenLimit node) = false
+is_own (lines.Message message from to kind number) = false
+is_own lines.Nothing = false
+is_own _ = true
+
+abbrev pub own_lines : List Line → List Line
+own_lines ls = filter is_own ls
+
+-- an event of the drive of the actor of this name
+abbrev pub IsDriven : List ℕ → Event → Type 0
+IsDriven name (events.Activate n l) = n ≡ name
+IsDriven name (events.Append n payload) = n ≡ name
+IsDriven name (events.Retry n) = n ≡ name
+IsDriven name (events.Open n l from until) = n ≡ name
+IsDriven name (events.Poll n) = n ≡ name
+IsDriven name (events.Deliver i) = Unit {0}
+IsDriven name (events.Lose i) = Unit {0}
+IsDriven name _ = ⊥
+
+-- such events lead from the one state to the other, and those are the actor's lines of their steps
+pub record Goes (name : List ℕ) (c : Config) (s next : State) (ls : List Line) : Type 0 where
+  pub steps : List Event
+  pub driven : AllByRecursion (IsDriven name) steps
+  pub state : next ≡ state_after c s steps
+  pub lines : ls ≡ own_lines (lines_of c s steps)
+
+-- an actor's part of a state is told by neither the nodes nor the messages
+abbrev pub IsApart : (Config → State → Type 0) → Type 0
+IsApart stands = (c : Config) (s : State) (nodes : List (ℕ × Node)) (network : Network) → stands c s → stands c (record s { nodes = nodes; network = network })
+
+-- the actor, the nodes and the messages that are new from the first place on are those of the state
+pub record Holds (stands : Config → State → Type 0) (c : Config) (first : ℕ) (s : State) (far : Far) (queues : List (List Msg)) : Type 0 where
+  pub sound : IsSound c s
+  pub actor : stands c s
+  pub nodes : s.nodes ≡ far.nodes
+  pub count : length queues ≡ 17
+  pub news : AreNews first s.network queues far.answers
+
+-- steps led to a state that holds, with these lines
+pub record Moved (name : List ℕ) (stands : Config → State → Type 0) (c : Config) (first : ℕ) (s : State) (far : Far) (queues : List (List Msg)) (ls : List Line) : Type 0 where
+  pub state : State
+  pub goes : Goes name c s state ls
+  pub holds : Holds stands c first state far queues
+
+-- it went on to a state for which it stands, and wrote the actor's lines of the steps
+pub record Went (name : List ℕ) (stands : Config → State → Type 0) (tells : Far → Type 0) (c : Config) (first : ℕ) (s : State) (queues : List (List Msg)) (old new : Option (List ℕ)) : Type 0 where
+  pub far : Far
+  pub lines : List Line
+  pub told : tells far
+  pub moved : Moved name stands c first s far queues lines
+  pub written : Appends old new (text lines)
+
+-- it went on to a state, and wrote the actor's lines of the steps, the last ones in part
+pub record Stopped (name : List ℕ) (c : Config) (s : State) (old new : Option (List ℕ)) : Type 0 where
+  pub state : State
+  pub lines : List Line
+  pub goes : Goes name c s state lines
+  pub written : AppendsPart old new (text lines)
+
+-- how it went where the drive ends: at want of memory and where the output failed the last step may have been done in part
+abbrev pub Stops : List ℕ → (Config → State → Type 0) → (Far → Type 0) → Config → ℕ → State → List (List Msg) → Option (List ℕ) → Option (List ℕ) → Ended → Type 0
+Stops name stands tells c first s queues old new ends.NoMemory = Stopped name c s old new
+Stops name stands tells c first s queues old new ends.Write = Stopped name c s old new
+Stops name stands tells c first s queues old new _ = Went name stands tells c first s queues old new
+
+-- where it goes on, and where the drive ends
+abbrev pub GoesOn : {T : Type 0} → List ℕ → (Config → State → Type 0) → (Far → Type 0) → Config → ℕ → State → List (List Msg) → Option (List ℕ) → Option (List ℕ) → Result T Ended → Type 0
+GoesOn name stands tells c first s queues old new (Ok _) = Went name stands tells c first s queues old new
+GoesOn name stands tells c first s queues old new (Err ended) = Stops name stands tells c first s queues old new ended
+
+-- the nodes are told of, and this one is present
+abbrev pub WithNode : (Config → Far → Type 0) → Config → ℕ → Far → Type 0
+WithNode tells c y far = tells c far × (far.present ≡ Some y)

@@ -1,0 +1,29 @@
+-- Why a drive ends in a round.
+use Rattle.std.specs.Prelude.{ℕ, ◌≤◌, List, ◌++◌, Option}
+use Rattle.std.specs.Io.KnownBytes.{Appends}
+use Rattle.ld_io.specs.Causes.{Rose}
+use Rattle.ld_transcript.specs.declared.line.Line.{Line}
+use Rattle.ld_transcript.specs.Text.{text}
+use Rattle.ld_rounds.specs.declared.ended.Ended.{Ended}
+use Rattle.ld_rounds.specs.declared.ended.Ended.TheVariants as ends
+use Rattle.ld_rounds.specs.Ends.{IsSaid}
+
+-- the output's count of faults hasn't fallen, and bytes were added to what is written
+pub record IsLater (before now : ℕ) (old new : Option (List ℕ)) : Type 0 where
+  pub faults : before ≤ now
+  pub more : List ℕ
+  pub written : Appends old new more
+
+-- the last lines that were written say why
+pub record SaysWhy (old new : Option (List ℕ)) (ended : Ended) : Type 0 where
+  pub before : List ℕ
+  pub lines : List Line
+  pub written : Appends old new (before ++ text lines)
+  pub said : IsSaid lines ended
+
+-- the output's count of faults before and now, and what was written before and is now
+abbrev pub IsEnding : ℕ → ℕ → Option (List ℕ) → Option (List ℕ) → Ended → Type 0
+IsEnding before now old new ends.Write = Rose before now
+IsEnding before now old new ends.NoMemory = Unit {0}
+IsEnding before now old new (ends.BadFrame fault) = Unit {0}
+IsEnding before now old new ended = SaysWhy old new ended

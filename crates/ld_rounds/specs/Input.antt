@@ -1,0 +1,42 @@
+-- Payloads that come one after the other.
+use Rattle.std.specs.Prelude.{ℕ, ◌≡◌, List, [], ◌∷◌, Option, None, Some}
+use Rattle.std.specs.declared.result.Result.{Result}
+use Rattle.std.specs.declared.result.Result.TheVariants.{Ok, Err}
+use Rattle.ld_io.specs.Causes.{Rose}
+use Rattle.ld_rounds.specs.declared.payloads.InputFault.{InputFault}
+use Rattle.ld_rounds.specs.declared.payloads.InputFault.TheVariants as faults
+
+-- the payloads of the lines that are still to come, and behind them the end of the input, or the line that is off and the place in it
+pub record Input : Type 0 where
+  pub payloads : List (List ℕ)
+  pub off : Option (ℕ × ℕ)
+
+-- nothing is still to come
+abbrev pub all_taken : Input
+all_taken = record { payloads = []; off = None }
+
+-- the next payload was taken
+pub record GivesNext (old : Input) (new : Option Input) (payload : List ℕ) : Type 0 where
+  pub rest : List (List ℕ)
+  pub first : old.payloads ≡ payload ∷ rest
+  pub left : new ≡ Some (record { payloads = rest; off = old.off })
+
+-- a line that is off comes next
+pub record IsOff (old : Input) (line place : ℕ) : Type 0 where
+  pub none : old.payloads ≡ []
+  pub off : old.off ≡ Some (line, place)
+
+abbrev pub GivesOf : Input → Option Input → Result (Option (List ℕ)) InputFault → Type 0
+GivesOf old new (Ok (Some payload)) = GivesNext old new payload
+GivesOf old new (Ok None) = (old ≡ all_taken) × (new ≡ Some all_taken)
+GivesOf old new (Err (faults.BadLine line place)) = IsOff old line place
+GivesOf old new (Err _) = Unit {0}
+
+abbrev pub Gives : Option Input → Option Input → Result (Option (List ℕ)) InputFault → Type 0
+Gives None new result = Unit {0}
+Gives (Some old) new result = GivesOf old new result
+
+-- a read failed, where that is said
+abbrev pub IsReadFault : ℕ → ℕ → InputFault → Type 0
+IsReadFault before now faults.Read = Rose before now
+IsReadFault before now _ = Unit {0}

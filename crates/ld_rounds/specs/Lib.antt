@@ -1,0 +1,9 @@
+pub mod Acts
+pub mod Drives
+pub mod Endings
+pub mod Ends
+pub mod Input
+pub mod News
+pub mod Output
+pub mod Queued
+pub mod Telling

@@ -1,0 +1,56 @@
+// An actor that is driven.
+ghost use Rattle.std.specs.Prelude.{ℕ, List, IsTrue, IfOk, IfSome};
+ghost use Rattle.ld_config.specs.declared.config.Config.{Config};
+ghost use Rattle.ld_config.specs.Bounds.{IsInBounds};
+ghost use Rattle.ld_msg.specs.declared.msg.Msg.{Msg as Message};
+ghost use Rattle.ld_msg.specs.Bounds.{IsMessage};
+ghost use Rattle.ld_node_bounds.specs.Messages.{AreMessages};
+ghost use Rattle.ld_msg.specs.Network.{Network};
+ghost use Rattle.ld_machine.specs.Disk.{Node as Place};
+ghost use Rattle.ld_machine.specs.State.{State};
+ghost use Rattle.ld_machine.specs.Step.{comes_to};
+ghost use Rattle.ld_bounds.specs.Sound.{IsSound};
+ghost use Rattle.ld_rounds.specs.Ends.{IsSaid};
+ghost use Rattle.ld_rounds.specs.Acts.{IsActed};
+
+use crate::Ended;
+use ld_ids::NoMemory;
+use ld_msg::{Msg, Outbox};
+use ld_transcript::Line;
+use std::alloc::Global;
+
+/// What an actor writes and sends, and how its drive ends by that, where it does.
+#[derive(Debug, Drop)]
+pub struct Heard {
+    /// Its lines of the transcript, in their order. None of them is a message's.
+    pub lines: Vec<Line>,
+    /// Its messages, in the order of sending.
+    pub sends: Outbox,
+    /// How the drive ends.
+    pub end: Option<Ended>,
+}
+
+/// A sequencer or a reader, with its register, that is driven against nodes.
+pub trait Actor {
+    /// It stands for its part of a state of the written machine.
+    ghost stands: { Self → Config → State → Type 0 };
+
+    /// What it may take: messages to one of its kind.
+    ghost hears: { Self → Message → Type 0 };
+
+    /// Whether the message is for it, by the addressee and the log.
+    fn is_for(&self, message: &Msg) -> bool
+        ensures { IsTrue result → hears self.now message.now };
+
+    /// Takes a message of a node that is for it. It ends where it says so in a line. After want of memory it is of no use.
+    fn hear(&mut self, alloc: Global, message: &Msg) -> Result<Heard, NoMemory>
+        requires message { IsMessage message.now }
+        requires hears { hears self.old message.now }
+        ensures messages { IfOk result (λ heard. AreMessages heard.sends) }
+        ensures acted { IfOk result (λ heard. (c : Config) (s : State) → IsInBounds c → IsSound c s → stands self.old c s
+            → IsActed (stands self.new c) s heard.lines.items heard.sends (comes_to c s message.now message.now.to)) }
+        ensures said { IfOk result (λ heard. IfSome heard.end (IsSaid heard.lines.items)) };
+
+    /// That part is told by neither the nodes nor the messages.
+    ghost stands_apart: { (actor : Self) (c : Config) (s : State) (nodes : List (ℕ × Place)) (network : Network) → stands actor c s → stands actor c (record s { nodes = nodes; network = network }) };
+}

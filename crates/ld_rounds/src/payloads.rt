@@ -1,0 +1,33 @@
+// Where payloads come from.
+ghost use Rattle.std.specs.Prelude.{◌≡◌, ◌≤◌, ℕ, Option, IfErr};
+ghost use Rattle.ld_rounds.specs.Input.{Input, Gives, IsReadFault};
+
+use ld_ids::{NoMemory, Payload};
+use std::alloc::Global;
+
+/// Why no payload is given.
+#[derive(Clone, Copy, Debug, PartialEq, Eq)]
+pub enum InputFault {
+    /// The line, counted from 1, is the first one that is off, and this is the place in it.
+    BadLine { line: u64, place: u64 },
+    /// A read failed.
+    Read,
+    /// There is no memory left.
+    NoMemory,
+}
+
+/// Payloads, one after the other.
+pub trait Payloads {
+    /// What is still to come, where this tells it.
+    ghost coming: { Self → Option Input };
+
+    /// How often a read has failed, up to the greatest 64-bit number.
+    ghost faults: { Self → ℕ };
+
+    /// Takes the next payload; none is at the end of the input. It is refused with `BadLine` where the next line is off, with
+    /// `Read` where a read failed, and for want of memory.
+    fn next(&mut self, alloc: Global) -> Result<Option<Payload>, InputFault>
+        ensures gives { Gives (coming self.old) (coming self.new) result }
+        ensures later { faults self.old ≤ faults self.new }
+        ensures cause { IfErr result (IsReadFault (faults self.old) (faults self.new)) };
+}

@@ -1,0 +1,233 @@
+// A round: each node is visited, and what waits for it is sent.
+ghost use Rattle.std.specs.Prelude.{◌≡◌, ◌⊎◌, ◌∷◌, ℕ, List, Option, Some, true, set, IfErr, IfSome, MatchResult};
+ghost use Rattle.ld_config.specs.declared.config.Config.{Config};
+ghost use Rattle.ld_config.specs.Bounds.{IsInBounds};
+ghost use Rattle.ld_msg.specs.declared.msg.Msg.{Msg as Message};
+ghost use Rattle.ld_msg.specs.declared.msg.Who.TheVariants.{Node};
+ghost use Rattle.ld_msg.specs.Bounds.{IsMessage};
+ghost use Rattle.ld_node_bounds.specs.Messages.{AreMessages};
+ghost use Rattle.ld_machine.specs.State.{State};
+ghost use Rattle.ld_dial.specs.Far.{Far};
+ghost use Rattle.ld_rounds.specs.Queued.{queue_of};
+ghost use Rattle.ld_rounds.specs.Telling.{HasTold, IsTelling, is_of, is_answered, missed_by};
+ghost use Rattle.ld_rounds.specs.Drives.{Holds, GoesOn, WithNode};
+ghost use Rattle.ld_rounds.specs.Ends.{IsSaid};
+ghost use Rattle.ld_rounds.specs.Endings.{IsEnding, IsLater};
+ghost use Rattle.ld_rounds.specs.Output.{WritesFault};
+
+use crate::{Actor, Ended, Heard, Queues, write_lines};
+use ld_dial::{Fault, Nodes};
+use ld_ids::{NodeId, NodeSet};
+use ld_io::Sink;
+use ld_msg::{Body, Msg, Who};
+use std::alloc::Global;
+
+/// Whether a node answers a message of this kind.
+fn is_answered(message: &Msg) -> bool
+    ensures { result ≡ is_answered message.now.body }
+{
+    match &message.body {
+        Body::Store { .. } => true,
+        Body::DigestAsk { .. } => true,
+        Body::ReadAsk { .. } => true,
+        _ => false,
+    }
+}
+
+/// Whether the message comes of the node.
+fn is_of(message: &Msg, node: NodeId) -> bool
+    ensures { result ≡ is_of node message.now.from }
+{
+    match &message.from {
+        Who::Node(sender) => *sender == node,
+        _ => false,
+    }
+}
+
+/// What comes of a fault: where the link failed the drive goes on with another node, and else it ends.
+fn missed(fault: Fault) -> Result<bool, Ended>
+    ensures value { result ≡ missed_by fault }
+    ensures cause { (before : ℕ) (now : ℕ) (old : Option (List ℕ)) (new : Option (List ℕ)) → IfErr result (IsEnding before now old new) }
+{
+    match fault {
+        Fault::Link => Ok(false),
+        Fault::BadFrame(fault) => Err(Ended::BadFrame(fault)),
+        Fault::NoMemory => Err(Ended::NoMemory),
+    }
+}
+
+/// What an actor did: its messages wait for their nodes, and its lines are written.
+pub fn tell<O: Sink>(
+    alloc: Global,
+    heard: Heard,
+    queues: &mut Queues,
+    out: &mut O,
+) -> Result<(), Ended>
+    requires { AreMessages heard.sends }
+    ensures told { MatchResult result
+        (λ _. HasTold heard queues.old queues.new (O.written out.old) (O.written out.new))
+        (IsTelling heard queues.old queues.new (O.written out.old) (O.written out.new)) }
+    ensures cause { IfErr result (λ ended. (heard.end ≡ Some ended) ⊎ WritesFault (O.faults out.old) (O.faults out.new) ended) }
+    ensures ending { IfSome heard.end (IsSaid heard.lines.items) → IfErr result (IsEnding (O.faults out.old) (O.faults out.new) (O.written out.old) (O.written out.new)) }
+    ensures later { IsLater (O.faults out.old) (O.faults out.new) (O.written out.old) (O.written out.new) }
+{
+    let Heard { lines, sends, end } = heard;
+    queues.push(sends)?;
+    write_lines(alloc, &lines, out)?;
+    match end {
+        Some(end) => Err(end),
+        None => Ok(()),
+    }
+}
+
+/// Takes one answer of the present node. One of another node, for another actor or of another log does nothing. False
+/// where the node fails or has ended.
+fn listen<A: Actor, N: Nodes, O: Sink>(
+    alloc: Global,
+    node: NodeId,
+    actor: &mut A,
+    nodes: &mut N,
+    queues: &mut Queues,
+    out: &mut O,
+) -> Result<bool, Ended>
+    ensures held { (name : List ℕ) (c : Config) (first : ℕ) (s : State) (far : Far) → IsInBounds c
+        → N.tells nodes.old c far → far.present ≡ Some node → Holds (A.stands actor.old) c first s far queues.old
+        → GoesOn name (A.stands actor.new) (WithNode (N.tells nodes.new) c node) c first s queues.new (O.written out.old) (O.written out.new) result }
+    ensures silent { N.silent nodes.new ≡ N.silent nodes.old }
+    ensures cause { IfErr result (IsEnding (O.faults out.old) (O.faults out.new) (O.written out.old) (O.written out.new)) }
+    ensures later { IsLater (O.faults out.old) (O.faults out.new) (O.written out.old) (O.written out.new) }
+{
+    let next = match nodes.receive(alloc) {
+        Ok(next) => next,
+        Err(fault) => return missed(fault),
+    };
+    let Some(answer) = next else {
+        return Ok(false);
+    };
+    take(alloc, node, &answer, actor, queues, out)?;
+    Ok(true)
+}
+
+/// The actor takes the answer of the node, where it is of this node and for this actor.
+fn take<A: Actor, O: Sink>(
+    alloc: Global,
+    node: NodeId,
+    answer: &Msg,
+    actor: &mut A,
+    queues: &mut Queues,
+    out: &mut O,
+) -> Result<(), Ended>
+    requires { IsMessage answer.now }
+    ensures held { (name : List ℕ) (c : Config) (first : ℕ) (s : State) (far : Far) (rest : List Message) → IsInBounds c
+        → far.answers ≡ answer.now ∷ rest → Holds (A.stands actor.old) c first s far queues.old
+        → GoesOn name (A.stands actor.new) (λ now. now ≡ record far { answers = rest }) c first s queues.new (O.written out.old) (O.written out.new) result }
+    ensures cause { IfErr result (IsEnding (O.faults out.old) (O.faults out.new) (O.written out.old) (O.written out.new)) }
+    ensures later { IsLater (O.faults out.old) (O.faults out.new) (O.written out.old) (O.written out.new) }
+{
+    if !is_of(answer, node) || !actor.is_for(answer) {
+        return Ok(());
+    }
+    let Ok(heard) = actor.hear(alloc, answer) else {
+        return Err(Ended::NoMemory);
+    };
+    tell(alloc, heard, queues, out)
+}
+
+/// Sends a message to the present node, and takes one answer of it, where a node answers such a message. False where the
+/// node fails or has ended.
+fn exchange<A: Actor, N: Nodes, O: Sink>(
+    alloc: Global,
+    node: NodeId,
+    message: &Msg,
+    actor: &mut A,
+    nodes: &mut N,
+    queues: &mut Queues,
+    out: &mut O,
+) -> Result<bool, Ended>
+    requires { IsMessage message.now }
+    ensures held { (name : List ℕ) (c : Config) (first : ℕ) (s : State) (far : Far) (before : List (List Message)) (rest : List Message) → IsInBounds c
+        → N.tells nodes.old c far → far.present ≡ Some node → Holds (A.stands actor.old) c first s far before
+        → queue_of before node ≡ message.now ∷ rest → queues.old ≡ set before node rest
+        → (N.silent nodes.new ≡ true) ⊎ GoesOn name (A.stands actor.new) (WithNode (N.tells nodes.new) c node) c first s queues.new (O.written out.old) (O.written out.new) result }
+    ensures silent { N.silent nodes.old ≡ true → N.silent nodes.new ≡ true }
+    ensures cause { IfErr result (IsEnding (O.faults out.old) (O.faults out.new) (O.written out.old) (O.written out.new)) }
+    ensures later { IsLater (O.faults out.old) (O.faults out.new) (O.written out.old) (O.written out.new) }
+{
+    let _ = node.number();
+    match nodes.send(alloc, message) {
+        Ok(()) => {}
+        Err(fault) => return missed(fault),
+    }
+    if !is_answered(message) {
+        return Ok(true);
+    }
+    listen(alloc, node, actor, nodes, queues, out)
+}
+
+/// Visits a node, where messages wait for it: it is dialed, and gets one after the other, until none waits. What its
+/// answers make wait for it is sent in the same visit. Where it can't be reached, fails or ends, what waits for it is
+/// dropped.
+pub fn visit<A: Actor, N: Nodes, O: Sink>(
+    alloc: Global,
+    node: NodeId,
+    actor: &mut A,
+    nodes: &mut N,
+    queues: &mut Queues,
+    out: &mut O,
+) -> Result<(), Ended>
+    // Where the nodes tell what stands there: what was delivered, heard and lost are steps of the written machine from any
+    // state that the drive stands for, and the lines that were written are the actor's lines of those steps.
+    ensures held { (name : List ℕ) (c : Config) (first : ℕ) (s : State) (far : Far) → IsInBounds c
+        → N.tells nodes.old c far → Holds (A.stands actor.old) c first s far queues.old
+        → (N.silent nodes.new ≡ true) ⊎ GoesOn name (A.stands actor.new) (N.tells nodes.new c) c first s queues.new (O.written out.old) (O.written out.new) result }
+    ensures silent { N.silent nodes.old ≡ true → N.silent nodes.new ≡ true }
+    ensures cause { IfErr result (IsEnding (O.faults out.old) (O.faults out.new) (O.written out.old) (O.written out.new)) }
+    ensures later { IsLater (O.faults out.old) (O.faults out.new) (O.written out.old) (O.written out.new) }
+{
+    if !queues.has(node) {
+        return Ok(());
+    }
+    match nodes.dial(node) {
+        Ok(()) => {}
+        Err(_) => {
+            queues.drop_all(node);
+            return Ok(());
+        }
+    }
+    'frames: for _ in 0..u64::MAX {
+        let Some(message) = queues.next(node) else {
+            return Ok(());
+        };
+        if !exchange(alloc, node, &message, actor, nodes, queues, out)? {
+            queues.drop_all(node);
+            return Ok(());
+        }
+    }
+    Ok(())
+}
+
+/// Visits the nodes of a set in rising order.
+pub fn round<A: Actor, N: Nodes, O: Sink>(
+    alloc: Global,
+    set: &NodeSet,
+    actor: &mut A,
+    nodes: &mut N,
+    queues: &mut Queues,
+    out: &mut O,
+) -> Result<(), Ended>
+    // Where the nodes tell what stands there: what was delivered, heard and lost are steps of the written machine from any
+    // state that the drive stands for, and the lines that were written are the actor's lines of those steps.
+    ensures held { (name : List ℕ) (c : Config) (first : ℕ) (s : State) (far : Far) → IsInBounds c
+        → N.tells nodes.old c far → Holds (A.stands actor.old) c first s far queues.old
+        → (N.silent nodes.new ≡ true) ⊎ GoesOn name (A.stands actor.new) (N.tells nodes.new c) c first s queues.new (O.written out.old) (O.written out.new) result }
+    ensures silent { N.silent nodes.old ≡ true → N.silent nodes.new ≡ true }
+    ensures cause { IfErr result (IsEnding (O.faults out.old) (O.faults out.new) (O.written out.old) (O.written out.new)) }
+    ensures later { IsLater (O.faults out.old) (O.faults out.new) (O.written out.old) (O.written out.new) }
+{
+    let mut place = 0;
+    'nodes: while let Some(node) = set.nth(place) {
+        visit(alloc, node, actor, nodes, queues, out)?;
+        place += 1;
+    }
+    Ok(())
+}
