@@ -1,15 +1,14 @@
 // A node on a disk in memory, beside a register on another one.
-ghost use Rattle.std.specs.Prelude.{◌≡◌, ◌≤◌, ◌<◌, ◌-◌, ◌^◌, IfOk, OnOk, true, false};
+ghost use Rattle.std.specs.Prelude.{◌≡◌, IfOk};
 ghost use Rattle.ld_msg.specs.Bounds.{IsMessage, IsSummary, Fits};
 ghost use Rattle.ld_msg.specs.declared.msg.Who.TheVariants as whos;
-ghost use Rattle.ld_node.specs.Node.{is_blank};
 
 use crate::{Node, NodeFault, Ticked};
 use ld_config::{Config, Specs};
 use ld_disk::{Disk, Fault, MemDisk};
 use ld_ids::{LogId, NoMemory, NodeId, NodeSet, Payload, Spec};
 use ld_lsn::Lsn;
-use ld_msg::{Body, Entries, Entry, Msg, Replies, Summary, What, Who};
+use ld_msg::{Body, Msg, Summary, What, Who};
 use ld_register::{DiskRegister, Register, RegisterFault};
 use std::alloc::Global;
 use std::test::Fail;
@@ -43,17 +42,14 @@ fn new_register(alloc: Global) -> Result<DiskRegister<MemDisk>, NoMemory> {
     Ok(DiskRegister::new(alloc, new_disk(alloc)?))
 }
 
-/// Log 1 on the nodes 1, 2 and 3.
+/// Log 1 on node 1.
 fn config(alloc: Global) -> Result<Config, NoMemory> {
-    let set = NodeSet::empty()
-        .with(node_of(1)?)
-        .with(node_of(2)?)
-        .with(node_of(3)?);
+    let set = NodeSet::empty().with(node_of(1)?);
     let mut logs = Specs::new(alloc);
     logs.push(Spec {
         log: log_of(1)?,
         set,
-        r: 2,
+        r: 1,
         extras: 0,
     })?;
     Ok(Config { nodes: set, logs })
@@ -68,15 +64,24 @@ fn loaded(alloc: Global, disk: MemDisk) -> Result<Node<MemDisk>, NodeFault> {
     }
 }
 
-/// Node 1, formatted by the register.
-fn formatted(alloc: Global, reg: &mut DiskRegister<MemDisk>) -> Result<Node<MemDisk>, NodeFault>
-    ensures { IfOk result (λ node. is_blank node ≡ false) }
-{
-    let mut node = loaded(alloc, new_disk(alloc)?)?;
+/// The generation under which a blank node is formatted.
+fn drawn<D: Disk, R: Register>(
+    alloc: Global,
+    node: &mut Node<D>,
+    reg: &mut R,
+) -> Result<u32, NodeFault> {
     if !node.is_blank() {
         return Err(NodeFault::Full);
     }
-    let _ = node.format(alloc, reg)?;
+    let drawn = node.format(alloc, reg)?;
+    Ok(drawn.gen_)
+}
+
+/// Node 1, formatted by a register of its own.
+fn formatted(alloc: Global) -> Result<Node<MemDisk>, NodeFault> {
+    let mut reg = new_register(alloc)?;
+    let mut node = loaded(alloc, new_disk(alloc)?)?;
+    let _ = drawn(alloc, &mut node, &mut reg)?;
     Ok(node)
 }
 
@@ -93,9 +98,8 @@ fn to_node(from: Who, body: Body) -> Result<Msg, NoMemory>
     })
 }
 
-/// What the sequencer of epoch 1 has stored at a place of it.
-fn store(alloc: Global, esn: u32) -> Result<Msg, NoMemory>
-    requires { (1 ≤ esn) × (esn < 2 ^ 32 - 1) }
+/// What the sequencer of epoch 1 has stored at its first place.
+fn store(alloc: Global) -> Result<Msg, NoMemory>
     ensures { IfOk result IsMessage }
 {
     let mut bytes = Vec::new(alloc);
@@ -103,7 +107,7 @@ fn store(alloc: Global, esn: u32) -> Result<Msg, NoMemory>
     to_node(
         Who::Sequencer(1),
         Body::Store {
-            number: Lsn::new(1, esn),
+            number: Lsn::new(1, 1),
             lng: 0,
             what: What::Rec(Payload::new(bytes)),
         },
@@ -122,97 +126,61 @@ fn digest_ask() -> Result<Msg, NoMemory>
     )
 }
 
-fn release(esn: u32) -> Result<Msg, NoMemory>
-    requires { esn < 2 ^ 32 }
-    ensures { IfOk result IsMessage }
-{
-    to_node(
-        Who::Sequencer(1),
-        Body::Release {
-            released: Lsn::new(1, esn),
-        },
-    )
+/// What a node answers.
+#[derive(Clone, Copy, Debug, PartialEq, Eq)]
+enum Answer {
+    Stored,
+    SealedUnder(u32),
+    PageOf(usize),
+    Other,
 }
 
-/// Reader 4 asks for place 9 of epoch 1 in its round 7.
-fn read_ask() -> Result<Msg, NoMemory>
-    ensures { IfOk result IsMessage }
-{
-    to_node(
-        Who::Reader(4),
-        Body::ReadAsk {
-            round: 7,
-            from: Lsn::new(1, 9),
-        },
-    )
+fn answer_in(body: &Body) -> Answer {
+    match body {
+        Body::Stored { .. } => Answer::Stored,
+        Body::SealedHere { sealed, .. } => Answer::SealedUnder(*sealed),
+        Body::DigestPage { entries, .. } => Answer::PageOf(entries.as_slice().len()),
+        _ => Answer::Other,
+    }
 }
 
-/// Node 2 gives place 1 of epoch 1, which is clean there.
-fn page(alloc: Global) -> Result<Msg, NoMemory>
-    ensures { IfOk result IsMessage }
-{
-    let mut list = Vec::new(alloc);
-    list.push(Entry {
-        number: Lsn::new(1, 1),
-        ballot: 1,
-        what: What::Hole,
-    })?;
-    to_node(
-        Who::Node(node_of(2)?),
-        Body::ReadPage {
-            round: 0,
-            from: Lsn::new(1, 1),
-            upto: Lsn::new(1, 8),
-            clean: true,
-            entries: Entries::new(list),
-        },
-    )
-}
-
-/// Gives a node a message.
-fn give(alloc: Global, node: &mut Node<MemDisk>, msg: &Msg) -> Result<Replies, NodeFault>
+/// Gives a node a message, which has one answer.
+fn give<D: Disk>(alloc: Global, node: &mut Node<D>, msg: &Msg) -> Result<Answer, NodeFault>
     requires { IsMessage msg.now }
 {
     if node.is_blank() {
         return Err(NodeFault::Full);
     }
-    node.on_msg(alloc, msg)
-}
-
-/// The one answer of a node.
-fn answer(alloc: Global, node: &mut Node<MemDisk>, msg: &Msg) -> Result<Body, NodeFault>
-    requires { IsMessage msg.now }
-{
-    let replies = give(alloc, node, msg)?;
-    match replies.as_slice().first() {
-        Some(one) => Ok(one.body.copy(alloc)?),
-        None => Err(NodeFault::Full),
+    let replies = node.on_msg(alloc, msg)?;
+    match replies.as_slice() {
+        [one] => Ok(answer_in(&one.body)),
+        _ => Ok(Answer::Other),
     }
 }
 
-/// What a tick did: `c` and the epoch, `r`, `a` and the number of asks, or `n`.
-fn tick_of(
+fn give_store<D: Disk>(alloc: Global, node: &mut Node<D>) -> Result<Answer, NodeFault> {
+    give(alloc, node, &store(alloc)?)
+}
+
+fn give_digest_ask<D: Disk>(alloc: Global, node: &mut Node<D>) -> Result<Answer, NodeFault> {
+    give(alloc, node, &digest_ask()?)
+}
+
+/// Which epoch a tick of the log cleaned, 0 where it did nothing.
+fn cleaned<D: Disk, R: Register>(
     alloc: Global,
-    node: &mut Node<MemDisk>,
+    node: &mut Node<D>,
     log: u32,
-    reg: &mut DiskRegister<MemDisk>,
-) -> Result<(u8, usize), NodeFault> {
+    reg: &mut R,
+) -> Result<u32, NodeFault> {
     if node.is_blank() {
         return Err(NodeFault::Full);
     }
-    let done = node.tick(alloc, log_of(log)?, reg)?;
-    Ok(match &done {
-        Ticked::Cleaned(epoch) => (b'c', *epoch as usize),
-        Ticked::Rebuilt => (b'r', 0),
-        Ticked::Asked(asks) => (b'a', asks.len()),
-        Ticked::Nothing => (b'n', 0),
-    })
-}
-
-/// Closes epoch 1 of log 1 behind its place 1.
-fn close(alloc: Global, reg: &mut DiskRegister<MemDisk>) -> Result<(), RegisterFault> {
-    let log = log_of(1)?;
-    reg.close(alloc, log, 1, &summary())
+    match &node.tick(alloc, log_of(log)?, reg)? {
+        Ticked::Cleaned(epoch) => Ok(*epoch),
+        Ticked::Nothing => Ok(0),
+        _ => Err(NodeFault::Full),
+    }
 }
 
 fn summary() -> Summary
@@ -226,78 +194,30 @@ fn summary() -> Summary
     }
 }
 
+/// Hands out epoch 1 of log 1, and closes it behind its place 1.
+fn close<R: Register>(alloc: Global, reg: &mut R) -> Result<(), RegisterFault> {
+    let log = log_of(1)?;
+    let _ = reg.activate(alloc, log)?;
+    reg.close(alloc, log, 1, &summary())
+}
+
 #[test]
 fn a_store_is_there_after_a_load(rt: HostRuntime) -> Result<(), Fail> {
     let alloc = rt.alloc();
-    let mut reg = new_register(alloc)?;
-    let mut node = formatted(alloc, &mut reg)?;
-    let stored = Body::Stored {
-        number: Lsn::new(1, 1),
-    };
-    assert_eq!(rt; answer(alloc, &mut node, &store(alloc, 1)?)?, stored);
+    let mut node = formatted(alloc)?;
+    assert_eq!(rt; give_store(alloc, &mut node), Ok(Answer::Stored));
     let mut again = loaded(alloc, node.into_disk())?;
-    match &answer(alloc, &mut again, &digest_ask()?)? {
-        Body::DigestPage { entries, .. } => assert_eq!(rt; entries.as_slice().len(), 1),
-        _ => assert!(rt; false),
-    }
+    assert_eq!(rt; give_digest_ask(alloc, &mut again), Ok(Answer::PageOf(1)));
     Ok(())
 }
 
 #[test]
 fn a_seal_is_there_after_a_load(rt: HostRuntime) -> Result<(), Fail> {
     let alloc = rt.alloc();
-    let mut reg = new_register(alloc)?;
-    let mut node = formatted(alloc, &mut reg)?;
-    let _ = answer(alloc, &mut node, &digest_ask()?)?;
+    let mut node = formatted(alloc)?;
+    assert_eq!(rt; give_digest_ask(alloc, &mut node), Ok(Answer::PageOf(0)));
     let mut again = loaded(alloc, node.into_disk())?;
-    let sealed = Body::SealedHere {
-        number: Lsn::new(1, 1),
-        sealed: 2,
-    };
-    assert_eq!(rt; answer(alloc, &mut again, &store(alloc, 1)?)?, sealed);
-    Ok(())
-}
-
-#[test]
-fn a_released_number_is_forgotten(rt: HostRuntime) -> Result<(), Fail> {
-    let alloc = rt.alloc();
-    let mut reg = new_register(alloc)?;
-    let mut node = formatted(alloc, &mut reg)?;
-    assert!(rt; give(alloc, &mut node, &release(5)?)?.is_empty());
-    assert_eq!(rt;
-        answer(alloc, &mut node, &read_ask()?)?,
-        waits(Lsn::new(1, 5))
-    );
-    let mut again = loaded(alloc, node.into_disk())?;
-    assert_eq!(rt;
-        answer(alloc, &mut again, &read_ask()?)?,
-        waits(Lsn::from_u64(0))
-    );
-    Ok(())
-}
-
-/// The answer to the ask of reader 4 where readers may have all up to this number.
-fn waits(released: Lsn) -> Body {
-    Body::ReadWait {
-        round: 7,
-        from: Lsn::new(1, 9),
-        released,
-    }
-}
-
-#[test]
-fn a_node_that_is_formatted_late_is_lost(rt: HostRuntime) -> Result<(), Fail> {
-    let alloc = rt.alloc();
-    let mut reg = new_register(alloc)?;
-    let _ = reg.activate(alloc, log_of(1)?)?;
-    let mut node = formatted(alloc, &mut reg)?;
-    let lost = Body::LostHere {
-        number: Lsn::new(1, 1),
-        round: 0,
-        generation: 1,
-        end: Lsn::from_u64(0),
-    };
-    assert_eq!(rt; answer(alloc, &mut node, &store(alloc, 1)?)?, lost);
+    assert_eq!(rt; give_store(alloc, &mut again), Ok(Answer::SealedUnder(2)));
     Ok(())
 }
 
@@ -305,50 +225,24 @@ fn a_node_that_is_formatted_late_is_lost(rt: HostRuntime) -> Result<(), Fail> {
 fn a_tick_cleans_what_is_closed(rt: HostRuntime) -> Result<(), Fail> {
     let alloc = rt.alloc();
     let mut reg = new_register(alloc)?;
-    let mut node = formatted(alloc, &mut reg)?;
-    let _ = reg.activate(alloc, log_of(1)?)?;
-    assert_eq!(rt; tick_of(alloc, &mut node, 1, &mut reg)?, (b'n', 0));
+    let mut node = formatted(alloc)?;
+    assert_eq!(rt; cleaned(alloc, &mut node, 1, &mut reg), Ok(0));
     close(alloc, &mut reg)?;
-    assert_eq!(rt; tick_of(alloc, &mut node, 1, &mut reg)?, (b'c', 1));
-    let mut again = loaded(alloc, node.into_disk())?;
-    assert_eq!(rt; tick_of(alloc, &mut again, 1, &mut reg)?, (b'n', 0));
-    let clean = Body::CleanHere {
-        number: Lsn::new(1, 1),
-        summary: summary(),
-    };
-    assert_eq!(rt; answer(alloc, &mut again, &store(alloc, 1)?)?, clean);
-    Ok(())
-}
-
-#[test]
-fn ticks_rebuild_a_lost_node(rt: HostRuntime) -> Result<(), Fail> {
-    let alloc = rt.alloc();
-    let mut reg = new_register(alloc)?;
-    let _ = reg.activate(alloc, log_of(1)?)?;
-    let mut node = formatted(alloc, &mut reg)?;
-    assert_eq!(rt; tick_of(alloc, &mut node, 1, &mut reg)?, (b'n', 0));
-    close(alloc, &mut reg)?;
-    assert_eq!(rt; tick_of(alloc, &mut node, 1, &mut reg)?, (b'c', 1));
-    assert_eq!(rt; tick_of(alloc, &mut node, 1, &mut reg)?, (b'a', 2));
-    assert!(rt; give(alloc, &mut node, &page(alloc)?)?.is_empty());
-    assert_eq!(rt; tick_of(alloc, &mut node, 1, &mut reg)?, (b'r', 0));
-    assert_eq!(rt; tick_of(alloc, &mut node, 1, &mut reg)?, (b'n', 0));
+    assert_eq!(rt; cleaned(alloc, &mut node, 1, &mut reg), Ok(1));
     Ok(())
 }
 
 #[test]
 fn a_tick_looks_only_for_logs_of_the_node(rt: HostRuntime) -> Result<(), Fail> {
     let alloc = rt.alloc();
+    let mut node = formatted(alloc)?;
     let mut reg = new_register(alloc)?;
-    let mut node = formatted(alloc, &mut reg)?;
-    let mut other = new_register(alloc)?;
-    other.arm(Fault::FailAt(1));
-    assert_eq!(rt; tick_of(alloc, &mut node, 2, &mut other), Ok((b'n', 0)));
+    reg.arm(Fault::FailAt(1));
+    assert_eq!(rt; cleaned(alloc, &mut node, 2, &mut reg), Ok(0));
     assert_eq!(rt;
-        tick_of(alloc, &mut node, 1, &mut other),
+        cleaned(alloc, &mut node, 1, &mut reg),
         Err(NodeFault::Register(RegisterFault::Failed))
     );
-    assert_eq!(rt; tick_of(alloc, &mut node, 1, &mut other), Ok((b'n', 0)));
     Ok(())
 }
 
@@ -356,20 +250,14 @@ fn a_tick_looks_only_for_logs_of_the_node(rt: HostRuntime) -> Result<(), Fail> {
 fn a_node_whose_disk_failed_has_to_be_loaded_again(rt: HostRuntime) -> Result<(), Fail> {
     let alloc = rt.alloc();
     let mut reg = new_register(alloc)?;
-    let mut node = formatted(alloc, &mut reg)?;
+    let mut node = formatted(alloc)?;
     node.arm(Fault::FailAt(2));
-    let msg = store(alloc, 1)?;
-    assert_eq!(rt; answer(alloc, &mut node, &msg), Err(NodeFault::Disk));
-    assert_eq!(rt; answer(alloc, &mut node, &msg), Err(NodeFault::NeedsLoad));
+    assert_eq!(rt; give_store(alloc, &mut node), Err(NodeFault::Disk));
+    assert_eq!(rt; give_store(alloc, &mut node), Err(NodeFault::NeedsLoad));
     assert_eq!(rt;
-        tick_of(alloc, &mut node, 1, &mut reg),
+        cleaned(alloc, &mut node, 1, &mut reg),
         Err(NodeFault::NeedsLoad)
     );
-    let mut again = loaded(alloc, node.into_disk())?;
-    let stored = Body::Stored {
-        number: Lsn::new(1, 1),
-    };
-    assert_eq!(rt; answer(alloc, &mut again, &msg)?, stored);
     Ok(())
 }
 
@@ -380,24 +268,7 @@ fn a_format_that_fails_has_drawn(rt: HostRuntime) -> Result<(), Fail> {
     let mut node = loaded(alloc, new_disk(alloc)?)?;
     node.arm(Fault::FailAt(1));
     assert_eq!(rt; drawn(alloc, &mut node, &mut reg), Err(NodeFault::Disk));
-    assert_eq!(rt;
-        drawn(alloc, &mut node, &mut reg),
-        Err(NodeFault::NeedsLoad)
-    );
     let mut again = loaded(alloc, node.into_disk())?;
     assert_eq!(rt; drawn(alloc, &mut again, &mut reg), Ok(2));
     Ok(())
-}
-
-/// The generation under which a blank node is formatted.
-fn drawn(
-    alloc: Global,
-    node: &mut Node<MemDisk>,
-    reg: &mut DiskRegister<MemDisk>,
-) -> Result<u32, NodeFault> {
-    if !node.is_blank() {
-        return Err(NodeFault::Full);
-    }
-    let drawn = node.format(alloc, reg)?;
-    Ok(drawn.gen_)
 }
