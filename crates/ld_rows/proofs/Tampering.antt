@@ -1,5 +1,5 @@
 -- Runs that were tampered with aren't safe.
-use Rattle.std.proofs.Common.{◌≡◌, ◌≤◌, ◌<◌, ◌⊎◌, ◌&&◌, ℕ, zero, suc, ◌+◌, inl, inr, refl, ap, Bool, true, false, nat_lt, List, [], ◌∷◌, Some, slice_get, take, arith}
+use Rattle.std.proofs.Common.{◌≡◌, ◌≤◌, ◌<◌, ◌⊎◌, ◌&&◌, ℕ, zero, suc, ◌+◌, ◌-◌, inl, inr, refl, ap, Bool, true, false, nat_lt, List, [], ◌∷◌, Some, slice_get, take, arith, subst}
 use Rattle.ld_table.specs.Words.{any_of, all_of, how_many, numbers_from}
 use Rattle.ld_lsn.specs.Number.{numbered}
 use Rattle.ld_schedule.specs.declared.event.Event.{Event}
@@ -8,8 +8,8 @@ use Rattle.ld_transcript.specs.declared.line.Line.{Line}
 use Rattle.ld_transcript.specs.declared.line.Line.TheVariants as lines
 use Rattle.ld_transcript.specs.declared.line.GapKind.{GapKind}
 use Rattle.ld_transcript.specs.declared.line.GapKind.TheVariants as gaps
-use Rattle.ld_machine.specs.Facts.{Happened, Writes, Acks, Appends, GivesRecord, GivesGap, ReadsLog, stands_lost}
-use Rattle.ld_machine.specs.Safe.{Safe}
+use Rattle.ld_machine.specs.Facts.{Happened, Writes, Acks, Appends, GivesRecord, GivesGap, ReadsLog, stands_lost, Interval, opening, intervals}
+use Rattle.ld_machine.specs.Safe.{Safe, TilesFrom}
 use Rattle.ld_ids.specs.Choice.{choice_at}
 use Rattle.ld_ids.specs.Set.{members_from}
 use Rattle.ld_machine.specs.Disk.{is_found, keep_op, keep_end, load}
@@ -27,8 +27,8 @@ use Rattle.ld_op.specs.Ticks.{missing, is_missing, on_page, on_tick}
 use Rattle.ld_table.specs.Named.{same, find_named, put_named}
 use Rattle.ld_table.specs.Table.{find, put, keep, keep_keys}
 use Rattle.ld_machine.specs.Run.{steps_of, history_from}
-use Rattle.ld_rows.specs.Schedules.{three_nodes, one_append, sequencer_a, reader_r}
-use Rattle.ld_rows.specs.Tampered.{tampered_run, another_payload, a_hole, a_loss, a_trim}
+use Rattle.ld_rows.specs.Schedules.{three_nodes, one_append, two_appends, sequencer_a, reader_r}
+use Rattle.ld_rows.specs.Tampered.{tampered_run, another_payload, a_hole, a_loss, a_trim, rewritten_run, without_gap, from_the_end}
 
 -- ---- lists ----
 
@@ -150,3 +150,43 @@ unfolding members_from
 loss_unsafe s =
     let found = s.losses 1 number number number 23 (gap_given a_loss gaps.DataLoss refl known_loss) (omega arith) (omega arith) in
     clash (everywhere (few (run a_loss)) 0 24 found.0 few_lost (omega arith) (omega arith)) (not_few _ found.2)
+
+-- ---- a space between what a reader got ----
+
+abbrev spaced : List Happened
+spaced = rewritten_run without_gap three_nodes one_append
+
+opened_here : opening three_nodes reader_r spaced ≡ Some (record { log = 1; from = 1; until = number })
+unfolding choice_at members_from is_found keep_op keep_end load finish delivers happens statement with_page with_lost enough best digest_trim top_place plan_end plan message on_answer is_loss decide change activate close draw after_close is_ready on_reply on_retry appending activated store_decision on_store digest_decision on_digest_ask on_clean on_trim on_release read_answer summary_at apply op_length missing is_missing on_page on_tick same find_named put_named find put keep keep_keys steps_of history_from
+opened_here = refl
+
+got_here : intervals reader_r spaced ≡ record { low = number; high = number } ∷ []
+unfolding choice_at members_from is_found keep_op keep_end load finish delivers happens statement with_page with_lost enough best digest_trim top_place plan_end plan message on_answer is_loss decide change activate close draw after_close is_ready on_reply on_retry appending activated store_decision on_store digest_decision on_digest_ask on_clean on_trim on_release read_answer summary_at apply op_length missing is_missing on_page on_tick same find_named put_named find put keep keep_keys steps_of history_from
+got_here = refl
+
+pub space_unsafe : Safe three_nodes spaced → ⊥
+space_unsafe s =
+    let tiled = subst (λ (is : List Interval). TilesFrom number 1 is) got_here (s.tiles reader_r (record { log = 1; from = 1; until = number }) opened_here) in
+    let first : number ≡ 1 = tiled.0 in
+    omega (arith, first)
+
+-- ---- numbers that fall ----
+
+abbrev falling : List Happened
+falling = rewritten_run from_the_end three_nodes two_appends
+
+abbrev taken : ℕ → ℕ
+taken esn = numbered 2 0 - numbered 1 esn
+
+first_here : Writes falling 4 (lines.Appended sequencer_a (taken 1))
+unfolding choice_at members_from is_found keep_op keep_end load finish delivers happens statement with_page with_lost enough best digest_trim top_place plan_end plan message on_answer is_loss decide change activate close draw after_close is_ready on_reply on_retry appending activated store_decision on_store digest_decision on_digest_ask on_clean on_trim on_release read_answer summary_at apply op_length missing is_missing on_page on_tick same find_named put_named find put keep keep_keys steps_of history_from
+first_here = (_, refl, 0, refl)
+
+second_here : Writes falling 5 (lines.Appended sequencer_a (taken 2))
+unfolding choice_at members_from is_found keep_op keep_end load finish delivers happens statement with_page with_lost enough best digest_trim top_place plan_end plan message on_answer is_loss decide change activate close draw after_close is_ready on_reply on_retry appending activated store_decision on_store digest_decision on_digest_ask on_clean on_trim on_release read_answer summary_at apply op_length missing is_missing on_page on_tick same find_named put_named find put keep keep_keys steps_of history_from
+second_here = (_, refl, 0, refl)
+
+pub fall_unsafe : Safe three_nodes falling → ⊥
+fall_unsafe s =
+    let risen : taken 1 < taken 2 = s.rise sequencer_a (taken 1) (taken 2) 4 5 first_here second_here (omega arith) in
+    omega (arith, risen)

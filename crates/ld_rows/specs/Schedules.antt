@@ -42,6 +42,11 @@ one_append =
     events.Format 1 ∷ events.Format 2 ∷ events.Format 3 ∷ events.Activate sequencer_a 1 ∷ events.Append sequencer_a (104 ∷ 105 ∷ []) ∷ events.Flow 10 ∷
     events.Open reader_r 1 1 (numbered 1 1) ∷ events.Poll reader_r ∷ events.Flow 20 ∷ []
 
+-- two records are appended, one after the other
+abbrev pub two_appends : List Event
+two_appends =
+    events.Format 1 ∷ events.Format 2 ∷ events.Format 3 ∷ events.Activate sequencer_a 1 ∷ events.Append sequencer_a (1 ∷ []) ∷ events.Append sequencer_a (2 ∷ []) ∷ []
+
 -- a record that only one node stored: it is not acknowledged, and a reader waits
 abbrev pub half_stored : List Event
 half_stored =

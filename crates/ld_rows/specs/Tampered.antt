@@ -1,5 +1,6 @@
--- Runs whose record lines were changed afterwards.
-use Rattle.std.specs.Prelude.{ℕ, List, [], ◌∷◌, map}
+-- Runs whose lines were changed afterwards.
+use Rattle.std.specs.Prelude.{ℕ, ◌-◌, List, [], ◌∷◌, map}
+use Rattle.ld_lsn.specs.Number.{numbered}
 use Rattle.ld_schedule.specs.declared.event.Event.{Event}
 use Rattle.ld_transcript.specs.declared.line.Line.{Line}
 use Rattle.ld_transcript.specs.declared.line.Line.TheVariants as lines
@@ -12,8 +13,11 @@ abbrev pub without_record : (List ℕ → ℕ → Line) → Line → Line
 without_record f (lines.Record name n p) = f name n
 without_record f x = x
 
+abbrev pub rewritten : (Line → Line) → List Happened → List Happened
+rewritten g hs = map (λ h. record { event = h.event; lines = map g h.lines }) hs
+
 abbrev pub tampered : (List ℕ → ℕ → Line) → List Happened → List Happened
-tampered f hs = map (λ h. record { event = h.event; lines = map (without_record f) h.lines }) hs
+tampered f hs = rewritten (without_record f) hs
 
 abbrev pub tampered_run : (List ℕ → ℕ → Line) → Config → List Event → List Happened
 tampered_run f c es = tampered f (history c es)
@@ -31,3 +35,16 @@ a_loss name n = lines.Gap name gaps.DataLoss n n
 -- beyond every point that was issued
 abbrev pub a_trim : List ℕ → ℕ → Line
 a_trim name n = lines.Gap name gaps.Trim n n
+
+-- gaps are left out: what a reader gets has spaces
+abbrev pub without_gap : Line → Line
+without_gap (lines.Gap name kind low high) = lines.Nothing
+without_gap x = x
+
+-- the numbers of epoch 1 are taken from its end: they fall
+abbrev pub from_the_end : Line → Line
+from_the_end (lines.Appended name n) = lines.Appended name (numbered 2 0 - n)
+from_the_end x = x
+
+abbrev pub rewritten_run : (Line → Line) → Config → List Event → List Happened
+rewritten_run g c es = rewritten g (history c es)
