@@ -23,7 +23,7 @@ use Rattle.ld_recovery.specs.Recovering.{sender_of}
 use Rattle.ld_register.specs.declared.fault.RegisterFault.TheVariants as registers
 use Rattle.ld_sequencer.specs.declared.fault.SequencerFault.{SequencerFault}
 use Rattle.ld_sequencer.specs.declared.fault.SequencerFault.TheVariants as faults
-use Rattle.ld_sequencer.specs.declared.whole.Report.{Report}
+use Rattle.ld_sequencer.specs.declared.report.Report.{Report}
 use Rattle.ld_sequencer.specs.Own.{append_fault, trim_fault}
 use Rattle.ld_sequencer.specs.Whole.{Whole, as_now, sent_as, Acted, IsRefused, tried, called_by, reply_acts, retry_acts}
 use Rattle.ld_clients.specs.declared.client.Client.{Client}

@@ -1,12 +1,12 @@
 -- What a call of a sequencer does to a state of the machine.
-use Rattle.std.specs.Prelude.{ℕ, ◌≡◌, List, ◌++◌, Some}
+use Rattle.std.specs.Prelude.{ℕ, ◌≡◌, List, ◌++◌, Some, is_some}
 use Rattle.ld_table.specs.Named.{find_named}
 use Rattle.ld_transcript.specs.declared.line.Line.{Line}
 use Rattle.ld_transcript.specs.declared.line.Line.TheVariants as lines
 use Rattle.ld_config.specs.declared.config.Config.{Config}
 use Rattle.ld_msg.specs.Register.{Register}
 use Rattle.ld_sequencer.specs.Own.{listed}
-use Rattle.ld_sequencer.specs.declared.whole.Report.{Report}
+use Rattle.ld_sequencer.specs.declared.report.Report.{Report}
 use Rattle.ld_machine.specs.State.{State, Done, with_sequencer}
 use Rattle.ld_machine.specs.Step.{numbered_lines, when}
 use Rattle.ld_clients.specs.Serving.{sequencers_of, shown, KnowTheirLogs, Knows}
@@ -46,5 +46,5 @@ pub record HasActed (s : State) (name : List ℕ) (now : Client) (outcome : Outc
 -- ---- lines ----
 
 abbrev pub report_lines : List ℕ → Report → List Line
-report_lines name r = numbered_lines (lines.RefusedPreempted name) (listed r.preempted) ++ (when r.register_failed (lines.RefusedRegister name)
+report_lines name r = numbered_lines (lines.RefusedPreempted name) (listed r.preempted) ++ (when (is_some r.register) (lines.RefusedRegister name)
     ++ (numbered_lines (lines.Acked name) (listed r.acked) ++ (numbered_lines (lines.Clean name) (listed r.closed) ++ numbered_lines (lines.Released name) (listed r.released))))

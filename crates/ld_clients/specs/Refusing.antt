@@ -6,7 +6,7 @@ use Rattle.ld_transcript.specs.declared.line.Line.TheVariants as lines
 use Rattle.ld_register.specs.declared.fault.RegisterFault.TheVariants as registers
 use Rattle.ld_sequencer.specs.declared.fault.SequencerFault.{SequencerFault}
 use Rattle.ld_sequencer.specs.declared.fault.SequencerFault.TheVariants as faults
-use Rattle.ld_sequencer.specs.declared.whole.Report.{Report}
+use Rattle.ld_sequencer.specs.declared.report.Report.{Report}
 use Rattle.ld_clients.specs.Acting.{report_lines}
 
 -- of the register's refusals the end of the epochs has a line of its own

@@ -1,5 +1,5 @@
 // The lines of what a sequencer did, or of why it refused.
-ghost use Rattle.std.specs.Prelude.{◌≡◌, ◌≢◌, ◌++◌, ◌∷◌, [], IfOk, OnOk, IfSome, IfNone, Err};
+ghost use Rattle.std.specs.Prelude.{◌≡◌, ◌≢◌, ◌++◌, ◌∷◌, [], is_some, IfOk, OnOk, IfSome, IfNone, Err};
 ghost use Rattle.ld_transcript.specs.declared.line.Line.TheVariants.{RefusedRegister, RefusedPreempted, Acked, Clean, Released};
 ghost use Rattle.ld_machine.specs.Step.{numbered_lines, when};
 ghost use Rattle.ld_sequencer.specs.Own.{listed};
@@ -107,13 +107,13 @@ fn add_refusals(
     lines: &mut Vec<Line>,
 ) -> Result<(), NoMemory>
     ensures { OnOk result (lines.new.items ≡ lines.old.items
-        ++ (numbered_lines (RefusedPreempted name.now) (listed report.now.preempted) ++ when report.now.register_failed (RefusedRegister name.now))) }
+        ++ (numbered_lines (RefusedPreempted name.now) (listed report.now.preempted) ++ when (is_some report.now.register) (RefusedRegister name.now))) }
 {
     if let Some(by) = report.preempted {
         let name = name.copy(alloc)?;
         lines.push(Line::RefusedPreempted { name, by })?;
     }
-    if report.register_failed {
+    if report.register.is_some() {
         let name = name.copy(alloc)?;
         lines.push(Line::RefusedRegister { name })?;
     }
