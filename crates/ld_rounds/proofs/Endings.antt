@@ -1,5 +1,8 @@
 -- Why a drive ends.
 use Rattle.std.proofs.Common.{ℕ, ◌≤◌, List, [], ◌++◌, Option, sym, subst, arith, append_assoc}
+use Rattle.std.specs.Prelude.{IfErr}
+use Rattle.std.specs.declared.result.Result.{Result}
+use Rattle.std.specs.declared.result.Result.TheVariants.{Ok, Err}
 use Rattle.std.specs.Io.KnownBytes.{Appends}
 use Rattle.ld_io.specs.Causes.{Rose}
 use Rattle.ld_transcript.specs.declared.line.Line.{Line}
@@ -66,3 +69,7 @@ ending_said before now a b ls ends.EpochFull i w = said_here before now a b ls e
 ending_said before now a b ls (ends.Register fault) i w = said_here before now a b ls (ends.Register fault) i w
 ending_said before now a b ls (ends.BadLine line place) i w = said_here before now a b ls (ends.BadLine line place) i w
 ending_said before now a b ls ends.Read i w = said_here before now a b ls ends.Read i w
+
+pub cause_since : {R : Type 0} (k n m : ℕ) (a b c : Option (List ℕ)) (r : Result R Ended) → IsLater k n a b → IfErr r (IsEnding n m b c) → IfErr r (IsEnding k m a c)
+cause_since k n m a b c (Ok v) p i = i
+cause_since k n m a b c (Err e) p i = ending_since k n m a b c e p i

@@ -1,5 +1,6 @@
 mod Driving
 mod Endings
+mod Feeding
 mod Going
 mod News
 mod Queueing

@@ -154,3 +154,25 @@ pub answers_from : (c : Config) (s : State) (n : ℕ) (m : Msg) → AllByRecursi
 answers_from c s n m =
     answers_by (is_up (node_at s n).status && is_in n (set_of c m.log)) s _
     (handles_from _ n m (machine.node_handles (node_at s n) m).op (machine.node_handles (node_at s n) m).answer)
+
+-- ---- the steps of a client ----
+
+pub poll_is : (c : Config) (s : State) (name : List ℕ) → step c s (events.Poll name) ≡ finish (happens c s (events.Poll name))
+unfolding step
+poll_is c s name = refl
+
+pub open_is : (c : Config) (s : State) (name : List ℕ) (l from until : ℕ) → step c s (events.Open name l from until) ≡ finish (happens c s (events.Open name l from until))
+unfolding step
+open_is c s name l from until = refl
+
+pub append_is : (c : Config) (s : State) (name payload : List ℕ) → step c s (events.Append name payload) ≡ finish (happens c s (events.Append name payload))
+unfolding step
+append_is c s name payload = refl
+
+pub retry_is : (c : Config) (s : State) (name : List ℕ) → step c s (events.Retry name) ≡ finish (happens c s (events.Retry name))
+unfolding step
+retry_is c s name = refl
+
+pub activate_is : (c : Config) (s : State) (name : List ℕ) (l : ℕ) → step c s (events.Activate name l) ≡ finish (happens c s (events.Activate name l))
+unfolding step
+activate_is c s name l = refl

@@ -2,6 +2,7 @@ pub mod Acts
 pub mod Drives
 pub mod Endings
 pub mod Ends
+pub mod Feeding
 pub mod Input
 pub mod News
 pub mod Output

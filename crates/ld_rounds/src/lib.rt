@@ -2,16 +2,20 @@
 #![tactic(auto)]
 
 mod actor;
+mod appends;
 mod ended;
 mod output;
 mod payloads;
 mod queue;
 mod queues;
+mod reads;
 mod visits;
 
 pub use actor::{Actor, Heard};
+pub use appends::{Appended, Appends, Feed, append};
 pub use ended::{Ended, Refusal};
 pub use output::{write_all, write_lines};
 pub use payloads::{InputFault, Payloads};
 pub use queues::Queues;
+pub use reads::{Reads, read};
 pub use visits::{round, tell, visit};

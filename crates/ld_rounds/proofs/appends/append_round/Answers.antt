@@ -1,0 +1,30 @@
+use Rattle.std.proofs.Common.{◌≡◌, sym, subst, inr, Err, true}
+use Rattle.std.proofs.lemmas.Result.{err_from_is_err_and}
+use Rattle.ld_rounds.proofs.Endings.{later_on}
+use Rattle.ld_rounds.proofs.Feeding.{round_cause_since}
+use Rattle.ld_rounds.proofs.Going.{went_as, goes_as, then_on}
+use Rattle.ld_rounds.proofs.appends.append_round.Goals as goal
+
+pub returns-in_err-prepare-clause-held : goal.returns-in_err-prepare-clause-held
+returns-in_err-prepare-clause-held g c k first s far b told h =
+    let p = err_from_is_err_and c.from_residual.result c.from_residual.ensures.1 in
+    let B = g.A.Actor.stands c.prepare.new.sequencer in
+    let T = g.N.Nodes.tells c.args.nodes.now k in
+    rw (p.1, p.2) (inr (goes_as c.args.name.now k first b {R = Unit {0}} B (λ now. now ≡ far) T s c.prepare.new.queues (g.O.Sink.written c.args.out.now) (g.O.Sink.written c.prepare.new.out) (Err c.in_err-prepare.field-0.0) (λ f e. subst T (sym e) told)
+    (c.in_err-prepare.ensures.held k first s far b h)))
+
+pub returns-clause-held : goal.returns-clause-held
+returns-clause-held g c k first s far b told h =
+    let B = g.A.Actor.stands c.prepare.new.sequencer in
+    let C = g.A.Actor.stands c.round.new.actor in
+    let T = g.N.Nodes.tells c.args.nodes.now k in
+    let U = g.N.Nodes.tells c.round.new.nodes k in
+    let w = went_as c.args.name.now k first b B (λ now. now ≡ far) T s c.prepare.new.queues (g.O.Sink.written c.args.out.now) (g.O.Sink.written c.prepare.new.out) (λ f e. subst T (sym e) told) (c.in_ok-prepare.ensures.held k first s far b h) in
+    then_on c.args.name.now k first b {R = Unit {0}} (g.N.Nodes.silent c.round.new.nodes ≡ true) (g.N.Nodes.silent c.round.new.nodes ≡ true) B C T U s c.prepare.new.queues c.round.new.queues (g.O.Sink.written c.args.out.now) (g.O.Sink.written c.prepare.new.out) (g.O.Sink.written c.round.new.out) c.round.result
+    (λ quiet. quiet) (λ v. c.round.ensures.held c.args.name.now k first v.moved.state v.far b v.told v.moved.holds) (inr w)
+
+pub returns-clause-cause : goal.returns-clause-cause
+returns-clause-cause g c = round_cause_since _ _ _ _ _ _ _ _ c.round.result c.in_ok-prepare.ensures.later c.round.ensures.cause
+
+pub returns-clause-later : goal.returns-clause-later
+returns-clause-later g c = later_on _ _ _ _ _ _ c.in_ok-prepare.ensures.later c.round.ensures.later

@@ -1,0 +1,14 @@
+use Rattle.std.proofs.Common.{◌≡◌, ◌⊎◌, ℕ, true}
+use Rattle.ld_config.specs.declared.config.Config.{Config}
+use Rattle.ld_config.specs.Bounds.{IsInBounds}
+use Rattle.ld_machine.specs.State.{State}
+use Rattle.ld_dial.specs.Far.{Far}
+use Rattle.ld_rounds.specs.Endings.{IsLater}
+use Rattle.ld_rounds.specs.Drives.{Holds, Went}
+use Rattle.ld_rounds.proofs.reads.read.Given as goal
+
+abbrev pub invariant-rounds : goal.invariant-rounds
+invariant-rounds g l =
+    ((c : Config) (first : ℕ) (s : State) (far : Far) → IsInBounds c → g.N.Nodes.tells l.fn.nodes c far → Holds (g.R.Actor.stands l.fn.reader) c first s far l.fn.queues
+    → (g.N.Nodes.silent l.nodes ≡ true) ⊎ Went l.name (g.R.Actor.stands l.reader) (g.N.Nodes.tells l.nodes c) c first s l.queues (g.O.Sink.written l.fn.out) (g.O.Sink.written l.out))
+    × IsLater (g.O.Sink.faults l.fn.out) (g.O.Sink.faults l.out) (g.O.Sink.written l.fn.out) (g.O.Sink.written l.out)

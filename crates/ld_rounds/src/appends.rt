@@ -1,0 +1,266 @@
+// A sequencer is driven over payloads.
+ghost use Rattle.std.specs.Prelude.{◌≡◌, ◌≤◌, ◌⊎◌, ℕ, Bool, true, IfOk, IfErr, IfSome};
+ghost use Rattle.ld_config.specs.declared.config.Config.{Config};
+ghost use Rattle.ld_config.specs.Bounds.{IsInBounds};
+ghost use Rattle.ld_schedule.specs.declared.event.Event.TheVariants.{Append, Retry};
+ghost use Rattle.ld_node_bounds.specs.Messages.{AreMessages};
+ghost use Rattle.ld_machine.specs.State.{State};
+ghost use Rattle.ld_machine.specs.Step.{happens};
+ghost use Rattle.ld_bounds.specs.Sound.{IsSound};
+ghost use Rattle.ld_dial.specs.Far.{Far};
+ghost use Rattle.ld_rounds.specs.Ends.{IsSaid};
+ghost use Rattle.ld_rounds.specs.Acts.{IsActed};
+ghost use Rattle.ld_rounds.specs.Drives.{Holds, GoesOn};
+ghost use Rattle.ld_rounds.specs.Endings.{IsEnding, IsLater};
+ghost use Rattle.ld_rounds.specs.Feeding.{IsInputEnding, IsAppendEnding};
+ghost use Rattle.ld_rounds.specs.Queued.{are_empty};
+
+use crate::{Actor, Ended, Heard, InputFault, Payloads, Queues, round, tell};
+use ld_dial::Nodes;
+use ld_ids::{Name, NoMemory, NodeSet, Payload};
+use ld_io::Sink;
+use std::alloc::Global;
+
+/// What an append wrote and sent, and whether it found the window full.
+#[derive(Debug, Drop)]
+pub struct Appended {
+    pub heard: Heard,
+    pub is_full: bool,
+}
+
+/// A sequencer that is driven.
+pub trait Appends: Actor {
+    /// Every append is acknowledged, and every epoch before its own is closed.
+    ghost settled: { Self → Bool };
+
+    /// The sequencer of the name numbers the payload and sends it, or writes why not. It ends the drive where it says so in
+    /// a line. After want of memory it is of no use.
+    fn append(
+        &mut self,
+        alloc: Global,
+        name: &Name,
+        payload: &Payload,
+    ) -> Result<Appended, NoMemory>
+        ensures messages { IfOk result (λ appended. AreMessages appended.heard.sends) }
+        ensures appended { IfOk result (λ appended. (c : Config) (s : State) → IsInBounds c → IsSound c s → Self.stands self.old c s
+            → IsActed (Self.stands self.new c) s appended.heard.lines.items appended.heard.sends (happens c s (Append name.now payload.now))) }
+        ensures said { IfOk result (λ appended. IfSome appended.heard.end (IsSaid appended.heard.lines.items)) };
+
+    /// The sequencer of the name sends again what is still wanted, and tries a close again. It ends the drive where it says
+    /// so in a line. After want of memory it is of no use.
+    fn retry(&mut self, alloc: Global, name: &Name) -> Result<Heard, NoMemory>
+        ensures messages { IfOk result (λ heard. AreMessages heard.sends) }
+        ensures retried { IfOk result (λ heard. (c : Config) (s : State) → IsInBounds c → IsSound c s → Self.stands self.old c s
+            → IsActed (Self.stands self.new c) s heard.lines.items heard.sends (happens c s (Retry name.now))) }
+        ensures said { IfOk result (λ heard. IfSome heard.end (IsSaid heard.lines.items)) };
+
+    /// Whether every append is acknowledged, and every epoch before its own is closed.
+    fn is_settled(&self) -> bool
+        ensures { result ≡ settled self.now };
+}
+
+/// One append: its messages wait for their nodes. True where the window is full.
+fn add<A: Appends, O: Sink>(
+    alloc: Global,
+    name: &Name,
+    payload: &Payload,
+    sequencer: &mut A,
+    queues: &mut Queues,
+    out: &mut O,
+) -> Result<bool, Ended>
+    ensures held { (c : Config) (first : ℕ) (s : State) (far : Far) → IsInBounds c → Holds (A.stands sequencer.old) c first s far queues.old
+        → GoesOn name.now (A.stands sequencer.new) (λ now. now ≡ far) c first s queues.new (O.written out.old) (O.written out.new) result }
+    ensures cause { IfErr result (IsEnding (O.faults out.old) (O.faults out.new) (O.written out.old) (O.written out.new)) }
+    ensures later { IsLater (O.faults out.old) (O.faults out.new) (O.written out.old) (O.written out.new) }
+{
+    let Ok(appended) = sequencer.append(alloc, name, payload) else {
+        return Err(Ended::NoMemory);
+    };
+    let Appended { heard, is_full } = appended;
+    tell(alloc, heard, queues, out)?;
+    Ok(is_full)
+}
+
+/// What is still wanted is sent again: its messages wait for their nodes.
+fn again<A: Appends, O: Sink>(
+    alloc: Global,
+    name: &Name,
+    sequencer: &mut A,
+    queues: &mut Queues,
+    out: &mut O,
+) -> Result<(), Ended>
+    ensures held { (c : Config) (first : ℕ) (s : State) (far : Far) → IsInBounds c → Holds (A.stands sequencer.old) c first s far queues.old
+        → GoesOn name.now (A.stands sequencer.new) (λ now. now ≡ far) c first s queues.new (O.written out.old) (O.written out.new) result }
+    ensures cause { IfErr result (IsEnding (O.faults out.old) (O.faults out.new) (O.written out.old) (O.written out.new)) }
+    ensures later { IsLater (O.faults out.old) (O.faults out.new) (O.written out.old) (O.written out.new) }
+{
+    let Ok(heard) = sequencer.retry(alloc, name) else {
+        return Err(Ended::NoMemory);
+    };
+    tell(alloc, heard, queues, out)
+}
+
+/// The payloads that are still to be appended: one that found the window full is held, and comes first.
+#[derive(Debug, Drop)]
+pub struct Feed {
+    held: Option<Payload>,
+    is_over: bool,
+}
+
+impl Feed {
+    /// None is held, and the input hasn't ended.
+    pub fn new() -> Feed {
+        Feed {
+            held: None,
+            is_over: false,
+        }
+    }
+
+    /// Takes the next payload; none is at the end of the input.
+    fn next<P: Payloads>(&mut self, alloc: Global, input: &mut P) -> Result<Option<Payload>, Ended>
+        ensures cause { IfErr result (IsInputEnding (P.faults input.old) (P.faults input.new)) }
+        ensures later { P.faults input.old ≤ P.faults input.new }
+    {
+        if let Some(payload) = self.held.take() {
+            return Ok(Some(payload));
+        }
+        if self.is_over {
+            return Ok(None);
+        }
+        match input.next(alloc) {
+            Ok(Some(payload)) => Ok(Some(payload)),
+            Ok(None) => {
+                self.is_over = true;
+                Ok(None)
+            }
+            Err(InputFault::BadLine { line, place }) => Err(Ended::BadLine { line, place }),
+            Err(InputFault::Read) => Err(Ended::Read),
+            Err(InputFault::NoMemory) => Err(Ended::NoMemory),
+        }
+    }
+}
+
+/// Appends payloads, until one finds the window full or the input has ended.
+fn add_all<A: Appends, P: Payloads, O: Sink>(
+    alloc: Global,
+    name: &Name,
+    feed: &mut Feed,
+    input: &mut P,
+    sequencer: &mut A,
+    queues: &mut Queues,
+    out: &mut O,
+) -> Result<(), Ended>
+    ensures held { (c : Config) (first : ℕ) (s : State) (far : Far) → IsInBounds c → Holds (A.stands sequencer.old) c first s far queues.old
+        → GoesOn name.now (A.stands sequencer.new) (λ now. now ≡ far) c first s queues.new (O.written out.old) (O.written out.new) result }
+    ensures cause { IfErr result (IsAppendEnding (P.faults input.old) (P.faults input.new) (O.faults out.old) (O.faults out.new) (O.written out.old) (O.written out.new)) }
+    ensures input_later { P.faults input.old ≤ P.faults input.new }
+    ensures later { IsLater (O.faults out.old) (O.faults out.new) (O.written out.old) (O.written out.new) }
+{
+    'payloads: for _ in 0..u64::MAX {
+        let Some(payload) = feed.next(alloc, input)? else {
+            return Ok(());
+        };
+        if add(alloc, name, &payload, sequencer, queues, out)? {
+            feed.held = Some(payload);
+            return Ok(());
+        }
+    }
+    Ok(())
+}
+
+/// Before a round but the first, what is still wanted is sent again; then payloads are appended.
+fn prepare<A: Appends, P: Payloads, O: Sink>(
+    alloc: Global,
+    name: &Name,
+    is_first: bool,
+    feed: &mut Feed,
+    input: &mut P,
+    sequencer: &mut A,
+    queues: &mut Queues,
+    out: &mut O,
+) -> Result<(), Ended>
+    ensures held { (c : Config) (first : ℕ) (s : State) (far : Far) → IsInBounds c → Holds (A.stands sequencer.old) c first s far queues.old
+        → GoesOn name.now (A.stands sequencer.new) (λ now. now ≡ far) c first s queues.new (O.written out.old) (O.written out.new) result }
+    ensures cause { IfErr result (IsAppendEnding (P.faults input.old) (P.faults input.new) (O.faults out.old) (O.faults out.new) (O.written out.old) (O.written out.new)) }
+    ensures input_later { P.faults input.old ≤ P.faults input.new }
+    ensures later { IsLater (O.faults out.old) (O.faults out.new) (O.written out.old) (O.written out.new) }
+{
+    if is_first {
+        return add_all(alloc, name, feed, input, sequencer, queues, out);
+    }
+    again(alloc, name, sequencer, queues, out)?;
+    add_all(alloc, name, feed, input, sequencer, queues, out)
+}
+
+/// One round: what is to be sent is prepared, and the nodes are visited.
+fn append_round<A: Appends, N: Nodes, P: Payloads, O: Sink>(
+    alloc: Global,
+    set: &NodeSet,
+    name: &Name,
+    is_first: bool,
+    feed: &mut Feed,
+    input: &mut P,
+    sequencer: &mut A,
+    nodes: &mut N,
+    queues: &mut Queues,
+    out: &mut O,
+) -> Result<(), Ended>
+    ensures held { (c : Config) (first : ℕ) (s : State) (far : Far) → IsInBounds c
+        → N.tells nodes.old c far → Holds (A.stands sequencer.old) c first s far queues.old
+        → (N.silent nodes.new ≡ true) ⊎ GoesOn name.now (A.stands sequencer.new) (N.tells nodes.new c) c first s queues.new (O.written out.old) (O.written out.new) result }
+    ensures silent { N.silent nodes.old ≡ true → N.silent nodes.new ≡ true }
+    ensures cause { IfErr result (IsAppendEnding (P.faults input.old) (P.faults input.new) (O.faults out.old) (O.faults out.new) (O.written out.old) (O.written out.new)) }
+    ensures input_later { P.faults input.old ≤ P.faults input.new }
+    ensures later { IsLater (O.faults out.old) (O.faults out.new) (O.written out.old) (O.written out.new) }
+{
+    prepare(alloc, name, is_first, feed, input, sequencer, queues, out)?;
+    round(alloc, set, sequencer, nodes, queues, out)
+}
+
+/// Drives a sequencer over payloads. Before each of so many rounds over the nodes of a set but the first, what is still
+/// wanted is sent again, and then payloads are appended until one finds the window full, which is the next round's first,
+/// or the input has ended. After each round it is seen whether it is done: the input has ended, every append is
+/// acknowledged, every epoch before its own is closed, and no message waits. True where it was.
+///
+/// It ends with `Preempted`, `EpochFull` or `Register` where a line says so, with `BadFrame` where what a node sent begins no
+/// frame, with `BadLine` at the first line that is off, with `Read` where the input failed, with `Write` where the output
+/// failed, and for want of memory.
+pub fn append<A: Appends, N: Nodes, P: Payloads, O: Sink>(
+    alloc: Global,
+    set: &NodeSet,
+    name: &Name,
+    rounds: u64,
+    input: &mut P,
+    sequencer: &mut A,
+    nodes: &mut N,
+    queues: &mut Queues,
+    out: &mut O,
+) -> Result<bool, Ended>
+    // Where the nodes tell what stands there: all that was done are steps of the written machine from any state that the
+    // drive stands for, and the lines that were written are the sequencer's lines of those steps.
+    ensures held { (c : Config) (first : ℕ) (s : State) (far : Far) → IsInBounds c
+        → N.tells nodes.old c far → Holds (A.stands sequencer.old) c first s far queues.old
+        → (N.silent nodes.new ≡ true) ⊎ GoesOn name.now (A.stands sequencer.new) (N.tells nodes.new c) c first s queues.new (O.written out.old) (O.written out.new) result }
+    ensures settled { IfOk result (λ done. done ≡ true → (A.settled sequencer.new ≡ true) × (are_empty queues.new ≡ true)) }
+    ensures cause { IfErr result (IsAppendEnding (P.faults input.old) (P.faults input.new) (O.faults out.old) (O.faults out.new) (O.written out.old) (O.written out.new)) }
+{
+    let mut feed = Feed::new();
+    'rounds: for number in 0..rounds {
+        append_round(
+            alloc,
+            set,
+            name,
+            number == 0,
+            &mut feed,
+            input,
+            sequencer,
+            nodes,
+            queues,
+            out,
+        )?;
+        if feed.is_over && sequencer.is_settled() && queues.are_empty() {
+            return Ok(true);
+        }
+    }
+    Ok(false)
+}

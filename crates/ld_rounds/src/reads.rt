@@ -1,0 +1,109 @@
+// A reader is driven until it is finished.
+ghost use Rattle.std.specs.Prelude.{◌≡◌, ◌⊎◌, ℕ, Bool, true, IfOk, IfErr, IfSome};
+ghost use Rattle.ld_config.specs.declared.config.Config.{Config};
+ghost use Rattle.ld_config.specs.Bounds.{IsInBounds};
+ghost use Rattle.ld_schedule.specs.declared.event.Event.TheVariants.{Poll};
+ghost use Rattle.ld_node_bounds.specs.Messages.{AreMessages};
+ghost use Rattle.ld_machine.specs.State.{State};
+ghost use Rattle.ld_machine.specs.Step.{happens};
+ghost use Rattle.ld_bounds.specs.Sound.{IsSound};
+ghost use Rattle.ld_dial.specs.Far.{Far};
+ghost use Rattle.ld_rounds.specs.Ends.{IsSaid};
+ghost use Rattle.ld_rounds.specs.Acts.{IsActed};
+ghost use Rattle.ld_rounds.specs.Drives.{Holds, GoesOn};
+ghost use Rattle.ld_rounds.specs.Endings.{IsEnding, IsLater};
+
+use crate::{Actor, Ended, Heard, Queues, round, tell};
+use ld_dial::Nodes;
+use ld_ids::{Name, NoMemory, NodeSet};
+use ld_io::Sink;
+use std::alloc::Global;
+
+/// A reader that is driven.
+pub trait Reads: Actor {
+    /// It is past its last number.
+    ghost finished: { Self → Bool };
+
+    /// The reader of the name asks all nodes for its next number. It ends the drive where it says so in a line. After want of
+    /// memory it is of no use.
+    fn poll(&mut self, alloc: Global, name: &Name) -> Result<Heard, NoMemory>
+        ensures messages { IfOk result (λ heard. AreMessages heard.sends) }
+        ensures polled { IfOk result (λ heard. (c : Config) (s : State) → IsInBounds c → IsSound c s → Self.stands self.old c s
+            → IsActed (Self.stands self.new c) s heard.lines.items heard.sends (happens c s (Poll name.now))) }
+        ensures said { IfOk result (λ heard. IfSome heard.end (IsSaid heard.lines.items)) };
+
+    /// Whether it is past its last number.
+    fn is_finished(&self) -> bool
+        ensures { result ≡ finished self.now };
+}
+
+/// The reader asks: its messages wait for their nodes.
+fn ask<R: Reads, O: Sink>(
+    alloc: Global,
+    name: &Name,
+    reader: &mut R,
+    queues: &mut Queues,
+    out: &mut O,
+) -> Result<(), Ended>
+    ensures held { (c : Config) (first : ℕ) (s : State) (far : Far) → IsInBounds c → Holds (R.stands reader.old) c first s far queues.old
+        → GoesOn name.now (R.stands reader.new) (λ now. now ≡ far) c first s queues.new (O.written out.old) (O.written out.new) result }
+    ensures cause { IfErr result (IsEnding (O.faults out.old) (O.faults out.new) (O.written out.old) (O.written out.new)) }
+    ensures later { IsLater (O.faults out.old) (O.faults out.new) (O.written out.old) (O.written out.new) }
+{
+    let Ok(heard) = reader.poll(alloc, name) else {
+        return Err(Ended::NoMemory);
+    };
+    tell(alloc, heard, queues, out)
+}
+
+/// One round: the reader asks, and the nodes are visited.
+fn read_round<R: Reads, N: Nodes, O: Sink>(
+    alloc: Global,
+    set: &NodeSet,
+    name: &Name,
+    reader: &mut R,
+    nodes: &mut N,
+    queues: &mut Queues,
+    out: &mut O,
+) -> Result<(), Ended>
+    ensures held { (c : Config) (first : ℕ) (s : State) (far : Far) → IsInBounds c
+        → N.tells nodes.old c far → Holds (R.stands reader.old) c first s far queues.old
+        → (N.silent nodes.new ≡ true) ⊎ GoesOn name.now (R.stands reader.new) (N.tells nodes.new c) c first s queues.new (O.written out.old) (O.written out.new) result }
+    ensures silent { N.silent nodes.old ≡ true → N.silent nodes.new ≡ true }
+    ensures cause { IfErr result (IsEnding (O.faults out.old) (O.faults out.new) (O.written out.old) (O.written out.new)) }
+    ensures later { IsLater (O.faults out.old) (O.faults out.new) (O.written out.old) (O.written out.new) }
+{
+    ask(alloc, name, reader, queues, out)?;
+    round(alloc, set, reader, nodes, queues, out)
+}
+
+/// Drives a reader: before each of so many rounds over the nodes of a set it polls, and after each it is seen whether it is
+/// finished. True where it was; its lines are written as they come. It ends with `BadFrame` where what a node sent begins no
+/// frame, with `Write` where the output failed, and for want of memory.
+pub fn read<R: Reads, N: Nodes, O: Sink>(
+    alloc: Global,
+    set: &NodeSet,
+    name: &Name,
+    rounds: u64,
+    reader: &mut R,
+    nodes: &mut N,
+    queues: &mut Queues,
+    out: &mut O,
+) -> Result<bool, Ended>
+    // Where the nodes tell what stands there: all that was done are steps of the written machine from any state that the
+    // drive stands for, and the lines that were written are the reader's lines of those steps.
+    ensures held { (c : Config) (first : ℕ) (s : State) (far : Far) → IsInBounds c
+        → N.tells nodes.old c far → Holds (R.stands reader.old) c first s far queues.old
+        → (N.silent nodes.new ≡ true) ⊎ GoesOn name.now (R.stands reader.new) (N.tells nodes.new c) c first s queues.new (O.written out.old) (O.written out.new) result }
+    ensures finished { IfOk result (λ done. done ≡ true → R.finished reader.new ≡ true) }
+    ensures cause { IfErr result (IsEnding (O.faults out.old) (O.faults out.new) (O.written out.old) (O.written out.new)) }
+    ensures later { IsLater (O.faults out.old) (O.faults out.new) (O.written out.old) (O.written out.new) }
+{
+    'rounds: for _ in 0..rounds {
+        read_round(alloc, set, name, reader, nodes, queues, out)?;
+        if reader.is_finished() {
+            return Ok(true);
+        }
+    }
+    Ok(false)
+}
