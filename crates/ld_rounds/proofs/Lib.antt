@@ -1,9 +1,9 @@
-mod Driving
-mod Endings
-mod Feeding
-mod Going
-mod News
-mod Queueing
-mod Steps
-mod Visiting
-mod Writing
+pub mod Driving
+pub mod Endings
+pub mod Feeding
+pub mod Going
+pub mod News
+pub mod Queueing
+pub mod Steps
+pub mod Visiting
+pub mod Writing

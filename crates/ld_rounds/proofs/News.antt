@@ -1,5 +1,5 @@
 -- Messages that are new, as they are sent, taken and lost.
-use Rattle.std.proofs.Common.{◌≡◌, ◌≢◌, ℕ, suc, ◌+◌, ◌-◌, ◌<◌, ◌≤◌, Bool, true, false, not, ◌==◌, ◌&&◌, List, [], ◌∷◌, ◌++◌, filter, length, set, Some, None, refl, ap, sym, ◌∙◌, subst, inl, inr, arith, nat_le, slice_get, if◌then◌else◌}
+use Rattle.std.proofs.Common.{◌≡◌, ◌≢◌, ℕ, suc, ◌+◌, ◌-◌, ◌<◌, ◌≤◌, Bool, true, false, not, ◌==◌, ◌&&◌, List, [], ◌∷◌, ◌++◌, filter, length, set, Some, None, refl, ap, sym, ◌∙◌, subst, inl, inr, arith, nat_le, slice_get, if◌then◌else◌, replicate, zero}
 use Rattle.std.proofs.lemmas.List.{append-nil, append_assoc, get_or-set_same, get_or-set_other, length-set}
 use Rattle.std.proofs.lemmas.List.Elements.{filter-append}
 use Rattle.std.proofs.lemmas.Bool.{eq-eqb, eqb-true, ne_eqb, le-leb, lt-ltb, cases_eq}
@@ -10,7 +10,7 @@ use Rattle.ld_msg.specs.declared.msg.Who.TheVariants as whos
 use Rattle.ld_msg.specs.declared.msg.Msg.{Msg}
 use Rattle.ld_msg.specs.Network.{Network, message, send, send_all, mark}
 use Rattle.ld_bounds.specs.Sound.{is_node}
-use Rattle.ld_rounds.specs.Queued.{queue_of, put_to, put_one, put_all}
+use Rattle.ld_rounds.specs.Queued.{queue_of, no_queues, put_to, put_one, put_all}
 use Rattle.ld_rounds.specs.News.{goes_to, waits_for, is_answer, chosen, places_of, without, RiseBelow, AreAt, AreNews}
 
 -- ---- taken ----
@@ -303,3 +303,22 @@ sent_asks first w qs ans (m ∷ ms) n l f =
 -- the first message that waits for a node goes to it
 pub first_waits : (first : ℕ) (w : Network) (qs : List (List Msg)) (ans : List Msg) (y : ℕ) (m : Msg) (rest : List Msg) → AreNews first w qs ans → IsNode y → queue_of qs y ≡ m ∷ rest → m.to ≡ whos.Node y
 first_waits first w qs ans y m rest n is q = waits_is y m (pick first w.count (waits_for y) n.news m rest n.rise (n.queued y is ∙ q)).is
+
+-- ---- at first ----
+
+none_waits : (n y : ℕ) → let none : List Msg = [] in queue_of (replicate n none) y ≡ none
+none_waits zero y = refl
+none_waits (suc n) zero = refl
+none_waits (suc n) (suc y) = none_waits n y
+
+-- where no message is new that is still to be sent, nothing waits, and no answer is to be taken
+pub no_news : (w : Network) → filter (λ i. nat_le w.count i) w.fresh ≡ [] → AreNews w.count w no_queues []
+no_news w h = record {
+  news = [];
+  from = omega arith;
+  fresh = h;
+  there = tt;
+  rise = tt;
+  queued = λ y is. sym (none_waits 17 y);
+  answers_are = refl;
+}

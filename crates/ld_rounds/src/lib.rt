@@ -4,6 +4,7 @@
 mod actor;
 mod appends;
 mod ended;
+mod laws;
 mod output;
 mod payloads;
 mod queue;
@@ -14,6 +15,7 @@ mod visits;
 pub use actor::{Actor, Heard};
 pub use appends::{Appended, Appends, Feed, append};
 pub use ended::{Ended, Refusal};
+pub use laws::drives_may_begin;
 pub use output::{write_all, write_lines};
 pub use payloads::{InputFault, Payloads};
 pub use queues::Queues;
