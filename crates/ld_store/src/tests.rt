@@ -1,8 +1,7 @@
 // Stores on disks in memory: what stands on the disk, and what a load finds after a crash.
-ghost use Rattle.std.specs.Prelude.{◌≡◌, ◌≤◌, ◌<◌, ◌-◌, ◌^◌, IfOk, OnOk, true, false};
+ghost use Rattle.std.specs.Prelude.{◌≡◌, ◌≤◌, ◌<◌, ◌-◌, ◌^◌, IfOk, false};
 ghost use Rattle.ld_op.specs.Bounds.{IsOp};
 ghost use Rattle.ld_store.specs.Ops.{is_format};
-ghost use Rattle.ld_store.specs.Open.{is_blank};
 
 use crate::{Store, StoreFault};
 use ld_disk::{Disk, Fault, MemDisk, Picture};
@@ -29,16 +28,47 @@ fn new_disk(alloc: Global) -> Result<MemDisk, StoreFault> {
     }
 }
 
-/// A store that was formatted under generation 1 before any log had an epoch.
-fn formatted(alloc: Global) -> Result<Store<MemDisk>, StoreFault>
-    ensures { IfOk result (λ store. is_blank store ≡ false) }
-{
-    let mut store = loaded(alloc, new_disk(alloc)?)?;
+fn first_log() -> Result<LogId, StoreFault> {
+    match LogId::new(1) {
+        Some(log) => Ok(log),
+        None => Err(StoreFault::NoMemory),
+    }
+}
+
+/// Formats a blank store under generation 1 before any log had an epoch.
+fn format<D: Disk>(alloc: Global, store: &mut Store<D>) -> Result<(), StoreFault> {
     if !store.is_blank() {
         return Err(StoreFault::Full);
     }
-    store.format(alloc, 1, Epochs::new(Vec::new(alloc)))?;
+    store.format(alloc, 1, Epochs::new(Vec::new(alloc)))
+}
+
+fn formatted(alloc: Global) -> Result<Store<MemDisk>, StoreFault> {
+    let mut store = loaded(alloc, new_disk(alloc)?)?;
+    format(alloc, &mut store)?;
     Ok(store)
+}
+
+/// Formats a blank store that is lost up to epoch 3 of a log.
+fn format_lost<D: Disk>(alloc: Global, store: &mut Store<D>, log: LogId) -> Result<(), StoreFault> {
+    if !store.is_blank() {
+        return Err(StoreFault::Full);
+    }
+    let mut list = Vec::new(alloc);
+    if list.push((log, 3)).is_err() {
+        return Err(StoreFault::NoMemory);
+    }
+    store.format(alloc, 1, Epochs::new(list))
+}
+
+/// Keeps an op in a formatted store.
+fn keep<D: Disk>(alloc: Global, store: &mut Store<D>, op: Op) -> Result<(), StoreFault>
+    requires { IsOp op × (is_format op ≡ false) }
+{
+    if store.is_blank() {
+        return Err(StoreFault::Full);
+    }
+    store.apply(alloc, op)
 }
 
 /// The op of a store under a place of epoch 1.
@@ -57,70 +87,6 @@ fn accept(alloc: Global, log: LogId, esn: u32) -> Result<Op, NoMemory>
             what: What::Rec(Payload::new(bytes)),
         },
     })
-}
-
-#[test]
-fn a_format_is_one_record(rt: HostRuntime) -> Result<(), Fail> {
-    let alloc = rt.alloc();
-    let mut disk = formatted(alloc)?.into_disk();
-    let mut bytes = [9; 13];
-    assert_eq!(rt; disk.read(0, &mut bytes)?, 12);
-    assert_eq!(rt; bytes, [1, 0, 0, 0, 6, 1, 0, 0, 0, 1, 0, 0, 9]);
-    Ok(())
-}
-
-#[test]
-fn an_open_gate_alone_is_damaged(rt: HostRuntime) -> Result<(), Fail> {
-    let alloc = rt.alloc();
-    let mut disk = new_disk(alloc)?;
-    disk.reserve(1, 1)?;
-    disk.write_at(0, &[1])?;
-    match Store::load(alloc, disk) {
-        Ok(_) => assert!(rt; false),
-        Err((_, fault)) => assert_eq!(rt; fault, StoreFault::Damaged(0)),
-    }
-    Ok(())
-}
-
-#[test]
-fn a_new_disk_is_blank(rt: HostRuntime) -> Result<(), Fail> {
-    let alloc = rt.alloc();
-    let store = loaded(alloc, new_disk(alloc)?)?;
-    assert!(rt; store.is_blank());
-    assert_eq!(rt; store.plain().generation(), 0);
-    let again = loaded(alloc, formatted(alloc)?.into_disk())?;
-    assert!(rt; !again.is_blank());
-    assert_eq!(rt; again.plain().generation(), 1);
-    Ok(())
-}
-
-/// Whether an accepted entry is there after a crash in the k-th writing call of its record, a restart and a load.
-fn is_there_after(alloc: Global, log: LogId, k: u64, picture: Picture) -> Result<bool, StoreFault> {
-    let mut store = formatted(alloc)?;
-    let op = accept(alloc, log, 1)?;
-    store.arm(Fault::CrashAt(k, picture));
-    if store.apply(alloc, op) != Err(StoreFault::Disk) {
-        return Err(StoreFault::Full);
-    }
-    let mut disk = store.into_disk();
-    disk.restart();
-    let again = loaded(alloc, disk)?;
-    let is_there = again.plain().entry(log, Lsn::new(1, 1)).is_some();
-    Ok(is_there)
-}
-
-#[test]
-fn the_picture_of_a_crash_decides(rt: HostRuntime) -> Result<(), Fail> {
-    let alloc = rt.alloc();
-    if let Some(log) = LogId::new(1) {
-        for k in 1..5 {
-            for picture in PICTURES {
-                let expected = k >= 3 && picture == Picture::New;
-                assert_eq!(rt; is_there_after(alloc, log, k, picture), Ok(expected));
-            }
-        }
-    }
-    Ok(())
 }
 
 /// What is looked at of a plain state: of one log, its place 1 and its epoch 1.
@@ -159,28 +125,6 @@ const LOST: Seen = Seen {
     is_lost: true,
     ..BLANK
 };
-
-/// Formats a blank store that is lost up to epoch 3 of a log.
-fn format_lost(alloc: Global, store: &mut Store<MemDisk>, log: LogId) -> Result<(), StoreFault> {
-    if !store.is_blank() {
-        return Err(StoreFault::Full);
-    }
-    let mut list = Vec::new(alloc);
-    if list.push((log, 3)).is_err() {
-        return Err(StoreFault::NoMemory);
-    }
-    store.format(alloc, 1, Epochs::new(list))
-}
-
-/// Keeps an op in a formatted store.
-fn keep(alloc: Global, store: &mut Store<MemDisk>, op: Op) -> Result<(), StoreFault>
-    requires { IsOp op × (is_format op ≡ false) }
-{
-    if store.is_blank() {
-        return Err(StoreFault::Full);
-    }
-    store.apply(alloc, op)
-}
 
 /// One op of each kind but a format.
 fn change(alloc: Global, log: LogId, kind: u64) -> Result<Op, NoMemory>
@@ -253,95 +197,113 @@ fn shown_after(kind: u64) -> Seen {
     }
 }
 
-/// The store as a crash in the k-th writing call of an op's record leaves it.
-fn torn(
-    alloc: Global,
-    log: LogId,
-    kind: u64,
-    k: u64,
-    picture: Picture,
-) -> Result<Store<MemDisk>, StoreFault> {
-    let mut store = loaded(alloc, new_disk(alloc)?)?;
+/// Makes the change of a kind, 1 a format of a store that is lost and the others an op.
+fn make<D: Disk>(alloc: Global, store: &mut Store<D>, kind: u64) -> Result<(), StoreFault> {
+    let log = first_log()?;
     if kind == 1 {
-        store.arm(Fault::CrashAt(k, picture));
-        let _ = format_lost(alloc, &mut store, log);
-    } else {
-        format_lost(alloc, &mut store, log)?;
-        let op = change(alloc, log, kind)?;
-        store.arm(Fault::CrashAt(k, picture));
-        let _ = keep(alloc, &mut store, op);
+        return format_lost(alloc, store, log);
     }
+    let op = change(alloc, log, kind)?;
+    keep(alloc, store, op)
+}
+
+/// What is seen after a crash in the k-th writing call of a change's record, a restart and a load.
+fn seen_after(alloc: Global, kind: u64, k: u64, picture: Picture) -> Result<Seen, StoreFault> {
+    let mut store = loaded(alloc, new_disk(alloc)?)?;
+    if kind != 1 {
+        make(alloc, &mut store, 1)?;
+    }
+    store.arm(Fault::CrashAt(k, picture));
+    let _ = make(alloc, &mut store, kind);
     let mut disk = store.into_disk();
     disk.restart();
-    loaded(alloc, disk)
+    let store = loaded(alloc, disk)?;
+    Ok(shown(store.plain(), first_log()?))
 }
 
 #[test]
 fn each_op_is_there_or_is_not(rt: HostRuntime) -> Result<(), Fail> {
-    let alloc = rt.alloc();
-    if let Some(log) = LogId::new(1) {
-        for kind in 1..8 {
-            let before = if kind == 1 { BLANK } else { LOST };
-            // The record has four writing calls, and the load one: the ninth doesn't come.
-            for k in [1, 2, 3, 4, 9] {
-                for picture in PICTURES {
-                    let is_there = k == 9 || (k >= 3 && picture == Picture::New);
-                    let expected = if is_there { shown_after(kind) } else { before };
-                    let store = torn(alloc, log, kind, k, picture)?;
-                    assert_eq!(rt; shown(store.plain(), log), expected);
-                }
+    for kind in 1..8 {
+        let before = if kind == 1 { BLANK } else { LOST };
+        // The record has four writing calls, and the load one: the ninth doesn't come.
+        for k in [1, 2, 3, 4, 9] {
+            for picture in PICTURES {
+                let is_there = k == 9 || (k >= 3 && picture == Picture::New);
+                let expected = if is_there { shown_after(kind) } else { before };
+                assert_eq!(rt; seen_after(rt.alloc(), kind, k, picture)?, expected);
             }
         }
     }
     Ok(())
 }
 
-/// A store that accepted so many entries.
-fn filled(alloc: Global, log: LogId, count: u32) -> Result<Store<MemDisk>, StoreFault>
-    requires { count < 2 ^ 32 - 1 }
-{
-    let mut store = formatted(alloc)?;
-    for esn in 1..=count {
-        let op = accept(alloc, log, esn)?;
-        keep(alloc, &mut store, op)?;
-    }
-    Ok(store)
+#[test]
+fn a_format_is_one_record(rt: HostRuntime) -> Result<(), Fail> {
+    let mut disk = formatted(rt.alloc())?.into_disk();
+    let mut bytes = [9; 13];
+    assert_eq!(rt; disk.read(0, &mut bytes)?, 12);
+    assert_eq!(rt; bytes, [1, 0, 0, 0, 6, 1, 0, 0, 0, 1, 0, 0, 9]);
+    Ok(())
+}
+
+/// The fault of a load of a disk that holds the byte 1, an open gate, and nothing behind it.
+fn fault_of_a_gate(alloc: Global) -> Result<Option<StoreFault>, Fail> {
+    let mut disk = new_disk(alloc)?;
+    disk.reserve(1, 1)?;
+    disk.write_at(0, &[1])?;
+    Ok(loaded(alloc, disk).err())
 }
 
 #[test]
-fn many_accepts_are_loaded_again(rt: HostRuntime) -> Result<(), Fail> {
-    let alloc = rt.alloc();
-    if let Some(log) = LogId::new(1) {
-        let store = loaded(alloc, filled(alloc, log, 2_000)?.into_disk())?;
-        assert!(rt; store.plain().entry(log, Lsn::new(1, 1)).is_some());
-        assert!(rt; store.plain().entry(log, Lsn::new(1, 2_000)).is_some());
-        assert!(rt; store.plain().entry(log, Lsn::new(1, 2_001)).is_none());
-    }
+fn an_open_gate_alone_is_damaged(rt: HostRuntime) -> Result<(), Fail> {
+    assert_eq!(rt; fault_of_a_gate(rt.alloc())?, Some(StoreFault::Damaged(0)));
     Ok(())
+}
+
+/// Seals log 1 under ballot 5.
+fn seal<D: Disk>(alloc: Global, store: &mut Store<D>) -> Result<(), StoreFault> {
+    let log = first_log()?;
+    keep(alloc, store, Op::Seal { log, ballot: 5 })
 }
 
 #[test]
 fn a_failed_disk_has_to_be_loaded_again(rt: HostRuntime) -> Result<(), Fail> {
     let alloc = rt.alloc();
-    if let Some(log) = LogId::new(1) {
-        let mut store = formatted(alloc)?;
-        store.arm(Fault::FailAt(2));
-        assert_eq!(rt;
-            keep(alloc, &mut store, Op::Seal { log, ballot: 5 }),
-            Err(StoreFault::Disk)
-        );
-        assert_eq!(rt;
-            keep(alloc, &mut store, Op::Seal { log, ballot: 5 }),
-            Err(StoreFault::NeedsLoad)
-        );
-        assert_eq!(rt; store.plain().sealed(log), 0);
-        let mut again = loaded(alloc, store.into_disk())?;
-        assert_eq!(rt; again.plain().sealed(log), 0);
-        assert_eq!(rt;
-            keep(alloc, &mut again, Op::Seal { log, ballot: 5 }),
-            Ok(())
-        );
-        assert_eq!(rt; again.plain().sealed(log), 5);
+    let mut store = formatted(alloc)?;
+    store.arm(Fault::FailAt(2));
+    assert_eq!(rt; seal(alloc, &mut store), Err(StoreFault::Disk));
+    assert_eq!(rt; seal(alloc, &mut store), Err(StoreFault::NeedsLoad));
+    let mut again = loaded(alloc, store.into_disk())?;
+    assert_eq!(rt; seal(alloc, &mut again), Ok(()));
+    Ok(())
+}
+
+/// Has a store accept so many entries.
+fn fill<D: Disk>(alloc: Global, store: &mut Store<D>, count: u32) -> Result<(), StoreFault>
+    requires { count < 2 ^ 32 - 1 }
+{
+    let log = first_log()?;
+    for esn in 1..=count {
+        let op = accept(alloc, log, esn)?;
+        keep(alloc, store, op)?;
     }
+    Ok(())
+}
+
+/// Whether a store holds an entry at the place.
+fn has<D: Disk>(store: &Store<D>, esn: u32) -> Result<bool, StoreFault> {
+    let log = first_log()?;
+    Ok(store.plain().entry(log, Lsn::new(1, esn)).is_some())
+}
+
+#[test]
+fn many_accepts_are_loaded_again(rt: HostRuntime) -> Result<(), Fail> {
+    let alloc = rt.alloc();
+    let mut store = formatted(alloc)?;
+    fill(alloc, &mut store, 2_000)?;
+    let again = loaded(alloc, store.into_disk())?;
+    assert_eq!(rt; has(&again, 1), Ok(true));
+    assert_eq!(rt; has(&again, 2_000), Ok(true));
+    assert_eq!(rt; has(&again, 2_001), Ok(false));
     Ok(())
 }
