@@ -1,5 +1,5 @@
 // The arguments of a command.
-ghost use Rattle.std.specs.Prelude.{◌≡◌, ℕ, true, None, Some, MatchResult, IfOk, option_map};
+ghost use Rattle.std.specs.Prelude.{◌≡◌, ℕ, true, false, None, Some, MatchResult, IfOk, option_map};
 ghost use Rattle.clap.specs.Words.{rows_of, found_of, first_of};
 ghost use Rattle.ld_ids.specs.Set.{has_node};
 ghost use Rattle.ld_config.specs.Bounds.{IsInBounds};

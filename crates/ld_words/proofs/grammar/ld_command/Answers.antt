@@ -1,6 +1,6 @@
-use Rattle.std.proofs.Common.{ap, codes, ◌∙◌, true}
+use Rattle.std.proofs.Common.{rules, ap, ap₂, codes, ◌≡◌, ◌∙◌, true}
 use Rattle.std.proofs.lemmas.Result.{IfOk-weaker}
-use Rattle.clap.specs.Simple.{app_of_fields, new_shape, on_top}
+use Rattle.clap.specs.Simple.{App, app_of_fields, new_shape, on_top, with_subcommand}
 use Rattle.ld_words.specs.Grammar.{IsCommand, append_shape}
 use Rattle.ld_words.proofs.Commands.{with_command}
 use Rattle.ld_words.proofs.grammar.ld_command.Goals as goal
