@@ -1,5 +1,5 @@
 // Words, as they may be given, and which command they ask for.
-use crate::{Command, LogWords, NodeWords, Places, TailWords, places, read, reason};
+use crate::{Command, LogWords, NodeWords, places, read, reason};
 use std::alloc::Global;
 use std::test::Fail;
 
@@ -40,40 +40,28 @@ fn log_shown(alloc: Global, words: &LogWords) -> Result<String, Fail> {
     Ok(shown)
 }
 
-/// The words of a log that is appended to, in a line.
-fn append_shown(alloc: Global, words: &LogWords) -> Result<String, Fail> {
-    let log = log_shown(alloc, words)?;
-    Ok(format!(in alloc; "append {}", log.as_str())?)
-}
-
-/// The words of a log that is read, in a line.
-fn tail_shown(alloc: Global, words: &TailWords) -> Result<String, Fail> {
-    let log = log_shown(alloc, &words.of)?;
-    let shown = format!(in alloc;
-        "tail {} {} {}",
-        log.as_str(),
-        words.from.value(),
-        words.until.value()
-    )?;
-    Ok(shown)
-}
-
-/// The command, in a line.
-fn command_shown(alloc: Global, command: &Command) -> Result<String, Fail> {
-    match command {
-        Command::Replay => Ok(format!(in alloc; "replay")?),
-        Command::Exercise { seed, events } => Ok(format!(in alloc; "exercise {seed} {events}")?),
-        Command::Node(node) => node_shown(alloc, node),
-        Command::Append(words) => append_shown(alloc, words),
-        Command::Tail(words) => tail_shown(alloc, words),
-    }
-}
-
 /// The command that the line asks for, in a line.
 fn shown(alloc: Global, line: &str) -> Result<String, Fail> {
     let words = words_of(alloc, line)?;
     match read(alloc, &words)? {
-        Some(command) => command_shown(alloc, &command),
+        Some(Command::Replay) => Ok(format!(in alloc; "replay")?),
+        Some(Command::Exercise { seed, events }) => {
+            Ok(format!(in alloc; "exercise {seed} {events}")?)
+        }
+        Some(Command::Node(node)) => node_shown(alloc, &node),
+        Some(Command::Append(words)) => {
+            let log = log_shown(alloc, &words)?;
+            Ok(format!(in alloc; "append {}", log.as_str())?)
+        }
+        Some(Command::Tail(words)) => {
+            let log = log_shown(alloc, &words.of)?;
+            Ok(format!(in alloc;
+                "tail {} {} {}",
+                log.as_str(),
+                words.from.value(),
+                words.until.value()
+            )?)
+        }
         None => Ok(format!(in alloc; "none")?),
     }
 }
@@ -243,21 +231,16 @@ fn words_of_tails(rt: HostRuntime) -> Result<(), Fail> {
     Ok(())
 }
 
-/// The store's file, where there is one.
-fn store_shown(places: &Places) -> &str {
-    match &places.store {
-        Some(store) => store.as_str(),
-        None => "no store",
-    }
-}
-
 /// The places that the line names, in a line.
 fn places_shown(alloc: Global, line: &str) -> Result<String, Fail> {
     let words = words_of(alloc, line)?;
     match places(alloc, &words)? {
         Some(places) => Ok(format!(in alloc;
             "{} {} {}",
-            store_shown(&places),
+            places
+                .store
+                .as_ref()
+                .map_or("no store", |store| store.as_str()),
             places.register.as_str(),
             places.port
         )?),
