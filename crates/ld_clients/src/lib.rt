@@ -16,4 +16,5 @@ mod tests;
 pub use lookup::find_spec;
 pub use outcome::Outcome;
 pub use readers::Readers;
+pub use report::told;
 pub use sequencers::Sequencers;
