@@ -1,4 +1,5 @@
 pub mod Acting
+pub mod Finished
 pub mod Followers
 pub mod Items
 pub mod Looked

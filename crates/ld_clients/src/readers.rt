@@ -5,6 +5,7 @@ ghost use Rattle.ld_ids.specs.Choice.{nodes_of};
 ghost use Rattle.ld_reader.specs.Following.{Following, messages_from, asked, asks, replied, with_reader};
 ghost use Rattle.ld_reader.specs.Clipped.{all_clipped};
 ghost use Rattle.ld_machine.specs.State.{reader_of};
+ghost use Rattle.ld_clients.specs.Finished.{finished_in};
 ghost use Rattle.ld_clients.specs.Followers.{reader_in, readers_of};
 
 use indexmap::IndexMap;
@@ -55,6 +56,17 @@ impl Readers {
         ensures { result ≡ is_some (find_named name.now self.now) }
     {
         self.map.contains_key(name)
+    }
+
+    /// Whether the reader of the name is there and past its last number.
+    #[tactic(auto, unfolding(ld_table::specs::Named::find_named, ld_table::specs::Named::same))]
+    pub fn is_finished(&self, name: &Name) -> bool
+        ensures { result ≡ finished_in (find_named name.now self.now) }
+    {
+        match self.map.get(name) {
+            Some(reader) => reader.finished(),
+            None => false,
+        }
     }
 
     /// The name of the reader of a number, its place in the order of opening.
