@@ -1,0 +1,8 @@
+//! A reader that is driven.
+#![tactic(auto)]
+
+mod reads;
+mod tails;
+
+pub use reads::Reading;
+pub use tails::tail;
