@@ -28,6 +28,8 @@ fn drive<N: Nodes, O: Sink>(
     out: &mut O,
 ) -> Result<bool, Ended>
     requires { IsInBounds config.now }
+    ensures drove { (s : State) (far : Far) → N.tells nodes.old config.now far → Begins config.now s far
+        → (N.silent nodes.new ≡ true) ⊎ DroveTail name (N.tells nodes.new) config.now s (O.written out.old) (O.written out.new) result }
     ensures cause { IfErr result (IsEnding (O.faults out.old) (O.faults out.new) (O.written out.old) (O.written out.new)) }
 {
     let Ok(mut queues) = Queues::new(alloc) else {
@@ -66,6 +68,10 @@ pub fn tail<N: Nodes, O: Sink>(
     out: &mut O,
 ) -> Ended
     requires { IsInBounds config.now }
+    // Where the nodes tell what stands there: all that was done are steps of the written machine from any state without readers
+    // that the nodes stand for, and the lines that were written are the reader's lines of those steps.
+    ensures tailed { (s : State) (far : Far) → N.tells nodes.old config.now far → Begins config.now s far
+        → (N.silent nodes.new ≡ true) ⊎ IsTailed name (N.tells nodes.new) config.now s (O.written out.old) (O.written out.new) result }
     ensures cause { IsTailEnd (O.faults out.old) (O.faults out.new) (O.written out.old) (O.written out.new) result }
 {
     match drive(
