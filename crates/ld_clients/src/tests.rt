@@ -158,6 +158,19 @@ fn activates<G: Register>(
     shows(alloc, &outcome, lines, b"")
 }
 
+// A register on an empty disk, from which `s` got the first epoch.
+fn activated(
+    alloc: Global,
+    sequencers: &mut Sequencers,
+) -> Result<DiskRegister<MemDisk>, NoMemory> {
+    let mut reg = new_register(alloc)?;
+    if activates(alloc, sequencers, &mut reg, b"active s 1\n")? {
+        Ok(reg)
+    } else {
+        Err(NoMemory)
+    }
+}
+
 fn appends(
     alloc: Global,
     sequencers: &mut Sequencers,
@@ -297,9 +310,8 @@ fn a_log_is_found_by_its_number(rt: HostRuntime) -> Result<(), Fail> {
 #[test]
 fn a_trim_tells_all_nodes(rt: HostRuntime) -> Result<(), Fail> {
     let alloc = rt.alloc();
-    let mut reg = new_register(alloc)?;
     let mut sequencers = Sequencers::new(alloc);
-    assert!(rt; activates(alloc, &mut sequencers, &mut reg, b"active s 1\n")?);
+    let _ = activated(alloc, &mut sequencers)?;
     assert!(rt; serves(&sequencers, b"s")?);
     assert!(rt; trims(alloc, &sequencers, b"trimmed s e1n0\n", b"t1t2t3")?);
     Ok(())
@@ -308,9 +320,8 @@ fn a_trim_tells_all_nodes(rt: HostRuntime) -> Result<(), Fail> {
 #[test]
 fn the_second_node_acknowledges(rt: HostRuntime) -> Result<(), Fail> {
     let alloc = rt.alloc();
-    let mut reg = new_register(alloc)?;
     let mut sequencers = Sequencers::new(alloc);
-    assert!(rt; activates(alloc, &mut sequencers, &mut reg, b"active s 1\n")?);
+    let mut reg = activated(alloc, &mut sequencers)?;
     assert!(rt; appends(alloc, &mut sequencers, b"appended s e1n1\n", b"s3s1")?);
     assert!(rt; hears(alloc, &mut sequencers, &mut reg, 1, b"", b"")?);
     let lines = b"acked s e1n1\nreleased s e1n1\n";
@@ -321,9 +332,8 @@ fn the_second_node_acknowledges(rt: HostRuntime) -> Result<(), Fail> {
 #[test]
 fn a_retry_goes_to_the_next_wave(rt: HostRuntime) -> Result<(), Fail> {
     let alloc = rt.alloc();
-    let mut reg = new_register(alloc)?;
     let mut sequencers = Sequencers::new(alloc);
-    assert!(rt; activates(alloc, &mut sequencers, &mut reg, b"active s 1\n")?);
+    let mut reg = activated(alloc, &mut sequencers)?;
     assert!(rt; appends(alloc, &mut sequencers, b"appended s e1n1\n", b"s3s1")?);
     assert!(rt; retries(alloc, &mut sequencers, &mut reg, b"s1s2")?);
     Ok(())
@@ -332,9 +342,8 @@ fn a_retry_goes_to_the_next_wave(rt: HostRuntime) -> Result<(), Fail> {
 #[test]
 fn a_dropped_sequencer_does_nothing_more(rt: HostRuntime) -> Result<(), Fail> {
     let alloc = rt.alloc();
-    let mut reg = new_register(alloc)?;
     let mut sequencers = Sequencers::new(alloc);
-    assert!(rt; activates(alloc, &mut sequencers, &mut reg, b"active s 1\n")?);
+    let mut reg = activated(alloc, &mut sequencers)?;
     assert!(rt; drops(alloc, &mut sequencers)?);
     assert!(rt; appends(alloc, &mut sequencers, b"", b"")?);
     // its name stays taken
