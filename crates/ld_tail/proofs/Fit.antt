@@ -1,10 +1,8 @@
 -- The readers of a drive are those of a sound state.
-use Rattle.std.proofs.Common.{◌≡◌, ℕ, List, [], ◌∷◌, Option, Some, None, refl, ap, sym, ◌∙◌, subst}
-use Rattle.std.specs.List.{AllByRecursion}
+use Rattle.std.proofs.Common.{◌≡◌, ℕ, List, [], ◌∷◌, Some, refl, ap, sym, ◌∙◌, subst}
 use Rattle.ld_table.specs.Named.{find_named}
 use Rattle.ld_config.specs.declared.config.Config.{Config}
 use Rattle.ld_config.specs.Bounds.{IsInBounds}
-use Rattle.ld_schedule.specs.declared.event.Event.{Event}
 use Rattle.ld_schedule.specs.declared.event.Event.TheVariants as events
 use Rattle.ld_msg.specs.declared.msg.Who.TheVariants as whos
 use Rattle.ld_msg.specs.declared.msg.Msg.{Msg}
@@ -14,10 +12,10 @@ use Rattle.ld_node_bounds.specs.Messages.{AreMessages}
 use Rattle.ld_reader.specs.Following.{Following}
 use Rattle.ld_machine.specs.State.{State, Done, start, reader_of}
 use Rattle.ld_machine.specs.Step.{happens, delivers, delivers_it, comes_to, to_reader, marked}
-use Rattle.ld_bounds.specs.Sound.{IsSound, IsEvent, IsDoneSoundly}
+use Rattle.ld_bounds.specs.Sound.{IsSound, IsDoneSoundly}
 use Rattle.ld_bounds.proofs.Steps.{delivers_is, happens_is, start_is}
 use Rattle.ld_clients.specs.declared.outcome.Outcome.{Outcome}
-use Rattle.ld_clients.specs.Followers.{readers_of, KnowTheirLogs}
+use Rattle.ld_clients.specs.Followers.{KnowTheirLogs}
 use Rattle.ld_clients.specs.Reads.{AreReaders, IsRead}
 use Rattle.ld_tail.specs.Readers.{AreFit}
 

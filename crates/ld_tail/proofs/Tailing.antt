@@ -1,5 +1,5 @@
 -- A reader is driven.
-use Rattle.std.proofs.Common.{◌≡◌, ◌⊎◌, ℕ, zero, suc, get_or, replicate, Bool, true, false, List, [], ◌∷◌, ◌++◌, length, filter, nat_le, Option, Some, None, Ok, Err, refl, ap, sym, ◌∙◌, subst, inl, inr, arith}
+use Rattle.std.proofs.Common.{◌≡◌, ◌⊎◌, ℕ, Bool, true, false, List, [], Option, Some, None, Ok, Err, refl, ap, sym, ◌∙◌, subst, inl, inr}
 use Rattle.std.specs.Prelude.{MatchResult}
 use Rattle.std.specs.declared.result.Result.{Result}
 use Rattle.ld_table.specs.Named.{find_named}
@@ -9,12 +9,10 @@ use Rattle.ld_schedule.specs.declared.event.Event.TheVariants as events
 use Rattle.ld_msg.specs.declared.msg.Msg.{Msg}
 use Rattle.ld_msg.specs.Network.{Network}
 use Rattle.ld_msg.specs.Bounds.{Is64}
-use Rattle.ld_msg.specs.Reader.{Reader, is_finished}
 use Rattle.ld_reader.specs.Following.{Following}
 use Rattle.ld_machine.specs.Disk.{Node}
-use Rattle.ld_machine.specs.State.{State, finish}
+use Rattle.ld_machine.specs.State.{State}
 use Rattle.ld_machine.specs.Step.{happens}
-use Rattle.ld_machine.specs.Run.{step}
 use Rattle.ld_dial.specs.Far.{Far}
 use Rattle.ld_clients.specs.Finished.{finished_in}
 use Rattle.ld_clients.specs.Followers.{readers_of}
@@ -23,16 +21,16 @@ use Rattle.ld_clients.proofs.Names.{find_each_some}
 use Rattle.ld_rounds.specs.declared.ended.Ended.{Ended}
 use Rattle.ld_rounds.specs.declared.ended.Ended.TheVariants as ends
 use Rattle.ld_rounds.specs.declared.actor.Heard.{Heard}
-use Rattle.ld_rounds.specs.Queued.{queue_of, no_queues, put_all}
+use Rattle.ld_rounds.specs.Queued.{no_queues, put_all}
 use Rattle.ld_rounds.specs.News.{AreNews}
 use Rattle.ld_rounds.specs.Acts.{IsActed}
 use Rattle.ld_rounds.specs.Telling.{HasTold, IsTelling}
-use Rattle.ld_rounds.specs.Drives.{Goes, Holds, Moved, Went, Stopped, Stops, GoesOn}
+use Rattle.ld_rounds.specs.Drives.{Holds, Moved, Went, Stops, GoesOn}
 use Rattle.ld_rounds.specs.Endings.{IsEnding}
 use Rattle.ld_tail.specs.Tails.{Begins, Reached, IsFinished, IsTailed, IsTailEnd, DroveTail}
 use Rattle.ld_tail.proofs.Fit.{none_are}
 use Rattle.ld_rounds.proofs.News.{no_news}
-use Rattle.ld_rounds.proofs.Steps.{poll_is, open_is}
+use Rattle.ld_rounds.proofs.Steps.{open_is}
 use Rattle.ld_rounds.proofs.Driving.{acted_on}
 use Rattle.ld_rounds.proofs.Going.{goes_told, goes_as}
 
@@ -40,7 +38,7 @@ use Rattle.ld_rounds.proofs.Going.{goes_told, goes_as}
 abbrev pub reading : List (List ℕ × Following) → Config → State → Type 0
 reading fs c s = AreReaders c s fs
 
-pub reading_apart : (fs : List (List ℕ × Following)) (c : Config) (s : State) (nodes : List (ℕ × Node)) (network : Network) → reading fs c s → reading fs c (record s { nodes = nodes; network = network })
+reading_apart : (fs : List (List ℕ × Following)) (c : Config) (s : State) (nodes : List (ℕ × Node)) (network : Network) → reading fs c s → reading fs c (record s { nodes = nodes; network = network })
 reading_apart fs c s nodes network h = record { readers = h.readers; logs = h.logs }
 
 module _ (name : List ℕ) (c : Config) (b : IsInBounds c) where

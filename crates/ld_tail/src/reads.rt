@@ -12,12 +12,12 @@ ghost use Rattle.ld_clients.specs.Reads.{AreReaders};
 ghost use Rattle.ld_rounds.specs.Acts.{IsActed};
 ghost use Rattle.ld_tail.specs.Readers.{ToReader};
 
-use ld_rounds::{Actor, Heard, Reads};
 use ld_clients::{Outcome, Readers};
 use ld_config::Config;
 use ld_ids::{LogId, Name, NoMemory};
 use ld_lsn::Lsn;
 use ld_msg::{Msg, Who};
+use ld_rounds::{Actor, Heard, Reads};
 use std::alloc::Global;
 use std::marker::Model;
 
@@ -58,7 +58,6 @@ fn no_readers(alloc: Global, config: &Config, name: Name, log: LogId) -> Reading
     requires { IsInBounds config.now }
     ensures { result ≡ record { name = name; log = log; readers = [] } }
 {
-    let _ = config.nodes.len();
     Reading {
         name,
         log,

@@ -7,12 +7,12 @@ ghost use Rattle.ld_rounds.specs.Endings.{IsEnding};
 ghost use Rattle.ld_tail.specs.Tails.{Begins, IsTailed, IsTailEnd, DroveTail};
 
 use crate::Reading;
-use ld_rounds::{Ended, Queues, read, tell};
 use ld_config::Config;
 use ld_dial::Nodes;
 use ld_ids::{LogId, Name};
 use ld_io::Sink;
 use ld_lsn::Lsn;
+use ld_rounds::{Ended, Queues, read, tell};
 use std::alloc::Global;
 
 /// Opens the reader and drives it. True where it is finished.
@@ -49,6 +49,7 @@ fn drive<N: Nodes, O: Sink>(
         &mut queues,
         out,
     )?;
+    // What a drive says speaks of no name: the reader is asked by its name.
     Ok(reading.has_finished(&name))
 }
 
@@ -74,9 +75,7 @@ pub fn tail<N: Nodes, O: Sink>(
         → (N.silent nodes.new ≡ true) ⊎ IsTailed name (N.tells nodes.new) config.now s (O.written out.old) (O.written out.new) result }
     ensures cause { IsTailEnd (O.faults out.old) (O.faults out.new) (O.written out.old) (O.written out.new) result }
 {
-    match drive(
-        alloc, config, name, log, from, until, rounds, nodes, out,
-    ) {
+    match drive(alloc, config, name, log, from, until, rounds, nodes, out) {
         Ok(true) => Ended::Done,
         Ok(false) => Ended::Rounds,
         Err(ended) => ended,

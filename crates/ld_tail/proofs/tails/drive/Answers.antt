@@ -1,4 +1,4 @@
-use Rattle.std.proofs.Common.{◌≡◌, sym, subst, inl, inr, refl, None, Ok, Err, true, Bool, List, [], rules}
+use Rattle.std.proofs.Common.{◌≡◌, sym, subst, inr, Ok, Err, true, List, [], rules}
 use Rattle.std.specs.Prelude.{IfSome}
 use Rattle.std.proofs.lemmas.Result.{err_from_is_err_and}
 use Rattle.ld_msg.specs.declared.msg.Msg.{Msg}
@@ -29,7 +29,7 @@ returns-in_err-tell-clause-drove g c s far told h =
     let e = c.in_err-tell.field-0.0 in
     let begins = subst (λ (qs : List (List Msg)). Holds (reading []) k first s far qs) (sym c.in-Ok.ensures) (begun c.args.name k c.requires s far h) in
     let stops = opened_on c.args.name k c.requires first [] c.in-Ok-open.reading.readers s far c.in-Ok.queues c.tell.new.queues old new heard begins (Err e) c.in_err-tell.ensures.told (g.N.Nodes.tells c.args.nodes.now k) told
-        c.args.log c.args.from c.args.until until (c.in-Ok-open.ensures.opened s (none_are k s h.readers)) in
+    c.args.log c.args.from c.args.until until (c.in-Ok-open.ensures.opened s (none_are k s h.readers)) in
     let why = c.in_err-tell.ensures.ending (subst (λ o. IfSome o (IsSaid heard.lines.items)) (sym c.in-Ok-open.ensures.goes_on) tt) in
     rw (p.1, p.2) (inr (drove_not c.args.name (g.N.Nodes.tells c.args.nodes.now) k first s c.in-Ok-open.reading.readers c.tell.new.queues old new (g.O.Sink.faults c.args.out.now) (g.O.Sink.faults c.tell.new.out) e why stops))
 
@@ -51,7 +51,7 @@ returns-in_err-read-clause-drove g c s far told h =
     let Y = g.N.Nodes.silent c.read.new.nodes ≡ true in
     let begins = subst (λ (qs : List (List Msg)). Holds (reading []) k first s far qs) (sym c.in-Ok.ensures) (begun c.args.name k c.requires s far h) in
     let w = opened_on c.args.name k c.requires first [] gs s far c.in-Ok.queues c.tell.new.queues old mid heard begins (Ok tt) c.in_ok-tell.ensures.told T told
-        c.args.log c.args.from c.args.until until (c.in-Ok-open.ensures.opened s (none_are k s h.readers)) in
+    c.args.log c.args.from c.args.until until (c.in-Ok-open.ensures.opened s (none_are k s h.readers)) in
     let stops = then_on c.args.name k first c.requires {R = Unit {0}} Y Y (reading gs) (reading rs) T U s c.tell.new.queues c.read.new.queues old mid new (Err e) (λ y. y) (λ v. c.in_err-read.ensures.held k first v.moved.state v.far c.requires v.told v.moved.holds) (inr w) in
     let why = ending_since _ _ _ _ _ _ e c.in_ok-tell.ensures.later c.in_err-read.ensures.cause in
     rw (p.1, p.2) (drove_not_loud c.args.name (g.N.Nodes.tells c.read.new.nodes) k first s rs c.read.new.queues old new Y (g.O.Sink.faults c.args.out.now) (g.O.Sink.faults c.read.new.out) e why stops)
@@ -77,6 +77,6 @@ returns-clause-drove g c s far told h =
     let Y = g.N.Nodes.silent c.read.new.nodes ≡ true in
     let begins = subst (λ (qs : List (List Msg)). Holds (reading []) k first s far qs) (sym c.in-Ok.ensures) (begun c.args.name k c.requires s far h) in
     let w = opened_on c.args.name k c.requires first [] gs s far c.in-Ok.queues c.tell.new.queues old mid heard begins (Ok tt) c.in_ok-tell.ensures.told T told
-        c.args.log c.args.from c.args.until until (c.in-Ok-open.ensures.opened s (none_are k s h.readers)) in
+    c.args.log c.args.from c.args.until until (c.in-Ok-open.ensures.opened s (none_are k s h.readers)) in
     let went = then_on c.args.name k first c.requires {R = Unit {0}} Y Y (reading gs) (reading rs) T U s c.tell.new.queues c.read.new.queues old mid new (Ok tt) (λ y. y) (λ v. c.in_ok-read.ensures.held k first v.moved.state v.far c.requires v.told v.moved.holds) (inr w) in
     drove_loud c.args.name (g.N.Nodes.tells c.read.new.nodes) k first s rs c.read.new.queues old new Y c.has_finished.result (sym c.has_finished.ensures) went

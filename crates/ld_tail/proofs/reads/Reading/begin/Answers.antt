@@ -1,4 +1,4 @@
-use Rattle.std.proofs.Common.{◌≡◌, [], ap, ◌∙◌, subst, rules}
+use Rattle.std.proofs.Common.{ap, ◌∙◌, subst, rules}
 use Rattle.ld_schedule.specs.declared.event.Event.TheVariants.{Open}
 use Rattle.ld_msg.specs.Bounds.{Is64}
 use Rattle.ld_machine.specs.Step.{happens}

@@ -1,4 +1,4 @@
-use Rattle.std.proofs.Common.{◌≡◌, ℕ, List, [], subst}
+use Rattle.std.proofs.Common.{ℕ, List, subst}
 use Rattle.ld_schedule.specs.declared.event.Event.TheVariants.{Open}
 use Rattle.ld_machine.specs.Step.{happens}
 use Rattle.ld_clients.specs.Reads.{AreReaders}

@@ -1,4 +1,4 @@
-use Rattle.std.proofs.Common.{◌≡◌, sym, subst}
+use Rattle.std.proofs.Common.{sym, subst}
 use Rattle.ld_node_bounds.specs.Messages.{AreMessages}
 use Rattle.ld_machine.specs.State.{reader_of}
 use Rattle.ld_machine.specs.Step.{comes_to, to_reader}

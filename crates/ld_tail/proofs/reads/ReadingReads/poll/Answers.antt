@@ -1,4 +1,4 @@
-use Rattle.std.proofs.Common.{◌≡◌, sym, subst}
+use Rattle.std.proofs.Common.{sym, subst}
 use Rattle.ld_schedule.specs.declared.event.Event.TheVariants.{Poll}
 use Rattle.ld_node_bounds.specs.Messages.{AreMessages}
 use Rattle.ld_machine.specs.Step.{happens}
