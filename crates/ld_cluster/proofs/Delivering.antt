@@ -1,29 +1,26 @@
 -- Messages that are delivered or lost.
-use Rattle.std.proofs.Common.{◌≡◌, ℕ, true, false, ◌&&◌, [], Option, Some, None, refl, ap, sym, ◌∙◌, subst, if◌then◌else◌}
+use Rattle.std.proofs.Common.{◌≡◌, ℕ, true, false, ◌&&◌, [], Option, Some, None, refl, ap, sym, ◌∙◌, subst}
 use Rattle.ld_table.specs.Table.{put}
 use Rattle.ld_table.specs.Words.{is_in}
 use Rattle.ld_config.specs.declared.config.Config.{Config}
 use Rattle.ld_schedule.specs.declared.event.Event.TheVariants as events
 use Rattle.ld_msg.specs.declared.msg.Msg.{Msg}
-use Rattle.ld_msg.specs.declared.msg.Body.{Body}
 use Rattle.ld_msg.specs.Bounds.{IsMessage}
 use Rattle.ld_msg.specs.Network.{Network, message, mark}
-use Rattle.ld_op.specs.declared.op.Op.{Op}
-use Rattle.ld_op.specs.Handles.{answer_message}
 use Rattle.ld_machine.specs.Config.{set_of}
-use Rattle.ld_machine.specs.Disk.{Node, is_up, keep_op, keep_end}
-use Rattle.ld_machine.specs.State.{State, Done, node_at, with_node}
+use Rattle.ld_machine.specs.Disk.{is_up}
+use Rattle.ld_machine.specs.State.{State, Done, node_at}
 use Rattle.ld_machine.specs.Step as step
-use Rattle.ld_machine.specs.Step.{happens, marked, kept_lines, is_written}
+use Rattle.ld_machine.specs.Step.{happens, marked, kept_lines}
 use Rattle.ld_bounds.proofs.Steps.{message_in, marked_is}
 use Rattle.ld_host.specs.declared.hosts.Hosts.{Hosts}
 use Rattle.ld_host.specs.Standing.{AreHosts, node_in}
-use Rattle.ld_host.specs.Done.{op_done, message_done}
+use Rattle.ld_host.specs.Done.{message_done}
+use Rattle.ld_host.proofs.Messaging.{if_not, node_up}
 use Rattle.ld_clients.specs.declared.outcome.Outcome.{Outcome}
 use Rattle.ld_cluster.specs.declared.cluster.Cluster.{Cluster}
 use Rattle.ld_cluster.specs.Standing.{config_of, state_of, Parts, Stands, IsReached}
 use Rattle.ld_cluster.specs.Outcomes.{IsDone}
-use Rattle.ld_cluster.proofs.Chosen.{if_yes, if_not, at_put, put-put}
 use Rattle.ld_cluster.proofs.Parting.{nothing_done, with_network, with_hosts}
 
 -- ---- the message ----
@@ -57,17 +54,6 @@ delivered k k2 w i m o p h d = subst (λ (x : Done). IsDone k k2 o x) (sym (deli
     (record { same = record { config = d.same.config; past = d.same.past }; parts = d.parts; lines = d.lines; sends = d.sends })
 
 -- ---- to a node ----
-
-handles_as : (s : State) (n : ℕ) (x : Node) (m : Msg) (o : Option Op) (b : Option Body) → step.handles (with_node s n x) n m o b
-    ≡ record { state = with_node s n (op_done x o (answer_message n m b)).node; lines = kept_lines n [] (op_done x o (answer_message n m b)).end; sends = (op_done x o (answer_message n m b)).sends }
-handles_as s n x m None b = refl
-handles_as s n x m (Some o) b =
-    ap (λ y. record { state = with_node (with_node s n x) n (keep_op y o); lines = kept_lines n [] (keep_end y o); sends = if is_written (keep_end y o) then answer_message n m b else [] }) (at_put s n x)
-    ∙ ap (λ m'. record { state = record s { nodes = m' }; lines = kept_lines n [] (keep_end x o); sends = if is_written (keep_end x o) then answer_message n m b else [] }) (put-put n x (keep_op x o) s.nodes)
-
-node_up : (c : Config) (s : State) (n : ℕ) (m : Msg) → (is_up (node_at s n).status && is_in n (set_of c m.log)) ≡ true
-    → step.to_node c s n m ≡ record { state = with_node s n (message_done n (node_in s.nodes n) m).node; lines = kept_lines n [] (message_done n (node_in s.nodes n) m).end; sends = (message_done n (node_in s.nodes n) m).sends }
-node_up c s n m h = if_yes _ _ _ h ∙ handles_as s n (step.releases (node_at s n) m.log m.body) m (step.node_handles (node_at s n) m).op (step.node_handles (node_at s n) m).answer
 
 pub not_served : (k : Cluster) (s : State) (n : ℕ) (m : Msg) (o : Outcome) → Parts k s → (is_up (node_at s n).status && is_in n (set_of (config_of k) m.log)) ≡ false → o.lines.items ≡ [] → o.sends ≡ []
     → IsDone k k o (step.to_node (config_of k) s n m)

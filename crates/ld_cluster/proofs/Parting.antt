@@ -6,7 +6,7 @@ use Rattle.ld_config.specs.Bounds.{IsInBounds}
 use Rattle.ld_msg.specs.declared.msg.Summary.{Summary}
 use Rattle.ld_msg.specs.Register.{Epochs, no_epochs, is_crowded}
 use Rattle.ld_machine.specs.Config.{has_log}
-use Rattle.ld_machine.specs.Disk.{Status, Blank, Up, Down, Failed, is_up, is_blank}
+use Rattle.ld_machine.specs.Disk.{Status, Blank, Up, Down, Failed, is_blank}
 use Rattle.ld_bounds.specs.Sound.{IsSound}
 use Rattle.ld_bounds.specs.Registers.{IsClosedBy, IsEpochs, IsKnownLog}
 use Rattle.ld_node_bounds.proofs.Alls.{all-find}
@@ -29,6 +29,7 @@ use Rattle.ld_bounds.proofs.Steps.{start_is}
 use Rattle.ld_reader.specs.Following.{Following}
 use Rattle.ld_register.specs.Arming.{Foresees}
 use Rattle.ld_host.specs.Standing.{AreHosts}
+pub use Rattle.ld_host.proofs.Messaging.{up_is}
 use Rattle.ld_clients.specs.declared.outcome.Outcome.{Outcome}
 use Rattle.ld_clients.specs.Serving.{sequencers_of, KnowTheirLogs}
 use Rattle.ld_clients.specs.Followers as followers
@@ -135,12 +136,6 @@ grown_parts k k' s p e h n q r reg = record {
 }
 
 -- ---- what is known of a sound state ----
-
-pub up_is : (x : Status) → is_up x ≡ true → x ≡ Up
-up_is Up h = refl
-up_is Blank h = absurd cc
-up_is Down h = absurd cc
-up_is Failed h = absurd cc
 
 pub blank_is : (x : Status) → is_blank x ≡ true → x ≡ Blank
 blank_is Blank h = refl

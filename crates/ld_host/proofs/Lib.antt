@@ -12,3 +12,4 @@ pub mod Standings
 pub mod Ticking
 pub mod Formatting
 pub mod Bytes
+pub mod Messaging

@@ -39,6 +39,7 @@ impl Host {
     ghost use Rattle.ld_machine.specs.Step.{with_fault, stopped};
     ghost use Rattle.ld_host.specs.Stands.{Stands, shown_status};
     ghost use Rattle.ld_msg.specs.Register.{Register as Contents};
+    ghost use Rattle.ld_node_bounds.specs.Messages.{AreMessages};
     ghost use Rattle.ld_node.specs.Looks.{AreClosed};
     ghost use Rattle.ld_host.specs.Done.{shown_kept, message_done, HasFormatted, tick_done, tick_answer};
 
@@ -113,9 +114,10 @@ impl Host {
     }
 
     /// What the node makes of a message, where it is up: the op that it keeps, and then what it answers. Where it isn't
-    /// up, nothing happens.
+    /// up, nothing happens. A frame can carry each answer.
     pub fn on_msg(&mut self, alloc: Global, msg: &Msg) -> Result<(Kept, Outbox), NoMemory>
         requires { IsMessage msg.now }
+        ensures messages { IfOk result (λ done. AreMessages done.1) }
         ensures idle { (c : Settings) (n : ℕ) (x : Node) → Stands c n self.old x → x.status ≢ Up → IfOk result (λ done. Stands c n self.new x × (done.0 ≡ Kept.Written) × (done.1 ≡ [])) }
         ensures up { (c : Settings) (n : ℕ) (x : Node) → Stands c n self.old x → x.status ≡ Up → IsInBounds c → msg.now.to ≡ whos.Node n → is_in n (set_of c msg.now.log) ≡ true
             → IfOk result (λ done. Stands c n self.new (message_done n x msg.now).node × (shown_kept done.0 ≡ (message_done n x msg.now).end) × (done.1 ≡ (message_done n x msg.now).sends)) }

@@ -13,6 +13,7 @@ ghost use Rattle.ld_machine.specs.State.{new_nodes};
 ghost use Rattle.ld_machine.specs.Step.{with_fault, stopped};
 ghost use Rattle.ld_host.specs.Stands.{Stands, shown_status};
 ghost use Rattle.ld_msg.specs.Register.{Register as Contents};
+ghost use Rattle.ld_node_bounds.specs.Messages.{AreMessages};
 ghost use Rattle.ld_node.specs.Looks.{AreClosed, op_of};
 ghost use Rattle.ld_host.specs.Done.{shown_kept, message_done, HasFormatted, kept_nodes, tick_of, tick_done, tick_answer};
 ghost use Rattle.ld_host.specs.Standing.{AreHosts, IsTaken, node_in};
@@ -136,7 +137,8 @@ impl Hosts {
         Ok(kept)
     }
 
-    /// What the node makes of a message, where it is up: the op that it keeps, and then what it answers.
+    /// What the node makes of a message, where it is up: the op that it keeps, and then what it answers, which a frame
+    /// can carry.
     pub fn on_msg(
         &mut self,
         alloc: Global,
@@ -144,7 +146,8 @@ impl Hosts {
         msg: &Msg,
     ) -> Result<(Kept, Outbox), NoMemory>
         requires { IsMessage msg.now }
-        ensures { (c : Settings) (nodes : List (ℕ × Node)) → AreHosts c self.old nodes → (node_in nodes node).status ≡ Up → IsInBounds c → msg.now.to ≡ whos.Node node → is_in node (set_of c msg.now.log) ≡ true
+        ensures messages { IfOk result (λ done. AreMessages done.1) }
+        ensures up { (c : Settings) (nodes : List (ℕ × Node)) → AreHosts c self.old nodes → (node_in nodes node).status ≡ Up → IsInBounds c → msg.now.to ≡ whos.Node node → is_in node (set_of c msg.now.log) ≡ true
             → IfOk result (λ done. AreHosts c self.new (put node (message_done node (node_in nodes node) msg.now).node nodes)
             × (shown_kept done.0 ≡ (message_done node (node_in nodes node) msg.now).end) × (done.1 ≡ (message_done node (node_in nodes node) msg.now).sends)) }
     {

@@ -10,6 +10,7 @@ ghost use Rattle.ld_config.specs.Bounds.{IsInBounds};
 ghost use Rattle.ld_config.specs.declared.config.Config.{Config as Settings};
 ghost use Rattle.ld_machine.specs.Config.{set_of};
 ghost use Rattle.ld_machine.specs.Disk.{Node as Seen, load, load_end};
+ghost use Rattle.ld_node_bounds.specs.Messages.{AreMessages};
 ghost use Rattle.ld_node.specs.Node.{is_blank, disk_of};
 ghost use Rattle.ld_host.specs.States.{blank_in, IsFailedAt, IsDownAt, IsBlankAt};
 ghost use Rattle.ld_host.specs.Lies.{Lies};
@@ -71,7 +72,7 @@ pub(crate) fn load(
     }
 }
 
-/// A node that runs makes something of a message. It answers once its op is written.
+/// A node that runs makes something of a message. It answers once its op is written, with what a frame can carry.
 pub(crate) fn answer(
     alloc: Global,
     mut node: Node<MemDisk>,
@@ -80,6 +81,7 @@ pub(crate) fn answer(
     requires msg { IsMessage msg.now }
     requires formatted { is_blank node ≡ false }
     ensures blank { IfOk result (λ done. blank_in done.0 ≡ false) }
+    ensures messages { IfOk result (λ done. AreMessages done.2) }
     ensures stands { (c : Settings) (n : ℕ) (x : Seen) → Runs c n node x → IsInBounds c → msg.now.to ≡ whos.Node n → is_in n (set_of c msg.now.log) ≡ true
         → IfOk result (λ done. StandsAs c n done.0 (message_done n x msg.now).node × (shown_kept done.1 ≡ (message_done n x msg.now).end) × (done.2 ≡ (message_done n x msg.now).sends)) }
 {

@@ -1,5 +1,6 @@
-use Rattle.std.proofs.Common.{refl, sym, ◌∙◌, ap, inl, inr, ⊎_elim, true≢false, Err}
+use Rattle.std.proofs.Common.{refl, sym, ◌∙◌, ap, subst, inl, inr, ⊎_elim, true≢false, Err}
 use Rattle.ld_disk.specs.Memory.{disk_plain}
+use Rattle.ld_node_bounds.specs.Messages.{AreMessages}
 use Rattle.ld_node.specs.Node.{id_of, sets_of, released_of, plain_of, disk_of, place_of}
 use Rattle.ld_node.specs.Msgs.{handled}
 use Rattle.ld_host.proofs.Rising.{some_is}
@@ -42,3 +43,6 @@ returns-in_ok-state-in-Err-clause-stands c settings n x runs bounds to keeps =
     let refuses : Refuses fault q (c.in_ok-state-in-Err.state, c.in_ok-state-in-Err.kept) = record { full = left.full; failed = left.failed; crashed = left.crashed; memory = left.memory } in
     let done = refuses_it settings n node x m runs c.requires.msg node.store.well c.requires.formatted bounds to keeps h fault q (c.in_ok-state-in-Err.state, c.in_ok-state-in-Err.kept) refl not refuses in
     (done.0, done.1, c.empty.ensures ∙ done.2)
+
+pub returns-in-Ok-clause-messages : goal.returns-in-Ok-clause-messages
+returns-in-Ok-clause-messages c = subst AreMessages (sym (c.new.ensures ∙ c.into_vec.ensures)) c.in-Ok.ensures.messages
