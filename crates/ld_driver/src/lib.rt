@@ -1,0 +1,11 @@
+//! Nodes in memory, reached as over a link.
+#![tactic(auto)]
+
+mod handing;
+mod keeps;
+mod links;
+
+pub use links::NodeLinks;
+
+#[cfg(test)]
+mod tests;
