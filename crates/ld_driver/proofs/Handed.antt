@@ -1,5 +1,5 @@
 -- A message to a node in memory, as the machine has it.
-use Rattle.std.proofs.Common.{◌≡◌, ◌++◌, ℕ, Bool, true, false, ◌&&◌, List, refl, sym, ap, ◌∙◌, subst}
+use Rattle.std.proofs.Common.{◌≡◌, ◌++◌, ℕ, Bool, true, false, ◌&&◌, List, refl, sym, ◌∙◌, subst}
 use Rattle.std.proofs.lemmas.Bool.{and_from}
 use Rattle.std.proofs.lemmas.List.{append-nil}
 use Rattle.ld_table.specs.Table.{put}

@@ -1,20 +1,20 @@
 // A message to a node in memory, and its answers.
-ghost use Rattle.std.specs.Prelude.{◌≡◌, ◌≤◌, ◌++◌, ◌∷◌, [], ℕ, List, true, OnOk, MatchOption};
+ghost use Rattle.std.specs.Prelude.{◌≡◌, ◌≤◌, ◌++◌, ℕ, List, true, OnOk};
 ghost use Rattle.ld_io.specs.Memory.{one_more};
 ghost use Rattle.ld_config.specs.Bounds.{IsInBounds};
 ghost use Rattle.ld_config.specs.declared.config.Config.{Config as Settings};
 ghost use Rattle.ld_msg.specs.Bounds.{IsMessage};
 ghost use Rattle.ld_msg.specs.declared.msg.Who.TheVariants as whos;
 ghost use Rattle.ld_machine.specs.Disk.{Node};
-ghost use Rattle.ld_node_bounds.specs.Messages.{AreMessages};
 ghost use Rattle.ld_host.specs.Standing.{AreHosts};
 ghost use Rattle.ld_dial.specs.Far.{handed, is_up_in};
 
+use crate::answers::Answers;
 use crate::keeps::keeps;
 use ld_config::Config;
 use ld_host::{Hosts, Status};
 use ld_ids::{NoMemory, NodeId};
-use ld_msg::{Msg, Outbox};
+use ld_msg::Msg;
 use std::alloc::Global;
 
 /// Whether a node runs on it.
@@ -37,46 +37,24 @@ pub(crate) fn count_fault(faults: &mut u64)
     *faults = faults.saturating_add(1);
 }
 
-/// Moves what is sent behind the answers. Without memory nothing changes.
-fn put_behind(answers: &mut Vec<Msg>, sends: Outbox) -> Result<(), NoMemory>
-    ensures ok { OnOk result (answers.new.items ≡ answers.old.items ++ sends) }
-    ensures messages { AreMessages answers.old.items → AreMessages sends → AreMessages answers.new.items }
-{
-    let mut sends = sends.into_vec();
-    answers.append(&mut sends)?;
-    Ok(())
-}
-
-/// Takes the first answer.
-pub(crate) fn take_first(answers: &mut Vec<Msg>) -> Option<Msg>
-    ensures { MatchOption result ((answers.old.items ≡ []) × (answers.new.items ≡ [])) (λ first. answers.old.items ≡ first ∷ answers.new.items) }
-{
-    if answers.is_empty() {
-        return None;
-    }
-    Some(answers.remove(0))
-}
-
 /// Hands a message to a node that is up. Where it keeps the message's log its answers come behind the others; else
 /// nothing happens.
 pub(crate) fn hand(
     alloc: Global,
     config: &Config,
     hosts: &mut Hosts,
-    answers: &mut Vec<Msg>,
+    answers: &mut Answers,
     node: NodeId,
     message: &Msg,
 ) -> Result<(), NoMemory>
     requires message { IsMessage message.now }
-    requires bounds { IsInBounds config.now }
-    ensures handed { (nodes : List (ℕ × Node)) → AreHosts config.now hosts.old nodes → is_up_in nodes node ≡ true → message.now.to ≡ whos.Node node
-        → OnOk result (AreHosts config.now hosts.new (handed config.now nodes node message.now).state.nodes × (answers.new.items ≡ answers.old.items ++ (handed config.now nodes node message.now).sends)) }
-    ensures messages { AreMessages answers.old.items → AreMessages answers.new.items }
+    ensures { (nodes : List (ℕ × Node)) → IsInBounds config.now → AreHosts config.now hosts.old nodes → is_up_in nodes node ≡ true → message.now.to ≡ whos.Node node
+        → OnOk result (AreHosts config.now hosts.new (handed config.now nodes node message.now).state.nodes × (answers.new ≡ answers.old ++ (handed config.now nodes node message.now).sends)) }
 {
     if !keeps(config, node, message.log) {
         return Ok(());
     }
     let (_, sends) = hosts.on_msg(alloc, node, message)?;
-    put_behind(answers, sends)?;
+    answers.put_behind(sends)?;
     Ok(())
 }

@@ -1,6 +1,7 @@
 //! Nodes in memory, reached as over a link.
 #![tactic(auto)]
 
+mod answers;
 mod handing;
 mod keeps;
 mod links;

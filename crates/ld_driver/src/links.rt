@@ -1,7 +1,8 @@
 // Nodes in memory.
 ghost use Rattle.ld_config.specs.Bounds.{IsInBounds};
 
-use crate::handing::{count_fault, hand, runs, take_first};
+use crate::answers::Answers;
+use crate::handing::{count_fault, hand, runs};
 use ld_config::Config;
 use ld_dial::{Fault, Nodes};
 use ld_host::Hosts;
@@ -9,7 +10,6 @@ use ld_ids::NodeId;
 use ld_io::Failed;
 use ld_msg::Msg;
 use std::alloc::Global;
-use std::marker::Model;
 
 /// Nodes in memory, of which one at a time is present: only a node that is up can be dialed. The present node makes
 /// something of a message as soon as it is sent, and its answers wait until they are taken.
@@ -20,21 +20,9 @@ pub struct NodeLinks {
     config: Config,
     hosts: Hosts,
     present: Option<NodeId>,
-    answers: Vec<Msg>,
+    answers: Answers,
     silent: bool,
     faults: u64,
-}
-
-impl Model for NodeLinks {
-    ghost use Rattle.ld_config.specs.Bounds.{IsInBounds};
-    ghost use Rattle.ld_node_bounds.specs.Messages.{AreMessages};
-    ghost use Rattle.ld_driver.specs.Links.{Links};
-
-    ghost Value = { Links };
-
-    ghost view = { λ l. record { config = l.config; hosts = l.hosts; present = l.present; answers = l.answers.items; silent = l.silent; faults = l.faults } };
-
-    ghost invariant = { λ l. IsInBounds l.config × AreMessages l.answers.items };
 }
 
 impl NodeLinks {
@@ -47,8 +35,7 @@ impl NodeLinks {
 
     /// The nodes that these hosts are. None is present, and no call has failed yet.
     pub fn new(alloc: Global, config: Config, hosts: Hosts) -> NodeLinks
-        requires { IsInBounds config }
-        ensures tells { (nodes : List (ℕ × Node)) → AreHosts config hosts nodes → StandAs result config (record { nodes = nodes; present = None; answers = [] }) }
+        ensures tells { (nodes : List (ℕ × Node)) → IsInBounds config → AreHosts config hosts nodes → StandAs result config (record { nodes = nodes; present = None; answers = [] }) }
         ensures faults { result.faults ≡ 0 }
         ensures silent { result.silent ≡ false }
     {
@@ -56,7 +43,7 @@ impl NodeLinks {
             config,
             hosts,
             present: None,
-            answers: Vec::new(alloc),
+            answers: Answers::new(alloc),
             silent: false,
             faults: 0,
         }
@@ -118,6 +105,11 @@ impl Nodes for NodeLinks {
 
     /// Never fails.
     fn receive(&mut self, _alloc: Global) -> Result<Option<Msg>, Fault> {
-        Ok(take_first(&mut self.answers))
+        Ok(self.answers.take_first())
+    }
+
+    /// How often a call has failed, up to the greatest 64-bit number.
+    fn failures(&self) -> u64 {
+        self.faults
     }
 }
