@@ -58,7 +58,15 @@ impl NodeLinks {
 }
 
 impl Nodes for NodeLinks {
-    ghost use Rattle.ld_driver.specs.Links.{StandAs};
+    ghost use Rattle.std.specs.Prelude.{◌≡◌, [], ℕ, List, None, Some, true, IfOk, IfSome, OnOk, OnErr, is_ok};
+    ghost use Rattle.ld_io.specs.Causes.{HasCause};
+    ghost use Rattle.ld_io.specs.Memory.{one_more};
+    ghost use Rattle.ld_msg.specs.Bounds.{IsMessage};
+    ghost use Rattle.ld_config.specs.declared.config.Config.{Config as Settings};
+    ghost use Rattle.ld_machine.specs.Disk.{Node};
+    ghost use Rattle.ld_host.specs.Standing.{AreHosts};
+    ghost use Rattle.ld_dial.specs.Far.{Far, Dials, Sends, Receives, CountsFault, is_up_in};
+    ghost use Rattle.ld_driver.specs.Links.{StandAs, SendsIn, Takes};
 
     ghost tells = { λ links c far. StandAs links c far };
 
@@ -67,7 +75,14 @@ impl Nodes for NodeLinks {
     ghost faults = { λ links. links.faults };
 
     /// Fails exactly where the node isn't up.
-    fn dial(&mut self, node: NodeId) -> Result<(), Failed> {
+    fn dial(&mut self, node: NodeId) -> Result<(), Failed>
+        ensures cause { HasCause self.old.faults self.new.faults result }
+        ensures dialed { (c : Settings) (far : Far) → StandAs self.old c far → Dials far node (StandAs self.new c) result }
+        ensures silent { self.new.silent ≡ self.old.silent }
+        ensures up { (c : Settings) (nodes : List (ℕ × Node)) → AreHosts c self.old.hosts nodes → is_ok result ≡ is_up_in nodes node }
+        ensures ok { OnOk result (self.new ≡ record self.old { present = Some node; answers = [] }) }
+        ensures err { OnErr result (self.new ≡ record self.old { present = None; answers = []; faults = one_more self.old.faults }) }
+    {
         self.answers.clear();
         if runs(&self.hosts, node) {
             self.present = Some(node);
@@ -79,7 +94,13 @@ impl Nodes for NodeLinks {
     }
 
     /// It is refused with `Link` where no node is present, where that isn't up any more, and where it lacks memory.
-    fn send(&mut self, alloc: Global, message: &Msg) -> Result<(), Fault> {
+    fn send(&mut self, alloc: Global, message: &Msg) -> Result<(), Fault>
+        requires { IsMessage message.now }
+        ensures counts { CountsFault self.old.faults self.new.faults result }
+        ensures sent { (c : Settings) (far : Far) → StandAs self.old c far → Sends c far message.now self.new.silent (StandAs self.new c) result }
+        ensures silent { self.old.silent ≡ true → self.new.silent ≡ true }
+        ensures present { SendsIn self.old self.new self.old.present result }
+    {
         let Some(node) = self.present else {
             count_fault(&mut self.faults);
             return Err(Fault::Link);
@@ -104,7 +125,13 @@ impl Nodes for NodeLinks {
     }
 
     /// Never fails.
-    fn receive(&mut self, _alloc: Global) -> Result<Option<Msg>, Fault> {
+    fn receive(&mut self, _alloc: Global) -> Result<Option<Msg>, Fault>
+        ensures message { IfOk result (λ next. IfSome next IsMessage) }
+        ensures counts { CountsFault self.old.faults self.new.faults result }
+        ensures received { (c : Settings) (far : Far) → StandAs self.old c far → Receives far (StandAs self.new c) result }
+        ensures silent { self.new.silent ≡ self.old.silent }
+        ensures next { Takes self.old self.new result }
+    {
         Ok(self.answers.take_first())
     }
 
