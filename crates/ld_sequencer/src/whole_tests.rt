@@ -64,6 +64,16 @@ fn next<G: Register>(
     Sequencer::activate(alloc, &spec, reg, out)
 }
 
+// A register on an empty disk, and the first sequencer from it.
+fn begins(
+    alloc: Global,
+    out: &mut Outbox,
+) -> Result<(DiskRegister<MemDisk>, Sequencer), SequencerFault> {
+    let mut reg = new_register(alloc)?;
+    let first = next(alloc, &mut reg, out)?;
+    Ok((reg, first))
+}
+
 // A node's reply.
 fn reply(node: u8, body: Body) -> Result<Msg, NoMemory>
     requires { IsReplyTo 2 body }
@@ -183,8 +193,7 @@ fn nearly_closed<G: Register>(
 fn an_append_is_released_at_the_second_node(rt: HostRuntime) -> Result<(), Fail> {
     let alloc = rt.alloc();
     let mut out = Outbox::empty(alloc);
-    let mut reg = new_register(alloc)?;
-    let mut first = next(alloc, &mut reg, &mut out)?;
+    let (mut reg, mut first) = begins(alloc, &mut out)?;
     assert!(rt; first.epoch() == 1);
     assert!(rt; first.settled());
     let number = appends(alloc, &mut first, &mut out)?;
@@ -236,8 +245,7 @@ fn a_failed_close_is_tried_again_by_a_retry(rt: HostRuntime) -> Result<(), Fail>
 fn a_trim_goes_up_to_what_is_released(rt: HostRuntime) -> Result<(), Fail> {
     let alloc = rt.alloc();
     let mut out = Outbox::empty(alloc);
-    let mut reg = new_register(alloc)?;
-    let first = next(alloc, &mut reg, &mut out)?;
+    let (_, first) = begins(alloc, &mut out)?;
     let past = trims(&first, 1, &mut out);
     assert!(rt; past == Err(SequencerFault::PastReleased(Lsn::new(1, 0))));
     trims(&first, 0, &mut out)?;
