@@ -1,5 +1,5 @@
 -- The lines of a call say how the drive ends by it.
-use Rattle.std.proofs.Common.{◌≡◌, ◌≢◌, ℕ, List, [], ◌∷◌, ◌++◌, Option, Some, None, Ok, Err, refl, sym, subst, arith, is_some, IfSome}
+use Rattle.std.proofs.Common.{◌≡◌, ◌≢◌, ◌⊎◌, ℕ, ◌<◌, Bool, true, false, List, [], ◌∷◌, ◌++◌, length, Option, Some, None, Ok, Err, refl, ap, sym, ◌∙◌, subst, inl, inr, arith, is_some, IfSome}
 use Rattle.std.specs.List.{Contains}
 use Rattle.std.specs.declared.result.Result.{Result}
 use Rattle.ld_transcript.specs.declared.line.Line.{Line}
@@ -11,11 +11,15 @@ use Rattle.ld_sequencer.specs.declared.fault.CloseFault.TheVariants as unclosed
 use Rattle.ld_sequencer.specs.declared.fault.SequencerFault.{SequencerFault}
 use Rattle.ld_sequencer.specs.declared.fault.SequencerFault.TheVariants as faults
 use Rattle.ld_sequencer.specs.declared.report.Report.{Report}
-use Rattle.ld_sequencer.specs.Own.{listed}
+use Rattle.ld_msg.specs.Sequencer as sequencer
+use Rattle.ld_msg.specs.Sequencer.{Appending}
+use Rattle.ld_sequencer.specs.Own.{listed, append_fault}
 use Rattle.ld_machine.specs.Step.{numbered_lines, when}
 use Rattle.ld_clients.specs.Refusing.{told_lines}
 use Rattle.ld_rounds.specs.declared.ended.Ended.{Ended}
-use Rattle.ld_append.specs.Refusing.{report_end, register_end, fault_end, end_by, lines_by, IsTold}
+use Rattle.ld_rounds.specs.declared.ended.Ended.TheVariants as ends
+use Rattle.ld_rounds.specs.Ends.{IsSaid}
+use Rattle.ld_append.specs.Refusing.{report_end, register_end, fault_end, end_by, is_log_limit, lines_by, start_lines, IsTold, IsStartTold}
 
 first_there : (l : Line) (ls : List Line) → Contains (l ∷ ls) l
 first_there l ls = (0, omega arith, refl)
@@ -71,3 +75,36 @@ has_lines name (Err (faults.Register registers.GenLimit)) n = refl
 has_lines name (Err (faults.Register registers.Full)) n = refl
 has_lines name (Err (faults.Register registers.NoMemory)) n = refl
 has_lines name (Err faults.NoMemory) n = refl
+
+-- a refused activation: each fault but a damaged register's is told as in any call
+pub start_told : (name : List ℕ) (f : SequencerFault) → IfSome (fault_end f) (IsStartTold (start_lines name f))
+start_told name (faults.PayloadTooLong n) = tt
+start_told name (faults.Preempted by) = record { name = name; there = first_there (lines.RefusedPreempted name by) [] }
+start_told name faults.EpochFull = record { name = name; there = first_there (lines.RefusedEpochFull name) [] }
+start_told name faults.WindowFull = tt
+start_told name (faults.PastReleased released) = tt
+start_told name (faults.Register registers.Failed) = record { name = name; there = first_there (lines.RefusedRegister name) [] }
+start_told name (faults.Register (registers.Damaged place)) = refl
+start_told name (faults.Register registers.LogLimit) = refl
+start_told name (faults.Register (registers.Behind lce)) = record { name = name; there = first_there (lines.RefusedRegister name) [] }
+start_told name (faults.Register registers.EpochLimit) = record { name = name; there = first_there (lines.RefusedEpochLimit name) [] }
+start_told name (faults.Register registers.GenLimit) = record { name = name; there = first_there (lines.RefusedRegister name) [] }
+start_told name (faults.Register registers.Full) = record { name = name; there = first_there (lines.RefusedRegister name) [] }
+start_told name (faults.Register registers.NoMemory) = record { name = name; there = first_there (lines.RefusedRegister name) [] }
+start_told name faults.NoMemory = tt
+
+pub start_is : (name : List ℕ) (f : SequencerFault) (end : Option Ended) (ls : List Line) → end ≡ fault_end f → ls ≡ start_lines name f → IfSome end (IsStartTold ls)
+start_is name f end ls e l = subst (λ (x : Option Ended). IfSome x (IsStartTold ls)) (sym e) (subst (λ (x : List Line). IfSome (fault_end f) (IsStartTold x)) (sym l) (start_told name f))
+
+-- an append never meets the register
+append_told : (ls : List Line) (n : ℕ) (a : Appending) → IfSome (fault_end (append_fault n a)) (IsTold ls) → IfSome (fault_end (append_fault n a)) (IsSaid ls)
+append_told ls n sequencer.TooLong t = tt
+append_told ls n (sequencer.Preempted k) t = t
+append_told ls n sequencer.EpochFull t = t
+append_told ls n sequencer.WindowFull t = tt
+append_told ls n sequencer.Numbered t = tt
+
+pub append_said : (ls : List Line) (n : ℕ) (a : Appending) (fault : SequencerFault) (end : Option Ended) → fault ≡ append_fault n a → end ≡ fault_end fault → IfSome end (IsTold ls) → IfSome end (IsSaid ls)
+append_said ls n a fault end f e t =
+    let is : end ≡ fault_end (append_fault n a) = e ∙ ap fault_end f in
+    subst (λ (x : Option Ended). IfSome x (IsSaid ls)) (sym is) (append_told ls n a (subst (λ (x : Option Ended). IfSome x (IsTold ls)) is t))

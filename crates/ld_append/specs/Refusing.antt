@@ -1,5 +1,5 @@
 -- What is written of a sequencer's call, and how the drive ends by it.
-use Rattle.std.specs.Prelude.{ℕ, List, [], Option, None, Some, Bool, true, false}
+use Rattle.std.specs.Prelude.{ℕ, ◌≡◌, List, [], Option, None, Some, Bool, true, false}
 use Rattle.std.specs.declared.result.Result.{Result}
 use Rattle.std.specs.declared.result.Result.TheVariants.{Ok, Err}
 use Rattle.ld_transcript.specs.declared.line.Line.{Line}
@@ -57,3 +57,14 @@ lines_by name answer = told_lines name answer
 abbrev pub IsTold : List Line → Ended → Type 0
 IsTold ls ends.LogLimit = Unit {0}
 IsTold ls ended = IsSaid ls ended
+
+-- a damaged register has no line at the activation
+abbrev pub start_lines : List ℕ → SequencerFault → List Line
+start_lines name (faults.Register (registers.Damaged place)) = []
+start_lines name fault = lines_by name (Err fault)
+
+-- the lines say why the activation was refused, unless the register holds as many other logs as may be or is damaged
+abbrev pub IsStartTold : List Line → Ended → Type 0
+IsStartTold ls ends.LogLimit = ls ≡ []
+IsStartTold ls (ends.Register (refusals.Damaged place)) = ls ≡ []
+IsStartTold ls ended = IsSaid ls ended

@@ -1,6 +1,9 @@
-//! What is written of the calls of a sequencer that is driven, and how the drive ends by them.
+//! A sequencer that is driven against nodes, with its register.
 #![tactic(auto)]
 
+mod acting;
+mod drives;
 mod refusing;
 
-pub use refusing::heard;
+pub use acting::Acting;
+pub use drives::append;

@@ -90,7 +90,7 @@ fn is_log_limit(refusal: &RegisterFault) -> bool
 
 /// What a call of a sequencer writes and sends, and how the drive ends by it. Where the register holds as many other logs
 /// as may be, no line is written.
-pub fn heard(
+pub(crate) fn heard(
     alloc: Global,
     name: &Name,
     answer: Result<Report, SequencerFault>,
