@@ -49,7 +49,7 @@ fn ask() -> Result<Msg, NoMemory>
         log,
         body: Body::ReadAsk {
             round: 1,
-            from: Lsn::new(1, 1),
+            from: Lsn::new(0, 1),
         },
     })
 }
