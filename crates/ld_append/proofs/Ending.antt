@@ -1,5 +1,5 @@
 -- How the drive of a sequencer ends.
-use Rattle.std.proofs.Common.{◌≡◌, ◌⊎◌, inl, inr, ℕ, ◌≤◌, Bool, true, false, List, [], Option, Some, None, Ok, Err, refl, subst, arith, IfErr, IfSome}
+use Rattle.std.proofs.Common.{◌≡◌, ◌⊎◌, inl, inr, ℕ, Bool, true, false, List, [], Option, Some, Ok, Err, subst, arith, IfErr, IfSome}
 use Rattle.std.specs.Prelude.{MatchResult}
 use Rattle.std.specs.declared.result.Result.{Result}
 use Rattle.std.specs.Io.KnownBytes.{Appends}
@@ -10,7 +10,6 @@ use Rattle.ld_rounds.specs.declared.actor.Heard.{Heard}
 use Rattle.ld_rounds.specs.declared.ended.Refusal.TheVariants as refusals
 use Rattle.ld_rounds.specs.declared.ended.Ended.{Ended}
 use Rattle.ld_rounds.specs.declared.ended.Ended.TheVariants as ends
-use Rattle.ld_rounds.specs.Ends.{IsSaid}
 use Rattle.ld_rounds.specs.Endings.{IsLater}
 use Rattle.ld_rounds.specs.Feeding.{IsAppendEnding}
 use Rattle.ld_rounds.specs.Output.{WritesFault}

@@ -1,5 +1,5 @@
 -- The lines of a call say how the drive ends by it.
-use Rattle.std.proofs.Common.{◌≡◌, ◌≢◌, ◌⊎◌, ℕ, ◌<◌, Bool, true, false, List, [], ◌∷◌, ◌++◌, length, Option, Some, None, Ok, Err, refl, ap, sym, ◌∙◌, subst, inl, inr, arith, is_some, IfSome}
+use Rattle.std.proofs.Common.{◌≡◌, ◌≢◌, ℕ, List, [], ◌∷◌, ◌++◌, Option, Some, None, Ok, Err, refl, ap, sym, ◌∙◌, subst, arith, is_some, IfSome}
 use Rattle.std.specs.List.{Contains}
 use Rattle.std.specs.declared.result.Result.{Result}
 use Rattle.ld_transcript.specs.declared.line.Line.{Line}
@@ -17,9 +17,8 @@ use Rattle.ld_sequencer.specs.Own.{listed, append_fault}
 use Rattle.ld_machine.specs.Step.{numbered_lines, when}
 use Rattle.ld_clients.specs.Refusing.{told_lines}
 use Rattle.ld_rounds.specs.declared.ended.Ended.{Ended}
-use Rattle.ld_rounds.specs.declared.ended.Ended.TheVariants as ends
 use Rattle.ld_rounds.specs.Ends.{IsSaid}
-use Rattle.ld_append.specs.Refusing.{report_end, register_end, fault_end, end_by, is_log_limit, lines_by, start_lines, IsTold, IsStartTold}
+use Rattle.ld_append.specs.Refusing.{report_end, register_end, fault_end, end_by, lines_by, start_lines, IsTold, IsStartTold}
 
 first_there : (l : Line) (ls : List Line) → Contains (l ∷ ls) l
 first_there l ls = (0, omega arith, refl)

@@ -1,5 +1,5 @@
 -- A sequencer that is driven, with its register.
-use Rattle.std.specs.Prelude.{ℕ, ◌≡◌, Option, None, Some, Bool, false}
+use Rattle.std.specs.Prelude.{◌≡◌, Option, None, Some, Bool, false}
 use Rattle.ld_msg.specs.declared.msg.Who.TheVariants as whos
 use Rattle.ld_msg.specs.declared.msg.Msg.{Msg}
 use Rattle.ld_sequencer.specs.Whole.{Whole, is_settled}

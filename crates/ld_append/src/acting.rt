@@ -69,6 +69,7 @@ fn goes_on(heard: Heard) -> (Heard, bool)
     ensures lines { result.0.lines.items ≡ heard.lines.items }
     ensures sends { result.0.sends ≡ heard.sends }
     ensures said { IfSome result.0.end (IsSaid result.0.lines.items) }
+    ensures shut { result.1 ≡ true → heard.end ≡ Some Ended.LogLimit }
 {
     let Heard { lines, sends, end } = heard;
     match end {

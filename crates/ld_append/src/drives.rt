@@ -4,12 +4,12 @@ ghost use Rattle.ld_rounds.specs.Endings.{IsLater};
 ghost use Rattle.ld_append.specs.Appends.{IsStartEnding, IsDriveEnding, IsEndOfAppend, taken_end};
 
 use crate::Acting;
-use ld_rounds::{Ended, Payloads, Queues, tell};
 use ld_config::Config;
 use ld_dial::Nodes;
 use ld_ids::{Name, Spec};
 use ld_io::Sink;
 use ld_register::Register;
+use ld_rounds::{Ended, Payloads, Queues, tell};
 use std::alloc::Global;
 
 /// Activates the sequencer: its messages wait for their nodes, and its line is written.
