@@ -8,4 +8,3 @@ pub mod OneReading
 pub mod MadeRun
 pub mod StatusOf
 pub mod Asked
-pub mod Drives

@@ -10,5 +10,3 @@ pub mod Step
 pub mod Code
 pub mod Exercise
 pub mod Serving
-pub mod Clients
-pub mod Payloads
