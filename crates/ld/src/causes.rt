@@ -18,13 +18,13 @@ pub fn tell(
     match status {
         Status::Ok => Ok(()),
         Status::Usage => tell_usage(rt, words),
-        Status::BadSchedule { line, place } => tell_line(rt, line, place, shown),
+        Status::BadSchedule { line, place } => tell_line(rt, words, line, place, shown),
         Status::NoMemory => eprintln!(rt; "ld: out of memory"),
         Status::Read => eprintln!(rt; "ld: reading standard input failed"),
         Status::Write => eprintln!(rt; "ld: writing standard output failed"),
         Status::Disk => eprintln!(rt; "ld: the store's file failed"),
         Status::Register => eprintln!(rt; "ld: the register's file failed"),
-        Status::Link => eprintln!(rt; "ld: listening failed: is the port free?"),
+        Status::Link => tell_link(rt, words),
         Status::BadFrame(fault) => tell_frame(rt, fault),
         Status::Damaged { which, place } => {
             eprintln!(rt;
@@ -42,6 +42,17 @@ pub fn tell(
         Status::GenLimit => {
             eprintln!(rt; "ld: this node was formatted 2^32-1 times, which is all that there are")
         }
+        Status::NotDone => {
+            eprintln!(rt; "ld: not done in these rounds, though no call to a node failed")
+        }
+        Status::Preempted(by) => {
+            eprintln!(rt;
+                "ld: preempted by {by}: another sequencer has taken the log over in that epoch"
+            )
+        }
+        Status::LogLimit => eprintln!(rt; "ld: the register holds 64 other logs, which is all that it can"),
+        Status::EpochLimit => eprintln!(rt; "ld: the log's epochs are used up"),
+        Status::EpochFull => eprintln!(rt; "ld: the epoch is full: it has 2^32-2 places"),
     }
 }
 
@@ -56,7 +67,23 @@ fn name_of(which: Which) -> &'static str {
 /// How the commands are spelt.
 const USAGE: &str = "ld: usage: ld replay < SCHEDULE
 ld:        ld exercise --seed N --events M
-ld:        ld node --id N --config TEXT --store FILE --register FILE --port P --turns K [--format]";
+ld:        ld node --id N --config TEXT --store FILE --register FILE --port P --turns K [--format]
+ld:        ld append --config TEXT --log L --register FILE --port P --rounds K < PAYLOADS
+ld:        ld tail --config TEXT --log L --register FILE --port P --rounds K --from LSN --until LSN";
+
+/// Whether the words begin with this command's name.
+fn is_command(words: &[String], name: &str) -> bool {
+    words.first().is_some_and(|word| word.as_str() == name)
+}
+
+/// Tells which calls of the link failed.
+fn tell_link(rt: &HostRuntime, words: &[String]) -> Result<()> {
+    if is_command(words, "node") {
+        eprintln!(rt; "ld: listening failed: is the port free?")
+    } else {
+        eprintln!(rt; "ld: not done in these rounds: calls to nodes failed; are they up?")
+    }
+}
 
 /// Tells why the words are no command.
 fn tell_usage(rt: &HostRuntime, words: &[String]) -> Result<()> {
@@ -81,7 +108,18 @@ fn first_part(reason: &str) -> &str {
 }
 
 /// Tells which line is off, where it is, and how such a line is spelt.
-fn tell_line(rt: &HostRuntime, line: u64, place: u64, shown: Option<&[u8]>) -> Result<()> {
+fn tell_line(
+    rt: &HostRuntime,
+    words: &[String],
+    line: u64,
+    place: u64,
+    shown: Option<&[u8]>,
+) -> Result<()> {
+    if is_command(words, "append") {
+        return eprintln!(rt;
+            "ld: line {line} place {place}: a payload is an even number of hexadecimal digits 0 to 9 and a to f, or - for none"
+        );
+    }
     let reason = if line == 1 {
         "this is no configuration"
     } else {

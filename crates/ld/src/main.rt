@@ -5,6 +5,7 @@ mod causes;
 
 use causes::tell;
 use ld_cli::{Status, run};
+use ld_dial::Framed;
 use ld_hints::Recent;
 use ld_io::Source;
 use ld_real::{FileDisk, StdSink, StdSource, TcpLink};
@@ -42,13 +43,14 @@ fn perform(rt: &HostRuntime, words: &[String]) -> Status {
     };
     // What a command has no use for is never opened.
     let places = places.unwrap_or(Places {
-        store: FileName::new(String::new(alloc)),
+        store: None,
         register: FileName::new(String::new(alloc)),
         port: 0,
     });
-    let mut disk = FileDisk::new(rt, places.store.as_str());
+    let mut disk = FileDisk::new(rt, store_of(&places));
     let mut register = DiskRegister::new(alloc, FileDisk::new(rt, places.register.as_str()));
     let mut link = TcpLink::new(rt, places.port);
+    let mut nodes = Framed::new(alloc, TcpLink::new(rt, places.port));
     let mut out = StdSink::new(writer(rt));
     let status = run(
         alloc,
@@ -58,12 +60,21 @@ fn perform(rt: &HostRuntime, words: &[String]) -> Status {
         &mut disk,
         &mut register,
         &mut link,
+        &mut nodes,
     );
     if status != Status::Ok {
         // Where standard error can't be written, there is nobody left to tell.
         let _ = tell(rt, words, status, shown(&status, &input));
     }
     status
+}
+
+/// The file of the store; a command that has none opens none.
+fn store_of(places: &Places) -> &str {
+    match &places.store {
+        Some(store) => store.as_str(),
+        None => "",
+    }
 }
 
 /// What was read of the line that is off, where the status names one.

@@ -8,3 +8,4 @@ pub mod OneReading
 pub mod MadeRun
 pub mod StatusOf
 pub mod Asked
+pub mod Drives

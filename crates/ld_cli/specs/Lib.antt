@@ -10,3 +10,5 @@ pub mod Step
 pub mod Code
 pub mod Exercise
 pub mod Serving
+pub mod Clients
+pub mod Payloads

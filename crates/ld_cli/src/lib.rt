@@ -1,12 +1,14 @@
 //! The top call: a command's words, and what it works on.
 #![tactic(auto)]
 
+mod clients;
 mod events;
 mod exercise;
 mod input;
 mod law;
 mod lines;
 mod output;
+mod payloads;
 mod perform;
 mod replay;
 mod serving;

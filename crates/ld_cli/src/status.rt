@@ -10,7 +10,8 @@ use std::alloc::{AllocError, AllocFailed};
 /// How a run ends.
 #[derive(Clone, Copy, Debug, PartialEq, Eq)]
 pub enum Status {
-    /// The schedule was read to its end, the made one was run, or all turns were taken.
+    /// The schedule was read to its end, the made one was run, all turns were taken, all that was to be appended is
+    /// acknowledged, or the log was read to its last number.
     Ok,
     /// The words are no command.
     Usage,
@@ -26,7 +27,7 @@ pub enum Status {
     Disk,
     /// The register failed.
     Register,
-    /// The link failed.
+    /// The link failed: the node's own, or in all rounds were taken while calls to nodes failed.
     Link,
     /// The bytes of a peer begin no frame.
     BadFrame(WireFault),
@@ -38,6 +39,16 @@ pub enum Status {
     JournalFull(Which),
     /// The node was formatted as often as it can be.
     GenLimit,
+    /// All rounds were taken, no call to a node failed, and there is something left to do.
+    NotDone,
+    /// The sequencer of this greater epoch is at work.
+    Preempted(u32),
+    /// The register holds 64 other logs.
+    LogLimit,
+    /// The log's epochs are used up.
+    EpochLimit,
+    /// The places of the sequencer's epoch are used up.
+    EpochFull,
 }
 
 impl Status {
@@ -60,6 +71,11 @@ impl Status {
             Status::Blank => 12,
             Status::JournalFull(_) => 13,
             Status::GenLimit => 14,
+            Status::NotDone => 15,
+            Status::Preempted(_) => 16,
+            Status::LogLimit => 17,
+            Status::EpochLimit => 18,
+            Status::EpochFull => 19,
         }
     }
 }

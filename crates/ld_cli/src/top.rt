@@ -1,5 +1,5 @@
 // The top call.
-ghost use Rattle.std.specs.Prelude.{◌≡◌, ◌⊎◌, ⊤, ℕ, List, Some, false, map, string_bytes, IfSome};
+ghost use Rattle.std.specs.Prelude.{◌≡◌, ◌⊎◌, ⊤, ℕ, List, Some, true, false, codes, map, string_bytes, IfSome};
 ghost use Rattle.std.specs.Io.KnownBytes.{IsAtEnd};
 ghost use Rattle.ld_io.specs.Causes.{Rose};
 ghost use Rattle.ld_link.specs.Peers.{Peers};
@@ -9,17 +9,27 @@ ghost use Rattle.ld_serve.specs.Complete.{AreSpoken, MayOpen, IsFaultOrLimit};
 ghost use Rattle.ld_serve.specs.Opening.{IsBlank};
 ghost use Rattle.ld_serve.specs.Stops.{IsServingStop};
 ghost use Rattle.ld_serve.specs.Whole.{HasServed, HasStopped, IsNotOpened};
+ghost use Rattle.ld_words.specs.Bounds.{HasBounds};
+ghost use Rattle.ld_words.specs.declared.command.LogWords.{LogWords as LogWanted};
 ghost use Rattle.ld_words.specs.declared.command.NodeWords.{NodeWords as Wanted};
-ghost use Rattle.ld_words.specs.declared.command.Command.TheVariants.{Replay, Exercise, Node as Serve};
-ghost use Rattle.ld_words.specs.Meaning.{Asks, IsNoCommand, AskForNoNode};
+ghost use Rattle.ld_words.specs.declared.command.TailWords.{TailWords as TailWanted};
+ghost use Rattle.ld_words.specs.declared.command.Command.{Command as Wish};
+ghost use Rattle.ld_words.specs.declared.command.Command.TheVariants.{Replay, Exercise, Node as Serve, Append, Tail};
+ghost use Rattle.ld_words.specs.Meaning.{Asks, IsNoCommand, HasNoPlaces, AskForNoPlaces};
+ghost use Rattle.ld_machine.specs.State.{State};
+ghost use Rattle.ld_dial.specs.Far.{Far};
+ghost use Rattle.ld_tail.specs.Tails.{Begins, IsTailed, IsTailEnd};
+ghost use Rattle.ld_cli.specs.Clients.{Drives, AskForNoDrive, EndsDrive, EndsAppend, OrNothing};
 ghost use Rattle.ld_cli.specs.Ends.{EndsBy, IsSchedule, Completes};
 ghost use Rattle.ld_cli.specs.Exercise.{EndsExercise};
 ghost use Rattle.ld_cli.specs.Serving.{EndsServing, DiskFaults, RegisterFaults, LinkFaults};
 
+use crate::clients::{appended, tailed};
 use crate::exercise::exercised;
 use crate::replay::replayed;
 use crate::serving::served;
 use crate::status::Status;
+use ld_dial::Nodes;
 use ld_disk::Disk;
 use ld_io::{Sink, Source};
 use ld_link::Link;
@@ -27,9 +37,10 @@ use ld_register::Register;
 use ld_words::{Command, read};
 use std::alloc::Global;
 
-/// Runs the command that the words name: a schedule from the input to the output, a made schedule to the output, or a node
-/// over the disk, the register and the link. What a command has no use for isn't called.
-pub fn run<I: Source, O: Sink, D: Disk, G: Register, L: Link>(
+/// Runs the command that the words name: a schedule from the input to the output, a made schedule to the output, a node
+/// over the disk, the register and the link, or a sequencer or a reader over the register and the nodes. What a command has
+/// no use for isn't called.
+pub fn run<I: Source, O: Sink, D: Disk, G: Register, L: Link, N: Nodes>(
     alloc: Global,
     words: &[String],
     input: &mut I,
@@ -37,6 +48,7 @@ pub fn run<I: Source, O: Sink, D: Disk, G: Register, L: Link>(
     disk: &mut D,
     reg: &mut G,
     link: &mut L,
+    nodes: &mut N,
 ) -> Status
     ensures usage { result ≡ Status.Usage → IsNoCommand (map string_bytes words.now) }
     ensures refused { IsNoCommand (map string_bytes words.now) → (result ≡ Status.Usage) ⊎ (result ≡ Status.NoMemory) }
@@ -72,28 +84,46 @@ pub fn run<I: Source, O: Sink, D: Disk, G: Register, L: Link>(
     ensures formatted { (n : Wanted) (bytes : List ℕ) → Asks (map string_bytes words.now) (Serve n) → D.seen disk.old ≡ Some bytes → (IsBlank bytes → ⊥) → reg.new ≡ reg.old }
     ensures drawn { (n : Wanted) → Asks (map string_bytes words.now) (Serve n) → G.told reg.old → ChangedOrNot (G.may_hold reg.old) (G.may_hold reg.new) (λ c. after_draw c n.id) }
 
+    // `tail`: where the nodes tell what stands there, from any sound state of the written machine with these nodes and without
+    // readers: each step of the drive is one of the machine, and what was written are the reader's lines of those steps. At
+    // the status Ok the reader of the state that was reached is past its last number; at NoMemory and Write the last step may
+    // be done in part. The register is looked at first: where that is refused nothing was done.
+    ensures tailed { (t : TailWanted) (s : State) (far : Far) → Asks (map string_bytes words.now) (Tail t) → N.tells nodes.old t.of.config far → Begins t.of.config s far
+        → (N.silent nodes.new ≡ true) ⊎ EndsDrive (N.faults nodes.old) (N.faults nodes.new)
+        (OrNothing (IsTailed (codes "r") (N.tells nodes.new) t.of.config s (O.written out.old) (O.written out.new)) ((nodes.new ≡ nodes.old) × (out.new ≡ out.old))) result }
+    // Whatever they tell, each status has its cause.
+    ensures tail_ends { (t : TailWanted) → Asks (map string_bytes words.now) (Tail t) → EndsDrive (N.faults nodes.old) (N.faults nodes.new)
+        (OrNothing (IsTailEnd (O.faults out.old) (O.faults out.new) (O.written out.old) (O.written out.new)) ((nodes.new ≡ nodes.old) × (out.new ≡ out.old))) result }
+
+    // `append`: each status has its cause; what was taken of the input are lines of payloads, but for what was read ahead.
+    ensures append_ends { (w : LogWanted) → Asks (map string_bytes words.now) (Append w) → EndsDrive (N.faults nodes.old) (N.faults nodes.new)
+        (EndsAppend (I.faults input.old) (I.faults input.new) (I.left input.old) (I.left input.new) (O.faults out.old) (O.faults out.new) (O.written out.old) (O.written out.new)) result }
+
     // Each of these statuses comes only where the count of that object rose; at any other the last three stay.
     ensures read { result ≡ Status.Read → Rose (I.faults input.old) (I.faults input.new) }
     ensures write { result ≡ Status.Write → Rose (O.faults out.old) (O.faults out.new) }
     ensures disk { DiskFaults (D.faults disk.old) (D.faults disk.new) result }
-    ensures register { RegisterFaults (G.faults reg.old) (G.faults reg.new) result }
-    ensures link { LinkFaults (L.faults link.old) (L.faults link.new) result }
+    ensures register { AskForNoDrive (map string_bytes words.now) → RegisterFaults (G.faults reg.old) (G.faults reg.new) result }
+    ensures link { AskForNoDrive (map string_bytes words.now) → LinkFaults (L.faults link.old) (L.faults link.new) result }
 
     // What a command has no use for stays as it was.
     ensures unread { (seed events : ℕ) → Asks (map string_bytes words.now) (Exercise seed events) → input.new ≡ input.old }
     ensures streams { (n : Wanted) → Asks (map string_bytes words.now) (Serve n) → (input.new ≡ input.old) × (out.new ≡ out.old) }
     ensures untouched { IsNoCommand (map string_bytes words.now) → (input.new ≡ input.old) × (out.new ≡ out.old) }
-    ensures outside { AskForNoNode (map string_bytes words.now) → (disk.new ≡ disk.old) × (reg.new ≡ reg.old) × (link.new ≡ link.old) }
+    ensures outside { AskForNoPlaces (map string_bytes words.now) → (disk.new ≡ disk.old) × (reg.new ≡ reg.old) × (link.new ≡ link.old) }
+    ensures driven { (asked : Wish) → Asks (map string_bytes words.now) asked → Drives asked → (disk.new ≡ disk.old) × (link.new ≡ link.old) }
+    ensures undriven { AskForNoDrive (map string_bytes words.now) → nodes.new ≡ nodes.old }
+    ensures unfed { (t : TailWanted) → Asks (map string_bytes words.now) (Tail t) → input.new ≡ input.old }
 {
     match read(alloc, words) {
-        Ok(Some(command)) => carry_out(alloc, command, input, out, disk, reg, link),
+        Ok(Some(command)) => carry_out(alloc, command, input, out, disk, reg, link, nodes),
         Ok(None) => Status::Usage,
         Err(_) => Status::NoMemory,
     }
 }
 
 /// Runs a command.
-fn carry_out<I: Source, O: Sink, D: Disk, G: Register, L: Link>(
+fn carry_out<I: Source, O: Sink, D: Disk, G: Register, L: Link, N: Nodes>(
     alloc: Global,
     command: Command,
     input: &mut I,
@@ -101,7 +131,9 @@ fn carry_out<I: Source, O: Sink, D: Disk, G: Register, L: Link>(
     disk: &mut D,
     reg: &mut G,
     link: &mut L,
+    nodes: &mut N,
 ) -> Status
+    requires bounds { HasBounds command }
     ensures usage { result ≡ Status.Usage → ⊥ }
     ensures replayed { command ≡ Replay → IfSome (I.left input.old) (λ bytes. EndsBy bytes (O.written out.old) (O.written out.new) result) }
     ensures read_to_end { command ≡ Replay → result ≡ Status.Ok → IsAtEnd (I.left input.new) }
@@ -121,18 +153,30 @@ fn carry_out<I: Source, O: Sink, D: Disk, G: Register, L: Link>(
     ensures unasked { (n : Wanted) → command ≡ Serve n → n.format ≡ false → reg.new ≡ reg.old }
     ensures formatted { (n : Wanted) (bytes : List ℕ) → command ≡ Serve n → D.seen disk.old ≡ Some bytes → (IsBlank bytes → ⊥) → reg.new ≡ reg.old }
     ensures drawn { (n : Wanted) → command ≡ Serve n → G.told reg.old → ChangedOrNot (G.may_hold reg.old) (G.may_hold reg.new) (λ c. after_draw c n.id) }
+    ensures tailed { (t : TailWanted) (s : State) (far : Far) → command ≡ Tail t → N.tells nodes.old t.of.config far → Begins t.of.config s far
+        → (N.silent nodes.new ≡ true) ⊎ EndsDrive (N.faults nodes.old) (N.faults nodes.new)
+        (OrNothing (IsTailed (codes "r") (N.tells nodes.new) t.of.config s (O.written out.old) (O.written out.new)) ((nodes.new ≡ nodes.old) × (out.new ≡ out.old))) result }
+    ensures tail_ends { (t : TailWanted) → command ≡ Tail t → EndsDrive (N.faults nodes.old) (N.faults nodes.new)
+        (OrNothing (IsTailEnd (O.faults out.old) (O.faults out.new) (O.written out.old) (O.written out.new)) ((nodes.new ≡ nodes.old) × (out.new ≡ out.old))) result }
+    ensures append_ends { (w : LogWanted) → command ≡ Append w → EndsDrive (N.faults nodes.old) (N.faults nodes.new)
+        (EndsAppend (I.faults input.old) (I.faults input.new) (I.left input.old) (I.left input.new) (O.faults out.old) (O.faults out.new) (O.written out.old) (O.written out.new)) result }
     ensures read { result ≡ Status.Read → Rose (I.faults input.old) (I.faults input.new) }
     ensures write { result ≡ Status.Write → Rose (O.faults out.old) (O.faults out.new) }
     ensures disk { DiskFaults (D.faults disk.old) (D.faults disk.new) result }
-    ensures register { RegisterFaults (G.faults reg.old) (G.faults reg.new) result }
-    ensures link { LinkFaults (L.faults link.old) (L.faults link.new) result }
+    ensures register { (Drives command → ⊥) → RegisterFaults (G.faults reg.old) (G.faults reg.new) result }
+    ensures link { (Drives command → ⊥) → LinkFaults (L.faults link.old) (L.faults link.new) result }
     ensures unread { (seed events : ℕ) → command ≡ Exercise seed events → input.new ≡ input.old }
     ensures streams { (n : Wanted) → command ≡ Serve n → (input.new ≡ input.old) × (out.new ≡ out.old) }
-    ensures outside { ((n : Wanted) → command ≡ Serve n → ⊥) → (disk.new ≡ disk.old) × (reg.new ≡ reg.old) × (link.new ≡ link.old) }
+    ensures outside { HasNoPlaces command → (disk.new ≡ disk.old) × (reg.new ≡ reg.old) × (link.new ≡ link.old) }
+    ensures driven { Drives command → (disk.new ≡ disk.old) × (link.new ≡ link.old) }
+    ensures undriven { (Drives command → ⊥) → nodes.new ≡ nodes.old }
+    ensures unfed { (t : TailWanted) → command ≡ Tail t → input.new ≡ input.old }
 {
     match command {
         Command::Replay => replayed(alloc, input, out),
         Command::Exercise { seed, events } => exercised(alloc, seed, events, out),
         Command::Node(node) => served(alloc, &node, disk, reg, link),
+        Command::Append(log) => appended(alloc, &log, input, out, reg, nodes),
+        Command::Tail(tail) => tailed(alloc, &tail, out, reg, nodes),
     }
 }

@@ -1,16 +1,22 @@
 -- Words ask for at most one command.
-use Rattle.std.proofs.Common.{◌≡◌, ◌≤◌, ◌^◌, ◌-◌, ◌∙◌, List, None, Some, Ok, ℕ, Bool, refl, ap, ap₂, sym, subst, arith, codes, decimal}
-use Rattle.std.specs.Prelude.{Option, MatchOption}
+use Rattle.std.proofs.Common.{◌≡◌, ◌≤◌, ◌<◌, ◌^◌, ◌-◌, ◌∙◌, inr, List, None, Some, Ok, ℕ, Bool, refl, ap, ap₂, sym, subst, arith, codes, decimal}
+use Rattle.std.specs.Prelude.{Option, MatchOption, slice_index}
 use Rattle.std.proofs.lemmas.Fmt.{decimal_injective}
 use Rattle.clap.specs.Walk.{Row, Text}
 use Rattle.serde_json.specs.Read.{read}
+use Rattle.ld_lsn.specs.Number.{epoch_of, esn_of, pair_text, lsn_text}
+use Rattle.ld_lsn.proofs.Texts.{pair_parts, decimal_lacks}
 use Rattle.ld_config.specs.declared.config.Config.{Config}
 use Rattle.ld_config.specs.Config.{config_of_text}
 use Rattle.ld_words.specs.declared.command.NodeWords.{NodeWords}
+use Rattle.ld_words.specs.declared.command.LogWords.{LogWords}
+use Rattle.ld_words.specs.declared.command.TailWords.{TailWords}
 use Rattle.ld_words.specs.declared.command.Places.{Places}
 use Rattle.ld_words.specs.declared.command.Command.{Command}
-use Rattle.ld_words.specs.declared.command.Command.TheVariants.{Replay, Exercise, Node}
-use Rattle.ld_words.specs.Meaning.{Is, IsNumber, IsConfig, Says, IsMember, IsNodeWords, IsNamed, Asks, ArePlacesOf, AskForPlaces, AskForNoNode}
+use Rattle.ld_words.specs.declared.command.Command.TheVariants.{Replay, Exercise, Node, Append, Tail}
+use Rattle.ld_words.specs.declared.refusal.Refusal.{Refusal}
+use Rattle.ld_words.specs.Refuses.{Refuses}
+use Rattle.ld_words.specs.Meaning.{Is, IsNumber, IsLsn, IsConfig, Says, IsMember, IsLogOf, IsNodeWords, IsLogWords, IsRange, IsTailWords, IsNamed, Asks, ArePlacesOf, HasNoPlaces, AskForPlaces, AskForNoPlaces}
 
 -- an argument has one value
 one_text : (name : Text) (rows : List Row) (a b : Text) → Is name rows a → Is name rows b → a ≡ b
@@ -55,17 +61,105 @@ one_node rows a b x y =
     (one_number _ rows 1 1000000000 a.turns b.turns (omega arith) x.turns y.turns)
     (x.format ∙ sym y.format)
 
+-- two numbers with one text are one
+one_number_text : (v w : ℕ) → v < 2 ^ 64 → w < 2 ^ 64 → lsn_text v ≡ lsn_text w → v ≡ w
+unfolding pair_text
+one_number_text v w a b e =
+    let parts = pair_parts (decimal (epoch_of v)) (decimal (esn_of v)) (epoch_of w) (esn_of w) (omega arith) (decimal_lacks 110 (epoch_of v) (inr (omega arith)) (omega arith)) e in
+    let high : epoch_of v ≡ epoch_of w = decimal_injective (epoch_of v) (epoch_of w) (omega arith) (omega arith) parts.0 in
+    let low : esn_of v ≡ esn_of w = decimal_injective (esn_of v) (esn_of w) (omega arith) (omega arith) parts.1 in
+    omega arith
+
+one_lsn : (name : Text) (rows : List Row) (v w : ℕ) → IsLsn name rows v → IsLsn name rows w → v ≡ w
+one_lsn name rows v w x y = one_number_text v w x.bits y.bits (one_text name rows (lsn_text v) (lsn_text w) x.text y.text)
+
+-- the arguments' number and configuration are those of each log that they say
+log_in : (rows : List Row) (log : ℕ) (text : Text) (config : Config) (w : LogWords) → IsNumber (codes "log") rows 1 65535 log
+    → Is (codes "config") rows text → Says text config → IsLogWords rows w → IsLogOf log config
+log_in rows log text config w number is says words =
+    let x = one_number _ rows 1 65535 w.log log (omega arith) words.log number in
+    let y = one_config _ rows w.config config words.config (record { text = text; is = is; says = says }) in
+    subst (λ l. IsLogOf l config) x (subst (λ c. IsLogOf w.log c) y words.known)
+
+-- a text that says no configuration, and a number that is no log of its configuration, are of no log's words
+pub no_config : (rows : List Row) (text : Text) (r : Refusal) → Is (codes "config") rows text → Refuses ((c : Config) → Says text c → ⊥) r
+    → Refuses ((w : LogWords) → IsLogWords rows w → ⊥) r
+no_config rows text r is none = λ other w words.
+    none other w.config (subst (λ t. Says t w.config) (one_text _ rows words.config.text text words.config.is is) words.config.says)
+
+pub no_log : (rows : List Row) (log : ℕ) (text : Text) (config : Config) (r : Refusal) → IsNumber (codes "log") rows 1 65535 log
+    → Is (codes "config") rows text → Says text config → Refuses (IsLogOf log config → ⊥) r → Refuses ((w : LogWords) → IsLogWords rows w → ⊥) r
+no_log rows log text config r number is says none = λ other w words. none other (log_in rows log text config w number is says words)
+
+-- the arguments' first and last number are in the order of each range that they say
+pub first_of_range : (rows : List Row) (v first last : ℕ) → IsLsn (codes "from") rows v → IsRange rows first last → 1 ≤ v
+first_of_range rows v first last x range =
+    let e = one_lsn _ rows first v range.from x in
+    omega (arith, e, range.some)
+
+pub last_of_range : (rows : List Row) (v w first last : ℕ) → IsLsn (codes "from") rows v → IsLsn (codes "until") rows w → IsRange rows first last → v ≤ w
+last_of_range rows v w first last x y range =
+    let e = one_lsn _ rows first v range.from x in
+    let f = one_lsn _ rows last w range.until y in
+    omega (arith, e, f, range.order)
+
+log_of : Config → ℕ → Text → ℕ → ℕ → LogWords
+log_of config log register port rounds = record { config = config; log = log; register = register; port = port; rounds = rounds }
+
+fivefold : {A B C X : Type 0} (f : A → B → C → B → B → X) (a b : A) (c d : B) (g h : C) (i j k l : B)
+    → a ≡ b → c ≡ d → g ≡ h → i ≡ j → k ≡ l → f a c g i k ≡ f b d h j l
+fivefold f a b c d g h i j k l e1 e2 e3 e4 e5 = cc
+
+one_log : (rows : List Row) (a b : LogWords) → IsLogWords rows a → IsLogWords rows b → a ≡ b
+unfolding log_of
+one_log rows a b x y =
+    fivefold log_of a.config b.config a.log b.log a.register b.register a.port b.port a.rounds b.rounds
+    (one_config _ rows a.config b.config x.config y.config)
+    (one_number _ rows 1 65535 a.log b.log (omega arith) x.log y.log)
+    (one_text _ rows a.register b.register x.register y.register)
+    (one_number _ rows 1 65519 a.port b.port (omega arith) x.port y.port)
+    (one_number _ rows 1 1000000 a.rounds b.rounds (omega arith) x.rounds y.rounds)
+
+tail_of : LogWords → ℕ → ℕ → TailWords
+tail_of w first last = record { of = w; from = first; until = last }
+
+threefold : {A B X : Type 0} (f : A → B → B → X) (a b : A) (c d g h : B) → a ≡ b → c ≡ d → g ≡ h → f a c g ≡ f b d h
+threefold f a b c d g h e1 e2 e3 = cc
+
+one_tail : (rows : List Row) (a b : TailWords) → IsTailWords rows a → IsTailWords rows b → a ≡ b
+unfolding tail_of
+one_tail rows a b x y =
+    threefold tail_of a.of b.of a.from b.from a.until b.until
+    (one_log rows a.of b.of x.of y.of)
+    (one_lsn _ rows a.from b.from x.range.from y.range.from)
+    (one_lsn _ rows a.until b.until x.range.until y.range.until)
+
+-- the second letter of a text, which tells the names of the commands apart
+abbrev second : Text → ℕ
+second name = slice_index name 1
+
+abbrev letter_of : Command → ℕ
+letter_of Replay = 101
+letter_of (Exercise seed events) = 120
+letter_of (Node n) = 111
+letter_of (Append w) = 112
+letter_of (Tail t) = 97
+
+called : (name : Text) (rows : List Row) (c : Command) → IsNamed name rows c → second name ≡ letter_of c
+called name rows Replay x = ap second x
+called name rows (Exercise seed events) x = ap second x.0
+called name rows (Node n) x = ap second x.0
+called name rows (Append w) x = ap second x.0
+called name rows (Tail t) x = ap second x.0
+
 one_named : (name : Text) (rows : List Row) (a b : Command) → IsNamed name rows a → IsNamed name rows b → a ≡ b
 one_named name rows Replay Replay x y = refl
-one_named name rows Replay (Exercise seed events) x y = let e : codes "replay" ≡ codes "exercise" = sym x ∙ y.0 in absurd cc
-one_named name rows Replay (Node n) x y = let e : codes "replay" ≡ codes "node" = sym x ∙ y.0 in absurd cc
-one_named name rows (Exercise seed events) Replay x y = let e : codes "replay" ≡ codes "exercise" = sym y ∙ x.0 in absurd cc
 one_named name rows (Exercise seed events) (Exercise other more) x y =
     ap₂ Exercise (one_number _ rows 0 (2 ^ 64 - 1) seed other (omega arith) x.1.seed y.1.seed) (one_number _ rows 0 100000 events more (omega arith) x.1.events y.1.events)
-one_named name rows (Exercise seed events) (Node n) x y = let e : codes "exercise" ≡ codes "node" = sym x.0 ∙ y.0 in absurd cc
-one_named name rows (Node n) Replay x y = let e : codes "replay" ≡ codes "node" = sym y ∙ x.0 in absurd cc
-one_named name rows (Node n) (Exercise seed events) x y = let e : codes "exercise" ≡ codes "node" = sym y.0 ∙ x.0 in absurd cc
 one_named name rows (Node n) (Node m) x y = ap Node (one_node rows n m x.1 y.1)
+one_named name rows (Append w) (Append v) x y = ap Append (one_log rows w v x.1 y.1)
+one_named name rows (Tail t) (Tail u) x y = ap Tail (one_tail rows t u x.1 y.1)
+one_named name rows a b x y = let e : letter_of a ≡ letter_of b = sym (called name rows a x) ∙ called name rows b y in absurd (omega (arith, e))
 
 pub one_command : (words : List Text) (a b : Command) → Asks words a → Asks words b → a ≡ b
 one_command words a b x y =
@@ -75,8 +169,7 @@ one_command words a b x y =
     one_named y.name y.rows a b meaning y.meaning
 
 -- the places of the command that the words ask for are those of the words
-pub places_of : (words : List Text) (command : Command) (places : Option Places) → Asks words command
-    → MatchOption places ((n : NodeWords) → command ≡ Node n → ⊥) (λ p. (n : NodeWords) × (command ≡ Node n) × ArePlacesOf n p)
-    → MatchOption places (AskForNoNode words) (AskForPlaces words)
-places_of words command None asks none = λ n other. none n (one_command words command (Node n) asks other)
-places_of words command (Some p) asks some = record { node = some.0; asks = subst (Asks words) some.1 asks; are = some.2 }
+pub asked_places : (words : List Text) (command : Command) (places : Option Places) → Asks words command
+    → MatchOption places (HasNoPlaces command) (ArePlacesOf command) → MatchOption places (AskForNoPlaces words) (AskForPlaces words)
+asked_places words command None asks none = λ other also. subst HasNoPlaces (one_command words command other asks also) none
+asked_places words command (Some p) asks are = record { command = command; asks = asks; are = are }

@@ -1,10 +1,12 @@
 -- The command line, as clap reads it.
-use Rattle.std.specs.Prelude.{List, [], ◌∷◌, codes, true, false, Option, None, Some}
-use Rattle.clap.specs.Simple.{App, Shape, new_shape, new_rule, subcommand_of}
+use Rattle.std.specs.Prelude.{◌≡◌, List, [], ◌∷◌, codes, true, false, Option, None, Some}
+use Rattle.clap.specs.Simple.{App, Shape, new_shape, new_rule, app_of, subcommand_of}
 use Rattle.clap.specs.Walk.{Rule, Row, Text}
 use Rattle.clap.specs.Kinds.{Kinds}
 use Rattle.clap.specs.Faults.{fault_of}
 use Rattle.clap.specs.declared.builder.action.ArgAction.TheVariants.{SetTrue}
+use Rattle.clap.specs.declared.builder.command.Command.{Command}
+use Rattle.clap.specs.declared.builder.command.Command.TheViews.{out-Command as fields_of}
 
 -- an option with a value, which has to be given
 abbrev pub option_rule : Text → Rule
@@ -25,6 +27,27 @@ node_shape = record (new_shape (codes "node")) {
       ∷ option_rule (codes "port") ∷ option_rule (codes "turns") ∷ flag_rule (codes "format") ∷ [];
 }
 
+-- a command over a log
+abbrev pub log_shape : Text → Shape
+log_shape name = record (new_shape name) {
+  rules = option_rule (codes "config") ∷ option_rule (codes "log") ∷ option_rule (codes "register") ∷ option_rule (codes "port")
+      ∷ option_rule (codes "rounds") ∷ [];
+}
+
+abbrev pub append_shape : Shape
+append_shape = log_shape (codes "append")
+
+abbrev pub tail_shape : Shape
+tail_shape = record (new_shape (codes "tail")) {
+  rules = option_rule (codes "config") ∷ option_rule (codes "log") ∷ option_rule (codes "register") ∷ option_rule (codes "port")
+      ∷ option_rule (codes "rounds") ∷ option_rule (codes "from") ∷ option_rule (codes "until") ∷ [];
+}
+
+-- clap's command has this shape, and nothing in it is for other commands
+pub record IsCommand (shape : Shape) (command : Command) : Type 0 where
+  pub app : app_of command ≡ record { top = shape; subs = [] }
+  pub own : (fields_of command).has_globals ≡ false
+
 -- the commands, with no help and no version
 abbrev pub ld_app : App
 ld_app = record {
@@ -35,7 +58,7 @@ ld_app = record {
     disable_help_subcommand = true;
     subcommand_required = true;
   };
-  subs = new_shape (codes "replay") ∷ exercise_shape ∷ node_shape ∷ [];
+  subs = new_shape (codes "replay") ∷ exercise_shape ∷ node_shape ∷ append_shape ∷ tail_shape ∷ [];
 }
 
 abbrev pub if_fine : {X : Type 0} → Kinds → Option X → Option X

@@ -1,16 +1,20 @@
 -- What the words ask for.
-use Rattle.std.specs.Prelude.{◌≡◌, ◌≤◌, ◌<◌, ◌^◌, ◌-◌, ℕ, List, codes, decimal, Bool, true, false, Option, None, Some, Ok}
+use Rattle.std.specs.Prelude.{◌≡◌, ◌≤◌, ◌<◌, ◌^◌, ◌-◌, ◌==◌, ℕ, List, codes, decimal, Bool, true, false, Option, None, Some, Ok}
 use Rattle.std.specs.Str.{IsUtf8, bytes_eq}
 use Rattle.clap.specs.Walk.{Row, Text, first_of}
 use Rattle.serde_json.specs.Read.{read}
-use Rattle.ld_ids.specs.Id.{IsNode}
+use Rattle.ld_table.specs.Words.{any_of}
+use Rattle.ld_lsn.specs.Number.{lsn_text}
+use Rattle.ld_ids.specs.Id.{IsNode, IsLog}
 use Rattle.ld_ids.specs.Set.{has_node}
 use Rattle.ld_config.specs.declared.config.Config.{Config}
 use Rattle.ld_config.specs.Config.{config_of_text}
 use Rattle.ld_words.specs.declared.command.NodeWords.{NodeWords}
+use Rattle.ld_words.specs.declared.command.LogWords.{LogWords}
+use Rattle.ld_words.specs.declared.command.TailWords.{TailWords}
 use Rattle.ld_words.specs.declared.command.Places.{Places}
 use Rattle.ld_words.specs.declared.command.Command.{Command}
-use Rattle.ld_words.specs.declared.command.Command.TheVariants.{Replay, Exercise, Node}
+use Rattle.ld_words.specs.declared.command.Command.TheVariants.{Replay, Exercise, Node, Append, Tail}
 use Rattle.ld_words.specs.Grammar.{found}
 
 -- ---- values
@@ -35,6 +39,11 @@ pub record IsNumber (name : Text) (rows : List Row) (least most n : ℕ) : Type 
   pub from : least ≤ n
   pub to : n ≤ most
 
+-- the argument is the log sequence number, spelt `eXnY`
+pub record IsLsn (name : Text) (rows : List Row) (lsn : ℕ) : Type 0 where
+  pub text : Is name rows (lsn_text lsn)
+  pub bits : lsn < 2 ^ 64
+
 -- a flag that is given
 abbrev pub is_true : Option Text → Bool
 is_true None = false
@@ -55,6 +64,15 @@ pub record IsMember (number : ℕ) (config : Config) : Type 0 where
   pub node : IsNode number
   pub member : has_node number config.nodes ≡ true
 
+-- whether the configuration has this log
+abbrev pub has_log : Config → ℕ → Bool
+has_log c l = any_of (λ s. s.log == l) c.logs
+
+-- the number is that of a log, and the log is one of the configuration's
+pub record IsLogOf (number : ℕ) (config : Config) : Type 0 where
+  pub log : IsLog number
+  pub has : has_log config number ≡ true
+
 -- ---- commands
 
 pub record IsExercise (rows : List Row) (start count : ℕ) : Type 0 where
@@ -71,11 +89,32 @@ pub record IsNodeWords (rows : List Row) (n : NodeWords) : Type 0 where
   pub turns : IsNumber (codes "turns") rows 1 1000000000 n.turns
   pub format : n.format ≡ is_true (first_of (codes "format") rows)
 
+pub record IsLogWords (rows : List Row) (w : LogWords) : Type 0 where
+  pub config : IsConfig (codes "config") rows w.config
+  pub log : IsNumber (codes "log") rows 1 65535 w.log
+  pub known : IsLogOf w.log w.config
+  pub register : Is (codes "register") rows w.register
+  pub port : IsNumber (codes "port") rows 1 65519 w.port
+  pub rounds : IsNumber (codes "rounds") rows 1 1000000 w.rounds
+
+-- the first and the last number that are read: the first is above e0n0, and the last isn't below it
+pub record IsRange (rows : List Row) (first last : ℕ) : Type 0 where
+  pub from : IsLsn (codes "from") rows first
+  pub until : IsLsn (codes "until") rows last
+  pub some : 1 ≤ first
+  pub order : first ≤ last
+
+pub record IsTailWords (rows : List Row) (t : TailWords) : Type 0 where
+  pub of : IsLogWords rows t.of
+  pub range : IsRange rows t.from t.until
+
 -- the command has this name, and these values of its arguments
 abbrev pub IsNamed : Text → List Row → Command → Type 0
 IsNamed name rows Replay = name ≡ codes "replay"
 IsNamed name rows (Exercise seed events) = (name ≡ codes "exercise") × IsExercise rows seed events
 IsNamed name rows (Node n) = (name ≡ codes "node") × IsNodeWords rows n
+IsNamed name rows (Append w) = (name ≡ codes "append") × IsLogWords rows w
+IsNamed name rows (Tail t) = (name ≡ codes "tail") × IsTailWords rows t
 
 -- the command is what clap finds in the words
 pub record IsFound (found : Option (Text × List Row)) (command : Command) : Type 0 where
@@ -95,17 +134,39 @@ IsNoCommand words = (command : Command) → Asks words command → ⊥
 -- ---- places
 
 -- these are the files and the port of the node
-pub record ArePlacesOf (n : NodeWords) (places : Places) : Type 0 where
-  pub store : places.store ≡ n.store
+pub record ArePlacesOfNode (n : NodeWords) (places : Places) : Type 0 where
+  pub store : places.store ≡ Some n.store
   pub register : places.register ≡ n.register
   pub port : places.port ≡ n.port
 
--- the words ask for a node with these files and this port
-pub record AskForPlaces (words : List Text) (places : Places) : Type 0 where
-  pub node : NodeWords
-  pub asks : Asks words (Node node)
-  pub are : ArePlacesOf node places
+-- these are the file and the port of the log, which needs no store
+pub record ArePlacesOfLog (w : LogWords) (places : Places) : Type 0 where
+  pub store : places.store ≡ None
+  pub register : places.register ≡ w.register
+  pub port : places.port ≡ w.port
 
--- the words ask for no node
-abbrev pub AskForNoNode : List Text → Type 0
-AskForNoNode words = (n : NodeWords) → Asks words (Node n) → ⊥
+-- these are the files and the port of the command
+abbrev pub ArePlacesOf : Command → Places → Type 0
+ArePlacesOf Replay places = ⊥
+ArePlacesOf (Exercise seed events) places = ⊥
+ArePlacesOf (Node n) places = ArePlacesOfNode n places
+ArePlacesOf (Append w) places = ArePlacesOfLog w places
+ArePlacesOf (Tail t) places = ArePlacesOfLog t.of places
+
+-- the command is one that has neither files nor a port
+abbrev pub HasNoPlaces : Command → Type 0
+HasNoPlaces Replay = Unit {0}
+HasNoPlaces (Exercise seed events) = Unit {0}
+HasNoPlaces (Node n) = ⊥
+HasNoPlaces (Append w) = ⊥
+HasNoPlaces (Tail t) = ⊥
+
+-- the words ask for a command with these files and this port
+pub record AskForPlaces (words : List Text) (places : Places) : Type 0 where
+  pub command : Command
+  pub asks : Asks words command
+  pub are : ArePlacesOf command places
+
+-- the words ask for no command that has places
+abbrev pub AskForNoPlaces : List Text → Type 0
+AskForNoPlaces words = (command : Command) → Asks words command → HasNoPlaces command

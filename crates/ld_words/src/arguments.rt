@@ -4,7 +4,7 @@ ghost use Rattle.clap.specs.Words.{rows_of, found_of, first_of};
 ghost use Rattle.ld_ids.specs.Set.{has_node};
 ghost use Rattle.ld_config.specs.Bounds.{IsInBounds};
 ghost use Rattle.ld_config.specs.declared.config.Config.{Config as Configuration};
-ghost use Rattle.ld_words.specs.Meaning.{IsNumber, IsMember, Says, is_true};
+ghost use Rattle.ld_words.specs.Meaning.{IsNumber, IsLsn, IsMember, IsLogOf, Says, has_log, is_true};
 ghost use Rattle.ld_words.specs.Refuses.{Refuses};
 
 use crate::FileName;
@@ -12,7 +12,8 @@ use crate::number::spelt;
 use crate::refusal::Refusal;
 use clap::ArgMatches;
 use ld_config::{Config, ConfigFault};
-use ld_ids::NodeId;
+use ld_ids::{LogId, NodeId};
+use ld_lsn::Lsn;
 use std::alloc::Global;
 
 /// The value of an argument, as it stands in the words.
@@ -66,6 +67,19 @@ pub fn number(
     }
 }
 
+/// The log sequence number that an argument is.
+pub fn lsn(matches: &ArgMatches<'_>, name: &'static str) -> Result<Lsn, Refusal>
+    ensures { MatchResult result
+        (IsLsn name.now (rows_of (found_of matches.now)))
+        (Refuses ((n : ℕ) → IsLsn name.now (rows_of (found_of matches.now)) n → ⊥)) }
+{
+    let text = text(matches, name)?;
+    match Lsn::parse(text.as_bytes()) {
+        Some(lsn) => Ok(lsn),
+        None => Err(Refusal::Lsn { name }),
+    }
+}
+
 /// Whether a flag is given.
 pub fn flag(matches: &ArgMatches<'_>, name: &str) -> bool
     ensures { result ≡ is_true (first_of name.now (rows_of (found_of matches.now))) }
@@ -111,4 +125,37 @@ pub fn member(number: u64, config: &Config) -> Result<NodeId, Refusal>
     } else {
         Err(Refusal::Stranger(node))
     }
+}
+
+/// The log of this number, among the configuration's logs.
+pub fn log_of(number: u64, config: &Config) -> Result<LogId, Refusal>
+    ensures { MatchResult result (λ log. (log ≡ number) × IsLogOf number config.now) (Refuses (IsLogOf number config.now → ⊥)) }
+{
+    if number < 1 || number > 65_535 {
+        return Err(Refusal::Number {
+            name: "log",
+            least: 1,
+            most: 65_535,
+        });
+    }
+    let Some(log) = LogId::new(number as u32) else {
+        unreachable!();
+    };
+    if has(config, log) {
+        Ok(log)
+    } else {
+        Err(Refusal::StrangeLog(log))
+    }
+}
+
+/// Whether the log is one of the configuration's.
+fn has(config: &Config, log: LogId) -> bool
+    ensures { result ≡ has_log config.now log }
+{
+    for spec in config.logs.as_slice() {
+        if spec.log == log {
+            return true;
+        }
+    }
+    false
 }

@@ -1,7 +1,8 @@
 // The commands.
 use crate::FileName;
 use ld_config::Config;
-use ld_ids::NodeId;
+use ld_ids::{LogId, NodeId};
+use ld_lsn::Lsn;
 
 /// What the words ask for.
 #[derive(Debug, Drop)]
@@ -13,6 +14,10 @@ pub enum Command {
     Exercise { seed: u64, events: u32 },
     /// A node serves its peers.
     Node(NodeWords),
+    /// Payloads from standard input are appended to a log.
+    Append(LogWords),
+    /// Records of a log are read, and written to standard output.
+    Tail(TailWords),
 }
 
 /// What the words say of a node that serves.
@@ -34,13 +39,39 @@ pub struct NodeWords {
     pub format: bool,
 }
 
-/// The things of the outside that a node needs.
+/// What the words say of a log that is appended to or read.
 #[derive(Debug, Drop)]
-pub struct Places {
-    /// The file of the node's store.
-    pub store: FileName,
+pub struct LogWords {
+    /// The configuration.
+    pub config: Config,
+    /// The log's number, which is among the configuration's logs.
+    pub log: LogId,
     /// The file of the register of epochs.
     pub register: FileName,
-    /// The port that the node listens on.
+    /// The port below those of the nodes, 1 to 65,519: node N listens on the Nth port above it.
+    pub port: u16,
+    /// After how many rounds the command gives up, 1 to 1,000,000.
+    pub rounds: u32,
+}
+
+/// What the words say of a log that is read, and which records of it.
+#[derive(Debug, Drop)]
+pub struct TailWords {
+    /// The log, and how it is reached.
+    pub of: LogWords,
+    /// The first number that is read, from e0n1 on.
+    pub from: Lsn,
+    /// The last number that is read, which isn't below the first.
+    pub until: Lsn,
+}
+
+/// The things of the outside that a command needs.
+#[derive(Debug, Drop)]
+pub struct Places {
+    /// The file of the node's store, where the command is a node.
+    pub store: Option<FileName>,
+    /// The file of the register of epochs.
+    pub register: FileName,
+    /// The port that the node listens on; of a log, the port below those of the nodes.
     pub port: u16,
 }

@@ -1,7 +1,7 @@
 // The commands and their arguments, as clap has them.
 ghost use Rattle.std.specs.Prelude.{◌≡◌, IfOk, MatchResult, false, map, string_bytes};
 ghost use Rattle.clap.specs.Words.{app_of, rule_of, subcommand_rows_of};
-ghost use Rattle.ld_words.specs.Grammar.{option_rule, flag_rule, ld_app, found};
+ghost use Rattle.ld_words.specs.Grammar.{option_rule, flag_rule, exercise_shape, node_shape, log_shape, tail_shape, ld_app, found, IsCommand};
 ghost use Rattle.ld_words.specs.Meaning.{IsNoCommand};
 ghost use Rattle.ld_words.specs.Refuses.{Refuses};
 
@@ -26,21 +26,58 @@ fn flag<'a>(alloc: Global, name: &'a str) -> Arg<'a>
     Arg::new(alloc, name).long(name).action(ArgAction::SetTrue)
 }
 
-/// The commands, with no help and no version.
-fn ld_command<'a>(alloc: Global) -> Result<Command<'a>, AllocError>
-    ensures { IfOk result (λ command. app_of command ≡ ld_app) }
+/// The command that runs a made schedule.
+fn exercise_command<'a>(alloc: Global) -> Result<Command<'a>, AllocError>
+    ensures { IfOk result (IsCommand exercise_shape) }
 {
-    let node = Command::new(alloc, "node")
+    Command::new(alloc, "exercise")
+        .arg(option(alloc, "seed"))?
+        .arg(option(alloc, "events"))
+}
+
+/// The command that serves a node.
+fn node_command<'a>(alloc: Global) -> Result<Command<'a>, AllocError>
+    ensures { IfOk result (IsCommand node_shape) }
+{
+    Command::new(alloc, "node")
         .arg(option(alloc, "id"))?
         .arg(option(alloc, "config"))?
         .arg(option(alloc, "store"))?
         .arg(option(alloc, "register"))?
         .arg(option(alloc, "port"))?
         .arg(option(alloc, "turns"))?
-        .arg(flag(alloc, "format"))?;
-    let exercise = Command::new(alloc, "exercise")
-        .arg(option(alloc, "seed"))?
-        .arg(option(alloc, "events"))?;
+        .arg(flag(alloc, "format"))
+}
+
+/// A command of this name over a log.
+fn log_command<'a>(alloc: Global, name: &'a str) -> Result<Command<'a>, AllocError>
+    ensures { IfOk result (IsCommand (log_shape name.now)) }
+{
+    Command::new(alloc, name)
+        .arg(option(alloc, "config"))?
+        .arg(option(alloc, "log"))?
+        .arg(option(alloc, "register"))?
+        .arg(option(alloc, "port"))?
+        .arg(option(alloc, "rounds"))
+}
+
+/// The command that reads a log.
+fn tail_command<'a>(alloc: Global) -> Result<Command<'a>, AllocError>
+    ensures { IfOk result (IsCommand tail_shape) }
+{
+    log_command(alloc, "tail")?
+        .arg(option(alloc, "from"))?
+        .arg(option(alloc, "until"))
+}
+
+/// The commands, with no help and no version.
+fn ld_command<'a>(alloc: Global) -> Result<Command<'a>, AllocError>
+    ensures { IfOk result (λ command. app_of command ≡ ld_app) }
+{
+    let exercise = exercise_command(alloc)?;
+    let node = node_command(alloc)?;
+    let append = log_command(alloc, "append")?;
+    let tail = tail_command(alloc)?;
     let replay = Command::new(alloc, "replay");
     let ld = Command::new(alloc, "ld")
         .no_binary_name(true)
@@ -49,7 +86,9 @@ fn ld_command<'a>(alloc: Global) -> Result<Command<'a>, AllocError>
         .subcommand_required(true);
     ld.subcommand(replay)?
         .subcommand(exercise)?
-        .subcommand(node)
+        .subcommand(node)?
+        .subcommand(append)?
+        .subcommand(tail)
 }
 
 /// What clap finds in the words.

@@ -5,7 +5,7 @@ ghost use Rattle.ld_words.specs.declared.refusal.Refusal.TheVariants.{NoMemory a
 use crate::cause::config_cause;
 use clap::Error;
 use ld_config::ConfigFault;
-use ld_ids::{NoMemory, NodeId};
+use ld_ids::{LogId, NoMemory, NodeId};
 use std::alloc::{AllocError, Global};
 
 /// Why the words are no command.
@@ -23,10 +23,18 @@ pub enum Refusal {
         least: u64,
         most: u64,
     },
+    /// The argument's value isn't a log sequence number, spelt `eXnY`.
+    Lsn {
+        name: &'static str,
+    },
     /// The configuration is refused.
     Config(ConfigFault),
     /// The node is none of the configuration's.
     Stranger(NodeId),
+    /// The log is none of the configuration's.
+    StrangeLog(LogId),
+    /// The first number that is to be read is 0, or above the last.
+    Order,
     /// There is no command of this name.
     Unknown,
     /// There is no memory left to tell.
@@ -49,11 +57,19 @@ impl Refusal {
             Refusal::Number { name, least, most } => format!(in alloc;
                 "--{name} isn't a number from {least} to {most}, in digits without a sign or a leading zero"
             ),
+            Refusal::Lsn { name } => format!(in alloc;
+                "--{name} isn't a number eXnY, X and Y from 0 to 4294967295 in digits without a sign or a leading zero"
+            ),
             Refusal::Config(fault) => config_cause(alloc, fault),
             Refusal::Stranger(node) => format!(in alloc;
                 "--id is {}, which isn't one of the configuration's nodes",
                 node.number()
             ),
+            Refusal::StrangeLog(log) => format!(in alloc;
+                "--log is {}, which isn't one of the configuration's logs",
+                log.number()
+            ),
+            Refusal::Order => format!(in alloc; "--from is e0n0 or above --until"),
             Refusal::Unknown => format!(in alloc; "there is no such command"),
             Refusal::NoMemory => format!(in alloc; "out of memory"),
         }

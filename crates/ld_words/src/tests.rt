@@ -1,5 +1,5 @@
 // Words, as they may be given, and which command they ask for.
-use crate::{Command, NodeWords, places, read, reason};
+use crate::{Command, LogWords, NodeWords, Places, TailWords, places, read, reason};
 use std::alloc::Global;
 use std::test::Fail;
 
@@ -27,15 +27,53 @@ fn node_shown(alloc: Global, node: &NodeWords) -> Result<String, Fail> {
     Ok(shown)
 }
 
+/// The words of a log, in a line.
+fn log_shown(alloc: Global, words: &LogWords) -> Result<String, Fail> {
+    let shown = format!(in alloc;
+        "log {} of {}: {} {} {}",
+        words.log.number(),
+        words.config.logs.len(),
+        words.register.as_str(),
+        words.port,
+        words.rounds
+    )?;
+    Ok(shown)
+}
+
+/// The words of a log that is appended to, in a line.
+fn append_shown(alloc: Global, words: &LogWords) -> Result<String, Fail> {
+    let log = log_shown(alloc, words)?;
+    Ok(format!(in alloc; "append {}", log.as_str())?)
+}
+
+/// The words of a log that is read, in a line.
+fn tail_shown(alloc: Global, words: &TailWords) -> Result<String, Fail> {
+    let log = log_shown(alloc, &words.of)?;
+    let shown = format!(in alloc;
+        "tail {} {} {}",
+        log.as_str(),
+        words.from.value(),
+        words.until.value()
+    )?;
+    Ok(shown)
+}
+
+/// The command, in a line.
+fn command_shown(alloc: Global, command: &Command) -> Result<String, Fail> {
+    match command {
+        Command::Replay => Ok(format!(in alloc; "replay")?),
+        Command::Exercise { seed, events } => Ok(format!(in alloc; "exercise {seed} {events}")?),
+        Command::Node(node) => node_shown(alloc, node),
+        Command::Append(words) => append_shown(alloc, words),
+        Command::Tail(words) => tail_shown(alloc, words),
+    }
+}
+
 /// The command that the line asks for, in a line.
 fn shown(alloc: Global, line: &str) -> Result<String, Fail> {
     let words = words_of(alloc, line)?;
     match read(alloc, &words)? {
-        Some(Command::Replay) => Ok(format!(in alloc; "replay")?),
-        Some(Command::Exercise { seed, events }) => {
-            Ok(format!(in alloc; "exercise {seed} {events}")?)
-        }
-        Some(Command::Node(node)) => node_shown(alloc, &node),
+        Some(command) => command_shown(alloc, &command),
         None => Ok(format!(in alloc; "none")?),
     }
 }
@@ -122,13 +160,104 @@ fn words_of_nodes(rt: HostRuntime) -> Result<(), Fail> {
     Ok(())
 }
 
+/// A line of this command with the configuration of the logs 1 and 65,535, which ends with these arguments.
+fn log_line(alloc: Global, name: &str, rest: &str) -> Result<String, Fail> {
+    let line = format!(in alloc;
+        "{name} --config {{\"nodes\":[1],\"logs\":[{{\"id\":1,\"set\":[1],\"r\":1}},{{\"id\":65535,\"set\":[1],\"r\":1}}]}} --register r {rest}"
+    )?;
+    Ok(line)
+}
+
+/// Whether a line of `append` asks for this command.
+fn append_asks(alloc: Global, rest: &str, expected: &str) -> Result<bool, Fail> {
+    let line = log_line(alloc, "append", rest)?;
+    asks(alloc, line.as_str(), expected)
+}
+
+#[test]
+fn words_of_appends(rt: HostRuntime) -> Result<(), Fail> {
+    let cases = [
+        ("--log 1 --port 1 --rounds 1", "append log 1 of 2: r 1 1"),
+        (
+            "--rounds=1000000 --port=65519 --log=65535 --",
+            "append log 65535 of 2: r 65519 1000000",
+        ),
+        ("--log 0 --port 1 --rounds 1", "none"),
+        ("--log 2 --port 1 --rounds 1", "none"),
+        ("--log 65536 --port 1 --rounds 1", "none"),
+        ("--log 01 --port 1 --rounds 1", "none"),
+        ("--log 1 --port 0 --rounds 1", "none"),
+        ("--log 1 --port 65520 --rounds 1", "none"),
+        ("--log 1 --port 1 --rounds 0", "none"),
+        ("--log 1 --port 1 --rounds 1000001", "none"),
+        ("--log 1 --port 1", "none"),
+        ("--log 1 --port 1 --rounds 1 more", "none"),
+        ("--log 1 --port 1 --rounds 1 --log 1", "none"),
+        ("--log 1 --port 1 --rounds 1 --store s", "none"),
+        (
+            "--log 1 --port 1 --rounds 1 --from e1n1 --until e1n1",
+            "none",
+        ),
+    ];
+    for (rest, expected) in cases {
+        assert!(rt; append_asks(rt.alloc(), rest, expected)?);
+    }
+    Ok(())
+}
+
+/// Whether a line of `tail` over a log asks for this command.
+fn tail_asks(alloc: Global, rest: &str, expected: &str) -> Result<bool, Fail> {
+    let rest = format!(in alloc; "--log 1 --port 7000 --rounds 9 {rest}")?;
+    let line = log_line(alloc, "tail", rest.as_str())?;
+    asks(alloc, line.as_str(), expected)
+}
+
+#[test]
+fn words_of_tails(rt: HostRuntime) -> Result<(), Fail> {
+    let cases = [
+        ("--from e0n1 --until e0n1", "tail log 1 of 2: r 7000 9 1 1"),
+        (
+            "--until=e4294967295n4294967295 --from=e4294967295n4294967295",
+            "tail log 1 of 2: r 7000 9 18446744073709551615 18446744073709551615",
+        ),
+        (
+            "--from e0n4294967295 --until e1n0",
+            "tail log 1 of 2: r 7000 9 4294967295 4294967296",
+        ),
+        ("--from e0n0 --until e1n1", "none"),
+        ("--from e0n0 --until e0n0", "none"),
+        ("--from e1n0 --until e0n4294967295", "none"),
+        ("--from e1n2 --until e1n1", "none"),
+        ("--from e1n4294967296 --until e4294967295n0", "none"),
+        ("--from e1n1 --until e4294967296n0", "none"),
+        ("--from e01n1 --until e1n1", "none"),
+        ("--from 1 --until e1n1", "none"),
+        ("--from e1n1", "none"),
+        ("--until e1n1", "none"),
+        ("--from e1n1 --until e1n1 --from e1n1", "none"),
+        ("--from e1n1 --until e1n1 --log 1", "none"),
+    ];
+    for (rest, expected) in cases {
+        assert!(rt; tail_asks(rt.alloc(), rest, expected)?);
+    }
+    Ok(())
+}
+
+/// The store's file, where there is one.
+fn store_shown(places: &Places) -> &str {
+    match &places.store {
+        Some(store) => store.as_str(),
+        None => "no store",
+    }
+}
+
 /// The places that the line names, in a line.
 fn places_shown(alloc: Global, line: &str) -> Result<String, Fail> {
     let words = words_of(alloc, line)?;
     match places(alloc, &words)? {
         Some(places) => Ok(format!(in alloc;
             "{} {} {}",
-            places.store.as_str(),
+            store_shown(&places),
             places.register.as_str(),
             places.port
         )?),
@@ -136,12 +265,32 @@ fn places_shown(alloc: Global, line: &str) -> Result<String, Fail> {
     }
 }
 
+/// Whether the line names these places.
+fn names(alloc: Global, line: &str, expected: &str) -> Result<bool, Fail> {
+    Ok(places_shown(alloc, line)?.as_str() == expected)
+}
+
 #[test]
-fn places_of_nodes_alone(rt: HostRuntime) -> Result<(), Fail> {
+fn places_of_commands(rt: HostRuntime) -> Result<(), Fail> {
     let alloc = rt.alloc();
-    let line = node_line(alloc, "2", "--port 7000 --turns 9")?;
-    assert_eq!(rt; places_shown(alloc, line.as_str())?.as_str(), "s r 7000");
-    assert_eq!(rt; places_shown(alloc, "replay")?.as_str(), "none");
+    let node = node_line(alloc, "2", "--port 7000 --turns 9")?;
+    let append = log_line(alloc, "append", "--log 1 --port 7000 --rounds 9")?;
+    let tail = log_line(
+        alloc,
+        "tail",
+        "--log 1 --port 7000 --rounds 9 --from e1n1 --until e1n1",
+    )?;
+    let cases = [
+        (node.as_str(), "s r 7000"),
+        (append.as_str(), "no store r 7000"),
+        (tail.as_str(), "no store r 7000"),
+        ("replay", "none"),
+        ("exercise --seed 1 --events 1", "none"),
+        ("help", "none"),
+    ];
+    for (line, expected) in cases {
+        assert!(rt; names(alloc, line, expected)?);
+    }
     Ok(())
 }
 
@@ -166,6 +315,18 @@ fn reasons_name_what_is_refused(rt: HostRuntime) -> Result<(), Fail> {
         (
             "node --id 2 --config {\"nodes\":[1],\"logs\":[{\"id\":1,\"set\":[1],\"r\":1}]} --store s --register r --port 1 --turns 9",
             "--id is 2, which isn't one of the configuration's nodes",
+        ),
+        (
+            "append --config {\"nodes\":[1],\"logs\":[{\"id\":1,\"set\":[1],\"r\":1}]} --log 5 --register r --port 1 --rounds 9",
+            "--log is 5, which isn't one of the configuration's logs",
+        ),
+        (
+            "tail --config {\"nodes\":[1],\"logs\":[{\"id\":1,\"set\":[1],\"r\":1}]} --log 1 --register r --port 1 --rounds 9 --from 1 --until e1n1",
+            "--from isn't a number eXnY",
+        ),
+        (
+            "tail --config {\"nodes\":[1],\"logs\":[{\"id\":1,\"set\":[1],\"r\":1}]} --log 1 --register r --port 1 --rounds 9 --from e1n2 --until e1n1",
+            "--from is e0n0 or above --until",
         ),
     ];
     for (line, text) in cases {

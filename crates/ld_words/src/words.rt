@@ -2,18 +2,21 @@
 ghost use Rattle.std.specs.Prelude.{◌≡◌, ℕ, IfOk, MatchOption, MatchResult, IfSome, map, string_bytes};
 ghost use Rattle.clap.specs.Words.{rows_of, found_of, subcommand_rows_of};
 ghost use Rattle.ld_config.specs.Bounds.{IsInBounds};
-ghost use Rattle.ld_words.specs.declared.command.NodeWords.{NodeWords as Words};
+ghost use Rattle.ld_words.specs.declared.command.NodeWords.{NodeWords as Node};
+ghost use Rattle.ld_words.specs.declared.command.LogWords.{LogWords as Log};
+ghost use Rattle.ld_words.specs.declared.command.TailWords.{TailWords as Tail};
 ghost use Rattle.ld_words.specs.declared.command.Command.{Command as Choice};
-ghost use Rattle.ld_words.specs.Meaning.{IsExercise, IsNodeWords, IsNamed, IsFound, Asks, IsNoCommand, ArePlacesOf, AskForPlaces, AskForNoNode};
+ghost use Rattle.ld_words.specs.Meaning.{IsExercise, IsNodeWords, IsLogWords, IsRange, IsTailWords, IsNamed, IsFound, Asks, IsNoCommand, ArePlacesOf, ArePlacesOfLog, HasNoPlaces, AskForPlaces, AskForNoPlaces};
 ghost use Rattle.ld_words.specs.Refuses.{Refuses};
-ghost use Rattle.ld_words.specs.Bounds.{HasBounds};
+ghost use Rattle.ld_words.specs.Bounds.{IsLogInBounds, IsTailInBounds, HasBounds};
 
-use crate::arguments::{config, file_name, flag, member, number, text};
+use crate::arguments::{config, file_name, flag, log_of, lsn, member, number, text};
 use crate::grammar::matches;
 use crate::refusal::Refusal;
-use crate::{Command, NodeWords, Places};
+use crate::{Command, LogWords, NodeWords, Places, TailWords};
 use clap::ArgMatches;
 use ld_ids::NoMemory;
+use ld_lsn::Lsn;
 use std::alloc::Global;
 
 /// What the arguments say of a node.
@@ -21,7 +24,7 @@ use std::alloc::Global;
 fn node_words(alloc: Global, matches: &ArgMatches<'_>) -> Result<NodeWords, Refusal>
     ensures says { MatchResult result
         (IsNodeWords (rows_of (found_of matches.now)))
-        (Refuses ((n : Words) → IsNodeWords (rows_of (found_of matches.now)) n → ⊥)) }
+        (Refuses ((n : Node) → IsNodeWords (rows_of (found_of matches.now)) n → ⊥)) }
     ensures bounds { IfOk result (λ n. IsInBounds n.config) }
 {
     let id = number(matches, "id", 1, 16)?;
@@ -40,6 +43,55 @@ fn node_words(alloc: Global, matches: &ArgMatches<'_>) -> Result<NodeWords, Refu
         turns: turns as u32,
         format: flag(matches, "format"),
     })
+}
+
+/// What the arguments say of a log.
+fn log_words(alloc: Global, matches: &ArgMatches<'_>) -> Result<LogWords, Refusal>
+    ensures says { MatchResult result
+        (IsLogWords (rows_of (found_of matches.now)))
+        (Refuses ((w : Log) → IsLogWords (rows_of (found_of matches.now)) w → ⊥)) }
+    ensures bounds { IfOk result IsLogInBounds }
+{
+    let log = number(matches, "log", 1, 65_535)?;
+    let config = config(alloc, text(matches, "config")?)?;
+    let log = log_of(log, &config)?;
+    let register = file_name(alloc, matches, "register")?;
+    let port = number(matches, "port", 1, 65_519)?;
+    let rounds = number(matches, "rounds", 1, 1_000_000)?;
+    Ok(LogWords {
+        config,
+        log,
+        register,
+        port: port as u16,
+        rounds: rounds as u32,
+    })
+}
+
+/// The first and the last number that the arguments say.
+#[tactic(auto, using(crate::proofs::OneCommand::first_of_range, crate::proofs::OneCommand::last_of_range))]
+fn range(matches: &ArgMatches<'_>) -> Result<(Lsn, Lsn), Refusal>
+    ensures { MatchResult result
+        (λ r. IsRange (rows_of (found_of matches.now)) r.0 r.1)
+        (Refuses ((first last : ℕ) → IsRange (rows_of (found_of matches.now)) first last → ⊥)) }
+{
+    let from = lsn(matches, "from")?;
+    let until = lsn(matches, "until")?;
+    if from.value() == 0 || until.value() < from.value() {
+        return Err(Refusal::Order);
+    }
+    Ok((from, until))
+}
+
+/// What the arguments say of a log that is read.
+fn tail_words(alloc: Global, matches: &ArgMatches<'_>) -> Result<TailWords, Refusal>
+    ensures says { MatchResult result
+        (IsTailWords (rows_of (found_of matches.now)))
+        (Refuses ((t : Tail) → IsTailWords (rows_of (found_of matches.now)) t → ⊥)) }
+    ensures bounds { IfOk result IsTailInBounds }
+{
+    let of = log_words(alloc, matches)?;
+    let (from, until) = range(matches)?;
+    Ok(TailWords { of, from, until })
 }
 
 /// The seed and the number of events that the arguments say.
@@ -69,6 +121,12 @@ fn named(alloc: Global, name: &str, matches: &ArgMatches<'_>) -> Result<Command,
     }
     if name == "node" {
         return Ok(Command::Node(node_words(alloc, matches)?));
+    }
+    if name == "append" {
+        return Ok(Command::Append(log_words(alloc, matches)?));
+    }
+    if name == "tail" {
+        return Ok(Command::Tail(tail_words(alloc, matches)?));
     }
     Err(Refusal::Unknown)
 }
@@ -112,26 +170,40 @@ pub fn read(alloc: Global, words: &[String]) -> Result<Option<Command>, NoMemory
     }
 }
 
-/// The files and the port of a command, where it is a node.
-fn node_places(command: Command) -> Option<Places>
-    ensures { MatchOption result ((n : Words) → command ≡ Command.Node n → ⊥) (λ p. (n : Words) × (command ≡ Command.Node n) × ArePlacesOf n p) }
+/// The files and the port of a command that has some.
+fn places_of(command: Command) -> Option<Places>
+    ensures { MatchOption result (HasNoPlaces command) (ArePlacesOf command) }
 {
     match command {
+        Command::Replay | Command::Exercise { .. } => None,
         Command::Node(node) => Some(Places {
-            store: node.store,
+            store: Some(node.store),
             register: node.register,
             port: node.port,
         }),
-        _ => None,
+        Command::Append(words) => Some(log_places(words)),
+        Command::Tail(words) => Some(log_places(words.of)),
     }
 }
 
-/// The files and the port that the words name. None exactly where they ask for no node; `NoMemory` is the one fault.
+/// The file and the port of a command over a log, which has no store.
+fn log_places(words: LogWords) -> Places
+    ensures { ArePlacesOfLog words result }
+{
+    Places {
+        store: None,
+        register: words.register,
+        port: words.port,
+    }
+}
+
+/// The files and the port that the words name. None exactly where they ask for no command that has places; `NoMemory` is
+/// the one fault.
 pub fn places(alloc: Global, words: &[String]) -> Result<Option<Places>, NoMemory>
-    ensures { IfOk result (λ places. MatchOption places (AskForNoNode (map string_bytes words.now)) (AskForPlaces (map string_bytes words.now))) }
+    ensures { IfOk result (λ places. MatchOption places (AskForNoPlaces (map string_bytes words.now)) (AskForPlaces (map string_bytes words.now))) }
 {
     match read(alloc, words)? {
-        Some(command) => Ok(node_places(command)),
+        Some(command) => Ok(places_of(command)),
         None => Ok(None),
     }
 }

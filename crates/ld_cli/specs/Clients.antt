@@ -1,0 +1,72 @@
+-- How `append` and `tail` end, by their status.
+use Rattle.std.specs.Prelude.{ℕ, ◌≡◌, ◌≤◌, ◌<◌, ◌++◌, ◌⊎◌, List, Option, Some, Bool, true, false, if◌then◌else◌}
+use Rattle.std.specs.Io.KnownBytes.{prepend_known}
+use Rattle.ld_serve.specs.declared.stop.Which.TheVariants as journals
+use Rattle.ld_words.specs.declared.command.Command.{Command}
+use Rattle.ld_words.specs.declared.command.Command.TheVariants.{Append, Tail}
+use Rattle.ld_words.specs.Meaning.{Asks}
+use Rattle.clap.specs.Walk.{Text}
+use Rattle.ld_rounds.specs.declared.ended.Refusal.TheVariants as refusals
+use Rattle.ld_rounds.specs.declared.ended.Ended.{Ended}
+use Rattle.ld_rounds.specs.declared.ended.Ended.TheVariants as ends
+use Rattle.ld_append.specs.Causes.{Mark, IsAppendEnd}
+use Rattle.ld_cli.specs.declared.status.Status.{Status}
+use Rattle.ld_cli.specs.declared.status.Status.TheVariants as statuses
+
+-- the command drives a sequencer or a reader against nodes
+abbrev pub Drives : Command → Type 0
+Drives (Append w) = Unit {0}
+Drives (Tail t) = Unit {0}
+Drives _ = ⊥
+
+-- the words ask for none that does
+abbrev pub AskForNoDrive : List Text → Type 0
+AskForNoDrive words = (command : Command) → Asks words command → Drives command → ⊥
+
+-- the status of an end; after the last round it tells whether the nodes' count of failures rose
+abbrev pub status_of : Ended → Bool → Status
+status_of ends.Done risen = statuses.Ok
+status_of ends.Rounds risen = if risen then statuses.Link else statuses.NotDone
+status_of (ends.Preempted by) risen = statuses.Preempted by
+status_of ends.LogLimit risen = statuses.LogLimit
+status_of ends.EpochLimit risen = statuses.EpochLimit
+status_of ends.EpochFull risen = statuses.EpochFull
+status_of (ends.Register refusals.Failed) risen = statuses.Register
+status_of (ends.Register refusals.Full) risen = statuses.JournalFull journals.Register
+status_of (ends.Register (refusals.Damaged place)) risen = statuses.Damaged journals.Register place
+status_of (ends.BadFrame fault) risen = statuses.BadFrame fault
+status_of (ends.BadLine line place) risen = statuses.BadSchedule line place
+status_of ends.Read risen = statuses.Read
+status_of ends.Write risen = statuses.Write
+status_of ends.NoMemory risen = statuses.NoMemory
+
+-- each status has its end, and no other status comes; the nodes' count of failures before and now
+abbrev pub EndsDrive : ℕ → ℕ → (Ended → Type 0) → Status → Type 0
+EndsDrive before now P statuses.Ok = P ends.Done
+EndsDrive before now P statuses.Link = P ends.Rounds × (before < now)
+EndsDrive before now P statuses.NotDone = P ends.Rounds × (now ≤ before)
+EndsDrive before now P (statuses.Preempted by) = P (ends.Preempted by)
+EndsDrive before now P statuses.LogLimit = P ends.LogLimit
+EndsDrive before now P statuses.EpochLimit = P ends.EpochLimit
+EndsDrive before now P statuses.EpochFull = P ends.EpochFull
+EndsDrive before now P statuses.Register = P (ends.Register refusals.Failed)
+EndsDrive before now P (statuses.JournalFull journals.Register) = P (ends.Register refusals.Full)
+EndsDrive before now P (statuses.Damaged journals.Register place) = P (ends.Register (refusals.Damaged place))
+EndsDrive before now P (statuses.BadFrame fault) = P (ends.BadFrame fault)
+EndsDrive before now P (statuses.BadSchedule line place) = P (ends.BadLine line place)
+EndsDrive before now P statuses.Read = P ends.Read
+EndsDrive before now P statuses.Write = P ends.Write
+EndsDrive before now P statuses.NoMemory = P ends.NoMemory
+EndsDrive before now P _ = ⊥
+
+-- the register is looked at before anything else: where that is refused, nothing was done
+abbrev pub OrNothing : (Ended → Type 0) → Type 0 → Ended → Type 0
+OrNothing P nothing (ends.Register refusal) = P (ends.Register refusal) ⊎ nothing
+OrNothing P nothing ends.NoMemory = P ends.NoMemory ⊎ nothing
+OrNothing P nothing ended = P ended
+
+-- as the drive of a sequencer ends: of the input's counts of faults, what was left of it and is left now, the output's counts, and what was written; some bytes were read ahead
+pub record EndsAppend (reads reads_now : ℕ) (left left_now : Option (List ℕ)) (writes writes_now : ℕ) (written written_now : Option (List ℕ)) (ended : Ended) : Type 0 where
+  pub ahead : List ℕ
+  pub ends : IsAppendEnd (record { reads = reads; left = left; writes = writes; written = written })
+      (record { reads = reads_now; left = prepend_known ahead left_now; writes = writes_now; written = written_now }) ended

@@ -1,0 +1,5 @@
+mod Causing
+mod Clients
+mod Saying
+mod Serving
+mod Taking

@@ -1,0 +1,4 @@
+pub mod Acting
+pub mod Causes
+pub mod Input
+pub mod Refusing

@@ -1,0 +1,251 @@
+// A sequencer that is driven.
+ghost use Rattle.std.specs.Prelude.{◌≡◌, ◌≢◌, ◌≤◌, [], ◌∷◌, true, None, Some, IfOk, IfSome, OnOk};
+ghost use Rattle.ld_config.specs.declared.config.Config.{Config as Contents};
+ghost use Rattle.ld_config.specs.Bounds.{IsInBounds};
+ghost use Rattle.ld_schedule.specs.declared.event.Event.TheVariants.{Activate, Append, Retry};
+ghost use Rattle.ld_node_bounds.specs.Messages.{AreMessages};
+ghost use Rattle.ld_machine.specs.State.{State};
+ghost use Rattle.ld_machine.specs.Step.{happens};
+ghost use Rattle.ld_bounds.specs.Sound.{IsSound};
+ghost use Rattle.ld_rounds.specs.Acts.{IsActed};
+ghost use Rattle.ld_rounds.specs.Ends.{IsSaid};
+ghost use Rattle.ld_append.specs.Acting.{Serves, IsTo, IsSpecOf, settled_in};
+ghost use Rattle.ld_append.specs.Refusing.{fault_end, start_lines, IsTold, IsStartTold};
+
+use crate::refusing::heard;
+use ld_ids::{Name, NoMemory, Payload, Spec};
+use ld_msg::{Msg, Outbox, Who};
+use ld_register::{Register, RegisterFault};
+use ld_rounds::{Actor, Appended, Ended, Heard, Refusal};
+use ld_sequencer::{Sequencer, SequencerFault};
+use ld_transcript::Line;
+use std::alloc::Global;
+
+/// A sequencer of a log, once it is active, with its register.
+#[derive(Drop)]
+pub struct Acting<G: Register> {
+    name: Name,
+    sequencer: Option<Sequencer>,
+    register: G,
+    /// The register refused a close in a round, since it holds as many other logs as may be.
+    is_shut: bool,
+}
+
+/// No line and no message.
+fn nothing(alloc: Global) -> Heard
+    ensures lines { result.lines.items ≡ [] }
+    ensures sends { result.sends ≡ [] }
+    ensures end { result.end ≡ None }
+{
+    Heard {
+        lines: Vec::new(alloc),
+        sends: Outbox::empty(alloc),
+        end: None,
+    }
+}
+
+/// One line, and these messages.
+fn with_line(alloc: Global, line: Line, sends: Outbox) -> Result<Heard, NoMemory>
+    ensures lines { IfOk result (λ heard. heard.lines.items ≡ line ∷ []) }
+    ensures sends { IfOk result (λ heard. heard.sends ≡ sends) }
+    ensures end { IfOk result (λ heard. heard.end ≡ None) }
+{
+    let mut lines = Vec::new(alloc);
+    lines.push(line)?;
+    Ok(Heard {
+        lines,
+        sends,
+        end: None,
+    })
+}
+
+/// Whether the message is for the sequencer, by the epoch and the log.
+fn is_to(sequencer: &Sequencer, message: &Msg) -> bool
+    ensures { result ≡ true → IsTo (Some sequencer.now) message.now }
+{
+    let is_here = match &message.to {
+        Who::Sequencer(epoch) => *epoch == sequencer.epoch(),
+        _ => false,
+    };
+    is_here && message.log == sequencer.spec().log
+}
+
+/// The drive goes on where the register holds as many other logs as may be: then this is told beside.
+fn goes_on(heard: Heard) -> (Heard, bool)
+    requires { IfSome heard.end (IsTold heard.lines.items) }
+    ensures lines { result.0.lines.items ≡ heard.lines.items }
+    ensures sends { result.0.sends ≡ heard.sends }
+    ensures said { IfSome result.0.end (IsSaid result.0.lines.items) }
+{
+    let Heard { lines, sends, end } = heard;
+    match end {
+        Some(Ended::LogLimit) => (
+            Heard {
+                lines,
+                sends,
+                end: None,
+            },
+            true,
+        ),
+        _ => (Heard { lines, sends, end }, false),
+    }
+}
+
+/// Why an activation was refused. A register that is damaged has no line either.
+fn refused(
+    alloc: Global,
+    name: &Name,
+    fault: SequencerFault,
+    sends: Outbox,
+) -> Result<Heard, NoMemory>
+    ensures lines { IfOk result (λ heard. heard.lines.items ≡ start_lines name.now fault) }
+    ensures sends { IfOk result (λ heard. heard.sends ≡ sends) }
+    ensures end { IfOk result (λ heard. heard.end ≡ fault_end fault) }
+    ensures told { IfOk result (λ heard. IfSome heard.end (IsStartTold heard.lines.items)) }
+    ensures memory { OnOk result (fault ≢ SequencerFault.NoMemory) }
+{
+    match fault {
+        SequencerFault::Register(RegisterFault::Damaged(place)) => Ok(Heard {
+            lines: Vec::new(alloc),
+            sends,
+            end: Some(Ended::Register(Refusal::Damaged(place))),
+        }),
+        _ => heard(alloc, name, Err(fault), sends),
+    }
+}
+
+impl<G: Register> Acting<G> {
+    /// No sequencer is active.
+    pub fn new(name: Name, register: G) -> Acting<G>
+        ensures name { result.name ≡ name }
+        ensures none { result.sequencer ≡ None }
+        ensures register { result.register ≡ register }
+    {
+        Acting {
+            name,
+            sequencer: None,
+            register,
+            is_shut: false,
+        }
+    }
+
+    /// The register.
+    pub fn into_register(self) -> G
+        ensures { result ≡ self.register }
+    {
+        let Acting { register, .. } = self;
+        register
+    }
+
+    /// Activates a sequencer of the log's next epoch, which asks for what stands in the epochs before it that aren't closed.
+    pub fn activate(&mut self, alloc: Global, spec: &Spec) -> Result<Heard, NoMemory>
+        requires { 1 ≤ spec.now.r }
+        ensures name { self.new.name ≡ self.old.name }
+        ensures activated { self.old.sequencer ≡ None → IfOk result (λ heard. (c : Contents) (s : State) → IsInBounds c → IsSpecOf c spec.now → IsSound c s → Serves self.old.name None (G.tells self.old.register) c s
+            → IsActed (Serves self.new.name self.new.sequencer (G.tells self.new.register) c) s heard.lines.items heard.sends (happens c s (Activate self.old.name spec.now.log))) }
+        ensures messages { IfOk result (λ heard. AreMessages heard.sends) }
+        ensures told { IfOk result (λ heard. IfSome heard.end (IsStartTold heard.lines.items)) }
+    {
+        let mut sends = Outbox::empty(alloc);
+        match Sequencer::activate(alloc, spec, &mut self.register, &mut sends) {
+            Ok(sequencer) => {
+                let line = Line::Active {
+                    name: self.name.copy(alloc)?,
+                    epoch: sequencer.epoch(),
+                };
+                let heard = with_line(alloc, line, sends)?;
+                self.sequencer = Some(sequencer);
+                Ok(heard)
+            }
+            Err(fault) => refused(alloc, &self.name, fault, sends),
+        }
+    }
+
+    /// Numbers the payload and sends it, or writes why not.
+    pub fn append(&mut self, alloc: Global, payload: &Payload) -> Result<Appended, NoMemory>
+        ensures name { self.new.name ≡ self.old.name }
+        ensures appended { IfOk result (λ appended. (c : Contents) (s : State) → Serves self.old.name self.old.sequencer (G.tells self.old.register) c s
+            → IsActed (Serves self.new.name self.new.sequencer (G.tells self.new.register) c) s appended.heard.lines.items appended.heard.sends (happens c s (Append self.old.name payload.now))) }
+        ensures messages { IfOk result (λ appended. AreMessages appended.heard.sends) }
+        ensures said { IfOk result (λ appended. IfSome appended.heard.end (IsSaid appended.heard.lines.items)) }
+    {
+        let Some(sequencer) = &mut self.sequencer else {
+            return Ok(Appended {
+                heard: nothing(alloc),
+                is_full: false,
+            });
+        };
+        let mut sends = Outbox::empty(alloc);
+        let copy = payload.copy(alloc)?;
+        match sequencer.append(alloc, copy, &mut sends) {
+            Ok(number) => {
+                let line = Line::Appended {
+                    name: self.name.copy(alloc)?,
+                    number,
+                };
+                let heard = with_line(alloc, line, sends)?;
+                Ok(Appended {
+                    heard,
+                    is_full: false,
+                })
+            }
+            Err(fault) => {
+                let is_full = fault == SequencerFault::WindowFull;
+                let heard = heard(alloc, &self.name, Err(fault), sends)?;
+                Ok(Appended { heard, is_full })
+            }
+        }
+    }
+
+    /// Sends again what is still wanted, and tries a close again.
+    pub fn retry(&mut self, alloc: Global) -> Result<Heard, NoMemory>
+        ensures name { self.new.name ≡ self.old.name }
+        ensures retried { IfOk result (λ heard. (c : Contents) (s : State) → IsInBounds c → IsSound c s → Serves self.old.name self.old.sequencer (G.tells self.old.register) c s
+            → IsActed (Serves self.new.name self.new.sequencer (G.tells self.new.register) c) s heard.lines.items heard.sends (happens c s (Retry self.old.name))) }
+        ensures messages { IfOk result (λ heard. AreMessages heard.sends) }
+        ensures told { IfOk result (λ heard. IfSome heard.end (IsTold heard.lines.items)) }
+    {
+        let Some(sequencer) = &mut self.sequencer else {
+            return Ok(nothing(alloc));
+        };
+        let mut sends = Outbox::empty(alloc);
+        let answer = sequencer.retry(alloc, &mut self.register, &mut sends);
+        heard(alloc, &self.name, answer, sends)
+    }
+
+    /// Whether each append is acknowledged, and all epochs before its own are closed.
+    pub fn is_settled(&self) -> bool
+        ensures { result ≡ settled_in self.now.sequencer }
+    {
+        match &self.sequencer {
+            Some(sequencer) => sequencer.settled(),
+            None => false,
+        }
+    }
+}
+
+impl<G: Register> Actor for Acting<G> {
+    ghost stands = { λ a c s. Serves a.name a.sequencer (G.tells a.register) c s };
+
+    ghost stands_apart = { λ a c s nodes network h. record { sequencers = record { sequencers = h.sequencers.sequencers; logs = h.sequencers.logs }; whole = h.whole; register = h.register } };
+
+    ghost hears = { λ a m. IsTo a.sequencer m };
+
+    fn is_for(&self, message: &Msg) -> bool {
+        match &self.sequencer {
+            Some(sequencer) => is_to(sequencer, message),
+            None => false,
+        }
+    }
+
+    fn hear(&mut self, alloc: Global, message: &Msg) -> Result<Heard, NoMemory> {
+        let Some(sequencer) = &mut self.sequencer else {
+            unreachable!();
+        };
+        let mut sends = Outbox::empty(alloc);
+        let answer = sequencer.on_reply(alloc, message, &mut self.register, &mut sends);
+        let (heard, is_shut) = goes_on(heard(alloc, &self.name, answer, sends)?);
+        self.is_shut = is_shut;
+        Ok(heard)
+    }
+}
