@@ -80,3 +80,10 @@ Receives far T (Err _) = ⊥
 abbrev pub CountsFault : {T : Type 0} → ℕ → ℕ → Result T Fault → Type 0
 CountsFault before now (Err faults.Link) = Rose before now × (before ≤ now)
 CountsFault before now _ = now ≡ before
+
+-- ---- the count of endings ----
+
+-- it rose where the node has ended, and else it is the same
+abbrev pub CountsEnding : ℕ → ℕ → Result (Option Msg) Fault → Type 0
+CountsEnding before now (Ok None) = Rose before now × (before ≤ now)
+CountsEnding before now _ = now ≡ before

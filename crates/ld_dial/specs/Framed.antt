@@ -11,10 +11,11 @@ use Rattle.ld_framed.specs.Hearing.{HearsNext, HearsSome, Says, SaysPart}
 use Rattle.ld_dial.specs.declared.fault.Fault.{Fault}
 use Rattle.ld_dial.specs.declared.fault.Fault.TheVariants as faults
 
--- the link, and what is held of the present node's bytes
+-- the link, what is held of the present node's bytes, and how often a node has ended
 pub record Line (L : Type 0) : Type 0 where
   pub link : L
   pub held : Held
+  pub endings : ℕ
 
 -- the frame of the message was written to the present peer, or a part from its front, where the link failed; without memory nothing was
 abbrev pub SaysFrame : Peers → Option Peers → Msg → Result (Unit {0}) Fault → Type 0

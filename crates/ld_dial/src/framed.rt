@@ -5,7 +5,7 @@ ghost use Rattle.ld_link.specs.Peers.{Reaches};
 ghost use Rattle.ld_msg.specs.Bounds.{IsMessage};
 ghost use Rattle.ld_msg.specs.declared.msg.Msg.{Msg as Message};
 ghost use Rattle.ld_framed.specs.Reading as frames;
-ghost use Rattle.ld_dial.specs.Far.{CountsFault};
+ghost use Rattle.ld_dial.specs.Far.{CountsFault, CountsEnding};
 ghost use Rattle.ld_dial.specs.Framed.{SaysFrame, IsUnheard, HearsAnswer};
 ghost use Rattle.ld_dial.specs.declared.fault.Fault.TheVariants.{BadFrame};
 
@@ -30,6 +30,7 @@ pub struct Framed<L: Dial> {
     link: L,
     decoder: Decoder,
     refused: Option<WireFault>,
+    endings: u64,
 }
 
 impl<L: Dial> Model for Framed<L> {
@@ -38,7 +39,7 @@ impl<L: Dial> Model for Framed<L> {
 
     ghost Value = { Line L };
 
-    ghost view = { λ f. record { link = f.link; held = f.decoder } };
+    ghost view = { λ f. record { link = f.link; held = f.decoder; endings = f.endings } };
 
     ghost invariant = { λ f. f.decoder.fault ≡ f.refused };
 }
@@ -46,13 +47,14 @@ impl<L: Dial> Model for Framed<L> {
 impl<L: Dial> Framed<L> {
     /// The nodes that this link reaches. Of what its present peer sends nothing is held. This takes no memory.
     pub fn new(alloc: Global, link: L) -> Framed<L>
-        ensures { result ≡ record { link = link; held = record { bytes = []; fault = None } } }
+        ensures { result ≡ record { link = link; held = record { bytes = []; fault = None }; endings = 0 } }
     {
         Framed {
             alloc,
             link,
             decoder: Decoder::new(alloc),
             refused: None,
+            endings: 0,
         }
     }
 
@@ -95,11 +97,14 @@ impl<L: Dial> Nodes for Framed<L> {
 
     ghost faults = { λ f. L.faults f.link };
 
+    ghost endings = { λ f. f.endings };
+
     /// Drops what is held of the node before.
     fn dial(&mut self, node: NodeId) -> Result<(), Failed>
         ensures cause { HasCause (L.faults self.old.link) (L.faults self.new.link) result }
         ensures reached { IfSome (L.peers self.old.link) (λ old. Reaches old (L.peers self.new.link) result) }
         ensures dropped { self.new.held ≡ record { bytes = []; fault = None } }
+        ensures endings { self.new.endings ≡ self.old.endings }
     {
         self.decoder = Decoder::new(self.alloc);
         self.refused = None;
@@ -112,6 +117,7 @@ impl<L: Dial> Nodes for Framed<L> {
         ensures counts { CountsFault (L.faults self.old.link) (L.faults self.new.link) result }
         ensures written { IfSome (L.peers self.old.link) (λ old. SaysFrame old (L.peers self.new.link) message.now result) }
         ensures held { self.new.held ≡ self.old.held }
+        ensures endings { self.new.endings ≡ self.old.endings }
     {
         let frame = encode(alloc, message)?;
         match write_all(&mut self.link, frame.bytes()) {
@@ -124,6 +130,7 @@ impl<L: Dial> Nodes for Framed<L> {
     fn receive(&mut self, alloc: Global) -> Result<Option<Msg>, Fault>
         ensures message { IfOk result (λ next. IfSome next IsMessage) }
         ensures counts { CountsFault (L.faults self.old.link) (L.faults self.new.link) result }
+        ensures ended { CountsEnding self.old.endings self.new.endings result }
         ensures heard { self.old.held.fault ≡ None → IfSome (L.peers self.old.link) (λ old. HearsAnswer old (L.peers self.new.link) self.old.held.bytes self.new.held result) }
         ensures stays { (fault : WireFault) → self.old.held.fault ≡ Some fault → (result ≡ Err (BadFrame fault)) × (self.new ≡ self.old) }
     {
@@ -132,7 +139,11 @@ impl<L: Dial> Nodes for Framed<L> {
         }
         let mut buf = [0u8; 4096];
         match next_frame(alloc, &mut self.decoder, &mut self.link, &mut buf) {
-            Ok(next) => Ok(next),
+            Ok(Some(message)) => Ok(Some(message)),
+            Ok(None) => {
+                self.endings = self.endings.saturating_add(1);
+                Ok(None)
+            }
             Err(unread) => {
                 self.refused = refused_by(unread);
                 Err(fault_of(unread))
@@ -142,5 +153,9 @@ impl<L: Dial> Nodes for Framed<L> {
 
     fn failures(&self) -> u64 {
         self.link.failures()
+    }
+
+    fn endings(&self) -> u64 {
+        self.endings
     }
 }

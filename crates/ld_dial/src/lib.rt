@@ -5,7 +5,7 @@ ghost use Rattle.std.specs.Prelude.{◌≡◌, ℕ, Bool, true, IfOk, IfSome};
 ghost use Rattle.ld_io.specs.Causes.{HasCause};
 ghost use Rattle.ld_config.specs.declared.config.Config.{Config};
 ghost use Rattle.ld_msg.specs.Bounds.{IsMessage};
-ghost use Rattle.ld_dial.specs.Far.{Far, Dials, Sends, Receives, CountsFault};
+ghost use Rattle.ld_dial.specs.Far.{Far, Dials, Sends, Receives, CountsFault, CountsEnding};
 
 mod fault;
 mod framed;
@@ -31,12 +31,16 @@ pub trait Nodes {
     /// How often a call has failed, up to the greatest 64-bit number.
     ghost faults: { Self → ℕ };
 
+    /// How often a node was found to have ended, up to the greatest 64-bit number.
+    ghost endings: { Self → ℕ };
+
     /// Makes the node the present one; what the one before has still to say is dropped. It fails where the node can't be
     /// reached, and then none is present.
     fn dial(&mut self, node: NodeId) -> Result<(), Failed>
         ensures cause { HasCause (faults self.old) (faults self.new) result }
         ensures dialed { (c : Config) (far : Far) → tells self.old c far → Dials far node (tells self.new c) result }
-        ensures silent { silent self.new ≡ silent self.old };
+        ensures silent { silent self.new ≡ silent self.old }
+        ensures endings { endings self.new ≡ endings self.old };
 
     /// Sends a message to the present node, whole. It is refused with `Link` where a call failed, and for want of memory: then
     /// the node has not got it whole.
@@ -44,7 +48,8 @@ pub trait Nodes {
         requires { IsMessage message.now }
         ensures counts { CountsFault (faults self.old) (faults self.new) result }
         ensures sent { (c : Config) (far : Far) → tells self.old c far → Sends c far message.now (silent self.new) (tells self.new c) result }
-        ensures silent { silent self.old ≡ true → silent self.new ≡ true };
+        ensures silent { silent self.old ≡ true → silent self.new ≡ true }
+        ensures endings { endings self.new ≡ endings self.old };
 
     /// Takes the next answer of the present node. There is none where the node has ended, whatever part of a frame it sent
     /// last. It is refused with `Link` where a call failed, with `BadFrame` where what it sent begins no frame, and for want of memory.
@@ -52,9 +57,14 @@ pub trait Nodes {
         ensures message { IfOk result (λ next. IfSome next IsMessage) }
         ensures counts { CountsFault (faults self.old) (faults self.new) result }
         ensures received { (c : Config) (far : Far) → tells self.old c far → Receives far (tells self.new c) result }
-        ensures silent { silent self.new ≡ silent self.old };
+        ensures silent { silent self.new ≡ silent self.old }
+        ensures ended { CountsEnding (endings self.old) (endings self.new) result };
 
     /// How often a call has failed, up to the greatest 64-bit number.
     fn failures(&self) -> u64
         ensures { result ≡ faults self.now };
+
+    /// How often a node was found to have ended, up to the greatest 64-bit number.
+    fn endings(&self) -> u64
+        ensures { result ≡ endings self.now };
 }

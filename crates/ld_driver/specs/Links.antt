@@ -37,8 +37,8 @@ abbrev pub SendsIn : NodeLinks → NodeLinks → Option ℕ → Result (Unit {0}
 SendsIn old new None result = IsRefused old new result
 SendsIn old new (Some y) result = SendsTo old new y result
 
--- the first answer is taken, or there is none
+-- the first answer is taken, or there is none, which is counted
 abbrev pub Takes : NodeLinks → NodeLinks → Result (Option Msg) Fault → Type 0
-Takes old new (Ok None) = (old.answers ≡ []) × (new ≡ old)
+Takes old new (Ok None) = (old.answers ≡ []) × (new ≡ record old { endings = one_more old.endings })
 Takes old new (Ok (Some m)) = (old.answers ≡ m ∷ new.answers) × (new ≡ record old { answers = new.answers })
 Takes old new (Err fault) = ⊥

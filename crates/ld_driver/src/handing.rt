@@ -29,12 +29,12 @@ pub(crate) fn runs(hosts: &Hosts, node: NodeId) -> bool
     }
 }
 
-/// Counts a fault.
-pub(crate) fn count_fault(faults: &mut u64)
-    ensures counted { faults.new ≡ one_more faults.old }
-    ensures later { faults.old ≤ faults.new }
+/// Counts one more, a fault or an ending.
+pub(crate) fn count_one(count: &mut u64)
+    ensures counted { count.new ≡ one_more count.old }
+    ensures later { count.old ≤ count.new }
 {
-    *faults = faults.saturating_add(1);
+    *count = count.saturating_add(1);
 }
 
 /// Hands a message to a node that is up. Where it keeps the message's log its answers come behind the others; else

@@ -2,7 +2,7 @@
 ghost use Rattle.ld_config.specs.Bounds.{IsInBounds};
 
 use crate::answers::Answers;
-use crate::handing::{count_fault, hand, runs};
+use crate::handing::{count_one, hand, runs};
 use ld_config::Config;
 use ld_dial::{Fault, Nodes};
 use ld_host::Hosts;
@@ -23,6 +23,7 @@ pub struct NodeLinks {
     answers: Answers,
     silent: bool,
     faults: u64,
+    endings: u64,
 }
 
 impl NodeLinks {
@@ -37,6 +38,7 @@ impl NodeLinks {
     pub fn new(alloc: Global, config: Config, hosts: Hosts) -> NodeLinks
         ensures tells { (nodes : List (ℕ × Node)) → IsInBounds config → AreHosts config hosts nodes → StandAs result config (record { nodes = nodes; present = None; answers = [] }) }
         ensures faults { result.faults ≡ 0 }
+        ensures endings { result.endings ≡ 0 }
         ensures silent { result.silent ≡ false }
     {
         NodeLinks {
@@ -46,6 +48,7 @@ impl NodeLinks {
             answers: Answers::new(alloc),
             silent: false,
             faults: 0,
+            endings: 0,
         }
     }
 
@@ -65,7 +68,7 @@ impl Nodes for NodeLinks {
     ghost use Rattle.ld_config.specs.declared.config.Config.{Config as Settings};
     ghost use Rattle.ld_machine.specs.Disk.{Node};
     ghost use Rattle.ld_host.specs.Standing.{AreHosts};
-    ghost use Rattle.ld_dial.specs.Far.{Far, Dials, Sends, Receives, CountsFault, is_up_in};
+    ghost use Rattle.ld_dial.specs.Far.{Far, Dials, Sends, Receives, CountsFault, CountsEnding, is_up_in};
     ghost use Rattle.ld_driver.specs.Links.{StandAs, SendsIn, Takes};
 
     ghost tells = { λ links c far. StandAs links c far };
@@ -74,11 +77,14 @@ impl Nodes for NodeLinks {
 
     ghost faults = { λ links. links.faults };
 
+    ghost endings = { λ links. links.endings };
+
     /// Fails exactly where the node isn't up.
     fn dial(&mut self, node: NodeId) -> Result<(), Failed>
         ensures cause { HasCause self.old.faults self.new.faults result }
         ensures dialed { (c : Settings) (far : Far) → StandAs self.old c far → Dials far node (StandAs self.new c) result }
         ensures silent { self.new.silent ≡ self.old.silent }
+        ensures endings { self.new.endings ≡ self.old.endings }
         ensures up { (c : Settings) (nodes : List (ℕ × Node)) → AreHosts c self.old.hosts nodes → is_ok result ≡ is_up_in nodes node }
         ensures ok { OnOk result (self.new ≡ record self.old { present = Some node; answers = [] }) }
         ensures err { OnErr result (self.new ≡ record self.old { present = None; answers = []; faults = one_more self.old.faults }) }
@@ -89,7 +95,7 @@ impl Nodes for NodeLinks {
             return Ok(());
         }
         self.present = None;
-        count_fault(&mut self.faults);
+        count_one(&mut self.faults);
         Err(Failed)
     }
 
@@ -99,14 +105,15 @@ impl Nodes for NodeLinks {
         ensures counts { CountsFault self.old.faults self.new.faults result }
         ensures sent { (c : Settings) (far : Far) → StandAs self.old c far → Sends c far message.now self.new.silent (StandAs self.new c) result }
         ensures silent { self.old.silent ≡ true → self.new.silent ≡ true }
+        ensures endings { self.new.endings ≡ self.old.endings }
         ensures present { SendsIn self.old self.new self.old.present result }
     {
         let Some(node) = self.present else {
-            count_fault(&mut self.faults);
+            count_one(&mut self.faults);
             return Err(Fault::Link);
         };
         if !runs(&self.hosts, node) {
-            count_fault(&mut self.faults);
+            count_one(&mut self.faults);
             return Err(Fault::Link);
         }
         let Err(_) = hand(
@@ -120,23 +127,32 @@ impl Nodes for NodeLinks {
             return Ok(());
         };
         self.silent = true;
-        count_fault(&mut self.faults);
+        count_one(&mut self.faults);
         Err(Fault::Link)
     }
 
-    /// Never fails.
+    /// Never fails. A node has ended where it answers no more.
     fn receive(&mut self, _alloc: Global) -> Result<Option<Msg>, Fault>
         ensures message { IfOk result (λ next. IfSome next IsMessage) }
         ensures counts { CountsFault self.old.faults self.new.faults result }
         ensures received { (c : Settings) (far : Far) → StandAs self.old c far → Receives far (StandAs self.new c) result }
         ensures silent { self.new.silent ≡ self.old.silent }
+        ensures ended { CountsEnding self.old.endings self.new.endings result }
         ensures next { Takes self.old self.new result }
     {
-        Ok(self.answers.take_first())
+        let Some(answer) = self.answers.take_first() else {
+            count_one(&mut self.endings);
+            return Ok(None);
+        };
+        Ok(Some(answer))
     }
 
     /// How often a call has failed, up to the greatest 64-bit number.
     fn failures(&self) -> u64 {
         self.faults
+    }
+
+    fn endings(&self) -> u64 {
+        self.endings
     }
 }
