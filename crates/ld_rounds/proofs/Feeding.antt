@@ -1,11 +1,11 @@
 -- A sequencer is driven over payloads.
-use Rattle.std.proofs.Common.{◌≡◌, ◌≤◌, ℕ, List, Option, Ok, Err, ◌∙◌, arith}
+use Rattle.std.proofs.Common.{◌≡◌, ◌≤◌, ℕ, zero, suc, ◌+◌, ◌-◌, ◌==◌, refl, List, Option, Ok, Err, ◌∙◌, arith}
 use Rattle.std.specs.Prelude.{IfErr}
+use Rattle.std.proofs.lemmas.Bool.{ne_eqb}
 use Rattle.std.specs.declared.result.Result.{Result}
 use Rattle.ld_io.specs.Causes.{Rose}
 use Rattle.ld_config.specs.declared.config.Config.{Config}
 use Rattle.ld_config.specs.Bounds.{IsInBounds}
-use Rattle.ld_transcript.specs.Text.{text}
 use Rattle.ld_msg.specs.declared.msg.Msg.{Msg}
 use Rattle.ld_machine.specs.State.{State}
 use Rattle.ld_dial.specs.Far.{Far}
@@ -13,10 +13,9 @@ use Rattle.ld_rounds.specs.declared.ended.Ended.{Ended}
 use Rattle.ld_rounds.specs.declared.ended.Ended.TheVariants as ends
 use Rattle.ld_rounds.specs.Endings.{IsLater, IsEnding}
 use Rattle.ld_rounds.specs.Feeding.{IsInputEnding, IsAppendEnding}
-use Rattle.ld_rounds.specs.Drives.{Went, Stopped, Stops, GoesOn}
-use Rattle.ld_rounds.proofs.Writing.{all_written}
+use Rattle.ld_rounds.specs.Drives.{retries_of, Went, Stops, GoesOn}
 use Rattle.ld_rounds.proofs.Endings.{ending_since}
-use Rattle.ld_rounds.proofs.Going.{goes_as, goes_further}
+use Rattle.ld_rounds.proofs.Going.{halted, goes_as, goes_further}
 
 rose_since : (k n m : ℕ) → k ≤ n → Rose n m → Rose k m
 rose_since k n m l r = omega (arith, l, r)
@@ -77,27 +76,30 @@ pub round_cause_since : {R : Type 0} (o q k n m : ℕ) (a b c : Option (List ℕ
 round_cause_since o q k n m a b c (Ok v) t i = i
 round_cause_since o q k n m a b c (Err e) t i = of_ending o q k m a c e (ending_since k n m a b c e t i)
 
-module _ (name : List ℕ) (c : Config) (first : ℕ) (b : IsInBounds c) where
-  halted : (A : Config → State → Type 0) (T : Far → Type 0) (s : State) (qs : List (List Msg)) (old new : Option (List ℕ)) → Went name A T c first s qs old new → Stopped name c s old new
-  halted A T s qs old new w = record { state = w.moved.state; lines = w.lines; goes = w.moved.goes; written = all_written old new (text w.lines) w.written }
+-- the retries before a round and those before the rounds before it
+pub one_more_retry : (number : ℕ) → number - 1 + retries_of (number == 0) ≡ number + 1 - 1
+one_more_retry zero = refl
+one_more_retry (suc n) = rw (ne_eqb (suc n) 0 (omega arith)) (omega arith)
 
-  -- the input ends the drive
-  pub input_stops : (A : Config → State → Type 0) (T : Far → Type 0) (s : State) (qs : List (List Msg)) (old new : Option (List ℕ)) (p q : ℕ) (e : Ended) → IsInputEnding p q e → Went name A T c first s qs old new → Stops name A T c first s qs old new e
-  input_stops A T s qs old new p q ends.Read i w = w
-  input_stops A T s qs old new p q (ends.BadLine line place) i w = w
-  input_stops A T s qs old new p q ends.NoMemory i w = halted A T s qs old new w
-  input_stops A T s qs old new p q ends.Write i w = absurd i
-  input_stops A T s qs old new p q (ends.BadFrame fault) i w = w
-  input_stops A T s qs old new p q ends.Done i w = w
-  input_stops A T s qs old new p q ends.Rounds i w = w
-  input_stops A T s qs old new p q (ends.Preempted by) i w = w
-  input_stops A T s qs old new p q ends.LogLimit i w = w
-  input_stops A T s qs old new p q ends.EpochLimit i w = w
-  input_stops A T s qs old new p q ends.EpochFull i w = w
-  input_stops A T s qs old new p q (ends.Register fault) i w = w
+-- the input ends the drive
+pub input_stops : (name : List ℕ) (broken : Type 0) (c : Config) (first : ℕ) (b : IsInBounds c) {n : ℕ} (A : Config → State → Type 0) (T : Far → Type 0) (s : State) (qs : List (List Msg)) (old new : Option (List ℕ)) (e : Ended) → Went name broken n A T c first s qs old new
+    → Stops name broken n A T c first s qs old new e
+input_stops name broken c first b A T s qs old new ends.NoMemory w = halted name broken c first b A T s qs old new w
+input_stops name broken c first b A T s qs old new ends.Write w = halted name broken c first b A T s qs old new w
+input_stops name broken c first b A T s qs old new ends.Read w = w
+input_stops name broken c first b A T s qs old new (ends.BadLine line place) w = w
+input_stops name broken c first b A T s qs old new (ends.BadFrame fault) w = w
+input_stops name broken c first b A T s qs old new ends.Done w = w
+input_stops name broken c first b A T s qs old new ends.Rounds w = w
+input_stops name broken c first b A T s qs old new (ends.Preempted by) w = w
+input_stops name broken c first b A T s qs old new ends.LogLimit w = w
+input_stops name broken c first b A T s qs old new ends.EpochLimit w = w
+input_stops name broken c first b A T s qs old new ends.EpochFull w = w
+input_stops name broken c first b A T s qs old new (ends.Register fault) w = w
 
-  -- what is done without the nodes, one after the other
-  pub apart_on : {R : Type 0} (A B : Config → State → Type 0) (s : State) (far : Far) (qs rs : List (List Msg)) (old mid new : Option (List ℕ)) (r : Result R Ended) → (w : Went name A (λ now. now ≡ far) c first s qs old mid)
-      → GoesOn name B (λ now. now ≡ w.far) c first w.moved.state rs mid new r → GoesOn name B (λ now. now ≡ far) c first s rs old new r
-  apart_on A B s far qs rs old mid new r w v =
-      goes_further name c first b A B (λ now. now ≡ far) (λ now. now ≡ far) s qs rs old mid new r w (goes_as name c first b B (λ now. now ≡ w.far) (λ now. now ≡ far) w.moved.state rs mid new r (λ f e. e ∙ w.told) v)
+-- what is done without the nodes, one after the other
+pub apart_on : (name : List ℕ) (broken : Type 0) (c : Config) (first : ℕ) (b : IsInBounds c) {R : Type 0} (n m : ℕ) (A B : Config → State → Type 0) (s : State) (far : Far) (qs rs : List (List Msg)) (old mid new : Option (List ℕ)) (r : Result R Ended) → (w : Went name broken n A (λ now. now ≡ far) c first s qs old mid)
+    → GoesOn name broken m B (λ now. now ≡ w.far) c first w.moved.state rs mid new r → GoesOn name broken (n + m) B (λ now. now ≡ far) c first s rs old new r
+apart_on name broken c first b n m A B s far qs rs old mid new r w v =
+    goes_further name broken c first b n m A B (λ now. now ≡ far) (λ now. now ≡ far) s qs rs old mid new r w
+    (goes_as name broken c first b m broken B (λ now. now ≡ w.far) (λ now. now ≡ far) w.moved.state rs mid new r (λ l. l) (λ f e. e ∙ w.told) v)

@@ -1,5 +1,5 @@
 -- The steps that a drive takes.
-use Rattle.std.proofs.Common.{◌≡◌, ℕ, ◌+◌, Bool, true, false, ◌&&◌, List, [], ◌∷◌, ◌++◌, Option, Some, None, refl, ap, sym, ◌∙◌, append_assoc, if◌then◌else◌}
+use Rattle.std.proofs.Common.{◌≡◌, ℕ, ◌+◌, Bool, true, false, ◌&&◌, List, [], ◌∷◌, ◌++◌, Option, Some, None, refl, ap, sym, ◌∙◌, subst, inl, inr, arith, append_assoc, if◌then◌else◌}
 use Rattle.std.specs.List.{AllByRecursion}
 use Rattle.std.proofs.lemmas.List.{append-nil}
 use Rattle.std.proofs.lemmas.List.Elements.{filter-append}
@@ -22,7 +22,7 @@ use Rattle.ld_machine.specs.Step.{happens, delivers, comes_to, marked, to_node, 
 use Rattle.ld_machine.specs.Run.{step, state_after, lines_of}
 use Rattle.ld_dial.specs.Far.{alone, handed}
 use Rattle.ld_rounds.specs.News.{is_answer}
-use Rattle.ld_rounds.specs.Drives.{is_own, own_lines, IsDriven, Goes}
+use Rattle.ld_rounds.specs.Drives.{is_own, own_lines, MayLose, IsDriven, AreDriven, turns_of, Goes}
 
 -- ---- lines ----
 
@@ -56,33 +56,63 @@ lines-append c s [] fs = refl
 lines-append c s (e ∷ es) fs =
     ap (λ l. (step c s e).lines ++ l) (lines-append c (step c s e).state es fs) ∙ sym (append_assoc (step c s e).lines (lines_of c (step c s e).state es) (lines_of c (state_after c (step c s e).state es) fs))
 
-all-append : {X : Type 0} (P : X → Type 0) (xs ys : List X) → AllByRecursion P xs → AllByRecursion P ys → AllByRecursion P (xs ++ ys)
-all-append P [] ys a b = b
-all-append P (x ∷ xs) ys a b = (a.0, all-append P xs ys a.1 b)
+driven-append : (name : List ℕ) (broken : Type 0) (c : Config) (s : State) (es fs : List Event) → AreDriven name broken c s es → AreDriven name broken c (state_after c s es) fs → AreDriven name broken c s (es ++ fs)
+unfolding state_after
+driven-append name broken c s [] fs a b = b
+driven-append name broken c s (e ∷ es) fs a b = (a.0, driven-append name broken c (step c s e).state es fs a.1 b)
 
-module _ (name : List ℕ) (c : Config) where
-  pub stays : (s : State) → Goes name c s s []
+driven_if : (name : List ℕ) (one other : Type 0) (c : Config) (s : State) (es : List Event) → (one → other) → AreDriven name one c s es → AreDriven name other c s es
+driven_if name one other c s [] f d = tt
+driven_if name one other c s (e ∷ es) f d = (event_if e d.0, driven_if name one other c (step c s e).state es f d.1)
+  where
+    lose_if : (o : Option Msg) → MayLose one o → MayLose other o
+    lose_if None h = h
+    lose_if (Some m) (inl h) = inl (f h)
+    lose_if (Some m) (inr h) = inr h
+
+    event_if : (x : Event) → IsDriven name one s x → IsDriven name other s x
+    event_if (events.Activate n l) h = h
+    event_if (events.Append n payload) h = h
+    event_if (events.Retry n) h = h
+    event_if (events.Open n l from until) h = h
+    event_if (events.Poll n) h = h
+    event_if (events.Deliver i) h = h
+    event_if (events.Lose i) h = lose_if (message s.network i) h
+    event_if x h = absurd h
+
+turns-append : (es fs : List Event) → turns_of (es ++ fs) ≡ turns_of es + turns_of fs
+turns-append [] fs = omega arith
+turns-append (e ∷ es) fs = let h = turns-append es fs in omega (arith, h)
+
+module _ (name : List ℕ) (broken : Type 0) (c : Config) where
+  pub stays : (s : State) → Goes name broken 0 c s s []
   unfolding state_after lines_of
-  stays s = record { steps = []; driven = tt; state = refl; lines = refl }
+  stays s = record { steps = []; driven = tt; counted = refl; state = refl; lines = refl }
 
-  pub goes_on : (s t u : State) (xs ys : List Line) → Goes name c s t xs → Goes name c t u ys → Goes name c s u (xs ++ ys)
-  goes_on s t u xs ys g h = record {
+  pub goes_on : {n m : ℕ} (s t u : State) (xs ys : List Line) → Goes name broken n c s t xs → Goes name broken m c t u ys → Goes name broken (n + m) c s u (xs ++ ys)
+  goes_on {n} {m} s t u xs ys g h = record {
     steps = g.steps ++ h.steps;
-    driven = all-append (IsDriven name) g.steps h.steps g.driven h.driven;
+    driven = driven-append name broken c s g.steps h.steps g.driven (subst (λ (x : State). AreDriven name broken c x h.steps) g.state h.driven);
+    counted = turns-append g.steps h.steps ∙ (ap (λ x. x + turns_of h.steps) g.counted ∙ ap (λ x. n + x) h.counted);
     state = h.state ∙ (ap (λ x. state_after c x h.steps) g.state ∙ sym (after-append c s g.steps h.steps));
     lines = ap (λ l. l ++ ys) g.lines ∙ (ap (λ l. own_lines (lines_of c s g.steps) ++ l) (h.lines ∙ ap (λ x. own_lines (lines_of c x h.steps)) g.state)
         ∙ (sym (own-append (lines_of c s g.steps) (lines_of c (state_after c s g.steps) h.steps)) ∙ ap own_lines (sym (lines-append c s g.steps h.steps))));
   }
 
   -- one step
-  pub goes_by : (s : State) (e : Event) (d : Done) → IsDriven name e → step c s e ≡ finish d → Goes name c s (finish d).state (own_lines d.lines)
+  pub goes_by : (s : State) (e : Event) (d : Done) → IsDriven name broken s e → step c s e ≡ finish d → Goes name broken (turns_of (e ∷ [])) c s (finish d).state (own_lines d.lines)
   unfolding state_after lines_of
   goes_by s e d m h = record {
     steps = e ∷ [];
     driven = (m, tt);
+    counted = refl;
     state = ap (λ r. r.state) (sym h);
     lines = sym (own_finished d) ∙ (ap (λ r. own_lines r.lines) (sym h) ∙ ap own_lines (sym (append-nil (step c s e).lines)));
   }
+
+  -- where more is broken
+  pub goes_if : {n : ℕ} (less : Type 0) (s t : State) (xs : List Line) → (less → broken) → Goes name less n c s t xs → Goes name broken n c s t xs
+  goes_if less s t xs f g = record { steps = g.steps; driven = driven_if name less broken c s g.steps f g.driven; counted = g.counted; state = g.state; lines = g.lines }
 
 -- ---- the steps of a visit ----
 

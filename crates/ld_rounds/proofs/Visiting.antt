@@ -1,20 +1,22 @@
 -- A node is visited.
-use Rattle.std.proofs.Common.{◌≡◌, ◌⊎◌, ℕ, Bool, true, List, [], ◌∷◌, ◌++◌, set, Option, Some, None, Err, refl, ap, sym, ◌∙◌, subst, inl, inr}
+use Rattle.std.proofs.Common.{◌≡◌, ◌⊎◌, ◌≤◌, ℕ, zero, suc, Bool, true, false, List, [], ◌∷◌, ◌++◌, set, Option, Some, None, Ok, Err, refl, ap, sym, ◌∙◌, subst, inl, inr, arith}
+use Rattle.std.specs.Prelude.{IfOk}
 use Rattle.std.specs.declared.result.Result.{Result}
 use Rattle.ld_table.specs.Words.{first as first_of}
 use Rattle.ld_ids.specs.Id.{IsNode}
+use Rattle.ld_io.specs.Causes.{Rose}
 use Rattle.ld_config.specs.declared.config.Config.{Config}
 use Rattle.ld_config.specs.Bounds.{IsInBounds}
 use Rattle.ld_msg.specs.declared.msg.Msg.{Msg}
 use Rattle.ld_machine.specs.State.{State}
 use Rattle.ld_dial.specs.declared.fault.Fault.{Fault}
 use Rattle.ld_dial.specs.declared.fault.Fault.TheVariants as faults
-use Rattle.ld_dial.specs.Far.{Far, handed, IsHanded, IsNext, Receives, SendsTo}
+use Rattle.ld_dial.specs.Far.{Far, handed, IsHanded, IsNext, Receives, SendsTo, CountsFault, CountsEnding}
 use Rattle.ld_rounds.specs.declared.ended.Ended.{Ended}
 use Rattle.ld_rounds.specs.Queued.{queue_of, behind}
 use Rattle.std.proofs.lemmas.List.{set-get_or}
 use Rattle.ld_rounds.specs.Telling.{missed_by}
-use Rattle.ld_rounds.specs.Drives.{IsApart, Holds, Went, GoesOn, WithNode}
+use Rattle.ld_rounds.specs.Drives.{IsBroken, AreLater, IsApart, Holds, Went, GoesOn, WithNode}
 use Rattle.ld_rounds.proofs.News.{first_waits}
 use Rattle.ld_rounds.proofs.Driving.{lose_first, lose_answer, lose_queue, turn_to, hand_first, moved_on}
 use Rattle.ld_rounds.proofs.Going.{went_quietly, went_on, stopped_here, goes_as}
@@ -38,57 +40,98 @@ not_taken qs now y h e = e ∙ (ap (set qs y) (none_behind (queue_of qs y) h) �
     none_behind [] f = refl
     none_behind (x ∷ xs) f = absurd cc
 
-module _ (name : List ℕ) (c : Config) (first : ℕ) (b : IsInBounds c) (A : Config → State → Type 0) (apart : IsApart A) (s : State) where
+-- ---- the counts of the nodes ----
+
+-- a call of the nodes hasn't lowered the count
+pub fault_later : {T : Type 0} (before now : ℕ) (r : Result T Fault) → CountsFault before now r → before ≤ now
+fault_later before now (Ok v) h = omega (arith, h)
+fault_later before now (Err faults.Link) h = h.1
+fault_later before now (Err faults.NoMemory) h = omega (arith, h)
+fault_later before now (Err (faults.BadFrame fault)) h = omega (arith, h)
+
+pub ending_later : (before now : ℕ) (r : Result (Option Msg) Fault) → CountsEnding before now r → before ≤ now
+ending_later before now (Ok None) h = h.1
+ending_later before now (Ok (Some m)) h = omega (arith, h)
+ending_later before now (Err f) h = omega (arith, h)
+
+-- after a call that finds no ending
+pub sent_later : {T : Type 0} (f g e d : ℕ) (r : Result T Fault) → CountsFault f g r → d ≡ e → AreLater f g e d
+sent_later f g e d r h same = (fault_later f g r h, omega (arith, same))
+
+-- the drive goes on with another node only where the link failed
+pub missed_link : (before now : ℕ) (f : Fault) → CountsFault {T = Unit {0}} before now (Err f) → IfOk (missed_by f) (λ on. on ≡ false → Rose before now)
+missed_link before now faults.Link h = λ e. h.0
+missed_link before now faults.NoMemory h = tt
+missed_link before now (faults.BadFrame fault) h = tt
+
+pub later_since : (f g h e d k : ℕ) → AreLater f g e d → AreLater g h d k → AreLater f h e k
+later_since f g h e d k p q = (omega (arith, p.0, q.0), omega (arith, p.1, q.1))
+
+pub broken_since : (f g h e d k : ℕ) → AreLater f g e d → IsBroken g h d k → IsBroken f h e k
+broken_since f g h e d k l (inl r) = inl (omega (arith, l.0, r))
+broken_since f g h e d k l (inr r) = inr (omega (arith, l.1, r))
+
+pub broken_until : (f g h e d k : ℕ) → AreLater g h d k → IsBroken f g e d → IsBroken f h e k
+broken_until f g h e d k l (inl r) = inl (omega (arith, l.0, r))
+broken_until f g h e d k l (inr r) = inr (omega (arith, l.1, r))
+
+-- a queue that is emptied
+pub emptied : (qs : List (List Msg)) (y : ℕ) → queue_of (set qs y []) y ≡ []
+emptied [] y = refl
+emptied (q ∷ qs) zero = refl
+emptied (q ∷ qs) (suc y) = emptied qs y
+
+module _ (name : List ℕ) (broken : Type 0) (c : Config) (first : ℕ) (b : IsInBounds c) (A : Config → State → Type 0) (apart : IsApart A) (s : State) where
   -- an answer does nothing
   pub ignored : (far : Far) (qs : List (List Msg)) (m : Msg) (rest : List Msg) (w : Option (List ℕ)) → far.answers ≡ m ∷ rest → Holds A c first s far qs
-      → Went name A (λ now. now ≡ record far { answers = rest }) c first s qs w w
-  ignored far qs m rest w e h = went_quietly name c first b A (λ now. now ≡ record far { answers = rest }) s (record far { answers = rest }) qs w refl (lose_answer name c first b A apart s far qs m rest h e)
+      → Went name broken 0 A (λ now. now ≡ record far { answers = rest }) c first s qs w w
+  ignored far qs m rest w e h = went_quietly name broken c first b A (λ now. now ≡ record far { answers = rest }) s (record far { answers = rest }) qs w refl (lose_answer name broken c first b A apart s far qs m rest h e)
 
   module _ (tells : Config → Far → Type 0) (far : Far) (y : ℕ) (present : far.present ≡ Some y) (is : IsNode y) (w : Option (List ℕ)) where
     -- the first message is handled by the node
-    pub handed_on : (qs : List (List Msg)) (m : Msg) (rest : List Msg) → Holds A c first s far qs → queue_of qs y ≡ m ∷ rest → IsHanded c far m (tells c) → Went name A (WithNode tells c y) c first s (set qs y rest) w w
+    pub handed_on : (qs : List (List Msg)) (m : Msg) (rest : List Msg) → Holds A c first s far qs → queue_of qs y ≡ m ∷ rest → IsHanded c far m (tells c) → Went name broken 0 A (WithNode tells c y) c first s (set qs y rest) w w
     handed_on qs m rest h q i =
         let same : i.node ≡ y = some_is (sym i.present ∙ present) in
         let t = subst (λ n. tells c (record { nodes = (handed c far.nodes n m).state.nodes; present = Some n; answers = far.answers ++ (handed c far.nodes n m).sends })) same i.told in
-        went_quietly name c first b A (WithNode tells c y) s (record { nodes = (handed c far.nodes y m).state.nodes; present = Some y; answers = far.answers ++ (handed c far.nodes y m).sends }) (set qs y rest) w
-        (t, refl) (hand_first name c first b A apart s far qs y m rest h is q (first_waits first s.network qs far.answers y m rest h.news is q))
+        went_quietly name broken c first b A (WithNode tells c y) s (record { nodes = (handed c far.nodes y m).state.nodes; present = Some y; answers = far.answers ++ (handed c far.nodes y m).sends }) (set qs y rest) w
+        (t, refl) (hand_first name broken c first b A apart s far qs y m rest h is q (first_waits first s.network qs far.answers y m rest h.news is q))
 
     -- the first message is lost
-    pub gone_on : (qs : List (List Msg)) (m : Msg) (rest : List Msg) → Holds A c first s far qs → queue_of qs y ≡ m ∷ rest → tells c far → Went name A (WithNode tells c y) c first s (set qs y rest) w w
-    gone_on qs m rest h q t = went_quietly name c first b A (WithNode tells c y) s far (set qs y rest) w (t, present) (lose_first name c first b A apart s far qs y m rest h is q)
+    pub gone_on : broken → (qs : List (List Msg)) (m : Msg) (rest : List Msg) → Holds A c first s far qs → queue_of qs y ≡ m ∷ rest → tells c far → Went name broken 0 A (WithNode tells c y) c first s (set qs y rest) w w
+    gone_on why qs m rest h q t = went_quietly name broken c first b A (WithNode tells c y) s far (set qs y rest) w (t, present) (lose_first name broken c first b A apart why s far qs y m rest h is q)
 
   -- an answer was taken, and heard or ignored
   pub next_on : {R : Type 0} (tells : Config → Far → Type 0) (far : Far) (y : ℕ) (B : Config → State → Type 0) (rs : List (List Msg)) (old new : Option (List ℕ)) (m : Msg) (r : Result R Ended) → far.present ≡ Some y → (i : IsNext far (tells c) m)
-      → GoesOn name B (λ now. now ≡ record far { answers = i.rest }) c first s rs old new r → GoesOn name B (WithNode tells c y) c first s rs old new r
+      → GoesOn name broken 0 B (λ now. now ≡ record far { answers = i.rest }) c first s rs old new r → GoesOn name broken 0 B (WithNode tells c y) c first s rs old new r
   next_on tells far y B rs old new m r present i g =
-      goes_as name c first b B (λ now. now ≡ record far { answers = i.rest }) (WithNode tells c y) s rs old new r (λ now e. subst (λ x. WithNode tells c y x) (sym e) (i.told, present)) g
+      goes_as name broken c first b 0 broken B (λ now. now ≡ record far { answers = i.rest }) (WithNode tells c y) s rs old new r (λ l. l) (λ now e. subst (λ x. WithNode tells c y x) (sym e) (i.told, present)) g
 
   -- nothing is taken
-  pub unheard : (T U : Far → Type 0) (far : Far) (qs : List (List Msg)) (w : Option (List ℕ)) (f : Fault) → Receives far T (Err f) → GoesOn name A U c first s qs w w (missed_by f)
+  pub unheard : (T U : Far → Type 0) (far : Far) (qs : List (List Msg)) (w : Option (List ℕ)) (f : Fault) → Receives far T (Err f) → GoesOn name broken 0 A U c first s qs w w (missed_by f)
   unheard T U far qs w faults.Link h = absurd h
   unheard T U far qs w (faults.BadFrame fault) h = absurd h
-  unheard T U far qs w faults.NoMemory h = stopped_here name c first b s w
+  unheard T U far qs w faults.NoMemory h = stopped_here name broken c first b s w
 
   -- nothing is sent
-  pub unsent : (tells : Config → Far → Type 0) (quiet : Bool) (far : Far) (y : ℕ) (m : Msg) (rest : List Msg) (qs now : List (List Msg)) (w : Option (List ℕ)) (f : Fault) → far.present ≡ Some y → IsNode y → Holds A c first s far qs
-      → queue_of qs y ≡ m ∷ rest → now ≡ set qs y rest → SendsTo c far m quiet (tells c) (Err f) → (quiet ≡ true) ⊎ GoesOn name A (WithNode tells c y) c first s now w w (missed_by f)
-  unsent tells quiet far y m rest qs now w faults.Link present is h q e (inl gone) = inr (subst (λ (x : List (List Msg)). Went name A (WithNode tells c y) c first s x w w) (sym e) (gone_on tells far y present is w qs m rest h q gone.told))
-  unsent tells quiet far y m rest qs now w faults.Link present is h q e (inr silent) = inl silent
-  unsent tells quiet far y m rest qs now w (faults.BadFrame fault) present is h q e sent = absurd sent
-  unsent tells quiet far y m rest qs now w faults.NoMemory present is h q e sent = inr (stopped_here name c first b s w)
+  pub unsent : (tells : Config → Far → Type 0) (quiet : Bool) (far : Far) (y : ℕ) (m : Msg) (rest : List Msg) (qs now : List (List Msg)) (w : Option (List ℕ)) (f : Fault) (before count : ℕ) → CountsFault {T = Unit {0}} before count (Err f) → (Rose before count → broken) → far.present ≡ Some y → IsNode y → Holds A c first s far qs
+      → queue_of qs y ≡ m ∷ rest → now ≡ set qs y rest → SendsTo c far m quiet (tells c) (Err f) → (quiet ≡ true) ⊎ GoesOn name broken 0 A (WithNode tells c y) c first s now w w (missed_by f)
+  unsent tells quiet far y m rest qs now w faults.Link before count rose why present is h q e (inl gone) = inr (subst (λ (x : List (List Msg)). Went name broken 0 A (WithNode tells c y) c first s x w w) (sym e) (gone_on tells far y present is w (why rose.0) qs m rest h q gone.told))
+  unsent tells quiet far y m rest qs now w faults.Link before count rose why present is h q e (inr silent) = inl silent
+  unsent tells quiet far y m rest qs now w (faults.BadFrame fault) before count rose why present is h q e sent = absurd sent
+  unsent tells quiet far y m rest qs now w faults.NoMemory before count rose why present is h q e sent = inr (stopped_here name broken c first b s w)
 
   -- a node is dialed
-  pub dialed : (tells : Config → Far → Type 0) (far : Far) (y : ℕ) (qs : List (List Msg)) (w : Option (List ℕ)) → Holds A c first s far qs → tells c (record { nodes = far.nodes; present = Some y; answers = [] }) → Went name A (WithNode tells c y) c first s qs w w
-  dialed tells far y qs w h t = went_quietly name c first b A (WithNode tells c y) s (record { nodes = far.nodes; present = Some y; answers = [] }) qs w (t, refl) (turn_to name c first b A apart s far (Some y) qs h)
+  pub dialed : (tells : Config → Far → Type 0) (far : Far) (y : ℕ) (qs : List (List Msg)) (w : Option (List ℕ)) → Holds A c first s far qs → tells c (record { nodes = far.nodes; present = Some y; answers = [] }) → Went name broken 0 A (WithNode tells c y) c first s qs w w
+  dialed tells far y qs w h t = went_quietly name broken c first b A (WithNode tells c y) s (record { nodes = far.nodes; present = Some y; answers = [] }) qs w (t, refl) (turn_to name broken c first b A apart s far (Some y) qs h)
 
   -- a node wasn't reached, and what waits for it is dropped
-  pub missed : (T : Far → Type 0) (far : Far) (y : ℕ) (qs : List (List Msg)) (w : Option (List ℕ)) → IsNode y → Holds A c first s far qs → T (record { nodes = far.nodes; present = None; answers = [] }) → Went name A T c first s (set qs y []) w w
-  missed T far y qs w is h t =
+  pub missed : broken → (T : Far → Type 0) (far : Far) (y : ℕ) (qs : List (List Msg)) (w : Option (List ℕ)) → IsNode y → Holds A c first s far qs → T (record { nodes = far.nodes; present = None; answers = [] }) → Went name broken 0 A T c first s (set qs y []) w w
+  missed why T far y qs w is h t =
       let end : Far = record { nodes = far.nodes; present = None; answers = [] } in
-      let m = turn_to name c first b A apart s far None qs h in
-      went_quietly name c first b A T s end (set qs y []) w t (moved_on name c first b A A s end end qs (set qs y []) [] [] m (lose_queue name c first b A apart m.state end qs y m.holds is))
+      let m = turn_to name broken c first b A apart s far None qs h in
+      went_quietly name broken c first b A T s end (set qs y []) w t (moved_on name broken c first b A A s end end qs (set qs y []) [] [] m (lose_queue name broken c first b A apart why m.state end qs y m.holds is))
 
   -- what waits for a node is dropped
-  pub dropped : (T : Far → Type 0) (qs : List (List Msg)) (y : ℕ) (old new : Option (List ℕ)) → IsNode y → Went name A T c first s qs old new → Went name A T c first s (set qs y []) old new
-  dropped T qs y old new is w =
-      went_on name c first b A A T T s qs (set qs y []) old new new w (went_quietly name c first b A T w.moved.state w.far (set qs y []) new w.told (lose_queue name c first b A apart w.moved.state w.far qs y w.moved.holds is))
+  pub dropped : broken → (T : Far → Type 0) (qs : List (List Msg)) (y : ℕ) (old new : Option (List ℕ)) → IsNode y → Went name broken 0 A T c first s qs old new → Went name broken 0 A T c first s (set qs y []) old new
+  dropped why T qs y old new is w =
+      went_on name broken c first b A A T T s qs (set qs y []) old new new w (went_quietly name broken c first b A T w.moved.state w.far (set qs y []) new w.told (lose_queue name broken c first b A apart why w.moved.state w.far qs y w.moved.holds is))

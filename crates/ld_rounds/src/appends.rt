@@ -10,7 +10,7 @@ ghost use Rattle.ld_bounds.specs.Sound.{IsSound};
 ghost use Rattle.ld_dial.specs.Far.{Far};
 ghost use Rattle.ld_rounds.specs.Ends.{IsSaid};
 ghost use Rattle.ld_rounds.specs.Acts.{IsActed};
-ghost use Rattle.ld_rounds.specs.Drives.{Holds, GoesOn};
+ghost use Rattle.ld_rounds.specs.Drives.{Holds, GoesOn, IsBroken, AreLater, TookRetries, retries_of};
 ghost use Rattle.ld_rounds.specs.Endings.{IsEnding, IsLater};
 ghost use Rattle.ld_rounds.specs.Feeding.{IsInputEnding, IsAppendEnding};
 ghost use Rattle.ld_rounds.specs.Queued.{are_empty};
@@ -69,7 +69,7 @@ fn add<A: Appends, O: Sink>(
     out: &mut O,
 ) -> Result<bool, Ended>
     ensures held { (c : Config) (first : ℕ) (s : State) (far : Far) → IsInBounds c → Holds (A.stands sequencer.old) c first s far queues.old
-        → GoesOn name.now (A.stands sequencer.new) (λ now. now ≡ far) c first s queues.new (O.written out.old) (O.written out.new) result }
+        → GoesOn name.now ⊥ 0 (A.stands sequencer.new) (λ now. now ≡ far) c first s queues.new (O.written out.old) (O.written out.new) result }
     ensures cause { IfErr result (IsEnding (O.faults out.old) (O.faults out.new) (O.written out.old) (O.written out.new)) }
     ensures later { IsLater (O.faults out.old) (O.faults out.new) (O.written out.old) (O.written out.new) }
 {
@@ -90,7 +90,7 @@ fn again<A: Appends, O: Sink>(
     out: &mut O,
 ) -> Result<(), Ended>
     ensures held { (c : Config) (first : ℕ) (s : State) (far : Far) → IsInBounds c → Holds (A.stands sequencer.old) c first s far queues.old
-        → GoesOn name.now (A.stands sequencer.new) (λ now. now ≡ far) c first s queues.new (O.written out.old) (O.written out.new) result }
+        → GoesOn name.now ⊥ 1 (A.stands sequencer.new) (λ now. now ≡ far) c first s queues.new (O.written out.old) (O.written out.new) result }
     ensures cause { IfErr result (IsEnding (O.faults out.old) (O.faults out.new) (O.written out.old) (O.written out.new)) }
     ensures later { IsLater (O.faults out.old) (O.faults out.new) (O.written out.old) (O.written out.new) }
 {
@@ -120,6 +120,7 @@ impl Feed {
     fn next<P: Payloads>(&mut self, alloc: Global, input: &mut P) -> Result<Option<Payload>, Ended>
         ensures cause { IfErr result (IsInputEnding (P.faults input.old) (P.faults input.new)) }
         ensures later { P.faults input.old ≤ P.faults input.new }
+        ensures itself { P.identity input.new ≡ P.identity input.old }
     {
         if let Some(payload) = self.held.take() {
             return Ok(Some(payload));
@@ -151,9 +152,10 @@ fn add_all<A: Appends, P: Payloads, O: Sink>(
     out: &mut O,
 ) -> Result<(), Ended>
     ensures held { (c : Config) (first : ℕ) (s : State) (far : Far) → IsInBounds c → Holds (A.stands sequencer.old) c first s far queues.old
-        → GoesOn name.now (A.stands sequencer.new) (λ now. now ≡ far) c first s queues.new (O.written out.old) (O.written out.new) result }
+        → GoesOn name.now ⊥ 0 (A.stands sequencer.new) (λ now. now ≡ far) c first s queues.new (O.written out.old) (O.written out.new) result }
     ensures cause { IfErr result (IsAppendEnding (P.faults input.old) (P.faults input.new) (O.faults out.old) (O.faults out.new) (O.written out.old) (O.written out.new)) }
     ensures input_later { P.faults input.old ≤ P.faults input.new }
+    ensures itself { P.identity input.new ≡ P.identity input.old }
     ensures later { IsLater (O.faults out.old) (O.faults out.new) (O.written out.old) (O.written out.new) }
 {
     'payloads: for _ in 0..u64::MAX {
@@ -180,9 +182,10 @@ fn prepare<A: Appends, P: Payloads, O: Sink>(
     out: &mut O,
 ) -> Result<(), Ended>
     ensures held { (c : Config) (first : ℕ) (s : State) (far : Far) → IsInBounds c → Holds (A.stands sequencer.old) c first s far queues.old
-        → GoesOn name.now (A.stands sequencer.new) (λ now. now ≡ far) c first s queues.new (O.written out.old) (O.written out.new) result }
+        → GoesOn name.now ⊥ (retries_of is_first) (A.stands sequencer.new) (λ now. now ≡ far) c first s queues.new (O.written out.old) (O.written out.new) result }
     ensures cause { IfErr result (IsAppendEnding (P.faults input.old) (P.faults input.new) (O.faults out.old) (O.faults out.new) (O.written out.old) (O.written out.new)) }
     ensures input_later { P.faults input.old ≤ P.faults input.new }
+    ensures itself { P.identity input.new ≡ P.identity input.old }
     ensures later { IsLater (O.faults out.old) (O.faults out.new) (O.written out.old) (O.written out.new) }
 {
     if is_first {
@@ -207,11 +210,13 @@ fn append_round<A: Appends, N: Nodes, P: Payloads, O: Sink>(
 ) -> Result<(), Ended>
     ensures held { (c : Config) (first : ℕ) (s : State) (far : Far) → IsInBounds c
         → N.tells nodes.old c far → Holds (A.stands sequencer.old) c first s far queues.old
-        → (N.silent nodes.new ≡ true) ⊎ GoesOn name.now (A.stands sequencer.new) (N.tells nodes.new c) c first s queues.new (O.written out.old) (O.written out.new) result }
+        → (N.silent nodes.new ≡ true) ⊎ GoesOn name.now (IsBroken (N.faults nodes.old) (N.faults nodes.new) (N.endings nodes.old) (N.endings nodes.new)) (retries_of is_first) (A.stands sequencer.new) (N.tells nodes.new c) c first s queues.new (O.written out.old) (O.written out.new) result }
     ensures silent { N.silent nodes.old ≡ true → N.silent nodes.new ≡ true }
     ensures cause { IfErr result (IsAppendEnding (P.faults input.old) (P.faults input.new) (O.faults out.old) (O.faults out.new) (O.written out.old) (O.written out.new)) }
     ensures input_later { P.faults input.old ≤ P.faults input.new }
+    ensures itself { P.identity input.new ≡ P.identity input.old }
     ensures later { IsLater (O.faults out.old) (O.faults out.new) (O.written out.old) (O.written out.new) }
+    ensures counts { AreLater (N.faults nodes.old) (N.faults nodes.new) (N.endings nodes.old) (N.endings nodes.new) }
 {
     prepare(alloc, name, is_first, feed, input, sequencer, queues, out)?;
     round(alloc, set, sequencer, nodes, queues, out)
@@ -237,11 +242,13 @@ pub fn append<A: Appends, N: Nodes, P: Payloads, O: Sink>(
     out: &mut O,
 ) -> Result<bool, Ended>
     // Where the nodes tell what stands there: all that was done are steps of the written machine from any state that the
-    // drive stands for, and the lines that were written are the sequencer's lines of those steps.
+    // drive stands for, and the lines that were written are the sequencer's lines of those steps. It sends again before each
+    // round but the first. A message to a node is lost only where a call of the nodes failed or a node had ended.
     ensures held { (c : Config) (first : ℕ) (s : State) (far : Far) → IsInBounds c
         → N.tells nodes.old c far → Holds (A.stands sequencer.old) c first s far queues.old
-        → (N.silent nodes.new ≡ true) ⊎ GoesOn name.now (A.stands sequencer.new) (N.tells nodes.new c) c first s queues.new (O.written out.old) (O.written out.new) result }
+        → (N.silent nodes.new ≡ true) ⊎ TookRetries rounds (λ turns. GoesOn name.now (IsBroken (N.faults nodes.old) (N.faults nodes.new) (N.endings nodes.old) (N.endings nodes.new)) turns (A.stands sequencer.new) (N.tells nodes.new c) c first s queues.new (O.written out.old) (O.written out.new) result) result }
     ensures settled { IfOk result (λ done. done ≡ true → (A.settled sequencer.new ≡ true) × (are_empty queues.new ≡ true)) }
+    ensures itself { P.identity input.new ≡ P.identity input.old }
     ensures cause { IfErr result (IsAppendEnding (P.faults input.old) (P.faults input.new) (O.faults out.old) (O.faults out.new) (O.written out.old) (O.written out.new)) }
 {
     let mut feed = Feed::new();

@@ -24,10 +24,14 @@ pub trait Payloads {
     /// How often a read has failed, up to the greatest 64-bit number.
     ghost faults: { Self → ℕ };
 
+    /// Which one this is, so that one that was lent is known to have come back. Each call keeps it.
+    ghost identity: { Self → ℕ };
+
     /// Takes the next payload; none is at the end of the input. It is refused with `BadLine` where the next line is off, with
     /// `Read` where a read failed, and for want of memory.
     fn next(&mut self, alloc: Global) -> Result<Option<Payload>, InputFault>
         ensures gives { Gives (coming self.old) (coming self.new) result }
         ensures later { faults self.old ≤ faults self.new }
+        ensures itself { identity self.new ≡ identity self.old }
         ensures cause { IfErr result (IsReadFault (faults self.old) (faults self.new)) };
 }

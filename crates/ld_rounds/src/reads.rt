@@ -1,5 +1,5 @@
 // A reader is driven until it is finished.
-ghost use Rattle.std.specs.Prelude.{◌≡◌, ◌⊎◌, ℕ, Bool, true, IfOk, IfErr, IfSome};
+ghost use Rattle.std.specs.Prelude.{◌≡◌, ◌⊎◌, ℕ, List, Bool, true, IfOk, IfErr, IfSome};
 ghost use Rattle.ld_config.specs.declared.config.Config.{Config};
 ghost use Rattle.ld_config.specs.Bounds.{IsInBounds};
 ghost use Rattle.ld_schedule.specs.declared.event.Event.TheVariants.{Poll};
@@ -10,7 +10,7 @@ ghost use Rattle.ld_bounds.specs.Sound.{IsSound};
 ghost use Rattle.ld_dial.specs.Far.{Far};
 ghost use Rattle.ld_rounds.specs.Ends.{IsSaid};
 ghost use Rattle.ld_rounds.specs.Acts.{IsActed};
-ghost use Rattle.ld_rounds.specs.Drives.{Holds, GoesOn};
+ghost use Rattle.ld_rounds.specs.Drives.{Holds, GoesOn, IsBroken, AreLater, TookTurns};
 ghost use Rattle.ld_rounds.specs.Endings.{IsEnding, IsLater};
 
 use crate::{Actor, Ended, Heard, Queues, round, tell};
@@ -21,8 +21,8 @@ use std::alloc::Global;
 
 /// A reader that is driven.
 pub trait Reads: Actor {
-    /// It is past its last number.
-    ghost finished: { Self → Bool };
+    /// The one of the name is past its last number.
+    ghost finished: { Self → List ℕ → Bool };
 
     /// The reader of the name asks all nodes for its next number. It ends the drive where it says so in a line. After want of
     /// memory it is of no use.
@@ -32,9 +32,9 @@ pub trait Reads: Actor {
             → IsActed (Self.stands self.new c) s heard.lines.items heard.sends (happens c s (Poll name.now))) }
         ensures said { IfOk result (λ heard. IfSome heard.end (IsSaid heard.lines.items)) };
 
-    /// Whether it is past its last number.
-    fn is_finished(&self) -> bool
-        ensures { result ≡ finished self.now };
+    /// Whether the one of the name is past its last number.
+    fn is_finished(&self, name: &Name) -> bool
+        ensures { result ≡ finished self.now name.now };
 }
 
 /// The reader asks: its messages wait for their nodes.
@@ -46,7 +46,7 @@ fn ask<R: Reads, O: Sink>(
     out: &mut O,
 ) -> Result<(), Ended>
     ensures held { (c : Config) (first : ℕ) (s : State) (far : Far) → IsInBounds c → Holds (R.stands reader.old) c first s far queues.old
-        → GoesOn name.now (R.stands reader.new) (λ now. now ≡ far) c first s queues.new (O.written out.old) (O.written out.new) result }
+        → GoesOn name.now ⊥ 1 (R.stands reader.new) (λ now. now ≡ far) c first s queues.new (O.written out.old) (O.written out.new) result }
     ensures cause { IfErr result (IsEnding (O.faults out.old) (O.faults out.new) (O.written out.old) (O.written out.new)) }
     ensures later { IsLater (O.faults out.old) (O.faults out.new) (O.written out.old) (O.written out.new) }
 {
@@ -68,10 +68,11 @@ fn read_round<R: Reads, N: Nodes, O: Sink>(
 ) -> Result<(), Ended>
     ensures held { (c : Config) (first : ℕ) (s : State) (far : Far) → IsInBounds c
         → N.tells nodes.old c far → Holds (R.stands reader.old) c first s far queues.old
-        → (N.silent nodes.new ≡ true) ⊎ GoesOn name.now (R.stands reader.new) (N.tells nodes.new c) c first s queues.new (O.written out.old) (O.written out.new) result }
+        → (N.silent nodes.new ≡ true) ⊎ GoesOn name.now (IsBroken (N.faults nodes.old) (N.faults nodes.new) (N.endings nodes.old) (N.endings nodes.new)) 1 (R.stands reader.new) (N.tells nodes.new c) c first s queues.new (O.written out.old) (O.written out.new) result }
     ensures silent { N.silent nodes.old ≡ true → N.silent nodes.new ≡ true }
     ensures cause { IfErr result (IsEnding (O.faults out.old) (O.faults out.new) (O.written out.old) (O.written out.new)) }
     ensures later { IsLater (O.faults out.old) (O.faults out.new) (O.written out.old) (O.written out.new) }
+    ensures counts { AreLater (N.faults nodes.old) (N.faults nodes.new) (N.endings nodes.old) (N.endings nodes.new) }
 {
     ask(alloc, name, reader, queues, out)?;
     round(alloc, set, reader, nodes, queues, out)
@@ -91,17 +92,18 @@ pub fn read<R: Reads, N: Nodes, O: Sink>(
     out: &mut O,
 ) -> Result<bool, Ended>
     // Where the nodes tell what stands there: all that was done are steps of the written machine from any state that the
-    // drive stands for, and the lines that were written are the reader's lines of those steps.
+    // drive stands for, and the lines that were written are the reader's lines of those steps. It polls once a round. A message
+    // to a node is lost only where a call of the nodes failed or a node had ended.
     ensures held { (c : Config) (first : ℕ) (s : State) (far : Far) → IsInBounds c
         → N.tells nodes.old c far → Holds (R.stands reader.old) c first s far queues.old
-        → (N.silent nodes.new ≡ true) ⊎ GoesOn name.now (R.stands reader.new) (N.tells nodes.new c) c first s queues.new (O.written out.old) (O.written out.new) result }
-    ensures finished { IfOk result (λ done. done ≡ true → R.finished reader.new ≡ true) }
+        → (N.silent nodes.new ≡ true) ⊎ TookTurns rounds (λ turns. GoesOn name.now (IsBroken (N.faults nodes.old) (N.faults nodes.new) (N.endings nodes.old) (N.endings nodes.new)) turns (R.stands reader.new) (N.tells nodes.new c) c first s queues.new (O.written out.old) (O.written out.new) result) result }
+    ensures finished { IfOk result (λ done. done ≡ true → R.finished reader.new name.now ≡ true) }
     ensures cause { IfErr result (IsEnding (O.faults out.old) (O.faults out.new) (O.written out.old) (O.written out.new)) }
     ensures later { IsLater (O.faults out.old) (O.faults out.new) (O.written out.old) (O.written out.new) }
 {
     'rounds: for _ in 0..rounds {
         read_round(alloc, set, name, reader, nodes, queues, out)?;
-        if reader.is_finished() {
+        if reader.is_finished(name) {
             return Ok(true);
         }
     }

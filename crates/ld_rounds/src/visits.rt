@@ -1,5 +1,6 @@
 // A round: each node is visited, and what waits for it is sent.
-ghost use Rattle.std.specs.Prelude.{◌≡◌, ◌⊎◌, ◌∷◌, ℕ, List, Option, Some, true, set, IfErr, IfSome, MatchResult};
+ghost use Rattle.std.specs.Prelude.{◌≡◌, ◌⊎◌, ◌∷◌, [], ℕ, List, Option, Some, true, false, set, IfOk, IfErr, IfSome, MatchResult};
+ghost use Rattle.ld_ids.specs.Set.{members};
 ghost use Rattle.ld_config.specs.declared.config.Config.{Config};
 ghost use Rattle.ld_config.specs.Bounds.{IsInBounds};
 ghost use Rattle.ld_msg.specs.declared.msg.Msg.{Msg as Message};
@@ -10,7 +11,7 @@ ghost use Rattle.ld_machine.specs.State.{State};
 ghost use Rattle.ld_dial.specs.Far.{Far};
 ghost use Rattle.ld_rounds.specs.Queued.{queue_of};
 ghost use Rattle.ld_rounds.specs.Telling.{HasTold, IsTelling, is_of, is_answered, missed_by};
-ghost use Rattle.ld_rounds.specs.Drives.{Holds, GoesOn, WithNode};
+ghost use Rattle.ld_rounds.specs.Drives.{Holds, GoesOn, WentThrough, WithNode, IsBroken, AreLater};
 ghost use Rattle.ld_rounds.specs.Ends.{IsSaid};
 ghost use Rattle.ld_rounds.specs.Endings.{IsEnding, IsLater};
 ghost use Rattle.ld_rounds.specs.Output.{WritesFault};
@@ -92,10 +93,12 @@ fn listen<A: Actor, N: Nodes, O: Sink>(
 ) -> Result<bool, Ended>
     ensures held { (name : List ℕ) (c : Config) (first : ℕ) (s : State) (far : Far) → IsInBounds c
         → N.tells nodes.old c far → far.present ≡ Some node → Holds (A.stands actor.old) c first s far queues.old
-        → GoesOn name (A.stands actor.new) (WithNode (N.tells nodes.new) c node) c first s queues.new (O.written out.old) (O.written out.new) result }
+        → GoesOn name (IsBroken (N.faults nodes.old) (N.faults nodes.new) (N.endings nodes.old) (N.endings nodes.new)) 0 (A.stands actor.new) (WithNode (N.tells nodes.new) c node) c first s queues.new (O.written out.old) (O.written out.new) result }
     ensures silent { N.silent nodes.new ≡ N.silent nodes.old }
     ensures cause { IfErr result (IsEnding (O.faults out.old) (O.faults out.new) (O.written out.old) (O.written out.new)) }
     ensures later { IsLater (O.faults out.old) (O.faults out.new) (O.written out.old) (O.written out.new) }
+    ensures counts { AreLater (N.faults nodes.old) (N.faults nodes.new) (N.endings nodes.old) (N.endings nodes.new) }
+    ensures broken { IfOk result (λ on. on ≡ false → IsBroken (N.faults nodes.old) (N.faults nodes.new) (N.endings nodes.old) (N.endings nodes.new)) }
 {
     let next = match nodes.receive(alloc) {
         Ok(next) => next,
@@ -120,7 +123,7 @@ fn take<A: Actor, O: Sink>(
     requires { IsMessage answer.now }
     ensures held { (name : List ℕ) (c : Config) (first : ℕ) (s : State) (far : Far) (rest : List Message) → IsInBounds c
         → far.answers ≡ answer.now ∷ rest → Holds (A.stands actor.old) c first s far queues.old
-        → GoesOn name (A.stands actor.new) (λ now. now ≡ record far { answers = rest }) c first s queues.new (O.written out.old) (O.written out.new) result }
+        → GoesOn name ⊥ 0 (A.stands actor.new) (λ now. now ≡ record far { answers = rest }) c first s queues.new (O.written out.old) (O.written out.new) result }
     ensures cause { IfErr result (IsEnding (O.faults out.old) (O.faults out.new) (O.written out.old) (O.written out.new)) }
     ensures later { IsLater (O.faults out.old) (O.faults out.new) (O.written out.old) (O.written out.new) }
 {
@@ -148,10 +151,12 @@ fn exchange<A: Actor, N: Nodes, O: Sink>(
     ensures held { (name : List ℕ) (c : Config) (first : ℕ) (s : State) (far : Far) (before : List (List Message)) (rest : List Message) → IsInBounds c
         → N.tells nodes.old c far → far.present ≡ Some node → Holds (A.stands actor.old) c first s far before
         → queue_of before node ≡ message.now ∷ rest → queues.old ≡ set before node rest
-        → (N.silent nodes.new ≡ true) ⊎ GoesOn name (A.stands actor.new) (WithNode (N.tells nodes.new) c node) c first s queues.new (O.written out.old) (O.written out.new) result }
+        → (N.silent nodes.new ≡ true) ⊎ GoesOn name (IsBroken (N.faults nodes.old) (N.faults nodes.new) (N.endings nodes.old) (N.endings nodes.new)) 0 (A.stands actor.new) (WithNode (N.tells nodes.new) c node) c first s queues.new (O.written out.old) (O.written out.new) result }
     ensures silent { N.silent nodes.old ≡ true → N.silent nodes.new ≡ true }
     ensures cause { IfErr result (IsEnding (O.faults out.old) (O.faults out.new) (O.written out.old) (O.written out.new)) }
     ensures later { IsLater (O.faults out.old) (O.faults out.new) (O.written out.old) (O.written out.new) }
+    ensures counts { AreLater (N.faults nodes.old) (N.faults nodes.new) (N.endings nodes.old) (N.endings nodes.new) }
+    ensures broken { IfOk result (λ on. on ≡ false → IsBroken (N.faults nodes.old) (N.faults nodes.new) (N.endings nodes.old) (N.endings nodes.new)) }
 {
     let _ = node.number();
     match nodes.send(alloc, message) {
@@ -176,13 +181,16 @@ pub fn visit<A: Actor, N: Nodes, O: Sink>(
     out: &mut O,
 ) -> Result<(), Ended>
     // Where the nodes tell what stands there: what was delivered, heard and lost are steps of the written machine from any
-    // state that the drive stands for, and the lines that were written are the actor's lines of those steps.
+    // state that the drive stands for, none of them a turn of the actor, and the lines that were written are the actor's lines
+    // of those steps. A message to a node is lost only where a call of the nodes failed or a node had ended.
     ensures held { (name : List ℕ) (c : Config) (first : ℕ) (s : State) (far : Far) → IsInBounds c
         → N.tells nodes.old c far → Holds (A.stands actor.old) c first s far queues.old
-        → (N.silent nodes.new ≡ true) ⊎ GoesOn name (A.stands actor.new) (N.tells nodes.new c) c first s queues.new (O.written out.old) (O.written out.new) result }
+        → (N.silent nodes.new ≡ true) ⊎ GoesOn name (IsBroken (N.faults nodes.old) (N.faults nodes.new) (N.endings nodes.old) (N.endings nodes.new)) 0 (A.stands actor.new) (N.tells nodes.new c) c first s queues.new (O.written out.old) (O.written out.new) result }
     ensures silent { N.silent nodes.old ≡ true → N.silent nodes.new ≡ true }
     ensures cause { IfErr result (IsEnding (O.faults out.old) (O.faults out.new) (O.written out.old) (O.written out.new)) }
     ensures later { IsLater (O.faults out.old) (O.faults out.new) (O.written out.old) (O.written out.new) }
+    ensures counts { AreLater (N.faults nodes.old) (N.faults nodes.new) (N.endings nodes.old) (N.endings nodes.new) }
+    ensures emptied { IfOk result (λ _. queue_of queues.new node ≡ []) }
 {
     if !queues.has(node) {
         return Ok(());
@@ -203,7 +211,8 @@ pub fn visit<A: Actor, N: Nodes, O: Sink>(
             return Ok(());
         }
     }
-    Ok(())
+    // So many messages are more than any memory holds.
+    Err(Ended::NoMemory)
 }
 
 /// Visits the nodes of a set in rising order.
@@ -216,13 +225,20 @@ pub fn round<A: Actor, N: Nodes, O: Sink>(
     out: &mut O,
 ) -> Result<(), Ended>
     // Where the nodes tell what stands there: what was delivered, heard and lost are steps of the written machine from any
-    // state that the drive stands for, and the lines that were written are the actor's lines of those steps.
+    // state that the drive stands for, none of them a turn of the actor, and the lines that were written are the actor's lines
+    // of those steps. A message to a node is lost only where a call of the nodes failed or a node had ended.
     ensures held { (name : List ℕ) (c : Config) (first : ℕ) (s : State) (far : Far) → IsInBounds c
         → N.tells nodes.old c far → Holds (A.stands actor.old) c first s far queues.old
-        → (N.silent nodes.new ≡ true) ⊎ GoesOn name (A.stands actor.new) (N.tells nodes.new c) c first s queues.new (O.written out.old) (O.written out.new) result }
+        → (N.silent nodes.new ≡ true) ⊎ GoesOn name (IsBroken (N.faults nodes.old) (N.faults nodes.new) (N.endings nodes.old) (N.endings nodes.new)) 0 (A.stands actor.new) (N.tells nodes.new c) c first s queues.new (O.written out.old) (O.written out.new) result }
     ensures silent { N.silent nodes.old ≡ true → N.silent nodes.new ≡ true }
     ensures cause { IfErr result (IsEnding (O.faults out.old) (O.faults out.new) (O.written out.old) (O.written out.new)) }
     ensures later { IsLater (O.faults out.old) (O.faults out.new) (O.written out.old) (O.written out.new) }
+    ensures counts { AreLater (N.faults nodes.old) (N.faults nodes.new) (N.endings nodes.old) (N.endings nodes.new) }
+    // And where it goes on, they are visits of the set's nodes, one after the other: each leads to a state in which nothing
+    // waits for its node.
+    ensures visited { IfOk result (λ _. (name : List ℕ) (c : Config) (first : ℕ) (s : State) (far : Far) → IsInBounds c
+        → N.tells nodes.old c far → Holds (A.stands actor.old) c first s far queues.old
+        → (N.silent nodes.new ≡ true) ⊎ WentThrough (members set.now) name (IsBroken (N.faults nodes.old) (N.faults nodes.new) (N.endings nodes.old) (N.endings nodes.new)) (A.stands actor.new) (N.tells nodes.new c) c first s queues.new (O.written out.old) (O.written out.new)) }
 {
     let mut place = 0;
     'nodes: while let Some(node) = set.nth(place) {

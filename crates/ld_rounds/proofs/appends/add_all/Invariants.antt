@@ -10,6 +10,7 @@ use Rattle.ld_rounds.proofs.appends.add_all.Given as goal
 abbrev pub invariant-payloads : goal.invariant-payloads
 invariant-payloads g l =
     ((c : Config) (first : ℕ) (s : State) (far : Far) → IsInBounds c → Holds (g.A.Actor.stands l.fn.sequencer) c first s far l.fn.queues
-    → Went l.name (g.A.Actor.stands l.sequencer) (λ now. now ≡ far) c first s l.queues (g.O.Sink.written l.fn.out) (g.O.Sink.written l.out))
+    → Went l.name ⊥ 0 (g.A.Actor.stands l.sequencer) (λ now. now ≡ far) c first s l.queues (g.O.Sink.written l.fn.out) (g.O.Sink.written l.out))
     × IsLater (g.O.Sink.faults l.fn.out) (g.O.Sink.faults l.out) (g.O.Sink.written l.fn.out) (g.O.Sink.written l.out)
     × (g.P.Payloads.faults l.fn.input ≤ g.P.Payloads.faults l.input)
+    × (g.P.Payloads.identity l.input ≡ g.P.Payloads.identity l.fn.input)

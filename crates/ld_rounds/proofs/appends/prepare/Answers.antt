@@ -12,8 +12,8 @@ returns-in_err-again-clause-cause g c =
 pub returns-clause-held : goal.returns-clause-held
 returns-clause-held g c k first s far b h =
     let w = c.in_ok-again.ensures.held k first s far b h in
-    apart_on c.args.name.now k first b {R = Unit {0}} (g.A.Actor.stands c.again.new.sequencer) (g.A.Actor.stands c.add_all-2.new.sequencer) s far c.again.new.queues c.add_all-2.new.queues (g.O.Sink.written c.args.out.now) (g.O.Sink.written c.again.new.out) (g.O.Sink.written c.add_all-2.new.out) c.add_all-2.result w
-    (c.add_all-2.ensures.held k first w.moved.state w.far b w.moved.holds)
+    rw c.if-is_first.false (apart_on c.args.name.now ⊥ k first b {R = Unit {0}} 1 0 (g.A.Actor.stands c.again.new.sequencer) (g.A.Actor.stands c.add_all-2.new.sequencer) s far c.again.new.queues c.add_all-2.new.queues (g.O.Sink.written c.args.out.now) (g.O.Sink.written c.again.new.out) (g.O.Sink.written c.add_all-2.new.out) c.add_all-2.result w
+    (c.add_all-2.ensures.held k first w.moved.state w.far b w.moved.holds))
 
 pub returns-clause-cause : goal.returns-clause-cause
 returns-clause-cause g c = append_cause_since _ _ _ _ _ _ _ _ _ c.add_all-2.result (omega arith) c.in_ok-again.ensures.later c.add_all-2.ensures.cause

@@ -1,5 +1,6 @@
-use Rattle.std.proofs.Common.{◌≡◌, sym, subst, inr, Err, true}
+use Rattle.std.proofs.Common.{◌≡◌, sym, subst, inr, Err, true, arith}
 use Rattle.std.proofs.lemmas.Result.{err_from_is_err_and}
+use Rattle.ld_rounds.specs.Drives.{IsBroken}
 use Rattle.ld_rounds.proofs.Endings.{later_on, cause_since}
 use Rattle.ld_rounds.proofs.Going.{went_as, goes_as, then_on}
 use Rattle.ld_rounds.proofs.reads.read_round.Goals as goal
@@ -9,7 +10,7 @@ returns-in_err-ask-clause-held g c k first s far b told h =
     let p = err_from_is_err_and c.from_residual.result c.from_residual.ensures.1 in
     let B = g.R.Actor.stands c.ask.new.reader in
     let T = g.N.Nodes.tells c.args.nodes.now k in
-    rw (p.1, p.2) (inr (goes_as c.args.name.now k first b {R = Unit {0}} B (λ now. now ≡ far) T s c.ask.new.queues (g.O.Sink.written c.args.out.now) (g.O.Sink.written c.ask.new.out) (Err c.in_err-ask.field-0.0) (λ f e. subst T (sym e) told)
+    rw (p.1, p.2) (inr (goes_as c.args.name.now (IsBroken (g.N.Nodes.faults c.args.nodes.now) (g.N.Nodes.faults c.args.nodes.now) (g.N.Nodes.endings c.args.nodes.now) (g.N.Nodes.endings c.args.nodes.now)) k first b {R = Unit {0}} 1 ⊥ B (λ now. now ≡ far) T s c.ask.new.queues (g.O.Sink.written c.args.out.now) (g.O.Sink.written c.ask.new.out) (Err c.in_err-ask.field-0.0) (λ x. absurd x) (λ f e. subst T (sym e) told)
     (c.in_err-ask.ensures.held k first s far b h)))
 
 pub returns-clause-held : goal.returns-clause-held
@@ -18,8 +19,8 @@ returns-clause-held g c k first s far b told h =
     let C = g.R.Actor.stands c.round.new.actor in
     let T = g.N.Nodes.tells c.args.nodes.now k in
     let U = g.N.Nodes.tells c.round.new.nodes k in
-    let w = went_as c.args.name.now k first b B (λ now. now ≡ far) T s c.ask.new.queues (g.O.Sink.written c.args.out.now) (g.O.Sink.written c.ask.new.out) (λ f e. subst T (sym e) told) (c.in_ok-ask.ensures.held k first s far b h) in
-    then_on c.args.name.now k first b {R = Unit {0}} (g.N.Nodes.silent c.round.new.nodes ≡ true) (g.N.Nodes.silent c.round.new.nodes ≡ true) B C T U s c.ask.new.queues c.round.new.queues (g.O.Sink.written c.args.out.now) (g.O.Sink.written c.ask.new.out) (g.O.Sink.written c.round.new.out) c.round.result
+    let w = went_as c.args.name.now (IsBroken (g.N.Nodes.faults c.args.nodes.now) (g.N.Nodes.faults c.round.new.nodes) (g.N.Nodes.endings c.args.nodes.now) (g.N.Nodes.endings c.round.new.nodes)) k first b ⊥ B (λ now. now ≡ far) T s c.ask.new.queues (g.O.Sink.written c.args.out.now) (g.O.Sink.written c.ask.new.out) (λ x. absurd x) (λ f e. subst T (sym e) told) (c.in_ok-ask.ensures.held k first s far b h) in
+    then_on c.args.name.now (IsBroken (g.N.Nodes.faults c.args.nodes.now) (g.N.Nodes.faults c.round.new.nodes) (g.N.Nodes.endings c.args.nodes.now) (g.N.Nodes.endings c.round.new.nodes)) k first b {R = Unit {0}} 1 0 1 (IsBroken (g.N.Nodes.faults c.args.nodes.now) (g.N.Nodes.faults c.round.new.nodes) (g.N.Nodes.endings c.args.nodes.now) (g.N.Nodes.endings c.round.new.nodes)) (IsBroken (g.N.Nodes.faults c.args.nodes.now) (g.N.Nodes.faults c.round.new.nodes) (g.N.Nodes.endings c.args.nodes.now) (g.N.Nodes.endings c.round.new.nodes)) (g.N.Nodes.silent c.round.new.nodes ≡ true) (g.N.Nodes.silent c.round.new.nodes ≡ true) B C T U s c.ask.new.queues c.round.new.queues (g.O.Sink.written c.args.out.now) (g.O.Sink.written c.ask.new.out) (g.O.Sink.written c.round.new.out) c.round.result (omega arith) (λ l. l) (λ l. l)
     (λ quiet. quiet) (λ v. c.round.ensures.held c.args.name.now k first v.moved.state v.far b v.told v.moved.holds) (inr w)
 
 pub returns-clause-cause : goal.returns-clause-cause

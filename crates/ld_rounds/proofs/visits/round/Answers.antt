@@ -1,28 +1,38 @@
-use Rattle.std.proofs.Common.{◌≡◌, sym, inr, Ok, Err, true, arith}
+use Rattle.std.proofs.Common.{◌≡◌, ◌⊎◌, ◌≤◌, ℕ, List, None, Some, length, slice_get, inl, ◌∙◌, ◌+◌, ◌∷◌, ◌++◌, [], ap, subst, take, refl, sym, inr, Err, true, arith}
 use Rattle.std.proofs.lemmas.Result.{err_from_is_err_and}
-use Rattle.std.proofs.lemmas.Option.{slice_get_within}
+use Rattle.std.proofs.lemmas.Option.{slice_get_within, slice_get_cases, get_or_from_slice_get}
+use Rattle.std.proofs.lemmas.List.{take_more, take_all}
 use Rattle.ld_ids.specs.Set.{members}
 use Rattle.ld_ids.proofs.Members.{count_bound}
+use Rattle.ld_rounds.specs.Drives.{IsBroken, WentThrough}
+use Rattle.ld_rounds.proofs.Visiting.{broken_since, broken_until, later_since}
 use Rattle.ld_rounds.proofs.Endings.{later_here, later_on, ending_since}
-use Rattle.ld_rounds.proofs.Going.{went_here, then_on}
+use Rattle.ld_rounds.proofs.Going.{went_here, then_on, through_on, through_went}
 use Rattle.ld_rounds.proofs.visits.round.Goals as goal
+
+none_past : (xs : List ℕ) (i : ℕ) → slice_get xs i ≡ None → length xs ≤ i
+none_past xs i h = elim ((slice_get_cases xs i).1) [
+  | inl w ↦ (let e : None ≡ Some w.0 = sym h ∙ w.2 in absurd cc)
+  | inr w ↦ w.0
+]
 
 pub nodes-init : goal.nodes-init
 nodes-init g c = (
-  λ name k first s far b told h. inr (went_here name k first b (g.A.Actor.stands c.args.actor.now) (g.N.Nodes.tells c.args.nodes.now k) s far c.args.queues.now (g.O.Sink.written c.args.out.now) told h),
+  λ name k first s far b told h. inr (record { went = went_here name (IsBroken (g.N.Nodes.faults c.args.nodes.now) (g.N.Nodes.faults c.args.nodes.now) (g.N.Nodes.endings c.args.nodes.now) (g.N.Nodes.endings c.args.nodes.now)) k first b (g.A.Actor.stands c.args.actor.now) (g.N.Nodes.tells c.args.nodes.now k) s far c.args.queues.now (g.O.Sink.written c.args.out.now) told h; visited = refl }),
   λ quiet. quiet,
   later_here _ _,
+  (omega arith, omega arith),
   omega arith,
 )
 
 pub returns-in_err-visit-clause-held : goal.returns-in_err-visit-clause-held
 returns-in_err-visit-clause-held g c name k first s far b told h =
     let p = err_from_is_err_and c.from_residual.result c.from_residual.ensures.1 in
-    rw (p.1, p.2) (then_on name k first b {R = Unit {0}} (g.N.Nodes.silent c.nodes.nodes ≡ true) (g.N.Nodes.silent c.visit.new.nodes ≡ true) (g.A.Actor.stands c.nodes.actor) (g.A.Actor.stands c.visit.new.actor) (g.N.Nodes.tells c.nodes.nodes k) (g.N.Nodes.tells c.visit.new.nodes k) s
-    c.nodes.queues c.visit.new.queues (g.O.Sink.written c.args.out.now) (g.O.Sink.written c.nodes.out) (g.O.Sink.written c.visit.new.out) (Err c.in_err-visit.field-0.0)
+    rw (p.1, p.2) (then_on name (IsBroken (g.N.Nodes.faults c.args.nodes.now) (g.N.Nodes.faults c.visit.new.nodes) (g.N.Nodes.endings c.args.nodes.now) (g.N.Nodes.endings c.visit.new.nodes)) k first b {R = Unit {0}} 0 0 0 (IsBroken (g.N.Nodes.faults c.args.nodes.now) (g.N.Nodes.faults c.nodes.nodes) (g.N.Nodes.endings c.args.nodes.now) (g.N.Nodes.endings c.nodes.nodes)) (IsBroken (g.N.Nodes.faults c.nodes.nodes) (g.N.Nodes.faults c.visit.new.nodes) (g.N.Nodes.endings c.nodes.nodes) (g.N.Nodes.endings c.visit.new.nodes)) (g.N.Nodes.silent c.nodes.nodes ≡ true) (g.N.Nodes.silent c.visit.new.nodes ≡ true) (g.A.Actor.stands c.nodes.actor) (g.A.Actor.stands c.visit.new.actor) (g.N.Nodes.tells c.nodes.nodes k) (g.N.Nodes.tells c.visit.new.nodes k) s
+    c.nodes.queues c.visit.new.queues (g.O.Sink.written c.args.out.now) (g.O.Sink.written c.nodes.out) (g.O.Sink.written c.visit.new.out) (Err c.in_err-visit.field-0.0) refl (broken_until _ _ _ _ _ _ c.in_err-visit.ensures.counts) (broken_since _ _ _ _ _ _ c.nodes.invariant.3)
     c.in_err-visit.ensures.silent
     (λ w. c.in_err-visit.ensures.held name k first w.moved.state w.far b w.told w.moved.holds)
-    (c.nodes.invariant.0 name k first s far b told h))
+    (through_went name (IsBroken (g.N.Nodes.faults c.args.nodes.now) (g.N.Nodes.faults c.nodes.nodes) (g.N.Nodes.endings c.args.nodes.now) (g.N.Nodes.endings c.nodes.nodes)) k first b (c.nodes.invariant.0 name k first s far b told h)))
 
 pub returns-in_err-visit-clause-cause : goal.returns-in_err-visit-clause-cause
 returns-in_err-visit-clause-cause g c =
@@ -44,13 +54,29 @@ nodes-smaller g c =
 
 pub nodes-preserved : goal.nodes-preserved
 nodes-preserved g c =
-    let within = slice_get_within (members c.args.set.now) c.nodes.place c.in-Some.node (sym c.in-Some.ensures.node) in (
-      λ name k first s far b told h. then_on name k first b {R = Unit {0}} (g.N.Nodes.silent c.nodes.nodes ≡ true) (g.N.Nodes.silent c.visit.new.nodes ≡ true) (g.A.Actor.stands c.nodes.actor) (g.A.Actor.stands c.visit.new.actor) (g.N.Nodes.tells c.nodes.nodes k) (g.N.Nodes.tells c.visit.new.nodes k) s
-          c.nodes.queues c.visit.new.queues (g.O.Sink.written c.args.out.now) (g.O.Sink.written c.nodes.out) (g.O.Sink.written c.visit.new.out) (Ok tt)
-          c.in_ok-visit.ensures.silent
+    let ms = members c.args.set.now in
+    let within = slice_get_within (members c.args.set.now) c.nodes.place c.in-Some.node (sym c.in-Some.ensures.node) in
+    let more = take_more ms c.nodes.place c.in-Some.node within ∙ ap (λ y. take c.nodes.place ms ++ y ∷ []) (get_or_from_slice_get ms c.nodes.place c.in-Some.node c.in-Some.node (sym c.in-Some.ensures.node)) in (
+      λ name k first s far b told h. through_on name (IsBroken (g.N.Nodes.faults c.args.nodes.now) (g.N.Nodes.faults c.visit.new.nodes) (g.N.Nodes.endings c.args.nodes.now) (g.N.Nodes.endings c.visit.new.nodes)) k first b (IsBroken (g.N.Nodes.faults c.args.nodes.now) (g.N.Nodes.faults c.nodes.nodes) (g.N.Nodes.endings c.args.nodes.now) (g.N.Nodes.endings c.nodes.nodes)) (IsBroken (g.N.Nodes.faults c.nodes.nodes) (g.N.Nodes.faults c.visit.new.nodes) (g.N.Nodes.endings c.nodes.nodes) (g.N.Nodes.endings c.visit.new.nodes)) (g.N.Nodes.silent c.nodes.nodes ≡ true) (g.N.Nodes.silent c.visit.new.nodes ≡ true) (g.A.Actor.stands c.nodes.actor) (g.A.Actor.stands c.visit.new.actor) (g.N.Nodes.tells c.nodes.nodes k) (g.N.Nodes.tells c.visit.new.nodes k) s
+          c.nodes.queues c.visit.new.queues (g.O.Sink.written c.args.out.now) (g.O.Sink.written c.nodes.out) (g.O.Sink.written c.visit.new.out) (take c.nodes.place ms) (take (c.nodes.place + 1) ms) c.in-Some.node
+          (broken_until _ _ _ _ _ _ c.in_ok-visit.ensures.counts) (broken_since _ _ _ _ _ _ c.nodes.invariant.3) c.in_ok-visit.ensures.silent more c.in_ok-visit.ensures.emptied
           (λ w. c.in_ok-visit.ensures.held name k first w.moved.state w.far b w.told w.moved.holds)
           (c.nodes.invariant.0 name k first s far b told h),
       λ quiet. c.in_ok-visit.ensures.silent (c.nodes.invariant.1 quiet),
       later_on _ _ _ _ _ _ c.nodes.invariant.2 c.in_ok-visit.ensures.later,
+      later_since _ _ _ _ _ _ c.nodes.invariant.3 c.in_ok-visit.ensures.counts,
       omega arith,
     )
+
+pub returns-in_err-visit-clause-counts : goal.returns-in_err-visit-clause-counts
+returns-in_err-visit-clause-counts g c = later_since _ _ _ _ _ _ c.nodes.invariant.3 c.in_err-visit.ensures.counts
+
+pub returns-clause-held : goal.returns-clause-held
+returns-clause-held g c name k first s far b told h = through_went name (IsBroken (g.N.Nodes.faults c.args.nodes.now) (g.N.Nodes.faults c.nodes.nodes) (g.N.Nodes.endings c.args.nodes.now) (g.N.Nodes.endings c.nodes.nodes)) k first b (c.nodes.invariant.0 name k first s far b told h)
+
+pub returns-clause-visited : goal.returns-clause-visited
+returns-clause-visited g c = λ name k first s far b told h.
+    let ms = members c.args.set.now in
+    let all = take_all c.nodes.place ms (none_past ms c.nodes.place (sym c.in_default.ensures.node)) in
+    subst (λ (ys : List ℕ). (g.N.Nodes.silent c.nodes.nodes ≡ true) ⊎ WentThrough ys name (IsBroken (g.N.Nodes.faults c.args.nodes.now) (g.N.Nodes.faults c.nodes.nodes) (g.N.Nodes.endings c.args.nodes.now) (g.N.Nodes.endings c.nodes.nodes)) (g.A.Actor.stands c.nodes.actor) (g.N.Nodes.tells c.nodes.nodes k) k first s c.nodes.queues (g.O.Sink.written c.args.out.now) (g.O.Sink.written c.nodes.out)) all
+    (c.nodes.invariant.0 name k first s far b told h)

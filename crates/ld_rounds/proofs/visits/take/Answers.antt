@@ -5,16 +5,16 @@ use Rattle.ld_rounds.proofs.visits.take.Goals as goal
 
 pub returns-then-not-is_of-clause-held : goal.returns-then-not-is_of-clause-held
 returns-then-not-is_of-clause-held g c name k first s far rest b e h =
-    ignored name k first b (g.A.Actor.stands c.args.actor.now) (g.met.A.Actor.stands_apart c.args.actor.now) s far c.args.queues.now c.args.answer.now rest (g.O.Sink.written c.args.out.now) e h
+    ignored name ⊥ k first b (g.A.Actor.stands c.args.actor.now) (g.met.A.Actor.stands_apart c.args.actor.now) s far c.args.queues.now c.args.answer.now rest (g.O.Sink.written c.args.out.now) e h
 
 pub returns-in_default-clause-held : goal.returns-in_default-clause-held
-returns-in_default-clause-held g c name k first s far rest b e h = stopped_here name k first b s (g.O.Sink.written c.args.out.now)
+returns-in_default-clause-held g c name k first s far rest b e h = stopped_here name ⊥ k first b s (g.O.Sink.written c.args.out.now)
 
 pub returns-clause-held : goal.returns-clause-held
 returns-clause-held g c name k first s far rest b e h =
     let old = c.args.actor.now in
     let new = c.hear.new.self in
     let heard = c.in-Ok.heard in
-    let moved = hear_first name k first b (g.A.Actor.stands old) (g.met.A.Actor.stands_apart old) (g.A.Actor.stands new) (g.met.A.Actor.stands_apart new) s far c.args.queues.now c.args.answer.now rest heard.lines.items heard.sends h e
+    let moved = hear_first name ⊥ k first b (g.A.Actor.stands old) (g.met.A.Actor.stands_apart old) (g.A.Actor.stands new) (g.met.A.Actor.stands_apart new) s far c.args.queues.now c.args.answer.now rest heard.lines.items heard.sends h e
     (λ t sound there. c.in-Ok.ensures.acted k t b sound there) in
-    goes_told name k first b (g.A.Actor.stands new) s (record far { answers = rest }) c.args.queues.now c.tell.new.queues (g.O.Sink.written c.args.out.now) (g.O.Sink.written c.tell.new.out) heard moved c.tell.result c.tell.ensures.told
+    goes_told name ⊥ k first b (g.A.Actor.stands new) s (record far { answers = rest }) c.args.queues.now c.tell.new.queues (g.O.Sink.written c.args.out.now) (g.O.Sink.written c.tell.new.out) heard moved c.tell.result c.tell.ensures.told
