@@ -1,7 +1,8 @@
 -- A reader that is driven.
-use Rattle.std.specs.Prelude.{ℕ, List}
+use Rattle.std.specs.Prelude.{ℕ, ◌≡◌, List}
 use Rattle.ld_config.specs.declared.config.Config.{Config}
 use Rattle.ld_config.specs.Bounds.{IsInBounds}
+use Rattle.ld_msg.specs.declared.msg.Msg.{Msg}
 use Rattle.ld_msg.specs.declared.msg.Who.{Who}
 use Rattle.ld_msg.specs.declared.msg.Who.TheVariants as whos
 use Rattle.ld_reader.specs.Following.{Following}
@@ -27,3 +28,7 @@ pub record AreFit (fs : List (List ℕ × Following)) : Type 0 where
 abbrev pub ToReader : Who → Type 0
 ToReader (whos.Reader r) = Unit {0}
 ToReader _ = ⊥
+
+-- it goes to some reader, and is of this log
+abbrev pub IsOf : ℕ → Msg → Type 0
+IsOf l m = ToReader m.to × (m.log ≡ l)

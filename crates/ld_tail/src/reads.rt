@@ -10,7 +10,7 @@ ghost use Rattle.ld_machine.specs.Step.{happens};
 ghost use Rattle.ld_clients.specs.Finished.{finished_in};
 ghost use Rattle.ld_clients.specs.Reads.{AreReaders};
 ghost use Rattle.ld_rounds.specs.Acts.{IsActed};
-ghost use Rattle.ld_tail.specs.Readers.{ToReader};
+ghost use Rattle.ld_tail.specs.Readers.{IsOf};
 
 use ld_clients::{Outcome, Readers};
 use ld_config::Config;
@@ -90,13 +90,6 @@ impl Reading {
         Ok((reading, told(outcome)))
     }
 
-    /// Whether the reader of the name is there and past its last number.
-    pub fn has_finished(&self, name: &Name) -> bool
-        ensures { result ≡ finished_in (find_named name.now self.now.readers) }
-    {
-        self.readers.is_finished(name)
-    }
-
     /// Opens the reader.
     fn begin(
         &mut self,
@@ -128,7 +121,7 @@ impl Reading {
 impl Actor for Reading {
     ghost stands = { λ a c s. AreReaders c s a.readers };
 
-    ghost hears = { λ a m. ToReader m.to };
+    ghost hears = { λ a m. IsOf a.log m };
 
     fn is_for(&self, message: &Msg) -> bool {
         let is_here = match &message.to {
@@ -155,7 +148,7 @@ impl Actor for Reading {
 }
 
 impl Reads for Reading {
-    ghost finished = { λ a. finished_in (find_named a.name a.readers) };
+    ghost finished = { λ a name. finished_in (find_named name a.readers) };
 
     fn poll(&mut self, alloc: Global, name: &Name) -> Result<Heard, NoMemory> {
         match self.readers.poll(alloc, name) {
@@ -167,7 +160,7 @@ impl Reads for Reading {
         }
     }
 
-    fn is_finished(&self) -> bool {
-        self.has_finished(&self.name)
+    fn is_finished(&self, name: &Name) -> bool {
+        self.readers.is_finished(name)
     }
 }

@@ -3,6 +3,7 @@ ghost use Rattle.std.specs.Prelude.{◌≡◌, ◌⊎◌, true, IfErr};
 ghost use Rattle.ld_config.specs.Bounds.{IsInBounds};
 ghost use Rattle.ld_machine.specs.State.{State};
 ghost use Rattle.ld_dial.specs.Far.{Far};
+ghost use Rattle.ld_rounds.specs.Drives.{IsBroken};
 ghost use Rattle.ld_rounds.specs.Endings.{IsEnding};
 ghost use Rattle.ld_tail.specs.Tails.{Begins, IsTailed, IsTailEnd, DroveTail};
 
@@ -29,7 +30,7 @@ fn drive<N: Nodes, O: Sink>(
 ) -> Result<bool, Ended>
     requires { IsInBounds config.now }
     ensures drove { (s : State) (far : Far) → N.tells nodes.old config.now far → Begins config.now s far
-        → (N.silent nodes.new ≡ true) ⊎ DroveTail name (N.tells nodes.new) config.now s (O.written out.old) (O.written out.new) result }
+        → (N.silent nodes.new ≡ true) ⊎ DroveTail name (IsBroken (N.faults nodes.old) (N.faults nodes.new) (N.endings nodes.old) (N.endings nodes.new)) rounds (N.tells nodes.new) config.now s (O.written out.old) (O.written out.new) result }
     ensures cause { IfErr result (IsEnding (O.faults out.old) (O.faults out.new) (O.written out.old) (O.written out.new)) }
 {
     let Ok(mut queues) = Queues::new(alloc) else {
@@ -48,9 +49,7 @@ fn drive<N: Nodes, O: Sink>(
         nodes,
         &mut queues,
         out,
-    )?;
-    // What a drive says speaks of no name: the reader is asked by its name.
-    Ok(reading.has_finished(&name))
+    )
 }
 
 /// Tails a log: a new reader of the name is opened from a number to another, both included, and so many rounds over the
@@ -70,9 +69,10 @@ pub fn tail<N: Nodes, O: Sink>(
 ) -> Ended
     requires { IsInBounds config.now }
     // Where the nodes tell what stands there: all that was done are steps of the written machine from any state without readers
-    // that the nodes stand for, and the lines that were written are the reader's lines of those steps.
+    // that the nodes stand for, and the lines that were written are the reader's lines of those steps. It polls once a round. A
+    // message to a node is lost only where a call of the nodes failed or a node had ended.
     ensures tailed { (s : State) (far : Far) → N.tells nodes.old config.now far → Begins config.now s far
-        → (N.silent nodes.new ≡ true) ⊎ IsTailed name (N.tells nodes.new) config.now s (O.written out.old) (O.written out.new) result }
+        → (N.silent nodes.new ≡ true) ⊎ IsTailed name (IsBroken (N.faults nodes.old) (N.faults nodes.new) (N.endings nodes.old) (N.endings nodes.new)) rounds (N.tells nodes.new) config.now s (O.written out.old) (O.written out.new) result }
     ensures cause { IsTailEnd (O.faults out.old) (O.faults out.new) (O.written out.old) (O.written out.new) result }
 {
     match drive(alloc, config, name, log, from, until, rounds, nodes, out) {
