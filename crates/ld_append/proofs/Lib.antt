@@ -1,2 +1,5 @@
+mod Appending
+mod Clients
 mod Ending
 mod Saying
+mod Serving

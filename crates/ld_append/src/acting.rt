@@ -1,8 +1,15 @@
 // A sequencer that is driven.
 ghost use Rattle.std.specs.Prelude.{◌≡◌, ◌≢◌, ◌≤◌, [], ◌∷◌, true, None, Some, IfOk, IfSome, OnOk};
+ghost use Rattle.ld_config.specs.declared.config.Config.{Config as Contents};
+ghost use Rattle.ld_config.specs.Bounds.{IsInBounds};
+ghost use Rattle.ld_schedule.specs.declared.event.Event.TheVariants.{Activate, Append, Retry};
+ghost use Rattle.ld_machine.specs.State.{State};
+ghost use Rattle.ld_machine.specs.Step.{happens};
+ghost use Rattle.ld_bounds.specs.Sound.{IsSound};
+ghost use Rattle.ld_rounds.specs.Acts.{IsActed};
 ghost use Rattle.ld_node_bounds.specs.Messages.{AreMessages};
 ghost use Rattle.ld_rounds.specs.Ends.{IsSaid};
-ghost use Rattle.ld_append.specs.Acting.{IsTo, settled_in};
+ghost use Rattle.ld_append.specs.Acting.{Serves, IsTo, IsSpecOf, settled_in};
 ghost use Rattle.ld_append.specs.Refusing.{fault_end, start_lines, IsTold, IsStartTold};
 
 use crate::refusing::heard;
@@ -135,6 +142,8 @@ impl<G: Register> Acting<G> {
     pub fn activate(&mut self, alloc: Global, spec: &Spec) -> Result<Heard, NoMemory>
         requires { 1 ≤ spec.now.r }
         ensures name { self.new.name ≡ self.old.name }
+        ensures activated { self.old.sequencer ≡ None → IfOk result (λ heard. (c : Contents) (s : State) → IsInBounds c → IsSpecOf c spec.now → IsSound c s → Serves self.old.name None (G.tells self.old.register) c s
+            → IsActed (Serves self.new.name self.new.sequencer (G.tells self.new.register) c) s heard.lines.items heard.sends (happens c s (Activate self.old.name spec.now.log))) }
         ensures messages { IfOk result (λ heard. AreMessages heard.sends) }
         ensures told { IfOk result (λ heard. IfSome heard.end (IsStartTold heard.lines.items)) }
     {
@@ -156,6 +165,8 @@ impl<G: Register> Acting<G> {
     /// Numbers the payload and sends it, or writes why not.
     fn add(&mut self, alloc: Global, payload: &Payload) -> Result<Appended, NoMemory>
         ensures name { self.new.name ≡ self.old.name }
+        ensures appended { IfOk result (λ appended. (c : Contents) (s : State) → Serves self.old.name self.old.sequencer (G.tells self.old.register) c s
+            → IsActed (Serves self.new.name self.new.sequencer (G.tells self.new.register) c) s appended.heard.lines.items appended.heard.sends (happens c s (Append self.old.name payload.now))) }
         ensures messages { IfOk result (λ appended. AreMessages appended.heard.sends) }
         ensures said { IfOk result (λ appended. IfSome appended.heard.end (IsSaid appended.heard.lines.items)) }
     {
@@ -190,6 +201,8 @@ impl<G: Register> Acting<G> {
     /// Sends again what is still wanted, and tries a close again.
     fn again(&mut self, alloc: Global) -> Result<Heard, NoMemory>
         ensures name { self.new.name ≡ self.old.name }
+        ensures retried { IfOk result (λ heard. (c : Contents) (s : State) → IsInBounds c → IsSound c s → Serves self.old.name self.old.sequencer (G.tells self.old.register) c s
+            → IsActed (Serves self.new.name self.new.sequencer (G.tells self.new.register) c) s heard.lines.items heard.sends (happens c s (Retry self.old.name))) }
         ensures messages { IfOk result (λ heard. AreMessages heard.sends) }
         ensures said { IfOk result (λ heard. IfSome heard.end (IsSaid heard.lines.items)) }
     {
@@ -206,6 +219,8 @@ impl<G: Register> Acting<G> {
     fn go_on(&mut self, heard: Heard) -> Heard
         requires { IfSome heard.end (IsTold heard.lines.items) }
         ensures name { self.new.name ≡ self.old.name }
+        ensures sequencer { self.new.sequencer ≡ self.old.sequencer }
+        ensures register { self.new.register ≡ self.old.register }
         ensures lines { result.lines.items ≡ heard.lines.items }
         ensures sends { result.sends ≡ heard.sends }
         ensures said { IfSome result.end (IsSaid result.lines.items) }
@@ -236,10 +251,9 @@ impl<G: Register> Acting<G> {
 }
 
 impl<G: Register> Actor for Acting<G> {
-    // What it stands for isn't stated: it stands for no state.
-    ghost stands = { λ a c s. ⊥ };
+    ghost stands = { λ a c s. Serves a.name a.sequencer (G.tells a.register) c s };
 
-    ghost stands_apart = { λ a c s nodes network h. h };
+    ghost stands_apart = { λ a c s nodes network h. record { sequencers = record { sequencers = h.sequencers.sequencers; logs = h.sequencers.logs }; whole = h.whole; register = h.register } };
 
     ghost hears = { λ a m. IsTo a.sequencer m };
 

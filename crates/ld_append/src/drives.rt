@@ -1,7 +1,13 @@
 // A sequencer is activated, and driven over payloads.
-ghost use Rattle.std.specs.Prelude.{◌≡◌, ◌≤◌, IfErr};
+ghost use Rattle.std.specs.Prelude.{◌≡◌, ◌≤◌, ◌⊎◌, ℕ, true, None, IfErr};
+ghost use Rattle.ld_config.specs.declared.config.Config.{Config as Contents};
+ghost use Rattle.ld_config.specs.Bounds.{IsInBounds};
+ghost use Rattle.ld_machine.specs.State.{State};
+ghost use Rattle.ld_dial.specs.Far.{Far};
+ghost use Rattle.ld_rounds.specs.Drives.{Holds, GoesOn, IsBroken};
 ghost use Rattle.ld_rounds.specs.Endings.{IsLater};
-ghost use Rattle.ld_append.specs.Appends.{IsStartEnding, IsDriveEnding, IsEndOfAppend, taken_end};
+ghost use Rattle.ld_append.specs.Acting.{Serves, IsSpecOf};
+ghost use Rattle.ld_append.specs.Appends.{Begins, IsAppended, DroveAppend, IsStartEnding, IsDriveEnding, IsEndOfAppend, taken_end};
 
 use crate::Acting;
 use ld_config::Config;
@@ -21,6 +27,8 @@ fn start<G: Register, O: Sink>(
     out: &mut O,
 ) -> Result<(), Ended>
     requires { 1 ≤ spec.now.r }
+    ensures started { acting.old.sequencer ≡ None → (c : Contents) (first : ℕ) (s : State) (far : Far) → IsInBounds c → IsSpecOf c spec.now → Holds (Serves acting.old.name None (G.tells acting.old.register)) c first s far queues.old
+        → GoesOn acting.old.name ⊥ 0 (Serves acting.new.name acting.new.sequencer (G.tells acting.new.register)) (λ now. now ≡ far) c first s queues.new (O.written out.old) (O.written out.new) result }
     ensures cause { IfErr result (IsStartEnding (O.faults out.old) (O.faults out.new) (O.written out.old) (O.written out.new)) }
     ensures later { IsLater (O.faults out.old) (O.faults out.new) (O.written out.old) (O.written out.new) }
 {
@@ -43,6 +51,9 @@ fn drive<G: Register, N: Nodes, P: Payloads, O: Sink>(
     out: &mut O,
 ) -> Result<bool, Ended>
     requires { 1 ≤ spec.now.r }
+    ensures drove { acting.old.name ≡ name.now → acting.old.sequencer ≡ None → (s : State) (far : Far) → IsInBounds config.now → IsSpecOf config.now spec.now → N.tells nodes.old config.now far → Begins (G.tells acting.old.register) config.now s far
+        → (N.silent nodes.new ≡ true) ⊎ DroveAppend name.now (IsBroken (N.faults nodes.old) (N.faults nodes.new) (N.endings nodes.old) (N.endings nodes.new)) rounds (N.tells nodes.new) (G.tells acting.new.register) config.now s (O.written out.old) (O.written out.new) result }
+    ensures itself { P.identity input.new ≡ P.identity input.old }
     ensures cause { IfErr result (IsDriveEnding (P.faults input.old) (P.faults input.new) (O.faults out.old) (O.faults out.new) (O.written out.old) (O.written out.new)) }
 {
     let Ok(mut queues) = Queues::new(alloc) else {
@@ -84,6 +95,13 @@ pub fn append<G: Register, N: Nodes, P: Payloads, O: Sink>(
     out: &mut O,
 ) -> (Ended, G)
     requires { 1 ≤ spec.now.r }
+    // Where the nodes and the register tell what stands there: all that was done are steps of the written machine from any state
+    // without sequencers that they stand for, and the lines that were written are the sequencer's lines of those steps. It sends
+    // again before each round but the first. A message to a node is lost only where a call of the nodes failed or a node had
+    // ended.
+    ensures appended { (s : State) (far : Far) → IsInBounds config.now → IsSpecOf config.now spec.now → N.tells nodes.old config.now far → Begins (G.tells register) config.now s far
+        → (N.silent nodes.new ≡ true) ⊎ IsAppended name (IsBroken (N.faults nodes.old) (N.faults nodes.new) (N.endings nodes.old) (N.endings nodes.new)) rounds (N.tells nodes.new) (G.tells result.1) config.now s (O.written out.old) (O.written out.new) result.0 }
+    ensures itself { P.identity input.new ≡ P.identity input.old }
     ensures cause { IsEndOfAppend (P.faults input.old) (P.faults input.new) (O.faults out.old) (O.faults out.new) (O.written out.old) (O.written out.new) result.0 }
 {
     let Ok(its_name) = name.copy(alloc) else {
