@@ -15,6 +15,8 @@ mod lines;
 mod lookup;
 mod nodes;
 mod take;
+#[cfg(test)]
+mod tests;
 mod ticks;
 
 pub use cluster::Cluster;

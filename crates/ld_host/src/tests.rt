@@ -169,56 +169,35 @@ fn cut_at(
     Ok((kept, sent, entries(alloc, host)?))
 }
 
-fn cut(alloc: Global, call: u64, crash: Option<Picture>) -> Result<(Kept, usize, usize), NoMemory>
-    requires { 1 ≤ call }
-{
+/// The same for a new host.
+fn cut(alloc: Global, call: u64, crash: Option<Picture>) -> Result<(Kept, usize, usize), NoMemory> {
     let mut host = Host::new(alloc, node_of(1)?)?;
-    cut_at(alloc, &mut host, call, crash)
+    cut_at(alloc, &mut host, call.max(1), crash)
 }
 
-const WRITTEN: (Kept, usize, usize) = (Kept::Written, 1, 1);
-
-const GONE: (Kept, usize, usize) = (Kept::Crashed, 0, 0);
-
-const THERE: (Kept, usize, usize) = (Kept::Crashed, 0, 1);
-
-#[test]
-fn a_store_that_is_written_is_answered(rt: HostRuntime) -> Result<(), Fail> {
-    assert_eq!(rt; cut(rt.alloc(), 10, None)?, WRITTEN);
-    assert_eq!(rt; cut(rt.alloc(), 10, Some(Picture::Old))?, WRITTEN);
-    Ok(())
-}
-
-#[test]
-fn a_store_that_fails_is_there_after_its_gate(rt: HostRuntime) -> Result<(), Fail> {
-    assert_eq!(rt; cut(rt.alloc(), 1, None)?, (Kept::Failed, 0, 0));
-    assert_eq!(rt; cut(rt.alloc(), 3, None)?, (Kept::Failed, 0, 0));
-    assert_eq!(rt; cut(rt.alloc(), 4, None)?, (Kept::Failed, 0, 1));
-    Ok(())
-}
+/// How a store ends whose record's call of a count fails, or crashes with a picture: how many messages are sent, and
+/// how many entries are found after a load. The record has four writing calls: the third writes its gate.
+const CUTS: [(u64, Option<Picture>, (Kept, usize, usize)); 13] = [
+    (10, None, (Kept::Written, 1, 1)),
+    (10, Some(Picture::Old), (Kept::Written, 1, 1)),
+    (1, None, (Kept::Failed, 0, 0)),
+    (3, None, (Kept::Failed, 0, 0)),
+    (4, None, (Kept::Failed, 0, 1)),
+    (1, Some(Picture::Old), (Kept::Crashed, 0, 0)),
+    (2, Some(Picture::New), (Kept::Crashed, 0, 0)),
+    (3, Some(Picture::Old), (Kept::Crashed, 0, 0)),
+    (3, Some(Picture::New), (Kept::Crashed, 0, 1)),
+    (3, Some(Picture::Byte(1)), (Kept::Crashed, 0, 1)),
+    (3, Some(Picture::Byte(9)), (Kept::Crashed, 0, 0)),
+    (4, Some(Picture::New), (Kept::Crashed, 0, 1)),
+    (4, Some(Picture::Byte(0)), (Kept::Crashed, 0, 0)),
+];
 
 #[test]
-fn a_crash_in_the_body_leaves_nothing(rt: HostRuntime) -> Result<(), Fail> {
-    assert_eq!(rt; cut(rt.alloc(), 1, Some(Picture::Old))?, GONE);
-    assert_eq!(rt; cut(rt.alloc(), 1, Some(Picture::Byte(1)))?, GONE);
-    assert_eq!(rt; cut(rt.alloc(), 2, Some(Picture::New))?, GONE);
-    Ok(())
-}
-
-#[test]
-fn the_picture_of_the_gate_decides(rt: HostRuntime) -> Result<(), Fail> {
-    assert_eq!(rt; cut(rt.alloc(), 3, Some(Picture::Old))?, GONE);
-    assert_eq!(rt; cut(rt.alloc(), 3, Some(Picture::New))?, THERE);
-    assert_eq!(rt; cut(rt.alloc(), 3, Some(Picture::Byte(1)))?, THERE);
-    assert_eq!(rt; cut(rt.alloc(), 3, Some(Picture::Byte(9)))?, GONE);
-    Ok(())
-}
-
-#[test]
-fn the_picture_of_the_last_sync_decides(rt: HostRuntime) -> Result<(), Fail> {
-    assert_eq!(rt; cut(rt.alloc(), 4, Some(Picture::Old))?, GONE);
-    assert_eq!(rt; cut(rt.alloc(), 4, Some(Picture::New))?, THERE);
-    assert_eq!(rt; cut(rt.alloc(), 4, Some(Picture::Byte(0)))?, GONE);
+fn a_store_is_there_where_its_gate_is_open(rt: HostRuntime) -> Result<(), Fail> {
+    for (call, crash, expected) in CUTS {
+        assert_eq!(rt; cut(rt.alloc(), call, crash), Ok(expected));
+    }
     Ok(())
 }
 
