@@ -50,7 +50,9 @@ pub fn tell(
                 "ld: preempted by {by}: another sequencer has taken the log over in that epoch"
             )
         }
-        Status::LogLimit => eprintln!(rt; "ld: the register holds 64 other logs, which is all that it can"),
+        Status::LogLimit => eprintln!(rt;
+            "ld: the register holds 64 other logs, which is all that it can"
+        ),
         Status::EpochLimit => eprintln!(rt; "ld: the log's epochs are used up"),
         Status::EpochFull => eprintln!(rt; "ld: the epoch is full: it has 2^32-2 places"),
     }

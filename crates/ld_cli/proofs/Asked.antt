@@ -2,9 +2,11 @@
 use Rattle.std.proofs.Common.{◌≡◌, List, Option, None, Some, ap, subst}
 use Rattle.std.specs.Prelude.{MatchOption}
 use Rattle.clap.specs.Walk.{Text}
+use Rattle.ld_words.specs.declared.command.LogWords.{LogWords}
 use Rattle.ld_words.specs.declared.command.NodeWords.{NodeWords}
+use Rattle.ld_words.specs.declared.command.TailWords.{TailWords}
 use Rattle.ld_words.specs.declared.command.Command.{Command}
-use Rattle.ld_words.specs.declared.command.Command.TheVariants.{Node}
+use Rattle.ld_words.specs.declared.command.Command.TheVariants.{Node, Append, Tail}
 use Rattle.ld_words.specs.Meaning.{Asks, IsNoCommand}
 use Rattle.ld_words.proofs.OneCommand.{one_command}
 
@@ -22,3 +24,17 @@ node_or other _ = other
 
 pub one_node : (m n : NodeWords) → Node m ≡ Node n → m ≡ n
 one_node m n same = ap (node_or m) same
+
+abbrev log_or : LogWords → Command → LogWords
+log_or other (Append w) = w
+log_or other _ = other
+
+pub one_append : (v w : LogWords) → Append v ≡ Append w → v ≡ w
+one_append v w same = ap (log_or v) same
+
+abbrev tail_or : TailWords → Command → TailWords
+tail_or other (Tail t) = t
+tail_or other _ = other
+
+pub one_tail : (t u : TailWords) → Tail t ≡ Tail u → t ≡ u
+one_tail t u same = ap (tail_or t) same

@@ -1,15 +1,18 @@
 -- How `append` and `tail` end, by their status.
-use Rattle.std.specs.Prelude.{ℕ, ◌≡◌, ◌≤◌, ◌<◌, ◌++◌, ◌⊎◌, List, Option, Some, Bool, true, false, if◌then◌else◌}
-use Rattle.std.specs.Io.KnownBytes.{prepend_known}
+use Rattle.std.specs.Prelude.{ℕ, ◌≤◌, ◌<◌, ◌⊎◌, List, Bool, if◌then◌else◌}
+use Rattle.ld_io.specs.Causes.{Rose}
 use Rattle.ld_serve.specs.declared.stop.Which.TheVariants as journals
 use Rattle.ld_words.specs.declared.command.Command.{Command}
 use Rattle.ld_words.specs.declared.command.Command.TheVariants.{Append, Tail}
 use Rattle.ld_words.specs.Meaning.{Asks}
 use Rattle.clap.specs.Walk.{Text}
+use Rattle.ld_msg.specs.Register.{Register}
+use Rattle.ld_register.specs.declared.fault.RegisterFault.{RegisterFault}
+use Rattle.ld_register.specs.declared.fault.RegisterFault.TheVariants as registers
+use Rattle.ld_rounds.specs.declared.ended.Refusal.{Refusal}
 use Rattle.ld_rounds.specs.declared.ended.Refusal.TheVariants as refusals
 use Rattle.ld_rounds.specs.declared.ended.Ended.{Ended}
 use Rattle.ld_rounds.specs.declared.ended.Ended.TheVariants as ends
-use Rattle.ld_append.specs.Causes.{Mark, IsAppendEnd}
 use Rattle.ld_cli.specs.declared.status.Status.{Status}
 use Rattle.ld_cli.specs.declared.status.Status.TheVariants as statuses
 
@@ -59,14 +62,24 @@ EndsDrive before now P statuses.Write = P ends.Write
 EndsDrive before now P statuses.NoMemory = P ends.NoMemory
 EndsDrive before now P _ = ⊥
 
--- the register is looked at before anything else: where that is refused, nothing was done
-abbrev pub OrNothing : (Ended → Type 0) → Type 0 → Ended → Type 0
-OrNothing P nothing (ends.Register refusal) = P (ends.Register refusal) ⊎ nothing
-OrNothing P nothing ends.NoMemory = P ends.NoMemory ⊎ nothing
-OrNothing P nothing ended = P ended
+-- why a look at the register is refused: a call of it failed, or its bytes are no journal from that place on, where that is told; the register's count of faults before and now
+abbrev pub IsUnseen : ℕ → ℕ → Type 0 → (ℕ → Type 0) → Refusal → Type 0
+IsUnseen before now told damaged refusals.Failed = Rose before now
+IsUnseen before now told damaged (refusals.Damaged place) = told → damaged place
+IsUnseen before now told damaged refusals.Full = ⊥
 
--- as the drive of a sequencer ends: of the input's counts of faults, what was left of it and is left now, the output's counts, and what was written; some bytes were read ahead
-pub record EndsAppend (reads reads_now : ℕ) (left left_now : Option (List ℕ)) (writes writes_now : ℕ) (written written_now : Option (List ℕ)) (ended : Ended) : Type 0 where
-  pub ahead : List ℕ
-  pub ends : IsAppendEnd (record { reads = reads; left = left; writes = writes; written = written })
-      (record { reads = reads_now; left = prepend_known ahead left_now; writes = writes_now; written = written_now }) ended
+-- the register is looked at before anything else: where that is refused so, nothing was done
+abbrev pub OrNothing : (Ended → Type 0) → (Refusal → Type 0) → Type 0 → Ended → Type 0
+OrNothing P unseen nothing (ends.Register refusal) = P (ends.Register refusal) ⊎ (nothing × unseen refusal)
+OrNothing P unseen nothing ends.NoMemory = P ends.NoMemory ⊎ nothing
+OrNothing P unseen nothing ended = P ended
+
+-- the status of a look at the register that was refused
+abbrev pub refused_by : RegisterFault → Status
+refused_by registers.NoMemory = statuses.NoMemory
+refused_by (registers.Damaged place) = statuses.Damaged journals.Register place
+refused_by _ = statuses.Register
+
+-- nothing is said of what the register holds
+abbrev pub Unsaid : Register → Type 0
+Unsaid r = Unit {0}

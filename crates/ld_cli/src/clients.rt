@@ -1,54 +1,65 @@
 // A log is appended to or read, over its nodes.
-ghost use Rattle.std.specs.Prelude.{◌≡◌, ◌⊎◌, ◌<◌, ◌≤◌, ℕ, Bool, true, codes, IfOk};
+ghost use Rattle.std.specs.Prelude.{◌≡◌, ◌≤◌, ◌⊎◌, [], ◌∷◌, nat_lt, true, codes, IfOk};
+ghost use Rattle.ld_config.specs.Bounds.{IsInBounds};
 ghost use Rattle.ld_machine.specs.State.{State};
 ghost use Rattle.ld_dial.specs.Far.{Far};
 ghost use Rattle.ld_words.specs.Bounds.{IsTailInBounds, IsLogInBounds};
+ghost use Rattle.ld_rounds.specs.Drives.{IsBroken};
+ghost use Rattle.ld_append.specs.Acting.{IsSpecOf};
+ghost use Rattle.ld_append.specs.Appends.{Begins as BeginsAppend, IsAppended, IsEndOfAppend};
 ghost use Rattle.ld_tail.specs.Tails.{Begins, IsTailed, IsTailEnd};
-ghost use Rattle.ld_cli.specs.Clients.{status_of as told, EndsDrive, EndsAppend, OrNothing};
-ghost use Rattle.ld_cli.specs.Serving.{DiskFaults};
+ghost use Rattle.ld_cli.specs.Clients.{status_of as told, refused_by, EndsDrive, IsUnseen, OrNothing, Unsaid};
 
-use crate::payloads::PayloadLines;
+use crate::payloads::{Held, PayloadLines};
 use crate::status::Status;
 use ld_append::append;
 use ld_clients::find_spec;
 use ld_dial::Nodes;
-use ld_tail::tail;
-use ld_ids::{Name, NoMemory};
+use ld_ids::{Name, NoMemory, Spec};
 use ld_io::{Sink, Source};
 use ld_register::{Register, RegisterFault};
 use ld_rounds::{Ended, Refusal};
 use ld_serve::Which;
+use ld_tail::tail;
 use ld_words::{LogWords, TailWords};
 use std::alloc::Global;
 
 /// The name of this one byte.
-fn name_of(alloc: Global, byte: u8) -> Result<Name, NoMemory> {
+fn name_of(alloc: Global, byte: u8) -> Result<Name, NoMemory>
+    ensures { IfOk result (λ name. name ≡ byte ∷ []) }
+{
     let mut bytes = Vec::new(alloc);
     bytes.push(byte)?;
     Ok(Name::new(bytes))
 }
 
-/// The status of a refusal of the register.
-fn refused(fault: RegisterFault) -> Status {
+/// The status of a refusal of the register to be looked at.
+fn refused(fault: RegisterFault) -> Status
+    ensures { result ≡ refused_by fault }
+{
     match fault {
         RegisterFault::NoMemory => Status::NoMemory,
         RegisterFault::Damaged(place) => Status::Damaged {
             which: Which::Register,
             place,
         },
-        _ => Status::Register,
+        RegisterFault::Failed
+        | RegisterFault::LogLimit
+        | RegisterFault::Behind(_)
+        | RegisterFault::EpochLimit
+        | RegisterFault::GenLimit
+        | RegisterFault::Full => Status::Register,
     }
 }
 
-/// The status of an end; `has_risen` says whether the nodes' count of failures rose.
-fn status_of(ended: Ended, has_risen: bool) -> Status
-    ensures status { result ≡ told ended has_risen }
-    ensures disk { (before now : ℕ) → now ≡ before → DiskFaults before now result }
+/// The status of an end, by the nodes' count of failures before and now.
+fn status_of(ended: Ended, before: u64, now: u64) -> Status
+    ensures { result ≡ told ended (nat_lt before now) }
 {
     match ended {
         Ended::Done => Status::Ok,
         Ended::Rounds => {
-            if has_risen {
+            if before < now {
                 Status::Link
             } else {
                 Status::NotDone
@@ -73,6 +84,44 @@ fn status_of(ended: Ended, has_risen: bool) -> Status
         Ended::NoMemory => Status::NoMemory,
     }
 }
+
+/// Appends the payloads of the lines to the log of this spec, and says how that ended.
+fn append_lines<I: Source, O: Sink, G: Register, N: Nodes>(
+    alloc: Global,
+    words: &LogWords,
+    spec: &Spec,
+    name: Name,
+    lines: &mut PayloadLines<I>,
+    out: &mut O,
+    reg: &mut G,
+    nodes: &mut N,
+) -> Status
+    requires { 1 ≤ spec.now.r }
+    ensures appended { (s : State) (far : Far) → IsInBounds words.now.config → IsSpecOf words.now.config spec.now → N.tells nodes.old words.now.config far → BeginsAppend (G.tells reg.old) words.now.config s far
+        → (N.silent nodes.new ≡ true) ⊎ EndsDrive (N.faults nodes.old) (N.faults nodes.new)
+        (IsAppended name (IsBroken (N.faults nodes.old) (N.faults nodes.new) (N.endings nodes.old) (N.endings nodes.new)) words.now.rounds (N.tells nodes.new) Unsaid words.now.config s (O.written out.old) (O.written out.new)) result }
+    ensures itself { lines.new.input.ghost_name ≡ lines.old.input.ghost_name }
+    ensures ends { EndsDrive (N.faults nodes.old) (N.faults nodes.new)
+        (IsEndOfAppend (I.faults lines.old.input.now) (I.faults lines.new.input.now) (O.faults out.old) (O.faults out.new) (O.written out.old) (O.written out.new)) result }
+{
+    let before = nodes.failures();
+    let (ended, _) = append(
+        alloc,
+        &words.config,
+        spec,
+        name,
+        u64::from(words.rounds),
+        reg,
+        nodes,
+        lines,
+        out,
+    );
+    let now = nodes.failures();
+    status_of(ended, before, now)
+}
+
+/// Appends the payloads of the input to the log that the words name.
+#[tactic(auto, using(ld_clients::proofs::Bounds::copies_in))]
 pub(crate) fn appended<I: Source, O: Sink, G: Register, N: Nodes>(
     alloc: Global,
     words: &LogWords,
@@ -80,38 +129,45 @@ pub(crate) fn appended<I: Source, O: Sink, G: Register, N: Nodes>(
     out: &mut O,
     reg: &mut G,
     nodes: &mut N,
-) -> Status {
+) -> Status
+    requires bounds { IsLogInBounds words.now }
+    ensures appended { (s : State) (far : Far) → N.tells nodes.old words.now.config far → BeginsAppend (G.tells reg.old) words.now.config s far
+        → (N.silent nodes.new ≡ true) ⊎ EndsDrive (N.faults nodes.old) (N.faults nodes.new)
+        (IsAppended (codes "s") (IsBroken (N.faults nodes.old) (N.faults nodes.new) (N.endings nodes.old) (N.endings nodes.new)) words.now.rounds (N.tells nodes.new) Unsaid words.now.config s (O.written out.old) (O.written out.new)) result }
+    ensures ends { EndsDrive (N.faults nodes.old) (N.faults nodes.new)
+        (IsEndOfAppend (I.faults input.old) (I.faults input.new) (O.faults out.old) (O.faults out.new) (O.written out.old) (O.written out.new)) result }
+{
     let Ok(name) = name_of(alloc, b's') else {
         return Status::NoMemory;
     };
     let Some(spec) = find_spec(&words.config, words.log) else {
-        return Status::Usage;
+        unreachable!();
     };
-    let Ok(mut lines) = PayloadLines::new(alloc, input) else {
+    let Ok(mut held) = Held::new(alloc) else {
         return Status::NoMemory;
     };
-    let before = nodes.failures();
-    let (ended, _) = append(
-        alloc,
-        &words.config,
-        &spec,
-        name,
-        u64::from(words.rounds),
-        reg,
-        nodes,
-        &mut lines,
-        out,
-    );
-    status_of(ended, nodes.failures() > before)
+    let mut lines = PayloadLines {
+        held: &mut held,
+        input,
+    };
+    append_lines(alloc, words, &spec, name, &mut lines, out, reg, nodes)
 }
 
+/// Reads the log that the words name, once the register was looked at.
 pub(crate) fn tailed<O: Sink, G: Register, N: Nodes>(
     alloc: Global,
     words: &TailWords,
     out: &mut O,
     reg: &mut G,
     nodes: &mut N,
-) -> Status {
+) -> Status
+    requires bounds { IsTailInBounds words.now }
+    ensures tailed { (s : State) (far : Far) → N.tells nodes.old words.now.of.config far → Begins words.now.of.config s far
+        → (N.silent nodes.new ≡ true) ⊎ EndsDrive (N.faults nodes.old) (N.faults nodes.new)
+        (OrNothing (IsTailed (codes "r") (IsBroken (N.faults nodes.old) (N.faults nodes.new) (N.endings nodes.old) (N.endings nodes.new)) words.now.of.rounds (N.tells nodes.new) words.now.of.config s (O.written out.old) (O.written out.new)) (IsUnseen (G.faults reg.old) (G.faults reg.new) (G.told reg.old) (G.damaged reg.old)) ((nodes.new ≡ nodes.old) × (out.new ≡ out.old))) result }
+    ensures ends { EndsDrive (N.faults nodes.old) (N.faults nodes.new)
+        (OrNothing (IsTailEnd (O.faults out.old) (O.faults out.new) (O.written out.old) (O.written out.new)) (IsUnseen (G.faults reg.old) (G.faults reg.new) (G.told reg.old) (G.damaged reg.old)) ((nodes.new ≡ nodes.old) × (out.new ≡ out.old))) result }
+{
     let Ok(name) = name_of(alloc, b'r') else {
         return Status::NoMemory;
     };
@@ -130,5 +186,6 @@ pub(crate) fn tailed<O: Sink, G: Register, N: Nodes>(
         nodes,
         out,
     );
-    status_of(ended, nodes.failures() > before)
+    let now = nodes.failures();
+    status_of(ended, before, now)
 }

@@ -1,43 +1,47 @@
 // The payloads that the lines of the input spell.
-ghost use Rattle.std.specs.Prelude.{◌≡◌, []};
-ghost use Rattle.std.specs.Prelude.{IfOk, MatchResult};
+ghost use Rattle.std.specs.Prelude.{◌≡◌, ◌≤◌, IfErr};
+ghost use Rattle.std.specs.Prelude.{MatchResult};
 ghost use Rattle.ld_ids.specs.Bytes.{AreBytes, hex_text};
 ghost use Rattle.ld_schedule.specs.Reading.{IsOff};
+ghost use Rattle.ld_rounds.specs.Input.{IsReadFault};
 ghost use Rattle.ld_cli.specs.Payloads.{IsUnspelt};
 
 use crate::input::Buffer;
 use crate::lines::{Ending, LONGEST, next_line};
 use crate::status::Stop;
-use ld_append::{InputFault, Payloads};
 use ld_ids::{NoMemory, Payload};
 use ld_io::Source;
+use ld_rounds::{InputFault, Payloads};
 use ld_schedule::{LineFault, parse_payload};
 use std::alloc::Global;
 
-/// The lines of an input, each of which is to spell a payload.
+/// What was read of an input and not taken, its last line, and how many lines were begun.
 #[derive(Drop)]
-pub(crate) struct PayloadLines<'a, I: Source> {
+pub(crate) struct Held {
     buffer: Buffer,
-    input: &'a mut I,
     line: Vec<u8>,
     number: u64,
 }
 
-impl<'a, I: Source> PayloadLines<'a, I> {
-    /// The lines of the input, of which none was taken.
-    pub(crate) fn new(alloc: Global, input: &'a mut I) -> Result<PayloadLines<'a, I>, NoMemory>
-        ensures { IfOk result (λ lines. (lines.buffer ≡ []) × (lines.input ≡ input)) }
-    {
+impl Held {
+    /// Nothing was read yet.
+    pub(crate) fn new(alloc: Global) -> Result<Held, NoMemory> {
         let Ok(buffer) = Buffer::new(alloc) else {
             return Err(NoMemory);
         };
-        Ok(PayloadLines {
+        Ok(Held {
             buffer,
-            input,
             line: Vec::new(alloc),
             number: 0,
         })
     }
+}
+
+/// The lines of an input, each of which is to spell a payload. It owns no memory, so that the input is seen to come back.
+#[derive(Drop)]
+pub(crate) struct PayloadLines<'a, I: Source> {
+    pub(crate) held: &'a mut Held,
+    pub(crate) input: &'a mut I,
 }
 
 /// The payload that a line spells, or the place where it is off.
@@ -56,18 +60,18 @@ fn spelt(alloc: Global, line: &[u8], number: u64) -> Result<Payload, InputFault>
     }
 }
 
-impl<'a, I: Source> Payloads for PayloadLines<'a, I> {
-    ghost use Rattle.std.specs.Io.KnownBytes.{prepend_known};
-
-    ghost left = { λ p. prepend_known p.buffer (I.left p.input.now) };
-
-    ghost faults = { λ p. I.faults p.input.now };
-
-    ghost identity = { λ p. p.input.ghost_name };
-
-    fn next(&mut self, alloc: Global) -> Result<Option<Payload>, InputFault> {
+impl Held {
+    /// Takes the next payload of the input; none is at its end.
+    fn next<I: Source>(
+        &mut self,
+        alloc: Global,
+        input: &mut I,
+    ) -> Result<Option<Payload>, InputFault>
+        ensures later { I.faults input.old ≤ I.faults input.new }
+        ensures cause { IfErr result (IsReadFault (I.faults input.old) (I.faults input.new)) }
+    {
         self.number = self.number.saturating_add(1);
-        match next_line(&mut self.buffer, self.input, &mut self.line) {
+        match next_line(&mut self.buffer, input, &mut self.line) {
             Ok(Ending::Line) => {
                 let payload = spelt(alloc, &self.line, self.number)?;
                 Ok(Some(payload))
@@ -84,5 +88,19 @@ impl<'a, I: Source> Payloads for PayloadLines<'a, I> {
             Err(Stop::Read) => Err(InputFault::Read),
             Err(_) => Err(InputFault::NoMemory),
         }
+    }
+}
+
+impl<'a, I: Source> Payloads for PayloadLines<'a, I> {
+    ghost use Rattle.std.specs.Prelude.{None};
+
+    ghost coming = { λ _. None };
+
+    ghost faults = { λ p. I.faults p.input.now };
+
+    ghost identity = { λ p. p.input.ghost_name };
+
+    fn next(&mut self, alloc: Global) -> Result<Option<Payload>, InputFault> {
+        self.held.next(alloc, self.input)
     }
 }

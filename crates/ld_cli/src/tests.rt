@@ -1,5 +1,6 @@
 // Commands over what is in memory.
 use super::*;
+use ld_dial::Framed;
 use ld_disk::MemDisk;
 use ld_io::{MemSink, MemSource};
 use ld_link::MemLink;
@@ -66,6 +67,7 @@ fn performed(
 ) -> Result<(Status, Vec<u8>), Fail> {
     let words = strings(alloc, words)?;
     let mut o = outside_with(alloc, no_peer(alloc)?)?;
+    let mut nodes = Framed::new(alloc, no_peer(alloc)?);
     let status = run(
         alloc,
         &words,
@@ -74,6 +76,7 @@ fn performed(
         &mut o.store,
         &mut o.register,
         &mut o.link,
+        &mut nodes,
     );
     Ok((status, Vec::from_slice(alloc, out.bytes())?))
 }
@@ -199,6 +202,7 @@ fn served(alloc: Global, words: &[String]) -> Result<(Status, Vec<u8>), Fail> {
     let mut input = source(alloc, b"", &[])?;
     let mut out = sink(alloc, &[])?;
     let mut o = outside_with(alloc, one_peer(alloc, ASK)?)?;
+    let mut nodes = Framed::new(alloc, no_peer(alloc)?);
     let status = run(
         alloc,
         words,
@@ -207,6 +211,7 @@ fn served(alloc: Global, words: &[String]) -> Result<(Status, Vec<u8>), Fail> {
         &mut o.store,
         &mut o.register,
         &mut o.link,
+        &mut nodes,
     );
     let sent = o.link.sent(0).unwrap_or(b"");
     Ok((status, Vec::from_slice(alloc, sent)?))
@@ -222,5 +227,27 @@ fn a_node_answers_a_peer(rt: HostRuntime) -> Result<(), Fail> {
     let (status, sent) = served(rt.alloc(), &words)?;
     assert_eq!(rt; status, Status::Ok);
     assert!(rt; sent.as_slice() == ENDED);
+    Ok(())
+}
+
+/// The words of a sequencer that appends for one round.
+const APPEND: [&str; 11] = [
+    "append",
+    "--config",
+    "{\"nodes\":[1],\"logs\":[{\"id\":1,\"set\":[1],\"r\":1}]}",
+    "--log",
+    "1",
+    "--register",
+    "register",
+    "--port",
+    "1",
+    "--rounds",
+    "1",
+];
+
+#[test]
+fn an_append_that_reaches_no_node_isnt_done(rt: HostRuntime) -> Result<(), Fail> {
+    let (status, _) = alone(rt.alloc(), &APPEND)?;
+    assert_eq!(rt; status, Status::Link);
     Ok(())
 }

@@ -18,8 +18,10 @@ ghost use Rattle.ld_words.specs.declared.command.Command.TheVariants.{Replay, Ex
 ghost use Rattle.ld_words.specs.Meaning.{Asks, IsNoCommand, HasNoPlaces, AskForNoPlaces};
 ghost use Rattle.ld_machine.specs.State.{State};
 ghost use Rattle.ld_dial.specs.Far.{Far};
+ghost use Rattle.ld_rounds.specs.Drives.{IsBroken};
+ghost use Rattle.ld_append.specs.Appends.{Begins as BeginsAppend, IsAppended, IsEndOfAppend};
 ghost use Rattle.ld_tail.specs.Tails.{Begins, IsTailed, IsTailEnd};
-ghost use Rattle.ld_cli.specs.Clients.{Drives, AskForNoDrive, EndsDrive, EndsAppend, OrNothing};
+ghost use Rattle.ld_cli.specs.Clients.{Drives, AskForNoDrive, EndsDrive, IsUnseen, OrNothing, Unsaid};
 ghost use Rattle.ld_cli.specs.Ends.{EndsBy, IsSchedule, Completes};
 ghost use Rattle.ld_cli.specs.Exercise.{EndsExercise};
 ghost use Rattle.ld_cli.specs.Serving.{EndsServing, DiskFaults, RegisterFaults, LinkFaults};
@@ -87,17 +89,23 @@ pub fn run<I: Source, O: Sink, D: Disk, G: Register, L: Link, N: Nodes>(
     // `tail`: where the nodes tell what stands there, from any sound state of the written machine with these nodes and without
     // readers: each step of the drive is one of the machine, and what was written are the reader's lines of those steps. At
     // the status Ok the reader of the state that was reached is past its last number; at NoMemory and Write the last step may
-    // be done in part. The register is looked at first: where that is refused nothing was done.
+    // be done in part. The register is looked at first: where a call of it fails, or its bytes are no journal, nothing was done.
     ensures tailed { (t : TailWanted) (s : State) (far : Far) → Asks (map string_bytes words.now) (Tail t) → N.tells nodes.old t.of.config far → Begins t.of.config s far
         → (N.silent nodes.new ≡ true) ⊎ EndsDrive (N.faults nodes.old) (N.faults nodes.new)
-        (OrNothing (IsTailed (codes "r") (N.tells nodes.new) t.of.config s (O.written out.old) (O.written out.new)) ((nodes.new ≡ nodes.old) × (out.new ≡ out.old))) result }
+        (OrNothing (IsTailed (codes "r") (IsBroken (N.faults nodes.old) (N.faults nodes.new) (N.endings nodes.old) (N.endings nodes.new)) t.of.rounds (N.tells nodes.new) t.of.config s (O.written out.old) (O.written out.new)) (IsUnseen (G.faults reg.old) (G.faults reg.new) (G.told reg.old) (G.damaged reg.old)) ((nodes.new ≡ nodes.old) × (out.new ≡ out.old))) result }
     // Whatever they tell, each status has its cause.
     ensures tail_ends { (t : TailWanted) → Asks (map string_bytes words.now) (Tail t) → EndsDrive (N.faults nodes.old) (N.faults nodes.new)
-        (OrNothing (IsTailEnd (O.faults out.old) (O.faults out.new) (O.written out.old) (O.written out.new)) ((nodes.new ≡ nodes.old) × (out.new ≡ out.old))) result }
+        (OrNothing (IsTailEnd (O.faults out.old) (O.faults out.new) (O.written out.old) (O.written out.new)) (IsUnseen (G.faults reg.old) (G.faults reg.new) (G.told reg.old) (G.damaged reg.old)) ((nodes.new ≡ nodes.old) × (out.new ≡ out.old))) result }
 
-    // `append`: each status has its cause; what was taken of the input are lines of payloads, but for what was read ahead.
+    // `append`: where the nodes and the register tell what stands there, from any sound state of the written machine with these
+    // and without sequencers: each step of the drive is one of the machine, and what was written are the sequencer's lines of
+    // those steps. At the status Ok each append is acknowledged, each epoch before its own is closed, and no message waits.
+    ensures appended { (w : LogWanted) (s : State) (far : Far) → Asks (map string_bytes words.now) (Append w) → N.tells nodes.old w.config far → BeginsAppend (G.tells reg.old) w.config s far
+        → (N.silent nodes.new ≡ true) ⊎ EndsDrive (N.faults nodes.old) (N.faults nodes.new)
+        (IsAppended (codes "s") (IsBroken (N.faults nodes.old) (N.faults nodes.new) (N.endings nodes.old) (N.endings nodes.new)) w.rounds (N.tells nodes.new) Unsaid w.config s (O.written out.old) (O.written out.new)) result }
+    // Whatever they tell: the count of their failures says which status the last round gives, and a line came before what it refuses.
     ensures append_ends { (w : LogWanted) → Asks (map string_bytes words.now) (Append w) → EndsDrive (N.faults nodes.old) (N.faults nodes.new)
-        (EndsAppend (I.faults input.old) (I.faults input.new) (I.left input.old) (I.left input.new) (O.faults out.old) (O.faults out.new) (O.written out.old) (O.written out.new)) result }
+        (IsEndOfAppend (I.faults input.old) (I.faults input.new) (O.faults out.old) (O.faults out.new) (O.written out.old) (O.written out.new)) result }
 
     // Each of these statuses comes only where the count of that object rose; at any other the last three stay.
     ensures read { result ≡ Status.Read → Rose (I.faults input.old) (I.faults input.new) }
@@ -155,11 +163,14 @@ fn carry_out<I: Source, O: Sink, D: Disk, G: Register, L: Link, N: Nodes>(
     ensures drawn { (n : Wanted) → command ≡ Serve n → G.told reg.old → ChangedOrNot (G.may_hold reg.old) (G.may_hold reg.new) (λ c. after_draw c n.id) }
     ensures tailed { (t : TailWanted) (s : State) (far : Far) → command ≡ Tail t → N.tells nodes.old t.of.config far → Begins t.of.config s far
         → (N.silent nodes.new ≡ true) ⊎ EndsDrive (N.faults nodes.old) (N.faults nodes.new)
-        (OrNothing (IsTailed (codes "r") (N.tells nodes.new) t.of.config s (O.written out.old) (O.written out.new)) ((nodes.new ≡ nodes.old) × (out.new ≡ out.old))) result }
+        (OrNothing (IsTailed (codes "r") (IsBroken (N.faults nodes.old) (N.faults nodes.new) (N.endings nodes.old) (N.endings nodes.new)) t.of.rounds (N.tells nodes.new) t.of.config s (O.written out.old) (O.written out.new)) (IsUnseen (G.faults reg.old) (G.faults reg.new) (G.told reg.old) (G.damaged reg.old)) ((nodes.new ≡ nodes.old) × (out.new ≡ out.old))) result }
     ensures tail_ends { (t : TailWanted) → command ≡ Tail t → EndsDrive (N.faults nodes.old) (N.faults nodes.new)
-        (OrNothing (IsTailEnd (O.faults out.old) (O.faults out.new) (O.written out.old) (O.written out.new)) ((nodes.new ≡ nodes.old) × (out.new ≡ out.old))) result }
+        (OrNothing (IsTailEnd (O.faults out.old) (O.faults out.new) (O.written out.old) (O.written out.new)) (IsUnseen (G.faults reg.old) (G.faults reg.new) (G.told reg.old) (G.damaged reg.old)) ((nodes.new ≡ nodes.old) × (out.new ≡ out.old))) result }
+    ensures appended { (w : LogWanted) (s : State) (far : Far) → command ≡ Append w → N.tells nodes.old w.config far → BeginsAppend (G.tells reg.old) w.config s far
+        → (N.silent nodes.new ≡ true) ⊎ EndsDrive (N.faults nodes.old) (N.faults nodes.new)
+        (IsAppended (codes "s") (IsBroken (N.faults nodes.old) (N.faults nodes.new) (N.endings nodes.old) (N.endings nodes.new)) w.rounds (N.tells nodes.new) Unsaid w.config s (O.written out.old) (O.written out.new)) result }
     ensures append_ends { (w : LogWanted) → command ≡ Append w → EndsDrive (N.faults nodes.old) (N.faults nodes.new)
-        (EndsAppend (I.faults input.old) (I.faults input.new) (I.left input.old) (I.left input.new) (O.faults out.old) (O.faults out.new) (O.written out.old) (O.written out.new)) result }
+        (IsEndOfAppend (I.faults input.old) (I.faults input.new) (O.faults out.old) (O.faults out.new) (O.written out.old) (O.written out.new)) result }
     ensures read { result ≡ Status.Read → Rose (I.faults input.old) (I.faults input.new) }
     ensures write { result ≡ Status.Write → Rose (O.faults out.old) (O.faults out.new) }
     ensures disk { DiskFaults (D.faults disk.old) (D.faults disk.new) result }

@@ -1,6 +1,13 @@
-use Rattle.std.proofs.Common.{◌≡◌, sym, ◌∙◌, subst}
+use Rattle.std.proofs.Common.{◌≡◌, ◌⊎◌, refl, sym, ◌∙◌, subst, true, codes}
 use Rattle.ld_serve.specs.Complete.{MayOpen}
-use Rattle.ld_cli.proofs.Asked.{one_node}
+use Rattle.ld_words.specs.declared.command.LogWords.{LogWords}
+use Rattle.ld_words.specs.declared.command.TailWords.{TailWords}
+use Rattle.ld_rounds.specs.Drives.{IsBroken}
+use Rattle.ld_append.specs.Appends.{Begins as BeginsAppend, IsAppended, IsEndOfAppend}
+use Rattle.ld_tail.specs.Tails.{Begins, IsTailed, IsTailEnd}
+use Rattle.ld_cli.specs.Clients.{Drives, EndsDrive, IsUnseen, OrNothing, Unsaid}
+use Rattle.ld_cli.proofs.Asked.{one_node, one_append, one_tail}
+use Rattle.ld_cli.proofs.Drives.{never_usage, disk_stays, append_read_rose, append_write_rose, tail_never_reads, tail_write_rose}
 use Rattle.ld_cli.proofs.top.carry_out.Goals as goal
 
 pub returns-in-Node-clause-complete_node : goal.returns-in-Node-clause-complete_node
@@ -8,3 +15,98 @@ returns-in-Node-clause-complete_node g c = λ n start bytes asks told spoken is 
     let same : n ≡ c.in-Node.node = one_node n c.in-Node.node (sym asks ∙ c.in-Node.is) in
     c.served.ensures.complete start bytes told spoken is
     (subst (λ m. MayOpen (g.G.Register.told c.args.reg.now) (g.G.Register.damaged c.args.reg.now) m.format bytes) same may)
+
+pub returns-in-Append-clause-usage : goal.returns-in-Append-clause-usage
+returns-in-Append-clause-usage g c = never_usage (g.N.Nodes.faults c.args.nodes.now) (g.N.Nodes.faults c.appended.new.nodes)
+    (IsEndOfAppend (g.I.Source.faults c.args.input.now) (g.I.Source.faults c.appended.new.input) (g.O.Sink.faults c.args.out.now) (g.O.Sink.faults c.appended.new.out)
+    (g.O.Sink.written c.args.out.now) (g.O.Sink.written c.appended.new.out))
+    c.appended.result c.appended.ensures.ends
+
+pub returns-in-Append-clause-append_ends : goal.returns-in-Append-clause-append_ends
+returns-in-Append-clause-append_ends g c = λ w is. c.appended.ensures.ends
+
+pub returns-in-Append-clause-read : goal.returns-in-Append-clause-read
+returns-in-Append-clause-read g c = append_read_rose _ _ _ _ _ _ _ _ c.appended.result c.appended.ensures.ends
+
+pub returns-in-Append-clause-write : goal.returns-in-Append-clause-write
+returns-in-Append-clause-write g c = append_write_rose _ _ _ _ _ _ _ _ c.appended.result c.appended.ensures.ends
+
+pub returns-in-Append-clause-disk : goal.returns-in-Append-clause-disk
+returns-in-Append-clause-disk g c = disk_stays (g.N.Nodes.faults c.args.nodes.now) (g.N.Nodes.faults c.appended.new.nodes)
+    (IsEndOfAppend (g.I.Source.faults c.args.input.now) (g.I.Source.faults c.appended.new.input) (g.O.Sink.faults c.args.out.now) (g.O.Sink.faults c.appended.new.out)
+    (g.O.Sink.written c.args.out.now) (g.O.Sink.written c.appended.new.out))
+    _ _ c.appended.result c.appended.ensures.ends refl
+
+pub returns-in-Append-clause-register : goal.returns-in-Append-clause-register
+returns-in-Append-clause-register g c = λ no. absurd (no (subst Drives (sym c.in-Append.is) tt))
+
+pub returns-in-Append-clause-link : goal.returns-in-Append-clause-link
+returns-in-Append-clause-link g c = λ no. absurd (no (subst Drives (sym c.in-Append.is) tt))
+
+pub returns-in-Append-clause-undriven : goal.returns-in-Append-clause-undriven
+returns-in-Append-clause-undriven g c = λ no. absurd (no (subst Drives (sym c.in-Append.is) tt))
+
+pub returns-in-Tail-clause-usage : goal.returns-in-Tail-clause-usage
+returns-in-Tail-clause-usage g c = never_usage (g.N.Nodes.faults c.args.nodes.now) (g.N.Nodes.faults c.tailed.new.nodes)
+    (OrNothing
+    (IsTailEnd (g.O.Sink.faults c.args.out.now) (g.O.Sink.faults c.tailed.new.out) (g.O.Sink.written c.args.out.now) (g.O.Sink.written c.tailed.new.out))
+    (IsUnseen (g.G.Register.faults c.args.reg.now) (g.G.Register.faults c.tailed.new.reg) (g.G.Register.told c.args.reg.now) (g.G.Register.damaged c.args.reg.now))
+    ((c.tailed.new.nodes ≡ c.args.nodes.now) × (c.tailed.new.out ≡ c.args.out.now)))
+    c.tailed.result c.tailed.ensures.ends
+
+pub returns-in-Tail-clause-tail_ends : goal.returns-in-Tail-clause-tail_ends
+returns-in-Tail-clause-tail_ends g c = λ t is. c.tailed.ensures.ends
+
+pub returns-in-Tail-clause-read : goal.returns-in-Tail-clause-read
+returns-in-Tail-clause-read g c = λ is. absurd (tail_never_reads (g.N.Nodes.faults c.args.nodes.now) (g.N.Nodes.faults c.tailed.new.nodes) (g.O.Sink.faults c.args.out.now) (g.O.Sink.faults c.tailed.new.out) (g.O.Sink.written c.args.out.now) (g.O.Sink.written c.tailed.new.out)
+    (IsUnseen (g.G.Register.faults c.args.reg.now) (g.G.Register.faults c.tailed.new.reg) (g.G.Register.told c.args.reg.now) (g.G.Register.damaged c.args.reg.now))
+    ((c.tailed.new.nodes ≡ c.args.nodes.now) × (c.tailed.new.out ≡ c.args.out.now))
+    c.tailed.result c.tailed.ensures.ends is)
+
+pub returns-in-Tail-clause-write : goal.returns-in-Tail-clause-write
+returns-in-Tail-clause-write g c = tail_write_rose (g.N.Nodes.faults c.args.nodes.now) (g.N.Nodes.faults c.tailed.new.nodes) (g.O.Sink.faults c.args.out.now) (g.O.Sink.faults c.tailed.new.out) (g.O.Sink.written c.args.out.now) (g.O.Sink.written c.tailed.new.out)
+    (IsUnseen (g.G.Register.faults c.args.reg.now) (g.G.Register.faults c.tailed.new.reg) (g.G.Register.told c.args.reg.now) (g.G.Register.damaged c.args.reg.now))
+    ((c.tailed.new.nodes ≡ c.args.nodes.now) × (c.tailed.new.out ≡ c.args.out.now))
+    c.tailed.result c.tailed.ensures.ends
+
+pub returns-in-Tail-clause-disk : goal.returns-in-Tail-clause-disk
+returns-in-Tail-clause-disk g c = disk_stays (g.N.Nodes.faults c.args.nodes.now) (g.N.Nodes.faults c.tailed.new.nodes)
+    (OrNothing
+    (IsTailEnd (g.O.Sink.faults c.args.out.now) (g.O.Sink.faults c.tailed.new.out) (g.O.Sink.written c.args.out.now) (g.O.Sink.written c.tailed.new.out))
+    (IsUnseen (g.G.Register.faults c.args.reg.now) (g.G.Register.faults c.tailed.new.reg) (g.G.Register.told c.args.reg.now) (g.G.Register.damaged c.args.reg.now))
+    ((c.tailed.new.nodes ≡ c.args.nodes.now) × (c.tailed.new.out ≡ c.args.out.now)))
+    _ _ c.tailed.result c.tailed.ensures.ends refl
+
+pub returns-in-Tail-clause-register : goal.returns-in-Tail-clause-register
+returns-in-Tail-clause-register g c = λ no. absurd (no (subst Drives (sym c.in-Tail.is) tt))
+
+pub returns-in-Tail-clause-link : goal.returns-in-Tail-clause-link
+returns-in-Tail-clause-link g c = λ no. absurd (no (subst Drives (sym c.in-Tail.is) tt))
+
+pub returns-in-Tail-clause-undriven : goal.returns-in-Tail-clause-undriven
+returns-in-Tail-clause-undriven g c = λ no. absurd (no (subst Drives (sym c.in-Tail.is) tt))
+
+pub returns-in-Tail-clause-tailed : goal.returns-in-Tail-clause-tailed
+returns-in-Tail-clause-tailed g c = λ t s far is told begins.
+    let same : t ≡ c.in-Tail.tail = one_tail t c.in-Tail.tail (sym is ∙ c.in-Tail.is) in
+    subst
+    (λ (u : TailWords).
+    (g.N.Nodes.silent c.tailed.new.nodes ≡ true) ⊎ EndsDrive (g.N.Nodes.faults c.args.nodes.now) (g.N.Nodes.faults c.tailed.new.nodes)
+    (OrNothing
+    (IsTailed (codes "r") (IsBroken (g.N.Nodes.faults c.args.nodes.now) (g.N.Nodes.faults c.tailed.new.nodes) (g.N.Nodes.endings c.args.nodes.now) (g.N.Nodes.endings c.tailed.new.nodes))
+    u.of.rounds (g.N.Nodes.tells c.tailed.new.nodes) u.of.config s (g.O.Sink.written c.args.out.now) (g.O.Sink.written c.tailed.new.out))
+    (IsUnseen (g.G.Register.faults c.args.reg.now) (g.G.Register.faults c.tailed.new.reg) (g.G.Register.told c.args.reg.now) (g.G.Register.damaged c.args.reg.now))
+    ((c.tailed.new.nodes ≡ c.args.nodes.now) × (c.tailed.new.out ≡ c.args.out.now))) c.tailed.result)
+    (sym same)
+    (c.tailed.ensures.tailed s far (subst (λ (u : TailWords). g.N.Nodes.tells c.args.nodes.now u.of.config far) same told) (subst (λ (u : TailWords). Begins u.of.config s far) same begins))
+
+pub returns-in-Append-clause-appended : goal.returns-in-Append-clause-appended
+returns-in-Append-clause-appended g c = λ w s far is told begins.
+    let same : w ≡ c.in-Append.log = one_append w c.in-Append.log (sym is ∙ c.in-Append.is) in
+    subst
+    (λ (u : LogWords).
+    (g.N.Nodes.silent c.appended.new.nodes ≡ true) ⊎ EndsDrive (g.N.Nodes.faults c.args.nodes.now) (g.N.Nodes.faults c.appended.new.nodes)
+    (IsAppended (codes "s") (IsBroken (g.N.Nodes.faults c.args.nodes.now) (g.N.Nodes.faults c.appended.new.nodes) (g.N.Nodes.endings c.args.nodes.now) (g.N.Nodes.endings c.appended.new.nodes))
+    u.rounds (g.N.Nodes.tells c.appended.new.nodes) Unsaid u.config s (g.O.Sink.written c.args.out.now) (g.O.Sink.written c.appended.new.out)) c.appended.result)
+    (sym same)
+    (c.appended.ensures.appended s far (subst (λ (u : LogWords). g.N.Nodes.tells c.args.nodes.now u.config far) same told) (subst (λ (u : LogWords). BeginsAppend (g.G.Register.tells c.args.reg.now) u.config s far) same begins))

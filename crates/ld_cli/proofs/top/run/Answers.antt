@@ -1,6 +1,8 @@
-use Rattle.std.proofs.Common.{map, string_bytes}
-use Rattle.ld_words.specs.declared.command.Command.TheVariants.{Replay, Exercise, Node}
+use Rattle.std.proofs.Common.{◌-◌, inr, codes, map, string_bytes}
+use Rattle.ld_words.specs.declared.command.Command.TheVariants.{Replay, Exercise, Node, Append, Tail}
+use Rattle.ld_rounds.specs.Drives.{IsBroken}
 use Rattle.ld_cli.proofs.Asked.{asked_one, asked_none}
+use Rattle.ld_cli.proofs.Drives.{nothing_done}
 use Rattle.ld_cli.proofs.top.run.Goals as goal
 
 pub returns-in-Ok-Some-clause-exercised : goal.returns-in-Ok-Some-clause-exercised
@@ -44,3 +46,39 @@ returns-in-Ok-None-clause-opening g c = λ n asks.
 pub returns-in-Ok-None-clause-complete_node : goal.returns-in-Ok-None-clause-complete_node
 returns-in-Ok-None-clause-complete_node g c = λ n start bytes asks told spoken is may.
     asked_none (map string_bytes c.args.words.now) c.in-Ok-None.field-0 (Node n) c.in-Ok-None.field-0-is c.in-Ok-None.ensures.asks asks
+
+pub returns-in-Ok-Some-clause-tailed : goal.returns-in-Ok-Some-clause-tailed
+returns-in-Ok-Some-clause-tailed g c = λ t s far asks told begins.
+    c.carry_out.ensures.tailed t s far (asked_one (map string_bytes c.args.words.now) c.in-Ok-Some.field-0 c.in-Ok-Some.command (Tail t) c.in-Ok-Some.field-0-is c.in-Ok-Some.ensures.asks asks) told begins
+
+pub returns-in-Ok-Some-clause-tail_ends : goal.returns-in-Ok-Some-clause-tail_ends
+returns-in-Ok-Some-clause-tail_ends g c = λ t asks.
+    c.carry_out.ensures.tail_ends t (asked_one (map string_bytes c.args.words.now) c.in-Ok-Some.field-0 c.in-Ok-Some.command (Tail t) c.in-Ok-Some.field-0-is c.in-Ok-Some.ensures.asks asks)
+
+pub returns-in-Ok-Some-clause-append_ends : goal.returns-in-Ok-Some-clause-append_ends
+returns-in-Ok-Some-clause-append_ends g c = λ w asks.
+    c.carry_out.ensures.append_ends w (asked_one (map string_bytes c.args.words.now) c.in-Ok-Some.field-0 c.in-Ok-Some.command (Append w) c.in-Ok-Some.field-0-is c.in-Ok-Some.ensures.asks asks)
+
+pub returns-in-Ok-None-clause-tailed : goal.returns-in-Ok-None-clause-tailed
+returns-in-Ok-None-clause-tailed g c = λ t s far asks told begins.
+    absurd (asked_none (map string_bytes c.args.words.now) c.in-Ok-None.field-0 (Tail t) c.in-Ok-None.field-0-is c.in-Ok-None.ensures.asks asks)
+
+pub returns-in-Ok-None-clause-tail_ends : goal.returns-in-Ok-None-clause-tail_ends
+returns-in-Ok-None-clause-tail_ends g c = λ t asks.
+    absurd (asked_none (map string_bytes c.args.words.now) c.in-Ok-None.field-0 (Tail t) c.in-Ok-None.field-0-is c.in-Ok-None.ensures.asks asks)
+
+pub returns-in-Ok-None-clause-append_ends : goal.returns-in-Ok-None-clause-append_ends
+returns-in-Ok-None-clause-append_ends g c = λ w asks.
+    absurd (asked_none (map string_bytes c.args.words.now) c.in-Ok-None.field-0 (Append w) c.in-Ok-None.field-0-is c.in-Ok-None.ensures.asks asks)
+
+pub returns-in-Ok-Some-clause-appended : goal.returns-in-Ok-Some-clause-appended
+returns-in-Ok-Some-clause-appended g c = λ w s far asks told begins.
+    c.carry_out.ensures.appended w s far (asked_one (map string_bytes c.args.words.now) c.in-Ok-Some.field-0 c.in-Ok-Some.command (Append w) c.in-Ok-Some.field-0-is c.in-Ok-Some.ensures.asks asks) told begins
+
+pub returns-in-Ok-None-clause-appended : goal.returns-in-Ok-None-clause-appended
+returns-in-Ok-None-clause-appended g c = λ w s far asks told begins.
+    absurd (asked_none (map string_bytes c.args.words.now) c.in-Ok-None.field-0 (Append w) c.in-Ok-None.field-0-is c.in-Ok-None.ensures.asks asks)
+
+pub returns-in-Err-clause-appended : goal.returns-in-Err-clause-appended
+returns-in-Err-clause-appended g c = λ w s far asks told begins.
+    inr (nothing_done (codes "s") (IsBroken (g.N.Nodes.faults c.args.nodes.now) (g.N.Nodes.faults c.args.nodes.now) (g.N.Nodes.endings c.args.nodes.now) (g.N.Nodes.endings c.args.nodes.now)) (w.rounds - 1) w.config s (g.O.Sink.written c.args.out.now))
