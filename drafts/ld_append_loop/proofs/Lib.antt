@@ -1,5 +1,0 @@
-mod Causing
-mod Clients
-mod Saying
-mod Serving
-mod Taking

@@ -1,4 +1,0 @@
-pub mod Acting
-pub mod Causes
-pub mod Input
-pub mod Refusing

@@ -1,3 +1,0 @@
-mod Clients
-mod Saying
-mod Serving
