@@ -39,6 +39,7 @@ fn adds(
         from: Lsn::new(1, from),
         upto: Lsn::new(1, upto),
         trim: Lsn::from_u64(0),
+        lng: 0,
         entries: &entries,
     };
     match digest.add(alloc, node, &page)? {
