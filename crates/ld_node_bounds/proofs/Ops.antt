@@ -1,5 +1,5 @@
 -- Each op leaves a plain state in its bounds.
-use Rattle.std.proofs.Common.{◌≡◌, ◌≤◌, ℕ, ◌+◌, ◌-◌, ◌^◌, max, refl, Bool, List, [], ◌∷◌, Option, Some, None, nat_cmp, nat_lt, Less, arith}
+use Rattle.std.proofs.Common.{◌≡◌, ◌≤◌, ℕ, ◌+◌, max, refl, Bool, List, [], ◌∷◌, Option, Some, None, nat_cmp, nat_lt, Less, arith}
 use Rattle.std.specs.Map as map
 use Rattle.std.specs.Option.{unwrap_or}
 use Rattle.std.specs.List.{filter, AllByRecursion}
@@ -13,7 +13,7 @@ use Rattle.ld_msg.specs.declared.msg.Entry.{Entry}
 use Rattle.ld_msg.specs.declared.msg.What.{What}
 use Rattle.ld_msg.specs.declared.msg.What.TheVariants.{Rec, Hole, Bridge}
 use Rattle.ld_msg.specs.declared.msg.Summary.{Summary}
-use Rattle.ld_msg.specs.Bounds.{Is32, IsLng, Is64, IsEpoch, IsEntry, IsSummary, AreEntries}
+use Rattle.ld_msg.specs.Bounds.{IsLng, Is64, IsEpoch, IsEntry, IsSummary, AreEntries}
 use Rattle.ld_op.specs.declared.op.Op.{Op}
 use Rattle.ld_op.specs.declared.op.Op.TheVariants as ops
 use Rattle.ld_op.specs.Bounds.{IsOp, AreEpochs}

@@ -1,5 +1,5 @@
 -- A digest stays in its bounds page by page, and so is the plan that follows from it.
-use Rattle.std.proofs.Common.{◌≡◌, ◌≤◌, ◌<◌, ℕ, Bool, zero, suc, ◌+◌, ◌-◌, ◌^◌, min, max, refl, subst, true, ◌&&◌, ◌==◌, not, nat_lt, nat_le, cond, List, [], ◌∷◌, ◌++◌, Option, Some, None, arith}
+use Rattle.std.proofs.Common.{◌≡◌, ◌≤◌, ◌<◌, ℕ, Bool, zero, suc, ◌+◌, ◌-◌, ◌^◌, min, max, refl, subst, true, ◌&&◌, ◌==◌, not, nat_lt, cond, List, [], ◌∷◌, ◌++◌, Option, Some, None, arith}
 use Rattle.std.specs.List.{AllByRecursion}
 use Rattle.std.proofs.lemmas.Bool.{cond_both, and_parts, eqb-true, leb-false, not-true}
 use Rattle.ld_table.specs.Words.{numbers_from}
