@@ -7,14 +7,13 @@ use Rattle.std.proofs.lemmas.Bool.{eq-eqb, ne_eqb}
 use Rattle.std.specs.Prelude.{◌==◌, Bool, true, false, if◌then◌else◌, is_some}
 use Rattle.ld_table.specs.Table.{find, put}
 use Rattle.ld_table.proofs.Laws.{tied}
-use Rattle.ld_table.specs.Words.{is_in}
 use Rattle.ld_msg.specs.declared.msg.Body.{Body}
 use Rattle.ld_msg.specs.declared.msg.Body.TheVariants as bodies
-use Rattle.ld_msg.specs.Reading.{Held, within, lost_held, lost_generation}
+use Rattle.ld_msg.specs.Reading.{Held, lost_held, lost_generation}
 use Rattle.ld_lsn.specs.Number.{home_epoch}
 use Rattle.ld_ids.specs.Set.{members_from}
 use Rattle.ld_msg.specs.Reader.{keys}
-use Rattle.ld_gap.specs.Slots.{filled_from, generation_within, generation_told}
+use Rattle.ld_gap.specs.Slots.{filled_from, generation_held, generation_told}
 
 module _ {X : Type 0} where
   find_first : (k n : ℕ) (x : X) (m : List (ℕ × X)) → k ≡ n → find k ((n, x) ∷ m) ≡ Some x
@@ -84,30 +83,18 @@ unfolding filled_from
 slot_told n None gens = refl
 slot_told n (Some g) gens = refl
 
-no_generation : (b : Bool) (s : ℕ) → generation_within b s None ≡ None
-no_generation true s = refl
-no_generation false s = refl
-
--- the generations of the slots of a set's nodes are those of the table
-module _ (set : List ℕ) (s : ℕ) where
-  member_told : (n : ℕ) (x : Held) (hs : List (ℕ × Held)) (b : Bool) → told_from n (if b then generation_told s x.body else None) ++ lost_held s hs ≡ lost_held s (if b then (n, x) ∷ hs else hs)
-  member_told n x hs true = ap (λ l. l ++ lost_held s hs) (sym (one_told s n x.body))
-  member_told n x hs false = refl
-
-  pub lost-filled_from : (n : ℕ) (gens : List (Option ℕ)) (slots : List (Option Held)) → length gens ≡ length slots
-      → ((j : ℕ) → j < length slots → get_or gens j None ≡ generation_within (is_in (n + j) set) s (get_or slots j None)) → filled_from n gens ≡ lost_held s (within set (filled_from n slots))
-  unfolding filled_from
-  lost-filled_from n [] [] e h = refl
-  lost-filled_from n [] (o ∷ slots) e h = absurd (omega arith)
-  lost-filled_from n (g ∷ gens) [] e h = absurd (omega arith)
-  lost-filled_from n (g ∷ gens) (None ∷ slots) e h =
-      let none : g ≡ None = h 0 (omega arith) ∙ no_generation (is_in (n + 0) set) s in
-      slot_told n g gens ∙ ap (λ o. told_from n o ++ filled_from (n + 1) gens) none ∙ lost-filled_from (n + 1) gens slots (omega arith) (λ j lt. h (suc j) (omega arith) ∙ ap (λ k. generation_within (is_in k set) s (get_or slots j None)) (omega arith))
-  lost-filled_from n (g ∷ gens) (Some x ∷ slots) e h =
-      let same : g ≡ (if is_in n set then generation_told s x.body else None) = h 0 (omega arith) ∙ ap (λ k. if is_in k set then generation_told s x.body else None) (omega arith) in
-      slot_told n g gens ∙ ap (λ o. told_from n o ++ filled_from (n + 1) gens) same
-      ∙ ap (λ m. told_from n (if is_in n set then generation_told s x.body else None) ++ m) (lost-filled_from (n + 1) gens slots (omega arith) (λ j lt. h (suc j) (omega arith) ∙ ap (λ k. generation_within (is_in k set) s (get_or slots j None)) (omega arith)))
-      ∙ member_told n x (within set (filled_from (n + 1) slots)) (is_in n set)
+-- the generations of the slots are those of the table
+pub lost-filled_from : (s n : ℕ) (gens : List (Option ℕ)) (slots : List (Option Held)) → length gens ≡ length slots → ((j : ℕ) → j < length slots → get_or gens j None ≡ generation_held s (get_or slots j None)) → filled_from n gens ≡ lost_held s (filled_from n slots)
+unfolding filled_from
+lost-filled_from s n [] [] e h = refl
+lost-filled_from s n [] (o ∷ slots) e h = absurd (omega arith)
+lost-filled_from s n (g ∷ gens) [] e h = absurd (omega arith)
+lost-filled_from s n (g ∷ gens) (None ∷ slots) e h =
+    let none : g ≡ None = h 0 (omega arith) in
+    slot_told n g gens ∙ ap (λ o. told_from n o ++ filled_from (n + 1) gens) none ∙ lost-filled_from s (n + 1) gens slots (omega arith) (λ j lt. h (suc j) (omega arith))
+lost-filled_from s n (g ∷ gens) (Some x ∷ slots) e h =
+    let same : g ≡ generation_told s x.body = h 0 (omega arith) in
+    slot_told n g gens ∙ ap (λ o. told_from n o ++ filled_from (n + 1) gens) same ∙ ap (λ l. l ++ filled_from (n + 1) gens) (sym (one_told s n x.body)) ∙ ap (λ m. lost_generation s n x.body ++ m) (lost-filled_from s (n + 1) gens slots (omega arith) (λ j lt. h (suc j) (omega arith)))
 
 -- the set of the filled slots' nodes has those of the table
 pub members-filled_from : (n : ℕ) (flags : List Bool) (slots : List (Option ℕ)) → length flags ≡ length slots → ((j : ℕ) → j < length slots → get_or flags j false ≡ is_some (get_or slots j None)) → members_from n flags ≡ keys (filled_from n slots)

@@ -1,5 +1,5 @@
 -- Tables by node, as one slot for each node: the first slot for node 1.
-use Rattle.std.specs.Prelude.{ℕ, ◌+◌, ◌==◌, if◌then◌else◌, List, [], ◌∷◌, Option, Some, None, Bool}
+use Rattle.std.specs.Prelude.{ℕ, ◌+◌, ◌==◌, if◌then◌else◌, List, [], ◌∷◌, Option, Some, None}
 use Rattle.ld_lsn.specs.Number.{home_epoch}
 use Rattle.ld_msg.specs.declared.msg.Body.{Body}
 use Rattle.ld_msg.specs.Reading.{Held}
@@ -24,7 +24,3 @@ generation_told s _ = None
 abbrev pub generation_held : ℕ → Option Held → Option ℕ
 generation_held s None = None
 generation_held s (Some h) = generation_told s h.body
-
--- the same, where the node counts
-abbrev pub generation_within : Bool → ℕ → Option Held → Option ℕ
-generation_within counts s o = if counts then generation_held s o else None

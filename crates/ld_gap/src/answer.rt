@@ -150,12 +150,12 @@ impl Answer {
         }
     }
 
-    /// Whether it is a page whose range holds the number.
+    /// Whether it is a page that goes as far as the number.
     pub fn reaches(&self, number: Lsn) -> bool
         ensures { result ≡ reaches number self.now.body }
     {
         match &self.body {
-            Body::ReadPage { from, upto, .. } => *from <= number && number <= *upto,
+            Body::ReadPage { upto, .. } => number <= *upto,
             _ => false,
         }
     }

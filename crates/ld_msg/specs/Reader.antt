@@ -151,9 +151,9 @@ loses d = if is_confirmed d.confirming then gives (record { reader = d; items = 
 
 -- ---- the next round ----
 
--- a page whose range holds the number
+-- a page that goes as far as the number: it begins no further on, since each page answers an ask from the next number of its time
 abbrev pub reaches : ℕ → Body → Bool
-reaches s (bodies.ReadPage round from upto clean es) = nat_le from s && nat_le s upto
+reaches s (bodies.ReadPage round from upto clean es) = nat_le s upto
 reaches s _ = false
 
 abbrev pub gave_item : List (ℕ × Item) → Bool

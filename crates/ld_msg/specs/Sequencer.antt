@@ -1,7 +1,7 @@
 -- A sequencer: appends, acknowledgements, the recovery of earlier epochs, and what it does at a reply or a retry.
 use Rattle.std.specs.Prelude.{ℕ, ◌+◌, ◌-◌, ◌^◌, min, suc, List, [], ◌∷◌, ◌++◌, length, Option, Some, None, Bool, true, false, ◌||◌, ◌==◌, nat_lt, nat_le, if◌then◌else◌}
 use Rattle.ld_table.specs.Table.{find, put}
-use Rattle.ld_table.specs.Words.{is_in, with_one, without, all_of}
+use Rattle.ld_table.specs.Words.{with_one, without, all_of}
 use Rattle.ld_lsn.specs.Number.{epoch_of, numbered, home_epoch, last_esn, epoch_end}
 use Rattle.ld_msg.specs.declared.msg.What.{What}
 use Rattle.ld_msg.specs.declared.msg.What.TheVariants.{Rec}
@@ -12,7 +12,7 @@ use Rattle.ld_msg.specs.declared.msg.Body.TheVariants as bodies
 use Rattle.ld_ids.specs.declared.set.Spec.{Spec}
 use Rattle.ld_ids.specs.Choice.{at_epoch, nodes_of}
 use Rattle.ld_msg.specs.Choice.{choice}
-use Rattle.ld_msg.specs.Digest.{Told, no_digest, with_page, with_asks, with_lost, takes_page, enough, Item, Plan, plan}
+use Rattle.ld_msg.specs.Digest.{Told, no_digest, with_page, with_lost, takes_page, enough, Item, Plan, plan}
 use Rattle.ld_msg.specs.Register.{Register, Changed, Answer, Granted, AtLimit, Behind, Fails, close}
 
 -- an append: its payload, the wave that it was sent in last, and the nodes that stored it
@@ -26,10 +26,9 @@ pub record Planned : Type 0 where
   pub what : What
   pub settled : List ℕ
 
--- a plan that is being stored: its trim, its last known good place, its end, its items by number, the wave that they were sent in last
+-- a plan that is being stored: its trim, its end, its items by number, the wave that they were sent in last
 pub record Storing : Type 0 where
   pub trim : ℕ
-  pub lng : ℕ
   pub end : ℕ
   pub items : List (ℕ × Planned)
   pub wave : ℕ
@@ -146,25 +145,25 @@ planned [] = []
 planned (i ∷ is) = (i.number, record { what = i.what; settled = [] }) ∷ planned is
 
 abbrev pub storing_of : Plan → Storing
-storing_of p = record { trim = p.trim; lng = p.lng; end = p.end; items = planned p.items; wave = 0 }
+storing_of p = record { trim = p.trim; end = p.end; items = planned p.items; wave = 0 }
 
 -- each item that fewer nodes than the factor settled goes to the choice of the wave
-abbrev pub item_stores : Spec → List ℕ → ℕ → ℕ → List (ℕ × Planned) → List (ℕ × Body)
-item_stores s lost lng wave [] = []
-item_stores s lost lng wave (i ∷ is) = (if nat_lt (length i.1.settled) s.r then to_each (bodies.Store i.0 lng i.1.what) (choice s lost i.0 wave) else []) ++ item_stores s lost lng wave is
+abbrev pub item_stores : Spec → List ℕ → ℕ → List (ℕ × Planned) → List (ℕ × Body)
+item_stores s lost wave [] = []
+item_stores s lost wave (i ∷ is) = (if nat_lt (length i.1.settled) s.r then to_each (bodies.Store i.0 0 i.1.what) (choice s lost i.0 wave) else []) ++ item_stores s lost wave is
 
 -- each item has enough nodes
 unfoldable pub is_ready : Spec → Storing → Bool
 is_ready s g = all_of (λ i. nat_le s.r (length i.1.settled)) g.items
 
 abbrev pub summary_of : ℕ → Storing → Summary
-summary_of ballot g = record { ballot = ballot; lng = g.lng; trim = g.trim; end = g.end }
+summary_of ballot g = record { ballot = ballot; lng = 0; trim = g.trim; end = g.end }
 
 -- a plan goes to its first wave
 abbrev pub stores_plan : Spec → Acts → Recovery → Plan → Acts
 stores_plan spec a v p = record a {
   sequencer = with_stage a.sequencer v (Stores (storing_of p));
-  stores = item_stores (at_epoch spec v.epoch) v.lost p.lng 0 (planned p.items);
+  stores = item_stores (at_epoch spec v.epoch) v.lost 0 (planned p.items);
 }
 
 -- after an answer the plan is closed, where it is ready
@@ -202,9 +201,9 @@ adds_page spec a v y d =
     if enough (at_epoch spec v.epoch) d then stores_plan spec a v (plan v.epoch d)
     else record a { sequencer = with_stage a.sequencer v (Seals d); asks = next_ask y d }
 
-abbrev pub digests : Spec → Acts → Recovery → ℕ → ℕ → ℕ → ℕ → ℕ → List Entry → Stage → Acts
-digests spec a v y from upto trim lng es (Seals d) = if takes_any y from d then adds_page spec a v y (with_page v.epoch y from upto trim lng es d) else a
-digests spec a v y from upto trim lng es _ = a
+abbrev pub digests : Spec → Acts → Recovery → ℕ → ℕ → ℕ → ℕ → List Entry → Stage → Acts
+digests spec a v y from upto trim es (Seals d) = if takes_any y from d then adds_page spec a v y (with_page v.epoch y from upto trim es d) else a
+digests spec a v y from upto trim es _ = a
 
 -- ---- lost nodes ----
 
@@ -269,17 +268,13 @@ by_clean spec a n s =
     if home_epoch n == a.sequencer.epoch then preempt a s.ballot
     else in_recovery a (home_epoch n) a.sequencer.recovery (λ v. goes_on spec (tells_clean spec a v.epoch s) v.epoch)
 
--- what a node stored or trimmed counts where it is of the epoch's set
-abbrev pub of_member : Spec → ℕ → Acts → Acts → Acts
-of_member s y acts quiet = if is_in y (nodes_of s) then acts else quiet
-
 abbrev pub by_reply : Spec → Acts → ℕ → Body → Acts
-by_reply spec a y (bodies.Stored n) = of_member (at_epoch spec (epoch_of n)) y (by_stored spec a y n) a
+by_reply spec a y (bodies.Stored n) = by_stored spec a y n
 by_reply spec a y (bodies.SealedHere n k) = if nat_lt a.sequencer.epoch k then preempt a k else a
 by_reply spec a y (bodies.LostHere n round generation end) = by_lost a y n
 by_reply spec a y (bodies.CleanHere n s) = by_clean spec a n s
-by_reply spec a y (bodies.TrimmedHere n t) = of_member (at_epoch spec (epoch_of n)) y (by_trimmed spec a y n t) a
-by_reply spec a y (bodies.DigestPage from upto trim lng es) = in_recovery a (epoch_of from) a.sequencer.recovery (λ v. digests spec a v y from upto trim lng es v.stage)
+by_reply spec a y (bodies.TrimmedHere n t) = by_trimmed spec a y n t
+by_reply spec a y (bodies.DigestPage from upto trim lng es) = in_recovery a (epoch_of from) a.sequencer.recovery (λ v. digests spec a v y from upto trim es v.stage)
 by_reply spec a y _ = a
 
 -- a preempted sequencer ignores all replies
@@ -297,24 +292,24 @@ raised s [] = []
 raised s (p ∷ ps) = (p.0, if is_acked s p.1 then p.1 else record { payload = p.1.payload; wave = next_wave p.1.wave; stored = p.1.stored }) ∷ raised s ps
 
 -- a pending append goes to the chosen nodes that haven't stored it
-abbrev pub append_stores : Spec → List ℕ → ℕ → List (ℕ × Append) → List (ℕ × Body)
-append_stores s lost lng [] = []
-append_stores s lost lng (p ∷ ps) = (if is_acked s p.1 then [] else to_each (bodies.Store p.0 lng (Rec p.1.payload)) (without p.1.stored (choice s lost p.0 p.1.wave))) ++ append_stores s lost lng ps
+abbrev pub append_stores : Spec → List ℕ → List (ℕ × Append) → List (ℕ × Body)
+append_stores s lost [] = []
+append_stores s lost (p ∷ ps) = (if is_acked s p.1 then [] else to_each (bodies.Store p.0 0 (Rec p.1.payload)) (without p.1.stored (choice s lost p.0 p.1.wave))) ++ append_stores s lost ps
 
 abbrev pub retries_appends : Spec → Acts → Acts
 retries_appends spec a = record a {
   sequencer = record a.sequencer { appends = raised (own_spec spec a.sequencer) a.sequencer.appends };
-  stores = append_stores (own_spec spec a.sequencer) a.sequencer.lost a.sequencer.lng (raised (own_spec spec a.sequencer) a.sequencer.appends);
+  stores = append_stores (own_spec spec a.sequencer) a.sequencer.lost (raised (own_spec spec a.sequencer) a.sequencer.appends);
 }
 
 abbrev pub next_try : Storing → Storing
 next_try g = record g { wave = next_wave g.wave }
 
 abbrev pub retries_stage : Spec → Acts → Recovery → Stage → Acts
-retries_stage spec a v (Seals d) = record a { sequencer = with_stage a.sequencer v (Seals (with_asks v.epoch d)); asks = digest_asks (with_asks v.epoch d) }
+retries_stage spec a v (Seals d) = record a { asks = digest_asks d }
 retries_stage spec a v (Stores g) = record a {
   sequencer = with_stage a.sequencer v (Stores (next_try g));
-  stores = item_stores (at_epoch spec v.epoch) v.lost g.lng (next_wave g.wave) g.items ++ a.stores;
+  stores = item_stores (at_epoch spec v.epoch) v.lost (next_wave g.wave) g.items ++ a.stores;
 }
 retries_stage spec a v (Closes y) = try_close a v.epoch y
 
@@ -387,7 +382,7 @@ abbrev pub appended : Sequencer → List ℕ → Sequencer
 appended q payload = record q { appends = q.appends ++ (numbered q.epoch (next_esn q), fresh_append payload) ∷ [] }
 
 abbrev pub first_stores : Spec → Sequencer → List ℕ → List (ℕ × Body)
-first_stores spec q payload = to_each (bodies.Store (numbered q.epoch (next_esn q)) q.lng (Rec payload)) (choice (own_spec spec q) q.lost (numbered q.epoch (next_esn q)) 0)
+first_stores spec q payload = to_each (bodies.Store (numbered q.epoch (next_esn q)) 0 (Rec payload)) (choice (own_spec spec q) q.lost (numbered q.epoch (next_esn q)) 0)
 
 -- ---- activation ----
 

@@ -11,12 +11,12 @@ use Rattle.ld_msg.specs.declared.msg.What.{What}
 use Rattle.ld_msg.specs.declared.msg.What.TheVariants.{Rec, Hole, Bridge}
 use Rattle.ld_msg.specs.declared.msg.Entry.{Entry}
 use Rattle.ld_msg.specs.declared.msg.Summary.{Summary}
-use Rattle.ld_msg.specs.Bounds.{Is32, IsLng, IsEpoch, IsEntry, IsSummary, IsShort, AreEntries, last_place}
+use Rattle.ld_msg.specs.Bounds.{Is32, IsEpoch, IsEntry, IsSummary, IsShort, AreEntries, last_place}
 use Rattle.ld_op.specs.declared.op.Op.{Op}
 use Rattle.ld_op.specs.declared.op.Op.TheVariants as ops
 use Rattle.ld_op.specs.Bounds.{IsOp, AreEpochs, RiseFrom}
 use Rattle.ld_op.specs.Fields.{Read, Got, Off, follow, check, field, end_at}
-use Rattle.ld_op.specs.Bytes.{what_bytes, entry_bytes, entries_bytes, summary_bytes, epochs_bytes, op_bytes, within, greatest_epoch, greatest_lng, is_number, is_tag, payload, tagged, read_entry, read_entries, read_summary, read_epoch, read_epochs, read_log, read_format, read_accept, read_seal, read_clean, read_refill, read_fields, read_body, judge}
+use Rattle.ld_op.specs.Bytes.{what_bytes, entry_bytes, entries_bytes, summary_bytes, epochs_bytes, op_bytes, within, greatest_epoch, is_number, is_tag, payload, tagged, read_entry, read_entries, read_summary, read_epoch, read_epochs, read_log, read_format, read_accept, read_seal, read_clean, read_refill, read_fields, read_body, judge}
 use Rattle.ld_op.proofs.Fields.{field_got}
 
 -- from a place on the bytes are these
@@ -106,9 +106,6 @@ number_fits n h = let a = h.1 in omega arith
 number_passes : (n least : ℕ) → IsEpoch (epoch_of n) → 1 ≤ esn_of n → least ≤ n → (is_number n && nat_le least n) ≡ true
 number_passes n least h e l = let a = h.0 in let b = h.1 in grind (arith, nat_tests)
 
-lng_passes : (n : ℕ) → IsLng n → nat_le n greatest_lng ≡ true
-lng_passes n l = grind (arith, nat_tests)
-
 ballot_passes : (n b : ℕ) → n ≤ b → b ≤ greatest_epoch → within n greatest_epoch b ≡ true
 ballot_passes n b h l = grind (arith, nat_tests)
 
@@ -153,10 +150,9 @@ unfolding read_summary
 summary_reads bs epoch at y ys i s = follow_reads bs (field 4 bs at) _ y.ballot y _ ys (field_reads 3 y.ballot bs at _ (let b = i.ballot_most in omega arith) (stands_as bs at _ _ (summary_is y ys) s)) (λ at_lng t.
     check_reads bs _ at _ y ys (ballot_passes (epoch + 1) y.ballot (let b = i.ballot in omega arith) i.ballot_most)
     (follow_reads bs (field 4 bs at_lng) _ y.lng y _ ys (field_reads 3 y.lng bs at_lng _ (let b = i.lng in omega arith) t) (λ at_trim u.
-    check_reads bs _ at_lng _ y ys (lng_passes y.lng i.lng)
-    (follow_reads bs (field 8 bs at_trim) _ y.trim y _ ys (field_reads 7 y.trim bs at_trim _ (let b = i.trim in omega arith) u) (λ at_end v.
+    follow_reads bs (field 8 bs at_trim) _ y.trim y _ ys (field_reads 7 y.trim bs at_trim _ (let b = i.trim in omega arith) u) (λ at_end v.
     follow_reads bs (field 4 bs at_end) _ y.end y _ ys (field_reads 3 y.end bs at_end _ (let b = i.end_most in omega arith) v) (λ next z.
-    check_reads bs _ at_end _ y ys (let b = i.end in grind (arith, nat_tests)) (got_reads bs y next ys z)))))))
+    check_reads bs _ at_end _ y ys (let b = i.end in grind (arith, nat_tests)) (got_reads bs y next ys z))))))
 
 epoch_reads : (bs : List ℕ) (least at : ℕ) (d : ℕ × ℕ) (ys : List ℕ) → least ≤ d.0 → IsLog d.0 → 1 ≤ d.1 → Is32 d.1 → Stands bs at (big_bytes 4 d.0 ++ (big_bytes 4 d.1 ++ ys)) → Reads bs (read_epoch bs least at) d ys
 unfolding read_epoch
@@ -205,8 +201,7 @@ judge-op_bytes (ops.Format generation epochs) i = framed _ 1 _ (ops.Format gener
 judge-op_bytes (ops.Accept l lng e) i = framed _ 2 _ (ops.Accept l lng e) (omega arith) refl refl (λ at s.
     fields_read _ 2 at l _ _ i.0 s (λ at_lng t.
     follow_reads _ (field 4 _ at_lng) _ lng _ _ [] (field_reads 3 lng _ at_lng _ (let n = i.1 in omega arith) t) (λ at_entry u.
-    check_reads _ _ at_lng _ _ [] (lng_passes lng i.1)
-    (follow_reads _ (read_entry _ 0 at_entry) _ e _ [] [] (entry_reads _ 0 at_entry e [] i.2 (omega arith) (nothing _ at_entry _ u)) (λ next v. got_reads _ _ next [] v)))))
+    follow_reads _ (read_entry _ 0 at_entry) _ e _ [] [] (entry_reads _ 0 at_entry e [] i.2 (omega arith) (nothing _ at_entry _ u)) (λ next v. got_reads _ _ next [] v))))
 judge-op_bytes (ops.Seal l b) i = framed _ 3 _ (ops.Seal l b) (omega arith) refl refl (λ at s.
     fields_read _ 3 at l _ _ i.0 s (λ at_b t.
     follow_reads _ (field 4 _ at_b) _ b _ [] [] (field_reads 3 b _ at_b [] (let n = i.1.1 in omega arith) (nothing _ at_b _ t)) (λ next v.

@@ -18,7 +18,7 @@ use Rattle.ld_msg.specs.Bounds.{Is32, IsEpoch, IsEntry, IsSummary, IsShort, AreE
 use Rattle.ld_op.specs.declared.op.Op.{Op}
 use Rattle.ld_op.specs.declared.op.Op.TheVariants as ops
 use Rattle.ld_op.specs.Bounds.{IsOp, AreEpochs, RiseFrom}
-use Rattle.ld_op.specs.Bytes.{what_bytes, entry_bytes, entries_bytes, summary_bytes, epochs_bytes, op_bytes, within, greatest_epoch, greatest_lng, is_number, is_tag, payload, tagged, read_entry, read_entries, read_summary, read_epoch, read_epochs, read_log, read_format, read_accept, read_seal, read_clean, read_refill, read_fields, read_body, judge}
+use Rattle.ld_op.specs.Bytes.{what_bytes, entry_bytes, entries_bytes, summary_bytes, epochs_bytes, op_bytes, within, greatest_epoch, is_number, is_tag, payload, tagged, read_entry, read_entries, read_summary, read_epoch, read_epochs, read_log, read_format, read_accept, read_seal, read_clean, read_refill, read_fields, read_body, judge}
 use Rattle.ld_op.specs.Judged.{AreBytes}
 use Rattle.ld_op.proofs.Spelling.{tag_of, after_tag}
 use Rattle.ld_op.specs.Fields.{Read, Got, Off, follow, check, field, end_at}
@@ -239,22 +239,22 @@ pub record SummaryRead (bs : List ℕ) (epoch at next : ℕ) (y : Summary) : Typ
   pub spelled : Spelled bs at next (summary_bytes y)
   pub is : IsSummary epoch y
 
-summary_made : (bs : List ℕ) (epoch at a b c next ballot lng trim end : ℕ) → Spells bs 4 at ballot a → within (epoch + 1) greatest_epoch ballot ≡ true → Spells bs 4 a lng b → nat_le lng greatest_lng ≡ true → Spells bs 8 b trim c → Spells bs 4 c end next → nat_le 1 end ≡ true
+summary_made : (bs : List ℕ) (epoch at a b c next ballot lng trim end : ℕ) → Spells bs 4 at ballot a → within (epoch + 1) greatest_epoch ballot ≡ true → Spells bs 4 a lng b → Spells bs 8 b trim c → Spells bs 4 c end next → nat_le 1 end ≡ true
     → SummaryRead bs epoch at next (record { ballot = ballot; lng = lng; trim = trim; end = end })
-summary_made bs epoch at a b c next ballot lng trim end s m t z u v o = let i = within_is (epoch + 1) greatest_epoch ballot m in let k = t.fits in let l = u.fits in let n = v.fits in let j = i.0 in record {
+summary_made bs epoch at a b c next ballot lng trim end s m t u v o = let i = within_is (epoch + 1) greatest_epoch ballot m in let k = t.fits in let l = u.fits in let n = v.fits in let j = i.0 in record {
   spelled = spelled_on bs at a next (big_bytes 4 ballot) _ s.spelled (spelled_on bs a b next (big_bytes 4 lng) _ t.spelled (spelled_on bs b c next (big_bytes 8 trim) (big_bytes 4 end) u.spelled v.spelled));
-  is = record { ballot = omega arith; ballot_most = i.1; lng = grind (arith, nat_tests); trim = omega arith; end = grind (arith, nat_tests); end_most = omega arith };
+  is = record { ballot = omega arith; ballot_most = i.1; lng = omega arith; trim = omega arith; end = grind (arith, nat_tests); end_most = omega arith };
 }
 
 pub summary_spelled : (bs : List ℕ) (epoch at : ℕ) (y : Summary) (next : ℕ) → AreBytes bs → read_summary bs epoch at ≡ Got y next → SummaryRead bs epoch at next y
 unfolding read_summary
 summary_spelled bs epoch at y next h r =
     by_follow (field 4 bs at) _ y next r (λ ballot a f r. by_check _ at _ y next r (λ ok r.
-    by_follow (field 4 bs a) _ y next r (λ lng b g r. by_check _ a _ y next r (λ ok1 r.
+    by_follow (field 4 bs a) _ y next r (λ lng b g r.
     by_follow (field 8 bs b) _ y next r (λ trim c k r.
     by_follow (field 4 bs c) _ y next r (λ end last q r. by_check _ c _ y next r (λ ok2 r. by_got _ y last next r (λ is n.
     subst (SummaryRead bs epoch at next) is (subst (λ x. SummaryRead bs epoch at x (record { ballot = ballot; lng = lng; trim = trim; end = end })) n
-    (summary_made bs epoch at a b c last ballot lng trim end (field_spells 4 bs at ballot a h f) ok (field_spells 4 bs a lng b h g) ok1 (field_spells 8 bs b trim c h k) (field_spells 4 bs c end last h q) ok2))))))))))
+    (summary_made bs epoch at a b c last ballot lng trim end (field_spells 4 bs at ballot a h f) ok (field_spells 4 bs a lng b h g) (field_spells 8 bs b trim c h k) (field_spells 4 bs c end last h q) ok2)))))))))
 
 pub record EpochsRead (bs : List ℕ) (count least at next : ℕ) (ds : List (ℕ × ℕ)) : Type 0 where
   pub spelled : Spelled bs at next (epochs_bytes ds)
@@ -341,14 +341,14 @@ format_spelled bs at next o h r =
 accept_spelled : (bs : List ℕ) (l at next : ℕ) (o : Op) → AreBytes bs → read_accept bs l at ≡ Got o next → FieldsRead bs 2 l at next o
 unfolding read_accept op_bytes
 accept_spelled bs l at next o h r =
-    by_follow (field 4 bs at) _ o next r (λ lng a f r. by_check (nat_le lng greatest_lng) at _ o next r (λ ok r. by_follow (read_entry bs 0 a) _ o next r (λ e last q r. by_got (ops.Accept l lng e) o last next r (λ is n.
+    by_follow (field 4 bs at) _ o next r (λ lng a f r. by_follow (read_entry bs 0 a) _ o next r (λ e last q r. by_got (ops.Accept l lng e) o last next r (λ is n.
     let s = field_spells 4 bs at lng a h f in let u = entry_spelled bs 0 a e last h q in let z = s.fits in
     subst (FieldsRead bs 2 l at next) is (subst (λ x. FieldsRead bs 2 l at x (ops.Accept l lng e)) n (record {
       rest = big_bytes 4 lng ++ entry_bytes e;
       spelled = spelled_on bs at a last (big_bytes 4 lng) (entry_bytes e) s.spelled u.spelled;
       bytes_are = refl;
-      is = λ i. (i, grind (arith, nat_tests), u.is);
-    }))))))
+      is = λ i. (i, omega arith, u.is);
+    })))))
 
 seal_spelled : (bs : List ℕ) (l at next : ℕ) (o : Op) → AreBytes bs → read_seal bs l at ≡ Got o next → FieldsRead bs 3 l at next o
 unfolding read_seal op_bytes

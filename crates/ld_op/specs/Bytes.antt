@@ -48,10 +48,6 @@ within least most n = nat_le least n && nat_le n most
 abbrev pub greatest_epoch : ℕ
 greatest_epoch = 2 ^ 32 - 2
 
--- a last known good place lies below the greatest place of an epoch
-abbrev pub greatest_lng : ℕ
-greatest_lng = last_esn - 1
-
 -- the last place of an epoch is a bridge's alone, which the tag tells
 abbrev pub is_number : ℕ → Bool
 is_number n = within 1 greatest_epoch (epoch_of n) && nat_le 1 (esn_of n)
@@ -86,9 +82,9 @@ read_entries bs (suc k) least at =
 unfoldable pub read_summary : List ℕ → ℕ → ℕ → Read Summary
 read_summary bs epoch at =
     follow (field 4 bs at) (λ ballot at_lng. check (within (epoch + 1) greatest_epoch ballot) at (
-    follow (field 4 bs at_lng) (λ lng at_trim. check (nat_le lng greatest_lng) at_lng (
+    follow (field 4 bs at_lng) (λ lng at_trim.
     follow (field 8 bs at_trim) (λ trim at_end.
-    follow (field 4 bs at_end) (λ end next. check (nat_le 1 end) at_end (Got (record { ballot = ballot; lng = lng; trim = trim; end = end }) next)))))))
+    follow (field 4 bs at_end) (λ end next. check (nat_le 1 end) at_end (Got (record { ballot = ballot; lng = lng; trim = trim; end = end }) next))))))
 
 -- a log and its epoch, the log at least the least
 unfoldable pub read_epoch : List ℕ → ℕ → ℕ → Read (ℕ × ℕ)
@@ -112,7 +108,7 @@ read_format bs at =
     follow (read_epochs bs count 1 at_epochs) (λ epochs next. Got (ops.Format generation epochs) next)))
 
 unfoldable pub read_accept : List ℕ → ℕ → ℕ → Read Op
-read_accept bs l at = follow (field 4 bs at) (λ lng at_entry. check (nat_le lng greatest_lng) at (follow (read_entry bs 0 at_entry) (λ e next. Got (ops.Accept l lng e) next)))
+read_accept bs l at = follow (field 4 bs at) (λ lng at_entry. follow (read_entry bs 0 at_entry) (λ e next. Got (ops.Accept l lng e) next))
 
 -- a ballot is the epoch of a sequencer
 unfoldable pub read_seal : List ℕ → ℕ → ℕ → Read Op

@@ -15,9 +15,6 @@ use std::alloc::Global;
 /// The greatest epoch of a sequencer.
 const GREATEST_EPOCH: u32 = u32::MAX - 1;
 
-// The greatest last known good place.
-const GREATEST_LNG: u32 = u32::MAX - 1;
-
 impl Op {
     /// The op that the bytes are. They are refused exactly where they are no op's, with the first byte of the first
     /// field that is cut off or out of its range, or else the first byte that is too many.
@@ -112,7 +109,6 @@ fn read_accept(alloc: Global, bytes: &[u8], log: LogId, at: usize) -> Result<(Op
     ensures off { IfErr result (IsOff (read_accept bytes.now log at)) }
 {
     let (lng, at_entry) = read_u32(bytes, at)?;
-    check(lng <= GREATEST_LNG, at)?;
     let (entry, next) = read_entry(alloc, bytes, 0, at_entry)?;
     Ok((Op::Accept { log, lng, entry }, next))
 }
@@ -185,7 +181,6 @@ fn read_summary(bytes: &[u8], epoch: u32, at: usize) -> Result<(Summary, usize),
     let (ballot, at_lng) = read_u32(bytes, at)?;
     check(epoch < ballot && ballot <= GREATEST_EPOCH, at)?;
     let (lng, at_trim) = read_u32(bytes, at_lng)?;
-    check(lng <= GREATEST_LNG, at_lng)?;
     let (trim, at_end) = read_u64(bytes, at_trim)?;
     let (end, next) = read_u32(bytes, at_end)?;
     check(1 <= end, at_end)?;

@@ -6,7 +6,6 @@ mod encode;
 mod entries;
 mod fault;
 mod field;
-mod known_good;
 mod log;
 mod logs;
 mod missing;

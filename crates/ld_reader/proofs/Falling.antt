@@ -10,7 +10,7 @@ use Rattle.ld_msg.specs.declared.msg.What.TheVariants.{Rec, Hole, Bridge}
 use Rattle.ld_msg.specs.declared.msg.Entry.{Entry}
 use Rattle.ld_msg.specs.declared.msg.Body.{Body}
 use Rattle.ld_msg.specs.declared.msg.Body.TheVariants as bodies
-use Rattle.ld_msg.specs.Reading.{Held, Item, TrimTo, RecordHere, HoleHere, BridgeTo, Verdict, Gives, Confirms, NotYet, decide, trim_told, trim_held, record_held, hole_held, end_held, entry_at, page_at, record_of, is_hole, shows_end, entry_verdict, loss_verdict, is_loss, within, lost_held}
+use Rattle.ld_msg.specs.Reading.{Held, Item, TrimTo, RecordHere, HoleHere, BridgeTo, Verdict, Gives, Confirms, NotYet, decide, trim_told, trim_held, record_held, hole_held, end_held, entry_at, page_at, record_of, is_hole, shows_end, entry_verdict, loss_verdict, is_loss, lost_held}
 use Rattle.ld_msg.specs.Reader.{item_end}
 use Rattle.ld_reader.specs.Given.{entries_from, rows_of, rows_from}
 
@@ -125,7 +125,7 @@ by_entries s hs None true other i here hole rest e = let same : HoleHere ≡ i =
 by_entries s hs None false other i here hole rest e = rest e
 
 no_loss : (s : ℕ) (mc : Bool) (set : List ℕ) (hs : List (ℕ × Held)) (i : Item) → loss_verdict s mc set hs ≡ Gives i → ⊥
-no_loss s mc set hs i e = elim (mc && is_loss s set hs) as (λ b. (if b then Confirms (lost_held s (within set hs)) else NotYet) ≡ Gives i → ⊥) [
+no_loss s mc set hs i e = elim (mc && is_loss s set hs) as (λ b. (if b then Confirms (lost_held s hs) else NotYet) ≡ Gives i → ⊥) [
   | true ↦ λ f. cc
   | false ↦ λ f. cc
 ] e

@@ -61,9 +61,9 @@ each_split b y ys = refl
 pub told_one : (s : Sender) (b : Body) (ys : List ℕ) (i y : ℕ) (out : List Msg) → slice_get ys i ≡ Some y → (out ++ sent s (to_each b (y ∷ []))) ++ sent s (to_each b (drop (i + 1) ys)) ≡ out ++ sent s (to_each b (drop i ys))
 told_one s b ys i y out e = sent_one (to_each b) (each_split b) s ys i y out (drop_at_place ys i y e)
 
-stores_split : (p : Spec) (lost : List ℕ) (lng wave : ℕ) (e : ℕ × Planned) (m : List (ℕ × Planned)) → item_stores p lost lng wave (e ∷ m) ≡ item_stores p lost lng wave (e ∷ []) ++ item_stores p lost lng wave m
-stores_split p lost lng wave e m = ap (λ r. r ++ item_stores p lost lng wave m) (sym (append-nil _))
+stores_split : (p : Spec) (lost : List ℕ) (wave : ℕ) (e : ℕ × Planned) (m : List (ℕ × Planned)) → item_stores p lost wave (e ∷ m) ≡ item_stores p lost wave (e ∷ []) ++ item_stores p lost wave m
+stores_split p lost wave e m = ap (λ r. r ++ item_stores p lost wave m) (sym (append-nil _))
 
-pub stored_one : (s : Sender) (p : Spec) (lost : List ℕ) (lng wave : ℕ) (m : List (ℕ × Planned)) (i : ℕ) (e : ℕ × Planned) (out : List Msg) → i < length m → e ≡ get_or m i e
-    → (out ++ sent s (item_stores p lost lng wave (e ∷ []))) ++ sent s (item_stores p lost lng wave (drop (i + 1) m)) ≡ out ++ sent s (item_stores p lost lng wave (drop i m))
-stored_one s p lost lng wave m i e out h g = sent_one (item_stores p lost lng wave) (stores_split p lost lng wave) s m i e out (drop_item m i e h g)
+pub stored_one : (s : Sender) (p : Spec) (lost : List ℕ) (wave : ℕ) (m : List (ℕ × Planned)) (i : ℕ) (e : ℕ × Planned) (out : List Msg) → i < length m → e ≡ get_or m i e
+    → (out ++ sent s (item_stores p lost wave (e ∷ []))) ++ sent s (item_stores p lost wave (drop (i + 1) m)) ≡ out ++ sent s (item_stores p lost wave (drop i m))
+stored_one s p lost wave m i e out h g = sent_one (item_stores p lost wave) (stores_split p lost wave) s m i e out (drop_item m i e h g)

@@ -2,7 +2,7 @@
 use Rattle.std.proofs.Common.{◌≡◌, ◌≤◌, ◌<◌, ℕ, ◌+◌, ◌-◌, Bool, true, false, ◌==◌, nat_lt, nat_le, List, [], ◌++◌, append-nil, Some, None, if◌then◌else◌, refl, ap, sym, ◌∙◌, arith}
 use Rattle.std.proofs.lemmas.Bool.Decides.{nat_tests}
 use Rattle.ld_table.specs.Table.{find}
-use Rattle.ld_table.specs.Words.{is_in, with_one}
+use Rattle.ld_table.specs.Words.{with_one}
 use Rattle.ld_table.proofs.Laws.{find-empty}
 use Rattle.ld_lsn.specs.Number.{epoch_of, home_epoch}
 use Rattle.ld_ids.specs.Choice.{nodes_of}
@@ -13,8 +13,8 @@ use Rattle.ld_msg.specs.declared.msg.Body.{Body}
 use Rattle.ld_msg.specs.declared.msg.Body.TheVariants as bodies
 use Rattle.ld_msg.specs.Sequencer as sequencer
 use Rattle.ld_msg.specs.Register.{Granted, Behind, Fails}
-use Rattle.ld_msg.specs.Digest.{Told, with_page, with_asks, enough, plan}
-use Rattle.ld_msg.specs.Sequencer.{takes_any, next_ask, storing_of, planned, stores_plan, retries_stage, retries_appends, next_try, next_wave, digest_asks, item_stores, try_close, tells_clean, after_close, Sequencer, Append, Recovery, Stage, Seals, Stores, Closes, Storing, Acts, does_nothing, by_stored, by_trimmed, by_reply, on_reply, on_retry, acks_append, in_recovery, settles, closes_ready, settled_by, is_ready, summary_of, recovery_lost, lost_stage, preempt, becomes, to_each, digests}
+use Rattle.ld_msg.specs.Digest.{Told, with_page, enough, plan}
+use Rattle.ld_msg.specs.Sequencer.{takes_any, next_ask, storing_of, planned, stores_plan, retries_stage, retries_appends, next_try, next_wave, digest_asks, item_stores, try_close, tells_clean, after_close, Sequencer, Append, Recovery, Stage, Seals, Stores, Closes, Storing, Acts, does_nothing, by_reply, on_reply, on_retry, acks_append, in_recovery, settles, closes_ready, settled_by, is_ready, summary_of, recovery_lost, lost_stage, preempt, becomes, to_each, digests}
 use Rattle.ld_recovery.specs.Recovering as own
 use Rattle.ld_recovery.specs.Recovering.{Recovering, Ending, Goes, IsDone, IsPreempted, as_sequencer, goes_on, ended, is_open, replied, replied_with, reply_acts, reply_messages, sent_by, messages, when_going, ending_told, summary_told}
 
@@ -86,36 +86,25 @@ stored_if : (r : Recovering) (y n : ℕ) (f : Recovery → Acts) (b : Bool) → 
 stored_if r y n f true h = ap (acks_append r.spec (acts0 r) y n) (find-empty n)
 stored_if r y n f false h = ap (λ (b : Bool). if b then f r.recovery else acts0 r) h
 
--- what a stranger stored or trimmed does nothing, and what does nothing otherwise does nothing of a member's either
-counted : (r : Recovering) (a : Acts) (b : Bool) → a ≡ acts0 r → (if b then a else acts0 r) ≡ acts0 r
-counted r a true h = h
-counted r a false h = refl
-
-pub stored_by_stranger : (r : Recovering) (y n : ℕ) → r.ending ≡ Goes → is_in y (nodes_of r.spec) ≡ false → Replied r y (bodies.Stored n) r []
-stored_by_stranger r y n h m = quiet r y (bodies.Stored n) h (ap (λ (b : Bool). if b then by_stored r.spec (acts0 r) y n else acts0 r) m)
-
-pub trimmed_by_stranger : (r : Recovering) (y n t : ℕ) → r.ending ≡ Goes → is_in y (nodes_of r.spec) ≡ false → Replied r y (bodies.TrimmedHere n t) r []
-trimmed_by_stranger r y n t h m = quiet r y (bodies.TrimmedHere n t) h (ap (λ (b : Bool). if b then by_trimmed r.spec (acts0 r) y n t else acts0 r) m)
-
 pub stored_elsewhere : (r : Recovering) (y n : ℕ) → r.ending ≡ Goes → (epoch_of n ≡ r.recovery.epoch → ⊥) → Replied r y (bodies.Stored n) r []
-stored_elsewhere r y n h o = quiet r y (bodies.Stored n) h (counted r _ (is_in y (nodes_of r.spec)) (stored_if r y n (λ v. settles r.spec (acts0 r) v (λ s. s == n) y v.stage) (epoch_of n == r.ballot) (other (λ e. o (sym e)))))
+stored_elsewhere r y n h o = quiet r y (bodies.Stored n) h (stored_if r y n (λ v. settles r.spec (acts0 r) v (λ s. s == n) y v.stage) (epoch_of n == r.ballot) (other (λ e. o (sym e))))
 
 settles_here : (r : Recovering) (y : ℕ) (b : Body) (p : ℕ → Bool) → r.ending ≡ Goes → by_reply r.spec (acts0 r) y b ≡ settles r.spec (acts0 r) r.recovery p y r.recovery.stage → Replied r y b (going r (with_stage r.recovery (settled_in r.spec r.ballot p y r.recovery.stage))) []
 settles_here r y b p h k =
     let m = moved r p y r.recovery.stage refl in
     record { value = value_of r y b _ h k m.lce ∙ m.value; sent = sent_of r y b _ h k m.lce ∙ ap (messages r) m.quiet }
 
-pub stored_here : (r : Recovering) (y n : ℕ) → r.ending ≡ Goes → is_in y (nodes_of r.spec) ≡ true → epoch_of n ≡ r.recovery.epoch → r.recovery.epoch < r.ballot → Replied r y (bodies.Stored n) (going r (with_stage r.recovery (settled_in r.spec r.ballot (λ s. s == n) y r.recovery.stage))) []
-stored_here r y n h m o l =
+pub stored_here : (r : Recovering) (y n : ℕ) → r.ending ≡ Goes → epoch_of n ≡ r.recovery.epoch → r.recovery.epoch < r.ballot → Replied r y (bodies.Stored n) (going r (with_stage r.recovery (settled_in r.spec r.ballot (λ s. s == n) y r.recovery.stage))) []
+stored_here r y n h o l =
     settles_here r y (bodies.Stored n) (λ s. s == n) h
-    (ap (λ (b : Bool). if b then by_stored r.spec (acts0 r) y n else acts0 r) m ∙ ap (λ (b : Bool). if b then acks_append r.spec (acts0 r) y n (find n []) else in_recovery (acts0 r) (epoch_of n) (Some r.recovery) (λ v. settles r.spec (acts0 r) v (λ s. s == n) y v.stage)) (other (λ e. absurd (omega arith)))
+    (ap (λ (b : Bool). if b then acks_append r.spec (acts0 r) y n (find n []) else in_recovery (acts0 r) (epoch_of n) (Some r.recovery) (λ v. settles r.spec (acts0 r) v (λ s. s == n) y v.stage)) (other (λ e. absurd (omega arith)))
     ∙ ap (λ (b : Bool). if b then settles r.spec (acts0 r) r.recovery (λ s. s == n) y r.recovery.stage else acts0 r) (same (sym o)))
 
 pub trimmed_elsewhere : (r : Recovering) (y n t : ℕ) → r.ending ≡ Goes → (epoch_of n ≡ r.recovery.epoch → ⊥) → Replied r y (bodies.TrimmedHere n t) r []
-trimmed_elsewhere r y n t h o = quiet r y (bodies.TrimmedHere n t) h (counted r _ (is_in y (nodes_of r.spec)) (ap (λ (b : Bool). if b then settles r.spec (acts0 r) r.recovery (λ s. nat_le s t) y r.recovery.stage else acts0 r) (other (λ e. o (sym e)))))
+trimmed_elsewhere r y n t h o = quiet r y (bodies.TrimmedHere n t) h (ap (λ (b : Bool). if b then settles r.spec (acts0 r) r.recovery (λ s. nat_le s t) y r.recovery.stage else acts0 r) (other (λ e. o (sym e))))
 
-pub trimmed_here : (r : Recovering) (y n t : ℕ) → r.ending ≡ Goes → is_in y (nodes_of r.spec) ≡ true → epoch_of n ≡ r.recovery.epoch → Replied r y (bodies.TrimmedHere n t) (going r (with_stage r.recovery (settled_in r.spec r.ballot (λ s. nat_le s t) y r.recovery.stage))) []
-trimmed_here r y n t h m o = settles_here r y (bodies.TrimmedHere n t) (λ s. nat_le s t) h (ap (λ (b : Bool). if b then by_trimmed r.spec (acts0 r) y n t else acts0 r) m ∙ ap (λ (b : Bool). if b then settles r.spec (acts0 r) r.recovery (λ s. nat_le s t) y r.recovery.stage else acts0 r) (same (sym o)))
+pub trimmed_here : (r : Recovering) (y n t : ℕ) → r.ending ≡ Goes → epoch_of n ≡ r.recovery.epoch → Replied r y (bodies.TrimmedHere n t) (going r (with_stage r.recovery (settled_in r.spec r.ballot (λ s. nat_le s t) y r.recovery.stage))) []
+trimmed_here r y n t h o = settles_here r y (bodies.TrimmedHere n t) (λ s. nat_le s t) h (ap (λ (b : Bool). if b then settles r.spec (acts0 r) r.recovery (λ s. nat_le s t) y r.recovery.stage else acts0 r) (same (sym o)))
 
 -- ---- sealed ----
 
@@ -228,21 +217,21 @@ other_body r y (bodies.ReadWait ro n t) h a b c d e f = quiet r y (bodies.ReadWa
 
 -- ---- a retry ----
 
-abbrev pub again : ℕ → Stage → Stage
-again epoch (Seals d) = Seals (with_asks epoch d)
-again epoch (Stores g) = Stores (next_try g)
-again epoch (Closes y) = Closes y
+abbrev pub again : Stage → Stage
+again (Seals d) = Seals d
+again (Stores g) = Stores (next_try g)
+again (Closes y) = Closes y
 
-abbrev pub again_sends : Spec → ℕ → List ℕ → Stage → List (ℕ × Body)
-again_sends spec epoch lost (Seals d) = digest_asks (with_asks epoch d)
-again_sends spec epoch lost (Stores g) = item_stores spec lost g.lng (next_wave g.wave) g.items
-again_sends spec epoch lost (Closes y) = []
+abbrev pub again_sends : Spec → List ℕ → Stage → List (ℕ × Body)
+again_sends spec lost (Seals d) = digest_asks d
+again_sends spec lost (Stores g) = item_stores spec lost (next_wave g.wave) g.items
+again_sends spec lost (Closes y) = []
 
 abbrev again_acts : Recovering → Stage → Acts
 again_acts r s = retries_stage r.spec (retries_appends r.spec (acts0 r)) r.recovery s
 
-again_moves : (r : Recovering) (s : Stage) → r.recovery.stage ≡ s → goes_on r (again_acts r s) ≡ going r (with_stage r.recovery (again r.recovery.epoch s))
-again_moves r (Seals d) h = refl
+again_moves : (r : Recovering) (s : Stage) → r.recovery.stage ≡ s → goes_on r (again_acts r s) ≡ going r (with_stage r.recovery (again s))
+again_moves r (Seals d) h = ap (λ (s : Stage). going r (with_stage r.recovery s)) h
 again_moves r (Stores g) h = refl
 again_moves r (Closes y) h = ap (λ (s : Stage). going r (with_stage r.recovery s)) h
 
@@ -251,16 +240,16 @@ again_open r (Seals d) = refl
 again_open r (Stores g) = refl
 again_open r (Closes y) = refl
 
-again_sent : (r : Recovering) (s : Stage) → (again_acts r s).asks ++ (again_acts r s).stores ≡ again_sends r.spec r.recovery.epoch r.recovery.lost s
-again_sent r (Seals d) = append-nil (digest_asks (with_asks r.recovery.epoch d))
-again_sent r (Stores g) = append-nil (item_stores r.spec r.recovery.lost g.lng (next_wave g.wave) g.items)
+again_sent : (r : Recovering) (s : Stage) → (again_acts r s).asks ++ (again_acts r s).stores ≡ again_sends r.spec r.recovery.lost s
+again_sent r (Seals d) = append-nil (digest_asks d)
+again_sent r (Stores g) = append-nil (item_stores r.spec r.recovery.lost (next_wave g.wave) g.items)
 again_sent r (Closes y) = refl
 
-pub retried_is : (r : Recovering) → r.ending ≡ Goes → own.retried r ≡ going r (with_stage r.recovery (again r.recovery.epoch r.recovery.stage))
+pub retried_is : (r : Recovering) → r.ending ≡ Goes → own.retried r ≡ going r (with_stage r.recovery (again r.recovery.stage))
 unfolding on_retry
 retried_is r h = ap (λ (x : Ending). when_going x (goes_on r (on_retry r.spec (as_sequencer r))) r) h ∙ again_moves r r.recovery.stage refl
 
-pub retry_sent : (r : Recovering) → r.ending ≡ Goes → own.retry_messages r ≡ messages r (again_sends r.spec r.recovery.epoch r.recovery.lost r.recovery.stage)
+pub retry_sent : (r : Recovering) → r.ending ≡ Goes → own.retry_messages r ≡ messages r (again_sends r.spec r.recovery.lost r.recovery.stage)
 unfolding on_retry
 retry_sent r h = ap (λ (x : Ending). when_going x (messages r (sent_by r (on_retry r.spec (as_sequencer r)))) []) h
     ∙ (ap (λ (t : Bool). messages r (if t then (again_acts r r.recovery.stage).asks ++ (again_acts r r.recovery.stage).stores else (again_acts r r.recovery.stage).cleans)) (same (again_open r r.recovery.stage)) ∙ ap (messages r) (again_sent r r.recovery.stage))
@@ -271,17 +260,17 @@ abbrev page_stages : Spec → ℕ → List Told → List Told → Bool → Bool 
 page_stages spec epoch d new b c = if b then (if c then Stores (storing_of (plan epoch new)) else Seals new) else Seals d
 
 abbrev page_outs : Spec → ℕ → List ℕ → ℕ → List Told → Bool → Bool → List (ℕ × Body)
-page_outs spec epoch lost y new b c = if b then (if c then item_stores spec lost (plan epoch new).lng 0 (planned (plan epoch new).items) else next_ask y new) else []
+page_outs spec epoch lost y new b c = if b then (if c then item_stores spec lost 0 (planned (plan epoch new).items) else next_ask y new) else []
 
-abbrev pub page_in : Spec → ℕ → ℕ → ℕ → ℕ → ℕ → ℕ → List Entry → Stage → Stage
-page_in spec epoch y from upto trim lng es (Seals d) = if takes_any y from d then (if enough spec (with_page epoch y from upto trim lng es d) then Stores (storing_of (plan epoch (with_page epoch y from upto trim lng es d))) else Seals (with_page epoch y from upto trim lng es d)) else Seals d
-page_in spec epoch y from upto trim lng es (Stores g) = Stores g
-page_in spec epoch y from upto trim lng es (Closes s) = Closes s
+abbrev pub page_in : Spec → ℕ → ℕ → ℕ → ℕ → ℕ → List Entry → Stage → Stage
+page_in spec epoch y from upto trim es (Seals d) = if takes_any y from d then (if enough spec (with_page epoch y from upto trim es d) then Stores (storing_of (plan epoch (with_page epoch y from upto trim es d))) else Seals (with_page epoch y from upto trim es d)) else Seals d
+page_in spec epoch y from upto trim es (Stores g) = Stores g
+page_in spec epoch y from upto trim es (Closes s) = Closes s
 
-abbrev pub page_out : Spec → ℕ → List ℕ → ℕ → ℕ → ℕ → ℕ → ℕ → List Entry → Stage → List (ℕ × Body)
-page_out spec epoch lost y from upto trim lng es (Seals d) = if takes_any y from d then (if enough spec (with_page epoch y from upto trim lng es d) then item_stores spec lost (plan epoch (with_page epoch y from upto trim lng es d)).lng 0 (planned (plan epoch (with_page epoch y from upto trim lng es d)).items) else next_ask y (with_page epoch y from upto trim lng es d)) else []
-page_out spec epoch lost y from upto trim lng es (Stores g) = []
-page_out spec epoch lost y from upto trim lng es (Closes s) = []
+abbrev pub page_out : Spec → ℕ → List ℕ → ℕ → ℕ → ℕ → ℕ → List Entry → Stage → List (ℕ × Body)
+page_out spec epoch lost y from upto trim es (Seals d) = if takes_any y from d then (if enough spec (with_page epoch y from upto trim es d) then item_stores spec lost 0 (planned (plan epoch (with_page epoch y from upto trim es d)).items) else next_ask y (with_page epoch y from upto trim es d)) else []
+page_out spec epoch lost y from upto trim es (Stores g) = []
+page_out spec epoch lost y from upto trim es (Closes s) = []
 
 record Pages (r : Recovering) (a : Acts) (v : Recovery) (bs : List (ℕ × Body)) : Type 0 where
   value : goes_on r a ≡ going r v
@@ -296,19 +285,19 @@ pages_if r y d new true true h = record { value = refl; lce = refl; sent = refl 
 pages_if r y d new true false h = record { value = refl; lce = refl; sent = append-nil (next_ask y new) }
 pages_if r y d new false c h = record { value = ap (λ (s : Stage). going r (with_stage r.recovery s)) h; lce = refl; sent = refl }
 
-pages : (r : Recovering) (y from upto trim lng : ℕ) (es : List Entry) (s : Stage) → r.recovery.stage ≡ s → Pages r (digests r.spec (acts0 r) r.recovery y from upto trim lng es s) (with_stage r.recovery (page_in r.spec r.recovery.epoch y from upto trim lng es s)) (page_out r.spec r.recovery.epoch r.recovery.lost y from upto trim lng es s)
-pages r y from upto trim lng es (Seals d) h = pages_if r y d (with_page r.recovery.epoch y from upto trim lng es d) (takes_any y from d) (enough r.spec (with_page r.recovery.epoch y from upto trim lng es d)) h
-pages r y from upto trim lng es (Stores g) h = record { value = ap (λ (s : Stage). going r (with_stage r.recovery s)) h; lce = refl; sent = refl }
-pages r y from upto trim lng es (Closes z) h = record { value = ap (λ (s : Stage). going r (with_stage r.recovery s)) h; lce = refl; sent = refl }
+pages : (r : Recovering) (y from upto trim : ℕ) (es : List Entry) (s : Stage) → r.recovery.stage ≡ s → Pages r (digests r.spec (acts0 r) r.recovery y from upto trim es s) (with_stage r.recovery (page_in r.spec r.recovery.epoch y from upto trim es s)) (page_out r.spec r.recovery.epoch r.recovery.lost y from upto trim es s)
+pages r y from upto trim es (Seals d) h = pages_if r y d (with_page r.recovery.epoch y from upto trim es d) (takes_any y from d) (enough r.spec (with_page r.recovery.epoch y from upto trim es d)) h
+pages r y from upto trim es (Stores g) h = record { value = ap (λ (s : Stage). going r (with_stage r.recovery s)) h; lce = refl; sent = refl }
+pages r y from upto trim es (Closes z) h = record { value = ap (λ (s : Stage). going r (with_stage r.recovery s)) h; lce = refl; sent = refl }
 
 pub page_here : (r : Recovering) (y from upto trim lng : ℕ) (es : List Entry) → r.ending ≡ Goes → epoch_of from ≡ r.recovery.epoch
-    → Replied r y (bodies.DigestPage from upto trim lng es) (going r (with_stage r.recovery (page_in r.spec r.recovery.epoch y from upto trim lng es r.recovery.stage))) (page_out r.spec r.recovery.epoch r.recovery.lost y from upto trim lng es r.recovery.stage)
+    → Replied r y (bodies.DigestPage from upto trim lng es) (going r (with_stage r.recovery (page_in r.spec r.recovery.epoch y from upto trim es r.recovery.stage))) (page_out r.spec r.recovery.epoch r.recovery.lost y from upto trim es r.recovery.stage)
 page_here r y from upto trim lng es h o =
     let b = bodies.DigestPage from upto trim lng es in
-    let a = digests r.spec (acts0 r) r.recovery y from upto trim lng es r.recovery.stage in
-    let k : by_reply r.spec (acts0 r) y b ≡ a = ap (λ (t : Bool). if t then digests r.spec (acts0 r) r.recovery y from upto trim lng es r.recovery.stage else acts0 r) (same (sym o)) in
-    let m = pages r y from upto trim lng es r.recovery.stage refl in
+    let a = digests r.spec (acts0 r) r.recovery y from upto trim es r.recovery.stage in
+    let k : by_reply r.spec (acts0 r) y b ≡ a = ap (λ (t : Bool). if t then digests r.spec (acts0 r) r.recovery y from upto trim es r.recovery.stage else acts0 r) (same (sym o)) in
+    let m = pages r y from upto trim es r.recovery.stage refl in
     record { value = value_of r y b a h k m.lce ∙ m.value; sent = sent_of r y b a h k m.lce ∙ ap (messages r) m.sent }
 
 pub page_elsewhere : (r : Recovering) (y from upto trim lng : ℕ) (es : List Entry) → r.ending ≡ Goes → (epoch_of from ≡ r.recovery.epoch → ⊥) → Replied r y (bodies.DigestPage from upto trim lng es) r []
-page_elsewhere r y from upto trim lng es h o = quiet r y (bodies.DigestPage from upto trim lng es) h (ap (λ (t : Bool). if t then digests r.spec (acts0 r) r.recovery y from upto trim lng es r.recovery.stage else acts0 r) (other (λ e. o (sym e))))
+page_elsewhere r y from upto trim lng es h o = quiet r y (bodies.DigestPage from upto trim lng es) h (ap (λ (t : Bool). if t then digests r.spec (acts0 r) r.recovery y from upto trim es r.recovery.stage else acts0 r) (other (λ e. o (sym e))))

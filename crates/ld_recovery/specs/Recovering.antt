@@ -10,7 +10,7 @@ use Rattle.ld_msg.specs.declared.msg.Summary.{Summary}
 use Rattle.ld_msg.specs.declared.msg.Body.{Body}
 use Rattle.ld_msg.specs.declared.msg.Body.TheVariants as bodies
 use Rattle.ld_ids.specs.Id.{IsNode}
-use Rattle.ld_msg.specs.Bounds.{IsLng, IsSummary, IsPage, Fits}
+use Rattle.ld_msg.specs.Bounds.{IsSummary, IsPage, Fits}
 use Rattle.ld_msg.specs.Digest.{no_digest}
 use Rattle.ld_msg.specs.Network.{posted}
 use Rattle.ld_msg.specs.Register.{Answer, Granted, AtLimit, Behind, Fails}
@@ -146,7 +146,7 @@ sender_of _ = 0
 -- what holds of the replies that a message may carry
 abbrev pub IsReply : Body → Type 0
 IsReply (bodies.CleanHere n y) = IsSummary (epoch_of n) y
-IsReply (bodies.DigestPage from upto trim lng es) = IsPage from upto es × IsLng lng
+IsReply (bodies.DigestPage from upto trim lng es) = IsPage from upto es
 IsReply _ = Unit {0}
 
 -- a node's reply to the sequencer of an epoch
@@ -165,8 +165,9 @@ pub record IsRecovery (r : Recovering) : Type 0 where
   pub stage : IsStage r.recovery.epoch r.recovery.stage
   pub named : IsNamed r.spec
 
--- the epoch is to be closed with this summary of it, by the sequencer
+-- the epoch is to be closed with this summary of it, by the sequencer, with no number known to be good
 pub record IsClosing (r : Recovering) (y : Summary) : Type 0 where
   pub closing : Closing r y
   pub summary : IsSummary r.recovery.epoch y
   pub ballot : y.ballot ≡ r.ballot
+  pub lng : y.lng ≡ 0

@@ -7,7 +7,7 @@ ghost use Rattle.ld_msg.specs.declared.msg.Body.TheVariants.{Stored, SealedHere,
 ghost use Rattle.ld_msg.specs.Register.{Granted};
 ghost use Rattle.ld_node_bounds.specs.Messages.{AreMessages};
 ghost use Rattle.ld_recovery.specs.Stages.{IsOf};
-ghost use Rattle.ld_msg.specs.Bounds.{IsLng, IsMessage, IsSummary, IsPage};
+ghost use Rattle.ld_msg.specs.Bounds.{IsMessage, IsSummary, IsPage};
 ghost use Rattle.ld_lsn.specs.Number.{epoch_of};
 ghost use Rattle.ld_msg.specs.Digest.{no_digest};
 ghost use Rattle.ld_msg.specs.Sequencer.{digest_asks};
@@ -119,7 +119,7 @@ impl Recovery {
     }
 
     /// Where it stands. A summary that it is closing or done with is one that the register takes for its epoch; one that it
-    /// is closing with names its ballot.
+    /// is closing with names its ballot, and no number that is known to be good.
     pub fn state(&self) -> State
         ensures value { result ≡ state_of self.now }
         ensures holds { IsRecovery self.now }
@@ -186,14 +186,13 @@ impl Recovery {
                 from,
                 upto,
                 trim,
-                lng,
                 entries,
+                ..
             } => {
                 let page = Page {
                     from: *from,
                     upto: *upto,
                     trim: *trim,
-                    lng: *lng,
                     entries,
                 };
                 self.on_page(alloc, node, &page, out)
@@ -207,9 +206,6 @@ impl Recovery {
         ensures value { self.new ≡ replied self.old node (Stored number) }
         ensures quiet { reply_messages self.old node (Stored number) ≡ [] }
     {
-        if !self.spec.set.has(node) {
-            return;
-        }
         if number.epoch() == self.epoch {
             self.stage.store(self.ballot, number, node);
         }
@@ -220,9 +216,6 @@ impl Recovery {
         ensures value { self.new ≡ replied self.old node (TrimmedHere number trim) }
         ensures quiet { reply_messages self.old node (TrimmedHere number trim) ≡ [] }
     {
-        if !self.spec.set.has(node) {
-            return;
-        }
         if number.epoch() == self.epoch {
             self.stage.trim(self.ballot, trim, node);
         }
@@ -287,9 +280,8 @@ impl Recovery {
     ) -> Result<(), NoMemory>
         requires going { self.old.ending ≡ Goes }
         requires page { IsPage page.now.from page.now.upto page.now.entries.now }
-        requires lng { IsLng page.now.lng }
-        ensures value { OnOk result (self.new ≡ replied self.old node (DigestPage page.now.from page.now.upto page.now.trim page.now.lng page.now.entries.now)) }
-        ensures sent { OnOk result (out.new ≡ out.old ++ reply_messages self.old node (DigestPage page.now.from page.now.upto page.now.trim page.now.lng page.now.entries.now)) }
+        ensures value { (lng : ℕ) → OnOk result (self.new ≡ replied self.old node (DigestPage page.now.from page.now.upto page.now.trim lng page.now.entries.now)) }
+        ensures sent { (lng : ℕ) → OnOk result (out.new ≡ out.old ++ reply_messages self.old node (DigestPage page.now.from page.now.upto page.now.trim lng page.now.entries.now)) }
         ensures unsent { OnErr result (out.new ≡ out.old) }
         ensures messages { AreMessages out.old → AreMessages out.new }
     {

@@ -5,7 +5,7 @@ use Rattle.std.proofs.lemmas.Grind.{common_steps}
 use Rattle.std.specs.Int.{w32, w64, to_be_bytes, from_be_bytes}
 use Rattle.ld_ids.specs.Id.{IsLog, IsNode}
 use Rattle.ld_msg.specs.declared.msg.Summary.{Summary}
-use Rattle.ld_msg.specs.Bounds.{IsLng, IsEpoch}
+use Rattle.ld_msg.specs.Bounds.{IsEpoch}
 use Rattle.ld_register.specs.declared.change.Change.TheVariants as changes
 use Rattle.ld_register.specs.Changes.{change_bytes, IsNoBody}
 
@@ -56,18 +56,17 @@ close_is bs l e y len kind le ee be ge te de =
     step : (at n : ℕ) (xs : List ℕ) → xs ≡ take n (drop at bs) → {ys : List ℕ} → drop (at + n) bs ≡ ys → drop at bs ≡ xs ++ ys
     step at n xs e {ys} r = parted n at bs ∙ (ap (λ t. t ++ drop (at + n) bs) (sym e) ∙ ap (λ t. xs ++ t) r)
 
-pub no_close : (bs : List ℕ) (l e : ℕ) (y : Summary) → length bs ≡ 29 → l < 2 ^ 32 → e < 2 ^ 32 → y.ballot < 2 ^ 32 → y.lng < 2 ^ 32 → y.end < 2 ^ 32 → to_be_bytes w32 l ≡ take 4 (drop 1 bs) → to_be_bytes w32 e ≡ take 4 (drop 5 bs)
-    → to_be_bytes w32 y.ballot ≡ take 4 (drop 9 bs) → to_be_bytes w32 y.lng ≡ take 4 (drop 13 bs) → to_be_bytes w32 y.end ≡ take 4 (drop 25 bs) → (IsLog l → IsEpoch e → e < y.ballot → y.ballot ≤ 2 ^ 32 - 2 → IsLng y.lng → 1 ≤ y.end → ⊥) → IsNoBody bs
+pub no_close : (bs : List ℕ) (l e : ℕ) (y : Summary) → length bs ≡ 29 → l < 2 ^ 32 → e < 2 ^ 32 → y.ballot < 2 ^ 32 → y.end < 2 ^ 32 → to_be_bytes w32 l ≡ take 4 (drop 1 bs) → to_be_bytes w32 e ≡ take 4 (drop 5 bs)
+    → to_be_bytes w32 y.ballot ≡ take 4 (drop 9 bs) → to_be_bytes w32 y.end ≡ take 4 (drop 25 bs) → (IsLog l → IsEpoch e → e < y.ballot → y.ballot ≤ 2 ^ 32 - 2 → 1 ≤ y.end → ⊥) → IsNoBody bs
 unfolding change_bytes
-no_close bs l e y len fl fe fb fg fd le ee be ge de none (changes.Activate m f) i is = omega (arith, len, ap length is)
-no_close bs l e y len fl fe fb fg fd le ee be ge de none (changes.Close m f z) i is =
+no_close bs l e y len fl fe fb fd le ee be de none (changes.Activate m f) i is = omega (arith, len, ap length is)
+no_close bs l e y len fl fe fb fd le ee be de none (changes.Close m f z) i is =
     let a : l ≡ m = (let j = i.0.1 in same_word l m fl (omega arith) (le ∙ ap (λ b. take 4 (drop 1 b)) is)) in
     let b : e ≡ f = (let j = i.1.1 in same_word e f fe (omega arith) (ee ∙ ap (λ b. take 4 (drop 5 b)) is)) in
     let c : y.ballot ≡ z.ballot = (let j = i.2.ballot_most in same_word y.ballot z.ballot fb (omega arith) (be ∙ ap (λ b. take 4 (drop 9 b)) is)) in
-    let g : y.lng ≡ z.lng = (let j = i.2.lng in same_word y.lng z.lng fg (omega arith) (ge ∙ ap (λ b. take 4 (drop 13 b)) is)) in
     let d : y.end ≡ z.end = (let j = i.2.end_most in same_word y.end z.end fd (omega arith) (de ∙ ap (λ b. take 4 (drop 25 b)) is)) in
-    none (subst IsLog (sym a) i.0) (subst IsEpoch (sym b) i.1) (let j = i.2.ballot in omega arith) (let j = i.2.ballot_most in omega arith) (let j = i.2.lng in omega arith) (let j = i.2.end in omega arith)
-no_close bs l e y len fl fe fb fg fd le ee be ge de none (changes.Draw n g) i is = omega (arith, len, ap length is)
+    none (subst IsLog (sym a) i.0) (subst IsEpoch (sym b) i.1) (let j = i.2.ballot in omega arith) (let j = i.2.ballot_most in omega arith) (let j = i.2.end in omega arith)
+no_close bs l e y len fl fe fb fd le ee be de none (changes.Draw n g) i is = omega (arith, len, ap length is)
 
 -- ---- a draw ----
 

@@ -35,7 +35,7 @@ same_change (changes.Close l e y) (changes.Close m f z) i j h =
     let b : e ≡ f = (let p = i.1.1 in let q = j.1.1 in same_word e f (omega arith) (omega arith) (ap (λ b. take 4 (drop 5 b)) h)) in
     let s : y ≡ z = same_summary y z
     (let p = i.2.ballot_most in let q = j.2.ballot_most in same_word y.ballot z.ballot (omega arith) (omega arith) (ap (λ b. take 4 (drop 9 b)) h))
-    (let p = i.2.lng in let q = j.2.lng in same_word y.lng z.lng (omega arith) (omega arith) (ap (λ b. take 4 (drop 13 b)) h))
+    (same_word y.lng z.lng i.2.lng j.2.lng (ap (λ b. take 4 (drop 13 b)) h))
     (same_long y.trim z.trim i.2.trim j.2.trim (ap (λ b. take 8 (drop 17 b)) h))
     (let p = i.2.end_most in let q = j.2.end_most in same_word y.end z.end (omega arith) (omega arith) (ap (λ b. take 4 (drop 25 b)) h)) in
     ap (λ n. changes.Close n e y) a ∙ (ap (λ n. changes.Close m n y) b ∙ ap (λ n. changes.Close m f n) s)

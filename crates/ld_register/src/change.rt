@@ -16,9 +16,6 @@ const DRAW: u8 = 18;
 /// The greatest epoch of a log.
 pub(crate) const GREATEST_EPOCH: u32 = u32::MAX - 1;
 
-// The greatest last known good place of an epoch.
-const GREATEST_LNG: u32 = u32::MAX - 1;
-
 /// A change of a register, as one record of its journal.
 #[derive(Clone, Copy, Debug)]
 pub(crate) enum Change {
@@ -178,7 +175,7 @@ fn read_close(body: &[u8]) -> Option<Change>
     if epoch == 0 || summary.ballot <= epoch {
         return None;
     }
-    if GREATEST_EPOCH < summary.ballot || summary.end == 0 || GREATEST_LNG < summary.lng {
+    if GREATEST_EPOCH < summary.ballot || summary.end == 0 {
         return None;
     }
     Some(Change::Close {

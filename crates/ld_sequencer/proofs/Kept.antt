@@ -1,8 +1,6 @@
 -- What no answer changes of an own epoch.
 use Rattle.std.proofs.Common.{◌≡◌, ℕ, Bool, true, false, ◌==◌, nat_lt, Option, Some, None, if◌then◌else◌, refl, ap, ◌∙◌}
 use Rattle.ld_table.specs.Table.{find}
-use Rattle.ld_table.specs.Words.{is_in}
-use Rattle.ld_ids.specs.Choice.{nodes_of}
 use Rattle.ld_lsn.specs.Number.{epoch_of, home_epoch}
 use Rattle.ld_ids.specs.declared.set.Spec.{Spec}
 use Rattle.ld_msg.specs.declared.msg.Body.{Body}
@@ -24,8 +22,7 @@ lce_acks s o y n None = refl
 lce_acks s o y n (Some p) = refl
 
 lce_by : (s : Spec) (o : Own) (y : ℕ) (b : Body) → (by_reply s (alone o) y b).sequencer.lce ≡ o.lce
-lce_by s o y (bodies.Stored n) = lce_if o (is_in y (nodes_of s)) _ (alone o) (lce_if o (epoch_of n == o.row.epoch) _ _ (lce_acks s o y n (find n o.row.appends)) refl) refl
-lce_by s o y (bodies.TrimmedHere n t) = lce_if o (is_in y (nodes_of s)) (alone o) (alone o) refl refl
+lce_by s o y (bodies.Stored n) = lce_if o (epoch_of n == o.row.epoch) _ _ (lce_acks s o y n (find n o.row.appends)) refl
 lce_by s o y (bodies.SealedHere n k) = lce_if o (nat_lt o.row.epoch k) _ _ refl refl
 lce_by s o y (bodies.LostHere n round generation end) = lce_if o (home_epoch n == o.row.epoch) _ _ refl refl
 lce_by s o y (bodies.CleanHere n z) = lce_if o (home_epoch n == o.row.epoch) _ _ refl refl

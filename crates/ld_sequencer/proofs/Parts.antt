@@ -1,8 +1,6 @@
 -- A sequencer's two parts, and what a reply does to each of them.
 use Rattle.std.proofs.Common.{◌≡◌, ◌⊎◌, inl, inr, ℕ, Bool, true, false, not, ◌==◌, nat_lt, nat_le, List, [], ◌∷◌, Option, Some, None, is_some, if◌then◌else◌, refl, ap, sym, ◌∙◌}
 use Rattle.ld_table.specs.Table.{find}
-use Rattle.ld_table.specs.Words.{is_in}
-use Rattle.ld_ids.specs.Choice.{nodes_of}
 use Rattle.ld_lsn.specs.Number.{epoch_of, home_epoch}
 use Rattle.ld_ids.specs.declared.set.Spec.{Spec}
 use Rattle.ld_msg.specs.declared.msg.Summary.{Summary}
@@ -39,7 +37,7 @@ own_acks s o v y n None = refl
 own_acks s o v y n (Some p) = refl
 
 pub own_by : (s : Spec) (o : Own) (v : Option Recovery) (y : ℕ) (b : Body) → is_of_earlier o.row.epoch b ≡ false → by_reply s (beside o v) y b ≡ in_whole v (by_reply s (alone o) y b)
-own_by s o v y (bodies.Stored n) h = both_if v (is_in y (nodes_of s)) _ (beside o v) _ (alone o) (first_if v (epoch_of n == o.row.epoch) (acks_append s (beside o v) y n (find n o.row.appends)) (in_recovery (beside o v) (epoch_of n) v (λ w. settles s (beside o v) w (λ k. k == n) y w.stage)) (acks_append s (alone o) y n (find n o.row.appends)) (alone o) h (own_acks s o v y n (find n o.row.appends))) refl
+own_by s o v y (bodies.Stored n) h = first_if v (epoch_of n == o.row.epoch) (acks_append s (beside o v) y n (find n o.row.appends)) (in_recovery (beside o v) (epoch_of n) v (λ w. settles s (beside o v) w (λ k. k == n) y w.stage)) (acks_append s (alone o) y n (find n o.row.appends)) (alone o) h (own_acks s o v y n (find n o.row.appends))
 own_by s o v y (bodies.SealedHere n k) h = both_if v (nat_lt o.row.epoch k) (preempt (beside o v) k) (beside o v) (preempt (alone o) k) (alone o) refl refl
 own_by s o v y (bodies.LostHere n round generation end) h = first_if v (home_epoch n == o.row.epoch) _ _ _ _ h refl
 own_by s o v y (bodies.CleanHere n z) h = first_if v (home_epoch n == o.row.epoch) _ _ _ _ h refl
@@ -48,8 +46,7 @@ own_by s o v y (bodies.DigestPage from upto trim lng es) h = absurd cc
 own_by s o v y _ h = refl
 
 pub none_by : (s : Spec) (o : Own) (y : ℕ) (b : Body) → by_reply s (alone o) y b ≡ in_whole None (by_reply s (alone o) y b)
-none_by s o y (bodies.Stored n) = both_if None (is_in y (nodes_of s)) _ (alone o) _ (alone o) (both_if None (epoch_of n == o.row.epoch) (acks_append s (alone o) y n (find n o.row.appends)) (alone o) (acks_append s (alone o) y n (find n o.row.appends)) (alone o) (own_acks s o None y n (find n o.row.appends)) refl) refl
-none_by s o y (bodies.TrimmedHere n t) = both_if None (is_in y (nodes_of s)) (alone o) (alone o) (alone o) (alone o) refl refl
+none_by s o y (bodies.Stored n) = both_if None (epoch_of n == o.row.epoch) (acks_append s (alone o) y n (find n o.row.appends)) (alone o) (acks_append s (alone o) y n (find n o.row.appends)) (alone o) (own_acks s o None y n (find n o.row.appends)) refl
 none_by s o y (bodies.SealedHere n k) = both_if None (nat_lt o.row.epoch k) (preempt (alone o) k) (alone o) (preempt (alone o) k) (alone o) refl refl
 none_by s o y (bodies.LostHere n round generation end) = both_if None (home_epoch n == o.row.epoch) _ _ _ _ refl refl
 none_by s o y (bodies.CleanHere n z) = both_if None (home_epoch n == o.row.epoch) _ _ _ _ refl refl
@@ -87,17 +84,17 @@ join_settles s o v p y (Closes z) = refl
 join_adds : (s : Spec) (o : Own) (v : Recovery) (y : ℕ) (d : List Told) → adds_page s (with_it o v) v y d ≡ rejoin o (adds_page s (of_only o v) v y d)
 join_adds s o v y d = join_if o (enough s d) _ _ _ _ refl refl
 
-join_digests : (s : Spec) (o : Own) (v : Recovery) (y from upto trim lng : ℕ) (es : List Entry) (t : Stage) → digests s (with_it o v) v y from upto trim lng es t ≡ rejoin o (digests s (of_only o v) v y from upto trim lng es t)
-join_digests s o v y from upto trim lng es (Seals d) = join_if o (takes_any y from d) _ _ _ _ (join_adds s o v y (with_page v.epoch y from upto trim lng es d)) refl
-join_digests s o v y from upto trim lng es (Stores g) = refl
-join_digests s o v y from upto trim lng es (Closes z) = refl
+join_digests : (s : Spec) (o : Own) (v : Recovery) (y from upto trim : ℕ) (es : List Entry) (t : Stage) → digests s (with_it o v) v y from upto trim es t ≡ rejoin o (digests s (of_only o v) v y from upto trim es t)
+join_digests s o v y from upto trim es (Seals d) = join_if o (takes_any y from d) _ _ _ _ (join_adds s o v y (with_page v.epoch y from upto trim es d)) refl
+join_digests s o v y from upto trim es (Stores g) = refl
+join_digests s o v y from upto trim es (Closes z) = refl
 
 pub join_by : (s : Spec) (o : Own) (v : Recovery) (y : ℕ) (b : Body) → is_of_earlier o.row.epoch b ≡ true → by_reply s (with_it o v) y b ≡ rejoin o (by_reply s (of_only o v) y b)
-join_by s o v y (bodies.Stored n) h = join_if o (is_in y (nodes_of s)) _ _ _ _ (join_second o (epoch_of n == o.row.epoch) _ _ _ _ h (join_if o (v.epoch == epoch_of n) _ _ _ _ (join_settles s o v (λ k. k == n) y v.stage) refl)) refl
+join_by s o v y (bodies.Stored n) h = join_second o (epoch_of n == o.row.epoch) _ _ _ _ h (join_if o (v.epoch == epoch_of n) _ _ _ _ (join_settles s o v (λ k. k == n) y v.stage) refl)
 join_by s o v y (bodies.LostHere n round generation end) h = join_second o (home_epoch n == o.row.epoch) _ _ _ _ h (join_if o (v.epoch == home_epoch n) _ _ _ _ refl refl)
 join_by s o v y (bodies.CleanHere n z) h = join_second o (home_epoch n == o.row.epoch) _ _ _ _ h (join_if o (v.epoch == home_epoch n) _ _ _ _ refl refl)
-join_by s o v y (bodies.TrimmedHere n t) h = join_if o (is_in y (nodes_of s)) _ _ _ _ (join_if o (v.epoch == epoch_of n) _ _ _ _ (join_settles s o v (λ k. nat_le k t) y v.stage) refl) refl
-join_by s o v y (bodies.DigestPage from upto trim lng es) h = join_if o (v.epoch == epoch_of from) _ _ _ _ (join_digests s o v y from upto trim lng es v.stage) refl
+join_by s o v y (bodies.TrimmedHere n t) h = join_if o (v.epoch == epoch_of n) _ _ _ _ (join_settles s o v (λ k. nat_le k t) y v.stage) refl
+join_by s o v y (bodies.DigestPage from upto trim lng es) h = join_if o (v.epoch == epoch_of from) _ _ _ _ (join_digests s o v y from upto trim es v.stage) refl
 join_by s o v y _ h = absurd cc
 
 -- ---- a recovery moves on, or its epoch is clean ----
@@ -179,13 +176,13 @@ moves_settles s q v p y (Closes z) k h = still q v k
 
 moves_adds : (s : Spec) (q : Sequencer) (v : Recovery) (y : ℕ) (d e : List Told) → v.stage ≡ Seals e → Moves q v (adds_page s (does_nothing q) v y d)
 moves_adds s q v y d e h = moves_if q v (enough s d) _ _
-    (record { now = at_stage v (Stores (storing_of (plan v.epoch d))); tries = []; asks = []; stores = item_stores s v.lost (plan v.epoch d).lng 0 (planned (plan v.epoch d).items); value = refl; epoch = refl; due = due_at v (Seals e) (at_stage v (Stores (storing_of (plan v.epoch d)))) _ h refl; quiet = inl refl })
+    (record { now = at_stage v (Stores (storing_of (plan v.epoch d))); tries = []; asks = []; stores = item_stores s v.lost 0 (planned (plan v.epoch d).items); value = refl; epoch = refl; due = due_at v (Seals e) (at_stage v (Stores (storing_of (plan v.epoch d)))) _ h refl; quiet = inl refl })
     (record { now = at_stage v (Seals d); tries = []; asks = next_ask y d; stores = []; value = refl; epoch = refl; due = due_at v (Seals e) (at_stage v (Seals d)) _ h refl; quiet = inl refl })
 
-moves_digests : (s : Spec) (q : Sequencer) (v : Recovery) (y from upto trim lng : ℕ) (es : List Entry) (t : Stage) → q.recovery ≡ Some v → v.stage ≡ t → Moves q v (digests s (does_nothing q) v y from upto trim lng es t)
-moves_digests s q v y from upto trim lng es (Seals d) k h = moves_if q v (takes_any y from d) _ _ (moves_adds s q v y (with_page v.epoch y from upto trim lng es d) d h) (still q v k)
-moves_digests s q v y from upto trim lng es (Stores g) k h = still q v k
-moves_digests s q v y from upto trim lng es (Closes z) k h = still q v k
+moves_digests : (s : Spec) (q : Sequencer) (v : Recovery) (y from upto trim : ℕ) (es : List Entry) (t : Stage) → q.recovery ≡ Some v → v.stage ≡ t → Moves q v (digests s (does_nothing q) v y from upto trim es t)
+moves_digests s q v y from upto trim es (Seals d) k h = moves_if q v (takes_any y from d) _ _ (moves_adds s q v y (with_page v.epoch y from upto trim es d) d h) (still q v k)
+moves_digests s q v y from upto trim es (Stores g) k h = still q v k
+moves_digests s q v y from upto trim es (Closes z) k h = still q v k
 
 lost_due : (v : Recovery) (y : ℕ) (t : Stage) → [] ≡ fresh_tries (Some (at_stage v t)) (Some (recovery_lost y (at_stage v t)))
 lost_due v y (Seals d) = refl
@@ -197,13 +194,13 @@ moves_lost q v y = record { now = recovery_lost y v; tries = []; asks = []; stor
 
 pub either_by : (s : Spec) (log epoch lce : ℕ) (v : Recovery) (y : ℕ) (b : Body) → is_of_earlier epoch b ≡ true → Either s (only log epoch lce v) v b (by_reply s (does_nothing (only log epoch lce v)) y b)
 either_by s log epoch lce v y (bodies.Stored n) h = let q = only log epoch lce v in
-    either_if s q v (bodies.Stored n) (is_in y (nodes_of s)) _ _ (either_second s q v (bodies.Stored n) (epoch_of n == epoch) _ _ h (either_if s q v (bodies.Stored n) (v.epoch == epoch_of n) _ _ (inl (moves_settles s q v (λ k. k == n) y v.stage refl refl)) (inl (still q v refl)))) (inl (still q v refl))
+    either_second s q v (bodies.Stored n) (epoch_of n == epoch) _ _ h (either_if s q v (bodies.Stored n) (v.epoch == epoch_of n) _ _ (inl (moves_settles s q v (λ k. k == n) y v.stage refl refl)) (inl (still q v refl)))
 either_by s log epoch lce v y (bodies.LostHere n round generation end) h = let q = only log epoch lce v in let b = bodies.LostHere n round generation end in
     either_second s q v b (home_epoch n == epoch) _ _ h (either_if s q v b (v.epoch == home_epoch n) _ _ (inl (moves_lost q v y)) (inl (still q v refl)))
 either_by s log epoch lce v y (bodies.CleanHere n z) h = let q = only log epoch lce v in let b = bodies.CleanHere n z in
     either_second s q v b (home_epoch n == epoch) _ _ h (either_if s q v b (v.epoch == home_epoch n) _ _ (inr (record { summary = z; told = refl; value = refl })) (inl (still q v refl)))
 either_by s log epoch lce v y (bodies.TrimmedHere n t) h = let q = only log epoch lce v in let b = bodies.TrimmedHere n t in
-    either_if s q v b (is_in y (nodes_of s)) _ _ (either_if s q v b (v.epoch == epoch_of n) _ _ (inl (moves_settles s q v (λ k. nat_le k t) y v.stage refl refl)) (inl (still q v refl))) (inl (still q v refl))
+    either_if s q v b (v.epoch == epoch_of n) _ _ (inl (moves_settles s q v (λ k. nat_le k t) y v.stage refl refl)) (inl (still q v refl))
 either_by s log epoch lce v y (bodies.DigestPage from upto trim lng es) h = let q = only log epoch lce v in let b = bodies.DigestPage from upto trim lng es in
-    either_if s q v b (v.epoch == epoch_of from) _ _ (inl (moves_digests s q v y from upto trim lng es v.stage refl refl)) (inl (still q v refl))
+    either_if s q v b (v.epoch == epoch_of from) _ _ (inl (moves_digests s q v y from upto trim es v.stage refl refl)) (inl (still q v refl))
 either_by s log epoch lce v y _ h = absurd cc

@@ -2,7 +2,7 @@
 use Rattle.std.proofs.Common.{◌≡◌, ℕ, Bool, true, false, not, ◌&&◌, ◌==◌, List, [], ◌∷◌, ◌++◌, Option, Some, None, refl, ap, sym, ◌∙◌, subst, if◌then◌else◌, nat_lt, append-nil, ◌+◌, ◌<◌, ◌≤◌, arith}
 use Rattle.std.proofs.lemmas.Bool.Decides.{nat_tests}
 use Rattle.ld_table.specs.Table.{find}
-use Rattle.ld_table.specs.Words.{is_in, with_one}
+use Rattle.ld_table.specs.Words.{with_one}
 use Rattle.ld_lsn.specs.Number.{epoch_of, home_epoch, epoch_end, numbered}
 use Rattle.ld_ids.specs.Choice.{nodes_of}
 use Rattle.ld_msg.specs.declared.msg.Body.{Body}
@@ -10,7 +10,7 @@ use Rattle.ld_msg.specs.declared.msg.Body.TheVariants as bodies
 use Rattle.ld_msg.specs.declared.msg.Who.{Who}
 use Rattle.ld_msg.specs.declared.msg.Who.TheVariants as whos
 use Rattle.ld_msg.specs.declared.msg.Summary.{Summary}
-use Rattle.ld_msg.specs.Sequencer.{Append, Acts, is_acked, stored_at, does_nothing, preempt, on_reply, by_reply, of_member, by_stored, by_lost, by_clean, acks_append, acted_messages, released_of, release_messages, to_each, unless_preempted, on_retry, retries_appends, append_stores, raised}
+use Rattle.ld_msg.specs.Sequencer.{Append, Acts, is_acked, stored_at, does_nothing, preempt, on_reply, by_reply, by_stored, by_lost, by_clean, acks_append, acted_messages, released_of, release_messages, to_each, unless_preempted, on_retry, retries_appends, append_stores, raised}
 use Rattle.ld_msg.specs.declared.msg.Body.TheVariants.{Release}
 use Rattle.ld_msg.specs.declared.msg.Msg.{Msg}
 use Rattle.ld_msg.specs.Network.{posted}
@@ -39,21 +39,14 @@ counted o y n (Some w) r a p = record {
   preempted = ap listed p;
 }
 
--- one that isn't of the log counts for nothing
-abbrev counts : Own → ℕ → ℕ → Acts
-counts o y n = of_member (spec_of o) y (by_stored (spec_of o) (nothing o) y n) (nothing o)
+pub own_stored : (o : Own) (y n : ℕ) (r : Learnt) → (epoch_of n == o.row.epoch) ≡ true → r.acked ≡ (if acks (spec_of o) y (find n o.row.appends) then Some n else None) → r.preempted ≡ None
+    → Does o (record o { row = stores o.row y n (find n o.row.appends) }) r (by_stored (spec_of o) (nothing o) y n)
+own_stored o y n r e a p = rw e (counted o y n (find n o.row.appends) r a p)
 
-pub stranger_stored : (o : Own) (y n : ℕ) (r : Learnt) → is_in y (nodes_of (spec_of o)) ≡ false → r.acked ≡ None → r.preempted ≡ None → Does o o r (counts o y n)
-stranger_stored o y n r m a p = rw m (stays o r a p)
+pub other_stored : (o : Own) (y n : ℕ) (r : Learnt) → (epoch_of n == o.row.epoch) ≡ false → r.acked ≡ None → r.preempted ≡ None → Does o o r (by_stored (spec_of o) (nothing o) y n)
+other_stored o y n r e a p = rw e (stays o r a p)
 
-pub own_stored : (o : Own) (y n : ℕ) (r : Learnt) → is_in y (nodes_of (spec_of o)) ≡ true → (epoch_of n == o.row.epoch) ≡ true → r.acked ≡ (if acks (spec_of o) y (find n o.row.appends) then Some n else None) → r.preempted ≡ None
-    → Does o (record o { row = stores o.row y n (find n o.row.appends) }) r (counts o y n)
-own_stored o y n r m e a p = rw m (rw e (counted o y n (find n o.row.appends) r a p))
-
-pub other_stored : (o : Own) (y n : ℕ) (r : Learnt) → is_in y (nodes_of (spec_of o)) ≡ true → (epoch_of n == o.row.epoch) ≡ false → r.acked ≡ None → r.preempted ≡ None → Does o o r (counts o y n)
-other_stored o y n r m e a p = rw m (rw e (stays o r a p))
-
-pub ruleset count_rules = (stranger_stored, own_stored, other_stored)
+pub ruleset count_rules = (own_stored, other_stored)
 
 -- ---- preempted, or a node is lost ----
 
@@ -127,8 +120,7 @@ quiet_if o true a d p q = p
 quiet_if o false a d p q = q
 
 quiet_by : (o : Own) (y : ℕ) (b : Body) → IsQuiet o (by_reply (spec_of o) (nothing o) y b)
-quiet_by o y (bodies.Stored n) = quiet_if o (is_in y (nodes_of (spec_of o))) _ (nothing o) (quiet_if o (epoch_of n == o.row.epoch) (acks_append (spec_of o) (nothing o) y n (find n o.row.appends)) (nothing o) (quiet_acks o y n (find n o.row.appends)) (quiet_nothing o)) (quiet_nothing o)
-quiet_by o y (bodies.TrimmedHere n t) = quiet_if o (is_in y (nodes_of (spec_of o))) (nothing o) (nothing o) (quiet_nothing o) (quiet_nothing o)
+quiet_by o y (bodies.Stored n) = quiet_if o (epoch_of n == o.row.epoch) (acks_append (spec_of o) (nothing o) y n (find n o.row.appends)) (nothing o) (quiet_acks o y n (find n o.row.appends)) (quiet_nothing o)
 quiet_by o y (bodies.SealedHere n k) = quiet_if o (nat_lt o.row.epoch k) (preempt (nothing o) k) (nothing o) (quiet_preempt o k) (quiet_nothing o)
 quiet_by o y (bodies.LostHere n round generation end) = quiet_if o (home_epoch n == o.row.epoch) (record (nothing o) { sequencer = record (sequencer_of o) { lost = with_one y o.lost } }) (nothing o) (quiet_lost o y) (quiet_nothing o)
 quiet_by o y (bodies.CleanHere n s) = quiet_if o (home_epoch n == o.row.epoch) (preempt (nothing o) s.ballot) (nothing o) (quiet_preempt o s.ballot) (quiet_nothing o)
@@ -207,7 +199,7 @@ pub still_now : (o : Own) (k : ℕ) → o.preempted ≡ Some k → IsNow o o (on
 still_now o k e = record { spec = refl; sequencer = ap (λ a. a.sequencer) (sym (keeps_still o k e)) }
 
 abbrev retried_messages : Own → List (ℕ × Body)
-retried_messages o = append_stores (spec_of o) o.lost o.row.lng (raised (spec_of o) o.row.appends)
+retried_messages o = append_stores (spec_of o) o.lost (raised (spec_of o) o.row.appends)
 
 pub retry_sent : (o : Own) (old out : List Msg) → o.preempted ≡ None → out ≡ old ++ sent_by o (retried_messages o) → out ≡ old ++ sent_by o (acted_messages (spec_of o) (sequencer_of o) (on_retry (spec_of o) (sequencer_of o)))
 retry_sent o old out e s =

@@ -46,7 +46,7 @@ more a ss = record a { stores = a.stores ++ ss }
 
 stage_more : (s : Spec) (q : Sequencer) (v : Recovery) (ss : List (ℕ × Body)) (t : Stage) → retries_stage s (record (does_nothing q) { stores = ss }) v t ≡ more (retries_stage s (does_nothing q) v t) ss
 stage_more s q v ss (Seals d) = refl
-stage_more s q v ss (Stores g) = ap (λ (bs : List (ℕ × Body)). record (retries_stage s (does_nothing q) v (Stores g)) { stores = bs ++ ss }) (sym (append-nil (item_stores s v.lost g.lng (next_wave g.wave) g.items)))
+stage_more s q v ss (Stores g) = ap (λ (bs : List (ℕ × Body)). record (retries_stage s (does_nothing q) v (Stores g)) { stores = bs ++ ss }) (sym (append-nil (item_stores s v.lost (next_wave g.wave) g.items)))
 stage_more s q v ss (Closes y) = refl
 
 recovery_more : (s : Spec) (q : Sequencer) (v : Option Recovery) (ss : List (ℕ × Body)) → retries_recovery s (record (does_nothing q) { stores = ss }) v ≡ more (retries_recovery s (does_nothing q) v) ss

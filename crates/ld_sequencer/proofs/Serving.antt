@@ -8,7 +8,7 @@ use Rattle.ld_msg.specs.declared.msg.Who.{Who}
 use Rattle.ld_msg.specs.declared.msg.Who.TheVariants as whos
 use Rattle.ld_msg.specs.declared.msg.Body.{Body}
 use Rattle.ld_msg.specs.Bounds.{IsEpoch}
-use Rattle.ld_msg.specs.Digest.{no_digest, with_asks}
+use Rattle.ld_msg.specs.Digest.{no_digest}
 use Rattle.ld_msg.specs.Network.{posted}
 use Rattle.ld_msg.specs.Sequencer.{Sequencer, Recovery, Stage, Seals, Stores, Closes, does_nothing, digest_asks, item_stores, next_wave, recovery_asks, retries_stage, activated}
 use Rattle.ld_recovery.specs.Recovering.{Recovering, as_sequencer, started, retried, retry_messages, messages}
@@ -87,22 +87,22 @@ pub ruleset begin_rules = (begins_sent, begins_quiet)
 abbrev staged : Recovery → Stage → Recovery
 staged v t = record { epoch = v.epoch; lost = v.lost; stage = t }
 
-retries_now : (s : Spec) (q : Sequencer) (v : Recovery) (t : Stage) → q.recovery ≡ Some v → v.stage ≡ t → (retries_stage s (does_nothing q) v t).sequencer ≡ with_recovery (Some (staged v (again v.epoch t))) q
-retries_now s q v (Seals d) h e = refl
+retries_now : (s : Spec) (q : Sequencer) (v : Recovery) (t : Stage) → q.recovery ≡ Some v → v.stage ≡ t → (retries_stage s (does_nothing q) v t).sequencer ≡ with_recovery (Some (staged v (again t))) q
+retries_now s q v (Seals d) h e = ap (λ (m : Option Recovery). with_recovery m q) (h ∙ ap (λ (t : Stage). Some (staged v t)) e)
 retries_now s q v (Stores g) h e = refl
 retries_now s q v (Closes y) h e = ap (λ (m : Option Recovery). with_recovery m q) (h ∙ ap (λ (t : Stage). Some (staged v t)) e)
 
-retries_sent : (s : Spec) (q : Sequencer) (v : Recovery) (t : Stage) → (retries_stage s (does_nothing q) v t).asks ++ (retries_stage s (does_nothing q) v t).stores ≡ again_sends s v.epoch v.lost t
-retries_sent s q v (Seals d) = append-nil (digest_asks (with_asks v.epoch d))
-retries_sent s q v (Stores g) = append-nil (item_stores s v.lost g.lng (next_wave g.wave) g.items)
+retries_sent : (s : Spec) (q : Sequencer) (v : Recovery) (t : Stage) → (retries_stage s (does_nothing q) v t).asks ++ (retries_stage s (does_nothing q) v t).stores ≡ again_sends s v.lost t
+retries_sent s q v (Seals d) = append-nil (digest_asks d)
+retries_sent s q v (Stores g) = append-nil (item_stores s v.lost (next_wave g.wave) g.items)
 retries_sent s q v (Closes y) = refl
 
-retried_so : (o : Own) (r : Recovering) → Serves o r → retried r ≡ going r (staged r.recovery (again r.recovery.epoch r.recovery.stage))
+retried_so : (o : Own) (r : Recovering) → Serves o r → retried r ≡ going r (staged r.recovery (again r.recovery.stage))
 retried_so o r s = retried_is r s.going
 
 pub again_one : (o : Own) (m : Option Recovering) (r x : Recovering) → AreOne o m → m ≡ Some r → x ≡ retried r → AreOne o (Some x)
 again_one o m r x h e k = let s = served o m r e h in
-    one_with o m (Some x) h (subst (λ (z : Recovering). Serves o z) (sym (k ∙ retried_so o r s)) (serves_on o r (staged r.recovery (again r.recovery.epoch r.recovery.stage)) s refl))
+    one_with o m (Some x) h (subst (λ (z : Recovering). Serves o z) (sym (k ∙ retried_so o r s)) (serves_on o r (staged r.recovery (again r.recovery.stage)) s refl))
 
 again_value : (o : Own) (r : Recovering) → Serves o r → joined o (Some (retried r)) ≡ as_now (joined o (Some r)) (recovery_acts (joined o (Some r))).sequencer
 again_value o r s =
@@ -117,8 +117,8 @@ again_now w o m r x j h e k =
 again_out : (o : Own) (r : Recovering) → Serves o r → retry_messages r ≡ sent_as (joined o (Some r)) ((recovery_acts (joined o (Some r))).asks ++ (recovery_acts (joined o (Some r))).stores)
 again_out o r s =
     retry_sent r s.going
-    ∙ (ap (λ (p : Spec). messages r (again_sends p r.recovery.epoch r.recovery.lost r.recovery.stage)) s.spec
-    ∙ (sent_of o (Some r) r (again_sends o.row.spec r.recovery.epoch r.recovery.lost r.recovery.stage) s
+    ∙ (ap (λ (p : Spec). messages r (again_sends p r.recovery.lost r.recovery.stage)) s.spec
+    ∙ (sent_of o (Some r) r (again_sends o.row.spec r.recovery.lost r.recovery.stage) s
     ∙ ap (sent_as (joined o (Some r))) (sym (retries_sent o.row.spec (joined o (Some r)).sequencer r.recovery r.recovery.stage))))
 
 pub again_sent : (w : Whole) (o : Own) (m : Option Recovering) (r : Recovering) (old new : List Msg) → joined o m ≡ w → AreOne o m → m ≡ Some r → new ≡ old ++ retry_messages r → new ≡ old ++ sent_as w ((recovery_acts w).asks ++ (recovery_acts w).stores)

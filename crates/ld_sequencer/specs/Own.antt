@@ -88,7 +88,7 @@ raised_own o = record o { row = raises o.row }
 
 -- the stores of the appends that aren't acknowledged
 abbrev pub pending : Own → List (ℕ × Body)
-pending o = append_stores o.row.spec o.lost o.row.lng o.row.appends
+pending o = append_stores o.row.spec o.lost o.row.appends
 
 abbrev pub listed : {X : Type 0} → Option X → List X
 listed None = []

@@ -113,7 +113,7 @@ recovery_acts w = retries_recovery w.spec (does_nothing w.sequencer) w.sequencer
 
 -- the stores of the own epoch that aren't acknowledged
 abbrev pub pending_stores : Whole → List (ℕ × Body)
-pending_stores w = append_stores w.spec w.sequencer.lost w.sequencer.lng w.sequencer.appends
+pending_stores w = append_stores w.spec w.sequencer.lost w.sequencer.appends
 
 -- what the register's answer to the close of an epoch does
 abbrev pub closed_acts : Whole → ℕ → Summary → Answer → Acts

@@ -3,7 +3,7 @@ ghost use Rattle.std.specs.Prelude.{◌≡◌, ◌≤◌, ◌<◌, ◌+◌, ◌-
 ghost use Rattle.ld_ids.specs.Choice.{nodes_of};
 ghost use Rattle.ld_lsn.specs.Number.{numbered};
 ghost use Rattle.ld_msg.specs.declared.msg.Body.TheVariants.{Trim};
-ghost use Rattle.ld_msg.specs.Sequencer.{released_of, appending, Numbered, appended, first_stores, next_esn, to_each, does_nothing, on_reply, of_member, by_stored, by_lost, by_clean, preempt as preempts, on_retry, acted_messages, payload_limit};
+ghost use Rattle.ld_msg.specs.Sequencer.{released_of, appending, Numbered, appended, first_stores, next_esn, to_each, does_nothing, on_reply, by_stored, by_lost, by_clean, preempt as preempts, on_retry, acted_messages, payload_limit};
 ghost use Rattle.ld_msg.specs.Bounds.{IsEpoch};
 ghost use Rattle.ld_node_bounds.specs.Messages.{AreMessages};
 ghost use Rattle.ld_sequencer.specs.Appends.{pushed, next_place, all_acked};
@@ -181,7 +181,7 @@ impl OwnEpoch {
         Ok(())
     }
 
-    /// Takes a node's answer. An append is acknowledged by it where as many of the log's nodes as its factor says have stored it
+    /// Takes a node's answer. An append is acknowledged by it where as many nodes as the log's factor says have stored it
     /// now, and hadn't before. A seal of a greater epoch preempts it, and so does word that its own epoch is closed. A node
     /// may be lost for its epoch. Where the released number rises all nodes are told so. A preempted sequencer ignores all
     /// answers, and so it does messages that are no node's. After want of memory it isn't to be used again.
@@ -267,14 +267,11 @@ impl OwnEpoch {
         }
     }
 
-    /// A node stored what has the number. One that isn't of the log counts for nothing.
+    /// A node stored what has the number.
     #[tactic(auto, using(crate::proofs::Replies::count_rules))]
     fn count(&mut self, node: NodeId, number: Lsn) -> Learnt
-        ensures { Does self.old self.new result (of_member (spec_of self.old) node (by_stored (spec_of self.old) (does_nothing (sequencer_of self.old)) node number) (does_nothing (sequencer_of self.old))) }
+        ensures { Does self.old self.new result (by_stored (spec_of self.old) (does_nothing (sequencer_of self.old)) node number) }
     {
-        if !self.row.spec().set.has(node) {
-            return Learnt::nothing();
-        }
         if number.epoch() != self.row.epoch() {
             return Learnt::nothing();
         }
@@ -365,7 +362,7 @@ impl OwnEpoch {
         let number = Lsn::new(self.row.epoch(), self.row.next_place());
         let nodes = choose_for(self.row.spec(), number, 0, &self.lost.to_set());
         self.sender()
-            .send_stores(alloc, number, self.row.lng(), &payload, &nodes, out)?;
+            .send_stores(alloc, number, &payload, &nodes, out)?;
         self.row.push(payload)?;
         Ok(number)
     }

@@ -26,22 +26,21 @@ pub struct Sender {
 }
 
 impl Sender {
-    /// Sends a store of the record, with the last known good place, to each of the nodes, in their order. Without memory some may have been sent.
+    /// Sends a store of the record to each of the nodes, in their order. Without memory some may have been sent.
     pub fn send_stores(
         &self,
         alloc: Global,
         number: Lsn,
-        lng: u32,
         payload: &Payload,
         nodes: &NodeList,
         out: &mut Outbox,
     ) -> Result<(), NoMemory>
-        ensures sent { OnOk result (out.new ≡ out.old ++ posted (of_sequencer self.now.epoch) self.now.log (to_each (Store number lng (Rec payload.now)) nodes.now)) }
+        ensures sent { OnOk result (out.new ≡ out.old ++ posted (of_sequencer self.now.epoch) self.now.log (to_each (Store number 0 (Rec payload.now)) nodes.now)) }
         ensures begins { OnErr result (BeginsWith out.old out.new) }
     {
         'nodes: for place in 0..nodes.len() {
             if let Some(node) = nodes.nth(place) {
-                let body = store(alloc, number, lng, payload)?;
+                let body = store(alloc, number, payload)?;
                 out.push(self.to_node(node, body))?;
             }
         }
@@ -123,23 +122,21 @@ impl Notice {
 }
 
 /// A store of a record.
-fn store(alloc: Global, number: Lsn, lng: u32, payload: &Payload) -> Result<Body, NoMemory>
-    ensures { IfOk result (λ body. body ≡ Store number lng (Rec payload.now)) }
+fn store(alloc: Global, number: Lsn, payload: &Payload) -> Result<Body, NoMemory>
+    ensures { IfOk result (λ body. body ≡ Store number 0 (Rec payload.now)) }
 {
     Ok(Body::Store {
         number,
-        lng,
+        lng: 0,
         what: What::Rec(payload.copy(alloc)?),
     })
 }
 
-/// A round of sending appends that aren't acknowledged, with the last known good place and the nodes that are lost for their
-/// epoch.
+/// A round of sending appends that aren't acknowledged, with the nodes that are lost for their epoch.
 #[derive(Clone, Copy, Debug)]
 pub(crate) struct Round {
     pub(crate) spec: Spec,
     pub(crate) epoch: u32,
-    pub(crate) lng: u32,
     pub(crate) excluded: NodeSet,
 }
 
@@ -155,7 +152,7 @@ impl Round {
         out: &mut Outbox,
     ) -> Result<(), NoMemory>
         requires { pending.now.factor ≡ self.now.spec.r }
-        ensures sent { OnOk result ((lost : List ℕ) → ((node : ℕ) → is_in node (members self.now.excluded) ≡ is_in node lost) → out.new ≡ out.old ++ posted (of_sequencer self.now.epoch) self.now.spec.log (append_stores self.now.spec lost self.now.lng ((number, pending.now.append) ∷ []))) }
+        ensures sent { OnOk result ((lost : List ℕ) → ((node : ℕ) → is_in node (members self.now.excluded) ≡ is_in node lost) → out.new ≡ out.old ++ posted (of_sequencer self.now.epoch) self.now.spec.log (append_stores self.now.spec lost ((number, pending.now.append) ∷ []))) }
         ensures begins { OnErr result (BeginsWith out.old out.new) }
     {
         if pending.progress() == Progress::Done {
@@ -169,7 +166,6 @@ impl Round {
         sender.send_stores(
             alloc,
             number,
-            self.lng,
             pending.payload(),
             &unstored(&nodes, pending),
             out,

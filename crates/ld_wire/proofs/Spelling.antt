@@ -16,13 +16,13 @@ use Rattle.ld_msg.specs.declared.msg.Summary.{Summary}
 use Rattle.ld_msg.specs.declared.msg.Msg.{Msg}
 use Rattle.ld_msg.specs.declared.msg.Body.{Body}
 use Rattle.ld_msg.specs.declared.msg.Body.TheVariants as bodies
-use Rattle.ld_msg.specs.Bounds.{Is32, IsLng, Is64, IsEpoch, IsEntry, IsSummary, IsShort, AreEntries, RiseWithin, IsPage, AreReadable, IsReadable, IsRecord, IsSequencerHere, IsActor, AsksIn, AnswersIn, Fits, IsMessage, ballot_of, last_place}
+use Rattle.ld_msg.specs.Bounds.{Is32, Is64, IsEpoch, IsEntry, IsSummary, IsShort, AreEntries, RiseWithin, IsPage, AreReadable, IsReadable, IsRecord, IsSequencerHere, IsActor, AsksIn, AnswersIn, Fits, IsMessage, ballot_of, last_place}
 use Rattle.ld_wire.specs.declared.role.Role.{Role}
 use Rattle.ld_wire.specs.declared.role.Role.TheVariants as roles
 use Rattle.ld_wire.specs.Fields.{Read, Got, Off, follow, check, field}
 use Rattle.ld_wire.specs.Roles.{may_be, IsIn, sender, receiver}
 use Rattle.ld_wire.specs.Frames.{who_bytes, what_bytes, entry_bytes, entries_bytes, page_bytes, summary_bytes, kind_of, body_bytes, msg_bytes, flag}
-use Rattle.ld_wire.specs.Judging.{within, greatest_epoch, greatest_lng, is_actor, actor, read_who, is_number, is_tag, payload, tagged, read_entry, read_entries, read_page, read_upto, read_summary, asks_in, answers_in, may_store, read_store, read_sealed, read_lost, read_clean_here, read_trimmed, read_digest_ask, read_digest_page, read_clean, read_read_ask, read_asked, read_read_page, answer, read_answer, read_stored, read_told, read_body, read_log, read_msg}
+use Rattle.ld_wire.specs.Judging.{within, greatest_epoch, is_actor, actor, read_who, is_number, is_tag, payload, tagged, read_entry, read_entries, read_page, read_upto, read_summary, asks_in, answers_in, may_store, read_store, read_sealed, read_lost, read_clean_here, read_trimmed, read_digest_ask, read_digest_page, read_clean, read_read_ask, read_asked, read_read_page, answer, read_answer, read_stored, read_told, read_body, read_log, read_msg}
 use Rattle.ld_wire.proofs.There.{field_got}
 
 -- from a place on the bytes are these
@@ -191,9 +191,6 @@ number_fits n h = let a = h.1 in omega arith
 number_passes : (n least most : ℕ) → IsEpoch (epoch_of n) → 1 ≤ esn_of n → least ≤ n → n ≤ most → (is_number n && within least most n) ≡ true
 number_passes n least most h e l m = let a = h.0 in let b = h.1 in grind (arith, nat_tests)
 
-lng_passes : (n : ℕ) → IsLng n → nat_le n greatest_lng ≡ true
-lng_passes n l = grind (arith, nat_tests)
-
 ballot_passes : (n b : ℕ) → n ≤ b → b ≤ greatest_epoch → within n greatest_epoch b ≡ true
 ballot_passes n b h l = grind (arith, nat_tests)
 
@@ -276,10 +273,9 @@ unfolding read_summary
 summary_reads bs epoch at y i s = follow_reads bs (field 4 bs at) _ y.ballot y _ [] (field_reads 3 y.ballot bs at _ (let b = i.ballot_most in omega arith) s) (λ at_lng t.
     check_reads bs _ at _ y [] (ballot_passes (epoch + 1) y.ballot (let b = i.ballot in omega arith) i.ballot_most)
     (follow_reads bs (field 4 bs at_lng) _ y.lng y _ [] (field_reads 3 y.lng bs at_lng _ (let b = i.lng in omega arith) t) (λ at_trim u.
-    check_reads bs _ at_lng _ y [] (lng_passes y.lng i.lng)
-    (follow_reads bs (field 8 bs at_trim) _ y.trim y _ [] (field_reads 7 y.trim bs at_trim _ (let b = i.trim in omega arith) u) (λ at_end v.
+    follow_reads bs (field 8 bs at_trim) _ y.trim y _ [] (field_reads 7 y.trim bs at_trim _ (let b = i.trim in omega arith) u) (λ at_end v.
     follow_reads bs (field 4 bs at_end) _ y.end y [] [] (field_reads 3 y.end bs at_end [] (let b = i.end_most in omega arith) (nothing bs at_end _ v)) (λ next z.
-    check_reads bs _ at_end _ y [] (let b = i.end in grind (arith, nat_tests)) (got_reads bs y next [] z)))))))
+    check_reads bs _ at_end _ y [] (let b = i.end in grind (arith, nat_tests)) (got_reads bs y next [] z))))))
 
 log_reads : (bs : List ℕ) (at l : ℕ) (ys : List ℕ) → IsLog l → Stands bs at (big_bytes 4 l ++ ys) → Reads bs (read_log bs at) l ys
 log_reads bs at l ys i s = follow_reads bs (field 4 bs at) _ l l ys ys (field_reads 3 l bs at ys (let b = i.1 in omega arith) s) (λ next t. check_reads bs _ at _ l ys (let a = i.0 in let b = i.1 in grind (arith, nat_tests)) (got_reads bs l next ys t))
@@ -301,16 +297,15 @@ store_passes : (ballot n tag : ℕ) → is_tag n tag ≡ true → (epoch_of n �
 store_passes ballot n tag h f true e = let k : epoch_of n ≡ ballot = grind (arith, nat_tests) in let z = f k in let y : (tag == 0) ≡ true = grind (arith, nat_tests) in ap (λ x. x && (not (epoch_of n == ballot) || (tag == 0))) h ∙ (ap (λ x. not x || (tag == 0)) e ∙ y)
 store_passes ballot n tag h f false e = ap (λ x. x && (not (epoch_of n == ballot) || (tag == 0))) h ∙ ap (λ x. not x || (tag == 0)) e
 
-store_reads : (bs : List ℕ) (ballot n lng at : ℕ) (w : What) → IsLng lng → IsEntry (record { number = n; ballot = ballot; what = w }) → (epoch_of n ≡ ballot → IsRecord w) → Stands bs at (big_bytes 8 n ++ (big_bytes 4 lng ++ what_bytes w)) → Reads bs (read_store ballot bs at) (bodies.Store n lng w) []
+store_reads : (bs : List ℕ) (ballot n lng at : ℕ) (w : What) → Is32 lng → IsEntry (record { number = n; ballot = ballot; what = w }) → (epoch_of n ≡ ballot → IsRecord w) → Stands bs at (big_bytes 8 n ++ (big_bytes 4 lng ++ what_bytes w)) → Reads bs (read_store ballot bs at) (bodies.Store n lng w) []
 unfolding read_store
 store_reads bs ballot n lng at w l i o s =
     follow_reads bs (field 8 bs at) _ n _ _ [] (field_reads 7 n bs at _ (number_fits n i.epoch) s) (λ at_lng t.
     check_reads bs _ at _ _ [] (let a = i.epoch.0 in let b = i.epoch.1 in let c = i.from_one in let d = i.ballot in grind (arith, nat_tests))
     (follow_reads bs (field 4 bs at_lng) _ lng _ _ [] (field_reads 3 lng bs at_lng _ (omega arith) t) (λ at_tag u.
-    check_reads bs _ at_lng _ _ [] (lng_passes lng l)
-    (follow_reads bs (field 1 bs at_tag) _ (tag_of w) _ _ [] (field_reads 0 (tag_of w) bs at_tag _ (tag_fits w) (stands_as bs at_tag _ _ (sym (append-nil (what_bytes w)) ∙ what_is w []) u)) (λ at_what v.
+    follow_reads bs (field 1 bs at_tag) _ (tag_of w) _ _ [] (field_reads 0 (tag_of w) bs at_tag _ (tag_fits w) (stands_as bs at_tag _ _ (sym (append-nil (what_bytes w)) ∙ what_is w []) u)) (λ at_what v.
     check_reads bs _ at_tag _ _ [] (store_passes ballot n (tag_of w) (tag_passes n w i.place) (λ e. record_tag w (o e)) (epoch_of n == ballot) refl)
-    (follow_reads bs (tagged bs at_what (tag_of w)) _ w _ _ [] (tagged_reads bs at_what w [] i.short v) (λ next z. got_reads bs _ next [] z)))))))
+    (follow_reads bs (tagged bs at_what (tag_of w)) _ w _ _ [] (tagged_reads bs at_what w [] i.short v) (λ next z. got_reads bs _ next [] z))))))
 
 answers_pass : (to : Who) (round : ℕ) → AnswersIn to round → answers_in to round ≡ true
 answers_pass (whos.Node n) round h = refl
@@ -337,15 +332,14 @@ digest_ask_reads bs ballot n at m a b c s =
     follow_reads bs (field 8 bs at) _ n _ [] [] (field_reads 7 n bs at [] (omega arith) (nothing bs at _ s)) (λ next t.
     check_reads bs _ at _ _ [] (grind (arith, nat_tests)) (got_reads bs _ next [] t))
 
-digest_page_reads : (bs : List ℕ) (n upto t lng at : ℕ) (es : List Entry) → IsPage n upto es → Is64 t → IsLng lng → Stands bs at (big_bytes 8 n ++ (big_bytes 8 upto ++ (big_bytes 8 t ++ (big_bytes 4 lng ++ page_bytes es)))) → Reads bs (read_digest_page bs at) (bodies.DigestPage n upto t lng es) []
+digest_page_reads : (bs : List ℕ) (n upto t lng at : ℕ) (es : List Entry) → IsPage n upto es → Is64 t → Is32 lng → Stands bs at (big_bytes 8 n ++ (big_bytes 8 upto ++ (big_bytes 8 t ++ (big_bytes 4 lng ++ page_bytes es)))) → Reads bs (read_digest_page bs at) (bodies.DigestPage n upto t lng es) []
 unfolding read_digest_page
 digest_page_reads bs n upto t lng at es i j k s =
     follow_reads bs (field 8 bs at) _ n _ _ [] (field_reads 7 n bs at _ (let a = i.range in let b = i.bound in omega arith) s) (λ at_upto u.
     follow_reads bs (read_upto bs n at_upto) _ upto _ _ [] (upto_reads bs n upto at_upto es _ i u) (λ at_trim v.
     follow_reads bs (field 8 bs at_trim) _ t _ _ [] (field_reads 7 t bs at_trim _ (omega arith) v) (λ at_lng w.
     follow_reads bs (field 4 bs at_lng) _ lng _ _ [] (field_reads 3 lng bs at_lng _ (omega arith) w) (λ at_page x.
-    check_reads bs _ at_lng _ _ [] (lng_passes lng k)
-    (follow_reads bs (read_page bs 2 n upto at_page) _ es _ [] [] (page_reads bs 2 n upto at_page es i (any_tags es) x) (λ next y. got_reads bs _ next [] y))))))
+    follow_reads bs (read_page bs 2 n upto at_page) _ es _ [] [] (page_reads bs 2 n upto at_page es i (any_tags es) x) (λ next y. got_reads bs _ next [] y)))))
 
 asked_reads : (bs : List ℕ) (round n at : ℕ) (ys : List ℕ) → Is32 round → 1 ≤ n → Is64 n → Stands bs at (big_bytes 4 round ++ (big_bytes 8 n ++ ys)) → Reads bs (read_asked bs at) (round, n) ys
 unfolding read_asked

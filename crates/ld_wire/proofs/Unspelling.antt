@@ -20,13 +20,13 @@ use Rattle.ld_msg.specs.declared.msg.Summary.{Summary}
 use Rattle.ld_msg.specs.declared.msg.Msg.{Msg}
 use Rattle.ld_msg.specs.declared.msg.Body.{Body}
 use Rattle.ld_msg.specs.declared.msg.Body.TheVariants as bodies
-use Rattle.ld_msg.specs.Bounds.{Is32, IsLng, Is64, IsEpoch, IsEntry, IsSummary, IsShort, AreEntries, RiseWithin, IsPage, AreReadable, IsReadable, IsRecord, IsActor, AsksIn, AnswersIn, Fits, IsMessage, ballot_of, last_place, last_reader}
+use Rattle.ld_msg.specs.Bounds.{Is32, Is64, IsEpoch, IsEntry, IsSummary, IsShort, AreEntries, RiseWithin, IsPage, AreReadable, IsReadable, IsRecord, IsActor, AsksIn, AnswersIn, Fits, IsMessage, ballot_of, last_place, last_reader}
 use Rattle.ld_wire.specs.declared.role.Role.{Role}
 use Rattle.ld_wire.specs.declared.role.Role.TheVariants as roles
 use Rattle.ld_wire.specs.Fields.{Read, Got, Off, follow, check, field, end_at}
 use Rattle.ld_wire.specs.Roles.{may_be, IsIn, sender, receiver}
 use Rattle.ld_wire.specs.Frames.{who_bytes, what_bytes, entry_bytes, entries_bytes, page_bytes, summary_bytes, kind_of, body_bytes, flag}
-use Rattle.ld_wire.specs.Judging.{within, greatest_epoch, greatest_lng, is_actor, actor, read_who, is_number, is_tag, payload, tagged, read_entry, read_entries, read_page, read_upto, read_summary, asks_in, answers_in, may_store, read_store, read_sealed, read_lost, read_clean_here, read_trimmed, read_digest_ask, read_digest_page, read_clean, read_read_ask, read_asked, read_read_page, answer, read_answer, read_stored, read_told, read_body, read_log, read_msg}
+use Rattle.ld_wire.specs.Judging.{within, greatest_epoch, is_actor, actor, read_who, is_number, is_tag, payload, tagged, read_entry, read_entries, read_page, read_upto, read_summary, asks_in, answers_in, may_store, read_store, read_sealed, read_lost, read_clean_here, read_trimmed, read_digest_ask, read_digest_page, read_clean, read_read_ask, read_asked, read_read_page, answer, read_answer, read_stored, read_told, read_body, read_log, read_msg}
 use Rattle.ld_wire.proofs.Spelling.{tag_of, after_tag, who_tag, who_number, TagsTo, sequencer_most}
 
 -- ---- numbers and their bytes ----
@@ -366,9 +366,6 @@ who_spelled bs role at w next h r =
 
 -- ---- summaries and logs ----
 
-lng_is : (n : ℕ) → nat_le n greatest_lng ≡ true → IsLng n
-lng_is n h = grind (arith, nat_tests)
-
 pub record SummaryRead (bs : List ℕ) (epoch at next : ℕ) (y : Summary) : Type 0 where
   pub spelled : Spelled bs at next (summary_bytes y)
   pub is : IsSummary epoch y
@@ -377,15 +374,15 @@ pub summary_spelled : (bs : List ℕ) (epoch at : ℕ) (y : Summary) (next : ℕ
 unfolding read_summary
 summary_spelled bs epoch at y next h r =
     by_follow (field 4 bs at) _ y next r (λ ballot a f r. by_check _ at _ y next r (λ ok r.
-    by_follow (field 4 bs a) _ y next r (λ lng b g r. by_check (nat_le lng greatest_lng) a _ y next r (λ ok1 r.
+    by_follow (field 4 bs a) _ y next r (λ lng b g r.
     by_follow (field 8 bs b) _ y next r (λ trim c k r.
     by_follow (field 4 bs c) _ y next r (λ end d l r. by_check _ c _ y next r (λ ok2 r. by_got _ y d next r (λ is n.
     let s = field_spells 4 bs at ballot a h f in let t = field_spells 4 bs a lng b h g in let u = field_spells 8 bs b trim c h k in let v = field_spells 4 bs c end d h l in
     let i = within_is (epoch + 1) greatest_epoch ballot ok in let i0 = i.0 in let i1 = i.1 in let x = t.fits in let z = u.fits in let q = v.fits in
     subst (SummaryRead bs epoch at next) is (subst (λ m. SummaryRead bs epoch at m (record { ballot = ballot; lng = lng; trim = trim; end = end })) n (record {
       spelled = spelled_on bs at a d (big_bytes 4 ballot) _ s.spelled (spelled_on bs a b d (big_bytes 4 lng) _ t.spelled (spelled_on bs b c d (big_bytes 8 trim) (big_bytes 4 end) u.spelled v.spelled));
-      is = record { ballot = omega arith; ballot_most = omega arith; lng = lng_is lng ok1; trim = omega arith; end = le_is 1 end ok2; end_most = omega arith };
-    }))))))))))
+      is = record { ballot = omega arith; ballot_most = omega arith; lng = omega arith; trim = omega arith; end = le_is 1 end ok2; end_most = omega arith };
+    })))))))))
 
 pub record LogRead (bs : List ℕ) (at next l : ℕ) : Type 0 where
   pub spelled : Spelled bs at next (big_bytes 4 l)
@@ -422,7 +419,7 @@ store_spelled : (bs : List ℕ) (from to : Who) (at : ℕ) (b : Body) (next : �
 unfolding read_store kind_of body_bytes sender receiver
 store_spelled bs from to at b next h r =
     by_follow (field 8 bs at) _ b next r (λ n a f r. by_check _ at _ b next r (λ ok r.
-    by_follow (field 4 bs a) _ b next r (λ lng c g r. by_check (nat_le lng greatest_lng) a _ b next r (λ ok1 r.
+    by_follow (field 4 bs a) _ b next r (λ lng c g r.
     by_follow (field 1 bs c) _ b next r (λ tag d k r. by_check _ c _ b next r (λ ok2 r.
     by_follow (tagged bs d tag) _ b next r (λ w last q r. by_got _ b last next r (λ is e.
     let s = field_spells 8 bs at n a h f in let t = field_spells 4 bs a lng c h g in let u = field_spells 1 bs c tag d h k in
@@ -433,8 +430,8 @@ store_spelled bs from to at b next h r =
       spelled = spelled_on bs at a last (big_bytes 8 n) _ s.spelled (spelled_on bs a c last (big_bytes 4 lng) _ t.spelled
           (subst (Spelled bs c last) (what_made tag w v.tag_is) (spelled_on bs c d last (big_bytes 1 tag) (after_tag w) u.spelled v.spelled)));
       kind_is = refl;
-      fits = λ x z. let m = sequencer_most from x in ((x, z), lng_is lng ok1, record { epoch = i.0; from_one = i.1; place = place_of n tag w o.0 v.tag_is; ballot = i.2; ballot_most = m.1; short = v.short }, record_of (ballot_of from) n tag w ok2 v.tag_is);
-    })))))))))
+      fits = λ x z. let m = sequencer_most from x in ((x, z), (omega arith), record { epoch = i.0; from_one = i.1; place = place_of n tag w o.0 v.tag_is; ballot = i.2; ballot_most = m.1; short = v.short }, record_of (ballot_of from) n tag w ok2 v.tag_is);
+    }))))))))
 
 number_spelled : (bs : List ℕ) (kind : ℕ) (from to : Who) (at : ℕ) (b : Body) (next : ℕ) (f : ℕ → Body) → AreBytes bs → ((n : ℕ) → body_bytes (f n) ≡ big_bytes 8 n) → ((n : ℕ) → kind_of (f n) ≡ kind) → ((n : ℕ) → Is64 n → IsIn (sender kind) from → IsIn (receiver kind) to → Fits from to (f n))
     → follow (field 8 bs at) (λ n next. Got (f n) next) ≡ Got b next → BodyRead bs kind from to at next b
@@ -516,15 +513,15 @@ digest_page_spelled bs from to at b next h r =
     by_follow (field 8 bs at) _ b next r (λ n a f r.
     by_follow (read_upto bs n a) _ b next r (λ upto c g r.
     by_follow (field 8 bs c) _ b next r (λ trim d k r.
-    by_follow (field 4 bs d) _ b next r (λ lng l q r. by_check (nat_le lng greatest_lng) d _ b next r (λ ok1 r.
+    by_follow (field 4 bs d) _ b next r (λ lng l q r.
     by_follow (read_page bs 2 n upto l) _ b next r (λ es last p r. by_got _ b last next r (λ is e.
     let s = field_spells 8 bs at n a h f in let t = upto_spelled bs n a upto c h g in let u = field_spells 8 bs c trim d h k in let v = field_spells 4 bs d lng l h q in let w = page_spelled bs 2 n upto l es last h p in
     let o3 = u.fits in let o4 = v.fits in
     made bs 8 from to at (bodies.DigestPage n upto trim lng es) b last next is e (record {
       spelled = spelled_on bs at a last (big_bytes 8 n) _ s.spelled (spelled_on bs a c last (big_bytes 8 upto) _ t.spelled (spelled_on bs c d last (big_bytes 8 trim) _ u.spelled (spelled_on bs d l last (big_bytes 4 lng) _ v.spelled w.spelled)));
       kind_is = refl;
-      fits = λ x z. ((x, z), page_is bs 2 n upto a c l last es t w, omega arith, lng_is lng ok1);
-    }))))))))
+      fits = λ x z. ((x, z), page_is bs 2 n upto a c l last es t w, omega arith, omega arith);
+    })))))))
 
 clean_spelled : (bs : List ℕ) (from to : Who) (at : ℕ) (b : Body) (next : ℕ) → AreBytes bs → read_clean bs at ≡ Got b next → BodyRead bs 9 from to at next b
 unfolding read_clean kind_of body_bytes sender receiver

@@ -24,10 +24,6 @@ within least most n = nat_le least n && nat_le n most
 abbrev pub greatest_epoch : ℕ
 greatest_epoch = 2 ^ 32 - 2
 
--- a last known good place lies below the greatest place of an epoch
-abbrev pub greatest_lng : ℕ
-greatest_lng = last_esn - 1
-
 -- ---- actors ----
 
 abbrev pub is_actor : ℕ → ℕ → Bool
@@ -91,9 +87,9 @@ read_upto bs from at = follow (field 8 bs at) (λ upto next. check (nat_le from 
 unfoldable pub read_summary : List ℕ → ℕ → ℕ → Read Summary
 read_summary bs epoch at =
     follow (field 4 bs at) (λ ballot at_lng. check (within (epoch + 1) greatest_epoch ballot) at (
-    follow (field 4 bs at_lng) (λ lng at_trim. check (nat_le lng greatest_lng) at_lng (
+    follow (field 4 bs at_lng) (λ lng at_trim.
     follow (field 8 bs at_trim) (λ trim at_end.
-    follow (field 4 bs at_end) (λ end next. check (nat_le 1 end) at_end (Got (record { ballot = ballot; lng = lng; trim = trim; end = end }) next)))))))
+    follow (field 4 bs at_end) (λ end next. check (nat_le 1 end) at_end (Got (record { ballot = ballot; lng = lng; trim = trim; end = end }) next))))))
 
 -- ---- the fields of each kind ----
 
@@ -116,9 +112,9 @@ may_store ballot n tag = is_tag n tag && (not (epoch_of n == ballot) || (tag == 
 unfoldable pub read_store : ℕ → List ℕ → ℕ → Read Body
 read_store ballot bs at =
     follow (field 8 bs at) (λ n at_lng. check (is_number n && nat_le (epoch_of n) ballot) at (
-    follow (field 4 bs at_lng) (λ lng at_tag. check (nat_le lng greatest_lng) at_lng (
+    follow (field 4 bs at_lng) (λ lng at_tag.
     follow (field 1 bs at_tag) (λ tag at_what. check (may_store ballot n tag) at_tag (
-    follow (tagged bs at_what tag) (λ what next. Got (bodies.Store n lng what) next)))))))
+    follow (tagged bs at_what tag) (λ what next. Got (bodies.Store n lng what) next))))))
 
 unfoldable pub read_sealed : List ℕ → ℕ → Read Body
 read_sealed bs at = follow (field 8 bs at) (λ n a. follow (field 4 bs a) (λ k next. Got (bodies.SealedHere n k) next))
@@ -144,8 +140,8 @@ read_digest_page bs at =
     follow (field 8 bs at) (λ n at_upto.
     follow (read_upto bs n at_upto) (λ upto at_trim.
     follow (field 8 bs at_trim) (λ t at_lng.
-    follow (field 4 bs at_lng) (λ lng at_page. check (nat_le lng greatest_lng) at_lng (
-    follow (read_page bs 2 n upto at_page) (λ es next. Got (bodies.DigestPage n upto t lng es) next))))))
+    follow (field 4 bs at_lng) (λ lng at_page.
+    follow (read_page bs 2 n upto at_page) (λ es next. Got (bodies.DigestPage n upto t lng es) next)))))
 
 unfoldable pub read_clean : List ℕ → ℕ → Read Body
 read_clean bs at = follow (field 4 bs at) (λ e a. check (within 1 greatest_epoch e) at (follow (read_summary bs e a) (λ y next. Got (bodies.Clean e y) next)))

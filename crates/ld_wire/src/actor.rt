@@ -12,9 +12,6 @@ use ld_msg::Who;
 /// The greatest epoch of a sequencer.
 pub(crate) const GREATEST_EPOCH: u32 = u32::MAX - 1;
 
-// The greatest last known good place.
-pub(crate) const GREATEST_LNG: u32 = u32::MAX - 1;
-
 /// The greatest place of a reader in the order of opening.
 const LAST_READER: u32 = 999;
 

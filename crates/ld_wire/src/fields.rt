@@ -5,7 +5,7 @@ ghost use Rattle.ld_wire.specs.Fields.{Got, field};
 ghost use Rattle.ld_wire.specs.Faults.{IsOff};
 ghost use Rattle.ld_wire.specs.Judging.{asks_in, answers_in, may_store, answer, read_store, read_sealed, read_lost, read_clean_here, read_trimmed, read_digest_ask, read_digest_page, read_clean, read_read_ask, read_asked, read_read_page, read_answer, read_stored, read_told, read_body};
 
-use crate::actor::{GREATEST_EPOCH, GREATEST_LNG};
+use crate::actor::GREATEST_EPOCH;
 use crate::field::{FieldFault, check, read_u8, read_u32, read_u64};
 use crate::item::{is_number, is_tag, read_summary, read_what};
 use crate::page::{read_page, read_upto};
@@ -131,7 +131,6 @@ fn read_store(
     let (number, at_lng) = read_number(bytes, at)?;
     check(is_number(number) && number.epoch() <= ballot, at)?;
     let (lng, at_tag) = read_u32(bytes, at_lng)?;
-    check(lng <= GREATEST_LNG, at_lng)?;
     let (tag, at_what) = read_u8(bytes, at_tag)?;
     check(may_store(ballot, number, tag), at_tag)?;
     let (what, next) = read_what(alloc, bytes, at_what, tag)?;
@@ -240,7 +239,6 @@ fn read_digest_page(alloc: Global, bytes: &[u8], at: usize) -> Result<(Body, usi
     let (upto, at_trim) = read_upto(bytes, from, at_upto)?;
     let (trim, at_lng) = read_number(bytes, at_trim)?;
     let (lng, at_page) = read_u32(bytes, at_lng)?;
-    check(lng <= GREATEST_LNG, at_lng)?;
     let (entries, next) = read_page(alloc, bytes, 2, from, upto, at_page)?;
     Ok((
         Body::DigestPage {

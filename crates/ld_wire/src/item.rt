@@ -4,7 +4,7 @@ ghost use Rattle.ld_wire.specs.Fields.{Got};
 ghost use Rattle.ld_wire.specs.Faults.{IsOff};
 ghost use Rattle.ld_wire.specs.Judging.{is_number, is_tag, tagged, read_entry, read_summary, read_log};
 
-use crate::actor::{GREATEST_EPOCH, GREATEST_LNG};
+use crate::actor::GREATEST_EPOCH;
 use crate::field::{FieldFault, check, read_u8, read_u16, read_u32, read_u64};
 use ld_ids::{LogId, NoMemory, Payload};
 use ld_lsn::Lsn;
@@ -40,7 +40,6 @@ pub(crate) fn read_summary(
     let (ballot, at_lng) = read_u32(bytes, at)?;
     check(epoch < ballot && ballot <= GREATEST_EPOCH, at)?;
     let (lng, at_trim) = read_u32(bytes, at_lng)?;
-    check(lng <= GREATEST_LNG, at_lng)?;
     let (trim, at_end) = read_u64(bytes, at_trim)?;
     let (end, next) = read_u32(bytes, at_end)?;
     check(1 <= end, at_end)?;

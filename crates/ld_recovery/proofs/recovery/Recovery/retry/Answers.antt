@@ -21,7 +21,7 @@ invariant_of-self c = (
   c.self.invariant.3,
   c.self.invariant.4,
   c.self.invariant.5,
-  subst (IsStage c.self.inside.epoch) (sym c.in_ok-try_again.ensures.shown) (retried_is c.self.inside.spec c.self.inside.epoch c.self.inside.ballot c.self.inside.stage c.self.invariant.0 c.self.invariant.6),
+  subst (IsStage c.self.inside.epoch) (sym c.in_ok-try_again.ensures.shown) (retried_is c.self.inside.epoch c.self.inside.stage c.self.invariant.6),
   c.self.invariant.7,
 )
 
@@ -41,7 +41,7 @@ pub returns-in_ok-try_again-clause-value : goal.returns-in_ok-try_again-clause-v
 returns-in_ok-try_again-clause-value c =
     let a = c.self.inside in
     let h : shown_ending a.ending ≡ Goes = ap (λ (r : Recovering). r.ending) c.self.view_is ∙ goes_if c.args.self.now.ending c.if-goes_on.ensures in
-    subst (λ (r : Recovering). held a.spec a.epoch a.ballot a.lost c.try_again.new.self a.ending ≡ retried r) c.self.view_is (retry_value a.spec a.epoch a.ballot a.lost a.stage c.try_again.new.self a.ending h c.self.invariant.0 c.in_ok-try_again.ensures.shown)
+    subst (λ (r : Recovering). held a.spec a.epoch a.ballot a.lost c.try_again.new.self a.ending ≡ retried r) c.self.view_is (retry_value a.spec a.epoch a.ballot a.lost a.stage c.try_again.new.self a.ending h c.in_ok-try_again.ensures.shown)
 
 pub returns-in_ok-try_again-clause-sent : goal.returns-in_ok-try_again-clause-sent
 returns-in_ok-try_again-clause-sent c =
