@@ -230,7 +230,7 @@ fn a_node_answers_a_peer(rt: HostRuntime) -> Result<(), Fail> {
     Ok(())
 }
 
-/// The words of a sequencer that appends for one round.
+/// The words of an append of one round to a log of one node.
 const APPEND: [&str; 11] = [
     "append",
     "--config",
@@ -247,7 +247,10 @@ const APPEND: [&str; 11] = [
 
 #[test]
 fn an_append_that_reaches_no_node_isnt_done(rt: HostRuntime) -> Result<(), Fail> {
-    let (status, _) = alone(rt.alloc(), &APPEND)?;
+    let input = source(rt.alloc(), b"6869\n", &[])?;
+    let out = sink(rt.alloc(), &[])?;
+    let (status, told) = performed(rt.alloc(), &APPEND, input, out)?;
     assert_eq!(rt; status, Status::Link);
+    assert!(rt; told.as_slice() == b"active s 1\nappended s e1n1\n".as_slice());
     Ok(())
 }
