@@ -8,8 +8,7 @@ use ld_cli::{Status, run};
 use ld_dial::Framed;
 use ld_hints::Recent;
 use ld_io::Source;
-use ld_real::{FileDisk, StdSink, StdSource, TcpLink};
-use ld_register::DiskRegister;
+use ld_real::{FileDisk, FileRegister, StdSink, StdSource, TcpLink};
 use ld_words::{FileName, Places, places};
 use std::io::{Error, ErrorKind, writer};
 use std::process::ExitCode;
@@ -48,7 +47,7 @@ fn perform(rt: &HostRuntime, words: &[String]) -> Status {
         port: 0,
     });
     let mut disk = FileDisk::new(rt, store_of(&places));
-    let mut register = DiskRegister::new(alloc, FileDisk::new(rt, places.register.as_str()));
+    let mut register = FileRegister::new(rt, places.register.as_str());
     let mut link = TcpLink::new(rt, places.port);
     let mut nodes = Framed::new(alloc, TcpLink::new(rt, places.port));
     let mut out = StdSink::new(writer(rt));

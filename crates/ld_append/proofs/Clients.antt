@@ -1,44 +1,21 @@
 -- The steps of a sequencer.
-use Rattle.std.proofs.Common.{◌≡◌, ℕ, Bool, true, false, List, [], ◌∷◌, ◌++◌, Option, Some, None, refl, ap, ◌∙◌, if◌then◌else◌}
-use Rattle.std.specs.List.{AllByRecursion}
+use Rattle.std.proofs.Common.{◌≡◌, ℕ, Bool, true, false, List, [], ◌∷◌, ◌++◌, Option, Some, None, refl, ap, ◌∙◌}
 use Rattle.ld_table.specs.Named.{find_named}
 use Rattle.ld_config.specs.declared.config.Config.{Config}
 use Rattle.ld_schedule.specs.declared.event.Event.TheVariants as events
 use Rattle.ld_transcript.specs.declared.line.Line.{Line}
 use Rattle.ld_transcript.specs.declared.line.Line.TheVariants as lines
-use Rattle.ld_msg.specs.declared.msg.Who.{Who}
 use Rattle.ld_msg.specs.declared.msg.Who.TheVariants as whos
 use Rattle.ld_msg.specs.declared.msg.Msg.{Msg}
-use Rattle.ld_msg.specs.declared.msg.Body.{Body}
-use Rattle.ld_msg.specs.Network.{posted}
 use Rattle.ld_msg.specs.Register.{Register, Answer, Granted, AtLimit, Behind, Fails}
 use Rattle.ld_msg.specs.Sequencer as sequencer
-use Rattle.ld_msg.specs.Sequencer.{Sequencer, Acts, Appending, released_of, rose, on_reply, on_retry}
-use Rattle.ld_machine.specs.Config.{spec_in}
+use Rattle.ld_msg.specs.Sequencer.{Sequencer, Acts, Appending, released_of, rose}
+use Rattle.ld_machine.specs.Config.{looks_at}
 use Rattle.ld_machine.specs.State.{State, Done, unchanged}
 use Rattle.ld_machine.specs.Step.{happens, numbered_lines, when, acted_lines, acted, on_live, append_done, activates_by, to_sequencer}
-use Rattle.ld_bounds.specs.Sound.{is_node}
-use Rattle.ld_rounds.specs.News.{is_answer}
 use Rattle.ld_rounds.specs.Drives.{own_lines}
+use Rattle.ld_rounds.proofs.Clients.{IsClient, client_if, nothing_client, posted_asks}
 use Rattle.ld_rounds.proofs.Steps.{own-append}
-
--- neither nodes nor messages have changed, and all that is written and sent is an actor's
-pub record IsClient (s : State) (d : Done) : Type 0 where
-  pub nodes : d.state.nodes ≡ s.nodes
-  pub network : d.state.network ≡ s.network
-  pub own : own_lines d.lines ≡ d.lines
-  pub asks : AllByRecursion (λ m. is_answer m ≡ false) d.sends
-
-client_if : (b : Bool) (s : State) (x y : Done) → IsClient s x → IsClient s y → IsClient s (if b then x else y)
-client_if true s x y h k = h
-client_if false s x y h k = k
-
-nothing_client : (s : State) → IsClient s (unchanged s)
-nothing_client s = record { nodes = refl; network = refl; own = refl; asks = tt }
-
-posted_asks : (w : Who) (l : ℕ) (bs : List (ℕ × Body)) → is_node w ≡ false → AllByRecursion (λ m. is_answer m ≡ false) (posted w l bs)
-posted_asks w l [] h = tt
-posted_asks w l (b ∷ bs) h = (h, posted_asks w l bs h)
 
 -- ---- lines ----
 
@@ -73,22 +50,22 @@ own_acted name old a =
 -- ---- steps ----
 
 acted_client : (c : Config) (s : State) (name : List ℕ) (old : Sequencer) (a : Acts) → IsClient s (acted c s name old a)
-acted_client c s name old a = record { nodes = refl; network = refl; own = own_acted name old (sequencer.called (spec_in old.log c.logs) s.register a a.tries).acts; asks = posted_asks (whos.Sequencer old.epoch) old.log _ refl }
+acted_client c s name old a = record { nodes = refl; network = refl; own = own_acted name old (sequencer.called (looks_at c s.register old.log) s.register a a.tries).acts; asks = posted_asks (whos.Sequencer old.epoch) old.log _ refl }
 
 live_client : (s : State) (o : Option Sequencer) (f : Sequencer → Done) → ((q : Sequencer) → IsClient s (f q)) → IsClient s (on_live s o f)
 live_client s None f h = nothing_client s
 live_client s (Some q) f h = client_if q.gone s (unchanged s) (f q) (nothing_client s) (h q)
 
-appending_client : (c : Config) (s : State) (name : List ℕ) (q : Sequencer) (p : List ℕ) (a : Appending) → IsClient s (append_done c s name q p a)
-appending_client c s name q p sequencer.TooLong = record { nodes = refl; network = refl; own = refl; asks = tt }
-appending_client c s name q p (sequencer.Preempted k) = record { nodes = refl; network = refl; own = refl; asks = tt }
-appending_client c s name q p sequencer.EpochFull = record { nodes = refl; network = refl; own = refl; asks = tt }
-appending_client c s name q p sequencer.WindowFull = record { nodes = refl; network = refl; own = refl; asks = tt }
-appending_client c s name q p sequencer.Numbered = record { nodes = refl; network = refl; own = refl; asks = posted_asks (whos.Sequencer q.epoch) q.log _ refl }
+appending_client : (s : State) (name : List ℕ) (q : Sequencer) (p : List ℕ) (a : Appending) → IsClient s (append_done s name q p a)
+appending_client s name q p sequencer.TooLong = record { nodes = refl; network = refl; own = refl; asks = tt }
+appending_client s name q p (sequencer.Preempted k) = record { nodes = refl; network = refl; own = refl; asks = tt }
+appending_client s name q p sequencer.EpochFull = record { nodes = refl; network = refl; own = refl; asks = tt }
+appending_client s name q p sequencer.WindowFull = record { nodes = refl; network = refl; own = refl; asks = tt }
+appending_client s name q p sequencer.Numbered = record { nodes = refl; network = refl; own = refl; asks = posted_asks (whos.Sequencer q.epoch) q.log _ refl }
 
 pub append_client : (c : Config) (s : State) (name p : List ℕ) → IsClient s (happens c s (events.Append name p))
 unfolding happens
-append_client c s name p = live_client s (find_named name s.sequencers) _ (λ q. appending_client c s name q p _)
+append_client c s name p = live_client s (find_named name s.sequencers) _ (λ q. appending_client s name q p _)
 
 pub retry_client : (c : Config) (s : State) (name : List ℕ) → IsClient s (happens c s (events.Retry name))
 unfolding happens

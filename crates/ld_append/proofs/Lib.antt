@@ -1,5 +1,6 @@
 mod Appending
 mod Clients
+mod Crowding
 mod Ending
 mod Saying
 mod Serving

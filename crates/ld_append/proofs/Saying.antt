@@ -1,5 +1,5 @@
 -- The lines of a call say how the drive ends by it.
-use Rattle.std.proofs.Common.{◌≡◌, ◌≢◌, ℕ, List, [], ◌∷◌, ◌++◌, Option, Some, None, Ok, Err, refl, ap, sym, ◌∙◌, subst, arith, is_some, IfSome}
+use Rattle.std.proofs.Common.{◌≡◌, ◌≢◌, ℕ, List, [], ◌∷◌, ◌++◌, Option, Some, None, Ok, Err, Bool, refl, ap, sym, ◌∙◌, subst, arith, is_some, IfSome}
 use Rattle.std.specs.List.{Contains}
 use Rattle.std.specs.declared.result.Result.{Result}
 use Rattle.ld_transcript.specs.declared.line.Line.{Line}
@@ -16,9 +16,12 @@ use Rattle.ld_msg.specs.Sequencer.{Appending}
 use Rattle.ld_sequencer.specs.Own.{listed, append_fault}
 use Rattle.ld_machine.specs.Step.{numbered_lines, when}
 use Rattle.ld_clients.specs.Refusing.{told_lines}
+use Rattle.ld_rounds.specs.declared.ended.Refusal.TheVariants as refusals
 use Rattle.ld_rounds.specs.declared.ended.Ended.{Ended}
+use Rattle.ld_rounds.specs.declared.ended.Ended.TheVariants as ends
+use Rattle.ld_rounds.specs.Rounds.{tells_full}
 use Rattle.ld_rounds.specs.Ends.{IsSaid}
-use Rattle.ld_append.specs.Refusing.{report_end, register_end, fault_end, end_by, lines_by, start_lines, IsTold, IsStartTold}
+use Rattle.ld_append.specs.Refusing.{report_end, register_end, fault_end, end_by, is_window, lines_by, start_lines, IsTold, IsStartTold}
 
 first_there : (l : Line) (ls : List Line) → Contains (l ∷ ls) l
 first_there l ls = (0, omega arith, refl)
@@ -34,7 +37,7 @@ told_register : (name : List ℕ) (f : RegisterFault) → IsTold (lines_by name 
 told_register name registers.Failed = record { name = name; there = first_there (lines.RefusedRegister name) [] }
 told_register name (registers.Damaged place) = record { name = name; there = first_there (lines.RefusedRegister name) [] }
 told_register name registers.LogLimit = tt
-told_register name (registers.Behind lce) = record { name = name; there = first_there (lines.RefusedRegister name) [] }
+told_register name (registers.Behind lce next) = record { name = name; there = first_there (lines.RefusedRegister name) [] }
 told_register name registers.EpochLimit = record { name = name; there = first_there (lines.RefusedEpochLimit name) [] }
 told_register name registers.GenLimit = record { name = name; there = first_there (lines.RefusedRegister name) [] }
 told_register name registers.Full = record { name = name; there = first_there (lines.RefusedRegister name) [] }
@@ -68,7 +71,7 @@ has_lines name (Err (faults.PastReleased released)) n = refl
 has_lines name (Err (faults.Register registers.Failed)) n = refl
 has_lines name (Err (faults.Register (registers.Damaged place))) n = refl
 has_lines name (Err (faults.Register registers.LogLimit)) n = absurd (n refl)
-has_lines name (Err (faults.Register (registers.Behind lce))) n = refl
+has_lines name (Err (faults.Register (registers.Behind lce next))) n = refl
 has_lines name (Err (faults.Register registers.EpochLimit)) n = refl
 has_lines name (Err (faults.Register registers.GenLimit)) n = refl
 has_lines name (Err (faults.Register registers.Full)) n = refl
@@ -85,7 +88,7 @@ start_told name (faults.PastReleased released) = tt
 start_told name (faults.Register registers.Failed) = record { name = name; there = first_there (lines.RefusedRegister name) [] }
 start_told name (faults.Register (registers.Damaged place)) = refl
 start_told name (faults.Register registers.LogLimit) = refl
-start_told name (faults.Register (registers.Behind lce)) = record { name = name; there = first_there (lines.RefusedRegister name) [] }
+start_told name (faults.Register (registers.Behind lce next)) = record { name = name; there = first_there (lines.RefusedRegister name) [] }
 start_told name (faults.Register registers.EpochLimit) = record { name = name; there = first_there (lines.RefusedEpochLimit name) [] }
 start_told name (faults.Register registers.GenLimit) = record { name = name; there = first_there (lines.RefusedRegister name) [] }
 start_told name (faults.Register registers.Full) = record { name = name; there = first_there (lines.RefusedRegister name) [] }
@@ -107,3 +110,34 @@ pub append_said : (ls : List Line) (n : ℕ) (a : Appending) (fault : SequencerF
 append_said ls n a fault end f e t =
     let is : end ≡ fault_end (append_fault n a) = e ∙ ap fault_end f in
     subst (λ (x : Option Ended). IfSome x (IsSaid ls)) (sym is) (append_told ls n a (subst (λ (x : Option Ended). IfSome x (IsTold ls)) is t))
+
+-- one refusal alone tells that the window is full
+pub full_lines : (name : List ℕ) (n : ℕ) (a : Appending) (fault : SequencerFault) (b : Bool) (ls : List Line) → fault ≡ append_fault n a → b ≡ is_window fault → ls ≡ lines_by name (Err fault) → b ≡ tells_full ls
+full_lines name n a fault b ls f w l = w ∙ (ap is_window f ∙ (full_by name n a ∙ ap tells_full (sym (l ∙ ap (λ (x : SequencerFault). lines_by name (Err x)) f))))
+  where
+    full_by : (name : List ℕ) (n : ℕ) (a : Appending) → is_window (append_fault n a) ≡ tells_full (lines_by name (Err (append_fault n a)))
+    full_by name n sequencer.TooLong = refl
+    full_by name n (sequencer.Preempted k) = refl
+    full_by name n sequencer.EpochFull = refl
+    full_by name n sequencer.WindowFull = refl
+    full_by name n sequencer.Numbered = refl
+
+-- which refusal ends the drive by a damaged register
+damaged_register : (f : RegisterFault) (place : ℕ) → register_end f ≡ ends.Register (refusals.Damaged place) → f ≡ registers.Damaged place
+damaged_register registers.Failed place e = absurd cc
+damaged_register (registers.Damaged k) place e = cc
+damaged_register registers.LogLimit place e = absurd cc
+damaged_register (registers.Behind lce next) place e = absurd cc
+damaged_register registers.EpochLimit place e = absurd cc
+damaged_register registers.GenLimit place e = absurd cc
+damaged_register registers.Full place e = absurd cc
+damaged_register registers.NoMemory place e = absurd cc
+
+pub damaged_by : (f : SequencerFault) (place : ℕ) → fault_end f ≡ Some (ends.Register (refusals.Damaged place)) → f ≡ faults.Register (registers.Damaged place)
+damaged_by (faults.PayloadTooLong n) place e = absurd cc
+damaged_by (faults.Preempted by) place e = absurd cc
+damaged_by faults.EpochFull place e = absurd cc
+damaged_by faults.WindowFull place e = absurd cc
+damaged_by (faults.PastReleased released) place e = absurd cc
+damaged_by (faults.Register f) place e = let h : register_end f ≡ ends.Register (refusals.Damaged place) = cc in ap (λ (x : RegisterFault). faults.Register x) (damaged_register f place h)
+damaged_by faults.NoMemory place e = absurd cc

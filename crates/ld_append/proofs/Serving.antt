@@ -13,8 +13,9 @@ use Rattle.ld_transcript.specs.declared.line.Line.{Line}
 use Rattle.ld_msg.specs.declared.msg.Msg.{Msg}
 use Rattle.ld_msg.specs.declared.msg.Who.TheVariants as whos
 use Rattle.ld_msg.specs.Register.{Register, is_crowded}
+use Rattle.ld_sequencer.specs.declared.origin.Origin.{Origin}
 use Rattle.ld_sequencer.specs.Whole.{Whole}
-use Rattle.ld_machine.specs.Config.{has_log, spec_in}
+use Rattle.ld_machine.specs.Config.{has_log, first_spec}
 use Rattle.ld_machine.specs.State.{State, Done}
 use Rattle.ld_machine.specs.Step.{happens}
 use Rattle.ld_bounds.specs.Sound.{IsSound}
@@ -23,13 +24,14 @@ use Rattle.ld_clients.specs.declared.client.Client.{Client}
 use Rattle.ld_clients.specs.declared.outcome.Outcome.{Outcome}
 use Rattle.ld_clients.specs.Serving.{IsWhole, Knows, KnowTheirLogs, HasRoom, GoesOn}
 use Rattle.ld_clients.specs.Acting as acting
-use Rattle.ld_clients.specs.Acting.{AreSequencers, Stays}
+use Rattle.ld_clients.specs.Acting.{Stays}
 use Rattle.ld_clients.proofs.Names.{all_put, all_none}
 use Rattle.ld_rounds.specs.News.{is_answer}
 use Rattle.ld_rounds.specs.Drives.{own_lines}
 use Rattle.ld_rounds.specs.Acts.{IsActed}
-use Rattle.ld_append.specs.Acting.{clients, MayBeWhole, Serves, IsSpecOf}
-use Rattle.ld_append.proofs.Clients.{IsClient, append_client, retry_client, activate_client, reply_client}
+use Rattle.ld_append.specs.Acting.{clients, MayBeWhole, Serves, IsSpecOf, IsUnset}
+use Rattle.ld_rounds.proofs.Clients.{IsClient}
+use Rattle.ld_append.proofs.Clients.{append_client, retry_client, activate_client, reply_client}
 use Rattle.ld_lsn.specs.Number.{numbered}
 use Rattle.ld_transcript.specs.declared.line.Line.TheVariants as lines
 use Rattle.ld_msg.specs.Sequencer as sequencer
@@ -46,14 +48,14 @@ use Rattle.ld_sequencer.specs.Whole.{as_now, sent_as}
 use Rattle.ld_clients.specs.Refusing.{fault_lines, told_lines}
 use Rattle.ld_clients.specs.Acting.{IsNamed, HasActed}
 use Rattle.ld_clients.specs.Serving.{shown}
-use Rattle.ld_clients.proofs.Acting.{append_done, append_refused, retry_done, reply_done, answered_goes, appended_goes, same_goes}
-use Rattle.ld_clients.proofs.Keeping.{same_on_retry, same_on_reply}
+use Rattle.ld_clients.proofs.Acting.{append_done, append_refused, retry_done, reply_done, retried_goes, replied_goes, appended_goes, same_goes}
 use Rattle.ld_clients.proofs.Placing.{placed, named, append_nobody, append_somebody, retry_nobody, retry_somebody, reply_somebody}
 use Rattle.ld_clients.proofs.Activating.{granted_done, refused_done, know_active, active_whole}
-use Rattle.ld_msg.specs.Register.{Answer, Granted, AtLimit, Behind, Fails}
+use Rattle.ld_msg.specs.Register.{Answer, View, Granted, AtLimit, Behind, Fails}
 use Rattle.ld_clients.specs.Serving.{serving_in}
-use Rattle.ld_recovery.specs.Recovering.{sender_of}
-use Rattle.ld_sequencer.specs.Whole.{Acted, IsActive, Activates, IsRefused, tried, called_by, reply_acts, retry_acts}
+use Rattle.ld_register.specs.Bounds.{IsSpecFor}
+use Rattle.ld_sequencer.specs.Looks.{shows}
+use Rattle.ld_sequencer.specs.Whole.{Acted, IsActive, Activates, IsRefused, Unseen, origin_of, looks_after, looks_of, tried, called_by, reply_acts, retry_acts}
 use Rattle.ld_machine.specs.Step.{comes_to, to_live}
 use Rattle.ld_append.specs.Refusing.{lines_by, start_lines}
 use Rattle.ld_append.proofs.Saying.{has_lines}
@@ -111,7 +113,11 @@ know_none c = all_none (λ (x : Client). Knows c x.sequencer)
 -- ---- the same one after a call ----
 
 pub goes_knows : (c : Config) (k g : Whole) → GoesOn (live_client k) (live_client g) → Knows c k → Knows c g
-goes_knows c k g e h = record { spec = e.spec ∙ (h.spec ∙ ap (λ n. spec_in n c.logs) (sym e.log)); there = ap (has_log c) e.log ∙ h.there }
+goes_knows c k g e h = record {
+  nodes = ap (λ (x : Origin). x.nodes) e.origin ∙ h.nodes;
+  first = ap (λ (x : Origin). x.first) e.origin ∙ (h.first ∙ ap (first_spec c) (sym e.log));
+  there = ap (has_log c) e.log ∙ h.there;
+}
 
 pub goes_whole : (k g : Whole) → GoesOn (live_client k) (live_client g) → IsWhole k → IsWhole g
 goes_whole k g e w = record { log = e.log ∙ (w.log ∙ ap (λ (x : Spec). x.log) (sym e.spec)); live = e.gone ∙ w.live }
@@ -179,13 +185,13 @@ module _ (c : Config) (s : State) (name : List ℕ) (T : Register → Type 0) wh
     knows_it = h.sequencers.logs name (live_client w) (found_only name (live_client w))
 
     appended_as : (g : Whole) (p : List ℕ) (o : Outcome) → GoesOn (live_client w) (live_client g)
-        → HasActed s name (live_client g) o (Stays s) (on_live s (Some (shown (live_client w))) (λ q. append_row c s name q p (appending q p))) → IsActed (Serves name (Some g) T c) s o.lines.items o.sends (happens c s (events.Append name p))
+        → HasActed s name (live_client g) o (Stays s) (on_live s (Some (shown (live_client w))) (λ q. append_row s name q p (appending q p))) → IsActed (Serves name (Some g) T c) s o.lines.items o.sends (happens c s (events.Append name p))
     appended_as g p o e d = serves_on c s name (Some g) o T _
         (stays_told s (clients name (Some g)) o T _ h.register (append_somebody c s one h.sequencers name o p (live_client w) (live_client g) (clients name (Some g)) (found_only name (live_client w)) (sym (put_only name (live_client w) (live_client g))) d))
         (append_client c s name p) (know_only c name g (goes_knows c w g e knows_it)) (goes_whole w g e h.whole)
 
     pub is_appended : (g : Whole) (p own : List ℕ) (number : ℕ) (o : Outcome) → g ≡ as_now w (appended w.sequencer p) → appending w.sequencer p ≡ sequencer.Numbered → own ≡ name → number ≡ numbered w.sequencer.epoch (next_esn w.sequencer)
-        → o.lines.items ≡ lines.Appended own number ∷ [] → o.sends ≡ sent_as w (first_stores w.spec w.sequencer p) → IsActed (Serves name (Some g) T c) s o.lines.items o.sends (happens c s (events.Append name p))
+        → o.lines.items ≡ lines.Appended own number ∷ [] → o.sends ≡ sent_as w (first_stores w.sequencer p) → IsActed (Serves name (Some g) T c) s o.lines.items o.sends (happens c s (events.Append name p))
     is_appended g p own number o v n u m ls ms = appended_as g p o (appended_goes (live_client w) (live_client g) p refl v)
         (append_done c s name (live_client w) is_named h.whole refl (live_client g) p own number o refl v n u m ls ms)
 
@@ -215,21 +221,22 @@ module _ (c : Config) (s : State) (name : List ℕ) (T : Register → Type 0) wh
       lines_are = ls ∙ has_lines name r (not_limit (U s.register) r x room_is)
 
       pub retried : IfOk r (λ report. Acted w g report old new (called_by w s.register (retry_acts w)).acts × U (called_by w s.register (retry_acts w)).register)
-          → IfOk r (λ report. (d : Answer) × Acted w g report old new (tried w (retry_acts w) d)) → IfErr r (λ fault. IsRefused w g fault old new (retry_acts w))
+          → IfOk r (λ report. (x : Spec) × IsSpecFor w.sequencer.log x × (d : Answer) × Acted w g report old new (tried (shows x) (retry_acts w) d)) → IfErr r (λ fault. IsRefused w g fault old new (retry_acts w))
           → IsActed (Serves name (Some g) U c) s o.lines.items o.sends (happens c s (events.Retry name))
       retried y a f =
-          let e : GoesOn (live_client w) (live_client g) = answered_goes (live_client w) (live_client g) r old new (retry_acts w) (same_on_retry w.spec w.sequencer) refl a f m in
+          let e : GoesOn (live_client w) (live_client g) = retried_goes (live_client w) (live_client g) r old new refl a f m in
           serves_on c s name (Some g) o U _
           (retry_somebody c s one h.sequencers name o U (live_client w) (live_client g) (clients name (Some g)) (found_only name (live_client w)) (sym (put_only name (live_client w) (live_client g)))
           (retry_done c s name (live_client w) is_named h.whole refl r (live_client g) old new o U refl y x m room_is empty lines_are ms))
           (retry_client c s name) (know_only c name g (goes_knows c w g e knows_it)) (goes_whole w g e h.whole)
 
-      pub answered : (a : Msg) → (a.to ≡ whos.Sequencer w.sequencer.epoch) → (a.log ≡ w.spec.log)
-          → IfOk r (λ report. Acted w g report old new (called_by w s.register (reply_acts w a.from a.body)).acts × U (called_by w s.register (reply_acts w a.from a.body)).register)
-          → IfOk r (λ report. (d : Answer) × Acted w g report old new (tried w (reply_acts w a.from a.body) d)) → IfErr r (λ fault. IsRefused w g fault old new (reply_acts w a.from a.body))
+      pub answered : (a : Msg) → (a.to ≡ whos.Sequencer w.sequencer.epoch) → (a.log ≡ w.sequencer.spec.log)
+          → IfOk r (λ report. Acted w g report old new (called_by w s.register (reply_acts (looks_of w s.register) w a.from a.body)).acts × U (called_by w s.register (reply_acts (looks_of w s.register) w a.from a.body)).register)
+          → IfOk r (λ report. (x : Spec) × IsSpecFor w.sequencer.log x × (d : Answer) × Acted w g report old new (tried (shows x) (reply_acts (shows x) w a.from a.body) d))
+          → IfErr r (λ fault. Unseen w g fault old new a.body ⊎ ((looks : ℕ → View) → IsRefused w g fault old new (reply_acts looks w a.from a.body)))
           → IsActed (Serves name (Some g) U c) s o.lines.items o.sends (comes_to c s a a.to)
       answered a to log y t f =
-          let e : GoesOn (live_client w) (live_client g) = answered_goes (live_client w) (live_client g) r old new (reply_acts w a.from a.body) (same_on_reply w.spec w.sequencer (sender_of a.from) a.body) refl t f m in
+          let e : GoesOn (live_client w) (live_client g) = replied_goes (live_client w) (live_client g) r old new a.from a.body refl t f m in
           let n : ℕ = w.sequencer.epoch in
           let k : Client = live_client w in
           let found : serving_in a.log n one ≡ Some (name, k) = serving_only a.log (log ∙ sym h.whole.log) in
@@ -242,38 +249,42 @@ module _ (c : Config) (s : State) (name : List ℕ) (T : Register → Type 0) wh
 
 -- ---- an activation ----
 
-refused_as : (name : List ℕ) (fault : SequencerFault) (spec : Spec) (old new : List Msg) (x : Answer) (full : Bool) (g : Grant) → Activates spec old new (Err fault) (ended x full registers.EpochLimit g) → start_lines name fault ≡ fault_lines name fault
-refused_as name fault spec old new Granted full g h = absurd h
-refused_as name fault spec old new AtLimit full g h = subst (λ x. start_lines name x ≡ fault_lines name x) (sym h.0) refl
-refused_as name fault spec old new (Behind lce) full g h = subst (λ x. start_lines name x ≡ fault_lines name x) (sym h.0) refl
-refused_as name fault spec old new Fails true g h = subst (λ x. start_lines name x ≡ fault_lines name x) (sym h.0) refl
-refused_as name fault spec old new Fails false g h = subst (λ x. start_lines name x ≡ fault_lines name x) (sym h.0) refl
+pub active_log : (origin : Origin) (spec : Spec) (looks : ℕ → View) (g : Grant) (w : Whole) (old new : List Msg) → IsActive origin spec looks g w old new → w.sequencer.log ≡ spec.log
+unfolding sequencer.activated
+active_log origin spec looks g w old new h = ap (λ (x : Whole). x.sequencer.log) h.value
+
+refused_as : (name : List ℕ) (fault : SequencerFault) (origin : Origin) (spec : Spec) (looks : ℕ → View) (old new : List Msg) (x : Answer) (full : Bool) (g : Grant) → Activates origin spec looks old new (Err fault) (ended x full registers.EpochLimit g) → start_lines name fault ≡ fault_lines name fault
+refused_as name fault origin spec looks old new Granted full g h = absurd h
+refused_as name fault origin spec looks old new AtLimit full g h = subst (λ x. start_lines name x ≡ fault_lines name x) (sym h.0) refl
+refused_as name fault origin spec looks old new (Behind lce) full g h = subst (λ x. start_lines name x ≡ fault_lines name x) (sym h.0) refl
+refused_as name fault origin spec looks old new Fails true g h = subst (λ x. start_lines name x ≡ fault_lines name x) (sym h.0) refl
+refused_as name fault origin spec looks old new Fails false g h = subst (λ x. start_lines name x ≡ fault_lines name x) (sym h.0) refl
 
 -- neither a crowded nor a damaged register is met
-refused_is : (name : List ℕ) (fault : SequencerFault) (spec : Spec) (old new : List Msg) (b : Bool) (x : Answer) (full : Bool) (g : Grant) → b ≡ false
-    → Activates spec old new (Err fault) (if b then Err registers.LogLimit else ended x full registers.EpochLimit g) → start_lines name fault ≡ fault_lines name fault
-refused_is name fault spec old new true x full g e h = absurd cc
-refused_is name fault spec old new false x full g e h = refused_as name fault spec old new x full g h
+refused_is : (name : List ℕ) (fault : SequencerFault) (origin : Origin) (spec : Spec) (looks : ℕ → View) (old new : List Msg) (b : Bool) (x : Answer) (full : Bool) (g : Grant) → b ≡ false
+    → Activates origin spec looks old new (Err fault) (if b then Err registers.LogLimit else ended x full registers.EpochLimit g) → start_lines name fault ≡ fault_lines name fault
+refused_is name fault origin spec looks old new true x full g e h = absurd cc
+refused_is name fault origin spec looks old new false x full g e h = refused_as name fault origin spec looks old new x full g h
 
-refused_lines : (name : List ℕ) (fault : SequencerFault) (spec : Spec) (old new : List Msg) (r : Register) (before after : Type 0) → (fault ≢ faults.NoMemory) → is_crowded r spec.log ≡ false
-    → (IsErrOf {T = Whole} (Err fault) faults.NoMemory × before) ⊎ (Activates spec old new (Err fault) (granted r spec.log) × after) → start_lines name fault ≡ fault_lines name fault
-refused_lines name fault spec old new r before after n room (inl x) = let e : fault ≡ faults.NoMemory = cc in absurd (n e)
-refused_lines name fault spec old new r before after n room (inr x) = refused_is name fault spec old new (is_crowded r spec.log) _ _ _ room x.0
+refused_lines : (name : List ℕ) (fault : SequencerFault) (origin : Origin) (spec : Spec) (looks : ℕ → View) (old new : List Msg) (r : Register) (before after : Type 0) → (fault ≢ faults.NoMemory) → is_crowded r spec.log ≡ false
+    → (IsErrOf {T = Whole} (Err fault) faults.NoMemory × before) ⊎ (Activates origin spec looks old new (Err fault) (granted r spec) × after) → start_lines name fault ≡ fault_lines name fault
+refused_lines name fault origin spec looks old new r before after n room (inl x) = let e : fault ≡ faults.NoMemory = cc in absurd (n e)
+refused_lines name fault origin spec looks old new r before after n room (inr x) = refused_is name fault origin spec looks old new (is_crowded r spec.log) _ _ _ room x.0
 
-module _ (c : Config) (s : State) (name : List ℕ) (T : Register → Type 0) (h : Serves name None T c s) (b : IsInBounds c) (sound : IsSound c s) (spec : Spec) (is : IsSpecOf c spec) (U : Register → Type 0) (old new : List Msg) (o : Outcome) (before : Type 0) (empty : old ≡ []) (ms : o.sends ≡ new) where
+module _ (c : Config) (s : State) (name : List ℕ) (T : Register → Type 0) (h : Serves name None T c s) (b : IsInBounds c) (sound : IsSound c s) (spec : Spec) (is : IsSpecOf c spec) (unset : IsUnset c s spec) (U : Register → Type 0) (old new : List Msg) (o : Outcome) (before : Type 0) (empty : old ≡ []) (ms : o.sends ≡ new) where
   free : is_some (find_named {X = Client} name []) ≡ false
   free = ap is_some (find_named-empty name)
 
-  pub is_activated : (w : Whole) (own : List ℕ) (g : Grant) → IsActive spec g w old new → (IsErrOf {E = SequencerFault} (Ok w) faults.NoMemory × before) ⊎ (Activates spec old new (Ok w) (granted s.register spec.log) × U (after_activate s.register spec.log))
+  pub is_activated : (w : Whole) (own : List ℕ) (g : Grant) (looks : ℕ → View) → IsActive (origin_of c.nodes spec) spec looks g w old new → (IsErrOf {E = SequencerFault} (Ok w) faults.NoMemory × before) ⊎ (Activates (origin_of c.nodes spec) spec (looks_after spec spec s.register) old new (Ok w) (granted s.register spec) × U (after_activate s.register spec))
       → own ≡ name → o.lines.items ≡ lines.Active own w.sequencer.epoch ∷ [] → IsActed (Serves name (Some w) U c) s o.lines.items o.sends (happens c s (events.Activate name spec.log))
-  is_activated w own g active x n ls = serves_on c s name (Some w) o U _
-      (granted_done c s [] h.sequencers name spec.log o U spec is.is is.there free (has_room c s b sound) w old new own (clients name (Some w)) before x empty n (sym (put_first name (live_client w)) ∙ ap (λ m. put_named m (live_client w) []) (sym n)) ls ms)
+  is_activated w own g looks active x n ls = serves_on c s name (Some w) o U _
+      (granted_done c s [] h.sequencers name o U spec spec is.is is.there (sym unset) free (has_room c s b sound) w old new own (clients name (Some w)) before x empty n (sym (put_first name (live_client w)) ∙ ap (λ m. put_named m (live_client w) []) (sym n)) ls ms)
       (activate_client c s name spec.log)
-      (subst (KnowTheirLogs c) (put_first name (live_client w)) (know_active c [] name spec.log spec g w old new is.is is.there active (know_none c)))
-      (active_whole spec g w old new active)
+      (subst (KnowTheirLogs c) (put_first name (live_client w)) (know_active c [] name spec.log spec spec looks g w old new is.is is.there refl active (know_none c)))
+      (active_whole (origin_of c.nodes spec) spec looks g w old new active)
 
-  pub not_activated : (fault : SequencerFault) → (fault ≢ faults.NoMemory) → (IsErrOf {T = Whole} (Err fault) faults.NoMemory × before) ⊎ (Activates spec old new (Err fault) (granted s.register spec.log) × U (after_activate s.register spec.log))
+  pub not_activated : (fault : SequencerFault) → (fault ≢ faults.NoMemory) → (IsErrOf {T = Whole} (Err fault) faults.NoMemory × before) ⊎ (Activates (origin_of c.nodes spec) spec (looks_after spec spec s.register) old new (Err fault) (granted s.register spec) × U (after_activate s.register spec))
       → o.lines.items ≡ start_lines name fault → IsActed (Serves name None U c) s o.lines.items o.sends (happens c s (events.Activate name spec.log))
   not_activated fault n x ls = serves_on c s name None o U _
-      (refused_done c s [] h.sequencers name spec.log o U spec is.is is.there free (has_room c s b sound) old new fault before n x empty (ls ∙ refused_lines name fault spec old new s.register _ _ n (has_room c s b sound spec.log is.there) x) ms)
+      (refused_done c s [] h.sequencers name o U spec spec is.is is.there (sym unset) free (has_room c s b sound) old new fault before n x empty (ls ∙ refused_lines name fault (origin_of c.nodes spec) spec (looks_after spec spec s.register) old new s.register _ _ n (has_room c s b sound spec.log is.there) x) ms)
       (activate_client c s name spec.log) (know_none c) tt

@@ -37,6 +37,10 @@ abbrev pub is_log_limit : RegisterFault → Bool
 is_log_limit registers.LogLimit = true
 is_log_limit _ = false
 
+abbrev pub is_window : SequencerFault → Bool
+is_window faults.WindowFull = true
+is_window _ = false
+
 -- a payload that is too long and a full window end nothing
 abbrev pub fault_end : SequencerFault → Option Ended
 fault_end (faults.Preempted by) = Some (ends.Preempted by)

@@ -1,7 +1,8 @@
 // A sequencer that is driven.
-ghost use Rattle.std.specs.Prelude.{◌≡◌, ◌≢◌, ◌≤◌, [], ◌∷◌, true, None, Some, IfOk, IfSome, OnOk};
+ghost use Rattle.std.specs.Prelude.{ℕ, ◌≡◌, ◌≢◌, ◌⊎◌, [], ◌∷◌, true, false, None, Some, IfOk, IfSome, OnOk};
 ghost use Rattle.ld_config.specs.declared.config.Config.{Config as Contents};
 ghost use Rattle.ld_config.specs.Bounds.{IsInBounds};
+ghost use Rattle.ld_register.specs.Bounds.{IsSpec};
 ghost use Rattle.ld_schedule.specs.declared.event.Event.TheVariants.{Activate, Append, Retry};
 ghost use Rattle.ld_machine.specs.State.{State};
 ghost use Rattle.ld_machine.specs.Step.{happens};
@@ -9,11 +10,13 @@ ghost use Rattle.ld_bounds.specs.Sound.{IsSound};
 ghost use Rattle.ld_rounds.specs.Acts.{IsActed};
 ghost use Rattle.ld_node_bounds.specs.Messages.{AreMessages};
 ghost use Rattle.ld_rounds.specs.Ends.{IsSaid};
-ghost use Rattle.ld_append.specs.Acting.{Serves, IsTo, IsSpecOf, settled_in};
+ghost use Rattle.ld_rounds.specs.Rounds.{tells_full};
+ghost use Rattle.ld_append.specs.Acting.{Serves, IsTo, IsSpecOf, IsUnset, settled_in, MayCrowd, Leaves, IsSince, IsOfLog};
 ghost use Rattle.ld_append.specs.Refusing.{fault_end, start_lines, IsTold, IsStartTold};
 
-use crate::refusing::heard;
-use ld_ids::{Name, NoMemory, Payload, Spec};
+use crate::refusing::{heard, is_window};
+use ld_config::Config;
+use ld_ids::{LogId, Name, NoMemory, Payload, Spec};
 use ld_msg::{Msg, Outbox, Who};
 use ld_register::{Register, RegisterFault};
 use ld_rounds::{Actor, Appended, Appends, Ended, Heard, Refusal};
@@ -21,10 +24,11 @@ use ld_sequencer::{Sequencer, SequencerFault};
 use ld_transcript::Line;
 use std::alloc::Global;
 
-/// A sequencer of a log, once it is active, with its register.
+/// A sequencer of a log, once it is active and as long as it is of use, with its register.
 #[derive(Drop)]
 pub struct Acting<G: Register> {
     name: Name,
+    log: LogId,
     sequencer: Option<Sequencer>,
     register: G,
     /// The register has refused a close in a round, since it holds as many other logs as may be.
@@ -116,14 +120,17 @@ fn refused(
 }
 
 impl<G: Register> Acting<G> {
-    /// No sequencer is active.
-    pub fn new(name: Name, register: G) -> Acting<G>
+    /// No sequencer of the log is active.
+    pub fn new(name: Name, log: LogId, register: G) -> Acting<G>
         ensures name { result.name ≡ name }
+        ensures log { result.log ≡ log }
         ensures none { result.sequencer ≡ None }
+        ensures unshut { result.is_shut ≡ false }
         ensures register { result.register ≡ register }
     {
         Acting {
             name,
+            log,
             sequencer: None,
             register,
             is_shut: false,
@@ -138,17 +145,37 @@ impl<G: Register> Acting<G> {
         register
     }
 
-    /// Activates a sequencer of the log's next epoch, which asks for what stands in the epochs before it that aren't closed.
-    pub fn activate(&mut self, alloc: Global, spec: &Spec) -> Result<Heard, NoMemory>
-        requires { 1 ≤ spec.now.r }
+    /// Activates a sequencer of the log's next epoch, with these nodes, factor and extras, which asks for what stands in the
+    /// epochs before it that aren't closed. They count as well for an epoch for which the register shows none.
+    pub fn activate(
+        &mut self,
+        alloc: Global,
+        config: &Config,
+        spec: &Spec,
+    ) -> Result<Heard, NoMemory>
+        requires { IsSpec spec.now }
         ensures name { self.new.name ≡ self.old.name }
-        ensures activated { self.old.sequencer ≡ None → IfOk result (λ heard. (c : Contents) (s : State) → IsInBounds c → IsSpecOf c spec.now → IsSound c s → Serves self.old.name None (G.tells self.old.register) c s
-            → IsActed (Serves self.new.name self.new.sequencer (G.tells self.new.register) c) s heard.lines.items heard.sends (happens c s (Activate self.old.name spec.now.log))) }
+        ensures log { self.new.log ≡ self.old.log }
+        ensures activated { self.old.sequencer ≡ None → IfOk result (λ heard. (s : State) → IsInBounds config.now → IsSpecOf config.now spec.now → IsUnset config.now s spec.now → IsSound config.now s → Serves self.old.name None (G.tells self.old.register) config.now s
+            → IsActed (Serves self.new.name self.new.sequencer (G.tells self.new.register) config.now) s heard.lines.items heard.sends (happens config.now s (Activate self.old.name spec.now.log))) }
         ensures messages { IfOk result (λ heard. AreMessages heard.sends) }
         ensures told { IfOk result (λ heard. IfSome heard.end (IsStartTold heard.lines.items)) }
+        ensures leaves { Leaves spec.now.log (G.told self.old.register) (G.told self.new.register) (G.may_hold self.old.register) (G.may_hold self.new.register) }
+        ensures itself { G.identity self.new.register ≡ G.identity self.old.register }
+        ensures active { self.old.sequencer ≡ None → IsOfLog spec.now.log self.new.sequencer }
+        ensures shut { self.new.is_shut ≡ self.old.is_shut }
+        ensures crowded { IfOk result (λ heard. heard.end ≡ Some Ended.LogLimit → G.told self.old.register → MayCrowd (G.may_hold self.old.register) spec.now.log) }
+        ensures damaged { IfOk result (λ heard. (place : ℕ) → heard.end ≡ Some (Ended.Register (Refusal.Damaged place)) → G.told self.old.register → G.damaged self.old.register place) }
     {
         let mut sends = Outbox::empty(alloc);
-        match Sequencer::activate(alloc, spec, &mut self.register, &mut sends) {
+        match Sequencer::activate(
+            alloc,
+            &config.nodes,
+            spec,
+            spec,
+            &mut self.register,
+            &mut sends,
+        ) {
             Ok(sequencer) => {
                 let line = Line::Active {
                     name: self.name.copy(alloc)?,
@@ -165,9 +192,13 @@ impl<G: Register> Acting<G> {
     /// Numbers the payload and sends it, or writes why not.
     fn add(&mut self, alloc: Global, payload: &Payload) -> Result<Appended, NoMemory>
         ensures name { self.new.name ≡ self.old.name }
+        ensures log { self.new.log ≡ self.old.log }
         ensures appended { IfOk result (λ appended. (c : Contents) (s : State) → Serves self.old.name self.old.sequencer (G.tells self.old.register) c s
             → IsActed (Serves self.new.name self.new.sequencer (G.tells self.new.register) c) s appended.heard.lines.items appended.heard.sends (happens c s (Append self.old.name payload.now))) }
         ensures messages { IfOk result (λ appended. AreMessages appended.heard.sends) }
+        ensures since { IsSince self.old.sequencer self.new.sequencer (G.told self.old.register) (G.told self.new.register) (G.may_hold self.old.register) (G.may_hold self.new.register) self.old.is_shut self.new.is_shut }
+        ensures itself { G.identity self.new.register ≡ G.identity self.old.register }
+        ensures full { IfOk result (λ appended. appended.is_full ≡ tells_full appended.heard.lines.items) }
         ensures said { IfOk result (λ appended. IfSome appended.heard.end (IsSaid appended.heard.lines.items)) }
     {
         let Some(sequencer) = &mut self.sequencer else {
@@ -191,7 +222,7 @@ impl<G: Register> Acting<G> {
                 })
             }
             Err(fault) => {
-                let is_full = fault == SequencerFault::WindowFull;
+                let is_full = is_window(&fault);
                 let heard = heard(alloc, &self.name, Err(fault), sends)?;
                 Ok(Appended { heard, is_full })
             }
@@ -201,8 +232,11 @@ impl<G: Register> Acting<G> {
     /// Sends again what is still wanted, and tries a close again.
     fn again(&mut self, alloc: Global) -> Result<Heard, NoMemory>
         ensures name { self.new.name ≡ self.old.name }
+        ensures log { self.new.log ≡ self.old.log }
         ensures retried { IfOk result (λ heard. (c : Contents) (s : State) → IsInBounds c → IsSound c s → Serves self.old.name self.old.sequencer (G.tells self.old.register) c s
             → IsActed (Serves self.new.name self.new.sequencer (G.tells self.new.register) c) s heard.lines.items heard.sends (happens c s (Retry self.old.name))) }
+        ensures since { IsSince self.old.sequencer self.new.sequencer (G.told self.old.register) (G.told self.new.register) (G.may_hold self.old.register) (G.may_hold self.new.register) self.old.is_shut self.new.is_shut }
+        ensures itself { G.identity self.new.register ≡ G.identity self.old.register }
         ensures messages { IfOk result (λ heard. AreMessages heard.sends) }
         ensures said { IfOk result (λ heard. IfSome heard.end (IsSaid heard.lines.items)) }
     {
@@ -211,16 +245,23 @@ impl<G: Register> Acting<G> {
         };
         let mut sends = Outbox::empty(alloc);
         let answer = sequencer.retry(alloc, &mut self.register, &mut sends);
-        let heard = heard(alloc, &self.name, answer, sends)?;
-        Ok(self.go_on(heard))
+        match heard(alloc, &self.name, answer, sends) {
+            Ok(heard) => Ok(self.go_on(heard)),
+            Err(refused) => {
+                self.sequencer = None;
+                Err(refused)
+            }
+        }
     }
 
     /// The drive goes on where the register holds as many other logs as may be: then that is kept.
     fn go_on(&mut self, heard: Heard) -> Heard
         requires { IfSome heard.end (IsTold heard.lines.items) }
         ensures name { self.new.name ≡ self.old.name }
+        ensures log { self.new.log ≡ self.old.log }
         ensures sequencer { self.new.sequencer ≡ self.old.sequencer }
         ensures register { self.new.register ≡ self.old.register }
+        ensures shut { self.new.is_shut ≡ true → (self.old.is_shut ≡ true) ⊎ (heard.end ≡ Some Ended.LogLimit) }
         ensures lines { result.lines.items ≡ heard.lines.items }
         ensures sends { result.sends ≡ heard.sends }
         ensures said { IfSome result.end (IsSaid result.lines.items) }
@@ -251,9 +292,20 @@ impl<G: Register> Acting<G> {
 }
 
 impl<G: Register> Actor for Acting<G> {
+    ghost use Rattle.std.proofs.Common.{refl, ◌∙◌};
+    ghost use Rattle.ld_append.specs.Acting.{is_here, goes_on};
+
     ghost stands = { λ a c s. Serves a.name a.sequencer (G.tells a.register) c s };
 
     ghost stands_apart = { λ a c s nodes network h. record { sequencers = record { sequencers = h.sequencers.sequencers; logs = h.sequencers.logs }; whole = h.whole; register = h.register } };
+
+    ghost own = { λ a. record { name = a.name; log = a.log } };
+
+    ghost since = { λ a b. IsSince a.sequencer b.sequencer (G.told a.register) (G.told b.register) (G.may_hold a.register) (G.may_hold b.register) a.is_shut b.is_shut × (G.identity b.register ≡ G.identity a.register) };
+
+    ghost since_here = { λ a. (is_here a.sequencer (G.told a.register) (G.may_hold a.register) a.is_shut, refl) };
+
+    ghost since_on = { λ a b c p q. (goes_on a.sequencer b.sequencer c.sequencer (G.told a.register) (G.told b.register) (G.told c.register) (G.may_hold a.register) (G.may_hold b.register) (G.may_hold c.register) a.is_shut b.is_shut c.is_shut p.0 q.0, q.1 ∙ p.1) };
 
     ghost hears = { λ a m. IsTo a.sequencer m };
 
@@ -270,8 +322,13 @@ impl<G: Register> Actor for Acting<G> {
         };
         let mut sends = Outbox::empty(alloc);
         let answer = sequencer.on_reply(alloc, message, &mut self.register, &mut sends);
-        let heard = heard(alloc, &self.name, answer, sends)?;
-        Ok(self.go_on(heard))
+        match heard(alloc, &self.name, answer, sends) {
+            Ok(heard) => Ok(self.go_on(heard)),
+            Err(refused) => {
+                self.sequencer = None;
+                Err(refused)
+            }
+        }
     }
 }
 

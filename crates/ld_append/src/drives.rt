@@ -1,13 +1,16 @@
 // A sequencer is activated, and driven over payloads.
-ghost use Rattle.std.specs.Prelude.{◌≡◌, ◌≤◌, ◌⊎◌, ℕ, true, None, IfErr};
-ghost use Rattle.ld_config.specs.declared.config.Config.{Config as Contents};
+ghost use Rattle.std.specs.Prelude.{◌≡◌, ◌⊎◌, ℕ, true, false, None, IfErr, OnOk};
 ghost use Rattle.ld_config.specs.Bounds.{IsInBounds};
+ghost use Rattle.ld_schedule.specs.declared.event.Event.TheVariants.{Activate};
 ghost use Rattle.ld_machine.specs.State.{State};
 ghost use Rattle.ld_dial.specs.Far.{Far};
 ghost use Rattle.ld_rounds.specs.Drives.{Holds, GoesOn, IsBroken};
 ghost use Rattle.ld_rounds.specs.Endings.{IsLater};
-ghost use Rattle.ld_append.specs.Acting.{Serves, IsSpecOf};
-ghost use Rattle.ld_append.specs.Appends.{Begins, IsAppended, DroveAppend, IsStartEnding, IsDriveEnding, IsEndOfAppend, taken_end};
+ghost use Rattle.ld_register.specs.Bounds.{IsSpec};
+ghost use Rattle.ld_append.specs.Acting.{Serves, IsSpecOf, IsUnset, MayCrowd, Leaves, IsOfLog};
+ghost use Rattle.ld_rounds.specs.Reaching.{Begins};
+ghost use Rattle.ld_rounds.specs.Rounds.{IsOne, IsBegun};
+ghost use Rattle.ld_append.specs.Appends.{HasNone, IsAppended, DroveAppend, IsStartEnding, IsDriveEnding, IsEndOfAppend, taken_end};
 
 use crate::Acting;
 use ld_config::Config;
@@ -21,18 +24,24 @@ use std::alloc::Global;
 /// Activates the sequencer: its messages wait for their nodes, and its line is written.
 fn start<G: Register, O: Sink>(
     alloc: Global,
+    config: &Config,
     spec: &Spec,
     acting: &mut Acting<G>,
     queues: &mut Queues,
     out: &mut O,
 ) -> Result<(), Ended>
-    requires { 1 ≤ spec.now.r }
-    ensures started { acting.old.sequencer ≡ None → (c : Contents) (first : ℕ) (s : State) (far : Far) → IsInBounds c → IsSpecOf c spec.now → Holds (Serves acting.old.name None (G.tells acting.old.register)) c first s far queues.old
-        → GoesOn acting.old.name ⊥ 0 (Serves acting.new.name acting.new.sequencer (G.tells acting.new.register)) (λ now. now ≡ far) c first s queues.new (O.written out.old) (O.written out.new) result }
-    ensures cause { IfErr result (IsStartEnding (O.faults out.old) (O.faults out.new) (O.written out.old) (O.written out.new)) }
+    requires { IsSpec spec.now }
+    ensures started { acting.old.sequencer ≡ None → (first : ℕ) (s : State) (far : Far) → IsInBounds config.now → IsSpecOf config.now spec.now → IsUnset config.now s spec.now → Holds (Serves acting.old.name None (G.tells acting.old.register)) config.now first s far queues.old
+        → GoesOn acting.old.name ⊥ (IsOne (Activate acting.old.name spec.now.log)) (λ e. IsBegun (Activate acting.old.name spec.now.log)) (Serves acting.new.name acting.new.sequencer (G.tells acting.new.register)) (λ now. now ≡ far) config.now first s queues.new (O.written out.old) (O.written out.new) result }
+    ensures name { acting.new.name ≡ acting.old.name }
+    ensures leaves { Leaves spec.now.log (G.told acting.old.register) (G.told acting.new.register) (G.may_hold acting.old.register) (G.may_hold acting.new.register) }
+    ensures itself { G.identity acting.new.register ≡ G.identity acting.old.register }
+    ensures active { acting.old.sequencer ≡ None → IsOfLog spec.now.log acting.new.sequencer }
+    ensures shut { acting.new.is_shut ≡ acting.old.is_shut }
+    ensures cause { IfErr result (IsStartEnding (G.told acting.old.register → MayCrowd (G.may_hold acting.old.register) spec.now.log) (λ place. G.told acting.old.register → G.damaged acting.old.register place) (O.faults out.old) (O.faults out.new) (O.written out.old) (O.written out.new)) }
     ensures later { IsLater (O.faults out.old) (O.faults out.new) (O.written out.old) (O.written out.new) }
 {
-    let Ok(heard) = acting.activate(alloc, spec) else {
+    let Ok(heard) = acting.activate(alloc, config, spec) else {
         return Err(Ended::NoMemory);
     };
     tell(alloc, heard, queues, out)
@@ -50,16 +59,19 @@ fn drive<G: Register, N: Nodes, P: Payloads, O: Sink>(
     input: &mut P,
     out: &mut O,
 ) -> Result<bool, Ended>
-    requires { 1 ≤ spec.now.r }
-    ensures drove { acting.old.name ≡ name.now → acting.old.sequencer ≡ None → (s : State) (far : Far) → IsInBounds config.now → IsSpecOf config.now spec.now → N.tells nodes.old config.now far → Begins (G.tells acting.old.register) config.now s far
-        → (N.silent nodes.new ≡ true) ⊎ DroveAppend name.now (IsBroken (N.faults nodes.old) (N.faults nodes.new) (N.endings nodes.old) (N.endings nodes.new)) rounds (N.tells nodes.new) (G.tells acting.new.register) config.now s (O.written out.old) (O.written out.new) result }
+    requires { IsSpec spec.now }
+    ensures drove { acting.old.name ≡ name.now → acting.old.sequencer ≡ None → (s : State) (far : Far) → IsInBounds config.now → IsSpecOf config.now spec.now → IsUnset config.now s spec.now → N.tells nodes.old config.now far → Begins (HasNone (G.tells acting.old.register)) config.now s far
+        → (N.silent nodes.new ≡ true) ⊎ DroveAppend name.now spec.now.log (IsBroken (N.faults nodes.old) (N.faults nodes.new) (N.endings nodes.old) (N.endings nodes.new)) (P.coming input.old) rounds (N.tells nodes.new) (G.tells acting.new.register) config.now s (O.written out.old) (O.written out.new) result }
+    ensures shut { acting.old.sequencer ≡ None → acting.old.is_shut ≡ false → OnOk result (acting.new.is_shut ≡ true → G.told acting.old.register → MayCrowd (G.may_hold acting.old.register) spec.now.log) }
+    ensures leaves { acting.old.sequencer ≡ None → Leaves spec.now.log (G.told acting.old.register) (G.told acting.new.register) (G.may_hold acting.old.register) (G.may_hold acting.new.register) }
+    ensures register { G.identity acting.new.register ≡ G.identity acting.old.register }
     ensures itself { P.identity input.new ≡ P.identity input.old }
-    ensures cause { IfErr result (IsDriveEnding (P.faults input.old) (P.faults input.new) (O.faults out.old) (O.faults out.new) (O.written out.old) (O.written out.new)) }
+    ensures cause { IfErr result (IsDriveEnding (G.told acting.old.register → MayCrowd (G.may_hold acting.old.register) spec.now.log) (λ place. G.told acting.old.register → G.damaged acting.old.register place) (P.coming input.old) (P.faults input.old) (P.faults input.new) (O.faults out.old) (O.faults out.new) (O.written out.old) (O.written out.new)) }
 {
     let Ok(mut queues) = Queues::new(alloc) else {
         return Err(Ended::NoMemory);
     };
-    start(alloc, spec, acting, &mut queues, out)?;
+    start(alloc, config, spec, acting, &mut queues, out)?;
     ld_rounds::append(
         alloc,
         &config.nodes,
@@ -73,14 +85,15 @@ fn drive<G: Register, N: Nodes, P: Payloads, O: Sink>(
     )
 }
 
-/// Appends payloads to a log: a new sequencer of the name is activated, of the log's next epoch, and so many rounds over the
-/// configuration's nodes are driven, in each of which payloads are appended. Its lines are written as they come. The register
-/// is given back.
+/// Appends payloads to a log: a new sequencer of the name is activated, of the log's next epoch with the nodes, factor and
+/// extras of `spec`, and so many rounds over the configuration's nodes are driven, in each of which payloads are appended. Its
+/// lines are written as they come. The register is given back.
 ///
 /// It ends with `Done` where the input has ended, every append is acknowledged, every epoch before its own is closed and no
 /// message waits, with `Rounds` where all rounds were taken and it isn't done, and with `LogLimit` where the register holds as
 /// many other logs as may be: then nothing was written, or all rounds were taken. It ends with `Preempted`, `EpochLimit`,
-/// `EpochFull` or `Register` where a line says so, but with a damaged register without a line at the activation; with
+/// `EpochFull` or `Register` where a line says so, `Register` as well where a look failed behind word that an epoch is closed; but
+/// with a damaged register without a line at the activation; with
 /// `BadFrame` where what a node sent begins no frame, with `BadLine` at the first line of the input that is off, with `Read`
 /// where the input failed, with `Write` where the output failed, and for want of memory.
 pub fn append<G: Register, N: Nodes, P: Payloads, O: Sink>(
@@ -94,20 +107,26 @@ pub fn append<G: Register, N: Nodes, P: Payloads, O: Sink>(
     input: &mut P,
     out: &mut O,
 ) -> (Ended, G)
-    requires { 1 ≤ spec.now.r }
+    requires { IsSpec spec.now }
     // Where the nodes and the register tell what stands there: all that was done are steps of the written machine from any state
-    // without sequencers that they stand for, and the lines that were written are the sequencer's lines of those steps. It sends
-    // again before each round but the first. A message to a node is lost only where a call of the nodes failed or a node had
+    // without sequencers, and with nothing else set for the log's next activation, that they stand for: the activation of the log, and then round by round what is sent again, but in the
+    // first, appends, and visits of the configuration's nodes. The payloads that the machine took are the first ones that came,
+    // in their order; they are all where it is done, and where it comes to a line that is off. The lines that were written are
+    // the sequencer's lines of those steps. A message to a node is lost only where a call of the nodes failed or a node had
     // ended.
-    ensures appended { (s : State) (far : Far) → IsInBounds config.now → IsSpecOf config.now spec.now → N.tells nodes.old config.now far → Begins (G.tells register) config.now s far
-        → (N.silent nodes.new ≡ true) ⊎ IsAppended name (IsBroken (N.faults nodes.old) (N.faults nodes.new) (N.endings nodes.old) (N.endings nodes.new)) rounds (N.tells nodes.new) (G.tells result.1) config.now s (O.written out.old) (O.written out.new) result.0 }
+    ensures appended { (s : State) (far : Far) → IsInBounds config.now → IsSpecOf config.now spec.now → IsUnset config.now s spec.now → N.tells nodes.old config.now far → Begins (HasNone (G.tells register)) config.now s far
+        → (N.silent nodes.new ≡ true) ⊎ IsAppended name spec.now.log (IsBroken (N.faults nodes.old) (N.faults nodes.new) (N.endings nodes.old) (N.endings nodes.new)) (P.coming input.old) rounds (N.tells nodes.new) (G.tells result.1) config.now s (O.written out.old) (O.written out.new) result.0 }
+    // The register is the same one. Where it tells what it holds it does so then, and it may hold as many other logs as may be
+    // only where it might before.
+    ensures register { G.identity result.1 ≡ G.identity register }
+    ensures leaves { Leaves spec.now.log (G.told register) (G.told result.1) (G.may_hold register) (G.may_hold result.1) }
     ensures itself { P.identity input.new ≡ P.identity input.old }
-    ensures cause { IsEndOfAppend (P.faults input.old) (P.faults input.new) (O.faults out.old) (O.faults out.new) (O.written out.old) (O.written out.new) result.0 }
+    ensures cause { IsEndOfAppend (G.told register → MayCrowd (G.may_hold register) spec.now.log) (λ place. G.told register → G.damaged register place) (P.coming input.old) (P.faults input.old) (P.faults input.new) (O.faults out.old) (O.faults out.new) (O.written out.old) (O.written out.new) result.0 }
 {
     let Ok(its_name) = name.copy(alloc) else {
         return (Ended::NoMemory, register);
     };
-    let mut acting = Acting::new(its_name, register);
+    let mut acting = Acting::new(its_name, spec.log, register);
     let ended = match drive(
         alloc,
         config,

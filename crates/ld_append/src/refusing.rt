@@ -1,7 +1,7 @@
 // What is written of a sequencer's call, and how the drive ends by it.
 ghost use Rattle.std.specs.Prelude.{◌≡◌, ◌≢◌, true, false, Err, IfOk, IfSome, OnOk};
 ghost use Rattle.ld_register.specs.declared.fault.RegisterFault.TheVariants.{LogLimit};
-ghost use Rattle.ld_append.specs.Refusing.{close_end, report_end, register_end, fault_end, end_by, is_log_limit, lines_by, IsTold};
+ghost use Rattle.ld_append.specs.Refusing.{close_end, report_end, register_end, fault_end, end_by, is_window, is_log_limit, lines_by, IsTold};
 
 use ld_clients::told;
 use ld_ids::{Name, NoMemory};
@@ -64,6 +64,16 @@ fn end_by(answer: &Result<Report, SequencerFault>) -> Option<Ended>
     match answer {
         Ok(report) => report_end(report),
         Err(fault) => fault_end(fault),
+    }
+}
+
+/// Whether the window is full.
+pub(crate) fn is_window(fault: &SequencerFault) -> bool
+    ensures { result ≡ is_window fault.now }
+{
+    match fault {
+        SequencerFault::WindowFull => true,
+        _ => false,
     }
 }
 

@@ -1,9 +1,8 @@
 -- What holds of each element of a list, or of a table by names, holds after a change.
-use Rattle.std.proofs.Common.{◌≡◌, ℕ, zero, suc, subst, Bool, true, false, cond, List, [], ◌∷◌, map, Some, slice_get}
+use Rattle.std.proofs.Common.{◌≡◌, ℕ, zero, suc, subst, Bool, true, false, cond, List, [], ◌∷◌, Some, slice_get}
 use Rattle.std.specs.Map as map
 use Rattle.std.specs.List.{AllByRecursion}
 use Rattle.ld_table.specs.Named.{same, find_named, put_named}
-use Rattle.ld_table.specs.Words.{values}
 
 module _ {X : Type 0} (P : X → Type 0) where
   pub all-slice_get : (xs : List X) (i : ℕ) (x : X) → AllByRecursion P xs → slice_get xs i ≡ Some x → P x
@@ -14,14 +13,6 @@ module _ {X : Type 0} (P : X → Type 0) where
 pub all_weaker : {X : Type 0} (P Q : X → Type 0) (xs : List X) → ((x : X) → P x → Q x) → AllByRecursion P xs → AllByRecursion Q xs
 all_weaker P Q [] f a = tt
 all_weaker P Q (x ∷ xs) f a = (f x a.0, all_weaker P Q xs f a.1)
-
-pub all-map : {X Y : Type 0} (P : X → Type 0) (Q : Y → Type 0) (f : X → Y) (xs : List X) → ((x : X) → P x → Q (f x)) → AllByRecursion P xs → AllByRecursion Q (map f xs)
-all-map P Q f [] g a = tt
-all-map P Q f (x ∷ xs) g a = (g x a.0, all-map P Q f xs g a.1)
-
-pub all-values : {X : Type 0} (P : ℕ × X → Type 0) (Q : X → Type 0) (m : List (ℕ × X)) → ((e : ℕ × X) → P e → Q e.1) → AllByRecursion P m → AllByRecursion Q (values m)
-all-values P Q [] f a = tt
-all-values P Q (e ∷ m) f a = (f e a.0, all-values P Q m f a.1)
 
 module _ {X : Type 0} (P : X → Type 0) where
   named_step : (b : Bool) (k : List ℕ) (v : X) (e : List ℕ × X) (m : List (List ℕ × X)) → P v → P e.1 → AllByRecursion (λ (d : List ℕ × X). P d.1) m → AllByRecursion (λ (d : List ℕ × X). P d.1) (put_named k v m)

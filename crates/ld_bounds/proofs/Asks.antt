@@ -1,9 +1,11 @@
 -- What a reader asks is one that a frame can carry, and each answer leaves it in its bounds.
-use Rattle.std.proofs.Common.{◌≡◌, ◌≤◌, ◌<◌, ℕ, zero, suc, ◌+◌, refl, Bool, true, false, ◌==◌, ◌&&◌, not, nat_lt, nat_le, cond, List, [], ◌∷◌, Option, Some, None, arith}
+use Rattle.std.proofs.Common.{◌≡◌, ◌≤◌, ◌<◌, ℕ, zero, suc, ◌+◌, refl, sym, subst, Bool, true, false, ◌==◌, ◌&&◌, not, nat_lt, nat_le, cond, List, [], ◌∷◌, Option, Some, None, arith}
 use Rattle.std.specs.List.{AllByRecursion}
 use Rattle.std.proofs.lemmas.Bool.{cond_both, and_parts, ltb-true, ltb-false}
 use Rattle.ld_table.specs.Table.{find, put}
+use Rattle.ld_table.specs.Words.{is_in}
 use Rattle.ld_ids.specs.Id.{IsNode}
+use Rattle.ld_ids.specs.Choice.{nodes_of}
 use Rattle.ld_lsn.specs.Number.{home_epoch}
 use Rattle.ld_config.specs.declared.config.Config.{Config}
 use Rattle.ld_msg.specs.declared.msg.Who.{Who}
@@ -11,13 +13,17 @@ use Rattle.ld_msg.specs.declared.msg.Who.TheVariants as whos
 use Rattle.ld_msg.specs.declared.msg.Body.{Body}
 use Rattle.ld_msg.specs.declared.msg.Body.TheVariants as bodies
 use Rattle.ld_msg.specs.Bounds.{Is32, Is64, IsNodeHere, Fits, last_reader}
-use Rattle.ld_msg.specs.Reading.{Held, Item, TrimTo, BridgeTo, LossHere, Verdict, Gives, Confirms, NotYet, decide, trim_held, record_held, hole_held, end_held, bridge_to, is_loss, lost_held, lost_generation, entry_verdict, loss_verdict}
-use Rattle.ld_msg.specs.Reader.{Reader, Read, opened, is_finished, last_round, asks_of, keys, polled, poll_asks, gives, confirms, may_confirm, is_confirming, verdict, gives_all, most_items, round_of, is_newer, held_with, is_confirmed, heard, loses, asks_on, on_answer}
+use Rattle.ld_msg.specs.Register.{View}
+use Rattle.ld_msg.specs.Reading.{Held, Item, TrimTo, BridgeTo, LossHere, Verdict, Gives, Confirms, NotYet, decide, trim_held, record_held, hole_held, end_held, bridge_to, is_loss, within, lost_held, lost_generation, entry_verdict, loss_verdict}
+use Rattle.ld_msg.specs.Reader.{Reader, Read, opened, is_finished, last_round, asks_of, keys, look_of, polled, poll_asks, gives, confirms, has_seen, seen_nodes, may_confirm, is_confirming, verdict, gives_all, most_items, round_of, is_newer, held_with, is_confirmed, heard, loses, asks_on, on_answer}
 use Rattle.ld_machine.specs.Config.{has_log}
 use Rattle.ld_machine.specs.Step.{sender_node}
-use Rattle.ld_bounds.specs.Readers.{IsAnswer, IsReader}
-use Rattle.ld_node_bounds.proofs.Alls.{all-append, all-put}
+use Rattle.ld_bounds.specs.Registers.{IsLook}
+use Rattle.ld_bounds.specs.Readers.{IsAnswer, MayHaveSeen, IsReader}
+use Rattle.ld_node_bounds.proofs.Alls.{all-append, all-filter, all-put}
+use Rattle.ld_node_bounds.proofs.Numbers.{home_at_most, epoch_bound}
 use Rattle.ld_node_bounds.proofs.Posts.{IsPost}
+use Rattle.ld_bounds.proofs.Configs.{spec_nodes}
 
 -- ---- who answers a reader ----
 
@@ -121,9 +127,16 @@ IsVerdict d (Gives i) = Unit {0}
 IsVerdict d (Confirms lost) = AllByRecursion IsNode (keys lost) × (d.round < last_round) × (d.next ≤ d.until)
 IsVerdict d NotYet = Unit {0}
 
-module _ (c : Config) where
-  pub polled_is : (d : Reader) → IsReader c d → IsReader c (polled d)
-  polled_is d D = record {
+module _ (c : Config) (looks : ℕ → View) where
+  -- ---- a round ----
+
+  -- what a look at the start of a round shows
+  looked_is : (d : Reader) → ((e : ℕ) → IsLook c d.log e (looks e)) → d.next ≤ d.until → IsReader c d → MayHaveSeen c d.log (Some (look_of looks d))
+  looked_is d K l D = let k = K (home_epoch d.next) in let e = k.of_epoch in let u = D.until in let h = home_at_most d.next in let b = epoch_bound d.next (omega arith) in
+      (omega arith, record { of_epoch = refl; most = k.most; spec = k.spec })
+
+  pub polled_is : (d : Reader) → ((e : ℕ) → IsLook c d.log e (looks e)) → d.next ≤ d.until → IsReader c d → IsReader c (polled looks d)
+  polled_is d K l D = record {
     log = D.log;
     number = D.number;
     from_one = D.from_one;
@@ -131,88 +144,94 @@ module _ (c : Config) where
     until = D.until;
     held = D.held;
     round = cond_both (nat_lt d.round last_round) (d.round + 1) d.round Is32 (λ t. let z = ltb-true d.round last_round t in omega arith) (λ t. D.round);
+    seen = cond_both (nat_lt d.round last_round) (Some (look_of looks d)) d.seen (MayHaveSeen c d.log) (λ t. looked_is d K l D) (λ t. D.seen);
   }
 
-  pub poll_sent : (set : List ℕ) (d : Reader) → AllByRecursion IsNode set → d.next ≤ d.until → IsReader c d → AllByRecursion (IsPost (whos.Reader d.number)) (poll_asks set d)
-  poll_sent set d N l D = let u = D.until in cond_both (nat_lt d.round last_round) (asks_of (d.round + 1) d.next set) [] (AllByRecursion (IsPost (whos.Reader d.number)))
-      (λ t. let z = ltb-true d.round last_round t in asks_are d.number (d.round + 1) d.next set D.number (omega arith) D.from_one (omega arith) N) (λ t. tt)
+  pub poll_sent : (d : Reader) → ((e : ℕ) → IsLook c d.log e (looks e)) → d.next ≤ d.until → IsReader c d → AllByRecursion (IsPost (whos.Reader d.number)) (poll_asks looks d)
+  poll_sent d K l D = let u = D.until in let w : View = look_of looks d in cond_both (nat_lt d.round last_round) (asks_of (d.round + 1) d.next (nodes_of w.spec)) [] (AllByRecursion (IsPost (whos.Reader d.number)))
+      (λ t. let z = ltb-true d.round last_round t in asks_are d.number (d.round + 1) d.next (nodes_of w.spec) D.number (omega arith) D.from_one (omega arith) (spec_nodes c d.log w.spec (K (home_epoch d.next)).spec)) (λ t. tt)
 
-  module _ (old : Reader) (set : List ℕ) (N : AllByRecursion IsNode set) where
+  module _ (old : Reader) (K : (e : ℕ) → IsLook c old.log e (looks e)) where
+    looks_of : (d : Reader) → d.log ≡ old.log → (e : ℕ) → IsLook c d.log e (looks e)
+    looks_of d h e = subst (λ l. IsLook c l e (looks e)) (sym h) (K e)
+
     -- ---- verdicts ----
     entry_is : (d : Reader) (o : Option (List ℕ)) (hole : Bool) (v : Verdict) → IsVerdict d v → IsVerdict d (entry_verdict o hole v)
     entry_is d (Some p) hole v h = tt
     entry_is d None true v h = tt
     entry_is d None false v h = h
 
-    loss_is : (d : Reader) → IsReader c d → d.next ≤ d.until → IsVerdict d (loss_verdict d.next (may_confirm d) set d.held)
-    loss_is d D l = cond_both (may_confirm d && is_loss d.next set d.held) (Confirms (lost_held d.next d.held)) NotYet (IsVerdict d)
-        (λ t. let p = (and_parts (may_confirm d) (is_loss d.next set d.held) t).0 in let q = (and_parts (not (is_confirming d.confirming)) (nat_lt d.round last_round) p).1 in
-        (keys_nodes (lost_held d.next d.held) (lost_nodes d.next d.number d.held D.held), ltb-true d.round last_round q, l)) (λ t. tt)
+    loss_is : (d : Reader) (set : List ℕ) → IsReader c d → d.next ≤ d.until → IsVerdict d (loss_verdict d.next (may_confirm d) set d.held)
+    loss_is d set D l = cond_both (may_confirm d && is_loss d.next set d.held) (Confirms (lost_held d.next (within set d.held))) NotYet (IsVerdict d)
+        (λ t. let p = (and_parts (may_confirm d) (is_loss d.next set d.held) t).0 in
+        let q = (and_parts (not (is_confirming d.confirming) && nat_lt d.round last_round) (has_seen (home_epoch d.next) d.seen) p).0 in
+        let r = (and_parts (not (is_confirming d.confirming)) (nat_lt d.round last_round) q).1 in
+        (keys_nodes (lost_held d.next (within set d.held)) (lost_nodes d.next d.number (within set d.held) (all-filter (IsAnswer d.number) (λ h. is_in h.0 set) d.held D.held)), ltb-true d.round last_round r, l)) (λ t. tt)
 
-    decided : (d : Reader) → IsReader c d → d.next ≤ d.until → IsVerdict d (decide d.next (may_confirm d) set d.held)
+    decided : (d : Reader) (set : List ℕ) → IsReader c d → d.next ≤ d.until → IsVerdict d (decide d.next (may_confirm d) set d.held)
     unfolding decide
-    decided d D l = cond_both (nat_le d.next (trim_held d.held)) (Gives (TrimTo (trim_held d.held))) (entry_verdict (record_held d.next d.held) (hole_held d.next d.held) (cond (end_held d.next d.held) (Gives (BridgeTo (bridge_to d.next))) (loss_verdict d.next (may_confirm d) set d.held))) (IsVerdict d)
+    decided d set D l = cond_both (nat_le d.next (trim_held d.held)) (Gives (TrimTo (trim_held d.held))) (entry_verdict (record_held d.next d.held) (hole_held d.next d.held) (cond (end_held d.next d.held) (Gives (BridgeTo (bridge_to d.next))) (loss_verdict d.next (may_confirm d) set d.held))) (IsVerdict d)
         (λ t. tt) (λ t. entry_is d (record_held d.next d.held) (hole_held d.next d.held) (cond (end_held d.next d.held) (Gives (BridgeTo (bridge_to d.next))) (loss_verdict d.next (may_confirm d) set d.held))
-        (cond_both (end_held d.next d.held) (Gives (BridgeTo (bridge_to d.next))) (loss_verdict d.next (may_confirm d) set d.held) (IsVerdict d) (λ u. tt) (λ u. loss_is d D l)))
+        (cond_both (end_held d.next d.held) (Gives (BridgeTo (bridge_to d.next))) (loss_verdict d.next (may_confirm d) set d.held) (IsVerdict d) (λ u. tt) (λ u. loss_is d set D l)))
 
-    verdict_is : (d : Reader) → IsReader c d → IsVerdict d (verdict set d)
-    verdict_is d D = cond_both (is_finished d) NotYet (decide d.next (may_confirm d) set d.held) (IsVerdict d) (λ t. tt) (λ t. decided d D (ltb-false d.until d.next t))
+    verdict_is : (d : Reader) → IsReader c d → IsVerdict d (verdict d)
+    verdict_is d D = cond_both (is_finished d) NotYet (decide d.next (may_confirm d) (seen_nodes d.seen) d.held) (IsVerdict d) (λ t. tt) (λ t. decided d (seen_nodes d.seen) D (ltb-false d.until d.next t))
 
     -- ---- items ----
     item_is : (a : Read) (i : Item) → IsRead c old a → IsRead c old (gives a i)
     item_is a i A = let D = A.reader in record {
-      reader = record { log = D.log; number = D.number; from_one = omega arith; next = omega arith; until = D.until; round = D.round; held = D.held };
+      reader = record { log = D.log; number = D.number; from_one = omega arith; next = omega arith; until = D.until; round = D.round; held = D.held; seen = D.seen };
       number = A.number;
       log = A.log;
       asks = A.asks;
     }
 
-    confirms_is : (a : Read) (lost : List (ℕ × ℕ)) → IsVerdict a.reader (Confirms lost) → IsRead c old a → IsRead c old (confirms a lost)
+    confirms_is : (a : Read) (lost : List (ℕ × ℕ)) → IsVerdict a.reader (Confirms lost) → IsRead c old a → IsRead c old (confirms looks a lost)
     confirms_is a lost v A = let D = A.reader in let r = v.1 in let l = v.2 in let u = D.until in record {
-      reader = record { log = D.log; number = D.number; from_one = D.from_one; next = D.next; until = D.until; round = omega arith; held = D.held };
+      reader = record { log = D.log; number = D.number; from_one = D.from_one; next = D.next; until = D.until; round = omega arith; held = D.held; seen = looked_is a.reader (looks_of a.reader A.log) l D };
       number = A.number;
       log = A.log;
       asks = asks_are a.reader.number (a.reader.round + 1) a.reader.next (keys lost) D.number (omega arith) D.from_one (omega arith) v.0;
     }
 
     going : (k : ℕ) (a : Read) → Verdict → Read
-    going k a v = elim v as (λ _. Read) [ Gives i ↦ gives_all k set (gives a i) | Confirms lost ↦ confirms a lost | NotYet ↦ a ]
+    going k a v = elim v as (λ _. Read) [ Gives i ↦ gives_all k looks (gives a i) | Confirms lost ↦ confirms looks a lost | NotYet ↦ a ]
 
-    going_is : (k : ℕ) (a : Read) (v : Verdict) → IsVerdict a.reader v → IsRead c old a → ((b : Read) → IsRead c old b → IsRead c old (gives_all k set b)) → IsRead c old (going k a v)
+    going_is : (k : ℕ) (a : Read) (v : Verdict) → IsVerdict a.reader v → IsRead c old a → ((b : Read) → IsRead c old b → IsRead c old (gives_all k looks b)) → IsRead c old (going k a v)
     unfolding going
     going_is k a (Gives i) v A f = f (gives a i) (item_is a i A)
     going_is k a (Confirms lost) v A f = confirms_is a lost v A
     going_is k a NotYet v A f = A
 
-    all_is : (k : ℕ) (a : Read) → IsRead c old a → IsRead c old (gives_all k set a)
+    all_is : (k : ℕ) (a : Read) → IsRead c old a → IsRead c old (gives_all k looks a)
     unfolding going
     all_is zero a A = A
-    all_is (suc k) a A = going_is k a (verdict set a.reader) (verdict_is a.reader A.reader) A (λ b B. all_is k b B)
+    all_is (suc k) a A = going_is k a (verdict a.reader) (verdict_is a.reader A.reader) A (λ b B. all_is k b B)
 
-    round_on : (a : Read) → IsRead c old a → (b : Bool) → asks_on a ≡ b → IsRead c old (record { reader = cond b (polled a.reader) a.reader; items = a.items; asks = cond b (poll_asks set a.reader) a.asks })
-    round_on a A true h = let p = (and_parts _ _ h).0 in let q = (and_parts _ _ p).1 in record {
-      reader = polled_is a.reader A.reader;
+    round_on : (a : Read) → IsRead c old a → (b : Bool) → asks_on a ≡ b → IsRead c old (record { reader = cond b (polled looks a.reader) a.reader; items = a.items; asks = cond b (poll_asks looks a.reader) a.asks })
+    round_on a A true h = let p = (and_parts _ _ h).0 in let q = (and_parts _ _ p).1 in let l = ltb-false a.reader.until a.reader.next (finished_not (is_finished a.reader) q) in record {
+      reader = polled_is a.reader (looks_of a.reader A.log) l A.reader;
       number = A.number;
       log = A.log;
-      asks = poll_sent set a.reader N (ltb-false a.reader.until a.reader.next (finished_not (is_finished a.reader) q)) A.reader;
+      asks = poll_sent a.reader (looks_of a.reader A.log) l A.reader;
     } where
       finished_not : (b : Bool) → not b ≡ true → b ≡ false
       finished_not true h = absurd cc
       finished_not false h = refl
     round_on a A false h = A
 
-  pub answer_is : (set : List ℕ) (d : Reader) (y : ℕ) (b : Body) → AllByRecursion IsNode set → IsReader c d → IsNode y → Fits (whos.Node y) (whos.Reader d.number) b → IsRead c d (on_answer set d y b)
+  pub answer_is : (d : Reader) (y : ℕ) (b : Body) → ((e : ℕ) → IsLook c d.log e (looks e)) → IsReader c d → IsNode y → Fits (whos.Node y) (whos.Reader d.number) b → IsRead c d (on_answer looks d y b)
   unfolding on_answer
-  answer_is set d y b N D n f =
-      let h : IsReader c (heard d y b) = record { log = D.log; number = D.number; from_one = D.from_one; next = D.next; until = D.until; round = D.round; held = held_is } in
+  answer_is d y b K D n f =
+      let h : IsReader c (heard d y b) = record { log = D.log; number = D.number; from_one = D.from_one; next = D.next; until = D.until; round = D.round; held = held_is; seen = D.seen } in
       let s : IsRead c d (record { reader = heard d y b; items = []; asks = [] }) = record { reader = h; number = refl; log = refl; asks = tt } in
       let l : IsRead c d (loses (heard d y b)) = cond_both (is_confirmed (heard d y b).confirming) (gives (record { reader = heard d y b; items = []; asks = [] }) LossHere) (record { reader = heard d y b; items = []; asks = [] }) (IsRead c d)
-      (λ t. item_is d set N (record { reader = heard d y b; items = []; asks = [] }) LossHere s) (λ t. s) in
-      let g : Read = gives_all (most_items (heard d y b)) set (loses (heard d y b)) in
-      round_on d set N g (all_is d set N (most_items (heard d y b)) (loses (heard d y b)) l) (asks_on g) refl where
+      (λ t. item_is d K (record { reader = heard d y b; items = []; asks = [] }) LossHere s) (λ t. s) in
+      let g : Read = gives_all (most_items (heard d y b)) looks (loses (heard d y b)) in
+      round_on d K g (all_is d K (most_items (heard d y b)) (loses (heard d y b)) l) (asks_on g) refl where
         held_is : AllByRecursion (IsAnswer d.number) (held_with d.held y b)
         held_is = cond_both (is_newer (find y d.held) (round_of b)) (put y (record { round = round_of b; body = b }) d.held) d.held (AllByRecursion (IsAnswer d.number))
             (λ t. all-put (IsAnswer d.number) y (record { round = round_of b; body = b }) d.held (record { node = n; round = round_is y d.number b f; fits = f }) D.held) (λ t. D.held)
 
-  pub opened_is : (l number from until : ℕ) → has_log c l ≡ true → number ≤ last_reader → 1 ≤ from → from ≤ until → Is64 until → IsReader c (opened l number from until)
-  opened_is l number from until h n one o u = record { log = h; number = n; from_one = one; next = omega (arith, o); until = u; round = omega arith; held = tt }
+pub opened_is : (c : Config) (l number from until : ℕ) → has_log c l ≡ true → number ≤ last_reader → 1 ≤ from → from ≤ until → Is64 until → IsReader c (opened l number from until)
+opened_is c l number from until h n one o u = record { log = h; number = n; from_one = one; next = omega (arith, o); until = u; round = omega arith; held = tt; seen = tt }

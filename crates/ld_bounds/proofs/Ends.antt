@@ -55,6 +55,9 @@ module _ (from to : Who) where
   sent_by (Sends h k) n = h
   sent_by (Takes h k) n = absurd (n k)
 
+pub taker_is : (from to : Who) (b : Body) → Fits from to b → IsActor to
+taker_is from to b f = (ends_by from to (node_end from to b f)).1
+
 pub ends_are : (m : Msg) → IsMessage m → IsActor m.from × IsActor m.to
 ends_are m i = ends_by m.from m.to (node_end m.from m.to m.body i.fits)
 

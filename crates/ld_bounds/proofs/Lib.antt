@@ -2,15 +2,13 @@ pub mod Alls
 pub mod Configs
 pub mod NodeStates
 pub mod RegisterChanges
-pub mod Posts
-pub mod Plans
+pub mod Looks
 pub mod Rows
-pub mod SequencerSends
 pub mod SequencerActs
 pub mod Asks
 pub mod Places
 pub mod Ticking
+pub mod Ends
 pub mod Steps
 pub mod Fewness
 pub mod Fair
-pub mod Ends

@@ -7,13 +7,15 @@ use Rattle.ld_table.specs.Table.{find, put, Ordered}
 use Rattle.ld_table.proofs.Laws.{put_cases}
 use Rattle.ld_table.proofs.Order.{Ordered-put}
 use Rattle.ld_ids.specs.Id.{IsNode}
+use Rattle.ld_ids.specs.declared.set.Spec.{Spec}
 use Rattle.ld_config.specs.declared.config.Config.{Config}
 use Rattle.ld_msg.specs.declared.msg.Summary.{Summary}
 use Rattle.ld_msg.specs.Bounds.{Is32, IsEpoch, IsSummary}
 use Rattle.ld_msg.specs.Register.{Register, Epochs, Armed, Changed, Answer, Granted, AtLimit, Behind, Fails, activate, close, draw, change, made, unmade, is_made, falls, journal_limit, record_length, no_epochs, epochs_of, generation_of, lce_of, with_epochs, next_epoch, closed_epochs, epoch_limit, generation_limit}
 use Rattle.ld_machine.specs.Config.{has_log}
 use Rattle.ld_node_bounds.specs.States.{IsClosed}
-use Rattle.ld_bounds.specs.Registers.{IsClosedBy, IsEpochs, IsKnownLog, IsGeneration, IsRegister}
+use Rattle.ld_bounds.specs.Specs.{IsSpecFor}
+use Rattle.ld_bounds.specs.Registers.{IsClosedBy, IsFixed, IsEpochs, IsKnownLog, IsGeneration, IsRegister}
 use Rattle.ld_node_bounds.proofs.Alls.{all-put, all-find}
 use Rattle.ld_bounds.proofs.Alls.{all_weaker}
 
@@ -78,31 +80,32 @@ module _ (c : Config) where
     fails = λ n s. follows_same r r n s (follows_self r R);
   })
 
-  or_none : (r : Register) (l : ℕ) (o : Option Epochs) → ((v : Epochs) → o ≡ Some v → IsEpochs v) → 1 ≤ (unwrap_or o no_epochs).epoch → IsEpochs (unwrap_or o no_epochs)
+  or_none : (r : Register) (l : ℕ) (o : Option Epochs) → ((v : Epochs) → o ≡ Some v → IsEpochs c l v) → 1 ≤ (unwrap_or o no_epochs).epoch → IsEpochs c l (unwrap_or o no_epochs)
   or_none r l None f h = absurd (omega arith)
   or_none r l (Some v) f h = f v refl
 
-  pub epochs_are : (r : Register) (l : ℕ) → IsRegister c r → 1 ≤ (epochs_of r l).epoch → IsEpochs (epochs_of r l)
+  pub epochs_are : (r : Register) (l : ℕ) → IsRegister c r → 1 ≤ (epochs_of r l).epoch → IsEpochs c l (epochs_of r l)
   epochs_are r l R h = or_none r l (find l r.logs) (λ v e. (all-find (IsKnownLog c) l r.logs v R.logs e).epochs) h
 
   -- also of a log that has no epoch yet
-  record Begun (v : Epochs) : Type 0 where
-    epoch_most : v.epoch ≤ 2 ^ 32 - 2
-    lce : v.lce ≤ v.epoch
-    summaries : AllByRecursion (IsClosedBy v.lce) v.summaries
+  pub record Begun (l : ℕ) (v : Epochs) : Type 0 where
+    pub epoch_most : v.epoch ≤ 2 ^ 32 - 2
+    pub lce : v.lce ≤ v.epoch
+    pub specs : AllByRecursion (IsFixed c l v.epoch) v.specs
+    pub summaries : AllByRecursion (IsClosedBy v.lce) v.summaries
 
-  or_not_begun : (o : Option Epochs) → ((v : Epochs) → o ≡ Some v → IsEpochs v) → Begun (unwrap_or o no_epochs)
-  or_not_begun None f = record { epoch_most = omega arith; lce = omega arith; summaries = tt }
-  or_not_begun (Some v) f = let e = f v refl in let z = e.lce in record { epoch_most = e.epoch.1; lce = omega arith; summaries = e.summaries }
+  or_not_begun : (l : ℕ) (o : Option Epochs) → ((v : Epochs) → o ≡ Some v → IsEpochs c l v) → Begun l (unwrap_or o no_epochs)
+  or_not_begun l None f = record { epoch_most = omega arith; lce = omega arith; specs = tt; summaries = tt }
+  or_not_begun l (Some v) f = let e = f v refl in let z = e.lce in record { epoch_most = e.epoch.1; lce = omega arith; specs = e.specs; summaries = e.summaries }
 
-  begun : (r : Register) (l : ℕ) → IsRegister c r → Begun (epochs_of r l)
-  begun r l R = or_not_begun (find l r.logs) (λ v e. (all-find (IsKnownLog c) l r.logs v R.logs e).epochs)
+  pub begun : (r : Register) (l : ℕ) → IsRegister c r → Begun l (epochs_of r l)
+  begun r l R = or_not_begun l (find l r.logs) (λ v e. (all-find (IsKnownLog c) l r.logs v R.logs e).epochs)
 
   -- each summary of a log is one of the epoch under which it stands
   pub closed_summary : (r : Register) (l e : ℕ) (y : Summary) → IsRegister c r → find e (epochs_of r l).summaries ≡ Some y → IsClosed (e, y)
   closed_summary r l e y R h = let b = begun r l R in (all-find (IsClosedBy (epochs_of r l).lce) e (epochs_of r l).summaries y b.summaries h).summary
 
-  with_follows : (r : Register) (l : ℕ) (v : Epochs) → IsRegister c r → has_log c l ≡ true → IsEpochs v → (epochs_of r l).epoch ≤ v.epoch → Follows c r (with_epochs r l v)
+  with_follows : (r : Register) (l : ℕ) (v : Epochs) → IsRegister c r → has_log c l ≡ true → IsEpochs c l v → (epochs_of r l).epoch ≤ v.epoch → Follows c r (with_epochs r l v)
   with_follows r l v R h E u = record {
     register = record { rise = Ordered-put l v r.logs R.rise; logs = all-put (IsKnownLog c) l v r.logs (record { log = h; epochs = E }) R.logs; generations = R.generations };
     up = λ k. elim (put_cases k l v r.logs) [
@@ -112,16 +115,24 @@ module _ (c : Config) where
   }
 
   -- ---- epochs ----
-  next_is : (r : Register) (l : ℕ) → IsRegister c r → (epochs_of r l).epoch < epoch_limit → IsEpochs (next_epoch (epochs_of r l))
-  next_is r l R h = let b = begun r l R in let z = b.lce in record { epoch = (omega arith, omega arith); lce = omega arith; summaries = b.summaries }
+  still_fixed : (l epoch : ℕ) (m : List (ℕ × Spec)) → AllByRecursion (IsFixed c l epoch) m → AllByRecursion (IsFixed c l (epoch + 1)) m
+  still_fixed l epoch m a = all_weaker (IsFixed c l epoch) (IsFixed c l (epoch + 1)) m (λ s b. record { from_one = b.from_one; handed_out = (let z = b.handed_out in omega arith); spec = b.spec }) a
 
-  next_follows : (r : Register) (l : ℕ) → IsRegister c r → has_log c l ≡ true → (epochs_of r l).epoch < epoch_limit → Follows c r (with_epochs r l (next_epoch (epochs_of r l)))
-  next_follows r l R h b = with_follows r l (next_epoch (epochs_of r l)) R h (next_is r l R b) (omega arith)
+  next_is : (r : Register) (l : ℕ) (s : Spec) → IsRegister c r → IsSpecFor c l s → (epochs_of r l).epoch < epoch_limit → IsEpochs c l (next_epoch (epochs_of r l) s)
+  next_is r l s R S h = let b = begun r l R in let z = b.lce in let e : ℕ = (epochs_of r l).epoch in record {
+    epoch = (omega arith, omega arith);
+    lce = omega arith;
+    specs = all-put (IsFixed c l (e + 1)) (e + 1) s (epochs_of r l).specs (record { from_one = omega arith; handed_out = omega arith; spec = S }) (still_fixed l e (epochs_of r l).specs b.specs);
+    summaries = b.summaries;
+  }
 
-  pub activate_follows : (r : Register) (l : ℕ) → IsRegister c r → has_log c l ≡ true → Follows c r (activate r l).register
+  next_follows : (r : Register) (l : ℕ) (s : Spec) → IsRegister c r → has_log c l ≡ true → IsSpecFor c l s → (epochs_of r l).epoch < epoch_limit → Follows c r (with_epochs r l (next_epoch (epochs_of r l) s))
+  next_follows r l s R h S b = with_follows r l (next_epoch (epochs_of r l) s) R h (next_is r l s R S b) (omega arith)
+
+  pub activate_follows : (r : Register) (l : ℕ) (s : Spec) → IsRegister c r → has_log c l ≡ true → IsSpecFor c l s → Follows c r (activate r l s).register
   unfolding activate
-  activate_follows r l R h = cond_both (nat_le epoch_limit (epochs_of r l).epoch) (record { register = r; answer = AtLimit }) (change r (with_epochs r l (next_epoch (epochs_of r l))) 9) (λ (d : Changed). Follows c r d.register)
-      (λ t. follows_self r R) (λ t. changed_follows r (with_epochs r l (next_epoch (epochs_of r l))) 9 R (next_follows r l R h (leb-false epoch_limit (epochs_of r l).epoch t)))
+  activate_follows r l s R h S = cond_both (nat_le epoch_limit (epochs_of r l).epoch) (record { register = r; answer = AtLimit }) (change r (with_epochs r l (next_epoch (epochs_of r l) s)) 13) (λ (d : Changed). Follows c r d.register)
+      (λ t. follows_self r R) (λ t. changed_follows r (with_epochs r l (next_epoch (epochs_of r l) s)) 13 R (next_follows r l s R h S (leb-false epoch_limit (epochs_of r l).epoch t)))
 
   -- an epoch that was handed out
   pub record Handed (n : Register) (l : ℕ) : Type 0 where
@@ -131,21 +142,21 @@ module _ (c : Config) where
   abbrev WhereGranted : ℕ → Register → Answer → Type 0
   WhereGranted l n a = a ≡ Granted → Handed n l
 
-  handed_now : (r n : Register) (l : ℕ) → IsRegister c r → (epochs_of r l).epoch < epoch_limit → Same (with_epochs r l (next_epoch (epochs_of r l))) n → Handed n l
-  handed_now r n l R h s =
+  handed_now : (r n : Register) (l : ℕ) (x : Spec) → IsRegister c r → (epochs_of r l).epoch < epoch_limit → Same (with_epochs r l (next_epoch (epochs_of r l) x)) n → Handed n l
+  handed_now r n l x R h s =
       let b = begun r l R in let z = b.lce in
-      let e : epochs_of n l ≡ next_epoch (epochs_of r l) = same_epochs (with_epochs r l (next_epoch (epochs_of r l))) n l s ∙ there in
+      let e : epochs_of n l ≡ next_epoch (epochs_of r l) x = same_epochs (with_epochs r l (next_epoch (epochs_of r l) x)) n l s ∙ there in
       let u = ap (λ (x : Epochs). x.epoch) e in let v = ap (λ (x : Epochs). x.lce) e in
       record { epoch = (omega arith, omega arith); lce = omega arith } where
-        there : epochs_of (with_epochs r l (next_epoch (epochs_of r l))) l ≡ next_epoch (epochs_of r l)
-        there = elim (put_cases l l (next_epoch (epochs_of r l)) r.logs) [ inl a ↦ ap (λ o. unwrap_or o no_epochs) a.1 | inr a ↦ absurd (a.0 refl) ]
+        there : epochs_of (with_epochs r l (next_epoch (epochs_of r l) x)) l ≡ next_epoch (epochs_of r l) x
+        there = elim (put_cases l l (next_epoch (epochs_of r l) x) r.logs) [ inl a ↦ ap (λ o. unwrap_or o no_epochs) a.1 | inr a ↦ absurd (a.0 refl) ]
 
-  pub activate_hands : (r : Register) (l : ℕ) → IsRegister c r → (activate r l).answer ≡ Granted → Handed (activate r l).register l
+  pub activate_hands : (r : Register) (l : ℕ) (x : Spec) → IsRegister c r → (activate r l x).answer ≡ Granted → Handed (activate r l x).register l
   unfolding activate
-  activate_hands r l R = cond_both (nat_le epoch_limit (epochs_of r l).epoch) (record { register = r; answer = AtLimit }) (change r (with_epochs r l (next_epoch (epochs_of r l))) 9) (λ (d : Changed). WhereGranted l d.register d.answer)
+  activate_hands r l x R = cond_both (nat_le epoch_limit (epochs_of r l).epoch) (record { register = r; answer = AtLimit }) (change r (with_epochs r l (next_epoch (epochs_of r l) x)) 13) (λ (d : Changed). WhereGranted l d.register d.answer)
       (λ t h. absurd (let z : AtLimit ≡ Granted = h in cc))
-      (λ t. changed r (with_epochs r l (next_epoch (epochs_of r l))) 9 (WhereGranted l) (record {
-        granted = λ n s h. handed_now r n l R (leb-false epoch_limit (epochs_of r l).epoch t) s;
+      (λ t. changed r (with_epochs r l (next_epoch (epochs_of r l) x)) 13 (WhereGranted l) (record {
+        granted = λ n s h. handed_now r n l x R (leb-false epoch_limit (epochs_of r l).epoch t) s;
         made_and_fails = λ n s h. absurd (let z : Fails ≡ Granted = h in cc);
         fails = λ n s h. absurd (let z : Fails ≡ Granted = h in cc);
       }))
@@ -154,10 +165,11 @@ module _ (c : Config) where
   earlier : (lce : ℕ) (m : List (ℕ × Summary)) → AllByRecursion (IsClosedBy lce) m → AllByRecursion (IsClosedBy (lce + 1)) m
   earlier lce m a = all_weaker (IsClosedBy lce) (IsClosedBy (lce + 1)) m (λ y b. record { closed = (let z = b.closed in omega arith); summary = b.summary }) a
 
-  closed_is : (r : Register) (l e : ℕ) (y : Summary) → IsRegister c r → IsEpoch e → IsSummary e y → e < (epochs_of r l).epoch → lce_of r l + 1 ≡ e → IsEpochs (closed_epochs (epochs_of r l) e y)
+  closed_is : (r : Register) (l e : ℕ) (y : Summary) → IsRegister c r → IsEpoch e → IsSummary e y → e < (epochs_of r l).epoch → lce_of r l + 1 ≡ e → IsEpochs c l (closed_epochs (epochs_of r l) e y)
   closed_is r l e y R i s u q = let E = epochs_are r l R (let z = i.0 in omega arith) in record {
     epoch = E.epoch;
     lce = u;
+    specs = E.specs;
     summaries = all-put (IsClosedBy e) e y (epochs_of r l).summaries (record { closed = omega arith; summary = record { epoch = i; summary = s } }) (subst (λ k. AllByRecursion (IsClosedBy k) (epochs_of r l).summaries) q (earlier (lce_of r l) (epochs_of r l).summaries E.summaries));
   }
 

@@ -9,7 +9,8 @@ use Rattle.ld_table.specs.Table.{find, put}
 use Rattle.ld_table.proofs.Laws.{same_key}
 use Rattle.ld_ids.specs.declared.set.Spec.{Spec}
 use Rattle.ld_msg.specs.Sequencer.{Append, is_acked, acked_first, unacked_from, raised, next_wave}
-use Rattle.ld_bounds.specs.Sequencers.{IsAppend, AreNumbered}
+use Rattle.ld_sequencer_bounds.specs.Sequencers.{IsAppend}
+use Rattle.ld_bounds.specs.Sequencers.{IsInWave, AreNumbered}
 
 less : (x y : ℕ) → nat_cmp x y ≡ Less → x < y
 less x y h = grind (arith, nat_tests)
@@ -66,9 +67,9 @@ module _ (s : Spec) where
   unacked_numbered n [] a = tt
   unacked_numbered n (p ∷ m) a = numbered_or (is_acked s p.1) n p m a.0 a.1 (unacked_numbered (n + 1) m a.1)
 
-  pub unacked_are : (own : ℕ) (m : List (ℕ × Append)) → AllByRecursion (IsAppend own) m → AllByRecursion (IsAppend own) (unacked_from s m)
-  unacked_are own [] a = tt
-  unacked_are own (p ∷ m) a = cond_both (is_acked s p.1) (unacked_from s m) (p ∷ m) (AllByRecursion (IsAppend own)) (λ t. unacked_are own m a.1) (λ t. a)
+  pub all-unacked : (P : ℕ × Append → Type 0) (m : List (ℕ × Append)) → AllByRecursion P m → AllByRecursion P (unacked_from s m)
+  all-unacked P [] a = tt
+  all-unacked P (p ∷ m) a = cond_both (is_acked s p.1) (unacked_from s m) (p ∷ m) (AllByRecursion P) (λ t. all-unacked P m a.1) (λ t. a)
 
   pub raised_length : (m : List (ℕ × Append)) → length (raised s m) ≡ length m
   raised_length [] = refl
@@ -82,6 +83,13 @@ module _ (s : Spec) where
   raised_are own [] a = tt
   raised_are own (p ∷ m) a = (
     cond_both (is_acked s p.1) p.1 (record { payload = p.1.payload; wave = next_wave p.1.wave; stored = p.1.stored }) (λ (x : Append). IsAppend own (p.0, x)) (λ t. a.0)
-        (λ t. record { epoch_is = a.0.epoch_is; from_one = a.0.from_one; place = a.0.place; short = a.0.short; wave = omega arith }),
+        (λ t. record { epoch_is = a.0.epoch_is; from_one = a.0.from_one; place = a.0.place; short = a.0.short }),
     raised_are own m a.1,
+  )
+
+  pub raised_waves : (m : List (ℕ × Append)) → AllByRecursion IsInWave m → AllByRecursion IsInWave (raised s m)
+  raised_waves [] a = tt
+  raised_waves (p ∷ m) a = (
+    cond_both (is_acked s p.1) p.1 (record { payload = p.1.payload; wave = next_wave p.1.wave; stored = p.1.stored }) (λ (x : Append). IsInWave (p.0, x)) (λ t. a.0) (λ t. omega arith),
+    raised_waves m a.1,
   )

@@ -5,9 +5,9 @@ use Rattle.std.specs.List.Sorted.{IsStrictlySortedBy}
 use Rattle.std.proofs.lemmas.Bool.{cond_both, and_parts, or_parts, ltb-false, leb-false, eqb-false}
 use Rattle.ld_table.specs.Named.{find_named, Distinct}
 use Rattle.ld_table.specs.Table.{Ordered}
-use Rattle.ld_table.specs.Words.{is_in}
 use Rattle.ld_ids.specs.Id.{IsNode, IsLog}
-use Rattle.ld_ids.specs.Set.{members}
+use Rattle.ld_ids.specs.Set.{members, IsSet}
+use Rattle.ld_ids.specs.declared.set.Spec.{Spec}
 use Rattle.ld_lsn.specs.Number.{numbered, last_esn}
 use Rattle.ld_config.specs.declared.config.Config.{Config}
 use Rattle.ld_config.specs.Bounds.{IsInBounds}
@@ -30,14 +30,17 @@ use Rattle.ld_op.specs.declared.op.Op.TheVariants as ops
 use Rattle.ld_op.specs.Plain.{log_of}
 use Rattle.ld_op.specs.Ticks.{Ticked, Cleans, Rebuilt, Asks, Nothing, on_tick, node_asks}
 use Rattle.ld_op.specs.Handles.{answer_message}
-use Rattle.ld_machine.specs.Config.{spec_in, set_of, has_log, has_node}
+use Rattle.ld_machine.specs.Config.{all_nodes, looks_at, has_log, has_node}
 use Rattle.ld_machine.specs.Disk.{Node, Kept, Written, DiskFailed, Crashed, JournalFull, new_node, is_up, is_blank, is_down, is_failed, keep_op, keep_end, load, load_end}
 use Rattle.ld_machine.specs.State.{State, Done, Stepped, sent_state, start, new_nodes, finish, unchanged, only_state, with_line, node_at, with_node, with_register, with_sequencer, with_reader, sequencer_of, reader_of}
 use Rattle.ld_machine.specs.Step as Step
 use Rattle.ld_machine.specs.Step.{happens, delivers}
 use Rattle.ld_machine.specs.Run.{flows, step, state_after}
+use Rattle.ld_sequencer_bounds.specs.Sequencers.{IsAppend}
+use Rattle.ld_bounds.specs.Specs.{IsSpecFor, IsSetFor}
 use Rattle.ld_bounds.specs.Nodes.{IsNodeState, IsNodeAt}
-use Rattle.ld_bounds.specs.Sequencers.{IsAppend, IsSequencer, IsNamedSequencer}
+use Rattle.ld_bounds.specs.Registers.{IsLook}
+use Rattle.ld_bounds.specs.Sequencers.{IsInWave, IsSequencer, IsNamedSequencer}
 use Rattle.ld_bounds.specs.Readers.{IsReader, IsNamedReader}
 use Rattle.ld_node_bounds.specs.States.{last_handed_out}
 use Rattle.ld_node_bounds.specs.Messages.{AreMessages, IsKept, MayKeep, MayAnswer, IsTicked}
@@ -46,20 +49,22 @@ use Rattle.ld_node_bounds.proofs.Alls.{all_if, all-append, all-put}
 use Rattle.ld_bounds.proofs.Alls.{all-slice_get, all_weaker, all-put_named, all-find_named}
 use Rattle.ld_node_bounds.proofs.Numbers.{epoch_numbered, esn_numbered}
 use Rattle.ld_node_bounds.proofs.Members.{members_nodes}
-use Rattle.ld_bounds.proofs.Configs.{log_nodes, log_is, node_is, served_log, served_node}
+use Rattle.ld_bounds.proofs.Configs.{spec_nodes, log_is, all_are, node_is}
+use Rattle.ld_bounds.proofs.Looks.{set_is, look_is, taken_is}
 use Rattle.ld_node_bounds.proofs.Ops.{log_state}
 use Rattle.ld_node_bounds.proofs.Handling.{handled_is, answers_sent}
 use Rattle.ld_bounds.proofs.NodeStates.{new_is, node_there, released_is, releases_is, keep_is, load_is, stopped_is, fault_is}
 use Rattle.ld_bounds.proofs.RegisterChanges.{Follows, follows_same, follows_self, activate_follows, Handed, activate_hands, generation_is, draw_follows, closed_summary}
 use Rattle.ld_node_bounds.proofs.Posts.{posts_sent}
-use Rattle.ld_bounds.proofs.Posts.{choice_nodes}
+use Rattle.ld_sequencer_bounds.proofs.Posts.{choice_nodes}
 use Rattle.ld_bounds.proofs.Rows.{numbered_end, length_end}
-use Rattle.ld_bounds.proofs.SequencerSends.{append_sent, trims_sent, released_bound}
-use Rattle.ld_bounds.proofs.SequencerActs.{IsActs, first_recovery, first_asks, reply_is, retry_is, grown, dropped_is, called_is, acted_sent}
+use Rattle.ld_sequencer_bounds.proofs.Sends.{append_sent, trims_sent, released_bound}
+use Rattle.ld_bounds.proofs.SequencerActs.{IsActs, lng_is, first_recovery, first_asks, reply_is, retry_is, grown, dropped_is, called_is, acted_sent}
 use Rattle.ld_bounds.proofs.Asks.{from_node, polled_is, poll_sent, answer_is, opened_is}
 use Rattle.ld_bounds.proofs.Places.{distinct-put, length-there, length-put, places-there, places-new, reader_found, number_found, reader_named, sequencer_found, epoch_found}
 use Rattle.ld_node_bounds.proofs.Ticking.{ticked_is, asks_sent}
 use Rattle.ld_bounds.proofs.Ticking.{epochs_told}
+use Rattle.ld_bounds.proofs.Ends.{taker_is}
 
 -- ---- messages are sent ----
 
@@ -77,7 +82,7 @@ message_in w i m a h = message_by (nat_lt i w.count) w i m a h
 
 module _ (c : Config) where
   pub sent_is : (s : State) (ms : List Msg) → IsSound c s → AreMessages ms → IsSound c (sent_state s ms)
-  sent_is s ms S a = record { messages = all_sent s.network ms S.messages a; nodes = S.nodes; register = S.register; sequencers = S.sequencers; readers = S.readers; reader_names = S.reader_names; reader_places = S.reader_places; few_readers = S.few_readers }
+  sent_is s ms S a = record { messages = all_sent s.network ms S.messages a; nodes = S.nodes; register = S.register; sequencers = S.sequencers; readers = S.readers; reader_names = S.reader_names; reader_places = S.reader_places; few_readers = S.few_readers; specs = S.specs }
 
   pub finish_is : (d : Done) → IsDoneSoundly c d → IsSound c (finish d).state
   unfolding finish
@@ -98,23 +103,23 @@ module _ (c : Config) where
     node_is_sound n = node_there s.nodes n S.nodes
 
     node_put : (n : ℕ) (x : Node) → IsNode n → IsNodeState x → IsSound c (with_node s n x)
-    node_put n x h i = record { messages = S.messages; nodes = all-put IsNodeAt n x s.nodes (record { node = h; state = i }) S.nodes; register = S.register; sequencers = S.sequencers; readers = S.readers; reader_names = S.reader_names; reader_places = S.reader_places; few_readers = S.few_readers }
+    node_put n x h i = record { messages = S.messages; nodes = all-put IsNodeAt n x s.nodes (record { node = h; state = i }) S.nodes; register = S.register; sequencers = S.sequencers; readers = S.readers; reader_names = S.reader_names; reader_places = S.reader_places; few_readers = S.few_readers; specs = S.specs }
 
     pub marked_is : (i : ℕ) → IsSound c (Step.marked s i)
-    marked_is i = record { messages = S.messages; nodes = S.nodes; register = S.register; sequencers = S.sequencers; readers = S.readers; reader_names = S.reader_names; reader_places = S.reader_places; few_readers = S.few_readers }
+    marked_is i = record { messages = S.messages; nodes = S.nodes; register = S.register; sequencers = S.sequencers; readers = S.readers; reader_names = S.reader_names; reader_places = S.reader_places; few_readers = S.few_readers; specs = S.specs }
 
     sequencers_grown : (r : Register) → Follows c s.register r → AllByRecursion (IsNamedSequencer c r) s.sequencers
     sequencers_grown r F = all_weaker (IsNamedSequencer c s.register) (IsNamedSequencer c r) s.sequencers (λ q Q. grown c s.register r q.1 F.up Q) S.sequencers
 
     register_put : (r : Register) → Follows c s.register r → IsSound c (with_register s r)
-    register_put r F = record { messages = S.messages; nodes = S.nodes; register = F.register; sequencers = sequencers_grown r F; readers = S.readers; reader_names = S.reader_names; reader_places = S.reader_places; few_readers = S.few_readers }
+    register_put r F = record { messages = S.messages; nodes = S.nodes; register = F.register; sequencers = sequencers_grown r F; readers = S.readers; reader_names = S.reader_names; reader_places = S.reader_places; few_readers = S.few_readers; specs = S.specs }
 
     -- a sequencer, and the register with it
     both_put : (name : List ℕ) (q : Sequencer) (r : Register) → Follows c s.register r → IsSequencer c r q → IsSound c (with_register (with_sequencer s name q) r)
-    both_put name q r F Q = record { messages = S.messages; nodes = S.nodes; register = F.register; sequencers = all-put_named (IsSequencer c r) name q s.sequencers Q (sequencers_grown r F); readers = S.readers; reader_names = S.reader_names; reader_places = S.reader_places; few_readers = S.few_readers }
+    both_put name q r F Q = record { messages = S.messages; nodes = S.nodes; register = F.register; sequencers = all-put_named (IsSequencer c r) name q s.sequencers Q (sequencers_grown r F); readers = S.readers; reader_names = S.reader_names; reader_places = S.reader_places; few_readers = S.few_readers; specs = S.specs }
 
     sequencer_put : (name : List ℕ) (q : Sequencer) → IsSequencer c s.register q → IsSound c (with_sequencer s name q)
-    sequencer_put name q Q = record { messages = S.messages; nodes = S.nodes; register = S.register; sequencers = all-put_named (IsSequencer c s.register) name q s.sequencers Q S.sequencers; readers = S.readers; reader_names = S.reader_names; reader_places = S.reader_places; few_readers = S.few_readers }
+    sequencer_put name q Q = record { messages = S.messages; nodes = S.nodes; register = S.register; sequencers = all-put_named (IsSequencer c s.register) name q s.sequencers Q S.sequencers; readers = S.readers; reader_names = S.reader_names; reader_places = S.reader_places; few_readers = S.few_readers; specs = S.specs }
 
     -- a reader that is there
     reader_put : (name : List ℕ) (d x : Reader) → find_named name s.readers ≡ Some d → x.number ≡ d.number → IsReader c x → IsSound c (with_reader s name x)
@@ -127,6 +132,7 @@ module _ (c : Config) where
       reader_names = distinct-put name x s.readers S.reader_names;
       reader_places = places-there 0 name x d s.readers q h S.reader_places;
       few_readers = omega arith;
+      specs = S.specs;
     }
 
     reader_new : (name : List ℕ) (x : Reader) → find_named name s.readers ≡ None → x.number ≡ length s.readers → length s.readers < Step.reader_limit → IsReader c x → IsSound c (with_reader s name x)
@@ -139,6 +145,7 @@ module _ (c : Config) where
       reader_names = distinct-put name x s.readers S.reader_names;
       reader_places = places-new 0 name x s.readers (omega arith) h S.reader_places;
       few_readers = omega arith;
+      specs = S.specs;
     }
 
     -- ---- nodes ----
@@ -162,41 +169,42 @@ module _ (c : Config) where
 
     module _ (s : State) (S : IsSound c s) where
       to_node : (n : ℕ) (m : Msg) → IsLog m.log → Fits m.from (whos.Node n) m.body → IsDoneSoundly c (Step.to_node c s n m)
-      to_node n m l f = either s S (is_up (node_at s n).status && is_in n (set_of c m.log)) (Step.to_up_node s n m) (unchanged s)
-          (λ t. let p = (and_parts (is_up (node_at s n).status) (is_in n (set_of c m.log)) t).1 in up_node s S n m (served_node c B n m.log p) l f) (λ t. quietly s S)
+      to_node n m l f = either s S (is_up (node_at s n).status && has_log c m.log) (Step.to_up_node s n m) (unchanged s)
+          (λ t. up_node s S n m (taker_is m.from (whos.Node n) m.body f) l f) (λ t. quietly s S)
+
+      -- looks at a log of the configuration
+      looks_are : (l : ℕ) → has_log c l ≡ true → (e : ℕ) → IsLook c l e (looks_at c s.register l e)
+      looks_are l h = look_is c B s.register l S.register h
 
       -- ---- sequencers ----
       acted_is : (name : List ℕ) (q : Sequencer) (a : Acts) → IsSequencer c s.register q → IsActs c s.register q a → IsDoneSoundly c (Step.acted c s name q a)
-      acted_is name q a Q A = let k = called_is c s.register S.register q (spec_in q.log c.logs) (log_nodes c B q.log) a a.tries A.tries A in record {
+      acted_is name q a Q A = let k = called_is c s.register S.register q (looks_at c s.register q.log) (looks_are q.log Q.log) a a.tries A.tries A in record {
         state = both_put s S name k_acts_sequencer k_register k.register k.acts.sequencer;
-        sends = posts_sent (whos.Sequencer q.epoch) q.log (acted_messages (spec_in q.log c.logs) q k_acts) (log_is c B q.log Q.log) (acted_sent c s.register S.register q (spec_in q.log c.logs) (log_nodes c B q.log) k_register k_acts Q.epoch k.acts);
+        sends = posts_sent (whos.Sequencer q.epoch) q.log (acted_messages q k_acts) (log_is c B q.log Q.log) (acted_sent c k_register q k_acts Q.epoch k.acts);
       } where
         k_acts : Acts
-        k_acts = (called (spec_in q.log c.logs) s.register a a.tries).acts
+        k_acts = (called (looks_at c s.register q.log) s.register a a.tries).acts
 
         k_acts_sequencer : Sequencer
-        k_acts_sequencer = (called (spec_in q.log c.logs) s.register a a.tries).acts.sequencer
+        k_acts_sequencer = (called (looks_at c s.register q.log) s.register a a.tries).acts.sequencer
 
         k_register : Register
-        k_register = (called (spec_in q.log c.logs) s.register a a.tries).register
+        k_register = (called (looks_at c s.register q.log) s.register a a.tries).register
 
       to_live : (name : List ℕ) (q : Sequencer) (m : Msg) → IsSequencer c s.register q → Fits m.from (whos.Sequencer q.epoch) m.body → IsDoneSoundly c (Step.to_live c s name q m)
-      to_live name q m Q f = either s S q.gone (unchanged s) (Step.acted c s name q (on_reply (spec_in q.log c.logs) q (Step.sender_node m.from) m.body)) (λ t. quietly s S)
-          (λ t. acted_is name q (on_reply (spec_in q.log c.logs) q (Step.sender_node m.from) m.body) Q (reply_is c s.register q (spec_in q.log c.logs) (log_nodes c B q.log) q Q refl refl m.from (Step.sender_node m.from) m.body f))
+      to_live name q m Q f = either s S q.gone (unchanged s) (Step.acted c s name q (on_reply (looks_at c s.register q.log) q (Step.sender_node m.from) m.body)) (λ t. quietly s S)
+          (λ t. acted_is name q (on_reply (looks_at c s.register q.log) q (Step.sender_node m.from) m.body) Q (reply_is c s.register q (looks_at c s.register q.log) (looks_are q.log Q.log) q Q refl refl m.from (Step.sender_node m.from) m.body f))
 
       to_sequencer : (m : Msg) (e : ℕ) (o : Option (List ℕ × Sequencer)) → sequencer_of m.log e s.sequencers ≡ o → Fits m.from (whos.Sequencer e) m.body → IsDoneSoundly c (Step.to_sequencer c s m o)
       to_sequencer m e None h f = quietly s S
       to_sequencer m e (Some q) h f = to_live q.0 q.1 m (sequencer_found (IsSequencer c s.register) m.log e s.sequencers q S.sequencers h) (subst (λ k. Fits m.from (whos.Sequencer k) m.body) (sym (epoch_found m.log e s.sequencers q h)) f)
 
       -- ---- readers ----
-      set_nodes : (d : Reader) → AllByRecursion IsNode (Step.set_read c d)
-      set_nodes d = log_nodes c B d.log
-
       to_open : (name : List ℕ) (d : Reader) (m : Msg) → find_named name s.readers ≡ Some d → IsReader c d → Fits m.from (whos.Reader d.number) m.body → IsDoneSoundly c (Step.to_open c s name d m)
-      to_open name d m h D f = either s S (is_finished d) (unchanged s) (Step.read s name (on_answer (Step.set_read c d) d (Step.sender_node m.from) m.body)) (λ t. quietly s S)
+      to_open name d m h D f = either s S (is_finished d) (unchanged s) (Step.read s name (on_answer (looks_at c s.register d.log) d (Step.sender_node m.from) m.body)) (λ t. quietly s S)
           (λ t. let z = from_node m.from d.number m.body f in
-          let a = answer_is c (Step.set_read c d) d (Step.sender_node m.from) m.body (set_nodes d) D z.node z.fits in
-          let x : Read = on_answer (Step.set_read c d) d (Step.sender_node m.from) m.body in
+          let a = answer_is c (looks_at c s.register d.log) d (Step.sender_node m.from) m.body (looks_are d.log D.log) D z.node z.fits in
+          let x : Read = on_answer (looks_at c s.register d.log) d (Step.sender_node m.from) m.body in
           record { state = reader_put s S name d x.reader h a.number a.reader; sends = posts_sent (whos.Reader x.reader.number) x.reader.log x.asks (log_is c B x.reader.log a.reader.log) a.asks })
 
       to_reader : (m : Msg) (r : ℕ) (o : Option (List ℕ × Reader)) → reader_of r s.readers ≡ o → Fits m.from (whos.Reader r) m.body → IsDoneSoundly c (Step.to_reader c s m o)
@@ -246,61 +254,80 @@ module _ (c : Config) where
           (λ u. cond_both (nat_le window_limit (length q.appends)) WindowFull Numbered (IsAppending q payload) (λ v. tt) (λ v. (ltb-false payload_limit (length payload) t, (let z = eqb-false (next_esn q) last_esn u in omega arith))))))
 
       append_now : (q : Sequencer) (payload : List ℕ) → length payload ≤ payload_limit → next_esn q ≤ last_esn - 1 → IsAppend q.epoch (numbered q.epoch (next_esn q), fresh_append payload)
-      append_now q payload p n = let z = esn_numbered q.epoch (next_esn q) (omega arith) in record { epoch_is = epoch_numbered q.epoch (next_esn q) (omega arith); from_one = omega arith; place = omega arith; short = p; wave = omega arith }
+      append_now q payload p n = let z = esn_numbered q.epoch (next_esn q) (omega arith) in record { epoch_is = epoch_numbered q.epoch (next_esn q) (omega arith); from_one = omega arith; place = omega arith; short = p }
 
       appended_is : (q : Sequencer) (payload : List ℕ) → length payload ≤ payload_limit → next_esn q ≤ last_esn - 1 → IsSequencer c s.register q → IsSequencer c s.register (appended q payload)
       appended_is q payload p n Q = let l = length_end (numbered q.epoch (next_esn q), fresh_append payload) q.appends in record {
         log = Q.log;
         epoch = Q.epoch;
         handed_out = Q.handed_out;
+        spec = Q.spec;
         lce = Q.lce;
         numbers = omega arith;
         appends = all-append (IsAppend q.epoch) q.appends ((numbered q.epoch (next_esn q), fresh_append payload) ∷ []) Q.appends (append_now q payload p n, tt);
+        waves = all-append IsInWave q.appends ((numbered q.epoch (next_esn q), fresh_append payload) ∷ []) Q.waves (omega arith, tt);
         rows = numbered_end (numbered q.epoch (q.lng + 1)) (numbered q.epoch (next_esn q)) (fresh_append payload) q.appends (omega arith) Q.rows;
         recovery = Q.recovery;
         preempted = Q.preempted;
       }
 
-      append_by : (name : List ℕ) (q : Sequencer) (payload : List ℕ) (o : Appending) → IsSequencer c s.register q → IsAppending q payload o → IsDoneSoundly c (Step.append_done c s name q payload o)
+      append_by : (name : List ℕ) (q : Sequencer) (payload : List ℕ) (o : Appending) → IsSequencer c s.register q → IsAppending q payload o → IsDoneSoundly c (Step.append_done s name q payload o)
       append_by name q payload TooLong Q h = saying s S _
       append_by name q payload (Preempted k) Q h = saying s S _
       append_by name q payload EpochFull Q h = saying s S _
       append_by name q payload WindowFull Q h = saying s S _
       append_by name q payload Numbered Q h = record {
         state = sequencer_put s S name (appended q payload) (appended_is q payload h.0 h.1 Q);
-        sends = posts_sent (whos.Sequencer q.epoch) q.log (first_stores (spec_in q.log c.logs) q payload) (log_is c B q.log Q.log)
-            (append_sent q.epoch Q.epoch (numbered q.epoch (next_esn q), fresh_append payload) (choice (spec_in q.log c.logs) q.lost (numbered q.epoch (next_esn q)) 0) (append_now q payload h.0 h.1)
-            (choice_nodes (spec_in q.log c.logs) q.lost (numbered q.epoch (next_esn q)) 0 (log_nodes c B q.log)));
+        sends = posts_sent (whos.Sequencer q.epoch) q.log (first_stores q payload) (log_is c B q.log Q.log)
+            (append_sent q.epoch Q.epoch q.lng (lng_is c s.register q Q) (numbered q.epoch (next_esn q), fresh_append payload) (choice q.spec q.lost (numbered q.epoch (next_esn q)) 0) (append_now q payload h.0 h.1)
+            (choice_nodes q.spec q.lost (numbered q.epoch (next_esn q)) 0 (spec_nodes c q.log q.spec Q.spec)));
       }
 
       trim_by : (name : List ℕ) (q : Sequencer) (point : ℕ) → IsSequencer c s.register q → IsDoneSoundly c (Step.trim_done c s name q point)
       trim_by name q point Q = let n = Q.numbers in either s S (nat_lt (released_of q) point) _ _ (λ t. saying s S _)
           (λ t. let z = ltb-false (released_of q) point t in let b = released_bound q Q.epoch (omega arith) in
-          record { state = S; sends = posts_sent (whos.Sequencer q.epoch) q.log (to_each (bodies.Trim point) (set_of c q.log)) (log_is c B q.log Q.log) (trims_sent q.epoch Q.epoch point (set_of c q.log) (omega arith) (log_nodes c B q.log)) })
+          record { state = S; sends = posts_sent (whos.Sequencer q.epoch) q.log (to_each (bodies.Trim point) (all_nodes c)) (log_is c B q.log Q.log) (trims_sent q.epoch Q.epoch point (all_nodes c) (omega arith) (all_are c B)) })
 
-      retry_by : (name : List ℕ) (q : Sequencer) → IsSequencer c s.register q → IsDoneSoundly c (Step.acted c s name q (on_retry (spec_in q.log c.logs) q))
-      retry_by name q Q = acted_is s S name q (on_retry (spec_in q.log c.logs) q) Q (retry_is c s.register q (spec_in q.log c.logs) (log_nodes c B q.log) q Q refl refl)
+      retry_by : (name : List ℕ) (q : Sequencer) → IsSequencer c s.register q → IsDoneSoundly c (Step.acted c s name q (on_retry q))
+      retry_by name q Q = acted_is s S name q (on_retry q) Q (retry_is c s.register q (looks_at c s.register q.log) (looks_are s S q.log Q.log) q Q refl refl)
 
       -- ---- activations ----
-      activated_is : (r : Register) (l e lce : ℕ) → has_log c l ≡ true → IsEpoch e → e ≤ (epochs_of r l).epoch → lce < e → IsSequencer c r (activated (spec_in l c.logs) l e lce)
+      activated_is : (r : Register) (x : Spec) (l e lce : ℕ) → ((k : ℕ) → IsLook c l k (looks_at c r l k)) → has_log c l ≡ true → IsSpecFor c l x → IsEpoch e → e ≤ (epochs_of r l).epoch → lce < e → IsSequencer c r (activated (looks_at c r l) x l e lce)
       unfolding activated
-      activated_is r l e lce h i u b = record { log = h; epoch = i; handed_out = u; lce = b; numbers = omega arith; appends = tt; rows = tt; recovery = first_recovery c r (bare l e lce) (spec_in l c.logs) (log_nodes c B l) (bare l e lce) lce; preempted = tt }
+      activated_is r x l e lce K h X i u b = record { log = h; epoch = i; handed_out = u; spec = X; lce = b; numbers = omega arith; appends = tt; waves = tt; rows = tt; recovery = first_recovery c r (bare x l e lce) (looks_at c r l) K (bare x l e lce) lce; preempted = tt }
 
-      activated_asks : (r : Register) (l e lce : ℕ) → has_log c l ≡ true → IsEpoch e → AreMessages (posted (whos.Sequencer e) l (recovery_asks (spec_in l c.logs) (activated (spec_in l c.logs) l e lce) lce))
+      activated_asks : (r : Register) (x : Spec) (l e lce : ℕ) → ((k : ℕ) → IsLook c l k (looks_at c r l k)) → has_log c l ≡ true → IsEpoch e → AreMessages (posted (whos.Sequencer e) l (recovery_asks (looks_at c r l) (activated (looks_at c r l) x l e lce) lce))
       unfolding activated
-      activated_asks r l e lce h i = posts_sent (whos.Sequencer e) l (recovery_asks (spec_in l c.logs) (activated (spec_in l c.logs) l e lce) lce) (log_is c B l h) (first_asks c r (bare l e lce) (spec_in l c.logs) (log_nodes c B l) (activated (spec_in l c.logs) l e lce) lce i)
+      activated_asks r x l e lce K h i = posts_sent (whos.Sequencer e) l (recovery_asks (looks_at c r l) (activated (looks_at c r l) x l e lce) lce) (log_is c B l h) (first_asks c r (bare x l e lce) (looks_at c r l) K (activated (looks_at c r l) x l e lce) lce i)
 
       activated_by : (name : List ℕ) (l : ℕ) (r : Register) (o : Answer) → has_log c l ≡ true → Follows c s.register r → (o ≡ Granted → Handed c r l) → IsDoneSoundly c (Step.activates_by c s name l r o)
-      activated_by name l r Granted h F g = let k = g refl in record {
-        state = both_put s S name (activated (spec_in l c.logs) l (epochs_of r l).epoch (lce_of r l)) r F (activated_is r l (epochs_of r l).epoch (lce_of r l) h k.epoch (omega arith) k.lce);
-        sends = activated_asks r l (epochs_of r l).epoch (lce_of r l) h k.epoch;
+      activated_by name l r Granted h F g = let k = g refl in let x : Spec = Step.spec_set c s l in let K = look_is c B r l F.register h in record {
+        state = both_put s S name (activated (looks_at c r l) x l (epochs_of r l).epoch (lce_of r l)) r F (activated_is r x l (epochs_of r l).epoch (lce_of r l) K h (set_is c B s l S.specs h) k.epoch (omega arith) k.lce);
+        sends = activated_asks r x l (epochs_of r l).epoch (lce_of r l) K h k.epoch;
       }
       activated_by name l r AtLimit h F g = record { state = register_put s S r F; sends = tt }
       activated_by name l r (Behind lce) h F g = quietly s S
       activated_by name l r Fails h F g = record { state = register_put s S r F; sends = tt }
 
-      activates_is : (name : List ℕ) (l : ℕ) → has_log c l ≡ true → IsDoneSoundly c (Step.activates c s name l (activate s.register l))
-      activates_is name l h = activated_by name l (activate s.register l).register (activate s.register l).answer h (activate_follows c s.register l S.register h) (λ e. activate_hands c s.register l S.register e)
+      activates_is : (name : List ℕ) (l : ℕ) → has_log c l ≡ true → IsDoneSoundly c (Step.activates c s name l (activate s.register l (Step.spec_set c s l)))
+      activates_is name l h = let x : Spec = Step.spec_set c s l in
+          activated_by name l (activate s.register l x).register (activate s.register l x).answer h (activate_follows c s.register l x S.register h (set_is c B s l S.specs h)) (λ e. activate_hands c s.register l x S.register e)
+
+      sets_is : (l r x : ℕ) (set : List Bool) → IsSet set → IsDoneSoundly c (Step.sets c s l r x set)
+      sets_is l r x set i = either s S (Step.can_set c l r x (members set)) _ _ (λ t. record {
+        state = record {
+          messages = S.messages;
+          nodes = S.nodes;
+          register = S.register;
+          sequencers = S.sequencers;
+          readers = S.readers;
+          reader_names = S.reader_names;
+          reader_places = S.reader_places;
+          few_readers = S.few_readers;
+          specs = all-put (IsSetFor c) l (record { log = l; set = set; r = r; extras = x }) s.specs (taken_is c B l r x set i t) S.specs;
+        };
+        sends = tt;
+      }) (λ t. quietly s S)
 
       -- ---- events of readers ----
       none_of : {X : Type 0} (o : Option X) → not (is_some o) ≡ true → o ≡ None
@@ -316,7 +343,10 @@ module _ (c : Config) where
       polls_is : (name : List ℕ) (o : Option Reader) → find_named name s.readers ≡ o → IsDoneSoundly c (Step.polls c s name o)
       polls_is name None h = quietly s S
       polls_is name (Some d) h = let D = all-find_named (IsReader c) name s.readers d S.readers h in either s S (is_finished d) _ _ (λ t. quietly s S)
-          (λ t. record { state = reader_put s S name d (polled d) h refl (polled_is c d D); sends = posts_sent (whos.Reader d.number) d.log (poll_asks (Step.set_read c d) d) (log_is c B d.log D.log) (poll_sent c (Step.set_read c d) d (set_nodes s S d) (ltb-false d.until d.next t) D) })
+          (λ t. let K = looks_are s S d.log D.log in let l = ltb-false d.until d.next t in record {
+            state = reader_put s S name d (polled (looks_at c s.register d.log) d) h refl (polled_is c (looks_at c s.register d.log) d K l D);
+            sends = posts_sent (whos.Reader d.number) d.log (poll_asks (looks_at c s.register d.log) d) (log_is c B d.log D.log) (poll_sent c (looks_at c s.register d.log) d K l D);
+          })
 
       -- ---- events of nodes ----
       where_node : (n : ℕ) (b : Bool) (d : Done) → (IsNode n → IsDoneSoundly c d) → IsDoneSoundly c (Step.where_node c s n b d)
@@ -340,13 +370,13 @@ module _ (c : Config) where
       ticks_by : (n l : ℕ) (t : Ticked) → IsNode n → IsLog l → IsTicked t → IsDoneSoundly c (Step.ticks_as c s n l t)
       ticks_by n l (Cleans epoch y) h i k = keeps_is s S n (ops.Clean l epoch y) [] [] h (i, k.0, k.1) tt
       ticks_by n l Rebuilt h i k = keeps_is s S n (ops.Refilled l) _ [] h i tt
-      ticks_by n l (Asks from) h i k = record { state = S; sends = posts_sent (whos.Node n) l (node_asks n (set_of c l) from) i (asks_sent n from (set_of c l) h k.0 k.1 (log_nodes c B l)) }
+      ticks_by n l (Asks from) h i k = record { state = S; sends = posts_sent (whos.Node n) l (node_asks n (all_nodes c) from) i (asks_sent n from (all_nodes c) h k.0 k.1 (all_are c B)) }
       ticks_by n l Nothing h i k = quietly s S
 
       ticks_is : (n l : ℕ) → IsNode n → IsDoneSoundly c (Step.ticks c s n l)
-      ticks_is n l h = let x : Node = node_at s n in either s S (is_up (node_at s n).status && is_in n (set_of c l)) _ _
-          (λ t. let p = (and_parts (is_up (node_at s n).status) (is_in n (set_of c l)) t).1 in
-          ticks_by n l (on_tick (log_of x.plain l) (epochs_of s.register l).summaries) h (log_is c B l (served_log c B n l p))
+      ticks_is n l h = let x : Node = node_at s n in either s S (is_up (node_at s n).status && has_log c l) _ _
+          (λ t. let p = (and_parts (is_up (node_at s n).status) (has_log c l) t).1 in
+          ticks_by n l (on_tick (log_of x.plain l) (epochs_of s.register l).summaries) h (log_is c B l p)
           (ticked_is (log_of x.plain l) (log_state last_handed_out x.plain l (node_is_sound s S n).plain) (epochs_of s.register l).summaries (λ e y f. closed_summary c s.register l e y S.register f)))
           (λ t. quietly s S)
 
@@ -358,9 +388,9 @@ module _ (c : Config) where
     unfolding happens
     happens_is s (events.Format n) i S = where_node s S n (is_blank (node_at s n).status) (Step.formats c s n) (λ h. formats_is s S n h)
     happens_is s (events.Activate name l) i S = either s S (has_log c l && not (is_some (find_named name s.sequencers))) _ _ (λ t. activates_is s S name l (and_parts (has_log c l) _ t).0) (λ t. quietly s S)
-    happens_is s (events.Append name payload) i S = live s S name (λ q. Step.append_done c s name q payload (appending q payload)) (λ q Q. append_by s S name q payload (appending q payload) Q (appending_is s S q payload Q))
+    happens_is s (events.Append name payload) i S = live s S name (λ q. Step.append_done s name q payload (appending q payload)) (λ q Q. append_by s S name q payload (appending q payload) Q (appending_is s S q payload Q))
     happens_is s (events.Trim name point) i S = live s S name (λ q. Step.trim_done c s name q point) (λ q Q. trim_by s S name q point Q)
-    happens_is s (events.Retry name) i S = live s S name (λ q. Step.acted c s name q (on_retry (spec_in q.log c.logs) q)) (λ q Q. retry_by s S name q Q)
+    happens_is s (events.Retry name) i S = live s S name (λ q. Step.acted c s name q (on_retry q)) (λ q Q. retry_by s S name q Q)
     happens_is s (events.Drop name) i S = live s S name (λ q. only_state (with_sequencer s name (Step.dropped q))) (λ q Q. record { state = sequencer_put s S name (Step.dropped q) (dropped_is c s.register q Q); sends = tt })
     happens_is s (events.Deliver k) i S = delivers_is s S k
     happens_is s (events.Lose k) i S = record { state = marked_is s S k; sends = tt }
@@ -374,6 +404,7 @@ module _ (c : Config) where
     happens_is s (events.Wipe n) i S = where_node s S n true _ (λ h. node_done s S n new_node _ h new_is)
     happens_is s (events.Fail n k) i S = where_node s S n true _ (λ h. node_done s S n (Step.with_fault (node_at s n) (record { left = k; crash = None })) [] h (fault_is (node_at s n) (node_is_sound s S n) (record { left = k; crash = None })))
     happens_is s (events.Tear n k picture) i S = where_node s S n true _ (λ h. node_done s S n (Step.with_fault (node_at s n) (record { left = k; crash = Some picture })) [] h (fault_is (node_at s n) (node_is_sound s S n) (record { left = k; crash = Some picture })))
+    happens_is s (events.Set l r x set) i S = sets_is s S l r x set i
     happens_is s (events.RegFail k done) i S = record { state = register_put s S (Step.armed s.register k done) (follows_same c s.register s.register (Step.armed s.register k done) (refl, refl) (follows_self c s.register S.register)); sends = tt }
 
     -- ---- steps and runs ----
@@ -418,6 +449,7 @@ module _ (c : Config) where
     step_is s (events.Wipe n) i S = one_is s (events.Wipe n) i S
     step_is s (events.Fail n k) i S = one_is s (events.Fail n k) i S
     step_is s (events.Tear n k picture) i S = one_is s (events.Tear n k picture) i S
+    step_is s (events.Set l r x set) i S = one_is s (events.Set l r x set) i S
     step_is s (events.RegFail k done) i S = one_is s (events.RegFail k done) i S
 
     -- ---- the start ----
@@ -443,6 +475,7 @@ module _ (c : Config) where
       reader_names = nobody_twice;
       reader_places = tt;
       few_readers = omega arith;
+      specs = tt;
     }
 
     pub run_is : (s : State) (es : List Event) → AllByRecursion IsEvent es → IsSound c s → IsSound c (state_after c s es)

@@ -1,3 +1,4 @@
+pub mod Specs
 pub mod Nodes
 pub mod Registers
 pub mod Sequencers

@@ -2,6 +2,7 @@
 use Rattle.std.specs.Prelude.{◌≡◌, ◌≤◌, ◌||◌, Bool, true, false, List, [], ◌∷◌, length}
 use Rattle.std.specs.List.{AllByRecursion}
 use Rattle.ld_table.specs.Named.{Distinct}
+use Rattle.ld_ids.specs.Set.{IsSet}
 use Rattle.ld_config.specs.declared.config.Config.{Config}
 use Rattle.ld_schedule.specs.declared.event.Event.{Event}
 use Rattle.ld_schedule.specs.declared.event.Event.TheVariants as events
@@ -12,14 +13,16 @@ use Rattle.ld_msg.specs.Bounds.{Is64}
 use Rattle.ld_machine.specs.State.{State, Done}
 use Rattle.ld_machine.specs.Step.{reader_limit}
 use Rattle.ld_node_bounds.specs.Messages.{AreMessages}
+use Rattle.ld_bounds.specs.Specs.{IsSetFor}
 use Rattle.ld_bounds.specs.Nodes.{IsNodeAt}
 use Rattle.ld_bounds.specs.Registers.{IsRegister}
 use Rattle.ld_bounds.specs.Sequencers.{IsNamedSequencer}
 use Rattle.ld_bounds.specs.Readers.{IsNamedReader, AreInPlace}
 
--- what an event is within: the last number of a reader has 64 bits; all else is tested in the step
+-- what an event is within: the last number of a reader has 64 bits, a set has a flag for each node; all else is tested in the step
 abbrev pub IsEvent : Event → Type 0
 IsEvent (events.Open name l from until) = Is64 until
+IsEvent (events.Set l r x set) = IsSet set
 IsEvent _ = Unit {0}
 
 pub record IsSound (c : Config) (s : State) : Type 0 where
@@ -31,6 +34,7 @@ pub record IsSound (c : Config) (s : State) : Type 0 where
   pub reader_names : Distinct s.readers
   pub reader_places : AreInPlace 0 s.readers
   pub few_readers : length s.readers ≤ reader_limit
+  pub specs : AllByRecursion (IsSetFor c) s.specs
 
 -- what an event did: a sound state, and messages that a frame can carry
 pub record IsDoneSoundly (c : Config) (d : Done) : Type 0 where

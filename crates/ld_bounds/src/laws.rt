@@ -13,10 +13,12 @@ ghost use Rattle.ld_msg.specs.Register.{epochs_in, is_crowded};
 ghost use Rattle.ld_msg.specs.Sequencer.{Sequencer};
 ghost use Rattle.ld_msg.specs.Reader.{Reader};
 ghost use Rattle.ld_op.specs.Bounds.{AreEpochs};
-ghost use Rattle.ld_machine.specs.Config.{has_log};
+ghost use Rattle.ld_machine.specs.Config.{has_log, first_spec, looks_at, spec_of};
 ghost use Rattle.ld_machine.specs.State.{State, start, finish, node_at, sent_state, sequencer_of, reader_of};
-ghost use Rattle.ld_machine.specs.Step.{happens, delivers, marked};
+ghost use Rattle.ld_machine.specs.Step.{happens, delivers, marked, spec_set};
 ghost use Rattle.ld_machine.specs.Run.{step, state_after};
+ghost use Rattle.ld_bounds.specs.Specs.{IsSpecFor};
+ghost use Rattle.ld_bounds.specs.Registers.{IsLook};
 ghost use Rattle.ld_bounds.specs.Nodes.{IsNodeState};
 ghost use Rattle.ld_bounds.specs.Sequencers.{IsSequencer};
 ghost use Rattle.ld_bounds.specs.Readers.{IsReader};
@@ -64,6 +66,9 @@ pub fn events_are_events(event: &Event)
     if let Event::Open { until, .. } = event {
         let _until = until.value();
     }
+    if let Event::Set { set, .. } = event {
+        let _count = set.len();
+    }
 }
 
 /// Each message of a run, and of a sound state, is one that a frame can carry, and one of its ends is a node.
@@ -88,6 +93,15 @@ pub fn logs_are_few()
 /// The logs of a configuration in its bounds have numbers of logs.
 pub fn logs_are_logs()
     ensures { (c : Config) (l : ℕ) → IsInBounds c → has_log c l ≡ true → IsLog l }
+{}
+
+/// What later activations of a log of the configuration use, what counts as long as nothing is set, and what a look at an epoch of it
+/// shows in a sound state is that log's and within the configuration's bounds.
+pub fn specs_are_specs()
+    ensures set { (c : Config) (s : State) (l : ℕ) → IsInBounds c → IsSound c s → has_log c l ≡ true → IsSpecFor c l (spec_set c s l) }
+    ensures fixed { (c : Config) (s : State) (l e : ℕ) → IsInBounds c → IsSound c s → has_log c l ≡ true → IsSpecFor c l (spec_of c s.register l e) }
+    ensures first { (c : Config) (l : ℕ) → IsInBounds c → has_log c l ≡ true → IsSpecFor c l (first_spec c l) }
+    ensures look { (c : Config) (s : State) (l e : ℕ) → IsInBounds c → IsSound c s → has_log c l ≡ true → IsLook c l e (looks_at c s.register l e) }
 {}
 
 /// Each node, sequencer and reader of a sound state is in its bounds.

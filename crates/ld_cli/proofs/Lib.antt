@@ -9,3 +9,4 @@ pub mod MadeRun
 pub mod StatusOf
 pub mod Asked
 pub mod Drives
+pub mod PayloadLines

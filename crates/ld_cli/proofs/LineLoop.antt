@@ -1,5 +1,5 @@
 -- The loop that reads a line.
-use Rattle.std.proofs.Common.{◌≡◌, ◌≤◌, ◌+◌, ◌++◌, ℕ, List, [], length, None, Some, sym, ap, ◌∙◌}
+use Rattle.std.proofs.Common.{◌≡◌, ◌≤◌, ◌+◌, ◌++◌, ℕ, List, [], length, None, Some, sym, ap, subst, ◌∙◌}
 use Rattle.std.specs.Prelude.{Option}
 use Rattle.std.specs.Io.KnownBytes.{Consumes, Keeps, IsAtEnd}
 use Rattle.ld_lsn.specs.Text.{Lacks}
@@ -25,3 +25,7 @@ at_end None b c line none p k e = tt
 at_end (Some x) None c line none p k e = absurd p
 at_end (Some x) (Some y) None line none p k e = absurd k
 at_end (Some x) (Some y) (Some z) line none p k e = p ∙ ap (λ l. l ++ y) none ∙ sym k ∙ e
+
+-- nothing was taken
+pub none_kept : (a b c : Option (List ℕ)) (line : List ℕ) → line ≡ [] → Consumes a b line → Keeps b c → Consumes a c []
+none_kept a b c line none p k = subst (λ l. Consumes a c l) none (taken_kept a b c line p k)

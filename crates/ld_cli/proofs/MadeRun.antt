@@ -34,6 +34,7 @@ pub named_counts : (e : Event) → IsNamed e → Counts e
 named_counts (events.Fail node call) named = named.1.0
 named_counts (events.Tear node call picture) named = named.1.0
 named_counts (events.RegFail call done) named = named.0
+named_counts (events.Set l r extras set) named = tt
 named_counts (events.Format n) named = tt
 named_counts (events.Activate name l) named = tt
 named_counts (events.Append name p) named = tt

@@ -99,6 +99,7 @@ spelt_counts (events.Tick n l) h = tt
 spelt_counts (events.Down n) h = tt
 spelt_counts (events.Up n) h = tt
 spelt_counts (events.Wipe n) h = tt
+spelt_counts (events.Set l r extras nodes) h = tt
 
 -- ---- the loop ----
 

@@ -1,15 +1,11 @@
 -- How `append` and `tail` end, by their status.
-use Rattle.std.specs.Prelude.{ℕ, ◌≤◌, ◌<◌, ◌⊎◌, List, Bool, if◌then◌else◌}
-use Rattle.ld_io.specs.Causes.{Rose}
+use Rattle.std.specs.Prelude.{ℕ, ◌≤◌, ◌<◌, List, Bool, if◌then◌else◌}
 use Rattle.ld_serve.specs.declared.stop.Which.TheVariants as journals
 use Rattle.ld_words.specs.declared.command.Command.{Command}
 use Rattle.ld_words.specs.declared.command.Command.TheVariants.{Append, Tail}
 use Rattle.ld_words.specs.Meaning.{Asks}
 use Rattle.clap.specs.Walk.{Text}
 use Rattle.ld_msg.specs.Register.{Register}
-use Rattle.ld_register.specs.declared.fault.RegisterFault.{RegisterFault}
-use Rattle.ld_register.specs.declared.fault.RegisterFault.TheVariants as registers
-use Rattle.ld_rounds.specs.declared.ended.Refusal.{Refusal}
 use Rattle.ld_rounds.specs.declared.ended.Refusal.TheVariants as refusals
 use Rattle.ld_rounds.specs.declared.ended.Ended.{Ended}
 use Rattle.ld_rounds.specs.declared.ended.Ended.TheVariants as ends
@@ -62,24 +58,6 @@ EndsDrive before now P statuses.Write = P ends.Write
 EndsDrive before now P statuses.NoMemory = P ends.NoMemory
 EndsDrive before now P _ = ⊥
 
--- why a look at the register is refused: a call of it failed, or its bytes are no journal from that place on, where that is told; the register's count of faults before and now
-abbrev pub IsUnseen : ℕ → ℕ → Type 0 → (ℕ → Type 0) → Refusal → Type 0
-IsUnseen before now told damaged refusals.Failed = Rose before now
-IsUnseen before now told damaged (refusals.Damaged place) = told → damaged place
-IsUnseen before now told damaged refusals.Full = ⊥
-
--- the register is looked at before anything else: where that is refused so, nothing was done
-abbrev pub OrNothing : (Ended → Type 0) → (Refusal → Type 0) → Type 0 → Ended → Type 0
-OrNothing P unseen nothing (ends.Register refusal) = P (ends.Register refusal) ⊎ (nothing × unseen refusal)
-OrNothing P unseen nothing ends.NoMemory = P ends.NoMemory ⊎ nothing
-OrNothing P unseen nothing ended = P ended
-
--- the status of a look at the register that was refused
-abbrev pub refused_by : RegisterFault → Status
-refused_by registers.NoMemory = statuses.NoMemory
-refused_by (registers.Damaged place) = statuses.Damaged journals.Register place
-refused_by _ = statuses.Register
-
--- nothing is said of what the register holds
-abbrev pub Unsaid : Register → Type 0
-Unsaid r = Unit {0}
+-- a register still tells what it holds, and a crash leaves nothing of it that it mightn't have left before
+abbrev pub OnlyLooks : Type 0 → Type 0 → (Register → Type 0) → (Register → Type 0) → Type 0
+OnlyLooks told_before told_now may_before may_now = (told_before → told_now) × ((c : Register) → may_now c → may_before c)

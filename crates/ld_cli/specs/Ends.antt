@@ -20,7 +20,7 @@ abbrev pub written_by : Config → List Event → List ℕ
 written_by config events = transcript config events
 
 -- where a reader of the run asks once more for a number that it then calls lost, the number's epoch is closed, and of the nodes that settled the number for the
--- closing plan as many as the log has copies are lost for it, each before a record that was cut short, where there is one
+-- closing plan, or stored its append where it was known good, as many as the log has copies are lost for it, each before a record that was cut short, where there is one
 abbrev pub LossesStood : Config → List Event → Type 0
 LossesStood config events = (name : List ℕ) (log number round : ℕ) (before : List Move) (asks : Move) (between : List Move) (gives : Move) (after : List Move)
     → moves config events ≡ before ++ asks ∷ between ++ gives ∷ after

@@ -1,5 +1,5 @@
 -- A schedule as bytes: a line for the configuration, and a line for each event; and what a line is that is off.
-use Rattle.std.specs.Prelude.{ℕ, ◌≡◌, ◌≤◌, ◌+◌, ◌⊎◌, List, [], ◌∷◌, ◌++◌, length, flat_map, Ok}
+use Rattle.std.specs.Prelude.{ℕ, ◌≡◌, ◌≤◌, ◌⊎◌, List, [], ◌∷◌, ◌++◌, length, flat_map, Ok}
 use Rattle.std.specs.Str.{IsUtf8}
 use Rattle.serde_json.specs.Read.{read}
 use Rattle.ld_lsn.specs.Text.{Lacks}
@@ -8,6 +8,7 @@ use Rattle.ld_schedule.specs.Grammar.{IsNamed, event_text}
 use Rattle.ld_schedule.specs.Reading.{IsOff}
 use Rattle.ld_config.specs.declared.config.Config.{Config}
 use Rattle.ld_config.specs.Config.{config_of_text}
+pub use Rattle.ld_rounds.specs.Lines.{IsLong, IsCutLine, Begins}
 use Rattle.ld_cli.specs.Lines.{longest, ended}
 
 -- the text is this configuration
@@ -37,27 +38,6 @@ unfoldable pub schedule_text : List ℕ → List Event → List ℕ
 schedule_text line events = ended line ++ flat_map event_line events
 
 -- ---- lines that are off ----
-
--- the line goes on behind the place where it has to have ended
-pub record IsLong (bytes : List ℕ) (place : ℕ) : Type 0 where
-  pub front : List ℕ
-  pub rest : List ℕ
-  pub splits : bytes ≡ front ++ rest
-  pub long : length front ≡ longest + 1
-  pub one : Lacks 10 front
-  pub at : place ≡ longest
-
--- the bytes end in the line
-pub record IsCutLine (bytes : List ℕ) (place : ℕ) : Type 0 where
-  pub one : Lacks 10 bytes
-  pub short : length bytes ≤ longest
-  pub at : place ≡ length bytes
-
--- there is a whole line first
-pub record Begins (bytes line rest : List ℕ) : Type 0 where
-  pub splits : bytes ≡ ended line ++ rest
-  pub one : Lacks 10 line
-  pub short : length line ≤ longest
 
 -- a whole line that spells no event
 pub record IsNoEvent (bytes : List ℕ) (place : ℕ) : Type 0 where

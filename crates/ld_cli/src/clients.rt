@@ -1,14 +1,20 @@
 // A log is appended to or read, over its nodes.
-ghost use Rattle.std.specs.Prelude.{◌≡◌, ◌≤◌, ◌⊎◌, [], ◌∷◌, nat_lt, true, codes, IfOk};
+ghost use Rattle.std.specs.Prelude.{◌≡◌, ◌⊎◌, [], ◌∷◌, nat_lt, true, codes, IfOk};
 ghost use Rattle.ld_config.specs.Bounds.{IsInBounds};
+ghost use Rattle.ld_register.specs.Bounds.{IsSpec};
+ghost use Rattle.ld_machine.specs.Config.{first_spec};
 ghost use Rattle.ld_machine.specs.State.{State};
+ghost use Rattle.ld_machine.specs.Step.{spec_set};
 ghost use Rattle.ld_dial.specs.Far.{Far};
 ghost use Rattle.ld_words.specs.Bounds.{IsTailInBounds, IsLogInBounds};
 ghost use Rattle.ld_rounds.specs.Drives.{IsBroken};
-ghost use Rattle.ld_append.specs.Acting.{IsSpecOf};
-ghost use Rattle.ld_append.specs.Appends.{Begins as BeginsAppend, IsAppended, IsEndOfAppend};
-ghost use Rattle.ld_tail.specs.Tails.{Begins, IsTailed, IsTailEnd};
-ghost use Rattle.ld_cli.specs.Clients.{status_of as told, refused_by, EndsDrive, IsUnseen, OrNothing, Unsaid};
+ghost use Rattle.ld_append.specs.Acting.{IsSpecOf, IsUnset, MayCrowd};
+ghost use Rattle.std.specs.Io.KnownBytes.{prepend_known};
+ghost use Rattle.ld_rounds.specs.Reaching.{Begins};
+ghost use Rattle.ld_append.specs.Appends.{HasNone as HasNoSequencers, IsAppended, IsEndOfAppend};
+ghost use Rattle.ld_tail.specs.Tails.{HasNone as HasNoReaders, IsTailed, IsTailEnd};
+ghost use Rattle.ld_cli.specs.Payloads.{input_after, payloads_in};
+ghost use Rattle.ld_cli.specs.Clients.{status_of as told, EndsDrive, OnlyLooks};
 
 use crate::payloads::{Held, PayloadLines};
 use crate::status::Status;
@@ -17,7 +23,7 @@ use ld_clients::find_spec;
 use ld_dial::Nodes;
 use ld_ids::{Name, NoMemory, Spec};
 use ld_io::{Sink, Source};
-use ld_register::{Register, RegisterFault};
+use ld_register::Register;
 use ld_rounds::{Ended, Refusal};
 use ld_serve::Which;
 use ld_tail::tail;
@@ -31,25 +37,6 @@ fn name_of(alloc: Global, byte: u8) -> Result<Name, NoMemory>
     let mut bytes = Vec::new(alloc);
     bytes.push(byte)?;
     Ok(Name::new(bytes))
-}
-
-/// The status of a refusal of the register to be looked at.
-fn refused(fault: RegisterFault) -> Status
-    ensures { result ≡ refused_by fault }
-{
-    match fault {
-        RegisterFault::NoMemory => Status::NoMemory,
-        RegisterFault::Damaged(place) => Status::Damaged {
-            which: Which::Register,
-            place,
-        },
-        RegisterFault::Failed
-        | RegisterFault::LogLimit
-        | RegisterFault::Behind(_)
-        | RegisterFault::EpochLimit
-        | RegisterFault::GenLimit
-        | RegisterFault::Full => Status::Register,
-    }
 }
 
 /// The status of an end, by the nodes' count of failures before and now.
@@ -96,13 +83,13 @@ fn append_lines<I: Source, O: Sink, G: Register, N: Nodes>(
     reg: &mut G,
     nodes: &mut N,
 ) -> Status
-    requires { 1 ≤ spec.now.r }
-    ensures appended { (s : State) (far : Far) → IsInBounds words.now.config → IsSpecOf words.now.config spec.now → N.tells nodes.old words.now.config far → BeginsAppend (G.tells reg.old) words.now.config s far
+    requires { IsSpec spec.now }
+    ensures appended { (s : State) (far : Far) → IsInBounds words.now.config → IsSpecOf words.now.config spec.now → IsUnset words.now.config s spec.now → N.tells nodes.old words.now.config far → Begins (HasNoSequencers (G.tells reg.old)) words.now.config s far
         → (N.silent nodes.new ≡ true) ⊎ EndsDrive (N.faults nodes.old) (N.faults nodes.new)
-        (IsAppended name (IsBroken (N.faults nodes.old) (N.faults nodes.new) (N.endings nodes.old) (N.endings nodes.new)) words.now.rounds (N.tells nodes.new) Unsaid words.now.config s (O.written out.old) (O.written out.new)) result }
+        (IsAppended name spec.now.log (IsBroken (N.faults nodes.old) (N.faults nodes.new) (N.endings nodes.old) (N.endings nodes.new)) (input_after lines.old.held.now.number (prepend_known lines.old.held.now.buffer (I.left lines.old.input.now))) words.now.rounds (N.tells nodes.new) (G.tells reg.new) words.now.config s (O.written out.old) (O.written out.new)) result }
     ensures itself { lines.new.input.ghost_name ≡ lines.old.input.ghost_name }
     ensures ends { EndsDrive (N.faults nodes.old) (N.faults nodes.new)
-        (IsEndOfAppend (I.faults lines.old.input.now) (I.faults lines.new.input.now) (O.faults out.old) (O.faults out.new) (O.written out.old) (O.written out.new)) result }
+        (IsEndOfAppend (G.told reg.old → MayCrowd (G.may_hold reg.old) spec.now.log) (λ place. G.told reg.old → G.damaged reg.old place) (input_after lines.old.held.now.number (prepend_known lines.old.held.now.buffer (I.left lines.old.input.now))) (I.faults lines.old.input.now) (I.faults lines.new.input.now) (O.faults out.old) (O.faults out.new) (O.written out.old) (O.written out.new)) result }
 {
     let before = nodes.failures();
     let (ended, _) = append(
@@ -111,7 +98,7 @@ fn append_lines<I: Source, O: Sink, G: Register, N: Nodes>(
         spec,
         name,
         u64::from(words.rounds),
-        reg,
+        &mut *reg,
         nodes,
         lines,
         out,
@@ -121,7 +108,6 @@ fn append_lines<I: Source, O: Sink, G: Register, N: Nodes>(
 }
 
 /// Appends the payloads of the input to the log that the words name.
-#[tactic(auto, using(ld_clients::proofs::Bounds::copies_in))]
 pub(crate) fn appended<I: Source, O: Sink, G: Register, N: Nodes>(
     alloc: Global,
     words: &LogWords,
@@ -131,11 +117,11 @@ pub(crate) fn appended<I: Source, O: Sink, G: Register, N: Nodes>(
     nodes: &mut N,
 ) -> Status
     requires bounds { IsLogInBounds words.now }
-    ensures appended { (s : State) (far : Far) → N.tells nodes.old words.now.config far → BeginsAppend (G.tells reg.old) words.now.config s far
+    ensures appended { (s : State) (far : Far) → N.tells nodes.old words.now.config far → Begins (HasNoSequencers (G.tells reg.old)) words.now.config s far → spec_set words.now.config s words.now.log ≡ first_spec words.now.config words.now.log
         → (N.silent nodes.new ≡ true) ⊎ EndsDrive (N.faults nodes.old) (N.faults nodes.new)
-        (IsAppended (codes "s") (IsBroken (N.faults nodes.old) (N.faults nodes.new) (N.endings nodes.old) (N.endings nodes.new)) words.now.rounds (N.tells nodes.new) Unsaid words.now.config s (O.written out.old) (O.written out.new)) result }
+        (IsAppended (codes "s") words.now.log (IsBroken (N.faults nodes.old) (N.faults nodes.new) (N.endings nodes.old) (N.endings nodes.new)) (payloads_in (I.left input.old)) words.now.rounds (N.tells nodes.new) (G.tells reg.new) words.now.config s (O.written out.old) (O.written out.new)) result }
     ensures ends { EndsDrive (N.faults nodes.old) (N.faults nodes.new)
-        (IsEndOfAppend (I.faults input.old) (I.faults input.new) (O.faults out.old) (O.faults out.new) (O.written out.old) (O.written out.new)) result }
+        (IsEndOfAppend (G.told reg.old → MayCrowd (G.may_hold reg.old) words.now.log) (λ place. G.told reg.old → G.damaged reg.old place) (payloads_in (I.left input.old)) (I.faults input.old) (I.faults input.new) (O.faults out.old) (O.faults out.new) (O.written out.old) (O.written out.new)) result }
 {
     let Ok(name) = name_of(alloc, b's') else {
         return Status::NoMemory;
@@ -153,7 +139,7 @@ pub(crate) fn appended<I: Source, O: Sink, G: Register, N: Nodes>(
     append_lines(alloc, words, &spec, name, &mut lines, out, reg, nodes)
 }
 
-/// Reads the log that the words name, once the register was looked at.
+/// Reads the log that the words name.
 pub(crate) fn tailed<O: Sink, G: Register, N: Nodes>(
     alloc: Global,
     words: &TailWords,
@@ -162,20 +148,18 @@ pub(crate) fn tailed<O: Sink, G: Register, N: Nodes>(
     nodes: &mut N,
 ) -> Status
     requires bounds { IsTailInBounds words.now }
-    ensures tailed { (s : State) (far : Far) → N.tells nodes.old words.now.of.config far → Begins words.now.of.config s far
+    ensures tailed { (s : State) (far : Far) → N.tells nodes.old words.now.of.config far → Begins (HasNoReaders (G.tells reg.old)) words.now.of.config s far
         → (N.silent nodes.new ≡ true) ⊎ EndsDrive (N.faults nodes.old) (N.faults nodes.new)
-        (OrNothing (IsTailed (codes "r") (IsBroken (N.faults nodes.old) (N.faults nodes.new) (N.endings nodes.old) (N.endings nodes.new)) words.now.of.rounds (N.tells nodes.new) words.now.of.config s (O.written out.old) (O.written out.new)) (IsUnseen (G.faults reg.old) (G.faults reg.new) (G.told reg.old) (G.damaged reg.old)) ((nodes.new ≡ nodes.old) × (out.new ≡ out.old))) result }
+        (IsTailed (record { name = codes "r"; log = words.now.of.log; from = words.now.from; until = words.now.until }) (IsBroken (N.faults nodes.old) (N.faults nodes.new) (N.endings nodes.old) (N.endings nodes.new)) words.now.of.rounds (N.tells nodes.new) (G.tells reg.new) words.now.of.config s (O.written out.old) (O.written out.new)) result }
     ensures ends { EndsDrive (N.faults nodes.old) (N.faults nodes.new)
-        (OrNothing (IsTailEnd (O.faults out.old) (O.faults out.new) (O.written out.old) (O.written out.new)) (IsUnseen (G.faults reg.old) (G.faults reg.new) (G.told reg.old) (G.damaged reg.old)) ((nodes.new ≡ nodes.old) × (out.new ≡ out.old))) result }
+        (IsTailEnd (λ place. G.told reg.old → G.damaged reg.old place) (G.faults reg.old) (G.faults reg.new) (O.faults out.old) (O.faults out.new)) result }
+    ensures only_looks { OnlyLooks (G.told reg.old) (G.told reg.new) (G.may_hold reg.old) (G.may_hold reg.new) }
 {
     let Ok(name) = name_of(alloc, b'r') else {
         return Status::NoMemory;
     };
-    if let Err(fault) = reg.look(alloc, words.of.log, 0) {
-        return refused(fault);
-    }
     let before = nodes.failures();
-    let ended = tail(
+    let (ended, _) = tail(
         alloc,
         &words.of.config,
         name,
@@ -183,6 +167,7 @@ pub(crate) fn tailed<O: Sink, G: Register, N: Nodes>(
         words.from,
         words.until,
         u64::from(words.of.rounds),
+        &mut *reg,
         nodes,
         out,
     );

@@ -1,10 +1,10 @@
 // The payloads that the lines of the input spell.
-ghost use Rattle.std.specs.Prelude.{◌≡◌, ◌≤◌, IfErr};
-ghost use Rattle.std.specs.Prelude.{MatchResult};
+ghost use Rattle.std.specs.Prelude.{◌≡◌, ◌≤◌, [], IfOk, IfErr, MatchResult};
+ghost use Rattle.std.specs.Io.KnownBytes.{prepend_known};
 ghost use Rattle.ld_ids.specs.Bytes.{AreBytes, hex_text};
-ghost use Rattle.ld_schedule.specs.Reading.{IsOff};
-ghost use Rattle.ld_rounds.specs.Input.{IsReadFault};
-ghost use Rattle.ld_cli.specs.Payloads.{IsUnspelt};
+ghost use Rattle.ld_schedule.specs.Reading.{IsText};
+ghost use Rattle.ld_rounds.specs.Input.{Gives, IsReadFault};
+ghost use Rattle.ld_cli.specs.Payloads.{IsUnspelt, input_after};
 
 use crate::input::Buffer;
 use crate::lines::{Ending, LONGEST, next_line};
@@ -23,20 +23,6 @@ pub(crate) struct Held {
     number: u64,
 }
 
-impl Held {
-    /// Nothing was read yet.
-    pub(crate) fn new(alloc: Global) -> Result<Held, NoMemory> {
-        let Ok(buffer) = Buffer::new(alloc) else {
-            return Err(NoMemory);
-        };
-        Ok(Held {
-            buffer,
-            line: Vec::new(alloc),
-            number: 0,
-        })
-    }
-}
-
 /// The lines of an input, each of which is to spell a payload. It owns no memory, so that the input is seen to come back.
 #[derive(Drop)]
 pub(crate) struct PayloadLines<'a, I: Source> {
@@ -44,9 +30,9 @@ pub(crate) struct PayloadLines<'a, I: Source> {
     pub(crate) input: &'a mut I,
 }
 
-/// The payload that a line spells, or the place where it is off.
+/// The payload that a line of this number spells, or the place where it is off.
 fn spelt(alloc: Global, line: &[u8], number: u64) -> Result<Payload, InputFault>
-    ensures { MatchResult result (λ payload. line.now ≡ hex_text payload) (IsUnspelt line.now) }
+    ensures { MatchResult result (IsText AreBytes hex_text line.now) (IsUnspelt number line.now) }
 {
     match parse_payload(alloc, line) {
         Ok(payload) => Ok(payload),
@@ -61,12 +47,28 @@ fn spelt(alloc: Global, line: &[u8], number: u64) -> Result<Payload, InputFault>
 }
 
 impl Held {
+    /// Nothing was read yet.
+    pub(crate) fn new(alloc: Global) -> Result<Held, NoMemory>
+        ensures buffer { IfOk result (λ held. held.buffer ≡ []) }
+        ensures number { IfOk result (λ held. held.number ≡ 0) }
+    {
+        let Ok(buffer) = Buffer::new(alloc) else {
+            return Err(NoMemory);
+        };
+        Ok(Held {
+            buffer,
+            line: Vec::new(alloc),
+            number: 0,
+        })
+    }
+
     /// Takes the next payload of the input; none is at its end.
     fn next<I: Source>(
         &mut self,
         alloc: Global,
         input: &mut I,
     ) -> Result<Option<Payload>, InputFault>
+        ensures gives { Gives (input_after self.old.number (prepend_known self.old.buffer (I.left input.old))) (input_after self.new.number (prepend_known self.new.buffer (I.left input.new))) result }
         ensures later { I.faults input.old ≤ I.faults input.new }
         ensures cause { IfErr result (IsReadFault (I.faults input.old) (I.faults input.new)) }
     {
@@ -92,9 +94,10 @@ impl Held {
 }
 
 impl<'a, I: Source> Payloads for PayloadLines<'a, I> {
-    ghost use Rattle.std.specs.Prelude.{None};
+    ghost use Rattle.std.specs.Io.KnownBytes.{prepend_known};
+    ghost use Rattle.ld_cli.specs.Payloads.{input_after};
 
-    ghost coming = { λ _. None };
+    ghost coming = { λ p. input_after p.held.now.number (prepend_known p.held.now.buffer (I.left p.input.now)) };
 
     ghost faults = { λ p. I.faults p.input.now };
 

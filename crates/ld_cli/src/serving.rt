@@ -2,7 +2,7 @@
 ghost use Rattle.std.specs.Prelude.{◌≡◌, ◌⊎◌, ⊤, ℕ, List, Some, false};
 ghost use Rattle.ld_link.specs.Peers.{Peers};
 ghost use Rattle.ld_register.specs.Calls.{after_draw, ChangedOrNot};
-ghost use Rattle.ld_node.specs.Sets.{sets_in};
+ghost use Rattle.ld_node.specs.Known.{known_in};
 ghost use Rattle.ld_serve.specs.Complete.{AreSpoken, MayOpen, IsFaultOrLimit};
 ghost use Rattle.ld_serve.specs.Opening.{IsBlank};
 ghost use Rattle.ld_serve.specs.Stops.{IsServingStop};
@@ -26,10 +26,10 @@ pub(crate) fn served<D: Disk, G: Register, L: Link>(
     link: &mut L,
 ) -> Status
     ensures served { (start : Peers) → L.peers link.old ≡ Some start
-        → EndsServing (HasServed (D.seen disk.old) (D.may_leave disk.new) (G.holds reg.old) node.now.id (sets_in node.now.id node.now.config.logs) node.now.format start (L.peers link.new) node.now.turns)
+        → EndsServing (HasServed (D.seen disk.old) (D.may_leave disk.new) (G.holds reg.old) node.now.id (known_in node.now.config) node.now.format start (L.peers link.new) node.now.turns)
         (λ stop. IsNotOpened (D.faults disk.old) (D.faults disk.new) (D.seen disk.old) (D.seen disk.new) (D.may_leave disk.old) (D.may_leave disk.new)
         (G.faults reg.old) (G.faults reg.new) (G.told reg.old) (G.holds reg.old) (G.damaged reg.old) node.now.id node.now.format link.old link.new stop
-        ⊎ HasStopped (D.seen disk.old) (D.may_leave disk.new) (G.holds reg.old) node.now.id (sets_in node.now.id node.now.config.logs) node.now.format start (L.peers link.new) stop) result }
+        ⊎ HasStopped (D.seen disk.old) (D.may_leave disk.new) (G.holds reg.old) node.now.id (known_in node.now.config) node.now.format start (L.peers link.new) stop) result }
     ensures opening { EndsServing ⊤
         (λ stop. IsNotOpened (D.faults disk.old) (D.faults disk.new) (D.seen disk.old) (D.seen disk.new) (D.may_leave disk.old) (D.may_leave disk.new)
         (G.faults reg.old) (G.faults reg.new) (G.told reg.old) (G.holds reg.old) (G.damaged reg.old) node.now.id node.now.format link.old link.new stop

@@ -1,7 +1,7 @@
 // Commands over what is in memory.
 use super::*;
 use ld_dial::Framed;
-use ld_disk::MemDisk;
+use ld_disk::{Disk, MemDisk};
 use ld_io::{MemSink, MemSource};
 use ld_link::MemLink;
 use ld_register::DiskRegister;
@@ -62,11 +62,22 @@ fn sink(alloc: Global, fails: &[u64]) -> Result<MemSink, Fail> {
 fn performed(
     alloc: Global,
     words: &[&str],
+    input: MemSource,
+    out: MemSink,
+) -> Result<(Status, Vec<u8>), Fail> {
+    let o = outside_with(alloc, no_peer(alloc)?)?;
+    performed_with(alloc, words, input, out, o)
+}
+
+/// A command over these.
+fn performed_with(
+    alloc: Global,
+    words: &[&str],
     mut input: MemSource,
     mut out: MemSink,
+    mut o: Outside,
 ) -> Result<(Status, Vec<u8>), Fail> {
     let words = strings(alloc, words)?;
-    let mut o = outside_with(alloc, no_peer(alloc)?)?;
     let mut nodes = Framed::new(alloc, no_peer(alloc)?);
     let status = run(
         alloc,
@@ -115,6 +126,25 @@ fn replays_a_schedule(rt: HostRuntime) -> Result<(), Fail> {
     let (status, written) = replayed(rt.alloc(), SCHEDULE, &[], &[])?;
     assert_eq!(rt; status, Status::Ok);
     assert!(rt; written.as_slice() == TRANSCRIPT.as_bytes());
+    Ok(())
+}
+
+/// Later activations of the log use node 2 alone.
+const SET: &str = concat!(
+    "{\"nodes\":[1,2],\"logs\":[{\"id\":1,\"set\":[1],\"r\":1}]}\n",
+    "set 1 1 0 2\n",
+    "activate a 1\n",
+    "append a 6869\n",
+);
+
+/// What is written of it.
+const SET_TRANSCRIPT: &str = "set 1 1 0 2\nactive a 1\nappended a e1n1\nmsg 0 s.a n.2 store e1n1\n";
+
+#[test]
+fn replays_what_is_set(rt: HostRuntime) -> Result<(), Fail> {
+    let (status, written) = replayed(rt.alloc(), SET, &[], &[])?;
+    assert_eq!(rt; status, Status::Ok);
+    assert!(rt; written.as_slice() == SET_TRANSCRIPT.as_bytes());
     Ok(())
 }
 
@@ -252,5 +282,65 @@ fn an_append_that_reaches_no_node_isnt_done(rt: HostRuntime) -> Result<(), Fail>
     let (status, told) = performed(rt.alloc(), &APPEND, input, out)?;
     assert_eq!(rt; status, Status::Link);
     assert!(rt; told.as_slice() == b"active s 1\nappended s e1n1\n".as_slice());
+    Ok(())
+}
+
+/// The words of a tail of one round of a log of one node.
+fn tail_words<'a>(from: &'a str, until: &'a str) -> [&'a str; 15] {
+    [
+        "tail",
+        "--config",
+        "{\"nodes\":[1],\"logs\":[{\"id\":1,\"set\":[1],\"r\":1}]}",
+        "--log",
+        "1",
+        "--register",
+        "register",
+        "--port",
+        "1",
+        "--rounds",
+        "1",
+        "--from",
+        from,
+        "--until",
+        until,
+    ]
+}
+
+#[test]
+fn a_tail_that_reaches_no_node_isnt_done(rt: HostRuntime) -> Result<(), Fail> {
+    for range in [("e0n1", "e0n1"), ("e1n1", "e2n0")] {
+        let (status, told) = alone(rt.alloc(), &tail_words(range.0, range.1))?;
+        assert_eq!(rt; status, Status::Link);
+        assert_eq!(rt; told.len(), 0);
+    }
+    Ok(())
+}
+
+/// A tail beside a register on this disk: its status, and what was written.
+fn tailed_beside(alloc: Global, disk: MemDisk) -> Result<(Status, Vec<u8>), Fail> {
+    let mut o = outside_with(alloc, no_peer(alloc)?)?;
+    o.register = DiskRegister::new(alloc, disk);
+    let input = source(alloc, b"", &[])?;
+    let out = sink(alloc, &[])?;
+    performed_with(alloc, &tail_words("e1n1", "e1n1"), input, out, o)
+}
+
+/// The record of an activation whose factor is 0.
+const OUT_OF_BOUNDS: [u8; 19] = [1, 0, 0, 0, 13, 19, 0, 0, 0, 1, 0, 0, 0, 1, 0, 1, 0, 0, 0];
+
+#[test]
+fn a_tail_ends_beside_a_register_that_cant_be_read(rt: HostRuntime) -> Result<(), Fail> {
+    let mut disk = MemDisk::new(rt.alloc())?;
+    disk.fail_read_at(1);
+    let (status, told) = tailed_beside(rt.alloc(), disk)?;
+    assert_eq!(rt; status, Status::Register);
+    assert_eq!(rt; told.len(), 0);
+    let mut disk = MemDisk::new(rt.alloc())?;
+    disk.reserve(19, 1)?;
+    disk.write_at(0, &OUT_OF_BOUNDS)?;
+    let (status, told) = tailed_beside(rt.alloc(), disk)?;
+    let which = Which::Register;
+    assert_eq!(rt; status, Status::Damaged { which, place: 0 });
+    assert_eq!(rt; told.len(), 0);
     Ok(())
 }

@@ -4,7 +4,7 @@ ghost use Rattle.std.specs.Io.KnownBytes.{IsAtEnd};
 ghost use Rattle.ld_io.specs.Causes.{Rose};
 ghost use Rattle.ld_link.specs.Peers.{Peers};
 ghost use Rattle.ld_register.specs.Calls.{after_draw, ChangedOrNot};
-ghost use Rattle.ld_node.specs.Sets.{sets_in};
+ghost use Rattle.ld_node.specs.Known.{known_in};
 ghost use Rattle.ld_serve.specs.Complete.{AreSpoken, MayOpen, IsFaultOrLimit};
 ghost use Rattle.ld_serve.specs.Opening.{IsBlank};
 ghost use Rattle.ld_serve.specs.Stops.{IsServingStop};
@@ -16,12 +16,17 @@ ghost use Rattle.ld_words.specs.declared.command.TailWords.{TailWords as TailWan
 ghost use Rattle.ld_words.specs.declared.command.Command.{Command as Wish};
 ghost use Rattle.ld_words.specs.declared.command.Command.TheVariants.{Replay, Exercise, Node as Serve, Append, Tail};
 ghost use Rattle.ld_words.specs.Meaning.{Asks, IsNoCommand, HasNoPlaces, AskForNoPlaces};
+ghost use Rattle.ld_machine.specs.Config.{first_spec};
 ghost use Rattle.ld_machine.specs.State.{State};
+ghost use Rattle.ld_machine.specs.Step.{spec_set};
 ghost use Rattle.ld_dial.specs.Far.{Far};
 ghost use Rattle.ld_rounds.specs.Drives.{IsBroken};
-ghost use Rattle.ld_append.specs.Appends.{Begins as BeginsAppend, IsAppended, IsEndOfAppend};
-ghost use Rattle.ld_tail.specs.Tails.{Begins, IsTailed, IsTailEnd};
-ghost use Rattle.ld_cli.specs.Clients.{Drives, AskForNoDrive, EndsDrive, IsUnseen, OrNothing, Unsaid};
+ghost use Rattle.ld_rounds.specs.Reaching.{Begins};
+ghost use Rattle.ld_append.specs.Acting.{MayCrowd};
+ghost use Rattle.ld_append.specs.Appends.{HasNone as HasNoSequencers, IsAppended, IsEndOfAppend};
+ghost use Rattle.ld_tail.specs.Tails.{HasNone as HasNoReaders, IsTailed, IsTailEnd};
+ghost use Rattle.ld_cli.specs.Payloads.{payloads_in};
+ghost use Rattle.ld_cli.specs.Clients.{Drives, AskForNoDrive, EndsDrive, OnlyLooks};
 ghost use Rattle.ld_cli.specs.Ends.{EndsBy, IsSchedule, Completes};
 ghost use Rattle.ld_cli.specs.Exercise.{EndsExercise};
 ghost use Rattle.ld_cli.specs.Serving.{EndsServing, DiskFaults, RegisterFaults, LinkFaults};
@@ -67,10 +72,10 @@ pub fn run<I: Source, O: Sink, D: Disk, G: Register, L: Link, N: Nodes>(
     // `node`: it was opened and has served its turns; or it was opened, and stopped while it served; or it wasn't opened.
     // Each stop has its cause.
     ensures served { (n : Wanted) (start : Peers) → Asks (map string_bytes words.now) (Serve n) → L.peers link.old ≡ Some start
-        → EndsServing (HasServed (D.seen disk.old) (D.may_leave disk.new) (G.holds reg.old) n.id (sets_in n.id n.config.logs) n.format start (L.peers link.new) n.turns)
+        → EndsServing (HasServed (D.seen disk.old) (D.may_leave disk.new) (G.holds reg.old) n.id (known_in n.config) n.format start (L.peers link.new) n.turns)
         (λ stop. IsNotOpened (D.faults disk.old) (D.faults disk.new) (D.seen disk.old) (D.seen disk.new) (D.may_leave disk.old) (D.may_leave disk.new)
         (G.faults reg.old) (G.faults reg.new) (G.told reg.old) (G.holds reg.old) (G.damaged reg.old) n.id n.format link.old link.new stop
-        ⊎ HasStopped (D.seen disk.old) (D.may_leave disk.new) (G.holds reg.old) n.id (sets_in n.id n.config.logs) n.format start (L.peers link.new) stop) result }
+        ⊎ HasStopped (D.seen disk.old) (D.may_leave disk.new) (G.holds reg.old) n.id (known_in n.config) n.format start (L.peers link.new) stop) result }
     // Whatever the link tells: what no serving node stops with comes before the link is called, and has its cause.
     ensures opening { (n : Wanted) → Asks (map string_bytes words.now) (Serve n) → EndsServing ⊤
         (λ stop. IsNotOpened (D.faults disk.old) (D.faults disk.new) (D.seen disk.old) (D.seen disk.new) (D.may_leave disk.old) (D.may_leave disk.new)
@@ -86,26 +91,35 @@ pub fn run<I: Source, O: Sink, D: Disk, G: Register, L: Link, N: Nodes>(
     ensures formatted { (n : Wanted) (bytes : List ℕ) → Asks (map string_bytes words.now) (Serve n) → D.seen disk.old ≡ Some bytes → (IsBlank bytes → ⊥) → reg.new ≡ reg.old }
     ensures drawn { (n : Wanted) → Asks (map string_bytes words.now) (Serve n) → G.told reg.old → ChangedOrNot (G.may_hold reg.old) (G.may_hold reg.new) (λ c. after_draw c n.id) }
 
-    // `tail`: where the nodes tell what stands there, from any sound state of the written machine with these nodes and without
-    // readers: each step of the drive is one of the machine, and what was written are the reader's lines of those steps. At
-    // the status Ok the reader of the state that was reached is past its last number; at NoMemory and Write the last step may
-    // be done in part. The register is looked at first: where a call of it fails, or its bytes are no journal, nothing was done.
-    ensures tailed { (t : TailWanted) (s : State) (far : Far) → Asks (map string_bytes words.now) (Tail t) → N.tells nodes.old t.of.config far → Begins t.of.config s far
+    // `tail`: where the nodes and the register tell what stands there, from any sound state of the written machine with these
+    // and without readers: the drive is steps of the machine, the opening of the reader and then round by round a poll and
+    // visits of the configuration's nodes, one after the other, each until nothing waits for its node; and what was written are
+    // the reader's lines of those steps. At the status Ok the reader of the state that was reached is past its last number; at
+    // NoMemory and Write the last step may be done in part.
+    ensures tailed { (t : TailWanted) (s : State) (far : Far) → Asks (map string_bytes words.now) (Tail t) → N.tells nodes.old t.of.config far → Begins (HasNoReaders (G.tells reg.old)) t.of.config s far
         → (N.silent nodes.new ≡ true) ⊎ EndsDrive (N.faults nodes.old) (N.faults nodes.new)
-        (OrNothing (IsTailed (codes "r") (IsBroken (N.faults nodes.old) (N.faults nodes.new) (N.endings nodes.old) (N.endings nodes.new)) t.of.rounds (N.tells nodes.new) t.of.config s (O.written out.old) (O.written out.new)) (IsUnseen (G.faults reg.old) (G.faults reg.new) (G.told reg.old) (G.damaged reg.old)) ((nodes.new ≡ nodes.old) × (out.new ≡ out.old))) result }
-    // Whatever they tell, each status has its cause.
+        (IsTailed (record { name = codes "r"; log = t.of.log; from = t.from; until = t.until }) (IsBroken (N.faults nodes.old) (N.faults nodes.new) (N.endings nodes.old) (N.endings nodes.new)) t.of.rounds (N.tells nodes.new) (G.tells reg.new) t.of.config s (O.written out.old) (O.written out.new)) result }
+    // Whatever they tell, each status has its cause: Register comes only where the register's count of faults rose, and Damaged
+    // only where its bytes are no journal from that place on.
     ensures tail_ends { (t : TailWanted) → Asks (map string_bytes words.now) (Tail t) → EndsDrive (N.faults nodes.old) (N.faults nodes.new)
-        (OrNothing (IsTailEnd (O.faults out.old) (O.faults out.new) (O.written out.old) (O.written out.new)) (IsUnseen (G.faults reg.old) (G.faults reg.new) (G.told reg.old) (G.damaged reg.old)) ((nodes.new ≡ nodes.old) × (out.new ≡ out.old))) result }
+        (IsTailEnd (λ place. G.told reg.old → G.damaged reg.old place) (G.faults reg.old) (G.faults reg.new) (O.faults out.old) (O.faults out.new)) result }
+    // It changes nothing of the register.
+    ensures only_looks { (t : TailWanted) → Asks (map string_bytes words.now) (Tail t) → OnlyLooks (G.told reg.old) (G.told reg.new) (G.may_hold reg.old) (G.may_hold reg.new) }
 
     // `append`: where the nodes and the register tell what stands there, from any sound state of the written machine with these
-    // and without sequencers: each step of the drive is one of the machine, and what was written are the sequencer's lines of
-    // those steps. At the status Ok each append is acknowledged, each epoch before its own is closed, and no message waits.
-    ensures appended { (w : LogWanted) (s : State) (far : Far) → Asks (map string_bytes words.now) (Append w) → N.tells nodes.old w.config far → BeginsAppend (G.tells reg.old) w.config s far
+    // and without sequencers, in which the log's next activation fixes what the configuration says of it: the drive is steps of
+    // the machine, the activation and then round by round what is sent again (but in the first), appends, and visits of the
+    // configuration's nodes, one after the other, each until nothing waits for its node; and what was written are the
+    // sequencer's lines of those steps. The payloads that the machine took are those that
+    // the lines of the input spell, the first ones in their order, all at the status Ok, and at BadSchedule all before the
+    // line that is off. At the status Ok each append is acknowledged, each epoch before its own is closed, and no message waits.
+    ensures appended { (w : LogWanted) (s : State) (far : Far) → Asks (map string_bytes words.now) (Append w) → N.tells nodes.old w.config far → Begins (HasNoSequencers (G.tells reg.old)) w.config s far → spec_set w.config s w.log ≡ first_spec w.config w.log
         → (N.silent nodes.new ≡ true) ⊎ EndsDrive (N.faults nodes.old) (N.faults nodes.new)
-        (IsAppended (codes "s") (IsBroken (N.faults nodes.old) (N.faults nodes.new) (N.endings nodes.old) (N.endings nodes.new)) w.rounds (N.tells nodes.new) Unsaid w.config s (O.written out.old) (O.written out.new)) result }
-    // Whatever they tell: the count of their failures says which status the last round gives, and a line came before what it refuses.
+        (IsAppended (codes "s") w.log (IsBroken (N.faults nodes.old) (N.faults nodes.new) (N.endings nodes.old) (N.endings nodes.new)) (payloads_in (I.left input.old)) w.rounds (N.tells nodes.new) (G.tells reg.new) w.config s (O.written out.old) (O.written out.new)) result }
+    // Whatever they tell: the count of their failures says which status the last round gives, and a line came before what it
+    // refuses, or the register was damaged, or may have held as many other logs as may be.
     ensures append_ends { (w : LogWanted) → Asks (map string_bytes words.now) (Append w) → EndsDrive (N.faults nodes.old) (N.faults nodes.new)
-        (IsEndOfAppend (I.faults input.old) (I.faults input.new) (O.faults out.old) (O.faults out.new) (O.written out.old) (O.written out.new)) result }
+        (IsEndOfAppend (G.told reg.old → MayCrowd (G.may_hold reg.old) w.log) (λ place. G.told reg.old → G.damaged reg.old place) (payloads_in (I.left input.old)) (I.faults input.old) (I.faults input.new) (O.faults out.old) (O.faults out.new) (O.written out.old) (O.written out.new)) result }
 
     // Each of these statuses comes only where the count of that object rose; at any other the last three stay.
     ensures read { result ≡ Status.Read → Rose (I.faults input.old) (I.faults input.new) }
@@ -148,10 +162,10 @@ fn carry_out<I: Source, O: Sink, D: Disk, G: Register, L: Link, N: Nodes>(
     ensures complete { command ≡ Replay → IfSome (I.left input.old) (λ bytes. IsSchedule bytes → Completes (Rose (I.faults input.old) (I.faults input.new)) (Rose (O.faults out.old) (O.faults out.new)) result) }
     ensures exercised { (seed events : ℕ) → command ≡ Exercise seed events → EndsExercise seed events (O.written out.old) (O.written out.new) result }
     ensures served { (n : Wanted) (start : Peers) → command ≡ Serve n → L.peers link.old ≡ Some start
-        → EndsServing (HasServed (D.seen disk.old) (D.may_leave disk.new) (G.holds reg.old) n.id (sets_in n.id n.config.logs) n.format start (L.peers link.new) n.turns)
+        → EndsServing (HasServed (D.seen disk.old) (D.may_leave disk.new) (G.holds reg.old) n.id (known_in n.config) n.format start (L.peers link.new) n.turns)
         (λ stop. IsNotOpened (D.faults disk.old) (D.faults disk.new) (D.seen disk.old) (D.seen disk.new) (D.may_leave disk.old) (D.may_leave disk.new)
         (G.faults reg.old) (G.faults reg.new) (G.told reg.old) (G.holds reg.old) (G.damaged reg.old) n.id n.format link.old link.new stop
-        ⊎ HasStopped (D.seen disk.old) (D.may_leave disk.new) (G.holds reg.old) n.id (sets_in n.id n.config.logs) n.format start (L.peers link.new) stop) result }
+        ⊎ HasStopped (D.seen disk.old) (D.may_leave disk.new) (G.holds reg.old) n.id (known_in n.config) n.format start (L.peers link.new) stop) result }
     ensures opening { (n : Wanted) → command ≡ Serve n → EndsServing ⊤
         (λ stop. IsNotOpened (D.faults disk.old) (D.faults disk.new) (D.seen disk.old) (D.seen disk.new) (D.may_leave disk.old) (D.may_leave disk.new)
         (G.faults reg.old) (G.faults reg.new) (G.told reg.old) (G.holds reg.old) (G.damaged reg.old) n.id n.format link.old link.new stop
@@ -161,16 +175,17 @@ fn carry_out<I: Source, O: Sink, D: Disk, G: Register, L: Link, N: Nodes>(
     ensures unasked { (n : Wanted) → command ≡ Serve n → n.format ≡ false → reg.new ≡ reg.old }
     ensures formatted { (n : Wanted) (bytes : List ℕ) → command ≡ Serve n → D.seen disk.old ≡ Some bytes → (IsBlank bytes → ⊥) → reg.new ≡ reg.old }
     ensures drawn { (n : Wanted) → command ≡ Serve n → G.told reg.old → ChangedOrNot (G.may_hold reg.old) (G.may_hold reg.new) (λ c. after_draw c n.id) }
-    ensures tailed { (t : TailWanted) (s : State) (far : Far) → command ≡ Tail t → N.tells nodes.old t.of.config far → Begins t.of.config s far
+    ensures tailed { (t : TailWanted) (s : State) (far : Far) → command ≡ Tail t → N.tells nodes.old t.of.config far → Begins (HasNoReaders (G.tells reg.old)) t.of.config s far
         → (N.silent nodes.new ≡ true) ⊎ EndsDrive (N.faults nodes.old) (N.faults nodes.new)
-        (OrNothing (IsTailed (codes "r") (IsBroken (N.faults nodes.old) (N.faults nodes.new) (N.endings nodes.old) (N.endings nodes.new)) t.of.rounds (N.tells nodes.new) t.of.config s (O.written out.old) (O.written out.new)) (IsUnseen (G.faults reg.old) (G.faults reg.new) (G.told reg.old) (G.damaged reg.old)) ((nodes.new ≡ nodes.old) × (out.new ≡ out.old))) result }
+        (IsTailed (record { name = codes "r"; log = t.of.log; from = t.from; until = t.until }) (IsBroken (N.faults nodes.old) (N.faults nodes.new) (N.endings nodes.old) (N.endings nodes.new)) t.of.rounds (N.tells nodes.new) (G.tells reg.new) t.of.config s (O.written out.old) (O.written out.new)) result }
     ensures tail_ends { (t : TailWanted) → command ≡ Tail t → EndsDrive (N.faults nodes.old) (N.faults nodes.new)
-        (OrNothing (IsTailEnd (O.faults out.old) (O.faults out.new) (O.written out.old) (O.written out.new)) (IsUnseen (G.faults reg.old) (G.faults reg.new) (G.told reg.old) (G.damaged reg.old)) ((nodes.new ≡ nodes.old) × (out.new ≡ out.old))) result }
-    ensures appended { (w : LogWanted) (s : State) (far : Far) → command ≡ Append w → N.tells nodes.old w.config far → BeginsAppend (G.tells reg.old) w.config s far
+        (IsTailEnd (λ place. G.told reg.old → G.damaged reg.old place) (G.faults reg.old) (G.faults reg.new) (O.faults out.old) (O.faults out.new)) result }
+    ensures only_looks { (t : TailWanted) → command ≡ Tail t → OnlyLooks (G.told reg.old) (G.told reg.new) (G.may_hold reg.old) (G.may_hold reg.new) }
+    ensures appended { (w : LogWanted) (s : State) (far : Far) → command ≡ Append w → N.tells nodes.old w.config far → Begins (HasNoSequencers (G.tells reg.old)) w.config s far → spec_set w.config s w.log ≡ first_spec w.config w.log
         → (N.silent nodes.new ≡ true) ⊎ EndsDrive (N.faults nodes.old) (N.faults nodes.new)
-        (IsAppended (codes "s") (IsBroken (N.faults nodes.old) (N.faults nodes.new) (N.endings nodes.old) (N.endings nodes.new)) w.rounds (N.tells nodes.new) Unsaid w.config s (O.written out.old) (O.written out.new)) result }
+        (IsAppended (codes "s") w.log (IsBroken (N.faults nodes.old) (N.faults nodes.new) (N.endings nodes.old) (N.endings nodes.new)) (payloads_in (I.left input.old)) w.rounds (N.tells nodes.new) (G.tells reg.new) w.config s (O.written out.old) (O.written out.new)) result }
     ensures append_ends { (w : LogWanted) → command ≡ Append w → EndsDrive (N.faults nodes.old) (N.faults nodes.new)
-        (IsEndOfAppend (I.faults input.old) (I.faults input.new) (O.faults out.old) (O.faults out.new) (O.written out.old) (O.written out.new)) result }
+        (IsEndOfAppend (G.told reg.old → MayCrowd (G.may_hold reg.old) w.log) (λ place. G.told reg.old → G.damaged reg.old place) (payloads_in (I.left input.old)) (I.faults input.old) (I.faults input.new) (O.faults out.old) (O.faults out.new) (O.written out.old) (O.written out.new)) result }
     ensures read { result ≡ Status.Read → Rose (I.faults input.old) (I.faults input.new) }
     ensures write { result ≡ Status.Write → Rose (O.faults out.old) (O.faults out.new) }
     ensures disk { DiskFaults (D.faults disk.old) (D.faults disk.new) result }

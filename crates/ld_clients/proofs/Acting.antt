@@ -7,25 +7,28 @@ use Rattle.ld_transcript.specs.declared.line.Line.{Line}
 use Rattle.ld_transcript.specs.declared.line.Line.TheVariants as lines
 use Rattle.ld_lsn.specs.Number.{numbered}
 use Rattle.ld_ids.specs.declared.set.Spec.{Spec}
-use Rattle.ld_ids.specs.Choice.{nodes_of}
+use Rattle.ld_ids.specs.Set.{members}
 use Rattle.ld_msg.specs.declared.msg.Who.{Who}
 use Rattle.ld_msg.specs.declared.msg.Who.TheVariants as whos
 use Rattle.ld_msg.specs.declared.msg.Msg.{Msg}
+use Rattle.ld_msg.specs.declared.msg.Body.{Body}
 use Rattle.ld_msg.specs.declared.msg.Body.TheVariants as bodies
-use Rattle.ld_msg.specs.Register.{Register, Answer, is_crowded}
+use Rattle.ld_msg.specs.Register.{Register, Answer, View, is_crowded, look}
 use Rattle.ld_msg.specs.Sequencer as sequencer
-use Rattle.ld_msg.specs.Sequencer.{Sequencer, Acts, Called, called, Appending, appending, appended, first_stores, next_esn, released_of, rose, to_each, acted_messages, on_reply, on_retry}
+use Rattle.ld_msg.specs.Sequencer.{Sequencer, Acts, called, Appending, appending, appended, first_stores, next_esn, released_of, rose, to_each, acted_messages, on_reply, on_retry}
 use Rattle.ld_config.specs.declared.config.Config.{Config}
-use Rattle.ld_machine.specs.Config.{spec_in}
+use Rattle.ld_machine.specs.Config.{looks_at}
 use Rattle.ld_machine.specs.State.{State, Done, unchanged, only_state, with_line, with_sequencer, with_register, posted}
 use Rattle.ld_machine.specs.Step as step
 use Rattle.ld_recovery.specs.Recovering.{sender_of}
+use Rattle.ld_register.specs.Bounds.{IsSpecFor}
 use Rattle.ld_register.specs.declared.fault.RegisterFault.TheVariants as registers
 use Rattle.ld_sequencer.specs.declared.fault.SequencerFault.{SequencerFault}
 use Rattle.ld_sequencer.specs.declared.fault.SequencerFault.TheVariants as faults
 use Rattle.ld_sequencer.specs.declared.report.Report.{Report}
+use Rattle.ld_sequencer.specs.Looks.{shows}
 use Rattle.ld_sequencer.specs.Own.{append_fault, trim_fault}
-use Rattle.ld_sequencer.specs.Whole.{Whole, as_now, sent_as, Acted, IsRefused, tried, called_by, reply_acts, retry_acts}
+use Rattle.ld_sequencer.specs.Whole.{Whole, as_now, sent_as, looks_of, Acted, IsRefused, Unseen, tried, called_by, reply_acts, retry_acts}
 use Rattle.ld_clients.specs.declared.client.Client.{Client}
 use Rattle.ld_clients.specs.declared.outcome.Outcome.{Outcome}
 use Rattle.ld_clients.specs.Serving.{shown, IsWhole, GoesOn}
@@ -33,7 +36,7 @@ use Rattle.ld_clients.specs.Acting.{IsNamed, HasActed, Stays, report_lines}
 use Rattle.ld_clients.specs.Refusing.{fault_lines, told_lines}
 use Rattle.ld_clients.proofs.Names.{put_same}
 use Rattle.ld_clients.proofs.Rows.{if_yes, if_not}
-use Rattle.ld_clients.proofs.Keeping.{Same, same_after, same_tried}
+use Rattle.ld_clients.proofs.Keeping.{Same, same_after, itself, same_tried, same_on_reply, same_on_retry}
 
 shown_gone : (b : Bool) (q : Sequencer) → q.gone ≡ false → (if b then step.dropped q else q).gone ≡ b
 shown_gone true q h = refl
@@ -56,13 +59,13 @@ told_as name before after r old new a h = λ i. step.numbered_lines (lines.Refus
 
 -- ---- refusals ----
 
-unnumbered : (c : Config) (s : State) (name p : List ℕ) (q : Sequencer) (a : Appending) (fault : SequencerFault) → fault ≡ append_fault (length p) a → (fault ≡ faults.NoMemory → ⊥)
-    → step.append_done c s name q p a ≡ record { state = s; lines = fault_lines name fault; sends = [] }
-unnumbered c s name p q sequencer.TooLong fault e n = ap (λ f. record { state = s; lines = fault_lines name f; sends = [] }) (sym e)
-unnumbered c s name p q (sequencer.Preempted by) fault e n = ap (λ f. record { state = s; lines = fault_lines name f; sends = [] }) (sym e)
-unnumbered c s name p q sequencer.EpochFull fault e n = ap (λ f. record { state = s; lines = fault_lines name f; sends = [] }) (sym e)
-unnumbered c s name p q sequencer.WindowFull fault e n = ap (λ f. record { state = s; lines = fault_lines name f; sends = [] }) (sym e)
-unnumbered c s name p q sequencer.Numbered fault e n = absurd (n e)
+unnumbered : (s : State) (name p : List ℕ) (q : Sequencer) (a : Appending) (fault : SequencerFault) → fault ≡ append_fault (length p) a → (fault ≡ faults.NoMemory → ⊥)
+    → step.append_done s name q p a ≡ record { state = s; lines = fault_lines name fault; sends = [] }
+unnumbered s name p q sequencer.TooLong fault e n = ap (λ f. record { state = s; lines = fault_lines name f; sends = [] }) (sym e)
+unnumbered s name p q (sequencer.Preempted by) fault e n = ap (λ f. record { state = s; lines = fault_lines name f; sends = [] }) (sym e)
+unnumbered s name p q sequencer.EpochFull fault e n = ap (λ f. record { state = s; lines = fault_lines name f; sends = [] }) (sym e)
+unnumbered s name p q sequencer.WindowFull fault e n = ap (λ f. record { state = s; lines = fault_lines name f; sends = [] }) (sym e)
+unnumbered s name p q sequencer.Numbered fault e n = absurd (n e)
 
 untrimmed : (b : Bool) (s : State) (name : List ℕ) (released : ℕ) (d : Done) (fault : SequencerFault) → fault ≡ (if b then faults.PastReleased released else faults.NoMemory) → (fault ≡ faults.NoMemory → ⊥)
     → (if b then with_line s (lines.RefusedPast name released) else d) ≡ record { state = s; lines = fault_lines name fault; sends = [] }
@@ -103,8 +106,9 @@ module _ (c : Config) (s : State) (name : List ℕ) (k : Client) (h : IsNamed c 
   shown_now : (g : Client) (x : Sequencer) → g.dropped ≡ false → g.sequencer.sequencer ≡ x → shown g ≡ x
   shown_now g x e p = ap (λ b. if b then step.dropped g.sequencer.sequencer else g.sequencer.sequencer) e ∙ p
 
-  spec_is : spec_in q.log c.logs ≡ k.sequencer.spec
-  spec_is = sym h.knows.spec
+  -- looks show the same to the machine
+  looks_are : (λ e. looks_at c s.register q.log e) ≡ looks_of k.sequencer s.register
+  looks_are = ap (λ (x : Spec). λ e. look x s.register q.log e) (sym h.knows.first)
 
   -- ---- a drop ----
 
@@ -120,18 +124,18 @@ module _ (c : Config) (s : State) (name : List ℕ) (k : Client) (h : IsNamed c 
     -- ---- an append ----
 
     pub append_refused : (g : Client) (p : List ℕ) (fault : SequencerFault) (o : Outcome) → g ≡ k → fault ≡ append_fault (length p) (appending q p) → (fault ≡ faults.NoMemory → ⊥)
-        → o.lines.items ≡ fault_lines name fault → o.sends ≡ [] → HasActed s name g o (Stays s) (step.on_live s (Some (shown k)) (λ x. step.append_done c s name x p (appending x p)))
-    append_refused g p fault o e f n ls ms = lines_done g o _ (fault_lines name fault) e (live_row (λ x. step.append_done c s name x p (appending x p)) live ∙ unnumbered c s name p q (appending q p) fault f n) ls ms
+        → o.lines.items ≡ fault_lines name fault → o.sends ≡ [] → HasActed s name g o (Stays s) (step.on_live s (Some (shown k)) (λ x. step.append_done s name x p (appending x p)))
+    append_refused g p fault o e f n ls ms = lines_done g o _ (fault_lines name fault) e (live_row (λ x. step.append_done s name x p (appending x p)) live ∙ unnumbered s name p q (appending q p) fault f n) ls ms
 
     pub append_done : (g : Client) (p own : List ℕ) (number : ℕ) (o : Outcome) → g.dropped ≡ false → g.sequencer ≡ as_now k.sequencer (appended q p) → appending q p ≡ sequencer.Numbered → own ≡ name → number ≡ numbered q.epoch (next_esn q)
-        → o.lines.items ≡ lines.Appended own number ∷ [] → o.sends ≡ sent_as k.sequencer (first_stores k.sequencer.spec q p) → HasActed s name g o (Stays s) (step.on_live s (Some (shown k)) (λ x. step.append_done c s name x p (appending x p)))
-    append_done g p own number o e v n u m ls ms = acted_as g o (Stays s) _ (step.append_done c s name q p sequencer.Numbered)
-        (live_row (λ x. step.append_done c s name x p (appending x p)) live ∙ ap (step.append_done c s name q p) n)
+        → o.lines.items ≡ lines.Appended own number ∷ [] → o.sends ≡ sent_as k.sequencer (first_stores q p) → HasActed s name g o (Stays s) (step.on_live s (Some (shown k)) (λ x. step.append_done s name x p (appending x p)))
+    append_done g p own number o e v n u m ls ms = acted_as g o (Stays s) _ (step.append_done s name q p sequencer.Numbered)
+        (live_row (λ x. step.append_done s name x p (appending x p)) live ∙ ap (step.append_done s name q p) n)
         record {
           state = ap (λ x. with_sequencer s name x) (sym (shown_now g (appended q p) e (ap (λ (x : Whole). x.sequencer) v)));
           register = refl;
           lines = ls ∙ (λ i. lines.Appended (u i) (m i) ∷ []);
-          sends = ms ∙ ap (λ (x : Spec). posted (whos.Sequencer q.epoch) q.log (first_stores x q p)) h.knows.spec;
+          sends = ms;
         }
 
     -- ---- a trim ----
@@ -141,28 +145,25 @@ module _ (c : Config) (s : State) (name : List ℕ) (k : Client) (h : IsNamed c 
     trim_refused point fault o f n ls ms = lines_done k o _ (fault_lines name fault) refl (live_row (λ x. step.trim_done c s name x point) live ∙ untrimmed (nat_lt (released_of q) point) s name (released_of q) _ fault f n) ls ms
 
     pub trim_done : (point : ℕ) (own : List ℕ) (o : Outcome) → point ≤ released_of q → own ≡ name
-        → o.lines.items ≡ lines.Trimmed own point ∷ [] → o.sends ≡ sent_as k.sequencer (to_each (bodies.Trim point) (nodes_of k.sequencer.spec)) → HasActed s name k o (Stays s) (step.on_live s (Some (shown k)) (λ x. step.trim_done c s name x point))
+        → o.lines.items ≡ lines.Trimmed own point ∷ [] → o.sends ≡ sent_as k.sequencer (to_each (bodies.Trim point) (members k.sequencer.origin.nodes)) → HasActed s name k o (Stays s) (step.on_live s (Some (shown k)) (λ x. step.trim_done c s name x point))
     trim_done point own o l u ls ms = acted_as k o (Stays s) _ _ (live_row (λ x. step.trim_done c s name x point) live ∙ if_not (nat_lt (released_of q) point) _ _ (le-ltb (released_of q) point l))
         record {
           state = quiet k refl;
           register = refl;
           lines = ls ∙ ap (λ x. lines.Trimmed x point ∷ []) u;
-          sends = ms ∙ ap (λ (x : Spec). posted (whos.Sequencer q.epoch) q.log (to_each (bodies.Trim point) (nodes_of x))) h.knows.spec;
+          sends = ms ∙ ap (λ (x : List Bool). posted (whos.Sequencer q.epoch) q.log (to_each (bodies.Trim point) (members x))) h.knows.nodes;
         }
 
     -- ---- a reply or a retry ----
 
-    abbrev told_by : Spec → Called → Done
-    told_by p x = record { state = with_register (with_sequencer s name x.acts.sequencer) x.register; lines = step.acted_lines name q x.acts; sends = posted (whos.Sequencer q.epoch) q.log (acted_messages p q x.acts) }
-
-    told_done : (g : Client) (r : Report) (old new : List Msg) (a : Acts) (o : Outcome) (told : Register → Type 0) (d : Done) → d ≡ told_by k.sequencer.spec (called_by k.sequencer s.register a) → g.dropped ≡ false
+    told_done : (g : Client) (r : Report) (old new : List Msg) (a : Acts) (o : Outcome) (told : Register → Type 0) (d : Done) → d ≡ step.told s name q (called_by k.sequencer s.register a) → g.dropped ≡ false
         → Acted k.sequencer g.sequencer r old new (called_by k.sequencer s.register a).acts → told (called_by k.sequencer s.register a).register → old ≡ [] → o.lines.items ≡ report_lines name r → o.sends ≡ new → HasActed s name g o told d
     told_done g r old new a o told d e live_now t u b ls ms = acted_as g o told d _ e
         record {
           state = ap (λ x. with_register (with_sequencer s name x) (called_by k.sequencer s.register a).register) (sym (shown_now g (called_by k.sequencer s.register a).acts.sequencer live_now (ap (λ (x : Whole). x.sequencer) t.now)));
           register = u;
           lines = ls ∙ told_as name k.sequencer g.sequencer r old new (called_by k.sequencer s.register a).acts t;
-          sends = ms ∙ (t.sent ∙ ap (λ x. x ++ sent_as k.sequencer (acted_messages k.sequencer.spec q (called_by k.sequencer s.register a).acts)) b);
+          sends = ms ∙ (t.sent ∙ ap (λ x. x ++ sent_as k.sequencer (acted_messages q (called_by k.sequencer s.register a).acts)) b);
         }
 
     crowded : (r : Result Report SequencerFault) (fault : SequencerFault) (T : Type 0) → r ≡ Err fault → (r ≢ Err faults.NoMemory) → is_crowded s.register k.sequencer.sequencer.log ≡ false
@@ -170,59 +171,86 @@ module _ (c : Config) (s : State) (name : List ℕ) (k : Client) (h : IsNamed c 
     crowded r fault T e n room (inl m) = n (e ∙ ap (λ (f : SequencerFault). Err f) m)
     crowded r fault T e n room (inr x) = let f = sym room ∙ x.1 in absurd cc
 
-    answered_done : (r : Result Report SequencerFault) (g : Client) (old new : List Msg) (a : Acts) (o : Outcome) (told : Register → Type 0) (d : Done) → d ≡ told_by k.sequencer.spec (called_by k.sequencer s.register a) → g.dropped ≡ false
+    answered_done : (r : Result Report SequencerFault) (g : Client) (old new : List Msg) (a : Acts) (o : Outcome) (told : Register → Type 0) (d : Done) → d ≡ step.told s name q (called_by k.sequencer s.register a) → g.dropped ≡ false
         → IfOk r (λ report. Acted k.sequencer g.sequencer report old new (called_by k.sequencer s.register a).acts × told (called_by k.sequencer s.register a).register)
         → IfErr r (λ fault. (fault ≡ faults.NoMemory) ⊎ ((fault ≡ faults.Register registers.LogLimit) × (is_crowded s.register k.sequencer.sequencer.log ≡ true) × told s.register))
         → (r ≢ Err faults.NoMemory) → is_crowded s.register k.sequencer.sequencer.log ≡ false → old ≡ [] → o.lines.items ≡ told_lines name r → o.sends ≡ new → HasActed s name g o told d
     answered_done (Ok report) g old new a o told d e n t x m room b ls ms = told_done g report old new a o told d e n t.0 t.1 b ls ms
     answered_done (Err fault) g old new a o told d e n t x m room b ls ms = absurd (crowded (Err fault) fault (told s.register) refl m room x)
 
-    retry_row : step.on_live s (Some (shown k)) (λ x. step.acted c s name x (on_retry (spec_in x.log c.logs) x)) ≡ told_by k.sequencer.spec (called_by k.sequencer s.register (retry_acts k.sequencer))
-    retry_row = live_row (λ x. step.acted c s name x (on_retry (spec_in x.log c.logs) x)) live
-        ∙ ap (λ (p : Spec). told_by p (called p s.register (on_retry p q) (on_retry p q).tries)) spec_is
+    retry_row : step.on_live s (Some (shown k)) (λ x. step.acted c s name x (on_retry x)) ≡ step.told s name q (called_by k.sequencer s.register (retry_acts k.sequencer))
+    retry_row = live_row (λ x. step.acted c s name x (on_retry x)) live
+        ∙ ap (λ (f : ℕ → View). step.told s name q (called f s.register (on_retry q) (on_retry q).tries)) looks_are
 
-    reply_row : (m : Msg) → step.to_live c s name (shown k) m ≡ told_by k.sequencer.spec (called_by k.sequencer s.register (reply_acts k.sequencer m.from m.body))
-    reply_row m = live_row (λ x. step.acted c s name x (on_reply (spec_in x.log c.logs) x (step.sender_node m.from) m.body)) live
-        ∙ (λ i. told_by (spec_is i) (called (spec_is i) s.register (on_reply (spec_is i) q (sender_is m.from i) m.body) (on_reply (spec_is i) q (sender_is m.from i) m.body).tries))
+    -- what the message does by the register
+    abbrev replied : Msg → Acts
+    replied m = reply_acts (looks_of k.sequencer s.register) k.sequencer m.from m.body
+
+    reply_row : (m : Msg) → step.to_live c s name (shown k) m ≡ step.told s name q (called_by k.sequencer s.register (replied m))
+    reply_row m = live_row (λ x. step.acted c s name x (on_reply (λ e. looks_at c s.register x.log e) x (step.sender_node m.from) m.body)) live
+        ∙ (λ i. step.told s name q (called (looks_are i) s.register (on_reply (looks_are i) q (sender_is m.from i) m.body) (on_reply (looks_are i) q (sender_is m.from i) m.body).tries))
 
     pub retry_done : (r : Result Report SequencerFault) (g : Client) (old new : List Msg) (o : Outcome) (told : Register → Type 0) → g.dropped ≡ false
         → IfOk r (λ report. Acted k.sequencer g.sequencer report old new (called_by k.sequencer s.register (retry_acts k.sequencer)).acts × told (called_by k.sequencer s.register (retry_acts k.sequencer)).register)
         → IfErr r (λ fault. (fault ≡ faults.NoMemory) ⊎ ((fault ≡ faults.Register registers.LogLimit) × (is_crowded s.register k.sequencer.sequencer.log ≡ true) × told s.register))
         → (r ≢ Err faults.NoMemory) → is_crowded s.register k.sequencer.sequencer.log ≡ false → old ≡ [] → o.lines.items ≡ told_lines name r → o.sends ≡ new
-        → HasActed s name g o told (step.on_live s (Some (shown k)) (λ x. step.acted c s name x (on_retry (spec_in x.log c.logs) x)))
+        → HasActed s name g o told (step.on_live s (Some (shown k)) (λ x. step.acted c s name x (on_retry x)))
     retry_done r g old new o told n t x m room b ls ms = answered_done r g old new (retry_acts k.sequencer) o told _ retry_row n t x m room b ls ms
 
     pub reply_done : (m : Msg) (r : Result Report SequencerFault) (g : Client) (old new : List Msg) (o : Outcome) (told : Register → Type 0) → g.dropped ≡ false
-        → IfOk r (λ report. Acted k.sequencer g.sequencer report old new (called_by k.sequencer s.register (reply_acts k.sequencer m.from m.body)).acts × told (called_by k.sequencer s.register (reply_acts k.sequencer m.from m.body)).register)
+        → IfOk r (λ report. Acted k.sequencer g.sequencer report old new (called_by k.sequencer s.register (replied m)).acts × told (called_by k.sequencer s.register (replied m)).register)
         → IfErr r (λ fault. (fault ≡ faults.NoMemory) ⊎ ((fault ≡ faults.Register registers.LogLimit) × (is_crowded s.register k.sequencer.sequencer.log ≡ true) × told s.register))
         → (r ≢ Err faults.NoMemory) → is_crowded s.register k.sequencer.sequencer.log ≡ false → old ≡ [] → o.lines.items ≡ told_lines name r → o.sends ≡ new
         → HasActed s name g o told (step.to_live c s name (shown k) m)
-    reply_done m r g old new o told n t x f room b ls ms = answered_done r g old new (reply_acts k.sequencer m.from m.body) o told _ (reply_row m) n t x f room b ls ms
+    reply_done m r g old new o told n t x f room b ls ms = answered_done r g old new (replied m) o told _ (reply_row m) n t x f room b ls ms
 
 -- ---- the same sequencer after a call ----
 
 goes_as : (k g : Client) (x : Sequencer) → g.dropped ≡ k.dropped → g.sequencer ≡ as_now k.sequencer x → Same k.sequencer.sequencer x → GoesOn k g
 goes_as k g x d e m = record {
-  spec = ap (λ (y : Whole). y.spec) e;
+  origin = ap (λ (y : Whole). y.origin) e;
+  spec = ap (λ (y : Whole). y.sequencer.spec) e ∙ m.spec;
   log = ap (λ (y : Whole). y.sequencer.log) e ∙ m.log;
   epoch = ap (λ (y : Whole). y.sequencer.epoch) e ∙ m.epoch;
   gone = ap (λ (y : Whole). y.sequencer.gone) e ∙ m.gone;
   dropped = d;
 }
 
+-- with what looks show and what the register answers to a close
+answered_goes : (k g : Client) (looks : ℕ → View) (a : Acts) (d : Answer) (report : Report) (old new : List Msg) → g.dropped ≡ k.dropped → Same k.sequencer.sequencer a.sequencer → Acted k.sequencer g.sequencer report old new (tried looks a d) → GoesOn k g
+answered_goes k g looks a d report old new e m t = goes_as k g (tried looks a d).sequencer e t.now (same_after k.sequencer.sequencer a.sequencer (tried looks a d).sequencer m (same_tried looks a d a.tries))
+
 refused_goes : (k g : Client) (fault : SequencerFault) (r : Result Report SequencerFault) (old new : List Msg) (a : Acts) → r ≡ Err fault → (r ≢ Err faults.NoMemory) → g.dropped ≡ k.dropped → Same k.sequencer.sequencer a.sequencer → IsRefused k.sequencer g.sequencer fault old new a → GoesOn k g
 refused_goes k g fault r old new a e n d m (inl f) = absurd (n (e ∙ ap (λ (x : SequencerFault). Err x) f))
 refused_goes k g fault r old new a e n d m (inr u) = goes_as k g a.sequencer d u.now m
 
-pub answered_goes : (k g : Client) (r : Result Report SequencerFault) (old new : List Msg) (a : Acts) → Same k.sequencer.sequencer a.sequencer → g.dropped ≡ k.dropped
-    → IfOk r (λ report. (d : Answer) × Acted k.sequencer g.sequencer report old new (tried k.sequencer a d))
-    → IfErr r (λ fault. IsRefused k.sequencer g.sequencer fault old new a) → (r ≢ Err faults.NoMemory) → GoesOn k g
-answered_goes k g (Ok report) old new a m d t x n = goes_as k g (tried k.sequencer a t.0).sequencer d t.1.now
-    (same_after k.sequencer.sequencer a.sequencer (tried k.sequencer a t.0).sequencer m (same_tried k.sequencer.spec a t.0 a.tries))
-answered_goes k g (Err fault) old new a m d t x n = refused_goes k g fault (Err fault) old new a refl n d m x
+pub retried_goes : (k g : Client) (r : Result Report SequencerFault) (old new : List Msg) → g.dropped ≡ k.dropped
+    → IfOk r (λ report. (s : Spec) × IsSpecFor k.sequencer.sequencer.log s × (d : Answer) × Acted k.sequencer g.sequencer report old new (tried (shows s) (retry_acts k.sequencer) d))
+    → IfErr r (λ fault. IsRefused k.sequencer g.sequencer fault old new (retry_acts k.sequencer)) → (r ≢ Err faults.NoMemory) → GoesOn k g
+retried_goes k g (Ok report) old new e t x n = answered_goes k g (shows t.0) (retry_acts k.sequencer) t.2 report old new e (same_on_retry k.sequencer.sequencer) t.3
+retried_goes k g (Err fault) old new e t x n = refused_goes k g fault (Err fault) old new (retry_acts k.sequencer) refl n e (same_on_retry k.sequencer.sequencer) x
+
+unheard_goes : (k g : Client) (fault : SequencerFault) (r : Result Report SequencerFault) (old new : List Msg) (w : Who) (b : Body) → r ≡ Err fault → (r ≢ Err faults.NoMemory) → g.dropped ≡ k.dropped
+    → Unseen k.sequencer g.sequencer fault old new b ⊎ ((looks : ℕ → View) → IsRefused k.sequencer g.sequencer fault old new (reply_acts looks k.sequencer w b)) → GoesOn k g
+unheard_goes k g fault r old new w b e n d (inl u) = goes_as k g k.sequencer.sequencer d u.now (itself k.sequencer.sequencer)
+unheard_goes k g fault r old new w b e n d (inr f) = let looks : ℕ → View = shows k.sequencer.sequencer.spec in
+    refused_goes k g fault r old new (reply_acts looks k.sequencer w b) e n d (same_on_reply looks k.sequencer.sequencer (sender_of w) b) (f looks)
+
+pub replied_goes : (k g : Client) (r : Result Report SequencerFault) (old new : List Msg) (w : Who) (b : Body) → g.dropped ≡ k.dropped
+    → IfOk r (λ report. (s : Spec) × IsSpecFor k.sequencer.sequencer.log s × (d : Answer) × Acted k.sequencer g.sequencer report old new (tried (shows s) (reply_acts (shows s) k.sequencer w b) d))
+    → IfErr r (λ fault. Unseen k.sequencer g.sequencer fault old new b ⊎ ((looks : ℕ → View) → IsRefused k.sequencer g.sequencer fault old new (reply_acts looks k.sequencer w b))) → (r ≢ Err faults.NoMemory) → GoesOn k g
+replied_goes k g (Ok report) old new w b e t x n = answered_goes k g (shows t.0) (reply_acts (shows t.0) k.sequencer w b) t.2 report old new e (same_on_reply (shows t.0) k.sequencer.sequencer (sender_of w) b) t.3
+replied_goes k g (Err fault) old new w b e t x n = unheard_goes k g fault (Err fault) old new w b refl n e x
 
 pub appended_goes : (k g : Client) (p : List ℕ) → g.dropped ≡ k.dropped → g.sequencer ≡ as_now k.sequencer (appended k.sequencer.sequencer p) → GoesOn k g
-appended_goes k g p d e = goes_as k g (appended k.sequencer.sequencer p) d e record { log = refl; epoch = refl; gone = refl }
+appended_goes k g p d e = goes_as k g (appended k.sequencer.sequencer p) d e record { log = refl; epoch = refl; spec = refl; gone = refl }
 
 pub same_goes : (k g : Client) → g ≡ k → GoesOn k g
-same_goes k g e = record { spec = ap (λ (x : Client). x.sequencer.spec) e; log = ap (λ (x : Client). x.sequencer.sequencer.log) e; epoch = ap (λ (x : Client). x.sequencer.sequencer.epoch) e; gone = ap (λ (x : Client). x.sequencer.sequencer.gone) e; dropped = ap (λ (x : Client). x.dropped) e }
+same_goes k g e = record {
+  origin = ap (λ (x : Client). x.sequencer.origin) e;
+  spec = ap (λ (x : Client). x.sequencer.sequencer.spec) e;
+  log = ap (λ (x : Client). x.sequencer.sequencer.log) e;
+  epoch = ap (λ (x : Client). x.sequencer.sequencer.epoch) e;
+  gone = ap (λ (x : Client). x.sequencer.sequencer.gone) e;
+  dropped = ap (λ (x : Client). x.dropped) e;
+}

@@ -1,5 +1,6 @@
 -- Readers by name: their numbers are their places, and each keeps its log.
-use Rattle.std.proofs.Common.{◌≡◌, ℕ, zero, suc, ◌+◌, Bool, true, false, ◌==◌, List, [], ◌∷◌, ◌++◌, length, slice_get, Option, Some, None, option_map, refl, ap, sym, ◌∙◌, subst, arith, cond, if◌then◌else◌}
+use Rattle.std.proofs.Common.{◌≡◌, ℕ, zero, suc, ◌+◌, Bool, true, false, ◌==◌, List, [], ◌∷◌, ◌++◌, length, slice_get, Option, Some, None, option_map, Ok, Err, IfOk, OnOk, OnErr, refl, ap, sym, ◌∙◌, subst, arith, cond, if◌then◌else◌}
+use Rattle.std.specs.declared.result.Result.{Result}
 use Rattle.std.proofs.lemmas.Bool.{eq-eqb, ne_eqb}
 use Rattle.ld_table.specs.Named.{same, find_named, put_named}
 use Rattle.ld_table.specs.Words.{numbers_from}
@@ -7,14 +8,17 @@ use Rattle.ld_msg.specs.declared.msg.Who.{Who}
 use Rattle.ld_msg.specs.declared.msg.Who.TheVariants as whos
 use Rattle.ld_msg.specs.declared.msg.Msg.{Msg}
 use Rattle.ld_msg.specs.declared.msg.Body.{Body}
-use Rattle.ld_ids.specs.Choice.{nodes_of}
 use Rattle.ld_ids.specs.declared.set.Spec.{Spec}
 use Rattle.ld_config.specs.declared.config.Config.{Config}
-use Rattle.ld_msg.specs.Reading.{Verdict, Gives, Confirms, NotYet, LossHere}
+use Rattle.ld_msg.specs.Register.{View}
+use Rattle.ld_msg.specs.Reading.{Item, Verdict, Gives, Confirms, NotYet, LossHere}
 use Rattle.ld_msg.specs.Reader.{opened, Reader, Read, gives, confirms, gives_all, verdict, heard, loses, polled, asks_on, most_items, on_answer, is_confirmed, is_finished}
 use Rattle.ld_machine.specs.State.{reader_of, name_of}
-use Rattle.ld_machine.specs.Config.{spec_in}
-use Rattle.ld_reader.specs.Following.{Following, replied, answered, asked, with_reader}
+use Rattle.ld_machine.specs.Config.{first_spec}
+use Rattle.ld_reader.specs.Looks.{AreLooks}
+use Rattle.ld_reader.specs.Following.{Following, replied, answered, asked, HasDone}
+use Rattle.ld_reader.specs.declared.fault.ReaderFault.{ReaderFault}
+use Rattle.ld_clients.specs.Reads.{HasRead}
 use Rattle.ld_clients.specs.Followers.{readers_of, reader_in, numbers_in, AreNumbered, Knows, KnowTheirLogs}
 use Rattle.ld_clients.proofs.Names.{all_put, found_name}
 use Rattle.ld_clients.proofs.Logs.{spec_log}
@@ -112,74 +116,87 @@ numbered_new name g fs e h a = let start : length fs ≡ 0 + length fs = omega a
 
 -- ---- what an answer leaves ----
 
-pub record Stays (d e : Reader) : Type 0 where
+pub record Remains (d e : Reader) : Type 0 where
   pub log : e.log ≡ d.log
   pub number : e.number ≡ d.number
   pub until : e.until ≡ d.until
 
-stays_if : (b : Bool) (d e f : Reader) → Stays d e → Stays d f → Stays d (if b then e else f)
-stays_if true d e f h k = h
-stays_if false d e f h k = k
+remains_if : (b : Bool) (d e f : Reader) → Remains d e → Remains d f → Remains d (if b then e else f)
+remains_if true d e f h k = h
+remains_if false d e f h k = k
 
-stays_on : (k : ℕ) (set : List ℕ) (a : Read) (v : Verdict) (d : Reader) → Stays d a.reader → ((b : Read) → Stays d b.reader → Stays d (gives_all k set b).reader)
-    → Stays d (elim v as (λ _. Read) [ Gives i ↦ gives_all k set (gives a i) | Confirms lost ↦ confirms a lost | NotYet ↦ a ]).reader
-stays_on k set a (Gives i) d h ih = ih (gives a i) record { log = h.log; number = h.number; until = h.until }
-stays_on k set a (Confirms lost) d h ih = record { log = h.log; number = h.number; until = h.until }
-stays_on k set a NotYet d h ih = h
+remains_on : (k : ℕ) (looks : ℕ → View) (a : Read) (v : Verdict) (d : Reader) → Remains d a.reader → ((b : Read) → Remains d b.reader → Remains d (gives_all k looks b).reader)
+    → Remains d (elim v as (λ _. Read) [ Gives i ↦ gives_all k looks (gives a i) | Confirms lost ↦ confirms looks a lost | NotYet ↦ a ]).reader
+remains_on k looks a (Gives i) d h ih = ih (gives a i) record { log = h.log; number = h.number; until = h.until }
+remains_on k looks a (Confirms lost) d h ih = record { log = h.log; number = h.number; until = h.until }
+remains_on k looks a NotYet d h ih = h
 
-stays_all : (k : ℕ) (set : List ℕ) (a : Read) (d : Reader) → Stays d a.reader → Stays d (gives_all k set a).reader
-stays_all zero set a d h = h
-stays_all (suc k) set a d h = stays_on k set a (verdict set a.reader) d h (λ b g. stays_all k set b d g)
+remains_all : (k : ℕ) (looks : ℕ → View) (a : Read) (d : Reader) → Remains d a.reader → Remains d (gives_all k looks a).reader
+remains_all zero looks a d h = h
+remains_all (suc k) looks a d h = remains_on k looks a (verdict a.reader) d h (λ b g. remains_all k looks b d g)
 
-loses_stays : (b : Bool) (d : Reader) → Stays d (if b then gives (record { reader = d; items = []; asks = [] }) LossHere else record { reader = d; items = []; asks = [] }).reader
-loses_stays true d = record { log = refl; number = refl; until = refl }
-loses_stays false d = record { log = refl; number = refl; until = refl }
+loses_remains : (b : Bool) (d : Reader) → Remains d (if b then gives (record { reader = d; items = []; asks = [] }) LossHere else record { reader = d; items = []; asks = [] }).reader
+loses_remains true d = record { log = refl; number = refl; until = refl }
+loses_remains false d = record { log = refl; number = refl; until = refl }
 
-from_heard : (d : Reader) (y : ℕ) (b : Body) (e : Reader) → Stays (heard d y b) e → Stays d e
+from_heard : (d : Reader) (y : ℕ) (b : Body) (e : Reader) → Remains (heard d y b) e → Remains d e
 from_heard d y b e h = record { log = h.log; number = h.number; until = h.until }
 
-pub answer_stays : (set : List ℕ) (d : Reader) (y : ℕ) (b : Body) → Stays d (on_answer set d y b).reader
+pub answer_remains : (looks : ℕ → View) (d : Reader) (y : ℕ) (b : Body) → Remains d (on_answer looks d y b).reader
 unfolding on_answer
-answer_stays set d y b =
+answer_remains looks d y b =
     let k : ℕ = most_items (heard d y b) in
-    let a : Read = gives_all k set (loses (heard d y b)) in
-    let h : Stays d a.reader = from_heard d y b a.reader (stays_all k set (loses (heard d y b)) (heard d y b) (loses_stays (is_confirmed (heard d y b).confirming) (heard d y b))) in
-    stays_if (asks_on a) d (polled a.reader) a.reader record { log = h.log; number = h.number; until = h.until } h
+    let a : Read = gives_all k looks (loses (heard d y b)) in
+    let h : Remains d a.reader = from_heard d y b a.reader (remains_all k looks (loses (heard d y b)) (heard d y b) (loses_remains (is_confirmed (heard d y b).confirming) (heard d y b))) in
+    remains_if (asks_on a) d (polled looks a.reader) a.reader record { log = h.log; number = h.number; until = h.until } h
 
-nothing_or : (b : Bool) (d : Reader) (a r : Read) → Stays d a.reader → Stays d r.reader → Stays d (if b then a else r).reader
+nothing_or : (b : Bool) (d : Reader) (a r : Read) → Remains d a.reader → Remains d r.reader → Remains d (if b then a else r).reader
 nothing_or true d a r h k = h
 nothing_or false d a r h k = k
 
-who_stays : (set : List ℕ) (d : Reader) (w : Who) (b : Body) → Stays d (answered set d w b).reader
-who_stays set d (whos.Node y) b = nothing_or (is_finished d) d _ (on_answer set d y b) record { log = refl; number = refl; until = refl } (answer_stays set d y b)
-who_stays set d (whos.Sequencer e) b = record { log = refl; number = refl; until = refl }
-who_stays set d (whos.Reader r) b = record { log = refl; number = refl; until = refl }
+who_remains : (looks : ℕ → View) (d : Reader) (w : Who) (b : Body) → Remains d (answered looks d w b).reader
+who_remains looks d (whos.Node y) b = nothing_or (is_finished d) d _ (on_answer looks d y b) record { log = refl; number = refl; until = refl } (answer_remains looks d y b)
+who_remains looks d (whos.Sequencer e) b = record { log = refl; number = refl; until = refl }
+who_remains looks d (whos.Reader r) b = record { log = refl; number = refl; until = refl }
 
-pub reply_stays : (f : Following) (m : Msg) → Stays f.reader (replied f m).reader
-reply_stays f m = who_stays (nodes_of f.spec) f.reader m.from m.body
+reply_remains : (looks : ℕ → View) (f : Following) (m : Msg) → Remains f.reader (replied looks f m).reader
+reply_remains looks f m = who_remains looks f.reader m.from m.body
 
-pub ask_stays : (f : Following) → Stays f.reader (asked f.reader)
-ask_stays f = stays_if (is_finished f.reader) f.reader f.reader (polled f.reader) record { log = refl; number = refl; until = refl } record { log = refl; number = refl; until = refl }
+ask_remains : (looks : ℕ → View) (f : Following) → Remains f.reader (asked looks f.reader).reader
+ask_remains looks f = remains_if (is_finished f.reader) f.reader f.reader (polled looks f.reader) record { log = refl; number = refl; until = refl } record { log = refl; number = refl; until = refl }
 
--- ---- what each has said of its log, after a call ----
+-- ---- its number, after a call ----
 
-pub know_asked : (c : Config) (fs : Followers) (name : List ℕ) (f : Following) → find_named name fs ≡ Some f → KnowTheirLogs c fs → KnowTheirLogs c (put_named name (with_reader f (asked f.reader)) fs)
-know_asked c fs name f h k = all_put (Knows c) name (with_reader f (asked f.reader)) fs (k name f h ∙ ap (λ l. spec_in l c.logs) (sym (ask_stays f).log)) k
+number_after : (f g : Following) (items : List (ℕ × Item)) (old new : List Msg) (a : Read) → Remains f.reader a.reader → HasDone f g items old new a → g.reader.number ≡ f.reader.number
+number_after f g items old new a r h = ap (λ (x : Following). x.reader.number) h.reader ∙ r.number
 
-pub know_replied : (c : Config) (fs : Followers) (name : List ℕ) (f : Following) (m : Msg) → find_named name fs ≡ Some f → KnowTheirLogs c fs → KnowTheirLogs c (put_named name (with_reader f (replied f m).reader) fs)
-know_replied c fs name f m h k = all_put (Knows c) name (with_reader f (replied f m).reader) fs (k name f h ∙ ap (λ l. spec_in l c.logs) (sym (reply_stays f m).log)) k
+number_same : (f g : Following) → g ≡ f → g.reader.number ≡ f.reader.number
+number_same f g e = ap (λ (x : Following). x.reader.number) e
 
-pub know_polled : (c : Config) (fs gs : Followers) (name : List ℕ) → ((f : Following) → find_named name fs ≡ Some f → gs ≡ put_named name (with_reader f (asked f.reader)) fs) → (find_named name fs ≡ None → gs ≡ fs) → KnowTheirLogs c fs → KnowTheirLogs c gs
-know_polled c fs gs name s n k = elim (find_named name fs) as (λ o. find_named name fs ≡ o → KnowTheirLogs c gs) [
-  | None ↦ λ e. subst (λ x. KnowTheirLogs c x) (sym (n e)) k
-  | Some f ↦ λ e. subst (λ x. KnowTheirLogs c x) (sym (s f e)) (know_asked c fs name f e k)
+pub ask_number : {T : Type 0} (f g : Following) (r : Result T ReaderFault) (old new : List Msg) → OnOk r ((looks : ℕ → View) × AreLooks f looks × HasDone f g [] old new (asked looks f.reader)) → OnErr r (g ≡ f) → g.reader.number ≡ f.reader.number
+ask_number f g (Ok x) old new h e = number_after f g [] old new (asked h.0 f.reader) (ask_remains h.0 f) h.2
+ask_number f g (Err x) old new h e = number_same f g e
+
+pub reply_number : (f g : Following) (m : Msg) (r : Result (List (ℕ × Item)) ReaderFault) (old new : List Msg) → IfOk r (λ items. (looks : ℕ → View) × AreLooks f looks × HasDone f g items old new (replied looks f m)) → OnErr r (g ≡ f) → g.reader.number ≡ f.reader.number
+reply_number f g m (Ok items) old new h e = number_after f g items old new (replied h.0 f m) (reply_remains h.0 f m) h.2
+reply_number f g m (Err x) old new h e = number_same f g e
+
+-- ---- what each has of its log, after a call ----
+
+know_done : (c : Config) (fs gs : Followers) (name : List ℕ) (f : Following) (items : List (ℕ × Item)) (old new : List Msg) (a : Read) → Remains f.reader a.reader → find_named name fs ≡ Some f → HasRead name f fs gs items old new a → KnowTheirLogs c fs → KnowTheirLogs c gs
+know_done c fs gs name f items old new a r e h k = subst (KnowTheirLogs c) (sym h.readers) (all_put (Knows c) name h.now fs (subst (Knows c) (sym h.done.reader) (k name f e ∙ ap (first_spec c) (sym r.log))) k)
+
+pub know_polled : (c : Config) (fs gs : Followers) (name : List ℕ) (old new : List Msg) → ((f : Following) → find_named name fs ≡ Some f → (looks : ℕ → View) × HasRead name f fs gs [] old new (asked looks f.reader)) → (find_named name fs ≡ None → gs ≡ fs) → KnowTheirLogs c fs → KnowTheirLogs c gs
+know_polled c fs gs name old new s n k = elim (find_named name fs) as (λ o. find_named name fs ≡ o → KnowTheirLogs c gs) [
+  | None ↦ λ e. subst (KnowTheirLogs c) (sym (n e)) k
+  | Some f ↦ λ e. let t = s f e in know_done c fs gs name f [] old new (asked t.0 f.reader) (ask_remains t.0 f) e t.1 k
 ] refl
 
-pub know_read : (c : Config) (fs gs : Followers) (m : Msg) (number : ℕ) (found name : List ℕ) → Some found ≡ option_map (λ e. e.0) (reader_in number fs) → name ≡ found → ((e : List ℕ × Following) → reader_in number fs ≡ Some e → find_named e.0 fs ≡ Some e.1)
-    → ((f : Following) → find_named name fs ≡ Some f → gs ≡ put_named name (with_reader f (replied f m).reader) fs) → KnowTheirLogs c fs → KnowTheirLogs c gs
-know_read c fs gs m number found name h n u g k = let p = found_name found name fs (reader_in number fs) h n u in
-    subst (λ x. KnowTheirLogs c x) (sym (g p.0 p.2)) (know_replied c fs name p.0 m p.2 k)
+pub know_read : (c : Config) (fs gs : Followers) (m : Msg) (number : ℕ) (found name : List ℕ) (items : List (ℕ × Item)) (old new : List Msg) → Some found ≡ option_map (λ e. e.0) (reader_in number fs) → name ≡ found → ((e : List ℕ × Following) → reader_in number fs ≡ Some e → find_named e.0 fs ≡ Some e.1)
+    → ((f : Following) → find_named name fs ≡ Some f → (looks : ℕ → View) × HasRead name f fs gs items old new (replied looks f m)) → KnowTheirLogs c fs → KnowTheirLogs c gs
+know_read c fs gs m number found name items old new h n u g k = let p = found_name found name fs (reader_in number fs) h n u in let t = g p.0 p.2 in
+    know_done c fs gs name p.0 items old new (replied t.0 p.0 m) (reply_remains t.0 p.0 m) p.2 t.1 k
 
-pub know_opened : (c : Config) (fs : Followers) (name : List ℕ) (spec : Spec) (f : Following) (l number from until : ℕ) → spec ≡ spec_in l c.logs → f.spec ≡ spec → f.reader ≡ opened spec.log number from until → KnowTheirLogs c fs → KnowTheirLogs c (put_named name f fs)
-know_opened c fs name spec f l number from until s e r k = all_put (Knows c) name f fs
-    (e ∙ (s ∙ ap (λ n. spec_in n c.logs) (sym (ap (λ (d : Reader). d.log) r ∙ (ap (λ (x : Spec). x.log) s ∙ spec_log l c.logs))))) k
+pub know_opened : (c : Config) (fs : Followers) (name : List ℕ) (first : Spec) (f : Following) (l number from until : ℕ) → first ≡ first_spec c l → f.first ≡ first → f.reader ≡ opened first.log number from until → KnowTheirLogs c fs → KnowTheirLogs c (put_named name f fs)
+know_opened c fs name first f l number from until s e r k = all_put (Knows c) name f fs
+    (e ∙ (s ∙ ap (first_spec c) (sym (ap (λ (d : Reader). d.log) r ∙ (ap (λ (x : Spec). x.log) s ∙ spec_log l c.logs))))) k

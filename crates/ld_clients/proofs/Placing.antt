@@ -6,7 +6,6 @@ use Rattle.ld_msg.specs.declared.msg.Msg.{Msg}
 use Rattle.ld_msg.specs.Register.{Register, is_crowded}
 use Rattle.ld_msg.specs.Sequencer.{Sequencer, appending, on_retry}
 use Rattle.ld_config.specs.declared.config.Config.{Config}
-use Rattle.ld_machine.specs.Config.{spec_in}
 use Rattle.ld_machine.specs.State.{State, Done, unchanged, only_state, with_sequencer, sequencer_of}
 use Rattle.ld_machine.specs.Step as step
 use Rattle.ld_clients.specs.declared.client.Client.{Client}
@@ -55,12 +54,12 @@ module _ (c : Config) (s : State) (ks : List (List ℕ × Client)) (a : AreSeque
   module _ (name : List ℕ) (o : Outcome) where
     pub append_nobody : (p : List ℕ) → find_named name ks ≡ None → o.lines.items ≡ [] → o.sends ≡ [] → IsActed s ks o (Stays s) (step.happens c s (events.Append name p))
     unfolding step.happens
-    append_nobody p e ls ms = nobody name (λ q. step.append_done c s name q p (appending q p)) o (Stays s) e refl ls ms
+    append_nobody p e ls ms = nobody name (λ q. step.append_done s name q p (appending q p)) o (Stays s) e refl ls ms
 
     pub append_somebody : (p : List ℕ) (k g : Client) (gs : List (List ℕ × Client)) → find_named name ks ≡ Some k → gs ≡ put_named name g ks
-        → HasActed s name g o (Stays s) (step.on_live s (Some (shown k)) (λ q. step.append_done c s name q p (appending q p))) → IsActed s gs o (Stays s) (step.happens c s (events.Append name p))
+        → HasActed s name g o (Stays s) (step.on_live s (Some (shown k)) (λ q. step.append_done s name q p (appending q p))) → IsActed s gs o (Stays s) (step.happens c s (events.Append name p))
     unfolding step.happens
-    append_somebody p k g gs e q h = somebody name (λ q. step.append_done c s name q p (appending q p)) o (Stays s) k g gs e q h
+    append_somebody p k g gs e q h = somebody name (λ q. step.append_done s name q p (appending q p)) o (Stays s) k g gs e q h
 
     pub trim_nobody : (point : ℕ) → find_named name ks ≡ None → o.lines.items ≡ [] → o.sends ≡ [] → IsActed s ks o (Stays s) (step.happens c s (events.Trim name point))
     unfolding step.happens
@@ -73,12 +72,12 @@ module _ (c : Config) (s : State) (ks : List (List ℕ × Client)) (a : AreSeque
 
     pub retry_nobody : (told : Register → Type 0) → find_named name ks ≡ None → told s.register → o.lines.items ≡ [] → o.sends ≡ [] → IsActed s ks o told (step.happens c s (events.Retry name))
     unfolding step.happens
-    retry_nobody told e t ls ms = nobody name (λ q. step.acted c s name q (on_retry (spec_in q.log c.logs) q)) o told e t ls ms
+    retry_nobody told e t ls ms = nobody name (λ q. step.acted c s name q (on_retry q)) o told e t ls ms
 
     pub retry_somebody : (told : Register → Type 0) (k g : Client) (gs : List (List ℕ × Client)) → find_named name ks ≡ Some k → gs ≡ put_named name g ks
-        → HasActed s name g o told (step.on_live s (Some (shown k)) (λ q. step.acted c s name q (on_retry (spec_in q.log c.logs) q))) → IsActed s gs o told (step.happens c s (events.Retry name))
+        → HasActed s name g o told (step.on_live s (Some (shown k)) (λ q. step.acted c s name q (on_retry q))) → IsActed s gs o told (step.happens c s (events.Retry name))
     unfolding step.happens
-    retry_somebody told k g gs e q h = somebody name (λ q. step.acted c s name q (on_retry (spec_in q.log c.logs) q)) o told k g gs e q h
+    retry_somebody told k g gs e q h = somebody name (λ q. step.acted c s name q (on_retry q)) o told k g gs e q h
 
     pub drop_nobody : find_named name ks ≡ None → o.lines.items ≡ [] → o.sends ≡ [] → IsActed s ks o (Stays s) (step.happens c s (events.Drop name))
     unfolding step.happens

@@ -11,7 +11,7 @@ pub register_line : (name : List ℕ) (f : RegisterFault) → (f ≡ registers.E
 register_line name registers.Failed n = refl
 register_line name (registers.Damaged place) n = refl
 register_line name registers.LogLimit n = refl
-register_line name (registers.Behind lce) n = refl
+register_line name (registers.Behind lce next) n = refl
 register_line name registers.EpochLimit n = absurd (n refl)
 register_line name registers.GenLimit n = refl
 register_line name registers.Full n = refl

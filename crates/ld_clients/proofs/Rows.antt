@@ -1,5 +1,5 @@
 -- Chosen steps.
-use Rattle.std.proofs.Common.{◌≡◌, Bool, true, false, ◌&&◌, Ok, Err, IfOk, refl, if◌then◌else◌}
+use Rattle.std.proofs.Common.{◌≡◌, Bool, true, false, ◌&&◌, Ok, Err, IfOk, OnOk, OnErr, refl, if◌then◌else◌}
 use Rattle.std.specs.declared.result.Result.{Result}
 use Rattle.ld_machine.specs.State.{Done}
 
@@ -26,3 +26,11 @@ and_no false b h = refl
 pub on_ok : {T E : Type 0} (P Q : T → Type 0) (r : Result T E) → ((x : T) → P x → Q x) → IfOk r P → IfOk r Q
 on_ok P Q (Ok x) f h = f x h
 on_ok P Q (Err e) f h = tt
+
+pub on_done : {T E : Type 0} (P Q : Type 0) (r : Result T E) → (P → Q) → OnOk r P → OnOk r Q
+on_done P Q (Ok x) f h = f h
+on_done P Q (Err e) f h = tt
+
+pub on_err : {T E : Type 0} (P Q : Type 0) (r : Result T E) → (P → Q) → OnErr r P → OnErr r Q
+on_err P Q (Ok x) f h = tt
+on_err P Q (Err e) f h = f h

@@ -1,11 +1,13 @@
 -- Sequencers by name.
 use Rattle.std.proofs.Common.{◌≡◌, ℕ, Bool, true, false, ◌&&◌, ◌==◌, List, [], ◌∷◌, Option, Some, None, option_map, refl, ap, sym, ◌∙◌, subst, if◌then◌else◌}
 use Rattle.ld_table.specs.Named.{find_named, put_named}
+use Rattle.ld_ids.specs.declared.set.Spec.{Spec}
 use Rattle.ld_config.specs.declared.config.Config.{Config}
 use Rattle.ld_msg.specs.Sequencer.{Sequencer}
+use Rattle.ld_sequencer.specs.declared.origin.Origin.{Origin}
 use Rattle.ld_machine.specs.State.{sequencer_of, name_of}
 use Rattle.ld_machine.specs.Step.{dropped}
-use Rattle.ld_machine.specs.Config.{spec_in, has_log}
+use Rattle.ld_machine.specs.Config.{first_spec, has_log}
 use Rattle.ld_clients.specs.declared.client.Client.{Client}
 use Rattle.ld_clients.specs.Serving.{shown, sequencers_of, serving_in, IsWhole, GoesOn, AreWhole, Knows, KnowTheirLogs}
 use Rattle.ld_clients.specs.Places.{serves}
@@ -58,10 +60,10 @@ names_are l e ks = names_map (serving_in l e ks) ∙ ap (option_map (λ (x : Lis
 -- ---- what holds of each ----
 
 pub whole_after : (k g : Client) → GoesOn k g → IsWhole k.sequencer → IsWhole g.sequencer
-whole_after k g s w = record { log = s.log ∙ (w.log ∙ ap (λ (x : _). x.log) (sym s.spec)); live = s.gone ∙ w.live }
+whole_after k g s w = record { log = s.log ∙ (w.log ∙ ap (λ (x : Spec). x.log) (sym s.spec)); live = s.gone ∙ w.live }
 
 pub knows_after : (c : Config) (k g : Client) → GoesOn k g → Knows c k.sequencer → Knows c g.sequencer
-knows_after c k g s n = record { spec = s.spec ∙ (n.spec ∙ ap (λ l. spec_in l c.logs) (sym s.log)); there = ap (has_log c) s.log ∙ n.there }
+knows_after c k g s n = record { nodes = ap (λ (x : Origin). x.nodes) s.origin ∙ n.nodes; first = ap (λ (x : Origin). x.first) s.origin ∙ (n.first ∙ ap (first_spec c) (sym s.log)); there = ap (has_log c) s.log ∙ n.there }
 
 pub are_whole_after : (name : List ℕ) (k g : Client) (ks gs : Serving) → find_named name ks ≡ Some k → GoesOn k g → gs ≡ put_named name g ks → AreWhole ks → AreWhole gs
 are_whole_after name k g ks gs f s e w = subst AreWhole (sym e) (all_put (λ (x : Client). IsWhole x.sequencer) name g ks (whole_after k g s (w name k f)) w)

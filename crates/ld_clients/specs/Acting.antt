@@ -13,7 +13,7 @@ use Rattle.ld_clients.specs.Serving.{sequencers_of, shown, KnowTheirLogs, Knows}
 use Rattle.ld_clients.specs.declared.client.Client.{Client}
 use Rattle.ld_clients.specs.declared.outcome.Outcome.{Outcome}
 
--- the state's sequencers are these, and each has what the configuration says of its log
+-- the state's sequencers are these, and each has what the configuration says of its nodes and its log
 pub record AreSequencers (c : Config) (s : State) (ks : List (List ℕ × Client)) : Type 0 where
   pub sequencers : s.sequencers ≡ sequencers_of ks
   pub logs : KnowTheirLogs c ks
@@ -31,7 +31,7 @@ Stays s r = r ≡ s.register
 
 -- ---- one sequencer ----
 
--- the state has it under the name, and what is said of its log is what the configuration says
+-- the state has it under the name, and it has what the configuration says of its nodes and its log
 pub record IsNamed (c : Config) (s : State) (name : List ℕ) (k : Client) : Type 0 where
   pub found : find_named name s.sequencers ≡ Some (shown k)
   pub knows : Knows c k.sequencer

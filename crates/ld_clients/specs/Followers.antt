@@ -1,10 +1,10 @@
--- Readers by name, each with what is said of its log.
+-- Readers by name, each with the first nodes, factor and extras of its log.
 use Rattle.std.specs.Prelude.{ℕ, ◌≡◌, ◌==◌, List, [], ◌∷◌, length, Option, Some, None, if◌then◌else◌}
 use Rattle.ld_table.specs.Words.{numbers_from}
 use Rattle.ld_config.specs.declared.config.Config.{Config}
 use Rattle.ld_msg.specs.Reader.{Reader}
 use Rattle.ld_reader.specs.Following.{Following}
-use Rattle.ld_machine.specs.Config.{spec_in}
+use Rattle.ld_machine.specs.Config.{first_spec}
 use Rattle.ld_clients.specs.Names.{each_as, AllNamed}
 
 -- the readers alone
@@ -24,9 +24,9 @@ numbers_in (f ∷ fs) = f.1.reader.number ∷ numbers_in fs
 abbrev pub AreNumbered : List (List ℕ × Following) → Type 0
 AreNumbered fs = numbers_in fs ≡ numbers_from 0 (length fs)
 
--- what is said of its log is what the configuration says
+-- they are those of the configuration
 abbrev pub Knows : Config → Following → Type 0
-Knows c f = f.spec ≡ spec_in f.reader.log c.logs
+Knows c f = f.first ≡ first_spec c f.reader.log
 
 abbrev pub KnowTheirLogs : Config → List (List ℕ × Following) → Type 0
 KnowTheirLogs c fs = AllNamed (Knows c) fs

@@ -17,7 +17,7 @@ place_in l epoch (k ∷ ks) = if serves l epoch k.1 then Some 0 else option_map 
 abbrev pub kept_place : ℕ → ℕ → List ((ℕ × ℕ) × ℕ) → Option ℕ
 kept_place l epoch m = map.lookup (λ k. (l == k.0) && (epoch == k.1)) m
 
--- each is of the log that is spoken of, and the places that are kept are those of the first of each epoch of each log
+-- what is fixed for the epoch of each is its log's, and the places that are kept are those of the first of each epoch of each log
 pub record AreServed (ks : List (List ℕ × Client)) (m : List ((ℕ × ℕ) × ℕ)) : Type 0 where
   pub whole : AreWhole ks
   pub places : (l epoch : ℕ) → kept_place l epoch m ≡ place_in l epoch ks

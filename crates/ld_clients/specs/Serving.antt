@@ -1,10 +1,10 @@
--- Sequencers by name, each with what is said of its log and whether it was dropped.
+-- Sequencers by name, each with what doesn't change of its log and whether it was dropped.
 use Rattle.std.specs.Prelude.{ℕ, ◌≡◌, ◌==◌, ◌&&◌, true, false, List, [], ◌∷◌, Option, Some, None, if◌then◌else◌}
 use Rattle.ld_config.specs.declared.config.Config.{Config}
 use Rattle.ld_msg.specs.Register.{Register, is_crowded}
 use Rattle.ld_msg.specs.Sequencer.{Sequencer}
 use Rattle.ld_sequencer.specs.Whole.{Whole}
-use Rattle.ld_machine.specs.Config.{spec_in, has_log}
+use Rattle.ld_machine.specs.Config.{first_spec, has_log}
 use Rattle.ld_machine.specs.Step.{dropped}
 use Rattle.ld_clients.specs.Names.{each_as, AllNamed}
 use Rattle.ld_clients.specs.declared.client.Client.{Client}
@@ -22,14 +22,15 @@ abbrev pub serving_in : ℕ → ℕ → List (List ℕ × Client) → Option (Li
 serving_in l epoch [] = None
 serving_in l epoch (k ∷ ks) = if (k.1.sequencer.sequencer.log == l) && (k.1.sequencer.sequencer.epoch == epoch) then Some k else serving_in l epoch ks
 
--- it is of the log that is spoken of
+-- what is fixed for its epoch is its log's
 pub record IsWhole (w : Whole) : Type 0 where
-  pub log : w.sequencer.log ≡ w.spec.log
+  pub log : w.sequencer.log ≡ w.sequencer.spec.log
   pub live : w.sequencer.gone ≡ false
 
 -- it is the same one after a call
 pub record GoesOn (before after : Client) : Type 0 where
-  pub spec : after.sequencer.spec ≡ before.sequencer.spec
+  pub origin : after.sequencer.origin ≡ before.sequencer.origin
+  pub spec : after.sequencer.sequencer.spec ≡ before.sequencer.sequencer.spec
   pub log : after.sequencer.sequencer.log ≡ before.sequencer.sequencer.log
   pub epoch : after.sequencer.sequencer.epoch ≡ before.sequencer.sequencer.epoch
   pub gone : after.sequencer.sequencer.gone ≡ before.sequencer.sequencer.gone
@@ -38,9 +39,10 @@ pub record GoesOn (before after : Client) : Type 0 where
 abbrev pub AreWhole : List (List ℕ × Client) → Type 0
 AreWhole ks = AllNamed (λ k. IsWhole k.sequencer) ks
 
--- what is said of its log is what the configuration says
+-- it tells all nodes of the configuration, and where nothing was fixed the log's first nodes, factor and extras count
 pub record Knows (c : Config) (w : Whole) : Type 0 where
-  pub spec : w.spec ≡ spec_in w.sequencer.log c.logs
+  pub nodes : w.origin.nodes ≡ c.nodes
+  pub first : w.origin.first ≡ first_spec c w.sequencer.log
   pub there : has_log c w.sequencer.log ≡ true
 
 abbrev pub KnowTheirLogs : Config → List (List ℕ × Client) → Type 0

@@ -4,7 +4,6 @@ ghost use Rattle.ld_config.specs.declared.config.Config.{Config as Contents};
 ghost use Rattle.ld_msg.specs.Bounds.{IsMessage};
 ghost use Rattle.ld_msg.specs.Register.{is_crowded};
 ghost use Rattle.ld_msg.specs.Sequencer.{appending, on_retry};
-ghost use Rattle.ld_machine.specs.Config.{spec_in};
 ghost use Rattle.ld_machine.specs.State.{State};
 ghost use Rattle.ld_machine.specs.Step.{on_live, append_done, trim_done, acted, to_live};
 ghost use Rattle.ld_clients.specs.Acting.{IsNamed, HasActed, Stays};
@@ -60,7 +59,7 @@ impl Client {
         requires { IsWhole self.old.sequencer }
         ensures done { IfOk result (λ outcome. (c : Contents) (s : State) → IsNamed c s name.now self.old
             → HasActed s name.now self.new outcome (Stays s)
-            (on_live s (Some (shown self.old)) (λ q. append_done c s name.now q payload.now (appending q payload.now)))) }
+            (on_live s (Some (shown self.old)) (λ q. append_done s name.now q payload.now (appending q payload.now)))) }
         ensures goes_on { GoesOn self.old self.new }
     {
         if self.dropped {
@@ -81,7 +80,7 @@ impl Client {
         }
     }
 
-    /// Tells all nodes of the log that all up to the point may go, or writes why not.
+    /// Tells all nodes of the configuration that all up to the point may go, or writes why not.
     pub(crate) fn trim(&self, alloc: Global, name: &Name, point: Lsn) -> Result<Outcome, NoMemory>
         requires { IsWhole self.now.sequencer }
         ensures { IfOk result (λ outcome. (c : Contents) (s : State) → IsNamed c s name.now self.now
@@ -116,7 +115,7 @@ impl Client {
         ensures done { IfOk result (λ outcome. (c : Contents) (s : State) → IsNamed c s name.now self.old
             → G.tells reg.old s.register → is_crowded s.register self.old.sequencer.sequencer.log ≡ false
             → HasActed s name.now self.new outcome (G.tells reg.new)
-            (on_live s (Some (shown self.old)) (λ q. acted c s name.now q (on_retry (spec_in q.log c.logs) q)))) }
+            (on_live s (Some (shown self.old)) (λ q. acted c s name.now q (on_retry q)))) }
         ensures goes_on { OnOk result (GoesOn self.old self.new) }
     {
         if self.dropped {

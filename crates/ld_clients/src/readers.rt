@@ -1,17 +1,24 @@
 // The readers by name, in the order of their opening.
-ghost use Rattle.std.specs.Prelude.{◌≡◌, is_some, ◌++◌, ℕ, List, [], Some, None, IfOk, OnOk, OnErr, length, option_copied, option_map};
+ghost use Rattle.std.specs.Prelude.{◌≡◌, ◌≤◌, ◌⊎◌, is_some, ℕ, List, [], Some, None, IfOk, IfErr, OnOk, OnErr, IsErrOf, length, option_copied, option_map};
+ghost use Rattle.ld_io.specs.Causes.{Rose};
 ghost use Rattle.ld_table.specs.Named.{find_named, put_named};
-ghost use Rattle.ld_ids.specs.Choice.{nodes_of};
-ghost use Rattle.ld_reader.specs.Following.{Following, messages_from, asked, asks, replied, with_reader};
-ghost use Rattle.ld_reader.specs.Clipped.{all_clipped};
+ghost use Rattle.ld_msg.specs.Register.{Register as Contents, View};
+ghost use Rattle.ld_node_bounds.specs.Messages.{AreMessages};
+ghost use Rattle.ld_register.specs.Calls.{Keeps};
+ghost use Rattle.ld_register.specs.declared.fault.RegisterFault.TheVariants as registers;
+ghost use Rattle.ld_reader.specs.Faults.{IsOfLook};
+ghost use Rattle.ld_reader.specs.Following.{Following, asked, replied};
+ghost use Rattle.ld_reader.specs.Looks.{looks_of};
 ghost use Rattle.ld_machine.specs.State.{reader_of};
 ghost use Rattle.ld_clients.specs.Finished.{finished_in};
 ghost use Rattle.ld_clients.specs.Followers.{reader_in, readers_of};
+ghost use Rattle.ld_clients.specs.Reads.{HasRead};
 
 use indexmap::IndexMap;
 use ld_ids::{Name, NoMemory};
 use ld_msg::{Msg, Outbox};
-use ld_reader::{Items, Reader};
+use ld_reader::{Items, Reader, ReaderFault};
+use ld_register::Register;
 use std::alloc::Global;
 use std::marker::Model;
 
@@ -93,53 +100,69 @@ impl Readers {
         Ok(())
     }
 
-    /// The reader of the name asks all nodes for its next number. Without memory all readers are
-    /// forgotten.
-    pub(crate) fn ask(
+    /// The reader of the name begins a round. One that isn't there does nothing. Where it fails all readers are as they were.
+    pub(crate) fn ask<G: Register>(
         &mut self,
         alloc: Global,
         name: &Name,
+        reg: &mut G,
         sends: &mut Outbox,
-    ) -> Result<(), NoMemory>
-        ensures readers { OnOk result ((f : Following) → find_named name.now self.old ≡ Some f → self.new ≡ put_named name.now (with_reader f (asked f.reader)) self.old) }
-        ensures sends { OnOk result ((f : Following) → find_named name.now self.old ≡ Some f → sends.new ≡ sends.old ++ messages_from f.reader.number f.reader.log (asks (nodes_of f.spec) f.reader)) }
-        ensures none { OnOk result (find_named name.now self.old ≡ None → (self.new ≡ self.old) × (sends.new ≡ sends.old)) }
-        ensures err { OnErr result (self.new ≡ []) }
+    ) -> Result<(), ReaderFault>
+        ensures exact { (f : Following) → find_named name.now self.old ≡ Some f → (c : Contents) → G.tells reg.old c
+            → OnOk result (HasRead name.now f self.old self.new [] sends.old sends.new (asked (looks_of f c) f.reader) × G.tells reg.new c) }
+        ensures acted { (f : Following) → find_named name.now self.old ≡ Some f
+            → OnOk result ((looks : ℕ → View) × HasRead name.now f self.old self.new [] sends.old sends.new (asked looks f.reader)) }
+        ensures none { find_named name.now self.old ≡ None → (self.new ≡ self.old) × (sends.new ≡ sends.old) × ((c : Contents) → G.tells reg.old c → G.tells reg.new c) }
+        ensures foretold { (c : Contents) → G.tells reg.old c → IfErr result (λ fault. fault ≡ ReaderFault.NoMemory) }
+        ensures err { OnErr result (self.new ≡ self.old) }
+        ensures told { G.told reg.old → G.told reg.new }
+        ensures same { (c : Contents) → G.may_hold reg.new c → G.may_hold reg.old c }
+        ensures survives { (cs : List Contents) → G.told reg.old → G.leaves reg.old cs → G.leaves reg.new cs }
+        ensures keeps { IsErrOf result (ReaderFault.Register registers.Failed) ⊎ Keeps (G.holds reg.old) (G.holds reg.new) (G.may_hold reg.old) (G.may_hold reg.new) }
+        ensures failed { IsErrOf result (ReaderFault.Register registers.Failed) → Rose (G.faults reg.old) (G.faults reg.new) }
+        ensures steady { IsErrOf result (ReaderFault.Register registers.Failed) ⊎ (G.faults reg.new ≡ G.faults reg.old) }
+        ensures damaged { (place : ℕ) → IsErrOf result (ReaderFault.Register (registers.Damaged place)) → G.told reg.old → G.damaged reg.old place }
+        ensures refused { IfErr result IsOfLook }
+        ensures counts { G.faults reg.old ≤ G.faults reg.new }
+        ensures itself { G.identity reg.new ≡ G.identity reg.old }
+        ensures messages { AreMessages sends.old → AreMessages sends.new }
     {
         let Some(reader) = self.map.get_mut(name) else {
             return Ok(());
         };
-        match reader.ask(alloc, sends) {
-            Ok(()) => Ok(()),
-            Err(refused) => {
-                self.map.clear();
-                Err(refused)
-            }
-        }
+        reader.ask(alloc, reg, sends)
     }
 
-    /// The reader of the name gets an answer of a node. Without memory all readers are forgotten.
-    pub(crate) fn hear(
+    /// The reader of the name gets an answer of a node. Where it fails all readers are as they were.
+    pub(crate) fn hear<G: Register>(
         &mut self,
         alloc: Global,
         name: &Name,
         msg: &Msg,
+        reg: &mut G,
         sends: &mut Outbox,
-    ) -> Result<Items, NoMemory>
-        ensures readers { OnOk result ((f : Following) → find_named name.now self.old ≡ Some f → self.new ≡ put_named name.now (with_reader f (replied f msg.now).reader) self.old) }
-        ensures items { IfOk result (λ items. (f : Following) → find_named name.now self.old ≡ Some f → items ≡ all_clipped f.reader.until (replied f msg.now).items) }
-        ensures sends { OnOk result ((f : Following) → find_named name.now self.old ≡ Some f → sends.new ≡ sends.old ++ messages_from f.reader.number f.reader.log (replied f msg.now).asks) }
-        ensures err { OnErr result (self.new ≡ []) }
+    ) -> Result<Items, ReaderFault>
+        ensures exact { (f : Following) → find_named name.now self.old ≡ Some f → (c : Contents) → G.tells reg.old c
+            → IfOk result (λ items. HasRead name.now f self.old self.new items sends.old sends.new (replied (looks_of f c) f msg.now) × G.tells reg.new c) }
+        ensures acted { (f : Following) → find_named name.now self.old ≡ Some f
+            → IfOk result (λ items. (looks : ℕ → View) × HasRead name.now f self.old self.new items sends.old sends.new (replied looks f msg.now)) }
+        ensures foretold { (c : Contents) → G.tells reg.old c → IfErr result (λ fault. fault ≡ ReaderFault.NoMemory) }
+        ensures err { OnErr result (self.new ≡ self.old) }
+        ensures told { G.told reg.old → G.told reg.new }
+        ensures same { (c : Contents) → G.may_hold reg.new c → G.may_hold reg.old c }
+        ensures survives { (cs : List Contents) → G.told reg.old → G.leaves reg.old cs → G.leaves reg.new cs }
+        ensures keeps { IsErrOf result (ReaderFault.Register registers.Failed) ⊎ Keeps (G.holds reg.old) (G.holds reg.new) (G.may_hold reg.old) (G.may_hold reg.new) }
+        ensures failed { IsErrOf result (ReaderFault.Register registers.Failed) → Rose (G.faults reg.old) (G.faults reg.new) }
+        ensures steady { IsErrOf result (ReaderFault.Register registers.Failed) ⊎ (G.faults reg.new ≡ G.faults reg.old) }
+        ensures damaged { (place : ℕ) → IsErrOf result (ReaderFault.Register (registers.Damaged place)) → G.told reg.old → G.damaged reg.old place }
+        ensures refused { IfErr result IsOfLook }
+        ensures counts { G.faults reg.old ≤ G.faults reg.new }
+        ensures itself { G.identity reg.new ≡ G.identity reg.old }
+        ensures messages { AreMessages sends.old → AreMessages sends.new }
     {
         let Some(reader) = self.map.get_mut(name) else {
             return Ok(Items::empty(alloc));
         };
-        match reader.on_reply(alloc, msg, sends) {
-            Ok(items) => Ok(items),
-            Err(refused) => {
-                self.map.clear();
-                Err(refused)
-            }
-        }
+        reader.on_reply(alloc, msg, reg, sends)
     }
 }

@@ -1,11 +1,18 @@
 // What the calls of readers write and send.
-ghost use Rattle.std.specs.Prelude.{◌≡◌, ◌==◌, ◌||◌, nat_lt, IfOk};
+ghost use Rattle.std.specs.Prelude.{◌≡◌, ◌≤◌, ◌⊎◌, ◌==◌, ◌||◌, ℕ, List, nat_lt, IfOk, IfErr, OnErr, IsErrOf};
+ghost use Rattle.ld_io.specs.Causes.{Rose};
 ghost use Rattle.ld_config.specs.declared.config.Config.{Config as Contents};
 ghost use Rattle.ld_schedule.specs.declared.event.Event.TheVariants.{Open, Poll};
 ghost use Rattle.ld_msg.specs.declared.msg.Who.TheVariants.{Reader as OfReader};
 ghost use Rattle.ld_msg.specs.Bounds.{IsMessage};
+ghost use Rattle.ld_msg.specs.Register.{Register as Registered};
+ghost use Rattle.ld_node_bounds.specs.Messages.{AreMessages};
+ghost use Rattle.ld_register.specs.Calls.{Keeps};
+ghost use Rattle.ld_register.specs.declared.fault.RegisterFault.TheVariants as registers;
+ghost use Rattle.ld_reader.specs.Faults.{IsOfLook};
 ghost use Rattle.ld_machine.specs.State.{State, reader_of};
 ghost use Rattle.ld_machine.specs.Step.{happens, to_reader};
+ghost use Rattle.ld_clients.specs.Acting.{Stays};
 ghost use Rattle.ld_clients.specs.Followers.{KnowTheirLogs};
 ghost use Rattle.ld_clients.specs.Reads.{AreReaders, IsRead};
 
@@ -17,7 +24,8 @@ use ld_config::Config;
 use ld_ids::{LogId, Name, NoMemory};
 use ld_lsn::Lsn;
 use ld_msg::{Msg, Outbox};
-use ld_reader::Reader;
+use ld_reader::{Reader, ReaderFault};
+use ld_register::Register;
 use ld_transcript::Line;
 use std::alloc::Global;
 
@@ -25,9 +33,10 @@ use std::alloc::Global;
 const READER_LIMIT: usize = 1_000;
 
 impl Readers {
-    /// Opens a reader of a log from a number to another, both included. Nothing comes of it where the name is taken or the
-    /// log is none of the configuration's. It is refused with a line `range` where the first number is 0 or above the last,
-    /// and then with a line `full` where there are 1,000 readers.
+    /// Opens a reader of a log from a number to another, both included. Where the register shows no nodes, it asks those that
+    /// the configuration gives the log. Nothing comes of it where the name is taken or the log is none of the configuration's.
+    /// It is refused with a line `range` where the first number is 0 or above the last, and then with a line `full` where
+    /// there are 1,000 readers.
     pub fn open(
         &mut self,
         alloc: Global,
@@ -38,13 +47,13 @@ impl Readers {
         until: Lsn,
     ) -> Result<Outcome, NoMemory>
         ensures done { IfOk result (λ outcome. (s : State) → AreReaders config.now s self.old
-            → IsRead s self.new outcome (happens config.now s (Open name.now log from until))) }
+            → IsRead s self.new outcome (Stays s) (happens config.now s (Open name.now log from until))) }
         ensures logs { KnowTheirLogs config.now self.old → KnowTheirLogs config.now self.new }
     {
         if self.has(name) {
             return Ok(Outcome::nothing(alloc));
         }
-        let Some(spec) = find_spec(config, log) else {
+        let Some(first) = find_spec(config, log) else {
             return Ok(Outcome::nothing(alloc));
         };
         let number = self.len();
@@ -57,20 +66,39 @@ impl Readers {
             let outcome = Outcome::line(alloc, Line::RefusedFull { name })?;
             return Ok(outcome);
         }
-        let reader = Reader::start(alloc, &spec, number as u32, from, until)?;
+        let reader = Reader::start(alloc, &first, number as u32, from, until)?;
         self.add(name, reader)?;
         Ok(Outcome::nothing(alloc))
     }
 
-    /// The reader of the name asks all nodes of its log for its next number. One that isn't there or is finished does
-    /// nothing. After want of memory the readers are of no use.
-    pub fn poll(&mut self, alloc: Global, name: &Name) -> Result<Outcome, NoMemory>
-        ensures done { IfOk result (λ outcome. (c : Contents) (s : State) → AreReaders c s self.old
-            → IsRead s self.new outcome (happens c s (Poll name.now))) }
+    /// The reader of the name looks at the epoch of its next number, and asks the nodes that the register shows for that
+    /// number. One that isn't there or is finished does nothing. It is refused with `Register`, and `Failed` or `Damaged`,
+    /// as the look is, and for want of memory. Then all readers are as they were. A look changes nothing of the register.
+    pub fn poll<G: Register>(
+        &mut self,
+        alloc: Global,
+        name: &Name,
+        reg: &mut G,
+    ) -> Result<Outcome, ReaderFault>
+        ensures done { IfOk result (λ outcome. (c : Contents) (s : State) → AreReaders c s self.old → G.tells reg.old s.register
+            → IsRead s self.new outcome (G.tells reg.new) (happens c s (Poll name.now))) }
+        ensures foretold { (c : Registered) → G.tells reg.old c → IfErr result (λ fault. fault ≡ ReaderFault.NoMemory) }
+        ensures err { OnErr result (self.new ≡ self.old) }
         ensures logs { (c : Contents) → KnowTheirLogs c self.old → KnowTheirLogs c self.new }
+        ensures told { G.told reg.old → G.told reg.new }
+        ensures same { (c : Registered) → G.may_hold reg.new c → G.may_hold reg.old c }
+        ensures survives { (cs : List Registered) → G.told reg.old → G.leaves reg.old cs → G.leaves reg.new cs }
+        ensures keeps { IsErrOf result (ReaderFault.Register registers.Failed) ⊎ Keeps (G.holds reg.old) (G.holds reg.new) (G.may_hold reg.old) (G.may_hold reg.new) }
+        ensures failed { IsErrOf result (ReaderFault.Register registers.Failed) → Rose (G.faults reg.old) (G.faults reg.new) }
+        ensures steady { IsErrOf result (ReaderFault.Register registers.Failed) ⊎ (G.faults reg.new ≡ G.faults reg.old) }
+        ensures damaged { (place : ℕ) → IsErrOf result (ReaderFault.Register (registers.Damaged place)) → G.told reg.old → G.damaged reg.old place }
+        ensures refused { IfErr result IsOfLook }
+        ensures counts { G.faults reg.old ≤ G.faults reg.new }
+        ensures itself { G.identity reg.new ≡ G.identity reg.old }
+        ensures messages { IfOk result (λ outcome. AreMessages outcome.sends) }
     {
         let mut sends = Outbox::empty(alloc);
-        self.ask(alloc, name, &mut sends)?;
+        self.ask(alloc, name, reg, &mut sends)?;
         Ok(Outcome {
             lines: Vec::new(alloc),
             sends,
@@ -78,20 +106,41 @@ impl Readers {
     }
 
     /// The reader of a number gets the message, writes the items that follow and sends its asks. One that isn't there or is
-    /// finished does nothing. After want of memory the readers are of no use.
-    pub fn on_reply(&mut self, alloc: Global, number: u32, msg: &Msg) -> Result<Outcome, NoMemory>
+    /// finished does nothing. Where a round begins, it looks first at the epoch of its next number. It is refused with
+    /// `Register`, and `Failed` or `Damaged`, as the look is: then all readers are as they were. A look changes nothing of the
+    /// register. After want of memory the readers are of no use.
+    pub fn on_reply<G: Register>(
+        &mut self,
+        alloc: Global,
+        number: u32,
+        msg: &Msg,
+        reg: &mut G,
+    ) -> Result<Outcome, ReaderFault>
         requires message { IsMessage msg.now }
         requires to { msg.now.to ≡ OfReader number }
-        ensures done { IfOk result (λ outcome. (c : Contents) (s : State) → AreReaders c s self.old
-            → IsRead s self.new outcome (to_reader c s msg.now (reader_of number s.readers))) }
+        ensures done { IfOk result (λ outcome. (c : Contents) (s : State) → AreReaders c s self.old → G.tells reg.old s.register
+            → IsRead s self.new outcome (G.tells reg.new) (to_reader c s msg.now (reader_of number s.readers))) }
+        ensures foretold { (c : Registered) → G.tells reg.old c → IfErr result (λ fault. fault ≡ ReaderFault.NoMemory) }
+        ensures err { IfErr result (λ fault. (fault ≡ ReaderFault.NoMemory) ⊎ (self.new ≡ self.old)) }
         ensures logs { (c : Contents) → KnowTheirLogs c self.old → KnowTheirLogs c self.new }
+        ensures told { G.told reg.old → G.told reg.new }
+        ensures same { (c : Registered) → G.may_hold reg.new c → G.may_hold reg.old c }
+        ensures survives { (cs : List Registered) → G.told reg.old → G.leaves reg.old cs → G.leaves reg.new cs }
+        ensures keeps { IsErrOf result (ReaderFault.Register registers.Failed) ⊎ Keeps (G.holds reg.old) (G.holds reg.new) (G.may_hold reg.old) (G.may_hold reg.new) }
+        ensures failed { IsErrOf result (ReaderFault.Register registers.Failed) → Rose (G.faults reg.old) (G.faults reg.new) }
+        ensures steady { IsErrOf result (ReaderFault.Register registers.Failed) ⊎ (G.faults reg.new ≡ G.faults reg.old) }
+        ensures damaged { (place : ℕ) → IsErrOf result (ReaderFault.Register (registers.Damaged place)) → G.told reg.old → G.damaged reg.old place }
+        ensures refused { IfErr result IsOfLook }
+        ensures counts { G.faults reg.old ≤ G.faults reg.new }
+        ensures itself { G.identity reg.new ≡ G.identity reg.old }
+        ensures messages { IfOk result (λ outcome. AreMessages outcome.sends) }
     {
         let Some(found) = self.name_of(number) else {
             return Ok(Outcome::nothing(alloc));
         };
         let name = found.copy(alloc)?;
         let mut sends = Outbox::empty(alloc);
-        let items = self.hear(alloc, &name, msg, &mut sends)?;
+        let items = self.hear(alloc, &name, msg, reg, &mut sends)?;
         let mut lines = Vec::new(alloc);
         add_items(alloc, &name, items.as_slice(), &mut lines)?;
         Ok(Outcome { lines, sends })

@@ -1,5 +1,5 @@
 // The sequencers by name, in the order of their activation.
-ghost use Rattle.std.specs.Prelude.{◌≡◌, is_some, ℕ, List, [], ◌∷◌, Some, None, false, IfOk, OnOk, OnErr, option_copied, option_map};
+ghost use Rattle.std.specs.Prelude.{◌≡◌, is_some, ℕ, List, [], ◌∷◌, Some, None, true, false, IfOk, OnOk, OnErr, option_copied, option_map};
 ghost use Rattle.ld_config.specs.declared.config.Config.{Config as Contents};
 ghost use Rattle.ld_config.specs.Bounds.{IsInBounds};
 ghost use Rattle.ld_schedule.specs.declared.event.Event.TheVariants.{Activate, Append, Trim, Retry, Drop as Drops};
@@ -7,7 +7,9 @@ ghost use Rattle.ld_transcript.specs.declared.line.Line.TheVariants.{Active};
 ghost use Rattle.ld_table.specs.Named.{find_named, put_named};
 ghost use Rattle.ld_msg.specs.Bounds.{IsMessage};
 ghost use Rattle.ld_machine.specs.State.{State, sequencer_of};
-ghost use Rattle.ld_machine.specs.Step.{happens, to_sequencer, to_live};
+ghost use Rattle.ld_machine.specs.Config.{has_log};
+ghost use Rattle.ld_machine.specs.Step.{happens, spec_set, to_sequencer, to_live};
+ghost use Rattle.ld_register.specs.Bounds.{IsSpecFor};
 ghost use Rattle.ld_clients.specs.declared.client.Client.{Client as Seen};
 ghost use Rattle.ld_clients.specs.Acting.{AreSequencers, IsActed, Stays};
 ghost use Rattle.ld_clients.specs.Serving.{serving_in, KnowTheirLogs, HasRoom, IsWhole, shown, sequencers_of};
@@ -19,7 +21,7 @@ use crate::places::Places;
 use crate::report::refused;
 use indexmap::IndexMap;
 use ld_config::Config;
-use ld_ids::{LogId, Name, NoMemory, Payload};
+use ld_ids::{LogId, Name, NoMemory, Payload, Spec};
 use ld_lsn::Lsn;
 use ld_msg::{Msg, Outbox};
 use ld_register::Register;
@@ -81,30 +83,34 @@ impl Sequencers {
         Some(name)
     }
 
-    /// Activates a sequencer of the log's next epoch, which asks for what stands in the epochs before it that aren't closed.
-    /// Nothing comes of it where the name is taken or the log is none of the configuration's. It is refused with a line
-    /// `epochlimit` where the log's epochs are used up, and with a line `register` where the register refuses otherwise.
+    /// Activates a sequencer of the log's next epoch, for which these nodes, factor and extras are fixed. It asks for what
+    /// stands in the first epoch before it that isn't closed. Nothing comes of it where the name is taken or the log is none
+    /// of the configuration's. It is refused with a line `epochlimit` where the log's epochs are used up, and with a line
+    /// `register` where the register refuses otherwise.
     pub fn activate<G: Register>(
         &mut self,
         alloc: Global,
         config: &Config,
         name: &Name,
         log: LogId,
+        spec: &Spec,
         reg: &mut G,
     ) -> Result<Outcome, NoMemory>
-        requires { IsInBounds config.now }
+        requires config { IsInBounds config.now }
+        requires spec { has_log config.now log ≡ true → IsSpecFor log spec.now }
         ensures done { IfOk result (λ outcome. (s : State) → AreSequencers config.now s self.old → G.tells reg.old s.register → HasRoom config.now s.register
+            → spec.now ≡ spec_set config.now s log
             → IsActed s self.new outcome (G.tells reg.new) (happens config.now s (Activate name.now log))) }
         ensures logs { KnowTheirLogs config.now self.old → KnowTheirLogs config.now self.new }
     {
         if self.has(name) {
             return Ok(Outcome::nothing(alloc));
         }
-        let Some(spec) = find_spec(config, log) else {
+        let Some(first) = find_spec(config, log) else {
             return Ok(Outcome::nothing(alloc));
         };
         let mut sends = Outbox::empty(alloc);
-        match Sequencer::activate(alloc, &spec, reg, &mut sends) {
+        match Sequencer::activate(alloc, &config.nodes, &first, spec, reg, &mut sends) {
             Ok(sequencer) => {
                 let outcome = self.begin(alloc, name, sequencer, sends)?;
                 Ok(outcome)
@@ -135,7 +141,7 @@ impl Sequencers {
         client.append(alloc, name, payload)
     }
 
-    /// The sequencer of the name tells all nodes of its log that all up to the point may go. It is refused with a line
+    /// The sequencer of the name tells all nodes of the configuration that all up to the point may go. It is refused with a line
     /// `past` where the point is above the released number. One that isn't there or was dropped does nothing.
     pub fn trim(&self, alloc: Global, name: &Name, point: Lsn) -> Result<Outcome, NoMemory>
         ensures { IfOk result (λ outcome. (c : Contents) (s : State) → AreSequencers c s self.now

@@ -1,15 +1,16 @@
-// Sequencers and readers of a log on the nodes 1, 2 and 3 with each record on two. What a call wrote is compared as the text
-// of its lines, and what it sent as a letter and a node for each message: `s` stores, `r` releases, `t` trims, `c` tells that an
+// Sequencers and readers of a log with each record on two nodes. The configuration has the nodes 1 to 4, and gives the log the
+// first three. What a call wrote is compared as the text of its lines, and what it sent as a letter and a node for each message: `s` stores, `r` releases, `t` trims, `c` tells that an
 // epoch is closed, `d` asks for a digest, `a` asks for what may be read.
 ghost use Rattle.std.specs.Prelude.{◌≡◌, IfOk};
 ghost use Rattle.ld_config.specs.Bounds.{IsInBounds};
 ghost use Rattle.ld_msg.specs.declared.msg.Who.TheVariants.{Reader as OfReader};
 ghost use Rattle.ld_msg.specs.Bounds.{IsMessage};
+ghost use Rattle.ld_register.specs.Bounds.{IsSpec};
 
 use crate::{Outcome, Readers, Sequencers, find_spec};
 use ld_config::Config;
 use ld_disk::MemDisk;
-use ld_ids::{LogId, Name, NoMemory, NodeId, Payload};
+use ld_ids::{LogId, Name, NoMemory, NodeId, NodeSet, Payload, Spec};
 use ld_lsn::Lsn;
 use ld_msg::{Body, Msg, Outbox, Who};
 use ld_register::{DiskRegister, Register};
@@ -17,10 +18,15 @@ use ld_transcript::{Line, write};
 use std::alloc::Global;
 use std::test::Fail;
 
-const CONFIG: &[u8] = br#"{"nodes":[1,2,3],"logs":[{"id":7,"set":[1,2,3],"r":2,"extras":0}]}"#;
+const CONFIG: &[u8] = br#"{"nodes":[1,2,3,4],"logs":[{"id":7,"set":[1,2,3],"r":2,"extras":0}]}"#;
+
+// The first three nodes, and two others: bit n - 1 stands for node n.
+const FIRST: u16 = 0b0111;
+
+const OTHERS: u16 = 0b1010;
 
 // The log's configuration.
-fn three_nodes(alloc: Global) -> Result<Config, NoMemory>
+fn four_nodes(alloc: Global) -> Result<Config, NoMemory>
     ensures { IfOk result IsInBounds }
 {
     match Config::read(alloc, CONFIG) {
@@ -48,6 +54,26 @@ fn log(number: u32) -> Result<LogId, NoMemory> {
     }
 }
 
+// The log on these nodes.
+fn spec_on(nodes: u16) -> Result<Spec, NoMemory>
+    ensures { IfOk result IsSpec }
+{
+    let Some(log) = LogId::new(7) else {
+        return Err(NoMemory);
+    };
+    let _ = log.number();
+    let set = NodeSet::from_bits(nodes);
+    if set.len() < 2 {
+        return Err(NoMemory);
+    }
+    Ok(Spec {
+        log,
+        set,
+        r: 2,
+        extras: 0,
+    })
+}
+
 // The letter of a message.
 fn letter(body: &Body) -> u8 {
     match body {
@@ -68,6 +94,7 @@ fn digit(to: &Who) -> u8 {
             1 => b'1',
             2 => b'2',
             3 => b'3',
+            4 => b'4',
             _ => b'?',
         },
         _ => b'?',
@@ -107,12 +134,13 @@ fn activate<G: Register>(
     sequencers: &mut Sequencers,
     config: &Config,
     name: &Name,
-    log: LogId,
+    spec: &Spec,
     reg: &mut G,
 ) -> Result<Outcome, NoMemory>
-    requires { IsInBounds config.now }
+    requires config { IsInBounds config.now }
+    requires spec { IsSpec spec.now }
 {
-    sequencers.activate(alloc, config, name, log, reg)
+    sequencers.activate(alloc, config, name, spec.log, spec, reg)
 }
 
 fn append(
@@ -144,27 +172,67 @@ fn hear<G: Register>(
     sequencers.on_reply(alloc, 1, msg, reg)
 }
 
+fn poll<G: Register>(
+    alloc: Global,
+    readers: &mut Readers,
+    name: &Name,
+    reg: &mut G,
+) -> Result<Outcome, NoMemory> {
+    match readers.poll(alloc, name, reg) {
+        Ok(outcome) => Ok(outcome),
+        Err(_) => Err(NoMemory),
+    }
+}
+
+fn read<G: Register>(
+    alloc: Global,
+    readers: &mut Readers,
+    msg: &Msg,
+    reg: &mut G,
+) -> Result<Outcome, NoMemory>
+    requires message { IsMessage msg.now }
+    requires to { msg.now.to ≡ OfReader 0 }
+{
+    match readers.on_reply(alloc, 0, msg, reg) {
+        Ok(outcome) => Ok(outcome),
+        Err(_) => Err(NoMemory),
+    }
+}
+
 // ---- whether a call writes these lines and sends these messages ----
 
+// An activation of a sequencer of this name with these nodes.
 fn activates<G: Register>(
     alloc: Global,
     sequencers: &mut Sequencers,
     reg: &mut G,
+    name: &[u8],
+    nodes: u16,
     lines: &[u8],
+    sends: &[u8],
 ) -> Result<bool, NoMemory> {
-    let config = three_nodes(alloc)?;
-    let name = named(alloc, b"s")?;
-    let outcome = activate(alloc, sequencers, &config, &name, log(7)?, reg)?;
-    shows(alloc, &outcome, lines, b"")
+    let config = four_nodes(alloc)?;
+    let name = named(alloc, name)?;
+    let outcome = activate(alloc, sequencers, &config, &name, &spec_on(nodes)?, reg)?;
+    shows(alloc, &outcome, lines, sends)
 }
 
-// A register on an empty disk, from which `s` got the first epoch.
+// A register on an empty disk, from which `s` got the first epoch on these nodes.
 fn activated(
     alloc: Global,
     sequencers: &mut Sequencers,
+    nodes: u16,
 ) -> Result<DiskRegister<MemDisk>, NoMemory> {
     let mut reg = new_register(alloc)?;
-    if activates(alloc, sequencers, &mut reg, b"active s 1\n")? {
+    if activates(
+        alloc,
+        sequencers,
+        &mut reg,
+        b"s",
+        nodes,
+        b"active s 1\n",
+        b"",
+    )? {
         Ok(reg)
     } else {
         Err(NoMemory)
@@ -251,7 +319,7 @@ fn serves(sequencers: &Sequencers, name: &[u8]) -> Result<bool, NoMemory> {
 }
 
 fn opens(alloc: Global, readers: &mut Readers) -> Result<bool, NoMemory> {
-    let config = three_nodes(alloc)?;
+    let config = four_nodes(alloc)?;
     let name = named(alloc, b"d")?;
     let (from, until) = (Lsn::new(1, 1), Lsn::new(1, 4));
     let outcome = readers.open(alloc, &config, &name, log(7)?, from, until)?;
@@ -259,9 +327,14 @@ fn opens(alloc: Global, readers: &mut Readers) -> Result<bool, NoMemory> {
 }
 
 // Polling writes nothing.
-fn polls(alloc: Global, readers: &mut Readers, sends: &[u8]) -> Result<bool, NoMemory> {
+fn polls<G: Register>(
+    alloc: Global,
+    readers: &mut Readers,
+    reg: &mut G,
+    sends: &[u8],
+) -> Result<bool, NoMemory> {
     let name = named(alloc, b"d")?;
-    let outcome = readers.poll(alloc, &name)?;
+    let outcome = poll(alloc, readers, &name, reg)?;
     shows(alloc, &outcome, b"", sends)
 }
 
@@ -286,14 +359,19 @@ fn trimmed() -> Result<Msg, NoMemory>
     Err(NoMemory)
 }
 
-fn reads(alloc: Global, readers: &mut Readers, lines: &[u8]) -> Result<bool, NoMemory> {
-    let outcome = readers.on_reply(alloc, 0, &trimmed()?)?;
+fn reads<G: Register>(
+    alloc: Global,
+    readers: &mut Readers,
+    reg: &mut G,
+    lines: &[u8],
+) -> Result<bool, NoMemory> {
+    let outcome = read(alloc, readers, &trimmed()?, reg)?;
     shows(alloc, &outcome, lines, b"")
 }
 
 // On how many nodes a record of the log is stored, 0 where the log is none of the configuration's.
 fn factor(alloc: Global, number: u32) -> Result<u8, NoMemory> {
-    match find_spec(&three_nodes(alloc)?, log(number)?) {
+    match find_spec(&four_nodes(alloc)?, log(number)?) {
         Some(spec) => Ok(spec.r),
         None => Ok(0),
     }
@@ -311,9 +389,9 @@ fn a_log_is_found_by_its_number(rt: HostRuntime) -> Result<(), Fail> {
 fn a_trim_tells_all_nodes(rt: HostRuntime) -> Result<(), Fail> {
     let alloc = rt.alloc();
     let mut sequencers = Sequencers::new(alloc);
-    let _ = activated(alloc, &mut sequencers)?;
+    let _ = activated(alloc, &mut sequencers, FIRST)?;
     assert!(rt; serves(&sequencers, b"s")?);
-    assert!(rt; trims(alloc, &sequencers, b"trimmed s e1n0\n", b"t1t2t3")?);
+    assert!(rt; trims(alloc, &sequencers, b"trimmed s e1n0\n", b"t1t2t3t4")?);
     Ok(())
 }
 
@@ -321,7 +399,7 @@ fn a_trim_tells_all_nodes(rt: HostRuntime) -> Result<(), Fail> {
 fn the_second_node_acknowledges(rt: HostRuntime) -> Result<(), Fail> {
     let alloc = rt.alloc();
     let mut sequencers = Sequencers::new(alloc);
-    let mut reg = activated(alloc, &mut sequencers)?;
+    let mut reg = activated(alloc, &mut sequencers, FIRST)?;
     assert!(rt; appends(alloc, &mut sequencers, b"appended s e1n1\n", b"s3s1")?);
     assert!(rt; hears(alloc, &mut sequencers, &mut reg, 1, b"", b"")?);
     let lines = b"acked s e1n1\nreleased s e1n1\n";
@@ -333,7 +411,7 @@ fn the_second_node_acknowledges(rt: HostRuntime) -> Result<(), Fail> {
 fn a_retry_goes_to_the_next_wave(rt: HostRuntime) -> Result<(), Fail> {
     let alloc = rt.alloc();
     let mut sequencers = Sequencers::new(alloc);
-    let mut reg = activated(alloc, &mut sequencers)?;
+    let mut reg = activated(alloc, &mut sequencers, FIRST)?;
     assert!(rt; appends(alloc, &mut sequencers, b"appended s e1n1\n", b"s3s1")?);
     assert!(rt; retries(alloc, &mut sequencers, &mut reg, b"s1s2")?);
     Ok(())
@@ -343,11 +421,11 @@ fn a_retry_goes_to_the_next_wave(rt: HostRuntime) -> Result<(), Fail> {
 fn a_dropped_sequencer_does_nothing_more(rt: HostRuntime) -> Result<(), Fail> {
     let alloc = rt.alloc();
     let mut sequencers = Sequencers::new(alloc);
-    let mut reg = activated(alloc, &mut sequencers)?;
+    let mut reg = activated(alloc, &mut sequencers, FIRST)?;
     assert!(rt; drops(alloc, &mut sequencers)?);
     assert!(rt; appends(alloc, &mut sequencers, b"", b"")?);
     // its name stays taken
-    assert!(rt; activates(alloc, &mut sequencers, &mut reg, b"")?);
+    assert!(rt; activates(alloc, &mut sequencers, &mut reg, b"s", FIRST, b"", b"")?);
     Ok(())
 }
 
@@ -355,10 +433,37 @@ fn a_dropped_sequencer_does_nothing_more(rt: HostRuntime) -> Result<(), Fail> {
 fn a_gap_ends_at_the_last_number_that_is_wanted(rt: HostRuntime) -> Result<(), Fail> {
     let alloc = rt.alloc();
     let mut readers = Readers::new(alloc);
+    let mut reg = new_register(alloc)?;
     assert!(rt; opens(alloc, &mut readers)?);
-    assert!(rt; polls(alloc, &mut readers, b"a1a2a3")?);
-    assert!(rt; reads(alloc, &mut readers, b"gap d trim e1n1 e1n4\n")?);
+    assert!(rt; polls(alloc, &mut readers, &mut reg, b"a1a2a3")?);
+    assert!(rt; reads(alloc, &mut readers, &mut reg, b"gap d trim e1n1 e1n4\n")?);
     // it is finished
-    assert!(rt; polls(alloc, &mut readers, b"")?);
+    assert!(rt; polls(alloc, &mut readers, &mut reg, b"")?);
+    Ok(())
+}
+
+#[test]
+fn an_epoch_is_written_and_read_on_the_nodes_that_were_fixed_for_it(
+    rt: HostRuntime,
+) -> Result<(), Fail> {
+    let alloc = rt.alloc();
+    let mut sequencers = Sequencers::new(alloc);
+    let mut readers = Readers::new(alloc);
+    let mut reg = activated(alloc, &mut sequencers, OTHERS)?;
+    assert!(rt; appends(alloc, &mut sequencers, b"appended s e1n1\n", b"s2s4")?);
+    assert!(rt; opens(alloc, &mut readers)?);
+    assert!(rt; polls(alloc, &mut readers, &mut reg, b"a2a4")?);
+    // the next epoch's sequencer asks them too, whatever its own nodes are
+    assert!(rt;
+        activates(
+            alloc,
+            &mut sequencers,
+            &mut reg,
+            b"t",
+            FIRST,
+            b"active t 2\n",
+            b"d2d4"
+        )?
+    );
     Ok(())
 }

@@ -1,13 +1,12 @@
 -- Messages that are delivered or lost.
 use Rattle.std.proofs.Common.{◌≡◌, ℕ, true, false, ◌&&◌, [], Option, Some, None, refl, ap, sym, ◌∙◌, subst}
 use Rattle.ld_table.specs.Table.{put}
-use Rattle.ld_table.specs.Words.{is_in}
 use Rattle.ld_config.specs.declared.config.Config.{Config}
 use Rattle.ld_schedule.specs.declared.event.Event.TheVariants as events
 use Rattle.ld_msg.specs.declared.msg.Msg.{Msg}
 use Rattle.ld_msg.specs.Bounds.{IsMessage}
 use Rattle.ld_msg.specs.Network.{Network, message, mark}
-use Rattle.ld_machine.specs.Config.{set_of}
+use Rattle.ld_machine.specs.Config.{has_log}
 use Rattle.ld_machine.specs.Disk.{is_up}
 use Rattle.ld_machine.specs.State.{State, Done, node_at}
 use Rattle.ld_machine.specs.Step as step
@@ -55,11 +54,11 @@ delivered k k2 w i m o p h d = subst (λ (x : Done). IsDone k k2 o x) (sym (deli
 
 -- ---- to a node ----
 
-pub not_served : (k : Cluster) (s : State) (n : ℕ) (m : Msg) (o : Outcome) → Parts k s → (is_up (node_at s n).status && is_in n (set_of (config_of k) m.log)) ≡ false → o.lines.items ≡ [] → o.sends ≡ []
+pub not_served : (k : Cluster) (s : State) (n : ℕ) (m : Msg) (o : Outcome) → Parts k s → (is_up (node_at s n).status && has_log (config_of k) m.log) ≡ false → o.lines.items ≡ [] → o.sends ≡ []
     → IsDone k k o (step.to_node (config_of k) s n m)
 not_served k s n m o p h ls ms = nothing_done k s o _ p (if_not _ _ _ h) ls ms
 
-pub served_done : (k : Cluster) (s : State) (hosts : Hosts) (n : ℕ) (m : Msg) (o : Outcome) → Parts k s → (is_up (node_at s n).status && is_in n (set_of (config_of k) m.log)) ≡ true
+pub served_done : (k : Cluster) (s : State) (hosts : Hosts) (n : ℕ) (m : Msg) (o : Outcome) → Parts k s → (is_up (node_at s n).status && has_log (config_of k) m.log) ≡ true
     → AreHosts k.config hosts (put n (message_done n (node_in s.nodes n) m).node s.nodes) → o.lines.items ≡ kept_lines n [] (message_done n (node_in s.nodes n) m).end → o.sends ≡ (message_done n (node_in s.nodes n) m).sends
     → IsDone k (record k { hosts = hosts }) o (step.to_node (config_of k) s n m)
 served_done k s hosts n m o p h a ls ms = with_hosts k s hosts _ _ _ o _ p a (node_up (config_of k) s n m h) ls ms

@@ -17,7 +17,33 @@ use Rattle.ld_clients.proofs.Serving.{as_shown, sequencer_of_is}
 use Rattle.ld_clients.proofs.Followings.{reader_named}
 use Rattle.ld_cluster.specs.declared.cluster.Cluster.{Cluster}
 use Rattle.ld_cluster.specs.Standing.{Parts}
-use Rattle.ld_cluster.specs.Outcomes.{IsSame, IsSent, IsSending, IsFinished, ended, name_or_empty}
+use Rattle.ld_cluster.specs.Outcomes.{IsSame, AddsFirst, IsSent, IsSending, IsFinished, ended, name_or_empty}
+
+-- ---- the first ones of a list ----
+
+pub adds_none : {X : Type 0} (before all : List X) → AddsFirst before before all
+adds_none before all = record { some = []; more = all; whole = refl; added = sym (append-nil before) }
+
+pub adds_all : {X : Type 0} (before now all : List X) → now ≡ before ++ all → AddsFirst before now all
+adds_all before now all h = record { some = all; more = []; whole = append-nil all; added = h }
+
+adds_of_more : {X : Type 0} (before now xs ys : List X) → AddsFirst before now xs → AddsFirst before now (xs ++ ys)
+adds_of_more before now xs ys a = record { some = a.some; more = a.more ++ ys; whole = sym (append_assoc a.some a.more ys) ∙ ap (λ z. z ++ ys) a.whole; added = a.added }
+
+adds_after : {X : Type 0} (before mid now xs ys : List X) → mid ≡ before ++ xs → AddsFirst mid now ys → AddsFirst before now (xs ++ ys)
+adds_after before mid now xs ys e a = record { some = xs ++ a.some; more = a.more; whole = append_assoc xs a.some a.more ∙ ap (λ z. xs ++ z) a.whole; added = a.added ∙ (ap (λ z. z ++ a.some) e ∙ append_assoc before xs a.some) }
+
+-- some were added wholly, and of the next ones the first
+pub adds_on : {X : Type 0} (before mid now xs ys rest all : List X) → mid ≡ before ++ xs → AddsFirst mid now ys → xs ++ (ys ++ rest) ≡ all → AddsFirst before now all
+adds_on before mid now xs ys rest all e a h = subst (AddsFirst before now) h (adds_after before mid now xs (ys ++ rest) e (adds_of_more mid now ys rest a))
+
+none_first : {X : Type 0} (xs ys : List X) → xs ++ ys ≡ [] → xs ≡ []
+none_first [] ys h = refl
+none_first (x ∷ xs) ys h = absurd (cc h)
+
+pub adds_or_none : (before now ls : List Line) → AddsFirst before now ls → AddsFirst before now (or_none ls)
+adds_or_none before now [] a = record { some = []; more = or_none []; whole = refl; added = a.added ∙ ap (λ z. before ++ z) (none_first a.some a.more a.whole) }
+adds_or_none before now (l ∷ ls) a = a
 
 pub name_is : {X : Type 0} (o : Option (List ℕ × X)) → name_or_empty (option_map (λ e. e.0) o) ≡ name_of o
 name_is None = refl
@@ -68,18 +94,30 @@ sent_none k s p = record {
   network = p.network;
   sequencers = record { sequencers = p.sequencers.sequencers; logs = p.sequencers.logs };
   readers = record { readers = p.readers.readers; logs = p.readers.logs };
+  specs = p.specs;
 }
 
 pub sending_start : (k : Cluster) (ls : List Line) (ms : List Msg) → IsSending k ls ms k ls [] ms
-sending_start k ls ms = record { whole = refl; done = λ s p. record { same = record { config = refl; past = refl }; parts = sent_none k s p; lines = sym (append-nil ls) } }
+sending_start k ls ms = record { whole = refl; same = record { config = refl; past = refl }; done = λ s p. record { same = record { config = refl; past = refl }; parts = sent_none k s p; lines = sym (append-nil ls) } }
 
 -- one message more is sent
 pub sending_more : (k now new : Cluster) (ls ln lm : List Line) (all sent left rest : List Msg) (m : Msg) → IsSending k ls all now ln sent left → left ≡ m ∷ rest
-    → ((s : State) → Parts now s → IsSent now new ln lm s (m ∷ [])) → IsSending k ls all new lm (sent ++ m ∷ []) rest
-sending_more k now new ls ln lm all sent left rest m h e one = record {
+    → IsSame now new → ((s : State) → Parts now s → IsSent now new ln lm s (m ∷ [])) → IsSending k ls all new lm (sent ++ m ∷ []) rest
+sending_more k now new ls ln lm all sent left rest m h e same one = record {
+  same = same_on k now new h.same same;
   whole = append_assoc sent (m ∷ []) rest ∙ (ap (λ x. sent ++ x) (sym e) ∙ h.whole);
   done = λ s p. sent_on k now new ls ln lm s sent (m ∷ []) (h.done s p) (one (sent_state s sent) (h.done s p).parts);
 }
+
+-- there was no memory for one of them
+pub sending_cut : (k now : Cluster) (ls ln lm : List Line) (all sent left rest : List Msg) (m : Msg) → IsSending k ls all now ln sent left → left ≡ m ∷ rest
+    → ((s : State) → Parts now s → AddsFirst ln lm (message_line s s.network.count m ∷ [])) → (s : State) → Parts k s → AddsFirst ls lm (message_lines s s.network.count all)
+sending_cut k now ls ln lm all sent left rest m h e one s p =
+    let d = h.done s p in
+    let n : ℕ = (send_all s.network sent).count in
+    let part : AddsFirst ln lm (message_lines s n (m ∷ [])) = subst (AddsFirst ln lm) (lines_same s sent n (m ∷ [])) (one (sent_state s sent) d.parts) in
+    adds_on ls ln lm (message_lines s s.network.count sent) (message_lines s n (m ∷ [])) (message_lines s (n + 1) rest) (message_lines s s.network.count all) d.lines part
+    (sym (message_lines-append s s.network.count n sent (m ∷ rest) (count-send_all s.network sent)) ∙ ap (message_lines s s.network.count) (ap (λ x. sent ++ x) (sym e) ∙ h.whole))
 
 pub sent_all : (k now : Cluster) (ls ln : List Line) (all sent left : List Msg) (s : State) → Parts k s → IsSending k ls all now ln sent left → left ≡ [] → IsSent k now ls ln s all
 sent_all k now ls ln all sent left s p h e =
@@ -105,6 +143,18 @@ finished k0 k1 l0 l1 l2 l3 before o s b e h g = record {
   parts = h.parts;
   lines = none_added before l0 l1 l2 l3 o.lines.items (message_lines s s.network.count o.sends) b e h.lines g;
 }
+
+-- a step that had no memory for its lines, for its messages, or for `none`
+pub lines_cut : (l0 l1 : List Line) (o : Outcome) (s : State) → AddsFirst l0 l1 o.lines.items → AddsFirst l0 l1 (ended s o).lines
+unfolding finish
+lines_cut l0 l1 o s a = adds_or_none l0 l1 (o.lines.items ++ message_lines s s.network.count o.sends) (adds_of_more l0 l1 o.lines.items (message_lines s s.network.count o.sends) a)
+
+pub messages_cut : (l0 l1 l2 : List Line) (o : Outcome) (s : State) → l1 ≡ l0 ++ o.lines.items → AddsFirst l1 l2 (message_lines s s.network.count o.sends) → AddsFirst l0 l2 (ended s o).lines
+unfolding finish
+messages_cut l0 l1 l2 o s e a = adds_or_none l0 l2 (o.lines.items ++ message_lines s s.network.count o.sends) (adds_after l0 l1 l2 o.lines.items (message_lines s s.network.count o.sends) e a)
+
+pub none_cut : (k0 k1 : Cluster) (l0 l1 l2 l3 : List Line) (o : Outcome) (s : State) → l1 ≡ l0 ++ o.lines.items → IsSent k0 k1 l1 l2 s o.sends → l3 ≡ l2 → AddsFirst l0 l3 (ended s o).lines
+none_cut k0 k1 l0 l1 l2 l3 o s e h g = messages_cut l0 l1 l3 o s e (adds_all l1 l3 (message_lines s s.network.count o.sends) (g ∙ h.lines))
 
 -- ---- names ----
 

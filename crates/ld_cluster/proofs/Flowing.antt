@@ -1,6 +1,6 @@
 -- Steps one after the other.
 use Rattle.std.proofs.Common.{◌≡◌, ℕ, zero, suc, ◌+◌, ◌⊎◌, inl, inr, Bool, true, false, List, [], ◌∷◌, ◌++◌, Option, Some, None, refl, ap, sym, ◌∙◌, subst, append_assoc, add-one, is_some, length, ◌==◌, if◌then◌else◌}
-use Rattle.std.proofs.lemmas.List.{append-nil}
+use Rattle.std.proofs.lemmas.List.{append-nil, append_cancel_left}
 use Rattle.ld_schedule.specs.declared.event.Event.{Event}
 use Rattle.ld_schedule.specs.declared.event.Event.TheVariants as events
 use Rattle.ld_transcript.specs.declared.line.Line.{Line}
@@ -15,9 +15,9 @@ use Rattle.ld_bounds.proofs.Steps.{step_is}
 use Rattle.ld_clients.specs.declared.outcome.Outcome.{Outcome}
 use Rattle.ld_cluster.specs.declared.cluster.Cluster.{Cluster}
 use Rattle.ld_cluster.specs.Standing.{config_of, past_of, state_of, Parts, IsReached}
-use Rattle.ld_cluster.specs.Steps.{delivers_new, delivers_oldest, delivery, more_deliveries, steps_of, is_flow, IsStep, HasFlowed, IsFlowing}
-use Rattle.ld_cluster.specs.Outcomes.{IsDone, IsFinished, ended}
-use Rattle.ld_cluster.proofs.Finishing.{none_added}
+use Rattle.ld_cluster.specs.Steps.{delivers_new, delivers_oldest, delivery, more_deliveries, steps_of, is_flow, IsStep, IsStepInPart, HasFlowed, IsFlowing}
+use Rattle.ld_cluster.specs.Outcomes.{IsSame, AddsFirst, IsDone, IsFinished, ended}
+use Rattle.ld_cluster.proofs.Finishing.{none_added, adds_none, adds_all, adds_on, adds_or_none, same_on}
 
 -- an event that is one step
 pub one_step : (c : Config) (s : State) (e : Event) → is_flow e ≡ false → step c s e ≡ finish (happens c s e)
@@ -39,6 +39,7 @@ one_step c s (events.Up n) h = refl
 one_step c s (events.Wipe n) h = refl
 one_step c s (events.Fail n k) h = refl
 one_step c s (events.Tear n k p) h = refl
+one_step c s (events.Set l r x set) h = refl
 one_step c s (events.RegFail k done) h = refl
 
 delivery_step : (c : Config) (s : State) (i : ℕ) → step c s (events.Deliver i) ≡ finish (delivers c s i)
@@ -68,6 +69,7 @@ steps_of_one c s (events.Up n) h = refl
 steps_of_one c s (events.Wipe n) h = refl
 steps_of_one c s (events.Fail n k) h = refl
 steps_of_one c s (events.Tear n k p) h = refl
+steps_of_one c s (events.Set l r x set) h = refl
 steps_of_one c s (events.RegFail k done) h = refl
 
 steps_of_flow : (c : Config) (s : State) (k : ℕ) → steps_of c s (events.Flow k) ≡ more_deliveries c s k (oldest_new s.network)
@@ -121,6 +123,21 @@ taken k0 k1 k2 k3 e o l0 l1 r v f d ends c3 p3 parts3 =
       };
     }
 
+-- nothing of a step is told, where there was no memory before its end
+pub untold : (k0 k1 : Cluster) (l : List Line) (t : Stepped) (es : List Event) → IsSame k0 k1 → IsStepInPart k0 k1 l l t es
+untold k0 k1 l t es same = record { config = same.config; past = record { some = []; more = es; whole = refl; added = same.past ∙ sym (append-nil (past_of k0)) }; lines = adds_none l t.lines }
+
+-- some of its lines are, but it isn't in the past
+pub told_in_part : (k0 k1 k2 : Cluster) (e : Event) (o : Outcome) (l0 l1 : List Line) → is_flow e ≡ false → IsDone k0 k1 o (happens (config_of k0) (state_of k0) e) → IsSame k1 k2
+    → ((s : State) → Parts k1 s → AddsFirst l0 l1 (ended s o).lines) → IsStepInPart k0 k2 l0 l1 (step (config_of k0) (state_of k0) e) (steps_of (config_of k0) (state_of k0) e)
+told_in_part k0 k1 k2 e o l0 l1 f d same part =
+    let c : Config = config_of k0 in
+    let s : State = state_of k0 in
+    let d0 : Done = happens c s e in
+    let some : AddsFirst l0 l1 (finish d0).lines = subst (λ (x : Stepped). AddsFirst l0 l1 x.lines) (λ i. finish (record { state = d0.state; lines = d.lines i; sends = d.sends i })) (part d0.state d.parts) in
+    let none = untold k0 k2 l0 (step c s e) (steps_of c s e) (same_on k0 k1 k2 d.same same) in
+    record { config = none.config; past = none.past; lines = subst (λ (x : Stepped). AddsFirst l0 l1 x.lines) (sym (one_step c s e f)) some }
+
 -- ---- a flow ----
 
 flows_none : (k : ℕ) (c : Config) (s : State) → oldest_new s.network ≡ None → flows k c s ≡ record { state = s; lines = [] }
@@ -149,7 +166,7 @@ more_ends k c s (inl e) = ap (λ n. more_deliveries c s n (oldest_new s.network)
 more_ends k c s (inr n) = more_none k c s n
 
 pub flowing_start : (k : Cluster) (ls : List Line) (most : ℕ) → IsReached k → IsFlowing k ls most k ls most
-flowing_start k ls most r = record { config = refl; state = refl; lines = refl; past = refl; reached = r }
+flowing_start k ls most r = record { config = refl; state = refl; lines = refl; past = refl; made = []; made_are = sym (append-nil (past_of k)); told = []; told_are = sym (append-nil ls); reached = r }
 
 flowing_more : (k now new : Cluster) (ls ln lm : List Line) (most left rest i : ℕ) → IsFlowing k ls most now ln left → left ≡ suc rest → oldest_new (state_of now).network ≡ Some i
     → IsStep now new ln lm (delivers_oldest (config_of now) (state_of now)) (delivery (oldest_new (state_of now).network))
@@ -169,6 +186,10 @@ flowing_more k now new ls ln lm most left rest i h e o t =
       state = sym (ap (λ (x : Stepped). x.state) fl) ∙ h.state;
       lines = ap (λ x. x ++ (flows rest c (state_of new)).lines) (t.lines ∙ ap (λ (x : Stepped). ln ++ x.lines) there) ∙ (append_assoc ln d.lines (flows rest c (state_of new)).lines ∙ (ap (λ (x : Stepped). ln ++ x.lines) (sym fl) ∙ h.lines));
       past = ap (λ x. x ++ more_deliveries c (state_of new) rest (oldest_new (state_of new).network)) (t.past ∙ ap (λ x. past_of now ++ delivery x) o) ∙ (append_assoc (past_of now) (events.Deliver i ∷ []) _ ∙ (ap (λ x. past_of now ++ x) (sym mo) ∙ h.past));
+      made = h.made ++ events.Deliver i ∷ [];
+      made_are = t.past ∙ (ap (λ x. past_of now ++ delivery x) o ∙ (ap (λ x. x ++ events.Deliver i ∷ []) h.made_are ∙ append_assoc (past_of k) h.made (events.Deliver i ∷ [])));
+      told = h.told ++ d.lines;
+      told_are = t.lines ∙ (ap (λ (x : Stepped). ln ++ x.lines) there ∙ (ap (λ x. x ++ d.lines) h.told_are ∙ append_assoc ls h.told d.lines));
       reached = t.reached;
     }
 
@@ -202,6 +223,60 @@ flowing_over k now new ls ln lm most left more h g m f =
     let pa : past_of new ≡ past_of now = f.past ∙ (ap (λ o. past_of now ++ delivery o) n ∙ append-nil (past_of now)) in
     let en = flowing_end k now ls ln most left h (inr n) in
     record { config = f.config ∙ en.config; state = st ∙ en.state; lines = li ∙ en.lines; past = pa ∙ en.past; reached = f.reached }
+
+-- there was no memory for one of the deliveries
+deliveries_split : (c : Config) (s : State) (k : ℕ) (o : Option ℕ) → (rest : List Event) × (delivery o ++ rest ≡ more_deliveries c s (suc k) o)
+deliveries_split c s k None = ([], refl)
+deliveries_split c s k (Some i) = (more_deliveries c (finish (delivers c s i)).state k (oldest_new (finish (delivers c s i)).state.network), refl)
+
+flows_split : (c : Config) (s : State) (k : ℕ) (o : Option ℕ) → oldest_new s.network ≡ o → (rest : List Line) × ((delivers_new c s o).lines ++ rest ≡ (flows (suc k) c s).lines)
+flows_split c s k None h = ([], ap (λ (x : Stepped). x.lines) (sym (flows_none (suc k) c s h)))
+flows_split c s k (Some i) h = ((flows k c (finish (delivers c s i)).state).lines, ap (λ (x : Stepped). x.lines) (sym (flows_some k c s i h)))
+
+pub flowing_cut : (k now new : Cluster) (ls ln lm : List Line) (most left rest : ℕ) → IsFlowing k ls most now ln left → left ≡ rest + 1
+    → IsStepInPart now new ln lm (delivers_oldest (config_of now) (state_of now)) (delivery (oldest_new (state_of now).network))
+    → IsStepInPart k new ls lm (flows most (config_of k) (state_of k)) (more_deliveries (config_of k) (state_of k) most (oldest_new (state_of k).network))
+flowing_cut k now new ls ln lm most left rest h e t =
+    let c : Config = config_of k in
+    let s : State = state_of now in
+    let n : left ≡ suc rest = e ∙ add-one rest in
+    let es = deliveries_split c s rest (oldest_new s.network) in
+    let fs = flows_split c s rest (oldest_new s.network) refl in
+    let made : h.made ++ more_deliveries c s left (oldest_new s.network) ≡ more_deliveries c (state_of k) most (oldest_new (state_of k).network) =
+    append_cancel_left (past_of k) _ _ (sym (append_assoc (past_of k) h.made (more_deliveries c s left (oldest_new s.network))) ∙ (ap (λ x. x ++ more_deliveries c s left (oldest_new s.network)) (sym h.made_are) ∙ h.past)) in
+    let told : h.told ++ (flows left c s).lines ≡ (flows most c (state_of k)).lines =
+    append_cancel_left ls _ _ (sym (append_assoc ls h.told (flows left c s).lines) ∙ (ap (λ x. x ++ (flows left c s).lines) (sym h.told_are) ∙ h.lines)) in
+    record {
+      config = t.config ∙ h.config;
+      past = adds_on (past_of k) (past_of now) (past_of new) h.made (delivery (oldest_new s.network)) es.0 _ h.made_are t.past
+          (ap (λ x. h.made ++ x) (es.1 ∙ ap (λ m. more_deliveries c s m (oldest_new s.network)) (sym n)) ∙ made);
+      lines = adds_on ls ln lm h.told (delivers_oldest c s).lines fs.0 _ h.told_are (subst (λ (x : Config). AddsFirst ln lm (delivers_oldest x s).lines) h.config t.lines)
+          (ap (λ x. h.told ++ x) (fs.1 ∙ ap (λ m. (flows m c s).lines) (sym n)) ∙ told);
+    }
+
+pub flown_in_part : (k0 k1 : Cluster) (l0 l1 : List Line) (i : ℕ) → oldest_new (state_of k0).network ≡ Some i
+    → IsStepInPart k0 k1 l0 l1 (step (config_of k0) (state_of k0) (events.Deliver i)) (steps_of (config_of k0) (state_of k0) (events.Deliver i))
+    → IsStepInPart k0 k1 l0 l1 (delivers_oldest (config_of k0) (state_of k0)) (delivery (oldest_new (state_of k0).network))
+flown_in_part k0 k1 l0 l1 i h t =
+    let s : step (config_of k0) (state_of k0) (events.Deliver i) ≡ delivers_oldest (config_of k0) (state_of k0) = delivery_step (config_of k0) (state_of k0) i ∙ sym (ap (delivers_new (config_of k0) (state_of k0)) h) in
+    record {
+      config = t.config;
+      past = subst (AddsFirst (past_of k0) (past_of k1)) (steps_of_one (config_of k0) (state_of k0) (events.Deliver i) refl ∙ sym (ap delivery h)) t.past;
+      lines = subst (λ (x : Stepped). AddsFirst l0 l1 x.lines) s t.lines;
+    }
+
+-- a flow that had no memory for a delivery, or for `none`
+pub flow_cut : (k0 k1 : Cluster) (l0 l1 : List Line) (most : ℕ) → IsStepInPart k0 k1 l0 l1 (flows most (config_of k0) (state_of k0)) (more_deliveries (config_of k0) (state_of k0) most (oldest_new (state_of k0).network))
+    → IsStepInPart k0 k1 l0 l1 (step (config_of k0) (state_of k0) (events.Flow most)) (steps_of (config_of k0) (state_of k0) (events.Flow most))
+flow_cut k0 k1 l0 l1 most t = record {
+  config = t.config;
+  past = subst (AddsFirst (past_of k0) (past_of k1)) (sym (steps_of_flow (config_of k0) (state_of k0) most)) t.past;
+  lines = subst (λ (x : Stepped). AddsFirst l0 l1 x.lines) (sym (flow_step (config_of k0) (state_of k0) most)) (adds_or_none l0 l1 (flows most (config_of k0) (state_of k0)).lines t.lines);
+}
+
+pub flow_without_none : (k0 k1 : Cluster) (l0 l1 l2 : List Line) (most : ℕ) → HasFlowed k0 l0 most k1 l1 → l2 ≡ l1
+    → IsStepInPart k0 k1 l0 l2 (step (config_of k0) (state_of k0) (events.Flow most)) (steps_of (config_of k0) (state_of k0) (events.Flow most))
+flow_without_none k0 k1 l0 l1 l2 most h e = flow_cut k0 k1 l0 l2 most (record { config = h.config; past = adds_all (past_of k0) (past_of k1) _ h.past; lines = adds_all l0 l2 _ (e ∙ h.lines) })
 
 pub flown_by : (k0 k1 : Cluster) (l0 l1 : List Line) (i : ℕ) → oldest_new (state_of k0).network ≡ Some i
     → IsStep k0 k1 l0 l1 (step (config_of k0) (state_of k0) (events.Deliver i)) (steps_of (config_of k0) (state_of k0) (events.Deliver i))

@@ -227,9 +227,9 @@ pub not_blank : (k : Cluster) (s : State) (n : ℕ) (o : Outcome) → Parts k s 
 not_blank k s n o p h ls ms = nothing_done k s o _ p (format_not (config_of k) s n h) ls ms
 
 pub formatted_done : (k k' : Cluster) (s : State) (n : ℕ) (f : Formatted) (y : Node) (after : Register) (o : Outcome) → Parts k s
-    → k'.config ≡ k.config → past_of k' ≡ past_of k → k'.network ≡ k.network → k'.sequencers ≡ k.sequencers → k'.readers ≡ k.readers
+    → k'.config ≡ k.config → past_of k' ≡ past_of k → k'.network ≡ k.network → k'.sequencers ≡ k.sequencers → k'.readers ≡ k.readers → k'.specs ≡ k.specs
     → (has_node (config_of k) n && is_blank (node_at s n).status) ≡ true → AreHosts k.config k'.hosts (put n y s.nodes) → Foresees k'.register after → FormatsAs (node_in s.nodes n) n s.register f y after
     → o.lines.items ≡ told_by (config_of k) n after f → o.sends ≡ [] → IsDone k k' o (happens (config_of k) s (events.Format n))
-formatted_done k k' s n f y after o p e g w q r b a reg h ls ms =
+formatted_done k k' s n f y after o p e g w q r x b a reg h ls ms =
     let is = format_yes (config_of k) s n b ∙ format_is (config_of k) s n f y after h in
-    hosted_done k k' s (put n y s.nodes) after o _ p e g w q r a reg (ap (λ (x : Done). x.state) is) (ls ∙ ap (λ (x : Done). x.lines) (sym is)) (ms ∙ ap (λ (x : Done). x.sends) (sym is))
+    hosted_done k k' s (put n y s.nodes) after o _ p e g w q r x a reg (ap (λ (x : Done). x.state) is) (ls ∙ ap (λ (x : Done). x.lines) (sym is)) (ms ∙ ap (λ (x : Done). x.sends) (sym is))

@@ -6,5 +6,6 @@ pub mod Stopping
 pub mod Delivering
 pub mod Formatting
 pub mod Ticking
+pub mod Setting
 pub mod Logs
 pub mod Bytes

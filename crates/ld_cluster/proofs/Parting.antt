@@ -26,7 +26,6 @@ use Rattle.ld_msg.specs.Register.{empty_register}
 use Rattle.ld_machine.specs.State.{State, Done, unchanged, start, new_nodes}
 use Rattle.ld_machine.specs.Run.{state_after}
 use Rattle.ld_bounds.proofs.Steps.{start_is}
-use Rattle.ld_reader.specs.Following.{Following}
 use Rattle.ld_register.specs.Arming.{Foresees}
 use Rattle.ld_host.specs.Standing.{AreHosts}
 pub use Rattle.ld_host.proofs.Messaging.{up_is}
@@ -54,34 +53,37 @@ with_network k s w p = record {
   network = refl;
   sequencers = record { sequencers = p.sequencers.sequencers; logs = p.sequencers.logs };
   readers = record { readers = p.readers.readers; logs = p.readers.logs };
+  specs = p.specs;
 }
 
--- the readers have changed
-with_readers : (k : Cluster) (s : State) (now : List (List ℕ × Following)) → Parts k s → followers.KnowTheirLogs k.config now
-    → Parts (record k { readers = now }) (record s { readers = followers.readers_of now })
-with_readers k s now p logs = record {
-  nodes = p.nodes;
-  register = p.register;
-  network = p.network;
-  sequencers = record { sequencers = p.sequencers.sequencers; logs = p.sequencers.logs };
-  readers = record { readers = refl; logs = logs };
-}
-
-pub read_done : (k : Cluster) (s : State) (now : List (List ℕ × Following)) (o : Outcome) (d : Done) → Parts k s → IsRead s now o d → followers.KnowTheirLogs k.config now
-    → IsDone k (record k { readers = now }) o d
-read_done k s now o d p r logs = record {
-  same = record { config = refl; past = refl };
-  parts = subst (λ (t : State). Parts (record k { readers = now }) t) (sym r.state) (with_readers k s now p logs);
-  lines = r.lines;
-  sends = r.sends;
-}
+-- the readers have changed, and the register tells what it told
+pub read_done : (k k' : Cluster) (s : State) (o : Outcome) (told : Register → Type 0) (d : Done) → Parts k s
+    → k'.config ≡ k.config → past_of k' ≡ past_of k → k'.hosts ≡ k.hosts → k'.network ≡ k.network → k'.sequencers ≡ k.sequencers → k'.specs ≡ k.specs
+    → IsRead s k'.readers o told d → (told d.state.register → Foresees k'.register d.state.register) → followers.KnowTheirLogs k'.config k'.readers
+    → IsDone k k' o d
+read_done k k' s o told d p e f h n q x r reg logs =
+    let t : State = record s { readers = followers.readers_of k'.readers } in
+    let parts : Parts k' t = record {
+      nodes = subst (λ c. AreHosts c k'.hosts s.nodes) (sym e) (subst (λ hs. AreHosts k.config hs s.nodes) (sym h) p.nodes);
+      register = subst (λ g. Foresees k'.register g) (ap (λ (y : State). y.register) r.state) (reg r.register);
+      network = p.network ∙ sym n;
+      sequencers = subst (λ c. AreSequencers c t k'.sequencers) (sym e) (subst (λ ks. AreSequencers k.config t ks) (sym q) (record { sequencers = p.sequencers.sequencers; logs = p.sequencers.logs }));
+      readers = record { readers = refl; logs = logs };
+      specs = p.specs ∙ sym x;
+    } in
+    record {
+      same = record { config = e; past = f };
+      parts = subst (λ (y : State). Parts k' y) (sym r.state) parts;
+      lines = r.lines;
+      sends = r.sends;
+    }
 
 -- the sequencers and perhaps the register have changed
 pub acted_done : (k k' : Cluster) (s : State) (o : Outcome) (told : Register → Type 0) (d : Done) → Parts k s
-    → k'.config ≡ k.config → past_of k' ≡ past_of k → k'.hosts ≡ k.hosts → k'.network ≡ k.network → k'.readers ≡ k.readers
+    → k'.config ≡ k.config → past_of k' ≡ past_of k → k'.hosts ≡ k.hosts → k'.network ≡ k.network → k'.readers ≡ k.readers → k'.specs ≡ k.specs
     → IsActed s k'.sequencers o told d → (told d.state.register → Foresees k'.register d.state.register) → KnowTheirLogs k'.config k'.sequencers
     → IsDone k k' o d
-acted_done k k' s o told d p e f h n r a reg logs =
+acted_done k k' s o told d p e f h n r x a reg logs =
     let t : State = record s { sequencers = sequencers_of k'.sequencers; register = d.state.register } in
     let parts : Parts k' t = record {
       nodes = subst (λ c. AreHosts c k'.hosts s.nodes) (sym e) (subst (λ hs. AreHosts k.config hs s.nodes) (sym h) p.nodes);
@@ -89,20 +91,21 @@ acted_done k k' s o told d p e f h n r a reg logs =
       network = p.network ∙ sym n;
       sequencers = record { sequencers = refl; logs = logs };
       readers = subst (λ c. AreReaders c t k'.readers) (sym e) (subst (λ ds. AreReaders k.config t ds) (sym r) (record { readers = p.readers.readers; logs = p.readers.logs }));
+      specs = p.specs ∙ sym x;
     } in
     record {
       same = record { config = e; past = f };
-      parts = subst (λ (x : State). Parts k' x) (sym a.state) parts;
+      parts = subst (λ (y : State). Parts k' y) (sym a.state) parts;
       lines = a.lines;
       sends = a.sends;
     }
 
 -- hosts and perhaps the register have changed
 pub hosted_done : (k k' : Cluster) (s : State) (nodes : List (ℕ × Node)) (r : Register) (o : Outcome) (d : Done) → Parts k s
-    → k'.config ≡ k.config → past_of k' ≡ past_of k → k'.network ≡ k.network → k'.sequencers ≡ k.sequencers → k'.readers ≡ k.readers
+    → k'.config ≡ k.config → past_of k' ≡ past_of k → k'.network ≡ k.network → k'.sequencers ≡ k.sequencers → k'.readers ≡ k.readers → k'.specs ≡ k.specs
     → AreHosts k.config k'.hosts nodes → Foresees k'.register r → d.state ≡ record s { nodes = nodes; register = r }
     → o.lines.items ≡ d.lines → o.sends ≡ d.sends → IsDone k k' o d
-hosted_done k k' s nodes r o d p e f n q ds h reg st lines sends =
+hosted_done k k' s nodes r o d p e f n q ds w h reg st lines sends =
     let t : State = record s { nodes = nodes; register = r } in
     let parts : Parts k' t = record {
       nodes = subst (λ c. AreHosts c k'.hosts nodes) (sym e) h;
@@ -110,6 +113,7 @@ hosted_done k k' s nodes r o d p e f n q ds h reg st lines sends =
       network = p.network ∙ sym n;
       sequencers = subst (λ c. AreSequencers c t k'.sequencers) (sym e) (subst (λ ks. AreSequencers k.config t ks) (sym q) (record { sequencers = p.sequencers.sequencers; logs = p.sequencers.logs }));
       readers = subst (λ c. AreReaders c t k'.readers) (sym e) (subst (λ xs. AreReaders k.config t xs) (sym ds) (record { readers = p.readers.readers; logs = p.readers.logs }));
+      specs = p.specs ∙ sym w;
     } in
     record {
       same = record { config = e; past = f };
@@ -122,17 +126,18 @@ hosted_done k k' s nodes r o d p e f n q ds h reg st lines sends =
 pub with_hosts : (k : Cluster) (s : State) (hosts : Hosts) (nodes : List (ℕ × Node)) (ls : List Line) (ms : List Msg) (o : Outcome) (d : Done) → Parts k s → AreHosts k.config hosts nodes
     → d ≡ record { state = record s { nodes = nodes }; lines = ls; sends = ms } → o.lines.items ≡ ls → o.sends ≡ ms → IsDone k (record k { hosts = hosts }) o d
 with_hosts k s hosts nodes ls ms o d p h is lines sends =
-    hosted_done k (record k { hosts = hosts }) s nodes s.register o d p refl refl refl refl refl h p.register (ap (λ (x : Done). x.state) is) (lines ∙ ap (λ (x : Done). x.lines) (sym is)) (sends ∙ ap (λ (x : Done). x.sends) (sym is))
+    hosted_done k (record k { hosts = hosts }) s nodes s.register o d p refl refl refl refl refl refl h p.register (ap (λ (x : Done). x.state) is) (lines ∙ ap (λ (x : Done). x.lines) (sym is)) (sends ∙ ap (λ (x : Done). x.sends) (sym is))
 
 -- the list of steps has grown
-pub grown_parts : (k k' : Cluster) (s : State) → Parts k s → k'.config ≡ k.config → k'.hosts ≡ k.hosts → k'.network ≡ k.network → k'.sequencers ≡ k.sequencers → k'.readers ≡ k.readers
+pub grown_parts : (k k' : Cluster) (s : State) → Parts k s → k'.config ≡ k.config → k'.hosts ≡ k.hosts → k'.network ≡ k.network → k'.sequencers ≡ k.sequencers → k'.readers ≡ k.readers → k'.specs ≡ k.specs
     → Foresees k'.register s.register → Parts k' s
-grown_parts k k' s p e h n q r reg = record {
+grown_parts k k' s p e h n q r x reg = record {
   nodes = subst (λ c. AreHosts c k'.hosts s.nodes) (sym e) (subst (λ hs. AreHosts k.config hs s.nodes) (sym h) p.nodes);
   register = reg;
   network = p.network ∙ sym n;
   sequencers = subst (λ c. AreSequencers c s k'.sequencers) (sym e) (subst (λ ks. AreSequencers k.config s ks) (sym q) p.sequencers);
   readers = subst (λ c. AreReaders c s k'.readers) (sym e) (subst (λ ds. AreReaders k.config s ds) (sym r) p.readers);
+  specs = p.specs ∙ sym x;
 }
 
 -- ---- what is known of a sound state ----
@@ -146,14 +151,14 @@ blank_is Failed h = absurd cc
 pub room_is : (c : Config) (s : State) → IsSound c s → IsInBounds c → (l : ℕ) → has_log c l ≡ true → is_crowded s.register l ≡ false
 room_is c s h b l k = room_there c b s.register l h.register k
 
-closed_by : (o : Option Epochs) (e : ℕ) (y : Summary) → ((v : Epochs) → o ≡ Some v → IsEpochs v) → find e (unwrap_or o no_epochs).summaries ≡ Some y
+closed_by : (c : Config) (l : ℕ) (o : Option Epochs) (e : ℕ) (y : Summary) → ((v : Epochs) → o ≡ Some v → IsEpochs c l v) → find e (unwrap_or o no_epochs).summaries ≡ Some y
     → (1 ≤ e) × (e ≤ (unwrap_or o no_epochs).lce)
 unfolding find
-closed_by None e y h f = absurd cc
-closed_by (Some v) e y h f = let q = all-find (IsClosedBy v.lce) e v.summaries y (h v refl).summaries f in (q.summary.epoch.0, q.closed)
+closed_by c l None e y h f = absurd cc
+closed_by c l (Some v) e y h f = let q = all-find (IsClosedBy v.lce) e v.summaries y (h v refl).summaries f in (q.summary.epoch.0, q.closed)
 
 pub closed_are : (c : Config) (s : State) → IsSound c s → (l : ℕ) → AreClosed s.register l
-closed_are c s h l = λ e y f. closed_by (find l s.register.logs) e y (λ v g. (all-find (IsKnownLog c) l s.register.logs v h.register.logs g).epochs) f
+closed_are c s h l = λ e y f. closed_by c l (find l s.register.logs) e y (λ v g. (all-find (IsKnownLog c) l s.register.logs v h.register.logs g).epochs) f
 
 -- ---- a new cluster ----
 
@@ -170,8 +175,8 @@ unfolding find_named
 no_followers c = λ name f h. absurd cc
 
 pub fresh : (k : Cluster) → IsInBounds (config_of k) → past_of k ≡ [] → AreHosts k.config k.hosts (new_nodes (members (config_of k).nodes)) → Foresees k.register empty_register
-    → k.network ≡ no_messages → k.sequencers ≡ [] → k.readers ≡ [] → IsReached k
-fresh k b past hosts register network sequencers readers =
+    → k.network ≡ no_messages → k.sequencers ≡ [] → k.readers ≡ [] → k.specs ≡ [] → IsReached k
+fresh k b past hosts register network sequencers readers specs =
     let c : Config = config_of k in
     let at : state_of k ≡ start c = ap (λ es. state_after c (start c) es) past ∙ nothing_yet c in
     let parts : Parts k (start c) = record {
@@ -180,5 +185,6 @@ fresh k b past hosts register network sequencers readers =
       network = sym network;
       sequencers = record { sequencers = ap sequencers_of (sym sequencers); logs = subst (λ ks. KnowTheirLogs c ks) (sym sequencers) (no_clients c) };
       readers = record { readers = ap followers.readers_of (sym readers); logs = subst (λ ds. followers.KnowTheirLogs c ds) (sym readers) (no_followers c) };
+      specs = sym specs;
     } in
     record { parts = subst (λ (s : State). Parts k s) (sym at) parts; bounds = b; sound = subst (λ (s : State). IsSound c s) (sym at) (start_is c b) }

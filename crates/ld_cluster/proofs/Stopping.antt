@@ -101,11 +101,11 @@ module _ (k : Cluster) (s : State) (p : Parts k s) (n : ℕ) (o : Outcome) where
   torn_done hosts call picture h a ls ms = with_hosts k s hosts _ _ _ o _ p a (tear_is (config_of k) s n call picture h) ls ms
 
 pub armed_done : (k k' : Cluster) (s : State) (call : ℕ) (done : Bool) (o : Outcome) → Parts k s
-    → k'.config ≡ k.config → k'.past ≡ k.past → k'.hosts ≡ k.hosts → k'.network ≡ k.network → k'.sequencers ≡ k.sequencers → k'.readers ≡ k.readers
+    → k'.config ≡ k.config → k'.past ≡ k.past → k'.hosts ≡ k.hosts → k'.network ≡ k.network → k'.sequencers ≡ k.sequencers → k'.readers ≡ k.readers → k'.specs ≡ k.specs
     → Foresees k'.register (armed s.register call done) → o.lines.items ≡ [] → o.sends ≡ [] → IsDone k k' o (happens (config_of k) s (events.RegFail call done))
 unfolding happens
-armed_done k k' s call done o p e f h n q r reg ls ms =
-    hosted_done k k' s s.nodes (armed s.register call done) o _ p e (ap (λ v. v.items) f) n q r (subst (λ hs. AreHosts k.config hs s.nodes) (sym h) p.nodes) reg refl ls ms
+armed_done k k' s call done o p e f h n q r x reg ls ms =
+    hosted_done k k' s s.nodes (armed s.register call done) o _ p e (ap (λ v. v.items) f) n q r x (subst (λ hs. AreHosts k.config hs s.nodes) (sym h) p.nodes) reg refl ls ms
 
 -- a flow is some deliveries, and nothing beside
 pub nothing_flows : (k : Cluster) (s : State) (most : ℕ) (o : Outcome) → Parts k s → o.lines.items ≡ [] → o.sends ≡ [] → IsDone k k o (happens (config_of k) s (events.Flow most))

@@ -1,13 +1,12 @@
 -- Nodes that look at the register.
 use Rattle.std.proofs.Common.{◌≡◌, ℕ, Bool, true, false, ◌&&◌, List, [], ◌∷◌, refl, ap, sym, ◌∙◌, if◌then◌else◌}
-use Rattle.ld_table.specs.Words.{is_in}
 use Rattle.ld_config.specs.declared.config.Config.{Config}
 use Rattle.ld_schedule.specs.declared.event.Event.TheVariants as events
 use Rattle.ld_transcript.specs.declared.line.Line.TheVariants as lines
 use Rattle.ld_msg.specs.declared.msg.Msg.{Msg}
 use Rattle.ld_op.specs.declared.op.Op.TheVariants as ops
 use Rattle.ld_op.specs.Ticks.{Ticked, Cleans, Rebuilt, Asks, Nothing}
-use Rattle.ld_machine.specs.Config.{has_node, set_of}
+use Rattle.ld_machine.specs.Config.{has_node, has_log, all_nodes}
 use Rattle.ld_machine.specs.Disk.{Node, Kept, Written, DiskFailed, Crashed, JournalFull, is_up, keep_op, keep_end}
 use Rattle.ld_machine.specs.State.{State, Done, node_at, with_node, unchanged}
 use Rattle.ld_machine.specs.Step.{happens, ticks, ticks_as, kept_lines, is_written}
@@ -50,7 +49,7 @@ rebuilt_sends false = refl
 
 -- what a tick keeps, and what it answers where that was written
 abbrev answer_by : Config → ℕ → Node → ℕ → Ticked → declared.Ticked
-answer_by c n x l t = if is_written (op_done x (op_of l t) []).end then answer_of n l (set_of c l) t else answers.Nothing
+answer_by c n x l t = if is_written (op_done x (op_of l t) []).end then answer_of n l (all_nodes c) t else answers.Nothing
 
 tick_by : (c : Config) (s : State) (n l : ℕ) (t : Ticked) → ticks_as c s n l t ≡ record {
   state = record s { nodes = kept_nodes n (op_of l t) s.nodes };
@@ -64,7 +63,7 @@ tick_by c s n l Rebuilt = let w : Kept = keep_end (node_in s.nodes n) (ops.Refil
 tick_by c s n l (Asks from) = refl
 tick_by c s n l Nothing = refl
 
-tick_is : (c : Config) (s : State) (n l : ℕ) → has_node c n ≡ true → (is_up (node_at s n).status && is_in n (set_of c l)) ≡ true
+tick_is : (c : Config) (s : State) (n l : ℕ) → has_node c n ≡ true → (is_up (node_at s n).status && has_log c l) ≡ true
     → happens c s (events.Tick n l) ≡ ticks_as c s n l (tick_of (node_in s.nodes n) l s.register)
 unfolding happens
 tick_is c s n l h k = where_here c s n (ticks c s n l) h ∙ if_yes _ _ _ k
@@ -73,7 +72,7 @@ tick_nowhere : (c : Config) (s : State) (n l : ℕ) → has_node c n ≡ false �
 unfolding happens
 tick_nowhere c s n l h = where_nowhere c s n (ticks c s n l) h
 
-tick_not : (c : Config) (s : State) (n l : ℕ) → has_node c n ≡ true → (is_up (node_at s n).status && is_in n (set_of c l)) ≡ false → happens c s (events.Tick n l) ≡ unchanged s
+tick_not : (c : Config) (s : State) (n l : ℕ) → has_node c n ≡ true → (is_up (node_at s n).status && has_log c l) ≡ false → happens c s (events.Tick n l) ≡ unchanged s
 unfolding happens
 tick_not c s n l h k = where_here c s n (ticks c s n l) h ∙ if_not _ _ _ k
 
@@ -81,14 +80,14 @@ module _ (k : Cluster) (s : State) (p : Parts k s) (n l : ℕ) (o : Outcome) whe
   pub nowhere : has_node (config_of k) n ≡ false → o.lines.items ≡ [] → o.sends ≡ [] → IsDone k k o (happens (config_of k) s (events.Tick n l))
   nowhere h ls ms = nothing_done k s o _ p (tick_nowhere (config_of k) s n l h) ls ms
 
-  pub not_ticking : has_node (config_of k) n ≡ true → (is_up (node_at s n).status && is_in n (set_of (config_of k) l)) ≡ false → o.lines.items ≡ [] → o.sends ≡ [] → IsDone k k o (happens (config_of k) s (events.Tick n l))
+  pub not_ticking : has_node (config_of k) n ≡ true → (is_up (node_at s n).status && has_log (config_of k) l) ≡ false → o.lines.items ≡ [] → o.sends ≡ [] → IsDone k k o (happens (config_of k) s (events.Tick n l))
   not_ticking h b ls ms = nothing_done k s o _ p (tick_not (config_of k) s n l h b) ls ms
 
-  pub ticked_done : (k' : Cluster) → k'.config ≡ k.config → past_of k' ≡ past_of k → k'.network ≡ k.network → k'.sequencers ≡ k.sequencers → k'.readers ≡ k.readers
-      → has_node (config_of k) n ≡ true → (is_up (node_at s n).status && is_in n (set_of (config_of k) l)) ≡ true
+  pub ticked_done : (k' : Cluster) → k'.config ≡ k.config → past_of k' ≡ past_of k → k'.network ≡ k.network → k'.sequencers ≡ k.sequencers → k'.readers ≡ k.readers → k'.specs ≡ k.specs
+      → has_node (config_of k) n ≡ true → (is_up (node_at s n).status && has_log (config_of k) l) ≡ true
       → AreHosts k.config k'.hosts (kept_nodes n (op_of l (tick_of (node_in s.nodes n) l s.register)) s.nodes) → Foresees k'.register s.register
       → o.lines.items ≡ kept_lines n (tick_lines n l (tick_answer (config_of k) n (node_in s.nodes n) l s.register)) (tick_done (config_of k) n (node_in s.nodes n) l s.register).end
       → o.sends ≡ asks_of (tick_answer (config_of k) n (node_in s.nodes n) l s.register) → IsDone k k' o (happens (config_of k) s (events.Tick n l))
-  ticked_done k' e f w q r h b a reg ls ms =
+  ticked_done k' e f w q r x h b a reg ls ms =
       let is = tick_is (config_of k) s n l h b ∙ tick_by (config_of k) s n l (tick_of (node_in s.nodes n) l s.register) in
-      hosted_done k k' s _ s.register o _ p e f w q r a reg (ap (λ (x : Done). x.state) is) (ls ∙ ap (λ (x : Done). x.lines) (sym is)) (ms ∙ ap (λ (x : Done). x.sends) (sym is))
+      hosted_done k k' s _ s.register o _ p e f w q r x a reg (ap (λ (x : Done). x.state) is) (ls ∙ ap (λ (x : Done). x.lines) (sym is)) (ms ∙ ap (λ (x : Done). x.sends) (sym is))

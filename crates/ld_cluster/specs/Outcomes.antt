@@ -12,6 +12,13 @@ pub record IsSame (old new : Cluster) : Type 0 where
   pub config : config_of new ≡ config_of old
   pub past : past_of new ≡ past_of old
 
+-- the first ones of these were added: none, some or all
+pub record AddsFirst {X : Type 0} (before now all : List X) : Type 0 where
+  pub some : List X
+  pub more : List X
+  pub whole : some ++ more ≡ all
+  pub added : now ≡ before ++ some
+
 -- the parts are those of the state, and the lines and the messages are those
 pub record IsDone (old new : Cluster) (outcome : Outcome) (done : Done) : Type 0 where
   pub same : IsSame old new
@@ -37,6 +44,7 @@ pub record IsSent (old new : Cluster) (lines_old lines_new : List Line) (s : Sta
 -- some of the messages were sent, and their lines written
 pub record IsSending (old : Cluster) (lines_old : List Line) (all : List Msg) (now : Cluster) (lines_now : List Line) (sent left : List Msg) : Type 0 where
   pub whole : sent ++ left ≡ all
+  pub same : IsSame old now
   pub done : (s : State) → Parts old s → IsSent old now lines_old lines_now s sent
 
 abbrev pub name_or_empty : Option (List ℕ) → List ℕ

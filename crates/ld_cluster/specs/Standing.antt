@@ -31,6 +31,7 @@ pub record Parts (k : Cluster) (s : State) : Type 0 where
   pub network : s.network ≡ k.network
   pub sequencers : AreSequencers k.config s k.sequencers
   pub readers : AreReaders k.config s k.readers
+  pub specs : s.specs ≡ k.specs
 
 -- it stands for a state that a run of its configuration may reach
 pub record Stands (k : Cluster) (s : State) : Type 0 where

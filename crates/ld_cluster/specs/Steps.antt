@@ -9,6 +9,7 @@ use Rattle.ld_machine.specs.State.{State, Stepped, finish}
 use Rattle.ld_machine.specs.Step.{delivers}
 use Rattle.ld_machine.specs.Run.{flows}
 use Rattle.ld_cluster.specs.Standing.{config_of, past_of, state_of, IsReached}
+use Rattle.ld_cluster.specs.Outcomes.{AddsFirst}
 use Rattle.ld_cluster.specs.declared.cluster.Cluster.{Cluster}
 
 -- ---- one delivery of a flow ----
@@ -56,6 +57,12 @@ pub record IsStep (old new : Cluster) (lines_old lines_new : List Line) (stepped
   pub lines : lines_new ≡ lines_old ++ stepped.lines
   pub reached : IsReached new
 
+-- a step that had no memory: of the events that it is made of the first ones were taken, and of its lines the first ones written
+pub record IsStepInPart (old new : Cluster) (lines_old lines_new : List Line) (stepped : Stepped) (steps : List Event) : Type 0 where
+  pub config : config_of new ≡ config_of old
+  pub past : AddsFirst (past_of old) (past_of new) steps
+  pub lines : AddsFirst lines_old lines_new stepped.lines
+
 -- so many deliveries were made, as long as a message was new
 pub record HasFlowed (old : Cluster) (lines_old : List Line) (most : ℕ) (new : Cluster) (lines_new : List Line) : Type 0 where
   pub config : config_of new ≡ config_of old
@@ -70,4 +77,8 @@ pub record IsFlowing (old : Cluster) (lines_old : List Line) (most : ℕ) (now :
   pub state : (flows left (config_of old) (state_of now)).state ≡ (flows most (config_of old) (state_of old)).state
   pub lines : lines_now ++ (flows left (config_of old) (state_of now)).lines ≡ lines_old ++ (flows most (config_of old) (state_of old)).lines
   pub past : past_of now ++ more_deliveries (config_of old) (state_of now) left (oldest_new (state_of now).network) ≡ past_of old ++ more_deliveries (config_of old) (state_of old) most (oldest_new (state_of old).network)
+  pub made : List Event
+  pub made_are : past_of now ≡ past_of old ++ made
+  pub told : List Line
+  pub told_are : lines_now ≡ lines_old ++ told
   pub reached : IsReached now

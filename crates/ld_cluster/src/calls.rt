@@ -1,9 +1,9 @@
 // What the callers of a cluster do: sequencers and readers.
-ghost use Rattle.std.specs.Prelude.{IfOk};
+ghost use Rattle.std.specs.Prelude.{IfOk, OnErr};
 ghost use Rattle.ld_schedule.specs.declared.event.Event.TheVariants.{Activate, Append, Trim, Retry, Drop, Open, Poll};
 ghost use Rattle.ld_machine.specs.Step.{happens};
 ghost use Rattle.ld_cluster.specs.Standing.{config_of, state_of, IsReached};
-ghost use Rattle.ld_cluster.specs.Outcomes.{IsDone};
+ghost use Rattle.ld_cluster.specs.Outcomes.{IsSame, IsDone};
 
 use crate::cluster::Cluster;
 use ld_clients::Outcome;
@@ -12,7 +12,7 @@ use ld_lsn::Lsn;
 use std::alloc::Global;
 
 impl Cluster {
-    /// A new sequencer of a log, of its next epoch.
+    /// A new sequencer of a log, of its next epoch, for which what is set for the log is fixed.
     pub(crate) fn activate(
         &mut self,
         alloc: Global,
@@ -20,11 +20,13 @@ impl Cluster {
         log: LogId,
     ) -> Result<Outcome, NoMemory>
         requires reached { IsReached self.old }
-        ensures { IfOk result (λ outcome. IsDone self.old self.new outcome (happens (config_of self.old) (state_of self.old) (Activate name.now log))) }
+        ensures same { OnErr result (IsSame self.old self.new) }
+        ensures done { IfOk result (λ outcome. IsDone self.old self.new outcome (happens (config_of self.old) (state_of self.old) (Activate name.now log))) }
     {
+        let spec = self.spec_set(log);
         let outcome = self
             .sequencers
-            .activate(alloc, &self.config, name, log, &mut self.register)?;
+            .activate(alloc, &self.config, name, log, &spec, &mut self.register)?;
         Ok(outcome)
     }
 
@@ -36,7 +38,8 @@ impl Cluster {
         payload: &Payload,
     ) -> Result<Outcome, NoMemory>
         requires reached { IsReached self.old }
-        ensures { IfOk result (λ outcome. IsDone self.old self.new outcome (happens (config_of self.old) (state_of self.old) (Append name.now payload.now))) }
+        ensures same { OnErr result (IsSame self.old self.new) }
+        ensures done { IfOk result (λ outcome. IsDone self.old self.new outcome (happens (config_of self.old) (state_of self.old) (Append name.now payload.now))) }
     {
         let outcome = self.sequencers.append(alloc, name, payload)?;
         Ok(outcome)
@@ -50,7 +53,8 @@ impl Cluster {
         point: Lsn,
     ) -> Result<Outcome, NoMemory>
         requires reached { IsReached self.old }
-        ensures { IfOk result (λ outcome. IsDone self.old self.new outcome (happens (config_of self.old) (state_of self.old) (Trim name.now point))) }
+        ensures same { OnErr result (IsSame self.old self.new) }
+        ensures done { IfOk result (λ outcome. IsDone self.old self.new outcome (happens (config_of self.old) (state_of self.old) (Trim name.now point))) }
     {
         let outcome = self.sequencers.trim(alloc, name, point)?;
         Ok(outcome)
@@ -59,7 +63,8 @@ impl Cluster {
     /// A sequencer asks and sends again.
     pub(crate) fn retry(&mut self, alloc: Global, name: &Name) -> Result<Outcome, NoMemory>
         requires reached { IsReached self.old }
-        ensures { IfOk result (λ outcome. IsDone self.old self.new outcome (happens (config_of self.old) (state_of self.old) (Retry name.now))) }
+        ensures same { OnErr result (IsSame self.old self.new) }
+        ensures done { IfOk result (λ outcome. IsDone self.old self.new outcome (happens (config_of self.old) (state_of self.old) (Retry name.now))) }
     {
         let outcome = self.sequencers.retry(alloc, name, &mut self.register)?;
         Ok(outcome)
@@ -68,7 +73,8 @@ impl Cluster {
     /// A sequencer is gone.
     pub(crate) fn retire(&mut self, alloc: Global, name: &Name) -> Result<Outcome, NoMemory>
         requires reached { IsReached self.old }
-        ensures { IfOk result (λ outcome. IsDone self.old self.new outcome (happens (config_of self.old) (state_of self.old) (Drop name.now))) }
+        ensures same { OnErr result (IsSame self.old self.new) }
+        ensures done { IfOk result (λ outcome. IsDone self.old self.new outcome (happens (config_of self.old) (state_of self.old) (Drop name.now))) }
     {
         Ok(self.sequencers.drop(alloc, name))
     }
@@ -83,7 +89,8 @@ impl Cluster {
         until: Lsn,
     ) -> Result<Outcome, NoMemory>
         requires reached { IsReached self.old }
-        ensures { IfOk result (λ outcome. IsDone self.old self.new outcome (happens (config_of self.old) (state_of self.old) (Open name.now log from until))) }
+        ensures same { OnErr result (IsSame self.old self.new) }
+        ensures done { IfOk result (λ outcome. IsDone self.old self.new outcome (happens (config_of self.old) (state_of self.old) (Open name.now log from until))) }
     {
         let outcome = self
             .readers
@@ -91,12 +98,16 @@ impl Cluster {
         Ok(outcome)
     }
 
-    /// A reader asks the nodes of its log.
+    /// A reader looks at the register and asks the nodes of its next number. The register fails no look, so that a refusal is
+    /// want of memory.
     pub(crate) fn poll(&mut self, alloc: Global, name: &Name) -> Result<Outcome, NoMemory>
         requires reached { IsReached self.old }
-        ensures { IfOk result (λ outcome. IsDone self.old self.new outcome (happens (config_of self.old) (state_of self.old) (Poll name.now))) }
+        ensures same { OnErr result (IsSame self.old self.new) }
+        ensures done { IfOk result (λ outcome. IsDone self.old self.new outcome (happens (config_of self.old) (state_of self.old) (Poll name.now))) }
     {
-        let outcome = self.readers.poll(alloc, name)?;
-        Ok(outcome)
+        match self.readers.poll(alloc, name, &mut self.register) {
+            Ok(outcome) => Ok(outcome),
+            Err(_) => Err(NoMemory),
+        }
     }
 }

@@ -1,13 +1,14 @@
 // The cluster.
-ghost use Rattle.std.specs.Prelude.{◌≡◌, [], is_some, IfOk, OnOk};
+ghost use Rattle.std.specs.Prelude.{◌≡◌, [], is_some, IfOk, OnOk, OnErr};
 ghost use Rattle.ld_config.specs.Bounds.{IsInBounds};
 ghost use Rattle.ld_disk.specs.Memory.{disk_plain};
 ghost use Rattle.ld_disk.specs.Plain.{new_disk};
 ghost use Rattle.ld_msg.specs.Network.{oldest_new};
 ghost use Rattle.ld_machine.specs.Run.{step};
 ghost use Rattle.ld_cluster.specs.Standing.{config_of, past_of, state_of, IsReached};
-ghost use Rattle.ld_cluster.specs.Steps.{IsStep, Counts, delivers_oldest, delivery, steps_of};
+ghost use Rattle.ld_cluster.specs.Steps.{IsStep, IsStepInPart, Counts, delivers_oldest, delivery, steps_of};
 
+use crate::specs::Specs;
 use ld_clients::{Readers, Sequencers};
 use ld_config::Config;
 use ld_disk::MemDisk;
@@ -32,6 +33,7 @@ pub struct Cluster {
     pub(crate) network: Net,
     pub(crate) sequencers: Sequencers,
     pub(crate) readers: Readers,
+    pub(crate) specs: Specs,
 }
 
 impl Cluster {
@@ -52,15 +54,17 @@ impl Cluster {
             network: Net::new(alloc),
             sequencers: Sequencers::new(alloc),
             readers: Readers::new(alloc),
+            specs: Specs::new(alloc),
         })
     }
 
     /// Takes the event as one step of the machine, or, for a `flow`, as one step for each delivery, and adds the lines.
-    /// After an `Err` the cluster may have done a part, and is of no use.
+    /// After an `Err` the cluster may have done a part, of which it has added the first lines, and is of no use.
     pub fn step(&mut self, alloc: Global, event: &Event, lines: &mut Lines) -> Result<(), NoMemory>
         requires reached { IsReached self.old }
         requires counts { Counts event.now }
-        ensures { OnOk result (IsStep self.old self.new lines.old lines.new (step (config_of self.old) (state_of self.old) event.now) (steps_of (config_of self.old) (state_of self.old) event.now)) }
+        ensures whole { OnOk result (IsStep self.old self.new lines.old lines.new (step (config_of self.old) (state_of self.old) event.now) (steps_of (config_of self.old) (state_of self.old) event.now)) }
+        ensures part { OnErr result (IsStepInPart self.old self.new lines.old lines.new (step (config_of self.old) (state_of self.old) event.now) (steps_of (config_of self.old) (state_of self.old) event.now)) }
     {
         if let Event::Flow { most } = event {
             self.flow_most(alloc, *most, lines)?;
@@ -71,11 +75,13 @@ impl Cluster {
     }
 
     /// Delivers the oldest new message, and adds the lines of that step. Answers false exactly where no message is new:
-    /// nothing changes then. After an `Err` the cluster may have done a part, and is of no use.
+    /// nothing changes then. After an `Err` the cluster may have done a part, of which it has added the first lines, and
+    /// is of no use.
     pub fn flow(&mut self, alloc: Global, lines: &mut Lines) -> Result<bool, NoMemory>
         requires reached { IsReached self.old }
         ensures more { IfOk result (λ more. more ≡ is_some (oldest_new (state_of self.old).network)) }
         ensures step { OnOk result (IsStep self.old self.new lines.old lines.new (delivers_oldest (config_of self.old) (state_of self.old)) (delivery (oldest_new (state_of self.old).network))) }
+        ensures part { OnErr result (IsStepInPart self.old self.new lines.old lines.new (delivers_oldest (config_of self.old) (state_of self.old)) (delivery (oldest_new (state_of self.old).network))) }
     {
         let Some(message) = self.network.oldest_new() else {
             return Ok(false);

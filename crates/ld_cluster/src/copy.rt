@@ -66,6 +66,17 @@ pub fn copy_of(alloc: Global, event: &Event) -> Result<Event, NoMemory>
             call: *call,
             picture: *picture,
         }),
+        Event::Set {
+            log,
+            r,
+            extras,
+            set,
+        } => Ok(Event::Set {
+            log: *log,
+            r: *r,
+            extras: *extras,
+            set: *set,
+        }),
         Event::RegFail { call, done } => Ok(Event::RegFail {
             call: *call,
             done: *done,

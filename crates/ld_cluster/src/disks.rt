@@ -1,9 +1,9 @@
 // Nodes that stop, load and lose their disks, and disks and a register that fail where they are told to.
-ghost use Rattle.std.specs.Prelude.{◌≤◌, IfOk};
+ghost use Rattle.std.specs.Prelude.{◌≤◌, IfOk, OnErr};
 ghost use Rattle.ld_schedule.specs.declared.event.Event.TheVariants.{Down, Up, Wipe, Fail, Tear, RegFail};
 ghost use Rattle.ld_machine.specs.Step.{happens};
 ghost use Rattle.ld_cluster.specs.Standing.{config_of, state_of, IsReached};
-ghost use Rattle.ld_cluster.specs.Outcomes.{IsDone};
+ghost use Rattle.ld_cluster.specs.Outcomes.{IsSame, IsDone};
 
 use crate::cluster::Cluster;
 use crate::lines::{kept, one_line};
@@ -18,7 +18,8 @@ impl Cluster {
     /// A node stops, where it runs or has failed.
     pub(crate) fn down(&mut self, alloc: Global, node: NodeId) -> Result<Outcome, NoMemory>
         requires reached { IsReached self.old }
-        ensures { IfOk result (λ outcome. IsDone self.old self.new outcome (happens (config_of self.old) (state_of self.old) (Down node))) }
+        ensures same { OnErr result (IsSame self.old self.new) }
+        ensures done { IfOk result (λ outcome. IsDone self.old self.new outcome (happens (config_of self.old) (state_of self.old) (Down node))) }
     {
         if !self.can_stop(node) {
             return Ok(Outcome::nothing(alloc));
@@ -31,7 +32,8 @@ impl Cluster {
     /// A node that is down loads its store.
     pub(crate) fn up(&mut self, alloc: Global, node: NodeId) -> Result<Outcome, NoMemory>
         requires reached { IsReached self.old }
-        ensures { IfOk result (λ outcome. IsDone self.old self.new outcome (happens (config_of self.old) (state_of self.old) (Up node))) }
+        ensures same { OnErr result (IsSame self.old self.new) }
+        ensures done { IfOk result (λ outcome. IsDone self.old self.new outcome (happens (config_of self.old) (state_of self.old) (Up node))) }
     {
         if !self.is_down(node) {
             return Ok(Outcome::nothing(alloc));
@@ -48,7 +50,8 @@ impl Cluster {
     /// A node gets a new disk.
     pub(crate) fn wipe(&mut self, alloc: Global, node: NodeId) -> Result<Outcome, NoMemory>
         requires reached { IsReached self.old }
-        ensures { IfOk result (λ outcome. IsDone self.old self.new outcome (happens (config_of self.old) (state_of self.old) (Wipe node))) }
+        ensures same { OnErr result (IsSame self.old self.new) }
+        ensures done { IfOk result (λ outcome. IsDone self.old self.new outcome (happens (config_of self.old) (state_of self.old) (Wipe node))) }
     {
         if !self.config.nodes.has(node) {
             return Ok(Outcome::nothing(alloc));
@@ -67,7 +70,8 @@ impl Cluster {
     ) -> Result<Outcome, NoMemory>
         requires reached { IsReached self.old }
         requires counts { 1 ≤ call }
-        ensures { IfOk result (λ outcome. IsDone self.old self.new outcome (happens (config_of self.old) (state_of self.old) (Fail node call))) }
+        ensures same { OnErr result (IsSame self.old self.new) }
+        ensures done { IfOk result (λ outcome. IsDone self.old self.new outcome (happens (config_of self.old) (state_of self.old) (Fail node call))) }
     {
         if !self.config.nodes.has(node) {
             return Ok(Outcome::nothing(alloc));
@@ -86,7 +90,8 @@ impl Cluster {
     ) -> Result<Outcome, NoMemory>
         requires reached { IsReached self.old }
         requires counts { 1 ≤ call }
-        ensures { IfOk result (λ outcome. IsDone self.old self.new outcome (happens (config_of self.old) (state_of self.old) (Tear node call picture))) }
+        ensures same { OnErr result (IsSame self.old self.new) }
+        ensures done { IfOk result (λ outcome. IsDone self.old self.new outcome (happens (config_of self.old) (state_of self.old) (Tear node call picture))) }
     {
         if !self.config.nodes.has(node) {
             return Ok(Outcome::nothing(alloc));

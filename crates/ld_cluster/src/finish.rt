@@ -1,9 +1,9 @@
 // How a step ends: its messages are sent, and its lines written.
-ghost use Rattle.std.specs.Prelude.{◌≡◌, ◌==◌, ◌∷◌, [], ◌++◌, length, if◌then◌else◌, IfOk, OnOk, option_copied};
+ghost use Rattle.std.specs.Prelude.{◌≡◌, ◌==◌, ◌∷◌, [], ◌++◌, length, if◌then◌else◌, IfOk, OnOk, OnErr, option_copied};
 ghost use Rattle.ld_transcript.specs.declared.line.Line.TheVariants.{Nothing};
-ghost use Rattle.ld_machine.specs.State.{State, actor_of, message_line};
+ghost use Rattle.ld_machine.specs.State.{State, actor_of, message_line, message_lines};
 ghost use Rattle.ld_cluster.specs.Standing.{Parts};
-ghost use Rattle.ld_cluster.specs.Outcomes.{IsFinished, IsSent, ended, name_or_empty};
+ghost use Rattle.ld_cluster.specs.Outcomes.{IsSame, IsFinished, IsSent, AddsFirst, ended, name_or_empty};
 
 use crate::cluster::Cluster;
 use crate::kinds::{kind_of, shown};
@@ -22,7 +22,9 @@ impl Cluster {
         outcome: Outcome,
         lines: &mut Lines,
     ) -> Result<(), NoMemory>
-        ensures { (s : State) → Parts self.old s → OnOk result (IsFinished self.old self.new lines.old lines.new (ended s outcome)) }
+        ensures done { (s : State) → Parts self.old s → OnOk result (IsFinished self.old self.new lines.old lines.new (ended s outcome)) }
+        ensures same { IsSame self.old self.new }
+        ensures part { (s : State) → Parts self.old s → OnErr result (AddsFirst lines.old lines.new (ended s outcome).lines) }
     {
         let before = lines.len();
         add_all(outcome.lines, lines)?;
@@ -33,7 +35,9 @@ impl Cluster {
 
     /// Sends messages, and adds their lines.
     fn send_each(&mut self, alloc: Global, sends: Outbox, lines: &mut Lines) -> Result<(), NoMemory>
-        ensures { (s : State) → Parts self.old s → OnOk result (IsSent self.old self.new lines.old lines.new s sends) }
+        ensures done { (s : State) → Parts self.old s → OnOk result (IsSent self.old self.new lines.old lines.new s sends) }
+        ensures same { IsSame self.old self.new }
+        ensures part { (s : State) → Parts self.old s → OnErr result (AddsFirst lines.old lines.new (message_lines s s.network.count sends)) }
     {
         for msg in sends.into_vec() {
             self.send(alloc, msg, lines)?;
@@ -43,7 +47,9 @@ impl Cluster {
 
     /// Sends a message, and adds its line.
     fn send(&mut self, alloc: Global, msg: Msg, lines: &mut Lines) -> Result<(), NoMemory>
-        ensures { (s : State) → Parts self.old s → OnOk result (IsSent self.old self.new lines.old lines.new s (msg ∷ [])) }
+        ensures done { (s : State) → Parts self.old s → OnOk result (IsSent self.old self.new lines.old lines.new s (msg ∷ [])) }
+        ensures same { IsSame self.old self.new }
+        ensures part { (s : State) → Parts self.old s → OnErr result (AddsFirst lines.old lines.new (message_line s s.network.count msg ∷ [])) }
     {
         let line = self.message_line(alloc, &msg)?;
         lines.push(line)?;
@@ -96,7 +102,8 @@ fn copy_or_empty(alloc: Global, name: Option<&Name>) -> Result<Name, NoMemory>
 
 /// Adds lines.
 fn add_all(more: Vec<Line>, lines: &mut Lines) -> Result<(), NoMemory>
-    ensures { OnOk result (lines.new ≡ lines.old ++ more.items) }
+    ensures all { OnOk result (lines.new ≡ lines.old ++ more.items) }
+    ensures part { OnErr result (AddsFirst lines.old lines.new more.items) }
 {
     for line in more {
         lines.push(line)?;
@@ -106,7 +113,8 @@ fn add_all(more: Vec<Line>, lines: &mut Lines) -> Result<(), NoMemory>
 
 /// Adds `none`, where there are only so many lines as before.
 pub(crate) fn add_none(before: usize, lines: &mut Lines) -> Result<(), NoMemory>
-    ensures { OnOk result (lines.new ≡ (if length lines.old == before then lines.old ++ Nothing ∷ [] else lines.old)) }
+    ensures all { OnOk result (lines.new ≡ (if length lines.old == before then lines.old ++ Nothing ∷ [] else lines.old)) }
+    ensures none { OnErr result (lines.new ≡ lines.old) }
 {
     if lines.len() != before {
         return Ok(());

@@ -1,9 +1,10 @@
 // A flow: deliveries one after the other.
-ghost use Rattle.std.specs.Prelude.{◌≡◌, OnOk};
+ghost use Rattle.std.specs.Prelude.{◌≡◌, OnOk, OnErr};
 ghost use Rattle.ld_schedule.specs.declared.event.Event.TheVariants.{Flow};
-ghost use Rattle.ld_machine.specs.Run.{step};
+ghost use Rattle.ld_msg.specs.Network.{oldest_new};
+ghost use Rattle.ld_machine.specs.Run.{step, flows};
 ghost use Rattle.ld_cluster.specs.Standing.{config_of, state_of, IsReached};
-ghost use Rattle.ld_cluster.specs.Steps.{IsStep, HasFlowed, steps_of};
+ghost use Rattle.ld_cluster.specs.Steps.{IsStep, IsStepInPart, HasFlowed, more_deliveries, steps_of};
 
 use crate::cluster::Cluster;
 use crate::finish::add_none;
@@ -20,7 +21,8 @@ impl Cluster {
         lines: &mut Lines,
     ) -> Result<(), NoMemory>
         requires reached { IsReached self.old }
-        ensures { OnOk result (IsStep self.old self.new lines.old lines.new (step (config_of self.old) (state_of self.old) (Flow most)) (steps_of (config_of self.old) (state_of self.old) (Flow most))) }
+        ensures whole { OnOk result (IsStep self.old self.new lines.old lines.new (step (config_of self.old) (state_of self.old) (Flow most)) (steps_of (config_of self.old) (state_of self.old) (Flow most))) }
+        ensures part { OnErr result (IsStepInPart self.old self.new lines.old lines.new (step (config_of self.old) (state_of self.old) (Flow most)) (steps_of (config_of self.old) (state_of self.old) (Flow most))) }
     {
         let before = lines.len();
         self.deliver_most(alloc, most, lines)?;
@@ -31,7 +33,8 @@ impl Cluster {
     /// Up to so many of the oldest new messages are delivered.
     fn deliver_most(&mut self, alloc: Global, most: u32, lines: &mut Lines) -> Result<(), NoMemory>
         requires reached { IsReached self.old }
-        ensures { OnOk result (HasFlowed self.old lines.old most self.new lines.new) }
+        ensures whole { OnOk result (HasFlowed self.old lines.old most self.new lines.new) }
+        ensures part { OnErr result (IsStepInPart self.old self.new lines.old lines.new (flows most (config_of self.old) (state_of self.old)) (more_deliveries (config_of self.old) (state_of self.old) most (oldest_new (state_of self.old).network))) }
     {
         let mut left = most;
         'deliveries: while 0 < left {

@@ -1,9 +1,9 @@
 // Nodes that format their stores.
-ghost use Rattle.std.specs.Prelude.{◌≡◌, ◌∷◌, [], IfOk};
+ghost use Rattle.std.specs.Prelude.{◌≡◌, ◌∷◌, [], IfOk, OnErr};
 ghost use Rattle.ld_schedule.specs.declared.event.Event.TheVariants.{Format};
 ghost use Rattle.ld_machine.specs.Step.{happens};
 ghost use Rattle.ld_cluster.specs.Standing.{config_of, state_of, IsReached};
-ghost use Rattle.ld_cluster.specs.Outcomes.{IsDone};
+ghost use Rattle.ld_cluster.specs.Outcomes.{IsSame, IsDone};
 ghost use Rattle.ld_cluster.specs.Formats.{told_of, refused_line};
 
 use crate::cluster::Cluster;
@@ -21,7 +21,8 @@ impl Cluster {
     /// A blank node loads its store, draws a generation and formats it.
     pub(crate) fn format(&mut self, alloc: Global, node: NodeId) -> Result<Outcome, NoMemory>
         requires reached { IsReached self.old }
-        ensures { IfOk result (λ outcome. IsDone self.old self.new outcome (happens (config_of self.old) (state_of self.old) (Format node))) }
+        ensures same { OnErr result (IsSame self.old self.new) }
+        ensures done { IfOk result (λ outcome. IsDone self.old self.new outcome (happens (config_of self.old) (state_of self.old) (Format node))) }
     {
         if !self.is_blank(node) {
             return Ok(Outcome::nothing(alloc));

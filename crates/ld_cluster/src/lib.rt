@@ -14,6 +14,8 @@ mod law;
 mod lines;
 mod lookup;
 mod nodes;
+mod sets;
+mod specs;
 mod take;
 #[cfg(test)]
 mod tests;

@@ -78,7 +78,7 @@ fn add_lost(
     ensures { OnOk result (lines.new.items ≡ lines.old.items ++ lost_line node (epoch_among spec.now.log epochs.now) spec.now) }
 {
     let epoch = epoch_in(epochs, spec.log);
-    if spec.set.has(node) && 0 < epoch {
+    if 0 < epoch {
         lines.push(Line::NodeLost {
             node,
             log: spec.log,

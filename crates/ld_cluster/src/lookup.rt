@@ -1,10 +1,17 @@
 // What the configuration says of a log.
 ghost use Rattle.std.specs.Prelude.{◌≡◌};
-ghost use Rattle.ld_machine.specs.Config.{spec_in};
+ghost use Rattle.ld_machine.specs.Config.{spec_in, has_log};
 
 use ld_clients::find_spec;
 use ld_config::Config;
 use ld_ids::{LogId, NodeSet, Spec};
+
+/// Whether the log is one of the configuration's.
+pub(crate) fn has_log(config: &Config, log: LogId) -> bool
+    ensures { result ≡ has_log config.now log }
+{
+    find_spec(config, log).is_some()
+}
 
 /// What is said of the log. One that is none of the configuration's has no nodes.
 pub(crate) fn spec_for(config: &Config, log: LogId) -> Spec

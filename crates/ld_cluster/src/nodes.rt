@@ -1,13 +1,12 @@
 // What is asked of a node before an event of it is taken.
 ghost use Rattle.std.specs.Prelude.{◌≡◌, ◌&&◌, ◌||◌};
-ghost use Rattle.ld_table.specs.Words.{is_in};
-ghost use Rattle.ld_machine.specs.Config.{has_node, set_of};
+ghost use Rattle.ld_machine.specs.Config.{has_node, has_log};
 ghost use Rattle.ld_machine.specs.Disk.{is_up, is_blank, is_down, is_failed};
 ghost use Rattle.ld_machine.specs.State.{State, node_at};
 ghost use Rattle.ld_cluster.specs.Standing.{config_of, Parts};
 
 use crate::cluster::Cluster;
-use crate::lookup::spec_for;
+use crate::lookup::has_log;
 use ld_host::Status;
 use ld_ids::{LogId, NodeId};
 
@@ -48,13 +47,12 @@ impl Cluster {
         }
     }
 
-    /// Whether the node is up, and one of the log's.
+    /// Whether the node is up, and the log is one of the configuration's.
     pub(crate) fn serves(&self, node: NodeId, log: LogId) -> bool
-        ensures { (s : State) → Parts self.now s → result ≡ (is_up (node_at s node).status && is_in node (set_of (config_of self.now) log)) }
+        ensures { (s : State) → Parts self.now s → result ≡ (is_up (node_at s node).status && has_log (config_of self.now) log) }
     {
-        let spec = spec_for(&self.config, log);
         match self.hosts.status(node) {
-            Status::Up => spec.set.has(node),
+            Status::Up => has_log(&self.config, log),
             Status::Down => false,
             Status::Blank => false,
             Status::Failed => false,

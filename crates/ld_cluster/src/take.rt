@@ -1,11 +1,11 @@
 // An event that is one step.
-ghost use Rattle.std.specs.Prelude.{◌≡◌, false, IfOk, OnOk};
+ghost use Rattle.std.specs.Prelude.{◌≡◌, false, IfOk, OnErr, OnOk};
 ghost use Rattle.ld_schedule.specs.declared.event.Event.TheVariants.{Lose};
 ghost use Rattle.ld_machine.specs.Step.{happens};
 ghost use Rattle.ld_machine.specs.Run.{step};
 ghost use Rattle.ld_cluster.specs.Standing.{config_of, state_of, IsReached};
-ghost use Rattle.ld_cluster.specs.Steps.{IsStep, Counts, steps_of, is_flow};
-ghost use Rattle.ld_cluster.specs.Outcomes.{IsDone};
+ghost use Rattle.ld_cluster.specs.Steps.{IsStep, IsStepInPart, Counts, steps_of, is_flow};
+ghost use Rattle.ld_cluster.specs.Outcomes.{IsSame, IsDone};
 
 use crate::cluster::Cluster;
 use crate::copy::copy_of;
@@ -27,7 +27,8 @@ impl Cluster {
         requires reached { IsReached self.old }
         requires counts { Counts event.now }
         requires one { is_flow event.now ≡ false }
-        ensures { OnOk result (IsStep self.old self.new lines.old lines.new (step (config_of self.old) (state_of self.old) event.now) (steps_of (config_of self.old) (state_of self.old) event.now)) }
+        ensures whole { OnOk result (IsStep self.old self.new lines.old lines.new (step (config_of self.old) (state_of self.old) event.now) (steps_of (config_of self.old) (state_of self.old) event.now)) }
+        ensures part { OnErr result (IsStepInPart self.old self.new lines.old lines.new (step (config_of self.old) (state_of self.old) event.now) (steps_of (config_of self.old) (state_of self.old) event.now)) }
     {
         events_are_events(event);
         let copy = copy_of(alloc, event)?;
@@ -41,7 +42,8 @@ impl Cluster {
     fn happen(&mut self, alloc: Global, event: &Event) -> Result<Outcome, NoMemory>
         requires reached { IsReached self.old }
         requires counts { Counts event.now }
-        ensures { IfOk result (λ outcome. IsDone self.old self.new outcome (happens (config_of self.old) (state_of self.old) event.now)) }
+        ensures same { OnErr result (IsSame self.old self.new) }
+        ensures done { IfOk result (λ outcome. IsDone self.old self.new outcome (happens (config_of self.old) (state_of self.old) event.now)) }
     {
         match event {
             Event::Format { node } => self.format(alloc, *node),
@@ -70,6 +72,12 @@ impl Cluster {
                 call,
                 picture,
             } => self.tear(alloc, *node, *call, *picture),
+            Event::Set {
+                log,
+                r,
+                extras,
+                set,
+            } => self.set(alloc, *log, *r, *extras, *set),
             Event::RegFail { call, done } => Ok(self.fail_register(alloc, *call, *done)),
         }
     }

@@ -1,9 +1,9 @@
 // Nodes that look at the register.
-ghost use Rattle.std.specs.Prelude.{◌≡◌, IfOk};
+ghost use Rattle.std.specs.Prelude.{◌≡◌, IfOk, OnErr};
 ghost use Rattle.ld_schedule.specs.declared.event.Event.TheVariants.{Tick};
 ghost use Rattle.ld_machine.specs.Step.{happens};
 ghost use Rattle.ld_cluster.specs.Standing.{config_of, state_of, IsReached};
-ghost use Rattle.ld_cluster.specs.Outcomes.{IsDone};
+ghost use Rattle.ld_cluster.specs.Outcomes.{IsSame, IsDone};
 ghost use Rattle.ld_cluster.specs.Ticking.{tick_lines, asks_of};
 
 use crate::cluster::Cluster;
@@ -16,7 +16,7 @@ use ld_transcript::Line;
 use std::alloc::Global;
 
 impl Cluster {
-    /// A node that is up and one of the log's looks at the log in the register.
+    /// A node that is up looks at a log of the configuration in the register.
     pub(crate) fn tick(
         &mut self,
         alloc: Global,
@@ -24,7 +24,8 @@ impl Cluster {
         log: LogId,
     ) -> Result<Outcome, NoMemory>
         requires reached { IsReached self.old }
-        ensures { IfOk result (λ outcome. IsDone self.old self.new outcome (happens (config_of self.old) (state_of self.old) (Tick node log))) }
+        ensures same { OnErr result (IsSame self.old self.new) }
+        ensures done { IfOk result (λ outcome. IsDone self.old self.new outcome (happens (config_of self.old) (state_of self.old) (Tick node log))) }
     {
         if !self.config.nodes.has(node) {
             return Ok(Outcome::nothing(alloc));

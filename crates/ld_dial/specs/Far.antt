@@ -22,7 +22,7 @@ pub record Far : Type 0 where
 
 -- a state of the machine with nothing in it but the nodes
 abbrev pub alone : List (ℕ × Node) → State
-alone nodes = record { nodes = nodes; register = empty_register; network = no_messages; sequencers = []; readers = [] }
+alone nodes = record { nodes = nodes; register = empty_register; network = no_messages; sequencers = []; readers = []; specs = [] }
 
 abbrev pub is_up_in : List (ℕ × Node) → ℕ → Bool
 is_up_in nodes y = is_up (node_at (alone nodes) y).status

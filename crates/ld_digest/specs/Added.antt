@@ -7,9 +7,9 @@ use Rattle.ld_msg.specs.Sequencer.{takes_any, next_ask}
 use Rattle.ld_digest.specs.declared.added.Added.{Added}
 use Rattle.ld_digest.specs.declared.added.Added.TheVariants.{Ask, Whole, Ignored}
 
--- a node with a page more, where the page is its next one
-abbrev pub page_added : ℕ → ℕ → ℕ → ℕ → List Entry → Told → Told
-page_added epoch from upto trim es t = if takes_page t.node from t then told_page epoch upto trim es t else t
+-- a node with a page more, where the page is its next one; good is the digest's last known good place, the page counted
+abbrev pub page_added : ℕ → ℕ → ℕ → ℕ → ℕ → ℕ → List Entry → Told → Told
+page_added epoch good from upto trim lng es t = if takes_page t.node from t then told_page epoch good upto trim lng es t else t
 
 -- what becomes of a page from a number on: the node is to be asked on, or is whole, or it isn't the node's next page
 abbrev pub IsAnswer : Added → ℕ → Told → Told → Type 0

@@ -26,6 +26,10 @@ abbrev pub AreInPlace : List Entry → Type 0
 AreInPlace [] = Unit {0}
 AreInPlace (e ∷ es) = (is_bridge e.what ≡ false → esn_of e.number < last_esn) × AreInPlace es
 
+-- so are the entries of a node, and its last known good place lies below the last one
+abbrev pub IsToldInPlace : Told → Type 0
+IsToldInPlace t = AreInPlace t.entries × (t.lng < last_esn)
+
 abbrev pub IsInPlace : List Told → Type 0
 IsInPlace [] = Unit {0}
-IsInPlace (t ∷ d) = AreInPlace t.entries × IsInPlace d
+IsInPlace (t ∷ d) = IsToldInPlace t × IsInPlace d

@@ -1,7 +1,8 @@
 // A digest.
-ghost use Rattle.std.specs.Prelude.{◌≡◌, ◌<◌, ◌-◌, ◌^◌, IfSome, IfNone, IfOk, OnOk, OnErr, false, length, slice_get, option_copied, Option};
+ghost use Rattle.std.specs.Prelude.{◌≡◌, ◌<◌, ◌-◌, ◌^◌, IfSome, IfNone, IfOk, OnOk, OnErr, false, length, map, slice_get, option_copied, Option};
 ghost use Rattle.ld_table.specs.Words.{is_in};
-ghost use Rattle.ld_msg.specs.Digest.{no_digest, with_page, with_lost, enough, Told};
+ghost use Rattle.ld_lsn.specs.Number.{last_esn};
+ghost use Rattle.ld_msg.specs.Digest.{no_digest, with_page, with_asks, with_lost, asked_anew, enough, digest_lng, Told};
 ghost use Rattle.ld_digest.specs.Added.{IsAdded};
 ghost use Rattle.ld_digest.specs.Gathering.{with_told, nodes_told, IsNodeAt, AreInPlace, IsInPlace};
 
@@ -87,21 +88,40 @@ impl Digest {
         None
     }
 
+    /// The greatest last known good place that a node has told, 0 where none has.
+    pub fn lng(&self) -> u32
+        ensures value { result ≡ digest_lng self.now.told }
+        ensures below { result < last_esn }
+    {
+        greatest_lng(self.told())
+    }
+
+    /// At a retry each node that gave a page is asked anew past what is known good by now.
+    #[tactic(auto, unfolding(ld_msg::specs::Digest::with_asks))]
+    pub fn ask_anew(&mut self)
+        ensures { self.new ≡ with_told self.old (with_asks self.old.epoch self.old.told) }
+    {
+        let good = self.lng();
+        ask_each_anew(&mut self.told, self.epoch, good);
+    }
+
     /// Adds a page of the node, where it begins at the number that the node was asked from last
     /// and the node isn't whole. The page ends before the greatest number, and of its entries only
     /// a bridge may stand at the last place of an epoch. Without memory nothing changes.
     pub fn add(&mut self, alloc: Global, node: NodeId, page: &Page) -> Result<Added, NoMemory>
         requires upto { page.now.upto < 2 ^ 64 - 1 }
         requires entries { AreInPlace page.now.entries.now }
+        requires lng { page.now.lng < last_esn }
         ensures told { OnOk result (self.new ≡ with_told self.old (with_page self.old.epoch node
-            page.now.from page.now.upto page.now.trim page.now.entries.now self.old.told)) }
+            page.now.from page.now.upto page.now.trim page.now.lng page.now.entries.now self.old.told)) }
         ensures added { IfOk result (λ added. IsAdded added node page.now.from self.old.told self.new.told) }
         ensures err { OnErr result (self.new ≡ self.old) }
     {
         let Some(place) = self.place(node) else {
             return Ok(Added::Ignored);
         };
-        let added = self.told[place].add(alloc, self.epoch, page)?;
+        let good = self.lng().max(page.lng);
+        let added = self.told[place].add(alloc, self.epoch, good, page)?;
         Ok(added)
     }
 
@@ -127,5 +147,27 @@ impl Digest {
             }
         }
         self.spec.set.len() < usize::from(self.spec.r) + whole
+    }
+}
+
+// The greatest last known good place that a node has told.
+#[tactic(auto, unfolding(ld_msg::specs::Digest::digest_lng))]
+fn greatest_lng(told: &[Told]) -> u32
+    ensures { result ≡ digest_lng told.now }
+{
+    let mut greatest = 0;
+    for one in told {
+        greatest = greatest.max(one.lng());
+    }
+    greatest
+}
+
+// Each node is asked anew past a last known good place of the epoch.
+fn ask_each_anew(told: &mut Vec<Told>, epoch: u32, good: u32)
+    requires { good < last_esn }
+    ensures { told.new.items ≡ map (asked_anew epoch good) told.old.items }
+{
+    for place in 0..told.len() {
+        told[place].ask_anew(epoch, good);
     }
 }

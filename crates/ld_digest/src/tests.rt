@@ -25,20 +25,22 @@ fn five_nodes(log: LogId) -> Spec {
     }
 }
 
-// What a node's page without entries leads to, from a place of epoch 1 up to another: the place to ask on from, 1 where the node
-// is whole, 0 where the page is ignored.
+// What a node's page without entries leads to, from a place of epoch 1 up to another, with a last known good place: the place to
+// ask on from, 1 where the node is whole, 0 where the page is ignored.
 fn adds(
     alloc: Global,
     digest: &mut Digest,
     node: NodeId,
     from: u32,
     upto: u32,
+    lng: u32,
 ) -> Result<u32, NoMemory> {
     let entries = Entries::empty(alloc);
     let page = Page {
         from: Lsn::new(1, from),
         upto: Lsn::new(1, upto),
         trim: Lsn::from_u64(0),
+        lng: lng.min(LAST - 1),
         entries: &entries,
     };
     match digest.add(alloc, node, &page)? {
@@ -65,10 +67,25 @@ fn three_whole_nodes_of_five_are_enough(rt: HostRuntime) -> Result<(), Fail> {
     ];
     'rows: for (number, from, upto, added, enough) in rows {
         let node = NodeId::new(number).expect(&rt, "a node");
-        assert_eq!(rt; adds(alloc, &mut digest, node, from, upto)?, added);
+        assert_eq!(rt; adds(alloc, &mut digest, node, from, upto, 0)?, added);
         assert_eq!(rt; digest.enough(), enough);
     }
     digest.lost(NodeId::new(3).expect(&rt, "a node"));
     assert!(rt; !digest.enough());
+    Ok(())
+}
+
+#[test]
+fn nodes_are_asked_on_past_what_is_known_good(rt: HostRuntime) -> Result<(), Fail> {
+    let alloc = rt.alloc();
+    let log = LogId::new(1).expect(&rt, "a log");
+    let one = NodeId::new(1).expect(&rt, "a node");
+    let two = NodeId::new(2).expect(&rt, "a node");
+    let mut digest = Digest::new(alloc, &five_nodes(log), 1)?;
+    assert_eq!(rt; adds(alloc, &mut digest, one, 1, 64, 0)?, 65);
+    assert_eq!(rt; adds(alloc, &mut digest, two, 1, 64, 100)?, 101);
+    // at a retry node 1 is asked anew too
+    digest.ask_anew();
+    assert_eq!(rt; adds(alloc, &mut digest, one, 101, LAST, 0)?, 1);
     Ok(())
 }

@@ -1,6 +1,7 @@
 // What one node has told.
 ghost use Rattle.std.specs.Prelude.{◌≡◌, ◌<◌, ◌-◌, ◌^◌, IfOk, OnOk, OnErr};
-ghost use Rattle.ld_msg.specs.Digest.{told_nothing, told_page, takes_page, told_lost};
+ghost use Rattle.ld_lsn.specs.Number.{last_esn};
+ghost use Rattle.ld_msg.specs.Digest.{told_nothing, told_page, takes_page, asked_anew, told_lost};
 ghost use Rattle.ld_digest.specs.Added.{page_added, IsAnswer};
 
 use crate::{Added, Page};
@@ -13,14 +14,15 @@ use std::marker::Model;
 // The greatest place of an epoch.
 const LAST_ESN: u32 = u32::MAX;
 
-/// What one node has told: the number that it was asked from last, the entries and the trim of its
-/// pages, whether they reach the epoch's end, and whether it then said that it is lost.
+/// What one node has told: the number that it was asked from last, the entries, the trim and the
+/// last known good place of its pages, whether they reach the epoch's end, and whether it then said that it is lost.
 #[derive(Drop)]
 pub struct Told {
     node: NodeId,
     asked: Lsn,
     entries: Vec<Entry>,
     trim: Lsn,
+    lng: u32,
     whole: bool,
     lost: bool,
 }
@@ -35,6 +37,7 @@ impl Model for Told {
       asked = a.asked;
       entries = a.entries.items;
       trim = a.trim;
+      lng = a.lng;
       whole = a.whole;
       lost = a.lost;
     } };
@@ -50,6 +53,7 @@ impl Told {
             asked: Lsn::new(epoch, 1),
             entries: Vec::new(alloc),
             trim: Lsn::from_u64(0),
+            lng: 0,
             whole: false,
             lost: false,
         }
@@ -83,6 +87,13 @@ impl Told {
         self.trim
     }
 
+    /// The greatest last known good place of its pages.
+    pub fn lng(&self) -> u32
+        ensures { result ≡ self.now.lng }
+    {
+        self.lng
+    }
+
     /// Whether its pages reach the epoch's end.
     pub fn is_whole(&self) -> bool
         ensures { result ≡ self.now.whole }
@@ -104,39 +115,59 @@ impl Told {
         self.asked == from && !self.whole
     }
 
-    // Takes the page. Without memory nothing changes.
-    fn take(&mut self, alloc: Global, epoch: u32, page: &Page) -> Result<(), NoMemory>
-        requires { page.now.upto < 2 ^ 64 - 1 }
-        ensures ok { OnOk result (self.new
-            ≡ told_page epoch page.now.upto page.now.trim page.now.entries.now self.old) }
+    // Takes the page, and is asked on past it and past what is known good. Without memory nothing changes.
+    fn take(&mut self, alloc: Global, epoch: u32, good: u32, page: &Page) -> Result<(), NoMemory>
+        requires upto { page.now.upto < 2 ^ 64 - 1 }
+        requires good { good < last_esn }
+        ensures ok { OnOk result (self.new ≡ told_page epoch good page.now.upto page.now.trim
+            page.now.lng page.now.entries.now self.old) }
         ensures err { OnErr result (self.new ≡ self.old) }
     {
         let mut entries = page.entries.copy(alloc)?.into_vec();
         self.entries.append(&mut entries)?;
         if let Some(next) = page.upto.next() {
-            self.asked = next;
+            self.asked = next.max(Lsn::new(epoch, good + 1));
         }
         self.trim = self.trim.max(page.trim);
+        self.lng = self.lng.max(page.lng);
         self.whole = Lsn::new(epoch, LAST_ESN) <= page.upto;
         Ok(())
     }
 
-    /// Adds the page, where it is the next one. Without memory nothing changes.
-    pub fn add(&mut self, alloc: Global, epoch: u32, page: &Page) -> Result<Added, NoMemory>
-        requires { page.now.upto < 2 ^ 64 - 1 }
-        ensures told { OnOk result (self.new ≡ page_added epoch page.now.from page.now.upto
-            page.now.trim page.now.entries.now self.old) }
+    /// Adds the page, where it is the next one; `good` is the digest's last known good place, the page
+    /// counted. Without memory nothing changes.
+    pub fn add(
+        &mut self,
+        alloc: Global,
+        epoch: u32,
+        good: u32,
+        page: &Page,
+    ) -> Result<Added, NoMemory>
+        requires upto { page.now.upto < 2 ^ 64 - 1 }
+        requires good { good < last_esn }
+        ensures told { OnOk result (self.new ≡ page_added epoch good page.now.from page.now.upto
+            page.now.trim page.now.lng page.now.entries.now self.old) }
         ensures added { IfOk result (λ added. IsAnswer added page.now.from self.old self.new) }
         ensures err { OnErr result (self.new ≡ self.old) }
     {
         if !self.takes(page.from) {
             return Ok(Added::Ignored);
         }
-        self.take(alloc, epoch, page)?;
+        self.take(alloc, epoch, good, page)?;
         if self.whole {
             Ok(Added::Whole)
         } else {
             Ok(Added::Ask(self.asked))
+        }
+    }
+
+    /// Is asked anew past what is known good by now, where it gave a page.
+    pub fn ask_anew(&mut self, epoch: u32, good: u32)
+        requires { good < last_esn }
+        ensures { self.new ≡ asked_anew epoch good self.old }
+    {
+        if self.asked != Lsn::new(epoch, 1) {
+            self.asked = self.asked.max(Lsn::new(epoch, good + 1));
         }
     }
 

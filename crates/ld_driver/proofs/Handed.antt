@@ -3,10 +3,9 @@ use Rattle.std.proofs.Common.{◌≡◌, ◌++◌, ℕ, Bool, true, false, ◌&&
 use Rattle.std.proofs.lemmas.Bool.{and_from}
 use Rattle.std.proofs.lemmas.List.{append-nil}
 use Rattle.ld_table.specs.Table.{put}
-use Rattle.ld_table.specs.Words.{is_in}
 use Rattle.ld_config.specs.declared.config.Config.{Config}
 use Rattle.ld_msg.specs.declared.msg.Msg.{Msg}
-use Rattle.ld_machine.specs.Config.{set_of}
+use Rattle.ld_machine.specs.Config.{has_log}
 use Rattle.ld_machine.specs.Disk.{Node}
 use Rattle.ld_machine.specs.State.{Done}
 use Rattle.ld_host.specs.declared.hosts.Hosts.{Hosts}
@@ -24,9 +23,9 @@ no_and true b h = h
 no_and false b h = refl
 
 module _ (c : Config) (nodes : List (ℕ × Node)) (y : ℕ) (m : Msg) (hosts : Hosts) (before now : List Msg) where
-  pub not_kept : is_in y (set_of c m.log) ≡ false → AreHosts c hosts nodes → now ≡ before → AreHanded c hosts before now (handed c nodes y m)
-  not_kept out are same = subst (λ d. AreHanded c hosts before now d) (sym (if_not _ _ _ (no_and (is_up_in nodes y) (is_in y (set_of c m.log)) out))) (are, same ∙ sym (append-nil before))
+  pub not_known : has_log c m.log ≡ false → AreHosts c hosts nodes → now ≡ before → AreHanded c hosts before now (handed c nodes y m)
+  not_known out are same = subst (λ d. AreHanded c hosts before now d) (sym (if_not _ _ _ (no_and (is_up_in nodes y) (has_log c m.log) out))) (are, same ∙ sym (append-nil before))
 
-  pub is_handed : is_up_in nodes y ≡ true → is_in y (set_of c m.log) ≡ true → AreHosts c hosts (put y (message_done y (node_in nodes y) m).node nodes) → now ≡ before ++ (message_done y (node_in nodes y) m).sends
+  pub is_handed : is_up_in nodes y ≡ true → has_log c m.log ≡ true → AreHosts c hosts (put y (message_done y (node_in nodes y) m).node nodes) → now ≡ before ++ (message_done y (node_in nodes y) m).sends
       → AreHanded c hosts before now (handed c nodes y m)
-  is_handed up keeps are same = subst (λ d. AreHanded c hosts before now d) (sym (node_up c (alone nodes) y m (and_from _ _ up keeps))) (are, same)
+  is_handed up has are same = subst (λ d. AreHanded c hosts before now d) (sym (node_up c (alone nodes) y m (and_from _ _ up has))) (are, same)

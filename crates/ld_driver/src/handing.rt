@@ -10,7 +10,7 @@ ghost use Rattle.ld_host.specs.Standing.{AreHosts};
 ghost use Rattle.ld_dial.specs.Far.{handed, is_up_in};
 
 use crate::answers::Answers;
-use crate::keeps::keeps;
+use crate::knows::knows;
 use ld_config::Config;
 use ld_host::{Hosts, Status};
 use ld_ids::{NoMemory, NodeId};
@@ -37,8 +37,8 @@ pub(crate) fn count_one(count: &mut u64)
     *count = count.saturating_add(1);
 }
 
-/// Hands a message to a node that is up. Where it keeps the message's log its answers come behind the others; else
-/// nothing happens.
+/// Hands a message to a node that is up. Where the configuration has the message's log its answers come behind the
+/// others; else nothing happens.
 pub(crate) fn hand(
     alloc: Global,
     config: &Config,
@@ -51,7 +51,7 @@ pub(crate) fn hand(
     ensures { (nodes : List (ℕ × Node)) → IsInBounds config.now → AreHosts config.now hosts.old nodes → is_up_in nodes node ≡ true → message.now.to ≡ whos.Node node
         → OnOk result (AreHosts config.now hosts.new (handed config.now nodes node message.now).state.nodes × (answers.new ≡ answers.old ++ (handed config.now nodes node message.now).sends)) }
 {
-    if !keeps(config, node, message.log) {
+    if !knows(config, message.log) {
         return Ok(());
     }
     let (_, sends) = hosts.on_msg(alloc, node, message)?;

@@ -3,7 +3,7 @@
 
 mod answers;
 mod handing;
-mod keeps;
+mod knows;
 mod links;
 
 pub use links::NodeLinks;

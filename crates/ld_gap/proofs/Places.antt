@@ -1,22 +1,6 @@
--- A list from a place on.
-use Rattle.std.proofs.Common.{◌≡◌, ℕ, zero, suc, ◌+◌, ◌<◌, List, [], ◌∷◌, length, drop, get_or, set, Some, None, ap, arith, add-one, below_more}
-use Rattle.std.specs.List.{slice_get}
+-- A list after a write at a place.
+use Rattle.std.proofs.Common.{◌≡◌, ℕ, ◌+◌, ◌<◌, List, length, get_or, set, arith, below_more}
 use Rattle.std.proofs.lemmas.Grind.{common_steps}
-
-dropped : {X : Type 0} (xs : List X) (i : ℕ) (x : X) → slice_get xs i ≡ Some x → drop i xs ≡ x ∷ drop (suc i) xs
-dropped [] i x e = absurd cc
-dropped (y ∷ xs) zero x e = let same : y ≡ x = cc in ap (λ z. z ∷ xs) same
-dropped (y ∷ xs) (suc i) x e = dropped xs i x e
-
--- the element of the place comes first
-pub drop_at_place : {X : Type 0} (xs : List X) (i : ℕ) (x : X) → slice_get xs i ≡ Some x → drop i xs ≡ x ∷ drop (i + 1) xs
-drop_at_place xs i x e = rw add-one (dropped xs i x e)
-
--- a place within the list has an element
-pub there_is : {X : Type 0} (xs : List X) (i : ℕ) → i < length xs → slice_get xs i ≡ None → ⊥
-there_is [] i h e = omega arith
-there_is (y ∷ xs) zero h e = cc
-there_is (y ∷ xs) (suc i) h e = there_is xs i (omega arith) e
 
 -- what holds of the first places holds of one more after a write there
 pub set_more : {Y : Type 0} (f : ℕ → Y) (xs : List Y) (i : ℕ) (x d : Y) → i < length xs → ((j : ℕ) → j < i → get_or xs j d ≡ f j) → x ≡ f i → (j : ℕ) → j < i + 1 → get_or (set xs i x) j d ≡ f j

@@ -1,2 +1,3 @@
-pub mod Slots
+pub mod Restored
 pub mod Shown
+pub mod Slots

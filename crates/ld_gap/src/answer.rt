@@ -150,12 +150,12 @@ impl Answer {
         }
     }
 
-    /// Whether it is a page that goes as far as the number.
+    /// Whether it is a page whose range holds the number.
     pub fn reaches(&self, number: Lsn) -> bool
         ensures { result ≡ reaches number self.now.body }
     {
         match &self.body {
-            Body::ReadPage { upto, .. } => number <= *upto,
+            Body::ReadPage { from, upto, .. } => *from <= number && number <= *upto,
             _ => false,
         }
     }

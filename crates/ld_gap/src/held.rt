@@ -1,16 +1,26 @@
 // The answers that a reader holds.
-ghost use Rattle.std.specs.Prelude.{◌≡◌, [], option_copied, Option};
-ghost use Rattle.ld_table.specs.Table.{find, put};
-ghost use Rattle.ld_table.specs.Words.{all_of, any_of};
+ghost use Rattle.std.specs.Prelude.{◌≡◌, ◌<◌, ◌+◌, [], option_copied, Option};
+ghost use Rattle.ld_table.specs.Table.{find};
+ghost use Rattle.ld_table.specs.Words.{is_in, all_of, any_of};
 ghost use Rattle.ld_ids.specs.Set.{members};
-ghost use Rattle.ld_msg.specs.Reading.{trim_held, record_held, hole_held, end_held, is_loss, lost_held, leaves_open, is_lost_for, knows_end_above};
+ghost use Rattle.ld_msg.specs.Reading.{trim_held, record_held, hole_held, end_held, is_loss, lost_held, within, leaves_open, is_lost_for, knows_end_above};
 ghost use Rattle.ld_msg.specs.Reader.{held_with, is_newer, reaches};
+ghost use Rattle.ld_gap.specs.Restored.{restored};
+ghost use Rattle.ld_gap.specs.Slots.{generation_within, with_slot};
 
 use crate::{Answer, Lost, round_of};
 use ld_ids::{NodeId, NodeSet, Payload};
 use ld_lsn::Lsn;
 use ld_msg::Body;
 use std::marker::Model;
+use std::mem;
+
+/// What was held for a node before another answer took its place.
+#[derive(Drop)]
+pub struct Replaced {
+    node: NodeId,
+    answer: Option<Answer>,
+}
 
 /// The answers that a reader holds: at most one of each node. It is seen as a table by node.
 #[derive(Drop)]
@@ -54,19 +64,33 @@ impl Held {
         }
     }
 
-    // Holds the answer for the node.
-    fn put(&mut self, node: NodeId, answer: Answer)
-        ensures { self.new ≡ put node answer self.old }
+    // Holds the answer for the node, or none, and gives back what was held for it.
+    fn exchange(&mut self, node: NodeId, answer: Option<Answer>) -> Option<Answer>
+        ensures now { self.new ≡ with_slot node answer self.old }
+        ensures back { with_slot node result self.new ≡ self.old }
     {
-        self.answers[usize::from(node.number()) - 1] = Some(answer);
+        mem::replace(&mut self.answers[usize::from(node.number()) - 1], answer)
     }
 
-    /// Holds a node's answer, unless one of a greater round is held for it.
-    pub fn hold(&mut self, node: NodeId, body: Body)
-        ensures { self.new ≡ held_with self.old node body }
+    /// Holds a node's answer, unless one of a greater round is held for it, and tells what it
+    /// replaced.
+    pub fn hold(&mut self, node: NodeId, body: Body) -> Option<Replaced>
+        ensures held { self.new ≡ held_with self.old node body }
+        ensures back { restored result self.new ≡ self.old }
     {
-        if self.is_newer(node, round_of(&body)) {
-            self.put(node, Answer::new(body));
+        if !self.is_newer(node, round_of(&body)) {
+            return None;
+        }
+        let answer = self.exchange(node, Some(Answer::new(body)));
+        Some(Replaced { node, answer })
+    }
+
+    /// Holds again what an answer replaced.
+    pub fn restore(&mut self, replaced: Option<Replaced>)
+        ensures { self.new ≡ restored replaced self.old }
+    {
+        if let Some(Replaced { node, answer }) = replaced {
+            self.exchange(node, answer);
         }
     }
 
@@ -176,13 +200,14 @@ impl Held {
         }
     }
 
-    // Whether a node is lost for the number's epoch.
+    // Whether a node of the set is lost for the number's epoch.
     #[tactic(auto, unfolding(crate::specs::Slots::filled_from))]
-    fn has_lost(&self, number: Lsn) -> bool
-        ensures { result ≡ any_of (λ h. is_lost_for number h.1.body) self.now }
+    fn has_lost(&self, number: Lsn, set: &NodeSet) -> bool
+        ensures { result ≡ any_of (λ h. is_lost_for number h.1.body) (within (members set.now) self.now) }
     {
-        for slot in &self.answers {
+        for (place, slot) in self.answers.iter().enumerate() {
             if let Some(answer) = slot
+                && stands_in(set, place)
                 && answer.lost_for(number).is_some()
             {
                 return true;
@@ -191,13 +216,14 @@ impl Held {
         false
     }
 
-    // Whether an answer shows that the number's epoch ends above the number.
+    // Whether an answer of a node of the set shows that the number's epoch ends above the number.
     #[tactic(auto, unfolding(crate::specs::Slots::filled_from))]
-    fn knows_end_above(&self, number: Lsn) -> bool
-        ensures { result ≡ any_of (λ h. knows_end_above number h.1.body) self.now }
+    fn knows_end_above(&self, number: Lsn, set: &NodeSet) -> bool
+        ensures { result ≡ any_of (λ h. knows_end_above number h.1.body) (within (members set.now) self.now) }
     {
-        for slot in &self.answers {
+        for (place, slot) in self.answers.iter().enumerate() {
             if let Some(answer) = slot
+                && stands_in(set, place)
                 && answer.knows_end_above(number)
             {
                 return true;
@@ -206,26 +232,44 @@ impl Held {
         false
     }
 
-    /// Whether each node of the set misses the number or is lost for its epoch, one at least is
+    /// Whether each node of the set misses the number or is lost for its epoch, one of them at least is
     /// lost, and one at least shows that the epoch ends above the number.
     #[tactic(auto, unfolding(ld_msg::specs::Reading::is_loss))]
     pub fn is_loss(&self, number: Lsn, set: &NodeSet) -> bool
         ensures { result ≡ is_loss number (members set.now) self.now }
     {
-        self.is_open(number, set) && self.has_lost(number) && self.knows_end_above(number)
+        self.is_open(number, set) && self.has_lost(number, set) && self.knows_end_above(number, set)
     }
 
-    /// The nodes that are lost for the number's epoch, each with its generation.
-    pub fn lost(&self, number: Lsn) -> Lost
-        ensures { result ≡ lost_held number self.now }
+    /// The nodes of the set that are lost for the number's epoch, each with its generation.
+    pub fn lost(&self, number: Lsn, set: &NodeSet) -> Lost
+        ensures { result ≡ lost_held number (within (members set.now) self.now) }
     {
         let mut generations = [None; 16];
         for (place, slot) in self.answers.iter().enumerate() {
-            generations[place] = match slot {
-                Some(answer) => answer.lost_for(number),
-                None => None,
-            };
+            generations[place] = told_by(slot, stands_in(set, place), number);
         }
         Lost::of(generations)
+    }
+}
+
+// The generation under which the slot's node is lost for the number's epoch, where it counts.
+fn told_by(slot: &Option<Answer>, counts: bool, number: Lsn) -> Option<u32>
+    ensures { result ≡ generation_within counts number slot.now }
+{
+    match slot {
+        Some(answer) if counts => answer.lost_for(number),
+        _ => None,
+    }
+}
+
+// Whether the node of a slot is in the set, the first slot being node 1's.
+fn stands_in(set: &NodeSet, place: usize) -> bool
+    requires { place < 16 }
+    ensures { result ≡ is_in (place + 1) (members set.now) }
+{
+    match NodeId::new(place as u8 + 1) {
+        Some(node) => set.has(node),
+        None => false,
     }
 }

@@ -10,7 +10,7 @@ mod tests;
 mod verdict;
 
 pub use answer::{Answer, round_of};
-pub use held::Held;
+pub use held::{Held, Replaced};
 pub use lost::Lost;
 pub use table::decide;
 pub use verdict::{Item, Verdict};

@@ -14,7 +14,7 @@ use ld_lsn::Lsn;
 /// - a page has an entry of the number: the record of the lowest node that has one, or else a hole;
 /// - the number's epoch ends before it: a bridge to the end of the epoch;
 /// - `may_confirm`, each node of the set either has given a clean page that covers the number and
-///   lacks it or is lost for the number's epoch, one at least is lost, and one at least shows that
+///   lacks it or is lost for the number's epoch, one of them at least is lost, and one shows that
 ///   the epoch ends above the number: the lost nodes are to be asked once more.
 ///
 /// Nothing is known yet exactly where none of these holds. The time is that of a walk over the held
@@ -37,7 +37,7 @@ pub fn decide<'a>(next: Lsn, may_confirm: bool, set: &NodeSet, held: &'a Held) -
         return Verdict::Gives(Item::Bridge(next.home().0));
     }
     if may_confirm && held.is_loss(next, set) {
-        return Verdict::Confirms(held.lost(next));
+        return Verdict::Confirms(held.lost(next, set));
     }
     Verdict::NotYet
 }

@@ -76,6 +76,19 @@ fn only_clean_pages_and_lost_nodes_together_are_a_loss(rt: HostRuntime) -> Resul
 }
 
 #[test]
+fn a_lost_node_outside_the_set_makes_no_loss(rt: HostRuntime) -> Result<(), Fail> {
+    let alloc = rt.alloc();
+    let one = NodeId::new(1).expect(&rt, "a node");
+    let two = NodeId::new(2).expect(&rt, "a node");
+    let set = NodeSet::empty().with(one);
+    let mut held = Held::nothing();
+    hold_empty_page(alloc, &mut held, one, true);
+    hold_lost(&mut held, two);
+    assert_eq!(rt; letter(&set, &held), b'n');
+    Ok(())
+}
+
+#[test]
 fn an_answer_of_an_equal_round_replaces_one_of_a_greater_round_stays(
     rt: HostRuntime,
 ) -> Result<(), Fail> {

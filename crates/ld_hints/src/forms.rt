@@ -12,7 +12,7 @@ pub struct Form {
 }
 
 /// The forms of all events, by their words.
-pub const FORMS: [Form; 18] = [
+pub const FORMS: [Form; 19] = [
     Form {
         word: "activate",
         fields: "S L",
@@ -77,6 +77,11 @@ pub const FORMS: [Form; 18] = [
         word: "retry",
         fields: "S",
         bounds: "S is a sequencer's name",
+    },
+    Form {
+        word: "set",
+        fields: "L R X NODES",
+        bounds: "L is a log, 1 to 65535, R a replication factor, 1 to 16, X a count of extras, 0 to 3, NODES are nodes, 1 to 16, rising, with commas between them",
     },
     Form {
         word: "tear",

@@ -30,6 +30,17 @@ fn a_field_by_its_word(rt: HostRuntime) {
     assert_eq!(rt; same, Ok(true));
 }
 
+#[test]
+fn nodes_by_their_word(rt: HostRuntime) {
+    let same = shown(
+        rt.alloc(),
+        b"set 1 2 0 2,1 ",
+        13,
+        "    set 1 2 0 2,1 \n                 ^\n    set L R X NODES: L is a log, 1 to 65535, R a replication factor, 1 to 16, X a count of extras, 0 to 3, NODES are nodes, 1 to 16, rising, with commas between them\n",
+    );
+    assert_eq!(rt; same, Ok(true));
+}
+
 /// The length of the third line of an input that is read in pieces of 4 bytes.
 fn third(alloc: Global) -> Result<usize, AllocError> {
     let mut source = Recent::new(

@@ -1,7 +1,6 @@
 -- What a message does to a node that runs on a host.
-use Rattle.std.proofs.Common.{◌≡◌, ℕ, List, [], true, false, Option, None, is_some, if◌then◌else◌, Result, Ok, Err, refl, sym, ◌∙◌, ap, subst, arith, inl, inr, ⊎_elim, ◌⊎◌}
+use Rattle.std.proofs.Common.{◌≡◌, ℕ, List, [], true, false, Option, None, if◌then◌else◌, Result, Ok, Err, refl, sym, ◌∙◌, ap, subst, arith, inl, inr, ⊎_elim, ◌⊎◌}
 use Rattle.std.proofs.lemmas.Bool.{and_from}
-use Rattle.ld_table.specs.Table.{find}
 use Rattle.ld_table.specs.Words.{is_in}
 use Rattle.ld_msg.specs.declared.msg.Msg.{Msg}
 use Rattle.ld_msg.specs.declared.msg.Body.{Body}
@@ -11,13 +10,12 @@ use Rattle.ld_op.specs.declared.op.Op.{Op}
 use Rattle.ld_op.specs.Plain.{log_of}
 use Rattle.ld_op.specs.Answers.{Handled, silent}
 use Rattle.ld_op.specs.Handles.{answer_message}
-use Rattle.ld_config.specs.Bounds.{IsInBounds}
 use Rattle.ld_config.specs.declared.config.Config.{Config}
-use Rattle.ld_machine.specs.Config.{set_of}
+use Rattle.ld_machine.specs.Config.{has_log}
 use Rattle.ld_machine.specs.Disk.{Node}
 use Rattle.ld_machine.specs.Step.{node_handles, releases, released_at}
 use Rattle.ld_node.specs.Msgs.{is_for, is_node, handled, number_in, released_by, raised, released_after}
-use Rattle.ld_node.specs.Sets.{sets_in}
+use Rattle.ld_node.specs.Known.{known_in}
 use Rattle.ld_disk.specs.Memory.{disk_plain}
 use Rattle.ld_disk.specs.Plain.{Plain as DiskPlain, after_calls, all_succeed}
 use Rattle.ld_disk.specs.declared.disk.Disk.{Ghosts}
@@ -30,7 +28,7 @@ use Rattle.ld_store.specs.Well.{IsWell}
 use Rattle.ld_store.proofs.Bodies.{places}
 use Rattle.ld_register.specs.declared.fault.RegisterFault.{RegisterFault}
 use Rattle.ld_node.specs.Changes.{AreChanges, IsPast, calls_of, with_op}
-use Rattle.ld_node.specs.Node.{id_of, sets_of, released_of, disk_of, place_of, plain_of, is_blank, Holds}
+use Rattle.ld_node.specs.Node.{id_of, known_of, released_of, disk_of, place_of, plain_of, is_blank, Holds}
 use Rattle.ld_node.specs.declared.node.Node.{Node as Running}
 use Rattle.ld_node.specs.declared.fault.NodeFault.{NodeFault}
 use Rattle.ld_node.specs.declared.fault.NodeFault.TheVariants as faults
@@ -44,16 +42,16 @@ use Rattle.ld_host.specs.Stands.{Runs, StandsAs, seen_in, leaves_of}
 use Rattle.ld_host.specs.Done.{op_done, message_done, shown_kept}
 use Rattle.ld_host.specs.States.{Refuses}
 use Rattle.ld_host.proofs.Done.{MayKeepAny, change_may, Keeps, wrote, StandsStill, stayed}
-use Rattle.ld_host.proofs.Logs.{log_is_kept}
+use Rattle.ld_host.proofs.Logs.{log_is_known}
 
 node_is_itself : (n : ℕ) → is_node n (whos.Node n) ≡ true
 node_is_itself n = grind arith
 
-module _ (c : Config) (n : ℕ) (m : Msg) (bounds : IsInBounds c) (to : m.to ≡ whos.Node n) (keeps : is_in n (set_of c m.log) ≡ true) where
-  for_it : is_for n (sets_in n c.logs) m ≡ true
-  for_it = and_from (is_node n m.to) (is_some (find m.log (sets_in n c.logs))) (ap (is_node n) to ∙ node_is_itself n) (log_is_kept c n m.log bounds keeps)
+module _ (c : Config) (n : ℕ) (m : Msg) (to : m.to ≡ whos.Node n) (has : has_log c m.log ≡ true) where
+  for_it : is_for n (known_in c) m ≡ true
+  for_it = and_from (is_node n m.to) (is_in m.log (known_in c).logs) (ap (is_node n) to ∙ node_is_itself n) (log_is_known c m.log has)
 
-  pub handled_is : (x : Node) → handled n (sets_in n c.logs) x.released x.plain m ≡ node_handles x m
+  pub handled_is : (x : Node) → handled n (known_in c) x.released x.plain m ≡ node_handles x m
   unfolding handled
   handled_is x = ap (λ b. if b then node_handles x m else silent) for_it
 
@@ -75,7 +73,7 @@ module _ (c : Config) (n : ℕ) (m : Msg) (bounds : IsInBounds c) (to : m.to ≡
   raises x l (bodies.ReadTrim ro s t) = refl
   raises x l (bodies.ReadWait ro s r) = refl
 
-  pub releases_is : (x : Node) → releases x m.log m.body ≡ record x { released = released_after n (sets_in n c.logs) x.released m }
+  pub releases_is : (x : Node) → releases x m.log m.body ≡ record x { released = released_after n (known_in c) x.released m }
   unfolding released_by
   releases_is x = raises x m.log m.body ∙ ap (λ b. record x { released = raised x.released m.log (if b then number_in m.body else None) }) (sym for_it)
 
@@ -129,22 +127,22 @@ module _ (c : Config) (n : ℕ) (p : DiskPlain) (y : Node) (lies : Lies p y) (wh
   }
 
 module _ {g : Ghosts MemDisk} (c : Config) (n : ℕ) (node : Running MemDisk g) (x : Node) (m : Msg) (runs : Runs c n node x) (is : IsMessage m) (well : IsWell (plain_of node)) (formatted : is_blank node ≡ false)
-    (bounds : IsInBounds c) (to : m.to ≡ whos.Node n) (keeps : is_in n (set_of c m.log) ≡ true) where
+    (to : m.to ≡ whos.Node n) (has : has_log c m.log ≡ true) where
   plain_is : plain_of node ≡ x.plain
   plain_is = runs.holds.state ∙ sym runs.lies.plain
 
   place_is : place_of node ≡ place_behind runs.lies.ops
   place_is = runs.holds.place ∙ places runs.lies.ops
 
-  handled_here : handled (id_of node) (sets_of node) (released_of node) (plain_of node) m ≡ node_handles x m
-  handled_here = (λ i. handled (runs.id i) (runs.sets i) (runs.released i) (plain_is i) m) ∙ handled_is c n m bounds to keeps x
+  handled_here : handled (id_of node) (known_of node) (released_of node) (plain_of node) m ≡ node_handles x m
+  handled_here = (λ i. handled (runs.id i) (runs.known i) (runs.released i) (plain_is i) m) ∙ handled_is c n m to has x
 
   -- the node once the number is released
   abbrev raised_node : Node
-  raised_node = record x { released = released_after n (sets_in n c.logs) x.released m }
+  raised_node = record x { released = released_after n (known_in c) x.released m }
 
-  raised_here : released_after (id_of node) (sets_of node) (released_of node) m ≡ raised_node.released
-  raised_here = λ i. released_after (runs.id i) (runs.sets i) (runs.released i) m
+  raised_here : released_after (id_of node) (known_of node) (released_of node) m ≡ raised_node.released
+  raised_here = λ i. released_after (runs.id i) (runs.known i) (runs.released i) m
 
   abbrev raised_lies : Lies (disk_plain (disk_of node)) raised_node
   raised_lies = record { ops = runs.lies.ops; plain = runs.lies.plain; length = runs.lies.length; formatted = runs.lies.formatted; rests = runs.lies.rests; armed = runs.lies.armed }
@@ -162,19 +160,19 @@ module _ {g : Ghosts MemDisk} (c : Config) (n : ℕ) (node : Running MemDisk g) 
   abbrev sent : List Msg
   sent = answer_message n m (node_handles x m).answer
 
-  pub answered : (h : Handled) (new : Running MemDisk g) → h ≡ handled (id_of node) (sets_of node) (released_of node) (plain_of node) m
-      → id_of new ≡ id_of node → sets_of new ≡ sets_of node → released_of new ≡ released_after (id_of node) (sets_of node) (released_of node) m
+  pub answered : (h : Handled) (new : Running MemDisk g) → h ≡ handled (id_of node) (known_of node) (released_of node) (plain_of node) m
+      → id_of new ≡ id_of node → known_of new ≡ known_of node → released_of new ≡ released_after (id_of node) (known_of node) (released_of node) m
       → ((ops : List Op) → Holds seen_in leaves_of node ops → Holds seen_in leaves_of new (with_op ops h.op)) → (IsPast (place_of node) h.op → ⊥)
       → disk_plain (disk_of new) ≡ after_calls (calls_of (place_of node) h.op) (disk_plain (disk_of node)) → all_succeed (calls_of (place_of node) h.op) (disk_plain (disk_of node)) ≡ true
       → Runs c n new (message_done n x m).node × (Written ≡ (message_done n x m).end) × (answer_message (id_of node) m h.answer ≡ (message_done n x m).sends)
-  answered h new h_is id sets released holds within disk succeed =
+  answered h new h_is id known released holds within disk succeed =
       let p = disk_plain (disk_of node) in
       let same : h ≡ node_handles x m = h_is ∙ handled_here in
       let o = (node_handles x m).op in
       let calls : calls_of (place_of node) h.op ≡ calls_of (place_behind runs.lies.ops) o = λ i. calls_of (place_is i) (same i).op in
       let keeps_it : Keeps c n p raised_node raised_lies runs.cut sent o new = record {
         id = id ∙ runs.id;
-        sets = sets ∙ runs.sets;
+        known = known ∙ runs.known;
         released = released ∙ raised_here;
         holds = subst (λ k. Holds seen_in leaves_of new (with_op runs.lies.ops k.op)) same (holds runs.lies.ops runs.holds);
         within = λ past. within (subst (λ k. IsPast (place_of node) k) (ap (λ k. k.op) (sym same)) (subst (λ l. IsPast l o) (sym place_is) past));
@@ -182,13 +180,13 @@ module _ {g : Ghosts MemDisk} (c : Config) (n : ℕ) (node : Running MemDisk g) 
         disk = disk ∙ ap (λ l. after_calls l p) calls;
       } in
       let done = wrote c n p raised_node raised_lies runs.cut sent new runs.status o may keeps_it in
-      let back = sym (releases_is c n m bounds to keeps x) in (
+      let back = sym (releases_is c n m to has x) in (
         subst (λ z. Runs c n new (op_done z o sent).node) back done.0,
         done.1 ∙ ap (λ z. (op_done z o sent).end) back,
         (λ i. answer_message (runs.id i) m (same i).answer) ∙ (done.2 ∙ ap (λ z. (op_done z o sent).sends) back),
       )
 
-  pub refuses_it : (h : Handled) (fault : NodeFault) (q : DiskPlain) (done : State × HostKept) → h ≡ handled (id_of node) (sets_of node) (released_of node) (plain_of node) m
+  pub refuses_it : (h : Handled) (fault : NodeFault) (q : DiskPlain) (done : State × HostKept) → h ≡ handled (id_of node) (known_of node) (released_of node) (plain_of node) m
       → Refused (place_of node) h.op fault (disk_plain (disk_of node)) q → Refuses fault q done
       → StandsAs c n done.0 (message_done n x m).node × (shown_kept done.1 ≡ (message_done n x m).end) × ([] ≡ (message_done n x m).sends)
   refuses_it h fault q done h_is not refuses =
@@ -197,7 +195,7 @@ module _ {g : Ghosts MemDisk} (c : Config) (n : ℕ) (node : Running MemDisk g) 
       let o = (node_handles x m).op in
       let not_here : Refused (place_behind runs.lies.ops) o fault p q = subst (λ l. Refused l o fault p q) place_is (subst (λ k. Refused (place_of node) k fault p q) (ap (λ k. k.op) same) not) in
       let left = stayed c n p raised_node raised_lies runs.cut sent o fault q done may (still c n p raised_node raised_lies runs.cut sent o fault q not_here) refuses in
-      let back = sym (releases_is c n m bounds to keeps x) in (
+      let back = sym (releases_is c n m to has x) in (
         subst (λ z. StandsAs c n done.0 (op_done z o sent).node) back left.0,
         left.1 ∙ ap (λ z. (op_done z o sent).end) back,
         left.2 ∙ ap (λ z. (op_done z o sent).sends) back,

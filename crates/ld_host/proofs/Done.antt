@@ -14,8 +14,8 @@ use Rattle.ld_store.specs.Ops.{place_behind, is_format, are_none, MayFollow}
 use Rattle.ld_register.specs.declared.fault.RegisterFault.{RegisterFault}
 use Rattle.ld_node.specs.Changes as nodes
 use Rattle.ld_node.specs.Changes.{IsChange, IsPast, calls_of, AreChanges}
-use Rattle.ld_node.specs.Node.{id_of, sets_of, released_of, disk_of, Holds}
-use Rattle.ld_node.specs.Sets.{sets_in}
+use Rattle.ld_node.specs.Node.{id_of, known_of, released_of, disk_of, Holds}
+use Rattle.ld_node.specs.Known.{known_in}
 use Rattle.ld_node.specs.declared.node.Node.{Node as Running}
 use Rattle.ld_node.specs.declared.fault.NodeFault.{NodeFault}
 use Rattle.ld_node.specs.declared.fault.NodeFault.TheVariants as faults
@@ -71,7 +71,7 @@ module _ (c : Config) (n : ℕ) (p : DiskPlain) (y : Node) (lies : Lies p y) (wh
   -- what is known of the node after a call that was made
   pub record Keeps {g : Ghosts MemDisk} (op : Option Op) (new : Running MemDisk g) : Type 0 where
     pub id : id_of new ≡ n
-    pub sets : sets_of new ≡ sets_in n c.logs
+    pub known : known_of new ≡ known_in c
     pub released : released_of new ≡ y.released
     pub holds : Holds seen_in leaves_of new (nodes.with_op lies.ops op)
     pub within : IsPast place op → ⊥
@@ -90,7 +90,7 @@ module _ (c : Config) (n : ℕ) (p : DiskPlain) (y : Node) (lies : Lies p y) (wh
         let runs : Runs c n new (with_op y o) = record {
           status = refl;
           id = keeps.id;
-          sets = keeps.sets;
+          known = keeps.known;
           released = keeps.released;
           cut = whole;
           lies = record {
@@ -116,7 +116,7 @@ module _ (c : Config) (n : ℕ) (p : DiskPlain) (y : Node) (lies : Lies p y) (wh
       record {
         status = up;
         id = keeps.id;
-        sets = keeps.sets;
+        known = keeps.known;
         released = keeps.released;
         cut = whole;
         lies = record {

@@ -25,7 +25,7 @@ use Rattle.ld_node.specs.Draws.{answered}
 use Rattle.ld_node.specs.Faults.{of_register}
 use Rattle.ld_node.specs.Formats as formats
 use Rattle.ld_node.specs.Formats.{format_of, IsWithin, KeepsFormat, FormatsBy}
-use Rattle.ld_node.specs.Node.{id_of, sets_of, released_of, disk_of, place_of, Holds}
+use Rattle.ld_node.specs.Node.{id_of, known_of, released_of, disk_of, place_of, Holds}
 use Rattle.ld_node.specs.declared.node.Node.{Node as Running}
 use Rattle.ld_node.specs.declared.fault.NodeFault.{NodeFault}
 use Rattle.ld_node.specs.declared.fault.NodeFault.TheVariants as faults
@@ -159,7 +159,7 @@ module _ (place : ℕ) (p : DiskPlain) (now : Option DiskPlain) where
   same_refusal f refusals.Failed is = cc
   same_refusal f (refusals.Damaged at) is = cc
   same_refusal f refusals.LogLimit is = cc
-  same_refusal f (refusals.Behind lce) is = cc
+  same_refusal f (refusals.Behind lce next) is = cc
   same_refusal f refusals.EpochLimit is = cc
   same_refusal f refusals.GenLimit is = cc
   same_refusal f refusals.Full is = cc
@@ -197,7 +197,7 @@ module _ (place : ℕ) (p : DiskPlain) (now : Option DiskPlain) where
   refused_none fault refusals.Failed none memory is = absurd (none refusals.Failed is)
   refused_none fault (refusals.Damaged at) none memory is = absurd (none (refusals.Damaged at) is)
   refused_none fault refusals.LogLimit none memory is = absurd (none refusals.LogLimit is)
-  refused_none fault (refusals.Behind lce) none memory is = absurd (none (refusals.Behind lce) is)
+  refused_none fault (refusals.Behind lce next) none memory is = absurd (none (refusals.Behind lce next) is)
   refused_none fault refusals.EpochLimit none memory is = absurd (none refusals.EpochLimit is)
   refused_none fault refusals.GenLimit none memory is = absurd (none refusals.GenLimit is)
   refused_none fault refusals.Full none memory is = absurd (none refusals.Full is)
@@ -285,13 +285,13 @@ module _ {g : Ghosts MemDisk} (c : Config) (n : ℕ) (node : Running MemDisk g) 
   may : (d : Drawn) → IsOp (format_of d) → calls.drawn r n ≡ Ok d → MayKeep fresh.lies.ops (load x).plain (format_of d)
   may d is granted = record { next = record { op = is; format = sym no_ops }; formatted = ap (λ k. k == 0) (format_generation (load x).plain d) ∙ generation_drawn r n d granted }
 
-  pub formats_done : (d : Drawn) (new : Running MemDisk g) → WasKept place (disk_plain (disk_of node)) (Some (disk_plain (disk_of new))) (calls.drawn r n) d → id_of new ≡ id_of node → sets_of new ≡ sets_of node → released_of new ≡ released_of node
+  pub formats_done : (d : Drawn) (new : Running MemDisk g) → WasKept place (disk_plain (disk_of node)) (Some (disk_plain (disk_of new))) (calls.drawn r n) d → id_of new ≡ id_of node → known_of new ≡ known_of node → released_of new ≡ released_of node
       → Holds seen_in leaves_of new (fresh.lies.ops ++ format_of d ∷ []) → HasFormatted (λ y. Runs c n new y) tells x n r (endings.Done d)
-  formats_done d new was id sets released holds =
+  formats_done d new was id known released holds =
       let p = disk_plain (disk_of node) in
       let keeps : Keeps c n p (load x) fresh.lies fresh.cut [] (Some (format_of d)) new = record {
         id = id ∙ fresh.id;
-        sets = sets ∙ fresh.sets;
+        known = known ∙ fresh.known;
         released = released ∙ fresh.released;
         holds = holds;
         within = was.within;

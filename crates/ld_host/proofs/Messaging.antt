@@ -5,14 +5,13 @@ use Rattle.std.specs.BTreeMap.{insert_entry}
 use Rattle.std.specs.Ordering.{match_ordering}
 use Rattle.std.proofs.lemmas.Bool.Decides.{nat_tests}
 use Rattle.ld_table.specs.Table.{put}
-use Rattle.ld_table.specs.Words.{is_in}
 use Rattle.ld_table.proofs.Laws.{find-put_same}
 use Rattle.ld_config.specs.declared.config.Config.{Config}
 use Rattle.ld_msg.specs.declared.msg.Msg.{Msg}
 use Rattle.ld_msg.specs.declared.msg.Body.{Body}
 use Rattle.ld_op.specs.declared.op.Op.{Op}
 use Rattle.ld_op.specs.Handles.{answer_message}
-use Rattle.ld_machine.specs.Config.{set_of}
+use Rattle.ld_machine.specs.Config.{has_log}
 use Rattle.ld_machine.specs.Disk.{Node, Status, Blank, Up, Down, Failed, new_node, is_up, keep_op, keep_end}
 use Rattle.ld_machine.specs.State.{State, Done, node_at, with_node}
 use Rattle.ld_machine.specs.Step as step
@@ -56,7 +55,7 @@ handles_as s n x m (Some o) b =
     ap (λ y. record { state = with_node (with_node s n x) n (keep_op y o); lines = kept_lines n [] (keep_end y o); sends = if is_written (keep_end y o) then answer_message n m b else [] }) (at_put s n x)
     ∙ ap (λ m'. record { state = record s { nodes = m' }; lines = kept_lines n [] (keep_end x o); sends = if is_written (keep_end x o) then answer_message n m b else [] }) (put-put n x (keep_op x o) s.nodes)
 
-pub node_up : (c : Config) (s : State) (n : ℕ) (m : Msg) → (is_up (node_at s n).status && is_in n (set_of c m.log)) ≡ true
+pub node_up : (c : Config) (s : State) (n : ℕ) (m : Msg) → (is_up (node_at s n).status && has_log c m.log) ≡ true
     → step.to_node c s n m ≡ record { state = with_node s n (message_done n (node_in s.nodes n) m).node; lines = kept_lines n [] (message_done n (node_in s.nodes n) m).end; sends = (message_done n (node_in s.nodes n) m).sends }
 node_up c s n m h = if_yes _ _ _ h ∙ handles_as s n (step.releases (node_at s n) m.log m.body) m (step.node_handles (node_at s n) m).op (step.node_handles (node_at s n) m).answer
 

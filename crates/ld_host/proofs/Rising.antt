@@ -11,8 +11,8 @@ use Rattle.ld_op.specs.Plain.{unformatted}
 use Rattle.ld_store.specs.Ops.{state_after, place_behind, are_none, IsDamaged}
 use Rattle.ld_store.proofs.Readings.{one_list, not_damaged}
 use Rattle.ld_register.specs.declared.fault.RegisterFault.{RegisterFault}
-use Rattle.ld_node.specs.Node.{id_of, sets_of, released_of, disk_of, is_blank, IsOpened}
-use Rattle.ld_node.specs.Sets.{sets_in}
+use Rattle.ld_node.specs.Node.{id_of, known_of, released_of, disk_of, is_blank, IsOpened}
+use Rattle.ld_node.specs.Known.{known_in}
 use Rattle.ld_node.specs.declared.node.Node.{Node as Running}
 use Rattle.ld_node.specs.declared.fault.NodeFault.{NodeFault}
 use Rattle.ld_node.specs.declared.fault.NodeFault.TheVariants as faults
@@ -92,16 +92,16 @@ module _ (c : Config) (n : ℕ) (p : DiskPlain) (x : Node) (lies : Lies p x) whe
     pub blank_stays : x.cut ≡ None → x.plain ≡ unformatted → is_blank node ≡ true
     blank_stays cut plain = sym formatted_is ∙ (ap (λ k. (found x k).generation == 0) cut ∙ ap (λ q. q.generation == 0) plain)
 
-    fresh_now : id_of node ≡ n → sets_of node ≡ sets_in n c.logs → released_of node ≡ [] → is_blank node ≡ true → IsFresh c n node (loaded_by x Made)
+    fresh_now : id_of node ≡ n → known_of node ≡ known_in c → released_of node ≡ [] → is_blank node ≡ true → IsFresh c n node (loaded_by x Made)
     unfolding lies_now
-    fresh_now id sets released blank =
+    fresh_now id known released blank =
         let b = blank_now blank (disk_of node) refl in
-        record { id = id; sets = sets; released = released; blank = blank; status = b.status; plain = b.plain; cut = refl; lies = lies_now; holds = opened.holds }
+        record { id = id; known = known; released = released; blank = blank; status = b.status; plain = b.plain; cut = refl; lies = lies_now; holds = opened.holds }
 
-    pub fresh : id_of node ≡ n → sets_of node ≡ sets_in n c.logs → released_of node ≡ [] → is_blank node ≡ true → IsFresh c n node (load x) × (load_end x ≡ Written)
-    fresh id sets released blank =
+    pub fresh : id_of node ≡ n → known_of node ≡ known_in c → released_of node ≡ [] → is_blank node ≡ true → IsFresh c n node (load x) × (load_end x ≡ Written)
+    fresh id known released blank =
         let by = load_by (made_all works) in
-        (subst (λ y. IsFresh c n node y) (sym by.0) (fresh_now id sets released blank), by.1)
+        (subst (λ y. IsFresh c n node y) (sym by.0) (fresh_now id known released blank), by.1)
 
     blank_at : is_blank node ≡ true → (s : State) → IsBlankAt (disk_of node) s → StandsAs c n s (loaded_by x Made)
     blank_at blank (states.Blank m) at = blank_now blank m at
@@ -110,12 +110,12 @@ module _ (c : Config) (n : ℕ) (p : DiskPlain) (x : Node) (lies : Lies p x) whe
     blank_at blank (states.Failed m) at = absurd at
     blank_at blank states.Gone at = absurd at
 
-    runs_now : id_of node ≡ n → sets_of node ≡ sets_in n c.logs → released_of node ≡ [] → is_blank node ≡ false → Runs c n node (loaded_by x Made)
+    runs_now : id_of node ≡ n → known_of node ≡ known_in c → released_of node ≡ [] → is_blank node ≡ false → Runs c n node (loaded_by x Made)
     unfolding lies_now
-    runs_now id sets released formatted = record {
+    runs_now id known released formatted = record {
       status = ap (λ b. if b then Blank else Up) (formatted_is ∙ formatted);
       id = id;
-      sets = sets;
+      known = known;
       released = released;
       cut = refl;
       lies = lies_now;
@@ -123,16 +123,16 @@ module _ (c : Config) (n : ℕ) (p : DiskPlain) (x : Node) (lies : Lies p x) whe
     }
 
     -- the state of a node that runs is this
-    by_blank : (b : Bool) → is_blank node ≡ b → id_of node ≡ n → sets_of node ≡ sets_in n c.logs → released_of node ≡ [] → (s up : State) → ((y : Node) → Runs c n node y → StandsAs c n up y)
+    by_blank : (b : Bool) → is_blank node ≡ b → id_of node ≡ n → known_of node ≡ known_in c → released_of node ≡ [] → (s up : State) → ((y : Node) → Runs c n node y → StandsAs c n up y)
         → (is_blank node ≡ false → s ≡ up) → (is_blank node ≡ true → IsBlankAt (disk_of node) s) → StandsAs c n s (loaded_by x Made)
-    by_blank true is id sets released s up stands at_up at_blank = blank_at is s (at_blank is)
-    by_blank false is id sets released s up stands at_up at_blank = subst (λ t. StandsAs c n t (loaded_by x Made)) (sym (at_up is)) (stands (loaded_by x Made) (runs_now id sets released is))
+    by_blank true is id known released s up stands at_up at_blank = blank_at is s (at_blank is)
+    by_blank false is id known released s up stands at_up at_blank = subst (λ t. StandsAs c n t (loaded_by x Made)) (sym (at_up is)) (stands (loaded_by x Made) (runs_now id known released is))
 
-    pub rises : id_of node ≡ n → sets_of node ≡ sets_in n c.logs → released_of node ≡ [] → (s up : State) → ((y : Node) → Runs c n node y → StandsAs c n up y)
+    pub rises : id_of node ≡ n → known_of node ≡ known_in c → released_of node ≡ [] → (s up : State) → ((y : Node) → Runs c n node y → StandsAs c n up y)
         → (is_blank node ≡ false → s ≡ up) → (is_blank node ≡ true → IsBlankAt (disk_of node) s) → StandsAs c n s (load x) × (Written ≡ load_end x)
-    rises id sets released s up stands at_up at_blank =
+    rises id known released s up stands at_up at_blank =
         let by = load_by (made_all works) in
-        (subst (λ y. StandsAs c n s y) (sym by.0) (by_blank (is_blank node) refl id sets released s up stands at_up at_blank), sym by.1)
+        (subst (λ y. StandsAs c n s y) (sym by.0) (by_blank (is_blank node) refl id known released s up stands at_up at_blank), sym by.1)
 
   -- ---- it doesn't ----
 

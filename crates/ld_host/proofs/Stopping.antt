@@ -8,11 +8,11 @@ use Rattle.ld_disk.specs.declared.disk.Disk.{Ghosts}
 use Rattle.ld_disk.specs.declared.disk.Fault.{Fault as DiskFault}
 use Rattle.ld_disk.specs.declared.memory.MemDisk.{MemDisk}
 use Rattle.ld_store.specs.Ops.{IsJournalOf}
-use Rattle.ld_node.specs.Node.{id_of, sets_of, released_of, disk_of, Holds}
+use Rattle.ld_node.specs.Node.{id_of, known_of, released_of, disk_of, Holds}
 use Rattle.ld_node.specs.declared.node.Node.{Node as Running}
 use Rattle.ld_op.specs.declared.op.Op.{Op}
 use Rattle.ld_config.specs.declared.config.Config.{Config}
-use Rattle.ld_machine.specs.Disk.{Node, Fault, Blank, Up, Down, Failed, new_node}
+use Rattle.ld_machine.specs.Disk.{Node, Fault, Down, new_node}
 use Rattle.ld_machine.specs.Step.{with_fault, stopped}
 use Rattle.ld_host.specs.declared.state.State.{State}
 use Rattle.ld_host.specs.declared.state.State.TheVariants as states
@@ -66,22 +66,6 @@ module _ (c : Config) (n : ℕ) where
   pub stops : (s : State) (x : Node) (m : MemDisk) → StandsAs c n s x → disk_in s ≡ Some m → IsStopped Down m (stopped x)
   stops s x m stands is = record { is = refl; lies = stopped_lies (disk_plain m) x (lies_in s x m stands is) }
 
-blank_up : Up ≡ Blank → ⊥
-blank_up is = absurd (cc is)
-
-blank_down : Down ≡ Blank → ⊥
-blank_down is = absurd (cc is)
-
-blank_failed : Failed ≡ Blank → ⊥
-blank_failed is = absurd (cc is)
-
-pub blank_here : (c : Config) (n : ℕ) (s : State) (x : Node) (m : MemDisk) → StandsAs c n s x → x.status ≡ Blank → disk_in s ≡ Some m → IsBlank m x
-blank_here c n (states.Blank d) x m stands blank is = subst (λ d. IsBlank d x) (some_is d m is) stands
-blank_here c n (states.Up node) x m stands blank is = absurd (blank_up (sym stands.status ∙ blank))
-blank_here c n (states.Down d) x m stands blank is = absurd (blank_down (sym stands.is ∙ blank))
-blank_here c n (states.Failed d) x m stands blank is = absurd (blank_failed (sym stands.is ∙ blank))
-blank_here c n states.Gone x m stands blank is = absurd stands
-
 -- ---- a disk that is armed ----
 
 unfoldable pub armed_lies : (p : DiskPlain) (x : Node) (f : Fault) (fault : DiskFault) → fault ≡ fault_of f.left (crash_of f.crash) → 1 ≤ f.left → Lies p x → Lies (armed_with fault p) (with_fault x f)
@@ -99,14 +83,14 @@ armed_too m new fault is = some_is (disk_plain new) (armed_with fault (disk_plai
 
 module _ {g : Ghosts MemDisk} (c : Config) (n : ℕ) (node new : Running MemDisk g) (x : Node) (f : Fault) (fault : DiskFault) where
   pub armed_runs : fault ≡ fault_of f.left (crash_of f.crash) → 1 ≤ f.left → Runs c n node x → disk_plain (disk_of new) ≡ armed_with fault (disk_plain (disk_of node))
-      → id_of new ≡ id_of node → sets_of new ≡ sets_of node → released_of new ≡ released_of node → ((ops : List Op) → Holds seen_in leaves_of node ops → Holds seen_in leaves_of new ops) → Runs c n new (with_fault x f)
+      → id_of new ≡ id_of node → known_of new ≡ known_of node → released_of new ≡ released_of node → ((ops : List Op) → Holds seen_in leaves_of node ops → Holds seen_in leaves_of new ops) → Runs c n new (with_fault x f)
   unfolding armed_lies
-  armed_runs is counts runs disk id sets released holds =
+  armed_runs is counts runs disk id known released holds =
       let now = armed_lies (disk_plain (disk_of node)) x f fault is counts runs.lies in
       record {
         status = runs.status;
         id = id ∙ runs.id;
-        sets = sets ∙ runs.sets;
+        known = known ∙ runs.known;
         released = released ∙ runs.released;
         cut = runs.cut;
         lies = record {

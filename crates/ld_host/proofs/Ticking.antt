@@ -1,9 +1,6 @@
 -- What a look at the register does to a node that runs on a host.
-use Rattle.std.proofs.Common.{◌≡◌, ℕ, List, [], ◌∷◌, ◌++◌, true, false, Option, None, Some, is_some, if◌then◌else◌, refl, sym, ◌∙◌, ap, subst, inl, inr, ◌⊎◌, true≢false}
-use Rattle.std.specs.Option.{unwrap_or}
-use Rattle.ld_table.specs.Table.{find}
+use Rattle.std.proofs.Common.{◌≡◌, ℕ, List, [], ◌∷◌, ◌++◌, true, false, Option, None, Some, if◌then◌else◌, refl, sym, ◌∙◌, ap, subst, inl, inr, ◌⊎◌, true≢false}
 use Rattle.ld_table.specs.Words.{is_in}
-use Rattle.ld_ids.specs.Set.{members}
 use Rattle.ld_disk.specs.Memory.{disk_plain}
 use Rattle.ld_disk.specs.Plain.{Plain as DiskPlain, after_calls, all_succeed}
 use Rattle.ld_disk.specs.declared.disk.Disk.{Ghosts}
@@ -17,18 +14,17 @@ use Rattle.ld_store.specs.Ops.{place_behind, are_none, is_format, AreOps}
 use Rattle.ld_store.proofs.Bodies.{places}
 use Rattle.ld_register.specs.Calls.{unarmed}
 use Rattle.ld_node.specs.Changes.{IsChange, AreChanges, IsPast, calls_of, with_op}
-use Rattle.ld_node.specs.Looks.{AreClosed, ticked, nodes_in, op_of, answer_of}
-use Rattle.ld_node.specs.Node.{id_of, sets_of, released_of, disk_of, place_of, plain_of, is_blank, Holds}
-use Rattle.ld_node.specs.Sets.{sets_in}
+use Rattle.ld_node.specs.Looks.{AreClosed, ticked, op_of, answer_of}
+use Rattle.ld_node.specs.Node.{id_of, known_of, released_of, disk_of, place_of, plain_of, is_blank, Holds}
+use Rattle.ld_node.specs.Known.{known_in}
 use Rattle.ld_node.specs.declared.node.Node.{Node as Running}
 use Rattle.ld_node.specs.declared.tick.Ticked as answers
 use Rattle.ld_node.specs.declared.tick.Ticked.TheVariants as ticks
 use Rattle.ld_node.specs.declared.fault.NodeFault.{NodeFault}
 use Rattle.ld_node.specs.declared.fault.NodeFault.TheVariants as faults
 use Rattle.ld_node.proofs.Looks.{ticked_is}
-use Rattle.ld_config.specs.Bounds.{IsInBounds}
 use Rattle.ld_config.specs.declared.config.Config.{Config}
-use Rattle.ld_machine.specs.Config.{set_of}
+use Rattle.ld_machine.specs.Config.{all_nodes, has_log}
 use Rattle.ld_machine.specs.Disk.{Node, Written}
 use Rattle.ld_machine.specs.Step.{is_written}
 use Rattle.ld_host.specs.declared.kept.Kept.{Kept as HostKept}
@@ -37,7 +33,7 @@ use Rattle.ld_host.specs.States.{Refuses}
 use Rattle.ld_host.specs.Stands.{Runs, StandsAs, seen_in, leaves_of}
 use Rattle.ld_host.specs.Done.{shown_kept, tick_of, tick_done, tick_answer}
 use Rattle.ld_host.proofs.Done.{MayKeepAny, change_may, Keeps, wrote, stayed}
-use Rattle.ld_host.proofs.Logs.{set_is_kept}
+use Rattle.ld_host.proofs.Logs.{log_is_known}
 use Rattle.ld_host.proofs.Answering.{Refused, still}
 
 -- ---- the last of some ops ----
@@ -54,22 +50,22 @@ pub last_any : (os : List Op) (op : Option Op) → are_none os ≡ false → Are
 last_any os None some are = tt
 last_any os (Some o) some are = last_of os o some are
 
-module _ {g : Ghosts MemDisk} (c : Config) (n : ℕ) (node : Running MemDisk g) (x : Node) (l : ℕ) (r : Register) (runs : Runs c n node x) (formatted : is_blank node ≡ false) (bounds : IsInBounds c)
-    (keeps : is_in n (set_of c l) ≡ true) (closed : AreClosed r l) where
+module _ {g : Ghosts MemDisk} (c : Config) (n : ℕ) (node : Running MemDisk g) (x : Node) (l : ℕ) (r : Register) (runs : Runs c n node x) (formatted : is_blank node ≡ false)
+    (has : has_log c l ≡ true) (closed : AreClosed r l) where
   plain_is : plain_of node ≡ x.plain
   plain_is = runs.holds.state ∙ sym runs.lies.plain
 
   place_is : place_of node ≡ place_behind runs.lies.ops
   place_is = runs.holds.place ∙ places runs.lies.ops
 
-  ticks_here : (if is_some (find l (sets_in n c.logs)) then on_tick (log_of x.plain l) (epochs_of (unarmed r) l).summaries else Nothing) ≡ tick_of x l r
-  ticks_here = ap (λ o. if is_some o then on_tick (log_of x.plain l) (epochs_of r l).summaries else Nothing) (set_is_kept c n l bounds keeps)
+  ticks_here : (if is_in l (known_in c).logs then on_tick (log_of x.plain l) (epochs_of (unarmed r) l).summaries else Nothing) ≡ tick_of x l r
+  ticks_here = ap (λ b. if b then on_tick (log_of x.plain l) (epochs_of r l).summaries else Nothing) (log_is_known c l has)
 
-  tick_is : ticked (sets_of node) (plain_of node) l (unarmed r) ≡ tick_of x l r
-  tick_is = (λ i. ticked (runs.sets i) (plain_is i) l (unarmed r)) ∙ (ticked_is (sets_in n c.logs) x.plain l (unarmed r) closed ∙ ticks_here)
+  tick_is : ticked (known_of node) (plain_of node) l (unarmed r) ≡ tick_of x l r
+  tick_is = (λ i. ticked (runs.known i) (plain_is i) l (unarmed r)) ∙ (ticked_is (known_in c) x.plain l (unarmed r) closed ∙ ticks_here)
 
-  nodes_are : nodes_in (sets_of node) l ≡ set_of c l
-  nodes_are = ap (λ s. nodes_in s l) runs.sets ∙ ap (λ o. members (unwrap_or o [])) (set_is_kept c n l bounds keeps)
+  nodes_are : (known_of node).nodes ≡ all_nodes c
+  nodes_are = ap (λ k. k.nodes) runs.known
 
   some_ops : are_none runs.lies.ops ≡ false
   some_ops = sym runs.holds.blank ∙ formatted
@@ -77,12 +73,12 @@ module _ {g : Ghosts MemDisk} (c : Config) (n : ℕ) (node : Running MemDisk g) 
   may : AreChanges (op_of l (tick_of x l r)) → MayKeepAny runs.lies.ops x.plain (op_of l (tick_of x l r))
   may changes = change_may runs.lies.ops x.plain (op_of l (tick_of x l r)) changes some_ops runs.lies.formatted
 
-  pub ticked_well : (t : Ticked) (new : Running MemDisk g) (answer : answers.Ticked) → t ≡ ticked (sets_of node) (plain_of node) l (unarmed r)
-      → id_of new ≡ id_of node → sets_of new ≡ sets_of node → released_of new ≡ released_of node → Holds seen_in leaves_of new (with_op runs.lies.ops (op_of l t)) → (IsPast (place_of node) (op_of l t) → ⊥)
+  pub ticked_well : (t : Ticked) (new : Running MemDisk g) (answer : answers.Ticked) → t ≡ ticked (known_of node) (plain_of node) l (unarmed r)
+      → id_of new ≡ id_of node → known_of new ≡ known_of node → released_of new ≡ released_of node → Holds seen_in leaves_of new (with_op runs.lies.ops (op_of l t)) → (IsPast (place_of node) (op_of l t) → ⊥)
       → disk_plain (disk_of new) ≡ after_calls (calls_of (place_of node) (op_of l t)) (disk_plain (disk_of node)) → all_succeed (calls_of (place_of node) (op_of l t)) (disk_plain (disk_of node)) ≡ true
-      → answer ≡ answer_of (id_of node) l (nodes_in (sets_of node) l) t
+      → answer ≡ answer_of (id_of node) l ((known_of node).nodes) t
       → Runs c n new (tick_done c n x l r).node × (Written ≡ (tick_done c n x l r).end) × (answer ≡ tick_answer c n x l r)
-  ticked_well t new answer t_is id sets released holds within disk succeed answer_is =
+  ticked_well t new answer t_is id known released holds within disk succeed answer_is =
       let p = disk_plain (disk_of node) in
       let same : t ≡ tick_of x l r = t_is ∙ tick_is in
       let o = op_of l (tick_of x l r) in
@@ -90,7 +86,7 @@ module _ {g : Ghosts MemDisk} (c : Config) (n : ℕ) (node : Running MemDisk g) 
       let holds_here : Holds seen_in leaves_of new (with_op runs.lies.ops o) = subst (λ k. Holds seen_in leaves_of new (with_op runs.lies.ops (op_of l k))) same holds in
       let keeps_it : Keeps c n p x runs.lies runs.cut [] o new = record {
         id = id ∙ runs.id;
-        sets = sets ∙ runs.sets;
+        known = known ∙ runs.known;
         released = released ∙ runs.released;
         holds = holds_here;
         within = λ past. within (subst (λ k. IsPast (place_of node) k) (ap (λ k. op_of l k) (sym same)) (subst (λ m. IsPast m o) (sym place_is) past));
@@ -100,7 +96,7 @@ module _ {g : Ghosts MemDisk} (c : Config) (n : ℕ) (node : Running MemDisk g) 
       let done = wrote c n p x runs.lies runs.cut [] new runs.status o (may (last_any runs.lies.ops o some_ops holds_here.ops)) keeps_it in (
         done.0,
         done.1,
-        answer_is ∙ ((λ i. answer_of (runs.id i) l (nodes_are i) (same i)) ∙ ap (λ e. if is_written e then answer_of n l (set_of c l) (tick_of x l r) else ticks.Nothing) done.1),
+        answer_is ∙ ((λ i. answer_of (runs.id i) l (nodes_are i) (same i)) ∙ ap (λ e. if is_written e then answer_of n l (all_nodes c) (tick_of x l r) else ticks.Nothing) done.1),
       )
 
   abbrev Stops : State × HostKept → Type 0
@@ -111,7 +107,7 @@ module _ {g : Ghosts MemDisk} (c : Config) (n : ℕ) (node : Running MemDisk g) 
       let p = disk_plain (disk_of node) in
       let o = op_of l (tick_of x l r) in
       let left = stayed c n p x runs.lies runs.cut [] o fault q done (may changes) (still c n p x runs.lies runs.cut [] o fault q not) refuses in
-      (left.0, left.1, ap (λ b. if b then answer_of n l (set_of c l) (tick_of x l r) else ticks.Nothing) (sym left.3))
+      (left.0, left.1, ap (λ b. if b then answer_of n l (all_nodes c) (tick_of x l r) else ticks.Nothing) (sym left.3))
 
   stops_by : (fault : NodeFault) (q : DiskPlain) (done : State × HostKept) → ((fault ≡ faults.Disk) ⊎ (fault ≡ faults.Full) → AreChanges (op_of l (tick_of x l r)))
       → Refused (place_behind runs.lies.ops) (op_of l (tick_of x l r)) fault (disk_plain (disk_of node)) q → Refuses fault q done → Stops done
@@ -122,7 +118,7 @@ module _ {g : Ghosts MemDisk} (c : Config) (n : ℕ) (node : Running MemDisk g) 
   stops_by (faults.Register f) q done changes not refuses = absurd (not.register f refl)
   stops_by faults.NoMemory q done changes not refuses = absurd (refuses.memory refl)
 
-  pub tick_stops : (t : Ticked) (fault : NodeFault) (q : DiskPlain) (done : State × HostKept) → t ≡ ticked (sets_of node) (plain_of node) l (unarmed r)
+  pub tick_stops : (t : Ticked) (fault : NodeFault) (q : DiskPlain) (done : State × HostKept) → t ≡ ticked (known_of node) (plain_of node) l (unarmed r)
       → ((fault ≡ faults.Disk) ⊎ (fault ≡ faults.Full) → AreChanges (op_of l t)) → Refused (place_of node) (op_of l t) fault (disk_plain (disk_of node)) q → Refuses fault q done → Stops done
   tick_stops t fault q done t_is changes not refuses =
       let p = disk_plain (disk_of node) in

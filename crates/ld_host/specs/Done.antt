@@ -16,7 +16,7 @@ use Rattle.ld_register.specs.declared.register.Drawn.{Drawn}
 use Rattle.ld_node.specs.Looks.{op_of, answer_of}
 use Rattle.ld_node.specs.declared.tick.Ticked as answers
 use Rattle.ld_node.specs.declared.tick.Ticked.TheVariants as ticks
-use Rattle.ld_machine.specs.Config.{set_of}
+use Rattle.ld_machine.specs.Config.{all_nodes}
 use Rattle.ld_machine.specs.Disk.{Node, new_node, Kept, Written, DiskFailed, Crashed, JournalFull, keep_op, keep_end, load, load_end}
 use Rattle.ld_machine.specs.Step.{node_handles, releases, is_written}
 use Rattle.ld_host.specs.declared.kept.Kept.{Kept as HostKept}
@@ -100,4 +100,4 @@ kept_nodes n (Some o) nodes = put n (keep_op (node_in nodes n) o) nodes
 
 -- what it answers, which is nothing where its op wasn't kept
 abbrev pub tick_answer : Config → ℕ → Node → ℕ → Register → answers.Ticked
-tick_answer c n x l r = if is_written (tick_done c n x l r).end then answer_of n l (set_of c l) (tick_of x l r) else ticks.Nothing
+tick_answer c n x l r = if is_written (tick_done c n x l r).end then answer_of n l (all_nodes c) (tick_of x l r) else ticks.Nothing

@@ -6,8 +6,8 @@ use Rattle.ld_disk.specs.declared.disk.Disk.{Ghosts}
 use Rattle.ld_disk.specs.declared.memory.MemDisk.{MemDisk}
 use Rattle.ld_op.specs.Plain.{Plain, unformatted}
 use Rattle.ld_store.specs.Ops.{StandsFor}
-use Rattle.ld_node.specs.Node.{id_of, sets_of, released_of, disk_of, is_blank, Holds}
-use Rattle.ld_node.specs.Sets.{sets_in}
+use Rattle.ld_node.specs.Node.{id_of, known_of, released_of, disk_of, is_blank, Holds}
+use Rattle.ld_node.specs.Known.{known_in}
 use Rattle.ld_node.specs.declared.node.Node.{Node as Running}
 use Rattle.ld_config.specs.declared.config.Config.{Config}
 use Rattle.ld_machine.specs.Disk.{Node, Status, Blank, Up, Down, Failed}
@@ -30,7 +30,7 @@ module _ {g : Ghosts MemDisk} where
   pub record Runs (c : Config) (n : ℕ) (node : Running MemDisk g) (x : Node) : Type 0 where
     pub status : x.status ≡ Up
     pub id : id_of node ≡ n
-    pub sets : sets_of node ≡ sets_in n c.logs
+    pub known : known_of node ≡ known_in c
     pub released : released_of node ≡ x.released
     pub cut : x.cut ≡ None
     pub lies : Lies (disk_plain (disk_of node)) x
@@ -47,7 +47,7 @@ module _ {g : Ghosts MemDisk} where
   -- a node was loaded whose store isn't formatted: it is the machine's node once that is loaded
   pub record IsFresh (c : Config) (n : ℕ) (node : Running MemDisk g) (y : Node) : Type 0 where
     pub id : id_of node ≡ n
-    pub sets : sets_of node ≡ sets_in n c.logs
+    pub known : known_of node ≡ known_in c
     pub released : released_of node ≡ y.released
     pub blank : is_blank node ≡ true
     pub status : y.status ≡ Blank

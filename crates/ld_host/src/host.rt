@@ -29,12 +29,10 @@ pub struct Host {
 
 impl Host {
     ghost use Rattle.std.specs.Prelude.{◌≤◌, ◌≢◌, ℕ, true, [], IfOk};
-    ghost use Rattle.ld_table.specs.Words.{is_in};
     ghost use Rattle.ld_msg.specs.Bounds.{IsMessage};
     ghost use Rattle.ld_msg.specs.declared.msg.Who.TheVariants as whos;
-    ghost use Rattle.ld_config.specs.Bounds.{IsInBounds};
     ghost use Rattle.ld_config.specs.declared.config.Config.{Config as Settings};
-    ghost use Rattle.ld_machine.specs.Config.{set_of};
+    ghost use Rattle.ld_machine.specs.Config.{has_log};
     ghost use Rattle.ld_machine.specs.Disk.{Node, Blank, Up, new_node, load, load_end};
     ghost use Rattle.ld_machine.specs.Step.{with_fault, stopped};
     ghost use Rattle.ld_host.specs.Stands.{Stands, shown_status};
@@ -100,7 +98,7 @@ impl Host {
         self.state = state.armed(fault(left, crash));
     }
 
-    /// Loads the node from its disk, in one writing call, with the logs of the configuration that it keeps.
+    /// Loads the node from its disk, in one writing call, with the nodes and the logs of the configuration.
     pub fn load(&mut self, alloc: Global, config: &Config) -> Result<Kept, NoMemory>
         ensures { (n : ℕ) (x : Node) → Stands config.now n self.old x → IfOk result (λ kept. Stands config.now n self.new (load x) × (shown_kept kept ≡ load_end x)) }
     {
@@ -119,7 +117,7 @@ impl Host {
         requires { IsMessage msg.now }
         ensures messages { IfOk result (λ done. AreMessages done.1) }
         ensures idle { (c : Settings) (n : ℕ) (x : Node) → Stands c n self.old x → x.status ≢ Up → IfOk result (λ done. Stands c n self.new x × (done.0 ≡ Kept.Written) × (done.1 ≡ [])) }
-        ensures up { (c : Settings) (n : ℕ) (x : Node) → Stands c n self.old x → x.status ≡ Up → IsInBounds c → msg.now.to ≡ whos.Node n → is_in n (set_of c msg.now.log) ≡ true
+        ensures up { (c : Settings) (n : ℕ) (x : Node) → Stands c n self.old x → x.status ≡ Up → msg.now.to ≡ whos.Node n → has_log c msg.now.log ≡ true
             → IfOk result (λ done. Stands c n self.new (message_done n x msg.now).node × (shown_kept done.0 ≡ (message_done n x msg.now).end) × (done.1 ≡ (message_done n x msg.now).sends)) }
     {
         let state = mem::replace(&mut self.state, State::Gone);
@@ -133,18 +131,21 @@ impl Host {
     }
 
     /// Formats the store of a blank host: it is loaded, a generation is drawn for its node, and the format is kept.
+    /// Where it isn't blank, nothing happens.
     pub fn format<G: Register>(
         &mut self,
         alloc: Global,
         config: &Config,
         reg: &mut G,
     ) -> Result<Formatted, NoMemory>
-        ensures { (n : ℕ) (x : Node) (r : Contents) → Stands config.now n self.old x → x.status ≡ Blank → G.tells reg.old r
+        ensures idle { (c : Settings) (n : ℕ) (x : Node) → Stands c n self.old x → x.status ≢ Blank → IfOk result (λ formatted. Stands c n self.new x × (reg.new ≡ reg.old) × (formatted ≡ Formatted.NotLoaded Kept.Written)) }
+        ensures blank { (n : ℕ) (x : Node) (r : Contents) → Stands config.now n self.old x → x.status ≡ Blank → G.tells reg.old r
             → IfOk result (λ formatted. HasFormatted (λ y. Stands config.now n self.new y) (G.tells reg.new) x n r formatted) }
     {
         let state = mem::replace(&mut self.state, State::Gone);
-        let Some(disk) = state.into_disk() else {
-            return Err(NoMemory);
+        let State::Blank(disk) = state else {
+            self.state = state;
+            return Ok(Formatted::NotLoaded(Kept::Written));
         };
         let (state, formatted) = format(alloc, self.id, disk, config, reg)?;
         self.state = state;
@@ -160,7 +161,7 @@ impl Host {
         reg: &mut G,
     ) -> Result<(Kept, Ticked), NoMemory>
         ensures idle { (c : Settings) (n : ℕ) (x : Node) → Stands c n self.old x → x.status ≢ Up → IfOk result (λ done. Stands c n self.new x × (reg.new ≡ reg.old) × (done.0 ≡ Kept.Written) × (done.1 ≡ Ticked.Nothing)) }
-        ensures up { (c : Settings) (n : ℕ) (x : Node) (r : Contents) → Stands c n self.old x → x.status ≡ Up → IsInBounds c → is_in n (set_of c log) ≡ true → AreClosed r log → G.tells reg.old r
+        ensures up { (c : Settings) (n : ℕ) (x : Node) (r : Contents) → Stands c n self.old x → x.status ≡ Up → has_log c log ≡ true → AreClosed r log → G.tells reg.old r
             → IfOk result (λ done. Stands c n self.new (tick_done c n x log r).node × G.tells reg.new r × (shown_kept done.0 ≡ (tick_done c n x log r).end) × (done.1 ≡ tick_answer c n x log r)) }
     {
         let state = mem::replace(&mut self.state, State::Gone);

@@ -1,13 +1,11 @@
 // The hosts of a cluster by number.
-ghost use Rattle.std.specs.Prelude.{◌≡◌, ◌≤◌, List, ℕ, true, IfOk, OnOk, option_copied};
+ghost use Rattle.std.specs.Prelude.{◌≡◌, ◌≢◌, ◌≤◌, [], List, ℕ, true, IfOk, OnOk, option_copied};
 ghost use Rattle.ld_table.specs.Table.{find, put, Ordered};
-ghost use Rattle.ld_table.specs.Words.{is_in};
 ghost use Rattle.ld_ids.specs.Set.{members};
 ghost use Rattle.ld_msg.specs.Bounds.{IsMessage};
 ghost use Rattle.ld_msg.specs.declared.msg.Who.TheVariants as whos;
-ghost use Rattle.ld_config.specs.Bounds.{IsInBounds};
 ghost use Rattle.ld_config.specs.declared.config.Config.{Config as Settings};
-ghost use Rattle.ld_machine.specs.Config.{set_of};
+ghost use Rattle.ld_machine.specs.Config.{has_log};
 ghost use Rattle.ld_machine.specs.Disk.{Node, Blank, Up, new_node, load, load_end};
 ghost use Rattle.ld_machine.specs.State.{new_nodes};
 ghost use Rattle.ld_machine.specs.Step.{with_fault, stopped};
@@ -126,7 +124,7 @@ impl Hosts {
         self.put(node, host)
     }
 
-    /// Loads the node from its disk, in one writing call, with the logs of the configuration that it keeps.
+    /// Loads the node from its disk, in one writing call, with the nodes and the logs of the configuration.
     pub fn load(&mut self, alloc: Global, node: NodeId, config: &Config) -> Result<Kept, NoMemory>
         ensures { (nodes : List (ℕ × Node)) → AreHosts config.now self.old nodes
             → IfOk result (λ kept. AreHosts config.now self.new (put node (load (node_in nodes node)) nodes) × (shown_kept kept ≡ load_end (node_in nodes node))) }
@@ -138,7 +136,7 @@ impl Hosts {
     }
 
     /// What the node makes of a message, where it is up: the op that it keeps, and then what it answers, which a frame
-    /// can carry.
+    /// can carry. Where it isn't up, nothing happens.
     pub fn on_msg(
         &mut self,
         alloc: Global,
@@ -147,7 +145,9 @@ impl Hosts {
     ) -> Result<(Kept, Outbox), NoMemory>
         requires { IsMessage msg.now }
         ensures messages { IfOk result (λ done. AreMessages done.1) }
-        ensures up { (c : Settings) (nodes : List (ℕ × Node)) → AreHosts c self.old nodes → (node_in nodes node).status ≡ Up → IsInBounds c → msg.now.to ≡ whos.Node node → is_in node (set_of c msg.now.log) ≡ true
+        ensures idle { (c : Settings) (nodes : List (ℕ × Node)) → AreHosts c self.old nodes → (node_in nodes node).status ≢ Up
+            → IfOk result (λ done. AreHosts c self.new (put node (node_in nodes node) nodes) × (done.0 ≡ Kept.Written) × (done.1 ≡ [])) }
+        ensures up { (c : Settings) (nodes : List (ℕ × Node)) → AreHosts c self.old nodes → (node_in nodes node).status ≡ Up → msg.now.to ≡ whos.Node node → has_log c msg.now.log ≡ true
             → IfOk result (λ done. AreHosts c self.new (put node (message_done node (node_in nodes node) msg.now).node nodes)
             × (shown_kept done.0 ≡ (message_done node (node_in nodes node) msg.now).end) × (done.1 ≡ (message_done node (node_in nodes node) msg.now).sends)) }
     {
@@ -157,7 +157,8 @@ impl Hosts {
         Ok((kept, sends))
     }
 
-    /// Formats the store of a blank node: it is loaded, a generation is drawn for it, and the format is kept.
+    /// Formats the store of a blank node: it is loaded, a generation is drawn for it, and the format is kept. Where it
+    /// isn't blank, nothing happens.
     pub fn format<G: Register>(
         &mut self,
         alloc: Global,
@@ -165,7 +166,9 @@ impl Hosts {
         config: &Config,
         reg: &mut G,
     ) -> Result<Formatted, NoMemory>
-        ensures { (nodes : List (ℕ × Node)) (r : Contents) → AreHosts config.now self.old nodes → (node_in nodes node).status ≡ Blank → G.tells reg.old r
+        ensures idle { (c : Settings) (nodes : List (ℕ × Node)) → AreHosts c self.old nodes → (node_in nodes node).status ≢ Blank
+            → IfOk result (λ formatted. AreHosts c self.new (put node (node_in nodes node) nodes) × (reg.new ≡ reg.old) × (formatted ≡ Formatted.NotLoaded Kept.Written)) }
+        ensures blank { (nodes : List (ℕ × Node)) (r : Contents) → AreHosts config.now self.old nodes → (node_in nodes node).status ≡ Blank → G.tells reg.old r
             → IfOk result (λ formatted. HasFormatted (λ y. AreHosts config.now self.new (put node y nodes)) (G.tells reg.new) (node_in nodes node) node r formatted) }
     {
         let mut host = self.take(alloc, node)?;
@@ -174,7 +177,8 @@ impl Hosts {
         Ok(formatted)
     }
 
-    /// The node looks at the register for a log, where it is up, and does what that makes it do.
+    /// The node looks at the register for a log, where it is up, and does what that makes it do. Where it isn't up,
+    /// nothing happens.
     pub fn tick<G: Register>(
         &mut self,
         alloc: Global,
@@ -182,7 +186,9 @@ impl Hosts {
         log: LogId,
         reg: &mut G,
     ) -> Result<(Kept, Ticked), NoMemory>
-        ensures { (c : Settings) (nodes : List (ℕ × Node)) (r : Contents) → AreHosts c self.old nodes → (node_in nodes node).status ≡ Up → IsInBounds c → is_in node (set_of c log) ≡ true → AreClosed r log → G.tells reg.old r
+        ensures idle { (c : Settings) (nodes : List (ℕ × Node)) → AreHosts c self.old nodes → (node_in nodes node).status ≢ Up
+            → IfOk result (λ done. AreHosts c self.new (put node (node_in nodes node) nodes) × (reg.new ≡ reg.old) × (done.0 ≡ Kept.Written) × (done.1 ≡ Ticked.Nothing)) }
+        ensures up { (c : Settings) (nodes : List (ℕ × Node)) (r : Contents) → AreHosts c self.old nodes → (node_in nodes node).status ≡ Up → has_log c log ≡ true → AreClosed r log → G.tells reg.old r
             → IfOk result (λ done. AreHosts c self.new (kept_nodes node (op_of log (tick_of (node_in nodes node) log r)) nodes) × G.tells reg.new r
             × (shown_kept done.0 ≡ (tick_done c node (node_in nodes node) log r).end) × (done.1 ≡ tick_answer c node (node_in nodes node) log r)) }
     {

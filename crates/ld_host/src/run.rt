@@ -5,10 +5,8 @@ ghost use Rattle.ld_disk.specs.Memory.{disk_plain};
 ghost use Rattle.ld_disk.specs.Plain.{restarted};
 ghost use Rattle.ld_msg.specs.Bounds.{IsMessage};
 ghost use Rattle.ld_msg.specs.declared.msg.Who.TheVariants as whos;
-ghost use Rattle.ld_table.specs.Words.{is_in};
-ghost use Rattle.ld_config.specs.Bounds.{IsInBounds};
 ghost use Rattle.ld_config.specs.declared.config.Config.{Config as Settings};
-ghost use Rattle.ld_machine.specs.Config.{set_of};
+ghost use Rattle.ld_machine.specs.Config.{has_log};
 ghost use Rattle.ld_machine.specs.Disk.{Node as Seen, load, load_end};
 ghost use Rattle.ld_node_bounds.specs.Messages.{AreMessages};
 ghost use Rattle.ld_node.specs.Node.{is_blank, disk_of};
@@ -82,7 +80,7 @@ pub(crate) fn answer(
     requires formatted { is_blank node ≡ false }
     ensures blank { IfOk result (λ done. blank_in done.0 ≡ false) }
     ensures messages { IfOk result (λ done. AreMessages done.2) }
-    ensures stands { (c : Settings) (n : ℕ) (x : Seen) → Runs c n node x → IsInBounds c → msg.now.to ≡ whos.Node n → is_in n (set_of c msg.now.log) ≡ true
+    ensures stands { (c : Settings) (n : ℕ) (x : Seen) → Runs c n node x → msg.now.to ≡ whos.Node n → has_log c msg.now.log ≡ true
         → IfOk result (λ done. StandsAs c n done.0 (message_done n x msg.now).node × (shown_kept done.1 ≡ (message_done n x msg.now).end) × (done.2 ≡ (message_done n x msg.now).sends)) }
 {
     match node.on_msg(alloc, msg) {

@@ -39,12 +39,9 @@ fn new_register(alloc: Global) -> Result<DiskRegister<MemDisk>, NoMemory> {
     }
 }
 
-/// Log 1 on the nodes 1, 2 and 3.
+/// Three nodes, and log 1 on the nodes 2 and 3.
 fn config(alloc: Global) -> Result<Config, NoMemory> {
-    let set = NodeSet::empty()
-        .with(node_of(1)?)
-        .with(node_of(2)?)
-        .with(node_of(3)?);
+    let set = NodeSet::empty().with(node_of(2)?).with(node_of(3)?);
     let mut logs = Specs::new(alloc);
     logs.push(Spec {
         log: log_of(1)?,
@@ -52,7 +49,10 @@ fn config(alloc: Global) -> Result<Config, NoMemory> {
         r: 2,
         extras: 0,
     })?;
-    Ok(Config { nodes: set, logs })
+    Ok(Config {
+        nodes: set.with(node_of(1)?),
+        logs,
+    })
 }
 
 /// Formats a host, and says whether that was done.

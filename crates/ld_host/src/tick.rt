@@ -1,10 +1,8 @@
 // What a look at the register makes a node on a host do.
 ghost use Rattle.std.specs.Prelude.{◌≡◌, IfOk, false, true, ℕ};
-ghost use Rattle.ld_table.specs.Words.{is_in};
 ghost use Rattle.ld_msg.specs.Register.{Register as Contents};
-ghost use Rattle.ld_config.specs.Bounds.{IsInBounds};
 ghost use Rattle.ld_config.specs.declared.config.Config.{Config as Settings};
-ghost use Rattle.ld_machine.specs.Config.{set_of};
+ghost use Rattle.ld_machine.specs.Config.{has_log};
 ghost use Rattle.ld_machine.specs.Disk.{Node as Seen};
 ghost use Rattle.ld_node.specs.Looks.{AreClosed};
 ghost use Rattle.ld_node.specs.Node.{is_blank};
@@ -30,7 +28,7 @@ pub(crate) fn look<G: Register>(
 ) -> Result<(State, Kept, Ticked), NoMemory>
     requires formatted { is_blank node ≡ false }
     ensures blank { IfOk result (λ done. blank_in done.0 ≡ false) }
-    ensures stands { (c : Settings) (n : ℕ) (x : Seen) (r : Contents) → Runs c n node x → IsInBounds c → is_in n (set_of c log) ≡ true → AreClosed r log → G.tells reg.old r
+    ensures stands { (c : Settings) (n : ℕ) (x : Seen) (r : Contents) → Runs c n node x → has_log c log ≡ true → AreClosed r log → G.tells reg.old r
         → IfOk result (λ done. StandsAs c n done.0 (tick_done c n x log r).node × G.tells reg.new r × (shown_kept done.1 ≡ (tick_done c n x log r).end) × (done.2 ≡ tick_answer c n x log r)) }
 {
     match node.tick(alloc, log, reg) {

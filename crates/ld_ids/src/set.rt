@@ -1,11 +1,11 @@
 // Sets of nodes, and what is said of one log.
-ghost use Rattle.std.specs.Prelude.{◌≡◌, ◌≤◌, ◌<◌, ◌+◌, ◌-◌, ◌==◌, ◌&&◌, ◌||◌, not, ℕ, length, Bool, true, false};
+ghost use Rattle.std.specs.Prelude.{◌≡◌, ◌≤◌, ◌<◌, ◌+◌, ◌-◌, ◌^◌, ◌==◌, ◌&&◌, ◌||◌, not, ℕ, length, Bool, true, false};
 ghost use Rattle.std.specs.List.{slice_get};
 ghost use Rattle.std.specs.List.Sorted.{IsStrictlySortedBy};
 ghost use Rattle.std.specs.Ordering.{nat_cmp};
 ghost use Rattle.ld_table.specs.Words.{is_in};
 ghost use Rattle.ld_ids.specs.Id.{IsNode};
-ghost use Rattle.ld_ids.specs.Set.{no_nodes, with_node, without_node, has_node, members, share, IsSet, IsSubset};
+ghost use Rattle.ld_ids.specs.Set.{no_nodes, with_node, without_node, has_node, members, share, set_bits, bits_set, IsSet, IsSubset};
 
 use crate::{LogId, NodeId};
 use std::marker::Model;
@@ -109,6 +109,32 @@ impl NodeSet {
             }
         }
         None
+    }
+
+    /// The set as a number: bit n - 1 for node n.
+    pub fn bits(&self) -> u16
+        ensures bits { result ≡ set_bits self.now }
+        ensures back { bits_set result ≡ self.now }
+    {
+        let mut bits = 0;
+        for index in 0..16 {
+            bits = bits * 2 + u16::from(self.has[15 - index]);
+        }
+        bits
+    }
+
+    /// The set that a number gives: node n is there where bit n - 1 is.
+    pub fn from_bits(bits: u16) -> NodeSet
+        ensures flags { result ≡ bits_set bits }
+        ensures back { set_bits result ≡ bits }
+    {
+        let mut has = [false; 16];
+        let mut left = bits;
+        for index in 0..16 {
+            has[index] = left % 2 == 1;
+            left /= 2;
+        }
+        NodeSet { has }
     }
 }
 

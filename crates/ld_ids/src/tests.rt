@@ -38,6 +38,15 @@ fn nodes_stand_in_rising_order(rt: HostRuntime) -> Result<(), Fail> {
 }
 
 #[test]
+fn sets_are_numbers(rt: HostRuntime) -> Result<(), Fail> {
+    assert_eq!(rt; NodeSet::empty().bits(), 0);
+    assert_eq!(rt; set_of(&[1, 3, 16]).bits(), 0x8005);
+    assert_eq!(rt; NodeSet::from_bits(0x8005), set_of(&[1, 3, 16]));
+    assert_eq!(rt; NodeSet::from_bits(0xffff).bits(), 0xffff);
+    Ok(())
+}
+
+#[test]
 fn a_copy_is_the_same(rt: HostRuntime) -> Result<(), Fail> {
     let alloc = rt.alloc();
     let name = Name::new(Vec::from_slice(alloc, b"seq1")?);

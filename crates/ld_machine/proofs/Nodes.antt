@@ -3,7 +3,6 @@ use Rattle.std.proofs.Common.{ℕ, zero, suc, inl, inr, sym, subst, Bool, true, 
 use Rattle.std.specs.Option.{unwrap_or}
 use Rattle.ld_table.specs.Table.{find}
 use Rattle.ld_table.specs.Named.{find_named}
-use Rattle.ld_table.specs.Words.{is_in}
 use Rattle.ld_table.proofs.Laws.{put_cases}
 use Rattle.ld_schedule.specs.declared.event.Event.{Event}
 use Rattle.ld_schedule.specs.declared.event.Event.TheVariants as events
@@ -17,7 +16,7 @@ use Rattle.ld_op.specs.Plain.{log_of}
 use Rattle.ld_op.specs.Ticks.{Ticked, Cleans, Rebuilt, Asks, Nothing, on_tick}
 use Rattle.ld_config.specs.declared.config.Config.{Config}
 use Rattle.ld_ids.specs.Set.{members}
-use Rattle.ld_machine.specs.Config.{set_of}
+use Rattle.ld_machine.specs.Config.{has_log}
 use Rattle.ld_msg.specs.Register.{Register, Answer, Granted, AtLimit, Behind, Fails, activate, draw, epochs_of, epochs_in, generation_of}
 use Rattle.ld_machine.specs.Disk.{Node, Fault, new_node, Kept, Written, DiskFailed, Crashed, JournalFull, keep_op, load, load_end, is_up}
 use Rattle.ld_msg.specs.Network.{message, oldest_new}
@@ -61,7 +60,7 @@ module _ (P : Node → Type 0) (K : NodeKeeps P) where
   handled s n m (Some o) b a = op_kept s n o a
 
   at_node : (c : Config) (s : State) (n : ℕ) (m : Msg) → AllNodes P s → AllNodes P (Step.to_node c s n m).state
-  at_node c s n m a = either (is_up (node_at s n).status && is_in n (set_of c m.log)) (Step.to_up_node s n m) (unchanged s)
+  at_node c s n m a = either (is_up (node_at s n).status && has_log c m.log) (Step.to_up_node s n m) (unchanged s)
       (handled _ n m (Step.node_handles (node_at s n) m).op (Step.node_handles (node_at s n) m).answer (all_with s n _ (K.releases (node_at s n) m.log m.body (a n)) a)) a
 
   at_sequencer : (c : Config) (s : State) (m : Msg) (q : Option (List ℕ × Sequencer)) → AllNodes P s → AllNodes P (Step.to_sequencer c s m q).state
@@ -85,12 +84,12 @@ module _ (P : Node → Type 0) (K : NodeKeeps P) where
   on_live_kept s None f h a = a
   on_live_kept s (Some q) f h a = either q.gone (unchanged s) (f q) a (h q)
 
-  appended_kept : (c : Config) (s : State) (name : List ℕ) (q : Sequencer) (p : List ℕ) (o : Appending) → AllNodes P s → AllNodes P (Step.append_done c s name q p o).state
-  appended_kept c s name q p TooLong a = a
-  appended_kept c s name q p (Preempted k) a = a
-  appended_kept c s name q p EpochFull a = a
-  appended_kept c s name q p WindowFull a = a
-  appended_kept c s name q p Numbered a = a
+  appended_kept : (s : State) (name : List ℕ) (q : Sequencer) (p : List ℕ) (o : Appending) → AllNodes P s → AllNodes P (Step.append_done s name q p o).state
+  appended_kept s name q p TooLong a = a
+  appended_kept s name q p (Preempted k) a = a
+  appended_kept s name q p EpochFull a = a
+  appended_kept s name q p WindowFull a = a
+  appended_kept s name q p Numbered a = a
 
   activated_kept : (c : Config) (s : State) (name : List ℕ) (l : ℕ) (r : Register) (o : Answer) → AllNodes P s → AllNodes P (Step.activates_by c s name l r o).state
   activated_kept c s name l r Granted a = a
@@ -129,8 +128,8 @@ module _ (P : Node → Type 0) (K : NodeKeeps P) where
   pub event_keeps : (c : Config) (s : State) (e : Event) → AllNodes P s → AllNodes P (Step.happens c s e).state
   unfolding Step.happens Step.delivers
   event_keeps c s (events.Format n) a = either _ (Step.formats c s n) (unchanged s) (loaded_kept c _ n (load_end (node_at s n)) (with_loaded s n a)) a
-  event_keeps c s (events.Activate name l) a = either _ (Step.activates c s name l (activate s.register l)) (unchanged s) (activated_kept c s name l (activate s.register l).register (activate s.register l).answer a) a
-  event_keeps c s (events.Append name p) a = on_live_kept s (find_named name s.sequencers) _ (λ q. appended_kept c s name q p (appending q p) a) a
+  event_keeps c s (events.Activate name l) a = either _ (Step.activates c s name l (activate s.register l (Step.spec_set c s l))) (unchanged s) (activated_kept c s name l (activate s.register l (Step.spec_set c s l)).register (activate s.register l (Step.spec_set c s l)).answer a) a
+  event_keeps c s (events.Append name p) a = on_live_kept s (find_named name s.sequencers) _ (λ q. appended_kept s name q p (appending q p) a) a
   event_keeps c s (events.Trim name t) a = on_live_kept s (find_named name s.sequencers) _ (λ q. either (nat_lt (released_of q) t) _ _ a a) a
   event_keeps c s (events.Retry name) a = on_live_kept s (find_named name s.sequencers) _ (λ q. a) a
   event_keeps c s (events.Drop name) a = on_live_kept s (find_named name s.sequencers) _ (λ q. a) a
@@ -145,6 +144,7 @@ module _ (P : Node → Type 0) (K : NodeKeeps P) where
   event_keeps c s (events.Wipe n) a = either _ _ (unchanged s) (all_with s n new_node K.fresh a) a
   event_keeps c s (events.Fail n k) a = either _ _ (unchanged s) (all_with s n _ (K.faults (node_at s n) _ (a n)) a) a
   event_keeps c s (events.Tear n k p) a = either _ _ (unchanged s) (all_with s n _ (K.faults (node_at s n) _ (a n)) a) a
+  event_keeps c s (events.Set l r x set) a = either (Step.can_set c l r x (members set)) _ (unchanged s) a a
   event_keeps c s (events.RegFail k done) a = a
 
   finished : (d : Done) → AllNodes P d.state → AllNodes P (finish d).state
@@ -181,6 +181,7 @@ module _ (P : Node → Type 0) (K : NodeKeeps P) where
   step_keeps c s (events.Wipe n) a = finished (Step.happens c s (events.Wipe n)) (event_keeps c s (events.Wipe n) a)
   step_keeps c s (events.Fail n k) a = finished (Step.happens c s (events.Fail n k)) (event_keeps c s (events.Fail n k) a)
   step_keeps c s (events.Tear n k p) a = finished (Step.happens c s (events.Tear n k p)) (event_keeps c s (events.Tear n k p) a)
+  step_keeps c s (events.Set l r x set) a = finished (Step.happens c s (events.Set l r x set)) (event_keeps c s (events.Set l r x set) a)
   step_keeps c s (events.RegFail k done) a = finished (Step.happens c s (events.RegFail k done)) (event_keeps c s (events.RegFail k done) a)
 
   fresh_at : (y : ℕ) (ns : List ℕ) → P (unwrap_or (find y (new_nodes ns)) new_node)

@@ -39,8 +39,8 @@ with_log_numbered p l g h a m = elim (put_cases m l g p.logs) [
   | inr e ↦ subst (λ o. Numbered (unwrap_or o empty_log).entries) (sym e.1) (a m)
 ]
 
-taken_numbered : (g : Log) (e : Entry) → Numbered g.entries → Numbered (accepted g e).entries
-taken_numbered g e a q f h = elim (taken_from g e q f h) [
+taken_numbered : (g : Log) (lng : ℕ) (e : Entry) → Numbered g.entries → Numbered (accepted g lng e).entries
+taken_numbered g lng e a q f h = elim (taken_from g lng e q f h) [
   | inl c ↦ ap (λ (v : Entry). v.number) c.1 ∙ sym c.0
   | inr c ↦ a q f c
 ]
@@ -69,7 +69,7 @@ lost_numbered (d ∷ ds) l = lost_or (is_at (nat_cmp l) d.0) d.1 (find l (lost_l
 pub op_numbered : (p : Plain) (o : Op) → PlainNumbered p → PlainNumbered (apply p o)
 unfolding apply
 op_numbered p (ops.Format generation epochs) a = lost_numbered epochs
-op_numbered p (ops.Accept l lng e) a = with_log_numbered p l _ (taken_numbered (log_of p l) e (a l)) a
+op_numbered p (ops.Accept l lng e) a = with_log_numbered p l _ (taken_numbered (log_of p l) lng e (a l)) a
 op_numbered p (ops.Seal l b) a = with_log_numbered p l (sealed_by (log_of p l) b) (a l) a
 op_numbered p (ops.Clean l epoch y) a = with_log_numbered p l _ (kept_numbered _ (log_of p l).entries (a l)) a
 op_numbered p (ops.Trim l t) a = with_log_numbered p l _ (trimmed_numbered _ (log_of p l).entries (a l)) a

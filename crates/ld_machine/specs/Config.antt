@@ -2,9 +2,10 @@
 use Rattle.std.specs.Prelude.{ℕ, List, [], ◌∷◌, ◌==◌, Bool, if◌then◌else◌}
 use Rattle.ld_table.specs.Words.{is_in, any_of}
 use Rattle.ld_ids.specs.Set.{no_nodes, members}
-use Rattle.ld_ids.specs.Choice.{nodes_of, at_epoch}
 use Rattle.ld_ids.specs.declared.set.Spec.{Spec}
 use Rattle.ld_config.specs.declared.config.Config.{Config}
+use Rattle.ld_ids.specs.Choice.{nodes_of}
+use Rattle.ld_msg.specs.Register.{Register, View, look}
 
 -- a log that the configuration lacks
 abbrev pub no_spec : ℕ → Spec
@@ -14,13 +15,21 @@ abbrev pub spec_in : ℕ → List Spec → Spec
 spec_in l [] = no_spec l
 spec_in l (s ∷ ss) = if s.log == l then s else spec_in l ss
 
--- the nodes, factor and extras of an epoch of a log: the same in each epoch
-abbrev pub spec_of : Config → ℕ → ℕ → Spec
-spec_of c l epoch = at_epoch (spec_in l c.logs) epoch
+-- the nodes, factor and extras that count for a log as long as nothing else is set
+abbrev pub first_spec : Config → ℕ → Spec
+first_spec c l = spec_in l c.logs
 
--- the nodes that keep a log
-abbrev pub set_of : Config → ℕ → List ℕ
-set_of c l = nodes_of (spec_in l c.logs)
+-- all nodes
+abbrev pub all_nodes : Config → List ℕ
+all_nodes c = members c.nodes
+
+-- what a look at an epoch of the log shows
+abbrev pub looks_at : Config → Register → ℕ → ℕ → View
+looks_at c r l e = look (first_spec c l) r l e
+
+-- the nodes, factor and extras of an epoch of a log
+abbrev pub spec_of : Config → Register → ℕ → ℕ → Spec
+spec_of c r l e = (looks_at c r l e).spec
 
 abbrev pub has_log : Config → ℕ → Bool
 has_log c l = any_of (λ s. s.log == l) c.logs
@@ -29,5 +38,5 @@ abbrev pub has_node : Config → ℕ → Bool
 has_node c n = is_in n (members c.nodes)
 
 -- the nodes that keep an epoch of a log
-abbrev pub set_at : Config → ℕ → ℕ → List ℕ
-set_at c l epoch = nodes_of (spec_of c l epoch)
+abbrev pub set_at : Config → Register → ℕ → ℕ → List ℕ
+set_at c r l e = nodes_of (spec_of c r l e)

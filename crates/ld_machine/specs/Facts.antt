@@ -1,5 +1,5 @@
 -- What is read from a run's steps: what was appended, acknowledged and trimmed, what readers got, and which nodes stood lost.
-use Rattle.std.specs.Prelude.{ℕ, ◌≡◌, List, [], ◌∷◌, filter_map, flat_map, Option, Some, None, Bool, true, false, ◌&&◌, ◌==◌, nat_le, if◌then◌else◌, slice_get}
+use Rattle.std.specs.Prelude.{ℕ, ◌≡◌, List, [], ◌∷◌, filter_map, flat_map, Option, Some, None, Bool, true, false, ◌&&◌, ◌==◌, nat_lt, nat_le, if◌then◌else◌, slice_get}
 use Rattle.ld_table.specs.Named.{same}
 use Rattle.ld_table.specs.Words.{any_of, first}
 use Rattle.ld_schedule.specs.declared.event.Event.{Event}
@@ -7,13 +7,46 @@ use Rattle.ld_schedule.specs.declared.event.Event.TheVariants as events
 use Rattle.ld_transcript.specs.declared.line.Line.{Line}
 use Rattle.ld_transcript.specs.declared.line.Line.TheVariants as lines
 use Rattle.ld_transcript.specs.declared.line.GapKind.{GapKind}
+use Rattle.ld_ids.specs.declared.set.Spec.{Spec}
 use Rattle.ld_config.specs.declared.config.Config.{Config}
+use Rattle.ld_msg.specs.Register.{Register, epochs_of}
 use Rattle.ld_machine.specs.Config.{has_log}
 
--- one step: its event and its lines
+-- one step: its event, its lines, and the log and epoch that it made in the register, which lines alone don't tell of a refused activation
 pub record Happened : Type 0 where
   pub event : Event
   pub lines : List Line
+  pub made : Option (ℕ × ℕ)
+
+-- what an event made of a register: an activation makes an epoch or none
+abbrev pub epoch_made : Register → Register → Event → Option (ℕ × ℕ)
+epoch_made before after (events.Activate name l) = if nat_lt (epochs_of before l).epoch (epochs_of after l).epoch then Some (l, (epochs_of after l).epoch) else None
+epoch_made before after _ = None
+
+-- ---- the nodes, factor and extras of an epoch ----
+
+-- what later activations of a log use after a line
+abbrev pub set_by : ℕ → Line → Spec → Spec
+set_by l (lines.Set k r x set) s = if k == l then record { log = k; set = set; r = r; extras = x } else s
+set_by l _ s = s
+
+abbrev pub set_in : ℕ → List Line → Spec → Spec
+set_in l [] s = s
+set_in l (x ∷ ls) s = set_in l ls (set_by l x s)
+
+-- what later activations of a log use after these steps
+abbrev pub set_after : ℕ → List Happened → Spec → Spec
+set_after l [] s = s
+set_after l (h ∷ hs) s = set_after l hs (set_in l h.lines s)
+
+abbrev pub makes : ℕ → ℕ → Option (ℕ × ℕ) → Bool
+makes l e None = false
+makes l e (Some m) = (m.0 == l) && (m.1 == e)
+
+-- what was fixed for an epoch of a log: what the lines before the step that made it set, beginning with the given one
+abbrev pub spec_fixed : ℕ → ℕ → List Happened → Spec → Option Spec
+spec_fixed l e [] s = None
+spec_fixed l e (h ∷ hs) s = if makes l e h.made then Some s else spec_fixed l e hs (set_in l h.lines s)
 
 -- ---- the log of a name ----
 

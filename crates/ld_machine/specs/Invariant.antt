@@ -14,7 +14,7 @@ use Rattle.ld_msg.specs.declared.msg.Summary.{Summary}
 use Rattle.ld_msg.specs.declared.msg.Body.{Body}
 use Rattle.ld_msg.specs.declared.msg.Body.TheVariants as bodies
 use Rattle.ld_msg.specs.Bounds.{ballot_of}
-use Rattle.ld_msg.specs.Digest.{Told, plan_end}
+use Rattle.ld_msg.specs.Digest.{Told, plan_end, digest_lng}
 use Rattle.ld_msg.specs.Reading.{Held}
 use Rattle.ld_msg.specs.Reader.{Reader, Confirmation}
 use Rattle.ld_op.specs.Plain.{Plain, log_of, is_lost}
@@ -24,7 +24,7 @@ use Rattle.ld_msg.specs.Register.{epochs_of, generation_of, lce_of}
 use Rattle.ld_msg.specs.Sequencer.{Sequencer, Recovery, Stage, Seals, Stores, Closes, Planned, Append}
 use Rattle.ld_machine.specs.State.{node_at}
 use Rattle.ld_machine.specs.Facts.{Happened, Writes, Appends, Acks, Issues}
-use Rattle.ld_machine.specs.World.{World, Made, In, Sent, Stored, from_node, to_node_of, has_told, says_settled, chosen, settled, is_made, HasPlan, item, plan_trim, MayHold, Unserved, Holds}
+use Rattle.ld_machine.specs.World.{World, Made, In, Sent, Stored, from_node, to_node_of, has_told, says_settled, chosen, settled, is_made, HasPlan, item, plan_trim, plan_from, MayHold, Unserved, Holds}
 
 -- every plain state that some node may hold
 abbrev pub AtNodes : World → (ℕ → Plain → Type 0) → Type 0
@@ -166,9 +166,13 @@ pub record HeldWasSent (w : World) : Type 0 where
 abbrev pub OnePlan : World → Type 0
 OnePlan w = (l e b : ℕ) → how_many (is_made l e b) w.made ≤ 1
 
+-- a refilled entry that was known good: it has the ballot of its epoch's close, and is what was appended
+abbrev pub IsKnownGood : World → ℕ → Entry → Type 0
+IsKnownGood w l e = (y : Summary) × Closed w l (epoch_of e.number) y × (y.ballot ≡ e.ballot) × (esn_of e.number ≤ y.lng) × (item w l e.number (epoch_of e.number) ≡ Some e.what)
+
 -- an entry says what its ballot says of its number, and a record is the payload that was appended there
 pub record IsItem (hs : List Happened) (w : World) (l : ℕ) (e : Entry) : Type 0 where
-  pub item : item w l e.number e.ballot ≡ Some e.what
+  pub item : (item w l e.number e.ballot ≡ Some e.what) ⊎ IsKnownGood w l e
   pub appended : (p : List ℕ) → e.what ≡ Rec p → (k : ℕ) × Appends hs l e.number p k
 
 -- each entry at a node, in a store or in a page; each item of a plan that is stored, and each append that waits
@@ -199,10 +203,10 @@ SealsHold w = AtNodes w (λ y p. (l b from upto t lng : ℕ) (es : List Entry) �
 
 -- ---- agreement ----
 
--- a record or hole that is chosen is the item of each plan of a greater ballot, or trimmed there
+-- a record or hole that is chosen is the item of each plan of a greater ballot, or trimmed or known good there
 abbrev pub Agrees : Config → World → Type 0
 Agrees c w = (l n b g : ℕ) (x : What) (d : List Told) → chosen c w l n b ≡ true → item w l n b ≡ Some x → (x ≡ Bridge → ⊥) → b < g → HasPlan w l (epoch_of n) g d →
-    (item w l n g ≡ Some x) ⊎ (esn_of n ≤ plan_trim (epoch_of n) d)
+    (item w l n g ≡ Some x) ⊎ ((esn_of n ≤ plan_trim (epoch_of n) d) ⊎ (esn_of n ≤ digest_lng d))
 
 -- each number that the plan says something of is settled
 abbrev pub Ready : Config → World → ℕ → ℕ → ℕ → Type 0
@@ -213,7 +217,7 @@ abbrev pub Stands : Config → World → ℕ → ℕ → ℕ → Type 0
 Stands c w l e b = ((y : Summary) × Closed w l e y × (y.ballot ≡ b)) ⊎ (IsOpen w l e × Ready c w l e b)
 
 pub record Follows (w : World) (l e b g : ℕ) (d f : List Told) : Type 0 where
-  pub items : (n : ℕ) → n < plan_end e d → plan_trim e d < n → plan_trim e f < n → item w l (numbered e n) g ≡ item w l (numbered e n) b
+  pub items : (n : ℕ) → n < plan_end e d → plan_from e d < n → plan_from e f < n → item w l (numbered e n) g ≡ item w l (numbered e n) b
   pub end : plan_end e d ≤ plan_end e f
 
 -- what stands is held by each plan of a greater ballot
@@ -231,6 +235,11 @@ abbrev pub CopyAt : World → ℕ → ℕ → ℕ → ℕ → Type 0
 CopyAt w l n b y = (p : Plain) → MayHold (node_at w.state y) p →
     (p.generation ≡ 0) ⊎ ((is_lost (log_of p l) (epoch_of n) ≡ true) ⊎ ((n ≤ (log_of p l).trim) ⊎ ((x : What) × (item w l n b ≡ Some x) × HoldsItem p l n b x)))
 
+-- the nodes that stored the append of the number are as many as the log has copies, and each has its copy
+pub record AppendsOf (c : Config) (w : World) (l n : ℕ) : Type 0 where
+  pub enough : chosen c w l n (epoch_of n) ≡ true
+  pub kept : (y : ℕ) → Stored w l y n (epoch_of n) → CopyAt w l n (epoch_of n) y
+
 -- the nodes that settled the number for the ballot are as many as the log has copies, and each has its copy
 pub record CopiesOf (c : Config) (w : World) (l n b : ℕ) : Type 0 where
   pub enough : settled c w l n b ≡ true
@@ -240,8 +249,9 @@ pub record Copies (c : Config) (hs : List Happened) (w : World) : Type 0 where
   -- an acknowledged number of an open epoch was stored by as many nodes as the log has copies
   pub acked : (l n : ℕ) → IsOpen w l (epoch_of n) → Acked hs l n → chosen c w l n (epoch_of n) ≡ true
   pub open_epochs : (l n y : ℕ) → IsOpen w l (epoch_of n) → Acked hs l n → Stored w l y n (epoch_of n) → CopyAt w l n (epoch_of n) y
-  -- a number of a closed epoch was settled for the closing plan, and is where it was
-  pub closed_epochs : (l e k : ℕ) (s : Summary) → Closed w l e s → s.trim < numbered e k → 0 < k → k < s.end → CopiesOf c w l (numbered e k) s.ballot
+  -- a number of a closed epoch was settled for the closing plan, or its append was stored where it was known good, and is where it was
+  pub closed_epochs : (l e k : ℕ) (s : Summary) → Closed w l e s → s.trim < numbered e k → s.lng < k → k < s.end → CopiesOf c w l (numbered e k) s.ballot
+  pub known_good : (l e k : ℕ) (s : Summary) → Closed w l e s → s.trim < numbered e k → 0 < k → k ≤ s.lng → AppendsOf c w l (numbered e k)
 
 -- ---- lost once ----
 

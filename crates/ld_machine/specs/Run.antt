@@ -9,7 +9,7 @@ use Rattle.ld_config.specs.declared.config.Config.{Config}
 use Rattle.ld_msg.specs.Network.{oldest_new}
 use Rattle.ld_machine.specs.State.{State, Stepped, start, finish, or_none}
 use Rattle.ld_machine.specs.Step.{happens, delivers}
-use Rattle.ld_machine.specs.Facts.{Happened}
+use Rattle.ld_machine.specs.Facts.{Happened, epoch_made}
 use Rattle.ld_machine.specs.Safe.{Safe}
 use Rattle.ld_machine.specs.World.{World, begin, made_on}
 use Rattle.ld_machine.specs.Invariant.{Invariant}
@@ -52,6 +52,10 @@ part low count c es = text (take count (drop low (lines_of c (start c) es)))
 pub data Move : Type 0 where
   Takes : (event : Event) → Move
 
+-- a step that an event made, as it is told
+abbrev pub made_by : State → Event → Stepped → Happened
+made_by s e r = record { event = e; lines = r.lines; made = epoch_made s.register r.state.register e }
+
 pub record Went : Type 0 where
   pub state : State
   pub happened : List Happened
@@ -60,16 +64,16 @@ abbrev pub flow_steps : ℕ → Config → State → Went
 flow_steps zero c s = record { state = s; happened = [] }
 flow_steps (suc k) c s = elim (oldest_new s.network) [
   | None ↦ record { state = s; happened = [] }
-  | Some i ↦ (let r : Stepped = finish (delivers c s i) in let rest : Went = flow_steps k c r.state in record { state = rest.state; happened = record { event = events.Deliver i; lines = r.lines } ∷ rest.happened })
+  | Some i ↦ (let r : Stepped = finish (delivers c s i) in let rest : Went = flow_steps k c r.state in record { state = rest.state; happened = made_by s (events.Deliver i) r ∷ rest.happened })
 ]
 
-abbrev pub one_step : Event → Stepped → Went
-one_step e r = record { state = r.state; happened = record { event = e; lines = r.lines } ∷ [] }
+abbrev pub one_step : State → Event → Stepped → Went
+one_step s e r = record { state = r.state; happened = made_by s e r ∷ [] }
 
 -- the steps of one event
 unfoldable pub steps_of : Config → State → Event → Went
 steps_of c s (events.Flow k) = flow_steps k c s
-steps_of c s e = one_step e (finish (happens c s e))
+steps_of c s e = one_step s e (finish (happens c s e))
 
 unfoldable pub history_from : Config → State → List Event → List Happened
 history_from c s [] = []
@@ -116,7 +120,7 @@ world_after c w (m ∷ ms) = world_after c (after_step c w m) ms
 
 -- an event, as it is told
 abbrev pub happened : Config → State → Event → Happened
-happened c s e = record { event = e; lines = (finish (happens c s e)).lines }
+happened c s e = made_by s e (finish (happens c s e))
 
 -- a step, as it is told
 abbrev pub step_happened : Config → State → Move → Happened

@@ -16,6 +16,7 @@ use Rattle.ld_msg.specs.declared.msg.Msg.{Msg}
 use Rattle.ld_msg.specs.declared.msg.Body.{Body}
 use Rattle.ld_msg.specs.declared.msg.Body.TheVariants as bodies
 use Rattle.ld_ids.specs.Set.{members}
+use Rattle.ld_ids.specs.declared.set.Spec.{Spec}
 use Rattle.ld_config.specs.declared.config.Config.{Config}
 use Rattle.ld_msg.specs.Register.{Register, empty_register}
 use Rattle.ld_machine.specs.Disk.{Node, new_node}
@@ -24,12 +25,14 @@ pub use Rattle.ld_msg.specs.Network.{posted}
 use Rattle.ld_msg.specs.Sequencer.{Sequencer}
 use Rattle.ld_msg.specs.Reader.{Reader}
 
+-- specs are those that were set for later activations
 pub record State : Type 0 where
   pub nodes : List (ℕ × Node)
   pub register : Register
   pub network : Network
   pub sequencers : List (List ℕ × Sequencer)
   pub readers : List (List ℕ × Reader)
+  pub specs : List (ℕ × Spec)
 
 abbrev pub new_nodes : List ℕ → List (ℕ × Node)
 new_nodes [] = []
@@ -37,7 +40,7 @@ new_nodes (n ∷ ns) = (n, new_node) ∷ new_nodes ns
 
 -- all nodes are blank, on new disks
 abbrev pub start : Config → State
-start c = record { nodes = new_nodes (members c.nodes); register = empty_register; network = no_messages; sequencers = []; readers = [] }
+start c = record { nodes = new_nodes (members c.nodes); register = empty_register; network = no_messages; sequencers = []; readers = []; specs = [] }
 
 abbrev pub node_at : State → ℕ → Node
 node_at s n = unwrap_or (find n s.nodes) new_node

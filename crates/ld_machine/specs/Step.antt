@@ -3,8 +3,9 @@ use Rattle.std.specs.Prelude.{ℕ, List, [], ◌∷◌, ◌++◌, length, Option
 use Rattle.std.specs.Option.{unwrap_or}
 use Rattle.ld_table.specs.Table.{find, put}
 use Rattle.ld_table.specs.Named.{find_named}
-use Rattle.ld_table.specs.Words.{is_in}
-use Rattle.ld_lsn.specs.Number.{numbered, home_epoch}
+use Rattle.ld_table.specs.Words.{all_of}
+use Rattle.ld_ids.specs.Set.{members}
+use Rattle.ld_lsn.specs.Number.{numbered}
 use Rattle.ld_schedule.specs.declared.event.Event.{Event}
 use Rattle.ld_schedule.specs.declared.event.Event.TheVariants as events
 use Rattle.ld_transcript.specs.declared.line.Line.{Line}
@@ -16,7 +17,6 @@ use Rattle.ld_msg.specs.declared.msg.Msg.{Msg}
 use Rattle.ld_msg.specs.declared.msg.Body.{Body}
 use Rattle.ld_msg.specs.declared.msg.Body.TheVariants as bodies
 use Rattle.ld_ids.specs.declared.set.Spec.{Spec}
-use Rattle.ld_ids.specs.Choice.{nodes_of}
 use Rattle.ld_msg.specs.Reading.{Item, TrimTo, RecordHere, HoleHere, BridgeTo, LossHere}
 use Rattle.ld_op.specs.declared.op.Op.{Op}
 use Rattle.ld_op.specs.declared.op.Op.TheVariants as ops
@@ -25,7 +25,7 @@ use Rattle.ld_op.specs.Answers.{Handled, on_release}
 use Rattle.ld_op.specs.Ticks.{Ticked, Cleans, Rebuilt, Asks, Nothing, on_tick, node_asks}
 use Rattle.ld_op.specs.Handles.{ballot_of, handled_by, answer_message}
 use Rattle.ld_config.specs.declared.config.Config.{Config}
-use Rattle.ld_machine.specs.Config.{spec_in, set_of, set_at, has_log, has_node}
+use Rattle.ld_machine.specs.Config.{first_spec, all_nodes, looks_at, has_log, has_node}
 use Rattle.ld_msg.specs.Register.{Register, Changed, Answer, Granted, AtLimit, Behind, Fails, epochs_of, epochs_in, generation_of, lce_of, activate, draw}
 use Rattle.ld_machine.specs.Disk.{Node, Fault, new_node, is_up, is_blank, is_down, is_failed, Kept, Written, DiskFailed, Crashed, JournalFull, keep_op, keep_end, load, load_end, Down}
 use Rattle.ld_msg.specs.Network.{message, mark, posted}
@@ -73,7 +73,7 @@ abbrev pub to_up_node : State → ℕ → Msg → Done
 to_up_node s n m = handles (with_node s n (releases (node_at s n) m.log m.body)) n m (node_handles (node_at s n) m).op (node_handles (node_at s n) m).answer
 
 abbrev pub to_node : Config → State → ℕ → Msg → Done
-to_node c s n m = if is_up (node_at s n).status && is_in n (set_of c m.log) then to_up_node s n m else unchanged s
+to_node c s n m = if is_up (node_at s n).status && has_log c m.log then to_up_node s n m else unchanged s
 
 -- ---- sequencers ----
 
@@ -89,43 +89,43 @@ acted_lines name old a = numbered_lines (lines.RefusedPreempted name) a.preempts
     ++ (numbered_lines (lines.Acked name) a.acked ++ (numbered_lines (lines.Clean name) a.closed ++ when (rose old a.sequencer) (lines.Released name (released_of a.sequencer)))))
 
 -- what a sequencer did is told
-abbrev pub told : Config → State → List ℕ → Sequencer → Called → Done
-told c s name old k = record {
+abbrev pub told : State → List ℕ → Sequencer → Called → Done
+told s name old k = record {
   state = with_register (with_sequencer s name k.acts.sequencer) k.register;
   lines = acted_lines name old k.acts;
-  sends = posted (whos.Sequencer old.epoch) old.log (acted_messages (spec_in old.log c.logs) old k.acts);
+  sends = posted (whos.Sequencer old.epoch) old.log (acted_messages old k.acts);
 }
 
 abbrev pub acted : Config → State → List ℕ → Sequencer → Acts → Done
-acted c s name old a = told c s name old (called (spec_in old.log c.logs) s.register a a.tries)
+acted c s name old a = told s name old (called (looks_at c s.register old.log) s.register a a.tries)
 
 abbrev pub sender_node : Who → ℕ
 sender_node (whos.Node n) = n
 sender_node _ = 0
 
 abbrev pub to_live : Config → State → List ℕ → Sequencer → Msg → Done
-to_live c s name q m = if q.gone then unchanged s else acted c s name q (on_reply (spec_in q.log c.logs) q (sender_node m.from) m.body)
+to_live c s name q m = if q.gone then unchanged s else acted c s name q (on_reply (looks_at c s.register q.log) q (sender_node m.from) m.body)
 
 abbrev pub to_sequencer : Config → State → Msg → Option (List ℕ × Sequencer) → Done
 to_sequencer c s m None = unchanged s
 to_sequencer c s m (Some q) = to_live c s q.0 q.1 m
 
 -- the numbers are told, or why not
-abbrev pub append_done : Config → State → List ℕ → Sequencer → List ℕ → Appending → Done
-append_done c s name q payload TooLong = with_line s (lines.RefusedLong name (length payload))
-append_done c s name q payload (Preempted k) = with_line s (lines.RefusedPreempted name k)
-append_done c s name q payload EpochFull = with_line s (lines.RefusedEpochFull name)
-append_done c s name q payload WindowFull = with_line s (lines.RefusedWindowFull name)
-append_done c s name q payload Numbered = record {
+abbrev pub append_done : State → List ℕ → Sequencer → List ℕ → Appending → Done
+append_done s name q payload TooLong = with_line s (lines.RefusedLong name (length payload))
+append_done s name q payload (Preempted k) = with_line s (lines.RefusedPreempted name k)
+append_done s name q payload EpochFull = with_line s (lines.RefusedEpochFull name)
+append_done s name q payload WindowFull = with_line s (lines.RefusedWindowFull name)
+append_done s name q payload Numbered = record {
   state = with_sequencer s name (appended q payload);
   lines = lines.Appended name (numbered q.epoch (next_esn q)) ∷ [];
-  sends = posted (whos.Sequencer q.epoch) q.log (first_stores (spec_in q.log c.logs) q payload);
+  sends = posted (whos.Sequencer q.epoch) q.log (first_stores q payload);
 }
 
 abbrev pub trim_done : Config → State → List ℕ → Sequencer → ℕ → Done
 trim_done c s name q point =
     if nat_lt (released_of q) point then with_line s (lines.RefusedPast name (released_of q))
-    else record { state = s; lines = lines.Trimmed name point ∷ []; sends = posted (whos.Sequencer q.epoch) q.log (to_each (bodies.Trim point) (set_of c q.log)) }
+    else record { state = s; lines = lines.Trimmed name point ∷ []; sends = posted (whos.Sequencer q.epoch) q.log (to_each (bodies.Trim point) (all_nodes c)) }
 
 abbrev pub dropped : Sequencer → Sequencer
 dropped q = record q { gone = true }
@@ -138,11 +138,15 @@ on_live s (Some q) f = if q.gone then unchanged s else f q
 abbrev pub live : State → List ℕ → (Sequencer → Done) → Done
 live s name f = on_live s (find_named name s.sequencers) f
 
+-- what later activations of a log use
+abbrev pub spec_set : Config → State → ℕ → Spec
+spec_set c s l = unwrap_or (find l s.specs) (first_spec c l)
+
 abbrev pub activated_as : Config → State → List ℕ → ℕ → Register → ℕ → ℕ → Done
 activated_as c s name l r epoch lce = record {
-  state = with_register (with_sequencer s name (activated (spec_in l c.logs) l epoch lce)) r;
+  state = with_register (with_sequencer s name (activated (looks_at c r l) (spec_set c s l) l epoch lce)) r;
   lines = lines.Active name epoch ∷ [];
-  sends = posted (whos.Sequencer epoch) l (recovery_asks (spec_in l c.logs) (activated (spec_in l c.logs) l epoch lce) lce);
+  sends = posted (whos.Sequencer epoch) l (recovery_asks (looks_at c r l) (activated (looks_at c r l) (spec_set c s l) l epoch lce) lce);
 }
 
 abbrev pub activates_by : Config → State → List ℕ → ℕ → Register → Answer → Done
@@ -174,12 +178,8 @@ read s name a = record {
   sends = posted (whos.Reader a.reader.number) a.reader.log a.asks;
 }
 
--- the nodes that a reader asks: those of the epoch that it reads
-abbrev pub set_read : Config → Reader → List ℕ
-set_read c d = set_at c d.log (home_epoch d.next)
-
 abbrev pub to_open : Config → State → List ℕ → Reader → Msg → Done
-to_open c s name d m = if is_finished d then unchanged s else read s name (on_answer (set_read c d) d (sender_node m.from) m.body)
+to_open c s name d m = if is_finished d then unchanged s else read s name (on_answer (looks_at c s.register d.log) d (sender_node m.from) m.body)
 
 abbrev pub to_reader : Config → State → Msg → Option (List ℕ × Reader) → Done
 to_reader c s m None = unchanged s
@@ -189,7 +189,7 @@ abbrev pub polls : Config → State → List ℕ → Option Reader → Done
 polls c s name None = unchanged s
 polls c s name (Some d) =
     if is_finished d then unchanged s
-    else record { state = with_reader s name (polled d); lines = []; sends = posted (whos.Reader d.number) d.log (poll_asks (set_read c d) d) }
+    else record { state = with_reader s name (polled (looks_at c s.register d.log) d); lines = []; sends = posted (whos.Reader d.number) d.log (poll_asks (looks_at c s.register d.log) d) }
 
 -- the greatest number of readers of a run
 abbrev pub reader_limit : ℕ
@@ -222,7 +222,7 @@ delivers c s i = delivers_it c s i (message s.network i)
 
 -- the lines of the logs for which a formatted node is lost
 abbrev pub lost_line : ℕ → ℕ → Spec → List Line
-lost_line n epoch p = if is_in n (nodes_of p) && nat_lt 0 epoch then lines.NodeLost n p.log epoch ∷ [] else []
+lost_line n epoch p = if nat_lt 0 epoch then lines.NodeLost n p.log epoch ∷ [] else []
 
 abbrev pub lost_lines : ℕ → Register → List Spec → List Line
 lost_lines n r [] = []
@@ -264,12 +264,12 @@ with_fault x f = record x { fault = Some f }
 abbrev pub ticks_as : Config → State → ℕ → ℕ → Ticked → Done
 ticks_as c s n l (Cleans epoch y) = keeps_op s n (ops.Clean l epoch y) [] []
 ticks_as c s n l Rebuilt = keeps_op s n (ops.Refilled l) (lines.NodeRebuilt n l ∷ []) []
-ticks_as c s n l (Asks from) = record { state = s; lines = []; sends = posted (whos.Node n) l (node_asks n (set_of c l) from) }
+ticks_as c s n l (Asks from) = record { state = s; lines = []; sends = posted (whos.Node n) l (node_asks n (all_nodes c) from) }
 ticks_as c s n l Nothing = unchanged s
 
 abbrev pub ticks : Config → State → ℕ → ℕ → Done
 ticks c s n l =
-    if is_up (node_at s n).status && is_in n (set_of c l) then ticks_as c s n l (on_tick (log_of (node_at s n).plain l) (epochs_of s.register l).summaries)
+    if is_up (node_at s n).status && has_log c l then ticks_as c s n l (on_tick (log_of (node_at s n).plain l) (epochs_of s.register l).summaries)
     else unchanged s
 
 -- ---- events ----
@@ -281,13 +281,22 @@ where_node c s n fits d = if has_node c n && fits then d else unchanged s
 abbrev pub armed : Register → ℕ → Bool → Register
 armed r k done = record r { armed = Some (record { left = k; done = done }) }
 
+-- later activations of a log use these nodes, where the configuration has them, this factor, from 1 up to their count, and these extras, at most 3
+abbrev pub can_set : Config → ℕ → ℕ → ℕ → List ℕ → Bool
+can_set c l r x nodes = has_log c l && (all_of (has_node c) nodes && (nat_le 1 r && (nat_le r (length nodes) && nat_le x 3)))
+
+abbrev pub sets : Config → State → ℕ → ℕ → ℕ → List Bool → Done
+sets c s l r x set =
+    if can_set c l r x (members set) then with_line (record s { specs = put l (record { log = l; set = set; r = r; extras = x }) s.specs }) (lines.Set l r x set)
+    else unchanged s
+
 -- what an event does; a flow is some deliveries, each a step of its own
 unfoldable pub happens : Config → State → Event → Done
 happens c s (events.Format n) = where_node c s n (is_blank (node_at s n).status) (formats c s n)
-happens c s (events.Activate name l) = if has_log c l && not (is_some (find_named name s.sequencers)) then activates c s name l (activate s.register l) else unchanged s
-happens c s (events.Append name payload) = live s name (λ q. append_done c s name q payload (appending q payload))
+happens c s (events.Activate name l) = if has_log c l && not (is_some (find_named name s.sequencers)) then activates c s name l (activate s.register l (spec_set c s l)) else unchanged s
+happens c s (events.Append name payload) = live s name (λ q. append_done s name q payload (appending q payload))
 happens c s (events.Trim name point) = live s name (λ q. trim_done c s name q point)
-happens c s (events.Retry name) = live s name (λ q. acted c s name q (on_retry (spec_in q.log c.logs) q))
+happens c s (events.Retry name) = live s name (λ q. acted c s name q (on_retry q))
 happens c s (events.Drop name) = live s name (λ q. only_state (with_sequencer s name (dropped q)))
 happens c s (events.Deliver i) = delivers c s i
 happens c s (events.Lose i) = only_state (marked s i)
@@ -300,4 +309,5 @@ happens c s (events.Up n) = where_node c s n (is_down (node_at s n).status) (com
 happens c s (events.Wipe n) = where_node c s n true (with_line (with_node s n new_node) (lines.NodeWiped n))
 happens c s (events.Fail n k) = where_node c s n true (only_state (with_node s n (with_fault (node_at s n) (record { left = k; crash = None }))))
 happens c s (events.Tear n k picture) = where_node c s n true (only_state (with_node s n (with_fault (node_at s n) (record { left = k; crash = Some picture }))))
+happens c s (events.Set l r x set) = sets c s l r x set
 happens c s (events.RegFail k done) = only_state (with_register s (armed s.register k done))

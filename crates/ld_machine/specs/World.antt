@@ -1,5 +1,5 @@
 -- A state with a book that never forgets: the digests that plans were made from.
-use Rattle.std.specs.Prelude.{ℕ, ◌≡◌, ◌⊎◌, List, [], ◌∷◌, Option, Some, None, is_some, Bool, true, false, ◌&&◌, ◌||◌, ◌==◌, nat_le, if◌then◌else◌}
+use Rattle.std.specs.Prelude.{ℕ, max, ◌≡◌, ◌⊎◌, List, [], ◌∷◌, Option, Some, None, is_some, Bool, true, false, ◌&&◌, ◌||◌, ◌==◌, nat_le, if◌then◌else◌}
 use Rattle.ld_table.specs.Table.{find}
 use Rattle.ld_table.specs.Words.{how_many, any_of}
 use Rattle.ld_lsn.specs.Number.{epoch_of, esn_of}
@@ -12,7 +12,7 @@ use Rattle.ld_msg.specs.declared.msg.Msg.{Msg}
 use Rattle.ld_msg.specs.declared.msg.Entry.{Entry}
 use Rattle.ld_msg.specs.declared.msg.Body.{Body}
 use Rattle.ld_msg.specs.declared.msg.Body.TheVariants as bodies
-use Rattle.ld_msg.specs.Digest.{Told, with_page, enough, plan_item, trim_place, digest_trim}
+use Rattle.ld_msg.specs.Digest.{Told, with_page, enough, plan_item, trim_place, digest_trim, digest_lng}
 use Rattle.ld_op.specs.Plain.{Plain, log_of, summary_at, is_lost}
 use Rattle.ld_config.specs.declared.config.Config.{Config}
 use Rattle.ld_machine.specs.Config.{spec_of, set_at}
@@ -38,14 +38,14 @@ begin c = record { state = start c; made = [] }
 -- ---- the plan that a delivery makes ----
 
 abbrev pub if_enough : Config → Sequencer → Recovery → List Told → List Made
-if_enough c q v d = if enough (spec_of c q.log v.epoch) d then record { log = q.log; epoch = v.epoch; ballot = q.epoch; digest = d } ∷ [] else []
+if_enough c q v d = if enough v.spec d then record { log = q.log; epoch = v.epoch; ballot = q.epoch; digest = d } ∷ [] else []
 
-abbrev pub made_in : Config → Sequencer → Recovery → Stage → ℕ → ℕ → ℕ → ℕ → List Entry → List Made
-made_in c q v (Seals d) y from upto trim es = if takes_any y from d then if_enough c q v (with_page v.epoch y from upto trim es d) else []
-made_in c q v _ y from upto trim es = []
+abbrev pub made_in : Config → Sequencer → Recovery → Stage → ℕ → ℕ → ℕ → ℕ → ℕ → List Entry → List Made
+made_in c q v (Seals d) y from upto trim lng es = if takes_any y from d then if_enough c q v (with_page v.epoch y from upto trim lng es d) else []
+made_in c q v _ y from upto trim lng es = []
 
 abbrev pub made_with : Config → Sequencer → Option Recovery → ℕ → Body → List Made
-made_with c q (Some v) y (bodies.DigestPage from upto trim lng es) = if v.epoch == epoch_of from then made_in c q v v.stage y from upto trim es else []
+made_with c q (Some v) y (bodies.DigestPage from upto trim lng es) = if v.epoch == epoch_of from then made_in c q v v.stage y from upto trim lng es else []
 made_with c q _ y b = []
 
 abbrev pub made_by : Config → Option (List ℕ × Sequencer) → ℕ → Body → List Made
@@ -114,10 +114,10 @@ has_told w p l b y = any_of (told_by p l y b) w.state.network.sent
 
 -- as many nodes of the log as it has copies stored the number for ballot b
 unfoldable pub chosen : Config → World → ℕ → ℕ → ℕ → Bool
-chosen c w l n b = nat_le (spec_of c l (epoch_of n)).r (how_many (has_told w (says_stored n) l b) (set_at c l (epoch_of n)))
+chosen c w l n b = nat_le (spec_of c w.state.register l (epoch_of n)).r (how_many (has_told w (says_stored n) l b) (set_at c w.state.register l (epoch_of n)))
 
 unfoldable pub settled : Config → World → ℕ → ℕ → ℕ → Bool
-settled c w l n b = nat_le (spec_of c l (epoch_of n)).r (how_many (has_told w (says_settled n) l b) (set_at c l (epoch_of n)))
+settled c w l n b = nat_le (spec_of c w.state.register l (epoch_of n)).r (how_many (has_told w (says_settled n) l b) (set_at c w.state.register l (epoch_of n)))
 
 -- ---- what a ballot says of a number ----
 
@@ -157,6 +157,10 @@ item w l n b = if b == epoch_of n then append_in l n w.state.network.sent else i
 
 abbrev pub plan_trim : ℕ → List Told → ℕ
 plan_trim e d = trim_place e (digest_trim d)
+
+-- up to this place a plan vouches for nothing: it was trimmed, or known good
+abbrev pub plan_from : ℕ → List Told → ℕ
+plan_from e d = max (plan_trim e d) (digest_lng d)
 
 -- ---- nodes ----
 

@@ -21,6 +21,10 @@ Is32 n = n < 2 ^ 32
 abbrev pub Is64 : ℕ → Type 0
 Is64 n = n < 2 ^ 64
 
+-- a last known good place
+abbrev pub IsLng : ℕ → Type 0
+IsLng n = n ≤ last_esn - 1
+
 -- an epoch that a register may hand out
 abbrev pub IsEpoch : ℕ → Type 0
 IsEpoch e = (1 ≤ e) × (e ≤ 2 ^ 32 - 2)
@@ -55,7 +59,7 @@ pub record IsEntry (e : Entry) : Type 0 where
 pub record IsSummary (epoch : ℕ) (y : Summary) : Type 0 where
   pub ballot : epoch < y.ballot
   pub ballot_most : y.ballot ≤ 2 ^ 32 - 2
-  pub lng : Is32 y.lng
+  pub lng : IsLng y.lng
   pub trim : Is64 y.trim
   pub end : 1 ≤ y.end
   pub end_most : y.end ≤ last_esn
@@ -146,14 +150,14 @@ ToAsker from to round number = IsNodeHere from × IsAsker to × Is32 round × (1
 
 -- what each body may hold between its actors
 abbrev pub Fits : Who → Who → Body → Type 0
-Fits from to (bodies.Store n lng x) = ToNode from to × Is32 lng × IsEntry (record { number = n; ballot = ballot_of from; what = x }) × (epoch_of n ≡ ballot_of from → IsRecord x)
+Fits from to (bodies.Store n lng x) = ToNode from to × IsLng lng × IsEntry (record { number = n; ballot = ballot_of from; what = x }) × (epoch_of n ≡ ballot_of from → IsRecord x)
 Fits from to (bodies.Stored n) = ToSequencer from to × Is64 n
 Fits from to (bodies.SealedHere n k) = ToSequencer from to × Is64 n × Is32 k
 Fits from to (bodies.LostHere n round g end) = IsNodeHere from × IsActor to × (1 ≤ n) × Is64 n × Is32 round × AnswersIn to round × Is32 g × Is64 end
 Fits from to (bodies.CleanHere n y) = ToSequencer from to × Is64 n × IsSummary (epoch_of n) y
 Fits from to (bodies.TrimmedHere n t) = ToSequencer from to × Is64 n × Is64 t
 Fits from to (bodies.DigestAsk n) = ToNode from to × (1 ≤ epoch_of n) × (epoch_of n < ballot_of from) × (1 ≤ esn_of n)
-Fits from to (bodies.DigestPage n upto t lng es) = ToSequencer from to × IsPage n upto es × Is64 t × Is32 lng
+Fits from to (bodies.DigestPage n upto t lng es) = ToSequencer from to × IsPage n upto es × Is64 t × IsLng lng
 Fits from to (bodies.Clean e y) = ToNode from to × IsEpoch e × IsSummary e y
 Fits from to (bodies.Release n) = ToNode from to × Is64 n
 Fits from to (bodies.Trim t) = ToNode from to × Is64 t

@@ -32,31 +32,51 @@ statement s (e ∷ es) = better (statement s es) (says s e)
 
 -- ---- a digest ----
 
--- what one node has told: the number that it was asked from last, the entries and the trim of its pages, whether they reach the epoch's end, and whether it then said that it is lost
+-- what one node has told: the number that it was asked from last, the entries, the trim and the last known good place of its pages, whether they reach the epoch's end, and whether it then said that it is lost
 pub record Told : Type 0 where
   pub node : ℕ
   pub asked : ℕ
   pub entries : List Entry
   pub trim : ℕ
+  pub lng : ℕ
   pub whole : Bool
   pub lost : Bool
 
 -- a digest has one entry for each node, in rising order
 abbrev pub told_nothing : ℕ → ℕ → Told
-told_nothing epoch y = record { node = y; asked = numbered epoch 1; entries = []; trim = 0; whole = false; lost = false }
+told_nothing epoch y = record { node = y; asked = numbered epoch 1; entries = []; trim = 0; lng = 0; whole = false; lost = false }
 
 abbrev pub no_digest : Spec → ℕ → List Told
 no_digest s epoch = map (told_nothing epoch) (nodes_of s)
 
-abbrev pub told_page : ℕ → ℕ → ℕ → List Entry → Told → Told
-told_page epoch upto trim es t = record t { asked = upto + 1; entries = t.entries ++ es; trim = max t.trim trim; whole = nat_le (numbered epoch last_esn) upto }
+-- the greatest last known good place of a digest: up to it nothing needs to be told, planned or stored again
+unfoldable pub digest_lng : List Told → ℕ
+digest_lng [] = 0
+digest_lng (t ∷ d) = max t.lng (digest_lng d)
+
+-- a node is asked on past its page, and past what is known good; lng is the digest's, the page counted
+abbrev pub told_page : ℕ → ℕ → ℕ → ℕ → ℕ → List Entry → Told → Told
+told_page epoch good upto trim lng es t = record t {
+  asked = max (upto + 1) (numbered epoch (good + 1));
+  entries = t.entries ++ es;
+  trim = max t.trim trim;
+  lng = max t.lng lng;
+  whole = nat_le (numbered epoch last_esn) upto;
+}
 
 -- a page is taken where it begins at the number asked from last, unless the node is whole
 abbrev pub takes_page : ℕ → ℕ → Told → Bool
 takes_page y from t = (t.node == y) && ((t.asked == from) && not t.whole)
 
-unfoldable pub with_page : ℕ → ℕ → ℕ → ℕ → ℕ → List Entry → List Told → List Told
-with_page epoch y from upto trim es d = map (λ t. if takes_page y from t then told_page epoch upto trim es t else t) d
+unfoldable pub with_page : ℕ → ℕ → ℕ → ℕ → ℕ → ℕ → List Entry → List Told → List Told
+with_page epoch y from upto trim lng es d = map (λ t. if takes_page y from t then told_page epoch (max (digest_lng d) lng) upto trim lng es t else t) d
+
+-- a node that gave a page is asked anew past what is known good by now; one that gave none from its first place
+abbrev pub asked_anew : ℕ → ℕ → Told → Told
+asked_anew epoch good t = record t { asked = if t.asked == numbered epoch 1 then t.asked else max t.asked (numbered epoch (good + 1)) }
+
+unfoldable pub with_asks : ℕ → List Told → List Told
+with_asks epoch d = map (asked_anew epoch (digest_lng d)) d
 
 abbrev pub told_lost : ℕ → Told → Told
 told_lost y t = record t { lost = if t.node == y then true else t.lost }
@@ -110,25 +130,30 @@ unfoldable pub top_place : List Told → List Told → ℕ
 top_place d [] = 0
 top_place d (t ∷ rest) = max (top_in d t.entries) (top_place d rest)
 
+-- up to this place a plan says nothing: it is trimmed or known good
+unfoldable pub plan_floor : ℕ → List Told → ℕ
+plan_floor epoch d = max (trim_place epoch (digest_trim d)) (digest_lng d)
+
 -- where the bridge goes
 unfoldable pub plan_end : ℕ → List Told → ℕ
-plan_end epoch d = suc (max (top_place d d) (trim_place epoch (digest_trim d)))
+plan_end epoch d = suc (max (top_place d d) (plan_floor epoch d))
 
 pub record Item : Type 0 where
   pub number : ℕ
   pub what : What
 
--- what a plan puts at a place: nothing at or below the trim or above the end
+-- what a plan puts at a place: nothing at or below its floor or above the end
 unfoldable pub plan_item : ℕ → List Told → ℕ → Option What
 plan_item epoch d n =
-    if nat_le n (trim_place epoch (digest_trim d)) then None
+    if nat_le n (plan_floor epoch d) then None
     else if nat_lt n (plan_end epoch d) then Some (content (best (numbered epoch n) d))
     else if n == plan_end epoch d then Some Bridge
     else None
 
--- the trim as it was found, the bridge's place, and the items by number, the bridge last
+-- the trim as it was found, the last known good place, the bridge's place, and the items by number, the bridge last
 pub record Plan : Type 0 where
   pub trim : ℕ
+  pub lng : ℕ
   pub end : ℕ
   pub items : List Item
 
@@ -136,15 +161,16 @@ abbrev pub record_items : ℕ → List Told → List ℕ → List Item
 record_items epoch d [] = []
 record_items epoch d (n ∷ ns) = record { number = numbered epoch n; what = content (best (numbered epoch n) d) } ∷ record_items epoch d ns
 
--- the places above the trim and below the end
+-- the places above one and below another
 abbrev pub places_between : ℕ → ℕ → List ℕ
 places_between t end = numbers_from (t + 1) (end - 1 - t)
 
 abbrev pub plan_to : ℕ → List Told → ℕ → Plan
 plan_to epoch d end = record {
   trim = digest_trim d;
+  lng = digest_lng d;
   end = end;
-  items = record_items epoch d (places_between (trim_place epoch (digest_trim d)) end) ++ record { number = numbered epoch end; what = Bridge } ∷ [];
+  items = record_items epoch d (places_between (plan_floor epoch d) end) ++ record { number = numbered epoch end; what = Bridge } ∷ [];
 }
 
 unfoldable pub plan : ℕ → List Told → Plan

@@ -2,6 +2,9 @@
 use Rattle.std.specs.Prelude.{ℕ, ◌+◌, ◌-◌, ◌^◌, min, suc, zero, List, [], ◌∷◌, ◌++◌, length, Option, Some, None, Bool, true, false, ◌&&◌, not, ◌==◌, nat_lt, nat_le, if◌then◌else◌}
 use Rattle.ld_table.specs.Table.{find, put}
 use Rattle.ld_table.specs.Words.{is_in, with_one, all_of, any_of}
+use Rattle.ld_lsn.specs.Number.{home_epoch}
+use Rattle.ld_ids.specs.Choice.{nodes_of}
+use Rattle.ld_msg.specs.Register.{View}
 use Rattle.ld_msg.specs.declared.msg.Body.{Body}
 use Rattle.ld_msg.specs.declared.msg.Body.TheVariants as bodies
 use Rattle.ld_msg.specs.Reading.{Held, Item, TrimTo, RecordHere, HoleHere, BridgeTo, LossHere, Verdict, Gives, Confirms, NotYet, decide}
@@ -12,6 +15,7 @@ pub record Confirmation : Type 0 where
   pub asked : List (ℕ × ℕ)
   pub told : List ℕ
 
+-- seen is what the look showed with which its last round began
 pub record Reader : Type 0 where
   pub log : ℕ
   pub number : ℕ
@@ -20,9 +24,10 @@ pub record Reader : Type 0 where
   pub round : ℕ
   pub held : List (ℕ × Held)
   pub confirming : Option Confirmation
+  pub seen : Option View
 
 abbrev pub opened : ℕ → ℕ → ℕ → ℕ → Reader
-opened l number from until = record { log = l; number = number; next = from; until = until; round = 0; held = []; confirming = None }
+opened l number from until = record { log = l; number = number; next = from; until = until; round = 0; held = []; confirming = None; seen = None }
 
 abbrev pub is_finished : Reader → Bool
 is_finished d = nat_lt d.until d.next
@@ -46,12 +51,21 @@ abbrev pub keys : List (ℕ × ℕ) → List ℕ
 keys [] = []
 keys (k ∷ ks) = k.0 ∷ keys ks
 
--- a new round, which ends a confirmation
-abbrev pub polled : Reader → Reader
-polled d = record d { round = if nat_lt d.round last_round then d.round + 1 else d.round; confirming = None }
+-- looks tell what a look at an epoch of the log shows at this moment; a round begins with one at the home epoch of the next number
+abbrev pub look_of : (ℕ → View) → Reader → View
+look_of looks d = looks (home_epoch d.next)
 
-abbrev pub poll_asks : List ℕ → Reader → List (ℕ × Body)
-poll_asks set d = if nat_lt d.round last_round then asks_of (d.round + 1) d.next set else []
+-- a new round, which ends a confirmation
+abbrev pub polled : (ℕ → View) → Reader → Reader
+polled looks d = record d {
+  round = if nat_lt d.round last_round then d.round + 1 else d.round;
+  confirming = None;
+  seen = if nat_lt d.round last_round then Some (look_of looks d) else d.seen;
+}
+
+-- it asks the nodes that its look showed
+abbrev pub poll_asks : (ℕ → View) → Reader → List (ℕ × Body)
+poll_asks looks d = if nat_lt d.round last_round then asks_of (d.round + 1) d.next (nodes_of (look_of looks d).spec) else []
 
 -- ---- items ----
 
@@ -70,9 +84,9 @@ after_item d i = record d { next = min (item_end d.next i) d.until + 1; confirmi
 abbrev pub gives : Read → Item → Read
 gives a i = record { reader = after_item a.reader i; items = a.items ++ (a.reader.next, i) ∷ []; asks = a.asks }
 
-abbrev pub confirms : Read → List (ℕ × ℕ) → Read
-confirms a lost = record {
-  reader = record a.reader { round = a.reader.round + 1; confirming = Some (record { round = a.reader.round + 1; asked = lost; told = [] }) };
+abbrev pub confirms : (ℕ → View) → Read → List (ℕ × ℕ) → Read
+confirms looks a lost = record {
+  reader = record a.reader { round = a.reader.round + 1; seen = Some (look_of looks a.reader); confirming = Some (record { round = a.reader.round + 1; asked = lost; told = [] }) };
   items = a.items;
   asks = asks_of (a.reader.round + 1) a.reader.next (keys lost);
 }
@@ -81,16 +95,25 @@ abbrev pub is_confirming : Option Confirmation → Bool
 is_confirming None = false
 is_confirming (Some v) = true
 
-abbrev pub may_confirm : Reader → Bool
-may_confirm d = not (is_confirming d.confirming) && nat_lt d.round last_round
+abbrev pub seen_nodes : Option View → List ℕ
+seen_nodes None = []
+seen_nodes (Some w) = nodes_of w.spec
 
-abbrev pub verdict : List ℕ → Reader → Verdict
-verdict set d = if is_finished d then NotYet else decide d.next (may_confirm d) set d.held
+-- the last look was at this epoch, and it was handed out by then: its nodes were shown
+abbrev pub has_seen : ℕ → Option View → Bool
+has_seen e None = false
+has_seen e (Some w) = (w.at == e) && nat_le e w.epoch
+
+abbrev pub may_confirm : Reader → Bool
+may_confirm d = (not (is_confirming d.confirming) && nat_lt d.round last_round) && has_seen (home_epoch d.next) d.seen
+
+abbrev pub verdict : Reader → Verdict
+verdict d = if is_finished d then NotYet else decide d.next (may_confirm d) (seen_nodes d.seen) d.held
 
 -- while a row of the table holds, at most so often
-abbrev pub gives_all : ℕ → List ℕ → Read → Read
-gives_all zero set a = a
-gives_all (suc k) set a = elim (verdict set a.reader) [ Gives i ↦ gives_all k set (gives a i) | Confirms lost ↦ confirms a lost | NotYet ↦ a ]
+abbrev pub gives_all : ℕ → (ℕ → View) → Read → Read
+gives_all zero looks a = a
+gives_all (suc k) looks a = elim (verdict a.reader) [ Gives i ↦ gives_all k looks (gives a i) | Confirms lost ↦ confirms looks a lost | NotYet ↦ a ]
 
 abbrev pub body_size : Body → ℕ
 body_size (bodies.ReadPage round from upto clean es) = 1 + length es
@@ -151,9 +174,9 @@ loses d = if is_confirmed d.confirming then gives (record { reader = d; items = 
 
 -- ---- the next round ----
 
--- a page that goes as far as the number: it begins no further on, since each page answers an ask from the next number of its time
+-- a page whose range holds the number
 abbrev pub reaches : ℕ → Body → Bool
-reaches s (bodies.ReadPage round from upto clean es) = nat_le s upto
+reaches s (bodies.ReadPage round from upto clean es) = nat_le from s && nat_le s upto
 reaches s _ = false
 
 abbrev pub gave_item : List (ℕ × Item) → Bool
@@ -164,12 +187,12 @@ gave_item (i ∷ is) = true
 abbrev pub asks_on : Read → Bool
 asks_on a = (gave_item a.items && not (is_finished a.reader)) && (not (is_confirming a.reader.confirming) && not (any_of (λ h. reaches a.reader.next h.1.body) a.reader.held))
 
-abbrev pub next_round : List ℕ → Read → Read
-next_round set a = record {
-  reader = if asks_on a then polled a.reader else a.reader;
+abbrev pub next_round : (ℕ → View) → Read → Read
+next_round looks a = record {
+  reader = if asks_on a then polled looks a.reader else a.reader;
   items = a.items;
-  asks = if asks_on a then poll_asks set a.reader else a.asks;
+  asks = if asks_on a then poll_asks looks a.reader else a.asks;
 }
 
-unfoldable pub on_answer : List ℕ → Reader → ℕ → Body → Read
-on_answer set d y b = next_round set (gives_all (most_items (heard d y b)) set (loses (heard d y b)))
+unfoldable pub on_answer : (ℕ → View) → Reader → ℕ → Body → Read
+on_answer looks d y b = next_round looks (gives_all (most_items (heard d y b)) looks (loses (heard d y b)))

@@ -1,7 +1,7 @@
 -- What a reader makes of the answers that it holds.
-use Rattle.std.specs.Prelude.{ℕ, max, List, [], ◌∷◌, flat_map, Option, Some, None, is_some, Bool, true, false, ◌&&◌, ◌||◌, not, ◌==◌, nat_lt, nat_le, if◌then◌else◌}
+use Rattle.std.specs.Prelude.{ℕ, max, List, [], ◌∷◌, flat_map, filter, Option, Some, None, is_some, Bool, true, false, ◌&&◌, ◌||◌, not, ◌==◌, nat_lt, nat_le, if◌then◌else◌}
 use Rattle.ld_table.specs.Table.{find}
-use Rattle.ld_table.specs.Words.{all_of, any_of, or_else}
+use Rattle.ld_table.specs.Words.{is_in, all_of, any_of, or_else}
 use Rattle.ld_lsn.specs.Number.{home_epoch, epoch_end}
 use Rattle.ld_msg.specs.declared.msg.What.{What}
 use Rattle.ld_msg.specs.declared.msg.What.TheVariants.{Rec, Hole}
@@ -99,17 +99,21 @@ abbrev pub lost_generation : ℕ → ℕ → Body → List (ℕ × ℕ)
 lost_generation s y (bodies.LostHere number round generation end) = if home_epoch number == home_epoch s then (y, generation) ∷ [] else []
 lost_generation s y _ = []
 
+-- the answers of the nodes of a set
+abbrev pub within : List ℕ → List (ℕ × Held) → List (ℕ × Held)
+within set hs = filter (λ h. is_in h.0 set) hs
+
 -- the nodes that are lost for the number, with their generations
 abbrev pub lost_held : ℕ → List (ℕ × Held) → List (ℕ × ℕ)
 lost_held s hs = flat_map (λ h. lost_generation s h.0 h.1.body) hs
 
--- each node misses the number or is lost, one at least is lost, and one at least knows an end above it
+-- each node of the set misses the number or is lost, one of them at least is lost, and one at least knows an end above it
 unfoldable pub is_loss : ℕ → List ℕ → List (ℕ × Held) → Bool
-is_loss s set hs = (all_of (λ y. leaves_open s (find y hs)) set && any_of (λ h. is_lost_for s h.1.body) hs) && any_of (λ h. knows_end_above s h.1.body) hs
+is_loss s set hs = (all_of (λ y. leaves_open s (find y hs)) set && any_of (λ h. is_lost_for s h.1.body) (within set hs)) && any_of (λ h. knows_end_above s h.1.body) (within set hs)
 
 -- ---- the table ----
 abbrev pub loss_verdict : ℕ → Bool → List ℕ → List (ℕ × Held) → Verdict
-loss_verdict s may_confirm set hs = if may_confirm && is_loss s set hs then Confirms (lost_held s hs) else NotYet
+loss_verdict s may_confirm set hs = if may_confirm && is_loss s set hs then Confirms (lost_held s (within set hs)) else NotYet
 
 abbrev pub entry_verdict : Option (List ℕ) → Bool → Verdict → Verdict
 entry_verdict (Some p) hole other = Gives (RecordHere p)

@@ -3,12 +3,14 @@ use Rattle.std.specs.Prelude.{ℕ, ◌+◌, ◌-◌, ◌^◌, List, [], ◌∷�
 use Rattle.std.specs.Option.{unwrap_or}
 use Rattle.ld_table.specs.Table.{find, put}
 use Rattle.ld_table.specs.Words.{how_many}
+use Rattle.ld_ids.specs.declared.set.Spec.{Spec}
 use Rattle.ld_msg.specs.declared.msg.Summary.{Summary}
 
--- one log's: the greatest epoch handed out, the last closed one, and the summaries of the closed ones
+-- one log's: the greatest epoch handed out, the last closed one, the nodes, factor and extras that were fixed for each epoch handed out, and the summaries of the closed ones
 pub record Epochs : Type 0 where
   pub epoch : ℕ
   pub lce : ℕ
+  pub specs : List (ℕ × Spec)
   pub summaries : List (ℕ × Summary)
 
 -- the change of this count from now fails, made or not
@@ -26,7 +28,7 @@ abbrev pub empty_register : Register
 empty_register = record { logs = []; generations = []; length = 1; armed = None }
 
 abbrev pub no_epochs : Epochs
-no_epochs = record { epoch = 0; lce = 0; summaries = [] }
+no_epochs = record { epoch = 0; lce = 0; specs = []; summaries = [] }
 
 abbrev pub epochs_of : Register → ℕ → Epochs
 epochs_of r l = unwrap_or (find l r.logs) no_epochs
@@ -93,14 +95,14 @@ change r next body = record {
 abbrev pub with_epochs : Register → ℕ → Epochs → Register
 with_epochs r l e = record r { logs = put l e r.logs }
 
--- the next epoch of a log
-abbrev pub next_epoch : Epochs → Epochs
-next_epoch e = record e { epoch = e.epoch + 1 }
+-- the next epoch of a log, and what is fixed for it
+abbrev pub next_epoch : Epochs → Spec → Epochs
+next_epoch e s = record e { epoch = e.epoch + 1; specs = put (e.epoch + 1) s e.specs }
 
-unfoldable pub activate : Register → ℕ → Changed
-activate r l =
+unfoldable pub activate : Register → ℕ → Spec → Changed
+activate r l s =
     if nat_le epoch_limit (epochs_of r l).epoch then record { register = r; answer = AtLimit }
-    else change r (with_epochs r l (next_epoch (epochs_of r l))) 9
+    else change r (with_epochs r l (next_epoch (epochs_of r l) s)) 13
 
 -- an epoch is closed with a summary, where the one before it is the last closed one
 abbrev pub closed_epochs : Epochs → ℕ → Summary → Epochs
@@ -133,3 +135,24 @@ is_crowded r l = nat_le log_limit (how_many (λ k. not (k.0 == l)) r.logs)
 -- the summary that a look at an epoch shows: of a closed one alone
 abbrev pub summary_shown : Register → ℕ → ℕ → Option Summary
 summary_shown r l e = if nat_le 1 e && nat_le e (lce_of r l) then find e (epochs_of r l).summaries else None
+
+-- ---- a look ----
+
+-- what a look at an epoch shows: the epoch, the greatest one handed out, the last closed one, the summary of this one where it is closed, and what was fixed for it
+pub record View : Type 0 where
+  pub at : ℕ
+  pub epoch : ℕ
+  pub lce : ℕ
+  pub summary : Option Summary
+  pub spec : Spec
+
+-- for epoch 0 and for one that isn't handed out the greatest one's is shown
+abbrev pub epoch_shown : Epochs → ℕ → ℕ
+epoch_shown g e = if (e == 0) || nat_lt g.epoch e then g.epoch else e
+
+-- where none was fixed, the first one counts
+abbrev pub spec_shown : Epochs → Spec → ℕ → Spec
+spec_shown g start e = unwrap_or (find (epoch_shown g e) g.specs) start
+
+unfoldable pub look : Spec → Register → ℕ → ℕ → View
+look start r l e = record { at = e; epoch = (epochs_of r l).epoch; lce = lce_of r l; summary = summary_shown r l e; spec = spec_shown (epochs_of r l) start e }

@@ -1,7 +1,7 @@
 -- A sequencer: appends, acknowledgements, the recovery of earlier epochs, and what it does at a reply or a retry.
 use Rattle.std.specs.Prelude.{ℕ, ◌+◌, ◌-◌, ◌^◌, min, suc, List, [], ◌∷◌, ◌++◌, length, Option, Some, None, Bool, true, false, ◌||◌, ◌==◌, nat_lt, nat_le, if◌then◌else◌}
 use Rattle.ld_table.specs.Table.{find, put}
-use Rattle.ld_table.specs.Words.{with_one, without, all_of}
+use Rattle.ld_table.specs.Words.{is_in, with_one, without, all_of}
 use Rattle.ld_lsn.specs.Number.{epoch_of, numbered, home_epoch, last_esn, epoch_end}
 use Rattle.ld_msg.specs.declared.msg.What.{What}
 use Rattle.ld_msg.specs.declared.msg.What.TheVariants.{Rec}
@@ -10,10 +10,10 @@ use Rattle.ld_msg.specs.declared.msg.Summary.{Summary}
 use Rattle.ld_msg.specs.declared.msg.Body.{Body}
 use Rattle.ld_msg.specs.declared.msg.Body.TheVariants as bodies
 use Rattle.ld_ids.specs.declared.set.Spec.{Spec}
-use Rattle.ld_ids.specs.Choice.{at_epoch, nodes_of}
+use Rattle.ld_ids.specs.Choice.{nodes_of}
 use Rattle.ld_msg.specs.Choice.{choice}
-use Rattle.ld_msg.specs.Digest.{Told, no_digest, with_page, with_lost, takes_page, enough, Item, Plan, plan}
-use Rattle.ld_msg.specs.Register.{Register, Changed, Answer, Granted, AtLimit, Behind, Fails, close}
+use Rattle.ld_msg.specs.Digest.{Told, no_digest, with_page, with_asks, with_lost, takes_page, enough, Item, Plan, plan}
+use Rattle.ld_msg.specs.Register.{Register, Changed, Answer, Granted, AtLimit, Behind, Fails, View, close}
 
 -- an append: its payload, the wave that it was sent in last, and the nodes that stored it
 pub record Append : Type 0 where
@@ -26,9 +26,10 @@ pub record Planned : Type 0 where
   pub what : What
   pub settled : List ℕ
 
--- a plan that is being stored: its trim, its end, its items by number, the wave that they were sent in last
+-- a plan that is being stored: its trim, its last known good place, its end, its items by number, the wave that they were sent in last
 pub record Storing : Type 0 where
   pub trim : ℕ
+  pub lng : ℕ
   pub end : ℕ
   pub items : List (ℕ × Planned)
   pub wave : ℕ
@@ -38,16 +39,18 @@ pub data Stage : Type 0 where
   Stores : (storing : Storing) → Stage
   Closes : (summary : Summary) → Stage
 
--- the recovery of an epoch, with the nodes that said that they are lost for it
+-- the recovery of an epoch, what was fixed for it as the recovery began, and the nodes that said that they are lost for it
 pub record Recovery : Type 0 where
   pub epoch : ℕ
+  pub spec : Spec
   pub lost : List ℕ
   pub stage : Stage
 
--- the appends above the last number such that it and all below are acknowledged, the nodes that are lost for its own epoch
+-- what is fixed for its epoch, the appends above the last number such that it and all below are acknowledged, the nodes that are lost for its own epoch
 pub record Sequencer : Type 0 where
   pub log : ℕ
   pub epoch : ℕ
+  pub spec : Spec
   pub lce : ℕ
   pub lng : ℕ
   pub appends : List (ℕ × Append)
@@ -59,9 +62,6 @@ pub record Sequencer : Type 0 where
 -- what is released: nothing of its epoch before all earlier ones are closed
 abbrev pub released_of : Sequencer → ℕ
 released_of q = if nat_lt (q.lce + 1) q.epoch then epoch_end q.lce else numbered q.epoch q.lng
-
-abbrev pub own_spec : Spec → Sequencer → Spec
-own_spec spec q = at_epoch spec q.epoch
 
 -- a message goes to a node: a pair of its number and the body
 abbrev pub to_each : Body → List ℕ → List (ℕ × Body)
@@ -111,28 +111,38 @@ abbrev pub digest_asks : List Told → List (ℕ × Body)
 digest_asks [] = []
 digest_asks (t ∷ d) = if t.whole then digest_asks d else (t.node, bodies.DigestAsk t.asked) ∷ digest_asks d
 
-abbrev pub recovery_of : Spec → Sequencer → ℕ → Option Recovery
-recovery_of spec q lce = if nat_lt (lce + 1) q.epoch then Some (record { epoch = lce + 1; lost = []; stage = Seals (no_digest (at_epoch spec (lce + 1)) (lce + 1)) }) else None
+-- the recovery of an epoch begins with what a look shows of it
+abbrev pub begun : View → Recovery
+begun w = record { epoch = w.at; spec = w.spec; lost = []; stage = Seals (no_digest w.spec w.at) }
 
-abbrev pub recovery_asks : Spec → Sequencer → ℕ → List (ℕ × Body)
-recovery_asks spec q lce = if nat_lt (lce + 1) q.epoch then digest_asks (no_digest (at_epoch spec (lce + 1)) (lce + 1)) else []
+-- looks tell what a look at an epoch of the log shows at this moment
+abbrev pub recovery_of : (ℕ → View) → Sequencer → ℕ → Option Recovery
+recovery_of looks q lce = if nat_lt (lce + 1) q.epoch then Some (begun (looks (lce + 1))) else None
+
+abbrev pub recovery_asks : (ℕ → View) → Sequencer → ℕ → List (ℕ × Body)
+recovery_asks looks q lce = if nat_lt (lce + 1) q.epoch then digest_asks (no_digest (looks (lce + 1)).spec (lce + 1)) else []
 
 -- epochs up to this one are closed: the next one is recovered, if it is before the sequencer's own
-abbrev pub goes_on : Spec → Acts → ℕ → Acts
-goes_on spec a lce = record a {
-  sequencer = record a.sequencer { lce = lce; recovery = recovery_of spec a.sequencer lce };
-  asks = recovery_asks spec a.sequencer lce;
+abbrev pub goes_on : (ℕ → View) → Acts → ℕ → Acts
+goes_on looks a lce = record a {
+  sequencer = record a.sequencer { lce = lce; recovery = recovery_of looks a.sequencer lce };
+  asks = recovery_asks looks a.sequencer lce;
 }
 
-abbrev pub tells_clean : Spec → Acts → ℕ → Summary → Acts
-tells_clean spec a epoch y = record a { cleans = to_each (bodies.Clean epoch y) (nodes_of (at_epoch spec epoch)) }
+-- the nodes of a recovered epoch
+abbrev pub recovered_nodes : Option Recovery → List ℕ
+recovered_nodes None = []
+recovered_nodes (Some v) = nodes_of v.spec
+
+abbrev pub tells_clean : Acts → ℕ → Summary → Acts
+tells_clean a epoch y = record a { cleans = to_each (bodies.Clean epoch y) (recovered_nodes a.sequencer.recovery) }
 
 -- what the register answered to the close
-unfoldable pub after_close : Spec → Acts → ℕ → Summary → Answer → Acts
-after_close spec a epoch y Granted = record (goes_on spec (tells_clean spec a epoch y) epoch) { closed = numbered epoch y.end ∷ [] }
-after_close spec a epoch y AtLimit = a
-after_close spec a epoch y (Behind lce) = if nat_le a.sequencer.epoch lce then preempt a (lce + 1) else goes_on spec a lce
-after_close spec a epoch y Fails = record a { failed = true }
+unfoldable pub after_close : (ℕ → View) → Acts → ℕ → Summary → Answer → Acts
+after_close looks a epoch y Granted = record (goes_on looks (tells_clean a epoch y) epoch) { closed = numbered epoch y.end ∷ [] }
+after_close looks a epoch y AtLimit = a
+after_close looks a epoch y (Behind lce) = if nat_le a.sequencer.epoch lce then preempt a (lce + 1) else goes_on looks a lce
+after_close looks a epoch y Fails = record a { failed = true }
 
 -- the close comes last in a call
 abbrev pub try_close : Acts → ℕ → Summary → Acts
@@ -145,31 +155,31 @@ planned [] = []
 planned (i ∷ is) = (i.number, record { what = i.what; settled = [] }) ∷ planned is
 
 abbrev pub storing_of : Plan → Storing
-storing_of p = record { trim = p.trim; end = p.end; items = planned p.items; wave = 0 }
+storing_of p = record { trim = p.trim; lng = p.lng; end = p.end; items = planned p.items; wave = 0 }
 
 -- each item that fewer nodes than the factor settled goes to the choice of the wave
-abbrev pub item_stores : Spec → List ℕ → ℕ → List (ℕ × Planned) → List (ℕ × Body)
-item_stores s lost wave [] = []
-item_stores s lost wave (i ∷ is) = (if nat_lt (length i.1.settled) s.r then to_each (bodies.Store i.0 0 i.1.what) (choice s lost i.0 wave) else []) ++ item_stores s lost wave is
+abbrev pub item_stores : Spec → List ℕ → ℕ → ℕ → List (ℕ × Planned) → List (ℕ × Body)
+item_stores s lost lng wave [] = []
+item_stores s lost lng wave (i ∷ is) = (if nat_lt (length i.1.settled) s.r then to_each (bodies.Store i.0 lng i.1.what) (choice s lost i.0 wave) else []) ++ item_stores s lost lng wave is
 
 -- each item has enough nodes
 unfoldable pub is_ready : Spec → Storing → Bool
 is_ready s g = all_of (λ i. nat_le s.r (length i.1.settled)) g.items
 
 abbrev pub summary_of : ℕ → Storing → Summary
-summary_of ballot g = record { ballot = ballot; lng = 0; trim = g.trim; end = g.end }
+summary_of ballot g = record { ballot = ballot; lng = g.lng; trim = g.trim; end = g.end }
 
 -- a plan goes to its first wave
-abbrev pub stores_plan : Spec → Acts → Recovery → Plan → Acts
-stores_plan spec a v p = record a {
+abbrev pub stores_plan : Acts → Recovery → Plan → Acts
+stores_plan a v p = record a {
   sequencer = with_stage a.sequencer v (Stores (storing_of p));
-  stores = item_stores (at_epoch spec v.epoch) v.lost 0 (planned p.items);
+  stores = item_stores v.spec v.lost p.lng 0 (planned p.items);
 }
 
 -- after an answer the plan is closed, where it is ready
-abbrev pub closes_ready : Spec → Acts → Recovery → Storing → Acts
-closes_ready spec a v g =
-    if is_ready (at_epoch spec v.epoch) g
+abbrev pub closes_ready : Acts → Recovery → Storing → Acts
+closes_ready a v g =
+    if is_ready v.spec g
     then try_close (becomes a (with_stage a.sequencer v (Closes (summary_of a.sequencer.epoch g)))) v.epoch (summary_of a.sequencer.epoch g)
     else becomes a (with_stage a.sequencer v (Stores g))
 
@@ -181,9 +191,9 @@ settle p y (i ∷ is) = (i.0, if p i.0 then record { what = i.1.what; settled = 
 abbrev pub settled_by : (ℕ → Bool) → ℕ → Storing → Storing
 settled_by p y g = record g { items = settle p y g.items }
 
-abbrev pub settles : Spec → Acts → Recovery → (ℕ → Bool) → ℕ → Stage → Acts
-settles spec a v p y (Stores g) = closes_ready spec a v (settled_by p y g)
-settles spec a v p y _ = a
+abbrev pub settles : Acts → Recovery → (ℕ → Bool) → ℕ → Stage → Acts
+settles a v p y (Stores g) = closes_ready a v (settled_by p y g)
+settles a v p y _ = a
 
 -- ---- sealing ----
 
@@ -196,14 +206,14 @@ takes_any y from [] = false
 takes_any y from (t ∷ d) = takes_page y from t || takes_any y from d
 
 -- a digest with one page more: enough, or the node is asked on
-abbrev pub adds_page : Spec → Acts → Recovery → ℕ → List Told → Acts
-adds_page spec a v y d =
-    if enough (at_epoch spec v.epoch) d then stores_plan spec a v (plan v.epoch d)
+abbrev pub adds_page : Acts → Recovery → ℕ → List Told → Acts
+adds_page a v y d =
+    if enough v.spec d then stores_plan a v (plan v.epoch d)
     else record a { sequencer = with_stage a.sequencer v (Seals d); asks = next_ask y d }
 
-abbrev pub digests : Spec → Acts → Recovery → ℕ → ℕ → ℕ → ℕ → List Entry → Stage → Acts
-digests spec a v y from upto trim es (Seals d) = if takes_any y from d then adds_page spec a v y (with_page v.epoch y from upto trim es d) else a
-digests spec a v y from upto trim es _ = a
+abbrev pub digests : Acts → Recovery → ℕ → ℕ → ℕ → ℕ → ℕ → List Entry → Stage → Acts
+digests a v y from upto trim lng es (Seals d) = if takes_any y from d then adds_page a v y (with_page v.epoch y from upto trim lng es d) else a
+digests a v y from upto trim lng es _ = a
 
 -- ---- lost nodes ----
 
@@ -213,7 +223,7 @@ lost_stage y (Stores g) = Stores g
 lost_stage y (Closes s) = Closes s
 
 abbrev pub recovery_lost : ℕ → Recovery → Recovery
-recovery_lost y v = record { epoch = v.epoch; lost = with_one y v.lost; stage = lost_stage y v.stage }
+recovery_lost y v = record v { lost = with_one y v.lost; stage = lost_stage y v.stage }
 
 -- ---- acknowledgements ----
 
@@ -236,11 +246,11 @@ stored_at p y = record p { stored = with_one y p.stored }
 abbrev pub with_append : Spec → Sequencer → ℕ → Append → Sequencer
 with_append s q n p = record q { appends = unacked_from s (put n p q.appends); lng = q.lng + acked_first s (put n p q.appends) }
 
-abbrev pub acks_append : Spec → Acts → ℕ → ℕ → Option Append → Acts
-acks_append spec a y n None = a
-acks_append spec a y n (Some p) = record a {
-  sequencer = with_append (own_spec spec a.sequencer) a.sequencer n (stored_at p y);
-  acked = if is_acked (own_spec spec a.sequencer) p then [] else if is_acked (own_spec spec a.sequencer) (stored_at p y) then n ∷ [] else [];
+abbrev pub acks_append : Acts → ℕ → ℕ → Option Append → Acts
+acks_append a y n None = a
+acks_append a y n (Some p) = record a {
+  sequencer = with_append a.sequencer.spec a.sequencer n (stored_at p y);
+  acked = if is_acked a.sequencer.spec p then [] else if is_acked a.sequencer.spec (stored_at p y) then n ∷ [] else [];
 }
 
 -- ---- replies ----
@@ -250,40 +260,44 @@ abbrev pub in_recovery : Acts → ℕ → Option Recovery → (Recovery → Acts
 in_recovery a epoch None f = a
 in_recovery a epoch (Some v) f = if v.epoch == epoch then f v else a
 
-abbrev pub by_stored : Spec → Acts → ℕ → ℕ → Acts
-by_stored spec a y n =
-    if epoch_of n == a.sequencer.epoch then acks_append spec a y n (find n a.sequencer.appends)
-    else in_recovery a (epoch_of n) a.sequencer.recovery (λ v. settles spec a v (λ s. s == n) y v.stage)
+-- what a node stored or trimmed counts where it is of the epoch's set
+abbrev pub of_member : Spec → ℕ → Acts → Acts → Acts
+of_member s y acts quiet = if is_in y (nodes_of s) then acts else quiet
 
-abbrev pub by_trimmed : Spec → Acts → ℕ → ℕ → ℕ → Acts
-by_trimmed spec a y n t = in_recovery a (epoch_of n) a.sequencer.recovery (λ v. settles spec a v (λ s. nat_le s t) y v.stage)
+abbrev pub by_stored : Acts → ℕ → ℕ → Acts
+by_stored a y n =
+    if epoch_of n == a.sequencer.epoch then of_member a.sequencer.spec y (acks_append a y n (find n a.sequencer.appends)) a
+    else in_recovery a (epoch_of n) a.sequencer.recovery (λ v. of_member v.spec y (settles a v (λ s. s == n) y v.stage) a)
+
+abbrev pub by_trimmed : Acts → ℕ → ℕ → ℕ → Acts
+by_trimmed a y n t = in_recovery a (epoch_of n) a.sequencer.recovery (λ v. of_member v.spec y (settles a v (λ s. nat_le s t) y v.stage) a)
 
 abbrev pub by_lost : Acts → ℕ → ℕ → Acts
 by_lost a y n =
     if home_epoch n == a.sequencer.epoch then becomes a (record a.sequencer { lost = with_one y a.sequencer.lost })
     else in_recovery a (home_epoch n) a.sequencer.recovery (λ v. becomes a (record a.sequencer { recovery = Some (recovery_lost y v) }))
 
-abbrev pub by_clean : Spec → Acts → ℕ → Summary → Acts
-by_clean spec a n s =
+abbrev pub by_clean : (ℕ → View) → Acts → ℕ → Summary → Acts
+by_clean looks a n s =
     if home_epoch n == a.sequencer.epoch then preempt a s.ballot
-    else in_recovery a (home_epoch n) a.sequencer.recovery (λ v. goes_on spec (tells_clean spec a v.epoch s) v.epoch)
+    else in_recovery a (home_epoch n) a.sequencer.recovery (λ v. goes_on looks (tells_clean a v.epoch s) v.epoch)
 
-abbrev pub by_reply : Spec → Acts → ℕ → Body → Acts
-by_reply spec a y (bodies.Stored n) = by_stored spec a y n
-by_reply spec a y (bodies.SealedHere n k) = if nat_lt a.sequencer.epoch k then preempt a k else a
-by_reply spec a y (bodies.LostHere n round generation end) = by_lost a y n
-by_reply spec a y (bodies.CleanHere n s) = by_clean spec a n s
-by_reply spec a y (bodies.TrimmedHere n t) = by_trimmed spec a y n t
-by_reply spec a y (bodies.DigestPage from upto trim lng es) = in_recovery a (epoch_of from) a.sequencer.recovery (λ v. digests spec a v y from upto trim es v.stage)
-by_reply spec a y _ = a
+abbrev pub by_reply : (ℕ → View) → Acts → ℕ → Body → Acts
+by_reply looks a y (bodies.Stored n) = by_stored a y n
+by_reply looks a y (bodies.SealedHere n k) = if nat_lt a.sequencer.epoch k then preempt a k else a
+by_reply looks a y (bodies.LostHere n round generation end) = by_lost a y n
+by_reply looks a y (bodies.CleanHere n s) = by_clean looks a n s
+by_reply looks a y (bodies.TrimmedHere n t) = by_trimmed a y n t
+by_reply looks a y (bodies.DigestPage from upto trim lng es) = in_recovery a (epoch_of from) a.sequencer.recovery (λ v. digests a v y from upto trim lng es v.stage)
+by_reply looks a y _ = a
 
 -- a preempted sequencer ignores all replies
 abbrev pub unless_preempted : Option ℕ → Acts → Acts → Acts
 unless_preempted None acts quiet = acts
 unless_preempted (Some k) acts quiet = quiet
 
-unfoldable pub on_reply : Spec → Sequencer → ℕ → Body → Acts
-on_reply spec q y b = unless_preempted q.preempted (by_reply spec (does_nothing q) y b) (does_nothing q)
+unfoldable pub on_reply : (ℕ → View) → Sequencer → ℕ → Body → Acts
+on_reply looks q y b = unless_preempted q.preempted (by_reply looks (does_nothing q) y b) (does_nothing q)
 
 -- ---- a retry ----
 
@@ -292,33 +306,33 @@ raised s [] = []
 raised s (p ∷ ps) = (p.0, if is_acked s p.1 then p.1 else record { payload = p.1.payload; wave = next_wave p.1.wave; stored = p.1.stored }) ∷ raised s ps
 
 -- a pending append goes to the chosen nodes that haven't stored it
-abbrev pub append_stores : Spec → List ℕ → List (ℕ × Append) → List (ℕ × Body)
-append_stores s lost [] = []
-append_stores s lost (p ∷ ps) = (if is_acked s p.1 then [] else to_each (bodies.Store p.0 0 (Rec p.1.payload)) (without p.1.stored (choice s lost p.0 p.1.wave))) ++ append_stores s lost ps
+abbrev pub append_stores : Spec → List ℕ → ℕ → List (ℕ × Append) → List (ℕ × Body)
+append_stores s lost lng [] = []
+append_stores s lost lng (p ∷ ps) = (if is_acked s p.1 then [] else to_each (bodies.Store p.0 lng (Rec p.1.payload)) (without p.1.stored (choice s lost p.0 p.1.wave))) ++ append_stores s lost lng ps
 
-abbrev pub retries_appends : Spec → Acts → Acts
-retries_appends spec a = record a {
-  sequencer = record a.sequencer { appends = raised (own_spec spec a.sequencer) a.sequencer.appends };
-  stores = append_stores (own_spec spec a.sequencer) a.sequencer.lost (raised (own_spec spec a.sequencer) a.sequencer.appends);
+abbrev pub retries_appends : Acts → Acts
+retries_appends a = record a {
+  sequencer = record a.sequencer { appends = raised a.sequencer.spec a.sequencer.appends };
+  stores = append_stores a.sequencer.spec a.sequencer.lost a.sequencer.lng (raised a.sequencer.spec a.sequencer.appends);
 }
 
 abbrev pub next_try : Storing → Storing
 next_try g = record g { wave = next_wave g.wave }
 
-abbrev pub retries_stage : Spec → Acts → Recovery → Stage → Acts
-retries_stage spec a v (Seals d) = record a { asks = digest_asks d }
-retries_stage spec a v (Stores g) = record a {
+abbrev pub retries_stage : Acts → Recovery → Stage → Acts
+retries_stage a v (Seals d) = record a { sequencer = with_stage a.sequencer v (Seals (with_asks v.epoch d)); asks = digest_asks (with_asks v.epoch d) }
+retries_stage a v (Stores g) = record a {
   sequencer = with_stage a.sequencer v (Stores (next_try g));
-  stores = item_stores (at_epoch spec v.epoch) v.lost (next_wave g.wave) g.items ++ a.stores;
+  stores = item_stores v.spec v.lost g.lng (next_wave g.wave) g.items ++ a.stores;
 }
-retries_stage spec a v (Closes y) = try_close a v.epoch y
+retries_stage a v (Closes y) = try_close a v.epoch y
 
-abbrev pub retries_recovery : Spec → Acts → Option Recovery → Acts
-retries_recovery spec a None = a
-retries_recovery spec a (Some v) = retries_stage spec a v v.stage
+abbrev pub retries_recovery : Acts → Option Recovery → Acts
+retries_recovery a None = a
+retries_recovery a (Some v) = retries_stage a v v.stage
 
-unfoldable pub on_retry : Spec → Sequencer → Acts
-on_retry spec q = unless_preempted q.preempted (retries_recovery spec (retries_appends spec (does_nothing q)) q.recovery) (does_nothing q)
+unfoldable pub on_retry : Sequencer → Acts
+on_retry q = unless_preempted q.preempted (retries_recovery (retries_appends (does_nothing q)) q.recovery) (does_nothing q)
 
 -- ---- the close, and the messages of a call ----
 
@@ -327,23 +341,23 @@ pub record Called : Type 0 where
   pub acts : Acts
   pub register : Register
 
-abbrev pub answered : Spec → Acts → ℕ → Summary → Changed → Called
-answered p a epoch y d = record { acts = after_close p a epoch y d.answer; register = d.register }
+abbrev pub answered : (ℕ → View) → Acts → ℕ → Summary → Changed → Called
+answered looks a epoch y d = record { acts = after_close looks a epoch y d.answer; register = d.register }
 
-abbrev pub called : Spec → Register → Acts → List (ℕ × Summary) → Called
-called p r a [] = record { acts = a; register = r }
-called p r a (t ∷ ts) = answered p a t.0 t.1 (close r a.sequencer.log t.0 t.1)
+abbrev pub called : (ℕ → View) → Register → Acts → List (ℕ × Summary) → Called
+called looks r a [] = record { acts = a; register = r }
+called looks r a (t ∷ ts) = answered looks a t.0 t.1 (close r a.sequencer.log t.0 t.1)
 
 -- whether the released number rose
 abbrev pub rose : Sequencer → Sequencer → Bool
 rose old new = nat_lt (released_of old) (released_of new)
 
-abbrev pub release_messages : Spec → Sequencer → Sequencer → List (ℕ × Body)
-release_messages p old new = if rose old new then to_each (bodies.Release (released_of new)) (nodes_of (own_spec p new)) else []
+abbrev pub release_messages : Sequencer → Sequencer → List (ℕ × Body)
+release_messages old new = if rose old new then to_each (bodies.Release (released_of new)) (nodes_of new.spec) else []
 
 -- the messages of a call, in their order
-abbrev pub acted_messages : Spec → Sequencer → Acts → List (ℕ × Body)
-acted_messages p old a = a.cleans ++ (release_messages p old a.sequencer ++ (a.asks ++ a.stores))
+abbrev pub acted_messages : Sequencer → Acts → List (ℕ × Body)
+acted_messages old a = a.cleans ++ (release_messages old a.sequencer ++ (a.asks ++ a.stores))
 
 -- ---- appends ----
 
@@ -381,13 +395,13 @@ fresh_append payload = record { payload = payload; wave = 0; stored = [] }
 abbrev pub appended : Sequencer → List ℕ → Sequencer
 appended q payload = record q { appends = q.appends ++ (numbered q.epoch (next_esn q), fresh_append payload) ∷ [] }
 
-abbrev pub first_stores : Spec → Sequencer → List ℕ → List (ℕ × Body)
-first_stores spec q payload = to_each (bodies.Store (numbered q.epoch (next_esn q)) 0 (Rec payload)) (choice (own_spec spec q) q.lost (numbered q.epoch (next_esn q)) 0)
+abbrev pub first_stores : Sequencer → List ℕ → List (ℕ × Body)
+first_stores q payload = to_each (bodies.Store (numbered q.epoch (next_esn q)) q.lng (Rec payload)) (choice q.spec q.lost (numbered q.epoch (next_esn q)) 0)
 
 -- ---- activation ----
 
-abbrev pub bare : ℕ → ℕ → ℕ → Sequencer
-bare l epoch lce = record { log = l; epoch = epoch; lce = lce; lng = 0; appends = []; lost = []; recovery = None; preempted = None; gone = false }
+abbrev pub bare : Spec → ℕ → ℕ → ℕ → Sequencer
+bare spec l epoch lce = record { log = l; epoch = epoch; spec = spec; lce = lce; lng = 0; appends = []; lost = []; recovery = None; preempted = None; gone = false }
 
-unfoldable pub activated : Spec → ℕ → ℕ → ℕ → Sequencer
-activated spec l epoch lce = record (bare l epoch lce) { recovery = recovery_of spec (bare l epoch lce) lce }
+unfoldable pub activated : (ℕ → View) → Spec → ℕ → ℕ → ℕ → Sequencer
+activated looks spec l epoch lce = record (bare spec l epoch lce) { recovery = recovery_of looks (bare spec l epoch lce) lce }

@@ -34,17 +34,17 @@ fn sample(alloc: Global, node: NodeId, log: LogId) -> Result<Msg, NoMemory> {
 #[test]
 fn copies_equal_what_they_copy(rt: HostRuntime) -> Result<(), Fail> {
     let alloc = rt.alloc();
-    if let (Some(node), Some(log)) = (NodeId::new(4), LogId::new(9)) {
-        let message = sample(alloc, node, log)?;
-        let copy = message.copy(alloc)?;
-        assert!(rt; copy == message);
-        let mut outbox = Outbox::empty(alloc);
-        outbox.push(copy)?;
-        outbox.push(message)?;
-        let again = outbox.copy(alloc)?;
-        assert_eq!(rt; again.len(), 2);
-        assert!(rt; again.as_slice()[0] == again.as_slice()[1]);
-        assert!(rt; again.as_slice()[0].from == Who::Node(node));
-    }
+    let node = NodeId::new(4).expect(&rt, "a node");
+    let log = LogId::new(9).expect(&rt, "a log");
+    let message = sample(alloc, node, log)?;
+    let copy = message.copy(alloc)?;
+    assert!(rt; copy == message);
+    let mut outbox = Outbox::empty(alloc);
+    outbox.push(copy)?;
+    outbox.push(message)?;
+    let again = outbox.copy(alloc)?;
+    assert_eq!(rt; again.len(), 2);
+    assert!(rt; again.as_slice()[0] == again.as_slice()[1]);
+    assert!(rt; again.as_slice()[0].from == Who::Node(node));
     Ok(())
 }

@@ -1,27 +1,24 @@
 -- What a message makes a node keep is an op.
-use Rattle.std.proofs.Common.{◌≡◌, ◌≤◌, ◌<◌, ◌+◌, ◌^◌, ℕ, Bool, true, false, List, [], ◌∷◌, length, map, filter, Option, Some, None, refl, ap, sym, ◌∙◌, subst, if◌then◌else◌, nat_lt, arith}
+use Rattle.std.proofs.Common.{◌≡◌, ◌≤◌, ◌+◌, ℕ, Bool, true, false, List, [], ◌∷◌, length, map, filter, Option, Some, None, refl, subst, if◌then◌else◌, nat_lt, arith}
 use Rattle.ld_table.specs.Table.{find}
-use Rattle.ld_lsn.specs.Number.{epoch_of, esn_of}
-use Rattle.ld_msg.specs.declared.msg.Msg.{Msg}
+use Rattle.ld_lsn.specs.Number.{epoch_of}
 use Rattle.ld_msg.specs.declared.msg.Who.{Who}
 use Rattle.ld_msg.specs.declared.msg.Who.TheVariants as whos
-use Rattle.ld_msg.specs.declared.msg.What.{What}
 use Rattle.ld_msg.specs.declared.msg.Summary.{Summary}
 use Rattle.ld_msg.specs.declared.msg.Entry.{Entry}
 use Rattle.ld_msg.specs.declared.msg.Body.{Body}
 use Rattle.ld_msg.specs.declared.msg.Body.TheVariants as bodies
-use Rattle.ld_msg.specs.Bounds.{IsEpoch, IsEntry, IsSummary, AreEntries, RiseWithin, IsSequencerHere, Fits, IsMessage, ballot_of}
+use Rattle.ld_msg.specs.Bounds.{IsEpoch, IsEntry, IsSummary, AreEntries, RiseWithin, IsSequencerHere, Fits, ballot_of}
 use Rattle.ld_ids.specs.Id.{IsLog}
 use Rattle.ld_op.specs.declared.op.Op.{Op}
 use Rattle.ld_op.specs.declared.op.Op.TheVariants as ops
-use Rattle.ld_op.specs.Plain.{Plain, Log, log_of}
-use Rattle.ld_op.specs.Bounds.{IsOp, RiseFrom}
+use Rattle.ld_op.specs.Plain.{Log}
+use Rattle.ld_op.specs.Bounds.{RiseFrom}
 use Rattle.ld_op.specs.Answers as answers
 use Rattle.ld_op.specs.Answers.{on_store, on_digest_ask, on_clean, on_trim, store_decision, digest_decision, taken, clean_op}
 use Rattle.ld_op.specs.Ticks as ticks
 use Rattle.ld_op.specs.Ticks.{on_page, page_op, refill_op, lacking, as_closed, is_missing}
 use Rattle.ld_op.specs.Handles.{handled_by}
-use Rattle.ld_store.specs.Ops.{is_format}
 use Rattle.ld_node.specs.Changes.{IsChange}
 
 some_change : (o p : Op) → IsChange o → Some o ≡ Some p → IsChange p

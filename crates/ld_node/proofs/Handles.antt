@@ -1,21 +1,15 @@
 -- What a node makes of a message.
-use Rattle.std.proofs.Common.{◌≡◌, ℕ, Bool, true, false, List, [], ◌∷◌, Option, Some, None, refl, ap, sym, ◌∙◌, subst, if◌then◌else◌, max, nat_lt, ◌+◌, ◌<◌, ◌≤◌}
-use Rattle.ld_table.specs.Table.{find, put}
-use Rattle.ld_msg.specs.declared.msg.Msg.{Msg}
+use Rattle.std.proofs.Common.{◌≡◌, ℕ, Some, None, refl, ap, sym, ◌∙◌, subst}
 use Rattle.ld_msg.specs.declared.msg.What.{What}
 use Rattle.ld_msg.specs.declared.msg.Summary.{Summary}
-use Rattle.ld_msg.specs.declared.msg.Entry.{Entry}
 use Rattle.ld_msg.specs.declared.msg.Body.{Body}
 use Rattle.ld_msg.specs.declared.msg.Body.TheVariants as bodies
 use Rattle.ld_op.specs.declared.op.Op.{Op}
 use Rattle.ld_op.specs.declared.op.Op.TheVariants as ops
-use Rattle.ld_op.specs.Plain.{Plain, Log, log_of, apply, op_length}
-use Rattle.ld_msg.specs.Register.{record_length, journal_limit}
-use Rattle.std.proofs.lemmas.Bool.{lt-ltb, le-ltb}
+use Rattle.ld_op.specs.Plain.{Log}
 use Rattle.ld_op.specs.Answers as answers
 use Rattle.ld_op.specs.Answers.{on_store, on_digest_ask, on_clean, on_trim, store_decision, digest_decision, taken, store_answer, digest_answer, clean_op}
-use Rattle.ld_op.specs.Ticks.{on_page, page_op, refill_op, lacking}
-use Rattle.ld_op.specs.Rising.{IsRising}
+use Rattle.ld_op.specs.Ticks.{on_page}
 use Rattle.ld_seal.specs.Decided as decided
 use Rattle.ld_seal.specs.Decided.{told, store_in}
 use Rattle.ld_readnode.specs.Answered.{IsDigestAsk, digest_in, read_in}

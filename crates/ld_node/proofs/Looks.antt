@@ -1,48 +1,47 @@
 -- What a tick does, by what is missing and by what a look shows.
-use Rattle.std.proofs.Common.{◌≡◌, ◌≤◌, ◌<◌, ◌+◌, ◌-◌, ◌^◌, ◌⊎◌, inl, inr, ℕ, Bool, true, false, ◌&&◌, List, [], ◌∷◌, ◌++◌, Option, Some, None, refl, ap, sym, ◌∙◌, if◌then◌else◌, nat_lt, nat_le, Result, Ok, Err, arith}
-use Rattle.std.specs.Option.{is_some, unwrap_or}
+use Rattle.std.proofs.Common.{◌≡◌, ◌≤◌, ◌-◌, ◌^◌, ◌⊎◌, inl, inr, ℕ, Bool, true, false, ◌&&◌, List, [], ◌∷◌, ◌++◌, Option, Some, None, refl, ap, sym, ◌∙◌, if◌then◌else◌, nat_lt, nat_le, Result, Ok, Err, arith}
+use Rattle.std.specs.Option.{is_some}
 use Rattle.std.specs.Result.{is_ok, IsErr, IsErrAnd}
 use Rattle.std.proofs.lemmas.Bool.Decides.{nat_tests}
 use Rattle.ld_table.specs.Table.{find}
-use Rattle.ld_table.specs.Words.{first}
-use Rattle.ld_ids.specs.Set.{members}
+use Rattle.ld_table.specs.Words.{is_in, first}
 use Rattle.ld_msg.specs.declared.msg.Summary.{Summary}
 use Rattle.ld_msg.specs.declared.msg.Who.TheVariants as whos
 use Rattle.ld_msg.specs.Bounds.{IsSummary}
 use Rattle.ld_msg.specs.Network.{posted}
-use Rattle.ld_msg.specs.Register.{Register, epochs_of, lce_of, summary_shown}
+use Rattle.ld_msg.specs.Register.{Register, epochs_of, lce_of}
 use Rattle.ld_op.specs.declared.op.Op.{Op}
 use Rattle.ld_op.specs.Plain.{Plain, Log, log_of}
-use Rattle.ld_op.specs.Ticks.{Ticked, Nothing, Asks, tick_with, on_tick, lost_tick, refill_tick, refill_asks, asks_first, node_asks, missing, lowest_unclean}
+use Rattle.ld_op.specs.Ticks.{Nothing, tick_with, on_tick, lost_tick, refill_tick, refill_asks, asks_first, missing, lowest_unclean}
 use Rattle.ld_node_bounds.specs.States.{last_carried}
 use Rattle.ld_node_bounds.proofs.Ops.{summaries_are}
 use Rattle.ld_store.specs.Well.{IsWell}
 use Rattle.ld_register.specs.Calls.{unarmed}
-use Rattle.ld_node.specs.Looks.{AreClosed, seen, ticked, nodes_in, op_of, answer_of}
+use Rattle.ld_node.specs.Known.{Known}
+use Rattle.ld_node.specs.Looks.{AreClosed, seen, ticked, op_of, answer_of}
 use Rattle.ld_node.specs.declared.fault.NodeFault.{NodeFault}
 use Rattle.ld_node.specs.declared.tick.Ticked.{Ticked as Answer}
 use Rattle.ld_node.specs.declared.tick.Ticked.TheVariants as answers
 
 -- ---- which logs ----
 
-pub ticked_here : (sets : List (ℕ × List Bool)) (p : Plain) (l : ℕ) (c : Register) (set : List Bool) → Some set ≡ find l sets → ticked sets p l c ≡ seen (log_of p l) c l
+pub ticked_here : (known : Known) (p : Plain) (l : ℕ) (c : Register) → is_in l known.logs ≡ true → ticked known p l c ≡ seen (log_of p l) c l
 unfolding ticked
-ticked_here sets p l c set e = ap (λ o. if is_some o then seen (log_of p l) c l else Nothing) (sym e)
+ticked_here known p l c e = ap (λ b. if b then seen (log_of p l) c l else Nothing) e
 
-pub ticked_nowhere : (sets : List (ℕ × List Bool)) (p : Plain) (l : ℕ) (c : Register) → None ≡ find l sets → ticked sets p l c ≡ Nothing
+pub ticked_nowhere : (known : Known) (p : Plain) (l : ℕ) (c : Register) → is_in l known.logs ≡ false → ticked known p l c ≡ Nothing
 unfolding ticked
-ticked_nowhere sets p l c e = ap (λ o. if is_some o then seen (log_of p l) c l else Nothing) (sym e)
+ticked_nowhere known p l c e = ap (λ b. if b then seen (log_of p l) c l else Nothing) e
 
 seen_of : (p q : Plain) (l : ℕ) (c : Register) → q ≡ p → seen (log_of q l) c l ≡ seen (log_of p l) c l
 seen_of p q l c e = ap (λ x. seen (log_of x l) c l) e
 
 -- the op that is kept is that of the definition
-pub op_is : (sets : List (ℕ × List Bool)) (p q : Plain) (l : ℕ) (c : Register) (set : List Bool) (o : Option Op) → Some set ≡ find l sets → q ≡ p → o ≡ op_of l (seen (log_of q l) c l) → o ≡ op_of l (ticked sets p l c)
-op_is sets p q l c set o here same is = is ∙ ap (op_of l) (seen_of p q l c same ∙ sym (ticked_here sets p l c set here))
+pub op_is : (known : Known) (p q : Plain) (l : ℕ) (c : Register) (o : Option Op) → is_in l known.logs ≡ true → q ≡ p → o ≡ op_of l (seen (log_of q l) c l) → o ≡ op_of l (ticked known p l c)
+op_is known p q l c o here same is = is ∙ ap (op_of l) (seen_of p q l c same ∙ sym (ticked_here known p l c here))
 
-pub answer_is : (id : ℕ) (sets : List (ℕ × List Bool)) (p q : Plain) (l : ℕ) (c : Register) (set : List Bool) (a : Answer) → Some set ≡ find l sets → q ≡ p → a ≡ answer_of id l (members set) (seen (log_of q l) c l) → a ≡ answer_of id l (nodes_in sets l) (ticked sets p l c)
-answer_is id sets p q l c set a here same is =
-    is ∙ (ap (answer_of id l (members set)) (seen_of p q l c same ∙ sym (ticked_here sets p l c set here)) ∙ ap (λ o. answer_of id l (members (unwrap_or o [])) (ticked sets p l c)) here)
+pub answer_is : (id : ℕ) (known : Known) (p q : Plain) (l : ℕ) (c : Register) (nodes : List ℕ) (a : Answer) → is_in l known.logs ≡ true → nodes ≡ known.nodes → q ≡ p → a ≡ answer_of id l nodes (seen (log_of q l) c l) → a ≡ answer_of id l known.nodes (ticked known p l c)
+answer_is id known p q l c nodes a here all same is = is ∙ (λ i. answer_of id l (all i) ((seen_of p q l c same ∙ sym (ticked_here known p l c here)) i))
 
 -- ---- a refusal that is passed on ----
 
@@ -137,11 +136,11 @@ unfolding on_tick
 seen_is g c l closed = ap (tick_with g) (shown_if _ (find (lowest_unclean g) (epochs_of c l).summaries) (λ y e. is_shown (lowest_unclean g) (lce_of c l) (closed (lowest_unclean g) y e)))
 
 -- the same for a tick
-pub ticked_is : (sets : List (ℕ × List Bool)) (p : Plain) (l : ℕ) (c : Register) → AreClosed c l → ticked sets p l c ≡ (if is_some (find l sets) then on_tick (log_of p l) (epochs_of c l).summaries else Nothing)
+pub ticked_is : (known : Known) (p : Plain) (l : ℕ) (c : Register) → AreClosed c l → ticked known p l c ≡ (if is_in l known.logs then on_tick (log_of p l) (epochs_of c l).summaries else Nothing)
 unfolding ticked
-ticked_is sets p l c closed = ap (λ t. if is_some (find l sets) then t else Nothing) (seen_is (log_of p l) c l closed)
+ticked_is known p l c closed = ap (λ t. if is_in l known.logs then t else Nothing) (seen_is (log_of p l) c l closed)
 
 -- a fault that is armed in the contents makes no difference
-pub ticked_unarmed : (sets : List (ℕ × List Bool)) (p : Plain) (l : ℕ) (c : Register) → ticked sets p l (unarmed c) ≡ ticked sets p l c
+pub ticked_unarmed : (known : Known) (p : Plain) (l : ℕ) (c : Register) → ticked known p l (unarmed c) ≡ ticked known p l c
 unfolding ticked
-ticked_unarmed sets p l c = refl
+ticked_unarmed known p l c = refl

@@ -1,5 +1,5 @@
 -- A message that releases a number makes a node keep nothing.
-use Rattle.std.proofs.Common.{◌≡◌, ℕ, Bool, true, false, List, Option, Some, None, refl, ap, sym, ◌∙◌, subst, if◌then◌else◌, Result, Ok, Err, OnErr}
+use Rattle.std.proofs.Common.{◌≡◌, ℕ, Bool, true, false, List, Option, Some, None, refl, if◌then◌else◌, Result, Ok, Err, OnErr}
 use Rattle.ld_msg.specs.declared.msg.Msg.{Msg}
 use Rattle.ld_msg.specs.declared.msg.Body.{Body}
 use Rattle.ld_msg.specs.declared.msg.Body.TheVariants as bodies
@@ -10,6 +10,7 @@ use Rattle.ld_op.specs.Answers.{Handled, silent}
 use Rattle.ld_op.specs.Ticks.{on_page}
 use Rattle.ld_op.specs.Handles.{handled_by}
 use Rattle.ld_node.specs.Changes.{IsChange, AreChanges}
+use Rattle.ld_node.specs.Known.{Known}
 use Rattle.ld_node.specs.Msgs.{is_for, handled, number_in, released_by, released_in, raised}
 
 abbrev no_op : Option Op
@@ -45,10 +46,10 @@ where_for : (b : Bool) (h : Handled) (o : Option ℕ) (y : ℕ) → (o ≡ Some 
 where_for true h o y none is = none is
 where_for false h o y none is = absurd cc
 
-pub releases_keep_none : (id : ℕ) (sets : List (ℕ × List Bool)) (released : List (ℕ × ℕ)) (p : Plain) (m : Msg) (y : ℕ) → released_by id sets m ≡ Some y → (handled id sets released p m).op ≡ None
+pub releases_keep_none : (id : ℕ) (known : Known) (released : List (ℕ × ℕ)) (p : Plain) (m : Msg) (y : ℕ) → released_by id known m ≡ Some y → (handled id known released p m).op ≡ None
 unfolding handled released_by
-releases_keep_none id sets released p m y is =
-    where_for (is_for id sets m) (handled_by p.generation (log_of p m.log) m.log (ballot_of m.from) (released_in released m.log) m.body) (number_in m.body) y
+releases_keep_none id known released p m y is =
+    where_for (is_for id known m) (handled_by p.generation (log_of p m.log) m.log (ballot_of m.from) (released_in released m.log) m.body) (number_in m.body) y
     (λ number. number_keeps_none p.generation (log_of p m.log) m.log (ballot_of m.from) (released_in released m.log) m.body y number) is
 
 -- where an op is kept, nothing is released

@@ -1,8 +1,7 @@
 -- What a node sends is messages that a frame can carry.
-use Rattle.std.proofs.Common.{◌≡◌, ◌&&◌, ◌==◌, ℕ, Bool, true, false, List, Option, sym, ap, subst, arith}
-use Rattle.std.specs.Option.{is_some}
-use Rattle.std.proofs.lemmas.Bool.{cond_both, and_parts, eqb-true}
-use Rattle.ld_table.specs.Table.{find}
+use Rattle.std.proofs.Common.{◌≡◌, ℕ, Bool, true, List, Option, sym, ap, subst, arith}
+use Rattle.std.proofs.lemmas.Bool.{and_parts, eqb-true}
+use Rattle.ld_table.specs.Words.{is_in}
 use Rattle.ld_ids.specs.Id.{IsNode, IsLog}
 use Rattle.ld_ids.specs.Set.{IsSet, members}
 use Rattle.ld_msg.specs.declared.msg.Msg.{Msg}
@@ -22,6 +21,7 @@ use Rattle.ld_node_bounds.proofs.Posts.{posts_sent}
 use Rattle.ld_node_bounds.proofs.Ticking.{refill_sent}
 use Rattle.ld_node_bounds.proofs.Handling.{message_handled, answers_sent}
 use Rattle.ld_store.specs.Well.{IsWell}
+use Rattle.ld_node.specs.Known.{Known}
 use Rattle.ld_node.specs.Msgs.{is_node, is_for}
 
 -- a message for the node goes to it
@@ -30,10 +30,10 @@ goes_to id (whos.Node n) is = ap (λ x. whos.Node x) (eqb-true n id is)
 goes_to id (whos.Sequencer e) is = absurd cc
 goes_to id (whos.Reader r) is = absurd cc
 
-pub sends_are : (id : ℕ) (sets : List (ℕ × List Bool)) (r : ℕ) (p : Plain) (m : Msg) (b : Option Body) → IsNode id → Is64 r → IsWell p → IsMessage m → is_for id sets m ≡ true
+pub sends_are : (id : ℕ) (known : Known) (r : ℕ) (p : Plain) (m : Msg) (b : Option Body) → IsNode id → Is64 r → IsWell p → IsMessage m → is_for id known m ≡ true
     → b ≡ (handled_by p.generation (log_of p m.log) m.log (ballot_of m.from) r m.body).answer → AreMessages (answer_message id m b)
-sends_are id sets r p m b node released well is here same =
-    let to = goes_to id m.to (and_parts (is_node id m.to) (is_some (find m.log sets)) here).0 in
+sends_are id known r p m b node released well is here same =
+    let to = goes_to id m.to (and_parts (is_node id m.to) (is_in m.log known.logs) here).0 in
     answers_sent id m b is.log (subst (λ o. MayAnswer id m.from o) (sym same) (message_handled {most = last_carried} (omega arith) p well id node r released m is to).answer)
 
 pub asks_are : (p : Plain) (id l : ℕ) (flags : List Bool) → IsWell p → IsNode id → IsLog l → IsSet flags → AreMessages (posted (whos.Node id) l (refill_asks id (members flags) (log_of p l)))

@@ -2,7 +2,7 @@ pub mod Handling
 pub mod Changes
 pub mod Faults
 pub mod Msgs
-pub mod Sets
+pub mod Known
 pub mod Draws
 pub mod Formats
 pub mod Looks

@@ -4,6 +4,7 @@ use Rattle.ld_disk.specs.declared.disk.Disk.{Ghosts}
 use Rattle.ld_op.specs.declared.op.Op.{Op}
 use Rattle.ld_op.specs.Plain.{Plain}
 use Rattle.ld_store.specs.Open as stores
+use Rattle.ld_node.specs.Known.{Known}
 use Rattle.ld_node.specs.declared.node.Node.{Node}
 
 module _ {D : Type 0} {g : Ghosts D} where
@@ -11,9 +12,9 @@ module _ {D : Type 0} {g : Ghosts D} where
   abbrev pub id_of : Node D g → ℕ
   id_of node = node.id
 
-  -- the nodes of each log that it keeps
-  abbrev pub sets_of : Node D g → List (ℕ × List Bool)
-  sets_of node = node.sets.entries
+  -- what it knows of the configuration
+  abbrev pub known_of : Node D g → Known
+  known_of node = node.known
 
   -- the released numbers by log, which are kept in memory alone
   abbrev pub released_of : Node D g → List (ℕ × ℕ)

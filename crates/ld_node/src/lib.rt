@@ -6,9 +6,9 @@ mod fault;
 mod format;
 mod handled;
 mod keep;
+mod known;
 mod msgs;
 mod node;
-mod sets;
 #[cfg(test)]
 mod tests;
 mod tick;

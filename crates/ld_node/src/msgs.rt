@@ -11,7 +11,8 @@ ghost use Rattle.ld_node.specs.Changes.{AreChanges};
 ghost use Rattle.ld_node.specs.Msgs.{is_node, is_for, released_in, released_by, raised, handled};
 
 use crate::handled::handle;
-use ld_ids::{LogId, NoMemory, NodeId, NodeSet};
+use crate::known::Known;
+use ld_ids::{LogId, NoMemory, NodeId};
 use ld_lsn::Lsn;
 use ld_msg::{Body, Msg, Replies, Who};
 use ld_op::{Op, Plain};
@@ -29,12 +30,11 @@ fn is_node(id: NodeId, who: Who) -> bool
     }
 }
 
-/// Whether a message is for the node of this number, and of a log that it keeps.
-#[tactic(auto, unfolding(ld_table::specs::Table::find))]
-pub(crate) fn is_for(id: NodeId, sets: &BTreeMap<u32, NodeSet>, msg: &Msg) -> bool
-    ensures { result ≡ is_for id sets.now.entries msg.now }
+/// Whether a message is for the node of this number, and of a log that it knows.
+pub(crate) fn is_for(id: NodeId, known: &Known, msg: &Msg) -> bool
+    ensures { result ≡ is_for id known.now msg.now }
 {
-    is_node(id, msg.to) && sets.get(&msg.log.number()).is_some()
+    is_node(id, msg.to) && known.has_log(msg.log)
 }
 
 /// The released number of a log, 0 where none was told.
@@ -65,10 +65,10 @@ fn later(before: Lsn, number: Lsn) -> Lsn
 
 /// The number that a message releases at the node of this number, where it does.
 #[tactic(auto, unfolding(crate::specs::Msgs::released_by))]
-pub(crate) fn released_by(id: NodeId, sets: &BTreeMap<u32, NodeSet>, msg: &Msg) -> Option<Lsn>
-    ensures { result ≡ released_by id sets.now.entries msg.now }
+pub(crate) fn released_by(id: NodeId, known: &Known, msg: &Msg) -> Option<Lsn>
+    ensures { result ≡ released_by id known.now msg.now }
 {
-    if !is_for(id, sets, msg) {
+    if !is_for(id, known, msg) {
         return None;
     }
     match &msg.body {
@@ -124,19 +124,19 @@ pub(crate) fn reply(
 pub(crate) fn decide(
     alloc: Global,
     id: NodeId,
-    sets: &BTreeMap<u32, NodeSet>,
+    known: &Known,
     released: &BTreeMap<u32, Lsn>,
     plain: &Plain,
     msg: &Msg,
 ) -> Result<(Option<Op>, Replies), NoMemory>
     requires msg { IsMessage msg.now }
     requires well { IsWell plain.now.state }
-    ensures op { IfOk result (λ done. done.0 ≡ (handled id sets.now.entries released.now.entries plain.now.state msg.now).op) }
-    ensures replies { IfOk result (λ done. done.1 ≡ answer_message id msg.now (handled id sets.now.entries released.now.entries plain.now.state msg.now).answer) }
+    ensures op { IfOk result (λ done. done.0 ≡ (handled id known.now released.now.entries plain.now.state msg.now).op) }
+    ensures replies { IfOk result (λ done. done.1 ≡ answer_message id msg.now (handled id known.now released.now.entries plain.now.state msg.now).answer) }
     ensures change { IfOk result (λ done. AreChanges done.0) }
     ensures messages { IfOk result (λ done. AreMessages done.1) }
 {
-    if !is_for(id, sets, msg) {
+    if !is_for(id, known, msg) {
         return Ok((None, Replies::empty(alloc)));
     }
     let before = released_in(released, msg.log);

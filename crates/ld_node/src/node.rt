@@ -2,12 +2,12 @@
 use crate::NodeFault;
 use crate::format::format_store;
 use crate::keep::keep;
+use crate::known::Known;
 use crate::msgs::{decide, release, released_by};
-use crate::sets::{nodes_of, sets_in};
 use crate::tick::{Ticked, look};
 use ld_config::Config;
 use ld_disk::{Disk, Fault};
-use ld_ids::{LogId, NodeId, NodeSet};
+use ld_ids::{LogId, NodeId};
 use ld_lsn::Lsn;
 use ld_msg::{Msg, Replies};
 use ld_register::{Drawn, Register};
@@ -15,19 +15,20 @@ use ld_store::Store;
 use std::alloc::Global;
 use std::collections::BTreeMap;
 
-/// A node: its number, its store, the nodes of each log that it keeps, and the released numbers of its logs, which
-/// are kept in memory alone.
+/// A node: its number, its store, what it knows of the configuration, and the released numbers of the logs, which are
+/// kept in memory alone.
 #[derive(Drop)]
 pub struct Node<D: Disk> {
     id: NodeId,
     store: Store<D>,
-    sets: BTreeMap<u32, NodeSet>,
+    known: Known,
     released: BTreeMap<u32, Lsn>,
 }
 
 impl<D: Disk> Node<D> {
-    ghost use Rattle.std.specs.Prelude.{◌≡◌, ◌≢◌, ◌⊎◌, ◌↔◌, ◌≤◌, ◌-◌, ◌^◌, ◌++◌, [], ◌∷◌, ℕ, List, IfOk, IfErr, IfSome, MatchResult, OnOk, OnErr, IsErrOf, Ok, Err, None, Some, is_ok, is_some, true, false};
+    ghost use Rattle.std.specs.Prelude.{◌≡◌, ◌≢◌, ◌⊎◌, ◌↔◌, ◌≤◌, ◌-◌, ◌^◌, ◌++◌, [], ◌∷◌, ℕ, List, IfOk, IfErr, IfSome, MatchResult, OnOk, OnErr, IsErrOf, Option, Ok, Err, None, Some, is_ok, true, false};
     ghost use Rattle.std.specs.Option.{option_map};
+    ghost use Rattle.ld_ids.specs.declared.set.Spec.{Spec as Fixed};
     ghost use Rattle.ld_io.specs.Causes.{Rose};
     ghost use Rattle.ld_disk.specs.Images.{IsHonest};
     ghost use Rattle.ld_disk.specs.Moments.{LeavesOnly, Unchanged};
@@ -42,20 +43,20 @@ impl<D: Disk> Node<D> {
     ghost use Rattle.ld_register.specs.Calls.{drawn as drawn_by, after_draw, ChangedOrNot, IsFree, Keeps, is_full, draw_length};
     ghost use Rattle.ld_register.specs.declared.register.Drawn.{Drawn as Drawing};
     ghost use Rattle.ld_register.specs.declared.fault.RegisterFault.{RegisterFault as Refusal};
-    ghost use Rattle.ld_table.specs.Table.{find};
+    ghost use Rattle.ld_table.specs.Words.{is_in};
     ghost use Rattle.ld_register.specs.declared.fault.RegisterFault.TheVariants as faults;
-    ghost use Rattle.ld_node.specs.Sets.{sets_in};
+    ghost use Rattle.ld_node.specs.Known.{known_in};
     ghost use Rattle.ld_op.specs.Bounds.{IsOp};
     ghost use Rattle.ld_node.specs.Draws.{answered, not_drawn};
     ghost use Rattle.ld_node.specs.Changes.{AreChanges, kept, with_op, calls_of, IsPast};
     ghost use Rattle.ld_node.specs.Msgs.{handled, released_after};
     ghost use Rattle.ld_node.specs.Formats.{format_of, FormatsBy, LeftByFormat};
     ghost use Rattle.ld_node.specs.declared.tick.Ticked.TheVariants as answers;
-    ghost use Rattle.ld_node.specs.Looks.{nodes_in, ticked, op_of, answer_of, IsOfLook, AskMessages};
-    ghost use Rattle.ld_node.specs.Node.{id_of, sets_of, released_of, disk_of, place_of, must_load, is_blank, plain_of, Holds, IsOpened};
+    ghost use Rattle.ld_node.specs.Looks.{ticked, op_of, answer_of, IsOfLook, AskMessages};
+    ghost use Rattle.ld_node.specs.Node.{id_of, known_of, released_of, disk_of, place_of, must_load, is_blank, plain_of, Holds, IsOpened};
 
-    /// Loads the node of this number from its disk, in one writing call, with the logs of the configuration whose
-    /// sets have it. Nothing is released yet.
+    /// Loads the node of this number from its disk, in one writing call. It knows the nodes and the logs of the
+    /// configuration. Nothing is released yet.
     ///
     /// A refusal hands the disk back: `Disk` where a call of it failed, `Damaged(place)` where the record whose gate
     /// is at that place is cut short, or its body is no op that may stand there, or the disk has no byte at all, and
@@ -66,7 +67,7 @@ impl<D: Disk> Node<D> {
         disk: D,
         config: &Config,
     ) -> Result<Node<D>, (D, NodeFault)>
-        ensures node { IfOk result (λ node. (id_of node ≡ id) × (sets_of node ≡ sets_in id config.now.logs) × (released_of node ≡ [])) }
+        ensures node { IfOk result (λ node. (id_of node ≡ id) × (known_of node ≡ known_in config.now) × (released_of node ≡ [])) }
         ensures opens { IfOk result (λ node. IfSome (D.seen disk) (IsOpened D.seen D.may_leave node)) }
         ensures works { IfOk result (λ node. must_load node ≡ false) }
         ensures itself { MatchResult result (λ node. D.identity (disk_of node) ≡ D.identity disk) (λ e. D.identity e.0 ≡ D.identity disk) }
@@ -91,15 +92,15 @@ impl<D: Disk> Node<D> {
         ensures needs_load { IfErr result (λ e. e.1 ≢ NodeFault.NeedsLoad) }
         ensures register { IfErr result (λ e. (fault : Refusal) → e.1 ≢ NodeFault.Register fault) }
     {
-        let sets = match sets_in(alloc, id, config.logs.as_slice()) {
-            Ok(sets) => sets,
+        let known = match Known::of(alloc, config) {
+            Ok(known) => known,
             Err(_) => return Err((disk, NodeFault::NoMemory)),
         };
         match Store::load(alloc, disk) {
             Ok(store) => Ok(Node {
                 id,
                 store,
-                sets,
+                known,
                 released: BTreeMap::new(alloc),
             }),
             Err((disk, fault)) => Err((disk, NodeFault::from(fault))),
@@ -126,7 +127,7 @@ impl<D: Disk> Node<D> {
         ensures same { Unchanged D.seen D.may_leave D.moment D.left_since (disk_of self.old) (disk_of self.new) }
         ensures itself { D.identity (disk_of self.new) ≡ D.identity (disk_of self.old) }
         ensures faults { D.faults (disk_of self.new) ≡ D.faults (disk_of self.old) }
-        ensures rest { (plain_of self.new ≡ plain_of self.old) × (released_of self.new ≡ released_of self.old) × (id_of self.new ≡ id_of self.old) × (sets_of self.new ≡ sets_of self.old) × (is_blank self.new ≡ is_blank self.old) × (must_load self.new ≡ must_load self.old) }
+        ensures rest { (plain_of self.new ≡ plain_of self.old) × (released_of self.new ≡ released_of self.old) × (id_of self.new ≡ id_of self.old) × (known_of self.new ≡ known_of self.old) × (is_blank self.new ≡ is_blank self.old) × (must_load self.new ≡ must_load self.old) }
         ensures place { place_of self.new ≡ place_of self.old }
         ensures holds { (ops : List Kind) → Holds D.seen D.may_leave self.old ops → Holds D.seen D.may_leave self.new ops }
     {
@@ -134,7 +135,7 @@ impl<D: Disk> Node<D> {
     }
 
     /// What a node makes of a message: the op that it keeps, and then what it answers, which a frame can carry. A
-    /// message for another node, or of a log that it doesn't keep, does nothing and has no answer.
+    /// message for another node, or of a log that it doesn't know, does nothing and has no answer.
     ///
     /// It refuses with `Full` where its journal would be longer than 2^40 bytes, and with `NoMemory`; then nothing has
     /// changed. It refuses with `Disk` where a call of the disk failed: the op is then there or not, which the next
@@ -143,36 +144,36 @@ impl<D: Disk> Node<D> {
         requires msg { IsMessage msg.now }
         requires formatted { is_blank self.old ≡ false }
 
-        ensures replies { IfOk result (λ replies. replies ≡ answer_message (id_of self.old) msg.now (handled (id_of self.old) (sets_of self.old) (released_of self.old) (plain_of self.old) msg.now).answer) }
+        ensures replies { IfOk result (λ replies. replies ≡ answer_message (id_of self.old) msg.now (handled (id_of self.old) (known_of self.old) (released_of self.old) (plain_of self.old) msg.now).answer) }
 
         // Each answer is a message that a frame can carry.
         ensures messages { IfOk result (λ replies. AreMessages replies) }
 
-        ensures kept { OnOk result (plain_of self.new ≡ kept (handled (id_of self.old) (sets_of self.old) (released_of self.old) (plain_of self.old) msg.now).op (plain_of self.old)) }
-        ensures released { OnOk result (released_of self.new ≡ released_after (id_of self.old) (sets_of self.old) (released_of self.old) msg.now) }
+        ensures kept { OnOk result (plain_of self.new ≡ kept (handled (id_of self.old) (known_of self.old) (released_of self.old) (plain_of self.old) msg.now).op (plain_of self.old)) }
+        ensures released { OnOk result (released_of self.new ≡ released_after (id_of self.old) (known_of self.old) (released_of self.old) msg.now) }
         ensures refused { OnErr result ((plain_of self.new ≡ plain_of self.old) × (released_of self.new ≡ released_of self.old)) }
-        ensures rest { (id_of self.new ≡ id_of self.old) × (sets_of self.new ≡ sets_of self.old) × (is_blank self.new ≡ false) }
+        ensures rest { (id_of self.new ≡ id_of self.old) × (known_of self.new ≡ known_of self.old) × (is_blank self.new ≡ false) }
 
         // At `Ok` the op is durable: from then on each crash leaves a journal that has it.
         ensures acknowledged { (ops : List Kind) → Holds D.seen D.may_leave self.old ops
-            → OnOk result (Holds D.seen D.may_leave self.new (with_op ops (handled (id_of self.old) (sets_of self.old) (released_of self.old) (plain_of self.old) msg.now).op)) }
+            → OnOk result (Holds D.seen D.may_leave self.new (with_op ops (handled (id_of self.old) (known_of self.old) (released_of self.old) (plain_of self.old) msg.now).op)) }
 
         // A crash at any moment of the call leaves what stands for the plain state before it or for that with the op.
         ensures any_moment { (ops : List Kind) → Holds D.seen D.may_leave self.old ops
-            → LeavesOnly D.moment D.left_since (disk_of self.old) (disk_of self.new) (StandsForEither (plain_of self.old) (kept (handled (id_of self.old) (sets_of self.old) (released_of self.old) (plain_of self.old) msg.now).op (plain_of self.old))) }
+            → LeavesOnly D.moment D.left_since (disk_of self.old) (disk_of self.new) (StandsForEither (plain_of self.old) (kept (handled (id_of self.old) (known_of self.old) (released_of self.old) (plain_of self.old) msg.now).op (plain_of self.old))) }
 
         // Where the disk tells what each call will do, it is the four writing calls of the op's record, or none.
         ensures exact { (p : DiskPlain) → D.plain (disk_of self.old) ≡ Some p → (is_ok result ≡ true ⊎ IsErrOf result NodeFault.Disk)
-            → (D.plain (disk_of self.new) ≡ Some (after_calls (calls_of (place_of self.old) (handled (id_of self.old) (sets_of self.old) (released_of self.old) (plain_of self.old) msg.now).op) p))
-            × (is_ok result ≡ all_succeed (calls_of (place_of self.old) (handled (id_of self.old) (sets_of self.old) (released_of self.old) (plain_of self.old) msg.now).op) p) }
+            → (D.plain (disk_of self.new) ≡ Some (after_calls (calls_of (place_of self.old) (handled (id_of self.old) (known_of self.old) (released_of self.old) (plain_of self.old) msg.now).op) p))
+            × (is_ok result ≡ all_succeed (calls_of (place_of self.old) (handled (id_of self.old) (known_of self.old) (released_of self.old) (plain_of self.old) msg.now).op) p) }
 
         // A message of which nothing is kept makes no call of the disk.
-        ensures silent { (handled (id_of self.old) (sets_of self.old) (released_of self.old) (plain_of self.old) msg.now).op ≡ None → (disk_of self.new ≡ disk_of self.old) × (place_of self.new ≡ place_of self.old) }
-        ensures silent_works { (handled (id_of self.old) (sets_of self.old) (released_of self.old) (plain_of self.old) msg.now).op ≡ None → result ≢ Err NodeFault.Disk }
+        ensures silent { (handled (id_of self.old) (known_of self.old) (released_of self.old) (plain_of self.old) msg.now).op ≡ None → (disk_of self.new ≡ disk_of self.old) × (place_of self.new ≡ place_of self.old) }
+        ensures silent_works { (handled (id_of self.old) (known_of self.old) (released_of self.old) (plain_of self.old) msg.now).op ≡ None → result ≢ Err NodeFault.Disk }
         ensures honest { IsHonest (D.seen (disk_of self.old)) → IsHonest (D.seen (disk_of self.new)) }
 
-        ensures full { IsErrOf result NodeFault.Full → IsPast (place_of self.old) (handled (id_of self.old) (sets_of self.old) (released_of self.old) (plain_of self.old) msg.now).op }
-        ensures too_long { must_load self.old ≡ false → IsPast (place_of self.old) (handled (id_of self.old) (sets_of self.old) (released_of self.old) (plain_of self.old) msg.now).op → IsErrOf result NodeFault.Full ⊎ IsErrOf result NodeFault.NoMemory }
+        ensures full { IsErrOf result NodeFault.Full → IsPast (place_of self.old) (handled (id_of self.old) (known_of self.old) (released_of self.old) (plain_of self.old) msg.now).op }
+        ensures too_long { must_load self.old ≡ false → IsPast (place_of self.old) (handled (id_of self.old) (known_of self.old) (released_of self.old) (plain_of self.old) msg.now).op → IsErrOf result NodeFault.Full ⊎ IsErrOf result NodeFault.NoMemory }
         ensures needs_load { IsErrOf result NodeFault.NeedsLoad ↔ (must_load self.old ≡ true) }
         ensures loads { (must_load self.new ≡ true) ↔ ((must_load self.old ≡ true) ⊎ IsErrOf result NodeFault.Disk) }
         ensures register { (fault : Refusal) → result ≢ Err (NodeFault.Register fault) }
@@ -194,12 +195,12 @@ impl<D: Disk> Node<D> {
         let (op, replies) = decide(
             alloc,
             self.id,
-            &self.sets,
+            &self.known,
             &self.released,
             self.store.plain(),
             msg,
         )?;
-        let number = released_by(self.id, &self.sets, msg);
+        let number = released_by(self.id, &self.known, msg);
         release(&mut self.released, msg.log, number)?;
         keep(alloc, &mut self.store, op)?;
         Ok(replies)
@@ -241,7 +242,7 @@ impl<D: Disk> Node<D> {
             → (IsErrOf result NodeFault.NoMemory × G.tells reg.new c) ⊎ G.tells reg.new (after_draw c (id_of self.old)) }
 
         ensures refused { OnErr result ((plain_of self.new ≡ plain_of self.old) × (is_blank self.new ≡ is_blank self.old)) }
-        ensures rest { (id_of self.new ≡ id_of self.old) × (sets_of self.new ≡ sets_of self.old) × (released_of self.new ≡ released_of self.old) }
+        ensures rest { (id_of self.new ≡ id_of self.old) × (known_of self.new ≡ known_of self.old) × (released_of self.new ≡ released_of self.old) }
 
         // What was held is held with the draw or without it, but where the register failed.
         ensures held { (c : Contents) → G.holds reg.old c → IsErrOf result (NodeFault.Register faults.Failed) ⊎ G.holds reg.new c ⊎ G.holds reg.new (after_draw c (id_of self.old)) }
@@ -256,7 +257,7 @@ impl<D: Disk> Node<D> {
         ensures generations { IsErrOf result (NodeFault.Register faults.GenLimit) → G.told reg.old → (c : Contents) × G.holds reg.old c × (2 ^ 32 - 1 ≤ generation_of c (id_of self.old)) }
         ensures register_full { IsErrOf result (NodeFault.Register faults.Full) → G.told reg.old → (c : Contents) × G.holds reg.old c × (is_full c draw_length ≡ true) }
         ensures logs { result ≢ Err (NodeFault.Register faults.LogLimit) }
-        ensures behind { (lce : ℕ) → result ≢ Err (NodeFault.Register (faults.Behind lce)) }
+        ensures behind { (lce : ℕ) (next : Option Fixed) → result ≢ Err (NodeFault.Register (faults.Behind lce next)) }
         ensures epochs { result ≢ Err (NodeFault.Register faults.EpochLimit) }
         ensures register_damaged { (place : ℕ) → IsErrOf result (NodeFault.Register (faults.Damaged place)) → G.told reg.old → G.damaged reg.old place }
 
@@ -297,9 +298,9 @@ impl<D: Disk> Node<D> {
 
     /// Looks at the register for a log and does what the node has to do for it: the lowest epoch that isn't clean here,
     /// where it is closed there, is cleaned with its summary; else, where what was lost is all there again, the node is
-    /// lost for the log no more; else, where a number is missing, it asks the other nodes of the log from the lowest
-    /// missing number on, in messages that a frame can carry; else nothing. For a log that it doesn't keep it does
-    /// nothing, and doesn't look.
+    /// lost for the log no more; else, where a number is missing, it asks all other nodes from the lowest missing
+    /// number on, in messages that a frame can carry; else nothing. For a log that it doesn't know it does nothing, and
+    /// doesn't look.
     ///
     /// It refuses with `Register` as the register's `look` does, with `Full` where its journal would be longer than
     /// 2^40 bytes, and with `NoMemory`; then nothing has changed. It refuses with `Disk` where a call of the disk
@@ -313,56 +314,56 @@ impl<D: Disk> Node<D> {
     ) -> Result<Ticked, NodeFault>
         requires formatted { is_blank self.old ≡ false }
 
-        ensures answer { (c : Contents) → G.holds reg.old c → IfOk result (λ answer. answer ≡ answer_of (id_of self.old) log (nodes_in (sets_of self.old) log) (ticked (sets_of self.old) (plain_of self.old) log c)) }
+        ensures answer { (c : Contents) → G.holds reg.old c → IfOk result (λ answer. answer ≡ answer_of (id_of self.old) log (known_of self.old).nodes (ticked (known_of self.old) (plain_of self.old) log c)) }
 
         // Each ask is a message that a frame can carry.
         ensures messages { IfOk result (λ answer. AskMessages answer) }
 
-        ensures kept { (c : Contents) → G.holds reg.old c → OnOk result (plain_of self.new ≡ kept (op_of log (ticked (sets_of self.old) (plain_of self.old) log c)) (plain_of self.old)) }
+        ensures kept { (c : Contents) → G.holds reg.old c → OnOk result (plain_of self.new ≡ kept (op_of log (ticked (known_of self.old) (plain_of self.old) log c)) (plain_of self.old)) }
         ensures looked { (c : Contents) → G.holds reg.old c → IsErrOf result (NodeFault.Register faults.Failed) ⊎ G.holds reg.new c }
         ensures refused { OnErr result (plain_of self.new ≡ plain_of self.old) }
-        ensures rest { (id_of self.new ≡ id_of self.old) × (sets_of self.new ≡ sets_of self.old) × (released_of self.new ≡ released_of self.old) × (is_blank self.new ≡ false) }
+        ensures rest { (id_of self.new ≡ id_of self.old) × (known_of self.new ≡ known_of self.old) × (released_of self.new ≡ released_of self.old) × (is_blank self.new ≡ false) }
 
-        // For a log that it doesn't keep there is nothing to do, and no look.
-        ensures foreign { must_load self.old ≡ false → is_some (find log (sets_of self.old)) ≡ false → (result ≡ Ok answers.Nothing) × (self.new ≡ self.old) × (reg.new ≡ reg.old) }
+        // For a log that it doesn't know there is nothing to do, and no look.
+        ensures foreign { must_load self.old ≡ false → is_in log (known_of self.old).logs ≡ false → (result ≡ Ok answers.Nothing) × (self.new ≡ self.old) × (reg.new ≡ reg.old) }
 
         // At `Ok` the op is durable: from then on each crash leaves a journal that has it.
         ensures acknowledged { (ops : List Kind) (c : Contents) → Holds D.seen D.may_leave self.old ops → G.holds reg.old c
-            → OnOk result (Holds D.seen D.may_leave self.new (with_op ops (op_of log (ticked (sets_of self.old) (plain_of self.old) log c)))) }
+            → OnOk result (Holds D.seen D.may_leave self.new (with_op ops (op_of log (ticked (known_of self.old) (plain_of self.old) log c)))) }
 
         // A crash at any moment of the call leaves what stands for the plain state before it or for that with the op.
         ensures any_moment { (ops : List Kind) (c : Contents) → Holds D.seen D.may_leave self.old ops → G.holds reg.old c
-            → LeavesOnly D.moment D.left_since (disk_of self.old) (disk_of self.new) (StandsForEither (plain_of self.old) (kept (op_of log (ticked (sets_of self.old) (plain_of self.old) log c)) (plain_of self.old))) }
+            → LeavesOnly D.moment D.left_since (disk_of self.old) (disk_of self.new) (StandsForEither (plain_of self.old) (kept (op_of log (ticked (known_of self.old) (plain_of self.old) log c)) (plain_of self.old))) }
 
         // Where the disk tells what each call will do, it is the four writing calls of the op's record, or none.
         ensures exact { (c : Contents) (disk : DiskPlain) → G.holds reg.old c → D.plain (disk_of self.old) ≡ Some disk → (is_ok result ≡ true ⊎ IsErrOf result NodeFault.Disk)
-            → (D.plain (disk_of self.new) ≡ Some (after_calls (calls_of (place_of self.old) (op_of log (ticked (sets_of self.old) (plain_of self.old) log c))) disk))
-            × (is_ok result ≡ all_succeed (calls_of (place_of self.old) (op_of log (ticked (sets_of self.old) (plain_of self.old) log c))) disk) }
+            → (D.plain (disk_of self.new) ≡ Some (after_calls (calls_of (place_of self.old) (op_of log (ticked (known_of self.old) (plain_of self.old) log c))) disk))
+            × (is_ok result ≡ all_succeed (calls_of (place_of self.old) (op_of log (ticked (known_of self.old) (plain_of self.old) log c))) disk) }
 
         // A tick in which nothing is kept makes no call of the disk.
-        ensures silent { (c : Contents) → G.holds reg.old c → op_of log (ticked (sets_of self.old) (plain_of self.old) log c) ≡ None → (disk_of self.new ≡ disk_of self.old) × (place_of self.new ≡ place_of self.old) }
-        ensures silent_works { (c : Contents) → G.holds reg.old c → op_of log (ticked (sets_of self.old) (plain_of self.old) log c) ≡ None → result ≢ Err NodeFault.Disk }
+        ensures silent { (c : Contents) → G.holds reg.old c → op_of log (ticked (known_of self.old) (plain_of self.old) log c) ≡ None → (disk_of self.new ≡ disk_of self.old) × (place_of self.new ≡ place_of self.old) }
+        ensures silent_works { (c : Contents) → G.holds reg.old c → op_of log (ticked (known_of self.old) (plain_of self.old) log c) ≡ None → result ≢ Err NodeFault.Disk }
         ensures honest { IsHonest (D.seen (disk_of self.old)) → IsHonest (D.seen (disk_of self.new)) }
 
         // A look changes nothing, and where the register tells what it will do, it isn't refused.
         ensures tells { (c : Contents) → G.tells reg.old c → G.tells reg.new c }
         ensures foretold { (c : Contents) (fault : Refusal) → G.tells reg.old c → result ≢ Err (NodeFault.Register fault) }
 
-        // A refusal of the register is one of its look, for a log that the node keeps.
-        ensures register { (fault : Refusal) → IsErrOf result (NodeFault.Register fault) → IsOfLook fault × (is_some (find log (sets_of self.old)) ≡ true) }
+        // A refusal of the register is one of its look, for a log that the node knows.
+        ensures register { (fault : Refusal) → IsErrOf result (NodeFault.Register fault) → IsOfLook fault × (is_in log (known_of self.old).logs ≡ true) }
         ensures register_failed { IsErrOf result (NodeFault.Register faults.Failed) → Rose (G.faults reg.old) (G.faults reg.new) }
         ensures register_damaged { (place : ℕ) → IsErrOf result (NodeFault.Register (faults.Damaged place)) → G.told reg.old → G.damaged reg.old place }
         ensures told { G.told reg.old → G.told reg.new }
-        ensures settled { G.told reg.old → is_some (find log (sets_of self.old)) ≡ true → OnOk result ((c : Contents) → G.may_hold reg.new c → G.holds reg.new c) }
+        ensures settled { G.told reg.old → is_in log (known_of self.old).logs ≡ true → OnOk result ((c : Contents) → G.may_hold reg.new c → G.holds reg.new c) }
         ensures same { (c : Contents) → G.may_hold reg.new c → G.may_hold reg.old c }
 
-        ensures full { (c : Contents) → G.holds reg.old c → IsErrOf result NodeFault.Full → IsPast (place_of self.old) (op_of log (ticked (sets_of self.old) (plain_of self.old) log c)) }
-        ensures too_long { (c : Contents) → G.holds reg.old c → must_load self.old ≡ false → IsPast (place_of self.old) (op_of log (ticked (sets_of self.old) (plain_of self.old) log c))
+        ensures full { (c : Contents) → G.holds reg.old c → IsErrOf result NodeFault.Full → IsPast (place_of self.old) (op_of log (ticked (known_of self.old) (plain_of self.old) log c)) }
+        ensures too_long { (c : Contents) → G.holds reg.old c → must_load self.old ≡ false → IsPast (place_of self.old) (op_of log (ticked (known_of self.old) (plain_of self.old) log c))
             → IsErrOf result NodeFault.Full ⊎ IsErrOf result NodeFault.NoMemory ⊎ ((fault : Refusal) × IsErrOf result (NodeFault.Register fault)) }
 
         // Where it got as far as the disk, or the journal's limit, the op is one that a journal's body can carry.
         ensures change { (c : Contents) → G.holds reg.old c → IsErrOf result NodeFault.Disk ⊎ IsErrOf result NodeFault.Full
-            → AreChanges (op_of log (ticked (sets_of self.old) (plain_of self.old) log c)) }
+            → AreChanges (op_of log (ticked (known_of self.old) (plain_of self.old) log c)) }
 
         ensures needs_load { IsErrOf result NodeFault.NeedsLoad ↔ (must_load self.old ≡ true) }
         ensures needs_no_look { must_load self.old ≡ true → reg.new ≡ reg.old }
@@ -383,10 +384,17 @@ impl<D: Disk> Node<D> {
         if self.store.needs_load() {
             return Err(NodeFault::NeedsLoad);
         }
-        let Some(set) = nodes_of(&self.sets, log) else {
+        if !self.known.has_log(log) {
             return Ok(Ticked::Nothing);
-        };
-        let step = look(alloc, self.id, log, &set, self.store.plain(), reg)?;
+        }
+        let step = look(
+            alloc,
+            self.id,
+            log,
+            self.known.nodes(),
+            self.store.plain(),
+            reg,
+        )?;
         keep(alloc, &mut self.store, step.op)?;
         Ok(step.ticked)
     }

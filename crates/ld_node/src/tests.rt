@@ -2,6 +2,7 @@
 ghost use Rattle.std.specs.Prelude.{◌≡◌, IfOk};
 ghost use Rattle.ld_msg.specs.Bounds.{IsMessage, IsSummary, Fits};
 ghost use Rattle.ld_msg.specs.declared.msg.Who.TheVariants as whos;
+ghost use Rattle.ld_register.specs.Bounds.{IsSpec};
 
 use crate::{Node, NodeFault, Ticked};
 use ld_config::{Config, Specs};
@@ -42,17 +43,32 @@ fn new_register(alloc: Global) -> Result<DiskRegister<MemDisk>, NoMemory> {
     Ok(DiskRegister::new(alloc, new_disk(alloc)?))
 }
 
-/// Log 1 on node 1.
-fn config(alloc: Global) -> Result<Config, NoMemory> {
-    let set = NodeSet::empty().with(node_of(1)?);
-    let mut logs = Specs::new(alloc);
-    logs.push(Spec {
-        log: log_of(1)?,
+/// Log 1 on node 2 alone.
+fn spec() -> Result<Spec, NoMemory>
+    ensures { IfOk result IsSpec }
+{
+    let log = log_of(1)?;
+    let set = NodeSet::empty().with(node_of(2)?);
+    if set.len() == 0 || log.number() == 0 {
+        return Err(NoMemory);
+    }
+    Ok(Spec {
+        log,
         set,
         r: 1,
         extras: 0,
-    })?;
-    Ok(Config { nodes: set, logs })
+    })
+}
+
+/// Three nodes and log 1.
+fn config(alloc: Global) -> Result<Config, NoMemory> {
+    let nodes = NodeSet::empty()
+        .with(node_of(1)?)
+        .with(node_of(2)?)
+        .with(node_of(3)?);
+    let mut logs = Specs::new(alloc);
+    logs.push(spec()?)?;
+    Ok(Config { nodes, logs })
 }
 
 /// Node 1 on a disk.
@@ -60,7 +76,7 @@ fn loaded(alloc: Global, disk: MemDisk) -> Result<Node<MemDisk>, NodeFault> {
     let config = config(alloc)?;
     match Node::load(alloc, node_of(1)?, disk, &config) {
         Ok(node) => Ok(node),
-        Err((_, fault)) => Err(fault),
+        Err((_disk, fault)) => Err(fault),
     }
 }
 
@@ -77,12 +93,17 @@ fn drawn<D: Disk, R: Register>(
     Ok(drawn.gen_)
 }
 
+/// Node 1, formatted by this register.
+fn formatted_by<R: Register>(alloc: Global, reg: &mut R) -> Result<Node<MemDisk>, NodeFault> {
+    let mut node = loaded(alloc, new_disk(alloc)?)?;
+    let _ = drawn(alloc, &mut node, reg)?;
+    Ok(node)
+}
+
 /// Node 1, formatted by a register of its own.
 fn formatted(alloc: Global) -> Result<Node<MemDisk>, NodeFault> {
     let mut reg = new_register(alloc)?;
-    let mut node = loaded(alloc, new_disk(alloc)?)?;
-    let _ = drawn(alloc, &mut node, &mut reg)?;
-    Ok(node)
+    formatted_by(alloc, &mut reg)
 }
 
 /// A message of log 1 to node 1.
@@ -114,6 +135,22 @@ fn store(alloc: Global) -> Result<Msg, NoMemory>
     )
 }
 
+/// What the sequencer of epoch 1 has stored at its second place, where all up to the first one is known good.
+fn second_store(alloc: Global) -> Result<Msg, NoMemory>
+    ensures { IfOk result IsMessage }
+{
+    let mut bytes = Vec::new(alloc);
+    bytes.push(9)?;
+    to_node(
+        Who::Sequencer(1),
+        Body::Store {
+            number: Lsn::new(1, 2),
+            lng: 1,
+            what: What::Rec(Payload::new(bytes)),
+        },
+    )
+}
+
 /// The sequencer of epoch 2 asks for what stands in epoch 1.
 fn digest_ask() -> Result<Msg, NoMemory>
     ensures { IfOk result IsMessage }
@@ -126,12 +163,12 @@ fn digest_ask() -> Result<Msg, NoMemory>
     )
 }
 
-/// What a node answers.
+/// What a node answers: a page with how many entries, and up to which place all is known good.
 #[derive(Clone, Copy, Debug, PartialEq, Eq)]
 enum Answer {
     Stored,
     SealedUnder(u32),
-    PageOf(usize),
+    PageOf(usize, u32),
     Other,
 }
 
@@ -139,7 +176,7 @@ fn answer_in(body: &Body) -> Answer {
     match body {
         Body::Stored { .. } => Answer::Stored,
         Body::SealedHere { sealed, .. } => Answer::SealedUnder(*sealed),
-        Body::DigestPage { entries, .. } => Answer::PageOf(entries.as_slice().len()),
+        Body::DigestPage { entries, lng, .. } => Answer::PageOf(entries.as_slice().len(), *lng),
         _ => Answer::Other,
     }
 }
@@ -160,6 +197,10 @@ fn give<D: Disk>(alloc: Global, node: &mut Node<D>, msg: &Msg) -> Result<Answer,
 
 fn give_store<D: Disk>(alloc: Global, node: &mut Node<D>) -> Result<Answer, NodeFault> {
     give(alloc, node, &store(alloc)?)
+}
+
+fn give_second_store<D: Disk>(alloc: Global, node: &mut Node<D>) -> Result<Answer, NodeFault> {
+    give(alloc, node, &second_store(alloc)?)
 }
 
 fn give_digest_ask<D: Disk>(alloc: Global, node: &mut Node<D>) -> Result<Answer, NodeFault> {
@@ -183,6 +224,21 @@ fn cleaned<D: Disk, R: Register>(
     }
 }
 
+/// How many nodes a tick of log 1 asks for what is missing.
+fn asked<D: Disk, R: Register>(
+    alloc: Global,
+    node: &mut Node<D>,
+    reg: &mut R,
+) -> Result<usize, NodeFault> {
+    if node.is_blank() {
+        return Err(NodeFault::Full);
+    }
+    match &node.tick(alloc, log_of(1)?, reg)? {
+        Ticked::Asked(asks) => Ok(asks.len()),
+        _ => Ok(0),
+    }
+}
+
 fn summary() -> Summary
     ensures { IsSummary 1 result }
 {
@@ -196,9 +252,9 @@ fn summary() -> Summary
 
 /// Hands out epoch 1 of log 1, and closes it behind its place 1.
 fn close<R: Register>(alloc: Global, reg: &mut R) -> Result<(), RegisterFault> {
-    let log = log_of(1)?;
-    let _ = reg.activate(alloc, log)?;
-    reg.close(alloc, log, 1, &summary())
+    let _ = reg.activate(alloc, &spec()?)?;
+    let _ = reg.close(alloc, log_of(1)?, 1, &summary())?;
+    Ok(())
 }
 
 #[test]
@@ -207,7 +263,36 @@ fn a_store_is_there_after_a_load(rt: HostRuntime) -> Result<(), Fail> {
     let mut node = formatted(alloc)?;
     assert_eq!(rt; give_store(alloc, &mut node), Ok(Answer::Stored));
     let mut again = loaded(alloc, node.into_disk())?;
-    assert_eq!(rt; give_digest_ask(alloc, &mut again), Ok(Answer::PageOf(1)));
+    assert_eq!(rt;
+        give_digest_ask(alloc, &mut again),
+        Ok(Answer::PageOf(1, 0))
+    );
+    Ok(())
+}
+
+#[test]
+fn what_is_known_good_is_there_after_a_load(rt: HostRuntime) -> Result<(), Fail> {
+    let alloc = rt.alloc();
+    let mut node = formatted(alloc)?;
+    assert_eq!(rt; give_second_store(alloc, &mut node), Ok(Answer::Stored));
+    let mut again = loaded(alloc, node.into_disk())?;
+    assert_eq!(rt;
+        give_digest_ask(alloc, &mut again),
+        Ok(Answer::PageOf(1, 1))
+    );
+    Ok(())
+}
+
+#[test]
+fn a_refused_store_tells_nothing_known_good(rt: HostRuntime) -> Result<(), Fail> {
+    let alloc = rt.alloc();
+    let mut node = formatted(alloc)?;
+    assert_eq!(rt; give_digest_ask(alloc, &mut node), Ok(Answer::PageOf(0, 0)));
+    assert_eq!(rt;
+        give_second_store(alloc, &mut node),
+        Ok(Answer::SealedUnder(2))
+    );
+    assert_eq!(rt; give_digest_ask(alloc, &mut node), Ok(Answer::PageOf(0, 0)));
     Ok(())
 }
 
@@ -215,7 +300,7 @@ fn a_store_is_there_after_a_load(rt: HostRuntime) -> Result<(), Fail> {
 fn a_seal_is_there_after_a_load(rt: HostRuntime) -> Result<(), Fail> {
     let alloc = rt.alloc();
     let mut node = formatted(alloc)?;
-    assert_eq!(rt; give_digest_ask(alloc, &mut node), Ok(Answer::PageOf(0)));
+    assert_eq!(rt; give_digest_ask(alloc, &mut node), Ok(Answer::PageOf(0, 0)));
     let mut again = loaded(alloc, node.into_disk())?;
     assert_eq!(rt; give_store(alloc, &mut again), Ok(Answer::SealedUnder(2)));
     Ok(())
@@ -233,7 +318,18 @@ fn a_tick_cleans_what_is_closed(rt: HostRuntime) -> Result<(), Fail> {
 }
 
 #[test]
-fn a_tick_looks_only_for_logs_of_the_node(rt: HostRuntime) -> Result<(), Fail> {
+fn a_lost_node_asks_all_others(rt: HostRuntime) -> Result<(), Fail> {
+    let alloc = rt.alloc();
+    let mut reg = new_register(alloc)?;
+    close(alloc, &mut reg)?;
+    let mut node = formatted_by(alloc, &mut reg)?;
+    assert_eq!(rt; cleaned(alloc, &mut node, 1, &mut reg), Ok(1));
+    assert_eq!(rt; asked(alloc, &mut node, &mut reg), Ok(2));
+    Ok(())
+}
+
+#[test]
+fn a_tick_looks_only_for_known_logs(rt: HostRuntime) -> Result<(), Fail> {
     let alloc = rt.alloc();
     let mut node = formatted(alloc)?;
     let mut reg = new_register(alloc)?;

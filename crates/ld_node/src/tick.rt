@@ -28,7 +28,7 @@ pub enum Ticked {
     Cleaned(u32),
     /// What was lost of the log is there again: the node isn't lost for it any more.
     Rebuilt,
-    /// It asks the other nodes of the log for what is missing here.
+    /// It asks the other nodes for what is missing here.
     Asked(Replies),
     /// Nothing.
     Nothing,
@@ -46,13 +46,13 @@ pub(crate) fn look<G: Register>(
     alloc: Global,
     id: NodeId,
     log: LogId,
-    set: &NodeSet,
+    nodes: &NodeSet,
     plain: &Plain,
     reg: &mut G,
 ) -> Result<Step, NodeFault>
     requires log { IsLog log }
     requires well { IsWell plain.now.state }
-    ensures step { (c : Contents) → G.holds reg.old c → IfOk result (λ step. IsStep id log (members set.now) step (seen (log_of plain.now.state log) c log)) }
+    ensures step { (c : Contents) → G.holds reg.old c → IfOk result (λ step. IsStep id log (members nodes.now) step (seen (log_of plain.now.state log) c log)) }
     ensures holds { (c : Contents) → G.holds reg.old c → IsErrOf result (NodeFault.Register faults.Failed) ⊎ G.holds reg.new c }
     ensures tells { (c : Contents) → G.tells reg.old c → G.tells reg.new c }
     ensures foretold { (c : Contents) → G.tells reg.old c → IfErr result (λ fault. fault ≡ NodeFault.NoMemory) }
@@ -74,7 +74,7 @@ pub(crate) fn look<G: Register>(
 {
     let epoch = ld_rebuild::lowest_unclean(plain, log);
     let view = reg.look(alloc, log, epoch)?;
-    let step = by_shown(alloc, id, log, set, plain, epoch, view.summary)?;
+    let step = by_shown(alloc, id, log, nodes, plain, epoch, view.summary)?;
     Ok(step)
 }
 
@@ -83,7 +83,7 @@ fn by_shown(
     alloc: Global,
     id: NodeId,
     log: LogId,
-    set: &NodeSet,
+    nodes: &NodeSet,
     plain: &Plain,
     epoch: u32,
     shown: Option<Summary>,
@@ -92,7 +92,7 @@ fn by_shown(
     requires well { IsWell plain.now.state }
     requires lowest { epoch ≡ lowest_unclean (log_of plain.now.state log) }
     requires shown { IfSome shown (λ y. IsEpoch epoch × IsSummary epoch y) }
-    ensures step { IfOk result (λ step. IsStep id log (members set.now) step (tick_with (log_of plain.now.state log) shown)) }
+    ensures step { IfOk result (λ step. IsStep id log (members nodes.now) step (tick_with (log_of plain.now.state log) shown)) }
     ensures change { IfOk result (λ step. AreChanges step.op) }
     ensures messages { IfOk result (λ step. AskMessages step.ticked) }
 {
@@ -105,7 +105,7 @@ fn by_shown(
             }),
             ticked: Ticked::Cleaned(epoch),
         }),
-        None => refill(alloc, id, log, set, plain, epoch),
+        None => refill(alloc, id, log, nodes, plain, epoch),
     }
 }
 
@@ -114,14 +114,14 @@ fn refill(
     alloc: Global,
     id: NodeId,
     log: LogId,
-    set: &NodeSet,
+    nodes: &NodeSet,
     plain: &Plain,
     epoch: u32,
 ) -> Result<Step, NoMemory>
     requires log { IsLog log }
     requires well { IsWell plain.now.state }
     requires lowest { epoch ≡ lowest_unclean (log_of plain.now.state log) }
-    ensures step { IfOk result (λ step. IsStep id log (members set.now) step (lost_tick (log_of plain.now.state log))) }
+    ensures step { IfOk result (λ step. IsStep id log (members nodes.now) step (lost_tick (log_of plain.now.state log))) }
     ensures change { IfOk result (λ step. AreChanges step.op) }
     ensures messages { IfOk result (λ step. AskMessages step.ticked) }
 {
@@ -132,9 +132,9 @@ fn refill(
         return Ok(refilled(log, plain.lost_to(log) < epoch));
     }
     let _node = id.number();
-    let _there = set.has(id);
+    let _there = nodes.has(id);
     let mut asks = Outbox::empty(alloc);
-    ld_rebuild::asks(alloc, plain, id, log, set, &mut asks)?;
+    ld_rebuild::asks(alloc, plain, id, log, nodes, &mut asks)?;
     Ok(Step {
         op: None,
         ticked: Ticked::Asked(Replies::new(asks.into_vec())),
@@ -144,7 +144,7 @@ fn refill(
 /// What a node does where nothing is missing: it is lost no more, once all lost epochs are clean.
 fn refilled(log: LogId, all_clean: bool) -> Step
     requires log { IsLog log }
-    ensures step { (id : ℕ) (set : List ℕ) → IsStep id log set result (refill_tick all_clean []) }
+    ensures step { (id : ℕ) (nodes : List ℕ) → IsStep id log nodes result (refill_tick all_clean []) }
     ensures change { AreChanges result.op }
     ensures messages { AskMessages result.ticked }
 {

@@ -1,12 +1,13 @@
 -- What holds of each element of a list or table holds after a change.
 use Rattle.std.proofs.Common.{◌≡◌, ℕ, refl, sym, subst, Bool, true, false, cond, List, [], ◌∷◌, ◌++◌, Some, Ordering, Less, Equal, Greater, nat_cmp}
+use Rattle.std.specs.Prelude.{not}
 use Rattle.std.specs.Ordering.{match_ordering}
 use Rattle.std.specs.FinMap.{nat_cmp-IsAntisymmetric}
 use Rattle.std.specs.BTreeMap.{is_at}
 use Rattle.std.specs.Map as map
 use Rattle.std.specs.List.{filter, AllByRecursion}
 use Rattle.std.proofs.lemmas.Bool.{cond_both}
-use Rattle.ld_table.specs.Table.{find, put, keep, keep_keys, passes}
+use Rattle.ld_table.specs.Table.{find, put, take_out, keep, keep_keys, passes}
 use Rattle.ld_table.proofs.Laws.{same_key}
 
 module _ {X : Type 0} (P : X → Type 0) where
@@ -42,6 +43,10 @@ module _ {X : Type 0} (P : ℕ × X → Type 0) where
   pub all-keep_keys : (p : ℕ → Bool) (m : List (ℕ × X)) → AllByRecursion P m → AllByRecursion P (keep_keys p m)
   unfolding keep_keys
   all-keep_keys p m a = all-filter P (λ e. p e.0) m a
+
+  pub all-take_out : (k : ℕ) (m : List (ℕ × X)) → AllByRecursion P m → AllByRecursion P (take_out k m)
+  unfolding take_out
+  all-take_out k m a = all-filter P (λ e. not (is_at (nat_cmp k) e.0)) m a
 
   found_step : (b : Bool) (q : ℕ) (e : ℕ × X) (m : List (ℕ × X)) (v : X) → is_at (nat_cmp q) e.0 ≡ b → P e → (map.lookup (is_at (nat_cmp q)) m ≡ Some v → P (q, v)) → cond b (Some e.1) (map.lookup (is_at (nat_cmp q)) m) ≡ Some v → P (q, v)
   found_step true q e m v h p ih f = let i : e.1 ≡ v = cc in subst (λ x. P (q, x)) i (subst (λ x. P (x, e.1)) (sym (same_key q e.0 h)) p)

@@ -1,6 +1,7 @@
 -- What a node answers to a message is one that a frame can carry, and the op that it keeps is in its bounds.
 use Rattle.std.proofs.Common.{◌≡◌, ◌∙◌, ◌⊎◌, ◌≤◌, ◌<◌, ℕ, ◌-◌, ◌^◌, inl, inr, refl, ap, sym, subst, Bool, false, ◌==◌, ◌&&◌, nat_lt, nat_le, cond, List, [], ◌∷◌, map, filter, Option, Some, None, arith}
 use Rattle.std.proofs.lemmas.Bool.{cond_both, cases_Bool, and_parts, eqb-true, eqb-false, ltb-true, leb-true, leb-false}
+use Rattle.std.specs.Option.{unwrap_or}
 use Rattle.ld_table.specs.Table.{find}
 use Rattle.ld_lsn.specs.Number.{epoch_of, esn_of, numbered, home_epoch, home_esn, last_esn}
 use Rattle.ld_ids.specs.Id.{IsNode, IsLog}
@@ -11,7 +12,7 @@ use Rattle.ld_msg.specs.declared.msg.Summary.{Summary}
 use Rattle.ld_msg.specs.declared.msg.Msg.{Msg}
 use Rattle.ld_msg.specs.declared.msg.Body.{Body}
 use Rattle.ld_msg.specs.declared.msg.Body.TheVariants as bodies
-use Rattle.ld_msg.specs.Bounds.{Is32, Is64, IsEpoch, IsEntry, IsSummary, AreEntries, IsSequencerHere, IsActor, IsAsker, AnswersIn, ballot_of, Fits, IsMessage}
+use Rattle.ld_msg.specs.Bounds.{Is32, IsLng, Is64, IsEpoch, IsEntry, IsSummary, AreEntries, IsSequencerHere, IsActor, IsAsker, AnswersIn, ballot_of, Fits, IsMessage}
 use Rattle.ld_op.specs.declared.op.Op.{Op}
 use Rattle.ld_op.specs.declared.op.Op.TheVariants as ops
 use Rattle.ld_op.specs.Plain.{Plain, Log, log_of, summary_at, epoch_zero, end_here, end_of, is_lost}
@@ -20,7 +21,7 @@ use Rattle.ld_op.specs.Answers.{Handled, Decision, or_clean, is_same, store_deci
 use Rattle.ld_op.specs.Ticks as ticks
 use Rattle.ld_op.specs.Ticks.{as_closed, is_missing, lacking, refill_op, page_op, on_page}
 use Rattle.ld_op.specs.Handles.{handled_by, answer_message}
-use Rattle.ld_node_bounds.specs.States.{last_handed_out, last_carried, IsClosed, IsLogState, IsPlain}
+use Rattle.ld_node_bounds.specs.States.{last_handed_out, last_carried, IsClosed, IsGood, IsLogState, IsPlain}
 use Rattle.ld_node_bounds.specs.Messages.{AreMessages, IsKept, MayKeep, MayAnswer, IsHandled}
 use Rattle.ld_node_bounds.proofs.Alls.{all-find}
 use Rattle.ld_node_bounds.proofs.Numbers.{home_is, numbered_bound, number_bound, epoch_bound, number_from_one, epoch_numbered, esn_numbered, home_of_place, home_at_most, home_esn_is}
@@ -115,12 +116,16 @@ module _ (n : ℕ) (N : IsNode n) (generation : ℕ) (gen_is : Is32 generation) 
   stored_is s w answers.Same q one b i = ((N, q), b)
   stored_is s w answers.Take q one b i = ((N, q), b)
 
-  pub store_handled : (w : Who) (lng : ℕ) (e : Entry) → IsSequencerHere w → IsEntry e → IsHandled n w (on_store generation g l lng e)
+  pub store_handled : (w : Who) (lng : ℕ) (e : Entry) → IsSequencerHere w → IsLng lng → IsEntry e → IsHandled n w (on_store generation g l lng e)
   unfolding on_store
-  store_handled w lng e q i = let d = i.epoch in let b : Is64 e.number = number_bound e.number d.1 in let one : 1 ≤ e.number = number_from_one e.number i.from_one in record {
-    op = taken_is (ops.Accept l lng e) (store_decision g e) (L, i);
+  store_handled w lng e q h i = let d = i.epoch in let b : Is64 e.number = number_bound e.number d.1 in let one : 1 ≤ e.number = number_from_one e.number i.from_one in record {
+    op = taken_is (ops.Accept l lng e) (store_decision g e) (L, h, i);
     answer = stored_is e.number w (store_decision g e) q one b (store_decided small g G e d.0 d.1);
   }
+
+  good_is : (e : ℕ) (o : Option ℕ) → find e g.lngs ≡ o → IsLng (unwrap_or o 0)
+  good_is e None h = omega arith
+  good_is e (Some m) h = all-find IsGood e g.lngs m G.lngs h
 
   digest_shown : (from : ℕ) (w : Who) → IsSequencerHere w → 1 ≤ esn_of from → epoch_of from ≤ 2 ^ 32 - 2
       → Fits (whos.Node n) w (answers.digest_page g from (entries_within g from (numbered (epoch_of from) last_esn)) (numbered (epoch_of from) last_esn))
@@ -131,7 +136,7 @@ module _ (n : ℕ) (N : IsNode n) (generation : ℕ) (gen_is : Is32 generation) 
         digest_is g G from (numbered (epoch_of from) last_esn) (number_from_one from one) (omega arith) (numbered_bound (epoch_of from) last_esn (omega arith) (omega arith))
             (home_of_place from one ∙ sym (home_of_place (numbered (epoch_of from) last_esn) (omega (arith, k)) ∙ e)),
         G.trim,
-        omega arith,
+        good_is (epoch_of from) (find (epoch_of from) g.lngs) refl,
       )
 
   digest_answered : (from : ℕ) (w : Who) (d : Decision) → IsSequencerHere w → 1 ≤ esn_of from → epoch_of from ≤ 2 ^ 32 - 2 → IsDecision from d → MayAnswer n w (digest_answer generation g from d)
@@ -232,7 +237,7 @@ module _ (n : ℕ) (N : IsNode n) (generation : ℕ) (gen_is : Is32 generation) 
 
   -- ---- all messages ----
   pub handled_is : (w : Who) (released : ℕ) → Is64 released → (b : Body) → Fits w (whos.Node n) b → IsHandled n w (handled_by generation g l (ballot_of w) released b)
-  handled_is w released r (bodies.Store s lng x) f = store_handled w lng (record { number = s; ballot = ballot_of w; what = x }) f.0.0 f.2
+  handled_is w released r (bodies.Store s lng x) f = store_handled w lng (record { number = s; ballot = ballot_of w; what = x }) f.0.0 f.1 f.2
   handled_is w released r (bodies.DigestAsk from) f = digest_handled w from f.0.0 f.1 f.2 f.3
   handled_is w released r (bodies.Clean epoch y) f = clean_handled w epoch y f.1 f.2
   handled_is w released r (bodies.Trim t) f = trim_handled w t f.1

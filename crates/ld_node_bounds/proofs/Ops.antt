@@ -1,5 +1,5 @@
 -- Each op leaves a plain state in its bounds.
-use Rattle.std.proofs.Common.{◌≡◌, ◌≤◌, ℕ, ◌+◌, ◌-◌, ◌^◌, max, refl, Bool, List, [], ◌∷◌, Option, Some, None, nat_cmp, nat_lt, Less, arith}
+use Rattle.std.proofs.Common.{◌≡◌, ◌≤◌, ℕ, ◌+◌, max, refl, Bool, List, [], ◌∷◌, Option, Some, None, nat_cmp, nat_lt, Less, arith}
 use Rattle.std.specs.Map as map
 use Rattle.std.specs.Option.{unwrap_or}
 use Rattle.std.specs.List.{filter, AllByRecursion}
@@ -7,19 +7,20 @@ use Rattle.std.specs.List.Sorted.{IsStrictlySortedBy}
 use Rattle.std.proofs.lemmas.Bool.{cond_both}
 use Rattle.ld_table.specs.Table.{find, put, keep, keep_keys, passes, Ordered}
 use Rattle.ld_table.proofs.Order.{Ordered-put}
+use Rattle.ld_lsn.specs.Number.{epoch_of}
 use Rattle.ld_ids.specs.Id.{IsLog}
 use Rattle.ld_msg.specs.declared.msg.Entry.{Entry}
 use Rattle.ld_msg.specs.declared.msg.What.{What}
 use Rattle.ld_msg.specs.declared.msg.What.TheVariants.{Rec, Hole, Bridge}
 use Rattle.ld_msg.specs.declared.msg.Summary.{Summary}
-use Rattle.ld_msg.specs.Bounds.{Is32, Is64, IsEpoch, IsEntry, IsSummary, AreEntries}
+use Rattle.ld_msg.specs.Bounds.{IsLng, Is64, IsEpoch, IsEntry, IsSummary, AreEntries}
 use Rattle.ld_op.specs.declared.op.Op.{Op}
 use Rattle.ld_op.specs.declared.op.Op.TheVariants as ops
 use Rattle.ld_op.specs.Bounds.{IsOp, AreEpochs}
-use Rattle.ld_op.specs.Plain.{Log, Plain, unformatted, empty_log, log_of, with_log, accepted, accept_entry, survives_bridge, survives_clean, sealed_by, trimmed_to, cleaned, refill_entries, refilled_with, refilled, lost_log, lost_logs, apply}
-use Rattle.ld_node_bounds.specs.States.{last_handed_out, last_carried, IsStored, IsClosed, IsLogState, IsLogAt, IsPlain}
+use Rattle.ld_op.specs.Plain.{Log, Plain, unformatted, empty_log, log_of, with_log, accepted, accept_entry, lng_in, raised_lng, survives_bridge, survives_clean, sealed_by, trimmed_to, cleaned, refill_entries, refilled_with, refilled, lost_log, lost_logs, apply}
+use Rattle.ld_node_bounds.specs.States.{last_handed_out, last_carried, IsStored, IsClosed, IsGood, IsLogState, IsLogAt, IsPlain}
 use Rattle.ld_node_bounds.specs.Messages.{IsLostTo, IsKept}
-use Rattle.ld_node_bounds.proofs.Alls.{all-put, all-keep, all-keep_keys, all-find}
+use Rattle.ld_node_bounds.proofs.Alls.{all-put, all-keep, all-keep_keys, all-take_out, all-find}
 
 -- ---- order ----
 
@@ -75,12 +76,15 @@ module _ (most : ℕ) where
     has : Entries g.entries
     has = record { rise = G.rise; entries = G.entries }
 
-    accepted_is : (e : Entry) → last_handed_out ≤ most → IsEntry e → IsLogState most (accepted g e)
-    accepted_is e enough i = let s = entry_accepted e e.what g.entries i has in
-        record { sealed = omega (arith, i.ballot_most, enough); trim = G.trim; rise = s.rise; entries = s.entries; summaries = G.summaries; lost_to = G.lost_to }
+    raised_is : (epoch lng : ℕ) → IsLng lng → AllByRecursion IsGood (raised_lng epoch lng g.lngs)
+    raised_is epoch lng h = cond_both (nat_lt (lng_in g.lngs epoch) lng) (put epoch lng g.lngs) g.lngs (AllByRecursion IsGood) (λ t. all-put IsGood epoch lng g.lngs h G.lngs) (λ t. G.lngs)
+
+    accepted_is : (lng : ℕ) (e : Entry) → last_handed_out ≤ most → IsLng lng → IsEntry e → IsLogState most (accepted g lng e)
+    accepted_is lng e enough h i = let s = entry_accepted e e.what g.entries i has in
+        record { sealed = omega (arith, i.ballot_most, enough); trim = G.trim; rise = s.rise; entries = s.entries; summaries = G.summaries; lngs = raised_is (epoch_of e.number) lng h; lost_to = G.lost_to }
 
     sealed_is : (b : ℕ) → b ≤ most → IsLogState most (sealed_by g b)
-    sealed_is b h = record { sealed = h; trim = G.trim; rise = G.rise; entries = G.entries; summaries = G.summaries; lost_to = G.lost_to }
+    sealed_is b h = record { sealed = h; trim = G.trim; rise = G.rise; entries = G.entries; summaries = G.summaries; lngs = G.lngs; lost_to = G.lost_to }
 
     trimmed_is : (t : ℕ) → Is64 t → IsLogState most (trimmed_to g t)
     trimmed_is t h = record {
@@ -89,6 +93,7 @@ module _ (most : ℕ) where
       rise = ordered-keep_keys (λ s. nat_lt (max g.trim t) s) g.entries G.rise;
       entries = all-keep_keys IsStored (λ s. nat_lt (max g.trim t) s) g.entries G.entries;
       summaries = G.summaries;
+      lngs = G.lngs;
       lost_to = G.lost_to;
     }
 
@@ -99,20 +104,21 @@ module _ (most : ℕ) where
       rise = ordered-keep (λ s e. survives_clean (max g.trim y.trim) epoch y e) g.entries G.rise;
       entries = all-keep IsStored (λ s e. survives_clean (max g.trim y.trim) epoch y e) g.entries G.entries;
       summaries = all-put IsClosed epoch y g.summaries (record { epoch = h; summary = i }) G.summaries;
+      lngs = all-take_out IsGood epoch g.lngs G.lngs;
       lost_to = G.lost_to;
     }
 
     refilled_with_is : (es : List Entry) → AreEntries es → IsLogState most (refilled_with g es)
-    refilled_with_is es a = let s = entries_refilled es g.entries a has in record { sealed = G.sealed; trim = G.trim; rise = s.rise; entries = s.entries; summaries = G.summaries; lost_to = G.lost_to }
+    refilled_with_is es a = let s = entries_refilled es g.entries a has in record { sealed = G.sealed; trim = G.trim; rise = s.rise; entries = s.entries; summaries = G.summaries; lngs = G.lngs; lost_to = G.lost_to }
 
     refilled_is : IsLogState most (refilled g)
-    refilled_is = record { sealed = G.sealed; trim = G.trim; rise = G.rise; entries = G.entries; summaries = G.summaries; lost_to = G.lost_to }
+    refilled_is = record { sealed = G.sealed; trim = G.trim; rise = G.rise; entries = G.entries; summaries = G.summaries; lngs = G.lngs; lost_to = G.lost_to }
 
   lost_is : (c : ℕ) → c ≤ most → IsLogState most (lost_log c)
-  lost_is c h = record { sealed = omega arith; trim = omega arith; rise = no_entries; entries = tt; summaries = tt; lost_to = h }
+  lost_is c h = record { sealed = omega arith; trim = omega arith; rise = no_entries; entries = tt; summaries = tt; lngs = tt; lost_to = h }
 
   empty_is : IsLogState most empty_log
-  empty_is = record { sealed = omega arith; trim = omega arith; rise = no_entries; entries = tt; summaries = tt; lost_to = omega arith }
+  empty_is = record { sealed = omega arith; trim = omega arith; rise = no_entries; entries = tt; summaries = tt; lngs = tt; lost_to = omega arith }
 
   -- ---- a plain state ----
 
@@ -140,7 +146,7 @@ module _ (most : ℕ) where
   pub apply_is : (p : Plain) (o : Op) → last_handed_out ≤ most → IsPlain most p → IsKept most o → IsPlain most (apply p o)
   unfolding apply
   apply_is p (ops.Format generation epochs) enough P k = record { generation = k.0; logs = logs_lost epochs k.1 }
-  apply_is p (ops.Accept l lng e) enough P k = with_is p l (accepted (log_of p l) e) P k.0 (accepted_is (log_of p l) (log_state p l P) e enough k.1)
+  apply_is p (ops.Accept l lng e) enough P k = with_is p l (accepted (log_of p l) lng e) P k.0 (accepted_is (log_of p l) (log_state p l P) lng e enough k.1 k.2)
   apply_is p (ops.Seal l b) enough P k = with_is p l (sealed_by (log_of p l) b) P k.0 (sealed_is (log_of p l) (log_state p l P) b k.1)
   apply_is p (ops.Clean l epoch y) enough P k = with_is p l (cleaned (log_of p l) epoch y) P k.0 (cleaned_is (log_of p l) (log_state p l P) epoch y k.1 k.2)
   apply_is p (ops.Trim l t) enough P k = with_is p l (trimmed_to (log_of p l) t) P k.0 (trimmed_is (log_of p l) (log_state p l P) t k.1)
@@ -155,7 +161,7 @@ epochs_carried from (d ∷ ds) a = (record { log = a.1; epoch = omega (arith, a.
 
 pub op_carried : (o : Op) → IsOp o → IsKept last_carried o
 op_carried (ops.Format generation epochs) i = (i.0, epochs_carried 1 epochs i.2)
-op_carried (ops.Accept l lng e) i = (i.0, i.2)
+op_carried (ops.Accept l lng e) i = i
 op_carried (ops.Seal l b) i = (i.0, omega (arith, i.1.1))
 op_carried (ops.Clean l epoch y) i = i
 op_carried (ops.Trim l t) i = i

@@ -6,7 +6,7 @@ use Rattle.ld_msg.specs.declared.msg.Who.{Who}
 use Rattle.ld_msg.specs.declared.msg.Who.TheVariants as whos
 use Rattle.ld_msg.specs.declared.msg.Msg.{Msg}
 use Rattle.ld_msg.specs.declared.msg.Body.{Body}
-use Rattle.ld_msg.specs.Bounds.{Is32, Is64, IsEpoch, IsEntry, IsSummary, AreEntries, Fits, IsMessage}
+use Rattle.ld_msg.specs.Bounds.{Is32, IsLng, Is64, IsEpoch, IsEntry, IsSummary, AreEntries, Fits, IsMessage}
 use Rattle.ld_op.specs.declared.op.Op.{Op}
 use Rattle.ld_op.specs.declared.op.Op.TheVariants as ops
 use Rattle.ld_op.specs.Answers.{Handled}
@@ -26,7 +26,7 @@ pub record IsLostTo (most : ℕ) (d : ℕ × ℕ) : Type 0 where
 -- what an op may hold, its ballot or epochs at most this one
 abbrev pub IsKept : ℕ → Op → Type 0
 IsKept most (ops.Format generation epochs) = Is32 generation × AllByRecursion (IsLostTo most) epochs
-IsKept most (ops.Accept l lng e) = IsLog l × IsEntry e
+IsKept most (ops.Accept l lng e) = IsLog l × IsLng lng × IsEntry e
 IsKept most (ops.Seal l b) = IsLog l × (b ≤ most)
 IsKept most (ops.Clean l epoch y) = IsLog l × IsEpoch epoch × IsSummary epoch y
 IsKept most (ops.Trim l t) = IsLog l × Is64 t

@@ -11,7 +11,7 @@ use Rattle.ld_msg.specs.declared.msg.Entry.{Entry}
 use Rattle.ld_msg.specs.declared.msg.Summary.{Summary}
 use Rattle.ld_msg.specs.declared.msg.What.{What}
 use Rattle.ld_msg.specs.declared.msg.What.TheVariants.{Rec, Hole, Bridge}
-use Rattle.ld_msg.specs.Bounds.{Is32, Is64, IsEpoch, IsShort, IsEntry, IsSummary}
+use Rattle.ld_msg.specs.Bounds.{Is32, IsLng, Is64, IsEpoch, IsShort, IsEntry, IsSummary}
 use Rattle.ld_op.specs.Plain.{Log, Plain}
 
 -- the greatest epoch that a register hands out, and the greatest number that a journal's body can carry in its place
@@ -31,6 +31,10 @@ pub record IsClosed (y : ℕ × Summary) : Type 0 where
   pub epoch : IsEpoch y.0
   pub summary : IsSummary y.0 y.1
 
+-- a last known good place that was told of an epoch
+abbrev pub IsGood : ℕ × ℕ → Type 0
+IsGood m = IsLng m.1
+
 -- the ballot that seals it, and the epoch up to which it is lost, are at most this one
 pub record IsLogState (most : ℕ) (g : Log) : Type 0 where
   pub sealed : g.sealed ≤ most
@@ -38,6 +42,7 @@ pub record IsLogState (most : ℕ) (g : Log) : Type 0 where
   pub rise : Ordered g.entries
   pub entries : AllByRecursion IsStored g.entries
   pub summaries : AllByRecursion IsClosed g.summaries
+  pub lngs : AllByRecursion IsGood g.lngs
   pub lost_to : g.lost_to ≤ most
 
 -- a log's state under its number
@@ -100,6 +105,7 @@ IsLogState-prop most g a b = λ i. record {
   rise = IsStrictlySortedBy-prop nat_cmp (map.keys_of g.entries) a.rise b.rise i;
   entries = AllByRecursion-prop IsStored IsStored-prop g.entries a.entries b.entries i;
   summaries = AllByRecursion-prop IsClosed IsClosed-prop g.summaries a.summaries b.summaries i;
+  lngs = AllByRecursion-prop IsGood (λ m. le_prop) g.lngs a.lngs b.lngs i;
   lost_to = le_prop a.lost_to b.lost_to i;
 }
 

@@ -36,8 +36,8 @@ pub fn answers_are_messages()
     ensures sent { (n : ℕ) (m : Msg) (o : Option Body) → IsMessage m → MayAnswer n m.from o → AreMessages (answer_message n m o) }
 {}
 
-/// What a look makes a node in its bounds do is in its bounds, and its asks of the other nodes of the log are
-/// messages that a frame can carry.
+/// What a look makes a node in its bounds do is in its bounds, and its asks of other nodes are messages
+/// that a frame can carry.
 pub fn asks_are_messages()
     ensures ticked { (most l : ℕ) (p : Plain) (closed : List (ℕ × Summary)) → IsPlain most p
         → ((e : ℕ) (y : Summary) → find e closed ≡ Some y → IsClosed (e, y)) → IsTicked (on_tick (log_of p l) closed) }

@@ -5,7 +5,7 @@ use Rattle.ld_op.specs.declared.fault.OpFault.{OpFault}
 use Rattle.ld_op.specs.declared.fault.OpFault.TheVariants.{Bad, NoMemory}
 use Rattle.ld_op.specs.Bounds.{IsOp}
 use Rattle.ld_op.specs.Bytes.{op_bytes, judge}
-use Rattle.ld_op.specs.Judged.{IsOff}
+use Rattle.ld_op.specs.Judged.{IsRefused}
 use Rattle.ld_op.proofs.Spelling.{judge-op_bytes}
 
 module _ {T E : Type 0} where
@@ -18,6 +18,6 @@ module _ {T E : Type 0} where
   err_with (Err e) P Q f p = f e p
 
 -- no op's bytes are refused
-pub not_off : (bs : List ℕ) (f : OpFault) → IsOff (judge bs) f → (o : Op) → IsOp o → bs ≡ op_bytes o → f ≡ NoMemory
+pub not_off : (bs : List ℕ) (f : OpFault) → IsRefused (judge bs) f → (o : Op) → IsOp o → bs ≡ op_bytes o → f ≡ NoMemory
 not_off bs (Bad place) h o i e = let g = ap judge e ∙ judge-op_bytes o i in absurd cc
 not_off bs NoMemory h o i e = refl

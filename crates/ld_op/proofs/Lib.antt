@@ -11,7 +11,6 @@ pub mod HavePlaces
 pub mod There
 pub mod Pages
 pub mod Walks
-pub mod Fields
 pub mod Parts
 pub mod Writes
 pub mod Spelling

@@ -16,8 +16,8 @@ entry_there e (Rec p) m = grind (arith, table_rules)
 entry_there e Hole m = grind (arith, table_rules)
 entry_there e Bridge m = grind (arith, table_rules)
 
-pub taken_there : (g : Log) (e : Entry) → find e.number (accepted g e).entries ≡ Some e
-taken_there g e = entry_there e e.what g.entries
+pub taken_there : (g : Log) (lng : ℕ) (e : Entry) → find e.number (accepted g lng e).entries ≡ Some e
+taken_there g lng e = entry_there e e.what g.entries
 
 -- an entry that is there was there or is the new one
 entry_from : (e : Entry) (w : What) (m : List (ℕ × Entry)) (q : ℕ) (f : Entry) → find q (accept_entry e w m) ≡ Some f → ((q ≡ e.number) × (f ≡ e)) ⊎ (find q m ≡ Some f)
@@ -25,8 +25,8 @@ entry_from e (Rec p) m q f h = grind (arith, table_rules)
 entry_from e Hole m q f h = grind (arith, table_rules)
 entry_from e Bridge m q f h = grind (arith, table_rules)
 
-pub taken_from : (g : Log) (e : Entry) (q : ℕ) (f : Entry) → find q (accepted g e).entries ≡ Some f → ((q ≡ e.number) × (f ≡ e)) ⊎ (find q g.entries ≡ Some f)
-taken_from g e q f h = entry_from e e.what g.entries q f h
+pub taken_from : (g : Log) (lng : ℕ) (e : Entry) (q : ℕ) (f : Entry) → find q (accepted g lng e).entries ≡ Some f → ((q ≡ e.number) × (f ≡ e)) ⊎ (find q g.entries ≡ Some f)
+taken_from g lng e q f h = entry_from e e.what g.entries q f h
 
 -- an entry stays, is replaced, or is taken away by a bridge below it
 entry_stays : (e : Entry) (w : What) (m : List (ℕ × Entry)) (q : ℕ) (f : Entry) → find q m ≡ Some f →

@@ -7,9 +7,9 @@ use Rattle.std.specs.List.{filter, AllByRecursion}
 use Rattle.std.specs.List.Sorted.{IsStrictlySortedBy}
 use Rattle.std.proofs.lemmas.Bool.{eq-eqb, eqb-true}
 use Rattle.std.proofs.lemmas.Bool.Decides.{nat_tests}
-use Rattle.ld_table.specs.Table.{find, put, keep, keep_keys, Ordered}
-use Rattle.ld_table.proofs.Laws.{find-put, find-keep, find-keep_keys, same_key, kept}
-use Rattle.ld_table.proofs.Order.{Ordered-put, Ordered-keep, same_table}
+use Rattle.ld_table.specs.Table.{find, put, take_out, keep, keep_keys, Ordered}
+use Rattle.ld_table.proofs.Laws.{find-put, find-take_out, find-keep, find-keep_keys, same_key, kept}
+use Rattle.ld_table.proofs.Order.{Ordered-put, Ordered-take_out, Ordered-keep, same_table, take_out_is}
 use Rattle.ld_msg.specs.declared.msg.Entry.{Entry}
 use Rattle.ld_op.specs.Places.{filled, filled_one, has_place, place_passes, starts_by, AreUnderTheirNumbers}
 
@@ -205,6 +205,18 @@ module _ {X : Type 0} where
 
   pub places_stay : (k : ℕ) (n s : List (ℕ × Option X)) → ((q : ℕ) → has_place q n ≡ cond (eqb q k) true (has_place q s)) → (q : ℕ) → has_place q s ≡ true → has_place q n ≡ true
   places_stay k n s h q t = h q ∙ still (eqb q k) (has_place q s) t
+
+  taken : (b : Bool) (o : Option (Option X)) → flat (cond b None o) ≡ cond b None (flat o)
+  taken true o = refl
+  taken false o = refl
+
+  -- what is taken out leaves the rest
+  pub filled-take_out : (k : ℕ) (m : List (ℕ × Option X)) → Ordered m → filled (take_out k m) ≡ take_out k (filled m)
+  filled-take_out k m h = same_table _ _ (Ordered-filled _ (Ordered-take_out k m h)) (Ordered-take_out k (filled m) (Ordered-filled m h))
+      (λ q. find-filled q _ (Ordered-take_out k m h) ∙ (ap flat (find-take_out q k m) ∙ (taken (eqb q k) (find q m) ∙ (ap (cond (eqb q k) None) (sym (find-filled q m h)) ∙ sym (find-take_out q k (filled m))))))
+
+  pub filled-take_out_by : (k : ℕ) (m n s : List (ℕ × Option X)) → Ordered m → Ordered n → m ≡ s → n ≡ map.remove_entry (is_at (nat_cmp k)) m → filled n ≡ take_out k (filled s)
+  filled-take_out_by k m n s h i v e = ap filled (take_out_is k m n h i e) ∙ (filled-take_out k m h ∙ ap (λ t. take_out k (filled t)) v)
 
   -- what stands under its number does so after an entry comes under its own
   commuted : (p : ℕ → X → Bool) (q k : ℕ) (v : X) (m : List (ℕ × X)) (b : Bool) → eqb q k ≡ b → p k v ≡ true → kept p q (cond b (Some v) (find q m)) ≡ cond b (Some v) (kept p q (find q m))

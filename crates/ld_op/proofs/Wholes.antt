@@ -37,8 +37,8 @@ unaccepted n d (Rec p) m u l h = behind n d m l h
 unaccepted n d Hole m u l h = behind n d m l h
 unaccepted n d Bridge m u l h = unbridged n d m u l (behind n d (keep (λ s f. survives_bridge d f) m) l h)
 
-pub whole_accepted : (g : Log) (d : Entry) (to : ℕ) → AreNumbered g → IsWhole g to → IsWhole (accepted g d) (min to d.number)
-whole_accepted g d to u w = λ epoch y n c l. elim (order n d.number) [
+pub whole_accepted : (g : Log) (lng : ℕ) (d : Entry) (to : ℕ) → AreNumbered g → IsWhole g to → IsWhole (accepted g lng d) (min to d.number)
+whole_accepted g lng d to u w = λ epoch y n c l. elim (order n d.number) [
   | inl b ↦ let i = w epoch y n c (l.0, (l.1.0, (l.1.1.0, (l.1.1.1.0, unaccepted n d d.what g.entries u b l.1.1.1.1)))) in omega arith
   | inr b ↦ omega arith
 ]

@@ -1,31 +1,16 @@
 -- The bytes of one part more.
-use Rattle.std.proofs.Common.{◌≡◌, ◌<◌, ◌+◌, ℕ, suc, zero, List, [], ◌∷◌, ◌++◌, refl, ap, sym, ◌∙◌, append_assoc, take, get_or, length, arith}
-use Rattle.std.proofs.lemmas.List.{append-nil, take_more}
+use Rattle.std.proofs.Common.{◌≡◌, ◌<◌, ◌+◌, ℕ, List, [], ◌∷◌, ◌++◌, refl, ap, sym, ◌∙◌, append_assoc, take, get_or, length}
+use Rattle.std.proofs.lemmas.List.{take_more}
 use Rattle.byteorder.specs.Endian.{big_bytes}
-use Rattle.ld_msg.specs.declared.msg.Entry.{Entry}
-use Rattle.ld_msg.specs.Bounds.{IsShort, AreEntries}
-use Rattle.ld_op.specs.Bytes.{entry_bytes, entries_bytes, epochs_bytes}
-
-entries_bytes-append : (es : List Entry) (e : Entry) → entries_bytes (es ++ e ∷ []) ≡ entries_bytes es ++ entry_bytes e
-entries_bytes-append [] e = append-nil (entry_bytes e)
-entries_bytes-append (f ∷ es) e = ap (λ r. entry_bytes f ++ r) (entries_bytes-append es e) ∙ sym (append_assoc (entry_bytes f) (entries_bytes es) (entry_bytes e))
+use Rattle.ld_op.specs.Bytes.{epochs_bytes}
 
 epochs_bytes-append : (ds : List (ℕ × ℕ)) (d : ℕ × ℕ) → epochs_bytes (ds ++ d ∷ []) ≡ epochs_bytes ds ++ (big_bytes 4 d.0 ++ big_bytes 4 d.1)
 epochs_bytes-append [] d = refl
 epochs_bytes-append (f ∷ ds) d = ap (λ r. big_bytes 4 f.0 ++ (big_bytes 4 f.1 ++ r)) (epochs_bytes-append ds d)
 
-pub entries_bytes-more : (es : List Entry) (i : ℕ) (e : Entry) (old : List ℕ) → i < length es → e ≡ get_or es i e → (old ++ entries_bytes (take i es)) ++ entry_bytes e ≡ old ++ entries_bytes (take (i + 1) es)
-entries_bytes-more es i e old h g = append_assoc old (entries_bytes (take i es)) (entry_bytes e)
-    ∙ ap (λ r. old ++ r) (sym (entries_bytes-append (take i es) e) ∙ ap entries_bytes (ap (λ x. take i es ++ x ∷ []) g ∙ sym (take_more es i e h)))
-
 pub epochs_bytes-more : (ds : List (ℕ × ℕ)) (i : ℕ) (d : ℕ × ℕ) (old : List ℕ) → i < length ds → d ≡ get_or ds i d → ((old ++ epochs_bytes (take i ds)) ++ big_bytes 4 d.0) ++ big_bytes 4 d.1 ≡ old ++ epochs_bytes (take (i + 1) ds)
 epochs_bytes-more ds i d old h g = append_assoc (old ++ epochs_bytes (take i ds)) (big_bytes 4 d.0) (big_bytes 4 d.1) ∙ (append_assoc old (epochs_bytes (take i ds)) (big_bytes 4 d.0 ++ big_bytes 4 d.1)
     ∙ ap (λ r. old ++ r) (sym (epochs_bytes-append (take i ds) d) ∙ ap epochs_bytes (ap (λ x. take i ds ++ x ∷ []) g ∙ sym (take_more ds i d h))))
-
-pub short_at : (es : List Entry) (i : ℕ) (d : Entry) → AreEntries es → i < length es → IsShort (get_or es i d).what
-short_at [] i d h l = absurd (omega arith)
-short_at (e ∷ es) zero d h l = h.0.short
-short_at (e ∷ es) (suc i) d h l = short_at es i d h.1 (omega arith)
 
 pub three : (old a b c p r : List ℕ) → p ≡ (old ++ a) ++ b → r ≡ p ++ c → r ≡ old ++ (a ++ (b ++ c))
 three old a b c p r h k = k ∙ (ap (λ x. x ++ c) h ∙ (append_assoc (old ++ a) b c ∙ append_assoc old a (b ++ c)))

@@ -2,7 +2,7 @@
 use Rattle.std.specs.Prelude.{ℕ, ◌≤◌, ◌+◌, List, [], ◌∷◌, length}
 use Rattle.ld_ids.specs.Id.{IsLog}
 use Rattle.ld_msg.specs.declared.msg.Entry.{Entry}
-use Rattle.ld_msg.specs.Bounds.{Is32, Is64, IsEpoch, IsEntry, IsSummary, AreEntries}
+use Rattle.ld_msg.specs.Bounds.{Is32, IsLng, Is64, IsEpoch, IsEntry, IsSummary, AreEntries}
 use Rattle.ld_op.specs.declared.op.Op.{Op}
 use Rattle.ld_op.specs.declared.op.Op.TheVariants as ops
 
@@ -19,7 +19,7 @@ RiseFrom from (e ∷ es) = (from ≤ e.number) × RiseFrom (e.number + 1) es
 -- the count of a format's logs is one byte
 abbrev pub IsOp : Op → Type 0
 IsOp (ops.Format generation epochs) = Is32 generation × (length epochs ≤ 255) × AreEpochs 1 epochs
-IsOp (ops.Accept l lng e) = IsLog l × Is32 lng × IsEntry e
+IsOp (ops.Accept l lng e) = IsLog l × IsLng lng × IsEntry e
 IsOp (ops.Seal l b) = IsLog l × IsEpoch b
 IsOp (ops.Clean l epoch y) = IsLog l × IsEpoch epoch × IsSummary epoch y
 IsOp (ops.Trim l t) = IsLog l × Is64 t

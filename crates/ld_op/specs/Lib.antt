@@ -12,7 +12,5 @@ pub mod Shown
 pub mod Rising
 pub mod ShownPlain
 pub mod Picks
-pub mod Fields
 pub mod Bytes
 pub mod Judged
-pub mod Resumed

@@ -1,7 +1,7 @@
 -- A node's plain state, and what each op does to it.
 use Rattle.std.specs.Prelude.{ℕ, ◌+◌, max, List, [], ◌∷◌, length, Option, Some, None, Bool, false, ◌&&◌, ◌||◌, not, ◌==◌, nat_lt, nat_le, if◌then◌else◌}
 use Rattle.std.specs.Option.{unwrap_or}
-use Rattle.ld_table.specs.Table.{find, put, keep, keep_keys}
+use Rattle.ld_table.specs.Table.{find, put, take_out, keep, keep_keys}
 use Rattle.ld_lsn.specs.Number.{epoch_of, esn_of, numbered}
 use Rattle.ld_msg.specs.declared.msg.What.{What}
 use Rattle.ld_msg.specs.declared.msg.What.TheVariants.{Rec, Hole, Bridge}
@@ -10,17 +10,18 @@ use Rattle.ld_msg.specs.declared.msg.Summary.{Summary}
 use Rattle.ld_op.specs.declared.op.Op.{Op}
 use Rattle.ld_op.specs.declared.op.Op.TheVariants as ops
 
--- one log's: the greatest ballot seen, the trim, the entries by number, the summaries of the clean epochs, and the epoch up to which it is lost, kept once it is refilled
+-- one log's: the greatest ballot seen, the trim, the entries by number, the summaries of the clean epochs, the last known good places that accepted stores told of the others, and the epoch up to which it is lost, kept once it is refilled
 pub record Log : Type 0 where
   pub sealed : ℕ
   pub trim : ℕ
   pub entries : List (ℕ × Entry)
   pub summaries : List (ℕ × Summary)
+  pub lngs : List (ℕ × ℕ)
   pub lost : Bool
   pub lost_to : ℕ
 
 abbrev pub empty_log : Log
-empty_log = record { sealed = 0; trim = 0; entries = []; summaries = []; lost = false; lost_to = 0 }
+empty_log = record { sealed = 0; trim = 0; entries = []; summaries = []; lngs = []; lost = false; lost_to = 0 }
 
 -- the generation, 0 before the store is formatted, and the logs
 pub record Plain : Type 0 where
@@ -64,8 +65,18 @@ accept_entry e (Rec p) m = put e.number e m
 accept_entry e Hole m = put e.number e m
 accept_entry e Bridge m = put e.number e (keep (λ s f. survives_bridge e f) m)
 
-abbrev pub accepted : Log → Entry → Log
-accepted g e = record g { sealed = e.ballot; entries = accept_entry e e.what g.entries }
+-- the greatest last known good place that was told of an epoch; none is kept of 0
+abbrev pub lng_in : List (ℕ × ℕ) → ℕ → ℕ
+lng_in m epoch = unwrap_or (find epoch m) 0
+
+abbrev pub lng_at : Log → ℕ → ℕ
+lng_at g epoch = lng_in g.lngs epoch
+
+abbrev pub raised_lng : ℕ → ℕ → List (ℕ × ℕ) → List (ℕ × ℕ)
+raised_lng epoch lng m = if nat_lt (lng_in m epoch) lng then put epoch lng m else m
+
+abbrev pub accepted : Log → ℕ → Entry → Log
+accepted g lng e = record g { sealed = e.ballot; entries = accept_entry e e.what g.entries; lngs = raised_lng (epoch_of e.number) lng g.lngs }
 
 abbrev pub sealed_by : Log → ℕ → Log
 sealed_by g b = record g { sealed = b }
@@ -79,7 +90,7 @@ abbrev pub survives_clean : ℕ → ℕ → Summary → Entry → Bool
 survives_clean trim epoch y e = nat_lt trim e.number && (not (epoch_of e.number == epoch) || (nat_le y.ballot e.ballot || nat_le (esn_of e.number) y.lng))
 
 abbrev pub cleaned : Log → ℕ → Summary → Log
-cleaned g epoch y = record g { trim = max g.trim y.trim; entries = keep (λ s e. survives_clean (max g.trim y.trim) epoch y e) g.entries; summaries = put epoch y g.summaries }
+cleaned g epoch y = record g { trim = max g.trim y.trim; entries = keep (λ s e. survives_clean (max g.trim y.trim) epoch y e) g.entries; summaries = put epoch y g.summaries; lngs = take_out epoch g.lngs }
 
 abbrev pub refill_entries : List Entry → List (ℕ × Entry) → List (ℕ × Entry)
 refill_entries [] m = m
@@ -104,7 +115,7 @@ with_log p l g = record p { logs = put l g p.logs }
 -- the plain state after an op
 unfoldable pub apply : Plain → Op → Plain
 apply p (ops.Format generation epochs) = record { generation = generation; logs = lost_logs epochs }
-apply p (ops.Accept l lng e) = with_log p l (accepted (log_of p l) e)
+apply p (ops.Accept l lng e) = with_log p l (accepted (log_of p l) lng e)
 apply p (ops.Seal l b) = with_log p l (sealed_by (log_of p l) b)
 apply p (ops.Clean l epoch y) = with_log p l (cleaned (log_of p l) epoch y)
 apply p (ops.Trim l t) = with_log p l (trimmed_to (log_of p l) t)

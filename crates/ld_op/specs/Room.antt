@@ -1,6 +1,7 @@
 -- A node's plain state beside the room that was made for ops to come.
 use Rattle.std.specs.Prelude.{◌≡◌, ℕ, List, [], ◌∷◌, Option, Some, None, Bool, true, false, ◌&&◌, if◌then◌else◌}
 use Rattle.ld_table.specs.Table.{find, map_values}
+use Rattle.ld_lsn.specs.Number.{epoch_of}
 use Rattle.ld_msg.specs.declared.msg.Entry.{Entry}
 use Rattle.ld_msg.specs.declared.msg.Summary.{Summary}
 use Rattle.ld_op.specs.declared.op.Op.{Op}
@@ -8,12 +9,13 @@ use Rattle.ld_op.specs.declared.op.Op.TheVariants as ops
 use Rattle.ld_op.specs.Plain.{Log, Plain, empty_log, accepted, sealed_by, cleaned, trimmed_to, refilled_with, refilled, lost_logs}
 use Rattle.ld_op.specs.Places.{filled, has_place}
 
--- one log's state: whether the log is there yet, what it holds, and the places made for entries and summaries
+-- one log's state: whether the log is there yet, what it holds, and the places made for entries, summaries and last known good places
 pub record Held : Type 0 where
   pub there : Bool
   pub log : Log
   pub places : List (ℕ × Option Entry)
   pub epochs : List (ℕ × Option Summary)
+  pub lngs : List (ℕ × Option ℕ)
 
 abbrev pub if_there : Held → Option Log
 if_there h = if h.there then Some h.log else None
@@ -47,7 +49,7 @@ log_named (ops.Refilled l) = Some l
 -- what an op makes of its log
 abbrev pub log_after : Log → Op → Log
 log_after g (ops.Format generation epochs) = g
-log_after g (ops.Accept l lng e) = accepted g e
+log_after g (ops.Accept l lng e) = accepted g lng e
 log_after g (ops.Seal l b) = sealed_by g b
 log_after g (ops.Clean l epoch y) = cleaned g epoch y
 log_after g (ops.Trim l t) = trimmed_to g t
@@ -58,10 +60,10 @@ abbrev pub have_places : List Entry → List (ℕ × Option Entry) → Bool
 have_places [] m = true
 have_places (e ∷ es) m = has_place e.number m && have_places es m
 
--- a place for each entry and summary of an op
+-- a place for each entry, summary and last known good place of an op
 abbrev pub log_has_room : Held → Op → Bool
 log_has_room h (ops.Format generation epochs) = true
-log_has_room h (ops.Accept l lng e) = has_place e.number h.places
+log_has_room h (ops.Accept l lng e) = has_place e.number h.places && has_place (epoch_of e.number) h.lngs
 log_has_room h (ops.Seal l b) = true
 log_has_room h (ops.Clean l epoch y) = has_place epoch h.epochs
 log_has_room h (ops.Trim l t) = true

@@ -1,14 +1,12 @@
 // Writing ops.
-ghost use Rattle.std.specs.Prelude.{◌≡◌, ◌≤◌, ◌<◌, ◌+◌, ◌^◌, ◌++◌, length, OnOk, OnErr, IfOk, take};
+ghost use Rattle.std.specs.Prelude.{◌≡◌, ◌≤◌, ◌++◌, length, OnOk, OnErr, IfOk};
 ghost use Rattle.byteorder.specs.Endian.{big_bytes};
-ghost use Rattle.ld_msg.specs.Bounds.{IsShort, AreEntries};
 ghost use Rattle.ld_op.specs.Bounds.{IsOp};
-ghost use Rattle.ld_op.specs.Bytes.{what_bytes, entry_bytes, entries_bytes, summary_bytes, epochs_bytes, op_bytes};
+ghost use Rattle.ld_op.specs.Bytes.{epochs_bytes, op_bytes};
 
 use crate::Op;
-use byteorder::{BigEndian, ByteOrder};
+use ld_fields::{put_entries, put_entry, put_number, put_summary, put_u8, put_u16, put_u32};
 use ld_ids::{LogId, NoMemory};
-use ld_msg::{Entry, Summary, What};
 use std::alloc::Global;
 
 impl Op {
@@ -61,7 +59,7 @@ impl Op {
             }
             Op::Trim { log, trim } => {
                 put_head(out, 5, *log)?;
-                put_u64(out, trim.value())
+                put_number(out, *trim)
             }
             Op::Refill { log, entries } => {
                 put_head(out, 6, *log)?;
@@ -92,40 +90,6 @@ fn put_head(out: &mut Vec<u8>, kind: u8, log: LogId) -> Result<(), NoMemory>
     put_u32(out, log.number())
 }
 
-fn put_u8(out: &mut Vec<u8>, number: u8) -> Result<(), NoMemory>
-    ensures { OnOk result (out.new.items ≡ out.old.items ++ big_bytes 1 number) }
-{
-    out.push(number)?;
-    Ok(())
-}
-
-fn put_u16(out: &mut Vec<u8>, number: u16) -> Result<(), NoMemory>
-    ensures { OnOk result (out.new.items ≡ out.old.items ++ big_bytes 2 number) }
-{
-    let mut bytes = [0; 2];
-    BigEndian::write_u16(&mut bytes, number);
-    out.extend_from_slice(&bytes)?;
-    Ok(())
-}
-
-fn put_u32(out: &mut Vec<u8>, number: u32) -> Result<(), NoMemory>
-    ensures { OnOk result (out.new.items ≡ out.old.items ++ big_bytes 4 number) }
-{
-    let mut bytes = [0; 4];
-    BigEndian::write_u32(&mut bytes, number);
-    out.extend_from_slice(&bytes)?;
-    Ok(())
-}
-
-fn put_u64(out: &mut Vec<u8>, number: u64) -> Result<(), NoMemory>
-    ensures { OnOk result (out.new.items ≡ out.old.items ++ big_bytes 8 number) }
-{
-    let mut bytes = [0; 8];
-    BigEndian::write_u64(&mut bytes, number);
-    out.extend_from_slice(&bytes)?;
-    Ok(())
-}
-
 fn put_epochs(out: &mut Vec<u8>, epochs: &[(LogId, u32)]) -> Result<(), NoMemory>
     ensures { OnOk result (out.new.items ≡ out.old.items ++ epochs_bytes epochs.now) }
 {
@@ -134,49 +98,4 @@ fn put_epochs(out: &mut Vec<u8>, epochs: &[(LogId, u32)]) -> Result<(), NoMemory
         put_u32(out, *epoch)?;
     }
     Ok(())
-}
-
-fn put_summary(out: &mut Vec<u8>, summary: &Summary) -> Result<(), NoMemory>
-    ensures { OnOk result (out.new.items ≡ out.old.items ++ summary_bytes summary.now) }
-{
-    put_u32(out, summary.ballot)?;
-    put_u32(out, summary.lng)?;
-    put_u64(out, summary.trim.value())?;
-    put_u32(out, summary.end)
-}
-
-fn put_entries(out: &mut Vec<u8>, entries: &[Entry]) -> Result<(), NoMemory>
-    requires { AreEntries entries.now }
-    ensures { OnOk result (out.new.items ≡ out.old.items ++ entries_bytes entries.now) }
-{
-    for entry in entries {
-        put_entry(out, entry)?;
-    }
-    Ok(())
-}
-
-fn put_entry(out: &mut Vec<u8>, entry: &Entry) -> Result<(), NoMemory>
-    requires { IsShort entry.now.what }
-    ensures { OnOk result (out.new.items ≡ out.old.items ++ entry_bytes entry.now) }
-{
-    put_u64(out, entry.number.value())?;
-    put_u32(out, entry.ballot)?;
-    put_what(out, &entry.what)
-}
-
-fn put_what(out: &mut Vec<u8>, what: &What) -> Result<(), NoMemory>
-    requires { IsShort what.now }
-    ensures { OnOk result (out.new.items ≡ out.old.items ++ what_bytes what.now) }
-{
-    match what {
-        What::Rec(payload) => {
-            let bytes = payload.bytes();
-            put_u8(out, 0)?;
-            put_u16(out, bytes.len() as u16)?;
-            out.extend_from_slice(bytes)?;
-            Ok(())
-        }
-        What::Hole => put_u8(out, 1),
-        What::Bridge => put_u8(out, 2),
-    }
 }

@@ -1,7 +1,4 @@
 // Why bytes are no op.
-ghost use Rattle.std.specs.Prelude.{◌≡◌};
-
-use ld_ids::NoMemory;
 use thiserror::Error;
 
 /// Why bytes were not read as an op.
@@ -14,15 +11,4 @@ pub enum OpFault {
     /// There is no memory left.
     #[error("out of memory")]
     NoMemory,
-}
-
-impl From<NoMemory> for OpFault {
-    ghost use Rattle.std.specs.Prelude.{◌≡◌};
-    ghost use Rattle.ld_op.specs.declared.fault.OpFault.TheVariants as faults;
-
-    ghost from_gives = { λ e f. f ≡ faults.NoMemory };
-
-    fn from(_: NoMemory) -> OpFault {
-        OpFault::NoMemory
-    }
 }

@@ -5,7 +5,7 @@ mod decode;
 mod encode;
 mod entries;
 mod fault;
-mod field;
+mod known_good;
 mod log;
 mod logs;
 mod missing;

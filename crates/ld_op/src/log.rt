@@ -1,7 +1,8 @@
 // One log's part of a node's plain state.
 ghost use Rattle.std.specs.Prelude.{◌≡◌, ◌≢◌, true, false, None, OnOk, IfOk, option_copied, take, min, max};
 ghost use Rattle.ld_table.specs.Table.{find, first_from, Ordered};
-ghost use Rattle.ld_op.specs.Plain.{empty_log, epoch_zero, summary_at, lost_log, accepted, sealed_by, cleaned, trimmed_to, refilled_with, refilled};
+ghost use Rattle.ld_lsn.specs.Number.{epoch_of};
+ghost use Rattle.ld_op.specs.Plain.{empty_log, epoch_zero, summary_at, lng_at, lost_log, accepted, sealed_by, cleaned, trimmed_to, refilled_with, refilled};
 ghost use Rattle.ld_op.specs.Places.{has_place};
 ghost use Rattle.ld_op.specs.Picks.{picked};
 ghost use Rattle.ld_op.specs.Ticks.{lowest_unclean};
@@ -10,6 +11,7 @@ ghost use Rattle.ld_op.specs.Whole.{EndInEpochs};
 ghost use Rattle.ld_op.specs.Room.{log_after, log_has_room, log_named, have_places};
 
 use crate::entries::EntryMap;
+use crate::known_good::KnownGood;
 use crate::summaries::SummaryMap;
 use crate::{Excerpt, Op};
 use ld_ids::NoMemory;
@@ -27,6 +29,7 @@ pub(crate) struct LogState {
     trim: Lsn,
     entries: EntryMap,
     summaries: SummaryMap,
+    lngs: KnownGood,
     lost: bool,
     lost_to: u32,
     pub(crate) whole: Lsn,
@@ -61,6 +64,7 @@ impl LogState {
             trim: Lsn::from_u64(0),
             entries: EntryMap::new(alloc),
             summaries: SummaryMap::new(alloc),
+            lngs: KnownGood::new(alloc),
             lost: false,
             lost_to: 0,
             whole: Lsn::from_u64(0),
@@ -79,6 +83,7 @@ impl LogState {
             trim: Lsn::from_u64(0),
             entries: EntryMap::new(alloc),
             summaries: SummaryMap::new(alloc),
+            lngs: KnownGood::new(alloc),
             lost: 0 < epoch,
             lost_to: epoch,
             whole: Lsn::from_u64(0),
@@ -139,6 +144,13 @@ impl LogState {
         self.summaries.get(epoch)
     }
 
+    /// The last known good place that is kept of the epoch, 0 where none is.
+    pub(crate) fn lng(&self, epoch: u32) -> u32
+        ensures { result ≡ lng_at self.now.log epoch }
+    {
+        self.lngs.get(epoch)
+    }
+
     /// The epochs of the summaries rise, and their ends are places of an epoch.
     pub(crate) fn summaries_rise(&self)
         ensures ordered { Ordered self.now.log.summaries }
@@ -183,16 +195,18 @@ impl LogState {
             .excerpt(alloc, from.value(), last.value(), bridges)
     }
 
-    /// Takes an entry, which has a place.
-    fn accept(&mut self, entry: Entry)
-        requires { has_place entry.number self.old.places ≡ true }
-        ensures log { self.new.log ≡ accepted self.old.log entry }
+    /// Takes an entry, which has a place, and a last known good place of its epoch, which has one too.
+    fn accept(&mut self, lng: u32, entry: Entry)
+        requires entry { has_place entry.number self.old.places ≡ true }
+        requires lng { has_place (epoch_of entry.number) self.old.lngs ≡ true }
+        ensures log { self.new.log ≡ accepted self.old.log lng entry }
         ensures there { self.new.there ≡ true }
     {
         self.entries.numbers_agree();
         self.there = true;
         self.sealed = entry.ballot;
         self.whole = earlier(self.whole, entry.number);
+        self.lngs.raise(entry.number.epoch(), lng);
         self.entries.accept(entry);
     }
 
@@ -227,6 +241,7 @@ impl LogState {
         self.whole = earlier(self.whole, Lsn::new(epoch, 0));
         self.entries.close(self.trim.value(), epoch, &summary);
         self.summaries.put(epoch, summary);
+        self.lngs.forget(epoch);
     }
 
     /// Nothing is missing any more.
@@ -266,7 +281,10 @@ impl LogState {
         ensures room { OnOk result (log_has_room self.new op.now ≡ true) }
     {
         match op {
-            Op::Accept { entry, .. } => self.entries.reserve(entry.number.value()),
+            Op::Accept { entry, .. } => {
+                self.entries.reserve(entry.number.value())?;
+                self.lngs.reserve(entry.number.epoch())
+            }
             Op::Clean { epoch, .. } => self.summaries.reserve(*epoch),
             Op::Refill { entries, .. } => self.entries.reserve_all(entries.as_slice()),
             Op::Format { .. } => Ok(()),
@@ -299,7 +317,7 @@ impl LogState {
         let _ = self.is_there();
         match op {
             Op::Format { .. } => {}
-            Op::Accept { entry, .. } => self.accept(entry),
+            Op::Accept { lng, entry, .. } => self.accept(lng, entry),
             Op::Seal { ballot, .. } => self.seal(ballot),
             Op::Clean { epoch, summary, .. } => self.close(epoch, summary),
             Op::Trim { trim, .. } => self.trim_to(trim),

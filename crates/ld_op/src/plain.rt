@@ -2,7 +2,7 @@
 ghost use Rattle.std.specs.Prelude.{◌≡◌, [], None, OnOk, IfOk, option_copied, take};
 ghost use Rattle.ld_table.specs.Table.{find, Ordered};
 ghost use Rattle.ld_table.specs.Words.{first};
-ghost use Rattle.ld_op.specs.Plain.{empty_log, unformatted, log_of, summary_at, is_lost, end_here, apply, lost_logs};
+ghost use Rattle.ld_op.specs.Plain.{empty_log, unformatted, log_of, summary_at, lng_at, is_lost, end_here, apply, lost_logs};
 ghost use Rattle.ld_op.specs.Room.{HasRoom, held_log, log_named, there_of};
 ghost use Rattle.ld_op.specs.Rising.{IsRising};
 ghost use Rattle.ld_op.specs.Picks.{picked};
@@ -107,6 +107,17 @@ impl Plain {
         match self.log(log) {
             Some(state) => state.kept_summary(epoch),
             None => None,
+        }
+    }
+
+    /// The last known good place that stores told of the epoch, 0 where none did or the epoch is clean here.
+    #[tactic(auto, using(ld_table::proofs::Laws::table_rules))]
+    pub fn lng(&self, log: LogId, epoch: u32) -> u32
+        ensures { result ≡ lng_at (log_of self.now.state log) epoch }
+    {
+        match self.log(log) {
+            Some(state) => state.lng(epoch),
+            None => 0,
         }
     }
 

@@ -204,6 +204,39 @@ fn entries_are_judged(rt: HostRuntime) -> Result<(), Fail> {
     Ok(())
 }
 
+// A hole at e1n2 with the greatest last known good place.
+const KNOWN_GOOD: &[u8] = &[
+    2, 0, 0, 0, 1, 255, 255, 255, 254, 0, 0, 0, 1, 0, 0, 0, 2, 0, 0, 0, 2, 1,
+];
+
+#[test]
+fn known_good_places_are_judged(rt: HostRuntime) -> Result<(), Fail> {
+    let alloc = rt.alloc();
+    assert!(rt; is_same_again(alloc, KNOWN_GOOD)?);
+    // The greatest place of an epoch, in an accepted store.
+    assert!(rt;
+        is_off_at(
+            alloc,
+            5,
+            &[
+                2, 0, 0, 0, 1, 255, 255, 255, 255, 0, 0, 0, 1, 0, 0, 0, 2, 0, 0, 0, 2, 1
+            ]
+        )
+    );
+    // The same, in a close.
+    assert!(rt;
+        is_off_at(
+            alloc,
+            13,
+            &[
+                4, 0, 0, 0, 1, 0, 0, 0, 1, 0, 0, 0, 2, 255, 255, 255, 255, 0, 0, 0, 0, 0, 0, 0, 0,
+                0, 0, 0, 4
+            ]
+        )
+    );
+    Ok(())
+}
+
 #[test]
 fn closes_trims_and_refills_are_judged(rt: HostRuntime) -> Result<(), Fail> {
     let alloc = rt.alloc();

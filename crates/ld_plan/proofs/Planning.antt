@@ -5,7 +5,7 @@ use Rattle.ld_table.specs.Words.{numbers_from}
 use Rattle.ld_lsn.specs.Number.{numbered}
 use Rattle.ld_msg.specs.declared.msg.Entry.{Entry}
 use Rattle.ld_msg.specs.declared.msg.What.TheVariants.{Bridge}
-use Rattle.ld_msg.specs.Digest.{Told, Item, best, content, record_items, places_between, top_place, plan, plan_to, plan_end, digest_trim, trim_place}
+use Rattle.ld_msg.specs.Digest.{Told, Item, best, content, record_items, places_between, top_place, plan, plan_to, plan_end, plan_floor, digest_trim, digest_lng}
 use Rattle.ld_plan.specs.Claims.{Decided}
 use Rattle.ld_plan.specs.Decision.{IsDecision, record_items_from}
 
@@ -28,14 +28,14 @@ one_item epoch entries place end items more lt e =
     ∙ ap (λ k. items ++ record_items_from epoch entries place k) (sym left))
 
 -- a plan with the parts of the definition is the definition's
-pub plan_is : (epoch : ℕ) (d : List Told) (c : Decided) (t end : ℕ) (items : List Item) → IsDecision d c → t ≡ trim_place epoch (digest_trim d) → end ≡ suc (max c.top t) → items ≡ record_items_from epoch c.entries (t + 1) (end - (t + 1)) ++ record { number = numbered epoch end; what = Bridge } ∷ []
-    → record { trim = digest_trim d; end = end; items = items } ≡ plan epoch d
+pub plan_is : (epoch : ℕ) (d : List Told) (c : Decided) (t end : ℕ) (items : List Item) → IsDecision d c → t ≡ plan_floor epoch d → end ≡ suc (max c.top t) → items ≡ record_items_from epoch c.entries (t + 1) (end - (t + 1)) ++ record { number = numbered epoch end; what = Bridge } ∷ []
+    → record { trim = digest_trim d; lng = digest_lng d; end = end; items = items } ≡ plan epoch d
 unfolding plan plan_end
 plan_is epoch d c t end items h place e i =
     let end_is : end ≡ plan_end epoch d = e ∙ (ap (λ k. suc (max k t)) h.top ∙ ap (λ k. suc (max (top_place d d) k)) place) in
     let between : end - (t + 1) ≡ end - 1 - t = omega arith in
     let items_is : items ≡ record_items epoch d (places_between t end) ++ record { number = numbered epoch end; what = Bridge } ∷ [] =
     i ∙ ap (λ l. l ++ record { number = numbered epoch end; what = Bridge } ∷ []) (ap (record_items_from epoch c.entries (t + 1)) between ∙ items_are epoch d c h (t + 1) (end - 1 - t)) in
-    ap (λ l. record { trim = digest_trim d; end = end; items = l }) items_is
-    ∙ (ap (λ k. record { trim = digest_trim d; end = end; items = record_items epoch d (places_between k end) ++ record { number = numbered epoch end; what = Bridge } ∷ [] }) place
+    ap (λ l. record { trim = digest_trim d; lng = digest_lng d; end = end; items = l }) items_is
+    ∙ (ap (λ k. record { trim = digest_trim d; lng = digest_lng d; end = end; items = record_items epoch d (places_between k end) ++ record { number = numbered epoch end; what = Bridge } ∷ [] }) place
     ∙ ap (plan_to epoch d) end_is)

@@ -99,7 +99,7 @@ best_in_place : (s : ℕ) (d : List Told) (e : Entry) → IsInPlace d → best s
 unfolding best
 best_in_place s [] e p h c = absurd cc
 best_in_place s (t ∷ d) e p h c = elim (either (statement s t.entries) (best s d) e h) [
-  | inl here ↦ in_place s t.entries e p.0 here c
+  | inl here ↦ in_place s t.entries e p.0.0 here c
   | inr later ↦ best_in_place s d e p.1 later c
 ]
 

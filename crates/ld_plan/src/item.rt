@@ -78,11 +78,12 @@ impl Items {
     }
 }
 
-/// How an epoch is to be closed: its trim as it was found, the place of its bridge, and what is to
-/// stand under each number above the trim, the bridge last.
+/// How an epoch is to be closed: its trim as it was found, its last known good place, the place of its
+/// bridge, and what is to stand under each number above both, the bridge last.
 #[derive(Debug, Drop)]
 pub struct Plan {
     pub trim: Lsn,
+    pub lng: u32,
     pub end: u32,
     pub items: Items,
 }
@@ -92,5 +93,5 @@ impl Model for Plan {
 
     ghost Value = { Plan };
 
-    ghost view = { λ plan. record { trim = plan.trim; end = plan.end; items = plan.items } };
+    ghost view = { λ plan. record { trim = plan.trim; lng = plan.lng; end = plan.end; items = plan.items } };
 }

@@ -114,8 +114,8 @@ fn items(
 /// The statement of a number is that of the greatest ballot over all entries of the number and all
 /// bridges below it; of equal ballots the lowest node's, and of one node's the entry's. The end is
 /// one above the greatest place whose statement is a record or hole, at least 1, and above the
-/// trim. Above the trim and below the end stands the record where the statement is one, else a
-/// hole; at the end stands the bridge.
+/// trim and the greatest last known good place that was told. Above these two and below the end stands
+/// the record where the statement is one, else a hole; at the end stands the bridge.
 ///
 /// It takes the time of sorting the digest's entries, and that of a look-up for each item.
 #[tactic(auto, unfolding(ld_msg::specs::Digest::plan, ld_msg::specs::Digest::plan_end))]
@@ -126,9 +126,16 @@ pub fn plan(alloc: Global, digest: &Digest) -> Result<Plan, NoMemory>
     let told = digest.told();
     let decided = decided(alloc, told)?;
     let trim = greatest_trim(told);
-    let below = trim_place(epoch, trim);
-    let end = decided.top().max(below) + 1;
-    let mut items = items(alloc, epoch, &decided, below + 1, end)?;
+    let lng = digest.lng();
+    let trimmed = trim_place(epoch, trim);
+    let floor = trimmed.max(lng);
+    let end = decided.top().max(floor) + 1;
+    let mut items = items(alloc, epoch, &decided, floor + 1, end)?;
     items.push(Lsn::new(epoch, end), What::Bridge)?;
-    Ok(Plan { trim, end, items })
+    Ok(Plan {
+        trim,
+        lng,
+        end,
+        items,
+    })
 }

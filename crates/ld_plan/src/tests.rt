@@ -48,12 +48,13 @@ fn records(alloc: Global, list: &[(u32, u32, u8)]) -> Result<Entries, NoMemory>
     Ok(entries)
 }
 
-// A node tells all that it has: a trim to a place of epoch 1, and records.
+// A node tells all that it has: a trim to a place of epoch 1, a last known good place, and records.
 fn tells(
     alloc: Global,
     digest: &mut Digest,
     node: NodeId,
     trim: u32,
+    lng: u32,
     list: &[(u32, u32, u8)],
 ) -> Result<(), NoMemory> {
     let entries = records(alloc, list)?;
@@ -61,6 +62,7 @@ fn tells(
         from: Lsn::new(1, 1),
         upto: Lsn::new(1, LAST),
         trim: Lsn::new(1, trim),
+        lng: lng.min(LAST - 1),
         entries: &entries,
     };
     digest.add(alloc, node, &page)?;
@@ -88,8 +90,8 @@ fn a_lone_record_is_kept_and_the_gap_before_it_is_a_hole(rt: HostRuntime) -> Res
     let one = NodeId::new(1).expect(&rt, "a node");
     let two = NodeId::new(2).expect(&rt, "a node");
     let mut digest = nothing_told(alloc, LogId::new(1).expect(&rt, "a log"))?;
-    tells(alloc, &mut digest, one, 0, &[(1, 1, 1), (3, 1, 3)])?;
-    tells(alloc, &mut digest, two, 0, &[(1, 1, 1)])?;
+    tells(alloc, &mut digest, one, 0, 0, &[(1, 1, 1), (3, 1, 3)])?;
+    tells(alloc, &mut digest, two, 0, 0, &[(1, 1, 1)])?;
     let all = planned(alloc, &digest)?;
     assert!(rt; all.as_slice() == [1, 100, 3, 101].as_slice());
     Ok(())
@@ -101,10 +103,21 @@ fn trimmed_numbers_are_not_plugged(rt: HostRuntime) -> Result<(), Fail> {
     let one = NodeId::new(1).expect(&rt, "a node");
     let two = NodeId::new(2).expect(&rt, "a node");
     let mut digest = nothing_told(alloc, LogId::new(1).expect(&rt, "a log"))?;
-    tells(alloc, &mut digest, one, 0, &[(1, 1, 1), (3, 1, 3)])?;
-    tells(alloc, &mut digest, two, 3, &[])?;
+    tells(alloc, &mut digest, one, 0, 0, &[(1, 1, 1), (3, 1, 3)])?;
+    tells(alloc, &mut digest, two, 3, 0, &[])?;
     let all = planned(alloc, &digest)?;
     assert!(rt; all.as_slice() == [101].as_slice());
+    Ok(())
+}
+
+#[test]
+fn what_is_known_good_is_not_planned(rt: HostRuntime) -> Result<(), Fail> {
+    let alloc = rt.alloc();
+    let one = NodeId::new(1).expect(&rt, "a node");
+    let mut digest = nothing_told(alloc, LogId::new(1).expect(&rt, "a log"))?;
+    tells(alloc, &mut digest, one, 0, 2, &[(2, 1, 2), (3, 1, 3)])?;
+    let all = planned(alloc, &digest)?;
+    assert!(rt; all.as_slice() == [3, 101].as_slice());
     Ok(())
 }
 
@@ -114,8 +127,8 @@ fn the_greatest_ballot_decides(rt: HostRuntime) -> Result<(), Fail> {
     let one = NodeId::new(1).expect(&rt, "a node");
     let two = NodeId::new(2).expect(&rt, "a node");
     let mut digest = nothing_told(alloc, LogId::new(1).expect(&rt, "a log"))?;
-    tells(alloc, &mut digest, one, 0, &[(1, 1, 7)])?;
-    tells(alloc, &mut digest, two, 0, &[(1, 2, 9)])?;
+    tells(alloc, &mut digest, one, 0, 0, &[(1, 1, 7)])?;
+    tells(alloc, &mut digest, two, 0, 0, &[(1, 2, 9)])?;
     let all = planned(alloc, &digest)?;
     assert!(rt; all.as_slice() == [9, 101].as_slice());
     Ok(())

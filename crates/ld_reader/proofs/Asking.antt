@@ -6,7 +6,7 @@ use Rattle.ld_msg.specs.declared.msg.Msg.{Msg}
 use Rattle.ld_msg.specs.declared.msg.Who.TheVariants as whos
 use Rattle.ld_msg.specs.declared.msg.Body.TheVariants as bodies
 use Rattle.ld_msg.specs.Reader.{asks_of}
-use Rattle.ld_gap.proofs.Places.{drop_at_place}
+use Rattle.ld_table.proofs.Places.{drop_at_place}
 use Rattle.ld_reader.specs.Following.{messages_from}
 
 -- the message to one node

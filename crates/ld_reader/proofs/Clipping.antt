@@ -38,18 +38,18 @@ not_yet_clipped until (Confirms l) e = absurd cc
 not_yet_clipped until NotYet e = refl
 
 -- what one item more leaves to give
-pub record StepsOn (set : List ℕ) (d : Reader) (x : Item) : Type 0 where
+pub record StepsOn (d : Reader) (x : Item) : Type 0 where
   pub falls : rows_left (after_item d x) < rows_left d
-  pub after : after set (after_item d x) ≡ after set d
-  pub items : all_clipped d.until (given set d) ≡ (d.next, x) ∷ all_clipped d.until (given set (after_item d x))
+  pub after : after (after_item d x) ≡ after d
+  pub items : all_clipped d.until (given d) ≡ (d.next, x) ∷ all_clipped d.until (given (after_item d x))
 
-pub steps_on : (set : List ℕ) (d : Reader) (x : Item) → 0 < d.next → Gives x ≡ clipped_verdict d.until (verdict set d) → StepsOn set d x
-steps_on set d x p e =
-    let g = gives_clipped d.until (verdict set d) x e in
+pub steps_on : (d : Reader) (x : Item) → 0 < d.next → Gives x ≡ clipped_verdict d.until (verdict d) → StepsOn d x
+steps_on d x p e =
+    let g = gives_clipped d.until (verdict d) x e in
     let same : after_item d x ≡ after_item d g.0 = ap (after_item d) g.2 ∙ after_clipped d g.0 in
-    let first = item_first set d g.0 p g.1 in
+    let first = item_first d g.0 p g.1 in
     record {
-      falls = subst (λ (r : Reader). rows_left r < rows_left d) (sym same) (left_falls set d g.0 p g.1);
-      after = ap (λ (r : Reader). after set r) same ∙ sym first.1;
-      items = ap (all_clipped d.until) first.0 ∙ ap (λ y. (d.next, y) ∷ all_clipped d.until (given set (after_item d g.0))) (sym g.2) ∙ ap (λ r. (d.next, x) ∷ all_clipped d.until (given set r)) (sym same);
+      falls = subst (λ (r : Reader). rows_left r < rows_left d) (sym same) (left_falls d g.0 p g.1);
+      after = ap (λ (r : Reader). after r) same ∙ sym first.1;
+      items = ap (all_clipped d.until) first.0 ∙ ap (λ y. (d.next, y) ∷ all_clipped d.until (given (after_item d g.0))) (sym g.2) ∙ ap (λ r. (d.next, x) ∷ all_clipped d.until (given r)) (sym same);
     }

@@ -10,7 +10,7 @@ use Rattle.ld_msg.specs.declared.msg.What.TheVariants.{Rec, Hole, Bridge}
 use Rattle.ld_msg.specs.declared.msg.Entry.{Entry}
 use Rattle.ld_msg.specs.declared.msg.Body.{Body}
 use Rattle.ld_msg.specs.declared.msg.Body.TheVariants as bodies
-use Rattle.ld_msg.specs.Reading.{Held, Item, TrimTo, RecordHere, HoleHere, BridgeTo, Verdict, Gives, Confirms, NotYet, decide, trim_told, trim_held, record_held, hole_held, end_held, entry_at, page_at, record_of, is_hole, shows_end, entry_verdict, loss_verdict, is_loss, lost_held}
+use Rattle.ld_msg.specs.Reading.{Held, Item, TrimTo, RecordHere, HoleHere, BridgeTo, Verdict, Gives, Confirms, NotYet, decide, trim_told, trim_held, record_held, hole_held, end_held, entry_at, page_at, record_of, is_hole, shows_end, entry_verdict, loss_verdict, is_loss, within, lost_held}
 use Rattle.ld_msg.specs.Reader.{item_end}
 use Rattle.ld_reader.specs.Given.{entries_from, rows_of, rows_from}
 
@@ -102,7 +102,7 @@ hole_falls s (x ∷ hs) e = elim (is_hole (page_at s x.1.body)) as (λ b. is_hol
 past_end : (s : ℕ) → home_epoch s < home_epoch (epoch_end (home_epoch s) + 1)
 past_end s = omega (arith, home_is (epoch_end (home_epoch s) + 1))
 
-below_end : (s : ℕ) → s ≤ epoch_end (home_epoch s)
+pub below_end : (s : ℕ) → s ≤ epoch_end (home_epoch s)
 below_end s = omega (arith, home_is s)
 
 ended_falls : (s : ℕ) (b : Body) → shows_end s b ≡ true → rows_of (epoch_end (home_epoch s) + 1) b < rows_of s b
@@ -124,8 +124,8 @@ by_entries s hs (Some p) h other i here hole rest e = let same : RecordHere p �
 by_entries s hs None true other i here hole rest e = let same : HoleHere ≡ i = cc in rw (← same) (hole_falls s hs hole)
 by_entries s hs None false other i here hole rest e = rest e
 
-no_loss : (s : ℕ) (mc : Bool) (set : List ℕ) (hs : List (ℕ × Held)) (i : Item) → loss_verdict s mc set hs ≡ Gives i → ⊥
-no_loss s mc set hs i e = elim (mc && is_loss s set hs) as (λ b. (if b then Confirms (lost_held s hs) else NotYet) ≡ Gives i → ⊥) [
+pub no_loss : (s : ℕ) (mc : Bool) (set : List ℕ) (hs : List (ℕ × Held)) (i : Item) → loss_verdict s mc set hs ≡ Gives i → ⊥
+no_loss s mc set hs i e = elim (mc && is_loss s set hs) as (λ b. (if b then Confirms (lost_held s (within set hs)) else NotYet) ≡ Gives i → ⊥) [
   | true ↦ λ f. cc
   | false ↦ λ f. cc
 ] e

@@ -1,7 +1,9 @@
+pub mod Answering
 pub mod Asking
+pub mod Clipping
 pub mod Falling
 pub mod Giving
 pub mod Keys
-pub mod Clipping
+pub mod Looking
 pub mod Rows
-pub mod Answering
+pub mod Tiling

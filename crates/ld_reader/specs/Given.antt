@@ -27,20 +27,20 @@ rows_from s (h ∷ hs) = rows_of s h.1.body + rows_from s hs
 abbrev pub rows_left : Reader → ℕ
 rows_left d = if is_finished d then 0 else suc (rows_from d.next d.held)
 
-unfoldable pub given_by : ℕ → List ℕ → Reader → List (ℕ × Item)
-given_by zero set d = []
-given_by (suc k) set d = elim (verdict set d) [ Gives i ↦ (d.next, i) ∷ given_by k set (after_item d i) | Confirms lost ↦ [] | NotYet ↦ [] ]
+unfoldable pub given_by : ℕ → Reader → List (ℕ × Item)
+given_by zero d = []
+given_by (suc k) d = elim (verdict d) [ Gives i ↦ (d.next, i) ∷ given_by k (after_item d i) | Confirms lost ↦ [] | NotYet ↦ [] ]
 
-unfoldable pub after_by : ℕ → List ℕ → Reader → Reader
-after_by zero set d = d
-after_by (suc k) set d = elim (verdict set d) [ Gives i ↦ after_by k set (after_item d i) | Confirms lost ↦ d | NotYet ↦ d ]
+unfoldable pub after_by : ℕ → Reader → Reader
+after_by zero d = d
+after_by (suc k) d = elim (verdict d) [ Gives i ↦ after_by k (after_item d i) | Confirms lost ↦ d | NotYet ↦ d ]
 
 -- the items that a reader gives, and what it is then
-unfoldable pub given : List ℕ → Reader → List (ℕ × Item)
-given set d = given_by (rows_left d) set d
+unfoldable pub given : Reader → List (ℕ × Item)
+given d = given_by (rows_left d) d
 
-unfoldable pub after : List ℕ → Reader → Reader
-after set d = after_by (rows_left d) set d
+unfoldable pub after : Reader → Reader
+after d = after_by (rows_left d) d
 
 -- the verdict that ends it
 abbrev pub ended : Option (List (ℕ × ℕ)) → Verdict

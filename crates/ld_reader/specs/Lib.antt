@@ -1,4 +1,9 @@
 pub mod Clipped
+pub mod Course
+pub mod Faults
 pub mod Following
 pub mod Given
+pub mod Looks
+pub mod Place
 pub mod Shown
+pub mod Tiling

@@ -1,7 +1,11 @@
 -- What a reader's values stand for.
-use Rattle.std.specs.Prelude.{ℕ, ◌+◌, List, Option, Some, None}
+use Rattle.std.specs.Prelude.{ℕ, List, Option, Some, None}
+use Rattle.std.specs.Option.{unwrap_or}
+use Rattle.ld_ids.specs.declared.set.Spec.{Spec}
 use Rattle.ld_msg.specs.Reading as reading
+use Rattle.ld_msg.specs.Register as registers
 use Rattle.ld_msg.specs.Reader.{Confirmation}
+use Rattle.ld_register.specs.declared.register.View.{View}
 use Rattle.ld_reader.specs.declared.item.Item.{Item}
 use Rattle.ld_reader.specs.declared.item.Item.TheVariants as items
 use Rattle.ld_reader.specs.declared.item.Step.{Step}
@@ -15,11 +19,6 @@ shown_item items.Hole = reading.HoleHere
 shown_item (items.Bridge last) = reading.BridgeTo last
 shown_item items.Loss = reading.LossHere
 
--- past the last number there is no next one to ask for
-abbrev pub shown_next : Option ℕ → ℕ → ℕ
-shown_next None until = until + 1
-shown_next (Some next) until = next
-
 abbrev pub shown_confirming : Option Asked → List ℕ → Option Confirmation
 shown_confirming None told = None
 shown_confirming (Some a) told = Some (record { round = a.round; asked = a.lost; told = told })
@@ -28,3 +27,7 @@ abbrev pub shown_step : Step → reading.Verdict
 shown_step (steps.Gives item) = reading.Gives (shown_item item)
 shown_step (steps.Confirms lost) = reading.Confirms lost
 shown_step steps.NotYet = reading.NotYet
+
+-- what a register shows of an epoch: where nothing was fixed, the log's first nodes, factor and extras count
+abbrev pub shown_view : Spec → ℕ → View → registers.View
+shown_view first e v = record { at = e; epoch = v.epoch; lce = v.lce; summary = v.summary; spec = unwrap_or v.spec first }

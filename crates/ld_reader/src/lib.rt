@@ -3,10 +3,17 @@
 
 mod asked;
 mod asks;
+mod course;
+mod fault;
 mod item;
+mod laws;
+mod place;
 mod reader;
+mod seen;
 #[cfg(test)]
 mod tests;
 
+pub use fault::ReaderFault;
 pub use item::{Given, Item, Items};
+pub use laws::{items_join, items_stay_within};
 pub use reader::Reader;

@@ -1,24 +1,36 @@
 // A reader of a log.
-ghost use Rattle.std.specs.Prelude.{◌≡◌, ◌≤◌, ◌<◌, ◌++◌, ◌∷◌, [], ◌&&◌, not, Bool, false, IfSome, IfOk, OnOk, OnErr, All, ℕ};
+ghost use Rattle.std.specs.Prelude.{◌≡◌, ◌≤◌, ◌<◌, ◌+◌, ◌++◌, ◌⊎◌, [], ◌&&◌, not, false, IfOk, IfErr, OnOk, OnErr, IsErrOf, All, ℕ, List};
+ghost use Rattle.ld_io.specs.Causes.{Rose};
 ghost use Rattle.ld_table.specs.Words.{any_of};
 ghost use Rattle.ld_ids.specs.Set.{members};
-ghost use Rattle.ld_ids.specs.Choice.{nodes_of};
+ghost use Rattle.ld_lsn.specs.Number.{home_epoch};
 ghost use Rattle.ld_msg.specs.Bounds.{IsMessage, last_reader};
-ghost use Rattle.ld_msg.specs.Reader.{opened, is_finished, asks_of, heard, after_item, is_confirmed, verdict, last_round, confirms, is_confirming, reaches, loses, on_answer};
-ghost use Rattle.ld_msg.specs.Reading.{Confirms};
+ghost use Rattle.ld_msg.specs.Register.{Register as Contents, View as Shown};
+ghost use Rattle.ld_msg.specs.Reader.{opened, is_finished, asks_of, heard as hears, is_confirmed as all_told, verdict, may_confirm as may_confirm_in, last_round, is_confirming, reaches, loses};
+ghost use Rattle.ld_register.specs.Calls.{Keeps};
+ghost use Rattle.ld_register.specs.declared.fault.RegisterFault.TheVariants as registers;
 ghost use Rattle.ld_reader.specs.Clipped.{all_clipped, clipped_verdict};
-ghost use Rattle.ld_reader.specs.Following.{messages_from, asked, asks, noted, nothing_read, going_on, read_so_far, replied, with_reader};
+ghost use Rattle.ld_reader.specs.Course.{lasting, unnoted, unheard, placed, on_course, followed, begun, begun_asks, begins as begins_round};
+ghost use Rattle.ld_reader.specs.Faults.{IsOfLook};
+ghost use Rattle.ld_reader.specs.Following.{messages_from, asked as asks, noted as notes, read_so_far, replied, with_reader, HasDone};
 ghost use Rattle.ld_reader.specs.Given.{given, after, ended};
-ghost use Rattle.ld_reader.specs.Shown.{shown_item, shown_step};
+ghost use Rattle.ld_reader.specs.Looks.{looks_of, IsLook, AreLooks};
+ghost use Rattle.ld_reader.specs.Place.{is_past};
+ghost use Rattle.ld_reader.specs.Shown.{shown_step};
+ghost use Rattle.ld_reader.specs.Tiling.{Tiles};
 
 use crate::asked::{Asked, contains};
 use crate::asks::Ask;
+use crate::course::Course;
 use crate::item::Step;
-use crate::{Item, Items};
-use ld_gap::{Held, Lost, Verdict, decide, round_of};
+use crate::place::Place;
+use crate::seen::{Seen, has_seen, seen_nodes};
+use crate::{Item, Items, ReaderFault};
+use ld_gap::{Held, Lost, Replaced, Verdict, decide, round_of};
 use ld_ids::{NoMemory, NodeId, NodeSet, Spec};
 use ld_lsn::Lsn;
 use ld_msg::{Body, Msg, Outbox, Who};
+use ld_register::Register;
 use std::alloc::Global;
 use std::marker::Model;
 
@@ -26,50 +38,65 @@ use std::marker::Model;
 const LAST_ROUND: u32 = u32::MAX;
 
 /// A reader of a log: it has given all items below its next number, and holds what the nodes have
-/// answered.
+/// answered, and what its last look showed.
 #[derive(Drop)]
 pub struct Reader {
-    spec: Spec,
+    first: Spec,
     number: u32,
-    next: Option<Lsn>,
-    until: Lsn,
+    place: Place,
     round: u32,
     held: Held,
     asked: Option<Asked>,
     told: Vec<NodeId>,
+    seen: Option<Seen>,
 }
 
 impl Model for Reader {
     ghost use Rattle.std.specs.Prelude.{◌≤◌};
-    ghost use Rattle.std.specs.Option.{ForSome};
     ghost use Rattle.ld_msg.specs.Bounds.{last_reader};
     ghost use Rattle.ld_reader.specs.Following.{Following};
-    ghost use Rattle.ld_reader.specs.Shown.{shown_next, shown_confirming};
+    ghost use Rattle.ld_reader.specs.Shown.{shown_confirming};
 
     ghost Value = { Following };
 
     ghost view = { λ a. record {
-      spec = a.spec;
+      first = a.first;
       reader = record {
-        log = a.spec.log;
+        log = a.first.log;
         number = a.number;
-        next = shown_next a.next a.until;
-        until = a.until;
+        next = a.place.next;
+        until = a.place.until;
         round = a.round;
         held = a.held;
         confirming = shown_confirming a.asked a.told.items;
+        seen = a.seen;
       };
     } };
 
-    ghost invariant = { λ a. (a.number ≤ last_reader) × ForSome a.next (λ next. (1 ≤ next) × (next ≤ a.until)) };
+    ghost invariant = { λ a. a.number ≤ last_reader };
+}
+
+/// What an answer did to a confirmation: whether it lasts, and how many nodes had told before that
+/// they are lost still.
+#[derive(Drop)]
+pub struct Noted {
+    lasts: bool,
+    told: usize,
+}
+
+/// What an answer did before any item followed from it.
+#[derive(Drop)]
+pub struct Heard {
+    noted: Noted,
+    replaced: Option<Replaced>,
 }
 
 impl Reader {
     /// A reader of the log from a number to another, both included; `number` is its place in the
-    /// order of opening, at most 999.
+    /// order of opening, at most 999. The nodes of `first` are asked where the register shows none.
     pub fn start(
         alloc: Global,
-        spec: &Spec,
+        first: &Spec,
         number: u32,
         from: Lsn,
         until: Lsn,
@@ -77,19 +104,19 @@ impl Reader {
         requires number { number ≤ last_reader }
         requires first { 1 ≤ from }
         requires last { from ≤ until }
-        ensures spec { IfOk result (λ reader. reader.spec ≡ spec.now) }
-        ensures reader { IfOk result (λ reader. reader.reader ≡ opened spec.now.log number from until) }
+        ensures first { IfOk result (λ reader. reader.first ≡ first.now) }
+        ensures reader { IfOk result (λ reader. reader.reader ≡ opened first.now.log number from until) }
     {
         let told = Vec::with_capacity(alloc, 16)?;
         Ok(Reader {
-            spec: *spec,
+            first: *first,
             number,
-            next: Some(from),
-            until,
+            place: Place::new(from, until),
             round: 0,
             held: Held::nothing(),
             asked: None,
             told,
+            seen: None,
         })
     }
 
@@ -97,28 +124,59 @@ impl Reader {
     pub fn finished(&self) -> bool
         ensures finished { result ≡ is_finished self.now.reader }
         ensures next { 0 < self.now.reader.next }
+        ensures within { self.now.reader.next ≤ self.now.reader.until + 1 }
     {
-        self.next.is_none()
+        self.place.is_past()
     }
 
-    // Asks the nodes for the next number. Without memory nothing is sent.
+    // Looks at the epoch of the next number of a place.
+    fn look<G: Register>(
+        &self,
+        alloc: Global,
+        place: &Place,
+        reg: &mut G,
+    ) -> Result<Seen, ReaderFault>
+        requires { is_past place.now ≡ false }
+        ensures exact { (c : Contents) → G.tells reg.old c → IfOk result (λ seen. (seen ≡ looks_of self.now c (home_epoch place.now.next)) × G.tells reg.new c) }
+        ensures foretold { (c : Contents) → G.tells reg.old c → IfErr result (λ fault. (fault ≡ ReaderFault.NoMemory) × G.tells reg.new c) }
+        ensures held { (c : Contents) → G.holds reg.old c → IfOk result (λ seen. (seen ≡ looks_of self.now c (home_epoch place.now.next)) × G.holds reg.new c) }
+        ensures shown { IfOk result (IsLook self.now.first self.now.reader.log (home_epoch place.now.next)) }
+        ensures whole { G.told reg.old → OnOk result ((c : Contents) × G.holds reg.old c) }
+        ensures told { G.told reg.old → G.told reg.new }
+        ensures same { (c : Contents) → G.may_hold reg.new c → G.may_hold reg.old c }
+        ensures survives { (cs : List Contents) → G.told reg.old → G.leaves reg.old cs → G.leaves reg.new cs }
+        ensures keeps { IsErrOf result (ReaderFault.Register registers.Failed) ⊎ Keeps (G.holds reg.old) (G.holds reg.new) (G.may_hold reg.old) (G.may_hold reg.new) }
+        ensures failed { IsErrOf result (ReaderFault.Register registers.Failed) → Rose (G.faults reg.old) (G.faults reg.new) }
+        ensures steady { IsErrOf result (ReaderFault.Register registers.Failed) ⊎ (G.faults reg.new ≡ G.faults reg.old) }
+        ensures damaged { (place : ℕ) → IsErrOf result (ReaderFault.Register (registers.Damaged place)) → G.told reg.old → G.damaged reg.old place }
+        ensures refused { IfErr result IsOfLook }
+        ensures counts { G.faults reg.old ≤ G.faults reg.new }
+        ensures itself { G.identity reg.new ≡ G.identity reg.old }
+    {
+        let epoch = place.epoch();
+        let view = reg.look(alloc, self.first.log, epoch)?;
+        Ok(Seen::new(&self.first, epoch, &view))
+    }
+
+    // Asks the nodes for the next number of a place. Without memory nothing is sent.
     fn send(
         &self,
         alloc: Global,
+        place: &Place,
         nodes: &NodeSet,
         round: u32,
         out: &mut Outbox,
     ) -> Result<(), NoMemory>
-        requires { is_finished self.now.reader ≡ false }
+        requires { is_past place.now ≡ false }
         ensures ok { OnOk result (out.new ≡ out.old ++ messages_from self.now.reader.number self.now.reader.log
-            (asks_of round self.now.reader.next (members nodes.now))) }
+            (asks_of round place.now.next (members nodes.now))) }
         ensures err { OnErr result (out.new ≡ out.old) }
         ensures messages { All IsMessage out.old → All IsMessage out.new }
     {
-        if let Some(from) = self.next {
+        if let Some(from) = place.next() {
             let ask = Ask {
                 reader: self.number,
-                log: self.spec.log,
+                log: self.first.log,
                 round,
                 from,
             };
@@ -127,65 +185,130 @@ impl Reader {
         Ok(())
     }
 
-    /// Asks all nodes of the log for the next number, under a new round; after the last round
-    /// nothing more is sent. This ends a confirmation. A reader that is finished asks nothing.
-    /// Each ask is a message that a frame can carry. Without memory nothing is sent, and the reader
-    /// is as it was.
-    pub fn ask(&mut self, alloc: Global, out: &mut Outbox) -> Result<(), NoMemory>
-        ensures reader { OnOk result (self.new ≡ with_reader self.old (asked self.old.reader)) }
+    // Begins a round at a place, with the look that was made there: the lost nodes are asked once
+    // more, or else all nodes that the look showed. Without memory nothing is sent, and the reader
+    // is as it was.
+    fn begin(
+        &mut self,
+        alloc: Global,
+        place: Place,
+        seen: Seen,
+        lost: Option<Lost>,
+        out: &mut Outbox,
+    ) -> Result<(), NoMemory>
+        requires unfinished { is_past place ≡ false }
+        requires round { self.old.reader.round < last_round }
+        ensures reader { OnOk result (self.new ≡ with_reader self.old (begun seen lost (placed self.old.reader place false))) }
         ensures sent { OnOk result (out.new ≡ out.old ++ messages_from self.old.reader.number self.old.reader.log
-            (asks (nodes_of self.old.spec) self.old.reader)) }
+            (begun_asks seen lost (placed self.old.reader place false))) }
         ensures reader_err { OnErr result (self.new ≡ self.old) }
         ensures sent_err { OnErr result (out.new ≡ out.old) }
+        ensures messages { All IsMessage out.old → All IsMessage out.new }
+    {
+        let round = self.round + 1;
+        let nodes = match &lost {
+            Some(lost) => lost.nodes(),
+            None => seen.nodes(),
+        };
+        self.send(alloc, &place, &nodes, round, out)?;
+        self.place = place;
+        self.round = round;
+        self.seen = Some(seen);
+        self.told.clear();
+        self.asked = match lost {
+            Some(lost) => Some(Asked { round, lost }),
+            None => None,
+        };
+        Ok(())
+    }
+
+    /// Looks at the epoch that the next number belongs to, and asks the nodes that the register
+    /// shows for the next number, under a new round; after the last round nothing more is sent, and
+    /// no look is made. This ends a confirmation. A reader that is finished looks at nothing and
+    /// asks nothing. Each ask is a message that a frame can carry.
+    ///
+    /// It is refused with `Register` and `Failed` or `Damaged` exactly as the look is, and for want
+    /// of memory. Then nothing is sent, and the reader is as it was. A look changes nothing of the
+    /// register.
+    pub fn ask<G: Register>(
+        &mut self,
+        alloc: Global,
+        reg: &mut G,
+        out: &mut Outbox,
+    ) -> Result<(), ReaderFault>
+        ensures exact { (c : Contents) → G.tells reg.old c
+            → OnOk result (HasDone self.old self.new [] out.old out.new (asks (looks_of self.old c) self.old.reader) × G.tells reg.new c) }
+        ensures foretold { (c : Contents) → G.tells reg.old c → IfErr result (λ fault. (fault ≡ ReaderFault.NoMemory) × G.tells reg.new c) }
+        ensures held { (c : Contents) → G.holds reg.old c
+            → OnOk result (HasDone self.old self.new [] out.old out.new (asks (looks_of self.old c) self.old.reader) × G.holds reg.new c) }
+        ensures acted { OnOk result ((looks : ℕ → Shown) × AreLooks self.old looks × HasDone self.old self.new [] out.old out.new (asks looks self.old.reader)) }
+        ensures reader_err { OnErr result (self.new ≡ self.old) }
+        ensures sent_err { OnErr result (out.new ≡ out.old) }
+        ensures whole { G.told reg.old → OnOk result ((self.new.reader.round ≡ self.old.reader.round) ⊎ ((c : Contents) × G.holds reg.old c)) }
+        ensures told { G.told reg.old → G.told reg.new }
+        ensures same { (c : Contents) → G.may_hold reg.new c → G.may_hold reg.old c }
+        ensures survives { (cs : List Contents) → G.told reg.old → G.leaves reg.old cs → G.leaves reg.new cs }
+        ensures keeps { IsErrOf result (ReaderFault.Register registers.Failed) ⊎ Keeps (G.holds reg.old) (G.holds reg.new) (G.may_hold reg.old) (G.may_hold reg.new) }
+        ensures failed { IsErrOf result (ReaderFault.Register registers.Failed) → Rose (G.faults reg.old) (G.faults reg.new) }
+        ensures steady { IsErrOf result (ReaderFault.Register registers.Failed) ⊎ (G.faults reg.new ≡ G.faults reg.old) }
+        ensures damaged { (place : ℕ) → IsErrOf result (ReaderFault.Register (registers.Damaged place)) → G.told reg.old → G.damaged reg.old place }
+        ensures refused { IfErr result IsOfLook }
+        ensures counts { G.faults reg.old ≤ G.faults reg.new }
+        ensures itself { G.identity reg.new ≡ G.identity reg.old }
         ensures messages { All IsMessage out.old → All IsMessage out.new }
     {
         if self.finished() {
             return Ok(());
         }
-        if self.round < LAST_ROUND {
-            let round = self.round + 1;
-            let nodes = self.spec.set;
-            self.send(alloc, &nodes, round, out)?;
-            self.round = round;
+        if self.round == LAST_ROUND {
+            self.asked = None;
+            return Ok(());
         }
-        self.asked = None;
+        let place = self.place.copy();
+        let seen = self.look(alloc, &place, reg)?;
+        self.begin(alloc, place, seen, None, out)?;
         Ok(())
     }
 
-    // What the answer does to a confirmation.
-    fn note(&mut self, node: NodeId, body: &Body) -> Result<(), NoMemory>
-        ensures { OnOk result (self.new ≡ with_reader self.old (noted self.old.reader node body.now)) }
+    // What the answer does to a confirmation, and how that is taken back.
+    fn note(&mut self, node: NodeId, body: &Body) -> Result<Noted, NoMemory>
+        ensures noted { IfOk result (λ noted. with_reader self.new (lasting noted.lasts self.new.reader) ≡ with_reader self.old (notes self.old.reader node body.now)) }
+        ensures back { IfOk result (λ noted. unnoted noted self.new ≡ self.old) }
+        ensures err { OnErr result (self.new ≡ self.old) }
     {
-        let told_so = match &self.asked {
+        let told = self.told.len();
+        let lasts = match &self.asked {
             Some(asked) if round_of(body) == asked.round => asked.confirms(node, body),
-            _ => return Ok(()),
+            _ => return Ok(Noted { lasts: true, told }),
         };
-        if !told_so {
-            self.asked = None;
-        } else if !contains(&self.told, node) {
+        if lasts && !contains(&self.told, node) {
             self.told.push(node)?;
         }
-        Ok(())
+        Ok(Noted { lasts, told })
     }
 
-    // Gives an item, which ends a confirmation.
-    fn give(&mut self, item: Item, items: &mut Items) -> Result<(), NoMemory>
-        requires { is_finished self.old.reader ≡ false }
-        ensures reader { OnOk result (self.new ≡ with_reader self.old (after_item self.old.reader (shown_item item))) }
-        ensures items { OnOk result (items.new ≡ items.old ++ (self.old.reader.next, shown_item item) ∷ []) }
+    // Holds the answer, and tells how that is taken back.
+    fn hear(&mut self, node: NodeId, body: Body) -> Result<Heard, NoMemory>
+        ensures heard { IfOk result (λ heard. with_reader self.new (lasting heard.noted.lasts self.new.reader) ≡ with_reader self.old (hears self.old.reader node body)) }
+        ensures back { IfOk result (λ heard. unheard heard self.new ≡ self.old) }
+        ensures err { OnErr result (self.new ≡ self.old) }
     {
-        if let Some(from) = self.next {
-            let last = item.last(from);
-            items.push(from, item)?;
-            self.next = if last < self.until { last.next() } else { None };
-            self.asked = None;
-        }
-        Ok(())
+        let noted = self.note(node, &body)?;
+        let replaced = self.held.hold(node, body);
+        Ok(Heard { noted, replaced })
+    }
+
+    // Takes back what was heard.
+    fn unhear(&mut self, heard: Heard)
+        ensures { self.new ≡ unheard heard self.old }
+    {
+        self.held.restore(heard.replaced);
+        self.told.truncate(heard.noted.told);
     }
 
     // Whether all nodes that were asked once more are lost still.
     fn is_confirmed(&self) -> bool
-        ensures { result ≡ is_confirmed self.now.reader.confirming }
+        ensures { result ≡ all_told self.now.reader.confirming }
     {
         match &self.asked {
             Some(asked) => asked.are_all_in(&self.told),
@@ -193,34 +316,57 @@ impl Reader {
         }
     }
 
-    // Holds the answer, and gives the loss of the next number where it is confirmed.
-    fn hear(&mut self, node: NodeId, body: Body, items: &mut Items) -> Result<(), NoMemory>
-        requires { is_finished self.old.reader ≡ false }
-        ensures reader { OnOk result (self.new
-            ≡ with_reader self.old (loses (heard self.old.reader node body)).reader) }
-        ensures items { OnOk result (items.new
-            ≡ items.old ++ all_clipped self.old.reader.until (loses (heard self.old.reader node body)).items) }
-    {
-        self.note(node, &body)?;
-        self.held.hold(node, body);
-        if self.is_confirmed() {
-            self.give(Item::Loss, items)?;
-        }
-        Ok(())
-    }
-
-    // What follows from the answers that are held.
-    fn step(&self, alloc: Global) -> Result<Step, NoMemory>
-        ensures step { IfOk result (λ step. shown_step step ≡ clipped_verdict self.now.reader.until
-            (verdict (nodes_of self.now.spec) self.now.reader)) }
+    // The way begins with the loss of the next number, where it is confirmed.
+    fn set_out(&self, alloc: Global, lasts: bool) -> Result<Course, NoMemory>
+        requires { is_finished self.now.reader ≡ false }
+        ensures reader { IfOk result (λ course. on_course self.now.reader course ≡ (loses (lasting lasts self.now.reader)).reader) }
+        ensures items { IfOk result (λ course. course.items ≡ all_clipped self.now.reader.until (loses (lasting lasts self.now.reader)).items) }
         ensures next { 0 < self.now.reader.next }
     {
-        let Some(next) = self.next else {
+        let mut course = Course {
+            place: self.place.copy(),
+            confirming: lasts,
+            items: Items::empty(alloc),
+        };
+        if lasts && self.is_confirmed() {
+            course.give(Item::Loss)?;
+        }
+        Ok(course)
+    }
+
+    // Whether a confirmation lasts there.
+    fn confirms_on(&self, course: &Course) -> bool
+        ensures { result ≡ is_confirming (on_course self.now.reader course.now).confirming }
+    {
+        course.confirming && self.asked.is_some()
+    }
+
+    // Whether lost nodes may be asked once more there.
+    fn may_confirm(&self, course: &Course) -> bool
+        requires { is_past course.now.place ≡ false }
+        ensures { result ≡ may_confirm_in (on_course self.now.reader course.now) }
+    {
+        !self.confirms_on(course)
+            && self.round < LAST_ROUND
+            && has_seen(&self.seen, course.place.epoch())
+    }
+
+    // What follows there from the answers that are held.
+    fn step(&self, alloc: Global, course: &Course) -> Result<Step, NoMemory>
+        ensures step { IfOk result (λ step. shown_step step ≡ clipped_verdict course.now.place.until
+            (verdict (on_course self.now.reader course.now))) }
+        ensures next { 0 < course.now.place.next }
+    {
+        let Some(next) = course.place.next() else {
             return Ok(Step::NotYet);
         };
-        let may_confirm = self.asked.is_none() && self.round < LAST_ROUND;
-        match decide(next, may_confirm, &self.spec.set, &self.held) {
-            Verdict::Gives(item) => Ok(Step::Gives(Item::owned(alloc, item, self.until)?)),
+        let may_confirm = self.may_confirm(course);
+        match decide(next, may_confirm, &seen_nodes(&self.seen), &self.held) {
+            Verdict::Gives(item) => Ok(Step::Gives(Item::owned(
+                alloc,
+                item,
+                course.place.until(),
+            )?)),
             Verdict::Confirms(lost) => Ok(Step::Confirms(lost)),
             Verdict::NotYet => Ok(Step::NotYet),
         }
@@ -228,136 +374,153 @@ impl Reader {
 
     // Gives items while a row of the table gives one, and answers the nodes that are then to be
     // asked once more.
-    fn give_all(&mut self, alloc: Global, items: &mut Items) -> Result<Option<Lost>, NoMemory>
-        ensures reader { OnOk result (self.new
-            ≡ with_reader self.old (after (nodes_of self.old.spec) self.old.reader)) }
-        ensures items { OnOk result (items.new ≡ items.old
-            ++ all_clipped self.old.reader.until (given (nodes_of self.old.spec) self.old.reader)) }
-        ensures lost { IfOk result (λ lost. verdict (nodes_of self.old.spec)
-            (after (nodes_of self.old.spec) self.old.reader) ≡ ended lost) }
+    fn give_all(&self, alloc: Global, course: &mut Course) -> Result<Option<Lost>, NoMemory>
+        ensures reader { OnOk result (on_course self.now.reader course.new ≡ after (on_course self.now.reader course.old)) }
+        ensures items { OnOk result (course.new.items ≡ course.old.items
+            ++ all_clipped course.old.place.until (given (on_course self.now.reader course.old))) }
+        ensures lost { IfOk result (λ lost. verdict (after (on_course self.now.reader course.old)) ≡ ended lost) }
     {
         'rows: loop {
-            match self.step(alloc)? {
-                Step::Gives(item) => self.give(item, items)?,
+            match self.step(alloc, course)? {
+                Step::Gives(item) => course.give(item)?,
                 Step::Confirms(lost) => return Ok(Some(lost)),
                 Step::NotYet => return Ok(None),
             }
         }
     }
 
-    // Asks the lost nodes once more, under a new round.
-    fn confirm(&mut self, alloc: Global, lost: Lost, out: &mut Outbox) -> Result<(), NoMemory>
-        requires unfinished { is_finished self.old.reader ≡ false }
-        requires round { self.old.reader.round < last_round }
-        ensures reader { OnOk result (self.new
-            ≡ with_reader self.old (confirms (nothing_read self.old.reader) lost).reader) }
-        ensures sent { OnOk result (out.new ≡ out.old ++ messages_from self.old.reader.number self.old.reader.log
-            (confirms (nothing_read self.old.reader) lost).asks) }
-        ensures sent_err { OnErr result (out.new ≡ out.old) }
-        ensures messages { All IsMessage out.old → All IsMessage out.new }
+    // Whether a number is left there, no confirmation lasts, and no page that is held reaches it.
+    fn lacks_pages(&self, course: &Course) -> bool
+        ensures { result ≡ (not (is_finished (on_course self.now.reader course.now)) && (not (is_confirming (on_course self.now.reader course.now).confirming)
+            && not (any_of (λ h. reaches course.now.place.next h.1.body) self.now.reader.held))) }
     {
-        let round = self.round + 1;
-        self.send(alloc, &lost.nodes(), round, out)?;
-        self.round = round;
-        self.told.clear();
-        self.asked = Some(Asked { round, lost });
-        Ok(())
-    }
-
-    // Whether no confirmation lasts, and no page that is held reaches the next number.
-    fn lacks_pages(&self) -> bool
-        ensures { result ≡ (not (is_finished self.now.reader) && (not (is_confirming self.now.reader.confirming)
-            && not (any_of (λ h. reaches self.now.reader.next h.1.body) self.now.reader.held))) }
-    {
-        match self.next {
-            Some(next) => self.asked.is_none() && !self.held.reaches(next),
+        match course.place.next() {
+            Some(next) => !self.confirms_on(course) && !self.held.reaches(next),
             None => false,
         }
     }
 
-    // Asks the lost nodes once more, or all nodes where there is need.
-    fn go_on(
-        &mut self,
-        alloc: Global,
-        lost: Option<Lost>,
-        items: &Items,
-        out: &mut Outbox,
-    ) -> Result<(), NoMemory>
-        requires lost { IfSome lost (λ nodes. verdict (nodes_of self.old.spec) self.old.reader ≡ Confirms nodes) }
-        ensures reader { OnOk result (self.new ≡ with_reader self.old
-            (going_on (nodes_of self.old.spec) lost (read_so_far self.old.reader items.now)).reader) }
-        ensures sent { OnOk result (out.new ≡ out.old ++ messages_from self.old.reader.number self.old.reader.log
-            (going_on (nodes_of self.old.spec) lost (read_so_far self.old.reader items.now)).asks) }
-        ensures sent_err { OnErr result (out.new ≡ out.old) }
-        ensures messages { All IsMessage out.old → All IsMessage out.new }
+    // Whether a round begins there.
+    fn begins(&self, course: &Course, lost: &Option<Lost>) -> bool
+        ensures { result ≡ begins_round lost.now (read_so_far (on_course self.now.reader course.now) course.now.items) }
     {
         match lost {
-            Some(lost) => self.confirm(alloc, lost, out),
+            Some(_) => true,
             None => {
-                if !items.is_empty() && self.lacks_pages() {
-                    self.ask(alloc, out)?;
-                }
-                Ok(())
+                !course.items.is_empty() && self.lacks_pages(course) && self.round < LAST_ROUND
             }
         }
     }
 
-    // Takes the answer of a node.
-    fn read(
+    // Goes there without a round.
+    fn settle(&mut self, course: &Course)
+        ensures { self.new ≡ with_reader self.old (on_course self.old.reader course.now) }
+    {
+        self.place = course.place.copy();
+        if !course.confirming {
+            self.asked = None;
+        }
+    }
+
+    // Gives what follows from an answer that was heard, and begins the round that it needs.
+    fn follow<G: Register>(
         &mut self,
         alloc: Global,
-        node: NodeId,
-        body: Body,
+        lasts: bool,
+        reg: &mut G,
         out: &mut Outbox,
-    ) -> Result<Items, NoMemory>
-        requires unfinished { is_finished self.old.reader ≡ false }
-        requires next { 0 < self.old.reader.next }
-        ensures reader { OnOk result (self.new ≡ with_reader self.old
-            (on_answer (nodes_of self.old.spec) self.old.reader node body).reader) }
-        ensures items { IfOk result (λ items. items ≡ all_clipped self.old.reader.until
-            (on_answer (nodes_of self.old.spec) self.old.reader node body).items) }
-        ensures sent { OnOk result (out.new ≡ out.old ++ messages_from self.old.reader.number self.old.reader.log
-            (on_answer (nodes_of self.old.spec) self.old.reader node body).asks) }
+    ) -> Result<Items, ReaderFault>
+        requires { is_finished self.old.reader ≡ false }
+        ensures exact { (c : Contents) → G.tells reg.old c
+            → IfOk result (λ items. HasDone self.old self.new items out.old out.new (followed (looks_of self.old c) (lasting lasts self.old.reader)) × G.tells reg.new c) }
+        ensures foretold { (c : Contents) → G.tells reg.old c → IfErr result (λ fault. (fault ≡ ReaderFault.NoMemory) × G.tells reg.new c) }
+        ensures held { (c : Contents) → G.holds reg.old c
+            → IfOk result (λ items. HasDone self.old self.new items out.old out.new (followed (looks_of self.old c) (lasting lasts self.old.reader)) × G.holds reg.new c) }
+        ensures acted { IfOk result (λ items. (looks : ℕ → Shown) × AreLooks self.old looks × HasDone self.old self.new items out.old out.new (followed looks (lasting lasts self.old.reader))) }
+        ensures reader_err { OnErr result (self.new ≡ self.old) }
         ensures sent_err { OnErr result (out.new ≡ out.old) }
+        ensures whole { G.told reg.old → OnOk result ((self.new.reader.round ≡ self.old.reader.round) ⊎ ((c : Contents) × G.holds reg.old c)) }
+        ensures told { G.told reg.old → G.told reg.new }
+        ensures same { (c : Contents) → G.may_hold reg.new c → G.may_hold reg.old c }
+        ensures survives { (cs : List Contents) → G.told reg.old → G.leaves reg.old cs → G.leaves reg.new cs }
+        ensures keeps { IsErrOf result (ReaderFault.Register registers.Failed) ⊎ Keeps (G.holds reg.old) (G.holds reg.new) (G.may_hold reg.old) (G.may_hold reg.new) }
+        ensures failed { IsErrOf result (ReaderFault.Register registers.Failed) → Rose (G.faults reg.old) (G.faults reg.new) }
+        ensures steady { IsErrOf result (ReaderFault.Register registers.Failed) ⊎ (G.faults reg.new ≡ G.faults reg.old) }
+        ensures damaged { (place : ℕ) → IsErrOf result (ReaderFault.Register (registers.Damaged place)) → G.told reg.old → G.damaged reg.old place }
+        ensures refused { IfErr result IsOfLook }
+        ensures counts { G.faults reg.old ≤ G.faults reg.new }
+        ensures itself { G.identity reg.new ≡ G.identity reg.old }
         ensures messages { All IsMessage out.old → All IsMessage out.new }
     {
-        let mut items = Items::empty(alloc);
-        self.hear(node, body, &mut items)?;
-        let lost = self.give_all(alloc, &mut items)?;
-        self.go_on(alloc, lost, &items, out)?;
-        Ok(items)
+        let mut course = self.set_out(alloc, lasts)?;
+        let lost = self.give_all(alloc, &mut course)?;
+        if !self.begins(&course, &lost) {
+            self.settle(&course);
+            return Ok(course.items);
+        }
+        let seen = self.look(alloc, &course.place, reg)?;
+        self.begin(alloc, course.place, seen, lost, out)?;
+        Ok(course.items)
     }
 
     /// Takes a node's answer, and answers the items that follow from all answers that are held:
     /// first the loss of the next number, where this answer confirms it, then each item that a row
     /// of the table gives. Then the lost nodes are asked once more, where the table says so; or
-    /// else all nodes are asked under a new round, where there was an item, the reader isn't
-    /// finished, no confirmation lasts, and no page that is held reaches the next number.
+    /// else the nodes are asked under a new round, where there was an item, the reader isn't
+    /// finished, no confirmation lasts, and no page that is held reaches the next number. Each such
+    /// round begins with a look at the epoch that the next number belongs to, and asks the nodes
+    /// that the register shows.
     ///
     /// A message does nothing to a reader that is finished, or where it comes from no node. Each ask
-    /// is a message that a frame can carry. Without memory nothing is sent, and the reader is not to
-    /// be used again.
-    pub fn on_reply(
+    /// is a message that a frame can carry.
+    ///
+    /// It is refused with `Register` and `Failed` or `Damaged` exactly as the look is, and for want
+    /// of memory. Then no item is given, nothing is sent, and the reader is as it was: it doesn't
+    /// hold the answer. A look changes nothing of the register.
+    pub fn on_reply<G: Register>(
         &mut self,
         alloc: Global,
         msg: &Msg,
+        reg: &mut G,
         out: &mut Outbox,
-    ) -> Result<Items, NoMemory>
-        ensures reader { OnOk result (self.new ≡ with_reader self.old (replied self.old msg.now).reader) }
-        ensures items { IfOk result (λ items. items
-            ≡ all_clipped self.old.reader.until (replied self.old msg.now).items) }
-        ensures sent { OnOk result (out.new ≡ out.old ++ messages_from self.old.reader.number self.old.reader.log
-            (replied self.old msg.now).asks) }
+    ) -> Result<Items, ReaderFault>
+        ensures exact { (c : Contents) → G.tells reg.old c
+            → IfOk result (λ items. HasDone self.old self.new items out.old out.new (replied (looks_of self.old c) self.old msg.now) × G.tells reg.new c) }
+        ensures foretold { (c : Contents) → G.tells reg.old c → IfErr result (λ fault. (fault ≡ ReaderFault.NoMemory) × G.tells reg.new c) }
+        ensures held { (c : Contents) → G.holds reg.old c
+            → IfOk result (λ items. HasDone self.old self.new items out.old out.new (replied (looks_of self.old c) self.old msg.now) × G.holds reg.new c) }
+        ensures acted { IfOk result (λ items. (looks : ℕ → Shown) × AreLooks self.old looks × HasDone self.old self.new items out.old out.new (replied looks self.old msg.now)) }
+        ensures tiles { IfOk result (λ items. Tiles self.old.reader.next items self.new.reader.next) }
+        ensures within { OnOk result (self.new.reader.next ≤ self.old.reader.until + 1) }
+        ensures reader_err { OnErr result (self.new ≡ self.old) }
         ensures sent_err { OnErr result (out.new ≡ out.old) }
+        ensures whole { G.told reg.old → OnOk result ((self.new.reader.round ≡ self.old.reader.round) ⊎ ((c : Contents) × G.holds reg.old c)) }
+        ensures told { G.told reg.old → G.told reg.new }
+        ensures same { (c : Contents) → G.may_hold reg.new c → G.may_hold reg.old c }
+        ensures survives { (cs : List Contents) → G.told reg.old → G.leaves reg.old cs → G.leaves reg.new cs }
+        ensures keeps { IsErrOf result (ReaderFault.Register registers.Failed) ⊎ Keeps (G.holds reg.old) (G.holds reg.new) (G.may_hold reg.old) (G.may_hold reg.new) }
+        ensures failed { IsErrOf result (ReaderFault.Register registers.Failed) → Rose (G.faults reg.old) (G.faults reg.new) }
+        ensures steady { IsErrOf result (ReaderFault.Register registers.Failed) ⊎ (G.faults reg.new ≡ G.faults reg.old) }
+        ensures damaged { (place : ℕ) → IsErrOf result (ReaderFault.Register (registers.Damaged place)) → G.told reg.old → G.damaged reg.old place }
+        ensures refused { IfErr result IsOfLook }
+        ensures counts { G.faults reg.old ≤ G.faults reg.new }
+        ensures itself { G.identity reg.new ≡ G.identity reg.old }
         ensures messages { All IsMessage out.old → All IsMessage out.new }
     {
-        let Who::Node(node) = msg.from else {
-            return Ok(Items::empty(alloc));
-        };
         if self.finished() {
             return Ok(Items::empty(alloc));
         }
+        let Who::Node(node) = msg.from else {
+            return Ok(Items::empty(alloc));
+        };
         let body = msg.body.copy(alloc)?;
-        self.read(alloc, node, body, out)
+        let heard = self.hear(node, body)?;
+        match self.follow(alloc, heard.noted.lasts, reg, out) {
+            Ok(items) => Ok(items),
+            Err(refused) => {
+                self.unhear(heard);
+                Err(refused)
+            }
+        }
     }
 }

@@ -62,7 +62,7 @@ pub fn digest(alloc: Global, plain: &Plain, msg: &Msg) -> Result<Msg, NoMemory>
                     from: *from,
                     upto: page.upto,
                     trim: plain.trim(msg.log),
-                    lng: 0,
+                    lng: plain.lng(msg.log, from.epoch()),
                     entries: page.entries,
                 },
             })

@@ -2,7 +2,9 @@
 #![tactic(auto)]
 
 mod answers;
+mod laws;
 #[cfg(test)]
 mod tests;
 
 pub use answers::{answer, digest};
+pub use laws::{digests_join, read_pages_join};

@@ -1,5 +1,5 @@
 // A disk over a file.
-ghost use Rattle.std.specs.Prelude.{◌≡◌, ◌<◌, ◌≤◌, ◌^◌, length, None, Ok, IfOk, true};
+ghost use Rattle.std.specs.Prelude.{◌≡◌, ◌<◌, ◌≤◌, ◌^◌, length, None, Ok, IfOk, OnOk, OnErr, is_ok, is_some, true, false};
 ghost use Rattle.ld_io.specs.Causes.{HasCause};
 
 use ld_disk::{Disk, Fault};
@@ -44,6 +44,7 @@ impl<'a, R: Files<File = File>> FileDisk<'a, R> {
     fn open(&mut self) -> io::Result<()>
         ensures faults { self.new.faults ≡ self.old.faults }
         ensures sync_failed { self.new.sync_failed ≡ self.old.sync_failed }
+        ensures open { is_ok result ≡ is_some self.new.file }
     {
         if self.file.is_none() {
             self.file = Some(open(self.rt, self.path)?);
@@ -70,9 +71,12 @@ impl<'a, R: Files<File = File>> FileDisk<'a, R> {
         opened(&self.file)?.write_all_at(bytes, at)
     }
 
-    /// Fails too where an earlier one has failed.
+    /// Fails too where an earlier one of the open file has failed.
     fn try_sync(&mut self) -> io::Result<()>
         ensures faults { self.new.faults ≡ self.old.faults }
+        ensures works { OnOk result ((self.old.sync_failed ≡ false) × (self.new.sync_failed ≡ false)) }
+        ensures fails { OnErr result (is_some self.new.file ≡ true → self.new.sync_failed ≡ true) }
+        ensures stays { self.old.sync_failed ≡ true → self.new.sync_failed ≡ true }
     {
         self.open()?;
         if self.sync_failed {
@@ -106,7 +110,9 @@ impl<'a, R: Files<File = File>> FileDisk<'a, R> {
 }
 
 /// The file that was opened.
-fn opened(file: &Option<File>) -> io::Result<&File> {
+fn opened(file: &Option<File>) -> io::Result<&File>
+    ensures { is_ok result ≡ is_some file.now }
+{
     match file {
         Some(file) => Ok(file),
         None => Err(ErrorKind::NotConnected.into()),

@@ -1,8 +1,8 @@
 // A link over the sockets of this machine.
-ghost use Rattle.std.specs.Prelude.{◌≡◌, ◌<◌, ◌≤◌, length, true, false, None, Ok, IfOk, IfSome, is_ok};
+ghost use Rattle.std.specs.Prelude.{◌≡◌, ◌<◌, ◌≤◌, ◌+◌, ◌^◌, length, true, false, None, Ok, IfOk, IfSome, OnErr, MatchOption, is_ok};
 ghost use Rattle.std.specs.Io.{ReadsAtMost, WritesAtMost};
 ghost use Rattle.ld_io.specs.Causes.{HasCause};
-ghost use Rattle.ld_real.specs.Dialed.{is_dialed};
+ghost use Rattle.ld_real.specs.Dialed.{is_dialed, is_broken};
 
 use ld_io::Failed;
 use ld_link::{Dial, Link};
@@ -105,6 +105,7 @@ impl<'a, R: Net<Listener = TcpListener, Stream = TcpStream>> TcpLink<'a, R> {
     fn count<T: Drop>(&mut self, answer: io::Result<T>) -> Result<T, Failed>
         ensures cause { HasCause self.old.faults self.new.faults result }
         ensures value { IfOk result (λ v. answer ≡ Ok v) }
+        ensures ok { is_ok result ≡ is_ok answer }
         ensures present { self.new.present ≡ self.old.present }
     {
         match answer {
@@ -150,13 +151,20 @@ fn is_of_a_peer(kind: ErrorKind) -> bool {
     )
 }
 
+/// The port that comes so many behind this one, where there is one.
+fn port_behind(port: u16, node: u8) -> Option<u16>
+    ensures { MatchOption result (2 ^ 16 ≤ port + node) (λ behind. behind ≡ port + node) }
+{
+    port.checked_add(u16::from(node))
+}
+
 /// Connects to the port of 127.0.0.1 that comes so many behind this one. Small messages go out at once.
 fn connected<R: Net<Listener = TcpListener, Stream = TcpStream>>(
     rt: &R,
     port: u16,
     node: u8,
 ) -> io::Result<TcpStream> {
-    let Some(port) = port.checked_add(u16::from(node)) else {
+    let Some(port) = port_behind(port, node) else {
         return Err(ErrorKind::InvalidInput.into());
     };
     let limit = Duration::from_secs(LIMIT);
@@ -171,6 +179,8 @@ fn connected<R: Net<Listener = TcpListener, Stream = TcpStream>>(
 /// Reads from a peer that was dialed. A connection that broke is closed.
 fn read_dialed(stream: &mut Option<TcpStream>, buf: &mut [u8]) -> io::Result<usize>
     ensures bound { ReadsAtMost result buf.new }
+    ensures broken { OnErr result (stream.new ≡ None) }
+    ensures stays { stream.old ≡ None → is_ok result ≡ false }
 {
     let answer = match stream {
         Some(stream) => read_from(stream, buf),
@@ -189,6 +199,8 @@ fn read_dialed(stream: &mut Option<TcpStream>, buf: &mut [u8]) -> io::Result<usi
 fn write_dialed(stream: &mut Option<TcpStream>, piece: &[u8]) -> io::Result<usize>
     ensures bound { WritesAtMost result piece.now }
     ensures some { IfOk result (λ n. 0 < length piece.now → 0 < n) }
+    ensures broken { OnErr result (stream.new ≡ None) }
+    ensures stays { stream.old ≡ None → is_ok result ≡ false }
 {
     let answer = match stream {
         Some(stream) => write_to(stream, piece),
@@ -255,6 +267,8 @@ impl<'a, R: Net<Listener = TcpListener, Stream = TcpStream>> Link for TcpLink<'a
         ensures bound { ReadsAtMost result buf.new }
         ensures cause { HasCause self.old.faults self.new.faults result }
         ensures no_fault { is_dialed self.old.present ≡ false → is_ok result ≡ true }
+        ensures broken { OnErr result (is_broken self.new.present ≡ true) }
+        ensures stays { is_broken self.old.present ≡ true → is_ok result ≡ false }
         ensures same { is_dialed self.new.present ≡ is_dialed self.old.present }
     {
         match &mut self.present {
@@ -279,6 +293,8 @@ impl<'a, R: Net<Listener = TcpListener, Stream = TcpStream>> Link for TcpLink<'a
         ensures some { IfOk result (λ n. 0 < length piece.now → 0 < n) }
         ensures cause { HasCause self.old.faults self.new.faults result }
         ensures no_fault { is_dialed self.old.present ≡ false → is_ok result ≡ true }
+        ensures broken { OnErr result (is_broken self.new.present ≡ true) }
+        ensures stays { is_broken self.old.present ≡ true → is_ok result ≡ false }
         ensures same { is_dialed self.new.present ≡ is_dialed self.old.present }
     {
         match &mut self.present {
@@ -305,6 +321,7 @@ impl<'a, R: Net<Listener = TcpListener, Stream = TcpStream>> Dial for TcpLink<'a
     fn dial(&mut self, node: u8) -> Result<(), Failed>
         ensures cause { HasCause self.old.faults self.new.faults result }
         ensures dialed { is_dialed self.new.present ≡ true }
+        ensures nobody { OnErr result (is_broken self.new.present ≡ true) }
     {
         self.present = Peer::Dialed(None);
         let answer = connected(self.rt, self.port, node);

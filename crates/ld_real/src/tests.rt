@@ -1,8 +1,11 @@
-// The disk and the link once, over a real file and a real connection.
-use crate::{FileDisk, TcpLink};
+// The disk, the register and the link once, over real files and a real connection.
+use crate::{FileDisk, FileRegister, TcpLink};
 use ld_disk::Disk;
+use ld_ids::NodeId;
 use ld_io::Failed;
 use ld_link::{Dial, Link};
+use ld_register::{Register, RegisterFault};
+use std::alloc::Global;
 use std::fs;
 use std::io::{Read, Write};
 use std::net::{Ipv4Addr, TcpListener, TcpStream};
@@ -22,6 +25,28 @@ fn a_file_keeps_what_was_written(rt: HostRuntime) -> Result<(), Fail> {
     let mut buf = [9; 6];
     assert_eq!(rt; disk.read(0, &mut buf), Ok(5));
     assert_eq!(rt; buf, [0, 0, 0, 7, 8, 9]);
+    fs::remove_file(&rt, path)?;
+    Ok(())
+}
+
+/// The generation that a register draws for node 1.
+fn drawn<G: Register>(alloc: Global, register: &mut G) -> Result<u32, RegisterFault> {
+    let Some(node) = NodeId::new(1) else {
+        return Err(RegisterFault::Failed);
+    };
+    let drawn = register.draw(alloc, node)?;
+    Ok(drawn.gen_)
+}
+
+#[test]
+fn a_register_sees_what_another_has_changed(rt: HostRuntime) -> Result<(), Fail> {
+    let path = "ld_real_test_register";
+    let _ = fs::remove_file(&rt, path);
+    let mut one = FileRegister::new(&rt, path);
+    let mut other = FileRegister::new(&rt, path);
+    assert_eq!(rt; drawn(rt.alloc(), &mut one), Ok(1));
+    assert_eq!(rt; drawn(rt.alloc(), &mut other), Ok(2));
+    assert_eq!(rt; drawn(rt.alloc(), &mut one), Ok(3));
     fs::remove_file(&rt, path)?;
     Ok(())
 }

@@ -1,28 +1,15 @@
 -- Asks of one node after another.
-use Rattle.std.proofs.Common.{◌≡◌, ℕ, zero, suc, ◌+◌, ◌<◌, ◌≤◌, Bool, true, false, not, List, [], ◌∷◌, ◌++◌, length, take, drop, Some, None, if◌then◌else◌, refl, ap, sym, ◌∙◌, append_assoc, arith, add-one}
+use Rattle.std.proofs.Common.{◌≡◌, ℕ, ◌+◌, ◌≤◌, Bool, true, false, not, List, [], ◌∷◌, ◌++◌, length, take, drop, Some, if◌then◌else◌, refl, ap, sym, ◌∙◌, append_assoc}
 use Rattle.std.specs.List.{slice_get}
 use Rattle.std.proofs.lemmas.List.{take-append-le}
 use Rattle.ld_table.specs.Words.{is_in, without}
+use Rattle.ld_table.proofs.Places.{drop_at_place}
 use Rattle.ld_msg.specs.declared.msg.Msg.{Msg}
 use Rattle.ld_msg.specs.declared.msg.Who.TheVariants as whos
 use Rattle.ld_msg.specs.declared.msg.Body.TheVariants as bodies
 use Rattle.ld_msg.specs.Sequencer.{to_each}
 use Rattle.ld_msg.specs.Network.{posted}
 use Rattle.ld_rebuild.specs.Lacks.{asks_of}
-
-dropped : {X : Type 0} (xs : List X) (i : ℕ) (x : X) → slice_get xs i ≡ Some x → drop i xs ≡ x ∷ drop (suc i) xs
-dropped [] i x e = absurd cc
-dropped (y ∷ xs) zero x e = let same : y ≡ x = cc in ap (λ z. z ∷ xs) same
-dropped (y ∷ xs) (suc i) x e = dropped xs i x e
-
-drop_at_place : {X : Type 0} (xs : List X) (i : ℕ) (x : X) → slice_get xs i ≡ Some x → drop i xs ≡ x ∷ drop (i + 1) xs
-drop_at_place xs i x e = rw add-one (dropped xs i x e)
-
--- a place within the list has an element
-pub there_is : {X : Type 0} (xs : List X) (i : ℕ) → i < length xs → slice_get xs i ≡ None → ⊥
-there_is [] i h e = omega arith
-there_is (y ∷ xs) zero h e = cc
-there_is (y ∷ xs) (suc i) h e = there_is xs i (omega arith) e
 
 asks_if : (id log from y : ℕ) (ys : List ℕ) (b : Bool) → posted (whos.Node id) log (to_each (bodies.ReadAsk 0 from) (if not b then y ∷ ys else ys)) ≡ posted (whos.Node id) log (to_each (bodies.ReadAsk 0 from) (if not b then y ∷ [] else [])) ++ posted (whos.Node id) log (to_each (bodies.ReadAsk 0 from) ys)
 asks_if id log from y ys true = refl

@@ -1,7 +1,8 @@
 -- The missing ones of a page's entries.
-use Rattle.std.proofs.Common.{◌≡◌, ℕ, zero, suc, ◌+◌, ◌<◌, Bool, true, false, List, [], ◌∷◌, ◌++◌, length, drop, get_or, Option, Some, None, if◌then◌else◌, map, refl, ap, sym, ◌∙◌, append_assoc, arith, add-one}
+use Rattle.std.proofs.Common.{◌≡◌, ℕ, ◌+◌, ◌<◌, Bool, true, false, List, [], ◌∷◌, ◌++◌, length, drop, get_or, Option, Some, None, if◌then◌else◌, map, refl, ap, sym, ◌∙◌, append_assoc, arith}
 use Rattle.std.specs.List.{filter}
 use Rattle.ld_table.specs.Table.{find}
+use Rattle.ld_table.proofs.Places.{drop_item}
 use Rattle.ld_lsn.specs.Number.{epoch_of}
 use Rattle.ld_msg.specs.declared.msg.Entry.{Entry}
 use Rattle.ld_msg.specs.declared.msg.Summary.{Summary}
@@ -32,14 +33,6 @@ none_missing : (g : Log) (e : Entry) (es : List Entry) (b : Bool) → IsClosed g
 unfolding rest_lacking
 none_missing g e es true c m h = absurd (c m h)
 none_missing g e es false c m h = ap (rest_lacking g e es) m
-
-dropped : {X : Type 0} (xs : List X) (i : ℕ) (d : X) → i < length xs → drop i xs ≡ get_or xs i d ∷ drop (suc i) xs
-dropped [] i d h = absurd (omega arith)
-dropped (x ∷ xs) zero d h = refl
-dropped (x ∷ xs) (suc i) d h = dropped xs i d (omega arith)
-
-drop_item : {X : Type 0} (xs : List X) (i : ℕ) (x : X) → i < length xs → x ≡ get_or xs i x → drop i xs ≡ x ∷ drop (i + 1) xs
-drop_item xs i x h e = rw add-one (dropped xs i x h ∙ ap (λ y. y ∷ drop (suc i) xs) (sym e))
 
 closed_if : (g : Log) (s : ℕ) → IsClosed g s
 unfolding is_missing

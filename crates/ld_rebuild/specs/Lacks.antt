@@ -20,4 +20,4 @@ trim_op g log trim = if nat_lt g.trim trim then Some (ops.Trim log trim) else No
 
 -- the asks of a node to others from a number on
 abbrev pub asks_of : ℕ → ℕ → ℕ → List ℕ → List Msg
-asks_of id log from set = posted (whos.Node id) log (node_asks id set from)
+asks_of id log from nodes = posted (whos.Node id) log (node_asks id nodes from)

@@ -16,7 +16,7 @@ use ld_op::Plain;
 use std::alloc::Global;
 use std::mem;
 
-/// Asks all other nodes of the set for what stands from the lowest missing number on. The node is `id`. Nothing is sent
+/// Asks all other of these nodes for what stands from the lowest missing number on. The node is `id`. Nothing is sent
 /// where it isn't lost for the log, or no number of a clean epoch is missing. The asks have round 0, and go to the nodes
 /// in rising order; each is a message that a frame can carry. Without memory nothing is sent. It takes time in
 /// what it sends, and logarithmic time to find that number.
@@ -26,10 +26,10 @@ pub fn asks(
     plain: &Plain,
     id: NodeId,
     log: LogId,
-    set: &NodeSet,
+    nodes: &NodeSet,
     out: &mut Outbox,
 ) -> Result<(), NoMemory>
-    ensures ok { OnOk result (out.new ≡ out.old ++ posted (Node id) log (refill_asks id (members set.now) (log_of plain.now.state log))) }
+    ensures ok { OnOk result (out.new ≡ out.old ++ posted (Node id) log (refill_asks id (members nodes.now) (log_of plain.now.state log))) }
     ensures err { OnErr result (out.new ≡ out.old) }
     ensures messages { All IsMessage out.old → All IsMessage out.new }
 {
@@ -37,7 +37,7 @@ pub fn asks(
         return Ok(());
     }
     match plain.first_missing(log) {
-        Some(from) => send_asks(alloc, &Ask { id, log, from }, set, out),
+        Some(from) => send_asks(alloc, &Ask { id, log, from }, nodes, out),
         None => Ok(()),
     }
 }
@@ -73,16 +73,16 @@ impl Ask {
     }
 }
 
-/// Asks all other nodes of the set. Without memory nothing is sent.
-fn send_asks(alloc: Global, ask: &Ask, set: &NodeSet, out: &mut Outbox) -> Result<(), NoMemory>
+/// Asks all other of the nodes. Without memory nothing is sent.
+fn send_asks(alloc: Global, ask: &Ask, nodes: &NodeSet, out: &mut Outbox) -> Result<(), NoMemory>
     requires { 1 ≤ ask.now.from }
-    ensures ok { OnOk result (out.new ≡ out.old ++ asks_of ask.now.id ask.now.log ask.now.from (members set.now)) }
+    ensures ok { OnOk result (out.new ≡ out.old ++ asks_of ask.now.id ask.now.log ask.now.from (members nodes.now)) }
     ensures err { OnErr result (out.new ≡ out.old) }
     ensures messages { All IsMessage out.old → All IsMessage out.new }
 {
     let mut list = mem::replace(out, Outbox::empty(alloc)).into_vec();
     let len = list.len();
-    let sent = add_asks(ask, set, &mut list);
+    let sent = add_asks(ask, nodes, &mut list);
     if sent.is_err() {
         list.truncate(len);
     }
@@ -90,16 +90,16 @@ fn send_asks(alloc: Global, ask: &Ask, set: &NodeSet, out: &mut Outbox) -> Resul
     sent
 }
 
-/// Adds an ask of each other node of the set. Without memory the list keeps what it had, and perhaps some of the asks.
-fn add_asks(ask: &Ask, set: &NodeSet, list: &mut Vec<Msg>) -> Result<(), NoMemory>
+/// Adds an ask of each other of the nodes. Without memory the list keeps what it had, and perhaps some of the asks.
+fn add_asks(ask: &Ask, nodes: &NodeSet, list: &mut Vec<Msg>) -> Result<(), NoMemory>
     requires { 1 ≤ ask.now.from }
     ensures ok { OnOk result (list.new.items
-        ≡ list.old.items ++ asks_of ask.now.id ask.now.log ask.now.from (members set.now)) }
+        ≡ list.old.items ++ asks_of ask.now.id ask.now.log ask.now.from (members nodes.now)) }
     ensures err { OnErr result (take (length list.old.items) list.new.items ≡ list.old.items) }
     ensures messages { All IsMessage list.old.items → All IsMessage list.new.items }
 {
-    for place in 0..set.len() {
-        if let Some(node) = set.nth(place) {
+    for place in 0..nodes.len() {
+        if let Some(node) = nodes.nth(place) {
             add_ask(ask, node, list)?;
         }
     }

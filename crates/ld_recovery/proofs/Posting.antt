@@ -1,6 +1,7 @@
 -- Messages in the order of sending.
-use Rattle.std.proofs.Common.{◌≡◌, ℕ, zero, suc, ◌+◌, ◌<◌, Bool, true, false, List, [], ◌∷◌, ◌++◌, length, drop, get_or, Some, None, if◌then◌else◌, refl, ap, sym, ◌∙◌, append_assoc, append-nil, arith, add-one}
+use Rattle.std.proofs.Common.{◌≡◌, ℕ, ◌+◌, ◌<◌, Bool, true, false, List, [], ◌∷◌, ◌++◌, length, drop, get_or, Some, if◌then◌else◌, refl, ap, sym, ◌∙◌, append_assoc, append-nil}
 use Rattle.std.specs.List.{slice_get}
+use Rattle.ld_table.proofs.Places.{drop_at_place, drop_item}
 use Rattle.ld_ids.specs.declared.set.Spec.{Spec}
 use Rattle.ld_msg.specs.declared.msg.Msg.{Msg}
 use Rattle.ld_msg.specs.declared.msg.Body.{Body}
@@ -13,31 +14,9 @@ use Rattle.ld_msg.specs.Sequencer.{to_each, digest_asks, item_stores, Planned}
 use Rattle.ld_recovery.specs.declared.send.Sender.{Sender}
 use Rattle.ld_recovery.specs.Sending.{sent}
 
-posted-append : (who : Who) (l : ℕ) (bs cs : List (ℕ × Body)) → posted who l (bs ++ cs) ≡ posted who l bs ++ posted who l cs
+pub posted-append : (who : Who) (l : ℕ) (bs cs : List (ℕ × Body)) → posted who l (bs ++ cs) ≡ posted who l bs ++ posted who l cs
 posted-append who l [] cs = refl
 posted-append who l (b ∷ bs) cs = ap (λ r. record { from = who; to = whos.Node b.0; log = l; body = b.1 } ∷ r) (posted-append who l bs cs)
-
-dropped : {X : Type 0} (xs : List X) (i : ℕ) (x : X) → slice_get xs i ≡ Some x → drop i xs ≡ x ∷ drop (suc i) xs
-dropped [] i x e = absurd cc
-dropped (y ∷ xs) zero x e = let same : y ≡ x = cc in ap (λ z. z ∷ xs) same
-dropped (y ∷ xs) (suc i) x e = dropped xs i x e
-
-pub drop_at_place : {X : Type 0} (xs : List X) (i : ℕ) (x : X) → slice_get xs i ≡ Some x → drop i xs ≡ x ∷ drop (i + 1) xs
-drop_at_place xs i x e = rw add-one (dropped xs i x e)
-
-dropped_or : {X : Type 0} (xs : List X) (i : ℕ) (d : X) → i < length xs → drop i xs ≡ get_or xs i d ∷ drop (suc i) xs
-dropped_or [] i d h = absurd (omega arith)
-dropped_or (x ∷ xs) zero d h = refl
-dropped_or (x ∷ xs) (suc i) d h = dropped_or xs i d (omega arith)
-
-pub drop_item : {X : Type 0} (xs : List X) (i : ℕ) (x : X) → i < length xs → x ≡ get_or xs i x → drop i xs ≡ x ∷ drop (i + 1) xs
-drop_item xs i x h e = rw add-one (dropped_or xs i x h ∙ ap (λ y. y ∷ drop (suc i) xs) (sym e))
-
--- a place within the list has an element
-pub there_is : {X : Type 0} (xs : List X) (i : ℕ) → i < length xs → slice_get xs i ≡ None → ⊥
-there_is [] i h e = omega arith
-there_is (y ∷ xs) zero h e = cc
-there_is (y ∷ xs) (suc i) h e = there_is xs i (omega arith) e
 
 -- one more is served, and one fewer is left
 sent_one : {X : Type 0} (f : List X → List (ℕ × Body)) → ((x : X) (xs : List X) → f (x ∷ xs) ≡ f (x ∷ []) ++ f xs) → (s : Sender) (xs : List X) (i : ℕ) (x : X) (out : List Msg) → drop i xs ≡ x ∷ drop (i + 1) xs
@@ -61,9 +40,9 @@ each_split b y ys = refl
 pub told_one : (s : Sender) (b : Body) (ys : List ℕ) (i y : ℕ) (out : List Msg) → slice_get ys i ≡ Some y → (out ++ sent s (to_each b (y ∷ []))) ++ sent s (to_each b (drop (i + 1) ys)) ≡ out ++ sent s (to_each b (drop i ys))
 told_one s b ys i y out e = sent_one (to_each b) (each_split b) s ys i y out (drop_at_place ys i y e)
 
-stores_split : (p : Spec) (lost : List ℕ) (wave : ℕ) (e : ℕ × Planned) (m : List (ℕ × Planned)) → item_stores p lost wave (e ∷ m) ≡ item_stores p lost wave (e ∷ []) ++ item_stores p lost wave m
-stores_split p lost wave e m = ap (λ r. r ++ item_stores p lost wave m) (sym (append-nil _))
+stores_split : (p : Spec) (lost : List ℕ) (lng wave : ℕ) (e : ℕ × Planned) (m : List (ℕ × Planned)) → item_stores p lost lng wave (e ∷ m) ≡ item_stores p lost lng wave (e ∷ []) ++ item_stores p lost lng wave m
+stores_split p lost lng wave e m = ap (λ r. r ++ item_stores p lost lng wave m) (sym (append-nil _))
 
-pub stored_one : (s : Sender) (p : Spec) (lost : List ℕ) (wave : ℕ) (m : List (ℕ × Planned)) (i : ℕ) (e : ℕ × Planned) (out : List Msg) → i < length m → e ≡ get_or m i e
-    → (out ++ sent s (item_stores p lost wave (e ∷ []))) ++ sent s (item_stores p lost wave (drop (i + 1) m)) ≡ out ++ sent s (item_stores p lost wave (drop i m))
-stored_one s p lost wave m i e out h g = sent_one (item_stores p lost wave) (stores_split p lost wave) s m i e out (drop_item m i e h g)
+pub stored_one : (s : Sender) (p : Spec) (lost : List ℕ) (lng wave : ℕ) (m : List (ℕ × Planned)) (i : ℕ) (e : ℕ × Planned) (out : List Msg) → i < length m → e ≡ get_or m i e
+    → (out ++ sent s (item_stores p lost lng wave (e ∷ []))) ++ sent s (item_stores p lost lng wave (drop (i + 1) m)) ≡ out ++ sent s (item_stores p lost lng wave (drop i m))
+stored_one s p lost lng wave m i e out h g = sent_one (item_stores p lost lng wave) (stores_split p lost lng wave) s m i e out (drop_item m i e h g)

@@ -5,7 +5,7 @@ use Rattle.std.proofs.lemmas.Bool.Decides.{nat_tests}
 use Rattle.ld_table.specs.Words.{is_in, with_one, how_many, all_of, numbers_from}
 use Rattle.ld_lsn.specs.Number.{numbered}
 use Rattle.ld_msg.specs.declared.msg.What.TheVariants.{Bridge}
-use Rattle.ld_msg.specs.Digest.{Item, Told, record_items, trim_place, digest_trim, plan, plan_end}
+use Rattle.ld_msg.specs.Digest.{Item, Told, record_items, plan, plan_end, plan_floor}
 use Rattle.ld_msg.specs.Sequencer.{Planned, planned, settle}
 use Rattle.ld_recovery.specs.Planning.{AreFrom, settled_one, settle_at, settle_first, lacks, one_if}
 
@@ -163,7 +163,7 @@ longer_if : (y : ℕ) (xs : List ℕ) (b : Bool) → length xs ≤ length (if b 
 longer_if y xs true = omega arith
 longer_if y xs false = omega (arith, length-append xs (y ∷ []))
 
-longer : (y : ℕ) (xs : List ℕ) → length xs ≤ length (with_one y xs)
+pub longer : (y : ℕ) (xs : List ℕ) → length xs ≤ length (with_one y xs)
 longer y xs = longer_if y xs (is_in y xs)
 
 stays_enough : (r y : ℕ) (e : ℕ × Planned) → lacks r e ≡ false → lacks r (settled_one y e) ≡ true → ⊥
@@ -206,12 +206,12 @@ items_from : (epoch n k end : ℕ) (d : List Told) → end ≡ n + k → AreFrom
 items_from epoch n zero end d h = (omega arith, tt)
 items_from epoch n (suc k) end d h = (refl, subst (λ f. AreFrom f (planned (record_items epoch d (numbers_from (n + 1) k) ++ record { number = numbered epoch end; what = Bridge } ∷ []))) (let s : numbered epoch (n + 1) ≡ numbered epoch n + 1 = omega arith in s) (items_from epoch (n + 1) k end d (omega arith)))
 
-pub plan_from : (epoch : ℕ) (d : List Told) → AreFrom (numbered epoch (trim_place epoch (digest_trim d) + 1)) (planned (plan epoch d).items)
+pub plan_from : (epoch : ℕ) (d : List Told) → AreFrom (numbered epoch (plan_floor epoch d + 1)) (planned (plan epoch d).items)
 unfolding plan plan_end
-plan_from epoch d = items_from epoch (trim_place epoch (digest_trim d) + 1) (plan_end epoch d - 1 - trim_place epoch (digest_trim d)) (plan_end epoch d) d (let l : trim_place epoch (digest_trim d) + 1 ≤ plan_end epoch d = omega arith in omega arith)
+plan_from epoch d = items_from epoch (plan_floor epoch d + 1) (plan_end epoch d - 1 - plan_floor epoch d) (plan_end epoch d) d (let l : plan_floor epoch d + 1 ≤ plan_end epoch d = omega arith in omega arith)
 
 pub from_planned : (items : List Item) (epoch : ℕ) (d : List Told) → items ≡ (plan epoch d).items → (f : ℕ) × AreFrom f (planned items)
-from_planned items epoch d h = (numbered epoch (trim_place epoch (digest_trim d) + 1), subst (λ (l : List Item). AreFrom (numbered epoch (trim_place epoch (digest_trim d) + 1)) (planned l)) (sym h) (plan_from epoch d))
+from_planned items epoch d h = (numbered epoch (plan_floor epoch d + 1), subst (λ (l : List Item). AreFrom (numbered epoch (plan_floor epoch d + 1)) (planned l)) (sym h) (plan_from epoch d))
 
 pub ends_above : (end epoch : ℕ) (d : List Told) → end ≡ (plan epoch d).end → 1 ≤ end
 unfolding plan plan_end

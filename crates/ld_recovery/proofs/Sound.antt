@@ -53,7 +53,7 @@ summary_by : (epoch ballot : ℕ) (y : Summary) → epoch < ballot → ballot �
 summary_by epoch ballot y l m c = record {
   ballot = omega (arith, l, c.ballot);
   ballot_most = omega (arith, m, c.ballot);
-  lng = omega (arith, c.lng);
+  lng = c.lng;
   trim = c.trim;
   end = c.end;
   end_most = c.end_most;
@@ -78,7 +78,7 @@ at_home n epoch y i h = record {
 }
 
 pub is_closing : (r : Recovering) (y : Summary) → IsRecovery r → Closing r y → IsClosing r y
-is_closing r y i h = let c = i.closes y h.1 in record { closing = h; summary = summary_by r.recovery.epoch r.ballot y i.later i.ballot c; ballot = c.ballot; lng = c.lng }
+is_closing r y i h = let c = i.closes y h.1 in record { closing = h; summary = summary_by r.recovery.epoch r.ballot y i.later i.ballot c; ballot = c.ballot }
 
 pub shows_closing : (r : Recovering) (y : Summary) → IsRecovery r → state_of r ≡ states.Closing y → IsClosing r y
 shows_closing r y i h = is_closing r y i (closing_is r y h)

@@ -4,7 +4,7 @@ use Rattle.ld_table.specs.Words.{is_in, with_one, how_many}
 use Rattle.ld_lsn.specs.Number.{last_esn}
 use Rattle.ld_ids.specs.declared.set.Spec.{Spec}
 use Rattle.ld_msg.specs.declared.msg.Summary.{Summary}
-use Rattle.ld_msg.specs.Bounds.{Is64}
+use Rattle.ld_msg.specs.Bounds.{IsLng, Is64}
 use Rattle.ld_msg.specs.Sequencer.{Planned, Storing}
 use Rattle.ld_recovery.specs.Marks.{mark}
 
@@ -19,7 +19,7 @@ with_storing p g = record { spec = p.spec; storing = g }
 -- a summary that a plan gives to the sequencer of an epoch
 pub record IsClose (by : ℕ) (y : Summary) : Type 0 where
   pub ballot : y.ballot ≡ by
-  pub lng : y.lng ≡ 0
+  pub lng : IsLng y.lng
   pub trim : Is64 y.trim
   pub end : 1 ≤ y.end
   pub end_most : y.end ≤ last_esn
@@ -63,8 +63,9 @@ abbrev pub AreMarked : List ℕ → List (ℕ × Planned) → Type 0
 AreMarked marks m = (y : ℕ) → 1 ≤ y → HasSettled (mark y marks) y m
 
 -- what is kept beside the items of a plan says what they are
-pub record IsKept (factor first lacking end : ℕ) (marks : List ℕ) (items : List (ℕ × Planned)) : Type 0 where
+pub record IsKept (factor first lacking lng end : ℕ) (marks : List ℕ) (items : List (ℕ × Planned)) : Type 0 where
   pub numbers : AreFrom first items
   pub lack : lacking ≡ how_many (lacks factor) items
+  pub good : IsLng lng
   pub some : 1 ≤ end
   pub marked : AreMarked marks items

@@ -1,7 +1,6 @@
 -- The recovery of an epoch on its own, and the sequencer that it is a part of.
 use Rattle.std.specs.Prelude.{ℕ, ◌≡◌, ◌≤◌, ◌<◌, ◌-◌, ◌^◌, List, [], ◌++◌, Option, Some, None, Bool, true, false, ◌==◌, if◌then◌else◌}
 use Rattle.ld_ids.specs.declared.set.Spec.{Spec}
-use Rattle.ld_ids.specs.Choice.{at_epoch}
 use Rattle.ld_lsn.specs.Number.{epoch_of}
 use Rattle.ld_msg.specs.declared.msg.Who.{Who}
 use Rattle.ld_msg.specs.declared.msg.Who.TheVariants as whos
@@ -10,10 +9,10 @@ use Rattle.ld_msg.specs.declared.msg.Summary.{Summary}
 use Rattle.ld_msg.specs.declared.msg.Body.{Body}
 use Rattle.ld_msg.specs.declared.msg.Body.TheVariants as bodies
 use Rattle.ld_ids.specs.Id.{IsNode}
-use Rattle.ld_msg.specs.Bounds.{IsSummary, IsPage, Fits}
+use Rattle.ld_msg.specs.Bounds.{IsLng, IsSummary, IsPage, Fits}
 use Rattle.ld_msg.specs.Digest.{no_digest}
 use Rattle.ld_msg.specs.Network.{posted}
-use Rattle.ld_msg.specs.Register.{Answer, Granted, AtLimit, Behind, Fails}
+use Rattle.ld_msg.specs.Register.{Answer, Granted, AtLimit, Behind, Fails, View}
 use Rattle.ld_msg.specs.Sequencer.{Sequencer, Recovery, Seals, Closes, Acts, does_nothing, on_reply, on_retry, after_close}
 use Rattle.ld_sequencer_bounds.specs.Sequencers.{IsStage, IsNamed}
 use Rattle.ld_recovery.specs.Planning.{IsClose}
@@ -27,17 +26,20 @@ pub data Ending : Type 0 where
 
 -- a log's recovery of an epoch by the sequencer of a later one
 pub record Recovering : Type 0 where
-  pub spec : Spec
   pub ballot : ℕ
   pub recovery : Recovery
   pub ending : Ending
 
+-- what was fixed for the epoch as the recovery began
+abbrev pub spec_of : Recovering → Spec
+spec_of r = r.recovery.spec
+
 -- the sequencer that recovers this epoch, with no appends and no lost nodes of its own
 abbrev pub as_sequencer : Recovering → Sequencer
-as_sequencer r = record { log = r.spec.log; epoch = r.ballot; lce = r.recovery.epoch - 1; lng = 0; appends = []; lost = []; recovery = Some r.recovery; preempted = None; gone = false }
+as_sequencer r = record { log = (spec_of r).log; epoch = r.ballot; spec = spec_of r; lce = r.recovery.epoch - 1; lng = 0; appends = []; lost = []; recovery = Some r.recovery; preempted = None; gone = false }
 
 abbrev pub started : Spec → ℕ → ℕ → Recovering
-started spec epoch ballot = record { spec = spec; ballot = ballot; recovery = record { epoch = epoch; lost = []; stage = Seals (no_digest (at_epoch spec epoch) epoch) }; ending = Goes }
+started spec epoch ballot = record { ballot = ballot; recovery = record { epoch = epoch; spec = spec; lost = []; stage = Seals (no_digest spec epoch) }; ending = Goes }
 
 -- ---- what a call makes of a recovery ----
 
@@ -51,10 +53,10 @@ recovery_or v (Some w) = w
 
 -- the epoch isn't closed yet: the sequencer's recovery goes on, or the sequencer is preempted
 abbrev pub goes_on : Recovering → Acts → Recovering
-goes_on r a = record { spec = r.spec; ballot = r.ballot; recovery = recovery_or r.recovery a.sequencer.recovery; ending = ending_by a.sequencer.preempted }
+goes_on r a = record { ballot = r.ballot; recovery = recovery_or r.recovery a.sequencer.recovery; ending = ending_by a.sequencer.preempted }
 
 abbrev pub ended : Recovering → Ending → Recovering
-ended r e = record { spec = r.spec; ballot = r.ballot; recovery = r.recovery; ending = e }
+ended r e = record { ballot = r.ballot; recovery = r.recovery; ending = e }
 
 -- the epochs that are closed are those of before
 abbrev pub is_open : Recovering → Acts → Bool
@@ -83,8 +85,12 @@ is_going (IsPreempted k) = false
 
 -- ---- replies ----
 
+-- it ends where a later epoch's would begin: what a look shows of that one doesn't matter
+abbrev pub no_looks : Recovering → ℕ → View
+no_looks r e = record { at = e; epoch = r.ballot; lce = r.recovery.epoch; summary = None; spec = spec_of r }
+
 abbrev pub reply_acts : Recovering → ℕ → Body → Acts
-reply_acts r y b = on_reply r.spec (as_sequencer r) y b
+reply_acts r y b = on_reply (no_looks r) (as_sequencer r) y b
 
 abbrev pub replied_with : Recovering → Body → Acts → Recovering
 replied_with r b a = if is_open r a then goes_on r a else ended r (ending_told (summary_told b))
@@ -98,7 +104,7 @@ abbrev pub sent_by : Recovering → Acts → List (ℕ × Body)
 sent_by r a = if is_open r a then a.asks ++ a.stores else a.cleans
 
 abbrev pub messages : Recovering → List (ℕ × Body) → List Msg
-messages r bs = posted (whos.Sequencer r.ballot) r.spec.log bs
+messages r bs = posted (whos.Sequencer r.ballot) (spec_of r).log bs
 
 abbrev pub reply_messages : Recovering → ℕ → Body → List Msg
 reply_messages r y b = when_going r.ending (messages r (sent_by r (reply_acts r y b))) []
@@ -106,10 +112,10 @@ reply_messages r y b = when_going r.ending (messages r (sent_by r (reply_acts r 
 -- ---- a retry ----
 
 abbrev pub retried : Recovering → Recovering
-retried r = when_going r.ending (goes_on r (on_retry r.spec (as_sequencer r))) r
+retried r = when_going r.ending (goes_on r (on_retry (as_sequencer r))) r
 
 abbrev pub retry_messages : Recovering → List Msg
-retry_messages r = when_going r.ending (messages r (sent_by r (on_retry r.spec (as_sequencer r)))) []
+retry_messages r = when_going r.ending (messages r (sent_by r (on_retry (as_sequencer r)))) []
 
 -- ---- the close ----
 
@@ -118,7 +124,7 @@ abbrev pub Closing : Recovering → Summary → Type 0
 Closing r y = (r.ending ≡ Goes) × (r.recovery.stage ≡ Closes y)
 
 abbrev pub close_acts : Recovering → Summary → Answer → Acts
-close_acts r y d = after_close r.spec (does_nothing (as_sequencer r)) r.recovery.epoch y d
+close_acts r y d = after_close (no_looks r) (does_nothing (as_sequencer r)) r.recovery.epoch y d
 
 abbrev pub ending_behind : ℕ → Option ℕ → Ending
 ending_behind lce None = IsGone lce
@@ -146,7 +152,7 @@ sender_of _ = 0
 -- what holds of the replies that a message may carry
 abbrev pub IsReply : Body → Type 0
 IsReply (bodies.CleanHere n y) = IsSummary (epoch_of n) y
-IsReply (bodies.DigestPage from upto trim lng es) = IsPage from upto es
+IsReply (bodies.DigestPage from upto trim lng es) = IsPage from upto es × IsLng lng
 IsReply _ = Unit {0}
 
 -- a node's reply to the sequencer of an epoch
@@ -156,18 +162,17 @@ IsReplyTo epoch b = (n : ℕ) → IsNode n → Fits (whos.Node n) (whos.Sequence
 -- ---- what holds of each recovery ----
 
 pub record IsRecovery (r : Recovering) : Type 0 where
-  pub factor : 1 ≤ r.spec.r
+  pub factor : 1 ≤ (spec_of r).r
   pub epoch : 1 ≤ r.recovery.epoch
   pub later : r.recovery.epoch < r.ballot
   pub ballot : r.ballot ≤ 2 ^ 32 - 2
   pub closes : (y : Summary) → r.recovery.stage ≡ Closes y → IsClose r.ballot y
   pub done : (y : Summary) → r.ending ≡ IsDone y → IsSummary r.recovery.epoch y
   pub stage : IsStage r.recovery.epoch r.recovery.stage
-  pub named : IsNamed r.spec
+  pub named : IsNamed (spec_of r)
 
--- the epoch is to be closed with this summary of it, by the sequencer, with no number known to be good
+-- the epoch is to be closed with this summary of it, by the sequencer
 pub record IsClosing (r : Recovering) (y : Summary) : Type 0 where
   pub closing : Closing r y
   pub summary : IsSummary r.recovery.epoch y
   pub ballot : y.ballot ≡ r.ballot
-  pub lng : y.lng ≡ 0

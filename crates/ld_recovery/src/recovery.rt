@@ -1,13 +1,12 @@
 // The recovery of an epoch.
 ghost use Rattle.std.specs.Prelude.{◌≡◌, ◌≤◌, ◌<◌, ◌+◌, ◌-◌, ◌^◌, ◌++◌, [], ℕ, true, nat_le, if◌then◌else◌, Some, None, IfOk, OnOk, OnErr};
 ghost use Rattle.ld_ids.specs.declared.set.Spec.{Spec as Config};
-ghost use Rattle.ld_ids.specs.Choice.{at_epoch};
 ghost use Rattle.ld_msg.specs.declared.msg.Summary.{Summary as Told};
 ghost use Rattle.ld_msg.specs.declared.msg.Body.TheVariants.{Stored, SealedHere, LostHere, CleanHere, TrimmedHere, DigestPage};
 ghost use Rattle.ld_msg.specs.Register.{Granted};
 ghost use Rattle.ld_node_bounds.specs.Messages.{AreMessages};
 ghost use Rattle.ld_recovery.specs.Stages.{IsOf};
-ghost use Rattle.ld_msg.specs.Bounds.{IsMessage, IsSummary, IsPage};
+ghost use Rattle.ld_msg.specs.Bounds.{IsLng, IsMessage, IsSummary, IsPage};
 ghost use Rattle.ld_lsn.specs.Number.{epoch_of};
 ghost use Rattle.ld_msg.specs.Digest.{no_digest};
 ghost use Rattle.ld_msg.specs.Sequencer.{digest_asks};
@@ -70,13 +69,14 @@ impl Model for Recovery {
 
     ghost Value = { Recovering };
 
-    ghost view = { λ a. record { spec = a.spec; ballot = a.ballot; recovery = record { epoch = a.epoch; lost = a.lost; stage = shown a.stage }; ending = shown_ending a.ending } };
+    ghost view = { λ a. record { ballot = a.ballot; recovery = record { epoch = a.epoch; spec = a.spec; lost = a.lost; stage = shown a.stage }; ending = shown_ending a.ending } };
 
     ghost invariant = { λ a. IsOf a.spec a.epoch a.ballot a.stage × (1 ≤ a.spec.r) × (1 ≤ a.epoch) × (a.epoch < a.ballot) × (a.ballot ≤ 2 ^ 32 - 2) × IsEnding a.epoch a.ending × IsStage a.epoch (shown a.stage) × IsNamed a.spec };
 }
 
 impl Recovery {
-    /// Begins to recover the epoch of the log, by the sequencer of a later one: all nodes are asked for what they have.
+    /// Begins to recover the epoch of the log, with what was fixed for it, by the sequencer of a later one: all its nodes are
+    /// asked for what they have.
     /// Without memory nothing is sent. Behind messages it sends messages.
     pub fn start(
         alloc: Global,
@@ -90,7 +90,7 @@ impl Recovery {
         requires later { epoch < ballot }
         requires ballot { ballot ≤ 2 ^ 32 - 2 }
         ensures value { IfOk result (λ recovery. recovery ≡ started spec.now epoch ballot) }
-        ensures sent { OnOk result (out.new ≡ out.old ++ messages (started spec.now epoch ballot) (digest_asks (no_digest (at_epoch spec.now epoch) epoch))) }
+        ensures sent { OnOk result (out.new ≡ out.old ++ messages (started spec.now epoch ballot) (digest_asks (no_digest spec.now epoch))) }
         ensures unsent { OnErr result (out.new ≡ out.old) }
         ensures messages { AreMessages out.old → AreMessages out.new }
     {
@@ -119,7 +119,7 @@ impl Recovery {
     }
 
     /// Where it stands. A summary that it is closing or done with is one that the register takes for its epoch; one that it
-    /// is closing with names its ballot, and no number that is known to be good.
+    /// is closing with names its ballot.
     pub fn state(&self) -> State
         ensures value { result ≡ state_of self.now }
         ensures holds { IsRecovery self.now }
@@ -186,13 +186,14 @@ impl Recovery {
                 from,
                 upto,
                 trim,
+                lng,
                 entries,
-                ..
             } => {
                 let page = Page {
                     from: *from,
                     upto: *upto,
                     trim: *trim,
+                    lng: *lng,
                     entries,
                 };
                 self.on_page(alloc, node, &page, out)
@@ -206,6 +207,9 @@ impl Recovery {
         ensures value { self.new ≡ replied self.old node (Stored number) }
         ensures quiet { reply_messages self.old node (Stored number) ≡ [] }
     {
+        if !self.spec.set.has(node) {
+            return;
+        }
         if number.epoch() == self.epoch {
             self.stage.store(self.ballot, number, node);
         }
@@ -216,6 +220,9 @@ impl Recovery {
         ensures value { self.new ≡ replied self.old node (TrimmedHere number trim) }
         ensures quiet { reply_messages self.old node (TrimmedHere number trim) ≡ [] }
     {
+        if !self.spec.set.has(node) {
+            return;
+        }
         if number.epoch() == self.epoch {
             self.stage.trim(self.ballot, trim, node);
         }
@@ -280,8 +287,9 @@ impl Recovery {
     ) -> Result<(), NoMemory>
         requires going { self.old.ending ≡ Goes }
         requires page { IsPage page.now.from page.now.upto page.now.entries.now }
-        ensures value { (lng : ℕ) → OnOk result (self.new ≡ replied self.old node (DigestPage page.now.from page.now.upto page.now.trim lng page.now.entries.now)) }
-        ensures sent { (lng : ℕ) → OnOk result (out.new ≡ out.old ++ reply_messages self.old node (DigestPage page.now.from page.now.upto page.now.trim lng page.now.entries.now)) }
+        requires lng { IsLng page.now.lng }
+        ensures value { OnOk result (self.new ≡ replied self.old node (DigestPage page.now.from page.now.upto page.now.trim page.now.lng page.now.entries.now)) }
+        ensures sent { OnOk result (out.new ≡ out.old ++ reply_messages self.old node (DigestPage page.now.from page.now.upto page.now.trim page.now.lng page.now.entries.now)) }
         ensures unsent { OnErr result (out.new ≡ out.old) }
         ensures messages { AreMessages out.old → AreMessages out.new }
     {
@@ -364,7 +372,7 @@ impl Recovery {
     }
 
     fn sender(&self) -> Sender
-        ensures log { result.log ≡ self.now.spec.log }
+        ensures log { result.log ≡ self.now.recovery.spec.log }
         ensures epoch { result.epoch ≡ self.now.ballot }
     {
         Sender {

@@ -118,22 +118,23 @@ impl Sender {
         Ok(())
     }
 
-    /// Sends an item to each of the nodes, in their order. Without memory some may have been sent.
+    /// Sends an item with a last known good place to each of the nodes, in their order. Without memory some may have been sent.
     #[tactic(auto, using(crate::proofs::Begins::begin_rules))]
     pub fn send_item(
         &self,
         alloc: Global,
         number: Lsn,
+        lng: u32,
         what: &What,
         nodes: &NodeList,
         out: &mut Outbox,
     ) -> Result<(), NoMemory>
-        ensures sent { OnOk result (out.new ≡ out.old ++ sent self.now (to_each (Store number 0 what.now) nodes.now)) }
+        ensures sent { OnOk result (out.new ≡ out.old ++ sent self.now (to_each (Store number lng what.now) nodes.now)) }
         ensures begins { OnErr result (BeginsWith out.old out.new) }
     {
         'nodes: for place in 0..nodes.len() {
             if let Some(node) = nodes.nth(place) {
-                let body = store(alloc, number, what)?;
+                let body = store(alloc, number, lng, what)?;
                 self.send(node, body, out)?;
             }
         }
@@ -152,12 +153,12 @@ fn clean(epoch: u32, summary: &Summary) -> Body
 }
 
 // A store of an item.
-fn store(alloc: Global, number: Lsn, what: &What) -> Result<Body, NoMemory>
-    ensures { IfOk result (λ body. body ≡ Store number 0 what.now) }
+fn store(alloc: Global, number: Lsn, lng: u32, what: &What) -> Result<Body, NoMemory>
+    ensures { IfOk result (λ body. body ≡ Store number lng what.now) }
 {
     Ok(Body::Store {
         number,
-        lng: 0,
+        lng,
         what: what.copy(alloc)?,
     })
 }

@@ -1,6 +1,7 @@
 // The stages of a recovery.
 ghost use Rattle.std.specs.Prelude.{◌≡◌, ◌≤◌, ◌<◌, ◌-◌, ◌^◌, ◌==◌, ◌++◌, ◌∷◌, [], ℕ, nat_le, IfOk, OnOk, OnErr};
 ghost use Rattle.ld_msg.specs.declared.msg.Body.TheVariants.{DigestAsk};
+ghost use Rattle.ld_lsn.specs.Number.{last_esn};
 ghost use Rattle.ld_msg.specs.Digest.{plan};
 ghost use Rattle.ld_digest.specs.Gathering.{AreInPlace};
 ghost use Rattle.ld_recovery.specs.declared.stage.Stage.TheVariants.{Seals, Stopped};
@@ -142,11 +143,12 @@ impl Stage {
         requires factor { 1 ≤ scope.now.spec.now.r }
         requires upto { page.now.upto < 2 ^ 64 - 1 }
         requires entries { AreInPlace page.now.entries.now }
+        requires lng { page.now.lng < last_esn }
         requires of { IsOf scope.now.spec.now scope.now.epoch scope.now.sender.now.epoch self.old }
-        ensures shown { OnOk result (shown self.new ≡ page_stage self.old node page.now.from page.now.upto page.now.trim page.now.entries.now) }
+        ensures shown { OnOk result (shown self.new ≡ page_stage self.old node page.now.from page.now.upto page.now.trim page.now.lng page.now.entries.now) }
         ensures stopped { OnErr result (self.new ≡ Stopped) }
         ensures of { IsOf scope.now.spec.now scope.now.epoch scope.now.sender.now.epoch self.new }
-        ensures sent { OnOk result (out.new ≡ out.old ++ sent scope.now.sender.now (page_sends scope.now.lost.now self.old node page.now.from page.now.upto page.now.trim page.now.entries.now)) }
+        ensures sent { OnOk result (out.new ≡ out.old ++ sent scope.now.sender.now (page_sends scope.now.lost.now self.old node page.now.from page.now.upto page.now.trim page.now.lng page.now.entries.now)) }
         ensures unsent { OnErr result (out.new ≡ out.old) }
     {
         let stage = mem::replace(self, Stage::Stopped);
@@ -192,7 +194,8 @@ impl Stage {
         ensures unsent { OnErr result (out.new ≡ out.old) }
     {
         match self {
-            Stage::Seals(digest) => {
+            Stage::Seals(mut digest) => {
+                digest.ask_anew();
                 sender.ask_for_digest(digest.told(), out)?;
                 Ok(Stage::Seals(digest))
             }
@@ -240,10 +243,11 @@ fn on_page(
     requires factor { 1 ≤ scope.now.spec.now.r }
     requires upto { page.now.upto < 2 ^ 64 - 1 }
     requires entries { AreInPlace page.now.entries.now }
+    requires lng { page.now.lng < last_esn }
     requires of { IsOf scope.now.spec.now scope.now.epoch scope.now.sender.now.epoch stage }
     ensures of { IfOk result (λ stage'. IsOf scope.now.spec.now scope.now.epoch scope.now.sender.now.epoch stage') }
-    ensures stage { IfOk result (λ stage'. shown stage' ≡ page_stage stage node page.now.from page.now.upto page.now.trim page.now.entries.now) }
-    ensures sent { OnOk result (out.new ≡ out.old ++ sent scope.now.sender.now (page_sends scope.now.lost.now stage node page.now.from page.now.upto page.now.trim page.now.entries.now)) }
+    ensures stage { IfOk result (λ stage'. shown stage' ≡ page_stage stage node page.now.from page.now.upto page.now.trim page.now.lng page.now.entries.now) }
+    ensures sent { OnOk result (out.new ≡ out.old ++ sent scope.now.sender.now (page_sends scope.now.lost.now stage node page.now.from page.now.upto page.now.trim page.now.lng page.now.entries.now)) }
     ensures unsent { OnErr result (out.new ≡ out.old) }
 {
     match stage {
@@ -266,10 +270,11 @@ fn add_page(
     requires factor { 1 ≤ scope.now.spec.now.r }
     requires upto { page.now.upto < 2 ^ 64 - 1 }
     requires entries { AreInPlace page.now.entries.now }
+    requires lng { page.now.lng < last_esn }
     requires of { (digest.spec ≡ scope.now.spec.now) × (digest.epoch ≡ scope.now.epoch) }
     ensures of { IfOk result (λ stage'. IsOf scope.now.spec.now scope.now.epoch scope.now.sender.now.epoch stage') }
-    ensures stage { IfOk result (λ stage'. shown stage' ≡ page_stage (Seals digest) node page.now.from page.now.upto page.now.trim page.now.entries.now) }
-    ensures sent { OnOk result (out.new ≡ out.old ++ sent scope.now.sender.now (page_sends scope.now.lost.now (Seals digest) node page.now.from page.now.upto page.now.trim page.now.entries.now)) }
+    ensures stage { IfOk result (λ stage'. shown stage' ≡ page_stage (Seals digest) node page.now.from page.now.upto page.now.trim page.now.lng page.now.entries.now) }
+    ensures sent { OnOk result (out.new ≡ out.old ++ sent scope.now.sender.now (page_sends scope.now.lost.now (Seals digest) node page.now.from page.now.upto page.now.trim page.now.lng page.now.entries.now)) }
     ensures unsent { OnErr result (out.new ≡ out.old) }
 {
     let mut digest = digest;
@@ -329,9 +334,10 @@ fn store(alloc: Global, digest: Digest, scope: &Scope, out: &mut Outbox) -> Resu
     requires of { (digest.spec ≡ scope.now.spec.now) × (digest.epoch ≡ scope.now.epoch) }
     ensures of { IfOk result (λ stage'. IsOf scope.now.spec.now scope.now.epoch scope.now.sender.now.epoch stage') }
     ensures stage { IfOk result (λ stage'. shown stage' ≡ Stored (storing_of (plan digest.epoch digest.told))) }
-    ensures sent { OnOk result (out.new ≡ out.old ++ sent scope.now.sender.now (item_stores digest.spec scope.now.lost.now 0 (planned (plan digest.epoch digest.told).items))) }
+    ensures sent { OnOk result (out.new ≡ out.old ++ sent scope.now.sender.now (item_stores digest.spec scope.now.lost.now (plan digest.epoch digest.told).lng 0 (planned (plan digest.epoch digest.told).items))) }
     ensures unsent { OnErr result (out.new ≡ out.old) }
 {
+    let _ = digest.lng();
     let plan = plan(alloc, &digest)?;
     let storing = Storing::new(alloc, scope.spec, plan)?;
     storing.send(alloc, scope.sender, scope.lost, out)?;

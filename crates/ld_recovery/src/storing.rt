@@ -1,6 +1,7 @@
 // A plan that is being stored.
 ghost use Rattle.std.specs.Prelude.{◌≡◌, ◌≤◌, ◌<◌, ◌+◌, ◌-◌, ◌==◌, ℕ, ◌&&◌, not, length, min, nat_le, ◌++◌, ◌∷◌, [], IfOk, OnOk, OnErr};
 ghost use Rattle.ld_table.specs.Words.{how_many};
+ghost use Rattle.ld_msg.specs.Bounds.{IsLng};
 ghost use Rattle.ld_msg.specs.Sequencer.{planned, storing_of, settle, settled_by, is_ready, next_try, summary_of, item_stores};
 ghost use Rattle.ld_recovery.specs.Sending.{sent, BeginsWith};
 ghost use Rattle.ld_recovery.specs.Planning.{with_storing, lacks, settle_at, settle_first, one_if, AreFrom, HasSettled, IsClose};
@@ -22,6 +23,7 @@ use std::marker::Model;
 pub struct Storing {
     spec: Spec,
     trim: Lsn,
+    lng: u32,
     end: u32,
     first: Lsn,
     items: Vec<Planned>,
@@ -35,20 +37,27 @@ impl Model for Storing {
 
     ghost Value = { Plans };
 
-    ghost view = { λ a. record { spec = a.spec; storing = record { trim = a.trim; end = a.end; items = a.items.items; wave = a.wave } } };
+    ghost view = { λ a. record { spec = a.spec; storing = record { trim = a.trim; lng = a.lng; end = a.end; items = a.items.items; wave = a.wave } } };
 
-    ghost invariant = { λ a. IsKept a.spec.r a.first a.lacking a.end a.trimmed a.items.items };
+    ghost invariant = { λ a. IsKept a.spec.r a.first a.lacking a.lng a.end a.trimmed a.items.items };
 }
 
 impl Storing {
-    /// A plan that is to be sent in its wave 0. Its items have the numbers from one on, and its end is at least 1.
+    /// A plan that is to be sent in its wave 0. Its items have the numbers from one on, its end is at least 1, and its last
+    /// known good place is below the last place of an epoch.
     pub fn new(alloc: Global, spec: &Spec, plan: Plan) -> Result<Storing, NoMemory>
         requires factor { 1 ≤ spec.now.r }
         requires numbers { (first : ℕ) × AreFrom first (planned plan.items) }
+        requires lng { IsLng plan.lng }
         requires end { 1 ≤ plan.end }
         ensures { IfOk result (λ storing. storing ≡ record { spec = spec.now; storing = storing_of plan }) }
     {
-        let Plan { trim, end, items } = plan;
+        let Plan {
+            trim,
+            lng,
+            end,
+            items,
+        } = plan;
         let items = items.into_vec();
         let first = first_number(&items);
         let items = unsettled(alloc, items)?;
@@ -56,6 +65,7 @@ impl Storing {
         Ok(Storing {
             spec: *spec,
             trim,
+            lng,
             end,
             first,
             items,
@@ -95,7 +105,7 @@ impl Storing {
         lost: &NodeList,
         out: &mut Outbox,
     ) -> Result<(), NoMemory>
-        ensures sent { OnOk result (out.new ≡ out.old ++ sent sender.now (item_stores self.now.spec lost.now self.now.storing.wave self.now.storing.items)) }
+        ensures sent { OnOk result (out.new ≡ out.old ++ sent sender.now (item_stores self.now.spec lost.now self.now.storing.lng self.now.storing.wave self.now.storing.items)) }
         ensures unsent { OnErr result (out.new ≡ out.old) }
     {
         let count = out.len();
@@ -115,7 +125,7 @@ impl Storing {
         lost: &NodeList,
         out: &mut Outbox,
     ) -> Result<(), NoMemory>
-        ensures sent { OnOk result (out.new ≡ out.old ++ sent sender.now (item_stores self.now.spec lost.now self.now.storing.wave self.now.storing.items)) }
+        ensures sent { OnOk result (out.new ≡ out.old ++ sent sender.now (item_stores self.now.spec lost.now self.now.storing.lng self.now.storing.wave self.now.storing.items)) }
         ensures begins { OnErr result (BeginsWith out.old out.new) }
     {
         for item in &self.items {
@@ -133,14 +143,14 @@ impl Storing {
         lost: &NodeList,
         out: &mut Outbox,
     ) -> Result<(), NoMemory>
-        ensures sent { OnOk result (out.new ≡ out.old ++ sent sender.now (item_stores self.now.spec lost.now self.now.storing.wave (item.now ∷ []))) }
+        ensures sent { OnOk result (out.new ≡ out.old ++ sent sender.now (item_stores self.now.spec lost.now self.now.storing.lng self.now.storing.wave (item.now ∷ []))) }
         ensures begins { OnErr result (BeginsWith out.old out.new) }
     {
         if !item.lacks(self.spec.r) {
             return Ok(());
         }
         let nodes = choose_for(&self.spec, item.number(), self.wave, &lost.to_set());
-        sender.send_item(alloc, item.number(), item.what(), &nodes, out)
+        sender.send_item(alloc, item.number(), self.lng, item.what(), &nodes, out)
     }
 
     /// Whether each item has enough nodes. It takes constant time.
@@ -163,20 +173,21 @@ impl Storing {
         ensures value { result ≡ summary_of ballot self.now.storing }
         ensures close { IsClose ballot result }
     {
-        summary(ballot, self.trim, self.end)
+        summary(ballot, self.lng, self.trim, self.end)
     }
 }
 
-// The summary with which the sequencer of this epoch closes. No number is known to be good.
-fn summary(ballot: u32, trim: Lsn, end: u32) -> Summary
-    requires { 1 ≤ end }
-    ensures value { result ≡ record { ballot = ballot; lng = 0; trim = trim; end = end } }
+// The summary with which the sequencer of this epoch closes.
+fn summary(ballot: u32, lng: u32, trim: Lsn, end: u32) -> Summary
+    requires lng { IsLng lng }
+    requires end { 1 ≤ end }
+    ensures value { result ≡ record { ballot = ballot; lng = lng; trim = trim; end = end } }
     ensures close { IsClose ballot result }
 {
     let _ = trim.value();
     Summary {
         ballot,
-        lng: 0,
+        lng,
         trim,
         end,
     }

@@ -1,14 +1,17 @@
 -- What each call answers by the contents.
-use Rattle.std.proofs.Common.{◌≡◌, ◌≤◌, ◌<◌, ◌+◌, ◌^◌, ℕ, Bool, true, false, List, None, Ok, Err, refl, ap, sym, ◌∙◌, arith, if◌then◌else◌}
+use Rattle.std.proofs.Common.{◌≡◌, ◌≤◌, ◌<◌, ◌+◌, ◌^◌, ℕ, Bool, true, false, List, Option, None, Some, Ok, Err, refl, ap, sym, ◌∙◌, arith, if◌then◌else◌}
 use Rattle.std.specs.Option.{unwrap_or}
 use Rattle.std.proofs.lemmas.Bool.{lt-ltb, le-ltb, lt-leb, le-leb, eq-eqb, ne_eqb}
-use Rattle.ld_table.specs.Table.{put}
-use Rattle.ld_table.proofs.Laws.{find-put_same}
+use Rattle.std.proofs.lemmas.Bool.Decides.{nat_tests}
+use Rattle.ld_table.specs.Table.{find, put}
+use Rattle.ld_table.proofs.Laws.{find-put_same, find-put_other}
+use Rattle.ld_ids.specs.declared.set.Spec.{Spec}
 use Rattle.ld_msg.specs.declared.msg.Summary.{Summary}
-use Rattle.ld_msg.specs.Register.{Register, Changed, Answer, Granted, AtLimit, Behind, Fails, no_epochs, epochs_of, generation_of, lce_of, epoch_limit, generation_limit, journal_limit, record_length, change, activate, close, draw, next_epoch, closed_epochs, with_epochs, is_crowded, epochs_in}
+use Rattle.ld_msg.specs.Register.{Register, Epochs, Changed, Answer, Granted, AtLimit, Behind, Fails, no_epochs, epochs_of, generation_of, lce_of, epoch_limit, generation_limit, journal_limit, record_length, change, activate, close, draw, next_epoch, closed_epochs, with_epochs, is_crowded, epochs_in, epoch_shown}
 use Rattle.ld_register.specs.declared.fault.RegisterFault.TheVariants as faults
 use Rattle.ld_register.specs.declared.change.Change.TheVariants as changes
-use Rattle.ld_register.specs.Calls.{ended, is_full, activated, after_activate, granted, closed, after_close, drawn, after_draw}
+use Rattle.ld_register.specs.declared.register.Grant.{Grant}
+use Rattle.ld_register.specs.Calls.{ended, close_ended, is_full, activated, after_activate, granted, closed, after_close, drawn, after_draw, spec_told, next_told}
 use Rattle.ld_register.specs.Changes.{changed}
 use Rattle.ld_register.specs.Kept.{Kept, register_of}
 
@@ -25,55 +28,102 @@ change_made : (k : Kept) (n : ℕ) (next : Register) (b : ℕ) → n + record_le
 unfolding change
 change_made k n next b h = rw (le-ltb journal_limit (n + record_length b) h) refl
 
+-- ---- what is told of what is fixed ----
+
+-- of an epoch that is handed out its own is shown
+pub shown_there : (v : Epochs) (e : ℕ) → 1 ≤ e → e ≤ v.epoch → epoch_shown v e ≡ e
+shown_there v e one most = grind (arith, nat_tests)
+
+-- the epoch behind the last closed one is the new one, or none that is handed out
+new_shown : (v : Epochs) (s : Spec) → v.epoch ≤ v.lce → epoch_shown (next_epoch v s) (v.lce + 1) ≡ v.epoch + 1
+new_shown v s h = grind (arith, nat_tests)
+
+next_new : (v : Epochs) (s : Spec) → v.epoch ≤ v.lce → Some s ≡ find (epoch_shown (next_epoch v s) (v.lce + 1)) (next_epoch v s).specs
+next_new v s h = sym (find-put_same (epoch_shown (next_epoch v s) (v.lce + 1)) (v.epoch + 1) s v.specs (new_shown v s h))
+
+-- or it was handed out before
+next_old : (v : Epochs) (s : Spec) → v.lce < v.epoch → find (epoch_shown v (v.lce + 1)) v.specs ≡ find (epoch_shown (next_epoch v s) (v.lce + 1)) (next_epoch v s).specs
+next_old v s h =
+    let there : epoch_shown v (v.lce + 1) ≡ v.lce + 1 = shown_there v (v.lce + 1) (omega arith) (omega arith) in
+    let after : epoch_shown (next_epoch v s) (v.lce + 1) ≡ v.lce + 1 = shown_there (next_epoch v s) (v.lce + 1) (omega arith) (omega arith) in
+    ap (λ e. find e v.specs) (there ∙ sym after) ∙ sym (find-put_other (epoch_shown (next_epoch v s) (v.lce + 1)) (v.epoch + 1) s v.specs (λ e. let z = sym after ∙ e in omega arith))
+
+activated_is : (r : Register) (e : ℕ) (s : Spec) → epochs_of (changed r (changes.Activate e s)) s.log ≡ next_epoch (epochs_of r s.log) s
+activated_is r e s = ap (λ o. unwrap_or o no_epochs) (find-put_same s.log s.log (next_epoch (epochs_of r s.log) s) r.logs refl)
+
+abbrev told_in : Epochs → ℕ → Option Spec
+told_in v e = find (epoch_shown v e) v.specs
+
+pub tells_new : (r : Register) (e : ℕ) (s : Spec) → (epochs_of r s.log).epoch ≤ lce_of r s.log → Some s ≡ next_told (changed r (changes.Activate e s)) s.log
+tells_new r e s h = next_new (epochs_of r s.log) s h ∙ ap (λ v. told_in v (v.lce + 1)) (sym (activated_is r e s))
+
+pub tells_old : (r : Register) (e : ℕ) (s : Spec) → lce_of r s.log < (epochs_of r s.log).epoch → spec_told r s.log (lce_of r s.log + 1) ≡ next_told (changed r (changes.Activate e s)) s.log
+tells_old r e s h = next_old (epochs_of r s.log) s h ∙ ap (λ v. told_in v (v.lce + 1)) (sym (activated_is r e s))
+
+closed_is : (r : Register) (l e : ℕ) (y : Summary) → epochs_of (changed r (changes.Close l e y)) l ≡ closed_epochs (epochs_of r l) e y
+closed_is r l e y = ap (λ o. unwrap_or o no_epochs) (find-put_same l l (closed_epochs (epochs_of r l) e y) r.logs refl)
+
+-- a close changes nothing of what is fixed
+pub tells_behind : (r : Register) (l e : ℕ) (y : Summary) → spec_told r l (e + 1) ≡ next_told (changed r (changes.Close l e y)) l
+tells_behind r l e y = ap (λ v. told_in v (v.lce + 1)) (sym (closed_is r l e y))
+
 -- ---- an activation ----
 
-pub activated_by : (r : Register) (l : ℕ) (ch : Changed) (full : Bool) → is_crowded r l ≡ false → activate r l ≡ ch → is_full r 9 ≡ full
-    → (ended ch.answer full faults.EpochLimit (record { epoch = (epochs_of ch.register l).epoch; lce = lce_of r l }) ≡ activated r l) × (after_activate r l ≡ ch.register)
-activated_by r l ch full c a f =
-    let after : after_activate r l ≡ ch.register = ap (λ b. if b then r else (activate r l).register) c ∙ ap (λ x. x.register) a in
-    let grant : granted r l ≡ record { epoch = (epochs_of ch.register l).epoch; lce = lce_of r l } = ap (λ s. record { epoch = (epochs_of s l).epoch; lce = lce_of r l }) after in (
-      sym (ap (λ b. if b then Err faults.LogLimit else ended (activate r l).answer (is_full r 9) faults.EpochLimit (granted r l)) c
-          ∙ (ap (λ x. ended x.answer (is_full r 9) faults.EpochLimit (granted r l)) a ∙ (ap (λ b. ended ch.answer b faults.EpochLimit (granted r l)) f ∙ ap (λ v. ended ch.answer full faults.EpochLimit v) grant))),
+abbrev pub grant_in : Register → Spec → Register → Grant
+grant_in r s d = record { epoch = (epochs_of d s.log).epoch; lce = lce_of r s.log; next = next_told d s.log }
+
+pub activated_by : (r : Register) (s : Spec) (ch : Changed) (full : Bool) → is_crowded r s.log ≡ false → activate r s.log s ≡ ch → is_full r 13 ≡ full
+    → (ended ch.answer full faults.EpochLimit (grant_in r s ch.register) ≡ activated r s) × (after_activate r s ≡ ch.register)
+activated_by r s ch full c a f =
+    let after : after_activate r s ≡ ch.register = ap (λ b. if b then r else (activate r s.log s).register) c ∙ ap (λ x. x.register) a in
+    let grant : granted r s ≡ grant_in r s ch.register = ap (grant_in r s) after in (
+      sym (ap (λ b. if b then Err faults.LogLimit else ended (activate r s.log s).answer (is_full r 13) faults.EpochLimit (granted r s)) c
+          ∙ (ap (λ x. ended x.answer (is_full r 13) faults.EpochLimit (granted r s)) a ∙ (ap (λ b. ended ch.answer b faults.EpochLimit (granted r s)) f ∙ ap (λ v. ended ch.answer full faults.EpochLimit v) grant))),
       after,
     )
 
-pub crowded_activate : (r : Register) (l : ℕ) → is_crowded r l ≡ true → (Err faults.LogLimit ≡ activated r l) × (after_activate r l ≡ r)
-crowded_activate r l c = (sym (ap (λ b. if b then Err faults.LogLimit else ended (activate r l).answer (is_full r 9) faults.EpochLimit (granted r l)) c), ap (λ b. if b then r else (activate r l).register) c)
+pub crowded_activate : (r : Register) (s : Spec) → is_crowded r s.log ≡ true → (Err faults.LogLimit ≡ activated r s) × (after_activate r s ≡ r)
+crowded_activate r s c = (sym (ap (λ b. if b then Err faults.LogLimit else ended (activate r s.log s).answer (is_full r 13) faults.EpochLimit (granted r s)) c), ap (λ b. if b then r else (activate r s.log s).register) c)
 
-activate_limit : (r : Register) (l : ℕ) → epoch_limit ≤ (epochs_of r l).epoch → activate r l ≡ to r AtLimit
+activate_limit : (r : Register) (s : Spec) → epoch_limit ≤ (epochs_of r s.log).epoch → activate r s.log s ≡ to r AtLimit
 unfolding activate
-activate_limit r l h = rw (le-leb epoch_limit (epochs_of r l).epoch h) refl
+activate_limit r s h = rw (le-leb epoch_limit (epochs_of r s.log).epoch h) refl
 
-activate_changes : (r : Register) (l : ℕ) → (epochs_of r l).epoch < epoch_limit → activate r l ≡ change r (with_epochs r l (next_epoch (epochs_of r l))) 9
+activate_changes : (r : Register) (s : Spec) → (epochs_of r s.log).epoch < epoch_limit → activate r s.log s ≡ change r (with_epochs r s.log (next_epoch (epochs_of r s.log) s)) 13
 unfolding activate
-activate_changes r l h = rw (lt-leb epoch_limit (epochs_of r l).epoch h) refl
+activate_changes r s h = rw (lt-leb epoch_limit (epochs_of r s.log).epoch h) refl
 
-pub limit_activate : (r : Register) (l : ℕ) → is_crowded r l ≡ false → epoch_limit ≤ (epochs_of r l).epoch → (Err faults.EpochLimit ≡ activated r l) × (after_activate r l ≡ r)
-limit_activate r l c h = activated_by r l (to r AtLimit) (is_full r 9) c (activate_limit r l h) refl
+pub limit_activate : (r : Register) (s : Spec) → is_crowded r s.log ≡ false → epoch_limit ≤ (epochs_of r s.log).epoch → (Err faults.EpochLimit ≡ activated r s) × (after_activate r s ≡ r)
+limit_activate r s c h = activated_by r s (to r AtLimit) (is_full r 13) c (activate_limit r s h) refl
 
-pub full_activate : (k : Kept) (n l : ℕ) → is_crowded (register_of k n) l ≡ false → (epochs_of (register_of k n) l).epoch < epoch_limit → 2 ^ 40 < n + 14 → (Err faults.Full ≡ activated (register_of k n) l) × (after_activate (register_of k n) l ≡ register_of k n)
-full_activate k n l c h f = activated_by (register_of k n) l (to (register_of k n) Fails) true c (activate_changes (register_of k n) l h ∙ change_full k n _ 9 (omega arith)) (lt-ltb journal_limit (n + record_length 9) (omega arith))
+pub full_activate : (k : Kept) (n : ℕ) (s : Spec) → is_crowded (register_of k n) s.log ≡ false → (epochs_of (register_of k n) s.log).epoch < epoch_limit → 2 ^ 40 < n + 18 → (Err faults.Full ≡ activated (register_of k n) s) × (after_activate (register_of k n) s ≡ register_of k n)
+full_activate k n s c h f = activated_by (register_of k n) s (to (register_of k n) Fails) true c (activate_changes (register_of k n) s h ∙ change_full k n _ 13 (omega arith)) (lt-ltb journal_limit (n + record_length 13) (omega arith))
 
-pub made_activate : (k : Kept) (n l e : ℕ) → is_crowded (register_of k n) l ≡ false → (epochs_of (register_of k n) l).epoch < epoch_limit → n + 14 ≤ 2 ^ 40 → e ≡ (epochs_of (register_of k n) l).epoch + 1
-    → (Ok (record { epoch = e; lce = lce_of (register_of k n) l }) ≡ activated (register_of k n) l) × (after_activate (register_of k n) l ≡ changed (register_of k n) (changes.Activate l e))
-made_activate k n l e c h f is =
+pub made_activate : (k : Kept) (n e : ℕ) (s : Spec) (next : Option Spec) → is_crowded (register_of k n) s.log ≡ false → (epochs_of (register_of k n) s.log).epoch < epoch_limit → n + 18 ≤ 2 ^ 40 → e ≡ (epochs_of (register_of k n) s.log).epoch + 1
+    → next ≡ next_told (changed (register_of k n) (changes.Activate e s)) s.log
+    → (Ok (record { epoch = e; lce = lce_of (register_of k n) s.log; next = next }) ≡ activated (register_of k n) s) × (after_activate (register_of k n) s ≡ changed (register_of k n) (changes.Activate e s))
+made_activate k n e s next c h f is told =
     let r = register_of k n in
-    let s = activated_by r l (to (changed r (changes.Activate l e)) Granted) false c (activate_changes r l h ∙ change_made k n _ 9 (omega arith)) (le-ltb journal_limit (n + record_length 9) (omega arith)) in
-    let put_is : epochs_of (changed r (changes.Activate l e)) l ≡ next_epoch (epochs_of r l) = ap (λ o. unwrap_or o no_epochs) (find-put_same l l (next_epoch (epochs_of r l)) r.logs refl) in
-    (ap (λ v. Ok (record { epoch = v; lce = lce_of r l })) (is ∙ sym (ap (λ v. v.epoch) put_is)) ∙ s.0, s.1)
+    let a = activated_by r s (to (changed r (changes.Activate e s)) Granted) false c (activate_changes r s h ∙ change_made k n _ 13 (omega arith)) (le-ltb journal_limit (n + record_length 13) (omega arith)) in (
+      ap (λ v. Ok (record { epoch = v; lce = lce_of r s.log; next = next })) (is ∙ sym (ap (λ v. v.epoch) (activated_is r e s)))
+          ∙ (ap (λ v. Ok (record { epoch = (epochs_of (changed r (changes.Activate e s)) s.log).epoch; lce = lce_of r s.log; next = v })) told ∙ a.0),
+      a.1,
+    )
 
 -- ---- a close ----
 
 pub closed_by : (r : Register) (l e : ℕ) (y : Summary) (ch : Changed) (full : Bool) → is_crowded r l ≡ false → close r l e y ≡ ch → is_full r 29 ≡ full
-    → (ended ch.answer full faults.EpochLimit (tt {0}) ≡ closed r l e y) × (after_close r l e y ≡ ch.register)
-closed_by r l e y ch full c a f = (
-  sym (ap (λ b. if b then Err faults.LogLimit else ended (close r l e y).answer (is_full r 29) faults.EpochLimit tt) c
-      ∙ (ap (λ x. ended x.answer (is_full r 29) faults.EpochLimit tt) a ∙ ap (λ b. ended ch.answer b faults.EpochLimit tt) f)),
-  ap (λ b. if b then r else (close r l e y).register) c ∙ ap (λ x. x.register) a,
-)
+    → (close_ended ch.answer full (next_told r l) (next_told ch.register l) ≡ closed r l e y) × (after_close r l e y ≡ ch.register)
+closed_by r l e y ch full c a f =
+    let after : after_close r l e y ≡ ch.register = ap (λ b. if b then r else (close r l e y).register) c ∙ ap (λ x. x.register) a in (
+      sym (ap (λ b. if b then Err faults.LogLimit else close_ended (close r l e y).answer (is_full r 29) (next_told r l) (next_told (after_close r l e y) l)) c
+          ∙ (ap (λ x. close_ended x.answer (is_full r 29) (next_told r l) (next_told (after_close r l e y) l)) a
+          ∙ (ap (λ b. close_ended ch.answer b (next_told r l) (next_told (after_close r l e y) l)) f ∙ ap (λ d. close_ended ch.answer full (next_told r l) (next_told d l)) after))),
+      after,
+    )
 
 pub crowded_close : (r : Register) (l e : ℕ) (y : Summary) → is_crowded r l ≡ true → (Err faults.LogLimit ≡ closed r l e y) × (after_close r l e y ≡ r)
-crowded_close r l e y c = (sym (ap (λ b. if b then Err faults.LogLimit else ended (close r l e y).answer (is_full r 29) faults.EpochLimit tt) c), ap (λ b. if b then r else (close r l e y).register) c)
+crowded_close r l e y c = (sym (ap (λ b. if b then Err faults.LogLimit else close_ended (close r l e y).answer (is_full r 29) (next_told r l) (next_told (after_close r l e y) l)) c), ap (λ b. if b then r else (close r l e y).register) c)
 
 close_behind : (r : Register) (l e : ℕ) (y : Summary) → (lce_of r l + 1 ≡ e → ⊥) → close r l e y ≡ to r (Behind (lce_of r l))
 unfolding close
@@ -83,14 +133,18 @@ close_changes : (r : Register) (l e : ℕ) (y : Summary) → lce_of r l + 1 ≡ 
 unfolding close
 close_changes r l e y h = rw (eq-eqb (lce_of r l + 1) e h) refl
 
-pub behind_close : (r : Register) (l e : ℕ) (y : Summary) → is_crowded r l ≡ false → (lce_of r l + 1 ≡ e → ⊥) → (Err (faults.Behind (lce_of r l)) ≡ closed r l e y) × (after_close r l e y ≡ r)
+pub behind_close : (r : Register) (l e : ℕ) (y : Summary) → is_crowded r l ≡ false → (lce_of r l + 1 ≡ e → ⊥) → (Err (faults.Behind (lce_of r l) (next_told r l)) ≡ closed r l e y) × (after_close r l e y ≡ r)
 behind_close r l e y c h = closed_by r l e y (to r (Behind (lce_of r l))) (is_full r 29) c (close_behind r l e y h) refl
 
 pub full_close : (k : Kept) (n l e : ℕ) (y : Summary) → is_crowded (register_of k n) l ≡ false → lce_of (register_of k n) l + 1 ≡ e → 2 ^ 40 < n + 34 → (Err faults.Full ≡ closed (register_of k n) l e y) × (after_close (register_of k n) l e y ≡ register_of k n)
 full_close k n l e y c h f = closed_by (register_of k n) l e y (to (register_of k n) Fails) true c (close_changes (register_of k n) l e y h ∙ change_full k n _ 29 (omega arith)) (lt-ltb journal_limit (n + record_length 29) (omega arith))
 
-pub made_close : (k : Kept) (n l e : ℕ) (y : Summary) → is_crowded (register_of k n) l ≡ false → lce_of (register_of k n) l + 1 ≡ e → n + 34 ≤ 2 ^ 40 → (Ok (tt {0}) ≡ closed (register_of k n) l e y) × (after_close (register_of k n) l e y ≡ changed (register_of k n) (changes.Close l e y))
-made_close k n l e y c h f = let r = register_of k n in closed_by r l e y (to (changed r (changes.Close l e y)) Granted) false c (close_changes r l e y h ∙ change_made k n _ 29 (omega arith)) (le-ltb journal_limit (n + record_length 29) (omega arith))
+pub made_close : (k : Kept) (n l e : ℕ) (y : Summary) (next : Option Spec) → is_crowded (register_of k n) l ≡ false → lce_of (register_of k n) l + 1 ≡ e → n + 34 ≤ 2 ^ 40 → next ≡ spec_told (register_of k n) l (e + 1)
+    → (Ok next ≡ closed (register_of k n) l e y) × (after_close (register_of k n) l e y ≡ changed (register_of k n) (changes.Close l e y))
+made_close k n l e y next c h f told =
+    let r = register_of k n in
+    let a = closed_by r l e y (to (changed r (changes.Close l e y)) Granted) false c (close_changes r l e y h ∙ change_made k n _ 29 (omega arith)) (le-ltb journal_limit (n + record_length 29) (omega arith)) in
+    (ap (λ v. Ok v) (told ∙ tells_behind r l e y) ∙ a.0, a.1)
 
 -- ---- a draw ----
 

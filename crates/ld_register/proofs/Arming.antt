@@ -1,12 +1,12 @@
 -- What an armed fault makes of a call.
-use Rattle.std.proofs.Common.{◌≡◌, ◌≤◌, ◌<◌, ◌+◌, ◌-◌, ◌^◌, ◌==◌, ◌⊎◌, inl, inr, ℕ, Bool, true, false, not, ◌||◌, min, Option, Some, None, List, Result, Ok, Err, OnOk, OnErr, IfOk, refl, ap, sym, ◌∙◌, subst, arith, if◌then◌else◌}
-use Rattle.std.specs.Prelude.{nat_le, nat_lt}
+use Rattle.std.proofs.Common.{◌≡◌, ◌≤◌, ◌+◌, ◌-◌, ◌^◌, ◌==◌, ◌⊎◌, inl, inr, ℕ, Bool, true, false, not, ◌||◌, min, Option, Some, None, List, Result, Ok, Err, OnOk, IfOk, refl, ap, sym, ◌∙◌, subst, arith, if◌then◌else◌}
+use Rattle.std.specs.Prelude.{nat_le}
 use Rattle.std.specs.Result.{IsErrOf}
-use Rattle.ld_io.specs.Causes.{Rose}
 use Rattle.ld_table.specs.Table.{put}
 use Rattle.ld_disk.specs.declared.disk.Disk.{Ghosts}
+use Rattle.ld_ids.specs.declared.set.Spec.{Spec}
 use Rattle.ld_msg.specs.declared.msg.Summary.{Summary}
-use Rattle.ld_msg.specs.Register.{Register, Armed, Changed, Answer, Granted, AtLimit, Behind, Fails, epochs_of, generation_of, lce_of, epoch_limit, generation_limit, journal_limit, record_length, falls, armed_after, is_made, made, unmade, change, activate, close, draw, next_epoch, closed_epochs, with_epochs, is_crowded, epochs_in}
+use Rattle.ld_msg.specs.Register.{Register, Armed, Changed, Granted, AtLimit, Behind, Fails, epochs_of, generation_of, lce_of, epoch_limit, generation_limit, record_length, falls, armed_after, is_made, made, unmade, change, activate, close, draw, next_epoch, closed_epochs, with_epochs, is_crowded, epochs_in}
 use Rattle.ld_register.specs.declared.fault.RegisterFault.{RegisterFault}
 use Rattle.ld_register.specs.declared.fault.RegisterFault.TheVariants as faults
 use Rattle.ld_register.specs.declared.disk.DiskRegister.{DiskRegister}
@@ -14,12 +14,11 @@ use Rattle.ld_register.specs.declared.faulty.FaultyRegister.{FaultyRegister}
 use Rattle.ld_register.specs.declared.change.Change.{Change}
 use Rattle.ld_register.specs.declared.register.Drawn.{Drawn}
 use Rattle.ld_register.specs.declared.register.Grant.{Grant}
-use Rattle.ld_register.specs.Calls.{IsFree, ended, is_full, activated, after_activate, closed, after_close, drawn, after_draw, unarmed}
-use Rattle.ld_register.specs.Held.{owned, Holds, MayHold, Foretells, IsDue, Meets, granting}
-use Rattle.ld_register.specs.Arming.{kept_in, disk_in, armed_of, own_faults, faults_in, Foresees, MeetsArmed, StaysArmed, HasCounted, HasFallen}
-use Rattle.ld_register.proofs.Committing.{on_err}
-use Rattle.ld_register.proofs.Meeting.{failure, meets_unmade}
-use Rattle.ld_register.proofs.Answering.{to, activated_by, crowded_activate, closed_by, crowded_close, drawn_by}
+use Rattle.ld_register.specs.Calls.{IsFree, ended, close_ended, next_told, is_full, activated, after_activate, closed, after_close, drawn, after_draw, unarmed}
+use Rattle.ld_register.specs.Held.{Holds, MayHold, Foretells, IsDue, Meets, granting}
+use Rattle.ld_register.specs.Arming.{kept_in, disk_in, armed_of, own_faults, Foresees, MeetsArmed, HasFallen}
+use Rattle.ld_register.proofs.Meeting.{failure, meets_unmade, leaves_changed}
+use Rattle.ld_register.proofs.Answering.{to, grant_in, activated_by, crowded_activate, closed_by, crowded_close, drawn_by}
 
 -- ---- a call, by what it answers with no fault armed ----
 
@@ -72,36 +71,36 @@ changes_by r next b full h = ap (outcome r next b) h
 
 -- ---- an activation ----
 
-abbrev activation : Register → ℕ → Register
-activation r l = with_epochs r l (next_epoch (epochs_of r l))
+abbrev activation : Register → Spec → Register
+activation r s = with_epochs r s.log (next_epoch (epochs_of r s.log) s)
 
-activate_at : (r : Register) (l : ℕ) (b : Bool) → nat_le epoch_limit (epochs_of r l).epoch ≡ b → activate r l ≡ (if b then to r AtLimit else change r (activation r l) 9)
+activate_at : (r : Register) (p : Spec) (b : Bool) → nat_le epoch_limit (epochs_of r p.log).epoch ≡ b → activate r p.log p ≡ (if b then to r AtLimit else change r (activation r p) 13)
 unfolding activate
-activate_at r l b h = ap (λ b. if b then to r AtLimit else change r (activation r l) 9) h
+activate_at r p b h = ap (λ b. if b then to r AtLimit else change r (activation r p) 13) h
 
-ends_activate : (r : Register) (l : ℕ) (full : Bool) → is_crowded r l ≡ false → nat_le epoch_limit (epochs_of r l).epoch ≡ false → is_full r 9 ≡ full
-    → (ended (outcome r (activation r l) 9 full).answer full faults.EpochLimit (record { epoch = (epochs_of (outcome r (activation r l) 9 full).register l).epoch; lce = lce_of r l }) ≡ activated r l) × (after_activate r l ≡ (outcome r (activation r l) 9 full).register)
-ends_activate r l full c h f = activated_by r l (outcome r (activation r l) 9 full) full c (activate_at r l false h ∙ changes_by r (activation r l) 9 full f) f
+ends_activate : (r : Register) (p : Spec) (full : Bool) → is_crowded r p.log ≡ false → nat_le epoch_limit (epochs_of r p.log).epoch ≡ false → is_full r 13 ≡ full
+    → (ended (outcome r (activation r p) 13 full).answer full faults.EpochLimit (grant_in r p (outcome r (activation r p) 13 full).register) ≡ activated r p) × (after_activate r p ≡ (outcome r (activation r p) 13 full).register)
+ends_activate r p full c h f = activated_by r p (outcome r (activation r p) 13 full) full c (activate_at r p false h ∙ changes_by r (activation r p) 13 full f) f
 
-refused_activate : (c : Register) (l : ℕ) (e : RegisterFault) (crowded limit full : Bool) → is_crowded c l ≡ crowded → nat_le epoch_limit (epochs_of c l).epoch ≡ limit → is_full c 9 ≡ full
-    → failure Grant e ≡ activated (unarmed c) l → (failure Grant e ≡ activated c l) × (after_activate c l ≡ c)
-refused_activate c l e true limit full a b d h = let s = crowded_activate c l a in let t = crowded_activate (unarmed c) l a in ((h ∙ sym t.0) ∙ s.0, s.1)
-refused_activate c l e false true full a b d h = let s = activated_by c l (to c AtLimit) full a (activate_at c l true b) d in let t = activated_by (unarmed c) l (to (unarmed c) AtLimit) full a (activate_at (unarmed c) l true b) d in ((h ∙ sym t.0) ∙ s.0, s.1)
-refused_activate c l e false false true a b d h = let s = ends_activate c l true a b d in let t = ends_activate (unarmed c) l true a b d in ((h ∙ sym t.0) ∙ s.0, s.1)
-refused_activate c l e false false false a b d h = let t = ends_activate (unarmed c) l false a b d in absurd (not_granted e _ (h ∙ sym t.0))
+refused_activate : (c : Register) (p : Spec) (e : RegisterFault) (crowded limit full : Bool) → is_crowded c p.log ≡ crowded → nat_le epoch_limit (epochs_of c p.log).epoch ≡ limit → is_full c 13 ≡ full
+    → failure Grant e ≡ activated (unarmed c) p → (failure Grant e ≡ activated c p) × (after_activate c p ≡ c)
+refused_activate c p e true limit full a b d h = let s = crowded_activate c p a in let t = crowded_activate (unarmed c) p a in ((h ∙ sym t.0) ∙ s.0, s.1)
+refused_activate c p e false true full a b d h = let s = activated_by c p (to c AtLimit) full a (activate_at c p true b) d in let t = activated_by (unarmed c) p (to (unarmed c) AtLimit) full a (activate_at (unarmed c) p true b) d in ((h ∙ sym t.0) ∙ s.0, s.1)
+refused_activate c p e false false true a b d h = let s = ends_activate c p true a b d in let t = ends_activate (unarmed c) p true a b d in ((h ∙ sym t.0) ∙ s.0, s.1)
+refused_activate c p e false false false a b d h = let t = ends_activate (unarmed c) p false a b d in absurd (not_granted e _ (h ∙ sym t.0))
 
-granted_activate : (c : Register) (l : ℕ) (x : Grant) (crowded limit full : Bool) → is_crowded c l ≡ crowded → nat_le epoch_limit (epochs_of c l).epoch ≡ limit → is_full c 9 ≡ full
-    → granting x ≡ activated (unarmed c) l → ((if falls c.armed then failure Grant faults.Failed else granting x) ≡ activated c l) × (after_activate c l ≡ with_armed (if is_made c.armed then after_activate (unarmed c) l else c) (armed_after c.armed))
-granted_activate c l x true limit full a b d h = let t = crowded_activate (unarmed c) l a in absurd (not_granted faults.LogLimit x (sym (h ∙ sym t.0)))
-granted_activate c l x false true full a b d h = let t = activated_by (unarmed c) l (to (unarmed c) AtLimit) full a (activate_at (unarmed c) l true b) d in absurd (not_granted faults.EpochLimit x (sym (h ∙ sym t.0)))
-granted_activate c l x false false true a b d h = let t = ends_activate (unarmed c) l true a b d in absurd (not_granted faults.Full x (sym (h ∙ sym t.0)))
-granted_activate c l x false false false a b d h = let s = ends_activate c l false a b d in let t = ends_activate (unarmed c) l false a b d in
-    arms_grant c x (activation c l) 9 faults.EpochLimit (λ r. record { epoch = (epochs_of r l).epoch; lce = lce_of c l }) (activated c l) (after_activate c l) (after_activate (unarmed c) l) s.0 s.1 (h ∙ sym t.0) (sym t.1)
+granted_activate : (c : Register) (p : Spec) (x : Grant) (crowded limit full : Bool) → is_crowded c p.log ≡ crowded → nat_le epoch_limit (epochs_of c p.log).epoch ≡ limit → is_full c 13 ≡ full
+    → granting x ≡ activated (unarmed c) p → ((if falls c.armed then failure Grant faults.Failed else granting x) ≡ activated c p) × (after_activate c p ≡ with_armed (if is_made c.armed then after_activate (unarmed c) p else c) (armed_after c.armed))
+granted_activate c p x true limit full a b d h = let t = crowded_activate (unarmed c) p a in absurd (not_granted faults.LogLimit x (sym (h ∙ sym t.0)))
+granted_activate c p x false true full a b d h = let t = activated_by (unarmed c) p (to (unarmed c) AtLimit) full a (activate_at (unarmed c) p true b) d in absurd (not_granted faults.EpochLimit x (sym (h ∙ sym t.0)))
+granted_activate c p x false false true a b d h = let t = ends_activate (unarmed c) p true a b d in absurd (not_granted faults.Full x (sym (h ∙ sym t.0)))
+granted_activate c p x false false false a b d h = let s = ends_activate c p false a b d in let t = ends_activate (unarmed c) p false a b d in
+    arms_grant c x (activation c p) 13 faults.EpochLimit (grant_in c p) (activated c p) (after_activate c p) (after_activate (unarmed c) p) s.0 s.1 (h ∙ sym t.0) (sym t.1)
 
-pub arms_activate : (l : ℕ) → Arms (λ c. activated c l) (λ c. after_activate c l)
-arms_activate l = record {
-  refused = λ c e h. refused_activate c l e (is_crowded c l) (nat_le epoch_limit (epochs_of c l).epoch) (is_full c 9) refl refl refl h;
-  granted = λ c x h. granted_activate c l x (is_crowded c l) (nat_le epoch_limit (epochs_of c l).epoch) (is_full c 9) refl refl refl h;
+pub arms_activate : (p : Spec) → Arms (λ c. activated c p) (λ c. after_activate c p)
+arms_activate p = record {
+  refused = λ c e h. refused_activate c p e (is_crowded c p.log) (nat_le epoch_limit (epochs_of c p.log).epoch) (is_full c 13) refl refl refl h;
+  granted = λ c x h. granted_activate c p x (is_crowded c p.log) (nat_le epoch_limit (epochs_of c p.log).epoch) (is_full c 13) refl refl refl h;
 }
 
 -- ---- a close ----
@@ -113,24 +112,31 @@ close_at : (r : Register) (l e : ℕ) (y : Summary) (b : Bool) → (lce_of r l +
 unfolding close
 close_at r l e y b h = ap (λ b. if b then change r (closing r l e y) 29 else to r (Behind (lce_of r l))) h
 
+-- a close that isn't behind
+closes_as : (f full : Bool) (before after : Option Spec) → close_ended (if f then Fails else Granted) full before after ≡ ended (if f then Fails else Granted) full faults.EpochLimit after
+closes_as true full before after = refl
+closes_as false full before after = refl
+
 ends_close : (r : Register) (l e : ℕ) (y : Summary) (full : Bool) → is_crowded r l ≡ false → (lce_of r l + 1 == e) ≡ true → is_full r 29 ≡ full
-    → (ended (outcome r (closing r l e y) 29 full).answer full faults.EpochLimit (tt {0}) ≡ closed r l e y) × (after_close r l e y ≡ (outcome r (closing r l e y) 29 full).register)
-ends_close r l e y full c h f = closed_by r l e y (outcome r (closing r l e y) 29 full) full c (close_at r l e y true h ∙ changes_by r (closing r l e y) 29 full f) f
+    → (ended (outcome r (closing r l e y) 29 full).answer full faults.EpochLimit (next_told (outcome r (closing r l e y) 29 full).register l) ≡ closed r l e y) × (after_close r l e y ≡ (outcome r (closing r l e y) 29 full).register)
+ends_close r l e y full c h f =
+    let s = closed_by r l e y (outcome r (closing r l e y) 29 full) full c (close_at r l e y true h ∙ changes_by r (closing r l e y) 29 full f) f in
+    (sym (closes_as (full || falls r.armed) full (next_told r l) (next_told (outcome r (closing r l e y) 29 full).register l)) ∙ s.0, s.1)
 
 refused_close : (c : Register) (l k : ℕ) (y : Summary) (e : RegisterFault) (crowded next full : Bool) → is_crowded c l ≡ crowded → (lce_of c l + 1 == k) ≡ next → is_full c 29 ≡ full
-    → failure (Unit {0}) e ≡ closed (unarmed c) l k y → (failure (Unit {0}) e ≡ closed c l k y) × (after_close c l k y ≡ c)
+    → failure (Option Spec) e ≡ closed (unarmed c) l k y → (failure (Option Spec) e ≡ closed c l k y) × (after_close c l k y ≡ c)
 refused_close c l k y e true next full a b d h = let s = crowded_close c l k y a in let t = crowded_close (unarmed c) l k y a in ((h ∙ sym t.0) ∙ s.0, s.1)
 refused_close c l k y e false false full a b d h = let s = closed_by c l k y (to c (Behind (lce_of c l))) full a (close_at c l k y false b) d in let t = closed_by (unarmed c) l k y (to (unarmed c) (Behind (lce_of c l))) full a (close_at (unarmed c) l k y false b) d in ((h ∙ sym t.0) ∙ s.0, s.1)
 refused_close c l k y e false true true a b d h = let s = ends_close c l k y true a b d in let t = ends_close (unarmed c) l k y true a b d in ((h ∙ sym t.0) ∙ s.0, s.1)
 refused_close c l k y e false true false a b d h = let t = ends_close (unarmed c) l k y false a b d in absurd (not_granted e _ (h ∙ sym t.0))
 
-granted_close : (c : Register) (l k : ℕ) (y : Summary) (x : Unit {0}) (crowded next full : Bool) → is_crowded c l ≡ crowded → (lce_of c l + 1 == k) ≡ next → is_full c 29 ≡ full
-    → granting x ≡ closed (unarmed c) l k y → ((if falls c.armed then failure (Unit {0}) faults.Failed else granting x) ≡ closed c l k y) × (after_close c l k y ≡ with_armed (if is_made c.armed then after_close (unarmed c) l k y else c) (armed_after c.armed))
+granted_close : (c : Register) (l k : ℕ) (y : Summary) (x : Option Spec) (crowded next full : Bool) → is_crowded c l ≡ crowded → (lce_of c l + 1 == k) ≡ next → is_full c 29 ≡ full
+    → granting x ≡ closed (unarmed c) l k y → ((if falls c.armed then failure (Option Spec) faults.Failed else granting x) ≡ closed c l k y) × (after_close c l k y ≡ with_armed (if is_made c.armed then after_close (unarmed c) l k y else c) (armed_after c.armed))
 granted_close c l k y x true next full a b d h = let t = crowded_close (unarmed c) l k y a in absurd (not_granted faults.LogLimit x (sym (h ∙ sym t.0)))
-granted_close c l k y x false false full a b d h = let t = closed_by (unarmed c) l k y (to (unarmed c) (Behind (lce_of c l))) full a (close_at (unarmed c) l k y false b) d in absurd (not_granted (faults.Behind (lce_of c l)) x (sym (h ∙ sym t.0)))
+granted_close c l k y x false false full a b d h = let t = closed_by (unarmed c) l k y (to (unarmed c) (Behind (lce_of c l))) full a (close_at (unarmed c) l k y false b) d in absurd (not_granted (faults.Behind (lce_of c l) (next_told c l)) x (sym (h ∙ sym t.0)))
 granted_close c l k y x false true true a b d h = let t = ends_close (unarmed c) l k y true a b d in absurd (not_granted faults.Full x (sym (h ∙ sym t.0)))
 granted_close c l k y x false true false a b d h = let s = ends_close c l k y false a b d in let t = ends_close (unarmed c) l k y false a b d in
-    arms_grant c x (closing c l k y) 29 faults.EpochLimit (λ r. tt {0}) (closed c l k y) (after_close c l k y) (after_close (unarmed c) l k y) s.0 s.1 (h ∙ sym t.0) (sym t.1)
+    arms_grant c x (closing c l k y) 29 faults.EpochLimit (λ r. next_told r l) (closed c l k y) (after_close c l k y) (after_close (unarmed c) l k y) s.0 s.1 (h ∙ sym t.0) (sym t.1)
 
 pub arms_close : (l e : ℕ) (y : Summary) → Arms (λ c. closed c l e y) (λ c. after_close c l e y)
 arms_close l k y = record {
@@ -244,6 +250,8 @@ module _ {D : Type 0} {g : Ghosts D} where
     told = m.told;
     whole = λ t. inl free;
     settles = λ t. inl free;
+    sure = λ t. inl free;
+    survives = λ t cs l. leaves_changed (is_made (armed_of old)) (kept_in new) after cs (m.survives t cs l);
     done_or_not = λ t c h. done_of (is_made (armed_of old)) (kept_in old) after c (m.done_or_not t c h);
     keeps = inl is;
     exact = exact_granted old new given r answer after arms (is ∙ ap (λ b. if b then failure T faults.Failed else granting given) (sym fell)) armed m;
@@ -272,6 +280,8 @@ module _ {D : Type 0} {g : Ghosts D} where
         told = k.told;
         whole = k.whole;
         settles = k.settles;
+        sure = k.sure;
+        survives = k.survives;
         done_or_not = k.done_or_not;
         keeps = k.keeps;
         exact = exact_granted old new given (granting given) answer after arms (ap (λ b. if b then failure T faults.Failed else granting given) (sym passes)) armed m;
@@ -295,6 +305,8 @@ module _ {D : Type 0} {g : Ghosts D} where
     told = m.told;
     whole = m.whole;
     settles = m.settles;
+    sure = m.sure;
+    survives = m.survives;
     done_or_not = m.done_or_not;
     keeps = m.keeps;
     exact = exact;

@@ -12,8 +12,9 @@ use Rattle.ld_disk.specs.declared.disk.Disk.{Ghosts}
 use Rattle.ld_disk.specs.declared.disk.Fault.{Fault}
 use Rattle.ld_disk.specs.declared.disk.Fault.TheVariants as disk_faults
 use Rattle.ld_disk.specs.declared.fate.Fate.TheVariants as fates
-use Rattle.ld_journal.specs.Format.{IsWithOrWithout}
+use Rattle.ld_journal.specs.Format.{IsWithOrWithout, records}
 use Rattle.ld_journal.specs.Open.{IsSettled, disk_of, place_of, must_load}
+use Rattle.ld_journal.proofs.Reading.{one_reading}
 use Rattle.ld_journal.specs.declared.fault.JournalFault.{JournalFault}
 use Rattle.ld_journal.specs.declared.fault.JournalFault.TheVariants as journals
 use Rattle.ld_msg.specs.Register.{Register, empty_register}
@@ -23,7 +24,7 @@ use Rattle.ld_register.specs.declared.change.Change.{Change}
 use Rattle.ld_register.specs.Faults.{passed_on, is_disk}
 use Rattle.ld_register.specs.Changes.{changed, change_bytes, body_length, is_next, IsChange, IsNext}
 use Rattle.ld_register.specs.Kept.{Kept, register_of}
-use Rattle.ld_register.specs.Stands.{StandsFor, IsReplayed}
+use Rattle.ld_register.specs.Stands.{StandsFor, HasRecords, IsReplayed}
 use Rattle.ld_register.specs.Held.{IsQuiet, never_falls}
 use Rattle.ld_register.proofs.Leading.{leads_push, next_in, made_kept}
 
@@ -192,6 +193,9 @@ fits_by n m h = elim (cases_order n m) [
   | inr (inr l) ↦ absurd (h l)
 ]
 
+some_same : (a b : List ℕ) → Some a ≡ Some b → a ≡ b
+some_same a b e = cc e
+
 module _ {D : Type 0} (g : Ghosts D) where
   pub next_of : (oj : Journal D) (k : Kept) (x : Change) (c : Register) (body : List ℕ) → body ≡ change_bytes x → IsChange x → is_next (register_of k 0) x ≡ true → IsReplayed g.seen g.may_leave oj k c → IsNext c body x
   next_of oj k x c body e i n h = record { body_is = record { bytes = e; is = i }; next = next_in k c 0 x h.kept ∙ n }
@@ -217,6 +221,16 @@ module _ {D : Type 0} (g : Ghosts D) where
     kept = made_kept k j c x h.kept (λ a b m. apply a b m ∙ ap (λ r. changed r x) (room a));
   }
 
+  pub adds_by : (oj nj : Journal D) (k : Kept) (x : Change) (body : List ℕ) → body ≡ change_bytes x
+      → ((bodies : List (List ℕ)) → IsSettled g.seen g.may_leave oj bodies → IsSettled g.seen g.may_leave nj (bodies ++ body ∷ []))
+      → (c : Register) (bodies : List (List ℕ)) → IsReplayed g.seen g.may_leave oj k c → HasRecords (g.seen (disk_of oj)) bodies → HasRecords (g.seen (disk_of nj)) (bodies ++ change_bytes x ∷ [])
+  adds_by oj nj k x body e settled c bodies h r =
+      let was = h.settled.rests in
+      let now = (settled h.bodies h.settled).rests in
+      let same : bodies ≡ h.bodies = one_reading r.bytes bodies h.bodies r.journal (record { gate = was.gate; after = was.after; bytes_are = some_same r.bytes _ (sym r.seen_is ∙ was.bytes); shut = was.shut; fits = was.fits }) in
+      subst (HasRecords (g.seen (disk_of nj))) (sym (ap (λ b. b ++ change_bytes x ∷ []) same ∙ ap (λ b. h.bodies ++ b ∷ []) (sym e)))
+      (record { bytes = records (h.bodies ++ body ∷ []) ++ now.gate ∷ now.after; seen_is = now.bytes; journal = record { gate = now.gate; after = now.after; bytes_are = refl; shut = now.shut; fits = now.fits } })
+
   pub kept_by : (oj nj : Journal D) (k j : Kept) → ((n : ℕ) → register_of j n ≡ register_of k n)
       → ((bodies : List (List ℕ)) → IsSettled g.seen g.may_leave oj bodies → IsSettled g.seen g.may_leave nj bodies)
       → (c : Register) → IsReplayed g.seen g.may_leave oj k c → IsReplayed g.seen g.may_leave nj j c
@@ -236,9 +250,9 @@ module _ {D : Type 0} (g : Ghosts D) where
       → (refusal f ≡ refusal journals.Disk) ⊎ Unchanged g.seen g.may_leave g.moment g.left_since (disk_of oj) (disk_of nj)
       → ((r ≡ refused_as faults.Failed) × (loaded ≡ false) × Rose (g.faults (disk_of oj)) (g.faults (disk_of nj)) × (place_of oj + n + 6 ≤ 2 ^ 40))
       ⊎ (((r ≡ refused_as faults.NoMemory) ⊎ ((r ≡ refused_as faults.Full) × (2 ^ 40 < place_of oj + n + 6)))
-      × (loaded ≡ true) × ((c : Register) → IsReplayed g.seen g.may_leave oj k c → IsReplayed g.seen g.may_leave nj j c) × LeavesOnly g.moment g.left_since (disk_of oj) (disk_of nj) (g.may_leave (disk_of oj)))
+      × (loaded ≡ true) × ((c : Register) → IsReplayed g.seen g.may_leave oj k c → IsReplayed g.seen g.may_leave nj j c) × LeavesOnly g.moment g.left_since (disk_of oj) (disk_of nj) (g.may_leave (disk_of oj)) × (g.seen (disk_of nj) ≡ g.seen (disk_of oj)))
   refused_by journals.Disk oj nj k j n loaded r body len is l room works rose full back only needs never settled same = inl (is, l, rose refl, fits_by (place_of oj + n + 6) (2 ^ 40) (λ m. absurd (let e = back (works, omega arith) in cc e)))
-  refused_by journals.Full oj nj k j n loaded r body len is l room works rose full back only needs never settled same = inr (inr (is, let h = (full refl).1 in omega arith), l, kept_by oj nj k j room (λ b s. stays_settled journals.Full _ ⊥ (λ d. absurd (cc d)) (settled b s)), leaves_same g (disk_of oj) (disk_of nj) only (stays_settled journals.Full _ ⊥ (λ d. absurd (cc d)) same))
-  refused_by journals.NoMemory oj nj k j n loaded r body len is l room works rose full back only needs never settled same = inr (inl is, l, kept_by oj nj k j room (λ b s. stays_settled journals.NoMemory _ ⊥ (λ d. absurd (cc d)) (settled b s)), leaves_same g (disk_of oj) (disk_of nj) only (stays_settled journals.NoMemory _ ⊥ (λ d. absurd (cc d)) same))
+  refused_by journals.Full oj nj k j n loaded r body len is l room works rose full back only needs never settled same = inr (inr (is, let h = (full refl).1 in omega arith), l, kept_by oj nj k j room (λ b s. stays_settled journals.Full _ ⊥ (λ d. absurd (cc d)) (settled b s)), leaves_same g (disk_of oj) (disk_of nj) only (stays_settled journals.Full _ ⊥ (λ d. absurd (cc d)) same), (stays_settled journals.Full _ ⊥ (λ d. absurd (cc d)) same).bytes)
+  refused_by journals.NoMemory oj nj k j n loaded r body len is l room works rose full back only needs never settled same = inr (inl is, l, kept_by oj nj k j room (λ b s. stays_settled journals.NoMemory _ ⊥ (λ d. absurd (cc d)) (settled b s)), leaves_same g (disk_of oj) (disk_of nj) only (stays_settled journals.NoMemory _ ⊥ (λ d. absurd (cc d)) same), (stays_settled journals.NoMemory _ ⊥ (λ d. absurd (cc d)) same).bytes)
   refused_by journals.NeedsLoad oj nj k j n loaded r body len is l room works rose full back only needs never settled same = absurd (let h = sym works ∙ needs refl in cc h)
   refused_by (journals.Damaged place) oj nj k j n loaded r body len is l room works rose full back only needs never settled same = absurd (never place refl)

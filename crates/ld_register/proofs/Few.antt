@@ -11,11 +11,12 @@ use Rattle.ld_table.specs.Words.{how_many}
 use Rattle.ld_table.proofs.Order.{Ordered-put}
 use Rattle.ld_op.proofs.There.{Ordered-map_values}
 use Rattle.ld_msg.specs.Register.{Epochs, epochs_in, is_crowded, log_limit}
+use Rattle.ld_ids.specs.declared.set.Spec.{Spec}
 use Rattle.ld_msg.specs.declared.msg.Summary.{Summary}
 use Rattle.ld_register.specs.declared.change.Change.{Change}
 use Rattle.ld_register.specs.declared.change.Change.TheVariants as changes
 use Rattle.ld_register.specs.Changes.{is_next}
-use Rattle.ld_register.specs.Kept.{Kept, register_of, shown_log, shown_logs, is_held}
+use Rattle.ld_register.specs.Kept.{Kept, register_of, shown_log, shown_logs, is_held, AreLogs, AreFewLogs}
 use Rattle.ld_register.proofs.Tables.{Ordered-passing}
 
 -- how many but this one
@@ -70,13 +71,20 @@ Ordered-shown m o = Ordered-passing is_held (map_values shown_log m) (Ordered-ma
 pub shown_few : (l : ℕ) (v : Epochs) (m n : List (ℕ × Epochs)) → shown_logs n ≡ put l v (shown_logs m) → Ordered m → how_many (λ k. not (k.0 == l)) (shown_logs m) < 64 → length (shown_logs n) ≤ 64
 shown_few l v m n e o h = put_few l v (shown_logs m) (shown_logs n) e (Ordered-shown m o) h
 
+-- room is made
+pub few_same : (m n : List (ℕ × Epochs)) → shown_logs n ≡ shown_logs m → (AreLogs m → AreLogs n) → AreFewLogs m → AreFewLogs n
+few_same m n e l h = record { logs = l h.logs; few = let a = ap length e in let b = h.few in omega arith }
+
 -- a log whose change is the next one
 off : (t b : Bool) → (not t && b) ≡ true → t ≡ false
 off true b h = absurd cc
 off false b h = refl
 
-pub activate_few : (k : Kept) (m : List (ℕ × Epochs)) (g : List (ℕ × ℕ)) (x : Change) (l e : ℕ) → record { logs = m; generations = g } ≡ k → x ≡ changes.Activate l e → is_next (register_of k 0) x ≡ true → how_many (λ i. not (i.0 == l)) (shown_logs m) < 64
-activate_few k m g x l e v i h = subst (λ n. how_many (λ j. not (j.0 == l)) (shown_logs n) < 64) (sym (ap (λ (n : Kept). n.logs) v)) (leb-false log_limit _ (off (is_crowded (register_of k 0) l) _ (subst (λ y. is_next (register_of k 0) y ≡ true) i h)))
+pub activate_few : (k : Kept) (m : List (ℕ × Epochs)) (g : List (ℕ × ℕ)) (x : Change) (e : ℕ) (s : Spec) → record { logs = m; generations = g } ≡ k → x ≡ changes.Activate e s → is_next (register_of k 0) x ≡ true → how_many (λ i. not (i.0 == s.log)) (shown_logs m) < 64
+activate_few k m g x e s v i h = subst (λ n. how_many (λ j. not (j.0 == s.log)) (shown_logs n) < 64) (sym (ap (λ (n : Kept). n.logs) v)) (leb-false log_limit _ (off (is_crowded (register_of k 0) s.log) _ (subst (λ y. is_next (register_of k 0) y ≡ true) i h)))
+
+pub unfixed_few : (k : Kept) (m : List (ℕ × Epochs)) (g : List (ℕ × ℕ)) (x : Change) (l e : ℕ) → record { logs = m; generations = g } ≡ k → x ≡ changes.Unfixed l e → is_next (register_of k 0) x ≡ true → how_many (λ i. not (i.0 == l)) (shown_logs m) < 64
+unfixed_few k m g x l e v i h = subst (λ n. how_many (λ j. not (j.0 == l)) (shown_logs n) < 64) (sym (ap (λ (n : Kept). n.logs) v)) (leb-false log_limit _ (off (is_crowded (register_of k 0) l) _ (subst (λ y. is_next (register_of k 0) y ≡ true) i h)))
 
 pub close_few : (k : Kept) (m : List (ℕ × Epochs)) (g : List (ℕ × ℕ)) (x : Change) (l e : ℕ) (y : Summary) → record { logs = m; generations = g } ≡ k → x ≡ changes.Close l e y → is_next (register_of k 0) x ≡ true → how_many (λ i. not (i.0 == l)) (shown_logs m) < 64
 close_few k m g x l e y v i h = subst (λ n. how_many (λ j. not (j.0 == l)) (shown_logs n) < 64) (sym (ap (λ (n : Kept). n.logs) v)) (leb-false log_limit _ (off (is_crowded (register_of k 0) l) _ (subst (λ z. is_next (register_of k 0) z ≡ true) i h)))

@@ -3,7 +3,8 @@ use Rattle.std.proofs.Common.{◌≡◌, ◌∙◌, ◌≤◌, ◌<◌, ◌⊎�
 use Rattle.std.specs.Option.{unwrap_or}
 use Rattle.std.proofs.lemmas.Bool.{eqb-true, leb-true, le-leb, or_parts}
 use Rattle.ld_table.specs.Table.{find, put}
-use Rattle.ld_table.proofs.Laws.{put_cases, find-put_same}
+use Rattle.ld_table.proofs.Laws.{put_cases, find-put_same, find-put_other}
+use Rattle.ld_ids.specs.declared.set.Spec.{Spec}
 use Rattle.ld_msg.specs.declared.msg.Summary.{Summary}
 use Rattle.ld_msg.specs.Register.{Register, Epochs, Armed, Changed, Answer, Granted, AtLimit, Behind, Fails, activate, close, draw, change, made, unmade, is_made, falls, journal_limit, record_length, epochs_of, no_epochs, generation_of, lce_of, with_epochs, next_epoch, closed_epochs, epoch_limit, generation_limit, is_crowded, summary_shown}
 use Rattle.ld_register.specs.declared.fault.RegisterFault.{RegisterFault}
@@ -11,15 +12,17 @@ use Rattle.ld_register.specs.declared.fault.RegisterFault.TheVariants as faults
 use Rattle.ld_register.specs.declared.register.Grant.{Grant}
 use Rattle.ld_register.specs.declared.register.Drawn.{Drawn}
 use Rattle.ld_register.specs.declared.register.View.{View}
-use Rattle.ld_register.specs.Calls.{IsFree, ChangedOrNot, ended, is_full, activated, after_activate, granted, closed, after_close, drawn, after_draw, handed, looked}
+use Rattle.ld_register.specs.Calls.{IsFree, ChangedOrNot, ended, close_ended, spec_told, next_told, is_full, activated, after_activate, granted, closed, after_close, drawn, after_draw, handed, looked}
+use Rattle.ld_register.proofs.Answering.{shown_there}
 use Rattle.ld_register.specs.Histories.{Call, Activates, Closes, Draws, Looks, Ends, Passes, Runs}
 
 -- ---- what grows ----
 
--- a log's epochs don't fall, and the summaries up to the last closed one stay
+-- a log's epochs don't fall, and what is fixed up to the greatest one and the summaries up to the last closed one stay
 pub record LogGrows (v w : Epochs) : Type 0 where
   pub epoch : v.epoch ≤ w.epoch
   pub lce : v.lce ≤ w.lce
+  pub specs : (e : ℕ) → e ≤ v.epoch → find e w.specs ≡ find e v.specs
   pub summaries : (e : ℕ) → e ≤ v.lce → find e w.summaries ≡ find e v.summaries
 
 pub record Grows (c d : Register) : Type 0 where
@@ -27,12 +30,13 @@ pub record Grows (c d : Register) : Type 0 where
   pub generations : (n : ℕ) → generation_of c n ≤ generation_of d n
 
 log_stays : (v : Epochs) → LogGrows v v
-log_stays v = record { epoch = omega arith; lce = omega arith; summaries = λ e h. refl }
+log_stays v = record { epoch = omega arith; lce = omega arith; specs = λ e h. refl; summaries = λ e h. refl }
 
 log_on : (u v w : Epochs) → LogGrows u v → LogGrows v w → LogGrows u w
 log_on u v w g h = record {
   epoch = let a = g.epoch in let b = h.epoch in omega arith;
   lce = let a = g.lce in let b = h.lce in omega arith;
+  specs = λ e k. h.specs e (let a = g.epoch in omega arith) ∙ g.specs e k;
   summaries = λ e k. h.summaries e (let a = g.lce in omega arith) ∙ g.summaries e k;
 }
 
@@ -43,7 +47,7 @@ grows_on b c d g h = record {
 }
 
 -- the same contents
-abbrev Same : Register → Register → Type 0
+abbrev pub Same : Register → Register → Type 0
 Same r n = (n.logs ≡ r.logs) × (n.generations ≡ r.generations)
 
 log_same : (r n : Register) → n.logs ≡ r.logs → (l : ℕ) → LogGrows (epochs_of r l) (epochs_of n l)
@@ -83,15 +87,15 @@ node_grows r n k e h = record {
 
 -- ---- a change, with a fault armed or without ----
 
-by_test : {X : Type 0} (b : Bool) (x y : X) (P : X → Type 0) → (b ≡ true → P x) → (b ≡ false → P y) → P (cond b x y)
+pub by_test : {X : Type 0} (b : Bool) (x y : X) (P : X → Type 0) → (b ≡ true → P x) → (b ≡ false → P y) → P (cond b x y)
 by_test true x y P h g = h refl
 by_test false x y P h g = g refl
 
-not_fails : (b : Bool) → cond b Fails Granted ≡ Granted → b ≡ false
+pub not_fails : (b : Bool) → cond b Fails Granted ≡ Granted → b ≡ false
 not_fails true h = absurd cc
 not_fails false h = refl
 
-falls_made : (a : Option Armed) → falls a ≡ false → is_made a ≡ true
+pub falls_made : (a : Option Armed) → falls a ≡ false → is_made a ≡ true
 falls_made None h = refl
 falls_made (Some a) h = rw h refl
 
@@ -105,13 +109,13 @@ change_leaves : (r n : Register) (b : ℕ) → Same r (change r n b).register �
 unfolding change
 change_leaves r n b = changed_by r n b (nat_lt journal_limit (r.length + record_length b)) (is_made r.armed)
 
-granted_by : (r n : Register) (b : ℕ) (f m : Bool) → f ≡ false → m ≡ true → Same n (cond f r (cond m (made r n b) (unmade r)))
+pub granted_by : (r n : Register) (b : ℕ) (f m : Bool) → f ≡ false → m ≡ true → Same n (cond f r (cond m (made r n b) (unmade r)))
 granted_by r n b true m h g = absurd cc
 granted_by r n b false true h g = (refl, refl)
 granted_by r n b false false h g = absurd cc
 
 -- and is made where it is granted
-change_granted : (r n : Register) (b : ℕ) → (change r n b).answer ≡ Granted → Same n (change r n b).register
+pub change_granted : (r n : Register) (b : ℕ) → (change r n b).answer ≡ Granted → Same n (change r n b).register
 unfolding change
 change_granted r n b h = let p = or_parts (nat_lt journal_limit (r.length + record_length b)) (falls r.armed) (not_fails _ h) in granted_by r n b _ _ p.0 (falls_made r.armed p.1)
 
@@ -123,16 +127,16 @@ stays r = same_grows r r (refl, refl)
 
 -- ---- an activation ----
 
-next_grows : (v : Epochs) → LogGrows v (next_epoch v)
-next_grows v = record { epoch = omega arith; lce = omega arith; summaries = λ e h. refl }
+next_grows : (v : Epochs) (s : Spec) → LogGrows v (next_epoch v s)
+next_grows v s = record { epoch = omega arith; lce = omega arith; specs = λ e h. find-put_other e (v.epoch + 1) s v.specs (λ i. omega arith); summaries = λ e h. refl }
 
-activate_grows : (r : Register) (l : ℕ) → Grows r (activate r l).register
+activate_grows : (r : Register) (s : Spec) → Grows r (activate r s.log s).register
 unfolding activate
-activate_grows r l = by_test (nat_le epoch_limit (epochs_of r l).epoch) _ _ (λ (d : Changed). Grows r d.register) (λ t. stays r)
-    (λ t. change_grows r (with_epochs r l (next_epoch (epochs_of r l))) 9 (λ m s. log_grows r m l (next_epoch (epochs_of r l)) (next_grows (epochs_of r l)) s))
+activate_grows r s = by_test (nat_le epoch_limit (epochs_of r s.log).epoch) _ _ (λ (d : Changed). Grows r d.register) (λ t. stays r)
+    (λ t. change_grows r (with_epochs r s.log (next_epoch (epochs_of r s.log) s)) 13 (λ m z. log_grows r m s.log (next_epoch (epochs_of r s.log) s) (next_grows (epochs_of r s.log) s) z))
 
-pub after_activate_grows : (r : Register) (l : ℕ) → Grows r (after_activate r l)
-after_activate_grows r l = by_test (is_crowded r l) r (activate r l).register (λ d. Grows r d) (λ t. stays r) (λ t. activate_grows r l)
+pub after_activate_grows : (r : Register) (s : Spec) → Grows r (after_activate r s)
+after_activate_grows r s = by_test (is_crowded r s.log) r (activate r s.log s).register (λ d. Grows r d) (λ t. stays r) (λ t. activate_grows r s)
 
 ended_ok : {T : Type 0} (a : Answer) (full : Bool) (limit : RegisterFault) (v g : T) → Ok g ≡ ended a full limit v → (a ≡ Granted) × (v ≡ g)
 ended_ok Granted full limit v g h = (refl, cc)
@@ -141,26 +145,30 @@ ended_ok (Behind lce) full limit v g h = absurd cc
 ended_ok Fails true limit v g h = absurd cc
 ended_ok Fails false limit v g h = absurd cc
 
-activate_granted : (r : Register) (l : ℕ) → (activate r l).answer ≡ Granted → Same (with_epochs r l (next_epoch (epochs_of r l))) (activate r l).register
+activate_granted : (r : Register) (s : Spec) → (activate r s.log s).answer ≡ Granted → Same (with_epochs r s.log (next_epoch (epochs_of r s.log) s)) (activate r s.log s).register
 unfolding activate
-activate_granted r l = by_test (nat_le epoch_limit (epochs_of r l).epoch) _ _ (λ (d : Changed). d.answer ≡ Granted → Same (with_epochs r l (next_epoch (epochs_of r l))) d.register)
-    (λ t h. absurd cc) (λ t h. change_granted r (with_epochs r l (next_epoch (epochs_of r l))) 9 h)
+activate_granted r s = by_test (nat_le epoch_limit (epochs_of r s.log).epoch) _ _ (λ (d : Changed). d.answer ≡ Granted → Same (with_epochs r s.log (next_epoch (epochs_of r s.log) s)) d.register)
+    (λ t h. absurd cc) (λ t h. change_granted r (with_epochs r s.log (next_epoch (epochs_of r s.log) s)) 13 h)
 
--- an epoch that is handed out is the one behind the log's, and the log's afterwards
-activated_by : (r : Register) (l : ℕ) (g : Grant) (b : Bool) → is_crowded r l ≡ b → Ok g ≡ (cond b (Err faults.LogLimit) (ended (activate r l).answer (is_full r 9) faults.EpochLimit (granted r l)))
-    → ((epochs_of (after_activate r l) l).epoch ≡ g.epoch) × ((epochs_of r l).epoch + 1 ≡ g.epoch)
-activated_by r l g true c h = absurd cc
-activated_by r l g false c h =
-    let p = ended_ok (activate r l).answer (is_full r 9) faults.EpochLimit (granted r l) g h in
-    let is : (epochs_of (after_activate r l) l).epoch ≡ g.epoch = ap (λ (x : Grant). x.epoch) p.1 in
-    let after : after_activate r l ≡ (activate r l).register = ap (λ b. cond b r (activate r l).register) c in
-    let s = activate_granted r l p.0 in
-    let there : epochs_of (activate r l).register l ≡ next_epoch (epochs_of r l) = ap (λ m. unwrap_or (find l m) no_epochs) s.0 ∙ ap (λ o. unwrap_or o no_epochs) (find-put_same l l (next_epoch (epochs_of r l)) r.logs refl) in
-    let one : (epochs_of (after_activate r l) l).epoch ≡ (epochs_of r l).epoch + 1 = ap (λ x. (epochs_of x l).epoch) after ∙ ap (λ (x : Epochs). x.epoch) there in
-    (is, sym one ∙ is)
+-- an epoch that is handed out is the one behind the log's, and the log's afterwards, with what is fixed for it
+abbrev IsHandedOut : Register → Spec → Grant → Register → Type 0
+IsHandedOut r s g d = ((epochs_of d s.log).epoch ≡ g.epoch) × ((epochs_of r s.log).epoch + 1 ≡ g.epoch) × (find g.epoch (epochs_of d s.log).specs ≡ Some s)
 
-activated_ok : (r : Register) (l : ℕ) (g : Grant) → Ok g ≡ activated r l → ((epochs_of (after_activate r l) l).epoch ≡ g.epoch) × ((epochs_of r l).epoch + 1 ≡ g.epoch)
-activated_ok r l g h = activated_by r l g (is_crowded r l) refl h
+activated_by : (r : Register) (s : Spec) (g : Grant) (b : Bool) → is_crowded r s.log ≡ b → Ok g ≡ (cond b (Err faults.LogLimit) (ended (activate r s.log s).answer (is_full r 13) faults.EpochLimit (granted r s))) → IsHandedOut r s g (after_activate r s)
+activated_by r s g true c h = absurd cc
+activated_by r s g false c h =
+    let p = ended_ok (activate r s.log s).answer (is_full r 13) faults.EpochLimit (granted r s) g h in
+    let is : (epochs_of (after_activate r s) s.log).epoch ≡ g.epoch = ap (λ (x : Grant). x.epoch) p.1 in
+    let after : after_activate r s ≡ (activate r s.log s).register = ap (λ b. cond b r (activate r s.log s).register) c in
+    let z = activate_granted r s p.0 in
+    let there : epochs_of (after_activate r s) s.log ≡ next_epoch (epochs_of r s.log) s = ap (λ x. epochs_of x s.log) after
+    ∙ (ap (λ m. unwrap_or (find s.log m) no_epochs) z.0 ∙ ap (λ o. unwrap_or o no_epochs) (find-put_same s.log s.log (next_epoch (epochs_of r s.log) s) r.logs refl)) in
+    let one : (epochs_of (after_activate r s) s.log).epoch ≡ (epochs_of r s.log).epoch + 1 = ap (λ (x : Epochs). x.epoch) there in
+    let next : (epochs_of r s.log).epoch + 1 ≡ g.epoch = sym one ∙ is in
+    (is, next, ap (λ (x : Epochs). find g.epoch x.specs) there ∙ find-put_same g.epoch ((epochs_of r s.log).epoch + 1) s (epochs_of r s.log).specs (sym next))
+
+activated_ok : (r : Register) (s : Spec) (g : Grant) → Ok g ≡ activated r s → IsHandedOut r s g (after_activate r s)
+activated_ok r s g h = activated_by r s g (is_crowded r s.log) refl h
 
 -- ---- a close ----
 
@@ -168,6 +176,7 @@ close_log : (v : Epochs) (e : ℕ) (y : Summary) → v.lce + 1 ≡ e → LogGrow
 close_log v e y h = record {
   epoch = omega arith;
   lce = omega arith;
+  specs = λ k b. refl;
   summaries = λ k b. elim (put_cases k e y v.summaries) [ inl a ↦ absurd (let z = a.0 in omega arith) | inr a ↦ a.1 ];
 }
 
@@ -188,19 +197,25 @@ close_granted r l e y = by_test (lce_of r l + 1 == e) _ _ (λ (d : Changed). d.a
 abbrev IsClosed : Register → ℕ → ℕ → Summary → Type 0
 IsClosed r l e y = (1 ≤ e) × (e ≤ lce_of r l) × (find e (epochs_of r l).summaries ≡ Some y)
 
-closed_by : (r : Register) (l e : ℕ) (y : Summary) (b : Bool) → is_crowded r l ≡ b → Ok (tt {0}) ≡ (cond b (Err faults.LogLimit) (ended (close r l e y).answer (is_full r 29) faults.EpochLimit (tt {0}))) → IsClosed (after_close r l e y) l e y
-closed_by r l e y true c h = absurd cc
-closed_by r l e y false c h =
-    let p = ended_ok (close r l e y).answer (is_full r 29) faults.EpochLimit (tt {0}) (tt {0}) h in
-    let s = close_granted r l e y p.0 in
+close_ended_ok : (a : Answer) (full : Bool) (before after g : Option Spec) → Ok g ≡ close_ended a full before after → a ≡ Granted
+close_ended_ok Granted full before after g h = refl
+close_ended_ok AtLimit full before after g h = absurd cc
+close_ended_ok (Behind lce) full before after g h = absurd cc
+close_ended_ok Fails true before after g h = absurd cc
+close_ended_ok Fails false before after g h = absurd cc
+
+closed_by : (r : Register) (l e : ℕ) (y : Summary) (g : Option Spec) (b : Bool) → is_crowded r l ≡ b → Ok g ≡ (cond b (Err faults.LogLimit) (close_ended (close r l e y).answer (is_full r 29) (next_told r l) (next_told (after_close r l e y) l))) → IsClosed (after_close r l e y) l e y
+closed_by r l e y g true c h = absurd cc
+closed_by r l e y g false c h =
+    let s = close_granted r l e y (close_ended_ok (close r l e y).answer (is_full r 29) (next_told r l) (next_told (after_close r l e y) l) g h) in
     let after : after_close r l e y ≡ (close r l e y).register = ap (λ b. cond b r (close r l e y).register) c in
     let there : epochs_of (close r l e y).register l ≡ closed_epochs (epochs_of r l) e y = ap (λ m. unwrap_or (find l m) no_epochs) s.1.0 ∙ ap (λ o. unwrap_or o no_epochs) (find-put_same l l (closed_epochs (epochs_of r l) e y) r.logs refl) in
     let lce : lce_of (close r l e y).register l ≡ e = ap (λ (x : Epochs). x.lce) there in
     let z = s.0 in
     subst (λ d. IsClosed d l e y) (sym after) (omega arith, omega arith, ap (λ (x : Epochs). find e x.summaries) there ∙ find-put_same e e y (epochs_of r l).summaries refl)
 
-closed_ok : (r : Register) (l e : ℕ) (y : Summary) → Ok (tt {0}) ≡ closed r l e y → IsClosed (after_close r l e y) l e y
-closed_ok r l e y h = closed_by r l e y (is_crowded r l) refl h
+closed_ok : (r : Register) (l e : ℕ) (y : Summary) (g : Option Spec) → Ok g ≡ closed r l e y → IsClosed (after_close r l e y) l e y
+closed_ok r l e y g h = closed_by r l e y g (is_crowded r l) refl h
 
 -- ---- a draw ----
 
@@ -230,7 +245,7 @@ ends_grows result answer c a d g (inl (f, inr e)) = subst (λ x. Grows c x) (sym
 ends_grows result answer c a d g (inr p) = subst (λ x. Grows c x) (sym p.1) g
 
 call_grows : (c : Register) (x : Call) (d : Register) → Passes c x d → Grows c d
-call_grows c (Activates l o) d h = ends_grows o (activated c l) c (after_activate c l) d (after_activate_grows c l) h
+call_grows c (Activates s o) d h = ends_grows o (activated c s) c (after_activate c s) d (after_activate_grows c s) h
 call_grows c (Closes l e y o) d h = ends_grows o (closed c l e y) c (after_close c l e y) d (after_close_grows c l e y) h
 call_grows c (Draws n o) d h = ends_grows o (drawn c n) c (after_draw c n) d (after_draw_grows c n) h
 call_grows c (Looks l e o) d h = ends_grows o (Ok (looked c l e)) c c d (stays c) h
@@ -253,27 +268,28 @@ ends_ok : {T : Type 0} (v : T) (answer : Result T RegisterFault) (c a d : Regist
 ends_ok v answer c a d (inl p) = absurd p.0
 ends_ok v answer c a d (inr p) = p
 
-activates_ok : (c d : Register) (l : ℕ) (g : Grant) → Passes c (Activates l (Ok g)) d → ((epochs_of d l).epoch ≡ g.epoch) × ((epochs_of c l).epoch + 1 ≡ g.epoch)
-activates_ok c d l g h = let p = ends_ok g (activated c l) c (after_activate c l) d h in let a = activated_ok c l g p.0 in (ap (λ x. (epochs_of x l).epoch) p.1 ∙ a.0, a.1)
+activates_ok : (c d : Register) (s : Spec) (g : Grant) → Passes c (Activates s (Ok g)) d → IsHandedOut c s g d
+activates_ok c d s g h = let p = ends_ok g (activated c s) c (after_activate c s) d h in subst (λ x. IsHandedOut c s g x) (sym p.1) (activated_ok c s g p.0)
 
 draws_ok : (c d : Register) (n : ℕ) (g : Drawn) → Passes c (Draws n (Ok g)) d → (generation_of d n ≡ g.gen_) × (generation_of c n + 1 ≡ g.gen_)
 draws_ok c d n g h = let p = ends_ok g (drawn c n) c (after_draw c n) d h in let a = drawn_ok c n g p.0 in (ap (λ x. generation_of x n) p.1 ∙ a.0, a.1)
 
-closes_ok : (c d : Register) (l e : ℕ) (y : Summary) → Passes c (Closes l e y (Ok tt)) d → IsClosed d l e y
-closes_ok c d l e y h = let p = ends_ok (tt {0}) (closed c l e y) c (after_close c l e y) d h in subst (λ x. IsClosed x l e y) (sym p.1) (closed_ok c l e y p.0)
+closes_ok : (c d : Register) (l e : ℕ) (y : Summary) (g : Option Spec) → Passes c (Closes l e y (Ok g)) d → IsClosed d l e y
+closes_ok c d l e y g h = let p = ends_ok g (closed c l e y) c (after_close c l e y) d h in subst (λ x. IsClosed x l e y) (sym p.1) (closed_ok c l e y g p.0)
 
 looks_ok : (c d : Register) (l e : ℕ) (v : View) → Passes c (Looks l e (Ok v)) d → (v ≡ looked c l e) × (d ≡ c)
 looks_ok c d l e v h = let p = ends_ok v (Ok (looked c l e)) c c d h in let q = p.0 in (cc, p.1)
 
 -- ---- the laws ----
 
-pub epochs_rise : (c d : Register) (before between after : List Call) (l : ℕ) (g h : Grant) → Runs c (before ++ Activates l (Ok g) ∷ (between ++ Activates l (Ok h) ∷ after)) d → g.epoch < h.epoch
-epochs_rise c d before between after l g h r =
-    let (a, first, (b, p, rest)) = runs_split c before (Activates l (Ok g) ∷ (between ++ Activates l (Ok h) ∷ after)) d r in
-    let (e, middle, (f, q, last)) = runs_split b between (Activates l (Ok h) ∷ after) d rest in
-    let x = (activates_ok a b l g p).0 in
-    let y = ((runs_grow b between e middle).logs l).epoch in
-    let z = (activates_ok e f l h q).1 in
+pub epochs_rise : (c d : Register) (before between after : List Call) (s t : Spec) (g h : Grant) → s.log ≡ t.log → Runs c (before ++ Activates s (Ok g) ∷ (between ++ Activates t (Ok h) ∷ after)) d → g.epoch < h.epoch
+epochs_rise c d before between after s t g h same r =
+    let (a, first, (b, p, rest)) = runs_split c before (Activates s (Ok g) ∷ (between ++ Activates t (Ok h) ∷ after)) d r in
+    let (e, middle, (f, q, last)) = runs_split b between (Activates t (Ok h) ∷ after) d rest in
+    let x = (activates_ok a b s g p).0 in
+    let y = ((runs_grow b between e middle).logs s.log).epoch in
+    let z = ap (λ l. (epochs_of e l).epoch) same in
+    let w = (activates_ok e f t h q).1 in
     omega arith
 
 pub generations_rise : (c d : Register) (before between after : List Call) (n : ℕ) (g h : Drawn) → Runs c (before ++ Draws n (Ok g) ∷ (between ++ Draws n (Ok h) ∷ after)) d → g.gen_ < h.gen_
@@ -306,15 +322,33 @@ pub summary_stays : (c d : Register) (calls : List Call) (l e : ℕ) (y : Summar
 summary_stays c d calls l e y r h = closed_shown d l e y (closed_on c d calls l e y r (shown_closed c l e y h))
 
 -- what a close that answered closed is shown by each later look
-pub close_is_shown : (c d : Register) (before between after : List Call) (l e : ℕ) (y : Summary) (v : View) → Runs c (before ++ Closes l e y (Ok tt) ∷ (between ++ Looks l e (Ok v) ∷ after)) d → v.summary ≡ Some y
-close_is_shown c d before between after l e y v r =
-    let (a, first, (b, p, rest)) = runs_split c before (Closes l e y (Ok tt) ∷ (between ++ Looks l e (Ok v) ∷ after)) d r in
+pub close_is_shown : (c d : Register) (before between after : List Call) (l e : ℕ) (y : Summary) (n : Option Spec) (v : View) → Runs c (before ++ Closes l e y (Ok n) ∷ (between ++ Looks l e (Ok v) ∷ after)) d → v.summary ≡ Some y
+close_is_shown c d before between after l e y n v r =
+    let (a, first, (b, p, rest)) = runs_split c before (Closes l e y (Ok n) ∷ (between ++ Looks l e (Ok v) ∷ after)) d r in
     let (i, middle, (f, q, last)) = runs_split b between (Looks l e (Ok v) ∷ after) d rest in
-    ap (λ (x : View). x.summary) (looks_ok i f l e v q).0 ∙ closed_shown i l e y (closed_on b i between l e y middle (closes_ok a b l e y p))
+    ap (λ (x : View). x.summary) (looks_ok i f l e v q).0 ∙ closed_shown i l e y (closed_on b i between l e y middle (closes_ok a b l e y n p))
+
+-- what is told of an epoch that is handed out is what is fixed for it
+fixed_told : (c : Register) (l e : ℕ) → 1 ≤ e → e ≤ (epochs_of c l).epoch → spec_told c l e ≡ find e (epochs_of c l).specs
+fixed_told c l e one most = ap (λ k. find k (epochs_of c l).specs) (shown_there (epochs_of c l) e one most)
+
+pub specs_stay : (c d : Register) (calls : List Call) (l e : ℕ) → Runs c calls d → 1 ≤ e → e ≤ (epochs_of c l).epoch → spec_told d l e ≡ spec_told c l e
+specs_stay c d calls l e r one most = let g = (runs_grow c calls d r).logs l in
+    fixed_told d l e one (let a = g.epoch in omega arith) ∙ (g.specs e most ∙ sym (fixed_told c l e one most))
+
+-- what an activation that answered fixed is shown by each later look
+pub fixed_is_shown : (c d : Register) (before between after : List Call) (s : Spec) (g : Grant) (v : View) → Runs c (before ++ Activates s (Ok g) ∷ (between ++ Looks s.log g.epoch (Ok v) ∷ after)) d → v.spec ≡ Some s
+fixed_is_shown c d before between after s g v r =
+    let (a, first, (b, p, rest)) = runs_split c before (Activates s (Ok g) ∷ (between ++ Looks s.log g.epoch (Ok v) ∷ after)) d r in
+    let (i, middle, (f, q, last)) = runs_split b between (Looks s.log g.epoch (Ok v) ∷ after) d rest in
+    let h = activates_ok a b s g p in
+    let one : 1 ≤ g.epoch = (let x = h.1 in omega arith) in
+    let most : g.epoch ≤ (epochs_of b s.log).epoch = (let x = h.0 in omega arith) in
+    ap (λ (x : View). x.spec) (looks_ok i f s.log g.epoch v q).0 ∙ (specs_stay b i between s.log g.epoch middle one most ∙ (fixed_told b s.log g.epoch one most ∙ h.2))
 
 -- two looks
 pub looks_agree : (c d : Register) (before between after : List Call) (l e k : ℕ) (v w : View) → Runs c (before ++ Looks l e (Ok v) ∷ (between ++ Looks l k (Ok w) ∷ after)) d
-    → (v.epoch ≤ w.epoch) × (v.lce ≤ w.lce) × ((y : Summary) → e ≡ k → v.summary ≡ Some y → w.summary ≡ Some y)
+    → (v.epoch ≤ w.epoch) × (v.lce ≤ w.lce) × ((y : Summary) → e ≡ k → v.summary ≡ Some y → w.summary ≡ Some y) × (e ≡ k → 1 ≤ e → e ≤ v.epoch → w.spec ≡ v.spec)
 looks_agree c d before between after l e k v w r =
     let (a, first, (b, p, rest)) = runs_split c before (Looks l e (Ok v) ∷ (between ++ Looks l k (Ok w) ∷ after)) d r in
     let (i, middle, (f, q, last)) = runs_split b between (Looks l k (Ok w) ∷ after) d rest in
@@ -324,6 +358,9 @@ looks_agree c d before between after l e k v w r =
       (let s = ap (λ (x : View). x.epoch) x.0 in let t = ap (λ (x : View). x.epoch) z.0 in let u = ap (λ n. (epochs_of n l).epoch) x.1 in let n = g.epoch in omega arith),
       (let s = ap (λ (x : View). x.lce) x.0 in let t = ap (λ (x : View). x.lce) z.0 in let u = ap (λ n. lce_of n l) x.1 in let n = g.lce in omega arith),
       (λ y m h. ap (λ (x : View). x.summary) z.0 ∙ summary_stays b i between l k y middle (subst (λ j. summary_shown b l j ≡ Some y) m (ap (λ n. summary_shown n l e) x.1 ∙ (sym (ap (λ (x : View). x.summary) x.0) ∙ h)))),
+      (λ m one most. ap (λ (x : View). x.spec) z.0
+          ∙ (specs_stay b i between l k middle (let n = m in omega arith) (let n = m in let s = ap (λ (x : View). x.epoch) x.0 in let u = ap (λ n. (epochs_of n l).epoch) x.1 in omega arith)
+          ∙ (ap (λ n. spec_told n l k) x.1 ∙ (ap (λ j. spec_told a l j) (sym m) ∙ sym (ap (λ (x : View). x.spec) x.0))))),
     )
 
 -- ---- what a register answers is a run ----

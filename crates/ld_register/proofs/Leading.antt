@@ -13,7 +13,7 @@ use Rattle.ld_register.specs.declared.change.Change.TheVariants as changes
 use Rattle.ld_register.specs.Changes.{change_bytes, IsChange, IsBody, IsNext, Leads, is_next, changed, body_length}
 use Rattle.ld_register.specs.Kept.{Kept, register_of}
 use Rattle.ld_register.specs.Stands.{IsDamaged, HasReplayed, IsReplayed}
-use Rattle.ld_register.proofs.Bytes.{same_word, same_long}
+use Rattle.ld_register.proofs.Bytes.{same_word, same_long, same_activation}
 
 -- ---- one change a body ----
 
@@ -26,25 +26,35 @@ same_summary y z a b c d = ap (λ n. record { ballot = n; lng = y.lng; trim = y.
 
 pub same_change : (x y : Change) → IsChange x → IsChange y → change_bytes x ≡ change_bytes y → x ≡ y
 unfolding change_bytes
-same_change (changes.Activate l e) (changes.Activate m f) i j h =
+same_change (changes.Activate e s) (changes.Activate f t) i j h =
+    let p = i.0.1 in let q = j.0.1 in let l = i.1.log.1 in let m = j.1.log.1 in
+    let same = same_activation e f s t (omega arith) (omega arith) (omega arith) (omega arith) i.1.set j.1.set h in
+    ap (λ n. changes.Activate n s) same.0 ∙ ap (λ n. changes.Activate f n) same.1
+same_change (changes.Unfixed l e) (changes.Unfixed m f) i j h =
     let a : l ≡ m = (let p = i.0.1 in let q = j.0.1 in same_word l m (omega arith) (omega arith) (ap (λ b. take 4 (drop 1 b)) h)) in
     let b : e ≡ f = (let p = i.1.1 in let q = j.1.1 in same_word e f (omega arith) (omega arith) (ap (λ b. take 4 (drop 5 b)) h)) in
-    ap (λ n. changes.Activate n e) a ∙ ap (λ n. changes.Activate m n) b
+    ap (λ n. changes.Unfixed n e) a ∙ ap (λ n. changes.Unfixed m n) b
 same_change (changes.Close l e y) (changes.Close m f z) i j h =
     let a : l ≡ m = (let p = i.0.1 in let q = j.0.1 in same_word l m (omega arith) (omega arith) (ap (λ b. take 4 (drop 1 b)) h)) in
     let b : e ≡ f = (let p = i.1.1 in let q = j.1.1 in same_word e f (omega arith) (omega arith) (ap (λ b. take 4 (drop 5 b)) h)) in
     let s : y ≡ z = same_summary y z
     (let p = i.2.ballot_most in let q = j.2.ballot_most in same_word y.ballot z.ballot (omega arith) (omega arith) (ap (λ b. take 4 (drop 9 b)) h))
-    (same_word y.lng z.lng i.2.lng j.2.lng (ap (λ b. take 4 (drop 13 b)) h))
+    (let p = i.2.lng in let q = j.2.lng in same_word y.lng z.lng (omega arith) (omega arith) (ap (λ b. take 4 (drop 13 b)) h))
     (same_long y.trim z.trim i.2.trim j.2.trim (ap (λ b. take 8 (drop 17 b)) h))
     (let p = i.2.end_most in let q = j.2.end_most in same_word y.end z.end (omega arith) (omega arith) (ap (λ b. take 4 (drop 25 b)) h)) in
     ap (λ n. changes.Close n e y) a ∙ (ap (λ n. changes.Close m n y) b ∙ ap (λ n. changes.Close m f n) s)
 same_change (changes.Draw n g) (changes.Draw m k) i j h = ap (λ a. changes.Draw a g) (ap (λ b. get_or b 1 0) h) ∙ ap (λ a. changes.Draw m a) (same_word g k i.1 j.1 (ap (λ b. take 4 (drop 2 b)) h))
-same_change (changes.Activate l e) (changes.Close m f z) i j h = absurd (omega (arith, ap (λ b. get_or b 0 0) h))
-same_change (changes.Activate l e) (changes.Draw m k) i j h = absurd (omega (arith, ap (λ b. get_or b 0 0) h))
-same_change (changes.Close l e y) (changes.Activate m f) i j h = absurd (omega (arith, ap (λ b. get_or b 0 0) h))
+same_change (changes.Activate e s) (changes.Unfixed m f) i j h = absurd (omega (arith, ap (λ b. get_or b 0 0) h))
+same_change (changes.Activate e s) (changes.Close m f z) i j h = absurd (omega (arith, ap (λ b. get_or b 0 0) h))
+same_change (changes.Activate e s) (changes.Draw m k) i j h = absurd (omega (arith, ap (λ b. get_or b 0 0) h))
+same_change (changes.Unfixed l e) (changes.Activate f t) i j h = absurd (omega (arith, ap (λ b. get_or b 0 0) h))
+same_change (changes.Unfixed l e) (changes.Close m f z) i j h = absurd (omega (arith, ap (λ b. get_or b 0 0) h))
+same_change (changes.Unfixed l e) (changes.Draw m k) i j h = absurd (omega (arith, ap (λ b. get_or b 0 0) h))
+same_change (changes.Close l e y) (changes.Activate f t) i j h = absurd (omega (arith, ap (λ b. get_or b 0 0) h))
+same_change (changes.Close l e y) (changes.Unfixed m f) i j h = absurd (omega (arith, ap (λ b. get_or b 0 0) h))
 same_change (changes.Close l e y) (changes.Draw m k) i j h = absurd (omega (arith, ap (λ b. get_or b 0 0) h))
-same_change (changes.Draw n g) (changes.Activate m f) i j h = absurd (omega (arith, ap (λ b. get_or b 0 0) h))
+same_change (changes.Draw n g) (changes.Activate f t) i j h = absurd (omega (arith, ap (λ b. get_or b 0 0) h))
+same_change (changes.Draw n g) (changes.Unfixed m f) i j h = absurd (omega (arith, ap (λ b. get_or b 0 0) h))
 same_change (changes.Draw n g) (changes.Close m f z) i j h = absurd (omega (arith, ap (λ b. get_or b 0 0) h))
 
 pub one_body : (body : List ℕ) (x y : Change) → IsBody body x → IsBody body y → x ≡ y
@@ -52,27 +62,32 @@ one_body body x y b d = same_change x y b.is d.is (sym b.bytes ∙ d.bytes)
 
 pub length_is : (x : Change) → length (change_bytes x) ≡ body_length x
 unfolding change_bytes
-length_is (changes.Activate l e) = refl
+length_is (changes.Activate e s) = refl
+length_is (changes.Unfixed l e) = refl
 length_is (changes.Close l e y) = refl
 length_is (changes.Draw n g) = refl
 
 pub longer_by : (r : Register) (x : Change) → (changed r x).length ≡ r.length + record_length (body_length x)
-longer_by r (changes.Activate l e) = refl
+longer_by r (changes.Activate e s) = refl
+longer_by r (changes.Unfixed l e) = refl
 longer_by r (changes.Close l e y) = refl
 longer_by r (changes.Draw n g) = refl
 
 pub as_armed : (r : Register) (x : Change) → (changed r x).armed ≡ r.armed
-as_armed r (changes.Activate l e) = refl
+as_armed r (changes.Activate e s) = refl
+as_armed r (changes.Unfixed l e) = refl
 as_armed r (changes.Close l e y) = refl
 as_armed r (changes.Draw n g) = refl
 
 pub short : (x : Change) → body_length x < 2 ^ 32
-short (changes.Activate l e) = omega arith
+short (changes.Activate e s) = omega arith
+short (changes.Unfixed l e) = omega arith
 short (changes.Close l e y) = omega arith
 short (changes.Draw n g) = omega arith
 
 pub next_any : (k : Kept) (n m : ℕ) (x : Change) → is_next (register_of k n) x ≡ is_next (register_of k m) x
-next_any k n m (changes.Activate l e) = refl
+next_any k n m (changes.Activate e s) = refl
+next_any k n m (changes.Unfixed l e) = refl
 next_any k n m (changes.Close l e y) = refl
 next_any k n m (changes.Draw a g) = refl
 

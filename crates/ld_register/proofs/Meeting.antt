@@ -1,5 +1,5 @@
 -- What a whole call makes of its parts: a load where it isn't loaded, and then an answer or a change.
-use Rattle.std.proofs.Common.{◌≡◌, ◌≤◌, ◌<◌, ◌+◌, ◌^◌, ◌⊎◌, inl, inr, ℕ, Bool, true, false, List, [], ◌∷◌, ◌++◌, Option, Some, None, Result, Ok, Err, OnErr, length, append_assoc, refl, ap, sym, ◌∙◌, subst, arith, IsSome, IfSome}
+use Rattle.std.proofs.Common.{◌≡◌, ◌≤◌, ◌<◌, ◌+◌, ◌^◌, ◌⊎◌, inl, inr, ℕ, Bool, true, false, List, [], ◌∷◌, ◌++◌, Option, Some, None, Result, Ok, Err, OnErr, length, append_assoc, if◌then◌else◌, refl, ap, sym, ◌∙◌, subst, arith, IsSome, IfSome}
 use Rattle.std.specs.Result.{IsErrOf}
 use Rattle.ld_io.specs.Causes.{Rose}
 use Rattle.ld_disk.specs.Images.{IsHonest}
@@ -16,11 +16,11 @@ use Rattle.ld_register.specs.declared.fault.RegisterFault.TheVariants as faults
 use Rattle.ld_register.specs.declared.disk.DiskRegister.{DiskRegister}
 use Rattle.ld_register.specs.declared.change.Change.{Change}
 use Rattle.ld_register.specs.declared.register.View.{View}
-use Rattle.ld_register.specs.Calls.{IsFree, Keeps, ChangedOrNot}
-use Rattle.ld_register.specs.Changes.{changed, body_length, Leads, IsNext}
+use Rattle.ld_register.specs.Calls.{IsFree, Keeps, ChangedOrNot, OneOf, with_and_without}
+use Rattle.ld_register.specs.Changes.{changed, change_bytes, body_length, Leads, IsNext}
 use Rattle.ld_register.specs.Kept.{register_of}
-use Rattle.ld_register.specs.Stands.{StandsFor, IsDamaged, IsForeign}
-use Rattle.ld_register.specs.Held.{IsQuiet, owned, is_loaded, Replays, ReadsAs, Holds, Tells, MayHold, Foretells, Loads, IsReady, IsNotReady, Commits, IsMade, IsRefused, IsDue, LeftBy, Meets, granting}
+use Rattle.ld_register.specs.Stands.{StandsFor, AddsOneAtMost, IsDamaged, IsForeign}
+use Rattle.ld_register.specs.Held.{IsQuiet, owned, is_loaded, Replays, ReadsAs, Holds, Tells, MayHold, LeavesOneOf, Foretells, Loads, IsReady, IsNotReady, Commits, IsMade, IsRefused, IsDue, LeftBy, Meets, granting}
 use Rattle.ld_register.proofs.Leading.{leads_one, leads_length, leads_armed}
 use Rattle.ld_register.proofs.Committing.{leaves_map, on_err}
 
@@ -84,7 +84,7 @@ pub free_as : (S T : Type 0) (e : RegisterFault) → IsFree (failure S e) → Is
 free_as S T faults.Failed h = h
 free_as S T (faults.Damaged place) h = h
 free_as S T faults.LogLimit h = h
-free_as S T (faults.Behind lce) h = h
+free_as S T (faults.Behind lce next) h = h
 free_as S T faults.EpochLimit h = h
 free_as S T faults.GenLimit h = h
 free_as S T faults.Full h = h
@@ -140,6 +140,25 @@ leaves_both moment left_since old mid new P Q R p q h k = record {
   before = λ t c le l. elim (k.before t c (let a = h.later in omega arith) l) [ inl a ↦ elim (h.before t c le a) [ inl x ↦ inl x | inr y ↦ inr (p c y) ] | inr b ↦ inr (q c b) ];
 }
 
+-- ---- one of some contents ----
+
+one_as : (P Q : Register → Type 0) → ((c : Register) → P c → Q c) → (cs : List Register) → OneOf P cs → OneOf Q cs
+one_as P Q f [] h = absurd h
+one_as P Q f (c ∷ cs) h = elim h [ inl p ↦ inl (f c p) | inr more ↦ inr (one_as P Q f cs more) ]
+
+one_with : (P : Register → Type 0) (after : Register → Register) (cs : List Register) → OneOf (λ c. P c ⊎ P (after c)) cs → OneOf P (with_and_without after cs)
+one_with P after [] h = absurd h
+one_with P after (c ∷ cs) h = elim h [ inl (inl p) ↦ inl p | inl (inr p) ↦ inr (inl p) | inr more ↦ inr (inr (one_with P after cs more)) ]
+
+one_without : (P : Register → Type 0) (cs : List Register) → OneOf P (with_and_without (λ c. c) cs) → OneOf P cs
+one_without P [] h = absurd h
+one_without P (c ∷ cs) h = elim h [ inl p ↦ inl p | inr (inl p) ↦ inl p | inr (inr more) ↦ inr (one_without P cs more) ]
+
+one_changed : (b : Bool) (P : Register → Type 0) (after : Register → Register) (cs : List Register) → OneOf P (with_and_without (λ c. if b then after c else c) cs) → OneOf P (with_and_without after cs)
+one_changed true P after cs h = h
+one_changed false P after [] h = absurd h
+one_changed false P after (c ∷ cs) h = elim h [ inl p ↦ inl p | inr (inl p) ↦ inl p | inr (inr more) ↦ inr (inr (one_changed false P after cs more)) ]
+
 module _ {D : Type 0} {g : Ghosts D} where
   pub replays_holds : (r : DiskRegister D g) (c : Register) → Replays r c → Holds r c
   replays_holds r c h = let a = replays_reads r c h in record {
@@ -158,6 +177,36 @@ module _ {D : Type 0} {g : Ghosts D} where
 
   settles_by : (new : DiskRegister D g) (w : Register) → Replays new w → (c : Register) → MayHold new c → Holds new c
   settles_by new w h c m = subst (Holds new) (stands_one m.0 w c (image_stands new w h m.0 m.1) m.2) (replays_holds new w h)
+
+  holds_told : (r : DiskRegister D g) (c : Register) → Tells r → ReadsAs r c → Holds r c
+  holds_told r c t a = record {
+    reads = a;
+    one = λ d k. reads_one r c d a k;
+    whole = λ place b. not_damaged place a.bytes c a.stands (is_broken (g.seen (owned r)) a.bytes place a.seen_is b);
+    loaded = λ l. let w = t.loaded l in subst (Replays r) (reads_one r w.0 c (replays_reads r w.0 w.1) a) w.1;
+  }
+
+  pub leaves_by : (image : (disk : D) (bytes : List ℕ) → g.seen disk ≡ Some bytes → g.may_leave disk bytes) (r : DiskRegister D g) (cs : List Register) → ((bytes : List ℕ) → g.may_leave (owned r) bytes → OneOf (StandsFor bytes) cs) → LeavesOneOf r cs
+  leaves_by image r cs each = record {
+    each = each;
+    held = λ t. let b = some_bytes (g.seen (owned r)) t.honest in one_as (StandsFor b.0) (Holds r) (λ c s. holds_told r c t (record { bytes = b.0; seen_is = b.1; stands = s })) cs (each b.0 (image (owned r) b.0 b.1));
+    alone = λ c m. one_as (StandsFor m.0) (λ d. d ≡ c) (λ d s. stands_one m.0 d c s m.2) cs (each m.0 m.1);
+  }
+
+  sure_by : (image : (disk : D) (bytes : List ℕ) → g.seen disk ≡ Some bytes → g.may_leave disk bytes) (new : DiskRegister D g) (w : Register) → Replays new w → (c : Register) × Holds new c × LeavesOneOf new (c ∷ [])
+  sure_by image new w h = (w, replays_holds new w h, leaves_by image new (w ∷ []) (λ bytes m. inl (image_stands new w h bytes m)))
+
+  survives_by : (counts : (disk : D) (t : ℕ) (c : List ℕ) → t ≤ g.moment disk → g.may_leave disk c → g.left_since disk t c) (image : (disk : D) (bytes : List ℕ) → g.seen disk ≡ Some bytes → g.may_leave disk bytes) (old new : DiskRegister D g) (after : Register → Register)
+      → LeavesOnly g.moment g.left_since (owned old) (owned new) (LeftBy old after) → (cs : List Register) → LeavesOneOf old cs → LeavesOneOf new (with_and_without after cs)
+  survives_by counts image old new after h cs l = leaves_by image new (with_and_without after cs) (λ bytes m. one_with (StandsFor bytes) after cs (elim (image_from counts old new (LeftBy old after) h bytes m) [
+    | inl b ↦ one_as (StandsFor bytes) (λ c. StandsFor bytes c ⊎ StandsFor bytes (after c)) (λ c s. inl s) cs (l.each bytes b)
+    | inr w ↦ let r = w.1.reads in one_as (StandsFor r.bytes) (λ c. StandsFor bytes c ⊎ StandsFor bytes (after c)) (λ c s. subst (λ d. StandsFor bytes d ⊎ StandsFor bytes (after d)) (stands_one r.bytes w.0 c r.stands s) w.2) cs
+        (l.each r.bytes (image (owned old) r.bytes r.seen_is))
+  ]))
+
+  -- the bytes are as they were
+  records_same : (old new : DiskRegister D g) → g.seen (owned new) ≡ g.seen (owned old) → AddsOneAtMost (g.seen (owned old)) (g.seen (owned new))
+  records_same old new same bodies r = inl (record { bytes = r.bytes; seen_is = same ∙ r.seen_is; journal = r.journal })
 
   done_by : (counts : (disk : D) (t : ℕ) (c : List ℕ) → t ≤ g.moment disk → g.may_leave disk c → g.left_since disk t c) (image : (disk : D) (bytes : List ℕ) → g.seen disk ≡ Some bytes → g.may_leave disk bytes) (old new : DiskRegister D g) (after : Register → Register)
       → LeavesOnly g.moment g.left_since (owned old) (owned new) (LeftBy old after) → ChangedOrNot (MayHold old) (MayHold new) after
@@ -186,7 +235,7 @@ module _ {D : Type 0} {g : Ghosts D} where
   unready_exact old new faults.Failed r is l n free keeps c f = absurd (l.steady f.told f.plain_is f.quiet refl)
   unready_exact old new (faults.Damaged place) r is l n free keeps c f = absurd (f.holds.whole place (n.damaged place refl))
   unready_exact old new faults.LogLimit r is l n free keeps c f = absurd free
-  unready_exact old new (faults.Behind lce) r is l n free keeps c f = absurd free
+  unready_exact old new (faults.Behind lce next) r is l n free keeps c f = absurd free
   unready_exact old new faults.EpochLimit r is l n free keeps c f = absurd free
   unready_exact old new faults.GenLimit r is l n free keeps c f = absurd free
   unready_exact old new faults.Full r is l n free keeps c f = absurd free
@@ -206,14 +255,21 @@ module _ {D : Type 0} {g : Ghosts D} where
   meets_unready {T = T} counts image old new e r answer after is l n =
       let free : IsFree r = subst IsFree (sym is) (free_as (Unit {0}) T e n.free.1) in
       let keeps = unready_keeps counts old new e r is l n in
+      let moments : Tells old → LeavesOnly g.moment g.left_since (owned old) (owned new) (LeftBy old after) = λ t. leaves_map g.moment g.left_since (owned old) (owned new) _ (LeftBy old after) (λ c m. inl m) l.moments in
       record {
         answers = λ c h. inl free;
         told = λ t. record { honest = l.honest t.honest; loaded = λ y. absurd (not_true (is_loaded new) y n.unloaded) };
         whole = λ t. inl free;
-        settled = λ t. inl free;
-        moments = λ t. leaves_map g.moment g.left_since (owned old) (owned new) _ (LeftBy old after) (λ c m. inl m) l.moments;
+        sure = λ t. inl free;
+        moments = moments;
         settles = λ t. inl free;
-        done_or_not = λ t. done_by counts image old new after (leaves_map g.moment g.left_since (owned old) (owned new) _ (LeftBy old after) (λ c m. inl m) l.moments);
+        done_or_not = λ t. done_by counts image old new after (moments t);
+        survives = λ t cs h. survives_by counts image old new after (moments t) cs h;
+        records = λ c h. elim n.stays [
+          | inl f ↦ inl (is ∙ err_as e faults.Failed f)
+          | inr (inl same) ↦ inr (records_same old new same)
+          | inr (inr none) ↦ absurd (none c h.reads)
+        ];
         keeps = keeps;
         exact = λ c f. inl (unready_exact old new e r is l n (free_as (Unit {0}) T e n.free.1) keeps c f);
         failed = λ f. n.failed (err_as e faults.Failed (sym is ∙ f));
@@ -228,71 +284,79 @@ module _ {D : Type 0} {g : Ghosts D} where
   pub meets_answered : {T : Type 0} (counts : (disk : D) (t : ℕ) (c : List ℕ) → t ≤ g.moment disk → g.may_leave disk c → g.left_since disk t c) (image : (disk : D) (bytes : List ℕ) → g.seen disk ≡ Some bytes → g.may_leave disk bytes) (old mid : DiskRegister D g) (done : Result (Unit {0}) RegisterFault) (r : Result T RegisterFault) (answer : Register → Result T RegisterFault) (after : Register → Register)
       → Loads old mid done → IsReady old mid → (IsErrOf r faults.Failed → ⊥) → ((place : ℕ) → IsErrOf r (faults.Damaged place) → ⊥)
       → ((c : Register) → Replays mid c → (r ≡ answer c) × (after c ≡ c)) → Meets old mid r answer after
-  meets_answered counts image old mid done r answer after l y steady whole says = record {
-    answers = λ c h. let m = held_replays old mid y c h in let s = says c m in inr (s.0, subst (Holds mid) (sym s.1) (replays_holds mid c m));
-    told = λ t. let w = y.whole t in replays_tells mid w.0 w.1;
-    whole = λ t. let w = y.whole t in inr (w.0, w.2);
-    settled = λ t. let w = y.whole t in inr (λ bytes m. (w.0, image_stands mid w.0 w.1 bytes m, replays_holds mid w.0 w.1));
-    moments = λ t. leaves_map g.moment g.left_since (owned old) (owned mid) _ (LeftBy old after) (λ c m. inl m) l.moments;
-    settles = λ t. let w = y.whole t in inr (λ c m. settles_by mid w.0 w.1 c m);
-    done_or_not = λ t. done_by counts image old mid after (leaves_map g.moment g.left_since (owned old) (owned mid) _ (LeftBy old after) (λ c m. inl m) l.moments);
-    keeps = inr (on_err r _ (record { held = λ c h. replays_holds mid c (held_replays old mid y c h); may = λ c m. (m.0, image_from counts old mid _ l.moments m.0 m.1, m.2) }));
-    exact = λ c f. let m = held_replays old mid y c f.holds in let s = says c m in let q = l.quiet f.told f.plain_is f.quiet in
-        inr (s.0, subst (Foretells mid) (sym s.1) (foretells_by mid c m q.0 q.1 q.2));
-    failed = λ f. absurd (steady f);
-    damaged = λ place f. absurd (whole place f);
-    counts = l.counts;
-  }
+  meets_answered counts image old mid done r answer after l y steady whole says =
+      let moments : Tells old → LeavesOnly g.moment g.left_since (owned old) (owned mid) (LeftBy old after) = λ t. leaves_map g.moment g.left_since (owned old) (owned mid) _ (LeftBy old after) (λ c m. inl m) l.moments in record {
+        answers = λ c h. let m = held_replays old mid y c h in let s = says c m in inr (s.0, subst (Holds mid) (sym s.1) (replays_holds mid c m));
+        told = λ t. let w = y.whole t in replays_tells mid w.0 w.1;
+        whole = λ t. let w = y.whole t in inr (w.0, w.2);
+        sure = λ t. let w = y.whole t in inr (sure_by image mid w.0 w.1);
+        moments = moments;
+        settles = λ t. let w = y.whole t in inr (λ c m. settles_by mid w.0 w.1 c m);
+        done_or_not = λ t. done_by counts image old mid after (moments t);
+        survives = λ t cs h. survives_by counts image old mid after (moments t) cs h;
+        records = λ c h. inr (records_same old mid (y.same (holds_tells old c h)));
+        keeps = inr (on_err r _ (record { held = λ c h. replays_holds mid c (held_replays old mid y c h); may = λ c m. (m.0, image_from counts old mid _ l.moments m.0 m.1, m.2) }));
+        exact = λ c f. let m = held_replays old mid y c f.holds in let s = says c m in let q = l.quiet f.told f.plain_is f.quiet in
+            inr (s.0, subst (Foretells mid) (sym s.1) (foretells_by mid c m q.0 q.1 q.2));
+        failed = λ f. absurd (steady f);
+        damaged = λ place f. absurd (whole place f);
+        counts = l.counts;
+      }
 
   -- the change was made
   pub meets_made : {T : Type 0} (counts : (disk : D) (t : ℕ) (c : List ℕ) → t ≤ g.moment disk → g.may_leave disk c → g.left_since disk t c) (image : (disk : D) (bytes : List ℕ) → g.seen disk ≡ Some bytes → g.may_leave disk bytes) (old mid new : DiskRegister D g) (x : Change) (done made : Result (Unit {0}) RegisterFault) (r : Result T RegisterFault) (answer : Register → Result T RegisterFault) (after : Register → Register)
       → Loads old mid done → IsReady old mid → Commits mid new x made → IsMade mid new x → (IsErrOf r faults.Failed → ⊥) → ((place : ℕ) → IsErrOf r (faults.Damaged place) → ⊥) → ((A : Type 0) → OnErr r A)
       → ((c : Register) → Replays mid c → place_of mid.journal + body_length x + 6 ≤ 2 ^ 40 → (r ≡ answer c) × (after c ≡ changed c x)) → Meets old new r answer after
-  meets_made counts image old mid new x done made r answer after l y k a steady whole ok says = record {
-    answers = λ c h. let m = held_replays old mid y c h in let s = says c m a.fits in inr (s.0, subst (Holds new) (sym s.1) (replays_holds new _ (a.replays c m)));
-    told = λ t. let w = y.whole t in replays_tells new _ (a.replays w.0 w.1);
-    whole = λ t. let w = y.whole t in inr (w.0, w.2);
-    settled = λ t. let w = y.whole t in inr (λ bytes m. (changed w.0 x, image_stands new _ (a.replays w.0 w.1) bytes m, replays_holds new _ (a.replays w.0 w.1)));
-    moments = λ t. let w = y.whole t in let s = says w.0 w.1 a.fits in leaves_both g.moment g.left_since (owned old) (owned mid) (owned new) _ _ (LeftBy old after) (λ c m. inl m)
-        (λ c m. inr (w.0, w.2, elim m [ inl b ↦ inl b | inr b ↦ inr (subst (StandsFor c) (sym s.1) b) ])) l.moments (k.moments w.0 w.1);
-    settles = λ t. let w = y.whole t in inr (λ c m. settles_by new _ (a.replays w.0 w.1) c m);
-    done_or_not = λ t. done_by counts image old new after (let w = y.whole t in let s = says w.0 w.1 a.fits in leaves_both g.moment g.left_since (owned old) (owned mid) (owned new) _ _ (LeftBy old after) (λ c m. inl m)
-        (λ c m. inr (w.0, w.2, elim m [ inl b ↦ inl b | inr b ↦ inr (subst (StandsFor c) (sym s.1) b) ])) l.moments (k.moments w.0 w.1));
-    keeps = inr (ok _);
-    exact = λ c f. let m = held_replays old mid y c f.holds in let s = says c m a.fits in let q = l.quiet f.told f.plain_is f.quiet in let p = k.quiet q.0 q.1 q.2 in
-        inr (s.0, subst (Foretells new) (sym s.1) (foretells_by new _ (a.replays c m) p.0 p.1 p.2));
-    failed = λ f. absurd (steady f);
-    damaged = λ place f. absurd (whole place f);
-    counts = let b = l.counts in let c = k.counts in omega arith;
-  }
+  meets_made counts image old mid new x done made r answer after l y k a steady whole ok says =
+      let moments : Tells old → LeavesOnly g.moment g.left_since (owned old) (owned new) (LeftBy old after) = λ t. let w = y.whole t in let s = says w.0 w.1 a.fits in leaves_both g.moment g.left_since (owned old) (owned mid) (owned new) _ _ (LeftBy old after) (λ c m. inl m)
+      (λ c m. inr (w.0, w.2, elim m [ inl b ↦ inl b | inr b ↦ inr (subst (StandsFor c) (sym s.1) b) ])) l.moments (k.moments w.0 w.1) in record {
+        answers = λ c h. let m = held_replays old mid y c h in let s = says c m a.fits in inr (s.0, subst (Holds new) (sym s.1) (replays_holds new _ (a.replays c m)));
+        told = λ t. let w = y.whole t in replays_tells new _ (a.replays w.0 w.1);
+        whole = λ t. let w = y.whole t in inr (w.0, w.2);
+        sure = λ t. let w = y.whole t in inr (sure_by image new (changed w.0 x) (a.replays w.0 w.1));
+        moments = moments;
+        settles = λ t. let w = y.whole t in inr (λ c m. settles_by new _ (a.replays w.0 w.1) c m);
+        done_or_not = λ t. done_by counts image old new after (moments t);
+        survives = λ t cs h. survives_by counts image old new after (moments t) cs h;
+        records = λ c h. let t = y.same (holds_tells old c h) in inr (λ bodies b. inr (change_bytes x, a.adds c bodies (held_replays old mid y c h) (record { bytes = b.bytes; seen_is = t ∙ b.seen_is; journal = b.journal })));
+        keeps = inr (ok _);
+        exact = λ c f. let m = held_replays old mid y c f.holds in let s = says c m a.fits in let q = l.quiet f.told f.plain_is f.quiet in let p = k.quiet q.0 q.1 q.2 in
+            inr (s.0, subst (Foretells new) (sym s.1) (foretells_by new _ (a.replays c m) p.0 p.1 p.2));
+        failed = λ f. absurd (steady f);
+        damaged = λ place f. absurd (whole place f);
+        counts = let b = l.counts in let c = k.counts in omega arith;
+      }
 
   -- the change failed, done or not
   refused_failed : {T : Type 0} (counts : (disk : D) (t : ℕ) (c : List ℕ) → t ≤ g.moment disk → g.may_leave disk c → g.left_since disk t c) (image : (disk : D) (bytes : List ℕ) → g.seen disk ≡ Some bytes → g.may_leave disk bytes) (old mid new : DiskRegister D g) (x : Change) (done : Result (Unit {0}) RegisterFault) (r : Result T RegisterFault) (answer : Register → Result T RegisterFault) (after : Register → Register)
       → r ≡ failure T faults.Failed → Loads old mid done → IsReady old mid → Commits mid new x (failure (Unit {0}) faults.Failed) → is_loaded new ≡ false → Rose (g.faults (owned mid)) (g.faults (owned new)) → place_of mid.journal + body_length x + 6 ≤ 2 ^ 40
       → ((c : Register) → Replays mid c → place_of mid.journal + body_length x + 6 ≤ 2 ^ 40 → after c ≡ changed c x) → Meets old new r answer after
-  refused_failed {T = T} counts image old mid new x done r answer after is l y k unloaded rose fit says = let free : IsFree r = subst IsFree (sym is) tt in record {
-    answers = λ c h. inl free;
-    told = λ t. record { honest = k.honest (l.honest t.honest); loaded = λ b. absurd (not_true (is_loaded new) b unloaded) };
-    whole = λ t. inl free;
-    settled = λ t. inl free;
-    moments = λ t. let w = y.whole t in leaves_both g.moment g.left_since (owned old) (owned mid) (owned new) _ _ (LeftBy old after) (λ c m. inl m)
-        (λ c m. inr (w.0, w.2, elim m [ inl b ↦ inl b | inr b ↦ inr (subst (StandsFor c) (sym (says w.0 w.1 fit)) b) ])) l.moments (k.moments w.0 w.1);
-    settles = λ t. inl free;
-    done_or_not = λ t. done_by counts image old new after (let w = y.whole t in leaves_both g.moment g.left_since (owned old) (owned mid) (owned new) _ _ (LeftBy old after) (λ c m. inl m)
-        (λ c m. inr (w.0, w.2, elim m [ inl b ↦ inl b | inr b ↦ inr (subst (StandsFor c) (sym (says w.0 w.1 fit)) b) ])) l.moments (k.moments w.0 w.1));
-    keeps = inl is;
-    exact = λ c f. let q = l.quiet f.told f.plain_is f.quiet in absurd (k.steady q.0 q.1 q.2 refl);
-    failed = λ f. rose_from (g.faults (owned old)) (g.faults (owned mid)) (g.faults (owned new)) l.counts rose;
-    damaged = λ place f. absurd (let e = same_fault faults.Failed (faults.Damaged place) (sym is ∙ f) in cc e);
-    counts = let b = l.counts in let c = k.counts in omega arith;
-  }
+  refused_failed {T = T} counts image old mid new x done r answer after is l y k unloaded rose fit says = let free : IsFree r = subst IsFree (sym is) tt in
+      let moments : Tells old → LeavesOnly g.moment g.left_since (owned old) (owned new) (LeftBy old after) = λ t. let w = y.whole t in leaves_both g.moment g.left_since (owned old) (owned mid) (owned new) _ _ (LeftBy old after) (λ c m. inl m)
+      (λ c m. inr (w.0, w.2, elim m [ inl b ↦ inl b | inr b ↦ inr (subst (StandsFor c) (sym (says w.0 w.1 fit)) b) ])) l.moments (k.moments w.0 w.1) in record {
+        answers = λ c h. inl free;
+        told = λ t. record { honest = k.honest (l.honest t.honest); loaded = λ b. absurd (not_true (is_loaded new) b unloaded) };
+        whole = λ t. inl free;
+        sure = λ t. inl free;
+        moments = moments;
+        settles = λ t. inl free;
+        done_or_not = λ t. done_by counts image old new after (moments t);
+        survives = λ t cs h. survives_by counts image old new after (moments t) cs h;
+        records = λ c h. inl is;
+        keeps = inl is;
+        exact = λ c f. let q = l.quiet f.told f.plain_is f.quiet in absurd (k.steady q.0 q.1 q.2 refl);
+        failed = λ f. rose_from (g.faults (owned old)) (g.faults (owned mid)) (g.faults (owned new)) l.counts rose;
+        damaged = λ place f. absurd (let e = same_fault faults.Failed (faults.Damaged place) (sym is ∙ f) in cc e);
+        counts = let b = l.counts in let c = k.counts in omega arith;
+      }
 
   -- it is as it was
   refused_kept : {T : Type 0} (counts : (disk : D) (t : ℕ) (c : List ℕ) → t ≤ g.moment disk → g.may_leave disk c → g.left_since disk t c) (image : (disk : D) (bytes : List ℕ) → g.seen disk ≡ Some bytes → g.may_leave disk bytes) (old mid new : DiskRegister D g) (x : Change) (done made : Result (Unit {0}) RegisterFault) (e : RegisterFault) (r : Result T RegisterFault) (answer : Register → Result T RegisterFault) (after : Register → Register)
       → r ≡ failure T e → Loads old mid done → IsReady old mid → Commits mid new x made → (e ≡ faults.NoMemory) ⊎ ((e ≡ faults.Full) × ((c : Register) → Replays mid c → (failure T faults.Full ≡ answer c) × (after c ≡ c)))
-      → ((c : Register) → Replays mid c → Replays new c) → LeavesOnly g.moment g.left_since (owned mid) (owned new) (g.may_leave (owned mid)) → Meets old new r answer after
-  refused_kept {T = T} counts image old mid new x done made e r answer after is l y k which stays leaves =
+      → ((c : Register) → Replays mid c → Replays new c) → LeavesOnly g.moment g.left_since (owned mid) (owned new) (g.may_leave (owned mid)) → g.seen (owned new) ≡ g.seen (owned mid) → Meets old new r answer after
+  refused_kept {T = T} counts image old mid new x done made e r answer after is l y k which stays leaves same =
       let images : (bytes : List ℕ) → g.may_leave (owned mid) bytes → g.may_leave (owned old) bytes = λ bytes m. image_from counts old mid _ l.moments bytes m in
+      let moments : Tells old → LeavesOnly g.moment g.left_since (owned old) (owned new) (LeftBy old after) = λ t. leaves_both g.moment g.left_since (owned old) (owned mid) (owned new) _ _ (LeftBy old after) (λ c m. inl m) (λ c m. inl (images c m)) l.moments leaves in
       record {
         answers = λ c h. let m = held_replays old mid y c h in elim which [
           | inl n ↦ inl (subst IsFree (sym (is ∙ ap (λ e. failure T e) n)) tt)
@@ -300,10 +364,12 @@ module _ {D : Type 0} {g : Ghosts D} where
         ];
         told = λ t. let w = y.whole t in replays_tells new w.0 (stays w.0 w.1);
         whole = λ t. let w = y.whole t in inr (w.0, w.2);
-        settled = λ t. let w = y.whole t in inr (λ bytes m. (w.0, image_stands new w.0 (stays w.0 w.1) bytes m, replays_holds new w.0 (stays w.0 w.1)));
-        moments = λ t. leaves_both g.moment g.left_since (owned old) (owned mid) (owned new) _ _ (LeftBy old after) (λ c m. inl m) (λ c m. inl (images c m)) l.moments leaves;
+        sure = λ t. let w = y.whole t in inr (sure_by image new w.0 (stays w.0 w.1));
+        moments = moments;
         settles = λ t. let w = y.whole t in inr (λ c m. settles_by new w.0 (stays w.0 w.1) c m);
-        done_or_not = λ t. done_by counts image old new after (leaves_both g.moment g.left_since (owned old) (owned mid) (owned new) _ _ (LeftBy old after) (λ c m. inl m) (λ c m. inl (images c m)) l.moments leaves);
+        done_or_not = λ t. done_by counts image old new after (moments t);
+        survives = λ t cs h. survives_by counts image old new after (moments t) cs h;
+        records = λ c h. inr (records_same old new (same ∙ y.same (holds_tells old c h)));
         keeps = inr (on_err r _ (record { held = λ c h. replays_holds new c (stays c (held_replays old mid y c h)); may = λ c m. (m.0, images m.0 (image_from counts mid new _ leaves m.0 m.1), m.2) }));
         exact = λ c f. let m = held_replays old mid y c f.holds in let q = l.quiet f.told f.plain_is f.quiet in let p = k.quiet q.0 q.1 q.2 in elim which [
           | inl n ↦ inl (is ∙ ap (λ e. failure T e) n, foretells_by new c (stays c m) p.0 p.1 p.2)
@@ -331,7 +397,7 @@ module _ {D : Type 0} {g : Ghosts D} where
     | inr s ↦ refused_kept counts image old mid new x done (failure (Unit {0}) e) e r answer after is l y k (elim s.0 [
       | inl m ↦ inl (same_fault e faults.NoMemory m)
       | inr m ↦ inr (same_fault e faults.Full m.0, (λ c h. full c h m.1))
-    ]) s.2 s.3
+    ]) s.2 s.3 s.4
   ]
 
   pub holds_unloaded : (r : DiskRegister D g) (c : Register) → ReadsAs r c → is_loaded r ≡ false → Holds r c
@@ -376,6 +442,19 @@ module _ {D : Type 0} {g : Ghosts D} where
     loaded = λ l. let w = t.loaded (sym loaded ∙ l) in (w.0, replays_armed old new same place ended works contents w.0 w.1);
   }
 
+  pub leaves_armed : (image : (disk : D) (bytes : List ℕ) → g.seen disk ≡ Some bytes → g.may_leave disk bytes) (old new : DiskRegister D g) → Unchanged g.seen g.may_leave g.moment g.left_since (owned old) (owned new) → (cs : List Register) → LeavesOneOf old cs → LeavesOneOf new cs
+  leaves_armed image old new same cs l = leaves_by image new cs (λ bytes m. l.each bytes (same.crash bytes m))
+
+  leaves_as : (r : DiskRegister D g) (cs ds : List Register) → ((P : Register → Type 0) → OneOf P cs → OneOf P ds) → LeavesOneOf r cs → LeavesOneOf r ds
+  leaves_as r cs ds f l = record { each = λ bytes m. f (StandsFor bytes) (l.each bytes m); held = λ t. f (Holds r) (l.held t); alone = λ c m. f (λ d. d ≡ c) (l.alone c m) }
+
+  -- where a call changes nothing, and where it may not have been made
+  pub leaves_looked : (new : DiskRegister D g) (cs : List Register) → LeavesOneOf new (with_and_without (λ c. c) cs) → LeavesOneOf new cs
+  leaves_looked new cs l = leaves_as new _ cs (λ P h. one_without P cs h) l
+
+  pub leaves_changed : (b : Bool) (new : DiskRegister D g) (after : Register → Register) (cs : List Register) → LeavesOneOf new (with_and_without (λ c. if b then after c else c) cs) → LeavesOneOf new (with_and_without after cs)
+  leaves_changed b new after cs l = leaves_as new _ _ (λ P h. one_changed b P after cs h) l
+
   pub replays_length : (r : DiskRegister D g) (c : Register) → Replays r c → c.length ≡ place_of r.journal + 1
   replays_length r c h = let a = leads_length empty_register h.bodies c h.leads in let b = h.settled.rests.place_is in omega arith
 
@@ -386,14 +465,17 @@ module _ {D : Type 0} {g : Ghosts D} where
   pub meets_no_memory : {T : Type 0} (counts : (disk : D) (t : ℕ) (c : List ℕ) → t ≤ g.moment disk → g.may_leave disk c → g.left_since disk t c) (image : (disk : D) (bytes : List ℕ) → g.seen disk ≡ Some bytes → g.may_leave disk bytes)
       (old mid : DiskRegister D g) (done : Result (Unit {0}) RegisterFault) (r : Result T RegisterFault) (answer : Register → Result T RegisterFault) (after : Register → Register) → r ≡ failure T faults.NoMemory → Loads old mid done → IsReady old mid → Meets old mid r answer after
   meets_no_memory {T = T} counts image old mid done r answer after is l y =
-      let free : IsFree r = subst IsFree (sym is) tt in record {
+      let free : IsFree r = subst IsFree (sym is) tt in
+      let moments : Tells old → LeavesOnly g.moment g.left_since (owned old) (owned mid) (LeftBy old after) = λ t. leaves_map g.moment g.left_since (owned old) (owned mid) _ (LeftBy old after) (λ c m. inl m) l.moments in record {
         answers = λ c h. inl free;
         told = λ t. let w = y.whole t in replays_tells mid w.0 w.1;
         whole = λ t. inl free;
-        settled = λ t. inl free;
-        moments = λ t. leaves_map g.moment g.left_since (owned old) (owned mid) _ (LeftBy old after) (λ c m. inl m) l.moments;
+        sure = λ t. inl free;
+        moments = moments;
         settles = λ t. inl free;
-        done_or_not = λ t. done_by counts image old mid after (leaves_map g.moment g.left_since (owned old) (owned mid) _ (LeftBy old after) (λ c m. inl m) l.moments);
+        done_or_not = λ t. done_by counts image old mid after (moments t);
+        survives = λ t cs h. survives_by counts image old mid after (moments t) cs h;
+        records = λ c h. inr (records_same old mid (y.same (holds_tells old c h)));
         keeps = inr (on_err r _ (record { held = λ c h. replays_holds mid c (held_replays old mid y c h); may = λ c m. (m.0, image_from counts old mid _ l.moments m.0 m.1, m.2) }));
         exact = λ c f. let q = l.quiet f.told f.plain_is f.quiet in inl (is, foretells_by mid c (held_replays old mid y c f.holds) q.0 q.1 q.2);
         failed = λ f. absurd (let e = same_fault faults.NoMemory faults.Failed (sym is ∙ f) in cc e);

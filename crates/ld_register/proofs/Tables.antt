@@ -17,9 +17,11 @@ use Rattle.ld_table.specs.Words.{how_many}
 use Rattle.ld_table.proofs.Laws.{same_key, tied, find-keep_keys, find-put, find-put_same, find-put_other, find-keep, kept, find-map_values, map_values-put, put_cases, find-empty}
 use Rattle.ld_table.proofs.Order.{Ordered-put, Ordered-keep, keep_is, same_table, found}
 use Rattle.ld_op.proofs.There.{Ordered-map_values}
-use Rattle.ld_msg.specs.declared.msg.Summary.{Summary}
-use Rattle.ld_msg.specs.Register.{Epochs, no_epochs, epochs_of, generation_of, summary_shown, epochs_in}
-use Rattle.ld_register.specs.Kept.{is_closed, shown_log, Kept, is_held, shown_logs, shown_generations, register_of, log_at, AreLogs}
+use Rattle.ld_ids.specs.declared.set.Spec.{Spec}
+use Rattle.ld_msg.specs.Register.{Epochs, no_epochs, epochs_of, generation_of, summary_shown, epoch_shown, epochs_in}
+use Rattle.ld_register.specs.Calls.{spec_told}
+use Rattle.ld_register.specs.Kept.{is_up_to, shown_log, Kept, is_held, shown_logs, shown_generations, register_of, log_at, IsLogOf, AreLogs}
+use Rattle.ld_register.proofs.Logs.{not_found}
 
 module _ {X : Type 0} (p : X → Bool) where
   -- the entries that pass, as a table
@@ -60,24 +62,25 @@ module _ {X : Type 0} (p : X → Bool) where
 pub find-shown : (q : ℕ) (m : List (ℕ × Epochs)) → Ordered m → find q (shown_logs m) ≡ value_passes is_held (option_map shown_log (find q m))
 find-shown q m h = find-passing is_held q (map_values shown_log m) (Ordered-map_values shown_log m h) ∙ ap (value_passes is_held) (find-map_values shown_log q m)
 
-never_closed : (e : ℕ) → is_closed 0 e ≡ false
-never_closed e = grind (arith, nat_tests)
+never_up : (e : ℕ) → is_up_to 0 e ≡ false
+never_up e = grind (arith, nat_tests)
 
-none_closed : (m : List (ℕ × Summary)) → keep_keys (is_closed 0) m ≡ []
+none_up : {X : Type 0} (m : List (ℕ × X)) → keep_keys (is_up_to 0) m ≡ []
 unfolding keep_keys
-none_closed [] = refl
-none_closed (e ∷ m) = rw (never_closed e.0) (none_closed m)
+none_up [] = refl
+none_up (e ∷ m) = rw (never_up e.0) (none_up m)
 
 not_held : (v : Epochs) → is_held v ≡ false → (v.epoch ≡ 0) × (v.lce ≡ 0)
 not_held v h = (grind (arith, nat_tests), grind (arith, nat_tests))
 
 hidden_by : (v : Epochs) (b : Bool) → is_held v ≡ b → unwrap_or (cond b (Some (shown_log v)) None) no_epochs ≡ shown_log v
 hidden_by v true h = refl
-hidden_by v false h = let z = not_held v h in sym (ap (λ l. record { epoch = v.epoch; lce = v.lce; summaries = keep_keys (is_closed l) v.summaries }) z.1
-    ∙ (ap (λ s. record { epoch = v.epoch; lce = v.lce; summaries = s }) (none_closed v.summaries) ∙ (ap (λ n. record { epoch = n; lce = v.lce; summaries = [] }) z.0 ∙ ap (λ n. record { epoch = 0; lce = n; summaries = [] }) z.1)))
+hidden_by v false h = let z = not_held v h in sym (ap (λ n. record { epoch = n; lce = v.lce; specs = keep_keys (is_up_to n) v.specs; summaries = keep_keys (is_up_to v.lce) v.summaries }) z.0
+    ∙ (ap (λ n. record { epoch = 0; lce = n; specs = keep_keys (is_up_to 0) v.specs; summaries = keep_keys (is_up_to n) v.summaries }) z.1
+    ∙ (ap (λ s. record { epoch = 0; lce = 0; specs = s; summaries = keep_keys (is_up_to 0) v.summaries }) (none_up v.specs) ∙ ap (λ s. record { epoch = 0; lce = 0; specs = []; summaries = s }) (none_up v.summaries))))
 
 shown_or : (o : Option Epochs) → unwrap_or (value_passes is_held (option_map shown_log o)) no_epochs ≡ shown_log (unwrap_or o no_epochs)
-shown_or None = sym (ap (λ s. record { epoch = 0; lce = 0; summaries = s }) (none_closed []))
+shown_or None = sym (ap (λ s. record { epoch = 0; lce = 0; specs = s; summaries = keep_keys (is_up_to 0) [] }) (none_up []) ∙ ap (λ s. record { epoch = 0; lce = 0; specs = []; summaries = s }) (none_up []))
 shown_or (Some v) = hidden_by v (is_held v) refl
 
 -- what is shown of a log
@@ -113,11 +116,14 @@ module _ {X : Type 0} where
   set_value_put k v h m o f = same_table _ _ (subst (IsStrictlySortedBy nat_cmp) (sym (keys-set_value (is_at (nat_cmp k)) m v)) o) (Ordered-put k v m o)
       (λ q. lookup-set_value (eq_by_cmp_equiv nat_cmp_total) (is_at (nat_cmp k)) (one_key k) q v m (is_there (find k m) h f) ∙ (ap (λ b. cond b (Some v) (find q m)) (swapped q k) ∙ sym (find-put q k v m)))
 
-are_logs_put : (k : ℕ) (v : Epochs) (m n : List (ℕ × Epochs)) → IsLog k → v.epoch ≤ 2 ^ 32 - 2 → n ≡ put k v m → AreLogs m → AreLogs n
+are_logs_put : (k : ℕ) (v : Epochs) (m n : List (ℕ × Epochs)) → IsLog k → IsLogOf k v → n ≡ put k v m → AreLogs m → AreLogs n
 are_logs_put k v m n i b e h l w f = elim (put_cases l k v m) [
-  | inl c ↦ (subst IsLog (sym c.0) i, let g = ap (λ o. (unwrap_or o no_epochs).epoch) (sym c.1 ∙ (ap (find l) (sym e) ∙ f)) in omega arith)
+  | inl c ↦ (subst IsLog (sym c.0) i, subst (λ j. IsLogOf j w) (sym c.0) (subst (IsLogOf k) (ap (λ o. unwrap_or o no_epochs) (sym c.1 ∙ (ap (find l) (sym e) ∙ f))) b))
   | inr c ↦ h l w (sym c.1 ∙ (ap (find l) (sym e) ∙ f))
 ]
+
+no_log_of : (l : ℕ) → IsLogOf l no_epochs
+no_log_of l = record { epoch = omega arith; specs = λ e s f. absurd (not_found (find e []) s (find-empty {X = Spec} e) f) }
 
 -- a log's room
 pub room_logs : (j k l : ℕ) (v : Epochs) (m n : List (ℕ × Epochs)) → j ≡ l → k ≡ l → v ≡ no_epochs → n ≡ put k v m → Ordered m → is_some (find j m) ≡ false → IsLog l
@@ -128,7 +134,7 @@ room_logs j k l v m n je ke ve e o none is =
       ap shown_logs there ∙ shown_same l no_epochs m o (sym (ap (λ x. value_passes is_held (option_map shown_log x)) absent)),
       ap (λ x. log_at x l) there ∙ (ap (λ x. unwrap_or x no_epochs) (find-put_same l l no_epochs m refl) ∙ sym (ap (λ x. unwrap_or x no_epochs) absent)),
       ap (λ x. is_some (find l x)) there ∙ ap is_some (find-put_same l l no_epochs m refl),
-      are_logs_put l no_epochs m n is (omega arith) there,
+      are_logs_put l no_epochs m n is (no_log_of l) there,
     )
   where
     not_there : (x : Option Epochs) → is_some x ≡ false → x ≡ None
@@ -142,7 +148,7 @@ pub record Written (l : ℕ) (v w : Epochs) (m n : List (ℕ × Epochs)) : Type 
   pub at_was : log_at m l ≡ v
   pub at_is : log_at n l ≡ w
   pub there : is_some (find l n) ≡ is_some (find l m)
-  pub logs : (v.epoch ≤ 2 ^ 32 - 2 → w.epoch ≤ 2 ^ 32 - 2) → AreLogs m → AreLogs n
+  pub logs : (IsLogOf l v → IsLogOf l w) → AreLogs m → AreLogs n
 
 pub written : (j l : ℕ) (v w : Epochs) (m n : List (ℕ × Epochs)) → j ≡ l → Ordered m → find j m ≡ Some v → n ≡ map.set_value (is_at (nat_cmp j)) m w → IsLog l → Written l v w m n
 written j l v w m n je o f e is =
@@ -173,6 +179,9 @@ missing (Some v) e h = absurd cc
 pub never_there : (j l : ℕ) (m : List (ℕ × Epochs)) → j ≡ l → find j m ≡ None → is_some (find l m) ≡ true → ⊥
 never_there j l m e f h = missing (find l m) (ap (λ i. find i m) (sym e) ∙ f) h
 
+pub log_there : (j l : ℕ) (v : Epochs) (m : List (ℕ × Epochs)) → j ≡ l → find j m ≡ Some v → AreLogs m → IsLogOf l v
+log_there j l v m e f h = (h l v (ap (λ i. find i m) (sym e) ∙ f)).1
+
 -- ---- look-ups in what is shown ----
 
 pub found_at : (j l : ℕ) (m : List (ℕ × Epochs)) (k : Kept) (g : List (ℕ × ℕ)) (o : Option Epochs) → record { logs = m; generations = g } ≡ k → j ≡ l → Ordered m → find j m ≡ o → (n : ℕ) → epochs_of (register_of k n) l ≡ shown_log (unwrap_or o no_epochs)
@@ -192,15 +201,21 @@ generation_at j l m g k o w e h f n = sym (ap (λ x. unwrap_or (find l (shown_ge
     ∙ (ap (λ x. unwrap_or x 0) (find-passing (λ g. nat_lt 0 g) l g h) ∙ (shown_value (find l g) ∙ ap (λ x. unwrap_or x 0) (ap (λ i. find i g) (sym e) ∙ f))))
 
 -- an epoch that isn't closed has no summary that is shown
-summary_if : (v : Epochs) (e : ℕ) (b : Bool) → is_closed v.lce e ≡ b → find e (shown_log v).summaries ≡ (if b then find e (shown_log v).summaries else None)
+summary_if : (v : Epochs) (e : ℕ) (b : Bool) → is_up_to v.lce e ≡ b → find e (shown_log v).summaries ≡ (if b then find e (shown_log v).summaries else None)
 summary_if v e true h = refl
-summary_if v e false h = find-keep_keys e (is_closed v.lce) v.summaries ∙ ap (λ b. cond b (find e v.summaries) None) h
+summary_if v e false h = find-keep_keys e (is_up_to v.lce) v.summaries ∙ ap (λ b. cond b (find e v.summaries) None) h
 
 pub summary_at : (k : Kept) (n l e : ℕ) (v : Epochs) → epochs_of (register_of k n) l ≡ shown_log v → find e (shown_log v).summaries ≡ summary_shown (register_of k n) l e
-summary_at k n l e v h = subst (λ w. find e (shown_log v).summaries ≡ (if nat_le 1 e && nat_le e w.lce then find e w.summaries else None)) (sym h) (summary_if v e (is_closed v.lce e) refl)
+summary_at k n l e v h = subst (λ w. find e (shown_log v).summaries ≡ (if nat_le 1 e && nat_le e w.lce then find e w.summaries else None)) (sym h) (summary_if v e (is_up_to v.lce e) refl)
 
 pub no_summary : (k : Kept) (n l e : ℕ) → epochs_of (register_of k n) l ≡ shown_log no_epochs → None ≡ summary_shown (register_of k n) l e
-no_summary k n l e h = sym (find-keep_keys e (is_closed 0) [] ∙ ap (λ b. cond b (find e []) None) (never_closed e)) ∙ summary_at k n l e no_epochs h
+no_summary k n l e h = sym (find-keep_keys e (is_up_to 0) [] ∙ ap (λ b. cond b (find e []) None) (never_up e)) ∙ summary_at k n l e no_epochs h
+
+pub spec_at : (k : Kept) (n l e : ℕ) (v : Epochs) → epochs_of (register_of k n) l ≡ shown_log v → find (epoch_shown (shown_log v) e) (shown_log v).specs ≡ spec_told (register_of k n) l e
+spec_at k n l e v h = ap (λ w. find (epoch_shown w e) w.specs) (sym h)
+
+pub no_spec : (k : Kept) (n l e : ℕ) → epochs_of (register_of k n) l ≡ shown_log no_epochs → None ≡ spec_told (register_of k n) l e
+no_spec k n l e h = sym (ap (find (epoch_shown (shown_log no_epochs) e)) (none_up []) ∙ find-empty {X = Spec} (epoch_shown (shown_log no_epochs) e)) ∙ spec_at k n l e no_epochs h
 
 -- ---- how many others are held ----
 
@@ -236,9 +251,6 @@ others_most l (e ∷ m) = few_others (is_held e.1 && not (e.0 == l)) (others l m
 
 pub room_to_count : (l n : ℕ) (xs ys all : List (ℕ × Epochs)) (y : ℕ × Epochs) → xs ++ y ∷ ys ≡ all → length all ≡ n → n < 2 ^ 63 → others l xs + 1 < 2 ^ 64
 room_to_count l n xs ys all y h e small = let a = others_most l xs in omega (arith, ap length h, length-append xs (y ∷ ys))
-
-not_found : (o : Option Epochs) (v : Epochs) → o ≡ None → o ≡ Some v → ⊥
-not_found o v e f = absurd cc
 
 pub no_logs : AreLogs []
 no_logs l v f = absurd (not_found (find l []) v (find-empty {X = Epochs} l) f)
@@ -321,7 +333,7 @@ all_from from (e ∷ m) f o h = (f.0, h.0.0, (let b = h.0.1 in omega arith), all
 
 each_log : (m es : List (ℕ × Epochs)) → AreLogs m → AllByRecursion (λ e. find e.0 m ≡ Some e.1) es → AllByRecursion (λ e. IsLog e.0 × (e.1.epoch ≤ 2 ^ 32 - 2)) es
 each_log m [] h f = tt
-each_log m (e ∷ es) h f = (h e.0 e.1 f.0, each_log m es h f.1)
+each_log m (e ∷ es) h f = (let i = h e.0 e.1 f.0 in (i.0, i.1.epoch), each_log m es h f.1)
 
 one_on : (m : List (ℕ × Epochs)) → AllByRecursion (λ e. IsLog e.0 × (e.1.epoch ≤ 2 ^ 32 - 2)) m → AllByRecursion (λ y. 1 ≤ y) (map.keys_of m)
 one_on [] h = tt

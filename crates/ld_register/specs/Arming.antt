@@ -1,5 +1,5 @@
 -- What a register on a disk tells that has an armed fault, and what its calls do.
-use Rattle.std.specs.Prelude.{◌≡◌, ◌⊎◌, ◌≤◌, ◌+◌, ◌-◌, ◌^◌, ℕ, true, false, Option, None, Some, min, if◌then◌else◌, IsErrOf, OnErr}
+use Rattle.std.specs.Prelude.{◌≡◌, ◌⊎◌, ◌≤◌, ◌+◌, ◌-◌, ◌^◌, ℕ, true, false, List, [], ◌∷◌, Option, None, Some, min, if◌then◌else◌, IsErrOf, OnErr}
 use Rattle.std.specs.declared.result.Result.{Result}
 use Rattle.ld_io.specs.Causes.{Rose}
 use Rattle.ld_disk.specs.declared.disk.Disk.{Ghosts}
@@ -9,8 +9,8 @@ use Rattle.ld_register.specs.declared.fault.RegisterFault.TheVariants as faults
 use Rattle.ld_register.specs.declared.disk.DiskRegister.{DiskRegister}
 use Rattle.ld_register.specs.declared.faulty.Armed.{Armed as Order}
 use Rattle.ld_register.specs.declared.faulty.FaultyRegister.{FaultyRegister}
-use Rattle.ld_register.specs.Calls.{IsFree, Keeps, ChangedOrNot, unarmed}
-use Rattle.ld_register.specs.Held.{owned, ReadsAs, Holds, Tells, MayHold, Foretells, IsBroken}
+use Rattle.ld_register.specs.Calls.{IsFree, Keeps, ChangedOrNot, with_and_without, unarmed}
+use Rattle.ld_register.specs.Held.{owned, ReadsAs, Holds, Tells, MayHold, LeavesOneOf, Foretells, IsBroken}
 
 abbrev pub ordered : Option Order → Option Armed
 ordered None = None
@@ -46,7 +46,9 @@ module _ {D : Type 0} {g : Ghosts D} where
     pub told : Tells (kept_in old) → Tells (kept_in new)
     pub whole : Tells (kept_in old) → IsFree result ⊎ ((c : Register) × Holds (kept_in old) c)
     pub settles : Tells (kept_in old) → IsFree result ⊎ ((c : Register) → MayHold (kept_in new) c → Holds (kept_in new) c)
+    pub sure : Tells (kept_in old) → IsFree result ⊎ ((c : Register) × Holds (kept_in new) c × LeavesOneOf (kept_in new) (c ∷ []))
     pub done_or_not : Tells (kept_in old) → ChangedOrNot (MayHold (kept_in old)) (MayHold (kept_in new)) after
+    pub survives : Tells (kept_in old) → (cs : List Register) → LeavesOneOf (kept_in old) cs → LeavesOneOf (kept_in new) (with_and_without after cs)
     pub keeps : IsErrOf result faults.Failed ⊎ OnErr result (Keeps (Holds (kept_in old)) (Holds (kept_in new)) (MayHold (kept_in old)) (MayHold (kept_in new)))
     pub exact : (c : Register) → Foresees old c
         → (IsErrOf result faults.NoMemory × Foresees new c) ⊎ ((result ≡ answer c) × Foresees new (after c))

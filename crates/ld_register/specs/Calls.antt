@@ -1,9 +1,12 @@
 -- What a register answers by its contents, and what a call makes of them.
-use Rattle.std.specs.Prelude.{◌≡◌, ◌≤◌, ◌⊎◌, ◌↔◌, ◌+◌, ◌-◌, ◌^◌, ℕ, Bool, true, false, None, nat_lt, if◌then◌else◌, Ok, Err, IfSome, IsSome}
+use Rattle.std.specs.Prelude.{◌≡◌, ◌≤◌, ◌⊎◌, ◌↔◌, ◌+◌, ◌-◌, ◌^◌, ℕ, Bool, true, false, List, [], ◌∷◌, Option, None, nat_lt, if◌then◌else◌, Ok, Err, IfSome, IsSome}
 use Rattle.std.specs.declared.result.Result.{Result}
+use Rattle.ld_table.specs.Table.{find}
+use Rattle.ld_ids.specs.declared.set.Spec.{Spec}
 use Rattle.ld_msg.specs.declared.msg.Summary.{Summary}
-use Rattle.ld_msg.specs.Bounds.{IsSummary}
-use Rattle.ld_msg.specs.Register.{Register, Answer, Granted, AtLimit, Behind, Fails, epochs_of, generation_of, lce_of, record_length, journal_limit, activate, close, draw, epochs_in, is_crowded, summary_shown}
+use Rattle.ld_msg.specs.Bounds.{IsEpoch, IsSummary}
+use Rattle.ld_msg.specs.Register.{Register, Answer, Granted, AtLimit, Behind, Fails, epochs_of, generation_of, lce_of, record_length, journal_limit, activate, close, draw, epochs_in, is_crowded, summary_shown, epoch_shown}
+use Rattle.ld_register.specs.Bounds.{IsSpecFor}
 use Rattle.ld_register.specs.declared.fault.RegisterFault.{RegisterFault}
 use Rattle.ld_register.specs.declared.fault.RegisterFault.TheVariants as faults
 use Rattle.ld_register.specs.declared.register.Grant.{Grant}
@@ -14,17 +17,22 @@ use Rattle.ld_register.specs.declared.register.View.{View}
 abbrev pub is_full : Register → ℕ → Bool
 is_full r body = nat_lt journal_limit (r.length + record_length body)
 
--- how a call ends that is to make a change
+-- how an activation and a draw end
 abbrev pub ended : {T : Type 0} → Answer → Bool → RegisterFault → T → Result T RegisterFault
 ended Granted full limit given = Ok given
 ended AtLimit full limit given = Err limit
-ended (Behind lce) full limit given = Err (faults.Behind lce)
+ended (Behind lce) full limit given = Err (faults.Behind lce None)
 ended Fails true limit given = Err faults.Full
 ended Fails false limit given = Err faults.Failed
 
+-- how a close ends: it tells what is fixed for the next epoch to be closed, before the close or after it
+abbrev pub close_ended : Answer → Bool → Option Spec → Option Spec → Result (Option Spec) RegisterFault
+close_ended (Behind lce) full before after = Err (faults.Behind lce before)
+close_ended answer full before after = ended answer full faults.EpochLimit after
+
 -- the lengths of the bodies of an activation, a close and a draw
 abbrev pub activation_length : ℕ
-activation_length = 9
+activation_length = 13
 
 abbrev pub close_length : ℕ
 close_length = 29
@@ -32,24 +40,40 @@ close_length = 29
 abbrev pub draw_length : ℕ
 draw_length = 6
 
+-- ---- what is told of what is fixed for an epoch ----
+
+-- for epoch 0 and for one that isn't handed out the greatest one's is told, and nothing where none was fixed
+abbrev pub spec_told : Register → ℕ → ℕ → Option Spec
+spec_told r l e = find (epoch_shown (epochs_of r l) e) (epochs_of r l).specs
+
+-- of the epoch behind the last closed one
+abbrev pub next_told : Register → ℕ → Option Spec
+next_told r l = spec_told r l (lce_of r l + 1)
+
 -- ---- an activation: the log's next epoch, unless there is no room for one more log ----
 
-abbrev pub after_activate : Register → ℕ → Register
-after_activate r l = if is_crowded r l then r else (activate r l).register
+abbrev pub after_activate : Register → Spec → Register
+after_activate r s = if is_crowded r s.log then r else (activate r s.log s).register
 
-abbrev pub granted : Register → ℕ → Grant
-granted r l = record { epoch = (epochs_of (after_activate r l) l).epoch; lce = lce_of r l }
+abbrev pub granted : Register → Spec → Grant
+granted r s = record { epoch = (epochs_of (after_activate r s) s.log).epoch; lce = lce_of r s.log; next = next_told (after_activate r s) s.log }
 
-abbrev pub activated : Register → ℕ → Result Grant RegisterFault
-activated r l = if is_crowded r l then Err faults.LogLimit else ended (activate r l).answer (is_full r activation_length) faults.EpochLimit (granted r l)
+abbrev pub activated : Register → Spec → Result Grant RegisterFault
+activated r s = if is_crowded r s.log then Err faults.LogLimit else ended (activate r s.log s).answer (is_full r activation_length) faults.EpochLimit (granted r s)
+
+-- a grant's numbers are in their bounds, and what it tells is fixed for an epoch of the log
+pub record IsGrant (l : ℕ) (grant : Grant) : Type 0 where
+  pub epoch : IsEpoch grant.epoch
+  pub lce : grant.lce ≤ 2 ^ 32 - 2
+  pub next : IfSome grant.next (IsSpecFor l)
 
 -- ---- a close: it is taken where the epoch before is the last closed one ----
 
 abbrev pub after_close : Register → ℕ → ℕ → Summary → Register
 after_close r l e y = if is_crowded r l then r else (close r l e y).register
 
-abbrev pub closed : Register → ℕ → ℕ → Summary → Result Unit RegisterFault
-closed r l e y = if is_crowded r l then Err faults.LogLimit else ended (close r l e y).answer (is_full r close_length) faults.EpochLimit tt
+abbrev pub closed : Register → ℕ → ℕ → Summary → Result (Option Spec) RegisterFault
+closed r l e y = if is_crowded r l then Err faults.LogLimit else close_ended (close r l e y).answer (is_full r close_length) (next_told r l) (next_told (after_close r l e y) l)
 
 -- ---- a draw: the node's next generation, and the epoch of each log that has one ----
 
@@ -65,14 +89,15 @@ drawn r n = ended (draw r n).answer (is_full r draw_length) faults.GenLimit (han
 -- ---- a look ----
 
 abbrev pub looked : Register → ℕ → ℕ → View
-looked r l e = record { epoch = (epochs_of r l).epoch; lce = lce_of r l; summary = summary_shown r l e }
+looked r l e = record { epoch = (epochs_of r l).epoch; lce = lce_of r l; summary = summary_shown r l e; spec = spec_told r l e }
 
--- a view shows a summary exactly of a closed epoch, and one of that epoch
-pub record IsView (e : ℕ) (view : View) : Type 0 where
+-- a view shows a summary exactly of a closed epoch, and one of that epoch, and what is fixed for an epoch of the log
+pub record IsView (l e : ℕ) (view : View) : Type 0 where
   pub epoch : view.epoch ≤ 2 ^ 32 - 2
   pub lce : view.lce ≤ 2 ^ 32 - 2
   pub shown : IsSome view.summary ↔ ((1 ≤ e) × (e ≤ view.lce))
   pub summary : IfSome view.summary (IsSummary e)
+  pub spec : IfSome view.spec (IsSpecFor l)
 
 -- ---- what an answer tells ----
 
@@ -82,7 +107,7 @@ IsFree (Ok given) = ⊥
 IsFree (Err faults.Failed) = Unit {0}
 IsFree (Err (faults.Damaged place)) = Unit {0}
 IsFree (Err faults.LogLimit) = ⊥
-IsFree (Err (faults.Behind lce)) = ⊥
+IsFree (Err (faults.Behind lce next)) = ⊥
 IsFree (Err faults.EpochLimit) = ⊥
 IsFree (Err faults.GenLimit) = ⊥
 IsFree (Err faults.Full) = ⊥
@@ -100,3 +125,13 @@ ChangedOrNot before now change = (c : Register) → now c → (b : Register) × 
 pub record Keeps (holds_before holds_now may_before may_now : Register → Type 0) : Type 0 where
   pub held : (c : Register) → holds_before c → holds_now c
   pub may : (c : Register) → may_now c → may_before c
+
+-- one of these
+abbrev pub OneOf : (Register → Type 0) → List Register → Type 0
+OneOf P [] = ⊥
+OneOf P (c ∷ cs) = P c ⊎ OneOf P cs
+
+-- each of these, without the call's change and with it
+abbrev pub with_and_without : (Register → Register) → List Register → List Register
+with_and_without change [] = []
+with_and_without change (c ∷ cs) = c ∷ change c ∷ with_and_without change cs

@@ -1,11 +1,14 @@
 -- The changes of a register: their bytes, which one may come next, and what each makes of the contents.
 use Rattle.std.specs.Prelude.{◌≡◌, ◌≢◌, ◌+◌, ℕ, Bool, true, not, ◌&&◌, ◌==◌, List, [], ◌∷◌, ◌++◌}
-use Rattle.std.specs.Int.{w32, w64, to_be_bytes}
+use Rattle.std.specs.Int.{w16, w32, w64, to_be_bytes}
 use Rattle.ld_table.specs.Table.{put}
 use Rattle.ld_ids.specs.Id.{IsLog, IsNode}
+use Rattle.ld_ids.specs.Set.{set_bits}
+use Rattle.ld_ids.specs.declared.set.Spec.{Spec}
 use Rattle.ld_msg.specs.declared.msg.Summary.{Summary}
 use Rattle.ld_msg.specs.Bounds.{Is32, IsEpoch, IsSummary}
-use Rattle.ld_msg.specs.Register.{Register, epochs_of, generation_of, lce_of, record_length, with_epochs, next_epoch, closed_epochs, is_crowded}
+use Rattle.ld_msg.specs.Register.{Register, Epochs, epochs_of, generation_of, lce_of, record_length, with_epochs, next_epoch, closed_epochs, is_crowded}
+use Rattle.ld_register.specs.Bounds.{IsSpec}
 use Rattle.ld_register.specs.Calls.{activation_length, close_length, draw_length}
 use Rattle.ld_register.specs.declared.change.Change.{Change}
 use Rattle.ld_register.specs.declared.change.Change.TheVariants as changes
@@ -15,15 +18,20 @@ use Rattle.ld_register.specs.declared.change.Change.TheVariants as changes
 abbrev pub summary_bytes : Summary → List ℕ
 summary_bytes y = to_be_bytes w32 y.ballot ++ (to_be_bytes w32 y.lng ++ (to_be_bytes w64 y.trim ++ to_be_bytes w32 y.end))
 
+abbrev pub spec_bytes : Spec → List ℕ
+spec_bytes s = to_be_bytes w16 (set_bits s.set) ++ s.r ∷ s.extras ∷ []
+
 -- the body of a change's record
 unfoldable pub change_bytes : Change → List ℕ
-change_bytes (changes.Activate l e) = 16 ∷ (to_be_bytes w32 l ++ to_be_bytes w32 e)
+change_bytes (changes.Activate e s) = 19 ∷ (to_be_bytes w32 s.log ++ (to_be_bytes w32 e ++ spec_bytes s))
+change_bytes (changes.Unfixed l e) = 16 ∷ (to_be_bytes w32 l ++ to_be_bytes w32 e)
 change_bytes (changes.Close l e y) = 17 ∷ (to_be_bytes w32 l ++ (to_be_bytes w32 e ++ summary_bytes y))
 change_bytes (changes.Draw n g) = 18 ∷ (n ∷ to_be_bytes w32 g)
 
 -- what a record's body may carry
 abbrev pub IsChange : Change → Type 0
-IsChange (changes.Activate l e) = IsLog l × IsEpoch e
+IsChange (changes.Activate e s) = IsEpoch e × IsSpec s
+IsChange (changes.Unfixed l e) = IsLog l × IsEpoch e
 IsChange (changes.Close l e y) = IsLog l × IsEpoch e × IsSummary e y
 IsChange (changes.Draw n g) = IsNode n × Is32 g
 
@@ -40,21 +48,32 @@ IsNoBody body = (x : Change) → IsChange x → body ≢ change_bytes x
 
 -- whether a change is the next one of its log or node
 abbrev pub is_next : Register → Change → Bool
-is_next r (changes.Activate l e) = not (is_crowded r l) && ((epochs_of r l).epoch + 1 == e)
+is_next r (changes.Activate e s) = not (is_crowded r s.log) && ((epochs_of r s.log).epoch + 1 == e)
+is_next r (changes.Unfixed l e) = not (is_crowded r l) && ((epochs_of r l).epoch + 1 == e)
 is_next r (changes.Close l e y) = not (is_crowded r l) && (lce_of r l + 1 == e)
 is_next r (changes.Draw n g) = generation_of r n + 1 == g
 
+-- the length of the body of an activation that fixes nothing
+abbrev pub unfixed_length : ℕ
+unfixed_length = 9
+
 abbrev pub body_length : Change → ℕ
-body_length (changes.Activate l e) = activation_length
+body_length (changes.Activate e s) = activation_length
+body_length (changes.Unfixed l e) = unfixed_length
 body_length (changes.Close l e y) = close_length
 body_length (changes.Draw n g) = draw_length
 
 abbrev pub longer : Register → ℕ → Register
 longer r body = record r { length = r.length + record_length body }
 
+-- the next epoch of a log, for which nothing is fixed
+abbrev pub unfixed_epoch : Epochs → Epochs
+unfixed_epoch e = record e { epoch = e.epoch + 1 }
+
 -- the contents after a change
 abbrev pub changed : Register → Change → Register
-changed r (changes.Activate l e) = longer (with_epochs r l (next_epoch (epochs_of r l))) activation_length
+changed r (changes.Activate e s) = longer (with_epochs r s.log (next_epoch (epochs_of r s.log) s)) activation_length
+changed r (changes.Unfixed l e) = longer (with_epochs r l (unfixed_epoch (epochs_of r l))) unfixed_length
 changed r (changes.Close l e y) = longer (with_epochs r l (closed_epochs (epochs_of r l) e y)) close_length
 changed r (changes.Draw n g) = longer (record r { generations = put n (generation_of r n + 1) r.generations }) draw_length
 

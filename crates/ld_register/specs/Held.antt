@@ -1,5 +1,5 @@
 -- What a register on a disk holds, and what its calls do.
-use Rattle.std.specs.Prelude.{◌≡◌, ◌⊎◌, ◌≤◌, ◌<◌, ◌+◌, ◌^◌, ◌==◌, ℕ, Bool, true, false, List, Option, None, Some, IfSome, IsSome, Ok, IsErrOf, OnErr, IsErr}
+use Rattle.std.specs.Prelude.{◌≡◌, ◌⊎◌, ◌≤◌, ◌<◌, ◌+◌, ◌^◌, ◌==◌, ℕ, Bool, true, false, List, [], ◌∷◌, ◌++◌, Option, None, Some, IfSome, IsSome, Ok, IsErrOf, OnErr, IsErr}
 use Rattle.std.proofs.Common.{subst, sym, refl}
 use Rattle.std.specs.declared.result.Result.{Result}
 use Rattle.ld_io.specs.Causes.{Rose}
@@ -15,10 +15,10 @@ use Rattle.ld_register.specs.declared.fault.RegisterFault.{RegisterFault}
 use Rattle.ld_register.specs.declared.fault.RegisterFault.TheVariants as faults
 use Rattle.ld_register.specs.declared.disk.DiskRegister.{DiskRegister}
 use Rattle.ld_register.specs.declared.change.Change.{Change}
-use Rattle.ld_register.specs.Calls.{IsFree, Keeps, ChangedOrNot, unarmed}
-use Rattle.ld_register.specs.Changes.{changed, body_length, is_next, IsChange}
+use Rattle.ld_register.specs.Calls.{IsFree, Keeps, ChangedOrNot, OneOf, with_and_without, unarmed}
+use Rattle.ld_register.specs.Changes.{changed, body_length, change_bytes, is_next, IsChange}
 use Rattle.ld_register.specs.Kept.{register_of}
-use Rattle.ld_register.specs.Stands.{StandsFor, IsDamaged, IsReplayed}
+use Rattle.ld_register.specs.Stands.{StandsFor, HasRecords, AddsOneAtMost, IsDamaged, IsReplayed}
 
 -- no writing call is told to fail, and the disk stands
 abbrev pub never_falls : Option Fault → Bool
@@ -68,6 +68,12 @@ module _ {D : Type 0} {g : Ghosts D} where
   abbrev pub MayHold : DiskRegister D g → Register → Type 0
   MayHold r c = (bytes : List ℕ) × g.may_leave (owned r) bytes × StandsFor bytes c
 
+  -- a crash leaves bytes that stand for one of these, and no others; so one of these is held, and nothing else may be
+  pub record LeavesOneOf (r : DiskRegister D g) (cs : List Register) : Type 0 where
+    pub each : (bytes : List ℕ) → g.may_leave (owned r) bytes → OneOf (StandsFor bytes) cs
+    pub held : Tells r → OneOf (Holds r) cs
+    pub alone : (c : Register) → MayHold r c → OneOf (λ d. d ≡ c) cs
+
   -- its disk tells what each call will do, and none will fail
   pub record Foretells (r : DiskRegister D g) (c : Register) : Type 0 where
     pub holds : Holds r c
@@ -91,6 +97,7 @@ module _ {D : Type 0} {g : Ghosts D} where
   pub record IsReady (old new : DiskRegister D g) : Type 0 where
     pub loaded : is_loaded new ≡ true
     pub whole : Tells old → (c : Register) × Replays new c × Holds old c
+    pub same : Tells old → g.seen (owned new) ≡ g.seen (owned old)
 
   pub record IsNotReady {T : Type 0} (old new : DiskRegister D g) (result : Result T RegisterFault) : Type 0 where
     pub unloaded : is_loaded new ≡ false
@@ -111,12 +118,13 @@ module _ {D : Type 0} {g : Ghosts D} where
   pub record IsMade (old new : DiskRegister D g) (x : Change) : Type 0 where
     pub loaded : is_loaded new ≡ true
     pub replays : (c : Register) → Replays old c → Replays new (changed c x)
+    pub adds : (c : Register) (bodies : List (List ℕ)) → Replays old c → HasRecords (g.seen (owned old)) bodies → HasRecords (g.seen (owned new)) (bodies ++ change_bytes x ∷ [])
     pub fits : place_of old.journal + body_length x + 6 ≤ 2 ^ 40
 
   pub record IsRefused {T : Type 0} (old new : DiskRegister D g) (x : Change) (result : Result T RegisterFault) : Type 0 where
     pub cause : (IsErrOf result faults.Failed × (is_loaded new ≡ false) × Rose (g.faults (owned old)) (g.faults (owned new)) × (place_of old.journal + body_length x + 6 ≤ 2 ^ 40))
         ⊎ ((IsErrOf result faults.NoMemory ⊎ (IsErrOf result faults.Full × (2 ^ 40 < place_of old.journal + body_length x + 6)))
-        × (is_loaded new ≡ true) × ((c : Register) → Replays old c → Replays new c) × LeavesOnly g.moment g.left_since (owned old) (owned new) (g.may_leave (owned old)))
+        × (is_loaded new ≡ true) × ((c : Register) → Replays old c → Replays new c) × LeavesOnly g.moment g.left_since (owned old) (owned new) (g.may_leave (owned old)) × (g.seen (owned new) ≡ g.seen (owned old)))
 
   -- ---- a whole call ----
 
@@ -128,7 +136,9 @@ module _ {D : Type 0} {g : Ghosts D} where
     pub answers : (c : Register) → Holds old c → IsFree result ⊎ ((result ≡ answer c) × Holds new (after c))
     pub told : Tells old → Tells new
     pub whole : Tells old → IsFree result ⊎ ((c : Register) × Holds old c)
-    pub settled : Tells old → IsFree result ⊎ ((bytes : List ℕ) → g.may_leave (owned new) bytes → (c : Register) × StandsFor bytes c × Holds new c)
+    pub sure : Tells old → IsFree result ⊎ ((c : Register) × Holds new c × LeavesOneOf new (c ∷ []))
+    pub survives : Tells old → (cs : List Register) → LeavesOneOf old cs → LeavesOneOf new (with_and_without after cs)
+    pub records : (c : Register) → Holds old c → IsErrOf result faults.Failed ⊎ AddsOneAtMost (g.seen (owned old)) (g.seen (owned new))
     pub moments : Tells old → LeavesOnly g.moment g.left_since (owned old) (owned new) (LeftBy old after)
     pub settles : Tells old → IsFree result ⊎ ((c : Register) → MayHold new c → Holds new c)
     pub done_or_not : Tells old → ChangedOrNot (MayHold old) (MayHold new) after

@@ -3,19 +3,21 @@ use Rattle.std.specs.Prelude.{◌≡◌, ◌≤◌, ◌-◌, ◌^◌, ℕ, Bool,
 use Rattle.std.specs.Option.{unwrap_or}
 use Rattle.ld_table.specs.Table.{find, keep_keys, map_values}
 use Rattle.ld_ids.specs.Id.{IsLog}
+use Rattle.ld_ids.specs.declared.set.Spec.{Spec}
 use Rattle.ld_msg.specs.declared.msg.Summary.{Summary}
 use Rattle.ld_msg.specs.Bounds.{IsSummary}
 use Rattle.ld_msg.specs.Register.{Register, Epochs, no_epochs}
+use Rattle.ld_register.specs.Bounds.{IsSpecFor}
 use Rattle.ld_register.specs.declared.change.Change.{Change}
 use Rattle.ld_register.specs.declared.change.Change.TheVariants as changes
 
--- ---- a log: a summary above the last closed epoch is room for one ----
+-- ---- a log: what is fixed for an epoch above the greatest one is room for it, and so is a summary above the last closed epoch ----
 
-abbrev pub is_closed : ℕ → ℕ → Bool
-is_closed lce e = nat_le 1 e && nat_le e lce
+abbrev pub is_up_to : ℕ → ℕ → Bool
+is_up_to last e = nat_le 1 e && nat_le e last
 
 abbrev pub shown_log : Epochs → Epochs
-shown_log v = record { epoch = v.epoch; lce = v.lce; summaries = keep_keys (is_closed v.lce) v.summaries }
+shown_log v = record { epoch = v.epoch; lce = v.lce; specs = keep_keys (is_up_to v.epoch) v.specs; summaries = keep_keys (is_up_to v.lce) v.summaries }
 
 -- numbers in their bounds, a summary of each closed epoch, and each of its own epoch
 pub record IsLogSound (v : Epochs) : Type 0 where
@@ -43,9 +45,14 @@ shown_generations m = filter (λ e. nat_lt 0 e.1) m
 abbrev pub register_of : Kept → ℕ → Register
 register_of k n = record { logs = shown_logs k.logs; generations = shown_generations k.generations; length = n; armed = None }
 
--- each stands under a log's number, and its epoch is one that may be handed out
+-- its epoch is one that may be handed out, and what is fixed and what there is room for are the log's
+pub record IsLogOf (l : ℕ) (v : Epochs) : Type 0 where
+  pub epoch : v.epoch ≤ 2 ^ 32 - 2
+  pub specs : (e : ℕ) (s : Spec) → find e v.specs ≡ Some s → IsSpecFor l s
+
+-- each stands under its log's number
 abbrev pub AreLogs : List (ℕ × Epochs) → Type 0
-AreLogs m = (l : ℕ) (v : Epochs) → find l m ≡ Some v → IsLog l × (v.epoch ≤ 2 ^ 32 - 2)
+AreLogs m = (l : ℕ) (v : Epochs) → find l m ≡ Some v → IsLog l × IsLogOf l v
 
 -- and at most so many are held
 pub record AreFewLogs (m : List (ℕ × Epochs)) : Type 0 where
@@ -58,6 +65,7 @@ log_at m l = unwrap_or (find l m) no_epochs
 -- ---- room ----
 
 abbrev pub has_room : Kept → Change → Bool
-has_room k (changes.Activate l e) = is_some (find l k.logs)
+has_room k (changes.Activate e s) = is_some (find s.log k.logs) && is_some (find e (log_at k.logs s.log).specs)
+has_room k (changes.Unfixed l e) = is_some (find l k.logs)
 has_room k (changes.Close l e y) = is_some (find l k.logs) && is_some (find e (log_at k.logs l).summaries)
 has_room k (changes.Draw n g) = is_some (find n k.generations)

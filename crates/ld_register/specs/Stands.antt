@@ -1,5 +1,5 @@
 -- What the bytes of a register's disk stand for.
-use Rattle.std.specs.Prelude.{◌≡◌, ◌⊎◌, ◌<◌, ◌^◌, ℕ, List, [], ◌++◌, length, Option}
+use Rattle.std.specs.Prelude.{◌≡◌, ◌⊎◌, ◌<◌, ◌^◌, ℕ, List, [], ◌∷◌, ◌++◌, length, Option, Some}
 use Rattle.ld_msg.specs.Register.{Register, empty_register}
 use Rattle.ld_journal.specs.Format.{framed, records, Fits, IsJournal, IsCutShort}
 use Rattle.ld_journal.specs.Open.{HasGiven, IsSettled}
@@ -13,6 +13,16 @@ pub record StandsFor (bytes : List ℕ) (c : Register) : Type 0 where
   pub bodies : List (List ℕ)
   pub journal : IsJournal bodies bytes
   pub leads : Leads empty_register bodies c
+
+-- the bytes that are read are the records of these bodies
+pub record HasRecords (seen : Option (List ℕ)) (bodies : List (List ℕ)) : Type 0 where
+  pub bytes : List ℕ
+  pub seen_is : seen ≡ Some bytes
+  pub journal : IsJournal bodies bytes
+
+-- the records from before still stand, with one more behind them or with none
+abbrev pub AddsOneAtMost : Option (List ℕ) → Option (List ℕ) → Type 0
+AddsOneAtMost before now = (bodies : List (List ℕ)) → HasRecords before bodies → HasRecords now bodies ⊎ ((body : List ℕ) × HasRecords now (bodies ++ body ∷ []))
 
 -- the next record's body is no next change
 pub record IsForeign (c : Register) (rest : List ℕ) : Type 0 where

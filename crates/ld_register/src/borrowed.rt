@@ -1,6 +1,6 @@
 // A borrowed register is one.
 use crate::{Drawn, Grant, Register, RegisterFault, View};
-use ld_ids::{LogId, NodeId};
+use ld_ids::{LogId, NodeId, Spec};
 use ld_msg::Summary;
 use std::alloc::Global;
 
@@ -10,6 +10,8 @@ impl<G: Register> Register for &mut G {
     ghost holds = { λ r. G.holds r.now };
 
     ghost may_hold = { λ r. G.may_hold r.now };
+
+    ghost leaves = { λ r. G.leaves r.now };
 
     ghost tells = { λ r. G.tells r.now };
 
@@ -25,12 +27,16 @@ impl<G: Register> Register for &mut G {
 
     ghost held_may_be = { λ r. G.held_may_be r.now };
 
+    ghost left_is_held = { λ r. G.left_is_held r.now };
+
+    ghost left_alone = { λ r. G.left_alone r.now };
+
     ghost tells_what_is_held = { λ r. G.tells_what_is_held r.now };
 
     ghost held_is_whole = { λ r. G.held_is_whole r.now };
 
-    fn activate(&mut self, alloc: Global, log: LogId) -> Result<Grant, RegisterFault> {
-        (**self).activate(alloc, log)
+    fn activate(&mut self, alloc: Global, spec: &Spec) -> Result<Grant, RegisterFault> {
+        (**self).activate(alloc, spec)
     }
 
     fn close(
@@ -39,7 +45,7 @@ impl<G: Register> Register for &mut G {
         log: LogId,
         epoch: u32,
         summary: &Summary,
-    ) -> Result<(), RegisterFault> {
+    ) -> Result<Option<Spec>, RegisterFault> {
         (**self).close(alloc, log, epoch, summary)
     }
 

@@ -1,26 +1,41 @@
 // The changes of a register, and the bodies of their records.
-ghost use Rattle.std.specs.Prelude.{◌≡◌, ◌≤◌, ◌+◌, ◌++◌, ◌∷◌, [], length, take, drop, get_or, IfOk, OnOk, IfSome, IfNone};
-ghost use Rattle.std.specs.Int.{w32, w64, to_be_bytes};
-ghost use Rattle.ld_register.specs.Changes.{change_bytes, summary_bytes, IsBody, IsNoBody};
+ghost use Rattle.std.specs.Prelude.{◌≡◌, ◌≤◌, ◌+◌, ◌++◌, ◌∷◌, [], length, take, drop, get_or, true, false, IfOk, OnOk, IfSome, IfNone};
+ghost use Rattle.std.specs.Int.{w16, w32, w64, to_be_bytes};
+ghost use Rattle.ld_register.specs.Bounds.{IsSpec};
+ghost use Rattle.ld_register.specs.Changes.{change_bytes, summary_bytes, spec_bytes, IsBody, IsNoBody};
 
-use ld_ids::{LogId, NoMemory, NodeId};
+use ld_ids::{LogId, NoMemory, NodeId, NodeSet, Spec};
 use ld_lsn::Lsn;
 use ld_msg::Summary;
 use std::alloc::Global;
 
-const ACTIVATE: u8 = 16;
+const UNFIXED: u8 = 16;
 
 const CLOSE: u8 = 17;
 
 const DRAW: u8 = 18;
+
+const ACTIVATE: u8 = 19;
+
 /// The greatest epoch of a log.
 pub(crate) const GREATEST_EPOCH: u32 = u32::MAX - 1;
+
+/// How many nodes at most are asked beyond the factor.
+const MOST_EXTRAS: u8 = 3;
+
+// The greatest last known good place of an epoch.
+const GREATEST_LNG: u32 = u32::MAX - 1;
 
 /// A change of a register, as one record of its journal.
 #[derive(Clone, Copy, Debug)]
 pub(crate) enum Change {
-    /// The log's next epoch is handed out.
+    /// The log's next epoch is handed out, with what is fixed for it.
     Activate {
+        epoch: u32,
+        spec: Spec,
+    },
+    /// The log's next epoch is handed out, and nothing is fixed for it. It is read and never written.
+    Unfixed {
         log: LogId,
         epoch: u32,
     },
@@ -44,8 +59,15 @@ impl Change {
         ensures { IfOk result (λ bytes. bytes.items ≡ change_bytes self.now) }
     {
         match self {
-            Change::Activate { log, epoch } => {
+            Change::Activate { epoch, spec } => {
                 let mut out = begun(alloc, ACTIVATE)?;
+                put_word(&mut out, spec.log.number())?;
+                put_word(&mut out, *epoch)?;
+                put_spec(&mut out, spec)?;
+                Ok(out)
+            }
+            Change::Unfixed { log, epoch } => {
+                let mut out = begun(alloc, UNFIXED)?;
                 put_word(&mut out, log.number())?;
                 put_word(&mut out, *epoch)?;
                 Ok(out)
@@ -75,8 +97,11 @@ impl Change {
         ensures some { IfSome result (IsBody body.now) }
         ensures none { IfNone result (IsNoBody body.now) }
     {
-        if body.len() == 9 && body[0] == ACTIVATE {
+        if body.len() == 13 && body[0] == ACTIVATE {
             return read_activation(body);
+        }
+        if body.len() == 9 && body[0] == UNFIXED {
+            return read_unfixed(body);
         }
         if body.len() == 29 && body[0] == CLOSE {
             return read_close(body);
@@ -111,6 +136,23 @@ fn put_summary(out: &mut Vec<u8>, summary: &Summary) -> Result<(), NoMemory>
     put_word(out, summary.end)
 }
 
+fn put_spec(out: &mut Vec<u8>, spec: &Spec) -> Result<(), NoMemory>
+    ensures { OnOk result (out.new.items ≡ out.old.items ++ spec_bytes spec.now) }
+{
+    out.extend_from_slice(&spec.set.bits().to_be_bytes())?;
+    out.push(spec.r)?;
+    out.push(spec.extras)?;
+    Ok(())
+}
+
+/// The number in the two bytes at a place.
+fn half_word(body: &[u8], at: usize) -> u16
+    requires { at + 2 ≤ length body.now }
+    ensures { to_be_bytes w16 result ≡ take 2 (drop at body.now) }
+{
+    u16::from_be_bytes([body[at], body[at + 1]])
+}
+
 /// The number in the four bytes at a place.
 fn word(body: &[u8], at: usize) -> u32
     requires { at + 4 ≤ length body.now }
@@ -137,6 +179,45 @@ fn long_word(body: &[u8], at: usize) -> u64
 }
 
 fn read_activation(body: &[u8]) -> Option<Change>
+    requires len { length body.now ≡ 13 }
+    requires kind { get_or body.now 0 0 ≡ 19 }
+    ensures some { IfSome result (IsBody body.now) }
+    ensures none { IfNone result (IsNoBody body.now) }
+{
+    let number = word(body, 1);
+    let epoch = word(body, 5);
+    let set = NodeSet::from_bits(half_word(body, 9));
+    let r = body[11];
+    let extras = body[12];
+    let Some(log) = LogId::new(number) else {
+        return None;
+    };
+    if epoch == 0 || GREATEST_EPOCH < epoch {
+        return None;
+    }
+    let spec = Spec {
+        log,
+        set,
+        r,
+        extras,
+    };
+    if !may_be_fixed(&spec) {
+        return None;
+    }
+    Some(Change::Activate { epoch, spec })
+}
+
+/// Whether a log's nodes, factor and extras are in their bounds.
+fn may_be_fixed(spec: &Spec) -> bool
+    ensures yes { result ≡ true → IsSpec spec.now }
+    ensures no { result ≡ false → IsSpec spec.now → ⊥ }
+{
+    let _ = spec.log.number();
+    let nodes = spec.set.len();
+    1 <= spec.r && usize::from(spec.r) <= nodes && spec.extras <= MOST_EXTRAS
+}
+
+fn read_unfixed(body: &[u8]) -> Option<Change>
     requires len { length body.now ≡ 9 }
     requires kind { get_or body.now 0 0 ≡ 16 }
     ensures some { IfSome result (IsBody body.now) }
@@ -151,7 +232,7 @@ fn read_activation(body: &[u8]) -> Option<Change>
     if epoch == 0 || GREATEST_EPOCH < epoch {
         return None;
     }
-    Some(Change::Activate { log, epoch })
+    Some(Change::Unfixed { log, epoch })
 }
 
 fn read_close(body: &[u8]) -> Option<Change>
@@ -175,7 +256,7 @@ fn read_close(body: &[u8]) -> Option<Change>
     if epoch == 0 || summary.ballot <= epoch {
         return None;
     }
-    if GREATEST_EPOCH < summary.ballot || summary.end == 0 {
+    if GREATEST_EPOCH < summary.ballot || summary.end == 0 || GREATEST_LNG < summary.lng {
         return None;
     }
     Some(Change::Close {

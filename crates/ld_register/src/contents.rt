@@ -4,14 +4,16 @@ ghost use Rattle.ld_table.specs.Table.{find, put};
 ghost use Rattle.ld_table.specs.Words.{how_many};
 ghost use Rattle.ld_ids.specs.Id.{IsLog};
 ghost use Rattle.ld_msg.specs.Bounds.{IsSummary};
-ghost use Rattle.ld_msg.specs.Register.{Epochs as LogEpochs, record_length, log_limit, next_epoch, closed_epochs, epochs_in, epochs_of, generation_of, summary_shown, is_crowded};
+ghost use Rattle.ld_msg.specs.Register.{record_length, log_limit, next_epoch, closed_epochs, epochs_in, epochs_of, generation_of, summary_shown, is_crowded};
 ghost use Rattle.ld_op.specs.Bounds.{AreEpochs};
-ghost use Rattle.ld_register.specs.Changes.{IsChange, is_next, changed, body_length};
+ghost use Rattle.ld_register.specs.Bounds.{IsSpec, IsSpecFor};
+ghost use Rattle.ld_register.specs.Calls.{spec_told};
+ghost use Rattle.ld_register.specs.Changes.{IsChange, is_next, changed, body_length, unfixed_epoch};
 ghost use Rattle.ld_register.specs.Kept.{Kept, register_of, has_room, shown_log, shown_logs, shown_generations, is_held, log_at, AreLogs};
 
 use crate::change::Change;
 use crate::log::LogState;
-use ld_ids::{LogId, NoMemory, NodeId};
+use ld_ids::{LogId, NoMemory, NodeId, Spec};
 use ld_msg::Summary;
 use ld_op::Epochs;
 use std::alloc::Global;
@@ -73,6 +75,18 @@ impl Contents {
         }
     }
 
+    /// What is fixed for the log's epoch; for the greatest one where that isn't handed out.
+    pub(crate) fn spec(&self, log: LogId, e: u32) -> Option<Spec>
+        ensures value { (n : ℕ) → result ≡ spec_told (register_of self.now n) log e }
+        ensures sound { IfSome result (IsSpecFor log) }
+    {
+        let _ = self.logs.len();
+        match self.logs.get(&log.number()) {
+            Some(state) => state.spec(e),
+            None => None,
+        }
+    }
+
     /// The summary of the log's epoch, where it is closed.
     pub(crate) fn summary(&self, log: LogId, e: u32) -> Option<Summary>
         ensures value { (n : ℕ) → result ≡ summary_shown (register_of self.now n) log e }
@@ -109,7 +123,10 @@ impl Contents {
         ensures { (n : ℕ) → result ≡ is_next (register_of self.now n) change.now }
     {
         match change {
-            Change::Activate { log, epoch } => {
+            Change::Activate { epoch, spec } => {
+                is_behind(self.is_crowded(spec.log), self.epoch(spec.log), *epoch)
+            }
+            Change::Unfixed { log, epoch } => {
                 is_behind(self.is_crowded(*log), self.epoch(*log), *epoch)
             }
             Change::Close { log, epoch, .. } => {
@@ -129,7 +146,11 @@ impl Contents {
         ensures room { OnOk result (has_room self.new change.now ≡ true) }
     {
         match change {
-            Change::Activate { log, .. } => room_for_log(alloc, &mut self.logs, *log),
+            Change::Activate { epoch, spec } => {
+                room_for_log(alloc, &mut self.logs, spec.log)?;
+                room_for_spec(&mut self.logs, *epoch, spec)
+            }
+            Change::Unfixed { log, .. } => room_for_log(alloc, &mut self.logs, *log),
             Change::Close {
                 log,
                 epoch,
@@ -150,7 +171,8 @@ impl Contents {
         ensures { (n m : ℕ) → m ≡ n + record_length (body_length change.now) → register_of self.new m ≡ changed (register_of self.old n) change.now }
     {
         match change {
-            Change::Activate { log, .. } => activate_in(&mut self.logs, *log),
+            Change::Activate { epoch, spec } => activate_in(&mut self.logs, *epoch, spec),
+            Change::Unfixed { log, epoch } => activate_unfixed_in(&mut self.logs, *log, *epoch),
             Change::Close {
                 log,
                 epoch,
@@ -194,6 +216,21 @@ fn room_for_log(
     Ok(())
 }
 
+/// Makes room for what is fixed for a log's epoch above the greatest one. Without memory nothing changes.
+fn room_for_spec(logs: &mut BTreeMap<u32, LogState>, e: u32, spec: &Spec) -> Result<(), NoMemory>
+    requires above { (log_at (shown_logs logs.old.entries) spec.now.log).epoch < e }
+    requires spec { IsSpec spec.now }
+    ensures same { shown_logs logs.new.entries ≡ shown_logs logs.old.entries }
+    ensures there { is_some (find spec.now.log logs.new.entries) ≡ is_some (find spec.now.log logs.old.entries) }
+    ensures room { OnOk result (is_some (find e (log_at logs.new.entries spec.now.log).specs) ≡ true) }
+    ensures logs { AreLogs logs.old.entries → AreLogs logs.new.entries }
+{
+    let Some(state) = logs.get_mut(&spec.log.number()) else {
+        return Err(NoMemory);
+    };
+    state.room_for_spec(e, spec)
+}
+
 /// Makes room for the summary of a log's epoch above the last closed one. Without memory nothing changes.
 fn room_for_summary(
     logs: &mut BTreeMap<u32, LogState>,
@@ -211,21 +248,39 @@ fn room_for_summary(
     let Some(state) = logs.get_mut(&log.number()) else {
         return Err(NoMemory);
     };
-    state.room(e, summary)
+    state.room_for_summary(e, summary)
 }
 
-/// Hands out the next epoch of a log, for which there is room.
-fn activate_in(logs: &mut BTreeMap<u32, LogState>, log: LogId)
-    requires room { is_some (find log logs.old.entries) ≡ true }
-    requires bound { (log_at (shown_logs logs.old.entries) log).epoch < 2 ^ 32 - 2 }
-    ensures shown { shown_logs logs.new.entries ≡ put log (next_epoch (log_at (shown_logs logs.old.entries) log)) (shown_logs logs.old.entries) }
+/// Hands out the next epoch of a log with what is fixed for it, for which there is room.
+fn activate_in(logs: &mut BTreeMap<u32, LogState>, e: u32, spec: &Spec)
+    requires there { is_some (find spec.now.log logs.old.entries) ≡ true }
+    requires room { is_some (find e (log_at logs.old.entries spec.now.log).specs) ≡ true }
+    requires next { e ≡ (log_at (shown_logs logs.old.entries) spec.now.log).epoch + 1 }
+    requires bound { e ≤ 2 ^ 32 - 2 }
+    requires spec { IsSpec spec.now }
+    ensures shown { shown_logs logs.new.entries ≡ put spec.now.log (next_epoch (log_at (shown_logs logs.old.entries) spec.now.log) spec.now) (shown_logs logs.old.entries) }
+    ensures few { how_many (λ k. not (k.0 == spec.now.log)) (shown_logs logs.old.entries) < 64 → length (shown_logs logs.new.entries) ≤ 64 }
+    ensures logs { AreLogs logs.old.entries → AreLogs logs.new.entries }
+{
+    let Some(state) = logs.get_mut(&spec.log.number()) else {
+        return;
+    };
+    state.activate(e, spec);
+}
+
+/// Hands out the next epoch of a log, for which there is room and nothing is fixed.
+fn activate_unfixed_in(logs: &mut BTreeMap<u32, LogState>, log: LogId, e: u32)
+    requires there { is_some (find log logs.old.entries) ≡ true }
+    requires next { e ≡ (log_at (shown_logs logs.old.entries) log).epoch + 1 }
+    requires bound { e ≤ 2 ^ 32 - 2 }
+    ensures shown { shown_logs logs.new.entries ≡ put log (unfixed_epoch (log_at (shown_logs logs.old.entries) log)) (shown_logs logs.old.entries) }
     ensures few { how_many (λ k. not (k.0 == log)) (shown_logs logs.old.entries) < 64 → length (shown_logs logs.new.entries) ≤ 64 }
     ensures logs { AreLogs logs.old.entries → AreLogs logs.new.entries }
 {
     let Some(state) = logs.get_mut(&log.number()) else {
         return;
     };
-    state.activate();
+    state.activate_unfixed(e);
 }
 
 /// Closes the next epoch of a log, for which and for whose summary there is room.

@@ -8,7 +8,7 @@ use crate::contents::Contents;
 use crate::replay::replay;
 use crate::{Drawn, Grant, Register, RegisterFault, View};
 use ld_disk::{Disk, Fault};
-use ld_ids::{LogId, NodeId};
+use ld_ids::{LogId, NodeId, Spec};
 use ld_journal::{Journal, JournalFault};
 use ld_msg::Summary;
 use std::alloc::Global;
@@ -17,7 +17,7 @@ use std::alloc::Global;
 const JOURNAL_LIMIT: u64 = 1 << 40;
 
 /// The length of the body of an activation's record, in bytes.
-const ACTIVATION_LENGTH: u64 = 9;
+const ACTIVATION_LENGTH: u64 = 13;
 
 /// The length of the body of a close's record, in bytes.
 const CLOSE_LENGTH: u64 = 29;
@@ -38,22 +38,24 @@ pub struct DiskRegister<D: Disk> {
 }
 
 impl<D: Disk> DiskRegister<D> {
-    ghost use Rattle.std.specs.Prelude.{◌≢◌, ◌⊎◌, ◌≤◌, ◌<◌, ◌+◌, ◌-◌, ◌^◌, ℕ, List, Some, Err, IfOk, IsErrOf, OnOk, OnErr, IsOk};
+    ghost use Rattle.std.specs.Prelude.{◌≢◌, ◌⊎◌, ◌≤◌, ◌<◌, ◌+◌, ◌-◌, ◌^◌, ℕ, List, Option, Some, Err, IfOk, IfSome, IsErrOf, OnOk, OnErr, IsOk};
     ghost use Rattle.std.specs.Option.{option_map};
     ghost use Rattle.ld_disk.specs.Images.{IsHonest};
     ghost use Rattle.ld_disk.specs.Moments.{Unchanged};
     ghost use Rattle.ld_disk.specs.Plain.{Plain, armed_with, new_disk};
     ghost use Rattle.ld_journal.specs.Open.{place_of};
-    ghost use Rattle.ld_msg.specs.Bounds.{IsEpoch, IsSummary};
-    ghost use Rattle.ld_msg.specs.Register.{Register as Held, empty_register};
+    ghost use Rattle.ld_ids.specs.declared.set.Spec.{Spec as Fixed};
+    ghost use Rattle.ld_msg.specs.Bounds.{IsSummary};
+    ghost use Rattle.ld_msg.specs.Register.{Register as Held, empty_register, epochs_of, lce_of};
     ghost use Rattle.ld_msg.specs.declared.msg.Summary.{Summary as Closing};
     ghost use Rattle.ld_op.specs.Bounds.{IsOp};
     ghost use Rattle.ld_op.specs.declared.op.Op.TheVariants.{Format};
-    ghost use Rattle.ld_register.specs.Calls.{activated, after_activate, closed, after_close, drawn, after_draw};
-    ghost use Rattle.ld_register.specs.Changes.{IsChange, is_next};
+    ghost use Rattle.ld_register.specs.Bounds.{IsSpec, IsSpecFor};
+    ghost use Rattle.ld_register.specs.Calls.{activated, after_activate, closed, after_close, drawn, after_draw, next_told, IsGrant, OneOf};
+    ghost use Rattle.ld_register.specs.Changes.{IsChange, is_next, changed};
     ghost use Rattle.ld_register.specs.Kept.{register_of};
     ghost use Rattle.ld_register.specs.Stands.{StandsFor};
-    ghost use Rattle.ld_register.specs.Held.{IsQuiet, owned, is_loaded, Holds, Tells, Foretells, Loads, IsReady, IsNotReady, Commits, IsMade, IsRefused, IsDue, Meets};
+    ghost use Rattle.ld_register.specs.Held.{IsQuiet, owned, is_loaded, Holds, Tells, LeavesOneOf, Foretells, Loads, IsReady, IsNotReady, Commits, IsMade, IsRefused, IsDue, Meets};
 
     /// The register on a disk. Its first call loads it. On a new disk in memory it holds nothing, and on a disk whose
     /// bytes are a journal of changes what they lead to.
@@ -62,6 +64,7 @@ impl<D: Disk> DiskRegister<D> {
         ensures loads { is_loaded result ≡ false }
         ensures told { IsHonest (D.seen disk) → Tells result }
         ensures holds { (c : Held) (bytes : List ℕ) → D.seen disk ≡ Some bytes → StandsFor bytes c → Holds result c }
+        ensures leaves { (cs : List Held) → ((bytes : List ℕ) → D.may_leave disk bytes → OneOf (StandsFor bytes) cs) → LeavesOneOf result cs }
         ensures tells { (c : Held) (p : Plain) → D.plain disk ≡ Some p → IsQuiet p → StandsFor p.state.bytes c → Foretells result c }
         ensures empty { D.plain disk ≡ Some new_disk → Foretells result empty_register }
     {
@@ -88,6 +91,7 @@ impl<D: Disk> DiskRegister<D> {
         ensures loaded { is_loaded self.new ≡ is_loaded self.old }
         ensures told { Tells self.old → Tells self.new }
         ensures holds { (c : Held) → Holds self.old c → Holds self.new c }
+        ensures leaves { (cs : List Held) → LeavesOneOf self.old cs → LeavesOneOf self.new cs }
     {
         self.journal.arm(fault);
     }
@@ -125,17 +129,19 @@ impl<D: Disk> DiskRegister<D> {
     pub(crate) fn check_activate(
         &mut self,
         alloc: Global,
-        log: LogId,
+        spec: &Spec,
     ) -> Result<Grant, RegisterFault>
-        ensures due { IfOk result (λ grant. IsDue self.old self.new (Change.Activate log grant.epoch) grant (λ c. activated c log) (λ c. after_activate c log)) }
-        ensures refused { OnErr result (Meets self.old self.new result (λ c. activated c log) (λ c. after_activate c log)) }
+        requires { IsSpec spec.now }
+        ensures due { IfOk result (λ grant. IsDue self.old self.new (Change.Activate grant.epoch spec.now) grant (λ c. activated c spec.now) (λ c. after_activate c spec.now)) }
+        ensures refused { OnErr result (Meets self.old self.new result (λ c. activated c spec.now) (λ c. after_activate c spec.now)) }
         ensures steady { IsErrOf result RegisterFault.Failed ⊎ (D.faults (owned self.new) ≡ D.faults (owned self.old)) }
         ensures itself { D.identity (owned self.new) ≡ D.identity (owned self.old) }
-        ensures bounds { IfOk result (λ grant. IsEpoch grant.epoch × (grant.lce ≤ 2 ^ 32 - 2)) }
-        ensures behind { (lce : ℕ) → result ≢ Err (RegisterFault.Behind lce) }
+        ensures bounds { IfOk result (IsGrant spec.now.log) }
+        ensures behind { (lce : ℕ) (next : Option Fixed) → result ≢ Err (RegisterFault.Behind lce next) }
         ensures generations { result ≢ Err RegisterFault.GenLimit }
     {
         self.ready(alloc)?;
+        let log = spec.log;
         if self.contents.is_crowded(log) {
             return Err(RegisterFault::LogLimit);
         }
@@ -147,23 +153,40 @@ impl<D: Disk> DiskRegister<D> {
         if self.is_full(ACTIVATION_LENGTH) {
             return Err(RegisterFault::Full);
         }
-        let _ = log.number();
         let epoch = before + 1;
-        Ok(Grant { epoch, lce })
+        let next = self.next_with(before, lce, spec);
+        Ok(Grant { epoch, lce, next })
     }
 
-    /// Whether a close would be taken, or why it would be refused. It loads the register, and changes nothing.
+    /// What is fixed for the epoch behind the last closed one once this is fixed for the epoch behind the greatest one.
+    fn next_with(&self, before: u32, lce: u32, spec: &Spec) -> Option<Spec>
+        requires spec { IsSpec spec.now }
+        requires epoch { (n : ℕ) → before ≡ (epochs_of (register_of self.now.contents n) spec.now.log).epoch }
+        requires lce { (n : ℕ) → lce ≡ lce_of (register_of self.now.contents n) spec.now.log }
+        requires bound { before < 2 ^ 32 - 2 }
+        ensures value { (n m : ℕ) → result ≡ next_told (changed (register_of self.now.contents n) (Change.Activate m spec.now)) spec.now.log }
+        ensures sound { IfSome result (IsSpecFor spec.now.log) }
+    {
+        if before <= lce {
+            return Some(*spec);
+        }
+        self.contents.spec(spec.log, lce + 1)
+    }
+
+    /// What a close would tell, or why it would be refused. It loads the register, and changes nothing.
     pub(crate) fn check_close(
         &mut self,
         alloc: Global,
         log: LogId,
         epoch: u32,
-    ) -> Result<(), RegisterFault>
+    ) -> Result<Option<Spec>, RegisterFault>
+        requires { epoch < 2 ^ 32 - 2 }
         ensures due { (y : Closing) → IsSummary epoch y → IfOk result (λ given. IsDue self.old self.new (Change.Close log epoch y) given (λ c. closed c log epoch y) (λ c. after_close c log epoch y)) }
         ensures refused { (y : Closing) → OnErr result (Meets self.old self.new result (λ c. closed c log epoch y) (λ c. after_close c log epoch y)) }
         ensures steady { IsErrOf result RegisterFault.Failed ⊎ (D.faults (owned self.new) ≡ D.faults (owned self.old)) }
         ensures itself { D.identity (owned self.new) ≡ D.identity (owned self.old) }
-        ensures bounds { (lce : ℕ) → IsErrOf result (RegisterFault.Behind lce) → lce ≤ 2 ^ 32 - 2 }
+        ensures next { IfOk result (λ next. IfSome next (IsSpecFor log)) }
+        ensures bounds { (lce : ℕ) (next : Option Fixed) → IsErrOf result (RegisterFault.Behind lce next) → (lce ≤ 2 ^ 32 - 2) × IfSome next (IsSpecFor log) }
         ensures epochs { result ≢ Err RegisterFault.EpochLimit }
         ensures generations { result ≢ Err RegisterFault.GenLimit }
     {
@@ -173,13 +196,14 @@ impl<D: Disk> DiskRegister<D> {
         }
         let lce = self.contents.lce(log);
         if lce + 1 != epoch {
-            return Err(RegisterFault::Behind(lce));
+            let next = self.contents.spec(log, lce + 1);
+            return Err(RegisterFault::Behind { lce, next });
         }
         if self.is_full(CLOSE_LENGTH) {
             return Err(RegisterFault::Full);
         }
         let _ = log.number();
-        Ok(())
+        Ok(self.contents.spec(log, epoch + 1))
     }
 
     /// What a draw would hand out, or why it would be refused. It loads the register, and changes nothing.
@@ -190,7 +214,7 @@ impl<D: Disk> DiskRegister<D> {
         ensures itself { D.identity (owned self.new) ≡ D.identity (owned self.old) }
         ensures bounds { IfOk result (λ handed. IsOp (Format handed.gen_ handed.epochs)) }
         ensures logs { result ≢ Err RegisterFault.LogLimit }
-        ensures behind { (lce : ℕ) → result ≢ Err (RegisterFault.Behind lce) }
+        ensures behind { (lce : ℕ) (next : Option Fixed) → result ≢ Err (RegisterFault.Behind lce next) }
         ensures epochs { result ≢ Err RegisterFault.EpochLimit }
     {
         self.ready(alloc)?;
@@ -237,19 +261,23 @@ impl<D: Disk> DiskRegister<D> {
 }
 
 impl<D: Disk> Register for DiskRegister<D> {
-    ghost use Rattle.std.specs.Prelude.{◌≢◌, ◌⊎◌, ◌≤◌, ◌-◌, ◌^◌, ℕ, IfOk, IsErrOf, IsOk, OnOk, OnErr, Ok, Err};
-    ghost use Rattle.ld_msg.specs.Bounds.{IsEpoch, IsSummary};
+    ghost use Rattle.std.specs.Prelude.{◌≢◌, ◌⊎◌, ◌≤◌, ◌-◌, ◌^◌, ℕ, List, Option, IfOk, IfSome, IsErrOf, IsOk, OnOk, OnErr, Ok, Err};
+    ghost use Rattle.ld_ids.specs.declared.set.Spec.{Spec as Fixed};
+    ghost use Rattle.ld_msg.specs.Bounds.{IsSummary};
     ghost use Rattle.ld_op.specs.Bounds.{IsOp};
     ghost use Rattle.ld_op.specs.declared.op.Op.TheVariants.{Format};
-    ghost use Rattle.ld_register.specs.Calls.{activated, after_activate, closed, after_close, drawn, after_draw, looked, IsView, IsFree, Keeps};
+    ghost use Rattle.ld_register.specs.Bounds.{IsSpec, IsSpecFor};
+    ghost use Rattle.ld_register.specs.Calls.{activated, after_activate, closed, after_close, drawn, after_draw, looked, IsGrant, IsView, IsFree, Keeps};
     ghost use Rattle.ld_msg.specs.Register.{Register as Held};
-    ghost use Rattle.ld_register.specs.Held.{owned, is_loaded, Holds, MayHold, Tells, Foretells, IsBroken, Meets, holds_is_told, told_is_held};
+    ghost use Rattle.ld_register.specs.Held.{owned, is_loaded, Holds, MayHold, LeavesOneOf, Tells, Foretells, IsBroken, Meets, holds_is_told, told_is_held};
 
     ghost told = { λ r. Tells r };
 
     ghost holds = { λ r c. Holds r c };
 
     ghost may_hold = { λ r c. MayHold r c };
+
+    ghost leaves = { λ r cs. LeavesOneOf r cs };
 
     ghost tells = { λ r c. Foretells r c };
 
@@ -265,22 +293,28 @@ impl<D: Disk> Register for DiskRegister<D> {
 
     ghost held_may_be = { λ r c h. (h.reads.bytes, D.reads_an_image (owned r) h.reads.bytes h.reads.seen_is, h.reads.stands) };
 
+    ghost left_is_held = { λ r cs t l. l.held t };
+
+    ghost left_alone = { λ r cs c l m. l.alone c m };
+
     ghost tells_what_is_held = { λ r c t. told_is_held r c t };
 
     ghost held_is_whole = { λ r c place h b. h.whole place b };
 
-    fn activate(&mut self, alloc: Global, log: LogId) -> Result<Grant, RegisterFault>
-        ensures meets { Meets self.old self.new result (λ c. activated c log) (λ c. after_activate c log) }
+    fn activate(&mut self, alloc: Global, spec: &Spec) -> Result<Grant, RegisterFault>
+        requires { IsSpec spec.now }
+        ensures meets { Meets self.old self.new result (λ c. activated c spec.now) (λ c. after_activate c spec.now) }
         ensures steady { IsErrOf result RegisterFault.Failed ⊎ (D.faults (owned self.new) ≡ D.faults (owned self.old)) }
         ensures itself { D.identity (owned self.new) ≡ D.identity (owned self.old) }
         ensures loaded { OnOk result (is_loaded self.new ≡ true) }
-        ensures bounds { IfOk result (λ grant. IsEpoch grant.epoch × (grant.lce ≤ 2 ^ 32 - 2)) }
-        ensures behind { (lce : ℕ) → result ≢ Err (RegisterFault.Behind lce) }
+        ensures bounds { IfOk result (IsGrant spec.now.log) }
+        ensures behind { (lce : ℕ) (next : Option Fixed) → result ≢ Err (RegisterFault.Behind lce next) }
         ensures generations { result ≢ Err RegisterFault.GenLimit }
     {
-        let grant = self.check_activate(alloc, log)?;
+        let grant = self.check_activate(alloc, spec)?;
         let epoch = grant.epoch;
-        self.commit(alloc, &Change::Activate { log, epoch })?;
+        let spec = *spec;
+        self.commit(alloc, &Change::Activate { epoch, spec })?;
         Ok(grant)
     }
 
@@ -290,17 +324,18 @@ impl<D: Disk> Register for DiskRegister<D> {
         log: LogId,
         epoch: u32,
         summary: &Summary,
-    ) -> Result<(), RegisterFault>
+    ) -> Result<Option<Spec>, RegisterFault>
         requires { IsSummary epoch summary.now }
         ensures meets { Meets self.old self.new result (λ c. closed c log epoch summary.now) (λ c. after_close c log epoch summary.now) }
         ensures steady { IsErrOf result RegisterFault.Failed ⊎ (D.faults (owned self.new) ≡ D.faults (owned self.old)) }
         ensures itself { D.identity (owned self.new) ≡ D.identity (owned self.old) }
         ensures loaded { OnOk result (is_loaded self.new ≡ true) }
-        ensures bounds { (lce : ℕ) → IsErrOf result (RegisterFault.Behind lce) → lce ≤ 2 ^ 32 - 2 }
+        ensures next { IfOk result (λ next. IfSome next (IsSpecFor log)) }
+        ensures bounds { (lce : ℕ) (next : Option Fixed) → IsErrOf result (RegisterFault.Behind lce next) → (lce ≤ 2 ^ 32 - 2) × IfSome next (IsSpecFor log) }
         ensures epochs { result ≢ Err RegisterFault.EpochLimit }
         ensures generations { result ≢ Err RegisterFault.GenLimit }
     {
-        self.check_close(alloc, log, epoch)?;
+        let next = self.check_close(alloc, log, epoch)?;
         let summary = *summary;
         self.commit(
             alloc,
@@ -310,7 +345,7 @@ impl<D: Disk> Register for DiskRegister<D> {
                 summary,
             },
         )?;
-        Ok(())
+        Ok(next)
     }
 
     fn draw(&mut self, alloc: Global, node: NodeId) -> Result<Drawn, RegisterFault>
@@ -320,7 +355,7 @@ impl<D: Disk> Register for DiskRegister<D> {
         ensures loaded { OnOk result (is_loaded self.new ≡ true) }
         ensures bounds { IfOk result (λ drawn. IsOp (Format drawn.gen_ drawn.epochs)) }
         ensures logs { result ≢ Err RegisterFault.LogLimit }
-        ensures behind { (lce : ℕ) → result ≢ Err (RegisterFault.Behind lce) }
+        ensures behind { (lce : ℕ) (next : Option Fixed) → result ≢ Err (RegisterFault.Behind lce next) }
         ensures epochs { result ≢ Err RegisterFault.EpochLimit }
     {
         let handed = self.check_draw(alloc, node)?;
@@ -336,10 +371,11 @@ impl<D: Disk> Register for DiskRegister<D> {
         ensures loaded { OnOk result (is_loaded self.new ≡ true) }
         ensures again { is_loaded self.old ≡ true → IsOk result × (self.new ≡ self.old) }
         ensures same { (c : Held) → MayHold self.new c → MayHold self.old c }
+        ensures survives { (cs : List Held) → Tells self.old → LeavesOneOf self.old cs → LeavesOneOf self.new cs }
         ensures keeps { IsErrOf result RegisterFault.Failed ⊎ Keeps (Holds self.old) (Holds self.new) (MayHold self.old) (MayHold self.new) }
         ensures exact { (c : Held) → Foretells self.old c
             → (IsErrOf result RegisterFault.NoMemory ⊎ (result ≡ Ok (looked c log e))) × Foretells self.new c }
-        ensures view { IfOk result (IsView e) }
+        ensures view { IfOk result (IsView log e) }
         ensures free { OnErr result (IsFree result) }
     {
         self.ready(alloc)?;
@@ -347,6 +383,7 @@ impl<D: Disk> Register for DiskRegister<D> {
             epoch: self.contents.epoch(log),
             lce: self.contents.lce(log),
             summary: self.contents.summary(log, e),
+            spec: self.contents.spec(log, e),
         })
     }
 }

@@ -2,7 +2,7 @@
 ghost use Rattle.std.specs.Prelude.{◌≡◌};
 ghost use Rattle.ld_register.specs.declared.fault.RegisterFault.TheVariants.{NoMemory as Memory};
 
-use ld_ids::NoMemory;
+use ld_ids::{NoMemory, Spec};
 use ld_journal::JournalFault;
 use std::alloc::AllocError;
 use thiserror::Error;
@@ -19,9 +19,10 @@ pub enum RegisterFault {
     /// As many other logs are held as may be.
     #[error("the register holds no further log")]
     LogLimit,
-    /// The last closed epoch is this one, and not the one before that which was to be closed.
-    #[error("the last closed epoch is {0}")]
-    Behind(u32),
+    /// The last closed epoch is this one, and not the one before that which was to be closed; and what is fixed for the
+    /// epoch behind it, as a look at that one shows.
+    #[error("the last closed epoch is {lce}")]
+    Behind { lce: u32, next: Option<Spec> },
     /// The greatest epoch has been handed out.
     #[error("no epoch is left")]
     EpochLimit,

@@ -3,7 +3,7 @@ ghost use Rattle.std.specs.Prelude.{◌≡◌};
 
 use crate::{DiskRegister, Drawn, Grant, Register, RegisterFault, View};
 use ld_disk::Disk;
-use ld_ids::{LogId, NodeId};
+use ld_ids::{LogId, NodeId, Spec};
 use ld_msg::Summary;
 use std::alloc::Global;
 
@@ -26,16 +26,18 @@ pub struct FaultyRegister<D: Disk> {
 }
 
 impl<D: Disk> FaultyRegister<D> {
-    ghost use Rattle.std.specs.Prelude.{◌≢◌, ◌⊎◌, ◌≤◌, ◌+◌, ◌-◌, ◌^◌, ℕ, List, true, false, not, None, Some, Err, min, if◌then◌else◌, IfOk, IfErr, OnOk, OnErr, IsErrOf};
+    ghost use Rattle.std.specs.Prelude.{◌≢◌, ◌⊎◌, ◌≤◌, ◌+◌, ◌-◌, ◌^◌, ℕ, List, Option, true, false, not, None, Some, Err, min, if◌then◌else◌, IfOk, IfErr, IfSome, OnOk, OnErr, IsErrOf};
     ghost use Rattle.ld_disk.specs.Images.{IsHonest};
     ghost use Rattle.ld_disk.specs.Plain.{Plain, new_disk};
-    ghost use Rattle.ld_msg.specs.Bounds.{IsEpoch, IsSummary};
+    ghost use Rattle.ld_ids.specs.declared.set.Spec.{Spec as Fixed};
+    ghost use Rattle.ld_msg.specs.Bounds.{IsSummary};
     ghost use Rattle.ld_msg.specs.Register.{Register as Contents, empty_register, falls, armed_after, is_made};
     ghost use Rattle.ld_op.specs.Bounds.{IsOp};
     ghost use Rattle.ld_op.specs.declared.op.Op.TheVariants.{Format};
-    ghost use Rattle.ld_register.specs.Calls.{activated, after_activate, closed, after_close, drawn, after_draw, unarmed};
+    ghost use Rattle.ld_register.specs.Bounds.{IsSpec, IsSpecFor};
+    ghost use Rattle.ld_register.specs.Calls.{activated, after_activate, closed, after_close, drawn, after_draw, IsGrant, OneOf, unarmed};
     ghost use Rattle.ld_register.specs.Stands.{StandsFor};
-    ghost use Rattle.ld_register.specs.Held.{IsQuiet, Holds, Tells, Meets};
+    ghost use Rattle.ld_register.specs.Held.{IsQuiet, Holds, Tells, LeavesOneOf, Meets};
     ghost use Rattle.ld_register.specs.Arming.{kept_in, disk_in, armed_of, own_faults, Foresees};
 
     /// The register on a disk, with no fault armed. Its first call loads it. On a new disk in memory it holds nothing,
@@ -46,6 +48,7 @@ impl<D: Disk> FaultyRegister<D> {
         ensures faults { own_faults result ≡ 0 }
         ensures told { IsHonest (D.seen disk) → Tells (kept_in result) }
         ensures holds { (c : Contents) (bytes : List ℕ) → D.seen disk ≡ Some bytes → StandsFor bytes c → Holds (kept_in result) c }
+        ensures leaves { (cs : List Contents) → ((bytes : List ℕ) → D.may_leave disk bytes → OneOf (StandsFor bytes) cs) → LeavesOneOf (kept_in result) cs }
         ensures tells { (c : Contents) (p : Plain) → D.plain disk ≡ Some p → IsQuiet p → StandsFor p.state.bytes c → Foresees result c }
         ensures empty { D.plain disk ≡ Some new_disk → Foresees result empty_register }
     {
@@ -110,21 +113,22 @@ impl<D: Disk> FaultyRegister<D> {
     }
 
     /// Makes an activation, or only checks it where the armed fault prevents it.
-    fn attempt_activate(&mut self, alloc: Global, log: LogId) -> Result<Grant, RegisterFault>
+    fn attempt_activate(&mut self, alloc: Global, spec: &Spec) -> Result<Grant, RegisterFault>
+        requires { IsSpec spec.now }
         ensures armed { armed_of self.new ≡ armed_of self.old }
         ensures faults { own_faults self.new ≡ own_faults self.old }
-        ensures granted { OnOk result (Meets (kept_in self.old) (kept_in self.new) result (λ c. activated c log) (λ c. if is_made (armed_of self.old) then after_activate c log else c)) }
-        ensures refused { OnErr result (Meets (kept_in self.old) (kept_in self.new) result (λ c. activated c log) (λ c. after_activate c log)) }
+        ensures granted { OnOk result (Meets (kept_in self.old) (kept_in self.new) result (λ c. activated c spec.now) (λ c. if is_made (armed_of self.old) then after_activate c spec.now else c)) }
+        ensures refused { OnErr result (Meets (kept_in self.old) (kept_in self.new) result (λ c. activated c spec.now) (λ c. after_activate c spec.now)) }
         ensures steady { IsErrOf result RegisterFault.Failed ⊎ (D.faults (disk_in self.new) ≡ D.faults (disk_in self.old)) }
         ensures itself { D.identity (disk_in self.new) ≡ D.identity (disk_in self.old) }
-        ensures bounds { IfOk result (λ grant. IsEpoch grant.epoch × (grant.lce ≤ 2 ^ 32 - 2)) }
-        ensures behind { (lce : ℕ) → result ≢ Err (RegisterFault.Behind lce) }
+        ensures bounds { IfOk result (IsGrant spec.now.log) }
+        ensures behind { (lce : ℕ) (next : Option Fixed) → result ≢ Err (RegisterFault.Behind lce next) }
         ensures generations { result ≢ Err RegisterFault.GenLimit }
     {
         if self.is_prevented() {
-            return self.register.check_activate(alloc, log);
+            return self.register.check_activate(alloc, spec);
         }
-        self.register.activate(alloc, log)
+        self.register.activate(alloc, spec)
     }
 
     /// Makes a close, or only checks it where the armed fault prevents it.
@@ -134,7 +138,7 @@ impl<D: Disk> FaultyRegister<D> {
         log: LogId,
         epoch: u32,
         summary: &Summary,
-    ) -> Result<(), RegisterFault>
+    ) -> Result<Option<Spec>, RegisterFault>
         requires { IsSummary epoch summary.now }
         ensures armed { armed_of self.new ≡ armed_of self.old }
         ensures faults { own_faults self.new ≡ own_faults self.old }
@@ -142,7 +146,8 @@ impl<D: Disk> FaultyRegister<D> {
         ensures refused { OnErr result (Meets (kept_in self.old) (kept_in self.new) result (λ c. closed c log epoch summary.now) (λ c. after_close c log epoch summary.now)) }
         ensures steady { IsErrOf result RegisterFault.Failed ⊎ (D.faults (disk_in self.new) ≡ D.faults (disk_in self.old)) }
         ensures itself { D.identity (disk_in self.new) ≡ D.identity (disk_in self.old) }
-        ensures bounds { (lce : ℕ) → IsErrOf result (RegisterFault.Behind lce) → lce ≤ 2 ^ 32 - 2 }
+        ensures next { IfOk result (λ next. IfSome next (IsSpecFor log)) }
+        ensures bounds { (lce : ℕ) (next : Option Fixed) → IsErrOf result (RegisterFault.Behind lce next) → (lce ≤ 2 ^ 32 - 2) × IfSome next (IsSpecFor log) }
         ensures epochs { result ≢ Err RegisterFault.EpochLimit }
         ensures generations { result ≢ Err RegisterFault.GenLimit }
     {
@@ -162,7 +167,7 @@ impl<D: Disk> FaultyRegister<D> {
         ensures itself { D.identity (disk_in self.new) ≡ D.identity (disk_in self.old) }
         ensures bounds { IfOk result (λ handed. IsOp (Format handed.gen_ handed.epochs)) }
         ensures logs { result ≢ Err RegisterFault.LogLimit }
-        ensures behind { (lce : ℕ) → result ≢ Err (RegisterFault.Behind lce) }
+        ensures behind { (lce : ℕ) (next : Option Fixed) → result ≢ Err (RegisterFault.Behind lce next) }
         ensures epochs { result ≢ Err RegisterFault.EpochLimit }
     {
         if self.is_prevented() {
@@ -173,13 +178,15 @@ impl<D: Disk> FaultyRegister<D> {
 }
 
 impl<D: Disk> Register for FaultyRegister<D> {
-    ghost use Rattle.std.specs.Prelude.{◌≢◌, ◌⊎◌, ◌≤◌, ◌-◌, ◌^◌, ℕ, IfOk, IsErrOf, OnOk, OnErr, Ok, Err};
-    ghost use Rattle.ld_msg.specs.Bounds.{IsEpoch, IsSummary};
+    ghost use Rattle.std.specs.Prelude.{◌≢◌, ◌⊎◌, ◌≤◌, ◌-◌, ◌^◌, ℕ, List, Option, IfOk, IfSome, IsErrOf, OnOk, OnErr, Ok, Err};
+    ghost use Rattle.ld_ids.specs.declared.set.Spec.{Spec as Fixed};
+    ghost use Rattle.ld_msg.specs.Bounds.{IsSummary};
     ghost use Rattle.ld_msg.specs.Register.{Register as Contents};
     ghost use Rattle.ld_op.specs.Bounds.{IsOp};
     ghost use Rattle.ld_op.specs.declared.op.Op.TheVariants.{Format};
-    ghost use Rattle.ld_register.specs.Calls.{activated, after_activate, closed, after_close, drawn, after_draw, looked, IsView, IsFree, Keeps};
-    ghost use Rattle.ld_register.specs.Held.{Holds, MayHold, Tells, IsBroken, holds_is_told};
+    ghost use Rattle.ld_register.specs.Bounds.{IsSpec, IsSpecFor};
+    ghost use Rattle.ld_register.specs.Calls.{activated, after_activate, closed, after_close, drawn, after_draw, looked, IsGrant, IsView, IsFree, Keeps};
+    ghost use Rattle.ld_register.specs.Held.{Holds, MayHold, LeavesOneOf, Tells, IsBroken, holds_is_told};
     ghost use Rattle.ld_register.specs.Arming.{kept_in, disk_in, faults_in, Foresees, MeetsArmed, StaysArmed, HasCounted, HasFallen};
 
     ghost told = { λ r. Tells (kept_in r) };
@@ -187,6 +194,8 @@ impl<D: Disk> Register for FaultyRegister<D> {
     ghost holds = { λ r c. Holds (kept_in r) c };
 
     ghost may_hold = { λ r c. MayHold (kept_in r) c };
+
+    ghost leaves = { λ r cs. LeavesOneOf (kept_in r) cs };
 
     ghost tells = { λ r c. Foresees r c };
 
@@ -202,21 +211,26 @@ impl<D: Disk> Register for FaultyRegister<D> {
 
     ghost held_may_be = { λ r c h. (h.reads.bytes, D.reads_an_image (disk_in r) h.reads.bytes h.reads.seen_is, h.reads.stands) };
 
+    ghost left_is_held = { λ r cs t l. l.held t };
+
+    ghost left_alone = { λ r cs c l m. l.alone c m };
+
     ghost tells_what_is_held = { λ r c t. t.foretells.holds };
 
     ghost held_is_whole = { λ r c place h b. h.whole place b };
 
-    fn activate(&mut self, alloc: Global, log: LogId) -> Result<Grant, RegisterFault>
-        ensures meets { MeetsArmed self.old self.new result (λ c. activated c log) (λ c. after_activate c log) }
+    fn activate(&mut self, alloc: Global, spec: &Spec) -> Result<Grant, RegisterFault>
+        requires { IsSpec spec.now }
+        ensures meets { MeetsArmed self.old self.new result (λ c. activated c spec.now) (λ c. after_activate c spec.now) }
         ensures steady { IsErrOf result RegisterFault.Failed ⊎ (faults_in self.new ≡ faults_in self.old) }
         ensures itself { D.identity (disk_in self.new) ≡ D.identity (disk_in self.old) }
         ensures passes { OnOk result (HasCounted self.old self.new) }
-        ensures fell { OnErr result (StaysArmed self.old self.new ⊎ HasFallen self.old self.new result (λ c. after_activate c log)) }
-        ensures bounds { IfOk result (λ grant. IsEpoch grant.epoch × (grant.lce ≤ 2 ^ 32 - 2)) }
-        ensures behind { (lce : ℕ) → result ≢ Err (RegisterFault.Behind lce) }
+        ensures fell { OnErr result (StaysArmed self.old self.new ⊎ HasFallen self.old self.new result (λ c. after_activate c spec.now)) }
+        ensures bounds { IfOk result (IsGrant spec.now.log) }
+        ensures behind { (lce : ℕ) (next : Option Fixed) → result ≢ Err (RegisterFault.Behind lce next) }
         ensures generations { result ≢ Err RegisterFault.GenLimit }
     {
-        let grant = self.attempt_activate(alloc, log)?;
+        let grant = self.attempt_activate(alloc, spec)?;
         self.count_down()?;
         Ok(grant)
     }
@@ -227,20 +241,21 @@ impl<D: Disk> Register for FaultyRegister<D> {
         log: LogId,
         epoch: u32,
         summary: &Summary,
-    ) -> Result<(), RegisterFault>
+    ) -> Result<Option<Spec>, RegisterFault>
         requires { IsSummary epoch summary.now }
         ensures meets { MeetsArmed self.old self.new result (λ c. closed c log epoch summary.now) (λ c. after_close c log epoch summary.now) }
         ensures steady { IsErrOf result RegisterFault.Failed ⊎ (faults_in self.new ≡ faults_in self.old) }
         ensures itself { D.identity (disk_in self.new) ≡ D.identity (disk_in self.old) }
         ensures passes { OnOk result (HasCounted self.old self.new) }
         ensures fell { OnErr result (StaysArmed self.old self.new ⊎ HasFallen self.old self.new result (λ c. after_close c log epoch summary.now)) }
-        ensures bounds { (lce : ℕ) → IsErrOf result (RegisterFault.Behind lce) → lce ≤ 2 ^ 32 - 2 }
+        ensures next { IfOk result (λ next. IfSome next (IsSpecFor log)) }
+        ensures bounds { (lce : ℕ) (next : Option Fixed) → IsErrOf result (RegisterFault.Behind lce next) → (lce ≤ 2 ^ 32 - 2) × IfSome next (IsSpecFor log) }
         ensures epochs { result ≢ Err RegisterFault.EpochLimit }
         ensures generations { result ≢ Err RegisterFault.GenLimit }
     {
-        self.attempt_close(alloc, log, epoch, summary)?;
+        let next = self.attempt_close(alloc, log, epoch, summary)?;
         self.count_down()?;
-        Ok(())
+        Ok(next)
     }
 
     fn draw(&mut self, alloc: Global, node: NodeId) -> Result<Drawn, RegisterFault>
@@ -251,7 +266,7 @@ impl<D: Disk> Register for FaultyRegister<D> {
         ensures fell { OnErr result (StaysArmed self.old self.new ⊎ HasFallen self.old self.new result (λ c. after_draw c node)) }
         ensures bounds { IfOk result (λ handed. IsOp (Format handed.gen_ handed.epochs)) }
         ensures logs { result ≢ Err RegisterFault.LogLimit }
-        ensures behind { (lce : ℕ) → result ≢ Err (RegisterFault.Behind lce) }
+        ensures behind { (lce : ℕ) (next : Option Fixed) → result ≢ Err (RegisterFault.Behind lce next) }
         ensures epochs { result ≢ Err RegisterFault.EpochLimit }
     {
         let handed = self.attempt_draw(alloc, node)?;
@@ -265,10 +280,11 @@ impl<D: Disk> Register for FaultyRegister<D> {
         ensures itself { D.identity (disk_in self.new) ≡ D.identity (disk_in self.old) }
         ensures armed { StaysArmed self.old self.new }
         ensures same { (c : Contents) → MayHold (kept_in self.new) c → MayHold (kept_in self.old) c }
+        ensures survives { (cs : List Contents) → Tells (kept_in self.old) → LeavesOneOf (kept_in self.old) cs → LeavesOneOf (kept_in self.new) cs }
         ensures keeps { IsErrOf result RegisterFault.Failed ⊎ Keeps (Holds (kept_in self.old)) (Holds (kept_in self.new)) (MayHold (kept_in self.old)) (MayHold (kept_in self.new)) }
         ensures exact { (c : Contents) → Foresees self.old c
             → (IsErrOf result RegisterFault.NoMemory ⊎ (result ≡ Ok (looked c log e))) × Foresees self.new c }
-        ensures view { IfOk result (IsView e) }
+        ensures view { IfOk result (IsView log e) }
         ensures free { OnErr result (IsFree result) }
     {
         self.register.look(alloc, log, e)

@@ -45,9 +45,12 @@ fn the_second_change_fails(rt: HostRuntime) -> Result<(), Fail> {
 fn a_close_that_is_behind_does_not_count(rt: HostRuntime) -> Result<(), Fail> {
     let alloc = rt.alloc();
     let mut register = new_register(alloc)?;
-    assert_eq!(rt; close(alloc, &mut register), Ok(()));
+    assert_eq!(rt; close(alloc, &mut register), Ok(None));
     register.arm(1, true);
-    assert_eq!(rt; close(alloc, &mut register), Err(RegisterFault::Behind(1)));
+    assert_eq!(rt;
+        close(alloc, &mut register),
+        Err(RegisterFault::Behind { lce: 1, next: None })
+    );
     assert_eq!(rt; epoch(alloc, &mut register, 1), Err(RegisterFault::Failed));
     Ok(())
 }

@@ -1,7 +1,8 @@
 // What holds of a register's answers over any list of calls.
-ghost use Rattle.std.specs.Prelude.{◌≡◌, ◌≤◌, ◌<◌, ◌⊎◌, ◌++◌, ◌∷◌, [], ℕ, List, Ok, Some};
+ghost use Rattle.std.specs.Prelude.{◌≡◌, ◌≤◌, ◌<◌, ◌⊎◌, ◌++◌, ◌∷◌, [], ℕ, List, Option, Ok, Some};
 ghost use Rattle.std.specs.declared.result.Result.{Result as Outcome};
 ghost use Rattle.ld_disk.specs.Plain.{Plain};
+ghost use Rattle.ld_ids.specs.declared.set.Spec.{Spec};
 ghost use Rattle.ld_msg.specs.declared.msg.Summary.{Summary};
 ghost use Rattle.ld_msg.specs.Register.{Register as Contents, lce_of, epochs_of, generation_of, summary_shown};
 ghost use Rattle.ld_register.specs.declared.fault.RegisterFault.{RegisterFault};
@@ -9,7 +10,7 @@ ghost use Rattle.ld_register.specs.declared.faulty.FaultyRegister.{FaultyRegiste
 ghost use Rattle.ld_register.specs.declared.register.Grant.{Grant};
 ghost use Rattle.ld_register.specs.declared.register.Drawn.{Drawn};
 ghost use Rattle.ld_register.specs.declared.register.View.{View};
-ghost use Rattle.ld_register.specs.Calls.{IsFree, ChangedOrNot, unarmed};
+ghost use Rattle.ld_register.specs.Calls.{IsFree, ChangedOrNot, with_and_without, unarmed, spec_told};
 ghost use Rattle.ld_register.specs.Stands.{StandsFor};
 ghost use Rattle.ld_register.specs.Held.{Holds};
 ghost use Rattle.ld_register.specs.Arming.{kept_in, disk_in, Foresees};
@@ -20,8 +21,8 @@ use ld_disk::Disk;
 
 /// Of two activations of a log that answered, the later one got a greater epoch, whatever calls failed.
 pub fn epochs_rise()
-    ensures { (c d : Contents) (before between after : List Call) (l : ℕ) (first second : Grant)
-        → Runs c (before ++ Activates l (Ok first) ∷ (between ++ Activates l (Ok second) ∷ after)) d → first.epoch < second.epoch }
+    ensures { (c d : Contents) (before between after : List Call) (one other : Spec) (first second : Grant)
+        → one.log ≡ other.log → Runs c (before ++ Activates one (Ok first) ∷ (between ++ Activates other (Ok second) ∷ after)) d → first.epoch < second.epoch }
 {}
 
 /// Of two draws of a node that answered, the later one got a greater generation, whatever calls failed.
@@ -44,16 +45,28 @@ pub fn summaries_stay()
 
 /// Each look after a close that answered shows the summary of that close.
 pub fn closes_are_shown()
-    ensures { (c d : Contents) (before between after : List Call) (l e : ℕ) (y : Summary) (view : View)
-        → Runs c (before ++ Closes l e y (Ok tt) ∷ (between ++ Looks l e (Ok view) ∷ after)) d → view.summary ≡ Some y }
+    ensures { (c d : Contents) (before between after : List Call) (l e : ℕ) (y : Summary) (next : Option Spec) (view : View)
+        → Runs c (before ++ Closes l e y (Ok next) ∷ (between ++ Looks l e (Ok view) ∷ after)) d → view.summary ≡ Some y }
+{}
+
+/// What is fixed for an epoch that was handed out never changes.
+pub fn specs_stay()
+    ensures { (c d : Contents) (calls : List Call) (l e : ℕ) → Runs c calls d → 1 ≤ e → e ≤ (epochs_of c l).epoch → spec_told d l e ≡ spec_told c l e }
+{}
+
+/// Each look after an activation that answered shows of its epoch what that activation fixed.
+pub fn activations_are_shown()
+    ensures { (c d : Contents) (before between after : List Call) (spec : Spec) (grant : Grant) (view : View)
+        → Runs c (before ++ Activates spec (Ok grant) ∷ (between ++ Looks spec.log grant.epoch (Ok view) ∷ after)) d → view.spec ≡ Some spec }
 {}
 
 /// Of two looks at a log that answered, the later one shows no smaller epoch and no smaller last closed epoch, and of
-/// the same epoch the same summary.
+/// the same epoch the same summary, and where it was handed out by then the same that is fixed for it.
 pub fn looks_agree()
     ensures { (c d : Contents) (before between after : List Call) (l e k : ℕ) (first second : View)
         → Runs c (before ++ Looks l e (Ok first) ∷ (between ++ Looks l k (Ok second) ∷ after)) d
-        → (first.epoch ≤ second.epoch) × (first.lce ≤ second.lce) × ((y : Summary) → e ≡ k → first.summary ≡ Some y → second.summary ≡ Some y) }
+        → (first.epoch ≤ second.epoch) × (first.lce ≤ second.lce) × ((y : Summary) → e ≡ k → first.summary ≡ Some y → second.summary ≡ Some y)
+        × (e ≡ k → 1 ≤ e → e ≤ first.epoch → second.spec ≡ first.spec) }
 {}
 
 /// A call of a register is one step of such a list: what may be held after it is led to from what might be held
@@ -65,6 +78,20 @@ pub fn calls_are_steps<R: Register, T>()
         → IsFree result ⊎ ((c : Contents) → R.may_hold new c → R.holds new c)
         → ChangedOrNot (R.may_hold old) (R.may_hold new) change
         → (d : Contents) → R.may_hold new d → (c : Contents) × R.may_hold old c × Ends result (answer c) c (change c) d }
+{}
+
+/// After a call that failed, where a crash before it might have left these contents alone, the register holds them or
+/// what the call's change makes of them, and nothing else; which of the two, the next call that answers tells by its
+/// answer.
+pub fn failures_are_told<R: Register, T>()
+    ensures holds { (failed : R) (c : Contents) (change : Contents → Contents) → R.told failed → R.leaves failed (with_and_without change (c ∷ []))
+        → R.holds failed c ⊎ R.holds failed (change c) }
+    ensures alone { (failed : R) (c d : Contents) (change : Contents → Contents) → R.leaves failed (with_and_without change (c ∷ []))
+        → R.may_hold failed d → (d ≡ c) ⊎ (d ≡ change c) }
+    ensures tells { (failed next : R) (c : Contents) (change after : Contents → Contents) (result : Outcome T RegisterFault) (answer : Contents → Outcome T RegisterFault)
+        → R.told failed → R.leaves failed (with_and_without change (c ∷ []))
+        → ((d : Contents) → R.holds failed d → IsFree result ⊎ ((result ≡ answer d) × R.holds next (after d)))
+        → IsFree result ⊎ ((result ≡ answer c) × R.holds next (after c)) ⊎ ((result ≡ answer (change c)) × R.holds next (after (change c))) }
 {}
 
 /// A step behind a list makes a longer list, so that the calls of a register, one after the other, are such a list.

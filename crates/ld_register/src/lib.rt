@@ -16,8 +16,9 @@ pub use disk::DiskRegister;
 pub use fault::RegisterFault;
 pub use faulty::FaultyRegister;
 pub use laws::{
-    bytes_lead_to_contents, calls_are_steps, closes_are_shown, epochs_rise, generations_rise,
-    looks_agree, nothing_falls, steps_make_lists, summaries_stay,
+    activations_are_shown, bytes_lead_to_contents, calls_are_steps, closes_are_shown, epochs_rise,
+    failures_are_told, generations_rise, looks_agree, nothing_falls, specs_stay, steps_make_lists,
+    summaries_stay,
 };
 pub use register::{Drawn, Grant, Register, View};
 

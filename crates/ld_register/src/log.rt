@@ -1,22 +1,25 @@
-// One log's epochs, and the summaries of its closed ones.
-ghost use Rattle.std.specs.Prelude.{◌≡◌, ◌≤◌, ◌<◌, ◌+◌, ◌-◌, ◌^◌, ◌↔◌, IfSome, IsSome, OnOk, true, is_some};
+// One log's epochs, what is fixed for each, and the summaries of its closed ones.
+ghost use Rattle.std.specs.Prelude.{◌≡◌, ◌≤◌, ◌<◌, ◌+◌, ◌-◌, ◌^◌, ◌↔◌, ℕ, IfSome, IsSome, OnOk, true, is_some};
 ghost use Rattle.ld_table.specs.Table.{find};
 ghost use Rattle.ld_msg.specs.Bounds.{IsSummary};
-ghost use Rattle.ld_msg.specs.Register.{no_epochs, next_epoch, closed_epochs};
-ghost use Rattle.ld_register.specs.Kept.{shown_log, is_held};
+ghost use Rattle.ld_msg.specs.Register.{no_epochs, next_epoch, closed_epochs, epoch_shown};
+ghost use Rattle.ld_register.specs.Bounds.{IsSpecFor};
+ghost use Rattle.ld_register.specs.Changes.{unfixed_epoch};
+ghost use Rattle.ld_register.specs.Kept.{shown_log, is_held, IsLogOf};
 
-use ld_ids::NoMemory;
+use ld_ids::{NoMemory, Spec};
 use ld_msg::Summary;
 use std::alloc::Global;
 use std::collections::BTreeMap;
 use std::marker::Model;
 
-/// One log's greatest epoch, its last closed one, and the summaries of the closed ones. A summary above the last
-/// closed epoch is room for one.
+/// One log's greatest epoch, its last closed one, what is fixed for each epoch, and the summaries of the closed ones. What
+/// is fixed for an epoch above the greatest one is room for it, and so is a summary above the last closed epoch.
 #[derive(Drop)]
 pub(crate) struct LogState {
     epoch: u32,
     lce: u32,
+    specs: BTreeMap<u32, Spec>,
     summaries: BTreeMap<u32, Summary>,
 }
 
@@ -26,9 +29,9 @@ impl Model for LogState {
 
     ghost Value = { Epochs };
 
-    ghost view = { λ a. record { epoch = a.epoch; lce = a.lce; summaries = a.summaries.entries } };
+    ghost view = { λ a. record { epoch = a.epoch; lce = a.lce; specs = a.specs.entries; summaries = a.summaries.entries } };
 
-    ghost invariant = { λ a. IsLogSound (record { epoch = a.epoch; lce = a.lce; summaries = a.summaries.entries }) };
+    ghost invariant = { λ a. IsLogSound (record { epoch = a.epoch; lce = a.lce; specs = a.specs.entries; summaries = a.summaries.entries }) };
 }
 
 impl LogState {
@@ -39,6 +42,7 @@ impl LogState {
         LogState {
             epoch: 0,
             lce: 0,
+            specs: BTreeMap::new(alloc),
             summaries: BTreeMap::new(alloc),
         }
     }
@@ -66,6 +70,29 @@ impl LogState {
         self.lce
     }
 
+    /// What is fixed for an epoch; for the greatest one where that isn't handed out.
+    pub(crate) fn spec(&self, e: u32) -> Option<Spec>
+        ensures value { result ≡ find (epoch_shown (shown_log self.now) e) (shown_log self.now).specs }
+        ensures sound { (l : ℕ) → IsLogOf l self.now → IfSome result (IsSpecFor l) }
+    {
+        let shown = self.shown(e);
+        if shown == 0 {
+            return None;
+        }
+        self.specs.get(&shown).copied()
+    }
+
+    /// The epoch of which is told what is fixed.
+    fn shown(&self, e: u32) -> u32
+        ensures value { result ≡ epoch_shown self.now e }
+        ensures bound { result ≤ self.now.epoch }
+    {
+        if e == 0 || self.epoch < e {
+            return self.epoch;
+        }
+        e
+    }
+
     /// The summary of an epoch, where it is closed.
     pub(crate) fn summary(&self, e: u32) -> Option<Summary>
         ensures value { result ≡ find e (shown_log self.now).summaries }
@@ -78,23 +105,51 @@ impl LogState {
         self.summaries.get(&e).copied()
     }
 
+    /// Makes room for what is fixed for an epoch above the greatest one. Without memory nothing changes.
+    pub(crate) fn room_for_spec(&mut self, e: u32, spec: &Spec) -> Result<(), NoMemory>
+        requires above { self.old.epoch < e }
+        ensures same { shown_log self.new ≡ shown_log self.old }
+        ensures room { OnOk result (is_some (find e self.new.specs) ≡ true) }
+        ensures of { (l : ℕ) → IsSpecFor l spec.now → IsLogOf l self.old → IsLogOf l self.new }
+    {
+        self.specs.insert(e, *spec)?;
+        Ok(())
+    }
+
     /// Makes room for the summary of an epoch above the last closed one. Without memory nothing changes.
-    pub(crate) fn room(&mut self, e: u32, summary: &Summary) -> Result<(), NoMemory>
+    pub(crate) fn room_for_summary(&mut self, e: u32, summary: &Summary) -> Result<(), NoMemory>
         requires above { self.old.lce < e }
         requires summary { IsSummary e summary.now }
         ensures same { shown_log self.new ≡ shown_log self.old }
         ensures room { OnOk result (is_some (find e self.new.summaries) ≡ true) }
+        ensures of { (l : ℕ) → IsLogOf l self.old → IsLogOf l self.new }
     {
         self.summaries.insert(e, *summary)?;
         Ok(())
     }
 
-    /// Hands out the next epoch.
-    pub(crate) fn activate(&mut self)
-        requires { self.old.epoch < 2 ^ 32 - 2 }
-        ensures { self.new ≡ next_epoch self.old }
+    /// Hands out the next epoch with what is fixed for it, for which there is room.
+    pub(crate) fn activate(&mut self, e: u32, spec: &Spec)
+        requires next { e ≡ self.old.epoch + 1 }
+        requires bound { e ≤ 2 ^ 32 - 2 }
+        requires room { is_some (find e self.old.specs) ≡ true }
+        ensures shown { shown_log self.new ≡ next_epoch (shown_log self.old) spec.now }
+        ensures of { (l : ℕ) → IsSpecFor l spec.now → IsLogOf l self.old → IsLogOf l self.new }
     {
-        self.epoch += 1;
+        let _ = self.specs.insert(e, *spec);
+        self.epoch = e;
+    }
+
+    /// Hands out the next epoch, for which nothing is fixed.
+    pub(crate) fn activate_unfixed(&mut self, e: u32)
+        requires next { e ≡ self.old.epoch + 1 }
+        requires bound { e ≤ 2 ^ 32 - 2 }
+        ensures shown { shown_log self.new ≡ unfixed_epoch (shown_log self.old) }
+        ensures of { (l : ℕ) → IsLogOf l self.old → IsLogOf l self.new }
+    {
+        let _ = self.specs.len();
+        let _ = self.specs.remove(&e);
+        self.epoch = e;
     }
 
     /// Closes the epoch behind the last closed one, for whose summary there is room.
@@ -102,7 +157,8 @@ impl LogState {
         requires next { e ≡ self.old.lce + 1 }
         requires summary { IsSummary e summary.now }
         requires room { is_some (find e self.old.summaries) ≡ true }
-        ensures { shown_log self.new ≡ closed_epochs (shown_log self.old) e summary.now }
+        ensures shown { shown_log self.new ≡ closed_epochs (shown_log self.old) e summary.now }
+        ensures of { (l : ℕ) → IsLogOf l self.old → IsLogOf l self.new }
     {
         let _ = self.summaries.insert(e, *summary);
         self.lce = e;

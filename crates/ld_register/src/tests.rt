@@ -1,9 +1,12 @@
 // What a register on a disk answers, and what a failure and a crash at each writing call of a change leave.
+ghost use Rattle.std.specs.Prelude.{◌≡◌, ◌≤◌, length, IfOk};
+ghost use Rattle.ld_ids.specs.Set.{members};
 ghost use Rattle.ld_msg.specs.Bounds.{IsSummary};
+ghost use Rattle.ld_register.specs.Bounds.{IsSpec};
 
-use crate::{DiskRegister, Register, RegisterFault, View};
+use crate::{DiskRegister, Grant, Register, RegisterFault, View};
 use ld_disk::{Disk, Fault, MemDisk, Picture};
-use ld_ids::{LogId, NodeId};
+use ld_ids::{LogId, NodeId, NodeSet, Spec};
 use ld_lsn::Lsn;
 use ld_msg::Summary;
 use std::alloc::Global;
@@ -47,18 +50,39 @@ fn summary() -> Summary
     }
 }
 
+/// A log with the nodes of a set of this number, and factor 1.
+fn spec_over(log: u32, bits: u16) -> Result<Spec, RegisterFault>
+    ensures { IfOk result IsSpec }
+{
+    let log = log_of(log)?;
+    let _ = log.number();
+    let set = NodeSet::from_bits(bits);
+    if set.len() == 0 {
+        return Err(RegisterFault::NoMemory);
+    }
+    Ok(Spec {
+        log,
+        set,
+        r: 1,
+        extras: 2,
+    })
+}
+
 /// The epoch that an activation of the log hands out.
 pub(crate) fn epoch<R: Register>(
     alloc: Global,
     register: &mut R,
     log: u32,
 ) -> Result<u32, RegisterFault> {
-    let grant = register.activate(alloc, log_of(log)?)?;
+    let grant = register.activate(alloc, &spec_over(log, 5)?)?;
     Ok(grant.epoch)
 }
 
-/// Closes epoch 1 of log 1.
-pub(crate) fn close<R: Register>(alloc: Global, register: &mut R) -> Result<(), RegisterFault> {
+/// Closes epoch 1 of log 1, and tells what is fixed for epoch 2.
+pub(crate) fn close<R: Register>(
+    alloc: Global,
+    register: &mut R,
+) -> Result<Option<Spec>, RegisterFault> {
     register.close(alloc, log_of(1)?, 1, &summary())
 }
 
@@ -101,7 +125,9 @@ pub(crate) fn make<R: Register>(
         Change::Activation => {
             let _ = epoch(alloc, register, 1)?;
         }
-        Change::Close => close(alloc, register)?,
+        Change::Close => {
+            let _ = close(alloc, register)?;
+        }
         Change::Draw => {
             let _ = drawn(alloc, register)?;
         }
@@ -145,12 +171,14 @@ fn an_epoch_is_handed_out_and_closed(rt: HostRuntime) -> Result<(), Fail> {
     let alloc = rt.alloc();
     let mut register = new_register(alloc)?;
     assert_eq!(rt; epoch(alloc, &mut register, 1), Ok(1));
-    assert_eq!(rt; close(alloc, &mut register), Ok(()));
+    let spec = Some(spec_over(1, 5)?);
     let shown = View {
         epoch: 1,
         lce: 1,
         summary: Some(summary()),
+        spec,
     };
+    assert_eq!(rt; close(alloc, &mut register), Ok(spec));
     assert_eq!(rt; view(alloc, &mut register), Ok(shown));
     assert_eq!(rt; drawn(alloc, &mut register), Ok((1, 1)));
     Ok(())
@@ -186,13 +214,111 @@ fn a_crash_leaves_the_change_or_does_not(rt: HostRuntime) -> Result<(), Fail> {
 }
 
 #[test]
-fn an_activation_is_a_record_of_nine_bytes(rt: HostRuntime) -> Result<(), Fail> {
+fn an_activation_is_a_record_of_thirteen_bytes(rt: HostRuntime) -> Result<(), Fail> {
     let alloc = rt.alloc();
     let mut register = new_register(alloc)?;
-    assert_eq!(rt; epoch(alloc, &mut register, 1), Ok(1));
+    assert_eq!(rt;
+        register.activate(alloc, &spec_over(1, 0x8005)?).is_ok(),
+        true
+    );
     let mut disk = register.into_disk();
-    let mut bytes = [9; 16];
-    assert_eq!(rt; disk.read(0, &mut bytes)?, 15);
-    assert_eq!(rt; bytes, [1, 0, 0, 0, 9, 16, 0, 0, 0, 1, 0, 0, 0, 1, 0, 9]);
+    let mut bytes = [9; 20];
+    assert_eq!(rt; disk.read(0, &mut bytes)?, 19);
+    assert_eq!(rt;
+        bytes,
+        [
+            1, 0, 0, 0, 13, 19, 0, 0, 0, 1, 0, 0, 0, 1, 128, 5, 1, 2, 0, 9
+        ]
+    );
+    Ok(())
+}
+
+/// What is shown of log 1 and an epoch of it that is fixed.
+fn fixed<R: Register>(
+    alloc: Global,
+    register: &mut R,
+    e: u32,
+) -> Result<Option<Spec>, RegisterFault> {
+    let view = register.look(alloc, log_of(1)?, e)?;
+    Ok(view.spec)
+}
+
+#[test]
+fn each_epoch_keeps_what_was_fixed_for_it(rt: HostRuntime) -> Result<(), Fail> {
+    let alloc = rt.alloc();
+    let mut register = new_register(alloc)?;
+    assert_eq!(rt; fixed(alloc, &mut register, 1), Ok(None));
+    let first = spec_over(1, 5)?;
+    let second = spec_over(1, 6)?;
+    let grant = |epoch, next| Grant {
+        epoch,
+        lce: 0,
+        next: Some(next),
+    };
+    assert_eq!(rt; register.activate(alloc, &first), Ok(grant(1, first)));
+    assert_eq!(rt; register.activate(alloc, &second), Ok(grant(2, first)));
+    let mut register = again(alloc, register);
+    for (e, spec) in [(0, second), (1, first), (2, second), (3, second)] {
+        assert_eq!(rt; fixed(alloc, &mut register, e), Ok(Some(spec)));
+    }
+    assert_eq!(rt; close(alloc, &mut register), Ok(Some(second)));
+    assert_eq!(rt;
+        close(alloc, &mut register),
+        Err(RegisterFault::Behind {
+            lce: 1,
+            next: Some(second),
+        })
+    );
+    Ok(())
+}
+
+/// A register on a disk of these bytes.
+fn register_of(alloc: Global, bytes: &[u8]) -> Result<DiskRegister<MemDisk>, Fail>
+    requires { length bytes.now ≤ 40 }
+{
+    let mut disk = MemDisk::new(alloc)?;
+    disk.reserve(40, 1)?;
+    disk.write_at(0, bytes)?;
+    Ok(DiskRegister::new(alloc, disk))
+}
+
+#[test]
+fn an_old_journal_goes_on(rt: HostRuntime) -> Result<(), Fail> {
+    let alloc = rt.alloc();
+    let bytes = [1, 0, 0, 0, 9, 16, 0, 0, 0, 1, 0, 0, 0, 1, 0];
+    let mut register = register_of(alloc, &bytes)?;
+    let shown = View {
+        epoch: 1,
+        lce: 0,
+        summary: None,
+        spec: None,
+    };
+    assert_eq!(rt; view(alloc, &mut register), Ok(shown));
+    let spec = spec_over(1, 5)?;
+    let grant = Grant {
+        epoch: 2,
+        lce: 0,
+        next: None,
+    };
+    assert_eq!(rt; register.activate(alloc, &spec), Ok(grant));
+    let mut register = again(alloc, register);
+    for (e, spec) in [(1, None), (2, Some(spec))] {
+        assert_eq!(rt; fixed(alloc, &mut register, e), Ok(spec));
+    }
+    assert_eq!(rt; close(alloc, &mut register), Ok(Some(spec)));
+    Ok(())
+}
+
+#[test]
+fn an_activation_out_of_bounds_is_damaged(rt: HostRuntime) -> Result<(), Fail> {
+    let alloc = rt.alloc();
+    for (r, extras) in [(0, 0), (3, 0), (1, 4)] {
+        let bytes = [
+            1, 0, 0, 0, 9, 16, 0, 0, 0, 1, 0, 0, 0, 1, //
+            1, 0, 0, 0, 13, 19, 0, 0, 0, 1, 0, 0, 0, 2, 0, 5, r, extras, 0,
+        ];
+        let mut register = register_of(alloc, &bytes)?;
+        assert_eq!(rt; view(alloc, &mut register), Err(RegisterFault::Damaged(14)));
+    }
     Ok(())
 }

@@ -1,7 +1,9 @@
+pub mod Clients
 pub mod Driving
 pub mod Endings
 pub mod Feeding
 pub mod Going
+pub mod Joining
 pub mod News
 pub mod Queueing
 pub mod Steps

@@ -1,10 +1,9 @@
 -- The steps that a drive takes.
-use Rattle.std.proofs.Common.{◌≡◌, ℕ, ◌+◌, Bool, true, false, ◌&&◌, List, [], ◌∷◌, ◌++◌, Option, Some, None, refl, ap, sym, ◌∙◌, subst, inl, inr, arith, append_assoc, if◌then◌else◌}
+use Rattle.std.proofs.Common.{◌≡◌, ℕ, ◌+◌, Bool, true, false, ◌&&◌, List, [], ◌∷◌, ◌++◌, Option, Some, None, refl, ap, sym, ◌∙◌, subst, inl, inr, append_assoc, if◌then◌else◌}
 use Rattle.std.specs.List.{AllByRecursion}
 use Rattle.std.proofs.lemmas.List.{append-nil}
 use Rattle.std.proofs.lemmas.List.Elements.{filter-append}
 use Rattle.ld_table.specs.Table.{put}
-use Rattle.ld_table.specs.Words.{is_in}
 use Rattle.ld_config.specs.declared.config.Config.{Config}
 use Rattle.ld_schedule.specs.declared.event.Event.{Event}
 use Rattle.ld_schedule.specs.declared.event.Event.TheVariants as events
@@ -14,7 +13,7 @@ use Rattle.ld_msg.specs.declared.msg.Body.{Body}
 use Rattle.ld_msg.specs.Network.{message}
 use Rattle.ld_op.specs.declared.op.Op.{Op}
 use Rattle.ld_op.specs.Handles.{answer_message}
-use Rattle.ld_machine.specs.Config.{set_of}
+use Rattle.ld_machine.specs.Config.{has_log}
 use Rattle.ld_machine.specs.Disk.{Node, is_up, keep_end, Kept, Written, DiskFailed, Crashed, JournalFull}
 use Rattle.ld_machine.specs.State.{State, Done, only_state, unchanged, finish, or_none, message_lines, node_at, sent_state}
 use Rattle.ld_machine.specs.Step as machine
@@ -22,7 +21,8 @@ use Rattle.ld_machine.specs.Step.{happens, delivers, comes_to, marked, to_node, 
 use Rattle.ld_machine.specs.Run.{step, state_after, lines_of}
 use Rattle.ld_dial.specs.Far.{alone, handed}
 use Rattle.ld_rounds.specs.News.{is_answer}
-use Rattle.ld_rounds.specs.Drives.{is_own, own_lines, MayLose, IsDriven, AreDriven, turns_of, Goes}
+use Rattle.ld_rounds.specs.Drives.{is_own, own_lines, MayLose, IsDriven, AreDriven, Goes}
+use Rattle.ld_rounds.proofs.Joining.{Joins, after-append}
 
 -- ---- lines ----
 
@@ -44,11 +44,6 @@ own_finished d =
     own_or_none (d.lines ++ ms) ∙ (own-append d.lines ms ∙ (ap (λ l. own_lines d.lines ++ l) (own_messages d.state d.state.network.count d.sends) ∙ append-nil (own_lines d.lines)))
 
 -- ---- one after the other ----
-
-after-append : (c : Config) (s : State) (es fs : List Event) → state_after c s (es ++ fs) ≡ state_after c (state_after c s es) fs
-unfolding state_after
-after-append c s [] fs = refl
-after-append c s (e ∷ es) fs = after-append c (step c s e).state es fs
 
 lines-append : (c : Config) (s : State) (es fs : List Event) → lines_of c s (es ++ fs) ≡ lines_of c s es ++ lines_of c (state_after c s es) fs
 unfolding state_after lines_of
@@ -80,39 +75,35 @@ driven_if name one other c s (e ∷ es) f d = (event_if e d.0, driven_if name on
     event_if (events.Lose i) h = lose_if (message s.network i) h
     event_if x h = absurd h
 
-turns-append : (es fs : List Event) → turns_of (es ++ fs) ≡ turns_of es + turns_of fs
-turns-append [] fs = omega arith
-turns-append (e ∷ es) fs = let h = turns-append es fs in omega (arith, h)
-
 module _ (name : List ℕ) (broken : Type 0) (c : Config) where
-  pub stays : (s : State) → Goes name broken 0 c s s []
+  pub stays : (P : State → List Event → Type 0) (s : State) → P s [] → Goes name broken P c s s []
   unfolding state_after lines_of
-  stays s = record { steps = []; driven = tt; counted = refl; state = refl; lines = refl }
+  stays P s p = record { steps = []; driven = tt; such = p; state = refl; lines = refl }
 
-  pub goes_on : {n m : ℕ} (s t u : State) (xs ys : List Line) → Goes name broken n c s t xs → Goes name broken m c t u ys → Goes name broken (n + m) c s u (xs ++ ys)
-  goes_on {n} {m} s t u xs ys g h = record {
+  pub goes_on : (P Q R : State → List Event → Type 0) (s t u : State) (xs ys : List Line) → Joins c P Q R → Goes name broken P c s t xs → Goes name broken Q c t u ys → Goes name broken R c s u (xs ++ ys)
+  goes_on P Q R s t u xs ys j g h = record {
     steps = g.steps ++ h.steps;
     driven = driven-append name broken c s g.steps h.steps g.driven (subst (λ (x : State). AreDriven name broken c x h.steps) g.state h.driven);
-    counted = turns-append g.steps h.steps ∙ (ap (λ x. x + turns_of h.steps) g.counted ∙ ap (λ x. n + x) h.counted);
+    such = j s g.steps h.steps g.such (subst (λ (x : State). Q x h.steps) g.state h.such);
     state = h.state ∙ (ap (λ x. state_after c x h.steps) g.state ∙ sym (after-append c s g.steps h.steps));
     lines = ap (λ l. l ++ ys) g.lines ∙ (ap (λ l. own_lines (lines_of c s g.steps) ++ l) (h.lines ∙ ap (λ x. own_lines (lines_of c x h.steps)) g.state)
         ∙ (sym (own-append (lines_of c s g.steps) (lines_of c (state_after c s g.steps) h.steps)) ∙ ap own_lines (sym (lines-append c s g.steps h.steps))));
   }
 
   -- one step
-  pub goes_by : (s : State) (e : Event) (d : Done) → IsDriven name broken s e → step c s e ≡ finish d → Goes name broken (turns_of (e ∷ [])) c s (finish d).state (own_lines d.lines)
+  pub goes_by : (P : State → List Event → Type 0) (s : State) (e : Event) (d : Done) → IsDriven name broken s e → P s (e ∷ []) → step c s e ≡ finish d → Goes name broken P c s (finish d).state (own_lines d.lines)
   unfolding state_after lines_of
-  goes_by s e d m h = record {
+  goes_by P s e d m p h = record {
     steps = e ∷ [];
     driven = (m, tt);
-    counted = refl;
+    such = p;
     state = ap (λ r. r.state) (sym h);
     lines = sym (own_finished d) ∙ (ap (λ r. own_lines r.lines) (sym h) ∙ ap own_lines (sym (append-nil (step c s e).lines)));
   }
 
-  -- where more is broken
-  pub goes_if : {n : ℕ} (less : Type 0) (s t : State) (xs : List Line) → (less → broken) → Goes name less n c s t xs → Goes name broken n c s t xs
-  goes_if less s t xs f g = record { steps = g.steps; driven = driven_if name less broken c s g.steps f g.driven; counted = g.counted; state = g.state; lines = g.lines }
+  -- where more is broken, and less is said of the steps
+  pub goes_if : (less : Type 0) (P Q : State → List Event → Type 0) (s t : State) (xs : List Line) → (less → broken) → ((es : List Event) → t ≡ state_after c s es → P s es → Q s es) → Goes name less P c s t xs → Goes name broken Q c s t xs
+  goes_if less P Q s t xs f p g = record { steps = g.steps; driven = driven_if name less broken c s g.steps f g.driven; such = p g.steps g.state g.such; state = g.state; lines = g.lines }
 
 -- ---- the steps of a visit ----
 
@@ -160,7 +151,7 @@ to_node_by false s d e h = record { state = refl; sends = refl; quiet = refl }
 
 pub to_node_far : (c : Config) (s : State) (n : ℕ) (m : Msg) → IsFar s (to_node c s n m) (handed c s.nodes n m)
 to_node_far c s n m =
-    to_node_by (is_up (node_at s n).status && is_in n (set_of c m.log)) s _ _
+    to_node_by (is_up (node_at s n).status && has_log c m.log) s _ _
     (handles_far s n (machine.releases (node_at s n) m.log m.body) m (machine.node_handles (node_at s n) m).op (machine.node_handles (node_at s n) m).answer)
 
 -- what it answers comes from a node
@@ -182,7 +173,7 @@ answers_by false s d h = tt
 
 pub answers_from : (c : Config) (s : State) (n : ℕ) (m : Msg) → AllByRecursion (λ x. is_answer x ≡ true) (to_node c s n m).sends
 answers_from c s n m =
-    answers_by (is_up (node_at s n).status && is_in n (set_of c m.log)) s _
+    answers_by (is_up (node_at s n).status && has_log c m.log) s _
     (handles_from _ n m (machine.node_handles (node_at s n) m).op (machine.node_handles (node_at s n) m).answer)
 
 -- ---- the steps of a client ----

@@ -1,5 +1,5 @@
 -- What a step of an actor does.
-use Rattle.std.specs.Prelude.{◌≡◌, List, false}
+use Rattle.std.specs.Prelude.{ℕ, ◌≡◌, List, false}
 use Rattle.std.specs.List.{AllByRecursion}
 use Rattle.ld_machine.specs.State.{State, Done}
 use Rattle.ld_transcript.specs.declared.line.Line.{Line}
@@ -16,3 +16,8 @@ pub record IsActed (stands : State → Type 0) (s : State) (ls : List Line) (ms 
   pub sends : ms ≡ done.sends
   pub own : own_lines ls ≡ ls
   pub asks : AllByRecursion (λ m. is_answer m ≡ false) ms
+
+-- what an actor is called, and the log that it's of
+pub record Own : Type 0 where
+  pub name : List ℕ
+  pub log : ℕ

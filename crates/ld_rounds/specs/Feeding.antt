@@ -1,19 +1,64 @@
--- Why the drive of a sequencer ends.
-use Rattle.std.specs.Prelude.{ℕ, List, Option}
+-- What is fed to a sequencer that is driven, and why its drive ends.
+use Rattle.std.specs.Prelude.{ℕ, ◌≡◌, List, ◌∷◌, Option, None, Some, Bool, true, false, IfSome}
+use Rattle.std.specs.declared.result.Result.{Result}
+use Rattle.std.specs.declared.result.Result.TheVariants.{Ok, Err}
 use Rattle.ld_io.specs.Causes.{Rose}
 use Rattle.ld_rounds.specs.declared.ended.Ended.{Ended}
 use Rattle.ld_rounds.specs.declared.ended.Ended.TheVariants as ends
 use Rattle.ld_rounds.specs.Endings.{IsEnding}
+use Rattle.ld_rounds.specs.Input.{Input, all_taken, GivesNext, ComesTo, IsOff}
+
+-- ---- what is still to come ----
+
+-- the payload that is held comes first
+abbrev pub upcoming : Option (List ℕ) → Option Input → Option Input
+upcoming None coming = coming
+upcoming (Some payload) None = None
+upcoming (Some payload) (Some input) = Some (record input { payloads = payload ∷ input.payloads })
+
+-- what the next one is
+abbrev pub NextIs : Option Input → Option Input → Result (Option (List ℕ)) Ended → Type 0
+NextIs None new result = Unit {0}
+NextIs (Some old) new (Ok (Some payload)) = GivesNext old new payload
+NextIs (Some old) new (Ok None) = (old ≡ all_taken) × (new ≡ Some all_taken)
+NextIs (Some old) new (Err (ends.BadLine line place)) = IsOff old line place
+NextIs (Some old) new (Err _) = Unit {0}
+
+-- behind all payloads comes the same as before
+pub record IsAhead (old : Input) (new : Option Input) : Type 0 where
+  pub left : Input
+  pub now : new ≡ Some left
+  pub off : left.off ≡ old.off
+
+abbrev pub SameBehind : Option Input → Option Input → Type 0
+SameBehind None new = Unit {0}
+SameBehind (Some old) new = IsAhead old new
+
+-- where it is told what came first, nothing more comes
+abbrev pub NoneComes : Option Input → Option Input → Type 0
+NoneComes None coming = Unit {0}
+NoneComes (Some origin) coming = coming ≡ Some all_taken
+
+-- where the input has ended nothing more comes
+abbrev pub WasOver : Option Input → Bool → Option Input → Type 0
+WasOver origin false coming = Unit {0}
+WasOver origin true coming = NoneComes origin coming
+
+-- ---- why the drive ends ----
+
+-- this line is off behind all payloads, at this place, where that is told
+abbrev pub IsOffBehind : Option Input → ℕ → ℕ → Type 0
+IsOffBehind coming line place = IfSome coming (λ input. ComesTo input line place)
 
 -- by its input, whose counts of faults were and are these
-abbrev pub IsInputEnding : ℕ → ℕ → Ended → Type 0
-IsInputEnding before now ends.Read = Rose before now
-IsInputEnding before now (ends.BadLine line place) = Unit {0}
-IsInputEnding before now ends.NoMemory = Unit {0}
-IsInputEnding before now _ = ⊥
+abbrev pub IsInputEnding : Option Input → ℕ → ℕ → Ended → Type 0
+IsInputEnding coming before now ends.Read = Rose before now
+IsInputEnding coming before now (ends.BadLine line place) = IsOffBehind coming line place
+IsInputEnding coming before now ends.NoMemory = Unit {0}
+IsInputEnding coming before now _ = ⊥
 
 -- by its input, whose counts are the first two, or as a round does
-abbrev pub IsAppendEnding : ℕ → ℕ → ℕ → ℕ → Option (List ℕ) → Option (List ℕ) → Ended → Type 0
-IsAppendEnding input_before input_now before now old new ends.Read = Rose input_before input_now
-IsAppendEnding input_before input_now before now old new (ends.BadLine line place) = Unit {0}
-IsAppendEnding input_before input_now before now old new ended = IsEnding before now old new ended
+abbrev pub IsAppendEnding : Option Input → ℕ → ℕ → ℕ → ℕ → Option (List ℕ) → Option (List ℕ) → Ended → Type 0
+IsAppendEnding coming input_before input_now before now old new ends.Read = Rose input_before input_now
+IsAppendEnding coming input_before input_now before now old new (ends.BadLine line place) = IsOffBehind coming line place
+IsAppendEnding coming input_before input_now before now old new ended = IsEnding before now old new ended

@@ -3,13 +3,14 @@ use Rattle.std.specs.Prelude.{ℕ, ◌≡◌, List, [], ◌∷◌, Option, None,
 use Rattle.std.specs.declared.result.Result.{Result}
 use Rattle.std.specs.declared.result.Result.TheVariants.{Ok, Err}
 use Rattle.ld_io.specs.Causes.{Rose}
+use Rattle.ld_rounds.specs.Lines.{IsOffPayload}
 use Rattle.ld_rounds.specs.declared.payloads.InputFault.{InputFault}
 use Rattle.ld_rounds.specs.declared.payloads.InputFault.TheVariants as faults
 
--- the payloads of the lines that are still to come, and behind them the end of the input, or the line that is off and the place in it
+-- the payloads of the lines that are still to come, and behind them the end of the input, or the number of the first line that is off and the bytes from it on
 pub record Input : Type 0 where
   pub payloads : List (List ℕ)
-  pub off : Option (ℕ × ℕ)
+  pub off : Option (ℕ × List ℕ)
 
 -- nothing is still to come
 abbrev pub all_taken : Input
@@ -21,10 +22,16 @@ pub record GivesNext (old : Input) (new : Option Input) (payload : List ℕ) : T
   pub first : old.payloads ≡ payload ∷ rest
   pub left : new ≡ Some (record { payloads = rest; off = old.off })
 
--- a line that is off comes next
+-- behind all payloads comes a line that is off, at this place
+pub record ComesTo (old : Input) (line place : ℕ) : Type 0 where
+  pub rest : List ℕ
+  pub off : old.off ≡ Some (line, rest)
+  pub at : IsOffPayload rest place
+
+-- it comes next
 pub record IsOff (old : Input) (line place : ℕ) : Type 0 where
   pub none : old.payloads ≡ []
-  pub off : old.off ≡ Some (line, place)
+  pub off : ComesTo old line place
 
 abbrev pub GivesOf : Input → Option Input → Result (Option (List ℕ)) InputFault → Type 0
 GivesOf old new (Ok (Some payload)) = GivesNext old new payload

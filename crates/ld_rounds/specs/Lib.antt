@@ -4,7 +4,11 @@ pub mod Endings
 pub mod Ends
 pub mod Feeding
 pub mod Input
+pub mod Lines
 pub mod News
 pub mod Output
 pub mod Queued
+pub mod Reaching
+pub mod Rounds
+pub mod Taking
 pub mod Telling

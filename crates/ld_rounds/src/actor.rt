@@ -1,5 +1,5 @@
 // An actor that is driven.
-ghost use Rattle.std.specs.Prelude.{ℕ, List, IsTrue, IfOk, IfSome};
+ghost use Rattle.std.specs.Prelude.{ℕ, ◌≡◌, List, IsTrue, IfOk, IfSome};
 ghost use Rattle.ld_config.specs.declared.config.Config.{Config};
 ghost use Rattle.ld_config.specs.Bounds.{IsInBounds};
 ghost use Rattle.ld_msg.specs.declared.msg.Msg.{Msg as Message};
@@ -11,7 +11,7 @@ ghost use Rattle.ld_machine.specs.State.{State};
 ghost use Rattle.ld_machine.specs.Step.{comes_to};
 ghost use Rattle.ld_bounds.specs.Sound.{IsSound};
 ghost use Rattle.ld_rounds.specs.Ends.{IsSaid};
-ghost use Rattle.ld_rounds.specs.Acts.{IsActed};
+ghost use Rattle.ld_rounds.specs.Acts.{IsActed, Own};
 
 use crate::Ended;
 use ld_ids::NoMemory;
@@ -30,10 +30,17 @@ pub struct Heard {
     pub end: Option<Ended>,
 }
 
-/// A sequencer or a reader, with its register, that is driven against nodes.
+/// A sequencer or a reader, with its register, that is driven against nodes. Where it can't go on for a cause that no line
+/// says, it keeps the cause and answers as at want of memory.
 pub trait Actor {
     /// It stands for its part of a state of the written machine.
     ghost stands: { Self → Config → State → Type 0 };
+
+    /// Who it is: no call changes that.
+    ghost own: { Self → Own };
+
+    /// The second one is what calls have made of the first.
+    ghost since: { Self → Self → Type 0 };
 
     /// What it may take: messages to one of its kind.
     ghost hears: { Self → Message → Type 0 };
@@ -49,7 +56,15 @@ pub trait Actor {
         ensures messages { IfOk result (λ heard. AreMessages heard.sends) }
         ensures acted { IfOk result (λ heard. (c : Config) (s : State) → IsInBounds c → IsSound c s → stands self.old c s
             → IsActed (stands self.new c) s heard.lines.items heard.sends (comes_to c s message.now message.now.to)) }
-        ensures said { IfOk result (λ heard. IfSome heard.end (IsSaid heard.lines.items)) };
+        ensures said { IfOk result (λ heard. IfSome heard.end (IsSaid heard.lines.items)) }
+        ensures itself { own self.new ≡ own self.old }
+        ensures since { since self.old self.new };
+
+    /// One that no call was made to is such a one.
+    ghost since_here: { (actor : Self) → since actor actor };
+
+    /// Calls come one after the other.
+    ghost since_on: { (a b c : Self) → since a b → since b c → since a c };
 
     /// That part is told by neither the nodes nor the messages.
     ghost stands_apart: { (actor : Self) (c : Config) (s : State) (nodes : List (ℕ × Place)) (network : Network) → stands actor c s → stands actor c (record s { nodes = nodes; network = network }) };

@@ -1,5 +1,6 @@
 // A sequencer is driven over payloads.
-ghost use Rattle.std.specs.Prelude.{◌≡◌, ◌≤◌, ◌⊎◌, ℕ, Bool, true, IfOk, IfErr, IfSome};
+ghost use Rattle.std.specs.Prelude.{◌≡◌, ◌≤◌, ◌⊎◌, ℕ, [], ◌∷◌, Bool, true, false, Option, None, IfOk, IfErr, IfSome, OnOk, OnErr, if◌then◌else◌};
+ghost use Rattle.ld_ids.specs.Set.{members};
 ghost use Rattle.ld_config.specs.declared.config.Config.{Config};
 ghost use Rattle.ld_config.specs.Bounds.{IsInBounds};
 ghost use Rattle.ld_schedule.specs.declared.event.Event.TheVariants.{Append, Retry};
@@ -10,9 +11,12 @@ ghost use Rattle.ld_bounds.specs.Sound.{IsSound};
 ghost use Rattle.ld_dial.specs.Far.{Far};
 ghost use Rattle.ld_rounds.specs.Ends.{IsSaid};
 ghost use Rattle.ld_rounds.specs.Acts.{IsActed};
-ghost use Rattle.ld_rounds.specs.Drives.{Holds, GoesOn, IsBroken, AreLater, TookRetries, retries_of};
+ghost use Rattle.ld_rounds.specs.Drives.{Holds, GoesOn, IsBroken, AreLater};
+ghost use Rattle.ld_rounds.specs.Rounds.{IsOne, IsBegun, IsRetry, MayRetry, Adds, AddsUntil, Prepares, PreparesUntil, Rounds, RoundsUntil, taken_of, tells_full};
+ghost use Rattle.ld_rounds.specs.Taking.{TookAppends};
 ghost use Rattle.ld_rounds.specs.Endings.{IsEnding, IsLater};
-ghost use Rattle.ld_rounds.specs.Feeding.{IsInputEnding, IsAppendEnding};
+ghost use Rattle.ld_rounds.specs.Feeding.{IsInputEnding, IsAppendEnding, upcoming, WasOver, NextIs, SameBehind};
+ghost use Rattle.ld_rounds.specs.Input.{Input};
 ghost use Rattle.ld_rounds.specs.Queued.{are_empty};
 
 use crate::{Actor, Ended, Heard, InputFault, Payloads, Queues, round, tell};
@@ -44,7 +48,10 @@ pub trait Appends: Actor {
         ensures messages { IfOk result (λ appended. AreMessages appended.heard.sends) }
         ensures appended { IfOk result (λ appended. (c : Config) (s : State) → IsInBounds c → IsSound c s → Self.stands self.old c s
             → IsActed (Self.stands self.new c) s appended.heard.lines.items appended.heard.sends (happens c s (Append name.now payload.now))) }
-        ensures said { IfOk result (λ appended. IfSome appended.heard.end (IsSaid appended.heard.lines.items)) };
+        ensures full { IfOk result (λ appended. appended.is_full ≡ tells_full appended.heard.lines.items) }
+        ensures said { IfOk result (λ appended. IfSome appended.heard.end (IsSaid appended.heard.lines.items)) }
+        ensures itself { Self.own self.new ≡ Self.own self.old }
+        ensures since { Self.since self.old self.new };
 
     /// The sequencer of the name sends again what is still wanted, and tries a close again. It ends the drive where it says
     /// so in a line. After want of memory it is of no use.
@@ -52,7 +59,9 @@ pub trait Appends: Actor {
         ensures messages { IfOk result (λ heard. AreMessages heard.sends) }
         ensures retried { IfOk result (λ heard. (c : Config) (s : State) → IsInBounds c → IsSound c s → Self.stands self.old c s
             → IsActed (Self.stands self.new c) s heard.lines.items heard.sends (happens c s (Retry name.now))) }
-        ensures said { IfOk result (λ heard. IfSome heard.end (IsSaid heard.lines.items)) };
+        ensures said { IfOk result (λ heard. IfSome heard.end (IsSaid heard.lines.items)) }
+        ensures itself { Self.own self.new ≡ Self.own self.old }
+        ensures since { Self.since self.old self.new };
 
     /// Whether every append is acknowledged, and every epoch before its own is closed.
     fn is_settled(&self) -> bool
@@ -69,7 +78,9 @@ fn add<A: Appends, O: Sink>(
     out: &mut O,
 ) -> Result<bool, Ended>
     ensures held { (c : Config) (first : ℕ) (s : State) (far : Far) → IsInBounds c → Holds (A.stands sequencer.old) c first s far queues.old
-        → GoesOn name.now ⊥ 0 (A.stands sequencer.new) (λ now. now ≡ far) c first s queues.new (O.written out.old) (O.written out.new) result }
+        → GoesOn name.now ⊥ (λ t es. IsOne (Append name.now payload.now) t es × IfOk result (λ full. taken_of c t es ≡ (if full then [] else payload.now ∷ []))) (λ e. IsBegun (Append name.now payload.now)) (A.stands sequencer.new) (λ now. now ≡ far) c first s queues.new (O.written out.old) (O.written out.new) result }
+    ensures itself { A.own sequencer.new ≡ A.own sequencer.old }
+    ensures since { A.since sequencer.old sequencer.new }
     ensures cause { IfErr result (IsEnding (O.faults out.old) (O.faults out.new) (O.written out.old) (O.written out.new)) }
     ensures later { IsLater (O.faults out.old) (O.faults out.new) (O.written out.old) (O.written out.new) }
 {
@@ -90,7 +101,9 @@ fn again<A: Appends, O: Sink>(
     out: &mut O,
 ) -> Result<(), Ended>
     ensures held { (c : Config) (first : ℕ) (s : State) (far : Far) → IsInBounds c → Holds (A.stands sequencer.old) c first s far queues.old
-        → GoesOn name.now ⊥ 1 (A.stands sequencer.new) (λ now. now ≡ far) c first s queues.new (O.written out.old) (O.written out.new) result }
+        → GoesOn name.now ⊥ (IsRetry name.now false) (λ e. MayRetry name.now false) (A.stands sequencer.new) (λ now. now ≡ far) c first s queues.new (O.written out.old) (O.written out.new) result }
+    ensures itself { A.own sequencer.new ≡ A.own sequencer.old }
+    ensures since { A.since sequencer.old sequencer.new }
     ensures cause { IfErr result (IsEnding (O.faults out.old) (O.faults out.new) (O.written out.old) (O.written out.new)) }
     ensures later { IsLater (O.faults out.old) (O.faults out.new) (O.written out.old) (O.written out.new) }
 {
@@ -109,24 +122,28 @@ pub struct Feed {
 
 impl Feed {
     /// None is held, and the input hasn't ended.
-    pub fn new() -> Feed {
+    pub fn new() -> Feed
+        ensures held { result.held ≡ None }
+        ensures on { result.is_over ≡ false }
+    {
         Feed {
             held: None,
             is_over: false,
         }
     }
 
-    /// Takes the next payload; none is at the end of the input.
+    /// Takes the next payload; none is at the end of the input, where it is over.
     fn next<P: Payloads>(&mut self, alloc: Global, input: &mut P) -> Result<Option<Payload>, Ended>
-        ensures cause { IfErr result (IsInputEnding (P.faults input.old) (P.faults input.new)) }
+        ensures gives { NextIs (upcoming self.old.held (P.coming input.old)) (upcoming self.new.held (P.coming input.new)) result }
+        ensures none { IfOk result (λ next. self.new.held ≡ None) }
+        ensures on { IfOk result (λ next. IfSome next (λ payload. self.new.is_over ≡ self.old.is_over)) }
+        ensures stopped { OnErr result (self.new.is_over ≡ self.old.is_over) }
+        ensures cause { IfErr result (IsInputEnding (upcoming self.old.held (P.coming input.old)) (P.faults input.old) (P.faults input.new)) }
         ensures later { P.faults input.old ≤ P.faults input.new }
         ensures itself { P.identity input.new ≡ P.identity input.old }
     {
         if let Some(payload) = self.held.take() {
             return Ok(Some(payload));
-        }
-        if self.is_over {
-            return Ok(None);
         }
         match input.next(alloc) {
             Ok(Some(payload)) => Ok(Some(payload)),
@@ -141,7 +158,7 @@ impl Feed {
     }
 }
 
-/// Appends payloads, until one finds the window full or the input has ended.
+/// Appends payloads, until one finds the window full or the input has ended. Where that was before, none is asked for.
 fn add_all<A: Appends, P: Payloads, O: Sink>(
     alloc: Global,
     name: &Name,
@@ -152,12 +169,19 @@ fn add_all<A: Appends, P: Payloads, O: Sink>(
     out: &mut O,
 ) -> Result<(), Ended>
     ensures held { (c : Config) (first : ℕ) (s : State) (far : Far) → IsInBounds c → Holds (A.stands sequencer.old) c first s far queues.old
-        → GoesOn name.now ⊥ 0 (A.stands sequencer.new) (λ now. now ≡ far) c first s queues.new (O.written out.old) (O.written out.new) result }
-    ensures cause { IfErr result (IsAppendEnding (P.faults input.old) (P.faults input.new) (O.faults out.old) (O.faults out.new) (O.written out.old) (O.written out.new)) }
+        → GoesOn name.now ⊥ (Adds name.now c (upcoming feed.old.held (P.coming input.old)) (upcoming feed.new.held (P.coming input.new))) (AddsUntil name.now c (upcoming feed.old.held (P.coming input.old))) (A.stands sequencer.new) (λ now. now ≡ far) c first s queues.new (O.written out.old) (O.written out.new) result }
+    ensures over { (origin : Option Input) → SameBehind origin (upcoming feed.old.held (P.coming input.old)) → WasOver origin feed.old.is_over (upcoming feed.old.held (P.coming input.old)) → WasOver origin feed.new.is_over (upcoming feed.new.held (P.coming input.new)) }
+    ensures behind { OnOk result (SameBehind (upcoming feed.old.held (P.coming input.old)) (upcoming feed.new.held (P.coming input.new))) }
+    ensures actor { A.own sequencer.new ≡ A.own sequencer.old }
+    ensures since { A.since sequencer.old sequencer.new }
+    ensures cause { IfErr result (IsAppendEnding (upcoming feed.old.held (P.coming input.old)) (P.faults input.old) (P.faults input.new) (O.faults out.old) (O.faults out.new) (O.written out.old) (O.written out.new)) }
     ensures input_later { P.faults input.old ≤ P.faults input.new }
     ensures itself { P.identity input.new ≡ P.identity input.old }
     ensures later { IsLater (O.faults out.old) (O.faults out.new) (O.written out.old) (O.written out.new) }
 {
+    if feed.is_over {
+        return Ok(());
+    }
     'payloads: for _ in 0..u64::MAX {
         let Some(payload) = feed.next(alloc, input)? else {
             return Ok(());
@@ -182,8 +206,12 @@ fn prepare<A: Appends, P: Payloads, O: Sink>(
     out: &mut O,
 ) -> Result<(), Ended>
     ensures held { (c : Config) (first : ℕ) (s : State) (far : Far) → IsInBounds c → Holds (A.stands sequencer.old) c first s far queues.old
-        → GoesOn name.now ⊥ (retries_of is_first) (A.stands sequencer.new) (λ now. now ≡ far) c first s queues.new (O.written out.old) (O.written out.new) result }
-    ensures cause { IfErr result (IsAppendEnding (P.faults input.old) (P.faults input.new) (O.faults out.old) (O.faults out.new) (O.written out.old) (O.written out.new)) }
+        → GoesOn name.now ⊥ (Prepares name.now c is_first (upcoming feed.old.held (P.coming input.old)) (upcoming feed.new.held (P.coming input.new))) (PreparesUntil name.now c is_first (upcoming feed.old.held (P.coming input.old))) (A.stands sequencer.new) (λ now. now ≡ far) c first s queues.new (O.written out.old) (O.written out.new) result }
+    ensures over { (origin : Option Input) → SameBehind origin (upcoming feed.old.held (P.coming input.old)) → WasOver origin feed.old.is_over (upcoming feed.old.held (P.coming input.old)) → WasOver origin feed.new.is_over (upcoming feed.new.held (P.coming input.new)) }
+    ensures behind { OnOk result (SameBehind (upcoming feed.old.held (P.coming input.old)) (upcoming feed.new.held (P.coming input.new))) }
+    ensures actor { A.own sequencer.new ≡ A.own sequencer.old }
+    ensures since { A.since sequencer.old sequencer.new }
+    ensures cause { IfErr result (IsAppendEnding (upcoming feed.old.held (P.coming input.old)) (P.faults input.old) (P.faults input.new) (O.faults out.old) (O.faults out.new) (O.written out.old) (O.written out.new)) }
     ensures input_later { P.faults input.old ≤ P.faults input.new }
     ensures itself { P.identity input.new ≡ P.identity input.old }
     ensures later { IsLater (O.faults out.old) (O.faults out.new) (O.written out.old) (O.written out.new) }
@@ -210,9 +238,13 @@ fn append_round<A: Appends, N: Nodes, P: Payloads, O: Sink>(
 ) -> Result<(), Ended>
     ensures held { (c : Config) (first : ℕ) (s : State) (far : Far) → IsInBounds c
         → N.tells nodes.old c far → Holds (A.stands sequencer.old) c first s far queues.old
-        → (N.silent nodes.new ≡ true) ⊎ GoesOn name.now (IsBroken (N.faults nodes.old) (N.faults nodes.new) (N.endings nodes.old) (N.endings nodes.new)) (retries_of is_first) (A.stands sequencer.new) (N.tells nodes.new c) c first s queues.new (O.written out.old) (O.written out.new) result }
+        → (N.silent nodes.new ≡ true) ⊎ GoesOn name.now (IsBroken (N.faults nodes.old) (N.faults nodes.new) (N.endings nodes.old) (N.endings nodes.new)) (Rounds name.now c first (members set.now) is_first (upcoming feed.old.held (P.coming input.old)) (upcoming feed.new.held (P.coming input.new))) (RoundsUntil name.now c is_first (upcoming feed.old.held (P.coming input.old))) (A.stands sequencer.new) (N.tells nodes.new c) c first s queues.new (O.written out.old) (O.written out.new) result }
     ensures silent { N.silent nodes.old ≡ true → N.silent nodes.new ≡ true }
-    ensures cause { IfErr result (IsAppendEnding (P.faults input.old) (P.faults input.new) (O.faults out.old) (O.faults out.new) (O.written out.old) (O.written out.new)) }
+    ensures over { (origin : Option Input) → SameBehind origin (upcoming feed.old.held (P.coming input.old)) → WasOver origin feed.old.is_over (upcoming feed.old.held (P.coming input.old)) → WasOver origin feed.new.is_over (upcoming feed.new.held (P.coming input.new)) }
+    ensures behind { OnOk result (SameBehind (upcoming feed.old.held (P.coming input.old)) (upcoming feed.new.held (P.coming input.new))) }
+    ensures actor { A.own sequencer.new ≡ A.own sequencer.old }
+    ensures since { A.since sequencer.old sequencer.new }
+    ensures cause { IfErr result (IsAppendEnding (upcoming feed.old.held (P.coming input.old)) (P.faults input.old) (P.faults input.new) (O.faults out.old) (O.faults out.new) (O.written out.old) (O.written out.new)) }
     ensures input_later { P.faults input.old ≤ P.faults input.new }
     ensures itself { P.identity input.new ≡ P.identity input.old }
     ensures later { IsLater (O.faults out.old) (O.faults out.new) (O.written out.old) (O.written out.new) }
@@ -242,14 +274,18 @@ pub fn append<A: Appends, N: Nodes, P: Payloads, O: Sink>(
     out: &mut O,
 ) -> Result<bool, Ended>
     // Where the nodes tell what stands there: all that was done are steps of the written machine from any state that the
-    // drive stands for, and the lines that were written are the sequencer's lines of those steps. It sends again before each
-    // round but the first. A message to a node is lost only where a call of the nodes failed or a node had ended.
+    // drive stands for, round by round: it sends again, but not in the first, payloads are appended, and the set's nodes are
+    // visited one after the other. The payloads that the machine took are the first ones that came, in their order; they are
+    // all where it is done, and where it comes to a line that is off. The lines that were written are the sequencer's lines of
+    // those steps. A message to a node is lost only where a call of the nodes failed or a node had ended.
     ensures held { (c : Config) (first : ℕ) (s : State) (far : Far) → IsInBounds c
         → N.tells nodes.old c far → Holds (A.stands sequencer.old) c first s far queues.old
-        → (N.silent nodes.new ≡ true) ⊎ TookRetries rounds (λ turns. GoesOn name.now (IsBroken (N.faults nodes.old) (N.faults nodes.new) (N.endings nodes.old) (N.endings nodes.new)) turns (A.stands sequencer.new) (N.tells nodes.new c) c first s queues.new (O.written out.old) (O.written out.new) result) result }
+        → (N.silent nodes.new ≡ true) ⊎ TookAppends name.now (IsBroken (N.faults nodes.old) (N.faults nodes.new) (N.endings nodes.old) (N.endings nodes.new)) (members set.now) (P.coming input.old) rounds (A.stands sequencer.new) (N.tells nodes.new c) c first s queues.new (O.written out.old) (O.written out.new) result }
     ensures settled { IfOk result (λ done. done ≡ true → (A.settled sequencer.new ≡ true) × (are_empty queues.new ≡ true)) }
     ensures itself { P.identity input.new ≡ P.identity input.old }
-    ensures cause { IfErr result (IsAppendEnding (P.faults input.old) (P.faults input.new) (O.faults out.old) (O.faults out.new) (O.written out.old) (O.written out.new)) }
+    ensures actor { A.own sequencer.new ≡ A.own sequencer.old }
+    ensures since { A.since sequencer.old sequencer.new }
+    ensures cause { IfErr result (IsAppendEnding (P.coming input.old) (P.faults input.old) (P.faults input.new) (O.faults out.old) (O.faults out.new) (O.written out.old) (O.written out.new)) }
 {
     let mut feed = Feed::new();
     'rounds: for number in 0..rounds {

@@ -1,5 +1,6 @@
 // A reader is driven until it is finished.
 ghost use Rattle.std.specs.Prelude.{◌≡◌, ◌⊎◌, ℕ, List, Bool, true, IfOk, IfErr, IfSome};
+ghost use Rattle.ld_ids.specs.Set.{members};
 ghost use Rattle.ld_config.specs.declared.config.Config.{Config};
 ghost use Rattle.ld_config.specs.Bounds.{IsInBounds};
 ghost use Rattle.ld_schedule.specs.declared.event.Event.TheVariants.{Poll};
@@ -10,7 +11,9 @@ ghost use Rattle.ld_bounds.specs.Sound.{IsSound};
 ghost use Rattle.ld_dial.specs.Far.{Far};
 ghost use Rattle.ld_rounds.specs.Ends.{IsSaid};
 ghost use Rattle.ld_rounds.specs.Acts.{IsActed};
-ghost use Rattle.ld_rounds.specs.Drives.{Holds, GoesOn, IsBroken, AreLater, TookTurns};
+ghost use Rattle.ld_rounds.specs.Drives.{Holds, GoesOn, IsBroken, AreLater};
+ghost use Rattle.ld_rounds.specs.Rounds.{IsOne, IsBegun, IsReadRound, IsReadPart};
+ghost use Rattle.ld_rounds.specs.Taking.{TookReads};
 ghost use Rattle.ld_rounds.specs.Endings.{IsEnding, IsLater};
 
 use crate::{Actor, Ended, Heard, Queues, round, tell};
@@ -30,7 +33,9 @@ pub trait Reads: Actor {
         ensures messages { IfOk result (λ heard. AreMessages heard.sends) }
         ensures polled { IfOk result (λ heard. (c : Config) (s : State) → IsInBounds c → IsSound c s → Self.stands self.old c s
             → IsActed (Self.stands self.new c) s heard.lines.items heard.sends (happens c s (Poll name.now))) }
-        ensures said { IfOk result (λ heard. IfSome heard.end (IsSaid heard.lines.items)) };
+        ensures said { IfOk result (λ heard. IfSome heard.end (IsSaid heard.lines.items)) }
+        ensures itself { Self.own self.new ≡ Self.own self.old }
+        ensures since { Self.since self.old self.new };
 
     /// Whether the one of the name is past its last number.
     fn is_finished(&self, name: &Name) -> bool
@@ -46,7 +51,9 @@ fn ask<R: Reads, O: Sink>(
     out: &mut O,
 ) -> Result<(), Ended>
     ensures held { (c : Config) (first : ℕ) (s : State) (far : Far) → IsInBounds c → Holds (R.stands reader.old) c first s far queues.old
-        → GoesOn name.now ⊥ 1 (R.stands reader.new) (λ now. now ≡ far) c first s queues.new (O.written out.old) (O.written out.new) result }
+        → GoesOn name.now ⊥ (IsOne (Poll name.now)) (λ e. IsBegun (Poll name.now)) (R.stands reader.new) (λ now. now ≡ far) c first s queues.new (O.written out.old) (O.written out.new) result }
+    ensures itself { R.own reader.new ≡ R.own reader.old }
+    ensures since { R.since reader.old reader.new }
     ensures cause { IfErr result (IsEnding (O.faults out.old) (O.faults out.new) (O.written out.old) (O.written out.new)) }
     ensures later { IsLater (O.faults out.old) (O.faults out.new) (O.written out.old) (O.written out.new) }
 {
@@ -68,8 +75,10 @@ fn read_round<R: Reads, N: Nodes, O: Sink>(
 ) -> Result<(), Ended>
     ensures held { (c : Config) (first : ℕ) (s : State) (far : Far) → IsInBounds c
         → N.tells nodes.old c far → Holds (R.stands reader.old) c first s far queues.old
-        → (N.silent nodes.new ≡ true) ⊎ GoesOn name.now (IsBroken (N.faults nodes.old) (N.faults nodes.new) (N.endings nodes.old) (N.endings nodes.new)) 1 (R.stands reader.new) (N.tells nodes.new c) c first s queues.new (O.written out.old) (O.written out.new) result }
+        → (N.silent nodes.new ≡ true) ⊎ GoesOn name.now (IsBroken (N.faults nodes.old) (N.faults nodes.new) (N.endings nodes.old) (N.endings nodes.new)) (IsReadRound name.now c first (members set.now)) (λ e. IsReadPart name.now c) (R.stands reader.new) (N.tells nodes.new c) c first s queues.new (O.written out.old) (O.written out.new) result }
     ensures silent { N.silent nodes.old ≡ true → N.silent nodes.new ≡ true }
+    ensures itself { R.own reader.new ≡ R.own reader.old }
+    ensures since { R.since reader.old reader.new }
     ensures cause { IfErr result (IsEnding (O.faults out.old) (O.faults out.new) (O.written out.old) (O.written out.new)) }
     ensures later { IsLater (O.faults out.old) (O.faults out.new) (O.written out.old) (O.written out.new) }
     ensures counts { AreLater (N.faults nodes.old) (N.faults nodes.new) (N.endings nodes.old) (N.endings nodes.new) }
@@ -92,12 +101,15 @@ pub fn read<R: Reads, N: Nodes, O: Sink>(
     out: &mut O,
 ) -> Result<bool, Ended>
     // Where the nodes tell what stands there: all that was done are steps of the written machine from any state that the
-    // drive stands for, and the lines that were written are the reader's lines of those steps. It polls once a round. A message
-    // to a node is lost only where a call of the nodes failed or a node had ended.
+    // drive stands for, round by round: it polls, and the set's nodes are visited one after the other. The lines that were
+    // written are the reader's lines of those steps. A message to a node is lost only where a call of the nodes failed or a
+    // node had ended.
     ensures held { (c : Config) (first : ℕ) (s : State) (far : Far) → IsInBounds c
         → N.tells nodes.old c far → Holds (R.stands reader.old) c first s far queues.old
-        → (N.silent nodes.new ≡ true) ⊎ TookTurns rounds (λ turns. GoesOn name.now (IsBroken (N.faults nodes.old) (N.faults nodes.new) (N.endings nodes.old) (N.endings nodes.new)) turns (R.stands reader.new) (N.tells nodes.new c) c first s queues.new (O.written out.old) (O.written out.new) result) result }
+        → (N.silent nodes.new ≡ true) ⊎ TookReads name.now (IsBroken (N.faults nodes.old) (N.faults nodes.new) (N.endings nodes.old) (N.endings nodes.new)) (members set.now) rounds (R.stands reader.new) (N.tells nodes.new c) c first s queues.new (O.written out.old) (O.written out.new) result }
     ensures finished { IfOk result (λ done. done ≡ true → R.finished reader.new name.now ≡ true) }
+    ensures itself { R.own reader.new ≡ R.own reader.old }
+    ensures since { R.since reader.old reader.new }
     ensures cause { IfErr result (IsEnding (O.faults out.old) (O.faults out.new) (O.written out.old) (O.written out.new)) }
     ensures later { IsLater (O.faults out.old) (O.faults out.new) (O.written out.old) (O.written out.new) }
 {

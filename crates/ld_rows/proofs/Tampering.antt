@@ -1,5 +1,5 @@
 -- Runs that were tampered with aren't safe.
-use Rattle.std.proofs.Common.{◌≡◌, ◌≤◌, ◌<◌, ◌⊎◌, ◌&&◌, ℕ, zero, suc, ◌+◌, ◌-◌, inl, inr, refl, ap, Bool, true, false, nat_lt, List, [], ◌∷◌, Some, slice_get, take, arith, subst}
+use Rattle.std.proofs.Common.{◌≡◌, ◌≤◌, ◌<◌, ◌⊎◌, ◌&&◌, ℕ, zero, suc, ◌+◌, ◌-◌, inl, inr, refl, ap, Bool, true, false, nat_lt, List, [], ◌∷◌, Option, Some, None, slice_get, take, arith, subst}
 use Rattle.ld_table.specs.Words.{any_of, all_of, how_many, numbers_from}
 use Rattle.ld_lsn.specs.Number.{numbered}
 use Rattle.ld_schedule.specs.declared.event.Event.{Event}
@@ -8,24 +8,26 @@ use Rattle.ld_transcript.specs.declared.line.Line.{Line}
 use Rattle.ld_transcript.specs.declared.line.Line.TheVariants as lines
 use Rattle.ld_transcript.specs.declared.line.GapKind.{GapKind}
 use Rattle.ld_transcript.specs.declared.line.GapKind.TheVariants as gaps
-use Rattle.ld_machine.specs.Facts.{Happened, Writes, Acks, Appends, GivesRecord, GivesGap, ReadsLog, stands_lost, Interval, opening, intervals}
+use Rattle.ld_machine.specs.Facts.{Happened, Writes, Acks, Appends, GivesRecord, GivesGap, ReadsLog, spec_fixed, stands_lost, Interval, opening, intervals}
 use Rattle.ld_machine.specs.Safe.{Safe, TilesFrom}
-use Rattle.ld_ids.specs.Choice.{choice_at}
+use Rattle.ld_machine.specs.Config.{first_spec}
+use Rattle.ld_ids.specs.declared.set.Spec.{Spec}
+use Rattle.ld_ids.specs.Choice.{choice_at, nodes_of}
 use Rattle.ld_ids.specs.Set.{members_from}
 use Rattle.ld_machine.specs.Disk.{is_found, keep_op, keep_end, load}
 use Rattle.ld_machine.specs.State.{finish}
 use Rattle.ld_machine.specs.Step.{delivers, happens}
-use Rattle.ld_msg.specs.Digest.{statement, with_page, with_lost, enough, best, digest_trim, top_place, plan_end, plan}
+use Rattle.ld_msg.specs.Digest.{statement, with_page, with_asks, with_lost, digest_lng, enough, best, digest_trim, top_place, plan_floor, plan_end, plan}
 use Rattle.ld_msg.specs.Network.{message}
 use Rattle.ld_msg.specs.Reader.{on_answer}
 use Rattle.ld_msg.specs.Reading.{is_loss, decide}
-use Rattle.ld_msg.specs.Register.{change, activate, close, draw}
+use Rattle.ld_msg.specs.Register.{change, activate, close, draw, look}
 use Rattle.ld_msg.specs.Sequencer.{after_close, is_ready, on_reply, on_retry, appending, activated}
 use Rattle.ld_op.specs.Answers.{store_decision, on_store, digest_decision, on_digest_ask, on_clean, on_trim, on_release, read_answer}
 use Rattle.ld_op.specs.Plain.{summary_at, apply, op_length}
 use Rattle.ld_op.specs.Ticks.{missing, is_missing, on_page, on_tick}
 use Rattle.ld_table.specs.Named.{same, find_named, put_named}
-use Rattle.ld_table.specs.Table.{find, put, keep, keep_keys}
+use Rattle.ld_table.specs.Table.{find, put, take_out, keep, keep_keys}
 use Rattle.ld_machine.specs.Run.{steps_of, history_from}
 use Rattle.ld_rows.specs.Schedules.{three_nodes, one_append, two_appends, sequencer_a, reader_r}
 use Rattle.ld_rows.specs.Tampered.{tampered_run, another_payload, a_hole, a_loss, a_trim, rewritten_run, without_gap, from_the_end}
@@ -57,25 +59,25 @@ abbrev run : (List ℕ → ℕ → Line) → List Happened
 run f = tampered_run f three_nodes one_append
 
 abbrev given : Line → Happened
-given x = record { event = events.Deliver 16; lines = x ∷ [] }
+given x = record { event = events.Deliver 16; lines = x ∷ []; made = None }
 
 abbrev Known : (List ℕ → ℕ → Line) → Type 0
 Known f = (slice_get (run f) 23 ≡ Some (given (f reader_r number))) × ReadsLog three_nodes (run f) 1 reader_r
 
 known_payload : Known another_payload
-unfolding choice_at members_from is_found keep_op keep_end load finish delivers happens statement with_page with_lost enough best digest_trim top_place plan_end plan message on_answer is_loss decide change activate close draw after_close is_ready on_reply on_retry appending activated store_decision on_store digest_decision on_digest_ask on_clean on_trim on_release read_answer summary_at apply op_length missing is_missing on_page on_tick same find_named put_named find put keep keep_keys steps_of history_from
+unfolding choice_at members_from is_found keep_op keep_end load finish delivers happens statement with_page with_asks with_lost digest_lng enough best digest_trim top_place plan_floor plan_end plan message on_answer is_loss decide change activate close draw look after_close is_ready on_reply on_retry appending activated store_decision on_store digest_decision on_digest_ask on_clean on_trim on_release read_answer summary_at apply op_length missing is_missing on_page on_tick same find_named put_named find put take_out keep keep_keys steps_of history_from
 known_payload = (refl, (record { log = 1; from = 1; until = number }, refl, refl))
 
 known_hole : Known a_hole
-unfolding choice_at members_from is_found keep_op keep_end load finish delivers happens statement with_page with_lost enough best digest_trim top_place plan_end plan message on_answer is_loss decide change activate close draw after_close is_ready on_reply on_retry appending activated store_decision on_store digest_decision on_digest_ask on_clean on_trim on_release read_answer summary_at apply op_length missing is_missing on_page on_tick same find_named put_named find put keep keep_keys steps_of history_from
+unfolding choice_at members_from is_found keep_op keep_end load finish delivers happens statement with_page with_asks with_lost digest_lng enough best digest_trim top_place plan_floor plan_end plan message on_answer is_loss decide change activate close draw look after_close is_ready on_reply on_retry appending activated store_decision on_store digest_decision on_digest_ask on_clean on_trim on_release read_answer summary_at apply op_length missing is_missing on_page on_tick same find_named put_named find put take_out keep keep_keys steps_of history_from
 known_hole = (refl, (record { log = 1; from = 1; until = number }, refl, refl))
 
 known_trim : Known a_trim
-unfolding choice_at members_from is_found keep_op keep_end load finish delivers happens statement with_page with_lost enough best digest_trim top_place plan_end plan message on_answer is_loss decide change activate close draw after_close is_ready on_reply on_retry appending activated store_decision on_store digest_decision on_digest_ask on_clean on_trim on_release read_answer summary_at apply op_length missing is_missing on_page on_tick same find_named put_named find put keep keep_keys steps_of history_from
+unfolding choice_at members_from is_found keep_op keep_end load finish delivers happens statement with_page with_asks with_lost digest_lng enough best digest_trim top_place plan_floor plan_end plan message on_answer is_loss decide change activate close draw look after_close is_ready on_reply on_retry appending activated store_decision on_store digest_decision on_digest_ask on_clean on_trim on_release read_answer summary_at apply op_length missing is_missing on_page on_tick same find_named put_named find put take_out keep keep_keys steps_of history_from
 known_trim = (refl, (record { log = 1; from = 1; until = number }, refl, refl))
 
 known_loss : Known a_loss
-unfolding choice_at members_from is_found keep_op keep_end load finish delivers happens statement with_page with_lost enough best digest_trim top_place plan_end plan message on_answer is_loss decide change activate close draw after_close is_ready on_reply on_retry appending activated store_decision on_store digest_decision on_digest_ask on_clean on_trim on_release read_answer summary_at apply op_length missing is_missing on_page on_tick same find_named put_named find put keep keep_keys steps_of history_from
+unfolding choice_at members_from is_found keep_op keep_end load finish delivers happens statement with_page with_asks with_lost digest_lng enough best digest_trim top_place plan_floor plan_end plan message on_answer is_loss decide change activate close draw look after_close is_ready on_reply on_retry appending activated store_decision on_store digest_decision on_digest_ask on_clean on_trim on_release read_answer summary_at apply op_length missing is_missing on_page on_tick same find_named put_named find put take_out keep keep_keys steps_of history_from
 known_loss = (refl, (record { log = 1; from = 1; until = number }, refl, refl))
 
 gap_given : (f : List ℕ → ℕ → Line) (kind : GapKind) → f reader_r number ≡ lines.Gap reader_r kind number number → Known f → GivesGap three_nodes (run f) 1 kind number number 23
@@ -91,7 +93,7 @@ appends_zero (events.Append name p) = same p (0 ∷ [])
 appends_zero _ = false
 
 no_zero : any_of (λ h. appends_zero h.event) (run another_payload) ≡ false
-unfolding choice_at members_from is_found keep_op keep_end load finish delivers happens statement with_page with_lost enough best digest_trim top_place plan_end plan message on_answer is_loss decide change activate close draw after_close is_ready on_reply on_retry appending activated store_decision on_store digest_decision on_digest_ask on_clean on_trim on_release read_answer summary_at apply op_length missing is_missing on_page on_tick same find_named put_named find put keep keep_keys steps_of history_from
+unfolding choice_at members_from is_found keep_op keep_end load finish delivers happens statement with_page with_asks with_lost digest_lng enough best digest_trim top_place plan_floor plan_end plan message on_answer is_loss decide change activate close draw look after_close is_ready on_reply on_retry appending activated store_decision on_store digest_decision on_digest_ask on_clean on_trim on_release read_answer summary_at apply op_length missing is_missing on_page on_tick same find_named put_named find put take_out keep keep_keys steps_of history_from
 no_zero = refl
 
 zero_appended : (h : Happened) (name : List ℕ) → h.event ≡ events.Append name (0 ∷ []) → appends_zero h.event ≡ true
@@ -108,7 +110,7 @@ payload_unsafe s =
 -- ---- a hole ----
 
 acked_here : Acks (run a_hole) 1 number 8
-unfolding choice_at members_from is_found keep_op keep_end load finish delivers happens statement with_page with_lost enough best digest_trim top_place plan_end plan message on_answer is_loss decide change activate close draw after_close is_ready on_reply on_retry appending activated store_decision on_store digest_decision on_digest_ask on_clean on_trim on_release read_answer summary_at apply op_length missing is_missing on_page on_tick same find_named put_named find put keep keep_keys steps_of history_from
+unfolding choice_at members_from is_found keep_op keep_end load finish delivers happens statement with_page with_asks with_lost digest_lng enough best digest_trim top_place plan_floor plan_end plan message on_answer is_loss decide change activate close draw look after_close is_ready on_reply on_retry appending activated store_decision on_store digest_decision on_digest_ask on_clean on_trim on_release read_answer summary_at apply op_length missing is_missing on_page on_tick same find_named put_named find put take_out keep keep_keys steps_of history_from
 acked_here = record { name = sequencer_a; told = (_, refl, 0, refl); of_log = refl }
 
 pub hole_unsafe : Safe three_nodes (run a_hole) → ⊥
@@ -121,7 +123,7 @@ is_trimmed (lines.Trimmed name t) = true
 is_trimmed _ = false
 
 none_trimmed : any_of (λ h. any_of is_trimmed h.lines) (run a_trim) ≡ false
-unfolding choice_at members_from is_found keep_op keep_end load finish delivers happens statement with_page with_lost enough best digest_trim top_place plan_end plan message on_answer is_loss decide change activate close draw after_close is_ready on_reply on_retry appending activated store_decision on_store digest_decision on_digest_ask on_clean on_trim on_release read_answer summary_at apply op_length missing is_missing on_page on_tick same find_named put_named find put keep keep_keys steps_of history_from
+unfolding choice_at members_from is_found keep_op keep_end load finish delivers happens statement with_page with_asks with_lost digest_lng enough best digest_trim top_place plan_floor plan_end plan message on_answer is_loss decide change activate close draw look after_close is_ready on_reply on_retry appending activated store_decision on_store digest_decision on_digest_ask on_clean on_trim on_release read_answer summary_at apply op_length missing is_missing on_page on_tick same find_named put_named find put take_out keep keep_keys steps_of history_from
 none_trimmed = refl
 
 pub trim_unsafe : Safe three_nodes (run a_trim) → ⊥
@@ -132,24 +134,32 @@ trim_unsafe s =
 
 -- ---- a loss ----
 
+-- not so many nodes are lost as what was fixed says, if anything was
+abbrev too_few : (ℕ → Bool) → Option Spec → Bool
+too_few lost None = true
+too_few lost (Some s) = nat_lt (how_many lost (nodes_of s)) s.r
+
 abbrev few : List Happened → ℕ → Bool
-few hs j = nat_lt (how_many (stands_lost 1 1 (take (j + 1) hs)) (1 ∷ 2 ∷ 3 ∷ [])) 2
+few hs j = too_few (stands_lost 1 1 (take (j + 1) hs)) (spec_fixed 1 1 (take (j + 1) hs) (first_spec three_nodes 1))
 
 abbrev always_few : List Happened → Bool
 always_few hs = all_of (few hs) (numbers_from 0 24)
 
 few_lost : always_few (run a_loss) ≡ true
-unfolding choice_at members_from is_found keep_op keep_end load finish delivers happens statement with_page with_lost enough best digest_trim top_place plan_end plan message on_answer is_loss decide change activate close draw after_close is_ready on_reply on_retry appending activated store_decision on_store digest_decision on_digest_ask on_clean on_trim on_release read_answer summary_at apply op_length missing is_missing on_page on_tick same find_named put_named find put keep keep_keys steps_of history_from
+unfolding choice_at members_from is_found keep_op keep_end load finish delivers happens statement with_page with_asks with_lost digest_lng enough best digest_trim top_place plan_floor plan_end plan message on_answer is_loss decide change activate close draw look after_close is_ready on_reply on_retry appending activated store_decision on_store digest_decision on_digest_ask on_clean on_trim on_release read_answer summary_at apply op_length missing is_missing on_page on_tick same find_named put_named find put take_out keep keep_keys steps_of history_from
 few_lost = refl
 
-not_few : (n : ℕ) → 2 ≤ n → nat_lt n 2 ≡ false
-not_few n h = grind arith
+as_many : (n m : ℕ) → m ≤ n → nat_lt n m ≡ false
+as_many n m h = grind arith
+
+not_few : (lost : ℕ → Bool) (o : Option Spec) (s : Spec) → o ≡ Some s → s.r ≤ how_many lost (nodes_of s) → too_few lost o ≡ false
+not_few lost o s is many = rw is (as_many (how_many lost (nodes_of s)) s.r many)
 
 pub loss_unsafe : Safe three_nodes (run a_loss) → ⊥
 unfolding members_from
 loss_unsafe s =
     let found = s.losses 1 number number number 23 (gap_given a_loss gaps.DataLoss refl known_loss) (omega arith) (omega arith) in
-    clash (everywhere (few (run a_loss)) 0 24 found.0 few_lost (omega arith) (omega arith)) (not_few _ found.2)
+    clash (everywhere (few (run a_loss)) 0 24 found.0 few_lost (omega arith) (omega arith)) (not_few _ _ found.2.0 found.2.1 found.2.2)
 
 -- ---- a space between what a reader got ----
 
@@ -157,11 +167,11 @@ abbrev spaced : List Happened
 spaced = rewritten_run without_gap three_nodes one_append
 
 opened_here : opening three_nodes reader_r spaced ≡ Some (record { log = 1; from = 1; until = number })
-unfolding choice_at members_from is_found keep_op keep_end load finish delivers happens statement with_page with_lost enough best digest_trim top_place plan_end plan message on_answer is_loss decide change activate close draw after_close is_ready on_reply on_retry appending activated store_decision on_store digest_decision on_digest_ask on_clean on_trim on_release read_answer summary_at apply op_length missing is_missing on_page on_tick same find_named put_named find put keep keep_keys steps_of history_from
+unfolding choice_at members_from is_found keep_op keep_end load finish delivers happens statement with_page with_asks with_lost digest_lng enough best digest_trim top_place plan_floor plan_end plan message on_answer is_loss decide change activate close draw look after_close is_ready on_reply on_retry appending activated store_decision on_store digest_decision on_digest_ask on_clean on_trim on_release read_answer summary_at apply op_length missing is_missing on_page on_tick same find_named put_named find put take_out keep keep_keys steps_of history_from
 opened_here = refl
 
 got_here : intervals reader_r spaced ≡ record { low = number; high = number } ∷ []
-unfolding choice_at members_from is_found keep_op keep_end load finish delivers happens statement with_page with_lost enough best digest_trim top_place plan_end plan message on_answer is_loss decide change activate close draw after_close is_ready on_reply on_retry appending activated store_decision on_store digest_decision on_digest_ask on_clean on_trim on_release read_answer summary_at apply op_length missing is_missing on_page on_tick same find_named put_named find put keep keep_keys steps_of history_from
+unfolding choice_at members_from is_found keep_op keep_end load finish delivers happens statement with_page with_asks with_lost digest_lng enough best digest_trim top_place plan_floor plan_end plan message on_answer is_loss decide change activate close draw look after_close is_ready on_reply on_retry appending activated store_decision on_store digest_decision on_digest_ask on_clean on_trim on_release read_answer summary_at apply op_length missing is_missing on_page on_tick same find_named put_named find put take_out keep keep_keys steps_of history_from
 got_here = refl
 
 pub space_unsafe : Safe three_nodes spaced → ⊥
@@ -179,11 +189,11 @@ abbrev taken : ℕ → ℕ
 taken esn = numbered 2 0 - numbered 1 esn
 
 first_here : Writes falling 4 (lines.Appended sequencer_a (taken 1))
-unfolding choice_at members_from is_found keep_op keep_end load finish delivers happens statement with_page with_lost enough best digest_trim top_place plan_end plan message on_answer is_loss decide change activate close draw after_close is_ready on_reply on_retry appending activated store_decision on_store digest_decision on_digest_ask on_clean on_trim on_release read_answer summary_at apply op_length missing is_missing on_page on_tick same find_named put_named find put keep keep_keys steps_of history_from
+unfolding choice_at members_from is_found keep_op keep_end load finish delivers happens statement with_page with_asks with_lost digest_lng enough best digest_trim top_place plan_floor plan_end plan message on_answer is_loss decide change activate close draw look after_close is_ready on_reply on_retry appending activated store_decision on_store digest_decision on_digest_ask on_clean on_trim on_release read_answer summary_at apply op_length missing is_missing on_page on_tick same find_named put_named find put take_out keep keep_keys steps_of history_from
 first_here = (_, refl, 0, refl)
 
 second_here : Writes falling 5 (lines.Appended sequencer_a (taken 2))
-unfolding choice_at members_from is_found keep_op keep_end load finish delivers happens statement with_page with_lost enough best digest_trim top_place plan_end plan message on_answer is_loss decide change activate close draw after_close is_ready on_reply on_retry appending activated store_decision on_store digest_decision on_digest_ask on_clean on_trim on_release read_answer summary_at apply op_length missing is_missing on_page on_tick same find_named put_named find put keep keep_keys steps_of history_from
+unfolding choice_at members_from is_found keep_op keep_end load finish delivers happens statement with_page with_asks with_lost digest_lng enough best digest_trim top_place plan_floor plan_end plan message on_answer is_loss decide change activate close draw look after_close is_ready on_reply on_retry appending activated store_decision on_store digest_decision on_digest_ask on_clean on_trim on_release read_answer summary_at apply op_length missing is_missing on_page on_tick same find_named put_named find put take_out keep keep_keys steps_of history_from
 second_here = (_, refl, 0, refl)
 
 pub fall_unsafe : Safe three_nodes falling → ⊥

@@ -21,6 +21,10 @@ three_nodes = one_log 3 2
 abbrev pub five_nodes : Config
 five_nodes = one_log 5 3
 
+-- three of four nodes keep a log at first
+abbrev pub four_nodes : Config
+four_nodes = record { nodes = first_nodes 4; logs = record { log = 1; set = first_nodes 3; r = 2; extras = 0 } ∷ [] }
+
 abbrev pub sequencer_a : List ℕ
 sequencer_a = codes "a"
 
@@ -41,6 +45,17 @@ abbrev pub one_append : List Event
 one_append =
     events.Format 1 ∷ events.Format 2 ∷ events.Format 3 ∷ events.Activate sequencer_a 1 ∷ events.Append sequencer_a (104 ∷ 105 ∷ []) ∷ events.Flow 10 ∷
     events.Open reader_r 1 1 (numbered 1 1) ∷ events.Poll reader_r ∷ events.Flow 20 ∷ []
+
+-- nodes 1 and 4
+abbrev pub first_and_fourth : List Bool
+first_and_fourth = true ∷ false ∷ false ∷ true ∷ replicate 12 false
+
+-- a record is stored on nodes of the first set, the next epoch's on the second set's, and both are read
+abbrev pub moved : List Event
+moved =
+    events.Format 1 ∷ events.Format 2 ∷ events.Format 3 ∷ events.Format 4 ∷ events.Activate sequencer_a 1 ∷ events.Append sequencer_a (1 ∷ []) ∷ events.Flow 99 ∷
+    events.Set 1 2 0 first_and_fourth ∷ events.Activate sequencer_b 1 ∷ events.Append sequencer_b (2 ∷ []) ∷ events.Flow 99 ∷
+    events.Open reader_r 1 (numbered 1 1) (numbered 2 1) ∷ events.Poll reader_r ∷ events.Flow 99 ∷ []
 
 -- two records are appended, one after the other
 abbrev pub two_appends : List Event

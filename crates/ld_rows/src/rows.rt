@@ -3,14 +3,21 @@ ghost use Rattle.std.specs.Prelude.{◌≡◌, codes, [], ◌∷◌, true, false
 ghost use Rattle.ld_schedule.specs.declared.event.Picture.TheVariants as pictures;
 ghost use Rattle.ld_machine.specs.Run.{transcript};
 ghost use Rattle.ld_maker.specs.Draw.{drawn, value_of};
-ghost use Rattle.ld_rows.specs.Schedules.{three_nodes, five_nodes, one_append, half_stored, cut_off, trimmed, rebuilt, lost, hole_between, two_recoveries, register_fault, torn_rebuild, torn_rebuild_asked, torn_rebuild_heard, torn_later, torn_later_asked};
-ghost use Rattle.ld_rows.specs.Texts.{one_append_text, half_stored_text, cut_off_text, trimmed_text, rebuilt_text, lost_text, hole_between_text, two_recoveries_text, register_fault_text, torn_rebuild_text};
+ghost use Rattle.ld_rows.specs.Schedules.{three_nodes, five_nodes, four_nodes, one_append, moved, half_stored, cut_off, trimmed, rebuilt, lost, hole_between, two_recoveries, register_fault, torn_rebuild, torn_rebuild_asked, torn_rebuild_heard, torn_later, torn_later_asked};
+ghost use Rattle.ld_rows.specs.Texts.{one_append_text, moved_text, half_stored_text, cut_off_text, trimmed_text, rebuilt_text, lost_text, hole_between_text, two_recoveries_text, register_fault_text, torn_rebuild_text};
 ghost use Rattle.ld_rows.specs.Told.{told_text, made_summary, has_loss, kept_by_call, lost_states, found_lost, asks_again};
 
 /// A record goes to two of three nodes, is acknowledged and released, and a reader gets it behind the bridge of
 /// epoch 0: the whole transcript.
 pub fn one_record_is_read()
     ensures { transcript three_nodes one_append ≡ one_append_text }
+{}
+
+/// A log moves to other nodes: the record of its first epoch is on nodes of the first set, the one of its second epoch
+/// on those of the second set, its recovery asks the first set, and a reader asks of each epoch the set that is its own:
+/// the whole transcript.
+pub fn a_log_moves()
+    ensures { transcript four_nodes moved ≡ moved_text }
 {}
 
 /// A record that one node of two stored is not acknowledged, and a reader waits.

@@ -3,7 +3,6 @@ use Rattle.std.proofs.Common.{◌≡◌, ◌∙◌, ◌≤◌, ◌<◌, ℕ, ◌
 use Rattle.std.proofs.lemmas.Bool.{and_parts, eqb-true, leb-true}
 use Rattle.ld_lsn.specs.Number.{epoch_of, esn_of, last_esn}
 use Rattle.ld_config.specs.declared.config.Config.{Config}
-use Rattle.ld_schedule.specs.declared.event.Event.{Event}
 use Rattle.ld_msg.specs.declared.msg.What.{What}
 use Rattle.ld_msg.specs.declared.msg.What.TheVariants.{Bridge}
 use Rattle.ld_msg.specs.declared.msg.Who.{Who}
@@ -14,7 +13,7 @@ use Rattle.ld_msg.specs.declared.msg.Body.TheVariants as bodies
 use Rattle.ld_msg.specs.Register.{Register}
 use Rattle.ld_msg.specs.Digest.{Told, is_bridge, plan_item, plan_end, digest_trim}
 use Rattle.ld_op.specs.Handles.{ballot_of}
-use Rattle.ld_machine.specs.Config.{spec_in}
+use Rattle.ld_machine.specs.Config.{spec_of}
 use Rattle.ld_machine.specs.Facts.{Happened}
 use Rattle.ld_machine.specs.World.{World, Made, In, begin, chosen, item, item_in, append_in, digest_in, is_made, what_sent, stored_what, stores_at, is_sequencer}
 use Rattle.ld_machine.specs.Invariant.{Agrees}
@@ -24,10 +23,10 @@ use Rattle.ld_safety.proofs.Traces.{later}
 use Rattle.ld_safety.proofs.Numbers.{one_payload}
 use Rattle.ld_safety.proofs.Base.{Base}
 use Rattle.ld_safety.proofs.GivenSteps.{BaseGiven}
-use Rattle.ld_safety.proofs.Plans.{plan_shape, top_most, trim_place_most, end_most}
+use Rattle.ld_safety.proofs.Plans.{plan_shape, top_most, trim_place_most, end_most, floor_cases}
 use Rattle.ld_safety.proofs.Protocol.{plan_of, Says, Chosen, AppendsOnce, sequencer_who}
-use Rattle.ld_safety.proofs.Said.{Reached, Said}
-use Rattle.ld_safety.proofs.Settled.{TrimFine, CloseFine, ShowFine, ReleaseFine}
+use Rattle.ld_safety.proofs.Said.{Reached, Said, SaidHere}
+use Rattle.ld_safety.proofs.Settled.{TrimFine, CloseFine, ShowFine, ReleaseFine, LngFine}
 use Rattle.ld_safety.proofs.Agreement.{agrees}
 use Rattle.ld_safety.proofs.Plannings.{plan_facts}
 use Rattle.ld_safety.proofs.Along.{Along}
@@ -73,8 +72,8 @@ module _ (c : Config) (hs : List Happened) (w : World) (B : Base c hs w) (R : Al
 
   pub store_said : (l n : ℕ) (x : What) → append_in l n w.state.network.sent ≡ Some x → Said hs w.made w.state.register l (epoch_of n) n x
   store_said l n x h = let s = found_store l n w.state.network.sent x h in
-      let z : carried.BodyOk (Said hs w.made w.state.register) (TrimFine c hs w.state.network.sent w.state.register) (CloseFine c hs w.made w.state.network.sent w.state.register) (Reached w.state.register) (ShowFine c hs w.made w.state.network.sent w.state.register) (ReleaseFine c hs w.state.network.sent w.state.register) s.message.log s.message.from (bodies.Store n s.lng x) = subst (carried.BodyOk (Said hs w.made w.state.register) (TrimFine c hs w.state.network.sent w.state.register) (CloseFine c hs w.made w.state.network.sent w.state.register) (Reached w.state.register) (ShowFine c hs w.made w.state.network.sent w.state.register) (ReleaseFine c hs w.state.network.sent w.state.register) s.message.log s.message.from) s.body (R.said.sent s.message s.there) in
-      subst (λ k. Said hs w.made w.state.register k (epoch_of n) n x) s.log (subst (λ (k : Who). Said hs w.made w.state.register s.message.log (ballot_of k) n x) s.from z)
+      let z : carried.BodyOk (Said hs w.made w.state.register) (TrimFine c hs w.state.network.sent w.state.register) (CloseFine c hs w.made w.state.network.sent w.state.register) (Reached w.state.register) (ShowFine c hs w.made w.state.network.sent w.state.register) (ReleaseFine c hs w.state.network.sent w.state.register) (SaidHere hs w.made w.state.register) (LngFine c hs w.state.network.sent w.state.register) s.message.log s.message.from (bodies.Store n s.lng x) = subst (carried.BodyOk (Said hs w.made w.state.register) (TrimFine c hs w.state.network.sent w.state.register) (CloseFine c hs w.made w.state.network.sent w.state.register) (Reached w.state.register) (ShowFine c hs w.made w.state.network.sent w.state.register) (ReleaseFine c hs w.state.network.sent w.state.register) (SaidHere hs w.made w.state.register) (LngFine c hs w.state.network.sent w.state.register) s.message.log s.message.from) s.body (R.said.sent s.message s.there) in
+      subst (λ k. Said hs w.made w.state.register k (epoch_of n) n x) s.log (subst (λ (k : Who). Said hs w.made w.state.register s.message.log (ballot_of k) n x) s.from z.0)
 
   bridge_no : (x : What) → x ≡ Bridge → is_bridge x ≡ false → ⊥
   bridge_no x q n = let z : is_bridge x ≡ true = ap is_bridge q in cc
@@ -82,11 +81,10 @@ module _ (c : Config) (hs : List Happened) (w : World) (B : Base c hs w) (R : Al
   -- a plan ends in its epoch
   end_here : (l e b : ℕ) (d : List Told) → In (plan_of l e b d) w.made → plan_end e d ≤ last_esn
   end_here l e b d i = let t = trim_place_most e (digest_trim d) in let p = R.plans l e b d i in
-      let z = end_most e d (last_esn - 1) (top_most (last_esn - 1) d (λ u f j k n. let y = ((p.digest.told u j).frozen f k).place.below (λ q. bridge_no f.what q n) in omega arith)) t in omega arith
+      let z = end_most e d (last_esn - 1) (top_most (last_esn - 1) d (λ u f j k n. let y = ((p.digest.told u j).frozen f k).place.below (λ q. bridge_no f.what q n) in omega arith)) t p.good_most in omega arith
 
   record Told_here (l n b : ℕ) (x : What) : Type 0 where
     says : Says hs w.made l b n x
-    above : 0 < esn_of n
     below : esn_of n < last_esn
 
   by_plan : (l n b : ℕ) (x : What) → (x ≡ Bridge → ⊥) → (o : Option (List Told)) → digest_in l (epoch_of n) b w.made ≡ o → item_in (epoch_of n) (esn_of n) o ≡ Some x → Told_here l n b x
@@ -95,21 +93,20 @@ module _ (c : Config) (hs : List Happened) (w : World) (B : Base c hs w) (R : Al
       let i = found_plan l (epoch_of n) b w.made d q in
       let p = R.plans l (epoch_of n) b d i in
       let s = plan_shape (epoch_of n) d (esn_of n) x h in
-      let a = s.above in let en = end_here l (epoch_of n) b d i in
+      let en = end_here l (epoch_of n) b d i in
       record {
         says = inr (record { later = p.later; digest = d; planned = i; item = h });
-        above = omega arith;
         below = elim s.kind [ inl k ↦ (let y = k.0 in omega arith) | inr k ↦ absurd (nb k.1) ];
       }
 
   told_here : (l n b : ℕ) (x : What) → (x ≡ Bridge → ⊥) → item w l n b ≡ Some x → Told_here l n b x
   unfolding item
   told_here l n b x nb h = elim (branch (b == epoch_of n) (append_in l n w.state.network.sent) (item_in (epoch_of n) (esn_of n) (digest_in l (epoch_of n) b w.made)) (Some x) h) [
-    | inl a ↦ (let s = store_said l n x a.1 in subst (λ k. Told_here l n k x) (sym (eqb-true _ _ a.0)) (record { says = s.says; above = s.given.place.above; below = s.given.place.below nb }))
+    | inl a ↦ (let s = store_said l n x a.1 in subst (λ k. Told_here l n k x) (sym (eqb-true _ _ a.0)) (record { says = s.says; below = s.given.place.below nb }))
     | inr a ↦ by_plan l n b x nb (digest_in l (epoch_of n) b w.made) refl a.1
   ]
 
-  chosen_here : (l n b : ℕ) → chosen c w l n b ≡ true → Chosen (spec_in l c.logs) w.state.network.sent l n b
+  chosen_here : (l n b : ℕ) → chosen c w l n b ≡ true → Chosen (spec_of c w.state.register l (epoch_of n)) w.state.network.sent l n b
   unfolding chosen
   chosen_here l n b h = leb-true _ _ h
 
@@ -122,9 +119,9 @@ module _ (c : Config) (hs : List Happened) (w : World) (B : Base c hs w) (R : Al
   agree_here l n b g x d ch it nb lt pl =
       let t = told_here l n b x nb it in
       let i = found_plan l (epoch_of n) g w.made d pl in
-      elim (agrees hs w.made w.state.network.sent (spec_in l c.logs) once R.once l (λ e. Unit {0}) (λ e a f u j. plan_facts c hs w.state.network.sent w.made w.state.register l e a f (R.plans l e a f j)) n b g x d tt t.above t.below lt i (chosen_here l n b ch) t.says nb) [
+      elim (agrees hs w.made w.state.network.sent (spec_of c w.state.register l) once R.once l (λ e. Unit {0}) (λ e a f u j. plan_facts c hs w.state.network.sent w.made w.state.register l e a f (R.plans l e a f j)) n b g x d tt t.below lt i (chosen_here l n b ch) t.says nb) [
         | inl z ↦ inl (item_is l n g d x (R.plans l (epoch_of n) g d i).later pl z)
-        | inr z ↦ inr z
+        | inr z ↦ inr (floor_cases (epoch_of n) d (esn_of n) z)
       ]
 
 pub recoveries_agree : (c : Config) (es : List Move) → Agrees c (world_after c (begin c) es)

@@ -1,4 +1,4 @@
--- Recoveries agree: what as many nodes as there are copies stored for a ballot is the item of each plan of a greater one, unless it is trimmed there.
+-- Recoveries agree: what as many nodes as there are copies stored for a ballot is the item of each plan of a greater one, unless it is trimmed or known good there.
 use Rattle.std.proofs.Common.{◌≡◌, ◌∙◌, ◌⊎◌, ◌≤◌, ◌<◌, ℕ, zero, suc, ◌-◌, min, inl, inr, refl, ap, sym, subst, Bool, true, false, not, ◌&&◌, nat_lt, if◌then◌else◌, List, [], ◌∷◌, map, length, Some, arith}
 use Rattle.std.proofs.lemmas.Bool.{and_parts, cases_order, cases_lt, ltb-true, ltb-false}
 use Rattle.ld_table.specs.Words.{how_many}
@@ -8,11 +8,11 @@ use Rattle.ld_msg.specs.declared.msg.What.{What}
 use Rattle.ld_msg.specs.declared.msg.What.TheVariants.{Rec, Hole, Bridge}
 use Rattle.ld_msg.specs.declared.msg.Entry.{Entry}
 use Rattle.ld_msg.specs.declared.msg.Msg.{Msg}
-use Rattle.ld_msg.specs.Digest.{Told, best, content, record_or_hole, is_bridge, is_content, plan_item, plan_end, trim_place, digest_trim}
+use Rattle.ld_msg.specs.Digest.{Told, best, content, record_or_hole, is_bridge, is_content, plan_item, plan_end, plan_floor, trim_place, digest_trim, digest_lng}
 use Rattle.ld_machine.specs.Facts.{Happened}
 use Rattle.ld_machine.specs.World.{Made, In}
 use Rattle.ld_safety.proofs.Lists.{count_share, cond_both}
-use Rattle.ld_safety.proofs.Plans.{best_of, best_least, ranked, trim_least, top_least, plan_shape, plan_between, content_no_bridge, no_bridge, end_above_trim, end_above_top}
+use Rattle.ld_safety.proofs.Plans.{best_of, best_least, ranked, trim_least, top_least, plan_shape, plan_between, content_no_bridge, no_bridge, floor_trim, floor_lng, end_above_floor, end_above_top}
 use Rattle.ld_safety.proofs.Protocol.{plan_of, Says, PlansOnce, AppendsOnce, says_once, tells_stored, told_stored, Chosen, Ends, Kept, PlanFacts}
 
 -- ---- counts ----
@@ -45,10 +45,10 @@ content_is f h = by_what f.what h where
   by_what Hole g = refl
   by_what Bridge g = absurd cc
 
-module _ (hs : List Happened) (made : List Made) (sent : List Msg) (s : Spec) (A : AppendsOnce hs) (P : PlansOnce made)
-    (l : ℕ) (O : ℕ → Type 0) (F : (e b : ℕ) (d : List Told) → O e → In (plan_of l e b d) made → PlanFacts hs made sent s l e b d) where
+module _ (hs : List Happened) (made : List Made) (sent : List Msg) (s : ℕ → Spec) (A : AppendsOnce hs) (P : PlansOnce made)
+    (l : ℕ) (O : ℕ → Type 0) (F : (e b : ℕ) (d : List Told) → O e → In (plan_of l e b d) made → PlanFacts hs made sent (s e) l e b d) where
   -- a node that both stored n for b and is whole in g's digest shows g what it had of n
-  shared : (n b g : ℕ) (d : List Told) → O (epoch_of n) → 0 < esn_of n → b < g → In (plan_of l (epoch_of n) g d) made → Chosen s sent l n b → (t : Told) × In t d × Kept made l g t.trim t.entries n b
+  shared : (n b g : ℕ) (d : List Told) → O (epoch_of n) → digest_lng d < esn_of n → b < g → In (plan_of l (epoch_of n) g d) made → Chosen (s (epoch_of n)) sent l n b → (t : Told) × In t d × Kept made l g t.trim t.entries n b
   shared n b g d oe p lt i ch =
       let f = F (epoch_of n) g d oe i in
       let e = f.enough in
@@ -60,16 +60,16 @@ module _ (hs : List Happened) (made : List Made) (sent : List Msg) (s : Spec) (A
       let w = and_parts r.0.whole (not r.0.lost) r.3 in
       (r.0, r.1, (f.digest.told r.0 r.1).seen w.0 n b refl p lt (told_stored sent l n b r.0.node r.2))
 
-  -- x is at n in each plan between b and g, unless it is trimmed there
+  -- x is at n in each plan between b and g, unless it is trimmed or known good there
   Older : ℕ → ℕ → ℕ → What → Type 0
-  Older n b g x = (a : ℕ) (d : List Told) → b < a → a < g → In (plan_of l (epoch_of n) a d) made → (plan_item (epoch_of n) d (esn_of n) ≡ Some x) ⊎ (esn_of n ≤ trim_place (epoch_of n) (digest_trim d))
+  Older n b g x = (a : ℕ) (d : List Told) → b < a → a < g → In (plan_of l (epoch_of n) a d) made → (plan_item (epoch_of n) d (esn_of n) ≡ Some x) ⊎ (esn_of n ≤ plan_floor (epoch_of n) d)
 
   -- no plan between ends below n
   no_end : (n b g : ℕ) (x : What) → Older n b g x → (x ≡ Bridge → ⊥) → Ends made l b g n → ⊥
   unfolding Older
   no_end n b g x old nb en = elim (old en.ballot en.digest en.above en.below en.planned) [
     | inl q ↦ let h = plan_shape (epoch_of n) en.digest (esn_of n) x q in let u = en.before in elim h.kind [ inl k ↦ (let v = k.0 in omega arith) | inr k ↦ nb k.1 ]
-    | inr q ↦ let u = en.before in let v = end_above_trim (epoch_of n) en.digest in omega arith
+    | inr q ↦ let u = en.before in let v = end_above_floor (epoch_of n) en.digest in omega arith
   ]
 
   -- what a ballot from b on says of n is x
@@ -119,9 +119,9 @@ module _ (hs : List Happened) (made : List Made) (sent : List Msg) (s : Spec) (A
             elim h.kind [ inl k ↦ (let y = k.0 in omega arith) | inr k ↦ (let y = k.0 in omega arith) ]
 
   -- one step of the induction
-  agrees_step : (n b g : ℕ) (x : What) (d : List Told) → Older n b g x → O (epoch_of n) → 0 < esn_of n → esn_of n < last_esn → b < g → In (plan_of l (epoch_of n) g d) made → Chosen s sent l n b → Says hs made l b n x → (x ≡ Bridge → ⊥)
-      → trim_place (epoch_of n) (digest_trim d) < esn_of n → plan_item (epoch_of n) d (esn_of n) ≡ Some x
-  agrees_step n b g x d old oe pos small lt i ch sx nb above = shown (shared n b g d oe pos lt i ch) where
+  agrees_step : (n b g : ℕ) (x : What) (d : List Told) → Older n b g x → O (epoch_of n) → esn_of n < last_esn → b < g → In (plan_of l (epoch_of n) g d) made → Chosen (s (epoch_of n)) sent l n b → Says hs made l b n x → (x ≡ Bridge → ⊥)
+      → plan_floor (epoch_of n) d < esn_of n → plan_item (epoch_of n) d (esn_of n) ≡ Some x
+  agrees_step n b g x d old oe small lt i ch sx nb above = shown (shared n b g d oe (let z = floor_lng (epoch_of n) d in omega arith) lt i ch) where
     by_best : (f : Entry) → b ≤ f.ballot → best n d ≡ Some f → plan_item (epoch_of n) d (esn_of n) ≡ Some x
     by_best f bf e =
         let r = best_of n d f e in
@@ -140,21 +140,21 @@ module _ (hs : List Happened) (made : List Made) (sent : List Msg) (s : Spec) (A
 
     shown : ((t : Told) × In t d × Kept made l g t.trim t.entries n b) → plan_item (epoch_of n) d (esn_of n) ≡ Some x
     shown r = elim r.2 [
-      | inl k ↦ absurd (let a = trim_covers (epoch_of n) n r.0.trim refl small k in let c = trim_place_up (epoch_of n) r.0.trim (digest_trim d) (trim_least d r.0 r.1) in omega arith)
+      | inl k ↦ absurd (let a = trim_covers (epoch_of n) n r.0.trim refl small k in let c = trim_place_up (epoch_of n) r.0.trim (digest_trim d) (trim_least d r.0 r.1) in let v = floor_trim (epoch_of n) d in omega arith)
       | inr (inl k) ↦ let z = best_least n d r.0 k.entry r.1 k.there k.number in let y = ranked (best n d) k.entry.ballot z in let u = k.least in let v = y.2 in by_best y.0 (omega arith) y.1
       | inr (inr k) ↦ absurd (no_end n b g x old nb k)
     ]
 
-  agrees_below : (k n b g : ℕ) (x : What) (d : List Told) → g ≤ k → O (epoch_of n) → 0 < esn_of n → esn_of n < last_esn → b < g → In (plan_of l (epoch_of n) g d) made → Chosen s sent l n b → Says hs made l b n x → (x ≡ Bridge → ⊥)
-      → (plan_item (epoch_of n) d (esn_of n) ≡ Some x) ⊎ (esn_of n ≤ trim_place (epoch_of n) (digest_trim d))
+  agrees_below : (k n b g : ℕ) (x : What) (d : List Told) → g ≤ k → O (epoch_of n) → esn_of n < last_esn → b < g → In (plan_of l (epoch_of n) g d) made → Chosen (s (epoch_of n)) sent l n b → Says hs made l b n x → (x ≡ Bridge → ⊥)
+      → (plan_item (epoch_of n) d (esn_of n) ≡ Some x) ⊎ (esn_of n ≤ plan_floor (epoch_of n) d)
   unfolding Older
-  agrees_below zero n b g x d le oe pos small lt i ch sx nb = absurd (omega arith)
-  agrees_below (suc k) n b g x d le oe pos small lt i ch sx nb = elim (cases_lt (trim_place (epoch_of n) (digest_trim d)) (esn_of n)) [
-    | inl above ↦ inl (agrees_step n b g x d (λ a f ba ag j. agrees_below k n b a x f (omega arith) oe pos small ba j ch sx nb) oe pos small lt i ch sx nb above)
+  agrees_below zero n b g x d le oe small lt i ch sx nb = absurd (omega arith)
+  agrees_below (suc k) n b g x d le oe small lt i ch sx nb = elim (cases_lt (plan_floor (epoch_of n) d) (esn_of n)) [
+    | inl above ↦ inl (agrees_step n b g x d (λ a f ba ag j. agrees_below k n b a x f (omega arith) oe small ba j ch sx nb) oe small lt i ch sx nb above)
     | inr below ↦ inr below
   ]
 
-  -- what is chosen is the item of each plan of a greater ballot, or is trimmed there
-  pub agrees : (n b g : ℕ) (x : What) (d : List Told) → O (epoch_of n) → 0 < esn_of n → esn_of n < last_esn → b < g → In (plan_of l (epoch_of n) g d) made → Chosen s sent l n b → Says hs made l b n x → (x ≡ Bridge → ⊥)
-      → (plan_item (epoch_of n) d (esn_of n) ≡ Some x) ⊎ (esn_of n ≤ trim_place (epoch_of n) (digest_trim d))
-  agrees n b g x d oe pos small lt i ch sx nb = agrees_below g n b g x d (omega arith) oe pos small lt i ch sx nb
+  -- what is chosen is the item of each plan of a greater ballot, or is trimmed or known good there
+  pub agrees : (n b g : ℕ) (x : What) (d : List Told) → O (epoch_of n) → esn_of n < last_esn → b < g → In (plan_of l (epoch_of n) g d) made → Chosen (s (epoch_of n)) sent l n b → Says hs made l b n x → (x ≡ Bridge → ⊥)
+      → (plan_item (epoch_of n) d (esn_of n) ≡ Some x) ⊎ (esn_of n ≤ plan_floor (epoch_of n) d)
+  agrees n b g x d oe small lt i ch sx nb = agrees_below g n b g x d (omega arith) oe small lt i ch sx nb

@@ -3,7 +3,6 @@ use Rattle.std.proofs.Common.{◌≡◌, ℕ, inl, refl, sym, subst, Bool, true,
 use Rattle.ld_msg.specs.declared.msg.Who.{Who}
 use Rattle.ld_safety.proofs.CopiesKept.{NodeCopies, start_copies}
 use Rattle.ld_msg.specs.declared.msg.Body.{Body}
-use Rattle.ld_safety.proofs.Carried.{LogOk, held_of}
 use Rattle.ld_op.specs.Plain.{Plain}
 use Rattle.ld_safety.proofs.Acks.{AcksFine}
 use Rattle.ld_safety.proofs.CleansKept.{NodeClean, start_clean}
@@ -23,10 +22,9 @@ use Rattle.ld_machine.specs.State.{node_at, new_nodes}
 use Rattle.ld_machine.specs.Facts.{Happened}
 use Rattle.ld_machine.specs.World.{World, In, begin}
 use Rattle.ld_safety.proofs.Lists.{not_none}
-use Rattle.ld_safety.proofs.Registers.{OnlyClosed, start_closed}
 use Rattle.ld_safety.proofs.Protocol.{plan_of, PlansOnce}
-use Rattle.ld_safety.proofs.Said.{Reached, Said, AllSaid}
-use Rattle.ld_safety.proofs.Settled.{TrimFine, CloseFine, ShowFine, ReleaseFine}
+use Rattle.ld_safety.proofs.Said.{Reached, Said, SaidHere, AllSaid, good_low}
+use Rattle.ld_safety.proofs.Settled.{TrimFine, CloseFine, ShowFine, ReleaseFine, LngFine}
 use Rattle.ld_safety.proofs.Holdings.{blank_holds}
 use Rattle.ld_safety.proofs.HoldSteps.{UpFine}
 use Rattle.ld_safety.proofs.HoldKept.{NodeHolds}
@@ -38,7 +36,6 @@ use Rattle.ld_safety.proofs.CarriedNodes as nodes
 use Rattle.ld_safety.proofs.Has as has
 
 pub record Along (c : Config) (hs : List Happened) (w : World) : Type 0 where
-  pub closed : OnlyClosed w.state.register
   pub said : AllSaid c hs w.made w.state.register w.state
   pub ups : (y : ℕ) → UpFine (node_at w.state y)
   pub holds : (y : ℕ) → NodeHolds w.made w.state.network.sent y (node_at w.state y)
@@ -48,7 +45,7 @@ pub record Along (c : Config) (hs : List Happened) (w : World) : Type 0 where
   pub once : PlansOnce w.made
   pub recoveries : AllFine c hs w.state.network.sent w.made w.state.register w.state.sequencers
   pub plans : (l e b : ℕ) (f : List Told) → In (plan_of l e b f) w.made → PlanMade c hs w.state.network.sent w.made w.state.register l e b f
-  pub stored_from : AnswersFrom c w.state.network.sent
+  pub stored_from : AnswersFrom w.state.network.sent
   pub acks : (t : List ℕ) (q : Sequencer) → find_named t w.state.sequencers ≡ Some q → AcksFine c hs w.state.network.sent w.state.register q
   pub cleans : (y : ℕ) → NodeClean y (node_at w.state y)
   pub copies : (y : ℕ) → NodeCopies w.made w.state.network.sent y (node_at w.state y)
@@ -62,7 +59,7 @@ start_node y (n ∷ ns) = start_or (is_at (nat_cmp y) n) (find y (new_nodes ns))
   start_or true o i = refl
   start_or false o i = i
 
-start_sound : (c : Config) → carried.Sound (Said [] [] empty_register) (TrimFine c [] [] empty_register) (CloseFine c [] [] [] empty_register) (Reached empty_register) (ShowFine c [] [] [] empty_register) (ReleaseFine c [] [] empty_register)
+start_sound : (c : Config) → carried.Sound (Said [] [] empty_register) (TrimFine c [] [] empty_register) (CloseFine c [] [] [] empty_register) (Reached empty_register) (ShowFine c [] [] [] empty_register) (ReleaseFine c [] [] empty_register) (SaidHere [] [] empty_register) (LngFine c [] [] empty_register)
 start_sound c = record {
   zero_trim = λ l n a b o. absurd (omega arith);
   place = λ l b n x s. s.given.place.above;
@@ -70,13 +67,15 @@ start_sound c = record {
   closing_trim = λ l k y h. h.0;
   zero_closed = λ l. ((λ n a b o. absurd (omega arith)), inl (refl, refl));
   zero_released = λ l. record { acked = λ n a b o. absurd (omega arith); closed = omega arith };
+  kept = λ l b n x s. record { given = s.given; reached = s.reached; says = inl s.says };
+  zero_good = λ l e n a b o. absurd (omega arith);
+  good_below = λ l e g h. good_low c [] [] empty_register l e g h;
 }
 
 pub start_along : (c : Config) → Along c [] (begin c)
 unfolding find_named find
 start_along c = record {
-  closed = start_closed;
-  said = has.start_has _ _ _ _ _ _ (λ y l. (start_sound c).zero_released l) c (λ y. nodes.blank_ok (Said [] [] empty_register) (TrimFine c [] [] empty_register) (CloseFine c [] [] [] empty_register) (Reached empty_register) (ShowFine c [] [] [] empty_register) (ReleaseFine c [] [] empty_register) (start_sound c)) (λ l e y h. absurd (not_none h));
+  said = has.start_has _ _ _ _ _ _ (λ y l. (start_sound c).zero_released l) c (λ y. nodes.blank_ok (Said [] [] empty_register) (TrimFine c [] [] empty_register) (CloseFine c [] [] [] empty_register) (Reached empty_register) (ShowFine c [] [] [] empty_register) (ReleaseFine c [] [] empty_register) (SaidHere [] [] empty_register) (LngFine c [] [] empty_register) (start_sound c)) (λ l e y h. absurd (not_none h));
   ups = λ y. subst UpFine (sym (start_node y (members c.nodes))) (λ u. absurd cc);
   holds = λ y. subst (NodeHolds [] [] y) (sym (start_node y (members c.nodes))) (blank_holds [] [] y, tt);
   shows = λ l y b from upto t lng es n a i j e lo hi lt. absurd i;
@@ -93,10 +92,10 @@ start_along c = record {
 
 -- ---- in short ----
 abbrev pub BodySaidIn : Config → List Happened → World → ℕ → Who → Body → Type 0
-BodySaidIn c hs w l from b = carried.BodyOk (Said hs w.made w.state.register) (TrimFine c hs w.state.network.sent w.state.register) (CloseFine c hs w.made w.state.network.sent w.state.register) (Reached w.state.register) (ShowFine c hs w.made w.state.network.sent w.state.register) (ReleaseFine c hs w.state.network.sent w.state.register) l from b
+BodySaidIn c hs w l from b = carried.BodyOk (Said hs w.made w.state.register) (TrimFine c hs w.state.network.sent w.state.register) (CloseFine c hs w.made w.state.network.sent w.state.register) (Reached w.state.register) (ShowFine c hs w.made w.state.network.sent w.state.register) (ReleaseFine c hs w.state.network.sent w.state.register) (SaidHere hs w.made w.state.register) (LngFine c hs w.state.network.sent w.state.register) l from b
 
 abbrev pub PlainSaid : Config → List Happened → World → Plain → Type 0
-PlainSaid c hs w p = carried.PlainOk (Said hs w.made w.state.register) (TrimFine c hs w.state.network.sent w.state.register) (CloseFine c hs w.made w.state.network.sent w.state.register) (Reached w.state.register) (ShowFine c hs w.made w.state.network.sent w.state.register) (ReleaseFine c hs w.state.network.sent w.state.register) p
+PlainSaid c hs w p = carried.PlainOk (Said hs w.made w.state.register) (TrimFine c hs w.state.network.sent w.state.register) (CloseFine c hs w.made w.state.network.sent w.state.register) (Reached w.state.register) (ShowFine c hs w.made w.state.network.sent w.state.register) (ReleaseFine c hs w.state.network.sent w.state.register) (SaidHere hs w.made w.state.register) (LngFine c hs w.state.network.sent w.state.register) p
 
 pub zero_release : (c : Config) (hs : List Happened) (w : World) (l : ℕ) → ReleaseFine c hs w.state.network.sent w.state.register l 0
 zero_release c hs w l = record { acked = λ n a b o. absurd (omega arith); closed = omega arith }

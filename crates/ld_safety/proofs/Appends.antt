@@ -5,9 +5,10 @@ use Rattle.std.specs.BTreeMap.{is_at}
 use Rattle.std.proofs.lemmas.Bool.{cases_Bool, ltb-true}
 use Rattle.ld_table.specs.Table.{find, put}
 use Rattle.ld_table.proofs.Laws.{same_key}
-use Rattle.ld_lsn.specs.Number.{numbered}
+use Rattle.ld_lsn.specs.Number.{epoch_of, numbered, last_esn}
 use Rattle.ld_ids.specs.declared.set.Spec.{Spec}
 use Rattle.ld_msg.specs.Sequencer.{Sequencer, Append, acked_first, unacked_from, is_acked, with_append, raised, next_esn}
+use Rattle.ld_machine.specs.World.{In}
 use Rattle.ld_safety.proofs.Lists.{not_none}
 
 -- keys in a row from one on
@@ -32,6 +33,12 @@ less_is k n h = elim (cases_Bool (nat_lt k n)) [
     | inr u ↦ let z : Greater ≡ Less = sym (ap (λ b. cond b Equal Greater) u) ∙ q in cc
   ])
 ]
+
+-- the keys in a row are those from the first on
+pub row_bounds : (n : ℕ) (m : List (ℕ × Append)) (p : ℕ × Append) → InRow n m → In p m → (n ≤ p.0) × (p.0 < n + length m)
+row_bounds n [] p r i = absurd i
+row_bounds n (x ∷ m) p r (inl e) = let z : p.0 ≡ n = ap (λ (k : ℕ × Append). k.0) e ∙ r.0 in (omega arith, omega arith)
+row_bounds n (x ∷ m) p r (inr i) = let z = row_bounds (n + 1) m p r.1 i in let a = z.0 in let b = z.1 in (omega arith, omega arith)
 
 -- a put under a key that is there changes no key
 pub record Put (n : ℕ) (m k : List (ℕ × Append)) : Type 0 where
@@ -81,6 +88,10 @@ raised_length s (p ∷ m) = ap suc (raised_length s m)
 -- its pending appends stand in a row above the last number such that it and all below are acknowledged
 abbrev pub RowOf : Sequencer → Type 0
 RowOf q = InRow (numbered q.epoch (q.lng + 1)) q.appends
+
+-- the numbers that wait are of the sequencer's epoch
+pub own_epoch : (q : Sequencer) → RowOf q → next_esn q ≤ last_esn → (p : ℕ × Append) → In p q.appends → epoch_of p.0 ≡ q.epoch
+own_epoch q r h p i = let z = row_bounds (numbered q.epoch (q.lng + 1)) q.appends p r i in let a = z.0 in let b = z.1 in omega arith
 
 -- another state of the same sequencer, that has numbered as many appends
 pub record Continues (q n : Sequencer) : Type 0 where

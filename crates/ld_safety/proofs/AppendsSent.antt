@@ -1,13 +1,13 @@
 -- What was appended was sent to a node; so an entry says what its ballot says, in the words of the invariants.
-use Rattle.std.proofs.Common.{◌≡◌, ◌∙◌, ◌⊎◌, ◌≤◌, ◌<◌, ℕ, zero, suc, ◌+◌, ◌%◌, inl, inr, refl, sym, subst, Bool, true, false, ◌||◌, ◌==◌, nat_lt, if◌then◌else◌, List, [], ◌∷◌, ◌++◌, length, take, drop, Option, Some, None, arith}
+use Rattle.std.proofs.Common.{◌≡◌, ◌∙◌, ◌⊎◌, ◌≤◌, ◌<◌, ℕ, zero, suc, ◌+◌, ◌%◌, inl, inr, refl, sym, subst, true, nat_lt, List, [], ◌∷◌, ◌++◌, length, take, drop, Option, Some, None, arith}
 use Rattle.std.proofs.lemmas.Bool.{ltb-false}
 use Rattle.ld_table.specs.Named.{find_named}
-use Rattle.ld_table.specs.Words.{any_of, without}
+use Rattle.ld_table.specs.Words.{without}
 use Rattle.ld_lsn.specs.Number.{epoch_of, esn_of, numbered, last_esn}
 use Rattle.ld_ids.specs.declared.set.Spec.{Spec}
 use Rattle.ld_ids.specs.Choice.{nodes_of, ring, left_out, choice_at}
 use Rattle.ld_config.specs.declared.config.Config.{Config}
-use Rattle.ld_config.specs.Bounds.{IsInBounds, IsSpecOf, AreSpecsOf}
+use Rattle.ld_config.specs.Bounds.{IsInBounds}
 use Rattle.ld_schedule.specs.declared.event.Event.{Event}
 use Rattle.ld_transcript.specs.declared.line.Line.{Line}
 use Rattle.ld_transcript.specs.declared.line.Line.TheVariants as lines
@@ -23,7 +23,7 @@ use Rattle.ld_msg.specs.Sequencer.{Sequencer, Numbered, called, on_reply, on_ret
 use Rattle.ld_op.specs.declared.op.Op.{Op}
 use Rattle.ld_op.specs.declared.op.Op.TheVariants as ops
 use Rattle.ld_op.specs.Ticks.{Ticked, Cleans, Rebuilt, Asks, Nothing}
-use Rattle.ld_machine.specs.Config.{spec_in, has_log}
+use Rattle.ld_machine.specs.Config.{looks_at}
 use Rattle.ld_machine.specs.Disk.{Node, keep_end}
 use Rattle.ld_machine.specs.State.{State, Done, finish, node_at, with_node, with_register, posted}
 use Rattle.ld_machine.specs.Facts.{Happened, Writes, OfLog}
@@ -33,12 +33,13 @@ use Rattle.ld_machine.specs.Step as Step
 use Rattle.ld_safety.proofs.Lists.{Some_inj, not_none, cond_both}
 use Rattle.ld_safety.proofs.Traces.{Keeps, happened, beside_kept}
 use Rattle.ld_safety.proofs.Steps.{writes_cases, sent_now}
-use Rattle.ld_safety.proofs.Lines.{Group, OfNodes, OfNumbers, OfActs, OfTrims, OfItems, AllOf, none_of, one_of, kept_of, format_of, acted_of, items_of, line_of}
+use Rattle.ld_safety.proofs.Lines.{Group, OfNodes, OfNumbers, OfActs, OfTrims, OfSets, OfItems, AllOf, none_of, one_of, kept_of, format_of, acted_of, items_of, line_of}
 use Rattle.ld_safety.proofs.Events.{Cases, dispatch, Live, is_quiet, refreshed, loaded}
 use Rattle.ld_safety.proofs.Numbers.{CountedBy}
 use Rattle.ld_safety.proofs.Base.{counts_of}
 use Rattle.ld_safety.proofs.Given.{of_log_grows}
 use Rattle.ld_safety.proofs.GivenSteps.{BaseGiven}
+use Rattle.ld_safety.proofs.Specs.{SpecFine, SetsFine, start_fine, fixed_fine, fine_step}
 use Rattle.ld_safety.proofs.Along.{Along}
 use Rattle.ld_safety.proofs.AlongSteps.{along_kept, into_after}
 
@@ -80,17 +81,6 @@ choice_some : (s : Spec) (excluded : List ℕ) (number wave : ℕ) → 1 ≤ s.r
 unfolding choice_at
 choice_some s excluded number wave h g = take_some (s.r + s.extras) (left_out s excluded (ring ((epoch_of number + esn_of number + wave) % length (nodes_of s)) (nodes_of s))) (omega arith) (left_some s excluded (ring ((epoch_of number + esn_of number + wave) % length (nodes_of s)) (nodes_of s)) h (ring_some _ (nodes_of s) (some_of (nodes_of s) (omega arith))))
 
-spec_fine : (ns : List Bool) (l : ℕ) (ss : List Spec) → AreSpecsOf ns ss → any_of (λ (s : Spec). s.log == l) ss ≡ true → IsSpecOf ns (spec_in l ss)
-spec_fine ns l [] a h = absurd cc
-spec_fine ns l (s ∷ ss) a h = by_log (λ q. spec_fine ns l ss a.2 q) (s.log == l) h where
-  by_log : (any_of (λ (s : Spec). s.log == l) ss ≡ true → IsSpecOf ns (spec_in l ss)) → (b : Bool) → (b || any_of (λ (s : Spec). s.log == l) ss) ≡ true → IsSpecOf ns (if b then s else spec_in l ss)
-  by_log ih true q = a.0
-  by_log ih false q = ih q
-
--- a log of the configuration is kept on at least one node
-pub copied : (c : Config) (l : ℕ) → IsInBounds c → has_log c l ≡ true → (1 ≤ (spec_in l c.logs).r) × ((spec_in l c.logs).r ≤ length (nodes_of (spec_in l c.logs)))
-copied c l b h = let s = spec_fine c.nodes l c.logs b.specs h in (s.least, s.most)
-
 -- ---- what a step appends is sent ----
 
 -- a store of the number by the sequencer of its epoch
@@ -110,7 +100,7 @@ record AppendTold (s : State) (sends : List Msg) (name : List ℕ) (n : ℕ) : T
   named : find_named name s.sequencers ≡ Some sequencer
   sent : StoreSent sends sequencer.log n
 
-module _ (c : Config) (s : State) (e : Event) (fits : (name : List ℕ) (q : Sequencer) → find_named name s.sequencers ≡ Some q → has_log c q.log ≡ true) (small : (name : List ℕ) (q : Sequencer) → find_named name s.sequencers ≡ Some q → next_esn q ≤ last_esn) (b : IsInBounds c) where
+module _ (c : Config) (s : State) (e : Event) (fine : (name : List ℕ) (q : Sequencer) → find_named name s.sequencers ≡ Some q → SpecFine q.spec) (small : (name : List ℕ) (q : Sequencer) → find_named name s.sequencers ≡ Some q → next_esn q ≤ last_esn) where
   Told : Done → Type 0
   Told d = (name : List ℕ) (n : ℕ) → In (lines.Appended name n) d.lines → AppendTold s d.sends name n
 
@@ -136,23 +126,23 @@ module _ (c : Config) (s : State) (e : Event) (fits : (name : List ℕ) (q : Seq
   ticked n l (Asks from) = others OfNodes (Step.ticks_as c s n l (Asks from)) (λ h. cc) (none_of OfNodes)
   ticked n l Nothing = others OfNodes (Step.ticks_as c s n l Nothing) (λ h. cc) (none_of OfNodes)
 
-  appends : (name : List ℕ) (q : Sequencer) (payload : List ℕ) → Live s name q → Told (Step.append_done c s name q payload Numbered)
+  appends : (name : List ℕ) (q : Sequencer) (payload : List ℕ) → Live s name q → Told (Step.append_done s name q payload Numbered)
   unfolding Told
   appends name q payload v t n (inr i) = absurd i
   appends name q payload v t n (inl i) =
       let a : t ≡ name = cc in let k : n ≡ numbered q.epoch (next_esn q) = cc in
-      let z = copied c q.log b (fits name q v.named) in
-      let y = choice_some (spec_in q.log c.logs) q.lost (numbered q.epoch (next_esn q)) 0 z.0 z.1 in
+      let z = fine name q v.named in
+      let y = choice_some q.spec q.lost (numbered q.epoch (next_esn q)) 0 z.least z.most in
       let ep : epoch_of (numbered q.epoch (next_esn q)) ≡ q.epoch = (let u = small name q v.named in omega arith) in
       record {
         sequencer = q;
         named = subst (λ x. find_named x s.sequencers ≡ Some q) (sym a) v.named;
-        sent = subst (StoreSent (posted (whos.Sequencer q.epoch) q.log (first_stores (spec_in q.log c.logs) q payload)) q.log) (sym k) (record {
+        sent = subst (StoreSent (posted (whos.Sequencer q.epoch) q.log (first_stores q payload)) q.log) (sym k) (record {
           node = y.0;
-          lng = 0;
+          lng = q.lng;
           what = Rec payload;
-          there = subst (λ x. In (to_node_of q.log x y.0 (bodies.Store (numbered q.epoch (next_esn q)) 0 (Rec payload))) (posted (whos.Sequencer q.epoch) q.log (first_stores (spec_in q.log c.logs) q payload))) (sym ep)
-              (posted_each q.log q.epoch y.0 (bodies.Store (numbered q.epoch (next_esn q)) 0 (Rec payload)) (choice (spec_in q.log c.logs) q.lost (numbered q.epoch (next_esn q)) 0) y.1);
+          there = subst (λ x. In (to_node_of q.log x y.0 (bodies.Store (numbered q.epoch (next_esn q)) q.lng (Rec payload))) (posted (whos.Sequencer q.epoch) q.log (first_stores q payload))) (sym ep)
+              (posted_each q.log q.epoch y.0 (bodies.Store (numbered q.epoch (next_esn q)) q.lng (Rec payload)) (choice q.spec q.lost (numbered q.epoch (next_esn q)) 0) y.1);
         });
       }
 
@@ -173,14 +163,15 @@ module _ (c : Config) (s : State) (e : Event) (fits : (name : List ℕ) (q : Seq
     stops = λ n a. others OfNodes _ (λ h. cc) (one_of (lines.NodeDown n));
     wipes = λ n. others OfNodes _ (λ h. cc) (one_of (lines.NodeWiped n));
     faults = λ n f o. others OfNodes _ (λ h. cc) (none_of OfNodes);
+    sets = λ l r x set h. others OfSets _ (λ q. cc) (one_of (lines.Set l r x set));
     arms = λ k done o. others OfNodes _ (λ h. cc) (none_of OfNodes);
-    hears = λ f name q m i t l v o. others OfActs _ (λ h. cc) (acted_of name q (called (spec_in q.log c.logs) s.register (on_reply (spec_in q.log c.logs) q (Step.sender_node m.from) m.body) (on_reply (spec_in q.log c.logs) q (Step.sender_node m.from) m.body).tries).acts);
-    retries = λ name q v o. others OfActs _ (λ h. cc) (acted_of name q (called (spec_in q.log c.logs) s.register (on_retry (spec_in q.log c.logs) q) (on_retry (spec_in q.log c.logs) q).tries).acts);
+    hears = λ f name q m i t l v o. others OfActs _ (λ h. cc) (acted_of name q (called (looks_at c s.register q.log) s.register (on_reply (looks_at c s.register q.log) q (Step.sender_node m.from) m.body) (on_reply (looks_at c s.register q.log) q (Step.sender_node m.from) m.body).tries).acts);
+    retries = λ name q v o. others OfActs _ (λ h. cc) (acted_of name q (called (looks_at c s.register q.log) s.register (on_retry q) (on_retry q).tries).acts);
     appends = λ name q p v a i. appends name q p v;
     trims = λ name q t v a. others OfTrims _ (λ h. cc) (one_of (lines.Trimmed name t));
     drops = λ name q v o. others OfNodes _ (λ h. cc) (none_of OfNodes);
     activates = λ name l r g n i x. activated name l r;
-    activate_fails = λ name l x q. quiets _ (quiet_one x q);
+    activate_fails = λ name l x g q. quiets _ (quiet_one x q);
     answers = λ f name d m i t v o. others OfItems _ (λ h. cc) (items_of name _ _);
     polls = λ name d v o. others OfNodes _ (λ h. cc) (none_of OfNodes);
     opens = λ name l from until o x. others OfNodes _ (λ h. cc) (none_of OfNodes);
@@ -201,24 +192,25 @@ known_log hs name n k (Some q) h w = (q.log, h.known)
 same_log : (hs : List Happened) (l k : ℕ) (name : List ℕ) → OfLog hs l name → OfLog hs k name → l ≡ k
 same_log hs l k name a b = Some_inj (sym a ∙ b)
 
-sent_step : (c : Config) → IsInBounds c → (hs : List Happened) (w : World) (e : Event) → BaseGiven c hs w × Along c hs w → AllSent hs w → AllSent (hs ++ happened c w.state e ∷ []) (next_world c w e)
+sent_step : (c : Config) → IsInBounds c → (hs : List Happened) (w : World) (e : Event) → BaseGiven c hs w × Along c hs w → SetsFine w.state → AllSent hs w → AllSent (hs ++ happened c w.state e ∷ []) (next_world c w e)
 unfolding Told
-sent_step c b hs w e B S l n k name x o = elim (writes_cases hs (happened c w.state e) k _ x) [
+sent_step c b hs w e B A S l n k name x o = elim (writes_cases hs (happened c w.state e) k _ x) [
   | inl a ↦
       let z = known_log hs name n k (find_named name w.state.sequencers) (B.0.0.0.1.counted name) a in
-      let q : z.0 ≡ l = same_log (hs ++ happened c w.state e ∷ []) z.0 l name (of_log_grows hs e (Step.happens c w.state e) z.0 name z.1) o in
+      let q : z.0 ≡ l = same_log (hs ++ happened c w.state e ∷ []) z.0 l name (of_log_grows hs w.state.register e (Step.happens c w.state e) z.0 name z.1) o in
       sent_later w.state.network.sent _ l n (into_after c hs w e B.0.0 B.0.1 B.1) (S l n k name a (subst (λ y. OfLog hs y name) q z.1))
   | inr a ↦
-      let t = dispatch c w.state e (λ d m. Told c w.state e fits small b d) B.0.0.0.0 (append_cases c w.state e fits small b) name n (line_of (Step.happens c w.state e) (lines.Appended name n) (λ h. cc) a.1) in
+      let t = dispatch c w.state e (λ d m. Told c w.state e fine small d) B.0.0.0.0 (append_cases c w.state e fine small) name n (line_of (Step.happens c w.state e) (lines.Appended name n) (λ h. cc) a.1) in
       let z = (counts_of c hs w B.0.0 name t.sequencer t.named).known in
-      let q : t.sequencer.log ≡ l = same_log (hs ++ happened c w.state e ∷ []) t.sequencer.log l name (of_log_grows hs e (Step.happens c w.state e) t.sequencer.log name z) o in
+      let q : t.sequencer.log ≡ l = same_log (hs ++ happened c w.state e ∷ []) t.sequencer.log l name (of_log_grows hs w.state.register e (Step.happens c w.state e) t.sequencer.log name z) o in
       subst (λ y. StoreSent (finish (Step.happens c w.state e)).state.network.sent y n) q (sent_later (Step.happens c w.state e).sends _ t.sequencer.log n (sent_now (Step.happens c w.state e)) t.sent)
 ] where
-  fits : (name : List ℕ) (q : Sequencer) → find_named name w.state.sequencers ≡ Some q → has_log c q.log ≡ true
-  fits name q f = (B.1.acks name q f).kept
+  fine : (name : List ℕ) (q : Sequencer) → find_named name w.state.sequencers ≡ Some q → SpecFine q.spec
+  fine name q f = let k = B.1.acks name q f in subst SpecFine (sym k.spec) (fixed_fine c b w.state.register q.log q.epoch A.1 k.kept k.reached)
 
   small : (name : List ℕ) (q : Sequencer) → find_named name w.state.sequencers ≡ Some q → next_esn q ≤ last_esn
   small name q f = (counts_of c hs w B.0.0 name q f).small
 
-pub sending_kept : (c : Config) → IsInBounds c → Keeps c (λ hs w. (BaseGiven c hs w × Along c hs w) × AllSent hs w)
-sending_kept c b = beside_kept c (λ hs w. BaseGiven c hs w × Along c hs w) AllSent (along_kept c) (λ l n k name x. absurd (not_none x.1)) (λ hs w e B C S. sent_step c b hs w e B S)
+pub sending_kept : (c : Config) → IsInBounds c → Keeps c (λ hs w. (BaseGiven c hs w × Along c hs w) × (AllSent hs w × SetsFine w.state))
+sending_kept c b = beside_kept c (λ hs w. BaseGiven c hs w × Along c hs w) (λ hs w. AllSent hs w × SetsFine w.state) (along_kept c) ((λ l n k name x. absurd (not_none x.1)), start_fine c)
+    (λ hs w e B C S. (sent_step c b hs w e B S.1 S.0, fine_step c b w.state e B.0.0.0.0 S.1))

@@ -1,8 +1,8 @@
--- Entries, trims, summaries and released numbers wherever a state carries them: at nodes, in messages, in digests and plans, at readers, in the register.
+-- Entries, trims, summaries, last known good places and released numbers wherever a state carries them: at nodes, in messages, in digests and plans, at readers, in the register.
 use Rattle.std.proofs.Common.{◌≡◌, ℕ, ◌<◌, ◌≤◌, Bool, false, List, Option, Some, None}
 use Rattle.ld_op.specs.Handles.{ballot_of}
 use Rattle.ld_table.specs.Table.{find}
-use Rattle.ld_lsn.specs.Number.{epoch_of, esn_of, home_epoch, home_esn, numbered}
+use Rattle.ld_lsn.specs.Number.{epoch_of, esn_of, home_epoch, home_esn, numbered, last_esn}
 use Rattle.ld_msg.specs.declared.msg.What.{What}
 use Rattle.ld_msg.specs.declared.msg.What.TheVariants.{Rec}
 use Rattle.ld_msg.specs.declared.msg.Entry.{Entry}
@@ -20,33 +20,44 @@ use Rattle.ld_msg.specs.Reader.{Reader}
 use Rattle.ld_op.specs.Plain.{Plain, Log, log_of, epoch_zero}
 use Rattle.ld_machine.specs.World.{In}
 
--- what ballot b says of a number of a log; what is a trim of a log; how an epoch of a log is closed; which epochs were handed out; what a page, clean or not, may show; what may be released
-module _ (E : ℕ → ℕ → ℕ → What → Type 0) (T : ℕ → ℕ → Type 0) (Y : ℕ → ℕ → Summary → Type 0) (O : ℕ → ℕ → Type 0) (V : ℕ → Bool → Entry → Type 0) (W : ℕ → ℕ → Type 0) where
+-- what ballot b says of a number of a log; what is a trim of a log; how an epoch of a log is closed; which epochs were handed out; what a page, clean or not, may show; what may be released; what may be kept or read of a number, beside what a ballot says; what is a last known good place of an epoch
+module _ (E : ℕ → ℕ → ℕ → What → Type 0) (T : ℕ → ℕ → Type 0) (Y : ℕ → ℕ → Summary → Type 0) (O : ℕ → ℕ → Type 0) (V : ℕ → Bool → Entry → Type 0) (W : ℕ → ℕ → Type 0) (R : ℕ → ℕ → ℕ → What → Type 0) (G : ℕ → ℕ → ℕ → Type 0) where
   abbrev pub EntryOk : ℕ → Entry → Type 0
   EntryOk l e = E l e.ballot e.number e.what
 
   abbrev pub EntriesOk : ℕ → List Entry → Type 0
   EntriesOk l es = (e : Entry) → In e es → EntryOk l e
 
+  -- an entry that is kept or read may have been refilled
+  abbrev pub KeptOk : ℕ → Entry → Type 0
+  KeptOk l e = R l e.ballot e.number e.what
+
+  abbrev pub AllKeptOk : ℕ → List Entry → Type 0
+  AllKeptOk l es = (e : Entry) → In e es → KeptOk l e
+
   -- entries that a page, clean or not, may show
   abbrev pub ShownOk : ℕ → Bool → List Entry → Type 0
   ShownOk l clean es = (e : Entry) → In e es → V l clean e
 
   abbrev pub TableOk : ℕ → List (ℕ × Entry) → Type 0
-  TableOk l m = (p : ℕ × Entry) → In p m → (p.1.number ≡ p.0) × EntryOk l p.1
+  TableOk l m = (p : ℕ × Entry) → In p m → (p.1.number ≡ p.0) × KeptOk l p.1
 
   pub record LogOk (l : ℕ) (g : Log) : Type 0 where
     pub entries : TableOk l g.entries
     pub trim : T l g.trim
     pub summaries : (p : ℕ × Summary) → In p g.summaries → Y l p.0 p.1
+    pub goods : (p : ℕ × ℕ) → In p g.lngs → G l p.0 p.1
+    -- where the epoch isn't clean, nothing was refilled
+    pub unclean : (p : ℕ × Entry) → In p g.entries → find (epoch_of p.1.number) g.summaries ≡ None → EntryOk l p.1
 
   abbrev pub PlainOk : Plain → Type 0
   PlainOk p = (l : ℕ) → LogOk l (log_of p l)
 
   -- a page of a digest, from a number of an epoch up to another one of it
-  pub record PageOk (l from upto t : ℕ) (es : List Entry) : Type 0 where
+  pub record PageOk (l from upto t lng : ℕ) (es : List Entry) : Type 0 where
     pub entries : EntriesOk l es
     pub trim : T l t
+    pub good : G l (epoch_of from) lng
     pub place : 0 < esn_of from
     pub reached : O l (epoch_of from)
     pub upto_place : 0 < esn_of upto
@@ -65,16 +76,16 @@ module _ (E : ℕ → ℕ → ℕ → What → Type 0) (T : ℕ → ℕ → Type
   NodeWho _ = ⊥
 
   abbrev pub BodyOk : ℕ → Who → Body → Type 0
-  BodyOk l from (bodies.Store n lng w) = E l (ballot_of from) n w
+  BodyOk l from (bodies.Store n lng w) = E l (ballot_of from) n w × G l (epoch_of n) lng
   BodyOk l from (bodies.Stored n) = O l (epoch_of n)
   BodyOk l from (bodies.CleanHere n y) = (0 < esn_of n) × Y l (epoch_of n) y
   BodyOk l from (bodies.TrimmedHere n t) = T l t × O l (epoch_of n)
   BodyOk l from (bodies.DigestAsk n) = (0 < esn_of n) × O l (epoch_of n)
-  BodyOk l from (bodies.DigestPage n upto t lng es) = PageOk l n upto t es × NodeWho from
+  BodyOk l from (bodies.DigestPage n upto t lng es) = PageOk l n upto t lng es × NodeWho from
   BodyOk l from (bodies.Clean e y) = Y l e y
   BodyOk l from (bodies.Trim t) = T l t
   BodyOk l from (bodies.Release r) = W l r
-  BodyOk l from (bodies.ReadPage round n upto clean es) = EntriesOk l es × ShownOk l clean es
+  BodyOk l from (bodies.ReadPage round n upto clean es) = AllKeptOk l es × ShownOk l clean es
   BodyOk l from (bodies.ReadEnded round n end) = EndedOk l n end
   BodyOk l from (bodies.ReadTrim round n t) = T l t
   BodyOk l from (bodies.ReadWait round n r) = W l r
@@ -87,12 +98,13 @@ module _ (E : ℕ → ℕ → ℕ → What → Type 0) (T : ℕ → ℕ → Type
   pub record ToldOk (l e : ℕ) (t : Told) : Type 0 where
     pub entries : EntriesOk l t.entries
     pub trim : T l t.trim
+    pub good : G l e t.lng
     pub asks : t.whole ≡ false → (0 < esn_of t.asked) × (epoch_of t.asked ≡ e)
 
   abbrev pub StageOk : ℕ → ℕ → ℕ → Stage → Type 0
   StageOk l b e (Seals d) = (t : Told) → In t d → ToldOk l e t
-  StageOk l b e (Stores g) = T l g.trim × ((i : ℕ × Planned) → In i g.items → E l b i.0 i.1.what)
-  StageOk l b e (Closes y) = T l y.trim
+  StageOk l b e (Stores g) = (T l g.trim × G l e g.lng × ((i : ℕ × Planned) → In i g.items → epoch_of i.0 ≡ e)) × ((i : ℕ × Planned) → In i g.items → E l b i.0 i.1.what)
+  StageOk l b e (Closes y) = T l y.trim × G l e y.lng
 
   abbrev pub RecoveryOk : ℕ → ℕ → Option Recovery → Type 0
   RecoveryOk l b None = Unit {0}
@@ -108,7 +120,7 @@ module _ (E : ℕ → ℕ → ℕ → What → Type 0) (T : ℕ → ℕ → Type
   -- a reply to a sequencer
   abbrev pub ReplyOk : ℕ → Body → Type 0
   ReplyOk l (bodies.CleanHere n y) = (0 < esn_of n) × Y l (epoch_of n) y
-  ReplyOk l (bodies.DigestPage n upto t lng es) = PageOk l n upto t es
+  ReplyOk l (bodies.DigestPage n upto t lng es) = PageOk l n upto t lng es
   ReplyOk l _ = Unit {0}
 
   pub reply_of : (l : ℕ) (from : Who) (b : Body) → BodyOk l from b → ReplyOk l b
@@ -118,7 +130,7 @@ module _ (E : ℕ → ℕ → ℕ → What → Type 0) (T : ℕ → ℕ → Type
 
   -- an answer that a reader holds
   abbrev pub HeldOk : ℕ → Body → Type 0
-  HeldOk l (bodies.ReadPage round n upto clean es) = EntriesOk l es × ShownOk l clean es
+  HeldOk l (bodies.ReadPage round n upto clean es) = AllKeptOk l es × ShownOk l clean es
   HeldOk l (bodies.ReadEnded round n end) = EndedOk l n end
   HeldOk l (bodies.ReadTrim round n t) = T l t
   HeldOk l _ = Unit {0}
@@ -143,3 +155,6 @@ module _ (E : ℕ → ℕ → ℕ → What → Type 0) (T : ℕ → ℕ → Type
     pub closing_trim : (l e : ℕ) (y : Summary) → Y l e y → T l y.trim
     pub zero_closed : (l : ℕ) → Y l 0 epoch_zero
     pub zero_released : (l : ℕ) → W l 0
+    pub kept : (l b n : ℕ) (w : What) → E l b n w → R l b n w
+    pub zero_good : (l e : ℕ) → G l e 0
+    pub good_below : (l e g : ℕ) → G l e g → g < last_esn

@@ -19,13 +19,13 @@ use Rattle.ld_msg.specs.declared.msg.Body.{Body}
 use Rattle.ld_msg.specs.declared.msg.Body.TheVariants as bodies
 use Rattle.ld_op.specs.declared.op.Op.{Op}
 use Rattle.ld_op.specs.declared.op.Op.TheVariants as ops
-use Rattle.ld_op.specs.Plain.{Plain, Log, log_of, empty_log, unformatted, with_log, lost_logs, lost_log, accepted, accept_entry, sealed_by, trimmed_to, cleaned, refill_entries, refilled_with, refilled, apply, epoch_zero, summary_at, is_lost}
+use Rattle.ld_op.specs.Plain.{Plain, Log, log_of, empty_log, unformatted, with_log, lost_logs, lost_log, accepted, accept_entry, lng_in, lng_at, raised_lng, sealed_by, trimmed_to, cleaned, refill_entries, refilled_with, refilled, apply, epoch_zero, summary_at, is_lost}
 use Rattle.ld_op.specs.Answers.{Handled, Decision, Lost, CleanAlready, Trimmed, Sealed, Same, Take, store_decision, digest_decision, refusal, store_answer, digest_answer, digest_page, taken, on_store, on_digest_ask, on_clean, clean_op, on_trim, read_answer, entries_within, page_upto, page_limit, last_number, readable, lets_read}
 use Rattle.ld_op.specs.Ticks.{on_page, page_op, refill_op, lacking, as_closed, is_missing}
 use Rattle.ld_machine.specs.World.{In}
 use Rattle.ld_safety.proofs.Lists.{Some_inj, cond_both, branch, In-map}
-use Rattle.ld_safety.proofs.Members.{In_filter, In_take, In_values, find_in, In_put, In_keep, In_keep_keys}
-use Rattle.ld_safety.proofs.NodeSteps.{store_decided, ask_decided, read_answered}
+use Rattle.ld_safety.proofs.Members.{In_filter, In_take, In_values, find_in, In_put, In_take_out, In_keep, In_keep_keys}
+use Rattle.ld_safety.proofs.NodeSteps.{store_decided, ask_decided, read_answered, missing_clean}
 use Rattle.ld_safety.proofs.Carried as carried
 
 cases_le : (a b : ℕ) → (a ≤ b) ⊎ (b ≤ a)
@@ -62,106 +62,148 @@ digest_upto g from p = elim (upto_cases (entries_within g from (numbered (epoch_
   | inr a ↦ subst (DigestUpto from) (sym a) (same_place from (numbered (epoch_of from) last_esn) p (omega arith) (omega arith))
 ]
 
-module _ (E : ℕ → ℕ → ℕ → What → Type 0) (T : ℕ → ℕ → Type 0) (Y : ℕ → ℕ → Summary → Type 0) (O : ℕ → ℕ → Type 0) (V : ℕ → Bool → Entry → Type 0) (W : ℕ → ℕ → Type 0) (K : carried.Sound E T Y O V W) where
+module _ (E : ℕ → ℕ → ℕ → What → Type 0) (T : ℕ → ℕ → Type 0) (Y : ℕ → ℕ → Summary → Type 0) (O : ℕ → ℕ → Type 0) (V : ℕ → Bool → Entry → Type 0) (W : ℕ → ℕ → Type 0) (R : ℕ → ℕ → ℕ → What → Type 0) (G : ℕ → ℕ → ℕ → Type 0) (K : carried.Sound E T Y O V W R G) where
   LogFine : ℕ → Log → Type 0
-  LogFine l g = carried.LogOk E T Y O V W l g
+  LogFine l g = carried.LogOk E T Y O V W R G l g
 
   -- ---- ops ----
   max_trim : (l a b : ℕ) → T l a → T l b → T l (max a b)
   max_trim l a b x y = elim (cases_le a b) [ inl e ↦ subst (T l) (let z : b ≡ max a b = omega arith in z) y | inr e ↦ subst (T l) (let z : a ≡ max a b = omega arith in z) x ]
 
-  accept_ok : (l : ℕ) (e : Entry) (w : What) (m : List (ℕ × Entry)) → carried.EntryOk E T Y O V W l e → carried.TableOk E T Y O V W l m → carried.TableOk E T Y O V W l (accept_entry e w m)
-  accept_ok l e (Rec p) m h a q i = elim (In_put e.number e m q i) [ inl x ↦ subst (λ (z : ℕ × Entry). (z.1.number ≡ z.0) × carried.EntryOk E T Y O V W l z.1) (sym x) (refl, h) | inr x ↦ a q x ]
-  accept_ok l e Hole m h a q i = elim (In_put e.number e m q i) [ inl x ↦ subst (λ (z : ℕ × Entry). (z.1.number ≡ z.0) × carried.EntryOk E T Y O V W l z.1) (sym x) (refl, h) | inr x ↦ a q x ]
-  accept_ok l e Bridge m h a q i = elim (In_put e.number e _ q i) [ inl x ↦ subst (λ (z : ℕ × Entry). (z.1.number ≡ z.0) × carried.EntryOk E T Y O V W l z.1) (sym x) (refl, h) | inr x ↦ a q (In_keep _ m q x) ]
+  -- what holds of each entry of a table still does after a store of one that it holds of
+  accept_all : (P : ℕ × Entry → Type 0) (e : Entry) (w : What) (m : List (ℕ × Entry)) → P (e.number, e) → ((p : ℕ × Entry) → In p m → P p) → (p : ℕ × Entry) → In p (accept_entry e w m) → P p
+  accept_all P e (Rec p) m h a q i = elim (In_put e.number e m q i) [ inl x ↦ subst P (sym x) h | inr x ↦ a q x ]
+  accept_all P e Hole m h a q i = elim (In_put e.number e m q i) [ inl x ↦ subst P (sym x) h | inr x ↦ a q x ]
+  accept_all P e Bridge m h a q i = elim (In_put e.number e _ q i) [ inl x ↦ subst P (sym x) h | inr x ↦ a q (In_keep _ m q x) ]
 
-  refill_ok : (l : ℕ) (es : List Entry) (m : List (ℕ × Entry)) → carried.EntriesOk E T Y O V W l es → carried.TableOk E T Y O V W l m → carried.TableOk E T Y O V W l (refill_entries es m)
-  refill_ok l [] m h a = a
-  refill_ok l (e ∷ es) m h a = refill_ok l es (put e.number e m) (λ x i. h x (inr i)) (λ q i. elim (In_put e.number e m q i) [ inl x ↦ subst (λ (z : ℕ × Entry). (z.1.number ≡ z.0) × carried.EntryOk E T Y O V W l z.1) (sym x) (refl, h e (inl refl)) | inr x ↦ a q x ])
+  refill_all : (P : ℕ × Entry → Type 0) (es : List Entry) (m : List (ℕ × Entry)) → ((e : Entry) → In e es → P (e.number, e)) → ((p : ℕ × Entry) → In p m → P p) → (p : ℕ × Entry) → In p (refill_entries es m) → P p
+  refill_all P [] m h a = a
+  refill_all P (e ∷ es) m h a = refill_all P es (put e.number e m) (λ x i. h x (inr i)) (λ q i. elim (In_put e.number e m q i) [ inl x ↦ subst P (sym x) (h e (inl refl)) | inr x ↦ a q x ])
+
+  IsKept : ℕ → ℕ × Entry → Type 0
+  IsKept l p = (p.1.number ≡ p.0) × carried.KeptOk E T Y O V W R G l p.1
+
+  IsUnclean : ℕ → List (ℕ × Summary) → ℕ × Entry → Type 0
+  IsUnclean l ys p = find (epoch_of p.1.number) ys ≡ None → carried.EntryOk E T Y O V W R G l p.1
+
+  goods_ok : (l epoch lng : ℕ) (m : List (ℕ × ℕ)) → G l epoch lng → ((p : ℕ × ℕ) → In p m → G l p.0 p.1) → (p : ℕ × ℕ) → In p (raised_lng epoch lng m) → G l p.0 p.1
+  goods_ok l epoch lng m h a = cond_both (nat_lt (lng_in m epoch) lng) (put epoch lng m) m (λ z. (p : ℕ × ℕ) → In p z → G l p.0 p.1)
+      (λ t p i. elim (In_put epoch lng m p i) [ inl x ↦ subst (λ (z : ℕ × ℕ). G l z.0 z.1) (sym x) h | inr x ↦ a p x ]) (λ t. a)
 
   -- what an op is given
-  abbrev pub OpOk : Op → Type 0
-  OpOk (ops.Format generation epochs) = Unit {0}
-  OpOk (ops.Accept l lng e) = carried.EntryOk E T Y O V W l e
-  OpOk (ops.Seal l b) = Unit {0}
-  OpOk (ops.Clean l epoch y) = Y l epoch y
-  OpOk (ops.Trim l t) = T l t
-  OpOk (ops.Refill l es) = carried.EntriesOk E T Y O V W l es
-  OpOk (ops.Refilled l) = Unit {0}
+  abbrev pub OpOk : Plain → Op → Type 0
+  OpOk p (ops.Format generation epochs) = Unit {0}
+  OpOk p (ops.Accept l lng e) = carried.EntryOk E T Y O V W R G l e × G l (epoch_of e.number) lng
+  OpOk p (ops.Seal l b) = Unit {0}
+  OpOk p (ops.Clean l epoch y) = Y l epoch y
+  OpOk p (ops.Trim l t) = T l t
+  OpOk p (ops.Refill l es) = (e : Entry) → In e es → carried.KeptOk E T Y O V W R G l e × (find (epoch_of e.number) (log_of p l).summaries ≡ None → ⊥)
+  OpOk p (ops.Refilled l) = Unit {0}
 
-  empty_ok : (l : ℕ) (c : ℕ) → carried.LogOk E T Y O V W l (lost_log c)
-  empty_ok l c = record { entries = λ p i. absurd i; trim = K.zero_trim l; summaries = λ p i. absurd i }
+  empty_ok : (l : ℕ) (c : ℕ) → carried.LogOk E T Y O V W R G l (lost_log c)
+  empty_ok l c = record { entries = λ p i. absurd i; trim = K.zero_trim l; summaries = λ p i. absurd i; goods = λ p i. absurd i; unclean = λ p i. absurd i }
 
-  with_log_ok : (p : Plain) (l : ℕ) (g : Log) → carried.PlainOk E T Y O V W p → carried.LogOk E T Y O V W l g → carried.PlainOk E T Y O V W (with_log p l g)
+  with_log_ok : (p : Plain) (l : ℕ) (g : Log) → carried.PlainOk E T Y O V W R G p → carried.LogOk E T Y O V W R G l g → carried.PlainOk E T Y O V W R G (with_log p l g)
   with_log_ok p l g a h m = elim (put_cases m l g p.logs) [
-    | inl e ↦ subst (λ o. carried.LogOk E T Y O V W m (unwrap_or o empty_log)) (sym e.1) (subst (λ k. carried.LogOk E T Y O V W k g) (sym e.0) h)
-    | inr e ↦ subst (λ o. carried.LogOk E T Y O V W m (unwrap_or o empty_log)) (sym e.1) (a m)
+    | inl e ↦ subst (λ o. carried.LogOk E T Y O V W R G m (unwrap_or o empty_log)) (sym e.1) (subst (λ k. carried.LogOk E T Y O V W R G k g) (sym e.0) h)
+    | inr e ↦ subst (λ o. carried.LogOk E T Y O V W R G m (unwrap_or o empty_log)) (sym e.1) (a m)
   ]
 
-  pub blank_ok : carried.PlainOk E T Y O V W unformatted
+  pub blank_ok : carried.PlainOk E T Y O V W R G unformatted
   unfolding find
-  blank_ok l = record { entries = λ p i. absurd i; trim = K.zero_trim l; summaries = λ p i. absurd i }
+  blank_ok l = record { entries = λ p i. absurd i; trim = K.zero_trim l; summaries = λ p i. absurd i; goods = λ p i. absurd i; unclean = λ p i. absurd i }
 
-  formatted_ok : (ds : List (ℕ × ℕ)) (l : ℕ) → carried.LogOk E T Y O V W l (unwrap_or (find l (lost_logs ds)) empty_log)
+  formatted_ok : (ds : List (ℕ × ℕ)) (l : ℕ) → carried.LogOk E T Y O V W R G l (unwrap_or (find l (lost_logs ds)) empty_log)
   unfolding find
-  formatted_ok [] l = record { entries = λ p i. absurd i; trim = K.zero_trim l; summaries = λ p i. absurd i }
+  formatted_ok [] l = record { entries = λ p i. absurd i; trim = K.zero_trim l; summaries = λ p i. absurd i; goods = λ p i. absurd i; unclean = λ p i. absurd i }
   formatted_ok (d ∷ ds) l = formatted_or (is_at (nat_cmp l) d.0) (find l (lost_logs ds)) (formatted_ok ds l) where
-    formatted_or : (b : Bool) (o : Option Log) → carried.LogOk E T Y O V W l (unwrap_or o empty_log) → carried.LogOk E T Y O V W l (unwrap_or (cond b (Some (lost_log d.1)) o) empty_log)
+    formatted_or : (b : Bool) (o : Option Log) → carried.LogOk E T Y O V W R G l (unwrap_or o empty_log) → carried.LogOk E T Y O V W R G l (unwrap_or (cond b (Some (lost_log d.1)) o) empty_log)
     formatted_or true o h = empty_ok l d.1
     formatted_or false o h = h
 
-  pub op_ok : (p : Plain) (o : Op) → carried.PlainOk E T Y O V W p → OpOk o → carried.PlainOk E T Y O V W (apply p o)
-  unfolding apply
+  pub op_ok : (p : Plain) (o : Op) → carried.PlainOk E T Y O V W R G p → OpOk p o → carried.PlainOk E T Y O V W R G (apply p o)
+  unfolding apply IsKept IsUnclean
   op_ok p (ops.Format generation epochs) a h = formatted_ok epochs
-  op_ok p (ops.Accept l lng e) a h = let g = a l in with_log_ok p l (accepted (log_of p l) e) a (record { entries = accept_ok l e e.what (log_of p l).entries h g.entries; trim = g.trim; summaries = g.summaries })
-  op_ok p (ops.Seal l b) a h = let g = a l in with_log_ok p l (sealed_by (log_of p l) b) a (record { entries = g.entries; trim = g.trim; summaries = g.summaries })
+  op_ok p (ops.Accept l lng e) a h = let g = a l in with_log_ok p l (accepted (log_of p l) lng e) a (record {
+    entries = accept_all (IsKept l) e e.what (log_of p l).entries (refl, K.kept l e.ballot e.number e.what h.0) g.entries;
+    trim = g.trim;
+    summaries = g.summaries;
+    goods = goods_ok l (epoch_of e.number) lng (log_of p l).lngs h.1 g.goods;
+    unclean = accept_all (IsUnclean l (log_of p l).summaries) e e.what (log_of p l).entries (λ f. h.0) g.unclean;
+  })
+  op_ok p (ops.Seal l b) a h = let g = a l in with_log_ok p l (sealed_by (log_of p l) b) a (record { entries = g.entries; trim = g.trim; summaries = g.summaries; goods = g.goods; unclean = g.unclean })
   op_ok p (ops.Clean l epoch y) a h = let g = a l in with_log_ok p l (cleaned (log_of p l) epoch y) a (record {
     entries = λ q i. g.entries q (In_keep _ (log_of p l).entries q i);
     trim = max_trim l _ _ g.trim (K.closing_trim l epoch y h);
     summaries = λ q i. elim (In_put epoch y (log_of p l).summaries q i) [ inl x ↦ subst (λ (z : ℕ × Summary). Y l z.0 z.1) (sym x) h | inr x ↦ g.summaries q x ];
+    goods = λ q i. g.goods q (In_take_out epoch (log_of p l).lngs q i);
+    unclean = λ q i f. g.unclean q (In_keep _ (log_of p l).entries q i) (elim (put_cases (epoch_of q.1.number) epoch y (log_of p l).summaries) [ inl x ↦ absurd (let z : Some y ≡ None = sym x.1 ∙ f in cc) | inr x ↦ sym x.1 ∙ f ]);
   })
   op_ok p (ops.Trim l t) a h = let g = a l in with_log_ok p l (trimmed_to (log_of p l) t) a (record {
     entries = λ q i. g.entries q (In_keep_keys _ (log_of p l).entries q i).0;
     trim = max_trim l _ _ g.trim h;
     summaries = g.summaries;
+    goods = g.goods;
+    unclean = λ q i f. g.unclean q (In_keep_keys _ (log_of p l).entries q i).0 f;
   })
-  op_ok p (ops.Refill l es) a h = let g = a l in with_log_ok p l (refilled_with (log_of p l) es) a (record { entries = refill_ok l es (log_of p l).entries h g.entries; trim = g.trim; summaries = g.summaries })
-  op_ok p (ops.Refilled l) a h = let g = a l in with_log_ok p l (refilled (log_of p l)) a (record { entries = g.entries; trim = g.trim; summaries = g.summaries })
+  op_ok p (ops.Refill l es) a h = let g = a l in with_log_ok p l (refilled_with (log_of p l) es) a (record {
+    entries = refill_all (IsKept l) es (log_of p l).entries (λ e i. (refl, (h e i).0)) g.entries;
+    trim = g.trim;
+    summaries = g.summaries;
+    goods = g.goods;
+    unclean = refill_all (IsUnclean l (log_of p l).summaries) es (log_of p l).entries (λ e i f. absurd ((h e i).1 f)) g.unclean;
+  })
+  op_ok p (ops.Refilled l) a h = let g = a l in with_log_ok p l (refilled (log_of p l)) a (record { entries = g.entries; trim = g.trim; summaries = g.summaries; goods = g.goods; unclean = g.unclean })
 
   -- ---- answers ----
-  summary_ok : (l e : ℕ) (g : Log) (y : Summary) → carried.LogOk E T Y O V W l g → summary_at g e ≡ Some y → Y l e y
+  summary_ok : (l e : ℕ) (g : Log) (y : Summary) → carried.LogOk E T Y O V W R G l g → summary_at g e ≡ Some y → Y l e y
   unfolding summary_at
   summary_ok l e g y a h = elim (branch (e == 0) (Some epoch_zero) (find e g.summaries) (Some y) h) [
     | inl t ↦ subst (λ k. Y l k y) (sym (eqb-true e 0 t.0)) (subst (λ z. Y l 0 z) (Some_inj t.1) (K.zero_closed l))
     | inr t ↦ a.summaries (e, y) (find_in e g.summaries y t.1)
   ]
 
-  within_ok : (l : ℕ) (g : Log) (from last : ℕ) → carried.LogOk E T Y O V W l g → carried.EntriesOk E T Y O V W l (entries_within g from last)
+  within_ok : (l : ℕ) (g : Log) (from last : ℕ) → carried.LogOk E T Y O V W R G l g → carried.AllKeptOk E T Y O V W R G l (entries_within g from last)
   within_ok l g from last a e i = let f = In_filter _ e (values g.entries) i in let v = In_values e g.entries f.0 in (a.entries (v.0, e) v.1).1
 
+  -- the entries of an epoch that isn't clean here
+  unclean_within : (l : ℕ) (g : Log) (from : ℕ) → carried.LogOk E T Y O V W R G l g → 0 < esn_of from → summary_at g (epoch_of from) ≡ None → carried.EntriesOk E T Y O V W R G l (entries_within g from (numbered (epoch_of from) last_esn))
+  unfolding summary_at
+  unclean_within l g from a p u e i =
+      let f = In_filter _ e (values g.entries) i in let v = In_values e g.entries f.0 in let w = within g from (numbered (epoch_of from) last_esn) e i in
+      let same : epoch_of e.number ≡ epoch_of from = (same_place from e.number p w.0 w.1).same_epoch in
+      a.unclean (v.0, e) v.1 (ap (λ k. find k g.summaries) same ∙ elim (branch (epoch_of from == 0) (Some epoch_zero) (find (epoch_of from) g.summaries) None u) [ inl t ↦ absurd (let z = t.1 in cc) | inr t ↦ t.1 ])
+
+  good_at : (l e : ℕ) (g : Log) → carried.LogOk E T Y O V W R G l g → G l e (lng_at g e)
+  good_at l e g a = by_found (find e g.lngs) refl where
+    by_found : (o : Option ℕ) → find e g.lngs ≡ o → G l e (unwrap_or o 0)
+    by_found None f = K.zero_good l e
+    by_found (Some k) f = a.goods (e, k) (find_in e g.lngs k f)
+
   -- an answer to a refused message
-  refused_ok : (l generation s : ℕ) (y : ℕ) (d : Decision) (b : Body) → ((z : Summary) → d ≡ CleanAlready z → (0 < esn_of s) × Y l (epoch_of s) z) → ((t : ℕ) → d ≡ Trimmed t → T l t × O l (epoch_of s)) → refusal generation s d ≡ Some b → carried.BodyOk E T Y O V W l (whos.Node y) b
-  refused_ok l generation s y (Lost end) b c t h = subst (carried.BodyOk E T Y O V W l (whos.Node y)) (Some_inj h) tt
-  refused_ok l generation s y (CleanAlready z) b c t h = subst (carried.BodyOk E T Y O V W l (whos.Node y)) (Some_inj h) (c z refl)
-  refused_ok l generation s y (Trimmed k) b c t h = subst (carried.BodyOk E T Y O V W l (whos.Node y)) (Some_inj h) (t k refl)
-  refused_ok l generation s y (Sealed k) b c t h = subst (carried.BodyOk E T Y O V W l (whos.Node y)) (Some_inj h) tt
+  refused_ok : (l generation s : ℕ) (y : ℕ) (d : Decision) (b : Body) → ((z : Summary) → d ≡ CleanAlready z → (0 < esn_of s) × Y l (epoch_of s) z) → ((t : ℕ) → d ≡ Trimmed t → T l t × O l (epoch_of s)) → refusal generation s d ≡ Some b → carried.BodyOk E T Y O V W R G l (whos.Node y) b
+  refused_ok l generation s y (Lost end) b c t h = subst (carried.BodyOk E T Y O V W R G l (whos.Node y)) (Some_inj h) tt
+  refused_ok l generation s y (CleanAlready z) b c t h = subst (carried.BodyOk E T Y O V W R G l (whos.Node y)) (Some_inj h) (c z refl)
+  refused_ok l generation s y (Trimmed k) b c t h = subst (carried.BodyOk E T Y O V W R G l (whos.Node y)) (Some_inj h) (t k refl)
+  refused_ok l generation s y (Sealed k) b c t h = subst (carried.BodyOk E T Y O V W R G l (whos.Node y)) (Some_inj h) tt
   refused_ok l generation s y Same b c t h = absurd cc
   refused_ok l generation s y Take b c t h = absurd cc
 
-  stored_ok : (l generation s y : ℕ) (g : Log) (d : Decision) (b : Body) → carried.LogOk E T Y O V W l g → 0 < esn_of s → O l (epoch_of s) → ((z : Summary) → d ≡ CleanAlready z → Y l (epoch_of s) z) → ((t : ℕ) → d ≡ Trimmed t → T l t) → store_answer generation s d ≡ Some b → carried.BodyOk E T Y O V W l (whos.Node y) b
+  stored_ok : (l generation s y : ℕ) (g : Log) (d : Decision) (b : Body) → carried.LogOk E T Y O V W R G l g → 0 < esn_of s → O l (epoch_of s) → ((z : Summary) → d ≡ CleanAlready z → Y l (epoch_of s) z) → ((t : ℕ) → d ≡ Trimmed t → T l t) → store_answer generation s d ≡ Some b → carried.BodyOk E T Y O V W R G l (whos.Node y) b
   stored_ok l generation s y g (Lost end) b a p o c t h = refused_ok l generation s y (Lost end) b (λ z e. absurd cc) (λ k e. (t k e, o)) h
   stored_ok l generation s y g (CleanAlready z) b a p o c t h = refused_ok l generation s y (CleanAlready z) b (λ z e. (p, c z e)) (λ k e. (t k e, o)) h
   stored_ok l generation s y g (Trimmed k) b a p o c t h = refused_ok l generation s y (Trimmed k) b (λ z e. absurd cc) (λ j e. (t j e, o)) h
   stored_ok l generation s y g (Sealed k) b a p o c t h = refused_ok l generation s y (Sealed k) b (λ z e. absurd cc) (λ j e. (t j e, o)) h
-  stored_ok l generation s y g Same b a p o c t h = subst (carried.BodyOk E T Y O V W l (whos.Node y)) (Some_inj h) o
-  stored_ok l generation s y g Take b a p o c t h = subst (carried.BodyOk E T Y O V W l (whos.Node y)) (Some_inj h) o
+  stored_ok l generation s y g Same b a p o c t h = subst (carried.BodyOk E T Y O V W R G l (whos.Node y)) (Some_inj h) o
+  stored_ok l generation s y g Take b a p o c t h = subst (carried.BodyOk E T Y O V W R G l (whos.Node y)) (Some_inj h) o
 
-  page_ok : (l from y : ℕ) (g : Log) → carried.LogOk E T Y O V W l g → 0 < esn_of from → O l (epoch_of from)
-      → carried.BodyOk E T Y O V W l (whos.Node y) (digest_page g from (entries_within g from (numbered (epoch_of from) last_esn)) (numbered (epoch_of from) last_esn))
-  page_ok l from y g a p o = let u = digest_upto g from p in (
+  page_ok : (l from y : ℕ) (g : Log) → carried.LogOk E T Y O V W R G l g → 0 < esn_of from → O l (epoch_of from) → summary_at g (epoch_of from) ≡ None
+      → carried.BodyOk E T Y O V W R G l (whos.Node y) (digest_page g from (entries_within g from (numbered (epoch_of from) last_esn)) (numbered (epoch_of from) last_esn))
+  page_ok l from y g a p o c = let u = digest_upto g from p in (
     record {
-      entries = λ e i. within_ok l g from (numbered (epoch_of from) last_esn) a e (In_take page_limit e _ i);
+      entries = λ e i. unclean_within l g from a p c e (In_take page_limit e _ i);
       trim = a.trim;
+      good = good_at l (epoch_of from) g a;
       place = p;
       reached = o;
       upto_place = u.place;
@@ -170,19 +212,23 @@ module _ (E : ℕ → ℕ → ℕ → What → Type 0) (T : ℕ → ℕ → Type
     tt,
   )
 
-  told_ok : (l generation from y : ℕ) (g : Log) (d : Decision) (b : Body) → carried.LogOk E T Y O V W l g → 0 < esn_of from → O l (epoch_of from) → ((z : Summary) → d ≡ CleanAlready z → Y l (epoch_of from) z) → ((t : ℕ) → d ≡ Trimmed t → T l t) → digest_answer generation g from d ≡ Some b → carried.BodyOk E T Y O V W l (whos.Node y) b
-  told_ok l generation from y g (Lost end) b a p o c t h = refused_ok l generation from y (Lost end) b (λ z e. absurd cc) (λ j e. (t j e, o)) h
-  told_ok l generation from y g (CleanAlready z) b a p o c t h = refused_ok l generation from y (CleanAlready z) b (λ z e. (p, c z e)) (λ j e. (t j e, o)) h
-  told_ok l generation from y g (Trimmed k) b a p o c t h = refused_ok l generation from y (Trimmed k) b (λ z e. absurd cc) (λ j e. (t j e, o)) h
-  told_ok l generation from y g (Sealed k) b a p o c t h = refused_ok l generation from y (Sealed k) b (λ z e. absurd cc) (λ j e. (t j e, o)) h
-  told_ok l generation from y g Same b a p o c t h = subst (carried.BodyOk E T Y O V W l (whos.Node y)) (Some_inj h) (page_ok l from y g a p o)
-  told_ok l generation from y g Take b a p o c t h = subst (carried.BodyOk E T Y O V W l (whos.Node y)) (Some_inj h) (page_ok l from y g a p o)
+  -- an ask is answered by a page
+  abbrev IsPage : Decision → Type 0
+  IsPage d = (d ≡ Same) ⊎ (d ≡ Take)
+
+  told_ok : (l generation from y : ℕ) (g : Log) (d : Decision) (b : Body) → carried.LogOk E T Y O V W R G l g → 0 < esn_of from → O l (epoch_of from) → ((z : Summary) → d ≡ CleanAlready z → Y l (epoch_of from) z) → ((t : ℕ) → d ≡ Trimmed t → T l t) → (IsPage d → summary_at g (epoch_of from) ≡ None) → digest_answer generation g from d ≡ Some b → carried.BodyOk E T Y O V W R G l (whos.Node y) b
+  told_ok l generation from y g (Lost end) b a p o c t u h = refused_ok l generation from y (Lost end) b (λ z e. absurd cc) (λ j e. (t j e, o)) h
+  told_ok l generation from y g (CleanAlready z) b a p o c t u h = refused_ok l generation from y (CleanAlready z) b (λ z e. (p, c z e)) (λ j e. (t j e, o)) h
+  told_ok l generation from y g (Trimmed k) b a p o c t u h = refused_ok l generation from y (Trimmed k) b (λ z e. absurd cc) (λ j e. (t j e, o)) h
+  told_ok l generation from y g (Sealed k) b a p o c t u h = refused_ok l generation from y (Sealed k) b (λ z e. absurd cc) (λ j e. (t j e, o)) h
+  told_ok l generation from y g Same b a p o c t u h = subst (carried.BodyOk E T Y O V W R G l (whos.Node y)) (Some_inj h) (page_ok l from y g a p o (u (inl refl)))
+  told_ok l generation from y g Take b a p o c t u h = subst (carried.BodyOk E T Y O V W R G l (whos.Node y)) (Some_inj h) (page_ok l from y g a p o (u (inr refl)))
 
   -- what a decision tells
   Telling : ℕ → ℕ → Decision → Type 0
   Telling l s d = ((z : Summary) → d ≡ CleanAlready z → Y l (epoch_of s) z) × ((t : ℕ) → d ≡ Trimmed t → T l t)
 
-  store_tells : (l : ℕ) (g : Log) (e : Entry) → carried.LogOk E T Y O V W l g → Telling l e.number (store_decision g e)
+  store_tells : (l : ℕ) (g : Log) (e : Entry) → carried.LogOk E T Y O V W R G l g → Telling l e.number (store_decision g e)
   unfolding Telling
   store_tells l g e a = store_decided g e (Telling l e.number) (record {
     lost = λ t. ((λ z q. absurd cc), (λ k q. absurd cc));
@@ -193,7 +239,7 @@ module _ (E : ℕ → ℕ → ℕ → What → Type 0) (T : ℕ → ℕ → Type
     takes = λ s x y. ((λ z q. absurd cc), (λ k q. absurd cc));
   })
 
-  ask_tells : (l : ℕ) (g : Log) (ballot from : ℕ) → carried.LogOk E T Y O V W l g → Telling l from (digest_decision g ballot from)
+  ask_tells : (l : ℕ) (g : Log) (ballot from : ℕ) → carried.LogOk E T Y O V W R G l g → Telling l from (digest_decision g ballot from)
   unfolding Telling
   ask_tells l g ballot from a = ask_decided g ballot from (Telling l from) (record {
     lost = λ t. ((λ z q. absurd cc), (λ k q. absurd cc));
@@ -203,16 +249,25 @@ module _ (E : ℕ → ℕ → ℕ → What → Type 0) (T : ℕ → ℕ → Type
     takes = λ s x. ((λ z q. absurd cc), (λ k q. absurd cc));
   })
 
+  asks_unclean : (g : Log) (ballot from : ℕ) → IsPage (digest_decision g ballot from) → summary_at g (epoch_of from) ≡ None
+  asks_unclean g ballot from = ask_decided g ballot from (λ d. IsPage d → summary_at g (epoch_of from) ≡ None) (record {
+    lost = λ t h. absurd (elim h [ inl q ↦ cc | inr q ↦ cc ]);
+    clean = λ y t x h. absurd (elim h [ inl q ↦ cc | inr q ↦ cc ]);
+    sealed = λ s x h. s.unclean;
+    same = λ s x h. s.unclean;
+    takes = λ s x h. s.unclean;
+  })
+
   -- what a node's answer to a reader may show
   pub record Shows (l : ℕ) (g : Log) (released : ℕ) : Type 0 where
     pub clean : (from : ℕ) (y : Summary) (k : ℕ) (e : Entry) → g.trim < from → summary_at g (home_epoch from) ≡ Some y → home_esn from < y.end → is_lost g (home_epoch from) ≡ false → In (k, e) g.entries → from ≤ e.number → e.number ≤ numbered (home_epoch from) (y.end - 1) → V l true e
     pub open_still : (from : ℕ) (k : ℕ) (e : Entry) → lets_read released from ≡ true → In (k, e) g.entries → from ≤ e.number → e.number ≤ released → V l false e
 
-  shown_of : (l : ℕ) (clean : Bool) (g : Log) (from last : ℕ) → ((k : ℕ) (e : Entry) → In (k, e) g.entries → from ≤ e.number → e.number ≤ last → V l clean e) → carried.ShownOk E T Y O V W l clean (take page_limit (readable g from last))
+  shown_of : (l : ℕ) (clean : Bool) (g : Log) (from last : ℕ) → ((k : ℕ) (e : Entry) → In (k, e) g.entries → from ≤ e.number → e.number ≤ last → V l clean e) → carried.ShownOk E T Y O V W R G l clean (take page_limit (readable g from last))
   shown_of l clean g from last h e i = let f = In_filter _ e _ (In_take page_limit e _ i) in let w = within g from last e f.0 in let u = In_filter _ e (values g.entries) f.0 in let v = In_values e g.entries u.0 in h v.0 e v.1 w.0 w.1
 
-  read_ok : (l generation released round from y : ℕ) (g : Log) → carried.LogOk E T Y O V W l g → Shows l g released → W l released → carried.BodyOk E T Y O V W l (whos.Node y) (read_answer generation g released round from)
-  read_ok l generation released round from y g a S rel = read_answered generation g released round from (carried.BodyOk E T Y O V W l (whos.Node y)) (record {
+  read_ok : (l generation released round from y : ℕ) (g : Log) → carried.LogOk E T Y O V W R G l g → Shows l g released → W l released → carried.BodyOk E T Y O V W R G l (whos.Node y) (read_answer generation g released round from)
+  read_ok l generation released round from y g a S rel = read_answered generation g released round from (carried.BodyOk E T Y O V W R G l (whos.Node y)) (record {
     trimmed = λ h. a.trim;
     ended = λ z x h k. record { summary = z; closed = summary_ok l (home_epoch from) g z a h; past = k; is = refl };
     lost_clean = λ z x h k t. tt;
@@ -224,65 +279,67 @@ module _ (E : ℕ → ℕ → ℕ → What → Type 0) (T : ℕ → ℕ → Type
 
   -- what a refill is given
   abbrev pub RefillOk : ℕ → Log → List Entry → Type 0
-  RefillOk l g es = (e : Entry) → In e es → is_missing g e.number ≡ true → carried.EntryOk E T Y O V W l (as_closed g e)
+  RefillOk l g es = (e : Entry) → In e es → is_missing g e.number ≡ true → carried.KeptOk E T Y O V W R G l (as_closed g e)
 
-  lacking_ok : (l : ℕ) (g : Log) (es : List Entry) → RefillOk l g es → carried.EntriesOk E T Y O V W l (lacking g es)
-  lacking_ok l g es h x i = let m = In-map (as_closed g) x _ i in let f = In_filter _ m.0 es m.1 in subst (carried.EntryOk E T Y O V W l) (sym m.2) (h m.0 f.0 f.1)
+  lacking_ok : (l : ℕ) (g : Log) (es : List Entry) → RefillOk l g es → (x : Entry) → In x (lacking g es) → carried.KeptOk E T Y O V W R G l x × (find (epoch_of x.number) g.summaries ≡ None → ⊥)
+  lacking_ok l g es h x i =
+      let m = In-map (as_closed g) x _ i in let f = In_filter _ m.0 es m.1 in let y = missing_clean g m.0.number f.1 in
+      subst (λ (z : Entry). carried.KeptOk E T Y O V W R G l z × (find (epoch_of z.number) g.summaries ≡ None → ⊥)) (sym m.2) (h m.0 f.0 f.1, λ n. let z : Some y.0 ≡ None = sym y.1 ∙ n in cc)
 
   -- every message: what is kept
-  taken_ok : (o p : Op) (d : Decision) → OpOk o → taken o d ≡ Some p → OpOk p
-  taken_ok o p Take h e = subst OpOk (Some_inj e) h
-  taken_ok o p (Lost end) h e = absurd cc
-  taken_ok o p (CleanAlready y) h e = absurd cc
-  taken_ok o p (Trimmed t) h e = absurd cc
-  taken_ok o p (Sealed b) h e = absurd cc
-  taken_ok o p Same h e = absurd cc
+  taken_ok : (x : Plain) (o p : Op) (d : Decision) → OpOk x o → taken o d ≡ Some p → OpOk x p
+  taken_ok x o p Take h e = subst (OpOk x) (Some_inj e) h
+  taken_ok x o p (Lost end) h e = absurd cc
+  taken_ok x o p (CleanAlready y) h e = absurd cc
+  taken_ok x o p (Trimmed t) h e = absurd cc
+  taken_ok x o p (Sealed b) h e = absurd cc
+  taken_ok x o p Same h e = absurd cc
 
-  clean_ok : (l e : ℕ) (y : Summary) (o : Option Summary) (p : Op) → Y l e y → clean_op l e y o ≡ Some p → OpOk p
-  clean_ok l e y None p h q = subst OpOk (Some_inj q) h
-  clean_ok l e y (Some z) p h q = absurd cc
+  clean_ok : (x : Plain) (l e : ℕ) (y : Summary) (o : Option Summary) (p : Op) → Y l e y → clean_op l e y o ≡ Some p → OpOk x p
+  clean_ok x l e y None p h q = subst (OpOk x) (Some_inj q) h
+  clean_ok x l e y (Some z) p h q = absurd cc
 
-  refill_op_ok : (l : ℕ) (es : List Entry) (p : Op) → carried.EntriesOk E T Y O V W l es → refill_op l es ≡ Some p → OpOk p
-  refill_op_ok l [] p h q = absurd cc
-  refill_op_ok l (e ∷ es) p h q = subst OpOk (Some_inj q) h
+  refill_op_ok : (x : Plain) (l : ℕ) (es : List Entry) (p : Op) → OpOk x (ops.Refill l es) → refill_op l es ≡ Some p → OpOk x p
+  refill_op_ok x l [] p h q = absurd cc
+  refill_op_ok x l (e ∷ es) p h q = subst (OpOk x) (Some_inj q) h
 
-  if_some : (b : Bool) (o : Option Op) (p : Op) → (b ≡ true → o ≡ Some p → OpOk p) → (if b then o else None) ≡ Some p → OpOk p
-  if_some true o p h q = h refl q
-  if_some false o p h q = absurd cc
+  if_some : (x : Plain) (b : Bool) (o : Option Op) (p : Op) → (b ≡ true → o ≡ Some p → OpOk x p) → (if b then o else None) ≡ Some p → OpOk x p
+  if_some x true o p h q = h refl q
+  if_some x false o p h q = absurd cc
 
-  page_keeps : (l : ℕ) (w : Who) (g : Log) (b : Body) (p : Op) → carried.BodyOk E T Y O V W l w b → ((round n upto : ℕ) (es : List Entry) → b ≡ bodies.ReadPage round n upto true es → RefillOk l g es) → page_op g l b ≡ Some p → OpOk p
-  page_keeps l w g (bodies.ReadPage round n upto clean es) p h r q = by_clean clean h r q where
-    by_clean : (k : Bool) → carried.BodyOk E T Y O V W l w (bodies.ReadPage round n upto k es) → ((a b c : ℕ) (fs : List Entry) → bodies.ReadPage round n upto k es ≡ bodies.ReadPage a b c true fs → RefillOk l g fs) → (if k then refill_op l (lacking g es) else None) ≡ Some p → OpOk p
-    by_clean true h r q = refill_op_ok l (lacking g es) p (lacking_ok l g es (r round n upto es refl)) q
+  page_keeps : (x : Plain) (l : ℕ) (w : Who) (b : Body) (p : Op) → carried.BodyOk E T Y O V W R G l w b → ((round n upto : ℕ) (es : List Entry) → b ≡ bodies.ReadPage round n upto true es → RefillOk l (log_of x l) es) → page_op (log_of x l) l b ≡ Some p → OpOk x p
+  page_keeps x l w (bodies.ReadPage round n upto clean es) p h r q = by_clean clean h r q where
+    by_clean : (k : Bool) → carried.BodyOk E T Y O V W R G l w (bodies.ReadPage round n upto k es) → ((a b c : ℕ) (fs : List Entry) → bodies.ReadPage round n upto k es ≡ bodies.ReadPage a b c true fs → RefillOk l (log_of x l) fs) → (if k then refill_op l (lacking (log_of x l) es) else None) ≡ Some p → OpOk x p
+    by_clean true h r q = refill_op_ok x l (lacking (log_of x l) es) p (lacking_ok l (log_of x l) es (r round n upto es refl)) q
     by_clean false h r q = absurd cc
-  page_keeps l w g (bodies.ReadTrim round n t) p h r q = if_some (nat_lt g.trim t) (Some (ops.Trim l t)) p (λ u e. subst OpOk (Some_inj e) h) q
-  page_keeps l w g _ p h r q = absurd cc
+  page_keeps x l w (bodies.ReadTrim round n t) p h r q = if_some x (nat_lt (log_of x l).trim t) (Some (ops.Trim l t)) p (λ u e. subst (OpOk x) (Some_inj e) h) q
+  page_keeps x l w _ p h r q = absurd cc
 
-  keeps_page : (l : ℕ) (w : Who) (g : Log) (b : Body) (p : Op) → carried.BodyOk E T Y O V W l w b → ((round n upto : ℕ) (es : List Entry) → b ≡ bodies.ReadPage round n upto true es → g.lost ≡ true → RefillOk l g es) → (on_page g l b).op ≡ Some p → OpOk p
+  keeps_page : (x : Plain) (l : ℕ) (w : Who) (b : Body) (p : Op) → carried.BodyOk E T Y O V W R G l w b → ((round n upto : ℕ) (es : List Entry) → b ≡ bodies.ReadPage round n upto true es → (log_of x l).lost ≡ true → RefillOk l (log_of x l) es) → (on_page (log_of x l) l b).op ≡ Some p → OpOk x p
   unfolding on_page
-  keeps_page l w g b p h r q = if_some g.lost (page_op g l b) p (λ u e. page_keeps l w g b p h (λ x n y es k. r x n y es k u) e) q
+  keeps_page x l w b p h r q = if_some x (log_of x l).lost (page_op (log_of x l) l b) p (λ u e. page_keeps x l w b p h (λ i n y es k. r i n y es k u) e) q
 
   no_answer : (g : Log) (l : ℕ) (b x : Body) → (on_page g l b).answer ≡ Some x → ⊥
   unfolding on_page
   no_answer g l b x q = cc
 
-  pub record HandlesOk (l y : ℕ) (h : Handled) : Type 0 where
-    pub keeps : (p : Op) → h.op ≡ Some p → OpOk p
-    pub answers : (b : Body) → h.answer ≡ Some b → carried.BodyOk E T Y O V W l (whos.Node y) b
+  pub record HandlesOk (x : Plain) (l y : ℕ) (h : Handled) : Type 0 where
+    pub keeps : (p : Op) → h.op ≡ Some p → OpOk x p
+    pub answers : (b : Body) → h.answer ≡ Some b → carried.BodyOk E T Y O V W R G l (whos.Node y) b
 
-  pub message_ok : (generation l released y : ℕ) (g : Log) (w : Who) (b : Body) → carried.LogOk E T Y O V W l g → Shows l g released → W l released → carried.BodyOk E T Y O V W l w b
-      → ((round n upto : ℕ) (es : List Entry) → b ≡ bodies.ReadPage round n upto true es → g.lost ≡ true → RefillOk l g es) → HandlesOk l y (handled_by generation g l (ballot_of w) released b)
+  pub message_ok : (x : Plain) (generation l released y : ℕ) (w : Who) (b : Body) → carried.LogOk E T Y O V W R G l (log_of x l) → Shows l (log_of x l) released → W l released → carried.BodyOk E T Y O V W R G l w b
+      → ((round n upto : ℕ) (es : List Entry) → b ≡ bodies.ReadPage round n upto true es → (log_of x l).lost ≡ true → RefillOk l (log_of x l) es) → HandlesOk x l y (handled_by generation (log_of x l) l (ballot_of w) released b)
   unfolding on_store on_digest_ask on_clean on_trim Telling
-  message_ok generation l released y g w (bodies.Store n lng x) a S rel h r =
-      let e : Entry = record { number = n; ballot = ballot_of w; what = x } in let t = store_tells l g e a in record {
-        keeps = λ p q. taken_ok (ops.Accept l lng e) p (store_decision g e) h q;
-        answers = λ b q. stored_ok l generation n y g (store_decision g e) b a (K.place l (ballot_of w) n x h) (K.reached l (ballot_of w) n x h) t.0 t.1 q;
+  message_ok x generation l released y w (bodies.Store n lng z) a S rel h r =
+      let g = log_of x l in let e : Entry = record { number = n; ballot = ballot_of w; what = z } in let t = store_tells l g e a in record {
+        keeps = λ p q. taken_ok x (ops.Accept l lng e) p (store_decision g e) h q;
+        answers = λ b q. stored_ok l generation n y g (store_decision g e) b a (K.place l (ballot_of w) n z h.0) (K.reached l (ballot_of w) n z h.0) t.0 t.1 q;
       }
-  message_ok generation l released y g w (bodies.DigestAsk from) a S rel h r = let t = ask_tells l g (ballot_of w) from a in record {
-    keeps = λ p q. taken_ok (ops.Seal l (ballot_of w)) p (digest_decision g (ballot_of w) from) tt q;
-    answers = λ b q. told_ok l generation from y g (digest_decision g (ballot_of w) from) b a h.0 h.1 t.0 t.1 q;
+  message_ok x generation l released y w (bodies.DigestAsk from) a S rel h r = let g = log_of x l in let t = ask_tells l g (ballot_of w) from a in record {
+    keeps = λ p q. taken_ok x (ops.Seal l (ballot_of w)) p (digest_decision g (ballot_of w) from) tt q;
+    answers = λ b q. told_ok l generation from y g (digest_decision g (ballot_of w) from) b a h.0 h.1 t.0 t.1 (asks_unclean g (ballot_of w) from) q;
   }
-  message_ok generation l released y g w (bodies.Clean e s) a S rel h r = record { keeps = λ p q. clean_ok l e s (summary_at g e) p h q; answers = λ b q. absurd cc }
-  message_ok generation l released y g w (bodies.Trim t) a S rel h r = record { keeps = λ p q. if_some (nat_lt g.trim t) (Some (ops.Trim l t)) p (λ u e. subst OpOk (Some_inj e) h) q; answers = λ b q. absurd cc }
-  message_ok generation l released y g w (bodies.ReadAsk round from) a S rel h r = record { keeps = λ p q. absurd cc; answers = λ b q. subst (carried.BodyOk E T Y O V W l (whos.Node y)) (Some_inj q) (read_ok l generation released round from y g a S rel) }
-  message_ok generation l released y g w b a S rel h r = record { keeps = λ p q. keeps_page l w g b p h r q; answers = λ x q. absurd (no_answer g l b x q) }
+  message_ok x generation l released y w (bodies.Clean e s) a S rel h r = record { keeps = λ p q. clean_ok x l e s (summary_at (log_of x l) e) p h q; answers = λ b q. absurd cc }
+  message_ok x generation l released y w (bodies.Trim t) a S rel h r = record { keeps = λ p q. if_some x (nat_lt (log_of x l).trim t) (Some (ops.Trim l t)) p (λ u e. subst (OpOk x) (Some_inj e) h) q; answers = λ b q. absurd cc }
+  message_ok x generation l released y w (bodies.ReadAsk round from) a S rel h r = record { keeps = λ p q. absurd cc; answers = λ b q. subst (carried.BodyOk E T Y O V W R G l (whos.Node y)) (Some_inj q) (read_ok l generation released round from y (log_of x l) a S rel) }
+  message_ok x generation l released y w b a S rel h r = record { keeps = λ p q. keeps_page x l w b p h r q; answers = λ o q. absurd (no_answer (log_of x l) l b o q) }

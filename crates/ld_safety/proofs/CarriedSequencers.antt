@@ -1,11 +1,11 @@
 -- What a sequencer keeps and sends carries only what it was given, what it appended and what it planned.
 use Rattle.std.proofs.Common.{◌≡◌, ◌∙◌, ◌<◌, ℕ, ◌+◌, max, inl, inr, refl, ap, sym, subst, Bool, true, false, if◌then◌else◌, nat_lt, nat_le, ◌&&◌, ◌==◌, List, [], ◌∷◌, ◌++◌, Some, None, arith}
-use Rattle.std.proofs.lemmas.Bool.{and_parts, eqb-true, ltb-true, leb-false, cases_order}
+use Rattle.std.proofs.lemmas.Bool.{and_parts, eqb-true, ltb-true, leb-false}
 use Rattle.ld_table.specs.Table.{find, put}
-use Rattle.ld_table.specs.Words.{without}
+use Rattle.ld_table.specs.Words.{is_in, without}
 use Rattle.ld_lsn.specs.Number.{epoch_of, esn_of, home_epoch, numbered, last_esn}
 use Rattle.ld_ids.specs.declared.set.Spec.{Spec}
-use Rattle.ld_ids.specs.Choice.{at_epoch, nodes_of}
+use Rattle.ld_ids.specs.Choice.{nodes_of}
 use Rattle.ld_config.specs.declared.config.Config.{Config}
 use Rattle.ld_msg.specs.Choice.{choice}
 use Rattle.ld_msg.specs.declared.msg.What.{What}
@@ -15,19 +15,21 @@ use Rattle.ld_msg.specs.declared.msg.Summary.{Summary}
 use Rattle.ld_msg.specs.declared.msg.Who.TheVariants as whos
 use Rattle.ld_msg.specs.declared.msg.Body.{Body}
 use Rattle.ld_msg.specs.declared.msg.Body.TheVariants as bodies
-use Rattle.ld_msg.specs.Register.{Register, Granted, lce_of, close}
-use Rattle.ld_msg.specs.Digest.{Told, told_nothing, no_digest, told_page, takes_page, with_page, enough, told_lost, with_lost, Item, plan, digest_trim}
-use Rattle.ld_msg.specs.Sequencer.{Sequencer, Recovery, Stage, Seals, Stores, Closes, Storing, Append, Planned, Acts, does_nothing, to_each, digest_asks, next_ask, recovery_of, recovery_asks, planned, item_stores, settle, settled_by, summary_of, lost_stage, stored_at, unacked_from, is_acked, own_spec, raised, append_stores, next_wave, takes_any, is_ready, activated, bare, Called, acted_messages, release_messages, released_of}
-use Rattle.ld_machine.specs.Config.{spec_in}
+use Rattle.ld_msg.specs.Register.{Register, View, Granted, lce_of, close, look}
+use Rattle.ld_msg.specs.Digest.{Told, told_nothing, no_digest, told_page, takes_page, with_page, asked_anew, with_asks, enough, told_lost, with_lost, Item, plan, digest_trim, digest_lng}
+use Rattle.ld_msg.specs.Sequencer.{Sequencer, Recovery, Stage, Seals, Stores, Closes, Storing, Append, Planned, Acts, does_nothing, to_each, digest_asks, next_ask, begun, recovery_of, recovery_asks, planned, item_stores, settle, settled_by, summary_of, lost_stage, stored_at, unacked_from, is_acked, raised, append_stores, next_wave, takes_any, is_ready, activated, bare, Called, acted_messages, release_messages, released_of}
+use Rattle.ld_machine.specs.Config.{looks_at, spec_of}
 use Rattle.ld_machine.specs.World.{In, Made}
-use Rattle.ld_safety.proofs.Lists.{cond_both, In-append, In-map}
+use Rattle.ld_safety.proofs.Lists.{cond_both, max_both, In-append, In-map}
+use Rattle.ld_safety.proofs.Plans.{lng_has, trim_has}
 use Rattle.ld_safety.proofs.Members.{find_in, In_put}
+use Rattle.ld_safety.proofs.Acks.{raised_in}
 use Rattle.ld_safety.proofs.SequencerSteps.{Settling, Closing, Acting, Retrying, acts_with}
 use Rattle.ld_safety.proofs.Carried as carried
 
-module _ (E : ℕ → ℕ → ℕ → What → Type 0) (T : ℕ → ℕ → Type 0) (Y : ℕ → ℕ → Summary → Type 0) (O : ℕ → ℕ → Type 0) (V : ℕ → Bool → Entry → Type 0) (W : ℕ → ℕ → Type 0) (K : carried.Sound E T Y O V W) where
+module _ (E : ℕ → ℕ → ℕ → What → Type 0) (T : ℕ → ℕ → Type 0) (Y : ℕ → ℕ → Summary → Type 0) (O : ℕ → ℕ → Type 0) (V : ℕ → Bool → Entry → Type 0) (W : ℕ → ℕ → Type 0) (R : ℕ → ℕ → ℕ → What → Type 0) (G : ℕ → ℕ → ℕ → Type 0) (K : carried.Sound E T Y O V W R G) where
   pub record BodiesOk (l b : ℕ) (bs : List (ℕ × Body)) : Type 0 where
-    pub each : (x : ℕ × Body) → In x bs → carried.BodyOk E T Y O V W l (whos.Sequencer b) x.1
+    pub each : (x : ℕ × Body) → In x bs → carried.BodyOk E T Y O V W R G l (whos.Sequencer b) x.1
 
   -- ---- messages ----
   none_ok : (l b : ℕ) → BodiesOk l b []
@@ -36,13 +38,13 @@ module _ (E : ℕ → ℕ → ℕ → What → Type 0) (T : ℕ → ℕ → Type
   both_ok : (l b : ℕ) (xs ys : List (ℕ × Body)) → BodiesOk l b xs → BodiesOk l b ys → BodiesOk l b (xs ++ ys)
   both_ok l b xs ys h g = record { each = λ x i. elim (In-append x xs ys i) [ inl a ↦ h.each x a | inr a ↦ g.each x a ] }
 
-  one_more : (l b : ℕ) (y : ℕ × Body) (ys : List (ℕ × Body)) → carried.BodyOk E T Y O V W l (whos.Sequencer b) y.1 → BodiesOk l b ys → BodiesOk l b (y ∷ ys)
+  one_more : (l b : ℕ) (y : ℕ × Body) (ys : List (ℕ × Body)) → carried.BodyOk E T Y O V W R G l (whos.Sequencer b) y.1 → BodiesOk l b ys → BodiesOk l b (y ∷ ys)
   one_more l b y ys h r = record { each = λ x i. more x i } where
-    more : (x : ℕ × Body) → In x (y ∷ ys) → carried.BodyOk E T Y O V W l (whos.Sequencer b) x.1
-    more x (inl e) = subst (λ (z : ℕ × Body). carried.BodyOk E T Y O V W l (whos.Sequencer b) z.1) (sym e) h
+    more : (x : ℕ × Body) → In x (y ∷ ys) → carried.BodyOk E T Y O V W R G l (whos.Sequencer b) x.1
+    more x (inl e) = subst (λ (z : ℕ × Body). carried.BodyOk E T Y O V W R G l (whos.Sequencer b) z.1) (sym e) h
     more x (inr i) = r.each x i
 
-  pub each_ok : (l b : ℕ) (body : Body) (ys : List ℕ) → carried.BodyOk E T Y O V W l (whos.Sequencer b) body → BodiesOk l b (to_each body ys)
+  pub each_ok : (l b : ℕ) (body : Body) (ys : List ℕ) → carried.BodyOk E T Y O V W R G l (whos.Sequencer b) body → BodiesOk l b (to_each body ys)
   each_ok l b body [] h = none_ok l b
   each_ok l b body (y ∷ ys) h = one_more l b (y, body) (to_each body ys) h (each_ok l b body ys h)
 
@@ -51,9 +53,9 @@ module _ (E : ℕ → ℕ → ℕ → What → Type 0) (T : ℕ → ℕ → Type
   if_ok l b false xs ys h g = g
 
   abbrev pub DigestOk : ℕ → ℕ → List Told → Type 0
-  DigestOk l e d = (t : Told) → In t d → carried.ToldOk E T Y O V W l e t
+  DigestOk l e d = (t : Told) → In t d → carried.ToldOk E T Y O V W R G l e t
 
-  ask_of : (l b e z : ℕ) (t : Told) (xs ys : List (ℕ × Body)) → O l e → carried.ToldOk E T Y O V W l e t → BodiesOk l b xs → BodiesOk l b ys → (k : Bool) → t.whole ≡ k → BodiesOk l b (if k then xs else (z, bodies.DigestAsk t.asked) ∷ ys)
+  ask_of : (l b e z : ℕ) (t : Told) (xs ys : List (ℕ × Body)) → O l e → carried.ToldOk E T Y O V W R G l e t → BodiesOk l b xs → BodiesOk l b ys → (k : Bool) → t.whole ≡ k → BodiesOk l b (if k then xs else (z, bodies.DigestAsk t.asked) ∷ ys)
   ask_of l b e z t xs ys o h a c true w = a
   ask_of l b e z t xs ys o h a c false w = let k = h.asks w in one_more l b _ ys (k.0, subst (O l) (sym k.1) o) c
 
@@ -66,42 +68,58 @@ module _ (E : ℕ → ℕ → ℕ → What → Type 0) (T : ℕ → ℕ → Type
   next_ok l b e y (t ∷ d) o h = if_ok l b (t.node == y) _ _ (ask_of l b e y t [] [] o (h t (inl refl)) (none_ok l b) (none_ok l b) t.whole refl) (next_ok l b e y d o (λ u i. h u (inr i)))
 
   -- ---- digests ----
-  max_trim : (l a b : ℕ) → T l a → T l b → T l (max a b)
-  max_trim l a b x y = elim (cases_order a b) [
-    | inl e ↦ subst (T l) (let z : b ≡ max a b = omega arith in z) y
-    | inr (inl e) ↦ subst (T l) (let z : b ≡ max a b = omega arith in z) y
-    | inr (inr e) ↦ subst (T l) (let z : a ≡ max a b = omega arith in z) x
-  ]
-
   numbered_place : (e : ℕ) → (0 < esn_of (numbered e 1)) × (epoch_of (numbered e 1) ≡ e)
   numbered_place e = (omega arith, omega arith)
 
   fresh_digest : (l : ℕ) (s : Spec) (e : ℕ) → DigestOk l e (no_digest s e)
-  fresh_digest l s e t i = let m = In-map (told_nothing e) t (nodes_of s) i in subst (carried.ToldOk E T Y O V W l e) (sym m.2) (record { entries = λ x j. absurd j; trim = K.zero_trim l; asks = λ w. numbered_place e })
+  fresh_digest l s e t i = let m = In-map (told_nothing e) t (nodes_of s) i in subst (carried.ToldOk E T Y O V W R G l e) (sym m.2) (record { entries = λ x j. absurd j; trim = K.zero_trim l; good = K.zero_good l e; asks = λ w. numbered_place e })
 
-  whole_by : (e upto : ℕ) → nat_le (numbered e last_esn) upto ≡ false → 0 < esn_of upto → epoch_of upto ≡ e → (0 < esn_of (upto + 1)) × (epoch_of (upto + 1) ≡ e)
+  -- an ask goes on past what is known good
+  abbrev InEpoch : ℕ → ℕ → Type 0
+  InEpoch e n = (0 < esn_of n) × (epoch_of n ≡ e)
+
+  past_good : (e good n : ℕ) → InEpoch e n → good < last_esn → InEpoch e (max n (numbered e (good + 1)))
+  past_good e good n h g = max_both (InEpoch e) n (numbered e (good + 1)) h (omega arith, omega arith)
+
+  whole_by : (e upto : ℕ) → nat_le (numbered e last_esn) upto ≡ false → 0 < esn_of upto → epoch_of upto ≡ e → InEpoch e (upto + 1)
   whole_by e upto w p q = let n = leb-false (numbered e last_esn) upto w in (omega arith, omega arith)
 
-  page_told : (l e y from upto trim : ℕ) (es : List Entry) (t : Told) → carried.PageOk E T Y O V W l from upto trim es → epoch_of from ≡ e → carried.ToldOk E T Y O V W l e t → carried.ToldOk E T Y O V W l e (told_page e upto trim es t)
-  page_told l e y from upto trim es t p q h = record {
+  pub digest_good : (l e : ℕ) (d : List Told) → DigestOk l e d → G l e (digest_lng d)
+  digest_good l e d h = lng_has (G l e) d (K.zero_good l e) (λ t i. (h t i).good)
+
+  page_told : (l e y good from upto trim lng : ℕ) (es : List Entry) (t : Told) → carried.PageOk E T Y O V W R G l from upto trim lng es → epoch_of from ≡ e → good < last_esn → carried.ToldOk E T Y O V W R G l e t → carried.ToldOk E T Y O V W R G l e (told_page e good upto trim lng es t)
+  page_told l e y good from upto trim lng es t p q g h = record {
     entries = λ x i. elim (In-append x t.entries es i) [ inl a ↦ h.entries x a | inr a ↦ p.entries x a ];
-    trim = max_trim l _ _ h.trim p.trim;
-    asks = λ w. whole_by e upto w p.upto_place (p.same_epoch ∙ q);
+    trim = max_both (T l) _ _ h.trim p.trim;
+    good = max_both (G l e) _ _ h.good (subst (λ k. G l k lng) q p.good);
+    asks = λ w. past_good e good (upto + 1) (whole_by e upto w p.upto_place (p.same_epoch ∙ q)) g;
   }
 
-  with_page_ok : (l e y from upto trim : ℕ) (es : List Entry) (d : List Told) → carried.PageOk E T Y O V W l from upto trim es → epoch_of from ≡ e → DigestOk l e d → DigestOk l e (with_page e y from upto trim es d)
+  with_page_ok : (l e y from upto trim lng : ℕ) (es : List Entry) (d : List Told) → carried.PageOk E T Y O V W R G l from upto trim lng es → epoch_of from ≡ e → DigestOk l e d → DigestOk l e (with_page e y from upto trim lng es d)
   unfolding with_page
-  with_page_ok l e y from upto trim es d p q h t i = let m = In-map (λ t. if takes_page y from t then told_page e upto trim es t else t) t d i in
-      subst (carried.ToldOk E T Y O V W l e) (sym m.2) (cond_both (takes_page y from m.0) (told_page e upto trim es m.0) m.0 (carried.ToldOk E T Y O V W l e) (λ u. page_told l e y from upto trim es m.0 p q (h m.0 m.1)) (λ u. h m.0 m.1))
+  with_page_ok l e y from upto trim lng es d p q h t i =
+      let good = max (digest_lng d) lng in
+      let g = K.good_below l e good (max_both (G l e) _ _ (digest_good l e d h) (subst (λ k. G l k lng) q p.good)) in
+      let m = In-map (λ t. if takes_page y from t then told_page e good upto trim lng es t else t) t d i in
+      subst (carried.ToldOk E T Y O V W R G l e) (sym m.2) (cond_both (takes_page y from m.0) (told_page e good upto trim lng es m.0) m.0 (carried.ToldOk E T Y O V W R G l e) (λ u. page_told l e y good from upto trim lng es m.0 p q g (h m.0 m.1)) (λ u. h m.0 m.1))
+
+  with_asks_ok : (l e : ℕ) (d : List Told) → DigestOk l e d → DigestOk l e (with_asks e d)
+  unfolding with_asks
+  with_asks_ok l e d h t i =
+      let good = digest_lng d in let m = In-map (asked_anew e good) t d i in let u = h m.0 m.1 in
+      subst (carried.ToldOk E T Y O V W R G l e) (sym m.2) (record {
+        entries = u.entries;
+        trim = u.trim;
+        good = u.good;
+        asks = λ w. cond_both (m.0.asked == numbered e 1) m.0.asked (max m.0.asked (numbered e (good + 1))) (InEpoch e) (λ b. u.asks w) (λ b. past_good e good m.0.asked (u.asks w) (K.good_below l e good (digest_good l e d h)));
+      })
 
   with_lost_ok : (l e y : ℕ) (d : List Told) → DigestOk l e d → DigestOk l e (with_lost y d)
   unfolding with_lost
-  with_lost_ok l e y d h t i = let m = In-map (told_lost y) t d i in let u = h m.0 m.1 in subst (carried.ToldOk E T Y O V W l e) (sym m.2) (record { entries = u.entries; trim = u.trim; asks = u.asks })
+  with_lost_ok l e y d h t i = let m = In-map (told_lost y) t d i in let u = h m.0 m.1 in subst (carried.ToldOk E T Y O V W R G l e) (sym m.2) (record { entries = u.entries; trim = u.trim; good = u.good; asks = u.asks })
 
   digest_trim_ok : (l e : ℕ) (d : List Told) → DigestOk l e d → T l (digest_trim d)
-  unfolding digest_trim
-  digest_trim_ok l e [] h = K.zero_trim l
-  digest_trim_ok l e (t ∷ d) h = max_trim l _ _ (h t (inl refl)).trim (digest_trim_ok l e d (λ u i. h u (inr i)))
+  digest_trim_ok l e d h = trim_has (T l) d (K.zero_trim l) (λ t i. (h t i).trim)
 
   -- ---- plans ----
   ItemsOk : ℕ → ℕ → List (ℕ × Planned) → Type 0
@@ -113,10 +131,14 @@ module _ (E : ℕ → ℕ → ℕ → What → Type 0) (T : ℕ → ℕ → Type
   planned_ok l b (j ∷ is) h x (inl e) = subst (λ (z : ℕ × Planned). E l b z.0 z.1.what) (sym e) (h j (inl refl))
   planned_ok l b (j ∷ is) h x (inr i) = planned_ok l b is (λ y k. h y (inr k)) x i
 
-  stores_ok : (l b : ℕ) (s : Spec) (lost : List ℕ) (wave : ℕ) (is : List (ℕ × Planned)) → ItemsOk l b is → BodiesOk l b (item_stores s lost wave is)
+  -- the items of a plan are of one epoch
+  abbrev OfEpoch : ℕ → List (ℕ × Planned) → Type 0
+  OfEpoch e is = (i : ℕ × Planned) → In i is → epoch_of i.0 ≡ e
+
+  stores_ok : (l b e : ℕ) (s : Spec) (lost : List ℕ) (lng wave : ℕ) (is : List (ℕ × Planned)) → G l e lng → OfEpoch e is → ItemsOk l b is → BodiesOk l b (item_stores s lost lng wave is)
   unfolding ItemsOk
-  stores_ok l b s lost wave [] h = none_ok l b
-  stores_ok l b s lost wave (j ∷ is) h = both_ok l b _ _ (if_ok l b _ _ _ (each_ok l b _ (choice s lost j.0 wave) (h j (inl refl))) (none_ok l b)) (stores_ok l b s lost wave is (λ y k. h y (inr k)))
+  stores_ok l b e s lost lng wave [] g o h = none_ok l b
+  stores_ok l b e s lost lng wave (j ∷ is) g o h = both_ok l b _ _ (if_ok l b _ _ _ (each_ok l b _ (choice s lost j.0 wave) (h j (inl refl), subst (λ k. G l k lng) (sym (o j (inl refl))) g)) (none_ok l b)) (stores_ok l b e s lost lng wave is g (λ y k. o y (inr k)) (λ y k. h y (inr k)))
 
   settle_ok : (l b : ℕ) (p : ℕ → Bool) (y : ℕ) (is : List (ℕ × Planned)) → ItemsOk l b is → ItemsOk l b (settle p y is)
   unfolding ItemsOk
@@ -124,148 +146,168 @@ module _ (E : ℕ → ℕ → ℕ → What → Type 0) (T : ℕ → ℕ → Type
   settle_ok l b p y (j ∷ is) h x (inl e) = subst (λ (z : ℕ × Planned). E l b z.0 z.1.what) (sym e) (cond_both (p j.0) _ j.1 (λ (z : Planned). E l b j.0 z.what) (λ t. h j (inl refl)) (λ t. h j (inl refl)))
   settle_ok l b p y (j ∷ is) h x (inr i) = settle_ok l b p y is (λ z k. h z (inr k)) x i
 
+  planned_epoch : (e : ℕ) (is : List Item) → ((i : Item) → In i is → epoch_of i.number ≡ e) → OfEpoch e (planned is)
+  planned_epoch e [] h x i = absurd i
+  planned_epoch e (j ∷ is) h x (inl q) = ap (λ (z : ℕ × Planned). epoch_of z.0) q ∙ h j (inl refl)
+  planned_epoch e (j ∷ is) h x (inr i) = planned_epoch e is (λ y k. h y (inr k)) x i
+
+  settle_epoch : (e : ℕ) (p : ℕ → Bool) (y : ℕ) (is : List (ℕ × Planned)) → OfEpoch e is → OfEpoch e (settle p y is)
+  settle_epoch e p y [] h x i = absurd i
+  settle_epoch e p y (j ∷ is) h x (inl q) = ap (λ (z : ℕ × Planned). epoch_of z.0) q ∙ h j (inl refl)
+  settle_epoch e p y (j ∷ is) h x (inr i) = settle_epoch e p y is (λ z k. h z (inr k)) x i
+
   -- ---- appends ----
-  unacked_ok : (l b : ℕ) (s : Spec) (m : List (ℕ × Append)) → carried.AppendsOk E T Y O V W l b m → carried.AppendsOk E T Y O V W l b (unacked_from s m)
+  unacked_ok : (l b : ℕ) (s : Spec) (m : List (ℕ × Append)) → carried.AppendsOk E T Y O V W R G l b m → carried.AppendsOk E T Y O V W R G l b (unacked_from s m)
   unacked_ok l b s [] h x i = absurd i
   unacked_ok l b s (p ∷ m) h x i = unacked_by (is_acked s p.1) (unacked_ok l b s m (λ y k. h y (inr k)) x) i where
     unacked_by : (t : Bool) → (In x (unacked_from s m) → E l b x.0 (Rec x.1.payload)) → In x (if t then unacked_from s m else p ∷ m) → E l b x.0 (Rec x.1.payload)
     unacked_by true ih i = ih i
     unacked_by false ih i = h x i
 
-  acks_ok : (s : Spec) (q : Sequencer) (y n : ℕ) (p : Append) → carried.AppendsOk E T Y O V W q.log q.epoch q.appends → find n q.appends ≡ Some p → carried.AppendsOk E T Y O V W q.log q.epoch (unacked_from s (put n (stored_at p y) q.appends))
+  acks_ok : (s : Spec) (q : Sequencer) (y n : ℕ) (p : Append) → carried.AppendsOk E T Y O V W R G q.log q.epoch q.appends → find n q.appends ≡ Some p → carried.AppendsOk E T Y O V W R G q.log q.epoch (unacked_from s (put n (stored_at p y) q.appends))
   acks_ok s q y n p h f = unacked_ok q.log q.epoch s (put n (stored_at p y) q.appends) (λ x i. elim (In_put n (stored_at p y) q.appends x i) [
     | inl e ↦ subst (λ (z : ℕ × Append). E q.log q.epoch z.0 (Rec z.1.payload)) (sym e) (h (n, p) (find_in n q.appends p f))
     | inr j ↦ h x j
   ])
 
-  raised_ok : (l b : ℕ) (s : Spec) (m : List (ℕ × Append)) → carried.AppendsOk E T Y O V W l b m → carried.AppendsOk E T Y O V W l b (raised s m)
+  raised_ok : (l b : ℕ) (s : Spec) (m : List (ℕ × Append)) → carried.AppendsOk E T Y O V W R G l b m → carried.AppendsOk E T Y O V W R G l b (raised s m)
   raised_ok l b s [] h x i = absurd i
   raised_ok l b s (p ∷ m) h x (inl e) = subst (λ (z : ℕ × Append). E l b z.0 (Rec z.1.payload)) (sym e) (cond_both (is_acked s p.1) p.1 _ (λ (z : Append). E l b p.0 (Rec z.payload)) (λ t. h p (inl refl)) (λ t. h p (inl refl)))
   raised_ok l b s (p ∷ m) h x (inr i) = raised_ok l b s m (λ y k. h y (inr k)) x i
 
-  append_stores_ok : (l b : ℕ) (s : Spec) (lost : List ℕ) (m : List (ℕ × Append)) → carried.AppendsOk E T Y O V W l b m → BodiesOk l b (append_stores s lost m)
-  append_stores_ok l b s lost [] h = none_ok l b
-  append_stores_ok l b s lost (p ∷ m) h = both_ok l b _ _ (if_ok l b _ _ _ (none_ok l b) (each_ok l b _ (without p.1.stored (choice s lost p.0 p.1.wave)) (h p (inl refl)))) (append_stores_ok l b s lost m (λ y k. h y (inr k)))
+  -- the numbers that wait are of one epoch
+  abbrev pub OfOwn : ℕ → List (ℕ × Append) → Type 0
+  OfOwn e m = (p : ℕ × Append) → In p m → epoch_of p.0 ≡ e
+
+  raised_own : (e : ℕ) (s : Spec) (m : List (ℕ × Append)) → OfOwn e m → OfOwn e (raised s m)
+  raised_own e s m h x i = let z = raised_in s m x i in ap epoch_of z.2 ∙ h z.0 z.1
+
+  append_stores_ok : (l b : ℕ) (s : Spec) (lost : List ℕ) (lng : ℕ) (m : List (ℕ × Append)) → G l b lng → OfOwn b m → carried.AppendsOk E T Y O V W R G l b m → BodiesOk l b (append_stores s lost lng m)
+  append_stores_ok l b s lost lng [] g o h = none_ok l b
+  append_stores_ok l b s lost lng (p ∷ m) g o h = both_ok l b _ _ (if_ok l b _ _ _ (none_ok l b) (each_ok l b _ (without p.1.stored (choice s lost p.0 p.1.wave)) (h p (inl refl), subst (λ k. G l k lng) (sym (o p (inl refl))) g)))
+      (append_stores_ok l b s lost lng m g (λ y k. o y (inr k)) (λ y k. h y (inr k)))
 
   -- ---- a recovery that begins ----
-  begins_ok : (l : ℕ) (s : Spec) (q : Sequencer) (lce : ℕ) → ((e : ℕ) → 0 < e → e < q.epoch → O l e) → carried.RecoveryOk E T Y O V W l q.epoch (recovery_of s q lce)
-  begins_ok l s q lce C = begins_by (nat_lt (lce + 1) q.epoch) refl where
-    begins_by : (t : Bool) → nat_lt (lce + 1) q.epoch ≡ t → carried.RecoveryOk E T Y O V W l q.epoch (if t then Some (record { epoch = lce + 1; lost = []; stage = Seals (no_digest (at_epoch s (lce + 1)) (lce + 1)) }) else None)
-    begins_by true h = ((omega arith, ltb-true (lce + 1) q.epoch h, C (lce + 1) (omega arith) (ltb-true (lce + 1) q.epoch h)), fresh_digest l (at_epoch s (lce + 1)) (lce + 1))
+  begins_ok : (c : Config) (r : Register) (k l : ℕ) (q : Sequencer) (lce : ℕ) → ((e : ℕ) → 0 < e → e < q.epoch → O l e) → carried.RecoveryOk E T Y O V W R G l q.epoch (recovery_of (looks_at c r k) q lce)
+  unfolding look
+  begins_ok c r k l q lce C = begins_by (nat_lt (lce + 1) q.epoch) refl where
+    begins_by : (t : Bool) → nat_lt (lce + 1) q.epoch ≡ t → carried.RecoveryOk E T Y O V W R G l q.epoch (if t then Some (begun (looks_at c r k (lce + 1))) else None)
+    begins_by true h = ((omega arith, ltb-true (lce + 1) q.epoch h, C (lce + 1) (omega arith) (ltb-true (lce + 1) q.epoch h)), fresh_digest l (spec_of c r k (lce + 1)) (lce + 1))
     begins_by false h = tt
 
-  pub begin_asks_ok : (l b : ℕ) (s : Spec) (q : Sequencer) (lce : ℕ) → ((e : ℕ) → 0 < e → e < q.epoch → O l e) → BodiesOk l b (recovery_asks s q lce)
-  begin_asks_ok l b s q lce C = begins_by (nat_lt (lce + 1) q.epoch) refl where
-    begins_by : (t : Bool) → nat_lt (lce + 1) q.epoch ≡ t → BodiesOk l b (if t then digest_asks (no_digest (at_epoch s (lce + 1)) (lce + 1)) else [])
-    begins_by true h = asks_ok l b (lce + 1) _ (C (lce + 1) (omega arith) (ltb-true (lce + 1) q.epoch h)) (fresh_digest l (at_epoch s (lce + 1)) (lce + 1))
+  pub begin_asks_ok : (l b : ℕ) (looks : ℕ → View) (q : Sequencer) (lce : ℕ) → ((e : ℕ) → 0 < e → e < q.epoch → O l e) → BodiesOk l b (recovery_asks looks q lce)
+  begin_asks_ok l b looks q lce C = begins_by (nat_lt (lce + 1) q.epoch) refl where
+    begins_by : (t : Bool) → nat_lt (lce + 1) q.epoch ≡ t → BodiesOk l b (if t then digest_asks (no_digest (looks (lce + 1)).spec (lce + 1)) else [])
+    begins_by true h = asks_ok l b (lce + 1) _ (C (lce + 1) (omega arith) (ltb-true (lce + 1) q.epoch h)) (fresh_digest l (looks (lce + 1)).spec (lce + 1))
     begins_by false h = none_ok l b
 
-  pub activated_ok : (name : List ℕ) (s : Spec) (l e lce : ℕ) → ((k : ℕ) → 0 < k → k < e → O l k) → carried.SequencerOk E T Y O V W name (activated s l e lce)
+  pub activated_ok : (name : List ℕ) (c : Config) (r : Register) (p : Spec) (l e lce : ℕ) → ((k : ℕ) → 0 < k → k < e → O l k) → carried.SequencerOk E T Y O V W R G name (activated (looks_at c r l) p l e lce)
   unfolding activated
-  activated_ok name s l e lce C = record { appends = λ p i. absurd i; recovery = begins_ok l s (bare l e lce) lce C }
+  activated_ok name c r p l e lce C = record { appends = λ x i. absurd i; recovery = begins_ok c r l l (bare p l e lce) lce C }
 
   -- ---- a call ----
   pub record CalledOk (name : List ℕ) (q : Sequencer) (k : Called) : Type 0 where
-    pub sequencer : carried.SequencerOk E T Y O V W name k.acts.sequencer
+    pub sequencer : carried.SequencerOk E T Y O V W R G name k.acts.sequencer
     pub cleans : BodiesOk q.log q.epoch k.acts.cleans
     pub asks : BodiesOk q.log q.epoch k.acts.asks
     pub stores : BodiesOk q.log q.epoch k.acts.stores
 
-  release_ok : (p : Spec) (l b : ℕ) (old new : Sequencer) → W l (released_of new) → BodiesOk l b (release_messages p old new)
-  release_ok p l b old new h = if_ok l b _ _ _ (each_ok l b _ _ h) (none_ok l b)
+  release_ok : (l b : ℕ) (old new : Sequencer) → W l (released_of new) → BodiesOk l b (release_messages old new)
+  release_ok l b old new h = if_ok l b _ _ _ (each_ok l b _ _ h) (none_ok l b)
 
-  pub messages_ok : (p : Spec) (name : List ℕ) (q : Sequencer) (k : Called) → CalledOk name q k → W q.log (released_of k.acts.sequencer) → BodiesOk q.log q.epoch (acted_messages p q k.acts)
-  messages_ok p name q k h r = both_ok q.log q.epoch _ _ h.cleans (both_ok q.log q.epoch _ _ (release_ok p q.log q.epoch q k.acts.sequencer r) (both_ok q.log q.epoch _ _ h.asks h.stores))
+  pub messages_ok : (name : List ℕ) (q : Sequencer) (k : Called) → CalledOk name q k → W q.log (released_of k.acts.sequencer) → BodiesOk q.log q.epoch (acted_messages q k.acts)
+  messages_ok name q k h r = both_ok q.log q.epoch _ _ h.cleans (both_ok q.log q.epoch _ _ (release_ok q.log q.epoch q k.acts.sequencer r) (both_ok q.log q.epoch _ _ h.asks h.stores))
 
   -- the summary with which a recovery is closed: it was tried before, or the plan is ready
-  pub data Ending (c : Config) (q : Sequencer) (heard : ℕ → Body → Type 0) (v : Recovery) (y : Summary) : Type 0 where
-    closing_now : v.stage ≡ Closes y → Ending c q heard v y
-    ready_now : (g : Storing) (p : ℕ → Bool) (z : ℕ) (b : Body) → heard z b → Settling b v.epoch p → v.stage ≡ Stores g → is_ready (spec_in q.log c.logs) (settled_by p z g) ≡ true → y ≡ summary_of q.epoch (settled_by p z g) → Ending c q heard v y
+  pub data Ending (q : Sequencer) (heard : ℕ → Body → Type 0) (v : Recovery) (y : Summary) : Type 0 where
+    closing_now : v.stage ≡ Closes y → Ending q heard v y
+    ready_now : (g : Storing) (p : ℕ → Bool) (z : ℕ) (b : Body) → heard z b → Settling b v.epoch p → is_in z (nodes_of v.spec) ≡ true → v.stage ≡ Stores g → is_ready v.spec (settled_by p z g) ≡ true → y ≡ summary_of q.epoch (settled_by p z g) → Ending q heard v y
 
   -- the call that is made, and the plans that it makes
-  module _ (name : List ℕ) (q : Sequencer) (r : Register) (call : Called) (plans_made : List Made) (C : (e : ℕ) → 0 < e → e < q.epoch → O q.log e) where
+  module _ (name : List ℕ) (q : Sequencer) (r : Register) (call : Called) (plans_made : List Made) (C : (e : ℕ) → 0 < e → e < q.epoch → O q.log e) (L : G q.log q.epoch q.lng) (own : OfOwn q.epoch q.appends) where
     -- a sequencer with other stages and the like, and no message
-    quiet_ok : (a : Acts) → carried.SequencerOk E T Y O V W name a.sequencer → BodiesOk q.log q.epoch a.cleans → BodiesOk q.log q.epoch a.asks → BodiesOk q.log q.epoch a.stores → CalledOk name q (acts_with r a)
+    quiet_ok : (a : Acts) → carried.SequencerOk E T Y O V W R G name a.sequencer → BodiesOk q.log q.epoch a.cleans → BodiesOk q.log q.epoch a.asks → BodiesOk q.log q.epoch a.stores → CalledOk name q (acts_with r a)
     quiet_ok a h x y z = record { sequencer = h; cleans = x; asks = y; stores = z }
 
     ap_register : {n : Register} {a : Acts} → call ≡ record { acts = a; register = n } → call.register ≡ n
     ap_register w = ap (λ (k : Called). k.register) w
 
-    with_plans : (p : Register) (s : Spec) (a : Acts) (e : ℕ) (y : Summary) → Closing p s a e y (λ k. call ≡ k → CalledOk name q k) → Closing p s a e y (λ k. call ≡ k → plans_made ≡ [] → CalledOk name q k)
-    with_plans p s a e y h = record { granted = λ n i j w m. h.granted n i j w; overtaken = λ i w m. h.overtaken i w; behind = λ b i w m. h.behind b i w; failed = λ n j w m. h.failed n j w }
+    with_plans : (p : Register) (looks : ℕ → View) (a : Acts) (e : ℕ) (y : Summary) → Closing p looks a e y (λ k. call ≡ k → CalledOk name q k) → Closing p looks a e y (λ k. call ≡ k → plans_made ≡ [] → CalledOk name q k)
+    with_plans p looks a e y h = record { granted = λ n i j w m. h.granted n i j w; overtaken = λ i w m. h.overtaken i w; behind = λ b i w m. h.behind b i w; failed = λ n j w m. h.failed n j w }
 
     -- the close: what it closes with is sound
-    close_ok : (s : Spec) (a : Acts) (e : ℕ) (y : Summary) → a.sequencer.log ≡ q.log → a.sequencer.epoch ≡ q.epoch → carried.AppendsOk E T Y O V W a.sequencer.log a.sequencer.epoch a.sequencer.appends → carried.SequencerOk E T Y O V W name a.sequencer → BodiesOk q.log q.epoch a.cleans → BodiesOk q.log q.epoch a.asks → BodiesOk q.log q.epoch a.stores
+    close_ok : (c : Config) (a : Acts) (e : ℕ) (y : Summary) → a.sequencer.log ≡ q.log → a.sequencer.epoch ≡ q.epoch → carried.AppendsOk E T Y O V W R G a.sequencer.log a.sequencer.epoch a.sequencer.appends → carried.SequencerOk E T Y O V W R G name a.sequencer → BodiesOk q.log q.epoch a.cleans → BodiesOk q.log q.epoch a.asks → BodiesOk q.log q.epoch a.stores
         → ((n : Register) → lce_of r a.sequencer.log + 1 ≡ e → close r a.sequencer.log e y ≡ record { register = n; answer = Granted } → call.register ≡ n → Y q.log e y)
-        → Closing r s a e y (λ k. call ≡ k → CalledOk name q k)
-    close_ok s a e y o oe ap h x m z g = let D : (k : ℕ) → 0 < k → k < a.sequencer.epoch → O a.sequencer.log k = λ k u v. subst (λ l. O l k) (sym o) (C k u (omega arith)) in record {
+        → Closing r (looks_at c r q.log) a e y (λ k. call ≡ k → CalledOk name q k)
+    close_ok c a e y o oe ap h x m z g = let D : (k : ℕ) → 0 < k → k < a.sequencer.epoch → O a.sequencer.log k = λ k u v. subst (λ l. O l k) (sym o) (C k u (omega arith)) in record {
       granted = λ n i j w. let v = g n i j (ap_register w) in record {
-        sequencer = record { appends = ap; recovery = begins_ok a.sequencer.log s a.sequencer e D };
-        cleans = each_ok q.log q.epoch _ (nodes_of s) v;
-        asks = begin_asks_ok q.log q.epoch s a.sequencer e (λ k u v. C k u (omega arith));
+        sequencer = record { appends = ap; recovery = begins_ok c r q.log a.sequencer.log a.sequencer e D };
+        cleans = each_ok q.log q.epoch _ _ v;
+        asks = begin_asks_ok q.log q.epoch (looks_at c r q.log) a.sequencer e (λ k u v. C k u (omega arith));
         stores = z;
       };
       overtaken = λ i w. record { sequencer = record { appends = ap; recovery = h.recovery }; cleans = x; asks = m; stores = z };
-      behind = λ b i w. record { sequencer = record { appends = ap; recovery = begins_ok a.sequencer.log s a.sequencer (lce_of r a.sequencer.log) D }; cleans = x; asks = begin_asks_ok q.log q.epoch s a.sequencer (lce_of r a.sequencer.log) (λ k u v. C k u (omega arith)); stores = z };
+      behind = λ b i w. record { sequencer = record { appends = ap; recovery = begins_ok c r q.log a.sequencer.log a.sequencer (lce_of r a.sequencer.log) D }; cleans = x; asks = begin_asks_ok q.log q.epoch (looks_at c r q.log) a.sequencer (lce_of r a.sequencer.log) (λ k u v. C k u (omega arith)); stores = z };
       failed = λ n j w. record { sequencer = h; cleans = x; asks = m; stores = z };
     }
 
-    module _ (c : Config) (heard : ℕ → Body → Type 0) (P0 : carried.SequencerOk E T Y O V W name q)
-        (grants : (v : Recovery) (y : Summary) (n : Register) → q.recovery ≡ Some v → Ending c q heard v y → lce_of r q.log + 1 ≡ v.epoch → close r q.log v.epoch y ≡ record { register = n; answer = Granted } → call.register ≡ n → Y q.log v.epoch y) where
+    module _ (c : Config) (heard : ℕ → Body → Type 0) (P0 : carried.SequencerOk E T Y O V W R G name q)
+        (grants : (v : Recovery) (y : Summary) (n : Register) → q.recovery ≡ Some v → Ending q heard v y → lce_of r q.log + 1 ≡ v.epoch → close r q.log v.epoch y ≡ record { register = n; answer = Granted } → call.register ≡ n → Y q.log v.epoch y) where
       same_ok : CalledOk name q (acts_with r (does_nothing q))
       same_ok = quiet_ok (does_nothing q) P0 (none_ok q.log q.epoch) (none_ok q.log q.epoch) (none_ok q.log q.epoch)
 
-      stage_of : (v : Recovery) (g : Stage) → q.recovery ≡ Some v → v.stage ≡ g → carried.StageOk E T Y O V W q.log q.epoch v.epoch g
-      stage_of v g e f = subst (carried.StageOk E T Y O V W q.log q.epoch v.epoch) f (subst (carried.RecoveryOk E T Y O V W q.log q.epoch) e P0.recovery).1
+      stage_of : (v : Recovery) (g : Stage) → q.recovery ≡ Some v → v.stage ≡ g → carried.StageOk E T Y O V W R G q.log q.epoch v.epoch g
+      stage_of v g e f = subst (carried.StageOk E T Y O V W R G q.log q.epoch v.epoch) f (subst (carried.RecoveryOk E T Y O V W R G q.log q.epoch) e P0.recovery).1
 
       below : (v : Recovery) → q.recovery ≡ Some v → (0 < v.epoch) × (v.epoch < q.epoch) × O q.log v.epoch
-      below v e = (subst (carried.RecoveryOk E T Y O V W q.log q.epoch) e P0.recovery).0
+      below v e = (subst (carried.RecoveryOk E T Y O V W R G q.log q.epoch) e P0.recovery).0
 
-      pub acting_ok : (y : ℕ) (b : Body) → heard y b → carried.ReplyOk E T Y O V W q.log b
+      pub acting_ok : (y : ℕ) (b : Body) → heard y b → carried.ReplyOk E T Y O V W R G q.log b
           → ((v : Recovery) (d : List Told) (from upto trim lng : ℕ) (es : List Entry) → q.preempted ≡ None → q.recovery ≡ Some v → v.stage ≡ Seals d → b ≡ bodies.DigestPage from upto trim lng es → v.epoch ≡ epoch_of from → takes_any y from d ≡ true
-          → enough (spec_in q.log c.logs) (with_page v.epoch y from upto trim es d) ≡ true → DigestOk q.log v.epoch (with_page v.epoch y from upto trim es d)
-          → plans_made ≡ record { log = q.log; epoch = v.epoch; ballot = q.epoch; digest = with_page v.epoch y from upto trim es d } ∷ []
-          → (i : Item) → In i (plan v.epoch (with_page v.epoch y from upto trim es d)).items → E q.log q.epoch i.number i.what)
+          → enough v.spec (with_page v.epoch y from upto trim lng es d) ≡ true → DigestOk q.log v.epoch (with_page v.epoch y from upto trim lng es d)
+          → plans_made ≡ record { log = q.log; epoch = v.epoch; ballot = q.epoch; digest = with_page v.epoch y from upto trim lng es d } ∷ []
+          → (i : Item) → In i (plan v.epoch (with_page v.epoch y from upto trim lng es d)).items → E q.log q.epoch i.number i.what × (epoch_of i.number ≡ v.epoch))
           → Acting c r q y b (λ k m. call ≡ k → plans_made ≡ m → CalledOk name q k)
       unfolding plan ItemsOk
       acting_ok y b H B P = record {
         quiet = λ w m. same_ok;
         sealed = λ n k f i l w m. quiet_ok _ (record { appends = P0.appends; recovery = P0.recovery }) (none_ok _ _) (none_ok _ _) (none_ok _ _);
         cleaned_own = λ n s f i h w m. quiet_ok _ (record { appends = P0.appends; recovery = P0.recovery }) (none_ok _ _) (none_ok _ _) (none_ok _ _);
-        acks = λ n p f i h g w m. quiet_ok _ (record { appends = acks_ok (own_spec (spec_in q.log c.logs) q) q y n p P0.appends g; recovery = P0.recovery }) (none_ok _ _) (none_ok _ _) (none_ok _ _);
-        settles_some = λ v g p f e h s u w m. let z = stage_of v (Stores g) e h in quiet_ok _ (record { appends = P0.appends; recovery = (below v e, (z.0, settle_ok q.log q.epoch p y g.items z.1)) }) (none_ok _ _) (none_ok _ _) (none_ok _ _);
-        settles_all = λ v g p f e h s u. let z = stage_of v (Stores g) e h in with_plans r _ _ v.epoch _ (close_ok _ _ v.epoch _ refl refl P0.appends (record { appends = P0.appends; recovery = (below v e, z.0) }) (none_ok _ _) (none_ok _ _) (none_ok _ _)
-            (λ n i j x. grants v _ n e (ready_now g p y b H s h u refl) i j x));
+        acks = λ n p f i h g o w m. quiet_ok _ (record { appends = acks_ok q.spec q y n p P0.appends g; recovery = P0.recovery }) (none_ok _ _) (none_ok _ _) (none_ok _ _);
+        settles_some = λ v g p f e h s o u w m. let z = stage_of v (Stores g) e h in quiet_ok _ (record { appends = P0.appends; recovery = (below v e, ((z.0.0, z.0.1, settle_epoch v.epoch p y g.items z.0.2), settle_ok q.log q.epoch p y g.items z.1)) }) (none_ok _ _) (none_ok _ _) (none_ok _ _);
+        settles_all = λ v g p f e h s o u. let z = stage_of v (Stores g) e h in with_plans r _ _ v.epoch _ (close_ok c _ v.epoch _ refl refl P0.appends (record { appends = P0.appends; recovery = (below v e, (z.0.0, z.0.1)) }) (none_ok _ _) (none_ok _ _) (none_ok _ _)
+            (λ n i j x. grants v _ n e (ready_now g p y b H s o h u refl) i j x));
         lost_own = λ n round g end f i h w m. quiet_ok _ (record { appends = P0.appends; recovery = P0.recovery }) (none_ok _ _) (none_ok _ _) (none_ok _ _);
         lost_there = λ v n round g end f e i h w m. quiet_ok _ (record { appends = P0.appends; recovery = (below v e, lost_ok v y e v.stage refl) }) (none_ok _ _) (none_ok _ _) (none_ok _ _);
-        cleaned = λ v n s f e i h w m. let z : carried.ReplyOk E T Y O V W q.log (bodies.CleanHere n s) = subst (carried.ReplyOk E T Y O V W q.log) i B in
-            quiet_ok _ (record { appends = P0.appends; recovery = begins_ok q.log (spec_in q.log c.logs) q v.epoch C })
-            (each_ok q.log q.epoch _ (nodes_of (spec_in q.log c.logs)) (subst (λ k. Y q.log k s) (sym (home_of n z.0) ∙ h) z.1)) (begin_asks_ok q.log q.epoch (spec_in q.log c.logs) q v.epoch C) (none_ok _ _);
+        cleaned = λ v n s f e i h w m. let z : carried.ReplyOk E T Y O V W R G q.log (bodies.CleanHere n s) = subst (carried.ReplyOk E T Y O V W R G q.log) i B in
+            quiet_ok _ (record { appends = P0.appends; recovery = begins_ok c r q.log q.log q v.epoch C })
+            (each_ok q.log q.epoch _ _ (subst (λ k. Y q.log k s) (sym (home_of n z.0) ∙ h) z.1)) (begin_asks_ok q.log q.epoch (looks_at c r q.log) q v.epoch C) (none_ok _ _);
         asks_more = λ v d from upto trim lng es f e h i g t u w m. let z = page_next v d from upto trim lng es e h i g in
             quiet_ok _ (record { appends = P0.appends; recovery = (below v e, z) }) (none_ok _ _) (next_ok q.log q.epoch v.epoch y _ (below v e).2 z) (none_ok _ _);
-        plans = λ v d from upto trim lng es f e h i g t u w m. let z = page_next v d from upto trim lng es e h i g in let x = planned_ok q.log q.epoch _ (P v d from upto trim lng es f e h i g t u z m) in
-            quiet_ok _ (record { appends = P0.appends; recovery = (below v e, (digest_trim_ok q.log v.epoch _ z, x)) }) (none_ok _ _) (none_ok _ _) (stores_ok q.log q.epoch _ v.lost 0 _ x);
+        plans = λ v d from upto trim lng es f e h i g t u w m. let z = page_next v d from upto trim lng es e h i g in let k = P v d from upto trim lng es f e h i g t u z m in
+            let x = planned_ok q.log q.epoch _ (λ j o. (k j o).0) in let w = planned_epoch v.epoch _ (λ j o. (k j o).1) in let good = digest_good q.log v.epoch _ z in
+            quiet_ok _ (record { appends = P0.appends; recovery = (below v e, ((digest_trim_ok q.log v.epoch _ z, good, w), x)) }) (none_ok _ _) (none_ok _ _) (stores_ok q.log q.epoch v.epoch _ v.lost _ 0 _ good w x);
       } where
         home_of : (n : ℕ) → 0 < esn_of n → home_epoch n ≡ epoch_of n
         home_of n h = cond_both ((esn_of n == 0) && nat_lt 0 (epoch_of n)) _ (epoch_of n) (λ x. x ≡ epoch_of n) (λ t. absurd (let p = and_parts (esn_of n == 0) (nat_lt 0 (epoch_of n)) t in let q = eqb-true (esn_of n) 0 p.0 in omega arith)) (λ t. refl)
 
-        lost_ok : (v : Recovery) (y : ℕ) → q.recovery ≡ Some v → (g : Stage) → v.stage ≡ g → carried.StageOk E T Y O V W q.log q.epoch v.epoch (lost_stage y g)
+        lost_ok : (v : Recovery) (y : ℕ) → q.recovery ≡ Some v → (g : Stage) → v.stage ≡ g → carried.StageOk E T Y O V W R G q.log q.epoch v.epoch (lost_stage y g)
         lost_ok v y e (Seals d) f = with_lost_ok q.log v.epoch y d (stage_of v (Seals d) e f)
         lost_ok v y e (Stores g) f = stage_of v (Stores g) e f
         lost_ok v y e (Closes s) f = stage_of v (Closes s) e f
 
-        page_next : (v : Recovery) (d : List Told) (from upto trim lng : ℕ) (es : List Entry) → q.recovery ≡ Some v → v.stage ≡ Seals d → b ≡ bodies.DigestPage from upto trim lng es → v.epoch ≡ epoch_of from → DigestOk q.log v.epoch (with_page v.epoch y from upto trim es d)
-        page_next v d from upto trim lng es e h i g = with_page_ok q.log v.epoch y from upto trim es d (subst (carried.ReplyOk E T Y O V W q.log) i B) (sym g) (stage_of v (Seals d) e h)
+        page_next : (v : Recovery) (d : List Told) (from upto trim lng : ℕ) (es : List Entry) → q.recovery ≡ Some v → v.stage ≡ Seals d → b ≡ bodies.DigestPage from upto trim lng es → v.epoch ≡ epoch_of from → DigestOk q.log v.epoch (with_page v.epoch y from upto trim lng es d)
+        page_next v d from upto trim lng es e h i g = with_page_ok q.log v.epoch y from upto trim lng es d (subst (carried.ReplyOk E T Y O V W R G q.log) i B) (sym g) (stage_of v (Seals d) e h)
 
       pub retrying_ok : Retrying c r q (λ k. call ≡ k → CalledOk name q k)
       unfolding ItemsOk
       retrying_ok =
-          let s : Spec = own_spec (spec_in q.log c.logs) q in
+          let s : Spec = q.spec in
           let up = raised_ok q.log q.epoch s q.appends P0.appends in
-          let st = append_stores_ok q.log q.epoch s q.lost (raised s q.appends) up in record {
+          let st = append_stores_ok q.log q.epoch s q.lost q.lng (raised s q.appends) L (raised_own q.epoch s q.appends own) up in record {
             quiet = λ w. same_ok;
             appends = λ f w. quiet_ok _ (record { appends = up; recovery = P0.recovery }) (none_ok _ _) (none_ok _ _) st;
-            seals = λ v d f e h w. quiet_ok _ (record { appends = up; recovery = P0.recovery }) (none_ok _ _) (asks_ok q.log q.epoch v.epoch d (below v e).2 (stage_of v (Seals d) e h)) st;
-            stores = λ v g f e h w. let z = stage_of v (Stores g) e h in quiet_ok _ (record { appends = up; recovery = (below v e, z) }) (none_ok _ _) (none_ok _ _) (both_ok q.log q.epoch _ _ (stores_ok q.log q.epoch _ v.lost (next_wave g.wave) g.items z.1) st);
-            closes = λ v y f e h. close_ok _ _ v.epoch y refl refl up (record { appends = up; recovery = P0.recovery }) (none_ok _ _) (none_ok _ _) st (λ n i j x. grants v y n e (closing_now h) i j x);
+            seals = λ v d f e h w. let z = with_asks_ok q.log v.epoch d (stage_of v (Seals d) e h) in quiet_ok _ (record { appends = up; recovery = (below v e, z) }) (none_ok _ _) (asks_ok q.log q.epoch v.epoch (with_asks v.epoch d) (below v e).2 z) st;
+            stores = λ v g f e h w. let z = stage_of v (Stores g) e h in quiet_ok _ (record { appends = up; recovery = (below v e, z) }) (none_ok _ _) (none_ok _ _) (both_ok q.log q.epoch _ _ (stores_ok q.log q.epoch v.epoch _ v.lost g.lng (next_wave g.wave) g.items z.0.1 z.0.2 z.1) st);
+            closes = λ v y f e h. close_ok c _ v.epoch y refl refl up (record { appends = up; recovery = P0.recovery }) (none_ok _ _) (none_ok _ _) st (λ n i j x. grants v y n e (closing_now h) i j x);
           }

@@ -4,7 +4,8 @@ use Rattle.std.specs.Option.{unwrap_or}
 use Rattle.ld_table.specs.Table.{find, put}
 use Rattle.ld_table.specs.Named.{find_named, put_named}
 use Rattle.ld_table.proofs.Laws.{find-put_same}
-use Rattle.ld_lsn.specs.Number.{epoch_of, numbered}
+use Rattle.ld_lsn.specs.Number.{epoch_of, numbered, last_esn}
+use Rattle.ld_ids.specs.Choice.{nodes_of}
 use Rattle.ld_config.specs.declared.config.Config.{Config}
 use Rattle.ld_schedule.specs.declared.event.Event.{Event}
 use Rattle.ld_schedule.specs.declared.event.Event.TheVariants as events
@@ -23,14 +24,14 @@ use Rattle.ld_op.specs.declared.op.Op.TheVariants as ops
 use Rattle.ld_op.specs.Plain.{Plain, Log, log_of, apply}
 use Rattle.ld_op.specs.Ticks.{Ticked, Cleans, Rebuilt, Asks, Nothing, on_tick, lowest_unclean, tick_with, lost_tick, refill_tick, missing, node_asks}
 use Rattle.ld_table.specs.Words.{without}
-use Rattle.ld_machine.specs.Config.{spec_in, set_of}
-use Rattle.ld_msg.specs.Register.{Register, Granted, epochs_of, generation_of, epochs_in, lce_of, close}
+use Rattle.ld_machine.specs.Config.{all_nodes, looks_at}
+use Rattle.ld_msg.specs.Register.{Register, View, Granted, epochs_of, generation_of, epochs_in, lce_of, close}
 use Rattle.ld_machine.specs.Disk.{Node, new_node, load}
 use Rattle.ld_msg.specs.Digest.{Told, with_page, enough, plan, Item}
-use Rattle.ld_msg.specs.Sequencer.{Sequencer, Acts, Recovery, Seals, Numbered, appending, appended, next_esn, first_stores, released_of, takes_any, on_reply, on_retry, to_each, activated, recovery_asks, Append, fresh_append, own_spec, called, acted_messages}
+use Rattle.ld_msg.specs.Sequencer.{Sequencer, Acts, Recovery, Seals, Numbered, appending, appended, next_esn, first_stores, released_of, takes_any, on_reply, on_retry, to_each, activated, recovery_asks, Append, fresh_append, called, acted_messages}
 use Rattle.ld_msg.specs.Choice.{choice}
 use Rattle.ld_msg.specs.Reading.{Held}
-use Rattle.ld_msg.specs.Reader.{Reader, Read, polled, opened, held_with, is_newer, round_of, on_answer, poll_asks, asks_of, last_round}
+use Rattle.ld_msg.specs.Reader.{Reader, Read, polled, opened, held_with, is_newer, round_of, on_answer, poll_asks, asks_of, look_of, last_round}
 use Rattle.ld_machine.specs.State.{State, Done, finish, node_at, with_node, with_register, with_sequencer, with_reader, only_state, posted}
 use Rattle.ld_machine.specs.World.{Made, In, made_on, made_by, page_from}
 use Rattle.ld_machine.specs.Step as Step
@@ -40,7 +41,7 @@ use Rattle.ld_table.proofs.NameLaws.{same-self}
 use Rattle.ld_op.specs.Answers.{on_release}
 use Rattle.std.proofs.lemmas.Bool.{cases_order}
 use Rattle.ld_safety.proofs.Members.{In_put}
-use Rattle.ld_safety.proofs.Events.{NamesOnce, Cases, dispatch, Live, Reading, Serves, refreshed, loaded}
+use Rattle.ld_safety.proofs.Events.{NamesOnce, Cases, dispatch, Live, Reading, Serves, refreshed, loaded, with_spec}
 use Rattle.ld_safety.proofs.SequencerSteps.{same_sender, replied, retried}
 use Rattle.ld_safety.proofs.ReaderSteps.{ReadKeeps, answered}
 use Rattle.ld_safety.proofs.ReaderLogs.{Apart}
@@ -58,29 +59,32 @@ pub record HeardOf (s : State) (q : Sequencer) (y : ℕ) (b : Body) : Type 0 whe
   pub from : Step.sender_node message.from ≡ y
   pub body : message.body ≡ b
 
-module _ (c : Config) (s : State) (e : Event) (E : ℕ → ℕ → ℕ → What → Type 0) (T : ℕ → ℕ → Type 0) (Y : ℕ → ℕ → Summary → Type 0) (O : ℕ → ℕ → Type 0) (V : ℕ → Bool → Entry → Type 0) (W : ℕ → ℕ → Type 0) where
+module _ (c : Config) (s : State) (e : Event) (E : ℕ → ℕ → ℕ → What → Type 0) (T : ℕ → ℕ → Type 0) (Y : ℕ → ℕ → Summary → Type 0) (O : ℕ → ℕ → Type 0) (V : ℕ → Bool → Entry → Type 0) (W : ℕ → ℕ → Type 0) (R : ℕ → ℕ → ℕ → What → Type 0) (G : ℕ → ℕ → ℕ → Type 0) where
   abbrev pub Carries : State → Type 0
-  Carries t = has.Has (λ y p. carried.PlainOk E T Y O V W p) (λ y l r. W l r) (carried.MsgOk E T Y O V W) (carried.SequencerOk E T Y O V W) (carried.ReaderOk E T Y O V W) (carried.RegisterOk E T Y O V W) t
+  Carries t = has.Has (λ y p. carried.PlainOk E T Y O V W R G p) (λ y l r. W l r) (carried.MsgOk E T Y O V W R G) (carried.SequencerOk E T Y O V W R G) (carried.ReaderOk E T Y O V W R G) (carried.RegisterOk E T Y O V W R G) t
 
   -- what comes new in the step
   pub record Sources : Type 0 where
-    pub sound : carried.Sound E T Y O V W
+    pub sound : carried.Sound E T Y O V W R G
     pub before : Carries s
     pub apart : Apart s.network.sent s.readers
-    pub register : carried.RegisterOk E T Y O V W (Step.happens c s e).state.register
+    pub register : carried.RegisterOk E T Y O V W R G (Step.happens c s e).state.register
     pub epochs : (name : List ℕ) (q : Sequencer) → find_named name s.sequencers ≡ Some q → (k : ℕ) → 0 < k → k < q.epoch → O q.log k
     pub new_epochs : (l : ℕ) (r : Register) → (Step.happens c s e).state.register ≡ r → (k : ℕ) → 0 < k → k < (epochs_of r l).epoch → O l k
     pub append : (name : List ℕ) (q : Sequencer) (payload : List ℕ) → Live s name q → appending q payload ≡ Numbered → e ≡ events.Append name payload → In (lines.Appended name (numbered q.epoch (next_esn q))) (Step.happens c s e).lines → E q.log q.epoch (numbered q.epoch (next_esn q)) (Rec payload)
     pub trim : (name : List ℕ) (q : Sequencer) (point : ℕ) → Live s name q → point ≤ released_of q → In (lines.Trimmed name point) (Step.happens c s e).lines → T q.log point
     pub planned : (name : List ℕ) (q : Sequencer) (v : Recovery) (d : List Told) (y from upto trim lng : ℕ) (es : List Entry) → Live s name q → HeardOf s q y (bodies.DigestPage from upto trim lng es) → q.preempted ≡ None → q.recovery ≡ Some v → v.stage ≡ Seals d
-        → v.epoch ≡ epoch_of from → takes_any y from d ≡ true → enough (spec_in q.log c.logs) (with_page v.epoch y from upto trim es d) ≡ true → sequencers.DigestOk E T Y O V W sound q.log v.epoch (with_page v.epoch y from upto trim es d)
-        → made_on c s e ≡ record { log = q.log; epoch = v.epoch; ballot = q.epoch; digest = with_page v.epoch y from upto trim es d } ∷ []
-        → (i : Item) → In i (plan v.epoch (with_page v.epoch y from upto trim es d)).items → E q.log q.epoch i.number i.what
-    pub closed : (name : List ℕ) (q : Sequencer) (v : Recovery) (y : Summary) → Live s name q → q.recovery ≡ Some v → sequencers.Ending E T Y O V W sound c q (HeardOf s q) v y → lce_of s.register q.log + 1 ≡ v.epoch
+        → v.epoch ≡ epoch_of from → takes_any y from d ≡ true → enough v.spec (with_page v.epoch y from upto trim lng es d) ≡ true → sequencers.DigestOk E T Y O V W R G sound q.log v.epoch (with_page v.epoch y from upto trim lng es d)
+        → made_on c s e ≡ record { log = q.log; epoch = v.epoch; ballot = q.epoch; digest = with_page v.epoch y from upto trim lng es d } ∷ []
+        → (i : Item) → In i (plan v.epoch (with_page v.epoch y from upto trim lng es d)).items → E q.log q.epoch i.number i.what × (epoch_of i.number ≡ v.epoch)
+    pub closed : (name : List ℕ) (q : Sequencer) (v : Recovery) (y : Summary) → Live s name q → q.recovery ≡ Some v → sequencers.Ending E T Y O V W R G sound q (HeardOf s q) v y → lce_of s.register q.log + 1 ≡ v.epoch
         → close s.register q.log v.epoch y ≡ record { register = (Step.happens c s e).state.register; answer = Granted } → Y q.log v.epoch y
     pub refill : (n : ℕ) (m : Msg) (round from upto : ℕ) (es : List Entry) → In m s.network.sent → m.to ≡ whos.Node n → Serves c s n m.log → m.body ≡ bodies.ReadPage round from upto true es → (log_of (node_at s n).plain m.log).lost ≡ true
-        → nodes.RefillOk E T Y O V W sound m.log (log_of (node_at s n).plain m.log) es
-    pub shows : (n l : ℕ) → Serves c s n l → nodes.Shows E T Y O V W sound l (log_of (node_at s n).plain l) (Step.released_at (node_at s n) l)
+        → nodes.RefillOk E T Y O V W R G sound m.log (log_of (node_at s n).plain m.log) es
+    pub shows : (n l : ℕ) → Serves c s n l → nodes.Shows E T Y O V W R G sound l (log_of (node_at s n).plain l) (Step.released_at (node_at s n) l)
+    pub good : (name : List ℕ) (q : Sequencer) → find_named name s.sequencers ≡ Some q → G q.log q.epoch q.lng
+    pub own : (name : List ℕ) (q : Sequencer) → find_named name s.sequencers ≡ Some q → (p : ℕ × Append) → In p q.appends → epoch_of p.0 ≡ q.epoch
+    pub small : (name : List ℕ) (q : Sequencer) → find_named name s.sequencers ≡ Some q → next_esn q ≤ last_esn
     pub released : (name : List ℕ) (q p : Sequencer) → Live s name q → find_named name (Step.happens c s e).state.sequencers ≡ Some p → W q.log (released_of p)
 
   module _ (N : NamesOnce s) (K : Sources) where
@@ -90,11 +94,11 @@ module _ (c : Config) (s : State) (e : Event) (E : ℕ → ℕ → ℕ → What 
     quiet_has : (t : State) (ls : List Line) → Carries t → Carries (finish (record { state = t; lines = ls; sends = [] })).state
     quiet_has t ls h = has.finish_has _ _ _ _ _ _ (record { state = t; lines = ls; sends = [] }) h (λ m i. absurd i)
 
-    to_register : (d : Done) → Step.happens c s e ≡ d → carried.RegisterOk E T Y O V W d.state.register
-    to_register d w = subst (λ (x : Done). carried.RegisterOk E T Y O V W x.state.register) w K.register
+    to_register : (d : Done) → Step.happens c s e ≡ d → carried.RegisterOk E T Y O V W R G d.state.register
+    to_register d w = subst (λ (x : Done). carried.RegisterOk E T Y O V W R G x.state.register) w K.register
 
-    posted_ok : (who : Who) (l : ℕ) (bs : List (ℕ × Body)) → ((b : ℕ × Body) → In b bs → carried.BodyOk E T Y O V W l who b.1) → (m : Msg) → In m (posted who l bs) → carried.MsgOk E T Y O V W m
-    posted_ok who l bs h = has.posted_has (λ y p. carried.PlainOk E T Y O V W p) (λ y l r. W l r) (carried.MsgOk E T Y O V W) (carried.SequencerOk E T Y O V W) (carried.ReaderOk E T Y O V W) (carried.RegisterOk E T Y O V W) who l bs h
+    posted_ok : (who : Who) (l : ℕ) (bs : List (ℕ × Body)) → ((b : ℕ × Body) → In b bs → carried.BodyOk E T Y O V W R G l who b.1) → (m : Msg) → In m (posted who l bs) → carried.MsgOk E T Y O V W R G m
+    posted_ok who l bs h = has.posted_has (λ y p. carried.PlainOk E T Y O V W R G p) (λ y l r. W l r) (carried.MsgOk E T Y O V W R G) (carried.SequencerOk E T Y O V W R G) (carried.ReaderOk E T Y O V W R G) (carried.RegisterOk E T Y O V W R G) who l bs h
 
     -- ---- nodes ----
     node_here : (t : State) (n : ℕ) (x : Node) → node_at (with_node t n x) n ≡ x
@@ -115,22 +119,21 @@ module _ (c : Config) (s : State) (e : Event) (E : ℕ → ℕ → ℕ → What 
     hears : (f : List ℕ) (n : ℕ) (m : Msg) → In m s.network.sent → m.to ≡ whos.Node n → Serves c s n m.log → Carries (finish (Step.to_up_node (refreshed s f) n m)).state
     hears f n m i t v =
         let x : Node = node_at s n in
-        let g = log_of x.plain m.log in
-        let h = nodes.message_ok E T Y O V W K.sound x.plain.generation m.log (Step.released_at x m.log) n g m.from m.body ((K.before.nodes n).plain m.log) (K.shows n m.log v) ((K.before.nodes n).released m.log) (K.before.sent m i) (λ round from upto es b u. K.refill n m round from upto es i t v b u) in
+        let h = nodes.message_ok E T Y O V W R G K.sound x.plain x.plain.generation m.log (Step.released_at x m.log) n m.from m.body ((K.before.nodes n).plain m.log) (K.shows n m.log v) ((K.before.nodes n).released m.log) (K.before.sent m i) (λ round from upto es b u. K.refill n m round from upto es i t v b u) in
         let y : Node = Step.releases x m.log m.body in
         let p : (node_at (with_node (refreshed s f) n y) n).plain ≡ x.plain = ap (λ (z : Node). z.plain) (node_here (refreshed s f) n y) ∙ released_same x m.log m.body in
         has.handles_has _ _ _ _ _ _ (with_node (refreshed s f) n y) n m (Step.node_handles x m).op (Step.node_handles x m).answer
-        (has.node_has _ _ _ _ _ _ (refreshed s f) n y K.before (has.release_has _ _ _ _ _ _ n x m.log m.body (K.before.nodes n) (λ r b. max_released m.log _ r ((K.before.nodes n).released m.log) (subst (carried.BodyOk E T Y O V W m.log m.from) b (K.before.sent m i)))))
-        (λ o q. subst (λ (z : Plain). carried.PlainOk E T Y O V W (apply z o)) (sym p) (nodes.op_ok E T Y O V W K.sound x.plain o (K.before.nodes n).plain (h.keeps o q)))
+        (has.node_has _ _ _ _ _ _ (refreshed s f) n y K.before (has.release_has _ _ _ _ _ _ n x m.log m.body (K.before.nodes n) (λ r b. max_released m.log _ r ((K.before.nodes n).released m.log) (subst (carried.BodyOk E T Y O V W R G m.log m.from) b (K.before.sent m i)))))
+        (λ o q. subst (λ (z : Plain). carried.PlainOk E T Y O V W R G (apply z o)) (sym p) (nodes.op_ok E T Y O V W R G K.sound x.plain o (K.before.nodes n).plain (h.keeps o q)))
         (λ b q. h.answers b q)
 
     loaded_has : (n : ℕ) → Carries (loaded s n)
     loaded_has n = has.node_has _ _ _ _ _ _ s n (load (node_at s n)) K.before (has.load_has _ _ _ _ _ _ (λ y l. K.sound.zero_released l) n (node_at s n) (K.before.nodes n))
 
-    formats : (n : ℕ) (r : Register) → carried.RegisterOk E T Y O V W r → Carries (finish (Step.keeps_op (with_register (loaded s n) r) n (ops.Format (generation_of r n) (epochs_in r.logs)) (Step.format_lines c n r) [])).state
+    formats : (n : ℕ) (r : Register) → carried.RegisterOk E T Y O V W R G r → Carries (finish (Step.keeps_op (with_register (loaded s n) r) n (ops.Format (generation_of r n) (epochs_in r.logs)) (Step.format_lines c n r) [])).state
     formats n r h = let t : Carries (with_register (loaded s n) r) = has.register_has _ _ _ _ _ _ (loaded s n) r (loaded_has n) h in
         has.keeps_has _ _ _ _ _ _ (with_register (loaded s n) r) n (ops.Format (generation_of r n) (epochs_in r.logs)) (Step.format_lines c n r) [] t
-        (nodes.op_ok E T Y O V W K.sound (node_at (loaded s n) n).plain (ops.Format (generation_of r n) (epochs_in r.logs)) (t.nodes n).plain tt) (λ m i. absurd i)
+        (nodes.op_ok E T Y O V W R G K.sound (node_at (loaded s n) n).plain (ops.Format (generation_of r n) (epochs_in r.logs)) (t.nodes n).plain tt) (λ m i. absurd i)
 
     cleans_closed : (n l k : ℕ) (y : Summary) → on_tick (log_of (node_at s n).plain l) (epochs_of s.register l).summaries ≡ Cleans k y → Y l k y
     unfolding on_tick
@@ -147,53 +150,53 @@ module _ (c : Config) (s : State) (e : Event) (E : ℕ → ℕ → ℕ → What 
       by_found (Some z) f q = let a : lowest_unclean (log_of (node_at s n).plain l) ≡ k = cc in let b : z ≡ y = cc in subst (λ v. Y l v y) a (subst (λ v. Y l (lowest_unclean (log_of (node_at s n).plain l)) v) b (K.before.register l _ z f))
 
     ticked : (n l : ℕ) (t : Ticked) → on_tick (log_of (node_at s n).plain l) (epochs_of s.register l).summaries ≡ t → Carries (finish (Step.ticks_as c s n l t)).state
-    ticked n l (Cleans k y) h = has.keeps_has _ _ _ _ _ _ s n (ops.Clean l k y) [] [] K.before (nodes.op_ok E T Y O V W K.sound (node_at s n).plain (ops.Clean l k y) (K.before.nodes n).plain (cleans_closed n l k y h)) (λ m i. absurd i)
-    ticked n l Rebuilt h = has.keeps_has _ _ _ _ _ _ s n (ops.Refilled l) (lines.NodeRebuilt n l ∷ []) [] K.before (nodes.op_ok E T Y O V W K.sound (node_at s n).plain (ops.Refilled l) (K.before.nodes n).plain tt) (λ m i. absurd i)
-    ticked n l (Asks from) h = has.finish_has _ _ _ _ _ _ (Step.ticks_as c s n l (Asks from)) K.before (posted_ok (whos.Node n) l (node_asks n (set_of c l) from) (λ b i. ask_plain (node_asks n (set_of c l) from) b (to_each_is (without (n ∷ []) (set_of c l)) b i))) where
+    ticked n l (Cleans k y) h = has.keeps_has _ _ _ _ _ _ s n (ops.Clean l k y) [] [] K.before (nodes.op_ok E T Y O V W R G K.sound (node_at s n).plain (ops.Clean l k y) (K.before.nodes n).plain (cleans_closed n l k y h)) (λ m i. absurd i)
+    ticked n l Rebuilt h = has.keeps_has _ _ _ _ _ _ s n (ops.Refilled l) (lines.NodeRebuilt n l ∷ []) [] K.before (nodes.op_ok E T Y O V W R G K.sound (node_at s n).plain (ops.Refilled l) (K.before.nodes n).plain tt) (λ m i. absurd i)
+    ticked n l (Asks from) h = has.finish_has _ _ _ _ _ _ (Step.ticks_as c s n l (Asks from)) K.before (posted_ok (whos.Node n) l (node_asks n (all_nodes c) from) (λ b i. ask_plain (node_asks n (all_nodes c) from) b (to_each_is (without (n ∷ []) (all_nodes c)) b i))) where
       to_each_is : (ys : List ℕ) (b : ℕ × Body) → In b (to_each (bodies.ReadAsk 0 from) ys) → b.1 ≡ bodies.ReadAsk 0 from
       to_each_is [] b i = absurd i
       to_each_is (y ∷ ys) b (inl q) = ap (λ (x : ℕ × Body). x.1) q
       to_each_is (y ∷ ys) b (inr i) = to_each_is ys b i
 
-      ask_plain : (bs : List (ℕ × Body)) (b : ℕ × Body) → b.1 ≡ bodies.ReadAsk 0 from → carried.BodyOk E T Y O V W l (whos.Node n) b.1
-      ask_plain bs b q = subst (carried.BodyOk E T Y O V W l (whos.Node n)) (sym q) tt
+      ask_plain : (bs : List (ℕ × Body)) (b : ℕ × Body) → b.1 ≡ bodies.ReadAsk 0 from → carried.BodyOk E T Y O V W R G l (whos.Node n) b.1
+      ask_plain bs b q = subst (carried.BodyOk E T Y O V W R G l (whos.Node n)) (sym q) tt
     ticked n l Nothing h = quiet_has s [] K.before
 
     -- ---- sequencers ----
     put_here : (name : List ℕ) (p : Sequencer) → find_named name (put_named name p s.sequencers) ≡ Some p
     put_here name p = elim (named_cases name name p s.sequencers) [ inl a ↦ a.1 | inr a ↦ absurd (let z = same-self name in not_both _ z a.0) ]
 
-    acted : (f : List ℕ) (name : List ℕ) (q : Sequencer) (a : Acts) → Live s name q → Step.happens c s e ≡ Step.acted c (refreshed s f) name q a → sequencers.CalledOk E T Y O V W K.sound name q (called (spec_in q.log c.logs) s.register a a.tries) → Carries (finish (Step.acted c (refreshed s f) name q a)).state
+    acted : (f : List ℕ) (name : List ℕ) (q : Sequencer) (a : Acts) → Live s name q → Step.happens c s e ≡ Step.acted c (refreshed s f) name q a → sequencers.CalledOk E T Y O V W R G K.sound name q (called (looks_at c s.register q.log) s.register a a.tries) → Carries (finish (Step.acted c (refreshed s f) name q a)).state
     acted f name q a v w h = has.finish_has _ _ _ _ _ _ (Step.acted c (refreshed s f) name q a)
-        (has.register_has _ _ _ _ _ _ (with_sequencer (refreshed s f) name (called (spec_in q.log c.logs) s.register a a.tries).acts.sequencer) (called (spec_in q.log c.logs) s.register a a.tries).register (has.sequencer_has _ _ _ _ _ _ (refreshed s f) name (called (spec_in q.log c.logs) s.register a a.tries).acts.sequencer K.before h.sequencer) (to_register (Step.acted c (refreshed s f) name q a) w))
-        (posted_ok (whos.Sequencer q.epoch) q.log (acted_messages (spec_in q.log c.logs) q (called (spec_in q.log c.logs) s.register a a.tries).acts) (λ b i. (sequencers.messages_ok E T Y O V W K.sound (spec_in q.log c.logs) name q (called (spec_in q.log c.logs) s.register a a.tries) h (K.released name q (called (spec_in q.log c.logs) s.register a a.tries).acts.sequencer v (ap (λ (d : Done). find_named name d.state.sequencers) w ∙ put_here name _))).each b i))
+        (has.register_has _ _ _ _ _ _ (with_sequencer (refreshed s f) name (called (looks_at c s.register q.log) s.register a a.tries).acts.sequencer) (called (looks_at c s.register q.log) s.register a a.tries).register (has.sequencer_has _ _ _ _ _ _ (refreshed s f) name (called (looks_at c s.register q.log) s.register a a.tries).acts.sequencer K.before h.sequencer) (to_register (Step.acted c (refreshed s f) name q a) w))
+        (posted_ok (whos.Sequencer q.epoch) q.log (acted_messages q (called (looks_at c s.register q.log) s.register a a.tries).acts) (λ b i. (sequencers.messages_ok E T Y O V W R G K.sound name q (called (looks_at c s.register q.log) s.register a a.tries) h (K.released name q (called (looks_at c s.register q.log) s.register a a.tries).acts.sequencer v (ap (λ (d : Done). find_named name d.state.sequencers) w ∙ put_here name _))).each b i))
 
-    closing : (f : List ℕ) (name : List ℕ) (q : Sequencer) (a : Acts) → Live s name q → Step.happens c s e ≡ Step.acted c (refreshed s f) name q a → (v : Recovery) (y : Summary) (n : Register) → q.recovery ≡ Some v → sequencers.Ending E T Y O V W K.sound c q (HeardOf s q) v y → lce_of s.register q.log + 1 ≡ v.epoch
-        → close s.register q.log v.epoch y ≡ record { register = n; answer = Granted } → (called (spec_in q.log c.logs) s.register a a.tries).register ≡ n → Y q.log v.epoch y
+    closing : (f : List ℕ) (name : List ℕ) (q : Sequencer) (a : Acts) → Live s name q → Step.happens c s e ≡ Step.acted c (refreshed s f) name q a → (v : Recovery) (y : Summary) (n : Register) → q.recovery ≡ Some v → sequencers.Ending E T Y O V W R G K.sound q (HeardOf s q) v y → lce_of s.register q.log + 1 ≡ v.epoch
+        → close s.register q.log v.epoch y ≡ record { register = n; answer = Granted } → (called (looks_at c s.register q.log) s.register a a.tries).register ≡ n → Y q.log v.epoch y
     closing f name q a l w v y n r d k g z = K.closed name q v y l r d k (g ∙ ap (λ (x : Register). record { register = x; answer = Granted }) (sym z ∙ sym (ap (λ (x : Done). x.state.register) w)))
 
     replies : (f : List ℕ) (name : List ℕ) (q : Sequencer) (m : Msg) → In m s.network.sent → m.to ≡ whos.Sequencer q.epoch → m.log ≡ q.log → Live s name q
-        → Result (Step.acted c (refreshed s f) name q (on_reply (spec_in q.log c.logs) q (Step.sender_node m.from) m.body)) (made_by c (Some (name, q)) (page_from m.from) m.body)
+        → Result (Step.acted c (refreshed s f) name q (on_reply (looks_at c s.register q.log) q (Step.sender_node m.from) m.body)) (made_by c (Some (name, q)) (page_from m.from) m.body)
     replies f name q m i t l v w x =
         let y = Step.sender_node m.from in
-        let a = on_reply (spec_in q.log c.logs) q y m.body in
-        let call = called (spec_in q.log c.logs) s.register a a.tries in
+        let a = on_reply (looks_at c s.register q.log) q y m.body in
+        let call = called (looks_at c s.register q.log) s.register a a.tries in
         let h : HeardOf s q y m.body = record { message = m; sent = i; to = t; log = l; from = refl; body = refl } in
-        let ok = sequencers.acting_ok E T Y O V W K.sound name q s.register call (made_on c s e) (K.epochs name q v.named) c (HeardOf s q) (K.before.sequencers name q v.named) (closing f name q a v w) y m.body h (subst (λ k. carried.ReplyOk E T Y O V W k m.body) l (carried.reply_of E T Y O V W m.log m.from m.body (K.before.sent m i)))
+        let ok = sequencers.acting_ok E T Y O V W R G K.sound name q s.register call (made_on c s e) (K.epochs name q v.named) (K.good name q v.named) (K.own name q v.named) c (HeardOf s q) (K.before.sequencers name q v.named) (closing f name q a v w) y m.body h (subst (λ k. carried.ReplyOk E T Y O V W R G k m.body) l (carried.reply_of E T Y O V W R G m.log m.from m.body (K.before.sent m i)))
         (λ r d from upto trim lng es g k u z j o b D made it. K.planned name q r d y from upto trim lng es v (record { message = m; sent = i; to = t; log = l; from = refl; body = z }) g k u j o b D made it) in
-        acted f name q a v w (replied c s.register name q v.there y m.body (λ k n. call ≡ k → made_on c s e ≡ n → sequencers.CalledOk E T Y O V W K.sound name q k) ok refl (x ∙ ap (λ p. made_by c (Some (name, q)) p m.body) (same_sender m.from)))
+        acted f name q a v w (replied c s.register name q v.there y m.body (λ k n. call ≡ k → made_on c s e ≡ n → sequencers.CalledOk E T Y O V W R G K.sound name q k) ok refl (x ∙ ap (λ p. made_by c (Some (name, q)) p m.body) (same_sender m.from)))
 
-    retries : (name : List ℕ) (q : Sequencer) → Live s name q → Result (Step.acted c s name q (on_retry (spec_in q.log c.logs) q)) []
+    retries : (name : List ℕ) (q : Sequencer) → Live s name q → Result (Step.acted c s name q (on_retry q)) []
     retries name q v w x =
-        let a = on_retry (spec_in q.log c.logs) q in
-        let call = called (spec_in q.log c.logs) s.register a a.tries in
-        let ok = sequencers.retrying_ok E T Y O V W K.sound name q s.register call (made_on c s e) (K.epochs name q v.named) c (HeardOf s q) (K.before.sequencers name q v.named) (closing s.network.fresh name q a v w) in
-        acted s.network.fresh name q a v w (retried c s.register q (λ k. call ≡ k → sequencers.CalledOk E T Y O V W K.sound name q k) ok refl)
+        let a = on_retry q in
+        let call = called (looks_at c s.register q.log) s.register a a.tries in
+        let ok = sequencers.retrying_ok E T Y O V W R G K.sound name q s.register call (made_on c s e) (K.epochs name q v.named) (K.good name q v.named) (K.own name q v.named) c (HeardOf s q) (K.before.sequencers name q v.named) (closing s.network.fresh name q a v w) in
+        acted s.network.fresh name q a v w (retried c s.register q (λ k. call ≡ k → sequencers.CalledOk E T Y O V W R G K.sound name q k) ok refl)
 
-    appends : (name : List ℕ) (q : Sequencer) (payload : List ℕ) → Live s name q → appending q payload ≡ Numbered → e ≡ events.Append name payload → Result (Step.append_done c s name q payload Numbered) []
+    appends : (name : List ℕ) (q : Sequencer) (payload : List ℕ) → Live s name q → appending q payload ≡ Numbered → e ≡ events.Append name payload → Result (Step.append_done s name q payload Numbered) []
     appends name q payload v a i w x =
         let o = K.before.sequencers name q v.named in let n = K.append name q payload v a i (subst (λ (d : Done). In (lines.Appended name (numbered q.epoch (next_esn q))) d.lines) (sym w) (inl refl)) in
-        has.finish_has _ _ _ _ _ _ (Step.append_done c s name q payload Numbered)
+        has.finish_has _ _ _ _ _ _ (Step.append_done s name q payload Numbered)
         (has.sequencer_has _ _ _ _ _ _ s name (appended q payload) K.before (record {
           appends = λ p j. elim (In-append p q.appends _ j) [
             | inl k ↦ o.appends p k
@@ -201,49 +204,49 @@ module _ (c : Config) (s : State) (e : Event) (E : ℕ → ℕ → ℕ → What 
           ];
           recovery = o.recovery;
         }))
-        (posted_ok (whos.Sequencer q.epoch) q.log (first_stores (spec_in q.log c.logs) q payload) (λ b j. (sequencers.each_ok E T Y O V W K.sound q.log q.epoch _ (choice (own_spec (spec_in q.log c.logs) q) q.lost (numbered q.epoch (next_esn q)) 0) n).each b j))
+        (posted_ok (whos.Sequencer q.epoch) q.log (first_stores q payload) (λ b j. (sequencers.each_ok E T Y O V W R G K.sound q.log q.epoch _ (choice q.spec q.lost (numbered q.epoch (next_esn q)) 0) (n, subst (λ k. G q.log k q.lng) (let u = K.small name q v.named in let z : q.epoch ≡ epoch_of (numbered q.epoch (next_esn q)) = omega arith in z) (K.good name q v.named))).each b j))
 
-    trims : (name : List ℕ) (q : Sequencer) (point : ℕ) → Live s name q → point ≤ released_of q → Result (record { state = s; lines = lines.Trimmed name point ∷ []; sends = posted (whos.Sequencer q.epoch) q.log (to_each (bodies.Trim point) (set_of c q.log)) }) []
-    trims name q point v b w x = has.finish_has _ _ _ _ _ _ (record { state = s; lines = lines.Trimmed name point ∷ []; sends = posted (whos.Sequencer q.epoch) q.log (to_each (bodies.Trim point) (set_of c q.log)) }) K.before
-        (posted_ok (whos.Sequencer q.epoch) q.log (to_each (bodies.Trim point) (set_of c q.log)) (λ y j. (sequencers.each_ok E T Y O V W K.sound q.log q.epoch (bodies.Trim point) (set_of c q.log) (K.trim name q point v b (subst (λ (d : Done). In (lines.Trimmed name point) d.lines) (sym w) (inl refl)))).each y j))
+    trims : (name : List ℕ) (q : Sequencer) (point : ℕ) → Live s name q → point ≤ released_of q → Result (record { state = s; lines = lines.Trimmed name point ∷ []; sends = posted (whos.Sequencer q.epoch) q.log (to_each (bodies.Trim point) (all_nodes c)) }) []
+    trims name q point v b w x = has.finish_has _ _ _ _ _ _ (record { state = s; lines = lines.Trimmed name point ∷ []; sends = posted (whos.Sequencer q.epoch) q.log (to_each (bodies.Trim point) (all_nodes c)) }) K.before
+        (posted_ok (whos.Sequencer q.epoch) q.log (to_each (bodies.Trim point) (all_nodes c)) (λ y j. (sequencers.each_ok E T Y O V W R G K.sound q.log q.epoch (bodies.Trim point) (all_nodes c) (K.trim name q point v b (subst (λ (d : Done). In (lines.Trimmed name point) d.lines) (sym w) (inl refl)))).each y j))
 
     drops : (name : List ℕ) (q : Sequencer) → Live s name q → Carries (finish (only_state (with_sequencer s name (Step.dropped q)))).state
     drops name q v = let o = K.before.sequencers name q v.named in quiet_has _ [] (has.sequencer_has _ _ _ _ _ _ s name (Step.dropped q) K.before (record { appends = o.appends; recovery = o.recovery }))
 
-    unactivated : (l n : ℕ) (r : Register) → (Step.happens c s e).state.register ≡ r → (k : ℕ) → 0 < k → k < (activated (spec_in l c.logs) l (epochs_of r l).epoch (lce_of r l)).epoch → O l k
+    unactivated : (l n : ℕ) (r : Register) → (Step.happens c s e).state.register ≡ r → (k : ℕ) → 0 < k → k < (activated (looks_at c r l) (Step.spec_set c s l) l (epochs_of r l).epoch (lce_of r l)).epoch → O l k
     unfolding activated
     unactivated l n r i k u v = K.new_epochs l r i k u v
 
     activates : (name : List ℕ) (l : ℕ) (r : Register) → (Step.happens c s e).state.register ≡ r → Result (Step.activated_as c s name l r (epochs_of r l).epoch (lce_of r l)) []
     activates name l r i w x = let n = (epochs_of r l).epoch in let d : Done = Step.activated_as c s name l r n (lce_of r l) in
-        has.finish_has _ _ _ _ _ _ d (has.register_has _ _ _ _ _ _ (with_sequencer s name (activated (spec_in l c.logs) l n (lce_of r l))) r (has.sequencer_has _ _ _ _ _ _ s name (activated (spec_in l c.logs) l n (lce_of r l)) K.before (sequencers.activated_ok E T Y O V W K.sound name (spec_in l c.logs) l n (lce_of r l) (K.new_epochs l r i))) (to_register d w))
-        (posted_ok (whos.Sequencer n) l (recovery_asks (spec_in l c.logs) (activated (spec_in l c.logs) l n (lce_of r l)) (lce_of r l)) (λ b j. (sequencers.begin_asks_ok E T Y O V W K.sound l n (spec_in l c.logs) (activated (spec_in l c.logs) l n (lce_of r l)) (lce_of r l) (unactivated l n r i)).each b j))
+        has.finish_has _ _ _ _ _ _ d (has.register_has _ _ _ _ _ _ (with_sequencer s name (activated (looks_at c r l) (Step.spec_set c s l) l n (lce_of r l))) r (has.sequencer_has _ _ _ _ _ _ s name (activated (looks_at c r l) (Step.spec_set c s l) l n (lce_of r l)) K.before (sequencers.activated_ok E T Y O V W R G K.sound name c r (Step.spec_set c s l) l n (lce_of r l) (K.new_epochs l r i))) (to_register d w))
+        (posted_ok (whos.Sequencer n) l (recovery_asks (looks_at c r l) (activated (looks_at c r l) (Step.spec_set c s l) l n (lce_of r l)) (lce_of r l)) (λ b j. (sequencers.begin_asks_ok E T Y O V W R G K.sound l n (looks_at c r l) (activated (looks_at c r l) (Step.spec_set c s l) l n (lce_of r l)) (lce_of r l) (unactivated l n r i)).each b j))
 
     register_only : (t : State) (r : Register) (ls : List Line) → Carries t → Step.happens c s e ≡ record { state = with_register t r; lines = ls; sends = [] } → Carries (finish (record { state = with_register t r; lines = ls; sends = [] })).state
     register_only t r ls h w = quiet_has (with_register t r) ls (has.register_has _ _ _ _ _ _ t r h (to_register (record { state = with_register t r; lines = ls; sends = [] }) w))
 
     -- ---- readers ----
-    asks_plain : (l r round next : ℕ) (set : List ℕ) (b : ℕ × Body) → In b (asks_of round next set) → carried.BodyOk E T Y O V W l (whos.Reader r) b.1
+    asks_plain : (l r round next : ℕ) (set : List ℕ) (b : ℕ × Body) → In b (asks_of round next set) → carried.BodyOk E T Y O V W R G l (whos.Reader r) b.1
     asks_plain l r round next [] b i = absurd i
-    asks_plain l r round next (y ∷ set) b (inl q) = subst (λ (x : ℕ × Body). carried.BodyOk E T Y O V W l (whos.Reader r) x.1) (sym q) tt
+    asks_plain l r round next (y ∷ set) b (inl q) = subst (λ (x : ℕ × Body). carried.BodyOk E T Y O V W R G l (whos.Reader r) x.1) (sym q) tt
     asks_plain l r round next (y ∷ set) b (inr i) = asks_plain l r round next set b i
 
     HeldFine : ℕ → List (ℕ × Held) → Type 0
-    HeldFine l hs = (h : ℕ × Held) → In h hs → carried.HeldOk E T Y O V W l h.1.body
+    HeldFine l hs = (h : ℕ × Held) → In h hs → carried.HeldOk E T Y O V W R G l h.1.body
 
     -- a reader that reads on, with its asks
     record ReadOk (d : Reader) (a : Read) : Type 0 where
       log : a.reader.log ≡ d.log
       held : HeldFine d.log a.reader.held
-      asks : (r : ℕ) (b : ℕ × Body) → In b a.asks → carried.BodyOk E T Y O V W d.log (whos.Reader r) b.1
+      asks : (r : ℕ) (b : ℕ × Body) → In b a.asks → carried.BodyOk E T Y O V W R G d.log (whos.Reader r) b.1
 
-    held_put : (d : Reader) (y : ℕ) (b : Body) → HeldFine d.log d.held → carried.HeldOk E T Y O V W d.log b → HeldFine d.log (held_with d.held y b)
+    held_put : (d : Reader) (y : ℕ) (b : Body) → HeldFine d.log d.held → carried.HeldOk E T Y O V W R G d.log b → HeldFine d.log (held_with d.held y b)
     unfolding HeldFine
-    held_put d y b h o = cond_both (is_newer (find y d.held) (round_of b)) (put y (record { round = round_of b; body = b }) d.held) d.held (λ x. (k : ℕ × Held) → In k x → carried.HeldOk E T Y O V W d.log k.1.body)
-        (λ t k i. elim (In_put y (record { round = round_of b; body = b }) d.held k i) [ inl q ↦ subst (λ (x : ℕ × Held). carried.HeldOk E T Y O V W d.log x.1.body) (sym q) o | inr j ↦ h k j ]) (λ t. h)
+    held_put d y b h o = cond_both (is_newer (find y d.held) (round_of b)) (put y (record { round = round_of b; body = b }) d.held) d.held (λ x. (k : ℕ × Held) → In k x → carried.HeldOk E T Y O V W R G d.log k.1.body)
+        (λ t k i. elim (In_put y (record { round = round_of b; body = b }) d.held k i) [ inl q ↦ subst (λ (x : ℕ × Held). carried.HeldOk E T Y O V W R G d.log x.1.body) (sym q) o | inr j ↦ h k j ]) (λ t. h)
 
-    read_keeps : (set : List ℕ) (d : Reader) (y : ℕ) (b : Body) → HeldFine d.log d.held → carried.HeldOk E T Y O V W d.log b → ReadKeeps set d y b (ReadOk d)
-    read_keeps set d y b h o = let k = held_put d y b h o in record {
+    read_keeps : (looks : ℕ → View) (d : Reader) (y : ℕ) (b : Body) → HeldFine d.log d.held → carried.HeldOk E T Y O V W R G d.log b → ReadKeeps looks d y b (ReadOk d)
+    read_keeps looks d y b h o = let k = held_put d y b h o in record {
       starts = record { log = refl; held = k; asks = λ r x i. absurd i };
       loss = λ u. record { log = refl; held = k; asks = λ r x i. absurd i };
       trim = λ a g n t. record { log = g.log; held = g.held; asks = g.asks };
@@ -251,31 +254,31 @@ module _ (c : Config) (s : State) (e : Event) (E : ℕ → ℕ → ℕ → What 
       hole_there = λ a g n t. record { log = g.log; held = g.held; asks = g.asks };
       bridge = λ a g n t. record { log = g.log; held = g.held; asks = g.asks };
       confirm = λ a g n m t. record { log = g.log; held = g.held; asks = λ r x i. asks_plain d.log r _ _ _ x i };
-      polls_on = λ a g t. record { log = g.log; held = g.held; asks = λ r x i. poll_plain d.log r set a.reader x i };
+      polls_on = λ a g t. record { log = g.log; held = g.held; asks = λ r x i. poll_plain d.log r looks a.reader x i };
     } where
-      poll_plain : (l r : ℕ) (set : List ℕ) (x : Reader) (b : ℕ × Body) → In b (poll_asks set x) → carried.BodyOk E T Y O V W l (whos.Reader r) b.1
-      poll_plain l r set x b i = cond_both (nat_lt x.round last_round) (asks_of (x.round + 1) x.next set) [] (λ z. In b z → carried.BodyOk E T Y O V W l (whos.Reader r) b.1) (λ t j. asks_plain l r _ _ set b j) (λ t j. absurd j) i
+      poll_plain : (l r : ℕ) (looks : ℕ → View) (x : Reader) (b : ℕ × Body) → In b (poll_asks looks x) → carried.BodyOk E T Y O V W R G l (whos.Reader r) b.1
+      poll_plain l r looks x b i = cond_both (nat_lt x.round last_round) (asks_of (x.round + 1) x.next (nodes_of (look_of looks x).spec)) [] (λ z. In b z → carried.BodyOk E T Y O V W R G l (whos.Reader r) b.1) (λ t j. asks_plain l r _ _ _ b j) (λ t j. absurd j) i
 
-    reads : (f : List ℕ) (name : List ℕ) (d : Reader) (m : Msg) → In m s.network.sent → m.to ≡ whos.Reader d.number → Reading s name d → Carries (finish (Step.read (refreshed s f) name (on_answer (Step.set_read c d) d (Step.sender_node m.from) m.body))).state
+    reads : (f : List ℕ) (name : List ℕ) (d : Reader) (m : Msg) → In m s.network.sent → m.to ≡ whos.Reader d.number → Reading s name d → Carries (finish (Step.read (refreshed s f) name (on_answer (looks_at c s.register d.log) d (Step.sender_node m.from) m.body))).state
     unfolding HeldFine
     reads f name d m i t v =
         let lg : d.log ≡ m.log = K.apart.logs m d.number name d i (inl t) v.named refl in
         let y = Step.sender_node m.from in
-        let a = on_answer (Step.set_read c d) d y m.body in
-        let o : carried.HeldOk E T Y O V W d.log m.body = subst (λ k. carried.HeldOk E T Y O V W k m.body) (sym lg) (carried.held_of E T Y O V W m.log m.from m.body (K.before.sent m i)) in
-        let k = answered (Step.set_read c d) d y m.body (ReadOk d) (read_keeps (Step.set_read c d) d y m.body (K.before.readers name d v.named) o) in
-        has.finish_has _ _ _ _ _ _ (Step.read (refreshed s f) name a) (has.reader_has _ _ _ _ _ _ (refreshed s f) name a.reader K.before (subst (λ z. (h : ℕ × Held) → In h a.reader.held → carried.HeldOk E T Y O V W z h.1.body) (sym k.log) k.held))
-        (posted_ok (whos.Reader a.reader.number) a.reader.log a.asks (λ b j. subst (λ z. carried.BodyOk E T Y O V W z (whos.Reader a.reader.number) b.1) (sym k.log) (k.asks a.reader.number b j)))
+        let a = on_answer (looks_at c s.register d.log) d y m.body in
+        let o : carried.HeldOk E T Y O V W R G d.log m.body = subst (λ k. carried.HeldOk E T Y O V W R G k m.body) (sym lg) (carried.held_of E T Y O V W R G m.log m.from m.body (K.before.sent m i)) in
+        let k = answered (looks_at c s.register d.log) d y m.body (ReadOk d) (read_keeps (looks_at c s.register d.log) d y m.body (K.before.readers name d v.named) o) in
+        has.finish_has _ _ _ _ _ _ (Step.read (refreshed s f) name a) (has.reader_has _ _ _ _ _ _ (refreshed s f) name a.reader K.before (subst (λ z. (h : ℕ × Held) → In h a.reader.held → carried.HeldOk E T Y O V W R G z h.1.body) (sym k.log) k.held))
+        (posted_ok (whos.Reader a.reader.number) a.reader.log a.asks (λ b j. subst (λ z. carried.BodyOk E T Y O V W R G z (whos.Reader a.reader.number) b.1) (sym k.log) (k.asks a.reader.number b j)))
 
-    polls : (name : List ℕ) (d : Reader) → Reading s name d → Carries (finish (record { state = with_reader s name (polled d); lines = []; sends = posted (whos.Reader d.number) d.log (poll_asks (Step.set_read c d) d) })).state
-    polls name d v = has.finish_has _ _ _ _ _ _ (record { state = with_reader s name (polled d); lines = []; sends = posted (whos.Reader d.number) d.log (poll_asks (Step.set_read c d) d) })
-        (has.reader_has _ _ _ _ _ _ s name (polled d) K.before (K.before.readers name d v.named))
-        (posted_ok (whos.Reader d.number) d.log (poll_asks (Step.set_read c d) d) (λ b j. cond_both (nat_lt d.round last_round) (asks_of (d.round + 1) d.next (Step.set_read c d)) [] (λ z. In b z → carried.BodyOk E T Y O V W d.log (whos.Reader d.number) b.1) (λ t k. asks_plain d.log d.number _ _ _ b k) (λ t k. absurd k) j))
+    polls : (name : List ℕ) (d : Reader) → Reading s name d → Carries (finish (record { state = with_reader s name (polled (looks_at c s.register d.log) d); lines = []; sends = posted (whos.Reader d.number) d.log (poll_asks (looks_at c s.register d.log) d) })).state
+    polls name d v = has.finish_has _ _ _ _ _ _ (record { state = with_reader s name (polled (looks_at c s.register d.log) d); lines = []; sends = posted (whos.Reader d.number) d.log (poll_asks (looks_at c s.register d.log) d) })
+        (has.reader_has _ _ _ _ _ _ s name (polled (looks_at c s.register d.log) d) K.before (K.before.readers name d v.named))
+        (posted_ok (whos.Reader d.number) d.log (poll_asks (looks_at c s.register d.log) d) (λ b j. cond_both (nat_lt d.round last_round) (asks_of (d.round + 1) d.next (nodes_of (look_of (looks_at c s.register d.log) d).spec)) [] (λ z. In b z → carried.BodyOk E T Y O V W R G d.log (whos.Reader d.number) b.1) (λ t k. asks_plain d.log d.number _ _ _ b k) (λ t k. absurd k) j))
 
     opens : (name : List ℕ) (l from until : ℕ) → Carries (finish (only_state (with_reader s name (opened l (length s.readers) from until)))).state
     opens name l from until = quiet_has _ [] (has.reader_has _ _ _ _ _ _ s name (opened l (length s.readers) from until) K.before (λ h i. absurd i))
 
-    node_only : (n : ℕ) (x : Node) (ls : List Line) → has.NodeHas (λ y p. carried.PlainOk E T Y O V W p) (λ y l r. W l r) (carried.MsgOk E T Y O V W) (carried.SequencerOk E T Y O V W) (carried.ReaderOk E T Y O V W) (carried.RegisterOk E T Y O V W) n x → Carries (finish (record { state = with_node s n x; lines = ls; sends = [] })).state
+    node_only : (n : ℕ) (x : Node) (ls : List Line) → has.NodeHas (λ y p. carried.PlainOk E T Y O V W R G p) (λ y l r. W l r) (carried.MsgOk E T Y O V W R G) (carried.SequencerOk E T Y O V W R G) (carried.ReaderOk E T Y O V W R G) (carried.RegisterOk E T Y O V W R G) n x → Carries (finish (record { state = with_node s n x; lines = ls; sends = [] })).state
     node_only n x ls h = quiet_has (with_node s n x) ls (has.node_has _ _ _ _ _ _ s n x K.before h)
 
     carry_cases : Cases c s e Result
@@ -288,8 +291,9 @@ module _ (c : Config) (s : State) (e : Event) (E : ℕ → ℕ → ℕ → What 
       formats = λ n r g b v i w x. formats n r (to_register _ w);
       ticks = λ n l t v i o w x. ticked n l t i;
       stops = λ n b w x. let h = K.before.nodes n in node_only n (Step.stopped (node_at s n)) _ (record { plain = h.plain; cut = h.cut; released = h.released });
-      wipes = λ n w x. node_only n new_node _ (has.new_has _ _ _ _ _ _ (λ y l. K.sound.zero_released l) n (nodes.blank_ok E T Y O V W K.sound));
+      wipes = λ n w x. node_only n new_node _ (has.new_has _ _ _ _ _ _ (λ y l. K.sound.zero_released l) n (nodes.blank_ok E T Y O V W R G K.sound));
       faults = λ n f o w x. let h = K.before.nodes n in node_only n (Step.with_fault (node_at s n) f) [] (record { plain = h.plain; cut = h.cut; released = h.released });
+      sets = λ l r y set h w x. quiet_has (with_spec s l (record { log = l; set = set; r = r; extras = y })) _ K.before;
       arms = λ k done o w x. register_only s _ [] K.before w;
       hears = λ f name q m i t l v o w x. replies f name q m i t l v w x;
       retries = λ name q v o w x. retries name q v w x;
@@ -297,7 +301,7 @@ module _ (c : Config) (s : State) (e : Event) (E : ℕ → ℕ → ℕ → What 
       trims = λ name q t v b w x. trims name q t v b w x;
       drops = λ name q v o w x. drops name q v;
       activates = λ name l r g n i j w x. activates name l r (ap (λ (d : Done). d.state.register) w) w x;
-      activate_fails = λ name l y q w x. register_only s _ _ K.before w;
+      activate_fails = λ name l y g q w x. register_only s _ _ K.before w;
       answers = λ f name d m i t v o w x. reads f name d m i t v;
       polls = λ name d v o w x. polls name d v;
       opens = λ name l from until o i w x. opens name l from until;

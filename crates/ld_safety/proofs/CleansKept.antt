@@ -1,5 +1,5 @@
 -- Each event leaves nodes that are right about clean epochs.
-use Rattle.std.proofs.Common.{◌≡◌, ◌⊎◌, ◌≤◌, ◌<◌, ℕ, refl, ap, sym, subst, Bool, true, false, ◌&&◌, nat_lt, nat_le, is_none, if◌then◌else◌, List, [], ◌∷◌, Option, Some, None, arith}
+use Rattle.std.proofs.Common.{◌≡◌, ◌≤◌, ◌<◌, ℕ, refl, ap, sym, subst, Bool, true, false, ◌&&◌, nat_lt, nat_le, is_none, if◌then◌else◌, List, [], ◌∷◌, Option, Some, None, arith}
 use Rattle.std.proofs.lemmas.Bool.{and_parts, ltb-true}
 use Rattle.ld_table.specs.Table.{find}
 use Rattle.ld_lsn.specs.Number.{epoch_of}
@@ -15,9 +15,9 @@ use Rattle.ld_op.specs.declared.op.Op.TheVariants as ops
 use Rattle.ld_op.specs.Plain.{Plain, Log, log_of}
 use Rattle.ld_op.specs.Answers.{store_decision, digest_decision, taken, on_store, on_digest_ask, on_clean, clean_op, on_trim}
 use Rattle.ld_op.specs.Handles.{handled_by, ballot_of}
-use Rattle.ld_op.specs.Ticks.{Ticked, Cleans, Rebuilt, Asks, Nothing, on_tick, tick_with, lost_tick, refill_tick, lowest_unclean, missing, on_page, page_op, refill_op, lacking, is_missing, is_below_end, as_closed}
+use Rattle.ld_op.specs.Ticks.{Cleans, Nothing, on_tick, tick_with, refill_tick, lowest_unclean, missing, on_page, page_op, refill_op, lacking, is_missing, is_below_end, as_closed}
 use Rattle.ld_op.specs.Ticks as ticks
-use Rattle.ld_msg.specs.Register.{Register, epochs_of}
+use Rattle.ld_msg.specs.Register.{Register}
 use Rattle.ld_msg.specs.Sequencer.{Sequencer}
 use Rattle.ld_msg.specs.Reader.{Reader}
 use Rattle.ld_machine.specs.Disk.{Node, load, new_node}
@@ -92,10 +92,10 @@ module _ (p : Plain) (l : ℕ) where
     takes = λ t h z. subst (OpClean p) (Some_inj z) tt;
   }) q
 
-  clean_clean : (k : ℕ) (y : Summary) (z : Option Summary) (o : Op) → (k ≡ 0) ⊎ (y.lng ≡ 0) → clean_op l k y z ≡ Some o → Fine o
+  clean_clean : (k : ℕ) (y : Summary) (z : Option Summary) (o : Op) → clean_op l k y z ≡ Some o → Fine o
   unfolding Fine
-  clean_clean k y None o h q = subst (OpClean p) (Some_inj q) h
-  clean_clean k y (Some z) o h q = absurd cc
+  clean_clean k y None o q = subst (OpClean p) (Some_inj q) tt
+  clean_clean k y (Some z) o q = absurd cc
 
   if_clean : (b : Bool) (z : Option Op) (o : Op) → (z ≡ Some o → Fine o) → (if b then z else None) ≡ Some o → Fine o
   if_clean true z o h q = h q
@@ -127,18 +127,17 @@ module _ (p : Plain) (l : ℕ) where
   unfolding on_page
   keep_clean b o q = if_clean (log_of p l).lost (page_op (log_of p l) l b) o (page_clean b o) q
 
-  pub message_clean : (generation ballot released : ℕ) (b : Body) (o : Op) → ((k : ℕ) (y : Summary) → b ≡ bodies.Clean k y → (k ≡ 0) ⊎ (y.lng ≡ 0)) → (handled_by generation (log_of p l) l ballot released b).op ≡ Some o → OpClean p o
+  pub message_clean : (generation ballot released : ℕ) (b : Body) (o : Op) → (handled_by generation (log_of p l) l ballot released b).op ≡ Some o → OpClean p o
   unfolding on_store on_digest_ask on_clean on_trim Fine
-  message_clean generation ballot released (bodies.Store k lng x) o h q = store_clean lng (record { number = k; ballot = ballot; what = x }) o q
-  message_clean generation ballot released (bodies.DigestAsk k) o h q = ask_clean ballot k o q
-  message_clean generation ballot released (bodies.Clean k y) o h q = clean_clean k y _ o (h k y refl) q
-  message_clean generation ballot released (bodies.Trim t) o h q = if_clean (nat_lt (log_of p l).trim t) (Some (ops.Trim l t)) o (λ z. subst (OpClean p) (Some_inj z) tt) q
-  message_clean generation ballot released (bodies.ReadAsk round k) o h q = absurd cc
-  message_clean generation ballot released b o h q = keep_clean b o q
+  message_clean generation ballot released (bodies.Store k lng x) o q = store_clean lng (record { number = k; ballot = ballot; what = x }) o q
+  message_clean generation ballot released (bodies.DigestAsk k) o q = ask_clean ballot k o q
+  message_clean generation ballot released (bodies.Clean k y) o q = clean_clean k y _ o q
+  message_clean generation ballot released (bodies.Trim t) o q = if_clean (nat_lt (log_of p l).trim t) (Some (ops.Trim l t)) o (λ z. subst (OpClean p) (Some_inj z) tt) q
+  message_clean generation ballot released (bodies.ReadAsk round k) o q = absurd cc
+  message_clean generation ballot released b o q = keep_clean b o q
 
 -- ---- every event ----
-module _ (c : Config) (s : State) (e : Event) (H : (y : ℕ) → NodeClean y (node_at s y)) (K : (y l : ℕ) → Keyed (log_of (node_at s y).plain l)) (L : (y l : ℕ) → Keyed (log_of (load (node_at s y)).plain l))
-    (told : (m : Msg) (k : ℕ) (y : Summary) → In m s.network.sent → m.body ≡ bodies.Clean k y → (k ≡ 0) ⊎ (y.lng ≡ 0)) (closed : (l k : ℕ) (y : Summary) → find k (epochs_of s.register l).summaries ≡ Some y → (k ≡ 0) ⊎ (y.lng ≡ 0)) where
+module _ (c : Config) (s : State) (e : Event) (H : (y : ℕ) → NodeClean y (node_at s y)) (K : (y l : ℕ) → Keyed (log_of (node_at s y).plain l)) (L : (y l : ℕ) → Keyed (log_of (load (node_at s y)).plain l)) where
   any : (y l : ℕ) → AnyReleased y l 0
   any y l = tt
 
@@ -158,10 +157,10 @@ module _ (c : Config) (s : State) (e : Event) (H : (y : ℕ) → NodeClean y (no
     keeps = λ n m o i t v q. let p = released_parts (node_at s n) m.log m.body in
         has.op_has _ _ _ _ _ _ n (Step.releases (node_at s n) m.log m.body) o (released n m.log m.body)
         (op_clean (Step.releases (node_at s n) m.log m.body).plain o (same_keys _ (node_at s n).plain p.0 (K n)) (released n m.log m.body).plain
-        (subst (λ (x : Plain). OpClean x o) (sym p.0) (message_clean (node_at s n).plain m.log _ (ballot_of m.from) _ m.body o (λ k y h. told m k y i h) q)));
+        (subst (λ (x : Plain). OpClean x o) (sym p.0) (message_clean (node_at s n).plain m.log _ (ballot_of m.from) _ m.body o q)));
     loads = loaded;
     formats = λ n k b w i. has.op_has _ _ _ _ _ _ n (load (node_at s n)) _ (loaded n) (op_clean (load (node_at s n)).plain _ (L n) (loaded n).plain tt);
-    cleans = λ n l k y v h. has.op_has _ _ _ _ _ _ n (node_at s n) _ (H n) (op_clean (node_at s n).plain (ops.Clean l k y) (K n) (H n).plain (closed l k y (tick_found (log_of (node_at s n).plain l) (epochs_of s.register l).summaries k y h)));
+    cleans = λ n l k y v h. has.op_has _ _ _ _ _ _ n (node_at s n) _ (H n) (op_clean (node_at s n).plain (ops.Clean l k y) (K n) (H n).plain tt);
     rebuilds = λ n l v h. has.op_has _ _ _ _ _ _ n (node_at s n) _ (H n) (op_clean (node_at s n).plain (ops.Refilled l) (K n) (H n).plain tt);
     stops = λ n. let h = H n in record { plain = h.plain; cut = h.cut; released = h.released };
     wipes = λ n. has.new_has _ _ _ _ _ _ any n blank_clean;

@@ -9,11 +9,12 @@ use Rattle.ld_msg.specs.declared.msg.Summary.{Summary}
 use Rattle.ld_msg.specs.declared.msg.Msg.{Msg}
 use Rattle.ld_msg.specs.declared.msg.Body.{Body}
 use Rattle.ld_ids.specs.declared.set.Spec.{Spec}
+use Rattle.ld_ids.specs.Choice.{nodes_of}
+use Rattle.ld_table.specs.Words.{is_in}
 use Rattle.ld_op.specs.declared.op.Op.{Op}
 use Rattle.ld_op.specs.Ticks.{Ticked, Cleans, Rebuilt, Asks, Nothing}
 use Rattle.ld_machine.specs.Disk.{Node}
-use Rattle.ld_machine.specs.Config.{spec_in}
-use Rattle.ld_msg.specs.Register.{Register, Epochs, Changed, no_epochs, epochs_of, lce_of, with_epochs, next_epoch, closed_epochs, close, activate, draw}
+use Rattle.ld_msg.specs.Register.{Register, View, Epochs, Changed, no_epochs, epochs_of, lce_of, with_epochs, next_epoch, closed_epochs, close, activate, draw}
 use Rattle.ld_msg.specs.Sequencer.{Sequencer, Acts, Recovery, Storing, Stores, Closes, is_ready, settled_by, summary_of}
 use Rattle.ld_machine.specs.State.{State, node_at, with_node}
 use Rattle.ld_machine.specs.Step as Step
@@ -46,14 +47,14 @@ module _ (P : ℕ → ℕ → Summary → Type 0) where
     ]) s.1 h
   ]
 
-  activate_summaries : (r : Register) (l : ℕ) → OfSummaries P r → OfSummaries P (activate r l).register
-  activate_summaries r l h = elim (activate_leaves r l) [ inl s ↦ same_summaries r (activate r l).register s h | inr s ↦ put_summaries r (activate r l).register l (next_epoch (epochs_of r l)) (λ e y f. h l e y f) s.1 h ]
+  activate_summaries : (r : Register) (l : ℕ) (p : Spec) → OfSummaries P r → OfSummaries P (activate r l p).register
+  activate_summaries r l p h = elim (activate_leaves r l p) [ inl s ↦ same_summaries r (activate r l p).register s h | inr s ↦ put_summaries r (activate r l p).register l (next_epoch (epochs_of r l) p) (λ e y f. h l e y f) s.1 h ]
 
   draw_summaries : (r : Register) (n : ℕ) → OfSummaries P r → OfSummaries P (draw r n).register
   draw_summaries r n h = elim (draw_leaves r n) [ inl s ↦ same_summaries r (draw r n).register s h | inr s ↦ (λ l e y f. h l e y (ap (λ m. find e (unwrap_or (find l m) no_epochs).summaries) (sym s.0) ∙ f)) ]
 
-  close_called : (r : Register) (p : Spec) (a : Acts) (e : ℕ) (y : Summary) → (lce_of r a.sequencer.log + 1 ≡ e → P a.sequencer.log e y) → OfSummaries P r → Closing r p a e y (λ k. OfSummaries P k.register)
-  close_called r p a e y t h = let z = close_summaries r a.sequencer.log e y t h in record {
+  close_called : (r : Register) (looks : ℕ → View) (a : Acts) (e : ℕ) (y : Summary) → (lce_of r a.sequencer.log + 1 ≡ e → P a.sequencer.log e y) → OfSummaries P r → Closing r looks a e y (λ k. OfSummaries P k.register)
+  close_called r looks a e y t h = let z = close_summaries r a.sequencer.log e y t h in record {
     granted = λ n i j. subst (λ (d : Changed). OfSummaries P d.register) j z;
     overtaken = λ i. h;
     behind = λ b i. h;
@@ -61,30 +62,31 @@ module _ (P : ℕ → ℕ → Summary → Type 0) where
   }
 
 -- how a recovery closes its epoch: it tried before, or its plan is ready
-pub record Readied (c : Config) (s : State) (q : Sequencer) (v : Recovery) (y : Summary) : Type 0 where
+pub record Readied (s : State) (q : Sequencer) (v : Recovery) (y : Summary) : Type 0 where
   pub storing : Storing
   pub settles : ℕ → Bool
   pub node : ℕ
   pub body : Body
   pub heard : HeardOf s q node body
   pub settling : Settling body v.epoch settles
+  pub member : is_in node (nodes_of v.spec) ≡ true
   pub stage : v.stage ≡ Stores storing
-  pub ready : is_ready (spec_in q.log c.logs) (settled_by settles node storing) ≡ true
+  pub ready : is_ready v.spec (settled_by settles node storing) ≡ true
   pub summary : y ≡ summary_of q.epoch (settled_by settles node storing)
 
-abbrev pub Ends_with : Config → State → Sequencer → Recovery → Summary → Type 0
-Ends_with c s q v y = (v.stage ≡ Closes y) ⊎ Readied c s q v y
+abbrev pub Ends_with : State → Sequencer → Recovery → Summary → Type 0
+Ends_with s q v y = (v.stage ≡ Closes y) ⊎ Readied s q v y
 
 module _ (c : Config) (s : State) (e : Event) (P : ℕ → ℕ → Summary → Type 0) (h : OfSummaries P s.register)
-    (closes : (name : List ℕ) (q : Sequencer) (v : Recovery) (y : Summary) → Live s name q → q.recovery ≡ Some v → Ends_with c s q v y → lce_of s.register q.log + 1 ≡ v.epoch → P q.log v.epoch y) where
+    (closes : (name : List ℕ) (q : Sequencer) (v : Recovery) (y : Summary) → Live s name q → q.recovery ≡ Some v → Ends_with s q v y → lce_of s.register q.log + 1 ≡ v.epoch → P q.log v.epoch y) where
   acting : (name : List ℕ) (q : Sequencer) → Live s name q → (y : ℕ) (b : Body) → HeardOf s q y b → Acting c s.register q y b (λ k m. OfSummaries P k.register)
   acting name q live y b H = record {
     quiet = h;
     sealed = λ n k f i l. h;
     cleaned_own = λ n s f i g. h;
-    acks = λ n p f i g k. h;
-    settles_some = λ v g p f e i s u. h;
-    settles_all = λ v g p f e i z u. close_called P s.register _ _ v.epoch _ (λ j. closes name q v _ live e (inr (record { storing = g; settles = p; node = y; body = b; heard = H; settling = z; stage = i; ready = u; summary = refl })) j) h;
+    acks = λ n p f i g k m. h;
+    settles_some = λ v g p f e i s m u. h;
+    settles_all = λ v g p f e i z m u. close_called P s.register _ _ v.epoch _ (λ j. closes name q v _ live e (inr (record { storing = g; settles = p; node = y; body = b; heard = H; settling = z; member = m; stage = i; ready = u; summary = refl })) j) h;
     lost_own = λ n round g end f i k. h;
     lost_there = λ v n round g end f e i k. h;
     cleaned = λ v n s f e i k. h;
@@ -117,14 +119,15 @@ module _ (c : Config) (s : State) (e : Event) (P : ℕ → ℕ → Summary → T
     stops = λ n b. h;
     wipes = λ n. h;
     faults = λ n f o. h;
+    sets = λ l r x set i. h;
     arms = λ k done o. h;
     hears = λ f name q m i t l v o. replied c s.register name q v.there (Step.sender_node m.from) m.body (λ k n. OfSummaries P k.register) (acting name q v (Step.sender_node m.from) m.body (record { message = m; sent = i; to = t; log = l; from = refl; body = refl }));
     retries = λ name q v o. retried c s.register q (λ k. OfSummaries P k.register) (retrying name q v);
     appends = λ name q p v a i. h;
     trims = λ name q t v b. h;
     drops = λ name q v o. h;
-    activates = λ name l r g n i x. subst (λ (d : Changed). OfSummaries P d.register) i (activate_summaries P s.register l h);
-    activate_fails = λ name l x q. activate_summaries P s.register l h;
+    activates = λ name l r g n i x. subst (λ (d : Changed). OfSummaries P d.register) i (activate_summaries P s.register l (Step.spec_set c s l) h);
+    activate_fails = λ name l x g q. activate_summaries P s.register l (Step.spec_set c s l) h;
     answers = λ f name d m i t v o. h;
     polls = λ name d v o. h;
     opens = λ name l from until o x. h;

@@ -5,9 +5,9 @@ use Rattle.ld_ids.specs.declared.set.Spec.{Spec}
 use Rattle.ld_config.specs.declared.config.Config.{Config}
 use Rattle.ld_msg.specs.declared.msg.Summary.{Summary}
 use Rattle.ld_msg.specs.declared.msg.Body.{Body}
-use Rattle.ld_msg.specs.Register.{Register}
-use Rattle.ld_msg.specs.Sequencer.{Sequencer, Acts, stored_at, raised, on_reply, on_retry, own_spec, called}
-use Rattle.ld_machine.specs.Config.{spec_in}
+use Rattle.ld_msg.specs.Register.{Register, View}
+use Rattle.ld_msg.specs.Sequencer.{Sequencer, Acts, stored_at, raised, on_reply, on_retry, called}
+use Rattle.ld_machine.specs.Config.{looks_at}
 use Rattle.ld_safety.proofs.SequencerSteps.{Closing, Acting, Retrying, replied, retried}
 use Rattle.ld_safety.proofs.Appends.{Continues, RowOf, acks_continue, raised_row, raised_length}
 
@@ -15,8 +15,8 @@ pub stays_same : (q : Sequencer) → RowOf q → Continues q q
 stays_same q r = record { log = refl; epoch = refl; count = refl; row = r }
 
 -- a close changes nothing of these
-closing_continues : (r : Register) (p : Spec) (q : Sequencer) (a : Acts) (e : ℕ) (y : Summary) → Continues q a.sequencer → Closing r p a e y (λ k. Continues q k.acts.sequencer)
-closing_continues r p q a e y c = record {
+closing_continues : (r : Register) (looks : ℕ → View) (q : Sequencer) (a : Acts) (e : ℕ) (y : Summary) → Continues q a.sequencer → Closing r looks a e y (λ k. Continues q k.acts.sequencer)
+closing_continues r looks q a e y c = record {
   granted = λ n h g. record { log = c.log; epoch = c.epoch; count = c.count; row = c.row };
   overtaken = λ l. record { log = c.log; epoch = c.epoch; count = c.count; row = c.row };
   behind = λ b l. record { log = c.log; epoch = c.epoch; count = c.count; row = c.row };
@@ -35,9 +35,9 @@ module _ (c : Config) (r : Register) (q : Sequencer) (R : RowOf q) where
     quiet = same;
     sealed = λ n k f i l. record { log = refl; epoch = refl; count = refl; row = R };
     cleaned_own = λ n s f i h. record { log = refl; epoch = refl; count = refl; row = R };
-    acks = λ n p f i h g. acks_continue (own_spec (spec_in q.log c.logs) q) q n p (stored_at p y) R g;
-    settles_some = λ v g p f e h s u. record { log = refl; epoch = refl; count = refl; row = R };
-    settles_all = λ v g p f e h s u. closing_continues r _ q _ v.epoch _ (record { log = refl; epoch = refl; count = refl; row = R });
+    acks = λ n p f i h g m. acks_continue q.spec q n p (stored_at p y) R g;
+    settles_some = λ v g p f e h s m u. record { log = refl; epoch = refl; count = refl; row = R };
+    settles_all = λ v g p f e h s m u. closing_continues r _ q _ v.epoch _ (record { log = refl; epoch = refl; count = refl; row = R });
     lost_own = λ n round g end f i h. record { log = refl; epoch = refl; count = refl; row = R };
     lost_there = λ v n round g end f e i h. record { log = refl; epoch = refl; count = refl; row = R };
     cleaned = λ v n s f e i h. record { log = refl; epoch = refl; count = refl; row = R };
@@ -46,16 +46,16 @@ module _ (c : Config) (r : Register) (q : Sequencer) (R : RowOf q) where
   }
 
   retrying : Retrying c r q (λ k. Continues q k.acts.sequencer)
-  retrying = let up = raised_continues (own_spec (spec_in q.log c.logs) q) q R in record {
+  retrying = let up = raised_continues q.spec q R in record {
     quiet = same;
     appends = λ f. up;
-    seals = λ v d f e h. up;
+    seals = λ v d f e h. record { log = up.log; epoch = up.epoch; count = up.count; row = up.row };
     stores = λ v g f e h. record { log = up.log; epoch = up.epoch; count = up.count; row = up.row };
     closes = λ v y f e h. closing_continues r _ q _ v.epoch y (record { log = up.log; epoch = up.epoch; count = up.count; row = up.row });
   }
 
-  pub reply_continues : (name : List ℕ) (y : ℕ) (b : Body) → q.gone ≡ false → Continues q (called (spec_in q.log c.logs) r (on_reply (spec_in q.log c.logs) q y b) (on_reply (spec_in q.log c.logs) q y b).tries).acts.sequencer
+  pub reply_continues : (name : List ℕ) (y : ℕ) (b : Body) → q.gone ≡ false → Continues q (called (looks_at c r q.log) r (on_reply (looks_at c r q.log) q y b) (on_reply (looks_at c r q.log) q y b).tries).acts.sequencer
   reply_continues name y b g = replied c r name q g y b (λ k m. Continues q k.acts.sequencer) (acting y b)
 
-  pub retry_continues : Continues q (called (spec_in q.log c.logs) r (on_retry (spec_in q.log c.logs) q) (on_retry (spec_in q.log c.logs) q).tries).acts.sequencer
+  pub retry_continues : Continues q (called (looks_at c r q.log) r (on_retry q) (on_retry q).tries).acts.sequencer
   retry_continues = retried c r q (λ k. Continues q k.acts.sequencer) retrying

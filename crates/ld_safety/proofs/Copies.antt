@@ -1,7 +1,7 @@
--- A node that settled a number for a ballot is blank, lost for its epoch, trimmed at it, has it with at least this ballot, knows of a later plan that cut it off, or is clean there by another plan: each op keeps it.
+-- A node that settled a number for a ballot is blank, lost for its epoch, trimmed at it, has it with at least this ballot, knows of a later plan that cut it off, or is clean there where this ballot's copy isn't the one that counts: each op keeps it.
 use Rattle.std.proofs.Common.{◌≡◌, ◌∙◌, ◌⊎◌, ◌≤◌, ◌<◌, ℕ, ◌+◌, max, inl, inr, refl, ap, sym, subst, true, false, not, ◌||◌, ◌==◌, nat_lt, nat_le, cond, List, Some, None, arith}
 use Rattle.std.specs.Option.{unwrap_or}
-use Rattle.std.proofs.lemmas.Bool.{cases_Bool, and_from, or_left, or_right, ltb-false, leb-false, ne_eqb}
+use Rattle.std.proofs.lemmas.Bool.{cases_Bool, and_from, or_left, or_right, or_parts, ltb-false, leb-false, ne_eqb}
 use Rattle.ld_table.specs.Table.{find}
 use Rattle.ld_table.proofs.Laws.{put_cases, find-keep, find-keep_keys, kept}
 use Rattle.ld_lsn.specs.Number.{epoch_of, esn_of}
@@ -21,9 +21,13 @@ use Rattle.ld_safety.proofs.Settled.{Reached}
 use Rattle.ld_safety.proofs.Holdings.{HeldAt, KeptBy, LogFine, Taking, entry_stays, cut_off, wider, lost_now, refill_same}
 use Rattle.ld_safety.proofs.Protocol.{StoredBy, TrimmedBy}
 
--- clean there with a summary of another ballot, or of an end at or below the number
+-- the copy of another ballot counts where the epoch is closed so: its own one up to the last known good place, the closing one above it; and none from the end on
+abbrev pub Another : Summary → ℕ → ℕ → Type 0
+Another y n b = ((esn_of n ≤ y.lng) × (b ≡ epoch_of n → ⊥)) ⊎ (((y.lng < esn_of n) × (b ≡ y.ballot → ⊥)) ⊎ (y.end ≤ esn_of n))
+
+-- clean there, where the copy of another ballot counts
 abbrev pub Elsewhere : Log → ℕ → ℕ → Type 0
-Elsewhere g n b = (y : Summary) × (find (epoch_of n) g.summaries ≡ Some y) × ((b ≡ y.ballot → ⊥) ⊎ (y.end ≤ esn_of n))
+Elsewhere g n b = (y : Summary) × (find (epoch_of n) g.summaries ≡ Some y) × Another y n b
 
 abbrev pub Copied : List Made → ℕ → Log → ℕ → ℕ → Type 0
 Copied made l g n b = (is_lost g (epoch_of n) ≡ true) ⊎ (KeptBy made g l n b ⊎ Elsewhere g n b)
@@ -47,14 +51,14 @@ module _ (made : List Made) (sent : List Msg) where
     ])
   ]
 
-  accept_over : (l : ℕ) (g : Log) (e : Entry) → LogFine g → Taking made sent l g e → Carries_over l g (accepted g e)
-  accept_over l g e F T n b pos (inl h) = inl h
-  accept_over l g e F T n b pos (inr (inr h)) = inr (inr h)
-  accept_over l g e F T n b pos (inr (inl (inl h))) = inr (inl (inl h))
-  accept_over l g e F T n b pos (inr (inl (inr (inr h)))) = inr (inl (inr (inr (wider made sent l b (g.sealed + 1) (e.ballot + 1) n (let u = T.sealed in omega arith) h))))
-  accept_over l g e F T n b pos (inr (inl (inr (inl h)))) = inr (inl (elim (entry_stays e e.what g.entries n h.entry h.found_at) [
+  accept_over : (l : ℕ) (g : Log) (lng : ℕ) (e : Entry) → LogFine g → Taking made sent l g e → Carries_over l g (accepted g lng e)
+  accept_over l g lng e F T n b pos (inl h) = inl h
+  accept_over l g lng e F T n b pos (inr (inr h)) = inr (inr h)
+  accept_over l g lng e F T n b pos (inr (inl (inl h))) = inr (inl (inl h))
+  accept_over l g lng e F T n b pos (inr (inl (inr (inr h)))) = inr (inl (inr (inr (wider made sent l b (g.sealed + 1) (e.ballot + 1) n (let u = T.sealed in omega arith) h))))
+  accept_over l g lng e F T n b pos (inr (inl (inr (inl h)))) = inr (inl (elim (entry_stays e e.what g.entries n h.entry h.found_at) [
     | inl a ↦ inr (inl (record { entry = h.entry; found_at = a; least = h.least }))
-    | inr (inl a) ↦ inr (inl (record { entry = e; found_at = subst (λ z. find z (accepted g e).entries ≡ Some e) (sym a) (taken_there g e); least = let z = F.bounded (n, h.entry) (find_in n g.entries h.entry h.found_at) (subst (λ k. Served g (epoch_of k)) (sym a) T.served) in let u = T.sealed in let v = h.least in omega arith }))
+    | inr (inl a) ↦ inr (inl (record { entry = e; found_at = subst (λ z. find z (accepted g lng e).entries ≡ Some e) (sym a) (taken_there g lng e); least = let z = F.bounded (n, h.entry) (find_in n g.entries h.entry h.found_at) (subst (λ k. Served g (epoch_of k)) (sym a) T.served) in let u = T.sealed in let v = h.least in omega arith }))
     | inr (inr a) ↦ inr (inr (cut_off made sent l g e h.entry n b F T h.found_at h.least a.0 a.1))
   ]))
 
@@ -75,11 +79,11 @@ module _ (made : List Made) (sent : List Msg) where
     | inr u ↦ inl (ltb-false _ _ u)
   ]))
 
-  -- what was stored for a lesser ballot than the closing one is the closing plan's matter
+  -- above what is known good, what was stored for a lesser ballot than the closing one is the closing plan's matter
   clean_over : (l : ℕ) (g : Log) (k : ℕ) (y : Summary) → LogFine g → ((z : Summary) → find k g.summaries ≡ Some z → z ≡ y) → Carries_over l g (cleaned g k y)
   clean_over l g k y F S n b pos (inl h) = inl h
   clean_over l g k y F S n b pos (inr (inr h)) = inr (inr (elim (put_cases (epoch_of n) k y g.summaries) [
-    | inl a ↦ (y, a.1, let q : h.0 ≡ y = S h.0 (subst (λ e. find e g.summaries ≡ Some h.0) a.0 h.1) in subst (λ (z : Summary). (b ≡ z.ballot → ⊥) ⊎ (z.end ≤ esn_of n)) q h.2)
+    | inl a ↦ (y, a.1, let q : h.0 ≡ y = S h.0 (subst (λ e. find e g.summaries ≡ Some h.0) a.0 h.1) in subst (λ (z : Summary). Another z n b) q h.2)
     | inr a ↦ (h.0, a.1 ∙ h.1, h.2)
   ]))
   clean_over l g k y F S n b pos (inr (inl (inl h))) = inr (inl (inl (omega arith)))
@@ -99,9 +103,10 @@ module _ (made : List Made) (sent : List Msg) where
     by_trim (inr u) = inr (inl (inl (ltb-false _ _ u)))
     by_trim (inl u) = elim (put_cases (epoch_of n) k y g.summaries) [
       | inr q ↦ inr (inl (inr (inl (stays u (or_left _ _ (ap not (ne_eqb (epoch_of a.entry.number) k (λ z. q.0 (ap epoch_of (sym num) ∙ z)))))))))
-      | inl q ↦ elim (cases_Bool (nat_le y.ballot a.entry.ballot)) [
-        | inl t ↦ inr (inl (inr (inl (stays u (or_right (not (epoch_of a.entry.number == k)) _ (or_left _ _ t))))))
-        | inr t ↦ inr (inr (y, q.1, inl (λ z. (let v = leb-false _ _ t in let w = a.least in omega arith))))
+      | inl q ↦ elim (cases_Bool (nat_le y.ballot a.entry.ballot || nat_le (esn_of a.entry.number) y.lng)) [
+        | inl t ↦ inr (inl (inr (inl (stays u (or_right (not (epoch_of a.entry.number == k)) _ t)))))
+        | inr t ↦ let p = or_parts (nat_le y.ballot a.entry.ballot) (nat_le (esn_of a.entry.number) y.lng) t in
+            inr (inr (y, q.1, inr (inl ((let v = leb-false _ _ p.1 in let m = ap esn_of num in omega arith), λ z. (let v = leb-false _ _ p.0 in let w = a.least in omega arith)))))
       ]
     ]
 
@@ -150,7 +155,7 @@ module _ (made : List Made) (sent : List Msg) where
   pub op_copies : (y : ℕ) (p : Plain) (o : Op) → ((l : ℕ) → LogFine (log_of p l)) → CopiesAt y p → OpCopies p o → CopiesAt y (apply p o)
   unfolding apply
   op_copies y p (ops.Format generation epochs) F H h = subst (λ es. CopiesAt y (record { generation = generation; logs = lost_logs es })) (sym h.1) (format_copies y generation h.0 h.2)
-  op_copies y p (ops.Accept l lng e) F H h = carried_over y p l (accepted (log_of p l) e) H (accept_over l (log_of p l) e (F l) h)
+  op_copies y p (ops.Accept l lng e) F H h = carried_over y p l (accepted (log_of p l) lng e) H (accept_over l (log_of p l) lng e (F l) h)
   op_copies y p (ops.Seal l b) F H h = carried_over y p l (sealed_by (log_of p l) b) H (seal_over l (log_of p l) b h)
   op_copies y p (ops.Clean l k s) F H h = carried_over y p l (cleaned (log_of p l) k s) H (clean_over l (log_of p l) k s (F l) h)
   op_copies y p (ops.Trim l t) F H h = carried_over y p l (trimmed_to (log_of p l) t) H (trim_over l (log_of p l) t)

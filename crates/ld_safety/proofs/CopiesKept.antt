@@ -3,7 +3,6 @@ use Rattle.std.proofs.Common.{◌≡◌, ◌∙◌, ◌⊎◌, ◌≤◌, ◌<�
 use Rattle.ld_safety.proofs.Steps.{sent_by}
 use Rattle.ld_safety.proofs.Sent.{SendsFine}
 use Rattle.ld_machine.specs.Facts.{Happened}
-use Rattle.ld_machine.specs.Step.{happens}
 use Rattle.std.proofs.lemmas.Bool.{and_parts, ltb-true, leb-true, cases_lt, le-leb, cases_eq}
 use Rattle.ld_table.specs.Table.{find}
 use Rattle.ld_table.specs.Words.{numbers_from}
@@ -36,7 +35,7 @@ use Rattle.ld_safety.proofs.HoldSteps.{released_parts}
 use Rattle.ld_safety.proofs.HoldKept.{clean_found, gap_in, found_there, kept_later}
 use Rattle.ld_safety.proofs.Holdings.{LogFine, KeptBy}
 use Rattle.ld_safety.proofs.Protocol.{Says, StoredBy, TrimmedBy}
-use Rattle.ld_safety.proofs.Cleans.{LogClean}
+use Rattle.ld_safety.proofs.Cleans.{LogClean, Keyed}
 use Rattle.ld_safety.proofs.CleansKept.{AnyReleased, AnyMessage, AnySequencer, AnyReader, AnyRegister, tick_found}
 use Rattle.ld_safety.proofs.Copies.{Elsewhere, Copied, CopiesAt, KnownSettled, OpCopies, op_copies, blank_copies}
 use Rattle.ld_safety.proofs.Has as has
@@ -91,8 +90,8 @@ rebuilt_parts g closed h = by_found (find (lowest_unclean g) closed) h where
   by_found None q = cond_both g.lost (refill_tick (nat_lt g.lost_to (lowest_unclean g)) (missing g)) Nothing (λ t. t ≡ Rebuilt → (nat_lt g.lost_to (lowest_unclean g) ≡ true) × (missing g ≡ [])) (λ u v. by_lost _ _ v) (λ u v. absurd cc) q
 
 module _ (made : List Made) where
-  pub rebuilt_full : (l : ℕ) (g : Log) (closed : List (ℕ × Summary)) → LogClean g → on_tick g closed ≡ Rebuilt → (n b : ℕ) → 0 < esn_of n → is_lost g (epoch_of n) ≡ true → KeptBy made g l n b ⊎ Elsewhere g n b
-  rebuilt_full l g closed C t n b pos h =
+  pub rebuilt_full : (l : ℕ) (g : Log) (closed : List (ℕ × Summary)) → Keyed g → LogClean g → on_tick g closed ≡ Rebuilt → (n b : ℕ) → 0 < esn_of n → is_lost g (epoch_of n) ≡ true → KeptBy made g l n b ⊎ Elsewhere g n b
+  rebuilt_full l g closed K C t n b pos h =
       let r = rebuilt_parts g closed t in
       let p = and_parts g.lost (nat_lt 0 (epoch_of n) && nat_le (epoch_of n) g.lost_to) h in
       let q = and_parts (nat_lt 0 (epoch_of n)) (nat_le (epoch_of n) g.lost_to) p.1 in
@@ -100,14 +99,24 @@ module _ (made : List Made) where
       let y = gap_in 1 (epoch_of n) g.summaries (omega arith) (omega arith) in
       let z = found_there (epoch_of n) g.summaries y.0 y.1 in
       by_trim z.0 z.1 r.1 hi (cases_lt g.trim n) where
+        -- the copy that counts: above what is known good that of the closing ballot, else that of the epoch's own
+        by_entry : (y : Summary) → find (epoch_of n) g.summaries ≡ Some y → (e : Entry) → find n g.entries ≡ Some e → KeptBy made g l n b ⊎ Elsewhere g n b
+        by_entry y f e i = elim (cases_lt y.lng (esn_of n)) [
+          | inl v ↦ elim (cases_eq b y.ballot) [
+            | inl s ↦ inl (inr (inl (record { entry = e; found_at = i; least = elim (C.least (n, e) y (find_in n g.entries e i) f) [ inl x ↦ omega arith | inr x ↦ absurd (omega arith) ] })))
+            | inr s ↦ inr (y, f, inr (inl (v, s)))
+          ]
+          | inr v ↦ elim (cases_eq b (epoch_of n)) [
+            | inl s ↦ inl (inr (inl (record { entry = e; found_at = i; least = let x = (K.1 (n, e) (find_in n g.entries e i)).1 in omega arith })))
+            | inr s ↦ inr (y, f, inl (v, s))
+          ]
+        ]
+
         by_trim : (y : Summary) → find (epoch_of n) g.summaries ≡ Some y → missing g ≡ [] → epoch_of n ≤ g.lost_to → (g.trim < n) ⊎ (n ≤ g.trim) → KeptBy made g l n b ⊎ Elsewhere g n b
         by_trim y f m le (inr u) = inl (inl u)
         by_trim y f m le (inl u) = elim (cases_lt (esn_of n) y.end) [
-          | inr v ↦ inr (y, f, inr v)
-          | inl v ↦ let e = full_there g n y m f le u pos v in elim (cases_eq b y.ballot) [
-            | inl s ↦ inl (inr (inl (record { entry = e.0; found_at = e.1; least = let x = C.least (n, e.0) y (find_in n g.entries e.0 e.1) f in omega arith })))
-            | inr s ↦ inr (y, f, inl s)
-          ]
+          | inr v ↦ inr (y, f, inr (inr v))
+          | inl v ↦ let e = full_there g n y m f le u pos v in by_entry y f e.0 e.1
         ]
 
 -- ---- a message ----
@@ -193,7 +202,7 @@ tick_low g closed k y h = by_found (find (lowest_unclean g) closed) h where
   by_found (Some z) q = let a : lowest_unclean g ≡ k = cc in let b = gap_low 1 g.summaries in omega arith
 
 module _ (c : Config) (s : State) (e : Event) (hs : List Happened) (made : List Made) (H : (y : ℕ) → NodeCopies made s.network.sent y (node_at s y))
-    (F : (y l : ℕ) → LogFine (log_of (node_at s y).plain l)) (L : (y l : ℕ) → LogFine (log_of (load (node_at s y)).plain l)) (C : (y l : ℕ) → LogClean (log_of (node_at s y).plain l))
+    (F : (y l : ℕ) → LogFine (log_of (node_at s y).plain l)) (L : (y l : ℕ) → LogFine (log_of (load (node_at s y)).plain l)) (K : (y l : ℕ) → Keyed (log_of (node_at s y).plain l)) (C : (y l : ℕ) → LogClean (log_of (node_at s y).plain l))
     (says : (m : Msg) (n lng : ℕ) (x : What) → In m s.network.sent → m.body ≡ bodies.Store n lng x → Says hs made m.log (ballot_of m.from) n x)
     (same : (n l k : ℕ) (y z : Summary) → 0 < k → find k (epochs_of s.register l).summaries ≡ Some y → find k (log_of (node_at s n).plain l).summaries ≡ Some z → z ≡ y)
     (known : (n : ℕ) (k : Register) → draw s.register n ≡ record { register = k; answer = Granted } → KnownSettled made s.network.sent k) where
@@ -218,7 +227,7 @@ module _ (c : Config) (s : State) (e : Event) (hs : List Happened) (made : List 
     formats = λ n k b w i. has.op_has _ _ _ _ _ _ n (load (node_at s n)) _ (loaded n) (op_copies made s.network.sent n (load (node_at s n)).plain _ (L n) (loaded n).plain (k, refl, known n k i));
     cleans = λ n l k y v h. has.op_has _ _ _ _ _ _ n (node_at s n) _ (H n) (op_copies made s.network.sent n (node_at s n).plain (ops.Clean l k y) (F n) (H n).plain
         (λ z f. same n l k y z (tick_low (log_of (node_at s n).plain l) (epochs_of s.register l).summaries k y h) (tick_found (log_of (node_at s n).plain l) (epochs_of s.register l).summaries k y h) f));
-    rebuilds = λ n l v h. has.op_has _ _ _ _ _ _ n (node_at s n) _ (H n) (op_copies made s.network.sent n (node_at s n).plain (ops.Refilled l) (F n) (H n).plain (rebuilt_full made l (log_of (node_at s n).plain l) (epochs_of s.register l).summaries (C n l) h));
+    rebuilds = λ n l v h. has.op_has _ _ _ _ _ _ n (node_at s n) _ (H n) (op_copies made s.network.sent n (node_at s n).plain (ops.Refilled l) (F n) (H n).plain (rebuilt_full made l (log_of (node_at s n).plain l) (epochs_of s.register l).summaries (K n l) (C n l) h));
     stops = λ n. let h = H n in record { plain = h.plain; cut = h.cut; released = h.released };
     wipes = λ n. has.new_has _ _ _ _ _ _ any n (blank_copies made s.network.sent n);
     faults = λ n f. let h = H n in record { plain = h.plain; cut = h.cut; released = h.released };

@@ -1,38 +1,39 @@
 -- In every state the copies of a closed epoch stand, but where nodes were lost or trimmed.
 use Rattle.std.proofs.Common.{◌≡◌, ◌∙◌, ◌⊎◌, ◌≤◌, ◌<◌, ℕ, inl, inr, refl, ap, sym, subst, Bool, true, false, List, [], ◌∷◌, Option, Some, None, arith, if◌then◌else◌}
-use Rattle.ld_msg.specs.declared.msg.Msg.{Msg}
 use Rattle.std.proofs.lemmas.Bool.{le-leb, and_from, eq-eqb}
+use Rattle.ld_table.specs.Table.{find}
 use Rattle.ld_lsn.specs.Number.{epoch_of, esn_of, numbered}
 use Rattle.ld_config.specs.declared.config.Config.{Config}
-use Rattle.ld_schedule.specs.declared.event.Event.{Event}
 use Rattle.ld_msg.specs.declared.msg.What.{What}
 use Rattle.ld_msg.specs.declared.msg.What.TheVariants.{Rec}
+use Rattle.ld_msg.specs.declared.msg.Entry.{Entry}
 use Rattle.ld_msg.specs.declared.msg.Summary.{Summary}
-use Rattle.ld_msg.specs.Digest.{Told, best, content, plan_item, plan_end, trim_place, digest_trim}
+use Rattle.ld_msg.specs.declared.msg.Msg.{Msg}
+use Rattle.ld_msg.specs.Digest.{Told, best, content, plan_item, plan_end, plan_floor}
+use Rattle.ld_msg.specs.Register.{epochs_of}
 use Rattle.ld_op.specs.Plain.{Plain, log_of, is_lost}
-use Rattle.ld_machine.specs.Config.{spec_in}
+use Rattle.ld_machine.specs.Config.{spec_of}
 use Rattle.ld_machine.specs.Disk.{Cut}
 use Rattle.ld_machine.specs.State.{node_at}
 use Rattle.ld_machine.specs.Facts.{Happened}
-use Rattle.ld_machine.specs.World.{World, Made, In, begin, is_made, digest_in, item, settled, has_told, says_settled}
+use Rattle.ld_machine.specs.World.{World, Made, In, MayHold, Stored, is_made, digest_in, item, settled, has_told, says_settled}
 use Rattle.ld_machine.specs.Invariant.{Closed, CopyAt, CopiesOf, HoldsItem}
-use Rattle.ld_machine.specs.Run.{Move, world_after, trace}
 use Rattle.ld_safety.proofs.Lists.{Some_inj, not_none, not_both}
 use Rattle.ld_safety.proofs.Members.{find_in}
-use Rattle.ld_safety.proofs.Traces.{later}
-use Rattle.ld_safety.proofs.Plans.{plan_shape, plan_between, content_no_bridge, end_above_trim}
+use Rattle.ld_safety.proofs.Plans.{plan_shape, plan_between, content_no_bridge, floor_lng, end_above_floor}
 use Rattle.ld_safety.proofs.Numbers.{one_payload}
 use Rattle.ld_safety.proofs.Base.{Base}
 use Rattle.ld_safety.proofs.GivenSteps.{BaseGiven}
-use Rattle.ld_safety.proofs.Protocol.{plan_of, PlanSays, AppendsOnce, PlanFacts, Ends, told_settled}
+use Rattle.ld_safety.proofs.Protocol.{plan_of, OwnSays, PlanSays, AppendsOnce, PlanFacts, Ends, told_settled}
 use Rattle.ld_safety.proofs.Agreement.{agrees}
-use Rattle.ld_safety.proofs.Settled.{Fixed, Summarized, ClosedBy}
+use Rattle.ld_safety.proofs.Settled.{Acknowledged, Fixed, Summarized, ClosedBy}
 use Rattle.ld_safety.proofs.Plannings.{plan_facts}
-use Rattle.ld_safety.proofs.Shown.{plan_ends, acked_item, closed_says, above_trim}
+use Rattle.ld_safety.proofs.Said.{SaidHere}
+use Rattle.ld_safety.proofs.Holdings.{KeptBy}
+use Rattle.ld_safety.proofs.Shown.{plan_ends, acked_item, acked_own, kept_says, above_floor}
 use Rattle.ld_safety.proofs.Along.{Along, PlainSaid}
-use Rattle.ld_safety.proofs.AlongSteps.{along_kept}
 use Rattle.ld_safety.proofs.Agreed.{found_plan, item_is}
-use Rattle.ld_safety.proofs.Copies.{CopiesAt, Copied, Elsewhere}
+use Rattle.ld_safety.proofs.Copies.{CopiesAt, Copied, Another, Elsewhere}
 
 -- a plan that was made is in the book
 pub in_book : (l e b : ℕ) (ms : List Made) (d : List Told) → In (plan_of l e b d) ms → (f : List Told) × (digest_in l e b ms ≡ Some f)
@@ -43,9 +44,9 @@ in_book l e b (m ∷ ms) d i = by_test (is_made l e b m) refl i (in_book l e b m
   by_test false q (inl z) ih = absurd (let u : is_made l e b m ≡ true = ap (is_made l e b) (sym z) ∙ and_from _ _ (and_from _ _ (eq-eqb l l refl) (eq-eqb e e refl)) (eq-eqb b b refl) in not_both _ u q)
   by_test false q (inr j) ih = ih j
 
-abbrev CutSaid : Config → List Happened → World → ℕ → Option Cut → Type 0
-CutSaid c hs w y None = Unit {0}
-CutSaid c hs w y (Some k) = PlainSaid c hs w k.plain
+abbrev CutSaid : Config → List Happened → World → Option Cut → Type 0
+CutSaid c hs w None = Unit {0}
+CutSaid c hs w (Some k) = PlainSaid c hs w k.plain
 
 abbrev CutCopies : List Made → List Msg → ℕ → Option Cut → Type 0
 CutCopies made sent y None = Unit {0}
@@ -55,91 +56,136 @@ module _ (c : Config) (hs : List Happened) (w : World) (B : Base c hs w) (R : Al
   pub once : AppendsOnce hs
   once l n p q a b = one_payload hs w.state.sequencers w.state.register B.0.1 l n a.0 b.0 p q a.1 b.1
 
-  pub facts : (l x b : ℕ) (d : List Told) → In (plan_of l x b d) w.made → PlanFacts hs w.made w.state.network.sent (spec_in l c.logs) l x b d
+  pub facts : (l x b : ℕ) (d : List Told) → In (plan_of l x b d) w.made → PlanFacts hs w.made w.state.network.sent (spec_of c w.state.register l x) l x b d
   facts l x b d i = plan_facts c hs w.state.network.sent w.made w.state.register l x b d (R.plans l x b d i)
 
-  -- no later plan ends below a number of the closing plan
-  not_ended : (l n hi : ℕ) (y : Summary) → (s : Summarized c hs w.made w.state.network.sent l (epoch_of n) y) → trim_place (epoch_of n) (digest_trim s.digest) < esn_of n → esn_of n < plan_end (epoch_of n) s.digest → Ends w.made l y.ballot hi n → ⊥
-  not_ended l n hi y s lo up en = by_fixed (s.fixed n refl lo up) where
-    no_item : (x : What) → (plan_item (epoch_of n) en.digest (esn_of n) ≡ Some x) ⊎ (esn_of n ≤ trim_place (epoch_of n) (digest_trim en.digest)) → ⊥
-    no_item x (inl q) = let k = plan_shape (epoch_of n) en.digest (esn_of n) x q in let v = en.before in elim k.kind [ inl u ↦ (let z = u.0 in omega arith) | inr u ↦ (let z = u.0 in omega arith) ]
-    no_item x (inr q) = let z = end_above_trim (epoch_of n) en.digest in let v = en.before in omega arith
+  -- a plan that has a record or a hole at a number, or vouches for nothing there, doesn't end below it
+  no_item : (l n lo hi : ℕ) (x : What) → (en : Ends w.made l lo hi n) → (plan_item (epoch_of n) en.digest (esn_of n) ≡ Some x) ⊎ (esn_of n ≤ plan_floor (epoch_of n) en.digest) → ⊥
+  no_item l n lo hi x en (inl q) = let k = plan_shape (epoch_of n) en.digest (esn_of n) x q in let v = en.before in elim k.kind [ inl u ↦ (let z = u.0 in omega arith) | inr u ↦ (let z = u.0 in omega arith) ]
+  no_item l n lo hi x en (inr q) = let z = end_above_floor (epoch_of n) en.digest in let v = en.before in omega arith
 
-    by_fixed : Fixed c hs w.state.network.sent l n y.ballot → ⊥
-    by_fixed (inl a) = no_item (Rec a.payload) (acked_item c hs w.made w.state.network.sent w.state.register once R.once facts l n en.ballot en.digest a en.planned)
+  -- no plan ends below an acknowledged number
+  pub acked_not_ended : (l n lo hi : ℕ) → Acknowledged c hs w.state.network.sent w.state.register l n → Ends w.made l lo hi n → ⊥
+  acked_not_ended l n lo hi a en = no_item l n lo hi (Rec a.payload) en (acked_item c hs w.made w.state.network.sent w.state.register once R.once facts l n en.ballot en.digest a en.planned)
+
+  -- no later plan ends below a number of the closing plan
+  not_ended : (l n hi : ℕ) (y : Summary) → (s : Summarized c hs w.made w.state.network.sent w.state.register l (epoch_of n) y) → plan_floor (epoch_of n) s.digest < esn_of n → esn_of n < plan_end (epoch_of n) s.digest → Ends w.made l y.ballot hi n → ⊥
+  not_ended l n hi y s lo up en = by_fixed (s.fixed n refl lo up) where
+    by_fixed : Fixed c hs w.state.network.sent w.state.register l n y.ballot → ⊥
+    by_fixed (inl a) = acked_not_ended l n y.ballot hi a en
     by_fixed (inr h) =
         let x = content (best (numbered (epoch_of n) (esn_of n)) s.digest) in
         let p : plan_item (epoch_of n) s.digest (esn_of n) ≡ Some x = plan_between (epoch_of n) s.digest (esn_of n) lo up in
         let k = plan_ends c hs w.made w.state.network.sent w.state.register once R.once facts l (epoch_of n) y.ballot s.digest s.planned in
         let late = (facts l (epoch_of n) y.ballot s.digest s.planned).later in
-        no_item x (agrees hs w.made w.state.network.sent (spec_in l c.logs) once R.once l (λ e. Unit {0}) (λ e b d o j. facts l e b d j) n y.ballot en.ballot x en.digest tt (omega arith) (omega arith) en.above en.planned h (inr (record { later = late; digest = s.digest; planned = s.planned; item = p })) (content_no_bridge _))
+        no_item l n y.ballot hi x en (agrees hs w.made w.state.network.sent (spec_of c w.state.register l) once R.once l (λ e. Unit {0}) (λ e b d o j. facts l e b d j) n y.ballot en.ballot x en.digest tt (omega arith) en.above en.planned h (inr (record { later = late; digest = s.digest; planned = s.planned; item = p })) (content_no_bridge _))
 
-  -- one plain state that a node may hold
-  plain_copy : (l n z : ℕ) (y : Summary) (p : Plain) → (k : ClosedBy c hs w.made w.state.network.sent w.state.register l (epoch_of n) y) → y.trim < n → 0 < esn_of n → esn_of n < y.end → PlainSaid c hs w p → CopiesAt w.made w.state.network.sent z p → has_told w (says_settled n) l y.ballot z ≡ true
-      → (p.generation ≡ 0) ⊎ ((is_lost (log_of p l) (epoch_of n) ≡ true) ⊎ ((n ≤ (log_of p l).trim) ⊎ ((x : What) × (item w l n y.ballot ≡ Some x) × HoldsItem p l n y.ballot x)))
-  plain_copy l n z y p k tr pos hi O C t = by_copy (C l n y.ballot pos (told_settled w.state.network.sent l n y.ballot z t)) where
-    low : trim_place (epoch_of n) (digest_trim k.plan.digest) < esn_of n
-    low = subst (λ x. trim_place (epoch_of n) x < esn_of n) k.plan.trim (above_trim (epoch_of n) n y.trim refl pos tr)
+module _ (c : Config) (hs : List Happened) (w : World) (B : BaseGiven c hs w × Along c hs w) where
+  -- ---- both plain states of a node ----
+  pub said_at : (y : ℕ) (p : Plain) → MayHold (node_at w.state y) p → PlainSaid c hs w p
+  said_at y p (inl q) = subst (PlainSaid c hs w) (sym q) (B.1.said.nodes y).plain
+  said_at y p (inr h) = subst (PlainSaid c hs w) (sym h.2) (by_cut (node_at w.state y).cut h.1 (B.1.said.nodes y).cut) where
+    by_cut : (o : Option Cut) → o ≡ Some h.0 → CutSaid c hs w o → PlainSaid c hs w h.0.plain
+    by_cut None q H = absurd (not_none q)
+    by_cut (Some x) q H = subst (λ (v : Cut). PlainSaid c hs w v.plain) (Some_inj q) H
 
-    up : esn_of n < plan_end (epoch_of n) k.plan.digest
-    up = let e = k.plan.end in omega arith
+  pub copied_at : (y : ℕ) (p : Plain) → MayHold (node_at w.state y) p → CopiesAt w.made w.state.network.sent y p
+  copied_at y p (inl q) = subst (CopiesAt w.made w.state.network.sent y) (sym q) (B.1.copies y).plain
+  copied_at y p (inr h) = subst (CopiesAt w.made w.state.network.sent y) (sym h.2) (by_cut (node_at w.state y).cut h.1 (B.1.copies y).cut) where
+    by_cut : (o : Option Cut) → o ≡ Some h.0 → CutCopies w.made w.state.network.sent y o → CopiesAt w.made w.state.network.sent y h.0.plain
+    by_cut None q H = absurd (not_none q)
+    by_cut (Some x) q H = subst (λ (v : Cut). CopiesAt w.made w.state.network.sent y v.plain) (Some_inj q) H
+
+  -- a node's summary is the one that closed its epoch
+  pub same_summary : (l e y : ℕ) (p : Plain) (z k : Summary) → MayHold (node_at w.state y) p → 0 < e → find e (log_of p l).summaries ≡ Some z → find e (epochs_of w.state.register l).summaries ≡ Some k → z ≡ k
+  same_summary l e y p z k m pos f g = elim ((said_at y p m l).summaries (e, z) (find_in e (log_of p l).summaries z f)).1 [
+    | inl a ↦ absurd (let u = a.0 in omega arith)
+    | inr a ↦ Some_inj (sym a.found_so ∙ g)
+  ]
+
+  -- ---- acknowledged appends ----
+  module _ (l n : ℕ) (a : Acknowledged c hs w.state.network.sent w.state.register l n) where
+    held_what : (f : Entry) → SaidHere hs w.made w.state.register l f.ballot n f.what → f.what ≡ Rec a.payload
+    held_what f s = elim s.says [
+      | inl o ↦ own_what (acked_own c hs w.made w.state.network.sent w.state.register (once c hs w B.0.0 B.1) B.1.once (facts c hs w B.0.0 B.1) l n f.ballot f.what a o)
+      | inr o ↦ own_what o.good.says
+    ] where
+      own_what : OwnSays hs l (epoch_of n) n f.what → f.what ≡ Rec a.payload
+      own_what o = o.is ∙ ap Rec (once c hs w B.0.0 B.1 l n o.payload a.payload o.appended a.appended)
+
+    -- what is kept of the append is its record
+    pub kept_own : (p : Plain) → PlainSaid c hs w p → KeptBy w.made (log_of p l) l n (epoch_of n) → (n ≤ (log_of p l).trim) ⊎ HoldsItem p l n (epoch_of n) (Rec a.payload)
+    kept_own p O (inl h) = inl h
+    kept_own p O (inr (inr h)) = absurd (acked_not_ended c hs w B.0.0 B.1 l n (epoch_of n) _ a h)
+    kept_own p O (inr (inl h)) = let z = (O l).entries (n, h.entry) (find_in n (log_of p l).entries h.entry h.found_at) in
+        inr (h.entry, h.found_at, h.least, held_what h.entry (subst (λ k. SaidHere hs w.made w.state.register l h.entry.ballot k h.entry.what) z.0 z.1))
+
+  -- ---- numbers that were known good as their epoch was closed ----
+  module _ (l n : ℕ) (y : Summary) (k : ClosedBy c hs w.made w.state.network.sent w.state.register l (epoch_of n) y) (pos : 0 < esn_of n) (low : esn_of n ≤ y.lng) where
+    not_elsewhere : (z : ℕ) (p : Plain) → MayHold (node_at w.state z) p → Elsewhere (log_of p l) n (epoch_of n) → ⊥
+    not_elsewhere z p m h = let q = same_summary l (epoch_of n) z p h.0 y m k.positive h.1 k.found_so in by_another (subst (λ (v : Summary). Another v n (epoch_of n)) q h.2) where
+      by_another : Another y n (epoch_of n) → ⊥
+      by_another (inl v) = v.1 refl
+      by_another (inr (inl v)) = let u = v.0 in omega arith
+      by_another (inr (inr v)) = let u = k.plan.lng in let e = k.plan.end in let f = floor_lng (epoch_of n) k.plan.digest in let g = end_above_floor (epoch_of n) k.plan.digest in omega arith
+
+    -- a node that stored the append is blank, lost, trimmed there, or has its record
+    pub good_held : (z : ℕ) → Stored w l z n (epoch_of n) → (p : Plain) → MayHold (node_at w.state z) p → (p.generation ≡ 0) ⊎ ((is_lost (log_of p l) (epoch_of n) ≡ true) ⊎ ((n ≤ (log_of p l).trim) ⊎ HoldsItem p l n (epoch_of n) (Rec (k.plan.good n refl pos low).payload)))
+    good_held z i p m = elim (copied_at z p m l n (epoch_of n) pos (inl i)) [
+      | inl h ↦ inl h
+      | inr (inl h) ↦ inr (inl h)
+      | inr (inr (inl h)) ↦ inr (inr (kept_own l n (k.plan.good n refl pos low) p (said_at z p m) h))
+      | inr (inr (inr h)) ↦ absurd (not_elsewhere z p m h)
+    ]
+
+  -- ---- numbers that the closing plan says something of ----
+  module _ (l n : ℕ) (y : Summary) (k : ClosedBy c hs w.made w.state.network.sent w.state.register l (epoch_of n) y) (tr : y.trim < n) (up : y.lng < esn_of n) (hi : esn_of n < y.end) where
+    above : plan_floor (epoch_of n) k.plan.digest < esn_of n
+    above = above_floor c hs w.made w.state.network.sent w.state.register (once c hs w B.0.0 B.1) B.1.once (facts c hs w B.0.0 B.1) l n y k.plan (omega arith) tr up
 
     as_item : (x : What) → PlanSays w.made l y.ballot n x → item w l n y.ballot ≡ Some x
     as_item x s =
         let b = in_book l (epoch_of n) y.ballot w.made s.digest s.planned in
-        let q : b.0 ≡ s.digest = R.once l (epoch_of n) y.ballot b.0 s.digest (found_plan l (epoch_of n) y.ballot w.made b.0 b.1) s.planned in
-        item_is c hs w B R l n y.ballot s.digest x s.later (b.1 ∙ ap Some q) s.item
+        let q : b.0 ≡ s.digest = B.1.once l (epoch_of n) y.ballot b.0 s.digest (found_plan l (epoch_of n) y.ballot w.made b.0 b.1) s.planned in
+        item_is c hs w B.0.0 B.1 l n y.ballot s.digest x s.later (b.1 ∙ ap Some q) s.item
 
-    elsewhere : Elsewhere (log_of p l) n y.ballot → ⊥
-    elsewhere h = elim ((O l).summaries (epoch_of n, h.0) (find_in (epoch_of n) (log_of p l).summaries h.0 h.1)).1 [
-      | inl a ↦ (let q = a.0 in let u = k.positive in omega arith)
-      | inr a ↦ let q : h.0 ≡ y = Some_inj (sym a.found_so ∙ k.found_so) in elim h.2 [
-        | inl v ↦ v (ap (λ (x : Summary). x.ballot) (sym q))
-        | inr v ↦ (let u = ap (λ (x : Summary). x.end) q in omega arith)
-      ]
-    ]
+    elsewhere : (z : ℕ) (p : Plain) → MayHold (node_at w.state z) p → Elsewhere (log_of p l) n y.ballot → ⊥
+    elsewhere z p m h = let q = same_summary l (epoch_of n) z p h.0 y m k.positive h.1 k.found_so in by_another (subst (λ (v : Summary). Another v n y.ballot) q h.2) where
+      by_another : Another y n y.ballot → ⊥
+      by_another (inl v) = let u = v.0 in omega arith
+      by_another (inr (inl v)) = v.1 refl
+      by_another (inr (inr v)) = omega arith
 
-    by_copy : (p.generation ≡ 0) ⊎ Copied w.made l (log_of p l) n y.ballot → (p.generation ≡ 0) ⊎ ((is_lost (log_of p l) (epoch_of n) ≡ true) ⊎ ((n ≤ (log_of p l).trim) ⊎ ((x : What) × (item w l n y.ballot ≡ Some x) × HoldsItem p l n y.ballot x)))
-    by_copy (inl h) = inl h
-    by_copy (inr (inl h)) = inr (inl h)
-    by_copy (inr (inr (inr h))) = absurd (elsewhere h)
-    by_copy (inr (inr (inl (inl h)))) = inr (inr (inl h))
-    by_copy (inr (inr (inl (inr (inr h))))) = absurd (not_ended l n _ y k.plan low up h)
-    by_copy (inr (inr (inl (inr (inl h))))) =
-        let f = h.entry in
-        let o = (O l).entries (n, f) (find_in n (log_of p l).entries f h.found_at) in
+    held_says : (z : ℕ) (p : Plain) (f : Entry) → MayHold (node_at w.state z) p → find n (log_of p l).entries ≡ Some f → y.ballot ≤ f.ballot → PlanSays w.made l y.ballot n f.what
+    held_says z p f m i le =
+        let o = (said_at z p m l).entries (n, f) (find_in n (log_of p l).entries f i) in
         let num : f.number ≡ n = o.0 in
-        let kf : Summarized c hs w.made w.state.network.sent l (epoch_of f.number) y = subst (λ m. Summarized c hs w.made w.state.network.sent l (epoch_of m) y) (sym num) k.plan in
-        let pf : 0 < esn_of f.number = subst (λ m. 0 < esn_of m) (sym num) pos in
-        let hf : esn_of f.number < y.end = subst (λ m. esn_of m < y.end) (sym num) hi in
-        let says = closed_says c hs w.made w.state.network.sent w.state.register once R.once facts l f y kf h.least (omega arith) pf hf o.1.says in
-        inr (inr (inr (f.what, as_item f.what (subst (λ m. PlanSays w.made l y.ballot m f.what) num says), (f, h.found_at, h.least, refl))))
+        let kf = subst (λ v. ClosedBy c hs w.made w.state.network.sent w.state.register l (epoch_of v) y) (sym num) k in
+        let es = ap esn_of num in
+        elim (kept_says c hs w.made w.state.network.sent w.state.register (once c hs w B.0.0 B.1) B.1.once (facts c hs w B.0.0 B.1) l f y kf (inl le) (omega arith) (omega arith) (omega arith) o.1.says) [
+          | inl a ↦ subst (λ v. PlanSays w.made l y.ballot v f.what) num a
+          | inr a ↦ absurd (let v = a.low in omega arith)
+        ]
 
-  -- both plain states
-  copy_at : (l n z : ℕ) (y : Summary) → ClosedBy c hs w.made w.state.network.sent w.state.register l (epoch_of n) y → y.trim < n → 0 < esn_of n → esn_of n < y.end → has_told w (says_settled n) l y.ballot z ≡ true → CopyAt w l n y.ballot z
-  copy_at l n z y k tr pos hi t p (inl q) = subst (λ x. (x.generation ≡ 0) ⊎ ((is_lost (log_of x l) (epoch_of n) ≡ true) ⊎ ((n ≤ (log_of x l).trim) ⊎ ((v : What) × (item w l n y.ballot ≡ Some v) × HoldsItem x l n y.ballot v)))) (sym q)
-      (plain_copy l n z y (node_at w.state z).plain k tr pos hi (R.said.nodes z).plain (R.copies z).plain t)
-  copy_at l n z y k tr pos hi t p (inr h) = subst (λ x. (x.generation ≡ 0) ⊎ ((is_lost (log_of x l) (epoch_of n) ≡ true) ⊎ ((n ≤ (log_of x l).trim) ⊎ ((v : What) × (item w l n y.ballot ≡ Some v) × HoldsItem x l n y.ballot v)))) (sym h.2)
-      (by_cut (node_at w.state z).cut h.1 (R.said.nodes z).cut (R.copies z).cut) where
-        by_cut : (o : Option Cut) → o ≡ Some h.0 → CutSaid c hs w z o → CutCopies w.made w.state.network.sent z o → (h.0.plain.generation ≡ 0) ⊎ ((is_lost (log_of h.0.plain l) (epoch_of n) ≡ true) ⊎ ((n ≤ (log_of h.0.plain l).trim) ⊎ ((v : What) × (item w l n y.ballot ≡ Some v) × HoldsItem h.0.plain l n y.ballot v)))
-        by_cut None q O C = absurd (not_none q)
-        by_cut (Some x) q O C = let e : x ≡ h.0 = Some_inj q in plain_copy l n z y h.0.plain k tr pos hi (subst (λ (v : Cut). PlainSaid c hs w v.plain) e O) (subst (λ (v : Cut). CopiesAt w.made w.state.network.sent z v.plain) e C) t
+    closed_copy : (z : ℕ) → has_told w (says_settled n) l y.ballot z ≡ true → CopyAt w l n y.ballot z
+    closed_copy z t p m = by_copy (copied_at z p m l n y.ballot (omega arith) (told_settled w.state.network.sent l n y.ballot z t)) where
+      by_copy : (p.generation ≡ 0) ⊎ Copied w.made l (log_of p l) n y.ballot → (p.generation ≡ 0) ⊎ ((is_lost (log_of p l) (epoch_of n) ≡ true) ⊎ ((n ≤ (log_of p l).trim) ⊎ ((x : What) × (item w l n y.ballot ≡ Some x) × HoldsItem p l n y.ballot x)))
+      by_copy (inl h) = inl h
+      by_copy (inr (inl h)) = inr (inl h)
+      by_copy (inr (inr (inr h))) = absurd (elsewhere z p m h)
+      by_copy (inr (inr (inl (inl h)))) = inr (inr (inl h))
+      by_copy (inr (inr (inl (inr (inr h))))) = absurd (not_ended c hs w B.0.0 B.1 l n _ y k.plan above (let e = k.plan.end in omega arith) h)
+      by_copy (inr (inr (inl (inr (inl h))))) = inr (inr (inr (h.entry.what, as_item h.entry.what (held_says z p h.entry m h.found_at h.least), (h.entry, h.found_at, h.least, refl))))
 
-  pub copies_here : (l e k : ℕ) (s : Summary) → Closed w l e s → s.trim < numbered e k → 0 < k → k < s.end → CopiesOf c w l (numbered e k) s.ballot
-  unfolding settled
-  copies_here l e k s f tr pos hi = elim (R.said.register l e s f).1 [
+    pub closed_copies : CopiesOf c w l n y.ballot
+    unfolding settled
+    closed_copies = record { enough = le-leb _ _ (k.plan.copies n refl above (let e = k.plan.end in omega arith)); kept = closed_copy }
+
+  pub copies_here : (l e k : ℕ) (s : Summary) → Closed w l e s → s.trim < numbered e k → s.lng < k → k < s.end → CopiesOf c w l (numbered e k) s.ballot
+  copies_here l e k s f tr lo hi = elim (B.1.said.register l e s f).1 [
     | inl a ↦ absurd (let z = a.1 in omega arith)
     | inr a ↦
-        let en = plan_ends c hs w.made w.state.network.sent w.state.register once R.once facts l e s.ballot a.plan.digest a.plan.planned in let ez = a.plan.end in
+        let en = plan_ends c hs w.made w.state.network.sent w.state.register (once c hs w B.0.0 B.1) B.1.once (facts c hs w B.0.0 B.1) l e s.ballot a.plan.digest a.plan.planned in let ez = a.plan.end in
         let ep : e ≡ epoch_of (numbered e k) = omega arith in
-        let es : esn_of (numbered e k) ≡ k = omega arith in
         closed_copies l (numbered e k) s (subst (λ x. ClosedBy c hs w.made w.state.network.sent w.state.register l x s) ep a) tr (omega arith) (omega arith)
-  ] where
-    closed_copies : (l n : ℕ) (y : Summary) → ClosedBy c hs w.made w.state.network.sent w.state.register l (epoch_of n) y → y.trim < n → 0 < esn_of n → esn_of n < y.end → CopiesOf c w l n y.ballot
-    closed_copies l n y a tr pos hi = record {
-      enough = le-leb _ _ (a.plan.copies n refl (subst (λ x. trim_place (epoch_of n) x < esn_of n) a.plan.trim (above_trim (epoch_of n) n y.trim refl pos tr)) (let z = a.plan.end in omega arith));
-      kept = λ z t. copy_at l n z y a tr pos hi t;
-    }
-
-pub copies_stand : (c : Config) (es : List Move) → (l e k : ℕ) (s : Summary) → Closed (world_after c (begin c) es) l e s → s.trim < numbered e k → 0 < k → k < s.end → CopiesOf c (world_after c (begin c) es) l (numbered e k) s.ballot
-copies_stand c es = let p = later c (λ hs w. BaseGiven c hs w × Along c hs w) (along_kept c) [] (begin c) es (along_kept c).begins in copies_here c (trace c (begin c) es) (world_after c (begin c) es) p.0.0 p.1
+  ]

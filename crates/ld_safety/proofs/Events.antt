@@ -2,7 +2,9 @@
 use Rattle.std.proofs.Common.{◌≡◌, ◌∙◌, ◌≤◌, ℕ, inl, inr, refl, ap, sym, subst, Bool, true, false, not, ◌&&◌, ◌||◌, ◌==◌, List, [], ◌∷◌, length, Option, Some, None, is_some, cond, nat_lt, nat_le, arith}
 use Rattle.std.proofs.lemmas.Bool.{cases_Bool, and_parts, or_parts, or_left, or_right, ltb-false, eqb-false}
 use Rattle.ld_table.specs.Named.{find_named}
-use Rattle.ld_table.specs.Words.{is_in}
+use Rattle.ld_table.specs.Table.{put}
+use Rattle.ld_ids.specs.Set.{members}
+use Rattle.ld_ids.specs.declared.set.Spec.{Spec}
 use Rattle.ld_schedule.specs.declared.event.Event.{Event}
 use Rattle.ld_schedule.specs.declared.event.Event.TheVariants as events
 use Rattle.ld_transcript.specs.declared.line.Line.{Line}
@@ -14,7 +16,7 @@ use Rattle.ld_op.specs.declared.op.Op.TheVariants as ops
 use Rattle.ld_op.specs.Plain.{log_of}
 use Rattle.ld_op.specs.Ticks.{Ticked, on_tick}
 use Rattle.ld_config.specs.declared.config.Config.{Config}
-use Rattle.ld_machine.specs.Config.{spec_in, set_of, has_log, has_node}
+use Rattle.ld_machine.specs.Config.{all_nodes, looks_at, has_log, has_node}
 use Rattle.ld_msg.specs.Register.{Register, Changed, Answer, Granted, AtLimit, Behind, Fails, activate, draw, epochs_of, epochs_in, generation_of, lce_of}
 use Rattle.ld_machine.specs.Disk.{Fault, new_node, Kept, Written, DiskFailed, Crashed, JournalFull, load, load_end, is_up, is_blank, is_down, is_failed}
 use Rattle.ld_msg.specs.Network.{message}
@@ -39,6 +41,7 @@ is_quiet (lines.Acked s n) = false
 is_quiet (lines.Trimmed s t) = false
 is_quiet (lines.Record r n p) = false
 is_quiet (lines.Gap r kind low high) = false
+is_quiet (lines.Set l r x set) = false
 is_quiet lines.Nothing = false
 is_quiet (lines.Message i from to kind n) = false
 is_quiet _ = true
@@ -49,6 +52,10 @@ refreshed s f = record s { network = record s.network { fresh = f } }
 
 abbrev pub loaded : State → ℕ → State
 loaded s n = with_node s n (load (node_at s n))
+
+-- with other nodes, factor and extras for later activations of a log
+abbrev pub with_spec : State → ℕ → Spec → State
+with_spec s l p = record s { specs = put l p s.specs }
 
 -- sequencers and readers each have names of their own
 abbrev pub NamesOnce : State → Type 0
@@ -72,7 +79,7 @@ pub record Opens (c : Config) (s : State) (name : List ℕ) (l from until : ℕ)
 
 pub record Serves (c : Config) (s : State) (n l : ℕ) : Type 0 where
   pub up : is_up (node_at s n).status ≡ true
-  pub keeps : is_in n (set_of c l) ≡ true
+  pub log : has_log c l ≡ true
 
 -- the event opens no reader
 abbrev pub Idle : Config → State → Event → Type 0
@@ -93,22 +100,23 @@ pub record Cases (c : Config) (s : State) (e : Event) (Q : Done → List Made �
   pub stops : (n : ℕ) → (is_up (node_at s n).status || is_failed (node_at s n).status) ≡ true → Q (with_line (with_node s n (Step.stopped (node_at s n))) (lines.NodeDown n)) []
   pub wipes : (n : ℕ) → Q (with_line (with_node s n new_node) (lines.NodeWiped n)) []
   pub faults : (n : ℕ) (f : Fault) → Idle c s e → Q (only_state (with_node s n (Step.with_fault (node_at s n) f))) []
+  pub sets : (l r x : ℕ) (set : List Bool) → Step.can_set c l r x (members set) ≡ true → Q (with_line (with_spec s l (record { log = l; set = set; r = r; extras = x })) (lines.Set l r x set)) []
   pub arms : (k : ℕ) (done : Bool) → Idle c s e → Q (only_state (with_register s (Step.armed s.register k done))) []
   -- sequencers
   pub hears : (f : List ℕ) (name : List ℕ) (q : Sequencer) (m : Msg) → In m s.network.sent → m.to ≡ whos.Sequencer q.epoch → m.log ≡ q.log → Live s name q → Idle c s e →
-      Q (Step.acted c (refreshed s f) name q (on_reply (spec_in q.log c.logs) q (Step.sender_node m.from) m.body)) (made_by c (Some (name, q)) (page_from m.from) m.body)
-  pub retries : (name : List ℕ) (q : Sequencer) → Live s name q → Idle c s e → Q (Step.acted c s name q (on_retry (spec_in q.log c.logs) q)) []
-  pub appends : (name : List ℕ) (q : Sequencer) (payload : List ℕ) → Live s name q → appending q payload ≡ Numbered → e ≡ events.Append name payload → Q (Step.append_done c s name q payload Numbered) []
+      Q (Step.acted c (refreshed s f) name q (on_reply (looks_at c s.register q.log) q (Step.sender_node m.from) m.body)) (made_by c (Some (name, q)) (page_from m.from) m.body)
+  pub retries : (name : List ℕ) (q : Sequencer) → Live s name q → Idle c s e → Q (Step.acted c s name q (on_retry q)) []
+  pub appends : (name : List ℕ) (q : Sequencer) (payload : List ℕ) → Live s name q → appending q payload ≡ Numbered → e ≡ events.Append name payload → Q (Step.append_done s name q payload Numbered) []
   pub trims : (name : List ℕ) (q : Sequencer) (point : ℕ) → Live s name q → point ≤ released_of q →
-      Q (record { state = s; lines = lines.Trimmed name point ∷ []; sends = posted (whos.Sequencer q.epoch) q.log (to_each (bodies.Trim point) (set_of c q.log)) }) []
+      Q (record { state = s; lines = lines.Trimmed name point ∷ []; sends = posted (whos.Sequencer q.epoch) q.log (to_each (bodies.Trim point) (all_nodes c)) }) []
   pub drops : (name : List ℕ) (q : Sequencer) → Live s name q → Idle c s e → Q (only_state (with_sequencer s name (Step.dropped q))) []
-  pub activates : (name : List ℕ) (l : ℕ) (r : Register) → has_log c l ≡ true → find_named name s.sequencers ≡ None → activate s.register l ≡ record { register = r; answer = Granted } → e ≡ events.Activate name l →
+  pub activates : (name : List ℕ) (l : ℕ) (r : Register) → has_log c l ≡ true → find_named name s.sequencers ≡ None → activate s.register l (Step.spec_set c s l) ≡ record { register = r; answer = Granted } → e ≡ events.Activate name l →
       Q (Step.activated_as c s name l r (epochs_of r l).epoch (lce_of r l)) []
-  pub activate_fails : (name : List ℕ) (l : ℕ) (x : Line) → is_quiet x ≡ true → Q (with_line (with_register s (activate s.register l).register) x) []
+  pub activate_fails : (name : List ℕ) (l : ℕ) (x : Line) → has_log c l ≡ true → is_quiet x ≡ true → Q (with_line (with_register s (activate s.register l (Step.spec_set c s l)).register) x) []
   -- readers
   pub answers : (f : List ℕ) (name : List ℕ) (d : Reader) (m : Msg) → In m s.network.sent → m.to ≡ whos.Reader d.number → Reading s name d → Idle c s e →
-      Q (Step.read (refreshed s f) name (on_answer (Step.set_read c d) d (Step.sender_node m.from) m.body)) []
-  pub polls : (name : List ℕ) (d : Reader) → Reading s name d → Idle c s e → Q (record { state = with_reader s name (polled d); lines = []; sends = posted (whos.Reader d.number) d.log (poll_asks (Step.set_read c d) d) }) []
+      Q (Step.read (refreshed s f) name (on_answer (looks_at c s.register d.log) d (Step.sender_node m.from) m.body)) []
+  pub polls : (name : List ℕ) (d : Reader) → Reading s name d → Idle c s e → Q (record { state = with_reader s name (polled (looks_at c s.register d.log) d); lines = []; sends = posted (whos.Reader d.number) d.log (poll_asks (looks_at c s.register d.log) d) }) []
   pub opens : (name : List ℕ) (l from until : ℕ) → Opens c s name l from until → e ≡ events.Open name l from until → Q (only_state (with_reader s name (opened l (length s.readers) from until))) []
 
 module _ (c : Config) (s : State) (e : Event) (Q : Done → List Made → Type 0) (N : NamesOnce s) (K : Cases c s e Q) where
@@ -129,8 +137,8 @@ module _ (c : Config) (s : State) (e : Event) (Q : Done → List Made → Type 0
 
     -- ---- deliveries ----
     to_node : (f : List ℕ) (n : ℕ) (m : Msg) → In m s.network.sent → m.to ≡ whos.Node n → Q (Step.to_node c (refreshed s f) n m) []
-    to_node f n m i t = either (is_up (node_at s n).status && is_in n (set_of c m.log)) _ _ []
-        (λ u. let p = and_parts (is_up (node_at s n).status) (is_in n (set_of c m.log)) u in K.node_hears f n m i t (record { up = p.0; keeps = p.1 }) idle) (λ u. K.still f idle)
+    to_node f n m i t = either (is_up (node_at s n).status && has_log c m.log) _ _ []
+        (λ u. let p = and_parts (is_up (node_at s n).status) (has_log c m.log) u in K.node_hears f n m i t (record { up = p.0; log = p.1 }) idle) (λ u. K.still f idle)
 
     to_sequencer : (f : List ℕ) (b : ℕ) (m : Msg) (o : Option (List ℕ × Sequencer)) → In m s.network.sent → m.to ≡ whos.Sequencer b → sequencer_of m.log b s.sequencers ≡ o → Q (Step.to_sequencer c (refreshed s f) m o) (made_by c o (page_from m.from) m.body)
     to_sequencer f b m None i t h = K.still f idle
@@ -168,7 +176,7 @@ module _ (c : Config) (s : State) (e : Event) (Q : Done → List Made → Type 0
     live : (name : List ℕ) (f : Sequencer → Done) → ((q : Sequencer) → Live s name q → Q (f q) []) → Q (Step.live s name f) []
     live name f h = live_by name (find_named name s.sequencers) f refl h
 
-    appended_by : (name : List ℕ) (q : Sequencer) (p : List ℕ) (o : Appending) → Live s name q → e ≡ events.Append name p → appending q p ≡ o → Q (Step.append_done c s name q p o) []
+    appended_by : (name : List ℕ) (q : Sequencer) (p : List ℕ) (o : Appending) → Live s name q → e ≡ events.Append name p → appending q p ≡ o → Q (Step.append_done s name q p o) []
     appended_by name q p TooLong a x i = K.says _ refl
     appended_by name q p (Preempted k) a x i = K.says _ refl
     appended_by name q p EpochFull a x i = K.says _ refl
@@ -178,16 +186,16 @@ module _ (c : Config) (s : State) (e : Event) (Q : Done → List Made → Type 0
     trimmed_by : (name : List ℕ) (q : Sequencer) (t : ℕ) → Live s name q → Q (Step.trim_done c s name q t) []
     trimmed_by name q t a = either (nat_lt (released_of q) t) _ _ [] (λ i. K.says _ refl) (λ i. K.trims name q t a (omega (arith, ltb-false (released_of q) t i)))
 
-    activated_by : (name : List ℕ) (l : ℕ) (r : Register) (o : Answer) → has_log c l ≡ true → find_named name s.sequencers ≡ None → e ≡ events.Activate name l → activate s.register l ≡ record { register = r; answer = o } → Q (Step.activates_by c s name l r o) []
+    activated_by : (name : List ℕ) (l : ℕ) (r : Register) (o : Answer) → has_log c l ≡ true → find_named name s.sequencers ≡ None → e ≡ events.Activate name l → activate s.register l (Step.spec_set c s l) ≡ record { register = r; answer = o } → Q (Step.activates_by c s name l r o) []
     activated_by name l r Granted g n x i = K.activates name l r g n i x
-    activated_by name l r AtLimit g n x i = subst (λ (d : Changed). Q (with_line (with_register s d.register) (lines.RefusedEpochLimit name)) []) i (K.activate_fails name l (lines.RefusedEpochLimit name) refl)
+    activated_by name l r AtLimit g n x i = subst (λ (d : Changed). Q (with_line (with_register s d.register) (lines.RefusedEpochLimit name)) []) i (K.activate_fails name l (lines.RefusedEpochLimit name) g refl)
     activated_by name l r (Behind lce) g n x i = nothing
-    activated_by name l r Fails g n x i = subst (λ (d : Changed). Q (with_line (with_register s d.register) (lines.RefusedRegister name)) []) i (K.activate_fails name l (lines.RefusedRegister name) refl)
+    activated_by name l r Fails g n x i = subst (λ (d : Changed). Q (with_line (with_register s d.register) (lines.RefusedRegister name)) []) i (K.activate_fails name l (lines.RefusedRegister name) g refl)
 
     activates : (name : List ℕ) (l : ℕ) → e ≡ events.Activate name l → Q (Step.happens c s (events.Activate name l)) []
     unfolding Step.happens
     activates name l x = either (has_log c l && not (is_some (find_named name s.sequencers))) _ _ []
-        (λ t. let p = and_parts (has_log c l) (not (is_some (find_named name s.sequencers))) t in activated_by name l (activate s.register l).register (activate s.register l).answer p.0 (none_of (find_named name s.sequencers) p.1) x refl) (λ t. nothing)
+        (λ t. let p = and_parts (has_log c l) (not (is_some (find_named name s.sequencers))) t in activated_by name l (activate s.register l (Step.spec_set c s l)).register (activate s.register l (Step.spec_set c s l)).answer p.0 (none_of (find_named name s.sequencers) p.1) x refl) (λ t. nothing)
 
     -- ---- readers ----
     polls_by : (name : List ℕ) (o : Option Reader) → find_named name s.readers ≡ o → Q (Step.polls c s name o) []
@@ -224,8 +232,8 @@ module _ (c : Config) (s : State) (e : Event) (Q : Done → List Made → Type 0
     where_node n fits d h = either (has_node c n && fits) _ _ [] (λ t. let p = and_parts (has_node c n) fits t in h p.0 p.1) (λ t. nothing)
 
     ticks_by : (n l : ℕ) → Q (Step.ticks c s n l) []
-    ticks_by n l = either (is_up (node_at s n).status && is_in n (set_of c l)) _ _ []
-        (λ t. let p = and_parts (is_up (node_at s n).status) (is_in n (set_of c l)) t in K.ticks n l _ (record { up = p.0; keeps = p.1 }) refl idle) (λ t. nothing)
+    ticks_by n l = either (is_up (node_at s n).status && has_log c l) _ _ []
+        (λ t. let p = and_parts (is_up (node_at s n).status) (has_log c l) t in K.ticks n l _ (record { up = p.0; log = p.1 }) refl idle) (λ t. nothing)
 
 -- a reader that isn't opened
 unopened : (c : Config) (s : State) (name : List ℕ) (l : ℕ) → (has_log c l && not (is_some (find_named name s.readers))) ≡ false → has_log c l ≡ true → is_some (find_named name s.readers) ≡ true
@@ -256,4 +264,5 @@ dispatch c s (events.Up n) Q N K = where_node c s (events.Up n) Q N K tt n _ _
 dispatch c s (events.Wipe n) Q N K = where_node c s (events.Wipe n) Q N K tt n true _ (λ g t. K.wipes n)
 dispatch c s (events.Fail n k) Q N K = where_node c s (events.Fail n k) Q N K tt n true _ (λ g t. K.faults n _ tt)
 dispatch c s (events.Tear n k picture) Q N K = where_node c s (events.Tear n k picture) Q N K tt n true _ (λ g t. K.faults n _ tt)
+dispatch c s (events.Set l r x set) Q N K = either c s (events.Set l r x set) Q N K (Step.can_set c l r x (members set)) _ _ [] (λ t. K.sets l r x set t) (λ t. nothing c s (events.Set l r x set) Q N K tt)
 dispatch c s (events.RegFail k done) Q N K = K.arms k done tt

@@ -12,7 +12,7 @@ use Rattle.ld_msg.specs.Sequencer.{called, on_reply, on_retry}
 use Rattle.ld_op.specs.declared.op.Op.{Op}
 use Rattle.ld_op.specs.declared.op.Op.TheVariants as ops
 use Rattle.ld_op.specs.Ticks.{Ticked, Cleans, Rebuilt, Asks, Nothing}
-use Rattle.ld_machine.specs.Config.{spec_in}
+use Rattle.ld_machine.specs.Config.{looks_at}
 use Rattle.ld_machine.specs.Disk.{Node, Kept, Written, DiskFailed, Crashed, JournalFull, keep_end}
 use Rattle.ld_machine.specs.State.{State, Done, finish, node_at, with_node, with_register}
 use Rattle.ld_machine.specs.Facts.{Happened, Writes}
@@ -109,14 +109,15 @@ module _ (c : Config) (s : State) (e : Event) where
     stops = λ n b. one_other _ _ (lines.NodeDown n) (λ m g q. cc);
     wipes = λ n. one_other _ _ (lines.NodeWiped n) (λ m g q. cc);
     faults = λ n f o. none _ _;
+    sets = λ l r x set h. one_other _ _ (lines.Set l r x set) (λ m g q. cc);
     arms = λ k done o. none _ _;
-    hears = λ f name q m i t l v o. others _ _ OfActs _ (λ h. cc) (acted_of name q (called (spec_in q.log c.logs) s.register (on_reply (spec_in q.log c.logs) q (Step.sender_node m.from) m.body) (on_reply (spec_in q.log c.logs) q (Step.sender_node m.from) m.body).tries).acts);
-    retries = λ name q v o. others _ _ OfActs _ (λ h. cc) (acted_of name q (called (spec_in q.log c.logs) s.register (on_retry (spec_in q.log c.logs) q) (on_retry (spec_in q.log c.logs) q).tries).acts);
+    hears = λ f name q m i t l v o. others _ _ OfActs _ (λ h. cc) (acted_of name q (called (looks_at c s.register q.log) s.register (on_reply (looks_at c s.register q.log) q (Step.sender_node m.from) m.body) (on_reply (looks_at c s.register q.log) q (Step.sender_node m.from) m.body).tries).acts);
+    retries = λ name q v o. others _ _ OfActs _ (λ h. cc) (acted_of name q (called (looks_at c s.register q.log) s.register (on_retry q) (on_retry q).tries).acts);
     appends = λ name q p v a i. one_other _ _ (lines.Appended name _) (λ m g q. cc);
     trims = λ name q t v b. one_other _ _ (lines.Trimmed name t) (λ m g q. cc);
     drops = λ name q v o. none _ _;
     activates = λ name l r g n i x. one_other _ _ (lines.Active name _) (λ m g q. cc);
-    activate_fails = λ name l x q. quiet_one _ _ x q;
+    activate_fails = λ name l x g q. quiet_one _ _ x q;
     answers = λ f name d m i t v o. others _ _ OfItems _ (λ h. cc) (items_of name _ _);
     polls = λ name d v o. none _ _;
     opens = λ name l from until o x. none _ _;

@@ -12,7 +12,7 @@ use Rattle.ld_msg.specs.declared.msg.Body.{Body}
 use Rattle.ld_op.specs.declared.op.Op.{Op}
 use Rattle.ld_op.specs.Ticks.{Ticked, Cleans, Rebuilt, Asks, Nothing}
 use Rattle.ld_machine.specs.Disk.{Node}
-use Rattle.ld_msg.specs.Register.{Register, Changed, generation_of, close, activate, draw}
+use Rattle.ld_msg.specs.Register.{Register, View, Changed, generation_of, close, activate, draw}
 use Rattle.ld_msg.specs.Sequencer.{Acts, called}
 use Rattle.ld_machine.specs.State.{State, finish, node_at, with_node}
 use Rattle.ld_machine.specs.World.{World}
@@ -36,8 +36,8 @@ drawn_generations r n k d y = elim (put_cases y n (generation_of r n + 1) r.gene
   | inr a ↦ (let z : generation_of k y ≡ generation_of r y = ap (λ m. unwrap_or (find y m) 0) d.1 ∙ ap (λ o. unwrap_or o 0) a.1 in omega arith)
 ]
 
-pub activate_generations : (r : Register) (l : ℕ) → NoneFalls r (activate r l).register
-activate_generations r l = elim (activate_leaves r l) [ inl a ↦ same_generations r (activate r l).register a.1 | inr a ↦ same_generations r (activate r l).register a.1.1 ]
+pub activate_generations : (r : Register) (l : ℕ) (p : Spec) → NoneFalls r (activate r l p).register
+activate_generations r l p = elim (activate_leaves r l p) [ inl a ↦ same_generations r (activate r l p).register a.1 | inr a ↦ same_generations r (activate r l p).register a.1.1 ]
 
 close_generations : (r : Register) (l e : ℕ) (y : Summary) → NoneFalls r (close r l e y).register
 close_generations r l e y = elim (close_leaves r l e y) [ inl a ↦ same_generations r (close r l e y).register a.1 | inr a ↦ same_generations r (close r l e y).register a.1.1 ]
@@ -45,9 +45,9 @@ close_generations r l e y = elim (close_leaves r l e y) [ inl a ↦ same_generat
 pub draw_generations : (r : Register) (n : ℕ) → NoneFalls r (draw r n).register
 draw_generations r n = elim (draw_leaves r n) [ inl a ↦ same_generations r (draw r n).register a.1 | inr a ↦ drawn_generations r n (draw r n).register a ]
 
-pub call_generations : (r : Register) (p : Spec) (a : Acts) (ts : List (ℕ × Summary)) → NoneFalls r (called p r a ts).register
-call_generations r p a [] = same_generations r r refl
-call_generations r p a (t ∷ ts) = close_generations r a.sequencer.log t.0 t.1
+pub call_generations : (r : Register) (looks : ℕ → View) (a : Acts) (ts : List (ℕ × Summary)) → NoneFalls r (called looks r a ts).register
+call_generations r looks a [] = same_generations r r refl
+call_generations r looks a (t ∷ ts) = close_generations r a.sequencer.log t.0 t.1
 
 module _ (c : Config) (s : State) (e : Event) where
   same : NoneFalls s.register s.register
@@ -75,14 +75,15 @@ module _ (c : Config) (s : State) (e : Event) where
     stops = λ n b. same;
     wipes = λ n. same;
     faults = λ n f o. same;
+    sets = λ l r x set h. same;
     arms = λ k done o. same_generations s.register (Step.armed s.register k done) refl;
     hears = λ f name q m i t l v o. call_generations s.register _ _ _;
     retries = λ name q v o. call_generations s.register _ _ _;
     appends = λ name q p v a i. same;
     trims = λ name q t v b. same;
     drops = λ name q v o. same;
-    activates = λ name l r g n i x. subst (λ (d : Changed). NoneFalls s.register d.register) i (activate_generations s.register l);
-    activate_fails = λ name l x q. activate_generations s.register l;
+    activates = λ name l r g n i x. subst (λ (d : Changed). NoneFalls s.register d.register) i (activate_generations s.register l (Step.spec_set c s l));
+    activate_fails = λ name l x g q. activate_generations s.register l (Step.spec_set c s l);
     answers = λ f name d m i t v o. same;
     polls = λ name d v o. same;
     opens = λ name l from until o x. same;

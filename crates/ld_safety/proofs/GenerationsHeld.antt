@@ -14,7 +14,7 @@ use Rattle.ld_op.specs.Plain.{Plain, apply}
 use Rattle.ld_op.specs.Ticks.{Ticked, Cleans, Rebuilt, Asks, Nothing}
 use Rattle.ld_msg.specs.Register.{Register, Changed, Granted, generation_of, epochs_in, draw, activate}
 use Rattle.ld_msg.specs.Sequencer.{called, on_reply, on_retry}
-use Rattle.ld_machine.specs.Config.{spec_in}
+use Rattle.ld_machine.specs.Config.{looks_at}
 use Rattle.ld_machine.specs.Disk.{Node, new_node, keep_op, load}
 use Rattle.ld_machine.specs.State.{State, start, new_nodes, finish, node_at, with_node, with_register}
 use Rattle.ld_machine.specs.World.{World, MayHold}
@@ -98,14 +98,15 @@ module _ (c : Config) (s : State) (e : Event) (A : AllDrawn s.register s) where
     stops = λ n b. put_drawn s.register s n (Step.stopped (node_at s n)) (A n) A;
     wipes = λ n. put_drawn s.register s n new_node (blank_drawn s.register n) A;
     faults = λ n f o. put_drawn s.register s n (Step.with_fault (node_at s n) f) (A n) A;
+    sets = λ l r x set h. A;
     arms = λ k done o. A;
-    hears = λ f name q m i t l v o. let a = on_reply (spec_in q.log c.logs) q (Step.sender_node m.from) m.body in up_drawn s.register (called (spec_in q.log c.logs) s.register a a.tries).register s (call_generations s.register (spec_in q.log c.logs) a a.tries) A;
-    retries = λ name q v o. let a = on_retry (spec_in q.log c.logs) q in up_drawn s.register (called (spec_in q.log c.logs) s.register a a.tries).register s (call_generations s.register (spec_in q.log c.logs) a a.tries) A;
+    hears = λ f name q m i t l v o. let a = on_reply (looks_at c s.register q.log) q (Step.sender_node m.from) m.body in up_drawn s.register (called (looks_at c s.register q.log) s.register a a.tries).register s (call_generations s.register (looks_at c s.register q.log) a a.tries) A;
+    retries = λ name q v o. let a = on_retry q in up_drawn s.register (called (looks_at c s.register q.log) s.register a a.tries).register s (call_generations s.register (looks_at c s.register q.log) a a.tries) A;
     appends = λ name q p v a i. A;
     trims = λ name q t v b. A;
     drops = λ name q v o. A;
-    activates = λ name l r g n i x. up_drawn s.register r s (subst (λ (d : Changed). NoneFalls s.register d.register) i (activate_generations s.register l)) A;
-    activate_fails = λ name l x q. up_drawn s.register (activate s.register l).register s (activate_generations s.register l) A;
+    activates = λ name l r g n i x. up_drawn s.register r s (subst (λ (d : Changed). NoneFalls s.register d.register) i (activate_generations s.register l (Step.spec_set c s l))) A;
+    activate_fails = λ name l x g q. up_drawn s.register (activate s.register l (Step.spec_set c s l)).register s (activate_generations s.register l (Step.spec_set c s l)) A;
     answers = λ f name d m i t v o. A;
     polls = λ name d v o. A;
     opens = λ name l from until o x. A;

@@ -1,20 +1,20 @@
 -- Each record anywhere is one that was appended, and each trim anywhere is one that was issued.
 use Rattle.std.proofs.Common.{Bool, ◌≡◌, ◌∙◌, ◌⊎◌, ◌≤◌, ◌<◌, ℕ, ◌-◌, inl, inr, refl, ap, sym, subst, true, false, List, [], ◌∷◌, ◌++◌, Option, Some, None, arith}
-use Rattle.ld_lsn.specs.Number.{esn_of, numbered, last_esn}
+use Rattle.ld_lsn.specs.Number.{epoch_of, esn_of, numbered, last_esn}
 use Rattle.ld_schedule.specs.declared.event.Event.{Event}
 use Rattle.ld_msg.specs.declared.msg.What.{What}
 use Rattle.ld_msg.specs.declared.msg.What.TheVariants.{Rec, Hole, Bridge}
 use Rattle.ld_msg.specs.declared.msg.Entry.{Entry}
 use Rattle.ld_msg.specs.declared.msg.Summary.{Summary}
-use Rattle.ld_msg.specs.Digest.{Told, best, content, record_or_hole, is_bridge, plan, plan_end, digest_trim, Item}
+use Rattle.ld_msg.specs.Digest.{Told, best, content, record_or_hole, is_bridge, plan, plan_end, plan_floor, digest_trim, digest_lng, Item}
 use Rattle.ld_machine.specs.Facts.{Happened, OfLog, Appends, Issues, sequencer_log}
 use Rattle.ld_machine.specs.State.{Done}
 use Rattle.ld_machine.specs.World.{In}
 use Rattle.ld_safety.proofs.Lists.{slice_get_left, or_else_some}
 use Rattle.ld_safety.proofs.Steps.{told, writes_before}
 use Rattle.ld_safety.proofs.Numbers.{log_grows}
-use Rattle.ld_safety.proofs.Plans.{best_of, plan_items, plan_shape, top_most, trim_place_most, end_most}
-use Rattle.ld_msg.specs.Register.{epoch_limit}
+use Rattle.ld_safety.proofs.Plans.{best_of, plan_items, plan_shape, top_most, trim_place_most}
+use Rattle.ld_msg.specs.Register.{Register, epoch_limit}
 
 -- a record was appended by one of the steps so far
 abbrev pub AppendedBy : List Happened → ℕ → ℕ → List ℕ → Type 0
@@ -42,28 +42,32 @@ AnyShown l clean e = Unit {0}
 abbrev pub AnyReleased : ℕ → ℕ → Type 0
 AnyReleased l r = Unit {0}
 
+-- a last known good place lies below the last place
+abbrev pub SmallGood : ℕ → ℕ → ℕ → Type 0
+SmallGood l e g = g < last_esn
+
 abbrev pub GivenSummary : List Happened → ℕ → ℕ → Summary → Type 0
 GivenSummary hs l e y = GivenTrim hs l y.trim × (e ≤ epoch_limit)
 
 -- ---- longer runs ----
-pub of_log_grows : (hs : List Happened) (e : Event) (d : Done) (l : ℕ) (s : List ℕ) → OfLog hs l s → OfLog (hs ++ told e d ∷ []) l s
-of_log_grows hs e d l s h = log_grows s hs (told e d) ∙ or_else_some (sequencer_log s hs) _ l h
+pub of_log_grows : (hs : List Happened) (old : Register) (e : Event) (d : Done) (l : ℕ) (s : List ℕ) → OfLog hs l s → OfLog (hs ++ told old e d ∷ []) l s
+of_log_grows hs old e d l s h = log_grows s hs (told old e d) ∙ or_else_some (sequencer_log s hs) _ l h
 
-pub appends_grows : (hs : List Happened) (e : Event) (d : Done) (l n k : ℕ) (p : List ℕ) → Appends hs l n p k → Appends (hs ++ told e d ∷ []) l n p k
-appends_grows hs e d l n k p a = record { name = a.name; here = a.here; at = slice_get_left a.here hs _ k a.at; asked = a.asked; told = writes_before hs (told e d ∷ []) k _ a.told; of_log = of_log_grows hs e d l a.name a.of_log }
+pub appends_grows : (hs : List Happened) (old : Register) (e : Event) (d : Done) (l n k : ℕ) (p : List ℕ) → Appends hs l n p k → Appends (hs ++ told old e d ∷ []) l n p k
+appends_grows hs old e d l n k p a = record { name = a.name; here = a.here; at = slice_get_left a.here hs _ k a.at; asked = a.asked; told = writes_before hs (told old e d ∷ []) k _ a.told; of_log = of_log_grows hs old e d l a.name a.of_log }
 
-pub issues_grows : (hs : List Happened) (e : Event) (d : Done) (l t k : ℕ) → Issues hs l t k → Issues (hs ++ told e d ∷ []) l t k
-issues_grows hs e d l t k a = record { name = a.name; told = writes_before hs (told e d ∷ []) k _ a.told; of_log = of_log_grows hs e d l a.name a.of_log }
+pub issues_grows : (hs : List Happened) (old : Register) (e : Event) (d : Done) (l t k : ℕ) → Issues hs l t k → Issues (hs ++ told old e d ∷ []) l t k
+issues_grows hs old e d l t k a = record { name = a.name; told = writes_before hs (told old e d ∷ []) k _ a.told; of_log = of_log_grows hs old e d l a.name a.of_log }
 
-pub entry_grows : (hs : List Happened) (e : Event) (d : Done) (l b n : ℕ) (w : What) → GivenEntry hs l b n w → GivenEntry (hs ++ told e d ∷ []) l b n w
-entry_grows hs e d l b n w g = record { place = g.place; appended = λ p q. let a = g.appended p q in (a.0, appends_grows hs e d l n a.0 p a.1) }
+pub entry_grows : (hs : List Happened) (old : Register) (e : Event) (d : Done) (l b n : ℕ) (w : What) → GivenEntry hs l b n w → GivenEntry (hs ++ told old e d ∷ []) l b n w
+entry_grows hs old e d l b n w g = record { place = g.place; appended = λ p q. let a = g.appended p q in (a.0, appends_grows hs old e d l n a.0 p a.1) }
 
-pub trim_grows : (hs : List Happened) (e : Event) (d : Done) (l t : ℕ) → GivenTrim hs l t → GivenTrim (hs ++ told e d ∷ []) l t
-trim_grows hs e d l t (inl h) = inl h
-trim_grows hs e d l t (inr h) = inr (h.0, h.1, h.2, issues_grows hs e d l h.1 h.0 h.3)
+pub trim_grows : (hs : List Happened) (old : Register) (e : Event) (d : Done) (l t : ℕ) → GivenTrim hs l t → GivenTrim (hs ++ told old e d ∷ []) l t
+trim_grows hs old e d l t (inl h) = inl h
+trim_grows hs old e d l t (inr h) = inr (h.0, h.1, h.2, issues_grows hs old e d l h.1 h.0 h.3)
 
 -- ---- plans ----
-module _ (hs : List Happened) (l b e : ℕ) (d : List Told) (D : (t : Told) → In t d → (f : Entry) → In f t.entries → GivenEntry hs l f.ballot f.number f.what) where
+module _ (hs : List Happened) (l b e : ℕ) (d : List Told) (D : (t : Told) → In t d → (f : Entry) → In f t.entries → GivenEntry hs l f.ballot f.number f.what) (L : digest_lng d < last_esn) where
   content_given : (n : ℕ) (p : List ℕ) → content (best n d) ≡ Rec p → AppendedBy hs l n p
   content_given n p h = by_best (best n d) refl h where
     by_what : (w : What) → record_or_hole w ≡ Rec p → w ≡ Rec p
@@ -79,9 +83,13 @@ module _ (hs : List Happened) (l b e : ℕ) (d : List Told) (D : (t : Told) → 
     ]
 
   pub end_place : plan_end e d ≤ last_esn
-  end_place = let t = trim_place_most e (digest_trim d) in let z = end_most e d (last_esn - 1) (top_most (last_esn - 1) d (λ u f i j n. let g = D u i f j in let y = g.place.below (λ q. bridge_no f.what q n) in omega arith)) t in omega arith where
+  unfolding plan_end plan_floor
+  end_place = let t = trim_place_most e (digest_trim d) in let z = top_most (last_esn - 1) d (λ u f i j n. let g = D u i f j in let y = g.place.below (λ q. bridge_no f.what q n) in omega arith) in let l = L in omega arith where
     bridge_no : (w : What) → w ≡ Bridge → is_bridge w ≡ false → ⊥
     bridge_no w q n = let z : is_bridge w ≡ true = ap is_bridge q in cc
+
+  pub plan_epoch : (i : Item) → In i (plan e d).items → epoch_of i.number ≡ e
+  plan_epoch i h = let p = plan_items e d i h in let u = end_place in let z = p.below in let n = p.number in omega arith
 
   pub plan_given : (i : Item) → In i (plan e d).items → GivenEntry hs l b i.number i.what
   plan_given i h = let p = plan_items e d i h in let s = plan_shape e d p.place i.what p.item in let u = end_place in let a = p.above in let z = p.below in let n = p.number in record {

@@ -17,6 +17,8 @@ use Rattle.ld_msg.specs.declared.msg.Who.TheVariants as whos
 use Rattle.ld_msg.specs.declared.msg.Body.{Body}
 use Rattle.ld_msg.specs.declared.msg.Body.TheVariants as bodies
 use Rattle.ld_msg.specs.Reading.{Held, Item, TrimTo, RecordHere, HoleHere, BridgeTo, LossHere, trim_held, trim_told, record_held, record_of, page_at, entry_at}
+use Rattle.ld_msg.specs.Register.{View}
+use Rattle.ld_machine.specs.Config.{looks_at}
 use Rattle.ld_msg.specs.Reader.{Reader, Read, heard, held_with, is_newer, round_of, on_answer, gives}
 use Rattle.ld_machine.specs.State.{State}
 use Rattle.ld_machine.specs.Facts.{Happened, Opening, opening, opening_of, Interval, Writes, Appends, Issues, ReadsLog, log_activated}
@@ -34,7 +36,7 @@ use Rattle.ld_safety.proofs.Lines.{Group, OfItems, OfMessages, group, AllOf, lin
 use Rattle.ld_safety.proofs.ReaderSteps.{ReadKeeps, answered}
 use Rattle.ld_safety.proofs.Tiles.{Got, TilesTo, AllGot, Reads, got_of, tiles_kept}
 use Rattle.ld_safety.proofs.Base.{Base}
-use Rattle.ld_safety.proofs.Given.{AnyEpoch, AnyShown, AnyReleased, AppendedBy, GivenEntry, GivenTrim, GivenSummary}
+use Rattle.ld_safety.proofs.Given.{AnyEpoch, AnyShown, AnyReleased, SmallGood, AppendedBy, GivenEntry, GivenTrim, GivenSummary}
 use Rattle.ld_safety.proofs.GivenSteps.{Given}
 use Rattle.ld_safety.proofs.Carried as carried
 
@@ -83,7 +85,7 @@ record_in s (x ∷ hs) p h = elim (or_else_of (record_of (page_at s x.1.body)) (
 -- ---- items ----
 module _ (hs : List Happened) (l : ℕ) where
   HeldGiven : List (ℕ × Held) → Type 0
-  HeldGiven ds = (h : ℕ × Held) → In h ds → carried.HeldOk (GivenEntry hs) (GivenTrim hs) (GivenSummary hs) AnyEpoch AnyShown AnyReleased l h.1.body
+  HeldGiven ds = (h : ℕ × Held) → In h ds → carried.HeldOk (GivenEntry hs) (GivenTrim hs) (GivenSummary hs) AnyEpoch AnyShown AnyReleased (GivenEntry hs) SmallGood l h.1.body
 
   -- an item that a reader gets
   abbrev ItemGiven : ℕ → Item → Type 0
@@ -100,7 +102,7 @@ module _ (hs : List Happened) (l : ℕ) where
   unfolding HeldGiven
   record_given s ds p h e =
       let r = record_in s ds p e in let w = r.2 in
-      let o : carried.EntriesOk (GivenEntry hs) (GivenTrim hs) (GivenSummary hs) AnyEpoch AnyShown AnyReleased l w.entries = (subst (carried.HeldOk (GivenEntry hs) (GivenTrim hs) (GivenSummary hs) AnyEpoch AnyShown AnyReleased l) w.is_page (h r.0 r.1)).0 in
+      let o : carried.EntriesOk (GivenEntry hs) (GivenTrim hs) (GivenSummary hs) AnyEpoch AnyShown AnyReleased (GivenEntry hs) SmallGood l w.entries = (subst (carried.HeldOk (GivenEntry hs) (GivenTrim hs) (GivenSummary hs) AnyEpoch AnyShown AnyReleased (GivenEntry hs) SmallGood l) w.is_page (h r.0 r.1)).0 in
       subst (λ n. AppendedBy hs l n p) w.number ((o w.entry w.there).appended p w.what)
 
   max_given : (a b : ℕ) → GivenTrim hs l a → GivenTrim hs l b → GivenTrim hs l (max a b)
@@ -110,7 +112,7 @@ module _ (hs : List Happened) (l : ℕ) where
     | inr (inr e) ↦ subst (GivenTrim hs l) (let z : a ≡ max a b = omega arith in z) x
   ]
 
-  told_given : (b : Body) → carried.HeldOk (GivenEntry hs) (GivenTrim hs) (GivenSummary hs) AnyEpoch AnyShown AnyReleased l b → GivenTrim hs l (trim_told b)
+  told_given : (b : Body) → carried.HeldOk (GivenEntry hs) (GivenTrim hs) (GivenSummary hs) AnyEpoch AnyShown AnyReleased (GivenEntry hs) SmallGood l b → GivenTrim hs l (trim_told b)
   told_given (bodies.ReadTrim round from t) h = h
   told_given _ h = inl refl
 
@@ -129,13 +131,13 @@ module _ (hs : List Happened) (l : ℕ) where
   trim_item : (s : ℕ) (ds : List (ℕ × Held)) → HeldGiven ds → 0 < s → s ≤ trim_held ds → ItemGiven s (TrimTo (trim_held ds))
   trim_item s ds h p q = elim (trim_held_given ds h) [ inl e ↦ absurd (omega arith) | inr e ↦ (e.0, e.1, (let z = e.2 in omega arith), e.3) ]
 
-  held_given : (d : Reader) (y : ℕ) (b : Body) → HeldGiven d.held → carried.HeldOk (GivenEntry hs) (GivenTrim hs) (GivenSummary hs) AnyEpoch AnyShown AnyReleased l b → HeldGiven (held_with d.held y b)
+  held_given : (d : Reader) (y : ℕ) (b : Body) → HeldGiven d.held → carried.HeldOk (GivenEntry hs) (GivenTrim hs) (GivenSummary hs) AnyEpoch AnyShown AnyReleased (GivenEntry hs) SmallGood l b → HeldGiven (held_with d.held y b)
   unfolding HeldGiven
-  held_given d y b h o = cond_both (is_newer (find y d.held) (round_of b)) (put y (record { round = round_of b; body = b }) d.held) d.held (λ x. (k : ℕ × Held) → In k x → carried.HeldOk (GivenEntry hs) (GivenTrim hs) (GivenSummary hs) AnyEpoch AnyShown AnyReleased l k.1.body)
-      (λ t k i. elim (In_put y (record { round = round_of b; body = b }) d.held k i) [ inl q ↦ subst (λ (x : ℕ × Held). carried.HeldOk (GivenEntry hs) (GivenTrim hs) (GivenSummary hs) AnyEpoch AnyShown AnyReleased l x.1.body) (sym q) o | inr j ↦ h k j ]) (λ t. h)
+  held_given d y b h o = cond_both (is_newer (find y d.held) (round_of b)) (put y (record { round = round_of b; body = b }) d.held) d.held (λ x. (k : ℕ × Held) → In k x → carried.HeldOk (GivenEntry hs) (GivenTrim hs) (GivenSummary hs) AnyEpoch AnyShown AnyReleased (GivenEntry hs) SmallGood l k.1.body)
+      (λ t k i. elim (In_put y (record { round = round_of b; body = b }) d.held k i) [ inl q ↦ subst (λ (x : ℕ × Held). carried.HeldOk (GivenEntry hs) (GivenTrim hs) (GivenSummary hs) AnyEpoch AnyShown AnyReleased (GivenEntry hs) SmallGood l x.1.body) (sym q) o | inr j ↦ h k j ]) (λ t. h)
 
-  given_keeps : (set : List ℕ) (d : Reader) (y : ℕ) (b : Body) → 0 < d.next → HeldGiven d.held → carried.HeldOk (GivenEntry hs) (GivenTrim hs) (GivenSummary hs) AnyEpoch AnyShown AnyReleased l b → ReadKeeps set d y b ReadGiven
-  given_keeps set d y b p h o = let k = held_given d y b h o in let start : ReadGiven (record { reader = heard d y b; items = []; asks = [] }) = record { held = k; positive = p; items = λ i j. absurd j } in record {
+  given_keeps : (looks : ℕ → View) (d : Reader) (y : ℕ) (b : Body) → 0 < d.next → HeldGiven d.held → carried.HeldOk (GivenEntry hs) (GivenTrim hs) (GivenSummary hs) AnyEpoch AnyShown AnyReleased (GivenEntry hs) SmallGood l b → ReadKeeps looks d y b ReadGiven
+  given_keeps looks d y b p h o = let k = held_given d y b h o in let start : ReadGiven (record { reader = heard d y b; items = []; asks = [] }) = record { held = k; positive = p; items = λ i j. absurd j } in record {
     starts = start;
     loss = λ u. gives_given _ LossHere start tt;
     trim = λ a g n t. gives_given a (TrimTo (trim_held a.reader.held)) g (trim_item a.reader.next a.reader.held g.held g.positive t);
@@ -195,14 +197,14 @@ module _ (c : Config) (hs : List Happened) (w : World) (e : Event) (B : Base c h
   ]
 
   reads_given : (f : List ℕ) (name : List ℕ) (d : Reader) (m : Msg) → In m w.state.network.sent → m.to ≡ whos.Reader d.number → Reading w.state name d
-      → LinesGiven hs w.state (Step.item_lines name (on_answer (Step.set_read c d) d (Step.sender_node m.from) m.body).reader.until (on_answer (Step.set_read c d) d (Step.sender_node m.from) m.body).items)
+      → LinesGiven hs w.state (Step.item_lines name (on_answer (looks_at c w.state.register d.log) d (Step.sender_node m.from) m.body).reader.until (on_answer (looks_at c w.state.register d.log) d (Step.sender_node m.from) m.body).items)
   unfolding HeldGiven
   reads_given f name d m i t v =
       let lg : d.log ≡ m.log = B.1.1.logs m d.number name d i (inl t) v.named refl in
       let y = Step.sender_node m.from in
-      let o : carried.HeldOk (GivenEntry hs) (GivenTrim hs) (GivenSummary hs) AnyEpoch AnyShown AnyReleased d.log m.body = subst (λ k. carried.HeldOk (GivenEntry hs) (GivenTrim hs) (GivenSummary hs) AnyEpoch AnyShown AnyReleased k m.body) (sym lg) (carried.held_of (GivenEntry hs) (GivenTrim hs) (GivenSummary hs) AnyEpoch AnyShown AnyReleased m.log m.from m.body (G.sent m i)) in
-      let k = answered (Step.set_read c d) d y m.body (ReadGiven hs d.log) (given_keeps hs d.log (Step.set_read c d) d y m.body (positive name d v.named) (G.readers name d v.named) o) in
-      item_lines_given hs w.state name d _ (on_answer (Step.set_read c d) d y m.body).items v.named k.items
+      let o : carried.HeldOk (GivenEntry hs) (GivenTrim hs) (GivenSummary hs) AnyEpoch AnyShown AnyReleased (GivenEntry hs) SmallGood d.log m.body = subst (λ k. carried.HeldOk (GivenEntry hs) (GivenTrim hs) (GivenSummary hs) AnyEpoch AnyShown AnyReleased (GivenEntry hs) SmallGood k m.body) (sym lg) (carried.held_of (GivenEntry hs) (GivenTrim hs) (GivenSummary hs) AnyEpoch AnyShown AnyReleased (GivenEntry hs) SmallGood m.log m.from m.body (G.sent m i)) in
+      let k = answered (looks_at c w.state.register d.log) d y m.body (ReadGiven hs d.log) (given_keeps hs d.log (looks_at c w.state.register d.log) d y m.body (positive name d v.named) (G.readers name d v.named) o) in
+      item_lines_given hs w.state name d _ (on_answer (looks_at c w.state.register d.log) d y m.body).items v.named k.items
 
   pub lines_given : LinesGiven hs w.state (Step.happens c w.state e).lines
   lines_given = dispatch c w.state e (λ d m. LinesGiven hs w.state d.lines) B.0.0 (line_cases c w.state e (LinesGiven hs w.state) (other_lines hs w.state) reads_given (quiet_lines_given hs w.state))

@@ -21,8 +21,9 @@ use Rattle.ld_safety.proofs.Traces.{Keeps, happened, beside_kept}
 use Rattle.ld_safety.proofs.Steps.{finish_In}
 use Rattle.ld_safety.proofs.Events.{Live}
 use Rattle.ld_safety.proofs.Numbers.{below_last}
+use Rattle.ld_safety.proofs.Appends.{own_epoch}
 use Rattle.ld_safety.proofs.Base.{Base, base_kept, counts_of}
-use Rattle.ld_safety.proofs.Given.{AnyEpoch, AnyShown, AnyReleased, GivenEntry, GivenTrim, GivenSummary, entry_grows, trim_grows, of_log_grows, plan_given}
+use Rattle.ld_safety.proofs.Given.{AnyEpoch, AnyShown, AnyReleased, SmallGood, GivenEntry, GivenTrim, GivenSummary, entry_grows, trim_grows, of_log_grows, plan_given, plan_epoch}
 use Rattle.ld_safety.proofs.CarriedSteps.{Carries, Sources, HeardOf, carried_on}
 use Rattle.ld_safety.proofs.CarriedSequencers as sequencers
 use Rattle.ld_safety.proofs.CarriedNodes as nodes
@@ -32,37 +33,37 @@ use Rattle.ld_safety.proofs.Carried as carried
 use Rattle.ld_safety.proofs.Has as has
 
 abbrev pub Given : Config → List Happened → State → Type 0
-Given c hs s = Carries c s (events.Flow 0) (GivenEntry hs) (GivenTrim hs) (GivenSummary hs) AnyEpoch AnyShown AnyReleased s
+Given c hs s = Carries c s (events.Flow 0) (GivenEntry hs) (GivenTrim hs) (GivenSummary hs) AnyEpoch AnyShown AnyReleased (GivenEntry hs) SmallGood s
 
-given_sound : (hs : List Happened) → carried.Sound (GivenEntry hs) (GivenTrim hs) (GivenSummary hs) AnyEpoch AnyShown AnyReleased
-given_sound hs = record { zero_trim = λ l. inl refl; place = λ l b n w g. g.place.above; reached = λ l b n w g. tt; closing_trim = λ l e y h. h.0; zero_closed = λ l. (inl refl, omega arith); zero_released = λ l. tt }
+given_sound : (hs : List Happened) → carried.Sound (GivenEntry hs) (GivenTrim hs) (GivenSummary hs) AnyEpoch AnyShown AnyReleased (GivenEntry hs) SmallGood
+given_sound hs = record { zero_trim = λ l. inl refl; place = λ l b n w g. g.place.above; reached = λ l b n w g. tt; closing_trim = λ l e y h. h.0; zero_closed = λ l. (inl refl, omega arith); zero_released = λ l. tt; kept = λ l b n w g. g; zero_good = λ l e. omega arith; good_below = λ l e g h. h }
 
 -- the stage of a recovery
 module _ (hs : List Happened) where
-  module _ (q : Sequencer) (L : q.epoch ≤ epoch_limit) (O : carried.RecoveryOk (GivenEntry hs) (GivenTrim hs) (GivenSummary hs) AnyEpoch AnyShown AnyReleased q.log q.epoch q.recovery) where
-    stage : (v : Recovery) (g : Stage) → q.recovery ≡ Some v → v.stage ≡ g → carried.StageOk (GivenEntry hs) (GivenTrim hs) (GivenSummary hs) AnyEpoch AnyShown AnyReleased q.log q.epoch v.epoch g
-    stage v g e f = subst (carried.StageOk (GivenEntry hs) (GivenTrim hs) (GivenSummary hs) AnyEpoch AnyShown AnyReleased q.log q.epoch v.epoch) f (subst (carried.RecoveryOk (GivenEntry hs) (GivenTrim hs) (GivenSummary hs) AnyEpoch AnyShown AnyReleased q.log q.epoch) e O).1
+  module _ (q : Sequencer) (L : q.epoch ≤ epoch_limit) (O : carried.RecoveryOk (GivenEntry hs) (GivenTrim hs) (GivenSummary hs) AnyEpoch AnyShown AnyReleased (GivenEntry hs) SmallGood q.log q.epoch q.recovery) where
+    stage : (v : Recovery) (g : Stage) → q.recovery ≡ Some v → v.stage ≡ g → carried.StageOk (GivenEntry hs) (GivenTrim hs) (GivenSummary hs) AnyEpoch AnyShown AnyReleased (GivenEntry hs) SmallGood q.log q.epoch v.epoch g
+    stage v g e f = subst (carried.StageOk (GivenEntry hs) (GivenTrim hs) (GivenSummary hs) AnyEpoch AnyShown AnyReleased (GivenEntry hs) SmallGood q.log q.epoch v.epoch) f (subst (carried.RecoveryOk (GivenEntry hs) (GivenTrim hs) (GivenSummary hs) AnyEpoch AnyShown AnyReleased (GivenEntry hs) SmallGood q.log q.epoch) e O).1
 
     in_limit : (v : Recovery) → q.recovery ≡ Some v → v.epoch ≤ epoch_limit
-    in_limit v e = let z = (subst (carried.RecoveryOk (GivenEntry hs) (GivenTrim hs) (GivenSummary hs) AnyEpoch AnyShown AnyReleased q.log q.epoch) e O).0.1 in omega arith
+    in_limit v e = let z = (subst (carried.RecoveryOk (GivenEntry hs) (GivenTrim hs) (GivenSummary hs) AnyEpoch AnyShown AnyReleased (GivenEntry hs) SmallGood q.log q.epoch) e O).0.1 in omega arith
 
 module _ (c : Config) (hs : List Happened) (w : World) (e : Event) (B : Base c hs w) (G : Given c hs w.state) where
   abbrev next : List Happened
   next = hs ++ happened c w.state e ∷ []
 
-  now : Carries c w.state e (GivenEntry next) (GivenTrim next) (GivenSummary next) AnyEpoch AnyShown AnyReleased w.state
-  now = carries_grow (GivenEntry hs) (GivenTrim hs) (GivenSummary hs) AnyEpoch AnyShown AnyReleased (GivenEntry next) (GivenTrim next) (GivenSummary next) AnyEpoch AnyShown AnyReleased (entry_grows hs e (Step.happens c w.state e)) (trim_grows hs e (Step.happens c w.state e))
-      (λ l k y h. (trim_grows hs e (Step.happens c w.state e) l y.trim h.0, h.1)) (λ l k h. tt) (λ l b x h. tt) (λ l k h. tt) c w.state e w.state G
+  now : Carries c w.state e (GivenEntry next) (GivenTrim next) (GivenSummary next) AnyEpoch AnyShown AnyReleased (GivenEntry next) SmallGood w.state
+  now = carries_grow (GivenEntry hs) (GivenTrim hs) (GivenSummary hs) AnyEpoch AnyShown AnyReleased (GivenEntry hs) SmallGood (GivenEntry next) (GivenTrim next) (GivenSummary next) AnyEpoch AnyShown AnyReleased (GivenEntry next) SmallGood (entry_grows hs w.state.register e (Step.happens c w.state e)) (trim_grows hs w.state.register e (Step.happens c w.state e))
+      (λ l k y h. (trim_grows hs w.state.register e (Step.happens c w.state e) l y.trim h.0, h.1)) (λ l k h. tt) (λ l b x h. tt) (λ l k h. tt) (entry_grows hs w.state.register e (Step.happens c w.state e)) (λ l k g h. h) c w.state e w.state G
 
   limit_of : (name : List ℕ) (q : Sequencer) → find_named name w.state.sequencers ≡ Some q → q.epoch ≤ epoch_limit
   limit_of name q f = let o = B.0.1.epochs in let a = o.drawn name q f in let b = o.limit q.log in omega arith
 
-  closes_given : (name : List ℕ) (q : Sequencer) (v : Recovery) (y : Summary) → Live w.state name q → q.recovery ≡ Some v → Ends_with c w.state q v y → GivenSummary next q.log v.epoch y
-  closes_given name q v y l r (inl g) = (stage next q (limit_of name q l.named) (now.sequencers name q l.named).recovery v (Closes y) r g, in_limit next q (limit_of name q l.named) (now.sequencers name q l.named).recovery v r)
-  closes_given name q v y l r (inr g) = (subst (λ (x : Summary). GivenTrim next q.log x.trim) (sym g.summary) (stage next q (limit_of name q l.named) (now.sequencers name q l.named).recovery v (Stores g.storing) r g.stage).0, in_limit next q (limit_of name q l.named) (now.sequencers name q l.named).recovery v r)
+  closes_given : (name : List ℕ) (q : Sequencer) (v : Recovery) (y : Summary) → Live w.state name q → q.recovery ≡ Some v → Ends_with w.state q v y → GivenSummary next q.log v.epoch y
+  closes_given name q v y l r (inl g) = ((stage next q (limit_of name q l.named) (now.sequencers name q l.named).recovery v (Closes y) r g).0, in_limit next q (limit_of name q l.named) (now.sequencers name q l.named).recovery v r)
+  closes_given name q v y l r (inr g) = (subst (λ (x : Summary). GivenTrim next q.log x.trim) (sym g.summary) (stage next q (limit_of name q l.named) (now.sequencers name q l.named).recovery v (Stores g.storing) r g.stage).0.0, in_limit next q (limit_of name q l.named) (now.sequencers name q l.named).recovery v r)
 
   log_known : (name : List ℕ) (q : Sequencer) → Live w.state name q → OfLog next q.log name
-  log_known name q v = of_log_grows hs e (Step.happens c w.state e) q.log name (counts_of c hs w B name q v.named).known
+  log_known name q v = of_log_grows hs w.state.register e (Step.happens c w.state e) q.log name (counts_of c hs w B name q v.named).known
 
   pub append_given : (name : List ℕ) (q : Sequencer) (payload : List ℕ) → Live w.state name q → appending q payload ≡ Numbered → e ≡ events.Append name payload → In (lines.Appended name (numbered q.epoch (next_esn q))) (Step.happens c w.state e).lines → GivenEntry next q.log q.epoch (numbered q.epoch (next_esn q)) (Rec payload)
   append_given name q payload v a i x =
@@ -88,11 +89,11 @@ module _ (c : Config) (hs : List Happened) (w : World) (e : Event) (B : Base c h
   trim_given name q point v x = let y = slice_get-In _ _ (finish_In (Step.happens c w.state e) _ x) in
       inr (length hs, point, refl, record { name = name; told = (happened c w.state e, slice_get_last (happened c w.state e) hs [], y.0, y.1); of_log = log_known name q v })
 
-  ending : (q : Sequencer) (v : Recovery) (y : Summary) → sequencers.Ending (GivenEntry next) (GivenTrim next) (GivenSummary next) AnyEpoch AnyShown AnyReleased (given_sound next) c q (HeardOf w.state q) v y → Ends_with c w.state q v y
+  ending : (q : Sequencer) (v : Recovery) (y : Summary) → sequencers.Ending (GivenEntry next) (GivenTrim next) (GivenSummary next) AnyEpoch AnyShown AnyReleased (GivenEntry next) SmallGood (given_sound next) q (HeardOf w.state q) v y → Ends_with w.state q v y
   ending q v y (sequencers.closing_now g) = inl g
-  ending q v y (sequencers.ready_now g p z b h s k u i) = inr (record { storing = g; settles = p; node = z; body = b; heard = h; settling = s; stage = k; ready = u; summary = i })
+  ending q v y (sequencers.ready_now g p z b h s m k u i) = inr (record { storing = g; settles = p; node = z; body = b; heard = h; settling = s; member = m; stage = k; ready = u; summary = i })
 
-  sources : Sources c w.state e (GivenEntry next) (GivenTrim next) (GivenSummary next) AnyEpoch AnyShown AnyReleased
+  sources : Sources c w.state e (GivenEntry next) (GivenTrim next) (GivenSummary next) AnyEpoch AnyShown AnyReleased (GivenEntry next) SmallGood
   sources = record {
     sound = given_sound next;
     before = now;
@@ -102,21 +103,24 @@ module _ (c : Config) (hs : List Happened) (w : World) (e : Event) (B : Base c h
     register = summaries_after c w.state e (GivenSummary next) now.register (λ name q v y l r h k. closes_given name q v y l r h) B.0.0;
     append = append_given;
     trim = λ name q point v b x. trim_given name q point v x;
-    planned = λ name q v d y from upto trim lng es l h f r g k t u D m i j. plan_given next q.log q.epoch v.epoch _ (λ z j x k. (D z j).entries x k) i j;
+    planned = λ name q v d y from upto trim lng es l h f r g k t u D m i j. let low = sequencers.digest_good (GivenEntry next) (GivenTrim next) (GivenSummary next) AnyEpoch AnyShown AnyReleased (GivenEntry next) SmallGood (given_sound next) q.log v.epoch _ D in (plan_given next q.log q.epoch v.epoch _ (λ z o x k. (D z o).entries x k) low i j, plan_epoch next q.log q.epoch v.epoch _ (λ z o x k. (D z o).entries x k) low i j);
     closed = λ name q v y l r d k g. closes_given name q v y l r (ending q v y d);
-    refill = λ n m round from upto es i t v b u x j k. let z : carried.MsgOk (GivenEntry next) (GivenTrim next) (GivenSummary next) AnyEpoch AnyShown AnyReleased m = now.sent m i in
-        let y : carried.EntriesOk (GivenEntry next) (GivenTrim next) (GivenSummary next) AnyEpoch AnyShown AnyReleased m.log es = (subst (carried.BodyOk (GivenEntry next) (GivenTrim next) (GivenSummary next) AnyEpoch AnyShown AnyReleased m.log m.from) b z).0 in
+    refill = λ n m round from upto es i t v b u x j k. let z : carried.MsgOk (GivenEntry next) (GivenTrim next) (GivenSummary next) AnyEpoch AnyShown AnyReleased (GivenEntry next) SmallGood m = now.sent m i in
+        let y : carried.AllKeptOk (GivenEntry next) (GivenTrim next) (GivenSummary next) AnyEpoch AnyShown AnyReleased (GivenEntry next) SmallGood m.log es = (subst (carried.BodyOk (GivenEntry next) (GivenTrim next) (GivenSummary next) AnyEpoch AnyShown AnyReleased (GivenEntry next) SmallGood m.log m.from) b z).0 in
         let o = y x j in record { place = o.place; appended = o.appended };
     shows = λ n l v. record { clean = λ f z k x a h b t i u o. tt; open_still = λ f k x t i u o. tt };
+    good = λ name q f. (let u = (counts_of c hs w B name q f).small in omega arith);
+    own = λ name q f. let u = counts_of c hs w B name q f in own_epoch q u.row u.small;
+    small = λ name q f. (counts_of c hs w B name q f).small;
     released = λ name q p v f. tt;
   }
 
   pub given_step : Given c (hs ++ happened c w.state e ∷ []) (next_world c w e).state
-  given_step = carried_on c w.state e (GivenEntry next) (GivenTrim next) (GivenSummary next) AnyEpoch AnyShown AnyReleased B.0.0 sources
+  given_step = carried_on c w.state e (GivenEntry next) (GivenTrim next) (GivenSummary next) AnyEpoch AnyShown AnyReleased (GivenEntry next) SmallGood B.0.0 sources
 
 start_given : (c : Config) → Given c [] (start c)
 unfolding find
-start_given c = has.start_has _ _ _ _ _ _ (λ y l. tt) c (λ y. nodes.blank_ok (GivenEntry []) (GivenTrim []) (GivenSummary []) AnyEpoch AnyShown AnyReleased (given_sound [])) (λ l e y h. absurd (not_none h))
+start_given c = has.start_has _ _ _ _ _ _ (λ y l. tt) c (λ y. nodes.blank_ok (GivenEntry []) (GivenTrim []) (GivenSummary []) AnyEpoch AnyShown AnyReleased (GivenEntry []) SmallGood (given_sound [])) (λ l e y h. absurd (not_none h))
 
 abbrev pub BaseGiven : Config → List Happened → World → Type 0
 BaseGiven c hs w = Base c hs w × Given c hs w.state

@@ -21,9 +21,9 @@ use Rattle.ld_msg.specs.declared.msg.Msg.{Msg}
 use Rattle.ld_msg.specs.declared.msg.Body.{Body}
 use Rattle.ld_msg.specs.declared.msg.Body.TheVariants as bodies
 use Rattle.ld_msg.specs.Choice.{choice}
-use Rattle.ld_msg.specs.Digest.{Told, no_digest, with_page, plan}
+use Rattle.ld_msg.specs.Digest.{Told, no_digest, with_page, with_asks, plan}
 use Rattle.ld_msg.specs.Reader.{Reader, on_answer, poll_asks, polled}
-use Rattle.ld_msg.specs.Register.{Register, Epochs, Granted, epochs_of, generation_of, epochs_in, lce_of, activate, with_epochs, next_epoch}
+use Rattle.ld_msg.specs.Register.{Register, View, Epochs, Granted, epochs_of, generation_of, epochs_in, lce_of, activate}
 use Rattle.ld_msg.specs.Sequencer.{Sequencer, Append, Recovery, Planned, Acts, Called, called, on_reply, on_retry, to_each, digest_asks, next_ask, recovery_asks, item_stores, append_stores, release_messages, acted_messages, released_of, rose, is_acked, Numbered, activated, planned, raised, next_wave}
 use Rattle.ld_op.specs.declared.op.Op.{Op}
 use Rattle.ld_op.specs.declared.op.Op.TheVariants as ops
@@ -31,7 +31,7 @@ use Rattle.ld_op.specs.Plain.{Plain, Log, log_of, empty_log, apply, with_log, lo
 use Rattle.ld_op.specs.Answers.{Decision, Lost, CleanAlready, Trimmed, Sealed, Same, Take, store_decision, digest_decision, taken, refusal, store_answer, digest_answer, on_store, on_digest_ask, on_clean, clean_op, on_trim, read_answer}
 use Rattle.ld_op.specs.Handles.{handled_by, answer_message, ballot_of}
 use Rattle.ld_op.specs.Ticks.{Ticked, Cleans, Rebuilt, Asks, Nothing, node_asks, on_page, page_op, refill_op, lacking}
-use Rattle.ld_machine.specs.Config.{spec_in, set_of}
+use Rattle.ld_machine.specs.Config.{all_nodes, looks_at}
 use Rattle.ld_machine.specs.Disk.{Node, new_node, keep_op, keep_end, load, Kept, Written, DiskFailed, Crashed, JournalFull}
 use Rattle.ld_machine.specs.State.{State, Done, new_nodes, finish, node_at, with_node, with_register, with_reader, posted}
 use Rattle.ld_machine.specs.Facts.{Happened}
@@ -46,7 +46,7 @@ use Rattle.ld_safety.proofs.NodeSteps.{store_decided, ask_decided, read_answered
 use Rattle.ld_safety.proofs.NodeCases.{NodeKeeps, node_cases}
 use Rattle.ld_safety.proofs.SequencerSteps.{Acting, Retrying, Closing, replied, retried}
 use Rattle.ld_safety.proofs.Registers.{Up, follows}
-use Rattle.ld_safety.proofs.RegisterSteps.{activate_granted, epochs_put, epochs_same}
+use Rattle.ld_safety.proofs.RegisterSteps.{activated_epochs}
 use Rattle.ld_safety.proofs.LostReads.{read_on, poll_are}
 use Rattle.ld_transcript.specs.declared.line.Line.TheVariants as lines
 use Rattle.ld_safety.proofs.Generations.{NoneFalls, generations_step}
@@ -55,8 +55,8 @@ use Rattle.ld_safety.proofs.LostNodes.{kept_from, loaded_from, released_from}
 use Rattle.ld_safety.proofs.LostRounds.{posted_to}
 use Rattle.ld_safety.proofs.GivenSteps.{BaseGiven}
 use Rattle.ld_safety.proofs.Sent.{network_same}
-use Rattle.ld_safety.proofs.Settled.{Reached, TrimFine, CloseFine, ShowFine, ReleaseFine}
-use Rattle.ld_safety.proofs.Said.{Said}
+use Rattle.ld_safety.proofs.Settled.{Reached, TrimFine, CloseFine, ShowFine, ReleaseFine, LngFine}
+use Rattle.ld_safety.proofs.Said.{Said, SaidHere}
 use Rattle.ld_safety.proofs.Along.{Along, BodySaidIn}
 use Rattle.ld_safety.proofs.AlongSteps.{along_kept}
 use Rattle.ld_safety.proofs.Carried as carried
@@ -93,18 +93,18 @@ next_body y [] = no_bodies
 next_body y (t ∷ d) = cond_both (t.node == y) (if t.whole then [] else (y, bodies.DigestAsk t.asked) ∷ []) (next_ask y d) AllOfSequencer
     (λ z. cond_both t.whole [] ((y, bodies.DigestAsk t.asked) ∷ []) AllOfSequencer (λ u. no_bodies) (λ u b i. subst (λ (x : ℕ × Body). OfSequencer x.1) (sym (only b _ i)) tt)) (λ z. next_body y d)
 
-recovery_body : (s : Spec) (q : Sequencer) (lce : ℕ) → AllOfSequencer (recovery_asks s q lce)
-recovery_body s q lce = cond_both (nat_lt (lce + 1) q.epoch) (digest_asks (no_digest s (lce + 1))) [] AllOfSequencer (λ t. asks_body (no_digest s (lce + 1))) (λ t. no_bodies)
+recovery_body : (looks : ℕ → View) (q : Sequencer) (lce : ℕ) → AllOfSequencer (recovery_asks looks q lce)
+recovery_body looks q lce = let d = no_digest (looks (lce + 1)).spec (lce + 1) in cond_both (nat_lt (lce + 1) q.epoch) (digest_asks d) [] AllOfSequencer (λ t. asks_body d) (λ t. no_bodies)
 
-items_body : (s : Spec) (lost : List ℕ) (wave : ℕ) (is : List (ℕ × Planned)) → AllOfSequencer (item_stores s lost wave is)
-items_body s lost wave [] = no_bodies
-items_body s lost wave (i ∷ is) = both_bodies (if nat_lt (length i.1.settled) s.r then to_each (bodies.Store i.0 0 i.1.what) (choice s lost i.0 wave) else []) (item_stores s lost wave is)
-    (cond_both (nat_lt (length i.1.settled) s.r) (to_each (bodies.Store i.0 0 i.1.what) (choice s lost i.0 wave)) [] AllOfSequencer (λ t. each_body _ (choice s lost i.0 wave) tt) (λ t. no_bodies)) (items_body s lost wave is)
+items_body : (s : Spec) (lost : List ℕ) (lng wave : ℕ) (is : List (ℕ × Planned)) → AllOfSequencer (item_stores s lost lng wave is)
+items_body s lost lng wave [] = no_bodies
+items_body s lost lng wave (i ∷ is) = both_bodies (if nat_lt (length i.1.settled) s.r then to_each (bodies.Store i.0 lng i.1.what) (choice s lost i.0 wave) else []) (item_stores s lost lng wave is)
+    (cond_both (nat_lt (length i.1.settled) s.r) (to_each (bodies.Store i.0 lng i.1.what) (choice s lost i.0 wave)) [] AllOfSequencer (λ t. each_body _ (choice s lost i.0 wave) tt) (λ t. no_bodies)) (items_body s lost lng wave is)
 
-appends_body : (s : Spec) (lost : List ℕ) (ps : List (ℕ × Append)) → AllOfSequencer (append_stores s lost ps)
-appends_body s lost [] = no_bodies
-appends_body s lost (p ∷ ps) = both_bodies (if is_acked s p.1 then [] else to_each (bodies.Store p.0 0 (Rec p.1.payload)) (without p.1.stored (choice s lost p.0 p.1.wave))) (append_stores s lost ps)
-    (cond_both (is_acked s p.1) [] (to_each (bodies.Store p.0 0 (Rec p.1.payload)) (without p.1.stored (choice s lost p.0 p.1.wave))) AllOfSequencer (λ t. no_bodies) (λ t. each_body _ (without p.1.stored (choice s lost p.0 p.1.wave)) tt)) (appends_body s lost ps)
+appends_body : (s : Spec) (lost : List ℕ) (lng : ℕ) (ps : List (ℕ × Append)) → AllOfSequencer (append_stores s lost lng ps)
+appends_body s lost lng [] = no_bodies
+appends_body s lost lng (p ∷ ps) = both_bodies (if is_acked s p.1 then [] else to_each (bodies.Store p.0 lng (Rec p.1.payload)) (without p.1.stored (choice s lost p.0 p.1.wave))) (append_stores s lost lng ps)
+    (cond_both (is_acked s p.1) [] (to_each (bodies.Store p.0 lng (Rec p.1.payload)) (without p.1.stored (choice s lost p.0 p.1.wave))) AllOfSequencer (λ t. no_bodies) (λ t. each_body _ (without p.1.stored (choice s lost p.0 p.1.wave)) tt)) (appends_body s lost lng ps)
 
 record ActsSay (k : Called) : Type 0 where
   cleans : AllOfSequencer k.acts.cleans
@@ -112,15 +112,15 @@ record ActsSay (k : Called) : Type 0 where
   stores : AllOfSequencer k.acts.stores
 
 -- what a call sends
-said_by_acts : (p : Spec) (q : Sequencer) (k : Called) → ActsSay k → AllOfSequencer (acted_messages p q k.acts)
-said_by_acts p q k A = both_bodies k.acts.cleans _ A.cleans (both_bodies (release_messages p q k.acts.sequencer) _
+said_by_acts : (q : Sequencer) (k : Called) → ActsSay k → AllOfSequencer (acted_messages q k.acts)
+said_by_acts q k A = both_bodies k.acts.cleans _ A.cleans (both_bodies (release_messages q k.acts.sequencer) _
     (cond_both (rose q k.acts.sequencer) (to_each (bodies.Release (released_of k.acts.sequencer)) _) [] AllOfSequencer (λ t. each_body _ _ tt) (λ t. no_bodies)) (both_bodies k.acts.asks k.acts.stores A.asks A.stores))
 
-close_says : (r : Register) (p : Spec) (a : Acts) (e : ℕ) (y : Summary) → 0 < e → AllOfSequencer a.cleans → AllOfSequencer a.asks → AllOfSequencer a.stores → Closing r p a e y ActsSay
-close_says r p a e y pos cl ask st = record {
-  granted = λ n h g. record { cleans = each_body (bodies.Clean e y) _ pos; asks = recovery_body p a.sequencer e; stores = st };
+close_says : (r : Register) (looks : ℕ → View) (a : Acts) (e : ℕ) (y : Summary) → 0 < e → AllOfSequencer a.cleans → AllOfSequencer a.asks → AllOfSequencer a.stores → Closing r looks a e y ActsSay
+close_says r looks a e y pos cl ask st = record {
+  granted = λ n h g. record { cleans = each_body (bodies.Clean e y) _ pos; asks = recovery_body looks a.sequencer e; stores = st };
   overtaken = λ h. record { cleans = cl; asks = ask; stores = st };
-  behind = λ b h. record { cleans = cl; asks = recovery_body p a.sequencer (lce_of r a.sequencer.log); stores = st };
+  behind = λ b h. record { cleans = cl; asks = recovery_body looks a.sequencer (lce_of r a.sequencer.log); stores = st };
   failed = λ n g. record { cleans = cl; asks = ask; stores = st };
 }
 
@@ -133,23 +133,23 @@ module _ (c : Config) (r : Register) (q : Sequencer) (P : (v : Recovery) → q.r
     quiet = quiet_says r _ refl refl refl;
     sealed = λ n k f i l. quiet_says r _ refl refl refl;
     cleaned_own = λ n s f i g. quiet_says r _ refl refl refl;
-    acks = λ n p f i g k. quiet_says r _ refl refl refl;
-    settles_some = λ v g p f e i s u. quiet_says r _ refl refl refl;
-    settles_all = λ v g p f e i z u. close_says r _ _ v.epoch _ (P v e) no_bodies no_bodies no_bodies;
+    acks = λ n p f i g k m. quiet_says r _ refl refl refl;
+    settles_some = λ v g p f e i s m u. quiet_says r _ refl refl refl;
+    settles_all = λ v g p f e i z m u. close_says r _ _ v.epoch _ (P v e) no_bodies no_bodies no_bodies;
     lost_own = λ n round g end f i k. quiet_says r _ refl refl refl;
     lost_there = λ v n round g end f e i k. quiet_says r _ refl refl refl;
-    cleaned = λ v n s f e i k. record { cleans = each_body (bodies.Clean v.epoch s) _ (P v e); asks = recovery_body (spec_in q.log c.logs) q v.epoch; stores = no_bodies };
+    cleaned = λ v n s f e i k. record { cleans = each_body (bodies.Clean v.epoch s) _ (P v e); asks = recovery_body (looks_at c r q.log) q v.epoch; stores = no_bodies };
     asks_more = λ v d from upto trim lng es f e i g k t u. record { cleans = no_bodies; asks = next_body y _; stores = no_bodies };
-    plans = λ v d from upto trim lng es f e i g k t u. record { cleans = no_bodies; asks = no_bodies; stores = items_body (spec_in q.log c.logs) v.lost 0 (planned (plan v.epoch (with_page v.epoch y from upto trim es d)).items) };
+    plans = λ v d from upto trim lng es f e i g k t u. record { cleans = no_bodies; asks = no_bodies; stores = items_body v.spec v.lost _ 0 (planned (plan v.epoch (with_page v.epoch y from upto trim lng es d)).items) };
   }
 
   retrying_says : Retrying c r q ActsSay
   retrying_says = record {
     quiet = quiet_says r _ refl refl refl;
-    appends = λ f. record { cleans = no_bodies; asks = no_bodies; stores = appends_body (spec_in q.log c.logs) q.lost (raised (spec_in q.log c.logs) q.appends) };
-    seals = λ v d f e i. record { cleans = no_bodies; asks = asks_body d; stores = appends_body (spec_in q.log c.logs) q.lost (raised (spec_in q.log c.logs) q.appends) };
-    stores = λ v g f e i. record { cleans = no_bodies; asks = no_bodies; stores = both_bodies (item_stores (spec_in q.log c.logs) v.lost (next_wave g.wave) g.items) (append_stores (spec_in q.log c.logs) q.lost (raised (spec_in q.log c.logs) q.appends)) (items_body (spec_in q.log c.logs) v.lost (next_wave g.wave) g.items) (appends_body (spec_in q.log c.logs) q.lost (raised (spec_in q.log c.logs) q.appends)) };
-    closes = λ v y f e i. close_says r _ _ v.epoch y (P v e) no_bodies no_bodies (appends_body (spec_in q.log c.logs) q.lost (raised (spec_in q.log c.logs) q.appends));
+    appends = λ f. record { cleans = no_bodies; asks = no_bodies; stores = appends_body q.spec q.lost q.lng (raised q.spec q.appends) };
+    seals = λ v d f e i. record { cleans = no_bodies; asks = asks_body (with_asks v.epoch d); stores = appends_body q.spec q.lost q.lng (raised q.spec q.appends) };
+    stores = λ v g f e i. record { cleans = no_bodies; asks = no_bodies; stores = both_bodies (item_stores v.spec v.lost g.lng (next_wave g.wave) g.items) (append_stores q.spec q.lost q.lng (raised q.spec q.appends)) (items_body v.spec v.lost g.lng (next_wave g.wave) g.items) (appends_body q.spec q.lost q.lng (raised q.spec q.appends)) };
+    closes = λ v y f e i. close_says r _ _ v.epoch y (P v e) no_bodies no_bodies (appends_body q.spec q.lost q.lng (raised q.spec q.appends));
   }
 
 -- ---- what a message says ----
@@ -439,34 +439,31 @@ module _ (c : Config) (s : State) (e : Event) (M : AllMessages s.register s.netw
   unfolding Result
   ticked n l (Cleans k y) u v m i = absurd (no_sends (keep_end (node_at s n) (ops.Clean l k y)) m i)
   ticked n l Rebuilt u v m i = absurd (no_sends (keep_end (node_at s n) (ops.Refilled l)) m i)
-  ticked n l (Asks from) u v m i = ask_says s.register m (whos.Node n) l (node_asks n (set_of c l) from) (λ b q. cc) (each_ask 0 from (without (n ∷ []) (set_of c l))) i
+  ticked n l (Asks from) u v m i = ask_says s.register m (whos.Node n) l (node_asks n (all_nodes c) from) (λ b q. cc) (each_ask 0 from (without (n ∷ []) (all_nodes c))) i
   ticked n l Nothing u v m i = absurd i
 
-  acted : (f : List ℕ) (name : List ℕ) (q : Sequencer) (a : Acts) → find_named name s.sequencers ≡ Some q → ActsSay (called (spec_in q.log c.logs) s.register a a.tries) → Result (Step.acted c (refreshed s f) name q a)
+  acted : (f : List ℕ) (name : List ℕ) (q : Sequencer) (a : Acts) → find_named name s.sequencers ≡ Some q → ActsSay (called (looks_at c s.register q.log) s.register a a.tries) → Result (Step.acted c (refreshed s f) name q a)
   unfolding Result
-  acted f name q a g h u n m i = posted_says _ q.log q.epoch (acted_messages (spec_in q.log c.logs) q (called (spec_in q.log c.logs) s.register a a.tries).acts) (let o = own name q g in (o.0, let z = (u q.log).0 in let y = o.1 in omega arith)) (said_by_acts (spec_in q.log c.logs) q _ h) m i
+  acted f name q a g h u n m i = posted_says _ q.log q.epoch (acted_messages q (called (looks_at c s.register q.log) s.register a a.tries).acts) (let o = own name q g in (o.0, let z = (u q.log).0 in let y = o.1 in omega arith)) (said_by_acts q _ h) m i
 
   from_own : (d : Done) (name : List ℕ) (q : Sequencer) (x : Body) (ys : List ℕ) → find_named name s.sequencers ≡ Some q → OfSequencer x → d.sends ≡ posted (whos.Sequencer q.epoch) q.log (to_each x ys) → Result d
   unfolding Result
   from_own d name q x ys g o w u n m i = posted_says d.state.register q.log q.epoch (to_each x ys) (let k = own name q g in (k.0, let z = (u q.log).0 in let y = k.1 in omega arith)) (each_body x ys o) m (subst (λ (z : List Msg). In m z) w i)
 
-  new_epoch : (l : ℕ) (k : Register) → activate s.register l ≡ record { register = k; answer = Granted } → (epochs_of k l).epoch ≡ (epochs_of s.register l).epoch + 1
-  new_epoch l k i = let z = epochs_same (with_epochs s.register l (next_epoch (epochs_of s.register l))) k l (activate_granted s.register l k i) in elim (epochs_put s.register l l (next_epoch (epochs_of s.register l))) [
-    | inl y ↦ ap (λ (x : Epochs). x.epoch) (z ∙ y.1)
-    | inr y ↦ absurd (y.0 refl)
-  ]
+  new_epoch : (l : ℕ) (k : Register) → activate s.register l (Step.spec_set c s l) ≡ record { register = k; answer = Granted } → (epochs_of k l).epoch ≡ (epochs_of s.register l).epoch + 1
+  new_epoch l k i = ap (λ (x : Epochs). x.epoch) (activated_epochs s.register l (Step.spec_set c s l) k i)
 
-  activated_says : (name : List ℕ) (l : ℕ) (k : Register) → activate s.register l ≡ record { register = k; answer = Granted } → Result (Step.activated_as c s name l k (epochs_of k l).epoch (lce_of k l))
+  activated_says : (name : List ℕ) (l : ℕ) (k : Register) → activate s.register l (Step.spec_set c s l) ≡ record { register = k; answer = Granted } → Result (Step.activated_as c s name l k (epochs_of k l).epoch (lce_of k l))
   unfolding Result
-  activated_says name l k i u n m j = posted_says k l (epochs_of k l).epoch (recovery_asks (spec_in l c.logs) (activated (spec_in l c.logs) l (epochs_of k l).epoch (lce_of k l)) (lce_of k l)) (let z = new_epoch l k i in (omega arith, omega arith)) (recovery_body (spec_in l c.logs) (activated (spec_in l c.logs) l (epochs_of k l).epoch (lce_of k l)) (lce_of k l)) m j
+  activated_says name l k i u n m j = posted_says k l (epochs_of k l).epoch (recovery_asks (looks_at c k l) (activated (looks_at c k l) (Step.spec_set c s l) l (epochs_of k l).epoch (lce_of k l)) (lce_of k l)) (let z = new_epoch l k i in (omega arith, omega arith)) (recovery_body (looks_at c k l) (activated (looks_at c k l) (Step.spec_set c s l) l (epochs_of k l).epoch (lce_of k l)) (lce_of k l)) m j
 
-  reads_say : (f : List ℕ) (name : List ℕ) (d : Reader) (y : ℕ) (b : Body) → Reading s name d → Result (Step.read (refreshed s f) name (on_answer (Step.set_read c d) d y b))
+  reads_say : (f : List ℕ) (name : List ℕ) (d : Reader) (y : ℕ) (b : Body) → Reading s name d → Result (Step.read (refreshed s f) name (on_answer (looks_at c s.register d.log) d y b))
   unfolding Result
-  reads_say f name d y b v u n m i = let a = on_answer (Step.set_read c d) d y b in ask_says s.register m (whos.Reader a.reader.number) a.reader.log a.asks (λ k q. cc) (λ x j. let z = ((read_on (Step.set_read c d) d y b v.open_still).asks x j).0 in (a.reader.round, z.from, z.is)) i
+  reads_say f name d y b v u n m i = let a = on_answer (looks_at c s.register d.log) d y b in ask_says s.register m (whos.Reader a.reader.number) a.reader.log a.asks (λ k q. cc) (λ x j. let z = ((read_on (looks_at c s.register d.log) d y b v.open_still).asks x j).0 in (a.reader.round, z.from, z.is)) i
 
-  polls_say : (name : List ℕ) (d : Reader) → Result (record { state = with_reader s name (polled d); lines = []; sends = posted (whos.Reader d.number) d.log (poll_asks (Step.set_read c d) d) })
+  polls_say : (name : List ℕ) (d : Reader) → Result (record { state = with_reader s name (polled (looks_at c s.register d.log) d); lines = []; sends = posted (whos.Reader d.number) d.log (poll_asks (looks_at c s.register d.log) d) })
   unfolding Result
-  polls_say name d u n m i = ask_says s.register m (whos.Reader d.number) d.log (poll_asks (Step.set_read c d) d) (λ k q. cc) (λ x j. let z = poll_are (Step.set_read c d) d x j in ((polled d).round, d.next, z.0)) i
+  polls_say name d u n m i = ask_says s.register m (whos.Reader d.number) d.log (poll_asks (looks_at c s.register d.log) d) (λ k q. cc) (λ x j. let z = poll_are (looks_at c s.register d.log) d x j in ((polled (looks_at c s.register d.log) d).round, d.next, z.0)) i
 
   formatted : (n : ℕ) (r : Register) → Result (Step.keeps_op (with_register (loaded s n) r) n (ops.Format (generation_of r n) (epochs_in r.logs)) (Step.format_lines c n r) [])
   unfolding Result
@@ -484,14 +481,15 @@ module _ (c : Config) (s : State) (e : Event) (M : AllMessages s.register s.netw
     stops = λ n b. nothing _ refl;
     wipes = λ n. nothing _ refl;
     faults = λ n f o. nothing _ refl;
+    sets = λ l r x set h. nothing _ refl;
     arms = λ k done o. nothing _ refl;
-    hears = λ f name q m i t l v o. acted f name q (on_reply (spec_in q.log c.logs) q (Step.sender_node m.from) m.body) v.named (replied c s.register name q v.there (Step.sender_node m.from) m.body (λ k n. ActsSay k) (acting_says c s.register q (recovers name q v.named) (Step.sender_node m.from) m.body));
-    retries = λ name q v o. acted s.network.fresh name q (on_retry (spec_in q.log c.logs) q) v.named (retried c s.register q ActsSay (retrying_says c s.register q (recovers name q v.named)));
-    appends = λ name q p v a i. from_own (Step.append_done c s name q p Numbered) name q _ _ v.named tt refl;
-    trims = λ name q t v b. from_own (record { state = s; lines = lines.Trimmed name t ∷ []; sends = posted (whos.Sequencer q.epoch) q.log (to_each (bodies.Trim t) (set_of c q.log)) }) name q _ _ v.named tt refl;
+    hears = λ f name q m i t l v o. acted f name q (on_reply (looks_at c s.register q.log) q (Step.sender_node m.from) m.body) v.named (replied c s.register name q v.there (Step.sender_node m.from) m.body (λ k n. ActsSay k) (acting_says c s.register q (recovers name q v.named) (Step.sender_node m.from) m.body));
+    retries = λ name q v o. acted s.network.fresh name q (on_retry q) v.named (retried c s.register q ActsSay (retrying_says c s.register q (recovers name q v.named)));
+    appends = λ name q p v a i. from_own (Step.append_done s name q p Numbered) name q _ _ v.named tt refl;
+    trims = λ name q t v b. from_own (record { state = s; lines = lines.Trimmed name t ∷ []; sends = posted (whos.Sequencer q.epoch) q.log (to_each (bodies.Trim t) (all_nodes c)) }) name q _ _ v.named tt refl;
     drops = λ name q v o. nothing _ refl;
     activates = λ name l r g n i x. activated_says name l r i;
-    activate_fails = λ name l x q. nothing _ refl;
+    activate_fails = λ name l x g q. nothing _ refl;
     answers = λ f name d m i t v o. reads_say f name d (Step.sender_node m.from) m.body v;
     polls = λ name d v o. polls_say name d;
     opens = λ name l from until o x. nothing _ refl;
@@ -506,7 +504,7 @@ pub record HandedOut (w : World) : Type 0 where
 from_one : (c : Config) (hs : List Happened) (w : World) → Along c hs w → (m : Msg) → Sent w m → FromOne m.body
 from_one c hs w R m i = by_body m.body (R.said.sent m i) where
   by_body : (b : Body) → BodySaidIn c hs w m.log m.from b → FromOne b
-  by_body (bodies.Store n lng x) h = h.reached.0
+  by_body (bodies.Store n lng x) h = h.0.reached.0
   by_body (bodies.DigestAsk n) h = h.1.0
   by_body _ h = tt
 
@@ -524,7 +522,7 @@ handed_step c hs w e B H = record {
   d = Step.happens c w.state e
 
   up : Up w.state.register (Step.happens c w.state e).state.register
-  up = (follows c w.state e B.0.0.0.0 B.1.closed).0
+  up = (follows c w.state e B.0.0.0.0 B.0.0.1.0).0
 
   falls : NoneFalls w.state.register (Step.happens c w.state e).state.register
   falls = generations_step c w e B.0.0.0.0
@@ -533,7 +531,7 @@ handed_step c hs w e B H = record {
   own name q f = (B.0.0.0.1.epochs.positive name q f, B.0.0.0.1.epochs.drawn name q f)
 
   recovers : (name : List ℕ) (q : Sequencer) → find_named name w.state.sequencers ≡ Some q → (v : Recovery) → q.recovery ≡ Some v → 0 < v.epoch
-  recovers name q f v r = (subst (carried.RecoveryOk (Said hs w.made w.state.register) (TrimFine c hs w.state.network.sent w.state.register) (CloseFine c hs w.made w.state.network.sent w.state.register) (Reached w.state.register) (ShowFine c hs w.made w.state.network.sent w.state.register) (ReleaseFine c hs w.state.network.sent w.state.register) q.log q.epoch) r (B.1.said.sequencers name q f).recovery).0.0
+  recovers name q f v r = (subst (carried.RecoveryOk (Said hs w.made w.state.register) (TrimFine c hs w.state.network.sent w.state.register) (CloseFine c hs w.made w.state.network.sent w.state.register) (Reached w.state.register) (ShowFine c hs w.made w.state.network.sent w.state.register) (ReleaseFine c hs w.state.network.sent w.state.register) (SaidHere hs w.made w.state.register) (LngFine c hs w.state.network.sent w.state.register) q.log q.epoch) r (B.1.said.sequencers name q f).recovery).0.0
 
 starts_sealed : (r : Register) (ns : List ℕ) (y : ℕ) → SealDrawn r (unwrap_or (find y (new_nodes ns)) new_node)
 unfolding find

@@ -1,10 +1,11 @@
 -- Generations, ballots and seals were handed out, and summaries are the register's, in every state.
-use Rattle.std.proofs.Common.{◌≡◌, ◌∙◌, ◌≤◌, ◌<◌, ℕ, inl, inr, refl, ap, sym, subst, Bool, true, false, ◌-◌, ◌&&◌, ◌==◌, nat_lt, if◌then◌else◌, List, [], arith}
+use Rattle.std.proofs.Common.{◌≡◌, ◌∙◌, ◌≤◌, ◌<◌, ℕ, inl, inr, refl, ap, sym, subst, Bool, true, false, ◌-◌, ◌&&◌, ◌==◌, nat_lt, if◌then◌else◌, List, [], Some, arith}
 use Rattle.std.proofs.lemmas.Bool.{eqb-true}
 use Rattle.ld_table.specs.Table.{find}
 use Rattle.ld_lsn.specs.Number.{epoch_of, esn_of, home_epoch}
 use Rattle.ld_config.specs.declared.config.Config.{Config}
 use Rattle.ld_schedule.specs.declared.event.Event.{Event}
+use Rattle.ld_msg.specs.declared.msg.What.{What}
 use Rattle.ld_msg.specs.declared.msg.Entry.{Entry}
 use Rattle.ld_msg.specs.declared.msg.Summary.{Summary}
 use Rattle.ld_msg.specs.declared.msg.Who.TheVariants as whos
@@ -12,7 +13,7 @@ use Rattle.ld_msg.specs.declared.msg.Msg.{Msg}
 use Rattle.ld_msg.specs.declared.msg.Body.{Body}
 use Rattle.ld_msg.specs.declared.msg.Body.TheVariants as bodies
 use Rattle.ld_msg.specs.Bounds.{ballot_of}
-use Rattle.ld_msg.specs.Register.{generation_of}
+use Rattle.ld_msg.specs.Register.{generation_of, epochs_of}
 use Rattle.ld_op.specs.Plain.{log_of}
 use Rattle.ld_machine.specs.State.{finish}
 use Rattle.ld_machine.specs.Facts.{Happened}
@@ -26,7 +27,7 @@ use Rattle.ld_safety.proofs.Closings.{OfSummaries, summaries_after}
 use Rattle.ld_safety.proofs.Base.{Base, base_kept}
 use Rattle.ld_safety.proofs.GivenSteps.{BaseGiven}
 use Rattle.ld_safety.proofs.Settled.{CloseFine, ClosedBy}
-use Rattle.ld_safety.proofs.Said.{Said}
+use Rattle.ld_safety.proofs.Said.{Said, SaidHere}
 use Rattle.ld_safety.proofs.Along.{Along, BodySaidIn}
 use Rattle.ld_safety.proofs.Formats.{FormatsOnce, formats_kept}
 use Rattle.ld_safety.proofs.Handed.{HandedOut, handed_kept}
@@ -56,15 +57,25 @@ module _ (c : Config) (hs : List Happened) (w : World) (B : BaseGiven c hs w × 
   }
 
   -- ---- ballots ----
-  pub entry_drawn : (l : ℕ) (e : Entry) → Said hs w.made w.state.register l e.ballot e.number e.what → EntryDrawn w l e
+  closing : (l e : ℕ) (s : Summary) → ClosedBy c hs w.made w.state.network.sent w.state.register l e s → (0 < e) × (e < s.ballot) × Epoch w l s.ballot
+  closing l e s k = let t = (B.1.plans l e s.ballot k.plan.digest k.plan.planned).later in let b = B.1.below l e s.ballot k.plan.digest k.plan.planned in let p = k.positive in (p, t, (omega arith, b))
+
+  closed_so : (l e : ℕ) (y : Summary) → 0 < e → find e (epochs_of w.state.register l).summaries ≡ Some y → ClosedBy c hs w.made w.state.network.sent w.state.register l e y
+  closed_so l e y p f = elim (B.1.said.register l e y f).1 [ inl a ↦ absurd (let z = a.0 in omega arith) | inr a ↦ a ]
+
+  pub entry_drawn : (l : ℕ) (e : Entry) → SaidHere hs w.made w.state.register l e.ballot e.number e.what → EntryDrawn w l e
   entry_drawn l e s = elim s.says [
-    | inl o ↦ (let q = o.own in let a = s.reached.0 in let b = s.reached.1 in record { epoch = omega arith; below = omega arith; ballot = (omega arith, omega arith) })
-    | inr o ↦ (let q = o.later in let a = s.reached.0 in let b = B.1.below l (epoch_of e.number) e.ballot o.digest o.planned in record { epoch = omega arith; below = omega arith; ballot = (omega arith, omega arith) })
+    | inr o ↦ (let k = o.ballot in let a = s.reached.0 in let z = closing l (epoch_of e.number) o.summary (closed_so l (epoch_of e.number) o.summary s.reached.0 o.found_so) in let p = z.1 in let u = z.2.0 in let v = z.2.1 in record { epoch = omega arith; below = omega arith; ballot = (omega arith, omega arith) })
+    | inl (inl o) ↦ (let q = o.own in let a = s.reached.0 in let b = s.reached.1 in record { epoch = omega arith; below = omega arith; ballot = (omega arith, omega arith) })
+    | inl (inr o) ↦ (let q = o.later in let a = s.reached.0 in let b = B.1.below l (epoch_of e.number) e.ballot o.digest o.planned in record { epoch = omega arith; below = omega arith; ballot = (omega arith, omega arith) })
   ]
 
-  pub said_in : (m : Msg) (e : Entry) (b : Body) → BodySaidIn c hs w m.log m.from b → In e (entries_of m.from b) → Said hs w.made w.state.register m.log e.ballot e.number e.what
-  said_in m e (bodies.Store n lng x) h j = subst (λ (z : Entry). Said hs w.made w.state.register m.log z.ballot z.number z.what) (sym (only e (record { number = n; ballot = ballot_of m.from; what = x }) j)) h
-  said_in m e (bodies.DigestPage n upto t lng es) h j = h.0.entries e j
+  said_here : (l b n : ℕ) (x : What) → Said hs w.made w.state.register l b n x → SaidHere hs w.made w.state.register l b n x
+  said_here l b n x s = record { given = s.given; reached = s.reached; says = inl s.says }
+
+  pub said_in : (m : Msg) (e : Entry) (b : Body) → BodySaidIn c hs w m.log m.from b → In e (entries_of m.from b) → SaidHere hs w.made w.state.register m.log e.ballot e.number e.what
+  said_in m e (bodies.Store n lng x) h j = subst (λ (z : Entry). SaidHere hs w.made w.state.register m.log z.ballot z.number z.what) (sym (only e (record { number = n; ballot = ballot_of m.from; what = x }) j)) (said_here m.log (ballot_of m.from) n x h.0)
+  said_in m e (bodies.DigestPage n upto t lng es) h j = said_here m.log e.ballot e.number e.what (h.0.entries e j)
   said_in m e (bodies.ReadPage round n upto clean es) h j = h.0 e j
   said_in m e _ h j = absurd j
 
@@ -94,15 +105,12 @@ module _ (c : Config) (hs : List Happened) (w : World) (B : BaseGiven c hs w × 
   answered : (l n : ℕ) (s : Summary) → 0 < epoch_of n → (0 < esn_of n) × CloseFine c hs w.made w.state.network.sent w.state.register l (epoch_of n) s → Closed w l (home_epoch n) s
   answered l n s p h = subst (λ e. Closed w l e s) (sym (home_is n h.0)) (closed_here l (epoch_of n) s p h.1)
 
-  closing : (l e : ℕ) (s : Summary) → ClosedBy c hs w.made w.state.network.sent w.state.register l e s → (0 < e) × (e < s.ballot) × Epoch w l s.ballot
-  closing l e s k = let t = (B.1.plans l e s.ballot k.plan.digest k.plan.planned).later in let b = B.1.below l e s.ballot k.plan.digest k.plan.planned in let p = k.positive in (p, t, (omega arith, b))
-
   pub summaries_here : AllFull w → ((l e : ℕ) (s : Summary) → Closed w l e s → 0 < e) → SummariesAgree w
   summaries_here F P = record {
     at_nodes = λ y p m l e s f. closed_here l e s ((F y p m l).positive (e, s) (find_in e (log_of p l).summaries s f)) ((said_at c hs w B y p m l).summaries (e, s) (find_in e (log_of p l).summaries s f));
     in_cleans = λ l b y e s i. closed_here l e s ((H.messages _ i).clean e s refl) (B.1.said.sent _ i);
     in_answers = λ l y b n s i. answered l n s ((H.messages _ i).answer n s refl) (B.1.said.sent _ i);
-    ballots = λ l e s f. elim (B.1.said.register l e s f).1 [ inl a ↦ absurd (let z = a.0 in let y = P l e s f in omega arith) | inr a ↦ closing l e s a ];
+    ballots = λ l e s f. closing l e s (closed_so l e s (P l e s f) f);
   }
 
 -- ---- along a run ----

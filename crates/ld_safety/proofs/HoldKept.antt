@@ -23,7 +23,7 @@ use Rattle.ld_op.specs.Ticks.{Rebuilt, Nothing, on_tick, tick_with, refill_tick,
 use Rattle.ld_msg.specs.Register.{Register, Granted, epochs_of, draw}
 use Rattle.ld_machine.specs.Disk.{Node, Cut, Fate, Made, FailsAt, CrashesAt, fate, keep_op, kept_by, is_full_for, load, loaded_by, found, is_found, seen_too, Failed}
 use Rattle.ld_machine.specs.State.{State, node_at}
-use Rattle.ld_machine.specs.World.{World, In, from_node, made_on}
+use Rattle.ld_machine.specs.World.{In}
 use Rattle.ld_machine.specs.World as worlds
 use Rattle.ld_machine.specs.Step as Step
 use Rattle.ld_table.proofs.Laws.{tied}
@@ -31,8 +31,8 @@ use Rattle.ld_safety.proofs.Lists.{Some_inj, not_both, cond_both, In-map, In_rig
 use Rattle.ld_safety.proofs.Members.{In_filter}
 use Rattle.ld_safety.proofs.NodeSteps.{missing_clean, store_decided, ask_decided}
 use Rattle.ld_safety.proofs.Protocol.{Ends}
-use Rattle.ld_safety.proofs.Said.{Reached, Said}
-use Rattle.ld_safety.proofs.Settled.{TrimFine, CloseFine, ShowFine, ReleaseFine}
+use Rattle.ld_safety.proofs.Said.{Reached, Said, SaidHere}
+use Rattle.ld_safety.proofs.Settled.{TrimFine, CloseFine, ShowFine, ReleaseFine, LngFine}
 use Rattle.ld_machine.specs.Facts.{Happened}
 use Rattle.ld_safety.proofs.CarriedSteps.{Carries}
 use Rattle.ld_safety.proofs.Holdings.{KeptBy, Holding, Known, OpFine, op_holds, blank_holds}
@@ -141,7 +141,7 @@ clean_found g e y f = cond_both (e == 0) (Some epoch_zero) (find e g.summaries) 
 -- ---- every event ----
 
 -- the state before, told in the words of after
-module _ (c : Config) (s : State) (e : Event) (hs : List Happened) (made : List worlds.Made) (r : Register) (S : Carries c s e (Said hs made r) (TrimFine c hs s.network.sent r) (CloseFine c hs made s.network.sent r) (Reached r) (ShowFine c hs made s.network.sent r) (ReleaseFine c hs s.network.sent r) s)
+module _ (c : Config) (s : State) (e : Event) (hs : List Happened) (made : List worlds.Made) (r : Register) (S : Carries c s e (Said hs made r) (TrimFine c hs s.network.sent r) (CloseFine c hs made s.network.sent r) (Reached r) (ShowFine c hs made s.network.sent r) (ReleaseFine c hs s.network.sent r) (SaidHere hs made r) (LngFine c hs s.network.sent r) s)
     (H : (y : ℕ) → NodeHolds made s.network.sent y (node_at s y)) where
   known : Known made s.network.sent r
   known = record { stored = λ l y n b i. S.sent _ i; pages = λ l y b from upto t lng es i. (S.sent _ i).0.reached }
@@ -199,9 +199,9 @@ module _ (c : Config) (s : State) (e : Event) (hs : List Happened) (made : List 
   unfolding on_page
   keep_fine n l b o q = if_fine (node_at s n).plain (log_of (node_at s n).plain l).lost (page_op (log_of (node_at s n).plain l) l b) o (page_fine n l b o) q
 
-  message_fine : (n generation l released : ℕ) (from : Who) (b : Body) (o : Op) → carried.BodyOk (Said hs made r) (TrimFine c hs s.network.sent r) (CloseFine c hs made s.network.sent r) (Reached r) (ShowFine c hs made s.network.sent r) (ReleaseFine c hs s.network.sent r) l from b → (handled_by generation (log_of (node_at s n).plain l) l (ballot_of from) released b).op ≡ Some o → Fine (node_at s n).plain o
+  message_fine : (n generation l released : ℕ) (from : Who) (b : Body) (o : Op) → carried.BodyOk (Said hs made r) (TrimFine c hs s.network.sent r) (CloseFine c hs made s.network.sent r) (Reached r) (ShowFine c hs made s.network.sent r) (ReleaseFine c hs s.network.sent r) (SaidHere hs made r) (LngFine c hs s.network.sent r) l from b → (handled_by generation (log_of (node_at s n).plain l) l (ballot_of from) released b).op ≡ Some o → Fine (node_at s n).plain o
   unfolding on_store on_digest_ask on_clean on_trim Fine
-  message_fine n generation l released from (bodies.Store k lng x) o h q = store_fine (node_at s n).plain l lng (record { number = k; ballot = ballot_of from; what = x }) o h q
+  message_fine n generation l released from (bodies.Store k lng x) o h q = store_fine (node_at s n).plain l lng (record { number = k; ballot = ballot_of from; what = x }) o h.0 q
   message_fine n generation l released from (bodies.DigestAsk k) o h q = ask_fine (node_at s n).plain l (ballot_of from) k o q
   message_fine n generation l released from (bodies.Clean k y) o h q = clean_fine (node_at s n).plain l k y _ o q
   message_fine n generation l released from (bodies.Trim t) o h q = if_fine (node_at s n).plain (nat_lt (log_of (node_at s n).plain l).trim t) (Some (ops.Trim l t)) o (λ z. subst (OpFine made s.network.sent (node_at s n).plain) (Some_inj z) tt) q

@@ -19,7 +19,6 @@ use Rattle.ld_msg.specs.Network.{message}
 use Rattle.ld_msg.specs.Sequencer.{Sequencer, Recovery, Stage, Seals, Stores, Closes, takes_any}
 use Rattle.ld_op.specs.Plain.{Plain, Log, log_of}
 use Rattle.ld_op.specs.Ticks.{missing, missing_of, numbers_of}
-use Rattle.ld_machine.specs.Config.{spec_of}
 use Rattle.ld_machine.specs.State.{State, node_at}
 use Rattle.ld_machine.specs.Facts.{Happened}
 use Rattle.ld_machine.specs.World.{World, Made, In, begin, MayHold, if_enough, made_in, made_with, made_by, made_for, made_at, made_on, page_from, is_made}
@@ -58,16 +57,16 @@ abbrev AtMostOne : List Made → Type 0
 AtMostOne ms = (ms ≡ []) ⊎ ((m : Made) × (ms ≡ m ∷ []))
 
 enough_one : (c : Config) (q : Sequencer) (v : Recovery) (d : List Told) → AtMostOne (if_enough c q v d)
-enough_one c q v d = cond_both (enough (spec_of c q.log v.epoch) d) (record { log = q.log; epoch = v.epoch; ballot = q.epoch; digest = d } ∷ []) [] AtMostOne (λ t. inr (record { log = q.log; epoch = v.epoch; ballot = q.epoch; digest = d }, refl)) (λ t. inl refl)
+enough_one c q v d = cond_both (enough v.spec d) (record { log = q.log; epoch = v.epoch; ballot = q.epoch; digest = d } ∷ []) [] AtMostOne (λ t. inr (record { log = q.log; epoch = v.epoch; ballot = q.epoch; digest = d }, refl)) (λ t. inl refl)
 
-in_one : (c : Config) (q : Sequencer) (v : Recovery) (g : Stage) (y from upto trim : ℕ) (es : List Entry) → AtMostOne (made_in c q v g y from upto trim es)
-in_one c q v (Seals d) y from upto trim es = cond_both (takes_any y from d) (if_enough c q v (with_page v.epoch y from upto trim es d)) [] AtMostOne (λ t. enough_one c q v (with_page v.epoch y from upto trim es d)) (λ t. inl refl)
-in_one c q v (Stores s) y from upto trim es = inl refl
-in_one c q v (Closes s) y from upto trim es = inl refl
+in_one : (c : Config) (q : Sequencer) (v : Recovery) (g : Stage) (y from upto trim lng : ℕ) (es : List Entry) → AtMostOne (made_in c q v g y from upto trim lng es)
+in_one c q v (Seals d) y from upto trim lng es = cond_both (takes_any y from d) (if_enough c q v (with_page v.epoch y from upto trim lng es d)) [] AtMostOne (λ t. enough_one c q v (with_page v.epoch y from upto trim lng es d)) (λ t. inl refl)
+in_one c q v (Stores s) y from upto trim lng es = inl refl
+in_one c q v (Closes s) y from upto trim lng es = inl refl
 
 with_one_made : (c : Config) (q : Sequencer) (o : Option Recovery) (y : ℕ) (b : Body) → AtMostOne (made_with c q o y b)
 with_one_made c q None y b = inl refl
-with_one_made c q (Some v) y (bodies.DigestPage from upto trim lng es) = cond_both (v.epoch == epoch_of from) (made_in c q v v.stage y from upto trim es) [] AtMostOne (λ t. in_one c q v v.stage y from upto trim es) (λ t. inl refl)
+with_one_made c q (Some v) y (bodies.DigestPage from upto trim lng es) = cond_both (v.epoch == epoch_of from) (made_in c q v v.stage y from upto trim lng es) [] AtMostOne (λ t. in_one c q v v.stage y from upto trim lng es) (λ t. inl refl)
 with_one_made c q (Some v) y _ = inl refl
 
 by_one : (c : Config) (o : Option (List ℕ × Sequencer)) (y : ℕ) (b : Body) → AtMostOne (made_by c o y b)

@@ -147,9 +147,9 @@ module _ (made : List Made) (sent : List Msg) where
           }
         ]
 
-  accept_moves : (l : ℕ) (g : Log) (e : Entry) → LogFine g → Taking l g e → Moves l g (accepted g e)
+  accept_moves : (l : ℕ) (g : Log) (lng : ℕ) (e : Entry) → LogFine g → Taking l g e → Moves l g (accepted g lng e)
   unfolding summary_at
-  accept_moves l g e F T = record {
+  accept_moves l g lng e F T = record {
     fine = record {
       rising = accept_rising e e.what g.entries F.rising;
       numbers = λ q i. elim (accept_in e e.what g.entries q i) [ inl a ↦ subst (λ (z : ℕ × Entry). z.1.number ≡ z.0) (sym a) refl | inr a ↦ F.numbers q a ];
@@ -162,18 +162,18 @@ module _ (made : List Made) (sent : List Msg) where
     sealed = T.sealed;
     keeps = λ n b s k. inr (kept n b s k);
   } where
-    accepted_served : (k : ℕ) → Served (accepted g e) k → Served g k
+    accepted_served : (k : ℕ) → Served (accepted g lng e) k → Served g k
     accepted_served k s = record { found_here = s.found_here; unclean = s.unclean }
 
-    accepted_gone : (k : ℕ) → Unserved g k → Unserved (accepted g e) k
+    accepted_gone : (k : ℕ) → Unserved g k → Unserved (accepted g lng e) k
     accepted_gone k h = h
 
-    kept : (n b : ℕ) → Served g (epoch_of n) → KeptBy made g l n b → KeptBy made (accepted g e) l n b
+    kept : (n b : ℕ) → Served g (epoch_of n) → KeptBy made g l n b → KeptBy made (accepted g lng e) l n b
     kept n b s (inl h) = inl h
     kept n b s (inr (inr h)) = inr (inr (wider l b (g.sealed + 1) (e.ballot + 1) n (let u = T.sealed in omega arith) h))
     kept n b s (inr (inl h)) = elim (entry_stays e e.what g.entries n h.entry h.found_at) [
       | inl a ↦ inr (inl (record { entry = h.entry; found_at = a; least = h.least }))
-      | inr (inl a) ↦ inr (inl (record { entry = e; found_at = subst (λ z. find z (accepted g e).entries ≡ Some e) (sym a) (taken_there g e); least = let z = F.bounded (n, h.entry) (find_in n g.entries h.entry h.found_at) s in let u = T.sealed in let v = h.least in omega arith }))
+      | inr (inl a) ↦ inr (inl (record { entry = e; found_at = subst (λ z. find z (accepted g lng e).entries ≡ Some e) (sym a) (taken_there g lng e); least = let z = F.bounded (n, h.entry) (find_in n g.entries h.entry h.found_at) s in let u = T.sealed in let v = h.least in omega arith }))
       | inr (inr a) ↦ inr (inr (cut_off l g e h.entry n b F T h.found_at h.least a.0 a.1))
     ]
 
@@ -344,7 +344,7 @@ module _ (made : List Made) (sent : List Msg) where
   pub op_holds : (y : ℕ) (p : Plain) (o : Op) → Holding y p → OpFine p o → Holding y (apply p o)
   unfolding apply
   op_holds y p (ops.Format generation epochs) H h = subst (λ es. Holding y (record { generation = generation; logs = lost_logs es })) (sym h.1) (format_holds y generation h.0 h.2)
-  op_holds y p (ops.Accept l lng e) H h = moves_hold y p l (accepted (log_of p l) e) H (accept_moves l (log_of p l) e (H.fine l) h)
+  op_holds y p (ops.Accept l lng e) H h = moves_hold y p l (accepted (log_of p l) lng e) H (accept_moves l (log_of p l) lng e (H.fine l) h)
   op_holds y p (ops.Seal l b) H h = moves_hold y p l (sealed_by (log_of p l) b) H (seal_moves l (log_of p l) b (H.fine l) h)
   op_holds y p (ops.Clean l epoch s) H h = moves_hold y p l (cleaned (log_of p l) epoch s) H (clean_moves l (log_of p l) epoch s (H.fine l))
   op_holds y p (ops.Trim l t) H h = moves_hold y p l (trimmed_to (log_of p l) t) H (trim_moves l (log_of p l) t (H.fine l))

@@ -1,7 +1,6 @@
 -- Each trim at a node, in a summary, in a message, in a recovery or in a plan is none, or an issued point.
 use Rattle.std.proofs.Common.{◌≡◌, ℕ, inl, inr, refl, sym, subst, List, [], Option, Some, None}
 use Rattle.ld_config.specs.declared.config.Config.{Config}
-use Rattle.ld_schedule.specs.declared.event.Event.{Event}
 use Rattle.ld_msg.specs.declared.msg.Who.{Who}
 use Rattle.ld_msg.specs.declared.msg.Who.TheVariants as whos
 use Rattle.ld_msg.specs.declared.msg.Body.{Body}
@@ -18,21 +17,21 @@ use Rattle.ld_machine.specs.Run.{Move, world_after, trace}
 use Rattle.ld_safety.proofs.Lists.{Some_inj, not_none, only, In-map}
 use Rattle.ld_safety.proofs.Names.{found}
 use Rattle.ld_safety.proofs.Traces.{later}
-use Rattle.ld_safety.proofs.Given.{AnyEpoch, AnyShown, AnyReleased, GivenEntry, GivenTrim, GivenSummary}
+use Rattle.ld_safety.proofs.Given.{AnyEpoch, AnyShown, AnyReleased, SmallGood, GivenEntry, GivenTrim, GivenSummary}
 use Rattle.ld_safety.proofs.GivenSteps.{BaseGiven}
 use Rattle.ld_safety.proofs.Along.{Along}
 use Rattle.ld_safety.proofs.AlongSteps.{along_kept}
 use Rattle.ld_safety.proofs.Carried as carried
 
 abbrev PlainGiven : List Happened → Plain → Type 0
-PlainGiven hs p = carried.PlainOk (GivenEntry hs) (GivenTrim hs) (GivenSummary hs) AnyEpoch AnyShown AnyReleased p
+PlainGiven hs p = carried.PlainOk (GivenEntry hs) (GivenTrim hs) (GivenSummary hs) AnyEpoch AnyShown AnyReleased (GivenEntry hs) SmallGood p
 
 abbrev CutGiven : List Happened → Option Cut → Type 0
 CutGiven hs None = Unit {0}
 CutGiven hs (Some k) = PlainGiven hs k.plain
 
 abbrev BodyGiven : List Happened → ℕ → Who → Body → Type 0
-BodyGiven hs l from b = carried.BodyOk (GivenEntry hs) (GivenTrim hs) (GivenSummary hs) AnyEpoch AnyShown AnyReleased l from b
+BodyGiven hs l from b = carried.BodyOk (GivenEntry hs) (GivenTrim hs) (GivenSummary hs) AnyEpoch AnyShown AnyReleased (GivenEntry hs) SmallGood l from b
 
 is_trim : (hs : List Happened) (l t : ℕ) → GivenTrim hs l t → IsTrim hs l t
 is_trim hs l t (inl h) = inl h
@@ -57,16 +56,16 @@ module _ (c : Config) (hs : List Happened) (w : World) (B : BaseGiven c hs w) wh
 
   -- ---- in a recovery ----
   abbrev StageGiven : ℕ → ℕ → ℕ → Stage → Type 0
-  StageGiven l b e g = carried.StageOk (GivenEntry hs) (GivenTrim hs) (GivenSummary hs) AnyEpoch AnyShown AnyReleased l b e g
+  StageGiven l b e g = carried.StageOk (GivenEntry hs) (GivenTrim hs) (GivenSummary hs) AnyEpoch AnyShown AnyReleased (GivenEntry hs) SmallGood l b e g
 
   stage_trim : (l b e t : ℕ) (g : Stage) → StageGiven l b e g → In t (trims_of g) → IsTrim hs l t
   stage_trim l b e t (Seals ts) h i = let m = In-map (λ (x : Told). x.trim) t ts i in subst (IsTrim hs l) (sym m.2) (is_trim hs l m.0.trim (h m.0 m.1).trim)
-  stage_trim l b e t (Stores g) h i = subst (IsTrim hs l) (sym (only t g.trim i)) (is_trim hs l g.trim h.0)
-  stage_trim l b e t (Closes y) h i = subst (IsTrim hs l) (sym (only t y.trim i)) (is_trim hs l y.trim h)
+  stage_trim l b e t (Stores g) h i = subst (IsTrim hs l) (sym (only t g.trim i)) (is_trim hs l g.trim h.0.0)
+  stage_trim l b e t (Closes y) h i = subst (IsTrim hs l) (sym (only t y.trim i)) (is_trim hs l y.trim h.0)
 
   recovery_trim : (q : List ℕ × Sequencer) (v : Recovery) (t : ℕ) → In q w.state.sequencers → q.1.recovery ≡ Some v → In t (trims_of v.stage) → IsTrim hs q.1.log t
   recovery_trim q v t i r j = let k = (B.1.sequencers q.0 q.1 (found w.state.sequencers q B.0.0.0.0 i)).recovery in
-      stage_trim q.1.log q.1.epoch v.epoch t v.stage (subst (carried.RecoveryOk (GivenEntry hs) (GivenTrim hs) (GivenSummary hs) AnyEpoch AnyShown AnyReleased q.1.log q.1.epoch) r k).1 j
+      stage_trim q.1.log q.1.epoch v.epoch t v.stage (subst (carried.RecoveryOk (GivenEntry hs) (GivenTrim hs) (GivenSummary hs) AnyEpoch AnyShown AnyReleased (GivenEntry hs) SmallGood q.1.log q.1.epoch) r k).1 j
 
   -- a digest that a plan was made from has its trims of pages
   plan_trim : Along c hs w → (m : Made) (d : Told) → In m w.made → In d m.digest → IsTrim hs m.log d.trim

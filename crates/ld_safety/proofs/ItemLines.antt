@@ -11,7 +11,7 @@ use Rattle.ld_op.specs.declared.op.Op.{Op}
 use Rattle.ld_op.specs.declared.op.Op.TheVariants as ops
 use Rattle.ld_op.specs.Ticks.{Ticked, Cleans, Rebuilt, Asks, Nothing}
 use Rattle.ld_machine.specs.Disk.{keep_end}
-use Rattle.ld_machine.specs.Config.{spec_in}
+use Rattle.ld_machine.specs.Config.{looks_at}
 use Rattle.ld_msg.specs.Register.{epochs_in, generation_of}
 use Rattle.ld_msg.specs.Sequencer.{on_reply, on_retry, called}
 use Rattle.ld_msg.specs.Reader.{Reader, on_answer}
@@ -19,11 +19,11 @@ use Rattle.ld_machine.specs.State.{State, node_at, with_node, with_register}
 use Rattle.ld_machine.specs.World.{In}
 use Rattle.ld_machine.specs.Step as Step
 use Rattle.ld_safety.proofs.Events.{Cases, Reading, refreshed, loaded, is_quiet}
-use Rattle.ld_safety.proofs.Lines.{Group, OfNodes, OfNumbers, OfActs, OfTrims, OfItems, AllOf, none_of, one_of, kept_of, format_of, acted_of, quiet_of}
+use Rattle.ld_safety.proofs.Lines.{Group, OfNodes, OfNumbers, OfActs, OfTrims, OfSets, OfItems, AllOf, none_of, one_of, kept_of, format_of, acted_of, quiet_of}
 
 module _ (c : Config) (s : State) (e : Event) (P : List Line → Type 0)
     (other : (g : Group) (ls : List Line) → (g ≡ OfItems → ⊥) → AllOf g ls → P ls)
-    (reads : (f : List ℕ) (name : List ℕ) (d : Reader) (m : Msg) → In m s.network.sent → m.to ≡ whos.Reader d.number → Reading s name d → P (Step.item_lines name (on_answer (Step.set_read c d) d (Step.sender_node m.from) m.body).reader.until (on_answer (Step.set_read c d) d (Step.sender_node m.from) m.body).items)) where
+    (reads : (f : List ℕ) (name : List ℕ) (d : Reader) (m : Msg) → In m s.network.sent → m.to ≡ whos.Reader d.number → Reading s name d → P (Step.item_lines name (on_answer (looks_at c s.register d.log) d (Step.sender_node m.from) m.body).reader.until (on_answer (looks_at c s.register d.log) d (Step.sender_node m.from) m.body).items)) where
   none : P []
   none = other OfNodes [] (λ h. cc) (none_of OfNodes)
 
@@ -58,14 +58,15 @@ module _ (c : Config) (s : State) (e : Event) (P : List Line → Type 0)
     stops = λ n b. nodes (lines.NodeDown n ∷ []) (one_of (lines.NodeDown n));
     wipes = λ n. nodes (lines.NodeWiped n ∷ []) (one_of (lines.NodeWiped n));
     faults = λ n f o. none;
+    sets = λ l r x set h. other OfSets (lines.Set l r x set ∷ []) (λ h. cc) (one_of (lines.Set l r x set));
     arms = λ k done o. none;
-    hears = λ f name q m i t l v o. acts _ (acted_of name q (called (spec_in q.log c.logs) s.register (on_reply (spec_in q.log c.logs) q (Step.sender_node m.from) m.body) (on_reply (spec_in q.log c.logs) q (Step.sender_node m.from) m.body).tries).acts);
-    retries = λ name q v o. acts _ (acted_of name q (called (spec_in q.log c.logs) s.register (on_retry (spec_in q.log c.logs) q) (on_retry (spec_in q.log c.logs) q).tries).acts);
+    hears = λ f name q m i t l v o. acts _ (acted_of name q (called (looks_at c s.register q.log) s.register (on_reply (looks_at c s.register q.log) q (Step.sender_node m.from) m.body) (on_reply (looks_at c s.register q.log) q (Step.sender_node m.from) m.body).tries).acts);
+    retries = λ name q v o. acts _ (acted_of name q (called (looks_at c s.register q.log) s.register (on_retry q) (on_retry q).tries).acts);
     appends = λ name q p v a i. other OfNumbers (lines.Appended name _ ∷ []) (λ h. cc) (one_of (lines.Appended name _));
     trims = λ name q t v b. other OfTrims (lines.Trimmed name t ∷ []) (λ h. cc) (one_of (lines.Trimmed name t));
     drops = λ name q v o. none;
     activates = λ name l r g n i x. other OfNumbers (lines.Active name _ ∷ []) (λ h. cc) (one_of (lines.Active name _));
-    activate_fails = λ name l x q. quiet_one x q;
+    activate_fails = λ name l x g q. quiet_one x q;
     answers = λ f name d m i t v o. reads f name d m i t v;
     polls = λ name d v o. none;
     opens = λ name l from until o x. none;

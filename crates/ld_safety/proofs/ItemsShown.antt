@@ -16,10 +16,10 @@ use Rattle.ld_msg.specs.declared.msg.Msg.{Msg}
 use Rattle.ld_msg.specs.declared.msg.Body.{Body}
 use Rattle.ld_msg.specs.declared.msg.Body.TheVariants as bodies
 use Rattle.ld_msg.specs.Digest.{Told}
-use Rattle.ld_msg.specs.Register.{Register}
+use Rattle.ld_msg.specs.Register.{Register, View}
 use Rattle.ld_msg.specs.Reading.{Held, Item, TrimTo, RecordHere, HoleHere, BridgeTo, LossHere, page_at, is_hole, hole_held, record_held, shows_end, end_held, bridge_to, trim_held}
 use Rattle.ld_msg.specs.Reader.{Reader, Read, gives, heard, held_with, is_newer, round_of}
-use Rattle.ld_machine.specs.Config.{spec_in}
+use Rattle.ld_machine.specs.Config.{spec_of}
 use Rattle.ld_machine.specs.State.{State}
 use Rattle.ld_machine.specs.Facts.{Happened}
 use Rattle.ld_machine.specs.World.{Made, In}
@@ -29,9 +29,9 @@ use Rattle.ld_safety.proofs.Members.{In_put}
 use Rattle.ld_safety.proofs.Plans.{end_above_trim}
 use Rattle.ld_safety.proofs.ReaderSteps.{ReadKeeps}
 use Rattle.ld_safety.proofs.GivenItems.{PageWith, page_with, record_in}
-use Rattle.ld_safety.proofs.Protocol.{plan_of, Says, PlansOnce, AppendsOnce, PlanFacts}
-use Rattle.ld_safety.proofs.Settled.{Acknowledged, TrimFine, CloseFine, ShowFine, ReleaseFine, Reached}
-use Rattle.ld_safety.proofs.Said.{Said}
+use Rattle.ld_safety.proofs.Protocol.{plan_of, Says, OwnSays, PlansOnce, AppendsOnce, PlanFacts}
+use Rattle.ld_safety.proofs.Settled.{Acknowledged, TrimFine, CloseFine, ShowFine, ReleaseFine, LngFine, Reached}
+use Rattle.ld_safety.proofs.Said.{Said, SaidHere}
 use Rattle.ld_safety.proofs.Shown.{plan_ends}
 use Rattle.ld_safety.proofs.ItemFacts.{ClosedItem, RecordAt, BridgeAt, closed_item, acked_no_hole}
 use Rattle.ld_safety.proofs.Carried as carried
@@ -63,9 +63,9 @@ home_numbered : (e k : ℕ) → 0 < k → k ≤ last_esn → home_epoch (numbere
 home_numbered e k a b = cond_both ((esn_of (numbered e k) == 0) && nat_lt 0 (epoch_of (numbered e k))) (epoch_of (numbered e k) - 1) (epoch_of (numbered e k)) (λ x. x ≡ e)
     (λ t. absurd (let p = and_parts (esn_of (numbered e k) == 0) (nat_lt 0 (epoch_of (numbered e k))) t in let q = eqb-true _ _ p.0 in omega arith)) (λ t. omega arith)
 
-module _ (c : Config) (hs : List Happened) (made : List Made) (sent : List Msg) (r : Register) (A : AppendsOnce hs) (P : PlansOnce made) (F : (l e b : ℕ) (d : List Told) → In (plan_of l e b d) made → PlanFacts hs made sent (spec_in l c.logs) l e b d) (l : ℕ) where
+module _ (c : Config) (hs : List Happened) (made : List Made) (sent : List Msg) (r : Register) (A : AppendsOnce hs) (P : PlansOnce made) (F : (l e b : ℕ) (d : List Told) → In (plan_of l e b d) made → PlanFacts hs made sent (spec_of c r l e) l e b d) (l : ℕ) where
   abbrev pub HeldSaid : Body → Type 0
-  HeldSaid b = carried.HeldOk (Said hs made r) (TrimFine c hs sent r) (CloseFine c hs made sent r) (Reached r) (ShowFine c hs made sent r) (ReleaseFine c hs sent r) l b
+  HeldSaid b = carried.HeldOk (Said hs made r) (TrimFine c hs sent r) (CloseFine c hs made sent r) (Reached r) (ShowFine c hs made sent r) (ReleaseFine c hs sent r) (SaidHere hs made r) (LngFine c hs sent r) l b
 
   abbrev pub HeldFine : List (ℕ × Held) → Type 0
   HeldFine ds = (h : ℕ × Held) → In h ds → HeldSaid h.1.body
@@ -83,7 +83,7 @@ module _ (c : Config) (hs : List Happened) (made : List Made) (sent : List Msg) 
 
   by_page : (s : ℕ) (p : List ℕ) (clean : Bool) (e : Entry) → e.number ≡ s → e.what ≡ Rec p → ShowFine c hs made sent r l clean e → RecordAt c hs made sent r l s
   by_page s p true e n w h = inr (p, closed_item c hs made sent r l s (Rec p) e n w h)
-  by_page s p false e n w h = inl (subst (Acknowledged c hs sent l) n h)
+  by_page s p false e n w h = inl (subst (Acknowledged c hs sent r l) n h)
 
   record_fine : (s : ℕ) (ds : List (ℕ × Held)) (p : List ℕ) → HeldFine ds → record_held s ds ≡ Some p → RecordAt c hs made sent r l s
   record_fine s ds p h e =
@@ -91,9 +91,12 @@ module _ (c : Config) (hs : List Happened) (made : List Made) (sent : List Msg) 
       let o = subst HeldSaid w.is_page (h z.0 z.1) in
       by_page s p w.clean w.entry w.number w.what (o.1 w.entry w.there)
 
-  by_hole : (s : ℕ) (clean : Bool) (e : Entry) → e.number ≡ s → e.what ≡ Hole → ShowFine c hs made sent r l clean e → Said hs made r l e.ballot e.number e.what → ClosedItem c hs made sent r l s Hole
+  by_hole : (s : ℕ) (clean : Bool) (e : Entry) → e.number ≡ s → e.what ≡ Hole → ShowFine c hs made sent r l clean e → SaidHere hs made r l e.ballot e.number e.what → ClosedItem c hs made sent r l s Hole
   by_hole s true e n w h d = closed_item c hs made sent r l s Hole e n w h
-  by_hole s false e n w h d = absurd (acked_no_hole c hs made sent r A P F l e.ballot e.number h (subst (Says hs made l e.ballot e.number) w d.says))
+  by_hole s false e n w h d = absurd (elim d.says [
+    | inl o ↦ acked_no_hole c hs made sent r A P F l e.ballot e.number h (subst (Says hs made l e.ballot e.number) w o)
+    | inr o ↦ acked_no_hole c hs made sent r A P F l (epoch_of e.number) e.number h (inl (subst (OwnSays hs l (epoch_of e.number) e.number) w o.good.says))
+  ])
 
   hole_fine : (s : ℕ) (ds : List (ℕ × Held)) → HeldFine ds → hole_held s ds ≡ true → ClosedItem c hs made sent r l s Hole
   hole_fine s ds h e =
@@ -113,7 +116,7 @@ module _ (c : Config) (hs : List Happened) (made : List Made) (sent : List Msg) 
   bridge_fine s ds h e =
       let z = any_in (λ (h : ℕ × Held). shows_end s h.1.body) ds e in
       let w = ended_at s z.0.1.body z.2 in
-      let o : carried.EndedOk (Said hs made r) (TrimFine c hs sent r) (CloseFine c hs made sent r) (Reached r) (ShowFine c hs made sent r) (ReleaseFine c hs sent r) l w.from w.end = subst HeldSaid w.is_end (h z.0 z.1) in
+      let o : carried.EndedOk (Said hs made r) (TrimFine c hs sent r) (CloseFine c hs made sent r) (Reached r) (ShowFine c hs made sent r) (ReleaseFine c hs sent r) (SaidHere hs made r) (LngFine c hs sent r) l w.from w.end = subst HeldSaid w.is_end (h z.0 z.1) in
       by_end s (home_epoch w.from) w.end o.summary o.closed o.is w.home w.low
 
   gives_fine : (a : Read) (i : Item) → ReadFine a → ItemFine a.reader.next i → ReadFine (gives a i)
@@ -126,8 +129,8 @@ module _ (c : Config) (hs : List Happened) (made : List Made) (sent : List Msg) 
   held_fine d y b h o = cond_both (is_newer (find y d.held) (round_of b)) (put y (record { round = round_of b; body = b }) d.held) d.held HeldFine
       (λ t k i. elim (In_put y (record { round = round_of b; body = b }) d.held k i) [ inl q ↦ subst (λ (x : ℕ × Held). HeldSaid x.1.body) (sym q) o | inr j ↦ h k j ]) (λ t. h)
 
-  pub fine_keeps : (set : List ℕ) (d : Reader) (y : ℕ) (b : Body) → HeldFine d.held → HeldSaid b → ReadKeeps set d y b ReadFine
-  fine_keeps set d y b h o = let k = held_fine d y b h o in let start : ReadFine (record { reader = heard d y b; items = []; asks = [] }) = record { held = k; items = λ i j. absurd j } in record {
+  pub fine_keeps : (looks : ℕ → View) (d : Reader) (y : ℕ) (b : Body) → HeldFine d.held → HeldSaid b → ReadKeeps looks d y b ReadFine
+  fine_keeps looks d y b h o = let k = held_fine d y b h o in let start : ReadFine (record { reader = heard d y b; items = []; asks = [] }) = record { held = k; items = λ i j. absurd j } in record {
     starts = start;
     loss = λ u. gives_fine _ LossHere start tt;
     trim = λ a g n t. gives_fine a (TrimTo (trim_held a.reader.held)) g tt;
@@ -149,7 +152,7 @@ pub record ItemsTold (c : Config) (hs : List Happened) (made : List Made) (sent 
 lower_bridge : (c : Config) (hs : List Happened) (made : List Made) (sent : List Msg) (r : Register) (l low high last : ℕ) → high ≤ last → BridgeAt c hs made sent r l low last → BridgeAt c hs made sent r l low high
 lower_bridge c hs made sent r l low high last h b = record { epoch = b.epoch; upto = let u = b.upto in omega arith; past = b.past }
 
-pub item_lines_told : (c : Config) (hs : List Happened) (made : List Made) (sent : List Msg) (r : Register) (s : State) (A : AppendsOnce hs) (P : PlansOnce made) (F : (l e b : ℕ) (d : List Told) → In (plan_of l e b d) made → PlanFacts hs made sent (spec_in l c.logs) l e b d)
+pub item_lines_told : (c : Config) (hs : List Happened) (made : List Made) (sent : List Msg) (r : Register) (s : State) (A : AppendsOnce hs) (P : PlansOnce made) (F : (l e b : ℕ) (d : List Told) → In (plan_of l e b d) made → PlanFacts hs made sent (spec_of c r l e) l e b d)
     (name : List ℕ) (d : Reader) (until : ℕ) (is : List (ℕ × Item)) → find_named name s.readers ≡ Some d → ((i : ℕ × Item) → In i is → ItemFine c hs made sent r A P F d.log i.0 i.1) → ItemsTold c hs made sent r s (Step.item_lines name until is)
 item_lines_told c hs made sent r s A P F name d until [] f h = record { records = λ a n p i. absurd i; holes = λ a low high i. absurd i; bridges = λ a low high i. absurd i }
 item_lines_told c hs made sent r s A P F name d until (i ∷ is) f h = let z = item_lines_told c hs made sent r s A P F name d until is f (λ j k. h j (inr k)) in record {

@@ -22,7 +22,9 @@ pub mod CarriedSteps
 pub mod CarriedGrows
 pub mod Closings
 pub mod Plans
+pub mod Specs
 pub mod Base
+pub mod Fixed
 pub mod Given
 pub mod GivenSteps
 pub mod Tiles
@@ -70,6 +72,7 @@ pub mod LostTalk
 pub mod LostReads
 pub mod GenerationsHeld
 pub mod LostRounds
+pub mod LostSeen
 pub mod LostAlong
 pub mod LostSince
 pub mod LostBegins

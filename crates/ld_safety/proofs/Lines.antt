@@ -15,9 +15,9 @@ use Rattle.ld_safety.proofs.Lists.{In-append}
 use Rattle.ld_safety.proofs.Events.{is_quiet}
 use Rattle.ld_safety.proofs.Steps.{is_plain, In_finish}
 
--- of nodes; of numbering; of acknowledgements and refusals; of trims; of what readers get; of messages
+-- of nodes; of numbering; of acknowledgements and refusals; of trims; of what is set for later activations; of what readers get; of messages
 pub data Group : Type 0 where
-  OfNodes OfNumbers OfActs OfTrims OfItems OfMessages : Group
+  OfNodes OfNumbers OfActs OfTrims OfSets OfItems OfMessages : Group
 
 abbrev pub group : Line → Group
 group (lines.NodeFormatted n g) = OfNodes
@@ -33,6 +33,7 @@ group (lines.NodeRefusedGenLimit n) = OfNodes
 group (lines.Active s e) = OfNumbers
 group (lines.Appended s n) = OfNumbers
 group (lines.Trimmed s t) = OfTrims
+group (lines.Set l r x set) = OfSets
 group (lines.Record r n p) = OfItems
 group (lines.Gap r kind low high) = OfItems
 group (lines.Message i from to kind n) = OfMessages

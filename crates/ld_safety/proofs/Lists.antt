@@ -1,7 +1,7 @@
 -- Lists, counts and cases of tests.
-use Rattle.std.proofs.Common.{◌≡◌, ◌∙◌, ◌⊎◌, ◌||◌, ◌&&◌, ℕ, zero, suc, ◌+◌, ◌<◌, ◌≤◌, inl, inr, refl, ap, sym, subst, Bool, true, false, cond, List, [], ◌∷◌, ◌++◌, map, length, Option, Some, None, filter_map, arith, slice_get}
+use Rattle.std.proofs.Common.{◌≡◌, ◌∙◌, ◌⊎◌, ◌||◌, ◌&&◌, ℕ, zero, suc, max, ◌+◌, ◌<◌, ◌≤◌, inl, inr, refl, ap, sym, subst, Bool, true, false, cond, List, [], ◌∷◌, ◌++◌, map, length, Option, Some, None, filter_map, arith, slice_get}
 use Rattle.std.proofs.lemmas.List.Elements.{filter_map-append}
-use Rattle.std.proofs.lemmas.Bool.{cases_Bool, or_left, or_right, or_from}
+use Rattle.std.proofs.lemmas.Bool.{cases_Bool, cases_lt, or_left, or_right, or_from}
 use Rattle.ld_table.specs.Words.{how_many, any_of, all_of, first, or_else}
 use Rattle.ld_machine.specs.World.{In}
 
@@ -77,6 +77,13 @@ branch false x y z h = inr (refl, h)
 pub cond_both : {X : Type 0} (b : Bool) (x y : X) (P : X → Type 0) → (b ≡ true → P x) → (b ≡ false → P y) → P (cond b x y)
 cond_both true x y P h g = h refl
 cond_both false x y P h g = g refl
+
+-- what holds of two numbers holds of the greater one
+pub max_both : (P : ℕ → Type 0) (a b : ℕ) → P a → P b → P (max a b)
+max_both P a b x y = elim (cases_lt a b) [
+  | inl e ↦ subst P (let z : b ≡ max a b = omega arith in z) y
+  | inr e ↦ subst P (let z : a ≡ max a b = omega arith in z) x
+]
 
 pub how_many-yes : {X : Type 0} (p : X → Bool) (x : X) (xs : List X) → p x ≡ true → how_many p (x ∷ xs) ≡ suc (how_many p xs)
 how_many-yes p x xs h = rw h refl

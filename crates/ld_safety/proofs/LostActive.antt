@@ -14,7 +14,7 @@ use Rattle.ld_transcript.specs.declared.line.Line.TheVariants as lines
 use Rattle.ld_ids.specs.declared.set.Spec.{Spec}
 use Rattle.ld_msg.specs.declared.msg.Summary.{Summary}
 use Rattle.ld_msg.specs.declared.msg.Body.{Body}
-use Rattle.ld_msg.specs.Register.{Register, Epochs, Changed, no_epochs, epochs_of, with_epochs, next_epoch, closed_epochs, activate, close, draw}
+use Rattle.ld_msg.specs.Register.{Register, View, Epochs, Changed, no_epochs, epochs_of, with_epochs, next_epoch, closed_epochs, activate, close, draw}
 use Rattle.ld_msg.specs.Sequencer.{Sequencer, Acts, Recovery}
 use Rattle.ld_machine.specs.Facts.{Happened, active_line, activates_log, has_epoch}
 use Rattle.ld_safety.proofs.Lists.{any_in, any_from, In_left}
@@ -63,8 +63,8 @@ module _ (c : Config) (hs : List Happened) where
     ]) s.1 h
   ]
 
-  pub activate_closed : (r : Register) (l : ℕ) → ClosedActive r → ClosedActive (activate r l).register
-  activate_closed r l h = elim (activate_leaves r l) [ inl s ↦ same_closed r (activate r l).register s h | inr s ↦ put_closed r (activate r l).register l (next_epoch (epochs_of r l)) (λ e y f. h l e y f) s.1 h ]
+  pub activate_closed : (r : Register) (l : ℕ) (p : Spec) → ClosedActive r → ClosedActive (activate r l p).register
+  activate_closed r l p h = elim (activate_leaves r l p) [ inl s ↦ same_closed r (activate r l p).register s h | inr s ↦ put_closed r (activate r l p).register l (next_epoch (epochs_of r l) p) (λ e y f. h l e y f) s.1 h ]
 
   pub logs_closed : (r n : Register) → n.logs ≡ r.logs → ClosedActive r → ClosedActive n
   logs_closed r n q h l e y f = h l e y (ap (λ m. find e (unwrap_or (find l m) no_epochs).summaries) (sym q) ∙ f)
@@ -72,8 +72,8 @@ module _ (c : Config) (hs : List Happened) where
   pub draw_closed : (r : Register) (n : ℕ) → ClosedActive r → ClosedActive (draw r n).register
   draw_closed r n h = elim (draw_leaves r n) [ inl s ↦ logs_closed r (draw r n).register s.0 h | inr s ↦ logs_closed r (draw r n).register s.0 h ]
 
-  close_called : (r : Register) (p : Spec) (a : Acts) (e : ℕ) (y : Summary) → has_epoch a.sequencer.log e hs ≡ true → ClosedActive r → Closing r p a e y (λ k. ClosedActive k.register)
-  close_called r p a e y t h = let z = close_closed r a.sequencer.log e y t h in record {
+  close_called : (r : Register) (looks : ℕ → View) (a : Acts) (e : ℕ) (y : Summary) → has_epoch a.sequencer.log e hs ≡ true → ClosedActive r → Closing r looks a e y (λ k. ClosedActive k.register)
+  close_called r looks a e y t h = let z = close_closed r a.sequencer.log e y t h in record {
     granted = λ n i j. subst (λ (d : Changed). ClosedActive d.register) j z;
     overtaken = λ i. h;
     behind = λ b i. h;
@@ -89,9 +89,9 @@ module _ (c : Config) (hs : List Happened) where
       quiet = h;
       sealed = λ n k f i l. h;
       cleaned_own = λ n s f i g. h;
-      acks = λ n p f i g k. h;
-      settles_some = λ v g p f e i s u. h;
-      settles_all = λ v g p f e i s u. close_called r _ _ v.epoch _ (lower v e) h;
+      acks = λ n p f i g k m. h;
+      settles_some = λ v g p f e i s m u. h;
+      settles_all = λ v g p f e i s m u. close_called r _ _ v.epoch _ (lower v e) h;
       lost_own = λ n round g end f i k. h;
       lost_there = λ v n round g end f e i k. h;
       cleaned = λ v n s f e i k. h;

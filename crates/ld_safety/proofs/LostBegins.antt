@@ -1,9 +1,9 @@
 -- A confirmation after a step lasted through it, or begins in it: then what has happened since its asks is known.
-use Rattle.std.proofs.Common.{◌≡◌, ◌∙◌, ◌⊎◌, ◌≤◌, ◌<◌, ℕ, inl, inr, refl, ap, sym, subst, true, ◌==◌, List, [], ◌∷◌, length, Some, None, arith}
-use Rattle.std.proofs.lemmas.Bool.{eqb-true}
+use Rattle.std.proofs.Common.{◌≡◌, ◌∙◌, ◌⊎◌, ◌≤◌, ◌<◌, ℕ, inl, inr, refl, ap, sym, subst, true, ◌&&◌, ◌==◌, List, [], ◌∷◌, length, Option, Some, None, arith}
+use Rattle.std.proofs.lemmas.Bool.{and_parts, eqb-true}
 use Rattle.ld_table.specs.Table.{find}
 use Rattle.ld_table.specs.Named.{find_named, put_named}
-use Rattle.ld_table.specs.Words.{is_in}
+use Rattle.ld_table.specs.Words.{is_in, all_of, any_of}
 use Rattle.ld_lsn.specs.Number.{home_epoch}
 use Rattle.ld_config.specs.declared.config.Config.{Config}
 use Rattle.ld_schedule.specs.declared.event.Event.{Event}
@@ -11,20 +11,22 @@ use Rattle.ld_msg.specs.declared.msg.Msg.{Msg}
 use Rattle.ld_msg.specs.declared.msg.Who.TheVariants as whos
 use Rattle.ld_msg.specs.declared.msg.Body.{Body}
 use Rattle.ld_msg.specs.declared.msg.Body.TheVariants as bodies
-use Rattle.ld_msg.specs.Reading.{Held, lost_held, lost_generation, is_loss}
-use Rattle.ld_msg.specs.Reader.{Reader, Confirmation, opened, polled, on_answer}
-use Rattle.ld_msg.specs.Register.{generation_of}
-use Rattle.ld_machine.specs.Config.{set_of}
-use Rattle.ld_machine.specs.State.{State, posted}
+use Rattle.ld_msg.specs.Reading.{Held, lost_held, lost_generation, is_loss, is_lost_for, leaves_open, knows_end_above, within}
+use Rattle.ld_msg.specs.Reader.{Reader, Confirmation, opened, polled, on_answer, seen_nodes, has_seen}
+use Rattle.ld_msg.specs.Register.{View, generation_of, epochs_of}
+use Rattle.ld_machine.specs.Config.{looks_at, set_at}
+use Rattle.ld_machine.specs.State.{State, finish, posted}
 use Rattle.ld_machine.specs.World.{World, In, Sent}
 use Rattle.ld_machine.specs.Run.{next_world}
 use Rattle.ld_machine.specs.Step as Step
-use Rattle.ld_safety.proofs.Lists.{Some_inj, not_none, In-append, cond_both}
-use Rattle.ld_safety.proofs.Members.{find_in}
+use Rattle.ld_safety.proofs.Lists.{Some_inj, not_none, In-append, any_in, cond_both}
+use Rattle.ld_safety.proofs.Members.{find_in, In_filter}
 use Rattle.ld_safety.proofs.ReaderLogs.{Apart}
 use Rattle.ld_safety.proofs.Events.{NamesOnce}
+use Rattle.ld_safety.proofs.Registers.{OnlyClosed, follows, specs_stay}
 use Rattle.ld_safety.proofs.Generations.{back_here}
-use Rattle.ld_safety.proofs.LostReads.{ReadOn, read_on}
+use Rattle.ld_safety.proofs.LostReads.{SeenBy, ReadOn, read_on}
+use Rattle.ld_safety.proofs.LostSeen.{AllShow, Shows, seen_shows, shows_later}
 use Rattle.ld_safety.proofs.LostTalk.{TalkKeeps, talked, new_or_old, same_readers}
 use Rattle.ld_safety.proofs.LostRounds.{wave_of, answer_to, found_in, posted_to}
 use Rattle.ld_safety.proofs.LostAlong.{RoundsOf}
@@ -53,12 +55,31 @@ one_lost s y g h hs (bodies.LostHere n u k end) e i v = cond_both (home_epoch n 
     (λ t j. let p = only_pair y g h.0 k j in record { answer = h; there = i; node = sym p.0; number = n; round = u; end = end; is = e ∙ ap (λ x. bodies.LostHere n u x end) (sym p.1); same_epoch = eqb-true _ _ t }) (λ t j. absurd j) v
 one_lost s y g h hs _ e i j = absurd j
 
-pub lost_in : (s y g : ℕ) (hs : List (ℕ × Held)) → In (y, g) (lost_held s hs) → HeldLost s y g hs
-lost_in s y g [] i = absurd i
-lost_in s y g (h ∷ hs) i = elim (In-append (y, g) (lost_generation s h.0 h.1.body) (lost_held s hs) i) [
+lost_among : (s y g : ℕ) (hs : List (ℕ × Held)) → In (y, g) (lost_held s hs) → HeldLost s y g hs
+lost_among s y g [] i = absurd i
+lost_among s y g (h ∷ hs) i = elim (In-append (y, g) (lost_generation s h.0 h.1.body) (lost_held s hs) i) [
   | inl a ↦ one_lost s y g h (h ∷ hs) h.1.body refl (inl refl) a
-  | inr a ↦ let k = lost_in s y g hs a in record { answer = k.answer; there = inr k.there; node = k.node; number = k.number; round = k.round; end = k.end; is = k.is; same_epoch = k.same_epoch }
+  | inr a ↦ let k = lost_among s y g hs a in record { answer = k.answer; there = inr k.there; node = k.node; number = k.number; round = k.round; end = k.end; is = k.is; same_epoch = k.same_epoch }
 ]
+
+pub lost_in : (s y g : ℕ) (set : List ℕ) (hs : List (ℕ × Held)) → In (y, g) (lost_held s (within set hs)) → HeldLost s y g hs
+lost_in s y g set hs i = let k = lost_among s y g (within set hs) i in record { answer = k.answer; there = (In_filter (λ (h : ℕ × Held). is_in h.0 set) k.answer hs k.there).0; node = k.node; number = k.number; round = k.round; end = k.end; is = k.is; same_epoch = k.same_epoch }
+
+-- ---- a loss ----
+one_positive : (s : ℕ) (b : Body) → is_lost_for s b ≡ true → (n : ℕ) × (u : ℕ) × (g : ℕ) × (end : ℕ) × (b ≡ bodies.LostHere n u g end) × (home_epoch n ≡ home_epoch s)
+one_positive s (bodies.LostHere n u g end) h = (n, u, g, end, refl, eqb-true _ _ h)
+one_positive s _ h = absurd cc
+
+-- a number that is lost for what a reader holds is of an epoch from the first on
+pub loss_positive : (w : World) → RoundsOf w → (t : List ℕ) (d : Reader) → find_named t w.state.readers ≡ Some d → (s : ℕ) (set : List ℕ) → is_loss s set d.held ≡ true → 0 < home_epoch s
+unfolding is_loss
+loss_positive w R t d f s set l =
+    let hs = within set d.held in
+    let p = and_parts (all_of (λ y. leaves_open s (find y d.held)) set && any_of (λ h. is_lost_for s h.1.body) hs) (any_of (λ h. knows_end_above s h.1.body) hs) l in
+    let x = any_in (λ (h : ℕ × Held). is_lost_for s h.1.body) hs (and_parts (all_of (λ y. leaves_open s (find y d.held)) set) (any_of (λ h. is_lost_for s h.1.body) hs) p.0).1 in
+    let i = (In_filter (λ (h : ℕ × Held). is_in h.0 set) x.0 d.held x.1).0 in
+    let k = one_positive s x.0.1.body x.2 in
+    subst (λ e. 0 < e) k.5 (R.positive (answer_to x.0.0 d x.0.1.body) d.number k.0 k.1 k.2 k.3 (R.held t d x.0 f i) refl k.4)
 
 -- ---- what a confirmation comes from ----
 module _ (c : Config) (s : State) where
@@ -83,8 +104,11 @@ module _ (c : Config) (s : State) where
     pub round : v.round ≡ x.round
     pub higher : reader.round < v.round
     pub told : v.told ≡ []
-    pub asked : v.asked ≡ lost_held x.next x.held
-    pub loss : is_loss x.next (set_of c x.log) x.held ≡ true
+    pub view : Option View
+    pub came : SeenBy (looks_at c s.register reader.log) reader view
+    pub seen : has_seen (home_epoch x.next) view ≡ true
+    pub asked : v.asked ≡ lost_held x.next (within (seen_nodes view) x.held)
+    pub loss : is_loss x.next (seen_nodes view) x.held ≡ true
     pub asks : (m : Msg) → In m ms → (y : ℕ) × (m.to ≡ whos.Node y) × (m.from ≡ whos.Reader x.number) × (m.log ≡ x.log) × (m.body ≡ bodies.ReadAsk v.round x.next)
 
   abbrev pub Came : List Msg → List (List ℕ × Reader) → Type 0
@@ -98,9 +122,9 @@ module _ (c : Config) (s : State) where
   asks_new x v bs h m i = let p = posted_to (whos.Reader x.number) x.log bs m i in
       (p.0.0, ap (λ (y : Msg). y.to) p.2, ap (λ (y : Msg). y.from) p.2, ap (λ (y : Msg). y.log) p.2, ap (λ (y : Msg). y.body) p.2 ∙ h p.0 p.1)
 
-  reads_came : (name : List ℕ) (d : Reader) (y : ℕ) (b : Body) → find_named name s.readers ≡ Some d → ReadOn (Step.set_read c d) d y b (on_answer (Step.set_read c d) d y b)
-      → Came (posted (whos.Reader (on_answer (Step.set_read c d) d y b).reader.number) (on_answer (Step.set_read c d) d y b).reader.log (on_answer (Step.set_read c d) d y b).asks) (put_named name (on_answer (Step.set_read c d) d y b).reader s.readers)
-  reads_came name d y b F G t x v f h = let a = on_answer (Step.set_read c d) d y b in elim (found_in t name a.reader x s.readers f) [
+  reads_came : (name : List ℕ) (d : Reader) (y : ℕ) (b : Body) → find_named name s.readers ≡ Some d → ReadOn (looks_at c s.register d.log) d y b (on_answer (looks_at c s.register d.log) d y b)
+      → Came (posted (whos.Reader (on_answer (looks_at c s.register d.log) d y b).reader.number) (on_answer (looks_at c s.register d.log) d y b).reader.log (on_answer (looks_at c s.register d.log) d y b).asks) (put_named name (on_answer (looks_at c s.register d.log) d y b).reader s.readers)
+  reads_came name d y b F G t x v f h = let a = on_answer (looks_at c s.register d.log) d y b in elim (found_in t name a.reader x s.readers f) [
     | inl q ↦ subst (λ (z : Reader). StillThere t z v ⊎ NewHere (posted (whos.Reader a.reader.number) a.reader.log a.asks) t z v) q.1 (elim (G.confirming v (subst (λ (z : Reader). z.confirming ≡ Some v) (sym q.1) h)) [
       | inl o ↦ inl (record { reader = d; named = subst (λ z. find_named z s.readers ≡ Some d) (sym q.0) F; before = o.before; was = o.was; number = G.number; log = G.log; next = o.next; round = o.round; asked = o.asked })
       | inr n ↦ inr (record {
@@ -111,8 +135,11 @@ module _ (c : Config) (s : State) where
         round = n.round;
         higher = n.higher;
         told = n.told;
+        view = n.view;
+        came = n.came;
+        seen = n.seen;
         asked = n.asked;
-        loss = subst (λ z. is_loss a.reader.next (set_of c z) a.reader.held ≡ true) (sym G.log) n.loss;
+        loss = n.loss;
         asks = asks_new a.reader v a.asks n.asks;
       })
     ])
@@ -130,8 +157,8 @@ module _ (c : Config) (s : State) where
     quiet = λ t x v f h. inl (as_before t x v f h);
     elsewhere = λ ms k t x v f h. inl (as_before t x v f h);
     answers = λ n m b i q u a t x v f h. inl (as_before t x v f h);
-    reads = λ name d m i t v. reads_came name d (Step.sender_node m.from) m.body v.named (read_on (Step.set_read c d) d (Step.sender_node m.from) m.body v.open_still);
-    polls = λ name d v. unconfirming _ name (polled d) refl;
+    reads = λ name d m i t v. reads_came name d (Step.sender_node m.from) m.body v.named (read_on (looks_at c s.register d.log) d (Step.sender_node m.from) m.body v.open_still);
+    polls = λ name d v. unconfirming _ name (polled (looks_at c s.register d.log) d) refl;
     opens = λ name l from until o. unconfirming [] name (opened l (length s.readers) from until) refl;
   }
 
@@ -160,9 +187,19 @@ module _ (c : Config) (w : World) (e : Event) (N : NamesOnce w.state) (A : Apart
   }
 
   asked_drawn : (z g : ℕ) → find z v.asked ≡ Some g → g ≤ generation_of (next_world c w e).state.register z
-  asked_drawn z g q = let o = lost_in x.next z g x.held (find_in z _ g (subst (λ (k : List (ℕ × ℕ)). find z k ≡ Some g) n.asked q)) in
+  asked_drawn z g q = let o = lost_in x.next z g (seen_nodes n.view) x.held (find_in z _ g (subst (λ (k : List (ℕ × ℕ)). find z k ≡ Some g) n.asked q)) in
       subst (λ y. g ≤ generation_of (next_world c w e).state.register y) o.node
       (Q.generations (answer_to o.answer.0 x o.answer.1.body) x.number o.number o.round g o.end (Q.held t x o.answer f o.there) refl o.is)
+
+  -- the nodes that the last look showed are those of the number's epoch
+  pub new_set : OnlyClosed w.state.register → AllShow c w.state.register w.state.readers → (0 < home_epoch x.next) × (home_epoch x.next ≤ (epochs_of (next_world c w e).state.register x.log).epoch) × (seen_nodes n.view ≡ set_at c (next_world c w e).state.register x.log (home_epoch x.next))
+  unfolding finish
+  new_set O S =
+      let p : 0 < home_epoch x.next = loss_positive (next_world c w e) Q t x f x.next (seen_nodes n.view) n.loss in
+      let u = follows c w.state e N O in
+      let k : Shows c (next_world c w e).state.register n.reader.log n.view = shows_later c w.state.register (next_world c w e).state.register n.reader.log n.view u.0 (specs_stay c w.state e N) (seen_shows c w.state.register n.reader n.view (S t n.reader n.named) n.came) in
+      let h : Shows c (next_world c w e).state.register x.log n.view = subst (λ l. Shows c (next_world c w e).state.register l n.view) (sym n.log) k in
+      (p, h.epoch (home_epoch x.next) n.seen, h.nodes (home_epoch x.next) p n.seen)
 
   pub since_new : Since (next_world c w e) x.number x.log x.next v.round v.asked (next_world c w e)
   since_new = record {

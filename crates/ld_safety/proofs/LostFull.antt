@@ -78,9 +78,9 @@ clean_apart g k e c a b n q = not_both _ (c k a b) (ap is_some (ap (summary_at g
 found_positive : (g : Log) (k : ℕ) (z : Summary) → FullLog g → find k g.summaries ≡ Some z → 0 < k
 found_positive g k z F h = F.positive (k, z) (find_in k g.summaries z h)
 
-pub full_accept : (g : Log) (e : Entry) → Served g (epoch_of e.number) → FullLog g → FullLog (accepted g e)
+pub full_accept : (g : Log) (lng : ℕ) (e : Entry) → Served g (epoch_of e.number) → FullLog g → FullLog (accepted g lng e)
 unfolding summary_at
-full_accept g e v F = record {
+full_accept g lng e v F = record {
   numbers = accept_numbers e e.what g.entries F.numbers;
   rising = F.rising;
   positive = F.positive;

@@ -65,7 +65,7 @@ lost_full (d ∷ ds) l = full_or (is_at (nat_cmp l) d.0) (find l (lost_logs ds))
 pub op_full : (p : Plain) (o : Op) → OpFits p o → FullPlain p → FullPlain (apply p o)
 unfolding apply
 op_full p (ops.Format generation epochs) h F = λ l. lost_full epochs l
-op_full p (ops.Accept l lng e) h F = with_full p l _ F (full_accept (log_of p l) e h (F l))
+op_full p (ops.Accept l lng e) h F = with_full p l _ F (full_accept (log_of p l) lng e h (F l))
 op_full p (ops.Seal l b) h F = with_full p l _ F (full_seal (log_of p l) b (F l))
 op_full p (ops.Clean l epoch y) h F = with_full p l _ F (full_clean (log_of p l) epoch y h.0 h.1 (F l))
 op_full p (ops.Trim l t) h F = with_full p l _ F (full_trim (log_of p l) t (F l))

@@ -1,6 +1,6 @@
 -- Along every run nodes keep what was settled; so losses happened, and stood at the confirming asks.
-use Rattle.std.proofs.Common.{◌≡◌, ◌∙◌, ◌⊎◌, ◌≤◌, ◌<◌, ℕ, ◌-◌, inl, inr, refl, ap, sym, subst, Bool, true, false, ◌==◌, nat_lt, if◌then◌else◌, List, Option, Some, None, arith}
-use Rattle.std.proofs.lemmas.Bool.{cases_Bool, and_parts, and_from, eqb-true, eqb-false, leb-true, lt-ltb, cases_order}
+use Rattle.std.proofs.Common.{◌≡◌, ◌∙◌, ◌⊎◌, ◌≤◌, ◌<◌, ℕ, ◌-◌, inl, inr, refl, ap, sym, subst, Bool, true, false, ◌==◌, nat_lt, nat_le, if◌then◌else◌, List, Option, Some, None, arith}
+use Rattle.std.proofs.lemmas.Bool.{cases_Bool, and_parts, and_from, eqb-true, eqb-false, leb-true, leb-false, lt-ltb, cases_order}
 use Rattle.ld_table.specs.Table.{find}
 use Rattle.ld_table.specs.Words.{how_many}
 use Rattle.ld_lsn.specs.Number.{epoch_of, esn_of, numbered, home_epoch, is_epoch_end, last_esn}
@@ -9,7 +9,7 @@ use Rattle.ld_schedule.specs.declared.event.Event.{Event}
 use Rattle.ld_msg.specs.declared.msg.What.{What}
 use Rattle.ld_msg.specs.declared.msg.What.TheVariants.{Rec, Hole, Bridge}
 use Rattle.ld_msg.specs.declared.msg.Summary.{Summary}
-use Rattle.ld_msg.specs.Digest.{best, content, is_bridge, plan_end, trim_place, digest_trim}
+use Rattle.ld_msg.specs.Digest.{best, content, is_bridge, plan_end, plan_floor}
 use Rattle.ld_msg.specs.Register.{epochs_of}
 use Rattle.ld_op.specs.Plain.{Plain, log_of, is_lost}
 use Rattle.ld_machine.specs.Config.{spec_of, set_at}
@@ -17,21 +17,23 @@ use Rattle.ld_machine.specs.Disk.{Cut}
 use Rattle.ld_machine.specs.State.{node_at}
 use Rattle.ld_machine.specs.Facts.{Happened}
 use Rattle.ld_machine.specs.Safe.{LossesHappened, Safe}
-use Rattle.ld_machine.specs.World.{World, MayHold, item, settled, has_told, says_settled}
+use Rattle.ld_machine.specs.World.{World, MayHold, item, settled, has_told, says_stored, says_settled}
 use Rattle.ld_machine.specs.Invariant.{Closed, CopiesOf, HoldsItem}
 use Rattle.ld_machine.specs.Run.{Takes, history}
-use Rattle.ld_safety.specs.Lost.{CopiesWereLost}
+use Rattle.ld_safety.specs.Lost.{CopiesWereLost, has_copied}
 use Rattle.ld_safety.proofs.Lists.{Some_inj, not_none, not_both}
 use Rattle.ld_safety.proofs.Members.{find_in}
 use Rattle.ld_safety.proofs.Plans.{plan_between, content_no_bridge}
 use Rattle.ld_safety.proofs.GivenSteps.{BaseGiven}
+use Rattle.ld_safety.proofs.Protocol.{told_stored}
 use Rattle.ld_safety.proofs.Settled.{ClosedBy}
-use Rattle.ld_safety.proofs.Shown.{plan_ends, above_trim}
+use Rattle.ld_safety.proofs.Shown.{plan_ends, above_floor}
 use Rattle.ld_safety.proofs.Cleans.{PlainClean}
-use Rattle.ld_safety.proofs.Along.{Along, PlainSaid}
+use Rattle.ld_safety.proofs.Along.{Along}
 use Rattle.ld_safety.proofs.AlongSteps.{along_kept}
 use Rattle.ld_safety.proofs.Agreed.{found_plan, item_is}
-use Rattle.ld_safety.proofs.CopiesStand.{in_book, once, facts, copies_here}
+use Rattle.ld_safety.proofs.CopiesStand.{in_book, once, facts, good_held, copies_here}
+pub use Rattle.ld_safety.proofs.CopiesStand.{said_at}
 use Rattle.ld_safety.proofs.Retained.{at_nodes}
 use Rattle.ld_safety.proofs.LostPages.{CleanKept, HasEntry}
 use Rattle.ld_safety.proofs.LostSettled as settled_losses
@@ -66,23 +68,12 @@ no_bridge (Rec p) n = refl
 no_bridge Hole n = refl
 no_bridge Bridge n = absurd (n refl)
 
-abbrev CutSaid : Config → List Happened → World → Option Cut → Type 0
-CutSaid c hs w None = Unit {0}
-CutSaid c hs w (Some k) = PlainSaid c hs w k.plain
-
 abbrev CutClean : Option Cut → Type 0
 CutClean None = Unit {0}
 CutClean (Some k) = PlainClean k.plain
 
 module _ (c : Config) (hs : List Happened) (w : World) (B : BaseGiven c hs w × Along c hs w) where
   -- ---- both plain states ----
-  pub said_at : (y : ℕ) (p : Plain) → MayHold (node_at w.state y) p → PlainSaid c hs w p
-  said_at y p (inl q) = subst (PlainSaid c hs w) (sym q) (B.1.said.nodes y).plain
-  said_at y p (inr h) = subst (PlainSaid c hs w) (sym h.2) (by_cut (node_at w.state y).cut h.1 (B.1.said.nodes y).cut) where
-    by_cut : (o : Option Cut) → o ≡ Some h.0 → CutSaid c hs w o → PlainSaid c hs w h.0.plain
-    by_cut None q H = absurd (not_none q)
-    by_cut (Some x) q H = subst (λ (v : Cut). PlainSaid c hs w v.plain) (Some_inj q) H
-
   clean_at : (y : ℕ) (p : Plain) → MayHold (node_at w.state y) p → PlainClean p
   clean_at y p (inl q) = subst PlainClean (sym q) (B.1.cleans y).plain
   clean_at y p (inr h) = subst PlainClean (sym h.2) (by_cut (node_at w.state y).cut h.1 (B.1.cleans y).cut) where
@@ -108,7 +99,7 @@ module _ (c : Config) (hs : List Happened) (w : World) (B : BaseGiven c hs w × 
       (omega arith, ends_by l e z k)
 
   summaries_here : (y l e : ℕ) (p : Plain) (z : Summary) → MayHold (node_at w.state y) p → 0 < e → find e (log_of p l).summaries ≡ Some z → Closed w l e z × (z.trim ≤ (log_of p l).trim)
-  summaries_here y l e p z m pos f = elim ((said_at y p m l).summaries (e, z) (find_in e (log_of p l).summaries z f)).1 [
+  summaries_here y l e p z m pos f = elim ((said_at c hs w B y p m l).summaries (e, z) (find_in e (log_of p l).summaries z f)).1 [
     | inl a ↦ absurd (let u = a.0 in omega arith)
     | inr a ↦ (a.found_so, (clean_at y p m l).trims e z f)
   ]
@@ -126,41 +117,58 @@ module _ (c : Config) (hs : List Happened) (w : World) (B : BaseGiven c hs w × 
     | inr a ↦ let q = place_in s z.end a.positive hi (ends_by l (home_epoch s) z a) in record { closed = subst (λ e. ClosedHere l e z) q.0 a; home = q.0; place = q.1; below = q.2 }
   ]
 
-  copies_of : (l s : ℕ) (z : Summary) → Closed w l (home_epoch s) z → z.trim < s → s < numbered (home_epoch s) z.end → CopiesOf c w l s z.ballot
-  copies_of l s z f tr hi =
+  -- above what was known good the closing plan's copies count
+  copies_of : (l s : ℕ) (z : Summary) → Closed w l (home_epoch s) z → z.trim < s → s < numbered (home_epoch s) z.end → z.lng < esn_of s → CopiesOf c w l s z.ballot
+  copies_of l s z f tr hi up =
       let i = inside l s z f tr hi in
       let q = number_is (home_epoch s) s i.home in
-      subst (λ n. CopiesOf c w l n z.ballot) q (copies_here c hs w B.0.0 B.1 l (home_epoch s) (esn_of s) z f (subst (λ n. z.trim < n) (sym q) tr) i.place i.below)
+      subst (λ n. CopiesOf c w l n z.ballot) q (copies_here c hs w B l (home_epoch s) (esn_of s) z f (subst (λ n. z.trim < n) (sym q) tr) up i.below)
 
-  settled_here : (l s : ℕ) (z : Summary) → Closed w l (home_epoch s) z → z.trim < s → s < numbered (home_epoch s) z.end → (spec_of c l (home_epoch s)).r ≤ how_many (has_told w (says_settled s) l z.ballot) (set_at c l (home_epoch s))
+  settled_here : (l s : ℕ) (z : Summary) → Closed w l (home_epoch s) z → z.trim < s → s < numbered (home_epoch s) z.end → (spec_of c w.state.register l (home_epoch s)).r ≤ how_many (has_copied w l s z) (set_at c w.state.register l (home_epoch s))
   unfolding settled
-  settled_here l s z f tr hi = leb-true _ _ (copies_of l s z f tr hi).enough
+  settled_here l s z f tr hi = subst (λ e. (spec_of c w.state.register l e).r ≤ how_many (has_copied w l s z) (set_at c w.state.register l e)) (sym (inside l s z f tr hi).home) (by_good (nat_le (esn_of s) z.lng) refl) where
+    by_good : (b : Bool) → nat_le (esn_of s) z.lng ≡ b
+        → (spec_of c w.state.register l (epoch_of s)).r ≤ how_many (λ y. if b then has_told w (says_stored s) l (epoch_of s) y else has_told w (says_settled s) l z.ballot y) (set_at c w.state.register l (epoch_of s))
+    by_good true t = let i = inside l s z f tr hi in (i.closed.plan.good s refl i.place (leb-true _ _ t)).chosen
+    by_good false t = leb-true _ _ (copies_of l s z f tr hi (leb-false _ _ t)).enough
 
   -- what the closing plan says of it is no bridge
-  no_bridge_item : (l s : ℕ) (z : Summary) (x : What) → Inside l s z → z.trim < s → item w l s z.ballot ≡ Some x → is_bridge x ≡ false
-  no_bridge_item l s z x i tr h =
+  no_bridge_item : (l s : ℕ) (z : Summary) (x : What) → Inside l s z → z.trim < s → z.lng < esn_of s → item w l s z.ballot ≡ Some x → is_bridge x ≡ false
+  no_bridge_item l s z x i tr up h =
       let d = i.closed.plan in
-      let lo : trim_place (epoch_of s) (digest_trim d.digest) < esn_of s = subst (λ t. trim_place (epoch_of s) t < esn_of s) d.trim (above_trim (epoch_of s) s z.trim refl i.place tr) in
-      let up : esn_of s < plan_end (epoch_of s) d.digest = (let e = d.end in let b = i.below in omega arith) in
+      let lo : plan_floor (epoch_of s) d.digest < esn_of s = above_floor c hs w.made w.state.network.sent w.state.register (once c hs w B.0.0 B.1) B.1.once (facts c hs w B.0.0 B.1) l s z d i.place tr up in
+      let hi : esn_of s < plan_end (epoch_of s) d.digest = (let e = d.end in let b = i.below in omega arith) in
       let b = in_book l (epoch_of s) z.ballot w.made d.digest d.planned in
       let q : b.0 ≡ d.digest = B.1.once l (epoch_of s) z.ballot b.0 d.digest (found_plan l (epoch_of s) z.ballot w.made b.0 b.1) d.planned in
       let t = (B.1.plans l (epoch_of s) z.ballot d.digest d.planned).later in
       let v = content (best (numbered (epoch_of s) (esn_of s)) d.digest) in
-      let k = item_is c hs w B.0.0 B.1 l s z.ballot d.digest v t (b.1 ∙ ap Some q) (plan_between (epoch_of s) d.digest (esn_of s) lo up) in
+      let k = item_is c hs w B.0.0 B.1 l s z.ballot d.digest v t (b.1 ∙ ap Some q) (plan_between (epoch_of s) d.digest (esn_of s) lo hi) in
       let r : v ≡ x = Some_inj (sym k ∙ h) in
       subst (λ u. is_bridge u ≡ false) r (no_bridge v (content_no_bridge _))
 
-  has_here : (l s : ℕ) (z : Summary) (p : Plain) (x : What) → Inside l s z → z.trim < s → item w l s z.ballot ≡ Some x → HoldsItem p l s z.ballot x → HasEntry (log_of p l) s
-  has_here l s z p x i tr h g = (g.0, g.1, subst (λ u. is_bridge u ≡ false) (sym g.3) (no_bridge_item l s z x i tr h))
+  has_entry : (l s b : ℕ) (p : Plain) (x : What) → is_bridge x ≡ false → HoldsItem p l s b x → HasEntry (log_of p l) s
+  has_entry l s b p x n g = (g.0, g.1, subst (λ u. is_bridge u ≡ false) (sym g.3) n)
 
-  kept_here : (y l s : ℕ) (z : Summary) (p : Plain) → Closed w l (home_epoch s) z → z.trim < s → s < numbered (home_epoch s) z.end → has_told w (says_settled s) l z.ballot y ≡ true → MayHold (node_at w.state y) p →
+  kept_here : (y l s : ℕ) (z : Summary) (p : Plain) → Closed w l (home_epoch s) z → z.trim < s → s < numbered (home_epoch s) z.end → has_copied w l s z y ≡ true → MayHold (node_at w.state y) p →
       (p.generation ≡ 0) ⊎ ((is_lost (log_of p l) (home_epoch s) ≡ true) ⊎ ((s ≤ (log_of p l).trim) ⊎ HasEntry (log_of p l) s))
-  kept_here y l s z p f tr hi t m = let i = inside l s z f tr hi in elim ((copies_of l s z f tr hi).kept y t p m) [
-    | inl a ↦ inl a
-    | inr (inl a) ↦ inr (inl (subst (λ e. is_lost (log_of p l) e ≡ true) (sym i.home) a))
-    | inr (inr (inl a)) ↦ inr (inr (inl a))
-    | inr (inr (inr a)) ↦ inr (inr (inr (has_here l s z p a.0 i tr a.1 a.2)))
-  ]
+  kept_here y l s z p f tr hi t m = by_good (nat_le (esn_of s) z.lng) refl t where
+    at_home : is_lost (log_of p l) (epoch_of s) ≡ true → is_lost (log_of p l) (home_epoch s) ≡ true
+    at_home h = subst (λ e. is_lost (log_of p l) e ≡ true) (sym (inside l s z f tr hi).home) h
+
+    by_good : (b : Bool) → nat_le (esn_of s) z.lng ≡ b → (if b then has_told w (says_stored s) l (epoch_of s) y else has_told w (says_settled s) l z.ballot y) ≡ true
+        → (p.generation ≡ 0) ⊎ ((is_lost (log_of p l) (home_epoch s) ≡ true) ⊎ ((s ≤ (log_of p l).trim) ⊎ HasEntry (log_of p l) s))
+    by_good true q k = let i = inside l s z f tr hi in elim (good_held c hs w B l s z i.closed i.place (leb-true _ _ q) y (told_stored w.state.network.sent l s (epoch_of s) y k) p m) [
+      | inl a ↦ inl a
+      | inr (inl a) ↦ inr (inl (at_home a))
+      | inr (inr (inl a)) ↦ inr (inr (inl a))
+      | inr (inr (inr a)) ↦ inr (inr (inr (has_entry l s (epoch_of s) p _ refl a)))
+    ]
+    by_good false q k = elim ((copies_of l s z f tr hi (leb-false _ _ q)).kept y k p m) [
+      | inl a ↦ inl a
+      | inr (inl a) ↦ inr (inl (at_home a))
+      | inr (inr (inl a)) ↦ inr (inr (inl a))
+      | inr (inr (inr a)) ↦ inr (inr (inr (has_entry l s z.ballot p a.0 (no_bridge_item l s z a.0 (inside l s z f tr hi) tr (leb-false _ _ q) a.1) a.2)))
+    ]
 
 -- nodes keep what was settled
 pub clean_kept : (c : Config) (hs : List Happened) (w : World) → BaseGiven c hs w × Along c hs w → CleanKept c w

@@ -7,13 +7,13 @@ use Rattle.ld_config.specs.declared.config.Config.{Config}
 use Rattle.ld_schedule.specs.declared.event.Event.{Event}
 use Rattle.ld_msg.specs.Reading.{is_loss}
 use Rattle.ld_msg.specs.Register.{generation_of}
-use Rattle.ld_machine.specs.Config.{set_of, set_at}
+use Rattle.ld_machine.specs.Config.{set_at}
 use Rattle.ld_machine.specs.State.{node_at}
 use Rattle.ld_machine.specs.Facts.{Happened}
-use Rattle.ld_machine.specs.World.{World, In, begin, has_told, says_settled}
+use Rattle.ld_machine.specs.World.{World, In, begin}
 use Rattle.ld_machine.specs.Run.{Move, Takes, next_world, world_after}
 use Rattle.ld_machine.specs.Losses.{EndsAsLoss}
-use Rattle.ld_safety.specs.Lost.{LostOnce, LossesWereSeen, CopiesAreLost, is_lost_at}
+use Rattle.ld_safety.specs.Lost.{LostOnce, LossesWereSeen, CopiesAreLost, is_lost_at, has_copied}
 use Rattle.ld_safety.proofs.Lists.{count_mono}
 use Rattle.ld_safety.proofs.Traces.{Keeps, happened, trace, later, both_kept}
 use Rattle.ld_safety.proofs.Generations.{Back, back_here, back_on, back_step, lost_between}
@@ -36,7 +36,7 @@ lost_once c first between last y l e g b was will =
     let hs = trace c (begin c) first in
     let h : Asked c hs u = later c (Asked c) (asked_kept c) [] (begin c) first (asked_kept c).begins in
     let k : Asked c (hs ++ trace c u between) v = later c (Asked c) (asked_kept c) hs u between h in
-    let drawn = h.1.0 y was.0 was.1 in
+    let drawn = h.1.0.0 y was.0 was.1 in
     let d : g ≤ generation_of u.state.register y = (let z = was.2 in omega arith) in
     lost_under (node_at v.state y) l e g (lost_between u v (world_after c v last) (back_along c hs u between h) (back_along c (hs ++ trace c u between) v last k) y l e g d (lost_in_state (node_at (world_after c v last).state y) l e g will)).0
 
@@ -51,14 +51,16 @@ is_member y (x ∷ xs) h = elim (or_cases (x == y) (is_in y xs) h) [
 pub losses_were_seen : LossesWereSeen
 losses_were_seen c name l s round before (Takes asks) between (Takes gives) y b E i =
     let w = world_after c (begin c) before in
+    let t = next_world c w asks in
     let hs = trace c (begin c) before in
+    let set = set_at c t.state.register l (home_epoch s) in
     let a = at_asks c name l s round before asks between gives E in
-    let o = open_at s y (set_of c l) a.reader.held a.loss (is_member y (set_of c l) i) in
+    let o = open_at s y set a.reader.held a.loss (is_member y set i) in
     let S = (standings_kept c).goes_on hs w asks (later c _ (standings_kept c) [] (begin c) before (standings_kept c).begins) in
     elim o.how [
-      | inl t ↦ inr (record { reader = a.reader; there = a.there; answer = o.answer; held = o.held; without = t })
-      | inr t ↦ let k = a.lost y o.answer o.held t in
-          inl (record { state = k; lines = (S.1.1 y l i).lost (node_at (next_world c w asks).state y).plain (home_epoch s) (inl refl) k })
+      | inl q ↦ inr (record { reader = a.reader; there = a.there; answer = o.answer; held = o.held; without = q })
+      | inr q ↦ let k = a.lost y o.answer (is_member y set i) o.held q in
+          inl (record { state = k; lines = (S.1.1 y l).lost (node_at t.state y).plain (home_epoch s) (inl refl) k })
     ]
 
 -- ---- with what is left to be shown of the nodes ----
@@ -71,9 +73,10 @@ module _ (c : Config) (Q : List Happened → World → Type 0) (K : Keeps c Q) (
       let a = at_asks c name l s round before asks between gives E in
       let B : Keeps c (Known c Q) = both_kept c (Asked c) Q (asked_kept c) K in
       let h : Known c Q (hs ++ happened c w.state asks ∷ []) t = B.goes_on hs w asks (later c (Known c Q) B [] (begin c) before B.begins) in
+      let r = t.state.register in
       let z : SettledApart c t l s a.reader.held = subst (λ k. SettledApart c t l k a.reader.held) a.next (subst (λ k. SettledApart c t k a.reader.next a.reader.held) a.log
-      (P (hs ++ happened c w.state asks ∷ []) t h name a.reader a.there (subst (λ k. is_loss a.reader.next (set_of c k) a.reader.held ≡ true) (sym a.log) (subst (λ k. is_loss k (set_of c l) a.reader.held ≡ true) (sym a.next) a.loss)))) in
-      let m = count_mono (has_told t (says_settled s) l z.summary.ballot) (λ n. is_lost_at l (home_epoch s) (node_at t.state n) && has_told t (says_settled s) l z.summary.ballot n) (set_at c l (home_epoch s)) (λ y i q.
-      let o = open_at s y (set_of c l) a.reader.held a.loss i in and_from (is_lost_at l (home_epoch s) (node_at t.state y)) (has_told t (says_settled s) l z.summary.ballot y)
-      (elim o.how [ inl v ↦ absurd (z.apart y o.answer i o.held v q) | inr v ↦ a.lost y o.answer o.held v ]) q) in
+      (P (hs ++ happened c w.state asks ∷ []) t h name a.reader a.there (subst (λ k. is_loss a.reader.next (set_at c r k (home_epoch a.reader.next)) a.reader.held ≡ true) (sym a.log) (subst (λ k. is_loss k (set_at c r l (home_epoch k)) a.reader.held ≡ true) (sym a.next) a.loss)))) in
+      let m = count_mono (has_copied t l s z.summary) (λ n. is_lost_at l (home_epoch s) (node_at t.state n) && has_copied t l s z.summary n) (set_at c r l (home_epoch s)) (λ y i q.
+      let o = open_at s y (set_at c r l (home_epoch s)) a.reader.held a.loss i in and_from (is_lost_at l (home_epoch s) (node_at t.state y)) (has_copied t l s z.summary y)
+      (elim o.how [ inl v ↦ absurd (z.apart y o.answer i o.held v q) | inr v ↦ a.lost y o.answer i o.held v ]) q) in
       (z.summary, z.closed, let n = z.enough in omega arith)

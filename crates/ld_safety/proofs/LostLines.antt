@@ -11,10 +11,12 @@ use Rattle.ld_msg.specs.declared.msg.Msg.{Msg}
 use Rattle.ld_msg.specs.declared.msg.Who.TheVariants as whos
 use Rattle.ld_msg.specs.declared.msg.Body.{Body}
 use Rattle.ld_msg.specs.declared.msg.Body.TheVariants as bodies
-use Rattle.ld_msg.specs.Reading.{Held, Item, TrimTo, RecordHere, HoleHere, BridgeTo, LossHere, lost_held, lost_generation, is_lost_for}
+use Rattle.ld_msg.specs.Reading.{Held, Item, TrimTo, RecordHere, HoleHere, BridgeTo, LossHere, lost_held, lost_generation, is_lost_for, within}
 use Rattle.ld_msg.specs.Reader.{Reader, Confirmation, heard, is_confirmed, on_answer}
+use Rattle.ld_machine.specs.Config.{looks_at}
 use Rattle.ld_machine.specs.State.{State}
 use Rattle.ld_machine.specs.World.{World, In}
+use Rattle.ld_safety.proofs.Members.{filter_in, in_set}
 use Rattle.ld_machine.specs.Step as Step
 use Rattle.ld_safety.proofs.Lists.{Some_inj, In_left, In_right, all_in}
 use Rattle.ld_safety.proofs.Events.{NamesOnce, Reading, dispatch, is_quiet}
@@ -59,10 +61,10 @@ abbrev LossesOf : State → List Line → Type 0
 LossesOf s ls = (name : List ℕ) (low high : ℕ) → In (lines.Gap name gaps.DataLoss low high) ls → LossGiven s name low high
 
 reads_losses : (c : Config) (s : State) (name : List ℕ) (d : Reader) (m : Msg) → In m s.network.sent → m.to ≡ whos.Reader d.number → Reading s name d
-    → LossesOf s (Step.item_lines name (on_answer (Step.set_read c d) d (Step.sender_node m.from) m.body).reader.until (on_answer (Step.set_read c d) d (Step.sender_node m.from) m.body).items)
+    → LossesOf s (Step.item_lines name (on_answer (looks_at c s.register d.log) d (Step.sender_node m.from) m.body).reader.until (on_answer (looks_at c s.register d.log) d (Step.sender_node m.from) m.body).items)
 reads_losses c s name d m i t v r low high j =
     let y = Step.sender_node m.from in
-    let G = read_on (Step.set_read c d) d y m.body v.open_still in
+    let G = read_on (looks_at c s.register d.log) d y m.body v.open_still in
     let k = loss_item name _ _ r low high j in
     let z = G.losses k.item k.there k.loss in
     record { reader = d; named = subst (λ (u : List ℕ). find_named u s.readers ≡ Some d) (sym k.whose) v.named; message = m; sent = i; to = t; confirmed = z.1; first = k.first ∙ z.0; last = k.last ∙ z.0 }
@@ -79,7 +81,7 @@ losses_given c s e N = dispatch c s e (λ d m. LossesOf s d.lines) N (line_cases
 abbrev OneOf : ℕ → ℕ → List (ℕ × ℕ) → Type 0
 OneOf y g m = In {X = ℕ × ℕ} (y, g) m
 
--- each node that is held as lost is among those asked
+-- each node of the set that is held as lost is among those asked
 pub record AmongLost (s y : ℕ) (hs : List (ℕ × Held)) : Type 0 where
   pub generation : ℕ
   pub there : OneOf y generation (lost_held s hs)
@@ -88,10 +90,13 @@ one_among : (s y : ℕ) (b : Body) → is_lost_for s b ≡ true → (g : ℕ) ×
 one_among s y (bodies.LostHere n u g end) h = (g, subst (λ t. OneOf y g (cond t ((y, g) ∷ []) [])) (sym h) (inl refl))
 one_among s y _ h = absurd cc
 
-pub among_lost : (s y : ℕ) (h : Held) (hs : List (ℕ × Held)) → In {X = ℕ × Held} (y, h) hs → is_lost_for s h.body ≡ true → AmongLost s y hs
-among_lost s y h [] i l = absurd i
-among_lost s y h (k ∷ hs) (inl e) l = let a = one_among s y h.body l in record { generation = a.0; there = In_left {X = ℕ × ℕ} _ (lost_generation s k.0 k.1.body) (lost_held s hs) (subst (λ (z : ℕ × Held). OneOf y a.0 (lost_generation s z.0 z.1.body)) e a.1) }
-among_lost s y h (k ∷ hs) (inr i) l = let a = among_lost s y h hs i l in record { generation = a.generation; there = In_right {X = ℕ × ℕ} _ (lost_generation s k.0 k.1.body) (lost_held s hs) a.there }
+lost_among : (s y : ℕ) (h : Held) (hs : List (ℕ × Held)) → In {X = ℕ × Held} (y, h) hs → is_lost_for s h.body ≡ true → AmongLost s y hs
+lost_among s y h [] i l = absurd i
+lost_among s y h (k ∷ hs) (inl e) l = let a = one_among s y h.body l in record { generation = a.0; there = In_left {X = ℕ × ℕ} _ (lost_generation s k.0 k.1.body) (lost_held s hs) (subst (λ (z : ℕ × Held). OneOf y a.0 (lost_generation s z.0 z.1.body)) e a.1) }
+lost_among s y h (k ∷ hs) (inr i) l = let a = lost_among s y h hs i l in record { generation = a.generation; there = In_right {X = ℕ × ℕ} _ (lost_generation s k.0 k.1.body) (lost_held s hs) a.there }
+
+pub among_lost : (s y : ℕ) (h : Held) (set : List ℕ) (hs : List (ℕ × Held)) → In y set → In {X = ℕ × Held} (y, h) hs → is_lost_for s h.body ≡ true → AmongLost s y (within set hs)
+among_lost s y h set hs m i l = lost_among s y h (within set hs) (filter_in (λ (k : ℕ × Held). is_in k.0 set) (y, h) hs i (in_set y set m)) l
 
 -- when the last asked node has said again that it is lost, each of them was lost at the moment of the asks
 module _ (c : Config) (then w : World) (e : Event) (A : Apart w.state.network.sent w.state.readers) (R : RoundsOf w) (name : List ℕ) (d : Reader) (u : Confirmation) (P : Since then d.number d.log d.next u.round u.asked w)

@@ -1,4 +1,4 @@
--- Each line that calls a number lost had a moment: the end of the step that sent the confirming asks. Each node of the log was lost then, or the reader held a clean page of it that lacks the number.
+-- Each line that calls a number lost had a moment: the end of the step that sent the confirming asks. Each node of the number's epoch was lost then, or the reader held a clean page of it that lacks the number.
 use Rattle.std.proofs.Common.{◌≡◌, ◌∙◌, ◌⊎◌, ◌≤◌, ◌<◌, ℕ, ◌+◌, inl, inr, refl, ap, sym, subst, true, List, [], ◌∷◌, ◌++◌, length, Option, Some, None, append_assoc, append-nil, length-append, arith}
 use Rattle.std.proofs.lemmas.Bool.{and_parts, or_cases}
 use Rattle.ld_table.specs.Table.{find}
@@ -9,11 +9,11 @@ use Rattle.ld_config.specs.declared.config.Config.{Config}
 use Rattle.ld_schedule.specs.declared.event.Event.{Event}
 use Rattle.ld_transcript.specs.declared.line.Line.TheVariants as lines
 use Rattle.ld_transcript.specs.declared.line.GapKind.TheVariants as gaps
-use Rattle.ld_msg.specs.Reading.{Held, is_loss, leaves_open, lacks, is_lost_for, lost_held, knows_end_above}
+use Rattle.ld_msg.specs.Reading.{Held, is_loss, leaves_open, lacks, is_lost_for, lost_held, knows_end_above, within}
 use Rattle.ld_msg.specs.Reader.{Reader, Confirmation, heard, is_confirmed}
 use Rattle.ld_msg.specs.declared.msg.Body.{Body}
 use Rattle.ld_msg.specs.Register.{generation_of}
-use Rattle.ld_machine.specs.Config.{set_of}
+use Rattle.ld_machine.specs.Config.{set_at}
 use Rattle.ld_machine.specs.State.{node_at}
 use Rattle.ld_machine.specs.Facts.{Happened, Writes}
 use Rattle.ld_machine.specs.World.{World, In, Sent, begin}
@@ -23,12 +23,13 @@ use Rattle.ld_safety.proofs.Lists.{not_none, all_in}
 use Rattle.ld_safety.proofs.Members.{find_in}
 use Rattle.ld_safety.proofs.Traces.{Keeps, happened, both_kept, beside_kept, at_step}
 use Rattle.ld_safety.proofs.GivenItems.{line_at}
+use Rattle.ld_safety.proofs.Registers.{Reached}
 use Rattle.ld_safety.proofs.LostNodes.{LostIn}
 use Rattle.ld_safety.proofs.LostReads.{heard_lasts}
 use Rattle.ld_safety.proofs.LostRounds.{AtMost, answer_to}
 use Rattle.ld_safety.proofs.LostAlong.{Asked, asked_kept}
 use Rattle.ld_safety.proofs.LostSince.{Since, since_step}
-use Rattle.ld_safety.proofs.LostBegins.{StillThere, NewHere, lost_in, came, since_new}
+use Rattle.ld_safety.proofs.LostBegins.{StillThere, NewHere, lost_in, came, new_set, since_new}
 use Rattle.ld_safety.proofs.LostLines.{LossGiven, losses_given, among_lost, confirmed_lost}
 
 -- Q is whatever else is known of each state of the run
@@ -52,8 +53,9 @@ module _ (c : Config) (Q : List Happened → World → Type 0) where
     pub number : reader.number ≡ r
     pub log : reader.log ≡ l
     pub next : reader.next ≡ s
-    pub asked_held : asked ≡ lost_held s reader.held
-    pub loss : is_loss s (set_of c l) reader.held ≡ true
+    pub reached : Reached then.state.register l (home_epoch s)
+    pub asked_held : asked ≡ lost_held s (within (set_at c then.state.register l (home_epoch s)) reader.held)
+    pub loss : is_loss s (set_at c then.state.register l (home_epoch s)) reader.held ≡ true
 
   abbrev pub AllBegan : List Happened → World → Type 0
   AllBegan hs w = (t : List ℕ) (d : Reader) (v : Confirmation) → find_named t w.state.readers ≡ Some d → d.confirming ≡ Some v → Began hs w d.number d.log d.next v.round v.asked
@@ -80,12 +82,13 @@ module _ (c : Config) (Q : List Happened → World → Type 0) where
       number = b.number;
       log = b.log;
       next = b.next;
+      reached = b.reached;
       asked_held = b.asked_held;
       loss = b.loss;
     })
 
     new_began : (t : List ℕ) (x : Reader) (v : Confirmation) → find_named t (next_world c w e).state.readers ≡ Some x → x.confirming ≡ Some v → NewHere c w.state (Step.happens c w.state e).sends t x v → Began (hs ++ happened c w.state e ∷ []) (next_world c w e) x.number x.log x.next v.round v.asked
-    new_began t x v f h n = record {
+    new_began t x v f h n = let z = new_set c w e K.0.0.0.0 K.0.0.1.1 K.0.1.1 L.0.0.1.1 L.0.1.1 t x v f h n K.0.0.1.0 K.0.1.0.1 in record {
       before = hs ++ happened c w.state e ∷ [];
       after = [];
       split = sym (append-nil (hs ++ happened c w.state e ∷ []));
@@ -100,8 +103,9 @@ module _ (c : Config) (Q : List Happened → World → Type 0) where
       number = refl;
       log = refl;
       next = refl;
-      asked_held = n.asked;
-      loss = n.loss;
+      reached = (z.0, z.1);
+      asked_held = subst (λ (k : List ℕ). v.asked ≡ lost_held x.next (within k x.held)) z.2 n.asked;
+      loss = subst (λ (k : List ℕ). is_loss x.next k x.held ≡ true) z.2 n.loss;
     }
 
     began_step : AllBegan (hs ++ happened c w.state e ∷ []) (next_world c w e)
@@ -122,7 +126,7 @@ module _ (c : Config) (Q : List Happened → World → Type 0) where
   confirmed_drawn hs w M t d v y g f h i =
       let b = M.1 t d v f h in
       let R = b.holds.0.1.1 in
-      let o = lost_in d.next y g b.reader.held (subst (λ (k : List (ℕ × ℕ)). In {X = ℕ × ℕ} (y, g) k) b.asked_held i) in
+      let o = lost_in d.next y g (set_at c b.then.state.register d.log (home_epoch d.next)) b.reader.held (subst (λ (k : List (ℕ × ℕ)). In {X = ℕ × ℕ} (y, g) k) b.asked_held i) in
       let then_drawn : g ≤ generation_of b.then.state.register y = subst (λ z. g ≤ generation_of b.then.state.register z) o.node
       (R.generations (answer_to o.answer.0 b.reader o.answer.1.body) b.reader.number o.number o.round g o.end (R.held b.name b.reader o.answer b.named o.there) refl o.is) in
       let later = b.since.back.generations y in
@@ -145,9 +149,10 @@ module _ (c : Config) (Q : List Happened → World → Type 0) where
     pub named : find_named name then.state.readers ≡ Some reader
     pub log : reader.log ≡ d.log
     pub next : reader.next ≡ s
-    pub loss : is_loss s (set_of c d.log) reader.held ≡ true
+    pub reached : Reached then.state.register d.log (home_epoch s)
+    pub loss : is_loss s (set_at c then.state.register d.log (home_epoch s)) reader.held ≡ true
     pub sent : (h : ℕ × Held) → In h reader.held → Sent then (answer_to h.0 reader h.1.body) × AtMost h.1.body reader
-    pub lost : (y : ℕ) (h : Held) → find y reader.held ≡ Some h → is_lost_for s h.body ≡ true → (g : ℕ) × LostIn (node_at then.state y) d.log (home_epoch s) g
+    pub lost : (y : ℕ) (h : Held) → In y (set_at c then.state.register d.log (home_epoch s)) → find y reader.held ≡ Some h → is_lost_for s h.body ≡ true → (g : ℕ) × LostIn (node_at then.state y) d.log (home_epoch s) g
 
   confirmation_of : (d : Reader) (y : ℕ) (b : Body) (o : Option Confirmation) → (heard d y b).confirming ≡ o → is_confirmed o ≡ true → (u : Confirmation) × (d.confirming ≡ Some u)
   confirmation_of d y b None q h = absurd cc
@@ -172,9 +177,10 @@ module _ (c : Config) (Q : List Happened → World → Type 0) where
           named = b.named;
           log = b.log;
           next = b.next;
+          reached = b.reached;
           loss = b.loss;
           sent = λ h i. (b.holds.0.1.1.held b.name b.reader h b.named i, b.holds.0.1.1.waves (answer_to h.0 b.reader h.1.body) b.reader.number b.name b.reader (b.holds.0.1.1.held b.name b.reader h b.named i) (inl refl) b.named refl);
-          lost = λ y h f l. let z = among_lost g.reader.next y h b.reader.held (find_in y b.reader.held h f) l in
+          lost = λ y h m f l. let z = among_lost g.reader.next y h (set_at c b.then.state.register g.reader.log (home_epoch g.reader.next)) b.reader.held m (find_in y b.reader.held h f) l in
               let t = confirmed_lost c b.then w e M.0.0.0.1.1 M.0.0.1.1 name g.reader u.0 b.since g.named u.1 g.message g.sent g.to g.confirmed y z.generation (subst (λ (k : List (ℕ × ℕ)). In {X = ℕ × ℕ} (y, z.generation) k) (sym b.asked_held) z.there) in
               (t.generation, t.lost);
         }
@@ -219,7 +225,7 @@ pub record OpenAt (s y : ℕ) (hs : List (ℕ × Held)) : Type 0 where
 
 pub open_at : (s y : ℕ) (set : List ℕ) (hs : List (ℕ × Held)) → is_loss s set hs ≡ true → In y set → OpenAt s y hs
 unfolding is_loss
-open_at s y set hs l i = by_held (find y hs) refl (all_in (λ z. leaves_open s (find z hs)) y set (and_parts _ _ (and_parts _ (any_of (λ h. knows_end_above s h.1.body) hs) l).0).0 i) where
+open_at s y set hs l i = by_held (find y hs) refl (all_in (λ z. leaves_open s (find z hs)) y set (and_parts _ _ (and_parts _ (any_of (λ h. knows_end_above s h.1.body) (within set hs)) l).0).0 i) where
   by_held : (o : Option Held) → find y hs ≡ o → leaves_open s o ≡ true → OpenAt s y hs
   by_held None e h = absurd cc
   by_held (Some a) e h = record { answer = a; held = e; how = or_cases (lacks s a.body) (is_lost_for s a.body) h }

@@ -1,5 +1,5 @@
 -- What a clean page shows, and what a lost node knows of an epoch's end, where nodes keep what was settled.
-use Rattle.std.proofs.Common.{◌≡◌, ◌∙◌, ◌⊎◌, ◌≤◌, ◌<◌, ℕ, ◌+◌, ◌-◌, ◌*◌, ◌^◌, inl, inr, refl, ap, sym, subst, Bool, true, false, not, ◌&&◌, ◌==◌, nat_lt, nat_le, cond, if◌then◌else◌, List, [], ◌∷◌, filter, take, Some, is_some, arith}
+use Rattle.std.proofs.Common.{◌≡◌, ◌∙◌, ◌⊎◌, ◌≤◌, ◌<◌, ℕ, ◌+◌, ◌-◌, ◌*◌, ◌^◌, inl, inr, refl, ap, sym, subst, Bool, true, false, not, ◌&&◌, ◌==◌, nat_lt, nat_le, cond, if◌then◌else◌, List, [], ◌∷◌, take, Some, is_some, arith}
 use Rattle.std.proofs.lemmas.Bool.{cases_Bool, and_parts, and_from, eqb-true, eqb-false, leb-true, le-leb, lt-ltb, eq-eqb, cases_order}
 use Rattle.ld_table.specs.Table.{find}
 use Rattle.ld_table.specs.Words.{values, how_many}
@@ -14,10 +14,11 @@ use Rattle.ld_op.specs.Plain.{Plain, Log, log_of, is_lost, summary_at, epoch_zer
 use Rattle.ld_op.specs.Answers.{readable, entries_within, page_upto, page_limit}
 use Rattle.ld_machine.specs.Config.{spec_of, set_at}
 use Rattle.ld_machine.specs.State.{node_at}
-use Rattle.ld_machine.specs.World.{World, In, MayHold, Unserved, says_settled, has_told}
+use Rattle.ld_machine.specs.World.{World, In, MayHold, Unserved}
 use Rattle.ld_machine.specs.Invariant.{Closed}
+use Rattle.ld_safety.specs.Lost.{has_copied}
 use Rattle.ld_safety.proofs.Lists.{Some_inj, not_both, cond_both}
-use Rattle.ld_safety.proofs.Members.{In_filter, find_in}
+use Rattle.ld_safety.proofs.Members.{In_filter, filter_in, find_in}
 use Rattle.ld_safety.proofs.Rising.{Rising, rising_values, rising_filter, page_has}
 use Rattle.ld_safety.proofs.CarriedNodes.{upto_cases}
 use Rattle.ld_safety.proofs.LostUnserved.{AllUnserved}
@@ -33,10 +34,10 @@ pub record CleanKept (c : Config) (w : World) : Type 0 where
   -- a node's summaries are the register's, and it is trimmed as they say
   pub summaries : (y l e : ℕ) (p : Plain) (z : Summary) → MayHold (node_at w.state y) p → 0 < e → find e (log_of p l).summaries ≡ Some z → Closed w l e z × (z.trim ≤ (log_of p l).trim)
   pub tables : (y l : ℕ) (p : Plain) → MayHold (node_at w.state y) p → Rising (log_of p l).entries × ((q : ℕ × Entry) → In q (log_of p l).entries → q.1.number ≡ q.0)
-  -- each number between the closing plan's trim and its end was settled for it by as many nodes as there are copies
-  pub settled : (l s : ℕ) (z : Summary) → Closed w l (home_epoch s) z → z.trim < s → s < numbered (home_epoch s) z.end → (spec_of c l (home_epoch s)).r ≤ how_many (has_told w (says_settled s) l z.ballot) (set_at c l (home_epoch s))
+  -- as many nodes as there are copies answered for each number between the closing plan's trim and its end
+  pub settled : (l s : ℕ) (z : Summary) → Closed w l (home_epoch s) z → z.trim < s → s < numbered (home_epoch s) z.end → (spec_of c w.state.register l (home_epoch s)).r ≤ how_many (has_copied w l s z) (set_at c w.state.register l (home_epoch s))
   -- and each of these nodes is blank, lost for the epoch, trimmed there, or has the number
-  pub copies : (y l s : ℕ) (z : Summary) (p : Plain) → Closed w l (home_epoch s) z → z.trim < s → s < numbered (home_epoch s) z.end → has_told w (says_settled s) l z.ballot y ≡ true → MayHold (node_at w.state y) p →
+  pub copies : (y l s : ℕ) (z : Summary) (p : Plain) → Closed w l (home_epoch s) z → z.trim < s → s < numbered (home_epoch s) z.end → has_copied w l s z y ≡ true → MayHold (node_at w.state y) p →
       (p.generation ≡ 0) ⊎ ((is_lost (log_of p l) (home_epoch s) ≡ true) ⊎ ((s ≤ (log_of p l).trim) ⊎ HasEntry (log_of p l) s))
 
 -- ---- numbers ----
@@ -63,15 +64,6 @@ in_values k f [] i = absurd i
 in_values k f (e ∷ m) (inl q) = inl (ap (λ (x : ℕ × Entry). x.1) q)
 in_values k f (e ∷ m) (inr i) = inr (in_values k f m i)
 
-filter_in : {X : Type 0} (p : X → Bool) (x : X) (xs : List X) → In x xs → p x ≡ true → In x (filter p xs)
-filter_in p x [] i h = absurd i
-filter_in p x (y ∷ xs) i h = by_test (p y) refl i (λ j. filter_in p x xs j h) where
-  by_test : (b : Bool) → p y ≡ b → In x (y ∷ xs) → (In x xs → In x (filter p xs)) → In x (cond b (y ∷ filter p xs) (filter p xs))
-  by_test true q (inl e) ih = inl e
-  by_test true q (inr j) ih = inr (ih j)
-  by_test false q (inl e) ih = absurd (not_both (p y) (subst (λ v. p v ≡ true) e h) q)
-  by_test false q (inr j) ih = ih j
-
 shown_at : (s : ℕ) (f : Entry) (es : List Entry) → In f es → f.number ≡ s → is_some (entry_at s es) ≡ true
 shown_at s f [] i n = absurd i
 shown_at s f (e ∷ es) i n = by_test (e.number == s) refl i (λ j. shown_at s f es j n) where
@@ -89,7 +81,7 @@ pub record CleanPage (w : World) (y l from upto : ℕ) (es : List Entry) : Type 
   pub starts : home_epoch from * 2 ^ 32 < from
   pub ends : upto < numbered (home_epoch from) summary.end
   pub place : summary.end ≤ last_esn
-  pub has : (s : ℕ) → from ≤ s → s ≤ upto → has_told w (says_settled s) l summary.ballot y ≡ true → is_some (entry_at s es) ≡ true
+  pub has : (s : ℕ) → from ≤ s → s ≤ upto → has_copied w l s summary y ≡ true → is_some (entry_at s es) ≡ true
   pub unserved : AllUnserved (node_at w.state y) l (home_epoch from)
 
 -- an end that a lost node knows

@@ -1,12 +1,15 @@
 -- What an answer leaves of a reader's rounds and of its confirmation.
-use Rattle.std.proofs.Common.{◌≡◌, ◌∙◌, ◌⊎◌, ◌≤◌, ◌<◌, ℕ, ◌+◌, min, inl, inr, refl, ap, sym, subst, Bool, true, false, ◌||◌, not, ◌==◌, nat_lt, if◌then◌else◌, cond, List, [], ◌∷◌, ◌++◌, Option, Some, None, arith}
-use Rattle.std.proofs.lemmas.Bool.{cases_Bool, or_cases, ltb-false, eqb-true}
+use Rattle.std.proofs.Common.{◌≡◌, ◌∙◌, ◌⊎◌, ◌≤◌, ◌<◌, ℕ, ◌+◌, min, inl, inr, refl, ap, sym, subst, Bool, true, false, ◌&&◌, ◌||◌, not, ◌==◌, nat_lt, if◌then◌else◌, cond, List, [], ◌∷◌, ◌++◌, Option, Some, None, arith}
+use Rattle.std.proofs.lemmas.Bool.{cases_Bool, and_parts, or_cases, ltb-false, eqb-true}
 use Rattle.ld_table.specs.Table.{find, put}
 use Rattle.ld_table.specs.Words.{is_in, with_one}
+use Rattle.ld_lsn.specs.Number.{home_epoch}
+use Rattle.ld_ids.specs.Choice.{nodes_of}
 use Rattle.ld_msg.specs.declared.msg.Body.{Body}
 use Rattle.ld_msg.specs.declared.msg.Body.TheVariants as bodies
-use Rattle.ld_msg.specs.Reading.{Held, Item, TrimTo, RecordHere, HoleHere, BridgeTo, LossHere, trim_held, is_loss, lost_held, bridge_to}
-use Rattle.ld_msg.specs.Reader.{Reader, Read, Confirmation, is_finished, gives, confirms, heard, is_newer, round_of, confirming_with, confirms_loss, same_generation, is_confirmed, polled, poll_asks, asks_of, keys, last_round, item_end, on_answer}
+use Rattle.ld_msg.specs.Reading.{Held, Item, TrimTo, RecordHere, HoleHere, BridgeTo, LossHere, trim_held, is_loss, within, lost_held, bridge_to}
+use Rattle.ld_msg.specs.Register.{View}
+use Rattle.ld_msg.specs.Reader.{Reader, Read, Confirmation, is_finished, may_confirm, is_confirming, seen_nodes, has_seen, look_of, gives, confirms, heard, is_newer, round_of, confirming_with, confirms_loss, same_generation, is_confirmed, polled, poll_asks, asks_of, keys, last_round, item_end, on_answer}
 use Rattle.ld_machine.specs.World.{In}
 use Rattle.ld_safety.proofs.Lists.{Some_inj, not_none, cond_both, In-append, only}
 use Rattle.ld_safety.proofs.Members.{In_put}
@@ -35,26 +38,34 @@ pub record Lasts (d : Reader) (y : ℕ) (b : Body) (r : Reader) (v : Confirmatio
   pub told : (z : ℕ) → is_in z v.told ≡ true → (is_in z before.told ≡ true) ⊎ ((z ≡ y) × SaysAgain before y b)
   pub next : r.next ≡ d.next
 
--- a new one begins
-pub record Begins (set : List ℕ) (d : Reader) (a : Read) (v : Confirmation) : Type 0 where
+-- what a look showed: that of before, or one of these
+abbrev pub SeenBy : (ℕ → View) → Reader → Option View → Type 0
+SeenBy looks d o = (o ≡ d.seen) ⊎ ((e : ℕ) × (o ≡ Some (looks e)))
+
+-- a new one begins, over the nodes that the last look at the number's epoch showed
+pub record Begins (looks : ℕ → View) (d : Reader) (a : Read) (v : Confirmation) : Type 0 where
+  pub view : Option View
+  pub came : SeenBy looks d view
+  pub seen : has_seen (home_epoch a.reader.next) view ≡ true
   pub round : v.round ≡ a.reader.round
   pub higher : d.round < v.round
   pub told : v.told ≡ []
-  pub asked : v.asked ≡ lost_held a.reader.next a.reader.held
-  pub loss : is_loss a.reader.next set a.reader.held ≡ true
+  pub asked : v.asked ≡ lost_held a.reader.next (within (seen_nodes view) a.reader.held)
+  pub loss : is_loss a.reader.next (seen_nodes view) a.reader.held ≡ true
   pub asks : (x : ℕ × Body) → In x a.asks → x.1 ≡ bodies.ReadAsk v.round a.reader.next
 
 abbrev pub new_held : ℕ → Body → ℕ × Held
 new_held y b = (y, record { round = round_of b; body = b })
 
-pub record ReadOn (set : List ℕ) (d : Reader) (y : ℕ) (b : Body) (a : Read) : Type 0 where
+pub record ReadOn (looks : ℕ → View) (d : Reader) (y : ℕ) (b : Body) (a : Read) : Type 0 where
   pub number : a.reader.number ≡ d.number
   pub log : a.reader.log ≡ d.log
   pub until : a.reader.until ≡ d.until
   pub round : d.round ≤ a.reader.round
   pub next : d.next ≤ a.reader.next
   pub asks : (x : ℕ × Body) → In x a.asks → AskOf a.reader.round a.reader.next x.1 × (d.round < a.reader.round)
-  pub confirming : (v : Confirmation) → a.reader.confirming ≡ Some v → Lasts d y b a.reader v ⊎ Begins set d a v
+  pub confirming : (v : Confirmation) → a.reader.confirming ≡ Some v → Lasts d y b a.reader v ⊎ Begins looks d a v
+  pub seen : SeenBy looks d a.reader.seen
   pub held : (h : ℕ × Held) → In h a.reader.held → In h d.held ⊎ (h ≡ new_held y b)
   pub losses : (i : ℕ × Item) → In i a.items → i.1 ≡ LossHere → (i.0 ≡ d.next) × (is_confirmed (heard d y b).confirming ≡ true)
 
@@ -65,14 +76,17 @@ asks_are round next (y ∷ ys) x (inl e) = ap (λ (z : ℕ × Body). z.1) e
 asks_are round next (y ∷ ys) x (inr i) = asks_are round next ys x i
 
 -- a poll's asks are of its new round
-pub poll_are : (set : List ℕ) (d : Reader) (x : ℕ × Body) → In x (poll_asks set d) → (x.1 ≡ bodies.ReadAsk (polled d).round d.next) × (d.round < (polled d).round)
-poll_are set d x i = by_limit (nat_lt d.round last_round) i where
-  by_limit : (t : Bool) → In x (cond t (asks_of (d.round + 1) d.next set) []) → (x.1 ≡ bodies.ReadAsk (cond t (d.round + 1) d.round) d.next) × (d.round < cond t (d.round + 1) d.round)
-  by_limit true j = (asks_are (d.round + 1) d.next set x j, omega arith)
+pub poll_are : (looks : ℕ → View) (d : Reader) (x : ℕ × Body) → In x (poll_asks looks d) → (x.1 ≡ bodies.ReadAsk (polled looks d).round d.next) × (d.round < (polled looks d).round)
+poll_are looks d x i = by_limit (nat_lt d.round last_round) i where
+  by_limit : (t : Bool) → In x (cond t (asks_of (d.round + 1) d.next (nodes_of (look_of looks d).spec)) []) → (x.1 ≡ bodies.ReadAsk (cond t (d.round + 1) d.round) d.next) × (d.round < cond t (d.round + 1) d.round)
+  by_limit true j = (asks_are (d.round + 1) d.next (nodes_of (look_of looks d).spec) x j, omega arith)
   by_limit false j = absurd j
 
-pub polled_up : (d : Reader) → d.round ≤ (polled d).round
-polled_up d = cond_both (nat_lt d.round last_round) (d.round + 1) d.round (λ r. d.round ≤ r) (λ t. omega arith) (λ t. omega arith)
+pub polled_up : (looks : ℕ → View) (d : Reader) → d.round ≤ (polled looks d).round
+polled_up looks d = cond_both (nat_lt d.round last_round) (d.round + 1) d.round (λ r. d.round ≤ r) (λ t. omega arith) (λ t. omega arith)
+
+pub polled_seen : (looks : ℕ → View) (d : Reader) → SeenBy looks d (polled looks d).seen
+polled_seen looks d = cond_both (nat_lt d.round last_round) (Some (look_of looks d)) d.seen (λ o. SeenBy looks d o) (λ t. inr (home_epoch d.next, refl)) (λ t. inl refl)
 
 -- ---- what comes of an answer that is heard ----
 same_is : (o : Option ℕ) (g : ℕ) → same_generation o g ≡ true → o ≡ Some g
@@ -124,8 +138,8 @@ not_finished d h = ltb-false d.until d.next h
 item_up : (n e u : ℕ) → n ≤ e → n ≤ u → n ≤ min e u + 1
 item_up n e u a b = omega arith
 
-module _ (set : List ℕ) (d : Reader) (y : ℕ) (b : Body) where
-  given : (a : Read) (i : Item) → ReadOn set d y b a → is_finished a.reader ≡ false → a.reader.next ≤ item_end a.reader.next i → (i ≡ LossHere → ⊥) → ReadOn set d y b (gives a i)
+module _ (looks : ℕ → View) (d : Reader) (y : ℕ) (b : Body) where
+  given : (a : Read) (i : Item) → ReadOn looks d y b a → is_finished a.reader ≡ false → a.reader.next ≤ item_end a.reader.next i → (i ≡ LossHere → ⊥) → ReadOn looks d y b (gives a i)
   given a i g f up n =
       let lower = item_up a.reader.next (item_end a.reader.next i) a.reader.until up (not_finished a.reader f) in
       record {
@@ -136,11 +150,12 @@ module _ (set : List ℕ) (d : Reader) (y : ℕ) (b : Body) where
         next = let z = g.next in omega arith;
         asks = λ x j. let k = g.asks x j in (record { from = k.0.from; is = k.0.is; below = let z = k.0.below in omega arith }, k.1);
         confirming = λ v q. absurd (not_none q);
+        seen = g.seen;
         held = g.held;
         losses = λ j k q. elim (In-append j a.items _ k) [ inl o ↦ g.losses j o q | inr o ↦ absurd (n (sym (ap (λ (x : ℕ × Item). x.1) (only j (a.reader.next, i) o)) ∙ q)) ];
       }
 
-  started : ReadOn set d y b (record { reader = heard d y b; items = []; asks = [] })
+  started : ReadOn looks d y b (record { reader = heard d y b; items = []; asks = [] })
   started = record {
     number = refl;
     log = refl;
@@ -149,11 +164,12 @@ module _ (set : List ℕ) (d : Reader) (y : ℕ) (b : Body) where
     next = omega arith;
     asks = λ x j. absurd j;
     confirming = λ v q. inl (heard_lasts d y b v q);
+    seen = inl refl;
     held = heard_held d y b;
     losses = λ i j q. absurd j;
   }
 
-  lost_first : is_finished d ≡ false → is_confirmed (heard d y b).confirming ≡ true → ReadOn set d y b (gives (record { reader = heard d y b; items = []; asks = [] }) LossHere)
+  lost_first : is_finished d ≡ false → is_confirmed (heard d y b).confirming ≡ true → ReadOn looks d y b (gives (record { reader = heard d y b; items = []; asks = [] }) LossHere)
   lost_first f h = let lower = item_up d.next d.next d.until (omega arith) (not_finished d f) in record {
     number = refl;
     log = refl;
@@ -162,51 +178,57 @@ module _ (set : List ℕ) (d : Reader) (y : ℕ) (b : Body) where
     next = omega arith;
     asks = λ x j. absurd j;
     confirming = λ v q. absurd (not_none q);
+    seen = inl refl;
     held = heard_held d y b;
     losses = λ i j q. (ap (λ (x : ℕ × Item). x.0) (only i (d.next, LossHere) j), h);
   }
 
-  begun : (a : Read) → ReadOn set d y b a → is_loss a.reader.next set a.reader.held ≡ true → ReadOn set d y b (confirms a (lost_held a.reader.next a.reader.held))
-  begun a g l = record {
+  begun : (a : Read) → ReadOn looks d y b a → may_confirm a.reader ≡ true → is_loss a.reader.next (seen_nodes a.reader.seen) a.reader.held ≡ true → ReadOn looks d y b (confirms looks a (lost_held a.reader.next (within (seen_nodes a.reader.seen) a.reader.held)))
+  begun a g m l = record {
     number = g.number;
     log = g.log;
     until = g.until;
     round = let z = g.round in omega arith;
     next = g.next;
-    asks = λ x j. (record { from = a.reader.next; is = asks_are (a.reader.round + 1) a.reader.next (keys (lost_held a.reader.next a.reader.held)) x j; below = omega arith }, let z = g.round in omega arith);
-    confirming = λ v q. inr (let z : record { round = a.reader.round + 1; asked = lost_held a.reader.next a.reader.held; told = [] } ≡ v = Some_inj q in record {
+    asks = λ x j. (record { from = a.reader.next; is = asks_are (a.reader.round + 1) a.reader.next (keys (lost_held a.reader.next (within (seen_nodes a.reader.seen) a.reader.held))) x j; below = omega arith }, let z = g.round in omega arith);
+    confirming = λ v q. inr (let z : record { round = a.reader.round + 1; asked = lost_held a.reader.next (within (seen_nodes a.reader.seen) a.reader.held); told = [] } ≡ v = Some_inj q in record {
+      view = a.reader.seen;
+      came = g.seen;
+      seen = (and_parts (not (is_confirming a.reader.confirming) && nat_lt a.reader.round last_round) (has_seen (home_epoch a.reader.next) a.reader.seen) m).1;
       round = ap (λ (k : Confirmation). k.round) (sym z);
       higher = let e : a.reader.round + 1 ≡ v.round = ap (λ (k : Confirmation). k.round) z in let z = g.round in omega arith;
       told = ap (λ (k : Confirmation). k.told) (sym z);
       asked = ap (λ (k : Confirmation). k.asked) (sym z);
       loss = l;
-      asks = λ x j. asks_are (a.reader.round + 1) a.reader.next (keys (lost_held a.reader.next a.reader.held)) x j ∙ ap (λ r. bodies.ReadAsk r a.reader.next) (ap (λ (k : Confirmation). k.round) z);
+      asks = λ x j. asks_are (a.reader.round + 1) a.reader.next (keys (lost_held a.reader.next (within (seen_nodes a.reader.seen) a.reader.held))) x j ∙ ap (λ r. bodies.ReadAsk r a.reader.next) (ap (λ (k : Confirmation). k.round) z);
     });
+    seen = inr (home_epoch a.reader.next, refl);
     held = g.held;
     losses = g.losses;
   }
 
-  asked_on : (a : Read) → ReadOn set d y b a → ReadOn set d y b (record { reader = polled a.reader; items = a.items; asks = poll_asks set a.reader })
-  asked_on a g = let up = polled_up a.reader in record {
+  asked_on : (a : Read) → ReadOn looks d y b a → ReadOn looks d y b (record { reader = polled looks a.reader; items = a.items; asks = poll_asks looks a.reader })
+  asked_on a g = let up = polled_up looks a.reader in record {
     number = g.number;
     log = g.log;
     until = g.until;
     round = let z = g.round in omega arith;
     next = g.next;
-    asks = λ x j. let k = poll_are set a.reader x j in (record { from = a.reader.next; is = k.0; below = omega arith }, let z = g.round in let l = k.1 in omega arith);
+    asks = λ x j. let k = poll_are looks a.reader x j in (record { from = a.reader.next; is = k.0; below = omega arith }, let z = g.round in let l = k.1 in omega arith);
     confirming = λ v q. absurd (not_none q);
+    seen = elim (polled_seen looks a.reader) [ inl q ↦ subst (SeenBy looks d) (sym q) g.seen | inr q ↦ inr q ];
     held = g.held;
     losses = g.losses;
   }
 
-  pub read_on : is_finished d ≡ false → ReadOn set d y b (on_answer set d y b)
-  read_on f = answered set d y b (ReadOn set d y b) (record {
+  pub read_on : is_finished d ≡ false → ReadOn looks d y b (on_answer looks d y b)
+  read_on f = answered looks d y b (ReadOn looks d y b) (record {
     starts = started;
     loss = λ h. lost_first f h;
     trim = λ a g n t. given a (TrimTo (trim_held a.reader.held)) g n t (λ q. cc);
     record_there = λ a p g n t. given a (RecordHere p) g n (omega arith) (λ q. cc);
     hole_there = λ a g n t. given a HoleHere g n (omega arith) (λ q. cc);
     bridge = λ a g n t. given a (BridgeTo (bridge_to a.reader.next)) g n (below_end a.reader.next) (λ q. cc);
-    confirm = λ a g n m t. begun a g t;
+    confirm = λ a g n m t. begun a g m t;
     polls_on = λ a g t. asked_on a g;
   })

@@ -1,5 +1,6 @@
 -- Rounds of readers and their asks: what is in a message to or from a reader came of an ask of at most its round, and what it holds was sent to it.
-use Rattle.std.proofs.Common.{◌≡◌, ◌∙◌, ◌⊎◌, ◌≤◌, ℕ, inl, inr, refl, ap, sym, subst, true, false, List, [], ◌∷◌, length, Some, arith}
+use Rattle.std.proofs.Common.{◌≡◌, ◌∙◌, ◌⊎◌, ◌≤◌, ◌<◌, ℕ, inl, inr, refl, ap, sym, subst, true, false, ◌&&◌, nat_lt, nat_le, List, [], ◌∷◌, length, Some, arith}
+use Rattle.std.proofs.lemmas.Bool.{and_parts, ltb-true}
 use Rattle.ld_table.specs.Named.{same, find_named, put_named}
 use Rattle.ld_lsn.specs.Number.{home_epoch}
 use Rattle.ld_msg.specs.declared.msg.Msg.{Msg}
@@ -56,6 +57,7 @@ pub record Rounds (r : Register) (S : Msg → Type 0) (ds : List (List ℕ × Re
   pub asks : (m : Msg) (k : ℕ) → S m → m.from ≡ whos.Reader k → IsAsk m.body
   pub waves : (m : Msg) (k : ℕ) (t : List ℕ) (d : Reader) → S m → Concerns m k → find_named t ds ≡ Some d → d.number ≡ k → AtMost m.body d
   pub generations : (m : Msg) (k n u g end : ℕ) → S m → m.to ≡ whos.Reader k → m.body ≡ bodies.LostHere n u g end → g ≤ generation_of r (Step.sender_node m.from)
+  pub positive : (m : Msg) (k n u g end : ℕ) → S m → m.to ≡ whos.Reader k → m.body ≡ bodies.LostHere n u g end → 0 < home_epoch n
   pub held : (t : List ℕ) (d : Reader) (h : ℕ × Held) → find_named t ds ≡ Some d → In h d.held → S (answer_to h.0 d h.1.body)
   pub confirming : (t : List ℕ) (d : Reader) (v : Confirmation) → find_named t ds ≡ Some d → d.confirming ≡ Some v → v.round ≤ d.round
 
@@ -65,6 +67,7 @@ same_rounds r S T ds to back h = record {
   asks = λ m k i. h.asks m k (back m i);
   waves = λ m k t d i. h.waves m k t d (back m i);
   generations = λ m k n u g end i. h.generations m k n u g end (back m i);
+  positive = λ m k n u g end i. h.positive m k n u g end (back m i);
   held = λ t d y q i. to _ (h.held t d y q i);
   confirming = h.confirming;
 }
@@ -85,6 +88,10 @@ answers_ask generation g released round from = read_answered generation g releas
   open_page = λ a h t u. record { wave = refl; place = refl; lost = λ n u k end q. absurd cc };
   waits = λ a. record { wave = refl; place = refl; lost = λ n u k end q. absurd cc };
 })
+
+-- a log is lost for epochs from the first on
+lost_positive : (g : Log) (e : ℕ) → is_lost g e ≡ true → 0 < e
+lost_positive g e h = ltb-true 0 e (and_parts (nat_lt 0 e) (nat_le e g.lost_to) (and_parts g.lost (nat_lt 0 e && nat_le e g.lost_to) h).1).0
 
 -- what a node answers to an ask
 pub ask_answer : (generation : ℕ) (g : Log) (l ballot released : ℕ) (b x : Body) (q : IsAsk b) → (handled_by generation g l ballot released b).answer ≡ Some x → Answers generation q.round q.from g x
@@ -117,6 +124,7 @@ module _ (r k : Register) (U : NoneFalls r k) (ms : List Msg) (ds : List (List �
     asks = λ m j i q. elim i [ inl o ↦ R.asks m j o q | inr n ↦ absurd ((E m n).whose j q) ];
     waves = λ m j t d i q f e. elim i [ inl o ↦ R.waves m j t d o q f e | inr n ↦ absurd (elim q [ inl z ↦ to_node m j (E m n) z | inr z ↦ (E m n).whose j z ]) ];
     generations = λ m j n u g end i q b. elim i [ inl o ↦ raised _ g (R.generations m j n u g end o q b) | inr n ↦ absurd (to_node m j (E m n) q) ];
+    positive = λ m j n u g end i q b. elim i [ inl o ↦ R.positive m j n u g end o q b | inr n ↦ absurd (to_node m j (E m n) q) ];
     held = λ t d h f i. inl (R.held t d h f i);
     confirming = R.confirming;
   } where
@@ -134,6 +142,9 @@ module _ (r k : Register) (U : NoneFalls r k) (ms : List Msg) (ds : List (List �
 
     answer_generation : (j k u h end : ℕ) → m.from ≡ whos.Reader j → x ≡ bodies.LostHere k u h end → h ≤ generation_of r n
     answer_generation j k u h end q e = let z = (a (R.asks m j i q)).lost k u h end e in let y = z.0 in omega arith
+
+    answer_positive : (j k u h end : ℕ) → m.from ≡ whos.Reader j → x ≡ bodies.LostHere k u h end → 0 < home_epoch k
+    answer_positive j k u h end q e = let z = (a (R.asks m j i q)).lost k u h end e in subst (λ y. 0 < home_epoch y) (sym z.2) (lost_positive g _ z.3)
 
     not_reader : (j : ℕ) → whos.Node n ≡ whos.Reader j → ⊥
     not_reader j h = cc
@@ -153,6 +164,7 @@ module _ (r k : Register) (U : NoneFalls r k) (ms : List Msg) (ds : List (List �
         | inl v ↦ raised _ h (R.generations z j b u h end v q e)
         | inr v ↦ let w = only z the_answer v in raised _ h (subst (λ (y : Who). h ≤ generation_of r (Step.sender_node y)) (sym (ap (λ (y : Msg). y.from) w)) (answer_generation j b u h end (sym (ap (λ (y : Msg). y.to) w) ∙ q) (sym (ap (λ (y : Msg). y.body) w) ∙ e)))
       ];
+      positive = λ z j b u h end o q e. elim o [ inl v ↦ R.positive z j b u h end v q e | inr v ↦ let w = only z the_answer v in answer_positive j b u h end (sym (ap (λ (y : Msg). y.to) w) ∙ q) (sym (ap (λ (y : Msg). y.body) w) ∙ e) ];
       held = λ t d h f o. inl (R.held t d h f o);
       confirming = R.confirming;
     }
@@ -188,6 +200,7 @@ module _ (r k : Register) (U : NoneFalls r k) (ms : List Msg) (ds : List (List �
       asks = λ m j o q. elim o [ inl i ↦ R.asks m j i q | inr i ↦ let p = posted_to (whos.Reader x.number) x.log bs m i in let y = asks p.0 p.1 in record { round = x.round; from = y.from; is = ap (λ (u : Msg). u.body) p.2 ∙ y.is } ];
       waves = λ m j t z o q f e. elim o [ inl i ↦ old_wave m j t z i q f e | inr i ↦ new_wave m j t z i q f e ];
       generations = λ m j n u g end o q b. elim o [ inl i ↦ raised _ g (R.generations m j n u g end i q b) | inr i ↦ absurd (to_node m j i q) ];
+      positive = λ m j n u g end o q b. elim o [ inl i ↦ R.positive m j n u g end i q b | inr i ↦ absurd (to_node m j i q) ];
       held = λ t z h f i. inl (elim (found_in t name x z ds f) [ inl a ↦ subst (λ (u : Reader). In (answer_to h.0 u h.1.body) ms) a.1 (held h (subst (λ (u : Reader). In h u.held) (sym a.1) i)) | inr a ↦ R.held t z h a.1 i ]);
       confirming = λ t z v f q. elim (found_in t name x z ds f) [ inl a ↦ subst (λ (u : Reader). v.round ≤ u.round) a.1 (confirming v (subst (λ (u : Reader). u.confirming ≡ Some v) (sym a.1) q)) | inr a ↦ R.confirming t z v a.1 q ];
     }
@@ -202,6 +215,7 @@ module _ (r k : Register) (U : NoneFalls r k) (ms : List Msg) (ds : List (List �
       | inr i ↦ absurd i
     ];
     generations = λ m j n u g end o q b. elim o [ inl i ↦ raised _ g (R.generations m j n u g end i q b) | inr i ↦ absurd i ];
+    positive = λ m j n u g end o q b. elim o [ inl i ↦ R.positive m j n u g end i q b | inr i ↦ absurd i ];
     held = λ t z h f i. inl (elim (found_in t name x z ds f) [ inl a ↦ absurd (subst (λ (u : Reader). In h u.held) (sym a.1) i) | inr a ↦ R.held t z h a.1 i ]);
     confirming = λ t z v f q. elim (found_in t name x z ds f) [ inl a ↦ absurd (not_none (subst (λ (u : Reader). u.confirming ≡ Some v) (sym a.1) q)) | inr a ↦ R.confirming t z v a.1 q ];
   }

@@ -1,4 +1,4 @@
--- Where nodes keep what was settled, a number that a reader may call lost was settled by as many nodes as there are copies, and none of them shows a clean page without it.
+-- Where nodes keep what was settled, as many nodes as there are copies answered for a number that a reader may call lost, and none of them shows a clean page without it.
 use Rattle.std.proofs.Common.{◌≡◌, ◌∙◌, ◌⊎◌, ◌≤◌, ◌<◌, ℕ, inl, inr, refl, ap, sym, subst, Bool, true, false, not, ◌&&◌, ◌==◌, nat_lt, nat_le, List, Some, is_some, arith}
 use Rattle.std.proofs.lemmas.Bool.{and_parts, eqb-true, ltb-true, leb-true}
 use Rattle.ld_table.specs.Table.{find}
@@ -13,17 +13,18 @@ use Rattle.ld_msg.specs.declared.msg.Summary.{Summary}
 use Rattle.ld_msg.specs.declared.msg.Body.{Body}
 use Rattle.ld_msg.specs.declared.msg.Body.TheVariants as bodies
 use Rattle.ld_msg.specs.Reading.{Held, is_loss, leaves_open, lacks, is_lost_for, knows_end_above, entry_at}
+use Rattle.ld_msg.specs.Reading as reading
 use Rattle.ld_msg.specs.Reader.{Reader}
-use Rattle.ld_machine.specs.Config.{set_of}
+use Rattle.ld_machine.specs.Config.{set_at}
 use Rattle.ld_machine.specs.Facts.{Happened}
 use Rattle.ld_machine.specs.Safe.{LossesHappened}
-use Rattle.ld_machine.specs.World.{World, In, begin, has_told, says_settled}
+use Rattle.ld_machine.specs.World.{World, In, begin}
 use Rattle.ld_machine.specs.Invariant.{Closed}
 use Rattle.ld_machine.specs.Losses.{EndsAsLoss}
 use Rattle.ld_machine.specs.Run.{Move, Takes, history, next_world, world_after}
-use Rattle.ld_safety.specs.Lost.{CopiesAreLost}
+use Rattle.ld_safety.specs.Lost.{CopiesAreLost, has_copied}
 use Rattle.ld_safety.proofs.Lists.{Some_inj, any_in, not_both}
-use Rattle.ld_safety.proofs.Members.{find_in}
+use Rattle.ld_safety.proofs.Members.{find_in, In_filter}
 use Rattle.ld_safety.proofs.Traces.{Keeps}
 use Rattle.ld_safety.proofs.LostRounds.{answer_to, place_of}
 use Rattle.ld_safety.proofs.LostAlong.{RoundsOf}
@@ -108,13 +109,17 @@ module _ (c : Config) (w : World) (A : RoundsOf w) (F : (m : Msg) → In m w.sta
         below = subst (λ j. d.next < numbered j e.summary.end) k.home (let a = e.is in let z = k.above in omega arith);
       }
 
-  pub within : is_loss d.next (set_of c d.log) d.held ≡ true → Within w d.log d.next
+  pub within : (set : List ℕ) → is_loss d.next set d.held ≡ true → Within w d.log d.next
   unfolding is_loss
-  within l = let p = and_parts (all_of (λ y. leaves_open d.next (find y d.held)) (set_of c d.log) && any_of (λ h. is_lost_for d.next h.1.body) d.held) (any_of (λ h. knows_end_above d.next h.1.body) d.held) l in
-      let x = any_in (λ (h : ℕ × Held). knows_end_above d.next h.1.body) d.held p.1 in elim (knows_cases d.next x.0.1.body x.2) [ inl k ↦ within_known x.0 x.1 k | inr k ↦ within_page x.0 x.1 k ]
+  within set l =
+      let hs = reading.within set d.held in
+      let p = and_parts (all_of (λ y. leaves_open d.next (find y d.held)) set && any_of (λ h. is_lost_for d.next h.1.body) hs) (any_of (λ h. knows_end_above d.next h.1.body) hs) l in
+      let x = any_in (λ (h : ℕ × Held). knows_end_above d.next h.1.body) hs p.1 in
+      let i = (In_filter _ x.0 d.held x.1).0 in
+      elim (knows_cases d.next x.0.1.body x.2) [ inl k ↦ within_known x.0 i k | inr k ↦ within_page x.0 i k ]
 
-  pub settled_apart : CleanKept c w → is_loss d.next (set_of c d.log) d.held ≡ true → SettledApart c w d.log d.next d.held
-  settled_apart K l = let z = within l in record {
+  pub settled_apart : CleanKept c w → is_loss d.next (set_at c w.state.register d.log (home_epoch d.next)) d.held ≡ true → SettledApart c w d.log d.next d.held
+  settled_apart K l = let z = within (set_at c w.state.register d.log (home_epoch d.next)) l in record {
     summary = z.summary;
     closed = z.closed;
     enough = K.settled d.log d.next z.summary z.closed z.above z.below;
@@ -123,7 +128,7 @@ module _ (c : Config) (w : World) (A : RoundsOf w) (F : (m : Msg) → In m w.sta
         let P = page_held (y, h) (find_in y d.held h q) k in
         let e = page_home w y d.log d.next k.from k.upto k.entries P k.low k.high in
         let same : z.summary ≡ P.summary = Some_inj (sym z.closed ∙ subst (λ j. Closed w d.log j P.summary) (sym e) P.closed) in
-        not_both _ (P.has d.next k.low k.high (subst (λ (u : Summary). has_told w (says_settled d.next) d.log u.ballot y ≡ true) same t)) k.without;
+        not_both _ (P.has d.next k.low k.high (subst (λ (u : Summary). has_copied w d.log d.next u y ≡ true) same t)) k.without;
   }
 
 -- ---- the laws, where nodes keep what was settled ----

@@ -36,7 +36,7 @@ use Rattle.ld_safety.proofs.LostRounds.{posted_to}
 use Rattle.ld_safety.proofs.LostAlong.{Asked, RoundsOf, asked_kept}
 use Rattle.ld_safety.proofs.LostKept.{Standings, standings_kept}
 use Rattle.ld_safety.proofs.LostUnserved.{unserved_step}
-use Rattle.ld_safety.proofs.LostTold.{told_before}
+use Rattle.ld_safety.proofs.LostTold.{copied_before}
 use Rattle.ld_safety.proofs.LostPages.{CleanKept, CleanPage, KnownEnd, home_is, known_end, page_of}
 
 -- ---- closed epochs stay closed ----
@@ -55,7 +55,7 @@ put_stays r n l x a s k e z h = elim (epochs_put r l k x) [
 pub closed_step : (c : Config) (w : World) (v : Event) → NamesOnce w.state → OnlyClosed w.state.register → StaysClosed w.state.register (next_world c w v).state.register
 unfolding finish
 closed_step c w v N h = let r = w.state.register in register_kept c w.state v (λ n. StaysClosed r n) (logs_stay r r refl)
-    (λ l. elim (activate_leaves r l) [ inl a ↦ logs_stay r (activate r l).register a.0 | inr a ↦ put_stays r (activate r l).register l (next_epoch (epochs_of r l)) (λ e z q. q) a.1 ])
+    (λ l g. let p = Step.spec_set c w.state l in elim (activate_leaves r l p) [ inl a ↦ logs_stay r (activate r l p).register a.0 | inr a ↦ put_stays r (activate r l p).register l (next_epoch (epochs_of r l) p) (λ e z q. q) a.1 ])
     (λ l k y. elim (close_leaves r l k y) [
       | inl a ↦ logs_stay r (close r l k y).register a.0
       | inr a ↦ put_stays r (close r l k y).register l (closed_epochs (epochs_of r l) k y) (λ e z q. elim (put_cases e k y (epochs_of r l).summaries) [ inl b ↦ absurd (let u = h l e z q in let x = a.0 in let t = b.0 in omega arith) | inr b ↦ b.1 ∙ q ]) a.1
@@ -90,7 +90,7 @@ module _ (c : Config) (w : World) (v : Event) (N : NamesOnce w.state) (O : OnlyC
     ends = P.ends;
     place = P.place;
     has = λ s lo hi t. let a = P.starts in let z = P.ends in let x = P.place in let q = home_is s (home_epoch from) (omega arith) (omega arith) in
-        P.has s lo hi (told_before c w v (λ n j u. (up n j u).1) N y l s P.summary.ballot (λ p i. subst (λ j. Unserved p l j) (sym q.1) (P.unserved p i)) t);
+        P.has s lo hi (copied_before c w v (λ n j u. (up n j u).1) N y l s P.summary (λ p i. subst (λ j. Unserved p l j) (sym q.1) (P.unserved p i)) t);
     unserved = unserved_step c w v N y l (home_epoch from) P.positive b P.unserved;
   }
 
@@ -161,7 +161,7 @@ module _ (c : Config) (Q : List Happened → World → Type 0) (C : (hs : List H
   told_step : (hs : List Happened) (w : World) (v : Event) → Grounds hs w → Told w → Told (next_world c w v)
   told_step hs w v G T = let N = G.0.0.0.0.0 in (
     only_closed_step c w v N T.0,
-    facts_step c w v N T.0 (C hs w G.0.1) (λ n l S. (G.1.1.1 n l S.keeps).up S.up) G.0.0.1.1 T.1,
+    facts_step c w v N T.0 (C hs w G.0.1) (λ n l S. (G.1.1.1 n l).up S.up) G.0.0.1.1 T.1,
   )
 
   pub shown_kept : Keeps c Q → Keeps c Shown

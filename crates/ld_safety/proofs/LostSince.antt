@@ -11,7 +11,8 @@ use Rattle.ld_msg.specs.declared.msg.Who.TheVariants as whos
 use Rattle.ld_msg.specs.declared.msg.Body.{Body}
 use Rattle.ld_msg.specs.declared.msg.Body.TheVariants as bodies
 use Rattle.ld_msg.specs.Reader.{Reader, Confirmation, opened, polled, on_answer, poll_asks}
-use Rattle.ld_msg.specs.Register.{generation_of}
+use Rattle.ld_msg.specs.Register.{View, generation_of}
+use Rattle.ld_machine.specs.Config.{looks_at}
 use Rattle.ld_op.specs.Plain.{Plain, log_of, is_lost}
 use Rattle.ld_machine.specs.State.{node_at, posted}
 use Rattle.ld_machine.specs.World.{World, In}
@@ -149,9 +150,9 @@ module _ (then : World) (r l s round : ℕ) (asked : List (ℕ × ℕ)) where
         subst LostThen (sym a) (record { generation = g.generation; held = j; lost = (P.talk.sent m i).answer t g.number g.generation g.end (g.is ∙ ap (λ k. bodies.LostHere g.number k g.generation g.end) b) (P.drawn y g.generation j) })
 
     -- what an answer makes of a confirmation of the round
-    read_since : (set : List ℕ) (name : List ℕ) (d : Reader) (m : Msg) → find_named name w.state.readers ≡ Some d → In m w.state.network.sent → m.to ≡ whos.Reader d.number → ReadOn set d (Step.sender_node m.from) m.body (on_answer set d (Step.sender_node m.from) m.body)
-        → d.number ≡ r → (v : Confirmation) → (on_answer set d (Step.sender_node m.from) m.body).reader.confirming ≡ Some v → v.round ≡ round → SinceConfirming (on_answer set d (Step.sender_node m.from) m.body).reader v
-    read_since set name d m f i t G q v h k = let D = P.talk.readers name d f q in elim (G.confirming v h) [
+    read_since : (looks : ℕ → View) (name : List ℕ) (d : Reader) (m : Msg) → find_named name w.state.readers ≡ Some d → In m w.state.network.sent → m.to ≡ whos.Reader d.number → ReadOn looks d (Step.sender_node m.from) m.body (on_answer looks d (Step.sender_node m.from) m.body)
+        → d.number ≡ r → (v : Confirmation) → (on_answer looks d (Step.sender_node m.from) m.body).reader.confirming ≡ Some v → v.round ≡ round → SinceConfirming (on_answer looks d (Step.sender_node m.from) m.body).reader v
+    read_since looks name d m f i t G q v h k = let D = P.talk.readers name d f q in elim (G.confirming v h) [
       | inl o ↦ (let C = D.confirming o.before o.was (sym o.round ∙ k) in record { same = o.asked ∙ C.same; next = o.next ∙ C.next; told = λ z j. elim (o.told z j) [ inl a ↦ C.told z a | inr a ↦ again m i (t ∙ ap whos.Reader q) o.before z a.0 (sym o.round ∙ k) C.same a.1 ] })
       | inr n ↦ absurd (let a = n.higher in let b = D.up in omega arith)
     ]
@@ -174,9 +175,9 @@ module _ (then : World) (r l s round : ℕ) (asked : List (ℕ × ℕ)) where
       quiet = record { sent = λ m i. absurd i; there = P.talk.there; readers = P.talk.readers };
       elsewhere = λ ms h. record { sent = λ m i. elsewhere_since m (h m i); there = P.talk.there; readers = P.talk.readers };
       answers = λ n m x i t v h. record { sent = λ z j. subst SinceMsg (sym (only z _ j)) (answer_since n m x i h); there = P.talk.there; readers = P.talk.readers };
-      reads = λ name d m i t v. let set = Step.set_read c d in let y = Step.sender_node m.from in let a = on_answer set d y m.body in let G = read_on set d y m.body v.open_still in
-          goes_since name d a.reader a.asks v.named G.number G.log G.round (λ b j. let k = G.asks b j in (k.0.from, k.0.is, k.1)) (read_since set name d m v.named i t G);
-      polls = λ name d v. goes_since name d (polled d) (poll_asks (Step.set_read c d) d) v.named refl refl (polled_up d) (λ b j. let z = poll_are (Step.set_read c d) d b j in (d.next, z.0, z.1)) (λ q v h. absurd (not_none h));
+      reads = λ name d m i t v. let looks = looks_at c w.state.register d.log in let y = Step.sender_node m.from in let a = on_answer looks d y m.body in let G = read_on looks d y m.body v.open_still in
+          goes_since name d a.reader a.asks v.named G.number G.log G.round (λ b j. let k = G.asks b j in (k.0.from, k.0.is, k.1)) (read_since looks name d m v.named i t G);
+      polls = λ name d v. let looks = looks_at c w.state.register d.log in goes_since name d (polled looks d) (poll_asks looks d) v.named refl refl (polled_up looks d) (λ b j. let z = poll_are looks d b j in (d.next, z.0, z.1)) (λ q v h. absurd (not_none h));
       opens = λ name k from until o. opened_since name k from until o.fresh_name;
     }
 

@@ -12,6 +12,7 @@ use Rattle.ld_msg.specs.Register.{Register, Granted, generation_of, epochs_in, d
 use Rattle.ld_op.specs.declared.op.Op.{Op}
 use Rattle.ld_op.specs.declared.op.Op.TheVariants as ops
 use Rattle.ld_op.specs.Plain.{Plain, log_of, is_lost, apply}
+use Rattle.ld_machine.specs.Config.{looks_at}
 use Rattle.ld_machine.specs.Disk.{Node, Cut, Fate, Made, FailsAt, CrashesAt, fate, new_node, keep_op, kept_by, cut_of, is_full_for, load, loaded_by, seen_too, Failed}
 use Rattle.ld_machine.specs.State.{State, finish, node_at, posted}
 use Rattle.ld_machine.specs.Facts.{Happened}
@@ -116,7 +117,7 @@ Spoken w = (m : Msg) → Sent w m → SaysOld w m
 
 module _ (c : Config) (hs : List Happened) (w : World) (e : Event) (A : Asked c hs w) (S : Standings c hs w) (P : Spoken w) where
   whole : (n l : ℕ) → Serves c w.state n l → (node_at w.state n).cut ≡ None
-  whole n l v = ((S.1 n l v.keeps).up v.up).0
+  whole n l v = ((S.1 n l).up v.up).0
 
   old_step : (y g : ℕ) → g ≤ generation_of w.state.register y → CutOld (node_at w.state y) g → CutOld (node_at (next_world c w e).state y) g
   unfolding finish
@@ -134,15 +135,15 @@ module _ (c : Config) (hs : List Happened) (w : World) (e : Event) (A : Asked c 
   answer_old n m x i v h k number u g end t b =
       let p : Plain = (node_at w.state n).plain in
       let a = (ask_answer p.generation (log_of p m.log) m.log _ _ m.body x (A.1.1.asks m k i t) h).lost number u g end b in
-      old_step n g (let d = A.1.0 n p (inl refl) in let z = a.0 in omega arith) (whole_old (node_at w.state n) g (whole n m.log v))
+      old_step n g (let d = A.1.0.0 n p (inl refl) in let z = a.0 in omega arith) (whole_old (node_at w.state n) g (whole n m.log v))
 
   spoken_talk : TalkKeeps c w.state e (λ ms ds. (m : Msg) → In m ms → SaysOld (next_world c w e) m)
   spoken_talk = record {
     quiet = λ m i. absurd i;
     elsewhere = λ ms h m i k n u g end t b. absurd (not_reader (h m i).node k (sym (h m i).to ∙ t));
     answers = λ n m x i t v h z j. subst (SaysOld (next_world c w e)) (sym (only z _ j)) (answer_old n m x i v h);
-    reads = λ name d m i t v. let a = on_answer (Step.set_read c d) d (Step.sender_node m.from) m.body in posted_old a.reader.number a.reader.log a.asks;
-    polls = λ name d v. posted_old d.number d.log (poll_asks (Step.set_read c d) d);
+    reads = λ name d m i t v. let a = on_answer (looks_at c w.state.register d.log) d (Step.sender_node m.from) m.body in posted_old a.reader.number a.reader.log a.asks;
+    polls = λ name d v. posted_old d.number d.log (poll_asks (looks_at c w.state.register d.log) d);
     opens = λ name l from until o m i. absurd i;
   }
 

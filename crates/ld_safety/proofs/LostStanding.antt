@@ -1,22 +1,19 @@
 -- Whether a node stands lost in the lines, and what its plain states say: node by node and line by line.
-use Rattle.std.proofs.Common.{◌≡◌, ◌∙◌, ◌≤◌, ◌<◌, ℕ, inl, inr, refl, ap, sym, subst, Bool, true, false, ◌&&◌, ◌==◌, nat_lt, nat_le, cond, if◌then◌else◌, List, [], ◌∷◌, ◌++◌, Option, Some, None, arith}
+use Rattle.std.proofs.Common.{◌≡◌, ◌∙◌, ◌≤◌, ◌<◌, ℕ, inl, inr, refl, ap, sym, subst, Bool, true, false, ◌&&◌, ◌||◌, ◌==◌, nat_lt, nat_le, cond, if◌then◌else◌, List, [], ◌∷◌, ◌++◌, Option, Some, None, arith}
 use Rattle.std.specs.Option.{unwrap_or}
 use Rattle.std.specs.Ordering.{nat_cmp}
 use Rattle.std.specs.BTreeMap.{is_at}
 use Rattle.std.proofs.lemmas.Bool.{cases_Bool, and_parts, and_from, eqb-true, eqb-false, eq-eqb, lt-ltb, leb-true, cases_order}
 use Rattle.ld_table.specs.Table.{find}
-use Rattle.ld_table.specs.Words.{is_in}
+use Rattle.ld_table.specs.Words.{any_of}
 use Rattle.ld_table.proofs.Laws.{same_key, find-put_same}
 use Rattle.ld_ids.specs.declared.set.Spec.{Spec}
-use Rattle.ld_ids.specs.Choice.{nodes_of}
 use Rattle.ld_transcript.specs.declared.line.Line.{Line}
 use Rattle.ld_transcript.specs.declared.line.Line.TheVariants as lines
 use Rattle.ld_op.specs.declared.op.Op.{Op}
 use Rattle.ld_op.specs.declared.op.Op.TheVariants as ops
 use Rattle.ld_op.specs.Plain.{Plain, Log, log_of, empty_log, is_lost, lost_log, lost_logs, apply, with_log, refilled}
 use Rattle.ld_msg.specs.Register.{Register, Epochs, no_epochs, epochs_of, epochs_in}
-use Rattle.ld_ids.specs.Set.{members_from}
-use Rattle.ld_machine.specs.Config.{spec_in, no_spec}
 use Rattle.ld_machine.specs.Disk.{Node, Fate, Made, FailsAt, CrashesAt, fate, new_node, keep_op, kept_by, kept_end, is_full_for, load, loaded_by, load_end, found, status_of, Written, is_up, is_blank, Blank, Up, Failed}
 use Rattle.ld_machine.specs.Facts.{Happened, Standing, Lost, lost_to, standing_after, standing_in, standing, stands_for}
 use Rattle.ld_machine.specs.World.{In, MayHold}
@@ -197,21 +194,17 @@ line_told n l k e ls q = ap (λ b. cond b (Some e) (lost_to n l ls)) (and_from (
 line_skipped : (n l k e : ℕ) (ls : List Line) → (k == l) ≡ false → lost_to n l (lines.NodeLost n k e ∷ ls) ≡ lost_to n l ls
 line_skipped n l k e ls q = ap (λ b. cond b (Some e) (lost_to n l ls)) (ap (λ b. b && (k == l)) (self n) ∙ q)
 
-nobody : (n l : ℕ) → is_in n (nodes_of (no_spec l)) ≡ true → ⊥
-unfolding members_from
-nobody n l h = absurd cc
-
-pub lines_told : (n l : ℕ) (r : Register) (ps : List Spec) → is_in n (nodes_of (spec_in l ps)) ≡ true → 0 < (epochs_of r l).epoch → lost_to n l (Step.lost_lines n r ps) ≡ Some (epochs_of r l).epoch
-lines_told n l r [] i z = absurd (nobody n l i)
+pub lines_told : (n l : ℕ) (r : Register) (ps : List Spec) → any_of (λ p. p.log == l) ps ≡ true → 0 < (epochs_of r l).epoch → lost_to n l (Step.lost_lines n r ps) ≡ Some (epochs_of r l).epoch
+lines_told n l r [] i z = absurd cc
 lines_told n l r (p ∷ ps) i z = by_log (λ j. lines_told n l r ps j z) (p.log == l) refl i where
-  first : p.log ≡ l → is_in n (nodes_of p) ≡ true → lost_to n l (Step.lost_line n (epochs_of r p.log).epoch p ++ Step.lost_lines n r ps) ≡ Some (epochs_of r l).epoch
-  first q j = let t : (is_in n (nodes_of p) && nat_lt 0 (epochs_of r p.log).epoch) ≡ true = and_from _ _ j (lt-ltb 0 (epochs_of r p.log).epoch (subst (λ k. 0 < (epochs_of r k).epoch) (sym q) z)) in
+  first : p.log ≡ l → lost_to n l (Step.lost_line n (epochs_of r p.log).epoch p ++ Step.lost_lines n r ps) ≡ Some (epochs_of r l).epoch
+  first q = let t : nat_lt 0 (epochs_of r p.log).epoch ≡ true = lt-ltb 0 (epochs_of r p.log).epoch (subst (λ k. 0 < (epochs_of r k).epoch) (sym q) z) in
       ap (λ b. lost_to n l (cond b (lines.NodeLost n p.log (epochs_of r p.log).epoch ∷ []) [] ++ Step.lost_lines n r ps)) t ∙ (line_told n l p.log (epochs_of r p.log).epoch (Step.lost_lines n r ps) q ∙ ap (λ k. Some (epochs_of r k).epoch) q)
 
   other : (b : Bool) → (p.log == l) ≡ false → lost_to n l (cond b (lines.NodeLost n p.log (epochs_of r p.log).epoch ∷ []) [] ++ Step.lost_lines n r ps) ≡ lost_to n l (Step.lost_lines n r ps)
   other true q = line_skipped n l p.log (epochs_of r p.log).epoch (Step.lost_lines n r ps) q
   other false q = refl
 
-  by_log : (is_in n (nodes_of (spec_in l ps)) ≡ true → lost_to n l (Step.lost_lines n r ps) ≡ Some (epochs_of r l).epoch) → (b : Bool) → (p.log == l) ≡ b → is_in n (nodes_of (cond b p (spec_in l ps))) ≡ true → lost_to n l (Step.lost_lines n r (p ∷ ps)) ≡ Some (epochs_of r l).epoch
-  by_log ih true q j = first (eqb-true p.log l q) j
-  by_log ih false q j = other (is_in n (nodes_of p) && nat_lt 0 (epochs_of r p.log).epoch) q ∙ ih j
+  by_log : (any_of (λ k. k.log == l) ps ≡ true → lost_to n l (Step.lost_lines n r ps) ≡ Some (epochs_of r l).epoch) → (b : Bool) → (p.log == l) ≡ b → (b || any_of (λ k. k.log == l) ps) ≡ true → lost_to n l (Step.lost_lines n r (p ∷ ps)) ≡ Some (epochs_of r l).epoch
+  by_log ih true q j = first (eqb-true p.log l q)
+  by_log ih false q j = other (nat_lt 0 (epochs_of r p.log).epoch) q ∙ ih j

@@ -6,9 +6,9 @@ use Rattle.ld_lsn.specs.Number.{home_epoch}
 use Rattle.ld_config.specs.declared.config.Config.{Config}
 use Rattle.ld_schedule.specs.declared.event.Event.{Event}
 use Rattle.ld_msg.specs.declared.msg.Who.TheVariants as whos
-use Rattle.ld_msg.specs.Reading.{Held, lost_held, is_loss, is_lost_for}
-use Rattle.ld_msg.specs.Reader.{Reader, heard, is_confirmed, polled}
-use Rattle.ld_machine.specs.Config.{set_of}
+use Rattle.ld_msg.specs.Reading.{Held, lost_held, is_loss, is_lost_for, within}
+use Rattle.ld_msg.specs.Reader.{Reader, heard, is_confirmed, polled, seen_nodes}
+use Rattle.ld_machine.specs.Config.{looks_at, set_at}
 use Rattle.ld_machine.specs.Disk.{Node}
 use Rattle.ld_machine.specs.State.{State, node_at}
 use Rattle.ld_machine.specs.Facts.{Happened}
@@ -29,7 +29,7 @@ use Rattle.ld_safety.proofs.LostTalk.{TalkKeeps, talked, same_readers}
 use Rattle.ld_safety.proofs.LostRounds.{answer_to}
 use Rattle.ld_safety.proofs.LostAlong.{Asked, asked_kept}
 use Rattle.ld_safety.proofs.LostSince.{Since, SinceConfirming, since_step}
-use Rattle.ld_safety.proofs.LostBegins.{NewHere, lost_in, came, since_new}
+use Rattle.ld_safety.proofs.LostBegins.{NewHere, lost_in, came, new_set, since_new}
 use Rattle.ld_safety.proofs.LostSpoken.{CutOld, Spoken, Answering, answering_kept, lost_plain}
 use Rattle.ld_safety.proofs.LostLines.{losses_given, among_lost, confirmed_lost}
 
@@ -65,8 +65,8 @@ module _ (c : Config) (s : State) (e : Event) (name : List ℕ) (n l : ℕ) (h :
     quiet = h;
     elsewhere = λ ms k. h;
     answers = λ k m x i t v q. h;
-    reads = λ t d m i q v. let G = read_on (Step.set_read c d) d (Step.sender_node m.from) m.body v.open_still in named_put t d _ v.named G.number G.log;
-    polls = λ t d v. named_put t d (polled d) v.named refl refl;
+    reads = λ t d m i q v. let G = read_on (looks_at c s.register d.log) d (Step.sender_node m.from) m.body v.open_still in named_put t d _ v.named G.number G.log;
+    polls = λ t d v. named_put t d (polled (looks_at c s.register d.log) d) v.named refl refl;
     opens = λ t k from until o. named_new t _ o.fresh_name;
   }
 
@@ -95,8 +95,8 @@ pub record AtAsks (c : Config) (then : World) (name : List ℕ) (l s : ℕ) : Ty
   pub there : find_named name then.state.readers ≡ Some reader
   pub log : reader.log ≡ l
   pub next : reader.next ≡ s
-  pub loss : is_loss s (set_of c l) reader.held ≡ true
-  pub lost : (y : ℕ) (h : Held) → find y reader.held ≡ Some h → is_lost_for s h.body ≡ true → is_lost_at l (home_epoch s) (node_at then.state y) ≡ true
+  pub loss : is_loss s (set_at c then.state.register l (home_epoch s)) reader.held ≡ true
+  pub lost : (y : ℕ) (h : Held) → In y (set_at c then.state.register l (home_epoch s)) → find y reader.held ≡ Some h → is_lost_for s h.body ≡ true → is_lost_at l (home_epoch s) (node_at then.state y) ≡ true
 
 module _ (c : Config) (name : List ℕ) (l s round : ℕ) (before : List Move) (asks : Event) (between : List Move) (gives : Event) (E : EndsAsLoss c name l s round before (Takes asks) between (Takes gives)) where
   abbrev first : World
@@ -136,12 +136,17 @@ module _ (c : Config) (name : List ℕ) (l s round : ℕ) (before : List Move) (
 
   -- a node that is asked once more said under that generation that it is lost
   asked_old : (y g : ℕ) → find y E.asked.confirmation.asked ≡ Some g → CutOld (node_at (next_world c (world_after c (begin c) before) asks).state y) g
-  asked_old y g q = let o = lost_in x.next y g x.held (find_in y _ g (subst (λ (k : List (ℕ × ℕ)). find y k ≡ Some g) begins_there.asked q)) in
+  asked_old y g q = let o = lost_in x.next y g (seen_nodes begins_there.view) x.held (find_in y _ g (subst (λ (k : List (ℕ × ℕ)). find y k ≡ Some g) begins_there.asked q)) in
       subst (λ z. CutOld (node_at (next_world c (world_after c (begin c) before) asks).state z) g) o.node
       (spoken_then (answer_to o.answer.0 x o.answer.1.body) (known_then.1.1.held name x o.answer E.asked.there o.there) x.number o.number o.round g o.end refl o.is)
 
+  -- over the nodes of the number's epoch
+  epoch_set : seen_nodes begins_there.view ≡ set_at c (next_world c (world_after c (begin c) before) asks).state.register x.log (home_epoch x.next)
+  epoch_set = (new_set c (world_after c (begin c) before) asks known_first.0.0.0 known_first.0.1.1 known_first.1.1 known_then.0.1.1 known_then.1.1 name x E.asked.confirmation E.asked.there E.asked.lasts begins_there known_first.0.1.0 known_first.1.0.1).2
+
   pub at_asks : AtAsks c (next_world c (world_after c (begin c) before) asks) name l s
   at_asks =
+      let r = (next_world c (world_after c (begin c) before) asks).state.register in
       let v = E.asked.confirmation in
       let n = begins_there in
       let o = onward c _ _ _ name x.number x.log x.next v.round v.asked between start_onward in
@@ -162,10 +167,11 @@ module _ (c : Config) (name : List ℕ) (l s round : ℕ) (before : List Move) (
         there = E.asked.there;
         log = lg;
         next = E.asked.next;
-        loss = subst (λ y. is_loss s (set_of c y) x.held ≡ true) lg (subst (λ y. is_loss y (set_of c x.log) x.held ≡ true) E.asked.next n.loss);
-        lost = λ y h f z.
-            let k = among_lost s y h x.held (find_in y x.held h f) z in
-            let i : In {X = ℕ × ℕ} (y, k.generation) v.asked = subst (λ (m : List (ℕ × ℕ)). In {X = ℕ × ℕ} (y, k.generation) m) (sym n.asked) (subst (λ j. In {X = ℕ × ℕ} (y, k.generation) (lost_held j x.held)) (sym E.asked.next) k.there) in
+        loss = subst (λ y. is_loss s (set_at c r y (home_epoch s)) x.held ≡ true) lg (subst (λ y. is_loss y (set_at c r x.log (home_epoch y)) x.held ≡ true) E.asked.next (subst (λ (y : List ℕ). is_loss x.next y x.held ≡ true) epoch_set n.loss));
+        lost = λ y h m f z.
+            let k = among_lost s y h (set_at c r x.log (home_epoch s)) x.held (subst (λ j. In y (set_at c r j (home_epoch s))) (sym lg) m) (find_in y x.held h f) z in
+            let j : In {X = ℕ × ℕ} (y, k.generation) (lost_held x.next (within (set_at c r x.log (home_epoch x.next)) x.held)) = subst (λ j. In {X = ℕ × ℕ} (y, k.generation) (lost_held j (within (set_at c r x.log (home_epoch j)) x.held))) (sym E.asked.next) k.there in
+            let i : In {X = ℕ × ℕ} (y, k.generation) v.asked = subst (λ (m : List (ℕ × ℕ)). In {X = ℕ × ℕ} (y, k.generation) m) (sym n.asked) (subst (λ (u : List ℕ). In {X = ℕ × ℕ} (y, k.generation) (lost_held x.next (within u x.held))) (sym epoch_set) j) in
             let t = confirmed_lost c _ _ gives o.known.0.1.1 o.known.1.1 name d u S E.still.there E.still.lasts g.message g.sent (g.to ∙ ap (λ (j : Reader). whos.Reader j.number) same)
             (subst (λ (j : Reader). is_confirmed (heard j (Step.sender_node g.message.from) g.message.body).confirming ≡ true) same g.confirmed) y k.generation (subst (λ (m : List (ℕ × ℕ)). In {X = ℕ × ℕ} (y, k.generation) m) (sym C.same) i) in
             let p : Node = node_at (next_world c (world_after c (begin c) before) asks).state y in

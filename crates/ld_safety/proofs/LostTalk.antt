@@ -11,7 +11,7 @@ use Rattle.ld_op.specs.declared.op.Op.{Op}
 use Rattle.ld_op.specs.declared.op.Op.TheVariants as ops
 use Rattle.ld_op.specs.Handles.{answer_message}
 use Rattle.ld_op.specs.Ticks.{Ticked, Cleans, Rebuilt, Asks, Nothing}
-use Rattle.ld_machine.specs.Config.{spec_in}
+use Rattle.ld_machine.specs.Config.{looks_at}
 use Rattle.ld_msg.specs.Register.{epochs_of, epochs_in, generation_of}
 use Rattle.ld_machine.specs.Disk.{Node, Kept, Written, keep_end}
 use Rattle.ld_msg.specs.Sequencer.{Sequencer, Acts, on_reply, on_retry}
@@ -34,9 +34,9 @@ module _ (c : Config) (s : State) (e : Event) (Q : List Msg → List (List ℕ �
     pub elsewhere : (ms : List Msg) → ((m : Msg) → In m ms → Elsewhere m) → Q ms s.readers
     pub answers : (n : ℕ) (m : Msg) (x : Body) → In m s.network.sent → m.to ≡ whos.Node n → Serves c s n m.log → (Step.node_handles (node_at s n) m).answer ≡ Some x → Q (record { from = whos.Node n; to = m.from; log = m.log; body = x } ∷ []) s.readers
     pub reads : (name : List ℕ) (d : Reader) (m : Msg) → In m s.network.sent → m.to ≡ whos.Reader d.number → Reading s name d →
-        Q (posted (whos.Reader (on_answer (Step.set_read c d) d (Step.sender_node m.from) m.body).reader.number) (on_answer (Step.set_read c d) d (Step.sender_node m.from) m.body).reader.log (on_answer (Step.set_read c d) d (Step.sender_node m.from) m.body).asks)
-        (put_named name (on_answer (Step.set_read c d) d (Step.sender_node m.from) m.body).reader s.readers)
-    pub polls : (name : List ℕ) (d : Reader) → Reading s name d → Q (posted (whos.Reader d.number) d.log (poll_asks (Step.set_read c d) d)) (put_named name (polled d) s.readers)
+        Q (posted (whos.Reader (on_answer (looks_at c s.register d.log) d (Step.sender_node m.from) m.body).reader.number) (on_answer (looks_at c s.register d.log) d (Step.sender_node m.from) m.body).reader.log (on_answer (looks_at c s.register d.log) d (Step.sender_node m.from) m.body).asks)
+        (put_named name (on_answer (looks_at c s.register d.log) d (Step.sender_node m.from) m.body).reader s.readers)
+    pub polls : (name : List ℕ) (d : Reader) → Reading s name d → Q (posted (whos.Reader d.number) d.log (poll_asks (looks_at c s.register d.log) d)) (put_named name (polled (looks_at c s.register d.log) d) s.readers)
     pub opens : (name : List ℕ) (l from until : ℕ) → Opens c s name l from until → Q [] (put_named name (opened l (length s.readers) from until) s.readers)
 
   -- the messages of before are there still, and what is said of the new ones and of the readers
@@ -93,14 +93,15 @@ module _ (c : Config) (s : State) (e : Event) (Q : List Msg → List (List ℕ �
       stops = λ n b. quietly _ refl refl refl;
       wipes = λ n. quietly _ refl refl refl;
       faults = λ n f o. quietly _ refl refl refl;
+      sets = λ l r x set h. quietly _ refl refl refl;
       arms = λ k done o. quietly _ refl refl refl;
-      hears = λ f name q m i t l v o. acted f name q (on_reply (spec_in q.log c.logs) q (Step.sender_node m.from) m.body);
-      retries = λ name q v o. acted s.network.fresh name q (on_retry (spec_in q.log c.logs) q);
+      hears = λ f name q m i t l v o. acted f name q (on_reply (looks_at c s.register q.log) q (Step.sender_node m.from) m.body);
+      retries = λ name q v o. acted s.network.fresh name q (on_retry q);
       appends = λ name q p v a i. abroad _ refl refl (posted_elsewhere (whos.Sequencer q.epoch) q.log _ (λ r z. cc));
       trims = λ name q t v b. abroad _ refl refl (posted_elsewhere (whos.Sequencer q.epoch) q.log _ (λ r z. cc));
       drops = λ name q v o. quietly _ refl refl refl;
       activates = λ name l r g n i x. abroad _ refl refl (posted_elsewhere (whos.Sequencer (epochs_of r l).epoch) l _ (λ r z. cc));
-      activate_fails = λ name l x q. quietly _ refl refl refl;
+      activate_fails = λ name l x g q. quietly _ refl refl refl;
       answers = λ f name d m i t v o. record { same = refl; talk = K.reads name d m i t v };
       polls = λ name d v o. record { same = refl; talk = K.polls name d v };
       opens = λ name l from until o x. record { same = refl; talk = K.opens name l from until o };

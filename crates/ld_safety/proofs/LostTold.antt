@@ -1,13 +1,14 @@
 -- A node where an epoch isn't served tells no sequencer any more that a number of it is stored or trimmed.
-use Rattle.std.proofs.Common.{◌≡◌, ◌<◌, ℕ, inl, inr, refl, ap, sym, subst, true, false, ◌&&◌, ◌==◌, nat_le, List, [], ◌∷◌, Some, is_some, arith}
-use Rattle.std.proofs.lemmas.Bool.{and_parts, eqb-true}
-use Rattle.ld_lsn.specs.Number.{epoch_of}
+use Rattle.std.proofs.Common.{◌≡◌, ◌<◌, ℕ, inl, inr, refl, ap, sym, subst, Bool, true, false, ◌&&◌, ◌==◌, nat_le, if◌then◌else◌, List, [], ◌∷◌, Some, is_some, arith}
+use Rattle.std.proofs.lemmas.Bool.{and_parts, and_from, eqb-true}
+use Rattle.ld_lsn.specs.Number.{epoch_of, esn_of}
 use Rattle.ld_config.specs.declared.config.Config.{Config}
 use Rattle.ld_schedule.specs.declared.event.Event.{Event}
 use Rattle.ld_msg.specs.declared.msg.Msg.{Msg}
 use Rattle.ld_msg.specs.declared.msg.Who.{Who}
 use Rattle.ld_msg.specs.declared.msg.Who.TheVariants as whos
 use Rattle.ld_msg.specs.declared.msg.Entry.{Entry}
+use Rattle.ld_msg.specs.declared.msg.Summary.{Summary}
 use Rattle.ld_msg.specs.declared.msg.Body.{Body}
 use Rattle.ld_msg.specs.declared.msg.Body.TheVariants as bodies
 use Rattle.ld_op.specs.Plain.{Plain, Log, log_of, is_lost, summary_at}
@@ -15,9 +16,10 @@ use Rattle.ld_op.specs.Answers.{store_decision, digest_decision, store_answer, d
 use Rattle.ld_op.specs.Handles.{handled_by}
 use Rattle.ld_op.specs.Ticks.{on_page}
 use Rattle.ld_machine.specs.State.{node_at, posted}
-use Rattle.ld_machine.specs.World.{World, In, Unserved, is_node, is_sequencer, says_settled, told_by, has_told}
+use Rattle.ld_machine.specs.World.{World, In, Unserved, is_node, is_sequencer, says_stored, says_settled, told_by, has_told}
 use Rattle.ld_machine.specs.Run.{next_world}
 use Rattle.ld_machine.specs.Step as Step
+use Rattle.ld_safety.specs.Lost.{has_copied}
 use Rattle.ld_safety.proofs.Lists.{Some_inj, only, any_in, any_from, not_both}
 use Rattle.ld_safety.proofs.NodeSteps.{Served, store_decided, ask_decided, read_answered}
 use Rattle.ld_safety.proofs.Events.{NamesOnce, Serves}
@@ -78,6 +80,11 @@ who_node y (whos.Node x) h = ap whos.Node (eqb-true x y h)
 who_node y (whos.Sequencer e) h = absurd cc
 who_node y (whos.Reader r) h = absurd cc
 
+-- what is stored is settled
+stored_too : (s : ℕ) (x : Body) → says_stored s x ≡ true → says_settled s x ≡ true
+stored_too s (bodies.Stored n) h = h
+stored_too s _ h = absurd cc
+
 told_parts : (s l y b : ℕ) (m : Msg) → told_by (says_settled s) l y b m ≡ true → Told s l y b m
 told_parts s l y b m h = let p = and_parts ((m.log == l) && says_settled s m.body) (is_node y m.from && is_sequencer b m.to) h in let q = and_parts (m.log == l) (says_settled s m.body) p.0 in let r = and_parts (is_node y m.from) (is_sequencer b m.to) p.1 in
     record { log = eqb-true m.log l q.0; says = q.1; from = who_node y m.from r.0; to = r.1 }
@@ -112,8 +119,14 @@ module _ (c : Config) (w : World) (e : Event) (up : (n l : ℕ) → Serves c w.s
   }
 
   -- who tells it after the step told it before
-  pub told_before : NamesOnce w.state → (y l s b : ℕ) → AllUnserved (node_at w.state y) l (epoch_of s) → has_told (next_world c w e) (says_settled s) l b y ≡ true → has_told w (says_settled s) l b y ≡ true
-  told_before N y l s b u h = let t = talked c w.state e (λ ms ds. NoneTold ms) none_talk N in let x = any_in (told_by (says_settled s) l y b) (next_world c w e).state.network.sent h in elim (new_or_old c w.state e x.0 t.same x.1) [
-    | inl o ↦ any_from (told_by (says_settled s) l y b) x.0 w.state.network.sent o x.2
-    | inr n ↦ absurd (t.talk y l s b u x.0 n x.2)
+  told_before : NamesOnce w.state → (p : Body → Bool) (y l s b : ℕ) → ((x : Body) → p x ≡ true → says_settled s x ≡ true) → AllUnserved (node_at w.state y) l (epoch_of s) → has_told (next_world c w e) p l b y ≡ true → has_told w p l b y ≡ true
+  told_before N p y l s b k u h = let t = talked c w.state e (λ ms ds. NoneTold ms) none_talk N in let x = any_in (told_by p l y b) (next_world c w e).state.network.sent h in elim (new_or_old c w.state e x.0 t.same x.1) [
+    | inl o ↦ any_from (told_by p l y b) x.0 w.state.network.sent o x.2
+    | inr n ↦ absurd (t.talk y l s b u x.0 n (let v = and_parts ((x.0.log == l) && p x.0.body) (is_node y x.0.from && is_sequencer b x.0.to) x.2 in let z = and_parts (x.0.log == l) (p x.0.body) v.0 in and_from _ _ (and_from _ _ z.0 (k x.0.body z.1)) v.1))
   ]
+
+  pub copied_before : NamesOnce w.state → (y l s : ℕ) (z : Summary) → AllUnserved (node_at w.state y) l (epoch_of s) → has_copied (next_world c w e) l s z y ≡ true → has_copied w l s z y ≡ true
+  copied_before N y l s z u = by_good (nat_le (esn_of s) z.lng) where
+    by_good : (t : Bool) → (if t then has_told (next_world c w e) (says_stored s) l (epoch_of s) y else has_told (next_world c w e) (says_settled s) l z.ballot y) ≡ true → (if t then has_told w (says_stored s) l (epoch_of s) y else has_told w (says_settled s) l z.ballot y) ≡ true
+    by_good true h = told_before N (says_stored s) y l s (epoch_of s) (stored_too s) u h
+    by_good false h = told_before N (says_settled s) y l s z.ballot (λ x q. q) u h

@@ -1,14 +1,14 @@
 -- What is in a table after a change, and in a list that is made from others.
-use Rattle.std.proofs.Common.{◌≡◌, ◌∙◌, ◌⊎◌, ℕ, ◌≤◌, ◌<◌, ◌+◌, inl, inr, refl, sym, subst, Bool, true, false, cond, nat_cmp, Ordering, Less, Equal, Greater, List, [], ◌∷◌, filter, take, zero, suc, Some, arith}
+use Rattle.std.proofs.Common.{◌≡◌, ◌∙◌, ◌⊎◌, ℕ, ◌≤◌, ◌<◌, ◌+◌, ◌==◌, inl, inr, refl, sym, subst, Bool, true, false, cond, nat_cmp, Ordering, Less, Equal, Greater, List, [], ◌∷◌, filter, take, zero, suc, Some, arith}
 use Rattle.std.specs.Ordering.{match_ordering}
 use Rattle.std.specs.BTreeMap.{is_at}
 use Rattle.std.specs.FinMap.{nat_cmp-IsAntisymmetric}
-use Rattle.std.proofs.lemmas.Bool.{cases_eq, cases_order}
-use Rattle.ld_table.specs.Table.{find, put, keep, keep_keys}
-use Rattle.ld_table.specs.Words.{values, numbers_from}
+use Rattle.std.proofs.lemmas.Bool.{cases_eq, cases_order, eq-eqb, or_left, or_right}
+use Rattle.ld_table.specs.Table.{find, put, take_out, keep, keep_keys}
+use Rattle.ld_table.specs.Words.{values, numbers_from, is_in}
 use Rattle.ld_table.proofs.Laws.{same_key}
 use Rattle.ld_machine.specs.World.{In}
-use Rattle.ld_safety.proofs.Lists.{Some_inj, not_none}
+use Rattle.ld_safety.proofs.Lists.{Some_inj, not_none, not_both}
 
 pair_path : {X Y : Type 0} (s : X) (x : Y) (e : X × Y) → e.0 ≡ s → e.1 ≡ x → ◌≡◌ {A = X × Y} e (s, x)
 pair_path s x e a b = λ i. (a i, b i)
@@ -20,6 +20,20 @@ In_filter p x (y ∷ xs) h = by_test (p y) refl (In_filter p x xs) h where
   by_test true q ih (inl e) = (inl e, subst (λ z. p z ≡ true) (sym e) q)
   by_test true q ih (inr i) = let r = ih i in (inr r.0, r.1)
   by_test false q ih i = let r = ih i in (inr r.0, r.1)
+
+pub filter_in : {X : Type 0} (p : X → Bool) (x : X) (xs : List X) → In x xs → p x ≡ true → In x (filter p xs)
+filter_in p x [] i h = absurd i
+filter_in p x (y ∷ xs) i h = by_test (p y) refl i (λ j. filter_in p x xs j h) where
+  by_test : (b : Bool) → p y ≡ b → In x (y ∷ xs) → (In x xs → In x (filter p xs)) → In x (cond b (y ∷ filter p xs) (filter p xs))
+  by_test true q (inl e) ih = inl e
+  by_test true q (inr j) ih = inr (ih j)
+  by_test false q (inl e) ih = absurd (not_both (p y) (subst (λ v. p v ≡ true) e h) q)
+  by_test false q (inr j) ih = ih j
+
+pub in_set : (y : ℕ) (xs : List ℕ) → In y xs → is_in y xs ≡ true
+in_set y [] i = absurd i
+in_set y (x ∷ xs) (inl e) = or_left (x == y) (is_in y xs) (eq-eqb x y (sym e))
+in_set y (x ∷ xs) (inr i) = or_right (x == y) (is_in y xs) (in_set y xs i)
 
 pub In_take : {X : Type 0} (n : ℕ) (x : X) (xs : List X) → In x (take n xs) → In x xs
 In_take zero x xs h = absurd h
@@ -62,6 +76,10 @@ module _ {X : Type 0} where
   pub In_keep : (q : ℕ → X → Bool) (m : List (ℕ × X)) (p : ℕ × X) → In p (keep q m) → In p m
   unfolding keep
   In_keep q m p h = (In_filter _ p m h).0
+
+  pub In_take_out : (k : ℕ) (m : List (ℕ × X)) (p : ℕ × X) → In p (take_out k m) → In p m
+  unfolding take_out
+  In_take_out k m p h = (In_filter _ p m h).0
 
   pub In_keep_keys : (q : ℕ → Bool) (m : List (ℕ × X)) (p : ℕ × X) → In p (keep_keys q m) → In p m × (q p.0 ≡ true)
   unfolding keep_keys

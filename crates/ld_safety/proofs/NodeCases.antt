@@ -73,6 +73,7 @@ module _ (c : Config) (s : State) (e : Event) (P : ℕ → Node → Type 0) wher
       stops = λ n b. put_node s n (Step.stopped (node_at s n)) (K.stops n) K.all;
       wipes = λ n. put_node s n new_node (K.wipes n) K.all;
       faults = λ n f o. put_node s n (Step.with_fault (node_at s n) f) (K.faults n f) K.all;
+      sets = λ l r x set h. K.all;
       arms = λ k done o. K.all;
       hears = λ f name q m i t l v o. K.all;
       retries = λ name q v o. K.all;
@@ -80,7 +81,7 @@ module _ (c : Config) (s : State) (e : Event) (P : ℕ → Node → Type 0) wher
       trims = λ name q t v b. K.all;
       drops = λ name q v o. K.all;
       activates = λ name l r g n i x. K.all;
-      activate_fails = λ name l x q. K.all;
+      activate_fails = λ name l x g q. K.all;
       answers = λ f name d m i t v o. K.all;
       polls = λ name d v o. K.all;
       opens = λ name l from until o x. K.all;

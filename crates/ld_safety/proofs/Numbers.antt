@@ -16,13 +16,13 @@ use Rattle.ld_op.specs.declared.op.Op.{Op}
 use Rattle.ld_op.specs.declared.op.Op.TheVariants as ops
 use Rattle.ld_op.specs.Ticks.{Ticked, Cleans, Rebuilt, Asks, Nothing}
 use Rattle.ld_msg.specs.declared.msg.Body.{Body}
-use Rattle.ld_machine.specs.Config.{spec_in}
+use Rattle.ld_machine.specs.Config.{looks_at}
 use Rattle.ld_msg.specs.Reader.{on_answer}
 use Rattle.std.specs.Option.{unwrap_or}
 use Rattle.ld_table.specs.Table.{find}
 use Rattle.ld_ids.specs.declared.set.Spec.{Spec}
 use Rattle.ld_msg.specs.declared.msg.Summary.{Summary}
-use Rattle.ld_msg.specs.Register.{Register, Changed, Epochs, epoch_limit, no_epochs, next_epoch, closed_epochs, with_epochs, close, epochs_of, generation_of, epochs_in, activate, draw, lce_of}
+use Rattle.ld_msg.specs.Register.{Register, View, Changed, Epochs, epoch_limit, no_epochs, next_epoch, closed_epochs, with_epochs, close, epochs_of, generation_of, epochs_in, activate, draw, lce_of}
 use Rattle.ld_machine.specs.Disk.{Node, keep_end}
 use Rattle.ld_msg.specs.Sequencer.{Sequencer, Acts, Appending, TooLong, EpochFull, Numbered, or_preempted, payload_limit, appending, appended, fresh_append, next_esn, activated, on_reply, on_retry, called}
 use Rattle.ld_machine.specs.State.{State, Done, finish, node_at, with_node, with_register}
@@ -37,7 +37,7 @@ use Rattle.ld_safety.proofs.Traces.{Keeps, at_end}
 use Rattle.ld_safety.proofs.Events.{NamesOnce, Cases, refreshed, loaded, is_quiet}
 use Rattle.ld_safety.proofs.Steps.{told, became, writes_cases, finish_In}
 use Rattle.ld_safety.proofs.NamesKept.{with_names}
-use Rattle.ld_safety.proofs.Lines.{Group, OfNodes, OfNumbers, OfActs, OfTrims, OfItems, AllOf, none_of, one_of, kept_of, format_of, acted_of, items_of, quiet_of, line_of}
+use Rattle.ld_safety.proofs.Lines.{Group, OfNodes, OfNumbers, OfActs, OfTrims, OfSets, OfItems, AllOf, none_of, one_of, kept_of, format_of, acted_of, items_of, quiet_of, line_of}
 use Rattle.ld_safety.proofs.Appends.{RowOf, Continues, row_end}
 use Rattle.ld_safety.proofs.Continues.{stays_same, reply_continues, retry_continues}
 use Rattle.ld_safety.proofs.RegisterSteps.{Same, Advanced, activate_granted, activate_leaves, close_leaves, draw_leaves, epochs_put, epochs_same}
@@ -97,35 +97,35 @@ not_activated s ls (events.Activate name l) h = cond_both (same name s && any_of
     (λ t. absurd (let p = and_parts (same name s) (any_of (activates_name s) ls) t in let x = any_in (activates_name s) ls p.1 in let a = active_in s x.0 x.2 in h a.0 (subst (λ y. In y ls) a.1 x.1))) (λ t. refl)
 not_activated s ls _ h = refl
 
-old_line : (hs : List Happened) (e : Event) (d : Done) (s : List ℕ) (n k : ℕ) → Says_nothing s d.lines → Writes (hs ++ told e d ∷ []) k (lines.Appended s n) → Writes hs k (lines.Appended s n)
-old_line hs e d s n k a w = elim (writes_cases hs (told e d) k _ w) [ inl o ↦ o | inr i ↦ absurd ((finished_silent s d a).1 n i.1) ]
+old_line : (hs : List Happened) (old : Register) (e : Event) (d : Done) (s : List ℕ) (n k : ℕ) → Says_nothing s d.lines → Writes (hs ++ told old e d ∷ []) k (lines.Appended s n) → Writes hs k (lines.Appended s n)
+old_line hs old e d s n k a w = elim (writes_cases hs (told old e d) k _ w) [ inl o ↦ o | inr i ↦ absurd ((finished_silent s d a).1 n i.1) ]
 
-module _ (hs : List Happened) (e : Event) (d : Done) (s : List ℕ) (a : Says_nothing s d.lines) where
-  log_kept : (o : Option ℕ) → sequencer_log s hs ≡ o → sequencer_log s (hs ++ told e d ∷ []) ≡ o
-  log_kept None h = log_grows s hs (told e d) ∙ or_else_none _ _ h (not_activated s (finish d).lines e (finished_silent s d a).0)
-  log_kept (Some l) h = log_grows s hs (told e d) ∙ or_else_some _ _ l h
+module _ (hs : List Happened) (old : Register) (e : Event) (d : Done) (s : List ℕ) (a : Says_nothing s d.lines) where
+  log_kept : (o : Option ℕ) → sequencer_log s hs ≡ o → sequencer_log s (hs ++ told old e d ∷ []) ≡ o
+  log_kept None h = log_grows s hs (told old e d) ∙ or_else_none _ _ h (not_activated s (finish d).lines e (finished_silent s d a).0)
+  log_kept (Some l) h = log_grows s hs (told old e d) ∙ or_else_some _ _ l h
 
-  unknown_stays : Unknown hs s → Unknown (hs ++ told e d ∷ []) s
-  unknown_stays u = record { unknown = log_kept None u.unknown; silent = λ n k w. u.silent n k (old_line hs e d s n k a w) }
+  unknown_stays : Unknown hs s → Unknown (hs ++ told old e d ∷ []) s
+  unknown_stays u = record { unknown = log_kept None u.unknown; silent = λ n k w. u.silent n k (old_line hs old e d s n k a w) }
 
-  counts_stay : (q p : Sequencer) → Continues q p → Counts hs s q → Counts (hs ++ told e d ∷ []) s p
+  counts_stay : (q p : Sequencer) → Continues q p → Counts hs s q → Counts (hs ++ told old e d ∷ []) s p
   counts_stay q p c u = record {
     known = log_kept (Some p.log) (u.known ∙ ap Some (sym c.log));
     small = let z = u.small in let x = c.count in omega arith;
     row = c.row;
-    below = λ n k w. let b = u.below n k (old_line hs e d s n k a w) in let x = c.count in let y = c.epoch in (subst (λ v. numbered v 1 ≤ n) (sym y) b.0, subst (λ v. n < numbered v (next_esn p)) (sym y) (subst (λ v. n < numbered q.epoch v) (sym x) b.1));
-    rises = λ n m j k v w. u.rises n m j k (old_line hs e d s n j a v) (old_line hs e d s m k a w);
+    below = λ n k w. let b = u.below n k (old_line hs old e d s n k a w) in let x = c.count in let y = c.epoch in (subst (λ v. numbered v 1 ≤ n) (sym y) b.0, subst (λ v. n < numbered v (next_esn p)) (sym y) (subst (λ v. n < numbered q.epoch v) (sym x) b.1));
+    rises = λ n m j k v w. u.rises n m j k (old_line hs old e d s n j a v) (old_line hs old e d s m k a w);
   }
 
-  stay : (o : Option Sequencer) → CountedBy hs s o → CountedBy (hs ++ told e d ∷ []) s o
+  stay : (o : Option Sequencer) → CountedBy hs s o → CountedBy (hs ++ told old e d ∷ []) s o
   stay None u = unknown_stays u
   stay (Some q) u = counts_stay q q (stays_same q u.row) u
 
 -- ---- an append ----
 
-module _ (hs : List Happened) (e : Event) (d : Done) (s : List ℕ) (q : Sequencer) (payload : List ℕ) (L : d.lines ≡ lines.Appended s (numbered q.epoch (next_esn q)) ∷ []) (A : next_esn q < last_esn) (u : Counts hs s q) where
-  append_line : (n k : ℕ) → Writes (hs ++ told e d ∷ []) k (lines.Appended s n) → Writes hs k (lines.Appended s n) ⊎ ((k ≡ length hs) × (n ≡ numbered q.epoch (next_esn q)))
-  append_line n k w = elim (writes_cases hs (told e d) k _ w) [
+module _ (hs : List Happened) (old : Register) (e : Event) (d : Done) (s : List ℕ) (q : Sequencer) (payload : List ℕ) (L : d.lines ≡ lines.Appended s (numbered q.epoch (next_esn q)) ∷ []) (A : next_esn q < last_esn) (u : Counts hs s q) where
+  append_line : (n k : ℕ) → Writes (hs ++ told old e d ∷ []) k (lines.Appended s n) → Writes hs k (lines.Appended s n) ⊎ ((k ≡ length hs) × (n ≡ numbered q.epoch (next_esn q)))
+  append_line n k w = elim (writes_cases hs (told old e d) k _ w) [
     | inl o ↦ inl o
     | inr i ↦ let x : In (lines.Appended s n) (lines.Appended s (numbered q.epoch (next_esn q)) ∷ []) = subst (λ ls. In (lines.Appended s n) ls) L (line_of d _ (λ h. absurd cc) i.1) in
         inr (i.0, elim x [ inl z ↦ (let y : n ≡ numbered q.epoch (next_esn q) = cc in y) | inr z ↦ absurd z ])
@@ -134,9 +134,9 @@ module _ (hs : List Happened) (e : Event) (d : Done) (s : List ℕ) (q : Sequenc
   appended_length : next_esn (appended q payload) ≡ next_esn q + 1
   appended_length = let l = length-append q.appends ((numbered q.epoch (next_esn q), fresh_append payload) ∷ []) in omega arith
 
-  counts_append : Counts (hs ++ told e d ∷ []) s (appended q payload)
+  counts_append : Counts (hs ++ told old e d ∷ []) s (appended q payload)
   counts_append = record {
-    known = log_grows s hs (told e d) ∙ or_else_some _ _ q.log u.known;
+    known = log_grows s hs (told old e d) ∙ or_else_some _ _ q.log u.known;
     small = let b = appended_length in omega arith;
     row = row_end (numbered q.epoch (q.lng + 1)) q.appends _ u.row (omega arith);
     below = λ n k w. let b = appended_length in elim (append_line n k w) [
@@ -170,9 +170,9 @@ below_last q payload l h = elim (branch (nat_lt payload_limit (length payload)) 
 
 -- ---- an activation ----
 
-module _ (hs : List Happened) (d : Done) (s : List ℕ) (l epoch lce : ℕ) (c : Config) (L : d.lines ≡ lines.Active s epoch ∷ []) (u : Unknown hs s) where
-  none_appended : (n k : ℕ) → Writes (hs ++ told (events.Activate s l) d ∷ []) k (lines.Appended s n) → ⊥
-  none_appended n k w = elim (writes_cases hs (told (events.Activate s l) d) k _ w) [
+module _ (hs : List Happened) (old : Register) (d : Done) (s : List ℕ) (l epoch lce : ℕ) (looks : ℕ → View) (p : Spec) (L : d.lines ≡ lines.Active s epoch ∷ []) (u : Unknown hs s) where
+  none_appended : (n k : ℕ) → Writes (hs ++ told old (events.Activate s l) d ∷ []) k (lines.Appended s n) → ⊥
+  none_appended n k w = elim (writes_cases hs (told old (events.Activate s l) d) k _ w) [
     | inl o ↦ u.silent n k o
     | inr i ↦ let x : In (lines.Appended s n) (lines.Active s epoch ∷ []) = subst (λ ls. In (lines.Appended s n) ls) L (line_of d _ (λ h. absurd cc) i.1) in elim x [ inl z ↦ cc | inr z ↦ z ]
   ]
@@ -181,10 +181,10 @@ module _ (hs : List Happened) (d : Done) (s : List ℕ) (l epoch lce : ℕ) (c :
   now_active = ap (λ b. cond (b && any_of (activates_name s) (finish d).lines) (Some l) None) (same-self s)
       ∙ ap (λ b. cond b (Some l) None) (any_from (activates_name s) (lines.Active s epoch) (finish d).lines (finish_In d _ (subst (λ ls. In (lines.Active s epoch) ls) (sym L) (inl refl))) (same-self s))
 
-  counts_active : Counts (hs ++ told (events.Activate s l) d ∷ []) s (activated (spec_in l c.logs) l epoch lce)
+  counts_active : Counts (hs ++ told old (events.Activate s l) d ∷ []) s (activated looks p l epoch lce)
   unfolding activated
   counts_active = record {
-    known = log_grows s hs (told (events.Activate s l) d) ∙ (or_else_new _ _ u.unknown ∙ now_active);
+    known = log_grows s hs (told old (events.Activate s l) d) ∙ (or_else_new _ _ u.unknown ∙ now_active);
     small = omega arith;
     row = tt;
     below = λ n k w. absurd (none_appended n k w);
@@ -207,8 +207,8 @@ put_rises r n l x h m s k = let e = epochs_same (with_epochs r l x) n k s in let
   | inr a ↦ let g : (epochs_of (with_epochs r l x) k).epoch ≡ (epochs_of r k).epoch = ap (λ (x : Epochs). x.epoch) a.1 in (omega arith, λ b. omega arith)
 ]
 
-activate_rises : (r : Register) (l : ℕ) → Rises r (activate r l).register
-activate_rises r l = elim (activate_leaves r l) [ inl s ↦ same_rises r (activate r l).register s | inr s ↦ let z = s.0 in put_rises r (activate r l).register l (next_epoch (epochs_of r l)) (omega arith) (λ b. omega arith) s.1 ]
+activate_rises : (r : Register) (l : ℕ) (p : Spec) → Rises r (activate r l p).register
+activate_rises r l p = elim (activate_leaves r l p) [ inl s ↦ same_rises r (activate r l p).register s | inr s ↦ let z = s.0 in put_rises r (activate r l p).register l (next_epoch (epochs_of r l) p) (omega arith) (λ b. omega arith) s.1 ]
 
 draw_rises : (r : Register) (n : ℕ) → Rises r (draw r n).register
 draw_rises r n l = elim (draw_leaves r n) [
@@ -219,9 +219,9 @@ draw_rises r n l = elim (draw_leaves r n) [
 close_rises : (r : Register) (l e : ℕ) (y : Summary) → Rises r (close r l e y).register
 close_rises r l e y = elim (close_leaves r l e y) [ inl s ↦ same_rises r (close r l e y).register s | inr s ↦ put_rises r (close r l e y).register l (closed_epochs (epochs_of r l) e y) (omega arith) (λ b. omega arith) s.1 ]
 
-called_rises : (p : Spec) (r : Register) (a : Acts) (ts : List (ℕ × Summary)) → Rises r (called p r a ts).register
-called_rises p r a [] l = (omega arith, λ b. omega arith)
-called_rises p r a (t ∷ ts) l = close_rises r a.sequencer.log t.0 t.1 l
+called_rises : (looks : ℕ → View) (r : Register) (a : Acts) (ts : List (ℕ × Summary)) → Rises r (called looks r a ts).register
+called_rises looks r a [] l = (omega arith, λ b. omega arith)
+called_rises looks r a (t ∷ ts) l = close_rises r a.sequencer.log t.0 t.1 l
 
 rises_once : (m : List (List ℕ × Sequencer)) (r n : Register) → Rises r n → Epochs_once m r → Epochs_once m n
 rises_once m r n h o = record { limit = λ l. (h l).1 (o.limit l); drawn = λ s q f. let a = o.drawn s q f in let b = (h q.log).0 in omega arith; positive = o.positive; once = o.once }
@@ -240,8 +240,8 @@ continues_once m r s q p f g h o = record {
   ]
 
 -- a new epoch is above all
-active_once : (m : List (List ℕ × Sequencer)) (r n : Register) (s : List ℕ) (l : ℕ) (p : Sequencer) → find_named s m ≡ None → Rises r n → Advanced r l n → p.log ≡ l → p.epoch ≡ (epochs_of n l).epoch → Epochs_once m r → Epochs_once (put_named s p m) n
-active_once m r n s l p f rises g h k o = record {
+active_once : (m : List (List ℕ × Sequencer)) (r n : Register) (s : List ℕ) (l : ℕ) (fixed : Spec) (p : Sequencer) → find_named s m ≡ None → Rises r n → Advanced r l fixed n → p.log ≡ l → p.epoch ≡ (epochs_of n l).epoch → Epochs_once m r → Epochs_once (put_named s p m) n
+active_once m r n s l fixed p f rises g h k o = record {
   limit = λ v. (rises v).1 (o.limit v);
   positive = λ t v i. elim (found_in t v i) [
     | inl a ↦ (let u = new_epoch in let y : p.epoch ≡ v.epoch = ap (λ (z : Sequencer). z.epoch) a.1 in omega arith)
@@ -266,13 +266,13 @@ active_once m r n s l p f rises g h k o = record {
   found_in t v i = elim (named_cases t s p m) [ inl a ↦ inl (a.0, Some_inj (sym a.1 ∙ i)) | inr a ↦ inr (sym a.1 ∙ i) ]
 
   new_epoch : (epochs_of n l).epoch ≡ (epochs_of r l).epoch + 1
-  new_epoch = let e = epochs_same (with_epochs r l (next_epoch (epochs_of r l))) n l g in elim (epochs_put r l l (next_epoch (epochs_of r l))) [
+  new_epoch = let e = epochs_same (with_epochs r l (next_epoch (epochs_of r l) fixed)) n l g in elim (epochs_put r l l (next_epoch (epochs_of r l) fixed)) [
     | inl y ↦ ap (λ (x : Epochs). x.epoch) (e ∙ y.1)
     | inr y ↦ absurd (y.0 refl)
   ]
 
   fresh : (t : List ℕ) (v : Sequencer) → find_named t m ≡ Some v → v.log ≡ l → v.epoch ≡ p.epoch → ⊥
-  fresh t v i a b = let z = o.drawn t v i in let e = epochs_same (with_epochs r l (next_epoch (epochs_of r l))) n l g in elim (epochs_put r l l (next_epoch (epochs_of r l))) [
+  fresh t v i a b = let z = o.drawn t v i in let e = epochs_same (with_epochs r l (next_epoch (epochs_of r l) fixed)) n l g in elim (epochs_put r l l (next_epoch (epochs_of r l) fixed)) [
     | inl y ↦ let u : (epochs_of n l).epoch ≡ (epochs_of r l).epoch + 1 = ap (λ (x : Epochs). x.epoch) (e ∙ y.1) in let w : (epochs_of r v.log).epoch ≡ (epochs_of r l).epoch = ap (λ x. (epochs_of r x).epoch) a in omega arith
     | inr y ↦ y.0 refl
   ]
@@ -281,13 +281,13 @@ active_once m r n s l p f rises g h k o = record {
 
 module _ (c : Config) (hs : List Happened) (w : World) (e : Event) (N : NamesOnce w.state) (A : AllCounts hs w) where
   abbrev Result : Done → Type 0
-  Result d = AllCounts (hs ++ told e d ∷ []) (became w d [])
+  Result d = AllCounts (hs ++ told w.state.register e d ∷ []) (became w d [])
 
   -- sequencers stay
   stays : (d : Done) → d.state.sequencers ≡ w.state.sequencers → Rises w.state.register d.state.register → ((s : List ℕ) → Says_nothing s d.lines) → Result d
   unfolding finish
   stays d q r n = record {
-    counted = λ s. subst (λ (x : List (List ℕ × Sequencer)). CountedBy (hs ++ told e d ∷ []) s (find_named s x)) (sym q) (stay hs e d s (n s) (find_named s w.state.sequencers) (A.counted s));
+    counted = λ s. subst (λ (x : List (List ℕ × Sequencer)). CountedBy (hs ++ told w.state.register e d ∷ []) s (find_named s x)) (sym q) (stay hs w.state.register e d s (n s) (find_named s w.state.sequencers) (A.counted s));
     epochs = subst (λ (x : List (List ℕ × Sequencer)). Epochs_once x d.state.register) (sym q) (rises_once w.state.sequencers w.state.register d.state.register r A.epochs);
   }
 
@@ -301,9 +301,9 @@ module _ (c : Config) (hs : List Happened) (w : World) (e : Event) (N : NamesOnc
       let u : Counts hs name q = subst (λ (o : Option Sequencer). CountedBy hs name o) f (A.counted name) in
       let x : Continues q p = k u.row in
       record {
-        counted = λ s. subst (λ (v : List (List ℕ × Sequencer)). CountedBy (hs ++ told e d ∷ []) s (find_named s v)) (sym z) (elim (named_cases s name p w.state.sequencers) [
-          | inl a ↦ subst (λ (o : Option Sequencer). CountedBy (hs ++ told e d ∷ []) s o) (sym a.1) (subst (λ t. Counts (hs ++ told e d ∷ []) t p) (sym a.0) (counts_stay hs e d name (n name) q p x u))
-          | inr a ↦ subst (λ (o : Option Sequencer). CountedBy (hs ++ told e d ∷ []) s o) (sym a.1) (stay hs e d s (n s) (find_named s w.state.sequencers) (A.counted s))
+        counted = λ s. subst (λ (v : List (List ℕ × Sequencer)). CountedBy (hs ++ told w.state.register e d ∷ []) s (find_named s v)) (sym z) (elim (named_cases s name p w.state.sequencers) [
+          | inl a ↦ subst (λ (o : Option Sequencer). CountedBy (hs ++ told w.state.register e d ∷ []) s o) (sym a.1) (subst (λ t. Counts (hs ++ told w.state.register e d ∷ []) t p) (sym a.0) (counts_stay hs w.state.register e d name (n name) q p x u))
+          | inr a ↦ subst (λ (o : Option Sequencer). CountedBy (hs ++ told w.state.register e d ∷ []) s o) (sym a.1) (stay hs w.state.register e d s (n s) (find_named s w.state.sequencers) (A.counted s))
         ]);
         epochs = subst (λ (v : List (List ℕ × Sequencer)). Epochs_once v d.state.register) (sym z)
             (continues_once w.state.sequencers d.state.register name q p f x.log x.epoch (rises_once w.state.sequencers w.state.register d.state.register r A.epochs));
@@ -322,26 +322,26 @@ module _ (c : Config) (hs : List Happened) (w : World) (e : Event) (N : NamesOnc
   appends_one d name q payload z r L f i =
       let u : Counts hs name q = subst (λ (o : Option Sequencer). CountedBy hs name o) f (A.counted name) in
       record {
-        counted = λ s. subst (λ (v : List (List ℕ × Sequencer)). CountedBy (hs ++ told e d ∷ []) s (find_named s v)) (sym z) (elim (named_cases s name (appended q payload) w.state.sequencers) [
-          | inl a ↦ subst (λ (o : Option Sequencer). CountedBy (hs ++ told e d ∷ []) s o) (sym a.1) (subst (λ t. Counts (hs ++ told e d ∷ []) t (appended q payload)) (sym a.0) (counts_append hs e d name q payload L (below_last q payload u.small i) u))
-          | inr a ↦ subst (λ (o : Option Sequencer). CountedBy (hs ++ told e d ∷ []) s o) (sym a.1) (stay hs e d s (other_appended s name _ d.lines a.0 L) (find_named s w.state.sequencers) (A.counted s))
+        counted = λ s. subst (λ (v : List (List ℕ × Sequencer)). CountedBy (hs ++ told w.state.register e d ∷ []) s (find_named s v)) (sym z) (elim (named_cases s name (appended q payload) w.state.sequencers) [
+          | inl a ↦ subst (λ (o : Option Sequencer). CountedBy (hs ++ told w.state.register e d ∷ []) s o) (sym a.1) (subst (λ t. Counts (hs ++ told w.state.register e d ∷ []) t (appended q payload)) (sym a.0) (counts_append hs w.state.register e d name q payload L (below_last q payload u.small i) u))
+          | inr a ↦ subst (λ (o : Option Sequencer). CountedBy (hs ++ told w.state.register e d ∷ []) s o) (sym a.1) (stay hs w.state.register e d s (other_appended s name _ d.lines a.0 L) (find_named s w.state.sequencers) (A.counted s))
         ]);
         epochs = subst (λ (v : List (List ℕ × Sequencer)). Epochs_once v d.state.register) (sym z)
             (continues_once w.state.sequencers d.state.register name q (appended q payload) f refl refl (subst (Epochs_once w.state.sequencers) (sym r) A.epochs));
       }
 
-  activates_one : (d : Done) (name : List ℕ) (l epoch lce : ℕ) → d.state.sequencers ≡ put_named name (activated (spec_in l c.logs) l epoch lce) w.state.sequencers → Advanced w.state.register l d.state.register → epoch ≡ (epochs_of d.state.register l).epoch → d.lines ≡ lines.Active name epoch ∷ []
+  activates_one : (d : Done) (name : List ℕ) (l epoch lce : ℕ) (looks : ℕ → View) (p : Spec) → d.state.sequencers ≡ put_named name (activated looks p l epoch lce) w.state.sequencers → Advanced w.state.register l p d.state.register → epoch ≡ (epochs_of d.state.register l).epoch → d.lines ≡ lines.Active name epoch ∷ []
       → find_named name w.state.sequencers ≡ None → Rises w.state.register d.state.register → e ≡ events.Activate name l → Result d
   unfolding finish activated
-  activates_one d name l epoch lce z r k L f up x =
+  activates_one d name l epoch lce looks p z r k L f up x =
       let u : Unknown hs name = subst (λ (o : Option Sequencer). CountedBy hs name o) f (A.counted name) in
       record {
-        counted = λ s. subst (λ (v : List (List ℕ × Sequencer)). CountedBy (hs ++ told e d ∷ []) s (find_named s v)) (sym z) (elim (named_cases s name (activated (spec_in l c.logs) l epoch lce) w.state.sequencers) [
-          | inl a ↦ subst (λ (o : Option Sequencer). CountedBy (hs ++ told e d ∷ []) s o) (sym a.1) (subst (λ t. Counts (hs ++ told e d ∷ []) t (activated (spec_in l c.logs) l epoch lce)) (sym a.0)
-              (subst (λ v. Counts (hs ++ told v d ∷ []) name (activated (spec_in l c.logs) l epoch lce)) (sym x) (counts_active hs d name l epoch lce c L u)))
-          | inr a ↦ subst (λ (o : Option Sequencer). CountedBy (hs ++ told e d ∷ []) s o) (sym a.1) (stay hs e d s (other_active s name _ d.lines a.0 L) (find_named s w.state.sequencers) (A.counted s))
+        counted = λ s. subst (λ (v : List (List ℕ × Sequencer)). CountedBy (hs ++ told w.state.register e d ∷ []) s (find_named s v)) (sym z) (elim (named_cases s name (activated looks p l epoch lce) w.state.sequencers) [
+          | inl a ↦ subst (λ (o : Option Sequencer). CountedBy (hs ++ told w.state.register e d ∷ []) s o) (sym a.1) (subst (λ t. Counts (hs ++ told w.state.register e d ∷ []) t (activated looks p l epoch lce)) (sym a.0)
+              (subst (λ v. Counts (hs ++ told w.state.register v d ∷ []) name (activated looks p l epoch lce)) (sym x) (counts_active hs w.state.register d name l epoch lce looks p L u)))
+          | inr a ↦ subst (λ (o : Option Sequencer). CountedBy (hs ++ told w.state.register e d ∷ []) s o) (sym a.1) (stay hs w.state.register e d s (other_active s name _ d.lines a.0 L) (find_named s w.state.sequencers) (A.counted s))
         ]);
-        epochs = subst (λ (v : List (List ℕ × Sequencer)). Epochs_once v d.state.register) (sym z) (active_once w.state.sequencers w.state.register d.state.register name l _ f up r refl k A.epochs);
+        epochs = subst (λ (v : List (List ℕ × Sequencer)). Epochs_once v d.state.register) (sym z) (active_once w.state.sequencers w.state.register d.state.register name l p _ f up r refl k A.epochs);
       }
 
   no_rise : Rises w.state.register w.state.register
@@ -378,9 +378,9 @@ module _ (c : Config) (hs : List Happened) (w : World) (e : Event) (N : NamesOnc
   ticked n l (Asks from) = stays (Step.ticks_as c w.state n l (Asks from)) refl no_rise sends_nothing
   ticked n l Nothing = stays (Step.ticks_as c w.state n l Nothing) refl no_rise sends_nothing
 
-  acted_on : (f : List ℕ) (name : List ℕ) (q : Sequencer) (a : Acts) → find_named name w.state.sequencers ≡ Some q → (RowOf q → Continues q (called (spec_in q.log c.logs) w.state.register a a.tries).acts.sequencer) → Result (Step.acted c (refreshed w.state f) name q a)
-  acted_on f name q a h k = goes_on (Step.acted c (refreshed w.state f) name q a) name q (called (spec_in q.log c.logs) w.state.register a a.tries).acts.sequencer refl (called_rises (spec_in q.log c.logs) w.state.register a a.tries) h
-      (acts _ (acted_of name q (called (spec_in q.log c.logs) w.state.register a a.tries).acts)) k
+  acted_on : (f : List ℕ) (name : List ℕ) (q : Sequencer) (a : Acts) → find_named name w.state.sequencers ≡ Some q → (RowOf q → Continues q (called (looks_at c w.state.register q.log) w.state.register a a.tries).acts.sequencer) → Result (Step.acted c (refreshed w.state f) name q a)
+  acted_on f name q a h k = goes_on (Step.acted c (refreshed w.state f) name q a) name q (called (looks_at c w.state.register q.log) w.state.register a a.tries).acts.sequencer refl (called_rises (looks_at c w.state.register q.log) w.state.register a a.tries) h
+      (acts _ (acted_of name q (called (looks_at c w.state.register q.log) w.state.register a a.tries).acts)) k
 
   count_cases : Cases c w.state e (λ d m. Result d)
   count_cases = record {
@@ -394,15 +394,16 @@ module _ (c : Config) (hs : List Happened) (w : World) (e : Event) (N : NamesOnc
     stops = λ n b. stays _ refl no_rise (nodes (lines.NodeDown n ∷ []) (one_of (lines.NodeDown n)));
     wipes = λ n. stays _ refl no_rise (nodes (lines.NodeWiped n ∷ []) (one_of (lines.NodeWiped n)));
     faults = λ n f o. stays _ refl no_rise sends_nothing;
+    sets = λ l r x set h. stays _ refl no_rise (λ s. groups_apart s OfSets (lines.Set l r x set ∷ []) (λ h. cc) (one_of (lines.Set l r x set)));
     arms = λ k done o. stays _ refl no_rise sends_nothing;
-    hears = λ f name q m i t l v o. acted_on f name q (on_reply (spec_in q.log c.logs) q (Step.sender_node m.from) m.body) v.named (λ r. reply_continues c w.state.register q r name (Step.sender_node m.from) m.body v.there);
-    retries = λ name q v o. acted_on w.state.network.fresh name q (on_retry (spec_in q.log c.logs) q) v.named (λ r. retry_continues c w.state.register q r);
+    hears = λ f name q m i t l v o. acted_on f name q (on_reply (looks_at c w.state.register q.log) q (Step.sender_node m.from) m.body) v.named (λ r. reply_continues c w.state.register q r name (Step.sender_node m.from) m.body v.there);
+    retries = λ name q v o. acted_on w.state.network.fresh name q (on_retry q) v.named (λ r. retry_continues c w.state.register q r);
     appends = λ name q p v a i. appends_one _ name q p refl refl refl v.named a;
     trims = λ name q t v b. stays _ refl no_rise (λ s. groups_apart s OfTrims (lines.Trimmed name t ∷ []) (λ h. cc) (one_of (lines.Trimmed name t)));
     drops = λ name q v o. goes_on _ name q (Step.dropped q) refl no_rise v.named sends_nothing (λ r. record { log = refl; epoch = refl; count = refl; row = r });
-    activates = λ name l r g n i x. activates_one _ name l (epochs_of r l).epoch (lce_of r l) refl (activate_granted w.state.register l r i) refl refl n (subst (λ (d : Changed). Rises w.state.register d.register) i (activate_rises w.state.register l)) x;
-    activate_fails = λ name l x q. stays _ refl (activate_rises w.state.register l) (quiet_says x q);
-    answers = λ f name d m i t v o. stays _ refl no_rise (λ s. groups_apart s OfItems _ (λ h. cc) (items_of name _ (on_answer (Step.set_read c d) d (Step.sender_node m.from) m.body).items));
+    activates = λ name l r g n i x. activates_one _ name l (epochs_of r l).epoch (lce_of r l) (looks_at c r l) (Step.spec_set c w.state l) refl (activate_granted w.state.register l (Step.spec_set c w.state l) r i) refl refl n (subst (λ (d : Changed). Rises w.state.register d.register) i (activate_rises w.state.register l (Step.spec_set c w.state l))) x;
+    activate_fails = λ name l x g q. stays _ refl (activate_rises w.state.register l (Step.spec_set c w.state l)) (quiet_says x q);
+    answers = λ f name d m i t v o. stays _ refl no_rise (λ s. groups_apart s OfItems _ (λ h. cc) (items_of name _ (on_answer (looks_at c w.state.register d.log) d (Step.sender_node m.from) m.body).items));
     polls = λ name d v o. stays _ refl no_rise sends_nothing;
     opens = λ name l from until o x. stays _ refl no_rise sends_nothing;
   }

@@ -1,14 +1,14 @@
 -- The greatest statement of a digest, and the shape of its plan.
-use Rattle.std.proofs.Common.{◌≡◌, ◌∙◌, ◌⊎◌, ◌≤◌, ◌<◌, ℕ, suc, ◌+◌, ◌-◌, max, min, inl, inr, refl, ap, sym, subst, Bool, true, false, not, ◌&&◌, ◌==◌, nat_lt, nat_le, cond, List, [], ◌∷◌, Option, Some, None, arith}
+use Rattle.std.proofs.Common.{◌≡◌, ◌∙◌, ◌⊎◌, ◌≤◌, ◌<◌, ℕ, suc, ◌+◌, ◌-◌, max, min, inl, inr, refl, ap, sym, subst, Bool, true, false, not, ◌&&◌, ◌==◌, nat_lt, nat_le, cond, List, [], ◌∷◌, map, Option, Some, None, arith}
 use Rattle.ld_table.specs.Words.{numbers_from}
-use Rattle.std.proofs.lemmas.Bool.{cases_Bool, and_parts, ltb-true, ltb-false, leb-true, leb-false, lt-ltb, eqb-true, eq-eqb}
+use Rattle.std.proofs.lemmas.Bool.{cases_Bool, and_parts, ltb-true, ltb-false, leb-true, leb-false, lt-ltb, eqb-true, eq-eqb, cases_lt}
 use Rattle.ld_lsn.specs.Number.{epoch_of, esn_of, numbered, last_esn}
 use Rattle.ld_msg.specs.declared.msg.What.{What}
 use Rattle.ld_msg.specs.declared.msg.What.TheVariants.{Rec, Hole, Bridge}
 use Rattle.ld_msg.specs.declared.msg.Entry.{Entry}
-use Rattle.ld_msg.specs.Digest.{better, is_bridge, says, statement, Told, best, is_content, record_or_hole, content, digest_trim, trim_place, top_in, top_place, plan_end, plan_item, Item, record_items, plan}
+use Rattle.ld_msg.specs.Digest.{better, is_bridge, says, statement, Told, best, is_content, record_or_hole, content, digest_trim, digest_lng, trim_place, top_in, top_place, plan_floor, plan_end, plan_item, Item, record_items, plan}
 use Rattle.ld_machine.specs.World.{In}
-use Rattle.ld_safety.proofs.Lists.{Some_inj, not_none, not_both, branch, cond_both, In-append, only, In_left}
+use Rattle.ld_safety.proofs.Lists.{Some_inj, not_none, not_both, branch, cond_both, max_both, In-append, only, In_left}
 use Rattle.ld_safety.proofs.Members.{In_numbers, numbers_in}
 
 -- ---- ranks: 0 for no entry, else one more than its ballot ----
@@ -94,13 +94,43 @@ pub ranked : (o : Option Entry) (b : ℕ) → suc b ≤ rank o → (x : Entry) �
 ranked None b h = absurd (omega arith)
 ranked (Some x) b h = (x, refl, omega arith)
 
--- ---- trims and tops ----
+-- ---- trims ----
 pub trim_least : (d : List Told) (t : Told) → In t d → t.trim ≤ digest_trim d
 unfolding digest_trim
 trim_least [] t i = absurd i
 trim_least (u ∷ d) t (inl e) = let z : t.trim ≡ u.trim = ap (λ (x : Told). x.trim) e in omega arith
 trim_least (u ∷ d) t (inr i) = let z = trim_least d t i in omega arith
 
+pub trim_has : (P : ℕ → Type 0) (d : List Told) → P 0 → ((t : Told) → In t d → P t.trim) → P (digest_trim d)
+unfolding digest_trim
+trim_has P [] z h = z
+trim_has P (t ∷ d) z h = max_both P t.trim _ (h t (inl refl)) (trim_has P d z (λ u i. h u (inr i)))
+
+-- ---- last known good places ----
+pub lng_least : (d : List Told) (t : Told) → In t d → t.lng ≤ digest_lng d
+unfolding digest_lng
+lng_least [] t i = absurd i
+lng_least (u ∷ d) t (inl e) = let z : t.lng ≡ u.lng = ap (λ (x : Told). x.lng) e in omega arith
+lng_least (u ∷ d) t (inr i) = let z = lng_least d t i in omega arith
+
+-- what holds of 0 and of each of a digest's holds of the greatest
+pub lng_has : (P : ℕ → Type 0) (d : List Told) → P 0 → ((t : Told) → In t d → P t.lng) → P (digest_lng d)
+unfolding digest_lng
+lng_has P [] z h = z
+lng_has P (t ∷ d) z h = max_both P t.lng _ (h t (inl refl)) (lng_has P d z (λ u i. h u (inr i)))
+
+-- it grows with each
+pub lng_up : (f : Told → Told) (d : List Told) → ((t : Told) → t.lng ≤ (f t).lng) → digest_lng d ≤ digest_lng (map f d)
+unfolding digest_lng
+lng_up f [] h = omega arith
+lng_up f (t ∷ d) h = let z = lng_up f d h in let y = h t in omega arith
+
+pub lng_same : (f : Told → Told) (d : List Told) → ((t : Told) → (f t).lng ≡ t.lng) → digest_lng (map f d) ≡ digest_lng d
+unfolding digest_lng
+lng_same f [] h = refl
+lng_same f (t ∷ d) h = let z = lng_same f d h in let y = h t in omega arith
+
+-- ---- tops ----
 top_in_least : (d : List Told) (es : List Entry) (f : Entry) → In f es → is_bridge f.what ≡ false → is_content (best f.number d) ≡ true → esn_of f.number ≤ top_in d es
 top_in_least d [] f i b k = absurd i
 top_in_least d (e ∷ es) f (inl q) b k =
@@ -144,14 +174,14 @@ trim_place_most e t = cond_both (nat_lt (epoch_of t) e) 0 _ (λ x. x ≤ last_es
 
 -- ---- the plan's shape ----
 pub record Shape (e : ℕ) (d : List Told) (n : ℕ) (w : What) : Type 0 where
-  pub above : trim_place e (digest_trim d) < n
+  pub above : plan_floor e d < n
   pub kind : ((n < plan_end e d) × (w ≡ content (best (numbered e n) d))) ⊎ ((n ≡ plan_end e d) × (w ≡ Bridge))
 
 pub plan_shape : (e : ℕ) (d : List Told) (n : ℕ) (w : What) → plan_item e d n ≡ Some w → Shape e d n w
 unfolding plan_item
-plan_shape e d n w h = elim (branch (nat_le n (trim_place e (digest_trim d))) None _ (Some w) h) [
+plan_shape e d n w h = elim (branch (nat_le n (plan_floor e d)) None _ (Some w) h) [
   | inl t ↦ absurd (not_none t.1)
-  | inr t ↦ let a : trim_place e (digest_trim d) < n = leb-false _ _ t.0 in elim (branch (nat_lt n (plan_end e d)) (Some (content (best (numbered e n) d))) _ (Some w) t.1) [
+  | inr t ↦ let a : plan_floor e d < n = leb-false _ _ t.0 in elim (branch (nat_lt n (plan_end e d)) (Some (content (best (numbered e n) d))) _ (Some w) t.1) [
     | inl u ↦ record { above = a; kind = inl (ltb-true _ _ u.0, sym (Some_inj u.1)) }
     | inr u ↦ elim (branch (n == plan_end e d) (Some Bridge) None (Some w) u.1) [
       | inl v ↦ record { above = a; kind = inr (eqb-true _ _ v.0, sym (Some_inj v.1)) }
@@ -166,30 +196,50 @@ leb_no x y h = elim (cases_Bool (nat_le x y)) [ inl t ↦ absurd (let l = leb-tr
 ltb_no : (x y : ℕ) → y ≤ x → nat_lt x y ≡ false
 ltb_no x y h = elim (cases_Bool (nat_lt x y)) [ inl t ↦ absurd (let l = ltb-true x y t in omega arith) | inr t ↦ t ]
 
-pub plan_between : (e : ℕ) (d : List Told) (n : ℕ) → trim_place e (digest_trim d) < n → n < plan_end e d → plan_item e d n ≡ Some (content (best (numbered e n) d))
+pub plan_between : (e : ℕ) (d : List Told) (n : ℕ) → plan_floor e d < n → n < plan_end e d → plan_item e d n ≡ Some (content (best (numbered e n) d))
 unfolding plan_item
-plan_between e d n a b = ap (λ x. cond x None (cond (nat_lt n (plan_end e d)) (Some (content (best (numbered e n) d))) (cond (n == plan_end e d) (Some Bridge) None))) (leb_no n (trim_place e (digest_trim d)) a)
+plan_between e d n a b = ap (λ x. cond x None (cond (nat_lt n (plan_end e d)) (Some (content (best (numbered e n) d))) (cond (n == plan_end e d) (Some Bridge) None))) (leb_no n (plan_floor e d) a)
     ∙ ap (λ x. cond x (Some (content (best (numbered e n) d))) (cond (n == plan_end e d) (Some Bridge) None)) (lt-ltb n (plan_end e d) b)
 
-pub plan_at_end : (e : ℕ) (d : List Told) (n : ℕ) → trim_place e (digest_trim d) < n → n ≡ plan_end e d → plan_item e d n ≡ Some Bridge
+pub plan_at_end : (e : ℕ) (d : List Told) (n : ℕ) → plan_floor e d < n → n ≡ plan_end e d → plan_item e d n ≡ Some Bridge
 unfolding plan_item
-plan_at_end e d n a b = ap (λ x. cond x None (cond (nat_lt n (plan_end e d)) (Some (content (best (numbered e n) d))) (cond (n == plan_end e d) (Some Bridge) None))) (leb_no n (trim_place e (digest_trim d)) a)
+plan_at_end e d n a b = ap (λ x. cond x None (cond (nat_lt n (plan_end e d)) (Some (content (best (numbered e n) d))) (cond (n == plan_end e d) (Some Bridge) None))) (leb_no n (plan_floor e d) a)
     ∙ (ap (λ x. cond x (Some (content (best (numbered e n) d))) (cond (n == plan_end e d) (Some Bridge) None)) (ltb_no n (plan_end e d) (omega arith)) ∙ ap (λ x. cond x (Some Bridge) None) (eq-eqb n (plan_end e d) b))
 
-pub end_above_trim : (e : ℕ) (d : List Told) → trim_place e (digest_trim d) < plan_end e d
+pub floor_trim : (e : ℕ) (d : List Told) → trim_place e (digest_trim d) ≤ plan_floor e d
+unfolding plan_floor
+floor_trim e d = omega arith
+
+pub floor_lng : (e : ℕ) (d : List Told) → digest_lng d ≤ plan_floor e d
+unfolding plan_floor
+floor_lng e d = omega arith
+
+-- what is at or below the floor is trimmed or known good
+pub floor_cases : (e : ℕ) (d : List Told) (n : ℕ) → n ≤ plan_floor e d → (n ≤ trim_place e (digest_trim d)) ⊎ (n ≤ digest_lng d)
+unfolding plan_floor
+floor_cases e d n h = elim (cases_lt (trim_place e (digest_trim d)) n) [ inl a ↦ inr (omega arith) | inr a ↦ inl (omega arith) ]
+
+pub floor_below : (e : ℕ) (d : List Told) (n : ℕ) → trim_place e (digest_trim d) < n → digest_lng d < n → plan_floor e d < n
+unfolding plan_floor
+floor_below e d n a b = omega arith
+
+pub end_above_floor : (e : ℕ) (d : List Told) → plan_floor e d < plan_end e d
 unfolding plan_end
-end_above_trim e d = omega arith
+end_above_floor e d = omega arith
+
+pub end_above_trim : (e : ℕ) (d : List Told) → trim_place e (digest_trim d) < plan_end e d
+end_above_trim e d = let a = floor_trim e d in let b = end_above_floor e d in omega arith
 
 pub end_above_top : (e : ℕ) (d : List Told) → top_place d d < plan_end e d
 unfolding plan_end
 end_above_top e d = omega arith
 
-pub end_most : (e : ℕ) (d : List Told) (n : ℕ) → top_place d d ≤ n → trim_place e (digest_trim d) ≤ n → plan_end e d ≤ n + 1
-unfolding plan_end
-end_most e d n a b = omega arith
+pub end_most : (e : ℕ) (d : List Told) (n : ℕ) → top_place d d ≤ n → trim_place e (digest_trim d) ≤ n → digest_lng d ≤ n → plan_end e d ≤ n + 1
+unfolding plan_end plan_floor
+end_most e d n a b k = omega arith
 
 pub plan_bridge : (e : ℕ) (d : List Told) → plan_item e d (plan_end e d) ≡ Some Bridge
-plan_bridge e d = plan_at_end e d (plan_end e d) (end_above_trim e d) refl
+plan_bridge e d = plan_at_end e d (plan_end e d) (end_above_floor e d) refl
 
 -- a content isn't a bridge
 pub content_no_bridge : (o : Option Entry) → content o ≡ Bridge → ⊥
@@ -218,15 +268,15 @@ unfolding plan
 plan_items e d i h = elim (In-append i _ (record { number = numbered e (plan_end e d); what = Bridge } ∷ []) h) [
   | inl a ↦ let r = record_items_in e d _ i a in let n = In_numbers r.0 _ _ r.1 in let x = n.0 in let y = n.1 in
       record { place = r.0; number = r.2; item = plan_between e d r.0 (omega arith) (omega arith) ∙ ap Some (sym r.3); above = omega arith; below = omega arith }
-  | inr a ↦ let q = only i _ a in record { place = plan_end e d; number = ap (λ (x : Item). x.number) q; item = plan_bridge e d ∙ ap Some (sym (ap (λ (x : Item). x.what) q)); above = let z = end_above_trim e d in omega arith; below = omega arith }
+  | inr a ↦ let q = only i _ a in record { place = plan_end e d; number = ap (λ (x : Item). x.number) q; item = plan_bridge e d ∙ ap Some (sym (ap (λ (x : Item). x.what) q)); above = let z = end_above_floor e d in omega arith; below = omega arith }
 ]
 
--- each place between the trim and the end has its item
+-- each place between the floor and the end has its item
 record_items_have : (e : ℕ) (d : List Told) (ns : List ℕ) (n : ℕ) → In n ns → In (record { number = numbered e n; what = content (best (numbered e n) d) }) (record_items e d ns)
 record_items_have e d [] n i = absurd i
 record_items_have e d (m ∷ ns) n (inl q) = inl (ap (λ k. record { number = numbered e k; what = content (best (numbered e k) d) }) q)
 record_items_have e d (m ∷ ns) n (inr i) = inr (record_items_have e d ns n i)
 
-pub plan_has : (e : ℕ) (d : List Told) (n : ℕ) → trim_place e (digest_trim d) < n → n < plan_end e d → (i : Item) × In i (plan e d).items × (i.number ≡ numbered e n)
+pub plan_has : (e : ℕ) (d : List Told) (n : ℕ) → plan_floor e d < n → n < plan_end e d → (i : Item) × In i (plan e d).items × (i.number ≡ numbered e n)
 unfolding plan
-plan_has e d n a b = (record { number = numbered e n; what = content (best (numbered e n) d) }, In_left _ (record_items e d (numbers_from (trim_place e (digest_trim d) + 1) (plan_end e d - 1 - trim_place e (digest_trim d)))) _ (record_items_have e d _ n (numbers_in n (trim_place e (digest_trim d) + 1) (plan_end e d - 1 - trim_place e (digest_trim d)) (omega arith) (omega arith))), refl)
+plan_has e d n a b = (record { number = numbered e n; what = content (best (numbered e n) d) }, In_left _ (record_items e d (numbers_from (plan_floor e d + 1) (plan_end e d - 1 - plan_floor e d))) _ (record_items_have e d _ n (numbers_in n (plan_floor e d + 1) (plan_end e d - 1 - plan_floor e d) (omega arith) (omega arith))), refl)

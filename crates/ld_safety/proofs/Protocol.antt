@@ -1,8 +1,8 @@
 -- What ballots say of numbers, who stored what, and what a digest must be for recoveries to agree.
-use Rattle.std.proofs.Common.{refl, ◌≡◌, ◌∙◌, ◌⊎◌, ◌≤◌, ◌<◌, ℕ, ◌+◌, inl, inr, ap, sym, subst, Bool, true, not, ◌&&◌, ◌==◌, List, map, length, Some, arith, eq-eqb, le-leb, nat_le, leb-true}
+use Rattle.std.proofs.Common.{refl, ◌≡◌, ◌∙◌, ◌⊎◌, ◌≤◌, ◌<◌, ℕ, ◌+◌, ◌-◌, inl, inr, ap, sym, subst, Bool, true, not, ◌&&◌, ◌==◌, List, map, length, Some, arith, eq-eqb, le-leb, nat_le, leb-true}
 use Rattle.std.proofs.lemmas.Bool.{and_parts, eqb-true, and_from}
 use Rattle.ld_table.specs.Words.{how_many, any_of}
-use Rattle.ld_lsn.specs.Number.{epoch_of, esn_of}
+use Rattle.ld_lsn.specs.Number.{epoch_of, esn_of, last_esn}
 use Rattle.ld_ids.specs.declared.set.Spec.{Spec}
 use Rattle.ld_ids.specs.Choice.{nodes_of}
 use Rattle.ld_msg.specs.declared.msg.What.{What}
@@ -13,7 +13,7 @@ use Rattle.ld_msg.specs.declared.msg.Who.TheVariants as whos
 use Rattle.ld_msg.specs.declared.msg.Msg.{Msg}
 use Rattle.ld_msg.specs.declared.msg.Body.{Body}
 use Rattle.ld_msg.specs.declared.msg.Body.TheVariants as bodies
-use Rattle.ld_msg.specs.Digest.{Told, plan_item, plan_end}
+use Rattle.ld_msg.specs.Digest.{Told, plan_item, plan_end, digest_lng}
 use Rattle.ld_machine.specs.Facts.{Happened}
 use Rattle.ld_machine.specs.World.{Made, In, from_node, told_by, says_stored, is_node, is_sequencer, says_settled}
 use Rattle.ld_safety.proofs.Lists.{any_in, any_from}
@@ -129,7 +129,7 @@ told_settled sent l n b y h =
       | inr z ↦ inr (record { asked = z.0; trim = z.1; epoch = z.3; covers = z.4; told_so = subst (λ x. In x sent) (same_message m.0 l y b (bodies.TrimmedHere z.0 z.1) (node_who y m.0.from r.0) (sequencer_who b m.0.to r.1) (eqb-true _ _ q.0) z.2) m.1 })
     ]
 
--- as many nodes of the log as it has copies stored the number for the ballot
+-- as many nodes of a set as it needs copies stored the number for the ballot
 abbrev pub Chosen : Spec → List Msg → ℕ → ℕ → ℕ → Type 0
 Chosen s sent l n b = s.r ≤ how_many (tells_stored sent l n b) (nodes_of s)
 
@@ -162,17 +162,18 @@ pub record Frozen (hs : List Happened) (made : List Made) (l e b : ℕ) (f : Ent
   pub place : Place f.number f.what
   pub says : Says hs made l f.ballot f.number f.what
 
--- what one node told: entries of lesser ballots, and, where it is whole, all that it had stored for them
-pub record ToldFacts (hs : List Happened) (made : List Made) (sent : List Msg) (l e b : ℕ) (t : Told) : Type 0 where
+-- what one node told: entries of lesser ballots, and, where it is whole, all that it had stored for them above what is known good
+pub record ToldFacts (hs : List Happened) (made : List Made) (sent : List Msg) (l e b good : ℕ) (t : Told) : Type 0 where
   pub frozen : (f : Entry) → In f t.entries → Frozen hs made l e b f
-  pub seen : t.whole ≡ true → (n a : ℕ) → epoch_of n ≡ e → 0 < esn_of n → a < b → StoredBy sent l t.node n a → Kept made l b t.trim t.entries n a
+  pub seen : t.whole ≡ true → (n a : ℕ) → epoch_of n ≡ e → good < esn_of n → a < b → StoredBy sent l t.node n a → Kept made l b t.trim t.entries n a
 
 pub record DigestFacts (hs : List Happened) (made : List Made) (sent : List Msg) (s : Spec) (l e b : ℕ) (d : List Told) : Type 0 where
-  pub told : (t : Told) → In t d → ToldFacts hs made sent l e b t
+  pub told : (t : Told) → In t d → ToldFacts hs made sent l e b (digest_lng d) t
   pub nodes : map (λ (t : Told). t.node) d ≡ nodes_of s
 
--- a plan was made from enough whole nodes
+-- a plan was made from enough whole nodes, and what they knew good lies in the epoch
 pub record PlanFacts (hs : List Happened) (made : List Made) (sent : List Msg) (s : Spec) (l e b : ℕ) (d : List Told) : Type 0 where
   pub digest : DigestFacts hs made sent s l e b d
   pub enough : length (nodes_of s) < s.r + how_many (λ (t : Told). t.whole && not t.lost) d
   pub later : e < b
+  pub good_most : digest_lng d ≤ last_esn - 1

@@ -10,14 +10,14 @@ use Rattle.ld_config.specs.declared.config.Config.{Config}
 use Rattle.ld_op.specs.declared.op.Op.{Op}
 use Rattle.ld_op.specs.declared.op.Op.TheVariants as ops
 use Rattle.ld_op.specs.Ticks.{Ticked, Cleans, Rebuilt, Asks, Nothing}
-use Rattle.ld_machine.specs.Config.{spec_in}
+use Rattle.ld_machine.specs.Config.{looks_at}
 use Rattle.ld_machine.specs.Disk.{Node, Kept, Written, keep_end}
 use Rattle.ld_msg.specs.Sequencer.{Sequencer, Acts, on_reply, on_retry}
 use Rattle.ld_msg.specs.Reader.{Reader, opened, polled, on_answer, poll_asks}
 use Rattle.ld_machine.specs.State.{Done, finish, node_at, with_node, with_reader, with_register, only_state, posted}
 use Rattle.ld_schedule.specs.declared.event.Event.{Event}
 use Rattle.ld_table.proofs.NameLaws.{same-self, find_named-put_named}
-use Rattle.ld_msg.specs.Register.{epochs_of, epochs_in, generation_of}
+use Rattle.ld_msg.specs.Register.{View, epochs_of, epochs_in, generation_of}
 use Rattle.ld_machine.specs.Facts.{Happened}
 use Rattle.ld_machine.specs.World.{World, In}
 use Rattle.ld_machine.specs.Step as Step
@@ -168,8 +168,8 @@ pub record SameReader (d x : Reader) : Type 0 where
   pub number : x.number ≡ d.number
   pub log : x.log ≡ d.log
 
-same_keeps : (set : List ℕ) (d : Reader) (y : ℕ) (b : Body) → ReadKeeps set d y b (λ a. SameReader d a.reader)
-same_keeps set d y b = record {
+same_keeps : (looks : ℕ → View) (d : Reader) (y : ℕ) (b : Body) → ReadKeeps looks d y b (λ a. SameReader d a.reader)
+same_keeps looks d y b = record {
   starts = record { number = refl; log = refl };
   loss = λ h. record { number = refl; log = refl };
   trim = λ a g n t. record { number = g.number; log = g.log };
@@ -180,8 +180,8 @@ same_keeps set d y b = record {
   polls_on = λ a g t. record { number = g.number; log = g.log };
 }
 
-pub same_reader : (set : List ℕ) (d : Reader) (y : ℕ) (b : Body) → SameReader d (on_answer set d y b).reader
-same_reader set d y b = answered set d y b (λ a. SameReader d a.reader) (same_keeps set d y b)
+pub same_reader : (looks : ℕ → View) (d : Reader) (y : ℕ) (b : Body) → SameReader d (on_answer looks d y b).reader
+same_reader looks d y b = answered looks d y b (λ a. SameReader d a.reader) (same_keeps looks d y b)
 
 module _ (c : Config) (w : World) (A : Apart w.state.network.sent w.state.readers) where
   abbrev Result : Done → Type 0
@@ -223,12 +223,12 @@ module _ (c : Config) (w : World) (A : Apart w.state.network.sent w.state.reader
   acted : (f : List ℕ) (name : List ℕ) (q : Sequencer) (a : Acts) → Result (Step.acted c (refreshed w.state f) name q a)
   acted f name q a = to_nodes (Step.acted c (refreshed w.state f) name q a) refl refl (posted_apart (whos.Sequencer q.epoch) q.log _ (λ r z. cc))
 
-  reads : (f : List ℕ) (name : List ℕ) (d : Reader) (y : ℕ) (b : Body) → find_named name w.state.readers ≡ Some d → Result (Step.read (refreshed w.state f) name (on_answer (Step.set_read c d) d y b))
-  reads f name d y b h = let x = (on_answer (Step.set_read c d) d y b).reader in let s = same_reader (Step.set_read c d) d y b in
-      more_asks w.state.network.sent (put_named name x w.state.readers) name x (on_answer (Step.set_read c d) d y b).asks (Step.read (refreshed w.state f) name (on_answer (Step.set_read c d) d y b)) refl refl refl (here name x w.state.readers) (goes_on w.state.network.sent w.state.readers name d x h s.number s.log A)
+  reads : (f : List ℕ) (name : List ℕ) (d : Reader) (y : ℕ) (b : Body) → find_named name w.state.readers ≡ Some d → Result (Step.read (refreshed w.state f) name (on_answer (looks_at c w.state.register d.log) d y b))
+  reads f name d y b h = let x = (on_answer (looks_at c w.state.register d.log) d y b).reader in let s = same_reader (looks_at c w.state.register d.log) d y b in
+      more_asks w.state.network.sent (put_named name x w.state.readers) name x (on_answer (looks_at c w.state.register d.log) d y b).asks (Step.read (refreshed w.state f) name (on_answer (looks_at c w.state.register d.log) d y b)) refl refl refl (here name x w.state.readers) (goes_on w.state.network.sent w.state.readers name d x h s.number s.log A)
 
-  polled_one : (name : List ℕ) (d : Reader) → find_named name w.state.readers ≡ Some d → Result (record { state = with_reader w.state name (polled d); lines = []; sends = posted (whos.Reader d.number) d.log (poll_asks (Step.set_read c d) d) })
-  polled_one name d h = more_asks w.state.network.sent (put_named name (polled d) w.state.readers) name (polled d) (poll_asks (Step.set_read c d) d) _ refl refl refl (here name (polled d) w.state.readers) (goes_on w.state.network.sent w.state.readers name d (polled d) h refl refl A)
+  polled_one : (name : List ℕ) (d : Reader) → find_named name w.state.readers ≡ Some d → Result (record { state = with_reader w.state name (polled (looks_at c w.state.register d.log) d); lines = []; sends = posted (whos.Reader d.number) d.log (poll_asks (looks_at c w.state.register d.log) d) })
+  polled_one name d h = more_asks w.state.network.sent (put_named name (polled (looks_at c w.state.register d.log) d) w.state.readers) name (polled (looks_at c w.state.register d.log) d) (poll_asks (looks_at c w.state.register d.log) d) _ refl refl refl (here name (polled (looks_at c w.state.register d.log) d) w.state.readers) (goes_on w.state.network.sent w.state.readers name d (polled (looks_at c w.state.register d.log) d) h refl refl A)
 
   opened_one : (name : List ℕ) (l from until : ℕ) → find_named name w.state.readers ≡ None → Result (only_state (with_reader w.state name (opened l (length w.state.readers) from until)))
   opened_one name l from until h = let x = opened l (length w.state.readers) from until in
@@ -247,14 +247,15 @@ module _ (c : Config) (w : World) (A : Apart w.state.network.sent w.state.reader
     stops = λ n b. silent _ refl refl refl;
     wipes = λ n. silent _ refl refl refl;
     faults = λ n f o. silent _ refl refl refl;
+    sets = λ l r x set h. silent _ refl refl refl;
     arms = λ k done o. silent _ refl refl refl;
-    hears = λ f name q m i t l v o. acted f name q (on_reply (spec_in q.log c.logs) q (Step.sender_node m.from) m.body);
-    retries = λ name q v o. acted w.state.network.fresh name q (on_retry (spec_in q.log c.logs) q);
+    hears = λ f name q m i t l v o. acted f name q (on_reply (looks_at c w.state.register q.log) q (Step.sender_node m.from) m.body);
+    retries = λ name q v o. acted w.state.network.fresh name q (on_retry q);
     appends = λ name q p v a i. to_nodes _ refl refl (posted_apart (whos.Sequencer q.epoch) q.log _ (λ r z. cc));
     trims = λ name q t v b. to_nodes _ refl refl (posted_apart (whos.Sequencer q.epoch) q.log _ (λ r z. cc));
     drops = λ name q v o. silent _ refl refl refl;
     activates = λ name l r g n i x. to_nodes _ refl refl (posted_apart (whos.Sequencer (epochs_of r l).epoch) l _ (λ r z. cc));
-    activate_fails = λ name l x q. silent _ refl refl refl;
+    activate_fails = λ name l x g q. silent _ refl refl refl;
     answers = λ f name d m i t v o. reads f name d (Step.sender_node m.from) m.body v.named;
     polls = λ name d v o. polled_one name d v.named;
     opens = λ name l from until o x. opened_one name l from until o.fresh_name;

@@ -4,6 +4,7 @@ use Rattle.std.specs.Option.{unwrap_or}
 use Rattle.std.proofs.lemmas.Bool.{cases_Bool, eqb-true, eq-eqb, leb-false, or_parts}
 use Rattle.ld_table.specs.Table.{find, put}
 use Rattle.ld_table.proofs.Laws.{put_cases}
+use Rattle.ld_ids.specs.declared.set.Spec.{Spec}
 use Rattle.ld_msg.specs.declared.msg.Summary.{Summary}
 use Rattle.ld_msg.specs.Register.{Register, Epochs, Armed, Changed, Granted, AtLimit, Behind, Fails, activate, close, draw, change, made, unmade, is_made, falls, journal_limit, record_length, epochs_of, no_epochs, generation_of, lce_of, with_epochs, next_epoch, closed_epochs, epoch_limit, generation_limit}
 use Rattle.ld_safety.proofs.Lists.{cond_both}
@@ -56,29 +57,33 @@ epochs_same r n l s = ap (λ m. unwrap_or (find l m) no_epochs) s.0
 
 -- ---- activate ----
 
--- a log's next epoch is handed out
-abbrev pub Advanced : Register → ℕ → Register → Type 0
-Advanced r l n = Same (with_epochs r l (next_epoch (epochs_of r l))) n
+-- a log's next epoch is handed out, and its nodes, factor and extras are fixed
+abbrev pub Advanced : Register → ℕ → Spec → Register → Type 0
+Advanced r l p n = Same (with_epochs r l (next_epoch (epochs_of r l) p)) n
 
-pub activate_granted : (r : Register) (l : ℕ) (n : Register) → activate r l ≡ record { register = n; answer = Granted } → Advanced r l n
+pub activate_granted : (r : Register) (l : ℕ) (p : Spec) (n : Register) → activate r l p ≡ record { register = n; answer = Granted } → Advanced r l p n
 unfolding activate
-activate_granted r l n h = elim (cases_Bool (nat_le epoch_limit (epochs_of r l).epoch)) [
-  | inl t ↦ absurd (let q : record { register = r; answer = AtLimit } ≡ record { register = n; answer = Granted } = sym (ap (λ b. cond b (record { register = r; answer = AtLimit }) (change r (with_epochs r l (next_epoch (epochs_of r l))) 9)) t) ∙ h in let z = ap (λ (d : Changed). d.answer) q in cc)
-  | inr t ↦ let q : change r (with_epochs r l (next_epoch (epochs_of r l))) 9 ≡ record { register = n; answer = Granted } = sym (ap (λ b. cond b (record { register = r; answer = AtLimit }) (change r (with_epochs r l (next_epoch (epochs_of r l))) 9)) t) ∙ h in
-      subst (λ (d : Changed). Same (with_epochs r l (next_epoch (epochs_of r l))) d.register) q (granted r (with_epochs r l (next_epoch (epochs_of r l))) 9 (ap (λ (d : Changed). d.answer) q))
+activate_granted r l p n h = elim (cases_Bool (nat_le epoch_limit (epochs_of r l).epoch)) [
+  | inl t ↦ absurd (let q : record { register = r; answer = AtLimit } ≡ record { register = n; answer = Granted } = sym (ap (λ b. cond b (record { register = r; answer = AtLimit }) (change r (with_epochs r l (next_epoch (epochs_of r l) p)) 13)) t) ∙ h in let z = ap (λ (d : Changed). d.answer) q in cc)
+  | inr t ↦ let q : change r (with_epochs r l (next_epoch (epochs_of r l) p)) 13 ≡ record { register = n; answer = Granted } = sym (ap (λ b. cond b (record { register = r; answer = AtLimit }) (change r (with_epochs r l (next_epoch (epochs_of r l) p)) 13)) t) ∙ h in
+      subst (λ (d : Changed). Same (with_epochs r l (next_epoch (epochs_of r l) p)) d.register) q (granted r (with_epochs r l (next_epoch (epochs_of r l) p)) 13 (ap (λ (d : Changed). d.answer) q))
 ]
 
-pub activate_limit : (r : Register) (l : ℕ) (n : Register) → activate r l ≡ record { register = n; answer = Granted } → (epochs_of r l).epoch < epoch_limit
+pub activate_limit : (r : Register) (l : ℕ) (p : Spec) (n : Register) → activate r l p ≡ record { register = n; answer = Granted } → (epochs_of r l).epoch < epoch_limit
 unfolding activate
-activate_limit r l n h = elim (cases_Bool (nat_le epoch_limit (epochs_of r l).epoch)) [
-  | inl t ↦ absurd (let q : record { register = r; answer = AtLimit } ≡ record { register = n; answer = Granted } = sym (ap (λ b. cond b (record { register = r; answer = AtLimit }) (change r (with_epochs r l (next_epoch (epochs_of r l))) 9)) t) ∙ h in let z = ap (λ (d : Changed). d.answer) q in cc)
+activate_limit r l p n h = elim (cases_Bool (nat_le epoch_limit (epochs_of r l).epoch)) [
+  | inl t ↦ absurd (let q : record { register = r; answer = AtLimit } ≡ record { register = n; answer = Granted } = sym (ap (λ b. cond b (record { register = r; answer = AtLimit }) (change r (with_epochs r l (next_epoch (epochs_of r l) p)) 13)) t) ∙ h in let z = ap (λ (d : Changed). d.answer) q in cc)
   | inr t ↦ omega (arith, leb-false epoch_limit (epochs_of r l).epoch t)
 ]
 
-pub activate_leaves : (r : Register) (l : ℕ) → Same r (activate r l).register ⊎ (((epochs_of r l).epoch < epoch_limit) × Advanced r l (activate r l).register)
+-- what a granted activation makes of the log's epochs
+pub activated_epochs : (r : Register) (l : ℕ) (p : Spec) (n : Register) → activate r l p ≡ record { register = n; answer = Granted } → epochs_of n l ≡ next_epoch (epochs_of r l) p
+activated_epochs r l p n h = epochs_same (with_epochs r l (next_epoch (epochs_of r l) p)) n l (activate_granted r l p n h) ∙ elim (epochs_put r l l (next_epoch (epochs_of r l) p)) [ inl a ↦ a.1 | inr a ↦ absurd (a.0 refl) ]
+
+pub activate_leaves : (r : Register) (l : ℕ) (p : Spec) → Same r (activate r l p).register ⊎ (((epochs_of r l).epoch < epoch_limit) × Advanced r l p (activate r l p).register)
 unfolding activate
-activate_leaves r l = cond_both (nat_le epoch_limit (epochs_of r l).epoch) _ _ (λ (d : Changed). Same r d.register ⊎ (((epochs_of r l).epoch < epoch_limit) × Same (with_epochs r l (next_epoch (epochs_of r l))) d.register)) (λ t. inl (refl, refl))
-    (λ t. elim (changed r (with_epochs r l (next_epoch (epochs_of r l))) 9) [ inl a ↦ inl a | inr a ↦ inr (leb-false epoch_limit (epochs_of r l).epoch t, a) ])
+activate_leaves r l p = cond_both (nat_le epoch_limit (epochs_of r l).epoch) _ _ (λ (d : Changed). Same r d.register ⊎ (((epochs_of r l).epoch < epoch_limit) × Same (with_epochs r l (next_epoch (epochs_of r l) p)) d.register)) (λ t. inl (refl, refl))
+    (λ t. elim (changed r (with_epochs r l (next_epoch (epochs_of r l) p)) 13) [ inl a ↦ inl a | inr a ↦ inr (leb-false epoch_limit (epochs_of r l).epoch t, a) ])
 
 -- ---- close ----
 

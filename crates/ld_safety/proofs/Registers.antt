@@ -1,32 +1,34 @@
--- Along a run the register's epochs and last closed epochs don't fall, and only closed epochs have summaries.
-use Rattle.std.proofs.Common.{◌≡◌, ◌∙◌, ◌≤◌, ℕ, inl, inr, refl, ap, sym, subst, List, [], ◌∷◌, Option, Some, None, arith}
+-- Along a run the register's epochs and last closed epochs don't fall, only closed epochs have summaries, and what is fixed for an epoch stays.
+use Rattle.std.proofs.Common.{◌≡◌, ◌∙◌, ◌≤◌, ◌<◌, ◌+◌, ◌||◌, ◌==◌, nat_lt, ℕ, inl, inr, refl, ap, sym, subst, true, List, [], ◌∷◌, Option, Some, None, arith}
+use Rattle.std.proofs.lemmas.Bool.{eqb-true, ltb-true, or_cases}
 use Rattle.std.specs.Option.{unwrap_or}
 use Rattle.ld_table.specs.Table.{find}
-use Rattle.ld_table.proofs.Laws.{put_cases}
+use Rattle.ld_table.proofs.Laws.{put_cases, find-put_same}
+use Rattle.ld_ids.specs.declared.set.Spec.{Spec}
 use Rattle.ld_config.specs.declared.config.Config.{Config}
 use Rattle.ld_schedule.specs.declared.event.Event.{Event}
-use Rattle.ld_ids.specs.declared.set.Spec.{Spec}
 use Rattle.ld_msg.specs.declared.msg.Summary.{Summary}
 use Rattle.ld_msg.specs.declared.msg.Msg.{Msg}
 use Rattle.ld_msg.specs.declared.msg.Body.{Body}
 use Rattle.ld_op.specs.declared.op.Op.{Op}
 use Rattle.ld_op.specs.Ticks.{Ticked, Cleans, Rebuilt, Asks, Nothing}
 use Rattle.ld_machine.specs.Disk.{Node}
-use Rattle.ld_msg.specs.Register.{Register, Epochs, Changed, no_epochs, epochs_of, lce_of, with_epochs, next_epoch, closed_epochs, close, activate, draw, empty_register}
+use Rattle.ld_msg.specs.Register.{Register, View, Epochs, Changed, Granted, no_epochs, epochs_of, lce_of, epoch_shown, look, with_epochs, next_epoch, closed_epochs, close, activate, draw, empty_register}
+use Rattle.ld_machine.specs.Config.{first_spec, spec_of, has_log}
 use Rattle.ld_msg.specs.Sequencer.{Acts, called}
 use Rattle.ld_machine.specs.State.{State, node_at, with_node}
 use Rattle.ld_machine.specs.Step as Step
-use Rattle.ld_safety.proofs.Lists.{not_none}
+use Rattle.ld_safety.proofs.Lists.{not_none, cond_both}
 use Rattle.ld_safety.proofs.Events.{NamesOnce, Cases, dispatch, refreshed}
-use Rattle.ld_safety.proofs.RegisterSteps.{Same, activate_leaves, close_leaves, draw_leaves, epochs_put, epochs_same}
+use Rattle.ld_safety.proofs.RegisterSteps.{Same, activated_epochs, activate_leaves, close_leaves, draw_leaves, epochs_put, epochs_same}
 
 -- what each change of the register keeps holds of the register after each event
 module _ (c : Config) (s : State) (e : Event) (P : Register → Type 0) (same : P s.register)
-    (acts : (l : ℕ) → P (activate s.register l).register) (closes : (l k : ℕ) (y : Summary) → P (close s.register l k y).register) (draws : (n : ℕ) → P (draw s.register n).register)
+    (acts : (l : ℕ) → has_log c l ≡ true → P (activate s.register l (Step.spec_set c s l)).register) (closes : (l k : ℕ) (y : Summary) → P (close s.register l k y).register) (draws : (n : ℕ) → P (draw s.register n).register)
     (arms : (n : Register) → n.logs ≡ s.register.logs → P n) where
-  by_call : (p : Spec) (a : Acts) (ts : List (ℕ × Summary)) → P (called p s.register a ts).register
-  by_call p a [] = same
-  by_call p a (t ∷ ts) = closes a.sequencer.log t.0 t.1
+  by_call : (looks : ℕ → View) (a : Acts) (ts : List (ℕ × Summary)) → P (called looks s.register a ts).register
+  by_call looks a [] = same
+  by_call looks a (t ∷ ts) = closes a.sequencer.log t.0 t.1
 
   handled : (f : List ℕ) (n : ℕ) (m : Msg) (x : Node) (o : Option Op) (b : Option Body) → P (Step.handles (with_node (refreshed s f) n x) n m o b).state.register
   handled f n m x None b = same
@@ -50,14 +52,15 @@ module _ (c : Config) (s : State) (e : Event) (P : Register → Type 0) (same : 
     stops = λ n b. same;
     wipes = λ n. same;
     faults = λ n f o. same;
+    sets = λ l r x set h. same;
     arms = λ k done o. arms (Step.armed s.register k done) refl;
     hears = λ f name q m i t l v o. by_call _ _ _;
     retries = λ name q v o. by_call _ _ _;
     appends = λ name q p v a i. same;
     trims = λ name q t v b. same;
     drops = λ name q v o. same;
-    activates = λ name l r g n i x. subst (λ (d : Changed). P d.register) i (acts l);
-    activate_fails = λ name l x q. acts l;
+    activates = λ name l r g n i x. subst (λ (d : Changed). P d.register) i (acts l g);
+    activate_fails = λ name l x g q. acts l g;
     answers = λ f name d m i t v o. same;
     polls = λ name d v o. same;
     opens = λ name l from until o x. same;
@@ -97,7 +100,7 @@ put_follow r n l x a b c s h = (
 
 pub follows : (c : Config) (s : State) (e : Event) → NamesOnce s → OnlyClosed s.register → Up s.register (Step.happens c s e).state.register × OnlyClosed (Step.happens c s e).state.register
 follows c s e N h = register_kept c s e (λ n. Follows s.register n) (logs_follow s.register s.register refl h)
-    (λ l. elim (activate_leaves s.register l) [ inl a ↦ logs_follow s.register (activate s.register l).register a.0 h | inr a ↦ put_follow s.register (activate s.register l).register l (next_epoch (epochs_of s.register l)) (omega arith) (omega arith) (λ e y f. h l e y f) a.1 h ])
+    (λ l g. elim (activate_leaves s.register l (Step.spec_set c s l)) [ inl a ↦ logs_follow s.register (activate s.register l (Step.spec_set c s l)).register a.0 h | inr a ↦ put_follow s.register (activate s.register l (Step.spec_set c s l)).register l (next_epoch (epochs_of s.register l) (Step.spec_set c s l)) (omega arith) (omega arith) (λ e y f. h l e y f) a.1 h ])
     (λ l k y. elim (close_leaves s.register l k y) [
       | inl a ↦ logs_follow s.register (close s.register l k y).register a.0 h
       | inr a ↦ let z = a.0 in put_follow s.register (close s.register l k y).register l (closed_epochs (epochs_of s.register l) k y) (omega arith) (omega arith)
@@ -109,7 +112,7 @@ follows c s e N h = register_kept c s e (λ n. Follows s.register n) (logs_follo
 -- summaries stay
 pub summaries_stay : (c : Config) (s : State) (e : Event) → NamesOnce s → OnlyClosed s.register → (l k : ℕ) (y : Summary) → find k (epochs_of s.register l).summaries ≡ Some y → find k (epochs_of (Step.happens c s e).state.register l).summaries ≡ Some y
 summaries_stay c s e N h = register_kept c s e (λ n. (l k : ℕ) (y : Summary) → find k (epochs_of s.register l).summaries ≡ Some y → find k (epochs_of n l).summaries ≡ Some y) (λ l k y f. f)
-    (λ l. elim (activate_leaves s.register l) [ inl a ↦ by_logs (activate s.register l).register a.0 | inr a ↦ by_put (activate s.register l).register l (next_epoch (epochs_of s.register l)) a.1 (λ k y f. f) ])
+    (λ l g. elim (activate_leaves s.register l (Step.spec_set c s l)) [ inl a ↦ by_logs (activate s.register l (Step.spec_set c s l)).register a.0 | inr a ↦ by_put (activate s.register l (Step.spec_set c s l)).register l (next_epoch (epochs_of s.register l) (Step.spec_set c s l)) a.1 (λ k y f. f) ])
     (λ l k y. elim (close_leaves s.register l k y) [
       | inl a ↦ by_logs (close s.register l k y).register a.0
       | inr a ↦ by_put (close s.register l k y).register l (closed_epochs (epochs_of s.register l) k y) a.1 (λ j z f. elim (put_cases j k y (epochs_of s.register l).summaries) [ inl b ↦ absurd (let u = h l j z f in let v = b.0 in let w = a.0 in omega arith) | inr b ↦ b.1 ∙ f ])
@@ -124,6 +127,62 @@ summaries_stay c s e N h = register_kept c s e (λ n. (l k : ℕ) (y : Summary) 
         | inl p ↦ ap (λ (z : Epochs). find k z.summaries) (epochs_same (with_epochs s.register l x) n j q ∙ p.1) ∙ g k y (subst (λ z. find k (epochs_of s.register z).summaries ≡ Some y) p.0 f)
         | inr p ↦ ap (λ (z : Epochs). find k z.summaries) (epochs_same (with_epochs s.register l x) n j q ∙ p.1) ∙ f
       ]
+
+-- ---- nodes, factor and extras ----
+
+-- an epoch that was handed out
+abbrev pub Reached : Register → ℕ → ℕ → Type 0
+Reached r l e = (0 < e) × (e ≤ (epochs_of r l).epoch)
+
+-- what is fixed for an epoch that was handed out stays so
+abbrev pub SpecsStay : Register → Register → Type 0
+SpecsStay r n = (l e : ℕ) → Reached r l e → find e (epochs_of n l).specs ≡ find e (epochs_of r l).specs
+
+pub specs_stay : (c : Config) (s : State) (e : Event) → NamesOnce s → SpecsStay s.register (Step.happens c s e).state.register
+specs_stay c s e N = register_kept c s e (λ n. SpecsStay s.register n) (λ l k h. refl)
+    (λ l g. elim (activate_leaves s.register l (Step.spec_set c s l)) [
+      | inl a ↦ by_logs (activate s.register l (Step.spec_set c s l)).register a.0
+      | inr a ↦ by_put (activate s.register l (Step.spec_set c s l)).register l (next_epoch (epochs_of s.register l) (Step.spec_set c s l)) a.1
+          (λ k h. elim (put_cases k ((epochs_of s.register l).epoch + 1) (Step.spec_set c s l) (epochs_of s.register l).specs) [ inl b ↦ absurd (let u = h.1 in let v = b.0 in omega arith) | inr b ↦ b.1 ])
+    ])
+    (λ l k y. elim (close_leaves s.register l k y) [
+      | inl a ↦ by_logs (close s.register l k y).register a.0
+      | inr a ↦ by_put (close s.register l k y).register l (closed_epochs (epochs_of s.register l) k y) a.1 (λ j h. refl)
+    ])
+    (λ n. elim (draw_leaves s.register n) [ inl a ↦ by_logs (draw s.register n).register a.0 | inr a ↦ by_logs (draw s.register n).register a.0 ])
+    (λ n q. by_logs n q) N where
+      by_logs : (n : Register) → n.logs ≡ s.register.logs → SpecsStay s.register n
+      by_logs n q l k h = ap (λ m. find k (unwrap_or (find l m) no_epochs).specs) q
+
+      by_put : (n : Register) (l : ℕ) (x : Epochs) → Same (with_epochs s.register l x) n → ((k : ℕ) → Reached s.register l k → find k x.specs ≡ find k (epochs_of s.register l).specs) → SpecsStay s.register n
+      by_put n l x q g j k h = elim (epochs_put s.register l j x) [
+        | inl p ↦ ap (λ (z : Epochs). find k z.specs) (epochs_same (with_epochs s.register l x) n j q ∙ p.1) ∙ (g k (subst (λ z. Reached s.register z k) p.0 h) ∙ ap (λ z. find k (epochs_of s.register z).specs) (sym p.0))
+        | inr p ↦ ap (λ (z : Epochs). find k z.specs) (epochs_same (with_epochs s.register l x) n j q ∙ p.1)
+      ]
+
+-- of an epoch that was handed out a look shows what is fixed for it
+pub shown_is : (r : Register) (l e : ℕ) → Reached r l e → epoch_shown (epochs_of r l) e ≡ e
+shown_is r l e h = cond_both ((e == 0) || nat_lt (epochs_of r l).epoch e) (epochs_of r l).epoch e (λ z. z ≡ e)
+    (λ t. absurd (let a = h.0 in let b = h.1 in elim (or_cases (e == 0) (nat_lt (epochs_of r l).epoch e) t) [ inl z ↦ (let y = eqb-true e 0 z in omega arith) | inr z ↦ (let y = ltb-true (epochs_of r l).epoch e z in omega arith) ]))
+    (λ t. refl)
+
+pub spec_found : (c : Config) (r : Register) (l e : ℕ) → Reached r l e → spec_of c r l e ≡ unwrap_or (find e (epochs_of r l).specs) (first_spec c l)
+unfolding look
+spec_found c r l e h = ap (λ k. unwrap_or (find k (epochs_of r l).specs) (first_spec c l)) (shown_is r l e h)
+
+pub reached_later : (r n : Register) (l e : ℕ) → Up r n → Reached r l e → Reached n l e
+reached_later r n l e u h = (h.0, let a = h.1 in let b = (u l).0 in omega arith)
+
+pub spec_stays : (c : Config) (r n : Register) → Up r n → SpecsStay r n → (l e : ℕ) → Reached r l e → spec_of c n l e ≡ spec_of c r l e
+spec_stays c r n u s l e h = spec_found c n l e (reached_later r n l e u h) ∙ (ap (λ o. unwrap_or o (first_spec c l)) (s l e h) ∙ sym (spec_found c r l e h))
+
+-- a new epoch has what was set
+pub activated_spec : (c : Config) (r : Register) (l : ℕ) (p : Spec) (n : Register) → activate r l p ≡ record { register = n; answer = Granted } → p ≡ spec_of c n l (epochs_of n l).epoch
+activated_spec c r l p n h =
+    let new = activated_epochs r l p n h in
+    let e = ap (λ (x : Epochs). x.epoch) new in
+    sym (spec_found c n l (epochs_of n l).epoch (omega arith, omega arith)
+    ∙ (ap (λ (x : Epochs). unwrap_or (find x.epoch x.specs) (first_spec c l)) new ∙ ap (λ o. unwrap_or o (first_spec c l)) (find-put_same ((epochs_of r l).epoch + 1) ((epochs_of r l).epoch + 1) p (epochs_of r l).specs refl)))
 
 pub start_closed : OnlyClosed empty_register
 unfolding find

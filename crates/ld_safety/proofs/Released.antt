@@ -19,7 +19,7 @@ use Rattle.ld_msg.specs.Sequencer.{Sequencer, called, on_reply, on_retry, next_e
 use Rattle.ld_op.specs.declared.op.Op.{Op}
 use Rattle.ld_op.specs.declared.op.Op.TheVariants as ops
 use Rattle.ld_op.specs.Ticks.{Ticked, Cleans, Rebuilt, Asks, Nothing}
-use Rattle.ld_machine.specs.Config.{spec_in}
+use Rattle.ld_machine.specs.Config.{looks_at}
 use Rattle.ld_machine.specs.Disk.{Node, keep_end}
 use Rattle.ld_machine.specs.State.{State, Done, start, finish, node_at, with_node, with_register}
 use Rattle.ld_machine.specs.Facts.{Happened, Writes, OfLog}
@@ -30,19 +30,22 @@ use Rattle.ld_machine.specs.Step as Step
 use Rattle.ld_safety.proofs.Lists.{Some_inj, not_none, not_both, only, cond_both}
 use Rattle.ld_safety.proofs.Traces.{Keeps, happened, later, beside_kept}
 use Rattle.ld_safety.proofs.Steps.{writes_cases}
-use Rattle.ld_safety.proofs.Lines.{Group, OfNodes, OfNumbers, OfActs, OfTrims, OfItems, AllOf, none_of, one_of, kept_of, format_of, acted_of, items_of, line_of}
+use Rattle.ld_safety.proofs.Lines.{Group, OfNodes, OfNumbers, OfActs, OfTrims, OfSets, OfItems, AllOf, none_of, one_of, kept_of, format_of, acted_of, items_of, line_of}
 use Rattle.ld_safety.proofs.Events.{Cases, dispatch, Live, is_quiet, refreshed, loaded}
 use Rattle.ld_safety.proofs.Base.{Base, counts_of}
-use Rattle.ld_safety.proofs.Given.{AnyEpoch, AnyShown, GivenEntry, entry_grows, of_log_grows, plan_given}
+use Rattle.ld_safety.proofs.Given.{AnyEpoch, AnyShown, SmallGood, GivenEntry, entry_grows, of_log_grows, plan_given, plan_epoch}
 use Rattle.ld_safety.proofs.GivenSteps.{BaseGiven, append_given}
 use Rattle.ld_safety.proofs.CarriedSteps.{Carries, Sources, carried_on}
 use Rattle.ld_safety.proofs.CarriedGrows.{carries_grow}
 use Rattle.ld_safety.proofs.Settled.{ReleaseFine}
 use Rattle.ld_safety.proofs.Along.{Along, BodySaidIn}
-use Rattle.ld_safety.proofs.AlongSteps.{acks_now, follow}
+use Rattle.ld_safety.proofs.AlongSteps.{acks_now, follow, stays}
+use Rattle.ld_safety.proofs.Specs.{SetsFine}
 use Rattle.ld_safety.proofs.AckedLines.{LinesFine, AllLines, acked_grows, lines_kept}
 use Rattle.ld_safety.proofs.Carried as carried
 use Rattle.ld_safety.proofs.CarriedNodes as nodes
+use Rattle.ld_safety.proofs.CarriedSequencers as sequencers
+use Rattle.ld_safety.proofs.Appends.{own_epoch}
 use Rattle.ld_safety.proofs.Has as has
 
 -- a released number covers numbers of its epoch that were acknowledged in lines
@@ -56,29 +59,29 @@ abbrev AnySummary : ℕ → ℕ → Summary → Type 0
 AnySummary l e y = Unit {0}
 
 abbrev pub Releases : Config → List Happened → State → Type 0
-Releases c hs s = Carries c s (events.Flow 0) (GivenEntry hs) AnyTrim AnySummary AnyEpoch AnyShown (ReleaseLines hs) s
+Releases c hs s = Carries c s (events.Flow 0) (GivenEntry hs) AnyTrim AnySummary AnyEpoch AnyShown (ReleaseLines hs) (GivenEntry hs) SmallGood s
 
-releases_sound : (hs : List Happened) → carried.Sound (GivenEntry hs) AnyTrim AnySummary AnyEpoch AnyShown (ReleaseLines hs)
-releases_sound hs = record { zero_trim = λ l. tt; place = λ l b n w g. g.place.above; reached = λ l b n w g. tt; closing_trim = λ l e y h. tt; zero_closed = λ l. tt; zero_released = λ l pos. absurd (omega arith) }
+releases_sound : (hs : List Happened) → carried.Sound (GivenEntry hs) AnyTrim AnySummary AnyEpoch AnyShown (ReleaseLines hs) (GivenEntry hs) SmallGood
+releases_sound hs = record { zero_trim = λ l. tt; place = λ l b n w g. g.place.above; reached = λ l b n w g. tt; closing_trim = λ l e y h. tt; zero_closed = λ l. tt; zero_released = λ l pos. absurd (omega arith); kept = λ l b n w g. g; zero_good = λ l e. omega arith; good_below = λ l e g h. h }
 
-released_lines : (c : Config) (hs : List Happened) (q : Sequencer) → LinesFine c hs q → next_esn q ≤ last_esn → ReleaseLines hs q.log (released_of q)
-released_lines c hs q F small = cond_both (nat_lt (q.lce + 1) q.epoch) (epoch_end q.lce) (numbered q.epoch q.lng) (ReleaseLines hs q.log) (λ t pos. absurd (omega arith))
+released_lines : (hs : List Happened) (q : Sequencer) → LinesFine hs q → next_esn q ≤ last_esn → ReleaseLines hs q.log (released_of q)
+released_lines hs q F small = cond_both (nat_lt (q.lce + 1) q.epoch) (epoch_end q.lce) (numbered q.epoch q.lng) (ReleaseLines hs q.log) (λ t pos. absurd (omega arith))
     (λ t pos n lo hi. subst (Acked hs q.log) (let v : numbered q.epoch (esn_of n) ≡ n = omega arith in v) (F.acked (esn_of n) (omega arith) (omega arith)))
 
-module _ (c : Config) (hs : List Happened) (w : World) (e : Event) (B : BaseGiven c hs w × Along c hs w) (C : Base c (hs ++ happened c w.state e ∷ []) (next_world c w e)) (L : AllLines c (hs ++ happened c w.state e ∷ []) (next_world c w e)) (G : Releases c hs w.state) where
+module _ (c : Config) (hs : List Happened) (w : World) (e : Event) (B : BaseGiven c hs w × Along c hs w) (C : Base c (hs ++ happened c w.state e ∷ []) (next_world c w e)) (L : AllLines (hs ++ happened c w.state e ∷ []) (next_world c w e)) (G : Releases c hs w.state) where
   abbrev next : List Happened
   next = hs ++ happened c w.state e ∷ []
 
-  now : Carries c w.state e (GivenEntry next) AnyTrim AnySummary AnyEpoch AnyShown (ReleaseLines next) w.state
-  now = carries_grow (GivenEntry hs) AnyTrim AnySummary AnyEpoch AnyShown (ReleaseLines hs) (GivenEntry next) AnyTrim AnySummary AnyEpoch AnyShown (ReleaseLines next) (entry_grows hs e (Step.happens c w.state e)) (λ l t h. tt) (λ l k y h. tt) (λ l k h. tt) (λ l b x h. tt)
-      (λ l k h pos n lo hi. acked_grows hs e (Step.happens c w.state e) l n (h pos n lo hi)) c w.state e w.state G
+  now : Carries c w.state e (GivenEntry next) AnyTrim AnySummary AnyEpoch AnyShown (ReleaseLines next) (GivenEntry next) SmallGood w.state
+  now = carries_grow (GivenEntry hs) AnyTrim AnySummary AnyEpoch AnyShown (ReleaseLines hs) (GivenEntry hs) SmallGood (GivenEntry next) AnyTrim AnySummary AnyEpoch AnyShown (ReleaseLines next) (GivenEntry next) SmallGood (entry_grows hs w.state.register e (Step.happens c w.state e)) (λ l t h. tt) (λ l k y h. tt) (λ l k h. tt) (λ l b x h. tt)
+      (λ l k h pos n lo hi. acked_grows hs w.state.register e (Step.happens c w.state e) l n (h pos n lo hi)) (entry_grows hs w.state.register e (Step.happens c w.state e)) (λ l k g h. h) c w.state e w.state G
 
   released_now : (name : List ℕ) (q p : Sequencer) → Live w.state name q → find_named name (Step.happens c w.state e).state.sequencers ≡ Some p → ReleaseLines next q.log (released_of p)
   unfolding finish
-  released_now name q p v f = subst (λ l. ReleaseLines next l (released_of p)) ((acks_now c hs w e B.0.0 B.0.1 B.1 refl (follow c hs w e B.0.0 B.0.1 B.1).0 name p f).1 q v.named)
-      (released_lines c next p (L name p f) (counts_of c next (next_world c w e) C name p f).small)
+  released_now name q p v f = subst (λ l. ReleaseLines next l (released_of p)) ((acks_now c hs w e B.0.0 B.0.1 B.1 refl (follow c hs w e B.0.0 B.0.1 B.1).0 (stays c hs w e B.0.0 B.0.1 B.1) name p f).1 q v.named)
+      (released_lines next p (L name p f) (counts_of c next (next_world c w e) C name p f).small)
 
-  release_sources : Sources c w.state e (GivenEntry next) AnyTrim AnySummary AnyEpoch AnyShown (ReleaseLines next)
+  release_sources : Sources c w.state e (GivenEntry next) AnyTrim AnySummary AnyEpoch AnyShown (ReleaseLines next) (GivenEntry next) SmallGood
   release_sources = record {
     sound = releases_sound next;
     before = now;
@@ -88,20 +91,23 @@ module _ (c : Config) (hs : List Happened) (w : World) (e : Event) (B : BaseGive
     register = λ l k y f. tt;
     append = append_given c hs w e B.0.0 B.0.1;
     trim = λ name q point v b x. tt;
-    planned = λ name q v d y from upto trim lng es l h f r g k t u D m i j. plan_given next q.log q.epoch v.epoch _ (λ z j x k. (D z j).entries x k) i j;
+    planned = λ name q v d y from upto trim lng es l h f r g k t u D m i j. let low = sequencers.digest_good (GivenEntry next) AnyTrim AnySummary AnyEpoch AnyShown (ReleaseLines next) (GivenEntry next) SmallGood (releases_sound next) q.log v.epoch _ D in (plan_given next q.log q.epoch v.epoch _ (λ z o x k. (D z o).entries x k) low i j, plan_epoch next q.log q.epoch v.epoch _ (λ z o x k. (D z o).entries x k) low i j);
     closed = λ name q v y l r d k g. tt;
-    refill = λ n m round from upto es i t v b u x j k. let z : carried.MsgOk (GivenEntry next) AnyTrim AnySummary AnyEpoch AnyShown (ReleaseLines next) m = now.sent m i in
-        let y : carried.EntriesOk (GivenEntry next) AnyTrim AnySummary AnyEpoch AnyShown (ReleaseLines next) m.log es = (subst (carried.BodyOk (GivenEntry next) AnyTrim AnySummary AnyEpoch AnyShown (ReleaseLines next) m.log m.from) b z).0 in
+    refill = λ n m round from upto es i t v b u x j k. let z : carried.MsgOk (GivenEntry next) AnyTrim AnySummary AnyEpoch AnyShown (ReleaseLines next) (GivenEntry next) SmallGood m = now.sent m i in
+        let y : carried.AllKeptOk (GivenEntry next) AnyTrim AnySummary AnyEpoch AnyShown (ReleaseLines next) (GivenEntry next) SmallGood m.log es = (subst (carried.BodyOk (GivenEntry next) AnyTrim AnySummary AnyEpoch AnyShown (ReleaseLines next) (GivenEntry next) SmallGood m.log m.from) b z).0 in
         let o = y x j in record { place = o.place; appended = o.appended };
     shows = λ n l v. record { clean = λ f z k x a h b t i u o. tt; open_still = λ f k x t i u o. tt };
+    good = λ name q f. (let u = (counts_of c hs w B.0.0 name q f).small in omega arith);
+    own = λ name q f. let u = counts_of c hs w B.0.0 name q f in own_epoch q u.row u.small;
+    small = λ name q f. (counts_of c hs w B.0.0 name q f).small;
     released = released_now;
   }
 
   releases_step : Releases c (hs ++ happened c w.state e ∷ []) (next_world c w e).state
-  releases_step = carried_on c w.state e (GivenEntry next) AnyTrim AnySummary AnyEpoch AnyShown (ReleaseLines next) B.0.0.0.0 release_sources
+  releases_step = carried_on c w.state e (GivenEntry next) AnyTrim AnySummary AnyEpoch AnyShown (ReleaseLines next) (GivenEntry next) SmallGood B.0.0.0.0 release_sources
 
 start_releases : (c : Config) → Releases c [] (start c)
-start_releases c = has.start_has _ _ _ _ _ _ (λ y l pos. absurd (omega arith)) c (λ y. nodes.blank_ok (GivenEntry []) AnyTrim AnySummary AnyEpoch AnyShown (ReleaseLines []) (releases_sound [])) (λ l e y h. tt)
+start_releases c = has.start_has _ _ _ _ _ _ (λ y l pos. absurd (omega arith)) c (λ y. nodes.blank_ok (GivenEntry []) AnyTrim AnySummary AnyEpoch AnyShown (ReleaseLines []) (GivenEntry []) SmallGood (releases_sound [])) (λ l e y h. tt)
 
 -- ---- issued points ----
 record TrimTold (s : State) (name : List ℕ) (t : ℕ) : Type 0 where
@@ -154,14 +160,15 @@ module _ (c : Config) (s : State) (e : Event) where
     stops = λ n a. others OfNodes _ (λ h. cc) (one_of (lines.NodeDown n));
     wipes = λ n. others OfNodes _ (λ h. cc) (one_of (lines.NodeWiped n));
     faults = λ n f o. others OfNodes _ (λ h. cc) (none_of OfNodes);
+    sets = λ l r x set h. others OfSets _ (λ q. cc) (one_of (lines.Set l r x set));
     arms = λ k done o. others OfNodes _ (λ h. cc) (none_of OfNodes);
-    hears = λ f name q m i t l v o. others OfActs _ (λ h. cc) (acted_of name q (called (spec_in q.log c.logs) s.register (on_reply (spec_in q.log c.logs) q (Step.sender_node m.from) m.body) (on_reply (spec_in q.log c.logs) q (Step.sender_node m.from) m.body).tries).acts);
-    retries = λ name q v o. others OfActs _ (λ h. cc) (acted_of name q (called (spec_in q.log c.logs) s.register (on_retry (spec_in q.log c.logs) q) (on_retry (spec_in q.log c.logs) q).tries).acts);
+    hears = λ f name q m i t l v o. others OfActs _ (λ h. cc) (acted_of name q (called (looks_at c s.register q.log) s.register (on_reply (looks_at c s.register q.log) q (Step.sender_node m.from) m.body) (on_reply (looks_at c s.register q.log) q (Step.sender_node m.from) m.body).tries).acts);
+    retries = λ name q v o. others OfActs _ (λ h. cc) (acted_of name q (called (looks_at c s.register q.log) s.register (on_retry q) (on_retry q).tries).acts);
     appends = λ name q p v a i. others OfNumbers _ (λ h. cc) (one_of (lines.Appended name _));
     trims = λ name q t v b. issues _ name q t v b refl;
     drops = λ name q v o. others OfNodes _ (λ h. cc) (none_of OfNodes);
     activates = λ name l r g n i x. others OfNumbers _ (λ h. cc) (one_of (lines.Active name _));
-    activate_fails = λ name l x q. quiets _ (quiet_one x q);
+    activate_fails = λ name l x g q. quiets _ (quiet_one x q);
     answers = λ f name d m i t v o. others OfItems _ (λ h. cc) (items_of name _ _);
     polls = λ name d v o. others OfNodes _ (λ h. cc) (none_of OfNodes);
     opens = λ name l from until o x. others OfNodes _ (λ h. cc) (none_of OfNodes);
@@ -182,8 +189,8 @@ home_before t x h = cond_both (is_epoch_end t) (epoch_of t - 1) (epoch_of t) (λ
 abbrev pub IssuedFine : List Happened → World → Type 0
 IssuedFine hs w = (name : List ℕ) (t k : ℕ) → Writes hs k (lines.Trimmed name t) → (l : ℕ) × OfLog hs l name × (IsOpen w l (home_epoch t) → (n : ℕ) → numbered (home_epoch t) 1 ≤ n → n ≤ t → Acked hs l n)
 
-module _ (c : Config) (hs : List Happened) (w : World) (e : Event) (B : BaseGiven c hs w × Along c hs w) (D : AllLines c hs w) where
-  covers : (k : Register) (t : ℕ) (q : Sequencer) → LinesFine c hs q → next_esn q ≤ last_esn → q.lce ≤ lce_of k q.log → t ≤ released_of q → lce_of k q.log < home_epoch t → (n : ℕ) → numbered (home_epoch t) 1 ≤ n → n ≤ t → Acked hs q.log n
+module _ (c : Config) (hs : List Happened) (w : World) (e : Event) (B : BaseGiven c hs w × Along c hs w) (D : AllLines hs w) where
+  covers : (k : Register) (t : ℕ) (q : Sequencer) → LinesFine hs q → next_esn q ≤ last_esn → q.lce ≤ lce_of k q.log → t ≤ released_of q → lce_of k q.log < home_epoch t → (n : ℕ) → numbered (home_epoch t) 1 ≤ n → n ≤ t → Acked hs q.log n
   covers k t q F small low = cond_both (nat_lt (q.lce + 1) q.epoch) (epoch_end q.lce) (numbered q.epoch q.lng) (λ r. t ≤ r → lce_of k q.log < home_epoch t → (n : ℕ) → numbered (home_epoch t) 1 ≤ n → n ≤ t → Acked hs q.log n)
       (λ u b o n lo hi. absurd (let z = home_before t q.lce b in omega arith))
       (λ u b o n lo hi. let z = ltb-false _ _ u in let y = home_most t in subst (Acked hs q.log) (let v : numbered q.epoch (esn_of n) ≡ n = omega arith in v) (F.acked (esn_of n) (omega arith) (omega arith)))
@@ -191,32 +198,32 @@ module _ (c : Config) (hs : List Happened) (w : World) (e : Event) (B : BaseGive
   issued_step : IssuedFine hs w → IssuedFine (hs ++ happened c w.state e ∷ []) (next_world c w e)
   unfolding finish Trims
   issued_step I name t k x = let up = (follow c hs w e B.0.0 B.0.1 B.1).0 in elim (writes_cases hs (happened c w.state e) k _ x) [
-    | inl a ↦ let z = I name t k a in (z.0, of_log_grows hs e (Step.happens c w.state e) z.0 name z.1, λ o n lo hi. acked_grows hs e (Step.happens c w.state e) z.0 n (z.2 (let u = (up z.0).1 in omega arith) n lo hi))
+    | inl a ↦ let z = I name t k a in (z.0, of_log_grows hs w.state.register e (Step.happens c w.state e) z.0 name z.1, λ o n lo hi. acked_grows hs w.state.register e (Step.happens c w.state e) z.0 n (z.2 (let u = (up z.0).1 in omega arith) n lo hi))
     | inr a ↦
         let z = dispatch c w.state e (λ d m. Trims c w.state e d) B.0.0.0.0 (trim_cases c w.state e) name t (line_of (Step.happens c w.state e) (lines.Trimmed name t) (λ h. cc) a.1) in
         let q = z.sequencer in
         let u = counts_of c hs w B.0.0 name q z.named in (
           q.log,
-          of_log_grows hs e (Step.happens c w.state e) q.log name u.known,
-          λ o n lo hi. acked_grows hs e (Step.happens c w.state e) q.log n
+          of_log_grows hs w.state.register e (Step.happens c w.state e) q.log name u.known,
+          λ o n lo hi. acked_grows hs w.state.register e (Step.happens c w.state e) q.log n
               (covers w.state.register t q (D name q z.named) u.small (B.1.acks name q z.named).closed z.released (let v = (up q.log).1 in omega arith) n lo hi),
         )
   ]
 
 -- ---- along a run ----
 abbrev pub Releasing : Config → List Happened → World → Type 0
-Releasing c hs w = ((BaseGiven c hs w × Along c hs w) × AllLines c hs w) × (Releases c hs w.state × IssuedFine hs w)
+Releasing c hs w = ((BaseGiven c hs w × Along c hs w) × (AllLines hs w × SetsFine w.state)) × (Releases c hs w.state × IssuedFine hs w)
 
 pub releasing_kept : (c : Config) → IsInBounds c → Keeps c (Releasing c)
-releasing_kept c b = beside_kept c (λ hs w. (BaseGiven c hs w × Along c hs w) × AllLines c hs w) (λ hs w. Releases c hs w.state × IssuedFine hs w) (lines_kept c b) (start_releases c, λ name t k x. absurd (not_none x.1))
-    (λ hs w e B C h. (releases_step c hs w e B.0 C.0.0.0 C.1 h.0, issued_step c hs w e B.0 B.1 h.1))
+releasing_kept c b = beside_kept c (λ hs w. (BaseGiven c hs w × Along c hs w) × (AllLines hs w × SetsFine w.state)) (λ hs w. Releases c hs w.state × IssuedFine hs w) (lines_kept c b) (start_releases c, λ name t k x. absurd (not_none x.1))
+    (λ hs w e B C h. (releases_step c hs w e B.0 C.0.0.0 C.1.0 h.0, issued_step c hs w e B.0 B.1.0 h.1))
 
 -- ---- the laws ----
 module _ (c : Config) (hs : List Happened) (w : World) (R : Releasing c hs w) where
   released_of_lines : (l r : ℕ) → 0 < esn_of r → ReleaseLines hs l r → ReleaseFine c hs w.state.network.sent w.state.register l r → ReleasedAcked hs w l r
   released_of_lines l r pos h f = record { acked = h pos; closed = f.closed }
 
-  told_release : (r : ℕ) (m : Msg) (b : Body) → carried.BodyOk (GivenEntry hs) AnyTrim AnySummary AnyEpoch AnyShown (ReleaseLines hs) m.log m.from b → BodySaidIn c hs w m.log m.from b → In r (released_in b) → 0 < esn_of r → ReleasedAcked hs w m.log r
+  told_release : (r : ℕ) (m : Msg) (b : Body) → carried.BodyOk (GivenEntry hs) AnyTrim AnySummary AnyEpoch AnyShown (ReleaseLines hs) (GivenEntry hs) SmallGood m.log m.from b → BodySaidIn c hs w m.log m.from b → In r (released_in b) → 0 < esn_of r → ReleasedAcked hs w m.log r
   told_release r m (bodies.Release k) h f i pos = let q = only r k i in released_of_lines m.log r pos (subst (ReleaseLines hs m.log) (sym q) h) (subst (ReleaseFine c hs w.state.network.sent w.state.register m.log) (sym q) f)
   told_release r m (bodies.ReadWait round n k) h f i pos = let q = only r k i in released_of_lines m.log r pos (subst (ReleaseLines hs m.log) (sym q) h) (subst (ReleaseFine c hs w.state.network.sent w.state.register m.log) (sym q) f)
   told_release r m _ h f i pos = absurd i

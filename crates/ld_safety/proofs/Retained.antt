@@ -3,12 +3,11 @@ use Rattle.std.proofs.Common.{◌≡◌, ◌∙◌, ◌⊎◌, ◌≤◌, ℕ, �
 use Rattle.std.proofs.lemmas.Bool.{le-leb}
 use Rattle.ld_lsn.specs.Number.{epoch_of}
 use Rattle.ld_config.specs.declared.config.Config.{Config}
-use Rattle.ld_schedule.specs.declared.event.Event.{Event}
 use Rattle.ld_op.specs.Plain.{Plain, log_of}
 use Rattle.ld_machine.specs.Disk.{Cut}
 use Rattle.ld_machine.specs.State.{node_at}
 use Rattle.ld_machine.specs.Facts.{Happened}
-use Rattle.ld_machine.specs.World.{World, In, Sent, Stored, begin, MayHold, HasPlan, Holds, from_node, has_at_least}
+use Rattle.ld_machine.specs.World.{World, Stored, begin, MayHold, Holds, has_at_least}
 use Rattle.ld_machine.specs.World as world
 use Rattle.ld_machine.specs.Invariant.{Retains, SealsHold, CutAbove}
 use Rattle.ld_machine.specs.Run.{Move, world_after, trace}

@@ -1,12 +1,11 @@
--- Each entry anywhere says what its ballot says; trims, summaries, pages and released numbers are fine.
+-- Each entry anywhere says what its ballot says, or was known good; trims, summaries, pages, released numbers and last known good places are fine.
 use Rattle.std.proofs.Common.{◌≡◌, ◌∙◌, ◌≤◌, ◌<◌, ℕ, ◌+◌, inl, inr, refl, ap, sym, subst, true, ◌&&◌, nat_lt, nat_le, List, [], ◌∷◌, ◌++◌, Some, arith, Bool, false, ◌-◌, ◌⊎◌, ◌==◌, eqb-true}
 use Rattle.ld_safety.proofs.NodeSteps.{missing_clean}
 use Rattle.ld_op.specs.Answers.{lets_read}
-use Rattle.ld_machine.specs.Step.{set_read}
 use Rattle.ld_table.proofs.Laws.{find-put_same}
 use Rattle.ld_safety.proofs.CarriedSequencers as sequencers
 use Rattle.ld_msg.specs.declared.msg.Msg.{Msg}
-use Rattle.std.proofs.lemmas.Bool.{and_parts}
+use Rattle.std.proofs.lemmas.Bool.{and_parts, cases_order}
 use Rattle.ld_table.specs.Table.{find}
 use Rattle.ld_table.specs.Named.{find_named}
 use Rattle.ld_lsn.specs.Number.{epoch_of, esn_of, numbered, last_esn, home_epoch, home_esn}
@@ -17,7 +16,7 @@ use Rattle.ld_msg.specs.declared.msg.What.{What}
 use Rattle.ld_msg.specs.declared.msg.What.TheVariants.{Rec}
 use Rattle.ld_msg.specs.declared.msg.Summary.{Summary}
 use Rattle.ld_msg.specs.declared.msg.Entry.{Entry}
-use Rattle.ld_msg.specs.Digest.{Told, with_page, Item, plan, plan_item}
+use Rattle.ld_msg.specs.Digest.{Told, with_page, Item, plan, plan_item, digest_lng}
 use Rattle.ld_msg.specs.Register.{Register, Granted, Epochs, epochs_of, lce_of, close, closed_epochs, with_epochs}
 use Rattle.ld_msg.specs.Sequencer.{Sequencer, Recovery, next_esn, released_of, Stage, Closes, Stores}
 use Rattle.ld_op.specs.Plain.{log_of, summary_at, is_lost}
@@ -36,6 +35,7 @@ use Rattle.ld_safety.proofs.RegisterSteps.{close_granted, epochs_put, epochs_sam
 use Rattle.ld_safety.proofs.Registers.{Up, OnlyClosed, follows}
 use Rattle.ld_safety.proofs.Plans.{plan_items}
 use Rattle.ld_safety.proofs.Base.{Base, counts_of}
+use Rattle.ld_safety.proofs.Appends.{own_epoch}
 use Rattle.ld_safety.proofs.Given.{GivenEntry, entry_grows, appends_grows, plan_given, end_place}
 use Rattle.ld_safety.proofs.GivenSteps.{Given, append_given}
 use Rattle.ld_safety.proofs.CarriedSteps.{Carries, Sources, carried_on, HeardOf}
@@ -43,7 +43,7 @@ use Rattle.ld_safety.proofs.CarriedGrows.{carries_grow}
 use Rattle.ld_safety.proofs.Carried as carried
 use Rattle.ld_safety.proofs.Protocol.{plan_of, Says}
 pub use Rattle.ld_safety.proofs.Settled.{Open, Reached}
-use Rattle.ld_safety.proofs.Settled.{TrimFine, CloseFine, ShowFine, ReleaseFine, ClosedEntry, Summarized, Stays, acked_grows, trim_fine_grows, close_fine_grows, show_grows, release_grows, summarized_grows}
+use Rattle.ld_safety.proofs.Settled.{TrimFine, CloseFine, ShowFine, ReleaseFine, LngFine, KnownGood, ClosedEntry, Summarized, Stays, acked_grows, trim_fine_grows, lng_fine_grows, close_fine_grows, show_grows, known_good_grows, release_grows, summarized_grows}
 use Rattle.ld_safety.proofs.Closings.{OfSummaries, Ends_with, summaries_after}
 
 pub record Said (hs : List Happened) (made : List Made) (r : Register) (l b n : ℕ) (x : What) : Type 0 where
@@ -51,19 +51,42 @@ pub record Said (hs : List Happened) (made : List Made) (r : Register) (l b n : 
   pub reached : Reached r l (epoch_of n)
   pub says : Says hs made l b n x
 
+-- what a node keeps and a reader is shown of a number
+pub record SaidHere (hs : List Happened) (made : List Made) (r : Register) (l b n : ℕ) (x : What) : Type 0 where
+  pub given : GivenEntry hs l b n x
+  pub reached : Reached r l (epoch_of n)
+  pub says : Says hs made l b n x ⊎ KnownGood hs r l b n x
+
 abbrev pub AllSaid : Config → List Happened → List Made → Register → State → Type 0
-AllSaid c hs made r s = Carries c s (events.Flow 0) (Said hs made r) (TrimFine c hs s.network.sent r) (CloseFine c hs made s.network.sent r) (Reached r) (ShowFine c hs made s.network.sent r) (ReleaseFine c hs s.network.sent r) s
+AllSaid c hs made r s = Carries c s (events.Flow 0) (Said hs made r) (TrimFine c hs s.network.sent r) (CloseFine c hs made s.network.sent r) (Reached r) (ShowFine c hs made s.network.sent r) (ReleaseFine c hs s.network.sent r) (SaidHere hs made r) (LngFine c hs s.network.sent r) s
 
 -- ---- what grows ----
-pub says_grows : (hs : List Happened) (e : Event) (d : Done) (made more : List Made) (l b n : ℕ) (x : What) → Says hs made l b n x → Says (hs ++ told e d ∷ []) (more ++ made) l b n x
-says_grows hs e d made more l b n x (inl s) = inl (record { own = s.own; payload = s.payload; is = s.is; appended = (s.appended.0, appends_grows hs e d l n s.appended.0 s.payload s.appended.1) })
-says_grows hs e d made more l b n x (inr s) = inr (record { later = s.later; digest = s.digest; planned = In_right _ more made s.planned; item = s.item })
+-- a last known good place lies below the last place, where no append has its number
+pub good_low : (c : Config) (hs : List Happened) (sent : List Msg) (r : Register) (l e g : ℕ) → LngFine c hs sent r l e g → g < last_esn
+good_low c hs sent r l e g h = elim (cases_order g last_esn) [
+  | inl q ↦ absurd (last (omega arith))
+  | inr (inl q) ↦ q
+  | inr (inr q) ↦ absurd (last (omega arith))
+] where
+  last : last_esn ≤ g → ⊥
+  last q = let z = (h (numbered e last_esn) (omega arith) (omega arith) (omega arith)).below in omega arith
 
-pub said_grows : (hs : List Happened) (e : Event) (d : Done) (made more : List Made) (r k : Register) → Up r k → (l b n : ℕ) (x : What) → Said hs made r l b n x → Said (hs ++ told e d ∷ []) (more ++ made) k l b n x
+pub says_grows : (hs : List Happened) (old : Register) (e : Event) (d : Done) (made more : List Made) (l b n : ℕ) (x : What) → Says hs made l b n x → Says (hs ++ told old e d ∷ []) (more ++ made) l b n x
+says_grows hs old e d made more l b n x (inl s) = inl (record { own = s.own; payload = s.payload; is = s.is; appended = (s.appended.0, appends_grows hs old e d l n s.appended.0 s.payload s.appended.1) })
+says_grows hs old e d made more l b n x (inr s) = inr (record { later = s.later; digest = s.digest; planned = In_right _ more made s.planned; item = s.item })
+
+pub said_grows : (hs : List Happened) (e : Event) (d : Done) (made more : List Made) (r k : Register) → Up r k → (l b n : ℕ) (x : What) → Said hs made r l b n x → Said (hs ++ told r e d ∷ []) (more ++ made) k l b n x
 said_grows hs e d made more r k u l b n x s = let v = u l in let a = v.0 in let z = v.1 in let q = s.reached in record {
-  given = entry_grows hs e d l b n x s.given;
+  given = entry_grows hs r e d l b n x s.given;
   reached = (q.0, let y = q.1 in omega arith);
-  says = says_grows hs e d made more l b n x s.says;
+  says = says_grows hs r e d made more l b n x s.says;
+}
+
+pub here_grows : (c : Config) (hs : List Happened) (e : Event) (d : Done) (made more : List Made) (sent after : List Msg) (r k : Register) (into : (m : Msg) → In m sent → In m after) → Up r k → Stays c r k → (l b n : ℕ) (x : What) → SaidHere hs made r l b n x → SaidHere (hs ++ told r e d ∷ []) (more ++ made) k l b n x
+here_grows c hs e d made more sent after r k into u s l b n x h = let v = u l in let a = v.0 in let z = v.1 in let q = h.reached in record {
+  given = entry_grows hs r e d l b n x h.given;
+  reached = (q.0, let y = q.1 in omega arith);
+  says = elim h.says [ inl p ↦ inl (says_grows hs r e d made more l b n x p) | inr p ↦ inr (known_good_grows c hs e d made more sent after r k into u s l b n x p) ];
 }
 
 module _ (c : Config) (hs : List Happened) (w : World) (e : Event) (B : Base c hs w) (G : Given c hs w.state) (O : OnlyClosed w.state.register) (A : AllSaid c hs w.made w.state.register w.state) where
@@ -97,29 +120,40 @@ module _ (c : Config) (hs : List Happened) (w : World) (e : Event) (B : Base c h
   abbrev pub ReleaseNow : ℕ → ℕ → Type 0
   ReleaseNow = ReleaseFine c next after reg
 
+  abbrev pub HereNow : ℕ → ℕ → ℕ → What → Type 0
+  HereNow = SaidHere next plans_now reg
+
+  abbrev pub GoodNow : ℕ → ℕ → ℕ → Type 0
+  GoodNow = LngFine c next after reg
+
   pub up : Up w.state.register reg
   up = (follows c w.state e B.0.0 O).0
 
-  -- what the step is given: summaries and messages stay, what is released before and after it, what a clean node shows, and what a recovery closes with
-  module _ (stays : Stays w.state.register reg) (into : (m : Msg) → In m w.state.network.sent → In m after)
+  -- what the step is given: summaries and messages stay, what is released before and after it, what is known good, what a clean node shows, and what a recovery closes with
+  module _ (stays : Stays c w.state.register reg) (into : (m : Msg) → In m w.state.network.sent → In m after)
       (released_before : (name : List ℕ) (q : Sequencer) → find_named name w.state.sequencers ≡ Some q → ReleaseFine c hs w.state.network.sent w.state.register q.log (released_of q))
       (released_after : (name : List ℕ) (q p : Sequencer) → Live w.state name q → find_named name (Step.happens c w.state e).state.sequencers ≡ Some p → ReleaseNow q.log (released_of p))
+      (good_before : (name : List ℕ) (q : Sequencer) → find_named name w.state.sequencers ≡ Some q → LngFine c hs w.state.network.sent w.state.register q.log q.epoch q.lng)
       (clean_shown : (n l : ℕ) → (from : ℕ) (y : Summary) (k : ℕ) (x : Entry) → (log_of (node_at w.state n).plain l).trim < from → summary_at (log_of (node_at w.state n).plain l) (home_epoch from) ≡ Some y → home_esn from < y.end → is_lost (log_of (node_at w.state n).plain l) (home_epoch from) ≡ false
       → In (k, x) (log_of (node_at w.state n).plain l).entries → from ≤ x.number → x.number ≤ numbered (home_epoch from) (y.end - 1) → ClosedEntry c hs w.made w.state.network.sent w.state.register l x)
-      (closing : (name : List ℕ) (q : Sequencer) (v : Recovery) (y : Summary) → Live w.state name q → q.recovery ≡ Some v → Ends_with c w.state q v y → lce_of w.state.register q.log + 1 ≡ v.epoch → Summarized c hs w.made w.state.network.sent q.log v.epoch y) where
+      (closing : (name : List ℕ) (q : Sequencer) (v : Recovery) (y : Summary) → Live w.state name q → q.recovery ≡ Some v → Ends_with w.state q v y → lce_of w.state.register q.log + 1 ≡ v.epoch → Summarized c hs w.made w.state.network.sent w.state.register q.log v.epoch y) where
     G1 : (l b n : ℕ) (x : What) → Said hs w.made w.state.register l b n x → SaidNow l b n x
     G1 = said_grows hs e (Step.happens c w.state e) w.made (made_on c w.state e) w.state.register reg up
 
-    now : Carries c w.state e SaidNow TrimNow CloseNow ReachedNow ShowNow ReleaseNow w.state
-    now = carries_grow (Said hs w.made w.state.register) (TrimFine c hs w.state.network.sent w.state.register) (CloseFine c hs w.made w.state.network.sent w.state.register) (Reached w.state.register) (ShowFine c hs w.made w.state.network.sent w.state.register) (ReleaseFine c hs w.state.network.sent w.state.register)
-        SaidNow TrimNow CloseNow ReachedNow ShowNow ReleaseNow G1
+    grow_good : (l k g : ℕ) → LngFine c hs w.state.network.sent w.state.register l k g → GoodNow l k g
+    grow_good = lng_fine_grows c hs e (Step.happens c w.state e) w.made (made_on c w.state e) w.state.network.sent after w.state.register reg into up stays
+
+    now : Carries c w.state e SaidNow TrimNow CloseNow ReachedNow ShowNow ReleaseNow HereNow GoodNow w.state
+    now = carries_grow (Said hs w.made w.state.register) (TrimFine c hs w.state.network.sent w.state.register) (CloseFine c hs w.made w.state.network.sent w.state.register) (Reached w.state.register) (ShowFine c hs w.made w.state.network.sent w.state.register) (ReleaseFine c hs w.state.network.sent w.state.register) (SaidHere hs w.made w.state.register) (LngFine c hs w.state.network.sent w.state.register)
+        SaidNow TrimNow CloseNow ReachedNow ShowNow ReleaseNow HereNow GoodNow G1
         (trim_fine_grows c hs e (Step.happens c w.state e) w.made (made_on c w.state e) w.state.network.sent after w.state.register reg into up stays)
         (close_fine_grows c hs e (Step.happens c w.state e) w.made (made_on c w.state e) w.state.network.sent after w.state.register reg into up stays)
         (λ l k h. (h.0, let z = (up l).0 in let y = h.1 in omega arith))
         (show_grows c hs e (Step.happens c w.state e) w.made (made_on c w.state e) w.state.network.sent after w.state.register reg into up stays)
-        (release_grows c hs e (Step.happens c w.state e) w.made (made_on c w.state e) w.state.network.sent after w.state.register reg into up stays) c w.state e w.state A
+        (release_grows c hs e (Step.happens c w.state e) w.made (made_on c w.state e) w.state.network.sent after w.state.register reg into up stays)
+        (here_grows c hs e (Step.happens c w.state e) w.made (made_on c w.state e) w.state.network.sent after w.state.register reg into up stays) grow_good c w.state e w.state A
 
-    sound : carried.Sound SaidNow TrimNow CloseNow ReachedNow ShowNow ReleaseNow
+    sound : carried.Sound SaidNow TrimNow CloseNow ReachedNow ShowNow ReleaseNow HereNow GoodNow
     sound = record {
       zero_trim = λ l n a b o. absurd (omega arith);
       place = λ l b n x s. s.given.place.above;
@@ -127,6 +161,9 @@ module _ (c : Config) (hs : List Happened) (w : World) (e : Event) (B : Base c h
       closing_trim = λ l k y h. h.0;
       zero_closed = λ l. ((λ n a b o. absurd (omega arith)), inl (refl, refl));
       zero_released = λ l. record { acked = λ n a b o. absurd (omega arith); closed = omega arith };
+      kept = λ l b n x s. record { given = s.given; reached = s.reached; says = inl s.says };
+      zero_good = λ l k n a b o. absurd (omega arith);
+      good_below = λ l k g h. good_low c next after reg l k g h;
     }
 
     reached_own : (name : List ℕ) (q : Sequencer) → find_named name w.state.sequencers ≡ Some q → Reached reg q.log q.epoch
@@ -140,43 +177,45 @@ module _ (c : Config) (hs : List Happened) (w : World) (e : Event) (B : Base c h
     }
 
     plan_said : (name : List ℕ) (q : Sequencer) (v : Recovery) (d : List Told) → find_named name w.state.sequencers ≡ Some q → q.recovery ≡ Some v → In (plan_of q.log v.epoch q.epoch d) plans_now
-        → ((t : Told) → In t d → (f : Entry) → In f t.entries → GivenEntry next q.log f.ballot f.number f.what) → (i : Item) → In i (plan v.epoch d).items → Said next plans_now reg q.log q.epoch i.number i.what
-    plan_said name q v d f r m D i j =
+        → ((t : Told) → In t d → (f : Entry) → In f t.entries → GivenEntry next q.log f.ballot f.number f.what) → digest_lng d < last_esn → (i : Item) → In i (plan v.epoch d).items → Said next plans_now reg q.log q.epoch i.number i.what × (epoch_of i.number ≡ v.epoch)
+    plan_said name q v d f r m D L i j =
         let p = plan_items v.epoch d i j in
-        let en = end_place next q.log q.epoch v.epoch d D in
+        let en = end_place next q.log q.epoch v.epoch d D L in
         let a = p.above in let b = p.below in let nm = p.number in
-        let rec = (subst (carried.RecoveryOk SaidNow TrimNow CloseNow ReachedNow ShowNow ReleaseNow q.log q.epoch) r (now.sequencers name q f).recovery).0 in
+        let rec = (subst (carried.RecoveryOk SaidNow TrimNow CloseNow ReachedNow ShowNow ReleaseNow HereNow GoodNow q.log q.epoch) r (now.sequencers name q f).recovery).0 in
         let lo = rec.0 in let hi = rec.1 in
         let ep : epoch_of i.number ≡ v.epoch = omega arith in
         let es : esn_of i.number ≡ p.place = omega arith in
-        let own = reached_own name q f in let top = own.1 in
-        record {
-          given = plan_given next q.log q.epoch v.epoch d D i j;
-          reached = (omega arith, omega arith);
-          says = inr (record {
-            later = omega arith;
-            digest = d;
-            planned = subst (λ k. In (plan_of q.log k q.epoch d) plans_now) (sym ep) m;
-            item = subst (λ k. plan_item k d (esn_of i.number) ≡ Some i.what) (sym ep) (subst (λ k. plan_item v.epoch d k ≡ Some i.what) (sym es) p.item);
-          });
-        }
+        let own = reached_own name q f in let top = own.1 in (
+          record {
+            given = plan_given next q.log q.epoch v.epoch d D L i j;
+            reached = (omega arith, omega arith);
+            says = inr (record {
+              later = omega arith;
+              digest = d;
+              planned = subst (λ k. In (plan_of q.log k q.epoch d) plans_now) (sym ep) m;
+              item = subst (λ k. plan_item k d (esn_of i.number) ≡ Some i.what) (sym ep) (subst (λ k. plan_item v.epoch d k ≡ Some i.what) (sym es) p.item);
+            });
+          },
+          ep,
+        )
 
     trim_said : (name : List ℕ) (q : Sequencer) (point : ℕ) → Live w.state name q → point ≤ released_of q → TrimNow q.log point
     trim_said name q point v b n le pos o = let r = released_before name q v.named in let u = (up q.log).1 in let k = r.closed in
         acked_grows c hs e (Step.happens c w.state e) w.made (made_on c w.state e) w.state.network.sent after w.state.register reg into up stays q.log n (r.acked n (omega arith) pos (omega arith))
 
-    ending : (q : Sequencer) (v : Recovery) (y : Summary) → sequencers.Ending SaidNow TrimNow CloseNow ReachedNow ShowNow ReleaseNow sound c q (HeardOf w.state q) v y → Ends_with c w.state q v y
+    ending : (q : Sequencer) (v : Recovery) (y : Summary) → sequencers.Ending SaidNow TrimNow CloseNow ReachedNow ShowNow ReleaseNow HereNow GoodNow sound q (HeardOf w.state q) v y → Ends_with w.state q v y
     ending q v y (sequencers.closing_now g) = inl g
-    ending q v y (sequencers.ready_now g p z b h s k u i) = inr (record { storing = g; settles = p; node = z; body = b; heard = h; settling = s; stage = k; ready = u; summary = i })
+    ending q v y (sequencers.ready_now g p z b h s o k u i) = inr (record { storing = g; settles = p; node = z; body = b; heard = h; settling = s; member = o; stage = k; ready = u; summary = i })
 
-    stage_of : (name : List ℕ) (q : Sequencer) (v : Recovery) (g : Stage) → find_named name w.state.sequencers ≡ Some q → q.recovery ≡ Some v → v.stage ≡ g → carried.StageOk SaidNow TrimNow CloseNow ReachedNow ShowNow ReleaseNow q.log q.epoch v.epoch g
-    stage_of name q v g f r k = subst (carried.StageOk SaidNow TrimNow CloseNow ReachedNow ShowNow ReleaseNow q.log q.epoch v.epoch) k (subst (carried.RecoveryOk SaidNow TrimNow CloseNow ReachedNow ShowNow ReleaseNow q.log q.epoch) r (now.sequencers name q f).recovery).1
+    stage_of : (name : List ℕ) (q : Sequencer) (v : Recovery) (g : Stage) → find_named name w.state.sequencers ≡ Some q → q.recovery ≡ Some v → v.stage ≡ g → carried.StageOk SaidNow TrimNow CloseNow ReachedNow ShowNow ReleaseNow HereNow GoodNow q.log q.epoch v.epoch g
+    stage_of name q v g f r k = subst (carried.StageOk SaidNow TrimNow CloseNow ReachedNow ShowNow ReleaseNow HereNow GoodNow q.log q.epoch v.epoch) k (subst (carried.RecoveryOk SaidNow TrimNow CloseNow ReachedNow ShowNow ReleaseNow HereNow GoodNow q.log q.epoch) r (now.sequencers name q f).recovery).1
 
-    closing_trims : (name : List ℕ) (q : Sequencer) (v : Recovery) (y : Summary) → find_named name w.state.sequencers ≡ Some q → q.recovery ≡ Some v → Ends_with c w.state q v y → TrimNow q.log y.trim
-    closing_trims name q v y f r (inl g) = stage_of name q v (Closes y) f r g
-    closing_trims name q v y f r (inr g) = subst (λ (x : Summary). TrimNow q.log x.trim) (sym g.summary) (stage_of name q v (Stores g.storing) f r g.stage).0
+    closing_trims : (name : List ℕ) (q : Sequencer) (v : Recovery) (y : Summary) → find_named name w.state.sequencers ≡ Some q → q.recovery ≡ Some v → Ends_with w.state q v y → TrimNow q.log y.trim
+    closing_trims name q v y f r (inl g) = (stage_of name q v (Closes y) f r g).0
+    closing_trims name q v y f r (inr g) = subst (λ (x : Summary). TrimNow q.log x.trim) (sym g.summary) (stage_of name q v (Stores g.storing) f r g.stage).0.0
 
-    closed_said : (name : List ℕ) (q : Sequencer) (v : Recovery) (y : Summary) → Live w.state name q → q.recovery ≡ Some v → Ends_with c w.state q v y → lce_of w.state.register q.log + 1 ≡ v.epoch → close w.state.register q.log v.epoch y ≡ record { register = reg; answer = Granted } → CloseNow q.log v.epoch y
+    closed_said : (name : List ℕ) (q : Sequencer) (v : Recovery) (y : Summary) → Live w.state name q → q.recovery ≡ Some v → Ends_with w.state q v y → lce_of w.state.register q.log + 1 ≡ v.epoch → close w.state.register q.log v.epoch y ≡ record { register = reg; answer = Granted } → CloseNow q.log v.epoch y
     closed_said name q v y live r t h g = let s = close_granted w.state.register q.log v.epoch y reg h g in elim (epochs_put w.state.register q.log q.log (closed_epochs (epochs_of w.state.register q.log) v.epoch y)) [
       | inl a ↦
           let eq = epochs_same (with_epochs w.state.register q.log (closed_epochs (epochs_of w.state.register q.log) v.epoch y)) reg q.log s ∙ a.1 in
@@ -192,13 +231,17 @@ module _ (c : Config) (hs : List Happened) (w : World) (e : Event) (B : Base c h
       | inr a ↦ absurd (a.0 refl)
     ]
 
-    -- a refilled entry says what the closing plan says
-    refill_said : (n l : ℕ) (x : Entry) → ShowNow l true x → SaidNow l x.ballot x.number x.what → is_missing (log_of (node_at w.state n).plain l) x.number ≡ true → (y : Summary) × (find (epoch_of x.number) (log_of (node_at w.state n).plain l).summaries ≡ Some y) → SaidNow l (as_closed (log_of (node_at w.state n).plain l) x).ballot x.number x.what
+    -- a refilled entry says what the closing plan says, or was known good
+    refill_said : (n l : ℕ) (x : Entry) → ShowNow l true x → HereNow l x.ballot x.number x.what → is_missing (log_of (node_at w.state n).plain l) x.number ≡ true → (y : Summary) × (find (epoch_of x.number) (log_of (node_at w.state n).plain l).summaries ≡ Some y) → HereNow l (as_closed (log_of (node_at w.state n).plain l) x).ballot x.number x.what
     refill_said n l x s d m f =
         let k = ((now.nodes n).plain l).summaries (epoch_of x.number, f.0) (find_in (epoch_of x.number) (log_of (node_at w.state n).plain l).summaries f.0 f.1) in
         let same : f.0 ≡ s.summary = elim k.1 [ inl z ↦ absurd (let p = s.closed.positive in let y = z.0 in omega arith) | inr z ↦ Some_inj (sym z.found_so ∙ s.closed.found_so) ] in
         let b : ballot_of x.ballot (find (epoch_of x.number) (log_of (node_at w.state n).plain l).summaries) ≡ s.summary.ballot = ap (ballot_of x.ballot) f.1 ∙ ap (λ (z : Summary). z.ballot) same in
-        subst (λ v. SaidNow l v x.number x.what) (sym b) (record { given = record { place = d.given.place; appended = d.given.appended }; reached = d.reached; says = inr s.says })
+        subst (λ v. HereNow l v x.number x.what) (sym b) (record {
+          given = record { place = d.given.place; appended = d.given.appended };
+          reached = d.reached;
+          says = elim s.says [ inl p ↦ inl (inr p) | inr p ↦ inr (record { summary = s.summary; found_so = s.closed.found_so; ballot = refl; good = p }) ];
+        })
 
     home_low : (from : ℕ) → numbered (home_epoch from) 0 ≤ from
     home_low from = cond_both ((esn_of from == 0) && nat_lt 0 (epoch_of from)) (epoch_of from - 1) (epoch_of from) (λ z. numbered z 0 ≤ from) (λ t. omega arith) (λ t. omega arith)
@@ -215,13 +258,13 @@ module _ (c : Config) (hs : List Happened) (w : World) (e : Event) (B : Base c h
 
     -- where a summary comes from
     Came : ℕ → ℕ → Summary → Type 0
-    Came l k y = (find k (epochs_of w.state.register l).summaries ≡ Some y) ⊎ ((name : List ℕ) × (q : Sequencer) × (v : Recovery) × Live w.state name q × (q.recovery ≡ Some v) × Ends_with c w.state q v y × (lce_of w.state.register q.log + 1 ≡ v.epoch) × (l ≡ q.log) × (k ≡ v.epoch))
+    Came l k y = (find k (epochs_of w.state.register l).summaries ≡ Some y) ⊎ ((name : List ℕ) × (q : Sequencer) × (v : Recovery) × Live w.state name q × (q.recovery ≡ Some v) × Ends_with w.state q v y × (lce_of w.state.register q.log + 1 ≡ v.epoch) × (l ≡ q.log) × (k ≡ v.epoch))
 
     came : OfSummaries Came (Step.happens c w.state e).state.register
     unfolding Came
     came = summaries_after c w.state e Came (λ l k y f. inl f) (λ name q v y live r t h. inr (name, q, v, live, r, t, h, refl, refl)) B.0.0
 
-    register_now : carried.RegisterOk SaidNow TrimNow CloseNow ReachedNow ShowNow ReleaseNow (Step.happens c w.state e).state.register
+    register_now : carried.RegisterOk SaidNow TrimNow CloseNow ReachedNow ShowNow ReleaseNow HereNow GoodNow (Step.happens c w.state e).state.register
     unfolding Came
     register_now l k y f = elim (came l k y f) [
       | inl a ↦ now.register l k y a
@@ -232,12 +275,12 @@ module _ (c : Config) (hs : List Happened) (w : World) (e : Event) (B : Base c h
               found_so = f;
               positive = omega arith;
               low = (follows c w.state e B.0.0 O).1 l k y f;
-              plan = subst (λ z. Summarized c next plans_now after z k y) (sym il) (subst (λ z. Summarized c next plans_now after q.log z y) (sym ik) plan);
+              plan = subst (λ z. Summarized c next plans_now after reg z k y) (sym il) (subst (λ z. Summarized c next plans_now after reg q.log z y) (sym ik) plan);
             }),
           )
     ]
 
-    sources : Sources c w.state e SaidNow TrimNow CloseNow ReachedNow ShowNow ReleaseNow
+    sources : Sources c w.state e SaidNow TrimNow CloseNow ReachedNow ShowNow ReleaseNow HereNow GoodNow
     sources = record {
       sound = sound;
       before = now;
@@ -247,17 +290,21 @@ module _ (c : Config) (hs : List Happened) (w : World) (e : Event) (B : Base c h
       register = register_now;
       append = λ name q payload v a i x. append_said name q payload v (append_given c hs w e B G name q payload v a i x) (counts_of c hs w B name q v.named).small;
       trim = λ name q point v b x. trim_said name q point v b;
-      planned = λ name q v d y from upto trim lng es l h f r g k t u D m i j. plan_said name q v (with_page v.epoch y from upto trim es d) l.named r (subst (λ (z : List Made). In (plan_of q.log v.epoch q.epoch (with_page v.epoch y from upto trim es d)) (z ++ w.made)) (sym m) (inl refl)) (λ z p x o. ((D z p).entries x o).given) i j;
+      planned = λ name q v d y from upto trim lng es l h f r g k t u D m i j. plan_said name q v (with_page v.epoch y from upto trim lng es d) l.named r (subst (λ (z : List Made). In (plan_of q.log v.epoch q.epoch (with_page v.epoch y from upto trim lng es d)) (z ++ w.made)) (sym m) (inl refl)) (λ z p x o. ((D z p).entries x o).given)
+          (good_low c next after reg q.log v.epoch _ (sequencers.digest_good SaidNow TrimNow CloseNow ReachedNow ShowNow ReleaseNow HereNow GoodNow sound q.log v.epoch _ D)) i j;
       closed = λ name q v y l r d k g. closed_said name q v y l r (ending q v y d) k g;
-      refill = λ n m round from upto es i t v b u x j k. let z : carried.MsgOk SaidNow TrimNow CloseNow ReachedNow ShowNow ReleaseNow m = now.sent m i in
-          let y = subst (carried.BodyOk SaidNow TrimNow CloseNow ReachedNow ShowNow ReleaseNow m.log m.from) b z in
+      refill = λ n m round from upto es i t v b u x j k. let z : carried.MsgOk SaidNow TrimNow CloseNow ReachedNow ShowNow ReleaseNow HereNow GoodNow m = now.sent m i in
+          let y = subst (carried.BodyOk SaidNow TrimNow CloseNow ReachedNow ShowNow ReleaseNow HereNow GoodNow m.log m.from) b z in
           refill_said n m.log x (y.1 x j) (y.0 x j) k (missing_clean (log_of (node_at w.state n).plain m.log) x.number k);
       shows = λ n l v. record {
         clean = λ from y k x a b d f i lo hi. show_grows c hs e (Step.happens c w.state e) w.made (made_on c w.state e) w.state.network.sent after w.state.register reg into up stays l true x (clean_shown n l from y k x a b d f i lo hi);
         open_still = λ from k x h i lo hi. open_shown n l from k x h i lo hi;
       };
+      good = λ name q f. grow_good q.log q.epoch q.lng (good_before name q f);
+      own = λ name q f. let u = counts_of c hs w B name q f in own_epoch q u.row u.small;
+      small = λ name q f. (counts_of c hs w B name q f).small;
       released = released_after;
     }
 
     pub said_step : AllSaid c next plans_now reg (next_world c w e).state
-    said_step = carried_on c w.state e SaidNow TrimNow CloseNow ReachedNow ShowNow ReleaseNow B.0.0 sources
+    said_step = carried_on c w.state e SaidNow TrimNow CloseNow ReachedNow ShowNow ReleaseNow HereNow GoodNow B.0.0 sources

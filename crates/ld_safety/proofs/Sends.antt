@@ -62,10 +62,10 @@ same_held g e h = by_find (find e.number g.entries) refl h where
 
 taken_in : (p : Plain) (l lng : ℕ) (e : Entry) → Served (log_of p l) (epoch_of e.number) → StoredIn (after p (Some (ops.Accept l lng e))) l e.number e.ballot
 unfolding apply summary_at
-taken_in p l lng e s = let q = log_here p l (accepted (log_of p l) e) in record {
+taken_in p l lng e s = let q = log_here p l (accepted (log_of p l) lng e) in record {
   served = subst (λ g. Served g (epoch_of e.number)) (sym q) (record { found_here = s.found_here; unclean = s.unclean });
   sealed = subst (λ (g : Log). g.sealed ≤ e.ballot) (sym q) (omega arith);
-  held = subst (λ g. HeldAt g e.number e.ballot) (sym q) (record { entry = e; found_at = taken_there (log_of p l) e; least = omega arith });
+  held = subst (λ g. HeldAt g e.number e.ballot) (sym q) (record { entry = e; found_at = taken_there (log_of p l) lng e; least = omega arith });
 }
 
 store_in : (p : Plain) (generation l lng n : ℕ) (e : Entry) → store_answer generation e.number (store_decision (log_of p l) e) ≡ Some (bodies.Stored n) → StoredIn (after p (taken (ops.Accept l lng e) (store_decision (log_of p l) e))) l n e.ballot
@@ -118,8 +118,8 @@ record SamePage (f u t : ℕ) (es : List Entry) (from upto trim : ℕ) (xs : Lis
   trim_same : t ≡ trim
   entries_same : es ≡ xs
 
-same_page : (f u t from upto trim lng : ℕ) (es xs : List Entry) → Some (bodies.DigestPage f u t 0 es) ≡ Some (bodies.DigestPage from upto trim lng xs) → SamePage f u t es from upto trim xs
-same_page f u t from upto trim lng es xs h = let q : bodies.DigestPage f u t 0 es ≡ bodies.DigestPage from upto trim lng xs = Some_inj h in record { from_same = cc; upto_same = cc; trim_same = cc; entries_same = cc }
+same_page : (f u t good from upto trim lng : ℕ) (es xs : List Entry) → Some (bodies.DigestPage f u t good es) ≡ Some (bodies.DigestPage from upto trim lng xs) → SamePage f u t es from upto trim xs
+same_page f u t good from upto trim lng es xs h = let q : bodies.DigestPage f u t good es ≡ bodies.DigestPage from upto trim lng xs = Some_inj h in record { from_same = cc; upto_same = cc; trim_same = cc; entries_same = cc }
 
 as_page : (p : Plain) (l b f u t from upto trim : ℕ) (es xs : List Entry) → SamePage f u t es from upto trim xs → PageIn p l b f u t es → PageIn p l b from upto trim xs
 as_page p l b f u t from upto trim es xs q h = subst (λ z. PageIn p l b z upto trim xs) q.from_same (subst (λ z. PageIn p l b f z trim xs) q.upto_same (subst (λ z. PageIn p l b f u z xs) q.trim_same (subst (λ z. PageIn p l b f u t z) q.entries_same h)))
@@ -131,8 +131,8 @@ page_in p generation l ballot f from upto t lng es F pos h = ask_decided (log_of
   lost = λ t q. absurd cc;
   clean = λ y t k q. absurd cc;
   sealed = λ s k q. absurd cc;
-  same = λ s k q. as_page p l ballot _ _ _ from upto t _ es (same_page _ _ _ from upto t lng _ es q) (page_shows (log_of p l) l ballot f F s pos p refl (sym k));
-  takes = λ s k q. as_page (with_log p l (sealed_by (log_of p l) ballot)) l ballot _ _ _ from upto t _ es (same_page _ _ _ from upto t lng _ es q)
+  same = λ s k q. as_page p l ballot _ _ _ from upto t _ es (same_page _ _ _ _ from upto t lng _ es q) (page_shows (log_of p l) l ballot f F s pos p refl (sym k));
+  takes = λ s k q. as_page (with_log p l (sealed_by (log_of p l) ballot)) l ballot _ _ _ from upto t _ es (same_page _ _ _ _ from upto t lng _ es q)
       (page_shows (sealed_by (log_of p l) ballot) l ballot f (record { rising = F.rising; numbers = F.numbers; bounded = λ q i u. (let z = F.bounded q i (record { found_here = u.found_here; unclean = u.unclean }) in omega arith) }) (record { found_here = s.found_here; unclean = s.unclean }) pos (with_log p l (sealed_by (log_of p l) ballot)) (log_here p l (sealed_by (log_of p l) ballot)) refl);
 }) h
 

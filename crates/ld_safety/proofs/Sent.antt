@@ -29,10 +29,10 @@ use Rattle.ld_safety.proofs.Steps.{sent_by}
 use Rattle.ld_safety.proofs.Events.{NamesOnce, Cases, dispatch, Serves, refreshed, loaded}
 use Rattle.ld_safety.proofs.HoldSteps.{UpFine, released_parts, same_generation, handled_plain}
 use Rattle.ld_safety.proofs.Carried as carried
-use Rattle.ld_safety.proofs.Protocol.{StoredBy, Ends, Shows}
+use Rattle.ld_safety.proofs.Protocol.{StoredBy}
 use Rattle.ld_safety.proofs.Protocol as protocol
-use Rattle.ld_safety.proofs.Said.{Reached, Said}
-use Rattle.ld_safety.proofs.Settled.{TrimFine, CloseFine, ShowFine, ReleaseFine}
+use Rattle.ld_safety.proofs.Said.{Reached, Said, SaidHere}
+use Rattle.ld_safety.proofs.Settled.{TrimFine, CloseFine, ShowFine, ReleaseFine, LngFine}
 use Rattle.ld_safety.proofs.Holdings.{Holding}
 use Rattle.ld_safety.proofs.Serving.{Unserved, not_served}
 use Rattle.ld_safety.proofs.NodeSteps.{Served}
@@ -103,7 +103,7 @@ if_written t JournalFull ms h = none_fine t
 node_here : (t : State) (n : ℕ) (x : Node) → node_at (with_node t n x) n ≡ x
 node_here t n x = ap (λ (o : Option Node). unwrap_or o new_node) (find-put_same n n x t.nodes refl)
 
-module _ (c : Config) (s : State) (e : Event) (hs : List Happened) (made : List worlds.Made) (r : Register) (S : Carries c s e (Said hs made r) (TrimFine c hs s.network.sent r) (CloseFine c hs made s.network.sent r) (Reached r) (ShowFine c hs made s.network.sent r) (ReleaseFine c hs s.network.sent r) s)
+module _ (c : Config) (s : State) (e : Event) (hs : List Happened) (made : List worlds.Made) (r : Register) (S : Carries c s e (Said hs made r) (TrimFine c hs s.network.sent r) (CloseFine c hs made s.network.sent r) (Reached r) (ShowFine c hs made s.network.sent r) (ReleaseFine c hs s.network.sent r) (SaidHere hs made r) (LngFine c hs s.network.sent r) s)
     (H : (y : ℕ) → NodeHolds made s.network.sent y (node_at s y)) (U : (y : ℕ) → UpFine (node_at s y)) where
   Result : Done → Type 0
   Result d = SendsFine d.state d.sends
@@ -135,7 +135,7 @@ module _ (c : Config) (s : State) (e : Event) (hs : List Happened) (made : List 
       heard_by f n m k h.op h.answer (p.1 ∙ u.0, let z = u.1 in let w = ap (λ (y : Plain). y.generation) q in omega arith)
       (λ o j. let z = u.1 in let g = same_generation k.plain o (handled_plain _ _ _ _ _ m.body o j) in let w = ap (λ (y : Plain). y.generation) q in omega arith)
       (λ z j. subst (λ y. Answered (after y h.op) m.log (ballot_of m.from) z) (sym q)
-      (answered_in x.plain x.plain.generation m.log (ballot_of m.from) (Step.released_at x m.log) m.body z ((H n).0.fine m.log) (λ from g. (subst (carried.BodyOk (Said hs made r) (TrimFine c hs s.network.sent r) (CloseFine c hs made s.network.sent r) (Reached r) (ShowFine c hs made s.network.sent r) (ReleaseFine c hs s.network.sent r) m.log m.from) g (S.sent m i)).0) j))
+      (answered_in x.plain x.plain.generation m.log (ballot_of m.from) (Step.released_at x m.log) m.body z ((H n).0.fine m.log) (λ from g. (subst (carried.BodyOk (Said hs made r) (TrimFine c hs s.network.sent r) (CloseFine c hs made s.network.sent r) (Reached r) (ShowFine c hs made s.network.sent r) (ReleaseFine c hs s.network.sent r) (SaidHere hs made r) (LngFine c hs s.network.sent r) m.log m.from) g (S.sent m i)).0) j))
 
   empty_if : (n : ℕ) (t : State) (k : Kept) → SendsFine t (cond (Step.is_written k) [] [])
   empty_if n t k = if_written t k [] (λ w. none_fine t)
@@ -160,6 +160,7 @@ module _ (c : Config) (s : State) (e : Event) (hs : List Happened) (made : List 
     stops = λ n b. none_fine _;
     wipes = λ n. none_fine _;
     faults = λ n f o. none_fine _;
+    sets = λ l r x set h. none_fine _;
     arms = λ k done o. none_fine _;
     hears = λ f name q m i t l v o. posted_fine _ (whos.Sequencer q.epoch) q.log _;
     retries = λ name q v o. posted_fine _ (whos.Sequencer q.epoch) q.log _;
@@ -167,7 +168,7 @@ module _ (c : Config) (s : State) (e : Event) (hs : List Happened) (made : List 
     trims = λ name q t v b. posted_fine _ (whos.Sequencer q.epoch) q.log _;
     drops = λ name q v o. none_fine _;
     activates = λ name l k g n i x. posted_fine _ (whos.Sequencer _) l _;
-    activate_fails = λ name l x q. none_fine _;
+    activate_fails = λ name l x g q. none_fine _;
     answers = λ f name d m i t v o. posted_fine _ (whos.Reader _) _ _;
     polls = λ name d v o. posted_fine _ (whos.Reader d.number) d.log _;
     opens = λ name l from until o x. none_fine _;
@@ -186,6 +187,7 @@ network_by c s e = record {
   stops = λ n b. refl;
   wipes = λ n. refl;
   faults = λ n f o. refl;
+  sets = λ l r x set h. refl;
   arms = λ k done o. refl;
   hears = λ f name q m i t l v o. refl;
   retries = λ name q v o. refl;
@@ -193,7 +195,7 @@ network_by c s e = record {
   trims = λ name q t v b. refl;
   drops = λ name q v o. refl;
   activates = λ name l r g n i x. refl;
-  activate_fails = λ name l x q. refl;
+  activate_fails = λ name l x g q. refl;
   answers = λ f name d m i t v o. refl;
   polls = λ name d v o. refl;
   opens = λ name l from until o x. refl;

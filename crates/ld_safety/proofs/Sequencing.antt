@@ -3,7 +3,6 @@ use Rattle.std.proofs.Common.{◌≡◌, ◌∙◌, ℕ, sym, subst, List, [], t
 use Rattle.std.proofs.lemmas.Bool.{le-leb}
 use Rattle.ld_lsn.specs.Number.{epoch_of}
 use Rattle.ld_config.specs.declared.config.Config.{Config}
-use Rattle.ld_schedule.specs.declared.event.Event.{Event}
 use Rattle.ld_machine.specs.Facts.{Happened}
 use Rattle.ld_machine.specs.World.{World, begin, chosen}
 use Rattle.ld_machine.specs.Invariant.{SequencersDrawn, Acked}
@@ -21,8 +20,8 @@ sequencers_here c hs w B = record {
   once = λ q r i j l e. B.0.1.epochs.once q.0 r.0 q.1 r.1 (found w.state.sequencers q B.0.0.0 i) (found w.state.sequencers r B.0.0.0 j) l e;
 }
 
-pub acknowledged_of : (c : Config) (hs : List Happened) (w : World) → AllTold c hs w → (l n : ℕ) → Acked hs l n → Acknowledged c hs w.state.network.sent l n
-acknowledged_of c hs w T l n a = let z = T.acked a.0 a.1.name n a.1.told in let q : z.0 ≡ l = Some_inj (sym z.1 ∙ a.1.of_log) in subst (λ k. Acknowledged c hs w.state.network.sent k n) q z.2
+pub acknowledged_of : (c : Config) (hs : List Happened) (w : World) → AllTold c hs w → (l n : ℕ) → Acked hs l n → Acknowledged c hs w.state.network.sent w.state.register l n
+acknowledged_of c hs w T l n a = let z = T.acked a.0 a.1.name n a.1.told in let q : z.0 ≡ l = Some_inj (sym z.1 ∙ a.1.of_log) in subst (λ k. Acknowledged c hs w.state.network.sent w.state.register k n) q z.2
 
 pub acked_chosen : (c : Config) (hs : List Happened) (w : World) → AllTold c hs w → (l n : ℕ) → Acked hs l n → chosen c w l n (epoch_of n) ≡ true
 unfolding chosen

@@ -4,18 +4,17 @@ use Rattle.std.proofs.lemmas.Bool.{leb-true, cases_order, ltb-true, ltb-false, c
 use Rattle.ld_table.specs.Table.{find}
 use Rattle.ld_table.specs.Named.{find_named}
 use Rattle.ld_lsn.specs.Number.{epoch_of, esn_of, numbered, last_esn}
-use Rattle.ld_ids.specs.Choice.{nodes_of}
 use Rattle.ld_config.specs.declared.config.Config.{Config}
 use Rattle.ld_schedule.specs.declared.event.Event.{Event}
 use Rattle.ld_msg.specs.declared.msg.What.{What}
 use Rattle.ld_msg.specs.declared.msg.What.TheVariants.{Rec, Bridge}
 use Rattle.ld_msg.specs.declared.msg.Summary.{Summary}
-use Rattle.ld_msg.specs.Digest.{Told, best, content, plan_item, plan_end, trim_place, digest_trim}
+use Rattle.ld_msg.specs.Digest.{Told, best, content, plan_item, plan_end, plan_floor, trim_place, digest_trim, digest_lng}
 use Rattle.ld_msg.specs.Sequencer.{Sequencer, Recovery, Stage, Stores, Closes}
-use Rattle.ld_machine.specs.Config.{spec_in}
+use Rattle.ld_machine.specs.Config.{spec_of, set_at}
 use Rattle.ld_machine.specs.State.{finish}
 use Rattle.ld_machine.specs.Facts.{Happened}
-use Rattle.ld_machine.specs.World.{World, In, begin, item, settled, HasPlan, plan_trim}
+use Rattle.ld_machine.specs.World.{World, In, begin, item, settled, HasPlan}
 use Rattle.ld_machine.specs.Invariant.{StandsOn, Follows, Closed, IsOpen, Ready}
 use Rattle.ld_machine.specs.Run.{Move, next_world, world_after, trace}
 use Rattle.ld_safety.proofs.Lists.{not_none, cond_both, count_mono, not_both}
@@ -23,15 +22,17 @@ use Rattle.ld_safety.proofs.Traces.{Keeps, happened, later, beside_kept, both_ke
 use Rattle.ld_safety.proofs.HandedLaws.{Handing, handing_kept}
 use Rattle.ld_safety.proofs.Given.{AppendedBy}
 use Rattle.ld_safety.proofs.Closings.{OfSummaries, Ends_with, summaries_after}
-use Rattle.ld_safety.proofs.Plans.{plan_shape, plan_between, content_no_bridge, end_above_trim}
+use Rattle.ld_safety.proofs.Plans.{trim_has, plan_shape, plan_between, content_no_bridge, floor_below, floor_cases, end_above_floor}
 use Rattle.ld_safety.proofs.Events.{Live}
 use Rattle.ld_safety.proofs.GivenSteps.{BaseGiven}
 use Rattle.ld_safety.proofs.Protocol.{PlanFacts, plan_of, tells_stored, tells_settled, told_settled, stored_told}
-use Rattle.ld_safety.proofs.Settled.{Acknowledged, Fixed, ClosedBy, TrimFine, CloseFine, ShowFine, ReleaseFine, Reached}
-use Rattle.ld_safety.proofs.Said.{Said}
+use Rattle.ld_safety.proofs.Settled.{Acknowledged, Fixed, ClosedBy, TrimFine, CloseFine, ShowFine, ReleaseFine, LngFine, Reached}
+use Rattle.ld_safety.proofs.Said.{Said, SaidHere}
 use Rattle.ld_safety.proofs.Shown.{plan_ends, acked_item}
 use Rattle.ld_safety.proofs.Agreement.{agrees}
 use Rattle.ld_safety.proofs.Digests.{TrimPaged}
+use Rattle.ld_safety.proofs.Digesting.{digest_good}
+use Rattle.ld_safety.proofs.DigestKept.{pages_good}
 use Rattle.ld_safety.proofs.Along.{Along}
 use Rattle.ld_safety.proofs.AlongSteps.{along_kept, acks_both}
 use Rattle.ld_safety.proofs.Agreed.{found_plan, item_is}
@@ -40,26 +41,26 @@ use Rattle.ld_safety.proofs.Carried as carried
 
 -- ---- what a closing trim covers was acknowledged ----
 abbrev pub TrimAcked : Config → List Happened → World → Type 0
-TrimAcked c hs w = OfSummaries (λ l e y. (n : ℕ) → epoch_of n ≡ e → 0 < esn_of n → n ≤ y.trim → Acknowledged c hs w.state.network.sent l n) w.state.register
+TrimAcked c hs w = OfSummaries (λ l e y. (n : ℕ) → epoch_of n ≡ e → 0 < esn_of n → n ≤ y.trim → Acknowledged c hs w.state.network.sent w.state.register l n) w.state.register
 
 module _ (c : Config) (hs : List Happened) (w : World) (B : BaseGiven c hs w × Along c hs w) where
   abbrev Trimmed : ℕ → ℕ → Type 0
   Trimmed l t = TrimFine c hs w.state.network.sent w.state.register l t
 
   abbrev StageSaid : ℕ → ℕ → ℕ → Stage → Type 0
-  StageSaid l b e g = carried.StageOk (Said hs w.made w.state.register) (TrimFine c hs w.state.network.sent w.state.register) (CloseFine c hs w.made w.state.network.sent w.state.register) (Reached w.state.register) (ShowFine c hs w.made w.state.network.sent w.state.register) (ReleaseFine c hs w.state.network.sent w.state.register) l b e g
+  StageSaid l b e g = carried.StageOk (Said hs w.made w.state.register) (TrimFine c hs w.state.network.sent w.state.register) (CloseFine c hs w.made w.state.network.sent w.state.register) (Reached w.state.register) (ShowFine c hs w.made w.state.network.sent w.state.register) (ReleaseFine c hs w.state.network.sent w.state.register) (SaidHere hs w.made w.state.register) (LngFine c hs w.state.network.sent w.state.register) l b e g
 
   closing_stage : (name : List ℕ) (q : Sequencer) (v : Recovery) (g : Stage) → find_named name w.state.sequencers ≡ Some q → q.recovery ≡ Some v → v.stage ≡ g → StageSaid q.log q.epoch v.epoch g
-  closing_stage name q v g f r s = subst (StageSaid q.log q.epoch v.epoch) s (subst (carried.RecoveryOk (Said hs w.made w.state.register) (TrimFine c hs w.state.network.sent w.state.register) (CloseFine c hs w.made w.state.network.sent w.state.register) (Reached w.state.register) (ShowFine c hs w.made w.state.network.sent w.state.register) (ReleaseFine c hs w.state.network.sent w.state.register) q.log q.epoch) r (B.1.said.sequencers name q f).recovery).1
+  closing_stage name q v g f r s = subst (StageSaid q.log q.epoch v.epoch) s (subst (carried.RecoveryOk (Said hs w.made w.state.register) (TrimFine c hs w.state.network.sent w.state.register) (CloseFine c hs w.made w.state.network.sent w.state.register) (Reached w.state.register) (ShowFine c hs w.made w.state.network.sent w.state.register) (ReleaseFine c hs w.state.network.sent w.state.register) (SaidHere hs w.made w.state.register) (LngFine c hs w.state.network.sent w.state.register) q.log q.epoch) r (B.1.said.sequencers name q f).recovery).1
 
-  closes_trimmed : (name : List ℕ) (q : Sequencer) (v : Recovery) (y : Summary) → Live w.state name q → q.recovery ≡ Some v → Ends_with c w.state q v y → Trimmed q.log y.trim
-  closes_trimmed name q v y l r (inl g) = closing_stage name q v (Closes y) l.named r g
-  closes_trimmed name q v y l r (inr g) = subst (λ (x : Summary). Trimmed q.log x.trim) (sym g.summary) (closing_stage name q v (Stores g.storing) l.named r g.stage).0
+  closes_trimmed : (name : List ℕ) (q : Sequencer) (v : Recovery) (y : Summary) → Live w.state name q → q.recovery ≡ Some v → Ends_with w.state q v y → Trimmed q.log y.trim
+  closes_trimmed name q v y l r (inl g) = (closing_stage name q v (Closes y) l.named r g).0
+  closes_trimmed name q v y l r (inr g) = subst (λ (x : Summary). Trimmed q.log x.trim) (sym g.summary) (closing_stage name q v (Stores g.storing) l.named r g.stage).0.0
 
 trim_acked_step : (c : Config) (hs : List Happened) (w : World) (e : Event) → BaseGiven c hs w × Along c hs w → TrimAcked c hs w → TrimAcked c (hs ++ happened c w.state e ∷ []) (next_world c w e)
 unfolding finish
 trim_acked_step c hs w e B H l k y f n p pos lt = acks_both c hs w e B.0.0 B.0.1 B.1 l n
-    (summaries_after c w.state e (λ l k y. (n : ℕ) → epoch_of n ≡ k → 0 < esn_of n → n ≤ y.trim → Acknowledged c hs w.state.network.sent l n) H
+    (summaries_after c w.state e (λ l k y. (n : ℕ) → epoch_of n ≡ k → 0 < esn_of n → n ≤ y.trim → Acknowledged c hs w.state.network.sent w.state.register l n) H
     (λ name q v y l r g z n p pos lt. closes_trimmed c hs w B name q v y l r g n lt pos (omega arith)) B.0.0.0.0 l k y f n p pos lt)
 
 starts_trim_acked : (c : Config) → TrimAcked c [] (begin c)
@@ -77,40 +78,31 @@ trim_covers e t k = cond_both (nat_lt (epoch_of t) e) 0 _ (λ x. 0 < k → k ≤
 -- ---- one state ----
 module _ (c : Config) (hs : List Happened) (w : World) (B : BaseGiven c hs w × Along c hs w) (H : TrimAcked c hs w) where
   abbrev Ack : ℕ → ℕ → Type 0
-  Ack l n = Acknowledged c hs w.state.network.sent l n
-
-  -- a greatest trim is of one of the digest
-  greatest : (l e b : ℕ) (d : List Told) → ((t : Told) → In t d → Trimmed c hs w B l t.trim) → Trimmed c hs w B l (digest_trim d)
-  unfolding digest_trim
-  greatest l e b [] h n lt pos o = absurd (omega arith)
-  greatest l e b (t ∷ d) h n lt pos o = elim (cases_order t.trim (digest_trim d)) [
-    | inl z ↦ greatest l e b d (λ u i. h u (inr i)) n (omega arith) pos o
-    | inr (inl z) ↦ greatest l e b d (λ u i. h u (inr i)) n (omega arith) pos o
-    | inr (inr z) ↦ h t (inl refl) n (omega arith) pos o
-  ]
+  Ack l n = Acknowledged c hs w.state.network.sent w.state.register l n
 
   paged_trim : (l b y t : ℕ) → TrimPaged w.state.network.sent l b y t → Trimmed c hs w B l t
   paged_trim l b y t p = (B.1.said.sent _ p.page).0.trim
 
   -- in an open epoch a plan's trim covers acknowledged appends alone
   planned_trim : (l e b : ℕ) (d : List Told) → In (plan_of l e b d) w.made → Trimmed c hs w B l (digest_trim d)
-  planned_trim l e b d i = greatest l e b d (λ t j. elim ((B.1.plans l e b d i).digest.told t j).trimmed [
+  planned_trim l e b d i = trim_has (Trimmed c hs w B l) d (λ n lt pos o. absurd (omega arith)) (λ t j. elim ((B.1.plans l e b d i).digest.told t j).trimmed [
     | inl z ↦ (λ n lt pos o. absurd (let u : n ≤ 0 = subst (λ k. n ≤ k) z lt in omega arith))
     | inr z ↦ paged_trim l b t.node t.trim z
   ])
 
   -- what a plan says that stands
   record Firm (l e b : ℕ) (d : List Told) : Type 0 where
-    fixed : (n : ℕ) → epoch_of n ≡ e → plan_trim e d < esn_of n → esn_of n < plan_end e d → Fixed c hs w.state.network.sent l n b
+    fixed : (n : ℕ) → epoch_of n ≡ e → plan_floor e d < esn_of n → esn_of n < plan_end e d → Fixed c hs w.state.network.sent w.state.register l n b
     trims : (n : ℕ) → epoch_of n ≡ e → 0 < esn_of n → n ≤ digest_trim d → Ack l n
+    good : LngFine c hs w.state.network.sent w.state.register l e (digest_lng d)
 
   appends_once : (l n : ℕ) (p q : List ℕ) → AppendedBy hs l n p → AppendedBy hs l n q → p ≡ q
   appends_once = once c hs w B.0.0 B.1
 
-  facts_here : (l x b : ℕ) (d : List Told) → In (plan_of l x b d) w.made → PlanFacts hs w.made w.state.network.sent (spec_in l c.logs) l x b d
+  facts_here : (l x b : ℕ) (d : List Told) → In (plan_of l x b d) w.made → PlanFacts hs w.made w.state.network.sent (spec_of c w.state.register l x) l x b d
   facts_here = facts c hs w B.0.0 B.1
 
-  acked_there : (l n b : ℕ) (d : List Told) (a : Ack l n) → In (plan_of l (epoch_of n) b d) w.made → (plan_item (epoch_of n) d (esn_of n) ≡ Some (Rec a.payload)) ⊎ (esn_of n ≤ plan_trim (epoch_of n) d)
+  acked_there : (l n b : ℕ) (d : List Told) (a : Ack l n) → In (plan_of l (epoch_of n) b d) w.made → (plan_item (epoch_of n) d (esn_of n) ≡ Some (Rec a.payload)) ⊎ (esn_of n ≤ plan_floor (epoch_of n) d)
   acked_there l n b d a i = acked_item c hs w.made w.state.network.sent w.state.register appends_once B.1.once facts_here l n b d a i
 
   -- a record or hole of a plan stands below its end
@@ -123,8 +115,8 @@ module _ (c : Config) (hs : List Happened) (w : World) (B : BaseGiven c hs w × 
     second : plan_item (epoch_of n) f (esn_of n) ≡ Some what
     below : esn_of n < plan_end (epoch_of n) f
 
-  same_item : (l n b g : ℕ) (d f : List Told) → In (plan_of l (epoch_of n) b d) w.made → In (plan_of l (epoch_of n) g f) w.made → b < g → Fixed c hs w.state.network.sent l n b → plan_trim (epoch_of n) d < esn_of n → esn_of n < plan_end (epoch_of n) d
-      → (esn_of n ≤ plan_trim (epoch_of n) f) ⊎ SameItem l n d f
+  same_item : (l n b g : ℕ) (d f : List Told) → In (plan_of l (epoch_of n) b d) w.made → In (plan_of l (epoch_of n) g f) w.made → b < g → Fixed c hs w.state.network.sent w.state.register l n b → plan_floor (epoch_of n) d < esn_of n → esn_of n < plan_end (epoch_of n) d
+      → (esn_of n ≤ plan_floor (epoch_of n) f) ⊎ SameItem l n d f
   same_item l n b g d f i j lt (inl a) lo hi = elim (acked_there l n b d a i) [
     | inl p ↦ elim (acked_there l n g f a j) [
       | inl q ↦ inr (record { what = Rec a.payload; first = p; second = q; below = below_end (epoch_of n) f (esn_of n) (Rec a.payload) (λ z. cc) q })
@@ -136,12 +128,12 @@ module _ (c : Config) (hs : List Happened) (w : World) (B : BaseGiven c hs w × 
       let x = content (best (numbered (epoch_of n) (esn_of n)) d) in
       let p : plan_item (epoch_of n) d (esn_of n) ≡ Some x = plan_between (epoch_of n) d (esn_of n) lo hi in
       let en = plan_ends c hs w.made w.state.network.sent w.state.register appends_once B.1.once facts_here l (epoch_of n) b d i in
-      elim (agrees hs w.made w.state.network.sent (spec_in l c.logs) appends_once B.1.once l (λ e. Unit {0}) (λ e b d o k. facts_here l e b d k) n b g x f tt (omega arith) (omega arith) lt j h (inr (record { later = (facts_here l (epoch_of n) b d i).later; digest = d; planned = i; item = p })) (content_no_bridge _)) [
+      elim (agrees hs w.made w.state.network.sent (spec_of c w.state.register l) appends_once B.1.once l (λ e. Unit {0}) (λ e b d o k. facts_here l e b d k) n b g x f tt (omega arith) lt j h (inr (record { later = (facts_here l (epoch_of n) b d i).later; digest = d; planned = i; item = p })) (content_no_bridge _)) [
         | inl q ↦ inr (record { what = x; first = p; second = q; below = below_end (epoch_of n) f (esn_of n) x (content_no_bridge _) q })
         | inr q ↦ inl q
       ]
 
-  item_follows : (l n b g : ℕ) (d f : List Told) → HasPlan w l (epoch_of n) b d → HasPlan w l (epoch_of n) g f → epoch_of n < b → b < g → Fixed c hs w.state.network.sent l n b → plan_trim (epoch_of n) d < esn_of n → esn_of n < plan_end (epoch_of n) d → plan_trim (epoch_of n) f < esn_of n
+  item_follows : (l n b g : ℕ) (d f : List Told) → HasPlan w l (epoch_of n) b d → HasPlan w l (epoch_of n) g f → epoch_of n < b → b < g → Fixed c hs w.state.network.sent w.state.register l n b → plan_floor (epoch_of n) d < esn_of n → esn_of n < plan_end (epoch_of n) d → plan_floor (epoch_of n) f < esn_of n
       → item w l n g ≡ item w l n b
   item_follows l n b g d f p q late lt x lo hi lf = elim (same_item l n b g d f (found_plan l (epoch_of n) b w.made d p) (found_plan l (epoch_of n) g w.made f q) lt x lo hi) [
     | inl z ↦ absurd (omega arith)
@@ -164,49 +156,58 @@ module _ (c : Config) (hs : List Happened) (w : World) (B : BaseGiven c hs w × 
     place_is : (n : ℕ) → n ≤ last_esn → esn_of (numbered e n) ≡ n
     place_is n h = omega arith
 
-    items_follow : (n : ℕ) → n < plan_end e d → plan_trim e d < n → plan_trim e f < n → item w l (numbered e n) g ≡ item w l (numbered e n) b
+    items_follow : (n : ℕ) → n < plan_end e d → plan_floor e d < n → plan_floor e f < n → item w l (numbered e n) g ≡ item w l (numbered e n) b
     items_follow n hi lo lf =
         let b1 = end_low in let q = epoch_is n (omega arith) in let k = place_is n (omega arith) in
         item_follows l (numbered e n) b g d f (subst (λ x. HasPlan w l x b d) (sym q) P) (subst (λ x. HasPlan w l x g f) (sym q) Q) (omega arith) lt (F.fixed (numbered e n) q (omega arith) (omega arith))
-        (subst (λ x. plan_trim x d < esn_of (numbered e n)) (sym q) (omega arith)) (subst (λ x. esn_of (numbered e n) < plan_end x d) (sym q) (omega arith)) (subst (λ x. plan_trim x f < esn_of (numbered e n)) (sym q) (omega arith))
+        (subst (λ x. plan_floor x d < esn_of (numbered e n)) (sym q) (omega arith)) (subst (λ x. esn_of (numbered e n) < plan_end x d) (sym q) (omega arith)) (subst (λ x. plan_floor x f < esn_of (numbered e n)) (sym q) (omega arith))
+
+    -- what lies at or below a plan's floor was acknowledged
+    floor_acked : (k : ℕ) → 0 < k → k ≤ plan_floor e d → k ≤ last_esn → Ack l (numbered e k)
+    floor_acked k pos lo hi = let q = epoch_is k hi in let p = place_is k hi in elim (floor_cases e d k lo) [
+      | inl z ↦ F.trims (numbered e k) q (omega arith) (trim_covers e (digest_trim d) k pos z hi)
+      | inr z ↦ F.good (numbered e k) q (omega arith) (omega arith)
+    ]
 
     -- the number below the end is in the later plan, or below its end
     not_before : plan_end e f < plan_end e d → ⊥
-    not_before h = elim (cases_order (plan_trim e d) (plan_end e d - 1)) [
-      | inr (inr z) ↦ (let u = end_above_trim e d in omega arith)
+    not_before h = elim (cases_order (plan_floor e d) (plan_end e d - 1)) [
+      | inr (inr z) ↦ (let u = end_above_floor e d in omega arith)
       | inr (inl z) ↦ above (plan_end e d - 1) z (omega arith) (omega arith)
       | inl z ↦ elim (cases_order (plan_end e d - 1) 0) [
-        | inl y ↦ (let u = end_above_trim e f in omega arith)
-        | inr (inl y) ↦ (let u = end_above_trim e f in omega arith)
-        | inr (inr y) ↦ trimmed (plan_end e d - 1) y (omega arith) (let u = end_low in omega arith) (omega arith)
+        | inl y ↦ (let u = end_above_floor e f in omega arith)
+        | inr (inl y) ↦ (let u = end_above_floor e f in omega arith)
+        | inr (inr y) ↦ settled_low (plan_end e d - 1) y (omega arith) (let u = end_low in omega arith) (omega arith)
       ]
     ] where
-      above : (k : ℕ) → plan_trim e d < k → k < plan_end e d → plan_end e f ≤ k → ⊥
+      above : (k : ℕ) → plan_floor e d < k → k < plan_end e d → plan_end e f ≤ k → ⊥
       above k lo hi le =
-          let b1 = end_low in let q = epoch_is k (omega arith) in let p = place_is k (omega arith) in let u = end_above_trim e f in
+          let b1 = end_low in let q = epoch_is k (omega arith) in let p = place_is k (omega arith) in let u = end_above_floor e f in
           elim (same_item l (numbered e k) b g d f (subst (λ x. In (plan_of l x b d) w.made) (sym q) there) (subst (λ x. In (plan_of l x g f) w.made) (sym q) later_there) lt (F.fixed (numbered e k) q (omega arith) (omega arith))
-          (subst (λ x. plan_trim x d < esn_of (numbered e k)) (sym q) (omega arith)) (subst (λ x. esn_of (numbered e k) < plan_end x d) (sym q) (omega arith))) [
-            | inl z ↦ (let y = subst (λ x. esn_of (numbered e k) ≤ plan_trim x f) q z in omega arith)
+          (subst (λ x. plan_floor x d < esn_of (numbered e k)) (sym q) (omega arith)) (subst (λ x. esn_of (numbered e k) < plan_end x d) (sym q) (omega arith))) [
+            | inl z ↦ (let y = subst (λ x. esn_of (numbered e k) ≤ plan_floor x f) q z in omega arith)
             | inr z ↦ (let y = subst (λ x. esn_of (numbered e k) < plan_end x f) q z.below in omega arith)
           ]
 
-      trimmed : (k : ℕ) → 0 < k → k ≤ plan_trim e d → k ≤ last_esn → plan_end e f ≤ k → ⊥
-      trimmed k pos lo hi le =
-          let q = epoch_is k hi in let p = place_is k hi in let u = end_above_trim e f in
-          let a = F.trims (numbered e k) q (omega arith) (trim_covers e (digest_trim d) k pos lo hi) in
+      settled_low : (k : ℕ) → 0 < k → k ≤ plan_floor e d → k ≤ last_esn → plan_end e f ≤ k → ⊥
+      settled_low k pos lo hi le =
+          let q = epoch_is k hi in let p = place_is k hi in let u = end_above_floor e f in let a = floor_acked k pos lo hi in
           elim (acked_there l (numbered e k) g f a (subst (λ x. In (plan_of l x g f) w.made) (sym q) later_there)) [
             | inl z ↦ (let y = subst (λ x. esn_of (numbered e k) < plan_end x f) q (below_end (epoch_of (numbered e k)) f (esn_of (numbered e k)) (Rec a.payload) (λ t. cc) z) in omega arith)
-            | inr z ↦ (let y = subst (λ x. esn_of (numbered e k) ≤ plan_trim x f) q z in omega arith)
+            | inr z ↦ (let y = subst (λ x. esn_of (numbered e k) ≤ plan_floor x f) q z in omega arith)
           ]
 
     firm_follows : Follows w l e b g d f
-    firm_follows = record { items = items_follow; end = elim (cases_order (plan_end e d) (plan_end e f)) [ inl z ↦ omega arith | inr (inl z) ↦ omega arith | inr (inr z) ↦ absurd (not_before z) ] }
+    firm_follows = record {
+      items = λ n hi lo lf. items_follow n hi (floor_below e d n (omega arith) (omega arith)) (floor_below e f n (omega arith) (omega arith));
+      end = elim (cases_order (plan_end e d) (plan_end e f)) [ inl z ↦ omega arith | inr (inl z) ↦ omega arith | inr (inr z) ↦ absurd (not_before z) ];
+    }
 
   -- ---- what stands ----
   closed_firm : (l e b : ℕ) (d : List Told) (y : Summary) → 0 < e → HasPlan w l e b d → Closed w l e y → y.ballot ≡ b → Firm l e b d
   closed_firm l e b d y pos P f q = by_fine (B.1.said.register l e y f).1 where
     as_plan : (k : ClosedBy c hs w.made w.state.network.sent w.state.register l e y) → Firm l e y.ballot k.plan.digest
-    as_plan k = record { fixed = λ n p lo hi. k.plan.fixed n p lo hi; trims = λ n p z lt. H l e y f n p z (let t = k.plan.trim in omega arith) }
+    as_plan k = record { fixed = λ n p lo hi. k.plan.fixed n p lo hi; trims = λ n p z lt. H l e y f n p z (let t = k.plan.trim in omega arith); good = λ n p z lt. k.plan.good n p z (let t = k.plan.lng in omega arith) }
 
     by_fine : ((e ≡ 0) × (y.end ≡ 1)) ⊎ ClosedBy c hs w.made w.state.network.sent w.state.register l e y → Firm l e b d
     by_fine (inl a) = absurd (let z = a.0 in omega arith)
@@ -227,10 +228,10 @@ module _ (c : Config) (hs : List Happened) (w : World) (B : BaseGiven c hs w × 
     ]
   ]
 
-  settled_fixed : (l n b : ℕ) → 0 < esn_of n → IsOpen w l (epoch_of n) → settled c w l n b ≡ true → Fixed c hs w.state.network.sent l n b
+  settled_fixed : (l n b : ℕ) → 0 < esn_of n → IsOpen w l (epoch_of n) → settled c w l n b ≡ true → Fixed c hs w.state.network.sent w.state.register l n b
   unfolding settled
-  settled_fixed l n b pos o h = elim (all_or_one (tells_settled w.state.network.sent l n b) (tells_stored w.state.network.sent l n b) (nodes_of (spec_in l c.logs))) [
-    | inr a ↦ inr (let z = leb-true _ _ h in let y = count_mono (tells_settled w.state.network.sent l n b) (tells_stored w.state.network.sent l n b) (nodes_of (spec_in l c.logs)) a in omega arith)
+  settled_fixed l n b pos o h = elim (all_or_one (tells_settled w.state.network.sent l n b) (tells_stored w.state.network.sent l n b) (set_at c w.state.register l (epoch_of n))) [
+    | inr a ↦ inr (let z = leb-true _ _ h in let y = count_mono (tells_settled w.state.network.sent l n b) (tells_stored w.state.network.sent l n b) (set_at c w.state.register l (epoch_of n)) a in omega arith)
     | inl a ↦ elim (told_settled w.state.network.sent l n b a.0 a.2) [
       | inl s ↦ absurd (not_both (tells_stored w.state.network.sent l n b a.0) (stored_told w.state.network.sent l n b a.0 s) a.3)
       | inr t ↦ inl ((B.1.said.sent _ t.told_so).0 n t.covers pos o)
@@ -241,10 +242,11 @@ module _ (c : Config) (hs : List Happened) (w : World) (B : BaseGiven c hs w × 
   open_firm l e b d P late o R = record {
     fixed = λ n q lo hi. settled_fixed l n b (omega arith) (subst (IsOpen w l) (sym q) o) (R n _ q (subst_item n q lo hi));
     trims = λ n q pos lt. planned_trim l e b d (found_plan l e b w.made d P) n lt pos (subst (IsOpen w l) (sym q) o);
+    good = digest_good c hs w.state.network.sent w.made w.state.register (pages_good c hs w.made w.state B.1.said) (spec_of c w.state.register l e) l e b d (B.1.plans l e b d (found_plan l e b w.made d P)).digest;
   } where
-    subst_item : (n : ℕ) → epoch_of n ≡ e → plan_trim e d < esn_of n → esn_of n < plan_end e d → item w l n b ≡ Some (content (best (numbered (epoch_of n) (esn_of n)) d))
+    subst_item : (n : ℕ) → epoch_of n ≡ e → plan_floor e d < esn_of n → esn_of n < plan_end e d → item w l n b ≡ Some (content (best (numbered (epoch_of n) (esn_of n)) d))
     subst_item n q lo hi = item_is c hs w B.0.0 B.1 l n b d (content (best (numbered (epoch_of n) (esn_of n)) d)) (omega arith) (subst (λ x. HasPlan w l x b d) (sym q) P)
-        (plan_between (epoch_of n) d (esn_of n) (subst (λ x. plan_trim x d < esn_of n) (sym q) lo) (subst (λ x. esn_of n < plan_end x d) (sym q) hi))
+        (plan_between (epoch_of n) d (esn_of n) (subst (λ x. plan_floor x d < esn_of n) (sym q) lo) (subst (λ x. esn_of n < plan_end x d) (sym q) hi))
 
   pub stands_here : ((l e : ℕ) (y : Summary) → Closed w l e y → 0 < e) → StandsOn c w
   stands_here pos l e b g d f P Q late lt (inl s) = firm_follows l e b g d f P Q late lt (closed_firm l e b d s.0 (pos l e s.0 s.1) P s.1 s.2)

@@ -8,7 +8,8 @@ use Rattle.ld_msg.specs.declared.msg.Msg.{Msg}
 use Rattle.ld_config.specs.declared.config.Config.{Config}
 use Rattle.ld_msg.specs.Network.{Network, send, send_all}
 use Rattle.ld_machine.specs.State.{State, Done, finish, or_none, message_lines, message_line}
-use Rattle.ld_machine.specs.Facts.{Happened, Writes}
+use Rattle.ld_msg.specs.Register.{Register}
+use Rattle.ld_machine.specs.Facts.{Happened, Writes, epoch_made}
 use Rattle.ld_machine.specs.World.{World, Made, In}
 use Rattle.ld_machine.specs.Run.{next_world}
 use Rattle.ld_safety.proofs.Lists.{In-append, In_left, In-slice_get, slice_get_end, slice_get_left}
@@ -111,9 +112,9 @@ writes_before hs gs k x w = (w.0, slice_get_left w.0 hs gs k w.1, w.2, w.3)
 abbrev pub became : World → Done → List Made → World
 became w d m = record { state = (finish d).state; made = m ++ w.made }
 
-abbrev pub told : Event → Done → Happened
-told e d = record { event = e; lines = (finish d).lines }
+abbrev pub told : Register → Event → Done → Happened
+told r e d = record { event = e; lines = (finish d).lines; made = epoch_made r (finish d).state.register e }
 
 pub step_by : (c : Config) (P : List Happened → World → Type 0) (hs : List Happened) (w : World) (e : Event) → NamesOnce w.state
-    → Cases c w.state e (λ d m. P (hs ++ told e d ∷ []) (became w d m)) → P (hs ++ happened c w.state e ∷ []) (next_world c w e)
-step_by c P hs w e N K = dispatch c w.state e (λ d m. P (hs ++ told e d ∷ []) (became w d m)) N K
+    → Cases c w.state e (λ d m. P (hs ++ told w.state.register e d ∷ []) (became w d m)) → P (hs ++ happened c w.state e ∷ []) (next_world c w e)
+step_by c P hs w e N K = dispatch c w.state e (λ d m. P (hs ++ told w.state.register e d ∷ []) (became w d m)) N K

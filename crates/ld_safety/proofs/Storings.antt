@@ -3,44 +3,47 @@ use Rattle.std.proofs.Common.{◌≡◌, ◌∙◌, ◌⊎◌, ◌≤◌, ◌<�
 use Rattle.std.proofs.lemmas.Bool.{eqb-true, leb-true}
 use Rattle.ld_table.specs.Words.{with_one, how_many}
 use Rattle.ld_lsn.specs.Number.{epoch_of, esn_of, numbered, last_esn}
+use Rattle.ld_ids.specs.declared.set.Spec.{Spec}
 use Rattle.ld_ids.specs.Choice.{nodes_of}
 use Rattle.ld_config.specs.declared.config.Config.{Config}
 use Rattle.ld_msg.specs.declared.msg.Summary.{Summary}
 use Rattle.ld_msg.specs.declared.msg.Msg.{Msg}
 use Rattle.ld_msg.specs.declared.msg.Body.{Body}
 use Rattle.ld_msg.specs.declared.msg.Body.TheVariants as bodies
-use Rattle.ld_msg.specs.Digest.{Told, Item, plan, plan_end, trim_place, digest_trim}
+use Rattle.ld_msg.specs.Digest.{Told, Item, plan, plan_end, plan_floor, digest_trim, digest_lng}
 use Rattle.ld_msg.specs.Register.{Register}
 use Rattle.ld_msg.specs.Sequencer.{Planned, Storing, planned, storing_of, settle, settled_by, is_ready, summary_of}
-use Rattle.ld_machine.specs.Config.{spec_in}
+use Rattle.ld_machine.specs.Config.{spec_of, set_at}
 use Rattle.ld_machine.specs.Facts.{Happened}
 use Rattle.ld_machine.specs.World.{Made, In, from_node}
-use Rattle.ld_safety.proofs.Registers.{Up}
+use Rattle.ld_safety.proofs.Registers.{Up, Reached, reached_later}
 use Rattle.ld_safety.proofs.Lists.{all_in, cond_both, In_right}
 use Rattle.ld_safety.proofs.SequencerSteps.{Settling, by_stored_one, by_trimmed_to}
 use Rattle.ld_safety.proofs.Plans.{plan_items, plan_has}
-use Rattle.ld_safety.proofs.Protocol.{plan_of, tells_stored, tells_settled, trimmed_settles}
+use Rattle.ld_safety.proofs.Protocol.{plan_of, Chosen, tells_stored, tells_settled, trimmed_settles}
 use Rattle.ld_safety.proofs.Votes.{Voters, nobody, one_voter, counted_votes, Settlers}
-use Rattle.ld_safety.proofs.Settled.{Open, Acknowledged, TrimFine, Fixed, Summarized, tells_more, chosen_more, copies_more, settles_more}
+use Rattle.ld_safety.proofs.Settled.{Open, Acknowledged, TrimFine, LngFine, Fixed, Summarized, Stays, tells_more, chosen_more, copies_more, settles_more}
 
 module _ (c : Config) (hs : List Happened) (sent : List Msg) where
   -- an item of an open epoch: acknowledged, or stored by those that settled it
-  abbrev pub SettledBy : ℕ → ℕ → ℕ → List ℕ → Type 0
-  SettledBy l n b ys = Acknowledged c hs sent l n ⊎ Voters (spec_in l c.logs) sent l n b ys
+  abbrev pub SettledBy : Register → ℕ → ℕ → ℕ → ℕ → List ℕ → Type 0
+  SettledBy r l e n b ys = Acknowledged c hs sent r l n ⊎ Voters (spec_of c r l e) sent l n b ys
 
   pub record ItemFine (r : Register) (l e b : ℕ) (i : ℕ × Planned) : Type 0 where
     pub epoch : epoch_of i.0 ≡ e
     pub above : 0 < esn_of i.0
-    pub settlers : Settlers (spec_in l c.logs) sent l i.0 b i.1.settled
-    pub settled : Open r l e → SettledBy l i.0 b i.1.settled
+    pub settlers : Settlers (spec_of c r l e) sent l i.0 b i.1.settled
+    pub settled : Open r l e → SettledBy r l e i.0 b i.1.settled
 
   pub record StoringFine (made : List Made) (r : Register) (l b e : ℕ) (g : Storing) : Type 0 where
     pub digest : List Told
     pub planned_so : In (plan_of l e b digest) made
     pub end : g.end ≡ plan_end e digest
     pub trim : g.trim ≡ digest_trim digest
+    pub lng : g.lng ≡ digest_lng digest
+    pub good : LngFine c hs sent r l e g.lng
     pub items : (i : ℕ × Planned) → In i g.items → ItemFine r l e b i
-    pub covers : (n : ℕ) → epoch_of n ≡ e → trim_place e (digest_trim digest) < esn_of n → esn_of n < plan_end e digest → (i : ℕ × Planned) × In i g.items × (i.0 ≡ n)
+    pub covers : (n : ℕ) → epoch_of n ≡ e → plan_floor e digest < esn_of n → esn_of n < plan_end e digest → (i : ℕ × Planned) × In i g.items × (i.0 ≡ n)
 
   -- ---- a plan that was just made ----
   planned_in : (is : List Item) (p : ℕ × Planned) → In p (planned is) → (i : Item) × In i is × (p.0 ≡ i.number) × (p.1.settled ≡ [])
@@ -53,18 +56,20 @@ module _ (c : Config) (hs : List Happened) (sent : List Msg) where
   planned_has (x ∷ is) i (inl q) = ((x.number, record { what = x.what; settled = [] }), inl refl, ap (λ (k : Item). k.number) (sym q))
   planned_has (x ∷ is) i (inr h) = let r = planned_has is i h in (r.0, inr r.1, r.2)
 
-  pub begins_storing : (made : List Made) (r : Register) (l b e : ℕ) (d : List Told) → In (plan_of l e b d) made → plan_end e d ≤ last_esn → StoringFine made r l b e (storing_of (plan e d))
+  pub begins_storing : (made : List Made) (r : Register) (l b e : ℕ) (d : List Told) → In (plan_of l e b d) made → plan_end e d ≤ last_esn → LngFine c hs sent r l e (digest_lng d) → StoringFine made r l b e (storing_of (plan e d))
   unfolding plan
-  begins_storing made r l b e d m most = record {
+  begins_storing made r l b e d m most good = record {
     digest = d;
     planned_so = m;
     end = refl;
     trim = refl;
+    lng = refl;
+    good = good;
     items = λ i j. let q = planned_in (plan e d).items i j in let p = plan_items e d q.0 q.1 in let n : i.0 ≡ numbered e p.place = q.2 ∙ p.number in let a = p.above in let z = p.below in record {
       epoch = omega arith;
       above = omega arith;
-      settlers = subst (Settlers (spec_in l c.logs) sent l i.0 b) (sym q.3) (nobody (spec_in l c.logs) (tells_settled sent l i.0 b));
-      settled = λ o. inr (subst (Voters (spec_in l c.logs) sent l i.0 b) (sym q.3) (nobody (spec_in l c.logs) (tells_stored sent l i.0 b)));
+      settlers = subst (Settlers (spec_of c r l e) sent l i.0 b) (sym q.3) (nobody (spec_of c r l e) (tells_settled sent l i.0 b));
+      settled = λ o. inr (subst (Voters (spec_of c r l e) sent l i.0 b) (sym q.3) (nobody (spec_of c r l e) (tells_stored sent l i.0 b)));
     };
     covers = λ n q lo hi. let h = plan_has e d (esn_of n) lo hi in let p = planned_has (plan e d).items h.0 h.1 in (p.0, p.1, let z = p.2 in let y = h.2 in omega arith);
   }
@@ -82,26 +87,26 @@ module _ (c : Config) (hs : List Happened) (sent : List Msg) where
 
   -- what a reply says of its node
   pub record ReplyFine (r : Register) (l b y : ℕ) (x : Body) : Type 0 where
-    pub stored : (n : ℕ) → x ≡ bodies.Stored n → In y (nodes_of (spec_in l c.logs)) × (tells_stored sent l n b y ≡ true) × (tells_settled sent l n b y ≡ true)
+    pub stored : (n : ℕ) → x ≡ bodies.Stored n → (tells_stored sent l n b y ≡ true) × (tells_settled sent l n b y ≡ true)
     pub trimmed : (n t : ℕ) → x ≡ bodies.TrimmedHere n t → TrimFine c hs sent r l t
-    pub told_trim : (n t : ℕ) → x ≡ bodies.TrimmedHere n t → In y (nodes_of (spec_in l c.logs)) × In (from_node l y b (bodies.TrimmedHere n t)) sent
+    pub told_trim : (n t : ℕ) → x ≡ bodies.TrimmedHere n t → In (from_node l y b (bodies.TrimmedHere n t)) sent
 
-  module _ (r : Register) (l b e y : ℕ) (x : Body) (R : ReplyFine r l b y x) where
-    one_settled : (p : ℕ → Bool) → Settling x e p → (n : ℕ) (ys : List ℕ) → epoch_of n ≡ e → 0 < esn_of n → Open r l e → p n ≡ true → SettledBy l n b ys → SettledBy l n b (with_one y ys)
+  module _ (r : Register) (l b e y : ℕ) (x : Body) (R : ReplyFine r l b y x) (M : In y (set_at c r l e)) where
+    one_settled : (p : ℕ → Bool) → Settling x e p → (n : ℕ) (ys : List ℕ) → epoch_of n ≡ e → 0 < esn_of n → Open r l e → p n ≡ true → SettledBy r l e n b ys → SettledBy r l e n b (with_one y ys)
     one_settled p S n ys ep pos o t (inl a) = inl a
     one_settled p S n ys ep pos o t (inr v) = by_settling S where
-      by_settling : Settling x e p → SettledBy l n b (with_one y ys)
+      by_settling : Settling x e p → SettledBy r l e n b (with_one y ys)
       by_settling (by_stored_one m i k q) = let f = R.stored m i in let z : n ≡ m = eqb-true n m (subst (λ (u : ℕ → Bool). u n ≡ true) q t) in
-          inr (one_voter (spec_in l c.logs) (tells_stored sent l n b) y ys f.0 (subst (λ u. tells_stored sent l u b y ≡ true) (sym z) f.1) v)
+          inr (one_voter (spec_of c r l e) (tells_stored sent l n b) y ys M (subst (λ u. tells_stored sent l u b y ≡ true) (sym z) f.0) v)
       by_settling (by_trimmed_to m k i j q) = inl (R.trimmed m k i n (leb-true n k (subst (λ (u : ℕ → Bool). u n ≡ true) q t)) pos (subst (Open r l) (sym ep) o))
 
-    one_settler : (p : ℕ → Bool) → Settling x e p → (n : ℕ) (ys : List ℕ) → epoch_of n ≡ e → p n ≡ true → Settlers (spec_in l c.logs) sent l n b ys → Settlers (spec_in l c.logs) sent l n b (with_one y ys)
+    one_settler : (p : ℕ → Bool) → Settling x e p → (n : ℕ) (ys : List ℕ) → epoch_of n ≡ e → p n ≡ true → Settlers (spec_of c r l e) sent l n b ys → Settlers (spec_of c r l e) sent l n b (with_one y ys)
     one_settler p S n ys ep t v = by_settling S where
-      by_settling : Settling x e p → Settlers (spec_in l c.logs) sent l n b (with_one y ys)
+      by_settling : Settling x e p → Settlers (spec_of c r l e) sent l n b (with_one y ys)
       by_settling (by_stored_one m i k q) = let f = R.stored m i in let z : n ≡ m = eqb-true n m (subst (λ (u : ℕ → Bool). u n ≡ true) q t) in
-          one_voter (spec_in l c.logs) (tells_settled sent l n b) y ys f.0 (subst (λ u. tells_settled sent l u b y ≡ true) (sym z) f.2) v
+          one_voter (spec_of c r l e) (tells_settled sent l n b) y ys M (subst (λ u. tells_settled sent l u b y ≡ true) (sym z) f.1) v
       by_settling (by_trimmed_to m k i j q) = let f = R.told_trim m k i in
-          one_voter (spec_in l c.logs) (tells_settled sent l n b) y ys f.0 (trimmed_settles sent l n b y m k f.1 (j ∙ sym ep) (leb-true n k (subst (λ (u : ℕ → Bool). u n ≡ true) q t))) v
+          one_voter (spec_of c r l e) (tells_settled sent l n b) y ys M (trimmed_settles sent l n b y m k f (j ∙ sym ep) (leb-true n k (subst (λ (u : ℕ → Bool). u n ≡ true) q t))) v
 
     pub settles_fine : (made : List Made) (p : ℕ → Bool) (g : Storing) → Settling x e p → StoringFine made r l b e g → StoringFine made r l b e (settled_by p y g)
     settles_fine made p g S F = record {
@@ -109,54 +114,75 @@ module _ (c : Config) (hs : List Happened) (sent : List Msg) where
       planned_so = F.planned_so;
       end = F.end;
       trim = F.trim;
+      lng = F.lng;
+      good = F.good;
       items = λ j h. let q = settle_in p y g.items j h in let f = F.items q.0 q.1 in let n = q.2 in record {
         epoch = ap epoch_of n ∙ f.epoch;
         above = let z = f.above in subst (λ k. 0 < esn_of k) (sym n) z;
-        settlers = subst (λ k. Settlers (spec_in l c.logs) sent l k b j.1.settled) (sym n) (subst (Settlers (spec_in l c.logs) sent l q.0.0 b) (sym q.3) (cond_both (p q.0.0) (with_one y q.0.1.settled) q.0.1.settled (Settlers (spec_in l c.logs) sent l q.0.0 b)
+        settlers = subst (λ k. Settlers (spec_of c r l e) sent l k b j.1.settled) (sym n) (subst (Settlers (spec_of c r l e) sent l q.0.0 b) (sym q.3) (cond_both (p q.0.0) (with_one y q.0.1.settled) q.0.1.settled (Settlers (spec_of c r l e) sent l q.0.0 b)
             (λ t. one_settler p S q.0.0 q.0.1.settled f.epoch t f.settlers) (λ t. f.settlers)));
-        settled = λ o. subst (λ k. SettledBy l k b j.1.settled) (sym n) (subst (SettledBy l q.0.0 b) (sym q.3) (cond_both (p q.0.0) (with_one y q.0.1.settled) q.0.1.settled (SettledBy l q.0.0 b)
+        settled = λ o. subst (λ k. SettledBy r l e k b j.1.settled) (sym n) (subst (SettledBy r l e q.0.0 b) (sym q.3) (cond_both (p q.0.0) (with_one y q.0.1.settled) q.0.1.settled (SettledBy r l e q.0.0 b)
             (λ t. one_settled p S q.0.0 q.0.1.settled f.epoch f.above o t (f.settled o)) (λ t. f.settled o)));
       };
       covers = λ n q lo hi. let z = F.covers n q lo hi in let h = settle_has p y g.items z.0 z.1 in (h.0, h.1, h.2 ∙ z.2);
     }
 
   -- ---- a plan that is ready ----
-  pub ready_stands : (made : List Made) (r : Register) (l b e : ℕ) (g : Storing) → StoringFine made r l b e g → is_ready (spec_in l c.logs) g ≡ true → Open r l e → Summarized c hs made sent l e (summary_of b g)
+  pub ready_stands : (made : List Made) (r : Register) (l b e : ℕ) (g : Storing) → Reached r l e → StoringFine made r l b e g → is_ready (spec_of c r l e) g ≡ true → Open r l e → Summarized c hs made sent r l e (summary_of b g)
   unfolding is_ready
-  ready_stands made r l b e g F h o = record {
-    lng = refl;
+  ready_stands made r l b e g reached F h o = record {
+    reached = reached;
     digest = F.digest;
     planned = F.planned_so;
     end = F.end;
     trim = F.trim;
-    copies = λ n q lo hi. let z = F.covers n q lo hi in let f = F.items z.0 z.1 in let k = leb-true _ _ (all_in (λ (i : ℕ × Planned). nat_le (spec_in l c.logs).r (length i.1.settled)) z.0 g.items h z.1) in
-        subst (λ x. (spec_in l c.logs).r ≤ how_many (tells_settled sent l x b) (nodes_of (spec_in l c.logs))) z.2 (counted_votes (spec_in l c.logs) (tells_settled sent l z.0.0 b) z.0.1.settled f.settlers k);
-    fixed = λ n q lo hi. let z = F.covers n q lo hi in let f = F.items z.0 z.1 in let k = leb-true _ _ (all_in (λ (i : ℕ × Planned). nat_le (spec_in l c.logs).r (length i.1.settled)) z.0 g.items h z.1) in
-        subst (λ x. Fixed c hs sent l x b) z.2 (by_settled z.0.0 z.0.1.settled k (f.settled o));
+    lng = F.lng;
+    good = F.good;
+    copies = λ n q lo hi. let z = F.covers n q lo hi in let f = F.items z.0 z.1 in let k = leb-true _ _ (all_in (λ (i : ℕ × Planned). nat_le (spec_of c r l e).r (length i.1.settled)) z.0 g.items h z.1) in
+        subst (λ x. (spec_of c r l e).r ≤ how_many (tells_settled sent l x b) (set_at c r l e)) z.2 (counted_votes (spec_of c r l e) (tells_settled sent l z.0.0 b) z.0.1.settled f.settlers k);
+    fixed = λ n q lo hi. let z = F.covers n q lo hi in let f = F.items z.0 z.1 in let k = leb-true _ _ (all_in (λ (i : ℕ × Planned). nat_le (spec_of c r l e).r (length i.1.settled)) z.0 g.items h z.1) in
+        subst (λ x. Fixed c hs sent r l x b) z.2 (by_settled z.0.0 z.0.1.settled f.epoch k (f.settled o));
   } where
-    by_settled : (n : ℕ) (ys : List ℕ) → (spec_in l c.logs).r ≤ length ys → SettledBy l n b ys → Fixed c hs sent l n b
-    by_settled n ys k (inl a) = inl a
-    by_settled n ys k (inr v) = inr (counted_votes (spec_in l c.logs) (tells_stored sent l n b) ys v k)
+    by_settled : (n : ℕ) (ys : List ℕ) → epoch_of n ≡ e → (spec_of c r l e).r ≤ length ys → SettledBy r l e n b ys → Fixed c hs sent r l n b
+    by_settled n ys q k (inl a) = inl a
+    by_settled n ys q k (inr v) = inr (subst (λ x. Chosen (spec_of c r l x) sent l n b) (sym q) (counted_votes (spec_of c r l e) (tells_stored sent l n b) ys v k))
 
 -- while more happens
-module _ (c : Config) (hs next : List Happened) (sent after : List Msg) (into : (m : Msg) → In m sent → In m after) (acks : (l n : ℕ) → Acknowledged c hs sent l n → Acknowledged c next after l n) where
-  votes_later : (l n b : ℕ) (ys : List ℕ) → SettledBy c hs sent l n b ys → SettledBy c next after l n b ys
-  votes_later l n b ys (inl a) = inl (acks l n a)
-  votes_later l n b ys (inr v) = inr (record { counted = v.counted; stored = λ y h. tells_more sent after into l n b y (v.stored y h) })
+module _ (c : Config) (hs next : List Happened) (sent after : List Msg) (into : (m : Msg) → In m sent → In m after) (r k : Register) (u : Up r k) (s : Stays c r k) (acks : (l n : ℕ) → Acknowledged c hs sent r l n → Acknowledged c next after k l n) where
+  votes_later : (l e n b : ℕ) (ys : List ℕ) → Reached r l e → SettledBy c hs sent r l e n b ys → SettledBy c next after k l e n b ys
+  votes_later l e n b ys o (inl a) = inl (acks l n a)
+  votes_later l e n b ys o (inr v) = inr (subst (λ p. Voters p after l n b ys) (sym (s.specs l e o)) (record { counted = v.counted; stored = λ y h. tells_more sent after into l n b y (v.stored y h) }))
 
-  pub fixed_later : (l n b : ℕ) → Fixed c hs sent l n b → Fixed c next after l n b
-  fixed_later l n b (inl a) = inl (acks l n a)
-  fixed_later l n b (inr h) = inr (chosen_more (spec_in l c.logs) sent after into l n b h)
+  pub fixed_later : (l n b : ℕ) → Reached r l (epoch_of n) → Fixed c hs sent r l n b → Fixed c next after k l n b
+  fixed_later l n b o (inl a) = inl (acks l n a)
+  fixed_later l n b o (inr h) = inr (subst (λ p. Chosen p after l n b) (sym (s.specs l (epoch_of n) o)) (chosen_more (spec_of c r l (epoch_of n)) sent after into l n b h))
 
-  pub summarized_later : (made more : List Made) (l e : ℕ) (y : Summary) → Summarized c hs made sent l e y → Summarized c next (more ++ made) after l e y
-  summarized_later made more l e y h = record { lng = h.lng; digest = h.digest; planned = In_right _ more made h.planned; end = h.end; trim = h.trim; copies = λ n a b o. copies_more (spec_in l c.logs) sent after into l n y.ballot (h.copies n a b o); fixed = λ n a b o. fixed_later l n y.ballot (h.fixed n a b o) }
+  pub summarized_later : (made more : List Made) (l e : ℕ) (y : Summary) → Summarized c hs made sent r l e y → Summarized c next (more ++ made) after k l e y
+  summarized_later made more l e y h = record {
+    reached = reached_later r k l e u h.reached;
+    digest = h.digest;
+    planned = In_right _ more made h.planned;
+    end = h.end;
+    trim = h.trim;
+    lng = h.lng;
+    good = λ n a b o. acks l n (h.good n a b o);
+    copies = λ n a b o. subst (λ (p : Spec). p.r ≤ how_many (tells_settled after l n y.ballot) (nodes_of p)) (sym (s.specs l e h.reached)) (copies_more (spec_of c r l e) sent after into l n y.ballot (h.copies n a b o));
+    fixed = λ n a b o. fixed_later l n y.ballot (subst (Reached r l) (sym a) h.reached) (h.fixed n a b o);
+  }
 
-  pub storing_later : (made more : List Made) (r k : Register) → Up r k → (l b e : ℕ) (g : Storing) → StoringFine c hs sent made r l b e g → StoringFine c next after (more ++ made) k l b e g
-  storing_later made more r k u l b e g F = record {
+  pub storing_later : (made more : List Made) (l b e : ℕ) (g : Storing) → Reached r l e → StoringFine c hs sent made r l b e g → StoringFine c next after (more ++ made) k l b e g
+  storing_later made more l b e g o F = record {
     digest = F.digest;
     planned_so = In_right _ more made F.planned_so;
     end = F.end;
     trim = F.trim;
-    items = λ i h. let f = F.items i h in record { epoch = f.epoch; above = f.above; settlers = record { counted = f.settlers.counted; stored = λ y h. settles_more sent after into l i.0 b y (f.settlers.stored y h) }; settled = λ o. votes_later l i.0 b i.1.settled (f.settled (let z = (u l).1 in omega arith)) };
+    lng = F.lng;
+    good = λ n a b o. acks l n (F.good n a b o);
+    items = λ i h. let f = F.items i h in record {
+      epoch = f.epoch;
+      above = f.above;
+      settlers = subst (λ p. Settlers p after l i.0 b i.1.settled) (sym (s.specs l e o)) (record { counted = f.settlers.counted; stored = λ y h. settles_more sent after into l i.0 b y (f.settlers.stored y h) });
+      settled = λ w. votes_later l e i.0 b i.1.settled o (f.settled (let z = (u l).1 in omega arith));
+    };
     covers = F.covers;
   }

@@ -17,8 +17,8 @@ use Rattle.ld_config.specs.declared.config.Config.{Config}
 use Rattle.ld_op.specs.declared.op.Op.{Op}
 use Rattle.ld_op.specs.Ticks.{Ticked, Cleans, Rebuilt, Asks, Nothing}
 use Rattle.ld_ids.specs.declared.set.Spec.{Spec}
-use Rattle.ld_machine.specs.Config.{spec_in, has_log}
-use Rattle.ld_msg.specs.Register.{epoch_limit, Register, generation_of, epochs_in}
+use Rattle.ld_machine.specs.Config.{looks_at, has_log}
+use Rattle.ld_msg.specs.Register.{View, epoch_limit, Register, generation_of, epochs_in}
 use Rattle.ld_op.specs.declared.op.Op.TheVariants as ops
 use Rattle.ld_machine.specs.Disk.{Node, Kept, Written, DiskFailed, Crashed, JournalFull, keep_end}
 use Rattle.ld_msg.specs.Reading.{Held, bridge_to, shows_end, end_held, Item, TrimTo, RecordHere, HoleHere, BridgeTo, LossHere, trim_held}
@@ -38,7 +38,7 @@ use Rattle.ld_safety.proofs.Steps.{is_plain, filter_finish, told, became, step_b
 use Rattle.ld_safety.proofs.ReaderSteps.{ReadKeeps, answered, below_end}
 use Rattle.ld_safety.proofs.Members.{In_put}
 use Rattle.ld_safety.proofs.Base.{Base}
-use Rattle.ld_safety.proofs.Given.{AnyEpoch, AnyShown, AnyReleased, GivenEntry, GivenTrim, GivenSummary}
+use Rattle.ld_safety.proofs.Given.{AnyEpoch, AnyShown, AnyReleased, SmallGood, GivenEntry, GivenTrim, GivenSummary}
 use Rattle.ld_safety.proofs.GivenSteps.{Given, BaseGiven, given_kept}
 use Rattle.ld_safety.proofs.Carried as carried
 use Rattle.ld_msg.specs.declared.msg.Body.TheVariants as bodies
@@ -136,12 +136,12 @@ format_none c n r x (inr i) = lost_lines_none n r c.logs x i
 pub opening_grows : (c : Config) (r : List ℕ) (hs : List Happened) (h : Happened) → opening c r (hs ++ h ∷ []) ≡ or_else (opening c r hs) (opening_of c r h.lines h.event)
 opening_grows c r hs h = first_grows (λ (g : Happened). opening_of c r g.lines g.event) hs h
 
-intervals_grow : (r : List ℕ) (hs : List Happened) (e : Event) (d : Done) → intervals r (hs ++ told e d ∷ []) ≡ intervals r hs ++ filter_map (interval_of r) d.lines
-intervals_grow r hs e d = flat_map-append (λ (h : Happened). filter_map (interval_of r) h.lines) hs (told e d ∷ [])
+intervals_grow : (r : List ℕ) (hs : List Happened) (old : Register) (e : Event) (d : Done) → intervals r (hs ++ told old e d ∷ []) ≡ intervals r hs ++ filter_map (interval_of r) d.lines
+intervals_grow r hs old e d = flat_map-append (λ (h : Happened). filter_map (interval_of r) h.lines) hs (told old e d ∷ [])
     ∙ ap (λ l. intervals r hs ++ l) (append-nil (filter_map (interval_of r) (finish d).lines) ∙ filter_finish (interval_of r) (plain_interval r) d)
 
-intervals_same : (r : List ℕ) (hs : List Happened) (e : Event) (d : Done) → filter_map (interval_of r) d.lines ≡ [] → intervals r (hs ++ told e d ∷ []) ≡ intervals r hs
-intervals_same r hs e d n = intervals_grow r hs e d ∙ (ap (λ l. intervals r hs ++ l) n ∙ append-nil (intervals r hs))
+intervals_same : (r : List ℕ) (hs : List Happened) (old : Register) (e : Event) (d : Done) → filter_map (interval_of r) d.lines ≡ [] → intervals r (hs ++ told old e d ∷ []) ≡ intervals r hs
+intervals_same r hs old e d n = intervals_grow r hs old e d ∙ (ap (λ l. intervals r hs ++ l) n ∙ append-nil (intervals r hs))
 
 -- ---- a step that opens no reader ----
 
@@ -186,26 +186,26 @@ AllGot c hs w = (r : List ℕ) → GotBy c hs r (find_named r w.state.readers)
 
 module _ (c : Config) (hs : List Happened) (s : State) (e : Event) where
   -- nothing is given to this name, and nobody is opened
-  same_got : (d : Done) (r : List ℕ) (o : Option Reader) → filter_map (interval_of r) d.lines ≡ [] → (o ≡ None → opening_of c r (finish d).lines e ≡ None) → GotBy c hs r o → GotBy c (hs ++ told e d ∷ []) r o
-  same_got d r None n i g = (opening_grows c r hs (told e d) ∙ or_else_none (opening c r hs) _ g.0 (i refl), intervals_same r hs e d n ∙ g.1)
+  same_got : (d : Done) (r : List ℕ) (o : Option Reader) → filter_map (interval_of r) d.lines ≡ [] → (o ≡ None → opening_of c r (finish d).lines e ≡ None) → GotBy c hs r o → GotBy c (hs ++ told s.register e d ∷ []) r o
+  same_got d r None n i g = (opening_grows c r hs (told s.register e d) ∙ or_else_none (opening c r hs) _ g.0 (i refl), intervals_same r hs s.register e d n ∙ g.1)
   same_got d r (Some x) n i g = record {
     open_as = g.open_as;
-    is = opening_grows c r hs (told e d) ∙ or_else_some (opening c r hs) _ g.open_as g.is;
+    is = opening_grows c r hs (told s.register e d) ∙ or_else_some (opening c r hs) _ g.open_as g.is;
     log = g.log;
     until = g.until;
     start = g.start;
-    tiles = subst (λ is. TilesTo x.until g.open_as.from is x.next) (sym (intervals_same r hs e d n)) g.tiles;
+    tiles = subst (λ is. TilesTo x.until g.open_as.from is x.next) (sym (intervals_same r hs s.register e d n)) g.tiles;
   }
 
   -- a reader gets some items
-  more_got : (d : Done) (r : List ℕ) (x y : Reader) → Got c hs r x → y.log ≡ x.log → y.until ≡ x.until → TilesTo x.until x.next (filter_map (interval_of r) d.lines) y.next → Got c (hs ++ told e d ∷ []) r y
+  more_got : (d : Done) (r : List ℕ) (x y : Reader) → Got c hs r x → y.log ≡ x.log → y.until ≡ x.until → TilesTo x.until x.next (filter_map (interval_of r) d.lines) y.next → Got c (hs ++ told s.register e d ∷ []) r y
   more_got d r x y g a b t = record {
     open_as = g.open_as;
-    is = opening_grows c r hs (told e d) ∙ or_else_some (opening c r hs) _ g.open_as g.is;
+    is = opening_grows c r hs (told s.register e d) ∙ or_else_some (opening c r hs) _ g.open_as g.is;
     log = g.log ∙ sym a;
     until = g.until ∙ sym b;
     start = g.start;
-    tiles = subst (λ is. TilesTo y.until g.open_as.from is y.next) (sym (intervals_grow r hs e d))
+    tiles = subst (λ is. TilesTo y.until g.open_as.from is y.next) (sym (intervals_grow r hs s.register e d))
         (subst (λ u. TilesTo u g.open_as.from (intervals r hs ++ filter_map (interval_of r) d.lines) y.next) (sym b) (tiles_on x.until g.open_as.from x.next y.next (intervals r hs) (filter_map (interval_of r) d.lines) g.tiles t));
   }
 
@@ -270,9 +270,9 @@ ended_small from end e a q l = let z : home_esn from ≤ 2 ^ 32 = cond_both (is_
       | inr u ↦ (let v = eqb-false _ _ u in let pos : 0 < esn_of end = elim (cases_order 0 (esn_of end)) [ inl k ↦ absurd (v (sym k)) | inr (inl k) ↦ k | inr (inr k) ↦ absurd (omega arith) ] in omega arith)
     ])
 
-body_small : (hs : List Happened) (l : ℕ) (b : Body) → carried.HeldOk (GivenEntry hs) (GivenTrim hs) (GivenSummary hs) AnyEpoch AnyShown AnyReleased l b → Small b
+body_small : (hs : List Happened) (l : ℕ) (b : Body) → carried.HeldOk (GivenEntry hs) (GivenTrim hs) (GivenSummary hs) AnyEpoch AnyShown AnyReleased (GivenEntry hs) SmallGood l b → Small b
 unfolding Small
-body_small hs l b h round from end e = let k : carried.EndedOk (GivenEntry hs) (GivenTrim hs) (GivenSummary hs) AnyEpoch AnyShown AnyReleased l from end = subst (carried.HeldOk (GivenEntry hs) (GivenTrim hs) (GivenSummary hs) AnyEpoch AnyShown AnyReleased l) e h in ended_small from end k.summary.end k.past k.is k.closed.1
+body_small hs l b h round from end e = let k : carried.EndedOk (GivenEntry hs) (GivenTrim hs) (GivenSummary hs) AnyEpoch AnyShown AnyReleased (GivenEntry hs) SmallGood l from end = subst (carried.HeldOk (GivenEntry hs) (GivenTrim hs) (GivenSummary hs) AnyEpoch AnyShown AnyReleased (GivenEntry hs) SmallGood l) e h in ended_small from end k.summary.end k.past k.is k.closed.1
 
 module _ (r : List ℕ) (d : Reader) where
   gives_one : (a : Read) (i : Item) → Gives r d a → is_finished a.reader ≡ false → a.reader.next ≤ item_end a.reader.next i → Gives r d (gives a i)
@@ -286,9 +286,9 @@ module _ (r : List ℕ) (d : Reader) where
         (subst (λ v. TilesTo d.until a.reader.next (filter_map (interval_of r) (Step.item_line r a.reader.next d.until i ∷ [])) (min (item_end a.reader.next i) v + 1)) (sym u) (one_tile r a.reader.next d.until i (omega arith) h)));
   }
 
-  gives_keeps : (set : List ℕ) (y : ℕ) (b : Body) → is_finished d ≡ false → AllSmall d.held → Small b → ReadKeeps set d y b (Gives r d)
+  gives_keeps : (looks : ℕ → View) (y : ℕ) (b : Body) → is_finished d ≡ false → AllSmall d.held → Small b → ReadKeeps looks d y b (Gives r d)
   unfolding AllSmall Small
-  gives_keeps set y b f a o = let start : Gives r d (record { reader = heard d y b; items = []; asks = [] }) = record { log = refl; until = refl; held = held_small d y b a o; tiles = refl } in record {
+  gives_keeps looks y b f a o = let start : Gives r d (record { reader = heard d y b; items = []; asks = [] }) = record { log = refl; until = refl; held = held_small d y b a o; tiles = refl } in record {
     starts = start;
     loss = λ h. gives_one _ LossHere start f (omega arith);
     trim = λ a g n t. gives_one a (TrimTo (trim_held a.reader.held)) g n t;
@@ -314,12 +314,12 @@ others_lines r q until (i ∷ is) h = rw (other i.1) (others_lines r q until is 
 
 module _ (c : Config) (hs : List Happened) (w : World) (e : Event) (B : Base c hs w) (G : Given c hs w.state) (A : AllGot c hs w) where
   abbrev Result : Done → Type 0
-  Result d = AllGot c (hs ++ told e d ∷ []) (became w d [])
+  Result d = AllGot c (hs ++ told w.state.register e d ∷ []) (became w d [])
 
   -- readers stay, no item is given, and nobody is opened
   stays : (d : Done) → d.state.readers ≡ w.state.readers → NoItems d.lines → ((r : List ℕ) → find_named r w.state.readers ≡ None → opening_of c r (finish d).lines e ≡ None) → Result d
   unfolding finish
-  stays d q n i r = subst (λ (x : List (List ℕ × Reader)). GotBy c (hs ++ told e d ∷ []) r (find_named r x)) (sym q)
+  stays d q n i r = subst (λ (x : List (List ℕ × Reader)). GotBy c (hs ++ told w.state.register e d ∷ []) r (find_named r x)) (sym q)
       (same_got c hs w.state e d r (find_named r w.state.readers) (none_of_lines r d.lines n) (i r) (A r))
 
   idle_stays : (d : Done) → Idle c w.state e → d.state.readers ≡ w.state.readers → NoItems d.lines → Result d
@@ -330,16 +330,16 @@ module _ (c : Config) (hs : List Happened) (w : World) (e : Event) (B : Base c h
 
   -- one reader changes
   changes : (d : Done) (name : List ℕ) (x y : Reader) → d.state.readers ≡ put_named name y w.state.readers → find_named name w.state.readers ≡ Some x → Idle c w.state e
-      → ((q : List ℕ) → same name q ≡ false → filter_map (interval_of q) d.lines ≡ []) → (Got c hs name x → Got c (hs ++ told e d ∷ []) name y) → Result d
+      → ((q : List ℕ) → same name q ≡ false → filter_map (interval_of q) d.lines ≡ []) → (Got c hs name x → Got c (hs ++ told w.state.register e d ∷ []) name y) → Result d
   unfolding finish
-  changes d name x y q f i o g r = subst (λ (z : List (List ℕ × Reader)). GotBy c (hs ++ told e d ∷ []) r (find_named r z)) (sym q) (elim (named_cases r name y w.state.readers) [
-    | inl a ↦ subst (λ (v : Option Reader). GotBy c (hs ++ told e d ∷ []) r v) (sym a.1) (subst (λ n. Got c (hs ++ told e d ∷ []) n y) (sym a.0) (g (subst (λ (v : Option Reader). GotBy c hs name v) f (A name))))
-    | inr a ↦ subst (λ (v : Option Reader). GotBy c (hs ++ told e d ∷ []) r v) (sym a.1)
+  changes d name x y q f i o g r = subst (λ (z : List (List ℕ × Reader)). GotBy c (hs ++ told w.state.register e d ∷ []) r (find_named r z)) (sym q) (elim (named_cases r name y w.state.readers) [
+    | inl a ↦ subst (λ (v : Option Reader). GotBy c (hs ++ told w.state.register e d ∷ []) r v) (sym a.1) (subst (λ n. Got c (hs ++ told w.state.register e d ∷ []) n y) (sym a.0) (g (subst (λ (v : Option Reader). GotBy c hs name v) f (A name))))
+    | inr a ↦ subst (λ (v : Option Reader). GotBy c (hs ++ told w.state.register e d ∷ []) r v) (sym a.1)
         (same_got c hs w.state e d r (find_named r w.state.readers) (o r (same-flip name r ∙ a.0)) (λ h. idle_no_open c w.state r (finish d).lines e i h) (A r))
   ])
 
   -- a reader is opened
-  opened_got : (name : List ℕ) (l from until : ℕ) (d : Done) → d.lines ≡ [] → d.sends ≡ [] → Opens c w.state name l from until → e ≡ events.Open name l from until → GotBy c hs name None → Got c (hs ++ told e d ∷ []) name (opened l (length w.state.readers) from until)
+  opened_got : (name : List ℕ) (l from until : ℕ) (d : Done) → d.lines ≡ [] → d.sends ≡ [] → Opens c w.state name l from until → e ≡ events.Open name l from until → GotBy c hs name None → Got c (hs ++ told w.state.register e d ∷ []) name (opened l (length w.state.readers) from until)
   unfolding finish
   opened_got name l from until d n ms o x g =
       let ls : (finish d).lines ≡ lines.Nothing ∷ [] = λ i. or_none (n i ++ message_lines d.state d.state.network.count (ms i)) in
@@ -347,19 +347,19 @@ module _ (c : Config) (hs : List Happened) (w : World) (e : Event) (B : Base c h
       = (λ i. opening_of c name (ls i) (x i)) ∙ ap (λ b. cond b (Some (record { log = l; from = from; until = until })) None) ((λ i. (same-self name i && o.log i) && true)) in
       record {
         open_as = record { log = l; from = from; until = until };
-        is = opening_grows c name hs (told e d) ∙ (or_else_new (opening c name hs) _ g.0 ∙ op);
+        is = opening_grows c name hs (told w.state.register e d) ∙ (or_else_new (opening c name hs) _ g.0 ∙ op);
         log = refl;
         until = refl;
         start = o.positive;
-        tiles = subst (λ is. TilesTo until from is from) (sym (intervals_same name hs e d (ap (filter_map (interval_of name)) n) ∙ g.1)) refl;
+        tiles = subst (λ is. TilesTo until from is from) (sym (intervals_same name hs w.state.register e d (ap (filter_map (interval_of name)) n) ∙ g.1)) refl;
       }
 
   opens_one : (name : List ℕ) (l from until : ℕ) (d : Done) → d.state.readers ≡ put_named name (opened l (length w.state.readers) from until) w.state.readers → d.lines ≡ [] → d.sends ≡ [] → Opens c w.state name l from until → e ≡ events.Open name l from until → Result d
   unfolding finish
-  opens_one name l from until d q n ms o x r = subst (λ (z : List (List ℕ × Reader)). GotBy c (hs ++ told e d ∷ []) r (find_named r z)) (sym q) (elim (named_cases r name (opened l (length w.state.readers) from until) w.state.readers) [
-    | inl a ↦ subst (λ (v : Option Reader). GotBy c (hs ++ told e d ∷ []) r v) (sym a.1) (subst (λ k. Got c (hs ++ told e d ∷ []) k (opened l (length w.state.readers) from until)) (sym a.0)
+  opens_one name l from until d q n ms o x r = subst (λ (z : List (List ℕ × Reader)). GotBy c (hs ++ told w.state.register e d ∷ []) r (find_named r z)) (sym q) (elim (named_cases r name (opened l (length w.state.readers) from until) w.state.readers) [
+    | inl a ↦ subst (λ (v : Option Reader). GotBy c (hs ++ told w.state.register e d ∷ []) r v) (sym a.1) (subst (λ k. Got c (hs ++ told w.state.register e d ∷ []) k (opened l (length w.state.readers) from until)) (sym a.0)
         (opened_got name l from until d n ms o x (subst (λ (v : Option Reader). GotBy c hs name v) o.fresh_name (A name))))
-    | inr a ↦ subst (λ (v : Option Reader). GotBy c (hs ++ told e d ∷ []) r v) (sym a.1)
+    | inr a ↦ subst (λ (v : Option Reader). GotBy c (hs ++ told w.state.register e d ∷ []) r v) (sym a.1)
         (same_got c hs w.state e d r (find_named r w.state.readers) (ap (filter_map (interval_of r)) n)
         (λ h. subst (λ v. opening_of c r (finish d).lines v ≡ None) (sym x) (ap (λ b. cond ((b && has_log c l) && wrote_nothing (finish d).lines) (Some (record { log = l; from = from; until = until })) None) (same-flip name r ∙ a.0))) (A r))
   ])
@@ -377,14 +377,14 @@ module _ (c : Config) (hs : List Happened) (w : World) (e : Event) (B : Base c h
       said_stays (Step.keeps_op (with_register (loaded w.state n) r) n (ops.Format (generation_of r n) (epochs_in r.logs)) (Step.format_lines c n r) []) f.0 f.1 f.2 f.3 refl (kept_lines_none n (Step.format_lines c n r) k (format_none c n r))
 
   acted_stays : (f : List ℕ) (name : List ℕ) (q : Sequencer) (a : Acts) → Idle c w.state e → Result (Step.acted c (refreshed w.state f) name q a)
-  acted_stays f name q a i = idle_stays (Step.acted c (refreshed w.state f) name q a) i refl (acted_none name q (called (spec_in q.log c.logs) w.state.register a a.tries).acts)
+  acted_stays f name q a i = idle_stays (Step.acted c (refreshed w.state f) name q a) i refl (acted_none name q (called (looks_at c w.state.register q.log) w.state.register a a.tries).acts)
 
   reader_small : (name : List ℕ) (d : Reader) → find_named name w.state.readers ≡ Some d → AllSmall d.held
   unfolding AllSmall
   reader_small name d f h i = body_small hs d.log h.1.body (G.readers name d f h i)
 
   message_small : (d : Reader) (m : Msg) (name : List ℕ) → In m w.state.network.sent → m.to ≡ whos.Reader d.number → find_named name w.state.readers ≡ Some d → Small m.body
-  message_small d m name i t f = body_small hs m.log m.body (carried.held_of (GivenEntry hs) (GivenTrim hs) (GivenSummary hs) AnyEpoch AnyShown AnyReleased m.log m.from m.body (G.sent m i))
+  message_small d m name i t f = body_small hs m.log m.body (carried.held_of (GivenEntry hs) (GivenTrim hs) (GivenSummary hs) AnyEpoch AnyShown AnyReleased (GivenEntry hs) SmallGood m.log m.from m.body (G.sent m i))
 
   got_cases : Cases c w.state e (λ d m. Result d)
   got_cases = record {
@@ -398,6 +398,7 @@ module _ (c : Config) (hs : List Happened) (w : World) (e : Event) (B : Base c h
     stops = λ n b. said_stays _ _ [] refl refl refl (one_line _ refl);
     wipes = λ n. said_stays _ _ [] refl refl refl (one_line _ refl);
     faults = λ n f o. idle_stays _ o refl nothing_none;
+    sets = λ l r x set h. said_stays _ (lines.Set l r x set) [] refl refl refl (one_line (lines.Set l r x set) refl);
     arms = λ k done o. idle_stays _ o refl nothing_none;
     hears = λ f name q m i t l v o. acted_stays f name q _ o;
     retries = λ name q v o. acted_stays w.state.network.fresh name q _ o;
@@ -405,13 +406,13 @@ module _ (c : Config) (hs : List Happened) (w : World) (e : Event) (B : Base c h
     trims = λ name q t v b. said_stays _ _ [] refl refl refl (one_line _ refl);
     drops = λ name q v o. idle_stays _ o refl nothing_none;
     activates = λ name l r g n i x. said_stays _ _ [] refl refl refl (one_line _ refl);
-    activate_fails = λ name l x q. said_stays _ x [] refl (quiet_something x q) refl (one_line x (quiet_item x q));
-    answers = λ f name d m i t v o. let a = answered (Step.set_read c d) d (Step.sender_node m.from) m.body (Gives name d) (gives_keeps name d (Step.set_read c d) (Step.sender_node m.from) m.body v.open_still (reader_small name d v.named) (message_small d m name i t v.named)) in
-        changes _ name d (on_answer (Step.set_read c d) d (Step.sender_node m.from) m.body).reader refl v.named o
-        (λ q h. others_lines name q (on_answer (Step.set_read c d) d (Step.sender_node m.from) m.body).reader.until (on_answer (Step.set_read c d) d (Step.sender_node m.from) m.body).items h)
-        (λ g. more_got c hs w.state e (Step.read (refreshed w.state f) name (on_answer (Step.set_read c d) d (Step.sender_node m.from) m.body)) name d (on_answer (Step.set_read c d) d (Step.sender_node m.from) m.body).reader g a.log a.until
-        (subst (λ u. TilesTo d.until d.next (lines_from name u (on_answer (Step.set_read c d) d (Step.sender_node m.from) m.body)) (on_answer (Step.set_read c d) d (Step.sender_node m.from) m.body).reader.next) (sym a.until) a.tiles));
-    polls = λ name d v o. changes _ name d (polled d) refl v.named o (λ q h. refl) (λ g. more_got c hs w.state e _ name d (polled d) g refl refl refl);
+    activate_fails = λ name l x g q. said_stays _ x [] refl (quiet_something x q) refl (one_line x (quiet_item x q));
+    answers = λ f name d m i t v o. let a = answered (looks_at c w.state.register d.log) d (Step.sender_node m.from) m.body (Gives name d) (gives_keeps name d (looks_at c w.state.register d.log) (Step.sender_node m.from) m.body v.open_still (reader_small name d v.named) (message_small d m name i t v.named)) in
+        changes _ name d (on_answer (looks_at c w.state.register d.log) d (Step.sender_node m.from) m.body).reader refl v.named o
+        (λ q h. others_lines name q (on_answer (looks_at c w.state.register d.log) d (Step.sender_node m.from) m.body).reader.until (on_answer (looks_at c w.state.register d.log) d (Step.sender_node m.from) m.body).items h)
+        (λ g. more_got c hs w.state e (Step.read (refreshed w.state f) name (on_answer (looks_at c w.state.register d.log) d (Step.sender_node m.from) m.body)) name d (on_answer (looks_at c w.state.register d.log) d (Step.sender_node m.from) m.body).reader g a.log a.until
+        (subst (λ u. TilesTo d.until d.next (lines_from name u (on_answer (looks_at c w.state.register d.log) d (Step.sender_node m.from) m.body)) (on_answer (looks_at c w.state.register d.log) d (Step.sender_node m.from) m.body).reader.next) (sym a.until) a.tiles));
+    polls = λ name d v o. changes _ name d (polled (looks_at c w.state.register d.log) d) refl v.named o (λ q h. refl) (λ g. more_got c hs w.state e _ name d (polled (looks_at c w.state.register d.log) d) g refl refl refl);
     opens = λ name l from until o x. opens_one name l from until _ refl refl refl o x;
   } where
     quiet_something : (x : Line) → is_quiet x ≡ true → is_nothing x ≡ false

@@ -1,7 +1,7 @@
 -- Each line of the steps so far that acknowledges a number or gives a reader an item is so for good.
 use Rattle.std.proofs.Common.{◌≡◌, ◌⊎◌, ℕ, inl, inr, refl, sym, subst, Bool, true, false, List, [], ◌∷◌, ◌++◌, Option, Some, None}
 use Rattle.ld_lsn.specs.Number.{epoch_of}
-use Rattle.ld_safety.proofs.Said.{Said, Reached}
+use Rattle.ld_safety.proofs.Said.{Said, SaidHere, Reached}
 use Rattle.ld_table.specs.Named.{find_named}
 use Rattle.ld_config.specs.declared.config.Config.{Config}
 use Rattle.ld_schedule.specs.declared.event.Event.{Event}
@@ -19,18 +19,18 @@ use Rattle.ld_msg.specs.Reader.{Reader, on_answer}
 use Rattle.ld_op.specs.declared.op.Op.{Op}
 use Rattle.ld_op.specs.declared.op.Op.TheVariants as ops
 use Rattle.ld_op.specs.Ticks.{Ticked, Cleans, Rebuilt, Asks, Nothing}
-use Rattle.ld_machine.specs.Config.{spec_in}
+use Rattle.ld_machine.specs.Config.{looks_at}
 use Rattle.ld_machine.specs.Disk.{keep_end}
 use Rattle.ld_machine.specs.State.{State, Done, finish, node_at, with_node, with_register}
 use Rattle.ld_machine.specs.Facts.{Happened, Writes, OfLog, ReadsLog, opening_of}
 use Rattle.ld_machine.specs.World.{World, Made, In, begin, made_on}
 use Rattle.ld_machine.specs.Run.{next_world}
 use Rattle.ld_machine.specs.Step as Step
-use Rattle.ld_safety.proofs.Lists.{not_none, In-append, In_right, first_left}
+use Rattle.ld_safety.proofs.Lists.{not_none, In-append, first_left}
 use Rattle.ld_safety.proofs.Traces.{happened}
 use Rattle.ld_safety.proofs.Steps.{told, writes_cases}
 use Rattle.ld_safety.proofs.Events.{Cases, dispatch, Live, Reading, refreshed, loaded, is_quiet}
-use Rattle.ld_safety.proofs.Lines.{Group, OfNodes, OfNumbers, OfActs, OfTrims, OfItems, OfMessages, group, AllOf, none_of, one_of, kept_of, format_of, items_of, line_of}
+use Rattle.ld_safety.proofs.Lines.{Group, OfNodes, OfNumbers, OfActs, OfTrims, OfSets, OfItems, OfMessages, group, AllOf, none_of, one_of, kept_of, format_of, items_of, line_of}
 use Rattle.ld_safety.proofs.ItemLines.{line_cases}
 use Rattle.ld_safety.proofs.ReaderSteps.{answered}
 use Rattle.ld_safety.proofs.Tiles.{AllGot, got_of}
@@ -38,7 +38,7 @@ use Rattle.ld_safety.proofs.Registers.{Up}
 use Rattle.ld_safety.proofs.Base.{Base, counts_of}
 use Rattle.ld_safety.proofs.Given.{of_log_grows}
 use Rattle.ld_safety.proofs.GivenSteps.{Given}
-use Rattle.ld_safety.proofs.Settled.{Acknowledged, Stays, acked_grows, closed_grows, TrimFine, CloseFine, ShowFine, ReleaseFine}
+use Rattle.ld_safety.proofs.Settled.{Acknowledged, Stays, acked_grows, closed_grows, closed_says_grows, TrimFine, CloseFine, ShowFine, ReleaseFine, LngFine}
 use Rattle.ld_safety.proofs.AcksKept.{ActsFine, heard_acts, retry_acts}
 use Rattle.ld_safety.proofs.Along.{Along}
 use Rattle.ld_safety.proofs.ItemFacts.{ClosedItem, RecordAt, BridgeAt}
@@ -47,15 +47,15 @@ use Rattle.ld_safety.proofs.Carried as carried
 use Rattle.ld_safety.proofs.AlongSteps as along
 
 -- ---- what grows ----
-module _ (c : Config) (hs : List Happened) (e : Event) (d : Done) (made more : List Made) (sent after : List Msg) (r k : Register) (into : (m : Msg) → In m sent → In m after) (u : Up r k) (s : Stays r k) where
-  item_grows : (l n : ℕ) (x : What) → ClosedItem c hs made sent r l n x → ClosedItem c (hs ++ told e d ∷ []) (more ++ made) after k l n x
-  item_grows l n x h = record { summary = h.summary; closed = closed_grows c hs e d made more sent after r k into u s l (epoch_of n) h.summary h.closed; says = record { later = h.says.later; digest = h.says.digest; planned = In_right _ more made h.says.planned; item = h.says.item } }
+module _ (c : Config) (hs : List Happened) (e : Event) (d : Done) (made more : List Made) (sent after : List Msg) (r k : Register) (into : (m : Msg) → In m sent → In m after) (u : Up r k) (s : Stays c r k) where
+  item_grows : (l n : ℕ) (x : What) → ClosedItem c hs made sent r l n x → ClosedItem c (hs ++ told r e d ∷ []) (more ++ made) after k l n x
+  item_grows l n x h = record { summary = h.summary; closed = closed_grows c hs e d made more sent after r k into u s l (epoch_of n) h.summary h.closed; says = closed_says_grows c hs e d made more sent after r k into u s l n h.summary x h.says }
 
-  record_grows : (l n : ℕ) → RecordAt c hs made sent r l n → RecordAt c (hs ++ told e d ∷ []) (more ++ made) after k l n
+  record_grows : (l n : ℕ) → RecordAt c hs made sent r l n → RecordAt c (hs ++ told r e d ∷ []) (more ++ made) after k l n
   record_grows l n (inl a) = inl (acked_grows c hs e d made more sent after r k into u s l n a)
   record_grows l n (inr p) = inr (p.0, item_grows l n _ p.1)
 
-  bridge_grows : (l low high : ℕ) → BridgeAt c hs made sent r l low high → BridgeAt c (hs ++ told e d ∷ []) (more ++ made) after k l low high
+  bridge_grows : (l low high : ℕ) → BridgeAt c hs made sent r l low high → BridgeAt c (hs ++ told r e d ∷ []) (more ++ made) after k l low high
   bridge_grows l low high b = record { epoch = b.epoch; upto = b.upto; past = elim b.past [ inl z ↦ inl z | inr z ↦ inr (z.0, closed_grows c hs e d made more sent after r k into u s l b.epoch z.0 z.1, z.2) ] }
 
 reads_grows : (c : Config) (hs : List Happened) (h : Happened) (l : ℕ) (name : List ℕ) → ReadsLog c hs l name → ReadsLog c (hs ++ h ∷ []) l name
@@ -64,7 +64,7 @@ reads_grows c hs h l name o = (o.0, first_left (λ (g : Happened). opening_of c 
 -- ---- acknowledgements in lines ----
 module _ (c : Config) (hs : List Happened) (s : State) where
   AckedTold : List Line → Type 0
-  AckedTold ls = (name : List ℕ) (n : ℕ) → In (lines.Acked name n) ls → (q : Sequencer) × (find_named name s.sequencers ≡ Some q) × Acknowledged c hs s.network.sent q.log n
+  AckedTold ls = (name : List ℕ) (n : ℕ) → In (lines.Acked name n) ls → (q : Sequencer) × (find_named name s.sequencers ≡ Some q) × Acknowledged c hs s.network.sent s.register q.log n
 
   others : (g : Group) (ls : List Line) → (g ≡ OfActs → ⊥) → AllOf g ls → AckedTold ls
   unfolding AckedTold
@@ -104,12 +104,12 @@ module _ (c : Config) (hs : List Happened) (s : State) where
     ]
   ]
 
-  acts_told : (r : Register) (name : List ℕ) (q : Sequencer) (k : Called) → find_named name s.sequencers ≡ Some q → ActsFine c hs s.network.sent r q k → AckedTold (Step.acted_lines name q k.acts)
+  acts_told : (name : List ℕ) (q : Sequencer) (k : Called) → find_named name s.sequencers ≡ Some q → ActsFine c hs s.network.sent s.register q k → AckedTold (Step.acted_lines name q k.acts)
   unfolding AckedTold
-  acts_told r name q k f A a n i = let z = acted_acked name q k.acts a n i in (q, subst (λ x. find_named x s.sequencers ≡ Some q) (sym z.0) f, A.acked n z.1)
+  acts_told name q k f A a n i = let z = acted_acked name q k.acts a n i in (q, subst (λ x. find_named x s.sequencers ≡ Some q) (sym z.0) f, A.acked n z.1)
 
-  acked_cases : (e : Event) → ((name : List ℕ) (q : Sequencer) → Live s name q → (m : Msg) → In m s.network.sent → m.to ≡ whos.Sequencer q.epoch → m.log ≡ q.log → ActsFine c hs s.network.sent s.register q (called (spec_in q.log c.logs) s.register (on_reply (spec_in q.log c.logs) q (Step.sender_node m.from) m.body) (on_reply (spec_in q.log c.logs) q (Step.sender_node m.from) m.body).tries))
-      → ((name : List ℕ) (q : Sequencer) → Live s name q → ActsFine c hs s.network.sent s.register q (called (spec_in q.log c.logs) s.register (on_retry (spec_in q.log c.logs) q) (on_retry (spec_in q.log c.logs) q).tries)) → Cases c s e (λ d m. AckedTold d.lines)
+  acked_cases : (e : Event) → ((name : List ℕ) (q : Sequencer) → Live s name q → (m : Msg) → In m s.network.sent → m.to ≡ whos.Sequencer q.epoch → m.log ≡ q.log → ActsFine c hs s.network.sent s.register q (called (looks_at c s.register q.log) s.register (on_reply (looks_at c s.register q.log) q (Step.sender_node m.from) m.body) (on_reply (looks_at c s.register q.log) q (Step.sender_node m.from) m.body).tries))
+      → ((name : List ℕ) (q : Sequencer) → Live s name q → ActsFine c hs s.network.sent s.register q (called (looks_at c s.register q.log) s.register (on_retry q) (on_retry q).tries)) → Cases c s e (λ d m. AckedTold d.lines)
   acked_cases e heard retry = record {
     still = λ f i. none;
     says = λ x q. quiets (x ∷ []) (λ y i. one_quiet x q y i);
@@ -121,15 +121,16 @@ module _ (c : Config) (hs : List Happened) (s : State) where
     stops = λ n b. nodes (lines.NodeDown n ∷ []) (one_of (lines.NodeDown n));
     wipes = λ n. nodes (lines.NodeWiped n ∷ []) (one_of (lines.NodeWiped n));
     faults = λ n f o. none;
+    sets = λ l r x set g. others OfSets (lines.Set l r x set ∷ []) (λ h. cc) (one_of (lines.Set l r x set));
     arms = λ k done o. none;
-    hears = λ f name q m i t l v o. acts_told s.register name q _ v.named (heard name q v m i t l);
-    retries = λ name q v o. acts_told s.register name q _ v.named (retry name q v);
+    hears = λ f name q m i t l v o. acts_told name q _ v.named (heard name q v m i t l);
+    retries = λ name q v o. acts_told name q _ v.named (retry name q v);
     appends = λ name q p v a i. others OfNumbers (lines.Appended name _ ∷ []) (λ h. cc) (one_of (lines.Appended name _));
     trims = λ name q t v b. others OfTrims (lines.Trimmed name t ∷ []) (λ h. cc) (one_of (lines.Trimmed name t));
     drops = λ name q v o. none;
     activates = λ name l r g n i x. others OfNumbers (lines.Active name _ ∷ []) (λ h. cc) (one_of (lines.Active name _));
-    activate_fails = λ name l x q. quiets (x ∷ []) (λ y i. one_quiet x q y i);
-    answers = λ f name d m i t v o. others OfItems _ (λ h. cc) (items_of name (on_answer (Step.set_read c d) d (Step.sender_node m.from) m.body).reader.until (on_answer (Step.set_read c d) d (Step.sender_node m.from) m.body).items);
+    activate_fails = λ name l x g q. quiets (x ∷ []) (λ y i. one_quiet x q y i);
+    answers = λ f name d m i t v o. others OfItems _ (λ h. cc) (items_of name (on_answer (looks_at c s.register d.log) d (Step.sender_node m.from) m.body).reader.until (on_answer (looks_at c s.register d.log) d (Step.sender_node m.from) m.body).items);
     polls = λ name d v o. none;
     opens = λ name l from until o x. none;
   } where
@@ -155,7 +156,7 @@ module _ (c : Config) (hs : List Happened) (s : State) where
 
 -- ---- the steps so far ----
 pub record AllTold (c : Config) (hs : List Happened) (w : World) : Type 0 where
-  pub acked : (k : ℕ) (name : List ℕ) (n : ℕ) → Writes hs k (lines.Acked name n) → (l : ℕ) × OfLog hs l name × Acknowledged c hs w.state.network.sent l n
+  pub acked : (k : ℕ) (name : List ℕ) (n : ℕ) → Writes hs k (lines.Acked name n) → (l : ℕ) × OfLog hs l name × Acknowledged c hs w.state.network.sent w.state.register l n
   pub records : (k : ℕ) (name : List ℕ) (n : ℕ) (p : List ℕ) → Writes hs k (lines.Record name n p) → (l : ℕ) × ReadsLog c hs l name × RecordAt c hs w.made w.state.network.sent w.state.register l n
   pub holes : (k : ℕ) (name : List ℕ) (low high : ℕ) → Writes hs k (lines.Gap name gaps.Hole low high) → (l : ℕ) × ReadsLog c hs l name × (low ≡ high) × ClosedItem c hs w.made w.state.network.sent w.state.register l low Hole
   pub bridges : (k : ℕ) (name : List ℕ) (low high : ℕ) → Writes hs k (lines.Gap name gaps.Bridge low high) → (l : ℕ) × ReadsLog c hs l name × BridgeAt c hs w.made w.state.network.sent w.state.register l low high
@@ -180,15 +181,15 @@ module _ (c : Config) (hs : List Happened) (w : World) (e : Event) (B : Base c h
     quiet_items ls q = record { records = λ name m p i. absurd (let z = q _ i in cc); holes = λ name low high i. absurd (let z = q _ i in cc); bridges = λ name low high i. absurd (let z = q _ i in cc) }
 
     reads_now : (f : List ℕ) (name : List ℕ) (x : Reader) (m : Msg) → In m w.state.network.sent → m.to ≡ whos.Reader x.number → Reading w.state name x
-        → ItemsTold c hs w.made w.state.network.sent w.state.register w.state (Step.item_lines name (on_answer (Step.set_read c x) x (Step.sender_node m.from) m.body).reader.until (on_answer (Step.set_read c x) x (Step.sender_node m.from) m.body).items)
+        → ItemsTold c hs w.made w.state.network.sent w.state.register w.state (Step.item_lines name (on_answer (looks_at c w.state.register x.log) x (Step.sender_node m.from) m.body).reader.until (on_answer (looks_at c w.state.register x.log) x (Step.sender_node m.from) m.body).items)
     reads_now f name x m i t v =
         let lg : x.log ≡ m.log = B.1.1.logs m x.number name x i (inl t) v.named refl in
         let y = Step.sender_node m.from in
-        let o = subst (λ k. carried.HeldOk (Said hs w.made w.state.register) (TrimFine c hs w.state.network.sent w.state.register) (CloseFine c hs w.made w.state.network.sent w.state.register) (Reached w.state.register) (ShowFine c hs w.made w.state.network.sent w.state.register) (ReleaseFine c hs w.state.network.sent w.state.register) k m.body) (sym lg)
-        (carried.held_of (Said hs w.made w.state.register) (TrimFine c hs w.state.network.sent w.state.register) (CloseFine c hs w.made w.state.network.sent w.state.register) (Reached w.state.register) (ShowFine c hs w.made w.state.network.sent w.state.register) (ReleaseFine c hs w.state.network.sent w.state.register) m.log m.from m.body (R.said.sent m i)) in
-        let k = answered (Step.set_read c x) x y m.body (ReadFine c hs w.made w.state.network.sent w.state.register (along.once_before c hs w e B G R) R.once (along.facts_before c hs w e B G R) x.log)
-        (fine_keeps c hs w.made w.state.network.sent w.state.register (along.once_before c hs w e B G R) R.once (along.facts_before c hs w e B G R) x.log (Step.set_read c x) x y m.body (R.said.readers name x v.named) o) in
-        item_lines_told c hs w.made w.state.network.sent w.state.register w.state (along.once_before c hs w e B G R) R.once (along.facts_before c hs w e B G R) name x _ (on_answer (Step.set_read c x) x y m.body).items v.named k.items
+        let o = subst (λ k. carried.HeldOk (Said hs w.made w.state.register) (TrimFine c hs w.state.network.sent w.state.register) (CloseFine c hs w.made w.state.network.sent w.state.register) (Reached w.state.register) (ShowFine c hs w.made w.state.network.sent w.state.register) (ReleaseFine c hs w.state.network.sent w.state.register) (SaidHere hs w.made w.state.register) (LngFine c hs w.state.network.sent w.state.register) k m.body) (sym lg)
+        (carried.held_of (Said hs w.made w.state.register) (TrimFine c hs w.state.network.sent w.state.register) (CloseFine c hs w.made w.state.network.sent w.state.register) (Reached w.state.register) (ShowFine c hs w.made w.state.network.sent w.state.register) (ReleaseFine c hs w.state.network.sent w.state.register) (SaidHere hs w.made w.state.register) (LngFine c hs w.state.network.sent w.state.register) m.log m.from m.body (R.said.sent m i)) in
+        let k = answered (looks_at c w.state.register x.log) x y m.body (ReadFine c hs w.made w.state.network.sent w.state.register (along.once_before c hs w e B G R) R.once (along.facts_before c hs w e B G R) x.log)
+        (fine_keeps c hs w.made w.state.network.sent w.state.register (along.once_before c hs w e B G R) R.once (along.facts_before c hs w e B G R) x.log (looks_at c w.state.register x.log) x y m.body (R.said.readers name x v.named) o) in
+        item_lines_told c hs w.made w.state.network.sent w.state.register w.state (along.once_before c hs w e B G R) R.once (along.facts_before c hs w e B G R) name x _ (on_answer (looks_at c w.state.register x.log) x y m.body).items v.named k.items
 
   acked_now : AckedTold c (hs ++ happened c w.state e ∷ []) w.state (Step.happens c w.state e).lines
   acked_now = dispatch c w.state e (λ d m. AckedTold c (hs ++ happened c w.state e ∷ []) w.state d.lines) B.0.0 (acked_cases c (hs ++ happened c w.state e ∷ []) w.state e
@@ -203,8 +204,8 @@ module _ (c : Config) (hs : List Happened) (w : World) (e : Event) (B : Base c h
   unfolding AckedTold finish
   told_step = record {
     acked = λ k name n wr. elim (line_by k (lines.Acked name n) (λ h. cc) wr) [
-      | inl o ↦ (let z = T.acked k name n o in (z.0, of_log_grows hs e (Step.happens c w.state e) z.0 name z.1, along.acks_both c hs w e B G R z.0 n z.2))
-      | inr o ↦ (let z = acked_now name n o in (z.0.log, of_log_grows hs e (Step.happens c w.state e) z.0.log name (counts_of c hs w B name z.0 z.1).known, along.acks_after c hs w e B G R z.0.log n z.2))
+      | inl o ↦ (let z = T.acked k name n o in (z.0, of_log_grows hs w.state.register e (Step.happens c w.state e) z.0 name z.1, along.acks_both c hs w e B G R z.0 n z.2))
+      | inr o ↦ (let z = acked_now name n o in (z.0.log, of_log_grows hs w.state.register e (Step.happens c w.state e) z.0.log name (counts_of c hs w B name z.0 z.1).known, along.acks_after c hs w e B G R z.0.log n z.2))
     ];
     records = λ k name n p wr. elim (line_by k (lines.Record name n p) (λ h. cc) wr) [
       | inl o ↦ (let z = T.records k name n p o in (z.0, reads_grows c hs (happened c w.state e) z.0 name z.1, record_next z.0 n z.2))

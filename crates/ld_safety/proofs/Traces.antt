@@ -8,11 +8,11 @@ use Rattle.ld_schedule.specs.declared.event.Event.TheVariants as events
 use Rattle.ld_transcript.specs.declared.line.Line.{Line}
 use Rattle.ld_config.specs.declared.config.Config.{Config}
 use Rattle.ld_msg.specs.Network.{oldest_new}
-use Rattle.ld_machine.specs.State.{State, Stepped, start, finish, or_none}
+use Rattle.ld_machine.specs.State.{State, Stepped, finish, or_none}
 use Rattle.ld_machine.specs.Step.{happens, delivers}
 use Rattle.ld_machine.specs.Facts.{Happened}
 use Rattle.ld_machine.specs.World.{World, begin}
-use Rattle.ld_machine.specs.Run.{Went, Move, Takes, flow_steps, flow_moves, flows, one_step, steps_of, moves_of, step, history_from, history, moves_from, moves, lines_of, state_after, next_world, world_after}
+use Rattle.ld_machine.specs.Run.{Went, Move, Takes, flow_steps, flow_moves, flows, one_step, made_by, steps_of, moves_of, step, history_from, history, moves_from, moves, lines_of, state_after, next_world, world_after}
 pub use Rattle.ld_machine.specs.Run.{happened, trace}
 use Rattle.ld_safety.specs.OneRun.{says_something, lines_in, LinesAreTheSteps, StepsAreTheTrace}
 
@@ -40,7 +40,7 @@ record SameSteps (c : Config) (w : World) (v : Went) (f : Stepped) (es : List Mo
   lines : telling (lines_in v.happened) ≡ telling f.lines
 
 flow_case : (k : ℕ) (c : Config) (w : World) → ((v : World) → SameSteps c v (flow_steps k c v.state) (flows k c v.state) (flow_moves k c v.state)) → (o : Option ℕ) → SameSteps c w
-    (elim o as (λ _. Went) [ None ↦ record { state = w.state; happened = [] } | Some i ↦ (let r : Stepped = finish (delivers c w.state i) in let rest : Went = flow_steps k c r.state in record { state = rest.state; happened = record { event = events.Deliver i; lines = r.lines } ∷ rest.happened }) ])
+    (elim o as (λ _. Went) [ None ↦ record { state = w.state; happened = [] } | Some i ↦ (let r : Stepped = finish (delivers c w.state i) in let rest : Went = flow_steps k c r.state in record { state = rest.state; happened = made_by w.state (events.Deliver i) r ∷ rest.happened }) ])
     (elim o as (λ _. Stepped) [ None ↦ record { state = w.state; lines = [] } | Some i ↦ (let r : Stepped = finish (delivers c w.state i) in let rest : Stepped = flows k c r.state in record { state = rest.state; lines = r.lines ++ rest.lines }) ])
     (elim o as (λ _. List Move) [ None ↦ [] | Some i ↦ Takes (events.Deliver i) ∷ flow_moves k c (finish (delivers c w.state i)).state ])
 unfolding happens world_after
@@ -61,7 +61,7 @@ no_none : (ls : List Line) → telling ls ≡ telling (or_none ls)
 no_none [] = refl
 no_none (l ∷ ls) = refl
 
-one_same : (c : Config) (w : World) (e : Event) → SameSteps c w (one_step e (finish (happens c w.state e))) (finish (happens c w.state e)) (Takes e ∷ [])
+one_same : (c : Config) (w : World) (e : Event) → SameSteps c w (one_step w.state e (finish (happens c w.state e))) (finish (happens c w.state e)) (Takes e ∷ [])
 unfolding world_after
 one_same c w e = record { steps = refl; state = refl; reached = refl; lines = ap telling (append-nil (finish (happens c w.state e)).lines) }
 
@@ -84,6 +84,7 @@ event_same c w (events.Up n) = one_same c w (events.Up n)
 event_same c w (events.Wipe n) = one_same c w (events.Wipe n)
 event_same c w (events.Fail n k) = one_same c w (events.Fail n k)
 event_same c w (events.Tear n k p) = one_same c w (events.Tear n k p)
+event_same c w (events.Set l r x set) = one_same c w (events.Set l r x set)
 event_same c w (events.RegFail k done) = one_same c w (events.RegFail k done)
 
 -- so are the steps of a run

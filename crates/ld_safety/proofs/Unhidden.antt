@@ -7,7 +7,7 @@ use Rattle.ld_transcript.specs.declared.line.Line.TheVariants as lines
 use Rattle.ld_transcript.specs.declared.line.GapKind.{GapKind}
 use Rattle.ld_msg.specs.declared.msg.What.TheVariants.{Hole}
 use Rattle.ld_msg.specs.Digest.{Told}
-use Rattle.ld_machine.specs.Config.{spec_in}
+use Rattle.ld_machine.specs.Config.{spec_of}
 use Rattle.ld_machine.specs.Facts.{Happened, Writes, ReadsLog, Opening, Acks, GivesRecord, GivesGap}
 use Rattle.ld_machine.specs.Safe.{SaysNone, NothingHidden}
 use Rattle.ld_machine.specs.World.{World, In}
@@ -38,11 +38,11 @@ module _ (c : Config) (hs : List Happened) (w : World) (E : Everything c hs w) w
   once : AppendsOnce hs
   once l n p q a b = one_payload hs w.state.sequencers w.state.register E.0.1.0.0.0.1 l n a.0 b.0 p q a.1 b.1
 
-  facts : (l x b : ℕ) (d : List Told) → In (plan_of l x b d) w.made → PlanFacts hs w.made w.state.network.sent (spec_in l c.logs) l x b d
+  facts : (l x b : ℕ) (d : List Told) → In (plan_of l x b d) w.made → PlanFacts hs w.made w.state.network.sent (spec_of c w.state.register l x) l x b d
   facts l x b d i = plan_facts c hs w.state.network.sent w.made w.state.register l x b d (E.0.1.1.plans l x b d i)
 
   acked_record : (l n j : ℕ) → Acks hs l n j → RecordAt c hs w.made w.state.network.sent w.state.register l n
-  acked_record l n j a = let z = E.1.acked j a.name n a.told in let q : z.0 ≡ l = Some_inj (sym z.1 ∙ a.of_log) in inl (subst (λ k. Acknowledged c hs w.state.network.sent k n) q z.2)
+  acked_record l n j a = let z = E.1.acked j a.name n a.told in let q : z.0 ≡ l = Some_inj (sym z.1 ∙ a.of_log) in inl (subst (λ k. Acknowledged c hs w.state.network.sent w.state.register k n) q z.2)
 
   given_record : (l n j : ℕ) (p : List ℕ) → GivesRecord c hs l n p j → RecordAt c hs w.made w.state.network.sent w.state.register l n
   given_record l n j p g = let z = E.1.records j g.name n p g.told in subst (λ k. RecordAt c hs w.made w.state.network.sent w.state.register k n) (same_reads c hs z.0 l g.name z.1 g.of_log) z.2

@@ -40,7 +40,7 @@ count_more p q y (x ∷ xs) h (inr i) a b = let ih : suc (how_many p xs) ≤ how
   | inr t ↦ elim (cases_Bool (q x)) [ inl u ↦ omega (arith, how_many-no p x xs t, how_many-yes q x xs u) | inr u ↦ omega (arith, how_many-no p x xs t, how_many-no q x xs u) ]
 ]
 
--- these nodes of the log pass a test
+-- these nodes of a set pass a test
 pub record VotersBy (s : Spec) (tells : ℕ → Bool) (ys : List ℕ) : Type 0 where
   pub counted : length ys ≤ how_many (λ x. is_in x ys) (nodes_of s)
   pub stored : (y : ℕ) → is_in y ys ≡ true → tells y ≡ true
@@ -60,7 +60,7 @@ one_voter s tells y ys i t v = elim (cases_Bool (is_in y ys)) [
 pub counted_votes : (s : Spec) (tells : ℕ → Bool) (ys : List ℕ) → VotersBy s tells ys → s.r ≤ length ys → s.r ≤ how_many tells (nodes_of s)
 counted_votes s tells ys v h = let c = count_mono (λ x. is_in x ys) tells (nodes_of s) (λ x i g. v.stored x g) in let u = v.counted in omega arith
 
--- these nodes of the log stored the number for the ballot
+-- these nodes of a set stored the number for the ballot
 abbrev pub Voters : Spec → List Msg → ℕ → ℕ → ℕ → List ℕ → Type 0
 Voters s sent l n b ys = VotersBy s (tells_stored sent l n b) ys
 

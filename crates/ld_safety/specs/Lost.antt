@@ -1,9 +1,9 @@
 -- Nodes that are lost, and those that may be: where a crash left two states that a load may find, in one of them.
-use Rattle.std.specs.Prelude.{ℕ, ◌≡◌, ◌≤◌, ◌<◌, ◌⊎◌, List, [], ◌∷◌, ◌++◌, Option, Some, None, Bool, true, false, ◌&&◌, ◌||◌}
+use Rattle.std.specs.Prelude.{ℕ, ◌≡◌, ◌≤◌, ◌<◌, ◌⊎◌, List, [], ◌∷◌, ◌++◌, Option, Some, None, Bool, true, false, ◌&&◌, ◌||◌, nat_le, if◌then◌else◌}
 use Rattle.ld_table.specs.Table.{find}
 use Rattle.ld_table.specs.Named.{find_named}
 use Rattle.ld_table.specs.Words.{is_in, how_many}
-use Rattle.ld_lsn.specs.Number.{home_epoch}
+use Rattle.ld_lsn.specs.Number.{epoch_of, esn_of, home_epoch}
 use Rattle.ld_config.specs.declared.config.Config.{Config}
 use Rattle.ld_config.specs.Bounds.{IsInBounds}
 use Rattle.ld_transcript.specs.declared.line.Line.TheVariants as lines
@@ -11,11 +11,11 @@ use Rattle.ld_msg.specs.declared.msg.Summary.{Summary}
 use Rattle.ld_msg.specs.Reading.{Held, lacks}
 use Rattle.ld_msg.specs.Reader.{Reader}
 use Rattle.ld_op.specs.Plain.{Plain, log_of, is_lost}
-use Rattle.ld_machine.specs.Config.{spec_of, set_at, set_of}
+use Rattle.ld_machine.specs.Config.{spec_of, set_at}
 use Rattle.ld_machine.specs.Disk.{Node, Cut}
 use Rattle.ld_machine.specs.State.{node_at}
 use Rattle.ld_machine.specs.Facts.{Writes, Lost, standing, stands_for}
-use Rattle.ld_machine.specs.World.{World, begin, MayHold, has_told, says_settled}
+use Rattle.ld_machine.specs.World.{World, begin, MayHold, has_told, says_stored, says_settled}
 use Rattle.ld_machine.specs.Run.{Move, after_step, world_after, step_happened, trace}
 use Rattle.ld_machine.specs.Invariant.{Closed}
 use Rattle.ld_machine.specs.Losses.{EndsAsLoss}
@@ -41,7 +41,7 @@ IsWhole l x = (p : Plain) → MayHold x p → (0 < p.generation) × ((log_of p l
 
 -- a node that is so stays so, and no line says that it is rebuilt, until a line says that it is wiped: also where a crash hid the record that it is rebuilt, so that no line told of it, and a load found it
 abbrev pub WholeStays : Type 0
-WholeStays = (c : Config) (first last : List Move) (y l : ℕ) → IsInBounds c → is_in y (set_of c l) ≡ true →
+WholeStays = (c : Config) (first last : List Move) (y l : ℕ) → IsInBounds c →
     IsWhole l (node_at (world_after c (begin c) first).state y) →
     ((k : ℕ) → Writes (trace c (world_after c (begin c) first) last) k (lines.NodeWiped y) → ⊥) →
     IsWhole l (node_at (world_after c (world_after c (begin c) first) last).state y) × ((k : ℕ) → Writes (trace c (world_after c (begin c) first) last) k (lines.NodeRebuilt y l) → ⊥)
@@ -73,20 +73,24 @@ pub record SeenLost (c : Config) (before : List Move) (asks : Move) (l s y : ℕ
   pub state : is_lost_at l (home_epoch s) (node_at (after_step c (world_after c (begin c) before) asks).state y) ≡ true
   pub lines : stands_for (home_epoch s) (standing y l (trace c (begin c) before ++ step_happened c (world_after c (begin c) before).state asks ∷ []) Lost) ≡ true
 
--- when a reader asks once more for a number that it then calls lost, each node of the log is lost for it, or had shown the reader a clean page without it
+-- when a reader asks once more for a number that it then calls lost, each node of the number's epoch is lost for it, or had shown the reader a clean page without it
 abbrev pub LossesWereSeen : Type 0
 LossesWereSeen = (c : Config) (name : List ℕ) (l s round : ℕ) (before : List Move) (asks : Move) (between : List Move) (gives : Move) (y : ℕ) → IsInBounds c →
-    EndsAsLoss c name l s round before asks between gives → is_in y (set_at c l (home_epoch s)) ≡ true →
+    EndsAsLoss c name l s round before asks between gives → is_in y (set_at c (after_step c (world_after c (begin c) before) asks).state.register l (home_epoch s)) ≡ true →
     SeenLost c before asks l s y ⊎ ShowsWithout (after_step c (world_after c (begin c) before) asks) name s y
 
--- as many nodes as the log has copies are lost that had answered the number to the closing plan: each in its plain state, which a crash leaves where the record that the node writes is lost.
+-- the node has answered for the copy of the number that counts where its epoch is closed so: it settled the number for the closing plan, or it stored the append where that was known good
+abbrev pub has_copied : World → ℕ → ℕ → Summary → ℕ → Bool
+has_copied w l s y n = if nat_le (esn_of s) y.lng then has_told w (says_stored s) l (epoch_of s) n else has_told w (says_settled s) l y.ballot n
+
+-- as many nodes of the number's epoch as it has copies are lost that had so answered: each in its plain state, which a crash leaves where the record that the node writes is lost.
 -- It doesn't hold that each of them is lost in both states that a crash leaves, nor in the one that a load would find: a lost node that crashes in the record that it is rebuilt is not lost after this record.
 -- With three nodes and two copies: nodes 1 and 3 have a record; node 3 is wiped and gets it back from node 1, which is wiped then; a reader hears that node 3 is lost, which crashes in that record, at the third writing call, with a picture of the open gate.
 -- The reader hears that node 1 is lost, and asks both once more. A load of node 3 would find it rebuilt now; it crashes in its next load with a picture of the closed gate, loads, is found lost, and says so under the generation that was held for it, as does node 1.
 -- So the number is called lost, and one node alone had been lost in both states, and in the state that a load would find (the run is `torn_later` in ld_rows).
 abbrev pub CopiesAreLost : Config → World → ℕ → ℕ → Type 0
 CopiesAreLost c w l s = (y : Summary) × Closed w l (home_epoch s) y ×
-    ((spec_of c l (home_epoch s)).r ≤ how_many (λ n. is_lost_at l (home_epoch s) (node_at w.state n) && has_told w (says_settled s) l y.ballot n) (set_at c l (home_epoch s)))
+    ((spec_of c w.state.register l (home_epoch s)).r ≤ how_many (λ n. is_lost_at l (home_epoch s) (node_at w.state n) && has_copied w l s y n) (set_at c w.state.register l (home_epoch s)))
 
 -- that holds where the reader asks once more for a number that it then calls lost
 abbrev pub CopiesWereLost : Type 0

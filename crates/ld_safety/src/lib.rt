@@ -1,8 +1,7 @@
 //! What holds of every run of the written machine, as laws on empty functions.
 #![tactic(auto)]
 
-ghost use Rattle.std.specs.Prelude.{ℕ, ◌≡◌, ◌<◌, List, [], false, true};
-ghost use Rattle.ld_table.specs.Words.{is_in};
+ghost use Rattle.std.specs.Prelude.{ℕ, ◌≡◌, ◌≤◌, ◌<◌, List, [], false, true};
 ghost use Rattle.ld_lsn.specs.Number.{epoch_of, numbered};
 ghost use Rattle.ld_msg.specs.declared.msg.Summary.{Summary};
 ghost use Rattle.ld_config.specs.declared.config.Config.{Config};
@@ -12,12 +11,11 @@ ghost use Rattle.ld_machine.specs.Safe.{ItemsTile, LossesHappened, NothingHidden
 ghost use Rattle.ld_transcript.specs.declared.line.Line.TheVariants.{NodeRebuilt, NodeWiped};
 ghost use Rattle.ld_op.specs.Plain.{Plain, log_of};
 ghost use Rattle.ld_op.specs.Ticks.{missing};
-ghost use Rattle.ld_machine.specs.Config.{set_of};
 ghost use Rattle.ld_machine.specs.State.{node_at};
 ghost use Rattle.ld_machine.specs.Facts.{Lost, Writes, standing, stands_for};
 ghost use Rattle.ld_machine.specs.World.{MayHold, Stored, begin, chosen};
 ghost use Rattle.ld_machine.specs.Run.{InvariantHolds, Move, history, trace, world_after};
-ghost use Rattle.ld_machine.specs.Invariant.{Acked, Agrees, BallotsDrawn, Closed, CopiesOf, CopyAt, EntriesAreItems, GenerationsDrawn, HeldWasSent, IsOpen, OnePlan, OpenTrims, ReleasesAcked, Retains, SealsHold, SequencersDrawn, StandsOn, SummariesAgree, TrimsIssued};
+ghost use Rattle.ld_machine.specs.Invariant.{Acked, Agrees, AppendsOf, BallotsDrawn, Closed, CopiesOf, CopyAt, EntriesAreItems, GenerationsDrawn, HeldWasSent, IsOpen, OnePlan, OpenTrims, ReleasesAcked, Retains, SealsHold, SequencersDrawn, StandsOn, SummariesAgree, TrimsIssued};
 ghost use Rattle.ld_safety.specs.Lost.{CopiesWereLost, LossesWereSeen, LostOnce, WholeStays, may_be_lost};
 ghost use Rattle.ld_safety.specs.OneRun.{LinesAreTheSteps, StepsAreTheTrace};
 
@@ -61,14 +59,15 @@ pub fn trims_were_issued()
     ensures { (c : Config) (es : List Event) → IsInBounds c → TrimsWereIssued c (history c es) }
 {}
 
-/// What as many nodes as there are copies stored for a ballot is in each plan of a greater ballot, unless it is trimmed there.
+/// What as many nodes as there are copies stored for a ballot is in each plan of a greater ballot, unless it is trimmed or known good there.
 pub fn recoveries_agree()
     ensures { (c : Config) (ms : List Move) → IsInBounds c → Agrees c (world_after c (begin c) ms) }
 {}
 
-/// In every state, each number of a closed epoch between its trim and its end was settled for the closing plan by as many nodes as there are copies, and each of these is blank, or lost for the epoch, or trimmed at the number, or has what the closing plan says.
+/// In every state, each number of a closed epoch above its trim and its last known good place and below its end was settled for the closing plan by as many nodes as there are copies, and each of these is blank, or lost for the epoch, or trimmed at the number, or has what the closing plan says; up to that place the number's append was stored by as many, and each of these is blank, or lost, or trimmed so, or has its record.
 pub fn copies_stand()
-    ensures { (c : Config) (ms : List Move) → IsInBounds c → (l e k : ℕ) (s : Summary) → Closed (world_after c (begin c) ms) l e s → s.trim < numbered e k → 0 < k → k < s.end → CopiesOf c (world_after c (begin c) ms) l (numbered e k) s.ballot }
+    ensures settled { (c : Config) (ms : List Move) → IsInBounds c → (l e k : ℕ) (s : Summary) → Closed (world_after c (begin c) ms) l e s → s.trim < numbered e k → s.lng < k → k < s.end → CopiesOf c (world_after c (begin c) ms) l (numbered e k) s.ballot }
+    ensures known_good { (c : Config) (ms : List Move) → IsInBounds c → (l e k : ℕ) (s : Summary) → Closed (world_after c (begin c) ms) l e s → s.trim < numbered e k → 0 < k → k ≤ s.lng → AppendsOf c (world_after c (begin c) ms) l (numbered e k) }
 {}
 
 /// In every state, what a node stored for a ballot it still has with at least that ballot, unless it doesn't serve the epoch, was trimmed at the number, or a later plan cut the number off.
@@ -116,12 +115,12 @@ pub fn trims_are_issued_points()
     ensures { (c : Config) (ms : List Move) → IsInBounds c → TrimsIssued (trace c (begin c) ms) (world_after c (begin c) ms) }
 {}
 
-/// In every state, each entry at a node, in a store or in a page, each item of a plan that is stored and each append that waits says what its ballot says of its number, and a record is the payload that was appended under it.
+/// In every state, each entry at a node, in a store or in a page, each item of a plan that is stored and each append that waits says what its ballot says of its number, or was refilled where it was known good as the epoch was closed, and a record is the payload that was appended under it.
 pub fn entries_are_items()
     ensures { (c : Config) (ms : List Move) → IsInBounds c → EntriesAreItems (trace c (begin c) ms) (world_after c (begin c) ms) }
 {}
 
-/// In every state, what a plan says that closed its epoch, or that is settled while its epoch is open, is in each plan of a greater ballot, unless it is trimmed there, and none of these ends before it.
+/// In every state, what a plan says that closed its epoch, or that is settled while its epoch is open, is in each plan of a greater ballot, unless it is trimmed or known good in one of the two, and none of these ends before it.
 pub fn what_stands_is_followed()
     ensures { (c : Config) (ms : List Move) → IsInBounds c → StandsOn c (world_after c (begin c) ms) }
 {}
@@ -150,9 +149,9 @@ pub fn rebuilt_once()
     ensures hidden { WholeStays }
 {}
 
-/// In every state, a node of a log that may be lost for an epoch stands lost for it in the lines.
+/// In every state, a node that may be lost for an epoch of a log stands lost for it in the lines.
 pub fn lost_stands_in_lines()
-    ensures { (c : Config) (ms : List Move) → IsInBounds c → (y l e : ℕ) → is_in y (set_of c l) ≡ true → may_be_lost l e (node_at (world_after c (begin c) ms).state y) ≡ true → stands_for e (standing y l (trace c (begin c) ms) Lost) ≡ true }
+    ensures { (c : Config) (ms : List Move) → IsInBounds c → (y l e : ℕ) → may_be_lost l e (node_at (world_after c (begin c) ms).state y) ≡ true → stands_for e (standing y l (trace c (begin c) ms) Lost) ≡ true }
 {}
 
 /// A node that is lost for an epoch under a generation, and is so at a later moment, was so at each moment between.
@@ -160,17 +159,17 @@ pub fn lost_once()
     ensures { LostOnce }
 {}
 
-/// When a reader asks once more for a number that it then calls lost, each node of the log is lost for its epoch, in its plain state and in the lines, or had shown the reader a clean page without the number.
+/// When a reader asks once more for a number that it then calls lost, each node of the number's epoch is lost for it, in its plain state and in the lines, or had shown the reader a clean page without the number.
 pub fn losses_were_seen()
     ensures { LossesWereSeen }
 {}
 
-/// A number that a reader calls lost had a moment before at which as many nodes of its log as it has copies stood lost for its epoch.
+/// A number that a reader calls lost had a moment before at which as many nodes of its epoch as it has copies stood lost for it.
 pub fn losses_happened()
     ensures { (c : Config) (es : List Event) → IsInBounds c → LossesHappened c (history c es) }
 {}
 
-/// When a reader asks once more for a number that it then calls lost, the number's epoch is closed, and of the nodes that settled the number for the closing plan as many as the log has copies are lost for it, each in its plain state: before a record that was cut short, where there is one.
+/// When a reader asks once more for a number that it then calls lost, the number's epoch is closed, and of the nodes that settled the number for the closing plan, or stored its append where it was known good, as many as the epoch has copies are lost for it, each in its plain state: before a record that was cut short, where there is one.
 pub fn copies_were_lost()
     ensures { CopiesWereLost }
 {}

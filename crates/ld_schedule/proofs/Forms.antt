@@ -1,12 +1,12 @@
 -- Each form of a line is a word and its parts.
-use Rattle.std.specs.Prelude.{codes}
+use Rattle.std.specs.Prelude.{codes, Bool}
 use Rattle.std.proofs.Common.{◌≡◌, ℕ, List, refl, sym, subst, ◌∙◌, decimal, Err}
 use Rattle.ld_lsn.specs.Number.{lsn_text}
 use Rattle.ld_ids.specs.Bytes.{AreBytes, hex_text}
 use Rattle.ld_ids.specs.Id.{IsNode, IsLog}
 use Rattle.ld_schedule.specs.declared.event.Picture.{Picture}
 use Rattle.ld_schedule.specs.declared.event.Event.{Event}
-use Rattle.ld_schedule.specs.declared.event.Event.TheVariants.{Format, Activate, Append, Trim, Retry, Drop, Deliver, Lose, Flow, Open, Poll, Tick, Down, Up, Wipe, Fail, Tear, RegFail}
+use Rattle.ld_schedule.specs.declared.event.Event.TheVariants.{Format, Activate, Append, Trim, Retry, Drop, Deliver, Lose, Flow, Open, Poll, Tick, Down, Up, Wipe, Fail, Tear, Set, RegFail}
 use Rattle.ld_schedule.specs.declared.form.Form.{Form}
 use Rattle.ld_schedule.specs.declared.form.Form.TheVariants as forms
 use Rattle.ld_schedule.specs.declared.form.NodeForm.TheVariants as node_forms
@@ -15,8 +15,10 @@ use Rattle.ld_schedule.specs.declared.form.CountForm.TheVariants as count_forms
 use Rattle.ld_schedule.specs.declared.words.Count.{Count}
 use Rattle.ld_schedule.specs.declared.words.Place.{Place}
 use Rattle.ld_schedule.specs.declared.digits.Done.{Done}
+use Rattle.ld_schedule.specs.declared.nodes.Factor.{Factor}
+use Rattle.ld_schedule.specs.declared.nodes.Extras.{Extras}
 use Rattle.ld_schedule.specs.Reading.{behind, both, joined, Always}
-use Rattle.ld_schedule.specs.Grammar.{IsName, IsCount, IsMessage, IsLsn, IsPicture, picture_text, done_text, event_text}
+use Rattle.ld_schedule.specs.Grammar.{IsName, IsCount, IsMessage, IsLsn, IsPicture, IsFactor, AreExtras, IsNodes, picture_text, done_text, nodes_text, event_text}
 use Rattle.ld_schedule.specs.Form.{IsOfForm}
 use Rattle.ld_schedule.specs.declared.fault.LineFault.{LineFault}
 use Rattle.ld_schedule.specs.Reading.{IsText, IsRead}
@@ -39,6 +41,18 @@ place_text p = decimal p.message
 
 abbrev pub done_word : Done → List ℕ
 done_word d = done_text d.done
+
+abbrev pub is_factor : Factor → Type 0
+is_factor f = IsFactor f.r
+
+abbrev pub factor_text : Factor → List ℕ
+factor_text f = decimal f.r
+
+abbrev pub are_extras : Extras → Type 0
+are_extras e = AreExtras e.extras
+
+abbrev pub extras_text : Extras → List ℕ
+extras_text e = decimal e.extras
 
 -- a form's events are those of its parts
 pub record IsFormOf {V : Type 0} (named : V → Type 0) (text : V → List ℕ) (make : V → Event) (form : Form) : Type 0 where
@@ -260,6 +274,18 @@ back_tear _ is = let other = is.form_is in cc
 pub form_tear : IsFormOf (both IsNode (both is_count IsPicture)) (behind (codes "tear ") (joined decimal 32 (joined count_text 32 picture_text))) make_tear (forms.Node node_forms.Tear)
 unfolding event_text
 form_tear = record { into = λ v can. (record { form_is = refl; can = (can.0, can.1.0, can.1.1) }, refl); back = back_tear }
+
+abbrev pub make_set : ℕ × (Factor × (Extras × List Bool)) → Event
+make_set v = Set v.0 v.1.0.r v.1.1.0.extras v.1.1.1
+
+back_set : (w : Event) → IsOfForm (forms.Count count_forms.Set) w → (v : ℕ × (Factor × (Extras × List Bool))) × (both IsLog (both is_factor (both are_extras IsNodes))) v × (behind (codes "set ") (joined decimal 32 (joined factor_text 32 (joined extras_text 32 nodes_text))) v ≡ event_text w)
+unfolding event_text
+back_set (Set l r x s) is = ((l, (record { r = r }, (record { extras = x }, s))), (is.can.0, (is.can.1, (is.can.2, is.can.3))), refl)
+back_set _ is = let other = is.form_is in cc
+
+pub form_set : IsFormOf (both IsLog (both is_factor (both are_extras IsNodes))) (behind (codes "set ") (joined decimal 32 (joined factor_text 32 (joined extras_text 32 nodes_text)))) make_set (forms.Count count_forms.Set)
+unfolding event_text
+form_set = record { into = λ v can. (record { form_is = refl; can = (can.0, can.1.0, can.1.1.0, can.1.1.1) }, refl); back = back_set }
 
 abbrev pub make_regfail : Count × Done → Event
 make_regfail v = RegFail v.0.count v.1.done

@@ -8,13 +8,16 @@ use Rattle.ld_lsn.specs.Text.{Lacks}
 use Rattle.ld_lsn.specs.Number.{epoch_of, esn_of, pair_text, lsn_text}
 use Rattle.ld_lsn.proofs.Texts.{Lacks-append}
 use Rattle.ld_ids.specs.Bytes.{AreBytes, hex_text}
+use Rattle.ld_ids.specs.Set.{members, numbers_text}
 use Rattle.ld_schedule.specs.declared.event.Picture.{Picture}
 use Rattle.ld_schedule.specs.declared.event.Picture.TheVariants as pictures
 use Rattle.ld_schedule.specs.declared.event.Event.{Event}
-use Rattle.ld_schedule.specs.declared.event.Event.TheVariants.{Format, Activate, Append, Trim, Retry, Drop, Deliver, Lose, Flow, Open, Poll, Tick, Down, Up, Wipe, Fail, Tear, RegFail}
-use Rattle.ld_schedule.specs.Grammar.{IsName, IsLsn, IsPicture, is_name_byte, is_digit, picture_text, done_text, IsNamed, event_text, blank}
+use Rattle.ld_schedule.specs.declared.event.Event.TheVariants.{Format, Activate, Append, Trim, Retry, Drop, Deliver, Lose, Flow, Open, Poll, Tick, Down, Up, Wipe, Fail, Tear, Set, RegFail}
+use Rattle.ld_schedule.specs.Grammar.{IsName, IsLsn, IsPicture, is_name_byte, is_digit, IsNodes, picture_text, done_text, nodes_text, IsNamed, event_text, blank}
 use Rattle.ld_schedule.specs.Form.{form_of}
+use Rattle.ld_schedule.specs.Rising.{IsRising}
 use Rattle.ld_schedule.specs.WordLaws.{decimal_lacks}
+use Rattle.ld_schedule.proofs.Rising.{members_rising}
 use Rattle.ld_schedule.proofs.HexTexts.{encode_passes}
 use Rattle.ld_schedule.proofs.OneEvent.{byte_bytes, word_of, words_lack, parts_of, text_parts}
 
@@ -50,6 +53,14 @@ picture_10 pictures.Old named = (omega arith, (omega arith, (omega arith, tt)))
 picture_10 pictures.New named = (omega arith, (omega arith, (omega arith, tt)))
 picture_10 (pictures.Byte b) named = digits_10 (b ∷ []) (byte_bytes b named)
 
+numbers_10 : (low : ℕ) (ns : List ℕ) → IsRising low ns → Lacks 10 (numbers_text ns)
+numbers_10 low [] are = tt
+numbers_10 low (n ∷ []) are = number_10 n (omega (arith, are.0.1))
+numbers_10 low (n ∷ m ∷ ns) are = Lacks-append 10 (decimal n) (44 ∷ numbers_text (m ∷ ns)) (number_10 n (omega (arith, are.0.1))) (omega arith, numbers_10 n (m ∷ ns) are.1)
+
+nodes_10 : (set : List Bool) → IsNodes set → Lacks 10 (nodes_text set)
+nodes_10 set can = numbers_10 0 (members set) (members_rising set can.0)
+
 done_10 : (d : Bool) → Lacks 10 (done_text d)
 done_10 true = (omega arith, (omega arith, (omega arith, (omega arith, tt))))
 done_10 false = (omega arith, (omega arith, (omega arith, (omega arith, (omega arith, (omega arith, tt))))))
@@ -75,6 +86,7 @@ parts_10 (Up n) can = number_10 n (omega (arith, can.1))
 parts_10 (Wipe n) can = number_10 n (omega (arith, can.1))
 parts_10 (Fail n k) can = between (decimal n) (decimal k) (number_10 n (omega (arith, can.0.1))) (number_10 k (omega (arith, can.1.1)))
 parts_10 (Tear n k p) can = between (decimal n) (decimal k ++ blank ∷ picture_text p) (number_10 n (omega (arith, can.0.1))) (between (decimal k) (picture_text p) (number_10 k (omega (arith, can.1.1))) (picture_10 p can.2))
+parts_10 (Set l r x s) can = between (decimal l) (decimal r ++ blank ∷ (decimal x ++ blank ∷ nodes_text s)) (number_10 l (omega (arith, can.0.1))) (between (decimal r) (decimal x ++ blank ∷ nodes_text s) (number_10 r (omega (arith, can.1.1))) (between (decimal x) (nodes_text s) (number_10 x (omega (arith, can.2))) (nodes_10 s can.3)))
 parts_10 (RegFail k d) can = between (decimal k) (done_text d) (number_10 k (omega (arith, can.1))) (done_10 d)
 
 pub text_lacks : (e : Event) → IsNamed e → Lacks 10 (event_text e)

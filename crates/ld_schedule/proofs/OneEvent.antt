@@ -1,29 +1,30 @@
 -- A text is that of one event.
 use Rattle.std.specs.Prelude.{codes, Bool, ◌&&◌, if◌then◌else◌, ◌==◌, Result}
 use Rattle.std.specs.Cmp.Lexicographic.{pointwise}
-use Rattle.std.proofs.Common.{◌≡◌, inr, ℕ, zero, suc, ◌<◌, List, [], ◌∷◌, ◌++◌, length, get_or, true, false, refl, sym, ap, ◌∙◌, arith, decimal, Ok}
+use Rattle.std.proofs.Common.{◌≡◌, ℕ, zero, suc, ◌<◌, List, [], ◌∷◌, ◌++◌, length, get_or, true, false, refl, sym, ap, ◌∙◌, arith, decimal, Ok}
 use Rattle.std.proofs.lemmas.Bool.{and_parts}
 use Rattle.std.proofs.lemmas.Fmt.{decimal_injective}
 use Rattle.hex.specs.Hex.{lower_digits, decode_of}
 use Rattle.hex.specs.declared.error.FromHexError.{FromHexError}
 use Rattle.hex.proofs.HexLemmas.{length-encode_with, decode_of-encode_lower}
 use Rattle.ld_lsn.specs.Text.{Lacks}
-use Rattle.ld_lsn.specs.Number.{epoch_of, esn_of, pair_text, lsn_text}
-use Rattle.ld_lsn.proofs.Texts.{parted, pair_parts}
+use Rattle.ld_lsn.specs.Number.{lsn_text}
+use Rattle.ld_lsn.proofs.Texts.{parted, one_lsn}
 use Rattle.ld_ids.specs.Bytes.{AreBytes, hex_text}
 use Rattle.ld_ids.specs.Id.{IsNode, IsLog}
 use Rattle.ld_schedule.specs.declared.event.Picture.TheVariants as pictures
 use Rattle.ld_schedule.specs.declared.event.Event.{Event}
-use Rattle.ld_schedule.specs.declared.event.Event.TheVariants.{Format, Activate, Append, Trim, Retry, Drop, Deliver, Lose, Flow, Open, Poll, Tick, Down, Up, Wipe, Fail, Tear, RegFail}
+use Rattle.ld_schedule.specs.declared.event.Event.TheVariants.{Format, Activate, Append, Trim, Retry, Drop, Deliver, Lose, Flow, Open, Poll, Tick, Down, Up, Wipe, Fail, Tear, Set, RegFail}
 use Rattle.ld_schedule.specs.declared.form.Form.{Form}
 use Rattle.ld_schedule.specs.declared.form.Form.TheVariants as forms
 use Rattle.ld_schedule.specs.declared.form.NodeForm.TheVariants as node_forms
 use Rattle.ld_schedule.specs.declared.form.NameForm.TheVariants as name_forms
 use Rattle.ld_schedule.specs.declared.form.CountForm.TheVariants as count_forms
 use Rattle.ld_schedule.specs.Reading.{AllLack}
-use Rattle.ld_schedule.specs.Grammar.{IsName, IsCount, IsMessage, IsLsn, IsPicture, IsByte, picture_text, byte_text, done_text, is_name_byte, IsNamed, event_text, blank}
+use Rattle.ld_schedule.specs.Grammar.{IsName, IsCount, IsMessage, IsLsn, IsPicture, IsByte, IsFactor, AreExtras, picture_text, byte_text, done_text, nodes_text, is_name_byte, IsNamed, event_text, blank}
 use Rattle.ld_schedule.specs.Form.{form_of}
-use Rattle.ld_schedule.specs.WordLaws.{decimal_lacks, node_lacks, log_lacks, count_lacks, name_lacks, lsn_lacks}
+use Rattle.ld_schedule.specs.WordLaws.{node_lacks, log_lacks, count_lacks, factor_lacks, extras_lack, name_lacks, lsn_lacks}
+use Rattle.ld_schedule.proofs.Rising.{one_nodes}
 
 -- a text of the language is that of one value
 abbrev HasOne : {V : Type 0} → (V → Type 0) → (V → List ℕ) → Type 0
@@ -41,16 +42,14 @@ one_log v w a b e = decimal_injective v w (omega (arith, a.1)) (omega (arith, b.
 one_count : HasOne IsCount decimal
 one_count v w a b e = decimal_injective v w (omega (arith, a.1)) (omega (arith, b.1)) e
 
+one_factor : HasOne IsFactor decimal
+one_factor v w a b e = decimal_injective v w (omega (arith, a.1)) (omega (arith, b.1)) e
+
+one_extras : HasOne AreExtras decimal
+one_extras v w a b e = decimal_injective v w (omega (arith, a)) (omega (arith, b)) e
+
 one_message : HasOne IsMessage decimal
 one_message v w a b e = decimal_injective v w (omega (arith, a)) (omega (arith, b)) e
-
-one_lsn : HasOne IsLsn lsn_text
-unfolding pair_text
-one_lsn v w a b e =
-    let parts = pair_parts (decimal (epoch_of v)) (decimal (esn_of v)) (epoch_of w) (esn_of w) (omega arith) (decimal_lacks 110 (epoch_of v) (inr (omega arith)) (omega arith)) e in
-    let high : epoch_of v ≡ epoch_of w = decimal_injective (epoch_of v) (epoch_of w) (omega arith) (omega arith) parts.0 in
-    let low : esn_of v ≡ esn_of w = decimal_injective (esn_of v) (esn_of w) (omega arith) (omega arith) parts.1 in
-    omega arith
 
 ok_injective : (a b : List ℕ) → ◌≡◌ {A = Result (List ℕ) FromHexError} (Ok a) (Ok b) → a ≡ b
 ok_injective a b e = cc
@@ -124,6 +123,7 @@ word_of (forms.Node node_forms.Up) = codes "up"
 word_of (forms.Node node_forms.Wipe) = codes "wipe"
 word_of (forms.Node node_forms.Fail) = codes "fail"
 word_of (forms.Node node_forms.Tear) = codes "tear"
+word_of (forms.Count count_forms.Set) = codes "set"
 word_of (forms.Count count_forms.RegFail) = codes "regfail"
 
 abbrev is_word : List ℕ → List ℕ → Bool
@@ -149,6 +149,7 @@ told word =
     else if is_word word (codes "wipe") then (forms.Node node_forms.Wipe)
     else if is_word word (codes "fail") then (forms.Node node_forms.Fail)
     else if is_word word (codes "tear") then (forms.Node node_forms.Tear)
+    else if is_word word (codes "set") then (forms.Count count_forms.Set)
     else (forms.Count count_forms.RegFail)
 
 told_again : (form : Form) → told (word_of form) ≡ form
@@ -169,6 +170,7 @@ told_again (forms.Node node_forms.Up) = refl
 told_again (forms.Node node_forms.Wipe) = refl
 told_again (forms.Node node_forms.Fail) = refl
 told_again (forms.Node node_forms.Tear) = refl
+told_again (forms.Count count_forms.Set) = refl
 told_again (forms.Count count_forms.RegFail) = refl
 
 abbrev are_letters : List ℕ → Bool
@@ -193,6 +195,7 @@ letters_of (forms.Node node_forms.Up) = refl
 letters_of (forms.Node node_forms.Wipe) = refl
 letters_of (forms.Node node_forms.Fail) = refl
 letters_of (forms.Node node_forms.Tear) = refl
+letters_of (forms.Count count_forms.Set) = refl
 letters_of (forms.Count count_forms.RegFail) = refl
 
 letters_lack : (c : ℕ) (xs : List ℕ) → is_name_byte c ≡ false → are_letters xs ≡ true → Lacks c xs
@@ -224,6 +227,7 @@ parts_of (Up n) = decimal n
 parts_of (Wipe n) = decimal n
 parts_of (Fail n k) = decimal n ++ blank ∷ decimal k
 parts_of (Tear n k p) = decimal n ++ blank ∷ (decimal k ++ blank ∷ picture_text p)
+parts_of (Set l r x s) = decimal l ++ blank ∷ (decimal r ++ blank ∷ (decimal x ++ blank ∷ nodes_text s))
 parts_of (RegFail k d) = decimal k ++ blank ∷ done_text d
 
 pub text_parts : (e : Event) → event_text e ≡ word_of (form_of e) ++ 32 ∷ parts_of e
@@ -245,6 +249,7 @@ text_parts (Up n) = refl
 text_parts (Wipe n) = refl
 text_parts (Fail n k) = refl
 text_parts (Tear n k p) = refl
+text_parts (Set l r x s) = refl
 text_parts (RegFail k d) = refl
 
 same_form : (a b : Event) → event_text a ≡ event_text b → AreSame (form_of a) (form_of b) (parts_of a) (parts_of b)
@@ -314,6 +319,15 @@ same_event (Tear n k p) (Tear n2 k2 p2) a b form e =
     let y : k ≡ k2 = two.first in
     let z : p ≡ p2 = one_picture p p2 a.2 b.2 two.second in cc
 same_event (Tear n k p) _ a b form e = absurd (cc)
+same_event (Set l r x s) (Set l2 r2 x2 s2) a b form e =
+    let one = same_parts IsLog decimal l l2 _ _ log_lacks one_log a.0 b.0 e in
+    let two = same_parts IsFactor decimal r r2 _ _ factor_lacks one_factor a.1 b.1 one.second in
+    let three = same_parts AreExtras decimal x x2 _ _ extras_lack one_extras a.2 b.2 two.second in
+    let w : l ≡ l2 = one.first in
+    let u : r ≡ r2 = two.first in
+    let y : x ≡ x2 = three.first in
+    let z : s ≡ s2 = one_nodes s s2 a.3 b.3 three.second in cc
+same_event (Set l r x s) _ a b form e = absurd (cc)
 same_event (RegFail k d) (RegFail k2 d2) a b form e =
     let parts = same_parts IsCount decimal k k2 _ _ count_lacks one_count a b e in
     let x : k ≡ k2 = parts.first in

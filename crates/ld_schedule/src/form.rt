@@ -9,8 +9,9 @@ use crate::digits::Done;
 use crate::event::{Event, Picture};
 use crate::fault::LineFault;
 use crate::field::behind;
+use crate::nodes::{Extras, Factor};
 use crate::words::{Count, Place};
-use ld_ids::{LogId, Name, NodeId, Payload};
+use ld_ids::{LogId, Name, NodeId, NodeSet, Payload};
 use ld_lsn::Lsn;
 use std::alloc::Global;
 
@@ -38,12 +39,13 @@ pub enum NameForm {
     Poll,
 }
 
-/// The first word of a line that begins with the place of a message or a count.
+/// The first word of a line that begins with the place of a message, a count or a log.
 #[derive(Clone, Copy, Debug, PartialEq, Eq)]
 pub enum CountForm {
     Deliver,
     Lose,
     Flow,
+    Set,
     RegFail,
 }
 
@@ -150,7 +152,7 @@ fn read_of_name(form: NameForm, alloc: Global, line: &[u8]) -> Result<Event, Lin
     }
 }
 
-/// The event of this form, of messages or the register.
+/// The event of this form, of messages, a log or the register.
 fn read_of_count(form: CountForm, alloc: Global, line: &[u8]) -> Result<Event, LineFault>
     ensures { IsRead (IsOfForm (forms.Count form)) event_text line.now result }
 {
@@ -169,6 +171,17 @@ fn read_of_count(form: CountForm, alloc: Global, line: &[u8]) -> Result<Event, L
         },
         CountForm::Flow => match behind::<Count>(alloc, line, b"flow ") {
             Ok(most) => Ok(Event::Flow { most: most.count }),
+            Err(fault) => Err(fault),
+        },
+        CountForm::Set => match behind::<(LogId, (Factor, (Extras, NodeSet)))>(
+            alloc, line, b"set ",
+        ) {
+            Ok((log, (factor, (extras, set)))) => Ok(Event::Set {
+                log,
+                r: factor.r,
+                extras: extras.extras,
+                set,
+            }),
             Err(fault) => Err(fault),
         },
         CountForm::RegFail => match behind::<(Count, Done)>(alloc, line, b"regfail ") {

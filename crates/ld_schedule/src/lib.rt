@@ -7,6 +7,7 @@ mod fault;
 mod field;
 mod form;
 mod law;
+mod nodes;
 mod number;
 mod read;
 #[cfg(test)]

@@ -53,6 +53,29 @@ fn lines_are_events(rt: HostRuntime) -> Result<(), Fail> {
     Ok(())
 }
 
+/// The log, factor, extras and nodes of a line that says what later activations use.
+fn used(alloc: Global, line: &[u8]) -> Result<(u32, u8, u8, u16), LineFault> {
+    match &parse_line(alloc, line)? {
+        Event::Set {
+            log,
+            r,
+            extras,
+            set,
+        } => Ok((log.number(), *r, *extras, set.bits())),
+        _ => Ok((0, 0, 0, 0)),
+    }
+}
+
+#[test]
+fn lines_name_nodes(rt: HostRuntime) -> Result<(), Fail> {
+    let alloc = rt.alloc();
+    assert_eq!(rt; used(alloc, b"set 1 2 0 1,4")?, (1, 2, 0, 0x0009));
+    assert_eq!(rt; used(alloc, b"set 65535 16 3 16")?, (65_535, 16, 3, 0x8000));
+    let all = b"set 7 1 1 1,2,3,4,5,6,7,8,9,10,11,12,13,14,15,16";
+    assert_eq!(rt; used(alloc, all)?, (7, 1, 1, 0xffff));
+    Ok(())
+}
+
 #[test]
 fn lines_have_counts(rt: HostRuntime) -> Result<(), Fail> {
     let alloc = rt.alloc();
@@ -64,7 +87,7 @@ fn lines_have_counts(rt: HostRuntime) -> Result<(), Fail> {
 
 /// Lines, and the length of the longest prefix with which some line begins where they are none, as it was found by
 /// trying each prefix against the grammar: events at the bounds of their parts, and lines a byte away.
-const LINES: [(&[u8], Option<usize>); 32] = [
+const LINES: [(&[u8], Option<usize>); 60] = [
     (b"format 16", None),
     (b"activate s0 65535", None),
     (b"append abcdefghijklmnop -", None),
@@ -97,6 +120,34 @@ const LINES: [(&[u8], Option<usize>); 32] = [
     (b"fail 16 10020000", Some(14)),
     (b"tear 3 4 0ff", Some(11)),
     (b"regfail 100 undo\nne", Some(16)),
+    (b"set 1 2 0 1,4", None),
+    (b"set 65535 16 3 16", None),
+    (b"set 1 2 0 1,1", Some(13)),
+    (b"set 1 2 0 1,10", None),
+    (b"set 1 2 0 2,1", Some(13)),
+    (b"set 1 2 0 2,1 ", Some(13)),
+    (b"set 1 2 0 1,1,", Some(13)),
+    (b"set 1 2 0 1,", Some(12)),
+    (b"set 1 2 0 ", Some(10)),
+    (b"set 1 2 0", Some(9)),
+    (b"set 1 2 0 0", Some(10)),
+    (b"set 1 2 0 01", Some(10)),
+    (b"set 1 2 0 17", Some(11)),
+    (b"set 1 2 0 1,17", Some(13)),
+    (b"set 1 2 0 16,", Some(12)),
+    (b"set 1 2 0 3,2", Some(12)),
+    (b"set 1 2 0 12,11", Some(14)),
+    (b"set 1 2 0 12,1,", Some(14)),
+    (b"set 0 2 0 1", Some(4)),
+    (b"set 65536 2 0 1", Some(8)),
+    (b"set 1 0 0 1", Some(6)),
+    (b"set 1 17 0 1", Some(7)),
+    (b"set 1 2 4 1", Some(8)),
+    (b"set 1 2 00 1", Some(9)),
+    (b"set 1 2 0 1 4", Some(11)),
+    (b"set 1 2 0 1, 4", Some(12)),
+    (b"set 1 2 0 ,1", Some(10)),
+    (b"sets", Some(3)),
 ];
 
 #[test]

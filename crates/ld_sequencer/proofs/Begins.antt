@@ -6,7 +6,8 @@ use Rattle.ld_msg.specs.declared.msg.Who.{Who}
 use Rattle.ld_msg.specs.declared.msg.Body.{Body}
 use Rattle.ld_msg.specs.Network.{posted}
 use Rattle.ld_msg.specs.Sequencer.{to_each}
-use Rattle.ld_sequencer.specs.Sending.{BeginsWith}
+use Rattle.ld_recovery.specs.Sending.{BeginsWith}
+use Rattle.ld_recovery.proofs.Begins.{taken_back}
 
 begins : {X : Type 0} (out rest old all : List X) → out ++ rest ≡ old ++ all → length rest ≤ length all → BeginsWith old out
 begins out rest old all e h =
@@ -31,9 +32,6 @@ sent_begins who log b ys i old out e =
 pub on_err : {T E P : Type 0} (r : Result T E) → P → OnErr r P
 on_err (Ok u) p = tt
 on_err (Err e) p = p
-
-pub taken_back : {X : Type 0} (old out now : List X) (n : ℕ) → n ≡ length old → now ≡ take n out → BeginsWith old out → now ≡ old
-taken_back old out now n e t b = t ∙ (ap (λ k. take k out) e ∙ b)
 
 pub begins_more : {X : Type 0} (old more : List X) → BeginsWith old (old ++ more)
 begins_more old more = take_at old more (length old) refl

@@ -17,7 +17,7 @@ use Rattle.ld_ids.specs.Set.{IsSet, members}
 use Rattle.ld_ids.specs.Choice.{nodes_of}
 use Rattle.ld_msg.specs.declared.msg.Msg.{Msg}
 use Rattle.ld_msg.specs.declared.msg.Who.TheVariants as whos
-use Rattle.ld_msg.specs.Bounds.{Is64, IsEpoch, Fits, IsMessage}
+use Rattle.ld_msg.specs.Bounds.{IsLng, Is64, IsEpoch, Fits, IsMessage}
 use Rattle.ld_msg.specs.Choice.{choice}
 use Rattle.ld_msg.specs.Network.{posted}
 use Rattle.ld_msg.specs.Sequencer.{to_each, append_stores, first_stores, fresh_append, payload_limit}
@@ -50,19 +50,22 @@ told_fits own y (notices.Trim t) e h b = ((e, h), b)
 pub told_messages : (own log : ℕ) (n : Notice) (flags : List Bool) (old new : List Msg) → new ≡ old ++ posted (whos.Sequencer own) log (to_each (told n) (members flags)) → Is64 (number_told n) → IsLog log → IsSet flags → IsEpoch own → AreMessages old → AreMessages new
 told_messages own log n flags old new s b l f e a = sent_behind own log (to_each (told n) (members flags)) old new l (each_post (whos.Sequencer own) (told n) (members flags) (λ y h. told_fits own y n e h b) (members_nodes flags f)) s a
 
-pub row_messages : (spec : Spec) (epoch : ℕ) (flags : List Bool) (ws : List Waiting) (r : Row) (lost : List ℕ) (old new : List Msg) → shown spec epoch flags ws ≡ r → IsInStep spec.r flags ws → new ≡ old ++ posted (whos.Sequencer r.epoch) r.spec.log (append_stores r.spec lost r.appends)
+good_is : (s : Spec) (epoch : ℕ) (flags : List Bool) (ws : List Waiting) → IsInStep s.r flags ws → IsLng (shown s epoch flags ws).lng
+good_is s epoch flags ws h = let a = waits s.r flags ws h in let b = h.bound in omega arith
+
+pub row_messages : (spec : Spec) (epoch : ℕ) (flags : List Bool) (ws : List Waiting) (r : Row) (lost : List ℕ) (old new : List Msg) → shown spec epoch flags ws ≡ r → IsInStep spec.r flags ws → new ≡ old ++ posted (whos.Sequencer r.epoch) r.spec.log (append_stores r.spec lost r.lng r.appends)
     → IsLog spec.log → IsSet spec.set → IsEpoch r.epoch → AreMessages old → AreMessages new
 row_messages spec epoch flags ws r lost old new v h s l f e a =
-    sent_behind r.epoch r.spec.log (append_stores r.spec lost r.appends) old new (subst (λ (x : Row). IsLog x.spec.log) v l)
-    (appends_sent r.epoch e r.spec lost r.appends (subst (λ (x : Row). AllByRecursion IsNode (nodes_of x.spec)) v (members_nodes spec.set f)) (subst (λ (x : Row). AllByRecursion (IsAppend x.epoch) x.appends) v (appends_are spec epoch flags ws h))) s a
+    sent_behind r.epoch r.spec.log (append_stores r.spec lost r.lng r.appends) old new (subst (λ (x : Row). IsLog x.spec.log) v l)
+    (appends_sent r.epoch e r.spec lost r.lng r.appends (subst (λ (x : Row). IsLng x.lng) v (good_is spec epoch flags ws h)) (subst (λ (x : Row). AllByRecursion IsNode (nodes_of x.spec)) v (members_nodes spec.set f)) (subst (λ (x : Row). AllByRecursion (IsAppend x.epoch) x.appends) v (appends_are spec epoch flags ws h))) s a
 
-pub append_messages : (o : Own) (payload : List ℕ) (old new : List Msg) → new ≡ old ++ sent_by o (first_stores (spec_of o) (sequencer_of o) payload) → next_place o.row ≤ 2 ^ 32 - 2 → length payload ≤ payload_limit
+pub append_messages : (o : Own) (payload : List ℕ) (old new : List Msg) → new ≡ old ++ sent_by o (first_stores (sequencer_of o) payload) → next_place o.row ≤ 2 ^ 32 - 2 → length payload ≤ payload_limit
     → IsLog (spec_of o).log → IsSet (spec_of o).set → IsEpoch (sequencer_of o).epoch → AreMessages old → AreMessages new
 append_messages o payload old new s p q l f e a =
     let n : ℕ = numbered o.row.epoch (next_place o.row) in
     let z = esn_numbered o.row.epoch (next_place o.row) (omega (arith, p)) in
-    sent_behind o.row.epoch o.row.spec.log (first_stores (spec_of o) (sequencer_of o) payload) old new l
-    (append_sent o.row.epoch e (n, fresh_append payload) (choice (spec_of o) o.lost n 0) (record { epoch_is = epoch_numbered o.row.epoch (next_place o.row) (omega (arith, p)); from_one = omega arith; place = omega (arith, z, p); short = q })
+    sent_behind o.row.epoch o.row.spec.log (first_stores (sequencer_of o) payload) old new l
+    (append_sent o.row.epoch e o.row.lng (omega (arith, p)) (n, fresh_append payload) (choice (spec_of o) o.lost n 0) (record { epoch_is = epoch_numbered o.row.epoch (next_place o.row) (omega (arith, p)); from_one = omega arith; place = omega (arith, z, p); short = q })
     (choice_nodes (spec_of o) o.lost n 0 (members_nodes (spec_of o).set f))) s a
 
 pub together : (old asks new : List Msg) → new ≡ old ++ asks → AreMessages asks → AreMessages old → AreMessages new

@@ -11,23 +11,25 @@ use Rattle.ld_msg.specs.declared.msg.Who.TheVariants as whos
 use Rattle.ld_msg.specs.declared.msg.Body.{Body}
 use Rattle.ld_msg.specs.declared.msg.Body.TheVariants as bodies
 use Rattle.ld_msg.specs.Network.{posted}
-use Rattle.ld_msg.specs.Register.{Granted, Behind, Fails}
-use Rattle.ld_msg.specs.Sequencer.{Sequencer, Stage, Seals, Stores, Closes, Acts, does_nothing, goes_on, after_close, preempt, acted_messages, release_messages, released_of, recovery_asks, activated, to_each}
+use Rattle.ld_msg.specs.Register.{View, Granted, Behind, Fails}
+use Rattle.ld_msg.specs.Sequencer.{Sequencer, Stage, Seals, Stores, Closes, Acts, does_nothing, goes_on, after_close, preempt, acted_messages, release_messages, released_of, recovery_asks, to_each}
 use Rattle.ld_recovery.specs.Recovering.{Recovering, messages, close_messages, Closing}
 use Rattle.ld_recovery.proofs.Replies.{granted}
-use Rattle.ld_sequencer.specs.Own.{Own, sequencer_of, spec_of, sent_by, released_above, with_lce, preempted_as, listed}
+use Rattle.ld_sequencer.specs.Looks.{shows}
+use Rattle.ld_sequencer.specs.Own.{Own, sequencer_of, sent_by, released_above, with_lce, preempted_as, listed}
 use Rattle.ld_sequencer.specs.declared.fault.CloseFault.{CloseFault}
 use Rattle.ld_sequencer.specs.declared.report.Report.{Report}
-use Rattle.ld_sequencer.specs.Whole.{Whole, as_now, sent_as, joined, AreOne, closing_stage, closing_of, closed_acts, risen, Acted, active}
-use Rattle.ld_sequencer.proofs.Serving.{sent_of, posted_both, served}
+use Rattle.ld_sequencer.specs.Whole.{Whole, as_now, sent_as, joined, AreOne, closing_stage, closing_of, closed_acts, risen, Acted, asks_behind}
+use Rattle.ld_recovery.proofs.Posting.{posted-append}
+use Rattle.ld_sequencer.proofs.Serving.{sent_of, served}
 
 -- ---- the released number stands still ----
 
 pub irreflexive : (n : ℕ) → nat_lt n n ≡ false
 irreflexive n = grind (arith, nat_tests)
 
-pub same_quiet : (p : Spec) (q r : Sequencer) → released_of q ≡ released_of r → release_messages p q r ≡ []
-same_quiet p q r e = ap (λ (b : Bool). if b then to_each (bodies.Release (released_of r)) (nodes_of p) else []) (ap (λ (n : ℕ). nat_lt n (released_of r)) e ∙ irreflexive (released_of r))
+pub same_quiet : (q r : Sequencer) → released_of q ≡ released_of r → release_messages q r ≡ []
+same_quiet q r e = ap (λ (b : Bool). if b then to_each (bodies.Release (released_of r)) (nodes_of r.spec) else []) (ap (λ (n : ℕ). nat_lt n (released_of r)) e ∙ irreflexive (released_of r))
 
 pub same_risen : (q r : Sequencer) → released_of q ≡ released_of r → [] ≡ risen q r
 same_risen q r e = sym (ap (λ (b : Bool). if b then released_of r ∷ [] else []) (ap (λ (n : ℕ). nat_lt n (released_of r)) e ∙ irreflexive (released_of r)))
@@ -44,7 +46,7 @@ report_of acked closed preempted failed released = record { acked = acked; close
 pub quiet_acted : (w : Whole) (r : Report) (old : List Msg) → r.acked ≡ None → r.closed ≡ None → r.preempted ≡ None → r.register ≡ None → r.released ≡ None → Acted w w r old old (does_nothing w.sequencer)
 quiet_acted w r old a c p f e = record {
   now = refl;
-  sent = nothing_more w old (acted_messages w.spec w.sequencer (does_nothing w.sequencer)) (ap (λ (m : List (ℕ × Body)). m ++ []) (same_quiet w.spec w.sequencer w.sequencer refl));
+  sent = nothing_more w old (acted_messages w.sequencer (does_nothing w.sequencer)) (ap (λ (m : List (ℕ × Body)). m ++ []) (same_quiet w.sequencer w.sequencer refl));
   acked = ap listed a;
   closed = ap listed c;
   preempted = ap listed p;
@@ -54,43 +56,39 @@ quiet_acted w r old a c p f e = record {
 
 -- ---- it goes on to the next epoch ----
 
-next_asks : (spec : Spec) (q : Sequencer) (lce : ℕ) → sent_as (active spec q.epoch lce) (recovery_asks spec (active spec q.epoch lce).sequencer lce) ≡ posted (whos.Sequencer q.epoch) spec.log (recovery_asks spec q lce)
-unfolding activated
-next_asks spec q lce = refl
-
-went_out : (o : Own) (m : Option Recovering) (lce : ℕ) (old mid new : List Msg) → mid ≡ old ++ sent_by o (released_above (released_of (sequencer_of o)) (with_lce o lce))
-    → new ≡ mid ++ sent_as (active o.row.spec o.row.epoch lce) (recovery_asks o.row.spec (active o.row.spec o.row.epoch lce).sequencer lce)
-    → new ≡ old ++ sent_as (joined o m) (acted_messages o.row.spec (joined o m).sequencer (goes_on o.row.spec (does_nothing (joined o m).sequencer) lce))
-went_out o m lce old mid new h k =
+went_out : (o : Own) (m : Option Recovering) (next : Spec) (lce : ℕ) (old mid new : List Msg) → next.log ≡ o.row.spec.log → mid ≡ old ++ sent_by o (released_above (released_of (sequencer_of o)) (with_lce o lce))
+    → new ≡ mid ++ asks_behind next o.row.epoch lce
+    → new ≡ old ++ sent_as (joined o m) (acted_messages (joined o m).sequencer (goes_on (shows next) (does_nothing (joined o m).sequencer) lce))
+went_out o m next lce old mid new l h k =
     let w = joined o m in
     let rs : List (ℕ × Body) = released_above (released_of (sequencer_of o)) (with_lce o lce) in
-    let bs : List (ℕ × Body) = recovery_asks o.row.spec w.sequencer lce in
-    k ∙ (ap (λ (ms : List Msg). ms ++ sent_as (active o.row.spec o.row.epoch lce) (recovery_asks o.row.spec (active o.row.spec o.row.epoch lce).sequencer lce)) h
-    ∙ (ap (λ (ms : List Msg). (old ++ sent_by o rs) ++ ms) (next_asks o.row.spec w.sequencer lce)
+    let bs : List (ℕ × Body) = recovery_asks (shows next) w.sequencer lce in
+    k ∙ (ap (λ (ms : List Msg). ms ++ asks_behind next o.row.epoch lce) h
+    ∙ (ap (λ (n : ℕ). (old ++ sent_by o rs) ++ posted (whos.Sequencer o.row.epoch) n bs) l
     ∙ (append_assoc old (sent_by o rs) (sent_as w bs)
-    ∙ ap (λ (ms : List Msg). old ++ ms) (sym (posted_both (whos.Sequencer o.row.epoch) o.row.spec.log rs bs) ∙ ap (λ (cs : List (ℕ × Body)). sent_as w (rs ++ cs)) (sym (append-nil bs))))))
+    ∙ ap (λ (ms : List Msg). old ++ ms) (sym (posted-append (whos.Sequencer o.row.epoch) o.row.spec.log rs bs) ∙ ap (λ (cs : List (ℕ × Body)). sent_as w (rs ++ cs)) (sym (append-nil bs))))))
 
-pub go_sent : (w : Whole) (o p : Own) (m : Option Recovering) (s : Spec) (e lce : ℕ) (old mid new : List Msg) → joined o m ≡ w → p ≡ with_lce o lce → s ≡ spec_of p → e ≡ (sequencer_of p).epoch
-    → mid ≡ old ++ sent_by o (released_above (released_of (sequencer_of o)) (with_lce o lce)) → new ≡ mid ++ sent_as (active s e lce) (recovery_asks s (active s e lce).sequencer lce)
-    → new ≡ old ++ sent_as w (acted_messages w.spec w.sequencer (goes_on w.spec (does_nothing w.sequencer) lce))
-go_sent w o p m s e lce old mid new j k a b h i =
-    let a' : s ≡ o.row.spec = a ∙ ap spec_of k in
+pub go_sent : (w : Whole) (o p : Own) (m : Option Recovering) (next : Spec) (e lce : ℕ) (old mid new : List Msg) → joined o m ≡ w → p ≡ with_lce o lce → next.log ≡ w.sequencer.log → e ≡ (sequencer_of p).epoch
+    → mid ≡ old ++ sent_by o (released_above (released_of (sequencer_of o)) (with_lce o lce)) → new ≡ mid ++ asks_behind next e lce
+    → new ≡ old ++ sent_as w (acted_messages w.sequencer (goes_on (shows next) (does_nothing w.sequencer) lce))
+go_sent w o p m next e lce old mid new j k l b h i =
     let b' : e ≡ o.row.epoch = b ∙ ap (λ (x : Own). x.row.epoch) k in
-    let i' = i ∙ (ap (λ (x : Spec). mid ++ sent_as (active x e lce) (recovery_asks x (active x e lce).sequencer lce)) a' ∙ ap (λ (n : ℕ). mid ++ sent_as (active o.row.spec n lce) (recovery_asks o.row.spec (active o.row.spec n lce).sequencer lce)) b') in
-    went_out o m lce old mid new h i' ∙ ap (λ (x : Whole). old ++ sent_as x (acted_messages x.spec x.sequencer (goes_on x.spec (does_nothing x.sequencer) lce))) j
+    let i' = i ∙ ap (λ (n : ℕ). mid ++ asks_behind next n lce) b' in
+    let l' : next.log ≡ o.row.spec.log = l ∙ sym (ap (λ (x : Whole). x.sequencer.log) j) in
+    went_out o m next lce old mid new l' h i' ∙ ap (λ (x : Whole). old ++ sent_as x (acted_messages x.sequencer (goes_on (shows next) (does_nothing x.sequencer) lce))) j
 
-abbrev pub onward : Whole → ℕ → Acts
-onward w lce = goes_on w.spec (does_nothing w.sequencer) lce
+abbrev pub onward : (ℕ → View) → Whole → ℕ → Acts
+onward looks w lce = goes_on looks (does_nothing w.sequencer) lce
 
 -- the epoch was closed by another sequencer
-pub gone_acted : (w n : Whole) (o : Own) (m : Option Recovering) (e lce before : ℕ) (y : Summary) (released : Option ℕ) (old new : List Msg) → lce < w.sequencer.epoch → before ≡ released_of w.sequencer
-    → n ≡ as_now w (onward w lce).sequencer → new ≡ old ++ sent_as w (acted_messages w.spec w.sequencer (onward w lce))
+pub gone_acted : (looks : ℕ → View) (w n : Whole) (o : Own) (m : Option Recovering) (e lce before : ℕ) (y : Summary) (released : Option ℕ) (old new : List Msg) → lce < w.sequencer.epoch → before ≡ released_of w.sequencer
+    → n ≡ as_now w (onward looks w lce).sequencer → new ≡ old ++ sent_as w (acted_messages w.sequencer (onward looks w lce))
     → listed released ≡ (if nat_lt before (released_of n.sequencer) then released_of n.sequencer ∷ [] else [])
-    → Acted w n (report_of None None None None released) old new (closed_acts w e y (Behind lce))
+    → Acted w n (report_of None None None None released) old new (closed_acts looks w e y (Behind lce))
 unfolding after_close
-gone_acted w n o m e lce before y released old new l b h k r =
+gone_acted looks w n o m e lce before y released old new l b h k r =
     let t : nat_le w.sequencer.epoch lce ≡ false = grind (arith, nat_tests) in
-    let f : (if nat_le w.sequencer.epoch lce then preempt (does_nothing w.sequencer) (lce + 1) else onward w lce) ≡ onward w lce = ap (λ (c : Bool). if c then preempt (does_nothing w.sequencer) (lce + 1) else onward w lce) t in
+    let f : (if nat_le w.sequencer.epoch lce then preempt (does_nothing w.sequencer) (lce + 1) else onward looks w lce) ≡ onward looks w lce = ap (λ (c : Bool). if c then preempt (does_nothing w.sequencer) (lce + 1) else onward looks w lce) t in
     subst (Acted w n (report_of None None None None released) old new) (sym f) (record {
       now = h;
       sent = k;
@@ -99,20 +97,20 @@ gone_acted w n o m e lce before y released old new l b h k r =
       preempted = refl;
       failed = refl;
       released = r ∙ (ap (λ (x : Whole). if nat_lt before (released_of x.sequencer) then released_of x.sequencer ∷ [] else []) h
-          ∙ ap (λ (x : ℕ). if nat_lt x (released_of (onward w lce).sequencer) then released_of (onward w lce).sequencer ∷ [] else []) b);
+          ∙ ap (λ (x : ℕ). if nat_lt x (released_of (onward looks w lce).sequencer) then released_of (onward looks w lce).sequencer ∷ [] else []) b);
     })
 
 -- it is preempted
-pub late_acted : (w n : Whole) (o : Own) (m : Option Recovering) (e lce : ℕ) (y : Summary) (old : List Msg) → w.sequencer.epoch ≤ lce → joined o m ≡ w → n ≡ joined (preempted_as o (lce + 1)) m
-    → Acted w n (report_of None None (Some (lce + 1)) None None) old old (closed_acts w e y (Behind lce))
+pub late_acted : (looks : ℕ → View) (w n : Whole) (o : Own) (m : Option Recovering) (e lce : ℕ) (y : Summary) (old : List Msg) → w.sequencer.epoch ≤ lce → joined o m ≡ w → n ≡ joined (preempted_as o (lce + 1)) m
+    → Acted w n (report_of None None (Some (lce + 1)) None None) old old (closed_acts looks w e y (Behind lce))
 unfolding after_close
-late_acted w n o m e lce y old l j h =
+late_acted looks w n o m e lce y old l j h =
     let t : nat_le w.sequencer.epoch lce ≡ true = grind (arith, nat_tests) in
     let q = preempt (does_nothing w.sequencer) (lce + 1) in
-    let f : (if nat_le w.sequencer.epoch lce then q else onward w lce) ≡ q = ap (λ (c : Bool). if c then q else onward w lce) t in
+    let f : (if nat_le w.sequencer.epoch lce then q else onward looks w lce) ≡ q = ap (λ (c : Bool). if c then q else onward looks w lce) t in
     subst (Acted w n (report_of None None (Some (lce + 1)) None None) old old) (sym f) (record {
       now = h ∙ ap (λ (x : Whole). as_now x (preempt (does_nothing x.sequencer) (lce + 1)).sequencer) j;
-      sent = nothing_more w old (acted_messages w.spec w.sequencer q) (ap (λ (ms : List (ℕ × Body)). ms ++ []) (same_quiet w.spec w.sequencer q.sequencer refl));
+      sent = nothing_more w old (acted_messages w.sequencer q) (ap (λ (ms : List (ℕ × Body)). ms ++ []) (same_quiet w.sequencer q.sequencer refl));
       acked = refl;
       closed = refl;
       preempted = refl;
@@ -121,11 +119,11 @@ late_acted w n o m e lce y old l j h =
     })
 
 -- the register failed
-pub failed_acted : (w : Whole) (e : ℕ) (y : Summary) (f : CloseFault) (old : List Msg) → Acted w w (report_of None None None (Some f) None) old old (closed_acts w e y Fails)
+pub failed_acted : (looks : ℕ → View) (w : Whole) (e : ℕ) (y : Summary) (f : CloseFault) (old : List Msg) → Acted w w (report_of None None None (Some f) None) old old (closed_acts looks w e y Fails)
 unfolding after_close
-failed_acted w e y f old = record {
+failed_acted looks w e y f old = record {
   now = refl;
-  sent = nothing_more w old (acted_messages w.spec w.sequencer (does_nothing w.sequencer)) (ap (λ (m : List (ℕ × Body)). m ++ []) (same_quiet w.spec w.sequencer w.sequencer refl));
+  sent = nothing_more w old (acted_messages w.sequencer (does_nothing w.sequencer)) (ap (λ (m : List (ℕ × Body)). m ++ []) (same_quiet w.sequencer w.sequencer refl));
   acked = refl;
   closed = refl;
   preempted = refl;
@@ -153,36 +151,37 @@ none_is_some (Some z) x h k = absurd cc
 pub is_held : (o : Own) (m : Option Recovering) (w : Whole) (e : ℕ) (y : Summary) → joined o m ≡ w → m ≡ None → closing_of w ≡ Some (e, y) → ⊥
 is_held o m w e y j k c = none_is_some (closing_of (joined o None)) (e, y) refl (ap (λ (x : Option Recovering). closing_of (joined o x)) (sym k) ∙ (ap closing_of j ∙ c))
 
-made_out : (o : Own) (m : Option Recovering) (e : ℕ) (y : Summary) (old mid new : List Msg) → mid ≡ old ++ sent_as (joined o m) (to_each (bodies.Clean e y) (nodes_of o.row.spec))
-    → new ≡ mid ++ sent_as (joined o m) (acted_messages o.row.spec (joined o m).sequencer (onward (joined o m) e))
-    → new ≡ old ++ sent_as (joined o m) (acted_messages o.row.spec (joined o m).sequencer (closed_acts (joined o m) e y Granted))
+made_out : (looks : ℕ → View) (o : Own) (r : Recovering) (e : ℕ) (y : Summary) (old mid new : List Msg) → mid ≡ old ++ sent_as (joined o (Some r)) (to_each (bodies.Clean e y) (nodes_of r.recovery.spec))
+    → new ≡ mid ++ sent_as (joined o (Some r)) (acted_messages (joined o (Some r)).sequencer (onward looks (joined o (Some r)) e))
+    → new ≡ old ++ sent_as (joined o (Some r)) (acted_messages (joined o (Some r)).sequencer (closed_acts looks (joined o (Some r)) e y Granted))
 unfolding after_close
-made_out o m e y old mid new h k =
-    let w = joined o m in
-    let cs : List (ℕ × Body) = to_each (bodies.Clean e y) (nodes_of o.row.spec) in
-    let bs : List (ℕ × Body) = acted_messages o.row.spec w.sequencer (onward w e) in
-    k ∙ (ap (λ (ms : List Msg). ms ++ sent_as w bs) h ∙ (append_assoc old (sent_as w cs) (sent_as w bs) ∙ ap (λ (ms : List Msg). old ++ ms) (sym (posted_both (whos.Sequencer o.row.epoch) o.row.spec.log cs bs))))
+made_out looks o r e y old mid new h k =
+    let w = joined o (Some r) in
+    let cs : List (ℕ × Body) = to_each (bodies.Clean e y) (nodes_of r.recovery.spec) in
+    let bs : List (ℕ × Body) = acted_messages w.sequencer (onward looks w e) in
+    k ∙ (ap (λ (ms : List Msg). ms ++ sent_as w bs) h ∙ (append_assoc old (sent_as w cs) (sent_as w bs) ∙ ap (λ (ms : List Msg). old ++ ms) (sym (posted-append (whos.Sequencer o.row.epoch) o.row.spec.log cs bs))))
 
-pub made_acted : (w n : Whole) (o : Own) (m : Option Recovering) (r : Recovering) (e before end : ℕ) (y : Summary) (released : Option ℕ) (old mid new : List Msg) → joined o m ≡ w → AreOne o m → m ≡ Some r → closing_of w ≡ Some (e, y)
+pub made_acted : (looks : ℕ → View) (w n : Whole) (o : Own) (m : Option Recovering) (r : Recovering) (e before end : ℕ) (y : Summary) (released : Option ℕ) (old mid new : List Msg) → joined o m ≡ w → AreOne o m → m ≡ Some r → closing_of w ≡ Some (e, y)
     → before ≡ released_of w.sequencer → end ≡ numbered e y.end → mid ≡ old ++ close_messages r y Granted
-    → n ≡ as_now (joined o None) (onward (joined o None) e).sequencer → new ≡ mid ++ sent_as (joined o None) (acted_messages (joined o None).spec (joined o None).sequencer (onward (joined o None) e))
+    → n ≡ as_now (joined o None) (onward looks (joined o None) e).sequencer → new ≡ mid ++ sent_as (joined o None) (acted_messages (joined o None).sequencer (onward looks (joined o None) e))
     → listed released ≡ (if nat_lt before (released_of n.sequencer) then released_of n.sequencer ∷ [] else [])
-    → Acted w n (report_of None (Some end) None None released) old new (closed_acts w e y Granted)
+    → Acted w n (report_of None (Some end) None None released) old new (closed_acts looks w e y Granted)
 unfolding after_close
-made_acted w n o m r e before end y released old mid new j h k c b f g i s l =
+made_acted looks w n o m r e before end y released old mid new j h k c b f g i s l =
     let x : r.recovery.epoch ≡ e = (closing_held o m r w e y j k c).0 in
+    let z : joined o (Some r) ≡ w = ap (joined o) (sym k) ∙ j in
     let sv = served o m r k h in
-    let told : mid ≡ old ++ sent_as (joined o m) (to_each (bodies.Clean e y) (nodes_of o.row.spec)) =
-    g ∙ ap (λ (ms : List Msg). old ++ ms) (granted r y ∙ (ap (λ (z : ℕ). messages r (to_each (bodies.Clean z y) (nodes_of r.spec))) x
-    ∙ (ap (λ (p : Spec). messages r (to_each (bodies.Clean e y) (nodes_of p))) sv.spec ∙ sent_of o m r (to_each (bodies.Clean e y) (nodes_of o.row.spec)) sv))) in
-    let there : n ≡ as_now w (closed_acts w e y Granted).sequencer = i ∙ ap (λ (z : Whole). as_now z (closed_acts z e y Granted).sequencer) j in
+    let told : mid ≡ old ++ sent_as (joined o (Some r)) (to_each (bodies.Clean e y) (nodes_of r.recovery.spec)) =
+    g ∙ ap (λ (ms : List Msg). old ++ ms) (granted r y ∙ (ap (λ (z : ℕ). messages r (to_each (bodies.Clean z y) (nodes_of r.recovery.spec))) x
+    ∙ sent_of o (Some r) r (to_each (bodies.Clean e y) (nodes_of r.recovery.spec)) sv)) in
+    let there : n ≡ as_now w (closed_acts looks w e y Granted).sequencer = i ∙ ap (λ (q : Whole). as_now q (closed_acts looks q e y Granted).sequencer) z in
     record {
       now = there;
-      sent = made_out o m e y old mid new told s ∙ ap (λ (z : Whole). old ++ sent_as z (acted_messages z.spec z.sequencer (closed_acts z e y Granted))) j;
+      sent = made_out looks o r e y old mid new told s ∙ ap (λ (q : Whole). old ++ sent_as q (acted_messages q.sequencer (closed_acts looks q e y Granted))) z;
       acked = refl;
       closed = ap (λ (z : ℕ). z ∷ []) f;
       preempted = refl;
       failed = refl;
-      released = l ∙ (ap (λ (z : Whole). if nat_lt before (released_of z.sequencer) then released_of z.sequencer ∷ [] else []) there
-          ∙ ap (λ (z : ℕ). if nat_lt z (released_of (onward w e).sequencer) then released_of (onward w e).sequencer ∷ [] else []) b);
+      released = l ∙ (ap (λ (q : Whole). if nat_lt before (released_of q.sequencer) then released_of q.sequencer ∷ [] else []) there
+          ∙ ap (λ (q : ℕ). if nat_lt q (released_of (onward looks w e).sequencer) then released_of (onward looks w e).sequencer ∷ [] else []) b);
     }

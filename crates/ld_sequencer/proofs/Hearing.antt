@@ -2,7 +2,6 @@
 use Rattle.std.proofs.Common.{◌≡◌, ◌⊎◌, inl, inr, ℕ, ◌-◌, Bool, true, false, not, ◌&&◌, ◌==◌, nat_lt, List, [], ◌∷◌, ◌++◌, Option, Some, None, is_some, if◌then◌else◌, refl, ap, sym, subst, ◌∙◌, arith}
 use Rattle.std.proofs.lemmas.List.{append_assoc}
 use Rattle.std.proofs.lemmas.Bool.Decides.{nat_tests}
-use Rattle.ld_ids.specs.declared.set.Spec.{Spec}
 use Rattle.ld_ids.specs.Choice.{nodes_of}
 use Rattle.ld_msg.specs.declared.msg.Summary.{Summary}
 use Rattle.ld_msg.specs.declared.msg.Msg.{Msg}
@@ -10,17 +9,19 @@ use Rattle.ld_msg.specs.declared.msg.Who.{Who}
 use Rattle.ld_msg.specs.declared.msg.Who.TheVariants as whos
 use Rattle.ld_msg.specs.declared.msg.Body.{Body}
 use Rattle.ld_msg.specs.declared.msg.Body.TheVariants as bodies
+use Rattle.ld_msg.specs.Register.{View}
 use Rattle.ld_msg.specs.Sequencer.{Sequencer, Recovery, Stage, Seals, Stores, Closes, Acts, does_nothing, by_reply, on_reply, unless_preempted, goes_on, tells_clean, acted_messages, released_of, to_each}
 use Rattle.ld_recovery.specs.declared.state.State.TheVariants as states
 use Rattle.ld_recovery.specs.Recovering as recovering
-use Rattle.ld_recovery.specs.Recovering.{Recovering, Ending, Goes, IsDone, as_sequencer, replied, replied_with, reply_messages, when_going, messages, is_open, ended, ending_told, summary_told, sender_of}
+use Rattle.ld_recovery.specs.Recovering.{Recovering, Ending, Goes, IsDone, no_looks, replied, replied_with, reply_messages, when_going, messages, is_open, ended, ending_told, summary_told, sender_of}
 use Rattle.ld_recovery.specs.States.{state_of}
 use Rattle.ld_recovery.proofs.Replies.{going}
 use Rattle.ld_sequencer.specs.Own.{Own, listed}
 use Rattle.ld_sequencer.specs.declared.report.Report.{Report}
 use Rattle.ld_sequencer.specs.Whole.{Whole, as_now, sent_as, joined, recovery_in, with_recovery, Serves, AreOne, is_of_earlier, is_for_recovery, reply_acts, Acted}
-use Rattle.ld_sequencer.proofs.Parts.{only, rejoin, join_by, Moves, Cleans, either_by, moved}
-use Rattle.ld_sequencer.proofs.Serving.{sent_of, posted_both, served, as_is, serves_on, one_with}
+use Rattle.ld_sequencer.proofs.Parts.{only, rejoin, join_by, Moves, Steady, Cleans, either_by, moved}
+use Rattle.ld_recovery.proofs.Posting.{posted-append}
+use Rattle.ld_sequencer.proofs.Serving.{sent_of, served, as_is, serves_on, one_with}
 use Rattle.ld_sequencer.proofs.Doing.{report_of, same_quiet, same_risen, onward}
 
 -- ---- whom a message is for ----
@@ -44,26 +45,28 @@ is_there o m w b j k h = there_if o.preempted (recovery_in None) (is_of_earlier 
 -- ---- a message for the recovery ----
 
 pub record Onward (o : Own) (r : Recovering) (y : ℕ) (b : Body) : Type 0 where
-  pub moves : Moves (joined o (Some r)).sequencer r.recovery (on_reply o.row.spec (joined o (Some r)).sequencer y b)
+  pub acts : Acts
+  pub same : (looks : ℕ → View) → on_reply looks (joined o (Some r)).sequencer y b ≡ acts
+  pub moves : Moves (joined o (Some r)).sequencer r.recovery acts
   pub value : replied r y b ≡ going r moves.now
   pub sent : reply_messages r y b ≡ sent_as (joined o (Some r)) (moves.asks ++ moves.stores)
 
 pub record Ended (o : Own) (r : Recovering) (y : ℕ) (b : Body) : Type 0 where
   pub summary : Summary
-  pub acts : on_reply o.row.spec (joined o (Some r)).sequencer y b ≡ goes_on o.row.spec (tells_clean o.row.spec (does_nothing (joined o (Some r)).sequencer) r.recovery.epoch summary) r.recovery.epoch
+  pub acts : (looks : ℕ → View) → on_reply looks (joined o (Some r)).sequencer y b ≡ goes_on looks (tells_clean (does_nothing (joined o (Some r)).sequencer) r.recovery.epoch summary) r.recovery.epoch
   pub value : replied r y b ≡ ended r (IsDone summary)
-  pub sent : reply_messages r y b ≡ sent_as (joined o (Some r)) (to_each (bodies.Clean r.recovery.epoch summary) (nodes_of o.row.spec))
+  pub sent : reply_messages r y b ≡ sent_as (joined o (Some r)) (to_each (bodies.Clean r.recovery.epoch summary) (nodes_of r.recovery.spec))
 
-acts_are : (o : Own) (r : Recovering) (y : ℕ) (b : Body) → Serves o r → recovering.reply_acts r y b ≡ by_reply o.row.spec (does_nothing (only o.row.spec.log o.row.epoch o.lce r.recovery)) y b
+acts_are : (o : Own) (r : Recovering) (y : ℕ) (b : Body) → Serves o r → recovering.reply_acts r y b ≡ by_reply (no_looks r) (does_nothing (only o.row.spec.log o.row.epoch o.lce r.recovery)) y b
 unfolding on_reply
-acts_are o r y b s = ap (λ (p : Spec). by_reply p (does_nothing (as_sequencer r)) y b) s.spec ∙ ap (λ (q : Sequencer). by_reply o.row.spec (does_nothing q) y b) (as_is o r s)
+acts_are o r y b s = ap (λ (q : Sequencer). by_reply (no_looks r) (does_nothing q) y b) (as_is o r s)
 
-whole_acts : (o : Own) (r : Recovering) (y : ℕ) (b : Body) → o.preempted ≡ None → is_of_earlier o.row.epoch b ≡ true
-    → on_reply o.row.spec (joined o (Some r)).sequencer y b ≡ rejoin o (by_reply o.row.spec (does_nothing (only o.row.spec.log o.row.epoch o.lce r.recovery)) y b)
+whole_acts : (looks : ℕ → View) (o : Own) (r : Recovering) (y : ℕ) (b : Body) → o.preempted ≡ None → is_of_earlier o.row.epoch b ≡ true
+    → on_reply looks (joined o (Some r)).sequencer y b ≡ rejoin o (by_reply looks (does_nothing (only o.row.spec.log o.row.epoch o.lce r.recovery)) y b)
 unfolding on_reply
-whole_acts o r y b p e =
+whole_acts looks o r y b p e =
     let q = (joined o (Some r)).sequencer in
-    ap (λ (x : Option ℕ). unless_preempted x (by_reply o.row.spec (does_nothing q) y b) (does_nothing q)) p ∙ join_by o.row.spec o r.recovery y b e
+    ap (λ (x : Option ℕ). unless_preempted x (by_reply looks (does_nothing q) y b) (does_nothing q)) p ∙ join_by looks o r.recovery y b e
 
 value_with : (r : Recovering) (y : ℕ) (b : Body) (a : Acts) → r.ending ≡ Goes → recovering.reply_acts r y b ≡ a → replied r y b ≡ replied_with r b a
 value_with r y b a g k = ap (λ (e : Ending). when_going e (replied_with r b (recovering.reply_acts r y b)) r) g ∙ ap (replied_with r b) k
@@ -72,42 +75,48 @@ sent_with : (r : Recovering) (y : ℕ) (b : Body) (a : Acts) → r.ending ≡ Go
 sent_with r y b a g k = ap (λ (e : Ending). when_going e (messages r (recovering.sent_by r (recovering.reply_acts r y b))) []) g ∙ ap (λ (x : Acts). messages r (recovering.sent_by r x)) k
 
 onward_of : (o : Own) (r : Recovering) (y : ℕ) (b : Body) → Serves o r → o.preempted ≡ None → is_of_earlier o.row.epoch b ≡ true
-    → Moves (only o.row.spec.log o.row.epoch o.lce r.recovery) r.recovery (by_reply o.row.spec (does_nothing (only o.row.spec.log o.row.epoch o.lce r.recovery)) y b) → Onward o r y b
-onward_of o r y b s p e h =
+    → Steady (only o.row.spec.log o.row.epoch o.lce r.recovery) r.recovery (λ looks. by_reply looks (does_nothing (only o.row.spec.log o.row.epoch o.lce r.recovery)) y b) → Onward o r y b
+onward_of o r y b s p e d =
     let q = only o.row.spec.log o.row.epoch o.lce r.recovery in
+    let h = d.moves in
     let a = moved q h.now h.tries h.asks h.stores in
+    let own : recovering.reply_acts r y b ≡ a = acts_are o r y b s ∙ (d.same (no_looks r) ∙ h.value) in
     let unclosed : (o.lce == r.recovery.epoch - 1) ≡ true = let k = s.epoch in grind (arith, nat_tests) in
     record {
+      acts = rejoin o d.acts;
+      same = λ looks. whole_acts looks o r y b p e ∙ ap (rejoin o) (d.same looks);
       moves = record {
         now = h.now;
         tries = h.tries;
         asks = h.asks;
         stores = h.stores;
-        value = whole_acts o r y b p e ∙ ap (rejoin o) h.value;
+        value = ap (rejoin o) h.value;
         epoch = h.epoch;
+        spec = h.spec;
         due = h.due;
         quiet = h.quiet;
       };
-      value = value_with r y b a s.going (acts_are o r y b s ∙ h.value) ∙ ap (λ (t : Bool). if t then recovering.goes_on r a else ended r (ending_told (summary_told b))) unclosed;
-      sent = sent_with r y b a s.going (acts_are o r y b s ∙ h.value) ∙ (ap (λ (t : Bool). messages r (if t then a.asks ++ a.stores else a.cleans)) unclosed ∙ sent_of o (Some r) r (h.asks ++ h.stores) s);
+      value = value_with r y b a s.going own ∙ ap (λ (t : Bool). if t then recovering.goes_on r a else ended r (ending_told (summary_told b))) unclosed;
+      sent = sent_with r y b a s.going own ∙ (ap (λ (t : Bool). messages r (if t then a.asks ++ a.stores else a.cleans)) unclosed ∙ sent_of o (Some r) r (h.asks ++ h.stores) s);
     }
 
 ended_of : (o : Own) (r : Recovering) (y : ℕ) (b : Body) → Serves o r → o.preempted ≡ None → is_of_earlier o.row.epoch b ≡ true
-    → Cleans o.row.spec (only o.row.spec.log o.row.epoch o.lce r.recovery) r.recovery b (by_reply o.row.spec (does_nothing (only o.row.spec.log o.row.epoch o.lce r.recovery)) y b) → Ended o r y b
+    → Cleans (only o.row.spec.log o.row.epoch o.lce r.recovery) r.recovery b (λ looks. by_reply looks (does_nothing (only o.row.spec.log o.row.epoch o.lce r.recovery)) y b) → Ended o r y b
 ended_of o r y b s p e h =
     let q = only o.row.spec.log o.row.epoch o.lce r.recovery in
     let n = r.recovery.epoch in
-    let a = goes_on o.row.spec (tells_clean o.row.spec (does_nothing q) n h.summary) n in
+    let a = goes_on (no_looks r) (tells_clean (does_nothing q) n h.summary) n in
+    let own : recovering.reply_acts r y b ≡ a = acts_are o r y b s ∙ h.value (no_looks r) in
     let shut : (n == n - 1) ≡ false = let k = s.epoch in grind (arith, nat_tests) in
     record {
       summary = h.summary;
-      acts = whole_acts o r y b p e ∙ ap (rejoin o) h.value;
-      value = value_with r y b a s.going (acts_are o r y b s ∙ h.value) ∙ (ap (λ (t : Bool). if t then recovering.goes_on r a else ended r (ending_told (summary_told b))) shut ∙ ap (λ (x : Option Summary). ended r (ending_told x)) h.told);
-      sent = sent_with r y b a s.going (acts_are o r y b s ∙ h.value) ∙ (ap (λ (t : Bool). messages r (if t then a.asks ++ a.stores else a.cleans)) shut ∙ sent_of o (Some r) r (to_each (bodies.Clean n h.summary) (nodes_of o.row.spec)) s);
+      acts = λ looks. whole_acts looks o r y b p e ∙ ap (rejoin o) (h.value looks);
+      value = value_with r y b a s.going own ∙ (ap (λ (t : Bool). if t then recovering.goes_on r a else ended r (ending_told (summary_told b))) shut ∙ ap (λ (x : Option Summary). ended r (ending_told x)) h.told);
+      sent = sent_with r y b a s.going own ∙ (ap (λ (t : Bool). messages r (if t then a.asks ++ a.stores else a.cleans)) shut ∙ sent_of o (Some r) r (to_each (bodies.Clean n h.summary) (nodes_of r.recovery.spec)) s);
     }
 
 pub hears : (o : Own) (r : Recovering) (y : ℕ) (b : Body) → Serves o r → o.preempted ≡ None → is_of_earlier o.row.epoch b ≡ true → Onward o r y b ⊎ Ended o r y b
-hears o r y b s p e = elim (either_by o.row.spec o.row.spec.log o.row.epoch o.lce r.recovery y b e) [ inl h ↦ inl (onward_of o r y b s p e h) | inr h ↦ inr (ended_of o r y b s p e h) ]
+hears o r y b s p e = elim (either_by o.row.spec.log o.row.epoch o.lce r.recovery y b e) [ inl h ↦ inl (onward_of o r y b s p e h) | inr h ↦ inr (ended_of o r y b s p e h) ]
 
 state_not_done : (t : Stage) (y : Summary) → Rattle.ld_recovery.specs.States.state_in t ≡ states.Done y → ⊥
 state_not_done (Seals d) y h = absurd cc
@@ -125,7 +134,7 @@ hears_end o r x y b z e h (inr p) = p
 -- ---- what is done by it ----
 
 pub onward_one : (o : Own) (m : Option Recovering) (r x : Recovering) (y : ℕ) (b : Body) → AreOne o m → m ≡ Some r → x ≡ replied r y b → Onward o r y b → AreOne o (Some x)
-onward_one o m r x y b h k e p = one_with o m (Some x) h (subst (λ (z : Recovering). Serves o z) (sym (e ∙ p.value)) (serves_on o r p.moves.now (served o m r k h) p.moves.epoch))
+onward_one o m r x y b h k e p = one_with o m (Some x) h (subst (λ (z : Recovering). Serves o z) (sym (e ∙ p.value)) (serves_on o r p.moves.now (served o m r k h) p.moves.epoch p.moves.spec))
 
 moved_acted : (o : Own) (r : Recovering) (t : Report) (v : Recovery) (ts : List (ℕ × Summary)) (bs ss : List (ℕ × Body)) (old new : List Msg) → t.acked ≡ None → t.closed ≡ None → t.preempted ≡ None → t.register ≡ None → t.released ≡ None
     → new ≡ old ++ sent_as (joined o (Some r)) (bs ++ ss) → Acted (joined o (Some r)) (joined o (Some (going r v))) t old new (moved (joined o (Some r)).sequencer v ts bs ss)
@@ -133,7 +142,7 @@ moved_acted o r t v ts bs ss old new a c p f l s =
     let q = (joined o (Some r)).sequencer in
     record {
       now = refl;
-      sent = s ∙ ap (λ (ms : List (ℕ × Body)). old ++ sent_as (joined o (Some r)) (ms ++ (bs ++ ss))) (sym (same_quiet o.row.spec q (with_recovery (Some v) q) refl));
+      sent = s ∙ ap (λ (ms : List (ℕ × Body)). old ++ sent_as (joined o (Some r)) (ms ++ (bs ++ ss))) (sym (same_quiet q (with_recovery (Some v) q) refl));
       acked = ap listed a;
       closed = ap listed c;
       preempted = ap listed p;
@@ -141,55 +150,55 @@ moved_acted o r t v ts bs ss old new a c p f l s =
       released = ap listed l ∙ same_risen q (with_recovery (Some v) q) refl;
     }
 
-pub onward_acted : (w : Whole) (o : Own) (m : Option Recovering) (r x : Recovering) (t : Report) (who : Who) (b : Body) (old new : List Msg) → joined o m ≡ w → m ≡ Some r → x ≡ replied r (sender_of who) b → Onward o r (sender_of who) b
+pub onward_acted : (looks : ℕ → View) (w : Whole) (o : Own) (m : Option Recovering) (r x : Recovering) (t : Report) (who : Who) (b : Body) (old new : List Msg) → joined o m ≡ w → m ≡ Some r → x ≡ replied r (sender_of who) b → Onward o r (sender_of who) b
     → t.acked ≡ None → t.closed ≡ None → t.preempted ≡ None → t.register ≡ None → t.released ≡ None
-    → new ≡ old ++ reply_messages r (sender_of who) b → Acted w (joined o (Some x)) t old new (reply_acts w who b)
-onward_acted w o m r x t who b old new j k e p ta tc tp tf tl s =
+    → new ≡ old ++ reply_messages r (sender_of who) b → Acted w (joined o (Some x)) t old new (reply_acts looks w who b)
+onward_acted looks w o m r x t who b old new j k e p ta tc tp tf tl s =
     let d = p.moves in
-    subst (λ (z : Whole). Acted z (joined o (Some x)) t old new (reply_acts z who b)) (ap (joined o) (sym k) ∙ j)
-    (subst (λ (z : Recovering). Acted (joined o (Some r)) (joined o (Some z)) t old new (reply_acts (joined o (Some r)) who b)) (sym (e ∙ p.value))
-    (subst (Acted (joined o (Some r)) (joined o (Some (going r d.now))) t old new) (sym d.value)
+    subst (λ (z : Whole). Acted z (joined o (Some x)) t old new (reply_acts looks z who b)) (ap (joined o) (sym k) ∙ j)
+    (subst (λ (z : Recovering). Acted (joined o (Some r)) (joined o (Some z)) t old new (reply_acts looks (joined o (Some r)) who b)) (sym (e ∙ p.value))
+    (subst (Acted (joined o (Some r)) (joined o (Some (going r d.now))) t old new) (sym (p.same looks ∙ d.value))
     (moved_acted o r t d.now d.tries d.asks d.stores old new ta tc tp tf tl (s ∙ ap (λ (ms : List Msg). old ++ ms) p.sent))))
 
-clean_out : (o : Own) (r : Recovering) (e : ℕ) (y : Summary) (old mid new : List Msg) → mid ≡ old ++ sent_as (joined o (Some r)) (to_each (bodies.Clean e y) (nodes_of o.row.spec))
-    → new ≡ mid ++ sent_as (joined o (Some r)) (acted_messages o.row.spec (joined o (Some r)).sequencer (onward (joined o (Some r)) e))
-    → new ≡ old ++ sent_as (joined o (Some r)) (acted_messages o.row.spec (joined o (Some r)).sequencer (goes_on o.row.spec (tells_clean o.row.spec (does_nothing (joined o (Some r)).sequencer) e y) e))
-clean_out o r e y old mid new h k =
+clean_out : (looks : ℕ → View) (o : Own) (r : Recovering) (e : ℕ) (y : Summary) (old mid new : List Msg) → mid ≡ old ++ sent_as (joined o (Some r)) (to_each (bodies.Clean e y) (nodes_of r.recovery.spec))
+    → new ≡ mid ++ sent_as (joined o (Some r)) (acted_messages (joined o (Some r)).sequencer (onward looks (joined o (Some r)) e))
+    → new ≡ old ++ sent_as (joined o (Some r)) (acted_messages (joined o (Some r)).sequencer (goes_on looks (tells_clean (does_nothing (joined o (Some r)).sequencer) e y) e))
+clean_out looks o r e y old mid new h k =
     let w = joined o (Some r) in
-    let cs : List (ℕ × Body) = to_each (bodies.Clean e y) (nodes_of o.row.spec) in
-    let bs : List (ℕ × Body) = acted_messages o.row.spec w.sequencer (onward w e) in
-    k ∙ (ap (λ (ms : List Msg). ms ++ sent_as w bs) h ∙ (append_assoc old (sent_as w cs) (sent_as w bs) ∙ ap (λ (ms : List Msg). old ++ ms) (sym (posted_both (whos.Sequencer o.row.epoch) o.row.spec.log cs bs))))
+    let cs : List (ℕ × Body) = to_each (bodies.Clean e y) (nodes_of r.recovery.spec) in
+    let bs : List (ℕ × Body) = acted_messages w.sequencer (onward looks w e) in
+    k ∙ (ap (λ (ms : List Msg). ms ++ sent_as w bs) h ∙ (append_assoc old (sent_as w cs) (sent_as w bs) ∙ ap (λ (ms : List Msg). old ++ ms) (sym (posted-append (whos.Sequencer o.row.epoch) o.row.spec.log cs bs))))
 
-ended_there : (o : Own) (r : Recovering) (n : Whole) (who : Who) (b : Body) (before : ℕ) (released : Option ℕ) (old mid new : List Msg) (p : Ended o r (sender_of who) b)
+ended_there : (looks : ℕ → View) (o : Own) (r : Recovering) (n : Whole) (who : Who) (b : Body) (before : ℕ) (released : Option ℕ) (old mid new : List Msg) (p : Ended o r (sender_of who) b)
     → before ≡ released_of (joined o (Some r)).sequencer → mid ≡ old ++ reply_messages r (sender_of who) b
-    → n ≡ as_now (joined o (Some r)) (onward (joined o (Some r)) r.recovery.epoch).sequencer → new ≡ mid ++ sent_as (joined o (Some r)) (acted_messages o.row.spec (joined o (Some r)).sequencer (onward (joined o (Some r)) r.recovery.epoch))
+    → n ≡ as_now (joined o (Some r)) (onward looks (joined o (Some r)) r.recovery.epoch).sequencer → new ≡ mid ++ sent_as (joined o (Some r)) (acted_messages (joined o (Some r)).sequencer (onward looks (joined o (Some r)) r.recovery.epoch))
     → listed released ≡ (if nat_lt before (released_of n.sequencer) then released_of n.sequencer ∷ [] else [])
-    → Acted (joined o (Some r)) n (report_of None None None None released) old new (reply_acts (joined o (Some r)) who b)
-ended_there o r n who b before released old mid new p bf g i s l =
+    → Acted (joined o (Some r)) n (report_of None None None None released) old new (reply_acts looks (joined o (Some r)) who b)
+ended_there looks o r n who b before released old mid new p bf g i s l =
     let w = joined o (Some r) in let e = r.recovery.epoch in
-    subst (Acted w n (report_of None None None None released) old new) (sym p.acts) (record {
+    subst (Acted w n (report_of None None None None released) old new) (sym (p.acts looks)) (record {
       now = i;
-      sent = clean_out o r e p.summary old mid new (g ∙ ap (λ (ms : List Msg). old ++ ms) p.sent) s;
+      sent = clean_out looks o r e p.summary old mid new (g ∙ ap (λ (ms : List Msg). old ++ ms) p.sent) s;
       acked = refl;
       closed = refl;
       preempted = refl;
       failed = refl;
       released = l ∙ (ap (λ (z : Whole). if nat_lt before (released_of z.sequencer) then released_of z.sequencer ∷ [] else []) i
-          ∙ ap (λ (z : ℕ). if nat_lt z (released_of (onward w e).sequencer) then released_of (onward w e).sequencer ∷ [] else []) bf);
+          ∙ ap (λ (z : ℕ). if nat_lt z (released_of (onward looks w e).sequencer) then released_of (onward looks w e).sequencer ∷ [] else []) bf);
     })
 
-pub ended_acted : (w n : Whole) (o : Own) (m : Option Recovering) (r x : Recovering) (who : Who) (b : Body) (e before : ℕ) (released : Option ℕ) (old mid new : List Msg) → joined o m ≡ w → m ≡ Some r → x ≡ replied r (sender_of who) b → e ≡ x.recovery.epoch
+pub ended_acted : (looks : ℕ → View) (w n : Whole) (o : Own) (m : Option Recovering) (r x : Recovering) (who : Who) (b : Body) (e before : ℕ) (released : Option ℕ) (old mid new : List Msg) → joined o m ≡ w → m ≡ Some r → x ≡ replied r (sender_of who) b → e ≡ x.recovery.epoch
     → before ≡ released_of w.sequencer → mid ≡ old ++ reply_messages r (sender_of who) b
-    → n ≡ as_now (joined o None) (onward (joined o None) e).sequencer → new ≡ mid ++ sent_as (joined o None) (acted_messages (joined o None).spec (joined o None).sequencer (onward (joined o None) e))
+    → n ≡ as_now (joined o None) (onward looks (joined o None) e).sequencer → new ≡ mid ++ sent_as (joined o None) (acted_messages (joined o None).sequencer (onward looks (joined o None) e))
     → listed released ≡ (if nat_lt before (released_of n.sequencer) then released_of n.sequencer ∷ [] else [])
-    → Ended o r (sender_of who) b → Acted w n (report_of None None None None released) old new (reply_acts w who b)
-ended_acted w n o m r x who b e before released old mid new j k f g bf t i s l p =
+    → Ended o r (sender_of who) b → Acted w n (report_of None None None None released) old new (reply_acts looks w who b)
+ended_acted looks w n o m r x who b e before released old mid new j k f g bf t i s l p =
     let z : joined o (Some r) ≡ w = ap (joined o) (sym k) ∙ j in
     let d : e ≡ r.recovery.epoch = g ∙ ap (λ (q : Recovering). q.recovery.epoch) (f ∙ p.value) in
-    subst (λ (q : Whole). Acted q n (report_of None None None None released) old new (reply_acts q who b)) z
-    (ended_there o r n who b before released old mid new p (bf ∙ ap (λ (q : Whole). released_of q.sequencer) (sym z)) t
-    (i ∙ ap (λ (y : ℕ). as_now (joined o None) (onward (joined o None) y).sequencer) d)
-    (s ∙ ap (λ (y : ℕ). mid ++ sent_as (joined o None) (acted_messages (joined o None).spec (joined o None).sequencer (onward (joined o None) y))) d) l)
+    subst (λ (q : Whole). Acted q n (report_of None None None None released) old new (reply_acts looks q who b)) z
+    (ended_there looks o r n who b before released old mid new p (bf ∙ ap (λ (q : Whole). released_of q.sequencer) (sym z)) t
+    (i ∙ ap (λ (y : ℕ). as_now (joined o None) (onward looks (joined o None) y).sequencer) d)
+    (s ∙ ap (λ (y : ℕ). mid ++ sent_as (joined o None) (acted_messages (joined o None).sequencer (onward looks (joined o None) y))) d) l)
 
 pub hears_in : (w : Whole) (o : Own) (m : Option Recovering) (r : Recovering) (y : ℕ) (b : Body) → joined o m ≡ w → AreOne o m → m ≡ Some r → is_for_recovery w b ≡ true → Onward o r y b ⊎ Ended o r y b
 hears_in w o m r y b j h k f =

@@ -1,14 +1,18 @@
 pub mod Activating
+pub mod Alike
 pub mod Begins
 pub mod Causes
 pub mod Closing
+pub mod Comparing
 pub mod Counted
 pub mod Doing
 pub mod Hearing
 pub mod Kept
+pub mod Looking
 pub mod Marks
 pub mod Owning
 pub mod Parts
+pub mod Passing
 pub mod Replies
 pub mod Retrying
 pub mod Rounds
@@ -16,6 +20,7 @@ pub mod Rows
 pub mod Sends
 pub mod Serving
 pub mod Starting
+pub mod Telling
 pub mod Waves
 pub mod Windows
 pub mod Bounded

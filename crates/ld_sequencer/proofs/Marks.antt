@@ -2,9 +2,10 @@
 use Rattle.std.proofs.Common.{◌≡◌, ℕ, zero, suc, ◌+◌, ◌-◌, ◌^◌, ◌<◌, ◌≤◌, Bool, true, false, List, [], ◌∷◌, ◌++◌, length, map, drop, set, slice_get, unwrap_or, Some, refl, ap, sym, subst, ◌∙◌, inl, inr, arith, if◌then◌else◌, nat_le}
 use Rattle.std.proofs.lemmas.Bool.{cases_Bool, lt-leb, leb-false}
 use Rattle.std.proofs.lemmas.List.{length-append, length-set, drop-drop, length-drop, length-map, map_push, map-set, drop-set-add, drop-map}
+use Rattle.ld_recovery.proofs.Settling.{longer}
 use Rattle.ld_table.specs.Table.{find, put}
 use Rattle.ld_lsn.specs.Number.{numbered}
-use Rattle.ld_table.specs.Words.{with_one, is_in}
+use Rattle.ld_table.specs.Words.{with_one}
 use Rattle.ld_ids.specs.declared.set.Spec.{Spec}
 use Rattle.ld_msg.specs.Sequencer.{Append, stored_at, is_acked, acked_first, unacked_from, payload_limit}
 use Rattle.ld_window.specs.Flags.{leading}
@@ -87,9 +88,6 @@ pub waiting_get : (r : ℕ) (ws : List Waiting) (i : ℕ) (w : Waiting) → AreW
 waiting_get r [] i w h g = absurd cc
 waiting_get r (v ∷ ws) zero w h g = let e : v ≡ w = cc in subst (IsWaiting r) e h.0
 waiting_get r (v ∷ ws) (suc i) w h g = waiting_get r ws i w h.1 g
-
-longer : (y : ℕ) (ys : List ℕ) → length ys ≤ length (with_one y ys)
-longer y ys = elim (is_in y ys) as (λ b. length ys ≤ length (if b then ys else ys ++ y ∷ [])) [ true ↦ omega arith | false ↦ let e : length (ys ++ y ∷ []) ≡ length ys + 1 = length-append ys (y ∷ []) in omega arith ]
 
 -- enough nodes stay enough
 grows : (w : Waiting) (y : ℕ) → is_enough (with_stored w y) ≡ false → is_enough w ≡ false

@@ -1,6 +1,5 @@
 -- A message that is not for the recovery: what it does is for the own epoch.
 use Rattle.std.proofs.Common.{◌≡◌, ◌⊎◌, inl, inr, ℕ, Bool, true, false, not, ◌&&◌, nat_lt, List, [], ◌∷◌, ◌++◌, ◌+◌, Option, Some, None, is_some, if◌then◌else◌, refl, ap, sym, subst, ◌∙◌}
-use Rattle.ld_ids.specs.declared.set.Spec.{Spec}
 use Rattle.ld_msg.specs.declared.msg.Summary.{Summary}
 use Rattle.ld_msg.specs.declared.msg.Msg.{Msg}
 use Rattle.ld_msg.specs.declared.msg.Who.{Who}
@@ -8,9 +7,12 @@ use Rattle.ld_msg.specs.declared.msg.Who.TheVariants as whos
 use Rattle.ld_msg.specs.declared.msg.Body.{Body}
 use Rattle.ld_msg.specs.declared.msg.Body.TheVariants as bodies
 use Rattle.ld_msg.specs.Bounds.{Fits, IsNodeHere}
+use Rattle.ld_msg.specs.Register.{View}
 use Rattle.ld_msg.specs.Sequencer.{Sequencer, Recovery, Acts, does_nothing, by_reply, on_reply, unless_preempted, acted_messages, released_of, recovery_of}
 use Rattle.ld_recovery.specs.Recovering.{Recovering, sender_of}
-use Rattle.ld_sequencer.specs.Own.{Own, IsKept, Does, sequencer_of, spec_of, sent_by, heard, listed}
+use Rattle.ld_sequencer.specs.declared.origin.Origin.{Origin}
+use Rattle.ld_sequencer.specs.Looks.{shows}
+use Rattle.ld_sequencer.specs.Own.{Own, IsKept, Does, sequencer_of, sent_by, answered, heard, listed}
 use Rattle.ld_sequencer.specs.declared.own.Learnt.{Learnt}
 use Rattle.ld_sequencer.specs.Whole.{Whole, as_now, joined, recovery_in, with_recovery, AreOne, closing_in, is_of_earlier, is_for_recovery, reply_acts, Acted, IsFresh}
 use Rattle.ld_sequencer.proofs.Parts.{in_whole, own_by, none_by, not_fresh}
@@ -26,57 +28,57 @@ abbrev beside : Own → Option Recovery → Acts
 beside o v = does_nothing (with_recovery v (sequencer_of o))
 
 pub own_one : (o p : Own) (m : Option Recovering) → AreOne o m → IsKept o p → AreOne p m
-own_one o p m h k = one_on o p m k.spec k.epoch k.lce h
+own_one o p m h k = one_on o p m k.origin k.spec k.epoch k.lce h
 
 -- ---- messages that are no node's do nothing ----
 
-stranger : (s : Spec) (a : Acts) (who to : Who) (b : Body) → Fits who to b → (IsNodeHere who → ⊥) → by_reply s a 0 b ≡ a
-stranger s a who to (bodies.Stored n) h k = absurd (k h.0.0)
-stranger s a who to (bodies.SealedHere n e) h k = absurd (k h.0.0)
-stranger s a who to (bodies.LostHere n round generation end) h k = absurd (k h.0)
-stranger s a who to (bodies.CleanHere n y) h k = absurd (k h.0.0)
-stranger s a who to (bodies.TrimmedHere n t) h k = absurd (k h.0.0)
-stranger s a who to (bodies.DigestPage from upto trim lng es) h k = absurd (k h.0.0)
-stranger s a who to _ h k = refl
+stranger : (looks : ℕ → View) (a : Acts) (who to : Who) (b : Body) → Fits who to b → (IsNodeHere who → ⊥) → by_reply looks a 0 b ≡ a
+stranger looks a who to (bodies.Stored n) h k = absurd (k h.0.0)
+stranger looks a who to (bodies.SealedHere n e) h k = absurd (k h.0.0)
+stranger looks a who to (bodies.LostHere n round generation end) h k = absurd (k h.0)
+stranger looks a who to (bodies.CleanHere n y) h k = absurd (k h.0.0)
+stranger looks a who to (bodies.TrimmedHere n t) h k = absurd (k h.0.0)
+stranger looks a who to (bodies.DigestPage from upto trim lng es) h k = absurd (k h.0.0)
+stranger looks a who to _ h k = refl
 
-strange_if : (s : Spec) (q : Sequencer) (who to : Who) (b : Body) (p : Option ℕ) → Fits who to b → (IsNodeHere who → ⊥) → unless_preempted p (by_reply s (does_nothing q) 0 b) (does_nothing q) ≡ does_nothing q
-strange_if s q who to b None h k = stranger s (does_nothing q) who to b h k
-strange_if s q who to b (Some e) h k = refl
+strange_if : (looks : ℕ → View) (q : Sequencer) (who to : Who) (b : Body) (p : Option ℕ) → Fits who to b → (IsNodeHere who → ⊥) → unless_preempted p (by_reply looks (does_nothing q) 0 b) (does_nothing q) ≡ does_nothing q
+strange_if looks q who to b None h k = stranger looks (does_nothing q) who to b h k
+strange_if looks q who to b (Some e) h k = refl
 
-strange : (s : Spec) (q : Sequencer) (who to : Who) (b : Body) → Fits who to b → (IsNodeHere who → ⊥) → on_reply s q 0 b ≡ does_nothing q
+strange : (looks : ℕ → View) (q : Sequencer) (who to : Who) (b : Body) → Fits who to b → (IsNodeHere who → ⊥) → on_reply looks q 0 b ≡ does_nothing q
 unfolding on_reply
-strange s q who to b h k = strange_if s q who to b q.preempted h k
+strange looks q who to b h k = strange_if looks q who to b q.preempted h k
 
 -- ---- a message for the own epoch ----
 
-own_or : (s : Spec) (o : Own) (v : Option Recovery) (y : ℕ) (b : Body) → (is_some v && is_of_earlier o.row.epoch b) ≡ false → by_reply s (beside o v) y b ≡ in_whole v (by_reply s (alone o) y b)
-own_or s o None y b h = none_by s o y b
-own_or s o (Some v) y b h = own_by s o (Some v) y b h
+own_or : (looks others : ℕ → View) (o : Own) (v : Option Recovery) (y : ℕ) (b : Body) → (is_some v && is_of_earlier o.row.epoch b) ≡ false → by_reply looks (beside o v) y b ≡ in_whole v (by_reply others (alone o) y b)
+own_or looks others o None y b h = none_by looks others o y b
+own_or looks others o (Some v) y b h = own_by looks others o (Some v) y b h
 
-own_unless : (s : Spec) (o : Own) (v : Option Recovery) (y : ℕ) (b : Body) (p : Option ℕ) → (not (is_some p) && (is_some v && is_of_earlier o.row.epoch b)) ≡ false
-    → unless_preempted p (by_reply s (beside o v) y b) (beside o v) ≡ in_whole v (unless_preempted p (by_reply s (alone o) y b) (alone o))
-own_unless s o v y b None h = own_or s o v y b h
-own_unless s o v y b (Some k) h = refl
+own_unless : (looks others : ℕ → View) (o : Own) (v : Option Recovery) (y : ℕ) (b : Body) (p : Option ℕ) → (not (is_some p) && (is_some v && is_of_earlier o.row.epoch b)) ≡ false
+    → unless_preempted p (by_reply looks (beside o v) y b) (beside o v) ≡ in_whole v (unless_preempted p (by_reply others (alone o) y b) (alone o))
+own_unless looks others o v y b None h = own_or looks others o v y b h
+own_unless looks others o v y b (Some k) h = refl
 
-own_reply : (o : Own) (m : Option Recovering) (y : ℕ) (b : Body) → is_for_recovery (joined o m) b ≡ false → on_reply o.row.spec (joined o m).sequencer y b ≡ in_whole (recovery_in m) (on_reply o.row.spec (sequencer_of o) y b)
+own_reply : (looks : ℕ → View) (o : Own) (m : Option Recovering) (y : ℕ) (b : Body) → is_for_recovery (joined o m) b ≡ false → on_reply looks (joined o m).sequencer y b ≡ in_whole (recovery_in m) (answered o y b)
 unfolding on_reply
-own_reply o m y b h = own_unless o.row.spec o (recovery_in m) y b o.preempted h
+own_reply looks o m y b h = own_unless looks (shows o.row.spec) o (recovery_in m) y b o.preempted h
 
-reply_own : (o : Own) (m : Option Recovering) (who to : Who) (b : Body) → Fits who to b → is_for_recovery (joined o m) b ≡ false → reply_acts (joined o m) who b ≡ in_whole (recovery_in m) (heard o who b)
-reply_own o m (whos.Node y) to b h k = own_reply o m y b k
-reply_own o m (whos.Sequencer e) to b h k = strange o.row.spec (joined o m).sequencer (whos.Sequencer e) to b h (λ x. x)
-reply_own o m (whos.Reader e) to b h k = strange o.row.spec (joined o m).sequencer (whos.Reader e) to b h (λ x. x)
+reply_own : (looks : ℕ → View) (o : Own) (m : Option Recovering) (who to : Who) (b : Body) → Fits who to b → is_for_recovery (joined o m) b ≡ false → reply_acts looks (joined o m) who b ≡ in_whole (recovery_in m) (heard o who b)
+reply_own looks o m (whos.Node y) to b h k = own_reply looks o m y b k
+reply_own looks o m (whos.Sequencer e) to b h k = strange looks (joined o m).sequencer (whos.Sequencer e) to b h (λ x. x)
+reply_own looks o m (whos.Reader e) to b h k = strange looks (joined o m).sequencer (whos.Reader e) to b h (λ x. x)
 
-own_there : (o p : Own) (m : Option Recovering) (l : Learnt) (who to : Who) (b : Body) (before : ℕ) (released : Option ℕ) (old new : List Msg) → Fits who to b → is_for_recovery (joined o m) b ≡ false → Does o p l (heard o who b)
-    → new ≡ old ++ sent_by o (acted_messages (spec_of o) (sequencer_of o) (heard o who b)) → before ≡ released_of (joined o m).sequencer
+own_there : (looks : ℕ → View) (o p : Own) (m : Option Recovering) (l : Learnt) (who to : Who) (b : Body) (before : ℕ) (released : Option ℕ) (old new : List Msg) → Fits who to b → is_for_recovery (joined o m) b ≡ false → Does o p l (heard o who b)
+    → new ≡ old ++ sent_by o (acted_messages (sequencer_of o) (heard o who b)) → before ≡ released_of (joined o m).sequencer
     → listed released ≡ (if nat_lt before (released_of (joined p m).sequencer) then released_of (joined p m).sequencer ∷ [] else [])
-    → Acted (joined o m) (joined p m) (report_of l.acked None l.preempted None released) old new (reply_acts (joined o m) who b)
-own_there o p m l who to b before released old new h k d s bf r =
+    → Acted (joined o m) (joined p m) (report_of l.acked None l.preempted None released) old new (reply_acts looks (joined o m) who b)
+own_there looks o p m l who to b before released old new h k d s bf r =
     let v = recovery_in m in
     let a = heard o who b in
     let now : joined p m ≡ as_now (joined o m) (with_recovery v a.sequencer) =
-    ap (λ (x : Spec). record { spec = x; sequencer = with_recovery v (sequencer_of p) }) d.now.spec ∙ ap (λ (q : Sequencer). record { spec = o.row.spec; sequencer = with_recovery v q }) d.now.sequencer in
-    subst (Acted (joined o m) (joined p m) (report_of l.acked None l.preempted None released) old new) (sym (reply_own o m who to b h k)) (record {
+    ap (λ (x : Origin). record { origin = x; sequencer = with_recovery v (sequencer_of p) }) d.now.origin ∙ ap (λ (q : Sequencer). record { origin = o.origin; sequencer = with_recovery v q }) d.now.sequencer in
+    subst (Acted (joined o m) (joined p m) (report_of l.acked None l.preempted None released) old new) (sym (reply_own looks o m who to b h k)) (record {
       now = now;
       sent = s;
       acked = d.acked;
@@ -87,24 +89,24 @@ own_there o p m l who to b before released old new h k d s bf r =
           ∙ ap (λ (x : ℕ). if nat_lt x (released_of (with_recovery v a.sequencer)) then released_of (with_recovery v a.sequencer) ∷ [] else []) bf);
     })
 
-pub own_acted : (w : Whole) (o p : Own) (m : Option Recovering) (l : Learnt) (who to : Who) (b : Body) (f : Bool) (before : ℕ) (released : Option ℕ) (old new : List Msg) → joined o m ≡ w → Fits who to b → f ≡ is_for_recovery w b → f ≡ false → Does o p l (heard o who b)
-    → new ≡ old ++ sent_by o (acted_messages (spec_of o) (sequencer_of o) (heard o who b)) → before ≡ released_of w.sequencer
+pub own_acted : (looks : ℕ → View) (w : Whole) (o p : Own) (m : Option Recovering) (l : Learnt) (who to : Who) (b : Body) (f : Bool) (before : ℕ) (released : Option ℕ) (old new : List Msg) → joined o m ≡ w → Fits who to b → f ≡ is_for_recovery w b → f ≡ false → Does o p l (heard o who b)
+    → new ≡ old ++ sent_by o (acted_messages (sequencer_of o) (heard o who b)) → before ≡ released_of w.sequencer
     → listed released ≡ (if nat_lt before (released_of (joined p m).sequencer) then released_of (joined p m).sequencer ∷ [] else [])
-    → Acted w (joined p m) (report_of l.acked None l.preempted None released) old new (reply_acts w who b)
-own_acted w o p m l who to b f before released old new j h e k d s bf r =
-    subst (λ (x : Whole). Acted x (joined p m) (report_of l.acked None l.preempted None released) old new (reply_acts x who b)) j
-    (own_there o p m l who to b before released old new h (ap (λ (x : Whole). is_for_recovery x b) j ∙ (sym e ∙ k)) d s (bf ∙ ap (λ (x : Whole). released_of x.sequencer) (sym j)) r)
+    → Acted w (joined p m) (report_of l.acked None l.preempted None released) old new (reply_acts looks w who b)
+own_acted looks w o p m l who to b f before released old new j h e k d s bf r =
+    subst (λ (x : Whole). Acted x (joined p m) (report_of l.acked None l.preempted None released) old new (reply_acts looks x who b)) j
+    (own_there looks o p m l who to b before released old new h (ap (λ (x : Whole). is_for_recovery x b) j ∙ (sym e ∙ k)) d s (bf ∙ ap (λ (x : Whole). released_of x.sequencer) (sym j)) r)
 
 -- ---- a close is tried where it is due only now ----
 
-fresh_own : (o : Own) (m : Option Recovering) (who to : Who) (b : Body) → Fits who to b → is_for_recovery (joined o m) b ≡ false → IsFresh (joined o m) (reply_acts (joined o m) who b)
-fresh_own o m who to b h k = subst (IsFresh (joined o m)) (sym (reply_own o m who to b h k)) (record {
+fresh_own : (looks : ℕ → View) (o : Own) (m : Option Recovering) (who to : Who) (b : Body) → Fits who to b → is_for_recovery (joined o m) b ≡ false → IsFresh (joined o m) (reply_acts looks (joined o m) who b)
+fresh_own looks o m who to b h k = subst (IsFresh (joined o m)) (sym (reply_own looks o m who to b h k)) (record {
   due = (quiet_heard o who b).tries ∙ not_fresh (closing_in (recovery_in m));
   alone = inl (quiet_heard o who b).tries;
 })
 
-fresh_on : (o : Own) (r : Recovering) (y : ℕ) (b : Body) → Onward o r y b → IsFresh (joined o (Some r)) (on_reply o.row.spec (joined o (Some r)).sequencer y b)
-fresh_on o r y b p = let d = p.moves in let q = (joined o (Some r)).sequencer in subst (IsFresh (joined o (Some r))) (sym d.value) (record {
+fresh_on : (looks : ℕ → View) (o : Own) (r : Recovering) (y : ℕ) (b : Body) → Onward o r y b → IsFresh (joined o (Some r)) (on_reply looks (joined o (Some r)).sequencer y b)
+fresh_on looks o r y b p = let d = p.moves in let q = (joined o (Some r)).sequencer in subst (IsFresh (joined o (Some r))) (sym (p.same looks ∙ d.value)) (record {
   due = d.due;
   alone = elim d.quiet [
     | inl h ↦ inl h
@@ -124,20 +126,20 @@ quiet_due : (p n : Option (ℕ × Summary)) → n ≡ None → [] ≡ (if is_som
 quiet_due (Some x) n h = refl
 quiet_due None n h = ap listed (sym h)
 
-fresh_end : (o : Own) (r : Recovering) (y : ℕ) (b : Body) → Ended o r y b → IsFresh (joined o (Some r)) (on_reply o.row.spec (joined o (Some r)).sequencer y b)
-fresh_end o r y b p = subst (IsFresh (joined o (Some r))) (sym p.acts) (record {
-  due = quiet_due (closing_in (Some r.recovery)) (closing_in (recovery_of o.row.spec (joined o (Some r)).sequencer r.recovery.epoch)) (none_due (nat_lt (r.recovery.epoch + 1) o.row.epoch) _ refl);
+fresh_end : (looks : ℕ → View) (o : Own) (r : Recovering) (y : ℕ) (b : Body) → Ended o r y b → IsFresh (joined o (Some r)) (on_reply looks (joined o (Some r)).sequencer y b)
+fresh_end looks o r y b p = subst (IsFresh (joined o (Some r))) (sym (p.acts looks)) (record {
+  due = quiet_due (closing_in (Some r.recovery)) (closing_in (recovery_of looks (joined o (Some r)).sequencer r.recovery.epoch)) (none_due (nat_lt (r.recovery.epoch + 1) o.row.epoch) _ refl);
   alone = inl refl;
 })
 
-fresh_both : (o : Own) (r : Recovering) (y : ℕ) (b : Body) → Onward o r y b ⊎ Ended o r y b → IsFresh (joined o (Some r)) (on_reply o.row.spec (joined o (Some r)).sequencer y b)
-fresh_both o r y b (inl p) = fresh_on o r y b p
-fresh_both o r y b (inr p) = fresh_end o r y b p
+fresh_both : (looks : ℕ → View) (o : Own) (r : Recovering) (y : ℕ) (b : Body) → Onward o r y b ⊎ Ended o r y b → IsFresh (joined o (Some r)) (on_reply looks (joined o (Some r)).sequencer y b)
+fresh_both looks o r y b (inl p) = fresh_on looks o r y b p
+fresh_both looks o r y b (inr p) = fresh_end looks o r y b p
 
-fresh_in : (o : Own) (m : Option Recovering) (who to : Who) (b : Body) (f : Bool) → AreOne o m → Fits who to b → is_for_recovery (joined o m) b ≡ f → IsFresh (joined o m) (reply_acts (joined o m) who b)
-fresh_in o m who to b false h k e = fresh_own o m who to b k e
-fresh_in o (Some r) who to b true h k e = fresh_both o r (sender_of who) b (hears_in (joined o (Some r)) o (Some r) r (sender_of who) b refl h refl e)
-fresh_in o None who to b true h k e = absurd (is_there o None (joined o None) b refl refl e)
+fresh_in : (looks : ℕ → View) (o : Own) (m : Option Recovering) (who to : Who) (b : Body) (f : Bool) → AreOne o m → Fits who to b → is_for_recovery (joined o m) b ≡ f → IsFresh (joined o m) (reply_acts looks (joined o m) who b)
+fresh_in looks o m who to b false h k e = fresh_own looks o m who to b k e
+fresh_in looks o (Some r) who to b true h k e = fresh_both looks o r (sender_of who) b (hears_in (joined o (Some r)) o (Some r) r (sender_of who) b refl h refl e)
+fresh_in looks o None who to b true h k e = absurd (is_there o None (joined o None) b refl refl e)
 
-pub is_fresh : (w : Whole) (o : Own) (m : Option Recovering) (who to : Who) (b : Body) → joined o m ≡ w → AreOne o m → Fits who to b → IsFresh w (reply_acts w who b)
-is_fresh w o m who to b j h k = subst (λ (x : Whole). IsFresh x (reply_acts x who b)) j (fresh_in o m who to b (is_for_recovery (joined o m) b) h k refl)
+pub is_fresh : (looks : ℕ → View) (w : Whole) (o : Own) (m : Option Recovering) (who to : Who) (b : Body) → joined o m ≡ w → AreOne o m → Fits who to b → IsFresh w (reply_acts looks w who b)
+is_fresh looks w o m who to b j h k = subst (λ (x : Whole). IsFresh x (reply_acts looks x who b)) j (fresh_in looks o m who to b (is_for_recovery (joined o m) b) h k refl)

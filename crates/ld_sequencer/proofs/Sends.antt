@@ -1,8 +1,9 @@
 -- Nodes one after another.
-use Rattle.std.proofs.Common.{◌≡◌, ℕ, zero, suc, ◌+◌, ◌<◌, true, false, not, ◌==◌, List, [], ◌∷◌, ◌++◌, length, drop, slice_get, Some, None, if◌then◌else◌, refl, ap, sym, ◌∙◌, append_assoc, arith, add-one, subst, inl, inr}
+use Rattle.std.proofs.Common.{◌≡◌, ℕ, ◌+◌, true, false, not, ◌==◌, List, [], ◌∷◌, ◌++◌, drop, slice_get, Some, if◌then◌else◌, refl, ap, sym, ◌∙◌, append_assoc, subst, inl, inr}
 use Rattle.std.proofs.lemmas.Bool.{or_parts, or_from, eq-eqb, ne_eqb, cases_eq}
 use Rattle.ld_copyset.proofs.Rings.{distinct-without}
 use Rattle.ld_table.specs.Words.{is_in, without}
+use Rattle.ld_table.proofs.Places.{drop_at_place}
 use Rattle.ld_copyset.specs.Copyset.{AreDistinct}
 use Rattle.ld_msg.specs.declared.msg.Msg.{Msg}
 use Rattle.ld_msg.specs.declared.msg.Who.{Who}
@@ -10,30 +11,16 @@ use Rattle.ld_msg.specs.declared.msg.Body.{Body}
 use Rattle.ld_msg.specs.Network.{posted}
 use Rattle.ld_msg.specs.Sequencer.{to_each}
 
-dropped : {X : Type 0} (xs : List X) (i : ℕ) (x : X) → slice_get xs i ≡ Some x → drop i xs ≡ x ∷ drop (suc i) xs
-dropped [] i x e = absurd cc
-dropped (y ∷ xs) zero x e = let same : y ≡ x = cc in ap (λ z. z ∷ xs) same
-dropped (y ∷ xs) (suc i) x e = dropped xs i x e
-
-pub drop_next : {X : Type 0} (xs : List X) (i : ℕ) (x : X) → slice_get xs i ≡ Some x → drop i xs ≡ x ∷ drop (i + 1) xs
-drop_next xs i x e = rw add-one (dropped xs i x e)
-
--- a place within the list has an element
-pub there_is : {X : Type 0} (xs : List X) (i : ℕ) → i < length xs → slice_get xs i ≡ None → ⊥
-there_is [] i h e = omega arith
-there_is (y ∷ xs) zero h e = cc
-there_is (y ∷ xs) (suc i) h e = there_is xs i (omega arith) e
-
 -- one more is sent, and one fewer is left
 pub sent_one : (who : Who) (log : ℕ) (b : Body) (ys : List ℕ) (i y : ℕ) (sent : List Msg) → slice_get ys i ≡ Some y
     → (sent ++ posted who log ((y, b) ∷ [])) ++ posted who log (to_each b (drop (i + 1) ys)) ≡ sent ++ posted who log (to_each b (drop i ys))
-sent_one who log b ys i y sent e = append_assoc sent _ _ ∙ ap (λ zs. sent ++ posted who log (to_each b zs)) (sym (drop_next ys i y e))
+sent_one who log b ys i y sent e = append_assoc sent _ _ ∙ ap (λ zs. sent ++ posted who log (to_each b zs)) (sym (drop_at_place ys i y e))
 
 without_split : (xs : List ℕ) (y : ℕ) (ys : List ℕ) → without xs (y ∷ ys) ≡ without xs (y ∷ []) ++ without xs ys
 without_split xs y ys = elim (is_in y xs) as (λ b. (if not b then y ∷ without xs ys else without xs ys) ≡ (if not b then y ∷ [] else []) ++ without xs ys) [ true ↦ refl | false ↦ refl ]
 
 pub kept_one : (xs ys : List ℕ) (i y : ℕ) (left : List ℕ) → slice_get ys i ≡ Some y → (left ++ without xs (y ∷ [])) ++ without xs (drop (i + 1) ys) ≡ left ++ without xs (drop i ys)
-kept_one xs ys i y left e = append_assoc left _ _ ∙ ap (λ zs. left ++ zs) (sym (ap (without xs) (drop_next ys i y e) ∙ without_split xs y (drop (i + 1) ys)))
+kept_one xs ys i y left e = append_assoc left _ _ ∙ ap (λ zs. left ++ zs) (sym (ap (without xs) (drop_at_place ys i y e) ∙ without_split xs y (drop (i + 1) ys)))
 
 swap : (a b : ℕ) → (a == b) ≡ (b == a)
 swap a b = elim (cases_eq a b) [
@@ -51,5 +38,5 @@ front_lacks (x ∷ left) y rest h = or_from (x == y) (is_in y left) (not_there l
 -- a node that hasn't stored it isn't among those before it
 pub is_new : (xs ys left : List ℕ) (i y : ℕ) → AreDistinct ys → left ++ without xs (drop i ys) ≡ without xs ys → slice_get ys i ≡ Some y → is_in y xs ≡ false → is_in y left ≡ false
 is_new xs ys left i y d h e f =
-    let rest : without xs (drop i ys) ≡ y ∷ without xs (drop (i + 1) ys) = ap (without xs) (drop_next ys i y e) ∙ ap (λ b. if not b then y ∷ without xs (drop (i + 1) ys) else without xs (drop (i + 1) ys)) f in
+    let rest : without xs (drop i ys) ≡ y ∷ without xs (drop (i + 1) ys) = ap (without xs) (drop_at_place ys i y e) ∙ ap (λ b. if not b then y ∷ without xs (drop (i + 1) ys) else without xs (drop (i + 1) ys)) f in
     front_lacks left y (without xs (drop (i + 1) ys)) (subst AreDistinct (sym (sym (ap (λ r. left ++ r) rest) ∙ h)) (distinct-without xs ys d))

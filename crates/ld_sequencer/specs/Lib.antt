@@ -1,4 +1,5 @@
 pub mod Appends
+pub mod Looks
 pub mod Own
 pub mod Register
 pub mod Sending

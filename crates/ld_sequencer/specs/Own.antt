@@ -10,12 +10,15 @@ use Rattle.ld_msg.specs.declared.msg.Body.TheVariants.{Release}
 use Rattle.ld_msg.specs.Network.{posted}
 use Rattle.ld_msg.specs.Sequencer.{Sequencer, Acts, Appending, TooLong, Preempted, EpochFull, WindowFull, Numbered, released_of, to_each, does_nothing, on_reply, append_stores}
 use Rattle.ld_sequencer.specs.Appends.{Row, empty_row, raises}
+use Rattle.ld_sequencer.specs.Looks.{shows}
+use Rattle.ld_sequencer.specs.declared.origin.Origin.{Origin}
 use Rattle.ld_sequencer.specs.declared.own.Learnt.{Learnt}
 use Rattle.ld_sequencer.specs.declared.fault.SequencerFault.{SequencerFault}
 use Rattle.ld_sequencer.specs.declared.fault.SequencerFault.TheVariants as faults
 
--- its appends, up to which epoch all are closed, the nodes that are lost for its epoch, and who preempted it
+-- what doesn't change of its log, its appends, up to which epoch all are closed, the nodes that are lost for its epoch, and who preempted it
 pub record Own : Type 0 where
+  pub origin : Origin
   pub row : Row
   pub lce : ℕ
   pub lost : List ℕ
@@ -28,6 +31,7 @@ abbrev pub sequencer_of : Own → Sequencer
 sequencer_of o = record {
   log = o.row.spec.log;
   epoch = o.row.epoch;
+  spec = o.row.spec;
   lce = o.lce;
   lng = o.row.lng;
   appends = o.row.appends;
@@ -39,17 +43,19 @@ sequencer_of o = record {
 
 -- one that has become what the sequencer is, and is of the same log
 pub record IsNow (before after : Own) (q : Sequencer) : Type 0 where
+  pub origin : after.origin ≡ before.origin
   pub spec : spec_of after ≡ spec_of before
   pub sequencer : sequencer_of after ≡ q
 
 -- its log, its epoch and its last closed epoch are the same
 pub record IsKept (before after : Own) : Type 0 where
+  pub origin : after.origin ≡ before.origin
   pub spec : after.row.spec ≡ before.row.spec
   pub epoch : after.row.epoch ≡ before.row.epoch
   pub lce : after.lce ≡ before.lce
 
-abbrev pub new_own : Spec → ℕ → ℕ → Own
-new_own spec epoch lce = record { row = empty_row spec epoch; lce = lce; lost = []; preempted = None }
+abbrev pub new_own : Origin → Spec → ℕ → ℕ → Own
+new_own origin spec epoch lce = record { origin = origin; row = empty_row spec epoch; lce = lce; lost = []; preempted = None }
 
 -- its messages to nodes
 abbrev pub sent_by : Own → List (ℕ × Body) → List Msg
@@ -67,9 +73,13 @@ append_fault n Numbered = faults.NoMemory
 abbrev pub trim_fault : ℕ → ℕ → SequencerFault
 trim_fault released point = if nat_lt released point then faults.PastReleased released else faults.NoMemory
 
+-- what a node's answer does: with no recovery, it begins none
+abbrev pub answered : Own → ℕ → Body → Acts
+answered o y b = on_reply (shows (spec_of o)) (sequencer_of o) y b
+
 -- what a message of somebody does: one that is no node's does nothing
 abbrev pub heard : Own → Who → Body → Acts
-heard o (whos.Node y) b = on_reply (spec_of o) (sequencer_of o) y b
+heard o (whos.Node y) b = answered o y b
 heard o _ b = does_nothing (sequencer_of o)
 
 -- the messages that tell the released number, where it rose above this one
@@ -88,7 +98,7 @@ raised_own o = record o { row = raises o.row }
 
 -- the stores of the appends that aren't acknowledged
 abbrev pub pending : Own → List (ℕ × Body)
-pending o = append_stores o.row.spec o.lost o.row.appends
+pending o = append_stores o.row.spec o.lost o.row.lng o.row.appends
 
 abbrev pub listed : {X : Type 0} → Option X → List X
 listed None = []

@@ -1,10 +1,12 @@
 -- A register's answers as a sequencer passes them on, and what its closes leave.
-use Rattle.std.specs.Prelude.{ℕ, ◌-◌, ◌^◌, List, [], ◌∷◌, Option, Some, None, Bool, true, nat_le}
+use Rattle.std.specs.Prelude.{ℕ, ◌≡◌, ◌+◌, ◌-◌, ◌^◌, List, [], ◌∷◌, Option, Some, None, Bool, true, nat_le}
 use Rattle.ld_msg.specs.declared.msg.Summary.{Summary}
-use Rattle.ld_msg.specs.Register.{Register, Answer, Granted, Behind, Fails}
+use Rattle.ld_ids.specs.declared.set.Spec.{Spec}
+use Rattle.ld_msg.specs.Register.{Register, Answer, Granted, AtLimit, Behind, Fails, View, close, look}
 use Rattle.ld_register.specs.Calls.{after_close}
 use Rattle.ld_register.specs.declared.fault.RegisterFault.{RegisterFault}
 use Rattle.ld_register.specs.declared.fault.RegisterFault.TheVariants as registers
+use Rattle.ld_sequencer.specs.Looks.{shows, AreAlike}
 use Rattle.ld_sequencer.specs.declared.close.Tried.{Tried}
 use Rattle.ld_sequencer.specs.declared.close.Tried.TheVariants as tried
 use Rattle.ld_sequencer.specs.declared.fault.CloseFault.{CloseFault}
@@ -17,7 +19,7 @@ of_register registers.NoMemory = sequencers.NoMemory
 of_register registers.Failed = sequencers.Register registers.Failed
 of_register (registers.Damaged place) = sequencers.Register (registers.Damaged place)
 of_register registers.LogLimit = sequencers.Register registers.LogLimit
-of_register (registers.Behind lce) = sequencers.Register (registers.Behind lce)
+of_register (registers.Behind lce next) = sequencers.Register (registers.Behind lce next)
 of_register registers.EpochLimit = sequencers.Register registers.EpochLimit
 of_register registers.GenLimit = sequencers.Register registers.GenLimit
 of_register registers.Full = sequencers.Register registers.Full
@@ -36,18 +38,36 @@ after_tries c log (t ∷ ts) = after_close c log t.0 t.1
 -- ---- the answer to a close ----
 
 abbrev pub answer_of : Tried → Answer
-answer_of tried.Taken = Granted
-answer_of (tried.Behind lce) = Behind lce
+answer_of (tried.Taken next) = Granted
+answer_of (tried.Behind lce next) = Behind lce
 answer_of (tried.Unclosed fault) = Fails
 
 -- why the close isn't known to be made
 abbrev pub fault_in : Tried → Option CloseFault
-fault_in tried.Taken = None
-fault_in (tried.Behind lce) = None
+fault_in (tried.Taken next) = None
+fault_in (tried.Behind lce next) = None
 fault_in (tried.Unclosed fault) = Some fault
 
 -- a last closed epoch is at most the greatest epoch
 abbrev pub is_epoch_answer : Tried → Bool
-is_epoch_answer tried.Taken = true
-is_epoch_answer (tried.Behind lce) = nat_le lce (2 ^ 32 - 2)
+is_epoch_answer (tried.Taken next) = true
+is_epoch_answer (tried.Behind lce next) = nat_le lce (2 ^ 32 - 2)
 is_epoch_answer (tried.Unclosed fault) = true
+
+-- what it tells of the epoch behind the last closed one, or else this
+abbrev pub next_in : Spec → Tried → Spec
+next_in first (tried.Taken next) = next
+next_in first (tried.Behind lce next) = next
+next_in first (tried.Unclosed fault) = first
+
+-- it tells the same as looks, where an epoch is to be closed and the answer is this
+abbrev pub Tells : (ℕ → View) → ℕ → Spec → Answer → Type 0
+Tells looks epoch next Granted = AreAlike (shows next) looks (epoch + 1)
+Tells looks epoch next AtLimit = Unit {0}
+Tells looks epoch next (Behind lce) = AreAlike (shows next) looks (lce + 1)
+Tells looks epoch next Fails = Unit {0}
+
+-- it is what these contents answer, and tells what they show
+pub record IsAnswer (first : Spec) (c : Register) (log epoch : ℕ) (y : Summary) (d : Tried) : Type 0 where
+  pub answer : answer_of d ≡ (close c log epoch y).answer
+  pub next : Tells (look first c log) epoch (next_in first d) (answer_of d)

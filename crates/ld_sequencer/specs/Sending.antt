@@ -1,5 +1,5 @@
 -- What a sequencer tells all nodes of its log.
-use Rattle.std.specs.Prelude.{◌≡◌, ℕ, List, take, length}
+use Rattle.std.specs.Prelude.{ℕ}
 use Rattle.ld_msg.specs.declared.msg.Body.{Body}
 use Rattle.ld_msg.specs.declared.msg.Body.TheVariants as bodies
 use Rattle.ld_sequencer.specs.declared.send.Notice.{Notice}
@@ -12,7 +12,3 @@ told (notices.Trim trim) = bodies.Trim trim
 abbrev pub number_told : Notice → ℕ
 number_told (notices.Release released) = released
 number_told (notices.Trim trim) = trim
-
--- the one begins with the other
-abbrev pub BeginsWith : {X : Type 0} → List X → List X → Type 0
-BeginsWith old new = take (length old) new ≡ old

@@ -10,27 +10,31 @@ use Rattle.ld_msg.specs.declared.msg.Msg.{Msg}
 use Rattle.ld_msg.specs.declared.msg.Body.{Body}
 use Rattle.ld_msg.specs.declared.msg.Body.TheVariants as bodies
 use Rattle.ld_msg.specs.Bounds.{IsEpoch}
+use Rattle.ld_msg.specs.Digest.{no_digest}
 use Rattle.ld_msg.specs.Network.{posted}
-use Rattle.ld_msg.specs.Register.{Register, Answer, is_crowded}
-use Rattle.ld_msg.specs.Sequencer.{Sequencer, Recovery, Stage, Seals, Stores, Closes, Acts, Called, called, on_reply, on_retry, does_nothing, after_close, retries_recovery, append_stores, acted_messages, rose, released_of, activated, recovery_asks}
+use Rattle.ld_msg.specs.Register.{Register, Answer, View, is_crowded, look}
+use Rattle.ld_msg.specs.Sequencer.{Sequencer, Recovery, Stage, Seals, Stores, Closes, Acts, Called, called, on_reply, on_retry, does_nothing, after_close, retries_recovery, append_stores, acted_messages, rose, released_of, activated, recovery_asks, digest_asks}
 use Rattle.ld_recovery.specs.Recovering.{Recovering, Goes, started, sender_of}
 use Rattle.ld_sequencer.specs.Appends.{all_acked}
 use Rattle.ld_sequencer.specs.Own.{Own, sequencer_of, listed}
+use Rattle.ld_sequencer.specs.declared.origin.Origin.{Origin}
 use Rattle.ld_sequencer.specs.declared.report.Report.{Report}
 use Rattle.ld_sequencer.specs.declared.fault.SequencerFault.{SequencerFault}
 use Rattle.ld_sequencer.specs.declared.fault.SequencerFault.TheVariants as faults
 use Rattle.ld_register.specs.declared.fault.RegisterFault.{RegisterFault}
 use Rattle.ld_register.specs.declared.fault.RegisterFault.TheVariants as registers
 use Rattle.ld_register.specs.declared.register.Grant.{Grant}
-use Rattle.ld_sequencer.specs.Register.{of_register}
+use Rattle.ld_register.specs.Bounds.{IsSpecFor}
+use Rattle.ld_register.specs.Calls.{after_activate}
+use Rattle.ld_sequencer.specs.Register.{of_register, MayCome}
 
--- a log's sequencer, with what is said of the log
+-- a log's sequencer, with what doesn't change of the log
 pub record Whole : Type 0 where
-  pub spec : Spec
+  pub origin : Origin
   pub sequencer : Sequencer
 
 abbrev pub as_now : Whole → Sequencer → Whole
-as_now w q = record { spec = w.spec; sequencer = q }
+as_now w q = record { origin = w.origin; sequencer = q }
 
 -- its messages to nodes
 abbrev pub sent_as : Whole → List (ℕ × Body) → List Msg
@@ -38,7 +42,7 @@ sent_as w bs = posted (whos.Sequencer w.sequencer.epoch) w.sequencer.log bs
 
 -- each append is acknowledged, and all epochs before its own are closed
 abbrev pub is_settled : Whole → Bool
-is_settled w = all_acked w.spec w.sequencer.appends && (w.sequencer.lce + 1 == w.sequencer.epoch)
+is_settled w = all_acked w.sequencer.spec w.sequencer.appends && (w.sequencer.lce + 1 == w.sequencer.epoch)
 
 -- ---- its two parts ----
 
@@ -50,11 +54,11 @@ abbrev pub with_recovery : Option Recovery → Sequencer → Sequencer
 with_recovery v q = record q { recovery = v }
 
 abbrev pub joined : Own → Option Recovering → Whole
-joined o m = record { spec = o.row.spec; sequencer = with_recovery (recovery_in m) (sequencer_of o) }
+joined o m = record { origin = o.origin; sequencer = with_recovery (recovery_in m) (sequencer_of o) }
 
 -- the recovery of the first epoch that isn't closed, for the sequencer of a later one
 pub record Serves (o : Own) (r : Recovering) : Type 0 where
-  pub spec : r.spec ≡ o.row.spec
+  pub log : r.recovery.spec.log ≡ o.row.spec.log
   pub ballot : r.ballot ≡ o.row.epoch
   pub epoch : r.recovery.epoch ≡ o.lce + 1
   pub earlier : o.lce + 1 < o.row.epoch
@@ -66,6 +70,7 @@ Serving o (Some r) = Serves o r
 
 pub record AreOne (o : Own) (m : Option Recovering) : Type 0 where
   pub copies : 1 ≤ o.row.spec.r
+  pub first : IsSpecFor o.row.spec.log o.origin.first
   pub epoch : IsEpoch o.row.epoch
   pub lce : o.lce ≤ 2 ^ 32 - 2
   pub serving : Serving o m
@@ -94,42 +99,56 @@ is_of_earlier epoch (bodies.TrimmedHere n t) = true
 is_of_earlier epoch (bodies.DigestPage from upto trim lng es) = true
 is_of_earlier epoch _ = false
 
+-- the epoch behind the recovered one, where that is the number's and another one is before the sequencer's own
+abbrev pub epoch_behind : ℕ → ℕ → Option Recovery → Option ℕ
+epoch_behind epoch n None = None
+epoch_behind epoch n (Some v) = if (v.epoch == home_epoch n) && nat_lt (v.epoch + 1) epoch then Some (v.epoch + 1) else None
+
+-- the epoch whose recovery begins with word that the recovered one is closed
+abbrev pub epoch_begun : Whole → Body → Option ℕ
+epoch_begun w (bodies.CleanHere n y) = if is_some w.sequencer.preempted then None else epoch_behind w.sequencer.epoch n w.sequencer.recovery
+epoch_begun w _ = None
+
 -- whether a message is for the recovery
 abbrev pub is_for_recovery : Whole → Body → Bool
 is_for_recovery w b = not (is_some w.sequencer.preempted) && (is_some w.sequencer.recovery && is_of_earlier w.sequencer.epoch b)
 
 -- ---- what a call does ----
 
+-- what a look at an epoch shows where the register has these contents
+abbrev pub looks_of : Whole → Register → ℕ → View
+looks_of w c e = look w.origin.first c w.sequencer.log e
+
 -- a message that is no node's does nothing
-abbrev pub reply_acts : Whole → Who → Body → Acts
-reply_acts w who b = on_reply w.spec w.sequencer (sender_of who) b
+abbrev pub reply_acts : (ℕ → View) → Whole → Who → Body → Acts
+reply_acts looks w who b = on_reply looks w.sequencer (sender_of who) b
 
 abbrev pub retry_acts : Whole → Acts
-retry_acts w = on_retry w.spec w.sequencer
+retry_acts w = on_retry w.sequencer
 
 -- a retry of the recovery alone
 abbrev pub recovery_acts : Whole → Acts
-recovery_acts w = retries_recovery w.spec (does_nothing w.sequencer) w.sequencer.recovery
+recovery_acts w = retries_recovery (does_nothing w.sequencer) w.sequencer.recovery
 
 -- the stores of the own epoch that aren't acknowledged
 abbrev pub pending_stores : Whole → List (ℕ × Body)
-pending_stores w = append_stores w.spec w.sequencer.lost w.sequencer.appends
+pending_stores w = append_stores w.sequencer.spec w.sequencer.lost w.sequencer.lng w.sequencer.appends
 
 -- what the register's answer to the close of an epoch does
-abbrev pub closed_acts : Whole → ℕ → Summary → Answer → Acts
-closed_acts w epoch y d = after_close w.spec (does_nothing w.sequencer) epoch y d
+abbrev pub closed_acts : (ℕ → View) → Whole → ℕ → Summary → Answer → Acts
+closed_acts looks w epoch y d = after_close looks (does_nothing w.sequencer) epoch y d
 
-abbrev pub tried_with : Spec → Acts → Answer → List (ℕ × Summary) → Acts
-tried_with p a d [] = a
-tried_with p a d (t ∷ ts) = after_close p a t.0 t.1 d
+abbrev pub tried_with : (ℕ → View) → Acts → Answer → List (ℕ × Summary) → Acts
+tried_with looks a d [] = a
+tried_with looks a d (t ∷ ts) = after_close looks a t.0 t.1 d
 
 -- the call with a register's answer to the close that it tries, where it tries one
-abbrev pub tried : Whole → Acts → Answer → Acts
-tried w a d = tried_with w.spec a d a.tries
+abbrev pub tried : (ℕ → View) → Acts → Answer → Acts
+tried looks a d = tried_with looks a d a.tries
 
 -- the call by a register with these contents
 abbrev pub called_by : Whole → Register → Acts → Called
-called_by w c a = called w.spec c a a.tries
+called_by w c a = called (looks_of w c) c a a.tries
 
 abbrev pub risen : Sequencer → Sequencer → List ℕ
 risen old new = if rose old new then released_of new ∷ [] else []
@@ -137,7 +156,7 @@ risen old new = if rose old new then released_of new ∷ [] else []
 -- a call has done this, sent its messages and reports it
 pub record Acted (before after : Whole) (report : Report) (old new : List Msg) (a : Acts) : Type 0 where
   pub now : after ≡ as_now before a.sequencer
-  pub sent : new ≡ old ++ sent_as before (acted_messages before.spec before.sequencer a)
+  pub sent : new ≡ old ++ sent_as before (acted_messages before.sequencer a)
   pub acked : listed report.acked ≡ a.acked
   pub closed : listed report.closed ≡ a.closed
   pub preempted : listed report.preempted ≡ a.preempts
@@ -169,31 +188,49 @@ pub record Unclosed (before after : Whole) (fault : SequencerFault) (old new : L
   pub tries : a.tries ≢ []
   pub untimely : IsUntimely fault
   pub now : after ≡ as_now before a.sequencer
-  pub sent : new ≡ old ++ sent_as before (acted_messages before.spec before.sequencer a)
+  pub sent : new ≡ old ++ sent_as before (acted_messages before.sequencer a)
+
+-- the register failed to show what is fixed for the epoch whose recovery the message begins: nothing is done
+pub record Unseen (before after : Whole) (fault : SequencerFault) (old new : List Msg) (b : Body) : Type 0 where
+  pub due : is_some (epoch_begun before b) ≡ true
+  pub free : MayCome fault
+  pub now : after ≡ before
+  pub sent : new ≡ old
 
 abbrev pub IsRefused : Whole → Whole → SequencerFault → List Msg → List Msg → Acts → Type 0
 IsRefused before after fault old new a = (fault ≡ faults.NoMemory) ⊎ Unclosed before after fault old new a
 
 -- ---- activation ----
 
-abbrev pub active : Spec → ℕ → ℕ → Whole
-active spec epoch lce = record { spec = spec; sequencer = activated spec spec.log epoch lce }
+abbrev pub origin_of : List Bool → Spec → Origin
+origin_of nodes first = record { nodes = nodes; first = first }
 
--- the recovery that begins where all epochs up to the last closed one are closed
-abbrev pub next_in : Spec → ℕ → ℕ → Option Recovering
-next_in spec epoch lce = if nat_lt (lce + 1) epoch then Some (started spec (lce + 1) epoch) else None
+abbrev pub active : Origin → Spec → (ℕ → View) → ℕ → ℕ → Whole
+active origin spec looks epoch lce = record { origin = origin; sequencer = activated looks spec spec.log epoch lce }
+
+-- the recovery, with what is shown for its epoch, that begins where all epochs up to the last closed one are closed
+abbrev pub recovery_behind : Spec → ℕ → ℕ → Option Recovering
+recovery_behind next epoch lce = if nat_lt (lce + 1) epoch then Some (started next (lce + 1) epoch) else None
+
+-- what it sends
+abbrev pub asks_behind : Spec → ℕ → ℕ → List Msg
+asks_behind next epoch lce = posted (whos.Sequencer epoch) next.log (if nat_lt (lce + 1) epoch then digest_asks (no_digest next (lce + 1)) else [])
 
 -- what a new sequencer sends
-abbrev pub first_asks : Spec → Whole → List Msg
-first_asks spec w = sent_as w (recovery_asks spec w.sequencer w.sequencer.lce)
+abbrev pub first_asks : (ℕ → View) → Whole → List Msg
+first_asks looks w = sent_as w (recovery_asks looks w.sequencer w.sequencer.lce)
 
 -- an activation ends as the register's: with the sequencer of the epoch that was handed out and its asks, or refused with nothing sent
-pub record IsActive (spec : Spec) (grant : Grant) (w : Whole) (old new : List Msg) : Type 0 where
-  pub value : w ≡ active spec grant.epoch grant.lce
-  pub sent : new ≡ old ++ first_asks spec w
+pub record IsActive (origin : Origin) (spec : Spec) (looks : ℕ → View) (grant : Grant) (w : Whole) (old new : List Msg) : Type 0 where
+  pub value : w ≡ active origin spec looks grant.epoch grant.lce
+  pub sent : new ≡ old ++ first_asks looks w
 
-abbrev pub Activates : Spec → List Msg → List Msg → Result Whole SequencerFault → Result Grant RegisterFault → Type 0
-Activates spec old new (Ok w) (Ok grant) = IsActive spec grant w old new
-Activates spec old new (Err fault) (Err refusal) = (fault ≡ of_register refusal) × (new ≡ old)
-Activates spec old new (Ok w) (Err refusal) = ⊥
-Activates spec old new (Err fault) (Ok grant) = ⊥
+abbrev pub Activates : Origin → Spec → (ℕ → View) → List Msg → List Msg → Result Whole SequencerFault → Result Grant RegisterFault → Type 0
+Activates origin spec looks old new (Ok w) (Ok grant) = IsActive origin spec looks grant w old new
+Activates origin spec looks old new (Err fault) (Err refusal) = (fault ≡ of_register refusal) × (new ≡ old)
+Activates origin spec looks old new (Ok w) (Err refusal) = ⊥
+Activates origin spec looks old new (Err fault) (Ok grant) = ⊥
+
+-- the looks of a register after an activation
+abbrev pub looks_after : Spec → Spec → Register → ℕ → View
+looks_after first spec c e = look first (after_activate c spec) spec.log e

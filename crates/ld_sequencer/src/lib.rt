@@ -5,6 +5,8 @@
 mod close;
 mod earlier;
 mod fault;
+mod look;
+mod origin;
 mod own;
 mod report;
 mod row;
@@ -17,6 +19,7 @@ mod whole;
 mod whole_tests;
 
 pub use fault::{CloseFault, SequencerFault};
+pub use origin::Origin;
 pub use own::{Learnt, OwnEpoch};
 pub use report::Report;
 pub use row::Row;

@@ -1,17 +1,19 @@
 // What a sequencer does for its own epoch.
 ghost use Rattle.std.specs.Prelude.{◌≡◌, ◌≤◌, ◌<◌, ◌+◌, ◌-◌, ◌^◌, ◌++◌, ◌&&◌, ◌==◌, ℕ, length, IfOk, IfErr, OnOk, OnErr, None, is_some, nat_lt, if◌then◌else◌};
-ghost use Rattle.ld_ids.specs.Choice.{nodes_of};
+ghost use Rattle.ld_ids.specs.Set.{members};
 ghost use Rattle.ld_lsn.specs.Number.{numbered};
 ghost use Rattle.ld_msg.specs.declared.msg.Body.TheVariants.{Trim};
-ghost use Rattle.ld_msg.specs.Sequencer.{released_of, appending, Numbered, appended, first_stores, next_esn, to_each, does_nothing, on_reply, by_stored, by_lost, by_clean, preempt as preempts, on_retry, acted_messages, payload_limit};
+ghost use Rattle.ld_msg.specs.Sequencer.{released_of, appending, Numbered, appended, first_stores, next_esn, to_each, does_nothing, by_stored, by_lost, by_clean, preempt as preempts, on_retry, acted_messages, payload_limit};
 ghost use Rattle.ld_msg.specs.Bounds.{IsEpoch};
 ghost use Rattle.ld_node_bounds.specs.Messages.{AreMessages};
 ghost use Rattle.ld_sequencer.specs.Appends.{pushed, next_place, all_acked};
-ghost use Rattle.ld_sequencer.specs.Own.{Own, IsNow, IsKept, new_own, spec_of, sequencer_of, sent_by, append_fault, trim_fault, heard, released_above, with_lce, preempted_as, raised_own, pending, Does};
-ghost use Rattle.ld_sequencer.specs.Sending.{BeginsWith};
+ghost use Rattle.ld_sequencer.specs.Looks.{shows};
+ghost use Rattle.ld_sequencer.specs.Own.{Own, IsNow, IsKept, new_own, spec_of, sequencer_of, sent_by, append_fault, trim_fault, answered, heard, released_above, with_lce, preempted_as, raised_own, pending, Does};
+ghost use Rattle.ld_recovery.specs.Sending.{BeginsWith};
 
 use crate::Row;
 use crate::fault::SequencerFault;
+use crate::origin::Origin;
 use crate::send::{Notice, Sender};
 use ld_copyset::{NodeList, choose_for};
 use ld_ids::{NoMemory, NodeId, Payload, Spec};
@@ -52,6 +54,7 @@ impl Learnt {
 /// who preempted it. It is seen as the sequencer of a log that recovers no epoch.
 #[derive(Drop)]
 pub struct OwnEpoch {
+    origin: Origin,
     row: Row,
     lce: u32,
     lost: NodeList,
@@ -63,17 +66,24 @@ impl Model for OwnEpoch {
 
     ghost Value = { Own };
 
-    ghost view = { λ o. record { row = o.row; lce = o.lce; lost = o.lost; preempted = o.preempted } };
+    ghost view = { λ o. record { origin = o.origin; row = o.row; lce = o.lce; lost = o.lost; preempted = o.preempted } };
 }
 
 impl OwnEpoch {
-    /// The sequencer of this epoch of a log, with no append yet. All epochs up to `lce` are closed.
-    pub fn new(alloc: Global, spec: &Spec, epoch: u32, lce: u32) -> Result<OwnEpoch, NoMemory>
+    /// The sequencer of this epoch of a log, for which this is fixed, with no append yet. All epochs up to `lce` are closed.
+    pub fn new(
+        alloc: Global,
+        origin: &Origin,
+        spec: &Spec,
+        epoch: u32,
+        lce: u32,
+    ) -> Result<OwnEpoch, NoMemory>
         requires { 1 ≤ spec.now.r }
-        ensures { IfOk result (λ own. own ≡ new_own spec.now epoch lce) }
+        ensures { IfOk result (λ own. own ≡ new_own origin.now spec.now epoch lce) }
     {
         let row = Row::new(alloc, spec, epoch)?;
         Ok(OwnEpoch {
+            origin: *origin,
             row,
             lce,
             lost: NodeList::empty(),
@@ -81,7 +91,14 @@ impl OwnEpoch {
         })
     }
 
-    /// What is said of its log.
+    /// What doesn't change of its log.
+    pub fn origin(&self) -> &Origin
+        ensures { result.now ≡ self.now.origin }
+    {
+        &self.origin
+    }
+
+    /// What is fixed for its epoch.
     pub fn spec(&self) -> &Spec
         ensures { result.now ≡ spec_of self.now }
     {
@@ -145,7 +162,7 @@ impl OwnEpoch {
         ensures number { IfOk result (λ number. number ≡ numbered (sequencer_of self.old).epoch (next_esn (sequencer_of self.old))) }
         ensures taken { OnOk result (appending (sequencer_of self.old) payload ≡ Numbered) }
         ensures now { OnOk result (IsNow self.old self.new (appended (sequencer_of self.old) payload)) }
-        ensures out { OnOk result (out.new ≡ out.old ++ sent_by self.old (first_stores (spec_of self.old) (sequencer_of self.old) payload)) }
+        ensures out { OnOk result (out.new ≡ out.old ++ sent_by self.old (first_stores (sequencer_of self.old) payload)) }
         ensures refused { IfErr result (λ fault. fault ≡ append_fault (length payload) (appending (sequencer_of self.old) payload)) }
         ensures same { OnErr result (self.new ≡ self.old) }
         ensures unsent { OnErr result (out.new ≡ out.old) }
@@ -163,11 +180,11 @@ impl OwnEpoch {
         }
     }
 
-    /// Tells all nodes of the log that all up to the number may go. It is refused with `PastReleased` and the released
+    /// Tells all nodes of the configuration that all up to the number may go. It is refused with `PastReleased` and the released
     /// number exactly where the number is above it, and then for want of memory. A refused trim has sent nothing.
     pub fn trim(&self, lsn: Lsn, out: &mut Outbox) -> Result<(), SequencerFault>
         ensures within { OnOk result (lsn ≤ released_of (sequencer_of self.now)) }
-        ensures out { OnOk result (out.new ≡ out.old ++ sent_by self.now (to_each (Trim lsn) (nodes_of (spec_of self.now)))) }
+        ensures out { OnOk result (out.new ≡ out.old ++ sent_by self.now (to_each (Trim lsn) (members self.now.origin.nodes))) }
         ensures refused { IfErr result (λ fault. fault ≡ trim_fault (released_of (sequencer_of self.now)) lsn) }
         ensures unsent { OnErr result (out.new ≡ out.old) }
         ensures messages { IsEpoch (sequencer_of self.now).epoch → AreMessages out.old → AreMessages out.new }
@@ -177,18 +194,18 @@ impl OwnEpoch {
             return Err(SequencerFault::PastReleased(released));
         }
         self.sender()
-            .tell(&self.row.spec().set, &Notice::Trim(lsn), out)?;
+            .tell(&self.origin.nodes, &Notice::Trim(lsn), out)?;
         Ok(())
     }
 
-    /// Takes a node's answer. An append is acknowledged by it where as many nodes as the log's factor says have stored it
-    /// now, and hadn't before. A seal of a greater epoch preempts it, and so does word that its own epoch is closed. A node
-    /// may be lost for its epoch. Where the released number rises all nodes are told so. A preempted sequencer ignores all
+    /// Takes a node's answer. An append is acknowledged by it where as many of its epoch's nodes as the epoch's factor says have
+    /// stored it now, and hadn't before. A seal of a greater epoch preempts it, and so does word that its own epoch is closed.
+    /// A node may be lost for its epoch. Where the released number rises all nodes of its epoch are told so. A preempted sequencer ignores all
     /// answers, and so it does messages that are no node's. After want of memory it isn't to be used again.
     #[tactic(auto, using(crate::proofs::Kept::kept_rules))]
     pub fn on_reply(&mut self, msg: &Msg, out: &mut Outbox) -> Result<Learnt, NoMemory>
         ensures does { IfOk result (λ report. Does self.old self.new report (heard self.old msg.now.from msg.now.body)) }
-        ensures out { OnOk result (out.new ≡ out.old ++ sent_by self.old (acted_messages (spec_of self.old) (sequencer_of self.old) (heard self.old msg.now.from msg.now.body))) }
+        ensures out { OnOk result (out.new ≡ out.old ++ sent_by self.old (acted_messages (sequencer_of self.old) (heard self.old msg.now.from msg.now.body))) }
         ensures kept { IsKept self.old self.new }
         ensures messages { IsEpoch (sequencer_of self.old).epoch → AreMessages out.old → AreMessages out.new }
     {
@@ -205,8 +222,8 @@ impl OwnEpoch {
     /// preempted sequencer sends nothing. After want of memory it isn't to be used again.
     #[tactic(auto, using(crate::proofs::Replies::retry_rules))]
     pub fn retry(&mut self, alloc: Global, out: &mut Outbox) -> Result<(), NoMemory>
-        ensures now { OnOk result (IsNow self.old self.new (on_retry (spec_of self.old) (sequencer_of self.old)).sequencer) }
-        ensures out { OnOk result (out.new ≡ out.old ++ sent_by self.old (acted_messages (spec_of self.old) (sequencer_of self.old) (on_retry (spec_of self.old) (sequencer_of self.old)))) }
+        ensures now { OnOk result (IsNow self.old self.new (on_retry (sequencer_of self.old)).sequencer) }
+        ensures out { OnOk result (out.new ≡ out.old ++ sent_by self.old (acted_messages (sequencer_of self.old) (on_retry (sequencer_of self.old)))) }
         ensures messages { IsEpoch (sequencer_of self.old).epoch → AreMessages out.old → AreMessages out.new }
     {
         if self.preempted.is_none() {
@@ -232,7 +249,7 @@ impl OwnEpoch {
         self.row.send(alloc, &self.lost, out)
     }
 
-    /// All epochs up to this one are closed. Where the released number rises all nodes are told so.
+    /// All epochs up to this one are closed. Where the released number rises all nodes of its epoch are told so.
     pub fn close_through(&mut self, lce: u32, out: &mut Outbox) -> Result<(), NoMemory>
         ensures now { self.new ≡ with_lce self.old lce }
         ensures out { OnOk result (out.new ≡ out.old ++ sent_by self.old (released_above (released_of (sequencer_of self.old)) (with_lce self.old lce))) }
@@ -253,7 +270,7 @@ impl OwnEpoch {
     /// What a node's answer does.
     #[tactic(auto, using(crate::proofs::Replies::reply_rules))]
     fn hear(&mut self, node: NodeId, body: &Body) -> Learnt
-        ensures { Does self.old self.new result (on_reply (spec_of self.old) (sequencer_of self.old) node body.now) }
+        ensures { Does self.old self.new result (answered self.old node body.now) }
     {
         if self.preempted.is_some() {
             return Learnt::nothing();
@@ -267,12 +284,15 @@ impl OwnEpoch {
         }
     }
 
-    /// A node stored what has the number.
+    /// A node stored what has the number. One that isn't of the epoch's set counts for nothing.
     #[tactic(auto, using(crate::proofs::Replies::count_rules))]
     fn count(&mut self, node: NodeId, number: Lsn) -> Learnt
-        ensures { Does self.old self.new result (by_stored (spec_of self.old) (does_nothing (sequencer_of self.old)) node number) }
+        ensures { Does self.old self.new result (by_stored (does_nothing (sequencer_of self.old)) node number) }
     {
         if number.epoch() != self.row.epoch() {
+            return Learnt::nothing();
+        }
+        if !self.row.spec().set.has(node) {
             return Learnt::nothing();
         }
         let is_acked = self.row.stored(node, number);
@@ -311,7 +331,7 @@ impl OwnEpoch {
     /// The number's epoch is closed by the sequencer of this ballot.
     #[tactic(auto, using(crate::proofs::Replies::clean_rules))]
     fn clean(&mut self, number: Lsn, summary: &Summary) -> Learnt
-        ensures { Does self.old self.new result (by_clean (spec_of self.old) (does_nothing (sequencer_of self.old)) number summary.now) }
+        ensures { Does self.old self.new result (by_clean (shows (spec_of self.old)) (does_nothing (sequencer_of self.old)) number summary.now) }
     {
         if number.home().0 != self.row.epoch() {
             return Learnt::nothing();
@@ -355,14 +375,14 @@ impl OwnEpoch {
         requires short { length payload ≤ payload_limit }
         ensures number { IfOk result (λ number. number ≡ numbered self.old.row.epoch (next_place self.old.row)) }
         ensures now { OnOk result (self.new ≡ record self.old { row = pushed self.old.row payload }) }
-        ensures out { OnOk result (out.new ≡ out.old ++ sent_by self.old (first_stores (spec_of self.old) (sequencer_of self.old) payload)) }
+        ensures out { OnOk result (out.new ≡ out.old ++ sent_by self.old (first_stores (sequencer_of self.old) payload)) }
         ensures same { OnErr result (self.new ≡ self.old) }
         ensures begins { OnErr result (BeginsWith out.old out.new) }
     {
         let number = Lsn::new(self.row.epoch(), self.row.next_place());
         let nodes = choose_for(self.row.spec(), number, 0, &self.lost.to_set());
         self.sender()
-            .send_stores(alloc, number, &payload, &nodes, out)?;
+            .send_stores(alloc, number, self.row.lng(), &payload, &nodes, out)?;
         self.row.push(payload)?;
         Ok(number)
     }
@@ -378,7 +398,7 @@ impl OwnEpoch {
         }
     }
 
-    /// Tells all nodes the released number, where it is above this one. Without memory nothing is sent.
+    /// Tells all nodes of its epoch the released number, where it is above this one. Without memory nothing is sent.
     fn tell_released(&self, before: Lsn, out: &mut Outbox) -> Result<(), NoMemory>
         ensures sent { OnOk result (out.new ≡ out.old ++ sent_by self.now (released_above before self.now)) }
         ensures messages { IsEpoch (sequencer_of self.now).epoch → AreMessages out.old → AreMessages out.new }

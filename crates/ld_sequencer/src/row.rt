@@ -10,7 +10,7 @@ ghost use Rattle.ld_lsn.specs.Number.{numbered};
 ghost use Rattle.ld_window.specs.Flags.{leading};
 ghost use Rattle.ld_appender.specs.Waiting.{Waiting, with_stored, is_enough};
 ghost use Rattle.ld_sequencer.specs.Appends.{empty_row, next_place, pushed, stores, acks, raises, flags_after, raised_one, all_acked};
-ghost use Rattle.ld_sequencer.specs.Sending.{BeginsWith};
+ghost use Rattle.ld_recovery.specs.Sending.{BeginsWith};
 
 use crate::send::Round;
 use ld_appender::{Pending, Progress};
@@ -146,7 +146,7 @@ impl Row {
     /// Behind messages it sends messages.
     #[tactic(auto, using(crate::proofs::Begins::back_rules, crate::proofs::Bounded::message_rules))]
     pub fn send(&self, alloc: Global, lost: &NodeList, out: &mut Outbox) -> Result<(), NoMemory>
-        ensures sent { OnOk result (out.new ≡ out.old ++ posted (of_sequencer self.now.epoch) self.now.spec.log (append_stores self.now.spec lost.now self.now.appends)) }
+        ensures sent { OnOk result (out.new ≡ out.old ++ posted (of_sequencer self.now.epoch) self.now.spec.log (append_stores self.now.spec lost.now self.now.lng self.now.appends)) }
         ensures unsent { OnErr result (out.new ≡ out.old) }
         ensures messages { IsEpoch self.now.epoch → AreMessages out.old → AreMessages out.new }
     {
@@ -163,15 +163,17 @@ impl Row {
 
     /// Sends each append that isn't acknowledged. Without memory some may have been sent.
     fn send_each(&self, alloc: Global, lost: &NodeList, out: &mut Outbox) -> Result<(), NoMemory>
-        ensures sent { OnOk result (out.new ≡ out.old ++ posted (of_sequencer self.now.epoch) self.now.spec.log (append_stores self.now.spec lost.now self.now.appends)) }
+        ensures sent { OnOk result (out.new ≡ out.old ++ posted (of_sequencer self.now.epoch) self.now.spec.log (append_stores self.now.spec lost.now self.now.lng self.now.appends)) }
         ensures begins { OnErr result (BeginsWith out.old out.new) }
     {
+        let lng = self.window.lng();
         let round = Round {
             spec: self.spec,
             epoch: self.epoch,
+            lng,
             excluded: lost.to_set(),
         };
-        let first = Lsn::new(self.epoch, self.window.lng() + 1).value();
+        let first = Lsn::new(self.epoch, lng + 1).value();
         'waiting: for place in 0..self.waiting.len() {
             let number = Lsn::from_u64(first + place as u64);
             round.send(alloc, number, &self.waiting[place], out)?;

@@ -1,5 +1,5 @@
 // Sending stores.
-ghost use Rattle.std.specs.Prelude.{◌≡◌, ℕ, List, ◌++◌, ◌∷◌, [], IfOk, OnOk, OnErr, take, length, false};
+ghost use Rattle.std.specs.Prelude.{◌≡◌, ℕ, List, ◌++◌, ◌∷◌, [], IfOk, OnOk, OnErr, false};
 ghost use Rattle.ld_table.specs.Words.{is_in, without};
 ghost use Rattle.ld_ids.specs.Set.{members};
 ghost use Rattle.ld_msg.specs.declared.msg.Who.TheVariants.{Sequencer as of_sequencer};
@@ -9,7 +9,8 @@ ghost use Rattle.ld_msg.specs.Network.{posted};
 ghost use Rattle.ld_msg.specs.Sequencer.{to_each, append_stores};
 ghost use Rattle.ld_msg.specs.Bounds.{Is64, IsEpoch};
 ghost use Rattle.ld_node_bounds.specs.Messages.{AreMessages};
-ghost use Rattle.ld_sequencer.specs.Sending.{BeginsWith, told, number_told};
+ghost use Rattle.ld_recovery.specs.Sending.{BeginsWith};
+ghost use Rattle.ld_sequencer.specs.Sending.{told, number_told};
 
 use ld_appender::{Pending, Progress};
 use ld_copyset::{NodeList, choose_for};
@@ -26,21 +27,22 @@ pub struct Sender {
 }
 
 impl Sender {
-    /// Sends a store of the record to each of the nodes, in their order. Without memory some may have been sent.
+    /// Sends a store of the record, with the last known good place, to each of the nodes, in their order. Without memory some may have been sent.
     pub fn send_stores(
         &self,
         alloc: Global,
         number: Lsn,
+        lng: u32,
         payload: &Payload,
         nodes: &NodeList,
         out: &mut Outbox,
     ) -> Result<(), NoMemory>
-        ensures sent { OnOk result (out.new ≡ out.old ++ posted (of_sequencer self.now.epoch) self.now.log (to_each (Store number 0 (Rec payload.now)) nodes.now)) }
+        ensures sent { OnOk result (out.new ≡ out.old ++ posted (of_sequencer self.now.epoch) self.now.log (to_each (Store number lng (Rec payload.now)) nodes.now)) }
         ensures begins { OnErr result (BeginsWith out.old out.new) }
     {
         'nodes: for place in 0..nodes.len() {
             if let Some(node) = nodes.nth(place) {
-                let body = store(alloc, number, payload)?;
+                let body = store(alloc, number, lng, payload)?;
                 out.push(self.to_node(node, body))?;
             }
         }
@@ -122,21 +124,23 @@ impl Notice {
 }
 
 /// A store of a record.
-fn store(alloc: Global, number: Lsn, payload: &Payload) -> Result<Body, NoMemory>
-    ensures { IfOk result (λ body. body ≡ Store number 0 (Rec payload.now)) }
+fn store(alloc: Global, number: Lsn, lng: u32, payload: &Payload) -> Result<Body, NoMemory>
+    ensures { IfOk result (λ body. body ≡ Store number lng (Rec payload.now)) }
 {
     Ok(Body::Store {
         number,
-        lng: 0,
+        lng,
         what: What::Rec(payload.copy(alloc)?),
     })
 }
 
-/// A round of sending appends that aren't acknowledged, with the nodes that are lost for their epoch.
+/// A round of sending appends that aren't acknowledged, with the last known good place and the nodes that are lost for their
+/// epoch.
 #[derive(Clone, Copy, Debug)]
 pub(crate) struct Round {
     pub(crate) spec: Spec,
     pub(crate) epoch: u32,
+    pub(crate) lng: u32,
     pub(crate) excluded: NodeSet,
 }
 
@@ -152,7 +156,7 @@ impl Round {
         out: &mut Outbox,
     ) -> Result<(), NoMemory>
         requires { pending.now.factor ≡ self.now.spec.r }
-        ensures sent { OnOk result ((lost : List ℕ) → ((node : ℕ) → is_in node (members self.now.excluded) ≡ is_in node lost) → out.new ≡ out.old ++ posted (of_sequencer self.now.epoch) self.now.spec.log (append_stores self.now.spec lost ((number, pending.now.append) ∷ []))) }
+        ensures sent { OnOk result ((lost : List ℕ) → ((node : ℕ) → is_in node (members self.now.excluded) ≡ is_in node lost) → out.new ≡ out.old ++ posted (of_sequencer self.now.epoch) self.now.spec.log (append_stores self.now.spec lost self.now.lng ((number, pending.now.append) ∷ []))) }
         ensures begins { OnErr result (BeginsWith out.old out.new) }
     {
         if pending.progress() == Progress::Done {
@@ -166,6 +170,7 @@ impl Round {
         sender.send_stores(
             alloc,
             number,
+            self.lng,
             pending.payload(),
             &unstored(&nodes, pending),
             out,

@@ -1,37 +1,37 @@
 // How a sequencer begins.
-ghost use Rattle.std.specs.Prelude.{◌≡◌, ◌≢◌, ◌⊎◌, ◌≤◌, ◌<◌, ◌+◌, ◌-◌, ◌^◌, ◌++◌, [], ◌∷◌, ℕ, true, false, length, is_some, nat_lt, if◌then◌else◌, None, Some, IfOk, IfErr, IfSome, OnOk, OnErr, IsErrOf, IsErrAnd};
+ghost use Rattle.std.specs.Prelude.{◌≡◌, ◌≢◌, ◌⊎◌, ◌≤◌, ◌<◌, ◌+◌, ◌-◌, ◌^◌, ◌++◌, ℕ, true, IfOk, IfErr, OnOk, OnErr, IsErrOf, IsErrAnd};
 ghost use Rattle.ld_io.specs.Causes.{Rose};
-ghost use Rattle.ld_ids.specs.Choice.{nodes_of};
+ghost use Rattle.ld_ids.specs.declared.set.Spec.{Spec as Fixed};
 ghost use Rattle.ld_node_bounds.specs.Messages.{AreMessages};
-ghost use Rattle.ld_lsn.specs.Number.{numbered};
-ghost use Rattle.ld_msg.specs.Bounds.{IsEpoch, IsMessage, IsNodeHere, IsSummary};
-ghost use Rattle.ld_msg.specs.declared.msg.Body.TheVariants.{Trim};
-ghost use Rattle.ld_msg.specs.Register.{Register as Contents, Answer as Ends, Granted, Behind, close as closes, is_crowded};
-ghost use Rattle.ld_msg.specs.Sequencer.{released_of, appending, Numbered, appended, first_stores, next_esn, to_each, does_nothing, goes_on, acted_messages, after_close, recovery_of, recovery_asks, release_messages};
-ghost use Rattle.ld_register.specs.Calls.{activated as answered, after_activate, after_close as after_the_close, ChangedOrNot, Keeps, is_full, close_length};
+ghost use Rattle.ld_msg.specs.Bounds.{IsEpoch};
+ghost use Rattle.ld_msg.specs.Register.{Register as Contents};
+ghost use Rattle.ld_register.specs.Bounds.{IsSpec, IsSpecFor};
+ghost use Rattle.ld_register.specs.Calls.{activated, after_activate, ChangedOrNot, IsFree, IsGrant, Keeps};
 ghost use Rattle.ld_register.specs.declared.register.Grant.{Grant};
 ghost use Rattle.ld_register.specs.declared.fault.RegisterFault.TheVariants as registers;
 ghost use Rattle.ld_sequencer.specs.declared.fault.SequencerFault.TheVariants as faults;
-ghost use Rattle.ld_sequencer.specs.Own.{append_fault, trim_fault, listed};
-ghost use Rattle.ld_sequencer.specs.Register.{MayCome, after_tries, answer_of, fault_in, is_epoch_answer};
-ghost use Rattle.ld_sequencer.specs.declared.fault.CloseFault.TheVariants as unclosed;
-ghost use Rattle.ld_sequencer.specs.Sending.{BeginsWith};
-ghost use Rattle.ld_sequencer.specs.Whole.{as_now, sent_as, next_in, closed_acts, closing_of, is_of_earlier, is_for_recovery, reply_acts, retry_acts, recovery_acts, pending_stores, tried, called_by, risen, Acted, IsCaused, IsFresh, IsRefused, IsUntimely, active, first_asks, Activates, IsActive, is_settled};
+ghost use Rattle.ld_sequencer.specs.Looks.{shows, IsForeseen};
+ghost use Rattle.ld_sequencer.specs.Register.{MayCome};
+ghost use Rattle.ld_recovery.specs.Sending.{BeginsWith};
+ghost use Rattle.ld_sequencer.specs.Whole.{origin_of, recovery_behind, asks_behind, looks_after, Activates, IsActive};
 
 use crate::Sequencer;
 use crate::fault::SequencerFault;
-use ld_ids::{NoMemory, Spec};
+use crate::origin::Origin;
+use ld_ids::{NoMemory, NodeSet, Spec};
 use ld_msg::Outbox;
 use ld_recovery::Recovery;
-use ld_register::{Grant, Register, View};
+use ld_register::{Grant, Register, RegisterFault, View};
 use std::alloc::Global;
 
 /// The greatest epoch.
 const GREATEST_EPOCH: u32 = 4_294_967_294;
 
 impl Sequencer {
-    /// Gets the log's next epoch from the register. The recovery of the first epoch that isn't closed begins, where that is
-    /// before its own: all nodes are asked for what they have.
+    /// Gets the log's next epoch from the register, with these nodes, factor and extras fixed for it. The recovery of the
+    /// first epoch that isn't closed begins, where that is before its own: all nodes that the register shows of it are asked
+    /// for what they have. `nodes` are all nodes of the configuration, and `first` counts for an epoch for which the register
+    /// shows nothing.
     ///
     /// It is refused with `Register` as the register refuses the activation, and for want of memory. Of a register that tells
     /// what it holds that is with `Failed` only where its count of faults rose, with `Damaged` and a place only where its
@@ -40,16 +40,19 @@ impl Sequencer {
     /// messages, and so does each other call, however it ends: a frame can be made of each.
     pub fn activate<G: Register>(
         alloc: Global,
+        nodes: &NodeSet,
+        first: &Spec,
         spec: &Spec,
         reg: &mut G,
         out: &mut Outbox,
     ) -> Result<Sequencer, SequencerFault>
-        requires { 1 ≤ spec.now.r }
+        requires spec { IsSpec spec.now }
+        requires first { IsSpecFor spec.now.log first.now }
         ensures exact { (c : Contents) → G.tells reg.old c
-            → (IsErrOf result faults.NoMemory × G.tells reg.new c) ⊎ (Activates spec.now out.old out.new result (answered c spec.now.log) × G.tells reg.new (after_activate c spec.now.log)) }
+            → (IsErrOf result faults.NoMemory × G.tells reg.new c) ⊎ (Activates (origin_of nodes.now first.now) spec.now (looks_after first.now spec.now c) out.old out.new result (activated c spec.now) × G.tells reg.new (after_activate c spec.now)) }
         ensures held { (c : Contents) → G.holds reg.old c
-            → IsErrAnd result MayCome ⊎ (IsErrOf result faults.NoMemory × G.holds reg.new c) ⊎ (Activates spec.now out.old out.new result (answered c spec.now.log) × G.holds reg.new (after_activate c spec.now.log)) }
-        ensures active { IfOk result (λ sequencer. (grant : Grant) × IsEpoch grant.epoch × IsActive spec.now grant sequencer out.old out.new) }
+            → IsErrAnd result MayCome ⊎ (IsErrOf result faults.NoMemory × G.holds reg.new c) ⊎ (Activates (origin_of nodes.now first.now) spec.now (looks_after first.now spec.now c) out.old out.new result (activated c spec.now) × G.holds reg.new (after_activate c spec.now)) }
+        ensures active { IfOk result (λ sequencer. (grant : Grant) × IsEpoch grant.epoch × (next : Fixed) × IsSpecFor spec.now.log next × IsActive (origin_of nodes.now first.now) spec.now (shows next) grant sequencer out.old out.new) }
         ensures unsent { OnErr result (out.new ≡ out.old) }
         ensures memory { IfErr result (λ fault. fault ≢ faults.Register registers.NoMemory) }
         ensures whole { G.told reg.old → IsErrOf result faults.NoMemory ⊎ IsErrAnd result MayCome ⊎ ((c : Contents) × G.holds reg.old c) }
@@ -57,19 +60,23 @@ impl Sequencer {
         ensures failed { IsErrOf result (faults.Register registers.Failed) → Rose (G.faults reg.old) (G.faults reg.new) }
         ensures steady { IsErrOf result (faults.Register registers.Failed) ⊎ (G.faults reg.new ≡ G.faults reg.old) }
         ensures told { G.told reg.old → G.told reg.new }
-        ensures done_or_not { G.told reg.old → ChangedOrNot (G.may_hold reg.old) (G.may_hold reg.new) (λ c. after_activate c spec.now.log) }
+        ensures done_or_not { G.told reg.old → ChangedOrNot (G.may_hold reg.old) (G.may_hold reg.new) (λ c. after_activate c spec.now) }
+        ensures itself { G.identity reg.new ≡ G.identity reg.old }
         ensures counts { G.faults reg.old ≤ G.faults reg.new }
         ensures messages { AreMessages out.old → AreMessages out.new }
     {
-        let view = reg.look(alloc, spec.log, 0)?;
-        let expected = next_grant(&view);
+        let expected = foresee(alloc, spec, reg)?;
+        let origin = Origin {
+            nodes: *nodes,
+            first: *first,
+        };
         let count = out.len();
-        let sequencer = Sequencer::start(alloc, spec, expected, out)?;
-        match reg.activate(alloc, spec.log) {
+        let sequencer = Sequencer::start(alloc, &origin, spec, expected, out)?;
+        match reg.activate(alloc, spec) {
             Ok(grant) if is_same(grant, expected) => Ok(sequencer),
             Ok(grant) => {
                 out.truncate(count);
-                Ok(Sequencer::start(alloc, spec, grant, out)?)
+                Ok(Sequencer::start(alloc, &origin, spec, grant, out)?)
             }
             Err(fault) => {
                 out.truncate(count);
@@ -79,35 +86,61 @@ impl Sequencer {
     }
 }
 
-/// The recovery of the first epoch that isn't closed, where that is before the sequencer's own: all nodes are asked for what
-/// they have. Without memory some may have been asked.
+/// The recovery of the first epoch that isn't closed, with what is shown of it, where that is before the sequencer's own: all
+/// its nodes are asked for what they have. Without memory some may have been asked.
 #[tactic(auto, using(crate::proofs::Serving::begin_rules))]
 pub(crate) fn next_recovery(
     alloc: Global,
-    spec: &Spec,
+    next: &Spec,
     epoch: u32,
     lce: u32,
     out: &mut Outbox,
 ) -> Result<Option<Recovery>, NoMemory>
-    requires copies { 1 ≤ spec.now.r }
+    requires copies { 1 ≤ next.now.r }
     requires epoch { IsEpoch epoch }
     requires lce { lce ≤ 2 ^ 32 - 2 }
-    ensures value { IfOk result (λ recovery. recovery ≡ next_in spec.now epoch lce) }
-    ensures sent { OnOk result (out.new ≡ out.old ++ sent_as (active spec.now epoch lce) (recovery_asks spec.now (active spec.now epoch lce).sequencer lce)) }
+    ensures value { IfOk result (λ recovery. recovery ≡ recovery_behind next.now epoch lce) }
+    ensures sent { OnOk result (out.new ≡ out.old ++ asks_behind next.now epoch lce) }
     ensures messages { AreMessages out.old → AreMessages out.new }
 {
     if lce + 1 < epoch {
-        return Ok(Some(Recovery::start(alloc, spec, lce + 1, epoch, out)?));
+        return Ok(Some(Recovery::start(alloc, next, lce + 1, epoch, out)?));
     }
     Ok(None)
 }
 
-/// The grant that a register is to give next.
-fn next_grant(view: &View) -> Grant
+/// The grant that a register is to give next with this.
+fn foresee<G: Register>(alloc: Global, spec: &Spec, reg: &mut G) -> Result<Grant, RegisterFault>
+    requires { IsSpec spec.now }
+    ensures exact { (c : Contents) → G.tells reg.old c → IfOk result (IsForeseen c spec.now) × IfErr result (λ fault. fault ≡ registers.NoMemory) × G.tells reg.new c }
+    ensures held { (c : Contents) → G.holds reg.old c → IfOk result (λ expected. IsForeseen c spec.now expected × G.holds reg.new c) }
+    ensures bounds { IfOk result (IsGrant spec.now.log) }
+    ensures free { OnErr result (IsFree result) }
+    ensures whole { G.told reg.old → IsFree result ⊎ ((c : Contents) × G.holds reg.old c × G.holds reg.new c) }
+    ensures damaged { (place : ℕ) → IsErrOf result (registers.Damaged place) → G.told reg.old → G.damaged reg.old place }
+    ensures failed { IsErrOf result registers.Failed → Rose (G.faults reg.old) (G.faults reg.new) }
+    ensures steady { IsErrOf result registers.Failed ⊎ (G.faults reg.new ≡ G.faults reg.old) }
+    ensures told { G.told reg.old → G.told reg.new }
+    ensures same { (c : Contents) → G.may_hold reg.new c → G.may_hold reg.old c }
+    ensures keeps { IsErrOf result registers.Failed ⊎ Keeps (G.holds reg.old) (G.holds reg.new) (G.may_hold reg.old) (G.may_hold reg.new) }
+    ensures itself { G.identity reg.new ≡ G.identity reg.old }
+    ensures counts { G.faults reg.old ≤ G.faults reg.new }
+{
+    let view = reg.look(alloc, spec.log, 0)?;
+    if view.lce < view.epoch {
+        let behind = reg.look(alloc, spec.log, view.lce + 1)?;
+        return Ok(next_grant(&view, behind.spec));
+    }
+    Ok(next_grant(&view, Some(*spec)))
+}
+
+/// The grant that a register is to give next, which tells this of the epoch behind the last closed one.
+fn next_grant(view: &View, next: Option<Spec>) -> Grant
     requires lce { view.now.lce ≤ 2 ^ 32 - 2 }
     ensures epoch { IsEpoch result.epoch }
-    ensures next { view.now.epoch < 2 ^ 32 - 2 → result.epoch ≡ view.now.epoch + 1 }
+    ensures above { view.now.epoch < 2 ^ 32 - 2 → result.epoch ≡ view.now.epoch + 1 }
     ensures lce { result.lce ≡ view.now.lce }
+    ensures next { result.next ≡ next }
 {
     let epoch = if view.epoch < GREATEST_EPOCH {
         view.epoch + 1
@@ -117,6 +150,7 @@ fn next_grant(view: &View) -> Grant
     Grant {
         epoch,
         lce: view.lce,
+        next,
     }
 }
 

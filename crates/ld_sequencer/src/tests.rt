@@ -1,7 +1,7 @@
 // A sequencer's own epoch against answers as nodes give them.
 ghost use Rattle.std.specs.Prelude.{◌≡◌};
 
-use crate::{Learnt, OwnEpoch, SequencerFault};
+use crate::{Learnt, Origin, OwnEpoch, SequencerFault};
 use ld_ids::{LogId, NoMemory, NodeId, NodeSet, Payload, Spec};
 use ld_lsn::Lsn;
 use ld_msg::{Body, Msg, Outbox, Who};
@@ -24,6 +24,17 @@ fn three_nodes(log: LogId) -> Spec
         r: 2,
         extras: 0,
     }
+}
+
+// The sequencer of epoch 3 of that log, with four nodes in its configuration, that knows this epoch as the last closed one.
+fn starts(alloc: Global, log: LogId, lce: u32) -> Result<OwnEpoch, NoMemory> {
+    let spec = three_nodes(log);
+    let mut nodes = spec.set;
+    if let Some(node) = NodeId::new(4) {
+        nodes = nodes.with(node);
+    }
+    let origin = Origin { nodes, first: spec };
+    OwnEpoch::new(alloc, &origin, &spec, 3, lce)
 }
 
 // A message of a node to the sequencer of epoch 3.
@@ -65,7 +76,7 @@ fn an_append_is_acknowledged_at_the_second_node(rt: HostRuntime) -> Result<(), F
     let alloc = rt.alloc();
     let log = LogId::new(1).expect(&rt, "a log");
     let mut out = Outbox::empty(alloc);
-    let mut own = OwnEpoch::new(alloc, &three_nodes(log), 3, 2)?;
+    let mut own = starts(alloc, log, 2)?;
     let number = appends(alloc, &mut own, &mut out)?;
     let one = comes(&mut own, &stored(log, 1, 3, 1), &mut out)?;
     assert_eq!(rt; one.acked, None);
@@ -78,11 +89,25 @@ fn an_append_is_acknowledged_at_the_second_node(rt: HostRuntime) -> Result<(), F
 }
 
 #[test]
+fn a_stranger_acknowledges_nothing(rt: HostRuntime) -> Result<(), Fail> {
+    let alloc = rt.alloc();
+    let log = LogId::new(1).expect(&rt, "a log");
+    let mut out = Outbox::empty(alloc);
+    let mut own = starts(alloc, log, 2)?;
+    let number = appends(alloc, &mut own, &mut out)?;
+    'nodes: for (node, acked) in [(1, None), (4, None), (1, None), (3, Some(number))] {
+        let learnt = comes(&mut own, &stored(log, node, 3, 1), &mut out)?;
+        assert_eq!(rt; learnt.acked, acked);
+    }
+    Ok(())
+}
+
+#[test]
 fn a_greater_seal_preempts(rt: HostRuntime) -> Result<(), Fail> {
     let alloc = rt.alloc();
     let log = LogId::new(1).expect(&rt, "a log");
     let mut out = Outbox::empty(alloc);
-    let mut own = OwnEpoch::new(alloc, &three_nodes(log), 3, 2)?;
+    let mut own = starts(alloc, log, 2)?;
     let number = Lsn::new(3, 1);
     let greater = from_node(log, 1, Body::SealedHere { number, sealed: 5 });
     let learnt = comes(&mut own, &greater, &mut out)?;
@@ -97,12 +122,12 @@ fn what_is_released_rises_once_earlier_epochs_are_closed(rt: HostRuntime) -> Res
     let alloc = rt.alloc();
     let log = LogId::new(1).expect(&rt, "a log");
     let mut out = Outbox::empty(alloc);
-    let mut own = OwnEpoch::new(alloc, &three_nodes(log), 3, 1)?;
+    let mut own = starts(alloc, log, 1)?;
     assert_eq!(rt; own.trim(Lsn::new(2, 0), &mut out), Ok(()));
     own.close_through(2, &mut out)?;
     assert_eq!(rt; own.released(), Lsn::new(3, 0));
-    // three trims, and three times the word of what is released
-    assert_eq!(rt; out.len(), 6);
+    // a trim to each of the four nodes, and the word of what is released to the three of the epoch
+    assert_eq!(rt; out.len(), 7);
     Ok(())
 }
 
@@ -111,7 +136,7 @@ fn a_retry_sends_to_those_that_have_not_stored(rt: HostRuntime) -> Result<(), Fa
     let alloc = rt.alloc();
     let log = LogId::new(1).expect(&rt, "a log");
     let mut out = Outbox::empty(alloc);
-    let mut own = OwnEpoch::new(alloc, &three_nodes(log), 3, 2)?;
+    let mut own = starts(alloc, log, 2)?;
     let _ = appends(alloc, &mut own, &mut out)?;
     own.retry(alloc, &mut out)?;
     assert_eq!(rt; out.len(), 4);

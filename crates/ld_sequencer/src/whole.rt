@@ -1,26 +1,30 @@
 // A log's sequencer.
-ghost use Rattle.std.specs.Prelude.{◌≡◌, ◌≢◌, ◌⊎◌, ◌≤◌, ◌<◌, ◌+◌, ◌-◌, ◌^◌, ◌++◌, [], ◌∷◌, ℕ, true, false, length, is_some, nat_lt, if◌then◌else◌, None, Some, IfOk, IfErr, IfSome, OnOk, OnErr, IsErrOf, IsErrAnd};
+ghost use Rattle.std.specs.Option.{unwrap_or};
+ghost use Rattle.std.specs.Prelude.{◌≡◌, ◌⊎◌, ◌≤◌, ◌<◌, ◌+◌, ◌-◌, ◌^◌, ◌++◌, ◌==◌, ◌&&◌, [], ◌∷◌, ℕ, true, false, length, is_some, nat_lt, if◌then◌else◌, None, Some, IfOk, IfErr, IfSome, OnOk, OnErr, IsErrOf};
 ghost use Rattle.ld_io.specs.Causes.{Rose};
-ghost use Rattle.ld_ids.specs.Choice.{nodes_of};
+ghost use Rattle.ld_ids.specs.Set.{members};
+ghost use Rattle.ld_ids.specs.declared.set.Spec.{Spec as Fixed};
 ghost use Rattle.ld_node_bounds.specs.Messages.{AreMessages};
-ghost use Rattle.ld_lsn.specs.Number.{numbered};
-ghost use Rattle.ld_msg.specs.Bounds.{IsEpoch, IsMessage, IsNodeHere, IsSummary};
+ghost use Rattle.ld_lsn.specs.Number.{numbered, home_epoch};
+ghost use Rattle.ld_msg.specs.Bounds.{IsEpoch, IsMessage, IsSummary};
 ghost use Rattle.ld_msg.specs.declared.msg.Body.TheVariants.{Trim};
-ghost use Rattle.ld_msg.specs.Register.{Register as Contents, Answer as Ends, Granted, Behind, close as closes, is_crowded};
-ghost use Rattle.ld_msg.specs.Sequencer.{released_of, appending, Numbered, appended, first_stores, next_esn, to_each, does_nothing, goes_on, acted_messages, after_close, recovery_of, recovery_asks, release_messages};
-ghost use Rattle.ld_register.specs.Calls.{activated as answered, after_activate, after_close as after_the_close, ChangedOrNot, Keeps, is_full, close_length};
-ghost use Rattle.ld_register.specs.declared.register.Grant.{Grant};
+ghost use Rattle.ld_msg.specs.Register.{Register as Contents, Answer as Ends, View, Granted, Behind, close as closes, is_crowded};
+ghost use Rattle.ld_msg.specs.Sequencer.{released_of, appending, Numbered, appended, first_stores, next_esn, to_each, does_nothing, goes_on, acted_messages};
+ghost use Rattle.ld_register.specs.Bounds.{IsSpec, IsSpecFor};
+ghost use Rattle.ld_register.specs.Calls.{after_close as after_the_close, ChangedOrNot, IsGrant, Keeps, is_full, close_length};
 ghost use Rattle.ld_register.specs.declared.fault.RegisterFault.TheVariants as registers;
 ghost use Rattle.ld_sequencer.specs.declared.fault.SequencerFault.TheVariants as faults;
+ghost use Rattle.ld_sequencer.specs.Looks.{shows};
 ghost use Rattle.ld_sequencer.specs.Own.{append_fault, trim_fault, listed};
-ghost use Rattle.ld_sequencer.specs.Register.{MayCome, after_tries, answer_of, fault_in, is_epoch_answer};
+ghost use Rattle.ld_sequencer.specs.Register.{after_tries};
 ghost use Rattle.ld_sequencer.specs.declared.fault.CloseFault.TheVariants as unclosed;
-ghost use Rattle.ld_sequencer.specs.Sending.{BeginsWith};
-ghost use Rattle.ld_sequencer.specs.Whole.{as_now, sent_as, next_in, closed_acts, closing_of, is_of_earlier, is_for_recovery, reply_acts, retry_acts, recovery_acts, pending_stores, tried, called_by, risen, Acted, IsCaused, IsFresh, IsRefused, IsUntimely, active, first_asks, Activates, IsActive, is_settled};
+ghost use Rattle.ld_sequencer.specs.Whole.{as_now, sent_as, closed_acts, closing_of, is_for_recovery, epoch_begun, epoch_behind, looks_of, reply_acts, retry_acts, recovery_acts, tried, called_by, risen, Acted, IsCaused, IsFresh, IsRefused, IsUntimely, Unseen, IsActive, is_settled};
 
-use crate::close::{Tried, close};
+use crate::close::close;
 use crate::earlier::is_of_earlier;
 use crate::fault::SequencerFault;
+use crate::look::look_at;
+use crate::origin::Origin;
 use crate::own::OwnEpoch;
 use crate::report::Report;
 use crate::start::{next_recovery, send_all};
@@ -50,9 +54,9 @@ impl Model for Sequencer {
 }
 
 impl Sequencer {
-    /// What is said of its log.
+    /// What is fixed for its epoch.
     pub fn spec(&self) -> &Spec
-        ensures { result.now ≡ self.now.spec }
+        ensures { result.now ≡ self.now.sequencer.spec }
     {
         self.own.spec()
     }
@@ -79,7 +83,7 @@ impl Sequencer {
         self.own.settled()
     }
 
-    /// Numbers the payload and sends it to as many nodes as are to store it, and some more as the log says. It is refused
+    /// Numbers the payload and sends it to as many nodes of its epoch as are to store it, and some more as was fixed for it. It is refused
     /// with `PayloadTooLong` and its length exactly above 65,535 bytes, then with `Preempted` and the greater epoch exactly
     /// where one was learnt, then with `EpochFull` exactly where the next place is 2^32-1, then with `WindowFull` exactly
     /// where 128 appends wait, and then for want of memory. A refused append has changed nothing and sent nothing.
@@ -93,7 +97,7 @@ impl Sequencer {
         ensures number { IfOk result (λ number. number ≡ numbered self.old.sequencer.epoch (next_esn self.old.sequencer)) }
         ensures taken { OnOk result (appending self.old.sequencer payload ≡ Numbered) }
         ensures now { OnOk result (self.new ≡ as_now self.old (appended self.old.sequencer payload)) }
-        ensures out { OnOk result (out.new ≡ out.old ++ sent_as self.old (first_stores self.old.spec self.old.sequencer payload)) }
+        ensures out { OnOk result (out.new ≡ out.old ++ sent_as self.old (first_stores self.old.sequencer payload)) }
         ensures refused { IfErr result (λ fault. fault ≡ append_fault (length payload) (appending self.old.sequencer payload)) }
         ensures same { OnErr result (self.new ≡ self.old) }
         ensures unsent { OnErr result (out.new ≡ out.old) }
@@ -102,11 +106,11 @@ impl Sequencer {
         self.own.append(alloc, payload, out)
     }
 
-    /// Tells all nodes of the log that all up to the number may go. It is refused with `PastReleased` and the released
+    /// Tells all nodes of the configuration that all up to the number may go. It is refused with `PastReleased` and the released
     /// number exactly where the number is above it, and then for want of memory. A refused trim has sent nothing.
     pub fn trim(&self, lsn: Lsn, out: &mut Outbox) -> Result<(), SequencerFault>
         ensures within { OnOk result (lsn ≤ released_of self.now.sequencer) }
-        ensures out { OnOk result (out.new ≡ out.old ++ sent_as self.now (to_each (Trim lsn) (nodes_of self.now.spec))) }
+        ensures out { OnOk result (out.new ≡ out.old ++ sent_as self.now (to_each (Trim lsn) (members self.now.origin.nodes))) }
         ensures refused { IfErr result (λ fault. fault ≡ trim_fault (released_of self.now.sequencer) lsn) }
         ensures unsent { OnErr result (out.new ≡ out.old) }
         ensures messages { AreMessages out.old → AreMessages out.new }
@@ -114,15 +118,19 @@ impl Sequencer {
         self.own.trim(lsn, out)
     }
 
-    /// Takes a node's message. An append of its own is acknowledged by it where as many nodes as the log's factor says have
-    /// stored it now, and hadn't before. A seal of a greater epoch preempts it, and so does word that its own epoch is
-    /// closed. What speaks of the epoch that is recovered goes to the recovery. Once its plan is stored the epoch is closed
-    /// in the register, all nodes are told so, and the next epoch is recovered, up to its own; where another sequencer
-    /// closed it, the recovery goes on behind the last closed epoch, or the sequencer is preempted, where that isn't before
-    /// its own. A close for which the register fails or is full is reported, with all else of the call done, and tried again by
-    /// a retry alone; it is reported as failed only where the register's count of faults rose in the call, which else stays
-    /// as it was. Where the released number rises all nodes are told so. A preempted sequencer ignores all messages, and so it does those that
-    /// are no node's.
+    /// Takes a node's message. An append of its own is acknowledged by it where as many nodes of its epoch as the epoch's factor
+    /// says have stored it now, and hadn't before. A seal of a greater epoch preempts it, and so does word that its own epoch
+    /// is closed. What speaks of the epoch that is recovered goes to the recovery. Once its plan is stored the epoch is closed
+    /// in the register, all its nodes are told so, and the next epoch is recovered, up to its own, with what the register
+    /// shows of it; where another sequencer closed it, the recovery goes on behind the last closed epoch, or the sequencer is
+    /// preempted, where that isn't before its own. A close for which the register fails or is full is reported, with all else
+    /// of the call done, and tried again by a retry alone; it is reported as failed only where the register's count of faults
+    /// rose in the call, which else stays as it was. Where the released number rises all nodes of its epoch are told so. A
+    /// preempted sequencer ignores all messages, and so it does those that are no node's.
+    ///
+    /// Where word comes that the recovered epoch is closed, and the next one is before its own, the register is looked at
+    /// first. Where it doesn't answer, the call is refused with `Register`, and `Failed`, only where the count of faults rose,
+    /// or `Damaged` and a place: nothing has been done and nothing sent.
     ///
     /// It is refused with `Register` and `LogLimit` exactly where 64 other logs are held, and with `Register`, `Damaged` and a
     /// place where the register's bytes are no journal from there on: then all has been done but the close, which a retry
@@ -139,27 +147,67 @@ impl Sequencer {
     ) -> Result<Report, SequencerFault>
         requires { IsMessage msg.now }
         ensures exact { (c : Contents) → G.tells reg.old c
-            → IfOk result (λ report. Acted self.old self.new report out.old out.new (called_by self.old c (reply_acts self.old msg.now.from msg.now.body)).acts × G.tells reg.new (called_by self.old c (reply_acts self.old msg.now.from msg.now.body)).register) }
-        ensures acted { IfOk result (λ report. (d : Ends) × Acted self.old self.new report out.old out.new (tried self.old (reply_acts self.old msg.now.from msg.now.body) d)) }
+            → IfOk result (λ report. Acted self.old self.new report out.old out.new (called_by self.old c (reply_acts (looks_of self.old c) self.old msg.now.from msg.now.body)).acts × G.tells reg.new (called_by self.old c (reply_acts (looks_of self.old c) self.old msg.now.from msg.now.body)).register) }
+        ensures acted { IfOk result (λ report. (s : Fixed) × IsSpecFor self.old.sequencer.log s × (d : Ends) × Acted self.old self.new report out.old out.new (tried (shows s) (reply_acts (shows s) self.old msg.now.from msg.now.body) d)) }
         ensures held { (c : Contents) → G.holds reg.old c
-            → IfOk result (λ report. (is_some report.register ≡ true) ⊎ (Acted self.old self.new report out.old out.new (called_by self.old c (reply_acts self.old msg.now.from msg.now.body)).acts × G.holds reg.new (called_by self.old c (reply_acts self.old msg.now.from msg.now.body)).register)) }
+            → IfOk result (λ report. (is_some report.register ≡ true) ⊎ (Acted self.old self.new report out.old out.new (called_by self.old c (reply_acts (looks_of self.old c) self.old msg.now.from msg.now.body)).acts × G.holds reg.new (called_by self.old c (reply_acts (looks_of self.old c) self.old msg.now.from msg.now.body)).register)) }
+        ensures failed { IfOk result (λ report. report.register ≡ Some unclosed.Failed → Rose (G.faults reg.old) (G.faults reg.new)) }
+        ensures full { G.told reg.old → IfOk result (λ report. report.register ≡ Some unclosed.Full → (c : Contents) × G.holds reg.old c × (is_full c close_length ≡ true)) }
+        ensures steady { IfOk result (λ report. (report.register ≡ Some unclosed.Failed) ⊎ (G.faults reg.new ≡ G.faults reg.old)) }
+        ensures unfailed { IfErr result (λ fault. (fault ≡ faults.NoMemory) ⊎ (fault ≡ faults.Register registers.Failed) ⊎ (G.faults reg.new ≡ G.faults reg.old)) }
+        ensures unseen { IsErrOf result (faults.Register registers.Failed) → Rose (G.faults reg.old) (G.faults reg.new) }
+        ensures refused { IfErr result (λ fault. Unseen self.old self.new fault out.old out.new msg.now.body ⊎ ((looks : ℕ → View) → IsRefused self.old self.new fault out.old out.new (reply_acts looks self.old msg.now.from msg.now.body))) }
+        ensures caused { G.told reg.old → IfErr result (λ fault. (fault ≡ faults.Register registers.Failed) ⊎ IsCaused (G.holds reg.old) (G.damaged reg.old) self.old.sequencer.log fault) }
+        ensures crowded { (c : Contents) → G.tells reg.old c
+            → IfErr result (λ fault. (fault ≡ faults.NoMemory) ⊎ ((fault ≡ faults.Register registers.LogLimit) × (is_crowded c self.old.sequencer.log ≡ true) × G.tells reg.new c)) }
+        ensures room { (c : Contents) → G.tells reg.old c → OnOk result (((reply_acts (looks_of self.old c) self.old msg.now.from msg.now.body).tries ≡ []) ⊎ (is_crowded c self.old.sequencer.log ≡ false)) }
+        ensures told { G.told reg.old → G.told reg.new }
+        ensures done_or_not { (looks : ℕ → View) → G.told reg.old → ChangedOrNot (G.may_hold reg.old) (G.may_hold reg.new) (λ c. after_tries c self.old.sequencer.log (reply_acts looks self.old msg.now.from msg.now.body).tries) }
+        ensures keeps { IfErr result (λ fault. (fault ≡ faults.NoMemory) ⊎ (fault ≡ faults.Register registers.Failed) ⊎ Keeps (G.holds reg.old) (G.holds reg.new) (G.may_hold reg.old) (G.may_hold reg.new)) }
+        ensures itself { G.identity reg.new ≡ G.identity reg.old }
+        ensures counts { G.faults reg.old ≤ G.faults reg.new }
+        ensures messages { AreMessages out.old → AreMessages out.new }
+    {
+        let epoch = self.epoch_begun(&msg.body);
+        let origin = *self.own.origin();
+        let next = look_at(alloc, self.own.spec().log, &origin.first, epoch, reg)?;
+        self.take(alloc, msg, &next, reg, out)
+    }
+
+    /// Takes a message. This is shown of the epoch whose recovery it begins, where it begins one.
+    fn take<G: Register>(
+        &mut self,
+        alloc: Global,
+        msg: &Msg,
+        next: &Spec,
+        reg: &mut G,
+        out: &mut Outbox,
+    ) -> Result<Report, SequencerFault>
+        requires message { IsMessage msg.now }
+        requires next { IsSpecFor self.old.sequencer.log next.now }
+        ensures exact { (c : Contents) → G.tells reg.old c
+            → IfOk result (λ report. Acted self.old self.new report out.old out.new (called_by self.old c (reply_acts (shows next.now) self.old msg.now.from msg.now.body)).acts × G.tells reg.new (called_by self.old c (reply_acts (shows next.now) self.old msg.now.from msg.now.body)).register) }
+        ensures acted { IfOk result (λ report. (s : Fixed) × IsSpecFor self.old.sequencer.log s × (d : Ends) × Acted self.old self.new report out.old out.new (tried (shows s) (reply_acts (shows next.now) self.old msg.now.from msg.now.body) d)) }
+        ensures held { (c : Contents) → G.holds reg.old c
+            → IfOk result (λ report. (is_some report.register ≡ true) ⊎ (Acted self.old self.new report out.old out.new (called_by self.old c (reply_acts (shows next.now) self.old msg.now.from msg.now.body)).acts × G.holds reg.new (called_by self.old c (reply_acts (shows next.now) self.old msg.now.from msg.now.body)).register)) }
         ensures failed { IfOk result (λ report. report.register ≡ Some unclosed.Failed → Rose (G.faults reg.old) (G.faults reg.new)) }
         ensures full { G.told reg.old → IfOk result (λ report. report.register ≡ Some unclosed.Full → (c : Contents) × G.holds reg.old c × (is_full c close_length ≡ true)) }
         ensures steady { IfOk result (λ report. (report.register ≡ Some unclosed.Failed) ⊎ (G.faults reg.new ≡ G.faults reg.old)) }
         ensures unfailed { IfErr result (λ fault. (fault ≡ faults.NoMemory) ⊎ (G.faults reg.new ≡ G.faults reg.old)) }
-        ensures refused { IfErr result (λ fault. IsRefused self.old self.new fault out.old out.new (reply_acts self.old msg.now.from msg.now.body)) }
+        ensures refused { IfErr result (λ fault. IsRefused self.old self.new fault out.old out.new (reply_acts (shows next.now) self.old msg.now.from msg.now.body)) }
         ensures caused { G.told reg.old → IfErr result (IsCaused (G.holds reg.old) (G.damaged reg.old) self.old.sequencer.log) }
         ensures crowded { (c : Contents) → G.tells reg.old c
             → IfErr result (λ fault. (fault ≡ faults.NoMemory) ⊎ ((fault ≡ faults.Register registers.LogLimit) × (is_crowded c self.old.sequencer.log ≡ true) × G.tells reg.new c)) }
-        ensures room { (c : Contents) → G.tells reg.old c → OnOk result (((reply_acts self.old msg.now.from msg.now.body).tries ≡ []) ⊎ (is_crowded c self.old.sequencer.log ≡ false)) }
+        ensures room { (c : Contents) → G.tells reg.old c → OnOk result (((reply_acts (shows next.now) self.old msg.now.from msg.now.body).tries ≡ []) ⊎ (is_crowded c self.old.sequencer.log ≡ false)) }
         ensures told { G.told reg.old → G.told reg.new }
-        ensures done_or_not { G.told reg.old → ChangedOrNot (G.may_hold reg.old) (G.may_hold reg.new) (λ c. after_tries c self.old.sequencer.log (reply_acts self.old msg.now.from msg.now.body).tries) }
+        ensures done_or_not { G.told reg.old → ChangedOrNot (G.may_hold reg.old) (G.may_hold reg.new) (λ c. after_tries c self.old.sequencer.log (reply_acts (shows next.now) self.old msg.now.from msg.now.body).tries) }
         ensures keeps { IfErr result (λ fault. (fault ≡ faults.NoMemory) ⊎ Keeps (G.holds reg.old) (G.holds reg.new) (G.may_hold reg.old) (G.may_hold reg.new)) }
+        ensures itself { G.identity reg.new ≡ G.identity reg.old }
         ensures counts { G.faults reg.old ≤ G.faults reg.new }
         ensures messages { AreMessages out.old → AreMessages out.new }
     {
         let was_closing = self.closing().is_some();
-        let report = self.hear(alloc, msg, out)?;
+        let report = self.hear(alloc, msg, next, out)?;
         if was_closing {
             return Ok(report);
         }
@@ -184,7 +232,7 @@ impl Sequencer {
     ) -> Result<Report, SequencerFault>
         ensures exact { (c : Contents) → G.tells reg.old c
             → IfOk result (λ report. Acted self.old self.new report out.old out.new (called_by self.old c (retry_acts self.old)).acts × G.tells reg.new (called_by self.old c (retry_acts self.old)).register) }
-        ensures acted { IfOk result (λ report. (d : Ends) × Acted self.old self.new report out.old out.new (tried self.old (retry_acts self.old) d)) }
+        ensures acted { IfOk result (λ report. (s : Fixed) × IsSpecFor self.old.sequencer.log s × (d : Ends) × Acted self.old self.new report out.old out.new (tried (shows s) (retry_acts self.old) d)) }
         ensures held { (c : Contents) → G.holds reg.old c
             → IfOk result (λ report. (is_some report.register ≡ true) ⊎ (Acted self.old self.new report out.old out.new (called_by self.old c (retry_acts self.old)).acts × G.holds reg.new (called_by self.old c (retry_acts self.old)).register)) }
         ensures failed { IfOk result (λ report. report.register ≡ Some unclosed.Failed → Rose (G.faults reg.old) (G.faults reg.new)) }
@@ -199,6 +247,7 @@ impl Sequencer {
         ensures told { G.told reg.old → G.told reg.new }
         ensures done_or_not { G.told reg.old → ChangedOrNot (G.may_hold reg.old) (G.may_hold reg.new) (λ c. after_tries c self.old.sequencer.log (retry_acts self.old).tries) }
         ensures keeps { IfErr result (λ fault. (fault ≡ faults.NoMemory) ⊎ Keeps (G.holds reg.old) (G.holds reg.new) (G.may_hold reg.old) (G.may_hold reg.new)) }
+        ensures itself { G.identity reg.new ≡ G.identity reg.old }
         ensures counts { G.faults reg.old ≤ G.faults reg.new }
         ensures messages { AreMessages out.old → AreMessages out.new }
     {
@@ -211,38 +260,47 @@ impl Sequencer {
         report
     }
 
-    /// The sequencer of an epoch that was handed out. Without memory nothing is sent.
+    /// The sequencer of an epoch that was handed out, for which this is fixed. Without memory nothing is sent.
     #[tactic(auto, using(crate::proofs::Bounded::message_rules))]
     pub(crate) fn start(
         alloc: Global,
+        origin: &Origin,
         spec: &Spec,
         grant: Grant,
         out: &mut Outbox,
     ) -> Result<Sequencer, NoMemory>
-        requires copies { 1 ≤ spec.now.r }
-        requires epoch { IsEpoch grant.epoch }
-        requires lce { grant.lce ≤ 2 ^ 32 - 2 }
-        ensures active { IfOk result (λ sequencer. IsActive spec.now grant sequencer out.old out.new) }
+        requires spec { IsSpec spec.now }
+        requires first { IsSpecFor spec.now.log origin.now.first }
+        requires grant { IsGrant spec.now.log grant }
+        ensures active { IfOk result (λ sequencer. IsActive origin.now spec.now (shows (unwrap_or grant.next origin.now.first)) grant sequencer out.old out.new) }
         ensures unsent { OnErr result (out.new ≡ out.old) }
         ensures messages { AreMessages out.old → AreMessages out.new }
     {
-        let own = OwnEpoch::new(alloc, spec, grant.epoch, grant.lce)?;
+        let own = OwnEpoch::new(alloc, origin, spec, grant.epoch, grant.lce)?;
         let mut asks = Outbox::empty(alloc);
-        let recovery = next_recovery(alloc, spec, grant.epoch, grant.lce, &mut asks)?;
+        let next = grant.next.unwrap_or(origin.first);
+        let recovery = next_recovery(alloc, &next, grant.epoch, grant.lce, &mut asks)?;
         send_all(asks, out)?;
         Ok(Sequencer { own, recovery })
     }
 
-    /// What a message does without a close.
-    fn hear(&mut self, alloc: Global, msg: &Msg, out: &mut Outbox) -> Result<Report, NoMemory>
-        requires { IsMessage msg.now }
-        ensures acted { IfOk result (λ report. Acted self.old self.new report out.old out.new (reply_acts self.old msg.now.from msg.now.body)) }
-        ensures fresh { IsFresh self.old (reply_acts self.old msg.now.from msg.now.body) }
+    /// What a message does without a close. This is shown of the epoch whose recovery it begins, where it begins one.
+    fn hear(
+        &mut self,
+        alloc: Global,
+        msg: &Msg,
+        next: &Spec,
+        out: &mut Outbox,
+    ) -> Result<Report, NoMemory>
+        requires message { IsMessage msg.now }
+        requires next { IsSpecFor self.old.sequencer.log next.now }
+        ensures acted { IfOk result (λ report. Acted self.old self.new report out.old out.new (reply_acts (shows next.now) self.old msg.now.from msg.now.body)) }
+        ensures fresh { IsFresh self.old (reply_acts (shows next.now) self.old msg.now.from msg.now.body) }
         ensures failed { IfOk result (λ report. report.register ≡ None) }
         ensures messages { AreMessages out.old → AreMessages out.new }
     {
         if self.is_for_recovery(&msg.body) {
-            return self.hear_for_recovery(alloc, msg, out);
+            return self.hear_for_recovery(alloc, msg, next, out);
         }
         let before = self.released();
         let learnt = self.own.on_reply(msg, out)?;
@@ -260,11 +318,13 @@ impl Sequencer {
         &mut self,
         alloc: Global,
         msg: &Msg,
+        next: &Spec,
         out: &mut Outbox,
     ) -> Result<Report, NoMemory>
         requires message { IsMessage msg.now }
+        requires next { IsSpecFor self.old.sequencer.log next.now }
         requires recovery { is_for_recovery self.old msg.now.body ≡ true }
-        ensures acted { IfOk result (λ report. Acted self.old self.new report out.old out.new (reply_acts self.old msg.now.from msg.now.body)) }
+        ensures acted { IfOk result (λ report. Acted self.old self.new report out.old out.new (reply_acts (shows next.now) self.old msg.now.from msg.now.body)) }
         ensures failed { IfOk result (λ report. report.register ≡ None) }
         ensures messages { AreMessages out.old → AreMessages out.new }
     {
@@ -274,7 +334,7 @@ impl Sequencer {
         };
         recovery.on_reply(alloc, msg, out)?;
         if let State::Done(_) = recovery.state() {
-            self.go_on(alloc, recovery.epoch(), out)?;
+            self.go_on(alloc, recovery.epoch(), next, out)?;
             return Ok(Report {
                 acked: None,
                 closed: None,
@@ -294,17 +354,48 @@ impl Sequencer {
         !self.own.is_preempted() && self.recovery.is_some() && is_of_earlier(self.own.epoch(), body)
     }
 
-    /// All epochs up to this one are closed: where the released number rises all nodes are told so, and the recovery of the
-    /// next epoch begins, where that is before its own. It recovers none at the moment.
-    fn go_on(&mut self, alloc: Global, lce: u32, out: &mut Outbox) -> Result<(), NoMemory>
+    /// The epoch whose recovery begins with word that the recovered one is closed.
+    fn epoch_begun(&self, body: &Body) -> Option<u32>
+        ensures { result ≡ epoch_begun self.now body.now }
+    {
+        match body {
+            Body::CleanHere { number, .. } => self.epoch_behind(*number),
+            _ => None,
+        }
+    }
+
+    /// The epoch behind the recovered one, where the number is of that one.
+    fn epoch_behind(&self, number: Lsn) -> Option<u32>
+        ensures { result ≡ (if is_some self.now.sequencer.preempted then None else epoch_behind self.now.sequencer.epoch number self.now.sequencer.recovery) }
+    {
+        if self.own.is_preempted() {
+            return None;
+        }
+        match &self.recovery {
+            Some(recovery) => behind(recovery.epoch(), self.own.epoch(), number),
+            None => None,
+        }
+    }
+
+    /// All epochs up to this one are closed: where the released number rises all nodes of its epoch are told so, and the
+    /// recovery of the next epoch begins, with what is shown of it, where that is before its own. It recovers none at the
+    /// moment.
+    fn go_on(
+        &mut self,
+        alloc: Global,
+        lce: u32,
+        next: &Spec,
+        out: &mut Outbox,
+    ) -> Result<(), NoMemory>
         requires lce { lce ≤ 2 ^ 32 - 2 }
-        ensures now { OnOk result (self.new ≡ as_now self.old (goes_on self.old.spec (does_nothing self.old.sequencer) lce).sequencer) }
-        ensures out { OnOk result (out.new ≡ out.old ++ sent_as self.old (acted_messages self.old.spec self.old.sequencer (goes_on self.old.spec (does_nothing self.old.sequencer) lce))) }
+        requires next { IsSpecFor self.old.sequencer.log next.now }
+        ensures now { OnOk result (self.new ≡ as_now self.old (goes_on (shows next.now) (does_nothing self.old.sequencer) lce).sequencer) }
+        ensures out { OnOk result (out.new ≡ out.old ++ sent_as self.old (acted_messages self.old.sequencer (goes_on (shows next.now) (does_nothing self.old.sequencer) lce))) }
         ensures messages { AreMessages out.old → AreMessages out.new }
     {
         self.recovery = None;
         self.own.close_through(lce, out)?;
-        self.recovery = next_recovery(alloc, self.own.spec(), self.own.epoch(), lce, out)?;
+        self.recovery = next_recovery(alloc, next, self.own.epoch(), lce, out)?;
         Ok(())
     }
 
@@ -320,10 +411,10 @@ impl Sequencer {
         requires due { closing_of self.old ≡ Some (epoch, summary.now) }
         requires summary { IsSummary epoch summary.now }
         ensures exact { (c : Contents) → G.tells reg.old c
-            → IfOk result (λ report. Acted self.old self.new report out.old out.new (closed_acts self.old epoch summary.now (closes c self.old.sequencer.log epoch summary.now).answer) × (is_crowded c self.old.sequencer.log ≡ false) × G.tells reg.new (closes c self.old.sequencer.log epoch summary.now).register) }
-        ensures acted { IfOk result (λ report. (d : Ends) × Acted self.old self.new report out.old out.new (closed_acts self.old epoch summary.now d)) }
+            → IfOk result (λ report. Acted self.old self.new report out.old out.new (closed_acts (looks_of self.old c) self.old epoch summary.now (closes c self.old.sequencer.log epoch summary.now).answer) × (is_crowded c self.old.sequencer.log ≡ false) × G.tells reg.new (closes c self.old.sequencer.log epoch summary.now).register) }
+        ensures acted { IfOk result (λ report. (s : Fixed) × IsSpecFor self.old.sequencer.log s × (d : Ends) × Acted self.old self.new report out.old out.new (closed_acts (shows s) self.old epoch summary.now d)) }
         ensures held { (c : Contents) → G.holds reg.old c
-            → IfOk result (λ report. (is_some report.register ≡ true) ⊎ (Acted self.old self.new report out.old out.new (closed_acts self.old epoch summary.now (closes c self.old.sequencer.log epoch summary.now).answer) × G.holds reg.new (closes c self.old.sequencer.log epoch summary.now).register)) }
+            → IfOk result (λ report. (is_some report.register ≡ true) ⊎ (Acted self.old self.new report out.old out.new (closed_acts (looks_of self.old c) self.old epoch summary.now (closes c self.old.sequencer.log epoch summary.now).answer) × G.holds reg.new (closes c self.old.sequencer.log epoch summary.now).register)) }
         ensures failed { IfOk result (λ report. report.register ≡ Some unclosed.Failed → Rose (G.faults reg.old) (G.faults reg.new)) }
         ensures full { G.told reg.old → IfOk result (λ report. report.register ≡ Some unclosed.Full → (c : Contents) × G.holds reg.old c × (is_full c close_length ≡ true)) }
         ensures steady { IfOk result (λ report. (report.register ≡ Some unclosed.Failed) ⊎ (G.faults reg.new ≡ G.faults reg.old)) }
@@ -335,51 +426,28 @@ impl Sequencer {
         ensures told { G.told reg.old → G.told reg.new }
         ensures done_or_not { G.told reg.old → ChangedOrNot (G.may_hold reg.old) (G.may_hold reg.new) (λ c. after_the_close c self.old.sequencer.log epoch summary.now) }
         ensures keeps { IfErr result (λ fault. (fault ≡ faults.NoMemory) ⊎ Keeps (G.holds reg.old) (G.holds reg.new) (G.may_hold reg.old) (G.may_hold reg.new)) }
+        ensures itself { G.identity reg.new ≡ G.identity reg.old }
         ensures counts { G.faults reg.old ≤ G.faults reg.new }
         ensures messages { AreMessages out.old → AreMessages out.new }
     {
-        let tried = close(alloc, reg, self.own.spec().log, epoch, summary)?;
+        let origin = *self.own.origin();
+        let log = self.own.spec().log;
+        let tried = close(alloc, reg, log, &origin.first, epoch, summary)?;
         Ok(self.after_close(alloc, tried, epoch, summary, out)?)
     }
 
-    /// What the register's answer to a close does.
-    fn after_close(
-        &mut self,
-        alloc: Global,
-        tried: Tried,
-        epoch: u32,
-        summary: &Summary,
-        out: &mut Outbox,
-    ) -> Result<Report, NoMemory>
-        requires due { closing_of self.old ≡ Some (epoch, summary.now) }
-        requires bound { is_epoch_answer tried ≡ true }
-        ensures acted { IfOk result (λ report. Acted self.old self.new report out.old out.new (closed_acts self.old epoch summary.now (answer_of tried))) }
-        ensures failed { IfOk result (λ report. report.register ≡ fault_in tried) }
-        ensures messages { AreMessages out.old → AreMessages out.new }
-    {
-        match tried {
-            Tried::Taken => self.finish(alloc, epoch, summary, out),
-            Tried::Behind(lce) => self.fall_behind(alloc, lce, epoch, summary, out),
-            Tried::Unclosed(fault) => Ok(Report {
-                acked: None,
-                closed: None,
-                preempted: None,
-                register: Some(fault),
-                released: None,
-            }),
-        }
-    }
-
     /// The epoch is closed as it was to be.
-    fn finish(
+    pub(crate) fn finish(
         &mut self,
         alloc: Global,
         epoch: u32,
         summary: &Summary,
+        next: &Spec,
         out: &mut Outbox,
     ) -> Result<Report, NoMemory>
+        requires next { IsSpecFor self.old.sequencer.log next.now }
         requires due { closing_of self.old ≡ Some (epoch, summary.now) }
-        ensures acted { IfOk result (λ report. Acted self.old self.new report out.old out.new (closed_acts self.old epoch summary.now Granted)) }
+        ensures acted { IfOk result (λ report. Acted self.old self.new report out.old out.new (closed_acts (shows next.now) self.old epoch summary.now Granted)) }
         ensures failed { IfOk result (λ report. report.register ≡ None) }
         ensures messages { AreMessages out.old → AreMessages out.new }
     {
@@ -388,7 +456,7 @@ impl Sequencer {
             Some(mut recovery) => recovery.closed(Answer::Taken, out)?,
             None => {}
         }
-        self.go_on(alloc, epoch, out)?;
+        self.go_on(alloc, epoch, next, out)?;
         Ok(Report {
             acked: None,
             closed: Some(Lsn::new(epoch, summary.end)),
@@ -399,16 +467,18 @@ impl Sequencer {
     }
 
     /// The last closed epoch is this one, and not the one before that which is to be closed.
-    fn fall_behind(
+    pub(crate) fn fall_behind(
         &mut self,
         alloc: Global,
         lce: u32,
+        next: &Spec,
         epoch: u32,
         summary: &Summary,
         out: &mut Outbox,
     ) -> Result<Report, NoMemory>
-        requires { lce ≤ 2 ^ 32 - 2 }
-        ensures acted { IfOk result (λ report. Acted self.old self.new report out.old out.new (closed_acts self.old epoch summary.now (Behind lce))) }
+        requires next { IsSpecFor self.old.sequencer.log next.now }
+        requires lce { lce ≤ 2 ^ 32 - 2 }
+        ensures acted { IfOk result (λ report. Acted self.old self.new report out.old out.new (closed_acts (shows next.now) self.old epoch summary.now (Behind lce))) }
         ensures failed { IfOk result (λ report. report.register ≡ None) }
         ensures messages { AreMessages out.old → AreMessages out.new }
     {
@@ -423,7 +493,7 @@ impl Sequencer {
             });
         }
         let before = self.released();
-        self.go_on(alloc, lce, out)?;
+        self.go_on(alloc, lce, next, out)?;
         Ok(Report {
             acked: None,
             closed: None,
@@ -443,7 +513,7 @@ impl Sequencer {
         requires { self.old.sequencer.preempted ≡ None }
         ensures exact { (c : Contents) → G.tells reg.old c
             → IfOk result (λ report. Acted self.old self.new report out.old out.new (called_by self.old c (recovery_acts self.old)).acts × G.tells reg.new (called_by self.old c (recovery_acts self.old)).register) }
-        ensures acted { IfOk result (λ report. (d : Ends) × Acted self.old self.new report out.old out.new (tried self.old (recovery_acts self.old) d)) }
+        ensures acted { IfOk result (λ report. (s : Fixed) × IsSpecFor self.old.sequencer.log s × (d : Ends) × Acted self.old self.new report out.old out.new (tried (shows s) (recovery_acts self.old) d)) }
         ensures held { (c : Contents) → G.holds reg.old c
             → IfOk result (λ report. (is_some report.register ≡ true) ⊎ (Acted self.old self.new report out.old out.new (called_by self.old c (recovery_acts self.old)).acts × G.holds reg.new (called_by self.old c (recovery_acts self.old)).register)) }
         ensures failed { IfOk result (λ report. report.register ≡ Some unclosed.Failed → Rose (G.faults reg.old) (G.faults reg.new)) }
@@ -458,9 +528,11 @@ impl Sequencer {
         ensures told { G.told reg.old → G.told reg.new }
         ensures done_or_not { G.told reg.old → ChangedOrNot (G.may_hold reg.old) (G.may_hold reg.new) (λ c. after_tries c self.old.sequencer.log (recovery_acts self.old).tries) }
         ensures keeps { IfErr result (λ fault. (fault ≡ faults.NoMemory) ⊎ Keeps (G.holds reg.old) (G.holds reg.new) (G.may_hold reg.old) (G.may_hold reg.new)) }
+        ensures itself { G.identity reg.new ≡ G.identity reg.old }
         ensures counts { G.faults reg.old ≤ G.faults reg.new }
         ensures messages { AreMessages out.old → AreMessages out.new }
     {
+        let _ = self.own.origin();
         match self.closing() {
             Some((epoch, summary)) => self.close(alloc, epoch, &summary, reg, out),
             None => {
@@ -508,5 +580,16 @@ impl Sequencer {
         } else {
             None
         }
+    }
+}
+
+/// The epoch behind a recovered one, where the number is of that one, and another epoch is before the sequencer's own.
+fn behind(recovered: u32, own: u32, number: Lsn) -> Option<u32>
+    ensures { result ≡ (if (recovered == home_epoch number) && nat_lt (recovered + 1) own then Some (recovered + 1) else None) }
+{
+    if number.home().0 == recovered && recovered < own && recovered + 1 < own {
+        Some(recovered + 1)
+    } else {
+        None
     }
 }

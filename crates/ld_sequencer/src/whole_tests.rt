@@ -1,5 +1,6 @@
-// Sequencers of a log on the nodes 1, 2 and 3 with each record on two, over a register on a disk in memory.
-ghost use Rattle.std.specs.Prelude.{◌≡◌, IfOk};
+// Sequencers of a log that stores on two of three nodes, 1, 2 and 3 at first, over a register on a disk in memory.
+ghost use Rattle.std.specs.Prelude.{IfOk};
+ghost use Rattle.ld_register.specs.Bounds.{IsSpec};
 ghost use Rattle.ld_msg.specs.Bounds.{IsMessage};
 ghost use Rattle.ld_recovery.specs.Recovering.{IsReplyTo};
 
@@ -7,8 +8,8 @@ use crate::{CloseFault, Report, Sequencer, SequencerFault};
 use ld_disk::{Fault, MemDisk};
 use ld_ids::{LogId, NoMemory, NodeId, NodeSet, Payload, Spec};
 use ld_lsn::Lsn;
-use ld_msg::{Body, Entries, Msg, Outbox, Who};
-use ld_register::{DiskRegister, Register};
+use ld_msg::{Body, Entries, Msg, Outbox, Summary, Who};
+use ld_register::{DiskRegister, Register, RegisterFault};
 use std::alloc::Global;
 use std::test::Fail;
 
@@ -23,22 +24,38 @@ fn log() -> Result<LogId, NoMemory> {
     }
 }
 
-// Its nodes, with each record on two of them.
-fn three_nodes() -> Result<Spec, NoMemory>
-    ensures { IfOk result (λ spec. spec.r ≡ 2) }
+// These three nodes, with each record on two of them.
+fn on_nodes(numbers: [u8; 3]) -> Result<Spec, NoMemory>
+    ensures { IfOk result IsSpec }
 {
     let mut set = NodeSet::empty();
-    for number in [1, 2, 3] {
+    for number in numbers {
         if let Some(node) = NodeId::new(number) {
             set = set.with(node);
         }
     }
+    let log = log()?;
+    let _ = log.number();
+    if set.len() < 2 {
+        return Err(NoMemory);
+    }
     Ok(Spec {
-        log: log()?,
+        log,
         set,
         r: 2,
         extras: 0,
     })
+}
+
+// All nodes: those from 1 to 6.
+fn all_nodes() -> NodeSet {
+    let mut set = NodeSet::empty();
+    for number in [1, 2, 3, 4, 5, 6] {
+        if let Some(node) = NodeId::new(number) {
+            set = set.with(node);
+        }
+    }
+    set
 }
 
 // A register on an empty disk.
@@ -54,14 +71,31 @@ fn will_fail(reg: &mut DiskRegister<MemDisk>) {
     reg.arm(Fault::FailAt(1));
 }
 
-// The sequencer of the next epoch.
+// The register, loaded anew from its disk, whose first read fails.
+fn unread(alloc: Global, reg: DiskRegister<MemDisk>) -> DiskRegister<MemDisk> {
+    let mut disk = reg.into_disk();
+    disk.fail_read_at(1);
+    DiskRegister::new(alloc, disk)
+}
+
+// The sequencer of the next epoch, with these nodes fixed for it.
+fn next_on<G: Register>(
+    alloc: Global,
+    numbers: [u8; 3],
+    reg: &mut G,
+    out: &mut Outbox,
+) -> Result<Sequencer, SequencerFault> {
+    let spec = on_nodes(numbers)?;
+    Sequencer::activate(alloc, &all_nodes(), &spec, &spec, reg, out)
+}
+
+// The sequencer of the next epoch, on the first nodes.
 fn next<G: Register>(
     alloc: Global,
     reg: &mut G,
     out: &mut Outbox,
 ) -> Result<Sequencer, SequencerFault> {
-    let spec = three_nodes()?;
-    Sequencer::activate(alloc, &spec, reg, out)
+    next_on(alloc, [1, 2, 3], reg, out)
 }
 
 // A register on an empty disk, and the first sequencer from it.
@@ -134,6 +168,57 @@ fn has_nothing<G: Register>(
     };
     let msg = reply(node, body)?;
     comes(alloc, sequencer, &msg, reg, out)
+}
+
+// Epoch 1 is closed, by the sequencer of epoch 2.
+fn closed() -> Body
+    ensures { IsReplyTo 2 result }
+{
+    Body::CleanHere {
+        number: Lsn::new(1, 1),
+        summary: Summary {
+            ballot: 2,
+            lng: 0,
+            trim: Lsn::from_u64(0),
+            end: 1,
+        },
+    }
+}
+
+// A node says that epoch 1 is closed.
+fn closed_word() -> Result<Msg, NoMemory>
+    ensures { IfOk result IsMessage }
+{
+    reply(1, closed())
+}
+
+// Whether a message asks the node for what it has.
+fn is_ask_of(msg: &Msg, number: u8) -> bool {
+    match (&msg.body, msg.to) {
+        (Body::DigestAsk { .. }, Who::Node(node)) => node.number() == number,
+        _ => false,
+    }
+}
+
+// How often the node was asked for what it has.
+fn asks_of(out: &Outbox, number: u8) -> usize {
+    let mut count: usize = 0;
+    for msg in out.as_slice() {
+        if is_ask_of(msg, number) {
+            count = count.saturating_add(1);
+        }
+    }
+    count
+}
+
+// Whether each of the nodes was asked once.
+fn are_asked(out: &Outbox, numbers: [u8; 3]) -> bool {
+    for number in numbers {
+        if asks_of(out, number) != 1 {
+            return false;
+        }
+    }
+    true
 }
 
 // All that is wanted is sent again.
@@ -222,7 +307,7 @@ fn the_next_sequencer_closes_the_epoch(rt: HostRuntime) -> Result<(), Fail> {
     let report = stores(alloc, &mut second, 1, &mut reg, &mut out)?;
     assert!(rt; report.closed == Some(Lsn::new(1, 1)));
     assert!(rt; report.released == Some(Lsn::new(2, 0)));
-    // all three nodes hear that it is closed, and what is released
+    // all three nodes of each epoch hear that it is closed, and what is released
     assert!(rt; out.len() == sent + 6);
     Ok(())
 }
@@ -242,6 +327,67 @@ fn a_failed_close_is_tried_again_by_a_retry(rt: HostRuntime) -> Result<(), Fail>
 }
 
 #[test]
+fn an_epochs_nodes_recover_it(rt: HostRuntime) -> Result<(), Fail> {
+    let alloc = rt.alloc();
+    let mut out = Outbox::empty(alloc);
+    let mut reg = new_register(alloc)?;
+    let _ = next(alloc, &mut reg, &mut out)?;
+    let mut second = next_on(alloc, [4, 5, 6], &mut reg, &mut out)?;
+    // the nodes of epoch 1 are asked, and not those of epoch 2
+    assert!(rt; out.len() == 3);
+    assert!(rt; are_asked(&out, [1, 2, 3]));
+    recovers(alloc, &mut second, &mut reg, &mut out)?;
+    let sent = out.len();
+    // a node of epoch 2 alone counts for nothing
+    let stranger = stores(alloc, &mut second, 4, &mut reg, &mut out)?;
+    assert!(rt; stranger == Report::nothing());
+    assert!(rt; out.len() == sent);
+    let report = stores(alloc, &mut second, 1, &mut reg, &mut out)?;
+    assert!(rt; report.closed == Some(Lsn::new(1, 1)));
+    assert!(rt; out.len() == sent + 6);
+    Ok(())
+}
+
+#[test]
+fn the_next_epoch_is_recovered_on_its_own_nodes(rt: HostRuntime) -> Result<(), Fail> {
+    let alloc = rt.alloc();
+    let mut out = Outbox::empty(alloc);
+    let mut reg = new_register(alloc)?;
+    let _ = next(alloc, &mut reg, &mut out)?;
+    let _ = next_on(alloc, [2, 4, 6], &mut reg, &mut out)?;
+    let mut third = next_on(alloc, [1, 3, 5], &mut reg, &mut out)?;
+    out.truncate(0);
+    let word = closed_word()?;
+    let _ = comes(alloc, &mut third, &word, &mut reg, &mut out)?;
+    // the nodes of epoch 1 hear that it is closed, those of epoch 3 what is released, and those of epoch 2 are asked
+    assert!(rt; out.len() == 9);
+    assert!(rt; are_asked(&out, [2, 4, 6]));
+    Ok(())
+}
+
+#[test]
+fn a_failed_look_has_done_nothing(rt: HostRuntime) -> Result<(), Fail> {
+    let alloc = rt.alloc();
+    let mut out = Outbox::empty(alloc);
+    let mut reg = new_register(alloc)?;
+    let _ = next(alloc, &mut reg, &mut out)?;
+    let _ = next(alloc, &mut reg, &mut out)?;
+    let mut third = next(alloc, &mut reg, &mut out)?;
+    let mut anew = unread(alloc, reg);
+    let released = third.released();
+    let sent = out.len();
+    let word = closed_word()?;
+    let failed = comes(alloc, &mut third, &word, &mut anew, &mut out);
+    assert!(rt; failed == Err(SequencerFault::Register(RegisterFault::Failed)));
+    assert!(rt; out.len() == sent);
+    assert!(rt; third.released() == released);
+    let report = comes(alloc, &mut third, &word, &mut anew, &mut out)?;
+    assert!(rt; report.released == Some(Lsn::epoch_end(1)));
+    assert!(rt; out.len() == sent + 9);
+    Ok(())
+}
+
+#[test]
 fn a_trim_goes_up_to_what_is_released(rt: HostRuntime) -> Result<(), Fail> {
     let alloc = rt.alloc();
     let mut out = Outbox::empty(alloc);
@@ -249,6 +395,7 @@ fn a_trim_goes_up_to_what_is_released(rt: HostRuntime) -> Result<(), Fail> {
     let past = trims(&first, 1, &mut out);
     assert!(rt; past == Err(SequencerFault::PastReleased(Lsn::new(1, 0))));
     trims(&first, 0, &mut out)?;
-    assert!(rt; out.len() == 3);
+    // all nodes hear it
+    assert!(rt; out.len() == 6);
     Ok(())
 }

@@ -1,5 +1,5 @@
 -- A digest stays in its bounds page by page, and so is the plan that follows from it.
-use Rattle.std.proofs.Common.{◌≡◌, ◌≤◌, ◌<◌, ℕ, Bool, zero, suc, ◌+◌, ◌-◌, min, max, refl, subst, true, ◌&&◌, ◌==◌, not, nat_lt, cond, List, [], ◌∷◌, ◌++◌, Option, Some, None, arith}
+use Rattle.std.proofs.Common.{◌≡◌, ◌≤◌, ◌<◌, ℕ, Bool, zero, suc, ◌+◌, ◌-◌, ◌^◌, min, max, refl, subst, true, ◌&&◌, ◌==◌, not, nat_lt, cond, List, [], ◌∷◌, ◌++◌, Option, Some, None, arith}
 use Rattle.std.specs.List.{AllByRecursion}
 use Rattle.std.proofs.lemmas.Bool.{cond_both, and_parts, eqb-true, leb-false, not-true}
 use Rattle.ld_table.specs.Words.{numbers_from}
@@ -10,8 +10,8 @@ use Rattle.ld_lsn.specs.Number.{epoch_of, esn_of, numbered, last_esn}
 use Rattle.ld_msg.specs.declared.msg.What.{What}
 use Rattle.ld_msg.specs.declared.msg.What.TheVariants.{Rec, Hole, Bridge}
 use Rattle.ld_msg.specs.declared.msg.Entry.{Entry}
-use Rattle.ld_msg.specs.Bounds.{Is64, IsEntry, AreEntries, IsShort, IsPage, last_place}
-use Rattle.ld_msg.specs.Digest.{Told, better, is_bridge, says, statement, told_nothing, no_digest, told_page, takes_page, with_page, told_lost, with_lost, best, is_content, record_or_hole, content, digest_trim, trim_place, top_in, top_place, plan_end, Item, record_items, places_between, plan_to, plan}
+use Rattle.ld_msg.specs.Bounds.{IsLng, Is64, IsEntry, AreEntries, IsShort, IsPage, last_place}
+use Rattle.ld_msg.specs.Digest.{Told, better, is_bridge, says, statement, told_nothing, no_digest, told_page, takes_page, with_page, told_lost, with_lost, asked_anew, with_asks, digest_lng, best, is_content, record_or_hole, content, digest_trim, trim_place, plan_floor, top_in, top_place, plan_end, Item, record_items, places_between, plan_to, plan}
 use Rattle.ld_table.specs.Words.{with_one}
 use Rattle.ld_msg.specs.Sequencer.{Planned, Storing, planned, storing_of, settle, settled_by}
 use Rattle.ld_sequencer_bounds.specs.Sequencers.{IsTold, IsPlanned, IsStoring}
@@ -27,37 +27,69 @@ no_digest_is s e a = all-map IsNode (IsTold e) (told_nothing e) (nodes_of s) (λ
   asked = λ w. (epoch_numbered e 1 (omega arith), (let z = esn_numbered e 1 (omega arith) in omega arith));
   entries = tt;
   trim = omega arith;
+  lng = omega arith;
 }) a
 
 entries-append : (xs ys : List Entry) → AreEntries xs → AreEntries ys → AreEntries (xs ++ ys)
 entries-append [] ys a b = b
 entries-append (x ∷ xs) ys a b = (a.0, entries-append xs ys a.1 b)
 
-module _ (e y from upto trim : ℕ) (es : List Entry) (page : IsPage from upto es) (trim_is : Is64 trim) where
-  next_number : epoch_of from ≡ e → 1 ≤ esn_of from → upto < numbered e last_esn → (epoch_of (upto + 1) ≡ e) × (1 ≤ esn_of (upto + 1))
+digest_lng_is : (e : ℕ) (d : List Told) → AllByRecursion (IsTold e) d → IsLng (digest_lng d)
+unfolding digest_lng
+digest_lng_is e [] a = omega arith
+digest_lng_is e (t ∷ d) a = let l = a.0.lng in let m = digest_lng_is e d a.1 in omega arith
+
+-- a number of the epoch that a node may be asked from
+abbrev IsAsked : ℕ → ℕ → Type 0
+IsAsked e n = (epoch_of n ≡ e) × (1 ≤ esn_of n)
+
+greater_asked : (e a b : ℕ) → IsAsked e a → IsAsked e b → IsAsked e (max a b)
+greater_asked e a b h k = let h0 = h.0 in let h1 = h.1 in let k0 = k.0 in let k1 = k.1 in (omega arith, omega arith)
+
+past_good : (e good : ℕ) → IsLng good → IsAsked e (numbered e (good + 1))
+past_good e good l = let a : good + 1 < 2 ^ 32 = omega arith in (epoch_numbered e (good + 1) a, (let z = esn_numbered e (good + 1) a in omega arith))
+
+module _ (e y from upto trim lng : ℕ) (es : List Entry) (page : IsPage from upto es) (trim_is : Is64 trim) (lng_is : IsLng lng) where
+  next_number : epoch_of from ≡ e → 1 ≤ esn_of from → upto < numbered e last_esn → IsAsked e (upto + 1)
   next_number h k l = let r = page.range in (omega arith, omega arith)
 
-  paged : (t : Told) → takes_page y from t ≡ true → IsTold e t → IsTold e (told_page e upto trim es t)
-  paged t h i =
+  paged : (good : ℕ) → IsLng good → (t : Told) → takes_page y from t ≡ true → IsTold e t → IsTold e (told_page e good upto trim lng es t)
+  paged good good_is t h i =
       let p = and_parts (t.node == y) ((t.asked == from) && not t.whole) h in
       let q = and_parts (t.asked == from) (not t.whole) p.1 in
       let a = i.asked (not-true t.whole q.1) in
       let z : t.asked ≡ from = eqb-true t.asked from q.0 in
       record {
         node = i.node;
-        asked = λ w. next_number (subst (λ n. epoch_of n ≡ e) z a.0) (subst (λ n. 1 ≤ esn_of n) z a.1) (leb-false (numbered e last_esn) upto w);
+        asked = λ w. greater_asked e (upto + 1) (numbered e (good + 1)) (next_number (subst (λ n. epoch_of n ≡ e) z a.0) (subst (λ n. 1 ≤ esn_of n) z a.1) (leb-false (numbered e last_esn) upto w)) (past_good e good good_is);
         entries = entries-append t.entries es i.entries page.entries;
         trim = (let b = i.trim in omega (arith, trim_is));
+        lng = (let b = i.lng in omega (arith, lng_is));
       }
 
-  pub with_page_is : (d : List Told) → AllByRecursion (IsTold e) d → AllByRecursion (IsTold e) (with_page e y from upto trim es d)
+  pub with_page_is : (d : List Told) → AllByRecursion (IsTold e) d → AllByRecursion (IsTold e) (with_page e y from upto trim lng es d)
   unfolding with_page
-  with_page_is d a = all-map (IsTold e) (IsTold e) (λ t. cond (takes_page y from t) (told_page e upto trim es t) t) d
-      (λ t i. cond_both (takes_page y from t) (told_page e upto trim es t) t (IsTold e) (λ h. paged t h i) (λ h. i)) a
+  with_page_is d a =
+      let good_is : IsLng (max (digest_lng d) lng) = (let g = digest_lng_is e d a in omega (arith, lng_is)) in
+      all-map (IsTold e) (IsTold e) (λ t. cond (takes_page y from t) (told_page e (max (digest_lng d) lng) upto trim lng es t) t) d
+      (λ t i. cond_both (takes_page y from t) (told_page e (max (digest_lng d) lng) upto trim lng es t) t (IsTold e) (λ h. paged (max (digest_lng d) lng) good_is t h i) (λ h. i)) a
+
+anew_is : (e good : ℕ) → IsLng good → (t : Told) → IsTold e t → IsTold e (asked_anew e good t)
+anew_is e good l t i = record {
+  node = i.node;
+  asked = λ w. cond_both (t.asked == numbered e 1) t.asked (max t.asked (numbered e (good + 1))) (IsAsked e) (λ h. i.asked w) (λ h. greater_asked e t.asked (numbered e (good + 1)) (i.asked w) (past_good e good l));
+  entries = i.entries;
+  trim = i.trim;
+  lng = i.lng;
+}
+
+pub with_asks_is : (e : ℕ) (d : List Told) → AllByRecursion (IsTold e) d → AllByRecursion (IsTold e) (with_asks e d)
+unfolding with_asks
+with_asks_is e d a = all-map (IsTold e) (IsTold e) (asked_anew e (digest_lng d)) d (λ t i. anew_is e (digest_lng d) (digest_lng_is e d a) t i) a
 
 pub with_lost_is : (e y : ℕ) (d : List Told) → AllByRecursion (IsTold e) d → AllByRecursion (IsTold e) (with_lost y d)
 unfolding with_lost
-with_lost_is e y d a = all-map (IsTold e) (IsTold e) (told_lost y) d (λ t i. record { node = i.node; asked = i.asked; entries = i.entries; trim = i.trim }) a
+with_lost_is e y d a = all-map (IsTold e) (IsTold e) (told_lost y) d (λ t i. record { node = i.node; asked = i.asked; entries = i.entries; trim = i.trim; lng = i.lng }) a
 
 -- ---- what a digest says of a number ----
 
@@ -127,9 +159,13 @@ module _ (e : ℕ) where
   digest_trim_is [] a = omega arith
   digest_trim_is (t ∷ d) a = let p = a.0.trim in let q = digest_trim_is d a.1 in omega arith
 
+  floor_most : (d : List Told) → AllByRecursion (IsTold e) d → plan_floor e d ≤ last_esn - 1
+  unfolding plan_floor
+  floor_most d a = let q = trim_place_most e (digest_trim d) in let l = digest_lng_is e d a in omega arith
+
   end_is : (d : List Told) → AllByRecursion (IsTold e) d → (1 ≤ plan_end e d) × (plan_end e d ≤ last_esn)
   unfolding plan_end
-  end_is d a = let p = top_place_most d d a in let q = trim_place_most e (digest_trim d) in (omega arith, omega arith)
+  end_is d a = let p = top_place_most d d a in let q = floor_most d a in (omega arith, omega arith)
 
   -- ---- the plan ----
 
@@ -160,15 +196,16 @@ module _ (e : ℕ) where
   unfolding plan
   plan_is d a =
       let b = end_is d a in let lo = b.0 in let hi = b.1 in
-      let t = trim_place_most e (digest_trim d) in
+      let t = floor_most d a in
       let z = esn_numbered e (plan_end e d) (omega arith) in
       record {
         trim = digest_trim_is d a;
+        lng = digest_lng_is e d a;
         end = lo;
         end_most = hi;
         items = planned_are (plan_to e d (plan_end e d)).items
-            (all-append IsItem (record_items e d (places_between (trim_place e (digest_trim d)) (plan_end e d))) (record { number = numbered e (plan_end e d); what = Bridge } ∷ [])
-            (items_are d (places_between (trim_place e (digest_trim d)) (plan_end e d)) a (places_are (trim_place e (digest_trim d) + 1) (plan_end e d - 1 - trim_place e (digest_trim d)) (omega arith) (omega arith)))
+            (all-append IsItem (record_items e d (places_between (plan_floor e d) (plan_end e d))) (record { number = numbered e (plan_end e d); what = Bridge } ∷ [])
+            (items_are d (places_between (plan_floor e d) (plan_end e d)) a (places_are (plan_floor e d + 1) (plan_end e d - 1 - plan_floor e d) (omega arith) (omega arith)))
             (record { epoch_is = epoch_numbered e (plan_end e d) (omega arith); from_one = omega arith; place = omega arith; short = tt }, tt));
       }
 
@@ -183,4 +220,4 @@ module _ (e : ℕ) where
   )
 
   pub settled_is : (p : ℕ → Bool) (y : ℕ) (g : Storing) → IsStoring e g → IsStoring e (settled_by p y g)
-  settled_is p y g G = record { trim = G.trim; end = G.end; end_most = G.end_most; items = settle_are p y g.items G.items }
+  settled_is p y g G = record { trim = G.trim; lng = G.lng; end = G.end; end_most = G.end_most; items = settle_are p y g.items G.items }

@@ -12,9 +12,9 @@ use Rattle.ld_msg.specs.declared.msg.What.TheVariants.{Rec}
 use Rattle.ld_msg.specs.declared.msg.Summary.{Summary}
 use Rattle.ld_msg.specs.declared.msg.Body.TheVariants as bodies
 use Rattle.ld_msg.specs.Choice.{choice}
-use Rattle.ld_msg.specs.Bounds.{Is64, IsEpoch, IsSummary, Fits}
+use Rattle.ld_msg.specs.Bounds.{IsLng, Is64, IsEpoch, IsSummary, Fits}
 use Rattle.ld_msg.specs.Digest.{Told}
-use Rattle.ld_msg.specs.Sequencer.{Sequencer, Append, Planned, released_of, own_spec, to_each, digest_asks, item_stores, next_ask, is_acked, append_stores, rose, release_messages}
+use Rattle.ld_msg.specs.Sequencer.{Sequencer, Append, Planned, released_of, to_each, digest_asks, item_stores, next_ask, is_acked, append_stores, rose, release_messages}
 use Rattle.ld_sequencer_bounds.specs.Sequencers.{IsAppend, IsTold, IsPlanned, Posts}
 use Rattle.ld_node_bounds.proofs.Alls.{all-append}
 use Rattle.ld_node_bounds.proofs.Posts.{IsPost, each_post, without_nodes}
@@ -38,43 +38,43 @@ module _ (own : ℕ) (E : IsEpoch own) where
         (λ h. next_ask_is y d a.1)
 
     -- ---- items of a plan ----
-    item_is : (i : ℕ × Planned) (y : ℕ) → IsPlanned e i → IsNode y → Fits (whos.Sequencer own) (whos.Node y) (bodies.Store i.0 0 i.1.what)
-    item_is i y p h = let z = p.epoch_is in
-        ((E, h), omega arith, record { epoch = (omega arith, (let m = E.1 in omega arith)); from_one = p.from_one; place = p.place; ballot = omega arith; ballot_most = E.1; short = p.short }, (λ q. absurd (omega arith)))
+    item_is : (lng : ℕ) → IsLng lng → (i : ℕ × Planned) (y : ℕ) → IsPlanned e i → IsNode y → Fits (whos.Sequencer own) (whos.Node y) (bodies.Store i.0 lng i.1.what)
+    item_is lng l i y p h = let z = p.epoch_is in
+        ((E, h), l, record { epoch = (omega arith, (let m = E.1 in omega arith)); from_one = p.from_one; place = p.place; ballot = omega arith; ballot_most = E.1; short = p.short }, (λ q. absurd (omega arith)))
 
-    pub items_sent : (s : Spec) (lost : List ℕ) (wave : ℕ) (is : List (ℕ × Planned)) → AllByRecursion IsNode (nodes_of s) → AllByRecursion (IsPlanned e) is → Posts own (item_stores s lost wave is)
-    items_sent s lost wave [] n a = tt
-    items_sent s lost wave (i ∷ is) n a = all-append (IsPost (whos.Sequencer own)) (cond (nat_lt (length i.1.settled) s.r) (to_each (bodies.Store i.0 0 i.1.what) (choice s lost i.0 wave)) []) (item_stores s lost wave is)
-        (cond_both (nat_lt (length i.1.settled) s.r) (to_each (bodies.Store i.0 0 i.1.what) (choice s lost i.0 wave)) [] (AllByRecursion (IsPost (whos.Sequencer own)))
-        (λ t. each_post (whos.Sequencer own) (bodies.Store i.0 0 i.1.what) (choice s lost i.0 wave) (λ y h. item_is i y a.0 h) (choice_nodes s lost i.0 wave n)) (λ t. tt))
-        (items_sent s lost wave is n a.1)
+    pub items_sent : (s : Spec) (lost : List ℕ) (lng wave : ℕ) (is : List (ℕ × Planned)) → IsLng lng → AllByRecursion IsNode (nodes_of s) → AllByRecursion (IsPlanned e) is → Posts own (item_stores s lost lng wave is)
+    items_sent s lost lng wave [] l n a = tt
+    items_sent s lost lng wave (i ∷ is) l n a = all-append (IsPost (whos.Sequencer own)) (cond (nat_lt (length i.1.settled) s.r) (to_each (bodies.Store i.0 lng i.1.what) (choice s lost i.0 wave)) []) (item_stores s lost lng wave is)
+        (cond_both (nat_lt (length i.1.settled) s.r) (to_each (bodies.Store i.0 lng i.1.what) (choice s lost i.0 wave)) [] (AllByRecursion (IsPost (whos.Sequencer own)))
+        (λ t. each_post (whos.Sequencer own) (bodies.Store i.0 lng i.1.what) (choice s lost i.0 wave) (λ y h. item_is lng l i y a.0 h) (choice_nodes s lost i.0 wave n)) (λ t. tt))
+        (items_sent s lost lng wave is l n a.1)
 
     -- ---- closes ----
     pub cleans_sent : (y : Summary) (ns : List ℕ) → IsSummary e y → AllByRecursion IsNode ns → Posts own (to_each (bodies.Clean e y) ns)
     cleans_sent y ns s a = each_post (whos.Sequencer own) (bodies.Clean e y) ns (λ n h. ((E, h), (one, (let m = E.1 in omega arith)), s)) a
 
   -- ---- appends ----
-  append_is : (p : ℕ × Append) (y : ℕ) → IsAppend own p → IsNode y → Fits (whos.Sequencer own) (whos.Node y) (bodies.Store p.0 0 (Rec p.1.payload))
-  append_is p y a h = let z = a.epoch_is in
-      ((E, h), omega arith, record { epoch = subst IsEpoch (sym z) E; from_one = a.from_one; place = a.place; ballot = omega arith; ballot_most = E.1; short = a.short }, (λ q. tt))
+  append_is : (lng : ℕ) → IsLng lng → (p : ℕ × Append) (y : ℕ) → IsAppend own p → IsNode y → Fits (whos.Sequencer own) (whos.Node y) (bodies.Store p.0 lng (Rec p.1.payload))
+  append_is lng l p y a h = let z = a.epoch_is in
+      ((E, h), l, record { epoch = subst IsEpoch (sym z) E; from_one = a.from_one; place = a.place; ballot = omega arith; ballot_most = E.1; short = a.short }, (λ q. tt))
 
-  pub append_sent : (p : ℕ × Append) (ns : List ℕ) → IsAppend own p → AllByRecursion IsNode ns → Posts own (to_each (bodies.Store p.0 0 (Rec p.1.payload)) ns)
-  append_sent p ns a n = each_post (whos.Sequencer own) (bodies.Store p.0 0 (Rec p.1.payload)) ns (λ y h. append_is p y a h) n
+  pub append_sent : (lng : ℕ) → IsLng lng → (p : ℕ × Append) (ns : List ℕ) → IsAppend own p → AllByRecursion IsNode ns → Posts own (to_each (bodies.Store p.0 lng (Rec p.1.payload)) ns)
+  append_sent lng l p ns a n = each_post (whos.Sequencer own) (bodies.Store p.0 lng (Rec p.1.payload)) ns (λ y h. append_is lng l p y a h) n
 
-  pub appends_sent : (s : Spec) (lost : List ℕ) (ps : List (ℕ × Append)) → AllByRecursion IsNode (nodes_of s) → AllByRecursion (IsAppend own) ps → Posts own (append_stores s lost ps)
-  appends_sent s lost [] n a = tt
-  appends_sent s lost (p ∷ ps) n a = all-append (IsPost (whos.Sequencer own)) (cond (is_acked s p.1) [] (to_each (bodies.Store p.0 0 (Rec p.1.payload)) (without p.1.stored (choice s lost p.0 p.1.wave)))) (append_stores s lost ps)
-      (cond_both (is_acked s p.1) [] (to_each (bodies.Store p.0 0 (Rec p.1.payload)) (without p.1.stored (choice s lost p.0 p.1.wave))) (AllByRecursion (IsPost (whos.Sequencer own))) (λ t. tt)
-      (λ t. append_sent p (without p.1.stored (choice s lost p.0 p.1.wave)) a.0 (without_nodes p.1.stored (choice s lost p.0 p.1.wave) (choice_nodes s lost p.0 p.1.wave n))))
-      (appends_sent s lost ps n a.1)
+  pub appends_sent : (s : Spec) (lost : List ℕ) (lng : ℕ) (ps : List (ℕ × Append)) → IsLng lng → AllByRecursion IsNode (nodes_of s) → AllByRecursion (IsAppend own) ps → Posts own (append_stores s lost lng ps)
+  appends_sent s lost lng [] l n a = tt
+  appends_sent s lost lng (p ∷ ps) l n a = all-append (IsPost (whos.Sequencer own)) (cond (is_acked s p.1) [] (to_each (bodies.Store p.0 lng (Rec p.1.payload)) (without p.1.stored (choice s lost p.0 p.1.wave)))) (append_stores s lost lng ps)
+      (cond_both (is_acked s p.1) [] (to_each (bodies.Store p.0 lng (Rec p.1.payload)) (without p.1.stored (choice s lost p.0 p.1.wave))) (AllByRecursion (IsPost (whos.Sequencer own))) (λ t. tt)
+      (λ t. append_sent lng l p (without p.1.stored (choice s lost p.0 p.1.wave)) a.0 (without_nodes p.1.stored (choice s lost p.0 p.1.wave) (choice_nodes s lost p.0 p.1.wave n))))
+      (appends_sent s lost lng ps l n a.1)
 
   -- ---- what is released, and trims ----
   pub trims_sent : (t : ℕ) (ns : List ℕ) → Is64 t → AllByRecursion IsNode ns → Posts own (to_each (bodies.Trim t) ns)
   trims_sent t ns b a = each_post (whos.Sequencer own) (bodies.Trim t) ns (λ y h. ((E, h), b)) a
 
-  pub releases_sent : (p : Spec) (old new : Sequencer) → Is64 (released_of new) → AllByRecursion IsNode (nodes_of p) → Posts own (release_messages p old new)
-  releases_sent p old new b a = cond_both (rose old new) (to_each (bodies.Release (released_of new)) (nodes_of (own_spec p new))) [] (AllByRecursion (IsPost (whos.Sequencer own)))
-      (λ t. each_post (whos.Sequencer own) (bodies.Release (released_of new)) (nodes_of p) (λ y h. ((E, h), b)) a) (λ t. tt)
+  pub releases_sent : (old new : Sequencer) → Is64 (released_of new) → AllByRecursion IsNode (nodes_of new.spec) → Posts own (release_messages old new)
+  releases_sent old new b a = cond_both (rose old new) (to_each (bodies.Release (released_of new)) (nodes_of new.spec)) [] (AllByRecursion (IsPost (whos.Sequencer own)))
+      (λ t. each_post (whos.Sequencer own) (bodies.Release (released_of new)) (nodes_of new.spec) (λ y h. ((E, h), b)) a) (λ t. tt)
 
 pub released_bound : (q : Sequencer) → IsEpoch q.epoch → q.lng ≤ 2 ^ 32 - 2 → Is64 (released_of q)
 released_bound q E h = let m = E.1 in cond_both (nat_lt (q.lce + 1) q.epoch) (epoch_end q.lce) (numbered q.epoch q.lng) Is64 (λ t. let z = ltb-true (q.lce + 1) q.epoch t in omega arith) (λ t. omega arith)

@@ -7,7 +7,7 @@ use Rattle.ld_ids.specs.declared.set.Spec.{Spec}
 use Rattle.ld_ids.specs.Choice.{nodes_of}
 use Rattle.ld_msg.specs.declared.msg.Who.TheVariants as whos
 use Rattle.ld_msg.specs.declared.msg.Body.{Body}
-use Rattle.ld_msg.specs.Bounds.{Is64, IsSummary, IsShort, AreEntries, Fits, last_place}
+use Rattle.ld_msg.specs.Bounds.{IsLng, Is64, IsSummary, IsShort, AreEntries, Fits, last_place}
 use Rattle.ld_msg.specs.Digest.{Told}
 use Rattle.ld_msg.specs.Sequencer.{Append, Planned, Storing, Stage, Seals, Stores, Closes, payload_limit}
 
@@ -24,6 +24,7 @@ pub record IsTold (epoch : ℕ) (t : Told) : Type 0 where
   pub asked : t.whole ≡ false → (epoch_of t.asked ≡ epoch) × (1 ≤ esn_of t.asked)
   pub entries : AreEntries t.entries
   pub trim : Is64 t.trim
+  pub lng : IsLng t.lng
 
 -- an item of a plan under a number of the epoch
 pub record IsPlanned (epoch : ℕ) (i : ℕ × Planned) : Type 0 where
@@ -34,6 +35,7 @@ pub record IsPlanned (epoch : ℕ) (i : ℕ × Planned) : Type 0 where
 
 pub record IsStoring (epoch : ℕ) (g : Storing) : Type 0 where
   pub trim : Is64 g.trim
+  pub lng : IsLng g.lng
   pub end : 1 ≤ g.end
   pub end_most : g.end ≤ last_esn
   pub items : AllByRecursion (IsPlanned epoch) g.items

@@ -13,6 +13,7 @@ use Rattle.ld_op.specs.Plain.{Plain}
 use Rattle.ld_store.specs.Ops.{are_none}
 use Rattle.ld_store.proofs.Readings.{one_list, not_damaged}
 use Rattle.ld_link.specs.Peers.{Peers}
+use Rattle.ld_node.specs.Known.{Known}
 use Rattle.ld_serve.specs.declared.stop.Stop.{Stop}
 use Rattle.ld_serve.specs.declared.stop.Stop.TheVariants.{NoMemory, Disk, Register, Link, BadFrame, Damaged, Blank, Full, GenLimit}
 use Rattle.ld_serve.specs.declared.stop.Which.TheVariants as journals
@@ -108,9 +109,9 @@ unread_is held Blank never u = u
 unread_is held (Full which) never u = tt
 unread_is held GenLimit never u = tt
 
-module _ (id : ℕ) (sets : List (ℕ × List Bool)) (Told : Type 0) (left : List ℕ → Type 0) (stop : Stop) where
+module _ (id : ℕ) (known : Known) (Told : Type 0) (left : List ℕ → Type 0) (stop : Stop) where
   serving_is : (start : Peers) (s : State) (now : Option Peers) (state : State) → AreSpoken start.coming
-      → IsStopped (after id sets) (answers id sets) (IsCut id sets Told left stop) start s now state → IsFaultOrLimit stop
+      → IsStopped (after id known) (answers id known) (IsCut id known Told left stop) start s now state → IsFaultOrLimit stop
   serving_is start s now state spoken (inl between) = link_is stop between.cause.0
   serving_is start s now state spoken (inr turn) =
       let present = spoken_at _ _ _ (subst AreSpoken turn.coming spoken) in
@@ -146,12 +147,12 @@ module _ (disk_before disk_now register_before register_now : ℕ) (Told : Type 
 
 -- ---- both ----
 
-module _ (disk_before disk_now : ℕ) (seen seen_now : Option (List ℕ)) (before left : List ℕ → Type 0) (register_before register_now : ℕ) (Told : Type 0) (holds : Contents → Type 0) (damaged : ℕ → Type 0) (id : ℕ) (sets : List (ℕ × List Bool)) (format : Bool) where
+module _ (disk_before disk_now : ℕ) (seen seen_now : Option (List ℕ)) (before left : List ℕ → Type 0) (register_before register_now : ℕ) (Told : Type 0) (holds : Contents → Type 0) (damaged : ℕ → Type 0) (id : ℕ) (known : Known) (format : Bool) where
   pub completes : {L : Type 0} (link_before link_now : L) (now : Option Peers) (start : Peers) (bytes : List ℕ) (r : Result Unit Stop) → AreSpoken start.coming → seen ≡ Some bytes → MayOpen Told damaged format bytes
-      → IfErr r (λ stop. IsNotOpened disk_before disk_now seen seen_now before left register_before register_now Told holds damaged id format link_before link_now stop ⊎ HasStopped seen left holds id sets format start now stop)
+      → IfErr r (λ stop. IsNotOpened disk_before disk_now seen seen_now before left register_before register_now Told holds damaged id format link_before link_now stop ⊎ HasStopped seen left holds id known format start now stop)
       → IfErr r IsFaultOrLimit
   completes link_before link_now now start bytes (Ok x) spoken is may stopped = tt
   completes link_before link_now now start bytes (Err stop) spoken is may (inl refused) =
       opening_is disk_before disk_now register_before register_now Told holds damaged id format bytes stop may
       (subst (λ o. IsOpeningStop disk_before disk_now o register_before register_now Told holds damaged id format stop) is refused.cause)
-  completes link_before link_now now start bytes (Err stop) spoken is may (inr served) = serving_is id sets _ left stop start _ now served.last spoken served.course
+  completes link_before link_now now start bytes (Err stop) spoken is may (inr served) = serving_is id known _ left stop start _ now served.last spoken served.course

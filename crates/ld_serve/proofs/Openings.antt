@@ -42,7 +42,7 @@ module _ (disk_before disk_now : ℕ) (seen : Option (List ℕ)) (register_befor
   format_caused (nodes.Register refusals.Failed) f disk register place store full limit = (f, register refl)
   format_caused (nodes.Register (refusals.Damaged at)) f disk register place store full limit = (f, place at refl)
   format_caused (nodes.Register refusals.LogLimit) f disk register place store full limit = tt
-  format_caused (nodes.Register (refusals.Behind lce)) f disk register place store full limit = tt
+  format_caused (nodes.Register (refusals.Behind lce next)) f disk register place store full limit = tt
   format_caused (nodes.Register refusals.EpochLimit) f disk register place store full limit = tt
   format_caused (nodes.Register refusals.GenLimit) f disk register place store full limit = (f, limit refl)
   format_caused (nodes.Register refusals.Full) f disk register place store full limit = (f, full refl)

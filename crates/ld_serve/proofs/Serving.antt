@@ -1,10 +1,11 @@
 -- A node that serves, and its disk.
-use Rattle.std.proofs.Common.{◌≡◌, ◌≤◌, ℕ, List, Option, Bool, ap, ◌∙◌, subst}
+use Rattle.std.proofs.Common.{◌≡◌, ◌≤◌, ℕ, List, Option, ap, ◌∙◌, subst}
 use Rattle.ld_disk.specs.Moments.{LeavesOnly}
 use Rattle.ld_disk.specs.declared.disk.Disk.{Ghosts}
 use Rattle.ld_op.specs.declared.op.Op.{Op}
 use Rattle.ld_op.specs.Plain.{Plain}
 use Rattle.ld_store.specs.Ops.{StandsFor, IsJournalOf}
+use Rattle.ld_node.specs.Known.{Known}
 use Rattle.ld_node.specs.declared.node.Node.{Node}
 use Rattle.ld_node.specs.Changes.{IsPast}
 use Rattle.ld_node.specs.Node.{plain_of, disk_of, place_of, Holds}
@@ -41,9 +42,9 @@ module _ {D : Type 0} (may_leave : D → List ℕ → Type 0) (moment : D → �
   left_now counts_now old new P leaves c left = leaves.each c (counts_now new (moment old) c leaves.later left)
 
 -- where a disk may have told more before, less is known of where it stopped
-pub told_before : (id : ℕ) (sets : List (ℕ × List Bool)) (Before Told : Type 0) (left : List ℕ → Type 0) (stop : Stop) → (Before → Told)
-    → (x : Cut State) → IsCut id sets Told left stop x → IsCut id sets Before left stop x
-told_before id sets Before Told left stop f (Idle s) cut = (cut.0, λ b. cut.1 (f b))
-told_before id sets Before Told left stop f (Unread held s) cut = (cut.0, λ b. cut.1 (f b))
-told_before id sets Before Told left stop f (Refused s m) cut = (cut.0, λ b. cut.1 (f b), λ b. cut.2 (f b))
-told_before id sets Before Told left stop f (Unsent s) cut = (cut.0, λ b. cut.1 (f b))
+pub told_before : (id : ℕ) (known : Known) (Before Told : Type 0) (left : List ℕ → Type 0) (stop : Stop) → (Before → Told)
+    → (x : Cut State) → IsCut id known Told left stop x → IsCut id known Before left stop x
+told_before id known Before Told left stop f (Idle s) cut = (cut.0, λ b. cut.1 (f b))
+told_before id known Before Told left stop f (Unread held s) cut = (cut.0, λ b. cut.1 (f b))
+told_before id known Before Told left stop f (Refused s m) cut = (cut.0, λ b. cut.1 (f b), λ b. cut.2 (f b))
+told_before id known Before Told left stop f (Unsent s) cut = (cut.0, λ b. cut.1 (f b))

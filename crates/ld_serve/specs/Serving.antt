@@ -1,5 +1,5 @@
 -- A node that serves: what a message makes of it, and what its disk stands for.
-use Rattle.std.specs.Prelude.{◌≡◌, ℕ, List, length, Bool, Option}
+use Rattle.std.specs.Prelude.{◌≡◌, ℕ, List, length, Option}
 use Rattle.ld_msg.specs.declared.msg.Msg.{Msg}
 use Rattle.ld_journal.specs.Format.{records}
 use Rattle.ld_op.specs.declared.op.Op.{Op}
@@ -7,6 +7,7 @@ use Rattle.ld_op.specs.Plain.{Plain}
 use Rattle.ld_op.specs.Answers.{Handled}
 use Rattle.ld_op.specs.Handles.{answer_message}
 use Rattle.ld_store.specs.Ops.{StandsFor, StandsForEither, IsJournalOf, bodies_of, state_after}
+use Rattle.ld_node.specs.Known.{Known}
 use Rattle.ld_node.specs.Changes.{kept, IsPast}
 use Rattle.ld_node.specs.Msgs.{handled, released_after}
 use Rattle.ld_disk.specs.declared.disk.Disk.{Ghosts}
@@ -38,14 +39,14 @@ pub record PastLimit (left : List ℕ → Type 0) (p : Plain) (op : Option Op) :
   pub journal : (bytes : List ℕ) → left bytes → IsJournalOf ops bytes
   pub past : IsPast (length (records (bodies_of ops))) op
 
--- the node of this number, which keeps the logs with these sets
-module _ (id : ℕ) (sets : List (ℕ × List Bool)) where
+-- the node of this number, which knows this of the configuration
+module _ (id : ℕ) (known : Known) where
   -- what it makes of a message
   abbrev pub done : State → Msg → Handled
-  done s m = handled id sets s.released s.plain m
+  done s m = handled id known s.released s.plain m
 
   abbrev pub after : State → Msg → State
-  after s m = record { plain = kept (done s m).op s.plain; released = released_after id sets s.released m }
+  after s m = record { plain = kept (done s m).op s.plain; released = released_after id known s.released m }
 
   abbrev pub answers : State → Msg → List Msg
   answers s m = answer_message id m (done s m).answer

@@ -4,6 +4,7 @@ use Rattle.ld_msg.specs.Register.{Register as Contents}
 use Rattle.ld_op.specs.Plain.{Plain}
 use Rattle.ld_store.specs.Ops.{StandsFor}
 use Rattle.ld_link.specs.Peers.{Peers}
+use Rattle.ld_node.specs.Known.{Known}
 use Rattle.ld_serve.specs.declared.stop.Stop.{Stop}
 use Rattle.ld_serve.specs.declared.stop.Stop.TheVariants.{Disk}
 use Rattle.ld_serve.specs.Course.{IsServed, IsStopped}
@@ -15,13 +16,13 @@ abbrev pub at_first : Plain → State
 at_first p = record { plain = p; released = [] }
 
 -- of a disk that showed these bytes, of which this may be left now, and of a register that may hold these contents
-module _ (seen : Option (List ℕ)) (left : List ℕ → Type 0) (holds : Contents → Type 0) (id : ℕ) (sets : List (ℕ × List Bool)) (format : Bool) where
+module _ (seen : Option (List ℕ)) (left : List ℕ → Type 0) (holds : Contents → Type 0) (id : ℕ) (known : Known) (format : Bool) where
   -- the node was opened, and served so many turns, or until there was no next peer
   pub record HasServed (start : Peers) (now : Option Peers) (turns : ℕ) : Type 0 where
     pub first : Plain
     pub opened : IfSome seen (IsOpening holds id format first)
     pub last : State
-    pub course : IsServed (after id sets) (answers id sets) start (at_first first) now last turns
+    pub course : IsServed (after id known) (answers id known) start (at_first first) now last turns
     pub stands : IfSome seen (λ _. (bytes : List ℕ) → left bytes → StandsFor last.plain bytes)
 
   -- the node was opened, and stopped while it served
@@ -29,7 +30,7 @@ module _ (seen : Option (List ℕ)) (left : List ℕ → Type 0) (holds : Conten
     pub first : Plain
     pub opened : IfSome seen (IsOpening holds id format first)
     pub last : State
-    pub course : IsStopped (after id sets) (answers id sets) (IsCut id sets (IsSome seen) left stop) start (at_first first) now last
+    pub course : IsStopped (after id known) (answers id known) (IsCut id known (IsSome seen) left stop) start (at_first first) now last
 
 -- of a disk, its counts of faults, the bytes that it showed and shows, and what might be left of it and may be now; and of a register
 module _ (disk_before disk_now : ℕ) (seen seen_now : Option (List ℕ)) (before left : List ℕ → Type 0) (register_before register_now : ℕ) (Told : Type 0) (holds : Contents → Type 0) (damaged : ℕ → Type 0) (id : ℕ) (format : Bool) where

@@ -1,10 +1,11 @@
 // A node is opened: loaded from its disk, and formatted where that is blank.
-ghost use Rattle.std.specs.Prelude.{◌≡◌, ◌≢◌, ◌⊎◌, [], ℕ, List, Some, IfOk, IfErr, IfSome, MatchResult, true, false};
+ghost use Rattle.std.specs.Prelude.{◌≡◌, ◌≢◌, ◌⊎◌, [], ℕ, List, Option, Some, IfOk, IfErr, IfSome, MatchResult, true, false};
+ghost use Rattle.ld_ids.specs.declared.set.Spec.{Spec as Fixed};
 ghost use Rattle.ld_register.specs.Calls.{after_draw, ChangedOrNot};
 ghost use Rattle.ld_register.specs.declared.fault.RegisterFault.{RegisterFault as Refusal};
 ghost use Rattle.ld_register.specs.declared.fault.RegisterFault.TheVariants as refusals;
-ghost use Rattle.ld_node.specs.Node.{id_of, sets_of, released_of, plain_of, disk_of, must_load, is_blank};
-ghost use Rattle.ld_node.specs.Sets.{sets_in};
+ghost use Rattle.ld_node.specs.Node.{id_of, known_of, released_of, plain_of, disk_of, must_load, is_blank};
+ghost use Rattle.ld_node.specs.Known.{known_in};
 ghost use Rattle.ld_serve.specs.Opening.{IsBlank, IsOpening, IsOpeningStop, LeftByFormat, stop_of_load, stop_of_format};
 ghost use Rattle.ld_serve.specs.Serving.{IsHeld};
 ghost use Rattle.ld_serve.specs.Stops.{DiskCounts, RegisterCounts};
@@ -37,7 +38,7 @@ fn load_stop(fault: NodeFault) -> Stop
 /// Why the register gave no generation.
 fn draw_stop(refusal: RegisterFault) -> Stop
     requires logs { refusal ≢ refusals.LogLimit }
-    requires behind { (lce : ℕ) → refusal ≢ refusals.Behind lce }
+    requires behind { (lce : ℕ) (next : Option Fixed) → refusal ≢ refusals.Behind lce next }
     requires epochs { refusal ≢ refusals.EpochLimit }
     ensures { result ≡ stop_of_format (NodeFault.Register refusal) }
 {
@@ -48,7 +49,7 @@ fn draw_stop(refusal: RegisterFault) -> Stop
         RegisterFault::Full => Stop::Full(Which::Register),
         RegisterFault::NoMemory => Stop::NoMemory,
         RegisterFault::LogLimit => unreachable!(),
-        RegisterFault::Behind(_) => unreachable!(),
+        RegisterFault::Behind { .. } => unreachable!(),
         RegisterFault::EpochLimit => unreachable!(),
     }
 }
@@ -58,7 +59,7 @@ fn format_stop(fault: NodeFault) -> Stop
     requires damaged { (place : ℕ) → fault ≢ NodeFault.Damaged place }
     requires needs_load { fault ≢ NodeFault.NeedsLoad }
     requires logs { fault ≢ NodeFault.Register refusals.LogLimit }
-    requires behind { (lce : ℕ) → fault ≢ NodeFault.Register (refusals.Behind lce) }
+    requires behind { (lce : ℕ) (next : Option Fixed) → fault ≢ NodeFault.Register (refusals.Behind lce next) }
     requires epochs { fault ≢ NodeFault.Register refusals.EpochLimit }
     ensures { result ≡ stop_of_format fault }
 {
@@ -89,7 +90,7 @@ pub fn open<D: Disk, G: Register>(
     disk: D,
     reg: &mut G,
 ) -> Result<Node<D>, (D, Stop)>
-    ensures node { IfOk result (λ node. (id_of node ≡ id) × (sets_of node ≡ sets_in id config.now.logs) × (released_of node ≡ [])) }
+    ensures node { IfOk result (λ node. (id_of node ≡ id) × (known_of node ≡ known_in config.now) × (released_of node ≡ [])) }
     ensures works { IfOk result (λ node. (is_blank node ≡ false) × (must_load node ≡ false)) }
     ensures opens { IfOk result (λ node. IfSome (D.seen disk) (IsOpening (G.holds reg.old) id format (plain_of node))) }
     ensures holds { IfOk result (λ node. IfSome (D.seen disk) (λ _. IsHeld D.seen D.may_leave node)) }

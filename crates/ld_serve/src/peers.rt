@@ -2,7 +2,8 @@
 ghost use Rattle.std.specs.Prelude.{◌≡◌, ℕ, List, Bool, None, Some, false, IfErr, OnOk, MatchResult, MatchBool};
 ghost use Rattle.ld_link.specs.Peers.{Peers};
 ghost use Rattle.ld_op.specs.declared.op.Op.{Op as Kind};
-ghost use Rattle.ld_node.specs.Node.{id_of, sets_of, disk_of, must_load, is_blank, Holds};
+ghost use Rattle.ld_node.specs.Known.{Known};
+ghost use Rattle.ld_node.specs.Node.{id_of, known_of, disk_of, must_load, is_blank, Holds};
 ghost use Rattle.ld_serve.specs.Course.{IsServed, IsStopped, Goes, WithPeer, BetweenPeers, NoMore};
 ghost use Rattle.ld_serve.specs.Serving.{State, state_of, after, answers, IsHeld, IsCut};
 ghost use Rattle.ld_serve.specs.Stops.{IsLinkStop, IsServingStop, LinkCounts, DiskCounts};
@@ -24,11 +25,11 @@ fn meet<L: Link>(
 ) -> Result<bool, Stop>
     requires fine { decoder.old.fault ≡ None }
     ensures fine { decoder.new.fault ≡ None }
-    ensures met { (id : ℕ) (sets : List (ℕ × List Bool)) (start : Peers) (s : State) (state : State) (turns : ℕ)
-        → Goes (after id sets) (answers id sets) is_there start s (L.peers link.old) decoder.old.bytes state turns
+    ensures met { (id : ℕ) (known : Known) (start : Peers) (s : State) (state : State) (turns : ℕ)
+        → Goes (after id known) (answers id known) is_there start s (L.peers link.old) decoder.old.bytes state turns
         → MatchResult result
-        (λ there. MatchBool there (WithPeer (after id sets) (answers id sets) start s (L.peers link.new) decoder.new.bytes state turns) (NoMore (after id sets) (answers id sets) start s (L.peers link.new) state turns))
-        (λ _. BetweenPeers (after id sets) (answers id sets) start s (L.peers link.new) state turns) }
+        (λ there. MatchBool there (WithPeer (after id known) (answers id known) start s (L.peers link.new) decoder.new.bytes state turns) (NoMore (after id known) (answers id known) start s (L.peers link.new) state turns))
+        (λ _. BetweenPeers (after id known) (answers id known) start s (L.peers link.new) state turns) }
     ensures stops { IfErr result IsLinkStop }
     ensures counts { MatchResult result (λ _. L.faults link.new ≡ L.faults link.old) (LinkCounts (L.faults link.old) (L.faults link.new)) }
 {
@@ -46,7 +47,7 @@ fn meet<L: Link>(
 }
 
 /// Takes peers one after the other, and answers each of their frames to the present one. A turn is a frame that was
-/// taken or a peer that ended; a frame for another node, or of a log that the node doesn't keep, is a turn without an
+/// taken or a peer that ended; a frame for another node, or of a log that the node doesn't know, is a turn without an
 /// answer. It ends after so many turns, whatever the present peer has left to say, or where there is no next peer.
 ///
 /// It stops with `Link` where a call of the link failed, `BadFrame` where the bytes of the present peer begin no frame,
@@ -66,16 +67,16 @@ pub fn serve_peers<D: Disk, L: Link>(
     // written to each peer is the frames of the answers to its frames, in order, and nothing else. Each peer but the
     // present one was read to its end: its bytes are the frames that were taken, and then less than one.
     ensures served { (start : Peers) → L.peers link.old ≡ Some start
-        → OnOk result (IsServed (after (id_of node.old) (sets_of node.old)) (answers (id_of node.old) (sets_of node.old)) start (state_of node.old) (L.peers link.new) (state_of node.new) turns) }
+        → OnOk result (IsServed (after (id_of node.old) (known_of node.old)) (answers (id_of node.old) (known_of node.old)) start (state_of node.old) (L.peers link.new) (state_of node.new) turns) }
 
     // The same holds of the frames taken before it stopped, and where it stopped there is cause to.
     ensures stopped { (start : Peers) → L.peers link.old ≡ Some start
-        → IfErr result (λ stop. IsStopped (after (id_of node.old) (sets_of node.old)) (answers (id_of node.old) (sets_of node.old))
-        (IsCut (id_of node.old) (sets_of node.old) (IsHeld D.seen D.may_leave node.old) (D.may_leave (disk_of node.new)) stop) start (state_of node.old) (L.peers link.new) (state_of node.new)) }
+        → IfErr result (λ stop. IsStopped (after (id_of node.old) (known_of node.old)) (answers (id_of node.old) (known_of node.old))
+        (IsCut (id_of node.old) (known_of node.old) (IsHeld D.seen D.may_leave node.old) (D.may_leave (disk_of node.new)) stop) start (state_of node.old) (L.peers link.new) (state_of node.new)) }
 
     // After the turns the disk stands for the node's plain state.
     ensures holds { (ops : List Kind) → Holds D.seen D.may_leave node.old ops → OnOk result (IsHeld D.seen D.may_leave node.new) }
-    ensures rest { (id_of node.new ≡ id_of node.old) × (sets_of node.new ≡ sets_of node.old) × (is_blank node.new ≡ false) }
+    ensures rest { (id_of node.new ≡ id_of node.old) × (known_of node.new ≡ known_of node.old) × (is_blank node.new ≡ false) }
     ensures itself { D.identity (disk_of node.new) ≡ D.identity (disk_of node.old) }
     ensures works { OnOk result (must_load node.new ≡ false) }
     ensures stops { IfErr result IsServingStop }

@@ -21,20 +21,23 @@ const ENDED: [u8; 39] = [
     0, 0, 0, 0, 0, 0, 0, 1,
 ];
 
-/// Log 1 on node 1.
+/// The nodes 1 and 2, and log 1 on node 2.
 fn config(alloc: Global) -> Result<Config, NoMemory> {
-    let (Some(node), Some(log)) = (NodeId::new(1), LogId::new(1)) else {
+    let (Some(one), Some(two), Some(log)) = (NodeId::new(1), NodeId::new(2), LogId::new(1)) else {
         return Err(NoMemory);
     };
-    let nodes = NodeSet::empty().with(node);
+    let set = NodeSet::empty().with(two);
     let mut logs = Specs::new(alloc);
     logs.push(Spec {
         log,
-        set: nodes,
+        set,
         r: 1,
         extras: 0,
     })?;
-    Ok(Config { nodes, logs })
+    Ok(Config {
+        nodes: set.with(one),
+        logs,
+    })
 }
 
 fn new_disk(alloc: Global) -> Result<MemDisk, NoMemory> {

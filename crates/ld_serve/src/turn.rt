@@ -4,7 +4,7 @@ ghost use Rattle.ld_io.specs.Causes.{Rose};
 ghost use Rattle.ld_link.specs.Peers.{Peers};
 ghost use Rattle.ld_op.specs.declared.op.Op.{Op as Kind};
 ghost use Rattle.ld_register.specs.declared.fault.RegisterFault.{RegisterFault};
-ghost use Rattle.ld_node.specs.Node.{id_of, sets_of, disk_of, must_load, is_blank, Holds};
+ghost use Rattle.ld_node.specs.Node.{id_of, known_of, disk_of, must_load, is_blank, Holds};
 ghost use Rattle.ld_serve.specs.Course.{WithPeer, BetweenPeers, InTurn};
 ghost use Rattle.ld_serve.specs.Serving.{State, state_of, after, answers, IsHeld, IsCut};
 ghost use Rattle.ld_serve.specs.Stops.{IsNodeStop, IsServingStop, LinkCounts, DiskCounts};
@@ -52,17 +52,17 @@ pub(crate) fn turn<D: Disk, L: Link>(
     requires works { must_load node.old ≡ false }
     ensures len { length buf.new ≡ length buf.old }
     ensures fine { OnOk result (decoder.new.fault ≡ None) }
-    ensures rest { (id_of node.new ≡ id_of node.old) × (sets_of node.new ≡ sets_of node.old) × (is_blank node.new ≡ false) }
+    ensures rest { (id_of node.new ≡ id_of node.old) × (known_of node.new ≡ known_of node.old) × (is_blank node.new ≡ false) }
     ensures itself { D.identity (disk_of node.new) ≡ D.identity (disk_of node.old) }
     ensures works { OnOk result (must_load node.new ≡ false) }
     ensures turned { (start : Peers) (s : State) (turns : ℕ)
-        → WithPeer (after (id_of node.old) (sets_of node.old)) (answers (id_of node.old) (sets_of node.old)) start s (L.peers link.old) decoder.old.bytes (state_of node.old) turns
+        → WithPeer (after (id_of node.old) (known_of node.old)) (answers (id_of node.old) (known_of node.old)) start s (L.peers link.old) decoder.old.bytes (state_of node.old) turns
         → MatchResult result
         (λ more. MatchBool more
-        (WithPeer (after (id_of node.old) (sets_of node.old)) (answers (id_of node.old) (sets_of node.old)) start s (L.peers link.new) decoder.new.bytes (state_of node.new) (turns + 1))
-        (BetweenPeers (after (id_of node.old) (sets_of node.old)) (answers (id_of node.old) (sets_of node.old)) start s (L.peers link.new) (state_of node.new) (turns + 1)))
-        (λ stop. InTurn (after (id_of node.old) (sets_of node.old)) (answers (id_of node.old) (sets_of node.old))
-        (IsCut (id_of node.old) (sets_of node.old) (IsHeld D.seen D.may_leave node.old) (D.may_leave (disk_of node.new)) stop) start s (L.peers link.new) (state_of node.new)) }
+        (WithPeer (after (id_of node.old) (known_of node.old)) (answers (id_of node.old) (known_of node.old)) start s (L.peers link.new) decoder.new.bytes (state_of node.new) (turns + 1))
+        (BetweenPeers (after (id_of node.old) (known_of node.old)) (answers (id_of node.old) (known_of node.old)) start s (L.peers link.new) (state_of node.new) (turns + 1)))
+        (λ stop. InTurn (after (id_of node.old) (known_of node.old)) (answers (id_of node.old) (known_of node.old))
+        (IsCut (id_of node.old) (known_of node.old) (IsHeld D.seen D.may_leave node.old) (D.may_leave (disk_of node.new)) stop) start s (L.peers link.new) (state_of node.new)) }
     ensures holds { (ops : List Kind) → Holds D.seen D.may_leave node.old ops → OnOk result (IsHeld D.seen D.may_leave node.new) }
     ensures stops { IfErr result IsServingStop }
     ensures link_counts { MatchResult result (λ _. L.faults link.new ≡ L.faults link.old) (LinkCounts (L.faults link.old) (L.faults link.new)) }

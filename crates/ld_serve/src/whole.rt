@@ -2,7 +2,7 @@
 ghost use Rattle.std.specs.Prelude.{◌≡◌, ◌⊎◌, ℕ, List, Some, IfErr, OnOk, MatchResult, false};
 ghost use Rattle.ld_link.specs.Peers.{Peers};
 ghost use Rattle.ld_register.specs.Calls.{after_draw, ChangedOrNot};
-ghost use Rattle.ld_node.specs.Sets.{sets_in};
+ghost use Rattle.ld_node.specs.Known.{known_in};
 ghost use Rattle.ld_serve.specs.Whole.{HasServed, HasStopped, IsNotOpened};
 ghost use Rattle.ld_serve.specs.Opening.{IsBlank};
 ghost use Rattle.ld_serve.specs.Complete.{AreSpoken, MayOpen, IsFaultOrLimit};
@@ -40,11 +40,11 @@ fn serve_on<D: Disk, G: Register, L: Link>(
 ) -> (D, Result<(), Stop>)
     ensures itself { D.identity result.0 ≡ D.identity disk }
     ensures served { (start : Peers) → L.peers link.old ≡ Some start
-        → OnOk result.1 (HasServed (D.seen disk) (D.may_leave result.0) (G.holds reg.old) id (sets_in id config.now.logs) format start (L.peers link.new) turns) }
+        → OnOk result.1 (HasServed (D.seen disk) (D.may_leave result.0) (G.holds reg.old) id (known_in config.now) format start (L.peers link.new) turns) }
     ensures stopped { (start : Peers) → L.peers link.old ≡ Some start
         → IfErr result.1 (λ stop. IsNotOpened (D.faults disk) (D.faults result.0) (D.seen disk) (D.seen result.0) (D.may_leave disk) (D.may_leave result.0)
         (G.faults reg.old) (G.faults reg.new) (G.told reg.old) (G.holds reg.old) (G.damaged reg.old) id format link.old link.new stop
-        ⊎ HasStopped (D.seen disk) (D.may_leave result.0) (G.holds reg.old) id (sets_in id config.now.logs) format start (L.peers link.new) stop) }
+        ⊎ HasStopped (D.seen disk) (D.may_leave result.0) (G.holds reg.old) id (known_in config.now) format start (L.peers link.new) stop) }
     ensures opening { IfErr result.1 (λ stop. IsNotOpened (D.faults disk) (D.faults result.0) (D.seen disk) (D.seen result.0) (D.may_leave disk) (D.may_leave result.0)
         (G.faults reg.old) (G.faults reg.new) (G.told reg.old) (G.holds reg.old) (G.damaged reg.old) id format link.old link.new stop
         ⊎ IsServingStop stop) }
@@ -65,7 +65,7 @@ fn serve_on<D: Disk, G: Register, L: Link>(
 
 /// Opens the node of this number on its disk, and serves: peers are taken one after the other, and each of their frames is
 /// one step of the node and its answers. A turn is a frame that was taken or a peer that ended (what is then held of a
-/// frame is dropped); a frame for another node, or of a log that the node doesn't keep, is a turn without an answer. It
+/// frame is dropped); a frame for another node, or of a log that the node doesn't know, is a turn without an answer. It
 /// ends after so many turns, whatever the present peer has left to say, or where there is no next peer.
 ///
 /// The node begins in the plain state that its disk stands for, with nothing released. Where the disk is blank and
@@ -91,13 +91,13 @@ pub fn serve<D: Disk, G: Register, L: Link>(
     // present one was read to its end: its bytes are the frames that were taken, and then less than one. Afterwards the
     // disk stands for the last plain state.
     ensures served { (start : Peers) → L.peers link.old ≡ Some start
-        → OnOk result (HasServed (D.seen disk.old) (D.may_leave disk.new) (G.holds reg.old) id (sets_in id config.now.logs) format start (L.peers link.new) turns) }
+        → OnOk result (HasServed (D.seen disk.old) (D.may_leave disk.new) (G.holds reg.old) id (known_in config.now) format start (L.peers link.new) turns) }
 
     // The same holds of the frames taken before it stopped, and where it stopped there is cause to.
     ensures stopped { (start : Peers) → L.peers link.old ≡ Some start
         → IfErr result (λ stop. IsNotOpened (D.faults disk.old) (D.faults disk.new) (D.seen disk.old) (D.seen disk.new) (D.may_leave disk.old) (D.may_leave disk.new)
         (G.faults reg.old) (G.faults reg.new) (G.told reg.old) (G.holds reg.old) (G.damaged reg.old) id format link.old link.new stop
-        ⊎ HasStopped (D.seen disk.old) (D.may_leave disk.new) (G.holds reg.old) id (sets_in id config.now.logs) format start (L.peers link.new) stop) }
+        ⊎ HasStopped (D.seen disk.old) (D.may_leave disk.new) (G.holds reg.old) id (known_in config.now) format start (L.peers link.new) stop) }
 
     // Whatever the link tells: what no serving node stops with comes before the link is called, and has its cause.
     ensures opening { IfErr result (λ stop. IsNotOpened (D.faults disk.old) (D.faults disk.new) (D.seen disk.old) (D.seen disk.new) (D.may_leave disk.old) (D.may_leave disk.new)

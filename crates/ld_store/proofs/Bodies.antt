@@ -12,8 +12,9 @@ use Rattle.ld_op.specs.declared.op.Op.{Op}
 use Rattle.ld_op.specs.declared.op.Op.TheVariants as ops
 use Rattle.ld_op.specs.Plain.{Plain, unformatted, apply, op_length, what_length, entry_length, entries_length, epochs_length}
 use Rattle.ld_op.specs.Bounds.{IsOp}
-use Rattle.ld_op.specs.Fields.{Read, Got, Off}
-use Rattle.ld_op.specs.Bytes.{op_bytes, what_bytes, entry_bytes, entries_bytes, epochs_bytes, judge}
+use Rattle.ld_fields.specs.Fields.{Read, Got, Off}
+use Rattle.ld_fields.specs.Items.{what_bytes, entry_bytes, entries_bytes}
+use Rattle.ld_op.specs.Bytes.{op_bytes, epochs_bytes, judge}
 use Rattle.ld_op.proofs.Spelling.{judge-op_bytes}
 use Rattle.ld_store.specs.Ops.{bodies_of, apply_all, state_after, place_behind, is_format, are_none, AreChanges, AreOps, MayFollow}
 

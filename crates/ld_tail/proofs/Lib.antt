@@ -1,3 +1,3 @@
 mod Clients
-mod Fit
+mod Looked
 mod Tailing

@@ -1,63 +1,79 @@
 -- A reader is driven.
-use Rattle.std.proofs.Common.{◌≡◌, ◌⊎◌, ◌<◌, ◌+◌, arith, ℕ, Bool, true, false, List, [], Option, Some, None, Ok, Err, refl, ap, sym, ◌∙◌, subst, inl, inr}
+use Rattle.std.proofs.Common.{◌≡◌, ◌⊎◌, ◌<◌, ℕ, Bool, true, false, List, [], Option, Some, None, Ok, Err, refl, ap, sym, ◌∙◌, subst, inl, inr}
 use Rattle.std.specs.Prelude.{MatchResult, IfOk, IfErr}
 use Rattle.std.specs.declared.result.Result.{Result}
 use Rattle.ld_table.specs.Named.{find_named}
 use Rattle.ld_config.specs.declared.config.Config.{Config}
 use Rattle.ld_config.specs.Bounds.{IsInBounds}
+use Rattle.ld_ids.specs.Set.{members}
+use Rattle.ld_schedule.specs.declared.event.Event.{Event}
 use Rattle.ld_schedule.specs.declared.event.Event.TheVariants as events
+use Rattle.ld_transcript.specs.declared.line.Line.{Line}
 use Rattle.ld_msg.specs.declared.msg.Msg.{Msg}
 use Rattle.ld_msg.specs.Network.{Network}
 use Rattle.ld_msg.specs.Bounds.{Is64}
+use Rattle.ld_msg.specs.Register.{Register}
 use Rattle.ld_reader.specs.Following.{Following}
 use Rattle.ld_machine.specs.Disk.{Node}
 use Rattle.ld_machine.specs.State.{State}
 use Rattle.ld_machine.specs.Step.{happens}
+use Rattle.ld_machine.specs.Run.{state_after}
 use Rattle.ld_dial.specs.Far.{Far}
 use Rattle.ld_clients.specs.Finished.{finished_in}
 use Rattle.ld_clients.specs.Followers.{readers_of}
-use Rattle.ld_clients.specs.Reads.{AreReaders}
 use Rattle.ld_clients.proofs.Names.{find_each_some}
 use Rattle.ld_rounds.specs.declared.ended.Ended.{Ended}
 use Rattle.ld_rounds.specs.declared.ended.Ended.TheVariants as ends
 use Rattle.ld_rounds.specs.declared.actor.Heard.{Heard}
-use Rattle.ld_rounds.specs.Queued.{no_queues, put_all}
+use Rattle.ld_rounds.specs.Queued.{no_queues}
 use Rattle.ld_rounds.specs.News.{AreNews}
 use Rattle.ld_rounds.specs.Acts.{IsActed}
 use Rattle.ld_rounds.specs.Telling.{HasTold, IsTelling}
-use Rattle.ld_rounds.specs.Drives.{Holds, Moved, Went, Stopped, Stops, GoesOn, Turned, TookTurns}
+use Rattle.ld_rounds.specs.Drives.{Holds, Went, Stopped, Stops, GoesOn}
+use Rattle.ld_rounds.specs.Rounds.{IsOne, IsBegun, AreReadRounds, ReadsUntil}
+use Rattle.ld_rounds.specs.Taking.{TookReads}
+use Rattle.ld_rounds.specs.Reaching.{Begins, Reached}
 use Rattle.ld_rounds.specs.Endings.{IsEnding}
-use Rattle.ld_tail.specs.Tails.{Begins, Reached, IsFinished, IsTailed, IsTailEnd, DroveTail}
-use Rattle.ld_tail.proofs.Fit.{none_are}
+use Rattle.ld_tail.specs.Looking.{IsLookEnd}
+use Rattle.ld_tail.specs.Readers.{Follows}
+use Rattle.ld_tail.specs.Tails.{HasNone, Wanted, opening, IsFinished, AreSteps, EndAt, IsTailed, IsTailEnd, DroveTail, end_of}
+use Rattle.ld_tail.proofs.Clients.{none_are}
 use Rattle.ld_rounds.proofs.News.{no_news}
 use Rattle.ld_rounds.proofs.Steps.{open_is}
 use Rattle.ld_rounds.proofs.Driving.{acted_on}
-use Rattle.ld_rounds.proofs.Going.{goes_told, goes_as, goes_further}
+use Rattle.ld_rounds.proofs.Joining.{splits_join}
+use Rattle.ld_rounds.proofs.Going.{halted, cut_by, goes_told, goes_as, goes_such, went_on, went_stops}
 
--- a reader's part of a state
-abbrev pub reading : List (List ℕ × Following) → Config → State → Type 0
-reading fs c s = AreReaders c s fs
+pub follows_apart : (fs : List (List ℕ × Following)) (U : Register → Type 0) (c : Config) (s : State) (nodes : List (ℕ × Node)) (network : Network) → Follows fs U c s → Follows fs U c (record s { nodes = nodes; network = network })
+follows_apart fs U c s nodes network h = record { readers = record { readers = h.readers.readers; logs = h.readers.logs }; register = h.register }
 
-reading_apart : (fs : List (List ℕ × Following)) (c : Config) (s : State) (nodes : List (ℕ × Node)) (network : Network) → reading fs c s → reading fs c (record s { nodes = nodes; network = network })
-reading_apart fs c s nodes network h = record { readers = h.readers; logs = h.logs }
-
-module _ (name : List ℕ) (broken : Type 0) (c : Config) (b : IsInBounds c) where
-  pub begun : (s : State) (far : Far) → Begins c s far → Holds (reading []) c s.network.count s far no_queues
+module _ (name : List ℕ) (broken : Type 0) (c : Config) (b : IsInBounds c) (U : Register → Type 0) where
+  pub begun : (s : State) (far : Far) → Begins (HasNone U) c s far → Holds (Follows [] U) c s.network.count s far no_queues
   begun s far h = record {
     sound = h.sound;
-    actor = none_are c s h.readers;
+    actor = record { readers = none_are c s h.such.readers; register = h.such.register };
     nodes = h.nodes;
     count = refl;
     news = subst (λ answers. AreNews s.network.count s.network no_queues answers) (sym h.answers) (no_news s.network h.sent);
   }
 
-  module _ (first : ℕ) (fs gs : List (List ℕ × Following)) (s : State) (far : Far) (qs now : List (List Msg)) (old new : Option (List ℕ)) (heard : Heard) (h : Holds (reading fs) c first s far qs)
+  module _ (first : ℕ) (fs gs : List (List ℕ × Following)) (V : Register → Type 0) (s : State) (far : Far) (qs now : List (List Msg)) (old new : Option (List ℕ)) (heard : Heard) (h : Holds (Follows fs U) c first s far qs)
       (r : Result (Unit {0}) Ended) (t : MatchResult r (λ u. HasTold heard qs now old new) (IsTelling heard qs now old new)) (T : Far → Type 0) (told : T far) where
-    finish_told : Moved name broken 0 (reading gs) c first s far (put_all qs heard.sends) heard.lines.items → GoesOn name broken 0 (reading gs) T c first s now old new r
-    finish_told m = goes_as name broken c first b 0 broken (reading gs) (λ f. f ≡ far) T s now old new r (λ l. l) (λ f e. subst T (sym e) told) (goes_told name broken c first b (reading gs) s far qs now old new heard m r t)
+    pub opened_on : (log from until : ℕ) → Is64 until → IsActed (Follows gs V c) s heard.lines.items heard.sends (happens c s (events.Open name log from until))
+        → GoesOn name broken (IsOne (events.Open name log from until)) (λ e. IsBegun (events.Open name log from until)) (Follows gs V) T c first s now old new r
+    opened_on log from until is a =
+        let one : State → List Event → Type 0 = IsOne (events.Open name log from until) in
+        let begun : Ended → State → List Event → Type 0 = λ e. IsBegun (events.Open name log from until) in
+        let m = acted_on name broken c first b (Follows fs U) (follows_apart fs U) one (Follows gs V) (follows_apart gs V) s far qs (events.Open name log from until) heard.lines.items heard.sends refl refl is (open_is c s name log from until) h a in
+        goes_as name broken c first b one begun broken (Follows gs V) (λ f. f ≡ far) T s now old new r (λ l. l) (λ f e. subst T (sym e) told) (goes_told name broken c first b one begun (Follows gs V) s far qs now old new heard m (λ e es x. inr x) r t)
 
-    pub opened_on : (log from until : ℕ) → Is64 until → IsActed (reading gs c) s heard.lines.items heard.sends (happens c s (events.Open name log from until)) → GoesOn name broken 0 (reading gs) T c first s now old new r
-    opened_on log from until is a = finish_told (acted_on name broken c first b (reading fs) (reading_apart fs) (reading gs) (reading_apart gs) s far qs (events.Open name log from until) heard.lines.items heard.sends refl is (open_is c s name log from until) h a)
+-- the same under other words for the name and the log
+pub renamed : (A : State → Type 0) (c : Config) (s : State) (ls : List Line) (ms : List Msg) (n m : List ℕ) (k l from until : ℕ) → n ≡ m → k ≡ l → IsActed A s ls ms (happens c s (events.Open n k from until)) → IsActed A s ls ms (happens c s (events.Open m l from until))
+renamed A c s ls ms n m k l from until e f a = subst (λ (x : List ℕ). IsActed A s ls ms (happens c s (events.Open x l from until))) e (subst (λ (x : ℕ). IsActed A s ls ms (happens c s (events.Open n x from until))) f a)
+
+-- a register that is told of in other words
+pub begins_with : (T U : Register → Type 0) (c : Config) (s : State) (far : Far) → (T s.register → U s.register) → Begins (HasNone T) c s far → Begins (HasNone U) c s far
+begins_with T U c s far f h = record { sound = h.sound; such = record { readers = h.such.readers; register = f h.such.register }; nodes = h.nodes; answers = h.answers; sent = h.sent }
 
 -- ---- the end ----
 
@@ -65,64 +81,138 @@ finished_reader : (name : List ℕ) (fs : List (List ℕ × Following)) (o : Opt
 finished_reader name fs None h f s e = absurd cc
 finished_reader name fs (Some x) h f s e = record { reader = x.reader; there = ap (find_named name) e ∙ find_each_some (λ y. y.reader) name x fs h; finished = f }
 
-module _ (name : List ℕ) (broken : Type 0) (rounds : ℕ) (tells : Config → Far → Type 0) (c : Config) (first : ℕ) (b : IsInBounds c) (s : State) (fs : List (List ℕ × Following)) (qs : List (List Msg)) (old new : Option (List ℕ)) where
-  reached : (n : ℕ) (P : State → Type 0) → (w : Went name broken n (reading fs) (tells c) c first s qs old new) → P w.moved.state → Reached name broken n (tells c) c s old new P
-  reached n P w p = record { state = w.moved.state; far = w.far; lines = w.lines; told = w.told; nodes = w.moved.holds.nodes; goes = w.moved.goes; written = w.written; such = p }
+module _ (w : Wanted) (broken : Type 0) (most : ℕ) (tells : Config → Far → Type 0) (c : Config) (b : IsInBounds c) (s : State) (fs : List (List ℕ × Following)) (U : Register → Type 0) (qs : List (List Msg)) (old new : Option (List ℕ)) where
+  abbrev at : State → List Event → Type 0
+  at = EndAt w c s.network.count most
 
-  done_tail : (n : ℕ) → Went name broken n (reading fs) (tells c) c first s qs old new → finished_in (find_named name fs) ≡ true → Reached name broken n (tells c) c s old new (IsFinished name)
-  done_tail n w f = reached n (IsFinished name) w (finished_reader name fs (find_named name fs) refl f w.moved.state w.moved.holds.actor.readers)
+  reached : (P : State → List Event → Type 0) (Q : State → Type 0) → (v : Went w.name broken P (Follows fs U) (tells c) c s.network.count s qs old new) → Q v.moved.state → Reached w.name broken P (tells c) c s old new Q
+  reached P Q v q = record { state = v.moved.state; far = v.far; lines = v.lines; told = v.told; nodes = v.moved.holds.nodes; goes = v.moved.goes; written = v.written; such = q }
 
-  after_some : (n : ℕ) → n < rounds + 1 → Went name broken n (reading fs) (tells c) c first s qs old new → Turned 0 (rounds + 1) (λ turns. Reached name broken turns (tells c) c s old new (λ t. Unit {0}))
-  after_some n l w = record { turns = n; least = omega arith; below = l; goes = reached n (λ t. Unit {0}) w tt }
+  cut : Went w.name broken at (Follows fs U) (tells c) c s.network.count s qs old new → Stopped w.name broken at c s old new
+  cut v = halted w.name broken c s.network.count b at (Follows fs U) (tells c) s qs old new v
 
-  within : (n : ℕ) → n < rounds + 1 → Stopped name broken n c s old new → Stopped name broken rounds c s old new
-  within n l w = record { state = w.state; lines = w.lines; turns = w.turns; few = (let f = w.few in omega (arith, l, f)); goes = w.goes; written = w.written }
+  -- it has ended before all rounds were taken
+  stopped_by : (e : Ended) → Stops w.name broken (λ f. at) (Follows fs U) (tells c) c s.network.count s qs old new e → DroveTail w broken most tells U c s old new (Err e)
+  stopped_by (ends.BadFrame fault) g = reached at (λ t. U t.register) g g.moved.holds.actor.register
+  stopped_by ends.NoMemory g = g
+  stopped_by ends.Write g = g
+  stopped_by ends.Done g = cut g
+  stopped_by ends.Rounds g = cut g
+  stopped_by (ends.Preempted by) g = cut g
+  stopped_by ends.LogLimit g = cut g
+  stopped_by ends.EpochLimit g = cut g
+  stopped_by ends.EpochFull g = cut g
+  stopped_by (ends.Register fault) g = cut g
+  stopped_by (ends.BadLine line place) g = cut g
+  stopped_by ends.Read g = cut g
 
-  -- it has ended before
-  pub stopped_tail : (e : Ended) (n before now : ℕ) → n < rounds + 1 → IsEnding before now old new e → Stops name broken n (reading fs) (tells c) c first s qs old new e → IsTailed name broken rounds tells c s old new e
-  stopped_tail ends.NoMemory n before now l i g = within n l g
-  stopped_tail ends.Write n before now l i g = within n l g
-  stopped_tail ends.Done n before now l i g = absurd i.said
-  stopped_tail ends.Rounds n before now l i g = absurd i.said
-  stopped_tail (ends.Preempted by) n before now l i g = after_some n l g
-  stopped_tail ends.LogLimit n before now l i g = after_some n l g
-  stopped_tail ends.EpochLimit n before now l i g = after_some n l g
-  stopped_tail ends.EpochFull n before now l i g = after_some n l g
-  stopped_tail (ends.Register fault) n before now l i g = after_some n l g
-  stopped_tail (ends.BadFrame fault) n before now l i g = after_some n l g
-  stopped_tail (ends.BadLine line place) n before now l i g = after_some n l g
-  stopped_tail ends.Read n before now l i g = after_some n l g
+  -- at the opening
+  pub stopped_tail : (e : Ended) → Stops w.name broken (λ f. IsBegun (opening w)) (Follows fs U) (tells c) c s.network.count s qs old new e → DroveTail w broken most tells U c s old new (Err e)
+  stopped_tail e g = stopped_by e
+      (goes_such w.name broken c s.network.count b {R = Unit {0}} (IsBegun (opening w)) (IsBegun (opening w)) (λ f. IsBegun (opening w)) (λ f. at) broken (Follows fs U) (tells c) (tells c) s qs old new (Err e) (λ x. x) (λ f t. t) (λ es x. x) (λ es x. inl x) g)
 
-  module _ (A : Config → State → Type 0) (T : Far → Type 0) (rs : List (List Msg)) (mid : Option (List ℕ)) (before now : ℕ) (w : Went name broken 0 A T c first s rs old mid) where
-    since : (r : Result Bool Ended) (n : ℕ) → GoesOn name broken n (reading fs) (tells c) c first w.moved.state qs mid new r → GoesOn name broken n (reading fs) (tells c) c first s qs old new r
-    since r n g = let e : 0 + n ≡ n = omega arith in
-        subst (λ k. GoesOn name broken k (reading fs) (tells c) c first s qs old new r) e (goes_further name broken c first b 0 n A (reading fs) T (tells c) s rs qs old mid new r w g)
+  module _ (A : Config → State → Type 0) (T : Far → Type 0) (rs : List (List Msg)) (mid : Option (List ℕ)) (v : Went w.name broken (IsOne (opening w)) A T c s.network.count s rs old mid) where
+    since : (n : ℕ) → Went w.name broken (AreReadRounds w.name c s.network.count (members c.nodes) n) (Follows fs U) (tells c) c s.network.count v.moved.state qs mid new → Went w.name broken (AreSteps w c s.network.count n) (Follows fs U) (tells c) c s.network.count s qs old new
+    since n g = went_on w.name broken c s.network.count b (IsOne (opening w)) (AreReadRounds w.name c s.network.count (members c.nodes) n) (AreSteps w c s.network.count n) A (Follows fs U) T (tells c) s rs qs old mid new
+        (splits_join c (IsOne (opening w)) (AreReadRounds w.name c s.network.count (members c.nodes) n)) v g
+
+    stops_since : (e : Ended) (n : ℕ) → n < most → Stops w.name broken (λ f. ReadsUntil w.name c s.network.count (members c.nodes) n) (Follows fs U) (tells c) c s.network.count v.moved.state qs mid new e → Stops w.name broken (λ f. at) (Follows fs U) (tells c) c s.network.count s qs old new e
+    stops_since e n f g =
+        let P = IsOne (opening w) in
+        let Q = ReadsUntil w.name c s.network.count (members c.nodes) n in
+        let j = λ (t : State) (es fs : List Event) (x : P t es) (y : Q (state_after c t es) fs). inr (record { rounds = n; below = f; goes = splits_join c P Q t es fs x y }) in
+        cut_by e (went_stops w.name broken c s.network.count b P Q at A T s rs old mid new j v) (went_on w.name broken c s.network.count b P Q at A (Follows fs U) T (tells c) s rs qs old mid new j v) g
 
     -- the reader is opened, and driven
-    drove : (r : Result Bool Ended) → IfOk r (λ done. done ≡ true → finished_in (find_named name fs) ≡ true) → IfErr r (IsEnding before now old new)
-        → TookTurns rounds (λ n. GoesOn name broken n (reading fs) (tells c) c first w.moved.state qs mid new r) r → DroveTail name broken rounds tells c s old new r
-    drove (Ok false) f i g = reached rounds (λ t. Unit {0}) (since (Ok false) rounds g) tt
-    drove (Ok true) f i g = record { turns = g.turns; least = g.least; below = g.below; goes = done_tail g.turns (since (Ok true) g.turns g.goes) (f refl) }
-    drove (Err e) f i g = stopped_tail e g.turns before now g.below i (since (Err e) g.turns g.goes)
+    drove : (r : Result Bool Ended) → IfOk r (λ done. done ≡ true → finished_in (find_named w.name fs) ≡ true)
+        → TookReads w.name broken (members c.nodes) most (Follows fs U) (tells c) c s.network.count v.moved.state qs mid new r → DroveTail w broken most tells U c s old new r
+    drove (Ok false) f g = let u = since most g in reached (AreSteps w c s.network.count most) (λ t. U t.register) u u.moved.holds.actor.register
+    drove (Ok true) f g =
+        let u = since g.rounds g.goes in
+        record {
+          rounds = g.rounds;
+          least = g.least;
+          below = g.below;
+          goes = reached (AreSteps w c s.network.count g.rounds) (λ t. U t.register × IsFinished w.name t) u
+              (u.moved.holds.actor.register, finished_reader w.name fs (find_named w.name fs) refl (f refl) u.moved.state u.moved.holds.actor.readers.readers);
+        }
+    drove (Err e) f g = stopped_by e (stops_since e g.rounds g.below g.goes)
 
     -- where it isn't silent
-    pub drove_loud : (Y : Type 0) (r : Result Bool Ended) → IfOk r (λ done. done ≡ true → finished_in (find_named name fs) ≡ true) → IfErr r (IsEnding before now old new)
-        → Y ⊎ TookTurns rounds (λ n. GoesOn name broken n (reading fs) (tells c) c first w.moved.state qs mid new r) r → Y ⊎ DroveTail name broken rounds tells c s old new r
-    drove_loud Y r f i (inl y) = inl y
-    drove_loud Y r f i (inr g) = inr (drove r f i g)
+    pub drove_loud : (Y : Type 0) (r : Result Bool Ended) → IfOk r (λ done. done ≡ true → finished_in (find_named w.name fs) ≡ true)
+        → Y ⊎ TookReads w.name broken (members c.nodes) most (Follows fs U) (tells c) c s.network.count v.moved.state qs mid new r → Y ⊎ DroveTail w broken most tells U c s old new r
+    drove_loud Y r f (inl y) = inl y
+    drove_loud Y r f (inr g) = inr (drove r f g)
 
--- ---- why it ends ----
+-- ---- how it ends ----
 
-pub tail_end : (before now : ℕ) (old new : Option (List ℕ)) (e : Ended) → IsEnding before now old new e → IsTailEnd before now old new e
-tail_end before now old new ends.Done i = tt
-tail_end before now old new ends.Rounds i = tt
-tail_end before now old new ends.NoMemory i = i
-tail_end before now old new ends.Write i = i
-tail_end before now old new (ends.Preempted by) i = i
-tail_end before now old new ends.LogLimit i = i
-tail_end before now old new ends.EpochLimit i = i
-tail_end before now old new ends.EpochFull i = i
-tail_end before now old new (ends.Register fault) i = i
-tail_end before now old new (ends.BadFrame fault) i = i
-tail_end before now old new (ends.BadLine line place) i = i
-tail_end before now old new ends.Read i = i
+module _ (damaged : ℕ → Type 0) (k n before now : ℕ) where
+  -- why the reader can't go on
+  why_end : (e : Ended) → IsLookEnd damaged k n e → IsTailEnd damaged k n before now e
+  why_end (ends.Register fault) h = h
+  why_end ends.NoMemory h = h
+  why_end ends.Done h = absurd h
+  why_end ends.Rounds h = absurd h
+  why_end (ends.Preempted by) h = absurd h
+  why_end ends.LogLimit h = absurd h
+  why_end ends.EpochLimit h = absurd h
+  why_end ends.EpochFull h = absurd h
+  why_end (ends.BadFrame fault) h = absurd h
+  why_end (ends.BadLine line place) h = absurd h
+  why_end ends.Read h = absurd h
+  why_end ends.Write h = absurd h
+
+  pub tail_end : (old new : Option (List ℕ)) (r : Result Bool Ended) (why : Ended) → IsLookEnd damaged k n why → IfErr r (IsEnding before now old new) → IsTailEnd damaged k n before now (end_of r why)
+  tail_end old new (Ok true) why h i = tt
+  tail_end old new (Ok false) why h i = tt
+  tail_end old new (Err (ends.BadFrame fault)) why h i = tt
+  tail_end old new (Err ends.Write) why h i = i
+  tail_end old new (Err ends.NoMemory) why h i = why_end why h
+  tail_end old new (Err ends.Done) why h i = why_end why h
+  tail_end old new (Err ends.Rounds) why h i = why_end why h
+  tail_end old new (Err (ends.Preempted by)) why h i = why_end why h
+  tail_end old new (Err ends.LogLimit) why h i = why_end why h
+  tail_end old new (Err ends.EpochLimit) why h i = why_end why h
+  tail_end old new (Err ends.EpochFull) why h i = why_end why h
+  tail_end old new (Err (ends.Register fault)) why h i = why_end why h
+  tail_end old new (Err (ends.BadLine line place)) why h i = why_end why h
+  tail_end old new (Err ends.Read) why h i = why_end why h
+
+  module _ (w : Wanted) (broken : Type 0) (most : ℕ) (tells : Config → Far → Type 0) (U : Register → Type 0) (c : Config) (s : State) (old new : Option (List ℕ)) where
+    abbrev Cut : Type 0
+    Cut = Stopped w.name broken (EndAt w c s.network.count most) c s old new
+
+    why_tailed : (e : Ended) → IsLookEnd damaged k n e → Cut → IsTailed w broken most tells U c s old new e
+    why_tailed (ends.Register fault) h g = g
+    why_tailed ends.NoMemory h g = g
+    why_tailed ends.Done h g = absurd h
+    why_tailed ends.Rounds h g = absurd h
+    why_tailed (ends.Preempted by) h g = g
+    why_tailed ends.LogLimit h g = g
+    why_tailed ends.EpochLimit h g = g
+    why_tailed ends.EpochFull h g = g
+    why_tailed (ends.BadFrame fault) h g = absurd h
+    why_tailed (ends.BadLine line place) h g = g
+    why_tailed ends.Read h g = g
+    why_tailed ends.Write h g = g
+
+    tailed : (r : Result Bool Ended) (why : Ended) → IsLookEnd damaged k n why → DroveTail w broken most tells U c s old new r → IsTailed w broken most tells U c s old new (end_of r why)
+    tailed (Ok true) why h g = g
+    tailed (Ok false) why h g = g
+    tailed (Err (ends.BadFrame fault)) why h g = g
+    tailed (Err ends.Write) why h g = g
+    tailed (Err ends.NoMemory) why h g = why_tailed why h g
+    tailed (Err ends.Done) why h g = why_tailed why h g
+    tailed (Err ends.Rounds) why h g = why_tailed why h g
+    tailed (Err (ends.Preempted by)) why h g = why_tailed why h g
+    tailed (Err ends.LogLimit) why h g = why_tailed why h g
+    tailed (Err ends.EpochLimit) why h g = why_tailed why h g
+    tailed (Err ends.EpochFull) why h g = why_tailed why h g
+    tailed (Err (ends.Register fault)) why h g = why_tailed why h g
+    tailed (Err (ends.BadLine line place)) why h g = why_tailed why h g
+    tailed (Err ends.Read) why h g = why_tailed why h g
+
+    -- where it isn't silent
+    pub tailed_loud : (Y : Type 0) (r : Result Bool Ended) (why : Ended) → IsLookEnd damaged k n why → Y ⊎ DroveTail w broken most tells U c s old new r → Y ⊎ IsTailed w broken most tells U c s old new (end_of r why)
+    tailed_loud Y r why h (inl y) = inl y
+    tailed_loud Y r why h (inr g) = inr (tailed r why h g)

@@ -1,28 +1,18 @@
 -- A reader that is driven.
 use Rattle.std.specs.Prelude.{ℕ, ◌≡◌, List}
 use Rattle.ld_config.specs.declared.config.Config.{Config}
-use Rattle.ld_config.specs.Bounds.{IsInBounds}
 use Rattle.ld_msg.specs.declared.msg.Msg.{Msg}
 use Rattle.ld_msg.specs.declared.msg.Who.{Who}
 use Rattle.ld_msg.specs.declared.msg.Who.TheVariants as whos
+use Rattle.ld_msg.specs.Register.{Register}
 use Rattle.ld_reader.specs.Following.{Following}
 use Rattle.ld_machine.specs.State.{State}
-use Rattle.ld_bounds.specs.Sound.{IsSound}
 use Rattle.ld_clients.specs.Reads.{AreReaders}
 
--- its name and its log, and the readers that it is one of
-pub record Reads : Type 0 where
-  pub name : List ℕ
-  pub log : ℕ
-  pub readers : List (List ℕ × Following)
-
--- some sound state of a configuration has these readers
-pub record AreFit (fs : List (List ℕ × Following)) : Type 0 where
-  pub config : Config
-  pub state : State
-  pub bounds : IsInBounds config
-  pub sound : IsSound config state
-  pub readers : AreReaders config state fs
+-- a state has just these readers, and a register that is told
+pub record Follows (fs : List (List ℕ × Following)) (tells : Register → Type 0) (c : Config) (s : State) : Type 0 where
+  pub readers : AreReaders c s fs
+  pub register : tells s.register
 
 -- it is some reader
 abbrev pub ToReader : Who → Type 0

@@ -1,39 +1,38 @@
 -- What the drive of a reader has come to.
-use Rattle.std.specs.Prelude.{ℕ, ◌≡◌, ◌+◌, nat_le, List, [], filter, Bool, true, false, Option, Some}
+use Rattle.std.specs.Prelude.{ℕ, ◌≡◌, ◌⊎◌, ◌+◌, ◌<◌, List, [], Bool, true, false, Option, Some}
 use Rattle.std.specs.declared.result.Result.{Result}
 use Rattle.std.specs.declared.result.Result.TheVariants.{Ok, Err}
-use Rattle.std.specs.Io.KnownBytes.{Appends}
+use Rattle.ld_io.specs.Causes.{Rose}
 use Rattle.ld_table.specs.Named.{find_named}
+use Rattle.ld_ids.specs.Set.{members}
 use Rattle.ld_config.specs.declared.config.Config.{Config}
-use Rattle.ld_transcript.specs.declared.line.Line.{Line}
-use Rattle.ld_transcript.specs.Text.{text}
+use Rattle.ld_schedule.specs.declared.event.Event.{Event}
+use Rattle.ld_schedule.specs.declared.event.Event.TheVariants.{Open}
 use Rattle.ld_msg.specs.Reader.{Reader, is_finished}
+use Rattle.ld_msg.specs.Register.{Register}
 use Rattle.ld_machine.specs.State.{State}
-use Rattle.ld_bounds.specs.Sound.{IsSound}
 use Rattle.ld_dial.specs.Far.{Far}
 use Rattle.ld_rounds.specs.declared.ended.Ended.{Ended}
 use Rattle.ld_rounds.specs.declared.ended.Ended.TheVariants as ends
-use Rattle.ld_rounds.specs.Endings.{IsEnding}
-use Rattle.ld_rounds.specs.Drives.{Goes, Stopped, Turned}
+use Rattle.ld_rounds.specs.Rounds.{Splits, IsOne, IsBegun, AreReadRounds, ReadsUntil}
+use Rattle.ld_rounds.specs.Drives.{Stopped, Turned}
+use Rattle.ld_rounds.specs.Reaching.{Reached}
+use Rattle.ld_tail.specs.Looking.{IsLookEnd}
 
--- a sound state with these nodes, no answer of which is to be taken, and without readers; each message that is new was sent
-pub record Begins (c : Config) (s : State) (far : Far) : Type 0 where
-  pub sound : IsSound c s
+-- it has no readers, and a register that is told
+pub record HasNone (tells : Register → Type 0) (s : State) : Type 0 where
   pub readers : s.readers ≡ []
-  pub nodes : s.nodes ≡ far.nodes
-  pub answers : far.answers ≡ []
-  pub sent : filter (λ i. nat_le s.network.count i) s.network.fresh ≡ []
+  pub register : tells s.register
 
--- so many polls among the steps of the drive, which led to a state with the nodes as they are told of now, and the lines that were written are the actor's of those steps
-pub record Reached (name : List ℕ) (broken : Type 0) (turns : ℕ) (tells : Far → Type 0) (c : Config) (s : State) (old new : Option (List ℕ)) (P : State → Type 0) : Type 0 where
-  pub state : State
-  pub far : Far
-  pub lines : List Line
-  pub told : tells far
-  pub nodes : state.nodes ≡ far.nodes
-  pub goes : Goes name broken turns c s state lines
-  pub written : Appends old new (text lines)
-  pub such : P state
+-- what a reader is opened on
+pub record Wanted : Type 0 where
+  pub name : List ℕ
+  pub log : ℕ
+  pub from : ℕ
+  pub until : ℕ
+
+abbrev pub opening : Wanted → Event
+opening w = Open w.name w.log w.from w.until
 
 -- the reader of the name is past its last number
 pub record IsFinished (name : List ℕ) (s : State) : Type 0 where
@@ -41,22 +40,48 @@ pub record IsFinished (name : List ℕ) (s : State) : Type 0 where
   pub there : find_named name s.readers ≡ Some reader
   pub finished : is_finished reader ≡ true
 
--- where all rounds were taken as many polls as rounds, else at most so many, and one at least where it is done
-abbrev pub IsTailed : List ℕ → Type 0 → ℕ → (Config → Far → Type 0) → Config → State → Option (List ℕ) → Option (List ℕ) → Ended → Type 0
-IsTailed name broken rounds tells c s old new ends.Done = Turned 1 (rounds + 1) (λ turns. Reached name broken turns (tells c) c s old new (IsFinished name))
-IsTailed name broken rounds tells c s old new ends.Rounds = Reached name broken rounds (tells c) c s old new (λ t. Unit {0})
-IsTailed name broken rounds tells c s old new ends.NoMemory = Stopped name broken rounds c s old new
-IsTailed name broken rounds tells c s old new ends.Write = Stopped name broken rounds c s old new
-IsTailed name broken rounds tells c s old new _ = Turned 0 (rounds + 1) (λ turns. Reached name broken turns (tells c) c s old new (λ t. Unit {0}))
+-- ---- its steps ----
 
--- how it may end
-abbrev pub IsTailEnd : ℕ → ℕ → Option (List ℕ) → Option (List ℕ) → Ended → Type 0
-IsTailEnd before now old new ends.Done = Unit {0}
-IsTailEnd before now old new ends.Rounds = Unit {0}
-IsTailEnd before now old new ended = IsEnding before now old new ended
+-- the reader is opened, and so many rounds over the configuration's nodes
+abbrev pub AreSteps : Wanted → Config → ℕ → ℕ → State → List Event → Type 0
+AreSteps w c first n s es = Splits (IsOne (opening w)) (AreReadRounds w.name c first (members c.nodes) n) c s es
+
+-- the reader is opened, and fewer rounds and a part of one
+pub record AreSome (w : Wanted) (c : Config) (first most : ℕ) (s : State) (es : List Event) : Type 0 where
+  pub rounds : ℕ
+  pub below : rounds < most
+  pub goes : Splits (IsOne (opening w)) (ReadsUntil w.name c first (members c.nodes) rounds) c s es
+
+-- at most the opening, or those
+abbrev pub EndAt : Wanted → Config → ℕ → ℕ → State → List Event → Type 0
+EndAt w c first most s es = IsBegun (opening w) s es ⊎ AreSome w c first most s es
+
+-- by those steps, with these rounds; where it is done its reader is finished. Where it can't go on the last step may have been done in part
+abbrev pub IsTailed : Wanted → Type 0 → ℕ → (Config → Far → Type 0) → (Register → Type 0) → Config → State → Option (List ℕ) → Option (List ℕ) → Ended → Type 0
+IsTailed w broken rounds tells registered c s old new ends.Done = Turned 1 (rounds + 1) (λ n. Reached w.name broken (AreSteps w c s.network.count n) (tells c) c s old new (λ t. registered t.register × IsFinished w.name t))
+IsTailed w broken rounds tells registered c s old new ends.Rounds = Reached w.name broken (AreSteps w c s.network.count rounds) (tells c) c s old new (λ t. registered t.register)
+IsTailed w broken rounds tells registered c s old new (ends.BadFrame fault) = Reached w.name broken (EndAt w c s.network.count rounds) (tells c) c s old new (λ t. registered t.register)
+IsTailed w broken rounds tells registered c s old new _ = Stopped w.name broken (EndAt w c s.network.count rounds) c s old new
+
+-- how it may end, by the counts of faults before and now: the register's first, and then the output's
+abbrev pub IsTailEnd : (ℕ → Type 0) → ℕ → ℕ → ℕ → ℕ → Ended → Type 0
+IsTailEnd damaged register_before register_now before now ends.Done = Unit {0}
+IsTailEnd damaged register_before register_now before now ends.Rounds = Unit {0}
+IsTailEnd damaged register_before register_now before now (ends.BadFrame fault) = Unit {0}
+IsTailEnd damaged register_before register_now before now ends.Write = Rose before now
+IsTailEnd damaged register_before register_now before now ended = IsLookEnd damaged register_before register_now ended
 
 -- how the rounds went: they were all taken, or after one of them the reader was finished
-abbrev pub DroveTail : List ℕ → Type 0 → ℕ → (Config → Far → Type 0) → Config → State → Option (List ℕ) → Option (List ℕ) → Result Bool Ended → Type 0
-DroveTail name broken rounds tells c s old new (Ok true) = IsTailed name broken rounds tells c s old new ends.Done
-DroveTail name broken rounds tells c s old new (Ok false) = IsTailed name broken rounds tells c s old new ends.Rounds
-DroveTail name broken rounds tells c s old new (Err ended) = IsTailed name broken rounds tells c s old new ended
+abbrev pub DroveTail : Wanted → Type 0 → ℕ → (Config → Far → Type 0) → (Register → Type 0) → Config → State → Option (List ℕ) → Option (List ℕ) → Result Bool Ended → Type 0
+DroveTail w broken rounds tells registered c s old new (Ok true) = IsTailed w broken rounds tells registered c s old new ends.Done
+DroveTail w broken rounds tells registered c s old new (Ok false) = IsTailed w broken rounds tells registered c s old new ends.Rounds
+DroveTail w broken rounds tells registered c s old new (Err (ends.BadFrame fault)) = IsTailed w broken rounds tells registered c s old new (ends.BadFrame fault)
+DroveTail w broken rounds tells registered c s old new (Err ended) = Stopped w.name broken (EndAt w c s.network.count rounds) c s old new
+
+-- how it ends, where this is why the reader can't go on
+abbrev pub end_of : Result Bool Ended → Ended → Ended
+end_of (Ok true) why = ends.Done
+end_of (Ok false) why = ends.Rounds
+end_of (Err (ends.BadFrame fault)) why = ends.BadFrame fault
+end_of (Err ends.Write) why = ends.Write
+end_of (Err ended) why = why

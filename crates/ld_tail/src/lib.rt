@@ -1,6 +1,7 @@
 //! A reader that is driven.
 #![tactic(auto)]
 
+mod looking;
 mod reads;
 mod tails;
 

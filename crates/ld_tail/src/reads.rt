@@ -1,42 +1,36 @@
 // A reader that is driven.
-ghost use Rattle.std.specs.Prelude.{◌≡◌, [], None, IfOk};
+ghost use Rattle.std.specs.Prelude.{◌≡◌, ℕ, [], None, Some, IfOk, OnOk};
 ghost use Rattle.ld_table.specs.Named.{find_named};
-ghost use Rattle.ld_config.specs.declared.config.Config.{Config as Contents};
 ghost use Rattle.ld_config.specs.Bounds.{IsInBounds};
-ghost use Rattle.ld_schedule.specs.declared.event.Event.TheVariants.{Open, Poll};
+ghost use Rattle.ld_schedule.specs.declared.event.Event.TheVariants.{Open};
+ghost use Rattle.ld_msg.specs.Register.{Register as Contents};
 ghost use Rattle.ld_node_bounds.specs.Messages.{AreMessages};
 ghost use Rattle.ld_machine.specs.State.{State};
 ghost use Rattle.ld_machine.specs.Step.{happens};
 ghost use Rattle.ld_clients.specs.Finished.{finished_in};
-ghost use Rattle.ld_clients.specs.Reads.{AreReaders};
 ghost use Rattle.ld_rounds.specs.Acts.{IsActed};
-ghost use Rattle.ld_tail.specs.Readers.{IsOf};
+ghost use Rattle.ld_tail.specs.Looking.{HasLooked};
+ghost use Rattle.ld_tail.specs.Readers.{Follows, IsOf};
 
+use crate::looking::{look_end, register_end};
 use ld_clients::{Outcome, Readers};
 use ld_config::Config;
 use ld_ids::{LogId, Name, NoMemory};
 use ld_lsn::Lsn;
 use ld_msg::{Msg, Who};
-use ld_rounds::{Actor, Heard, Reads};
+use ld_register::Register;
+use ld_rounds::{Actor, Ended, Heard, Reads, Refusal};
 use std::alloc::Global;
-use std::marker::Model;
 
-/// A reader of a log, the first one.
+/// A reader of a log, the first one, with its register.
 #[derive(Drop)]
-pub struct Reading {
+pub struct Reading<G: Register> {
     name: Name,
     log: LogId,
     readers: Readers,
-}
-
-impl Model for Reading {
-    ghost use Rattle.ld_tail.specs.Readers.{Reads, AreFit};
-
-    ghost Value = { Reads };
-
-    ghost view = { λ a. record { name = a.name; log = a.log; readers = a.readers } };
-
-    ghost invariant = { λ a. AreFit a.readers };
+    register: G,
+    /// Why it can't go on, where it can't. Then no call does anything more.
+    end: Option<Ended>,
 }
 
 /// What a reader's call writes and sends. It never ends the drive.
@@ -53,73 +47,100 @@ fn told(outcome: Outcome) -> Heard
     }
 }
 
-/// No readers, of which one may be opened.
-fn no_readers(alloc: Global, config: &Config, name: Name, log: LogId) -> Reading
-    requires { IsInBounds config.now }
-    ensures { result ≡ record { name = name; log = log; readers = [] } }
-{
-    Reading {
-        name,
-        log,
-        readers: Readers::new(alloc),
+impl<G: Register> Reading<G> {
+    /// No readers, of which one may be opened.
+    pub fn new(alloc: Global, name: Name, log: LogId, register: G) -> Reading<G>
+        ensures name { result.name ≡ name }
+        ensures log { result.log ≡ log }
+        ensures none { result.readers ≡ [] }
+        ensures register { result.register ≡ register }
+        ensures end { result.end ≡ None }
+    {
+        Reading {
+            name,
+            log,
+            readers: Readers::new(alloc),
+            register,
+            end: None,
+        }
     }
-}
 
-impl Reading {
-    /// Opens a reader of a log from a number to another, both included. Nothing comes of it where the log is none of the
+    /// The register.
+    pub fn into_register(self) -> G
+        ensures { result ≡ self.register }
+    {
+        let Reading { register, .. } = self;
+        register
+    }
+
+    /// Why it can't go on, where it can't.
+    pub fn end(&self) -> Option<Ended>
+        ensures { result ≡ self.now.end }
+    {
+        self.end
+    }
+
+    /// Looks at an epoch of the log, before anything is done. Where the register doesn't answer, the reader can't go on.
+    pub fn look(&mut self, alloc: Global, epoch: u32) -> Result<(), NoMemory>
+        ensures name { self.new.name ≡ self.old.name }
+        ensures log { self.new.log ≡ self.old.log }
+        ensures readers { self.new.readers ≡ self.old.readers }
+        ensures on { OnOk result (self.new.end ≡ self.old.end) }
+        ensures looked { self.old.end ≡ None → HasLooked None self.new.end (G.told self.old.register) (G.told self.new.register) (G.holds self.old.register) (G.holds self.new.register) (G.may_hold self.old.register) (G.may_hold self.new.register) (G.faults self.old.register) (G.faults self.new.register) (G.identity self.old.register) (G.identity self.new.register) }
+        ensures whole { G.told self.old.register → OnOk result ((c : Contents) × G.holds self.new.register c) }
+        ensures exact { (c : Contents) → G.tells self.old.register c → OnOk result (G.tells self.new.register c) }
+        ensures damaged { self.old.end ≡ None → (place : ℕ) → self.new.end ≡ Some (Ended.Register (Refusal.Damaged place)) → G.told self.old.register → G.damaged self.old.register place }
+    {
+        match self.register.look(alloc, self.log, epoch) {
+            Ok(_) => Ok(()),
+            Err(fault) => {
+                self.end = Some(register_end(&fault));
+                Err(NoMemory)
+            }
+        }
+    }
+
+    /// Opens a reader of the log from a number to another, both included. Nothing comes of it where the log is none of the
     /// configuration's, and it is refused with a line `range` where the first number is 0 or above the last: then it is
     /// never finished.
     pub fn open(
-        alloc: Global,
-        config: &Config,
-        name: &Name,
-        log: LogId,
-        from: Lsn,
-        until: Lsn,
-    ) -> Result<(Reading, Heard), NoMemory>
-        requires { IsInBounds config.now }
-        ensures name { IfOk result (λ opened. opened.0.name ≡ name.now) }
-        ensures opened { IfOk result (λ opened. (s : State) → AreReaders config.now s []
-            → IsActed (λ t. AreReaders config.now t opened.0.readers) s opened.1.lines.items opened.1.sends (happens config.now s (Open name.now log from until))) }
-        ensures messages { IfOk result (λ opened. AreMessages opened.1.sends) }
-        ensures goes_on { IfOk result (λ opened. opened.1.end ≡ None) }
-    {
-        let its_name = name.copy(alloc)?;
-        let mut reading = no_readers(alloc, config, its_name, log);
-        let outcome = reading.begin(alloc, config, from, until)?;
-        Ok((reading, told(outcome)))
-    }
-
-    /// Opens the reader.
-    fn begin(
         &mut self,
         alloc: Global,
         config: &Config,
         from: Lsn,
         until: Lsn,
-    ) -> Result<Outcome, NoMemory>
-        requires bounds { IsInBounds config.now }
-        requires none { self.old.readers ≡ [] }
-        ensures opened { IfOk result (λ outcome. (s : State) → AreReaders config.now s self.old.readers
-            → IsActed (λ t. AreReaders config.now t self.new.readers) s outcome.lines.items outcome.sends (happens config.now s (Open self.old.name self.old.log from until))) }
-        ensures messages { IfOk result (λ outcome. AreMessages outcome.sends) }
+    ) -> Result<Heard, NoMemory>
+        requires { IsInBounds config.now }
         ensures name { self.new.name ≡ self.old.name }
+        ensures log { self.new.log ≡ self.old.log }
+        ensures register { self.new.register ≡ self.old.register }
+        ensures end { self.new.end ≡ self.old.end }
+        ensures opened { self.old.readers ≡ [] → IfOk result (λ heard. (s : State) → Follows [] (G.tells self.old.register) config.now s
+            → IsActed (Follows self.new.readers (G.tells self.new.register) config.now) s heard.lines.items heard.sends (happens config.now s (Open self.old.name self.old.log from until))) }
+        ensures messages { self.old.readers ≡ [] → IfOk result (λ heard. AreMessages heard.sends) }
+        ensures goes_on { IfOk result (λ heard. heard.end ≡ None) }
     {
-        match self
+        let outcome = self
             .readers
-            .open(alloc, config, &self.name, self.log, from, until)
-        {
-            Ok(outcome) => Ok(outcome),
-            Err(refused) => {
-                self.readers = Readers::new(alloc);
-                Err(refused)
-            }
-        }
+            .open(alloc, config, &self.name, self.log, from, until)?;
+        Ok(told(outcome))
     }
 }
 
-impl Actor for Reading {
-    ghost stands = { λ a c s. AreReaders c s a.readers };
+impl<G: Register> Actor for Reading<G> {
+    ghost use Rattle.ld_tail.specs.Looking.{looked_here, looked_on};
+
+    ghost stands = { λ a c s. Follows a.readers (G.tells a.register) c s };
+
+    ghost stands_apart = { λ a c s nodes network is. record { readers = record { readers = is.readers.readers; logs = is.readers.logs }; register = is.register } };
+
+    ghost own = { λ a. record { name = a.name; log = a.log } };
+
+    ghost since = { λ a b. HasLooked a.end b.end (G.told a.register) (G.told b.register) (G.holds a.register) (G.holds b.register) (G.may_hold a.register) (G.may_hold b.register) (G.faults a.register) (G.faults b.register) (G.identity a.register) (G.identity b.register) };
+
+    ghost since_here = { λ a. looked_here a.end (G.told a.register) (G.holds a.register) (G.may_hold a.register) (G.faults a.register) (G.identity a.register) };
+
+    ghost since_on = { λ a b c p q. looked_on a.end b.end c.end (G.told a.register) (G.told b.register) (G.told c.register) (G.holds a.register) (G.holds b.register) (G.holds c.register) (G.may_hold a.register) (G.may_hold b.register) (G.may_hold c.register) (G.faults a.register) (G.faults b.register) (G.faults c.register) (G.identity a.register) (G.identity b.register) (G.identity c.register) p q };
 
     ghost hears = { λ a m. IsOf a.log m };
 
@@ -135,27 +156,34 @@ impl Actor for Reading {
         let Who::Reader(number) = &message.to else {
             unreachable!();
         };
-        match self.readers.on_reply(alloc, *number, message) {
+        let None = self.end else {
+            return Err(NoMemory);
+        };
+        match self
+            .readers
+            .on_reply(alloc, *number, message, &mut self.register)
+        {
             Ok(outcome) => Ok(told(outcome)),
-            Err(refused) => {
-                self.readers = Readers::new(alloc);
-                Err(refused)
+            Err(fault) => {
+                self.end = Some(look_end(&fault));
+                Err(NoMemory)
             }
         }
     }
-
-    ghost stands_apart = { λ a c s nodes network is. record { readers = is.readers; logs = is.logs } };
 }
 
-impl Reads for Reading {
+impl<G: Register> Reads for Reading<G> {
     ghost finished = { λ a name. finished_in (find_named name a.readers) };
 
     fn poll(&mut self, alloc: Global, name: &Name) -> Result<Heard, NoMemory> {
-        match self.readers.poll(alloc, name) {
+        let None = self.end else {
+            return Err(NoMemory);
+        };
+        match self.readers.poll(alloc, name, &mut self.register) {
             Ok(outcome) => Ok(told(outcome)),
-            Err(refused) => {
-                self.readers = Readers::new(alloc);
-                Err(refused)
+            Err(fault) => {
+                self.end = Some(look_end(&fault));
+                Err(NoMemory)
             }
         }
     }

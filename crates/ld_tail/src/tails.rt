@@ -1,62 +1,92 @@
 // A reader is opened, and driven until it is finished.
-ghost use Rattle.std.specs.Prelude.{◌≡◌, ◌⊎◌, true, IfErr};
+ghost use Rattle.std.specs.Prelude.{◌≡◌, ◌≤◌, ◌⊎◌, ℕ, [], None, Some, true, IfErr};
 ghost use Rattle.ld_config.specs.Bounds.{IsInBounds};
+ghost use Rattle.ld_msg.specs.Register.{Register as Contents};
 ghost use Rattle.ld_machine.specs.State.{State};
 ghost use Rattle.ld_dial.specs.Far.{Far};
 ghost use Rattle.ld_rounds.specs.Drives.{IsBroken};
 ghost use Rattle.ld_rounds.specs.Endings.{IsEnding};
-ghost use Rattle.ld_tail.specs.Tails.{Begins, IsTailed, IsTailEnd, DroveTail};
+ghost use Rattle.ld_rounds.specs.Reaching.{Begins};
+ghost use Rattle.ld_tail.specs.Looking.{HasLooked};
+ghost use Rattle.ld_tail.specs.Tails.{HasNone, IsTailed, IsTailEnd, DroveTail, end_of};
 
 use crate::Reading;
+use crate::looking::why_of;
 use ld_config::Config;
 use ld_dial::Nodes;
 use ld_ids::{LogId, Name};
 use ld_io::Sink;
 use ld_lsn::Lsn;
-use ld_rounds::{Ended, Queues, read, tell};
+use ld_register::Register;
+use ld_rounds::{Ended, Queues, Refusal, read, tell};
 use std::alloc::Global;
 
-/// Opens the reader and drives it. True where it is finished.
-fn drive<N: Nodes, O: Sink>(
+/// Looks at the register, opens the reader and drives it. True where it is finished.
+fn drive<G: Register, N: Nodes, O: Sink>(
     alloc: Global,
     config: &Config,
-    name: Name,
-    log: LogId,
+    name: &Name,
     from: Lsn,
     until: Lsn,
     rounds: u64,
+    reading: &mut Reading<G>,
     nodes: &mut N,
     out: &mut O,
 ) -> Result<bool, Ended>
-    requires { IsInBounds config.now }
-    ensures drove { (s : State) (far : Far) → N.tells nodes.old config.now far → Begins config.now s far
-        → (N.silent nodes.new ≡ true) ⊎ DroveTail name (IsBroken (N.faults nodes.old) (N.faults nodes.new) (N.endings nodes.old) (N.endings nodes.new)) rounds (N.tells nodes.new) config.now s (O.written out.old) (O.written out.new) result }
+    requires bounds { IsInBounds config.now }
+    requires name { reading.old.name ≡ name.now }
+    requires none { reading.old.readers ≡ [] }
+    requires on { reading.old.end ≡ None }
+    ensures drove { (s : State) (far : Far) → N.tells nodes.old config.now far → Begins (HasNone (G.tells reading.old.register)) config.now s far
+        → (N.silent nodes.new ≡ true) ⊎ DroveTail (record { name = name.now; log = reading.old.log; from = from; until = until }) (IsBroken (N.faults nodes.old) (N.faults nodes.new) (N.endings nodes.old) (N.endings nodes.new)) rounds (N.tells nodes.new) (G.tells reading.new.register) config.now s (O.written out.old) (O.written out.new) result }
+    ensures looked { HasLooked None reading.new.end (G.told reading.old.register) (G.told reading.new.register) (G.holds reading.old.register) (G.holds reading.new.register) (G.may_hold reading.old.register) (G.may_hold reading.new.register) (G.faults reading.old.register) (G.faults reading.new.register) (G.identity reading.old.register) (G.identity reading.new.register) }
+    ensures damaged { (place : ℕ) → reading.new.end ≡ Some (Ended.Register (Refusal.Damaged place)) → G.told reading.old.register → G.damaged reading.old.register place }
     ensures cause { IfErr result (IsEnding (O.faults out.old) (O.faults out.new) (O.written out.old) (O.written out.new)) }
 {
+    let Ok(()) = reading.look(alloc, from.epoch()) else {
+        return Err(Ended::NoMemory);
+    };
     let Ok(mut queues) = Queues::new(alloc) else {
         return Err(Ended::NoMemory);
     };
-    let Ok((mut reading, heard)) = Reading::open(alloc, config, &name, log, from, until) else {
+    let Ok(heard) = reading.open(alloc, config, from, until) else {
         return Err(Ended::NoMemory);
     };
     tell(alloc, heard, &mut queues, out)?;
     read(
         alloc,
         &config.nodes,
-        &name,
+        name,
         rounds,
-        &mut reading,
+        reading,
         nodes,
         &mut queues,
         out,
     )
 }
 
-/// Tails a log: a new reader of the name is opened from a number to another, both included, and so many rounds over the
-/// configuration's nodes are driven, in each of which it polls. Its lines are written as they come. It ends with `Done` where
-/// the reader is past its last number, with `Rounds` where all rounds were taken and it isn't, with `BadFrame` where what a node
-/// sent begins no frame, with `Write` where the output failed, and for want of memory.
-pub fn tail<N: Nodes, O: Sink>(
+/// How the drive ends, where this is why the reader can't go on.
+fn end_of(driven: Result<bool, Ended>, why: Ended) -> Ended
+    ensures { result ≡ end_of driven why }
+{
+    match driven {
+        Ok(true) => Ended::Done,
+        Ok(false) => Ended::Rounds,
+        Err(Ended::BadFrame(fault)) => Ended::BadFrame(fault),
+        Err(Ended::Write) => Ended::Write,
+        Err(_) => why,
+    }
+}
+
+/// Tails a log: the register is looked at, a new reader of the name is opened from a number to another, both included, and so
+/// many rounds over the configuration's nodes are driven, in each of which it polls. Its lines are written as they come. The
+/// register is given back.
+///
+/// It ends with `Done` where the reader is past its last number, with `Rounds` where all rounds were taken and it isn't, with
+/// `BadFrame` where what a node sent begins no frame, with `Write` where the output failed, and for want of memory. It ends
+/// with `Register` where a look at the register failed, and no line says so: with `Damaged` and a place where its bytes are
+/// no journal from there on, and else with `Failed`, only where its count of faults rose.
+pub fn tail<G: Register, N: Nodes, O: Sink>(
     alloc: Global,
     config: &Config,
     name: Name,
@@ -64,20 +94,39 @@ pub fn tail<N: Nodes, O: Sink>(
     from: Lsn,
     until: Lsn,
     rounds: u64,
+    register: G,
     nodes: &mut N,
     out: &mut O,
-) -> Ended
+) -> (Ended, G)
     requires { IsInBounds config.now }
-    // Where the nodes tell what stands there: all that was done are steps of the written machine from any state without readers
-    // that the nodes stand for, and the lines that were written are the reader's lines of those steps. It polls once a round. A
-    // message to a node is lost only where a call of the nodes failed or a node had ended.
-    ensures tailed { (s : State) (far : Far) → N.tells nodes.old config.now far → Begins config.now s far
-        → (N.silent nodes.new ≡ true) ⊎ IsTailed name (IsBroken (N.faults nodes.old) (N.faults nodes.new) (N.endings nodes.old) (N.endings nodes.new)) rounds (N.tells nodes.new) config.now s (O.written out.old) (O.written out.new) result }
-    ensures cause { IsTailEnd (O.faults out.old) (O.faults out.new) (O.written out.old) (O.written out.new) result }
+    // Where the nodes and the register tell what stands there: all that was done are steps of the written machine from any state
+    // without readers that they stand for: the reader is opened, and then round by round it polls, and the configuration's nodes
+    // are visited one after the other. The lines that were written are the reader's lines of those steps. A message to a node is
+    // lost only where a call of the nodes failed or a node had ended.
+    ensures tailed { (s : State) (far : Far) → N.tells nodes.old config.now far → Begins (HasNone (G.tells register)) config.now s far
+        → (N.silent nodes.new ≡ true) ⊎ IsTailed (record { name = name; log = log; from = from; until = until }) (IsBroken (N.faults nodes.old) (N.faults nodes.new) (N.endings nodes.old) (N.endings nodes.new)) rounds (N.tells nodes.new) (G.tells result.1) config.now s (O.written out.old) (O.written out.new) result.0 }
+    ensures cause { IsTailEnd (λ place. G.told register → G.damaged register place) (G.faults register) (G.faults result.1) (O.faults out.old) (O.faults out.new) result.0 }
+    // Looks change nothing of the register.
+    ensures told { G.told register → G.told result.1 }
+    ensures same { (c : Contents) → G.may_hold result.1 c → G.may_hold register c }
+    ensures itself { G.identity result.1 ≡ G.identity register }
+    ensures counts { G.faults register ≤ G.faults result.1 }
 {
-    match drive(alloc, config, name, log, from, until, rounds, nodes, out) {
-        Ok(true) => Ended::Done,
-        Ok(false) => Ended::Rounds,
-        Err(ended) => ended,
-    }
+    let Ok(its_name) = name.copy(alloc) else {
+        return (Ended::NoMemory, register);
+    };
+    let mut reading = Reading::new(alloc, its_name, log, register);
+    let driven = drive(
+        alloc,
+        config,
+        &name,
+        from,
+        until,
+        rounds,
+        &mut reading,
+        nodes,
+        out,
+    );
+    let ended = end_of(driven, why_of(reading.end()));
+    (ended, reading.into_register())
 }

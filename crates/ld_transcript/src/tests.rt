@@ -1,6 +1,6 @@
 // Lines and their text.
 use crate::{Actor, GapKind, Kind, Line, Lines, write};
-use ld_ids::{LogId, Name, NoMemory, NodeId, Payload};
+use ld_ids::{LogId, Name, NoMemory, NodeId, NodeSet, Payload};
 use ld_lsn::Lsn;
 use std::alloc::Global;
 use std::test::Fail;
@@ -92,6 +92,21 @@ fn a_nodes_lines_are_written(rt: HostRuntime) -> Result<(), Fail> {
     let text =
         b"node 1 formatted 2\nnode 1 lost 1 2\nnode 1 rebuilt 1\nrefused a long 65536\nrefused a past e1n1\nmsg 0 s.a n.1 store e1n1\n";
     assert_eq!(rt; &out[..], &text[..]);
+    Ok(())
+}
+
+#[test]
+fn a_sets_line_is_written(rt: HostRuntime) -> Result<(), Fail> {
+    let alloc = rt.alloc();
+    let line = Line::Set {
+        log: LogId::new(1).expect(&rt, "a number in range"),
+        r: 2,
+        extras: 0,
+        set: NodeSet::from_bits(0x8009),
+    };
+    let mut out = Vec::new(alloc);
+    write(alloc, &line, &mut out)?;
+    assert_eq!(rt; &out[..], b"set 1 2 0 1,4,16\n".as_slice());
     Ok(())
 }
 

@@ -6,7 +6,7 @@ use crate::line::Line;
 use crate::parts::word;
 use crate::shapes::{
     gap_line, message_line, name_line, name_lsn_line, name_number_line, node_line, node_lost_line,
-    node_number_line, record_line,
+    node_number_line, record_line, set_line,
 };
 use ld_ids::NoMemory;
 use std::alloc::Global;
@@ -45,6 +45,12 @@ pub fn add(alloc: Global, line: &Line, out: &mut Vec<u8>) -> Result<(), NoMemory
         Line::NodeRebuilt { node, log } => node_number_line(out, *node, b" rebuilt ", log.number()),
         Line::NodeRefusedRegister { node } => node_line(out, *node, b" refused register"),
         Line::NodeRefusedGenLimit { node } => node_line(out, *node, b" refused genlimit"),
+        Line::Set {
+            log,
+            r,
+            extras,
+            set,
+        } => set_line(out, *log, *r, *extras, set),
         Line::Active { name, epoch } => name_number_line(
             out,
             b"active ",

@@ -12,12 +12,14 @@ use Rattle.ld_msg.specs.declared.msg.Msg.{Msg}
 use Rattle.ld_msg.specs.Bounds.{IsMessage}
 use Rattle.ld_wire.specs.declared.fault.WireFault.{WireFault}
 use Rattle.ld_wire.specs.declared.fault.WireFault.TheVariants as faults
-use Rattle.ld_wire.specs.Fields.{Read, Got, Off}
+use Rattle.ld_fields.specs.Fields.{Read, Got, Off, within}
+use Rattle.ld_fields.proofs.Spelling.{past, taken}
+use Rattle.ld_fields.proofs.Unspelling.{drop_bytes, split_at, bytes_back}
 use Rattle.ld_wire.specs.Frames.{kind_of, msg_bytes, frame_of}
-use Rattle.ld_wire.specs.Judging.{within, read_msg, Reading, Complete, Waits, Refused, longest, framed, of_kind, behind, sized, judge}
+use Rattle.ld_wire.specs.Judging.{read_msg, Reading, Complete, Waits, Refused, longest, framed, of_kind, behind, sized, judge}
 use Rattle.ld_wire.proofs.Sizes.{msg_many}
-use Rattle.ld_wire.proofs.Spelling.{msg_reads, past, taken}
-use Rattle.ld_wire.proofs.Unspelling.{msg_spelled, behind_kind, drop_bytes, split_at, bytes_back}
+use Rattle.ld_wire.proofs.Spelling.{msg_reads}
+use Rattle.ld_wire.proofs.Unspelling.{msg_spelled, behind_kind}
 
 -- ---- a frame is judged to be its message ----
 

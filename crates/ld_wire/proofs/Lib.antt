@@ -1,5 +1,3 @@
-pub mod There
-pub mod Parts
 pub mod Sizes
 pub mod Spelling
 pub mod Unspelling

@@ -1,12 +1,9 @@
 -- The bytes of a message are read as that message.
-use Rattle.std.proofs.Common.{◌≡◌, ◌<◌, ◌≤◌, ◌+◌, ◌^◌, ◌&&◌, ◌||◌, ◌==◌, not, ℕ, suc, Bool, true, false, cond, List, [], ◌∷◌, ◌++◌, refl, ap, sym, ◌∙◌, subst, append_assoc, take, drop, length, nat_le, arith, length-append, length-drop}
+use Rattle.std.proofs.Common.{◌≡◌, ◌<◌, ◌≤◌, ◌^◌, ◌&&◌, ◌||◌, ◌==◌, not, ℕ, Bool, true, false, cond, List, [], ◌∷◌, ◌++◌, refl, ap, sym, ◌∙◌, length, nat_le, arith}
 use Rattle.std.proofs.lemmas.Bool.Decides.{nat_tests}
-use Rattle.std.proofs.lemmas.Grind.{common_steps}
 use Rattle.std.proofs.lemmas.List.{append-nil}
-use Rattle.byteorder.specs.Endian.{big_bytes, big_number}
-use Rattle.byteorder.specs.Numbers.{big_number-reads_back, length-bytes_high_first}
+use Rattle.byteorder.specs.Endian.{big_bytes}
 use Rattle.ld_lsn.specs.Number.{epoch_of, esn_of, home_epoch}
-use Rattle.ld_ids.specs.Id.{IsLog}
 use Rattle.ld_msg.specs.declared.msg.Who.{Who}
 use Rattle.ld_msg.specs.declared.msg.Who.TheVariants as whos
 use Rattle.ld_msg.specs.declared.msg.What.{What}
@@ -16,70 +13,15 @@ use Rattle.ld_msg.specs.declared.msg.Summary.{Summary}
 use Rattle.ld_msg.specs.declared.msg.Msg.{Msg}
 use Rattle.ld_msg.specs.declared.msg.Body.{Body}
 use Rattle.ld_msg.specs.declared.msg.Body.TheVariants as bodies
-use Rattle.ld_msg.specs.Bounds.{Is32, Is64, IsEpoch, IsEntry, IsSummary, IsShort, AreEntries, RiseWithin, IsPage, AreReadable, IsReadable, IsRecord, IsSequencerHere, IsActor, AsksIn, AnswersIn, Fits, IsMessage, ballot_of, last_place}
+use Rattle.ld_msg.specs.Bounds.{Is32, IsLng, Is64, IsEpoch, IsEntry, IsSummary, IsPage, AreReadable, IsReadable, IsRecord, IsSequencerHere, IsActor, AsksIn, AnswersIn, Fits, IsMessage, ballot_of}
 use Rattle.ld_wire.specs.declared.role.Role.{Role}
 use Rattle.ld_wire.specs.declared.role.Role.TheVariants as roles
-use Rattle.ld_wire.specs.Fields.{Read, Got, Off, follow, check, field}
+use Rattle.ld_fields.specs.Fields.{Got, Off, follow, field}
+use Rattle.ld_fields.specs.Items.{what_bytes, summary_bytes, greatest_epoch, is_tag, tagged, read_summary, read_log}
 use Rattle.ld_wire.specs.Roles.{may_be, IsIn, sender, receiver}
-use Rattle.ld_wire.specs.Frames.{who_bytes, what_bytes, entry_bytes, entries_bytes, page_bytes, summary_bytes, kind_of, body_bytes, msg_bytes, flag}
-use Rattle.ld_wire.specs.Judging.{within, greatest_epoch, is_actor, actor, read_who, is_number, is_tag, payload, tagged, read_entry, read_entries, read_page, read_upto, read_summary, asks_in, answers_in, may_store, read_store, read_sealed, read_lost, read_clean_here, read_trimmed, read_digest_ask, read_digest_page, read_clean, read_read_ask, read_asked, read_read_page, answer, read_answer, read_stored, read_told, read_body, read_log, read_msg}
-use Rattle.ld_wire.proofs.There.{field_got}
-
--- from a place on the bytes are these
-pub record Stands (bs : List ℕ) (at : ℕ) (xs : List ℕ) : Type 0 where
-  pub within : at ≤ length bs
-  pub there : drop at bs ≡ xs
-
-pub stands_as : (bs : List ℕ) (at : ℕ) (xs ys : List ℕ) → xs ≡ ys → Stands bs at xs → Stands bs at ys
-stands_as bs at xs ys e h = record { within = h.within; there = h.there ∙ e }
-
-dropped : (bs : List ℕ) (at k : ℕ) → drop (at + k) bs ≡ drop k (drop at bs)
-dropped bs at k = grind (arith, common_steps)
-
-pub past : (xs ys : List ℕ) → drop (length xs) (xs ++ ys) ≡ ys
-past [] ys = refl
-past (x ∷ xs) ys = past xs ys
-
-room_for : (bs : List ℕ) (at n : ℕ) (xs ys : List ℕ) → length xs ≡ n → Stands bs at (xs ++ ys) → at + n ≤ length bs
-room_for bs at n xs ys l h = let e = ap length h.there in let w = h.within in let d = length-drop at bs in let a = length-append xs ys in omega arith
-
-pub stands_next : (bs : List ℕ) (at n : ℕ) (xs ys : List ℕ) → length xs ≡ n → Stands bs at (xs ++ ys) → Stands bs (at + n) ys
-stands_next bs at n xs ys l h = record {
-  within = room_for bs at n xs ys l h;
-  there = dropped bs at n ∙ (ap (drop n) h.there ∙ (ap (λ k. drop k (xs ++ ys)) (sym l) ∙ past xs ys));
-}
-
-nothing : (bs : List ℕ) (at : ℕ) (xs : List ℕ) → Stands bs at xs → Stands bs at (xs ++ [])
-nothing bs at xs s = stands_as bs at xs (xs ++ []) (sym (append-nil xs)) s
-
--- ---- what is read, and what stands behind it ----
-
-pub record Reads {X : Type 0} (bs : List ℕ) (r : Read X) (v : X) (ys : List ℕ) : Type 0 where
-  pub next : ℕ
-  pub is : r ≡ Got v next
-  pub behind : Stands bs next ys
-
-field_reads : (k x : ℕ) (bs : List ℕ) (at : ℕ) (ys : List ℕ) → x < 256 ^ suc k → Stands bs at (big_bytes (suc k) x ++ ys) → Reads bs (field (suc k) bs at) x ys
-field_reads k x bs at ys h s = record {
-  next = at + suc k;
-  is = field_got (suc k) bs at (room_for bs at (suc k) (big_bytes (suc k) x) ys (length-bytes_high_first (suc k) x) s)
-      ∙ ap (λ v. Got v (at + suc k)) (ap (big_number (suc k)) s.there ∙ big_number-reads_back (suc k) x ys h);
-  behind = stands_next bs at (suc k) (big_bytes (suc k) x) ys (length-bytes_high_first (suc k) x) s;
-}
-
-module _ {X Y : Type 0} where
-  follow_reads : (bs : List ℕ) (r : Read X) (f : X → ℕ → Read Y) (v : X) (w : Y) (ys zs : List ℕ) → Reads bs r v ys → ((next : ℕ) → Stands bs next ys → Reads bs (f v next) w zs) → Reads bs (follow r f) w zs
-  follow_reads bs r f v w ys zs h g = let t = g h.next h.behind in record { next = t.next; is = ap (λ x. follow x f) h.is ∙ t.is; behind = t.behind }
-
-module _ {X : Type 0} where
-  check_reads : (bs : List ℕ) (ok : Bool) (at : ℕ) (r : Read X) (v : X) (ys : List ℕ) → ok ≡ true → Reads bs r v ys → Reads bs (check ok at r) v ys
-  check_reads bs ok at r v ys e h = record { next = h.next; is = ap (λ b. cond b r (Off at)) e ∙ h.is; behind = h.behind }
-
-  got_reads : (bs : List ℕ) (v : X) (next : ℕ) (ys : List ℕ) → Stands bs next ys → Reads bs (Got v next) v ys
-  got_reads bs v next ys s = record { next = next; is = refl; behind = s }
-
-  reads_as : (bs : List ℕ) (r : Read X) (v w : X) (ys : List ℕ) → v ≡ w → Reads bs r v ys → Reads bs r w ys
-  reads_as bs r v w ys e h = subst (λ x. Reads bs r x ys) e h
+use Rattle.ld_wire.specs.Frames.{who_bytes, page_bytes, kind_of, body_bytes, msg_bytes, flag}
+use Rattle.ld_wire.specs.Judging.{is_actor, actor, read_who, read_page, read_upto, asks_in, answers_in, may_store, read_store, read_sealed, read_lost, read_clean_here, read_trimmed, read_digest_ask, read_digest_page, read_clean, read_read_ask, read_asked, read_read_page, answer, read_answer, read_stored, read_told, read_body, read_msg}
+use Rattle.ld_fields.proofs.Spelling.{Stands, stands_as, nothing, at_end, Reads, field_reads, follow_reads, check_reads, got_reads, reads_as, tag_of, what_is, tagged_reads, number_fits, lng_passes, tag_passes, tag_fits, TagsTo, any_tags, entries_reads, summary_reads, log_reads}
 
 -- ---- actors ----
 
@@ -154,86 +96,7 @@ who_reads bs role at w ys i s = let k = in_actor role w i in
     (follow_reads bs (field 4 bs at_number) _ (who_number w) w _ ys (field_reads 3 (who_number w) bs at_number _ (actor_fits w k) t) (λ next u.
     check_reads bs _ at_number _ w ys (actor_passes w k) (reads_as bs _ (actor (who_tag w) (who_number w)) w ys (actor_back w) (got_reads bs _ next ys u)))))
 
--- ---- entries ----
-
-abbrev pub tag_of : What → ℕ
-tag_of (Rec p) = 0
-tag_of Hole = 1
-tag_of Bridge = 2
-
-abbrev pub after_tag : What → List ℕ
-after_tag (Rec p) = big_bytes 2 (length p) ++ p
-after_tag Hole = []
-after_tag Bridge = []
-
-what_is : (w : What) (ys : List ℕ) → what_bytes w ++ ys ≡ big_bytes 1 (tag_of w) ++ (after_tag w ++ ys)
-what_is (Rec p) ys = append_assoc (big_bytes 1 0) (big_bytes 2 (length p) ++ p) ys
-what_is Hole ys = refl
-what_is Bridge ys = refl
-
-pub taken : (xs ys : List ℕ) → take (length xs) (xs ++ ys) ≡ xs
-taken [] ys = refl
-taken (x ∷ xs) ys = ap (λ r. x ∷ r) (taken xs ys)
-
-payload_reads : (bs : List ℕ) (at next : ℕ) (p ys : List ℕ) → Stands bs next (p ++ ys) → Reads bs (payload bs at (length p) next) (Rec p) ys
-payload_reads bs at next p ys s = check_reads bs (nat_le (next + length p) (length bs)) at _ (Rec p) ys (let h = room_for bs next (length p) p ys refl s in grind (arith, nat_tests))
-    (record { next = next + length p; is = ap (λ x. Got (Rec x) (next + length p)) (ap (take (length p)) s.there ∙ taken p ys); behind = stands_next bs next (length p) p ys refl s })
-
-tagged_reads : (bs : List ℕ) (at : ℕ) (w : What) (ys : List ℕ) → IsShort w → Stands bs at (after_tag w ++ ys) → Reads bs (tagged bs at (tag_of w)) w ys
-tagged_reads bs at (Rec p) ys h s = follow_reads bs (field 2 bs at) (payload bs at) (length p) (Rec p) (p ++ ys) ys
-    (field_reads 1 (length p) bs at (p ++ ys) (omega arith) (stands_as bs at _ _ (append_assoc (big_bytes 2 (length p)) p ys) s)) (λ next t. payload_reads bs at next p ys t)
-tagged_reads bs at Hole ys h s = got_reads bs Hole at ys s
-tagged_reads bs at Bridge ys h s = got_reads bs Bridge at ys s
-
-number_fits : (n : ℕ) → IsEpoch (epoch_of n) → n < 256 ^ 8
-number_fits n h = let a = h.1 in omega arith
-
-number_passes : (n least most : ℕ) → IsEpoch (epoch_of n) → 1 ≤ esn_of n → least ≤ n → n ≤ most → (is_number n && within least most n) ≡ true
-number_passes n least most h e l m = let a = h.0 in let b = h.1 in grind (arith, nat_tests)
-
-ballot_passes : (n b : ℕ) → n ≤ b → b ≤ greatest_epoch → within n greatest_epoch b ≡ true
-ballot_passes n b h l = grind (arith, nat_tests)
-
-tag_passes : (n : ℕ) (w : What) → esn_of n ≤ last_place w → is_tag n (tag_of w) ≡ true
-tag_passes n (Rec p) h = grind (arith, nat_tests)
-tag_passes n Hole h = grind (arith, nat_tests)
-tag_passes n Bridge h = grind (arith, nat_tests)
-
-top_passes : (n top : ℕ) (w : What) → esn_of n ≤ last_place w → tag_of w ≤ top → (is_tag n (tag_of w) && nat_le (tag_of w) top) ≡ true
-top_passes n top w h l = let e = tag_passes n w h in grind (arith, nat_tests)
-
-tag_fits : (w : What) → tag_of w < 256 ^ 1
-tag_fits (Rec p) = omega arith
-tag_fits Hole = omega arith
-tag_fits Bridge = omega arith
-
-entry_is : (e : Entry) (ys : List ℕ) → entry_bytes e ++ ys ≡ big_bytes 8 e.number ++ (big_bytes 4 e.ballot ++ (big_bytes 1 (tag_of e.what) ++ (after_tag e.what ++ ys)))
-entry_is e ys = append_assoc (big_bytes 8 e.number) (big_bytes 4 e.ballot ++ what_bytes e.what) ys
-    ∙ ap (λ r. big_bytes 8 e.number ++ r) (append_assoc (big_bytes 4 e.ballot) (what_bytes e.what) ys ∙ ap (λ r. big_bytes 4 e.ballot ++ r) (what_is e.what ys))
-
-pub entry_reads : (bs : List ℕ) (top most least at : ℕ) (e : Entry) (ys : List ℕ) → IsEntry e → tag_of e.what ≤ top → least ≤ e.number → e.number ≤ most → Stands bs at (entry_bytes e ++ ys) → Reads bs (read_entry bs top most least at) e ys
-unfolding read_entry
-entry_reads bs top most least at e ys i o l m s = follow_reads bs (field 8 bs at) _ e.number e _ ys (field_reads 7 e.number bs at _ (number_fits e.number i.epoch) (stands_as bs at _ _ (entry_is e ys) s)) (λ at_ballot t.
-    check_reads bs _ at _ e ys (number_passes e.number least most i.epoch i.from_one l m)
-    (follow_reads bs (field 4 bs at_ballot) _ e.ballot e _ ys (field_reads 3 e.ballot bs at_ballot _ (let b = i.ballot_most in omega arith) t) (λ at_tag u.
-    check_reads bs _ at_ballot _ e ys (ballot_passes (epoch_of e.number) e.ballot i.ballot i.ballot_most)
-    (follow_reads bs (field 1 bs at_tag) _ (tag_of e.what) e _ ys (field_reads 0 (tag_of e.what) bs at_tag _ (tag_fits e.what) u) (λ at_what v.
-    check_reads bs _ at_tag _ e ys (top_passes e.number top e.what i.place o)
-    (follow_reads bs (tagged bs at_what (tag_of e.what)) _ e.what e _ ys (tagged_reads bs at_what e.what ys i.short v) (λ next z. got_reads bs e next ys z)))))))
-
--- no tag is above the top
-abbrev pub TagsTo : ℕ → List Entry → Type 0
-TagsTo top [] = Unit {0}
-TagsTo top (e ∷ es) = (tag_of e.what ≤ top) × TagsTo top es
-
-tag_two : (w : What) → tag_of w ≤ 2
-tag_two (Rec p) = omega arith
-tag_two Hole = omega arith
-tag_two Bridge = omega arith
-
-pub any_tags : (es : List Entry) → TagsTo 2 es
-any_tags [] = tt
-any_tags (e ∷ es) = (tag_two e.what, any_tags es)
+-- ---- pages ----
 
 tag_one : (w : What) → IsReadable w → tag_of w ≤ 1
 tag_one (Rec p) h = omega arith
@@ -243,12 +106,6 @@ tag_one Bridge h = absurd h
 pub readable_tags : (es : List Entry) → AreReadable es → TagsTo 1 es
 readable_tags [] h = tt
 readable_tags (e ∷ es) h = (tag_one e.what h.0, readable_tags es h.1)
-
-pub entries_reads : (bs : List ℕ) (top most : ℕ) (es : List Entry) (least at : ℕ) (ys : List ℕ) → AreEntries es → TagsTo top es → RiseWithin least most es → Stands bs at (entries_bytes es ++ ys) → Reads bs (read_entries bs top most (length es) least at) es ys
-unfolding read_entries
-entries_reads bs top most [] least at ys a o r s = got_reads bs [] at ys s
-entries_reads bs top most (e ∷ es) least at ys a o r s = follow_reads bs (read_entry bs top most least at) _ e (e ∷ es) _ ys (entry_reads bs top most least at e (entries_bytes es ++ ys) a.0 o.0 r.0 r.1 (stands_as bs at _ _ (append_assoc (entry_bytes e) (entries_bytes es) ys) s)) (λ next t.
-    follow_reads bs (read_entries bs top most (length es) (e.number + 1) next) _ es (e ∷ es) _ ys (entries_reads bs top most es (e.number + 1) next ys a.1 o.1 r.2 t) (λ last u. got_reads bs (e ∷ es) last ys u))
 
 page_reads : (bs : List ℕ) (top from upto at : ℕ) (es : List Entry) → IsPage from upto es → TagsTo top es → Stands bs at (page_bytes es) → Reads bs (read_page bs top from upto at) es []
 unfolding read_page
@@ -265,20 +122,6 @@ upto_reads : (bs : List ℕ) (from upto at : ℕ) (es : List Entry) (ys : List �
 unfolding read_upto
 upto_reads bs from upto at es ys i s = follow_reads bs (field 8 bs at) _ upto upto _ ys (field_reads 7 upto bs at _ (let f = i.bound in omega arith) s) (λ next t.
     check_reads bs _ at _ upto ys (upto_passes from upto i.range i.home) (got_reads bs upto next ys t))
-
--- ---- summaries ----
-
-summary_reads : (bs : List ℕ) (epoch at : ℕ) (y : Summary) → IsSummary epoch y → Stands bs at (summary_bytes y) → Reads bs (read_summary bs epoch at) y []
-unfolding read_summary
-summary_reads bs epoch at y i s = follow_reads bs (field 4 bs at) _ y.ballot y _ [] (field_reads 3 y.ballot bs at _ (let b = i.ballot_most in omega arith) s) (λ at_lng t.
-    check_reads bs _ at _ y [] (ballot_passes (epoch + 1) y.ballot (let b = i.ballot in omega arith) i.ballot_most)
-    (follow_reads bs (field 4 bs at_lng) _ y.lng y _ [] (field_reads 3 y.lng bs at_lng _ (let b = i.lng in omega arith) t) (λ at_trim u.
-    follow_reads bs (field 8 bs at_trim) _ y.trim y _ [] (field_reads 7 y.trim bs at_trim _ (let b = i.trim in omega arith) u) (λ at_end v.
-    follow_reads bs (field 4 bs at_end) _ y.end y [] [] (field_reads 3 y.end bs at_end [] (let b = i.end_most in omega arith) (nothing bs at_end _ v)) (λ next z.
-    check_reads bs _ at_end _ y [] (let b = i.end in grind (arith, nat_tests)) (got_reads bs y next [] z))))))
-
-log_reads : (bs : List ℕ) (at l : ℕ) (ys : List ℕ) → IsLog l → Stands bs at (big_bytes 4 l ++ ys) → Reads bs (read_log bs at) l ys
-log_reads bs at l ys i s = follow_reads bs (field 4 bs at) _ l l ys ys (field_reads 3 l bs at ys (let b = i.1 in omega arith) s) (λ next t. check_reads bs _ at _ l ys (let a = i.0 in let b = i.1 in grind (arith, nat_tests)) (got_reads bs l next ys t))
 
 -- ---- the fields of each kind ----
 
@@ -297,15 +140,16 @@ store_passes : (ballot n tag : ℕ) → is_tag n tag ≡ true → (epoch_of n �
 store_passes ballot n tag h f true e = let k : epoch_of n ≡ ballot = grind (arith, nat_tests) in let z = f k in let y : (tag == 0) ≡ true = grind (arith, nat_tests) in ap (λ x. x && (not (epoch_of n == ballot) || (tag == 0))) h ∙ (ap (λ x. not x || (tag == 0)) e ∙ y)
 store_passes ballot n tag h f false e = ap (λ x. x && (not (epoch_of n == ballot) || (tag == 0))) h ∙ ap (λ x. not x || (tag == 0)) e
 
-store_reads : (bs : List ℕ) (ballot n lng at : ℕ) (w : What) → Is32 lng → IsEntry (record { number = n; ballot = ballot; what = w }) → (epoch_of n ≡ ballot → IsRecord w) → Stands bs at (big_bytes 8 n ++ (big_bytes 4 lng ++ what_bytes w)) → Reads bs (read_store ballot bs at) (bodies.Store n lng w) []
+store_reads : (bs : List ℕ) (ballot n lng at : ℕ) (w : What) → IsLng lng → IsEntry (record { number = n; ballot = ballot; what = w }) → (epoch_of n ≡ ballot → IsRecord w) → Stands bs at (big_bytes 8 n ++ (big_bytes 4 lng ++ what_bytes w)) → Reads bs (read_store ballot bs at) (bodies.Store n lng w) []
 unfolding read_store
 store_reads bs ballot n lng at w l i o s =
     follow_reads bs (field 8 bs at) _ n _ _ [] (field_reads 7 n bs at _ (number_fits n i.epoch) s) (λ at_lng t.
     check_reads bs _ at _ _ [] (let a = i.epoch.0 in let b = i.epoch.1 in let c = i.from_one in let d = i.ballot in grind (arith, nat_tests))
     (follow_reads bs (field 4 bs at_lng) _ lng _ _ [] (field_reads 3 lng bs at_lng _ (omega arith) t) (λ at_tag u.
-    follow_reads bs (field 1 bs at_tag) _ (tag_of w) _ _ [] (field_reads 0 (tag_of w) bs at_tag _ (tag_fits w) (stands_as bs at_tag _ _ (sym (append-nil (what_bytes w)) ∙ what_is w []) u)) (λ at_what v.
+    check_reads bs _ at_lng _ _ [] (lng_passes lng l)
+    (follow_reads bs (field 1 bs at_tag) _ (tag_of w) _ _ [] (field_reads 0 (tag_of w) bs at_tag _ (tag_fits w) (stands_as bs at_tag _ _ (sym (append-nil (what_bytes w)) ∙ what_is w []) u)) (λ at_what v.
     check_reads bs _ at_tag _ _ [] (store_passes ballot n (tag_of w) (tag_passes n w i.place) (λ e. record_tag w (o e)) (epoch_of n == ballot) refl)
-    (follow_reads bs (tagged bs at_what (tag_of w)) _ w _ _ [] (tagged_reads bs at_what w [] i.short v) (λ next z. got_reads bs _ next [] z))))))
+    (follow_reads bs (tagged bs at_what (tag_of w)) _ w _ _ [] (tagged_reads bs at_what w [] i.short v) (λ next z. got_reads bs _ next [] z)))))))
 
 answers_pass : (to : Who) (round : ℕ) → AnswersIn to round → answers_in to round ≡ true
 answers_pass (whos.Node n) round h = refl
@@ -332,14 +176,15 @@ digest_ask_reads bs ballot n at m a b c s =
     follow_reads bs (field 8 bs at) _ n _ [] [] (field_reads 7 n bs at [] (omega arith) (nothing bs at _ s)) (λ next t.
     check_reads bs _ at _ _ [] (grind (arith, nat_tests)) (got_reads bs _ next [] t))
 
-digest_page_reads : (bs : List ℕ) (n upto t lng at : ℕ) (es : List Entry) → IsPage n upto es → Is64 t → Is32 lng → Stands bs at (big_bytes 8 n ++ (big_bytes 8 upto ++ (big_bytes 8 t ++ (big_bytes 4 lng ++ page_bytes es)))) → Reads bs (read_digest_page bs at) (bodies.DigestPage n upto t lng es) []
+digest_page_reads : (bs : List ℕ) (n upto t lng at : ℕ) (es : List Entry) → IsPage n upto es → Is64 t → IsLng lng → Stands bs at (big_bytes 8 n ++ (big_bytes 8 upto ++ (big_bytes 8 t ++ (big_bytes 4 lng ++ page_bytes es)))) → Reads bs (read_digest_page bs at) (bodies.DigestPage n upto t lng es) []
 unfolding read_digest_page
 digest_page_reads bs n upto t lng at es i j k s =
     follow_reads bs (field 8 bs at) _ n _ _ [] (field_reads 7 n bs at _ (let a = i.range in let b = i.bound in omega arith) s) (λ at_upto u.
     follow_reads bs (read_upto bs n at_upto) _ upto _ _ [] (upto_reads bs n upto at_upto es _ i u) (λ at_trim v.
     follow_reads bs (field 8 bs at_trim) _ t _ _ [] (field_reads 7 t bs at_trim _ (omega arith) v) (λ at_lng w.
     follow_reads bs (field 4 bs at_lng) _ lng _ _ [] (field_reads 3 lng bs at_lng _ (omega arith) w) (λ at_page x.
-    follow_reads bs (read_page bs 2 n upto at_page) _ es _ [] [] (page_reads bs 2 n upto at_page es i (any_tags es) x) (λ next y. got_reads bs _ next [] y)))))
+    check_reads bs _ at_lng _ _ [] (lng_passes lng k)
+    (follow_reads bs (read_page bs 2 n upto at_page) _ es _ [] [] (page_reads bs 2 n upto at_page es i (any_tags es) x) (λ next y. got_reads bs _ next [] y))))))
 
 asked_reads : (bs : List ℕ) (round n at : ℕ) (ys : List ℕ) → Is32 round → 1 ≤ n → Is64 n → Stands bs at (big_bytes 4 round ++ (big_bytes 8 n ++ ys)) → Reads bs (read_asked bs at) (round, n) ys
 unfolding read_asked
@@ -387,7 +232,7 @@ sealed_reads bs n k at i j s = follow_reads bs (field 8 bs at) _ n _ _ [] (field
 clean_here_reads : (bs : List ℕ) (n at : ℕ) (y : Summary) → Is64 n → IsSummary (epoch_of n) y → Stands bs at (big_bytes 8 n ++ summary_bytes y) → Reads bs (read_clean_here bs at) (bodies.CleanHere n y) []
 unfolding read_clean_here
 clean_here_reads bs n at y i j s = follow_reads bs (field 8 bs at) _ n _ _ [] (field_reads 7 n bs at _ (omega arith) s) (λ a t.
-    follow_reads bs (read_summary bs (epoch_of n) a) _ y _ [] [] (summary_reads bs (epoch_of n) a y j t) (λ next u. got_reads bs _ next [] u))
+    follow_reads bs (read_summary bs (epoch_of n) a) _ y _ [] [] (summary_reads bs (epoch_of n) a y [] j (nothing bs a _ t)) (λ next u. got_reads bs _ next [] u))
 
 trimmed_reads : (bs : List ℕ) (n t at : ℕ) → Is64 n → Is64 t → Stands bs at (big_bytes 8 n ++ big_bytes 8 t) → Reads bs (read_trimmed bs at) (bodies.TrimmedHere n t) []
 unfolding read_trimmed
@@ -397,7 +242,7 @@ clean_reads : (bs : List ℕ) (e at : ℕ) (y : Summary) → IsEpoch e → IsSum
 unfolding read_clean
 clean_reads bs e at y i j s = follow_reads bs (field 4 bs at) _ e _ _ [] (field_reads 3 e bs at _ (let b = i.1 in omega arith) s) (λ a t.
     check_reads bs _ at _ _ [] (let b = i.0 in let c = i.1 in grind (arith, nat_tests))
-    (follow_reads bs (read_summary bs e a) _ y _ [] [] (summary_reads bs e a y j t) (λ next u. got_reads bs _ next [] u)))
+    (follow_reads bs (read_summary bs e a) _ y _ [] [] (summary_reads bs e a y [] j (nothing bs a _ t)) (λ next u. got_reads bs _ next [] u)))
 
 read_ask_reads : (bs : List ℕ) (from : Who) (round n at : ℕ) → Is32 round → AsksIn from round → 1 ≤ n → Is64 n → Stands bs at (big_bytes 4 round ++ big_bytes 8 n) → Reads bs (read_read_ask from bs at) (bodies.ReadAsk round n) []
 unfolding read_read_ask
@@ -443,9 +288,6 @@ roles_fit from to (bodies.ReadPage round n upto c es) h = (h.0.0, h.0.1)
 roles_fit from to (bodies.ReadEnded round n end) h = (h.0.0, h.0.1)
 roles_fit from to (bodies.ReadTrim round n t) h = (h.0.0, h.0.1)
 roles_fit from to (bodies.ReadWait round n r) h = (h.0.0, h.0.1)
-
-at_end : (bs : List ℕ) (next : ℕ) → Stands bs next [] → next ≡ length bs
-at_end bs next s = let e = ap length s.there in let d = length-drop next bs in let w = s.within in omega arith
 
 after_kind : (m : Msg) → Stands (msg_bytes m) 1 (who_bytes m.from ++ (who_bytes m.to ++ (big_bytes 4 m.log ++ body_bytes m.body)))
 unfolding msg_bytes

@@ -2,15 +2,8 @@
 use Rattle.std.specs.Prelude.{◌≡◌, ℕ}
 use Rattle.ld_wire.specs.declared.fault.WireFault.{WireFault}
 use Rattle.ld_wire.specs.declared.fault.WireFault.TheVariants as faults
-use Rattle.ld_wire.specs.declared.field.FieldFault.{FieldFault}
-use Rattle.ld_wire.specs.declared.field.FieldFault.TheVariants.{Bad, NoMemory}
-use Rattle.ld_wire.specs.Fields.{Read, Off}
+use Rattle.ld_fields.specs.Fields.{Read, Off}
 use Rattle.ld_wire.specs.Judging.{Reading, Refused}
-
--- a fault names the place; want of memory is free
-abbrev pub IsOff : {X : Type 0} → Read X → FieldFault → Type 0
-IsOff r (Bad place) = r ≡ Off place
-IsOff r NoMemory = Unit {0}
 
 -- a fault is what the judging says; want of memory is free
 abbrev pub IsRefused : Reading → WireFault → Type 0

@@ -1,16 +1,14 @@
 -- Messages as frames: a length of four bytes, and so many bytes behind it.
-use Rattle.std.specs.Prelude.{ℕ, List, [], ◌∷◌, ◌++◌, length, Bool, true, false, ◌≤◌}
+use Rattle.std.specs.Prelude.{ℕ, List, ◌++◌, length, Bool, true, false, ◌≤◌}
 use Rattle.byteorder.specs.Endian.{big_bytes}
 use Rattle.ld_msg.specs.declared.msg.Who.{Who}
 use Rattle.ld_msg.specs.declared.msg.Who.TheVariants as whos
-use Rattle.ld_msg.specs.declared.msg.What.{What}
-use Rattle.ld_msg.specs.declared.msg.What.TheVariants.{Rec, Hole, Bridge}
 use Rattle.ld_msg.specs.declared.msg.Entry.{Entry}
-use Rattle.ld_msg.specs.declared.msg.Summary.{Summary}
 use Rattle.ld_msg.specs.declared.msg.Msg.{Msg}
 use Rattle.ld_msg.specs.declared.msg.Body.{Body}
 use Rattle.ld_msg.specs.declared.msg.Body.TheVariants as bodies
 use Rattle.ld_msg.specs.Bounds.{IsShort, AreEntries}
+use Rattle.ld_fields.specs.Items.{what_bytes, entries_bytes, summary_bytes}
 
 -- an actor is a tag and its number
 abbrev pub who_bytes : Who → List ℕ
@@ -18,24 +16,8 @@ who_bytes (whos.Node n) = big_bytes 1 0 ++ big_bytes 4 n
 who_bytes (whos.Sequencer e) = big_bytes 1 1 ++ big_bytes 4 e
 who_bytes (whos.Reader r) = big_bytes 1 2 ++ big_bytes 4 r
 
--- a tag, and for a record a length of two bytes and the payload
-abbrev pub what_bytes : What → List ℕ
-what_bytes (Rec p) = big_bytes 1 0 ++ (big_bytes 2 (length p) ++ p)
-what_bytes Hole = big_bytes 1 1
-what_bytes Bridge = big_bytes 1 2
-
-abbrev pub entry_bytes : Entry → List ℕ
-entry_bytes e = big_bytes 8 e.number ++ (big_bytes 4 e.ballot ++ what_bytes e.what)
-
-abbrev pub entries_bytes : List Entry → List ℕ
-entries_bytes [] = []
-entries_bytes (e ∷ es) = entry_bytes e ++ entries_bytes es
-
 abbrev pub page_bytes : List Entry → List ℕ
 page_bytes es = big_bytes 2 (length es) ++ entries_bytes es
-
-abbrev pub summary_bytes : Summary → List ℕ
-summary_bytes y = big_bytes 4 y.ballot ++ (big_bytes 4 y.lng ++ (big_bytes 8 y.trim ++ big_bytes 4 y.end))
 
 abbrev pub flag : Bool → ℕ
 flag true = 1

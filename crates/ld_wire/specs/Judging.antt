@@ -1,13 +1,10 @@
 -- How bytes are judged: the message that they begin with, or what is wrong with them.
-use Rattle.std.specs.Prelude.{ℕ, ◌+◌, ◌-◌, ◌^◌, List, [], ◌∷◌, length, take, drop, Bool, true, ◌&&◌, ◌||◌, not, ◌==◌, nat_lt, nat_le, if◌then◌else◌, zero, suc, get_or}
+use Rattle.std.specs.Prelude.{ℕ, List, length, take, drop, Bool, true, ◌&&◌, ◌||◌, not, ◌==◌, nat_lt, nat_le, if◌then◌else◌, get_or}
 use Rattle.byteorder.specs.Endian.{big_number}
-use Rattle.ld_lsn.specs.Number.{epoch_of, esn_of, last_esn, home_epoch}
+use Rattle.ld_lsn.specs.Number.{epoch_of, esn_of, home_epoch}
 use Rattle.ld_msg.specs.declared.msg.Who.{Who}
 use Rattle.ld_msg.specs.declared.msg.Who.TheVariants as whos
-use Rattle.ld_msg.specs.declared.msg.What.{What}
-use Rattle.ld_msg.specs.declared.msg.What.TheVariants.{Rec, Hole, Bridge}
 use Rattle.ld_msg.specs.declared.msg.Entry.{Entry}
-use Rattle.ld_msg.specs.declared.msg.Summary.{Summary}
 use Rattle.ld_msg.specs.declared.msg.Msg.{Msg}
 use Rattle.ld_msg.specs.declared.msg.Body.{Body}
 use Rattle.ld_msg.specs.declared.msg.Body.TheVariants as bodies
@@ -15,14 +12,9 @@ use Rattle.ld_msg.specs.Bounds.{ballot_of, last_reader}
 use Rattle.ld_wire.specs.declared.role.Role.{Role}
 use Rattle.ld_wire.specs.declared.fault.WireFault.{WireFault}
 use Rattle.ld_wire.specs.declared.fault.WireFault.TheVariants as faults
-use Rattle.ld_wire.specs.Fields.{Read, Got, Off, follow, check, field, end_at}
+use Rattle.ld_fields.specs.Fields.{Read, Got, Off, follow, check, field, within, end_at}
+use Rattle.ld_fields.specs.Items.{greatest_epoch, greatest_lng, is_number, is_tag, tagged, read_entries, read_summary, read_log}
 use Rattle.ld_wire.specs.Roles.{may_be, sender, receiver}
-
-abbrev pub within : ℕ → ℕ → ℕ → Bool
-within least most n = nat_le least n && nat_le n most
-
-abbrev pub greatest_epoch : ℕ
-greatest_epoch = 2 ^ 32 - 2
 
 -- ---- actors ----
 
@@ -43,37 +35,7 @@ read_who role bs at =
     follow (field 1 bs at) (λ tag at_number. check (may_be role tag) at (
     follow (field 4 bs at_number) (λ n next. check (is_actor tag n) at_number (Got (actor tag n) next))))
 
--- ---- entries ----
-
--- the last place of an epoch is a bridge's alone, which the tag tells
-abbrev pub is_number : ℕ → Bool
-is_number n = within 1 greatest_epoch (epoch_of n) && nat_le 1 (esn_of n)
-
-abbrev pub is_tag : ℕ → ℕ → Bool
-is_tag n tag = nat_le tag 2 && (nat_lt (esn_of n) last_esn || (tag == 2))
-
--- a payload that is longer than what is left is charged to its length
-abbrev pub payload : List ℕ → ℕ → ℕ → ℕ → Read What
-payload bs at n next = check (nat_le (next + n) (length bs)) at (Got (Rec (take n (drop next bs))) (next + n))
-
-abbrev pub tagged : List ℕ → ℕ → ℕ → Read What
-tagged bs at zero = follow (field 2 bs at) (payload bs at)
-tagged bs at (suc zero) = Got Hole at
-tagged bs at (suc (suc n)) = Got Bridge at
-
--- an entry whose number lies between two others, and whose tag is at most the top
-unfoldable pub read_entry : List ℕ → ℕ → ℕ → ℕ → ℕ → Read Entry
-read_entry bs top most least at =
-    follow (field 8 bs at) (λ number at_ballot. check (is_number number && within least most number) at (
-    follow (field 4 bs at_ballot) (λ ballot at_tag. check (within (epoch_of number) greatest_epoch ballot) at_ballot (
-    follow (field 1 bs at_tag) (λ tag at_what. check (is_tag number tag && nat_le tag top) at_tag (
-    follow (tagged bs at_what tag) (λ what next. Got (record { number = number; ballot = ballot; what = what }) next)))))))
-
--- so many entries, their numbers rising
-unfoldable pub read_entries : List ℕ → ℕ → ℕ → ℕ → ℕ → ℕ → Read (List Entry)
-read_entries bs top most zero least at = Got [] at
-read_entries bs top most (suc k) least at =
-    follow (read_entry bs top most least at) (λ e next. follow (read_entries bs top most k (e.number + 1) next) (λ es last. Got (e ∷ es) last))
+-- ---- pages ----
 
 -- how many entries, and the entries
 unfoldable pub read_page : List ℕ → ℕ → ℕ → ℕ → ℕ → Read (List Entry)
@@ -82,14 +44,6 @@ read_page bs top from upto at = follow (field 2 bs at) (λ count next. check (na
 -- the last number of a page
 unfoldable pub read_upto : List ℕ → ℕ → ℕ → Read ℕ
 read_upto bs from at = follow (field 8 bs at) (λ upto next. check (nat_le from upto && (home_epoch from == home_epoch upto)) at (Got upto next))
-
--- the summary of an epoch
-unfoldable pub read_summary : List ℕ → ℕ → ℕ → Read Summary
-read_summary bs epoch at =
-    follow (field 4 bs at) (λ ballot at_lng. check (within (epoch + 1) greatest_epoch ballot) at (
-    follow (field 4 bs at_lng) (λ lng at_trim.
-    follow (field 8 bs at_trim) (λ trim at_end.
-    follow (field 4 bs at_end) (λ end next. check (nat_le 1 end) at_end (Got (record { ballot = ballot; lng = lng; trim = trim; end = end }) next))))))
 
 -- ---- the fields of each kind ----
 
@@ -112,9 +66,9 @@ may_store ballot n tag = is_tag n tag && (not (epoch_of n == ballot) || (tag == 
 unfoldable pub read_store : ℕ → List ℕ → ℕ → Read Body
 read_store ballot bs at =
     follow (field 8 bs at) (λ n at_lng. check (is_number n && nat_le (epoch_of n) ballot) at (
-    follow (field 4 bs at_lng) (λ lng at_tag.
+    follow (field 4 bs at_lng) (λ lng at_tag. check (nat_le lng greatest_lng) at_lng (
     follow (field 1 bs at_tag) (λ tag at_what. check (may_store ballot n tag) at_tag (
-    follow (tagged bs at_what tag) (λ what next. Got (bodies.Store n lng what) next))))))
+    follow (tagged bs at_what tag) (λ what next. Got (bodies.Store n lng what) next)))))))
 
 unfoldable pub read_sealed : List ℕ → ℕ → Read Body
 read_sealed bs at = follow (field 8 bs at) (λ n a. follow (field 4 bs a) (λ k next. Got (bodies.SealedHere n k) next))
@@ -140,8 +94,8 @@ read_digest_page bs at =
     follow (field 8 bs at) (λ n at_upto.
     follow (read_upto bs n at_upto) (λ upto at_trim.
     follow (field 8 bs at_trim) (λ t at_lng.
-    follow (field 4 bs at_lng) (λ lng at_page.
-    follow (read_page bs 2 n upto at_page) (λ es next. Got (bodies.DigestPage n upto t lng es) next)))))
+    follow (field 4 bs at_lng) (λ lng at_page. check (nat_le lng greatest_lng) at_lng (
+    follow (read_page bs 2 n upto at_page) (λ es next. Got (bodies.DigestPage n upto t lng es) next))))))
 
 unfoldable pub read_clean : List ℕ → ℕ → Read Body
 read_clean bs at = follow (field 4 bs at) (λ e a. check (within 1 greatest_epoch e) at (follow (read_summary bs e a) (λ y next. Got (bodies.Clean e y) next)))
@@ -200,9 +154,6 @@ read_body kind from to bs at =
     else read_answer kind bs at
 
 -- ---- frames ----
-
-abbrev pub read_log : List ℕ → ℕ → Read ℕ
-read_log bs at = follow (field 4 bs at) (λ log next. check (within 1 65535 log) at (Got log next))
 
 -- the message of a kind that the bytes behind a length are, or the first byte of the first field that is cut off or
 -- out of its range, or else the first that is too many

@@ -1,16 +1,13 @@
 // Actors.
 ghost use Rattle.std.specs.Prelude.{◌≡◌, ◌≤◌, true, false, length, IfOk, IfErr};
-ghost use Rattle.ld_wire.specs.Fields.{Got};
-ghost use Rattle.ld_wire.specs.Faults.{IsOff};
-ghost use Rattle.ld_wire.specs.Judging.{is_actor, actor, read_who, greatest_epoch};
+ghost use Rattle.ld_fields.specs.Fields.{Got};
+ghost use Rattle.ld_fields.specs.Faults.{IsOff};
+ghost use Rattle.ld_wire.specs.Judging.{is_actor, actor, read_who};
 
-use crate::field::{FieldFault, check, read_u8, read_u32};
 use crate::role::Role;
+use ld_fields::{FieldFault, GREATEST_EPOCH, check, read_u8, read_u32};
 use ld_ids::NodeId;
 use ld_msg::Who;
-
-/// The greatest epoch of a sequencer.
-pub(crate) const GREATEST_EPOCH: u32 = u32::MAX - 1;
 
 /// The greatest place of a reader in the order of opening.
 const LAST_READER: u32 = 999;

@@ -1,14 +1,14 @@
 // The fields of each kind of message.
 ghost use Rattle.std.specs.Prelude.{◌≡◌, ◌≤◌, length, IfOk, IfErr};
-ghost use Rattle.ld_msg.specs.Bounds.{ballot_of};
-ghost use Rattle.ld_wire.specs.Fields.{Got, field};
-ghost use Rattle.ld_wire.specs.Faults.{IsOff};
+ghost use Rattle.ld_fields.specs.Fields.{Got};
+ghost use Rattle.ld_fields.specs.Faults.{IsOff};
 ghost use Rattle.ld_wire.specs.Judging.{asks_in, answers_in, may_store, answer, read_store, read_sealed, read_lost, read_clean_here, read_trimmed, read_digest_ask, read_digest_page, read_clean, read_read_ask, read_asked, read_read_page, read_answer, read_stored, read_told, read_body};
 
-use crate::actor::GREATEST_EPOCH;
-use crate::field::{FieldFault, check, read_u8, read_u32, read_u64};
-use crate::item::{is_number, is_tag, read_summary, read_what};
 use crate::page::{read_page, read_upto};
+use ld_fields::{
+    FieldFault, GREATEST_EPOCH, GREATEST_LNG, check, is_number, is_tag, read_number, read_summary,
+    read_u8, read_u32, read_what,
+};
 use ld_lsn::Lsn;
 use ld_msg::{Body, Who};
 use std::alloc::Global;
@@ -106,16 +106,6 @@ fn read_told(
     Ok((Body::Trim { trim }, next))
 }
 
-fn read_number(bytes: &[u8], at: usize) -> Result<(Lsn, usize), FieldFault>
-    requires { at ≤ length bytes.now }
-    ensures ok { IfOk result (λ p. field 8 bytes.now at ≡ Got p.0 p.1) }
-    ensures next { IfOk result (λ p. p.1 ≤ length bytes.now) }
-    ensures off { IfErr result (IsOff (field 8 bytes.now at)) }
-{
-    let (number, next) = read_u64(bytes, at)?;
-    Ok((Lsn::from_u64(number), next))
-}
-
 #[tactic(auto, unfolding(crate::specs::Judging::read_store))]
 fn read_store(
     alloc: Global,
@@ -131,6 +121,7 @@ fn read_store(
     let (number, at_lng) = read_number(bytes, at)?;
     check(is_number(number) && number.epoch() <= ballot, at)?;
     let (lng, at_tag) = read_u32(bytes, at_lng)?;
+    check(lng <= GREATEST_LNG, at_lng)?;
     let (tag, at_what) = read_u8(bytes, at_tag)?;
     check(may_store(ballot, number, tag), at_tag)?;
     let (what, next) = read_what(alloc, bytes, at_what, tag)?;
@@ -239,6 +230,7 @@ fn read_digest_page(alloc: Global, bytes: &[u8], at: usize) -> Result<(Body, usi
     let (upto, at_trim) = read_upto(bytes, from, at_upto)?;
     let (trim, at_lng) = read_number(bytes, at_trim)?;
     let (lng, at_page) = read_u32(bytes, at_lng)?;
+    check(lng <= GREATEST_LNG, at_lng)?;
     let (entries, next) = read_page(alloc, bytes, 2, from, upto, at_page)?;
     Ok((
         Body::DigestPage {

@@ -1,19 +1,19 @@
 // Frames at the front of bytes.
-ghost use Rattle.std.specs.Prelude.{◌≡◌, ◌≤◌, ◌<◌, ◌+◌, ◌^◌, ◌++◌, ℕ, length, take, drop, IfOk, IfErr, IfSome, IfNone};
+ghost use Rattle.std.specs.Prelude.{◌≡◌, ◌≤◌, ◌<◌, ◌+◌, ◌^◌, ◌++◌, ℕ, length, drop, IfOk, IfErr, IfSome, IfNone};
 ghost use Rattle.ld_ids.specs.Bytes.{AreBytes};
 ghost use Rattle.ld_msg.specs.Bounds.{IsMessage};
-ghost use Rattle.ld_wire.specs.Fields.{Got};
+ghost use Rattle.ld_fields.specs.Fields.{Got};
 ghost use Rattle.ld_wire.specs.Frames.{frame_of};
-ghost use Rattle.ld_wire.specs.Faults.{IsRefused, IsOffIn, IsOff};
+ghost use Rattle.ld_fields.specs.Faults.{IsOff};
+ghost use Rattle.ld_wire.specs.Faults.{IsRefused, IsOffIn};
 ghost use Rattle.ld_wire.specs.Judging.{Complete, Waits, judge, behind, read_msg};
 
 use crate::WireFault;
 use crate::actor::read_who;
-use crate::field::{FieldFault, check};
 use crate::fields::read_body;
-use crate::item::read_log;
 use crate::role::{receiver, sender};
 use byteorder::{BigEndian, ByteOrder};
+use ld_fields::{FieldFault, check, read_log};
 use ld_msg::Msg;
 use std::alloc::Global;
 

@@ -4,11 +4,9 @@
 mod actor;
 mod decoder;
 mod fault;
-mod field;
 mod fields;
 mod frame;
 mod head;
-mod item;
 mod laws;
 mod page;
 mod role;

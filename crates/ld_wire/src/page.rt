@@ -1,12 +1,11 @@
 // Pages.
-ghost use Rattle.std.specs.Prelude.{◌≡◌, ◌≤◌, ◌+◌, true, length, IfOk, IfErr};
-ghost use Rattle.ld_wire.specs.Fields.{Got};
-ghost use Rattle.ld_wire.specs.Faults.{IsOff};
+ghost use Rattle.std.specs.Prelude.{◌≡◌, ◌≤◌, length, IfOk, IfErr};
+ghost use Rattle.ld_fields.specs.Fields.{Got};
+ghost use Rattle.ld_fields.specs.Faults.{IsOff};
 ghost use Rattle.ld_lsn.specs.Number.{home_epoch};
-ghost use Rattle.ld_wire.specs.Judging.{is_number, read_entries, read_page, read_upto};
+ghost use Rattle.ld_wire.specs.Judging.{read_page, read_upto};
 
-use crate::field::{FieldFault, check, read_u16, read_u64};
-use crate::item::read_entry;
+use ld_fields::{FieldFault, check, read_entries, read_number, read_u16};
 use ld_lsn::Lsn;
 use ld_msg::Entries;
 use std::alloc::Global;
@@ -22,8 +21,7 @@ pub(crate) fn read_upto(bytes: &[u8], from: Lsn, at: usize) -> Result<(Lsn, usiz
     ensures next { IfOk result (λ p. p.1 ≤ length bytes.now) }
     ensures off { IfErr result (IsOff (read_upto bytes.now from at)) }
 {
-    let (upto, next) = read_u64(bytes, at)?;
-    let upto = Lsn::from_u64(upto);
+    let (upto, next) = read_number(bytes, at)?;
     check(
         from.value() <= upto.value() && home_epoch(from) == home_epoch(upto),
         at,
@@ -56,37 +54,4 @@ pub(crate) fn read_page(
     let (count, at_entries) = read_u16(bytes, at)?;
     check(count <= MOST_ENTRIES, at)?;
     read_entries(alloc, bytes, top, upto, count, from, at_entries)
-}
-
-fn read_entries(
-    alloc: Global,
-    bytes: &[u8],
-    top: u8,
-    upto: Lsn,
-    count: u16,
-    from: Lsn,
-    at: usize,
-) -> Result<(Entries, usize), FieldFault>
-    requires { at ≤ length bytes.now }
-    ensures ok { IfOk result (λ p. read_entries bytes.now top upto count from at ≡ Got p.0 p.1) }
-    ensures next { IfOk result (λ p. p.1 ≤ length bytes.now) }
-    ensures off { IfErr result (IsOff (read_entries bytes.now top upto count from at)) }
-{
-    let mut entries = Entries::empty(alloc);
-    let mut next = at;
-    let mut least: u64 = from.value();
-    'entries: for _ in 0..count {
-        let (entry, behind) = read_entry(alloc, bytes, top, upto, least, next)?;
-        least = after(entry.number);
-        next = behind;
-        entries.push(entry)?;
-    }
-    Ok((entries, next))
-}
-
-fn after(number: Lsn) -> u64
-    requires { is_number number ≡ true }
-    ensures { result ≡ number + 1 }
-{
-    number.value() + 1
 }

@@ -1,11 +1,12 @@
 // Writing messages as frames.
-ghost use Rattle.std.specs.Prelude.{◌≡◌, ◌≤◌, ◌<◌, ◌+◌, ◌^◌, ◌++◌, length, OnOk, IfOk};
+ghost use Rattle.std.specs.Prelude.{◌≡◌, ◌≤◌, ◌++◌, length, OnOk, IfOk};
 ghost use Rattle.byteorder.specs.Endian.{big_bytes};
-ghost use Rattle.ld_msg.specs.Bounds.{IsMessage, Fits, IsShort, AreEntries};
-ghost use Rattle.ld_wire.specs.Frames.{who_bytes, what_bytes, entry_bytes, entries_bytes, page_bytes, summary_bytes, kind_of, body_bytes, msg_bytes, frame_of, flag, CanCarry};
+ghost use Rattle.ld_msg.specs.Bounds.{IsMessage, IsShort, AreEntries};
+ghost use Rattle.ld_fields.specs.Items.{what_bytes, summary_bytes};
+ghost use Rattle.ld_wire.specs.Frames.{who_bytes, page_bytes, kind_of, body_bytes, msg_bytes, frame_of, flag, CanCarry};
 
 use crate::Frame;
-use byteorder::{BigEndian, ByteOrder};
+use ld_fields::{put_entries, put_number, put_summary, put_u8, put_u16, put_u32, put_what};
 use ld_ids::NoMemory;
 use ld_lsn::Lsn;
 use ld_msg::{Body, Entry, Msg, Summary, What, Who};
@@ -72,40 +73,6 @@ fn kind(body: &Body) -> u8
     }
 }
 
-fn put_u8(out: &mut Vec<u8>, number: u8) -> Result<(), NoMemory>
-    ensures { OnOk result (out.new.items ≡ out.old.items ++ big_bytes 1 number) }
-{
-    out.push(number)?;
-    Ok(())
-}
-
-fn put_u16(out: &mut Vec<u8>, number: u16) -> Result<(), NoMemory>
-    ensures { OnOk result (out.new.items ≡ out.old.items ++ big_bytes 2 number) }
-{
-    let mut bytes = [0; 2];
-    BigEndian::write_u16(&mut bytes, number);
-    out.extend_from_slice(&bytes)?;
-    Ok(())
-}
-
-fn put_u32(out: &mut Vec<u8>, number: u32) -> Result<(), NoMemory>
-    ensures { OnOk result (out.new.items ≡ out.old.items ++ big_bytes 4 number) }
-{
-    let mut bytes = [0; 4];
-    BigEndian::write_u32(&mut bytes, number);
-    out.extend_from_slice(&bytes)?;
-    Ok(())
-}
-
-fn put_number(out: &mut Vec<u8>, number: Lsn) -> Result<(), NoMemory>
-    ensures { OnOk result (out.new.items ≡ out.old.items ++ big_bytes 8 number) }
-{
-    let mut bytes = [0; 8];
-    BigEndian::write_u64(&mut bytes, number.value());
-    out.extend_from_slice(&bytes)?;
-    Ok(())
-}
-
 fn put_who(out: &mut Vec<u8>, who: &Who) -> Result<(), NoMemory>
     ensures { OnOk result (out.new.items ≡ out.old.items ++ who_bytes who.now) }
 {
@@ -125,15 +92,6 @@ fn put_who(out: &mut Vec<u8>, who: &Who) -> Result<(), NoMemory>
     }
 }
 
-fn put_summary(out: &mut Vec<u8>, summary: &Summary) -> Result<(), NoMemory>
-    ensures { OnOk result (out.new.items ≡ out.old.items ++ summary_bytes summary.now) }
-{
-    put_u32(out, summary.ballot)?;
-    put_u32(out, summary.lng)?;
-    put_number(out, summary.trim)?;
-    put_u32(out, summary.end)
-}
-
 fn put_page(out: &mut Vec<u8>, entries: &[Entry]) -> Result<(), NoMemory>
     requires few { length entries.now ≤ 64 }
     requires entries { AreEntries entries.now }
@@ -141,42 +99,6 @@ fn put_page(out: &mut Vec<u8>, entries: &[Entry]) -> Result<(), NoMemory>
 {
     put_u16(out, entries.len() as u16)?;
     put_entries(out, entries)
-}
-
-fn put_entries(out: &mut Vec<u8>, entries: &[Entry]) -> Result<(), NoMemory>
-    requires { AreEntries entries.now }
-    ensures { OnOk result (out.new.items ≡ out.old.items ++ entries_bytes entries.now) }
-{
-    for entry in entries {
-        put_entry(out, entry)?;
-    }
-    Ok(())
-}
-
-fn put_entry(out: &mut Vec<u8>, entry: &Entry) -> Result<(), NoMemory>
-    requires { IsShort entry.now.what }
-    ensures { OnOk result (out.new.items ≡ out.old.items ++ entry_bytes entry.now) }
-{
-    put_number(out, entry.number)?;
-    put_u32(out, entry.ballot)?;
-    put_what(out, &entry.what)
-}
-
-fn put_what(out: &mut Vec<u8>, what: &What) -> Result<(), NoMemory>
-    requires { IsShort what.now }
-    ensures { OnOk result (out.new.items ≡ out.old.items ++ what_bytes what.now) }
-{
-    match what {
-        What::Rec(payload) => {
-            let bytes = payload.bytes();
-            put_u8(out, 0)?;
-            put_u16(out, bytes.len() as u16)?;
-            out.extend_from_slice(bytes)?;
-            Ok(())
-        }
-        What::Hole => put_u8(out, 1),
-        What::Bridge => put_u8(out, 2),
-    }
 }
 
 /// The fields of a message.

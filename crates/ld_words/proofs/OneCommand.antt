@@ -1,11 +1,11 @@
 -- Words ask for at most one command.
-use Rattle.std.proofs.Common.{◌≡◌, ◌≤◌, ◌<◌, ◌^◌, ◌-◌, ◌∙◌, inr, List, None, Some, Ok, ℕ, Bool, refl, ap, ap₂, sym, subst, arith, codes, decimal}
+use Rattle.std.proofs.Common.{◌≡◌, ◌≤◌, ◌^◌, ◌-◌, ◌∙◌, List, None, Some, Ok, ℕ, Bool, refl, ap, ap₂, sym, subst, arith, codes, decimal}
 use Rattle.std.specs.Prelude.{Option, MatchOption, slice_index}
 use Rattle.std.proofs.lemmas.Fmt.{decimal_injective}
 use Rattle.clap.specs.Walk.{Row, Text}
 use Rattle.serde_json.specs.Read.{read}
-use Rattle.ld_lsn.specs.Number.{epoch_of, esn_of, pair_text, lsn_text}
-use Rattle.ld_lsn.proofs.Texts.{pair_parts, decimal_lacks}
+use Rattle.ld_lsn.specs.Number.{lsn_text}
+use Rattle.ld_lsn.proofs.Texts.{one_lsn as one_number_text}
 use Rattle.ld_config.specs.declared.config.Config.{Config}
 use Rattle.ld_config.specs.Config.{config_of_text}
 use Rattle.ld_words.specs.declared.command.NodeWords.{NodeWords}
@@ -60,15 +60,6 @@ one_node rows a b x y =
     (one_number _ rows 0 65535 a.port b.port (omega arith) x.port y.port)
     (one_number _ rows 1 1000000000 a.turns b.turns (omega arith) x.turns y.turns)
     (x.format ∙ sym y.format)
-
--- two numbers with one text are one
-one_number_text : (v w : ℕ) → v < 2 ^ 64 → w < 2 ^ 64 → lsn_text v ≡ lsn_text w → v ≡ w
-unfolding pair_text
-one_number_text v w a b e =
-    let parts = pair_parts (decimal (epoch_of v)) (decimal (esn_of v)) (epoch_of w) (esn_of w) (omega arith) (decimal_lacks 110 (epoch_of v) (inr (omega arith)) (omega arith)) e in
-    let high : epoch_of v ≡ epoch_of w = decimal_injective (epoch_of v) (epoch_of w) (omega arith) (omega arith) parts.0 in
-    let low : esn_of v ≡ esn_of w = decimal_injective (esn_of v) (esn_of w) (omega arith) (omega arith) parts.1 in
-    omega arith
 
 one_lsn : (name : Text) (rows : List Row) (v w : ℕ) → IsLsn name rows v → IsLsn name rows w → v ≡ w
 one_lsn name rows v w x y = one_number_text v w x.bits y.bits (one_text name rows (lsn_text v) (lsn_text w) x.text y.text)

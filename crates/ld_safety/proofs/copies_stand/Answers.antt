@@ -1,5 +1,8 @@
-use Rattle.ld_safety.proofs.CopiesStand as stand
+use Rattle.ld_safety.proofs.Entries as entries
 use Rattle.ld_safety.proofs.copies_stand.Goals as goal
 
-pub returns : goal.returns
-returns c = λ k es b. stand.copies_stand k es
+pub returns-clause-settled : goal.returns-clause-settled
+returns-clause-settled c = λ k es b. (entries.all_copies_stand k es b).closed_epochs
+
+pub returns-clause-known_good : goal.returns-clause-known_good
+returns-clause-known_good c = λ k es b. (entries.all_copies_stand k es b).known_good

@@ -1,33 +1,54 @@
-use Rattle.std.proofs.Common.{◌≡◌, ◌⊎◌, ◌-◌, rules, inl, inr, subst, ℕ, List, true, codes}
+use Rattle.std.proofs.Common.{◌≡◌, ◌∙◌, ◌⊎◌, rules, inl, inr, refl, ap, subst, ℕ, List, Option, true, codes}
 use Rattle.ld_rounds.specs.Drives.{IsBroken}
+use Rattle.ld_append.specs.Acting.{MayCrowd}
 use Rattle.ld_append.specs.Appends.{IsAppended, IsEndOfAppend}
-use Rattle.ld_cli.specs.Clients.{EndsDrive, Unsaid}
-use Rattle.ld_cli.proofs.Drives.{of_same, spec_so, nothing_done}
+use Rattle.ld_cli.specs.Clients.{EndsDrive}
+use Rattle.ld_ids.specs.declared.set.Spec.{Spec}
+use Rattle.ld_machine.specs.State.{State}
+use Rattle.ld_rounds.specs.Input.{Input}
+use Rattle.std.specs.Io.KnownBytes.{prepend_known}
+use Rattle.ld_cli.specs.Payloads.{input_after, payloads_in}
+use Rattle.ld_clients.proofs.Bounds.{first_fits}
+use Rattle.ld_clients.proofs.Logs.{spec_log}
+use Rattle.ld_cli.proofs.PayloadLines.{nothing_held}
+use Rattle.ld_cli.proofs.Drives.{of_same, spec_so, unset_so, nothing_done}
 use Rattle.ld_cli.proofs.clients.appended.Goals as goal
 
 pub returns-in_default : goal.returns-in_default
 returns-in_default g c = record {
-  appended = λ s far told begins. inr (nothing_done (codes "s") (IsBroken (g.N.Nodes.faults c.args.nodes.now) (g.N.Nodes.faults c.args.nodes.now) (g.N.Nodes.endings c.args.nodes.now) (g.N.Nodes.endings c.args.nodes.now)) (c.args.words.now.rounds - 1) c.args.words.now.config s (g.O.Sink.written c.args.out.now));
+  appended = λ s far told begins unset. inr (nothing_done (codes "s") c.args.words.now.log (IsBroken (g.N.Nodes.faults c.args.nodes.now) (g.N.Nodes.faults c.args.nodes.now) (g.N.Nodes.endings c.args.nodes.now) (g.N.Nodes.endings c.args.nodes.now)) (payloads_in (g.I.Source.left c.args.input.now)) c.args.words.now.rounds c.args.words.now.config s (g.O.Sink.written c.args.out.now));
   ends = inl tt;
 }
 
 pub returns-in_default-new : goal.returns-in_default-new
 returns-in_default-new g c = record {
-  appended = λ s far told begins. inr (nothing_done (codes "s") (IsBroken (g.N.Nodes.faults c.args.nodes.now) (g.N.Nodes.faults c.args.nodes.now) (g.N.Nodes.endings c.args.nodes.now) (g.N.Nodes.endings c.args.nodes.now)) (c.args.words.now.rounds - 1) c.args.words.now.config s (g.O.Sink.written c.args.out.now));
+  appended = λ s far told begins unset. inr (nothing_done (codes "s") c.args.words.now.log (IsBroken (g.N.Nodes.faults c.args.nodes.now) (g.N.Nodes.faults c.args.nodes.now) (g.N.Nodes.endings c.args.nodes.now) (g.N.Nodes.endings c.args.nodes.now)) (payloads_in (g.I.Source.left c.args.input.now)) c.args.words.now.rounds c.args.words.now.config s (g.O.Sink.written c.args.out.now));
   ends = inl tt;
 }
+
+pub append_lines-requires : goal.append_lines-requires
+append_lines-requires g c = (first_fits c.args.words.now.config c.args.words.now.log c.args.words.now.log c.in-Some.spec c.requires.bounds.config c.in-Some.ensures.found.0 c.in-Some.ensures.found.1 refl).is
 
 pub returns : goal.returns
 returns g c =
     let before = g.N.Nodes.faults c.args.nodes.now in
     let now = g.N.Nodes.faults c.append_lines.new.nodes in
     let broken = IsBroken before now (g.N.Nodes.endings c.args.nodes.now) (g.N.Nodes.endings c.append_lines.new.nodes) in
-    let end = λ (reads now_reads : ℕ). IsEndOfAppend reads now_reads (g.O.Sink.faults c.args.out.now) (g.O.Sink.faults c.append_lines.new.out)
-    (g.O.Sink.written c.args.out.now) (g.O.Sink.written c.append_lines.new.out) in
+    let coming = payloads_in (g.I.Source.left c.args.input.now) in
+    let damaged = λ (place : ℕ). (g.G.Register.told c.args.reg.now → g.G.Register.damaged c.args.reg.now place) in
     let reads = g.I.Source.faults c.append_lines.new.lines.input.now in
+    let held = input_after c.in-Ok-new.held.number (prepend_known c.in-Ok-new.held.buffer (g.I.Source.left c.args.input.now)) in
+    let fresh = nothing_held c.in-Ok-new.held.number c.in-Ok-new.held.buffer (g.I.Source.left c.args.input.now) c.in-Ok-new.ensures.number c.in-Ok-new.ensures.buffer in
+    let found = c.in-Some.ensures.found in
+    let log : c.in-Some.spec.log ≡ c.args.words.now.log = ap (λ (x : Spec). x.log) found.0 ∙ spec_log c.args.words.now.log c.args.words.now.config.logs in
+    let end = λ (l : ℕ) (i : Option Input) (n : ℕ). IsEndOfAppend (g.G.Register.told c.args.reg.now → MayCrowd (g.G.Register.may_hold c.args.reg.now) l) damaged i (g.I.Source.faults c.args.input.now) n (g.O.Sink.faults c.args.out.now) (g.O.Sink.faults c.append_lines.new.out)
+    (g.O.Sink.written c.args.out.now) (g.O.Sink.written c.append_lines.new.out) in
+    let went = λ (name : List ℕ) (l : ℕ) (i : Option Input) (s : State). IsAppended name l broken i c.args.words.now.rounds (g.N.Nodes.tells c.append_lines.new.nodes) (g.G.Register.tells c.append_lines.new.reg) c.args.words.now.config s (g.O.Sink.written c.args.out.now) (g.O.Sink.written c.append_lines.new.out) in
     record {
-      appended = λ s far told begins. subst (λ (name : List ℕ). (g.N.Nodes.silent c.append_lines.new.nodes ≡ true) ⊎ EndsDrive before now
-          (IsAppended name broken c.args.words.now.rounds (g.N.Nodes.tells c.append_lines.new.nodes) Unsaid c.args.words.now.config s (g.O.Sink.written c.args.out.now) (g.O.Sink.written c.append_lines.new.out)) c.append_lines.result)
-          c.in-Ok.ensures (c.append_lines.ensures.appended s far c.requires.bounds.config (spec_so c.args.words.now.config c.args.words.now.log c.in-Some.spec c.in-Some.ensures.found) told begins);
-      ends = of_same (λ (n : ℕ). EndsDrive before now (end (g.I.Source.faults c.args.input.now) n) c.append_lines.result) reads _ c.append_lines.ensures.ends (search rules);
+      appended = λ s far told begins unset. subst (λ (i : Option Input). (g.N.Nodes.silent c.append_lines.new.nodes ≡ true) ⊎ EndsDrive before now (went (codes "s") c.args.words.now.log i s) c.append_lines.result) fresh
+          (subst (λ (l : ℕ). (g.N.Nodes.silent c.append_lines.new.nodes ≡ true) ⊎ EndsDrive before now (went (codes "s") l held s) c.append_lines.result) log
+          (subst (λ (name : List ℕ). (g.N.Nodes.silent c.append_lines.new.nodes ≡ true) ⊎ EndsDrive before now (went name c.in-Some.spec.log held s) c.append_lines.result)
+          c.in-Ok.ensures (c.append_lines.ensures.appended s far c.requires.bounds.config (spec_so c.args.words.now.config c.args.words.now.log c.in-Some.spec found) (unset_so c.args.words.now.config s c.args.words.now.log c.in-Some.spec found.0 unset) told begins)));
+      ends = of_same (λ (n : ℕ). EndsDrive before now (end c.args.words.now.log coming n) c.append_lines.result) reads _
+          (subst (λ (l : ℕ). EndsDrive before now (end l coming reads) c.append_lines.result) log (subst (λ (i : Option Input). EndsDrive before now (end c.in-Some.spec.log i reads) c.append_lines.result) fresh c.append_lines.ensures.ends)) (search rules);
     }

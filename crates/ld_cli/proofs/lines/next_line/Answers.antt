@@ -3,7 +3,7 @@ use Rattle.std.proofs.lemmas.Grind.{common_steps}
 use Rattle.std.proofs.lemmas.List.{length-append}
 use Rattle.ld_lsn.proofs.Texts.{Lacks-push}
 use Rattle.ld_cli.proofs.Left.{Consumes-trans}
-use Rattle.ld_cli.proofs.LineLoop.{taken_kept, at_end}
+use Rattle.ld_cli.proofs.LineLoop.{taken_kept, at_end, none_kept}
 use Rattle.ld_cli.proofs.lines.next_line.Goals as goal
 
 pub loop-preserved : goal.loop-preserved
@@ -28,6 +28,7 @@ returns-in-None-clause-taken g c =
     let none : c.loop.line.items ≡ [] = grind (arith, common_steps, c.if-is_empty.ensures, c.if-is_empty.true) in (
       at_end _ _ _ _ none read.taken ends.0 ends.1,
       ends.1,
+      none_kept _ _ _ _ none read.taken ends.0,
     )
 
 pub returns-in-None-2-clause-taken : goal.returns-in-None-2-clause-taken

@@ -2,10 +2,15 @@ use Rattle.std.proofs.Common.{◌≡◌, ◌⊎◌, refl, sym, ◌∙◌, subst,
 use Rattle.ld_serve.specs.Complete.{MayOpen}
 use Rattle.ld_words.specs.declared.command.LogWords.{LogWords}
 use Rattle.ld_words.specs.declared.command.TailWords.{TailWords}
+use Rattle.ld_machine.specs.Config.{first_spec}
+use Rattle.ld_machine.specs.Step.{spec_set}
 use Rattle.ld_rounds.specs.Drives.{IsBroken}
-use Rattle.ld_append.specs.Appends.{Begins as BeginsAppend, IsAppended, IsEndOfAppend}
-use Rattle.ld_tail.specs.Tails.{Begins, IsTailed, IsTailEnd}
-use Rattle.ld_cli.specs.Clients.{Drives, EndsDrive, IsUnseen, OrNothing, Unsaid}
+use Rattle.ld_rounds.specs.Reaching.{Begins}
+use Rattle.ld_append.specs.Acting.{MayCrowd}
+use Rattle.ld_append.specs.Appends.{HasNone as HasNoSequencers, IsAppended, IsEndOfAppend}
+use Rattle.ld_tail.specs.Tails.{HasNone as HasNoReaders, IsTailed, IsTailEnd}
+use Rattle.ld_cli.specs.Payloads.{payloads_in}
+use Rattle.ld_cli.specs.Clients.{Drives, EndsDrive}
 use Rattle.ld_cli.proofs.Asked.{one_node, one_append, one_tail}
 use Rattle.ld_cli.proofs.Drives.{never_usage, disk_stays, append_read_rose, append_write_rose, tail_never_reads, tail_write_rose}
 use Rattle.ld_cli.proofs.top.carry_out.Goals as goal
@@ -18,22 +23,26 @@ returns-in-Node-clause-complete_node g c = λ n start bytes asks told spoken is 
 
 pub returns-in-Append-clause-usage : goal.returns-in-Append-clause-usage
 returns-in-Append-clause-usage g c = never_usage (g.N.Nodes.faults c.args.nodes.now) (g.N.Nodes.faults c.appended.new.nodes)
-    (IsEndOfAppend (g.I.Source.faults c.args.input.now) (g.I.Source.faults c.appended.new.input) (g.O.Sink.faults c.args.out.now) (g.O.Sink.faults c.appended.new.out)
+    (IsEndOfAppend (g.G.Register.told c.args.reg.now → MayCrowd (g.G.Register.may_hold c.args.reg.now) c.in-Append.log.log) (λ place. g.G.Register.told c.args.reg.now → g.G.Register.damaged c.args.reg.now place) (payloads_in (g.I.Source.left c.args.input.now)) (g.I.Source.faults c.args.input.now) (g.I.Source.faults c.appended.new.input) (g.O.Sink.faults c.args.out.now) (g.O.Sink.faults c.appended.new.out)
     (g.O.Sink.written c.args.out.now) (g.O.Sink.written c.appended.new.out))
     c.appended.result c.appended.ensures.ends
 
 pub returns-in-Append-clause-append_ends : goal.returns-in-Append-clause-append_ends
-returns-in-Append-clause-append_ends g c = λ w is. c.appended.ensures.ends
+returns-in-Append-clause-append_ends g c = λ w is.
+    let same : w ≡ c.in-Append.log = one_append w c.in-Append.log (sym is ∙ c.in-Append.is) in
+    subst (λ (u : LogWords). EndsDrive (g.N.Nodes.faults c.args.nodes.now) (g.N.Nodes.faults c.appended.new.nodes)
+    (IsEndOfAppend (g.G.Register.told c.args.reg.now → MayCrowd (g.G.Register.may_hold c.args.reg.now) u.log) (λ place. g.G.Register.told c.args.reg.now → g.G.Register.damaged c.args.reg.now place) (payloads_in (g.I.Source.left c.args.input.now)) (g.I.Source.faults c.args.input.now) (g.I.Source.faults c.appended.new.input) (g.O.Sink.faults c.args.out.now) (g.O.Sink.faults c.appended.new.out)
+    (g.O.Sink.written c.args.out.now) (g.O.Sink.written c.appended.new.out)) c.appended.result) (sym same) c.appended.ensures.ends
 
 pub returns-in-Append-clause-read : goal.returns-in-Append-clause-read
-returns-in-Append-clause-read g c = append_read_rose _ _ _ _ _ _ _ _ c.appended.result c.appended.ensures.ends
+returns-in-Append-clause-read g c = append_read_rose _ _ _ _ _ _ _ _ _ _ _ c.appended.result c.appended.ensures.ends
 
 pub returns-in-Append-clause-write : goal.returns-in-Append-clause-write
-returns-in-Append-clause-write g c = append_write_rose _ _ _ _ _ _ _ _ c.appended.result c.appended.ensures.ends
+returns-in-Append-clause-write g c = append_write_rose _ _ _ _ _ _ _ _ _ _ _ c.appended.result c.appended.ensures.ends
 
 pub returns-in-Append-clause-disk : goal.returns-in-Append-clause-disk
 returns-in-Append-clause-disk g c = disk_stays (g.N.Nodes.faults c.args.nodes.now) (g.N.Nodes.faults c.appended.new.nodes)
-    (IsEndOfAppend (g.I.Source.faults c.args.input.now) (g.I.Source.faults c.appended.new.input) (g.O.Sink.faults c.args.out.now) (g.O.Sink.faults c.appended.new.out)
+    (IsEndOfAppend (g.G.Register.told c.args.reg.now → MayCrowd (g.G.Register.may_hold c.args.reg.now) c.in-Append.log.log) (λ place. g.G.Register.told c.args.reg.now → g.G.Register.damaged c.args.reg.now place) (payloads_in (g.I.Source.left c.args.input.now)) (g.I.Source.faults c.args.input.now) (g.I.Source.faults c.appended.new.input) (g.O.Sink.faults c.args.out.now) (g.O.Sink.faults c.appended.new.out)
     (g.O.Sink.written c.args.out.now) (g.O.Sink.written c.appended.new.out))
     _ _ c.appended.result c.appended.ensures.ends refl
 
@@ -48,33 +57,25 @@ returns-in-Append-clause-undriven g c = λ no. absurd (no (subst Drives (sym c.i
 
 pub returns-in-Tail-clause-usage : goal.returns-in-Tail-clause-usage
 returns-in-Tail-clause-usage g c = never_usage (g.N.Nodes.faults c.args.nodes.now) (g.N.Nodes.faults c.tailed.new.nodes)
-    (OrNothing
-    (IsTailEnd (g.O.Sink.faults c.args.out.now) (g.O.Sink.faults c.tailed.new.out) (g.O.Sink.written c.args.out.now) (g.O.Sink.written c.tailed.new.out))
-    (IsUnseen (g.G.Register.faults c.args.reg.now) (g.G.Register.faults c.tailed.new.reg) (g.G.Register.told c.args.reg.now) (g.G.Register.damaged c.args.reg.now))
-    ((c.tailed.new.nodes ≡ c.args.nodes.now) × (c.tailed.new.out ≡ c.args.out.now)))
+    (IsTailEnd (λ place. g.G.Register.told c.args.reg.now → g.G.Register.damaged c.args.reg.now place) (g.G.Register.faults c.args.reg.now) (g.G.Register.faults c.tailed.new.reg) (g.O.Sink.faults c.args.out.now) (g.O.Sink.faults c.tailed.new.out))
     c.tailed.result c.tailed.ensures.ends
 
 pub returns-in-Tail-clause-tail_ends : goal.returns-in-Tail-clause-tail_ends
 returns-in-Tail-clause-tail_ends g c = λ t is. c.tailed.ensures.ends
 
 pub returns-in-Tail-clause-read : goal.returns-in-Tail-clause-read
-returns-in-Tail-clause-read g c = λ is. absurd (tail_never_reads (g.N.Nodes.faults c.args.nodes.now) (g.N.Nodes.faults c.tailed.new.nodes) (g.O.Sink.faults c.args.out.now) (g.O.Sink.faults c.tailed.new.out) (g.O.Sink.written c.args.out.now) (g.O.Sink.written c.tailed.new.out)
-    (IsUnseen (g.G.Register.faults c.args.reg.now) (g.G.Register.faults c.tailed.new.reg) (g.G.Register.told c.args.reg.now) (g.G.Register.damaged c.args.reg.now))
-    ((c.tailed.new.nodes ≡ c.args.nodes.now) × (c.tailed.new.out ≡ c.args.out.now))
+returns-in-Tail-clause-read g c = λ is. absurd (tail_never_reads (λ place. g.G.Register.told c.args.reg.now → g.G.Register.damaged c.args.reg.now place) (g.N.Nodes.faults c.args.nodes.now) (g.N.Nodes.faults c.tailed.new.nodes)
+    (g.G.Register.faults c.args.reg.now) (g.G.Register.faults c.tailed.new.reg) (g.O.Sink.faults c.args.out.now) (g.O.Sink.faults c.tailed.new.out)
     c.tailed.result c.tailed.ensures.ends is)
 
 pub returns-in-Tail-clause-write : goal.returns-in-Tail-clause-write
-returns-in-Tail-clause-write g c = tail_write_rose (g.N.Nodes.faults c.args.nodes.now) (g.N.Nodes.faults c.tailed.new.nodes) (g.O.Sink.faults c.args.out.now) (g.O.Sink.faults c.tailed.new.out) (g.O.Sink.written c.args.out.now) (g.O.Sink.written c.tailed.new.out)
-    (IsUnseen (g.G.Register.faults c.args.reg.now) (g.G.Register.faults c.tailed.new.reg) (g.G.Register.told c.args.reg.now) (g.G.Register.damaged c.args.reg.now))
-    ((c.tailed.new.nodes ≡ c.args.nodes.now) × (c.tailed.new.out ≡ c.args.out.now))
+returns-in-Tail-clause-write g c = tail_write_rose (λ place. g.G.Register.told c.args.reg.now → g.G.Register.damaged c.args.reg.now place) (g.N.Nodes.faults c.args.nodes.now) (g.N.Nodes.faults c.tailed.new.nodes)
+    (g.G.Register.faults c.args.reg.now) (g.G.Register.faults c.tailed.new.reg) (g.O.Sink.faults c.args.out.now) (g.O.Sink.faults c.tailed.new.out)
     c.tailed.result c.tailed.ensures.ends
 
 pub returns-in-Tail-clause-disk : goal.returns-in-Tail-clause-disk
 returns-in-Tail-clause-disk g c = disk_stays (g.N.Nodes.faults c.args.nodes.now) (g.N.Nodes.faults c.tailed.new.nodes)
-    (OrNothing
-    (IsTailEnd (g.O.Sink.faults c.args.out.now) (g.O.Sink.faults c.tailed.new.out) (g.O.Sink.written c.args.out.now) (g.O.Sink.written c.tailed.new.out))
-    (IsUnseen (g.G.Register.faults c.args.reg.now) (g.G.Register.faults c.tailed.new.reg) (g.G.Register.told c.args.reg.now) (g.G.Register.damaged c.args.reg.now))
-    ((c.tailed.new.nodes ≡ c.args.nodes.now) × (c.tailed.new.out ≡ c.args.out.now)))
+    (IsTailEnd (λ place. g.G.Register.told c.args.reg.now → g.G.Register.damaged c.args.reg.now place) (g.G.Register.faults c.args.reg.now) (g.G.Register.faults c.tailed.new.reg) (g.O.Sink.faults c.args.out.now) (g.O.Sink.faults c.tailed.new.out))
     _ _ c.tailed.result c.tailed.ensures.ends refl
 
 pub returns-in-Tail-clause-register : goal.returns-in-Tail-clause-register
@@ -92,21 +93,18 @@ returns-in-Tail-clause-tailed g c = λ t s far is told begins.
     subst
     (λ (u : TailWords).
     (g.N.Nodes.silent c.tailed.new.nodes ≡ true) ⊎ EndsDrive (g.N.Nodes.faults c.args.nodes.now) (g.N.Nodes.faults c.tailed.new.nodes)
-    (OrNothing
-    (IsTailed (codes "r") (IsBroken (g.N.Nodes.faults c.args.nodes.now) (g.N.Nodes.faults c.tailed.new.nodes) (g.N.Nodes.endings c.args.nodes.now) (g.N.Nodes.endings c.tailed.new.nodes))
-    u.of.rounds (g.N.Nodes.tells c.tailed.new.nodes) u.of.config s (g.O.Sink.written c.args.out.now) (g.O.Sink.written c.tailed.new.out))
-    (IsUnseen (g.G.Register.faults c.args.reg.now) (g.G.Register.faults c.tailed.new.reg) (g.G.Register.told c.args.reg.now) (g.G.Register.damaged c.args.reg.now))
-    ((c.tailed.new.nodes ≡ c.args.nodes.now) × (c.tailed.new.out ≡ c.args.out.now))) c.tailed.result)
+    (IsTailed (record { name = codes "r"; log = u.of.log; from = u.from; until = u.until }) (IsBroken (g.N.Nodes.faults c.args.nodes.now) (g.N.Nodes.faults c.tailed.new.nodes) (g.N.Nodes.endings c.args.nodes.now) (g.N.Nodes.endings c.tailed.new.nodes))
+    u.of.rounds (g.N.Nodes.tells c.tailed.new.nodes) (g.G.Register.tells c.tailed.new.reg) u.of.config s (g.O.Sink.written c.args.out.now) (g.O.Sink.written c.tailed.new.out)) c.tailed.result)
     (sym same)
-    (c.tailed.ensures.tailed s far (subst (λ (u : TailWords). g.N.Nodes.tells c.args.nodes.now u.of.config far) same told) (subst (λ (u : TailWords). Begins u.of.config s far) same begins))
+    (c.tailed.ensures.tailed s far (subst (λ (u : TailWords). g.N.Nodes.tells c.args.nodes.now u.of.config far) same told) (subst (λ (u : TailWords). Begins (HasNoReaders (g.G.Register.tells c.args.reg.now)) u.of.config s far) same begins))
 
 pub returns-in-Append-clause-appended : goal.returns-in-Append-clause-appended
-returns-in-Append-clause-appended g c = λ w s far is told begins.
+returns-in-Append-clause-appended g c = λ w s far is told begins unset.
     let same : w ≡ c.in-Append.log = one_append w c.in-Append.log (sym is ∙ c.in-Append.is) in
     subst
     (λ (u : LogWords).
     (g.N.Nodes.silent c.appended.new.nodes ≡ true) ⊎ EndsDrive (g.N.Nodes.faults c.args.nodes.now) (g.N.Nodes.faults c.appended.new.nodes)
-    (IsAppended (codes "s") (IsBroken (g.N.Nodes.faults c.args.nodes.now) (g.N.Nodes.faults c.appended.new.nodes) (g.N.Nodes.endings c.args.nodes.now) (g.N.Nodes.endings c.appended.new.nodes))
-    u.rounds (g.N.Nodes.tells c.appended.new.nodes) Unsaid u.config s (g.O.Sink.written c.args.out.now) (g.O.Sink.written c.appended.new.out)) c.appended.result)
+    (IsAppended (codes "s") u.log (IsBroken (g.N.Nodes.faults c.args.nodes.now) (g.N.Nodes.faults c.appended.new.nodes) (g.N.Nodes.endings c.args.nodes.now) (g.N.Nodes.endings c.appended.new.nodes))
+    (payloads_in (g.I.Source.left c.args.input.now)) u.rounds (g.N.Nodes.tells c.appended.new.nodes) (g.G.Register.tells c.appended.new.reg) u.config s (g.O.Sink.written c.args.out.now) (g.O.Sink.written c.appended.new.out)) c.appended.result)
     (sym same)
-    (c.appended.ensures.appended s far (subst (λ (u : LogWords). g.N.Nodes.tells c.args.nodes.now u.config far) same told) (subst (λ (u : LogWords). BeginsAppend (g.G.Register.tells c.args.reg.now) u.config s far) same begins))
+    (c.appended.ensures.appended s far (subst (λ (u : LogWords). g.N.Nodes.tells c.args.nodes.now u.config far) same told) (subst (λ (u : LogWords). Begins (HasNoSequencers (g.G.Register.tells c.args.reg.now)) u.config s far) same begins) (subst (λ (u : LogWords). spec_set u.config s u.log ≡ first_spec u.config u.log) same unset))

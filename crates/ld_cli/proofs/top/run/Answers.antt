@@ -1,8 +1,9 @@
-use Rattle.std.proofs.Common.{◌-◌, inr, codes, map, string_bytes}
+use Rattle.std.proofs.Common.{inr, codes, map, string_bytes}
 use Rattle.ld_words.specs.declared.command.Command.TheVariants.{Replay, Exercise, Node, Append, Tail}
 use Rattle.ld_rounds.specs.Drives.{IsBroken}
+use Rattle.ld_cli.specs.Payloads.{payloads_in}
 use Rattle.ld_cli.proofs.Asked.{asked_one, asked_none}
-use Rattle.ld_cli.proofs.Drives.{nothing_done}
+use Rattle.ld_cli.proofs.Drives.{nothing_done, nothing_read}
 use Rattle.ld_cli.proofs.top.run.Goals as goal
 
 pub returns-in-Ok-Some-clause-exercised : goal.returns-in-Ok-Some-clause-exercised
@@ -55,6 +56,10 @@ pub returns-in-Ok-Some-clause-tail_ends : goal.returns-in-Ok-Some-clause-tail_en
 returns-in-Ok-Some-clause-tail_ends g c = λ t asks.
     c.carry_out.ensures.tail_ends t (asked_one (map string_bytes c.args.words.now) c.in-Ok-Some.field-0 c.in-Ok-Some.command (Tail t) c.in-Ok-Some.field-0-is c.in-Ok-Some.ensures.asks asks)
 
+pub returns-in-Ok-Some-clause-only_looks : goal.returns-in-Ok-Some-clause-only_looks
+returns-in-Ok-Some-clause-only_looks g c = λ t asks.
+    c.carry_out.ensures.only_looks t (asked_one (map string_bytes c.args.words.now) c.in-Ok-Some.field-0 c.in-Ok-Some.command (Tail t) c.in-Ok-Some.field-0-is c.in-Ok-Some.ensures.asks asks)
+
 pub returns-in-Ok-Some-clause-append_ends : goal.returns-in-Ok-Some-clause-append_ends
 returns-in-Ok-Some-clause-append_ends g c = λ w asks.
     c.carry_out.ensures.append_ends w (asked_one (map string_bytes c.args.words.now) c.in-Ok-Some.field-0 c.in-Ok-Some.command (Append w) c.in-Ok-Some.field-0-is c.in-Ok-Some.ensures.asks asks)
@@ -67,18 +72,26 @@ pub returns-in-Ok-None-clause-tail_ends : goal.returns-in-Ok-None-clause-tail_en
 returns-in-Ok-None-clause-tail_ends g c = λ t asks.
     absurd (asked_none (map string_bytes c.args.words.now) c.in-Ok-None.field-0 (Tail t) c.in-Ok-None.field-0-is c.in-Ok-None.ensures.asks asks)
 
+pub returns-in-Ok-None-clause-only_looks : goal.returns-in-Ok-None-clause-only_looks
+returns-in-Ok-None-clause-only_looks g c = λ t asks.
+    absurd (asked_none (map string_bytes c.args.words.now) c.in-Ok-None.field-0 (Tail t) c.in-Ok-None.field-0-is c.in-Ok-None.ensures.asks asks)
+
 pub returns-in-Ok-None-clause-append_ends : goal.returns-in-Ok-None-clause-append_ends
 returns-in-Ok-None-clause-append_ends g c = λ w asks.
     absurd (asked_none (map string_bytes c.args.words.now) c.in-Ok-None.field-0 (Append w) c.in-Ok-None.field-0-is c.in-Ok-None.ensures.asks asks)
 
 pub returns-in-Ok-Some-clause-appended : goal.returns-in-Ok-Some-clause-appended
-returns-in-Ok-Some-clause-appended g c = λ w s far asks told begins.
-    c.carry_out.ensures.appended w s far (asked_one (map string_bytes c.args.words.now) c.in-Ok-Some.field-0 c.in-Ok-Some.command (Append w) c.in-Ok-Some.field-0-is c.in-Ok-Some.ensures.asks asks) told begins
+returns-in-Ok-Some-clause-appended g c = λ w s far asks told begins unset.
+    c.carry_out.ensures.appended w s far (asked_one (map string_bytes c.args.words.now) c.in-Ok-Some.field-0 c.in-Ok-Some.command (Append w) c.in-Ok-Some.field-0-is c.in-Ok-Some.ensures.asks asks) told begins unset
 
 pub returns-in-Ok-None-clause-appended : goal.returns-in-Ok-None-clause-appended
-returns-in-Ok-None-clause-appended g c = λ w s far asks told begins.
+returns-in-Ok-None-clause-appended g c = λ w s far asks told begins unset.
     absurd (asked_none (map string_bytes c.args.words.now) c.in-Ok-None.field-0 (Append w) c.in-Ok-None.field-0-is c.in-Ok-None.ensures.asks asks)
 
+pub returns-in-Err-clause-tailed : goal.returns-in-Err-clause-tailed
+returns-in-Err-clause-tailed g c = λ t s far asks told begins.
+    inr (nothing_read (record { name = codes "r"; log = t.of.log; from = t.from; until = t.until }) (IsBroken (g.N.Nodes.faults c.args.nodes.now) (g.N.Nodes.faults c.args.nodes.now) (g.N.Nodes.endings c.args.nodes.now) (g.N.Nodes.endings c.args.nodes.now)) t.of.rounds t.of.config s (g.O.Sink.written c.args.out.now))
+
 pub returns-in-Err-clause-appended : goal.returns-in-Err-clause-appended
-returns-in-Err-clause-appended g c = λ w s far asks told begins.
-    inr (nothing_done (codes "s") (IsBroken (g.N.Nodes.faults c.args.nodes.now) (g.N.Nodes.faults c.args.nodes.now) (g.N.Nodes.endings c.args.nodes.now) (g.N.Nodes.endings c.args.nodes.now)) (w.rounds - 1) w.config s (g.O.Sink.written c.args.out.now))
+returns-in-Err-clause-appended g c = λ w s far asks told begins unset.
+    inr (nothing_done (codes "s") w.log (IsBroken (g.N.Nodes.faults c.args.nodes.now) (g.N.Nodes.faults c.args.nodes.now) (g.N.Nodes.endings c.args.nodes.now) (g.N.Nodes.endings c.args.nodes.now)) (payloads_in (g.I.Source.left c.args.input.now)) w.rounds w.config s (g.O.Sink.written c.args.out.now))

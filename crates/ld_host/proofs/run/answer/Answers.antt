@@ -1,7 +1,7 @@
 use Rattle.std.proofs.Common.{refl, sym, ◌∙◌, ap, subst, inl, inr, ⊎_elim, true≢false, Err}
 use Rattle.ld_disk.specs.Memory.{disk_plain}
 use Rattle.ld_node_bounds.specs.Messages.{AreMessages}
-use Rattle.ld_node.specs.Node.{id_of, sets_of, released_of, plain_of, disk_of, place_of}
+use Rattle.ld_node.specs.Node.{id_of, known_of, released_of, plain_of, disk_of, place_of}
 use Rattle.ld_node.specs.Msgs.{handled}
 use Rattle.ld_host.proofs.Rising.{some_is}
 use Rattle.ld_host.specs.States.{Refuses}
@@ -9,18 +9,18 @@ use Rattle.ld_host.proofs.Answering.{Refused, answered, refuses_it, ok_is_none, 
 use Rattle.ld_host.proofs.run.answer.Goals as goal
 
 pub returns-in-Ok-clause-stands : goal.returns-in-Ok-clause-stands
-returns-in-Ok-clause-stands c settings n x runs bounds to keeps =
+returns-in-Ok-clause-stands c settings n x runs to has =
     let node = c.args.node in
     let m = c.args.msg.now in
     let new = c.on_msg.new.self in
     let told = c.in-Ok.ensures in
     let exact = told.exact (disk_plain (disk_of node)) refl (inl refl) in
-    let done = answered settings n node x m runs c.requires.msg node.store.well c.requires.formatted bounds to keeps (handled (id_of node) (sets_of node) (released_of node) (plain_of node) m) new refl
+    let done = answered settings n node x m runs c.requires.msg node.store.well c.requires.formatted to has (handled (id_of node) (known_of node) (released_of node) (plain_of node) m) new refl
     told.rest.0 told.rest.1 told.released told.acknowledged (λ past. ok_is_none c.in-Ok.replies (told.too_long runs.holds.works past)) (some_is (disk_plain (disk_of new)) _ exact.0) (sym exact.1) in
     (done.0, done.1, c.new.ensures ∙ (c.into_vec.ensures ∙ (told.replies ∙ done.2)))
 
 pub returns-in_ok-state-in-Err-clause-stands : goal.returns-in_ok-state-in-Err-clause-stands
-returns-in_ok-state-in-Err-clause-stands c settings n x runs bounds to keeps =
+returns-in_ok-state-in-Err-clause-stands c settings n x runs to has =
     let node = c.args.node in
     let m = c.args.msg.now in
     let new = c.on_msg.new.self in
@@ -28,7 +28,7 @@ returns-in_ok-state-in-Err-clause-stands c settings n x runs bounds to keeps =
     let fault = c.in-Err.fault in
     let p = disk_plain (disk_of node) in
     let q = disk_plain c.into_disk.result in
-    let h = handled (id_of node) (sets_of node) (released_of node) (plain_of node) m in
+    let h = handled (id_of node) (known_of node) (released_of node) (plain_of node) m in
     let now = ap disk_plain c.into_disk.ensures in
     let not : Refused (place_of node) h.op fault p q = record {
       full = λ is. told.full (ap Err is);
@@ -41,7 +41,7 @@ returns-in_ok-state-in-Err-clause-stands c settings n x runs bounds to keeps =
     } in
     let left = c.in_ok-state-in-Err.ensures in
     let refuses : Refuses fault q (c.in_ok-state-in-Err.state, c.in_ok-state-in-Err.kept) = record { full = left.full; failed = left.failed; crashed = left.crashed; memory = left.memory } in
-    let done = refuses_it settings n node x m runs c.requires.msg node.store.well c.requires.formatted bounds to keeps h fault q (c.in_ok-state-in-Err.state, c.in_ok-state-in-Err.kept) refl not refuses in
+    let done = refuses_it settings n node x m runs c.requires.msg node.store.well c.requires.formatted to has h fault q (c.in_ok-state-in-Err.state, c.in_ok-state-in-Err.kept) refl not refuses in
     (done.0, done.1, c.empty.ensures ∙ done.2)
 
 pub returns-in-Ok-clause-messages : goal.returns-in-Ok-clause-messages

@@ -1,8 +1,7 @@
-use Rattle.std.proofs.Common.{◌≡◌, Some, ◌∙◌, sym, ap, refl}
-use Rattle.ld_msg.specs.declared.msg.Msg.{Msg}
+use Rattle.std.proofs.Common.{refl}
 use Rattle.ld_op.specs.Plain.{log_of}
 use Rattle.ld_msg.specs.Bounds.{ballot_of}
-use Rattle.ld_node.proofs.Handles.{clean_handled, trim_handled, read_handled, page_handled}
+use Rattle.ld_node.proofs.Handles.{clean_handled, trim_handled}
 use Rattle.ld_node.proofs.handled.answer.Goals as goal
 
 pub returns-in-Clean : goal.returns-in-Clean

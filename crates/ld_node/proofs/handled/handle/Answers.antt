@@ -1,4 +1,4 @@
-use Rattle.std.proofs.Common.{◌≡◌, Some, ◌∙◌, sym, ap}
+use Rattle.std.proofs.Common.{Some, ◌∙◌, ap}
 use Rattle.ld_op.specs.declared.op.Op.TheVariants as ops
 use Rattle.ld_op.specs.Plain.{log_of}
 use Rattle.ld_op.specs.Handles.{ballot_of}

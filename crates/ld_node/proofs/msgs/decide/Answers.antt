@@ -19,5 +19,5 @@ returns-clause-messages c =
     let m = c.args.msg.now in
     let p = c.args.plain.now.state in
     subst (λ r. AreMessages r) (sym c.in_ok-replies.ensures)
-    (sends_are c.args.id c.args.sets.now.entries c.released_in-before.result p m c.in_ok-handled.handled.answer c.number-node.ensures.bounds c.released_in-before.ensures.bound c.requires.well c.requires.msg
+    (sends_are c.args.id c.args.known.now c.released_in-before.result p m c.in_ok-handled.handled.answer c.number-node.ensures.bounds c.released_in-before.ensures.bound c.requires.well c.requires.msg
     (sym c.is_for.ensures ∙ c.if-not-is_for.false) c.in_ok-handled.ensures.answer)

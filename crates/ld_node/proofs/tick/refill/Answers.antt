@@ -1,4 +1,4 @@
-use Rattle.std.proofs.Common.{◌≡◌, ◌∙◌, ◌++◌, [], sym, ap, subst, nat_lt}
+use Rattle.std.proofs.Common.{◌∙◌, ◌++◌, [], sym, ap, subst, nat_lt}
 use Rattle.std.specs.Option.{is_some}
 use Rattle.ld_ids.specs.Set.{members}
 use Rattle.ld_msg.specs.Network.{posted}
@@ -15,29 +15,29 @@ use Rattle.ld_node.proofs.tick.refill.Goals as goal
 pub returns-then-is_none-clause-step : goal.returns-then-is_none-clause-step
 returns-then-is_none-clause-step c =
     let g = log_of c.args.plain.now.state c.args.log in
-    let set = members c.args.set.now in
+    let nodes = members c.args.nodes.now in
     let lost = sym c.is_lost.ensures ∙ c.if-not-is_lost.false in
-    subst (λ t. IsStep c.args.id c.args.log set c.refilled.result t)
+    subst (λ t. IsStep c.args.id c.args.log nodes c.refilled.result t)
     ((λ i. refill_tick (nat_lt (c.lost_to.ensures i) (c.requires.lowest i)) [])
-    ∙ nothing_missing c.args.id c.args.log set g lost (sym (ap is_some c.first_missing.ensures) ∙ c.if-is_none.ensures))
-    (c.refilled.ensures.step c.args.id set)
+    ∙ nothing_missing c.args.id c.args.log nodes g lost (sym (ap is_some c.first_missing.ensures) ∙ c.if-is_none.ensures))
+    (c.refilled.ensures.step c.args.id nodes)
 
 pub returns-clause-step : goal.returns-clause-step
 returns-clause-step c =
     let g = log_of c.args.plain.now.state c.args.log in
-    let set = members c.args.set.now in
+    let nodes = members c.args.nodes.now in
     let lost = sym c.is_lost.ensures ∙ c.if-not-is_lost.false in
     let some = sym (ap is_some c.first_missing.ensures) ∙ c.if-is_none.ensures in
-    let sent = c.new.ensures ∙ (c.into_vec.ensures ∙ (c.in_ok-asks.ensures.ok ∙ ap (λ r. r ++ posted (whos.Node c.args.id) c.args.log (refill_asks c.args.id set g)) c.empty-asks.ensures)) in
+    let sent = c.new.ensures ∙ (c.into_vec.ensures ∙ (c.in_ok-asks.ensures.ok ∙ ap (λ r. r ++ posted (whos.Node c.args.id) c.args.log (refill_asks c.args.id nodes g)) c.empty-asks.ensures)) in
     record {
-      op = asked_op c.args.id c.args.log set g lost some;
-      answer = ap (λ r. answers.Asked r) sent ∙ asked c.args.id c.args.log set g lost some;
+      op = asked_op c.args.id c.args.log nodes g lost some;
+      answer = ap (λ r. answers.Asked r) sent ∙ asked c.args.id c.args.log nodes g lost some;
     }
 
 pub returns-clause-messages : goal.returns-clause-messages
 returns-clause-messages c =
     let p = c.args.plain.now.state in
     let g = log_of p c.args.log in
-    let set = members c.args.set.now in
-    let sent = c.new.ensures ∙ (c.into_vec.ensures ∙ (c.in_ok-asks.ensures.ok ∙ ap (λ r. r ++ posted (whos.Node c.args.id) c.args.log (refill_asks c.args.id set g)) c.empty-asks.ensures)) in
-    subst (λ r. AreMessages r) (sym sent) (asks_are p c.args.id c.args.log c.args.set.now c.requires.well c.number-node.ensures.bounds c.requires.log c.has-there.ensures.set)
+    let nodes = members c.args.nodes.now in
+    let sent = c.new.ensures ∙ (c.into_vec.ensures ∙ (c.in_ok-asks.ensures.ok ∙ ap (λ r. r ++ posted (whos.Node c.args.id) c.args.log (refill_asks c.args.id nodes g)) c.empty-asks.ensures)) in
+    subst (λ r. AreMessages r) (sym sent) (asks_are p c.args.id c.args.log c.args.nodes.now c.requires.well c.number-node.ensures.bounds c.requires.log c.has-there.ensures.set)

@@ -1,8 +1,8 @@
 use Rattle.std.proofs.Common.{◌∙◌, ◌+◌, ◌-◌, ◌++◌, ◌∷◌, [], ap, sym, arith, rules}
-use Rattle.ld_op.specs.Fields.{Got}
+use Rattle.ld_fields.specs.Fields.{Got}
 use Rattle.ld_op.specs.Bytes.{read_epochs}
-use Rattle.ld_op.specs.Judged.{IsOff}
-use Rattle.ld_op.specs.Resumed.{resumed}
+use Rattle.ld_fields.specs.Faults.{IsOff}
+use Rattle.ld_fields.specs.Resumed.{resumed}
 use Rattle.ld_op.proofs.Parts.{epochs_on, epochs_done, epochs_fault}
 use Rattle.ld_op.proofs.decode.read_epochs.Goals as goal
 

@@ -1,6 +1,6 @@
 use Rattle.std.proofs.Common.{◌≡◌, ◌≤◌, ◌-◌, length}
 use Rattle.ld_op.specs.Bytes.{read_epochs}
-use Rattle.ld_op.specs.Resumed.{resumed}
+use Rattle.ld_fields.specs.Resumed.{resumed}
 use Rattle.ld_op.proofs.decode.read_epochs.Given as goal
 
 abbrev pub invariant-epochs : goal.invariant-epochs

@@ -1,47 +1,52 @@
-use Rattle.std.proofs.Common.{◌≡◌, ◌<◌, ◌-◌, ◌^◌, ◌∙◌, ap, sym, subst, arith, true, rules, Some, None}
+use Rattle.std.proofs.Common.{◌≡◌, ◌+◌, ◌∙◌, refl, ap, sym, arith, is_some, true, rules, Some, None, subst, List, ℕ}
 use Rattle.std.proofs.lemmas.Bool.Decides.{nat_tests}
 use Rattle.ld_table.specs.Table.{find, put}
-use Rattle.ld_msg.specs.Register.{next_epoch}
-use Rattle.ld_register.specs.Kept.{shown_log, shown_logs, is_held, log_at}
-use Rattle.ld_register.proofs.Tables.{written, Written, written_shown, shown_there, at_shown, never_there}
+use Rattle.ld_msg.specs.Register.{Epochs, next_epoch}
+use Rattle.ld_register.specs.Kept.{AreLogs, shown_log, shown_logs, is_held, log_at}
+use Rattle.ld_register.proofs.Tables.{written, Written, written_shown, at_there, shown_there, at_shown, never_there}
 use Rattle.ld_register.proofs.Few.{shown_few}
 use Rattle.ld_register.proofs.contents.activate_in.Goals as goal
 
 pub returns-in_default-clause-shown : goal.returns-in_default-clause-shown
 unfolding find
-returns-in_default-clause-shown c = let f : find c.number.result c.args.logs.now.entries ≡ None = search rules in absurd (never_there c.number.result c.args.log c.args.logs.now.entries c.number.ensures.value f c.requires.room)
+returns-in_default-clause-shown c = let f : find c.number.result c.args.logs.now.entries ≡ None = search rules in absurd (never_there c.number.result c.args.spec.now.log c.args.logs.now.entries c.number.ensures.value f c.requires.there)
 
 pub returns-in_default-clause-few : goal.returns-in_default-clause-few
 unfolding find
-returns-in_default-clause-few c = let f : find c.number.result c.args.logs.now.entries ≡ None = search rules in λ room. absurd (never_there c.number.result c.args.log c.args.logs.now.entries c.number.ensures.value f c.requires.room)
+returns-in_default-clause-few c = let f : find c.number.result c.args.logs.now.entries ≡ None = search rules in λ room. absurd (never_there c.number.result c.args.spec.now.log c.args.logs.now.entries c.number.ensures.value f c.requires.there)
 
-pub activate-requires : goal.activate-requires
+at : (c : goal.In-Some) → log_at c.args.logs.now.entries c.args.spec.now.log ≡ c.in-Some.state.now
 unfolding find
-activate-requires c = let f : find c.number.result c.args.logs.now.entries ≡ Some c.in-Some.state.now = search rules in
-    subst (λ v. v.epoch < 2 ^ 32 - 2) (shown_there c.number.result c.args.log c.in-Some.state.now c.args.logs.now.entries c.number.ensures.value c.get_mut.ensures.ordered f) c.requires.bound
+at c = let f : find c.number.result c.args.logs.now.entries ≡ Some c.in-Some.state.now = search rules in at_there c.number.result c.args.spec.now.log c.in-Some.state.now c.args.logs.now.entries c.number.ensures.value f
 
-bound : (c : goal.After-logs-2-1) → c.in-Some.state.now.epoch < 2 ^ 32 - 2
+pub activate-requires-clause-next : goal.activate-requires-clause-next
 unfolding find
-bound c = let f : find c.number.result c.args.logs.now.entries ≡ Some c.in-Some.state.now = search rules in
-    subst (λ v. v.epoch < 2 ^ 32 - 2) (shown_there c.number.result c.args.log c.in-Some.state.now c.args.logs.now.entries c.number.ensures.value c.get_mut.ensures.ordered f) c.requires.bound
+activate-requires-clause-next c = let f : find c.number.result c.args.logs.now.entries ≡ Some c.in-Some.state.now = search rules in
+    c.requires.next ∙ ap (λ v. v.epoch + 1) (shown_there c.number.result c.args.spec.now.log c.in-Some.state.now c.args.logs.now.entries c.number.ensures.value c.get_mut.ensures.ordered f)
 
-wr : (c : goal.After-logs-2-1) → Written c.args.log c.in-Some.state.now c.activate.new.self c.args.logs.now.entries (c.get_mut.follows.lender c.activate.new.self).entries
+pub activate-requires-clause-room : goal.activate-requires-clause-room
+activate-requires-clause-room c = ap (λ v. is_some (find c.args.e v.specs)) (sym (at c)) ∙ c.requires.room
+
+wr : (c : goal.After-logs-2-1) → Written c.args.spec.now.log c.in-Some.state.now c.activate.new.self c.args.logs.now.entries (c.get_mut.follows.lender c.activate.new.self).entries
 unfolding find
 wr c = let f : find c.number.result c.args.logs.now.entries ≡ Some c.in-Some.state.now = search rules in
-    written c.number.result c.args.log c.in-Some.state.now c.activate.new.self c.args.logs.now.entries _ c.number.ensures.value c.get_mut.ensures.ordered f ((c.get_mut.follows.holds c.activate.new.self).0) c.number.ensures.bounds
+    written c.number.result c.args.spec.now.log c.in-Some.state.now c.activate.new.self c.args.logs.now.entries _ c.number.ensures.value c.get_mut.ensures.ordered f ((c.get_mut.follows.holds c.activate.new.self).0) c.number.ensures.bounds
 
 held : (c : goal.After-logs-2-1) → is_held c.activate.new.self ≡ true
-held c = ap is_held c.activate.ensures ∙ grind (arith, nat_tests)
+held c = let l = ap (λ v. v.epoch) c.activate.ensures.shown in let n = c.requires.next in grind (arith, nat_tests)
 
-shown : (c : goal.After-logs-2-1) → shown_logs (c.get_mut.follows.lender c.activate.new.self).entries ≡ put c.args.log (next_epoch (log_at (shown_logs c.args.logs.now.entries) c.args.log)) (shown_logs c.args.logs.now.entries)
-shown c = written_shown c.args.log c.in-Some.state.now c.activate.new.self c.args.logs.now.entries _ c.get_mut.ensures.ordered (wr c) (held c)
-    ∙ ap (λ v. put c.args.log v (shown_logs c.args.logs.now.entries)) (ap shown_log c.activate.ensures ∙ ap next_epoch (sym (at_shown c.args.log c.args.logs.now.entries c.get_mut.ensures.ordered ∙ ap shown_log (wr c).at_was)))
+shown : (c : goal.After-logs-2-1) → shown_logs (c.get_mut.follows.lender c.activate.new.self).entries ≡ put c.args.spec.now.log (next_epoch (log_at (shown_logs c.args.logs.now.entries) c.args.spec.now.log) c.args.spec.now) (shown_logs c.args.logs.now.entries)
+shown c = written_shown c.args.spec.now.log c.in-Some.state.now c.activate.new.self c.args.logs.now.entries _ c.get_mut.ensures.ordered (wr c) (held c)
+    ∙ ap (λ v. put c.args.spec.now.log v (shown_logs c.args.logs.now.entries)) (c.activate.ensures.shown ∙ ap (λ v. next_epoch v c.args.spec.now) (sym (at_shown c.args.spec.now.log c.args.logs.now.entries c.get_mut.ensures.ordered ∙ ap shown_log (wr c).at_was)))
 
 pub returns-clause-shown : goal.returns-clause-shown
 returns-clause-shown c = shown c
 
 pub returns-clause-few : goal.returns-clause-few
-returns-clause-few c = λ room. shown_few c.args.log (next_epoch (log_at (shown_logs c.args.logs.now.entries) c.args.log)) c.args.logs.now.entries (c.get_mut.follows.lender c.activate.new.self).entries (shown c) c.get_mut.ensures.ordered room
+returns-clause-few c = λ room. shown_few c.args.spec.now.log (next_epoch (log_at (shown_logs c.args.logs.now.entries) c.args.spec.now.log) c.args.spec.now) c.args.logs.now.entries (c.get_mut.follows.lender c.activate.new.self).entries (shown c) c.get_mut.ensures.ordered room
 
 pub returns-clause-logs : goal.returns-clause-logs
-returns-clause-logs c = (wr c).logs (λ b. let r = bound c in let s = ap (λ v. v.epoch) c.activate.ensures in omega arith)
+returns-clause-logs c = (wr c).logs (c.activate.ensures.of c.args.spec.now.log (record { is = c.requires.spec; log = refl }))
+
+pub returns-in_default-clause-logs : goal.returns-in_default-clause-logs
+returns-in_default-clause-logs c = let e : c.get_mut.follows.lender-at-none.entries ≡ c.args.logs.now.entries = search rules in subst (λ (m : List (ℕ × Epochs)). AreLogs m) (sym e)

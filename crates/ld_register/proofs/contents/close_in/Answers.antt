@@ -1,8 +1,8 @@
-use Rattle.std.proofs.Common.{◌≡◌, ◌+◌, ◌∙◌, ap, sym, arith, is_some, true, rules, Some, None}
+use Rattle.std.proofs.Common.{◌≡◌, ◌+◌, ◌∙◌, ap, sym, arith, is_some, true, rules, Some, None, subst, List, ℕ}
 use Rattle.std.proofs.lemmas.Bool.Decides.{nat_tests}
 use Rattle.ld_table.specs.Table.{find, put}
-use Rattle.ld_msg.specs.Register.{closed_epochs}
-use Rattle.ld_register.specs.Kept.{shown_log, shown_logs, is_held, log_at}
+use Rattle.ld_msg.specs.Register.{Epochs, closed_epochs}
+use Rattle.ld_register.specs.Kept.{AreLogs, shown_log, shown_logs, is_held, log_at}
 use Rattle.ld_register.proofs.Tables.{written, Written, written_shown, at_there, shown_there, at_shown, never_there}
 use Rattle.ld_register.proofs.Few.{shown_few}
 use Rattle.ld_register.proofs.contents.close_in.Goals as goal
@@ -33,11 +33,11 @@ wr c = let f : find c.number.result c.args.logs.now.entries ≡ Some c.in-Some.s
     written c.number.result c.args.log c.in-Some.state.now c.close.new.self c.args.logs.now.entries _ c.number.ensures.value c.get_mut.ensures.ordered f ((c.get_mut.follows.holds c.close.new.self).0) c.number.ensures.bounds
 
 held : (c : goal.After-logs-2-1) → is_held c.close.new.self ≡ true
-held c = let l = ap (λ v. v.lce) c.close.ensures in let n = c.requires.next in grind (arith, nat_tests)
+held c = let l = ap (λ v. v.lce) c.close.ensures.shown in let n = c.requires.next in grind (arith, nat_tests)
 
 shown : (c : goal.After-logs-2-1) → shown_logs (c.get_mut.follows.lender c.close.new.self).entries ≡ put c.args.log (closed_epochs (log_at (shown_logs c.args.logs.now.entries) c.args.log) c.args.e c.args.summary.now) (shown_logs c.args.logs.now.entries)
 shown c = written_shown c.args.log c.in-Some.state.now c.close.new.self c.args.logs.now.entries _ c.get_mut.ensures.ordered (wr c) (held c)
-    ∙ ap (λ v. put c.args.log v (shown_logs c.args.logs.now.entries)) (c.close.ensures ∙ ap (λ v. closed_epochs v c.args.e c.args.summary.now) (sym (at_shown c.args.log c.args.logs.now.entries c.get_mut.ensures.ordered ∙ ap shown_log (wr c).at_was)))
+    ∙ ap (λ v. put c.args.log v (shown_logs c.args.logs.now.entries)) (c.close.ensures.shown ∙ ap (λ v. closed_epochs v c.args.e c.args.summary.now) (sym (at_shown c.args.log c.args.logs.now.entries c.get_mut.ensures.ordered ∙ ap shown_log (wr c).at_was)))
 
 pub returns-clause-shown : goal.returns-clause-shown
 returns-clause-shown c = shown c
@@ -46,4 +46,7 @@ pub returns-clause-few : goal.returns-clause-few
 returns-clause-few c = λ room. shown_few c.args.log (closed_epochs (log_at (shown_logs c.args.logs.now.entries) c.args.log) c.args.e c.args.summary.now) c.args.logs.now.entries (c.get_mut.follows.lender c.close.new.self).entries (shown c) c.get_mut.ensures.ordered room
 
 pub returns-clause-logs : goal.returns-clause-logs
-returns-clause-logs c = (wr c).logs (λ b. let s = ap (λ v. v.epoch) c.close.ensures in omega arith)
+returns-clause-logs c = (wr c).logs (c.close.ensures.of c.args.log)
+
+pub returns-in_default-clause-logs : goal.returns-in_default-clause-logs
+returns-in_default-clause-logs c = let e : c.get_mut.follows.lender-at-none.entries ≡ c.args.logs.now.entries = search rules in subst (λ (m : List (ℕ × Epochs)). AreLogs m) (sym e)

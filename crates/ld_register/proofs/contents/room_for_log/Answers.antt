@@ -1,4 +1,5 @@
-use Rattle.std.proofs.Common.{◌≡◌, ◌∙◌, ap, sym, is_some, true}
+use Rattle.std.proofs.Common.{◌≡◌, ◌∙◌, ap, sym, subst, rules, List, ℕ, is_some, true}
+use Rattle.ld_msg.specs.Register.{Epochs}
 use Rattle.ld_table.specs.Table.{find, put}
 use Rattle.ld_register.specs.Kept.{shown_logs, log_at, AreLogs}
 use Rattle.ld_register.proofs.Tables.{room_logs}
@@ -25,3 +26,6 @@ returns-clause-there c = (made c).2
 
 pub returns-clause-logs : goal.returns-clause-logs
 returns-clause-logs c = (made c).3
+
+pub returns-in_err-insert-clause-logs : goal.returns-in_err-insert-clause-logs
+returns-in_err-insert-clause-logs c = let e : c.insert.new.self.entries ≡ c.args.logs.now.entries = search rules in subst (λ (m : List (ℕ × Epochs)). AreLogs m) (sym e)

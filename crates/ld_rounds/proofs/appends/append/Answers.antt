@@ -1,26 +1,37 @@
-use Rattle.std.proofs.Common.{◌≡◌, ◌∙◌, ◌+◌, ◌-◌, ◌==◌, refl, inr, Ok, Err, true, arith}
+use Rattle.std.proofs.Common.{◌≡◌, ◌∙◌, ◌+◌, ◌==◌, ◌++◌, ℕ, [], sym, subst, refl, inl, inr, ⊎_elim, Ok, Err, true, arith}
 use Rattle.std.proofs.lemmas.Result.{err_from_is_err_and}
-use Rattle.ld_rounds.specs.Drives.{IsBroken, retries_of}
+use Rattle.ld_ids.specs.Set.{members}
+use Rattle.ld_rounds.specs.declared.ended.Ended.TheVariants as ends
+use Rattle.ld_rounds.specs.Drives.{IsBroken}
+use Rattle.ld_rounds.specs.Feeding.{upcoming, SameBehind}
+use Rattle.ld_rounds.specs.Rounds.{Both, AreAppendRounds, Feeds, Rounds, RoundsUntil, Appends, AppendsUntil}
+use Rattle.ld_rounds.proofs.Joining.{turned, append_more, feeds_here, feeds_join, feeds_until, feeds_done, until_join, none_upcoming}
 use Rattle.ld_rounds.proofs.Visiting.{broken_since, broken_until, later_since}
 use Rattle.ld_rounds.proofs.Endings.{later_here, later_on}
-use Rattle.ld_rounds.proofs.Feeding.{append_since, one_more_retry}
-use Rattle.ld_rounds.proofs.Going.{went_here, then_on, turned}
+use Rattle.ld_rounds.proofs.Feeding.{append_since, same_here, same_on, over_later}
+use Rattle.ld_rounds.proofs.Going.{went_here, went_such, then_on}
 use Rattle.ld_rounds.proofs.appends.append.Goals as goal
 
 pub rounds-init : goal.rounds-init
 rounds-init g c = (
-  λ k first s far b told h. inr (went_here c.args.name.now (IsBroken (g.N.Nodes.faults c.args.nodes.now) (g.N.Nodes.faults c.args.nodes.now) (g.N.Nodes.endings c.args.nodes.now) (g.N.Nodes.endings c.args.nodes.now)) k first b (g.A.Actor.stands c.args.sequencer.now) (g.N.Nodes.tells c.args.nodes.now k) s far c.args.queues.now (g.O.Sink.written c.args.out.now) told h),
+  λ k first s far b told h. inr (went_here c.args.name.now (IsBroken (g.N.Nodes.faults c.args.nodes.now) (g.N.Nodes.faults c.args.nodes.now) (g.N.Nodes.endings c.args.nodes.now) (g.N.Nodes.endings c.args.nodes.now)) k first b (Both (AreAppendRounds c.args.name.now k first (members c.args.set.now) 0) (Feeds k (g.P.Payloads.coming c.args.input.now) (upcoming c.new-feed.result.held (g.P.Payloads.coming c.args.input.now)))) (g.A.Actor.stands c.args.sequencer.now) (g.N.Nodes.tells c.args.nodes.now k) s far c.args.queues.now (g.O.Sink.written c.args.out.now) (refl, subst (λ o. Feeds k (g.P.Payloads.coming c.args.input.now) (upcoming o (g.P.Payloads.coming c.args.input.now)) s []) (sym c.new-feed.ensures.held) (feeds_here k (g.P.Payloads.coming c.args.input.now) s)) told h),
   later_here _ _,
   (omega arith, omega arith),
   omega arith,
   refl,
+  over_later _ _ _ c.new-feed.ensures.on,
+  subst (λ o. SameBehind (g.P.Payloads.coming c.args.input.now) (upcoming o (g.P.Payloads.coming c.args.input.now))) (sym c.new-feed.ensures.held) (same_here (g.P.Payloads.coming c.args.input.now)),
+  refl,
+  g.met.A.Actor.since_here c.args.sequencer.now,
 )
 
 pub returns-in_err-append_round-clause-held : goal.returns-in_err-append_round-clause-held
 returns-in_err-append_round-clause-held g c k first s far b told h =
     let p = err_from_is_err_and c.from_residual.result c.from_residual.ensures.1 in
-    rw (p.1, p.2) (turned 0 c.args.rounds (c.rounds.number + 1 - 1) (omega arith) (omega arith) (then_on c.args.name.now (IsBroken (g.N.Nodes.faults c.args.nodes.now) (g.N.Nodes.faults c.append_round.new.nodes) (g.N.Nodes.endings c.args.nodes.now) (g.N.Nodes.endings c.append_round.new.nodes)) k first b {R = Unit {0}} (c.rounds.number - 1) (retries_of (c.rounds.number == 0)) (c.rounds.number + 1 - 1) (IsBroken (g.N.Nodes.faults c.args.nodes.now) (g.N.Nodes.faults c.rounds.nodes) (g.N.Nodes.endings c.args.nodes.now) (g.N.Nodes.endings c.rounds.nodes)) (IsBroken (g.N.Nodes.faults c.rounds.nodes) (g.N.Nodes.faults c.append_round.new.nodes) (g.N.Nodes.endings c.rounds.nodes) (g.N.Nodes.endings c.append_round.new.nodes)) (g.N.Nodes.silent c.rounds.nodes ≡ true) (g.N.Nodes.silent c.append_round.new.nodes ≡ true) (g.A.Actor.stands c.rounds.sequencer) (g.A.Actor.stands c.append_round.new.sequencer) (g.N.Nodes.tells c.rounds.nodes k) (g.N.Nodes.tells c.append_round.new.nodes k) s
-    c.rounds.queues c.append_round.new.queues (g.O.Sink.written c.args.out.now) (g.O.Sink.written c.rounds.out) (g.O.Sink.written c.append_round.new.out) (Err c.in_err-append_round.field-0.0) (one_more_retry c.rounds.number) (broken_until _ _ _ _ _ _ c.in_err-append_round.ensures.counts) (broken_since _ _ _ _ _ _ c.rounds.invariant.2)
+    rw (p.1, p.2) (turned 0 c.args.rounds c.rounds.number (omega arith) (omega arith) (then_on c.args.name.now (IsBroken (g.N.Nodes.faults c.args.nodes.now) (g.N.Nodes.faults c.append_round.new.nodes) (g.N.Nodes.endings c.args.nodes.now) (g.N.Nodes.endings c.append_round.new.nodes)) k first b {R = Unit {0}} (Both (AreAppendRounds c.args.name.now k first (members c.args.set.now) c.rounds.number) (Feeds k (g.P.Payloads.coming c.args.input.now) (upcoming c.rounds.feed.held (g.P.Payloads.coming c.rounds.input)))) (Rounds c.args.name.now k first (members c.args.set.now) (c.rounds.number == 0) (upcoming c.rounds.feed.held (g.P.Payloads.coming c.rounds.input)) (upcoming c.append_round.new.feed.held (g.P.Payloads.coming c.append_round.new.input))) (Both (AreAppendRounds c.args.name.now k first (members c.args.set.now) (c.rounds.number + 1)) (Feeds k (g.P.Payloads.coming c.args.input.now) (upcoming c.append_round.new.feed.held (g.P.Payloads.coming c.append_round.new.input)))) (RoundsUntil c.args.name.now k (c.rounds.number == 0) (upcoming c.rounds.feed.held (g.P.Payloads.coming c.rounds.input))) (λ e. AppendsUntil c.args.name.now k first (members c.args.set.now) (g.P.Payloads.coming c.args.input.now) e c.rounds.number) (IsBroken (g.N.Nodes.faults c.args.nodes.now) (g.N.Nodes.faults c.rounds.nodes) (g.N.Nodes.endings c.args.nodes.now) (g.N.Nodes.endings c.rounds.nodes)) (IsBroken (g.N.Nodes.faults c.rounds.nodes) (g.N.Nodes.faults c.append_round.new.nodes) (g.N.Nodes.endings c.rounds.nodes) (g.N.Nodes.endings c.append_round.new.nodes)) (g.N.Nodes.silent c.rounds.nodes ≡ true) (g.N.Nodes.silent c.append_round.new.nodes ≡ true) (g.A.Actor.stands c.rounds.sequencer) (g.A.Actor.stands c.append_round.new.sequencer) (g.N.Nodes.tells c.rounds.nodes k) (g.N.Nodes.tells c.append_round.new.nodes k) s
+    c.rounds.queues c.append_round.new.queues (g.O.Sink.written c.args.out.now) (g.O.Sink.written c.rounds.out) (g.O.Sink.written c.append_round.new.out) (Err c.in_err-append_round.field-0.0)
+    (λ t es fs x y. (append_more k c.args.name.now first (members c.args.set.now) c.rounds.number t es fs x.0 y.0, feeds_join k (g.P.Payloads.coming c.args.input.now) (upcoming c.rounds.feed.held (g.P.Payloads.coming c.rounds.input)) (upcoming c.append_round.new.feed.held (g.P.Payloads.coming c.append_round.new.input)) t es fs x.1 y.1))
+    (λ t es fs x y. (record { front = es; rest = fs; whole = refl; came = x.0; goes = y.0 }, until_join k (g.P.Payloads.coming c.args.input.now) (upcoming c.rounds.feed.held (g.P.Payloads.coming c.rounds.input)) c.in_err-append_round.field-0.0 t es fs x.1 y.1)) (broken_until _ _ _ _ _ _ c.in_err-append_round.ensures.counts) (broken_since _ _ _ _ _ _ c.rounds.invariant.2)
     c.in_err-append_round.ensures.silent
     (λ w. c.in_err-append_round.ensures.held k first w.moved.state w.far b w.told w.moved.holds)
     (c.rounds.invariant.0 k first s far b told h)))
@@ -28,20 +39,24 @@ returns-in_err-append_round-clause-held g c k first s far b told h =
 pub returns-in_err-append_round-clause-cause : goal.returns-in_err-append_round-clause-cause
 returns-in_err-append_round-clause-cause g c =
     let p = err_from_is_err_and c.from_residual.result c.from_residual.ensures.1 in
-    rw (p.1, p.2) (append_since _ _ _ _ _ _ _ _ _ c.in_err-append_round.field-0.0 c.rounds.invariant.3 c.rounds.invariant.1 c.in_err-append_round.ensures.cause)
+    rw (p.1, p.2) (append_since _ _ _ _ _ _ _ _ _ _ _ c.in_err-append_round.field-0.0 c.rounds.invariant.6 c.rounds.invariant.3 c.rounds.invariant.1 c.in_err-append_round.ensures.cause)
 
 pub returns-then-are_empty-clause-held : goal.returns-then-are_empty-clause-held
 returns-then-are_empty-clause-held g c k first s far b told h =
-    turned 0 c.args.rounds (c.rounds.number + 1 - 1) (omega arith) (omega arith) (then_on c.args.name.now (IsBroken (g.N.Nodes.faults c.args.nodes.now) (g.N.Nodes.faults c.append_round.new.nodes) (g.N.Nodes.endings c.args.nodes.now) (g.N.Nodes.endings c.append_round.new.nodes)) k first b {R = Unit {0}} (c.rounds.number - 1) (retries_of (c.rounds.number == 0)) (c.rounds.number + 1 - 1) (IsBroken (g.N.Nodes.faults c.args.nodes.now) (g.N.Nodes.faults c.rounds.nodes) (g.N.Nodes.endings c.args.nodes.now) (g.N.Nodes.endings c.rounds.nodes)) (IsBroken (g.N.Nodes.faults c.rounds.nodes) (g.N.Nodes.faults c.append_round.new.nodes) (g.N.Nodes.endings c.rounds.nodes) (g.N.Nodes.endings c.append_round.new.nodes)) (g.N.Nodes.silent c.rounds.nodes ≡ true) (g.N.Nodes.silent c.append_round.new.nodes ≡ true) (g.A.Actor.stands c.rounds.sequencer) (g.A.Actor.stands c.append_round.new.sequencer) (g.N.Nodes.tells c.rounds.nodes k) (g.N.Nodes.tells c.append_round.new.nodes k) s
-    c.rounds.queues c.append_round.new.queues (g.O.Sink.written c.args.out.now) (g.O.Sink.written c.rounds.out) (g.O.Sink.written c.append_round.new.out) (Ok tt) (one_more_retry c.rounds.number) (broken_until _ _ _ _ _ _ c.in_ok-append_round.ensures.counts) (broken_since _ _ _ _ _ _ c.rounds.invariant.2)
+    turned 1 (c.args.rounds + 1) (c.rounds.number + 1) (omega arith) (omega arith) (then_on c.args.name.now (IsBroken (g.N.Nodes.faults c.args.nodes.now) (g.N.Nodes.faults c.append_round.new.nodes) (g.N.Nodes.endings c.args.nodes.now) (g.N.Nodes.endings c.append_round.new.nodes)) k first b {R = Unit {0}} (Both (AreAppendRounds c.args.name.now k first (members c.args.set.now) c.rounds.number) (Feeds k (g.P.Payloads.coming c.args.input.now) (upcoming c.rounds.feed.held (g.P.Payloads.coming c.rounds.input)))) (Rounds c.args.name.now k first (members c.args.set.now) (c.rounds.number == 0) (upcoming c.rounds.feed.held (g.P.Payloads.coming c.rounds.input)) (upcoming c.append_round.new.feed.held (g.P.Payloads.coming c.append_round.new.input))) (Appends c.args.name.now k first (members c.args.set.now) (g.P.Payloads.coming c.args.input.now) ends.Done (c.rounds.number + 1)) (RoundsUntil c.args.name.now k (c.rounds.number == 0) (upcoming c.rounds.feed.held (g.P.Payloads.coming c.rounds.input))) (λ e. AppendsUntil c.args.name.now k first (members c.args.set.now) (g.P.Payloads.coming c.args.input.now) e c.rounds.number) (IsBroken (g.N.Nodes.faults c.args.nodes.now) (g.N.Nodes.faults c.rounds.nodes) (g.N.Nodes.endings c.args.nodes.now) (g.N.Nodes.endings c.rounds.nodes)) (IsBroken (g.N.Nodes.faults c.rounds.nodes) (g.N.Nodes.faults c.append_round.new.nodes) (g.N.Nodes.endings c.rounds.nodes) (g.N.Nodes.endings c.append_round.new.nodes)) (g.N.Nodes.silent c.rounds.nodes ≡ true) (g.N.Nodes.silent c.append_round.new.nodes ≡ true) (g.A.Actor.stands c.rounds.sequencer) (g.A.Actor.stands c.append_round.new.sequencer) (g.N.Nodes.tells c.rounds.nodes k) (g.N.Nodes.tells c.append_round.new.nodes k) s
+    c.rounds.queues c.append_round.new.queues (g.O.Sink.written c.args.out.now) (g.O.Sink.written c.rounds.out) (g.O.Sink.written c.append_round.new.out) (Ok tt)
+    (λ t es fs x y. (append_more k c.args.name.now first (members c.args.set.now) c.rounds.number t es fs x.0 y.0, feeds_done k (g.P.Payloads.coming c.args.input.now) (upcoming c.append_round.new.feed.held (g.P.Payloads.coming c.append_round.new.input)) t (es ++ fs) (none_upcoming _ _ _ c.if-feed.true (c.in_ok-append_round.ensures.over _ c.rounds.invariant.6 c.rounds.invariant.5)) (feeds_join k (g.P.Payloads.coming c.args.input.now) (upcoming c.rounds.feed.held (g.P.Payloads.coming c.rounds.input)) (upcoming c.append_round.new.feed.held (g.P.Payloads.coming c.append_round.new.input)) t es fs x.1 y.1)))
+    tt (broken_until _ _ _ _ _ _ c.in_ok-append_round.ensures.counts) (broken_since _ _ _ _ _ _ c.rounds.invariant.2)
     c.in_ok-append_round.ensures.silent
     (λ w. c.in_ok-append_round.ensures.held k first w.moved.state w.far b w.told w.moved.holds)
     (c.rounds.invariant.0 k first s far b told h))
 
 pub rounds-preserved : goal.rounds-preserved
 rounds-preserved g c = (
-  λ k first s far b told h. then_on c.args.name.now (IsBroken (g.N.Nodes.faults c.args.nodes.now) (g.N.Nodes.faults c.append_round.new.nodes) (g.N.Nodes.endings c.args.nodes.now) (g.N.Nodes.endings c.append_round.new.nodes)) k first b {R = Unit {0}} (c.rounds.number - 1) (retries_of (c.rounds.number == 0)) (c.rounds.number + 1 - 1) (IsBroken (g.N.Nodes.faults c.args.nodes.now) (g.N.Nodes.faults c.rounds.nodes) (g.N.Nodes.endings c.args.nodes.now) (g.N.Nodes.endings c.rounds.nodes)) (IsBroken (g.N.Nodes.faults c.rounds.nodes) (g.N.Nodes.faults c.append_round.new.nodes) (g.N.Nodes.endings c.rounds.nodes) (g.N.Nodes.endings c.append_round.new.nodes)) (g.N.Nodes.silent c.rounds.nodes ≡ true) (g.N.Nodes.silent c.append_round.new.nodes ≡ true) (g.A.Actor.stands c.rounds.sequencer) (g.A.Actor.stands c.append_round.new.sequencer) (g.N.Nodes.tells c.rounds.nodes k) (g.N.Nodes.tells c.append_round.new.nodes k) s
-      c.rounds.queues c.append_round.new.queues (g.O.Sink.written c.args.out.now) (g.O.Sink.written c.rounds.out) (g.O.Sink.written c.append_round.new.out) (Ok tt) (one_more_retry c.rounds.number) (broken_until _ _ _ _ _ _ c.in_ok-append_round.ensures.counts) (broken_since _ _ _ _ _ _ c.rounds.invariant.2)
+  λ k first s far b told h. then_on c.args.name.now (IsBroken (g.N.Nodes.faults c.args.nodes.now) (g.N.Nodes.faults c.append_round.new.nodes) (g.N.Nodes.endings c.args.nodes.now) (g.N.Nodes.endings c.append_round.new.nodes)) k first b {R = Unit {0}} (Both (AreAppendRounds c.args.name.now k first (members c.args.set.now) c.rounds.number) (Feeds k (g.P.Payloads.coming c.args.input.now) (upcoming c.rounds.feed.held (g.P.Payloads.coming c.rounds.input)))) (Rounds c.args.name.now k first (members c.args.set.now) (c.rounds.number == 0) (upcoming c.rounds.feed.held (g.P.Payloads.coming c.rounds.input)) (upcoming c.append_round.new.feed.held (g.P.Payloads.coming c.append_round.new.input))) (Both (AreAppendRounds c.args.name.now k first (members c.args.set.now) (c.rounds.number + 1)) (Feeds k (g.P.Payloads.coming c.args.input.now) (upcoming c.append_round.new.feed.held (g.P.Payloads.coming c.append_round.new.input)))) (RoundsUntil c.args.name.now k (c.rounds.number == 0) (upcoming c.rounds.feed.held (g.P.Payloads.coming c.rounds.input))) (λ e. AppendsUntil c.args.name.now k first (members c.args.set.now) (g.P.Payloads.coming c.args.input.now) e c.rounds.number) (IsBroken (g.N.Nodes.faults c.args.nodes.now) (g.N.Nodes.faults c.rounds.nodes) (g.N.Nodes.endings c.args.nodes.now) (g.N.Nodes.endings c.rounds.nodes)) (IsBroken (g.N.Nodes.faults c.rounds.nodes) (g.N.Nodes.faults c.append_round.new.nodes) (g.N.Nodes.endings c.rounds.nodes) (g.N.Nodes.endings c.append_round.new.nodes)) (g.N.Nodes.silent c.rounds.nodes ≡ true) (g.N.Nodes.silent c.append_round.new.nodes ≡ true) (g.A.Actor.stands c.rounds.sequencer) (g.A.Actor.stands c.append_round.new.sequencer) (g.N.Nodes.tells c.rounds.nodes k) (g.N.Nodes.tells c.append_round.new.nodes k) s
+      c.rounds.queues c.append_round.new.queues (g.O.Sink.written c.args.out.now) (g.O.Sink.written c.rounds.out) (g.O.Sink.written c.append_round.new.out) (Ok tt)
+      (λ t es fs x y. (append_more k c.args.name.now first (members c.args.set.now) c.rounds.number t es fs x.0 y.0, feeds_join k (g.P.Payloads.coming c.args.input.now) (upcoming c.rounds.feed.held (g.P.Payloads.coming c.rounds.input)) (upcoming c.append_round.new.feed.held (g.P.Payloads.coming c.append_round.new.input)) t es fs x.1 y.1))
+      tt (broken_until _ _ _ _ _ _ c.in_ok-append_round.ensures.counts) (broken_since _ _ _ _ _ _ c.rounds.invariant.2)
       c.in_ok-append_round.ensures.silent
       (λ w. c.in_ok-append_round.ensures.held k first w.moved.state w.far b w.told w.moved.holds)
       (c.rounds.invariant.0 k first s far b told h),
@@ -49,4 +64,22 @@ rounds-preserved g c = (
   later_since _ _ _ _ _ _ c.rounds.invariant.2 c.in_ok-append_round.ensures.counts,
   (let a = c.rounds.invariant.3 in let b = c.in_ok-append_round.ensures.input_later in omega (arith, a, b)),
   c.in_ok-append_round.ensures.itself ∙ c.rounds.invariant.4,
+  c.in_ok-append_round.ensures.over _ c.rounds.invariant.6 c.rounds.invariant.5,
+  same_on _ _ _ c.rounds.invariant.6 c.in_ok-append_round.ensures.behind,
+  c.in_ok-append_round.ensures.actor ∙ c.rounds.invariant.7,
+  g.met.A.Actor.since_on c.args.sequencer.now c.rounds.sequencer c.append_round.new.sequencer c.rounds.invariant.8 c.in_ok-append_round.ensures.since,
 )
+
+pub returns-clause-held : goal.returns-clause-held
+returns-clause-held g c k first s far b told h =
+    let broken = IsBroken (g.N.Nodes.faults c.args.nodes.now) (g.N.Nodes.faults c.rounds.nodes) (g.N.Nodes.endings c.args.nodes.now) (g.N.Nodes.endings c.rounds.nodes) in
+    let all : c.rounds.number ≡ c.args.rounds = omega arith in
+    ⊎_elim (λ quiet. inl quiet) (λ w. inr (went_such c.args.name.now broken k first b broken (Both (AreAppendRounds c.args.name.now k first (members c.args.set.now) c.rounds.number) (Feeds k (g.P.Payloads.coming c.args.input.now) (upcoming c.rounds.feed.held (g.P.Payloads.coming c.rounds.input)))) (Appends c.args.name.now k first (members c.args.set.now) (g.P.Payloads.coming c.args.input.now) ends.Rounds c.args.rounds) (g.A.Actor.stands c.rounds.sequencer) (g.N.Nodes.tells c.rounds.nodes k) (g.N.Nodes.tells c.rounds.nodes k) s c.rounds.queues (g.O.Sink.written c.args.out.now) (g.O.Sink.written c.rounds.out) (λ l. l) (λ f t. t) w
+    (λ es o x. (subst (λ (n : ℕ). AreAppendRounds c.args.name.now k first (members c.args.set.now) n s es) all x.0, feeds_until k (g.P.Payloads.coming c.args.input.now) (upcoming c.rounds.feed.held (g.P.Payloads.coming c.rounds.input)) ends.Rounds s es tt x.1))))
+    (c.rounds.invariant.0 k first s far b told h)
+
+pub returns-then-are_empty-clause-since : goal.returns-then-are_empty-clause-since
+returns-then-are_empty-clause-since g c = g.met.A.Actor.since_on c.args.sequencer.now c.rounds.sequencer c.append_round.new.sequencer c.rounds.invariant.8 c.in_ok-append_round.ensures.since
+
+pub returns-in_err-append_round-clause-since : goal.returns-in_err-append_round-clause-since
+returns-in_err-append_round-clause-since g c = g.met.A.Actor.since_on c.args.sequencer.now c.rounds.sequencer c.append_round.new.sequencer c.rounds.invariant.8 c.in_err-append_round.ensures.since

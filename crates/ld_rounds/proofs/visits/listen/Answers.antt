@@ -3,6 +3,7 @@ use Rattle.std.proofs.lemmas.Result.{err_from_is_err_and}
 use Rattle.ld_msg.specs.declared.msg.Msg.{Msg}
 use Rattle.ld_dial.specs.Far.{Far, Receives, IsNext, CountsEnding}
 use Rattle.ld_rounds.specs.Drives.{IsBroken, WithNode, GoesOn}
+use Rattle.ld_rounds.specs.Rounds.{Quiet, QuietEnd}
 use Rattle.ld_rounds.proofs.Going.{went_here, goes_as}
 use Rattle.ld_rounds.proofs.Visiting.{next_on, unheard}
 use Rattle.ld_rounds.proofs.visits.listen.Goals as goal
@@ -17,13 +18,13 @@ pub returns-in-Err-clause-held : goal.returns-in-Err-clause-held
 returns-in-Err-clause-held g c name k first s far b told present h =
     let U = WithNode (g.N.Nodes.tells c.receive.new.self) k c.args.node in
     let w = g.O.Sink.written c.args.out.now in
-    subst (λ r. GoesOn name (IsBroken (g.N.Nodes.faults c.args.nodes.now) (g.N.Nodes.faults c.receive.new.self) (g.N.Nodes.endings c.args.nodes.now) (g.N.Nodes.endings c.receive.new.self)) 0 (g.A.Actor.stands c.args.actor.now) U k first s c.args.queues.now w w r) (sym c.missed.ensures.value)
+    subst (λ r. GoesOn name (IsBroken (g.N.Nodes.faults c.args.nodes.now) (g.N.Nodes.faults c.receive.new.self) (g.N.Nodes.endings c.args.nodes.now) (g.N.Nodes.endings c.receive.new.self)) Quiet QuietEnd (g.A.Actor.stands c.args.actor.now) U k first s c.args.queues.now w w r) (sym c.missed.ensures.value)
     (unheard name (IsBroken (g.N.Nodes.faults c.args.nodes.now) (g.N.Nodes.faults c.receive.new.self) (g.N.Nodes.endings c.args.nodes.now) (g.N.Nodes.endings c.receive.new.self)) k first b (g.A.Actor.stands c.args.actor.now) (g.met.A.Actor.stands_apart c.args.actor.now) s (g.N.Nodes.tells c.receive.new.self k) U far c.args.queues.now w c.in-Err.fault (c.in-Err.ensures.received k far told))
 
 pub returns-in_default-clause-held : goal.returns-in_default-clause-held
 returns-in_default-clause-held g c name k first s far b told present h =
     let none = nothing_came far (g.N.Nodes.tells c.receive.new.self k) c.in-Ok.next c.in_default.is (c.in-Ok.ensures.received k far told) in
-    went_here name (IsBroken (g.N.Nodes.faults c.args.nodes.now) (g.N.Nodes.faults c.receive.new.self) (g.N.Nodes.endings c.args.nodes.now) (g.N.Nodes.endings c.receive.new.self)) k first b (g.A.Actor.stands c.args.actor.now) (WithNode (g.N.Nodes.tells c.receive.new.self) k c.args.node) s far c.args.queues.now (g.O.Sink.written c.args.out.now) (none, present) h
+    went_here name (IsBroken (g.N.Nodes.faults c.args.nodes.now) (g.N.Nodes.faults c.receive.new.self) (g.N.Nodes.endings c.args.nodes.now) (g.N.Nodes.endings c.receive.new.self)) k first b Quiet (g.A.Actor.stands c.args.actor.now) (WithNode (g.N.Nodes.tells c.receive.new.self) k c.args.node) s far c.args.queues.now (g.O.Sink.written c.args.out.now) tt (none, present) h
 
 pub returns-in_err-take-clause-held : goal.returns-in_err-take-clause-held
 returns-in_err-take-clause-held g c name k first s far b told present h =
@@ -32,7 +33,7 @@ returns-in_err-take-clause-held g c name k first s far b told present h =
     let new = c.take.new.actor in
     let next = next_came far (g.N.Nodes.tells c.receive.new.self k) c.in-Ok.next c.in-Some.answer c.in-Some.is (c.in-Ok.ensures.received k far told) in
     rw (p.1, p.2) (next_on name (IsBroken (g.N.Nodes.faults c.args.nodes.now) (g.N.Nodes.faults c.receive.new.self) (g.N.Nodes.endings c.args.nodes.now) (g.N.Nodes.endings c.receive.new.self)) k first b (g.A.Actor.stands old) (g.met.A.Actor.stands_apart old) s {R = Bool} (g.N.Nodes.tells c.receive.new.self) far c.args.node (g.A.Actor.stands new) c.take.new.queues (g.O.Sink.written c.args.out.now) (g.O.Sink.written c.take.new.out)
-    c.in-Some.answer (Err c.in_err-take.field-0.0) present next (goes_as name (IsBroken (g.N.Nodes.faults c.args.nodes.now) (g.N.Nodes.faults c.receive.new.self) (g.N.Nodes.endings c.args.nodes.now) (g.N.Nodes.endings c.receive.new.self)) k first b {R = Bool} 0 ⊥ (g.A.Actor.stands new) (λ now. now ≡ record far { answers = next.rest }) (λ now. now ≡ record far { answers = next.rest }) s c.take.new.queues (g.O.Sink.written c.args.out.now) (g.O.Sink.written c.take.new.out) (Err c.in_err-take.field-0.0) (λ x. absurd x) (λ f t. t) (c.in_err-take.ensures.held name k first s far next.rest b next.first h)))
+    c.in-Some.answer (Err c.in_err-take.field-0.0) present next (goes_as name (IsBroken (g.N.Nodes.faults c.args.nodes.now) (g.N.Nodes.faults c.receive.new.self) (g.N.Nodes.endings c.args.nodes.now) (g.N.Nodes.endings c.receive.new.self)) k first b {R = Bool} Quiet QuietEnd ⊥ (g.A.Actor.stands new) (λ now. now ≡ record far { answers = next.rest }) (λ now. now ≡ record far { answers = next.rest }) s c.take.new.queues (g.O.Sink.written c.args.out.now) (g.O.Sink.written c.take.new.out) (Err c.in_err-take.field-0.0) (λ x. absurd x) (λ f t. t) (c.in_err-take.ensures.held name k first s far next.rest b next.first h)))
 
 pub returns-clause-held : goal.returns-clause-held
 returns-clause-held g c name k first s far b told present h =
@@ -40,8 +41,14 @@ returns-clause-held g c name k first s far b told present h =
     let new = c.take.new.actor in
     let next = next_came far (g.N.Nodes.tells c.receive.new.self k) c.in-Ok.next c.in-Some.answer c.in-Some.is (c.in-Ok.ensures.received k far told) in
     next_on name (IsBroken (g.N.Nodes.faults c.args.nodes.now) (g.N.Nodes.faults c.receive.new.self) (g.N.Nodes.endings c.args.nodes.now) (g.N.Nodes.endings c.receive.new.self)) k first b (g.A.Actor.stands old) (g.met.A.Actor.stands_apart old) s {R = Bool} (g.N.Nodes.tells c.receive.new.self) far c.args.node (g.A.Actor.stands new) c.take.new.queues (g.O.Sink.written c.args.out.now) (g.O.Sink.written c.take.new.out)
-    c.in-Some.answer (Ok true) present next (goes_as name (IsBroken (g.N.Nodes.faults c.args.nodes.now) (g.N.Nodes.faults c.receive.new.self) (g.N.Nodes.endings c.args.nodes.now) (g.N.Nodes.endings c.receive.new.self)) k first b {R = Bool} 0 ⊥ (g.A.Actor.stands new) (λ now. now ≡ record far { answers = next.rest }) (λ now. now ≡ record far { answers = next.rest }) s c.take.new.queues (g.O.Sink.written c.args.out.now) (g.O.Sink.written c.take.new.out) (Ok true) (λ x. absurd x) (λ f t. t) (c.in_ok-take.ensures.held name k first s far next.rest b next.first h))
+    c.in-Some.answer (Ok true) present next (goes_as name (IsBroken (g.N.Nodes.faults c.args.nodes.now) (g.N.Nodes.faults c.receive.new.self) (g.N.Nodes.endings c.args.nodes.now) (g.N.Nodes.endings c.receive.new.self)) k first b {R = Bool} Quiet QuietEnd ⊥ (g.A.Actor.stands new) (λ now. now ≡ record far { answers = next.rest }) (λ now. now ≡ record far { answers = next.rest }) s c.take.new.queues (g.O.Sink.written c.args.out.now) (g.O.Sink.written c.take.new.out) (Ok true) (λ x. absurd x) (λ f t. t) (c.in_ok-take.ensures.held name k first s far next.rest b next.first h))
 
 pub returns-in_default-clause-broken : goal.returns-in_default-clause-broken
 returns-in_default-clause-broken g c = λ e.
     inr (subst (λ (o : Option Msg). CountsEnding (g.N.Nodes.endings c.args.nodes.now) (g.N.Nodes.endings c.receive.new.self) (Ok o)) c.in_default.is c.in-Ok.ensures.ended).0
+
+pub returns-in-Err-clause-since : goal.returns-in-Err-clause-since
+returns-in-Err-clause-since g c = g.met.A.Actor.since_here c.args.actor.now
+
+pub returns-in_default-clause-since : goal.returns-in_default-clause-since
+returns-in_default-clause-since g c = g.met.A.Actor.since_here c.args.actor.now

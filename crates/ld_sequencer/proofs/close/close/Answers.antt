@@ -1,6 +1,48 @@
-use Rattle.std.proofs.Common.{rules}
+use Rattle.std.proofs.Common.{rules, Err, ap, ◌∙◌, arith}
+use Rattle.std.proofs.lemmas.Bool.Decides.{nat_tests}
+use Rattle.ld_register.specs.Bounds.{IsSpecFor}
+use Rattle.ld_register.specs.declared.fault.RegisterFault.TheVariants as registers
+use Rattle.ld_sequencer.specs.declared.close.Tried.TheVariants as tried
 use Rattle.ld_sequencer.proofs.Causes.{close_cause}
+use Rattle.ld_sequencer.proofs.Telling.{fixed_is, taken_as, behind_as, ok_isnt, ok_free, behind_isnt, behind_free, passed_exact, passed_held}
 use Rattle.ld_sequencer.proofs.close.close.Goals as goal
+
+pub returns-in-Ok-clause-exact : goal.returns-in-Ok-clause-exact
+returns-in-Ok-clause-exact g c = λ x h.
+    let r = c.close.result in let l = c.args.log in let e = c.args.epoch in let y = c.args.summary.now in let f = c.args.first.now in
+    passed_exact f x l e y (g.G.Register.tells c.close.new.self) r (tried.Taken c.unwrap_or.result) (ok_isnt r c.in-Ok.next registers.LogLimit c.in-Ok.is) (taken_as f x l e y r c.in-Ok.next c.unwrap_or.result c.in-Ok.is c.unwrap_or.ensures)
+    (c.close.ensures.exact x h) (ok_isnt r c.in-Ok.next registers.NoMemory c.in-Ok.is)
+
+pub returns-in-Ok-clause-held : goal.returns-in-Ok-clause-held
+returns-in-Ok-clause-held g c = λ x h.
+    let r = c.close.result in let l = c.args.log in let e = c.args.epoch in let y = c.args.summary.now in let f = c.args.first.now in
+    passed_held f x l e y (g.G.Register.holds c.close.new.self) r (tried.Taken c.unwrap_or.result) (ok_isnt r c.in-Ok.next registers.LogLimit c.in-Ok.is) (taken_as f x l e y r c.in-Ok.next c.unwrap_or.result c.in-Ok.is c.unwrap_or.ensures)
+    (c.close.ensures.answers x h) (λ k. absurd (ok_free r c.in-Ok.next c.in-Ok.is k))
+
+pub returns-in-Err-Behind-clause-exact : goal.returns-in-Err-Behind-clause-exact
+returns-in-Err-Behind-clause-exact g c = λ x h.
+    let r = c.close.result in let l = c.args.log in let e = c.args.epoch in let y = c.args.summary.now in let f = c.args.first.now in
+    let lce = c.in-Err-Behind.lce in let next = c.in-Err-Behind.next in let is = c.in-Err-Behind.is ∙ ap Err c.in-Err-Behind.field-0-is in
+    passed_exact f x l e y (g.G.Register.tells c.close.new.self) r (tried.Behind lce c.unwrap_or-in-Err-Behind.result) (behind_isnt r lce next registers.LogLimit (λ p. cc) is) (behind_as f x l e y r lce next c.unwrap_or-in-Err-Behind.result is c.unwrap_or-in-Err-Behind.ensures)
+    (c.close.ensures.exact x h) (behind_isnt r lce next registers.NoMemory (λ p. cc) is)
+
+pub returns-in-Err-Behind-clause-held : goal.returns-in-Err-Behind-clause-held
+returns-in-Err-Behind-clause-held g c = λ x h.
+    let r = c.close.result in let l = c.args.log in let e = c.args.epoch in let y = c.args.summary.now in let f = c.args.first.now in
+    let lce = c.in-Err-Behind.lce in let next = c.in-Err-Behind.next in let is = c.in-Err-Behind.is ∙ ap Err c.in-Err-Behind.field-0-is in
+    passed_held f x l e y (g.G.Register.holds c.close.new.self) r (tried.Behind lce c.unwrap_or-in-Err-Behind.result) (behind_isnt r lce next registers.LogLimit (λ p. cc) is) (behind_as f x l e y r lce next c.unwrap_or-in-Err-Behind.result is c.unwrap_or-in-Err-Behind.ensures)
+    (c.close.ensures.answers x h) (λ k. absurd (behind_free r lce next is k))
+
+pub returns-in-Err-Behind-clause-bound : goal.returns-in-Err-Behind-clause-bound
+returns-in-Err-Behind-clause-bound g c =
+    let is = c.in-Err-Behind.is ∙ ap Err c.in-Err-Behind.field-0-is in
+    let most = (c.close.ensures.bounds c.in-Err-Behind.lce c.in-Err-Behind.next is).0 in
+    grind (arith, nat_tests)
+
+pub returns-in-Err-Behind-clause-next : goal.returns-in-Err-Behind-clause-next
+returns-in-Err-Behind-clause-next g c =
+    let is = c.in-Err-Behind.is ∙ ap Err c.in-Err-Behind.field-0-is in
+    fixed_is (IsSpecFor c.args.log) c.args.first.now c.requires.first c.in-Err-Behind.next c.unwrap_or-in-Err-Behind.result c.unwrap_or-in-Err-Behind.ensures (c.close.ensures.bounds c.in-Err-Behind.lce c.in-Err-Behind.next is).1
 
 pub returns-in-Err-clause-refused : goal.returns-in-Err-clause-refused
 returns-in-Err-clause-refused g c = search rules

@@ -1,6 +1,7 @@
 use Rattle.std.proofs.Common.{◌+◌, ◌++◌, drop, ap, sym, ◌∙◌, arith}
 use Rattle.ld_table.specs.Words.{without}
-use Rattle.ld_sequencer.proofs.Sends.{kept_one, is_new, there_is}
+use Rattle.ld_table.proofs.Places.{there_is}
+use Rattle.ld_sequencer.proofs.Sends.{kept_one, is_new}
 use Rattle.ld_sequencer.proofs.send.unstored.Goals as goal
 use Rattle.ld_sequencer.proofs.send.unstored.Goals.{in-Some, in_default}
 

@@ -9,10 +9,10 @@ pub returns-clause-asks : goal.returns-clause-asks
 returns-clause-asks c = λ own e d E one before a. asks_are own E e one before d a
 
 pub returns-clause-items : goal.returns-clause-items
-returns-clause-items c = λ own e wave s lost is E one before n a. items_sent own E e one before s lost wave is n a
+returns-clause-items c = λ own e lng wave s lost is E l one before n a. items_sent own E e one before s lost lng wave is l n a
 
 pub returns-clause-appends : goal.returns-clause-appends
-returns-clause-appends c = λ own s lost ps E n a. appends_sent own E s lost ps n a
+returns-clause-appends c = λ own lng s lost ps E l n a. appends_sent own E s lost lng ps l n a
 
 pub returns-clause-sent : goal.returns-clause-sent
 returns-clause-sent c = λ own l bs ms h p a. sent_behind own l bs ms (ms ++ posted (whos.Sequencer own) l bs) h p refl a

@@ -1,11 +1,14 @@
-use Rattle.ld_sequencer_bounds.proofs.Plans.{no_digest_is, with_page_is, with_lost_is, plan_is, settled_is}
+use Rattle.ld_sequencer_bounds.proofs.Plans.{no_digest_is, with_page_is, with_asks_is, with_lost_is, plan_is, settled_is}
 use Rattle.ld_sequencer_bounds.proofs.laws.recoveries_stay_in_bounds.Goals as goal
 
 pub returns-clause-start : goal.returns-clause-start
 returns-clause-start c = λ s e n. no_digest_is s e n
 
 pub returns-clause-page : goal.returns-clause-page
-returns-clause-page c = λ e y from upto trim es d p t a. with_page_is e y from upto trim es p t d a
+returns-clause-page c = λ e y from upto trim lng es d p t l a. with_page_is e y from upto trim lng es p t l d a
+
+pub returns-clause-anew : goal.returns-clause-anew
+returns-clause-anew c = λ e d a. with_asks_is e d a
 
 pub returns-clause-lost : goal.returns-clause-lost
 returns-clause-lost c = λ e y d a. with_lost_is e y d a

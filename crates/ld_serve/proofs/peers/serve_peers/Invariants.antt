@@ -1,7 +1,7 @@
 use Rattle.std.proofs.Common.{◌≡◌, None, Some, false, List}
 use Rattle.ld_link.specs.Peers.{Peers}
 use Rattle.ld_op.specs.declared.op.Op.{Op}
-use Rattle.ld_node.specs.Node.{id_of, sets_of, disk_of, must_load, is_blank, Holds}
+use Rattle.ld_node.specs.Node.{id_of, known_of, disk_of, must_load, is_blank, Holds}
 use Rattle.ld_serve.specs.Course.{Goes}
 use Rattle.ld_serve.specs.Serving.{state_of, after, answers, IsHeld}
 use Rattle.ld_serve.proofs.peers.serve_peers.Given as goal
@@ -9,11 +9,11 @@ use Rattle.ld_serve.proofs.peers.serve_peers.Given as goal
 abbrev pub invariant-turns : goal.invariant-turns
 invariant-turns g l =
     ((start : Peers) → g.L.Link.peers l.fn.link ≡ Some start
-    → Goes (after (id_of l.fn.node) (sets_of l.fn.node)) (answers (id_of l.fn.node) (sets_of l.fn.node)) l.is_there start (state_of l.fn.node) (g.L.Link.peers l.link) l.decoder.bytes (state_of l.node) l.counter)
+    → Goes (after (id_of l.fn.node) (known_of l.fn.node)) (answers (id_of l.fn.node) (known_of l.fn.node)) l.is_there start (state_of l.fn.node) (g.L.Link.peers l.link) l.decoder.bytes (state_of l.node) l.counter)
     × ((ops : List Op) → Holds g.D.Disk.seen g.D.Disk.may_leave l.fn.node ops → IsHeld g.D.Disk.seen g.D.Disk.may_leave l.node)
     × (l.decoder.fault ≡ None)
     × (id_of l.node ≡ id_of l.fn.node)
-    × (sets_of l.node ≡ sets_of l.fn.node)
+    × (known_of l.node ≡ known_of l.fn.node)
     × (is_blank l.node ≡ false)
     × (must_load l.node ≡ false)
     × (g.D.Disk.identity (disk_of l.node) ≡ g.D.Disk.identity (disk_of l.fn.node))

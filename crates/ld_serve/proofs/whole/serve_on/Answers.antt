@@ -1,7 +1,7 @@
-use Rattle.std.proofs.Common.{ℕ, List, [], Bool, OnOk, subst, inl, refl}
+use Rattle.std.proofs.Common.{ℕ, List, [], OnOk, subst, inl, refl}
 use Rattle.std.specs.Prelude.{IfErr}
-use Rattle.ld_node.specs.Sets.{sets_in}
-use Rattle.ld_node.specs.Node.{id_of, sets_of, plain_of, disk_of}
+use Rattle.ld_node.specs.Known.{Known, known_in}
+use Rattle.ld_node.specs.Node.{id_of, known_of, plain_of, disk_of}
 use Rattle.ld_serve.specs.Course.{IsServed, IsStopped}
 use Rattle.ld_serve.specs.Serving.{state_of, after, answers, IsHeld, IsCut}
 use Rattle.ld_serve.proofs.Serving.{the_state, stand}
@@ -21,11 +21,11 @@ returns-clause-served g c start is =
     let r = c.serve_peers-served.result in
     let peers = g.L.Link.peers c.serve_peers-served.new.link in
     let opened = c.in-Ok.ensures.node in
-    let kept = sets_in c.args.id c.args.config.now.logs in
+    let given = known_in c.args.config.now in
     let left = g.D.Disk.may_leave (disk_of new) in
-    let course : (i : ℕ) (sets : List (ℕ × List Bool)) (released : List (ℕ × ℕ)) → Type 0 = λ i sets released. OnOk r (IsServed (after i sets) (answers i sets) start (the_state (plain_of node) released) peers (state_of new) c.args.turns) in
-    rw c.into_disk.ensures (has_served (g.D.Disk.seen c.args.disk) left (g.G.Register.holds c.args.reg.now) c.args.id kept c.args.format r start peers c.args.turns (plain_of node) (state_of new) c.in-Ok.ensures.opens
-    (subst (λ i. course i kept []) opened.0 (subst (λ sets. course (id_of node) sets []) opened.1 (subst (λ released. course (id_of node) (sets_of node) released) opened.2 (c.serve_peers-served.ensures.served start is))))
+    let course : (i : ℕ) (known : Known) (released : List (ℕ × ℕ)) → Type 0 = λ i known released. OnOk r (IsServed (after i known) (answers i known) start (the_state (plain_of node) released) peers (state_of new) c.args.turns) in
+    rw c.into_disk.ensures (has_served (g.D.Disk.seen c.args.disk) left (g.G.Register.holds c.args.reg.now) c.args.id given c.args.format r start peers c.args.turns (plain_of node) (state_of new) c.in-Ok.ensures.opens
+    (subst (λ i. course i given []) opened.0 (subst (λ known. course (id_of node) known []) opened.1 (subst (λ released. course (id_of node) (known_of node) released) opened.2 (c.serve_peers-served.ensures.served start is))))
     (stands_whole (g.D.Disk.seen c.args.disk) r (IsHeld g.D.Disk.seen g.D.Disk.may_leave node) (IsHeld g.D.Disk.seen g.D.Disk.may_leave new) left _ c.in-Ok.ensures.holds (λ held. c.serve_peers-served.ensures.holds held.0 held.1)
     (λ held. stand g.D.Disk.seen g.D.Disk.may_leave new (plain_of new) refl held)))
 
@@ -36,13 +36,13 @@ returns-clause-stopped g c start is =
     let r = c.serve_peers-served.result in
     let peers = g.L.Link.peers c.serve_peers-served.new.link in
     let opened = c.in-Ok.ensures.node in
-    let kept = sets_in c.args.id c.args.config.now.logs in
+    let given = known_in c.args.config.now in
     let left = g.D.Disk.may_leave (disk_of new) in
     let held = IsHeld g.D.Disk.seen g.D.Disk.may_leave node in
-    let course : (i : ℕ) (sets : List (ℕ × List Bool)) (released : List (ℕ × ℕ)) → Type 0 = λ i sets released. IfErr r (λ stop. IsStopped (after i sets) (answers i sets) (IsCut i sets held left stop) start (the_state (plain_of node) released) peers (state_of new)) in
-    rw c.into_disk.ensures (has_stopped (g.D.Disk.seen c.args.disk) left (g.G.Register.holds c.args.reg.now) c.args.id kept c.args.format r start peers (plain_of node) (state_of new) held _ c.in-Ok.ensures.opens
+    let course : (i : ℕ) (known : Known) (released : List (ℕ × ℕ)) → Type 0 = λ i known released. IfErr r (λ stop. IsStopped (after i known) (answers i known) (IsCut i known held left stop) start (the_state (plain_of node) released) peers (state_of new)) in
+    rw c.into_disk.ensures (has_stopped (g.D.Disk.seen c.args.disk) left (g.G.Register.holds c.args.reg.now) c.args.id given c.args.format r start peers (plain_of node) (state_of new) held _ c.in-Ok.ensures.opens
     (told_of (g.D.Disk.seen c.args.disk) held c.in-Ok.ensures.holds)
-    (subst (λ i. course i kept []) opened.0 (subst (λ sets. course (id_of node) sets []) opened.1 (subst (λ released. course (id_of node) (sets_of node) released) opened.2 (c.serve_peers-served.ensures.stopped start is)))))
+    (subst (λ i. course i given []) opened.0 (subst (λ known. course (id_of node) known []) opened.1 (subst (λ released. course (id_of node) (known_of node) released) opened.2 (c.serve_peers-served.ensures.stopped start is)))))
 
 pub returns-clause-opening : goal.returns-clause-opening
 returns-clause-opening g c = is_serving _ _ c.serve_peers-served.ensures.stops

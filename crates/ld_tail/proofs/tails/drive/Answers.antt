@@ -1,55 +1,125 @@
-use Rattle.std.proofs.Common.{◌≡◌, sym, subst, inr, Ok, Err, true, List, [], rules, arith}
-use Rattle.std.specs.Prelude.{IfSome}
+use Rattle.std.proofs.Common.{◌≡◌, ◌⊎◌, refl, sym, ◌∙◌, subst, inl, inr, Ok, Err, None, Some, true, List, [], rules}
 use Rattle.std.proofs.lemmas.Result.{err_from_is_err_and}
 use Rattle.ld_msg.specs.declared.msg.Msg.{Msg}
 use Rattle.ld_msg.specs.Bounds.{Is64}
-use Rattle.ld_rounds.specs.Ends.{IsSaid}
+use Rattle.ld_msg.specs.Register.{Register as Contents}
 use Rattle.ld_rounds.specs.Drives.{IsBroken, Holds}
 use Rattle.ld_rounds.proofs.Endings.{cause_since}
 use Rattle.ld_rounds.proofs.Going.{stopped_here}
-use Rattle.ld_tail.proofs.Fit.{none_are}
-use Rattle.ld_tail.proofs.Tailing.{reading, begun, opened_on, stopped_tail, drove_loud}
+use Rattle.ld_tail.specs.Looking.{IsLookEnd, HeldNone, HasLooked, looked_on}
+use Rattle.ld_tail.specs.Readers.{Follows}
+use Rattle.ld_tail.specs.Tails.{EndAt}
+use Rattle.ld_tail.proofs.Looked.{undamaged}
+use Rattle.ld_tail.proofs.Tailing.{begins_with, begun, renamed, opened_on, stopped_tail, drove_loud}
 use Rattle.ld_tail.proofs.tails.drive.Goals as goal
 
 pub returns-in_default-clause-drove : goal.returns-in_default-clause-drove
-returns-in_default-clause-drove g c s far told h = inr (stopped_here c.args.name (IsBroken (g.N.Nodes.faults c.args.nodes.now) (g.N.Nodes.faults c.args.nodes.now) (g.N.Nodes.endings c.args.nodes.now) (g.N.Nodes.endings c.args.nodes.now)) c.args.config.now s.network.count c.requires s (g.O.Sink.written c.args.out.now))
+returns-in_default-clause-drove g c s far told h =
+    let a = c.args.reading.now in
+    inr (stopped_here c.args.name.now (IsBroken (g.N.Nodes.faults c.args.nodes.now) (g.N.Nodes.faults c.args.nodes.now) (g.N.Nodes.endings c.args.nodes.now) (g.N.Nodes.endings c.args.nodes.now)) c.args.config.now s.network.count c.requires.bounds (EndAt (record { name = c.args.name.now; log = a.log; from = c.args.from; until = c.args.until }) c.args.config.now s.network.count c.args.rounds) s (g.O.Sink.written c.args.out.now) (inl (inl refl)))
+
+pub returns-in_default-new-clause-drove : goal.returns-in_default-new-clause-drove
+returns-in_default-new-clause-drove g c s far told h =
+    let a = c.args.reading.now in
+    inr (stopped_here c.args.name.now (IsBroken (g.N.Nodes.faults c.args.nodes.now) (g.N.Nodes.faults c.args.nodes.now) (g.N.Nodes.endings c.args.nodes.now) (g.N.Nodes.endings c.args.nodes.now)) c.args.config.now s.network.count c.requires.bounds (EndAt (record { name = c.args.name.now; log = a.log; from = c.args.from; until = c.args.until }) c.args.config.now s.network.count c.args.rounds) s (g.O.Sink.written c.args.out.now) (inl (inl refl)))
 
 pub returns-in_default-open-clause-drove : goal.returns-in_default-open-clause-drove
-returns-in_default-open-clause-drove g c s far told h = inr (stopped_here c.args.name (IsBroken (g.N.Nodes.faults c.args.nodes.now) (g.N.Nodes.faults c.args.nodes.now) (g.N.Nodes.endings c.args.nodes.now) (g.N.Nodes.endings c.args.nodes.now)) c.args.config.now s.network.count c.requires s (g.O.Sink.written c.args.out.now))
+returns-in_default-open-clause-drove g c s far told h =
+    let a = c.args.reading.now in
+    inr (stopped_here c.args.name.now (IsBroken (g.N.Nodes.faults c.args.nodes.now) (g.N.Nodes.faults c.args.nodes.now) (g.N.Nodes.endings c.args.nodes.now) (g.N.Nodes.endings c.args.nodes.now)) c.args.config.now s.network.count c.requires.bounds (EndAt (record { name = c.args.name.now; log = a.log; from = c.args.from; until = c.args.until }) c.args.config.now s.network.count c.args.rounds) s (g.O.Sink.written c.args.out.now) (inl (inl refl)))
 
 pub returns-in_err-tell-clause-drove : goal.returns-in_err-tell-clause-drove
 returns-in_err-tell-clause-drove g c s far told h =
     let p = err_from_is_err_and c.from_residual.result c.from_residual.ensures.1 in
+    let a = c.args.reading.now in
+    let x = c.look.new.self in
+    let z = c.open.new.self in
     let k = c.args.config.now in
     let first = s.network.count in
     let until : Is64 c.args.until = search rules in
     let heard = c.in-Ok-open.heard in
+    let T = g.G.Register.tells x.register in
+    let U = g.G.Register.tells z.register in
+    let looked = begins_with (g.G.Register.tells a.register) T k s far (c.in-Ok.ensures.exact s.register) h in
+    let first_holds = begun c.args.name.now (IsBroken (g.N.Nodes.faults c.args.nodes.now) (g.N.Nodes.faults c.args.nodes.now) (g.N.Nodes.endings c.args.nodes.now) (g.N.Nodes.endings c.args.nodes.now)) k c.requires.bounds T s far looked in
+    let begins = subst (λ (qs : List (List Msg)). Holds (Follows [] T) k first s far qs) (sym c.in-Ok-new.ensures) first_holds in
+    let acted = renamed (Follows z.readers U k) k s heard.lines.items heard.sends x.name c.args.name.now x.log a.log c.args.from c.args.until (c.in-Ok.ensures.name ∙ c.requires.name) c.in-Ok.ensures.log (c.in-Ok-open.ensures.opened (c.in-Ok.ensures.readers ∙ c.requires.none) s first_holds.actor) in
     let old = g.O.Sink.written c.args.out.now in
     let new = g.O.Sink.written c.tell.new.out in
     let e = c.in_err-tell.field-0.0 in
-    let begins = subst (λ (qs : List (List Msg)). Holds (reading []) k first s far qs) (sym c.in-Ok.ensures) (begun c.args.name (IsBroken (g.N.Nodes.faults c.args.nodes.now) (g.N.Nodes.faults c.args.nodes.now) (g.N.Nodes.endings c.args.nodes.now) (g.N.Nodes.endings c.args.nodes.now)) k c.requires s far h) in
-    let stops = opened_on c.args.name (IsBroken (g.N.Nodes.faults c.args.nodes.now) (g.N.Nodes.faults c.args.nodes.now) (g.N.Nodes.endings c.args.nodes.now) (g.N.Nodes.endings c.args.nodes.now)) k c.requires first [] c.in-Ok-open.reading.readers s far c.in-Ok.queues c.tell.new.queues old new heard begins (Err e) c.in_err-tell.ensures.told (g.N.Nodes.tells c.args.nodes.now k) told
-    c.args.log c.args.from c.args.until until (c.in-Ok-open.ensures.opened s (none_are k s h.readers)) in
-    let why = c.in_err-tell.ensures.ending (subst (λ o. IfSome o (IsSaid heard.lines.items)) (sym c.in-Ok-open.ensures.goes_on) tt) in
-    rw (p.1, p.2) (inr (stopped_tail c.args.name (IsBroken (g.N.Nodes.faults c.args.nodes.now) (g.N.Nodes.faults c.args.nodes.now) (g.N.Nodes.endings c.args.nodes.now) (g.N.Nodes.endings c.args.nodes.now)) c.args.rounds (g.N.Nodes.tells c.args.nodes.now) k first c.requires s c.in-Ok-open.reading.readers c.tell.new.queues old new e 0 (g.O.Sink.faults c.args.out.now) (g.O.Sink.faults c.tell.new.out) (omega arith) why stops))
+    let stops = opened_on c.args.name.now (IsBroken (g.N.Nodes.faults c.args.nodes.now) (g.N.Nodes.faults c.args.nodes.now) (g.N.Nodes.endings c.args.nodes.now) (g.N.Nodes.endings c.args.nodes.now)) k c.requires.bounds T first [] z.readers U s far c.in-Ok-new.queues c.tell.new.queues old new heard begins (Err e) c.in_err-tell.ensures.told (g.N.Nodes.tells c.args.nodes.now k) told a.log c.args.from c.args.until until acted in
+    rw (p.1, p.2) (inr (stopped_tail (record { name = c.args.name.now; log = a.log; from = c.args.from; until = c.args.until }) (IsBroken (g.N.Nodes.faults c.args.nodes.now) (g.N.Nodes.faults c.args.nodes.now) (g.N.Nodes.endings c.args.nodes.now) (g.N.Nodes.endings c.args.nodes.now)) c.args.rounds (g.N.Nodes.tells c.args.nodes.now) k c.requires.bounds s z.readers U c.tell.new.queues old new e stops))
 
 pub returns-clause-drove : goal.returns-clause-drove
 returns-clause-drove g c s far told h =
+    let a = c.args.reading.now in
+    let x = c.look.new.self in
+    let z = c.open.new.self in
     let k = c.args.config.now in
     let first = s.network.count in
-    let broken = IsBroken (g.N.Nodes.faults c.args.nodes.now) (g.N.Nodes.faults c.read.new.nodes) (g.N.Nodes.endings c.args.nodes.now) (g.N.Nodes.endings c.read.new.nodes) in
     let until : Is64 c.args.until = search rules in
     let heard = c.in-Ok-open.heard in
+    let T = g.G.Register.tells x.register in
+    let U = g.G.Register.tells z.register in
+    let looked = begins_with (g.G.Register.tells a.register) T k s far (c.in-Ok.ensures.exact s.register) h in
+    let first_holds = begun c.args.name.now (IsBroken (g.N.Nodes.faults c.args.nodes.now) (g.N.Nodes.faults c.read.new.nodes) (g.N.Nodes.endings c.args.nodes.now) (g.N.Nodes.endings c.read.new.nodes)) k c.requires.bounds T s far looked in
+    let begins = subst (λ (qs : List (List Msg)). Holds (Follows [] T) k first s far qs) (sym c.in-Ok-new.ensures) first_holds in
+    let acted = renamed (Follows z.readers U k) k s heard.lines.items heard.sends x.name c.args.name.now x.log a.log c.args.from c.args.until (c.in-Ok.ensures.name ∙ c.requires.name) c.in-Ok.ensures.log (c.in-Ok-open.ensures.opened (c.in-Ok.ensures.readers ∙ c.requires.none) s first_holds.actor) in
     let old = g.O.Sink.written c.args.out.now in
     let mid = g.O.Sink.written c.tell.new.out in
     let new = g.O.Sink.written c.read.new.out in
-    let T = g.N.Nodes.tells c.args.nodes.now k in
-    let gs = c.in-Ok-open.reading.readers in
-    let begins = subst (λ (qs : List (List Msg)). Holds (reading []) k first s far qs) (sym c.in-Ok.ensures) (begun c.args.name broken k c.requires s far h) in
-    let w = opened_on c.args.name broken k c.requires first [] gs s far c.in-Ok.queues c.tell.new.queues old mid heard begins (Ok tt) c.in_ok-tell.ensures.told T told
-    c.args.log c.args.from c.args.until until (c.in-Ok-open.ensures.opened s (none_are k s h.readers)) in
-    drove_loud c.args.name broken c.args.rounds (g.N.Nodes.tells c.read.new.nodes) k first c.requires s c.read.new.reader.readers c.read.new.queues old new (reading gs) T c.tell.new.queues mid (g.O.Sink.faults c.args.out.now) (g.O.Sink.faults c.read.new.out) w
-    (g.N.Nodes.silent c.read.new.nodes ≡ true) c.read.result c.read.ensures.finished (cause_since _ _ _ _ _ _ c.read.result c.in_ok-tell.ensures.later c.read.ensures.cause) (c.read.ensures.held k first w.moved.state w.far c.requires w.told w.moved.holds)
+    let N = g.N.Nodes.tells c.args.nodes.now k in
+    let v = opened_on c.args.name.now (IsBroken (g.N.Nodes.faults c.args.nodes.now) (g.N.Nodes.faults c.read.new.nodes) (g.N.Nodes.endings c.args.nodes.now) (g.N.Nodes.endings c.read.new.nodes)) k c.requires.bounds T first [] z.readers U s far c.in-Ok-new.queues c.tell.new.queues old mid heard begins (Ok tt) c.in_ok-tell.ensures.told N told a.log c.args.from c.args.until until acted in
+    drove_loud (record { name = c.args.name.now; log = a.log; from = c.args.from; until = c.args.until }) (IsBroken (g.N.Nodes.faults c.args.nodes.now) (g.N.Nodes.faults c.read.new.nodes) (g.N.Nodes.endings c.args.nodes.now) (g.N.Nodes.endings c.read.new.nodes)) c.args.rounds (g.N.Nodes.tells c.read.new.nodes) k c.requires.bounds s c.read.new.reader.readers (g.G.Register.tells c.read.new.reader.register) c.read.new.queues old new (Follows z.readers U) N c.tell.new.queues mid v
+    (g.N.Nodes.silent c.read.new.nodes ≡ true) c.read.result c.read.ensures.finished (c.read.ensures.held k first v.moved.state v.far c.requires.bounds v.told v.moved.holds)
 
 pub returns-clause-cause : goal.returns-clause-cause
 returns-clause-cause g c = cause_since _ _ _ _ _ _ c.read.result c.in_ok-tell.ensures.later c.read.ensures.cause
+
+pub returns-in_default-clause-looked : goal.returns-in_default-clause-looked
+returns-in_default-clause-looked g c = c.in_default.ensures.looked c.requires.on
+
+pub returns-in_default-clause-damaged : goal.returns-in_default-clause-damaged
+returns-in_default-clause-damaged g c = c.in_default.ensures.damaged c.requires.on
+
+pub returns-in_default-new-clause-looked : goal.returns-in_default-new-clause-looked
+returns-in_default-new-clause-looked g c = c.in-Ok.ensures.looked c.requires.on
+
+pub returns-in_default-open-clause-looked : goal.returns-in_default-open-clause-looked
+returns-in_default-open-clause-looked g c =
+    let a = c.args.reading.now in
+    let x = c.look.new.self in
+    let z = c.open.new.self in
+    let looked = c.in-Ok.ensures.looked c.requires.on in
+    let opened : HasLooked None z.end (g.G.Register.told a.register) (g.G.Register.told z.register) (g.G.Register.holds a.register) (g.G.Register.holds z.register) (g.G.Register.may_hold a.register) (g.G.Register.may_hold z.register) (g.G.Register.faults a.register) (g.G.Register.faults z.register) (g.G.Register.identity a.register) (g.G.Register.identity z.register) = subst (λ y. HasLooked None z.end (g.G.Register.told a.register) (g.G.Register.told y) (g.G.Register.holds a.register) (g.G.Register.holds y) (g.G.Register.may_hold a.register) (g.G.Register.may_hold y) (g.G.Register.faults a.register) (g.G.Register.faults y) (g.G.Register.identity a.register) (g.G.Register.identity y)) (sym c.in_default-open.ensures.register) (subst (λ e. HasLooked None e (g.G.Register.told a.register) (g.G.Register.told x.register) (g.G.Register.holds a.register) (g.G.Register.holds x.register) (g.G.Register.may_hold a.register) (g.G.Register.may_hold x.register) (g.G.Register.faults a.register) (g.G.Register.faults x.register) (g.G.Register.identity a.register) (g.G.Register.identity x.register)) (sym c.in_default-open.ensures.end) looked) in
+    opened
+
+pub returns-in_err-tell-clause-looked : goal.returns-in_err-tell-clause-looked
+returns-in_err-tell-clause-looked g c =
+    let a = c.args.reading.now in
+    let x = c.look.new.self in
+    let z = c.open.new.self in
+    let looked = c.in-Ok.ensures.looked c.requires.on in
+    let opened : HasLooked None z.end (g.G.Register.told a.register) (g.G.Register.told z.register) (g.G.Register.holds a.register) (g.G.Register.holds z.register) (g.G.Register.may_hold a.register) (g.G.Register.may_hold z.register) (g.G.Register.faults a.register) (g.G.Register.faults z.register) (g.G.Register.identity a.register) (g.G.Register.identity z.register) = subst (λ y. HasLooked None z.end (g.G.Register.told a.register) (g.G.Register.told y) (g.G.Register.holds a.register) (g.G.Register.holds y) (g.G.Register.may_hold a.register) (g.G.Register.may_hold y) (g.G.Register.faults a.register) (g.G.Register.faults y) (g.G.Register.identity a.register) (g.G.Register.identity y)) (sym c.in-Ok-open.ensures.register) (subst (λ e. HasLooked None e (g.G.Register.told a.register) (g.G.Register.told x.register) (g.G.Register.holds a.register) (g.G.Register.holds x.register) (g.G.Register.may_hold a.register) (g.G.Register.may_hold x.register) (g.G.Register.faults a.register) (g.G.Register.faults x.register) (g.G.Register.identity a.register) (g.G.Register.identity x.register)) (sym c.in-Ok-open.ensures.end) looked) in
+    opened
+
+pub returns-clause-looked : goal.returns-clause-looked
+returns-clause-looked g c =
+    let a = c.args.reading.now in
+    let x = c.look.new.self in
+    let z = c.open.new.self in
+    let looked = c.in-Ok.ensures.looked c.requires.on in
+    let opened : HasLooked None z.end (g.G.Register.told a.register) (g.G.Register.told z.register) (g.G.Register.holds a.register) (g.G.Register.holds z.register) (g.G.Register.may_hold a.register) (g.G.Register.may_hold z.register) (g.G.Register.faults a.register) (g.G.Register.faults z.register) (g.G.Register.identity a.register) (g.G.Register.identity z.register) = subst (λ y. HasLooked None z.end (g.G.Register.told a.register) (g.G.Register.told y) (g.G.Register.holds a.register) (g.G.Register.holds y) (g.G.Register.may_hold a.register) (g.G.Register.may_hold y) (g.G.Register.faults a.register) (g.G.Register.faults y) (g.G.Register.identity a.register) (g.G.Register.identity y)) (sym c.in-Ok-open.ensures.register) (subst (λ e. HasLooked None e (g.G.Register.told a.register) (g.G.Register.told x.register) (g.G.Register.holds a.register) (g.G.Register.holds x.register) (g.G.Register.may_hold a.register) (g.G.Register.may_hold x.register) (g.G.Register.faults a.register) (g.G.Register.faults x.register) (g.G.Register.identity a.register) (g.G.Register.identity x.register)) (sym c.in-Ok-open.ensures.end) looked) in
+    let r = c.read.new.reader in
+    looked_on None z.end r.end (g.G.Register.told a.register) (g.G.Register.told z.register) (g.G.Register.told r.register) (g.G.Register.holds a.register) (g.G.Register.holds z.register) (g.G.Register.holds r.register) (g.G.Register.may_hold a.register) (g.G.Register.may_hold z.register) (g.G.Register.may_hold r.register) (g.G.Register.faults a.register) (g.G.Register.faults z.register) (g.G.Register.faults r.register) (g.G.Register.identity a.register) (g.G.Register.identity z.register) (g.G.Register.identity r.register) opened c.read.ensures.since
+
+pub returns-clause-damaged : goal.returns-clause-damaged
+returns-clause-damaged g c = λ place is told.
+    let a = c.args.reading.now in
+    let x = c.look.new.self in
+    let z = c.open.new.self in
+    let r = c.read.new.reader in
+    let off : z.end ≡ None = c.in-Ok-open.ensures.end ∙ (c.in-Ok.ensures.on ∙ c.requires.on) in
+    let whole = subst (λ y. (g.G.Register.told a.register → (c : Contents) × g.G.Register.holds y c)) (sym c.in-Ok-open.ensures.register) c.in-Ok.ensures.whole in
+    absurd (undamaged r.end (g.G.Register.told a.register) (g.G.Register.holds z.register) (g.G.Register.faults z.register) (g.G.Register.faults r.register) place whole
+    (λ e h. subst (λ o. (o ≡ Some e) ⊎ IsLookEnd (HeldNone (g.G.Register.holds z.register)) (g.G.Register.faults z.register) (g.G.Register.faults r.register) e) off (c.read.ensures.since.ended e h)) is told)

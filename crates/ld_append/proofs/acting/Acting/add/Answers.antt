@@ -1,9 +1,11 @@
-use Rattle.std.proofs.Common.{◌∙◌, ◌++◌, sym, subst, ap, refl, length, None, Err}
+use Rattle.std.proofs.Common.{◌∙◌, ◌++◌, sym, subst, ap, refl, length, None, Some, Err}
 use Rattle.ld_msg.specs.Sequencer.{appending, appended, first_stores}
 use Rattle.ld_sequencer.specs.Own.{append_fault}
 use Rattle.ld_sequencer.specs.Whole.{as_now, sent_as}
-use Rattle.ld_append.specs.Acting.{Serves}
-use Rattle.ld_append.proofs.Saying.{append_said}
+use Rattle.ld_sequencer.specs.Whole.{Whole}
+use Rattle.ld_append.specs.Acting.{Serves, IsSince, is_here}
+use Rattle.ld_append.proofs.Crowding.{same_since}
+use Rattle.ld_append.proofs.Saying.{append_said, full_lines}
 use Rattle.ld_append.proofs.Serving.{serves_as, none_appended, is_appended, not_appended, append_lines}
 use Rattle.ld_append.proofs.acting.Acting.add.Goals as goal
 
@@ -18,7 +20,7 @@ returns-in_ok-heard-in-Ok-clause-appended g c = λ k s h.
     (c.in-Ok.ensures.now ∙ ap (λ p. as_now c.in-Some.sequencer (appended c.in-Some.sequencer.sequencer p)) c.in_ok-copy.ensures)
     (sym (ap (appending c.in-Some.sequencer.sequencer) c.in_ok-copy.ensures) ∙ c.in-Ok.ensures.taken)
     c.in_ok-copy-in-Ok.ensures c.in-Ok.ensures.number c.in_ok-heard-in-Ok.ensures.lines
-    (c.in_ok-heard-in-Ok.ensures.sends ∙ (c.in-Ok.ensures.out ∙ (λ i. c.empty-sends.ensures i ++ sent_as c.in-Some.sequencer (first_stores c.in-Some.sequencer.spec c.in-Some.sequencer.sequencer (c.in_ok-copy.ensures i)))))
+    (c.in_ok-heard-in-Ok.ensures.sends ∙ (c.in-Ok.ensures.out ∙ (λ i. c.empty-sends.ensures i ++ sent_as c.in-Some.sequencer (first_stores c.in-Some.sequencer.sequencer (c.in_ok-copy.ensures i)))))
 
 pub returns-in_default-clause-appended : goal.returns-in_default-clause-appended
 returns-in_default-clause-appended g c = λ k s h.
@@ -38,3 +40,20 @@ returns-in_ok-heard-in-Err-clause-appended g c = λ k s h.
     c.in-Err.ensures.same f (λ e. c.in_ok-heard-in-Err.ensures.memory (ap Err e))
     (c.in_ok-heard-in-Err.ensures.lines ∙ append_lines name (length p) (appending w.sequencer p) c.in-Err.fault f)
     (c.in_ok-heard-in-Err.ensures.sends ∙ (c.in-Err.ensures.unsent ∙ c.empty-sends.ensures))
+
+pub returns-in_ok-heard-in-Err-clause-full : goal.returns-in_ok-heard-in-Err-clause-full
+returns-in_ok-heard-in-Err-clause-full g c =
+    full_lines c.args.self.now.name (length c.in_ok-copy.copy) (appending c.in-Some.sequencer.sequencer c.in_ok-copy.copy) c.in-Err.fault c.is_window-is_full.result c.in_ok-heard-in-Err.heard.lines.items c.in-Err.ensures.refused c.is_window-is_full.ensures c.in_ok-heard-in-Err.ensures.lines
+
+pub returns-in_default-clause-since : goal.returns-in_default-clause-since
+returns-in_default-clause-since g c = is_here c.args.self.now.sequencer (g.G.Register.told c.args.self.now.register) (g.G.Register.may_hold c.args.self.now.register) c.args.self.now.is_shut
+
+pub returns-in_ok-heard-in-Ok-clause-since : goal.returns-in_ok-heard-in-Ok-clause-since
+returns-in_ok-heard-in-Ok-clause-since g c =
+    subst (λ o. IsSince o (Some c.append.new.self) (g.G.Register.told c.args.self.now.register) (g.G.Register.told c.args.self.now.register) (g.G.Register.may_hold c.args.self.now.register) (g.G.Register.may_hold c.args.self.now.register) c.args.self.now.is_shut c.args.self.now.is_shut) (sym c.in-Some.is)
+    (same_since c.in-Some.sequencer c.append.new.self (g.G.Register.told c.args.self.now.register) (g.G.Register.may_hold c.args.self.now.register) c.args.self.now.is_shut (ap (λ (w : Whole). w.sequencer.log) c.in-Ok.ensures.now))
+
+pub returns-in_ok-heard-in-Err-clause-since : goal.returns-in_ok-heard-in-Err-clause-since
+returns-in_ok-heard-in-Err-clause-since g c =
+    subst (λ o. IsSince o (Some c.append.new.self) (g.G.Register.told c.args.self.now.register) (g.G.Register.told c.args.self.now.register) (g.G.Register.may_hold c.args.self.now.register) (g.G.Register.may_hold c.args.self.now.register) c.args.self.now.is_shut c.args.self.now.is_shut) (sym c.in-Some.is)
+    (same_since c.in-Some.sequencer c.append.new.self (g.G.Register.told c.args.self.now.register) (g.G.Register.may_hold c.args.self.now.register) c.args.self.now.is_shut (ap (λ (w : Whole). w.sequencer.log) c.in-Err.ensures.same))

@@ -1,14 +1,45 @@
-use Rattle.std.proofs.Common.{◌∙◌, subst, Some}
-use Rattle.ld_append.specs.Acting.{Serves, IsTo}
-use Rattle.ld_append.proofs.Serving.{answered, serves_as}
+use Rattle.std.proofs.Common.{◌∙◌, refl, sym, ap, subst, None, Some}
+use Rattle.ld_sequencer.specs.Looks.{shows}
+use Rattle.ld_clients.proofs.Acting.{replied_goes}
+use Rattle.ld_sequencer.specs.Whole.{reply_acts}
+use Rattle.ld_append.specs.Acting.{Serves, IsTo, IsSince}
+use Rattle.ld_append.proofs.Crowding.{tries_leave, called_since, gone_since, since_as}
+use Rattle.ld_append.proofs.Serving.{live_client, answered, serves_as}
 use Rattle.ld_append.proofs.acting.ActingActor.hear.Goals as goal
 
-pub returns-clause-acted : goal.returns-clause-acted
-returns-clause-acted g c = λ k s b sound h.
+pub returns-in-Ok-clause-acted : goal.returns-in-Ok-clause-acted
+returns-in-Ok-clause-acted g c = λ k s b sound h.
     let to = subst (λ o. IsTo o c.args.message.now) c.in-Some.is c.requires.hears in
     serves_as g.G.Register.tells k s c.go_on.new.self.name c.args.self.now.name c.go_on.new.self.sequencer (Some c.on_reply-answer.new.self) c.go_on.new.self.register c.on_reply-answer.new.reg c.go_on.result.lines.items c.go_on.result.sends _ c.go_on.ensures.name c.go_on.ensures.sequencer c.go_on.ensures.register (
     answered k s c.args.self.now.name (g.G.Register.tells c.args.self.now.register) c.in-Some.sequencer (subst (λ o. Serves c.args.self.now.name o (g.G.Register.tells c.args.self.now.register) k s) c.in-Some.is h)
-    c.on_reply-answer.new.self c.on_reply-answer.result c.empty-sends.result c.on_reply-answer.new.out (record { lines = c.go_on.result.lines; sends = c.go_on.result.sends }) (g.G.Register.tells c.on_reply-answer.new.reg) b sound c.in_ok-heard.ensures.memory
-    (c.on_reply-answer.ensures.crowded s.register h.register) c.empty-sends.ensures (c.go_on.ensures.lines ∙ c.in_ok-heard.ensures.lines) (c.go_on.ensures.sends ∙ c.in_ok-heard.ensures.sends)
+    c.on_reply-answer.new.self c.on_reply-answer.result c.empty-sends.result c.on_reply-answer.new.out (record { lines = c.go_on.result.lines; sends = c.go_on.result.sends }) (g.G.Register.tells c.on_reply-answer.new.reg) b sound c.in-Ok.ensures.memory
+    (c.on_reply-answer.ensures.crowded s.register h.register) c.empty-sends.ensures (c.go_on.ensures.lines ∙ c.in-Ok.ensures.lines) (c.go_on.ensures.sends ∙ c.in-Ok.ensures.sends)
     c.args.message.now to.0 to.1
     (c.on_reply-answer.ensures.exact s.register h.register) c.on_reply-answer.ensures.acted c.on_reply-answer.ensures.refused)
+
+pub returns-in-Ok-clause-since : goal.returns-in-Ok-clause-since
+returns-in-Ok-clause-since g c =
+    let w = c.in-Some.sequencer in
+    let v = c.on_reply-answer.new.self in
+    let told = g.G.Register.told c.args.self.now.register in
+    let may = g.G.Register.may_hold c.args.self.now.register in
+    let goes = replied_goes (live_client w) (live_client v) c.on_reply-answer.result c.empty-sends.result c.on_reply-answer.new.out c.args.message.now.from c.args.message.now.body refl c.on_reply-answer.ensures.acted c.on_reply-answer.ensures.refused c.in-Ok.ensures.memory in
+    let leaves = tries_leave w.sequencer.log (reply_acts (shows w.sequencer.spec) w c.args.message.now.from c.args.message.now.body).tries told (g.G.Register.told c.on_reply-answer.new.reg) may (g.G.Register.may_hold c.on_reply-answer.new.reg) c.on_reply-answer.ensures.told (c.on_reply-answer.ensures.done_or_not (shows w.sequencer.spec)) in
+    let since = called_since told (g.G.Register.told c.on_reply-answer.new.reg) (g.G.Register.holds c.args.self.now.register) may (g.G.Register.may_hold c.on_reply-answer.new.reg) (g.G.Register.damaged c.args.self.now.register) (g.met.G.Register.held_may_be c.args.self.now.register) w v goes.log leaves
+    c.on_reply-answer.result c.in-Ok.heard.end c.args.self.now.is_shut c.go_on.new.self.is_shut c.on_reply-answer.ensures.caused c.in-Ok.ensures.end c.go_on.ensures.shut in (
+      subst (λ o. IsSince o c.go_on.new.self.sequencer told (g.G.Register.told c.go_on.new.self.register) may (g.G.Register.may_hold c.go_on.new.self.register) c.args.self.now.is_shut c.go_on.new.self.is_shut) (sym c.in-Some.is)
+          (since_as (Some w) (Some v) c.go_on.new.self.sequencer told (g.G.Register.told c.on_reply-answer.new.reg) (g.G.Register.told c.go_on.new.self.register) may (g.G.Register.may_hold c.on_reply-answer.new.reg) (g.G.Register.may_hold c.go_on.new.self.register) c.args.self.now.is_shut c.go_on.new.self.is_shut
+          (sym c.go_on.ensures.sequencer) (ap g.G.Register.told (sym c.go_on.ensures.register)) (ap g.G.Register.may_hold (sym c.go_on.ensures.register)) since),
+      ap g.G.Register.identity c.go_on.ensures.register ∙ c.on_reply-answer.ensures.itself,
+    )
+
+pub returns-in-Err-clause-since : goal.returns-in-Err-clause-since
+returns-in-Err-clause-since g c =
+    let w = c.in-Some.sequencer in
+    let told = g.G.Register.told c.args.self.now.register in
+    let may = g.G.Register.may_hold c.args.self.now.register in
+    let leaves = tries_leave w.sequencer.log (reply_acts (shows w.sequencer.spec) w c.args.message.now.from c.args.message.now.body).tries told (g.G.Register.told c.on_reply-answer.new.reg) may (g.G.Register.may_hold c.on_reply-answer.new.reg) c.on_reply-answer.ensures.told (c.on_reply-answer.ensures.done_or_not (shows w.sequencer.spec)) in (
+      (subst (λ o. IsSince o None told (g.G.Register.told c.on_reply-answer.new.reg) may (g.G.Register.may_hold c.on_reply-answer.new.reg) c.args.self.now.is_shut c.args.self.now.is_shut) (sym c.in-Some.is)
+          (gone_since w told (g.G.Register.told c.on_reply-answer.new.reg) may (g.G.Register.may_hold c.on_reply-answer.new.reg) c.args.self.now.is_shut leaves)),
+      c.on_reply-answer.ensures.itself,
+    )

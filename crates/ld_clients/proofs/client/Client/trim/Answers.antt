@@ -1,5 +1,5 @@
 use Rattle.std.proofs.Common.{◌++◌, ◌∙◌, refl, ap}
-use Rattle.ld_ids.specs.Choice.{nodes_of}
+use Rattle.ld_ids.specs.Set.{members}
 use Rattle.ld_msg.specs.declared.msg.Body.TheVariants.{Trim}
 use Rattle.ld_msg.specs.Sequencer.{to_each}
 use Rattle.ld_machine.specs.Step.{trim_done as row}
@@ -13,7 +13,7 @@ returns-then-self c = λ d s h. gone_done d s c.args.name.now c.args.self.now h 
 
 pub returns-in_ok-outcome-in-Ok : goal.returns-in_ok-outcome-in-Ok
 returns-in_ok-outcome-in-Ok c = λ d s h. trim_done d s c.args.name.now c.args.self.now h c.requires c.if-self.false c.args.point c.in_ok-name-in-Ok.name c.in_ok-outcome-in-Ok.outcome c.in-Ok.ensures.within c.in_ok-name-in-Ok.ensures c.in_ok-outcome-in-Ok.ensures.lines
-    (c.in_ok-outcome-in-Ok.ensures.sends ∙ (c.in-Ok.ensures.out ∙ ap (λ x. x ++ sent_as c.args.self.now.sequencer (to_each (Trim c.args.point) (nodes_of c.args.self.now.sequencer.spec))) c.empty-sends.ensures))
+    (c.in_ok-outcome-in-Ok.ensures.sends ∙ (c.in-Ok.ensures.out ∙ ap (λ x. x ++ sent_as c.args.self.now.sequencer (to_each (Trim c.args.point) (members c.args.self.now.sequencer.origin.nodes))) c.empty-sends.ensures))
 
 pub returns-in_ok-outcome-in-Err : goal.returns-in_ok-outcome-in-Err
 returns-in_ok-outcome-in-Err c = λ d s h. trim_refused d s c.args.name.now c.args.self.now h c.requires c.if-self.false c.args.point c.in-Err.fault c.in_ok-outcome-in-Err.outcome c.in-Err.ensures.refused c.in_ok-outcome-in-Err.ensures.memory c.in_ok-outcome-in-Err.ensures.lines

@@ -20,9 +20,9 @@ returns-then-number-ge-READER_LIMIT-clause-done c = λ s h. open_full c.args.con
 
 pub returns-clause-done : goal.returns-clause-done
 returns-clause-done c = λ s h. open_done c.args.config.now s c.args.self.now h c.args.name.now c.args.log c.args.from c.args.until c.nothing-2.result c.in-Some.ensures.found.1 (sym c.has.ensures ∙ c.if-has.false)
-    (sym c.is_no_range.ensures ∙ c.if-is_no_range.false) c.len-number.result c.len-number.ensures c.in_ok-name.name c.in-Some.spec c.in_ok-reader.reader c.add.new.self c.in_ok-name.ensures c.if-number-ge-READER_LIMIT.false
+    (sym c.is_no_range.ensures ∙ c.if-is_no_range.false) c.len-number.result c.len-number.ensures c.in_ok-name.name c.in-Some.first c.in_ok-reader.reader c.add.new.self c.in_ok-name.ensures c.if-number-ge-READER_LIMIT.false
     c.in-Some.ensures.found.0 c.in_ok-reader.ensures.reader c.in_ok-add.ensures.ok c.nothing-2.ensures.lines c.nothing-2.ensures.sends
 
 pub returns-clause-logs : goal.returns-clause-logs
 returns-clause-logs c = λ k. subst (KnowTheirLogs c.args.config.now) (sym c.in_ok-add.ensures.ok)
-    (know_opened c.args.config.now c.args.self.now c.in_ok-name.name c.in-Some.spec c.in_ok-reader.reader c.args.log c.len-number.result c.args.from c.args.until c.in-Some.ensures.found.0 c.in_ok-reader.ensures.spec c.in_ok-reader.ensures.reader k)
+    (know_opened c.args.config.now c.args.self.now c.in_ok-name.name c.in-Some.first c.in_ok-reader.reader c.args.log c.len-number.result c.args.from c.args.until c.in-Some.ensures.found.0 c.in_ok-reader.ensures.first c.in_ok-reader.ensures.reader k)

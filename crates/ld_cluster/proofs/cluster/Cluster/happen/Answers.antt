@@ -6,6 +6,6 @@ use Rattle.ld_cluster.specs.Outcomes.{IsDone}
 use Rattle.ld_cluster.proofs.Stopping.{nothing_flows}
 use Rattle.ld_cluster.proofs.cluster.Cluster.happen.Goals as goal
 
-pub returns-in-Flow : goal.returns-in-Flow
-returns-in-Flow c = subst (λ (e : Event). IsDone c.args.self.now c.args.self.now c.nothing.result (happens (config_of c.args.self.now) (state_of c.args.self.now) e)) (sym c.in-Flow.is)
+pub returns-in-Flow-clause-done : goal.returns-in-Flow-clause-done
+returns-in-Flow-clause-done c = subst (λ (e : Event). IsDone c.args.self.now c.args.self.now c.nothing.result (happens (config_of c.args.self.now) (state_of c.args.self.now) e)) (sym c.in-Flow.is)
     (nothing_flows c.args.self.now (state_of c.args.self.now) _ c.nothing.result c.requires.reached.parts c.nothing.ensures.lines c.nothing.ensures.sends)

@@ -3,7 +3,7 @@ use Rattle.std.proofs.lemmas.Grind.{common_steps}
 use Rattle.ld_ids.specs.Set.{members}
 use Rattle.ld_msg.specs.Digest.{told_nothing}
 use Rattle.ld_digest.specs.Gathering.{nodes_told, IsInPlace}
-use Rattle.ld_digest.proofs.Places.{there_is}
+use Rattle.ld_table.proofs.Places.{there_is}
 use Rattle.ld_digest.proofs.Changed.{one_more, nodes_nothing, nothing_in_place}
 use Rattle.ld_digest.proofs.digest.Digest.new.Goals as goal
 use Rattle.ld_digest.proofs.digest.Digest.new.Goals.{in-Some+in_ok-push, in_default}

@@ -1,7 +1,7 @@
 use Rattle.std.proofs.Common.{arith, sym}
 use Rattle.std.proofs.lemmas.Grind.{common_steps}
 use Rattle.ld_ids.specs.Set.{members}
-use Rattle.ld_gap.proofs.Places.{drop_at_place, there_is}
+use Rattle.ld_table.proofs.Places.{drop_at_place, there_is}
 use Rattle.ld_gap.proofs.held.Held.is_open.Goals as goal
 use Rattle.ld_gap.proofs.held.Held.is_open.Goals.{in-Some+else-not-leaves_open, in_default}
 

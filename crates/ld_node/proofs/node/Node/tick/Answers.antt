@@ -1,46 +1,47 @@
-use Rattle.std.proofs.Common.{◌≡◌, ◌⊎◌, inl, inr, ⊎_elim, refl, true, Some, None, Err, sym, ap, subst, ◌∙◌}
+use Rattle.std.proofs.Common.{◌≡◌, inl, inr, ⊎_elim, refl, true, Some, sym, ap, subst, ◌∙◌}
 use Rattle.std.specs.Result.{is_ok}
+use Rattle.ld_ids.specs.Set.{members}
 use Rattle.ld_disk.specs.Moments.{LeavesOnly}
 use Rattle.ld_disk.specs.Plain.{after_calls, all_succeed}
 use Rattle.ld_store.specs.Ops.{StandsForEither}
 use Rattle.ld_store.specs.Open.{Holds}
 use Rattle.ld_store.specs.Open.{disk_of as store_disk, place_of as store_place}
 use Rattle.ld_node.specs.Changes.{AreChanges, kept, with_op, calls_of, IsPast}
-use Rattle.ld_node.specs.Looks.{nodes_in, ticked, op_of, answer_of}
-use Rattle.ld_node.specs.Node.{id_of, sets_of, disk_of, place_of, plain_of}
+use Rattle.ld_node.specs.Looks.{op_of, answer_of}
+use Rattle.ld_node.specs.Node.{id_of, known_of, disk_of, place_of, plain_of}
 use Rattle.ld_node.specs.declared.fault.NodeFault.TheVariants as nodes
 use Rattle.ld_node.proofs.Looks.{ticked_nowhere, op_is, answer_is, no_refusal, passed, passed_back, passed_on, only_failed}
 use Rattle.ld_node.proofs.node.Node.tick.Goals as goal
 
--- ---- a log that the node does not keep ----
+-- ---- a log that the node does not know ----
 
-pub returns-in_default-clause-answer : goal.returns-in_default-clause-answer
-returns-in_default-clause-answer g c ct h =
+pub returns-then-not-has_log-clause-answer : goal.returns-then-not-has_log-clause-answer
+returns-then-not-has_log-clause-answer g c ct h =
     let node = c.args.self.now in
-    sym (ap (answer_of (id_of node) c.args.log (nodes_in (sets_of node) c.args.log)) (ticked_nowhere (sets_of node) (plain_of node) c.args.log ct (sym c.in_default.is ∙ c.nodes_of.ensures.nodes)))
+    sym (ap (answer_of (id_of node) c.args.log (known_of node).nodes) (ticked_nowhere (known_of node) (plain_of node) c.args.log ct (sym c.has_log.ensures.has ∙ c.if-not-has_log.true)))
 
-pub returns-in_default-clause-kept : goal.returns-in_default-clause-kept
-returns-in_default-clause-kept g c ct h =
+pub returns-then-not-has_log-clause-kept : goal.returns-then-not-has_log-clause-kept
+returns-then-not-has_log-clause-kept g c ct h =
     let node = c.args.self.now in
-    sym (ap (λ t. kept (op_of c.args.log t) (plain_of node)) (ticked_nowhere (sets_of node) (plain_of node) c.args.log ct (sym c.in_default.is ∙ c.nodes_of.ensures.nodes)))
+    sym (ap (λ t. kept (op_of c.args.log t) (plain_of node)) (ticked_nowhere (known_of node) (plain_of node) c.args.log ct (sym c.has_log.ensures.has ∙ c.if-not-has_log.true)))
 
-pub returns-in_default-clause-acknowledged : goal.returns-in_default-clause-acknowledged
-returns-in_default-clause-acknowledged g c ops ct holds h =
+pub returns-then-not-has_log-clause-acknowledged : goal.returns-then-not-has_log-clause-acknowledged
+returns-then-not-has_log-clause-acknowledged g c ops ct holds h =
     let D = g.D.Disk in
     let node = c.args.self.now in
-    subst (λ t. Holds D.seen D.may_leave node.store (with_op ops (op_of c.args.log t))) (sym (ticked_nowhere (sets_of node) (plain_of node) c.args.log ct (sym c.in_default.is ∙ c.nodes_of.ensures.nodes))) holds
+    subst (λ t. Holds D.seen D.may_leave node.store (with_op ops (op_of c.args.log t))) (sym (ticked_nowhere (known_of node) (plain_of node) c.args.log ct (sym c.has_log.ensures.has ∙ c.if-not-has_log.true))) holds
 
-pub returns-in_default-clause-exact : goal.returns-in_default-clause-exact
-returns-in_default-clause-exact g c ct disk h told either =
+pub returns-then-not-has_log-clause-exact : goal.returns-then-not-has_log-clause-exact
+returns-then-not-has_log-clause-exact g c ct disk h told either =
     let D = g.D.Disk in
     let node = c.args.self.now in
     subst (λ t. (D.plain (disk_of node) ≡ Some (after_calls (calls_of (place_of node) (op_of c.args.log t)) disk)) × (true ≡ all_succeed (calls_of (place_of node) (op_of c.args.log t)) disk))
-    (sym (ticked_nowhere (sets_of node) (plain_of node) c.args.log ct (sym c.in_default.is ∙ c.nodes_of.ensures.nodes))) (told, refl)
+    (sym (ticked_nowhere (known_of node) (plain_of node) c.args.log ct (sym c.has_log.ensures.has ∙ c.if-not-has_log.true))) (told, refl)
 
-pub returns-in_default-clause-too_long : goal.returns-in_default-clause-too_long
-returns-in_default-clause-too_long g c ct h works past =
+pub returns-then-not-has_log-clause-too_long : goal.returns-then-not-has_log-clause-too_long
+returns-then-not-has_log-clause-too_long g c ct h works past =
     let node = c.args.self.now in
-    absurd (subst (λ t. IsPast (place_of node) (op_of c.args.log t)) (ticked_nowhere (sets_of node) (plain_of node) c.args.log ct (sym c.in_default.is ∙ c.nodes_of.ensures.nodes)) past)
+    absurd (subst (λ t. IsPast (place_of node) (op_of c.args.log t)) (ticked_nowhere (known_of node) (plain_of node) c.args.log ct (sym c.has_log.ensures.has ∙ c.if-not-has_log.true)) past)
 
 -- ---- an op that was not kept ----
 
@@ -49,7 +50,7 @@ returns-in_err-keep-clause-any_moment g c ops ct holds h =
     let D = g.D.Disk in
     let node = c.args.self.now in
     subst (λ o. LeavesOnly D.moment D.left_since (disk_of node) (store_disk c.keep.new.store) (StandsForEither (plain_of node) (kept o (plain_of node))))
-    (op_is (sets_of node) (plain_of node) c.plain.result.now.state c.args.log ct c.in-Some.set c.in_ok-step.step.op (sym c.in-Some.is ∙ c.nodes_of.ensures.nodes) c.plain.ensures.state (c.in_ok-step.ensures.step ct h).op)
+    (op_is (known_of node) (plain_of node) c.plain.result.now.state c.args.log ct c.in_ok-step.step.op (sym c.has_log.ensures.has ∙ c.if-not-has_log.false) c.plain.ensures.state (c.in_ok-step.ensures.step ct h).op)
     (c.in_err-keep.ensures.any_moment ops holds)
 
 pub returns-in_err-keep-clause-exact : goal.returns-in_err-keep-clause-exact
@@ -61,7 +62,7 @@ returns-in_err-keep-clause-exact g c ct disk h told either =
     let is = passed fault r c.from_residual-in_err-keep.ensures in
     let exact = c.in_err-keep.ensures.exact disk told (only_failed fault r nodes.Disk is either) in
     subst (λ o. (D.plain (store_disk c.keep.new.store) ≡ Some (after_calls (calls_of (place_of node) o) disk)) × (is_ok r ≡ all_succeed (calls_of (place_of node) o) disk))
-    (op_is (sets_of node) (plain_of node) c.plain.result.now.state c.args.log ct c.in-Some.set c.in_ok-step.step.op (sym c.in-Some.is ∙ c.nodes_of.ensures.nodes) c.plain.ensures.state (c.in_ok-step.ensures.step ct h).op)
+    (op_is (known_of node) (plain_of node) c.plain.result.now.state c.args.log ct c.in_ok-step.step.op (sym c.has_log.ensures.has ∙ c.if-not-has_log.false) c.plain.ensures.state (c.in_ok-step.ensures.step ct h).op)
     (exact.0, ap is_ok is ∙ exact.1)
 
 pub returns-in_err-keep-clause-full : goal.returns-in_err-keep-clause-full
@@ -70,7 +71,7 @@ returns-in_err-keep-clause-full g c ct h is =
     let r = c.from_residual-in_err-keep.result in
     let fault = c.in_err-keep.field-0.0 in
     subst (λ o. IsPast (place_of node) o)
-    (op_is (sets_of node) (plain_of node) c.plain.result.now.state c.args.log ct c.in-Some.set c.in_ok-step.step.op (sym c.in-Some.is ∙ c.nodes_of.ensures.nodes) c.plain.ensures.state (c.in_ok-step.ensures.step ct h).op)
+    (op_is (known_of node) (plain_of node) c.plain.result.now.state c.args.log ct c.in_ok-step.step.op (sym c.has_log.ensures.has ∙ c.if-not-has_log.false) c.plain.ensures.state (c.in_ok-step.ensures.step ct h).op)
     (c.in_err-keep.ensures.full (passed_back fault r nodes.Full (passed fault r c.from_residual-in_err-keep.ensures) is))
 
 pub returns-in_err-keep-clause-too_long : goal.returns-in_err-keep-clause-too_long
@@ -79,47 +80,47 @@ returns-in_err-keep-clause-too_long g c ct h works past =
     let r = c.from_residual-in_err-keep.result in
     let fault = c.in_err-keep.field-0.0 in
     let is = passed fault r c.from_residual-in_err-keep.ensures in
-    let o = op_is (sets_of node) (plain_of node) c.plain.result.now.state c.args.log ct c.in-Some.set c.in_ok-step.step.op (sym c.in-Some.is ∙ c.nodes_of.ensures.nodes) c.plain.ensures.state (c.in_ok-step.ensures.step ct h).op in
+    let o = op_is (known_of node) (plain_of node) c.plain.result.now.state c.args.log ct c.in_ok-step.step.op (sym c.has_log.ensures.has ∙ c.if-not-has_log.false) c.plain.ensures.state (c.in_ok-step.ensures.step ct h).op in
     ⊎_elim (λ e. inl (passed_on fault r nodes.Full is e)) (λ e. inr (inl (passed_on fault r nodes.NoMemory is e))) (c.in_err-keep.ensures.too_long (subst (λ o. IsPast (place_of node) o) (sym o) past))
 
 pub returns-in_err-keep-clause-change : goal.returns-in_err-keep-clause-change
 returns-in_err-keep-clause-change g c ct h is =
     let node = c.args.self.now in
     subst (λ o. AreChanges o)
-    (op_is (sets_of node) (plain_of node) c.plain.result.now.state c.args.log ct c.in-Some.set c.in_ok-step.step.op (sym c.in-Some.is ∙ c.nodes_of.ensures.nodes) c.plain.ensures.state (c.in_ok-step.ensures.step ct h).op)
+    (op_is (known_of node) (plain_of node) c.plain.result.now.state c.args.log ct c.in_ok-step.step.op (sym c.has_log.ensures.has ∙ c.if-not-has_log.false) c.plain.ensures.state (c.in_ok-step.ensures.step ct h).op)
     c.in_ok-step.ensures.change
 
 pub returns-in_err-keep-clause-silent : goal.returns-in_err-keep-clause-silent
 returns-in_err-keep-clause-silent g c ct h none =
     let node = c.args.self.now in
     let same = c.in_err-keep.ensures.none_kept
-    (op_is (sets_of node) (plain_of node) c.plain.result.now.state c.args.log ct c.in-Some.set c.in_ok-step.step.op (sym c.in-Some.is ∙ c.nodes_of.ensures.nodes) c.plain.ensures.state (c.in_ok-step.ensures.step ct h).op ∙ none) in
+    (op_is (known_of node) (plain_of node) c.plain.result.now.state c.args.log ct c.in_ok-step.step.op (sym c.has_log.ensures.has ∙ c.if-not-has_log.false) c.plain.ensures.state (c.in_ok-step.ensures.step ct h).op ∙ none) in
     (ap store_disk same, ap store_place same)
 
 pub returns-in_err-keep-clause-silent_works : goal.returns-in_err-keep-clause-silent_works
 returns-in_err-keep-clause-silent_works g c ct h none =
     let node = c.args.self.now in
     absurd (cc (c.in_err-keep.ensures.none
-    (op_is (sets_of node) (plain_of node) c.plain.result.now.state c.args.log ct c.in-Some.set c.in_ok-step.step.op (sym c.in-Some.is ∙ c.nodes_of.ensures.nodes) c.plain.ensures.state (c.in_ok-step.ensures.step ct h).op ∙ none)))
+    (op_is (known_of node) (plain_of node) c.plain.result.now.state c.args.log ct c.in_ok-step.step.op (sym c.has_log.ensures.has ∙ c.if-not-has_log.false) c.plain.ensures.state (c.in_ok-step.ensures.step ct h).op ∙ none)))
 
 -- ---- an op that is kept ----
 
 pub returns-clause-answer : goal.returns-clause-answer
 returns-clause-answer g c ct h =
     let node = c.args.self.now in
-    answer_is (id_of node) (sets_of node) (plain_of node) c.plain.result.now.state c.args.log ct c.in-Some.set c.in_ok-step.step.ticked (sym c.in-Some.is ∙ c.nodes_of.ensures.nodes) c.plain.ensures.state (c.in_ok-step.ensures.step ct h).answer
+    answer_is (id_of node) (known_of node) (plain_of node) c.plain.result.now.state c.args.log ct (members c.nodes.result.now) c.in_ok-step.step.ticked (sym c.has_log.ensures.has ∙ c.if-not-has_log.false) c.nodes.ensures c.plain.ensures.state (c.in_ok-step.ensures.step ct h).answer
 
 pub returns-clause-kept : goal.returns-clause-kept
 returns-clause-kept g c ct h =
     let node = c.args.self.now in
-    c.in_ok-keep.ensures.applied ∙ ap (λ o. kept o (plain_of node)) (op_is (sets_of node) (plain_of node) c.plain.result.now.state c.args.log ct c.in-Some.set c.in_ok-step.step.op (sym c.in-Some.is ∙ c.nodes_of.ensures.nodes) c.plain.ensures.state (c.in_ok-step.ensures.step ct h).op)
+    c.in_ok-keep.ensures.applied ∙ ap (λ o. kept o (plain_of node)) (op_is (known_of node) (plain_of node) c.plain.result.now.state c.args.log ct c.in_ok-step.step.op (sym c.has_log.ensures.has ∙ c.if-not-has_log.false) c.plain.ensures.state (c.in_ok-step.ensures.step ct h).op)
 
 pub returns-clause-acknowledged : goal.returns-clause-acknowledged
 returns-clause-acknowledged g c ops ct holds h =
     let D = g.D.Disk in
     let node = c.args.self.now in
     subst (λ o. Holds D.seen D.may_leave c.keep.new.store (with_op ops o))
-    (op_is (sets_of node) (plain_of node) c.plain.result.now.state c.args.log ct c.in-Some.set c.in_ok-step.step.op (sym c.in-Some.is ∙ c.nodes_of.ensures.nodes) c.plain.ensures.state (c.in_ok-step.ensures.step ct h).op)
+    (op_is (known_of node) (plain_of node) c.plain.result.now.state c.args.log ct c.in_ok-step.step.op (sym c.has_log.ensures.has ∙ c.if-not-has_log.false) c.plain.ensures.state (c.in_ok-step.ensures.step ct h).op)
     (c.in_ok-keep.ensures.acknowledged ops holds)
 
 pub returns-clause-any_moment : goal.returns-clause-any_moment
@@ -127,7 +128,7 @@ returns-clause-any_moment g c ops ct holds h =
     let D = g.D.Disk in
     let node = c.args.self.now in
     subst (λ o. LeavesOnly D.moment D.left_since (disk_of node) (store_disk c.keep.new.store) (StandsForEither (plain_of node) (kept o (plain_of node))))
-    (op_is (sets_of node) (plain_of node) c.plain.result.now.state c.args.log ct c.in-Some.set c.in_ok-step.step.op (sym c.in-Some.is ∙ c.nodes_of.ensures.nodes) c.plain.ensures.state (c.in_ok-step.ensures.step ct h).op)
+    (op_is (known_of node) (plain_of node) c.plain.result.now.state c.args.log ct c.in_ok-step.step.op (sym c.has_log.ensures.has ∙ c.if-not-has_log.false) c.plain.ensures.state (c.in_ok-step.ensures.step ct h).op)
     (c.in_ok-keep.ensures.any_moment ops holds)
 
 pub returns-clause-exact : goal.returns-clause-exact
@@ -135,18 +136,18 @@ returns-clause-exact g c ct disk h told either =
     let D = g.D.Disk in
     let node = c.args.self.now in
     subst (λ o. (D.plain (store_disk c.keep.new.store) ≡ Some (after_calls (calls_of (place_of node) o) disk)) × (true ≡ all_succeed (calls_of (place_of node) o) disk))
-    (op_is (sets_of node) (plain_of node) c.plain.result.now.state c.args.log ct c.in-Some.set c.in_ok-step.step.op (sym c.in-Some.is ∙ c.nodes_of.ensures.nodes) c.plain.ensures.state (c.in_ok-step.ensures.step ct h).op)
+    (op_is (known_of node) (plain_of node) c.plain.result.now.state c.args.log ct c.in_ok-step.step.op (sym c.has_log.ensures.has ∙ c.if-not-has_log.false) c.plain.ensures.state (c.in_ok-step.ensures.step ct h).op)
     (c.in_ok-keep.ensures.exact disk told (inl refl))
 
 pub returns-clause-too_long : goal.returns-clause-too_long
 returns-clause-too_long g c ct h works past =
     let node = c.args.self.now in
-    let o = op_is (sets_of node) (plain_of node) c.plain.result.now.state c.args.log ct c.in-Some.set c.in_ok-step.step.op (sym c.in-Some.is ∙ c.nodes_of.ensures.nodes) c.plain.ensures.state (c.in_ok-step.ensures.step ct h).op in
+    let o = op_is (known_of node) (plain_of node) c.plain.result.now.state c.args.log ct c.in_ok-step.step.op (sym c.has_log.ensures.has ∙ c.if-not-has_log.false) c.plain.ensures.state (c.in_ok-step.ensures.step ct h).op in
     absurd (⊎_elim (λ e. no_refusal c.in_ok-keep.field-0 nodes.Full e) (λ e. no_refusal c.in_ok-keep.field-0 nodes.NoMemory e) (c.in_ok-keep.ensures.too_long (subst (λ o. IsPast (place_of node) o) (sym o) past)))
 
 pub returns-clause-silent : goal.returns-clause-silent
 returns-clause-silent g c ct h none =
     let node = c.args.self.now in
     let same = c.in_ok-keep.ensures.none_kept
-    (op_is (sets_of node) (plain_of node) c.plain.result.now.state c.args.log ct c.in-Some.set c.in_ok-step.step.op (sym c.in-Some.is ∙ c.nodes_of.ensures.nodes) c.plain.ensures.state (c.in_ok-step.ensures.step ct h).op ∙ none) in
+    (op_is (known_of node) (plain_of node) c.plain.result.now.state c.args.log ct c.in_ok-step.step.op (sym c.has_log.ensures.has ∙ c.if-not-has_log.false) c.plain.ensures.state (c.in_ok-step.ensures.step ct h).op ∙ none) in
     (ap store_disk same, ap store_place same)

@@ -7,5 +7,5 @@ use Rattle.ld_op.proofs.log.LogState.refill.Goals as goal
 pub invariant_of-self : goal.invariant_of-self
 invariant_of-self c = record {
   empty = λ h. absurd cc;
-  whole = whole_as (refilled_with (shown_log c.self.inside) c.args.entries) (shown_log (record { there = true; sealed = c.self.inside.sealed; trim = c.self.inside.trim; entries = c.refill.new.self; summaries = c.self.inside.summaries; lost = c.self.inside.lost; lost_to = c.self.inside.lost_to; whole = c.self.inside.whole })) (c.self.inside.whole) (c.self.inside.whole) (let e : refilled_with (shown_log c.self.inside) c.args.entries ≡ shown_log (record { there = true; sealed = c.self.inside.sealed; trim = c.self.inside.trim; entries = c.refill.new.self; summaries = c.self.inside.summaries; lost = c.self.inside.lost; lost_to = c.self.inside.lost_to; whole = c.self.inside.whole }) = search rules in e) (refl) (whole_refilled (shown_log c.self.inside) c.args.entries c.self.inside.whole c.self.invariant.whole);
+  whole = whole_as (refilled_with (shown_log c.self.inside) c.args.entries) (shown_log (record { there = true; sealed = c.self.inside.sealed; trim = c.self.inside.trim; entries = c.refill.new.self; summaries = c.self.inside.summaries; lngs = c.self.inside.lngs; lost = c.self.inside.lost; lost_to = c.self.inside.lost_to; whole = c.self.inside.whole })) (c.self.inside.whole) (c.self.inside.whole) (let e : refilled_with (shown_log c.self.inside) c.args.entries ≡ shown_log (record { there = true; sealed = c.self.inside.sealed; trim = c.self.inside.trim; entries = c.refill.new.self; summaries = c.self.inside.summaries; lngs = c.self.inside.lngs; lost = c.self.inside.lost; lost_to = c.self.inside.lost_to; whole = c.self.inside.whole }) = search rules in e) (refl) (whole_refilled (shown_log c.self.inside) c.args.entries c.self.inside.whole c.self.invariant.whole);
 }

@@ -1,8 +1,9 @@
 use Rattle.std.proofs.Common.{◌∙◌, ◌++◌, ap, sym}
 use Rattle.byteorder.specs.Endian.{big_bytes}
-use Rattle.ld_op.specs.Bytes.{op_bytes, entry_bytes, summary_bytes}
+use Rattle.ld_fields.specs.Items.{entry_bytes, summary_bytes}
+use Rattle.ld_op.specs.Bytes.{op_bytes}
 use Rattle.ld_op.proofs.There.{on_ok_with}
-use Rattle.ld_op.proofs.Writes.{three, four}
+use Rattle.ld_op.proofs.Writes.{four}
 use Rattle.ld_op.proofs.op.Op.put.Goals as goal
 
 pub returns-in_ok-put_u32-in-Accept : goal.returns-in_ok-put_u32-in-Accept
@@ -16,9 +17,3 @@ unfolding op_bytes
 returns-in_ok-put_u32-in-Clean c = on_ok_with c.put_summary.result _ _
     (λ h. four c.args.out.now.items (big_bytes 1 4) (big_bytes 4 c.in-Clean.log) (big_bytes 4 c.in-Clean.epoch) (summary_bytes c.in-Clean.summary) c.put_head-in-Clean.new.out.items c.put_u32-in-Clean.new.out.items c.put_summary.new.out.items c.in_ok-put_head-in-Clean.ensures c.in_ok-put_u32-in-Clean.ensures h
     ∙ ap (λ o. c.args.out.now.items ++ op_bytes o) (sym c.in-Clean.is)) c.put_summary.ensures
-
-pub returns-in_ok-put_head-in-Trim : goal.returns-in_ok-put_head-in-Trim
-unfolding op_bytes
-returns-in_ok-put_head-in-Trim c = on_ok_with c.put_u64.result _ _
-    (λ h. three c.args.out.now.items (big_bytes 1 5) (big_bytes 4 c.in-Trim.log) (big_bytes 8 c.in-Trim.trim) c.put_head-in-Trim.new.out.items c.put_u64.new.out.items c.in_ok-put_head-in-Trim.ensures (h ∙ ap (λ n. c.put_head-in-Trim.new.out.items ++ big_bytes 8 n) c.value.ensures)
-    ∙ ap (λ o. c.args.out.now.items ++ op_bytes o) (sym c.in-Trim.is)) c.put_u64.ensures

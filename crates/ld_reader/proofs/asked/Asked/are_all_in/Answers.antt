@@ -3,7 +3,7 @@ use Rattle.std.proofs.lemmas.Grind.{common_steps}
 use Rattle.ld_ids.specs.Set.{members}
 use Rattle.ld_table.specs.Words.{is_in}
 use Rattle.ld_reader.proofs.Keys.{all_keys}
-use Rattle.ld_gap.proofs.Places.{drop_at_place, there_is}
+use Rattle.ld_table.proofs.Places.{drop_at_place, there_is}
 use Rattle.ld_reader.proofs.asked.Asked.are_all_in.Goals as goal
 use Rattle.ld_reader.proofs.asked.Asked.are_all_in.Goals.{in-Some+else-not-contains, in_default}
 

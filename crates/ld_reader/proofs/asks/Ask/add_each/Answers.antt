@@ -2,7 +2,7 @@ use Rattle.std.proofs.Common.{◌≡◌, ◌++◌, ◌∷◌, [], ◌∙◌, ap,
 use Rattle.std.proofs.lemmas.List.Elements.{All-push}
 use Rattle.ld_ids.specs.Set.{members}
 use Rattle.ld_msg.specs.Bounds.{IsMessage}
-use Rattle.ld_gap.proofs.Places.{there_is}
+use Rattle.ld_table.proofs.Places.{there_is}
 use Rattle.ld_reader.proofs.Asking.{asking, asked_one, keeps_front}
 use Rattle.ld_reader.proofs.asks.Ask.add_each.Goals as goal
 use Rattle.ld_reader.proofs.asks.Ask.add_each.Goals.{in-Some+in_ok-push, in_default}

@@ -21,14 +21,14 @@ pub returns-in_ok-tell_clean-clause-sent : goal.returns-in_ok-tell_clean-clause-
 returns-in_ok-tell_clean-clause-sent c = λ y h.
     let r = c.args.self.now in
     let s : c.in-Some.summary ≡ y = one_summary c.in-Some.summary y (shown c.self.inside.stage) c.in-Some.ensures (ap (λ (x : Recovering). x.recovery.stage) c.self.view_is ∙ h.1) in
-    let bs = ap (λ (x : Recovering). to_each (Clean x.recovery.epoch c.in-Some.summary) (nodes_of x.spec)) c.self.view_is ∙ ap (λ (z : Summary). to_each (Clean r.recovery.epoch z) (nodes_of r.spec)) s in
-    c.in_ok-tell_clean.ensures.sent ∙ ap (λ (l : List Msg). c.args.out.now ++ l) (ap (sent c.sender-sender.result) bs ∙ (sent_is c.sender-sender.result r (to_each (Clean r.recovery.epoch y) (nodes_of r.spec)) c.sender-sender.ensures.log c.sender-sender.ensures.epoch ∙ sym (granted r y)))
+    let bs = ap (λ (x : Recovering). to_each (Clean x.recovery.epoch c.in-Some.summary) (nodes_of x.recovery.spec)) c.self.view_is ∙ ap (λ (z : Summary). to_each (Clean r.recovery.epoch z) (nodes_of r.recovery.spec)) s in
+    c.in_ok-tell_clean.ensures.sent ∙ ap (λ (l : List Msg). c.args.out.now ++ l) (ap (sent c.sender-sender.result) bs ∙ (sent_is c.sender-sender.result r (to_each (Clean r.recovery.epoch y) (nodes_of r.recovery.spec)) c.sender-sender.ensures.log c.sender-sender.ensures.epoch ∙ sym (granted r y)))
 
 pub returns-in_ok-tell_clean-clause-messages : goal.returns-in_ok-tell_clean-clause-messages
 returns-in_ok-tell_clean-clause-messages c =
     let a = c.self.inside in
     let x = c.sender-sender.result in
-    let l = c.sender-sender.ensures.log ∙ sym (ap (λ (r : Recovering). r.spec.log) c.self.view_is) in
+    let l = c.sender-sender.ensures.log ∙ sym (ap (λ (r : Recovering). r.recovery.spec.log) c.self.view_is) in
     let b = c.sender-sender.ensures.epoch ∙ sym (ap (λ (r : Recovering). r.ballot) c.self.view_is) in
     let bs = to_each (Clean a.epoch c.in-Some.summary) (members a.spec.set) in
     sent_behind x.epoch x.log bs c.args.out.now c.tell_clean.new.out (subst IsLog (sym l) c.self.invariant.7.log)

@@ -44,7 +44,7 @@ returns-in_ok-tell_clean-clause-sent c =
     let h : shown_ending a.ending ≡ Goes = ap (λ (r : Recovering). r.ending) c.self.view_is ∙ c.requires.going in
     let s = (clean_here w c.args.node c.args.number c.args.summary.now h (λ e. c.if-epoch-self.false (c.home-epoch.ensures.epoch ∙ e)) (sym c.home-epoch.ensures.epoch ∙ c.if-epoch-self-2.true) c.self.invariant.2).sent in
     let n : messages w (to_each (Clean c.home-epoch.result.0 c.args.summary.now) (members a.spec.set)) ≡ messages w (to_each (Clean a.epoch c.args.summary.now) (members a.spec.set)) = ap (λ (e : ℕ). messages w (to_each (Clean e c.args.summary.now) (members a.spec.set))) c.if-epoch-self-2.true in
-    let k = sent_is c.sender-sender.result w (to_each (Clean c.home-epoch.result.0 c.args.summary.now) (members a.spec.set)) (c.sender-sender.ensures.log ∙ sym (ap (λ (r : Recovering). r.spec.log) c.self.view_is)) (c.sender-sender.ensures.epoch ∙ sym (ap (λ (r : Recovering). r.ballot) c.self.view_is)) in
+    let k = sent_is c.sender-sender.result w (to_each (Clean c.home-epoch.result.0 c.args.summary.now) (members a.spec.set)) (c.sender-sender.ensures.log ∙ sym (ap (λ (r : Recovering). r.recovery.spec.log) c.self.view_is)) (c.sender-sender.ensures.epoch ∙ sym (ap (λ (r : Recovering). r.ballot) c.self.view_is)) in
     c.in_ok-tell_clean.ensures.sent ∙ subst (λ (r : Recovering). c.args.out.now ++ sent c.sender-sender.result (to_each (Clean c.home-epoch.result.0 c.args.summary.now) (members a.spec.set)) ≡ c.args.out.now ++ reply_messages r c.args.node (CleanHere c.args.number c.args.summary.now)) c.self.view_is
     (ap (λ (l : List Msg). c.args.out.now ++ l) (k ∙ (n ∙ sym s)))
 
@@ -64,7 +64,7 @@ pub returns-in_ok-tell_clean-clause-messages : goal.returns-in_ok-tell_clean-cla
 returns-in_ok-tell_clean-clause-messages c =
     let a = c.self.inside in
     let x = c.sender-sender.result in
-    let l = c.sender-sender.ensures.log ∙ sym (ap (λ (r : Recovering). r.spec.log) c.self.view_is) in
+    let l = c.sender-sender.ensures.log ∙ sym (ap (λ (r : Recovering). r.recovery.spec.log) c.self.view_is) in
     let b = c.sender-sender.ensures.epoch ∙ sym (ap (λ (r : Recovering). r.ballot) c.self.view_is) in
     let h = sym c.if-epoch-self-2.true in
     let bs = to_each (Clean c.home-epoch.result.0 c.args.summary.now) (members a.spec.set) in

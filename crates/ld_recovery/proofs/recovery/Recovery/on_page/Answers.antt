@@ -20,31 +20,31 @@ pub take_page-requires-clause-entries : goal.take_page-requires-clause-entries
 take_page-requires-clause-entries c = in_place c.args.page.now.entries.now c.requires.page.entries
 
 pub returns-in_ok-take_page-clause-value : goal.returns-in_ok-take_page-clause-value
-returns-in_ok-take_page-clause-value c = λ lng.
+returns-in_ok-take_page-clause-value c =
     let a = c.self.inside in
     let p = c.args.page.now in
     let h : shown_ending a.ending ≡ Goes = ap (λ (r : Recovering). r.ending) c.self.view_is ∙ c.requires.going in
-    subst (λ (r : Recovering). held a.spec a.epoch a.ballot a.lost c.take_page.new.self a.ending ≡ replied r c.args.node (DigestPage p.from p.upto p.trim lng p.entries.now)) c.self.view_is
-    (page_value a.spec a.epoch a.ballot a.lost a.stage c.take_page.new.self a.ending c.args.node p.from p.upto p.trim lng p.entries.now h c.self.invariant.0 (sym c.epoch.ensures ∙ c.if-epoch-self.true) c.in_ok-take_page.ensures.shown)
+    subst (λ (r : Recovering). held a.spec a.epoch a.ballot a.lost c.take_page.new.self a.ending ≡ replied r c.args.node (DigestPage p.from p.upto p.trim p.lng p.entries.now)) c.self.view_is
+    (page_value a.spec a.epoch a.ballot a.lost a.stage c.take_page.new.self a.ending c.args.node p.from p.upto p.trim p.lng p.entries.now h c.self.invariant.0 (sym c.epoch.ensures ∙ c.if-epoch-self.true) c.in_ok-take_page.ensures.shown)
 
 pub returns-in_ok-take_page-clause-sent : goal.returns-in_ok-take_page-clause-sent
-returns-in_ok-take_page-clause-sent c = λ lng.
+returns-in_ok-take_page-clause-sent c =
     let a = c.self.inside in
     let p = c.args.page.now in
     let h : shown_ending a.ending ≡ Goes = ap (λ (r : Recovering). r.ending) c.self.view_is ∙ c.requires.going in
-    c.in_ok-take_page.ensures.sent ∙ subst (λ (r : Recovering). c.args.out.now ++ sent c.sender-sender.result (page_sends a.lost a.stage c.args.node p.from p.upto p.trim p.entries.now) ≡ c.args.out.now ++ reply_messages r c.args.node (DigestPage p.from p.upto p.trim lng p.entries.now)) c.self.view_is
-    (ap (λ (l : List Msg). c.args.out.now ++ l) (page_sends_are a.spec a.epoch a.ballot a.lost a.stage a.ending c.sender-sender.result c.args.node p.from p.upto p.trim lng p.entries.now h c.self.invariant.0 (sym c.epoch.ensures ∙ c.if-epoch-self.true)
-    (c.sender-sender.ensures.log ∙ sym (ap (λ (r : Recovering). r.spec.log) c.self.view_is)) (c.sender-sender.ensures.epoch ∙ sym (ap (λ (r : Recovering). r.ballot) c.self.view_is))))
+    c.in_ok-take_page.ensures.sent ∙ subst (λ (r : Recovering). c.args.out.now ++ sent c.sender-sender.result (page_sends a.lost a.stage c.args.node p.from p.upto p.trim p.lng p.entries.now) ≡ c.args.out.now ++ reply_messages r c.args.node (DigestPage p.from p.upto p.trim p.lng p.entries.now)) c.self.view_is
+    (ap (λ (l : List Msg). c.args.out.now ++ l) (page_sends_are a.spec a.epoch a.ballot a.lost a.stage a.ending c.sender-sender.result c.args.node p.from p.upto p.trim p.lng p.entries.now h c.self.invariant.0 (sym c.epoch.ensures ∙ c.if-epoch-self.true)
+    (c.sender-sender.ensures.log ∙ sym (ap (λ (r : Recovering). r.recovery.spec.log) c.self.view_is)) (c.sender-sender.ensures.epoch ∙ sym (ap (λ (r : Recovering). r.ballot) c.self.view_is))))
 
 pub returns-else-epoch-self-clause-value : goal.returns-else-epoch-self-clause-value
-returns-else-epoch-self-clause-value c = λ lng.
+returns-else-epoch-self-clause-value c =
     let p = c.args.page.now in
-    sym (page_elsewhere c.args.self.now c.args.node p.from p.upto p.trim lng p.entries.now c.requires.going (λ e. c.if-epoch-self.false (c.epoch.ensures ∙ (e ∙ sym (ap (λ (r : Recovering). r.recovery.epoch) c.self.view_is))))).value
+    sym (page_elsewhere c.args.self.now c.args.node p.from p.upto p.trim p.lng p.entries.now c.requires.going (λ e. c.if-epoch-self.false (c.epoch.ensures ∙ (e ∙ sym (ap (λ (r : Recovering). r.recovery.epoch) c.self.view_is))))).value
 
 pub returns-else-epoch-self-clause-sent : goal.returns-else-epoch-self-clause-sent
-returns-else-epoch-self-clause-sent c = λ lng.
+returns-else-epoch-self-clause-sent c =
     let p = c.args.page.now in
-    let q = page_elsewhere c.args.self.now c.args.node p.from p.upto p.trim lng p.entries.now c.requires.going (λ e. c.if-epoch-self.false (c.epoch.ensures ∙ (e ∙ sym (ap (λ (r : Recovering). r.recovery.epoch) c.self.view_is)))) in
+    let q = page_elsewhere c.args.self.now c.args.node p.from p.upto p.trim p.lng p.entries.now c.requires.going (λ e. c.if-epoch-self.false (c.epoch.ensures ∙ (e ∙ sym (ap (λ (r : Recovering). r.recovery.epoch) c.self.view_is)))) in
     sym (ap (λ (l : List Msg). c.args.out.now ++ l) q.sent ∙ append-nil c.args.out.now)
 
 pub invariant_of-self : goal.invariant_of-self
@@ -57,7 +57,7 @@ invariant_of-self c =
       c.self.invariant.3,
       c.self.invariant.4,
       c.self.invariant.5,
-      subst (IsStage a.epoch) (sym c.in_ok-take_page.ensures.shown) (page_is a.epoch a.ballot c.self.invariant.2 c.self.invariant.3 c.self.invariant.4 a.spec c.self.invariant.7 c.args.node p.from p.upto p.trim p.entries.now c.requires.page (omega (arith, c.value.ensures)) a.stage c.self.invariant.0 c.self.invariant.6),
+      subst (IsStage a.epoch) (sym c.in_ok-take_page.ensures.shown) (page_is a.epoch a.ballot c.self.invariant.2 c.self.invariant.3 c.self.invariant.4 a.spec c.self.invariant.7 c.args.node p.from p.upto p.trim p.lng p.entries.now c.requires.page (omega (arith, c.value.ensures)) c.requires.lng a.stage c.self.invariant.0 c.self.invariant.6),
       c.self.invariant.7,
     )
 
@@ -78,8 +78,8 @@ returns-in_ok-take_page-clause-messages c =
     let a = c.self.inside in
     let p = c.args.page.now in
     let x = c.sender-sender.result in
-    let l = c.sender-sender.ensures.log ∙ sym (ap (λ (r : Recovering). r.spec.log) c.self.view_is) in
+    let l = c.sender-sender.ensures.log ∙ sym (ap (λ (r : Recovering). r.recovery.spec.log) c.self.view_is) in
     let b = c.sender-sender.ensures.epoch ∙ sym (ap (λ (r : Recovering). r.ballot) c.self.view_is) in
-    let bs = page_sends a.lost a.stage c.args.node p.from p.upto p.trim p.entries.now in
+    let bs = page_sends a.lost a.stage c.args.node p.from p.upto p.trim p.lng p.entries.now in
     sent_behind x.epoch x.log bs c.args.out.now c.take_page.new.out (subst IsLog (sym l) c.self.invariant.7.log)
-    (subst (λ (o : ℕ). Posts o bs) (sym b) (page_sent a.epoch a.ballot c.self.invariant.2 c.self.invariant.3 c.self.invariant.4 a.spec c.self.invariant.7 c.args.node p.from p.upto p.trim p.entries.now c.requires.page (omega (arith, c.value.ensures)) a.lost a.stage c.self.invariant.0 c.self.invariant.6)) c.in_ok-take_page.ensures.sent
+    (subst (λ (o : ℕ). Posts o bs) (sym b) (page_sent a.epoch a.ballot c.self.invariant.2 c.self.invariant.3 c.self.invariant.4 a.spec c.self.invariant.7 c.args.node p.from p.upto p.trim p.lng p.entries.now c.requires.page (omega (arith, c.value.ensures)) c.requires.lng a.lost a.stage c.self.invariant.0 c.self.invariant.6)) c.in_ok-take_page.ensures.sent

@@ -21,7 +21,7 @@ invariant_of-self c = (
   c.self.invariant.3,
   c.self.invariant.4,
   c.self.invariant.5,
-  subst (IsStage c.self.inside.epoch) (sym c.in_ok-try_again.ensures.shown) (retried_is c.self.inside.epoch c.self.inside.stage c.self.invariant.6),
+  subst (IsStage c.self.inside.epoch) (sym c.in_ok-try_again.ensures.shown) (retried_is c.self.inside.spec c.self.inside.epoch c.self.inside.ballot c.self.inside.stage c.self.invariant.0 c.self.invariant.6),
   c.self.invariant.7,
 )
 
@@ -41,7 +41,7 @@ pub returns-in_ok-try_again-clause-value : goal.returns-in_ok-try_again-clause-v
 returns-in_ok-try_again-clause-value c =
     let a = c.self.inside in
     let h : shown_ending a.ending ≡ Goes = ap (λ (r : Recovering). r.ending) c.self.view_is ∙ goes_if c.args.self.now.ending c.if-goes_on.ensures in
-    subst (λ (r : Recovering). held a.spec a.epoch a.ballot a.lost c.try_again.new.self a.ending ≡ retried r) c.self.view_is (retry_value a.spec a.epoch a.ballot a.lost a.stage c.try_again.new.self a.ending h c.in_ok-try_again.ensures.shown)
+    subst (λ (r : Recovering). held a.spec a.epoch a.ballot a.lost c.try_again.new.self a.ending ≡ retried r) c.self.view_is (retry_value a.spec a.epoch a.ballot a.lost a.stage c.try_again.new.self a.ending h c.self.invariant.0 c.in_ok-try_again.ensures.shown)
 
 pub returns-in_ok-try_again-clause-sent : goal.returns-in_ok-try_again-clause-sent
 returns-in_ok-try_again-clause-sent c =
@@ -49,13 +49,13 @@ returns-in_ok-try_again-clause-sent c =
     let h : shown_ending a.ending ≡ Goes = ap (λ (r : Recovering). r.ending) c.self.view_is ∙ goes_if c.args.self.now.ending c.if-goes_on.ensures in
     c.in_ok-try_again.ensures.sent ∙ subst (λ (r : Recovering). c.args.out.now ++ sent c.sender-sender.result (retry_sends a.lost a.stage) ≡ c.args.out.now ++ retry_messages r) c.self.view_is
     (ap (λ (l : List Msg). c.args.out.now ++ l) (retry_sends_are a.spec a.epoch a.ballot a.lost a.stage a.ending c.sender-sender.result h c.self.invariant.0
-    (c.sender-sender.ensures.log ∙ sym (ap (λ (r : Recovering). r.spec.log) c.self.view_is)) (c.sender-sender.ensures.epoch ∙ sym (ap (λ (r : Recovering). r.ballot) c.self.view_is))))
+    (c.sender-sender.ensures.log ∙ sym (ap (λ (r : Recovering). r.recovery.spec.log) c.self.view_is)) (c.sender-sender.ensures.epoch ∙ sym (ap (λ (r : Recovering). r.ballot) c.self.view_is))))
 
 pub returns-in_ok-try_again-clause-messages : goal.returns-in_ok-try_again-clause-messages
 returns-in_ok-try_again-clause-messages c =
     let a = c.self.inside in
     let x = c.sender-sender.result in
-    let l = c.sender-sender.ensures.log ∙ sym (ap (λ (r : Recovering). r.spec.log) c.self.view_is) in
+    let l = c.sender-sender.ensures.log ∙ sym (ap (λ (r : Recovering). r.recovery.spec.log) c.self.view_is) in
     let b = c.sender-sender.ensures.epoch ∙ sym (ap (λ (r : Recovering). r.ballot) c.self.view_is) in
     sent_behind x.epoch x.log (retry_sends a.lost a.stage) c.args.out.now c.try_again.new.out (subst IsLog (sym l) c.self.invariant.7.log)
     (subst (λ (o : ℕ). Posts o (retry_sends a.lost a.stage)) (sym b) (retries_sent a.epoch a.ballot c.self.invariant.2 c.self.invariant.3 c.self.invariant.4 a.spec c.self.invariant.7 a.lost a.stage c.self.invariant.0 c.self.invariant.6)) c.in_ok-try_again.ensures.sent

@@ -5,7 +5,8 @@ use Rattle.ld_msg.specs.declared.msg.Body.TheVariants.{Store}
 use Rattle.ld_msg.specs.Sequencer.{to_each}
 use Rattle.ld_recovery.specs.Sending.{sent}
 use Rattle.ld_recovery.proofs.Begins.{begins_on}
-use Rattle.ld_recovery.proofs.Posting.{told_one, there_is}
+use Rattle.ld_table.proofs.Places.{there_is}
+use Rattle.ld_recovery.proofs.Posting.{told_one}
 use Rattle.ld_recovery.proofs.send.Sender.send_item.Goals as goal
 use Rattle.ld_recovery.proofs.send.Sender.send_item.Goals.{in-Some+in_ok-body+in_ok-send, in_default}
 
@@ -13,7 +14,7 @@ pub nodes-preserved : goal.nodes-preserved
 nodes-preserved c = elim c.match-nth.branch [
   | in-Some+in_ok-body+in_ok-send w ↦
       let s = c.args.self.now in
-      let b = Store c.args.number 0 c.args.what.now in
+      let b = Store c.args.number c.args.lng c.args.what.now in
       let one : c.match-nth.out ≡ c.nodes.out ++ sent s (to_each b (w.in-Some.node ∷ [])) = rw w.out-is (w.in_ok-send.ensures.sent ∙ ap (λ (x : Body). c.nodes.out ++ sent s ((w.in-Some.node, x) ∷ [])) w.in_ok-body.ensures) in
       record {
         left = ap (λ (r : List Msg). r ++ sent s (to_each b (drop (c.nodes.place + 1) c.args.nodes.now))) one ∙ (told_one s b c.args.nodes.now c.nodes.place w.in-Some.node c.nodes.out (sym w.in-Some.ensures.node) ∙ c.nodes.invariant.left);

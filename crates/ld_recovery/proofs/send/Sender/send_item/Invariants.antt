@@ -6,6 +6,6 @@ use Rattle.ld_recovery.proofs.send.Sender.send_item.Given as goal
 
 abbrev pub invariant-nodes : goal.invariant-nodes
 invariant-nodes l = record {
-  left : l.out ++ sent l.self (to_each (Store l.number 0 l.what) (drop l.place l.nodes)) ≡ l.initial.out ++ sent l.self (to_each (Store l.number 0 l.what) l.nodes);
+  left : l.out ++ sent l.self (to_each (Store l.number l.lng l.what) (drop l.place l.nodes)) ≡ l.initial.out ++ sent l.self (to_each (Store l.number l.lng l.what) l.nodes);
   begun : BeginsWith l.initial.out l.out;
 }

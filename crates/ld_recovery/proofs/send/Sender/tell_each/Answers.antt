@@ -6,7 +6,8 @@ use Rattle.ld_msg.specs.declared.msg.Body.TheVariants.{Clean}
 use Rattle.ld_msg.specs.Sequencer.{to_each}
 use Rattle.ld_recovery.specs.Sending.{sent}
 use Rattle.ld_recovery.proofs.Begins.{begins_on}
-use Rattle.ld_recovery.proofs.Posting.{told_one, there_is}
+use Rattle.ld_table.proofs.Places.{there_is}
+use Rattle.ld_recovery.proofs.Posting.{told_one}
 use Rattle.ld_recovery.proofs.send.Sender.tell_each.Goals as goal
 use Rattle.ld_recovery.proofs.send.Sender.tell_each.Goals.{in-Some+in_ok-send, in_default}
 

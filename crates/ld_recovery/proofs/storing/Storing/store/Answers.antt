@@ -9,6 +9,7 @@ invariant_of-self c =
     record {
       numbers = stay_from (λ s. s == c.args.number) c.args.node a.first a.items.items c.settle_number-settled.new.items.items c.self.invariant.numbers c.settle_number-settled.ensures.items;
       lack = omega (arith, c.self.invariant.lack, c.settle_number-settled.ensures.left);
+      good = c.self.invariant.good;
       some = c.self.invariant.some;
       marked = marked_still (λ s. s == c.args.number) c.args.node a.trimmed a.items.items c.settle_number-settled.new.items.items c.self.invariant.marked c.settle_number-settled.ensures.items;
     }

@@ -19,6 +19,7 @@ invariant_of-self c =
     record {
       numbers = stay_from (λ s. nat_le s c.args.trim) c.args.node a.first a.items.items new c.self.invariant.numbers (settled c);
       lack = omega (arith, c.self.invariant.lack, c.settle_first-settled.ensures.left);
+      good = c.self.invariant.good;
       some = c.self.invariant.some;
       marked = marked_more (λ s. nat_le s c.args.trim) c.args.node c.count_through-count.result a.trimmed c.raise.new.self a.items.items new c.self.invariant.marked (settled c) c.settle_first-settled.ensures.items c.raise.ensures.each;
     }
@@ -26,5 +27,5 @@ invariant_of-self c =
 pub returns : goal.returns
 returns c =
     let a = c.self.inside in
-    let shown : List (ℕ × Planned) → Plans = λ items. record { spec = a.spec; storing = record { trim = a.trim; end = a.end; items = items; wave = a.wave } } in
+    let shown : List (ℕ × Planned) → Plans = λ items. record { spec = a.spec; storing = record { trim = a.trim; lng = a.lng; end = a.end; items = items; wave = a.wave } } in
     ap shown (settled c) ∙ ap (λ (p : Plans). with_storing p (settled_by (λ s. nat_le s c.args.trim) c.args.node p.storing)) c.self.view_is

@@ -6,7 +6,11 @@ use Rattle.ld_register.proofs.contents.Contents.is_next.Goals as goal
 
 pub returns-in-Activate : goal.returns-in-Activate
 returns-in-Activate c n = c.is_behind.ensures ∙ (ap (λ b. not b && (c.epoch.result + 1 == c.in-Activate.epoch)) (c.is_crowded.ensures n)
-    ∙ (ap (λ e. not (is_crowded (register_of c.args.self.now n) c.in-Activate.log) && (e + 1 == c.in-Activate.epoch)) (c.epoch.ensures.value n) ∙ ap (is_next (register_of c.args.self.now n)) (sym c.in-Activate.is)))
+    ∙ (ap (λ e. not (is_crowded (register_of c.args.self.now n) c.in-Activate.spec.log) && (e + 1 == c.in-Activate.epoch)) (c.epoch.ensures.value n) ∙ ap (is_next (register_of c.args.self.now n)) (sym c.in-Activate.is)))
+
+pub returns-in-Unfixed : goal.returns-in-Unfixed
+returns-in-Unfixed c n = c.is_behind-in-Unfixed.ensures ∙ (ap (λ b. not b && (c.epoch-in-Unfixed.result + 1 == c.in-Unfixed.epoch)) (c.is_crowded-in-Unfixed.ensures n)
+    ∙ (ap (λ e. not (is_crowded (register_of c.args.self.now n) c.in-Unfixed.log) && (e + 1 == c.in-Unfixed.epoch)) (c.epoch-in-Unfixed.ensures.value n) ∙ ap (is_next (register_of c.args.self.now n)) (sym c.in-Unfixed.is)))
 
 pub returns-in-Close : goal.returns-in-Close
 returns-in-Close c n = c.is_behind-in-Close.ensures ∙ (ap (λ b. not b && (c.lce.result + 1 == c.in-Close.epoch)) (c.is_crowded-in-Close.ensures n)

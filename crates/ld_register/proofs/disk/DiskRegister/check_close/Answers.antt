@@ -1,17 +1,13 @@
-use Rattle.std.proofs.Common.{◌≡◌, ◌≤◌, ◌<◌, ◌+◌, ◌-◌, ◌^◌, ◌==◌, ◌∙◌, ◌&&◌, ap, sym, refl, subst, arith, ℕ, Ok, Err, not}
+use Rattle.std.proofs.Common.{◌≡◌, ◌+◌, ◌==◌, ◌∙◌, ◌&&◌, ap, sym, subst, arith, Ok, Err, not}
 use Rattle.std.proofs.lemmas.Bool.{eq-eqb}
-use Rattle.ld_journal.specs.Open.{place_of}
-use Rattle.ld_msg.specs.declared.msg.Summary.{Summary}
-use Rattle.ld_msg.specs.Bounds.{IsSummary}
-use Rattle.ld_msg.specs.Register.{Register, epochs_of, lce_of, generation_of, is_crowded}
+use Rattle.ld_msg.specs.Register.{lce_of, is_crowded}
 use Rattle.ld_register.specs.declared.fault.RegisterFault.TheVariants as faults
 use Rattle.ld_register.specs.declared.change.Change.TheVariants as changes
-use Rattle.ld_register.specs.Changes.{changed, IsChange, is_next}
+use Rattle.ld_register.specs.Changes.{changed}
 use Rattle.ld_register.specs.Kept.{register_of}
-use Rattle.ld_register.specs.Calls.{activated, after_activate, closed, after_close, drawn, after_draw}
-use Rattle.ld_register.specs.Held.{Replays, IsDue, granting}
+use Rattle.ld_register.specs.Calls.{spec_told, closed, after_close}
 use Rattle.ld_register.proofs.Committing.{err_of, on_err}
-use Rattle.ld_register.proofs.Meeting.{meets_unready, meets_answered, meets_no_memory, replays_length, failure, loads_granted}
+use Rattle.ld_register.proofs.Meeting.{meets_unready, meets_answered, replays_length, failure, loads_granted}
 use Rattle.ld_register.proofs.Answering.{crowded_close, behind_close, full_close, made_close}
 use Rattle.ld_register.proofs.disk.DiskRegister.check_close.Goals as goal
 
@@ -26,7 +22,8 @@ pub returns-then-lce-epoch-clause-refused : goal.returns-then-lce-epoch-clause-r
 returns-then-lce-epoch-clause-refused g c y = meets_answered g.met.D.Disk.counts_now g.met.D.Disk.reads_an_image c.args.self.now c.ready.new.self _ _ _ _ c.in_ok-ready.ensures.loads c.in_ok-ready.ensures.ready (λ f. absurd (cc f)) (λ p f. absurd (cc f))
     (λ h m. let e = c.lce-lce.ensures.value h.length ∙ ap (λ r. lce_of r c.args.log) m.kept in
     let s = behind_close h c.args.log c.args.epoch y (ap (λ r. is_crowded r c.args.log) (sym m.kept) ∙ (sym (c.is_crowded.ensures h.length) ∙ c.if-is_crowded.false)) (λ q. c.if-lce-epoch.true (ap (λ n. n + 1) e ∙ q)) in
-    (ap (λ n. Err (faults.Behind n)) e ∙ s.0, s.1))
+    let n = c.spec-next.ensures.value h.length ∙ (ap (λ r. spec_told r c.args.log (c.lce-lce.result + 1)) m.kept ∙ ap (λ v. spec_told h c.args.log (v + 1)) e) in
+    (ap (λ v. Err (faults.Behind v c.spec-next.result)) e ∙ (ap (λ v. Err (faults.Behind (lce_of h c.args.log) v)) n ∙ s.0), s.1))
 
 pub returns-then-is_full-clause-refused : goal.returns-then-is_full-clause-refused
 returns-then-is_full-clause-refused g c y = meets_answered g.met.D.Disk.counts_now g.met.D.Disk.reads_an_image c.args.self.now c.ready.new.self _ _ _ _ c.in_ok-ready.ensures.loads c.in_ok-ready.ensures.ready (λ f. absurd (cc f)) (λ p f. absurd (cc f))
@@ -41,7 +38,7 @@ returns-clause-due g c y sound = record {
   is = let e = c.if-lce-epoch.false in let b = sound.ballot in let m = sound.ballot_most in (c.number.ensures.bounds, (omega arith, omega arith), sound);
   next = ap (λ b. not b && (lce_of (register_of c.ready.new.self.contents 0) c.args.log + 1 == c.args.epoch)) (sym (c.is_crowded.ensures 0) ∙ c.if-is_crowded.false) ∙ eq-eqb _ _ (ap (λ n. n + 1) (sym (c.lce-lce.ensures.value 0)) ∙ c.if-lce-epoch.false);
   fits = c.is_full.ensures.fits c.if-is_full.false;
-  answers = λ h m. subst (λ r. (Ok tt ≡ closed r c.args.log c.args.epoch y) × (after_close r c.args.log c.args.epoch y ≡ changed r (changes.Close c.args.log c.args.epoch y))) m.kept
-      (made_close c.ready.new.self.contents h.length c.args.log c.args.epoch y (sym (c.is_crowded.ensures h.length) ∙ c.if-is_crowded.false) (ap (λ n. n + 1) (sym (c.lce-lce.ensures.value h.length)) ∙ c.if-lce-epoch.false)
-      (let l = replays_length c.ready.new.self h m in let fit = c.is_full.ensures.fits c.if-is_full.false in omega arith));
+  answers = λ h m. subst (λ r. (Ok c.spec.result ≡ closed r c.args.log c.args.epoch y) × (after_close r c.args.log c.args.epoch y ≡ changed r (changes.Close c.args.log c.args.epoch y))) m.kept
+      (made_close c.ready.new.self.contents h.length c.args.log c.args.epoch y c.spec.result (sym (c.is_crowded.ensures h.length) ∙ c.if-is_crowded.false) (ap (λ n. n + 1) (sym (c.lce-lce.ensures.value h.length)) ∙ c.if-lce-epoch.false)
+      (let l = replays_length c.ready.new.self h m in let fit = c.is_full.ensures.fits c.if-is_full.false in omega arith) (c.spec.ensures.value h.length));
 }

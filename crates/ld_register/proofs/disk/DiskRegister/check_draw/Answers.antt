@@ -1,15 +1,10 @@
-use Rattle.std.proofs.Common.{◌≡◌, ◌≤◌, ◌<◌, ◌+◌, ◌-◌, ◌^◌, ◌==◌, ◌∙◌, ◌&&◌, ap, sym, refl, subst, arith, ℕ, Ok, Err, not}
+use Rattle.std.proofs.Common.{◌≡◌, ◌<◌, ◌+◌, ◌-◌, ◌^◌, ◌∙◌, ap, sym, subst, arith, ℕ, Ok}
 use Rattle.std.proofs.lemmas.Bool.{eq-eqb}
-use Rattle.ld_journal.specs.Open.{place_of}
-use Rattle.ld_msg.specs.declared.msg.Summary.{Summary}
-use Rattle.ld_msg.specs.Bounds.{IsSummary}
-use Rattle.ld_msg.specs.Register.{Register, epochs_of, lce_of, generation_of, is_crowded}
+use Rattle.ld_msg.specs.Register.{generation_of}
 use Rattle.ld_register.specs.declared.fault.RegisterFault.TheVariants as faults
 use Rattle.ld_register.specs.declared.change.Change.TheVariants as changes
-use Rattle.ld_register.specs.Changes.{changed, IsChange, is_next}
-use Rattle.ld_register.specs.Kept.{register_of}
-use Rattle.ld_register.specs.Calls.{activated, after_activate, closed, after_close, drawn, after_draw}
-use Rattle.ld_register.specs.Held.{Replays, IsDue, granting}
+use Rattle.ld_register.specs.Changes.{changed}
+use Rattle.ld_register.specs.Calls.{drawn, after_draw}
 use Rattle.ld_register.proofs.Committing.{err_of, on_err}
 use Rattle.ld_register.proofs.Meeting.{meets_unready, meets_answered, meets_no_memory, replays_length, failure, loads_granted}
 use Rattle.ld_register.proofs.Answering.{limit_draw, full_draw, made_draw}

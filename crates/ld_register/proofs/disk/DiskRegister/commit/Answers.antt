@@ -3,7 +3,7 @@ use Rattle.ld_journal.specs.Format.{append_calls}
 use Rattle.ld_journal.specs.Open.{place_of, must_load}
 use Rattle.ld_register.specs.Changes.{is_next, body_length}
 use Rattle.ld_register.proofs.Leading.{length_is, short}
-use Rattle.ld_register.proofs.Committing.{on_err, leaves_none, moments_by, made_by, kept_by, refused_by, quiet_calls, quiet_refused, steady_append, is_not_ok, err_of, same_refusal, fits_by, not_both}
+use Rattle.ld_register.proofs.Committing.{on_err, leaves_none, moments_by, made_by, adds_by, kept_by, refused_by, quiet_calls, quiet_refused, steady_append, is_not_ok, err_of, same_refusal, fits_by, not_both}
 use Rattle.ld_journal.specs.declared.fault.JournalFault.TheVariants as journals
 use Rattle.ld_register.specs.declared.fault.RegisterFault.TheVariants as faults
 use Rattle.ld_register.proofs.disk.DiskRegister.commit.Goals as goal
@@ -27,6 +27,7 @@ pub returns-in-Ok-clause-made : goal.returns-in-Ok-clause-made
 returns-in-Ok-clause-made g c = record {
   loaded = c.requires.loaded;
   replays = made_by g.D.Disk c.args.self.now.journal c.append.new.self c.args.self.now.contents c.room.new.self c.apply.new.self c.args.change.now c.deref.result.now (c.deref.ensures.value ∙ c.in_ok-body.ensures) c.requires.is c.requires.next c.in_ok-room.ensures.same c.apply.ensures c.in-Ok.ensures.acknowledged;
+  adds = adds_by g.D.Disk c.args.self.now.journal c.append.new.self c.args.self.now.contents c.args.change.now c.deref.result.now (c.deref.ensures.value ∙ c.in_ok-body.ensures) c.in-Ok.ensures.acknowledged;
   fits = fits_by (place_of c.args.self.now.journal + body_length c.args.change.now + 6) (2 ^ 40) (λ l. let e = ap length (c.deref.ensures.value ∙ c.in_ok-body.ensures) ∙ length_is c.args.change.now in is_not_ok journals.Full (c.in-Ok.ensures.full.1 (c.args.self.now.works c.requires.loaded, omega arith)));
 }
 
@@ -46,7 +47,7 @@ returns-clause-refused g c = record {
 }
 
 pub returns-in_err-room-clause-refused : goal.returns-in_err-room-clause-refused
-returns-in_err-room-clause-refused g c = on_err c.from_residual.result _ (record { cause = inr (inl (err_of c.from_residual.result faults.NoMemory c.from_residual.ensures.1), c.requires.loaded, kept_by g.D.Disk c.args.self.now.journal c.args.self.now.journal c.args.self.now.contents c.room.new.self c.in_err-room.ensures.same (λ b s. s), leaves_none g.D.Disk _ g.met.D.Disk.only_now) })
+returns-in_err-room-clause-refused g c = on_err c.from_residual.result _ (record { cause = inr (inl (err_of c.from_residual.result faults.NoMemory c.from_residual.ensures.1), c.requires.loaded, kept_by g.D.Disk c.args.self.now.journal c.args.self.now.journal c.args.self.now.contents c.room.new.self c.in_err-room.ensures.same (λ b s. s), leaves_none g.D.Disk _ g.met.D.Disk.only_now, refl) })
 
 pub returns-in_err-body-clause-refused : goal.returns-in_err-body-clause-refused
-returns-in_err-body-clause-refused g c = on_err c.from_residual-in_err-body.result _ (record { cause = inr (inl (err_of c.from_residual-in_err-body.result faults.NoMemory c.from_residual-in_err-body.ensures.1), c.requires.loaded, kept_by g.D.Disk c.args.self.now.journal c.args.self.now.journal c.args.self.now.contents c.room.new.self c.in_ok-room.ensures.same (λ b s. s), leaves_none g.D.Disk _ g.met.D.Disk.only_now) })
+returns-in_err-body-clause-refused g c = on_err c.from_residual-in_err-body.result _ (record { cause = inr (inl (err_of c.from_residual-in_err-body.result faults.NoMemory c.from_residual-in_err-body.ensures.1), c.requires.loaded, kept_by g.D.Disk c.args.self.now.journal c.args.self.now.journal c.args.self.now.contents c.room.new.self c.in_ok-room.ensures.same (λ b s. s), leaves_none g.D.Disk _ g.met.D.Disk.only_now, refl) })

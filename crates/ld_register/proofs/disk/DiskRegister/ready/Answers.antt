@@ -35,7 +35,7 @@ returns-clause-loads g c = let D = g.D.Disk in record {
 }
 
 pub returns-then-self-clause-ready : goal.returns-then-self-clause-ready
-returns-then-self-clause-ready g c = record { loaded = c.if-self.true; whole = λ t. let w = t.loaded c.if-self.true in (w.0, w.1, replays_holds c.args.self.now w.0 w.1) }
+returns-then-self-clause-ready g c = record { loaded = c.if-self.true; whole = λ t. let w = t.loaded c.if-self.true in (w.0, w.1, replays_holds c.args.self.now w.0 w.1); same = λ t. refl }
 
 pub returns-clause-ready : goal.returns-clause-ready
 returns-clause-ready g c = record {
@@ -45,4 +45,7 @@ returns-clause-ready g c = record {
       let w = c.in_ok-replay.ensures.replayed b.0 given in
       let rests = w.1.settled.rests in
       (w.0, w.1, holds_unloaded c.args.self.now w.0 (record { bytes = _; seen_is = b.1 ∙ (sym given.bytes ∙ (sym c.in_ok-replay.ensures.same.bytes ∙ rests.bytes)); stands = record { bodies = w.1.bodies; journal = record { gate = rests.gate; after = rests.after; bytes_are = refl; shut = rests.shut; fits = rests.fits }; leads = w.1.leads } }) c.if-self.false);
+  same = λ t. let b = some_bytes (g.D.Disk.seen (owned c.args.self.now)) t.honest in
+      let given = given_of (g.D.Disk.seen (owned c.args.self.now)) b.0 _ b.1 c.in_ok-reload.ensures.opens in
+      c.in_ok-replay.ensures.same.bytes ∙ (given.bytes ∙ sym b.1);
 }

@@ -1,5 +1,3 @@
-use Rattle.std.proofs.Common.{◌≡◌, sym, subst, arith}
-use Rattle.ld_register.specs.declared.change.Change.TheVariants as changes
 use Rattle.ld_register.proofs.Committing.{err_of}
 use Rattle.ld_register.proofs.Meeting.{meets_as, meets_due, meets_undone}
 use Rattle.ld_register.proofs.disk.DiskRegisterRegister.draw.Goals as goal

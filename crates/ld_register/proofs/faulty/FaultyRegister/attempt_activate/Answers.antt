@@ -4,7 +4,7 @@ use Rattle.ld_register.proofs.Arming.{not_made, is_done, attempt_checked, attemp
 use Rattle.ld_register.proofs.faulty.FaultyRegister.attempt_activate.Goals as goal
 
 pub returns-then-is_prevented-clause-granted : goal.returns-then-is_prevented-clause-granted
-returns-then-is_prevented-clause-granted g c = attempt_checked g.met.D.Disk.counts_now g.met.D.Disk.reads_an_image _ _ (λ v. changes.Activate c.args.log v.epoch) _ _ _ _ (not_made _ _ c.is_prevented.ensures c.if-is_prevented.true) c.check_activate.ensures.due
+returns-then-is_prevented-clause-granted g c = attempt_checked g.met.D.Disk.counts_now g.met.D.Disk.reads_an_image _ _ (λ v. changes.Activate v.epoch c.args.spec.now) _ _ _ _ (not_made _ _ c.is_prevented.ensures c.if-is_prevented.true) c.check_activate.ensures.due
 
 pub returns-then-is_prevented-clause-refused : goal.returns-then-is_prevented-clause-refused
 returns-then-is_prevented-clause-refused g c = c.check_activate.ensures.refused

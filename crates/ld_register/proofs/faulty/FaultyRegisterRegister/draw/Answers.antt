@@ -1,6 +1,5 @@
 use Rattle.std.proofs.Common.{◌+◌, ◌-◌, ◌^◌, ◌∙◌, inl, inr, ap, sym, min, Err}
 use Rattle.ld_msg.specs.Register.{falls, armed_after}
-use Rattle.ld_register.specs.declared.fault.RegisterFault.TheVariants as faults
 use Rattle.ld_register.specs.Calls.{drawn, after_draw}
 use Rattle.ld_register.proofs.Committing.{err_of, on_err}
 use Rattle.ld_register.proofs.Arming.{arms_draw, armed_refused, armed_fell, armed_passed, fallen}

@@ -25,11 +25,11 @@ waiting-preserved c =
     let who = Sequencer i.epoch in
     let w = c.index.result.now in
     let there = at_index i.waiting.items c.waiting.place w (let a = c.len-place-end.ensures in omega arith) c.index.ensures in
-    let one : c.send.new.out ≡ c.waiting.out ++ posted who i.spec.log (append_stores i.spec c.args.lost.now ((c.value-first.result + c.waiting.place, w.append) ∷ [])) =
-    c.in_ok-send.ensures.sent c.args.lost.now c.to_set.ensures ∙ ap (λ n. c.waiting.out ++ posted who i.spec.log (append_stores i.spec c.args.lost.now ((n, w.append) ∷ []))) c.from_u64-number.ensures in
+    let one : c.send.new.out ≡ c.waiting.out ++ posted who i.spec.log (append_stores i.spec c.args.lost.now c.lng-lng.result ((c.value-first.result + c.waiting.place, w.append) ∷ [])) =
+    c.in_ok-send.ensures.sent c.args.lost.now c.to_set.ensures ∙ ap (λ n. c.waiting.out ++ posted who i.spec.log (append_stores i.spec c.args.lost.now c.lng-lng.result ((n, w.append) ∷ []))) c.from_u64-number.ensures in
     record {
-      left = ap (λ o. o ++ stores_from who i.spec.log i.spec c.args.lost.now c.value-first.result (c.waiting.place + 1) i.waiting.items) one
-          ∙ (round_one who i.spec.log i.spec c.args.lost.now c.value-first.result c.waiting.place i.waiting.items w c.waiting.out there ∙ c.waiting.invariant.left);
+      left = ap (λ o. o ++ stores_from who i.spec.log i.spec c.args.lost.now c.lng-lng.result c.value-first.result (c.waiting.place + 1) i.waiting.items) one
+          ∙ (round_one who i.spec.log i.spec c.args.lost.now c.lng-lng.result c.value-first.result c.waiting.place i.waiting.items w c.waiting.out there ∙ c.waiting.invariant.left);
       begun = begins_on c.args.out.now c.waiting.out _ c.send.new.out one c.waiting.invariant.begun;
     }
 
@@ -39,12 +39,13 @@ returns-clause-sent c =
     let who = Sequencer i.epoch in
     let e = c.value-first.ensures in
     let n = c.new.ensures in
-    let g = c.lng.ensures.value in
+    let g = c.lng-lng.ensures.value in
     let first : c.value-first.result + 0 ≡ numbered i.epoch (leading i.window + 1) = omega arith in
-    let all : c.waiting.out ≡ c.args.out.now ++ stores_from who i.spec.log i.spec c.args.lost.now c.value-first.result 0 i.waiting.items =
-    sym (none_left who i.spec.log i.spec c.args.lost.now c.value-first.result c.waiting.place i.waiting.items c.waiting.out (let a = c.len-place-end.ensures in omega arith)) ∙ c.waiting.invariant.left in
-    subst (λ r. c.waiting.out ≡ c.args.out.now ++ posted (Sequencer r.epoch) r.spec.log (append_stores r.spec c.args.lost.now r.appends)) c.self.view_is
-    (all ∙ ap (λ m. c.args.out.now ++ posted who i.spec.log (append_stores i.spec c.args.lost.now (numbered_from m (carried i.waiting.items)))) first)
+    let all : c.waiting.out ≡ c.args.out.now ++ stores_from who i.spec.log i.spec c.args.lost.now c.lng-lng.result c.value-first.result 0 i.waiting.items =
+    sym (none_left who i.spec.log i.spec c.args.lost.now c.lng-lng.result c.value-first.result c.waiting.place i.waiting.items c.waiting.out (let a = c.len-place-end.ensures in omega arith)) ∙ c.waiting.invariant.left in
+    subst (λ r. c.waiting.out ≡ c.args.out.now ++ posted (Sequencer r.epoch) r.spec.log (append_stores r.spec c.args.lost.now r.lng r.appends)) c.self.view_is
+    (all ∙ ap (λ m. c.args.out.now ++ posted who i.spec.log (append_stores i.spec c.args.lost.now c.lng-lng.result (numbered_from m (carried i.waiting.items)))) first
+    ∙ ap (λ k. c.args.out.now ++ posted who i.spec.log (append_stores i.spec c.args.lost.now k (numbered_from (numbered i.epoch (leading i.window + 1)) (carried i.waiting.items)))) g)
 
 pub returns-in_err-send-clause-begins : goal.returns-in_err-send-clause-begins
 returns-in_err-send-clause-begins c = on_err c.from_residual.result (begins_then c.args.out.now c.waiting.out c.send.new.out c.in_err-send.ensures.begins c.waiting.invariant.begun)

@@ -4,9 +4,10 @@ use Rattle.ld_msg.specs.declared.msg.What.TheVariants.{Rec}
 use Rattle.ld_msg.specs.declared.msg.Body.TheVariants.{Store}
 use Rattle.ld_msg.specs.Network.{posted}
 use Rattle.ld_msg.specs.Sequencer.{to_each}
-use Rattle.ld_sequencer.proofs.Sends.{sent_one, there_is}
+use Rattle.ld_table.proofs.Places.{there_is}
+use Rattle.ld_sequencer.proofs.Sends.{sent_one}
 use Rattle.ld_sequencer.proofs.Begins.{sent_begins, on_err}
-use Rattle.ld_sequencer.specs.Sending.{BeginsWith}
+use Rattle.ld_recovery.specs.Sending.{BeginsWith}
 use Rattle.ld_sequencer.proofs.send.Sender.send_stores.Goals as goal
 use Rattle.ld_sequencer.proofs.send.Sender.send_stores.Goals.{in-Some+in_ok-body+in_ok-push, in_default}
 
@@ -15,7 +16,7 @@ nodes-preserved c = elim c.match-nth.branch [
   | in-Some+in_ok-body+in_ok-push w ↦
       let who = Sequencer c.args.self.now.epoch in
       let log = c.args.self.now.log in
-      let b = Store c.args.number 0 (Rec c.args.payload.now) in
+      let b = Store c.args.number c.args.lng (Rec c.args.payload.now) in
       let y = w.in-Some.node in
       let one : c.match-nth.out ≡ c.nodes.out ++ posted who log ((y, b) ∷ []) =
       w.out-is ∙ (w.in_ok-push.ensures.ok ∙ ap (λ ms. c.nodes.out ++ ms) (sym w.to_node.ensures ∙ ap (λ x. posted who log ((y, x) ∷ [])) w.in_ok-body.ensures)) in
@@ -27,9 +28,9 @@ nodes-preserved c = elim c.match-nth.branch [
 pub returns-in_err-body-clause-begins : goal.returns-in_err-body-clause-begins
 returns-in_err-body-clause-begins c =
     on_err c.from_residual.result
-    (sent_begins (Sequencer c.args.self.now.epoch) c.args.self.now.log (Store c.args.number 0 (Rec c.args.payload.now)) c.args.nodes.now c.nodes.place c.args.out.now c.nodes.out c.nodes.invariant)
+    (sent_begins (Sequencer c.args.self.now.epoch) c.args.self.now.log (Store c.args.number c.args.lng (Rec c.args.payload.now)) c.args.nodes.now c.nodes.place c.args.out.now c.nodes.out c.nodes.invariant)
 
 pub returns-in_err-push-clause-begins : goal.returns-in_err-push-clause-begins
 returns-in_err-push-clause-begins c =
     on_err c.from_residual-in_err-push.result (subst (BeginsWith c.args.out.now) (sym c.in_err-push.ensures.err)
-    (sent_begins (Sequencer c.args.self.now.epoch) c.args.self.now.log (Store c.args.number 0 (Rec c.args.payload.now)) c.args.nodes.now c.nodes.place c.args.out.now c.nodes.out c.nodes.invariant))
+    (sent_begins (Sequencer c.args.self.now.epoch) c.args.self.now.log (Store c.args.number c.args.lng (Rec c.args.payload.now)) c.args.nodes.now c.nodes.place c.args.out.now c.nodes.out c.nodes.invariant))

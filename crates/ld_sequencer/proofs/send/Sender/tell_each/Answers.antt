@@ -3,9 +3,11 @@ use Rattle.ld_ids.specs.Set.{members}
 use Rattle.ld_msg.specs.declared.msg.Who.TheVariants.{Sequencer}
 use Rattle.ld_msg.specs.Network.{posted}
 use Rattle.ld_msg.specs.Sequencer.{to_each}
-use Rattle.ld_sequencer.proofs.Sends.{sent_one, there_is}
+use Rattle.ld_table.proofs.Places.{there_is}
+use Rattle.ld_sequencer.proofs.Sends.{sent_one}
 use Rattle.ld_sequencer.proofs.Begins.{sent_begins, on_err}
-use Rattle.ld_sequencer.specs.Sending.{BeginsWith, told}
+use Rattle.ld_sequencer.specs.Sending.{told}
+use Rattle.ld_recovery.specs.Sending.{BeginsWith}
 use Rattle.ld_sequencer.proofs.send.Sender.tell_each.Goals as goal
 use Rattle.ld_sequencer.proofs.send.Sender.tell_each.Goals.{in-Some+in_ok-push, in_default}
 

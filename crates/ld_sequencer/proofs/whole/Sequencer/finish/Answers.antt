@@ -1,4 +1,5 @@
 use Rattle.std.proofs.Common.{◌∙◌, sym}
+use Rattle.ld_sequencer.specs.Looks.{shows}
 use Rattle.ld_sequencer.proofs.Doing.{made_acted, is_held, is_closing}
 use Rattle.ld_sequencer.proofs.whole.Sequencer.finish.Goals.{in-Some+in_ok-closed-in-Some+in-Seals-1, in-Some+in_ok-closed-in-Some+in-Stores-1, in-Some+in_ok-closed-in-Some+in-Closes-1, in-None}
 use Rattle.ld_sequencer.proofs.whole.Sequencer.finish.Goals as goal
@@ -9,15 +10,15 @@ returns-clause-acted c =
     elim c.match-take.branch [
       | in-Some+in_ok-closed-in-Some+in-Seals-1 d ↦
           let r = d.in-Some.recovery in let k = sym c.take.ensures.value ∙ d.in-Some.is in
-          made_acted w c.go_on.new.self o m r e c.released-before.result c.new.result y c.risen.result c.args.out.now c.match-take.out c.go_on.new.out c.self.view_is c.self.invariant k c.requires.due c.released-before.ensures c.new.ensures
+          made_acted (shows c.args.next.now) w c.go_on.new.self o m r e c.released-before.result c.new.result y c.risen.result c.args.out.now c.match-take.out c.go_on.new.out c.self.view_is c.self.invariant k c.requires.due c.released-before.ensures c.new.ensures
           (d.out-is ∙ d.in_ok-closed-in-Some.ensures.sent y (is_closing o m r w e y c.self.view_is c.self.invariant k c.requires.due)) c.in_ok-go_on.ensures.now c.in_ok-go_on.ensures.out c.risen.ensures
       | in-Some+in_ok-closed-in-Some+in-Stores-1 d ↦
           let r = d.in-Some.recovery in let k = sym c.take.ensures.value ∙ d.in-Some.is in
-          made_acted w c.go_on.new.self o m r e c.released-before.result c.new.result y c.risen.result c.args.out.now c.match-take.out c.go_on.new.out c.self.view_is c.self.invariant k c.requires.due c.released-before.ensures c.new.ensures
+          made_acted (shows c.args.next.now) w c.go_on.new.self o m r e c.released-before.result c.new.result y c.risen.result c.args.out.now c.match-take.out c.go_on.new.out c.self.view_is c.self.invariant k c.requires.due c.released-before.ensures c.new.ensures
           (d.out-is ∙ d.in_ok-closed-in-Some.ensures.sent y (is_closing o m r w e y c.self.view_is c.self.invariant k c.requires.due)) c.in_ok-go_on.ensures.now c.in_ok-go_on.ensures.out c.risen.ensures
       | in-Some+in_ok-closed-in-Some+in-Closes-1 d ↦
           let r = d.in-Some.recovery in let k = sym c.take.ensures.value ∙ d.in-Some.is in
-          made_acted w c.go_on.new.self o m r e c.released-before.result c.new.result y c.risen.result c.args.out.now c.match-take.out c.go_on.new.out c.self.view_is c.self.invariant k c.requires.due c.released-before.ensures c.new.ensures
+          made_acted (shows c.args.next.now) w c.go_on.new.self o m r e c.released-before.result c.new.result y c.risen.result c.args.out.now c.match-take.out c.go_on.new.out c.self.view_is c.self.invariant k c.requires.due c.released-before.ensures c.new.ensures
           (d.out-is ∙ d.in_ok-closed-in-Some.ensures.sent y (is_closing o m r w e y c.self.view_is c.self.invariant k c.requires.due)) c.in_ok-go_on.ensures.now c.in_ok-go_on.ensures.out c.risen.ensures
       | in-None d ↦ absurd (is_held o m w e y c.self.view_is (sym c.take.ensures.value ∙ d.in-None.is) c.requires.due)
     ]

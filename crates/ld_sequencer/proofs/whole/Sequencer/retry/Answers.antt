@@ -2,6 +2,7 @@ use Rattle.std.proofs.Common.{◌≡◌, ◌++◌, ◌∙◌, sym, ap, inr, fals
 use Rattle.ld_msg.specs.Register.{is_crowded}
 use Rattle.std.proofs.Common.{is_some}
 use Rattle.ld_sequencer.specs.Whole.{Whole, joined, sent_as, pending_stores}
+use Rattle.ld_sequencer.proofs.Serving.{first_of}
 use Rattle.ld_sequencer.proofs.Retrying.{still_exact, still_acted, still_room, raised_whole, retry_exact, retry_acted, retry_held, retry_refused, retry_room, retry_changed}
 use Rattle.ld_sequencer.proofs.whole.Sequencer.retry.Goals as goal
 
@@ -11,7 +12,7 @@ returns-then-is_preempted-clause-exact g c = λ x h. let w = c.args.self.now in 
 
 pub returns-then-is_preempted-clause-acted : goal.returns-then-is_preempted-clause-acted
 returns-then-is_preempted-clause-acted g c = let w = c.args.self.now in let t = c.nothing.ensures in let p = ap (λ (z : Whole). is_some z.sequencer.preempted) (sym c.self.view_is) ∙ (sym c.is_preempted.ensures ∙ c.if-is_preempted.true) in
-    still_acted w c.nothing.result c.args.out.now p t.acked t.closed t.preempted t.failed t.released
+    still_acted w c.nothing.result c.args.out.now p t.acked t.closed t.preempted t.failed t.released w.origin.first (first_of w c.self.inside.own c.self.inside.recovery c.self.view_is c.self.invariant)
 
 pub returns-then-is_preempted-clause-held : goal.returns-then-is_preempted-clause-held
 returns-then-is_preempted-clause-held g c = λ x h. let w = c.args.self.now in let t = c.nothing.ensures in let p = ap (λ (z : Whole). is_some z.sequencer.preempted) (sym c.self.view_is) ∙ (sym c.is_preempted.ensures ∙ c.if-is_preempted.true) in

@@ -1,6 +1,0 @@
-use Rattle.std.proofs.Common.{drop}
-use Rattle.ld_driver.specs.Looked.{IsAmong}
-use Rattle.ld_driver.proofs.keeps.keeps.Given as goal
-
-abbrev pub invariant-loop-spec : goal.invariant-loop-spec
-invariant-loop-spec l = IsAmong l.log l.node l.specs (drop l.spec-index l.specs)

@@ -1,0 +1,5 @@
+pub mod There
+pub mod Parts
+pub mod Writes
+pub mod Spelling
+pub mod Unspelling

@@ -1,0 +1,314 @@
+-- Steps of a drive, one part after the other.
+use Rattle.std.proofs.Common.{◌≡◌, ◌⊎◌, ◌≤◌, ◌<◌, ◌+◌, arith, ℕ, suc, ◌==◌, Bool, true, false, List, [], ◌∷◌, ◌++◌, Option, Some, None, Ok, Err, refl, ap, sym, ◌∙◌, subst, inl, inr, append_assoc, if◌then◌else◌}
+use Rattle.std.specs.List.{AllByRecursion}
+use Rattle.std.proofs.lemmas.List.{append-nil}
+use Rattle.ld_config.specs.declared.config.Config.{Config}
+use Rattle.ld_schedule.specs.declared.event.Event.{Event}
+use Rattle.ld_schedule.specs.declared.event.Event.TheVariants as events
+use Rattle.ld_machine.specs.State.{State}
+use Rattle.ld_transcript.specs.declared.line.Line.{Line}
+use Rattle.ld_machine.specs.Step.{happens}
+use Rattle.ld_machine.specs.Run.{step, state_after}
+use Rattle.ld_rounds.specs.declared.ended.Ended.{Ended}
+use Rattle.ld_rounds.specs.declared.ended.Ended.TheVariants as ends
+use Rattle.ld_rounds.specs.Input.{Input, all_taken}
+use Rattle.ld_rounds.specs.Feeding.{upcoming, NoneComes, WasOver, NextIs, IsInputEnding}
+use Rattle.ld_rounds.specs.Drives.{Turned}
+use Rattle.ld_rounds.specs.Rounds.{Splits, is_quiet, Quiet, IsVisit, AreVisits, IsReadRound, AreReadRounds, IsRetry, MayRetry, IsAppendRound, AreAppendRounds, AreAppends, IsAppendBy, IsBegun, tells_full, taken_by, taken_of, HasFed, Feeds, HasFedSome, FeedsUntil, Both}
+
+-- by so many rounds
+pub turned : {Y : Type 0} {W : ℕ → Type 0} (low high n : ℕ) → low ≤ n → n < high → Y ⊎ W n → Y ⊎ Turned low high W
+turned low high n l h (inl y) = inl y
+turned low high n l h (inr w) = inr (record { rounds = n; least = l; below = h; goes = w })
+
+-- where the first steps are such, and those behind them so, they are so together
+abbrev pub Joins : Config → (State → List Event → Type 0) → (State → List Event → Type 0) → (State → List Event → Type 0) → Type 0
+Joins c P Q R = (s : State) (es fs : List Event) → P s es → Q (state_after c s es) fs → R s (es ++ fs)
+
+pub after-append : (c : Config) (s : State) (es fs : List Event) → state_after c s (es ++ fs) ≡ state_after c (state_after c s es) fs
+unfolding state_after
+after-append c s [] fs = refl
+after-append c s (e ∷ es) fs = after-append c (step c s e).state es fs
+
+pub after_none : (c : Config) (s : State) → state_after c s [] ≡ s
+unfolding state_after
+after_none c s = refl
+
+-- neither done, nor at a line that is off
+abbrev pub IsPartly : Ended → Type 0
+IsPartly ends.Done = ⊥
+IsPartly (ends.BadLine line place) = ⊥
+IsPartly _ = Unit {0}
+
+-- where the input has ended none is still to come
+pub none_upcoming : (origin : Option Input) (b : Bool) (coming : Option Input) → b ≡ true → WasOver origin b coming → NoneComes origin coming
+none_upcoming origin true coming e w = w
+none_upcoming origin false coming e w = absurd cc
+
+all-append : (P : Event → Type 0) (es fs : List Event) → AllByRecursion P es → AllByRecursion P fs → AllByRecursion P (es ++ fs)
+all-append P [] fs a b = b
+all-append P (e ∷ es) fs a b = (a.0, all-append P es fs a.1 b)
+
+module _ (c : Config) where
+  pub quiet_joins : Joins c Quiet Quiet Quiet
+  quiet_joins s es fs a b = all-append (λ e. is_quiet e ≡ true) es fs a b
+
+  pub appends_join : (name : List ℕ) → Joins c (AreAppends name) (AreAppends name) (AreAppends name)
+  appends_join name s es fs a b = all-append (IsAppendBy name) es fs a b
+
+  pub splits_join : (P Q : State → List Event → Type 0) → Joins c P Q (Splits P Q c)
+  splits_join P Q s es fs p q = record { front = es; rest = fs; whole = refl; came = p; goes = q }
+
+  -- the last part is longer
+  pub splits_more : (P Q N M : State → List Event → Type 0) → Joins c Q N M → Joins c (Splits P Q c) N (Splits P M c)
+  splits_more P Q N M j s es fs h n = record {
+    front = h.front;
+    rest = h.rest ++ fs;
+    whole = ap (λ l. l ++ fs) h.whole ∙ append_assoc h.front h.rest fs;
+    came = h.came;
+    goes = j (state_after c s h.front) h.rest fs h.goes (subst (λ (x : State). N x fs) (ap (state_after c s) h.whole ∙ after-append c s h.front h.rest) n);
+  }
+
+  -- the last part is none
+  pub splits_end : (P Q : State → List Event → Type 0) (s : State) (es : List Event) → P s es → Q (state_after c s es) [] → Splits P Q c s es
+  splits_end P Q s es p q = record { front = es; rest = []; whole = sym (append-nil es); came = p; goes = q }
+
+  pub splits_as : (P Q N M : State → List Event → Type 0) (s : State) (es : List Event) → ((t : State) (fs : List Event) → P t fs → N t fs) → ((t : State) (fs : List Event) → Q t fs → M t fs) → Splits P Q c s es → Splits N M c s es
+  splits_as P Q N M s es f g h = record { front = h.front; rest = h.rest; whole = h.whole; came = f s h.front h.came; goes = g (state_after c s h.front) h.rest h.goes }
+
+  -- ---- visits ----
+
+  pub visits_quiet : (first : ℕ) (ys : List ℕ) (s : State) (es : List Event) → AreVisits c first ys s es → Quiet s es
+  visits_quiet first [] s es h = subst (λ (l : List Event). Quiet s l) (sym h) tt
+  visits_quiet first (y ∷ ys) s es h = subst (λ (l : List Event). Quiet s l) (sym h.whole) (quiet_joins s h.front h.rest h.came.quiet (visits_quiet first ys (state_after c s h.front) h.rest h.goes))
+
+  -- one more node is visited
+  pub visits_push : (first : ℕ) (ys : List ℕ) (y : ℕ) → Joins c (AreVisits c first ys) (IsVisit c first y) (AreVisits c first (ys ++ y ∷ []))
+  visits_push first [] y s es fs h v =
+      subst (λ (l : List Event). Splits (IsVisit c first y) (AreVisits c first []) c s (l ++ fs)) (sym h)
+      (splits_end (IsVisit c first y) (AreVisits c first []) s fs (subst (λ (x : State). IsVisit c first y x fs) (ap (state_after c s) h ∙ after_none c s) v) refl)
+  visits_push first (z ∷ zs) y s es fs h v = splits_more (IsVisit c first z) (AreVisits c first zs) (IsVisit c first y) (AreVisits c first (zs ++ y ∷ [])) (visits_push first zs y) s es fs h v
+
+  pub visits_calm : (first : ℕ) (ys : List ℕ) → Joins c (AreVisits c first ys) Quiet Quiet
+  visits_calm first ys s es fs h q = quiet_joins s es fs (visits_quiet first ys s es h) q
+
+  -- ---- rounds ----
+
+  -- one more of a reader; its rounds are alike
+  pub read_more : (name : List ℕ) (first : ℕ) (ys : List ℕ) (n : ℕ) → Joins c (AreReadRounds name c first ys n) (IsReadRound name c first ys) (AreReadRounds name c first ys (n + 1))
+  read_more name first ys n s es fs h r =
+      let e : n + 1 ≡ suc n = omega arith in
+      subst (λ (k : ℕ). AreReadRounds name c first ys k s (es ++ fs)) (sym e) (record { front = es; rest = fs; whole = refl; came = h; goes = r })
+
+  -- one more of a sequencer
+  pub append_more : (name : List ℕ) (first : ℕ) (ys : List ℕ) (n : ℕ) → Joins c (AreAppendRounds name c first ys n) (IsAppendRound name c first ys (n == 0)) (AreAppendRounds name c first ys (n + 1))
+  append_more name first ys n s es fs h r =
+      let e : n + 1 ≡ suc n = omega arith in
+      subst (λ (k : ℕ). AreAppendRounds name c first ys k s (es ++ fs)) (sym e) (record { front = es; rest = fs; whole = refl; came = h; goes = r })
+
+  -- ---- both ----
+
+  pub both_join : (P Q R L M N : State → List Event → Type 0) → Joins c P Q R → Joins c L M N → Joins c (Both P L) (Both Q M) (Both R N)
+  both_join P Q R L M N f g s es fs a b = (f s es fs a.0 b.0, g s es fs a.1 b.1)
+
+  -- ---- payloads ----
+
+  taken-append : (s : State) (es fs : List Event) → taken_of c s (es ++ fs) ≡ taken_of c s es ++ taken_of c (state_after c s es) fs
+  unfolding state_after
+  taken-append s [] fs = refl
+  taken-append s (e ∷ es) fs = ap (λ l. taken_by c s e ++ l) (taken-append (step c s e).state es fs) ∙ sym (append_assoc (taken_by c s e) (taken_of c (step c s e).state es) (taken_of c (state_after c (step c s e).state es) fs))
+
+  quiet_takes : (s : State) (e : Event) → is_quiet e ≡ true → taken_by c s e ≡ []
+  quiet_takes s (events.Append n payload) h = absurd cc
+  quiet_takes s (events.Deliver i) h = refl
+  quiet_takes s (events.Lose i) h = refl
+  quiet_takes s (events.Format n) h = refl
+  quiet_takes s (events.Activate n l) h = refl
+  quiet_takes s (events.Trim n p) h = refl
+  quiet_takes s (events.Retry n) h = refl
+  quiet_takes s (events.Drop n) h = refl
+  quiet_takes s (events.Flow k) h = refl
+  quiet_takes s (events.Open n l from until) h = refl
+  quiet_takes s (events.Poll n) h = refl
+  quiet_takes s (events.Tick n l) h = refl
+  quiet_takes s (events.Down n) h = refl
+  quiet_takes s (events.Up n) h = refl
+  quiet_takes s (events.Wipe n) h = refl
+  quiet_takes s (events.Fail n k) h = refl
+  quiet_takes s (events.Tear n k picture) h = refl
+  quiet_takes s (events.RegFail k done) h = refl
+  quiet_takes s (events.Set l r x set) h = refl
+
+  none_taken : (s : State) (es : List Event) → Quiet s es → taken_of c s es ≡ []
+  none_taken s [] h = refl
+  none_taken s (e ∷ es) h = ap (λ l. l ++ taken_of c (step c s e).state es) (quiet_takes s e h.0) ∙ none_taken (step c s e).state es h.1
+
+  pub feeds_here : (i : Option Input) (s : State) → Feeds c i i s []
+  feeds_here None s = tt
+  feeds_here (Some i) s = record { left = i; now = refl; payloads = refl; off = refl }
+
+  taken_parts : (s : State) (es fs : List Event) (all left rest : List (List ℕ)) → all ≡ taken_of c s es ++ left → left ≡ taken_of c (state_after c s es) fs ++ rest → all ≡ taken_of c s (es ++ fs) ++ rest
+  taken_parts s es fs all left rest a b =
+      a ∙ (ap (λ l. taken_of c s es ++ l) b ∙ (sym (append_assoc (taken_of c s es) (taken_of c (state_after c s es) fs) rest) ∙ ap (λ l. l ++ rest) (sym (taken-append s es fs))))
+
+  pub feeds_join : (i j k : Option Input) → Joins c (Feeds c i j) (Feeds c j k) (Feeds c i k)
+  feeds_join None j k s es fs a b = tt
+  feeds_join (Some i) j k s es fs a b =
+      let h : HasFed c a.left k (state_after c s es) fs = subst (λ o. Feeds c o k (state_after c s es) fs) a.now b in
+      record { left = h.left; now = h.now; payloads = taken_parts s es fs i.payloads a.left.payloads h.left.payloads a.payloads h.payloads; off = h.off ∙ a.off }
+
+  fed_all_join : (i left : Input) (s : State) (es fs : List Event) → i.payloads ≡ taken_of c s es ++ left.payloads → left.payloads ≡ taken_of c (state_after c s es) fs → i.payloads ≡ taken_of c s (es ++ fs)
+  fed_all_join i left s es fs a b = a ∙ (ap (λ l. taken_of c s es ++ l) b ∙ sym (taken-append s es fs))
+
+  fed_some_join : (i left : Input) (s : State) (es fs : List Event) → i.payloads ≡ taken_of c s es ++ left.payloads → HasFedSome c left (state_after c s es) fs → HasFedSome c i s (es ++ fs)
+  fed_some_join i left s es fs a h = record { left = h.left; payloads = taken_parts s es fs i.payloads left.payloads h.left a h.payloads }
+
+  until_by : (i left : Input) (e : Ended) (s : State) (es fs : List Event) → i.payloads ≡ taken_of c s es ++ left.payloads → left.off ≡ i.off → FeedsUntil c (Some left) e (state_after c s es) fs → FeedsUntil c (Some i) e s (es ++ fs)
+  until_by i left ends.Done s es fs a o h = (fed_all_join i left s es fs a h.0, sym o ∙ h.1)
+  until_by i left (ends.BadLine line place) s es fs a o h = (fed_all_join i left s es fs a h.0, record { rest = h.1.rest; off = sym o ∙ h.1.off; at = h.1.at })
+  until_by i left ends.Rounds s es fs a o h = fed_some_join i left s es fs a h
+  until_by i left (ends.Preempted by) s es fs a o h = fed_some_join i left s es fs a h
+  until_by i left ends.LogLimit s es fs a o h = fed_some_join i left s es fs a h
+  until_by i left ends.EpochLimit s es fs a o h = fed_some_join i left s es fs a h
+  until_by i left ends.EpochFull s es fs a o h = fed_some_join i left s es fs a h
+  until_by i left (ends.Register fault) s es fs a o h = fed_some_join i left s es fs a h
+  until_by i left (ends.BadFrame fault) s es fs a o h = fed_some_join i left s es fs a h
+  until_by i left ends.Read s es fs a o h = fed_some_join i left s es fs a h
+  until_by i left ends.Write s es fs a o h = fed_some_join i left s es fs a h
+  until_by i left ends.NoMemory s es fs a o h = fed_some_join i left s es fs a h
+
+  pub until_join : (i j : Option Input) (e : Ended) → Joins c (Feeds c i j) (FeedsUntil c j e) (FeedsUntil c i e)
+  until_join None j e s es fs a b = tt
+  until_join (Some i) j e s es fs a b = until_by i a.left e s es fs a.payloads a.off (subst (λ o. FeedsUntil c o e (state_after c s es) fs) a.now b)
+
+  pub feeds_quiet : (i j : Option Input) → Joins c (Feeds c i j) Quiet (Feeds c i j)
+  feeds_quiet None j s es fs a q = tt
+  feeds_quiet (Some i) j s es fs a q = record {
+    left = a.left;
+    now = a.now;
+    payloads = a.payloads ∙ ap (λ l. l ++ a.left.payloads) (sym (taken-append s es fs ∙ (ap (λ l. taken_of c s es ++ l) (none_taken (state_after c s es) fs q) ∙ append-nil (taken_of c s es))));
+    off = a.off;
+  }
+
+  pub quiet_feeds : (i j : Option Input) → Joins c Quiet (Feeds c i j) (Feeds c i j)
+  quiet_feeds None j s es fs q a = tt
+  quiet_feeds (Some i) j s es fs q a = record {
+    left = a.left;
+    now = a.now;
+    payloads = a.payloads ∙ ap (λ l. l ++ a.left.payloads) (sym (taken-append s es fs ∙ ap (λ l. l ++ taken_of c (state_after c s es) fs) (none_taken s es q)));
+    off = a.off;
+  }
+
+  -- some were taken
+  fed_some : (i : Input) (e : Ended) (s : State) (es : List Event) → IsPartly e → HasFedSome c i s es → FeedsUntil c (Some i) e s es
+  fed_some i ends.Done s es p h = absurd p
+  fed_some i (ends.BadLine line place) s es p h = absurd p
+  fed_some i ends.Rounds s es p h = h
+  fed_some i (ends.Preempted by) s es p h = h
+  fed_some i ends.LogLimit s es p h = h
+  fed_some i ends.EpochLimit s es p h = h
+  fed_some i ends.EpochFull s es p h = h
+  fed_some i (ends.Register fault) s es p h = h
+  fed_some i (ends.BadFrame fault) s es p h = h
+  fed_some i ends.Read s es p h = h
+  fed_some i ends.Write s es p h = h
+  fed_some i ends.NoMemory s es p h = h
+
+  pub feeds_until : (i j : Option Input) (e : Ended) (s : State) (es : List Event) → IsPartly e → Feeds c i j s es → FeedsUntil c i e s es
+  feeds_until None j e s es p h = tt
+  feeds_until (Some i) j e s es p h = fed_some i e s es p (record { left = h.left.payloads; payloads = h.payloads })
+
+  -- where none is still to come all were taken
+  pub feeds_done : (i j : Option Input) (s : State) (es : List Event) → NoneComes i j → Feeds c i j s es → FeedsUntil c i ends.Done s es
+  feeds_done None j s es n h = tt
+  feeds_done (Some i) j s es n h =
+      let last : Some h.left ≡ Some all_taken = sym h.now ∙ n in
+      let left : h.left ≡ all_taken = cc in
+      (h.payloads ∙ (ap (λ (x : Input). taken_of c s es ++ x.payloads) left ∙ append-nil (taken_of c s es)), sym h.off ∙ ap (λ (x : Input). x.off) left)
+
+  -- no append was made, since the input ends the drive
+  pub input_until : (i new : Option Input) (e : Ended) (before now : ℕ) (at : Option Input) (s : State) → NextIs i new (Err e) → IsInputEnding at before now e → FeedsUntil c i e s []
+  input_until None new e k n at s x y = tt
+  input_until (Some i) new (ends.BadLine line place) k n at s x y = (x.none, x.off)
+  input_until (Some i) new ends.Read k n at s x y = record { left = i.payloads; payloads = refl }
+  input_until (Some i) new ends.NoMemory k n at s x y = record { left = i.payloads; payloads = refl }
+  input_until (Some i) new ends.Done k n at s x y = absurd y
+  input_until (Some i) new ends.Rounds k n at s x y = absurd y
+  input_until (Some i) new (ends.Preempted by) k n at s x y = absurd y
+  input_until (Some i) new ends.LogLimit k n at s x y = absurd y
+  input_until (Some i) new ends.EpochLimit k n at s x y = absurd y
+  input_until (Some i) new ends.EpochFull k n at s x y = absurd y
+  input_until (Some i) new (ends.Register fault) k n at s x y = absurd y
+  input_until (Some i) new (ends.BadFrame fault) k n at s x y = absurd y
+  input_until (Some i) new ends.Write k n at s x y = absurd y
+
+  -- none came
+  pub none_fed : (i j : Option Input) (s : State) → NextIs i j (Ok None) → Feeds c i j s []
+  none_fed None j s x = tt
+  none_fed (Some i) j s x = record { left = i; now = x.1 ∙ ap (λ (y : Input). Some y) (sym x.0); payloads = refl; off = refl }
+
+  -- one came, and was taken
+  pub one_fed : (i j : Option Input) (payload : List ℕ) (s : State) (es : List Event) → NextIs i j (Ok (Some payload)) → taken_of c s es ≡ payload ∷ [] → Feeds c i j s es
+  one_fed None j payload s es x t = tt
+  one_fed (Some i) j payload s es x t = record { left = record { payloads = x.rest; off = i.off }; now = x.left; payloads = x.first ∙ ap (λ l. l ++ x.rest) (sym t); off = refl }
+
+  -- one came, and is held
+  pub held_fed : (i j : Option Input) (payload : List ℕ) (s : State) (es : List Event) → NextIs i j (Ok (Some payload)) → taken_of c s es ≡ [] → Feeds c i (upcoming (Some payload) j) s es
+  held_fed None j payload s es x t = tt
+  held_fed (Some i) j payload s es x t = record {
+    left = record { payloads = payload ∷ x.rest; off = i.off };
+    now = ap (upcoming (Some payload)) x.left;
+    payloads = x.first ∙ ap (λ l. l ++ payload ∷ x.rest) (sym t);
+    off = refl;
+  }
+
+  -- one came, and the drive ends by it
+  begun_until : (i : Input) (payload : List ℕ) (rest : List (List ℕ)) (e : Ended) (s : State) (es : List Event) → i.payloads ≡ payload ∷ rest → IsPartly e → (taken_of c s es ≡ []) ⊎ (taken_of c s es ≡ payload ∷ []) → FeedsUntil c (Some i) e s es
+  begun_until i payload rest e s es f p (inl t) = fed_some i e s es p (record { left = payload ∷ rest; payloads = f ∙ ap (λ l. l ++ payload ∷ rest) (sym t) })
+  begun_until i payload rest e s es f p (inr t) = fed_some i e s es p (record { left = rest; payloads = f ∙ ap (λ l. l ++ rest) (sym t) })
+
+  taken_or : (b : Bool) (payload : List ℕ) → ((if b then [] else payload ∷ []) ≡ []) ⊎ ((if b then [] else payload ∷ []) ≡ payload ∷ [])
+  taken_or true payload = inl refl
+  taken_or false payload = inr refl
+
+  begun_takes : (name payload : List ℕ) (s : State) (es : List Event) → IsBegun (events.Append name payload) s es → (taken_of c s es ≡ []) ⊎ (taken_of c s es ≡ payload ∷ [])
+  begun_takes name payload s es (inl h) = inl (ap (taken_of c s) h)
+  begun_takes name payload s es (inr h) =
+      let t : taken_of c s es ≡ taken_by c s (events.Append name payload) = ap (taken_of c s) h ∙ append-nil (taken_by c s (events.Append name payload)) in
+      elim (taken_or (tells_full (happens c s (events.Append name payload)).lines) payload) [ inl x ↦ inl (t ∙ x) | inr x ↦ inr (t ∙ x) ]
+
+  pub one_until : (i j : Option Input) (name payload : List ℕ) (e : Ended) (s : State) (es : List Event) → NextIs i j (Ok (Some payload)) → IsPartly e → IsBegun (events.Append name payload) s es → FeedsUntil c i e s es
+  one_until None j name payload e s es x p h = tt
+  one_until (Some i) j name payload e s es x p h = begun_until i payload x.rest e s es x.first p (begun_takes name payload s es h)
+
+  pub feeds_end : (i j k : Option Input) (s : State) (es : List Event) → Feeds c i j s es → Feeds c j k (state_after c s es) [] → Feeds c i k s es
+  feeds_end i j k s es a b = subst (λ (l : List Event). Feeds c i k s l) (append-nil es) (feeds_join i j k s es [] a b)
+
+  pub until_end : (i j : Option Input) (e : Ended) (s : State) (es : List Event) → Feeds c i j s es → FeedsUntil c j e (state_after c s es) [] → FeedsUntil c i e s es
+  until_end i j e s es a b = subst (λ (l : List Event). FeedsUntil c i e s l) (append-nil es) (until_join i j e s es [] a b)
+
+  -- a retry takes none
+  retry_takes : (name : List ℕ) (b : Bool) (s : State) (es : List Event) → MayRetry name b s es → taken_of c s es ≡ []
+  retry_takes name true s es h = ap (taken_of c s) h
+  retry_takes name false s es (inl h) = ap (taken_of c s) h
+  retry_takes name false s es (inr h) = ap (taken_of c s) h
+
+  -- what takes none
+  pub feeds_none : (i : Option Input) (s : State) (es : List Event) → taken_of c s es ≡ [] → Feeds c i i s es
+  feeds_none None s es t = tt
+  feeds_none (Some i) s es t = record { left = i; now = refl; payloads = ap (λ l. l ++ i.payloads) (sym t); off = refl }
+
+  pub retry_feeds : (i : Option Input) (name : List ℕ) (b : Bool) (s : State) (es : List Event) → MayRetry name b s es → Feeds c i i s es
+  retry_feeds i name b s es h = feeds_none i s es (retry_takes name b s es h)
+
+  pub may_retry : (name : List ℕ) (b : Bool) (s : State) (es : List Event) → IsRetry name b s es → MayRetry name b s es
+  may_retry name true s es h = h
+  may_retry name false s es h = inr h
+
+  -- what an append takes, by the lines of its step
+  pub takes_by : (name payload : List ℕ) (s : State) (es : List Event) (b : Bool) (ls : List Line) → es ≡ events.Append name payload ∷ [] → b ≡ tells_full ls → ls ≡ (happens c s (events.Append name payload)).lines → taken_of c s es ≡ (if b then [] else payload ∷ [])
+  takes_by name payload s es b ls h t l = ap (taken_of c s) h ∙ (append-nil (taken_by c s (events.Append name payload)) ∙ ap (λ (x : Bool). if x then [] else payload ∷ []) (sym (t ∙ ap tells_full l)))
+
+  pub begun_appends : (name payload : List ℕ) (s : State) (es : List Event) → IsBegun (events.Append name payload) s es → AreAppends name s es
+  begun_appends name payload s es (inl h) = subst (λ (l : List Event). AreAppends name s l) (sym h) tt
+  begun_appends name payload s es (inr h) = subst (λ (l : List Event). AreAppends name s l) (sym h) (refl, tt)

@@ -1,0 +1,192 @@
+-- Which steps a drive takes, round by round, and which payloads they took.
+use Rattle.std.specs.Prelude.{ℕ, zero, suc, ◌≡◌, ◌⊎◌, ◌==◌, List, [], ◌∷◌, ◌++◌, Bool, true, false, Option, None, Some, if◌then◌else◌}
+use Rattle.std.specs.List.{AllByRecursion}
+use Rattle.ld_config.specs.declared.config.Config.{Config}
+use Rattle.ld_schedule.specs.declared.event.Event.{Event}
+use Rattle.ld_schedule.specs.declared.event.Event.TheVariants as events
+use Rattle.ld_transcript.specs.declared.line.Line.{Line}
+use Rattle.ld_transcript.specs.declared.line.Line.TheVariants as lines
+use Rattle.ld_msg.specs.declared.msg.Msg.{Msg}
+use Rattle.ld_machine.specs.State.{State}
+use Rattle.ld_machine.specs.Step.{happens}
+use Rattle.ld_machine.specs.Run.{step, state_after}
+use Rattle.ld_rounds.specs.declared.ended.Ended.{Ended}
+use Rattle.ld_rounds.specs.declared.ended.Ended.TheVariants as ends
+use Rattle.ld_rounds.specs.Input.{Input, ComesTo}
+use Rattle.ld_rounds.specs.Queued.{queue_of}
+use Rattle.ld_rounds.specs.News.{AreNews}
+
+-- ---- one part after the other ----
+
+-- the events are such, and then others are so from the state that the first ones lead to
+pub record Splits (P Q : State → List Event → Type 0) (c : Config) (s : State) (es : List Event) : Type 0 where
+  pub front : List Event
+  pub rest : List Event
+  pub whole : es ≡ front ++ rest
+  pub came : P s front
+  pub goes : Q (state_after c s front) rest
+
+-- this event alone
+abbrev pub IsOne : Event → State → List Event → Type 0
+IsOne e s es = es ≡ e ∷ []
+
+-- this event, or none yet
+abbrev pub IsBegun : Event → State → List Event → Type 0
+IsBegun e s es = (es ≡ []) ⊎ (es ≡ e ∷ [])
+
+-- ---- visits ----
+
+abbrev pub is_quiet : Event → Bool
+is_quiet (events.Deliver i) = true
+is_quiet (events.Lose i) = true
+is_quiet _ = false
+
+-- messages are delivered and lost, and no actor does anything by itself
+abbrev pub Quiet : State → List Event → Type 0
+Quiet s es = AllByRecursion (λ e. is_quiet e ≡ true) es
+
+-- however it ends
+abbrev pub QuietEnd : Ended → State → List Event → Type 0
+QuietEnd ended = Quiet
+
+-- quiet steps to a state in which no message that is new from the first place on waits for the node
+pub record IsVisit (c : Config) (first y : ℕ) (s : State) (es : List Event) : Type 0 where
+  pub quiet : Quiet s es
+  pub queues : List (List Msg)
+  pub answers : List Msg
+  pub news : AreNews first (state_after c s es).network queues answers
+  pub emptied : queue_of queues y ≡ []
+
+-- the nodes are visited one after the other
+abbrev pub AreVisits : Config → ℕ → List ℕ → State → List Event → Type 0
+AreVisits c first [] s es = es ≡ []
+AreVisits c first (y ∷ ys) s es = Splits (IsVisit c first y) (AreVisits c first ys) c s es
+
+-- ---- rounds ----
+
+-- so many rounds, from the one of number 0 on
+abbrev pub AreRounds : (ℕ → State → List Event → Type 0) → Config → ℕ → State → List Event → Type 0
+AreRounds round c zero s es = es ≡ []
+AreRounds round c (suc n) s es = Splits (AreRounds round c n) (round n) c s es
+
+-- a reader polls, and the nodes are visited
+abbrev pub IsReadRound : List ℕ → Config → ℕ → List ℕ → State → List Event → Type 0
+IsReadRound name c first ys s es = Splits (IsOne (events.Poll name)) (AreVisits c first ys) c s es
+
+-- so far
+abbrev pub IsReadPart : List ℕ → Config → State → List Event → Type 0
+IsReadPart name c s es = Splits (IsBegun (events.Poll name)) Quiet c s es
+
+-- a sequencer sends again before each round but the first
+abbrev pub IsRetry : List ℕ → Bool → State → List Event → Type 0
+IsRetry name true s es = es ≡ []
+IsRetry name false s es = es ≡ events.Retry name ∷ []
+
+abbrev pub MayRetry : List ℕ → Bool → State → List Event → Type 0
+MayRetry name true s es = es ≡ []
+MayRetry name false s es = IsBegun (events.Retry name) s es
+
+abbrev pub IsAppendBy : List ℕ → Event → Type 0
+IsAppendBy name (events.Append n payload) = n ≡ name
+IsAppendBy name _ = ⊥
+
+abbrev pub AreAppends : List ℕ → State → List Event → Type 0
+AreAppends name s es = AllByRecursion (IsAppendBy name) es
+
+-- it sends again, and payloads are appended
+abbrev pub IsPrepared : List ℕ → Config → Bool → State → List Event → Type 0
+IsPrepared name c is_first s es = Splits (IsRetry name is_first) (AreAppends name) c s es
+
+-- and then the nodes are visited
+abbrev pub IsAppendRound : List ℕ → Config → ℕ → List ℕ → Bool → State → List Event → Type 0
+IsAppendRound name c first ys is_first s es = Splits (IsPrepared name c is_first) (AreVisits c first ys) c s es
+
+-- so far
+abbrev pub IsAppendPart : List ℕ → Config → Bool → State → List Event → Type 0
+IsAppendPart name c is_first s es = Splits (Splits (MayRetry name is_first) (AreAppends name) c) Quiet c s es
+
+abbrev pub AreAppendRounds : List ℕ → Config → ℕ → List ℕ → ℕ → State → List Event → Type 0
+AreAppendRounds name c first ys n s es = AreRounds (λ k. IsAppendRound name c first ys (k == 0)) c n s es
+
+abbrev pub AreReadRounds : List ℕ → Config → ℕ → List ℕ → ℕ → State → List Event → Type 0
+AreReadRounds name c first ys n s es = AreRounds (λ k. IsReadRound name c first ys) c n s es
+
+-- ---- payloads ----
+
+abbrev pub is_full_line : Line → Bool
+is_full_line (lines.RefusedWindowFull name) = true
+is_full_line _ = false
+
+-- one of the lines refuses since the window is full
+abbrev pub tells_full : List Line → Bool
+tells_full [] = false
+tells_full (l ∷ ls) = if is_full_line l then true else tells_full ls
+
+-- an append takes its payload, unless the machine answers that the window is full
+abbrev pub taken_by : Config → State → Event → List (List ℕ)
+taken_by c s (events.Append name payload) = if tells_full (happens c s (events.Append name payload)).lines then [] else payload ∷ []
+taken_by c s _ = []
+
+-- the payloads that the appends took, in their order
+abbrev pub taken_of : Config → State → List Event → List (List ℕ)
+taken_of c s [] = []
+taken_of c s (e ∷ es) = taken_by c s e ++ taken_of c (step c s e).state es
+
+-- they are the first ones that were to come, and the others are still to come
+pub record HasFed (c : Config) (old : Input) (new : Option Input) (s : State) (es : List Event) : Type 0 where
+  pub left : Input
+  pub now : new ≡ Some left
+  pub payloads : old.payloads ≡ taken_of c s es ++ left.payloads
+  pub off : left.off ≡ old.off
+
+abbrev pub Feeds : Config → Option Input → Option Input → State → List Event → Type 0
+Feeds c None new s es = Unit {0}
+Feeds c (Some old) new s es = HasFed c old new s es
+
+-- they are the first ones that were to come
+pub record HasFedSome (c : Config) (old : Input) (s : State) (es : List Event) : Type 0 where
+  pub left : List (List ℕ)
+  pub payloads : old.payloads ≡ taken_of c s es ++ left
+
+-- where it is done, and where it comes to a line that is off, all before are taken
+abbrev pub FeedsUntil : Config → Option Input → Ended → State → List Event → Type 0
+FeedsUntil c None ended s es = Unit {0}
+FeedsUntil c (Some old) ends.Done s es = (old.payloads ≡ taken_of c s es) × (old.off ≡ None)
+FeedsUntil c (Some old) (ends.BadLine line place) s es = (old.payloads ≡ taken_of c s es) × ComesTo old line place
+FeedsUntil c (Some old) _ s es = HasFedSome c old s es
+
+-- ---- both ----
+
+abbrev pub Both : (State → List Event → Type 0) → (State → List Event → Type 0) → State → List Event → Type 0
+Both P Q s es = P s es × Q s es
+
+-- appends of what came, and so until it ends
+abbrev pub Adds : List ℕ → Config → Option Input → Option Input → State → List Event → Type 0
+Adds name c old new = Both (AreAppends name) (Feeds c old new)
+
+abbrev pub AddsUntil : List ℕ → Config → Option Input → Ended → State → List Event → Type 0
+AddsUntil name c old ended = Both (AreAppends name) (FeedsUntil c old ended)
+
+-- the same with what is sent again before
+abbrev pub Prepares : List ℕ → Config → Bool → Option Input → Option Input → State → List Event → Type 0
+Prepares name c is_first old new = Both (IsPrepared name c is_first) (Feeds c old new)
+
+abbrev pub PreparesUntil : List ℕ → Config → Bool → Option Input → Ended → State → List Event → Type 0
+PreparesUntil name c is_first old ended = Both (Splits (MayRetry name is_first) (AreAppends name) c) (FeedsUntil c old ended)
+
+-- the same with visits
+abbrev pub Rounds : List ℕ → Config → ℕ → List ℕ → Bool → Option Input → Option Input → State → List Event → Type 0
+Rounds name c first ys is_first old new = Both (IsAppendRound name c first ys is_first) (Feeds c old new)
+
+abbrev pub RoundsUntil : List ℕ → Config → Bool → Option Input → Ended → State → List Event → Type 0
+RoundsUntil name c is_first old ended = Both (IsAppendPart name c is_first) (FeedsUntil c old ended)
+
+-- so many rounds of appends that end so, and after so many a part of one
+abbrev pub Appends : List ℕ → Config → ℕ → List ℕ → Option Input → Ended → ℕ → State → List Event → Type 0
+Appends name c first ys old ended n = Both (AreAppendRounds name c first ys n) (FeedsUntil c old ended)
+
+abbrev pub AppendsUntil : List ℕ → Config → ℕ → List ℕ → Option Input → Ended → ℕ → State → List Event → Type 0
+AppendsUntil name c first ys old ended n = Both (Splits (AreAppendRounds name c first ys n) (IsAppendPart name c (n == 0)) c) (FeedsUntil c old ended)
+
+abbrev pub ReadsUntil : List ℕ → Config → ℕ → List ℕ → ℕ → State → List Event → Type 0
+ReadsUntil name c first ys n s es = Splits (AreReadRounds name c first ys n) (IsReadPart name c) c s es

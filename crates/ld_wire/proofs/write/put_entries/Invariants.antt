@@ -1,6 +1,0 @@
-use Rattle.std.proofs.Common.{◌≡◌, ◌++◌, take}
-use Rattle.ld_wire.specs.Frames.{entries_bytes}
-use Rattle.ld_wire.proofs.write.put_entries.Given as goal
-
-abbrev pub invariant-loop-entry : goal.invariant-loop-entry
-invariant-loop-entry l = l.out.items ≡ l.fn.out.items ++ entries_bytes (take l.entry-index l.entries)
