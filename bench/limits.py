@@ -21,6 +21,36 @@ def two_syncs(folder, size, seconds):
     return count / took
 
 
+def serve_straight(folder, size, answer):
+    """A process that writes a record with two syncs straight to a file for each frame that it is sent, and then answers: its port, and its number."""
+    listener = socket.create_server(("127.0.0.1", 0))
+    port, child = listener.getsockname()[1], os.fork()
+    if child != 0:
+        listener.close()
+        return port, child
+    file = os.open(f"{folder}/served", os.O_RDWR | os.O_CREAT)
+    os.pwrite(file, b"\0", 0)
+    os.fsync(file)
+    peer, _ = listener.accept()
+    peer.setsockopt(socket.IPPROTO_TCP, socket.TCP_NODELAY, 1)
+    record, at, held = bytes(size + 30), 0, bytearray()
+    while piece := peer.recv(1 << 18):
+        held += piece
+        begun = 0
+        while len(held) - begun >= 4:
+            end = begun + 4 + int.from_bytes(held[begun : begun + 4], "big")
+            if len(held) < end:
+                break
+            os.pwrite(file, record, at + 1)
+            os.fdatasync(file)
+            os.pwrite(file, b"\1", at)
+            os.fdatasync(file)
+            peer.sendall(answer)
+            at, begun = at + len(record), end
+        del held[:begun]
+    os._exit(0)
+
+
 def round_trips(seconds):
     """How often a second another process answers a byte over loopback, one byte after the other."""
     listener = socket.create_server(("127.0.0.1", 0))
@@ -43,8 +73,3 @@ def round_trips(seconds):
     listener.close()
     os.waitpid(child, 0)
     return count / took
-
-
-def one_after_the_other(*rates):
-    """How many a second of what takes each of these in turn."""
-    return 1 / sum(1 / rate for rate in rates)

@@ -15,9 +15,9 @@ def frame(kind, sender, addressee, log, fields):
     return struct.pack(">I", len(body)) + body
 
 
-def store(epoch, node, log, at, payload):
-    """The Store of a record by the sequencer of its epoch."""
-    fields = struct.pack(">QIBH", at, 0, 0, len(payload)) + payload
+def store(epoch, node, log, at, payload, known_good=0):
+    """The Store of a record by the sequencer of its epoch, with its last known good place."""
+    fields = struct.pack(">QIBH", at, known_good, 0, len(payload)) + payload
     return frame(STORE, (SEQUENCER, epoch), (NODE, node), log, fields)
 
 

@@ -121,8 +121,9 @@ class Causes:
 
     def of_loss(self, item, log):
         """The last time before the gap in which as many nodes as the replication factor stood lost for the epoch."""
-        epoch, copies = home(item.low), self.story.config.logs[log].copies
-        moment, lost = self.moment(item.step, log, epoch, copies)
+        epoch = home(item.low)
+        nodes, copies, _ = self.story.log_at(log, epoch)
+        moment, lost = self.moment(item.step, log, epoch, nodes, copies)
         if not lost:
             return [("No moment is told at which enough nodes stood lost.", [])]
         names = ", ".join(map(str, lost))
@@ -135,10 +136,10 @@ class Causes:
         told.append(("They said so when the reader asked.", [m.line for m in confirmed]))
         return told
 
-    def moment(self, end, log, epoch, copies):
-        """The step at which the last such time before `end` began, and the nodes that stood lost then, each with its last
-        span in that time."""
-        nodes, found, begin = self.story.config.logs[log].nodes, {}, 0
+    def moment(self, end, log, epoch, nodes, copies):
+        """The step at which the last such time before `end` began, and those of the nodes that stood lost then, each with its
+        last span in that time."""
+        found, begin = {}, 0
         for step in sorted({s.step for n in nodes for s in self.story.spans[n] if s.step < end}, reverse=True):
             spans = {n: self.story.span_at(n, step) for n in nodes}
             lost = {n: s for n, s in spans.items() if log in s.lost and (s.lost[log] is None or s.lost[log] >= epoch)}

@@ -101,6 +101,10 @@ class Drawing:
             out.append(self.acted(step, event, lines, x, y))
         elif event.word == "regfail":
             out.append(pill(self.columns["register"] + 8, y, "bad", f"call {event.args[0]} will fail, {event.args[1]}")[0])
+        elif lines[0].kind == "set":
+            piece, at = pill(self.columns["register"] + 8, y, "plain", f"log {event.args[0]}: R {event.args[1]} of {event.args[3]}" + (f", extras {event.args[2]}" if event.args[2] != "0" else ""))
+            out.append(piece)
+            self.width = max(self.width, at)
         elif step.actor and lines[0].kind == "refused":
             out.append(self.stillborn(step.actor, lines[0], y))
         return "".join(out)

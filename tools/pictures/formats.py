@@ -22,19 +22,23 @@ WORDS = {
     "LSN": lambda w: is_lsn(w),
     "PICTURE": lambda w: re.fullmatch("old|new|[0-9a-f]{2}", w),
     "HOW": lambda w: re.fullmatch("done|undone", w),
+    "R": lambda w: is_number(w, 1, 16),
+    "X": lambda w: is_number(w, 0, 3),
+    "NODES": lambda w: is_rising(w.split(",")),
 }
 
 EVENTS = {
     form.split()[0]: form.split()[1:]
     for form in (
         "format N,activate S L,append S HEX,trim S LSN,retry S,drop S,deliver I,lose I,flow K,open S L LSN LSN,poll S,"
-        "tick N L,down N,up N,wipe N,fail N K,tear N K PICTURE,regfail K HOW"
+        "tick N L,down N,up N,wipe N,fail N K,tear N K PICTURE,set L R X NODES,regfail K HOW"
     ).split(",")
 }
 
 # the lines of a transcript: kind, whose line it is, form; `#` is a number, `@` a name, `%` a number of a log
 LINES = """
 none        -  none
+set         -  set # # # #(?:,#)*
 formatted   n  node # formatted #
 lost        n  node # lost # #
 up          n  node # up
@@ -88,7 +92,8 @@ class Event(NamedTuple):
 
 
 class Line(NamedTuple):
-    """A line of a transcript. `actor` is `n.N`, `s.NAME` or `r.NAME`; None for `none`. `fields` are the words after the actor's."""
+    """A line of a transcript. `actor` is `n.N`, `s.NAME` or `r.NAME`; None for `none` and `set`. `fields` are the words after the
+    actor's."""
 
     kind: str
     actor: str
@@ -113,6 +118,11 @@ def is_number(word, low, high):
     return re.fullmatch(NUMBER, word) and len(word) < 20 and low <= int(word) <= high
 
 
+def is_rising(words):
+    """Whether the words are numbers of nodes, each greater than the one before it."""
+    return all(is_number(word, 1, 16) for word in words) and all(int(a) < int(b) for a, b in zip(words, words[1:]))
+
+
 def is_lsn(word):
     found = re.fullmatch(f"e({NUMBER})n({NUMBER})", word)
     return found and all(is_number(part, 0, HUGE) for part in found.groups())
@@ -128,6 +138,11 @@ def home(word):
     """The epoch that a number belongs to: place 0 belongs to the bridge of the epoch before."""
     epoch, place = lsn(word)
     return epoch - 1 if place == 0 and epoch > 0 else epoch
+
+
+def named_log(fields):
+    """What a `set` line names for its log."""
+    return Log([int(node) for node in fields[3].split(",")], int(fields[1]), int(fields[2]))
 
 
 def read_config(text, name):
@@ -204,7 +219,7 @@ def read_line(text, number, name):
         if form.fullmatch(text):
             words = text.split(" ")
             if owner == "-":
-                return Line(kind, None, [], number, text)
+                return Line(kind, None, words[1:], number, text)
             if owner == "m":
                 if words[4] not in MESSAGES:
                     raise Unreadable(name, number, f"`{words[4]}` isn't a kind of message", text)

@@ -9,11 +9,11 @@ in which all lines find their step.
 import re
 from typing import NamedTuple
 
-from .formats import Unreadable, home, lsn, shorten
+from .formats import Unreadable, home, lsn, named_log, shorten
 
 # a letter for each kind of line
 LETTERS = {
-    "none": "0", "formatted": "F", "lost": "L", "up": "U", "down": "D", "wiped": "W", "failed": "X", "full": "Y",
+    "none": "0", "set": "s", "formatted": "F", "lost": "L", "up": "U", "down": "D", "wiped": "W", "failed": "X", "full": "Y",
     "rebuilt": "B", "unformatted": "Z", "active": "a", "appended": "p", "refused": "z", "acked": "k", "clean": "c",
     "trimmed": "t", "released": "r", "record": "1",
 }
@@ -22,7 +22,7 @@ MESSAGE_LETTERS = {"clean": "C", "release": "R", "trim": "T", "digestask": "G", 
 
 # what a step may write, by its event, or by who takes which message; nothing but `none` where it isn't here
 SHAPES = {
-    "format": "FL*|[DXYZ]", "up": "[UDX]", "down": "D", "wipe": "W", "activate": "aG*|z", "append": "pS*|z",
+    "set": "s", "format": "FL*|[DXYZ]", "up": "[UDX]", "down": "D", "wipe": "W", "activate": "aG*|z", "append": "pS*|z",
     "trim": "tT*|z", "retry": "z?c?r?C*R*G*S*", "open": "z", "poll": "K*", "tick": "[DXYB]|K+",
     "n store": "[DXYM]", "n digestask": "[DXYM]", "n readask": "[DXYM]", "n clean": "[DXY]", "n trim": "[DXY]",
     "n release": "[DXY]", "n readpage": "[DXY]", "n readtrim": "[DXY]",
@@ -61,7 +61,7 @@ def actor_of(event):
         return "s." + event.args[0]
     if event.word in ("open", "poll"):
         return "r." + event.args[0]
-    return None if event.word == "regfail" else "n." + event.args[0]
+    return None if event.word in ("set", "regfail") else "n." + event.args[0]
 
 
 class Splitter:
@@ -99,16 +99,20 @@ class Splitter:
 
     def gather(self):
         """Who has which log, which numbers each node is known to have stored and for which epoch's sequencer, by whom each
-        epoch was closed, and when each node lost its disk."""
+        epoch was closed, when each node lost its disk, and how many nodes a number of each epoch is sent to."""
         self.log_of, self.stored, self.wiped, self.closed, self.choice = {}, {}, {}, {}, {}
         for event in self.events:
             if event.word in ("activate", "open"):
                 self.log_of.setdefault(actor_of(event), int(event.args[1]))
-        for actor, log in self.log_of.items():
-            if log in self.logs:
-                self.choice[actor] = self.logs[log].copies + self.logs[log].extras
+        named = dict(self.logs)
         for line in self.lines:
-            if line.kind == "wiped":
+            if line.kind == "set":
+                named[int(line.fields[0])] = named_log(line.fields)
+            elif line.kind == "active":
+                log = self.log_of.get(line.actor)
+                if log in named:
+                    self.choice[log, int(line.fields[0])] = named[log].copies + named[log].extras
+            elif line.kind == "wiped":
                 self.wiped.setdefault(line.actor, []).append(line.number)
             elif line.kind == "clean":
                 key = self.log_of.get(line.actor), home(line.fields[0])
@@ -129,7 +133,7 @@ class Splitter:
     def in_order(self, at, end):
         """How far the messages from `at` on are in the order of one step, each told once, and no number stored at more
         nodes than a choice has."""
-        told, stores, most = set(), {}, self.choice.get(self.lines[at].actor, 16)
+        told, stores, log = set(), {}, self.log_of.get(self.lines[at].actor)
         for k in range(at, end):
             line = self.lines[k]
             if line.kind != "msg":
@@ -139,7 +143,7 @@ class Splitter:
                 return k
             if line.fields[3] == "store":
                 stores[line.fields[4]] = stores.get(line.fields[4], 0) + 1
-                if stores[line.fields[4]] > most:
+                if stores[line.fields[4]] > self.choice.get((log, home(line.fields[4])), 16):
                     return k
             told.add(what)
         return end

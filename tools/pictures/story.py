@@ -76,6 +76,7 @@ class Story:
         self.log_of, self.until = {}, {}
         self.gather_actors()
         self.gather_messages()
+        self.gather_logs()
         self.items = [self.item(l) for l in lines if l.kind in LETTER or l.kind == "gap"]
         self.spans = {n: self.stand(n) for n in self.config.nodes}
 
@@ -119,6 +120,27 @@ class Story:
             else:
                 message.takings.append(Taking(number, not step.was_new))
 
+    def gather_logs(self):
+        """The nodes, the factor and the extras that were fixed for each epoch of a log: those that were named last before it
+        was handed out. An activation that failed handed one out where the fault that was armed last is one with the change made."""
+        named, self.logs, last, is_done = dict(self.config.logs), {}, {}, False
+        for step in self.steps:
+            event, line = self.events[step.event], self.lines[step.first]
+            if event.word == "regfail":
+                is_done = event.args[1] == "done"
+            elif line.kind == "set":
+                named[int(line.fields[0])] = formats.named_log(line.fields)
+            elif event.word == "activate":
+                is_made = line.kind == "active" or (line.fields[:1] == ["register"] and is_done)
+                log = int(event.args[1])
+                if is_made and log in named:
+                    last[log] = last.get(log, 0) + 1
+                    self.logs[log, last[log]] = named[log]
+
+    def log_at(self, log, epoch):
+        """What was fixed for an epoch of a log; what the configuration has, where nothing was."""
+        return self.logs.get((log, epoch), self.config.logs[log])
+
     def item(self, line):
         at, words = line.number - 1, line.fields
         if line.kind == "record":
@@ -127,7 +149,7 @@ class Story:
 
     def stand(self, node):
         """The spans of a node. Lost for all logs at the start and after a wipe; then as the lines say."""
-        actor, logs = f"n.{node}", [l for l, log in self.config.logs.items() if node in log.nodes]
+        actor, logs = f"n.{node}", list(self.config.logs)
         state, lost, since = "blank", {l: None for l in logs}, {l: [] for l in logs}
         is_formatted, spans = False, [Span(0, state, dict(lost), dict(since))]
         for number, step in enumerate(self.steps):

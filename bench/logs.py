@@ -1,0 +1,56 @@
+"""A log on three `ld node`s over loopback, as the scripts beside this file drive it."""
+import pathlib, socket, subprocess
+
+import frames
+
+TOP = pathlib.Path(__file__).resolve().parent.parent
+
+CONFIG = '{"nodes":[1,2,3],"logs":[{"id":1,"set":[1,2,3],"r":2}]}'
+
+
+def free_ports(count):
+    """The first of so many ports in a row that nobody has."""
+    while True:
+        first = frames.free_port()
+        if first + count > 65519:
+            continue
+        taken = []
+        try:
+            for port in range(first, first + count):
+                s = socket.socket()
+                taken.append(s)
+                s.bind(("127.0.0.1", port))
+            return first
+        except OSError:
+            continue
+        finally:
+            for s in taken:
+                s.close()
+
+
+def built():
+    """The program of this checkout, which is built first where it isn't."""
+    subprocess.run([f"{TOP}/ld", "replay"], stdin=open(TOP / "examples/stored-run.schedule"), stdout=subprocess.DEVNULL, check=True)
+    return str(TOP / "crates/ld/out/ld")
+
+
+class Cluster:
+    """Three nodes, each a process with a store of its own in the folder."""
+
+    def __init__(self, program, folder):
+        self.program, self.folder, self.port = program, folder, free_ports(4)
+        self.nodes = []
+        for node in (1, 2, 3):
+            words = ["--id", str(node), "--config", CONFIG, "--store", f"{folder}/store{node}", "--register", f"{folder}/register"]
+            words += ["--port", str(self.port + node), "--turns", "1000000000", "--format"]
+            self.nodes.append(subprocess.Popen([program, "node", *words]))
+            frames.Peer(self.port + node).close()
+
+    def run(self, command, *words, **streams):
+        every = ["--config", CONFIG, "--log", "1", "--register", f"{self.folder}/register", "--port", str(self.port), "--rounds", "1000000"]
+        return subprocess.run([self.program, command, *every, *words], check=True, **streams)
+
+    def end(self):
+        for node in self.nodes:
+            node.kill()
+            node.wait()
