@@ -6,6 +6,7 @@ pub mod Refusing
 pub mod Committing
 pub mod Meeting
 pub mod Answering
+pub mod Writing
 pub mod Arming
 pub mod Growing
 pub mod Few

@@ -28,6 +28,10 @@ const DRAW_LENGTH: u64 = 6;
 /// A register and the disk that its changes are kept on. It is loaded by the first call, and again by the next call
 /// after one that answered `Failed` or `Damaged`. While it is loaded, a look answers, and needs neither disk nor
 /// memory. `Failed` comes only where the disk's count of failed calls rose, and any other answer leaves that count.
+///
+/// A load is one sync. A change is one append to the journal, of two writes with a sync behind each: it answers `Ok`
+/// where all four succeed, and `Failed` after the first that doesn't. A call that is refused otherwise writes nothing
+/// but the load, and leaves a loaded register loaded.
 #[derive(Drop)]
 pub struct DiskRegister<D: Disk> {
     journal: Journal<D>,
@@ -38,11 +42,12 @@ pub struct DiskRegister<D: Disk> {
 }
 
 impl<D: Disk> DiskRegister<D> {
-    ghost use Rattle.std.specs.Prelude.{◌≢◌, ◌⊎◌, ◌≤◌, ◌<◌, ◌+◌, ◌-◌, ◌^◌, ℕ, List, Option, Some, Err, IfOk, IfSome, IsErrOf, OnOk, OnErr, IsOk};
+    ghost use Rattle.std.specs.Prelude.{◌≢◌, ◌⊎◌, ◌≤◌, ◌<◌, ◌+◌, ◌-◌, ◌^◌, ℕ, List, [], Option, Some, Err, IfOk, IfSome, IsErrOf, OnOk, OnErr, IsOk};
     ghost use Rattle.std.specs.Option.{option_map};
     ghost use Rattle.ld_disk.specs.Images.{IsHonest};
     ghost use Rattle.ld_disk.specs.Moments.{Unchanged};
-    ghost use Rattle.ld_disk.specs.Plain.{Plain, armed_with, new_disk};
+    ghost use Rattle.ld_disk.specs.Plain.{Plain, armed_with, new_disk, reads_fine};
+    ghost use Rattle.ld_journal.specs.Format.{append_calls};
     ghost use Rattle.ld_journal.specs.Open.{place_of};
     ghost use Rattle.ld_ids.specs.declared.set.Spec.{Spec as Fixed};
     ghost use Rattle.ld_msg.specs.Bounds.{IsSummary};
@@ -52,10 +57,11 @@ impl<D: Disk> DiskRegister<D> {
     ghost use Rattle.ld_op.specs.declared.op.Op.TheVariants.{Format};
     ghost use Rattle.ld_register.specs.Bounds.{IsSpec, IsSpecFor};
     ghost use Rattle.ld_register.specs.Calls.{activated, after_activate, closed, after_close, drawn, after_draw, next_told, IsGrant, OneOf};
-    ghost use Rattle.ld_register.specs.Changes.{IsChange, is_next, changed};
+    ghost use Rattle.ld_register.specs.Changes.{IsChange, is_next, changed, change_bytes};
     ghost use Rattle.ld_register.specs.Kept.{register_of};
     ghost use Rattle.ld_register.specs.Stands.{StandsFor};
     ghost use Rattle.ld_register.specs.Held.{IsQuiet, owned, is_loaded, Holds, Tells, LeavesOneOf, Foretells, Loads, IsReady, IsNotReady, Commits, IsMade, IsRefused, IsDue, Meets};
+    ghost use Rattle.ld_register.specs.Writing.{Writes};
 
     /// The register on a disk. Its first call loads it. On a new disk in memory it holds nothing, and on a disk whose
     /// bytes are a journal of changes what they lead to.
@@ -104,6 +110,7 @@ impl<D: Disk> DiskRegister<D> {
         ensures steady { IsErrOf result RegisterFault.Failed ⊎ (D.faults (owned self.new) ≡ D.faults (owned self.old)) }
         ensures itself { D.identity (owned self.new) ≡ D.identity (owned self.old) }
         ensures again { is_loaded self.old ≡ true → IsOk result × (self.new ≡ self.old) }
+        ensures exact_calls { (p : Plain) → D.plain (owned self.old) ≡ Some p → reads_fine p ≡ true → Writes (is_loaded self.old) [] p result (D.plain (owned self.new)) }
     {
         if self.loaded {
             return Ok(());
@@ -139,6 +146,8 @@ impl<D: Disk> DiskRegister<D> {
         ensures bounds { IfOk result (IsGrant spec.now.log) }
         ensures behind { (lce : ℕ) (next : Option Fixed) → result ≢ Err (RegisterFault.Behind lce next) }
         ensures generations { result ≢ Err RegisterFault.GenLimit }
+        ensures exact_calls { (p : Plain) → D.plain (owned self.old) ≡ Some p → reads_fine p ≡ true → Writes (is_loaded self.old) [] p result (D.plain (owned self.new)) }
+        ensures stays { is_loaded self.old ≡ true → IsErrOf result RegisterFault.Failed ⊎ (is_loaded self.new ≡ true) }
     {
         self.ready(alloc)?;
         let log = spec.log;
@@ -189,6 +198,8 @@ impl<D: Disk> DiskRegister<D> {
         ensures bounds { (lce : ℕ) (next : Option Fixed) → IsErrOf result (RegisterFault.Behind lce next) → (lce ≤ 2 ^ 32 - 2) × IfSome next (IsSpecFor log) }
         ensures epochs { result ≢ Err RegisterFault.EpochLimit }
         ensures generations { result ≢ Err RegisterFault.GenLimit }
+        ensures exact_calls { (p : Plain) → D.plain (owned self.old) ≡ Some p → reads_fine p ≡ true → Writes (is_loaded self.old) [] p result (D.plain (owned self.new)) }
+        ensures stays { is_loaded self.old ≡ true → IsErrOf result RegisterFault.Failed ⊎ (is_loaded self.new ≡ true) }
     {
         self.ready(alloc)?;
         if self.contents.is_crowded(log) {
@@ -216,6 +227,8 @@ impl<D: Disk> DiskRegister<D> {
         ensures logs { result ≢ Err RegisterFault.LogLimit }
         ensures behind { (lce : ℕ) (next : Option Fixed) → result ≢ Err (RegisterFault.Behind lce next) }
         ensures epochs { result ≢ Err RegisterFault.EpochLimit }
+        ensures exact_calls { (p : Plain) → D.plain (owned self.old) ≡ Some p → reads_fine p ≡ true → Writes (is_loaded self.old) [] p result (D.plain (owned self.new)) }
+        ensures stays { is_loaded self.old ≡ true → IsErrOf result RegisterFault.Failed ⊎ (is_loaded self.new ≡ true) }
     {
         self.ready(alloc)?;
         let before = self.contents.generation(node);
@@ -244,6 +257,7 @@ impl<D: Disk> DiskRegister<D> {
         ensures refused { OnErr result (IsRefused self.old self.new change.now result) }
         ensures steady { IsErrOf result RegisterFault.Failed ⊎ (D.faults (owned self.new) ≡ D.faults (owned self.old)) }
         ensures itself { D.identity (owned self.new) ≡ D.identity (owned self.old) }
+        ensures exact_calls { (p : Plain) → D.plain (owned self.old) ≡ Some p → Writes true (append_calls (place_of self.old.journal) (change_bytes change.now)) p result (D.plain (owned self.new)) }
     {
         self.contents.room(alloc, change)?;
         let body = change.to_bytes(alloc)?;
@@ -261,7 +275,8 @@ impl<D: Disk> DiskRegister<D> {
 }
 
 impl<D: Disk> Register for DiskRegister<D> {
-    ghost use Rattle.std.specs.Prelude.{◌≢◌, ◌⊎◌, ◌≤◌, ◌-◌, ◌^◌, ℕ, List, Option, IfOk, IfSome, IsErrOf, IsOk, OnOk, OnErr, Ok, Err};
+    ghost use Rattle.std.specs.Prelude.{◌≢◌, ◌⊎◌, ◌≤◌, ◌-◌, ◌^◌, ℕ, List, [], Option, Some, IfOk, IfSome, IsErrOf, IsOk, OnOk, OnErr, Ok, Err};
+    ghost use Rattle.ld_disk.specs.Plain.{Plain, reads_fine};
     ghost use Rattle.ld_ids.specs.declared.set.Spec.{Spec as Fixed};
     ghost use Rattle.ld_msg.specs.Bounds.{IsSummary};
     ghost use Rattle.ld_op.specs.Bounds.{IsOp};
@@ -270,6 +285,7 @@ impl<D: Disk> Register for DiskRegister<D> {
     ghost use Rattle.ld_register.specs.Calls.{activated, after_activate, closed, after_close, drawn, after_draw, looked, IsGrant, IsView, IsFree, Keeps};
     ghost use Rattle.ld_msg.specs.Register.{Register as Held};
     ghost use Rattle.ld_register.specs.Held.{owned, is_loaded, Holds, MayHold, LeavesOneOf, Tells, Foretells, IsBroken, Meets, holds_is_told, told_is_held};
+    ghost use Rattle.ld_register.specs.Writing.{Writes, WritesOne, activation, drawing};
 
     ghost told = { λ r. Tells r };
 
@@ -307,6 +323,8 @@ impl<D: Disk> Register for DiskRegister<D> {
         ensures steady { IsErrOf result RegisterFault.Failed ⊎ (D.faults (owned self.new) ≡ D.faults (owned self.old)) }
         ensures itself { D.identity (owned self.new) ≡ D.identity (owned self.old) }
         ensures loaded { OnOk result (is_loaded self.new ≡ true) }
+        ensures exact_calls { (p : Plain) → D.plain (owned self.old) ≡ Some p → reads_fine p ≡ true → WritesOne self.old self.new (λ c. activation c spec.now) p result }
+        ensures stays { is_loaded self.old ≡ true → IsErrOf result RegisterFault.Failed ⊎ (is_loaded self.new ≡ true) }
         ensures bounds { IfOk result (IsGrant spec.now.log) }
         ensures behind { (lce : ℕ) (next : Option Fixed) → result ≢ Err (RegisterFault.Behind lce next) }
         ensures generations { result ≢ Err RegisterFault.GenLimit }
@@ -330,6 +348,8 @@ impl<D: Disk> Register for DiskRegister<D> {
         ensures steady { IsErrOf result RegisterFault.Failed ⊎ (D.faults (owned self.new) ≡ D.faults (owned self.old)) }
         ensures itself { D.identity (owned self.new) ≡ D.identity (owned self.old) }
         ensures loaded { OnOk result (is_loaded self.new ≡ true) }
+        ensures exact_calls { (p : Plain) → D.plain (owned self.old) ≡ Some p → reads_fine p ≡ true → WritesOne self.old self.new (λ c. Change.Close log epoch summary.now) p result }
+        ensures stays { is_loaded self.old ≡ true → IsErrOf result RegisterFault.Failed ⊎ (is_loaded self.new ≡ true) }
         ensures next { IfOk result (λ next. IfSome next (IsSpecFor log)) }
         ensures bounds { (lce : ℕ) (next : Option Fixed) → IsErrOf result (RegisterFault.Behind lce next) → (lce ≤ 2 ^ 32 - 2) × IfSome next (IsSpecFor log) }
         ensures epochs { result ≢ Err RegisterFault.EpochLimit }
@@ -353,6 +373,8 @@ impl<D: Disk> Register for DiskRegister<D> {
         ensures steady { IsErrOf result RegisterFault.Failed ⊎ (D.faults (owned self.new) ≡ D.faults (owned self.old)) }
         ensures itself { D.identity (owned self.new) ≡ D.identity (owned self.old) }
         ensures loaded { OnOk result (is_loaded self.new ≡ true) }
+        ensures exact_calls { (p : Plain) → D.plain (owned self.old) ≡ Some p → reads_fine p ≡ true → WritesOne self.old self.new (λ c. drawing c node) p result }
+        ensures stays { is_loaded self.old ≡ true → IsErrOf result RegisterFault.Failed ⊎ (is_loaded self.new ≡ true) }
         ensures bounds { IfOk result (λ drawn. IsOp (Format drawn.gen_ drawn.epochs)) }
         ensures logs { result ≢ Err RegisterFault.LogLimit }
         ensures behind { (lce : ℕ) (next : Option Fixed) → result ≢ Err (RegisterFault.Behind lce next) }
@@ -375,6 +397,7 @@ impl<D: Disk> Register for DiskRegister<D> {
         ensures keeps { IsErrOf result RegisterFault.Failed ⊎ Keeps (Holds self.old) (Holds self.new) (MayHold self.old) (MayHold self.new) }
         ensures exact { (c : Held) → Foretells self.old c
             → (IsErrOf result RegisterFault.NoMemory ⊎ (result ≡ Ok (looked c log e))) × Foretells self.new c }
+        ensures exact_calls { (p : Plain) → D.plain (owned self.old) ≡ Some p → reads_fine p ≡ true → Writes (is_loaded self.old) [] p result (D.plain (owned self.new)) }
         ensures view { IfOk result (IsView log e) }
         ensures free { OnErr result (IsFree result) }
     {

@@ -1,4 +1,4 @@
-use Rattle.std.proofs.Common.{◌≡◌, ◌+◌, ◌==◌, ◌∙◌, ◌&&◌, ap, sym, subst, arith, Ok, not}
+use Rattle.std.proofs.Common.{◌≡◌, ◌+◌, ◌==◌, ◌∙◌, ◌&&◌, ap, sym, subst, arith, Ok, not, [], inr}
 use Rattle.std.proofs.lemmas.Bool.{eq-eqb}
 use Rattle.ld_msg.specs.Register.{epochs_of, lce_of, is_crowded}
 use Rattle.ld_register.specs.declared.fault.RegisterFault.TheVariants as faults
@@ -9,6 +9,7 @@ use Rattle.ld_register.specs.Calls.{activated, after_activate}
 use Rattle.ld_register.proofs.Committing.{err_of, on_err}
 use Rattle.ld_register.proofs.Meeting.{meets_unready, meets_answered, replays_length, failure, loads_granted}
 use Rattle.ld_register.proofs.Answering.{crowded_activate, limit_activate, full_activate, made_activate}
+use Rattle.ld_register.proofs.Writing.{writes_as, writes_next}
 use Rattle.ld_register.proofs.disk.DiskRegister.check_activate.Goals as goal
 
 pub returns-in_err-ready-clause-refused : goal.returns-in_err-ready-clause-refused
@@ -48,3 +49,33 @@ returns-clause-due g c = record {
       (let l = replays_length c.ready.new.self h m in let fit = c.is_full.ensures.fits c.if-is_full.false in omega arith) (ap (λ n. n + 1) (c.epoch-before.ensures.value h.length)) (c.next_with-next.ensures.value h.length (c.epoch-before.result + 1))) in
       (ap (λ v. Ok (record { epoch = c.epoch-before.result + 1; lce = v; next = c.next_with-next.result })) (c.lce-lce.ensures.value h.length ∙ ap (λ r. lce_of r c.args.spec.now.log) m.kept) ∙ s.0, s.1);
 }
+
+pub returns-in_err-ready-clause-exact_calls : goal.returns-in_err-ready-clause-exact_calls
+returns-in_err-ready-clause-exact_calls g c p is fine = writes_as _ [] p c.from_residual.result c.in_err-ready.field-0.0 _ (err_of c.from_residual.result c.in_err-ready.field-0.0 c.from_residual.ensures.1) (c.in_err-ready.ensures.exact_calls p is fine)
+
+pub returns-then-is_crowded-clause-exact_calls : goal.returns-then-is_crowded-clause-exact_calls
+returns-then-is_crowded-clause-exact_calls g c p is fine = writes_next _ p tt _ _ (c.in_ok-ready.ensures.exact_calls p is fine) (λ f. absurd (cc f))
+
+pub returns-then-before-ge-GREATEST_EPOCH-clause-exact_calls : goal.returns-then-before-ge-GREATEST_EPOCH-clause-exact_calls
+returns-then-before-ge-GREATEST_EPOCH-clause-exact_calls g c p is fine = writes_next _ p tt _ _ (c.in_ok-ready.ensures.exact_calls p is fine) (λ f. absurd (cc f))
+
+pub returns-then-is_full-clause-exact_calls : goal.returns-then-is_full-clause-exact_calls
+returns-then-is_full-clause-exact_calls g c p is fine = writes_next _ p tt _ _ (c.in_ok-ready.ensures.exact_calls p is fine) (λ f. absurd (cc f))
+
+pub returns-clause-exact_calls : goal.returns-clause-exact_calls
+returns-clause-exact_calls g c p is fine = writes_next _ p tt _ _ (c.in_ok-ready.ensures.exact_calls p is fine) (λ f. absurd (cc f))
+
+pub returns-in_err-ready-clause-stays : goal.returns-in_err-ready-clause-stays
+returns-in_err-ready-clause-stays g c l = absurd (let a = (c.in_err-ready.ensures.again l).0 in cc a)
+
+pub returns-then-is_crowded-clause-stays : goal.returns-then-is_crowded-clause-stays
+returns-then-is_crowded-clause-stays g c l = inr c.in_ok-ready.ensures.ready.loaded
+
+pub returns-then-before-ge-GREATEST_EPOCH-clause-stays : goal.returns-then-before-ge-GREATEST_EPOCH-clause-stays
+returns-then-before-ge-GREATEST_EPOCH-clause-stays g c l = inr c.in_ok-ready.ensures.ready.loaded
+
+pub returns-then-is_full-clause-stays : goal.returns-then-is_full-clause-stays
+returns-then-is_full-clause-stays g c l = inr c.in_ok-ready.ensures.ready.loaded
+
+pub returns-clause-stays : goal.returns-clause-stays
+returns-clause-stays g c l = inr c.in_ok-ready.ensures.ready.loaded

@@ -1,4 +1,4 @@
-use Rattle.std.proofs.Common.{◌≡◌, ◌<◌, ◌+◌, ◌-◌, ◌^◌, ◌∙◌, ap, sym, subst, arith, ℕ, Ok}
+use Rattle.std.proofs.Common.{◌≡◌, ◌<◌, ◌+◌, ◌-◌, ◌^◌, ◌∙◌, ap, sym, subst, arith, ℕ, Ok, [], inr}
 use Rattle.std.proofs.lemmas.Bool.{eq-eqb}
 use Rattle.ld_msg.specs.Register.{generation_of}
 use Rattle.ld_register.specs.declared.fault.RegisterFault.TheVariants as faults
@@ -8,6 +8,7 @@ use Rattle.ld_register.specs.Calls.{drawn, after_draw}
 use Rattle.ld_register.proofs.Committing.{err_of, on_err}
 use Rattle.ld_register.proofs.Meeting.{meets_unready, meets_answered, meets_no_memory, replays_length, failure, loads_granted}
 use Rattle.ld_register.proofs.Answering.{limit_draw, full_draw, made_draw}
+use Rattle.ld_register.proofs.Writing.{writes_as, writes_next}
 use Rattle.ld_register.proofs.disk.DiskRegister.check_draw.Goals as goal
 
 below : (v : ℕ) → v < 2 ^ 32 → (v ≡ 4294967295 → ⊥) → v < 2 ^ 32 - 1
@@ -40,3 +41,33 @@ returns-clause-due g c = record {
       (made_draw c.ready.new.self.contents h.length c.args.node (c.generation-before.result + 1) c.in_ok-epochs.epochs (subst (λ n. n < 2 ^ 32 - 1) (c.generation-before.ensures h.length) (below _ c.generation-before.type_inv c.if-before.false))
       (let l = replays_length c.ready.new.self h m in let fit = c.is_full.ensures.fits c.if-is_full.false in omega arith) (ap (λ n. n + 1) (c.generation-before.ensures h.length)) (c.in_ok-epochs.ensures.epochs h.length));
 }
+
+pub returns-in_err-ready-clause-exact_calls : goal.returns-in_err-ready-clause-exact_calls
+returns-in_err-ready-clause-exact_calls g c p is fine = writes_as _ [] p c.from_residual.result c.in_err-ready.field-0.0 _ (err_of c.from_residual.result c.in_err-ready.field-0.0 c.from_residual.ensures.1) (c.in_err-ready.ensures.exact_calls p is fine)
+
+pub returns-then-before-clause-exact_calls : goal.returns-then-before-clause-exact_calls
+returns-then-before-clause-exact_calls g c p is fine = writes_next _ p tt _ _ (c.in_ok-ready.ensures.exact_calls p is fine) (λ f. absurd (cc f))
+
+pub returns-then-is_full-clause-exact_calls : goal.returns-then-is_full-clause-exact_calls
+returns-then-is_full-clause-exact_calls g c p is fine = writes_next _ p tt _ _ (c.in_ok-ready.ensures.exact_calls p is fine) (λ f. absurd (cc f))
+
+pub returns-clause-exact_calls : goal.returns-clause-exact_calls
+returns-clause-exact_calls g c p is fine = writes_next _ p tt _ _ (c.in_ok-ready.ensures.exact_calls p is fine) (λ f. absurd (cc f))
+
+pub returns-in_err-epochs-clause-exact_calls : goal.returns-in_err-epochs-clause-exact_calls
+returns-in_err-epochs-clause-exact_calls g c p is fine = writes_next _ p tt _ _ (c.in_ok-ready.ensures.exact_calls p is fine) (λ f. let e = sym (err_of c.from_residual-in_err-epochs.result faults.NoMemory c.from_residual-in_err-epochs.ensures.1) ∙ f in absurd (cc e))
+
+pub returns-in_err-ready-clause-stays : goal.returns-in_err-ready-clause-stays
+returns-in_err-ready-clause-stays g c l = absurd (let a = (c.in_err-ready.ensures.again l).0 in cc a)
+
+pub returns-then-before-clause-stays : goal.returns-then-before-clause-stays
+returns-then-before-clause-stays g c l = inr c.in_ok-ready.ensures.ready.loaded
+
+pub returns-then-is_full-clause-stays : goal.returns-then-is_full-clause-stays
+returns-then-is_full-clause-stays g c l = inr c.in_ok-ready.ensures.ready.loaded
+
+pub returns-in_err-epochs-clause-stays : goal.returns-in_err-epochs-clause-stays
+returns-in_err-epochs-clause-stays g c l = inr c.in_ok-ready.ensures.ready.loaded
+
+pub returns-clause-stays : goal.returns-clause-stays
+returns-clause-stays g c l = inr c.in_ok-ready.ensures.ready.loaded

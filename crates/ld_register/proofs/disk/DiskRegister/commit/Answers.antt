@@ -6,6 +6,7 @@ use Rattle.ld_register.proofs.Leading.{length_is, short}
 use Rattle.ld_register.proofs.Committing.{on_err, leaves_none, moments_by, made_by, adds_by, kept_by, refused_by, quiet_calls, quiet_refused, steady_append, is_not_ok, err_of, same_refusal, fits_by, not_both}
 use Rattle.ld_journal.specs.declared.fault.JournalFault.TheVariants as journals
 use Rattle.ld_register.specs.declared.fault.RegisterFault.TheVariants as faults
+use Rattle.ld_register.proofs.Writing.{append_made, append_refused, writes_none}
 use Rattle.ld_register.proofs.disk.DiskRegister.commit.Goals as goal
 
 pub append-requires-clause-fits : goal.append-requires-clause-fits
@@ -51,3 +52,16 @@ returns-in_err-room-clause-refused g c = on_err c.from_residual.result _ (record
 
 pub returns-in_err-body-clause-refused : goal.returns-in_err-body-clause-refused
 returns-in_err-body-clause-refused g c = on_err c.from_residual-in_err-body.result _ (record { cause = inr (inl (err_of c.from_residual-in_err-body.result faults.NoMemory c.from_residual-in_err-body.ensures.1), c.requires.loaded, kept_by g.D.Disk c.args.self.now.journal c.args.self.now.journal c.args.self.now.contents c.room.new.self c.in_ok-room.ensures.same (λ b s. s), leaves_none g.D.Disk _ g.met.D.Disk.only_now, refl) })
+
+pub returns-in-Ok-clause-exact_calls : goal.returns-in-Ok-clause-exact_calls
+returns-in-Ok-clause-exact_calls g c p is = append_made p (place_of c.args.self.now.journal) c.deref.result.now _ _ (c.deref.ensures.value ∙ c.in_ok-body.ensures) (c.in-Ok.ensures.exact p is (inl refl))
+
+pub returns-clause-exact_calls : goal.returns-clause-exact_calls
+returns-clause-exact_calls g c p is = append_refused c.in-Err.fault c.from.result (place_of c.args.self.now.journal) c.deref.result.now _ p _ _ _ c.from.ensures (c.deref.ensures.value ∙ c.in_ok-body.ensures) (λ s. s.0) is
+    (λ d. c.in-Err.ensures.exact p is (inr d)) (λ e. not_both (must_load c.args.self.now.journal) (c.in-Err.ensures.needs_load.0 e) (c.args.self.now.works c.requires.loaded)) c.in-Err.ensures.refused
+
+pub returns-in_err-room-clause-exact_calls : goal.returns-in_err-room-clause-exact_calls
+returns-in_err-room-clause-exact_calls g c p is = writes_none _ p c.from_residual.result _ (err_of c.from_residual.result faults.NoMemory c.from_residual.ensures.1) is
+
+pub returns-in_err-body-clause-exact_calls : goal.returns-in_err-body-clause-exact_calls
+returns-in_err-body-clause-exact_calls g c p is = writes_none _ p c.from_residual-in_err-body.result _ (err_of c.from_residual-in_err-body.result faults.NoMemory c.from_residual-in_err-body.ensures.1) is

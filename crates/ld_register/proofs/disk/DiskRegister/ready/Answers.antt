@@ -1,10 +1,12 @@
-use Rattle.std.proofs.Common.{◌∙◌, refl, ap, sym, subst, arith, Err, None}
+use Rattle.std.proofs.Common.{◌∙◌, refl, ap, sym, subst, arith, Err, None, []}
 use Rattle.ld_disk.specs.Plain.{after_call}
 use Rattle.ld_disk.specs.Images.{IsHonest}
 use Rattle.ld_register.specs.declared.fault.RegisterFault.TheVariants as faults
-use Rattle.ld_register.proofs.Committing.{leaves_then, err_in, quiet_load, steady_load, loaded_plain, quiet_call, quiet_reads}
+use Rattle.ld_register.proofs.Committing.{leaves_then, err_in, err_of, quiet_load, steady_load, loaded_plain, quiet_call, quiet_reads}
+use Rattle.ld_register.specs.Faults.{passed_on}
 use Rattle.ld_register.specs.Held.{owned}
 use Rattle.ld_register.proofs.Meeting.{replays_holds, holds_unloaded, some_bytes, given_of}
+use Rattle.ld_register.proofs.Writing.{writes_nothing, writes_load, load_made, load_refused, reads_on, writes_as}
 use Rattle.ld_register.proofs.disk.DiskRegister.ready.Goals as goal
 
 pub returns-in_err-reload-clause-loads : goal.returns-in_err-reload-clause-loads
@@ -49,3 +51,22 @@ returns-clause-ready g c = record {
       let given = given_of (g.D.Disk.seen (owned c.args.self.now)) b.0 _ b.1 c.in_ok-reload.ensures.opens in
       c.in_ok-replay.ensures.same.bytes ∙ (given.bytes ∙ sym b.1);
 }
+
+pub returns-then-self-clause-exact_calls : goal.returns-then-self-clause-exact_calls
+returns-then-self-clause-exact_calls g c p is fine = writes_nothing _ p tt _ c.if-self.true is
+
+pub returns-in_err-reload-clause-exact_calls : goal.returns-in_err-reload-clause-exact_calls
+returns-in_err-reload-clause-exact_calls g c p is fine = writes_as _ [] p c.from_residual.result (passed_on c.in_err-reload.field-0.0) _ (err_of c.from_residual.result _ c.from_residual.ensures.1)
+    (load_refused c.in_err-reload.field-0.0 _ p _ c.if-self.false c.in_err-reload.ensures.full c.in_err-reload.ensures.needs_load (c.in_err-reload.ensures.exact p is))
+
+pub returns-in_err-replay-clause-exact_calls : goal.returns-in_err-replay-clause-exact_calls
+returns-in_err-replay-clause-exact_calls g c p is fine =
+    let m = load_made p _ _ refl (c.in_ok-reload.ensures.exact p is) in
+    let r = c.in_err-replay.ensures.exact (after_call None p) m.0 (reads_on None p fine m.1) in
+    writes_load _ p _ _ c.if-self.false (λ f. r.1 (ap Err (sym (err_in c.from_residual-in_err-replay.result faults.Failed c.in_err-replay.field-0.0 c.from_residual-in_err-replay.ensures.1 f)))) r.0 m.1
+
+pub returns-clause-exact_calls : goal.returns-clause-exact_calls
+returns-clause-exact_calls g c p is fine =
+    let m = load_made p _ _ refl (c.in_ok-reload.ensures.exact p is) in
+    let r = c.in_ok-replay.ensures.exact (after_call None p) m.0 (reads_on None p fine m.1) in
+    writes_load _ p _ _ c.if-self.false (λ f. absurd (cc f)) r.0 m.1

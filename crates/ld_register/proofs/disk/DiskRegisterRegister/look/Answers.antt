@@ -1,10 +1,11 @@
-use Rattle.std.proofs.Common.{◌≡◌, ◌≤◌, ◌∙◌, ap, sym, refl, subst, inr, IsSome}
+use Rattle.std.proofs.Common.{◌≡◌, ◌≤◌, ◌∙◌, ap, sym, refl, subst, inr, IsSome, []}
 use Rattle.ld_msg.specs.Register.{epochs_of, lce_of, summary_shown}
 use Rattle.ld_register.specs.Kept.{register_of}
 use Rattle.ld_register.specs.Calls.{looked}
 use Rattle.ld_register.specs.Held.{Foretells}
 use Rattle.ld_register.proofs.Committing.{err_of}
 use Rattle.ld_register.proofs.Meeting.{meets_unready, meets_answered, look_keeps, look_exact, leaves_looked, hold_on, ok_view}
+use Rattle.ld_register.proofs.Writing.{writes_as, writes_next}
 use Rattle.ld_register.proofs.disk.DiskRegisterRegister.look.Goals as goal
 
 pub returns-in_err-ready-clause-meets : goal.returns-in_err-ready-clause-meets
@@ -40,3 +41,9 @@ returns-clause-exact g c h t = look_exact (ok_view (record { epoch = c.epoch.res
 
 pub returns-clause-view : goal.returns-clause-view
 returns-clause-view g c = record { epoch = c.epoch.ensures.bound; lce = c.lce.ensures.bound; shown = let l = sym (c.lce.ensures.value 0) in subst (λ n. (IsSome c.summary.result → (1 ≤ c.args.e) × (c.args.e ≤ n)) × ((1 ≤ c.args.e) × (c.args.e ≤ n) → IsSome c.summary.result)) l (c.summary.ensures.shown 0); summary = c.summary.ensures.sound; spec = c.spec.ensures.sound }
+
+pub returns-in_err-ready-clause-exact_calls : goal.returns-in_err-ready-clause-exact_calls
+returns-in_err-ready-clause-exact_calls g c p is fine = writes_as _ [] p c.from_residual.result c.in_err-ready.field-0.0 _ (err_of c.from_residual.result c.in_err-ready.field-0.0 c.from_residual.ensures.1) (c.in_err-ready.ensures.exact_calls p is fine)
+
+pub returns-clause-exact_calls : goal.returns-clause-exact_calls
+returns-clause-exact_calls g c p is fine = writes_next _ p tt _ _ (c.in_ok-ready.ensures.exact_calls p is fine) (λ f. absurd (cc f))
