@@ -2,6 +2,7 @@ pub mod Settling
 pub mod Marking
 pub mod Posting
 pub mod Begins
+mod Notices
 pub mod Digesting
 pub mod Replies
 pub mod Holding

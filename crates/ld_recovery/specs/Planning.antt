@@ -8,7 +8,7 @@ use Rattle.ld_msg.specs.Bounds.{IsLng, Is64}
 use Rattle.ld_msg.specs.Sequencer.{Planned, Storing}
 use Rattle.ld_recovery.specs.Marks.{mark}
 
--- a plan with what is said of its log
+-- a plan with what is fixed for its epoch
 pub record Plans : Type 0 where
   pub spec : Spec
   pub storing : Storing

@@ -17,7 +17,7 @@ shown (Stores p) = sequencer.Stores p.storing
 shown (Closes y) = sequencer.Closes y
 shown Stopped = sequencer.Seals []
 
--- it is a log's, of an epoch, and closes by a sequencer
+-- it has what is fixed for an epoch, is of that epoch, and closes by a sequencer
 abbrev pub IsOf : Spec → ℕ → ℕ → Stage → Type 0
 IsOf spec epoch ballot (Seals d) = (d.spec ≡ spec) × (d.epoch ≡ epoch)
 IsOf spec epoch ballot (Stores p) = p.spec ≡ spec

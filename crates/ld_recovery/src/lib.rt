@@ -15,6 +15,6 @@ mod tests;
 pub use laws::{closings_are_summaries, recoveries_hold};
 pub use planned::Planned;
 pub use recovery::Recovery;
-pub use send::Sender;
+pub use send::{Notice, Sender};
 pub use state::{Answer, State};
 pub use storing::Storing;

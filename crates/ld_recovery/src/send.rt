@@ -1,13 +1,16 @@
 // Messages of a sequencer to nodes.
 ghost use Rattle.std.specs.Prelude.{◌≡◌, ◌++◌, ◌∷◌, [], IfOk, OnOk, OnErr};
 ghost use Rattle.ld_ids.specs.Set.{members};
+ghost use Rattle.ld_msg.specs.declared.msg.What.TheVariants.{Rec};
 ghost use Rattle.ld_msg.specs.declared.msg.Body.TheVariants.{Store, Clean, DigestAsk};
+ghost use Rattle.ld_msg.specs.Bounds.{Is64, IsEpoch};
 ghost use Rattle.ld_msg.specs.Sequencer.{to_each, digest_asks};
-ghost use Rattle.ld_recovery.specs.Sending.{sent, BeginsWith};
+ghost use Rattle.ld_node_bounds.specs.Messages.{AreMessages};
+ghost use Rattle.ld_recovery.specs.Sending.{sent, told, number_told, what_of, IsNotice, BeginsWith};
 
 use ld_copyset::NodeList;
 use ld_digest::Told;
-use ld_ids::{LogId, NoMemory, NodeId, NodeSet};
+use ld_ids::{LogId, NoMemory, NodeId, NodeSet, Payload};
 use ld_lsn::Lsn;
 use ld_msg::{Body, Msg, Outbox, Summary, What, Who};
 use std::alloc::Global;
@@ -79,7 +82,6 @@ impl Sender {
     }
 
     /// Tells all nodes of the set how an epoch is closed. Without memory nothing is sent.
-    #[tactic(auto, using(crate::proofs::Begins::back_rules))]
     pub fn tell_clean(
         &self,
         set: &NodeSet,
@@ -90,36 +92,46 @@ impl Sender {
         ensures sent { OnOk result (out.new ≡ out.old ++ sent self.now (to_each (Clean epoch summary.now) (members set.now))) }
         ensures unsent { OnErr result (out.new ≡ out.old) }
     {
-        let count = out.len();
-        let told = self.tell_each(set, epoch, summary, out);
-        if told.is_err() {
-            out.truncate(count);
-        }
-        told
+        let notice = Notice::Clean {
+            epoch,
+            summary: *summary,
+        };
+        self.tell(set, &notice, out)
     }
 
-    /// Tells all nodes of the set how an epoch is closed. Without memory some may have been told.
+    /// Tells all nodes of the set, in their order. Without memory nothing is sent. Behind messages it sends messages.
+    #[tactic(auto, using(crate::proofs::Begins::back_rules, crate::proofs::Notices::notice_rules))]
+    pub fn tell(&self, set: &NodeSet, notice: &Notice, out: &mut Outbox) -> Result<(), NoMemory>
+        ensures sent { OnOk result (out.new ≡ out.old ++ sent self.now (to_each (told notice.now) (members set.now))) }
+        ensures unsent { OnErr result (out.new ≡ out.old) }
+        ensures messages { IsNotice notice.now → IsEpoch self.now.epoch → AreMessages out.old → AreMessages out.new }
+    {
+        let _ = (self.log.number(), set.len(), notice.body());
+        let count = out.len();
+        match self.tell_each(set, notice, out) {
+            Ok(()) => Ok(()),
+            Err(_) => {
+                out.truncate(count);
+                Err(NoMemory)
+            }
+        }
+    }
+
+    /// Tells all nodes of the set, in their order. Without memory some may have been told.
     #[tactic(auto, using(crate::proofs::Begins::begin_rules))]
-    fn tell_each(
-        &self,
-        set: &NodeSet,
-        epoch: u32,
-        summary: &Summary,
-        out: &mut Outbox,
-    ) -> Result<(), NoMemory>
-        ensures sent { OnOk result (out.new ≡ out.old ++ sent self.now (to_each (Clean epoch summary.now) (members set.now))) }
+    fn tell_each(&self, set: &NodeSet, notice: &Notice, out: &mut Outbox) -> Result<(), NoMemory>
+        ensures sent { OnOk result (out.new ≡ out.old ++ sent self.now (to_each (told notice.now) (members set.now))) }
         ensures begins { OnErr result (BeginsWith out.old out.new) }
     {
         'nodes: for place in 0..set.len() {
             if let Some(node) = set.nth(place) {
-                self.send(node, clean(epoch, summary), out)?;
+                self.send(node, notice.body(), out)?;
             }
         }
         Ok(())
     }
 
     /// Sends an item with a last known good place to each of the nodes, in their order. Without memory some may have been sent.
-    #[tactic(auto, using(crate::proofs::Begins::begin_rules))]
     pub fn send_item(
         &self,
         alloc: Global,
@@ -132,33 +144,100 @@ impl Sender {
         ensures sent { OnOk result (out.new ≡ out.old ++ sent self.now (to_each (Store number lng what.now) nodes.now)) }
         ensures begins { OnErr result (BeginsWith out.old out.new) }
     {
+        self.send_each(alloc, number, lng, &Stored::Item(what), nodes, out)
+    }
+
+    /// Sends a record with a last known good place to each of the nodes, in their order. Without memory some may have been sent.
+    pub fn send_record(
+        &self,
+        alloc: Global,
+        number: Lsn,
+        lng: u32,
+        payload: &Payload,
+        nodes: &NodeList,
+        out: &mut Outbox,
+    ) -> Result<(), NoMemory>
+        ensures sent { OnOk result (out.new ≡ out.old ++ sent self.now (to_each (Store number lng (Rec payload.now)) nodes.now)) }
+        ensures begins { OnErr result (BeginsWith out.old out.new) }
+    {
+        self.send_each(alloc, number, lng, &Stored::Record(payload), nodes, out)
+    }
+
+    /// Sends a store to each of the nodes, in their order. Without memory some may have been sent.
+    #[tactic(auto, using(crate::proofs::Begins::begin_rules))]
+    fn send_each(
+        &self,
+        alloc: Global,
+        number: Lsn,
+        lng: u32,
+        stored: &Stored,
+        nodes: &NodeList,
+        out: &mut Outbox,
+    ) -> Result<(), NoMemory>
+        ensures sent { OnOk result (out.new ≡ out.old ++ sent self.now (to_each (Store number lng (what_of stored.now)) nodes.now)) }
+        ensures begins { OnErr result (BeginsWith out.old out.new) }
+    {
         'nodes: for place in 0..nodes.len() {
             if let Some(node) = nodes.nth(place) {
-                let body = store(alloc, number, lng, what)?;
-                self.send(node, body, out)?;
+                let what = stored.copy(alloc)?;
+                self.send(node, Body::Store { number, lng, what }, out)?;
             }
         }
         Ok(())
     }
 }
 
-// A close of an epoch.
-fn clean(epoch: u32, summary: &Summary) -> Body
-    ensures { result ≡ Clean epoch summary.now }
-{
-    Body::Clean {
-        epoch,
-        summary: *summary,
+/// What all nodes of a set are told.
+#[derive(Clone, Copy, Debug)]
+pub enum Notice {
+    /// How an epoch is closed.
+    Clean { epoch: u32, summary: Summary },
+    /// Readers may have all up to the number.
+    Release(Lsn),
+    /// All up to the number may go.
+    Trim(Lsn),
+}
+
+impl Notice {
+    /// As a message says it.
+    fn body(&self) -> Body
+        ensures value { result ≡ told self.now }
+        ensures number { Is64 (number_told self.now) }
+    {
+        match self {
+            Notice::Clean { epoch, summary } => Body::Clean {
+                epoch: *epoch,
+                summary: *summary,
+            },
+            Notice::Release(released) => {
+                let _ = released.value();
+                Body::Release {
+                    released: *released,
+                }
+            }
+            Notice::Trim(trim) => {
+                let _ = trim.value();
+                Body::Trim { trim: *trim }
+            }
+        }
     }
 }
 
-// A store of an item.
-fn store(alloc: Global, number: Lsn, lng: u32, what: &What) -> Result<Body, NoMemory>
-    ensures { IfOk result (λ body. body ≡ Store number lng what.now) }
-{
-    Ok(Body::Store {
-        number,
-        lng,
-        what: what.copy(alloc)?,
-    })
+/// What a store carries, as its owner holds it.
+#[derive(Clone, Copy)]
+pub(crate) enum Stored<'a> {
+    Item(&'a What),
+    Record(&'a Payload),
+}
+
+impl<'a> Stored<'a> {
+    /// As a message carries it.
+    fn copy(&self, alloc: Global) -> Result<What, NoMemory>
+        ensures { IfOk result (λ what. what ≡ what_of self.now) }
+    {
+        match self {
+            Stored::Item(what) => what.copy(alloc),
+            Stored::Record(payload) => Ok(What::Rec(payload.copy(alloc)?)),
+        }
+    }
 }

@@ -18,7 +18,7 @@ use std::alloc::Global;
 use std::marker::Model;
 
 /// A plan that is being stored: the items under numbers that follow each other, the wave that they were sent in last,
-/// how many of them fewer nodes than the log's factor have settled, and for each node how many its trims have settled.
+/// how many of them fewer nodes than the epoch's factor have settled, and for each node how many its trims have settled.
 #[derive(Drop)]
 pub struct Storing {
     spec: Spec,

@@ -11,23 +11,19 @@ use Rattle.ld_node_bounds.proofs.Numbers.{epoch_numbered, esn_numbered}
 use Rattle.ld_node_bounds.specs.Messages.{AreMessages}
 use Rattle.ld_node_bounds.proofs.Alls.{all-append}
 use Rattle.ld_node_bounds.proofs.Members.{members_nodes}
-use Rattle.ld_node_bounds.proofs.Posts.{each_post}
 use Rattle.ld_ids.specs.Id.{IsNode, IsLog}
-use Rattle.ld_ids.specs.Set.{IsSet, members}
+use Rattle.ld_ids.specs.Set.{IsSet}
 use Rattle.ld_ids.specs.Choice.{nodes_of}
 use Rattle.ld_msg.specs.declared.msg.Msg.{Msg}
 use Rattle.ld_msg.specs.declared.msg.Who.TheVariants as whos
-use Rattle.ld_msg.specs.Bounds.{IsLng, Is64, IsEpoch, Fits, IsMessage}
+use Rattle.ld_msg.specs.Bounds.{IsLng, IsEpoch, IsMessage}
 use Rattle.ld_msg.specs.Choice.{choice}
 use Rattle.ld_msg.specs.Network.{posted}
-use Rattle.ld_msg.specs.Sequencer.{to_each, append_stores, first_stores, fresh_append, payload_limit}
+use Rattle.ld_msg.specs.Sequencer.{append_stores, first_stores, fresh_append, payload_limit}
 use Rattle.ld_sequencer_bounds.specs.Sequencers.{IsAppend}
 use Rattle.ld_sequencer_bounds.proofs.Posts.{sent_behind, unsent_behind, choice_nodes}
 use Rattle.ld_sequencer_bounds.proofs.Sends.{append_sent, appends_sent}
-use Rattle.ld_sequencer.specs.declared.send.Notice.{Notice}
-use Rattle.ld_sequencer.specs.declared.send.Notice.TheVariants as notices
 use Rattle.ld_sequencer.specs.Own.{Own, spec_of, sequencer_of, sent_by}
-use Rattle.ld_sequencer.specs.Sending.{told, number_told}
 
 appends_from : (r epoch place : ℕ) (ws : List Waiting) → 1 ≤ place → place + length ws ≤ 2 ^ 32 - 1 → AreWaiting r ws → AllByRecursion (IsAppend epoch) (numbered_from (numbered epoch place) (carried ws))
 appends_from r epoch place [] one most h = tt
@@ -42,13 +38,6 @@ pub appends_are : (s : Spec) (epoch : ℕ) (flags : List Bool) (ws : List Waitin
 appends_are s epoch flags ws h = let a = waits s.r flags ws h in let b = h.bound in appends_from s.r epoch (leading flags + 1) ws (omega arith) (omega arith) h.waiting
 
 -- ---- what is sent ----
-
-told_fits : (own y : ℕ) (n : Notice) → IsEpoch own → IsNode y → Is64 (number_told n) → Fits (whos.Sequencer own) (whos.Node y) (told n)
-told_fits own y (notices.Release r) e h b = ((e, h), b)
-told_fits own y (notices.Trim t) e h b = ((e, h), b)
-
-pub told_messages : (own log : ℕ) (n : Notice) (flags : List Bool) (old new : List Msg) → new ≡ old ++ posted (whos.Sequencer own) log (to_each (told n) (members flags)) → Is64 (number_told n) → IsLog log → IsSet flags → IsEpoch own → AreMessages old → AreMessages new
-told_messages own log n flags old new s b l f e a = sent_behind own log (to_each (told n) (members flags)) old new l (each_post (whos.Sequencer own) (told n) (members flags) (λ y h. told_fits own y n e h b) (members_nodes flags f)) s a
 
 good_is : (s : Spec) (epoch : ℕ) (flags : List Bool) (ws : List Waiting) → IsInStep s.r flags ws → IsLng (shown s epoch flags ws).lng
 good_is s epoch flags ws h = let a = waits s.r flags ws h in let b = h.bound in omega arith
@@ -74,4 +63,4 @@ together old asks new s b a = subst AreMessages (sym s) (all-append IsMessage ol
 pub none_messages : (ms : List Msg) → ms ≡ [] → AreMessages ms
 none_messages ms e = subst AreMessages (sym e) tt
 
-pub ruleset message_rules = (unsent_behind, told_messages, row_messages, append_messages, together, none_messages)
+pub ruleset message_rules = (unsent_behind, row_messages, append_messages, together, none_messages)

@@ -5,16 +5,6 @@ use Rattle.ld_copyset.proofs.Rings.{distinct-without}
 use Rattle.ld_table.specs.Words.{is_in, without}
 use Rattle.ld_table.proofs.Places.{drop_at_place}
 use Rattle.ld_copyset.specs.Copyset.{AreDistinct}
-use Rattle.ld_msg.specs.declared.msg.Msg.{Msg}
-use Rattle.ld_msg.specs.declared.msg.Who.{Who}
-use Rattle.ld_msg.specs.declared.msg.Body.{Body}
-use Rattle.ld_msg.specs.Network.{posted}
-use Rattle.ld_msg.specs.Sequencer.{to_each}
-
--- one more is sent, and one fewer is left
-pub sent_one : (who : Who) (log : ℕ) (b : Body) (ys : List ℕ) (i y : ℕ) (sent : List Msg) → slice_get ys i ≡ Some y
-    → (sent ++ posted who log ((y, b) ∷ [])) ++ posted who log (to_each b (drop (i + 1) ys)) ≡ sent ++ posted who log (to_each b (drop i ys))
-sent_one who log b ys i y sent e = append_assoc sent _ _ ∙ ap (λ zs. sent ++ posted who log (to_each b zs)) (sym (drop_at_place ys i y e))
 
 without_split : (xs : List ℕ) (y : ℕ) (ys : List ℕ) → without xs (y ∷ ys) ≡ without xs (y ∷ []) ++ without xs ys
 without_split xs y ys = elim (is_in y xs) as (λ b. (if not b then y ∷ without xs ys else without xs ys) ≡ (if not b then y ∷ [] else []) ++ without xs ys) [ true ↦ refl | false ↦ refl ]

@@ -8,7 +8,7 @@ use Rattle.ld_window.specs.Flags.{leading}
 use Rattle.ld_appender.specs.Waiting.{Waiting, is_enough, with_next_wave}
 use Rattle.ld_msg.specs.Sequencer.{Append, fresh_append, is_acked, stored_at, acked_first, unacked_from, raised, payload_limit}
 
--- the log's nodes and factor, the epoch, the last number such that it and all below are acknowledged, and the appends above it by number
+-- an epoch with what is fixed for it, the last number such that it and all below are acknowledged, and the appends above it by number
 pub record Row : Type 0 where
   pub spec : Spec
   pub epoch : ℕ
@@ -26,7 +26,7 @@ carried ws = map (λ w. w.append) ws
 abbrev pub shown : Spec → ℕ → List Bool → List Waiting → Row
 shown spec epoch flags ws = record { spec = spec; epoch = epoch; lng = leading flags; appends = numbered_from (numbered epoch (leading flags + 1)) (carried ws) }
 
--- an append is to be stored as often as the log's factor says, and its payload is one that a message can carry
+-- an append is to be stored as often as the epoch's factor says, and its payload is one that a message can carry
 pub record IsWaiting (r : ℕ) (w : Waiting) : Type 0 where
   pub factor : w.factor ≡ r
   pub short : length w.append.payload ≤ payload_limit
@@ -42,7 +42,7 @@ pub record IsInStep (r : ℕ) (flags : List Bool) (ws : List Waiting) : Type 0 w
   pub bound : length flags ≤ 2 ^ 32 - 2
   pub copies : 1 ≤ r
 
--- each is stored as often as the log's factor says
+-- each is stored as often as the epoch's factor says
 abbrev pub all_acked : Spec → List (ℕ × Append) → Bool
 all_acked s m = all_of (λ p. is_acked s p.1) m
 

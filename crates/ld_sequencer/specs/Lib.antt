@@ -2,5 +2,4 @@ pub mod Appends
 pub mod Looks
 pub mod Own
 pub mod Register
-pub mod Sending
 pub mod Whole

@@ -8,9 +8,10 @@ mod fault;
 mod look;
 mod origin;
 mod own;
+mod recovering;
 mod report;
+mod round;
 mod row;
-mod send;
 mod start;
 #[cfg(test)]
 mod tests;

@@ -14,11 +14,11 @@ ghost use Rattle.ld_recovery.specs.Sending.{BeginsWith};
 use crate::Row;
 use crate::fault::SequencerFault;
 use crate::origin::Origin;
-use crate::send::{Notice, Sender};
 use ld_copyset::{NodeList, choose_for};
 use ld_ids::{NoMemory, NodeId, Payload, Spec};
 use ld_lsn::Lsn;
 use ld_msg::{Body, Msg, Outbox, Summary, Who};
+use ld_recovery::{Notice, Sender};
 use std::alloc::Global;
 use std::marker::Model;
 
@@ -147,7 +147,7 @@ impl OwnEpoch {
         self.row.is_acked() && self.lce < self.row.epoch() && self.lce + 1 == self.row.epoch()
     }
 
-    /// Numbers the payload and sends it to as many nodes as are to store it, and some more as the log says. It is refused
+    /// Numbers the payload and sends it to as many nodes of its epoch as are to store it, and some more as was fixed for it. It is refused
     /// with `PayloadTooLong` and its length exactly above 65,535 bytes, then with `Preempted` and the greater epoch exactly
     /// where one was learnt, then with `EpochFull` exactly where the next place is 2^32-1, then with `WindowFull` exactly
     /// where 128 appends wait, and then for want of memory. A refused append has changed nothing and sent nothing. Behind
@@ -382,7 +382,7 @@ impl OwnEpoch {
         let number = Lsn::new(self.row.epoch(), self.row.next_place());
         let nodes = choose_for(self.row.spec(), number, 0, &self.lost.to_set());
         self.sender()
-            .send_stores(alloc, number, self.row.lng(), &payload, &nodes, out)?;
+            .send_record(alloc, number, self.row.lng(), &payload, &nodes, out)?;
         self.row.push(payload)?;
         Ok(number)
     }

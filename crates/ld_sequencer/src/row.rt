@@ -12,7 +12,7 @@ ghost use Rattle.ld_appender.specs.Waiting.{Waiting, with_stored, is_enough};
 ghost use Rattle.ld_sequencer.specs.Appends.{empty_row, next_place, pushed, stores, acks, raises, flags_after, raised_one, all_acked};
 ghost use Rattle.ld_recovery.specs.Sending.{BeginsWith};
 
-use crate::send::Round;
+use crate::round::Round;
 use ld_appender::{Pending, Progress};
 use ld_copyset::NodeList;
 use ld_ids::{NoMemory, NodeId, Payload, Spec};
@@ -60,7 +60,7 @@ impl Row {
         })
     }
 
-    /// What is said of the log.
+    /// What is fixed for the epoch.
     pub fn spec(&self) -> &Spec
         ensures { result.now ≡ self.now.spec }
     {
@@ -121,7 +121,7 @@ impl Row {
     }
 
     /// A node stored what has the number. Answers whether that acknowledges it: whether it waits and as many nodes as
-    /// the log's factor says have stored it now, and hadn't before.
+    /// the epoch's factor says have stored it now, and hadn't before.
     #[tactic(auto, using(crate::proofs::Rows::row_rules))]
     pub fn stored(&mut self, node: NodeId, number: Lsn) -> bool
         ensures row { self.new ≡ stores self.old node number (find number self.old.appends) }

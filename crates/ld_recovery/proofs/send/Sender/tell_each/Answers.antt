@@ -2,9 +2,8 @@ use Rattle.std.proofs.Common.{◌≡◌, ◌++◌, ◌+◌, ◌∷◌, [], List,
 use Rattle.ld_ids.specs.Set.{members}
 use Rattle.ld_msg.specs.declared.msg.Msg.{Msg}
 use Rattle.ld_msg.specs.declared.msg.Body.{Body}
-use Rattle.ld_msg.specs.declared.msg.Body.TheVariants.{Clean}
 use Rattle.ld_msg.specs.Sequencer.{to_each}
-use Rattle.ld_recovery.specs.Sending.{sent}
+use Rattle.ld_recovery.specs.Sending.{sent, told}
 use Rattle.ld_recovery.proofs.Begins.{begins_on}
 use Rattle.ld_table.proofs.Places.{there_is}
 use Rattle.ld_recovery.proofs.Posting.{told_one}
@@ -15,8 +14,8 @@ pub nodes-preserved : goal.nodes-preserved
 nodes-preserved c = elim c.match-nth.branch [
   | in-Some+in_ok-send w ↦
       let s = c.args.self.now in
-      let b = Clean c.args.epoch c.args.summary.now in
-      let one : c.match-nth.out ≡ c.nodes.out ++ sent s (to_each b (w.in-Some.node ∷ [])) = rw w.out-is (w.in_ok-send.ensures.sent ∙ ap (λ (x : Body). c.nodes.out ++ sent s ((w.in-Some.node, x) ∷ [])) w.clean.ensures) in
+      let b = told c.args.notice.now in
+      let one : c.match-nth.out ≡ c.nodes.out ++ sent s (to_each b (w.in-Some.node ∷ [])) = rw w.out-is (w.in_ok-send.ensures.sent ∙ ap (λ (x : Body). c.nodes.out ++ sent s ((w.in-Some.node, x) ∷ [])) w.body.ensures.value) in
       record {
         left = ap (λ (r : List Msg). r ++ sent s (to_each b (drop (c.nodes.place + 1) (members c.args.set.now)))) one ∙ (told_one s b (members c.args.set.now) c.nodes.place w.in-Some.node c.nodes.out (sym w.in-Some.ensures.node) ∙ c.nodes.invariant.left);
         begun = begins_on c.args.out.now c.nodes.out _ c.match-nth.out one c.nodes.invariant.begun;

@@ -2,8 +2,8 @@ use Rattle.std.proofs.Common.{◌+◌, ◌++◌, drop, ap, sym, ◌∙◌, arith
 use Rattle.ld_table.specs.Words.{without}
 use Rattle.ld_table.proofs.Places.{there_is}
 use Rattle.ld_sequencer.proofs.Sends.{kept_one, is_new}
-use Rattle.ld_sequencer.proofs.send.unstored.Goals as goal
-use Rattle.ld_sequencer.proofs.send.unstored.Goals.{in-Some, in_default}
+use Rattle.ld_sequencer.proofs.round.unstored.Goals as goal
+use Rattle.ld_sequencer.proofs.round.unstored.Goals.{in-Some, in_default}
 
 pub add_unstored-requires : goal.add_unstored-requires
 add_unstored-requires c = is_new c.args.pending.now.append.stored c.args.nodes.now c.nodes.left c.nodes.place c.in-Some.node c.nth.ensures.distinct c.nodes.invariant (sym c.nth.ensures.node ∙ c.in-Some.is)
