@@ -147,9 +147,9 @@ module _ (disk_before disk_now register_before register_now : ℕ) (Told : Type 
 
 -- ---- both ----
 
-module _ (disk_before disk_now : ℕ) (seen seen_now : Option (List ℕ)) (before left : List ℕ → Type 0) (register_before register_now : ℕ) (Told : Type 0) (holds : Contents → Type 0) (damaged : ℕ → Type 0) (id : ℕ) (known : Known) (format : Bool) where
+module _ (disk_before disk_now : ℕ) (seen seen_now : Option (List ℕ)) (before left : List ℕ → Type 0) (register_before register_now : ℕ) (Told : Type 0) (holds holds_now : Contents → Type 0) (damaged : ℕ → Type 0) (id : ℕ) (known : Known) (format : Bool) where
   pub completes : {L : Type 0} (link_before link_now : L) (now : Option Peers) (start : Peers) (bytes : List ℕ) (r : Result Unit Stop) → AreSpoken start.coming → seen ≡ Some bytes → MayOpen Told damaged format bytes
-      → IfErr r (λ stop. IsNotOpened disk_before disk_now seen seen_now before left register_before register_now Told holds damaged id format link_before link_now stop ⊎ HasStopped seen left holds id known format start now stop)
+      → IfErr r (λ stop. IsNotOpened disk_before disk_now seen seen_now before left register_before register_now Told holds holds_now damaged id format link_before link_now stop ⊎ HasStopped seen left holds holds_now id known format start now stop)
       → IfErr r IsFaultOrLimit
   completes link_before link_now now start bytes (Ok x) spoken is may stopped = tt
   completes link_before link_now now start bytes (Err stop) spoken is may (inl refused) =

@@ -1,6 +1,7 @@
 -- A node is opened.
-use Rattle.std.proofs.Common.{◌≡◌, ◌⊎◌, ◌≤◌, ◌-◌, ◌^◌, ℕ, List, [], ◌∷◌, length, Bool, true, Option, None, Some, ap, sym, ◌∙◌, subst, refl, inl, inr, ⊎_elim}
-use Rattle.std.specs.Prelude.{IfSome}
+use Rattle.std.proofs.Common.{◌≡◌, ◌⊎◌, ◌≤◌, ◌-◌, ◌^◌, ℕ, List, [], ◌∷◌, length, Bool, true, Option, None, Some, Ok, Err, ap, sym, ◌∙◌, subst, refl, inl, inr, ⊎_elim}
+use Rattle.std.specs.Prelude.{IfSome, IsErrOf}
+use Rattle.std.specs.declared.result.Result.{Result}
 use Rattle.ld_io.specs.Causes.{Rose}
 use Rattle.ld_disk.specs.declared.disk.Disk.{Ghosts}
 use Rattle.ld_msg.specs.Register.{Register as Contents, generation_of}
@@ -10,7 +11,7 @@ use Rattle.ld_journal.specs.Format.{records}
 use Rattle.ld_store.specs.Ops.{StandsFor, IsJournalOf, are_none, bodies_of, state_after}
 use Rattle.ld_register.specs.declared.fault.RegisterFault.TheVariants as refusals
 use Rattle.ld_register.specs.declared.register.Drawn.{Drawn}
-use Rattle.ld_register.specs.Calls.{drawn, is_full, draw_length}
+use Rattle.ld_register.specs.Calls.{drawn, after_draw, is_full, draw_length}
 use Rattle.ld_node.specs.declared.node.Node.{Node}
 use Rattle.ld_node.specs.declared.fault.NodeFault.{NodeFault}
 use Rattle.ld_node.specs.declared.fault.NodeFault.TheVariants as nodes
@@ -19,6 +20,8 @@ use Rattle.ld_node.specs.Formats.{format_of}
 use Rattle.ld_node.specs.Formats as formats
 use Rattle.ld_node.specs.Node.{plain_of, is_blank, place_of, Holds, IsOpened}
 use Rattle.ld_node.specs.Changes.{IsPast}
+use Rattle.ld_serve.specs.declared.stop.Stop.{Stop}
+use Rattle.ld_serve.specs.declared.stop.Stop.TheVariants as stops
 use Rattle.ld_serve.specs.Opening.{IsBlank, Draws, LeftByFormat, Formats, StoreIsFull, IsOpeningStop, stop_of_format}
 
 none_is : (os : List Op) → are_none os ≡ true → os ≡ []
@@ -48,6 +51,19 @@ module _ (disk_before disk_now : ℕ) (seen : Option (List ℕ)) (register_befor
   format_caused (nodes.Register refusals.Full) f disk register place store full limit = (f, full refl)
   format_caused (nodes.Register refusals.NoMemory) f disk register place store full limit = tt
   format_caused nodes.NoMemory f disk register place store full limit = tt
+
+abbrev refused : NodeFault → Result Drawn NodeFault
+refused fault = Err fault
+
+abbrev stop_in : Result Drawn NodeFault → Stop
+stop_in (Ok given) = stops.NoMemory
+stop_in (Err fault) = stop_of_format fault
+
+-- what the register held it holds with the draw or without it, unless it failed
+pub draw_or_not : (fault : NodeFault) (holds_now : Contents → Type 0) (c : Contents) (i j : ℕ) → i ≡ j → IsErrOf (refused fault) (nodes.Register refusals.Failed) ⊎ holds_now c ⊎ holds_now (after_draw c i)
+    → (stop_of_format fault ≡ stops.Register) ⊎ holds_now c ⊎ holds_now (after_draw c j)
+draw_or_not fault holds_now c i j same held =
+    subst (λ (n : ℕ). (stop_of_format fault ≡ stops.Register) ⊎ holds_now c ⊎ holds_now (after_draw c n)) same (⊎_elim (λ failed. inl (ap stop_in failed)) (λ more. inr more) held)
 
 -- ---- what the node holds then, where the disk has shown some bytes ----
 

@@ -21,18 +21,18 @@ pub told_of : (o : Option (List ℕ)) (X : Type 0) → IfSome o (λ _. X) → Is
 told_of None X h s = absurd cc
 told_of (Some bytes) X h s = h
 
-module _ (seen : Option (List ℕ)) (left : List ℕ → Type 0) (holds : Contents → Type 0) (id : ℕ) (known : Known) (format : Bool) where
-  pub has_served : (r : Result Unit Stop) (start : Peers) (now : Option Peers) (turns : ℕ) (first : Plain) (last : State) → IfSome seen (IsOpening holds id format first)
+module _ (seen : Option (List ℕ)) (left : List ℕ → Type 0) (holds holds_now : Contents → Type 0) (id : ℕ) (known : Known) (format : Bool) where
+  pub has_served : (r : Result Unit Stop) (start : Peers) (now : Option Peers) (turns : ℕ) (first : Plain) (last : State) → IfSome seen (IsOpening holds holds_now id format first)
       → OnOk r (IsServed (after id known) (answers id known) start (at_first first) now last turns)
       → OnOk r (IfSome seen (λ _. (bytes : List ℕ) → left bytes → StandsFor last.plain bytes))
-      → OnOk r (HasServed seen left holds id known format start now turns)
+      → OnOk r (HasServed seen left holds holds_now id known format start now turns)
   has_served (Ok x) start now turns first last opened course stands = record { first = first; opened = opened; last = last; course = course; stands = stands }
   has_served (Err e) start now turns first last opened course stands = tt
 
-  pub has_stopped : (r : Result Unit Stop) (start : Peers) (now : Option Peers) (first : Plain) (last : State) (Told : Type 0) (Other : Stop → Type 0) → IfSome seen (IsOpening holds id format first)
+  pub has_stopped : (r : Result Unit Stop) (start : Peers) (now : Option Peers) (first : Plain) (last : State) (Told : Type 0) (Other : Stop → Type 0) → IfSome seen (IsOpening holds holds_now id format first)
       → (IsSome seen → Told)
       → IfErr r (λ stop. IsStopped (after id known) (answers id known) (IsCut id known Told left stop) start (at_first first) now last)
-      → IfErr r (λ stop. Other stop ⊎ HasStopped seen left holds id known format start now stop)
+      → IfErr r (λ stop. Other stop ⊎ HasStopped seen left holds holds_now id known format start now stop)
   has_stopped (Ok x) start now first last Told Other opened told course = tt
   has_stopped (Err stop) start now first last Told Other opened told course = inr (record {
     first = first;

@@ -7,7 +7,7 @@ use Rattle.ld_op.specs.Plain.{Plain, unformatted}
 use Rattle.ld_store.specs.Ops.{StandsFor, IsJournalOf, IsDamaged, are_none, state_after}
 use Rattle.ld_register.specs.declared.fault.RegisterFault.TheVariants as refusals
 use Rattle.ld_register.specs.declared.register.Drawn.{Drawn}
-use Rattle.ld_register.specs.Calls.{drawn, is_full, draw_length}
+use Rattle.ld_register.specs.Calls.{drawn, after_draw, is_full, draw_length}
 use Rattle.ld_node.specs.declared.fault.NodeFault.{NodeFault}
 use Rattle.ld_node.specs.declared.fault.NodeFault.TheVariants as nodes
 use Rattle.ld_node.specs.Changes.{IsPast}
@@ -32,16 +32,25 @@ pub record IsFormatted (p : Plain) (bytes : List ℕ) : Type 0 where
 abbrev pub Draws : (Contents → Type 0) → ℕ → Drawn → Type 0
 Draws holds id given = (c : Contents) → holds c → answered given ≡ drawn c id
 
--- the disk was blank, and this is the state of a format under what the register drew
-pub record IsFormattedNow (holds : Contents → Type 0) (id : ℕ) (format : Bool) (p : Plain) (bytes : List ℕ) : Type 0 where
+-- of a register that may have held the first and may hold the second now: what it held it holds now with that one draw more
+abbrev pub HoldsDraw : (Contents → Type 0) → (Contents → Type 0) → ℕ → Type 0
+HoldsDraw holds holds_now id = (c : Contents) → holds c → holds_now (after_draw c id)
+
+-- the disk was blank, this is the state of a format under what the register drew, and the register holds that one draw more now
+pub record IsFormattedNow (holds holds_now : Contents → Type 0) (id : ℕ) (format : Bool) (p : Plain) (bytes : List ℕ) : Type 0 where
   pub asked : format ≡ true
   pub blank : IsBlank bytes
   pub given : Drawn
   pub drawn : Draws holds id given
+  pub drew : HoldsDraw holds holds_now id
   pub state : p ≡ state_after (format_of given ∷ [])
 
-abbrev pub IsOpening : (Contents → Type 0) → ℕ → Bool → Plain → List ℕ → Type 0
-IsOpening holds id format p bytes = IsFormatted p bytes ⊎ IsFormattedNow holds id format p bytes
+abbrev pub IsOpening : (Contents → Type 0) → (Contents → Type 0) → ℕ → Bool → Plain → List ℕ → Type 0
+IsOpening holds holds_now id format p bytes = IsFormatted p bytes ⊎ IsFormattedNow holds holds_now id format p bytes
+
+-- where the node wasn't opened, and the register didn't fail: what it held it holds now, with the draw or without it
+abbrev pub HoldsDrawOrNot : (Contents → Type 0) → (Contents → Type 0) → ℕ → Stop → Type 0
+HoldsDrawOrNot holds holds_now id stop = (c : Contents) → holds c → (stop ≡ stops.Register) ⊎ holds_now c ⊎ holds_now (after_draw c id)
 
 -- what may be left by a format that was refused: a blank disk, or the state of the format under what the register drew
 abbrev pub LeftByFormat : (Contents → Type 0) → ℕ → List ℕ → Type 0

@@ -8,19 +8,19 @@ use Rattle.ld_node.specs.Known.{Known}
 use Rattle.ld_serve.specs.declared.stop.Stop.{Stop}
 use Rattle.ld_serve.specs.declared.stop.Stop.TheVariants.{Disk}
 use Rattle.ld_serve.specs.Course.{IsServed, IsStopped}
-use Rattle.ld_serve.specs.Opening.{IsOpening, IsOpeningStop, LeftByFormat}
+use Rattle.ld_serve.specs.Opening.{IsOpening, IsOpeningStop, LeftByFormat, HoldsDrawOrNot}
 use Rattle.ld_serve.specs.Serving.{State, after, answers, IsCut}
 
 -- a node is opened in this state, with nothing released
 abbrev pub at_first : Plain → State
 at_first p = record { plain = p; released = [] }
 
--- of a disk that showed these bytes, of which this may be left now, and of a register that may hold these contents
-module _ (seen : Option (List ℕ)) (left : List ℕ → Type 0) (holds : Contents → Type 0) (id : ℕ) (known : Known) (format : Bool) where
+-- of a disk that showed these bytes, of which this may be left now, and of a register that may have held these contents, and may hold those now
+module _ (seen : Option (List ℕ)) (left : List ℕ → Type 0) (holds holds_now : Contents → Type 0) (id : ℕ) (known : Known) (format : Bool) where
   -- the node was opened, and served so many turns, or until there was no next peer
   pub record HasServed (start : Peers) (now : Option Peers) (turns : ℕ) : Type 0 where
     pub first : Plain
-    pub opened : IfSome seen (IsOpening holds id format first)
+    pub opened : IfSome seen (IsOpening holds holds_now id format first)
     pub last : State
     pub course : IsServed (after id known) (answers id known) start (at_first first) now last turns
     pub stands : IfSome seen (λ _. (bytes : List ℕ) → left bytes → StandsFor last.plain bytes)
@@ -28,15 +28,16 @@ module _ (seen : Option (List ℕ)) (left : List ℕ → Type 0) (holds : Conten
   -- the node was opened, and stopped while it served
   pub record HasStopped (start : Peers) (now : Option Peers) (stop : Stop) : Type 0 where
     pub first : Plain
-    pub opened : IfSome seen (IsOpening holds id format first)
+    pub opened : IfSome seen (IsOpening holds holds_now id format first)
     pub last : State
     pub course : IsStopped (after id known) (answers id known) (IsCut id known (IsSome seen) left stop) start (at_first first) now last
 
 -- of a disk, its counts of faults, the bytes that it showed and shows, and what might be left of it and may be now; and of a register
-module _ (disk_before disk_now : ℕ) (seen seen_now : Option (List ℕ)) (before left : List ℕ → Type 0) (register_before register_now : ℕ) (Told : Type 0) (holds : Contents → Type 0) (damaged : ℕ → Type 0) (id : ℕ) (format : Bool) where
+module _ (disk_before disk_now : ℕ) (seen seen_now : Option (List ℕ)) (before left : List ℕ → Type 0) (register_before register_now : ℕ) (Told : Type 0) (holds holds_now : Contents → Type 0) (damaged : ℕ → Type 0) (id : ℕ) (format : Bool) where
   -- the node wasn't opened, and the link wasn't called
   pub record IsNotOpened {L : Type 0} (link_before link_now : L) (stop : Stop) : Type 0 where
     pub link : link_now ≡ link_before
     pub cause : IsOpeningStop disk_before disk_now seen register_before register_now Told holds damaged id format stop
+    pub draw : HoldsDrawOrNot holds holds_now id stop
     pub bytes : (stop ≡ Disk) ⊎ (seen_now ≡ seen)
     pub leaves : IfSome seen (λ _. (bytes : List ℕ) → left bytes → before bytes ⊎ ((format ≡ true) × LeftByFormat holds id bytes))

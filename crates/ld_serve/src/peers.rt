@@ -83,7 +83,7 @@ pub fn serve_peers<D: Disk, L: Link>(
     ensures link_counts { MatchResult result (λ _. L.faults link.new ≡ L.faults link.old) (LinkCounts (L.faults link.old) (L.faults link.new)) }
     ensures disk_counts { MatchResult result (λ _. D.faults (disk_of node.new) ≡ D.faults (disk_of node.old)) (DiskCounts (D.faults (disk_of node.old)) (D.faults (disk_of node.new))) }
 {
-    let mut buf = [0u8; 4096];
+    let mut buf = [0u8; 65536];
     let mut decoder = Decoder::new(alloc);
     let mut is_there = false;
     'turns: for _ in 0..turns {

@@ -40,13 +40,13 @@ fn serve_on<D: Disk, G: Register, L: Link>(
 ) -> (D, Result<(), Stop>)
     ensures itself { D.identity result.0 ≡ D.identity disk }
     ensures served { (start : Peers) → L.peers link.old ≡ Some start
-        → OnOk result.1 (HasServed (D.seen disk) (D.may_leave result.0) (G.holds reg.old) id (known_in config.now) format start (L.peers link.new) turns) }
+        → OnOk result.1 (HasServed (D.seen disk) (D.may_leave result.0) (G.holds reg.old) (G.holds reg.new) id (known_in config.now) format start (L.peers link.new) turns) }
     ensures stopped { (start : Peers) → L.peers link.old ≡ Some start
         → IfErr result.1 (λ stop. IsNotOpened (D.faults disk) (D.faults result.0) (D.seen disk) (D.seen result.0) (D.may_leave disk) (D.may_leave result.0)
-        (G.faults reg.old) (G.faults reg.new) (G.told reg.old) (G.holds reg.old) (G.damaged reg.old) id format link.old link.new stop
-        ⊎ HasStopped (D.seen disk) (D.may_leave result.0) (G.holds reg.old) id (known_in config.now) format start (L.peers link.new) stop) }
+        (G.faults reg.old) (G.faults reg.new) (G.told reg.old) (G.holds reg.old) (G.holds reg.new) (G.damaged reg.old) id format link.old link.new stop
+        ⊎ HasStopped (D.seen disk) (D.may_leave result.0) (G.holds reg.old) (G.holds reg.new) id (known_in config.now) format start (L.peers link.new) stop) }
     ensures opening { IfErr result.1 (λ stop. IsNotOpened (D.faults disk) (D.faults result.0) (D.seen disk) (D.seen result.0) (D.may_leave disk) (D.may_leave result.0)
-        (G.faults reg.old) (G.faults reg.new) (G.told reg.old) (G.holds reg.old) (G.damaged reg.old) id format link.old link.new stop
+        (G.faults reg.old) (G.faults reg.new) (G.told reg.old) (G.holds reg.old) (G.holds reg.new) (G.damaged reg.old) id format link.old link.new stop
         ⊎ IsServingStop stop) }
     ensures unasked { format ≡ false → reg.new ≡ reg.old }
     ensures formatted { (bytes : List ℕ) → D.seen disk ≡ Some bytes → (IsBlank bytes → ⊥) → reg.new ≡ reg.old }
@@ -69,7 +69,8 @@ fn serve_on<D: Disk, G: Register, L: Link>(
 /// ends after so many turns, whatever the present peer has left to say, or where there is no next peer.
 ///
 /// The node begins in the plain state that its disk stands for, with nothing released. Where the disk is blank and
-/// `format` is asked for, it is formatted first under a generation that the register draws.
+/// `format` is asked for, it is formatted first under a generation that the register draws, and the register holds that
+/// one draw more from then on.
 ///
 /// It refuses before the link is called as `open` does: `Disk`, `Damaged`, `Blank`, `Register`, `GenLimit`, `Full`,
 /// `NoMemory`. Then it stops as `serve_peers` does: `Link`, `BadFrame`, `Disk`, `Full(Store)`, `NoMemory`; what was done
@@ -91,17 +92,17 @@ pub fn serve<D: Disk, G: Register, L: Link>(
     // present one was read to its end: its bytes are the frames that were taken, and then less than one. Afterwards the
     // disk stands for the last plain state.
     ensures served { (start : Peers) → L.peers link.old ≡ Some start
-        → OnOk result (HasServed (D.seen disk.old) (D.may_leave disk.new) (G.holds reg.old) id (known_in config.now) format start (L.peers link.new) turns) }
+        → OnOk result (HasServed (D.seen disk.old) (D.may_leave disk.new) (G.holds reg.old) (G.holds reg.new) id (known_in config.now) format start (L.peers link.new) turns) }
 
     // The same holds of the frames taken before it stopped, and where it stopped there is cause to.
     ensures stopped { (start : Peers) → L.peers link.old ≡ Some start
         → IfErr result (λ stop. IsNotOpened (D.faults disk.old) (D.faults disk.new) (D.seen disk.old) (D.seen disk.new) (D.may_leave disk.old) (D.may_leave disk.new)
-        (G.faults reg.old) (G.faults reg.new) (G.told reg.old) (G.holds reg.old) (G.damaged reg.old) id format link.old link.new stop
-        ⊎ HasStopped (D.seen disk.old) (D.may_leave disk.new) (G.holds reg.old) id (known_in config.now) format start (L.peers link.new) stop) }
+        (G.faults reg.old) (G.faults reg.new) (G.told reg.old) (G.holds reg.old) (G.holds reg.new) (G.damaged reg.old) id format link.old link.new stop
+        ⊎ HasStopped (D.seen disk.old) (D.may_leave disk.new) (G.holds reg.old) (G.holds reg.new) id (known_in config.now) format start (L.peers link.new) stop) }
 
     // Whatever the link tells: what no serving node stops with comes before the link is called, and has its cause.
     ensures opening { IfErr result (λ stop. IsNotOpened (D.faults disk.old) (D.faults disk.new) (D.seen disk.old) (D.seen disk.new) (D.may_leave disk.old) (D.may_leave disk.new)
-        (G.faults reg.old) (G.faults reg.new) (G.told reg.old) (G.holds reg.old) (G.damaged reg.old) id format link.old link.new stop
+        (G.faults reg.old) (G.faults reg.new) (G.told reg.old) (G.holds reg.old) (G.holds reg.new) (G.damaged reg.old) id format link.old link.new stop
         ⊎ IsServingStop stop) }
 
     // Where the peers' bytes are frames, but for a last one that may be cut, and the disk's bytes are a formatted store's

@@ -10,7 +10,7 @@ use Rattle.ld_node.specs.Formats as formats
 use Rattle.ld_node.specs.Node.{plain_of, disk_of, is_blank, place_of}
 use Rattle.ld_serve.specs.Opening.{Draws}
 use Rattle.ld_serve.proofs.Serving.{left_now}
-use Rattle.ld_serve.proofs.Openings.{format_caused, blank_opens, blank_full, left_by_format}
+use Rattle.ld_serve.proofs.Openings.{format_caused, blank_opens, blank_full, left_by_format, draw_or_not}
 use Rattle.ld_serve.proofs.opening.open.Goals as goal
 
 pub returns-in-Err-format-clause-cause : goal.returns-in-Err-format-clause-cause
@@ -41,3 +41,7 @@ returns-in-Err-format-clause-leaves g c =
     c.if-not-format.false blank c.in-Ok.ensures.opens
     (λ ops held. subst (λ (i : ℕ). (bytes : List ℕ) → g.D.Disk.may_leave new bytes → formats.LeftByFormat (plain_of node) (Draws holds i) bytes) id_is
     (left_now g.D.Disk.may_leave g.D.Disk.moment g.D.Disk.left_since g.met.D.Disk.counts_now (disk_of node) new _ (c.in-Err-format.ensures.any_moment ops held))))
+
+pub returns-in-Err-format-clause-draw : goal.returns-in-Err-format-clause-draw
+returns-in-Err-format-clause-draw g c =
+    rw c.format_stop.ensures (λ contents held. draw_or_not _ (g.G.Register.holds c.format.new.reg) contents _ _ c.in-Ok.ensures.node.0 (c.in-Err-format.ensures.held contents held))

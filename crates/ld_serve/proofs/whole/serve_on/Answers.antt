@@ -9,10 +9,10 @@ use Rattle.ld_serve.proofs.Wholes.{told_of, has_served, has_stopped, is_serving,
 use Rattle.ld_serve.proofs.whole.serve_on.Goals as goal
 
 pub returns-in-Err-clause-stopped : goal.returns-in-Err-clause-stopped
-returns-in-Err-clause-stopped g c start is = inl (record { link = refl; cause = c.in-Err.ensures.cause; bytes = c.in-Err.ensures.seen; leaves = c.in-Err.ensures.leaves })
+returns-in-Err-clause-stopped g c start is = inl (record { link = refl; cause = c.in-Err.ensures.cause; bytes = c.in-Err.ensures.seen; leaves = c.in-Err.ensures.leaves; draw = c.in-Err.ensures.draw })
 
 pub returns-in-Err-clause-opening : goal.returns-in-Err-clause-opening
-returns-in-Err-clause-opening g c = inl (record { link = refl; cause = c.in-Err.ensures.cause; bytes = c.in-Err.ensures.seen; leaves = c.in-Err.ensures.leaves })
+returns-in-Err-clause-opening g c = inl (record { link = refl; cause = c.in-Err.ensures.cause; bytes = c.in-Err.ensures.seen; leaves = c.in-Err.ensures.leaves; draw = c.in-Err.ensures.draw })
 
 pub returns-clause-served : goal.returns-clause-served
 returns-clause-served g c start is =
@@ -24,7 +24,7 @@ returns-clause-served g c start is =
     let given = known_in c.args.config.now in
     let left = g.D.Disk.may_leave (disk_of new) in
     let course : (i : ℕ) (known : Known) (released : List (ℕ × ℕ)) → Type 0 = λ i known released. OnOk r (IsServed (after i known) (answers i known) start (the_state (plain_of node) released) peers (state_of new) c.args.turns) in
-    rw c.into_disk.ensures (has_served (g.D.Disk.seen c.args.disk) left (g.G.Register.holds c.args.reg.now) c.args.id given c.args.format r start peers c.args.turns (plain_of node) (state_of new) c.in-Ok.ensures.opens
+    rw c.into_disk.ensures (has_served (g.D.Disk.seen c.args.disk) left (g.G.Register.holds c.args.reg.now) _ c.args.id given c.args.format r start peers c.args.turns (plain_of node) (state_of new) c.in-Ok.ensures.opens
     (subst (λ i. course i given []) opened.0 (subst (λ known. course (id_of node) known []) opened.1 (subst (λ released. course (id_of node) (known_of node) released) opened.2 (c.serve_peers-served.ensures.served start is))))
     (stands_whole (g.D.Disk.seen c.args.disk) r (IsHeld g.D.Disk.seen g.D.Disk.may_leave node) (IsHeld g.D.Disk.seen g.D.Disk.may_leave new) left _ c.in-Ok.ensures.holds (λ held. c.serve_peers-served.ensures.holds held.0 held.1)
     (λ held. stand g.D.Disk.seen g.D.Disk.may_leave new (plain_of new) refl held)))
@@ -40,7 +40,7 @@ returns-clause-stopped g c start is =
     let left = g.D.Disk.may_leave (disk_of new) in
     let held = IsHeld g.D.Disk.seen g.D.Disk.may_leave node in
     let course : (i : ℕ) (known : Known) (released : List (ℕ × ℕ)) → Type 0 = λ i known released. IfErr r (λ stop. IsStopped (after i known) (answers i known) (IsCut i known held left stop) start (the_state (plain_of node) released) peers (state_of new)) in
-    rw c.into_disk.ensures (has_stopped (g.D.Disk.seen c.args.disk) left (g.G.Register.holds c.args.reg.now) c.args.id given c.args.format r start peers (plain_of node) (state_of new) held _ c.in-Ok.ensures.opens
+    rw c.into_disk.ensures (has_stopped (g.D.Disk.seen c.args.disk) left (g.G.Register.holds c.args.reg.now) _ c.args.id given c.args.format r start peers (plain_of node) (state_of new) held _ c.in-Ok.ensures.opens
     (told_of (g.D.Disk.seen c.args.disk) held c.in-Ok.ensures.holds)
     (subst (λ i. course i given []) opened.0 (subst (λ known. course (id_of node) known []) opened.1 (subst (λ released. course (id_of node) (known_of node) released) opened.2 (c.serve_peers-served.ensures.stopped start is)))))
 
