@@ -26,13 +26,13 @@ pub(crate) fn served<D: Disk, G: Register, L: Link>(
     link: &mut L,
 ) -> Status
     ensures served { (start : Peers) → L.peers link.old ≡ Some start
-        → EndsServing (HasServed (D.seen disk.old) (D.may_leave disk.new) (G.holds reg.old) node.now.id (known_in node.now.config) node.now.format start (L.peers link.new) node.now.turns)
+        → EndsServing (HasServed (D.seen disk.old) (D.may_leave disk.new) (G.holds reg.old) (G.holds reg.new) node.now.id (known_in node.now.config) node.now.format start (L.peers link.new) node.now.turns)
         (λ stop. IsNotOpened (D.faults disk.old) (D.faults disk.new) (D.seen disk.old) (D.seen disk.new) (D.may_leave disk.old) (D.may_leave disk.new)
-        (G.faults reg.old) (G.faults reg.new) (G.told reg.old) (G.holds reg.old) (G.damaged reg.old) node.now.id node.now.format link.old link.new stop
-        ⊎ HasStopped (D.seen disk.old) (D.may_leave disk.new) (G.holds reg.old) node.now.id (known_in node.now.config) node.now.format start (L.peers link.new) stop) result }
+        (G.faults reg.old) (G.faults reg.new) (G.told reg.old) (G.holds reg.old) (G.holds reg.new) (G.damaged reg.old) node.now.id node.now.format link.old link.new stop
+        ⊎ HasStopped (D.seen disk.old) (D.may_leave disk.new) (G.holds reg.old) (G.holds reg.new) node.now.id (known_in node.now.config) node.now.format start (L.peers link.new) stop) result }
     ensures opening { EndsServing ⊤
         (λ stop. IsNotOpened (D.faults disk.old) (D.faults disk.new) (D.seen disk.old) (D.seen disk.new) (D.may_leave disk.old) (D.may_leave disk.new)
-        (G.faults reg.old) (G.faults reg.new) (G.told reg.old) (G.holds reg.old) (G.damaged reg.old) node.now.id node.now.format link.old link.new stop
+        (G.faults reg.old) (G.faults reg.new) (G.told reg.old) (G.holds reg.old) (G.holds reg.new) (G.damaged reg.old) node.now.id node.now.format link.old link.new stop
         ⊎ IsServingStop stop) result }
     ensures complete { (start : Peers) (bytes : List ℕ) → L.peers link.old ≡ Some start → AreSpoken start.coming → D.seen disk.old ≡ Some bytes
         → MayOpen (G.told reg.old) (G.damaged reg.old) node.now.format bytes → EndsServing ⊤ IsFaultOrLimit result }

@@ -70,16 +70,16 @@ pub fn run<I: Source, O: Sink, D: Disk, G: Register, L: Link, N: Nodes>(
     ensures exercised { (seed events : ℕ) → Asks (map string_bytes words.now) (Exercise seed events) → EndsExercise seed events (O.written out.old) (O.written out.new) result }
 
     // `node`: it was opened and has served its turns; or it was opened, and stopped while it served; or it wasn't opened.
-    // Each stop has its cause.
+    // Each stop has its cause. Where it was formatted, also where it stopped then, the register holds that one draw more.
     ensures served { (n : Wanted) (start : Peers) → Asks (map string_bytes words.now) (Serve n) → L.peers link.old ≡ Some start
-        → EndsServing (HasServed (D.seen disk.old) (D.may_leave disk.new) (G.holds reg.old) n.id (known_in n.config) n.format start (L.peers link.new) n.turns)
+        → EndsServing (HasServed (D.seen disk.old) (D.may_leave disk.new) (G.holds reg.old) (G.holds reg.new) n.id (known_in n.config) n.format start (L.peers link.new) n.turns)
         (λ stop. IsNotOpened (D.faults disk.old) (D.faults disk.new) (D.seen disk.old) (D.seen disk.new) (D.may_leave disk.old) (D.may_leave disk.new)
-        (G.faults reg.old) (G.faults reg.new) (G.told reg.old) (G.holds reg.old) (G.damaged reg.old) n.id n.format link.old link.new stop
-        ⊎ HasStopped (D.seen disk.old) (D.may_leave disk.new) (G.holds reg.old) n.id (known_in n.config) n.format start (L.peers link.new) stop) result }
+        (G.faults reg.old) (G.faults reg.new) (G.told reg.old) (G.holds reg.old) (G.holds reg.new) (G.damaged reg.old) n.id n.format link.old link.new stop
+        ⊎ HasStopped (D.seen disk.old) (D.may_leave disk.new) (G.holds reg.old) (G.holds reg.new) n.id (known_in n.config) n.format start (L.peers link.new) stop) result }
     // Whatever the link tells: what no serving node stops with comes before the link is called, and has its cause.
     ensures opening { (n : Wanted) → Asks (map string_bytes words.now) (Serve n) → EndsServing ⊤
         (λ stop. IsNotOpened (D.faults disk.old) (D.faults disk.new) (D.seen disk.old) (D.seen disk.new) (D.may_leave disk.old) (D.may_leave disk.new)
-        (G.faults reg.old) (G.faults reg.new) (G.told reg.old) (G.holds reg.old) (G.damaged reg.old) n.id n.format link.old link.new stop
+        (G.faults reg.old) (G.faults reg.new) (G.told reg.old) (G.holds reg.old) (G.holds reg.new) (G.damaged reg.old) n.id n.format link.old link.new stop
         ⊎ IsServingStop stop) result }
     // Where the peers' bytes are frames, but for a last one that may be cut, and the disk's bytes are a formatted store's
     // journal, or are blank, to be formatted, beside a register that isn't damaged: it serves its turns, unless one of the
@@ -162,13 +162,13 @@ fn carry_out<I: Source, O: Sink, D: Disk, G: Register, L: Link, N: Nodes>(
     ensures complete { command ≡ Replay → IfSome (I.left input.old) (λ bytes. IsSchedule bytes → Completes (Rose (I.faults input.old) (I.faults input.new)) (Rose (O.faults out.old) (O.faults out.new)) result) }
     ensures exercised { (seed events : ℕ) → command ≡ Exercise seed events → EndsExercise seed events (O.written out.old) (O.written out.new) result }
     ensures served { (n : Wanted) (start : Peers) → command ≡ Serve n → L.peers link.old ≡ Some start
-        → EndsServing (HasServed (D.seen disk.old) (D.may_leave disk.new) (G.holds reg.old) n.id (known_in n.config) n.format start (L.peers link.new) n.turns)
+        → EndsServing (HasServed (D.seen disk.old) (D.may_leave disk.new) (G.holds reg.old) (G.holds reg.new) n.id (known_in n.config) n.format start (L.peers link.new) n.turns)
         (λ stop. IsNotOpened (D.faults disk.old) (D.faults disk.new) (D.seen disk.old) (D.seen disk.new) (D.may_leave disk.old) (D.may_leave disk.new)
-        (G.faults reg.old) (G.faults reg.new) (G.told reg.old) (G.holds reg.old) (G.damaged reg.old) n.id n.format link.old link.new stop
-        ⊎ HasStopped (D.seen disk.old) (D.may_leave disk.new) (G.holds reg.old) n.id (known_in n.config) n.format start (L.peers link.new) stop) result }
+        (G.faults reg.old) (G.faults reg.new) (G.told reg.old) (G.holds reg.old) (G.holds reg.new) (G.damaged reg.old) n.id n.format link.old link.new stop
+        ⊎ HasStopped (D.seen disk.old) (D.may_leave disk.new) (G.holds reg.old) (G.holds reg.new) n.id (known_in n.config) n.format start (L.peers link.new) stop) result }
     ensures opening { (n : Wanted) → command ≡ Serve n → EndsServing ⊤
         (λ stop. IsNotOpened (D.faults disk.old) (D.faults disk.new) (D.seen disk.old) (D.seen disk.new) (D.may_leave disk.old) (D.may_leave disk.new)
-        (G.faults reg.old) (G.faults reg.new) (G.told reg.old) (G.holds reg.old) (G.damaged reg.old) n.id n.format link.old link.new stop
+        (G.faults reg.old) (G.faults reg.new) (G.told reg.old) (G.holds reg.old) (G.holds reg.new) (G.damaged reg.old) n.id n.format link.old link.new stop
         ⊎ IsServingStop stop) result }
     ensures complete_node { (n : Wanted) (start : Peers) (bytes : List ℕ) → command ≡ Serve n → L.peers link.old ≡ Some start → AreSpoken start.coming
         → D.seen disk.old ≡ Some bytes → MayOpen (G.told reg.old) (G.damaged reg.old) n.format bytes → EndsServing ⊤ IsFaultOrLimit result }
