@@ -5,6 +5,7 @@ mod asked;
 mod asks;
 mod course;
 mod fault;
+mod following;
 mod item;
 mod laws;
 mod place;
