@@ -27,17 +27,17 @@ use Rattle.ld_rounds.specs.Telling.{HasTold, IsTelling}
 use Rattle.ld_rounds.specs.Rounds as rounds
 use Rattle.ld_rounds.specs.Rounds.{IsOne, IsBegun, AppendsUntil, taken_of}
 use Rattle.ld_rounds.specs.Taking.{TookAppends}
-use Rattle.ld_rounds.specs.Drives.{Holds, Went, Stops, GoesOn}
+use Rattle.ld_rounds.specs.Drives.{Driver, AllTaken, Holds, Went, Stops, GoesOn}
 use Rattle.ld_rounds.specs.Reaching.{Begins, Reached}
 use Rattle.ld_append.specs.Acting.{Serves, settled_in}
-use Rattle.ld_append.specs.Appends.{HasNone, IsSettled, AreSteps, EndAt, IsAppended, DroveAppend, taken_end, IsStartEnding, IsDriveEnding}
+use Rattle.ld_append.specs.Appends.{HasNone, sequencing, IsSettled, AreSteps, EndAt, IsAppended, DroveAppend, taken_end, IsStartEnding, IsDriveEnding}
 use Rattle.ld_append.proofs.Serving.{know_none, found_only, live_client}
 use Rattle.ld_append.proofs.Ending.{start_partly}
 use Rattle.ld_rounds.proofs.News.{no_news}
 use Rattle.ld_rounds.proofs.Steps.{activate_is, goes_if}
 use Rattle.ld_rounds.proofs.Joining.{splits_join, feeds_none, feeds_until}
 use Rattle.ld_rounds.proofs.Driving.{acted_on}
-use Rattle.ld_rounds.proofs.Going.{cut_by, goes_told, goes_as, goes_such, went_on, went_stops, went_such}
+use Rattle.ld_rounds.proofs.Going.{NoFrame, cut_by, goes_told, goes_as, goes_such, went_on, went_stops, went_such}
 
 pub serves_apart : (name : List ℕ) (o : Option Whole) (T : Register → Type 0) (c : Config) (s : State) (nodes : List (ℕ × Node)) (network : Network) → Serves name o T c s → Serves name o T c (record s { nodes = nodes; network = network })
 serves_apart name o T c s nodes network h = record { sequencers = record { sequencers = h.sequencers.sequencers; logs = h.sequencers.logs }; whole = h.whole; register = h.register }
@@ -51,31 +51,30 @@ begun name T c s far h = record {
   news = subst (λ answers. AreNews s.network.count s.network no_queues answers) (sym h.answers) (no_news s.network h.sent);
 }
 
-module _ (name : List ℕ) (broken : Type 0) (c : Config) (b : IsInBounds c) (first : ℕ) (own : List ℕ) (o p : Option Whole) (T U : Register → Type 0) (s : State) (far : Far) (qs now : List (List Msg)) (old new : Option (List ℕ)) (heard : Heard) where
-  pub started_on : Holds (Serves name o T) c first s far qs → (r : Result (Unit {0}) Ended) → MatchResult r (λ u. HasTold heard qs now old new) (IsTelling heard qs now old new) → (l : ℕ)
-      → IsActed (Serves own p U c) s heard.lines.items heard.sends (happens c s (events.Activate name l))
-      → GoesOn name broken (IsOne (events.Activate name l)) (λ e. IsBegun (events.Activate name l)) (Serves own p U) (λ f. f ≡ far) c first s now old new r
-  started_on h r t l a = goes_told name broken c first b (IsOne (events.Activate name l)) (λ e. IsBegun (events.Activate name l)) (Serves own p U) s far qs now old new heard
-      (acted_on name broken c first b (Serves name o T) (serves_apart name o T) (IsOne (events.Activate name l)) (Serves own p U) (serves_apart own p U) s far qs (events.Activate name l) heard.lines.items heard.sends refl refl tt (activate_is c s name l) h a) (λ e es x. inr x) r t
+module _ (who : Driver) (broken : Type 0) (c : Config) (b : IsInBounds c) (first : ℕ) (name own : List ℕ) (o p : Option Whole) (T U : Register → Type 0) (s : State) (far : Far) (qs now : List (List Msg)) (old new : Option (List ℕ)) (heard : Heard) where
+  pub started_on : Holds (Serves name o T) c first s far qs → NoFrame heard.end → (r : Result (Unit {0}) Ended) → MatchResult r (λ u. HasTold heard qs now old new) (IsTelling heard qs now old new) → (l : ℕ)
+      → IsActed (Serves own p U c) s heard.lines.items heard.sends (happens c s (events.Activate who.name l))
+      → GoesOn who broken (IsOne (events.Activate who.name l)) (λ e. IsBegun (events.Activate who.name l)) (Serves own p U) (λ f. f ≡ far) c first s now old new r
+  started_on h n r t l a = goes_told who broken c first b (IsOne (events.Activate who.name l)) (λ e. IsBegun (events.Activate who.name l)) (Serves own p U) s far qs now old new heard
+      (acted_on who broken c first b (Serves name o T) (serves_apart name o T) (IsOne (events.Activate who.name l)) (Serves own p U) (serves_apart own p U) s far qs (events.Activate who.name l) heard.lines.items heard.sends refl refl tt (activate_is c s who.name l) h a) (λ e es x. inr x) r n t
 
 -- the same under the name of the drive, where the nodes are told of
 pub start_as : (own name : List ℕ) (l : ℕ) (broken : Type 0) (c : Config) (b : IsInBounds c) (first : ℕ) (A : Config → State → Type 0) (far : Far) (T : Far → Type 0) (s : State) (qs : List (List Msg)) (old new : Option (List ℕ)) → own ≡ name → T far → (r : Result (Unit {0}) Ended)
-    → GoesOn own ⊥ (IsOne (events.Activate own l)) (λ e. IsBegun (events.Activate own l)) A (λ f. f ≡ far) c first s qs old new r → GoesOn name broken (IsOne (events.Activate name l)) (λ e. IsBegun (events.Activate name l)) A T c first s qs old new r
+    → GoesOn (sequencing own) ⊥ (IsOne (events.Activate own l)) (λ e. IsBegun (events.Activate own l)) A (λ f. f ≡ far) c first s qs old new r → GoesOn (sequencing name) broken (IsOne (events.Activate name l)) (λ e. IsBegun (events.Activate name l)) A T c first s qs old new r
 start_as own name l broken c b first A far T s qs old new n told r g =
-    goes_as name broken c first b (IsOne (events.Activate name l)) (λ e. IsBegun (events.Activate name l)) ⊥ A (λ f. f ≡ far) T s qs old new r (λ l. absurd l) (λ f e. subst T (sym e) told)
-    (subst (λ (m : List ℕ). GoesOn m ⊥ (IsOne (events.Activate m l)) (λ e. IsBegun (events.Activate m l)) A (λ f. f ≡ far) c first s qs old new r) n g)
+    goes_as (sequencing name) broken c first b (IsOne (events.Activate name l)) (λ e. IsBegun (events.Activate name l)) ⊥ A (λ f. f ≡ far) T s qs old new r (λ l. absurd l) (λ f e. subst T (sym e) told)
+    (subst (λ (m : List ℕ). GoesOn (sequencing m) ⊥ (IsOne (events.Activate m l)) (λ e. IsBegun (events.Activate m l)) A (λ f. f ≡ far) c first s qs old new r) n g)
 
 -- ---- the end ----
 
-settled_one : (c : Config) (first : ℕ) (own : List ℕ) (o : Option Whole) (T : Register → Type 0) (t : State) (queues : List (List Msg)) (answers : List Msg) → Serves own o T c t → settled_in o ≡ true → AreNews first t.network queues answers → are_empty queues ≡ true → IsSettled own c first t
-settled_one c first own None T t queues answers h f n e = absurd cc
-settled_one c first own (Some w) T t queues answers h f n e = record {
+settled_one : (c : Config) (first : ℕ) (own : List ℕ) (o : Option Whole) (T : Register → Type 0) (t : State) (queues : List (List Msg)) → Serves own o T c t → settled_in o ≡ true → AreNews first t.network queues [] → are_empty queues ≡ true → IsSettled own c first t
+settled_one c first own None T t queues h f n e = absurd cc
+settled_one c first own (Some w) T t queues h f n e = record {
   sequencer = w;
   there = h.sequencers.sequencers;
   known = (h.sequencers.logs own (live_client w) (found_only own (live_client w))).first;
   settled = f;
   queues = queues;
-  answers = answers;
   news = n;
   empty = e;
 }
@@ -89,14 +88,14 @@ module _ (name : List ℕ) (l : ℕ) (broken : Type 0) (coming : Option Input) (
   abbrev at : Ended → State → List Event → Type 0
   at e = EndAt name l c s.network.count coming most e
 
-  reached : (P : State → List Event → Type 0) (Q : State → Type 0) → (w : Went name broken P (Serves own o U) (tells c) c s.network.count s qs old new) → Q w.moved.state → Reached name broken P (tells c) c s old new Q
-  reached P Q w q = record { state = w.moved.state; far = w.far; lines = w.lines; told = w.told; nodes = w.moved.holds.nodes; goes = w.moved.goes; written = w.written; such = q }
+  reached : (P : State → List Event → Type 0) (Q : State → Type 0) → (w : Went (sequencing name) broken P (Serves own o U) (AllTaken (tells c)) c s.network.count s qs old new) → Q w.moved.state → Reached (sequencing name) broken P (tells c) c s old new Q
+  reached P Q w q = record { state = w.moved.state; far = w.far; lines = w.lines; told = w.told.0; nodes = w.moved.holds.nodes; goes = w.moved.goes; written = w.written; such = q }
 
-  ended_so : (e : Ended) → Went name broken (at e) (Serves own o U) (tells c) c s.network.count s qs old new → Reached name broken (at e) (tells c) c s old new (λ t. U t.register)
+  ended_so : (e : Ended) → Went (sequencing name) broken (at e) (Serves own o U) (AllTaken (tells c)) c s.network.count s qs old new → Reached (sequencing name) broken (at e) (tells c) c s old new (λ t. U t.register)
   ended_so e w = reached (at e) (λ t. U t.register) w w.moved.holds.actor.register
 
   -- it has ended before all rounds were taken
-  stopped_by : (crowded : Type 0) (damaged : ℕ → Type 0) (i : Option Input) (e : Ended) (p q k m : ℕ) → IsDriveEnding crowded damaged i p q k m old new e → Stops name broken at (Serves own o U) (tells c) c s.network.count s qs old new e → IsAppended name l broken coming most tells U c s old new e
+  stopped_by : (crowded : Type 0) (damaged : ℕ → Type 0) (i : Option Input) (e : Ended) (p q k m : ℕ) → IsDriveEnding crowded damaged i p q k m old new e → Stops (sequencing name) broken at (Serves own o U) (AllTaken (tells c)) c s.network.count s qs old new e → IsAppended name l broken coming most tells U c s old new e
   stopped_by crowded damaged i ends.NoMemory p q k m h g = g
   stopped_by crowded damaged i ends.Write p q k m h g = g
   stopped_by crowded damaged i ends.Done p q k m (inl h) g = absurd h.said
@@ -106,40 +105,40 @@ module _ (name : List ℕ) (l : ℕ) (broken : Type 0) (coming : Option Input) (
   stopped_by crowded damaged i (ends.Preempted by) p q k m h g = ended_so (ends.Preempted by) g
   stopped_by crowded damaged i ends.LogLimit p q k m h g =
       reached (λ t es. AreSteps name l c s.network.count coming ends.Rounds most t es ⊎ at ends.LogLimit t es) (λ t. U t.register)
-      (went_such name broken c s.network.count b broken (at ends.LogLimit) (λ t es. AreSteps name l c s.network.count coming ends.Rounds most t es ⊎ at ends.LogLimit t es) (Serves own o U) (tells c) (tells c) s qs old new (λ x. x) (λ f t. t) g (λ es e x. inr x)) g.moved.holds.actor.register
+      (went_such (sequencing name) broken c s.network.count b broken (at ends.LogLimit) (λ t es. AreSteps name l c s.network.count coming ends.Rounds most t es ⊎ at ends.LogLimit t es) (Serves own o U) (AllTaken (tells c)) (AllTaken (tells c)) s qs old new (λ x. x) (λ f t. t) g (λ es e x. inr x)) g.moved.holds.actor.register
   stopped_by crowded damaged i ends.EpochLimit p q k m h g = ended_so ends.EpochLimit g
   stopped_by crowded damaged i ends.EpochFull p q k m h g = ended_so ends.EpochFull g
   stopped_by crowded damaged i (ends.Register fault) p q k m h g = ended_so (ends.Register fault) g
-  stopped_by crowded damaged i (ends.BadFrame fault) p q k m h g = ended_so (ends.BadFrame fault) g
+  stopped_by crowded damaged i (ends.BadFrame fault) p q k m h g = g
   stopped_by crowded damaged i (ends.BadLine line place) p q k m h g = ended_so (ends.BadLine line place) g
   stopped_by crowded damaged i ends.Read p q k m h g = ended_so ends.Read g
 
   -- at the activation
-  pub stopped_append : (crowded : Type 0) (damaged : ℕ → Type 0) (i : Option Input) (e : Ended) (p q k m : ℕ) → IsStartEnding crowded damaged k m old new e → Stops name broken (λ f. IsBegun (events.Activate name l)) (Serves own o U) (tells c) c s.network.count s qs old new e
+  pub stopped_append : (crowded : Type 0) (damaged : ℕ → Type 0) (i : Option Input) (e : Ended) (p q k m : ℕ) → IsStartEnding crowded damaged k m old new e → Stops (sequencing name) broken (λ f. IsBegun (events.Activate name l)) (Serves own o U) (AllTaken (tells c)) c s.network.count s qs old new e
       → IsAppended name l broken coming most tells U c s old new e
   stopped_append crowded damaged i e p q k m h g = stopped_by crowded damaged i e p q k m (inl h)
-      (goes_such name broken c s.network.count b {R = Unit {0}} (IsBegun (events.Activate name l)) (IsBegun (events.Activate name l)) (λ f. IsBegun (events.Activate name l)) at broken (Serves own o U) (tells c) (tells c) s qs old new (Err e) (λ x. x) (λ f t. t)
+      (goes_such (sequencing name) broken c s.network.count b {R = Unit {0}} (IsBegun (events.Activate name l)) (IsBegun (events.Activate name l)) (λ f. IsBegun (events.Activate name l)) at broken (Serves own o U) (AllTaken (tells c)) (AllTaken (tells c)) s qs old new (Err e) (λ x. x) (λ f t. t)
       (λ es x. x) (λ es x. inl (x, feeds_until c coming coming e s es (start_partly crowded damaged k m old new e h) (feeds_none c coming s es (activate_takes c name l s es x)))) g)
 
-  module _ (A : Config → State → Type 0) (T : Far → Type 0) (rs : List (List Msg)) (mid : Option (List ℕ)) (crowded : Type 0) (damaged : ℕ → Type 0) (i : Option Input) (p q k m : ℕ) (w : Went name broken (IsOne (events.Activate name l)) A T c s.network.count s rs old mid) where
-    since : (e : Ended) (n : ℕ) → Went name broken (rounds.Appends name c s.network.count (members c.nodes) coming e n) (Serves own o U) (tells c) c s.network.count w.moved.state qs mid new → Went name broken (AreSteps name l c s.network.count coming e n) (Serves own o U) (tells c) c s.network.count s qs old new
-    since e n g = went_on name broken c s.network.count b (IsOne (events.Activate name l)) (rounds.Appends name c s.network.count (members c.nodes) coming e n) (AreSteps name l c s.network.count coming e n) A (Serves own o U) T (tells c) s rs qs old mid new
+  module _ (A : Config → State → Type 0) (T : Far → Type 0) (rs : List (List Msg)) (mid : Option (List ℕ)) (crowded : Type 0) (damaged : ℕ → Type 0) (i : Option Input) (p q k m : ℕ) (w : Went (sequencing name) broken (IsOne (events.Activate name l)) A T c s.network.count s rs old mid) where
+    since : (e : Ended) (n : ℕ) → Went (sequencing name) broken (rounds.Appends name c s.network.count (members c.nodes) coming e n) (Serves own o U) (AllTaken (tells c)) c s.network.count w.moved.state qs mid new → Went (sequencing name) broken (AreSteps name l c s.network.count coming e n) (Serves own o U) (AllTaken (tells c)) c s.network.count s qs old new
+    since e n g = went_on (sequencing name) broken c s.network.count b (IsOne (events.Activate name l)) (rounds.Appends name c s.network.count (members c.nodes) coming e n) (AreSteps name l c s.network.count coming e n) A (Serves own o U) T (AllTaken (tells c)) s rs qs old mid new
         (splits_join c (IsOne (events.Activate name l)) (rounds.Appends name c s.network.count (members c.nodes) coming e n)) w g
 
-    stops_since : (e : Ended) (n : ℕ) → n < most → Stops name broken (λ f. AppendsUntil name c s.network.count (members c.nodes) coming f n) (Serves own o U) (tells c) c s.network.count w.moved.state qs mid new e → Stops name broken at (Serves own o U) (tells c) c s.network.count s qs old new e
+    stops_since : (e : Ended) (n : ℕ) → n < most → Stops (sequencing name) broken (λ f. AppendsUntil name c s.network.count (members c.nodes) coming f n) (Serves own o U) (AllTaken (tells c)) c s.network.count w.moved.state qs mid new e → Stops (sequencing name) broken at (Serves own o U) (AllTaken (tells c)) c s.network.count s qs old new e
     stops_since e n f g =
         let P = IsOne (events.Activate name l) in
         let Q = AppendsUntil name c s.network.count (members c.nodes) coming e n in
         let j = λ (t : State) (es fs : List Event) (x : P t es) (y : Q (state_after c t es) fs). inr (record { rounds = n; below = f; goes = splits_join c P Q t es fs x y }) in
-        cut_by e (went_stops name broken c s.network.count b P Q (at e) A T s rs old mid new j w) (went_on name broken c s.network.count b P Q (at e) A (Serves own o U) T (tells c) s rs qs old mid new j w) g
+        cut_by e (went_stops (sequencing name) broken c s.network.count b P Q (at e) A T s rs old mid new j w) (went_on (sequencing name) broken c s.network.count b P Q (at e) A (Serves own o U) T (AllTaken (tells c)) s rs qs old mid new j w) g
 
     -- the sequencer is active, and driven
     drove : (r : Result Bool Ended) → IfOk r (λ done. done ≡ true → (settled_in o ≡ true) × (are_empty qs ≡ true)) → IfErr r (IsDriveEnding crowded damaged i p q k m old new)
-        → TookAppends name broken (members c.nodes) coming most (Serves own o U) (tells c) c s.network.count w.moved.state qs mid new r → DroveAppend name l broken coming most tells U c s old new r
+        → TookAppends (sequencing name) broken (members c.nodes) coming most (Serves own o U) (AllTaken (tells c)) c s.network.count w.moved.state qs mid new r → DroveAppend name l broken coming most tells U c s old new r
     drove (Ok false) f h g = let v = since ends.Rounds most g in reached (AreSteps name l c s.network.count coming ends.Rounds most) (λ t. U t.register) v v.moved.holds.actor.register
     drove (Ok true) f h g =
         let v = since ends.Done g.rounds g.goes in
-        let settled = settled_one c s.network.count own o U v.moved.state qs v.far.answers v.moved.holds.actor (f refl).0 v.moved.holds.news (f refl).1 in
+        let settled = settled_one c s.network.count own o U v.moved.state qs v.moved.holds.actor (f refl).0 (subst (λ answers. AreNews s.network.count v.moved.state.network qs answers) v.told.1 v.moved.holds.news) (f refl).1 in
         record {
           rounds = g.rounds;
           least = g.least;
@@ -151,7 +150,7 @@ module _ (name : List ℕ) (l : ℕ) (broken : Type 0) (coming : Option Input) (
 
     -- where it isn't silent
     pub drove_loud : (Y : Type 0) (r : Result Bool Ended) → IfOk r (λ done. done ≡ true → (settled_in o ≡ true) × (are_empty qs ≡ true)) → IfErr r (IsDriveEnding crowded damaged i p q k m old new)
-        → Y ⊎ TookAppends name broken (members c.nodes) coming most (Serves own o U) (tells c) c s.network.count w.moved.state qs mid new r → Y ⊎ DroveAppend name l broken coming most tells U c s old new r
+        → Y ⊎ TookAppends (sequencing name) broken (members c.nodes) coming most (Serves own o U) (AllTaken (tells c)) c s.network.count w.moved.state qs mid new r → Y ⊎ DroveAppend name l broken coming most tells U c s old new r
     drove_loud Y r f h (inl y) = inl y
     drove_loud Y r f h (inr g) = inr (drove r f h g)
 
@@ -165,7 +164,7 @@ rounds_end name l broken coming most tells U c b s old new true g = record {
   lines = g.lines;
   told = g.told;
   nodes = g.nodes;
-  goes = goes_if name broken c broken (AreSteps name l c s.network.count coming ends.Rounds most) (λ t es. AreSteps name l c s.network.count coming ends.Rounds most t es ⊎ EndAt name l c s.network.count coming most ends.LogLimit t es) s g.state g.lines (λ x. x) (λ es e x. inl x) g.goes;
+  goes = goes_if (sequencing name) broken c broken (AreSteps name l c s.network.count coming ends.Rounds most) (λ t es. AreSteps name l c s.network.count coming ends.Rounds most t es ⊎ EndAt name l c s.network.count coming most ends.LogLimit t es) s g.state g.lines (λ x. x) (λ es e x. inl x) g.goes;
   written = g.written;
   such = g.such;
 }

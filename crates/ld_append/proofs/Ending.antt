@@ -1,5 +1,5 @@
 -- How the drive of a sequencer ends.
-use Rattle.std.proofs.Common.{◌≡◌, ◌⊎◌, inl, inr, ℕ, Bool, true, false, List, [], Option, Some, Ok, Err, refl, ap, ◌∙◌, subst, arith, IfErr, IfSome}
+use Rattle.std.proofs.Common.{◌≡◌, ◌⊎◌, inl, inr, ℕ, Bool, true, false, List, [], Option, None, Some, Ok, Err, refl, ap, ◌∙◌, subst, arith, IfErr, IfSome}
 use Rattle.std.specs.Prelude.{MatchResult}
 use Rattle.std.specs.declared.result.Result.{Result}
 use Rattle.std.specs.Io.KnownBytes.{Appends}
@@ -16,6 +16,7 @@ use Rattle.ld_rounds.specs.Feeding.{IsAppendEnding}
 use Rattle.ld_rounds.specs.Output.{WritesFault}
 use Rattle.ld_rounds.specs.Telling.{HasTold, IsTelling}
 use Rattle.ld_rounds.proofs.Endings.{ending_said}
+use Rattle.ld_rounds.proofs.Going.{NoFrame}
 use Rattle.ld_rounds.proofs.Feeding.{append_since, same_here}
 use Rattle.ld_rounds.proofs.Joining.{IsPartly}
 use Rattle.ld_append.specs.Refusing.{IsStartTold}
@@ -102,6 +103,15 @@ module _ (crowded : Type 0) (damaged : ℕ → Type 0) (i : Option Input) (p q k
   pub rounds_cause : {R : Type 0} (n : ℕ) (b : Option (List ℕ)) (r : Result R Ended) → IsLater k n a b → IfErr r (IsAppendEnding i p q n m b c) → IfErr r (IsDriveEnding crowded damaged i p q k m a c)
   rounds_cause n b (Ok v) l h = tt
   rounds_cause n b (Err e) l h = inr (append_since i i p p q k n m a b c e (same_here i) (omega arith) l h)
+
+-- a refused activation is no frame that is off
+told_unframed : (ls : List Line) (e : Ended) → IsStartTold ls e → NoFrame (Some e)
+told_unframed ls (ends.BadFrame fault) t = t
+told_unframed ls e t = tt
+
+pub start_unframed : (ls : List Line) (o : Option Ended) → IfSome o (IsStartTold ls) → NoFrame o
+start_unframed ls None t = tt
+start_unframed ls (Some e) t = told_unframed ls e t
 
 -- a drive that ends at the activation is neither done nor at a line that is off
 pub start_partly : (crowded : Type 0) (damaged : ℕ → Type 0) (before now : ℕ) (old new : Option (List ℕ)) (e : Ended) → IsStartEnding crowded damaged before now old new e → IsPartly e

@@ -1,5 +1,5 @@
 -- What each call of a sequencer that is driven does to a state that has it alone.
-use Rattle.std.proofs.Common.{◌==◌, arith, option_map, ◌≡◌, ◌≢◌, ◌⊎◌, inl, inr, ℕ, Bool, true, false, not, cond, List, [], ◌∷◌, Option, Some, None, Ok, Err, IfOk, IfErr, IsErrOf, is_some, length, refl, ap, sym, ◌∙◌, subst, if◌then◌else◌}
+use Rattle.std.proofs.Common.{◌==◌, ◌&&◌, arith, option_map, ◌≡◌, ◌≢◌, ◌⊎◌, inl, inr, ℕ, Bool, true, false, not, cond, List, [], ◌∷◌, Option, Some, None, Ok, Err, IfOk, IfErr, IsErrOf, is_some, length, refl, ap, sym, ◌∙◌, subst, if◌then◌else◌}
 use Rattle.std.specs.List.{AllByRecursion}
 use Rattle.std.specs.Cmp.Lexicographic.{pointwise}
 use Rattle.std.specs.declared.result.Result.{Result}
@@ -29,7 +29,7 @@ use Rattle.ld_clients.proofs.Names.{all_put, all_none}
 use Rattle.ld_rounds.specs.News.{is_answer}
 use Rattle.ld_rounds.specs.Drives.{own_lines}
 use Rattle.ld_rounds.specs.Acts.{IsActed}
-use Rattle.ld_append.specs.Acting.{clients, MayBeWhole, Serves, IsSpecOf, IsUnset}
+use Rattle.ld_append.specs.Acting.{clients, MayBeWhole, is_to, takes_it, takes, Serves, IsSpecOf, IsUnset}
 use Rattle.ld_rounds.proofs.Clients.{IsClient}
 use Rattle.ld_append.proofs.Clients.{append_client, retry_client, activate_client, reply_client}
 use Rattle.ld_lsn.specs.Number.{numbered}
@@ -157,6 +157,17 @@ append_lines name n (sequencer.Preempted k) fault f = subst (λ x. lines_by name
 append_lines name n sequencer.EpochFull fault f = subst (λ x. lines_by name (Err x) ≡ fault_lines name x) (sym f) refl
 append_lines name n sequencer.WindowFull fault f = subst (λ x. lines_by name (Err x) ≡ fault_lines name x) (sym f) refl
 append_lines name n sequencer.Numbered fault f = subst (λ x. lines_by name (Err x) ≡ fault_lines name x) (sym f) refl
+
+-- ---- what it takes ----
+
+pub takes_none : (c : Config) (s : State) (name : List ℕ) (T : Register → Type 0) (m : Msg) → Serves name None T c s → false ≡ takes name s m
+takes_none c s name T m h = sym (ap (λ o. takes_it o m) (ap (find_named name) h.sequencers.sequencers ∙ find_named-empty name))
+
+pub takes_one : (c : Config) (s : State) (name : List ℕ) (T : Register → Type 0) (w : Whole) (m : Msg) (b : Bool) → Serves name (Some w) T c s → b ≡ (is_to w.sequencer.epoch m.to && (m.log == w.sequencer.spec.log)) → b ≡ takes name s m
+takes_one c s name T w m b h e =
+    let k : Client = live_client w in
+    let found = (named c s (clients name (Some w)) h.sequencers name k (found_only name k)).found in
+    e ∙ (ap (λ n. is_to w.sequencer.epoch m.to && (m.log == n)) (sym h.whole.log) ∙ sym (ap (λ o. takes_it o m) found))
 
 module _ (c : Config) (s : State) (name : List ℕ) (T : Register → Type 0) where
   pub none_appended : (p : List ℕ) (o : Outcome) → Serves name None T c s → o.lines.items ≡ [] → o.sends ≡ [] → IsActed (Serves name None T c) s o.lines.items o.sends (happens c s (events.Append name p))

@@ -1,8 +1,11 @@
 -- A sequencer that is driven, with its register.
-use Rattle.std.specs.Prelude.{ℕ, ◌≡◌, ◌⊎◌, List, [], ◌∷◌, Option, None, Some, Bool, true, false}
+use Rattle.std.specs.Prelude.{ℕ, ◌≡◌, ◌⊎◌, List, [], ◌∷◌, Option, None, Some, Bool, true, false, ◌==◌, ◌&&◌}
 use Rattle.std.proofs.Common.{refl, sym, inl, inr, ⊎_elim, subst, ◌∙◌}
 use Rattle.ld_config.specs.declared.config.Config.{Config}
+use Rattle.ld_table.specs.Named.{find_named}
+use Rattle.ld_msg.specs.declared.msg.Who.{Who}
 use Rattle.ld_msg.specs.declared.msg.Who.TheVariants as whos
+use Rattle.ld_msg.specs.Sequencer.{Sequencer}
 use Rattle.ld_msg.specs.declared.msg.Msg.{Msg}
 use Rattle.ld_msg.specs.Register.{Register, is_crowded}
 use Rattle.ld_ids.specs.declared.set.Spec.{Spec}
@@ -33,6 +36,24 @@ pub record Serves (name : List ℕ) (o : Option Whole) (tells : Register → Typ
 abbrev pub IsTo : Option Whole → Msg → Type 0
 IsTo None m = ⊥
 IsTo (Some w) m = (m.to ≡ whos.Sequencer w.sequencer.epoch) × (m.log ≡ w.sequencer.spec.log)
+
+-- ---- what it takes ----
+
+-- it goes to the sequencer of this epoch
+abbrev pub is_to : ℕ → Who → Bool
+is_to epoch (whos.Sequencer e) = e == epoch
+is_to epoch _ = false
+
+-- this sequencer takes a message that goes to it, by the epoch and the log
+abbrev pub takes_it : Option Sequencer → Msg → Bool
+takes_it None m = false
+takes_it (Some q) m = is_to q.epoch m.to && (m.log == q.log)
+
+-- so does the sequencer of the name, as the state has it
+abbrev pub takes : List ℕ → State → Msg → Bool
+takes name s m = takes_it (find_named name s.sequencers) m
+
+-- ---- what it is activated with ----
 
 -- what the configuration says of a log of its own
 pub record IsSpecOf (c : Config) (spec : Spec) : Type 0 where

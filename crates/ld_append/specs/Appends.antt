@@ -18,13 +18,14 @@ use Rattle.ld_rounds.specs.News.{AreNews}
 use Rattle.ld_rounds.specs.Input.{Input}
 use Rattle.ld_rounds.specs.Rounds as rounds
 use Rattle.ld_rounds.specs.Rounds.{Splits, IsOne, IsBegun, FeedsUntil, Both, AppendsUntil}
-use Rattle.ld_rounds.specs.Drives.{Stopped, Turned}
+use Rattle.ld_rounds.specs.Drives.{Driver, Stopped, Turned}
 use Rattle.ld_rounds.specs.Reaching.{Reached}
 use Rattle.ld_rounds.specs.declared.ended.Refusal.TheVariants as refusals
 use Rattle.ld_rounds.specs.declared.ended.Ended.{Ended}
 use Rattle.ld_rounds.specs.declared.ended.Ended.TheVariants as ends
 use Rattle.ld_rounds.specs.Endings.{IsEnding}
 use Rattle.ld_rounds.specs.Feeding.{IsAppendEnding}
+use Rattle.ld_append.specs.Acting.{takes}
 
 -- at the activation: nothing is written where the register holds as many other logs as may be, or is damaged from that place on
 abbrev pub IsStartEnding : Type 0 → (ℕ → Type 0) → ℕ → ℕ → Option (List ℕ) → Option (List ℕ) → Ended → Type 0
@@ -55,15 +56,14 @@ pub record HasNone (tells : Register → Type 0) (s : State) : Type 0 where
   pub sequencers : s.sequencers ≡ []
   pub register : tells s.register
 
--- its only sequencer is the one of the name: it has each append acknowledged and each epoch before its own closed, and no message to a node that is new from the first place on waits
+-- its only sequencer is the one of the name: it has each append acknowledged and each epoch before its own closed, no message to a node that is new from the first place on waits, and no answer is to be taken
 pub record IsSettled (name : List ℕ) (c : Config) (first : ℕ) (s : State) : Type 0 where
   pub sequencer : Whole
   pub there : s.sequencers ≡ (name, sequencer.sequencer) ∷ []
   pub known : sequencer.origin.first ≡ first_spec c sequencer.sequencer.log
   pub settled : is_settled sequencer ≡ true
   pub queues : List (List Msg)
-  pub answers : List Msg
-  pub news : AreNews first s.network queues answers
+  pub news : AreNews first s.network queues []
   pub empty : are_empty queues ≡ true
 
 -- ---- its steps ----
@@ -82,16 +82,21 @@ pub record AreSome (name : List ℕ) (log : ℕ) (c : Config) (first : ℕ) (com
 abbrev pub EndAt : List ℕ → ℕ → Config → ℕ → Option Input → ℕ → Ended → State → List Event → Type 0
 EndAt name log c first coming most ended s es = Both (IsBegun (Activate name log)) (FeedsUntil c coming ended) s es ⊎ AreSome name log c first coming ended most s es
 
--- by those steps, with these rounds; where it is done its sequencer is settled
+-- the sequencer that is driven
+abbrev pub sequencing : List ℕ → Driver
+sequencing name = record { name = name; takes = takes name }
+
+-- by those steps, with these rounds; where it is done its sequencer is settled. It never ends with a frame that is off
 abbrev pub IsAppended : List ℕ → ℕ → Type 0 → Option Input → ℕ → (Config → Far → Type 0) → (Register → Type 0) → Config → State → Option (List ℕ) → Option (List ℕ) → Ended → Type 0
 IsAppended name log broken coming rounds tells registered c s old new ends.Done =
-    Turned 1 (rounds + 1) (λ n. Reached name broken (AreSteps name log c s.network.count coming ends.Done n) (tells c) c s old new (λ t. registered t.register × IsSettled name c s.network.count t))
-IsAppended name log broken coming rounds tells registered c s old new ends.Rounds = Reached name broken (AreSteps name log c s.network.count coming ends.Rounds rounds) (tells c) c s old new (λ t. registered t.register)
-IsAppended name log broken coming rounds tells registered c s old new ends.NoMemory = Stopped name broken (EndAt name log c s.network.count coming rounds ends.NoMemory) c s old new
-IsAppended name log broken coming rounds tells registered c s old new ends.Write = Stopped name broken (EndAt name log c s.network.count coming rounds ends.Write) c s old new
+    Turned 1 (rounds + 1) (λ n. Reached (sequencing name) broken (AreSteps name log c s.network.count coming ends.Done n) (tells c) c s old new (λ t. registered t.register × IsSettled name c s.network.count t))
+IsAppended name log broken coming rounds tells registered c s old new ends.Rounds = Reached (sequencing name) broken (AreSteps name log c s.network.count coming ends.Rounds rounds) (tells c) c s old new (λ t. registered t.register)
+IsAppended name log broken coming rounds tells registered c s old new ends.NoMemory = Stopped (sequencing name) broken (EndAt name log c s.network.count coming rounds ends.NoMemory) c s old new
+IsAppended name log broken coming rounds tells registered c s old new ends.Write = Stopped (sequencing name) broken (EndAt name log c s.network.count coming rounds ends.Write) c s old new
 IsAppended name log broken coming rounds tells registered c s old new ends.LogLimit =
-    Reached name broken (λ t es. AreSteps name log c s.network.count coming ends.Rounds rounds t es ⊎ EndAt name log c s.network.count coming rounds ends.LogLimit t es) (tells c) c s old new (λ t. registered t.register)
-IsAppended name log broken coming rounds tells registered c s old new ended = Reached name broken (EndAt name log c s.network.count coming rounds ended) (tells c) c s old new (λ t. registered t.register)
+    Reached (sequencing name) broken (λ t es. AreSteps name log c s.network.count coming ends.Rounds rounds t es ⊎ EndAt name log c s.network.count coming rounds ends.LogLimit t es) (tells c) c s old new (λ t. registered t.register)
+IsAppended name log broken coming rounds tells registered c s old new (ends.BadFrame fault) = ⊥
+IsAppended name log broken coming rounds tells registered c s old new ended = Reached (sequencing name) broken (EndAt name log c s.network.count coming rounds ended) (tells c) c s old new (λ t. registered t.register)
 
 -- how the rounds went: they were all taken, or after one of them it was done
 abbrev pub DroveAppend : List ℕ → ℕ → Type 0 → Option Input → ℕ → (Config → Far → Type 0) → (Register → Type 0) → Config → State → Option (List ℕ) → Option (List ℕ) → Result Bool Ended → Type 0

@@ -1,5 +1,5 @@
 // A sequencer that is driven.
-ghost use Rattle.std.specs.Prelude.{ℕ, ◌≡◌, ◌≢◌, ◌⊎◌, [], ◌∷◌, true, false, None, Some, IfOk, IfSome, OnOk};
+ghost use Rattle.std.specs.Prelude.{ℕ, ◌≡◌, ◌==◌, ◌&&◌, ◌≢◌, ◌⊎◌, [], ◌∷◌, true, false, None, Some, IfOk, IfSome, OnOk};
 ghost use Rattle.ld_config.specs.declared.config.Config.{Config as Contents};
 ghost use Rattle.ld_config.specs.Bounds.{IsInBounds};
 ghost use Rattle.ld_register.specs.Bounds.{IsSpec};
@@ -11,7 +11,7 @@ ghost use Rattle.ld_rounds.specs.Acts.{IsActed};
 ghost use Rattle.ld_node_bounds.specs.Messages.{AreMessages};
 ghost use Rattle.ld_rounds.specs.Ends.{IsSaid};
 ghost use Rattle.ld_rounds.specs.Rounds.{tells_full};
-ghost use Rattle.ld_append.specs.Acting.{Serves, IsTo, IsSpecOf, IsUnset, settled_in, MayCrowd, Leaves, IsSince, IsOfLog};
+ghost use Rattle.ld_append.specs.Acting.{Serves, IsTo, is_to, IsSpecOf, IsUnset, settled_in, MayCrowd, Leaves, IsSince, IsOfLog};
 ghost use Rattle.ld_append.specs.Refusing.{fault_end, start_lines, IsTold, IsStartTold};
 
 use crate::refusing::{heard, is_window};
@@ -65,7 +65,8 @@ fn with_line(alloc: Global, line: Line, sends: Outbox) -> Result<Heard, NoMemory
 
 /// Whether the message is for the sequencer, by the epoch and the log.
 fn is_to(sequencer: &Sequencer, message: &Msg) -> bool
-    ensures { result ≡ true → IsTo (Some sequencer.now) message.now }
+    ensures to { result ≡ true → IsTo (Some sequencer.now) message.now }
+    ensures taken { result ≡ (is_to sequencer.now.sequencer.epoch message.now.to && (message.now.log == sequencer.now.sequencer.spec.log)) }
 {
     let is_here = match &message.to {
         Who::Sequencer(epoch) => *epoch == sequencer.epoch(),
@@ -293,13 +294,13 @@ impl<G: Register> Acting<G> {
 
 impl<G: Register> Actor for Acting<G> {
     ghost use Rattle.std.proofs.Common.{refl, ◌∙◌};
-    ghost use Rattle.ld_append.specs.Acting.{is_here, goes_on};
+    ghost use Rattle.ld_append.specs.Acting.{is_here, goes_on, takes};
 
     ghost stands = { λ a c s. Serves a.name a.sequencer (G.tells a.register) c s };
 
     ghost stands_apart = { λ a c s nodes network h. record { sequencers = record { sequencers = h.sequencers.sequencers; logs = h.sequencers.logs }; whole = h.whole; register = h.register } };
 
-    ghost own = { λ a. record { name = a.name; log = a.log } };
+    ghost own = { λ a. record { name = a.name; log = a.log; takes = takes a.name } };
 
     ghost since = { λ a b. IsSince a.sequencer b.sequencer (G.told a.register) (G.told b.register) (G.may_hold a.register) (G.may_hold b.register) a.is_shut b.is_shut × (G.identity b.register ≡ G.identity a.register) };
 

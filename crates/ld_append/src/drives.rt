@@ -10,7 +10,7 @@ ghost use Rattle.ld_register.specs.Bounds.{IsSpec};
 ghost use Rattle.ld_append.specs.Acting.{Serves, IsSpecOf, IsUnset, MayCrowd, Leaves, IsOfLog};
 ghost use Rattle.ld_rounds.specs.Reaching.{Begins};
 ghost use Rattle.ld_rounds.specs.Rounds.{IsOne, IsBegun};
-ghost use Rattle.ld_append.specs.Appends.{HasNone, IsAppended, DroveAppend, IsStartEnding, IsDriveEnding, IsEndOfAppend, taken_end};
+ghost use Rattle.ld_append.specs.Appends.{HasNone, sequencing, IsAppended, DroveAppend, IsStartEnding, IsDriveEnding, IsEndOfAppend, taken_end};
 
 use crate::Acting;
 use ld_config::Config;
@@ -32,7 +32,7 @@ fn start<G: Register, O: Sink>(
 ) -> Result<(), Ended>
     requires { IsSpec spec.now }
     ensures started { acting.old.sequencer ≡ None → (first : ℕ) (s : State) (far : Far) → IsInBounds config.now → IsSpecOf config.now spec.now → IsUnset config.now s spec.now → Holds (Serves acting.old.name None (G.tells acting.old.register)) config.now first s far queues.old
-        → GoesOn acting.old.name ⊥ (IsOne (Activate acting.old.name spec.now.log)) (λ e. IsBegun (Activate acting.old.name spec.now.log)) (Serves acting.new.name acting.new.sequencer (G.tells acting.new.register)) (λ now. now ≡ far) config.now first s queues.new (O.written out.old) (O.written out.new) result }
+        → GoesOn (sequencing acting.old.name) ⊥ (IsOne (Activate acting.old.name spec.now.log)) (λ e. IsBegun (Activate acting.old.name spec.now.log)) (Serves acting.new.name acting.new.sequencer (G.tells acting.new.register)) (λ now. now ≡ far) config.now first s queues.new (O.written out.old) (O.written out.new) result }
     ensures name { acting.new.name ≡ acting.old.name }
     ensures leaves { Leaves spec.now.log (G.told acting.old.register) (G.told acting.new.register) (G.may_hold acting.old.register) (G.may_hold acting.new.register) }
     ensures itself { G.identity acting.new.register ≡ G.identity acting.old.register }
@@ -113,7 +113,7 @@ pub fn append<G: Register, N: Nodes, P: Payloads, O: Sink>(
     // first, appends, and visits of the configuration's nodes. The payloads that the machine took are the first ones that came,
     // in their order; they are all where it is done, and where it comes to a line that is off. The lines that were written are
     // the sequencer's lines of those steps. A message to a node is lost only where a call of the nodes failed or a node had
-    // ended.
+    // ended, and an answer only where the sequencer doesn't take it. It never ends with `BadFrame`.
     ensures appended { (s : State) (far : Far) → IsInBounds config.now → IsSpecOf config.now spec.now → IsUnset config.now s spec.now → N.tells nodes.old config.now far → Begins (HasNone (G.tells register)) config.now s far
         → (N.silent nodes.new ≡ true) ⊎ IsAppended name spec.now.log (IsBroken (N.faults nodes.old) (N.faults nodes.new) (N.endings nodes.old) (N.endings nodes.new)) (P.coming input.old) rounds (N.tells nodes.new) (G.tells result.1) config.now s (O.written out.old) (O.written out.new) result.0 }
     // The register is the same one. Where it tells what it holds it does so then, and it may hold as many other logs as may be

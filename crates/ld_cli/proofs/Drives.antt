@@ -18,8 +18,8 @@ use Rattle.ld_rounds.proofs.Steps.{stays}
 use Rattle.ld_rounds.proofs.Writing.{none_written}
 use Rattle.ld_clients.proofs.Logs.{spec_log}
 use Rattle.ld_append.specs.Acting.{IsSpecOf, IsUnset}
-use Rattle.ld_append.specs.Appends.{EndAt, IsEndOfAppend}
-use Rattle.ld_tail.specs.Tails.{Wanted, EndAt as TailsUntil, IsTailEnd}
+use Rattle.ld_append.specs.Appends.{EndAt, IsEndOfAppend, sequencing}
+use Rattle.ld_tail.specs.Tails.{Wanted, EndAt as TailsUntil, IsTailEnd, tailing}
 use Rattle.ld_cli.specs.declared.status.Status.{Status}
 use Rattle.ld_cli.specs.declared.status.Status.TheVariants as statuses
 use Rattle.ld_cli.specs.Clients.{status_of, EndsDrive}
@@ -123,22 +123,22 @@ of_same P a b p same = subst P same p
 -- ---- what was read ----
 
 -- want of memory before anything was done
-pub nothing_read : (w : Wanted) (broken : Type 0) (most : ℕ) (c : Config) (s : State) (written : Option (List ℕ)) → Stopped w.name broken (TailsUntil w c s.network.count most) c s written written
+pub nothing_read : (w : Wanted) (broken : Type 0) (most : ℕ) (c : Config) (s : State) (written : Option (List ℕ)) → Stopped (tailing w) broken (TailsUntil w c s.network.count most) c s written written
 nothing_read w broken most c s written = record {
   state = s;
   lines = [];
-  goes = stays w.name broken c (TailsUntil w c s.network.count most) s (inl (inl refl));
+  goes = stays (tailing w) broken c (TailsUntil w c s.network.count most) s (inl (inl refl));
   written = none_written written [];
 }
 
 -- ---- what was appended ----
 
 -- want of memory before anything was done
-pub nothing_done : (name : List ℕ) (l : ℕ) (broken : Type 0) (coming : Option Input) (most : ℕ) (c : Config) (s : State) (written : Option (List ℕ)) → Stopped name broken (EndAt name l c s.network.count coming most ends.NoMemory) c s written written
+pub nothing_done : (name : List ℕ) (l : ℕ) (broken : Type 0) (coming : Option Input) (most : ℕ) (c : Config) (s : State) (written : Option (List ℕ)) → Stopped (sequencing name) broken (EndAt name l c s.network.count coming most ends.NoMemory) c s written written
 nothing_done name l broken coming most c s written = record {
   state = s;
   lines = [];
-  goes = stays name broken c (EndAt name l c s.network.count coming most ends.NoMemory) s (inl (inl refl, feeds_until c coming coming ends.NoMemory s [] tt (feeds_here c coming s)));
+  goes = stays (sequencing name) broken c (EndAt name l c s.network.count coming most ends.NoMemory) s (inl (inl refl, feeds_until c coming coming ends.NoMemory s [] tt (feeds_here c coming s)));
   written = none_written written [];
 }
 

@@ -1,6 +1,5 @@
 pub mod Left
 pub mod LineLoop
-pub mod Writing
 pub mod OffLines
 pub mod PlayLoop
 pub mod FirstLines

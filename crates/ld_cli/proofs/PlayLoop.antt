@@ -19,12 +19,13 @@ use Rattle.ld_cli.specs.Lines.{ended}
 use Rattle.ld_cli.specs.Schedule.{Configures, IsSpelt, AreSpelt, event_line, schedule_text, IsOffFirst, IsOffLater}
 use Rattle.ld_cli.specs.NextEvent.{TakesConfig}
 use Rattle.ld_cli.specs.Step.{IsTaken}
-use Rattle.ld_cli.specs.Output.{AppendsPart}
+use Rattle.ld_rounds.specs.Output.{AppendsPart}
 use Rattle.ld_cli.specs.declared.status.Stop.{Stop}
 use Rattle.ld_cli.specs.declared.status.Stop.TheVariants as stops
 use Rattle.ld_cli.specs.Causes.{IsReadStop, IsWriteStop, IsStop}
 use Rattle.ld_cli.specs.Ends.{written_by, IsSafe, IsReplayed, IsStopped, IsCut, StopsBy}
-use Rattle.ld_cli.proofs.Left.{Consumes-trans, Appends-trans, Appends-nil}
+use Rattle.ld_rounds.proofs.Writing.{Appends-trans, Appends-nil}
+use Rattle.ld_cli.proofs.Left.{Consumes-trans}
 
 -- the lines of the configuration and of some events were read, and the transcript of the events was written
 pub record Playing (input_old input_new written_old written_new : Option (List ℕ)) (cluster : Cluster) (number : ℕ) : Type 0 where

@@ -11,7 +11,7 @@ use Rattle.ld_maker.specs.Made.{made_config, made}
 use Rattle.ld_maker.specs.Tally.{HasRoom, tally, summary}
 use Rattle.ld_maker.specs.declared.tally.Tally.{Tally}
 use Rattle.ld_cli.specs.Ends.{IsSafe, IsSilent}
-use Rattle.ld_cli.specs.Output.{AppendsPart}
+use Rattle.ld_rounds.specs.Output.{AppendsPart}
 use Rattle.ld_cli.specs.declared.status.Stop.{Stop}
 use Rattle.ld_cli.specs.declared.status.Stop.TheVariants.{BadSchedule, NoMemory, Read, Write}
 use Rattle.ld_cli.specs.declared.status.Status.{Status}

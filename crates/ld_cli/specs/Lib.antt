@@ -3,7 +3,6 @@ pub mod Lines
 pub mod Schedule
 pub mod Ends
 pub mod Causes
-pub mod Output
 pub mod NextEvent
 pub mod OneReading
 pub mod Step

@@ -11,12 +11,12 @@ ghost use Rattle.ld_cli.specs.Exercise.{made_lines, IsExercised, StopsExercise, 
 ghost use Rattle.ld_cli.specs.Ends.{IsOfReplay};
 ghost use Rattle.ld_io.specs.Causes.{Rose};
 
-use crate::output::write_all;
 use crate::status::{Status, Stop};
 use ld_cluster::Cluster;
 use ld_ids::NoMemory;
 use ld_io::Sink;
 use ld_maker::{Maker, Tally, configuration, first_events, summary_line};
+use ld_rounds::write_all;
 use ld_schedule::Event;
 use ld_transcript::Lines;
 use std::alloc::Global;

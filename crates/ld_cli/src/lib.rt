@@ -7,7 +7,6 @@ mod exercise;
 mod input;
 mod law;
 mod lines;
-mod output;
 mod payloads;
 mod perform;
 mod replay;

@@ -6,13 +6,13 @@ ghost use Rattle.ld_machine.specs.Run.{step};
 ghost use Rattle.ld_cluster.specs.Standing.{config_of, state_of, IsReached};
 ghost use Rattle.ld_cluster.specs.Steps.{Counts};
 ghost use Rattle.ld_cli.specs.Step.{IsTaken};
-ghost use Rattle.ld_cli.specs.Output.{AppendsPart};
+ghost use Rattle.ld_rounds.specs.Output.{AppendsPart};
 ghost use Rattle.ld_cli.specs.Causes.{IsWriteStop};
 
-use crate::output::write_all;
 use crate::status::Stop;
 use ld_cluster::Cluster;
 use ld_io::Sink;
+use ld_rounds::write_all;
 use ld_schedule::Event;
 use ld_transcript::Lines;
 use std::alloc::Global;

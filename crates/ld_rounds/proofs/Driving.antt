@@ -1,5 +1,5 @@
 -- A drive goes on by a step.
-use Rattle.std.proofs.Common.{◌≡◌, ◌⊎◌, inl, inr, ℕ, true, List, [], ◌∷◌, ◌++◌, length, set, Option, Some, refl, ap, sym, ◌∙◌, subst, arith}
+use Rattle.std.proofs.Common.{◌≡◌, ◌⊎◌, inl, inr, ℕ, true, false, List, [], ◌∷◌, ◌++◌, length, set, Option, Some, refl, ap, sym, ◌∙◌, subst, arith}
 use Rattle.std.specs.List.{AllByRecursion}
 use Rattle.std.proofs.lemmas.List.{set-set, set-get_or, length-set, get_or-set_same}
 use Rattle.ld_ids.specs.Id.{IsNode}
@@ -21,34 +21,34 @@ use Rattle.ld_dial.specs.Far.{Far, handed}
 use Rattle.ld_rounds.specs.Queued.{queue_of, put_all}
 use Rattle.ld_rounds.specs.News.{is_answer, AreNews}
 use Rattle.ld_rounds.specs.Acts.{IsActed}
-use Rattle.ld_rounds.specs.Drives.{own_lines, MayLose, IsDriven, Goes, IsApart, Holds, Moved}
+use Rattle.ld_rounds.specs.Drives.{own_lines, Driver, MayLose, MayDeliver, IsDriven, Goes, IsApart, Holds, Moved}
 use Rattle.ld_rounds.specs.Rounds.{Quiet}
 use Rattle.ld_rounds.proofs.Joining.{Joins, quiet_joins}
-use Rattle.ld_rounds.proofs.News.{Taken, take_first, take_answer, answer_is, sent_answers, sent_asks, length-put_all}
+use Rattle.ld_rounds.proofs.News.{Taken, take_first, take_answer, first_asks, answer_is, sent_answers, sent_asks, length-put_all}
 use Rattle.ld_rounds.proofs.Steps.{stays, goes_on, goes_by, delivery_is, loss_is, lost_state, finished_state, to_node_far, answers_from, IsFar}
 
 abbrev parted : State → List (ℕ × Node) → Network → State
 parted s nodes network = record s { nodes = nodes; network = network }
 
-module _ (name : List ℕ) (broken : Type 0) (c : Config) (first : ℕ) (b : IsInBounds c) where
-  abbrev pub moved_none : (stands : Config → State → Type 0) (s : State) (far : Far) (qs : List (List Msg)) → Holds stands c first s far qs → Moved name broken Quiet stands c first s far qs []
-  moved_none stands s far qs h = record { state = s; goes = stays name broken c Quiet s tt; holds = h }
+module _ (who : Driver) (broken : Type 0) (c : Config) (first : ℕ) (b : IsInBounds c) where
+  abbrev pub moved_none : (stands : Config → State → Type 0) (s : State) (far : Far) (qs : List (List Msg)) → Holds stands c first s far qs → Moved who broken Quiet stands c first s far qs []
+  moved_none stands s far qs h = record { state = s; goes = stays who broken c Quiet s tt; holds = h }
 
   -- one move after the other
-  abbrev pub moved_on : (P Q R : State → List Event → Type 0) (A B : Config → State → Type 0) (s : State) (far end : Far) (qs rs : List (List Msg)) (xs ys : List Line) → Joins c P Q R → (l : Moved name broken P A c first s far qs xs) → Moved name broken Q B c first l.state end rs ys
-      → Moved name broken R B c first s end rs (xs ++ ys)
-  moved_on P Q R A B s far end qs rs xs ys j l k = record { state = k.state; goes = goes_on name broken c P Q R s l.state k.state xs ys j l.goes k.goes; holds = k.holds }
+  abbrev pub moved_on : (P Q R : State → List Event → Type 0) (A B : Config → State → Type 0) (s : State) (far end : Far) (qs rs : List (List Msg)) (xs ys : List Line) → Joins c P Q R → (l : Moved who broken P A c first s far qs xs) → Moved who broken Q B c first l.state end rs ys
+      → Moved who broken R B c first s end rs (xs ++ ys)
+  moved_on P Q R A B s far end qs rs xs ys j l k = record { state = k.state; goes = goes_on who broken c P Q R s l.state k.state xs ys j l.goes k.goes; holds = k.holds }
 
-  abbrev pub moved_quietly : (A B : Config → State → Type 0) (s : State) (far end : Far) (qs rs : List (List Msg)) (xs ys : List Line) → (l : Moved name broken Quiet A c first s far qs xs) → Moved name broken Quiet B c first l.state end rs ys
-      → Moved name broken Quiet B c first s end rs (xs ++ ys)
+  abbrev pub moved_quietly : (A B : Config → State → Type 0) (s : State) (far end : Far) (qs rs : List (List Msg)) (xs ys : List Line) → (l : Moved who broken Quiet A c first s far qs xs) → Moved who broken Quiet B c first l.state end rs ys
+      → Moved who broken Quiet B c first s end rs (xs ++ ys)
   moved_quietly A B s far end qs rs xs ys l k = moved_on Quiet Quiet Quiet A B s far end qs rs xs ys (quiet_joins c) l k
 
   module _ (stands : Config → State → Type 0) (apart : IsApart stands) where
     -- the message of a place is lost
-    lose : (s : State) (far end : Far) (qs rs : List (List Msg)) (m : Msg) → Holds stands c first s far qs → length rs ≡ 17 → end.nodes ≡ far.nodes → Taken first s.network m rs end.answers → broken ⊎ (is_answer m ≡ true) → Moved name broken Quiet stands c first s end rs []
+    lose : (s : State) (far end : Far) (qs rs : List (List Msg)) (m : Msg) → Holds stands c first s far qs → length rs ≡ 17 → end.nodes ≡ far.nodes → Taken first s.network m rs end.answers → ((is_answer m ≡ false) × broken) ⊎ ((is_answer m ≡ true) × (who.takes s m ≡ false)) → Moved who broken Quiet stands c first s end rs []
     lose s far end qs rs m h l e k why = record {
       state = marked s k.place;
-      goes = subst (λ (x : State). Goes name broken Quiet c s x []) (lost_state s k.place) (goes_by name broken c Quiet s (events.Lose k.place) (only_state (marked s k.place)) (subst (λ o. MayLose broken o) (sym k.there) why) (refl, tt) (loss_is c s k.place));
+      goes = subst (λ (x : State). Goes who broken Quiet c s x []) (lost_state s k.place) (goes_by who broken c Quiet s (events.Lose k.place) (only_state (marked s k.place)) (subst (λ o. MayLose broken (who.takes s) o) (sym k.there) why) (refl, tt) (loss_is c s k.place));
       holds = record {
         sound = marked_is c s h.sound k.place;
         actor = apart c s s.nodes (mark s.network k.place) h.actor;
@@ -60,46 +60,33 @@ module _ (name : List ℕ) (broken : Type 0) (c : Config) (first : ℕ) (b : IsI
 
     -- the first message that waits for a node is lost
     pub lose_first : broken → (s : State) (far : Far) (qs : List (List Msg)) (y : ℕ) (m : Msg) (rest : List Msg) → Holds stands c first s far qs → IsNode y → queue_of qs y ≡ m ∷ rest
-        → Moved name broken Quiet stands c first s far (set qs y rest) []
-    lose_first why s far qs y m rest h is q = lose s far far qs (set qs y rest) m h (length-set qs y rest ∙ h.count) refl (take_first first s.network qs far.answers y m rest h.news is h.count q) (inl why)
+        → Moved who broken Quiet stands c first s far (set qs y rest) []
+    lose_first why s far qs y m rest h is q = lose s far far qs (set qs y rest) m h (length-set qs y rest ∙ h.count) refl (take_first first s.network qs far.answers y m rest h.news is h.count q) (inl (first_asks first s.network qs far.answers y m rest h.news is q, why))
 
-    -- the first answer is lost
-    pub lose_answer : (s : State) (far : Far) (qs : List (List Msg)) (m : Msg) (rest : List Msg) → Holds stands c first s far qs → far.answers ≡ m ∷ rest → Moved name broken Quiet stands c first s (record far { answers = rest }) qs []
-    lose_answer s far qs m rest h e = lose s far (record far { answers = rest }) qs qs m h h.count refl (take_answer first s.network qs far.answers m rest h.news e) (inr (answer_is first s.network qs far.answers m rest h.news e))
+    -- the first answer, which the actor doesn't take, is lost
+    pub lose_answer : (s : State) (far : Far) (qs : List (List Msg)) (m : Msg) (rest : List Msg) → Holds stands c first s far qs → far.answers ≡ m ∷ rest → who.takes s m ≡ false → Moved who broken Quiet stands c first s (record far { answers = rest }) qs []
+    lose_answer s far qs m rest h e untaken = lose s far (record far { answers = rest }) qs qs m h h.count refl (take_answer first s.network qs far.answers m rest h.news e) (inr (answer_is first s.network qs far.answers m rest h.news e, untaken))
 
     -- all that waits for a node is lost
     lose_each : broken → (s : State) (far : Far) (qs : List (List Msg)) (y : ℕ) (ms : List Msg) → Holds stands c first s far qs → IsNode y → queue_of qs y ≡ ms
-        → set qs y ms ≡ qs → Moved name broken Quiet stands c first s far (set qs y []) []
+        → set qs y ms ≡ qs → Moved who broken Quiet stands c first s far (set qs y []) []
     lose_each why s far qs y [] h is q e = moved_none stands s far (set qs y []) (subst (λ (x : List (List Msg)). Holds stands c first s far x) (sym e) h)
     lose_each why s far qs y (m ∷ ms) h is q e =
-        let one : Moved name broken Quiet stands c first s far (set qs y ms) [] = lose_first why s far qs y m ms h is q in
-        let more : Moved name broken Quiet stands c first one.state far (set (set qs y ms) y []) [] = lose_each why one.state far (set qs y ms) y ms one.holds is
+        let one : Moved who broken Quiet stands c first s far (set qs y ms) [] = lose_first why s far qs y m ms h is q in
+        let more : Moved who broken Quiet stands c first one.state far (set (set qs y ms) y []) [] = lose_each why one.state far (set qs y ms) y ms one.holds is
         (get_or-set_same qs y ms [] (omega (arith, h.count, is.1))) (set-set qs y ms ms) in
-        subst (λ (x : List (List Msg)). Moved name broken Quiet stands c first s far x []) (set-set qs y ms []) (moved_quietly stands stands s far far (set qs y ms) (set (set qs y ms) y []) [] [] one more)
+        subst (λ (x : List (List Msg)). Moved who broken Quiet stands c first s far x []) (set-set qs y ms []) (moved_quietly stands stands s far far (set qs y ms) (set (set qs y ms) y []) [] [] one more)
 
-    pub lose_queue : broken → (s : State) (far : Far) (qs : List (List Msg)) (y : ℕ) → Holds stands c first s far qs → IsNode y → Moved name broken Quiet stands c first s far (set qs y []) []
+    pub lose_queue : broken → (s : State) (far : Far) (qs : List (List Msg)) (y : ℕ) → Holds stands c first s far qs → IsNode y → Moved who broken Quiet stands c first s far (set qs y []) []
     lose_queue why s far qs y h is = lose_each why s far qs y (queue_of qs y) h is refl (set-get_or qs y [])
 
-    -- all answers are lost
-    lose_all : (s : State) (nodes : List (ℕ × Node)) (present : Option ℕ) (ans : List Msg) (qs : List (List Msg)) → Holds stands c first s (record { nodes = nodes; present = present; answers = ans }) qs
-        → Moved name broken Quiet stands c first s (record { nodes = nodes; present = present; answers = [] }) qs []
-    lose_all s nodes present [] qs h = moved_none stands s (record { nodes = nodes; present = present; answers = [] }) qs h
-    lose_all s nodes present (m ∷ ms) qs h =
-        let one : Moved name broken Quiet stands c first s (record { nodes = nodes; present = present; answers = ms }) qs [] = lose_answer s (record { nodes = nodes; present = present; answers = m ∷ ms }) qs m ms h refl in
-        let more : Moved name broken Quiet stands c first one.state (record { nodes = nodes; present = present; answers = [] }) qs [] = lose_all one.state nodes present ms qs one.holds in
-        moved_quietly stands stands s _ _ qs qs [] [] one more
-
-    -- who is present isn't told by a state
-    elsewhere : (s : State) (far : Far) (present : Option ℕ) (qs : List (List Msg)) → Holds stands c first s far qs → Holds stands c first s (record far { present = present }) qs
-    elsewhere s far present qs h = record { sound = h.sound; actor = h.actor; nodes = h.nodes; count = h.count; news = h.news }
-
-    -- another node, or none, is present: answers that weren't taken are lost
-    pub turn_to : (s : State) (far : Far) (present : Option ℕ) (qs : List (List Msg)) → Holds stands c first s far qs → Moved name broken Quiet stands c first s (record { nodes = far.nodes; present = present; answers = [] }) qs []
-    turn_to s far present qs h = lose_all s far.nodes present far.answers qs (elsewhere s far present qs h)
+    -- another node, or none, is present, where no answer is to be taken
+    pub turn_to : (s : State) (far : Far) (present : Option ℕ) (qs : List (List Msg)) → far.answers ≡ [] → Holds stands c first s far qs → Moved who broken Quiet stands c first s (record { nodes = far.nodes; present = present; answers = [] }) qs []
+    turn_to s far present qs e h = moved_none stands s (record { nodes = far.nodes; present = present; answers = [] }) qs (record { sound = h.sound; actor = h.actor; nodes = h.nodes; count = h.count; news = subst (λ answers. AreNews first s.network qs answers) e h.news })
 
     -- the first message that waits for a node is delivered
     pub hand_first : (s : State) (far : Far) (qs : List (List Msg)) (y : ℕ) (m : Msg) (rest : List Msg) → Holds stands c first s far qs → IsNode y → queue_of qs y ≡ m ∷ rest → m.to ≡ whos.Node y
-        → Moved name broken Quiet stands c first s (record { nodes = (handed c far.nodes y m).state.nodes; present = Some y; answers = far.answers ++ (handed c far.nodes y m).sends }) (set qs y rest) []
+        → Moved who broken Quiet stands c first s (record { nodes = (handed c far.nodes y m).state.nodes; present = Some y; answers = far.answers ++ (handed c far.nodes y m).sends }) (set qs y rest) []
     hand_first s far qs y m rest h is q to =
         let k = take_first first s.network qs far.answers y m rest h.news is h.count q in
         let i = k.place in
@@ -107,13 +94,14 @@ module _ (name : List ℕ) (broken : Type 0) (c : Config) (first : ℕ) (b : IsI
         let e : Done = handed c far.nodes y m in
         let f : IsFar (marked s i) d (handed c s.nodes y m) = to_node_far c (marked s i) y m in
         let there : step c s (events.Deliver i) ≡ finish d = delivery_is c s i m k.there ∙ ap (λ w. finish (comes_to c (marked s i) m w)) to in
+        let asked = subst (λ o. MayDeliver (who.takes s) o) (sym k.there) (inl (first_asks first s.network qs far.answers y m rest h.news is q)) in
         let sends : d.sends ≡ e.sends = f.sends ∙ ap (λ n. (handed c n y m).sends) h.nodes in
         let next : State = parted s e.state.nodes (send_all (mark s.network i) e.sends) in
         let now : (finish d).state ≡ next = finished_state d ∙ (ap (λ x. sent_state x d.sends) (f.state ∙ ap (λ n. record (marked s i) { nodes = (handed c n y m).state.nodes }) h.nodes)
         ∙ ap (λ ms. parted s e.state.nodes (send_all (mark s.network i) ms)) sends) in
         record {
           state = next;
-          goes = subst (λ (x : State). Goes name broken Quiet c s x []) now (subst (λ ls. Goes name broken Quiet c s (finish d).state ls) f.quiet (goes_by name broken c Quiet s (events.Deliver i) d tt (refl, tt) there));
+          goes = subst (λ (x : State). Goes who broken Quiet c s x []) now (subst (λ ls. Goes who broken Quiet c s (finish d).state ls) f.quiet (goes_by who broken c Quiet s (events.Deliver i) d asked (refl, tt) there));
           holds = record {
             sound = subst (λ (x : State). IsSound c x) (ap (λ r. r.state) there ∙ now) (step_is c b s (events.Deliver i) tt h.sound);
             actor = apart c s e.state.nodes (send_all (mark s.network i) e.sends) h.actor;
@@ -123,11 +111,11 @@ module _ (name : List ℕ) (broken : Type 0) (c : Config) (first : ℕ) (b : IsI
           };
         }
 
-    -- the first answer comes to the actor
-    pub hear_first : (after : Config → State → Type 0) → IsApart after → (s : State) (far : Far) (qs : List (List Msg)) (m : Msg) (rest : List Msg) (ls : List Line) (ms : List Msg) → Holds stands c first s far qs → far.answers ≡ m ∷ rest
+    -- the first answer, which the actor takes, comes to it
+    pub hear_first : (after : Config → State → Type 0) → IsApart after → (s : State) (far : Far) (qs : List (List Msg)) (m : Msg) (rest : List Msg) (ls : List Line) (ms : List Msg) → Holds stands c first s far qs → far.answers ≡ m ∷ rest → who.takes s m ≡ true
         → ((t : State) → IsSound c t → stands c t → IsActed (after c) t ls ms (comes_to c t m m.to))
-        → Moved name broken Quiet after c first s (record far { answers = rest }) (put_all qs ms) ls
-    hear_first after still s far qs m rest ls ms h e acts =
+        → Moved who broken Quiet after c first s (record far { answers = rest }) (put_all qs ms) ls
+    hear_first after still s far qs m rest ls ms h e heard acts =
         let k = take_answer first s.network qs far.answers m rest h.news e in
         let i = k.place in
         let before : State = marked s i in
@@ -137,7 +125,7 @@ module _ (name : List ℕ) (broken : Type 0) (c : Config) (first : ℕ) (b : IsI
         let network : (finish d).state.network ≡ send_all (mark s.network i) ms = ap (λ x. x.network) (finished_state d) ∙ (ap (λ w. send_all w d.sends) a.network ∙ ap (send_all (mark s.network i)) (sym a.sends)) in
         record {
           state = (finish d).state;
-          goes = subst (λ xs. Goes name broken Quiet c s (finish d).state xs) (ap own_lines (sym a.lines) ∙ a.own) (goes_by name broken c Quiet s (events.Deliver i) d tt (refl, tt) there);
+          goes = subst (λ xs. Goes who broken Quiet c s (finish d).state xs) (ap own_lines (sym a.lines) ∙ a.own) (goes_by who broken c Quiet s (events.Deliver i) d (subst (λ o. MayDeliver (who.takes s) o) (sym k.there) (inr heard)) (refl, tt) there);
           holds = record {
             sound = subst (λ (x : State). IsSound c x) (ap (λ r. r.state) there) (step_is c b s (events.Deliver i) tt h.sound);
             actor = subst (λ (x : State). after c x) (sym (finished_state d)) (still c d.state d.state.nodes (send_all d.state.network d.sends) a.actor);
@@ -148,14 +136,14 @@ module _ (name : List ℕ) (broken : Type 0) (c : Config) (first : ℕ) (b : IsI
         }
 
     -- the actor does something by itself
-    pub acted_on : (P : State → List Event → Type 0) (after : Config → State → Type 0) → IsApart after → (s : State) (far : Far) (qs : List (List Msg)) (e : Event) (ls : List Line) (ms : List Msg) → IsDriven name broken s e → P s (e ∷ []) → IsEvent e → step c s e ≡ finish (happens c s e)
-        → Holds stands c first s far qs → IsActed (after c) s ls ms (happens c s e) → Moved name broken P after c first s far (put_all qs ms) ls
+    pub acted_on : (P : State → List Event → Type 0) (after : Config → State → Type 0) → IsApart after → (s : State) (far : Far) (qs : List (List Msg)) (e : Event) (ls : List Line) (ms : List Msg) → IsDriven who broken s e → P s (e ∷ []) → IsEvent e → step c s e ≡ finish (happens c s e)
+        → Holds stands c first s far qs → IsActed (after c) s ls ms (happens c s e) → Moved who broken P after c first s far (put_all qs ms) ls
     acted_on P after still s far qs e ls ms driven such is there h a =
         let d : Done = happens c s e in
         let network : (finish d).state.network ≡ send_all s.network ms = ap (λ x. x.network) (finished_state d) ∙ (ap (λ w. send_all w d.sends) a.network ∙ ap (send_all s.network) (sym a.sends)) in
         record {
           state = (finish d).state;
-          goes = subst (λ xs. Goes name broken P c s (finish d).state xs) (ap own_lines (sym a.lines) ∙ a.own) (goes_by name broken c P s e d driven such there);
+          goes = subst (λ xs. Goes who broken P c s (finish d).state xs) (ap own_lines (sym a.lines) ∙ a.own) (goes_by who broken c P s e d driven such there);
           holds = record {
             sound = subst (λ (x : State). IsSound c x) (ap (λ r. r.state) there) (step_is c b s e is h.sound);
             actor = subst (λ (x : State). after c x) (sym (finished_state d)) (still c d.state d.state.nodes (send_all d.state.network d.sends) a.actor);

@@ -14,10 +14,10 @@ use Rattle.ld_rounds.specs.declared.ended.Ended.TheVariants as ends
 use Rattle.ld_rounds.specs.Endings.{IsLater, IsEnding}
 use Rattle.ld_rounds.specs.Input.{Input, all_taken, ComesTo}
 use Rattle.ld_rounds.specs.Feeding.{upcoming, NextIs, WasOver, IsAhead, SameBehind, IsOffBehind, IsInputEnding, IsAppendEnding}
-use Rattle.ld_rounds.specs.Drives.{Went, Stops, GoesOn}
+use Rattle.ld_rounds.specs.Drives.{Driver, Went, Stops, GoesOn}
 use Rattle.ld_rounds.proofs.Joining.{Joins, IsPartly}
 use Rattle.ld_rounds.proofs.Endings.{ending_since}
-use Rattle.ld_rounds.proofs.Going.{halted, went_such, goes_as, goes_further}
+use Rattle.ld_rounds.proofs.Going.{NoFrame, halted, went_such, goes_as, goes_further}
 
 rose_since : (k n m : ℕ) → k ≤ n → Rose n m → Rose k m
 rose_since k n m l r = omega (arith, l, r)
@@ -140,29 +140,34 @@ pub same_given : {R : Type 0} (i j k : Option Input) (r : Result R Ended) → Sa
 same_given i j k (Ok v) a b = same_on i j k a b
 same_given i j k (Err e) a b = tt
 
+-- the input has no frames
+pub input_unframed : (i : Option Input) (p q : ℕ) (e : Ended) → IsInputEnding i p q e → NoFrame (Some e)
+input_unframed i p q (ends.BadFrame fault) h = h
+input_unframed i p q e h = tt
+
 -- the input ends the drive
-pub input_stops : (name : List ℕ) (broken : Type 0) (c : Config) (first : ℕ) (b : IsInBounds c) (P : State → List Event → Type 0) (E : Ended → State → List Event → Type 0) (A : Config → State → Type 0) (T : Far → Type 0) (s : State) (qs : List (List Msg)) (old new : Option (List ℕ)) (e : Ended)
-    → ((es : List Event) → P s es → E e s es) → Went name broken P A T c first s qs old new → Stops name broken E A T c first s qs old new e
-input_stops name broken c first b P E A T s qs old new e q w = ending_as e (went_such name broken c first b broken P (E e) A T T s qs old new (λ l. l) (λ f t. t) w (λ es o x. q es x))
+pub input_stops : (who : Driver) (broken : Type 0) (c : Config) (first : ℕ) (b : IsInBounds c) (P : State → List Event → Type 0) (E : Ended → State → List Event → Type 0) (A : Config → State → Type 0) (T : Far → Type 0) (s : State) (qs : List (List Msg)) (old new : Option (List ℕ)) (e : Ended)
+    → NoFrame (Some e) → ((es : List Event) → P s es → E e s es) → Went who broken P A T c first s qs old new → Stops who broken E A T c first s qs old new e
+input_stops who broken c first b P E A T s qs old new e f q w = ending_as e f (went_such who broken c first b broken P (E e) A T T s qs old new (λ l. l) (λ f t. t) w (λ es o x. q es x))
   where
-    ending_as : (e : Ended) → Went name broken (E e) A T c first s qs old new → Stops name broken E A T c first s qs old new e
-    ending_as ends.NoMemory w = halted name broken c first b (E ends.NoMemory) A T s qs old new w
-    ending_as ends.Write w = halted name broken c first b (E ends.Write) A T s qs old new w
-    ending_as ends.Read w = w
-    ending_as (ends.BadLine line place) w = w
-    ending_as (ends.BadFrame fault) w = w
-    ending_as ends.Done w = w
-    ending_as ends.Rounds w = w
-    ending_as (ends.Preempted by) w = w
-    ending_as ends.LogLimit w = w
-    ending_as ends.EpochLimit w = w
-    ending_as ends.EpochFull w = w
-    ending_as (ends.Register fault) w = w
+    ending_as : (e : Ended) → NoFrame (Some e) → Went who broken (E e) A T c first s qs old new → Stops who broken E A T c first s qs old new e
+    ending_as ends.NoMemory f w = halted who broken c first b (E ends.NoMemory) A T s qs old new w
+    ending_as ends.Write f w = halted who broken c first b (E ends.Write) A T s qs old new w
+    ending_as ends.Read f w = w
+    ending_as (ends.BadLine line place) f w = w
+    ending_as (ends.BadFrame fault) f w = f
+    ending_as ends.Done f w = w
+    ending_as ends.Rounds f w = w
+    ending_as (ends.Preempted by) f w = w
+    ending_as ends.LogLimit f w = w
+    ending_as ends.EpochLimit f w = w
+    ending_as ends.EpochFull f w = w
+    ending_as (ends.Register fault) f w = w
 
 -- what is done without the nodes, one after the other
-pub apart_on : (name : List ℕ) (broken : Type 0) (c : Config) (first : ℕ) (b : IsInBounds c) {R : Type 0} (P N M : State → List Event → Type 0) (E F : Ended → State → List Event → Type 0) (A B : Config → State → Type 0) (s : State) (far : Far) (qs rs : List (List Msg)) (old mid new : Option (List ℕ)) (r : Result R Ended)
-    → Joins c P N M → IfErr r (λ e. Joins c P (E e) (F e)) → (w : Went name broken P A (λ now. now ≡ far) c first s qs old mid)
-    → GoesOn name broken N E B (λ now. now ≡ w.far) c first w.moved.state rs mid new r → GoesOn name broken M F B (λ now. now ≡ far) c first s rs old new r
-apart_on name broken c first b P N M E F A B s far qs rs old mid new r j k w v =
-    goes_further name broken c first b P N M E F A B (λ now. now ≡ far) (λ now. now ≡ far) s qs rs old mid new r j k w
-    (goes_as name broken c first b N E broken B (λ now. now ≡ w.far) (λ now. now ≡ far) w.moved.state rs mid new r (λ l. l) (λ f e. e ∙ w.told) v)
+pub apart_on : (who : Driver) (broken : Type 0) (c : Config) (first : ℕ) (b : IsInBounds c) {R : Type 0} (P N M : State → List Event → Type 0) (E F : Ended → State → List Event → Type 0) (A B : Config → State → Type 0) (s : State) (far : Far) (qs rs : List (List Msg)) (old mid new : Option (List ℕ)) (r : Result R Ended)
+    → Joins c P N M → IfErr r (λ e. Joins c P (E e) (F e)) → (w : Went who broken P A (λ now. now ≡ far) c first s qs old mid)
+    → GoesOn who broken N E B (λ now. now ≡ w.far) c first w.moved.state rs mid new r → GoesOn who broken M F B (λ now. now ≡ far) c first s rs old new r
+apart_on who broken c first b P N M E F A B s far qs rs old mid new r j k w v =
+    goes_further who broken c first b P N M E F A B (λ now. now ≡ far) (λ now. now ≡ far) s qs rs old mid new r j k w
+    (goes_as who broken c first b N E broken B (λ now. now ≡ w.far) (λ now. now ≡ far) w.moved.state rs mid new r (λ l. l) (λ f e. e ∙ w.told) v)

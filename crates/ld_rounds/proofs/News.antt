@@ -304,6 +304,10 @@ sent_asks first w qs ans (m ∷ ms) n l f =
 pub first_waits : (first : ℕ) (w : Network) (qs : List (List Msg)) (ans : List Msg) (y : ℕ) (m : Msg) (rest : List Msg) → AreNews first w qs ans → IsNode y → queue_of qs y ≡ m ∷ rest → m.to ≡ whos.Node y
 first_waits first w qs ans y m rest n is q = waits_is y m (pick first w.count (waits_for y) n.news m rest n.rise (n.queued y is ∙ q)).is
 
+-- it is no answer
+pub first_asks : (first : ℕ) (w : Network) (qs : List (List Msg)) (ans : List Msg) (y : ℕ) (m : Msg) (rest : List Msg) → AreNews first w qs ans → IsNode y → queue_of qs y ≡ m ∷ rest → is_answer m ≡ false
+first_asks first w qs ans y m rest n is q = waits_there y (is_node m.from) m.to (pick first w.count (waits_for y) n.news m rest n.rise (n.queued y is ∙ q)).is
+
 -- an answer that is to be taken is one
 pub answer_is : (first : ℕ) (w : Network) (qs : List (List Msg)) (ans : List Msg) (m : Msg) (rest : List Msg) → AreNews first w qs ans → ans ≡ m ∷ rest → is_answer m ≡ true
 answer_is first w qs ans m rest n e = (pick first w.count is_answer n.news m rest n.rise (n.answers_are ∙ e)).is

@@ -1,6 +1,7 @@
 -- The steps that a drive takes.
 use Rattle.std.proofs.Common.{◌≡◌, ℕ, ◌+◌, Bool, true, false, ◌&&◌, List, [], ◌∷◌, ◌++◌, Option, Some, None, refl, ap, sym, ◌∙◌, subst, inl, inr, append_assoc, if◌then◌else◌}
 use Rattle.std.specs.List.{AllByRecursion}
+use Rattle.std.proofs.lemmas.Bool.{eq-eqb}
 use Rattle.std.proofs.lemmas.List.{append-nil}
 use Rattle.std.proofs.lemmas.List.Elements.{filter-append}
 use Rattle.ld_table.specs.Table.{put}
@@ -10,9 +11,13 @@ use Rattle.ld_schedule.specs.declared.event.Event.TheVariants as events
 use Rattle.ld_transcript.specs.declared.line.Line.{Line}
 use Rattle.ld_msg.specs.declared.msg.Msg.{Msg}
 use Rattle.ld_msg.specs.declared.msg.Body.{Body}
+use Rattle.ld_msg.specs.declared.msg.Body.TheVariants as bodies
 use Rattle.ld_msg.specs.Network.{message}
 use Rattle.ld_op.specs.declared.op.Op.{Op}
-use Rattle.ld_op.specs.Handles.{answer_message}
+use Rattle.ld_op.specs.Plain.{Log}
+use Rattle.ld_op.specs.Answers.{on_clean, on_trim}
+use Rattle.ld_op.specs.Ticks.{on_page}
+use Rattle.ld_op.specs.Handles.{answer_message, handled_by}
 use Rattle.ld_machine.specs.Config.{has_log}
 use Rattle.ld_machine.specs.Disk.{Node, is_up, keep_end, Kept, Written, DiskFailed, Crashed, JournalFull}
 use Rattle.ld_machine.specs.State.{State, Done, only_state, unchanged, finish, or_none, message_lines, node_at, sent_state}
@@ -21,7 +26,8 @@ use Rattle.ld_machine.specs.Step.{happens, delivers, comes_to, marked, to_node, 
 use Rattle.ld_machine.specs.Run.{step, state_after, lines_of}
 use Rattle.ld_dial.specs.Far.{alone, handed}
 use Rattle.ld_rounds.specs.News.{is_answer}
-use Rattle.ld_rounds.specs.Drives.{is_own, own_lines, MayLose, IsDriven, AreDriven, Goes}
+use Rattle.ld_rounds.specs.Telling.{is_answered, AnswersOnce}
+use Rattle.ld_rounds.specs.Drives.{is_own, own_lines, Driver, MayLose, IsDriven, AreDriven, Goes}
 use Rattle.ld_rounds.proofs.Joining.{Joins, after-append}
 
 -- ---- lines ----
@@ -51,39 +57,39 @@ lines-append c s [] fs = refl
 lines-append c s (e ∷ es) fs =
     ap (λ l. (step c s e).lines ++ l) (lines-append c (step c s e).state es fs) ∙ sym (append_assoc (step c s e).lines (lines_of c (step c s e).state es) (lines_of c (state_after c (step c s e).state es) fs))
 
-driven-append : (name : List ℕ) (broken : Type 0) (c : Config) (s : State) (es fs : List Event) → AreDriven name broken c s es → AreDriven name broken c (state_after c s es) fs → AreDriven name broken c s (es ++ fs)
+driven-append : (who : Driver) (broken : Type 0) (c : Config) (s : State) (es fs : List Event) → AreDriven who broken c s es → AreDriven who broken c (state_after c s es) fs → AreDriven who broken c s (es ++ fs)
 unfolding state_after
-driven-append name broken c s [] fs a b = b
-driven-append name broken c s (e ∷ es) fs a b = (a.0, driven-append name broken c (step c s e).state es fs a.1 b)
+driven-append who broken c s [] fs a b = b
+driven-append who broken c s (e ∷ es) fs a b = (a.0, driven-append who broken c (step c s e).state es fs a.1 b)
 
-driven_if : (name : List ℕ) (one other : Type 0) (c : Config) (s : State) (es : List Event) → (one → other) → AreDriven name one c s es → AreDriven name other c s es
-driven_if name one other c s [] f d = tt
-driven_if name one other c s (e ∷ es) f d = (event_if e d.0, driven_if name one other c (step c s e).state es f d.1)
+driven_if : (who : Driver) (one other : Type 0) (c : Config) (s : State) (es : List Event) → (one → other) → AreDriven who one c s es → AreDriven who other c s es
+driven_if who one other c s [] f d = tt
+driven_if who one other c s (e ∷ es) f d = (event_if e d.0, driven_if who one other c (step c s e).state es f d.1)
   where
-    lose_if : (o : Option Msg) → MayLose one o → MayLose other o
-    lose_if None h = h
-    lose_if (Some m) (inl h) = inl (f h)
-    lose_if (Some m) (inr h) = inr h
+    lose_if : (takes : Msg → Bool) (o : Option Msg) → MayLose one takes o → MayLose other takes o
+    lose_if takes None h = h
+    lose_if takes (Some m) (inl h) = inl (h.0, f h.1)
+    lose_if takes (Some m) (inr h) = inr h
 
-    event_if : (x : Event) → IsDriven name one s x → IsDriven name other s x
+    event_if : (x : Event) → IsDriven who one s x → IsDriven who other s x
     event_if (events.Activate n l) h = h
     event_if (events.Append n payload) h = h
     event_if (events.Retry n) h = h
     event_if (events.Open n l from until) h = h
     event_if (events.Poll n) h = h
     event_if (events.Deliver i) h = h
-    event_if (events.Lose i) h = lose_if (message s.network i) h
+    event_if (events.Lose i) h = lose_if (who.takes s) (message s.network i) h
     event_if x h = absurd h
 
-module _ (name : List ℕ) (broken : Type 0) (c : Config) where
-  pub stays : (P : State → List Event → Type 0) (s : State) → P s [] → Goes name broken P c s s []
+module _ (who : Driver) (broken : Type 0) (c : Config) where
+  pub stays : (P : State → List Event → Type 0) (s : State) → P s [] → Goes who broken P c s s []
   unfolding state_after lines_of
   stays P s p = record { steps = []; driven = tt; such = p; state = refl; lines = refl }
 
-  pub goes_on : (P Q R : State → List Event → Type 0) (s t u : State) (xs ys : List Line) → Joins c P Q R → Goes name broken P c s t xs → Goes name broken Q c t u ys → Goes name broken R c s u (xs ++ ys)
+  pub goes_on : (P Q R : State → List Event → Type 0) (s t u : State) (xs ys : List Line) → Joins c P Q R → Goes who broken P c s t xs → Goes who broken Q c t u ys → Goes who broken R c s u (xs ++ ys)
   goes_on P Q R s t u xs ys j g h = record {
     steps = g.steps ++ h.steps;
-    driven = driven-append name broken c s g.steps h.steps g.driven (subst (λ (x : State). AreDriven name broken c x h.steps) g.state h.driven);
+    driven = driven-append who broken c s g.steps h.steps g.driven (subst (λ (x : State). AreDriven who broken c x h.steps) g.state h.driven);
     such = j s g.steps h.steps g.such (subst (λ (x : State). Q x h.steps) g.state h.such);
     state = h.state ∙ (ap (λ x. state_after c x h.steps) g.state ∙ sym (after-append c s g.steps h.steps));
     lines = ap (λ l. l ++ ys) g.lines ∙ (ap (λ l. own_lines (lines_of c s g.steps) ++ l) (h.lines ∙ ap (λ x. own_lines (lines_of c x h.steps)) g.state)
@@ -91,7 +97,7 @@ module _ (name : List ℕ) (broken : Type 0) (c : Config) where
   }
 
   -- one step
-  pub goes_by : (P : State → List Event → Type 0) (s : State) (e : Event) (d : Done) → IsDriven name broken s e → P s (e ∷ []) → step c s e ≡ finish d → Goes name broken P c s (finish d).state (own_lines d.lines)
+  pub goes_by : (P : State → List Event → Type 0) (s : State) (e : Event) (d : Done) → IsDriven who broken s e → P s (e ∷ []) → step c s e ≡ finish d → Goes who broken P c s (finish d).state (own_lines d.lines)
   unfolding state_after lines_of
   goes_by P s e d m p h = record {
     steps = e ∷ [];
@@ -102,8 +108,8 @@ module _ (name : List ℕ) (broken : Type 0) (c : Config) where
   }
 
   -- where more is broken, and less is said of the steps
-  pub goes_if : (less : Type 0) (P Q : State → List Event → Type 0) (s t : State) (xs : List Line) → (less → broken) → ((es : List Event) → t ≡ state_after c s es → P s es → Q s es) → Goes name less P c s t xs → Goes name broken Q c s t xs
-  goes_if less P Q s t xs f p g = record { steps = g.steps; driven = driven_if name less broken c s g.steps f g.driven; such = p g.steps g.state g.such; state = g.state; lines = g.lines }
+  pub goes_if : (less : Type 0) (P Q : State → List Event → Type 0) (s t : State) (xs : List Line) → (less → broken) → ((es : List Event) → t ≡ state_after c s es → P s es → Q s es) → Goes who less P c s t xs → Goes who broken Q c s t xs
+  goes_if less P Q s t xs f p g = record { steps = g.steps; driven = driven_if who less broken c s g.steps f g.driven; such = p g.steps g.state g.such; state = g.state; lines = g.lines }
 
 -- ---- the steps of a visit ----
 
@@ -175,6 +181,54 @@ pub answers_from : (c : Config) (s : State) (n : ℕ) (m : Msg) → AllByRecursi
 answers_from c s n m =
     answers_by (is_up (node_at s n).status && has_log c m.log) s _
     (handles_from _ n m (machine.node_handles (node_at s n) m).op (machine.node_handles (node_at s n) m).answer)
+
+-- it answers at most once
+answer_once : (n : ℕ) (m : Msg) (b : Option Body) → AnswersOnce n (answer_message n m b)
+answer_once n m None = tt
+answer_once n m (Some b) = eq-eqb n n refl
+
+when_once : (n : ℕ) (b : Bool) (ms : List Msg) → AnswersOnce n ms → AnswersOnce n (if b then ms else [])
+when_once n true ms a = a
+when_once n false ms a = tt
+
+handles_once : (s : State) (n : ℕ) (m : Msg) (o : Option Op) (b : Option Body) → AnswersOnce n (machine.handles s n m o b).sends
+handles_once s n m None b = answer_once n m b
+handles_once s n m (Some o) b = when_once n (is_written (keep_end (node_at s n) o)) (answer_message n m b) (answer_once n m b)
+
+once_by : (n : ℕ) (b : Bool) (s : State) (d : Done) → AnswersOnce n d.sends → AnswersOnce n (if b then d else unchanged s).sends
+once_by n true s d h = h
+once_by n false s d h = tt
+
+pub answers_once : (c : Config) (s : State) (n : ℕ) (m : Msg) → AnswersOnce n (to_node c s n m).sends
+answers_once c s n m =
+    once_by n (is_up (node_at s n).status && has_log c m.log) s _
+    (handles_once _ n m (machine.node_handles (node_at s n) m).op (machine.node_handles (node_at s n) m).answer)
+
+-- a message of another kind it doesn't answer
+handled_unanswered : (generation : ℕ) (g : Log) (l ballot released : ℕ) (b : Body) → is_answered b ≡ false → (handled_by generation g l ballot released b).answer ≡ None
+unfolding on_clean on_trim on_page
+handled_unanswered generation g l ballot released (bodies.Store number lng what) h = absurd cc
+handled_unanswered generation g l ballot released (bodies.DigestAsk from) h = absurd cc
+handled_unanswered generation g l ballot released (bodies.ReadAsk round from) h = absurd cc
+handled_unanswered generation g l ballot released b h = refl
+
+when_none : (b : Bool) → let none : List Msg = [] in (if b then none else none) ≡ none
+when_none true = refl
+when_none false = refl
+
+handles_none : (s : State) (n : ℕ) (m : Msg) (o : Option Op) (b : Option Body) → b ≡ None → (machine.handles s n m o b).sends ≡ []
+handles_none s n m None None e = refl
+handles_none s n m (Some o) None e = when_none (is_written (keep_end (node_at s n) o))
+handles_none s n m o (Some b) e = absurd cc
+
+none_by : (b : Bool) (s : State) (d : Done) → d.sends ≡ [] → (if b then d else unchanged s).sends ≡ []
+none_by true s d h = h
+none_by false s d h = refl
+
+pub answers_none : (c : Config) (s : State) (n : ℕ) (m : Msg) → is_answered m.body ≡ false → (to_node c s n m).sends ≡ []
+answers_none c s n m h =
+    none_by (is_up (node_at s n).status && has_log c m.log) s _
+    (handles_none _ n m (machine.node_handles (node_at s n) m).op (machine.node_handles (node_at s n) m).answer (handled_unanswered _ _ _ _ _ m.body h))
 
 -- ---- the steps of a client ----
 

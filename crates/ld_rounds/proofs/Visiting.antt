@@ -11,13 +11,15 @@ use Rattle.ld_msg.specs.declared.msg.Msg.{Msg}
 use Rattle.ld_machine.specs.State.{State}
 use Rattle.ld_dial.specs.declared.fault.Fault.{Fault}
 use Rattle.ld_dial.specs.declared.fault.Fault.TheVariants as faults
-use Rattle.ld_dial.specs.Far.{Far, handed, IsHanded, IsNext, Receives, SendsTo, CountsFault, CountsEnding}
+use Rattle.ld_dial.specs.Far.{Far, alone, handed, IsHanded, IsNext, Receives, SendsTo, CountsFault, CountsEnding}
 use Rattle.ld_rounds.specs.declared.ended.Ended.{Ended}
 use Rattle.ld_rounds.specs.Queued.{queue_of, behind, waits}
 use Rattle.std.proofs.lemmas.List.{set-get_or}
-use Rattle.ld_rounds.specs.Telling.{missed_by}
-use Rattle.ld_rounds.specs.Drives.{IsBroken, AreLater, IsApart, Holds, Went, GoesOn, WithNode}
+use Rattle.ld_rounds.specs.Telling.{is_of, is_answered, missed_by, AnswersOnce}
+use Rattle.ld_rounds.specs.Drives.{Driver, IsBroken, AreLater, IsApart, Holds, Went, GoesOn, AllTaken, WithNode, Answering}
+use Rattle.ld_rounds.specs.Acts.{Own}
 use Rattle.ld_rounds.proofs.News.{first_waits}
+use Rattle.ld_rounds.proofs.Steps.{answers_once, answers_none}
 use Rattle.ld_rounds.specs.Rounds.{Quiet, QuietEnd}
 use Rattle.ld_rounds.proofs.Driving.{lose_first, lose_answer, lose_queue, turn_to, hand_first, moved_quietly}
 use Rattle.ld_rounds.proofs.Going.{went_quietly, went_quiet, stopped_here, goes_as}
@@ -93,57 +95,85 @@ emptied [] y = refl
 emptied (q ∷ qs) zero = refl
 emptied (q ∷ qs) (suc y) = emptied qs y
 
-module _ (name : List ℕ) (broken : Type 0) (c : Config) (first : ℕ) (b : IsInBounds c) (A : Config → State → Type 0) (apart : IsApart A) (s : State) where
-  -- an answer does nothing
-  pub ignored : (far : Far) (qs : List (List Msg)) (m : Msg) (rest : List Msg) (w : Option (List ℕ)) → far.answers ≡ m ∷ rest → Holds A c first s far qs
-      → Went name broken Quiet A (λ now. now ≡ record far { answers = rest }) c first s qs w w
-  ignored far qs m rest w e h = went_quietly name broken c first b Quiet A (λ now. now ≡ record far { answers = rest }) s (record far { answers = rest }) qs w refl (lose_answer name broken c first b A apart s far qs m rest h e)
+-- ---- one answer ----
 
-  module _ (tells : Config → Far → Type 0) (far : Far) (y : ℕ) (present : far.present ≡ Some y) (is : IsNode y) (w : Option (List ℕ)) where
+only_one : (y : ℕ) (m : Msg) (rest : List Msg) → AnswersOnce y (m ∷ rest) → rest ≡ []
+only_one y m [] h = refl
+only_one y m (x ∷ xs) h = absurd h
+
+pub its_own : (y : ℕ) (m : Msg) (rest : List Msg) → AnswersOnce y (m ∷ rest) → is_of y m.from ≡ true
+its_own y m [] h = h
+its_own y m (x ∷ xs) h = absurd h
+
+-- what the same actor takes
+pub takes_on : (f : State → Msg → Bool) (a b : Own) → f ≡ a.takes → b ≡ a → f ≡ b.takes
+takes_on f a b e same = e ∙ ap (λ (x : Own). x.takes) (sym same)
+
+-- whether it takes a message, as the state has it
+pub takes_is : (f : State → Msg → Bool) (own : Own) (s : State) (m : Msg) (x y : Bool) → f ≡ own.takes → x ≡ own.takes s m → x ≡ y → f s m ≡ y
+takes_is f own s m x y e taken is = ap (λ (g : State → Msg → Bool). g s m) e ∙ (sym taken ∙ is)
+
+module _ (who : Driver) (broken : Type 0) (c : Config) (first : ℕ) (b : IsInBounds c) (A : Config → State → Type 0) (apart : IsApart A) (s : State) where
+  -- an answer that the actor doesn't take does nothing
+  pub ignored : (far : Far) (qs : List (List Msg)) (m : Msg) (rest : List Msg) (w : Option (List ℕ)) → far.answers ≡ m ∷ rest → who.takes s m ≡ false → Holds A c first s far qs
+      → Went who broken Quiet A (λ now. now ≡ record far { answers = rest }) c first s qs w w
+  ignored far qs m rest w e untaken h = went_quietly who broken c first b Quiet A (λ now. now ≡ record far { answers = rest }) s (record far { answers = rest }) qs w refl (lose_answer who broken c first b A apart s far qs m rest h e untaken)
+
+  module _ (tells : Config → Far → Type 0) (far : Far) (y : ℕ) (present : far.present ≡ Some y) (none : far.answers ≡ []) (is : IsNode y) (w : Option (List ℕ)) where
+    -- what stands there once the node has handled a message
+    abbrev handled : Msg → Far
+    handled m = record { nodes = (handed c far.nodes y m).state.nodes; present = Some y; answers = far.answers ++ (handed c far.nodes y m).sends }
+
+    told_of : (m : Msg) → IsHanded c far m (tells c) → tells c (handled m)
+    told_of m i = subst (λ n. tells c (record { nodes = (handed c far.nodes n m).state.nodes; present = Some n; answers = far.answers ++ (handed c far.nodes n m).sends })) (some_is (sym i.present ∙ present)) i.told
+
+    handed_as : (U : Far → Type 0) (qs : List (List Msg)) (m : Msg) (rest : List Msg) → Holds A c first s far qs → queue_of qs y ≡ m ∷ rest → U (handled m) → Went who broken Quiet A U c first s (set qs y rest) w w
+    handed_as U qs m rest h q u = went_quietly who broken c first b Quiet A U s (handled m) (set qs y rest) w u (hand_first who broken c first b A apart s far qs y m rest h is q (first_waits first s.network qs far.answers y m rest h.news is q))
+
     -- the first message is handled by the node
-    pub handed_on : (qs : List (List Msg)) (m : Msg) (rest : List Msg) → Holds A c first s far qs → queue_of qs y ≡ m ∷ rest → IsHanded c far m (tells c) → Went name broken Quiet A (WithNode tells c y) c first s (set qs y rest) w w
-    handed_on qs m rest h q i =
-        let same : i.node ≡ y = some_is (sym i.present ∙ present) in
-        let t = subst (λ n. tells c (record { nodes = (handed c far.nodes n m).state.nodes; present = Some n; answers = far.answers ++ (handed c far.nodes n m).sends })) same i.told in
-        went_quietly name broken c first b Quiet A (WithNode tells c y) s (record { nodes = (handed c far.nodes y m).state.nodes; present = Some y; answers = far.answers ++ (handed c far.nodes y m).sends }) (set qs y rest) w
-        (t, refl) (hand_first name broken c first b A apart s far qs y m rest h is q (first_waits first s.network qs far.answers y m rest h.news is q))
+    pub handed_on : (qs : List (List Msg)) (m : Msg) (rest : List Msg) → Holds A c first s far qs → queue_of qs y ≡ m ∷ rest → IsHanded c far m (tells c) → Went who broken Quiet A (Answering tells c y) c first s (set qs y rest) w w
+    handed_on qs m rest h q i = handed_as (Answering tells c y) qs m rest h q (told_of m i, refl, subst (λ ans. AnswersOnce y (ans ++ (handed c far.nodes y m).sends)) (sym none) (answers_once c (alone far.nodes) y m))
+
+    -- it is of a kind that no node answers
+    pub handed_quietly : (qs : List (List Msg)) (m : Msg) (rest : List Msg) → Holds A c first s far qs → queue_of qs y ≡ m ∷ rest → is_answered m.body ≡ false → IsHanded c far m (tells c) → Went who broken Quiet A (WithNode tells c y) c first s (set qs y rest) w w
+    handed_quietly qs m rest h q kind i = handed_as (WithNode tells c y) qs m rest h q ((told_of m i, ap (λ ans. ans ++ (handed c far.nodes y m).sends) none ∙ answers_none c (alone far.nodes) y m kind), refl)
 
     -- the first message is lost
-    pub gone_on : broken → (qs : List (List Msg)) (m : Msg) (rest : List Msg) → Holds A c first s far qs → queue_of qs y ≡ m ∷ rest → tells c far → Went name broken Quiet A (WithNode tells c y) c first s (set qs y rest) w w
-    gone_on why qs m rest h q t = went_quietly name broken c first b Quiet A (WithNode tells c y) s far (set qs y rest) w (t, present) (lose_first name broken c first b A apart why s far qs y m rest h is q)
+    pub gone_on : broken → (qs : List (List Msg)) (m : Msg) (rest : List Msg) → Holds A c first s far qs → queue_of qs y ≡ m ∷ rest → tells c far → Went who broken Quiet A (WithNode tells c y) c first s (set qs y rest) w w
+    gone_on why qs m rest h q t = went_quietly who broken c first b Quiet A (WithNode tells c y) s far (set qs y rest) w ((t, none), present) (lose_first who broken c first b A apart why s far qs y m rest h is q)
 
   -- an answer was taken, and heard or ignored
-  pub next_on : {R : Type 0} (tells : Config → Far → Type 0) (far : Far) (y : ℕ) (B : Config → State → Type 0) (rs : List (List Msg)) (old new : Option (List ℕ)) (m : Msg) (r : Result R Ended) → far.present ≡ Some y → (i : IsNext far (tells c) m)
-      → GoesOn name broken Quiet QuietEnd B (λ now. now ≡ record far { answers = i.rest }) c first s rs old new r → GoesOn name broken Quiet QuietEnd B (WithNode tells c y) c first s rs old new r
-  next_on tells far y B rs old new m r present i g =
-      goes_as name broken c first b Quiet QuietEnd broken B (λ now. now ≡ record far { answers = i.rest }) (WithNode tells c y) s rs old new r (λ l. l) (λ now e. subst (λ x. WithNode tells c y x) (sym e) (i.told, present)) g
+  pub next_on : {R : Type 0} (tells : Config → Far → Type 0) (far : Far) (y : ℕ) (B : Config → State → Type 0) (rs : List (List Msg)) (old new : Option (List ℕ)) (m : Msg) (r : Result R Ended) → far.present ≡ Some y → AnswersOnce y far.answers → (i : IsNext far (tells c) m)
+      → GoesOn who broken Quiet QuietEnd B (λ now. now ≡ record far { answers = i.rest }) c first s rs old new r → GoesOn who broken Quiet QuietEnd B (WithNode tells c y) c first s rs old new r
+  next_on tells far y B rs old new m r present once i g =
+      goes_as who broken c first b Quiet QuietEnd broken B (λ now. now ≡ record far { answers = i.rest }) (WithNode tells c y) s rs old new r (λ l. l) (λ now e. subst (λ x. WithNode tells c y x) (sym e) ((i.told, only_one y m i.rest (subst (AnswersOnce y) i.first once)), present)) g
 
   -- nothing is taken
-  pub unheard : (T U : Far → Type 0) (far : Far) (qs : List (List Msg)) (w : Option (List ℕ)) (f : Fault) → Receives far T (Err f) → GoesOn name broken Quiet QuietEnd A U c first s qs w w (missed_by f)
+  pub unheard : (T U : Far → Type 0) (far : Far) (qs : List (List Msg)) (w : Option (List ℕ)) (f : Fault) → Receives far T (Err f) → GoesOn who broken Quiet QuietEnd A U c first s qs w w (missed_by f)
   unheard T U far qs w faults.Link h = absurd h
   unheard T U far qs w (faults.BadFrame fault) h = absurd h
-  unheard T U far qs w faults.NoMemory h = stopped_here name broken c first b Quiet s w tt
+  unheard T U far qs w faults.NoMemory h = stopped_here who broken c first b Quiet s w tt
 
   -- nothing is sent
-  pub unsent : (tells : Config → Far → Type 0) (quiet : Bool) (far : Far) (y : ℕ) (m : Msg) (rest : List Msg) (qs now : List (List Msg)) (w : Option (List ℕ)) (f : Fault) (before count : ℕ) → CountsFault {T = Unit {0}} before count (Err f) → (Rose before count → broken) → far.present ≡ Some y → IsNode y → Holds A c first s far qs
-      → queue_of qs y ≡ m ∷ rest → now ≡ set qs y rest → SendsTo c far m quiet (tells c) (Err f) → (quiet ≡ true) ⊎ GoesOn name broken Quiet QuietEnd A (WithNode tells c y) c first s now w w (missed_by f)
-  unsent tells quiet far y m rest qs now w faults.Link before count rose why present is h q e (inl gone) = inr (subst (λ (x : List (List Msg)). Went name broken Quiet A (WithNode tells c y) c first s x w w) (sym e) (gone_on tells far y present is w (why rose.0) qs m rest h q gone.told))
-  unsent tells quiet far y m rest qs now w faults.Link before count rose why present is h q e (inr silent) = inl silent
-  unsent tells quiet far y m rest qs now w (faults.BadFrame fault) before count rose why present is h q e sent = absurd sent
-  unsent tells quiet far y m rest qs now w faults.NoMemory before count rose why present is h q e sent = inr (stopped_here name broken c first b Quiet s w tt)
+  pub unsent : (tells : Config → Far → Type 0) (quiet : Bool) (far : Far) (y : ℕ) (m : Msg) (rest : List Msg) (qs now : List (List Msg)) (w : Option (List ℕ)) (f : Fault) (before count : ℕ) → CountsFault {T = Unit {0}} before count (Err f) → (Rose before count → broken) → far.present ≡ Some y → far.answers ≡ [] → IsNode y → Holds A c first s far qs
+      → queue_of qs y ≡ m ∷ rest → now ≡ set qs y rest → SendsTo c far m quiet (tells c) (Err f) → (quiet ≡ true) ⊎ GoesOn who broken Quiet QuietEnd A (WithNode tells c y) c first s now w w (missed_by f)
+  unsent tells quiet far y m rest qs now w faults.Link before count rose why present none is h q e (inl gone) = inr (subst (λ (x : List (List Msg)). Went who broken Quiet A (WithNode tells c y) c first s x w w) (sym e) (gone_on tells far y present none is w (why rose.0) qs m rest h q gone.told))
+  unsent tells quiet far y m rest qs now w faults.Link before count rose why present none is h q e (inr silent) = inl silent
+  unsent tells quiet far y m rest qs now w (faults.BadFrame fault) before count rose why present none is h q e sent = absurd sent
+  unsent tells quiet far y m rest qs now w faults.NoMemory before count rose why present none is h q e sent = inr (stopped_here who broken c first b Quiet s w tt)
 
   -- a node is dialed
-  pub dialed : (tells : Config → Far → Type 0) (far : Far) (y : ℕ) (qs : List (List Msg)) (w : Option (List ℕ)) → Holds A c first s far qs → tells c (record { nodes = far.nodes; present = Some y; answers = [] }) → Went name broken Quiet A (WithNode tells c y) c first s qs w w
-  dialed tells far y qs w h t = went_quietly name broken c first b Quiet A (WithNode tells c y) s (record { nodes = far.nodes; present = Some y; answers = [] }) qs w (t, refl) (turn_to name broken c first b A apart s far (Some y) qs h)
+  pub dialed : (tells : Config → Far → Type 0) (far : Far) (y : ℕ) (qs : List (List Msg)) (w : Option (List ℕ)) → far.answers ≡ [] → Holds A c first s far qs → tells c (record { nodes = far.nodes; present = Some y; answers = [] }) → Went who broken Quiet A (WithNode tells c y) c first s qs w w
+  dialed tells far y qs w none h t = went_quietly who broken c first b Quiet A (WithNode tells c y) s (record { nodes = far.nodes; present = Some y; answers = [] }) qs w ((t, refl), refl) (turn_to who broken c first b A apart s far (Some y) qs none h)
 
   -- a node wasn't reached, and what waits for it is dropped
-  pub missed : broken → (T : Far → Type 0) (far : Far) (y : ℕ) (qs : List (List Msg)) (w : Option (List ℕ)) → IsNode y → Holds A c first s far qs → T (record { nodes = far.nodes; present = None; answers = [] }) → Went name broken Quiet A T c first s (set qs y []) w w
-  missed why T far y qs w is h t =
+  pub missed : broken → (T : Far → Type 0) (far : Far) (y : ℕ) (qs : List (List Msg)) (w : Option (List ℕ)) → far.answers ≡ [] → IsNode y → Holds A c first s far qs → T (record { nodes = far.nodes; present = None; answers = [] }) → Went who broken Quiet A T c first s (set qs y []) w w
+  missed why T far y qs w none is h t =
       let end : Far = record { nodes = far.nodes; present = None; answers = [] } in
-      let m = turn_to name broken c first b A apart s far None qs h in
-      went_quietly name broken c first b Quiet A T s end (set qs y []) w t (moved_quietly name broken c first b A A s end end qs (set qs y []) [] [] m (lose_queue name broken c first b A apart why m.state end qs y m.holds is))
+      let m = turn_to who broken c first b A apart s far None qs none h in
+      went_quietly who broken c first b Quiet A T s end (set qs y []) w t (moved_quietly who broken c first b A A s end end qs (set qs y []) [] [] m (lose_queue who broken c first b A apart why m.state end qs y m.holds is))
 
   -- what waits for a node is dropped
-  pub dropped : broken → (T : Far → Type 0) (qs : List (List Msg)) (y : ℕ) (old new : Option (List ℕ)) → IsNode y → Went name broken Quiet A T c first s qs old new → Went name broken Quiet A T c first s (set qs y []) old new
+  pub dropped : broken → (T : Far → Type 0) (qs : List (List Msg)) (y : ℕ) (old new : Option (List ℕ)) → IsNode y → Went who broken Quiet A T c first s qs old new → Went who broken Quiet A T c first s (set qs y []) old new
   dropped why T qs y old new is w =
-      went_quiet name broken c first b A A T T s qs (set qs y []) old new new w (went_quietly name broken c first b Quiet A T w.moved.state w.far (set qs y []) new w.told (lose_queue name broken c first b A apart why w.moved.state w.far qs y w.moved.holds is))
+      went_quiet who broken c first b A A T T s qs (set qs y []) old new new w (went_quietly who broken c first b Quiet A T w.moved.state w.far (set qs y []) new w.told (lose_queue who broken c first b A apart why w.moved.state w.far qs y w.moved.holds is))

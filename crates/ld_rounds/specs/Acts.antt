@@ -1,11 +1,11 @@
 -- What a step of an actor does.
-use Rattle.std.specs.Prelude.{ℕ, ◌≡◌, List, false}
+use Rattle.std.specs.Prelude.{ℕ, ◌≡◌, List, Bool, false}
 use Rattle.std.specs.List.{AllByRecursion}
 use Rattle.ld_machine.specs.State.{State, Done}
 use Rattle.ld_transcript.specs.declared.line.Line.{Line}
 use Rattle.ld_msg.specs.declared.msg.Msg.{Msg}
 use Rattle.ld_rounds.specs.News.{is_answer}
-use Rattle.ld_rounds.specs.Drives.{own_lines}
+use Rattle.ld_rounds.specs.Drives.{own_lines, Driver}
 
 -- the actor stands for its part of the state then, neither nodes nor messages have changed, and the lines and the messages are those, all its own
 pub record IsActed (stands : State → Type 0) (s : State) (ls : List Line) (ms : List Msg) (done : Done) : Type 0 where
@@ -17,7 +17,12 @@ pub record IsActed (stands : State → Type 0) (s : State) (ls : List Line) (ms 
   pub own : own_lines ls ≡ ls
   pub asks : AllByRecursion (λ m. is_answer m ≡ false) ms
 
--- what an actor is called, and the log that it's of
+-- what an actor is called, the log that it's of, and whether it takes a message in a state
 pub record Own : Type 0 where
   pub name : List ℕ
   pub log : ℕ
+  pub takes : State → Msg → Bool
+
+-- it is driven under this name
+abbrev pub driver : List ℕ → Own → Driver
+driver name own = record { name = name; takes = own.takes }

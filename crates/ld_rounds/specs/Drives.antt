@@ -21,6 +21,7 @@ use Rattle.ld_rounds.specs.declared.ended.Ended.{Ended}
 use Rattle.ld_rounds.specs.declared.ended.Ended.TheVariants as ends
 use Rattle.ld_rounds.specs.News.{is_answer, AreNews}
 use Rattle.ld_rounds.specs.Output.{AppendsPart}
+use Rattle.ld_rounds.specs.Telling.{AnswersOnce}
 
 -- a line of an actor, and not of a node, of what is set, of a message or of a step without lines
 abbrev pub is_own : Line → Bool
@@ -52,33 +53,43 @@ IsBroken faults faults_now endings endings_now = Rose faults faults_now ⊎ Rose
 abbrev pub AreLater : ℕ → ℕ → ℕ → ℕ → Type 0
 AreLater faults faults_now endings endings_now = (faults ≤ faults_now) × (endings ≤ endings_now)
 
--- a message to a node is lost only where that is broken; an answer may be lost
-abbrev pub MayLose : Type 0 → Option Msg → Type 0
-MayLose broken None = ⊥
-MayLose broken (Some m) = broken ⊎ (is_answer m ≡ true)
+-- a message to a node is lost only where that is broken, and an answer only where the actor doesn't take it
+abbrev pub MayLose : Type 0 → (Msg → Bool) → Option Msg → Type 0
+MayLose broken takes None = ⊥
+MayLose broken takes (Some m) = ((is_answer m ≡ false) × broken) ⊎ ((is_answer m ≡ true) × (takes m ≡ false))
+
+-- an answer is delivered only where the actor takes it
+abbrev pub MayDeliver : (Msg → Bool) → Option Msg → Type 0
+MayDeliver takes None = ⊥
+MayDeliver takes (Some m) = (is_answer m ≡ false) ⊎ (takes m ≡ true)
 
 -- ---- steps ----
 
--- in this state the event is one of the drive of the actor of this name
-abbrev pub IsDriven : List ℕ → Type 0 → State → Event → Type 0
-IsDriven name broken s (events.Activate n l) = n ≡ name
-IsDriven name broken s (events.Append n payload) = n ≡ name
-IsDriven name broken s (events.Retry n) = n ≡ name
-IsDriven name broken s (events.Open n l from until) = n ≡ name
-IsDriven name broken s (events.Poll n) = n ≡ name
-IsDriven name broken s (events.Deliver i) = Unit {0}
-IsDriven name broken s (events.Lose i) = MayLose broken (message s.network i)
-IsDriven name broken s _ = ⊥
+-- the actor that is driven: what it is called, and whether it takes a message in a state
+pub record Driver : Type 0 where
+  pub name : List ℕ
+  pub takes : State → Msg → Bool
+
+-- in this state the event is one of its drive
+abbrev pub IsDriven : Driver → Type 0 → State → Event → Type 0
+IsDriven who broken s (events.Activate n l) = n ≡ who.name
+IsDriven who broken s (events.Append n payload) = n ≡ who.name
+IsDriven who broken s (events.Retry n) = n ≡ who.name
+IsDriven who broken s (events.Open n l from until) = n ≡ who.name
+IsDriven who broken s (events.Poll n) = n ≡ who.name
+IsDriven who broken s (events.Deliver i) = MayDeliver (who.takes s) (message s.network i)
+IsDriven who broken s (events.Lose i) = MayLose broken (who.takes s) (message s.network i)
+IsDriven who broken s _ = ⊥
 
 -- one after the other
-abbrev pub AreDriven : List ℕ → Type 0 → Config → State → List Event → Type 0
-AreDriven name broken c s [] = Unit {0}
-AreDriven name broken c s (e ∷ es) = IsDriven name broken s e × AreDriven name broken c (step c s e).state es
+abbrev pub AreDriven : Driver → Type 0 → Config → State → List Event → Type 0
+AreDriven who broken c s [] = Unit {0}
+AreDriven who broken c s (e ∷ es) = IsDriven who broken s e × AreDriven who broken c (step c s e).state es
 
 -- such events lead from the one state to the other, and those are the actor's lines of their steps
-pub record Goes (name : List ℕ) (broken : Type 0) (P : State → List Event → Type 0) (c : Config) (s next : State) (ls : List Line) : Type 0 where
+pub record Goes (who : Driver) (broken : Type 0) (P : State → List Event → Type 0) (c : Config) (s next : State) (ls : List Line) : Type 0 where
   pub steps : List Event
-  pub driven : AreDriven name broken c s steps
+  pub driven : AreDriven who broken c s steps
   pub such : P s steps
   pub state : next ≡ state_after c s steps
   pub lines : ls ≡ own_lines (lines_of c s steps)
@@ -96,40 +107,41 @@ pub record Holds (stands : Config → State → Type 0) (c : Config) (first : �
   pub news : AreNews first s.network queues far.answers
 
 -- such steps led to a state that holds, with these lines
-pub record Moved (name : List ℕ) (broken : Type 0) (P : State → List Event → Type 0) (stands : Config → State → Type 0) (c : Config) (first : ℕ) (s : State) (far : Far) (queues : List (List Msg)) (ls : List Line) : Type 0 where
+pub record Moved (who : Driver) (broken : Type 0) (P : State → List Event → Type 0) (stands : Config → State → Type 0) (c : Config) (first : ℕ) (s : State) (far : Far) (queues : List (List Msg)) (ls : List Line) : Type 0 where
   pub state : State
-  pub goes : Goes name broken P c s state ls
+  pub goes : Goes who broken P c s state ls
   pub holds : Holds stands c first state far queues
 
 -- it went on by such steps to a state for which it stands, and wrote the actor's lines of the steps
-pub record Went (name : List ℕ) (broken : Type 0) (P : State → List Event → Type 0) (stands : Config → State → Type 0) (tells : Far → Type 0) (c : Config) (first : ℕ) (s : State) (queues : List (List Msg)) (old new : Option (List ℕ)) : Type 0 where
+pub record Went (who : Driver) (broken : Type 0) (P : State → List Event → Type 0) (stands : Config → State → Type 0) (tells : Far → Type 0) (c : Config) (first : ℕ) (s : State) (queues : List (List Msg)) (old new : Option (List ℕ)) : Type 0 where
   pub far : Far
   pub lines : List Line
   pub told : tells far
-  pub moved : Moved name broken P stands c first s far queues lines
+  pub moved : Moved who broken P stands c first s far queues lines
   pub written : Appends old new (text lines)
 
 -- it went on by such steps to a state, and wrote the actor's lines of the steps, the last ones in part
-pub record Stopped (name : List ℕ) (broken : Type 0) (P : State → List Event → Type 0) (c : Config) (s : State) (old new : Option (List ℕ)) : Type 0 where
+pub record Stopped (who : Driver) (broken : Type 0) (P : State → List Event → Type 0) (c : Config) (s : State) (old new : Option (List ℕ)) : Type 0 where
   pub state : State
   pub lines : List Line
-  pub goes : Goes name broken P c s state lines
+  pub goes : Goes who broken P c s state lines
   pub written : AppendsPart old new (text lines)
 
--- at want of memory and where the output failed it is the first
+-- at want of memory and where the output failed it is the first; nodes that are told of answer only frames of messages
 abbrev pub CutOr : Type 0 → Type 0 → Ended → Type 0
 CutOr cut whole ends.NoMemory = cut
 CutOr cut whole ends.Write = cut
+CutOr cut whole (ends.BadFrame fault) = ⊥
 CutOr cut whole _ = whole
 
 -- how it went where the drive ends: at want of memory and where the output failed the last step may have been done in part
-abbrev pub Stops : List ℕ → Type 0 → (Ended → State → List Event → Type 0) → (Config → State → Type 0) → (Far → Type 0) → Config → ℕ → State → List (List Msg) → Option (List ℕ) → Option (List ℕ) → Ended → Type 0
-Stops name broken E stands tells c first s queues old new ended = CutOr (Stopped name broken (E ended) c s old new) (Went name broken (E ended) stands tells c first s queues old new) ended
+abbrev pub Stops : Driver → Type 0 → (Ended → State → List Event → Type 0) → (Config → State → Type 0) → (Far → Type 0) → Config → ℕ → State → List (List Msg) → Option (List ℕ) → Option (List ℕ) → Ended → Type 0
+Stops who broken E stands tells c first s queues old new ended = CutOr (Stopped who broken (E ended) c s old new) (Went who broken (E ended) stands tells c first s queues old new) ended
 
 -- where it goes on by such steps, and where the drive ends by others
-abbrev pub GoesOn : {T : Type 0} → List ℕ → Type 0 → (State → List Event → Type 0) → (Ended → State → List Event → Type 0) → (Config → State → Type 0) → (Far → Type 0) → Config → ℕ → State → List (List Msg) → Option (List ℕ) → Option (List ℕ) → Result T Ended → Type 0
-GoesOn name broken P E stands tells c first s queues old new (Ok _) = Went name broken P stands tells c first s queues old new
-GoesOn name broken P E stands tells c first s queues old new (Err ended) = Stops name broken E stands tells c first s queues old new ended
+abbrev pub GoesOn : {T : Type 0} → Driver → Type 0 → (State → List Event → Type 0) → (Ended → State → List Event → Type 0) → (Config → State → Type 0) → (Far → Type 0) → Config → ℕ → State → List (List Msg) → Option (List ℕ) → Option (List ℕ) → Result T Ended → Type 0
+GoesOn who broken P E stands tells c first s queues old new (Ok _) = Went who broken P stands tells c first s queues old new
+GoesOn who broken P E stands tells c first s queues old new (Err ended) = Stops who broken E stands tells c first s queues old new ended
 
 -- it went on so, by a number of rounds from the one number on and below the other
 pub record Turned (low high : ℕ) (went : ℕ → Type 0) : Type 0 where
@@ -144,6 +156,14 @@ TookRounds rounds all some part (Ok false) = all rounds
 TookRounds rounds all some part (Ok true) = Turned 1 (rounds + 1) some
 TookRounds rounds all some part (Err ended) = Turned 0 rounds (part ended)
 
--- the nodes are told of, and this one is present
+-- the nodes are told of, and no answer is to be taken
+abbrev pub AllTaken : (Far → Type 0) → Far → Type 0
+AllTaken tells far = tells far × (far.answers ≡ [])
+
+-- so, and this one is present
 abbrev pub WithNode : (Config → Far → Type 0) → Config → ℕ → Far → Type 0
-WithNode tells c y far = tells c far × (far.present ≡ Some y)
+WithNode tells c y far = AllTaken (tells c) far × (far.present ≡ Some y)
+
+-- the nodes are told of, this one is present, and at most one answer of it is to be taken
+abbrev pub Answering : (Config → Far → Type 0) → Config → ℕ → Far → Type 0
+Answering tells c y far = tells c far × (far.present ≡ Some y) × AnswersOnce y far.answers

@@ -49,12 +49,11 @@ Quiet s es = AllByRecursion (λ e. is_quiet e ≡ true) es
 abbrev pub QuietEnd : Ended → State → List Event → Type 0
 QuietEnd ended = Quiet
 
--- quiet steps to a state in which no message that is new from the first place on waits for the node
+-- quiet steps to a state in which no message that is new from the first place on waits for the node, and no answer is to be taken
 pub record IsVisit (c : Config) (first y : ℕ) (s : State) (es : List Event) : Type 0 where
   pub quiet : Quiet s es
   pub queues : List (List Msg)
-  pub answers : List Msg
-  pub news : AreNews first (state_after c s es).network queues answers
+  pub news : AreNews first (state_after c s es).network queues []
   pub emptied : queue_of queues y ≡ []
 
 -- the nodes are visited one after the other

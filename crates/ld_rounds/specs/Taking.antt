@@ -9,18 +9,18 @@ use Rattle.ld_rounds.specs.declared.ended.Ended.{Ended}
 use Rattle.ld_rounds.specs.declared.ended.Ended.TheVariants as ends
 use Rattle.ld_rounds.specs.Input.{Input}
 use Rattle.ld_rounds.specs.Rounds.{Appends, AppendsUntil, AreReadRounds, ReadsUntil}
-use Rattle.ld_rounds.specs.Drives.{Went, Stops, TookRounds}
+use Rattle.ld_rounds.specs.Drives.{Driver, Went, Stops, TookRounds}
 
 -- of a sequencer over these nodes, with this to come
-abbrev pub TookAppends : List ℕ → Type 0 → List ℕ → Option Input → ℕ → (Config → State → Type 0) → (Far → Type 0) → Config → ℕ → State → List (List Msg) → Option (List ℕ) → Option (List ℕ) → Result Bool Ended → Type 0
-TookAppends name broken ys coming rounds stands tells c first s queues old new result = TookRounds rounds
-    (λ n. Went name broken (Appends name c first ys coming ends.Rounds n) stands tells c first s queues old new)
-    (λ n. Went name broken (Appends name c first ys coming ends.Done n) stands tells c first s queues old new)
-    (λ e n. Stops name broken (λ f. AppendsUntil name c first ys coming f n) stands tells c first s queues old new e) result
+abbrev pub TookAppends : Driver → Type 0 → List ℕ → Option Input → ℕ → (Config → State → Type 0) → (Far → Type 0) → Config → ℕ → State → List (List Msg) → Option (List ℕ) → Option (List ℕ) → Result Bool Ended → Type 0
+TookAppends who broken ys coming rounds stands tells c first s queues old new result = TookRounds rounds
+    (λ n. Went who broken (Appends who.name c first ys coming ends.Rounds n) stands tells c first s queues old new)
+    (λ n. Went who broken (Appends who.name c first ys coming ends.Done n) stands tells c first s queues old new)
+    (λ e n. Stops who broken (λ f. AppendsUntil who.name c first ys coming f n) stands tells c first s queues old new e) result
 
 -- of a reader over these nodes
-abbrev pub TookReads : List ℕ → Type 0 → List ℕ → ℕ → (Config → State → Type 0) → (Far → Type 0) → Config → ℕ → State → List (List Msg) → Option (List ℕ) → Option (List ℕ) → Result Bool Ended → Type 0
-TookReads name broken ys rounds stands tells c first s queues old new result = TookRounds rounds
-    (λ n. Went name broken (AreReadRounds name c first ys n) stands tells c first s queues old new)
-    (λ n. Went name broken (AreReadRounds name c first ys n) stands tells c first s queues old new)
-    (λ e n. Stops name broken (λ f. ReadsUntil name c first ys n) stands tells c first s queues old new e) result
+abbrev pub TookReads : Driver → Type 0 → List ℕ → ℕ → (Config → State → Type 0) → (Far → Type 0) → Config → ℕ → State → List (List Msg) → Option (List ℕ) → Option (List ℕ) → Result Bool Ended → Type 0
+TookReads who broken ys rounds stands tells c first s queues old new result = TookRounds rounds
+    (λ n. Went who broken (AreReadRounds who.name c first ys n) stands tells c first s queues old new)
+    (λ n. Went who broken (AreReadRounds who.name c first ys n) stands tells c first s queues old new)
+    (λ e n. Stops who broken (λ f. ReadsUntil who.name c first ys n) stands tells c first s queues old new e) result

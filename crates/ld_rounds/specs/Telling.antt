@@ -1,5 +1,5 @@
 -- What is told of an actor, and which messages it hears.
-use Rattle.std.specs.Prelude.{ℕ, ◌≡◌, ◌==◌, List, Bool, true, false, Option, None, Some}
+use Rattle.std.specs.Prelude.{ℕ, ◌≡◌, ◌==◌, List, [], ◌∷◌, Bool, true, false, Option, None, Some}
 use Rattle.std.specs.Io.KnownBytes.{Appends}
 use Rattle.ld_transcript.specs.Text.{text}
 use Rattle.ld_msg.specs.declared.msg.Who.{Who}
@@ -27,6 +27,12 @@ is_answered _ = false
 abbrev pub is_of : ℕ → Who → Bool
 is_of y (whos.Node n) = n == y
 is_of y _ = false
+
+-- at most one message, of this node
+abbrev pub AnswersOnce : ℕ → List Msg → Type 0
+AnswersOnce y [] = Unit {0}
+AnswersOnce y (m ∷ []) = is_of y m.from ≡ true
+AnswersOnce y (m ∷ n ∷ ms) = ⊥
 
 -- its messages wait for their nodes, its lines are written, and the drive ends by it or not
 pub record Told (heard : Heard) (end : Option Ended) (before now : List (List Msg)) (old new : Option (List ℕ)) : Type 0 where

@@ -36,7 +36,7 @@ pub trait Actor {
     /// It stands for its part of a state of the written machine.
     ghost stands: { Self → Config → State → Type 0 };
 
-    /// Who it is: no call changes that.
+    /// Who it is, and what it takes: no call changes that.
     ghost own: { Self → Own };
 
     /// The second one is what calls have made of the first.
@@ -47,7 +47,8 @@ pub trait Actor {
 
     /// Whether the message is for it, by the addressee and the log.
     fn is_for(&self, message: &Msg) -> bool
-        ensures { IsTrue result → hears self.now message.now };
+        ensures heard { IsTrue result → hears self.now message.now }
+        ensures taken { (c : Config) (s : State) → stands self.now c s → result ≡ (own self.now).takes s message.now };
 
     /// Takes a message of a node that is for it. It ends where it says so in a line. After want of memory it is of no use.
     fn hear(&mut self, alloc: Global, message: &Msg) -> Result<Heard, NoMemory>

@@ -10,8 +10,8 @@ ghost use Rattle.ld_machine.specs.Step.{happens};
 ghost use Rattle.ld_bounds.specs.Sound.{IsSound};
 ghost use Rattle.ld_dial.specs.Far.{Far};
 ghost use Rattle.ld_rounds.specs.Ends.{IsSaid};
-ghost use Rattle.ld_rounds.specs.Acts.{IsActed};
-ghost use Rattle.ld_rounds.specs.Drives.{Holds, GoesOn, IsBroken, AreLater};
+ghost use Rattle.ld_rounds.specs.Acts.{IsActed, Own, driver};
+ghost use Rattle.ld_rounds.specs.Drives.{Holds, GoesOn, AllTaken, IsBroken, AreLater};
 ghost use Rattle.ld_rounds.specs.Rounds.{IsOne, IsBegun, IsRetry, MayRetry, Adds, AddsUntil, Prepares, PreparesUntil, Rounds, RoundsUntil, taken_of, tells_full};
 ghost use Rattle.ld_rounds.specs.Taking.{TookAppends};
 ghost use Rattle.ld_rounds.specs.Endings.{IsEnding, IsLater};
@@ -77,8 +77,8 @@ fn add<A: Appends, O: Sink>(
     queues: &mut Queues,
     out: &mut O,
 ) -> Result<bool, Ended>
-    ensures held { (c : Config) (first : ℕ) (s : State) (far : Far) → IsInBounds c → Holds (A.stands sequencer.old) c first s far queues.old
-        → GoesOn name.now ⊥ (λ t es. IsOne (Append name.now payload.now) t es × IfOk result (λ full. taken_of c t es ≡ (if full then [] else payload.now ∷ []))) (λ e. IsBegun (Append name.now payload.now)) (A.stands sequencer.new) (λ now. now ≡ far) c first s queues.new (O.written out.old) (O.written out.new) result }
+    ensures held { (own : Own) (c : Config) (first : ℕ) (s : State) (far : Far) → IsInBounds c → Holds (A.stands sequencer.old) c first s far queues.old
+        → GoesOn (driver name.now own) ⊥ (λ t es. IsOne (Append name.now payload.now) t es × IfOk result (λ full. taken_of c t es ≡ (if full then [] else payload.now ∷ []))) (λ e. IsBegun (Append name.now payload.now)) (A.stands sequencer.new) (λ now. now ≡ far) c first s queues.new (O.written out.old) (O.written out.new) result }
     ensures itself { A.own sequencer.new ≡ A.own sequencer.old }
     ensures since { A.since sequencer.old sequencer.new }
     ensures cause { IfErr result (IsEnding (O.faults out.old) (O.faults out.new) (O.written out.old) (O.written out.new)) }
@@ -100,8 +100,8 @@ fn again<A: Appends, O: Sink>(
     queues: &mut Queues,
     out: &mut O,
 ) -> Result<(), Ended>
-    ensures held { (c : Config) (first : ℕ) (s : State) (far : Far) → IsInBounds c → Holds (A.stands sequencer.old) c first s far queues.old
-        → GoesOn name.now ⊥ (IsRetry name.now false) (λ e. MayRetry name.now false) (A.stands sequencer.new) (λ now. now ≡ far) c first s queues.new (O.written out.old) (O.written out.new) result }
+    ensures held { (own : Own) (c : Config) (first : ℕ) (s : State) (far : Far) → IsInBounds c → Holds (A.stands sequencer.old) c first s far queues.old
+        → GoesOn (driver name.now own) ⊥ (IsRetry name.now false) (λ e. MayRetry name.now false) (A.stands sequencer.new) (λ now. now ≡ far) c first s queues.new (O.written out.old) (O.written out.new) result }
     ensures itself { A.own sequencer.new ≡ A.own sequencer.old }
     ensures since { A.since sequencer.old sequencer.new }
     ensures cause { IfErr result (IsEnding (O.faults out.old) (O.faults out.new) (O.written out.old) (O.written out.new)) }
@@ -168,8 +168,8 @@ fn add_all<A: Appends, P: Payloads, O: Sink>(
     queues: &mut Queues,
     out: &mut O,
 ) -> Result<(), Ended>
-    ensures held { (c : Config) (first : ℕ) (s : State) (far : Far) → IsInBounds c → Holds (A.stands sequencer.old) c first s far queues.old
-        → GoesOn name.now ⊥ (Adds name.now c (upcoming feed.old.held (P.coming input.old)) (upcoming feed.new.held (P.coming input.new))) (AddsUntil name.now c (upcoming feed.old.held (P.coming input.old))) (A.stands sequencer.new) (λ now. now ≡ far) c first s queues.new (O.written out.old) (O.written out.new) result }
+    ensures held { (own : Own) (c : Config) (first : ℕ) (s : State) (far : Far) → IsInBounds c → Holds (A.stands sequencer.old) c first s far queues.old
+        → GoesOn (driver name.now own) ⊥ (Adds name.now c (upcoming feed.old.held (P.coming input.old)) (upcoming feed.new.held (P.coming input.new))) (AddsUntil name.now c (upcoming feed.old.held (P.coming input.old))) (A.stands sequencer.new) (λ now. now ≡ far) c first s queues.new (O.written out.old) (O.written out.new) result }
     ensures over { (origin : Option Input) → SameBehind origin (upcoming feed.old.held (P.coming input.old)) → WasOver origin feed.old.is_over (upcoming feed.old.held (P.coming input.old)) → WasOver origin feed.new.is_over (upcoming feed.new.held (P.coming input.new)) }
     ensures behind { OnOk result (SameBehind (upcoming feed.old.held (P.coming input.old)) (upcoming feed.new.held (P.coming input.new))) }
     ensures actor { A.own sequencer.new ≡ A.own sequencer.old }
@@ -205,8 +205,8 @@ fn prepare<A: Appends, P: Payloads, O: Sink>(
     queues: &mut Queues,
     out: &mut O,
 ) -> Result<(), Ended>
-    ensures held { (c : Config) (first : ℕ) (s : State) (far : Far) → IsInBounds c → Holds (A.stands sequencer.old) c first s far queues.old
-        → GoesOn name.now ⊥ (Prepares name.now c is_first (upcoming feed.old.held (P.coming input.old)) (upcoming feed.new.held (P.coming input.new))) (PreparesUntil name.now c is_first (upcoming feed.old.held (P.coming input.old))) (A.stands sequencer.new) (λ now. now ≡ far) c first s queues.new (O.written out.old) (O.written out.new) result }
+    ensures held { (own : Own) (c : Config) (first : ℕ) (s : State) (far : Far) → IsInBounds c → Holds (A.stands sequencer.old) c first s far queues.old
+        → GoesOn (driver name.now own) ⊥ (Prepares name.now c is_first (upcoming feed.old.held (P.coming input.old)) (upcoming feed.new.held (P.coming input.new))) (PreparesUntil name.now c is_first (upcoming feed.old.held (P.coming input.old))) (A.stands sequencer.new) (λ now. now ≡ far) c first s queues.new (O.written out.old) (O.written out.new) result }
     ensures over { (origin : Option Input) → SameBehind origin (upcoming feed.old.held (P.coming input.old)) → WasOver origin feed.old.is_over (upcoming feed.old.held (P.coming input.old)) → WasOver origin feed.new.is_over (upcoming feed.new.held (P.coming input.new)) }
     ensures behind { OnOk result (SameBehind (upcoming feed.old.held (P.coming input.old)) (upcoming feed.new.held (P.coming input.new))) }
     ensures actor { A.own sequencer.new ≡ A.own sequencer.old }
@@ -236,9 +236,9 @@ fn append_round<A: Appends, N: Nodes, P: Payloads, O: Sink>(
     queues: &mut Queues,
     out: &mut O,
 ) -> Result<(), Ended>
-    ensures held { (c : Config) (first : ℕ) (s : State) (far : Far) → IsInBounds c
-        → N.tells nodes.old c far → Holds (A.stands sequencer.old) c first s far queues.old
-        → (N.silent nodes.new ≡ true) ⊎ GoesOn name.now (IsBroken (N.faults nodes.old) (N.faults nodes.new) (N.endings nodes.old) (N.endings nodes.new)) (Rounds name.now c first (members set.now) is_first (upcoming feed.old.held (P.coming input.old)) (upcoming feed.new.held (P.coming input.new))) (RoundsUntil name.now c is_first (upcoming feed.old.held (P.coming input.old))) (A.stands sequencer.new) (N.tells nodes.new c) c first s queues.new (O.written out.old) (O.written out.new) result }
+    ensures held { (own : Own) → A.own sequencer.old ≡ own → (c : Config) (first : ℕ) (s : State) (far : Far) → IsInBounds c
+        → AllTaken (N.tells nodes.old c) far → Holds (A.stands sequencer.old) c first s far queues.old
+        → (N.silent nodes.new ≡ true) ⊎ GoesOn (driver name.now own) (IsBroken (N.faults nodes.old) (N.faults nodes.new) (N.endings nodes.old) (N.endings nodes.new)) (Rounds name.now c first (members set.now) is_first (upcoming feed.old.held (P.coming input.old)) (upcoming feed.new.held (P.coming input.new))) (RoundsUntil name.now c is_first (upcoming feed.old.held (P.coming input.old))) (A.stands sequencer.new) (AllTaken (N.tells nodes.new c)) c first s queues.new (O.written out.old) (O.written out.new) result }
     ensures silent { N.silent nodes.old ≡ true → N.silent nodes.new ≡ true }
     ensures over { (origin : Option Input) → SameBehind origin (upcoming feed.old.held (P.coming input.old)) → WasOver origin feed.old.is_over (upcoming feed.old.held (P.coming input.old)) → WasOver origin feed.new.is_over (upcoming feed.new.held (P.coming input.new)) }
     ensures behind { OnOk result (SameBehind (upcoming feed.old.held (P.coming input.old)) (upcoming feed.new.held (P.coming input.new))) }
@@ -277,10 +277,11 @@ pub fn append<A: Appends, N: Nodes, P: Payloads, O: Sink>(
     // drive stands for, round by round: it sends again, but not in the first, payloads are appended, and the set's nodes are
     // visited one after the other. The payloads that the machine took are the first ones that came, in their order; they are
     // all where it is done, and where it comes to a line that is off. The lines that were written are the sequencer's lines of
-    // those steps. A message to a node is lost only where a call of the nodes failed or a node had ended.
+    // those steps. A message to a node is lost only where a call of the nodes failed or a node had ended, and an answer only
+    // where the sequencer doesn't take it; it never ends with `BadFrame`.
     ensures held { (c : Config) (first : ℕ) (s : State) (far : Far) → IsInBounds c
-        → N.tells nodes.old c far → Holds (A.stands sequencer.old) c first s far queues.old
-        → (N.silent nodes.new ≡ true) ⊎ TookAppends name.now (IsBroken (N.faults nodes.old) (N.faults nodes.new) (N.endings nodes.old) (N.endings nodes.new)) (members set.now) (P.coming input.old) rounds (A.stands sequencer.new) (N.tells nodes.new c) c first s queues.new (O.written out.old) (O.written out.new) result }
+        → AllTaken (N.tells nodes.old c) far → Holds (A.stands sequencer.old) c first s far queues.old
+        → (N.silent nodes.new ≡ true) ⊎ TookAppends (driver name.now (A.own sequencer.old)) (IsBroken (N.faults nodes.old) (N.faults nodes.new) (N.endings nodes.old) (N.endings nodes.new)) (members set.now) (P.coming input.old) rounds (A.stands sequencer.new) (AllTaken (N.tells nodes.new c)) c first s queues.new (O.written out.old) (O.written out.new) result }
     ensures settled { IfOk result (λ done. done ≡ true → (A.settled sequencer.new ≡ true) × (are_empty queues.new ≡ true)) }
     ensures itself { P.identity input.new ≡ P.identity input.old }
     ensures actor { A.own sequencer.new ≡ A.own sequencer.old }

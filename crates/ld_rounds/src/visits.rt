@@ -11,7 +11,7 @@ ghost use Rattle.ld_machine.specs.State.{State};
 ghost use Rattle.ld_dial.specs.Far.{Far};
 ghost use Rattle.ld_rounds.specs.Queued.{queue_of};
 ghost use Rattle.ld_rounds.specs.Telling.{HasTold, IsTelling, is_of, is_answered, missed_by};
-ghost use Rattle.ld_rounds.specs.Drives.{Holds, GoesOn, WithNode, IsBroken, AreLater};
+ghost use Rattle.ld_rounds.specs.Drives.{Driver, Holds, GoesOn, AllTaken, WithNode, Answering, IsBroken, AreLater};
 ghost use Rattle.ld_rounds.specs.Rounds.{Quiet, QuietEnd, IsVisit, AreVisits};
 ghost use Rattle.ld_rounds.specs.Ends.{IsSaid};
 ghost use Rattle.ld_rounds.specs.Endings.{IsEnding, IsLater};
@@ -92,9 +92,9 @@ fn listen<A: Actor, N: Nodes, O: Sink>(
     queues: &mut Queues,
     out: &mut O,
 ) -> Result<bool, Ended>
-    ensures held { (name : List ℕ) (c : Config) (first : ℕ) (s : State) (far : Far) → IsInBounds c
-        → N.tells nodes.old c far → far.present ≡ Some node → Holds (A.stands actor.old) c first s far queues.old
-        → GoesOn name (IsBroken (N.faults nodes.old) (N.faults nodes.new) (N.endings nodes.old) (N.endings nodes.new)) Quiet QuietEnd (A.stands actor.new) (WithNode (N.tells nodes.new) c node) c first s queues.new (O.written out.old) (O.written out.new) result }
+    ensures held { (who : Driver) → who.takes ≡ (A.own actor.old).takes → (c : Config) (first : ℕ) (s : State) (far : Far) → IsInBounds c
+        → Answering (N.tells nodes.old) c node far → Holds (A.stands actor.old) c first s far queues.old
+        → GoesOn who (IsBroken (N.faults nodes.old) (N.faults nodes.new) (N.endings nodes.old) (N.endings nodes.new)) Quiet QuietEnd (A.stands actor.new) (WithNode (N.tells nodes.new) c node) c first s queues.new (O.written out.old) (O.written out.new) result }
     ensures silent { N.silent nodes.new ≡ N.silent nodes.old }
     ensures itself { A.own actor.new ≡ A.own actor.old }
     ensures since { A.since actor.old actor.new }
@@ -114,7 +114,7 @@ fn listen<A: Actor, N: Nodes, O: Sink>(
     Ok(true)
 }
 
-/// The actor takes the answer of the node, where it is of this node and for this actor.
+/// The actor takes the answer of the node, where it is of this node and for this actor; else the answer does nothing.
 fn take<A: Actor, O: Sink>(
     alloc: Global,
     node: NodeId,
@@ -124,15 +124,18 @@ fn take<A: Actor, O: Sink>(
     out: &mut O,
 ) -> Result<(), Ended>
     requires { IsMessage answer.now }
-    ensures held { (name : List ℕ) (c : Config) (first : ℕ) (s : State) (far : Far) (rest : List Message) → IsInBounds c
-        → far.answers ≡ answer.now ∷ rest → Holds (A.stands actor.old) c first s far queues.old
-        → GoesOn name ⊥ Quiet QuietEnd (A.stands actor.new) (λ now. now ≡ record far { answers = rest }) c first s queues.new (O.written out.old) (O.written out.new) result }
+    ensures held { (who : Driver) → who.takes ≡ (A.own actor.old).takes → (c : Config) (first : ℕ) (s : State) (far : Far) (rest : List Message) → IsInBounds c
+        → is_of node answer.now.from ≡ true → far.answers ≡ answer.now ∷ rest → Holds (A.stands actor.old) c first s far queues.old
+        → GoesOn who ⊥ Quiet QuietEnd (A.stands actor.new) (λ now. now ≡ record far { answers = rest }) c first s queues.new (O.written out.old) (O.written out.new) result }
     ensures itself { A.own actor.new ≡ A.own actor.old }
     ensures since { A.since actor.old actor.new }
     ensures cause { IfErr result (IsEnding (O.faults out.old) (O.faults out.new) (O.written out.old) (O.written out.new)) }
     ensures later { IsLater (O.faults out.old) (O.faults out.new) (O.written out.old) (O.written out.new) }
 {
-    if !is_of(answer, node) || !actor.is_for(answer) {
+    if !is_of(answer, node) {
+        return Ok(());
+    }
+    if !actor.is_for(answer) {
         return Ok(());
     }
     let Ok(heard) = actor.hear(alloc, answer) else {
@@ -153,10 +156,10 @@ fn exchange<A: Actor, N: Nodes, O: Sink>(
     out: &mut O,
 ) -> Result<bool, Ended>
     requires { IsMessage message.now }
-    ensures held { (name : List ℕ) (c : Config) (first : ℕ) (s : State) (far : Far) (before : List (List Message)) (rest : List Message) → IsInBounds c
-        → N.tells nodes.old c far → far.present ≡ Some node → Holds (A.stands actor.old) c first s far before
+    ensures held { (who : Driver) → who.takes ≡ (A.own actor.old).takes → (c : Config) (first : ℕ) (s : State) (far : Far) (before : List (List Message)) (rest : List Message) → IsInBounds c
+        → WithNode (N.tells nodes.old) c node far → Holds (A.stands actor.old) c first s far before
         → queue_of before node ≡ message.now ∷ rest → queues.old ≡ set before node rest
-        → (N.silent nodes.new ≡ true) ⊎ GoesOn name (IsBroken (N.faults nodes.old) (N.faults nodes.new) (N.endings nodes.old) (N.endings nodes.new)) Quiet QuietEnd (A.stands actor.new) (WithNode (N.tells nodes.new) c node) c first s queues.new (O.written out.old) (O.written out.new) result }
+        → (N.silent nodes.new ≡ true) ⊎ GoesOn who (IsBroken (N.faults nodes.old) (N.faults nodes.new) (N.endings nodes.old) (N.endings nodes.new)) Quiet QuietEnd (A.stands actor.new) (WithNode (N.tells nodes.new) c node) c first s queues.new (O.written out.old) (O.written out.new) result }
     ensures silent { N.silent nodes.old ≡ true → N.silent nodes.new ≡ true }
     ensures itself { A.own actor.new ≡ A.own actor.old }
     ensures since { A.since actor.old actor.new }
@@ -189,10 +192,11 @@ pub fn visit<A: Actor, N: Nodes, O: Sink>(
 ) -> Result<(), Ended>
     // Where the nodes tell what stands there: what was delivered, heard and lost are steps of the written machine from any
     // state that the drive stands for, and the lines that were written are the actor's lines of those steps. A message to a
-    // node is lost only where a call of the nodes failed or a node had ended. Where it goes on nothing waits for the node.
-    ensures held { (name : List ℕ) (c : Config) (first : ℕ) (s : State) (far : Far) → IsInBounds c
-        → N.tells nodes.old c far → Holds (A.stands actor.old) c first s far queues.old
-        → (N.silent nodes.new ≡ true) ⊎ GoesOn name (IsBroken (N.faults nodes.old) (N.faults nodes.new) (N.endings nodes.old) (N.endings nodes.new)) (IsVisit c first node) QuietEnd (A.stands actor.new) (N.tells nodes.new c) c first s queues.new (O.written out.old) (O.written out.new) result }
+    // node is lost only where a call of the nodes failed or a node had ended, and an answer only where the actor doesn't
+    // take it. Where it goes on nothing waits for the node, and no answer is to be taken.
+    ensures held { (who : Driver) → who.takes ≡ (A.own actor.old).takes → (c : Config) (first : ℕ) (s : State) (far : Far) → IsInBounds c
+        → AllTaken (N.tells nodes.old c) far → Holds (A.stands actor.old) c first s far queues.old
+        → (N.silent nodes.new ≡ true) ⊎ GoesOn who (IsBroken (N.faults nodes.old) (N.faults nodes.new) (N.endings nodes.old) (N.endings nodes.new)) (IsVisit c first node) QuietEnd (A.stands actor.new) (AllTaken (N.tells nodes.new c)) c first s queues.new (O.written out.old) (O.written out.new) result }
     ensures silent { N.silent nodes.old ≡ true → N.silent nodes.new ≡ true }
     ensures itself { A.own actor.new ≡ A.own actor.old }
     ensures since { A.since actor.old actor.new }
@@ -235,11 +239,12 @@ pub fn round<A: Actor, N: Nodes, O: Sink>(
 ) -> Result<(), Ended>
     // Where the nodes tell what stands there: what was delivered, heard and lost are steps of the written machine from any
     // state that the drive stands for, and the lines that were written are the actor's lines of those steps. A message to a
-    // node is lost only where a call of the nodes failed or a node had ended. Where it goes on they are visits of the set's
-    // nodes, one after the other: each leads to a state in which nothing waits for its node.
-    ensures held { (name : List ℕ) (c : Config) (first : ℕ) (s : State) (far : Far) → IsInBounds c
-        → N.tells nodes.old c far → Holds (A.stands actor.old) c first s far queues.old
-        → (N.silent nodes.new ≡ true) ⊎ GoesOn name (IsBroken (N.faults nodes.old) (N.faults nodes.new) (N.endings nodes.old) (N.endings nodes.new)) (AreVisits c first (members set.now)) QuietEnd (A.stands actor.new) (N.tells nodes.new c) c first s queues.new (O.written out.old) (O.written out.new) result }
+    // node is lost only where a call of the nodes failed or a node had ended, and an answer only where the actor doesn't
+    // take it. Where it goes on they are visits of the set's nodes, one after the other: each leads to a state in which
+    // nothing waits for its node, and no answer is to be taken.
+    ensures held { (who : Driver) → who.takes ≡ (A.own actor.old).takes → (c : Config) (first : ℕ) (s : State) (far : Far) → IsInBounds c
+        → AllTaken (N.tells nodes.old c) far → Holds (A.stands actor.old) c first s far queues.old
+        → (N.silent nodes.new ≡ true) ⊎ GoesOn who (IsBroken (N.faults nodes.old) (N.faults nodes.new) (N.endings nodes.old) (N.endings nodes.new)) (AreVisits c first (members set.now)) QuietEnd (A.stands actor.new) (AllTaken (N.tells nodes.new c)) c first s queues.new (O.written out.old) (O.written out.new) result }
     ensures silent { N.silent nodes.old ≡ true → N.silent nodes.new ≡ true }
     ensures itself { A.own actor.new ≡ A.own actor.old }
     ensures since { A.since actor.old actor.new }

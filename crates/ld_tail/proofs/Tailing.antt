@@ -29,25 +29,25 @@ use Rattle.ld_rounds.specs.Queued.{no_queues}
 use Rattle.ld_rounds.specs.News.{AreNews}
 use Rattle.ld_rounds.specs.Acts.{IsActed}
 use Rattle.ld_rounds.specs.Telling.{HasTold, IsTelling}
-use Rattle.ld_rounds.specs.Drives.{Holds, Went, Stopped, Stops, GoesOn}
+use Rattle.ld_rounds.specs.Drives.{Driver, AllTaken, Holds, Went, Stopped, Stops, GoesOn}
 use Rattle.ld_rounds.specs.Rounds.{IsOne, IsBegun, AreReadRounds, ReadsUntil}
 use Rattle.ld_rounds.specs.Taking.{TookReads}
 use Rattle.ld_rounds.specs.Reaching.{Begins, Reached}
 use Rattle.ld_rounds.specs.Endings.{IsEnding}
 use Rattle.ld_tail.specs.Looking.{IsLookEnd}
 use Rattle.ld_tail.specs.Readers.{Follows}
-use Rattle.ld_tail.specs.Tails.{HasNone, Wanted, opening, IsFinished, AreSteps, EndAt, IsTailed, IsTailEnd, DroveTail, end_of}
+use Rattle.ld_tail.specs.Tails.{HasNone, Wanted, opening, tailing, IsFinished, AreSteps, EndAt, IsTailed, IsTailEnd, DroveTail, end_of}
 use Rattle.ld_tail.proofs.Clients.{none_are}
 use Rattle.ld_rounds.proofs.News.{no_news}
 use Rattle.ld_rounds.proofs.Steps.{open_is}
 use Rattle.ld_rounds.proofs.Driving.{acted_on}
 use Rattle.ld_rounds.proofs.Joining.{splits_join}
-use Rattle.ld_rounds.proofs.Going.{halted, cut_by, goes_told, goes_as, goes_such, went_on, went_stops}
+use Rattle.ld_rounds.proofs.Going.{NoFrame, halted, cut_by, goes_told, goes_as, goes_such, went_on, went_stops}
 
 pub follows_apart : (fs : List (List ℕ × Following)) (U : Register → Type 0) (c : Config) (s : State) (nodes : List (ℕ × Node)) (network : Network) → Follows fs U c s → Follows fs U c (record s { nodes = nodes; network = network })
 follows_apart fs U c s nodes network h = record { readers = record { readers = h.readers.readers; logs = h.readers.logs }; register = h.register }
 
-module _ (name : List ℕ) (broken : Type 0) (c : Config) (b : IsInBounds c) (U : Register → Type 0) where
+module _ (who : Driver) (broken : Type 0) (c : Config) (b : IsInBounds c) (U : Register → Type 0) where
   pub begun : (s : State) (far : Far) → Begins (HasNone U) c s far → Holds (Follows [] U) c s.network.count s far no_queues
   begun s far h = record {
     sound = h.sound;
@@ -58,14 +58,18 @@ module _ (name : List ℕ) (broken : Type 0) (c : Config) (b : IsInBounds c) (U 
   }
 
   module _ (first : ℕ) (fs gs : List (List ℕ × Following)) (V : Register → Type 0) (s : State) (far : Far) (qs now : List (List Msg)) (old new : Option (List ℕ)) (heard : Heard) (h : Holds (Follows fs U) c first s far qs)
-      (r : Result (Unit {0}) Ended) (t : MatchResult r (λ u. HasTold heard qs now old new) (IsTelling heard qs now old new)) (T : Far → Type 0) (told : T far) where
-    pub opened_on : (log from until : ℕ) → Is64 until → IsActed (Follows gs V c) s heard.lines.items heard.sends (happens c s (events.Open name log from until))
-        → GoesOn name broken (IsOne (events.Open name log from until)) (λ e. IsBegun (events.Open name log from until)) (Follows gs V) T c first s now old new r
+      (r : Result (Unit {0}) Ended) (t : MatchResult r (λ u. HasTold heard qs now old new) (IsTelling heard qs now old new)) (n : NoFrame heard.end) (T : Far → Type 0) (told : T far) where
+    pub opened_on : (log from until : ℕ) → Is64 until → IsActed (Follows gs V c) s heard.lines.items heard.sends (happens c s (events.Open who.name log from until))
+        → GoesOn who broken (IsOne (events.Open who.name log from until)) (λ e. IsBegun (events.Open who.name log from until)) (Follows gs V) T c first s now old new r
     opened_on log from until is a =
-        let one : State → List Event → Type 0 = IsOne (events.Open name log from until) in
-        let begun : Ended → State → List Event → Type 0 = λ e. IsBegun (events.Open name log from until) in
-        let m = acted_on name broken c first b (Follows fs U) (follows_apart fs U) one (Follows gs V) (follows_apart gs V) s far qs (events.Open name log from until) heard.lines.items heard.sends refl refl is (open_is c s name log from until) h a in
-        goes_as name broken c first b one begun broken (Follows gs V) (λ f. f ≡ far) T s now old new r (λ l. l) (λ f e. subst T (sym e) told) (goes_told name broken c first b one begun (Follows gs V) s far qs now old new heard m (λ e es x. inr x) r t)
+        let one : State → List Event → Type 0 = IsOne (events.Open who.name log from until) in
+        let begun : Ended → State → List Event → Type 0 = λ e. IsBegun (events.Open who.name log from until) in
+        let m = acted_on who broken c first b (Follows fs U) (follows_apart fs U) one (Follows gs V) (follows_apart gs V) s far qs (events.Open who.name log from until) heard.lines.items heard.sends refl refl is (open_is c s who.name log from until) h a in
+        goes_as who broken c first b one begun broken (Follows gs V) (λ f. f ≡ far) T s now old new r (λ l. l) (λ f e. subst T (sym e) told) (goes_told who broken c first b one begun (Follows gs V) s far qs now old new heard m (λ e es x. inr x) r n t)
+
+-- where the drive goes on
+pub unframed_end : (o : Option Ended) → o ≡ None → NoFrame o
+unframed_end o e = subst NoFrame (sym e) tt
 
 -- the same under other words for the name and the log
 pub renamed : (A : State → Type 0) (c : Config) (s : State) (ls : List Line) (ms : List Msg) (n m : List ℕ) (k l from until : ℕ) → n ≡ m → k ≡ l → IsActed A s ls ms (happens c s (events.Open n k from until)) → IsActed A s ls ms (happens c s (events.Open m l from until))
@@ -85,15 +89,15 @@ module _ (w : Wanted) (broken : Type 0) (most : ℕ) (tells : Config → Far →
   abbrev at : State → List Event → Type 0
   at = EndAt w c s.network.count most
 
-  reached : (P : State → List Event → Type 0) (Q : State → Type 0) → (v : Went w.name broken P (Follows fs U) (tells c) c s.network.count s qs old new) → Q v.moved.state → Reached w.name broken P (tells c) c s old new Q
-  reached P Q v q = record { state = v.moved.state; far = v.far; lines = v.lines; told = v.told; nodes = v.moved.holds.nodes; goes = v.moved.goes; written = v.written; such = q }
+  reached : (P : State → List Event → Type 0) (Q : State → Type 0) → (v : Went (tailing w) broken P (Follows fs U) (AllTaken (tells c)) c s.network.count s qs old new) → Q v.moved.state → Reached (tailing w) broken P (tells c) c s old new Q
+  reached P Q v q = record { state = v.moved.state; far = v.far; lines = v.lines; told = v.told.0; nodes = v.moved.holds.nodes; goes = v.moved.goes; written = v.written; such = q }
 
-  cut : Went w.name broken at (Follows fs U) (tells c) c s.network.count s qs old new → Stopped w.name broken at c s old new
-  cut v = halted w.name broken c s.network.count b at (Follows fs U) (tells c) s qs old new v
+  cut : Went (tailing w) broken at (Follows fs U) (AllTaken (tells c)) c s.network.count s qs old new → Stopped (tailing w) broken at c s old new
+  cut v = halted (tailing w) broken c s.network.count b at (Follows fs U) (AllTaken (tells c)) s qs old new v
 
   -- it has ended before all rounds were taken
-  stopped_by : (e : Ended) → Stops w.name broken (λ f. at) (Follows fs U) (tells c) c s.network.count s qs old new e → DroveTail w broken most tells U c s old new (Err e)
-  stopped_by (ends.BadFrame fault) g = reached at (λ t. U t.register) g g.moved.holds.actor.register
+  stopped_by : (e : Ended) → Stops (tailing w) broken (λ f. at) (Follows fs U) (AllTaken (tells c)) c s.network.count s qs old new e → DroveTail w broken most tells U c s old new (Err e)
+  stopped_by (ends.BadFrame fault) g = g
   stopped_by ends.NoMemory g = g
   stopped_by ends.Write g = g
   stopped_by ends.Done g = cut g
@@ -107,25 +111,25 @@ module _ (w : Wanted) (broken : Type 0) (most : ℕ) (tells : Config → Far →
   stopped_by ends.Read g = cut g
 
   -- at the opening
-  pub stopped_tail : (e : Ended) → Stops w.name broken (λ f. IsBegun (opening w)) (Follows fs U) (tells c) c s.network.count s qs old new e → DroveTail w broken most tells U c s old new (Err e)
+  pub stopped_tail : (e : Ended) → Stops (tailing w) broken (λ f. IsBegun (opening w)) (Follows fs U) (AllTaken (tells c)) c s.network.count s qs old new e → DroveTail w broken most tells U c s old new (Err e)
   stopped_tail e g = stopped_by e
-      (goes_such w.name broken c s.network.count b {R = Unit {0}} (IsBegun (opening w)) (IsBegun (opening w)) (λ f. IsBegun (opening w)) (λ f. at) broken (Follows fs U) (tells c) (tells c) s qs old new (Err e) (λ x. x) (λ f t. t) (λ es x. x) (λ es x. inl x) g)
+      (goes_such (tailing w) broken c s.network.count b {R = Unit {0}} (IsBegun (opening w)) (IsBegun (opening w)) (λ f. IsBegun (opening w)) (λ f. at) broken (Follows fs U) (AllTaken (tells c)) (AllTaken (tells c)) s qs old new (Err e) (λ x. x) (λ f t. t) (λ es x. x) (λ es x. inl x) g)
 
-  module _ (A : Config → State → Type 0) (T : Far → Type 0) (rs : List (List Msg)) (mid : Option (List ℕ)) (v : Went w.name broken (IsOne (opening w)) A T c s.network.count s rs old mid) where
-    since : (n : ℕ) → Went w.name broken (AreReadRounds w.name c s.network.count (members c.nodes) n) (Follows fs U) (tells c) c s.network.count v.moved.state qs mid new → Went w.name broken (AreSteps w c s.network.count n) (Follows fs U) (tells c) c s.network.count s qs old new
-    since n g = went_on w.name broken c s.network.count b (IsOne (opening w)) (AreReadRounds w.name c s.network.count (members c.nodes) n) (AreSteps w c s.network.count n) A (Follows fs U) T (tells c) s rs qs old mid new
+  module _ (A : Config → State → Type 0) (T : Far → Type 0) (rs : List (List Msg)) (mid : Option (List ℕ)) (v : Went (tailing w) broken (IsOne (opening w)) A T c s.network.count s rs old mid) where
+    since : (n : ℕ) → Went (tailing w) broken (AreReadRounds w.name c s.network.count (members c.nodes) n) (Follows fs U) (AllTaken (tells c)) c s.network.count v.moved.state qs mid new → Went (tailing w) broken (AreSteps w c s.network.count n) (Follows fs U) (AllTaken (tells c)) c s.network.count s qs old new
+    since n g = went_on (tailing w) broken c s.network.count b (IsOne (opening w)) (AreReadRounds w.name c s.network.count (members c.nodes) n) (AreSteps w c s.network.count n) A (Follows fs U) T (AllTaken (tells c)) s rs qs old mid new
         (splits_join c (IsOne (opening w)) (AreReadRounds w.name c s.network.count (members c.nodes) n)) v g
 
-    stops_since : (e : Ended) (n : ℕ) → n < most → Stops w.name broken (λ f. ReadsUntil w.name c s.network.count (members c.nodes) n) (Follows fs U) (tells c) c s.network.count v.moved.state qs mid new e → Stops w.name broken (λ f. at) (Follows fs U) (tells c) c s.network.count s qs old new e
+    stops_since : (e : Ended) (n : ℕ) → n < most → Stops (tailing w) broken (λ f. ReadsUntil w.name c s.network.count (members c.nodes) n) (Follows fs U) (AllTaken (tells c)) c s.network.count v.moved.state qs mid new e → Stops (tailing w) broken (λ f. at) (Follows fs U) (AllTaken (tells c)) c s.network.count s qs old new e
     stops_since e n f g =
         let P = IsOne (opening w) in
         let Q = ReadsUntil w.name c s.network.count (members c.nodes) n in
         let j = λ (t : State) (es fs : List Event) (x : P t es) (y : Q (state_after c t es) fs). inr (record { rounds = n; below = f; goes = splits_join c P Q t es fs x y }) in
-        cut_by e (went_stops w.name broken c s.network.count b P Q at A T s rs old mid new j v) (went_on w.name broken c s.network.count b P Q at A (Follows fs U) T (tells c) s rs qs old mid new j v) g
+        cut_by e (went_stops (tailing w) broken c s.network.count b P Q at A T s rs old mid new j v) (went_on (tailing w) broken c s.network.count b P Q at A (Follows fs U) T (AllTaken (tells c)) s rs qs old mid new j v) g
 
     -- the reader is opened, and driven
     drove : (r : Result Bool Ended) → IfOk r (λ done. done ≡ true → finished_in (find_named w.name fs) ≡ true)
-        → TookReads w.name broken (members c.nodes) most (Follows fs U) (tells c) c s.network.count v.moved.state qs mid new r → DroveTail w broken most tells U c s old new r
+        → TookReads (tailing w) broken (members c.nodes) most (Follows fs U) (AllTaken (tells c)) c s.network.count v.moved.state qs mid new r → DroveTail w broken most tells U c s old new r
     drove (Ok false) f g = let u = since most g in reached (AreSteps w c s.network.count most) (λ t. U t.register) u u.moved.holds.actor.register
     drove (Ok true) f g =
         let u = since g.rounds g.goes in
@@ -140,7 +144,7 @@ module _ (w : Wanted) (broken : Type 0) (most : ℕ) (tells : Config → Far →
 
     -- where it isn't silent
     pub drove_loud : (Y : Type 0) (r : Result Bool Ended) → IfOk r (λ done. done ≡ true → finished_in (find_named w.name fs) ≡ true)
-        → Y ⊎ TookReads w.name broken (members c.nodes) most (Follows fs U) (tells c) c s.network.count v.moved.state qs mid new r → Y ⊎ DroveTail w broken most tells U c s old new r
+        → Y ⊎ TookReads (tailing w) broken (members c.nodes) most (Follows fs U) (AllTaken (tells c)) c s.network.count v.moved.state qs mid new r → Y ⊎ DroveTail w broken most tells U c s old new r
     drove_loud Y r f (inl y) = inl y
     drove_loud Y r f (inr g) = inr (drove r f g)
 
@@ -180,7 +184,7 @@ module _ (damaged : ℕ → Type 0) (k n before now : ℕ) where
 
   module _ (w : Wanted) (broken : Type 0) (most : ℕ) (tells : Config → Far → Type 0) (U : Register → Type 0) (c : Config) (s : State) (old new : Option (List ℕ)) where
     abbrev Cut : Type 0
-    Cut = Stopped w.name broken (EndAt w c s.network.count most) c s old new
+    Cut = Stopped (tailing w) broken (EndAt w c s.network.count most) c s old new
 
     why_tailed : (e : Ended) → IsLookEnd damaged k n e → Cut → IsTailed w broken most tells U c s old new e
     why_tailed (ends.Register fault) h g = g

@@ -1,5 +1,5 @@
 -- A reader that is driven.
-use Rattle.std.specs.Prelude.{ℕ, ◌≡◌, List}
+use Rattle.std.specs.Prelude.{ℕ, ◌≡◌, List, Bool, false, ◌==◌, ◌&&◌}
 use Rattle.ld_config.specs.declared.config.Config.{Config}
 use Rattle.ld_msg.specs.declared.msg.Msg.{Msg}
 use Rattle.ld_msg.specs.declared.msg.Who.{Who}
@@ -18,6 +18,15 @@ pub record Follows (fs : List (List ℕ × Following)) (tells : Register → Typ
 abbrev pub ToReader : Who → Type 0
 ToReader (whos.Reader r) = Unit {0}
 ToReader _ = ⊥
+
+-- it goes to the reader of this number
+abbrev pub is_to : ℕ → Who → Bool
+is_to number (whos.Reader r) = r == number
+is_to number _ = false
+
+-- the first reader takes a message of its log that goes to it
+abbrev pub takes : ℕ → State → Msg → Bool
+takes log s m = is_to 0 m.to && (m.log == log)
 
 -- it goes to some reader, and is of this log
 abbrev pub IsOf : ℕ → Msg → Type 0

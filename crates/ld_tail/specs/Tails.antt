@@ -15,9 +15,10 @@ use Rattle.ld_dial.specs.Far.{Far}
 use Rattle.ld_rounds.specs.declared.ended.Ended.{Ended}
 use Rattle.ld_rounds.specs.declared.ended.Ended.TheVariants as ends
 use Rattle.ld_rounds.specs.Rounds.{Splits, IsOne, IsBegun, AreReadRounds, ReadsUntil}
-use Rattle.ld_rounds.specs.Drives.{Stopped, Turned}
+use Rattle.ld_rounds.specs.Drives.{Driver, Stopped, Turned}
 use Rattle.ld_rounds.specs.Reaching.{Reached}
 use Rattle.ld_tail.specs.Looking.{IsLookEnd}
+use Rattle.ld_tail.specs.Readers.{takes}
 
 -- it has no readers, and a register that is told
 pub record HasNone (tells : Register → Type 0) (s : State) : Type 0 where
@@ -33,6 +34,10 @@ pub record Wanted : Type 0 where
 
 abbrev pub opening : Wanted → Event
 opening w = Open w.name w.log w.from w.until
+
+-- the reader that is driven
+abbrev pub tailing : Wanted → Driver
+tailing w = record { name = w.name; takes = takes w.log }
 
 -- the reader of the name is past its last number
 pub record IsFinished (name : List ℕ) (s : State) : Type 0 where
@@ -56,12 +61,12 @@ pub record AreSome (w : Wanted) (c : Config) (first most : ℕ) (s : State) (es 
 abbrev pub EndAt : Wanted → Config → ℕ → ℕ → State → List Event → Type 0
 EndAt w c first most s es = IsBegun (opening w) s es ⊎ AreSome w c first most s es
 
--- by those steps, with these rounds; where it is done its reader is finished. Where it can't go on the last step may have been done in part
+-- by those steps, with these rounds; where it is done its reader is finished. It never ends with a frame that is off. Where it can't go on the last step may have been done in part
 abbrev pub IsTailed : Wanted → Type 0 → ℕ → (Config → Far → Type 0) → (Register → Type 0) → Config → State → Option (List ℕ) → Option (List ℕ) → Ended → Type 0
-IsTailed w broken rounds tells registered c s old new ends.Done = Turned 1 (rounds + 1) (λ n. Reached w.name broken (AreSteps w c s.network.count n) (tells c) c s old new (λ t. registered t.register × IsFinished w.name t))
-IsTailed w broken rounds tells registered c s old new ends.Rounds = Reached w.name broken (AreSteps w c s.network.count rounds) (tells c) c s old new (λ t. registered t.register)
-IsTailed w broken rounds tells registered c s old new (ends.BadFrame fault) = Reached w.name broken (EndAt w c s.network.count rounds) (tells c) c s old new (λ t. registered t.register)
-IsTailed w broken rounds tells registered c s old new _ = Stopped w.name broken (EndAt w c s.network.count rounds) c s old new
+IsTailed w broken rounds tells registered c s old new ends.Done = Turned 1 (rounds + 1) (λ n. Reached (tailing w) broken (AreSteps w c s.network.count n) (tells c) c s old new (λ t. registered t.register × IsFinished w.name t))
+IsTailed w broken rounds tells registered c s old new ends.Rounds = Reached (tailing w) broken (AreSteps w c s.network.count rounds) (tells c) c s old new (λ t. registered t.register)
+IsTailed w broken rounds tells registered c s old new (ends.BadFrame fault) = ⊥
+IsTailed w broken rounds tells registered c s old new _ = Stopped (tailing w) broken (EndAt w c s.network.count rounds) c s old new
 
 -- how it may end, by the counts of faults before and now: the register's first, and then the output's
 abbrev pub IsTailEnd : (ℕ → Type 0) → ℕ → ℕ → ℕ → ℕ → Ended → Type 0
@@ -76,7 +81,7 @@ abbrev pub DroveTail : Wanted → Type 0 → ℕ → (Config → Far → Type 0)
 DroveTail w broken rounds tells registered c s old new (Ok true) = IsTailed w broken rounds tells registered c s old new ends.Done
 DroveTail w broken rounds tells registered c s old new (Ok false) = IsTailed w broken rounds tells registered c s old new ends.Rounds
 DroveTail w broken rounds tells registered c s old new (Err (ends.BadFrame fault)) = IsTailed w broken rounds tells registered c s old new (ends.BadFrame fault)
-DroveTail w broken rounds tells registered c s old new (Err ended) = Stopped w.name broken (EndAt w c s.network.count rounds) c s old new
+DroveTail w broken rounds tells registered c s old new (Err ended) = Stopped (tailing w) broken (EndAt w c s.network.count rounds) c s old new
 
 -- how it ends, where this is why the reader can't go on
 abbrev pub end_of : Result Bool Ended → Ended → Ended

@@ -10,7 +10,7 @@ ghost use Rattle.ld_machine.specs.Step.{happens};
 ghost use Rattle.ld_clients.specs.Finished.{finished_in};
 ghost use Rattle.ld_rounds.specs.Acts.{IsActed};
 ghost use Rattle.ld_tail.specs.Looking.{HasLooked};
-ghost use Rattle.ld_tail.specs.Readers.{Follows, IsOf};
+ghost use Rattle.ld_tail.specs.Readers.{Follows, IsOf, takes};
 
 use crate::looking::{look_end, register_end};
 use ld_clients::{Outcome, Readers};
@@ -134,7 +134,7 @@ impl<G: Register> Actor for Reading<G> {
 
     ghost stands_apart = { λ a c s nodes network is. record { readers = record { readers = is.readers.readers; logs = is.readers.logs }; register = is.register } };
 
-    ghost own = { λ a. record { name = a.name; log = a.log } };
+    ghost own = { λ a. record { name = a.name; log = a.log; takes = takes a.log } };
 
     ghost since = { λ a b. HasLooked a.end b.end (G.told a.register) (G.told b.register) (G.holds a.register) (G.holds b.register) (G.may_hold a.register) (G.may_hold b.register) (G.faults a.register) (G.faults b.register) (G.identity a.register) (G.identity b.register) };
 

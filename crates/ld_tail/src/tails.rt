@@ -102,7 +102,8 @@ pub fn tail<G: Register, N: Nodes, O: Sink>(
     // Where the nodes and the register tell what stands there: all that was done are steps of the written machine from any state
     // without readers that they stand for: the reader is opened, and then round by round it polls, and the configuration's nodes
     // are visited one after the other. The lines that were written are the reader's lines of those steps. A message to a node is
-    // lost only where a call of the nodes failed or a node had ended.
+    // lost only where a call of the nodes failed or a node had ended, and an answer only where the reader doesn't take it. It
+    // never ends with `BadFrame`.
     ensures tailed { (s : State) (far : Far) → N.tells nodes.old config.now far → Begins (HasNone (G.tells register)) config.now s far
         → (N.silent nodes.new ≡ true) ⊎ IsTailed (record { name = name; log = log; from = from; until = until }) (IsBroken (N.faults nodes.old) (N.faults nodes.new) (N.endings nodes.old) (N.endings nodes.new)) rounds (N.tells nodes.new) (G.tells result.1) config.now s (O.written out.old) (O.written out.new) result.0 }
     ensures cause { IsTailEnd (λ place. G.told register → G.damaged register place) (G.faults register) (G.faults result.1) (O.faults out.old) (O.faults out.new) result.0 }

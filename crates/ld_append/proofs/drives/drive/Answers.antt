@@ -1,14 +1,16 @@
-use Rattle.std.proofs.Common.{◌≡◌, ◌∙◌, refl, ap, sym, subst, inl, inr, Ok, Err, None, true, List, []}
+use Rattle.std.proofs.Common.{◌≡◌, ◌⊎◌, ◌∙◌, ℕ, refl, ap, sym, subst, inl, inr, Ok, Err, None, true, List, []}
 use Rattle.std.proofs.lemmas.Result.{err_from_is_err_and}
+use Rattle.ld_ids.specs.Set.{members}
 use Rattle.ld_msg.specs.declared.msg.Msg.{Msg}
 use Rattle.ld_rounds.specs.declared.ended.Ended.TheVariants as ends
 use Rattle.ld_rounds.specs.Acts.{Own}
-use Rattle.ld_rounds.specs.Drives.{IsBroken, Holds}
+use Rattle.ld_rounds.specs.Drives.{AllTaken, IsBroken, Holds}
+use Rattle.ld_rounds.specs.Taking.{TookAppends}
 use Rattle.ld_rounds.proofs.Joining.{feeds_here, feeds_until}
-use Rattle.ld_append.specs.Appends.{EndAt}
+use Rattle.ld_append.specs.Appends.{EndAt, sequencing}
 use Rattle.ld_rounds.proofs.Going.{whatever, stopped_here}
 use Rattle.ld_append.proofs.Crowding.{shut_so, leaves_so}
-use Rattle.ld_append.specs.Acting.{Serves, MayCrowd, leaves_here}
+use Rattle.ld_append.specs.Acting.{Serves, takes, MayCrowd, leaves_here}
 use Rattle.ld_append.proofs.Appending.{begun, start_as, stopped_append, drove_loud}
 use Rattle.ld_append.proofs.Ending.{rounds_cause}
 use Rattle.ld_append.proofs.drives.drive.Goals as goal
@@ -24,7 +26,7 @@ returns-clause-cause g c = rounds_cause _ _ _ _ _ _ _ _ _ _ _ c.append.result c.
 pub returns-in_default-clause-drove : goal.returns-in_default-clause-drove
 returns-in_default-clause-drove g c named none s far b is unset told h =
     let i = g.P.Payloads.coming c.args.input.now in
-    inr (stopped_here c.args.name.now (IsBroken (g.N.Nodes.faults c.args.nodes.now) (g.N.Nodes.faults c.args.nodes.now) (g.N.Nodes.endings c.args.nodes.now) (g.N.Nodes.endings c.args.nodes.now)) c.args.config.now s.network.count b (EndAt c.args.name.now c.args.spec.now.log c.args.config.now s.network.count i c.args.rounds ends.NoMemory) s (g.O.Sink.written c.args.out.now) (inl (inl refl, feeds_until c.args.config.now i i ends.NoMemory s [] tt (feeds_here c.args.config.now i s))))
+    inr (stopped_here (sequencing c.args.name.now) (IsBroken (g.N.Nodes.faults c.args.nodes.now) (g.N.Nodes.faults c.args.nodes.now) (g.N.Nodes.endings c.args.nodes.now) (g.N.Nodes.endings c.args.nodes.now)) c.args.config.now s.network.count b (EndAt c.args.name.now c.args.spec.now.log c.args.config.now s.network.count i c.args.rounds ends.NoMemory) s (g.O.Sink.written c.args.out.now) (inl (inl refl, feeds_until c.args.config.now i i ends.NoMemory s [] tt (feeds_here c.args.config.now i s))))
 
 pub returns-in_err-start-clause-drove : goal.returns-in_err-start-clause-drove
 returns-in_err-start-clause-drove g c named none s far b is unset told h =
@@ -40,7 +42,7 @@ returns-in_err-start-clause-drove g c named none s far b is unset told h =
     let e = c.in_err-start.field-0.0 in
     let T = g.G.Register.tells a.register in
     let begins = subst (λ (qs : List (List Msg)). Holds (Serves a.name None T) k first s far qs) (sym c.in-Ok.ensures) (begun a.name T k s far h) in
-    let stops = start_as a.name name c.args.spec.now.log broken k b first (Serves z.name z.sequencer (g.G.Register.tells z.register)) far (g.N.Nodes.tells c.args.nodes.now k) s c.start.new.queues old new named told (Err e) (c.in_err-start.ensures.started none first s far b is unset begins) in
+    let stops = start_as a.name name c.args.spec.now.log broken k b first (Serves z.name z.sequencer (g.G.Register.tells z.register)) far (AllTaken (g.N.Nodes.tells c.args.nodes.now k)) s c.start.new.queues old new named (told, h.answers) (Err e) (c.in_err-start.ensures.started none first s far b is unset begins) in
     let i = g.P.Payloads.coming c.args.input.now in
     rw (p.1, p.2) (inr (stopped_append name c.args.spec.now.log broken i c.args.rounds (g.N.Nodes.tells c.args.nodes.now) k b s z.name (c.in_err-start.ensures.name ∙ named) z.sequencer (g.G.Register.tells z.register) c.start.new.queues old new
     (g.G.Register.told a.register → MayCrowd (g.G.Register.may_hold a.register) c.args.spec.now.log) (λ place. g.G.Register.told a.register → g.G.Register.damaged a.register place) i e 0 0 (g.O.Sink.faults c.args.out.now) (g.O.Sink.faults c.start.new.out) c.in_err-start.ensures.cause stops))
@@ -60,12 +62,13 @@ returns-clause-drove g c named none s far b is unset told h =
     let A = Serves z.name z.sequencer (g.G.Register.tells z.register) in
     let T = g.G.Register.tells a.register in
     let begins = subst (λ (qs : List (List Msg)). Holds (Serves a.name None T) k first s far qs) (sym c.in-Ok.ensures) (begun a.name T k s far h) in
-    let w = start_as a.name name c.args.spec.now.log broken k b first A far (g.N.Nodes.tells c.args.nodes.now k) s c.start.new.queues old mid named told (Ok tt) (c.in_ok-start.ensures.started none first s far b is unset begins) in
+    let w = start_as a.name name c.args.spec.now.log broken k b first A far (AllTaken (g.N.Nodes.tells c.args.nodes.now k)) s c.start.new.queues old mid named (told, h.answers) (Ok tt) (c.in_ok-start.ensures.started none first s far b is unset begins) in
     let i = g.P.Payloads.coming c.args.input.now in
     let same : y.name ≡ name = ap (λ (x : Own). x.name) c.append.ensures.actor ∙ (c.in_ok-start.ensures.name ∙ named) in
-    drove_loud name c.args.spec.now.log broken i c.args.rounds (g.N.Nodes.tells c.append.new.nodes) k b s y.name same y.sequencer (g.G.Register.tells y.register) c.append.new.queues old new A (g.N.Nodes.tells c.args.nodes.now k) c.start.new.queues mid
+    drove_loud name c.args.spec.now.log broken i c.args.rounds (g.N.Nodes.tells c.append.new.nodes) k b s y.name same y.sequencer (g.G.Register.tells y.register) c.append.new.queues old new A (AllTaken (g.N.Nodes.tells c.args.nodes.now k)) c.start.new.queues mid
     (g.G.Register.told a.register → MayCrowd (g.G.Register.may_hold a.register) c.args.spec.now.log) (λ place. g.G.Register.told a.register → g.G.Register.damaged a.register place) i (g.P.Payloads.faults c.args.input.now) (g.P.Payloads.faults c.append.new.input) (g.O.Sink.faults c.args.out.now) (g.O.Sink.faults c.append.new.out) w
-    (g.N.Nodes.silent c.append.new.nodes ≡ true) c.append.result c.append.ensures.settled (rounds_cause _ _ _ _ _ _ _ _ _ _ _ c.append.result c.in_ok-start.ensures.later c.append.ensures.cause) (c.append.ensures.held k first w.moved.state w.far b w.told w.moved.holds)
+    (g.N.Nodes.silent c.append.new.nodes ≡ true) c.append.result c.append.ensures.settled (rounds_cause _ _ _ _ _ _ _ _ _ _ _ c.append.result c.in_ok-start.ensures.later c.append.ensures.cause) (subst (λ (n : List ℕ). (g.N.Nodes.silent c.append.new.nodes ≡ true) ⊎ TookAppends (record { name = name; takes = takes n }) broken (members k.nodes) i c.args.rounds (Serves y.name y.sequencer (g.G.Register.tells y.register)) (AllTaken (g.N.Nodes.tells c.append.new.nodes k)) k first w.moved.state c.append.new.queues mid new c.append.result)
+    (c.in_ok-start.ensures.name ∙ named) (c.append.ensures.held k first w.moved.state w.far b w.told w.moved.holds))
 
 pub returns-clause-shut : goal.returns-clause-shut
 returns-clause-shut g c none unshut =

@@ -1,6 +1,7 @@
 use Rattle.std.proofs.Common.{◌≡◌, refl, inr, arith, Err, [], true, false}
 use Rattle.std.proofs.lemmas.Result.{err_from_is_err_and}
 use Rattle.ld_rounds.specs.Feeding.{upcoming}
+use Rattle.ld_rounds.specs.Acts.{driver}
 use Rattle.ld_rounds.specs.Rounds.{IsRetry, MayRetry, AreAppends, Adds, AddsUntil, Prepares, PreparesUntil}
 use Rattle.ld_rounds.proofs.Joining.{splits_end, feeds_join, until_join, feeds_until, retry_feeds}
 use Rattle.ld_rounds.proofs.Endings.{later_on}
@@ -9,23 +10,23 @@ use Rattle.ld_rounds.proofs.Going.{each_end, goes_such}
 use Rattle.ld_rounds.proofs.appends.prepare.Goals as goal
 
 pub returns-then-is_first-clause-held : goal.returns-then-is_first-clause-held
-returns-then-is_first-clause-held g c k first s far b h =
+returns-then-is_first-clause-held g c own k first s far b h =
     let name = c.args.name.now in
     let i = upcoming c.args.feed.now.held (g.P.Payloads.coming c.args.input.now) in
     let j = upcoming c.add_all.new.feed.held (g.P.Payloads.coming c.add_all.new.input) in
-    rw c.if-is_first.true (goes_such name ⊥ k first b {R = Unit {0}} (Adds name k i j) (Prepares name k true i j) (AddsUntil name k i) (PreparesUntil name k true i) ⊥ (g.A.Actor.stands c.add_all.new.sequencer) (λ now. now ≡ far) (λ now. now ≡ far) s c.add_all.new.queues (g.O.Sink.written c.args.out.now) (g.O.Sink.written c.add_all.new.out) c.add_all.result (λ x. x) (λ f t. t)
+    rw c.if-is_first.true (goes_such (driver c.args.name.now own) ⊥ k first b {R = Unit {0}} (Adds name k i j) (Prepares name k true i j) (AddsUntil name k i) (PreparesUntil name k true i) ⊥ (g.A.Actor.stands c.add_all.new.sequencer) (λ now. now ≡ far) (λ now. now ≡ far) s c.add_all.new.queues (g.O.Sink.written c.args.out.now) (g.O.Sink.written c.add_all.new.out) c.add_all.result (λ x. x) (λ f t. t)
     (λ es x. (record { front = []; rest = es; whole = refl; came = refl; goes = x.0 }, x.1)) (each_end c.add_all.result (λ e es x. (record { front = []; rest = es; whole = refl; came = refl; goes = x.0 }, x.1)))
-    (c.add_all.ensures.held k first s far b h))
+    (c.add_all.ensures.held own k first s far b h))
 
 pub returns-in_err-again-clause-held : goal.returns-in_err-again-clause-held
-returns-in_err-again-clause-held g c k first s far b h =
+returns-in_err-again-clause-held g c own k first s far b h =
     let p = err_from_is_err_and c.from_residual.result c.from_residual.ensures.1 in
     let name = c.args.name.now in
     let i = upcoming c.args.feed.now.held (g.P.Payloads.coming c.args.input.now) in
     let e = c.in_err-again.field-0.0 in
-    rw (p.1, p.2, c.if-is_first.false) (goes_such name ⊥ k first b {R = Unit {0}} (IsRetry name false) (IsRetry name false) (λ e. MayRetry name false) (PreparesUntil name k false i) ⊥ (g.A.Actor.stands c.again.new.sequencer) (λ now. now ≡ far) (λ now. now ≡ far) s c.again.new.queues (g.O.Sink.written c.args.out.now) (g.O.Sink.written c.again.new.out) (Err e) (λ x. x) (λ f t. t)
+    rw (p.1, p.2, c.if-is_first.false) (goes_such (driver c.args.name.now own) ⊥ k first b {R = Unit {0}} (IsRetry name false) (IsRetry name false) (λ e. MayRetry name false) (PreparesUntil name k false i) ⊥ (g.A.Actor.stands c.again.new.sequencer) (λ now. now ≡ far) (λ now. now ≡ far) s c.again.new.queues (g.O.Sink.written c.args.out.now) (g.O.Sink.written c.again.new.out) (Err e) (λ x. x) (λ f t. t)
     (λ es x. x) (λ es x. (splits_end k (MayRetry name false) (AreAppends name) s es x tt, feeds_until k i i e s es (partly _ _ _ _ e c.in_err-again.ensures.cause) (retry_feeds k i name false s es x)))
-    (c.in_err-again.ensures.held k first s far b h))
+    (c.in_err-again.ensures.held own k first s far b h))
 
 pub returns-in_err-again-clause-cause : goal.returns-in_err-again-clause-cause
 returns-in_err-again-clause-cause g c =
@@ -33,15 +34,15 @@ returns-in_err-again-clause-cause g c =
     rw (p.1, p.2) (of_ending _ _ _ _ _ _ _ c.in_err-again.field-0.0 c.in_err-again.ensures.cause)
 
 pub returns-clause-held : goal.returns-clause-held
-returns-clause-held g c k first s far b h =
+returns-clause-held g c own k first s far b h =
     let name = c.args.name.now in
     let i = upcoming c.args.feed.now.held (g.P.Payloads.coming c.args.input.now) in
     let j = upcoming c.add_all-2.new.feed.held (g.P.Payloads.coming c.add_all-2.new.input) in
-    let w = c.in_ok-again.ensures.held k first s far b h in
-    rw c.if-is_first.false (apart_on name ⊥ k first b {R = Unit {0}} (IsRetry name false) (Adds name k i j) (Prepares name k false i j) (AddsUntil name k i) (PreparesUntil name k false i) (g.A.Actor.stands c.again.new.sequencer) (g.A.Actor.stands c.add_all-2.new.sequencer) s far c.again.new.queues c.add_all-2.new.queues (g.O.Sink.written c.args.out.now) (g.O.Sink.written c.again.new.out) (g.O.Sink.written c.add_all-2.new.out) c.add_all-2.result
+    let w = c.in_ok-again.ensures.held own k first s far b h in
+    rw c.if-is_first.false (apart_on (driver c.args.name.now own) ⊥ k first b {R = Unit {0}} (IsRetry name false) (Adds name k i j) (Prepares name k false i j) (AddsUntil name k i) (PreparesUntil name k false i) (g.A.Actor.stands c.again.new.sequencer) (g.A.Actor.stands c.add_all-2.new.sequencer) s far c.again.new.queues c.add_all-2.new.queues (g.O.Sink.written c.args.out.now) (g.O.Sink.written c.again.new.out) (g.O.Sink.written c.add_all-2.new.out) c.add_all-2.result
     (λ t es fs x y. (record { front = es; rest = fs; whole = refl; came = x; goes = y.0 }, feeds_join k i i j t es fs (retry_feeds k i name false t es (inr x)) y.1))
     (each_end c.add_all-2.result (λ e t es fs x y. (record { front = es; rest = fs; whole = refl; came = inr x; goes = y.0 }, until_join k i i e t es fs (retry_feeds k i name false t es (inr x)) y.1))) w
-    (c.add_all-2.ensures.held k first w.moved.state w.far b w.moved.holds))
+    (c.add_all-2.ensures.held own k first w.moved.state w.far b w.moved.holds))
 
 pub returns-clause-cause : goal.returns-clause-cause
 returns-clause-cause g c = append_cause_since _ _ _ _ _ _ _ _ _ _ _ c.add_all-2.result (same_here _) (omega arith) c.in_ok-again.ensures.later c.add_all-2.ensures.cause

@@ -4,14 +4,14 @@ use Rattle.ld_rounds.specs.Drives.{IsBroken}
 use Rattle.ld_rounds.specs.Reaching.{Begins}
 use Rattle.ld_rounds.proofs.Going.{stopped_here}
 use Rattle.ld_tail.specs.Looking.{IsLookEnd, HeldNone, HasLooked, why_of}
-use Rattle.ld_tail.specs.Tails.{HasNone, EndAt, IsTailed, IsTailEnd, DroveTail}
+use Rattle.ld_tail.specs.Tails.{HasNone, EndAt, IsTailed, IsTailEnd, DroveTail, tailing}
 use Rattle.ld_tail.proofs.Looked.{why_is}
 use Rattle.ld_tail.proofs.Tailing.{tail_end, tailed_loud}
 use Rattle.ld_tail.proofs.tails.tail.Goals as goal
 
 pub returns-in_default-clause-tailed : goal.returns-in_default-clause-tailed
 returns-in_default-clause-tailed g c s far told h =
-    inr (stopped_here c.args.name (IsBroken (g.N.Nodes.faults c.args.nodes.now) (g.N.Nodes.faults c.args.nodes.now) (g.N.Nodes.endings c.args.nodes.now) (g.N.Nodes.endings c.args.nodes.now)) c.args.config.now s.network.count c.requires (EndAt (record { name = c.args.name; log = c.args.log; from = c.args.from; until = c.args.until }) c.args.config.now s.network.count c.args.rounds) s (g.O.Sink.written c.args.out.now) (inl (inl refl)))
+    inr (stopped_here (tailing (record { name = c.args.name; log = c.args.log; from = c.args.from; until = c.args.until })) (IsBroken (g.N.Nodes.faults c.args.nodes.now) (g.N.Nodes.faults c.args.nodes.now) (g.N.Nodes.endings c.args.nodes.now) (g.N.Nodes.endings c.args.nodes.now)) c.args.config.now s.network.count c.requires (EndAt (record { name = c.args.name; log = c.args.log; from = c.args.from; until = c.args.until }) c.args.config.now s.network.count c.args.rounds) s (g.O.Sink.written c.args.out.now) (inl (inl refl)))
 
 pub returns-clause-tailed : goal.returns-clause-tailed
 returns-clause-tailed g c s far told h =
