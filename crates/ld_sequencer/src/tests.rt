@@ -77,7 +77,9 @@ fn an_append_is_acknowledged_at_the_second_node(rt: HostRuntime) -> Result<(), F
     let log = LogId::new(1).expect(&rt, "a log");
     let mut out = Outbox::empty(alloc);
     let mut own = starts(alloc, log, 2)?;
-    let number = appends(alloc, &mut own, &mut out)?;
+    let number = Lsn::new(3, 1);
+    let appended = appends(alloc, &mut own, &mut out);
+    assert_eq!(rt; appended, Ok(number));
     let one = comes(&mut own, &stored(log, 1, 3, 1), &mut out)?;
     assert_eq!(rt; one.acked, None);
     let two = comes(&mut own, &stored(log, 2, 3, 1), &mut out)?;
@@ -94,7 +96,9 @@ fn a_stranger_acknowledges_nothing(rt: HostRuntime) -> Result<(), Fail> {
     let log = LogId::new(1).expect(&rt, "a log");
     let mut out = Outbox::empty(alloc);
     let mut own = starts(alloc, log, 2)?;
-    let number = appends(alloc, &mut own, &mut out)?;
+    let number = Lsn::new(3, 1);
+    let appended = appends(alloc, &mut own, &mut out);
+    assert_eq!(rt; appended, Ok(number));
     'nodes: for (node, acked) in [(1, None), (4, None), (1, None), (3, Some(number))] {
         let learnt = comes(&mut own, &stored(log, node, 3, 1), &mut out)?;
         assert_eq!(rt; learnt.acked, acked);
@@ -137,7 +141,8 @@ fn a_retry_sends_to_those_that_have_not_stored(rt: HostRuntime) -> Result<(), Fa
     let log = LogId::new(1).expect(&rt, "a log");
     let mut out = Outbox::empty(alloc);
     let mut own = starts(alloc, log, 2)?;
-    let _ = appends(alloc, &mut own, &mut out)?;
+    let appended = appends(alloc, &mut own, &mut out);
+    assert_eq!(rt; appended, Ok(Lsn::new(3, 1)));
     own.retry(alloc, &mut out)?;
     assert_eq!(rt; out.len(), 4);
     Ok(())
