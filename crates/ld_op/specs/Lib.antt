@@ -14,4 +14,3 @@ pub mod ShownPlain
 pub mod Picks
 pub mod Bytes
 pub mod Judged
-pub mod Records

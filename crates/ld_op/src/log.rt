@@ -336,7 +336,6 @@ pub(crate) fn epoch_zero() -> Summary
         lng: 0,
         trim: Lsn::from_u64(0),
         end: 1,
-        loss: false,
     }
 }
 

@@ -208,7 +208,7 @@ module _ (c : Config) (hs : List Happened) (s : State) (e : Event) (D : (t : Lis
     sets = λ l r x set h. stays _ refl;
     arms = λ k done o. stays _ refl;
     hears = λ f name q m i t l v o. acted f name q (on_reply (looks_at c s.register q.log) q (Step.sender_node m.from) m.body) v.named (λ gs F. replied c s.register name q v.there (Step.sender_node m.from) m.body (λ k n. CallFine c gs q F k) (acting_lines c gs q F s.register (Step.sender_node m.from) m.body (rows name q v.named)));
-    retries = λ name q v o. acted s.network.fresh name q (on_retry (looks_at c s.register q.log) q) v.named (λ gs F. retried c s.register q (CallFine c gs q F) (retrying_lines c gs q F s.register));
+    retries = λ name q v o. acted s.network.fresh name q (on_retry q) v.named (λ gs F. retried c s.register q (CallFine c gs q F) (retrying_lines c gs q F s.register));
     appends = λ name q p v a i. appends_on name q p v;
     trims = λ name q t v a. stays _ refl;
     drops = λ name q v o. puts (only_state (with_sequencer s name (Step.dropped q))) name (Step.dropped q) refl (let F = lines_grow hs s.register e (only_state (with_sequencer s name (Step.dropped q))) q (D name q v.named) in record { appends = F.appends; acked = F.acked });

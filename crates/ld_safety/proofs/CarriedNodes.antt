@@ -10,7 +10,7 @@ use Rattle.ld_table.specs.Words.{values}
 use Rattle.ld_table.proofs.Laws.{put_cases}
 use Rattle.ld_lsn.specs.Number.{epoch_of, esn_of, home_epoch, numbered, last_esn, home_esn}
 use Rattle.ld_msg.specs.declared.msg.What.{What}
-use Rattle.ld_msg.specs.declared.msg.What.TheVariants.{Rec, Hole, Bridge, Plug}
+use Rattle.ld_msg.specs.declared.msg.What.TheVariants.{Rec, Hole, Bridge}
 use Rattle.ld_msg.specs.declared.msg.Entry.{Entry}
 use Rattle.ld_msg.specs.declared.msg.Summary.{Summary}
 use Rattle.ld_msg.specs.declared.msg.Who.{Who}
@@ -74,7 +74,6 @@ module _ (E : ℕ → ℕ → ℕ → What → Type 0) (T : ℕ → ℕ → Type
   accept_all : (P : ℕ × Entry → Type 0) (e : Entry) (w : What) (m : List (ℕ × Entry)) → P (e.number, e) → ((p : ℕ × Entry) → In p m → P p) → (p : ℕ × Entry) → In p (accept_entry e w m) → P p
   accept_all P e (Rec p) m h a q i = elim (In_put e.number e m q i) [ inl x ↦ subst P (sym x) h | inr x ↦ a q x ]
   accept_all P e Hole m h a q i = elim (In_put e.number e m q i) [ inl x ↦ subst P (sym x) h | inr x ↦ a q x ]
-  accept_all P e Plug m h a q i = elim (In_put e.number e m q i) [ inl x ↦ subst P (sym x) h | inr x ↦ a q x ]
   accept_all P e Bridge m h a q i = elim (In_put e.number e _ q i) [ inl x ↦ subst P (sym x) h | inr x ↦ a q (In_keep _ m q x) ]
 
   refill_all : (P : ℕ × Entry → Type 0) (es : List Entry) (m : List (ℕ × Entry)) → ((e : Entry) → In e es → P (e.number, e)) → ((p : ℕ × Entry) → In p m → P p) → (p : ℕ × Entry) → In p (refill_entries es m) → P p
@@ -270,7 +269,7 @@ module _ (E : ℕ → ℕ → ℕ → What → Type 0) (T : ℕ → ℕ → Type
   read_ok : (l generation released round from y : ℕ) (g : Log) → carried.LogOk E T Y O V W R G l g → Shows l g released → W l released → carried.BodyOk E T Y O V W R G l (whos.Node y) (read_answer generation g released round from)
   read_ok l generation released round from y g a S rel = read_answered generation g released round from (carried.BodyOk E T Y O V W R G l (whos.Node y)) (record {
     trimmed = λ h. a.trim;
-    ended = λ z x h k. record { summary = z; closed = summary_ok l (home_epoch from) g z a h; past = k; is = refl; lossy = refl };
+    ended = λ z x h k. record { summary = z; closed = summary_ok l (home_epoch from) g z a h; past = k; is = refl };
     lost_clean = λ z x h k t. tt;
     lost = λ x h t. tt;
     clean = λ z x h k t. ((λ e i. within_ok l g _ _ a e (In_filter _ e _ (In_take page_limit e _ i)).0), shown_of l true g from (numbered (home_epoch from) (z.end - 1)) (λ j e u v w. S.clean from z j e x h k t u v w));

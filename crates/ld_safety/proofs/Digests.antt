@@ -13,8 +13,7 @@ use Rattle.ld_machine.specs.World.{Made, In, from_node}
 use Rattle.ld_safety.proofs.Lists.{cond_both, max_both, In-append, In-map, In_left, In_right}
 use Rattle.ld_safety.proofs.Given.{Place}
 use Rattle.ld_safety.proofs.Plans.{lng_least, lng_up, lng_same}
-use Rattle.ld_safety.proofs.Protocol.{Basis, plan_of, Says, StoredBy, Kept, Frozen}
-use Rattle.ld_safety.proofs.Settled.{LostTold}
+use Rattle.ld_safety.proofs.Protocol.{plan_of, Says, StoredBy, Kept, Frozen}
 use Rattle.ld_safety.proofs.Sent.{ShowsAll, PagesBounded}
 
 -- a page of the node covers the number, and is in what it told
@@ -66,7 +65,6 @@ module _ (hs : List Happened) (made : List Made) (sent : List Msg) where
     pub known : (t.lng ≡ 0) ⊎ LngPaged sent l e b t.node t.lng
     pub frozen : (f : Entry) → In f t.entries → Frozen hs made l e b f
     pub covers : (n : ℕ) → epoch_of n ≡ e → good < esn_of n → (n < t.asked) ⊎ (t.whole ≡ true) → Covered sent l e b t n
-    pub lost_said : t.lost ≡ true → LostTold sent l e b t.node
 
   pub record DigestSoFar (s : Spec) (l e b : ℕ) (d : List Told) : Type 0 where
     pub told : (t : Told) → In t d → ToldSoFar l e b (digest_lng d) t
@@ -74,7 +72,7 @@ module _ (hs : List Happened) (made : List Made) (sent : List Msg) where
 
   -- the less is claimed the more is known good
   told_above : (l e b g h : ℕ) (t : Told) → g ≤ h → ToldSoFar l e b g t → ToldSoFar l e b h t
-  told_above l e b g h t k u = record { paged = u.paged; trimmed = u.trimmed; known = u.known; frozen = u.frozen; covers = λ n q p w. u.covers n q (omega arith) w; lost_said = u.lost_said }
+  told_above l e b g h t k u = record { paged = u.paged; trimmed = u.trimmed; known = u.known; frozen = u.frozen; covers = λ n q p w. u.covers n q (omega arith) w }
 
   -- ---- a digest that begins ----
   nothing_nodes : (e : ℕ) (ns : List ℕ) → map (λ (t : Told). t.node) (map (told_nothing e) ns) ≡ ns
@@ -82,7 +80,7 @@ module _ (hs : List Happened) (made : List Made) (sent : List Msg) where
   nothing_nodes e (n ∷ ns) = ap (λ l. n ∷ l) (nothing_nodes e ns)
 
   nothing_told : (l e b good y : ℕ) → ToldSoFar l e b good (told_nothing e y)
-  nothing_told l e b good y = record { paged = λ f i. absurd i; trimmed = inl refl; known = inl refl; frozen = λ f i. absurd i; covers = λ n q p h. elim h [ inl a ↦ absurd (omega arith) | inr a ↦ absurd cc ]; lost_said = λ h. absurd cc }
+  nothing_told l e b good y = record { paged = λ f i. absurd i; trimmed = inl refl; known = inl refl; frozen = λ f i. absurd i; covers = λ n q p h. elim h [ inl a ↦ absurd (omega arith) | inr a ↦ absurd cc ] }
 
   pub begins : (s : Spec) (l e b : ℕ) → DigestSoFar s l e b (no_digest s e)
   begins s l e b = record {
@@ -111,16 +109,15 @@ module _ (hs : List Happened) (made : List Made) (sent : List Msg) where
   }
 
   -- ---- a node that says that it is lost ----
-  pub loses : (s : Spec) (l e b y : ℕ) (d : List Told) → LostTold sent l e b y → DigestSoFar s l e b d → DigestSoFar s l e b (with_lost y d)
+  pub loses : (s : Spec) (l e b y : ℕ) (d : List Told) → DigestSoFar s l e b d → DigestSoFar s l e b (with_lost y d)
   unfolding with_lost
-  loses s l e b y d L D = record {
+  loses s l e b y d D = record {
     told = λ t i. (let m = In-map (told_lost y) t d i in let u = D.told m.0 m.1 in let g = lng_same (told_lost y) d (λ t. refl) in subst (ToldSoFar l e b (digest_lng (map (told_lost y) d))) (sym m.2) (record {
       paged = u.paged;
       trimmed = u.trimmed;
       known = u.known;
       frozen = u.frozen;
       covers = λ n q p h. covered_as l e b n m.0 (told_lost y m.0) refl (λ f j. j) (omega arith) (u.covers n q (omega arith) h);
-      lost_said = cond_both (m.0.node == y) true m.0.lost (λ x. x ≡ true → LostTold sent l e b m.0.node) (λ k h. subst (LostTold sent l e b) (sym (eqb-true _ _ k)) L) (λ k h. u.lost_said h);
     }));
     nodes = same_nodes (told_lost y) d (λ t. refl) ∙ D.nodes;
   }
@@ -140,7 +137,6 @@ module _ (hs : List Happened) (made : List Made) (sent : List Msg) where
           frozen = u.frozen;
           covers = λ n q p h. let k : digest_lng d < esn_of n = omega arith in covered_as l e b n m.0 (asked_anew e (digest_lng d) m.0) refl (λ f j. j) (omega arith)
               (u.covers n q k (elim h [ inl z ↦ inl (asked_before e (digest_lng d) n m.0.asked q k z) | inr z ↦ inr z ]));
-          lost_said = u.lost_said;
         }));
     nodes = same_nodes (asked_anew e (digest_lng d)) d (λ t. refl) ∙ D.nodes;
   }
@@ -179,7 +175,6 @@ module _ (hs : List Happened) (made : List Made) (sent : List Msg) where
             trims = omega arith;
           }
         ];
-        lost_said = u.lost_said;
       }
 
   -- what a page of the number makes of what a node told
@@ -210,7 +205,7 @@ module _ (hs : List Happened) (made : List Made) (sent : List Msg) where
 
   -- ---- what a page shows, before the ballot has planned its epoch ----
   abbrev pub NoPlan : ℕ → ℕ → ℕ → Type 0
-  NoPlan l e b = (d : Basis) → In (plan_of l e b d) made → ⊥
+  NoPlan l e b = (d : List Told) → In (plan_of l e b d) made → ⊥
 
   pub page_frozen : (l e b y from upto trim lng : ℕ) (es : List Entry) → In (from_node l y b (bodies.DigestPage from upto trim lng es)) sent → epoch_of from ≡ e → e < b → PagesBounded sent → ((f : Entry) → In f es → Place f.number f.what × Says hs made l f.ballot f.number f.what) → NoPlan l e b
       → PageFacts l e b y from upto trim lng es
@@ -227,7 +222,7 @@ module _ (hs : List Happened) (made : List Made) (sent : List Msg) where
     lesser : (f : Entry) → f.ballot ≤ b → epoch_of f.number ≡ e → Says hs made l f.ballot f.number f.what → f.ballot < b
     lesser f h ep (inl s) = let z = s.own in omega arith
     lesser f h ep (inr s) = elim (cases_order f.ballot b) [
-      | inl z ↦ absurd (N s.basis (subst (λ v. In (plan_of l v b s.basis) made) ep (subst (λ v. In (plan_of l (epoch_of f.number) v s.basis) made) z s.planned)))
+      | inl z ↦ absurd (N s.digest (subst (λ v. In (plan_of l v b s.digest) made) ep (subst (λ v. In (plan_of l (epoch_of f.number) v s.digest) made) z s.planned)))
       | inr (inl z) ↦ z
       | inr (inr z) ↦ absurd (omega arith)
     ]
@@ -241,12 +236,12 @@ module _ (hs : List Happened) (made : List Made) (sent : List Msg) where
         | inr (inl z) ↦ inr (inl (record { entry = z.entry; there = k.told z.entry z.there; number = z.number; least = z.least }))
         | inr (inr z) ↦ inr (inr (record {
           ballot = z.ballot;
-          basis = z.basis;
+          digest = z.digest;
           planned = z.planned;
           above = z.above;
           before = z.before;
           below = elim (cases_order z.ballot b) [
-            | inl v ↦ absurd (N z.basis (subst (λ x. In (plan_of l x b z.basis) made) q (subst (λ x. In (plan_of l (epoch_of n) x z.basis) made) v z.planned)))
+            | inl v ↦ absurd (N z.digest (subst (λ x. In (plan_of l x b z.digest) made) q (subst (λ x. In (plan_of l (epoch_of n) x z.digest) made) v z.planned)))
             | inr (inl v) ↦ v
             | inr (inr v) ↦ absurd (let u = z.below in omega arith)
           ];

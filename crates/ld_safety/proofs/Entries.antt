@@ -92,7 +92,7 @@ module _ (c : Config) (hs : List Happened) (w : World) (B : BaseGiven c hs w × 
       → In i (planned_in g) → Said hs w.made w.state.register l b i.0 i.1.what
   stage_said l b e (Seals ts) i h j = absurd j
   stage_said l b e (Stores g) i h j = h.1 i j
-  stage_said l b e (Closes y short) i h j = absurd j
+  stage_said l b e (Closes y) i h j = absurd j
 
   plan_said : (q : List ℕ × Sequencer) (v : Recovery) (i : ℕ × Planned) → In q w.state.sequencers → q.1.recovery ≡ Some v → In i (planned_in v.stage) → IsItem hs w q.1.log (record { number = i.0; ballot = q.1.epoch; what = i.1.what })
   plan_said q v i k r j = is_item q.1.log (record { number = i.0; ballot = q.1.epoch; what = i.1.what }) (stage_said q.1.log q.1.epoch v.epoch v.stage i

@@ -484,7 +484,7 @@ module _ (c : Config) (s : State) (e : Event) (M : AllMessages s.register s.netw
     sets = λ l r x set h. nothing _ refl;
     arms = λ k done o. nothing _ refl;
     hears = λ f name q m i t l v o. acted f name q (on_reply (looks_at c s.register q.log) q (Step.sender_node m.from) m.body) v.named (replied c s.register name q v.there (Step.sender_node m.from) m.body (λ k n. ActsSay k) (acting_says c s.register q (recovers name q v.named) (Step.sender_node m.from) m.body));
-    retries = λ name q v o. acted s.network.fresh name q (on_retry (looks_at c s.register q.log) q) v.named (retried c s.register q ActsSay (retrying_says c s.register q (recovers name q v.named)));
+    retries = λ name q v o. acted s.network.fresh name q (on_retry q) v.named (retried c s.register q ActsSay (retrying_says c s.register q (recovers name q v.named)));
     appends = λ name q p v a i. from_own (Step.append_done s name q p Numbered) name q _ _ v.named tt refl;
     trims = λ name q t v b. from_own (record { state = s; lines = lines.Trimmed name t ∷ []; sends = posted (whos.Sequencer q.epoch) q.log (to_each (bodies.Trim t) (all_nodes c)) }) name q _ _ v.named tt refl;
     drops = λ name q v o. nothing _ refl;

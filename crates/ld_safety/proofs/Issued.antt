@@ -61,7 +61,7 @@ module _ (c : Config) (hs : List Happened) (w : World) (B : BaseGiven c hs w) wh
   stage_trim : (l b e t : ℕ) (g : Stage) → StageGiven l b e g → In t (trims_of g) → IsTrim hs l t
   stage_trim l b e t (Seals ts) h i = let m = In-map (λ (x : Told). x.trim) t ts i in subst (IsTrim hs l) (sym m.2) (is_trim hs l m.0.trim (h m.0 m.1).trim)
   stage_trim l b e t (Stores g) h i = subst (IsTrim hs l) (sym (only t g.trim i)) (is_trim hs l g.trim h.0.0)
-  stage_trim l b e t (Closes y short) h i = subst (IsTrim hs l) (sym (only t y.trim i)) (is_trim hs l y.trim h.0)
+  stage_trim l b e t (Closes y) h i = subst (IsTrim hs l) (sym (only t y.trim i)) (is_trim hs l y.trim h.0)
 
   recovery_trim : (q : List ℕ × Sequencer) (v : Recovery) (t : ℕ) → In q w.state.sequencers → q.1.recovery ≡ Some v → In t (trims_of v.stage) → IsTrim hs q.1.log t
   recovery_trim q v t i r j = let k = (B.1.sequencers q.0 q.1 (found w.state.sequencers q B.0.0.0.0 i)).recovery in

@@ -61,7 +61,7 @@ module _ (c : Config) (s : State) (e : Event) (P : List Line → Type 0)
     sets = λ l r x set h. other OfSets (lines.Set l r x set ∷ []) (λ h. cc) (one_of (lines.Set l r x set));
     arms = λ k done o. none;
     hears = λ f name q m i t l v o. acts _ (acted_of name q (called (looks_at c s.register q.log) s.register (on_reply (looks_at c s.register q.log) q (Step.sender_node m.from) m.body) (on_reply (looks_at c s.register q.log) q (Step.sender_node m.from) m.body).tries).acts);
-    retries = λ name q v o. acts _ (acted_of name q (called (looks_at c s.register q.log) s.register (on_retry (looks_at c s.register q.log) q) (on_retry (looks_at c s.register q.log) q).tries).acts);
+    retries = λ name q v o. acts _ (acted_of name q (called (looks_at c s.register q.log) s.register (on_retry q) (on_retry q).tries).acts);
     appends = λ name q p v a i. other OfNumbers (lines.Appended name _ ∷ []) (λ h. cc) (one_of (lines.Appended name _));
     trims = λ name q t v b. other OfTrims (lines.Trimmed name t ∷ []) (λ h. cc) (one_of (lines.Trimmed name t));
     drops = λ name q v o. none;

@@ -1,5 +1,4 @@
 pub mod Lists
-pub mod Losses
 pub mod Names
 pub mod Traces
 pub mod Events
@@ -23,7 +22,6 @@ pub mod CarriedSteps
 pub mod CarriedGrows
 pub mod Closings
 pub mod Plans
-pub mod LossPlans
 pub mod Specs
 pub mod Base
 pub mod Fixed
@@ -56,14 +54,10 @@ pub mod Digests
 pub mod Digesting
 pub mod DigestKept
 pub mod Plannings
-pub mod LossBook
-pub mod InSet
 pub mod Copies
 pub mod CopiesKept
 pub mod Shown
-pub mod LastClose
 pub mod Along
-pub mod Holes
 pub mod AlongSteps
 pub mod Agreed
 pub mod ItemFacts
@@ -95,18 +89,11 @@ pub mod LostStood
 pub mod LostLaws
 pub mod LostUnserved
 pub mod LostTold
-pub mod LostSaid
-pub mod SentDrawn
-pub mod LogsRise
 pub mod LostPages
 pub mod LostShown
 pub mod LostSettled
 pub mod LostFull
-pub mod Fallen
-pub mod PagesShow
 pub mod LostFullKept
-pub mod Marks
-pub mod MarksKept
 pub mod LostJoined
 pub mod Sequencing
 pub mod Formats

@@ -1,5 +1,5 @@
 -- An epoch that is closed at the register has an active line of its log with at least this epoch.
-use Rattle.std.proofs.Common.{Bool, ◌≡◌, ◌∙◌, ◌≤◌, ◌<◌, ℕ, inl, inr, ap, sym, subst, true, ◌==◌, List, ◌++◌, Some, arith}
+use Rattle.std.proofs.Common.{◌≡◌, ◌∙◌, ◌≤◌, ◌<◌, ℕ, inl, inr, ap, sym, subst, true, ◌==◌, List, ◌++◌, Some, arith}
 use Rattle.std.specs.Option.{unwrap_or}
 use Rattle.std.proofs.lemmas.Bool.{and_parts, and_from, leb-true, le-leb}
 use Rattle.ld_table.specs.Table.{find}
@@ -54,10 +54,10 @@ module _ (c : Config) (hs : List Happened) where
     | inr p ↦ h k e y (ap (λ (z : Epochs). find e z.summaries) (sym (epochs_same (with_epochs r l x) n k s ∙ p.1)) ∙ f)
   ]
 
-  close_closed : (r : Register) (l e : ℕ) (y : Summary) (b : Bool) → has_epoch l e hs ≡ true → ClosedActive r → ClosedActive (close r l e y b).register
-  close_closed r l e y b t h = elim (close_leaves r l e y b) [
-    | inl s ↦ same_closed r (close r l e y b).register s h
-    | inr s ↦ put_closed r (close r l e y b).register l (closed_epochs (epochs_of r l) e y) (λ k z f. elim (put_cases k e y (epochs_of r l).summaries) [
+  close_closed : (r : Register) (l e : ℕ) (y : Summary) → has_epoch l e hs ≡ true → ClosedActive r → ClosedActive (close r l e y).register
+  close_closed r l e y t h = elim (close_leaves r l e y) [
+    | inl s ↦ same_closed r (close r l e y).register s h
+    | inr s ↦ put_closed r (close r l e y).register l (closed_epochs (epochs_of r l) e y) (λ k z f. elim (put_cases k e y (epochs_of r l).summaries) [
       | inl a ↦ subst (λ j. has_epoch l j hs ≡ true) (sym a.0) t
       | inr a ↦ h l k z (sym a.1 ∙ f)
     ]) s.1 h

@@ -7,7 +7,7 @@ use Rattle.ld_lsn.specs.Number.{epoch_of, esn_of, numbered, home_epoch, is_epoch
 use Rattle.ld_config.specs.declared.config.Config.{Config}
 use Rattle.ld_schedule.specs.declared.event.Event.{Event}
 use Rattle.ld_msg.specs.declared.msg.What.{What}
-use Rattle.ld_msg.specs.declared.msg.What.TheVariants.{Rec, Hole, Bridge, Plug}
+use Rattle.ld_msg.specs.declared.msg.What.TheVariants.{Rec, Hole, Bridge}
 use Rattle.ld_msg.specs.declared.msg.Summary.{Summary}
 use Rattle.ld_msg.specs.Digest.{best, content, is_bridge, plan_end, plan_floor}
 use Rattle.ld_msg.specs.Register.{epochs_of}
@@ -66,7 +66,6 @@ number_is e s q = omega arith
 no_bridge : (w : What) → (w ≡ Bridge → ⊥) → is_bridge w ≡ false
 no_bridge (Rec p) n = refl
 no_bridge Hole n = refl
-no_bridge Plug n = refl
 no_bridge Bridge n = absurd (n refl)
 
 abbrev CutClean : Option Cut → Type 0

@@ -93,6 +93,15 @@ same_is : (o : Option ℕ) (g : ℕ) → same_generation o g ≡ true → o ≡ 
 same_is None g h = absurd cc
 same_is (Some k) g h = ap Some (eqb-true k g h)
 
+with_one_in : (y z : ℕ) (xs : List ℕ) → is_in z (with_one y xs) ≡ true → (is_in z xs ≡ true) ⊎ (z ≡ y)
+with_one_in y z xs h = cond_both (is_in y xs) xs (xs ++ y ∷ []) (λ l. is_in z l ≡ true → (is_in z xs ≡ true) ⊎ (z ≡ y)) (λ t q. inl q) (λ t q. at_end xs q) h where
+  at_end : (ys : List ℕ) → is_in z (ys ++ y ∷ []) ≡ true → (is_in z ys ≡ true) ⊎ (z ≡ y)
+  at_end [] q = elim (or_cases (y == z) false q) [ inl e ↦ inr (sym (eqb-true y z e)) | inr e ↦ absurd cc ]
+  at_end (x ∷ ys) q = elim (cases_Bool (x == z)) [
+    | inl e ↦ inl (subst (λ b. (b || is_in z ys) ≡ true) (sym e) refl)
+    | inr e ↦ elim (at_end ys (subst (λ b. (b || is_in z (ys ++ y ∷ [])) ≡ true) e q)) [ inl k ↦ inl (subst (λ b. (b || is_in z ys) ≡ true) (sym e) k) | inr k ↦ inr k ]
+  ]
+
 says_again : (u : Confirmation) (y : ℕ) (b : Body) → round_of b ≡ u.round → confirms_loss u.asked y b ≡ true → SaysAgain u y b
 says_again u y (bodies.LostHere n round g end) e h = record { number = n; generation = g; end = end; is = ap (λ r. bodies.LostHere n r g end) e; asked = same_is (find y u.asked) g h }
 says_again u y _ e h = absurd cc

@@ -1,5 +1,5 @@
 -- Along a run in which nodes keep what was settled, clean pages and known ends that readers are told stay right.
-use Rattle.std.proofs.Common.{Bool, ◌≡◌, ◌∙◌, ◌<◌, ℕ, inl, inr, refl, ap, sym, subst, true, List, Some, None, arith}
+use Rattle.std.proofs.Common.{◌≡◌, ◌∙◌, ◌<◌, ℕ, inl, inr, refl, ap, sym, subst, true, List, Some, None, arith}
 use Rattle.std.specs.Option.{unwrap_or}
 use Rattle.ld_table.specs.Table.{find}
 use Rattle.ld_table.proofs.Laws.{put_cases}
@@ -56,9 +56,9 @@ pub closed_step : (c : Config) (w : World) (v : Event) → NamesOnce w.state →
 unfolding finish
 closed_step c w v N h = let r = w.state.register in register_kept c w.state v (λ n. StaysClosed r n) (logs_stay r r refl)
     (λ l g. let p = Step.spec_set c w.state l in elim (activate_leaves r l p) [ inl a ↦ logs_stay r (activate r l p).register a.0 | inr a ↦ put_stays r (activate r l p).register l (next_epoch (epochs_of r l) p) (λ e z q. q) a.1 ])
-    (λ l k y b. elim (close_leaves r l k y b) [
-      | inl a ↦ logs_stay r (close r l k y b).register a.0
-      | inr a ↦ put_stays r (close r l k y b).register l (closed_epochs (epochs_of r l) k y) (λ e z q. elim (put_cases e k y (epochs_of r l).summaries) [ inl b ↦ absurd (let u = h l e z q in let x = a.0 in let t = b.0 in omega arith) | inr b ↦ b.1 ∙ q ]) a.1
+    (λ l k y. elim (close_leaves r l k y) [
+      | inl a ↦ logs_stay r (close r l k y).register a.0
+      | inr a ↦ put_stays r (close r l k y).register l (closed_epochs (epochs_of r l) k y) (λ e z q. elim (put_cases e k y (epochs_of r l).summaries) [ inl b ↦ absurd (let u = h l e z q in let x = a.0 in let t = b.0 in omega arith) | inr b ↦ b.1 ∙ q ]) a.1
     ])
     (λ n. elim (draw_leaves r n) [ inl a ↦ logs_stay r (draw r n).register a.0 | inr a ↦ logs_stay r (draw r n).register a.0 ])
     (λ n q. logs_stay r n q) N

@@ -129,7 +129,7 @@ lost_found l (e ∷ es) x h p = by_key (is_at (nat_cmp l) e.0) refl (e.1.epoch =
 lost_is : (n e : ℕ) → 0 < e → e ≤ n → is_lost (lost_log n) e ≡ true
 lost_is n e p q = and_from _ _ (lt-ltb 0 n (omega arith)) (and_from _ _ (lt-ltb 0 e p) (le-leb e n q))
 
-pub format_lost : (k : Register) (g l e : ℕ) → 0 < e → e ≤ (epochs_of k l).epoch → is_lost (log_of (record { generation = g; logs = lost_logs (epochs_in k.logs) }) l) e ≡ true
+format_lost : (k : Register) (g l e : ℕ) → 0 < e → e ≤ (epochs_of k l).epoch → is_lost (log_of (record { generation = g; logs = lost_logs (epochs_in k.logs) }) l) e ≡ true
 format_lost k g l e a b = by_find (find l k.logs) refl where
   by_find : (o : Option Epochs) → find l k.logs ≡ o → is_lost (unwrap_or (find l (lost_logs (epochs_in k.logs))) empty_log) e ≡ true
   by_find None f = absurd (let z : (epochs_of k l).epoch ≡ 0 = ap (λ o. (unwrap_or o no_epochs).epoch) f in omega arith)

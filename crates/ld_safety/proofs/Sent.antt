@@ -264,7 +264,7 @@ module _ (made : List worlds.Made) (sent : List Msg) (d : Done) (F : SendsFine d
         | inl (inr z) ↦ absurd (not_served g (epoch_of from) (subst (Unserved g) e z) p.1.served)
         | inr (inl z) ↦ inl (let u = p.1.trim in omega arith)
         | inr (inr (inl z)) ↦ inr (inl (record { entry = z.entry; there = p.1.has n z.entry z.found_at e lo hi; number = ((H y).0.fine l).numbers (n, z.entry) (find_in n g.entries z.entry z.found_at); least = z.least }))
-        | inr (inr (inr z)) ↦ inr (inr (record { ballot = z.ballot; basis = z.basis; planned = z.planned; above = z.above; below = let u = z.below in let v = p.1.sealed in omega arith; before = z.before }))
+        | inr (inr (inr z)) ↦ inr (inr (record { ballot = z.ballot; digest = z.digest; planned = z.planned; above = z.above; below = let u = z.below in let v = p.1.sealed in omega arith; before = z.before }))
       ]
 
   pub shows_sent : ShowsAll made sent → ShowsAll made (finish d).state.network.sent

@@ -118,9 +118,9 @@ module _ (c : Config) (b : IsInBounds c) (s : State) (e : Event) (N : NamesOnce 
               | inr z ↦ A.1 l k p (sym z.1 ∙ f)
             ])
       ])
-      (λ l k y b. elim (close_leaves s.register l k y b) [
-        | inl a ↦ by_logs (close s.register l k y b).register a.0
-        | inr a ↦ by_put (close s.register l k y b).register l (closed_epochs (epochs_of s.register l) k y) a.1 (A.1 l)
+      (λ l k y. elim (close_leaves s.register l k y) [
+        | inl a ↦ by_logs (close s.register l k y).register a.0
+        | inr a ↦ by_put (close s.register l k y).register l (closed_epochs (epochs_of s.register l) k y) a.1 (A.1 l)
       ])
       (λ n. elim (draw_leaves s.register n) [ inl a ↦ by_logs (draw s.register n).register a.0 | inr a ↦ by_logs (draw s.register n).register a.0 ])
       by_logs N

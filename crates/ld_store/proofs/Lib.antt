@@ -7,5 +7,3 @@ pub mod FineAfter
 pub mod Holding
 pub mod Cuts
 pub mod Wells
-pub mod Marking
-pub mod Loading
