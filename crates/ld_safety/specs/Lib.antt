@@ -1,2 +1,3 @@
+pub mod Closes
 pub mod Lost
 pub mod OneRun
