@@ -25,7 +25,7 @@ comes_if : (y : ℕ) (xs : List ℕ) (b : Bool) → is_in y xs ≡ b → is_in y
 comes_if y xs true h = h
 comes_if y xs false h = in_last y xs
 
-comes : (y : ℕ) (xs : List ℕ) → is_in y (with_one y xs) ≡ true
+pub comes : (y : ℕ) (xs : List ℕ) → is_in y (with_one y xs) ≡ true
 comes y xs = comes_if y xs (is_in y xs) refl
 
 -- an item that the node has settled stays as it is

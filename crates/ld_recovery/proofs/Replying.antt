@@ -1,5 +1,5 @@
 -- The replies that tests send.
-use Rattle.std.proofs.Common.{◌≡◌, ◌≤◌, ◌<◌, ◌-◌, ◌^◌, ℕ, List, [], subst, sym, ◌∙◌, arith}
+use Rattle.std.proofs.Common.{◌≡◌, ◌≤◌, ◌<◌, ◌-◌, ◌^◌, ℕ, false, List, [], subst, sym, ◌∙◌, arith}
 use Rattle.ld_lsn.specs.Number.{numbered, epoch_of, home_epoch, last_esn}
 use Rattle.ld_ids.specs.Id.{IsNode}
 use Rattle.ld_msg.specs.declared.msg.Who.TheVariants as whos
@@ -11,7 +11,7 @@ use Rattle.ld_recovery.proofs.Numbers.{home_is}
 pub to_two : (n : ℕ) → IsNode n → ToSequencer (whos.Node n) (whos.Sequencer 2)
 to_two n h = (h, (omega arith, omega arith))
 
-pub summary_at : (s epoch ballot : ℕ) (y : Summary) → s ≡ numbered epoch 1 → epoch < ballot → ballot ≤ 2 ^ 32 - 2 → y ≡ record { ballot = ballot; lng = 0; trim = 0; end = 9 } → IsSummary (epoch_of s) y
+pub summary_at : (s epoch ballot : ℕ) (y : Summary) → s ≡ numbered epoch 1 → epoch < ballot → ballot ≤ 2 ^ 32 - 2 → y ≡ record { ballot = ballot; lng = 0; trim = 0; end = 9; loss = false } → IsSummary (epoch_of s) y
 summary_at s epoch ballot y h l m e = subst (λ (x : Summary). IsSummary (epoch_of s) x) (sym e) record {
   ballot = omega (arith, h, l);
   ballot_most = m;

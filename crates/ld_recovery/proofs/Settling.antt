@@ -202,20 +202,20 @@ at_first r n f is m h e l a =
     let k = all_lack r is h in
     (omega (arith, c, d, k, l), subst (λ (x : List (ℕ × Planned)). AreFrom f x) (sym e) a)
 
-items_from : (epoch n k end : ℕ) (d : List Told) → end ≡ n + k → AreFrom (numbered epoch n) (planned (record_items epoch d (numbers_from n k) ++ record { number = numbered epoch end; what = Bridge } ∷ []))
-items_from epoch n zero end d h = (omega arith, tt)
-items_from epoch n (suc k) end d h = (refl, subst (λ f. AreFrom f (planned (record_items epoch d (numbers_from (n + 1) k) ++ record { number = numbered epoch end; what = Bridge } ∷ []))) (let s : numbered epoch (n + 1) ≡ numbered epoch n + 1 = omega arith in s) (items_from epoch (n + 1) k end d (omega arith)))
+items_from : (epoch : ℕ) (loss : Bool) (n k end : ℕ) (d : List Told) → end ≡ n + k → AreFrom (numbered epoch n) (planned (record_items epoch loss d (numbers_from n k) ++ record { number = numbered epoch end; what = Bridge } ∷ []))
+items_from epoch loss n zero end d h = (omega arith, tt)
+items_from epoch loss n (suc k) end d h = (refl, subst (λ f. AreFrom f (planned (record_items epoch loss d (numbers_from (n + 1) k) ++ record { number = numbered epoch end; what = Bridge } ∷ []))) (let s : numbered epoch (n + 1) ≡ numbered epoch n + 1 = omega arith in s) (items_from epoch loss (n + 1) k end d (omega arith)))
 
-pub plan_from : (epoch : ℕ) (d : List Told) → AreFrom (numbered epoch (plan_floor epoch d + 1)) (planned (plan epoch d).items)
+pub plan_from : (epoch : ℕ) (loss : Bool) (d : List Told) → AreFrom (numbered epoch (plan_floor epoch d + 1)) (planned (plan epoch loss d).items)
 unfolding plan plan_end
-plan_from epoch d = items_from epoch (plan_floor epoch d + 1) (plan_end epoch d - 1 - plan_floor epoch d) (plan_end epoch d) d (let l : plan_floor epoch d + 1 ≤ plan_end epoch d = omega arith in omega arith)
+plan_from epoch loss d = items_from epoch loss (plan_floor epoch d + 1) (plan_end epoch d - 1 - plan_floor epoch d) (plan_end epoch d) d (let l : plan_floor epoch d + 1 ≤ plan_end epoch d = omega arith in omega arith)
 
-pub from_planned : (items : List Item) (epoch : ℕ) (d : List Told) → items ≡ (plan epoch d).items → (f : ℕ) × AreFrom f (planned items)
-from_planned items epoch d h = (numbered epoch (plan_floor epoch d + 1), subst (λ (l : List Item). AreFrom (numbered epoch (plan_floor epoch d + 1)) (planned l)) (sym h) (plan_from epoch d))
+pub from_planned : (items : List Item) (epoch : ℕ) (loss : Bool) (d : List Told) → items ≡ (plan epoch loss d).items → (f : ℕ) × AreFrom f (planned items)
+from_planned items epoch loss d h = (numbered epoch (plan_floor epoch d + 1), subst (λ (l : List Item). AreFrom (numbered epoch (plan_floor epoch d + 1)) (planned l)) (sym h) (plan_from epoch loss d))
 
-pub ends_above : (end epoch : ℕ) (d : List Told) → end ≡ (plan epoch d).end → 1 ≤ end
+pub ends_above : (end epoch : ℕ) (loss : Bool) (d : List Told) → end ≡ (plan epoch loss d).end → 1 ≤ end
 unfolding plan plan_end
-ends_above end epoch d h = omega (arith, h)
+ends_above end epoch loss d h = omega (arith, h)
 
 pub settle_from : (p : ℕ → Bool) (y f : ℕ) (m : List (ℕ × Planned)) → AreFrom f m → AreFrom f (settle p y m)
 settle_from p y f [] a = tt

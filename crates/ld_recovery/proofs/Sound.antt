@@ -1,5 +1,5 @@
 -- What the fields of a recovery say of its close.
-use Rattle.std.proofs.Common.{◌≡◌, ◌≤◌, ◌<◌, ◌-◌, ◌^◌, ℕ, List, Some, refl, subst, arith}
+use Rattle.std.proofs.Common.{◌≡◌, ◌≤◌, ◌<◌, ◌-◌, ◌^◌, ℕ, Bool, List, Some, refl, subst, arith}
 use Rattle.std.specs.Option.{unwrap_or}
 use Rattle.ld_lsn.specs.Number.{epoch_of, home_epoch}
 use Rattle.ld_ids.specs.declared.set.Spec.{Spec}
@@ -25,11 +25,11 @@ state_is (endings.Done y) s = refl
 state_is (endings.Gone l) s = refl
 state_is (endings.Preempted k) s = refl
 
-closes_if : (spec : Spec) (epoch ballot : ℕ) (s : Stage) (y : Summary) → IsOf spec epoch ballot s → shown s ≡ sequencer.Closes y → IsClose ballot y
-closes_if spec epoch ballot (Seals d) y o h = absurd cc
-closes_if spec epoch ballot (Stores g) y o h = absurd cc
-closes_if spec epoch ballot (Closes z) y o h = let k : z ≡ y = cc in subst (λ (x : Summary). IsClose ballot x) k o
-closes_if spec epoch ballot Stopped y o h = absurd cc
+closes_if : (spec : Spec) (epoch ballot : ℕ) (s : Stage) (y : Summary) (short : Bool) → IsOf spec epoch ballot s → shown s ≡ sequencer.Closes y short → IsClose ballot y
+closes_if spec epoch ballot (Seals d) y short o h = absurd cc
+closes_if spec epoch ballot (Stores g) y short o h = absurd cc
+closes_if spec epoch ballot (Closes z b) y short o h = let k : z ≡ y = cc in subst (λ (x : Summary). IsClose ballot x) k o
+closes_if spec epoch ballot Stopped y short o h = absurd cc
 
 done_if : (epoch : ℕ) (e : declared.Ending) (y : Summary) → IsEnding epoch e → shown_ending e ≡ IsDone y → IsSummary epoch y
 done_if epoch endings.Goes y o h = absurd cc
@@ -43,7 +43,7 @@ holds spec epoch ballot lost s e i = record {
   epoch = i.2;
   later = i.3;
   ballot = i.4;
-  closes = λ y h. closes_if spec epoch ballot s y i.0 h;
+  closes = λ y short h. closes_if spec epoch ballot s y short i.0 h;
   done = λ y h. done_if epoch e y i.5 h;
   stage = i.6;
   named = i.7;
@@ -63,7 +63,7 @@ summary_by epoch ballot y l m c = record {
 pub closes_well : (spec : Spec) (epoch ballot : ℕ) (s : Stage) (y : Summary) → IsOf spec epoch ballot s → epoch < ballot → ballot ≤ 2 ^ 32 - 2 → Some y ≡ summary_in (shown s) → IsSummary epoch y
 closes_well spec epoch ballot (Seals d) y o l m h = absurd cc
 closes_well spec epoch ballot (Stores g) y o l m h = absurd cc
-closes_well spec epoch ballot (Closes z) y o l m h = let k : z ≡ y = cc in summary_by epoch ballot y l m (subst (λ (x : Summary). IsClose ballot x) k o)
+closes_well spec epoch ballot (Closes z short) y o l m h = let k : z ≡ y = cc in summary_by epoch ballot y l m (subst (λ (x : Summary). IsClose ballot x) k o)
 closes_well spec epoch ballot Stopped y o l m h = absurd cc
 
 -- a summary of a number's epoch is one of its home
@@ -77,16 +77,16 @@ at_home n epoch y i h = record {
   end_most = i.end_most;
 }
 
-pub is_closing : (r : Recovering) (y : Summary) → IsRecovery r → Closing r y → IsClosing r y
-is_closing r y i h = let c = i.closes y h.1 in record { closing = h; summary = summary_by r.recovery.epoch r.ballot y i.later i.ballot c; ballot = c.ballot }
+pub is_closing : (r : Recovering) (y : Summary) (short : Bool) → IsRecovery r → Closing r y short → IsClosing r y short
+is_closing r y short i h = let c = i.closes y short h.1 in record { closing = h; summary = summary_by r.recovery.epoch r.ballot y i.later i.ballot c; ballot = c.ballot }
 
-pub shows_closing : (r : Recovering) (y : Summary) → IsRecovery r → state_of r ≡ states.Closing y → IsClosing r y
-shows_closing r y i h = is_closing r y i (closing_is r y h)
+pub shows_closing : (r : Recovering) (y : Summary) (short : Bool) → IsRecovery r → state_of r ≡ states.Closing y short → IsClosing r y short
+shows_closing r y short i h = is_closing r y short i (closing_is r y short h)
 
 done_shown : (epoch : ℕ) (e : declared.Ending) (s : sequencer.Stage) (y : Summary) → IsEnding epoch e → state_by (shown_ending e) s ≡ states.Done y → IsSummary epoch y
 done_shown epoch endings.Goes (sequencer.Seals d) y o h = absurd cc
 done_shown epoch endings.Goes (sequencer.Stores g) y o h = absurd cc
-done_shown epoch endings.Goes (sequencer.Closes z) y o h = absurd cc
+done_shown epoch endings.Goes (sequencer.Closes z short) y o h = absurd cc
 done_shown epoch (endings.Done z) s y o h = let k : z ≡ y = cc in subst (λ (x : Summary). IsSummary epoch x) k o
 done_shown epoch (endings.Gone l) s y o h = absurd cc
 done_shown epoch (endings.Preempted k) s y o h = absurd cc

@@ -1,4 +1,4 @@
--- For each node, how many of a plan's items its trims have settled, from the first one on. The first count is node 1's.
+-- For each node, a count of a plan's items. The first count is node 1's.
 use Rattle.std.specs.Prelude.{ℕ, ◌-◌, ◌≡◌, List, length, get_or, set, replicate, max}
 
 -- there is a count for each node

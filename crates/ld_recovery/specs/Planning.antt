@@ -62,10 +62,19 @@ HasSettled (suc k) y (e ∷ m) = (is_in y e.1.settled ≡ true) × HasSettled k 
 abbrev pub AreMarked : List ℕ → List (ℕ × Planned) → Type 0
 AreMarked marks m = (y : ℕ) → 1 ≤ y → HasSettled (mark y marks) y m
 
+-- whether the node settled the item
+abbrev pub has_settled : ℕ → ℕ × Planned → Bool
+has_settled y e = is_in y e.1.settled
+
+-- the counts say how many items each node has settled
+abbrev pub AreCounted : List ℕ → List (ℕ × Planned) → Type 0
+AreCounted counts m = (y : ℕ) → 1 ≤ y → mark y counts ≡ how_many (has_settled y) m
+
 -- what is kept beside the items of a plan says what they are
-pub record IsKept (factor first lacking lng end : ℕ) (marks : List ℕ) (items : List (ℕ × Planned)) : Type 0 where
+pub record IsKept (factor first lacking lng end : ℕ) (marks counts : List ℕ) (items : List (ℕ × Planned)) : Type 0 where
   pub numbers : AreFrom first items
   pub lack : lacking ≡ how_many (lacks factor) items
   pub good : IsLng lng
   pub some : 1 ≤ end
   pub marked : AreMarked marks items
+  pub counted : AreCounted counts items

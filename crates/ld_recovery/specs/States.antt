@@ -39,12 +39,12 @@ ended_state (declared.Preempted k) = Some (states.Preempted k)
 abbrev pub summary_in : sequencer.Stage → Option Summary
 summary_in (sequencer.Seals d) = None
 summary_in (sequencer.Stores g) = None
-summary_in (sequencer.Closes y) = Some y
+summary_in (sequencer.Closes y short) = Some y
 
 abbrev pub state_in : sequencer.Stage → State
 state_in (sequencer.Seals d) = states.Sealing
 state_in (sequencer.Stores g) = states.Storing
-state_in (sequencer.Closes y) = states.Closing y
+state_in (sequencer.Closes y short) = states.Closing y short
 
 abbrev pub state_by : recovering.Ending → sequencer.Stage → State
 state_by recovering.Goes s = state_in s
@@ -62,10 +62,12 @@ IsTold r b y = (state_of r ≡ states.Done y) ⊎ ((n : ℕ) × (b ≡ CleanHere
 abbrev pub answer_of : Answer → register.Answer
 answer_of answers.Taken = register.Granted
 answer_of (answers.Behind lce) = register.Behind lce
+answer_of (answers.Overtaken k) = register.Overtaken k
 answer_of answers.Failed = register.Fails
 
 -- a last closed epoch is at most the greatest epoch
 abbrev pub is_epoch_answer : Answer → Bool
 is_epoch_answer answers.Taken = true
 is_epoch_answer (answers.Behind lce) = nat_le lce (2 ^ 32 - 2)
+is_epoch_answer (answers.Overtaken k) = true
 is_epoch_answer answers.Failed = true

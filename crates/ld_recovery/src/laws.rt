@@ -1,5 +1,5 @@
 // What holds of each recovery.
-ghost use Rattle.std.specs.Prelude.{◌≡◌};
+ghost use Rattle.std.specs.Prelude.{◌≡◌, Bool};
 ghost use Rattle.ld_msg.specs.declared.msg.Summary.{Summary};
 ghost use Rattle.ld_recovery.specs.Recovering.{Recovering, Closing, IsRecovery, IsClosing};
 ghost use Rattle.ld_recovery.specs.States.{state_of};
@@ -18,6 +18,6 @@ pub fn recoveries_hold(recovery: &Recovery)
 /// recovery's ballot, and no number that is known to be good.
 #[tactic(auto, using(crate::proofs::Sound::is_closing, crate::proofs::Sound::shows_closing))]
 pub fn closings_are_summaries()
-    ensures stage { (r : Recovering) (y : Summary) → IsRecovery r → Closing r y → IsClosing r y }
-    ensures state { (r : Recovering) (y : Summary) → IsRecovery r → state_of r ≡ states.Closing y → IsClosing r y }
+    ensures stage { (r : Recovering) (y : Summary) (short : Bool) → IsRecovery r → Closing r y short → IsClosing r y short }
+    ensures state { (r : Recovering) (y : Summary) (short : Bool) → IsRecovery r → state_of r ≡ states.Closing y short → IsClosing r y short }
 {}

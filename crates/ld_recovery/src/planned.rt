@@ -58,6 +58,13 @@ impl Planned {
         self.settled.len() < usize::from(factor)
     }
 
+    /// The nodes that have settled it.
+    pub fn settled(&self) -> &NodeList
+        ensures { result.now ≡ self.now.1.settled }
+    {
+        &self.settled
+    }
+
     /// The node settled it; each node counts once.
     pub fn settle(&mut self, node: NodeId)
         ensures { self.new ≡ settled_one node self.old }

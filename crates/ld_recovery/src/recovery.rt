@@ -1,5 +1,5 @@
 // The recovery of an epoch.
-ghost use Rattle.std.specs.Prelude.{◌≡◌, ◌≤◌, ◌<◌, ◌+◌, ◌-◌, ◌^◌, ◌++◌, [], ℕ, true, nat_le, if◌then◌else◌, Some, None, IfOk, OnOk, OnErr};
+ghost use Rattle.std.specs.Prelude.{◌≡◌, ◌≤◌, ◌<◌, ◌+◌, ◌-◌, ◌^◌, ◌++◌, [], ℕ, Bool, true, nat_le, if◌then◌else◌, Some, None, IfOk, OnOk, OnErr};
 ghost use Rattle.ld_ids.specs.declared.set.Spec.{Spec as Config};
 ghost use Rattle.ld_msg.specs.declared.msg.Summary.{Summary as Told};
 ghost use Rattle.ld_msg.specs.declared.msg.Body.TheVariants.{Stored, SealedHere, LostHere, CleanHere, TrimmedHere, DigestPage};
@@ -10,7 +10,7 @@ ghost use Rattle.ld_msg.specs.Bounds.{IsLng, IsMessage, IsSummary, IsPage};
 ghost use Rattle.ld_lsn.specs.Number.{epoch_of};
 ghost use Rattle.ld_msg.specs.Digest.{no_digest};
 ghost use Rattle.ld_msg.specs.Sequencer.{digest_asks};
-ghost use Rattle.ld_recovery.specs.Recovering.{Goes, is_going, started, replied, reply_messages, sender_of, retried, retry_messages, Closing, closed_by, close_messages, messages, ending_behind, IsReply, IsRecovery, IsClosing};
+ghost use Rattle.ld_recovery.specs.Recovering.{Goes, is_going, started, is_spent_in, spends, replied, reply_messages, sender_of, losing, loss_messages, retried, retry_messages, Closing, closed_by, close_messages, messages, ending_behind, IsReply, IsRecovery, IsClosing};
 ghost use Rattle.ld_recovery.specs.States.{state_of, answer_of, is_epoch_answer, shown_ending, ended_state, IsEnding, IsTold};
 ghost use Rattle.ld_recovery.specs.declared.state.State.TheVariants as states;
 
@@ -49,7 +49,9 @@ impl Ending {
 }
 
 /// The recovery of an epoch by the sequencer of a later one: the nodes are sealed and tell what they have; from what
-/// enough of them told a plan is made and stored; once it is stored the epoch is to be closed in the register.
+/// enough of them told a plan is made and stored; once it is stored the epoch is to be closed in the register. Where each
+/// node has told all or is lost, and it isn't enough, the digest is spent: a look at the register decides whether a plan is
+/// made that says what is lost.
 #[derive(Drop)]
 pub struct Recovery {
     spec: Spec,
@@ -118,20 +120,86 @@ impl Recovery {
         self.epoch
     }
 
+    /// What was fixed for the epoch that is recovered.
+    pub fn spec(&self) -> &Spec
+        ensures { result.now ≡ self.now.recovery.spec }
+    {
+        &self.spec
+    }
+
     /// Where it stands. A summary that it is closing or done with is one that the register takes for its epoch; one that it
     /// is closing with names its ballot.
     pub fn state(&self) -> State
         ensures value { result ≡ state_of self.now }
         ensures holds { IsRecovery self.now }
-        ensures closing { (summary : Told) → result ≡ states.Closing summary → IsClosing self.now summary }
+        ensures closing { (summary : Told) (short : Bool) → result ≡ states.Closing summary short → IsClosing self.now summary short }
         ensures done { (summary : Told) → result ≡ states.Done summary → IsSummary self.now.recovery.epoch summary }
     {
         self.ending.state().unwrap_or(self.stage.state())
     }
 
+    /// Whether the digest is spent: each node has told all or is lost, and it isn't enough. The register is to be looked at
+    /// then, and where the epoch is open and the recovery's ballot the greatest one, `lose` is called.
+    pub fn spent(&self) -> bool
+        ensures { result ≡ is_spent_in self.now }
+    {
+        self.goes_on() && self.stage.spent(&self.spec)
+    }
+
+    /// Whether a node's message would leave the digest spent: a page that is taken, or word that a node is lost. Then
+    /// `on_reply` takes it, sends nothing and waits.
+    pub fn spends(&self, msg: &Msg) -> bool
+        requires { IsMessage msg.now }
+        ensures { result ≡ spends self.now (sender_of msg.now.from) msg.now.body }
+    {
+        match msg.from {
+            Who::Node(node) => self.goes_on() && self.spent_by(node, &msg.body),
+            _ => false,
+        }
+    }
+
+    // Whether a node's message would leave the digest of a recovery that goes on spent.
+    fn spent_by(&self, node: NodeId, body: &Body) -> bool
+        ensures { self.now.ending ≡ Goes → result ≡ spends self.now node body.now }
+    {
+        match body {
+            Body::LostHere { number, .. } => {
+                let (epoch, _) = number.home();
+                self.epoch == epoch && self.stage.spent_by_loss(&self.spec, node)
+            }
+            Body::DigestPage { from, upto, .. } => {
+                self.epoch == from.epoch()
+                    && self.stage.spent_by_page(&self.spec, node, *from, *upto)
+            }
+            _ => false,
+        }
+    }
+
+    /// What has been told is planned as what is lost, and the plan is sent to all nodes that aren't lost. The digest is
+    /// spent, the epoch is open, and the recovery's ballot is the greatest one. Without memory nothing is sent, and the
+    /// recovery isn't used again. Behind messages it sends messages.
+    pub fn lose(&mut self, alloc: Global, out: &mut Outbox) -> Result<(), NoMemory>
+        requires { is_spent_in self.old ≡ true }
+        ensures value { OnOk result (self.new ≡ losing self.old) }
+        ensures sent { OnOk result (out.new ≡ out.old ++ loss_messages self.old) }
+        ensures unsent { OnErr result (out.new ≡ out.old) }
+        ensures messages { AreMessages out.old → AreMessages out.new }
+    {
+        let sender = self.sender();
+        let scope = Scope {
+            spec: &self.spec,
+            sender: &sender,
+            epoch: self.epoch,
+            lost: &self.lost,
+        };
+        self.stage.lose(alloc, &scope, out)?;
+        Ok(())
+    }
+
     /// A node's message comes. A recovery that has ended ignores it, and so does any of what doesn't speak of its epoch, but
     /// for a seal of a greater ballot and a close of the sequencer's own epoch, which preempt. Other messages than a node's
-    /// replies do nothing. Without memory nothing is sent, and the recovery isn't used again. Behind messages it sends messages.
+    /// replies do nothing. A message that leaves the digest spent is taken, and nothing is sent. Without memory nothing is
+    /// sent, and the recovery isn't used again. Behind messages it sends messages.
     pub fn on_reply(&mut self, alloc: Global, msg: &Msg, out: &mut Outbox) -> Result<(), NoMemory>
         requires { IsMessage msg.now }
         ensures value { OnOk result (self.new ≡ replied self.old (sender_of msg.now.from) msg.now.body) }
@@ -173,10 +241,7 @@ impl Recovery {
                 self.on_sealed(*number, *sealed, node);
                 Ok(())
             }
-            Body::LostHere { number, .. } => {
-                self.on_lost(*number, node);
-                Ok(())
-            }
+            Body::LostHere { number, .. } => self.on_lost(alloc, *number, node, out),
             Body::CleanHere { number, summary } => self.on_clean(*number, summary, node, out),
             Body::TrimmedHere { number, trim } => {
                 self.on_trimmed(*number, *trim, node);
@@ -211,7 +276,7 @@ impl Recovery {
             return;
         }
         if number.epoch() == self.epoch {
-            self.stage.store(self.ballot, number, node);
+            self.stage.store(self.ballot, &self.lost, number, node);
         }
     }
 
@@ -224,7 +289,7 @@ impl Recovery {
             return;
         }
         if number.epoch() == self.epoch {
-            self.stage.trim(self.ballot, trim, node);
+            self.stage.trim(self.ballot, &self.lost, trim, node);
         }
     }
 
@@ -239,16 +304,32 @@ impl Recovery {
         }
     }
 
-    fn on_lost(&mut self, number: Lsn, node: NodeId)
+    fn on_lost(
+        &mut self,
+        alloc: Global,
+        number: Lsn,
+        node: NodeId,
+        out: &mut Outbox,
+    ) -> Result<(), NoMemory>
         requires { self.old.ending ≡ Goes }
-        ensures value { (round generation end : ℕ) → self.new ≡ replied self.old node (LostHere number round generation end) }
-        ensures quiet { (round generation end : ℕ) → reply_messages self.old node (LostHere number round generation end) ≡ [] }
+        ensures value { OnOk result ((round generation end : ℕ) → self.new ≡ replied self.old node (LostHere number round generation end)) }
+        ensures sent { OnOk result ((round generation end : ℕ) → out.new ≡ out.old ++ reply_messages self.old node (LostHere number round generation end)) }
+        ensures unsent { OnErr result (out.new ≡ out.old) }
+        ensures messages { AreMessages out.old → AreMessages out.new }
     {
         let (epoch, _) = number.home();
         if epoch == self.epoch {
             self.lost.add(node);
-            self.stage.lose(node);
+            let sender = self.sender();
+            let scope = Scope {
+                spec: &self.spec,
+                sender: &sender,
+                epoch: self.epoch,
+                lost: &self.lost,
+            };
+            self.stage.lose_node(alloc, &scope, node, out)?;
         }
+        Ok(())
     }
 
     fn on_clean(
@@ -308,8 +389,9 @@ impl Recovery {
     }
 
     /// What is still wanted is asked for again: a page of each node that isn't whole, or, in a new wave, each item that has
-    /// too few nodes. A recovery that is closing or has ended sends nothing. Without memory nothing is sent, and the recovery
-    /// isn't used again. Behind messages it sends messages.
+    /// too few nodes; a plan that is ready is to be closed then. A recovery whose digest is spent, that is closing or has
+    /// ended sends nothing. Without memory nothing is sent, and the recovery isn't used again. Behind messages it sends
+    /// messages.
     pub fn retry(&mut self, alloc: Global, out: &mut Outbox) -> Result<(), NoMemory>
         ensures value { OnOk result (self.new ≡ retried self.old) }
         ensures sent { OnOk result (out.new ≡ out.old ++ retry_messages self.old) }
@@ -326,10 +408,10 @@ impl Recovery {
     /// The register's answer to the close. The recovery is closing. Without memory nothing is sent. Behind messages it sends
     /// messages.
     pub fn closed(&mut self, answer: Answer, out: &mut Outbox) -> Result<(), NoMemory>
-        requires closing { (summary : Told) × Closing self.old summary }
+        requires closing { (summary : Told) × (short : Bool) × Closing self.old summary short }
         requires answer { is_epoch_answer answer ≡ true }
-        ensures value { (summary : Told) → Closing self.old summary → OnOk result (self.new ≡ closed_by self.old summary (answer_of answer)) }
-        ensures sent { (summary : Told) → Closing self.old summary → OnOk result (out.new ≡ out.old ++ close_messages self.old summary (answer_of answer)) }
+        ensures value { (summary : Told) (short : Bool) → Closing self.old summary short → OnOk result (self.new ≡ closed_by self.old summary (answer_of answer)) }
+        ensures sent { (summary : Told) (short : Bool) → Closing self.old summary short → OnOk result (out.new ≡ out.old ++ close_messages self.old summary (answer_of answer)) }
         ensures unsent { OnErr result (out.new ≡ out.old) }
         ensures messages { AreMessages out.old → AreMessages out.new }
     {
@@ -339,15 +421,19 @@ impl Recovery {
                 self.ending = behind(self.ballot, lce);
                 Ok(())
             }
+            Answer::Overtaken(epoch) => {
+                self.ending = Ending::Preempted(epoch);
+                Ok(())
+            }
             Answer::Failed => Ok(()),
         }
     }
 
     // The epoch is closed as planned.
     fn done(&mut self, out: &mut Outbox) -> Result<(), NoMemory>
-        requires { (summary : Told) × Closing self.old summary }
-        ensures value { (summary : Told) → Closing self.old summary → OnOk result (self.new ≡ closed_by self.old summary Granted) }
-        ensures sent { (summary : Told) → Closing self.old summary → OnOk result (out.new ≡ out.old ++ close_messages self.old summary Granted) }
+        requires { (summary : Told) × (short : Bool) × Closing self.old summary short }
+        ensures value { (summary : Told) (short : Bool) → Closing self.old summary short → OnOk result (self.new ≡ closed_by self.old summary Granted) }
+        ensures sent { (summary : Told) (short : Bool) → Closing self.old summary short → OnOk result (out.new ≡ out.old ++ close_messages self.old summary Granted) }
         ensures unsent { OnErr result (out.new ≡ out.old) }
         ensures messages { AreMessages out.old → AreMessages out.new }
     {

@@ -1,5 +1,6 @@
 // Messages of a sequencer to nodes.
-ghost use Rattle.std.specs.Prelude.{◌≡◌, ◌++◌, ◌∷◌, [], IfOk, OnOk, OnErr};
+ghost use Rattle.std.specs.Prelude.{◌≡◌, ◌++◌, ◌∷◌, ◌&&◌, not, [], IfOk, OnOk, OnErr};
+ghost use Rattle.ld_table.specs.Words.{is_in, without};
 ghost use Rattle.ld_ids.specs.Set.{members};
 ghost use Rattle.ld_msg.specs.declared.msg.What.TheVariants.{Rec};
 ghost use Rattle.ld_msg.specs.declared.msg.Body.TheVariants.{Store, Clean, DigestAsk};
@@ -147,6 +148,32 @@ impl Sender {
         self.send_each(alloc, number, lng, &Stored::Item(what), nodes, out)
     }
 
+    /// Sends an item with a last known good place to each node of the set that is in neither list, in their order. Without
+    /// memory some may have been sent.
+    #[tactic(auto, using(crate::proofs::Begins::begin_rules))]
+    pub(crate) fn send_left(
+        &self,
+        alloc: Global,
+        number: Lsn,
+        lng: u32,
+        what: &What,
+        left: &Left,
+        out: &mut Outbox,
+    ) -> Result<(), NoMemory>
+        ensures sent { OnOk result (out.new ≡ out.old ++ sent self.now (to_each (Store number lng what.now) (without left.now.settled.now (without left.now.lost.now (members left.now.set.now))))) }
+        ensures begins { OnErr result (BeginsWith out.old out.new) }
+    {
+        'nodes: for place in 0..left.set.len() {
+            if let Some(node) = left.set.nth(place) {
+                if left.has(node) {
+                    let what = what.copy(alloc)?;
+                    self.send(node, Body::Store { number, lng, what }, out)?;
+                }
+            }
+        }
+        Ok(())
+    }
+
     /// Sends a record with a last known good place to each of the nodes, in their order. Without memory some may have been sent.
     pub fn send_record(
         &self,
@@ -184,6 +211,23 @@ impl Sender {
             }
         }
         Ok(())
+    }
+}
+
+/// The nodes of a set, without those that are lost and those that have settled an item.
+#[derive(Clone, Copy)]
+pub(crate) struct Left<'a> {
+    pub(crate) set: &'a NodeSet,
+    pub(crate) lost: &'a NodeList,
+    pub(crate) settled: &'a NodeList,
+}
+
+impl<'a> Left<'a> {
+    // Whether a node of the set is among them.
+    fn has(&self, node: NodeId) -> bool
+        ensures { result ≡ (not (is_in node self.now.lost.now) && not (is_in node self.now.settled.now)) }
+    {
+        !self.lost.has(node) && !self.settled.has(node)
     }
 }
 

@@ -1,15 +1,18 @@
 // The stages of a recovery.
-ghost use Rattle.std.specs.Prelude.{◌≡◌, ◌≤◌, ◌<◌, ◌-◌, ◌^◌, ◌==◌, ◌++◌, ◌∷◌, [], ℕ, nat_le, IfOk, OnOk, OnErr};
+ghost use Rattle.std.specs.Prelude.{◌≡◌, ◌≤◌, ◌<◌, ◌-◌, ◌^◌, ◌==◌, ◌++◌, ◌∷◌, [], ℕ, List, true, ◌&&◌, nat_le, IfOk, OnOk, OnErr};
 ghost use Rattle.ld_msg.specs.declared.msg.Body.TheVariants.{DigestAsk};
+ghost use Rattle.ld_msg.specs.declared.msg.Entry.{Entry};
 ghost use Rattle.ld_lsn.specs.Number.{last_esn};
 ghost use Rattle.ld_msg.specs.Digest.{plan};
 ghost use Rattle.ld_digest.specs.Gathering.{AreInPlace};
+ghost use Rattle.ld_plan.specs.Decision.{lets_plan};
+ghost use Rattle.ld_recovery.specs.Recovering.{is_spent_stage, takes_in, page_told};
 ghost use Rattle.ld_recovery.specs.declared.stage.Stage.TheVariants.{Seals, Stopped};
 ghost use Rattle.ld_recovery.specs.Sending.{sent};
 ghost use Rattle.ld_recovery.specs.States.{summary_in, state_in};
 ghost use Rattle.ld_ids.specs.declared.set.Spec.{Spec as Config};
 ghost use Rattle.ld_msg.specs.Sequencer.{lost_stage, storing_of, item_stores, planned, Stores as Stored};
-ghost use Rattle.ld_recovery.specs.Stages.{shown, settled, closed_if_ready, retried_stage, retry_sends, page_stage, page_sends, gathered, gathered_sends, IsOf};
+ghost use Rattle.ld_recovery.specs.Stages.{shown, settled, closed_if_ready, retried_stage, retry_sends, page_stage, page_sends, gathered, gathered_sends, loss_stage, loss_sends, gathering_of, lossy_stage, lossy_sends, IsOf};
 
 use crate::send::Sender;
 use crate::state::State;
@@ -30,89 +33,143 @@ pub(crate) enum Stage {
     Seals(Digest),
     /// It stores the plan.
     Stores(Storing),
-    /// The plan is stored, and the epoch is to be closed so.
-    Closes(Summary),
-    /// It ran out of memory: it asks for nothing, takes nothing and never closes.
+    /// The plan is stored, and the epoch is to be closed so; the close is short or not.
+    Closes(Summary, bool),
+    /// It ran out of memory: it asks for nothing, takes nothing and never closes, and what may run out of memory does so.
     Stopped,
 }
 
 impl Stage {
     /// The node stored the item of a number.
-    fn on_stored(self, ballot: u32, number: Lsn, node: NodeId) -> Stage
-        ensures shown { shown result ≡ settled ballot (λ s. s == number) node self }
+    fn on_stored(self, ballot: u32, lost: &NodeList, number: Lsn, node: NodeId) -> Stage
+        ensures shown { shown result ≡ settled ballot lost.now (λ s. s == number) node self }
         ensures of { (spec : Config) (epoch : ℕ) → IsOf spec epoch ballot self → IsOf spec epoch ballot result }
     {
         match self {
             Stage::Stores(mut storing) => {
                 storing.store(number, node);
-                closed_if_ready(storing, ballot)
+                closed_if_ready(storing, ballot, lost)
             }
             Stage::Seals(digest) => Stage::Seals(digest),
-            Stage::Closes(summary) => Stage::Closes(summary),
+            Stage::Closes(summary, short) => Stage::Closes(summary, short),
             Stage::Stopped => Stage::Stopped,
         }
     }
 
     /// The node trimmed all up to a number.
-    fn on_trimmed(self, ballot: u32, trim: Lsn, node: NodeId) -> Stage
-        ensures shown { shown result ≡ settled ballot (λ s. nat_le s trim) node self }
+    fn on_trimmed(self, ballot: u32, lost: &NodeList, trim: Lsn, node: NodeId) -> Stage
+        ensures shown { shown result ≡ settled ballot lost.now (λ s. nat_le s trim) node self }
         ensures of { (spec : Config) (epoch : ℕ) → IsOf spec epoch ballot self → IsOf spec epoch ballot result }
     {
         match self {
             Stage::Stores(mut storing) => {
                 storing.trim(trim, node);
-                closed_if_ready(storing, ballot)
+                closed_if_ready(storing, ballot, lost)
             }
             Stage::Seals(digest) => Stage::Seals(digest),
-            Stage::Closes(summary) => Stage::Closes(summary),
-            Stage::Stopped => Stage::Stopped,
-        }
-    }
-
-    /// The node said that it is lost.
-    fn on_lost(self, node: NodeId) -> Stage
-        ensures shown { shown result ≡ lost_stage node (shown self) }
-        ensures of { (spec : Config) (epoch ballot : ℕ) → IsOf spec epoch ballot self → IsOf spec epoch ballot result }
-    {
-        match self {
-            Stage::Seals(mut digest) => {
-                digest.lost(node);
-                Stage::Seals(digest)
-            }
-            Stage::Stores(storing) => Stage::Stores(storing),
-            Stage::Closes(summary) => Stage::Closes(summary),
+            Stage::Closes(summary, short) => Stage::Closes(summary, short),
             Stage::Stopped => Stage::Stopped,
         }
     }
 
     /// The node stored the item of a number.
-    pub(crate) fn store(&mut self, ballot: u32, number: Lsn, node: NodeId)
-        ensures shown { shown self.new ≡ settled ballot (λ s. s == number) node self.old }
+    pub(crate) fn store(&mut self, ballot: u32, lost: &NodeList, number: Lsn, node: NodeId)
+        ensures shown { shown self.new ≡ settled ballot lost.now (λ s. s == number) node self.old }
         ensures of { (spec : Config) (epoch : ℕ) → IsOf spec epoch ballot self.old → IsOf spec epoch ballot self.new }
     {
         let stage = mem::replace(self, Stage::Stopped);
-        *self = stage.on_stored(ballot, number, node);
+        *self = stage.on_stored(ballot, lost, number, node);
     }
 
     /// The node trimmed all up to a number.
-    pub(crate) fn trim(&mut self, ballot: u32, trim: Lsn, node: NodeId)
-        ensures shown { shown self.new ≡ settled ballot (λ s. nat_le s trim) node self.old }
+    pub(crate) fn trim(&mut self, ballot: u32, lost: &NodeList, trim: Lsn, node: NodeId)
+        ensures shown { shown self.new ≡ settled ballot lost.now (λ s. nat_le s trim) node self.old }
         ensures of { (spec : Config) (epoch : ℕ) → IsOf spec epoch ballot self.old → IsOf spec epoch ballot self.new }
     {
         let stage = mem::replace(self, Stage::Stopped);
-        *self = stage.on_trimmed(ballot, trim, node);
+        *self = stage.on_trimmed(ballot, lost, trim, node);
     }
 
-    /// The node said that it is lost.
-    pub(crate) fn lose(&mut self, node: NodeId)
-        ensures shown { shown self.new ≡ lost_stage node (shown self.old) }
-        ensures of { (spec : Config) (epoch ballot : ℕ) → IsOf spec epoch ballot self.old → IsOf spec epoch ballot self.new }
+    /// The node said that it is lost, and is among the lost ones. Without memory nothing is sent, and it is stopped.
+    pub(crate) fn lose_node(
+        &mut self,
+        alloc: Global,
+        scope: &Scope,
+        node: NodeId,
+        out: &mut Outbox,
+    ) -> Result<(), NoMemory>
+        requires factor { 1 ≤ scope.now.spec.now.r }
+        requires of { IsOf scope.now.spec.now scope.now.epoch scope.now.sender.now.epoch self.old }
+        ensures shown { OnOk result (shown self.new ≡ loss_stage scope.now.spec.now scope.now.epoch scope.now.sender.now.epoch scope.now.lost.now node self.old) }
+        ensures stopped { OnErr result (self.new ≡ Stopped) }
+        ensures of { IsOf scope.now.spec.now scope.now.epoch scope.now.sender.now.epoch self.new }
+        ensures sent { OnOk result (out.new ≡ out.old ++ sent scope.now.sender.now (loss_sends scope.now.spec.now scope.now.epoch scope.now.lost.now node self.old)) }
+        ensures unsent { OnErr result (out.new ≡ out.old) }
     {
         let stage = mem::replace(self, Stage::Stopped);
-        *self = stage.on_lost(node);
+        *self = on_lost(alloc, stage, scope, node, out)?;
+        Ok(())
     }
 
-    /// What is still wanted is asked for again. Without memory nothing is sent, and it is stopped.
+    /// What has been told is planned as what is lost. The digest is spent. Without memory nothing is sent, and it is stopped.
+    pub(crate) fn lose(
+        &mut self,
+        alloc: Global,
+        scope: &Scope,
+        out: &mut Outbox,
+    ) -> Result<(), NoMemory>
+        requires factor { 1 ≤ scope.now.spec.now.r }
+        requires of { IsOf scope.now.spec.now scope.now.epoch scope.now.sender.now.epoch self.old }
+        requires spent { is_spent_stage scope.now.spec.now (shown self.old) ≡ true }
+        ensures shown { OnOk result (shown self.new ≡ lossy_stage (gathering_of scope.now.spec.now scope.now.epoch self.old)) }
+        ensures stopped { OnErr result (self.new ≡ Stopped) }
+        ensures of { IsOf scope.now.spec.now scope.now.epoch scope.now.sender.now.epoch self.new }
+        ensures sent { OnOk result (out.new ≡ out.old ++ sent scope.now.sender.now (lossy_sends scope.now.lost.now (gathering_of scope.now.spec.now scope.now.epoch self.old))) }
+        ensures unsent { OnErr result (out.new ≡ out.old) }
+    {
+        let stage = mem::replace(self, Stage::Stopped);
+        *self = lossy(alloc, stage, scope, out)?;
+        Ok(())
+    }
+
+    /// Whether the digest is spent. One of no nodes is.
+    pub(crate) fn spent(&self, spec: &Spec) -> bool
+        ensures { (epoch ballot : ℕ) → IsOf spec.now epoch ballot self.now → result ≡ is_spent_stage spec.now (shown self.now) }
+    {
+        match self {
+            Stage::Seals(digest) => digest.spent(),
+            Stage::Stores(_) => false,
+            Stage::Closes(_, _) => false,
+            Stage::Stopped => usize::from(spec.r) <= spec.set.len(),
+        }
+    }
+
+    /// Whether a page of the node from a number up to another would be taken and leave the digest spent.
+    pub(crate) fn spent_by_page(&self, spec: &Spec, node: NodeId, from: Lsn, upto: Lsn) -> bool
+        ensures { (epoch ballot trim lng : ℕ) (entries : List Entry) → IsOf spec.now epoch ballot self.now → result ≡ (takes_in node from (shown self.now) && is_spent_stage spec.now (page_told epoch node from upto trim lng entries (shown self.now))) }
+    {
+        match self {
+            Stage::Seals(digest) => digest.spent_by_page(node, from, upto),
+            Stage::Stores(_) => false,
+            Stage::Closes(_, _) => false,
+            Stage::Stopped => false,
+        }
+    }
+
+    /// Whether word of the node that it is lost would leave the digest spent. One of no nodes is.
+    pub(crate) fn spent_by_loss(&self, spec: &Spec, node: NodeId) -> bool
+        ensures { (epoch ballot : ℕ) → IsOf spec.now epoch ballot self.now → result ≡ is_spent_stage spec.now (lost_stage node (shown self.now)) }
+    {
+        match self {
+            Stage::Seals(digest) => digest.spent_by_loss(node),
+            Stage::Stores(_) => false,
+            Stage::Closes(_, _) => false,
+            Stage::Stopped => usize::from(spec.r) <= spec.set.len(),
+        }
+    }
+
+    /// What is still wanted is asked for again, unless the digest is spent; a plan is closed, where it is ready. Without
+    /// memory nothing is sent, and it is stopped.
     pub(crate) fn try_again(
         &mut self,
         alloc: Global,
@@ -120,9 +177,9 @@ impl Stage {
         lost: &NodeList,
         out: &mut Outbox,
     ) -> Result<(), NoMemory>
-        ensures shown { OnOk result (shown self.new ≡ retried_stage self.old) }
+        ensures shown { OnOk result (shown self.new ≡ retried_stage sender.now.epoch lost.now self.old) }
         ensures stopped { OnErr result (self.new ≡ Stopped) }
-        ensures of { (spec : Config) (epoch ballot : ℕ) → IsOf spec epoch ballot self.old → IsOf spec epoch ballot self.new }
+        ensures of { (spec : Config) (epoch : ℕ) → IsOf spec epoch sender.now.epoch self.old → IsOf spec epoch sender.now.epoch self.new }
         ensures sent { OnOk result (out.new ≡ out.old ++ sent sender.now (retry_sends lost.now self.old)) }
         ensures unsent { OnErr result (out.new ≡ out.old) }
     {
@@ -161,7 +218,7 @@ impl Stage {
         ensures { result ≡ summary_in (shown self.now) }
     {
         match self {
-            Stage::Closes(summary) => Some(*summary),
+            Stage::Closes(summary, _) => Some(*summary),
             Stage::Seals(_) => None,
             Stage::Stores(_) => None,
             Stage::Stopped => None,
@@ -173,14 +230,15 @@ impl Stage {
         ensures { result ≡ state_in (shown self.now) }
     {
         match self {
-            Stage::Closes(summary) => State::Closing(*summary),
+            Stage::Closes(summary, short) => State::Closing(*summary, *short),
             Stage::Seals(_) => State::Sealing,
             Stage::Stores(_) => State::Storing,
             Stage::Stopped => State::Sealing,
         }
     }
 
-    /// What is still wanted is asked for again. Without memory nothing is sent.
+    /// What is still wanted is asked for again, unless the digest is spent; a plan is closed, where it is ready. Without
+    /// memory nothing is sent.
     fn retry(
         self,
         alloc: Global,
@@ -188,13 +246,16 @@ impl Stage {
         lost: &NodeList,
         out: &mut Outbox,
     ) -> Result<Stage, NoMemory>
-        ensures shown { IfOk result (λ stage'. shown stage' ≡ retried_stage self) }
-        ensures of { IfOk result (λ stage'. (spec : Config) (epoch ballot : ℕ) → IsOf spec epoch ballot self → IsOf spec epoch ballot stage') }
+        ensures shown { IfOk result (λ stage'. shown stage' ≡ retried_stage sender.now.epoch lost.now self) }
+        ensures of { IfOk result (λ stage'. (spec : Config) (epoch : ℕ) → IsOf spec epoch sender.now.epoch self → IsOf spec epoch sender.now.epoch stage') }
         ensures sent { OnOk result (out.new ≡ out.old ++ sent sender.now (retry_sends lost.now self)) }
         ensures unsent { OnErr result (out.new ≡ out.old) }
     {
         match self {
             Stage::Seals(mut digest) => {
+                if digest.spent() {
+                    return Ok(Stage::Seals(digest));
+                }
                 digest.ask_anew();
                 sender.ask_for_digest(digest.told(), out)?;
                 Ok(Stage::Seals(digest))
@@ -202,21 +263,22 @@ impl Stage {
             Stage::Stores(mut storing) => {
                 storing.raise();
                 storing.send(alloc, sender, lost, out)?;
-                Ok(Stage::Stores(storing))
+                Ok(closed_if_ready(storing, sender.epoch, lost))
             }
-            Stage::Closes(summary) => Ok(Stage::Closes(summary)),
-            Stage::Stopped => Ok(Stage::Stopped),
+            Stage::Closes(summary, short) => Ok(Stage::Closes(summary, short)),
+            Stage::Stopped => Err(NoMemory),
         }
     }
 }
 
-// A plan is closed, where each of its items has enough nodes.
-fn closed_if_ready(storing: Storing, ballot: u32) -> Stage
-    ensures shown { shown result ≡ closed_if_ready ballot storing }
+// A plan is closed, where it is ready; the close is short, where each node has answered or is lost, but it isn't fully ready.
+fn closed_if_ready(storing: Storing, ballot: u32, lost: &NodeList) -> Stage
+    ensures shown { shown result ≡ closed_if_ready ballot lost.now storing }
     ensures of { (spec : Config) (epoch : ℕ) → storing.spec ≡ spec → IsOf spec epoch ballot result }
 {
-    if storing.is_ready() {
-        Stage::Closes(storing.summary(ballot))
+    let fully = storing.is_fully_ready();
+    if fully || storing.is_ready_short(lost) {
+        Stage::Closes(storing.summary(ballot), !fully)
     } else {
         Stage::Stores(storing)
     }
@@ -253,8 +315,8 @@ fn on_page(
     match stage {
         Stage::Seals(digest) => add_page(alloc, digest, scope, node, page, out),
         Stage::Stores(storing) => Ok(Stage::Stores(storing)),
-        Stage::Closes(summary) => Ok(Stage::Closes(summary)),
-        Stage::Stopped => Ok(Stage::Stopped),
+        Stage::Closes(summary, short) => Ok(Stage::Closes(summary, short)),
+        Stage::Stopped => Err(NoMemory),
     }
 }
 
@@ -285,7 +347,7 @@ fn add_page(
     }
 }
 
-// A node is whole: what has been told is planned, where it is enough.
+// A node is whole or lost: what has been told is planned, where it is enough.
 fn gathered(
     alloc: Global,
     digest: Digest,
@@ -300,12 +362,13 @@ fn gathered(
     ensures unsent { OnErr result (out.new ≡ out.old) }
 {
     if digest.enough() {
-        return store(alloc, digest, scope, out);
+        return store(alloc, digest, false, scope, out);
     }
     Ok(Stage::Seals(digest))
 }
 
-// A node is to be asked on: what has been told is planned, where it is enough, and else the node is asked.
+// A node is to be asked on: what has been told is planned, where it is enough, and else the node is asked, unless the digest is
+// spent.
 fn asked_on(
     alloc: Global,
     digest: Digest,
@@ -322,23 +385,75 @@ fn asked_on(
     ensures unsent { OnErr result (out.new ≡ out.old) }
 {
     if digest.enough() {
-        return store(alloc, digest, scope, out);
+        return store(alloc, digest, false, scope, out);
+    }
+    if digest.spent() {
+        return Ok(Stage::Seals(digest));
     }
     scope.sender.ask(node, next, out)?;
     Ok(Stage::Seals(digest))
 }
 
-// What has been told is planned, and the plan is sent in its first wave.
-fn store(alloc: Global, digest: Digest, scope: &Scope, out: &mut Outbox) -> Result<Stage, NoMemory>
+// The node said that it is lost. Without memory nothing is sent.
+fn on_lost(
+    alloc: Global,
+    stage: Stage,
+    scope: &Scope,
+    node: NodeId,
+    out: &mut Outbox,
+) -> Result<Stage, NoMemory>
     requires factor { 1 ≤ scope.now.spec.now.r }
+    requires of { IsOf scope.now.spec.now scope.now.epoch scope.now.sender.now.epoch stage }
+    ensures of { IfOk result (λ stage'. IsOf scope.now.spec.now scope.now.epoch scope.now.sender.now.epoch stage') }
+    ensures stage { IfOk result (λ stage'. shown stage' ≡ loss_stage scope.now.spec.now scope.now.epoch scope.now.sender.now.epoch scope.now.lost.now node stage) }
+    ensures sent { OnOk result (out.new ≡ out.old ++ sent scope.now.sender.now (loss_sends scope.now.spec.now scope.now.epoch scope.now.lost.now node stage)) }
+    ensures unsent { OnErr result (out.new ≡ out.old) }
+{
+    match stage {
+        Stage::Seals(mut digest) => {
+            digest.lost(node);
+            gathered(alloc, digest, scope, out)
+        }
+        Stage::Stores(storing) => Ok(closed_if_ready(storing, scope.sender.epoch, scope.lost)),
+        Stage::Closes(summary, short) => Ok(Stage::Closes(summary, short)),
+        Stage::Stopped => Err(NoMemory),
+    }
+}
+
+// What has been told is planned as what is lost. Without memory nothing is sent.
+fn lossy(alloc: Global, stage: Stage, scope: &Scope, out: &mut Outbox) -> Result<Stage, NoMemory>
+    requires factor { 1 ≤ scope.now.spec.now.r }
+    requires of { IsOf scope.now.spec.now scope.now.epoch scope.now.sender.now.epoch stage }
+    requires spent { is_spent_stage scope.now.spec.now (shown stage) ≡ true }
+    ensures of { IfOk result (λ stage'. IsOf scope.now.spec.now scope.now.epoch scope.now.sender.now.epoch stage') }
+    ensures stage { IfOk result (λ stage'. shown stage' ≡ lossy_stage (gathering_of scope.now.spec.now scope.now.epoch stage)) }
+    ensures sent { OnOk result (out.new ≡ out.old ++ sent scope.now.sender.now (lossy_sends scope.now.lost.now (gathering_of scope.now.spec.now scope.now.epoch stage))) }
+    ensures unsent { OnErr result (out.new ≡ out.old) }
+{
+    match stage {
+        Stage::Seals(digest) => store(alloc, digest, true, scope, out),
+        _ => Err(NoMemory),
+    }
+}
+
+// What has been told is planned, and the plan is sent in its first wave.
+fn store(
+    alloc: Global,
+    digest: Digest,
+    loss: bool,
+    scope: &Scope,
+    out: &mut Outbox,
+) -> Result<Stage, NoMemory>
+    requires factor { 1 ≤ scope.now.spec.now.r }
+    requires plan { lets_plan digest.spec loss digest.told ≡ true }
     requires of { (digest.spec ≡ scope.now.spec.now) × (digest.epoch ≡ scope.now.epoch) }
     ensures of { IfOk result (λ stage'. IsOf scope.now.spec.now scope.now.epoch scope.now.sender.now.epoch stage') }
-    ensures stage { IfOk result (λ stage'. shown stage' ≡ Stored (storing_of (plan digest.epoch digest.told))) }
-    ensures sent { OnOk result (out.new ≡ out.old ++ sent scope.now.sender.now (item_stores digest.spec scope.now.lost.now (plan digest.epoch digest.told).lng 0 (planned (plan digest.epoch digest.told).items))) }
+    ensures stage { IfOk result (λ stage'. shown stage' ≡ Stored (storing_of (plan digest.epoch loss digest.told))) }
+    ensures sent { OnOk result (out.new ≡ out.old ++ sent scope.now.sender.now (item_stores digest.spec scope.now.lost.now loss (plan digest.epoch loss digest.told).lng 0 (planned (plan digest.epoch loss digest.told).items))) }
     ensures unsent { OnErr result (out.new ≡ out.old) }
 {
     let _ = digest.lng();
-    let plan = plan(alloc, &digest)?;
+    let plan = plan(alloc, &digest, loss)?;
     let storing = Storing::new(alloc, scope.spec, plan)?;
     storing.send(alloc, scope.sender, scope.lost, out)?;
     Ok(Stage::Stores(storing))

@@ -8,8 +8,9 @@ pub enum State {
     Sealing,
     /// The plan is sent to nodes.
     Storing,
-    /// The plan is stored: the epoch is to be closed with this summary, now or at a retry.
-    Closing(Summary),
+    /// The plan is stored: the epoch is to be closed with this summary, now or at a retry. It is a short close, where all
+    /// nodes have answered or are lost, but too few stored the plan, or where the plan says what is lost.
+    Closing(Summary, bool),
     /// The epoch is closed with this summary.
     Done(Summary),
     /// The epoch was closed by another sequencer, and so are all up to this one.
@@ -25,6 +26,8 @@ pub enum Answer {
     Taken,
     /// The last closed epoch is this one, and not the one before.
     Behind(u32),
+    /// The close is short, and this later epoch was handed out.
+    Overtaken(u32),
     /// It refused for another cause, or failed: the close is made or not.
     Failed,
 }

@@ -1,5 +1,5 @@
 // The recovery of epoch 1 by the sequencer of epoch 2, of a log on the nodes 1, 2 and 3 with each record on two.
-ghost use Rattle.std.specs.Prelude.{◌≡◌, ◌≤◌, ◌<◌, ◌-◌, ◌^◌, true};
+ghost use Rattle.std.specs.Prelude.{◌≡◌, ◌≤◌, ◌<◌, ◌-◌, ◌^◌, true, false};
 ghost use Rattle.ld_recovery.specs.Recovering.{IsReplyTo};
 ghost use Rattle.ld_recovery.specs.States.{is_epoch_answer};
 
@@ -98,13 +98,14 @@ fn lost() -> Body
 
 // The summary of an epoch that a sequencer closed.
 fn closed(ballot: u32, end: u32) -> Summary
-    ensures { result ≡ record { ballot = ballot; lng = 0; trim = 0; end = end } }
+    ensures { result ≡ record { ballot = ballot; lng = 0; trim = 0; end = end; loss = false } }
 {
     Summary {
         ballot,
         lng: 0,
         trim: Lsn::from_u64(0),
         end,
+        loss: false,
     }
 }
 
@@ -171,6 +172,27 @@ fn comes(
     recovery.on_reply(alloc, &msg, out)
 }
 
+// Whether a node's reply would leave the digest spent.
+fn spends(alloc: Global, recovery: &Recovery, log: LogId, node: NodeId, reply: Reply) -> bool {
+    let _ = (log.number(), node.number());
+    let msg = Msg {
+        from: Who::Node(node),
+        to: Who::Sequencer(2),
+        log,
+        body: body(alloc, reply),
+    };
+    recovery.spends(&msg)
+}
+
+// What is lost is planned, where the digest is spent. Tells whether it was.
+fn loses(alloc: Global, recovery: &mut Recovery, out: &mut Outbox) -> Result<bool, NoMemory> {
+    if !recovery.spent() {
+        return Ok(false);
+    }
+    recovery.lose(alloc, out)?;
+    Ok(true)
+}
+
 // A node's reply comes.
 fn replies(
     alloc: Global,
@@ -188,7 +210,7 @@ fn close(recovery: &mut Recovery, answer: Answer, out: &mut Outbox) -> Result<u3
     requires { is_epoch_answer answer ≡ true }
 {
     match recovery.state() {
-        State::Closing(summary) => {
+        State::Closing(summary, _) => {
             recovery.closed(answer, out)?;
             Ok(summary.end)
         }
@@ -211,12 +233,18 @@ fn close_late(recovery: &mut Recovery, out: &mut Outbox) -> Result<u32, NoMemory
     close(recovery, Answer::Behind(1), out)
 }
 
-// The state, as one letter.
+// The register says that a later epoch was handed out.
+fn close_overtaken(recovery: &mut Recovery, out: &mut Outbox) -> Result<u32, NoMemory> {
+    close(recovery, Answer::Overtaken(9), out)
+}
+
+// The state, as one letter: k for a short close.
 fn letter(recovery: &Recovery) -> u8 {
     match recovery.state() {
         State::Sealing => b's',
         State::Storing => b't',
-        State::Closing(_) => b'c',
+        State::Closing(_, false) => b'c',
+        State::Closing(_, true) => b'k',
         State::Done(_) => b'd',
         State::Gone(_) => b'g',
         State::Preempted(_) => b'p',
@@ -305,5 +333,78 @@ fn word_of_another_sequencer_ends_it(rt: HostRuntime) -> Result<(), Fail> {
         assert_eq!(rt; letter(&recovery), state);
         assert_eq!(rt; out.len(), sent);
     }
+    Ok(())
+}
+
+#[test]
+fn a_digest_that_is_spent_waits_for_a_look(rt: HostRuntime) -> Result<(), Fail> {
+    let alloc = rt.alloc();
+    let log = LogId::new(1).expect(&rt, "a log");
+    let mut out = Outbox::empty(alloc);
+    let mut recovery = begin(alloc, log, &mut out)?;
+    let rows = [
+        (1, Reply::Nothing, false),
+        (2, Reply::Lost, false),
+        (3, Reply::Lost, true),
+    ];
+    'rows: for (number, reply, spent) in rows {
+        let node = NodeId::new(number).expect(&rt, "a node");
+        assert_eq!(rt; spends(alloc, &recovery, log, node, reply), spent);
+        replies(alloc, &mut recovery, log, node, reply, &mut out)?;
+        assert_eq!(rt; recovery.spent(), spent);
+    }
+    // it isn't asked again
+    recovery.retry(alloc, &mut out)?;
+    assert_eq!(rt; letter(&recovery), b's');
+    assert_eq!(rt; out.len(), 3);
+    // the bridge goes to node 1 alone
+    assert!(rt; loses(alloc, &mut recovery, &mut out)?);
+    assert_eq!(rt; letter(&recovery), b't');
+    assert_eq!(rt; out.len(), 4);
+    let one = NodeId::new(1).expect(&rt, "a node");
+    replies(alloc, &mut recovery, log, one, Reply::Stored, &mut out)?;
+    assert_eq!(rt; letter(&recovery), b'k');
+    assert_eq!(rt; close_overtaken(&mut recovery, &mut out)?, 1);
+    assert_eq!(rt; letter(&recovery), b'p');
+    Ok(())
+}
+
+#[test]
+fn a_plan_that_too_few_nodes_are_left_for_is_closed_short(rt: HostRuntime) -> Result<(), Fail> {
+    let alloc = rt.alloc();
+    let log = LogId::new(1).expect(&rt, "a log");
+    let mut out = Outbox::empty(alloc);
+    let mut recovery = begin(alloc, log, &mut out)?;
+    let rows = [
+        (1, Reply::Nothing, b's', 3),
+        (2, Reply::Nothing, b't', 5),
+        (2, Reply::Lost, b't', 5),
+        (3, Reply::Lost, b't', 5),
+        (1, Reply::Stored, b'k', 5),
+    ];
+    'rows: for (number, reply, state, sent) in rows {
+        let node = NodeId::new(number).expect(&rt, "a node");
+        replies(alloc, &mut recovery, log, node, reply, &mut out)?;
+        assert_eq!(rt; letter(&recovery), state);
+        assert_eq!(rt; out.len(), sent);
+    }
+    Ok(())
+}
+
+#[test]
+fn a_plan_that_no_node_is_left_for_is_closed_at_a_retry(rt: HostRuntime) -> Result<(), Fail> {
+    let alloc = rt.alloc();
+    let log = LogId::new(1).expect(&rt, "a log");
+    let mut out = Outbox::empty(alloc);
+    let mut recovery = begin(alloc, log, &mut out)?;
+    'nodes: for number in [1, 2, 3] {
+        let node = NodeId::new(number).expect(&rt, "a node");
+        replies(alloc, &mut recovery, log, node, Reply::Lost, &mut out)?;
+    }
+    assert!(rt; loses(alloc, &mut recovery, &mut out)?);
+    assert_eq!(rt; letter(&recovery), b't');
+    recovery.retry(alloc, &mut out)?;
+    assert_eq!(rt; letter(&recovery), b'k');
+    assert_eq!(rt; out.len(), 3);
     Ok(())
 }

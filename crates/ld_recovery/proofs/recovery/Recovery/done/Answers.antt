@@ -18,9 +18,9 @@ use Rattle.ld_recovery.proofs.Sound.{closes_well}
 use Rattle.ld_recovery.proofs.recovery.Recovery.done.Goals as goal
 
 pub returns-in_ok-tell_clean-clause-sent : goal.returns-in_ok-tell_clean-clause-sent
-returns-in_ok-tell_clean-clause-sent c = λ y h.
+returns-in_ok-tell_clean-clause-sent c = λ y short h.
     let r = c.args.self.now in
-    let s : c.in-Some.summary ≡ y = one_summary c.in-Some.summary y (shown c.self.inside.stage) c.in-Some.ensures (ap (λ (x : Recovering). x.recovery.stage) c.self.view_is ∙ h.1) in
+    let s : c.in-Some.summary ≡ y = one_summary c.in-Some.summary y short (shown c.self.inside.stage) c.in-Some.ensures (ap (λ (x : Recovering). x.recovery.stage) c.self.view_is ∙ h.1) in
     let bs = ap (λ (x : Recovering). to_each (Clean x.recovery.epoch c.in-Some.summary) (nodes_of x.recovery.spec)) c.self.view_is ∙ ap (λ (z : Summary). to_each (Clean r.recovery.epoch z) (nodes_of r.recovery.spec)) s in
     c.in_ok-tell_clean.ensures.sent ∙ ap (λ (l : List Msg). c.args.out.now ++ l) (ap (sent c.sender-sender.result) bs ∙ (sent_is c.sender-sender.result r (to_each (Clean r.recovery.epoch y) (nodes_of r.recovery.spec)) c.sender-sender.ensures.log c.sender-sender.ensures.epoch ∙ sym (granted r y)))
 

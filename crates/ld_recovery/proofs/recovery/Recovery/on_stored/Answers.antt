@@ -19,7 +19,7 @@ invariant_of-self c = (
   c.self.invariant.3,
   c.self.invariant.4,
   c.self.invariant.5,
-  subst (IsStage c.self.inside.epoch) (sym c.store.ensures.shown) (settling_is c.self.inside.epoch c.self.inside.ballot c.self.invariant.2 c.self.invariant.3 c.self.invariant.4 (λ s. s == c.args.number) c.args.node c.self.inside.stage c.self.invariant.6),
+  subst (IsStage c.self.inside.epoch) (sym c.store.ensures.shown) (settling_is c.self.inside.epoch c.self.inside.ballot c.self.invariant.2 c.self.invariant.3 c.self.invariant.4 c.self.inside.lost (λ s. s == c.args.number) c.args.node c.self.inside.stage c.self.invariant.6),
   c.self.invariant.7,
 )
 

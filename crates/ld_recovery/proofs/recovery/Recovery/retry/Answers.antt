@@ -2,7 +2,8 @@ use Rattle.std.proofs.Common.{◌≡◌, ◌++◌, List, ℕ, ap, sym, subst, �
 use Rattle.ld_msg.specs.declared.msg.Msg.{Msg}
 use Rattle.ld_recovery.specs.Recovering.{Recovering, Goes, retried, retry_messages}
 use Rattle.ld_recovery.specs.Sending.{sent}
-use Rattle.ld_recovery.specs.Stages.{retry_sends}
+use Rattle.ld_ids.specs.declared.set.Spec.{Spec}
+use Rattle.ld_recovery.specs.Stages.{IsOf, retried_stage, retry_sends}
 use Rattle.ld_recovery.specs.States.{shown_ending}
 use Rattle.ld_recovery.proofs.Holding.{held, retry_value, retry_sends_are, goes_if}
 use Rattle.ld_ids.specs.Id.{IsLog}
@@ -13,21 +14,25 @@ use Rattle.ld_sequencer_bounds.proofs.Posts.{sent_behind}
 use Rattle.ld_recovery.proofs.Bounded.{retried_is, retries_sent}
 use Rattle.ld_recovery.proofs.recovery.Recovery.retry.Goals as goal
 
+-- a stage of this ballot stays one
+kept : (spec : Spec) (epoch x ballot : ℕ) (s t : Stage) → x ≡ ballot → (IsOf spec epoch x s → IsOf spec epoch x t) → IsOf spec epoch ballot s → IsOf spec epoch ballot t
+kept spec epoch x ballot s t e f h = subst (λ (b : ℕ). IsOf spec epoch b t) e (f (subst (λ (b : ℕ). IsOf spec epoch b s) (sym e) h))
+
 pub invariant_of-self : goal.invariant_of-self
 invariant_of-self c = (
-  c.try_again.ensures.of c.self.inside.spec c.self.inside.epoch c.self.inside.ballot c.self.invariant.0,
+  kept c.self.inside.spec c.self.inside.epoch c.sender-sender.result.epoch c.self.inside.ballot c.self.inside.stage c.try_again.new.self (c.sender-sender.ensures.epoch ∙ sym (ap (λ (r : Recovering). r.ballot) c.self.view_is)) (c.try_again.ensures.of c.self.inside.spec c.self.inside.epoch) c.self.invariant.0,
   c.self.invariant.1,
   c.self.invariant.2,
   c.self.invariant.3,
   c.self.invariant.4,
   c.self.invariant.5,
-  subst (IsStage c.self.inside.epoch) (sym c.in_ok-try_again.ensures.shown) (retried_is c.self.inside.spec c.self.inside.epoch c.self.inside.ballot c.self.inside.stage c.self.invariant.0 c.self.invariant.6),
+  subst (IsStage c.self.inside.epoch) (sym (c.in_ok-try_again.ensures.shown ∙ ap (λ (b : ℕ). retried_stage b c.self.inside.lost c.self.inside.stage) (c.sender-sender.ensures.epoch ∙ sym (ap (λ (r : Recovering). r.ballot) c.self.view_is)))) (retried_is c.self.inside.epoch c.self.inside.ballot c.self.invariant.2 c.self.invariant.3 c.self.invariant.4 c.self.inside.spec c.self.inside.lost c.self.inside.stage c.self.invariant.0 c.self.invariant.6),
   c.self.invariant.7,
 )
 
 pub invariant_of-self-in_err-try_again : goal.invariant_of-self-in_err-try_again
 invariant_of-self-in_err-try_again c = (
-  c.try_again.ensures.of c.self.inside.spec c.self.inside.epoch c.self.inside.ballot c.self.invariant.0,
+  kept c.self.inside.spec c.self.inside.epoch c.sender-sender.result.epoch c.self.inside.ballot c.self.inside.stage c.try_again.new.self (c.sender-sender.ensures.epoch ∙ sym (ap (λ (r : Recovering). r.ballot) c.self.view_is)) (c.try_again.ensures.of c.self.inside.spec c.self.inside.epoch) c.self.invariant.0,
   c.self.invariant.1,
   c.self.invariant.2,
   c.self.invariant.3,
@@ -41,7 +46,7 @@ pub returns-in_ok-try_again-clause-value : goal.returns-in_ok-try_again-clause-v
 returns-in_ok-try_again-clause-value c =
     let a = c.self.inside in
     let h : shown_ending a.ending ≡ Goes = ap (λ (r : Recovering). r.ending) c.self.view_is ∙ goes_if c.args.self.now.ending c.if-goes_on.ensures in
-    subst (λ (r : Recovering). held a.spec a.epoch a.ballot a.lost c.try_again.new.self a.ending ≡ retried r) c.self.view_is (retry_value a.spec a.epoch a.ballot a.lost a.stage c.try_again.new.self a.ending h c.self.invariant.0 c.in_ok-try_again.ensures.shown)
+    subst (λ (r : Recovering). held a.spec a.epoch a.ballot a.lost c.try_again.new.self a.ending ≡ retried r) c.self.view_is (retry_value a.spec a.epoch a.ballot a.lost a.stage c.try_again.new.self a.ending h c.self.invariant.0 (c.in_ok-try_again.ensures.shown ∙ ap (λ (b : ℕ). retried_stage b a.lost a.stage) (c.sender-sender.ensures.epoch ∙ sym (ap (λ (r : Recovering). r.ballot) c.self.view_is))))
 
 pub returns-in_ok-try_again-clause-sent : goal.returns-in_ok-try_again-clause-sent
 returns-in_ok-try_again-clause-sent c =

@@ -13,8 +13,8 @@ returns-clause-holds c =
     subst (λ (r : Recovering). IsRecovery r) c.self.view_is (holds a.spec a.epoch a.ballot a.lost a.stage a.ending c.self.invariant)
 
 pub returns-clause-closing : goal.returns-clause-closing
-returns-clause-closing c = λ y h.
+returns-clause-closing c = λ y short h.
     let a = c.self.inside in
     let s : c.unwrap_or.result ≡ state_of c.args.self.now =
     c.unwrap_or.ensures ∙ (ap (λ (o : Option State). unwrap_or o c.state-2.result) c.state.ensures ∙ (ap (λ (t : State). unwrap_or (ended_state a.ending) t) c.state-2.ensures ∙ (state_is a.ending (shown a.stage) ∙ ap state_of c.self.view_is))) in
-    shows_closing c.args.self.now y (returns-clause-holds c) (sym s ∙ h)
+    shows_closing c.args.self.now y short (returns-clause-holds c) (sym s ∙ h)

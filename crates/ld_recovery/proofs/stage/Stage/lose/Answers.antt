@@ -3,5 +3,5 @@ use Rattle.ld_recovery.specs.declared.stage.Stage.{Stage}
 use Rattle.ld_recovery.specs.Stages.{IsOf}
 use Rattle.ld_recovery.proofs.stage.Stage.lose.Goals as goal
 
-pub returns-clause-of : goal.returns-clause-of
-returns-clause-of c = λ spec epoch ballot h. c.on_lost.ensures.of spec epoch ballot (subst (λ (s : Stage). IsOf spec epoch ballot s) (sym c.replace-stage.ensures.value) h)
+pub returns-in_err-self-clause-of : goal.returns-in_err-self-clause-of
+returns-in_err-self-clause-of c = subst (λ (s : Stage). IsOf c.args.scope.now.spec.now c.args.scope.now.epoch c.args.scope.now.sender.now.epoch s) (sym c.replace-stage.ensures.after) tt

@@ -4,7 +4,7 @@ use Rattle.ld_recovery.specs.Stages.{IsOf}
 use Rattle.ld_recovery.proofs.stage.Stage.try_again.Goals as goal
 
 pub returns-in_err-self-clause-of : goal.returns-in_err-self-clause-of
-returns-in_err-self-clause-of c = λ spec epoch ballot h. subst (λ (s : Stage). IsOf spec epoch ballot s) (sym c.replace-stage.ensures.after) tt
+returns-in_err-self-clause-of c = λ spec epoch h. subst (λ (s : Stage). IsOf spec epoch c.args.sender.now.epoch s) (sym c.replace-stage.ensures.after) tt
 
 pub returns-clause-of : goal.returns-clause-of
-returns-clause-of c = λ spec epoch ballot h. c.in_ok-self.ensures.of spec epoch ballot (subst (λ (s : Stage). IsOf spec epoch ballot s) (sym c.replace-stage.ensures.value) h)
+returns-clause-of c = λ spec epoch h. c.in_ok-self.ensures.of spec epoch (subst (λ (s : Stage). IsOf spec epoch c.args.sender.now.epoch s) (sym c.replace-stage.ensures.value) h)

@@ -5,6 +5,6 @@ use Rattle.ld_recovery.proofs.storing.Storing.send_each.Given as goal
 
 abbrev pub invariant-loop-item : goal.invariant-loop-item
 invariant-loop-item l = record {
-  left : l.out ++ sent l.sender (item_stores l.self.spec l.lost l.self.storing.lng l.self.storing.wave (drop l.item-index l.self.storing.items)) ≡ l.initial.out ++ sent l.sender (item_stores l.self.spec l.lost l.self.storing.lng l.self.storing.wave l.self.storing.items);
+  left : l.out ++ sent l.sender (item_stores l.self.spec l.lost l.self.storing.loss l.self.storing.lng l.self.storing.wave (drop l.item-index l.self.storing.items)) ≡ l.initial.out ++ sent l.sender (item_stores l.self.spec l.lost l.self.storing.loss l.self.storing.lng l.self.storing.wave l.self.storing.items);
   begun : BeginsWith l.initial.out l.out;
 }
