@@ -1,5 +1,5 @@
 -- An activation by what the register shows and answers.
-use Rattle.std.proofs.Common.{◌≡◌, ◌⊎◌, inl, inr, ℕ, ◌+◌, ◌-◌, ◌^◌, ◌<◌, ◌≤◌, ◌==◌, ◌||◌, Bool, true, false, cond, nat_le, nat_lt, List, [], ◌++◌, length, take, Option, Some, None, Result, Ok, Err, OnErr, IsErrOf, if◌then◌else◌, refl, ap, sym, subst, ◌∙◌, arith}
+use Rattle.std.proofs.Common.{◌≡◌, ◌⊎◌, inl, inr, ℕ, ◌+◌, ◌-◌, ◌^◌, ◌<◌, ◌≤◌, ◌==◌, ◌||◌, Bool, true, false, cond, nat_le, nat_lt, List, [], ◌++◌, length, take, Some, None, Result, Ok, Err, OnErr, IsErrOf, if◌then◌else◌, refl, ap, sym, subst, ◌∙◌, arith}
 use Rattle.std.specs.Option.{unwrap_or}
 use Rattle.std.proofs.lemmas.List.{take_at}
 use Rattle.std.proofs.lemmas.Bool.Decides.{nat_tests}
@@ -8,7 +8,7 @@ use Rattle.ld_table.proofs.Laws.{find-put_same, find-put_other}
 use Rattle.ld_ids.specs.declared.set.Spec.{Spec}
 use Rattle.ld_msg.specs.declared.msg.Msg.{Msg}
 use Rattle.ld_msg.specs.Digest.{no_digest}
-use Rattle.ld_msg.specs.Register.{Register, Epochs, Changed, Answer, Granted, AtLimit, Behind, Fails, activate, epochs_of, lce_of, with_epochs, next_epoch, epoch_limit, is_crowded, epoch_shown}
+use Rattle.ld_msg.specs.Register.{Register, Epochs, Changed, Answer, Granted, AtLimit, Behind, Overtaken, Fails, activate, epochs_of, lce_of, with_epochs, next_epoch, epoch_limit, is_crowded, epoch_shown}
 use Rattle.ld_msg.specs.Register.{View as Look}
 use Rattle.ld_msg.specs.Sequencer.{Recovery, begun, bare, activated as made_active, digest_asks}
 use Rattle.ld_register.specs.declared.fault.RegisterFault.{RegisterFault}
@@ -51,6 +51,7 @@ free_err registers.NoMemory res A K h u (inl p) g = let q = err_is res registers
 free_err registers.NoMemory res A K h u (inr p) g = inr (refl, g (subst (λ (x : Result Grant RegisterFault). OnErr x K) h p))
 free_err registers.LogLimit res A K h u k g = absurd u
 free_err (registers.Behind lce next) res A K h u k g = absurd u
+free_err (registers.Overtaken kept) res A K h u k g = absurd u
 free_err registers.EpochLimit res A K h u k g = absurd u
 free_err registers.GenLimit res A K h u k g = absurd u
 free_err registers.Full res A K h u k g = absurd u
@@ -111,6 +112,7 @@ ended_ok : (a : Answer) (full : Bool) (limit : RegisterFault) (v g : Grant) → 
 ended_ok Granted full limit v g h = (refl, cc)
 ended_ok AtLimit full limit v g h = absurd cc
 ended_ok (Behind lce) full limit v g h = absurd cc
+ended_ok (Overtaken kept) full limit v g h = absurd cc
 ended_ok Fails true limit v g h = absurd cc
 ended_ok Fails false limit v g h = absurd cc
 

@@ -11,12 +11,13 @@ use Rattle.ld_msg.specs.declared.msg.Who.TheVariants as whos
 use Rattle.ld_msg.specs.declared.msg.Body.{Body}
 use Rattle.ld_msg.specs.declared.msg.Body.TheVariants as bodies
 use Rattle.ld_msg.specs.Network.{posted}
-use Rattle.ld_msg.specs.Register.{View, Granted, Behind, Fails}
+use Rattle.ld_msg.specs.Register.{View, Granted, Behind, Overtaken, Fails}
 use Rattle.ld_msg.specs.Sequencer.{Sequencer, Stage, Seals, Stores, Closes, Acts, does_nothing, goes_on, after_close, preempt, acted_messages, release_messages, released_of, recovery_asks, to_each}
 use Rattle.ld_recovery.specs.Recovering.{Recovering, messages, close_messages, Closing}
 use Rattle.ld_recovery.proofs.Replies.{granted}
 use Rattle.ld_sequencer.specs.Looks.{shows}
 use Rattle.ld_sequencer.specs.Own.{Own, sequencer_of, sent_by, released_above, with_lce, preempted_as, listed}
+use Rattle.ld_sequencer.specs.declared.close.Due.{Due}
 use Rattle.ld_sequencer.specs.declared.fault.CloseFault.{CloseFault}
 use Rattle.ld_sequencer.specs.declared.report.Report.{Report}
 use Rattle.ld_sequencer.specs.Whole.{Whole, as_now, sent_as, joined, AreOne, closing_stage, closing_of, closed_acts, risen, Acted, asks_behind}
@@ -101,22 +102,30 @@ gone_acted looks w n o m e lce before y released old new l b h k r =
     })
 
 -- it is preempted
-pub late_acted : (looks : ℕ → View) (w n : Whole) (o : Own) (m : Option Recovering) (e lce : ℕ) (y : Summary) (old : List Msg) → w.sequencer.epoch ≤ lce → joined o m ≡ w → n ≡ joined (preempted_as o (lce + 1)) m
-    → Acted w n (report_of None None (Some (lce + 1)) None None) old old (closed_acts looks w e y (Behind lce))
-unfolding after_close
-late_acted looks w n o m e lce y old l j h =
-    let t : nat_le w.sequencer.epoch lce ≡ true = grind (arith, nat_tests) in
-    let q = preempt (does_nothing w.sequencer) (lce + 1) in
-    let f : (if nat_le w.sequencer.epoch lce then q else onward looks w lce) ≡ q = ap (λ (c : Bool). if c then q else onward looks w lce) t in
-    subst (Acted w n (report_of None None (Some (lce + 1)) None None) old old) (sym f) (record {
-      now = h ∙ ap (λ (x : Whole). as_now x (preempt (does_nothing x.sequencer) (lce + 1)).sequencer) j;
+pub gives_way : (w n : Whole) (o : Own) (m : Option Recovering) (k : ℕ) (old : List Msg) → joined o m ≡ w → n ≡ joined (preempted_as o k) m
+    → Acted w n (report_of None None (Some k) None None) old old (preempt (does_nothing w.sequencer) k)
+gives_way w n o m k old j h =
+    let q = preempt (does_nothing w.sequencer) k in record {
+      now = h ∙ ap (λ (x : Whole). as_now x (preempt (does_nothing x.sequencer) k).sequencer) j;
       sent = nothing_more w old (acted_messages w.sequencer q) (ap (λ (ms : List (ℕ × Body)). ms ++ []) (same_quiet w.sequencer q.sequencer refl));
       acked = refl;
       closed = refl;
       preempted = refl;
       failed = refl;
       released = same_risen w.sequencer q.sequencer refl;
-    })
+    }
+
+pub late_acted : (looks : ℕ → View) (w n : Whole) (e lce : ℕ) (y : Summary) (r : Report) (old : List Msg) → w.sequencer.epoch ≤ lce → Acted w n r old old (preempt (does_nothing w.sequencer) (lce + 1)) → Acted w n r old old (closed_acts looks w e y (Behind lce))
+unfolding after_close
+late_acted looks w n e lce y r old l h =
+    let t : nat_le w.sequencer.epoch lce ≡ true = grind (arith, nat_tests) in
+    let q = preempt (does_nothing w.sequencer) (lce + 1) in
+    let f : (if nat_le w.sequencer.epoch lce then q else onward looks w lce) ≡ q = ap (λ (c : Bool). if c then q else onward looks w lce) t in
+    subst (Acted w n r old old) (sym f) h
+
+pub overtaken_acted : (looks : ℕ → View) (w n : Whole) (e k : ℕ) (y : Summary) (r : Report) (old : List Msg) → Acted w n r old old (preempt (does_nothing w.sequencer) k) → Acted w n r old old (closed_acts looks w e y (Overtaken k))
+unfolding after_close
+overtaken_acted looks w n e k y r old h = h
 
 -- the register failed
 pub failed_acted : (looks : ℕ → View) (w : Whole) (e : ℕ) (y : Summary) (f : CloseFault) (old : List Msg) → Acted w w (report_of None None None (Some f) None) old old (closed_acts looks w e y Fails)
@@ -133,23 +142,26 @@ failed_acted looks w e y f old = record {
 
 -- ---- a close is made ----
 
-closing_if : (n : ℕ) (t : Stage) (e : ℕ) (y : Summary) → closing_stage n t ≡ Some (e, y) → (n ≡ e) × (t ≡ Closes y)
-closing_if n (Seals d) e y h = absurd cc
-closing_if n (Stores g) e y h = absurd cc
-closing_if n (Closes z) e y h = let k : (n, z) ≡ (e, y) = cc in (ap (λ (p : ℕ × Summary). p.0) k, ap (λ (p : ℕ × Summary). Closes p.1) k)
+abbrev is_due : ℕ → Summary → Bool → Due
+is_due n z short = record { epoch = n; summary = z; short = short }
 
-closing_held : (o : Own) (m : Option Recovering) (r : Recovering) (w : Whole) (e : ℕ) (y : Summary) → joined o m ≡ w → m ≡ Some r → closing_of w ≡ Some (e, y) → (r.recovery.epoch ≡ e) × (r.recovery.stage ≡ Closes y)
-closing_held o m r w e y j k c = closing_if r.recovery.epoch r.recovery.stage e y (ap (λ (x : Option Recovering). closing_of (joined o x)) (sym k) ∙ (ap closing_of j ∙ c))
+closing_if : (n : ℕ) (t : Stage) (u : Due) → closing_stage n t ≡ Some u → (n ≡ u.epoch) × (t ≡ Closes u.summary u.short)
+closing_if n (Seals d) u h = absurd cc
+closing_if n (Stores g) u h = absurd cc
+closing_if n (Closes z short) u h = let k : is_due n z short ≡ u = cc in (ap (λ (p : Due). p.epoch) k, ap (λ (p : Due). Closes p.summary p.short) k)
 
-pub is_closing : (o : Own) (m : Option Recovering) (r : Recovering) (w : Whole) (e : ℕ) (y : Summary) → joined o m ≡ w → AreOne o m → m ≡ Some r → closing_of w ≡ Some (e, y) → Closing r y
-is_closing o m r w e y j h k c = ((served o m r k h).going, (closing_held o m r w e y j k c).1)
+closing_held : (o : Own) (m : Option Recovering) (r : Recovering) (w : Whole) (u : Due) → joined o m ≡ w → m ≡ Some r → closing_of w ≡ Some u → (r.recovery.epoch ≡ u.epoch) × (r.recovery.stage ≡ Closes u.summary u.short)
+closing_held o m r w u j k c = closing_if r.recovery.epoch r.recovery.stage u (ap (λ (x : Option Recovering). closing_of (joined o x)) (sym k) ∙ (ap closing_of j ∙ c))
 
-none_is_some : (p : Option (ℕ × Summary)) (x : ℕ × Summary) → p ≡ None → p ≡ Some x → ⊥
+pub is_closing : (o : Own) (m : Option Recovering) (r : Recovering) (w : Whole) (u : Due) → joined o m ≡ w → AreOne o m → m ≡ Some r → closing_of w ≡ Some u → Closing r u.summary u.short
+is_closing o m r w u j h k c = ((served o m r k h).going, (closing_held o m r w u j k c).1)
+
+none_is_some : (p : Option Due) (x : Due) → p ≡ None → p ≡ Some x → ⊥
 none_is_some None x h k = absurd cc
 none_is_some (Some z) x h k = absurd cc
 
-pub is_held : (o : Own) (m : Option Recovering) (w : Whole) (e : ℕ) (y : Summary) → joined o m ≡ w → m ≡ None → closing_of w ≡ Some (e, y) → ⊥
-is_held o m w e y j k c = none_is_some (closing_of (joined o None)) (e, y) refl (ap (λ (x : Option Recovering). closing_of (joined o x)) (sym k) ∙ (ap closing_of j ∙ c))
+pub is_held : (o : Own) (m : Option Recovering) (w : Whole) (u : Due) → joined o m ≡ w → m ≡ None → closing_of w ≡ Some u → ⊥
+is_held o m w u j k c = none_is_some (closing_of (joined o None)) u refl (ap (λ (x : Option Recovering). closing_of (joined o x)) (sym k) ∙ (ap closing_of j ∙ c))
 
 made_out : (looks : ℕ → View) (o : Own) (r : Recovering) (e : ℕ) (y : Summary) (old mid new : List Msg) → mid ≡ old ++ sent_as (joined o (Some r)) (to_each (bodies.Clean e y) (nodes_of r.recovery.spec))
     → new ≡ mid ++ sent_as (joined o (Some r)) (acted_messages (joined o (Some r)).sequencer (onward looks (joined o (Some r)) e))
@@ -161,27 +173,27 @@ made_out looks o r e y old mid new h k =
     let bs : List (ℕ × Body) = acted_messages w.sequencer (onward looks w e) in
     k ∙ (ap (λ (ms : List Msg). ms ++ sent_as w bs) h ∙ (append_assoc old (sent_as w cs) (sent_as w bs) ∙ ap (λ (ms : List Msg). old ++ ms) (sym (posted-append (whos.Sequencer o.row.epoch) o.row.spec.log cs bs))))
 
-pub made_acted : (looks : ℕ → View) (w n : Whole) (o : Own) (m : Option Recovering) (r : Recovering) (e before end : ℕ) (y : Summary) (released : Option ℕ) (old mid new : List Msg) → joined o m ≡ w → AreOne o m → m ≡ Some r → closing_of w ≡ Some (e, y)
-    → before ≡ released_of w.sequencer → end ≡ numbered e y.end → mid ≡ old ++ close_messages r y Granted
-    → n ≡ as_now (joined o None) (onward looks (joined o None) e).sequencer → new ≡ mid ++ sent_as (joined o None) (acted_messages (joined o None).sequencer (onward looks (joined o None) e))
+pub made_acted : (looks : ℕ → View) (w n : Whole) (o : Own) (m : Option Recovering) (r : Recovering) (u : Due) (before end : ℕ) (released : Option ℕ) (old mid new : List Msg) → joined o m ≡ w → AreOne o m → m ≡ Some r → closing_of w ≡ Some u
+    → before ≡ released_of w.sequencer → end ≡ numbered u.epoch u.summary.end → mid ≡ old ++ close_messages r u.summary Granted
+    → n ≡ as_now (joined o None) (onward looks (joined o None) u.epoch).sequencer → new ≡ mid ++ sent_as (joined o None) (acted_messages (joined o None).sequencer (onward looks (joined o None) u.epoch))
     → listed released ≡ (if nat_lt before (released_of n.sequencer) then released_of n.sequencer ∷ [] else [])
-    → Acted w n (report_of None (Some end) None None released) old new (closed_acts looks w e y Granted)
+    → Acted w n (report_of None (Some end) None None released) old new (closed_acts looks w u.epoch u.summary Granted)
 unfolding after_close
-made_acted looks w n o m r e before end y released old mid new j h k c b f g i s l =
-    let x : r.recovery.epoch ≡ e = (closing_held o m r w e y j k c).0 in
+made_acted looks w n o m r u before end released old mid new j h k c b f g i s l =
+    let x : r.recovery.epoch ≡ u.epoch = (closing_held o m r w u j k c).0 in
     let z : joined o (Some r) ≡ w = ap (joined o) (sym k) ∙ j in
     let sv = served o m r k h in
-    let told : mid ≡ old ++ sent_as (joined o (Some r)) (to_each (bodies.Clean e y) (nodes_of r.recovery.spec)) =
-    g ∙ ap (λ (ms : List Msg). old ++ ms) (granted r y ∙ (ap (λ (z : ℕ). messages r (to_each (bodies.Clean z y) (nodes_of r.recovery.spec))) x
-    ∙ sent_of o (Some r) r (to_each (bodies.Clean e y) (nodes_of r.recovery.spec)) sv)) in
-    let there : n ≡ as_now w (closed_acts looks w e y Granted).sequencer = i ∙ ap (λ (q : Whole). as_now q (closed_acts looks q e y Granted).sequencer) z in
+    let told : mid ≡ old ++ sent_as (joined o (Some r)) (to_each (bodies.Clean u.epoch u.summary) (nodes_of r.recovery.spec)) =
+    g ∙ ap (λ (ms : List Msg). old ++ ms) (granted r u.summary ∙ (ap (λ (z : ℕ). messages r (to_each (bodies.Clean z u.summary) (nodes_of r.recovery.spec))) x
+    ∙ sent_of o (Some r) r (to_each (bodies.Clean u.epoch u.summary) (nodes_of r.recovery.spec)) sv)) in
+    let there : n ≡ as_now w (closed_acts looks w u.epoch u.summary Granted).sequencer = i ∙ ap (λ (q : Whole). as_now q (closed_acts looks q u.epoch u.summary Granted).sequencer) z in
     record {
       now = there;
-      sent = made_out looks o r e y old mid new told s ∙ ap (λ (q : Whole). old ++ sent_as q (acted_messages q.sequencer (closed_acts looks q e y Granted))) z;
+      sent = made_out looks o r u.epoch u.summary old mid new told s ∙ ap (λ (q : Whole). old ++ sent_as q (acted_messages q.sequencer (closed_acts looks q u.epoch u.summary Granted))) z;
       acked = refl;
       closed = ap (λ (z : ℕ). z ∷ []) f;
       preempted = refl;
       failed = refl;
       released = l ∙ (ap (λ (q : Whole). if nat_lt before (released_of q.sequencer) then released_of q.sequencer ∷ [] else []) there
-          ∙ ap (λ (q : ℕ). if nat_lt q (released_of (onward looks w e).sequencer) then released_of (onward looks w e).sequencer ∷ [] else []) b);
+          ∙ ap (λ (q : ℕ). if nat_lt q (released_of (onward looks w u.epoch).sequencer) then released_of (onward looks w u.epoch).sequencer ∷ [] else []) b);
     }

@@ -10,15 +10,14 @@ use Rattle.ld_msg.specs.declared.msg.Who.TheVariants as whos
 use Rattle.ld_msg.specs.declared.msg.Body.{Body}
 use Rattle.ld_msg.specs.declared.msg.Body.TheVariants as bodies
 use Rattle.ld_msg.specs.Register.{View}
-use Rattle.ld_msg.specs.Sequencer.{Sequencer, Recovery, Stage, Seals, Stores, Closes, Acts, does_nothing, by_reply, on_reply, unless_preempted, goes_on, tells_clean, acted_messages, released_of, to_each}
+use Rattle.ld_msg.specs.Sequencer.{Sequencer, Recovery, Stage, Seals, Stores, Closes, Attempt, Acts, does_nothing, by_reply, on_reply, unless_preempted, goes_on, tells_clean, passes, acted_messages, released_of, to_each}
 use Rattle.ld_recovery.specs.declared.state.State.TheVariants as states
 use Rattle.ld_recovery.specs.Recovering as recovering
-use Rattle.ld_recovery.specs.Recovering.{Recovering, Ending, Goes, IsDone, no_looks, replied, replied_with, reply_messages, when_going, messages, is_open, ended, ending_told, summary_told, sender_of}
+use Rattle.ld_recovery.specs.Recovering.{Recovering, Ending, Goes, IsDone, going, no_looks, replied, replied_with, reply_messages, when_going, messages, is_open, ended, ending_told, summary_told, is_going, sender_of, counts, told_by, is_spent_stage, spends}
 use Rattle.ld_recovery.specs.States.{state_of}
-use Rattle.ld_recovery.proofs.Replies.{going}
 use Rattle.ld_sequencer.specs.Own.{Own, listed}
 use Rattle.ld_sequencer.specs.declared.report.Report.{Report}
-use Rattle.ld_sequencer.specs.Whole.{Whole, as_now, sent_as, joined, recovery_in, with_recovery, Serves, AreOne, is_of_earlier, is_for_recovery, reply_acts, Acted}
+use Rattle.ld_sequencer.specs.Whole.{Whole, as_now, sent_as, joined, recovery_in, with_recovery, Serves, AreOne, is_of_earlier, is_for_recovery, spends_in, spends_by, reply_acts, Acted}
 use Rattle.ld_sequencer.proofs.Parts.{only, rejoin, join_by, Moves, Steady, Cleans, either_by, moved}
 use Rattle.ld_recovery.proofs.Posting.{posted-append}
 use Rattle.ld_sequencer.proofs.Serving.{sent_of, served, as_is, serves_on, one_with}
@@ -31,7 +30,7 @@ for_if None (Some v) e h = (refl, h)
 for_if None None e h = absurd cc
 for_if (Some k) v e h = absurd cc
 
-for_recovery : (w : Whole) (b : Body) → is_for_recovery w b ≡ true → (w.sequencer.preempted ≡ None) × (is_of_earlier w.sequencer.epoch b ≡ true)
+pub for_recovery : (w : Whole) (b : Body) → is_for_recovery w b ≡ true → (w.sequencer.preempted ≡ None) × (is_of_earlier w.sequencer.epoch b ≡ true)
 for_recovery w b h = for_if w.sequencer.preempted w.sequencer.recovery (is_of_earlier w.sequencer.epoch b) h
 
 there_if : (p : Option ℕ) (v : Option Recovery) (e : Bool) → v ≡ None → (not (is_some p) && (is_some v && e)) ≡ true → ⊥
@@ -53,7 +52,7 @@ pub record Onward (o : Own) (r : Recovering) (y : ℕ) (b : Body) : Type 0 where
 
 pub record Ended (o : Own) (r : Recovering) (y : ℕ) (b : Body) : Type 0 where
   pub summary : Summary
-  pub acts : (looks : ℕ → View) → on_reply looks (joined o (Some r)).sequencer y b ≡ goes_on looks (tells_clean (does_nothing (joined o (Some r)).sequencer) r.recovery.epoch summary) r.recovery.epoch
+  pub acts : (looks : ℕ → View) → on_reply looks (joined o (Some r)).sequencer y b ≡ passes looks (does_nothing (joined o (Some r)).sequencer) r.recovery.epoch summary
   pub value : replied r y b ≡ ended r (IsDone summary)
   pub sent : reply_messages r y b ≡ sent_as (joined o (Some r)) (to_each (bodies.Clean r.recovery.epoch summary) (nodes_of r.recovery.spec))
 
@@ -61,22 +60,34 @@ acts_are : (o : Own) (r : Recovering) (y : ℕ) (b : Body) → Serves o r → re
 unfolding on_reply
 acts_are o r y b s = ap (λ (q : Sequencer). by_reply (no_looks r) (does_nothing q) y b) (as_is o r s)
 
-whole_acts : (looks : ℕ → View) (o : Own) (r : Recovering) (y : ℕ) (b : Body) → o.preempted ≡ None → is_of_earlier o.row.epoch b ≡ true
+whole_acts : (looks : ℕ → View) (o : Own) (r : Recovering) (y : ℕ) (b : Body) → o.preempted ≡ None → is_of_earlier o.row.epoch b ≡ true → spends_in y b (Some r.recovery) ≡ false
     → on_reply looks (joined o (Some r)).sequencer y b ≡ rejoin o (by_reply looks (does_nothing (only o.row.spec.log o.row.epoch o.lce r.recovery)) y b)
 unfolding on_reply
-whole_acts looks o r y b p e =
+whole_acts looks o r y b p e s =
     let q = (joined o (Some r)).sequencer in
-    ap (λ (x : Option ℕ). unless_preempted x (by_reply looks (does_nothing q) y b) (does_nothing q)) p ∙ join_by looks o r.recovery y b e
+    ap (λ (x : Option ℕ). unless_preempted x (by_reply looks (does_nothing q) y b) (does_nothing q)) p ∙ join_by looks o r.recovery y b e s
 
-value_with : (r : Recovering) (y : ℕ) (b : Body) (a : Acts) → r.ending ≡ Goes → recovering.reply_acts r y b ≡ a → replied r y b ≡ replied_with r b a
-value_with r y b a g k = ap (λ (e : Ending). when_going e (replied_with r b (recovering.reply_acts r y b)) r) g ∙ ap (replied_with r b) k
+pub and_true : (b : Bool) → (b && true) ≡ b
+and_true true = refl
+and_true false = refl
 
-sent_with : (r : Recovering) (y : ℕ) (b : Body) (a : Acts) → r.ending ≡ Goes → recovering.reply_acts r y b ≡ a → reply_messages r y b ≡ messages r (recovering.sent_by r a)
-sent_with r y b a g k = ap (λ (e : Ending). when_going e (messages r (recovering.sent_by r (recovering.reply_acts r y b))) []) g ∙ ap (λ (x : Acts). messages r (recovering.sent_by r x)) k
+-- the digest isn't spent by it
+unspent : (r : Recovering) (y : ℕ) (b : Body) → r.ending ≡ Goes → spends_in y b (Some r.recovery) ≡ false → spends r y b ≡ false
+unspent r y b g s =
+    let c = counts r.recovery y b in let p = is_spent_stage r.recovery.spec (told_by r.recovery y b).stage in
+    ap (λ (e : Ending). c && (p && is_going e)) g ∙ (ap (λ (q : Bool). c && q) (and_true p) ∙ s)
 
-onward_of : (o : Own) (r : Recovering) (y : ℕ) (b : Body) → Serves o r → o.preempted ≡ None → is_of_earlier o.row.epoch b ≡ true
+value_with : (r : Recovering) (y : ℕ) (b : Body) (a : Acts) → r.ending ≡ Goes → spends_in y b (Some r.recovery) ≡ false → recovering.reply_acts r y b ≡ a → replied r y b ≡ replied_with r b a
+value_with r y b a g s k = ap (λ (c : Bool). if c then going r (told_by r.recovery y b) else when_going r.ending (replied_with r b (recovering.reply_acts r y b)) r) (unspent r y b g s)
+    ∙ (ap (λ (e : Ending). when_going e (replied_with r b (recovering.reply_acts r y b)) r) g ∙ ap (replied_with r b) k)
+
+sent_with : (r : Recovering) (y : ℕ) (b : Body) (a : Acts) → r.ending ≡ Goes → spends_in y b (Some r.recovery) ≡ false → recovering.reply_acts r y b ≡ a → reply_messages r y b ≡ messages r (recovering.sent_by r a)
+sent_with r y b a g s k = ap (λ (c : Bool). if c then [] else when_going r.ending (messages r (recovering.sent_by r (recovering.reply_acts r y b))) []) (unspent r y b g s)
+    ∙ (ap (λ (e : Ending). when_going e (messages r (recovering.sent_by r (recovering.reply_acts r y b))) []) g ∙ ap (λ (x : Acts). messages r (recovering.sent_by r x)) k)
+
+onward_of : (o : Own) (r : Recovering) (y : ℕ) (b : Body) → Serves o r → o.preempted ≡ None → is_of_earlier o.row.epoch b ≡ true → spends_in y b (Some r.recovery) ≡ false
     → Steady (only o.row.spec.log o.row.epoch o.lce r.recovery) r.recovery (λ looks. by_reply looks (does_nothing (only o.row.spec.log o.row.epoch o.lce r.recovery)) y b) → Onward o r y b
-onward_of o r y b s p e d =
+onward_of o r y b s p e u d =
     let q = only o.row.spec.log o.row.epoch o.lce r.recovery in
     let h = d.moves in
     let a = moved q h.now h.tries h.asks h.stores in
@@ -84,7 +95,7 @@ onward_of o r y b s p e d =
     let unclosed : (o.lce == r.recovery.epoch - 1) ≡ true = let k = s.epoch in grind (arith, nat_tests) in
     record {
       acts = rejoin o d.acts;
-      same = λ looks. whole_acts looks o r y b p e ∙ ap (rejoin o) (d.same looks);
+      same = λ looks. whole_acts looks o r y b p e u ∙ ap (rejoin o) (d.same looks);
       moves = record {
         now = h.now;
         tries = h.tries;
@@ -96,32 +107,32 @@ onward_of o r y b s p e d =
         due = h.due;
         quiet = h.quiet;
       };
-      value = value_with r y b a s.going own ∙ ap (λ (t : Bool). if t then recovering.goes_on r a else ended r (ending_told (summary_told b))) unclosed;
-      sent = sent_with r y b a s.going own ∙ (ap (λ (t : Bool). messages r (if t then a.asks ++ a.stores else a.cleans)) unclosed ∙ sent_of o (Some r) r (h.asks ++ h.stores) s);
+      value = value_with r y b a s.going u own ∙ ap (λ (t : Bool). if t then recovering.goes_on r a else ended r (ending_told (summary_told b))) unclosed;
+      sent = sent_with r y b a s.going u own ∙ (ap (λ (t : Bool). messages r (if t then a.asks ++ a.stores else a.cleans)) unclosed ∙ sent_of o (Some r) r (h.asks ++ h.stores) s);
     }
 
-ended_of : (o : Own) (r : Recovering) (y : ℕ) (b : Body) → Serves o r → o.preempted ≡ None → is_of_earlier o.row.epoch b ≡ true
+ended_of : (o : Own) (r : Recovering) (y : ℕ) (b : Body) → Serves o r → o.preempted ≡ None → is_of_earlier o.row.epoch b ≡ true → spends_in y b (Some r.recovery) ≡ false
     → Cleans (only o.row.spec.log o.row.epoch o.lce r.recovery) r.recovery b (λ looks. by_reply looks (does_nothing (only o.row.spec.log o.row.epoch o.lce r.recovery)) y b) → Ended o r y b
-ended_of o r y b s p e h =
+ended_of o r y b s p e u h =
     let q = only o.row.spec.log o.row.epoch o.lce r.recovery in
     let n = r.recovery.epoch in
-    let a = goes_on (no_looks r) (tells_clean (does_nothing q) n h.summary) n in
+    let a = passes (no_looks r) (does_nothing q) n h.summary in
     let own : recovering.reply_acts r y b ≡ a = acts_are o r y b s ∙ h.value (no_looks r) in
     let shut : (n == n - 1) ≡ false = let k = s.epoch in grind (arith, nat_tests) in
     record {
       summary = h.summary;
-      acts = λ looks. whole_acts looks o r y b p e ∙ ap (rejoin o) (h.value looks);
-      value = value_with r y b a s.going own ∙ (ap (λ (t : Bool). if t then recovering.goes_on r a else ended r (ending_told (summary_told b))) shut ∙ ap (λ (x : Option Summary). ended r (ending_told x)) h.told);
-      sent = sent_with r y b a s.going own ∙ (ap (λ (t : Bool). messages r (if t then a.asks ++ a.stores else a.cleans)) shut ∙ sent_of o (Some r) r (to_each (bodies.Clean n h.summary) (nodes_of r.recovery.spec)) s);
+      acts = λ looks. whole_acts looks o r y b p e u ∙ ap (rejoin o) (h.value looks);
+      value = value_with r y b a s.going u own ∙ (ap (λ (t : Bool). if t then recovering.goes_on r a else ended r (ending_told (summary_told b))) shut ∙ ap (λ (x : Option Summary). ended r (ending_told x)) h.told);
+      sent = sent_with r y b a s.going u own ∙ (ap (λ (t : Bool). messages r (if t then a.asks ++ a.stores else a.cleans)) shut ∙ sent_of o (Some r) r (to_each (bodies.Clean n h.summary) (nodes_of r.recovery.spec)) s);
     }
 
-pub hears : (o : Own) (r : Recovering) (y : ℕ) (b : Body) → Serves o r → o.preempted ≡ None → is_of_earlier o.row.epoch b ≡ true → Onward o r y b ⊎ Ended o r y b
-hears o r y b s p e = elim (either_by o.row.spec.log o.row.epoch o.lce r.recovery y b e) [ inl h ↦ inl (onward_of o r y b s p e h) | inr h ↦ inr (ended_of o r y b s p e h) ]
+pub hears : (o : Own) (r : Recovering) (y : ℕ) (b : Body) → Serves o r → o.preempted ≡ None → is_of_earlier o.row.epoch b ≡ true → spends_in y b (Some r.recovery) ≡ false → Onward o r y b ⊎ Ended o r y b
+hears o r y b s p e u = elim (either_by o.row.spec.log o.row.epoch o.lce r.recovery y b e u (no_looks r)) [ inl h ↦ inl (onward_of o r y b s p e u h) | inr h ↦ inr (ended_of o r y b s p e u h) ]
 
 state_not_done : (t : Stage) (y : Summary) → Rattle.ld_recovery.specs.States.state_in t ≡ states.Done y → ⊥
 state_not_done (Seals d) y h = absurd cc
 state_not_done (Stores g) y h = absurd cc
-state_not_done (Closes z) y h = absurd cc
+state_not_done (Closes z short) y h = absurd cc
 
 pub hears_on : (o : Own) (r x : Recovering) (y : ℕ) (b : Body) → x ≡ replied r y b → ((z : Summary) → state_of x ≡ states.Done z → ⊥) → Onward o r y b ⊎ Ended o r y b → Onward o r y b
 hears_on o r x y b e h (inl p) = p
@@ -136,7 +147,7 @@ hears_end o r x y b z e h (inr p) = p
 pub onward_one : (o : Own) (m : Option Recovering) (r x : Recovering) (y : ℕ) (b : Body) → AreOne o m → m ≡ Some r → x ≡ replied r y b → Onward o r y b → AreOne o (Some x)
 onward_one o m r x y b h k e p = one_with o m (Some x) h (subst (λ (z : Recovering). Serves o z) (sym (e ∙ p.value)) (serves_on o r p.moves.now (served o m r k h) p.moves.epoch p.moves.spec))
 
-moved_acted : (o : Own) (r : Recovering) (t : Report) (v : Recovery) (ts : List (ℕ × Summary)) (bs ss : List (ℕ × Body)) (old new : List Msg) → t.acked ≡ None → t.closed ≡ None → t.preempted ≡ None → t.register ≡ None → t.released ≡ None
+moved_acted : (o : Own) (r : Recovering) (t : Report) (v : Recovery) (ts : List Attempt) (bs ss : List (ℕ × Body)) (old new : List Msg) → t.acked ≡ None → t.closed ≡ None → t.preempted ≡ None → t.register ≡ None → t.released ≡ None
     → new ≡ old ++ sent_as (joined o (Some r)) (bs ++ ss) → Acted (joined o (Some r)) (joined o (Some (going r v))) t old new (moved (joined o (Some r)).sequencer v ts bs ss)
 moved_acted o r t v ts bs ss old new a c p f l s =
     let q = (joined o (Some r)).sequencer in
@@ -169,23 +180,31 @@ clean_out looks o r e y old mid new h k =
     let bs : List (ℕ × Body) = acted_messages w.sequencer (onward looks w e) in
     k ∙ (ap (λ (ms : List Msg). ms ++ sent_as w bs) h ∙ (append_assoc old (sent_as w cs) (sent_as w bs) ∙ ap (λ (ms : List Msg). old ++ ms) (sym (posted-append (whos.Sequencer o.row.epoch) o.row.spec.log cs bs))))
 
-ended_there : (looks : ℕ → View) (o : Own) (r : Recovering) (n : Whole) (who : Who) (b : Body) (before : ℕ) (released : Option ℕ) (old mid new : List Msg) (p : Ended o r (sender_of who) b)
-    → before ≡ released_of (joined o (Some r)).sequencer → mid ≡ old ++ reply_messages r (sender_of who) b
+pub passed_there : (looks : ℕ → View) (o : Own) (r : Recovering) (n : Whole) (y : Summary) (before : ℕ) (released : Option ℕ) (old mid new : List Msg)
+    → before ≡ released_of (joined o (Some r)).sequencer → mid ≡ old ++ sent_as (joined o (Some r)) (to_each (bodies.Clean r.recovery.epoch y) (nodes_of r.recovery.spec))
     → n ≡ as_now (joined o (Some r)) (onward looks (joined o (Some r)) r.recovery.epoch).sequencer → new ≡ mid ++ sent_as (joined o (Some r)) (acted_messages (joined o (Some r)).sequencer (onward looks (joined o (Some r)) r.recovery.epoch))
     → listed released ≡ (if nat_lt before (released_of n.sequencer) then released_of n.sequencer ∷ [] else [])
-    → Acted (joined o (Some r)) n (report_of None None None None released) old new (reply_acts looks (joined o (Some r)) who b)
-ended_there looks o r n who b before released old mid new p bf g i s l =
+    → Acted (joined o (Some r)) n (report_of None None None None released) old new (passes looks (does_nothing (joined o (Some r)).sequencer) r.recovery.epoch y)
+passed_there looks o r n y before released old mid new bf g i s l =
     let w = joined o (Some r) in let e = r.recovery.epoch in
-    subst (Acted w n (report_of None None None None released) old new) (sym (p.acts looks)) (record {
+    record {
       now = i;
-      sent = clean_out looks o r e p.summary old mid new (g ∙ ap (λ (ms : List Msg). old ++ ms) p.sent) s;
+      sent = clean_out looks o r e y old mid new g s;
       acked = refl;
       closed = refl;
       preempted = refl;
       failed = refl;
       released = l ∙ (ap (λ (z : Whole). if nat_lt before (released_of z.sequencer) then released_of z.sequencer ∷ [] else []) i
           ∙ ap (λ (z : ℕ). if nat_lt z (released_of (onward looks w e).sequencer) then released_of (onward looks w e).sequencer ∷ [] else []) bf);
-    })
+    }
+
+ended_there : (looks : ℕ → View) (o : Own) (r : Recovering) (n : Whole) (who : Who) (b : Body) (before : ℕ) (released : Option ℕ) (old mid new : List Msg) (p : Ended o r (sender_of who) b)
+    → before ≡ released_of (joined o (Some r)).sequencer → mid ≡ old ++ reply_messages r (sender_of who) b
+    → n ≡ as_now (joined o (Some r)) (onward looks (joined o (Some r)) r.recovery.epoch).sequencer → new ≡ mid ++ sent_as (joined o (Some r)) (acted_messages (joined o (Some r)).sequencer (onward looks (joined o (Some r)) r.recovery.epoch))
+    → listed released ≡ (if nat_lt before (released_of n.sequencer) then released_of n.sequencer ∷ [] else [])
+    → Acted (joined o (Some r)) n (report_of None None None None released) old new (reply_acts looks (joined o (Some r)) who b)
+ended_there looks o r n who b before released old mid new p bf g i s l =
+    subst (Acted (joined o (Some r)) n (report_of None None None None released) old new) (sym (p.acts looks)) (passed_there looks o r n p.summary before released old mid new bf (g ∙ ap (λ (ms : List Msg). old ++ ms) p.sent) i s l)
 
 pub ended_acted : (looks : ℕ → View) (w n : Whole) (o : Own) (m : Option Recovering) (r x : Recovering) (who : Who) (b : Body) (e before : ℕ) (released : Option ℕ) (old mid new : List Msg) → joined o m ≡ w → m ≡ Some r → x ≡ replied r (sender_of who) b → e ≡ x.recovery.epoch
     → before ≡ released_of w.sequencer → mid ≡ old ++ reply_messages r (sender_of who) b
@@ -200,7 +219,17 @@ ended_acted looks w n o m r x who b e before released old mid new j k f g bf t i
     (i ∙ ap (λ (y : ℕ). as_now (joined o None) (onward looks (joined o None) y).sequencer) d)
     (s ∙ ap (λ (y : ℕ). mid ++ sent_as (joined o None) (acted_messages (joined o None).sequencer (onward looks (joined o None) y))) d) l)
 
-pub hears_in : (w : Whole) (o : Own) (m : Option Recovering) (r : Recovering) (y : ℕ) (b : Body) → joined o m ≡ w → AreOne o m → m ≡ Some r → is_for_recovery w b ≡ true → Onward o r y b ⊎ Ended o r y b
-hears_in w o m r y b j h k f =
+-- the recovery hears it, and its digest isn't spent by it
+spends_if : (f c : Bool) → f ≡ true → (f && c) ≡ false → c ≡ false
+spends_if true c e h = h
+spends_if false c e h = absurd cc
+
+unspent_in : (w : Whole) (o : Own) (m : Option Recovering) (r : Recovering) (who : Who) (b : Body) → joined o m ≡ w → m ≡ Some r → is_for_recovery w b ≡ true → spends_by w who b ≡ false → spends_in (sender_of who) b (Some r.recovery) ≡ false
+unspent_in w o m r who b j k f s =
+    ap (λ (x : Option Recovering). spends_in (sender_of who) b (recovery_in x)) (sym k)
+    ∙ (ap (λ (x : Whole). spends_in (sender_of who) b x.sequencer.recovery) j ∙ spends_if (is_for_recovery w b) (spends_in (sender_of who) b w.sequencer.recovery) f s)
+
+pub hears_in : (w : Whole) (o : Own) (m : Option Recovering) (r : Recovering) (who : Who) (b : Body) → joined o m ≡ w → AreOne o m → m ≡ Some r → is_for_recovery w b ≡ true → spends_by w who b ≡ false → Onward o r (sender_of who) b ⊎ Ended o r (sender_of who) b
+hears_in w o m r who b j h k f s =
     let g = for_recovery (joined o m) b (ap (λ (x : Whole). is_for_recovery x b) j ∙ f) in
-    hears o r y b (served o m r k h) g.0 g.1
+    hears o r (sender_of who) b (served o m r k h) g.0 g.1 (unspent_in w o m r who b j k f s)

@@ -1,5 +1,6 @@
 pub mod Activating
 pub mod Alike
+pub mod Asking
 pub mod Begins
 pub mod Causes
 pub mod Closing
@@ -19,6 +20,7 @@ pub mod Rounds
 pub mod Rows
 pub mod Sends
 pub mod Serving
+pub mod Spending
 pub mod Starting
 pub mod Telling
 pub mod Waves

@@ -1,10 +1,14 @@
 -- A look of a register that answered.
-use Rattle.std.proofs.Common.{◌≡◌, ◌⊎◌, inl, inr, Result, Ok, Err, IsErrOf, IsErrAnd, sym, subst, ◌∙◌}
-use Rattle.ld_msg.specs.Register.{Register}
+use Rattle.std.proofs.Common.{◌≡◌, ◌⊎◌, inl, inr, ℕ, Option, Some, None, Result, Ok, Err, IsErrOf, IsErrAnd, refl, ap, sym, subst, ◌∙◌}
+use Rattle.ld_ids.specs.declared.set.Spec.{Spec}
+use Rattle.ld_msg.specs.declared.msg.Summary.{Summary}
+use Rattle.ld_msg.specs.Register.{Register, look}
 use Rattle.ld_register.specs.declared.fault.RegisterFault.{RegisterFault}
 use Rattle.ld_register.specs.declared.fault.RegisterFault.TheVariants as registers
 use Rattle.ld_register.specs.declared.register.View.{View}
-use Rattle.ld_register.specs.Calls.{IsFree}
+use Rattle.ld_register.specs.Calls.{IsFree, looked}
+use Rattle.ld_sequencer.specs.declared.look.Seen.TheVariants as seen
+use Rattle.ld_sequencer.specs.Looks.{behind, IsSeen, IsShown}
 
 abbrev as_view : View → Result View RegisterFault
 as_view v = Ok v
@@ -27,6 +31,21 @@ module _ (res : Result View RegisterFault) (v : View) (h : res ≡ Ok v) where
   held_then shown before now (inr p) f = (p.0, p.1, (seen_held (shown p.0) (now p.0) (f p.0 p.1)).1)
 
 -- a fault that is passed on
-pub passed_err : {T : Type 0} (res : Result T RegisterFault) (f e : RegisterFault) → IsErrAnd res (λ x. x ≡ f) → IsErrOf res e → f ≡ e
+pub passed_err : {T E : Type 0} (res : Result T E) (f e : E) → IsErrAnd res (λ x. x ≡ f) → IsErrOf res e → f ≡ e
 passed_err (Ok x) f e h k = absurd cc
 passed_err (Err x) f e h k = sym h ∙ cc
+
+-- what was seen is what the contents show
+summary_is : (first : Spec) (c : Register) (l e : ℕ) → (look first c l e).summary ≡ (looked c l e).summary
+unfolding look
+summary_is first c l e = refl
+
+epoch_is : (first : Spec) (c : Register) (l e : ℕ) → (look first c l e).epoch ≡ (looked c l e).epoch
+unfolding look
+epoch_is first c l e = refl
+
+pub seen_closed : (first : Spec) (c : Register) (l e own : ℕ) (v : View) (o : Option ℕ) (y : Summary) (next : Spec) → v ≡ looked c l e → v.summary ≡ Some y → o ≡ behind e own → IsShown (look first c l) o next → IsSeen (look first c l) e own (seen.Closed y next)
+seen_closed first c l e own v o y next h k b s = (summary_is first c l e ∙ (ap (λ (x : View). x.summary) (sym h) ∙ k), subst (λ (x : Option ℕ). IsShown (look first c l) x next) b s)
+
+pub seen_open : (first : Spec) (c : Register) (l e own : ℕ) (v : View) → v ≡ looked c l e → v.summary ≡ None → IsSeen (look first c l) e own (seen.Open v.epoch)
+seen_open first c l e own v h k = (summary_is first c l e ∙ (ap (λ (x : View). x.summary) (sym h) ∙ k), epoch_is first c l e ∙ ap (λ (x : View). x.epoch) (sym h))

@@ -1,6 +1,5 @@
 -- A message that is not for the recovery: what it does is for the own epoch.
 use Rattle.std.proofs.Common.{◌≡◌, ◌⊎◌, inl, inr, ℕ, Bool, true, false, not, ◌&&◌, nat_lt, List, [], ◌∷◌, ◌++◌, ◌+◌, Option, Some, None, is_some, if◌then◌else◌, refl, ap, sym, subst, ◌∙◌}
-use Rattle.ld_msg.specs.declared.msg.Summary.{Summary}
 use Rattle.ld_msg.specs.declared.msg.Msg.{Msg}
 use Rattle.ld_msg.specs.declared.msg.Who.{Who}
 use Rattle.ld_msg.specs.declared.msg.Who.TheVariants as whos
@@ -10,11 +9,12 @@ use Rattle.ld_msg.specs.Bounds.{Fits, IsNodeHere}
 use Rattle.ld_msg.specs.Register.{View}
 use Rattle.ld_msg.specs.Sequencer.{Sequencer, Recovery, Acts, does_nothing, by_reply, on_reply, unless_preempted, acted_messages, released_of, recovery_of}
 use Rattle.ld_recovery.specs.Recovering.{Recovering, sender_of}
+use Rattle.ld_sequencer.specs.declared.close.Due.{Due}
 use Rattle.ld_sequencer.specs.declared.origin.Origin.{Origin}
 use Rattle.ld_sequencer.specs.Looks.{shows}
 use Rattle.ld_sequencer.specs.Own.{Own, IsKept, Does, sequencer_of, sent_by, answered, heard, listed}
 use Rattle.ld_sequencer.specs.declared.own.Learnt.{Learnt}
-use Rattle.ld_sequencer.specs.Whole.{Whole, as_now, joined, recovery_in, with_recovery, AreOne, closing_in, is_of_earlier, is_for_recovery, reply_acts, Acted, IsFresh}
+use Rattle.ld_sequencer.specs.Whole.{Whole, as_now, joined, recovery_in, with_recovery, AreOne, attempts, closing_in, is_of_earlier, is_for_recovery, spends_by, reply_acts, Acted, IsFresh}
 use Rattle.ld_sequencer.proofs.Parts.{in_whole, own_by, none_by, not_fresh}
 use Rattle.ld_sequencer.proofs.Replies.{quiet_heard}
 use Rattle.ld_sequencer.proofs.Serving.{one_on}
@@ -122,9 +122,9 @@ none_due : (c : Bool) (v : Recovery) → closing_in (Some v) ≡ None → closin
 none_due true v h = h
 none_due false v h = refl
 
-quiet_due : (p n : Option (ℕ × Summary)) → n ≡ None → [] ≡ (if is_some p then [] else listed n)
+quiet_due : (p n : Option Due) → n ≡ None → [] ≡ (if is_some p then [] else attempts n)
 quiet_due (Some x) n h = refl
-quiet_due None n h = ap listed (sym h)
+quiet_due None n h = ap attempts (sym h)
 
 fresh_end : (looks : ℕ → View) (o : Own) (r : Recovering) (y : ℕ) (b : Body) → Ended o r y b → IsFresh (joined o (Some r)) (on_reply looks (joined o (Some r)).sequencer y b)
 fresh_end looks o r y b p = subst (IsFresh (joined o (Some r))) (sym (p.acts looks)) (record {
@@ -136,10 +136,10 @@ fresh_both : (looks : ℕ → View) (o : Own) (r : Recovering) (y : ℕ) (b : Bo
 fresh_both looks o r y b (inl p) = fresh_on looks o r y b p
 fresh_both looks o r y b (inr p) = fresh_end looks o r y b p
 
-fresh_in : (looks : ℕ → View) (o : Own) (m : Option Recovering) (who to : Who) (b : Body) (f : Bool) → AreOne o m → Fits who to b → is_for_recovery (joined o m) b ≡ f → IsFresh (joined o m) (reply_acts looks (joined o m) who b)
-fresh_in looks o m who to b false h k e = fresh_own looks o m who to b k e
-fresh_in looks o (Some r) who to b true h k e = fresh_both looks o r (sender_of who) b (hears_in (joined o (Some r)) o (Some r) r (sender_of who) b refl h refl e)
-fresh_in looks o None who to b true h k e = absurd (is_there o None (joined o None) b refl refl e)
+fresh_in : (looks : ℕ → View) (o : Own) (m : Option Recovering) (who to : Who) (b : Body) (f : Bool) → AreOne o m → Fits who to b → is_for_recovery (joined o m) b ≡ f → spends_by (joined o m) who b ≡ false → IsFresh (joined o m) (reply_acts looks (joined o m) who b)
+fresh_in looks o m who to b false h k e s = fresh_own looks o m who to b k e
+fresh_in looks o (Some r) who to b true h k e s = fresh_both looks o r (sender_of who) b (hears_in (joined o (Some r)) o (Some r) r who b refl h refl e s)
+fresh_in looks o None who to b true h k e s = absurd (is_there o None (joined o None) b refl refl e)
 
-pub is_fresh : (looks : ℕ → View) (w : Whole) (o : Own) (m : Option Recovering) (who to : Who) (b : Body) → joined o m ≡ w → AreOne o m → Fits who to b → IsFresh w (reply_acts looks w who b)
-is_fresh looks w o m who to b j h k = subst (λ (x : Whole). IsFresh x (reply_acts looks x who b)) j (fresh_in looks o m who to b (is_for_recovery (joined o m) b) h k refl)
+pub is_fresh : (looks : ℕ → View) (w : Whole) (o : Own) (m : Option Recovering) (who to : Who) (b : Body) → joined o m ≡ w → AreOne o m → Fits who to b → spends_by w who b ≡ false → IsFresh w (reply_acts looks w who b)
+is_fresh looks w o m who to b j h k s = subst (λ (x : Whole). IsFresh x (reply_acts looks x who b)) j (fresh_in looks o m who to b (is_for_recovery (joined o m) b) h k refl (ap (λ (x : Whole). spends_by x who b) j ∙ s))

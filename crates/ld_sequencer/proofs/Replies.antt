@@ -72,10 +72,10 @@ isnt_sealed o k r e a p = rw e (stays o r a p)
 
 pub ruleset seal_rules = (is_sealed, isnt_sealed)
 
-pub is_lost : (o : Own) (y n : ℕ) (r : Learnt) → (home_epoch n == o.row.epoch) ≡ true → r.acked ≡ None → r.preempted ≡ None → Does o (record o { lost = with_one y o.lost }) r (by_lost (nothing o) y n)
+pub is_lost : (o : Own) (y n : ℕ) (r : Learnt) → (home_epoch n == o.row.epoch) ≡ true → r.acked ≡ None → r.preempted ≡ None → Does o (record o { lost = with_one y o.lost }) r (by_lost (shows (spec_of o)) (nothing o) y n)
 is_lost o y n r e a p = rw e (record { now = record { origin = refl; spec = refl; sequencer = refl }; acked = ap listed a; preempted = ap listed p })
 
-pub isnt_lost : (o : Own) (y n : ℕ) (r : Learnt) → (home_epoch n == o.row.epoch) ≡ false → r.acked ≡ None → r.preempted ≡ None → Does o o r (by_lost (nothing o) y n)
+pub isnt_lost : (o : Own) (y n : ℕ) (r : Learnt) → (home_epoch n == o.row.epoch) ≡ false → r.acked ≡ None → r.preempted ≡ None → Does o o r (by_lost (shows (spec_of o)) (nothing o) y n)
 isnt_lost o y n r e a p = rw e (stays o r a p)
 
 pub ruleset lose_rules = (is_lost, isnt_lost)
@@ -191,29 +191,29 @@ irreflexive n = grind (arith, nat_tests)
 no_rise : (o : Own) (ms : List (ℕ × Body)) → (if nat_lt (released_of (sequencer_of o)) (released_of (sequencer_of o)) then ms else []) ≡ []
 no_rise o ms = ap (λ b. if b then ms else []) (irreflexive (released_of (sequencer_of o)))
 
-retries : (o : Own) → o.preempted ≡ None → on_retry (sequencer_of o) ≡ retries_appends (nothing o)
+retries : (o : Own) → o.preempted ≡ None → on_retry (shows (spec_of o)) (sequencer_of o) ≡ retries_appends (nothing o)
 unfolding on_retry
 retries o e = ap (λ p. unless_preempted p (retries_appends (nothing o)) (nothing o)) e
 
-keeps_still : (o : Own) (k : ℕ) → o.preempted ≡ Some k → on_retry (sequencer_of o) ≡ nothing o
+keeps_still : (o : Own) (k : ℕ) → o.preempted ≡ Some k → on_retry (shows (spec_of o)) (sequencer_of o) ≡ nothing o
 unfolding on_retry
 keeps_still o k e = ap (λ p. unless_preempted p (retries_appends (nothing o)) (nothing o)) e
 
-pub retry_now : (o : Own) → o.preempted ≡ None → IsNow o (record o { row = raises o.row }) (on_retry (sequencer_of o)).sequencer
+pub retry_now : (o : Own) → o.preempted ≡ None → IsNow o (record o { row = raises o.row }) (on_retry (shows (spec_of o)) (sequencer_of o)).sequencer
 retry_now o e = record { origin = refl; spec = refl; sequencer = ap (λ a. a.sequencer) (sym (retries o e)) }
 
-pub still_now : (o : Own) (k : ℕ) → o.preempted ≡ Some k → IsNow o o (on_retry (sequencer_of o)).sequencer
+pub still_now : (o : Own) (k : ℕ) → o.preempted ≡ Some k → IsNow o o (on_retry (shows (spec_of o)) (sequencer_of o)).sequencer
 still_now o k e = record { origin = refl; spec = refl; sequencer = ap (λ a. a.sequencer) (sym (keeps_still o k e)) }
 
 abbrev retried_messages : Own → List (ℕ × Body)
 retried_messages o = append_stores (spec_of o) o.lost o.row.lng (raised (spec_of o) o.row.appends)
 
-pub retry_sent : (o : Own) (old out : List Msg) → o.preempted ≡ None → out ≡ old ++ sent_by o (retried_messages o) → out ≡ old ++ sent_by o (acted_messages (sequencer_of o) (on_retry (sequencer_of o)))
+pub retry_sent : (o : Own) (old out : List Msg) → o.preempted ≡ None → out ≡ old ++ sent_by o (retried_messages o) → out ≡ old ++ sent_by o (acted_messages (sequencer_of o) (on_retry (shows (spec_of o)) (sequencer_of o)))
 retry_sent o old out e s =
     s ∙ ap (λ m. old ++ sent_by o m) (sym (ap (λ m. m ++ retried_messages o) (no_rise o (to_each (Release (released_of (sequencer_of o))) (nodes_of (spec_of o)))))
     ∙ ap (acted_messages (sequencer_of o)) (sym (retries o e)))
 
-pub still_sent : (o : Own) (old : List Msg) (k : ℕ) → o.preempted ≡ Some k → old ≡ old ++ sent_by o (acted_messages (sequencer_of o) (on_retry (sequencer_of o)))
+pub still_sent : (o : Own) (old : List Msg) (k : ℕ) → o.preempted ≡ Some k → old ≡ old ++ sent_by o (acted_messages (sequencer_of o) (on_retry (shows (spec_of o)) (sequencer_of o)))
 still_sent o old k e =
     sym (append-nil old) ∙ ap (λ m. old ++ sent_by o m) (sym (ap (λ m. m ++ []) (no_rise o (to_each (Release (released_of (sequencer_of o))) (nodes_of (spec_of o)))))
     ∙ ap (acted_messages (sequencer_of o)) (sym (keeps_still o k e)))

@@ -1,20 +1,21 @@
 -- A sequencer whose recovery is held beside its own epoch.
-use Rattle.std.proofs.Common.{◌≡◌, ℕ, ◌+◌, ◌-◌, ◌^◌, ◌<◌, ◌≤◌, Bool, true, false, nat_lt, List, [], ◌++◌, append-nil, Option, Some, None, if◌then◌else◌, refl, ap, sym, subst, ◌∙◌, arith}
+use Rattle.std.proofs.Common.{◌≡◌, ℕ, ◌+◌, ◌-◌, ◌^◌, ◌<◌, ◌≤◌, Bool, true, false, not, ◌&&◌, ◌||◌, ◌==◌, nat_lt, List, [], ◌++◌, append-nil, Option, Some, None, if◌then◌else◌, refl, ap, sym, subst, ◌∙◌, arith}
 use Rattle.std.proofs.lemmas.Bool.Decides.{nat_tests}
 use Rattle.ld_ids.specs.declared.set.Spec.{Spec}
 use Rattle.ld_msg.specs.declared.msg.Msg.{Msg}
 use Rattle.ld_msg.specs.declared.msg.Who.TheVariants as whos
 use Rattle.ld_msg.specs.declared.msg.Body.{Body}
 use Rattle.ld_msg.specs.Bounds.{IsEpoch}
-use Rattle.ld_msg.specs.Digest.{no_digest, with_asks}
+use Rattle.ld_msg.specs.Digest.{no_digest, with_asks, is_spent}
 use Rattle.ld_msg.specs.Network.{posted}
-use Rattle.ld_msg.specs.Sequencer.{Sequencer, Recovery, Stage, Seals, Stores, Closes, does_nothing, digest_asks, item_stores, next_wave, retries_stage}
-use Rattle.ld_recovery.specs.Recovering.{Recovering, as_sequencer, started, retried, retry_messages, messages}
-use Rattle.ld_recovery.proofs.Replies.{again, again_sends, going, retried_is, retry_sent}
+use Rattle.ld_msg.specs.Register.{View}
+use Rattle.ld_msg.specs.Sequencer.{Sequencer, Recovery, Stage, Seals, Stores, Closes, Storing, Acts, does_nothing, digest_asks, next_try, summary_of, is_fully_ready, is_ready_short, retries_stage, on_retry}
+use Rattle.ld_recovery.specs.Recovering as recovering
+use Rattle.ld_recovery.specs.Recovering.{Recovering, Ending, Goes, going, is_going, is_spent_stage, is_spent_in, no_looks, when_going, as_sequencer, started, retried, retry_messages, messages}
 use Rattle.ld_register.specs.Bounds.{IsSpecFor}
 use Rattle.ld_sequencer.specs.declared.origin.Origin.{Origin}
 use Rattle.ld_sequencer.specs.Own.{Own, spec_of, with_lce}
-use Rattle.ld_sequencer.specs.Whole.{Whole, as_now, sent_as, with_recovery, joined, Serves, Serving, AreOne, recovery_acts, recovery_behind, asks_behind}
+use Rattle.ld_sequencer.specs.Whole.{Whole, as_now, sent_as, with_recovery, joined, Serves, Serving, AreOne, is_spent_now, recovery_acts, recovery_behind, asks_behind}
 use Rattle.ld_sequencer.proofs.Parts.{only}
 
 -- ---- the messages of a recovery are those of its sequencer ----
@@ -93,42 +94,124 @@ behind_one o p m next lce k h l e = subst (λ (x : Own). AreOne x (recovery_behi
 
 -- ---- it asks again ----
 
-abbrev staged : Recovery → Stage → Recovery
-staged v t = record { epoch = v.epoch; spec = v.spec; lost = v.lost; stage = t }
+-- what a retry does to the recovery alone, and to the whole sequencer
+record AreAgain (o : Own) (r : Recovering) (a b : Acts) : Type 0 where
+  now : Recovery
+  value : recovering.goes_on r a ≡ going r now
+  epoch : now.epoch ≡ r.recovery.epoch
+  spec : now.spec ≡ r.recovery.spec
+  lce : a.sequencer.lce ≡ o.lce
+  whole : b.sequencer ≡ with_recovery (Some now) (joined o (Some r)).sequencer
+  sent : a.asks ++ a.stores ≡ b.asks ++ b.stores
 
-retries_now : (q : Sequencer) (v : Recovery) (t : Stage) → q.recovery ≡ Some v → v.stage ≡ t → (retries_stage (does_nothing q) v t).sequencer ≡ with_recovery (Some (staged v (again v.epoch t))) q
-retries_now q v (Seals d) h e = refl
-retries_now q v (Stores g) h e = refl
-retries_now q v (Closes y) h e = ap (λ (m : Option Recovery). with_recovery m q) (h ∙ ap (λ (t : Stage). Some (staged v t)) e)
+again_unspent : (o : Own) (r : Recovering) (c : Bool) (a b a' b' : Acts) → c ≡ false → AreAgain o r a' b' → AreAgain o r (if c then a else a') (if c then b else b')
+again_unspent o r true a b a' b' h p = absurd cc
+again_unspent o r false a b a' b' h p = p
 
-retries_sent : (q : Sequencer) (v : Recovery) (t : Stage) → (retries_stage (does_nothing q) v t).asks ++ (retries_stage (does_nothing q) v t).stores ≡ again_sends v.spec v.epoch v.lost t
-retries_sent q v (Seals d) = append-nil (digest_asks (with_asks v.epoch d))
-retries_sent q v (Stores g) = append-nil (item_stores v.spec v.lost g.lng (next_wave g.wave) g.items)
-retries_sent q v (Closes y) = refl
+again_either : (o : Own) (r : Recovering) (c : Bool) (a b a' b' : Acts) → AreAgain o r a b → AreAgain o r a' b' → AreAgain o r (if c then a else a') (if c then b else b')
+again_either o r true a b a' b' p q = p
+again_either o r false a b a' b' p q = q
 
-retried_so : (o : Own) (r : Recovering) → Serves o r → retried r ≡ going r (staged r.recovery (again r.recovery.epoch r.recovery.stage))
-retried_so o r s = retried_is r s.going
+-- by a sequencer with nothing but the recovery, and by the whole one
+abbrev alone_again : (ℕ → View) → Own → Recovering → Stage → Acts
+alone_again looks o r t = retries_stage looks (does_nothing (only o.row.spec.log o.row.epoch o.lce r.recovery)) r.recovery t
 
-pub again_one : (o : Own) (m : Option Recovering) (r x : Recovering) → AreOne o m → m ≡ Some r → x ≡ retried r → AreOne o (Some x)
-again_one o m r x h e k = let s = served o m r e h in
-    one_with o m (Some x) h (subst (λ (z : Recovering). Serves o z) (sym (k ∙ retried_so o r s)) (serves_on o r (staged r.recovery (again r.recovery.epoch r.recovery.stage)) s refl refl))
+abbrev whole_again : (ℕ → View) → Own → Recovering → Stage → Acts
+whole_again looks o r t = retries_stage looks (does_nothing (joined o (Some r)).sequencer) r.recovery t
 
-again_value : (o : Own) (r : Recovering) → Serves o r → joined o (Some (retried r)) ≡ as_now (joined o (Some r)) (recovery_acts (joined o (Some r))).sequencer
-again_value o r s =
-    ap (λ (z : Recovering). joined o (Some z)) (retried_so o r s)
-    ∙ ap (as_now (joined o (Some r))) (sym (retries_now (joined o (Some r)).sequencer r.recovery r.recovery.stage refl refl))
+abbrev at_stage : Recovery → Stage → Recovery
+at_stage v t = record v { stage = t }
 
-pub again_now : (w : Whole) (o : Own) (m : Option Recovering) (r x : Recovering) → joined o m ≡ w → AreOne o m → m ≡ Some r → x ≡ retried r → joined o (Some x) ≡ as_now w (recovery_acts w).sequencer
-again_now w o m r x j h e k =
+again_at : (looks : ℕ → View) (o : Own) (r : Recovering) (t : Stage) → is_spent_stage r.recovery.spec t ≡ false → AreAgain o r (alone_again looks o r t) (whole_again looks o r t)
+again_at looks o r (Seals d) h = again_unspent o r (is_spent r.recovery.spec d) _ _ _ _ h
+    (record { now = at_stage r.recovery (Seals (with_asks r.recovery.epoch d)); value = refl; epoch = refl; spec = refl; lce = refl; whole = refl; sent = refl })
+again_at looks o r (Stores g) h =
+    let v = r.recovery in let n : Storing = next_try g in
+    again_either o r (is_fully_ready v.spec n || is_ready_short v.spec v.lost n) _ _ _ _
+    (record { now = at_stage v (Closes (summary_of o.row.epoch n) (not (is_fully_ready v.spec n))); value = refl; epoch = refl; spec = refl; lce = refl; whole = refl; sent = refl })
+    (record { now = at_stage v (Stores n); value = refl; epoch = refl; spec = refl; lce = refl; whole = refl; sent = refl })
+again_at looks o r (Closes y short) h = record { now = r.recovery; value = refl; epoch = refl; spec = refl; lce = refl; whole = refl; sent = refl }
+
+-- ---- a retry of the recovery as it is in the whole sequencer ----
+
+retry_alone : (o : Own) (r : Recovering) → Serves o r → on_retry (no_looks r) (as_sequencer r) ≡ alone_again (no_looks r) o r r.recovery.stage
+unfolding on_retry
+retry_alone o r s = ap (λ (q : Sequencer). retries_stage (no_looks r) (does_nothing q) r.recovery r.recovery.stage) (as_is o r s)
+
+-- a digest that isn't spent
+unspent : (r : Recovering) → r.ending ≡ Goes → is_spent_stage r.recovery.spec r.recovery.stage ≡ false → is_spent_in r ≡ false
+unspent r g h = ap (λ (e : Ending). is_going e && is_spent_stage r.recovery.spec r.recovery.stage) g ∙ h
+
+retried_so : (o : Own) (r : Recovering) → Serves o r → is_spent_stage r.recovery.spec r.recovery.stage ≡ false → retried r ≡ recovering.goes_on r (alone_again (no_looks r) o r r.recovery.stage)
+retried_so o r s h =
+    ap (λ (c : Bool). if c then r else when_going r.ending (recovering.goes_on r (on_retry (no_looks r) (as_sequencer r))) r) (unspent r s.going h)
+    ∙ (ap (λ (e : Ending). when_going e (recovering.goes_on r (on_retry (no_looks r) (as_sequencer r))) r) s.going ∙ ap (recovering.goes_on r) (retry_alone o r s))
+
+again_open : (o : Own) (r : Recovering) → Serves o r → (o.lce == r.recovery.epoch - 1) ≡ true
+again_open o r s = let e = s.epoch in grind (arith, nat_tests)
+
+retry_sent : (o : Own) (r : Recovering) → Serves o r → is_spent_stage r.recovery.spec r.recovery.stage ≡ false → retry_messages r ≡ messages r (recovering.sent_by r (alone_again (no_looks r) o r r.recovery.stage))
+retry_sent o r s h =
+    ap (λ (c : Bool). if c then [] else when_going r.ending (messages r (recovering.sent_by r (on_retry (no_looks r) (as_sequencer r)))) []) (unspent r s.going h)
+    ∙ (ap (λ (e : Ending). when_going e (messages r (recovering.sent_by r (on_retry (no_looks r) (as_sequencer r)))) []) s.going ∙ ap (λ (a : Acts). messages r (recovering.sent_by r a)) (retry_alone o r s))
+
+-- the recovery's messages, as the sequencer sends them
+sent_alone : (o : Own) (r : Recovering) (a b : Acts) → Serves o r → AreAgain o r a b → messages r (recovering.sent_by r a) ≡ sent_as (joined o (Some r)) (b.asks ++ b.stores)
+sent_alone o r a b s p =
+    ap (λ (n : ℕ). messages r (if n == r.recovery.epoch - 1 then a.asks ++ a.stores else a.cleans)) p.lce
+    ∙ (ap (λ (c : Bool). messages r (if c then a.asks ++ a.stores else a.cleans)) (again_open o r s)
+    ∙ (ap (messages r) p.sent ∙ sent_of o (Some r) r (b.asks ++ b.stores) s))
+
+again_of : (o : Own) (r : Recovering) → is_spent_stage r.recovery.spec r.recovery.stage ≡ false → AreAgain o r (alone_again (no_looks r) o r r.recovery.stage) (whole_again (no_looks r) o r r.recovery.stage)
+again_of o r h = again_at (no_looks r) o r r.recovery.stage h
+
+-- ---- looks don't matter to it ----
+
+else_other : (c : Bool) (x y z : Acts) → c ≡ false → (if c then x else z) ≡ (if c then y else z)
+else_other true x y z h = absurd cc
+else_other false x y z h = refl
+
+stage_alike : (looks others : ℕ → View) (a : Acts) (v : Recovery) (t : Stage) → is_spent_stage v.spec t ≡ false → retries_stage looks a v t ≡ retries_stage others a v t
+stage_alike looks others a v (Seals d) h = else_other (is_spent v.spec d) _ _ _ h
+stage_alike looks others a v (Stores g) h = refl
+stage_alike looks others a v (Closes y short) h = refl
+
+-- ---- as it is called ----
+
+spent_here : (w : Whole) (o : Own) (m : Option Recovering) (r : Recovering) → joined o m ≡ w → m ≡ Some r → is_spent_now w ≡ false → is_spent_stage r.recovery.spec r.recovery.stage ≡ false
+spent_here w o m r j e h = ap (λ (x : Option Recovering). is_spent_now (joined o x)) (sym e) ∙ (ap is_spent_now j ∙ h)
+
+pub again_one : (w : Whole) (o : Own) (m : Option Recovering) (r x : Recovering) → joined o m ≡ w → AreOne o m → m ≡ Some r → is_spent_now w ≡ false → x ≡ retried r → AreOne o (Some x)
+again_one w o m r x j h e u k =
+    let s = served o m r e h in let f = spent_here w o m r j e u in let p = again_of o r f in
+    one_with o m (Some x) h (subst (λ (z : Recovering). Serves o z) (sym (k ∙ (retried_so o r s f ∙ p.value))) (serves_on o r p.now s p.epoch p.spec))
+
+again_value : (looks : ℕ → View) (o : Own) (r : Recovering) → Serves o r → is_spent_stage r.recovery.spec r.recovery.stage ≡ false → joined o (Some (retried r)) ≡ as_now (joined o (Some r)) (recovery_acts looks (joined o (Some r))).sequencer
+again_value looks o r s f =
+    let p = again_of o r f in
+    ap (λ (z : Recovering). joined o (Some z)) (retried_so o r s f ∙ p.value)
+    ∙ (ap (as_now (joined o (Some r))) (sym p.whole) ∙ ap (λ (a : Acts). as_now (joined o (Some r)) a.sequencer) (stage_alike (no_looks r) looks (does_nothing (joined o (Some r)).sequencer) r.recovery r.recovery.stage f))
+
+pub again_now : (looks : ℕ → View) (w : Whole) (o : Own) (m : Option Recovering) (r x : Recovering) → joined o m ≡ w → AreOne o m → m ≡ Some r → is_spent_now w ≡ false → x ≡ retried r → joined o (Some x) ≡ as_now w (recovery_acts looks w).sequencer
+again_now looks w o m r x j h e u k =
     ap (λ (z : Recovering). joined o (Some z)) k
-    ∙ (again_value o r (served o m r e h) ∙ ap (λ (z : Whole). as_now z (recovery_acts z).sequencer) (ap (joined o) (sym e) ∙ j))
+    ∙ (again_value looks o r (served o m r e h) (spent_here w o m r j e u) ∙ ap (λ (z : Whole). as_now z (recovery_acts looks z).sequencer) (ap (joined o) (sym e) ∙ j))
 
-again_out : (o : Own) (r : Recovering) → Serves o r → retry_messages r ≡ sent_as (joined o (Some r)) ((recovery_acts (joined o (Some r))).asks ++ (recovery_acts (joined o (Some r))).stores)
-again_out o r s =
-    retry_sent r s.going
-    ∙ (sent_of o (Some r) r (again_sends r.recovery.spec r.recovery.epoch r.recovery.lost r.recovery.stage) s
-    ∙ ap (sent_as (joined o (Some r))) (sym (retries_sent (joined o (Some r)).sequencer r.recovery r.recovery.stage)))
+again_out : (looks : ℕ → View) (o : Own) (r : Recovering) → Serves o r → is_spent_stage r.recovery.spec r.recovery.stage ≡ false
+    → retry_messages r ≡ sent_as (joined o (Some r)) ((recovery_acts looks (joined o (Some r))).asks ++ (recovery_acts looks (joined o (Some r))).stores)
+again_out looks o r s f =
+    retry_sent o r s f
+    ∙ (sent_alone o r _ _ s (again_of o r f)
+    ∙ ap (λ (a : Acts). sent_as (joined o (Some r)) (a.asks ++ a.stores)) (stage_alike (no_looks r) looks (does_nothing (joined o (Some r)).sequencer) r.recovery r.recovery.stage f))
 
-pub again_sent : (w : Whole) (o : Own) (m : Option Recovering) (r : Recovering) (old new : List Msg) → joined o m ≡ w → AreOne o m → m ≡ Some r → new ≡ old ++ retry_messages r → new ≡ old ++ sent_as w ((recovery_acts w).asks ++ (recovery_acts w).stores)
-again_sent w o m r old new j h e k =
-    k ∙ ap (λ (ms : List Msg). old ++ ms) (again_out o r (served o m r e h) ∙ ap (λ (z : Whole). sent_as z ((recovery_acts z).asks ++ (recovery_acts z).stores)) (ap (joined o) (sym e) ∙ j))
+pub again_sent : (looks : ℕ → View) (w : Whole) (o : Own) (m : Option Recovering) (r : Recovering) (old new : List Msg) → joined o m ≡ w → AreOne o m → m ≡ Some r → is_spent_now w ≡ false → new ≡ old ++ retry_messages r
+    → new ≡ old ++ sent_as w ((recovery_acts looks w).asks ++ (recovery_acts looks w).stores)
+again_sent looks w o m r old new j h e u k =
+    k ∙ ap (λ (ms : List Msg). old ++ ms) (again_out looks o r (served o m r e h) (spent_here w o m r j e u) ∙ ap (λ (z : Whole). sent_as z ((recovery_acts looks z).asks ++ (recovery_acts looks z).stores)) (ap (joined o) (sym e) ∙ j))
+
+-- without a recovery nothing is asked
+pub quiet_now : (looks : ℕ → View) (w : Whole) (o : Own) (m : Option Recovering) → joined o m ≡ w → m ≡ None → w ≡ as_now w (recovery_acts looks w).sequencer
+quiet_now looks w o m j e = subst (λ (z : Whole). z ≡ as_now z (recovery_acts looks z).sequencer) (ap (joined o) (sym e) ∙ j) refl
+
+pub quiet_sent : (looks : ℕ → View) (w : Whole) (o : Own) (m : Option Recovering) (old : List Msg) → joined o m ≡ w → m ≡ None → old ≡ old ++ sent_as w ((recovery_acts looks w).asks ++ (recovery_acts looks w).stores)
+quiet_sent looks w o m old j e = sym (append-nil old) ∙ ap (λ (z : Whole). old ++ sent_as z ((recovery_acts looks z).asks ++ (recovery_acts looks z).stores)) (ap (joined o) (sym e) ∙ j)

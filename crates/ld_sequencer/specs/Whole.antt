@@ -1,5 +1,5 @@
 -- A sequencer with the recovery of earlier epochs, and what becomes of it by its calls.
-use Rattle.std.specs.Prelude.{ℕ, ◌≡◌, ◌≢◌, ◌⊎◌, ◌≤◌, ◌<◌, ◌+◌, ◌-◌, ◌^◌, List, [], ◌∷◌, ◌++◌, Ok, Err, Option, Some, None, Bool, true, false, not, ◌&&◌, ◌==◌, is_some, nat_lt, if◌then◌else◌}
+use Rattle.std.specs.Prelude.{ℕ, IfSome, ◌≡◌, ◌≢◌, ◌⊎◌, ◌≤◌, ◌<◌, ◌+◌, ◌-◌, ◌^◌, List, [], ◌∷◌, ◌++◌, Ok, Err, Option, Some, None, Bool, true, false, not, ◌&&◌, ◌==◌, is_some, nat_lt, if◌then◌else◌}
 use Rattle.std.specs.declared.result.Result.{Result}
 use Rattle.ld_ids.specs.declared.set.Spec.{Spec}
 use Rattle.ld_lsn.specs.Number.{epoch_of, home_epoch}
@@ -9,15 +9,16 @@ use Rattle.ld_msg.specs.declared.msg.Who.TheVariants as whos
 use Rattle.ld_msg.specs.declared.msg.Msg.{Msg}
 use Rattle.ld_msg.specs.declared.msg.Body.{Body}
 use Rattle.ld_msg.specs.declared.msg.Body.TheVariants as bodies
-use Rattle.ld_msg.specs.Bounds.{IsEpoch}
+use Rattle.ld_msg.specs.Bounds.{IsEpoch, IsSummary}
 use Rattle.ld_msg.specs.Digest.{no_digest}
 use Rattle.ld_msg.specs.Network.{posted}
 use Rattle.ld_msg.specs.Register.{Register, Answer, View, is_crowded, look}
-use Rattle.ld_msg.specs.Sequencer.{Sequencer, Recovery, Stage, Seals, Stores, Closes, Acts, Called, called, on_reply, on_retry, does_nothing, after_close, retries_recovery, append_stores, acted_messages, rose, released_of, activated, recovery_asks, digest_asks}
-use Rattle.ld_recovery.specs.Recovering.{Recovering, Goes, started, sender_of}
+use Rattle.ld_msg.specs.Sequencer.{Sequencer, Recovery, Stage, Seals, Stores, Closes, Attempt, Acts, Called, called, on_reply, on_retry, does_nothing, after_close, looks_now, retries_recovery, with_stores, raised, append_stores, acted_messages, rose, released_of, activated, recovery_asks, digest_asks}
+use Rattle.ld_recovery.specs.Recovering.{Recovering, Goes, started, sender_of, digest_in, is_spent_stage, counts, told_by}
 use Rattle.ld_sequencer.specs.Appends.{all_acked}
 use Rattle.ld_sequencer.specs.Own.{Own, sequencer_of, listed}
 use Rattle.ld_sequencer.specs.declared.origin.Origin.{Origin}
+use Rattle.ld_sequencer.specs.declared.close.Due.{Due}
 use Rattle.ld_sequencer.specs.declared.report.Report.{Report}
 use Rattle.ld_sequencer.specs.declared.fault.SequencerFault.{SequencerFault}
 use Rattle.ld_sequencer.specs.declared.fault.SequencerFault.TheVariants as faults
@@ -77,18 +78,26 @@ pub record AreOne (o : Own) (m : Option Recovering) : Type 0 where
 
 -- ---- the close that is due ----
 
-abbrev pub closing_stage : ℕ → Stage → Option (ℕ × Summary)
+abbrev pub closing_stage : ℕ → Stage → Option Due
 closing_stage epoch (Seals d) = None
 closing_stage epoch (Stores g) = None
-closing_stage epoch (Closes y) = Some (epoch, y)
+closing_stage epoch (Closes y short) = Some (record { epoch = epoch; summary = y; short = short })
 
--- the epoch that is to be closed, and its summary, once its plan is stored
-abbrev pub closing_in : Option Recovery → Option (ℕ × Summary)
+-- the close of the epoch, once its plan is stored
+abbrev pub closing_in : Option Recovery → Option Due
 closing_in None = None
 closing_in (Some v) = closing_stage v.epoch v.stage
 
-abbrev pub closing_of : Whole → Option (ℕ × Summary)
+abbrev pub closing_of : Whole → Option Due
 closing_of w = closing_in w.sequencer.recovery
+
+abbrev pub attempt : Due → Attempt
+attempt d = record { epoch = d.epoch; summary = d.summary; short = d.short }
+
+-- the close that is tried, where one is due
+abbrev pub attempts : Option Due → List Attempt
+attempts None = []
+attempts (Some d) = attempt d ∷ []
 
 -- whether a message speaks of an earlier epoch, and not of the sequencer's own
 abbrev pub is_of_earlier : ℕ → Body → Bool
@@ -113,6 +122,44 @@ epoch_begun w _ = None
 abbrev pub is_for_recovery : Whole → Body → Bool
 is_for_recovery w b = not (is_some w.sequencer.preempted) && (is_some w.sequencer.recovery && is_of_earlier w.sequencer.epoch b)
 
+-- nothing but the close that is due is tried, where one is
+abbrev pub due_acts : Whole → Acts
+due_acts w = record (does_nothing w.sequencer) { tries = attempts (closing_of w) }
+
+-- ---- the look that is due ----
+
+-- the digest of the recovered epoch is spent
+abbrev pub is_spent_recovery : Option Recovery → Bool
+is_spent_recovery None = false
+is_spent_recovery (Some v) = is_spent_stage v.spec v.stage
+
+abbrev pub is_spent_now : Whole → Bool
+is_spent_now w = is_spent_recovery w.sequencer.recovery
+
+abbrev pub spends_in : ℕ → Body → Option Recovery → Bool
+spends_in y b None = false
+spends_in y b (Some v) = counts v y b && is_spent_stage v.spec (told_by v y b).stage
+
+-- a message leaves the recovery with a spent digest, by what it tells
+abbrev pub spends_by : Whole → Who → Body → Bool
+spends_by w who b = is_for_recovery w b && spends_in (sender_of who) b w.sequencer.recovery
+
+abbrev pub told_in : ℕ → Body → Option Recovery → Option Recovery
+told_in y b None = None
+told_in y b (Some v) = Some (told_by v y b)
+
+-- what it tells is in the recovery
+abbrev pub counted : Whole → Who → Body → Whole
+counted w who b = as_now w (with_recovery (told_in (sender_of who) b w.sequencer.recovery) w.sequencer)
+
+-- what a look at the recovered epoch does
+abbrev pub looked_in : (ℕ → View) → Acts → Option Recovery → Acts
+looked_in looks a None = a
+looked_in looks a (Some v) = looks_now looks a v (digest_in v.stage)
+
+abbrev pub looked_acts : (ℕ → View) → Whole → Acts
+looked_acts looks w = looked_in looks (does_nothing w.sequencer) w.sequencer.recovery
+
 -- ---- what a call does ----
 
 -- what a look at an epoch shows where the register has these contents
@@ -123,12 +170,16 @@ looks_of w c e = look w.origin.first c w.sequencer.log e
 abbrev pub reply_acts : (ℕ → View) → Whole → Who → Body → Acts
 reply_acts looks w who b = on_reply looks w.sequencer (sender_of who) b
 
-abbrev pub retry_acts : Whole → Acts
-retry_acts w = on_retry w.sequencer
+abbrev pub retry_acts : (ℕ → View) → Whole → Acts
+retry_acts looks w = on_retry looks w.sequencer
 
 -- a retry of the recovery alone
-abbrev pub recovery_acts : Whole → Acts
-recovery_acts w = retries_recovery (does_nothing w.sequencer) w.sequencer.recovery
+abbrev pub recovery_acts : (ℕ → View) → Whole → Acts
+recovery_acts looks w = retries_recovery looks (does_nothing w.sequencer) w.sequencer.recovery
+
+-- each append that isn't acknowledged is in its next wave
+abbrev pub raised_whole : Whole → Whole
+raised_whole w = as_now w (record w.sequencer { appends = raised w.sequencer.spec w.sequencer.appends })
 
 -- the stores of the own epoch that aren't acknowledged
 abbrev pub pending_stores : Whole → List (ℕ × Body)
@@ -138,9 +189,9 @@ pending_stores w = append_stores w.sequencer.spec w.sequencer.lost w.sequencer.l
 abbrev pub closed_acts : (ℕ → View) → Whole → ℕ → Summary → Answer → Acts
 closed_acts looks w epoch y d = after_close looks (does_nothing w.sequencer) epoch y d
 
-abbrev pub tried_with : (ℕ → View) → Acts → Answer → List (ℕ × Summary) → Acts
+abbrev pub tried_with : (ℕ → View) → Acts → Answer → List Attempt → Acts
 tried_with looks a d [] = a
-tried_with looks a d (t ∷ ts) = after_close looks a t.0 t.1 d
+tried_with looks a d (t ∷ ts) = after_close looks a t.epoch t.summary d
 
 -- the call with a register's answer to the close that it tries, where it tries one
 abbrev pub tried : (ℕ → View) → Acts → Answer → Acts
@@ -163,9 +214,18 @@ pub record Acted (before after : Whole) (report : Report) (old new : List Msg) (
   pub failed : is_some report.register ≡ a.failed
   pub released : listed report.released ≡ risen before.sequencer a.sequencer
 
+-- looks show what is fixed for epochs of the log, and of the recovered epoch a summary of it, where it is closed
+pub record AreShown (w : Whole) (looks : ℕ → View) : Type 0 where
+  pub specs : (e : ℕ) → IsSpecFor w.sequencer.log (looks e).spec
+  pub summary : (v : Recovery) → w.sequencer.recovery ≡ Some v → IfSome (looks v.epoch).summary (IsSummary v.epoch)
+
+-- a call has done what it does by some looks, and by an answer to the close that it tries, where it tries one
+abbrev pub ActedBy : Whole → Whole → Report → List Msg → List Msg → ((ℕ → View) → Acts) → Type 0
+ActedBy before after report old new by_looks = (looks : ℕ → View) × AreShown before looks × (d : Answer) × Acted before after report old new (tried looks (by_looks looks) d)
+
 -- a close is tried exactly where it was not due before and is now, and then nothing else is done
 pub record IsFresh (w : Whole) (a : Acts) : Type 0 where
-  pub due : a.tries ≡ (if is_some (closing_of w) then [] else listed (closing_in a.sequencer.recovery))
+  pub due : a.tries ≡ (if is_some (closing_of w) then [] else attempts (closing_in a.sequencer.recovery))
   pub alone : (a.tries ≡ []) ⊎ ((v : Option Recovery) × (a ≡ record (does_nothing (with_recovery v w.sequencer)) { tries = a.tries }))
 
 -- ---- refusals ----
@@ -196,6 +256,15 @@ pub record Unseen (before after : Whole) (fault : SequencerFault) (old new : Lis
   pub free : MayCome fault
   pub now : after ≡ before
   pub sent : new ≡ old
+
+-- the register failed to show the recovered epoch, whose digest is spent: the rest of the call is done
+pub record Unlooked (before after : Whole) (fault : SequencerFault) (old new : List Msg) (own : Sequencer) (stores : List (ℕ × Body)) (by_looks : (ℕ → View) → Acts) : Type 0 where
+  pub recovery : Recovery
+  pub spent : is_spent_stage recovery.spec recovery.stage ≡ true
+  pub acts : (looks : ℕ → View) → by_looks looks ≡ with_stores stores (looks_now looks (does_nothing own) recovery (digest_in recovery.stage))
+  pub free : MayCome fault
+  pub now : after ≡ as_now before (with_recovery (Some recovery) own)
+  pub sent : new ≡ old ++ sent_as before stores
 
 abbrev pub IsRefused : Whole → Whole → SequencerFault → List Msg → List Msg → Acts → Type 0
 IsRefused before after fault old new a = (fault ≡ faults.NoMemory) ⊎ Unclosed before after fault old new a

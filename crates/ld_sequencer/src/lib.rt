@@ -12,6 +12,7 @@ mod recovering;
 mod report;
 mod round;
 mod row;
+mod spent;
 mod start;
 #[cfg(test)]
 mod tests;

@@ -222,8 +222,8 @@ impl OwnEpoch {
     /// preempted sequencer sends nothing. After want of memory it isn't to be used again.
     #[tactic(auto, using(crate::proofs::Replies::retry_rules))]
     pub fn retry(&mut self, alloc: Global, out: &mut Outbox) -> Result<(), NoMemory>
-        ensures now { OnOk result (IsNow self.old self.new (on_retry (sequencer_of self.old)).sequencer) }
-        ensures out { OnOk result (out.new ≡ out.old ++ sent_by self.old (acted_messages (sequencer_of self.old) (on_retry (sequencer_of self.old)))) }
+        ensures now { OnOk result (IsNow self.old self.new (on_retry (shows (spec_of self.old)) (sequencer_of self.old)).sequencer) }
+        ensures out { OnOk result (out.new ≡ out.old ++ sent_by self.old (acted_messages (sequencer_of self.old) (on_retry (shows (spec_of self.old)) (sequencer_of self.old)))) }
         ensures messages { IsEpoch (sequencer_of self.old).epoch → AreMessages out.old → AreMessages out.new }
     {
         if self.preempted.is_none() {
@@ -320,7 +320,7 @@ impl OwnEpoch {
     /// A node is lost for the number's epoch.
     #[tactic(auto, using(crate::proofs::Replies::lose_rules))]
     fn lose(&mut self, node: NodeId, number: Lsn) -> Learnt
-        ensures { Does self.old self.new result (by_lost (does_nothing (sequencer_of self.old)) node number) }
+        ensures { Does self.old self.new result (by_lost (shows (spec_of self.old)) (does_nothing (sequencer_of self.old)) node number) }
     {
         if number.home().0 == self.row.epoch() {
             self.lost.add(node);

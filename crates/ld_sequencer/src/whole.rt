@@ -18,7 +18,7 @@ ghost use Rattle.ld_sequencer.specs.Looks.{shows};
 ghost use Rattle.ld_sequencer.specs.Own.{append_fault, trim_fault, listed};
 ghost use Rattle.ld_sequencer.specs.Register.{after_tries};
 ghost use Rattle.ld_sequencer.specs.declared.fault.CloseFault.TheVariants as unclosed;
-ghost use Rattle.ld_sequencer.specs.Whole.{as_now, sent_as, looks_of, reply_acts, retry_acts, tried, called_by, Acted, IsCaused, IsFresh, IsRefused, Unseen, IsActive, is_settled};
+ghost use Rattle.ld_sequencer.specs.Whole.{as_now, sent_as, looks_of, pending_stores, raised_whole, reply_acts, retry_acts, spends_by, tried, called_by, Acted, ActedBy, IsCaused, IsFresh, IsRefused, Unlooked, Unseen, IsActive, is_settled};
 
 use crate::fault::SequencerFault;
 use crate::look::look_at;
@@ -121,10 +121,17 @@ impl Sequencer {
     /// is closed. What speaks of the epoch that is recovered goes to the recovery. Once its plan is stored the epoch is closed
     /// in the register, all its nodes are told so, and the next epoch is recovered, up to its own, with what the register
     /// shows of it; where another sequencer closed it, the recovery goes on behind the last closed epoch, or the sequencer is
-    /// preempted, where that isn't before its own. A close for which the register fails or is full is reported, with all else
-    /// of the call done, and tried again by a retry alone; it is reported as failed only where the register's count of faults
-    /// rose in the call, which else stays as it was. Where the released number rises all nodes of its epoch are told so. A
-    /// preempted sequencer ignores all messages, and so it does those that are no node's.
+    /// preempted, where that isn't before its own. A plan that each node of the epoch stored, unless it is lost, closes it too:
+    /// short, which the register takes only as long as no greater epoch was handed out; the sequencer is preempted by that one
+    /// otherwise. A close for which the register fails or is full is reported, with all else of the call done, and tried again
+    /// by a retry alone; it is reported as failed only where the register's count of faults rose in the call, which else stays
+    /// as it was. Where the released number rises all nodes of its epoch are told so. A preempted sequencer ignores all
+    /// messages, and so it does those that are no node's.
+    ///
+    /// Where each node of the recovered epoch has told all that it has or is lost, and that isn't enough, the register is
+    /// looked at in that same step: the epoch is closed as if word came so; or the sequencer is preempted by a greater epoch
+    /// than its own; or else a plan is made that says what is lost. Where the register doesn't answer, the call is refused
+    /// with `Register`, and `Failed` or `Damaged` as below: the rest of the call has been done, and a retry looks again.
     ///
     /// Where word comes that the recovered epoch is closed, and the next one is before its own, the register is looked at
     /// first. Where it doesn't answer, the call is refused with `Register`, and `Failed`, only where the count of faults rose,
@@ -146,7 +153,7 @@ impl Sequencer {
         requires { IsMessage msg.now }
         ensures exact { (c : Contents) → G.tells reg.old c
             → IfOk result (λ report. Acted self.old self.new report out.old out.new (called_by self.old c (reply_acts (looks_of self.old c) self.old msg.now.from msg.now.body)).acts × G.tells reg.new (called_by self.old c (reply_acts (looks_of self.old c) self.old msg.now.from msg.now.body)).register) }
-        ensures acted { IfOk result (λ report. (s : Fixed) × IsSpecFor self.old.sequencer.log s × (d : Ends) × Acted self.old self.new report out.old out.new (tried (shows s) (reply_acts (shows s) self.old msg.now.from msg.now.body) d)) }
+        ensures acted { IfOk result (λ report. ActedBy self.old self.new report out.old out.new (λ looks. reply_acts looks self.old msg.now.from msg.now.body)) }
         ensures held { (c : Contents) → G.holds reg.old c
             → IfOk result (λ report. (is_some report.register ≡ true) ⊎ (Acted self.old self.new report out.old out.new (called_by self.old c (reply_acts (looks_of self.old c) self.old msg.now.from msg.now.body)).acts × G.holds reg.new (called_by self.old c (reply_acts (looks_of self.old c) self.old msg.now.from msg.now.body)).register)) }
         ensures failed { IfOk result (λ report. report.register ≡ Some unclosed.Failed → Rose (G.faults reg.old) (G.faults reg.new)) }
@@ -154,7 +161,7 @@ impl Sequencer {
         ensures steady { IfOk result (λ report. (report.register ≡ Some unclosed.Failed) ⊎ (G.faults reg.new ≡ G.faults reg.old)) }
         ensures unfailed { IfErr result (λ fault. (fault ≡ faults.NoMemory) ⊎ (fault ≡ faults.Register registers.Failed) ⊎ (G.faults reg.new ≡ G.faults reg.old)) }
         ensures unseen { IsErrOf result (faults.Register registers.Failed) → Rose (G.faults reg.old) (G.faults reg.new) }
-        ensures refused { IfErr result (λ fault. Unseen self.old self.new fault out.old out.new msg.now.body ⊎ ((looks : ℕ → View) → IsRefused self.old self.new fault out.old out.new (reply_acts looks self.old msg.now.from msg.now.body))) }
+        ensures refused { IfErr result (λ fault. Unseen self.old self.new fault out.old out.new msg.now.body ⊎ Unlooked self.old self.new fault out.old out.new self.old.sequencer [] (λ looks. reply_acts looks self.old msg.now.from msg.now.body) ⊎ ((looks : ℕ → View) → IsRefused self.old self.new fault out.old out.new (reply_acts looks self.old msg.now.from msg.now.body))) }
         ensures caused { G.told reg.old → IfErr result (λ fault. (fault ≡ faults.Register registers.Failed) ⊎ IsCaused (G.holds reg.old) (G.damaged reg.old) self.old.sequencer.log fault) }
         ensures crowded { (c : Contents) → G.tells reg.old c
             → IfErr result (λ fault. (fault ≡ faults.NoMemory) ⊎ ((fault ≡ faults.Register registers.LogLimit) × (is_crowded c self.old.sequencer.log ≡ true) × G.tells reg.new c)) }
@@ -166,13 +173,17 @@ impl Sequencer {
         ensures counts { G.faults reg.old ≤ G.faults reg.new }
         ensures messages { AreMessages out.old → AreMessages out.new }
     {
+        if self.spends(msg) {
+            return self.spend(alloc, msg, reg, out);
+        }
         let epoch = self.epoch_begun(&msg.body);
         let origin = *self.own.origin();
         let next = look_at(alloc, self.own.spec().log, &origin.first, epoch, reg)?;
         self.take(alloc, msg, &next, reg, out)
     }
 
-    /// Takes a message. This is shown of the epoch whose recovery it begins, where it begins one.
+    /// Takes a message that leaves the recovery with no spent digest. `next` is shown of the epoch whose recovery it begins,
+    /// where it begins one.
     fn take<G: Register>(
         &mut self,
         alloc: Global,
@@ -183,6 +194,7 @@ impl Sequencer {
     ) -> Result<Report, SequencerFault>
         requires message { IsMessage msg.now }
         requires next { IsSpecFor self.old.sequencer.log next.now }
+        requires quiet { spends_by self.old msg.now.from msg.now.body ≡ false }
         ensures exact { (c : Contents) → G.tells reg.old c
             → IfOk result (λ report. Acted self.old self.new report out.old out.new (called_by self.old c (reply_acts (shows next.now) self.old msg.now.from msg.now.body)).acts × G.tells reg.new (called_by self.old c (reply_acts (shows next.now) self.old msg.now.from msg.now.body)).register) }
         ensures acted { IfOk result (λ report. (s : Fixed) × IsSpecFor self.old.sequencer.log s × (d : Ends) × Acted self.old self.new report out.old out.new (tried (shows s) (reply_acts (shows next.now) self.old msg.now.from msg.now.body) d)) }
@@ -210,18 +222,18 @@ impl Sequencer {
             return Ok(report);
         }
         match self.closing() {
-            Some((epoch, summary)) => self.close(alloc, epoch, &summary, reg, out),
+            Some(due) => self.close(alloc, &due, reg, out),
             None => Ok(report),
         }
     }
 
-    /// Sends again what is still wanted: what the recovery waits for, or its close is tried again in the register, and each
-    /// append that isn't acknowledged, in its next wave, to the nodes chosen that haven't stored it. A preempted sequencer
-    /// does nothing.
+    /// Sends again what is still wanted: what the recovery waits for, or its close is tried again in the register, or the
+    /// register is looked at again for what couldn't be seen, and each append that isn't acknowledged, in its next wave, to
+    /// the nodes chosen that haven't stored it. A preempted sequencer does nothing.
     ///
-    /// The register's answer to a close does what it does in `on_reply`, and so do its refusals: then all has been done but
-    /// the close, and the register holds what it held. After `NoMemory` it isn't to be used again. What a crash may leave of
-    /// the register is as it is there.
+    /// The register's answer to a close or a look does what it does in `on_reply`, and so do its refusals: then all has been
+    /// done but the close or the look, and the register holds what it held. After `NoMemory` it isn't to be used again. What
+    /// a crash may leave of the register is as it is there.
     pub fn retry<G: Register>(
         &mut self,
         alloc: Global,
@@ -229,22 +241,23 @@ impl Sequencer {
         out: &mut Outbox,
     ) -> Result<Report, SequencerFault>
         ensures exact { (c : Contents) → G.tells reg.old c
-            → IfOk result (λ report. Acted self.old self.new report out.old out.new (called_by self.old c (retry_acts self.old)).acts × G.tells reg.new (called_by self.old c (retry_acts self.old)).register) }
-        ensures acted { IfOk result (λ report. (s : Fixed) × IsSpecFor self.old.sequencer.log s × (d : Ends) × Acted self.old self.new report out.old out.new (tried (shows s) (retry_acts self.old) d)) }
+            → IfOk result (λ report. Acted self.old self.new report out.old out.new (called_by self.old c (retry_acts (looks_of self.old c) self.old)).acts × G.tells reg.new (called_by self.old c (retry_acts (looks_of self.old c) self.old)).register) }
+        ensures acted { IfOk result (λ report. ActedBy self.old self.new report out.old out.new (λ looks. retry_acts looks self.old)) }
         ensures held { (c : Contents) → G.holds reg.old c
-            → IfOk result (λ report. (is_some report.register ≡ true) ⊎ (Acted self.old self.new report out.old out.new (called_by self.old c (retry_acts self.old)).acts × G.holds reg.new (called_by self.old c (retry_acts self.old)).register)) }
+            → IfOk result (λ report. (is_some report.register ≡ true) ⊎ (Acted self.old self.new report out.old out.new (called_by self.old c (retry_acts (looks_of self.old c) self.old)).acts × G.holds reg.new (called_by self.old c (retry_acts (looks_of self.old c) self.old)).register)) }
         ensures failed { IfOk result (λ report. report.register ≡ Some unclosed.Failed → Rose (G.faults reg.old) (G.faults reg.new)) }
         ensures full { G.told reg.old → IfOk result (λ report. report.register ≡ Some unclosed.Full → (c : Contents) × G.holds reg.old c × (is_full c close_length ≡ true)) }
         ensures steady { IfOk result (λ report. (report.register ≡ Some unclosed.Failed) ⊎ (G.faults reg.new ≡ G.faults reg.old)) }
-        ensures unfailed { IfErr result (λ fault. (fault ≡ faults.NoMemory) ⊎ (G.faults reg.new ≡ G.faults reg.old)) }
-        ensures refused { IfErr result (λ fault. IsRefused self.old self.new fault out.old out.new (retry_acts self.old)) }
-        ensures caused { G.told reg.old → IfErr result (IsCaused (G.holds reg.old) (G.damaged reg.old) self.old.sequencer.log) }
+        ensures unfailed { IfErr result (λ fault. (fault ≡ faults.NoMemory) ⊎ (fault ≡ faults.Register registers.Failed) ⊎ (G.faults reg.new ≡ G.faults reg.old)) }
+        ensures unseen { IsErrOf result (faults.Register registers.Failed) → Rose (G.faults reg.old) (G.faults reg.new) }
+        ensures refused { IfErr result (λ fault. Unlooked self.old self.new fault out.old out.new (raised_whole self.old).sequencer (pending_stores (raised_whole self.old)) (λ looks. retry_acts looks self.old) ⊎ ((looks : ℕ → View) → IsRefused self.old self.new fault out.old out.new (retry_acts looks self.old))) }
+        ensures caused { G.told reg.old → IfErr result (λ fault. (fault ≡ faults.Register registers.Failed) ⊎ IsCaused (G.holds reg.old) (G.damaged reg.old) self.old.sequencer.log fault) }
         ensures crowded { (c : Contents) → G.tells reg.old c
             → IfErr result (λ fault. (fault ≡ faults.NoMemory) ⊎ ((fault ≡ faults.Register registers.LogLimit) × (is_crowded c self.old.sequencer.log ≡ true) × G.tells reg.new c)) }
-        ensures room { (c : Contents) → G.tells reg.old c → OnOk result (((retry_acts self.old).tries ≡ []) ⊎ (is_crowded c self.old.sequencer.log ≡ false)) }
+        ensures room { (c : Contents) → G.tells reg.old c → OnOk result (((retry_acts (looks_of self.old c) self.old).tries ≡ []) ⊎ (is_crowded c self.old.sequencer.log ≡ false)) }
         ensures told { G.told reg.old → G.told reg.new }
-        ensures done_or_not { G.told reg.old → ChangedOrNot (G.may_hold reg.old) (G.may_hold reg.new) (λ c. after_tries c self.old.sequencer.log (retry_acts self.old).tries) }
-        ensures keeps { IfErr result (λ fault. (fault ≡ faults.NoMemory) ⊎ Keeps (G.holds reg.old) (G.holds reg.new) (G.may_hold reg.old) (G.may_hold reg.new)) }
+        ensures done_or_not { (looks : ℕ → View) → G.told reg.old → ChangedOrNot (G.may_hold reg.old) (G.may_hold reg.new) (λ c. after_tries c self.old.sequencer.log (retry_acts looks self.old).tries) }
+        ensures keeps { IfErr result (λ fault. (fault ≡ faults.NoMemory) ⊎ (fault ≡ faults.Register registers.Failed) ⊎ Keeps (G.holds reg.old) (G.holds reg.new) (G.may_hold reg.old) (G.may_hold reg.new)) }
         ensures itself { G.identity reg.new ≡ G.identity reg.old }
         ensures counts { G.faults reg.old ≤ G.faults reg.new }
         ensures messages { AreMessages out.old → AreMessages out.new }
@@ -282,7 +295,8 @@ impl Sequencer {
         Ok(Sequencer { own, recovery })
     }
 
-    /// What a message does without a close. This is shown of the epoch whose recovery it begins, where it begins one.
+    /// What a message that leaves the recovery with no spent digest does without a close. `next` is shown of the epoch whose
+    /// recovery it begins, where it begins one.
     fn hear(
         &mut self,
         alloc: Global,
@@ -292,6 +306,7 @@ impl Sequencer {
     ) -> Result<Report, NoMemory>
         requires message { IsMessage msg.now }
         requires next { IsSpecFor self.old.sequencer.log next.now }
+        requires quiet { spends_by self.old msg.now.from msg.now.body ≡ false }
         ensures acted { IfOk result (λ report. Acted self.old self.new report out.old out.new (reply_acts (shows next.now) self.old msg.now.from msg.now.body)) }
         ensures fresh { IsFresh self.old (reply_acts (shows next.now) self.old msg.now.from msg.now.body) }
         ensures failed { IfOk result (λ report. report.register ≡ None) }

@@ -1,7 +1,7 @@
 // Sequencers of a log that stores on two of three nodes, 1, 2 and 3 at first, over a register on a disk in memory.
 ghost use Rattle.std.specs.Prelude.{IfOk};
 ghost use Rattle.ld_register.specs.Bounds.{IsSpec};
-ghost use Rattle.ld_msg.specs.Bounds.{IsMessage};
+ghost use Rattle.ld_msg.specs.Bounds.{IsMessage, IsSummary};
 ghost use Rattle.ld_recovery.specs.Recovering.{IsReplyTo};
 
 use crate::{CloseFault, Report, Sequencer, SequencerFault};
@@ -66,46 +66,120 @@ fn new_register(alloc: Global) -> Result<DiskRegister<MemDisk>, NoMemory> {
     }
 }
 
-// The register's next writing call will fail.
-fn will_fail(reg: &mut DiskRegister<MemDisk>) {
-    reg.arm(Fault::FailAt(1));
-}
-
-// The register, loaded anew from its disk, whose first read fails.
-fn unread(alloc: Global, reg: DiskRegister<MemDisk>) -> DiskRegister<MemDisk> {
-    let mut disk = reg.into_disk();
-    disk.fail_read_at(1);
-    DiskRegister::new(alloc, disk)
-}
-
 // The sequencer of the next epoch, with these nodes fixed for it.
-fn next_on<G: Register>(
+fn next_on(
     alloc: Global,
     numbers: [u8; 3],
-    reg: &mut G,
+    reg: &mut DiskRegister<MemDisk>,
     out: &mut Outbox,
 ) -> Result<Sequencer, SequencerFault> {
     let spec = on_nodes(numbers)?;
     Sequencer::activate(alloc, &all_nodes(), &spec, &spec, reg, out)
 }
 
-// The sequencer of the next epoch, on the first nodes.
-fn next<G: Register>(
-    alloc: Global,
-    reg: &mut G,
-    out: &mut Outbox,
-) -> Result<Sequencer, SequencerFault> {
-    next_on(alloc, [1, 2, 3], reg, out)
+// A sequencer with its register, and what was sent.
+#[derive(Drop)]
+struct Run {
+    reg: DiskRegister<MemDisk>,
+    out: Outbox,
+    sequencer: Sequencer,
 }
 
-// A register on an empty disk, and the first sequencer from it.
-fn begins(
-    alloc: Global,
-    out: &mut Outbox,
-) -> Result<(DiskRegister<MemDisk>, Sequencer), SequencerFault> {
+// The last one of these sequencers, each with its nodes.
+fn last_of(alloc: Global, first: [u8; 3], others: &[[u8; 3]]) -> Result<Run, SequencerFault> {
     let mut reg = new_register(alloc)?;
-    let first = next(alloc, &mut reg, out)?;
-    Ok((reg, first))
+    let mut out = Outbox::empty(alloc);
+    let mut sequencer = next_on(alloc, first, &mut reg, &mut out)?;
+    for numbers in others {
+        sequencer = next_on(alloc, *numbers, &mut reg, &mut out)?;
+    }
+    Ok(Run {
+        reg,
+        out,
+        sequencer,
+    })
+}
+
+// The last one of these sequencers, each with its nodes.
+fn run_on(alloc: Global, first: [u8; 3], others: &[[u8; 3]]) -> Result<Run, NoMemory> {
+    match last_of(alloc, first, others) {
+        Ok(run) => Ok(run),
+        Err(_) => Err(NoMemory),
+    }
+}
+
+// The register, loaded anew from its disk, whose first read fails.
+fn unread(alloc: Global, run: Run) -> Run {
+    let Run {
+        reg,
+        out,
+        sequencer,
+    } = run;
+    let mut disk = reg.into_disk();
+    disk.fail_read_at(1);
+    Run {
+        reg: DiskRegister::new(alloc, disk),
+        out,
+        sequencer,
+    }
+}
+
+// What happens to a sequencer, its register and the first places of epoch 1.
+#[derive(Clone, Copy)]
+enum Step {
+    // One byte is appended.
+    Appends,
+    // The node stored what has the first place.
+    Stores(u8),
+    // The node has nothing of the epoch.
+    HasNothing(u8),
+    // The node is lost for the epoch.
+    Loses(u8),
+    // A node says that the epoch is closed.
+    Closed,
+    // All that is wanted is sent again.
+    Retries,
+    // The next sequencer of the log is activated, on the first nodes.
+    Next,
+    // The next sequencer closes the epoch in the register.
+    Closes,
+    // The register's next writing call will fail.
+    Fails,
+}
+
+// How epoch 1 is closed.
+fn summary() -> Summary
+    ensures { IsSummary 1 result }
+{
+    Summary {
+        ballot: 2,
+        lng: 0,
+        trim: Lsn::from_u64(0),
+        end: 1,
+        loss: false,
+    }
+}
+
+// Epoch 1 is closed.
+fn closed() -> Body
+    ensures { IsReplyTo 2 result }
+{
+    Body::CleanHere {
+        number: Lsn::new(1, 1),
+        summary: summary(),
+    }
+}
+
+// A node is lost for epoch 1.
+fn lost() -> Body
+    ensures { IsReplyTo 2 result }
+{
+    Body::LostHere {
+        number: Lsn::new(1, 1),
+        round: 0,
+        generation: 1,
+        end: Lsn::from_u64(0),
+    }
 }
 
 // A node's reply.
@@ -125,40 +199,23 @@ fn reply(node: u8, body: Body) -> Result<Msg, NoMemory>
     Err(NoMemory)
 }
 
-// A reply comes.
-fn comes<G: Register>(
-    alloc: Global,
-    sequencer: &mut Sequencer,
-    msg: &Msg,
-    reg: &mut G,
-    out: &mut Outbox,
-) -> Result<Report, SequencerFault>
-    requires { IsMessage msg.now }
+// A node's reply comes.
+fn comes(alloc: Global, run: &mut Run, node: u8, body: Body) -> Result<Report, SequencerFault>
+    requires { IsReplyTo 2 body }
 {
-    sequencer.on_reply(alloc, msg, reg, out)
+    let msg = reply(node, body)?;
+    run.sequencer
+        .on_reply(alloc, &msg, &mut run.reg, &mut run.out)
 }
 
 // The node stored what has the first place of epoch 1.
-fn stores<G: Register>(
-    alloc: Global,
-    sequencer: &mut Sequencer,
-    node: u8,
-    reg: &mut G,
-    out: &mut Outbox,
-) -> Result<Report, SequencerFault> {
+fn stores(alloc: Global, run: &mut Run, node: u8) -> Result<Report, SequencerFault> {
     let number = Lsn::new(1, 1);
-    let msg = reply(node, Body::Stored { number })?;
-    comes(alloc, sequencer, &msg, reg, out)
+    comes(alloc, run, node, Body::Stored { number })
 }
 
 // The node has nothing of epoch 1.
-fn has_nothing<G: Register>(
-    alloc: Global,
-    sequencer: &mut Sequencer,
-    node: u8,
-    reg: &mut G,
-    out: &mut Outbox,
-) -> Result<Report, SequencerFault> {
+fn has_nothing(alloc: Global, run: &mut Run, node: u8) -> Result<Report, SequencerFault> {
     let body = Body::DigestPage {
         from: Lsn::new(1, 1),
         upto: Lsn::new(1, LAST),
@@ -166,30 +223,124 @@ fn has_nothing<G: Register>(
         lng: 0,
         entries: Entries::empty(alloc),
     };
-    let msg = reply(node, body)?;
-    comes(alloc, sequencer, &msg, reg, out)
+    comes(alloc, run, node, body)
 }
 
-// Epoch 1 is closed, by the sequencer of epoch 2.
-fn closed() -> Body
-    ensures { IsReplyTo 2 result }
-{
-    Body::CleanHere {
-        number: Lsn::new(1, 1),
-        summary: Summary {
-            ballot: 2,
-            lng: 0,
-            trim: Lsn::from_u64(0),
-            end: 1,
-        },
+fn one_byte(alloc: Global) -> Result<Payload, NoMemory> {
+    Ok(Payload::new(Vec::from_elem(alloc, 7, 1)?))
+}
+
+// One byte is appended.
+fn appends(alloc: Global, run: &mut Run) -> Result<Report, SequencerFault> {
+    let payload = one_byte(alloc)?;
+    match run.sequencer.append(alloc, payload, &mut run.out) {
+        Ok(_) => Ok(Report::nothing()),
+        Err(fault) => Err(fault),
     }
 }
 
-// A node says that epoch 1 is closed.
-fn closed_word() -> Result<Msg, NoMemory>
-    ensures { IfOk result IsMessage }
-{
-    reply(1, closed())
+// The next sequencer of the log is activated.
+fn activates(alloc: Global, run: &mut Run) -> Result<Report, SequencerFault> {
+    let mut out = Outbox::empty(alloc);
+    let _ = next_on(alloc, [1, 2, 3], &mut run.reg, &mut out)?;
+    Ok(Report::nothing())
+}
+
+// Epoch 1 is closed in the register.
+fn closes(alloc: Global, run: &mut Run) -> Result<Report, SequencerFault> {
+    let _ = run.reg.close(alloc, log()?, 1, &summary(), false)?;
+    Ok(Report::nothing())
+}
+
+// The register's next writing call will fail.
+fn fails(run: &mut Run) -> Report {
+    run.reg.arm(Fault::FailAt(1));
+    Report::nothing()
+}
+
+// What a step does.
+fn take(alloc: Global, run: &mut Run, step: Step) -> Result<Report, SequencerFault> {
+    match step {
+        Step::Appends => appends(alloc, run),
+        Step::Stores(node) => stores(alloc, run, node),
+        Step::HasNothing(node) => has_nothing(alloc, run, node),
+        Step::Loses(node) => comes(alloc, run, node, lost()),
+        Step::Closed => comes(alloc, run, 1, closed()),
+        Step::Retries => run.sequencer.retry(alloc, &mut run.reg, &mut run.out),
+        Step::Next => activates(alloc, run),
+        Step::Closes => closes(alloc, run),
+        Step::Fails => Ok(fails(run)),
+    }
+}
+
+// What the last of these steps does.
+fn play(alloc: Global, run: &mut Run, steps: &[Step]) -> Result<Report, SequencerFault> {
+    let mut last = Report::nothing();
+    for step in steps {
+        match take(alloc, run, *step) {
+            Ok(report) => last = report,
+            Err(fault) => return Err(fault),
+        }
+    }
+    Ok(last)
+}
+
+// Two nodes have nothing of epoch 1, and one stored its end: one node more, and the sequencer closes it.
+const NEARLY_CLOSED: [Step; 3] = [Step::HasNothing(1), Step::HasNothing(2), Step::Stores(3)];
+
+// One node has nothing of epoch 1, and another is lost: the third one, and no digest can be enough.
+const NEARLY_SPENT: [Step; 2] = [Step::HasNothing(1), Step::Loses(2)];
+
+// The end of epoch 1 that was closed, and what is released then.
+fn closed_at(number: Lsn, released: Lsn) -> Report {
+    Report {
+        acked: None,
+        closed: Some(number),
+        preempted: None,
+        register: None,
+        released: Some(released),
+    }
+}
+
+// Preempted by the sequencer of epoch 3.
+fn preempted() -> Report {
+    Report {
+        acked: None,
+        closed: None,
+        preempted: Some(3),
+        register: None,
+        released: None,
+    }
+}
+
+// What is released.
+fn released(number: Lsn) -> Report {
+    Report {
+        acked: None,
+        closed: None,
+        preempted: None,
+        register: None,
+        released: Some(number),
+    }
+}
+
+// Whether the register shows that epoch 1 is closed, and that something of it is lost or not.
+fn shows_loss(alloc: Global, run: &mut Run, loss: bool) -> bool {
+    let Some(log) = LogId::new(1) else {
+        return false;
+    };
+    match run.reg.look(alloc, log, 1) {
+        Ok(view) => match view.summary {
+            Some(summary) => summary.loss == loss,
+            None => false,
+        },
+        Err(_) => false,
+    }
+}
+
+// Whether so many messages more than these were sent.
+fn sends(run: &Run, sent: usize, more: usize) -> bool {
+    run.out.len() == sent.saturating_add(more)
 }
 
 // Whether a message asks the node for what it has.
@@ -221,181 +372,183 @@ fn are_asked(out: &Outbox, numbers: [u8; 3]) -> bool {
     true
 }
 
-// All that is wanted is sent again.
-fn retries<G: Register>(
-    alloc: Global,
-    sequencer: &mut Sequencer,
-    reg: &mut G,
-    out: &mut Outbox,
-) -> Result<Report, SequencerFault> {
-    sequencer.retry(alloc, reg, out)
-}
-
-// One byte is appended.
-fn appends(
-    alloc: Global,
-    sequencer: &mut Sequencer,
-    out: &mut Outbox,
-) -> Result<Lsn, SequencerFault> {
-    sequencer.append(alloc, one_byte(alloc)?, out)
-}
-
-fn one_byte(alloc: Global) -> Result<Payload, NoMemory> {
-    Ok(Payload::new(Vec::from_elem(alloc, 7, 1)?))
-}
-
-// All up to a place of epoch 1 may go.
-fn trims(sequencer: &Sequencer, esn: u32, out: &mut Outbox) -> Result<(), SequencerFault> {
-    sequencer.trim(Lsn::new(1, esn), out)
-}
-
-// Two nodes have nothing of epoch 1, and one stored its end: one node more, and the sequencer closes it.
-fn recovers<G: Register>(
-    alloc: Global,
-    sequencer: &mut Sequencer,
-    reg: &mut G,
-    out: &mut Outbox,
-) -> Result<(), SequencerFault> {
-    let _ = has_nothing(alloc, sequencer, 1, reg, out)?;
-    let _ = has_nothing(alloc, sequencer, 2, reg, out)?;
-    let _ = stores(alloc, sequencer, 3, reg, out)?;
-    Ok(())
-}
-
-// The sequencer of epoch 2, which lacks one node to close epoch 1.
-fn nearly_closed<G: Register>(
-    alloc: Global,
-    reg: &mut G,
-    out: &mut Outbox,
-) -> Result<Sequencer, SequencerFault> {
-    let _ = next(alloc, reg, out)?;
-    let mut second = next(alloc, reg, out)?;
-    recovers(alloc, &mut second, reg, out)?;
-    Ok(second)
-}
-
 #[test]
 fn an_append_is_released_at_the_second_node(rt: HostRuntime) -> Result<(), Fail> {
     let alloc = rt.alloc();
-    let mut out = Outbox::empty(alloc);
-    let (mut reg, mut first) = begins(alloc, &mut out)?;
-    assert!(rt; first.epoch() == 1);
-    assert!(rt; first.settled());
-    let number = appends(alloc, &mut first, &mut out)?;
-    assert!(rt; number == Lsn::new(1, 1));
-    let one = stores(alloc, &mut first, 1, &mut reg, &mut out)?;
-    assert!(rt; one == Report::nothing());
-    assert!(rt; !first.settled());
-    let two = stores(alloc, &mut first, 2, &mut reg, &mut out)?;
-    assert!(rt; two.acked == Some(number));
-    assert!(rt; two.released == Some(number));
-    assert!(rt; first.settled());
+    let mut run = run_on(alloc, [1, 2, 3], &[])?;
+    assert!(rt; run.sequencer.epoch() == 1);
+    assert!(rt; run.sequencer.settled());
+    let one = play(alloc, &mut run, &[Step::Appends, Step::Stores(1)]);
+    assert!(rt; one == Ok(Report::nothing()));
+    assert!(rt; !run.sequencer.settled());
+    let number = Lsn::new(1, 1);
+    let mut acked = released(number);
+    acked.acked = Some(number);
+    assert!(rt; play(alloc, &mut run, &[Step::Stores(2)]) == Ok(acked));
+    assert!(rt; run.sequencer.settled());
     // two stores, and three times the word that it is released
-    assert!(rt; out.len() == 5);
+    assert!(rt; run.out.len() == 5);
     Ok(())
 }
 
 #[test]
 fn the_next_sequencer_closes_the_epoch(rt: HostRuntime) -> Result<(), Fail> {
     let alloc = rt.alloc();
-    let mut out = Outbox::empty(alloc);
-    let mut reg = new_register(alloc)?;
-    let mut second = nearly_closed(alloc, &mut reg, &mut out)?;
-    assert!(rt; second.released() == Lsn::new(1, 0));
-    assert!(rt; !second.settled());
-    let sent = out.len();
-    let report = stores(alloc, &mut second, 1, &mut reg, &mut out)?;
-    assert!(rt; report.closed == Some(Lsn::new(1, 1)));
-    assert!(rt; report.released == Some(Lsn::new(2, 0)));
+    let mut run = run_on(alloc, [1, 2, 3], &[[1, 2, 3]])?;
+    assert!(rt; play(alloc, &mut run, &NEARLY_CLOSED) == Ok(Report::nothing()));
+    assert!(rt; run.sequencer.released() == Lsn::new(1, 0));
+    assert!(rt; !run.sequencer.settled());
+    let sent = run.out.len();
+    let report = play(alloc, &mut run, &[Step::Stores(1)]);
+    assert!(rt; report == Ok(closed_at(Lsn::new(1, 1), Lsn::new(2, 0))));
     // all three nodes of each epoch hear that it is closed, and what is released
-    assert!(rt; out.len() == sent + 6);
+    assert!(rt; sends(&run, sent, 6));
+    assert!(rt; shows_loss(alloc, &mut run, false));
     Ok(())
 }
 
 #[test]
 fn a_failed_close_is_tried_again_by_a_retry(rt: HostRuntime) -> Result<(), Fail> {
     let alloc = rt.alloc();
-    let mut out = Outbox::empty(alloc);
-    let mut reg = new_register(alloc)?;
-    let mut second = nearly_closed(alloc, &mut reg, &mut out)?;
-    will_fail(&mut reg);
-    let failed = stores(alloc, &mut second, 1, &mut reg, &mut out)?;
-    assert!(rt; failed.register == Some(CloseFault::Failed));
-    let retried = retries(alloc, &mut second, &mut reg, &mut out)?;
-    assert!(rt; retried.closed == Some(Lsn::new(1, 1)));
+    let mut run = run_on(alloc, [1, 2, 3], &[[1, 2, 3]])?;
+    assert!(rt; play(alloc, &mut run, &NEARLY_CLOSED) == Ok(Report::nothing()));
+    let mut failed = Report::nothing();
+    failed.register = Some(CloseFault::Failed);
+    assert!(rt; play(alloc, &mut run, &[Step::Fails, Step::Stores(1)]) == Ok(failed));
+    let retried = play(alloc, &mut run, &[Step::Retries]);
+    assert!(rt; retried == Ok(closed_at(Lsn::new(1, 1), Lsn::new(2, 0))));
     Ok(())
 }
 
 #[test]
 fn an_epochs_nodes_recover_it(rt: HostRuntime) -> Result<(), Fail> {
     let alloc = rt.alloc();
-    let mut out = Outbox::empty(alloc);
-    let mut reg = new_register(alloc)?;
-    let _ = next(alloc, &mut reg, &mut out)?;
-    let mut second = next_on(alloc, [4, 5, 6], &mut reg, &mut out)?;
+    let mut run = run_on(alloc, [1, 2, 3], &[[4, 5, 6]])?;
     // the nodes of epoch 1 are asked, and not those of epoch 2
-    assert!(rt; out.len() == 3);
-    assert!(rt; are_asked(&out, [1, 2, 3]));
-    recovers(alloc, &mut second, &mut reg, &mut out)?;
-    let sent = out.len();
+    assert!(rt; run.out.len() == 3);
+    assert!(rt; are_asked(&run.out, [1, 2, 3]));
+    assert!(rt; play(alloc, &mut run, &NEARLY_CLOSED) == Ok(Report::nothing()));
+    let sent = run.out.len();
     // a node of epoch 2 alone counts for nothing
-    let stranger = stores(alloc, &mut second, 4, &mut reg, &mut out)?;
-    assert!(rt; stranger == Report::nothing());
-    assert!(rt; out.len() == sent);
-    let report = stores(alloc, &mut second, 1, &mut reg, &mut out)?;
-    assert!(rt; report.closed == Some(Lsn::new(1, 1)));
-    assert!(rt; out.len() == sent + 6);
+    assert!(rt; play(alloc, &mut run, &[Step::Stores(4)]) == Ok(Report::nothing()));
+    assert!(rt; run.out.len() == sent);
+    let report = play(alloc, &mut run, &[Step::Stores(1)]);
+    assert!(rt; report == Ok(closed_at(Lsn::new(1, 1), Lsn::new(2, 0))));
+    assert!(rt; sends(&run, sent, 6));
     Ok(())
 }
 
 #[test]
 fn the_next_epoch_is_recovered_on_its_own_nodes(rt: HostRuntime) -> Result<(), Fail> {
     let alloc = rt.alloc();
-    let mut out = Outbox::empty(alloc);
-    let mut reg = new_register(alloc)?;
-    let _ = next(alloc, &mut reg, &mut out)?;
-    let _ = next_on(alloc, [2, 4, 6], &mut reg, &mut out)?;
-    let mut third = next_on(alloc, [1, 3, 5], &mut reg, &mut out)?;
-    out.truncate(0);
-    let word = closed_word()?;
-    let _ = comes(alloc, &mut third, &word, &mut reg, &mut out)?;
+    let mut run = run_on(alloc, [1, 2, 3], &[[2, 4, 6], [1, 3, 5]])?;
+    run.out.truncate(0);
+    let report = play(alloc, &mut run, &[Step::Closed]);
+    assert!(rt; report == Ok(released(Lsn::epoch_end(1))));
     // the nodes of epoch 1 hear that it is closed, those of epoch 3 what is released, and those of epoch 2 are asked
-    assert!(rt; out.len() == 9);
-    assert!(rt; are_asked(&out, [2, 4, 6]));
+    assert!(rt; run.out.len() == 9);
+    assert!(rt; are_asked(&run.out, [2, 4, 6]));
     Ok(())
 }
 
 #[test]
 fn a_failed_look_has_done_nothing(rt: HostRuntime) -> Result<(), Fail> {
     let alloc = rt.alloc();
-    let mut out = Outbox::empty(alloc);
-    let mut reg = new_register(alloc)?;
-    let _ = next(alloc, &mut reg, &mut out)?;
-    let _ = next(alloc, &mut reg, &mut out)?;
-    let mut third = next(alloc, &mut reg, &mut out)?;
-    let mut anew = unread(alloc, reg);
-    let released = third.released();
-    let sent = out.len();
-    let word = closed_word()?;
-    let failed = comes(alloc, &mut third, &word, &mut anew, &mut out);
+    let run = run_on(alloc, [1, 2, 3], &[[1, 2, 3], [1, 2, 3]])?;
+    let mut run = unread(alloc, run);
+    let before = run.sequencer.released();
+    let sent = run.out.len();
+    let failed = play(alloc, &mut run, &[Step::Closed]);
     assert!(rt; failed == Err(SequencerFault::Register(RegisterFault::Failed)));
-    assert!(rt; out.len() == sent);
-    assert!(rt; third.released() == released);
-    let report = comes(alloc, &mut third, &word, &mut anew, &mut out)?;
-    assert!(rt; report.released == Some(Lsn::epoch_end(1)));
-    assert!(rt; out.len() == sent + 9);
+    assert!(rt; run.out.len() == sent);
+    assert!(rt; run.sequencer.released() == before);
+    let report = play(alloc, &mut run, &[Step::Closed]);
+    assert!(rt; report == Ok(released(Lsn::epoch_end(1))));
+    assert!(rt; sends(&run, sent, 9));
     Ok(())
+}
+
+#[test]
+fn a_spent_digest_says_what_is_lost(rt: HostRuntime) -> Result<(), Fail> {
+    let alloc = rt.alloc();
+    let mut run = run_on(alloc, [1, 2, 3], &[[1, 2, 3]])?;
+    assert!(rt; play(alloc, &mut run, &NEARLY_SPENT) == Ok(Report::nothing()));
+    let sent = run.out.len();
+    assert!(rt; play(alloc, &mut run, &[Step::Loses(3)]) == Ok(Report::nothing()));
+    // the epoch's end goes to the one node that isn't lost, which closes it
+    assert!(rt; sends(&run, sent, 1));
+    let report = play(alloc, &mut run, &[Step::Stores(1)]);
+    assert!(rt; report == Ok(closed_at(Lsn::new(1, 1), Lsn::new(2, 0))));
+    assert!(rt; shows_loss(alloc, &mut run, true));
+    Ok(())
+}
+
+#[test]
+fn a_spent_digest_is_preempted_by_a_greater_epoch(rt: HostRuntime) -> Result<(), Fail> {
+    let alloc = rt.alloc();
+    let mut run = run_on(alloc, [1, 2, 3], &[[1, 2, 3]])?;
+    assert!(rt; play(alloc, &mut run, &NEARLY_SPENT) == Ok(Report::nothing()));
+    let sent = run.out.len();
+    assert!(rt; play(alloc, &mut run, &[Step::Next, Step::Loses(3)]) == Ok(preempted()));
+    assert!(rt; run.out.len() == sent);
+    Ok(())
+}
+
+#[test]
+fn a_spent_digest_of_a_closed_epoch_is_passed(rt: HostRuntime) -> Result<(), Fail> {
+    let alloc = rt.alloc();
+    let mut run = run_on(alloc, [1, 2, 3], &[[1, 2, 3]])?;
+    assert!(rt; play(alloc, &mut run, &NEARLY_SPENT) == Ok(Report::nothing()));
+    let sent = run.out.len();
+    let report = play(alloc, &mut run, &[Step::Closes, Step::Loses(3)]);
+    assert!(rt; report == Ok(released(Lsn::new(2, 0))));
+    assert!(rt; sends(&run, sent, 6));
+    Ok(())
+}
+
+#[test]
+fn a_short_close_is_overtaken(rt: HostRuntime) -> Result<(), Fail> {
+    let alloc = rt.alloc();
+    let mut run = run_on(alloc, [1, 2, 3], &[[1, 2, 3]])?;
+    assert!(rt; play(alloc, &mut run, &NEARLY_SPENT) == Ok(Report::nothing()));
+    let report = play(
+        alloc,
+        &mut run,
+        &[Step::Loses(3), Step::Next, Step::Stores(1)],
+    );
+    assert!(rt; report == Ok(preempted()));
+    Ok(())
+}
+
+#[test]
+fn a_retry_looks_again(rt: HostRuntime) -> Result<(), Fail> {
+    let alloc = rt.alloc();
+    let mut run = run_on(alloc, [1, 2, 3], &[[1, 2, 3]])?;
+    assert!(rt; play(alloc, &mut run, &NEARLY_SPENT) == Ok(Report::nothing()));
+    let mut run = unread(alloc, run);
+    let sent = run.out.len();
+    let failed = play(alloc, &mut run, &[Step::Loses(3)]);
+    assert!(rt; failed == Err(SequencerFault::Register(RegisterFault::Failed)));
+    assert!(rt; run.out.len() == sent);
+    assert!(rt; play(alloc, &mut run, &[Step::Retries]) == Ok(Report::nothing()));
+    assert!(rt; sends(&run, sent, 1));
+    let report = play(alloc, &mut run, &[Step::Stores(1)]);
+    assert!(rt; report == Ok(closed_at(Lsn::new(1, 1), Lsn::new(2, 0))));
+    Ok(())
+}
+
+// All up to a place of epoch 1 may go.
+fn trims(run: &mut Run, esn: u32) -> Result<(), SequencerFault> {
+    run.sequencer.trim(Lsn::new(1, esn), &mut run.out)
 }
 
 #[test]
 fn a_trim_goes_up_to_what_is_released(rt: HostRuntime) -> Result<(), Fail> {
     let alloc = rt.alloc();
-    let mut out = Outbox::empty(alloc);
-    let (_, first) = begins(alloc, &mut out)?;
-    let past = trims(&first, 1, &mut out);
-    assert!(rt; past == Err(SequencerFault::PastReleased(Lsn::new(1, 0))));
-    trims(&first, 0, &mut out)?;
+    let mut run = run_on(alloc, [1, 2, 3], &[])?;
+    assert!(rt; trims(&mut run, 1) == Err(SequencerFault::PastReleased(Lsn::new(1, 0))));
+    assert!(rt; trims(&mut run, 0) == Ok(()));
     // all nodes hear it
-    assert!(rt; out.len() == 6);
+    assert!(rt; run.out.len() == 6);
     Ok(())
 }

@@ -1,4 +1,4 @@
-use Rattle.std.proofs.Common.{◌≡◌, ◌&&◌, ◌==◌, true, ap, sym, subst, ◌∙◌}
+use Rattle.std.proofs.Common.{◌≡◌, ◌&&◌, ◌==◌, true, sym, subst, ◌∙◌}
 use Rattle.std.specs.Option.{option_eq}
 use Rattle.ld_register.specs.declared.register.Grant.{Grant}
 use Rattle.ld_sequencer.proofs.Comparing.{grants_are, grant_itself, is_same_spec, specs_are, spec_itself}

@@ -6,19 +6,19 @@ use Rattle.ld_sequencer.proofs.whole.Sequencer.finish.Goals as goal
 
 pub returns-clause-acted : goal.returns-clause-acted
 returns-clause-acted c =
-    let w = c.args.self.now in let o = c.self.inside.own in let m = c.self.inside.recovery in let e = c.args.epoch in let y = c.args.summary.now in
+    let w = c.args.self.now in let o = c.self.inside.own in let m = c.self.inside.recovery in let t = c.args.due.now in
     elim c.match-take.branch [
       | in-Some+in_ok-closed-in-Some+in-Seals-1 d ↦
           let r = d.in-Some.recovery in let k = sym c.take.ensures.value ∙ d.in-Some.is in
-          made_acted (shows c.args.next.now) w c.go_on.new.self o m r e c.released-before.result c.new.result y c.risen.result c.args.out.now c.match-take.out c.go_on.new.out c.self.view_is c.self.invariant k c.requires.due c.released-before.ensures c.new.ensures
-          (d.out-is ∙ d.in_ok-closed-in-Some.ensures.sent y (is_closing o m r w e y c.self.view_is c.self.invariant k c.requires.due)) c.in_ok-go_on.ensures.now c.in_ok-go_on.ensures.out c.risen.ensures
+          made_acted (shows c.args.next.now) w c.go_on.new.self o m r t c.released-before.result c.new.result c.risen.result c.args.out.now c.match-take.out c.go_on.new.out c.self.view_is c.self.invariant k c.requires.due c.released-before.ensures c.new.ensures
+          (d.out-is ∙ d.in_ok-closed-in-Some.ensures.sent t.summary t.short (is_closing o m r w t c.self.view_is c.self.invariant k c.requires.due)) c.in_ok-go_on.ensures.now c.in_ok-go_on.ensures.out c.risen.ensures
       | in-Some+in_ok-closed-in-Some+in-Stores-1 d ↦
           let r = d.in-Some.recovery in let k = sym c.take.ensures.value ∙ d.in-Some.is in
-          made_acted (shows c.args.next.now) w c.go_on.new.self o m r e c.released-before.result c.new.result y c.risen.result c.args.out.now c.match-take.out c.go_on.new.out c.self.view_is c.self.invariant k c.requires.due c.released-before.ensures c.new.ensures
-          (d.out-is ∙ d.in_ok-closed-in-Some.ensures.sent y (is_closing o m r w e y c.self.view_is c.self.invariant k c.requires.due)) c.in_ok-go_on.ensures.now c.in_ok-go_on.ensures.out c.risen.ensures
+          made_acted (shows c.args.next.now) w c.go_on.new.self o m r t c.released-before.result c.new.result c.risen.result c.args.out.now c.match-take.out c.go_on.new.out c.self.view_is c.self.invariant k c.requires.due c.released-before.ensures c.new.ensures
+          (d.out-is ∙ d.in_ok-closed-in-Some.ensures.sent t.summary t.short (is_closing o m r w t c.self.view_is c.self.invariant k c.requires.due)) c.in_ok-go_on.ensures.now c.in_ok-go_on.ensures.out c.risen.ensures
       | in-Some+in_ok-closed-in-Some+in-Closes-1 d ↦
           let r = d.in-Some.recovery in let k = sym c.take.ensures.value ∙ d.in-Some.is in
-          made_acted (shows c.args.next.now) w c.go_on.new.self o m r e c.released-before.result c.new.result y c.risen.result c.args.out.now c.match-take.out c.go_on.new.out c.self.view_is c.self.invariant k c.requires.due c.released-before.ensures c.new.ensures
-          (d.out-is ∙ d.in_ok-closed-in-Some.ensures.sent y (is_closing o m r w e y c.self.view_is c.self.invariant k c.requires.due)) c.in_ok-go_on.ensures.now c.in_ok-go_on.ensures.out c.risen.ensures
-      | in-None d ↦ absurd (is_held o m w e y c.self.view_is (sym c.take.ensures.value ∙ d.in-None.is) c.requires.due)
+          made_acted (shows c.args.next.now) w c.go_on.new.self o m r t c.released-before.result c.new.result c.risen.result c.args.out.now c.match-take.out c.go_on.new.out c.self.view_is c.self.invariant k c.requires.due c.released-before.ensures c.new.ensures
+          (d.out-is ∙ d.in_ok-closed-in-Some.ensures.sent t.summary t.short (is_closing o m r w t c.self.view_is c.self.invariant k c.requires.due)) c.in_ok-go_on.ensures.now c.in_ok-go_on.ensures.out c.risen.ensures
+      | in-None d ↦ absurd (is_held o m w t c.self.view_is (sym c.take.ensures.value ∙ d.in-None.is) c.requires.due)
     ]

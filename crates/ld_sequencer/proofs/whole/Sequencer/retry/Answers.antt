@@ -1,9 +1,9 @@
 use Rattle.std.proofs.Common.{◌≡◌, ◌++◌, ◌∙◌, sym, ap, inr, false}
 use Rattle.ld_msg.specs.Register.{is_crowded}
 use Rattle.std.proofs.Common.{is_some}
-use Rattle.ld_sequencer.specs.Whole.{Whole, joined, sent_as, pending_stores}
+use Rattle.ld_sequencer.specs.Whole.{Whole, joined, sent_as, raised_whole, pending_stores}
 use Rattle.ld_sequencer.proofs.Serving.{first_of}
-use Rattle.ld_sequencer.proofs.Retrying.{still_exact, still_acted, still_room, raised_whole, retry_exact, retry_acted, retry_held, retry_refused, retry_room, retry_changed}
+use Rattle.ld_sequencer.proofs.Retrying.{still_exact, still_acted, still_room, retry_exact, retry_acted, retry_held, retry_refused, retry_room, retry_changed}
 use Rattle.ld_sequencer.proofs.whole.Sequencer.retry.Goals as goal
 
 pub returns-then-is_preempted-clause-exact : goal.returns-then-is_preempted-clause-exact
@@ -20,7 +20,7 @@ returns-then-is_preempted-clause-held g c = λ x h. let w = c.args.self.now in l
 
 pub returns-then-is_preempted-clause-room : goal.returns-then-is_preempted-clause-room
 returns-then-is_preempted-clause-room g c = λ x h. let w = c.args.self.now in let t = c.nothing.ensures in let p = ap (λ (z : Whole). is_some z.sequencer.preempted) (sym c.self.view_is) ∙ (sym c.is_preempted.ensures ∙ c.if-is_preempted.true) in
-    still_room w (is_crowded x w.sequencer.log ≡ false) p
+    still_room w x (is_crowded x w.sequencer.log ≡ false) p
 
 pub returns-clause-exact : goal.returns-clause-exact
 returns-clause-exact g c = λ x h.
@@ -65,20 +65,20 @@ returns-clause-room g c = λ x h.
     let e = ap raised_whole (sym c.self.view_is) ∙ ap (λ x. joined x m) (sym c.raise.ensures) in
     let p = ap (λ (z : Whole). is_some z.sequencer.preempted) (sym c.self.view_is) ∙ (sym c.is_preempted.ensures ∙ c.if-is_preempted.false) in
     let s = c.in_ok-send.ensures.sent ∙ ap (λ (z : Whole). om ++ sent_as z (pending_stores z)) c.self-2.view_is in
-    retry_room w v r (λ l. is_crowded x l ≡ false) e p (c.retry_recovery-report.ensures.room x h)
+    retry_room w v r x (λ l. is_crowded x l ≡ false) e p (c.retry_recovery-report.ensures.room x h)
 
 pub returns-in_err-send-clause-done_or_not : goal.returns-in_err-send-clause-done_or_not
-returns-in_err-send-clause-done_or_not g c = λ t.
+returns-in_err-send-clause-done_or_not g c = λ looks t.
     let w = c.args.self.now in let m = c.self.inside.recovery in
     let v = joined c.raise.new.self m in
     let e = ap raised_whole (sym c.self.view_is) ∙ ap (λ x. joined x m) (sym c.raise.ensures) in
     let p = ap (λ (z : Whole). is_some z.sequencer.preempted) (sym c.self.view_is) ∙ (sym c.is_preempted.ensures ∙ c.if-is_preempted.false) in
-    retry_changed w v (g.G.Register.may_hold c.args.reg.now) (g.G.Register.may_hold c.retry_recovery-report.new.reg) e p (c.retry_recovery-report.ensures.done_or_not t)
+    retry_changed looks w v (g.G.Register.may_hold c.args.reg.now) (g.G.Register.may_hold c.retry_recovery-report.new.reg) e p (c.retry_recovery-report.ensures.done_or_not looks t)
 
 pub returns-clause-done_or_not : goal.returns-clause-done_or_not
-returns-clause-done_or_not g c = λ t.
+returns-clause-done_or_not g c = λ looks t.
     let w = c.args.self.now in let m = c.self.inside.recovery in
     let v = joined c.raise.new.self m in
     let e = ap raised_whole (sym c.self.view_is) ∙ ap (λ x. joined x m) (sym c.raise.ensures) in
     let p = ap (λ (z : Whole). is_some z.sequencer.preempted) (sym c.self.view_is) ∙ (sym c.is_preempted.ensures ∙ c.if-is_preempted.false) in
-    retry_changed w v (g.G.Register.may_hold c.args.reg.now) (g.G.Register.may_hold c.retry_recovery-report.new.reg) e p (c.retry_recovery-report.ensures.done_or_not t)
+    retry_changed looks w v (g.G.Register.may_hold c.args.reg.now) (g.G.Register.may_hold c.retry_recovery-report.new.reg) e p (c.retry_recovery-report.ensures.done_or_not looks t)

@@ -1,37 +1,46 @@
-use Rattle.std.proofs.Common.{◌≡◌, ◌∙◌, sym, false}
-use Rattle.ld_msg.specs.Register.{Granted, is_crowded}
-use Rattle.ld_sequencer.specs.Looks.{shows}
-use Rattle.ld_sequencer.specs.Whole.{recovery_acts}
-use Rattle.ld_sequencer.proofs.Serving.{first_of}
-use Rattle.ld_sequencer.proofs.Closing.{asked_acted, tries_due, into_exact, into_acted, into_held, into_changed}
+use Rattle.std.proofs.Common.{◌≡◌, ◌⊎◌, ◌∙◌, IfErr, sym, true, false}
+use Rattle.ld_register.specs.declared.fault.RegisterFault.TheVariants as registers
+use Rattle.ld_sequencer.specs.declared.fault.SequencerFault.TheVariants as faults
+use Rattle.ld_msg.specs.Register.{is_crowded}
+use Rattle.ld_sequencer.proofs.Asking.{recovery_exact, recovery_acted, recovery_held, recovery_refused, recovery_room, recovery_changed, recovery_caused, recovery_log}
 use Rattle.ld_sequencer.proofs.whole.Sequencer.retry_recovery.Goals as goal
 
-pub returns-in-Some-clause-exact : goal.returns-in-Some-clause-exact
-returns-in-Some-clause-exact g c = λ x h.
-    let w = c.args.self.now in let e = c.in-Some.epoch in let y = c.in-Some.summary in
-    into_exact w c.close.new.self w.sequencer c.close.result c.args.out.now c.close.new.out (recovery_acts w) e y x (is_crowded x w.sequencer.log ≡ false) (g.G.Register.tells c.close.new.reg) (tries_due w e y (sym c.closing.ensures.closing ∙ c.in-Some.is)) (c.close.ensures.exact x h)
+pub returns-clause-exact : goal.returns-clause-exact
+returns-clause-exact g c = λ x h.
+    let u = sym c.is_spent.ensures ∙ c.if-is_spent.false in
+    recovery_exact c.args.self.now c.try_again.new.self c.empty-sends.result c.try_again.new.out u (λ looks. c.in_ok-try_again.ensures.now looks) c.empty-sends.ensures (λ looks. c.in_ok-try_again.ensures.out looks) c.close_due-report.new.self c.close_due-report.result c.args.out.now c.close_due-report.new.out c.send_all.new.out x (g.G.Register.tells c.close_due-report.new.reg) c.in_ok-send_all.ensures.sent (c.close_due-report.ensures.exact x h)
 
-pub returns-in-Some-clause-acted : goal.returns-in-Some-clause-acted
-returns-in-Some-clause-acted g c =
-    let w = c.args.self.now in let e = c.in-Some.epoch in let y = c.in-Some.summary in
-    into_acted w c.close.new.self w.sequencer c.close.result c.args.out.now c.close.new.out (recovery_acts w) e y (tries_due w e y (sym c.closing.ensures.closing ∙ c.in-Some.is)) c.close.ensures.acted
+pub returns-clause-acted : goal.returns-clause-acted
+returns-clause-acted g c =
+    let u = sym c.is_spent.ensures ∙ c.if-is_spent.false in
+    recovery_acted c.args.self.now c.try_again.new.self c.empty-sends.result c.try_again.new.out u (λ looks. c.in_ok-try_again.ensures.now looks) c.empty-sends.ensures (λ looks. c.in_ok-try_again.ensures.out looks) c.close_due-report.new.self c.close_due-report.result c.args.out.now c.close_due-report.new.out c.send_all.new.out c.in_ok-send_all.ensures.sent c.close_due-report.ensures.acted
 
-pub returns-in-Some-clause-held : goal.returns-in-Some-clause-held
-returns-in-Some-clause-held g c = λ x h.
-    let w = c.args.self.now in let e = c.in-Some.epoch in let y = c.in-Some.summary in
-    into_held w c.close.new.self w.sequencer c.close.result c.args.out.now c.close.new.out (recovery_acts w) e y x (g.G.Register.holds c.close.new.reg) (tries_due w e y (sym c.closing.ensures.closing ∙ c.in-Some.is)) (c.close.ensures.held x h)
+pub returns-clause-held : goal.returns-clause-held
+returns-clause-held g c = λ x h.
+    let u = sym c.is_spent.ensures ∙ c.if-is_spent.false in
+    recovery_held c.args.self.now c.try_again.new.self c.empty-sends.result c.try_again.new.out u (λ looks. c.in_ok-try_again.ensures.now looks) c.empty-sends.ensures (λ looks. c.in_ok-try_again.ensures.out looks) c.close_due-report.new.self c.close_due-report.result c.args.out.now c.close_due-report.new.out c.send_all.new.out x (g.G.Register.holds c.close_due-report.new.reg) c.in_ok-send_all.ensures.sent (c.close_due-report.ensures.held x h)
 
-pub returns-in-Some-clause-done_or_not : goal.returns-in-Some-clause-done_or_not
-returns-in-Some-clause-done_or_not g c = λ t.
-    let w = c.args.self.now in let e = c.in-Some.epoch in let y = c.in-Some.summary in
-    into_changed w w.sequencer (recovery_acts w) e y (g.G.Register.may_hold c.args.reg.now) (g.G.Register.may_hold c.close.new.reg) (tries_due w e y (sym c.closing.ensures.closing ∙ c.in-Some.is)) (c.close.ensures.done_or_not t)
+pub returns-clause-refused : goal.returns-clause-refused
+returns-clause-refused g c =
+    let u = sym c.is_spent.ensures ∙ c.if-is_spent.false in
+    recovery_refused c.args.self.now c.try_again.new.self c.empty-sends.result c.try_again.new.out u (λ looks. c.in_ok-try_again.ensures.now looks) c.empty-sends.ensures (λ looks. c.in_ok-try_again.ensures.out looks) c.close_due-report.new.self c.close_due-report.result c.args.out.now c.close_due-report.new.out c.send_all.new.out c.in_ok-send_all.ensures.sent c.close_due-report.ensures.refused
 
-pub returns-in_ok-ask_again-in-None-clause-acted : goal.returns-in_ok-ask_again-in-None-clause-acted
-returns-in_ok-ask_again-in-None-clause-acted g c =
-    let w = c.args.self.now in let t = c.nothing.ensures in (
-      w.origin.first,
-      first_of w c.self.inside.own c.self.inside.recovery c.self.view_is c.self.invariant,
-      Granted,
-      asked_acted (shows w.origin.first) w c.ask_again.new.self c.nothing.result c.args.out.now c.ask_again.new.out Granted
-          (sym c.closing.ensures.closing ∙ c.in-None.is) c.in_ok-ask_again-in-None.ensures.now c.in_ok-ask_again-in-None.ensures.out t.acked t.closed t.preempted t.failed t.released,
-    )
+pub returns-clause-room : goal.returns-clause-room
+returns-clause-room g c = λ x h.
+    let u = sym c.is_spent.ensures ∙ c.if-is_spent.false in
+    recovery_room c.args.self.now c.try_again.new.self c.empty-sends.result c.try_again.new.out u (λ looks. c.in_ok-try_again.ensures.now looks) c.empty-sends.ensures (λ looks. c.in_ok-try_again.ensures.out looks) c.close_due-report.result x (λ l. is_crowded x l ≡ false) (c.close_due-report.ensures.room x h)
+
+pub returns-clause-done_or_not : goal.returns-clause-done_or_not
+returns-clause-done_or_not g c = λ looks t.
+    let u = sym c.is_spent.ensures ∙ c.if-is_spent.false in
+    recovery_changed c.args.self.now c.try_again.new.self c.empty-sends.result c.try_again.new.out u (λ looks. c.in_ok-try_again.ensures.now looks) c.empty-sends.ensures (λ looks. c.in_ok-try_again.ensures.out looks) looks (g.G.Register.may_hold c.args.reg.now) (g.G.Register.may_hold c.close_due-report.new.reg) (c.close_due-report.ensures.done_or_not t)
+
+pub returns-clause-caused : goal.returns-clause-caused
+returns-clause-caused g c = λ t.
+    let u = sym c.is_spent.ensures ∙ c.if-is_spent.false in
+    recovery_caused c.args.self.now c.try_again.new.self c.empty-sends.result c.try_again.new.out u (λ looks. c.in_ok-try_again.ensures.now looks) c.empty-sends.ensures (λ looks. c.in_ok-try_again.ensures.out looks) c.close_due-report.result (g.G.Register.holds c.args.reg.now) (g.G.Register.damaged c.args.reg.now) (c.close_due-report.ensures.caused t)
+
+pub returns-clause-crowded : goal.returns-clause-crowded
+returns-clause-crowded g c = λ x h.
+    let u = sym c.is_spent.ensures ∙ c.if-is_spent.false in
+    recovery_log c.args.self.now c.try_again.new.self c.empty-sends.result c.try_again.new.out u (λ looks. c.in_ok-try_again.ensures.now looks) c.empty-sends.ensures (λ looks. c.in_ok-try_again.ensures.out looks) (λ l. IfErr c.close_due-report.result (λ fault. (fault ≡ faults.NoMemory) ⊎ ((fault ≡ faults.Register registers.LogLimit) × (is_crowded x l ≡ true) × g.G.Register.tells c.close_due-report.new.reg x))) (c.close_due-report.ensures.crowded x h)
