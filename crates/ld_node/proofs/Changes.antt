@@ -96,7 +96,7 @@ module _ (g : Log) (well : (e : ℕ) (y : Summary) → find e g.summaries ≡ So
   page_change l from to (bodies.Release n) p log fits same = absurd cc
   page_change l from to (bodies.Trim t) p log fits same = absurd cc
   page_change l from to (bodies.ReadAsk r n) p log fits same = absurd cc
-  page_change l from to (bodies.ReadEnded r n e) p log fits same = absurd cc
+  page_change l from to (bodies.ReadEnded r n e lossy) p log fits same = absurd cc
   page_change l from to (bodies.ReadWait r n e) p log fits same = absurd cc
 
   on_page_change : (l : ℕ) (from to : Who) (b : Body) (p : Op) → IsLog l → Fits from to b → (on_page g l b).op ≡ Some p → IsChange p
@@ -120,6 +120,6 @@ module _ (g : Log) (well : (e : ℕ) (y : Summary) → find e g.summaries ≡ So
   handled_change n l r from to (bodies.DigestPage first upto trim lng es) p log fits same = on_page_change l from to (bodies.DigestPage first upto trim lng es) p log fits same
   handled_change n l r from to (bodies.Release s) p log fits same = on_page_change l from to (bodies.Release s) p log fits same
   handled_change n l r from to (bodies.ReadPage ro s u c es) p log fits same = on_page_change l from to (bodies.ReadPage ro s u c es) p log fits same
-  handled_change n l r from to (bodies.ReadEnded ro s e) p log fits same = on_page_change l from to (bodies.ReadEnded ro s e) p log fits same
+  handled_change n l r from to (bodies.ReadEnded ro s e lossy) p log fits same = on_page_change l from to (bodies.ReadEnded ro s e lossy) p log fits same
   handled_change n l r from to (bodies.ReadTrim ro s t) p log fits same = on_page_change l from to (bodies.ReadTrim ro s t) p log fits same
   handled_change n l r from to (bodies.ReadWait ro s e) p log fits same = on_page_change l from to (bodies.ReadWait ro s e) p log fits same

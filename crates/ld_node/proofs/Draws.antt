@@ -4,7 +4,7 @@ use Rattle.std.specs.Prelude.{nat_le, nat_lt}
 use Rattle.std.specs.Result.{IsErr, IsErrAnd}
 use Rattle.std.proofs.lemmas.Bool.{leb-true}
 use Rattle.ld_table.specs.Table.{put}
-use Rattle.ld_msg.specs.Register.{Register, Changed, Answer, Granted, AtLimit, Behind, Fails, generation_of, generation_limit, journal_limit, record_length, falls, change, draw}
+use Rattle.ld_msg.specs.Register.{Register, Changed, Answer, Granted, AtLimit, Behind, Overtaken, Fails, generation_of, generation_limit, journal_limit, record_length, falls, change, draw}
 use Rattle.ld_register.specs.Calls.{drawn, after_draw, handed, ended, is_full, draw_length, IsFree}
 use Rattle.ld_register.specs.declared.register.Drawn.{Drawn}
 use Rattle.ld_register.specs.declared.fault.RegisterFault.{RegisterFault}
@@ -18,6 +18,7 @@ at_limit : (a : Answer) (full : Bool) (x : Drawn) → not_drawn faults.GenLimit 
 at_limit Granted full x is = absurd (cc is)
 at_limit AtLimit full x is = refl
 at_limit (Behind lce) full x is = absurd (cc is)
+at_limit (Overtaken kept) full x is = absurd (cc is)
 at_limit Fails true x is = absurd (cc is)
 at_limit Fails false x is = absurd (cc is)
 
@@ -25,6 +26,7 @@ is_past : (a : Answer) (full : Bool) (x : Drawn) → not_drawn faults.Full ≡ e
 is_past Granted full x is = absurd (cc is)
 is_past AtLimit full x is = absurd (cc is)
 is_past (Behind lce) full x is = absurd (cc is)
+is_past (Overtaken kept) full x is = absurd (cc is)
 is_past Fails true x is = refl
 is_past Fails false x is = absurd (cc is)
 
@@ -75,6 +77,7 @@ passed_back faults.Failed told is = sym (fault_is told _ is)
 passed_back (faults.Damaged place) told is = sym (fault_is told _ is)
 passed_back faults.LogLimit told is = sym (fault_is told _ is)
 passed_back (faults.Behind lce next) told is = sym (fault_is told _ is)
+passed_back (faults.Overtaken kept) told is = sym (fault_is told _ is)
 passed_back faults.EpochLimit told is = sym (fault_is told _ is)
 passed_back faults.GenLimit told is = sym (fault_is told _ is)
 passed_back faults.Full told is = sym (fault_is told _ is)
@@ -98,6 +101,7 @@ module _ (holds holds_now : Register → Type 0) (n : ℕ) where
   generations_end (faults.Damaged place) is whole answers = absurd (cc is)
   generations_end faults.LogLimit is whole answers = absurd (cc is)
   generations_end (faults.Behind lce next) is whole answers = absurd (cc is)
+  generations_end (faults.Overtaken kept) is whole answers = absurd (cc is)
   generations_end faults.EpochLimit is whole answers = absurd (cc is)
   generations_end faults.Full is whole answers = absurd (cc is)
 
@@ -112,5 +116,6 @@ module _ (holds holds_now : Register → Type 0) (n : ℕ) where
   room_ends (faults.Damaged place) is whole answers = absurd (cc is)
   room_ends faults.LogLimit is whole answers = absurd (cc is)
   room_ends (faults.Behind lce next) is whole answers = absurd (cc is)
+  room_ends (faults.Overtaken kept) is whole answers = absurd (cc is)
   room_ends faults.EpochLimit is whole answers = absurd (cc is)
   room_ends faults.GenLimit is whole answers = absurd (cc is)

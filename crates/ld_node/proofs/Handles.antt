@@ -87,7 +87,7 @@ page_case gen g l bal r (bodies.Release n) h d c t a = refl
 page_case gen g l bal r (bodies.Trim x) h d c t a = absurd (t x refl)
 page_case gen g l bal r (bodies.ReadAsk ro n) h d c t a = absurd (a ro n refl)
 page_case gen g l bal r (bodies.ReadPage ro n u x es) h d c t a = refl
-page_case gen g l bal r (bodies.ReadEnded ro n e) h d c t a = refl
+page_case gen g l bal r (bodies.ReadEnded ro n e lossy) h d c t a = refl
 page_case gen g l bal r (bodies.ReadTrim ro n x) h d c t a = refl
 page_case gen g l bal r (bodies.ReadWait ro n x) h d c t a = refl
 
@@ -109,6 +109,6 @@ digest_body (bodies.Release n) h = absurd h
 digest_body (bodies.Trim x) h = absurd h
 digest_body (bodies.ReadAsk ro n) h = absurd h
 digest_body (bodies.ReadPage ro n u x es) h = absurd h
-digest_body (bodies.ReadEnded ro n e) h = absurd h
+digest_body (bodies.ReadEnded ro n e lossy) h = absurd h
 digest_body (bodies.ReadTrim ro n x) h = absurd h
 digest_body (bodies.ReadWait ro n x) h = absurd h

@@ -1,4 +1,5 @@
 pub mod Handles
+pub mod Loading
 pub mod Changes
 pub mod Quiet
 pub mod Looks

@@ -38,7 +38,7 @@ number_keeps_none n g l bal r (bodies.Clean e z) y is = absurd cc
 number_keeps_none n g l bal r (bodies.Trim t) y is = absurd cc
 number_keeps_none n g l bal r (bodies.ReadAsk ro s) y is = absurd cc
 number_keeps_none n g l bal r (bodies.ReadPage ro s u c es) y is = absurd cc
-number_keeps_none n g l bal r (bodies.ReadEnded ro s e) y is = absurd cc
+number_keeps_none n g l bal r (bodies.ReadEnded ro s e lossy) y is = absurd cc
 number_keeps_none n g l bal r (bodies.ReadTrim ro s t) y is = absurd cc
 number_keeps_none n g l bal r (bodies.ReadWait ro s e) y is = absurd cc
 

@@ -5,6 +5,8 @@ use Rattle.ld_journal.specs.Format.{append_calls}
 use Rattle.ld_op.specs.Plain.{Plain, apply, op_length}
 use Rattle.ld_op.specs.Bytes.{op_bytes}
 use Rattle.ld_op.specs.declared.op.Op.{Op}
+use Rattle.ld_op.specs.declared.record.Record.{Record}
+use Rattle.ld_op.specs.declared.record.Record.TheVariants.{Now}
 use Rattle.ld_op.specs.Bounds.{IsOp}
 use Rattle.ld_store.specs.Ops.{is_format}
 
@@ -19,9 +21,10 @@ abbrev pub kept : Option Op → Plain → Plain
 kept None p = p
 kept (Some o) p = apply p o
 
-abbrev pub with_op : List Op → Option Op → List Op
-with_op os None = os
-with_op os (Some o) = os ++ o ∷ []
+-- the records with that of the op
+abbrev pub with_op : List Record → Option Op → List Record
+with_op vs None = vs
+with_op vs (Some o) = vs ++ Now o ∷ []
 
 -- the writing calls of its record at this place
 abbrev pub calls_of : ℕ → Option Op → List Call

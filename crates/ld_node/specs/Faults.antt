@@ -20,6 +20,7 @@ of_register registers.Failed = nodes.Register registers.Failed
 of_register (registers.Damaged place) = nodes.Register (registers.Damaged place)
 of_register registers.LogLimit = nodes.Register registers.LogLimit
 of_register (registers.Behind lce next) = nodes.Register (registers.Behind lce next)
+of_register (registers.Overtaken kept) = nodes.Register (registers.Overtaken kept)
 of_register registers.EpochLimit = nodes.Register registers.EpochLimit
 of_register registers.GenLimit = nodes.Register registers.GenLimit
 of_register registers.Full = nodes.Register registers.Full

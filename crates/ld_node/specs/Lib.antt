@@ -1,6 +1,7 @@
 pub mod Handling
 pub mod Changes
 pub mod Faults
+pub mod Loads
 pub mod Msgs
 pub mod Known
 pub mod Draws

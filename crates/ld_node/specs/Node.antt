@@ -1,7 +1,7 @@
 -- What a node is, as contracts see it.
 use Rattle.std.specs.Prelude.{ℕ, List, Option, Bool}
 use Rattle.ld_disk.specs.declared.disk.Disk.{Ghosts}
-use Rattle.ld_op.specs.declared.op.Op.{Op}
+use Rattle.ld_op.specs.declared.record.Record.{Record}
 use Rattle.ld_op.specs.Plain.{Plain}
 use Rattle.ld_store.specs.Open as stores
 use Rattle.ld_node.specs.Known.{Known}
@@ -39,10 +39,10 @@ module _ {D : Type 0} {g : Ghosts D} where
   plain_of node = stores.plain_of node.store
 
 module _ {D : Type 0} {g : Ghosts D} (seen : D → Option (List ℕ)) (may_leave : D → List ℕ → Type 0) where
-  -- its store holds these ops
-  abbrev pub Holds : Node D g → List Op → Type 0
-  Holds node ops = stores.Holds seen may_leave node.store ops
+  -- its store holds these records
+  abbrev pub Holds : Node D g → List Record → Type 0
+  Holds node found = stores.Holds seen may_leave node.store found
 
-  -- it holds the ops that these bytes are a journal of
+  -- it holds the records that these bytes are a journal of, and a mark behind those of the first version
   abbrev pub IsOpened : Node D g → List ℕ → Type 0
   IsOpened node bytes = stores.IsOpened seen may_leave node.store bytes

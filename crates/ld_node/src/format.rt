@@ -4,7 +4,8 @@ ghost use Rattle.ld_io.specs.Causes.{Rose};
 ghost use Rattle.ld_disk.specs.Images.{IsHonest};
 ghost use Rattle.ld_disk.specs.Moments.{LeavesOnly, Unchanged};
 ghost use Rattle.ld_disk.specs.Plain.{Plain as DiskPlain};
-ghost use Rattle.ld_op.specs.declared.op.Op.{Op as Kind};
+ghost use Rattle.ld_op.specs.declared.record.Record.{Record as Kind};
+ghost use Rattle.ld_op.specs.declared.record.Record.TheVariants.{Now};
 ghost use Rattle.ld_op.specs.Bounds.{IsOp};
 ghost use Rattle.ld_op.specs.Plain.{apply};
 ghost use Rattle.ld_store.specs.Ops.{StandsForEither};
@@ -31,9 +32,9 @@ pub(crate) fn format_store<D: Disk>(
     requires works { must_load store.old ≡ false }
     ensures given { IfOk result (λ given. given ≡ drawn) }
     ensures applied { IfOk result (λ given. (plain_of store.new ≡ apply (plain_of store.old) (format_of drawn)) × (is_blank store.new ≡ false)) }
-    ensures acknowledged { (ops : List Kind) → Holds D.seen D.may_leave store.old ops
-        → IfOk result (λ given. Holds D.seen D.may_leave store.new (ops ++ format_of drawn ∷ [])) }
-    ensures any_moment { (ops : List Kind) → Holds D.seen D.may_leave store.old ops
+    ensures acknowledged { (found : List Kind) → Holds D.seen D.may_leave store.old found
+        → IfOk result (λ given. Holds D.seen D.may_leave store.new (found ++ Now (format_of drawn) ∷ [])) }
+    ensures any_moment { (found : List Kind) → Holds D.seen D.may_leave store.old found
         → LeavesOnly D.moment D.left_since (disk_of store.old) (disk_of store.new) (StandsForEither (plain_of store.old) (apply (plain_of store.old) (format_of drawn))) }
     ensures exact { (disk : DiskPlain) → D.plain (disk_of store.old) ≡ Some disk
         → IsErrOf result NodeFault.NoMemory ⊎ KeepsFormat (place_of store.old) disk drawn (D.plain (disk_of store.new)) result }
@@ -51,7 +52,7 @@ pub(crate) fn format_store<D: Disk>(
     ensures failed { IsErrOf result NodeFault.Disk → Rose (D.faults (disk_of store.old)) (D.faults (disk_of store.new)) }
     ensures stays { OnErr result (IsErrOf result NodeFault.Disk ⊎ Unchanged D.seen D.may_leave D.moment D.left_since (disk_of store.old) (disk_of store.new)) }
     ensures keeps { OnErr result (IsErrOf result NodeFault.Disk ⊎ ((D.plain (disk_of store.new) ≡ D.plain (disk_of store.old)) × (place_of store.new ≡ place_of store.old))) }
-    ensures holds { (ops : List Kind) → Holds D.seen D.may_leave store.old ops → OnErr result (IsErrOf result NodeFault.Disk ⊎ Holds D.seen D.may_leave store.new ops) }
+    ensures holds { (found : List Kind) → Holds D.seen D.may_leave store.old found → OnErr result (IsErrOf result NodeFault.Disk ⊎ Holds D.seen D.may_leave store.new found) }
 {
     let epochs = copy(alloc, &drawn.epochs)?;
     store.format(alloc, drawn.gen_, epochs)?;

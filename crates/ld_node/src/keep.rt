@@ -4,7 +4,7 @@ ghost use Rattle.ld_io.specs.Causes.{Rose};
 ghost use Rattle.ld_disk.specs.Images.{IsHonest};
 ghost use Rattle.ld_disk.specs.Moments.{LeavesOnly, Unchanged};
 ghost use Rattle.ld_disk.specs.Plain.{Plain as DiskPlain, after_calls, all_succeed};
-ghost use Rattle.ld_op.specs.declared.op.Op.{Op as Kind};
+ghost use Rattle.ld_op.specs.declared.record.Record.{Record as Kind};
 ghost use Rattle.ld_store.specs.Ops.{StandsForEither};
 ghost use Rattle.ld_store.specs.Open.{disk_of, place_of, must_load, is_blank, plain_of, Holds};
 ghost use Rattle.ld_node.specs.Changes.{AreChanges, kept, with_op, calls_of, IsPast};
@@ -25,8 +25,8 @@ pub(crate) fn keep<D: Disk>(
     requires op { AreChanges op }
     requires formatted { is_blank store.old ≡ false }
     requires works { must_load store.old ≡ false }
-    ensures acknowledged { (ops : List Kind) → Holds D.seen D.may_leave store.old ops → OnOk result (Holds D.seen D.may_leave store.new (with_op ops op)) }
-    ensures any_moment { (ops : List Kind) → Holds D.seen D.may_leave store.old ops
+    ensures acknowledged { (found : List Kind) → Holds D.seen D.may_leave store.old found → OnOk result (Holds D.seen D.may_leave store.new (with_op found op)) }
+    ensures any_moment { (found : List Kind) → Holds D.seen D.may_leave store.old found
         → LeavesOnly D.moment D.left_since (disk_of store.old) (disk_of store.new) (StandsForEither (plain_of store.old) (kept op (plain_of store.old))) }
     ensures none { op ≡ None → result ≡ Ok tt }
     ensures none_kept { op ≡ None → store.new ≡ store.old }
@@ -48,7 +48,7 @@ pub(crate) fn keep<D: Disk>(
     ensures failed { IsErrOf result NodeFault.Disk → Rose (D.faults (disk_of store.old)) (D.faults (disk_of store.new)) }
     ensures stays { OnErr result (IsErrOf result NodeFault.Disk ⊎ Unchanged D.seen D.may_leave D.moment D.left_since (disk_of store.old) (disk_of store.new)) }
     ensures keeps { OnErr result (IsErrOf result NodeFault.Disk ⊎ ((D.plain (disk_of store.new) ≡ D.plain (disk_of store.old)) × (place_of store.new ≡ place_of store.old))) }
-    ensures holds { (ops : List Kind) → Holds D.seen D.may_leave store.old ops → OnErr result (IsErrOf result NodeFault.Disk ⊎ Holds D.seen D.may_leave store.new ops) }
+    ensures holds { (found : List Kind) → Holds D.seen D.may_leave store.old found → OnErr result (IsErrOf result NodeFault.Disk ⊎ Holds D.seen D.may_leave store.new found) }
 {
     match op {
         Some(op) => {

@@ -2,7 +2,6 @@
 ghost use Rattle.std.specs.Prelude.{◌≡◌, OnOk, OnErr, IfOk};
 ghost use Rattle.std.specs.Option.{unwrap_or};
 ghost use Rattle.ld_table.specs.Table.{find, put};
-ghost use Rattle.ld_op.specs.Answers.{on_release};
 ghost use Rattle.ld_op.specs.Handles.{answer_message};
 ghost use Rattle.ld_msg.specs.Bounds.{Is64, IsMessage};
 ghost use Rattle.ld_node_bounds.specs.Messages.{AreMessages};
@@ -51,18 +50,6 @@ pub(crate) fn released_in(released: &BTreeMap<u32, Lsn>, log: LogId) -> Lsn
     number
 }
 
-/// The greater of two released numbers.
-#[tactic(auto, unfolding(ld_op::specs::Answers::on_release))]
-fn later(before: Lsn, number: Lsn) -> Lsn
-    ensures { result ≡ on_release before number }
-{
-    if before.value() < number.value() {
-        number
-    } else {
-        before
-    }
-}
-
 /// The number that a message releases at the node of this number, where it does.
 #[tactic(auto, unfolding(crate::specs::Msgs::released_by))]
 pub(crate) fn released_by(id: NodeId, known: &Known, msg: &Msg) -> Option<Lsn>
@@ -78,7 +65,7 @@ pub(crate) fn released_by(id: NodeId, known: &Known, msg: &Msg) -> Option<Lsn>
 }
 
 /// Raises the released number of a log, where one is told. Without memory nothing changes.
-#[tactic(auto, unfolding(ld_table::specs::Table::put))]
+#[tactic(auto, unfolding(ld_table::specs::Table::put, ld_op::specs::Answers::on_release))]
 pub(crate) fn release(
     released: &mut BTreeMap<u32, Lsn>,
     log: LogId,
@@ -91,7 +78,7 @@ pub(crate) fn release(
         return Ok(());
     };
     let before = released_in(released, log);
-    match released.insert(log.number(), later(before, number)) {
+    match released.insert(log.number(), before.later(number)) {
         Ok(_) => Ok(()),
         Err(_) => Err(NoMemory),
     }

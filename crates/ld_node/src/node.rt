@@ -34,10 +34,12 @@ impl<D: Disk> Node<D> {
     ghost use Rattle.ld_disk.specs.Moments.{LeavesOnly, Unchanged};
     ghost use Rattle.ld_disk.specs.Plain.{Plain as DiskPlain, after_call, succeeds, after_calls, all_succeed, reads_fine, armed_with};
     ghost use Rattle.ld_msg.specs.Bounds.{IsMessage};
-    ghost use Rattle.ld_op.specs.declared.op.Op.{Op as Kind};
+    ghost use Rattle.ld_op.specs.declared.record.Record.{Record as Kind};
+    ghost use Rattle.ld_op.specs.declared.record.Record.TheVariants.{Now};
     ghost use Rattle.ld_op.specs.Handles.{answer_message};
     ghost use Rattle.ld_node_bounds.specs.Messages.{AreMessages};
-    ghost use Rattle.ld_store.specs.Ops.{StandsFor, StandsForEither, IsDamaged};
+    ghost use Rattle.ld_store.specs.Ops.{StandsFor, StandsForEither, IsOfFirst, HasNoRoom, IsDamaged};
+    ghost use Rattle.ld_store.specs.Loads.{LeftOrMarked, Loads};
     ghost use Rattle.ld_op.specs.Plain.{apply};
     ghost use Rattle.ld_msg.specs.Register.{Register as Contents, generation_of};
     ghost use Rattle.ld_register.specs.Calls.{drawn as drawn_by, after_draw, ChangedOrNot, IsFree, Keeps, is_full, draw_length};
@@ -48,6 +50,7 @@ impl<D: Disk> Node<D> {
     ghost use Rattle.ld_node.specs.Known.{known_in};
     ghost use Rattle.ld_op.specs.Bounds.{IsOp};
     ghost use Rattle.ld_node.specs.Draws.{answered, not_drawn};
+    ghost use Rattle.ld_node.specs.Loads.{LoadRefused};
     ghost use Rattle.ld_node.specs.Changes.{AreChanges, kept, with_op, calls_of, IsPast};
     ghost use Rattle.ld_node.specs.Msgs.{handled, released_after};
     ghost use Rattle.ld_node.specs.Formats.{format_of, FormatsBy, LeftByFormat};
@@ -55,12 +58,13 @@ impl<D: Disk> Node<D> {
     ghost use Rattle.ld_node.specs.Looks.{ticked, op_of, answer_of, IsOfLook, AskMessages};
     ghost use Rattle.ld_node.specs.Node.{id_of, known_of, released_of, disk_of, place_of, must_load, is_blank, plain_of, Holds, IsOpened};
 
-    /// Loads the node of this number from its disk, in one writing call. It knows the nodes and the logs of the
-    /// configuration. Nothing is released yet.
+    /// Loads the node of this number from its disk, in one writing call. A journal of the first version is then marked
+    /// as one of the second, in four writing calls more; that leaves the plain state as it is. The node knows the nodes
+    /// and the logs of the configuration. Nothing is released yet.
     ///
     /// A refusal hands the disk back: `Disk` where a call of it failed, `Damaged(place)` where the record whose gate
-    /// is at that place is cut short, or its body is no op that may stand there, or the disk has no byte at all, and
-    /// `NoMemory`.
+    /// is at that place is cut short, or its body is none that may stand there, or the disk has no byte at all, `Full`
+    /// where a mark would make the journal longer than 2^40 bytes, and `NoMemory`.
     pub fn load(
         alloc: Global,
         id: NodeId,
@@ -74,21 +78,30 @@ impl<D: Disk> Node<D> {
         ensures counts { MatchResult result (λ node. D.faults disk ≤ D.faults (disk_of node)) (λ e. D.faults disk ≤ D.faults e.0) }
         ensures steady { MatchResult result (λ node. D.faults (disk_of node) ≡ D.faults disk) (λ e. (e.1 ≡ NodeFault.Disk) ⊎ (D.faults e.0 ≡ D.faults disk)) }
 
-        // A crash at any moment leaves what a crash before the call might have left.
-        ensures any_moment { MatchResult result (λ node. LeavesOnly D.moment D.left_since disk (disk_of node) (D.may_leave disk))
-            (λ e. LeavesOnly D.moment D.left_since disk e.0 (D.may_leave disk)) }
+        // A crash at any moment leaves what a crash before the call might have left, or the journal of the first
+        // version with a mark or without it.
+        ensures any_moment { IfSome (D.seen disk) (λ bytes. MatchResult result (λ node. LeavesOnly D.moment D.left_since disk (disk_of node) (LeftOrMarked (D.may_leave disk) bytes))
+            (λ e. LeavesOnly D.moment D.left_since disk e.0 (LeftOrMarked (D.may_leave disk) bytes))) }
 
-        // Where the disk tells what each call will do, and no read of it fails, it is one writing call.
-        ensures exact { (p : DiskPlain) → D.plain disk ≡ Some p → reads_fine p ≡ true
+        // Where the disk tells what each call will do, no read of it fails, and it has no journal of the first version,
+        // it is one writing call.
+        ensures exact { (p : DiskPlain) → D.plain disk ≡ Some p → reads_fine p ≡ true → ¬ IsOfFirst p.state.bytes
             → MatchResult result (λ node. (D.plain (disk_of node) ≡ Some (after_call None p)) × (succeeds p ≡ true))
             (λ e. ((e.1 ≡ NodeFault.NoMemory) × ((D.plain e.0 ≡ Some p) ⊎ (D.plain e.0 ≡ Some (after_call None p)))) ⊎ ((D.plain e.0 ≡ Some (after_call None p)) × ((e.1 ≡ NodeFault.Disk) ↔ (succeeds p ≡ false)))) }
 
-        ensures seen { MatchResult result (λ node. D.seen (disk_of node) ≡ D.seen disk) (λ e. (e.1 ≡ NodeFault.Disk) ⊎ (D.seen e.0 ≡ D.seen disk)) }
+        // Where it has one, it is five.
+        ensures marks { (p : DiskPlain) (was : IsOfFirst p.state.bytes) → D.plain disk ≡ Some p → reads_fine p ≡ true
+            → MatchResult result (λ node. Loads was.found p (D.plain (disk_of node)) None) (λ e. LoadRefused was.found p (D.plain e.0) e.1) }
+
+        ensures seen { MatchResult result (λ node. (D.seen (disk_of node) ≡ D.seen disk) ⊎ IfSome (D.seen disk) IsOfFirst) (λ e. (e.1 ≡ NodeFault.Disk) ⊎ (D.seen e.0 ≡ D.seen disk)) }
         ensures failed { IfErr result (λ e. e.1 ≡ NodeFault.Disk → Rose (D.faults disk) (D.faults e.0)) }
         ensures damaged { IfErr result (λ e. (place : ℕ) → e.1 ≡ NodeFault.Damaged place → IfSome (D.seen disk) (IsDamaged place)) }
         ensures honest { IfErr result (λ e. IsHonest (D.seen disk) → ((c : List ℕ) → D.may_leave disk c → (state : _) × StandsFor state c)
             → (place : ℕ) → e.1 ≢ NodeFault.Damaged place) }
-        ensures full { IfErr result (λ e. e.1 ≢ NodeFault.Full) }
+
+        // It is full exactly where a mark has no room.
+        ensures full { IfErr result (λ e. e.1 ≡ NodeFault.Full → IfSome (D.seen disk) HasNoRoom) }
+        ensures too_long { IfOk result (λ _. IfSome (D.seen disk) (λ bytes. ¬ HasNoRoom bytes)) }
         ensures needs_load { IfErr result (λ e. e.1 ≢ NodeFault.NeedsLoad) }
         ensures register { IfErr result (λ e. (fault : Refusal) → e.1 ≢ NodeFault.Register fault) }
     {
@@ -129,7 +142,7 @@ impl<D: Disk> Node<D> {
         ensures faults { D.faults (disk_of self.new) ≡ D.faults (disk_of self.old) }
         ensures rest { (plain_of self.new ≡ plain_of self.old) × (released_of self.new ≡ released_of self.old) × (id_of self.new ≡ id_of self.old) × (known_of self.new ≡ known_of self.old) × (is_blank self.new ≡ is_blank self.old) × (must_load self.new ≡ must_load self.old) }
         ensures place { place_of self.new ≡ place_of self.old }
-        ensures holds { (ops : List Kind) → Holds D.seen D.may_leave self.old ops → Holds D.seen D.may_leave self.new ops }
+        ensures holds { (found : List Kind) → Holds D.seen D.may_leave self.old found → Holds D.seen D.may_leave self.new found }
     {
         self.store.arm(fault);
     }
@@ -155,11 +168,11 @@ impl<D: Disk> Node<D> {
         ensures rest { (id_of self.new ≡ id_of self.old) × (known_of self.new ≡ known_of self.old) × (is_blank self.new ≡ false) }
 
         // At `Ok` the op is durable: from then on each crash leaves a journal that has it.
-        ensures acknowledged { (ops : List Kind) → Holds D.seen D.may_leave self.old ops
-            → OnOk result (Holds D.seen D.may_leave self.new (with_op ops (handled (id_of self.old) (known_of self.old) (released_of self.old) (plain_of self.old) msg.now).op)) }
+        ensures acknowledged { (found : List Kind) → Holds D.seen D.may_leave self.old found
+            → OnOk result (Holds D.seen D.may_leave self.new (with_op found (handled (id_of self.old) (known_of self.old) (released_of self.old) (plain_of self.old) msg.now).op)) }
 
         // A crash at any moment of the call leaves what stands for the plain state before it or for that with the op.
-        ensures any_moment { (ops : List Kind) → Holds D.seen D.may_leave self.old ops
+        ensures any_moment { (found : List Kind) → Holds D.seen D.may_leave self.old found
             → LeavesOnly D.moment D.left_since (disk_of self.old) (disk_of self.new) (StandsForEither (plain_of self.old) (kept (handled (id_of self.old) (known_of self.old) (released_of self.old) (plain_of self.old) msg.now).op (plain_of self.old))) }
 
         // Where the disk tells what each call will do, it is the four writing calls of the op's record, or none.
@@ -186,8 +199,8 @@ impl<D: Disk> Node<D> {
         // Another refusal than `Disk` changes nothing.
         ensures stays { OnErr result (IsErrOf result NodeFault.Disk ⊎ Unchanged D.seen D.may_leave D.moment D.left_since (disk_of self.old) (disk_of self.new)) }
         ensures keeps { OnErr result (IsErrOf result NodeFault.Disk ⊎ ((D.plain (disk_of self.new) ≡ D.plain (disk_of self.old)) × (place_of self.new ≡ place_of self.old))) }
-        ensures holds { (ops : List Kind) → Holds D.seen D.may_leave self.old ops
-            → OnErr result (IsErrOf result NodeFault.Disk ⊎ Holds D.seen D.may_leave self.new ops) }
+        ensures holds { (found : List Kind) → Holds D.seen D.may_leave self.old found
+            → OnErr result (IsErrOf result NodeFault.Disk ⊎ Holds D.seen D.may_leave self.new found) }
     {
         if self.store.needs_load() {
             return Err(NodeFault::NeedsLoad);
@@ -225,11 +238,11 @@ impl<D: Disk> Node<D> {
         ensures applied { IfOk result (λ drawn. (plain_of self.new ≡ apply (plain_of self.old) (format_of drawn)) × (is_blank self.new ≡ false)) }
 
         // At `Ok` the format is durable: from then on each crash leaves a journal that has it.
-        ensures acknowledged { (ops : List Kind) → Holds D.seen D.may_leave self.old ops
-            → IfOk result (λ drawn. Holds D.seen D.may_leave self.new (ops ++ format_of drawn ∷ [])) }
+        ensures acknowledged { (found : List Kind) → Holds D.seen D.may_leave self.old found
+            → IfOk result (λ drawn. Holds D.seen D.may_leave self.new (found ++ Now (format_of drawn) ∷ [])) }
 
         // A crash at any moment of the call leaves what stands for the plain state before it or for that with the format.
-        ensures any_moment { (ops : List Kind) → Holds D.seen D.may_leave self.old ops
+        ensures any_moment { (found : List Kind) → Holds D.seen D.may_leave self.old found
             → LeavesOnly D.moment D.left_since (disk_of self.old) (disk_of self.new)
             (LeftByFormat (plain_of self.old) (λ drawn. (c : Contents) → G.holds reg.old c → answered drawn ≡ drawn_by c (id_of self.old))) }
 
@@ -258,6 +271,7 @@ impl<D: Disk> Node<D> {
         ensures register_full { IsErrOf result (NodeFault.Register faults.Full) → G.told reg.old → (c : Contents) × G.holds reg.old c × (is_full c draw_length ≡ true) }
         ensures logs { result ≢ Err (NodeFault.Register faults.LogLimit) }
         ensures behind { (lce : ℕ) (next : Option Fixed) → result ≢ Err (NodeFault.Register (faults.Behind lce next)) }
+        ensures overtaken { (kept : ℕ) → result ≢ Err (NodeFault.Register (faults.Overtaken kept)) }
         ensures epochs { result ≢ Err (NodeFault.Register faults.EpochLimit) }
         ensures register_damaged { (place : ℕ) → IsErrOf result (NodeFault.Register (faults.Damaged place)) → G.told reg.old → G.damaged reg.old place }
 
@@ -286,8 +300,8 @@ impl<D: Disk> Node<D> {
         // Another refusal than `Disk` changes nothing of the node.
         ensures stays { OnErr result (IsErrOf result NodeFault.Disk ⊎ Unchanged D.seen D.may_leave D.moment D.left_since (disk_of self.old) (disk_of self.new)) }
         ensures keeps { OnErr result (IsErrOf result NodeFault.Disk ⊎ ((D.plain (disk_of self.new) ≡ D.plain (disk_of self.old)) × (place_of self.new ≡ place_of self.old))) }
-        ensures holds { (ops : List Kind) → Holds D.seen D.may_leave self.old ops
-            → OnErr result (IsErrOf result NodeFault.Disk ⊎ Holds D.seen D.may_leave self.new ops) }
+        ensures holds { (found : List Kind) → Holds D.seen D.may_leave self.old found
+            → OnErr result (IsErrOf result NodeFault.Disk ⊎ Holds D.seen D.may_leave self.new found) }
     {
         if self.store.needs_load() {
             return Err(NodeFault::NeedsLoad);
@@ -328,11 +342,11 @@ impl<D: Disk> Node<D> {
         ensures foreign { must_load self.old ≡ false → is_in log (known_of self.old).logs ≡ false → (result ≡ Ok answers.Nothing) × (self.new ≡ self.old) × (reg.new ≡ reg.old) }
 
         // At `Ok` the op is durable: from then on each crash leaves a journal that has it.
-        ensures acknowledged { (ops : List Kind) (c : Contents) → Holds D.seen D.may_leave self.old ops → G.holds reg.old c
-            → OnOk result (Holds D.seen D.may_leave self.new (with_op ops (op_of log (ticked (known_of self.old) (plain_of self.old) log c)))) }
+        ensures acknowledged { (found : List Kind) (c : Contents) → Holds D.seen D.may_leave self.old found → G.holds reg.old c
+            → OnOk result (Holds D.seen D.may_leave self.new (with_op found (op_of log (ticked (known_of self.old) (plain_of self.old) log c)))) }
 
         // A crash at any moment of the call leaves what stands for the plain state before it or for that with the op.
-        ensures any_moment { (ops : List Kind) (c : Contents) → Holds D.seen D.may_leave self.old ops → G.holds reg.old c
+        ensures any_moment { (found : List Kind) (c : Contents) → Holds D.seen D.may_leave self.old found → G.holds reg.old c
             → LeavesOnly D.moment D.left_since (disk_of self.old) (disk_of self.new) (StandsForEither (plain_of self.old) (kept (op_of log (ticked (known_of self.old) (plain_of self.old) log c)) (plain_of self.old))) }
 
         // Where the disk tells what each call will do, it is the four writing calls of the op's record, or none.
@@ -378,8 +392,8 @@ impl<D: Disk> Node<D> {
         // Another refusal than `Disk` changes nothing.
         ensures stays { OnErr result (IsErrOf result NodeFault.Disk ⊎ Unchanged D.seen D.may_leave D.moment D.left_since (disk_of self.old) (disk_of self.new)) }
         ensures keeps { OnErr result (IsErrOf result NodeFault.Disk ⊎ ((D.plain (disk_of self.new) ≡ D.plain (disk_of self.old)) × (place_of self.new ≡ place_of self.old))) }
-        ensures holds { (ops : List Kind) → Holds D.seen D.may_leave self.old ops
-            → OnErr result (IsErrOf result NodeFault.Disk ⊎ Holds D.seen D.may_leave self.new ops) }
+        ensures holds { (found : List Kind) → Holds D.seen D.may_leave self.old found
+            → OnErr result (IsErrOf result NodeFault.Disk ⊎ Holds D.seen D.may_leave self.new found) }
     {
         if self.store.needs_load() {
             return Err(NodeFault::NeedsLoad);

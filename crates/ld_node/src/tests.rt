@@ -80,6 +80,16 @@ fn loaded(alloc: Global, disk: MemDisk) -> Result<Node<MemDisk>, NodeFault> {
     }
 }
 
+/// A disk with the format under generation 1, as the first version of journals wrote it.
+fn older_disk(alloc: Global) -> Result<MemDisk, Fail> {
+    let bytes = [1, 0, 0, 0, 6, 1, 0, 0, 0, 1, 0, 0];
+    let mut disk = new_disk(alloc)?;
+    disk.reserve(bytes.len() as u64, 2)?;
+    disk.write_at(0, &bytes)?;
+    disk.sync()?;
+    Ok(disk)
+}
+
 /// The generation under which a blank node is formatted.
 fn drawn<D: Disk, R: Register>(
     alloc: Global,
@@ -247,13 +257,14 @@ fn summary() -> Summary
         lng: 0,
         trim: Lsn::from_u64(0),
         end: 2,
+        loss: false,
     }
 }
 
 /// Hands out epoch 1 of log 1, and closes it behind its place 1.
 fn close<R: Register>(alloc: Global, reg: &mut R) -> Result<(), RegisterFault> {
     let _ = reg.activate(alloc, &spec()?)?;
-    let _ = reg.close(alloc, log_of(1)?, 1, &summary())?;
+    let _ = reg.close(alloc, log_of(1)?, 1, &summary(), false)?;
     Ok(())
 }
 
@@ -261,6 +272,19 @@ fn close<R: Register>(alloc: Global, reg: &mut R) -> Result<(), RegisterFault> {
 fn a_store_is_there_after_a_load(rt: HostRuntime) -> Result<(), Fail> {
     let alloc = rt.alloc();
     let mut node = formatted(alloc)?;
+    assert_eq!(rt; give_store(alloc, &mut node), Ok(Answer::Stored));
+    let mut again = loaded(alloc, node.into_disk())?;
+    assert_eq!(rt;
+        give_digest_ask(alloc, &mut again),
+        Ok(Answer::PageOf(1, 0))
+    );
+    Ok(())
+}
+
+#[test]
+fn a_store_of_the_first_version_is_loaded(rt: HostRuntime) -> Result<(), Fail> {
+    let alloc = rt.alloc();
+    let mut node = loaded(alloc, older_disk(alloc)?)?;
     assert_eq!(rt; give_store(alloc, &mut node), Ok(Answer::Stored));
     let mut again = loaded(alloc, node.into_disk())?;
     assert_eq!(rt;

@@ -124,7 +124,7 @@ module _ (id : ℕ) (known : Known) (Told : Type 0) (left : List ℕ → Type 0)
 
 not_blank : (p : Plain) (bytes : List ℕ) → IsFormatted p bytes → IsBlank bytes → ⊥
 not_blank p bytes formatted blank =
-    let e : true ≡ false = ap are_none (one_list [] formatted.ops bytes blank formatted.journal) ∙ formatted.some in cc e
+    let e : true ≡ false = ap are_none (one_list [] formatted.found bytes blank formatted.journal) ∙ formatted.some in cc e
 
 module _ (disk_before disk_now register_before register_now : ℕ) (Told : Type 0) (holds : Contents → Type 0) (damaged : ℕ → Type 0) (id : ℕ) (format : Bool) (bytes : List ℕ) where
   abbrev Stops : Stop → Type 0
@@ -136,7 +136,7 @@ module _ (disk_before disk_now register_before register_now : ℕ) (Told : Type 
   opening_is Register may o = tt
   opening_is Link may o = tt
   opening_is (BadFrame fault) may o = o
-  opening_is (Damaged journals.Store place) (inl formatted) o = not_damaged formatted.1.ops bytes place formatted.1.journal o
+  opening_is (Damaged journals.Store place) (inl formatted) o = not_damaged formatted.1.found bytes place formatted.1.journal o
   opening_is (Damaged journals.Store place) (inr blank) o = not_damaged [] bytes place blank.blank o
   opening_is (Damaged journals.Register place) (inl formatted) o = not_blank formatted.0 bytes formatted.1 o.0.1
   opening_is (Damaged journals.Register place) (inr blank) o = blank.sound place (o.1 blank.told)

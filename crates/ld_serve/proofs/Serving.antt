@@ -3,8 +3,10 @@ use Rattle.std.proofs.Common.{◌≡◌, ◌≤◌, ℕ, List, Option, ap, ◌�
 use Rattle.ld_disk.specs.Moments.{LeavesOnly}
 use Rattle.ld_disk.specs.declared.disk.Disk.{Ghosts}
 use Rattle.ld_op.specs.declared.op.Op.{Op}
+use Rattle.ld_op.specs.declared.record.Record.{Record}
 use Rattle.ld_op.specs.Plain.{Plain}
 use Rattle.ld_store.specs.Ops.{StandsFor, IsJournalOf}
+use Rattle.ld_store.proofs.Holding.{are_placed}
 use Rattle.ld_node.specs.Known.{Known}
 use Rattle.ld_node.specs.declared.node.Node.{Node}
 use Rattle.ld_node.specs.Changes.{IsPast}
@@ -20,20 +22,20 @@ pub state_is : (p q : Plain) (r t : List (ℕ × ℕ)) → p ≡ q → r ≡ t �
 state_is p q r t e f = ap (λ (x : Plain). the_state x r) e ∙ ap (λ (x : List (ℕ × ℕ)). the_state q x) f
 
 module _ {D : Type 0} {g : Ghosts D} (seen : D → Option (List ℕ)) (may_leave : D → List ℕ → Type 0) where
-  -- what a crash leaves of a node that holds ops
-  pub journal_left : (node : Node D g) (os : List Op) → Holds seen may_leave node os → (c : List ℕ) → may_leave (disk_of node) c → IsJournalOf os c
-  journal_left node os holds c left =
+  -- what a crash leaves of a node that holds records
+  pub journal_left : (node : Node D g) (vs : List Record) → Holds seen may_leave node vs → (c : List ℕ) → may_leave (disk_of node) c → IsJournalOf vs c
+  journal_left node vs holds c left =
       let rests = holds.settled.rests in
-      record { journal = record { gate = rests.gate; after = rests.after; bytes_are = rests.stable c left; shut = rests.shut; fits = rests.fits }; ops = holds.ops }
+      record { journal = record { gate = rests.gate; after = rests.after; bytes_are = rests.stable c left; shut = rests.shut; fits = rests.fits }; placed = are_placed seen may_leave node.store vs holds }
 
   pub stand : (node : Node D g) (p : Plain) → p ≡ plain_of node → IsHeld seen may_leave node → (c : List ℕ) → may_leave (disk_of node) c → StandsFor p c
-  stand node p is held c left = record { ops = held.0; journal = journal_left node held.0 held.1 c left; state = is ∙ held.1.state }
+  stand node p is held c left = record { found = held.0; journal = journal_left node held.0 held.1 c left; state = is ∙ held.1.state }
 
   -- a record that would pass the limit
-  pub past_limit : (old new : Node D g) (os : List Op) (op : Option Op) → Holds seen may_leave old os → Holds seen may_leave new os → IsPast (place_of old) op
+  pub past_limit : (old new : Node D g) (vs : List Record) (op : Option Op) → Holds seen may_leave old vs → Holds seen may_leave new vs → IsPast (place_of old) op
       → PastLimit (may_leave (disk_of new)) (plain_of old) op
-  past_limit old new os op held still past =
-      record { ops = os; state = held.state; journal = journal_left new os still; past = subst (λ (n : ℕ). IsPast n op) held.place past }
+  past_limit old new vs op held still past =
+      record { found = vs; state = held.state; journal = journal_left new vs still; past = subst (λ (n : ℕ). IsPast n op) held.place past }
 
 module _ {D : Type 0} (may_leave : D → List ℕ → Type 0) (moment : D → ℕ) (left_since : D → ℕ → List ℕ → Type 0) where
   -- what is left now is what a crash at some moment leaves

@@ -2,9 +2,10 @@
 use Rattle.std.specs.Prelude.{◌≡◌, ◌⊎◌, ◌≤◌, ◌-◌, ◌^◌, ℕ, List, [], ◌∷◌, Bool, true, false, Option, Some, IfSome}
 use Rattle.ld_io.specs.Causes.{Rose}
 use Rattle.ld_msg.specs.Register.{Register as Contents, generation_of}
-use Rattle.ld_op.specs.declared.op.Op.{Op}
+use Rattle.ld_op.specs.declared.record.Record.{Record}
+use Rattle.ld_op.specs.declared.record.Record.TheVariants.{Now}
 use Rattle.ld_op.specs.Plain.{Plain, unformatted}
-use Rattle.ld_store.specs.Ops.{StandsFor, IsJournalOf, IsDamaged, are_none, state_after}
+use Rattle.ld_store.specs.Ops.{StandsFor, IsJournalOf, IsDamaged, HasNoRoom, are_none, state_after}
 use Rattle.ld_register.specs.declared.fault.RegisterFault.TheVariants as refusals
 use Rattle.ld_register.specs.declared.register.Drawn.{Drawn}
 use Rattle.ld_register.specs.Calls.{drawn, after_draw, is_full, draw_length}
@@ -21,12 +22,12 @@ use Rattle.ld_serve.specs.declared.stop.Which.TheVariants.{Store, Register}
 abbrev pub IsBlank : List ℕ → Type 0
 IsBlank bytes = IsJournalOf [] bytes
 
--- the disk's bytes are a journal of some ops, which add up to this state
+-- the disk's bytes are a journal of some records, which add up to this state
 pub record IsFormatted (p : Plain) (bytes : List ℕ) : Type 0 where
-  pub ops : List Op
-  pub some : are_none ops ≡ false
-  pub journal : IsJournalOf ops bytes
-  pub state : p ≡ state_after ops
+  pub found : List Record
+  pub some : are_none found ≡ false
+  pub journal : IsJournalOf found bytes
+  pub state : p ≡ state_after found
 
 -- of a register that may hold these: what each of them answers to a draw of the node
 abbrev pub Draws : (Contents → Type 0) → ℕ → Drawn → Type 0
@@ -43,7 +44,7 @@ pub record IsFormattedNow (holds holds_now : Contents → Type 0) (id : ℕ) (fo
   pub given : Drawn
   pub drawn : Draws holds id given
   pub drew : HoldsDraw holds holds_now id
-  pub state : p ≡ state_after (format_of given ∷ [])
+  pub state : p ≡ state_after (Now (format_of given) ∷ [])
 
 abbrev pub IsOpening : (Contents → Type 0) → (Contents → Type 0) → ℕ → Bool → Plain → List ℕ → Type 0
 IsOpening holds holds_now id format p bytes = IsFormatted p bytes ⊎ IsFormattedNow holds holds_now id format p bytes
@@ -52,16 +53,20 @@ IsOpening holds holds_now id format p bytes = IsFormatted p bytes ⊎ IsFormatte
 abbrev pub HoldsDrawOrNot : (Contents → Type 0) → (Contents → Type 0) → ℕ → Stop → Type 0
 HoldsDrawOrNot holds holds_now id stop = (c : Contents) → holds c → (stop ≡ stops.Register) ⊎ holds_now c ⊎ holds_now (after_draw c id)
 
+-- of a disk that showed bytes: it shows the same now
+abbrev pub ShowsSame : Option (List ℕ) → Option (List ℕ) → Type 0
+ShowsSame seen seen_now = IfSome seen (λ bytes. seen_now ≡ Some bytes)
+
 -- what may be left by a format that was refused: a blank disk, or the state of the format under what the register drew
 abbrev pub LeftByFormat : (Contents → Type 0) → ℕ → List ℕ → Type 0
-LeftByFormat holds id left = StandsFor unformatted left ⊎ ((given : Drawn) × Draws holds id given × StandsFor (state_after (format_of given ∷ [])) left)
+LeftByFormat holds id left = StandsFor unformatted left ⊎ ((given : Drawn) × Draws holds id given × StandsFor (state_after (Now (format_of given) ∷ [])) left)
 
 -- ---- faults of a load and of a format as reasons to stop; those that can't come are want of memory ----
 
 abbrev pub stop_of_load : NodeFault → Stop
 stop_of_load nodes.Disk = stops.Disk
 stop_of_load (nodes.Damaged place) = stops.Damaged Store place
-stop_of_load nodes.Full = stops.NoMemory
+stop_of_load nodes.Full = stops.Full Store
 stop_of_load nodes.NeedsLoad = stops.NoMemory
 stop_of_load (nodes.Register fault) = stops.NoMemory
 stop_of_load nodes.NoMemory = stops.NoMemory
@@ -75,6 +80,7 @@ stop_of_format (nodes.Register refusals.Failed) = stops.Register
 stop_of_format (nodes.Register (refusals.Damaged place)) = stops.Damaged Register place
 stop_of_format (nodes.Register refusals.LogLimit) = stops.NoMemory
 stop_of_format (nodes.Register (refusals.Behind lce next)) = stops.NoMemory
+stop_of_format (nodes.Register (refusals.Overtaken kept)) = stops.NoMemory
 stop_of_format (nodes.Register refusals.EpochLimit) = stops.NoMemory
 stop_of_format (nodes.Register refusals.GenLimit) = stops.GenLimit
 stop_of_format (nodes.Register refusals.Full) = stops.Full Register
@@ -93,6 +99,10 @@ module _ (disk_before disk_now : ℕ) (seen : Option (List ℕ)) (register_befor
   abbrev pub StoreIsFull : Type 0
   StoreIsFull = IfSome seen (λ bytes. (c : Contents) → holds c → (given : Drawn) × (answered given ≡ drawn c id) × IsPast 0 (Some (format_of given)))
 
+  -- the store is of the first version, and a mark would pass its limit
+  abbrev pub HasNoRoomToMark : Type 0
+  HasNoRoomToMark = IfSome seen HasNoRoom
+
   abbrev pub IsOpeningStop : Stop → Type 0
   IsOpeningStop stops.NoMemory = Unit {0}
   IsOpeningStop stops.Disk = Rose disk_before disk_now
@@ -102,6 +112,6 @@ module _ (disk_before disk_now : ℕ) (seen : Option (List ℕ)) (register_befor
   IsOpeningStop (stops.Damaged Store place) = IfSome seen (IsDamaged place)
   IsOpeningStop (stops.Damaged Register place) = Formats × (Told → damaged place)
   IsOpeningStop stops.Blank = (format ≡ false) × IfSome seen IsBlank
-  IsOpeningStop (stops.Full Store) = Formats × StoreIsFull
+  IsOpeningStop (stops.Full Store) = HasNoRoomToMark ⊎ (Formats × StoreIsFull)
   IsOpeningStop (stops.Full Register) = Formats × (Told → (c : Contents) × holds c × (is_full c draw_length ≡ true))
   IsOpeningStop stops.GenLimit = Formats × (Told → (c : Contents) × holds c × (2 ^ 32 - 1 ≤ generation_of c id))

@@ -3,6 +3,7 @@ use Rattle.std.specs.Prelude.{◌≡◌, ℕ, List, length, Option}
 use Rattle.ld_msg.specs.declared.msg.Msg.{Msg}
 use Rattle.ld_journal.specs.Format.{records}
 use Rattle.ld_op.specs.declared.op.Op.{Op}
+use Rattle.ld_op.specs.declared.record.Record.{Record}
 use Rattle.ld_op.specs.Plain.{Plain}
 use Rattle.ld_op.specs.Answers.{Handled}
 use Rattle.ld_op.specs.Handles.{answer_message}
@@ -28,16 +29,16 @@ module _ {D : Type 0} {g : Ghosts D} where
   abbrev pub state_of : Node D g → State
   state_of node = record { plain = plain_of node; released = released_of node }
 
-  -- the node's store holds some ops
+  -- the node's store holds some records
   abbrev pub IsHeld : (D → Option (List ℕ)) → (D → List ℕ → Type 0) → Node D g → Type 0
-  IsHeld seen may_leave node = (ops : List Op) × Holds seen may_leave node ops
+  IsHeld seen may_leave node = (found : List Record) × Holds seen may_leave node found
 
--- some ops add up to this plain state, each thing that may be left is their journal, and with one more it would pass its limit
+-- some records add up to this plain state, each thing that may be left is their journal, and with the op's record it would pass its limit
 pub record PastLimit (left : List ℕ → Type 0) (p : Plain) (op : Option Op) : Type 0 where
-  pub ops : List Op
-  pub state : p ≡ state_after ops
-  pub journal : (bytes : List ℕ) → left bytes → IsJournalOf ops bytes
-  pub past : IsPast (length (records (bodies_of ops))) op
+  pub found : List Record
+  pub state : p ≡ state_after found
+  pub journal : (bytes : List ℕ) → left bytes → IsJournalOf found bytes
+  pub past : IsPast (length (records (bodies_of found))) op
 
 -- the node of this number, which knows this of the configuration
 module _ (id : ℕ) (known : Known) where

@@ -3,12 +3,13 @@ use Rattle.std.specs.Prelude.{◌≡◌, ◌⊎◌, ℕ, List, [], Bool, true, O
 use Rattle.ld_msg.specs.Register.{Register as Contents}
 use Rattle.ld_op.specs.Plain.{Plain}
 use Rattle.ld_store.specs.Ops.{StandsFor}
+use Rattle.ld_store.specs.Loads.{LeftOrMarked}
 use Rattle.ld_link.specs.Peers.{Peers}
 use Rattle.ld_node.specs.Known.{Known}
 use Rattle.ld_serve.specs.declared.stop.Stop.{Stop}
 use Rattle.ld_serve.specs.declared.stop.Stop.TheVariants.{Disk}
 use Rattle.ld_serve.specs.Course.{IsServed, IsStopped}
-use Rattle.ld_serve.specs.Opening.{IsOpening, IsOpeningStop, LeftByFormat, HoldsDrawOrNot}
+use Rattle.ld_serve.specs.Opening.{IsOpening, IsOpeningStop, ShowsSame, LeftByFormat, HoldsDrawOrNot}
 use Rattle.ld_serve.specs.Serving.{State, after, answers, IsCut}
 
 -- a node is opened in this state, with nothing released
@@ -39,5 +40,5 @@ module _ (disk_before disk_now : ℕ) (seen seen_now : Option (List ℕ)) (befor
     pub link : link_now ≡ link_before
     pub cause : IsOpeningStop disk_before disk_now seen register_before register_now Told holds damaged id format stop
     pub draw : HoldsDrawOrNot holds holds_now id stop
-    pub bytes : (stop ≡ Disk) ⊎ (seen_now ≡ seen)
-    pub leaves : IfSome seen (λ _. (bytes : List ℕ) → left bytes → before bytes ⊎ ((format ≡ true) × LeftByFormat holds id bytes))
+    pub bytes : (stop ≡ Disk) ⊎ ShowsSame seen seen_now
+    pub leaves : IfSome seen (λ shown. (bytes : List ℕ) → left bytes → LeftOrMarked before shown bytes ⊎ ((format ≡ true) × LeftByFormat holds id bytes))

@@ -1,12 +1,13 @@
 // A node is opened: loaded from its disk, and formatted where that is blank.
 ghost use Rattle.std.specs.Prelude.{◌≡◌, ◌≢◌, ◌⊎◌, [], ℕ, List, Option, Some, IfOk, IfErr, IfSome, MatchResult, true, false};
 ghost use Rattle.ld_ids.specs.declared.set.Spec.{Spec as Fixed};
+ghost use Rattle.ld_store.specs.Loads.{LeftOrMarked};
 ghost use Rattle.ld_register.specs.Calls.{after_draw, ChangedOrNot};
 ghost use Rattle.ld_register.specs.declared.fault.RegisterFault.{RegisterFault as Refusal};
 ghost use Rattle.ld_register.specs.declared.fault.RegisterFault.TheVariants as refusals;
 ghost use Rattle.ld_node.specs.Node.{id_of, known_of, released_of, plain_of, disk_of, must_load, is_blank};
 ghost use Rattle.ld_node.specs.Known.{known_in};
-ghost use Rattle.ld_serve.specs.Opening.{IsBlank, IsOpening, IsOpeningStop, LeftByFormat, HoldsDrawOrNot, stop_of_load, stop_of_format};
+ghost use Rattle.ld_serve.specs.Opening.{IsBlank, IsOpening, IsOpeningStop, ShowsSame, LeftByFormat, HoldsDrawOrNot, stop_of_load, stop_of_format};
 ghost use Rattle.ld_serve.specs.Serving.{IsHeld};
 ghost use Rattle.ld_serve.specs.Stops.{DiskCounts, RegisterCounts};
 
@@ -20,7 +21,6 @@ use std::alloc::Global;
 
 /// Why a store wasn't loaded.
 fn load_stop(fault: NodeFault) -> Stop
-    requires full { fault ≢ NodeFault.Full }
     requires needs_load { fault ≢ NodeFault.NeedsLoad }
     requires register { (refusal : Refusal) → fault ≢ NodeFault.Register refusal }
     ensures { result ≡ stop_of_load fault }
@@ -28,8 +28,8 @@ fn load_stop(fault: NodeFault) -> Stop
     match fault {
         NodeFault::Disk => Stop::Disk,
         NodeFault::Damaged(place) => Stop::Damaged(Which::Store, place),
+        NodeFault::Full => Stop::Full(Which::Store),
         NodeFault::NoMemory => Stop::NoMemory,
-        NodeFault::Full => unreachable!(),
         NodeFault::NeedsLoad => unreachable!(),
         NodeFault::Register(_) => unreachable!(),
     }
@@ -39,6 +39,7 @@ fn load_stop(fault: NodeFault) -> Stop
 fn draw_stop(refusal: RegisterFault) -> Stop
     requires logs { refusal ≢ refusals.LogLimit }
     requires behind { (lce : ℕ) (next : Option Fixed) → refusal ≢ refusals.Behind lce next }
+    requires overtaken { (kept : ℕ) → refusal ≢ refusals.Overtaken kept }
     requires epochs { refusal ≢ refusals.EpochLimit }
     ensures { result ≡ stop_of_format (NodeFault.Register refusal) }
 {
@@ -50,6 +51,7 @@ fn draw_stop(refusal: RegisterFault) -> Stop
         RegisterFault::NoMemory => Stop::NoMemory,
         RegisterFault::LogLimit => unreachable!(),
         RegisterFault::Behind { .. } => unreachable!(),
+        RegisterFault::Overtaken(_) => unreachable!(),
         RegisterFault::EpochLimit => unreachable!(),
     }
 }
@@ -60,6 +62,7 @@ fn format_stop(fault: NodeFault) -> Stop
     requires needs_load { fault ≢ NodeFault.NeedsLoad }
     requires logs { fault ≢ NodeFault.Register refusals.LogLimit }
     requires behind { (lce : ℕ) (next : Option Fixed) → fault ≢ NodeFault.Register (refusals.Behind lce next) }
+    requires overtaken { (kept : ℕ) → fault ≢ NodeFault.Register (refusals.Overtaken kept) }
     requires epochs { fault ≢ NodeFault.Register refusals.EpochLimit }
     ensures { result ≡ stop_of_format fault }
 {
@@ -73,15 +76,17 @@ fn format_stop(fault: NodeFault) -> Stop
     }
 }
 
-/// Opens the node of this number on its disk: the disk is loaded, and where it is blank and `format` is asked for, it is
-/// formatted under a generation that the register draws for the node: that draw is all that changes there. Nothing is
-/// released yet. Without `format`, and where the disk isn't blank, the register isn't called.
+/// Opens the node of this number on its disk: the disk is loaded, which marks a store of the first version as one of the
+/// second, and where it is blank and `format` is asked for, it is formatted under a generation that the register draws
+/// for the node: that draw is all that changes there. Nothing is released yet. Without `format`, and where the disk isn't
+/// blank, the register isn't called.
 ///
-/// A refusal hands the disk back: `Disk` where a call of it failed, `Damaged(Store, place)` as a node's load says, `Blank`
-/// where no record stands on the disk and no format was asked for; of a format `Register` where a call of the register
-/// failed, `Damaged(Register, place)`, `GenLimit` and `Full(Register)` as its draw says, and `Full(Store)` where the
-/// format's record would make the store longer than 2^40 bytes; and `NoMemory`. But for `Disk` no byte of the disk has
-/// changed; at `Disk` the format may be there. Where a format is refused the draw may be made.
+/// A refusal hands the disk back: `Disk` where a call of it failed, `Damaged(Store, place)` as a node's load says,
+/// `Full(Store)` where a mark would make the store longer than 2^40 bytes, `Blank` where no record stands on the disk and
+/// no format was asked for; of a format `Register` where a call of the register failed, `Damaged(Register, place)`,
+/// `GenLimit` and `Full(Register)` as its draw says, and `Full(Store)` where the format's record would make the store
+/// longer than 2^40 bytes; and `NoMemory`. But for `Disk` no byte of the disk has changed; at `Disk` the mark or the
+/// format may be there. Where a format is refused the draw may be made.
 pub fn open<D: Disk, G: Register>(
     alloc: Global,
     id: NodeId,
@@ -95,13 +100,14 @@ pub fn open<D: Disk, G: Register>(
     ensures opens { IfOk result (λ node. IfSome (D.seen disk) (IsOpening (G.holds reg.old) (G.holds reg.new) id format (plain_of node))) }
     ensures holds { IfOk result (λ node. IfSome (D.seen disk) (λ _. IsHeld D.seen D.may_leave node)) }
     ensures cause { IfErr result (λ e. IsOpeningStop (D.faults disk) (D.faults e.0) (D.seen disk) (G.faults reg.old) (G.faults reg.new) (G.told reg.old) (G.holds reg.old) (G.damaged reg.old) id format e.1) }
-    ensures seen { IfErr result (λ e. (e.1 ≡ Stop.Disk) ⊎ (D.seen e.0 ≡ D.seen disk)) }
+    ensures seen { IfErr result (λ e. (e.1 ≡ Stop.Disk) ⊎ ShowsSame (D.seen disk) (D.seen e.0)) }
 
     // What the register held it holds then with the draw or without it, unless it failed.
     ensures draw { IfErr result (λ e. HoldsDrawOrNot (G.holds reg.old) (G.holds reg.new) id e.1) }
 
-    // What may be left then might have been left before, or is left by the format.
-    ensures leaves { IfErr result (λ e. IfSome (D.seen disk) (λ _. (bytes : List ℕ) → D.may_leave e.0 bytes → D.may_leave disk bytes ⊎ ((format ≡ true) × LeftByFormat (G.holds reg.old) id bytes))) }
+    // What may be left then might have been left before, or is the store of the first version with a mark or without it,
+    // or is left by the format.
+    ensures leaves { IfErr result (λ e. IfSome (D.seen disk) (λ shown. (bytes : List ℕ) → D.may_leave e.0 bytes → LeftOrMarked (D.may_leave disk) shown bytes ⊎ ((format ≡ true) × LeftByFormat (G.holds reg.old) id bytes))) }
     ensures unasked { format ≡ false → reg.new ≡ reg.old }
     ensures formatted { (bytes : List ℕ) → D.seen disk ≡ Some bytes → (IsBlank bytes → ⊥) → reg.new ≡ reg.old }
     ensures drawn { G.told reg.old → ChangedOrNot (G.may_hold reg.old) (G.may_hold reg.new) (λ c. after_draw c id) }

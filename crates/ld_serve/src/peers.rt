@@ -1,7 +1,7 @@
 // Peers, one after the other.
 ghost use Rattle.std.specs.Prelude.{◌≡◌, ℕ, List, Bool, None, Some, false, IfErr, OnOk, MatchResult, MatchBool};
 ghost use Rattle.ld_link.specs.Peers.{Peers};
-ghost use Rattle.ld_op.specs.declared.op.Op.{Op as Kind};
+ghost use Rattle.ld_op.specs.declared.record.Record.{Record as Kind};
 ghost use Rattle.ld_node.specs.Known.{Known};
 ghost use Rattle.ld_node.specs.Node.{id_of, known_of, disk_of, must_load, is_blank, Holds};
 ghost use Rattle.ld_serve.specs.Course.{IsServed, IsStopped, Goes, WithPeer, BetweenPeers, NoMore};
@@ -75,7 +75,7 @@ pub fn serve_peers<D: Disk, L: Link>(
         (IsCut (id_of node.old) (known_of node.old) (IsHeld D.seen D.may_leave node.old) (D.may_leave (disk_of node.new)) stop) start (state_of node.old) (L.peers link.new) (state_of node.new)) }
 
     // After the turns the disk stands for the node's plain state.
-    ensures holds { (ops : List Kind) → Holds D.seen D.may_leave node.old ops → OnOk result (IsHeld D.seen D.may_leave node.new) }
+    ensures holds { (found : List Kind) → Holds D.seen D.may_leave node.old found → OnOk result (IsHeld D.seen D.may_leave node.new) }
     ensures rest { (id_of node.new ≡ id_of node.old) × (known_of node.new ≡ known_of node.old) × (is_blank node.new ≡ false) }
     ensures itself { D.identity (disk_of node.new) ≡ D.identity (disk_of node.old) }
     ensures works { OnOk result (must_load node.new ≡ false) }

@@ -1,7 +1,7 @@
 // A node on a disk in memory, over a link in memory.
 use crate::{Stop, serve};
 use ld_config::{Config, Specs};
-use ld_disk::MemDisk;
+use ld_disk::{Disk, MemDisk};
 use ld_ids::{LogId, NoMemory, NodeId, NodeSet, Spec};
 use ld_link::MemLink;
 use ld_register::DiskRegister;
@@ -16,9 +16,9 @@ const ASK: [u8; 31] = [
 ];
 
 /// That the log has nothing from number 1 on.
-const ENDED: [u8; 39] = [
-    0, 0, 0, 35, 14, 0, 0, 0, 0, 1, 2, 0, 0, 0, 0, 0, 0, 0, 1, 0, 0, 0, 1, 0, 0, 0, 0, 0, 0, 0, 1,
-    0, 0, 0, 0, 0, 0, 0, 1,
+const ENDED: [u8; 40] = [
+    0, 0, 0, 36, 19, 0, 0, 0, 0, 1, 2, 0, 0, 0, 0, 0, 0, 0, 1, 0, 0, 0, 1, 0, 0, 0, 0, 0, 0, 0, 1,
+    0, 0, 0, 0, 0, 0, 0, 1, 0,
 ];
 
 /// The nodes 1 and 2, and log 1 on node 2.
@@ -60,20 +60,38 @@ fn ask(alloc: Global) -> Result<Vec<u8>, NoMemory> {
     Ok(bytes)
 }
 
+/// A disk with the format under generation 1, as the first version of journals wrote it.
+fn older_disk(alloc: Global) -> Result<MemDisk, Fail> {
+    let bytes = [1, 0, 0, 0, 6, 1, 0, 0, 0, 1, 0, 0];
+    let mut disk = new_disk(alloc)?;
+    disk.reserve(bytes.len() as u64, 2)?;
+    disk.write_at(0, &bytes)?;
+    disk.sync()?;
+    Ok(disk)
+}
+
 /// Node 1 serves on a blank disk.
 fn serves(alloc: Global, format: bool, turns: u64, link: &mut MemLink) -> Result<(), Stop> {
-    let (Ok(config), Ok(mut disk), Ok(register), Some(node)) = (
-        config(alloc),
-        new_disk(alloc),
-        new_disk(alloc),
-        NodeId::new(1),
-    ) else {
+    let Ok(mut disk) = new_disk(alloc) else {
+        return Err(Stop::NoMemory);
+    };
+    serves_on(alloc, format, turns, &mut disk, link)
+}
+
+/// Node 1 serves on a disk.
+fn serves_on(
+    alloc: Global,
+    format: bool,
+    turns: u64,
+    disk: &mut MemDisk,
+    link: &mut MemLink,
+) -> Result<(), Stop> {
+    let (Ok(config), Ok(register), Some(node)) = (config(alloc), new_disk(alloc), NodeId::new(1))
+    else {
         return Err(Stop::NoMemory);
     };
     let mut reg = DiskRegister::new(alloc, register);
-    serve(
-        alloc, node, &config, format, turns, &mut disk, &mut reg, link,
-    )
+    serve(alloc, node, &config, format, turns, disk, &mut reg, link)
 }
 
 #[test]
@@ -82,6 +100,18 @@ fn an_ask_is_answered(rt: HostRuntime) -> Result<(), Fail> {
     let mut link = new_link(alloc, vec![in alloc; ask(alloc)?]?, Vec::new(alloc))?;
     assert_eq!(rt; serves(alloc, true, 1, &mut link), Ok(()));
     assert_eq!(rt; link.sent(0), Some(ENDED.as_slice()));
+    Ok(())
+}
+
+#[test]
+fn a_store_of_the_first_version_is_served(rt: HostRuntime) -> Result<(), Fail> {
+    let alloc = rt.alloc();
+    let mut disk = older_disk(alloc)?;
+    let mut link = new_link(alloc, vec![in alloc; ask(alloc)?]?, Vec::new(alloc))?;
+    assert_eq!(rt; serves_on(alloc, false, 1, &mut disk, &mut link), Ok(()));
+    assert_eq!(rt; link.sent(0), Some(ENDED.as_slice()));
+    // its format, and a mark behind that
+    assert_eq!(rt; disk.len()?, 19);
     Ok(())
 }
 

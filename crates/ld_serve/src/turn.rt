@@ -2,7 +2,7 @@
 ghost use Rattle.std.specs.Prelude.{◌≡◌, ◌≢◌, ◌⊎◌, ◌<◌, ◌+◌, ℕ, List, length, None, Some, true, false, IfErr, OnOk, MatchResult, MatchBool};
 ghost use Rattle.ld_io.specs.Causes.{Rose};
 ghost use Rattle.ld_link.specs.Peers.{Peers};
-ghost use Rattle.ld_op.specs.declared.op.Op.{Op as Kind};
+ghost use Rattle.ld_op.specs.declared.record.Record.{Record as Kind};
 ghost use Rattle.ld_register.specs.declared.fault.RegisterFault.{RegisterFault};
 ghost use Rattle.ld_node.specs.Node.{id_of, known_of, disk_of, must_load, is_blank, Holds};
 ghost use Rattle.ld_serve.specs.Course.{WithPeer, BetweenPeers, InTurn};
@@ -63,7 +63,7 @@ pub(crate) fn turn<D: Disk, L: Link>(
         (BetweenPeers (after (id_of node.old) (known_of node.old)) (answers (id_of node.old) (known_of node.old)) start s (L.peers link.new) (state_of node.new) (turns + 1)))
         (λ stop. InTurn (after (id_of node.old) (known_of node.old)) (answers (id_of node.old) (known_of node.old))
         (IsCut (id_of node.old) (known_of node.old) (IsHeld D.seen D.may_leave node.old) (D.may_leave (disk_of node.new)) stop) start s (L.peers link.new) (state_of node.new)) }
-    ensures holds { (ops : List Kind) → Holds D.seen D.may_leave node.old ops → OnOk result (IsHeld D.seen D.may_leave node.new) }
+    ensures holds { (found : List Kind) → Holds D.seen D.may_leave node.old found → OnOk result (IsHeld D.seen D.may_leave node.new) }
     ensures stops { IfErr result IsServingStop }
     ensures link_counts { MatchResult result (λ _. L.faults link.new ≡ L.faults link.old) (LinkCounts (L.faults link.old) (L.faults link.new)) }
     ensures disk_counts { MatchResult result (λ _. D.faults (disk_of node.new) ≡ D.faults (disk_of node.old)) (DiskCounts (D.faults (disk_of node.old)) (D.faults (disk_of node.new))) }

@@ -68,8 +68,8 @@ fn serve_on<D: Disk, G: Register, L: Link>(
 /// frame is dropped); a frame for another node, or of a log that the node doesn't know, is a turn without an answer. It
 /// ends after so many turns, whatever the present peer has left to say, or where there is no next peer.
 ///
-/// The node begins in the plain state that its disk stands for, with nothing released. Where the disk is blank and
-/// `format` is asked for, it is formatted first under a generation that the register draws, and the register holds that
+/// The node begins in the plain state that its disk stands for, with nothing released; a store of the first version is
+/// marked as one of the second, which leaves that state as it is. Where the disk is blank and `format` is asked for, it is formatted first under a generation that the register draws, and the register holds that
 /// one draw more from then on.
 ///
 /// It refuses before the link is called as `open` does: `Disk`, `Damaged`, `Blank`, `Register`, `GenLimit`, `Full`,

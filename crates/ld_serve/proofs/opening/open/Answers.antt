@@ -1,8 +1,10 @@
-use Rattle.std.proofs.Common.{◌≡◌, ◌≤◌, ◌-◌, ◌^◌, ℕ, List, true, Some, Err, ap, sym, ◌∙◌, subst}
+use Rattle.std.proofs.Common.{◌≡◌, ◌≤◌, ◌-◌, ◌^◌, ℕ, List, true, Some, Err, ap, sym, ◌∙◌, subst, inr}
 use Rattle.ld_io.specs.Causes.{Rose}
+use Rattle.ld_disk.specs.Moments.{LeavesOnly}
 use Rattle.ld_msg.specs.Register.{Register as Contents, generation_of}
+use Rattle.ld_store.specs.Loads.{LeftOrMarked}
 use Rattle.ld_register.specs.declared.register.Drawn.{Drawn}
-use Rattle.ld_register.specs.Calls.{drawn}
+use Rattle.ld_register.specs.Calls.{drawn, after_draw}
 use Rattle.ld_node.specs.Changes.{IsPast}
 use Rattle.ld_node.specs.Draws.{answered}
 use Rattle.ld_node.specs.Formats.{format_of}
@@ -10,8 +12,61 @@ use Rattle.ld_node.specs.Formats as formats
 use Rattle.ld_node.specs.Node.{plain_of, disk_of, is_blank, place_of}
 use Rattle.ld_serve.specs.Opening.{Draws}
 use Rattle.ld_serve.proofs.Serving.{left_now}
-use Rattle.ld_serve.proofs.Openings.{format_caused, blank_opens, blank_full, left_by_format, draw_or_not}
+use Rattle.ld_serve.proofs.Openings.{blank_shows, load_caused, left_by_load, opens_found, opens_formatted, held_then, format_caused, blank_opens, blank_full, left_by_format, draw_or_not}
 use Rattle.ld_serve.proofs.opening.open.Goals as goal
+
+pub returns-in-Err-clause-cause : goal.returns-in-Err-clause-cause
+returns-in-Err-clause-cause g c =
+    rw c.load_stop.ensures (load_caused _ _ (g.D.Disk.seen c.args.disk) _ _ _ (g.G.Register.holds c.args.reg.now) _ c.args.id c.args.format _
+    c.in-Err.ensures.failed c.in-Err.ensures.damaged c.in-Err.ensures.full)
+
+pub returns-in-Err-clause-leaves : goal.returns-in-Err-clause-leaves
+returns-in-Err-clause-leaves g c =
+    let D = g.D.Disk in
+    let old = c.args.disk in
+    left_by_load (g.G.Register.holds c.args.reg.now) c.args.id c.args.format (D.seen old) (D.may_leave old) _
+    (λ shown. LeavesOnly D.moment D.left_since old _ (LeftOrMarked (D.may_leave old) shown))
+    (λ shown leaves. left_now D.may_leave D.moment D.left_since g.met.D.Disk.counts_now old _ _ leaves) c.in-Err.ensures.any_moment
+
+pub returns-then-not-format-clause-leaves : goal.returns-then-not-format-clause-leaves
+returns-then-not-format-clause-leaves g c =
+    let D = g.D.Disk in
+    let old = c.args.disk in
+    let new = disk_of c.in-Ok.node in
+    rw c.into_disk.ensures (left_by_load (g.G.Register.holds c.args.reg.now) c.args.id c.args.format (D.seen old) (D.may_leave old) (D.may_leave new)
+    (λ shown. LeavesOnly D.moment D.left_since old new (LeftOrMarked (D.may_leave old) shown))
+    (λ shown leaves. left_now D.may_leave D.moment D.left_since g.met.D.Disk.counts_now old new _ leaves) c.in-Ok.ensures.any_moment)
+
+pub returns-then-not-format-clause-seen : goal.returns-then-not-format-clause-seen
+returns-then-not-format-clause-seen g c =
+    let D = g.D.Disk in
+    let node = c.in-Ok.node in
+    let blank : is_blank node ≡ true = sym c.is_blank.ensures ∙ c.if-not-is_blank.false in
+    rw c.into_disk.ensures (inr (blank_shows (D.seen c.args.disk) (D.seen (disk_of node)) c.in-Ok.ensures.seen
+    (blank_opens D.seen D.may_leave (g.G.Register.holds c.args.reg.now) c.args.id c.args.format (D.seen c.args.disk) node blank c.in-Ok.ensures.opens)))
+
+pub returns-then-not-is_blank-clause-opens : goal.returns-then-not-is_blank-clause-opens
+returns-then-not-is_blank-clause-opens g c =
+    let holds = g.G.Register.holds c.args.reg.now in
+    opens_found g.D.Disk.seen g.D.Disk.may_leave holds c.args.id c.args.format holds (g.D.Disk.seen c.args.disk) c.in-Ok.node (sym c.is_blank.ensures ∙ c.if-not-is_blank.true) c.in-Ok.ensures.opens
+
+pub returns-clause-opens : goal.returns-clause-opens
+returns-clause-opens g c =
+    let node = c.in-Ok.node in
+    let given = c.in_default.field-0 in
+    let id_is = c.in-Ok.ensures.node.0 in
+    let blank : is_blank node ≡ true = sym c.is_blank.ensures ∙ c.if-not-is_blank.false in
+    let holds_now = g.G.Register.holds c.format.new.reg in
+    opens_formatted g.D.Disk.seen g.D.Disk.may_leave (g.G.Register.holds c.args.reg.now) c.args.id c.args.format holds_now (g.D.Disk.seen c.args.disk) node c.format.new.self given
+    c.if-not-format.false blank c.in-Ok.ensures.opens c.in_default.ensures.applied.0
+    (λ contents held. subst (λ (i : ℕ). answered given ≡ drawn contents i) id_is (c.in_default.ensures.drawn contents held).0)
+    (λ contents held. subst (λ (i : ℕ). holds_now (after_draw contents i)) id_is (c.in_default.ensures.drawn contents held).1)
+
+pub returns-clause-holds : goal.returns-clause-holds
+returns-clause-holds g c =
+    let D = g.D.Disk in
+    held_then D.seen D.may_leave (g.G.Register.holds c.args.reg.now) c.args.id c.args.format (D.seen c.args.disk) c.in-Ok.node c.format.new.self
+    (λ found held. (_, c.in_default.ensures.acknowledged found held)) c.in-Ok.ensures.opens
 
 pub returns-in-Err-format-clause-cause : goal.returns-in-Err-format-clause-cause
 returns-in-Err-format-clause-cause g c =
@@ -39,8 +94,8 @@ returns-in-Err-format-clause-leaves g c =
     let holds = g.G.Register.holds c.args.reg.now in
     rw c.into_disk-in-Err-format.ensures (left_by_format g.D.Disk.seen g.D.Disk.may_leave holds c.args.id c.args.format (g.D.Disk.seen c.args.disk) node _ (g.D.Disk.may_leave new)
     c.if-not-format.false blank c.in-Ok.ensures.opens
-    (λ ops held. subst (λ (i : ℕ). (bytes : List ℕ) → g.D.Disk.may_leave new bytes → formats.LeftByFormat (plain_of node) (Draws holds i) bytes) id_is
-    (left_now g.D.Disk.may_leave g.D.Disk.moment g.D.Disk.left_since g.met.D.Disk.counts_now (disk_of node) new _ (c.in-Err-format.ensures.any_moment ops held))))
+    (λ found held. subst (λ (i : ℕ). (bytes : List ℕ) → g.D.Disk.may_leave new bytes → formats.LeftByFormat (plain_of node) (Draws holds i) bytes) id_is
+    (left_now g.D.Disk.may_leave g.D.Disk.moment g.D.Disk.left_since g.met.D.Disk.counts_now (disk_of node) new _ (c.in-Err-format.ensures.any_moment found held))))
 
 pub returns-in-Err-format-clause-draw : goal.returns-in-Err-format-clause-draw
 returns-in-Err-format-clause-draw g c =

@@ -9,7 +9,7 @@ use Rattle.ld_serve.proofs.Serving.{stand, told_before}
 use Rattle.ld_serve.proofs.peers.serve_peers.Goals as goal
 
 pub turns-init : goal.turns-init
-turns-init g c = (λ start is. begun _ _ start _ _ is, λ ops holds. (ops, holds), ap (λ h. h.fault) c.new-decoder.ensures, refl, refl, c.requires.formatted, c.requires.works, refl, refl, refl)
+turns-init g c = (λ start is. begun _ _ start _ _ is, λ found holds. (found, holds), ap (λ h. h.fault) c.new-decoder.ensures, refl, refl, c.requires.formatted, c.requires.works, refl, refl, refl)
 
 pub returns-in_err-meet-clause-stopped : goal.returns-in_err-meet-clause-stopped
 returns-in_err-meet-clause-stopped g c start is =

@@ -1,6 +1,6 @@
 use Rattle.std.proofs.Common.{◌≡◌, None, Some, false, List}
 use Rattle.ld_link.specs.Peers.{Peers}
-use Rattle.ld_op.specs.declared.op.Op.{Op}
+use Rattle.ld_op.specs.declared.record.Record.{Record}
 use Rattle.ld_node.specs.Node.{id_of, known_of, disk_of, must_load, is_blank, Holds}
 use Rattle.ld_serve.specs.Course.{Goes}
 use Rattle.ld_serve.specs.Serving.{state_of, after, answers, IsHeld}
@@ -10,7 +10,7 @@ abbrev pub invariant-turns : goal.invariant-turns
 invariant-turns g l =
     ((start : Peers) → g.L.Link.peers l.fn.link ≡ Some start
     → Goes (after (id_of l.fn.node) (known_of l.fn.node)) (answers (id_of l.fn.node) (known_of l.fn.node)) l.is_there start (state_of l.fn.node) (g.L.Link.peers l.link) l.decoder.bytes (state_of l.node) l.counter)
-    × ((ops : List Op) → Holds g.D.Disk.seen g.D.Disk.may_leave l.fn.node ops → IsHeld g.D.Disk.seen g.D.Disk.may_leave l.node)
+    × ((found : List Record) → Holds g.D.Disk.seen g.D.Disk.may_leave l.fn.node found → IsHeld g.D.Disk.seen g.D.Disk.may_leave l.node)
     × (l.decoder.fault ≡ None)
     × (id_of l.node ≡ id_of l.fn.node)
     × (known_of l.node ≡ known_of l.fn.node)

@@ -33,7 +33,7 @@ returns-in_err-message-clause-disk_counts g c =
     rw (p.1, p.2) (unread_counts _ _ _ _ c.in_err-message.ensures.cause.1 refl)
 
 pub returns-in_default-clause-holds : goal.returns-in_default-clause-holds
-returns-in_default-clause-holds g c ops holds = (ops, holds)
+returns-in_default-clause-holds g c found holds = (found, holds)
 
 pub returns-in-Err-clause-turned : goal.returns-in-Err-clause-turned
 returns-in-Err-clause-turned g c start s turns w =
@@ -81,7 +81,7 @@ returns-in_err-answer-clause-disk_counts g c =
     rw (p.1, p.2) (unsent_counts _ _ _ c.in_err-answer.ensures.cause (⊎_elim (λ none. absurd cc) (λ same. same) c.in-Ok.ensures.steady))
 
 pub returns-clause-holds : goal.returns-clause-holds
-returns-clause-holds g c ops holds = (_, c.in-Ok.ensures.acknowledged ops holds)
+returns-clause-holds g c found holds = (_, c.in-Ok.ensures.acknowledged found holds)
 
 pub returns-clause-turned : goal.returns-clause-turned
 returns-clause-turned g c start s turns w =

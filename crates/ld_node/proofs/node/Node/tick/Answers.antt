@@ -26,10 +26,10 @@ returns-then-not-has_log-clause-kept g c ct h =
     sym (ap (λ t. kept (op_of c.args.log t) (plain_of node)) (ticked_nowhere (known_of node) (plain_of node) c.args.log ct (sym c.has_log.ensures.has ∙ c.if-not-has_log.true)))
 
 pub returns-then-not-has_log-clause-acknowledged : goal.returns-then-not-has_log-clause-acknowledged
-returns-then-not-has_log-clause-acknowledged g c ops ct holds h =
+returns-then-not-has_log-clause-acknowledged g c found ct holds h =
     let D = g.D.Disk in
     let node = c.args.self.now in
-    subst (λ t. Holds D.seen D.may_leave node.store (with_op ops (op_of c.args.log t))) (sym (ticked_nowhere (known_of node) (plain_of node) c.args.log ct (sym c.has_log.ensures.has ∙ c.if-not-has_log.true))) holds
+    subst (λ t. Holds D.seen D.may_leave node.store (with_op found (op_of c.args.log t))) (sym (ticked_nowhere (known_of node) (plain_of node) c.args.log ct (sym c.has_log.ensures.has ∙ c.if-not-has_log.true))) holds
 
 pub returns-then-not-has_log-clause-exact : goal.returns-then-not-has_log-clause-exact
 returns-then-not-has_log-clause-exact g c ct disk h told either =
@@ -46,12 +46,12 @@ returns-then-not-has_log-clause-too_long g c ct h works past =
 -- ---- an op that was not kept ----
 
 pub returns-in_err-keep-clause-any_moment : goal.returns-in_err-keep-clause-any_moment
-returns-in_err-keep-clause-any_moment g c ops ct holds h =
+returns-in_err-keep-clause-any_moment g c found ct holds h =
     let D = g.D.Disk in
     let node = c.args.self.now in
     subst (λ o. LeavesOnly D.moment D.left_since (disk_of node) (store_disk c.keep.new.store) (StandsForEither (plain_of node) (kept o (plain_of node))))
     (op_is (known_of node) (plain_of node) c.plain.result.now.state c.args.log ct c.in_ok-step.step.op (sym c.has_log.ensures.has ∙ c.if-not-has_log.false) c.plain.ensures.state (c.in_ok-step.ensures.step ct h).op)
-    (c.in_err-keep.ensures.any_moment ops holds)
+    (c.in_err-keep.ensures.any_moment found holds)
 
 pub returns-in_err-keep-clause-exact : goal.returns-in_err-keep-clause-exact
 returns-in_err-keep-clause-exact g c ct disk h told either =
@@ -116,20 +116,20 @@ returns-clause-kept g c ct h =
     c.in_ok-keep.ensures.applied ∙ ap (λ o. kept o (plain_of node)) (op_is (known_of node) (plain_of node) c.plain.result.now.state c.args.log ct c.in_ok-step.step.op (sym c.has_log.ensures.has ∙ c.if-not-has_log.false) c.plain.ensures.state (c.in_ok-step.ensures.step ct h).op)
 
 pub returns-clause-acknowledged : goal.returns-clause-acknowledged
-returns-clause-acknowledged g c ops ct holds h =
+returns-clause-acknowledged g c found ct holds h =
     let D = g.D.Disk in
     let node = c.args.self.now in
-    subst (λ o. Holds D.seen D.may_leave c.keep.new.store (with_op ops o))
+    subst (λ o. Holds D.seen D.may_leave c.keep.new.store (with_op found o))
     (op_is (known_of node) (plain_of node) c.plain.result.now.state c.args.log ct c.in_ok-step.step.op (sym c.has_log.ensures.has ∙ c.if-not-has_log.false) c.plain.ensures.state (c.in_ok-step.ensures.step ct h).op)
-    (c.in_ok-keep.ensures.acknowledged ops holds)
+    (c.in_ok-keep.ensures.acknowledged found holds)
 
 pub returns-clause-any_moment : goal.returns-clause-any_moment
-returns-clause-any_moment g c ops ct holds h =
+returns-clause-any_moment g c found ct holds h =
     let D = g.D.Disk in
     let node = c.args.self.now in
     subst (λ o. LeavesOnly D.moment D.left_since (disk_of node) (store_disk c.keep.new.store) (StandsForEither (plain_of node) (kept o (plain_of node))))
     (op_is (known_of node) (plain_of node) c.plain.result.now.state c.args.log ct c.in_ok-step.step.op (sym c.has_log.ensures.has ∙ c.if-not-has_log.false) c.plain.ensures.state (c.in_ok-step.ensures.step ct h).op)
-    (c.in_ok-keep.ensures.any_moment ops holds)
+    (c.in_ok-keep.ensures.any_moment found holds)
 
 pub returns-clause-exact : goal.returns-clause-exact
 returns-clause-exact g c ct disk h told either =
