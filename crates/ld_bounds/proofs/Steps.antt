@@ -1,12 +1,16 @@
 -- Each event leaves a sound state sound, and sends messages that a frame can carry.
-use Rattle.std.proofs.Common.{◌≡◌, ◌≤◌, ◌<◌, ℕ, zero, suc, ◌+◌, ◌-◌, refl, sym, subst, Bool, true, false, ◌==◌, ◌&&◌, ◌||◌, not, nat_lt, nat_le, cond, List, [], ◌∷◌, ◌++◌, length, Option, Some, None, is_some, slice_get, arith}
+use Rattle.std.proofs.Common.{◌≡◌, ◌≤◌, ◌<◌, ℕ, zero, suc, ◌+◌, ◌-◌, refl, ap, sym, subst, nat_cmp, Bool, true, false, ◌==◌, ◌&&◌, ◌||◌, not, nat_lt, nat_le, cond, List, [], ◌∷◌, ◌++◌, length, Option, Some, None, is_some, slice_get, arith}
+use Rattle.std.specs.Map as map
 use Rattle.std.specs.List.{AllByRecursion, IsDistinct}
 use Rattle.std.specs.List.Sorted.{IsStrictlySortedBy}
+use Rattle.std.proofs.lemmas.Map.Keys.{sorted_from_strictly_increasing}
 use Rattle.std.proofs.lemmas.Bool.{cond_both, and_parts, or_parts, ltb-false, leb-false, eqb-false}
 use Rattle.ld_table.specs.Named.{find_named, Distinct}
 use Rattle.ld_table.specs.Table.{Ordered}
+use Rattle.ld_table.proofs.Order.{Ordered-put}
 use Rattle.ld_ids.specs.Id.{IsNode, IsLog}
 use Rattle.ld_ids.specs.Set.{members, IsSet}
+use Rattle.ld_ids.proofs.Members.{members_rise}
 use Rattle.ld_ids.specs.declared.set.Spec.{Spec}
 use Rattle.ld_lsn.specs.Number.{numbered, last_esn}
 use Rattle.ld_config.specs.declared.config.Config.{Config}
@@ -22,7 +26,7 @@ use Rattle.ld_msg.specs.declared.msg.Body.TheVariants as bodies
 use Rattle.ld_msg.specs.Bounds.{Is64, IsEpoch, Fits, IsMessage}
 use Rattle.ld_msg.specs.Network.{Network, send, send_all, message, oldest_new, posted}
 use Rattle.ld_msg.specs.Choice.{choice}
-use Rattle.ld_msg.specs.Register.{Register, Epochs, Answer, Granted, AtLimit, Behind, Fails, epochs_of, epochs_in, generation_of, lce_of, activate, draw}
+use Rattle.ld_msg.specs.Register.{Register, Epochs, Answer, Granted, AtLimit, Behind, Overtaken, Fails, epochs_of, epochs_in, generation_of, lce_of, activate, draw}
 use Rattle.ld_msg.specs.Sequencer.{Sequencer, Acts, called, acted_messages, on_reply, on_retry, released_of, to_each, activated, bare, recovery_asks, Appending, TooLong, Preempted, EpochFull, WindowFull, Numbered, or_preempted, appending, appended, fresh_append, first_stores, next_esn, payload_limit, window_limit}
 use Rattle.ld_msg.specs.Reader.{Reader, Read, opened, is_finished, polled, poll_asks, on_answer}
 use Rattle.ld_op.specs.declared.op.Op.{Op}
@@ -82,7 +86,7 @@ message_in w i m a h = message_by (nat_lt i w.count) w i m a h
 
 module _ (c : Config) where
   pub sent_is : (s : State) (ms : List Msg) → IsSound c s → AreMessages ms → IsSound c (sent_state s ms)
-  sent_is s ms S a = record { messages = all_sent s.network ms S.messages a; nodes = S.nodes; register = S.register; sequencers = S.sequencers; readers = S.readers; reader_names = S.reader_names; reader_places = S.reader_places; few_readers = S.few_readers; specs = S.specs }
+  sent_is s ms S a = record { messages = all_sent s.network ms S.messages a; nodes = S.nodes; nodes_rise = S.nodes_rise; register = S.register; sequencers = S.sequencers; readers = S.readers; reader_names = S.reader_names; reader_places = S.reader_places; few_readers = S.few_readers; specs = S.specs }
 
   pub finish_is : (d : Done) → IsDoneSoundly c d → IsSound c (finish d).state
   unfolding finish
@@ -103,29 +107,30 @@ module _ (c : Config) where
     node_is_sound n = node_there s.nodes n S.nodes
 
     node_put : (n : ℕ) (x : Node) → IsNode n → IsNodeState x → IsSound c (with_node s n x)
-    node_put n x h i = record { messages = S.messages; nodes = all-put IsNodeAt n x s.nodes (record { node = h; state = i }) S.nodes; register = S.register; sequencers = S.sequencers; readers = S.readers; reader_names = S.reader_names; reader_places = S.reader_places; few_readers = S.few_readers; specs = S.specs }
+    node_put n x h i = record { messages = S.messages; nodes = all-put IsNodeAt n x s.nodes (record { node = h; state = i }) S.nodes; nodes_rise = Ordered-put n x s.nodes S.nodes_rise; register = S.register; sequencers = S.sequencers; readers = S.readers; reader_names = S.reader_names; reader_places = S.reader_places; few_readers = S.few_readers; specs = S.specs }
 
     pub marked_is : (i : ℕ) → IsSound c (Step.marked s i)
-    marked_is i = record { messages = S.messages; nodes = S.nodes; register = S.register; sequencers = S.sequencers; readers = S.readers; reader_names = S.reader_names; reader_places = S.reader_places; few_readers = S.few_readers; specs = S.specs }
+    marked_is i = record { messages = S.messages; nodes = S.nodes; nodes_rise = S.nodes_rise; register = S.register; sequencers = S.sequencers; readers = S.readers; reader_names = S.reader_names; reader_places = S.reader_places; few_readers = S.few_readers; specs = S.specs }
 
     sequencers_grown : (r : Register) → Follows c s.register r → AllByRecursion (IsNamedSequencer c r) s.sequencers
     sequencers_grown r F = all_weaker (IsNamedSequencer c s.register) (IsNamedSequencer c r) s.sequencers (λ q Q. grown c s.register r q.1 F.up Q) S.sequencers
 
     register_put : (r : Register) → Follows c s.register r → IsSound c (with_register s r)
-    register_put r F = record { messages = S.messages; nodes = S.nodes; register = F.register; sequencers = sequencers_grown r F; readers = S.readers; reader_names = S.reader_names; reader_places = S.reader_places; few_readers = S.few_readers; specs = S.specs }
+    register_put r F = record { messages = S.messages; nodes = S.nodes; nodes_rise = S.nodes_rise; register = F.register; sequencers = sequencers_grown r F; readers = S.readers; reader_names = S.reader_names; reader_places = S.reader_places; few_readers = S.few_readers; specs = S.specs }
 
     -- a sequencer, and the register with it
     both_put : (name : List ℕ) (q : Sequencer) (r : Register) → Follows c s.register r → IsSequencer c r q → IsSound c (with_register (with_sequencer s name q) r)
-    both_put name q r F Q = record { messages = S.messages; nodes = S.nodes; register = F.register; sequencers = all-put_named (IsSequencer c r) name q s.sequencers Q (sequencers_grown r F); readers = S.readers; reader_names = S.reader_names; reader_places = S.reader_places; few_readers = S.few_readers; specs = S.specs }
+    both_put name q r F Q = record { messages = S.messages; nodes = S.nodes; nodes_rise = S.nodes_rise; register = F.register; sequencers = all-put_named (IsSequencer c r) name q s.sequencers Q (sequencers_grown r F); readers = S.readers; reader_names = S.reader_names; reader_places = S.reader_places; few_readers = S.few_readers; specs = S.specs }
 
     sequencer_put : (name : List ℕ) (q : Sequencer) → IsSequencer c s.register q → IsSound c (with_sequencer s name q)
-    sequencer_put name q Q = record { messages = S.messages; nodes = S.nodes; register = S.register; sequencers = all-put_named (IsSequencer c s.register) name q s.sequencers Q S.sequencers; readers = S.readers; reader_names = S.reader_names; reader_places = S.reader_places; few_readers = S.few_readers; specs = S.specs }
+    sequencer_put name q Q = record { messages = S.messages; nodes = S.nodes; nodes_rise = S.nodes_rise; register = S.register; sequencers = all-put_named (IsSequencer c s.register) name q s.sequencers Q S.sequencers; readers = S.readers; reader_names = S.reader_names; reader_places = S.reader_places; few_readers = S.few_readers; specs = S.specs }
 
     -- a reader that is there
     reader_put : (name : List ℕ) (d x : Reader) → find_named name s.readers ≡ Some d → x.number ≡ d.number → IsReader c x → IsSound c (with_reader s name x)
     reader_put name d x h q X = let l = length-there name x d s.readers h in let few = S.few_readers in record {
       messages = S.messages;
       nodes = S.nodes;
+      nodes_rise = S.nodes_rise;
       register = S.register;
       sequencers = S.sequencers;
       readers = all-put_named (IsReader c) name x s.readers X S.readers;
@@ -139,6 +144,7 @@ module _ (c : Config) where
     reader_new name x h q l X = let g = length-put name x s.readers in record {
       messages = S.messages;
       nodes = S.nodes;
+      nodes_rise = S.nodes_rise;
       register = S.register;
       sequencers = S.sequencers;
       readers = all-put_named (IsReader c) name x s.readers X S.readers;
@@ -288,8 +294,8 @@ module _ (c : Config) where
           (λ t. let z = ltb-false (released_of q) point t in let b = released_bound q Q.epoch (omega arith) in
           record { state = S; sends = posts_sent (whos.Sequencer q.epoch) q.log (to_each (bodies.Trim point) (all_nodes c)) (log_is c B q.log Q.log) (trims_sent q.epoch Q.epoch point (all_nodes c) (omega arith) (all_are c B)) })
 
-      retry_by : (name : List ℕ) (q : Sequencer) → IsSequencer c s.register q → IsDoneSoundly c (Step.acted c s name q (on_retry q))
-      retry_by name q Q = acted_is s S name q (on_retry q) Q (retry_is c s.register q (looks_at c s.register q.log) (looks_are s S q.log Q.log) q Q refl refl)
+      retry_by : (name : List ℕ) (q : Sequencer) → IsSequencer c s.register q → IsDoneSoundly c (Step.acted c s name q (on_retry (looks_at c s.register q.log) q))
+      retry_by name q Q = acted_is s S name q (on_retry (looks_at c s.register q.log) q) Q (retry_is c s.register q (looks_at c s.register q.log) (looks_are s S q.log Q.log) q Q refl refl)
 
       -- ---- activations ----
       activated_is : (r : Register) (x : Spec) (l e lce : ℕ) → ((k : ℕ) → IsLook c l k (looks_at c r l k)) → has_log c l ≡ true → IsSpecFor c l x → IsEpoch e → e ≤ (epochs_of r l).epoch → lce < e → IsSequencer c r (activated (looks_at c r l) x l e lce)
@@ -307,6 +313,7 @@ module _ (c : Config) where
       }
       activated_by name l r AtLimit h F g = record { state = register_put s S r F; sends = tt }
       activated_by name l r (Behind lce) h F g = quietly s S
+      activated_by name l r (Overtaken k) h F g = quietly s S
       activated_by name l r Fails h F g = record { state = register_put s S r F; sends = tt }
 
       activates_is : (name : List ℕ) (l : ℕ) → has_log c l ≡ true → IsDoneSoundly c (Step.activates c s name l (activate s.register l (Step.spec_set c s l)))
@@ -318,6 +325,7 @@ module _ (c : Config) where
         state = record {
           messages = S.messages;
           nodes = S.nodes;
+          nodes_rise = S.nodes_rise;
           register = S.register;
           sequencers = S.sequencers;
           readers = S.readers;
@@ -359,6 +367,7 @@ module _ (c : Config) where
       formats_by n r Granted h F = keeps_is (with_register s r) (register_put s S r F) n (ops.Format (generation_of r n) (epochs_in r.logs)) (Step.format_lines c n r) [] h (generation_is c r n F.register, epochs_told c B r.logs F.register.logs) tt
       formats_by n r AtLimit h F = saying s S _
       formats_by n r (Behind lce) h F = quietly s S
+      formats_by n r (Overtaken k) h F = quietly s S
       formats_by n r Fails h F = record { state = register_put s S r F; sends = tt }
 
       formats_loaded : (n : ℕ) (k : Kept) → IsNode n → IsDoneSoundly c (Step.formats_loaded c s n k)
@@ -390,7 +399,7 @@ module _ (c : Config) where
     happens_is s (events.Activate name l) i S = either s S (has_log c l && not (is_some (find_named name s.sequencers))) _ _ (λ t. activates_is s S name l (and_parts (has_log c l) _ t).0) (λ t. quietly s S)
     happens_is s (events.Append name payload) i S = live s S name (λ q. Step.append_done s name q payload (appending q payload)) (λ q Q. append_by s S name q payload (appending q payload) Q (appending_is s S q payload Q))
     happens_is s (events.Trim name point) i S = live s S name (λ q. Step.trim_done c s name q point) (λ q Q. trim_by s S name q point Q)
-    happens_is s (events.Retry name) i S = live s S name (λ q. Step.acted c s name q (on_retry q)) (λ q Q. retry_by s S name q Q)
+    happens_is s (events.Retry name) i S = live s S name (λ q. Step.acted c s name q (on_retry (looks_at c s.register q.log) q)) (λ q Q. retry_by s S name q Q)
     happens_is s (events.Drop name) i S = live s S name (λ q. only_state (with_sequencer s name (Step.dropped q))) (λ q Q. record { state = sequencer_put s S name (Step.dropped q) (dropped_is c s.register q Q); sends = tt })
     happens_is s (events.Deliver k) i S = delivers_is s S k
     happens_is s (events.Lose k) i S = record { state = marked_is s S k; sends = tt }
@@ -457,6 +466,10 @@ module _ (c : Config) where
     new_nodes_are [] a = tt
     new_nodes_are (n ∷ ns) a = (record { node = a.0; state = new_is }, new_nodes_are ns a.1)
 
+    new_keys : (ns : List ℕ) → map.keys_of (new_nodes ns) ≡ ns
+    new_keys [] = refl
+    new_keys (n ∷ ns) = ap (λ l. n ∷ l) (new_keys ns)
+
     nothing_ordered : Ordered {X = Epochs} []
     unfolding IsStrictlySortedBy
     nothing_ordered = tt
@@ -469,6 +482,7 @@ module _ (c : Config) where
     start_is = record {
       messages = tt;
       nodes = new_nodes_are (members c.nodes) (members_nodes c.nodes B.nodes);
+      nodes_rise = subst (IsStrictlySortedBy nat_cmp) (sym (new_keys (members c.nodes))) (sorted_from_strictly_increasing (members c.nodes) (members_rise c.nodes));
       register = record { rise = nothing_ordered; logs = tt; generations = tt };
       sequencers = tt;
       readers = tt;

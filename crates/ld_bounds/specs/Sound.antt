@@ -2,6 +2,7 @@
 use Rattle.std.specs.Prelude.{◌≡◌, ◌≤◌, ◌||◌, Bool, true, false, List, [], ◌∷◌, length}
 use Rattle.std.specs.List.{AllByRecursion}
 use Rattle.ld_table.specs.Named.{Distinct}
+use Rattle.ld_table.specs.Table.{Ordered}
 use Rattle.ld_ids.specs.Set.{IsSet}
 use Rattle.ld_config.specs.declared.config.Config.{Config}
 use Rattle.ld_schedule.specs.declared.event.Event.{Event}
@@ -28,6 +29,7 @@ IsEvent _ = Unit {0}
 pub record IsSound (c : Config) (s : State) : Type 0 where
   pub messages : AreMessages s.network.sent
   pub nodes : AllByRecursion IsNodeAt s.nodes
+  pub nodes_rise : Ordered s.nodes
   pub register : IsRegister c s.register
   pub sequencers : AllByRecursion (IsNamedSequencer c s.register) s.sequencers
   pub readers : AllByRecursion (IsNamedReader c) s.readers

@@ -120,13 +120,6 @@ fn written(alloc: Global, lines: &[Line]) -> Result<Vec<u8>, NoMemory> {
     Ok(text)
 }
 
-// Whether the outcome has these lines and these messages.
-fn shows(alloc: Global, outcome: &Outcome, lines: &[u8], sends: &[u8]) -> Result<bool, NoMemory> {
-    let written = written(alloc, outcome.lines.as_slice())?;
-    let sent = sent(alloc, &outcome.sends)?;
-    Ok(written.as_slice() == lines && sent.as_slice() == sends)
-}
-
 // ---- each call alone ----
 
 fn activate<G: Register>(
@@ -152,6 +145,10 @@ fn append(
     sequencers.append(alloc, name, payload)
 }
 
+fn trim(alloc: Global, sequencers: &Sequencers, name: &Name) -> Result<Outcome, NoMemory> {
+    sequencers.trim(alloc, name, Lsn::new(1, 0))
+}
+
 fn retry<G: Register>(
     alloc: Global,
     sequencers: &mut Sequencers,
@@ -170,6 +167,16 @@ fn hear<G: Register>(
     requires { IsMessage msg.now }
 {
     sequencers.on_reply(alloc, 1, msg, reg)
+}
+
+fn open(
+    alloc: Global,
+    readers: &mut Readers,
+    config: &Config,
+    name: &Name,
+    log: LogId,
+) -> Result<Outcome, NoMemory> {
+    readers.open(alloc, config, name, log, Lsn::new(1, 1), Lsn::new(1, 4))
 }
 
 fn poll<G: Register>(
@@ -199,87 +206,6 @@ fn read<G: Register>(
     }
 }
 
-// ---- whether a call writes these lines and sends these messages ----
-
-// An activation of a sequencer of this name with these nodes.
-fn activates<G: Register>(
-    alloc: Global,
-    sequencers: &mut Sequencers,
-    reg: &mut G,
-    name: &[u8],
-    nodes: u16,
-    lines: &[u8],
-    sends: &[u8],
-) -> Result<bool, NoMemory> {
-    let config = four_nodes(alloc)?;
-    let name = named(alloc, name)?;
-    let outcome = activate(alloc, sequencers, &config, &name, &spec_on(nodes)?, reg)?;
-    shows(alloc, &outcome, lines, sends)
-}
-
-// A register on an empty disk, from which `s` got the first epoch on these nodes.
-fn activated(
-    alloc: Global,
-    sequencers: &mut Sequencers,
-    nodes: u16,
-) -> Result<DiskRegister<MemDisk>, NoMemory> {
-    let mut reg = new_register(alloc)?;
-    if activates(
-        alloc,
-        sequencers,
-        &mut reg,
-        b"s",
-        nodes,
-        b"active s 1\n",
-        b"",
-    )? {
-        Ok(reg)
-    } else {
-        Err(NoMemory)
-    }
-}
-
-fn appends(
-    alloc: Global,
-    sequencers: &mut Sequencers,
-    lines: &[u8],
-    sends: &[u8],
-) -> Result<bool, NoMemory> {
-    let name = named(alloc, b"s")?;
-    let payload = Payload::new(Vec::from_elem(alloc, 7, 3)?);
-    let outcome = append(alloc, sequencers, &name, &payload)?;
-    shows(alloc, &outcome, lines, sends)
-}
-
-fn trims(
-    alloc: Global,
-    sequencers: &Sequencers,
-    lines: &[u8],
-    sends: &[u8],
-) -> Result<bool, NoMemory> {
-    let name = named(alloc, b"s")?;
-    let outcome = sequencers.trim(alloc, &name, Lsn::new(1, 0))?;
-    shows(alloc, &outcome, lines, sends)
-}
-
-fn retries<G: Register>(
-    alloc: Global,
-    sequencers: &mut Sequencers,
-    reg: &mut G,
-    sends: &[u8],
-) -> Result<bool, NoMemory> {
-    let name = named(alloc, b"s")?;
-    let outcome = retry(alloc, sequencers, &name, reg)?;
-    shows(alloc, &outcome, b"", sends)
-}
-
-// Dropping writes and sends nothing.
-fn drops(alloc: Global, sequencers: &mut Sequencers) -> Result<bool, NoMemory> {
-    let name = named(alloc, b"s")?;
-    let outcome = sequencers.drop(alloc, &name);
-    shows(alloc, &outcome, b"", b"")
-}
-
 // A node stored what has the first place of epoch 1.
 fn stored(node: u8) -> Result<Msg, NoMemory>
     ensures { IfOk result IsMessage }
@@ -298,75 +224,177 @@ fn stored(node: u8) -> Result<Msg, NoMemory>
     Err(NoMemory)
 }
 
-fn hears<G: Register>(
-    alloc: Global,
-    sequencers: &mut Sequencers,
-    reg: &mut G,
-    node: u8,
-    lines: &[u8],
-    sends: &[u8],
-) -> Result<bool, NoMemory> {
-    let outcome = hear(alloc, sequencers, &stored(node)?, reg)?;
-    shows(alloc, &outcome, lines, sends)
+// What a node says of the first place of epoch 1: all up to the place 9 is trimmed, or the epoch ends there, and what follows
+// is lost or isn't.
+#[derive(Clone, Copy)]
+enum Says {
+    Trimmed,
+    Ended { loss: bool },
 }
 
-// Whether the sequencer of epoch 1 has this name.
-fn serves(sequencers: &Sequencers, name: &[u8]) -> Result<bool, NoMemory> {
-    match sequencers.name_of(log(7)?, 1) {
-        Some(found) => Ok(found.bytes() == name),
-        None => Ok(false),
-    }
-}
-
-fn opens(alloc: Global, readers: &mut Readers) -> Result<bool, NoMemory> {
-    let config = four_nodes(alloc)?;
-    let name = named(alloc, b"d")?;
-    let (from, until) = (Lsn::new(1, 1), Lsn::new(1, 4));
-    let outcome = readers.open(alloc, &config, &name, log(7)?, from, until)?;
-    shows(alloc, &outcome, b"", b"")
-}
-
-// Polling writes nothing.
-fn polls<G: Register>(
-    alloc: Global,
-    readers: &mut Readers,
-    reg: &mut G,
-    sends: &[u8],
-) -> Result<bool, NoMemory> {
-    let name = named(alloc, b"d")?;
-    let outcome = poll(alloc, readers, &name, reg)?;
-    shows(alloc, &outcome, b"", sends)
-}
-
-// A node trimmed all up to the place 9 of epoch 1, and tells the first reader.
-fn trimmed() -> Result<Msg, NoMemory>
+// The first node says so to the first reader.
+fn said(says: Says) -> Result<Msg, NoMemory>
     ensures message { IfOk result IsMessage }
     ensures to { IfOk result (λ msg. msg.to ≡ OfReader 0) }
 {
     if let (Some(log), Some(node)) = (LogId::new(7), NodeId::new(1)) {
         let _ = (log.number(), node.number());
+        let from = Lsn::new(1, 1);
+        let body = match says {
+            Says::Trimmed => Body::ReadTrim {
+                round: 1,
+                from,
+                trim: Lsn::new(1, 9),
+            },
+            Says::Ended { loss } => Body::ReadEnded {
+                round: 1,
+                from,
+                end: from,
+                loss,
+            },
+        };
         return Ok(Msg {
             from: Who::Node(node),
             to: Who::Reader(0),
             log,
-            body: Body::ReadTrim {
-                round: 1,
-                from: Lsn::new(1, 1),
-                trim: Lsn::new(1, 9),
-            },
+            body,
         });
     }
     Err(NoMemory)
 }
 
-fn reads<G: Register>(
+// ---- steps ----
+
+// Sequencers and readers on one register.
+#[derive(Drop)]
+struct Scene {
+    sequencers: Sequencers,
+    readers: Readers,
+    reg: DiskRegister<MemDisk>,
+}
+
+// What is done.
+#[derive(Clone, Copy)]
+enum Does {
+    // A sequencer of the name of this letter is activated with these nodes.
+    Activate(u8, u16),
+    // `s` numbers three bytes.
+    Append,
+    // `s` trims up to the place 0 of epoch 1.
+    Trim,
+    Retry,
+    Drop,
+    // This node tells `s` that it stored what has the first place.
+    Stored(u8),
+    // `d` is opened on the places 1 to 4 of epoch 1.
+    Open,
+    Poll,
+    // The first node says this to `d`.
+    Say(Says),
+}
+
+// A step: what is done, the lines that it writes, and the messages that it sends.
+type Step = (Does, &'static [u8], &'static [u8]);
+
+fn begin(alloc: Global) -> Result<Scene, NoMemory> {
+    Ok(Scene {
+        sequencers: Sequencers::new(alloc),
+        readers: Readers::new(alloc),
+        reg: new_register(alloc)?,
+    })
+}
+
+fn activates(
     alloc: Global,
-    readers: &mut Readers,
-    reg: &mut G,
+    scene: &mut Scene,
+    letter: u8,
+    nodes: u16,
+) -> Result<Outcome, NoMemory> {
+    let config = four_nodes(alloc)?;
+    let name = named(alloc, &[letter])?;
+    let spec = spec_on(nodes)?;
+    activate(
+        alloc,
+        &mut scene.sequencers,
+        &config,
+        &name,
+        &spec,
+        &mut scene.reg,
+    )
+}
+
+fn appends(alloc: Global, scene: &mut Scene, name: &Name) -> Result<Outcome, NoMemory> {
+    let payload = Payload::new(Vec::from_elem(alloc, 7, 3)?);
+    append(alloc, &mut scene.sequencers, name, &payload)
+}
+
+fn opens(alloc: Global, scene: &mut Scene, name: &Name) -> Result<Outcome, NoMemory> {
+    let config = four_nodes(alloc)?;
+    open(alloc, &mut scene.readers, &config, name, log(7)?)
+}
+
+fn hears(alloc: Global, scene: &mut Scene, node: u8) -> Result<Outcome, NoMemory> {
+    let msg = stored(node)?;
+    hear(alloc, &mut scene.sequencers, &msg, &mut scene.reg)
+}
+
+fn reads(alloc: Global, scene: &mut Scene, says: Says) -> Result<Outcome, NoMemory> {
+    let msg = said(says)?;
+    read(alloc, &mut scene.readers, &msg, &mut scene.reg)
+}
+
+// What is done writes and sends this.
+fn outcome(alloc: Global, scene: &mut Scene, does: Does) -> Result<Outcome, NoMemory> {
+    let writer = named(alloc, b"s")?;
+    let reader = named(alloc, b"d")?;
+    match does {
+        Does::Activate(letter, nodes) => activates(alloc, scene, letter, nodes),
+        Does::Append => appends(alloc, scene, &writer),
+        Does::Trim => trim(alloc, &scene.sequencers, &writer),
+        Does::Retry => retry(alloc, &mut scene.sequencers, &writer, &mut scene.reg),
+        Does::Drop => Ok(scene.sequencers.drop(alloc, &writer)),
+        Does::Stored(node) => hears(alloc, scene, node),
+        Does::Open => opens(alloc, scene, &reader),
+        Does::Poll => poll(alloc, &mut scene.readers, &reader, &mut scene.reg),
+        Does::Say(says) => reads(alloc, scene, says),
+    }
+}
+
+// Whether what is done writes these lines and sends these messages.
+fn shows(
+    alloc: Global,
+    scene: &mut Scene,
+    does: Does,
     lines: &[u8],
+    sends: &[u8],
 ) -> Result<bool, NoMemory> {
-    let outcome = read(alloc, readers, &trimmed()?, reg)?;
-    shows(alloc, &outcome, lines, b"")
+    let outcome = outcome(alloc, scene, does)?;
+    let written = written(alloc, outcome.lines.as_slice())?;
+    let sent = sent(alloc, &outcome.sends)?;
+    Ok(written.as_slice() == lines && sent.as_slice() == sends)
+}
+
+// How many steps, from the first one on, write their lines and send their messages.
+fn as_told(alloc: Global, steps: &[Step]) -> Result<usize, NoMemory> {
+    let mut scene = begin(alloc)?;
+    for (place, step) in steps.iter().enumerate() {
+        let (does, lines, sends) = *step;
+        let shown = shows(alloc, &mut scene, does, lines, sends)?;
+        if !shown {
+            return Ok(place);
+        }
+    }
+    Ok(steps.len())
+}
+
+// Whether the sequencer of epoch 1 has this name, once `s` is activated.
+fn serves(alloc: Global, name: &[u8]) -> Result<bool, NoMemory> {
+    let mut scene = begin(alloc)?;
+    activates(alloc, &mut scene, b's', FIRST)?;
+    match scene.sequencers.name_of(log(7)?, 1) {
+        Some(found) => Ok(found.bytes() == name),
+        None => Ok(false),
+    }
 }
 
 // On how many nodes a record of the log is stored, 0 where the log is none of the configuration's.
@@ -385,85 +413,128 @@ fn a_log_is_found_by_its_number(rt: HostRuntime) -> Result<(), Fail> {
     Ok(())
 }
 
+// `s` is activated with the log's first nodes.
+const ACTIVE: Step = (Does::Activate(b's', FIRST), b"active s 1\n", b"");
+
+const APPENDED: Step = (Does::Append, b"appended s e1n1\n", b"s3s1");
+
+const OPENED: Step = (Does::Open, b"", b"");
+
+const POLLED: Step = (Does::Poll, b"", b"a1a2a3");
+
+// A reader that is finished asks nobody.
+const FINISHED: Step = (Does::Poll, b"", b"");
+
+#[test]
+fn a_sequencer_is_found_by_its_epoch(rt: HostRuntime) -> Result<(), Fail> {
+    let alloc = rt.alloc();
+    assert!(rt; serves(alloc, b"s")?);
+    Ok(())
+}
+
+const TRIMMED: &[Step] = &[ACTIVE, (Does::Trim, b"trimmed s e1n0\n", b"t1t2t3t4")];
+
 #[test]
 fn a_trim_tells_all_nodes(rt: HostRuntime) -> Result<(), Fail> {
     let alloc = rt.alloc();
-    let mut sequencers = Sequencers::new(alloc);
-    let _ = activated(alloc, &mut sequencers, FIRST)?;
-    assert!(rt; serves(&sequencers, b"s")?);
-    assert!(rt; trims(alloc, &sequencers, b"trimmed s e1n0\n", b"t1t2t3t4")?);
+    assert_eq!(rt; as_told(alloc, TRIMMED)?, TRIMMED.len());
     Ok(())
 }
+
+const ACKNOWLEDGED: &[Step] = &[
+    ACTIVE,
+    APPENDED,
+    (Does::Stored(1), b"", b""),
+    (
+        Does::Stored(2),
+        b"acked s e1n1\nreleased s e1n1\n",
+        b"r1r2r3",
+    ),
+];
 
 #[test]
 fn the_second_node_acknowledges(rt: HostRuntime) -> Result<(), Fail> {
     let alloc = rt.alloc();
-    let mut sequencers = Sequencers::new(alloc);
-    let mut reg = activated(alloc, &mut sequencers, FIRST)?;
-    assert!(rt; appends(alloc, &mut sequencers, b"appended s e1n1\n", b"s3s1")?);
-    assert!(rt; hears(alloc, &mut sequencers, &mut reg, 1, b"", b"")?);
-    let lines = b"acked s e1n1\nreleased s e1n1\n";
-    assert!(rt; hears(alloc, &mut sequencers, &mut reg, 2, lines, b"r1r2r3")?);
+    assert_eq!(rt; as_told(alloc, ACKNOWLEDGED)?, ACKNOWLEDGED.len());
     Ok(())
 }
+
+const RETRIED: &[Step] = &[ACTIVE, APPENDED, (Does::Retry, b"", b"s1s2")];
 
 #[test]
 fn a_retry_goes_to_the_next_wave(rt: HostRuntime) -> Result<(), Fail> {
     let alloc = rt.alloc();
-    let mut sequencers = Sequencers::new(alloc);
-    let mut reg = activated(alloc, &mut sequencers, FIRST)?;
-    assert!(rt; appends(alloc, &mut sequencers, b"appended s e1n1\n", b"s3s1")?);
-    assert!(rt; retries(alloc, &mut sequencers, &mut reg, b"s1s2")?);
+    assert_eq!(rt; as_told(alloc, RETRIED)?, RETRIED.len());
     Ok(())
 }
+
+// The name of a dropped sequencer stays taken.
+const DROPPED: &[Step] = &[
+    ACTIVE,
+    (Does::Drop, b"", b""),
+    (Does::Append, b"", b""),
+    (Does::Activate(b's', FIRST), b"", b""),
+];
 
 #[test]
 fn a_dropped_sequencer_does_nothing_more(rt: HostRuntime) -> Result<(), Fail> {
     let alloc = rt.alloc();
-    let mut sequencers = Sequencers::new(alloc);
-    let mut reg = activated(alloc, &mut sequencers, FIRST)?;
-    assert!(rt; drops(alloc, &mut sequencers)?);
-    assert!(rt; appends(alloc, &mut sequencers, b"", b"")?);
-    // its name stays taken
-    assert!(rt; activates(alloc, &mut sequencers, &mut reg, b"s", FIRST, b"", b"")?);
+    assert_eq!(rt; as_told(alloc, DROPPED)?, DROPPED.len());
     Ok(())
 }
+
+const TRIM: &[Step] = &[
+    OPENED,
+    POLLED,
+    (Does::Say(Says::Trimmed), b"gap d trim e1n1 e1n4\n", b""),
+    FINISHED,
+];
+
+const BRIDGE: &[Step] = &[
+    OPENED,
+    POLLED,
+    (
+        Does::Say(Says::Ended { loss: false }),
+        b"gap d bridge e1n1 e1n4\n",
+        b"",
+    ),
+    FINISHED,
+];
+
+const LOSS: &[Step] = &[
+    OPENED,
+    POLLED,
+    (
+        Does::Say(Says::Ended { loss: true }),
+        b"gap d dataloss e1n1 e1n4\n",
+        b"",
+    ),
+    FINISHED,
+];
 
 #[test]
 fn a_gap_ends_at_the_last_number_that_is_wanted(rt: HostRuntime) -> Result<(), Fail> {
     let alloc = rt.alloc();
-    let mut readers = Readers::new(alloc);
-    let mut reg = new_register(alloc)?;
-    assert!(rt; opens(alloc, &mut readers)?);
-    assert!(rt; polls(alloc, &mut readers, &mut reg, b"a1a2a3")?);
-    assert!(rt; reads(alloc, &mut readers, &mut reg, b"gap d trim e1n1 e1n4\n")?);
-    // it is finished
-    assert!(rt; polls(alloc, &mut readers, &mut reg, b"")?);
+    assert_eq!(rt; as_told(alloc, TRIM)?, TRIM.len());
+    assert_eq!(rt; as_told(alloc, BRIDGE)?, BRIDGE.len());
+    assert_eq!(rt; as_told(alloc, LOSS)?, LOSS.len());
     Ok(())
 }
+
+// The next epoch's sequencer asks the nodes of the one before, whatever its own are.
+const ELSEWHERE: &[Step] = &[
+    (Does::Activate(b's', OTHERS), b"active s 1\n", b""),
+    (Does::Append, b"appended s e1n1\n", b"s2s4"),
+    OPENED,
+    (Does::Poll, b"", b"a2a4"),
+    (Does::Activate(b't', FIRST), b"active t 2\n", b"d2d4"),
+];
 
 #[test]
 fn an_epoch_is_written_and_read_on_the_nodes_that_were_fixed_for_it(
     rt: HostRuntime,
 ) -> Result<(), Fail> {
     let alloc = rt.alloc();
-    let mut sequencers = Sequencers::new(alloc);
-    let mut readers = Readers::new(alloc);
-    let mut reg = activated(alloc, &mut sequencers, OTHERS)?;
-    assert!(rt; appends(alloc, &mut sequencers, b"appended s e1n1\n", b"s2s4")?);
-    assert!(rt; opens(alloc, &mut readers)?);
-    assert!(rt; polls(alloc, &mut readers, &mut reg, b"a2a4")?);
-    // the next epoch's sequencer asks them too, whatever its own nodes are
-    assert!(rt;
-        activates(
-            alloc,
-            &mut sequencers,
-            &mut reg,
-            b"t",
-            FIRST,
-            b"active t 2\n",
-            b"d2d4"
-        )?
-    );
+    assert_eq!(rt; as_told(alloc, ELSEWHERE)?, ELSEWHERE.len());
     Ok(())
 }
