@@ -7,7 +7,7 @@ use Rattle.ld_transcript.specs.declared.line.Line.{Line}
 use Rattle.ld_transcript.specs.declared.line.Line.TheVariants as lines
 use Rattle.ld_msg.specs.declared.msg.Who.TheVariants as whos
 use Rattle.ld_msg.specs.declared.msg.Msg.{Msg}
-use Rattle.ld_msg.specs.Register.{Register, Answer, Granted, AtLimit, Behind, Fails}
+use Rattle.ld_msg.specs.Register.{Register, Answer, Granted, AtLimit, Behind, Overtaken, Fails}
 use Rattle.ld_msg.specs.Sequencer as sequencer
 use Rattle.ld_msg.specs.Sequencer.{Sequencer, Acts, Appending, released_of, rose}
 use Rattle.ld_machine.specs.Config.{looks_at}
@@ -75,6 +75,7 @@ activates_client : (c : Config) (s : State) (name : List ℕ) (l : ℕ) (r : Reg
 activates_client c s name l r Granted = record { nodes = refl; network = refl; own = refl; asks = posted_asks (whos.Sequencer _) l _ refl }
 activates_client c s name l r AtLimit = record { nodes = refl; network = refl; own = refl; asks = tt }
 activates_client c s name l r (Behind lce) = nothing_client s
+activates_client c s name l r (Overtaken k) = nothing_client s
 activates_client c s name l r Fails = record { nodes = refl; network = refl; own = refl; asks = tt }
 
 pub activate_client : (c : Config) (s : State) (name : List ℕ) (l : ℕ) → IsClient s (happens c s (events.Activate name l))

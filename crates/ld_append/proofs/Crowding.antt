@@ -8,7 +8,8 @@ use Rattle.ld_table.specs.Words.{how_many}
 use Rattle.ld_ids.specs.declared.set.Spec.{Spec}
 use Rattle.ld_msg.specs.declared.msg.Summary.{Summary}
 use Rattle.ld_msg.specs.declared.msg.Msg.{Msg}
-use Rattle.ld_msg.specs.Register.{Register, View, Answer, Granted, AtLimit, Behind, Fails, Epochs, is_crowded, Changed, log_limit, journal_limit, epoch_limit, record_length, with_epochs, is_made, made, unmade, change, activate, close, next_epoch, closed_epochs, epochs_of, lce_of}
+use Rattle.ld_msg.specs.Register.{Register, View, Answer, Granted, AtLimit, Behind, Overtaken, Fails, Epochs, is_overtaken, is_crowded, Changed, log_limit, journal_limit, epoch_limit, record_length, with_epochs, is_made, made, unmade, change, activate, close, next_epoch, closed_epochs, epochs_of, lce_of}
+use Rattle.ld_msg.specs.Sequencer.{Attempt}
 use Rattle.ld_register.specs.Calls.{activated, ended, after_activate, after_close, ChangedOrNot}
 use Rattle.ld_register.specs.declared.fault.RegisterFault.TheVariants as registers
 use Rattle.ld_register.specs.declared.register.Grant.{Grant}
@@ -73,14 +74,18 @@ same_activate spec r =
     if_both (Same l r) (is_crowded r l) r (activate r l spec).register refl
     (if_changed l r (nat_le epoch_limit (epochs_of r l).epoch) (record { register = r; answer = AtLimit }) (change r (with_epochs r l (next_epoch (epochs_of r l) spec)) 13) refl (same_change l r (next_epoch (epochs_of r l) spec) 13))
 
-same_close : (l e : ℕ) (y : Summary) (r : Register) → Same l r (after_close r l e y)
+same_close : (l e : ℕ) (y : Summary) (short : Bool) (r : Register) → Same l r (after_close r l e y short)
 unfolding close
-same_close l e y r = if_both (Same l r) (is_crowded r l) r (close r l e y).register refl
-    (if_changed l r (lce_of r l + 1 == e) (change r (with_epochs r l (closed_epochs (epochs_of r l) e y)) 29) (record { register = r; answer = Behind (lce_of r l) }) (same_change l r (closed_epochs (epochs_of r l) e y) 29) refl)
+same_close l e y short r =
+    let closes : Changed = change r (with_epochs r l (closed_epochs (epochs_of r l) e y)) 30 in
+    let late : Changed = record { register = r; answer = Overtaken (epochs_of r l).epoch } in
+    if_both (Same l r) (is_crowded r l) r (close r l e y short).register refl
+    (if_changed l r (not (lce_of r l + 1 == e)) (record { register = r; answer = Behind (lce_of r l) }) (if is_overtaken (epochs_of r l) y short then late else closes) refl
+    (if_changed l r (is_overtaken (epochs_of r l) y short) late closes refl (same_change l r (closed_epochs (epochs_of r l) e y) 30)))
 
-same_tries : (l : ℕ) (ts : List (ℕ × Summary)) (r : Register) → Same l r (after_tries r l ts)
+same_tries : (l : ℕ) (ts : List Attempt) (r : Register) → Same l r (after_tries r l ts)
 same_tries l [] r = refl
-same_tries l (t ∷ ts) r = same_close l t.0 t.1 r
+same_tries l (t ∷ ts) r = same_close l t.epoch t.summary t.short r
 
 -- what a call leaves
 leaves_by : (l : ℕ) (before now : Register → Type 0) (f : Register → Register) → ((r : Register) → Same l r (f r)) → ChangedOrNot before now f → MayCrowd now l → MayCrowd before l
@@ -91,7 +96,7 @@ leaves_by l before now f same changes m =
 pub activation_leaves : (spec : Spec) (told_old told_new : Type 0) (before now : Register → Type 0) → (told_old → told_new) → (told_old → ChangedOrNot before now (λ c. after_activate c spec)) → Leaves spec.log told_old told_new before now
 activation_leaves spec told_old told_new before now t d = record { told = t; back = λ is m. leaves_by spec.log before now (λ c. after_activate c spec) (same_activate spec) (d is) m }
 
-pub tries_leave : (l : ℕ) (ts : List (ℕ × Summary)) (told_old told_new : Type 0) (before now : Register → Type 0) → (told_old → told_new) → (told_old → ChangedOrNot before now (λ c. after_tries c l ts)) → Leaves l told_old told_new before now
+pub tries_leave : (l : ℕ) (ts : List Attempt) (told_old told_new : Type 0) (before now : Register → Type 0) → (told_old → told_new) → (told_old → ChangedOrNot before now (λ c. after_tries c l ts)) → Leaves l told_old told_new before now
 tries_leave l ts told_old told_new before now t d = record { told = t; back = λ is m. leaves_by l before now (λ c. after_tries c l ts) (same_tries l ts) (d is) m }
 
 -- ---- a refusal ----
@@ -106,6 +111,7 @@ limit_ended : (x : Answer) (full : Bool) (g : Grant) (origin : Origin) (spec : S
 limit_ended Granted full g origin spec looks old new fault e h = absurd h
 limit_ended AtLimit full g origin spec looks old new fault e h = let x : faults.Register registers.LogLimit ≡ faults.Register registers.EpochLimit = sym e ∙ h.0 in absurd cc
 limit_ended (Behind lce) full g origin spec looks old new fault e h = let x : faults.Register registers.LogLimit ≡ faults.Register (registers.Behind lce None) = sym e ∙ h.0 in absurd cc
+limit_ended (Overtaken kept) full g origin spec looks old new fault e h = let x : faults.Register registers.LogLimit ≡ faults.Register (registers.Overtaken kept) = sym e ∙ h.0 in absurd cc
 limit_ended Fails true g origin spec looks old new fault e h = let x : faults.Register registers.LogLimit ≡ faults.Register registers.Full = sym e ∙ h.0 in absurd cc
 limit_ended Fails false g origin spec looks old new fault e h = let x : faults.Register registers.LogLimit ≡ faults.Register registers.Failed = sym e ∙ h.0 in absurd cc
 
@@ -147,6 +153,7 @@ limit_register registers.Failed e = absurd cc
 limit_register (registers.Damaged place) e = absurd cc
 limit_register registers.LogLimit e = refl
 limit_register (registers.Behind lce next) e = absurd cc
+limit_register (registers.Overtaken kept) e = absurd cc
 limit_register registers.EpochLimit e = absurd cc
 limit_register registers.GenLimit e = absurd cc
 limit_register registers.Full e = absurd cc
@@ -170,10 +177,6 @@ no_limit None (Some unclosed.Full) e = cc
 -- or a look has failed
 abbrev pub MayFail : (Register → Type 0) → (ℕ → Type 0) → ℕ → SequencerFault → Type 0
 MayFail holds damaged log fault = (fault ≡ faults.Register registers.Failed) ⊎ IsCaused holds damaged log fault
-
-pub may_fail : (holds : Register → Type 0) (damaged : ℕ → Type 0) (log : ℕ) (r : Result Report SequencerFault) → IfErr r (IsCaused holds damaged log) → IfErr r (MayFail holds damaged log)
-may_fail holds damaged log (Ok report) h = tt
-may_fail holds damaged log (Err fault) h = inr h
 
 module _ (told told_new : Type 0) (holds may may_new : Register → Type 0) (damaged : ℕ → Type 0) (is : (c : Register) → holds c → may c) (w g : Whole) (e : g.sequencer.log ≡ w.sequencer.log) (leaves : Leaves w.sequencer.log told told_new may may_new) where
   -- a failed look is no crowded register

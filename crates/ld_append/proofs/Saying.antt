@@ -38,6 +38,7 @@ told_register name registers.Failed = record { name = name; there = first_there 
 told_register name (registers.Damaged place) = record { name = name; there = first_there (lines.RefusedRegister name) [] }
 told_register name registers.LogLimit = tt
 told_register name (registers.Behind lce next) = record { name = name; there = first_there (lines.RefusedRegister name) [] }
+told_register name (registers.Overtaken kept) = record { name = name; there = first_there (lines.RefusedRegister name) [] }
 told_register name registers.EpochLimit = record { name = name; there = first_there (lines.RefusedEpochLimit name) [] }
 told_register name registers.GenLimit = record { name = name; there = first_there (lines.RefusedRegister name) [] }
 told_register name registers.Full = record { name = name; there = first_there (lines.RefusedRegister name) [] }
@@ -72,6 +73,7 @@ has_lines name (Err (faults.Register registers.Failed)) n = refl
 has_lines name (Err (faults.Register (registers.Damaged place))) n = refl
 has_lines name (Err (faults.Register registers.LogLimit)) n = absurd (n refl)
 has_lines name (Err (faults.Register (registers.Behind lce next))) n = refl
+has_lines name (Err (faults.Register (registers.Overtaken kept))) n = refl
 has_lines name (Err (faults.Register registers.EpochLimit)) n = refl
 has_lines name (Err (faults.Register registers.GenLimit)) n = refl
 has_lines name (Err (faults.Register registers.Full)) n = refl
@@ -89,6 +91,7 @@ start_told name (faults.Register registers.Failed) = record { name = name; there
 start_told name (faults.Register (registers.Damaged place)) = refl
 start_told name (faults.Register registers.LogLimit) = refl
 start_told name (faults.Register (registers.Behind lce next)) = record { name = name; there = first_there (lines.RefusedRegister name) [] }
+start_told name (faults.Register (registers.Overtaken kept)) = record { name = name; there = first_there (lines.RefusedRegister name) [] }
 start_told name (faults.Register registers.EpochLimit) = record { name = name; there = first_there (lines.RefusedEpochLimit name) [] }
 start_told name (faults.Register registers.GenLimit) = record { name = name; there = first_there (lines.RefusedRegister name) [] }
 start_told name (faults.Register registers.Full) = record { name = name; there = first_there (lines.RefusedRegister name) [] }
@@ -128,6 +131,7 @@ damaged_register registers.Failed place e = absurd cc
 damaged_register (registers.Damaged k) place e = cc
 damaged_register registers.LogLimit place e = absurd cc
 damaged_register (registers.Behind lce next) place e = absurd cc
+damaged_register (registers.Overtaken kept) place e = absurd cc
 damaged_register registers.EpochLimit place e = absurd cc
 damaged_register registers.GenLimit place e = absurd cc
 damaged_register registers.Full place e = absurd cc

@@ -51,11 +51,9 @@ use Rattle.ld_clients.specs.Serving.{shown}
 use Rattle.ld_clients.proofs.Acting.{append_done, append_refused, retry_done, reply_done, retried_goes, replied_goes, appended_goes, same_goes}
 use Rattle.ld_clients.proofs.Placing.{placed, named, append_nobody, append_somebody, retry_nobody, retry_somebody, reply_somebody}
 use Rattle.ld_clients.proofs.Activating.{granted_done, refused_done, know_active, active_whole}
-use Rattle.ld_msg.specs.Register.{Answer, View, Granted, AtLimit, Behind, Fails}
+use Rattle.ld_msg.specs.Register.{Answer, View, Granted, AtLimit, Behind, Overtaken, Fails}
 use Rattle.ld_clients.specs.Serving.{serving_in}
-use Rattle.ld_register.specs.Bounds.{IsSpecFor}
-use Rattle.ld_sequencer.specs.Looks.{shows}
-use Rattle.ld_sequencer.specs.Whole.{Acted, IsActive, Activates, IsRefused, Unseen, origin_of, looks_after, looks_of, tried, called_by, reply_acts, retry_acts}
+use Rattle.ld_sequencer.specs.Whole.{Acted, ActedBy, IsActive, Activates, IsRefused, Unlooked, Unseen, origin_of, looks_after, looks_of, called_by, raised_whole, pending_stores, reply_acts, retry_acts}
 use Rattle.ld_machine.specs.Step.{comes_to, to_live}
 use Rattle.ld_append.specs.Refusing.{lines_by, start_lines}
 use Rattle.ld_append.proofs.Saying.{has_lines}
@@ -231,8 +229,9 @@ module _ (c : Config) (s : State) (name : List ℕ) (T : Register → Type 0) wh
       lines_are : o.lines.items ≡ told_lines name r
       lines_are = ls ∙ has_lines name r (not_limit (U s.register) r x room_is)
 
-      pub retried : IfOk r (λ report. Acted w g report old new (called_by w s.register (retry_acts w)).acts × U (called_by w s.register (retry_acts w)).register)
-          → IfOk r (λ report. (x : Spec) × IsSpecFor w.sequencer.log x × (d : Answer) × Acted w g report old new (tried (shows x) (retry_acts w) d)) → IfErr r (λ fault. IsRefused w g fault old new (retry_acts w))
+      pub retried : IfOk r (λ report. Acted w g report old new (called_by w s.register (retry_acts (looks_of w s.register) w)).acts × U (called_by w s.register (retry_acts (looks_of w s.register) w)).register)
+          → IfOk r (λ report. ActedBy w g report old new (λ looks. retry_acts looks w))
+          → IfErr r (λ fault. Unlooked w g fault old new (raised_whole w).sequencer (pending_stores (raised_whole w)) (λ looks. retry_acts looks w) ⊎ ((looks : ℕ → View) → IsRefused w g fault old new (retry_acts looks w)))
           → IsActed (Serves name (Some g) U c) s o.lines.items o.sends (happens c s (events.Retry name))
       retried y a f =
           let e : GoesOn (live_client w) (live_client g) = retried_goes (live_client w) (live_client g) r old new refl a f m in
@@ -243,8 +242,8 @@ module _ (c : Config) (s : State) (name : List ℕ) (T : Register → Type 0) wh
 
       pub answered : (a : Msg) → (a.to ≡ whos.Sequencer w.sequencer.epoch) → (a.log ≡ w.sequencer.spec.log)
           → IfOk r (λ report. Acted w g report old new (called_by w s.register (reply_acts (looks_of w s.register) w a.from a.body)).acts × U (called_by w s.register (reply_acts (looks_of w s.register) w a.from a.body)).register)
-          → IfOk r (λ report. (x : Spec) × IsSpecFor w.sequencer.log x × (d : Answer) × Acted w g report old new (tried (shows x) (reply_acts (shows x) w a.from a.body) d))
-          → IfErr r (λ fault. Unseen w g fault old new a.body ⊎ ((looks : ℕ → View) → IsRefused w g fault old new (reply_acts looks w a.from a.body)))
+          → IfOk r (λ report. ActedBy w g report old new (λ looks. reply_acts looks w a.from a.body))
+          → IfErr r (λ fault. Unseen w g fault old new a.body ⊎ (Unlooked w g fault old new w.sequencer [] (λ looks. reply_acts looks w a.from a.body) ⊎ ((looks : ℕ → View) → IsRefused w g fault old new (reply_acts looks w a.from a.body))))
           → IsActed (Serves name (Some g) U c) s o.lines.items o.sends (comes_to c s a a.to)
       answered a to log y t f =
           let e : GoesOn (live_client w) (live_client g) = replied_goes (live_client w) (live_client g) r old new a.from a.body refl t f m in
@@ -268,6 +267,7 @@ refused_as : (name : List ℕ) (fault : SequencerFault) (origin : Origin) (spec 
 refused_as name fault origin spec looks old new Granted full g h = absurd h
 refused_as name fault origin spec looks old new AtLimit full g h = subst (λ x. start_lines name x ≡ fault_lines name x) (sym h.0) refl
 refused_as name fault origin spec looks old new (Behind lce) full g h = subst (λ x. start_lines name x ≡ fault_lines name x) (sym h.0) refl
+refused_as name fault origin spec looks old new (Overtaken kept) full g h = subst (λ x. start_lines name x ≡ fault_lines name x) (sym h.0) refl
 refused_as name fault origin spec looks old new Fails true g h = subst (λ x. start_lines name x ≡ fault_lines name x) (sym h.0) refl
 refused_as name fault origin spec looks old new Fails false g h = subst (λ x. start_lines name x ≡ fault_lines name x) (sym h.0) refl
 

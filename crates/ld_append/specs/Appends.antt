@@ -1,5 +1,5 @@
 -- How the drive of a sequencer over payloads ends.
-use Rattle.std.specs.Prelude.{◌⊎◌, ◌≡◌, ◌+◌, ◌<◌, ℕ, List, [], ◌∷◌, Option, Bool, true, false}
+use Rattle.std.specs.Prelude.{◌⊎◌, ◌≡◌, ◌+◌, ◌<◌, ℕ, List, [], ◌∷◌, Option, None, Bool, true, false}
 use Rattle.std.specs.declared.result.Result.{Result}
 use Rattle.std.specs.declared.result.Result.TheVariants.{Ok, Err}
 use Rattle.std.specs.Io.KnownBytes.{Appends}
@@ -84,7 +84,7 @@ EndAt name log c first coming most ended s es = Both (IsBegun (Activate name log
 
 -- the sequencer that is driven
 abbrev pub sequencing : List ℕ → Driver
-sequencing name = record { name = name; takes = takes name }
+sequencing name = record { name = name; takes = takes name; ticks = None }
 
 -- by those steps, with these rounds; where it is done its sequencer is settled. It never ends with a frame that is off
 abbrev pub IsAppended : List ℕ → ℕ → Type 0 → Option Input → ℕ → (Config → Far → Type 0) → (Register → Type 0) → Config → State → Option (List ℕ) → Option (List ℕ) → Ended → Type 0

@@ -230,7 +230,8 @@ impl<G: Register> Acting<G> {
         }
     }
 
-    /// Sends again what is still wanted, and tries a close again.
+    /// Sends again what is still wanted, looks again where no look succeeded at an epoch whose nodes have told all that they
+    /// can, and tries its close again.
     fn again(&mut self, alloc: Global) -> Result<Heard, NoMemory>
         ensures name { self.new.name ≡ self.old.name }
         ensures log { self.new.log ≡ self.old.log }
@@ -300,7 +301,7 @@ impl<G: Register> Actor for Acting<G> {
 
     ghost stands_apart = { λ a c s nodes network h. record { sequencers = record { sequencers = h.sequencers.sequencers; logs = h.sequencers.logs }; whole = h.whole; register = h.register } };
 
-    ghost own = { λ a. record { name = a.name; log = a.log; takes = takes a.name } };
+    ghost own = { λ a. record { name = a.name; log = a.log; takes = takes a.name; ticks = None } };
 
     ghost since = { λ a b. IsSince a.sequencer b.sequencer (G.told a.register) (G.told b.register) (G.may_hold a.register) (G.may_hold b.register) a.is_shut b.is_shut × (G.identity b.register ≡ G.identity a.register) };
 
@@ -330,6 +331,10 @@ impl<G: Register> Actor for Acting<G> {
                 Err(refused)
             }
         }
+    }
+
+    fn reminder(&mut self, _: Global, _: &Msg, _: u32) -> Result<Option<Msg>, NoMemory> {
+        Ok(None)
     }
 }
 

@@ -22,7 +22,7 @@ use Rattle.ld_rounds.specs.Queued.{queue_of, put_all}
 use Rattle.ld_rounds.specs.News.{is_answer, AreNews}
 use Rattle.ld_rounds.specs.Acts.{IsActed}
 use Rattle.ld_rounds.specs.Drives.{own_lines, Driver, MayLose, MayDeliver, IsDriven, Goes, IsApart, Holds, Moved}
-use Rattle.ld_rounds.specs.Rounds.{Quiet}
+use Rattle.ld_rounds.specs.Rounds.{Quiet, IsDelivered}
 use Rattle.ld_rounds.proofs.Joining.{Joins, quiet_joins}
 use Rattle.ld_rounds.proofs.News.{Taken, take_first, take_answer, first_asks, answer_is, sent_answers, sent_asks, length-put_all}
 use Rattle.ld_rounds.proofs.Steps.{stays, goes_on, goes_by, delivery_is, loss_is, lost_state, finished_state, to_node_far, answers_from, IsFar}
@@ -114,7 +114,7 @@ module _ (who : Driver) (broken : Type 0) (c : Config) (first : ℕ) (b : IsInBo
     -- the first answer, which the actor takes, comes to it
     pub hear_first : (after : Config → State → Type 0) → IsApart after → (s : State) (far : Far) (qs : List (List Msg)) (m : Msg) (rest : List Msg) (ls : List Line) (ms : List Msg) → Holds stands c first s far qs → far.answers ≡ m ∷ rest → who.takes s m ≡ true
         → ((t : State) → IsSound c t → stands c t → IsActed (after c) t ls ms (comes_to c t m m.to))
-        → Moved who broken Quiet after c first s (record far { answers = rest }) (put_all qs ms) ls
+        → Moved who broken (IsDelivered m) after c first s (record far { answers = rest }) (put_all qs ms) ls
     hear_first after still s far qs m rest ls ms h e heard acts =
         let k = take_answer first s.network qs far.answers m rest h.news e in
         let i = k.place in
@@ -125,7 +125,7 @@ module _ (who : Driver) (broken : Type 0) (c : Config) (first : ℕ) (b : IsInBo
         let network : (finish d).state.network ≡ send_all (mark s.network i) ms = ap (λ x. x.network) (finished_state d) ∙ (ap (λ w. send_all w d.sends) a.network ∙ ap (send_all (mark s.network i)) (sym a.sends)) in
         record {
           state = (finish d).state;
-          goes = subst (λ xs. Goes who broken Quiet c s (finish d).state xs) (ap own_lines (sym a.lines) ∙ a.own) (goes_by who broken c Quiet s (events.Deliver i) d (subst (λ o. MayDeliver (who.takes s) o) (sym k.there) (inr heard)) (refl, tt) there);
+          goes = subst (λ xs. Goes who broken (IsDelivered m) c s (finish d).state xs) (ap own_lines (sym a.lines) ∙ a.own) (goes_by who broken c (IsDelivered m) s (events.Deliver i) d (subst (λ o. MayDeliver (who.takes s) o) (sym k.there) (inr heard)) (record { place = i; one = refl; there = k.there }) there);
           holds = record {
             sound = subst (λ (x : State). IsSound c x) (ap (λ r. r.state) there) (step_is c b s (events.Deliver i) tt h.sound);
             actor = subst (λ (x : State). after c x) (sym (finished_state d)) (still c d.state d.state.nodes (send_all d.state.network d.sends) a.actor);

@@ -19,9 +19,9 @@ use Rattle.ld_rounds.specs.Queued.{queue_of, put_all}
 use Rattle.ld_rounds.specs.News.{AreNews}
 use Rattle.ld_rounds.specs.Output.{AppendsPart}
 use Rattle.ld_rounds.specs.Telling.{Told, HasTold, IsTelling}
-use Rattle.ld_rounds.specs.Rounds.{Quiet, QuietEnd, IsVisit}
+use Rattle.ld_rounds.specs.Rounds.{Quiet, Visiting, VisitEnd, IsVisit}
 use Rattle.ld_rounds.specs.Drives.{Driver, AllTaken, Holds, Moved, Went, Stopped, CutOr, Stops, GoesOn}
-use Rattle.ld_rounds.proofs.Joining.{Joins, quiet_joins}
+use Rattle.ld_rounds.proofs.Joining.{Joins, quiet_visits, visiting_joins}
 use Rattle.ld_rounds.proofs.Steps.{stays, goes_on, goes_if}
 use Rattle.ld_rounds.proofs.Driving.{moved_on}
 use Rattle.ld_rounds.proofs.Writing.{Appends-nil, none_written, all_written, lines_on, lines_cut}
@@ -95,9 +95,20 @@ module _ (who : Driver) (broken : Type 0) (c : Config) (first : ℕ) (b : IsInBo
     written = lines_on old mid new w.lines v.lines w.written v.written;
   }
 
-  abbrev pub went_quiet : (A B : Config → State → Type 0) (T U : Far → Type 0) (s : State) (qs rs : List (List Msg)) (old mid new : Option (List ℕ)) → (w : Went who broken Quiet A T c first s qs old mid) → Went who broken Quiet B U c first w.moved.state rs mid new
-      → Went who broken Quiet B U c first s rs old new
-  went_quiet A B T U s qs rs old mid new w v = went_on Quiet Quiet Quiet A B T U s qs rs old mid new (quiet_joins c) w v
+  -- quiet steps of a visit, without lines
+  abbrev pub went_visiting : (y : ℕ) (A : Config → State → Type 0) (T : Far → Type 0) (s : State) (far : Far) (qs : List (List Msg)) (a : Option (List ℕ)) → T far → Moved who broken Quiet A c first s far qs [] → Went who broken (Visiting c y) A T c first s qs a a
+  went_visiting y A T s far qs a t m =
+      went_quietly (Visiting c y) A T s far qs a t (record { state = m.state; goes = goes_if who broken c broken Quiet (Visiting c y) s m.state [] (λ l. l) (λ es e q. quiet_visits c y s es q) m.goes; holds = m.holds })
+
+  -- the actor is another one, of the same part of the state
+  abbrev pub went_by : (P : State → List Event → Type 0) (A B : Config → State → Type 0) (T : Far → Type 0) (s : State) (qs : List (List Msg)) (old new : Option (List ℕ)) → (w : Went who broken P A T c first s qs old new) → B c w.moved.state → Went who broken P B T c first s qs old new
+  went_by P A B T s qs old new w a = record {
+    far = w.far;
+    lines = w.lines;
+    told = w.told;
+    moved = record { state = w.moved.state; goes = w.moved.goes; holds = record { sound = w.moved.holds.sound; actor = a; nodes = w.moved.holds.nodes; count = w.moved.holds.count; news = w.moved.holds.news } };
+    written = w.written;
+  }
 
   pub went_stops : (P Q R : State → List Event → Type 0) (A : Config → State → Type 0) (T : Far → Type 0) (s : State) (qs : List (List Msg)) (old mid new : Option (List ℕ)) → Joins c P Q R → (w : Went who broken P A T c first s qs old mid) → Stopped who broken Q c w.moved.state mid new
       → Stopped who broken R c s old new
@@ -153,14 +164,14 @@ module _ (who : Driver) (broken : Type 0) (c : Config) (first : ℕ) (b : IsInBo
       then_by (inl y) = inl y
       then_by (inr v) = inr (goes_further P N M E F A B T U s qs rs old mid new r j k (went_as P L A T T s qs old mid l (λ f t. t) w) (goes_as N E K B U U w.moved.state rs mid new r o (λ f t. t) v))
 
-  pub quiet_on : {R : Type 0} (L K : Type 0) (X Y : Type 0) (A B : Config → State → Type 0) (T U : Far → Type 0) (s : State) (qs rs : List (List Msg)) (old mid new : Option (List ℕ)) (r : Result R Ended) → (L → broken) → (K → broken) → (X → Y)
-      → ((w : Went who L Quiet A T c first s qs old mid) → Y ⊎ GoesOn who K Quiet QuietEnd B U c first w.moved.state rs mid new r) → X ⊎ Went who L Quiet A T c first s qs old mid → Y ⊎ GoesOn who broken Quiet QuietEnd B U c first s rs old new r
-  quiet_on {R} L K X Y A B T U s qs rs old mid new r l o f g h = then_on {R = R} Quiet Quiet Quiet QuietEnd QuietEnd L K X Y A B T U s qs rs old mid new r (quiet_joins c) (each_end r (λ e. quiet_joins c)) l o f g h
+  pub visiting_on : {R : Type 0} (y : ℕ) (L K : Type 0) (X Y : Type 0) (A B : Config → State → Type 0) (T U : Far → Type 0) (s : State) (qs rs : List (List Msg)) (old mid new : Option (List ℕ)) (r : Result R Ended) → (L → broken) → (K → broken) → (X → Y)
+      → ((w : Went who L (Visiting c y) A T c first s qs old mid) → Y ⊎ GoesOn who K (Visiting c y) (VisitEnd c y) B U c first w.moved.state rs mid new r) → X ⊎ Went who L (Visiting c y) A T c first s qs old mid → Y ⊎ GoesOn who broken (Visiting c y) (VisitEnd c y) B U c first s rs old new r
+  visiting_on {R} y L K X Y A B T U s qs rs old mid new r l o f g h = then_on {R = R} (Visiting c y) (Visiting c y) (Visiting c y) (VisitEnd c y) (VisitEnd c y) L K X Y A B T U s qs rs old mid new r (visiting_joins c y) (each_end r (λ e. visiting_joins c y)) l o f g h
 
-  -- quiet steps that leave nothing that waits for the node
-  pub went_visit : (y : ℕ) (A : Config → State → Type 0) (T : Far → Type 0) (s : State) (qs : List (List Msg)) (old new : Option (List ℕ)) → queue_of qs y ≡ [] → Went who broken Quiet A (AllTaken T) c first s qs old new → Went who broken (IsVisit c first y) A (AllTaken T) c first s qs old new
-  went_visit y A T s qs old new z w = went_such broken Quiet (IsVisit c first y) A (AllTaken T) (AllTaken T) s qs old new (λ l. l) (λ f t. t) w
-      (λ es e q. record { quiet = q; queues = qs; news = subst (λ (x : State). AreNews first x.network qs []) e (subst (λ answers. AreNews first w.moved.state.network qs answers) w.told.1 w.moved.holds.news); emptied = z })
+  -- such steps that leave nothing that waits for the node
+  pub went_visit : (y : ℕ) (A : Config → State → Type 0) (T : Far → Type 0) (s : State) (qs : List (List Msg)) (old new : Option (List ℕ)) → queue_of qs y ≡ [] → Went who broken (Visiting c y) A (AllTaken T) c first s qs old new → Went who broken (IsVisit c first y) A (AllTaken T) c first s qs old new
+  went_visit y A T s qs old new z w = went_such broken (Visiting c y) (IsVisit c first y) A (AllTaken T) (AllTaken T) s qs old new (λ l. l) (λ f t. t) w
+      (λ es e q. record { steps = q; queues = qs; news = subst (λ (x : State). AreNews first x.network qs []) e (subst (λ answers. AreNews first w.moved.state.network qs answers) w.told.1 w.moved.holds.news); emptied = z })
 
   -- ---- what an actor did is told ----
   module _ (P : State → List Event → Type 0) (E : Ended → State → List Event → Type 0) (A : Config → State → Type 0) (s : State) (end : Far) (before now : List (List Msg)) (old new : Option (List ℕ)) (heard : Heard)

@@ -1,10 +1,13 @@
 -- Steps of a drive, one part after the other.
 use Rattle.std.proofs.Common.{◌≡◌, ◌⊎◌, ◌≤◌, ◌<◌, ◌+◌, arith, ℕ, suc, ◌==◌, Bool, true, false, List, [], ◌∷◌, ◌++◌, Option, Some, None, Ok, Err, refl, ap, sym, ◌∙◌, subst, inl, inr, append_assoc, if◌then◌else◌}
 use Rattle.std.specs.List.{AllByRecursion}
+use Rattle.std.proofs.lemmas.Bool.{eq-eqb}
 use Rattle.std.proofs.lemmas.List.{append-nil}
 use Rattle.ld_config.specs.declared.config.Config.{Config}
 use Rattle.ld_schedule.specs.declared.event.Event.{Event}
 use Rattle.ld_schedule.specs.declared.event.Event.TheVariants as events
+use Rattle.ld_msg.specs.declared.msg.Msg.{Msg}
+use Rattle.ld_msg.specs.Network.{message}
 use Rattle.ld_machine.specs.State.{State}
 use Rattle.ld_transcript.specs.declared.line.Line.{Line}
 use Rattle.ld_machine.specs.Step.{happens}
@@ -14,7 +17,7 @@ use Rattle.ld_rounds.specs.declared.ended.Ended.TheVariants as ends
 use Rattle.ld_rounds.specs.Input.{Input, all_taken}
 use Rattle.ld_rounds.specs.Feeding.{upcoming, NoneComes, WasOver, NextIs, IsInputEnding}
 use Rattle.ld_rounds.specs.Drives.{Turned}
-use Rattle.ld_rounds.specs.Rounds.{Splits, is_quiet, Quiet, IsVisit, AreVisits, IsReadRound, AreReadRounds, IsRetry, MayRetry, IsAppendRound, AreAppendRounds, AreAppends, IsAppendBy, IsBegun, tells_full, taken_by, taken_of, HasFed, Feeds, HasFedSome, FeedsUntil, Both}
+use Rattle.ld_rounds.specs.Rounds.{Splits, is_quiet, Quiet, IsDelivered, waiting_by, waiting_in, waiting, IsTickBehind, IsReminded, IsCalm, AreCalm, Calm, ticks_only, Visiting, IsVisit, AreVisits, IsReadRound, AreReadRounds, IsRetry, MayRetry, IsAppendRound, AreAppendRounds, AreAppends, IsAppendBy, IsBegun, tells_full, taken_by, taken_of, HasFed, Feeds, HasFedSome, FeedsUntil, Both}
 
 -- by so many rounds
 pub turned : {Y : Type 0} {W : ℕ → Type 0} (low high n : ℕ) → low ≤ n → n < high → Y ⊎ W n → Y ⊎ Turned low high W
@@ -50,6 +53,72 @@ all-append P [] fs a b = b
 all-append P (e ∷ es) fs a b = (a.0, all-append P es fs a.1 b)
 
 module _ (c : Config) where
+  -- ---- calm steps ----
+
+  calm_anyhow : (o : Option ℕ) (s : State) (es : List Event) → AreCalm c None s es → AreCalm c o s es
+  calm_anyhow o s [] h = h
+  calm_anyhow o s (events.Deliver i ∷ es) h = h
+  calm_anyhow o s (events.Lose i ∷ es) h = h
+  calm_anyhow o s (events.Tick n l ∷ es) h = (let wrong : None ≡ Some n = h.0 in absurd cc)
+  calm_anyhow o s (e ∷ es) h = absurd h.0
+
+  calm-append : (o : Option ℕ) (s : State) (es fs : List Event) → AreCalm c o s es → AreCalm c None (state_after c s es) fs → AreCalm c o s (es ++ fs)
+  unfolding state_after
+  calm-append o s [] fs a b = calm_anyhow o s fs b
+  calm-append o s (e ∷ es) fs a b = (a.0, calm-append (waiting s e o) (step c s e).state es fs a.1 b)
+
+  pub calm_joins : Joins c (Calm c) (Calm c) (Calm c)
+  calm_joins s es fs a b = calm-append None s es fs a b
+
+  pub visiting_joins : (y : ℕ) → Joins c (Visiting c y) (Visiting c y) (Visiting c y)
+  visiting_joins y s es fs a b = (calm_joins s es fs a.0 b.0, all-append (λ e. ticks_only y e ≡ true) es fs a.1 b.1)
+
+  -- quiet steps are such
+  quiet_calm : (o : Option ℕ) (s : State) (es : List Event) → Quiet s es → AreCalm c o s es
+  quiet_calm o s [] h = tt
+  quiet_calm o s (events.Deliver i ∷ es) h = (tt, quiet_calm (waiting s (events.Deliver i) o) (step c s (events.Deliver i)).state es h.1)
+  quiet_calm o s (events.Lose i ∷ es) h = (tt, quiet_calm (waiting s (events.Lose i) o) (step c s (events.Lose i)).state es h.1)
+  quiet_calm o s (e ∷ es) h = (let wrong = h.0 in absurd cc)
+
+  quiet_only : (y : ℕ) (s : State) (es : List Event) → Quiet s es → AllByRecursion (λ e. ticks_only y e ≡ true) es
+  quiet_only y s [] h = tt
+  quiet_only y s (events.Deliver i ∷ es) h = (refl, quiet_only y s es h.1)
+  quiet_only y s (events.Lose i ∷ es) h = (refl, quiet_only y s es h.1)
+  quiet_only y s (e ∷ es) h = (let wrong = h.0 in absurd cc)
+
+  pub quiet_visits : (y : ℕ) (s : State) (es : List Event) → Quiet s es → Visiting c y s es
+  quiet_visits y s es h = (quiet_calm None s es h, quiet_only y s es h)
+
+  -- ticks of the node that waits
+  ticks_calm : (y : ℕ) (m : Msg) (s : State) (es : List Event) → IsReminded y m s es → AreCalm c (waiting_by m.from m.body) s es
+  ticks_calm y m s [] h = tt
+  ticks_calm y m s (events.Tick n l ∷ es) h = (h.0.1 ∙ ap (λ (k : ℕ). Some k) (sym h.0.0), ticks_calm y m (step c s (events.Tick n l)).state es h.1)
+  ticks_calm y m s (e ∷ es) h = absurd h.0
+
+  ticks_of : (y : ℕ) (m : Msg) (es : List Event) → AllByRecursion (IsTickBehind y m) es → AllByRecursion (λ e. ticks_only y e ≡ true) es
+  ticks_of y m [] h = tt
+  ticks_of y m (events.Tick n l ∷ es) h = (eq-eqb n y h.0.0, ticks_of y m es h.1)
+  ticks_of y m (e ∷ es) h = absurd h.0
+
+  delivered_calm : (y i : ℕ) (m : Msg) (s : State) (fs : List Event) → message s.network i ≡ Some m → IsReminded y m (step c s (events.Deliver i)).state fs → Visiting c y s (events.Deliver i ∷ fs)
+  delivered_calm y i m s fs there h =
+      let t : State = (step c s (events.Deliver i)).state in
+      ((tt, subst (λ (o : Option Msg). AreCalm c (waiting_in o) t fs) (sym there) (ticks_calm y m t fs h)), (refl, ticks_of y m fs h))
+
+  -- an answer is delivered, and its node is ticked
+  pub reminded_joins : (y : ℕ) (m : Msg) → Joins c (IsDelivered m) (IsReminded y m) (Visiting c y)
+  unfolding state_after
+  reminded_joins y m s es fs d h =
+      let here : IsReminded y m (step c s (events.Deliver d.place)).state fs = h in
+      subst (λ (l : List Event). Visiting c y s (l ++ fs)) (sym d.one) (delivered_calm y d.place m s fs d.there here)
+
+  pub delivered_visits : (y : ℕ) (m : Msg) (s : State) (es : List Event) → IsDelivered m s es → Visiting c y s es
+  delivered_visits y m s es d = subst (λ (l : List Event). Visiting c y s l) (sym d.one) (delivered_calm y d.place m s [] d.there tt)
+
+  -- more of them
+  pub reminds_join : (y : ℕ) (m : Msg) → Joins c (IsReminded y m) (IsReminded y m) (IsReminded y m)
+  reminds_join y m s es fs a b = all-append (IsTickBehind y m) es fs a b
+
   pub quiet_joins : Joins c Quiet Quiet Quiet
   quiet_joins s es fs a b = all-append (λ e. is_quiet e ≡ true) es fs a b
 
@@ -78,9 +147,9 @@ module _ (c : Config) where
 
   -- ---- visits ----
 
-  pub visits_quiet : (first : ℕ) (ys : List ℕ) (s : State) (es : List Event) → AreVisits c first ys s es → Quiet s es
-  visits_quiet first [] s es h = subst (λ (l : List Event). Quiet s l) (sym h) tt
-  visits_quiet first (y ∷ ys) s es h = subst (λ (l : List Event). Quiet s l) (sym h.whole) (quiet_joins s h.front h.rest h.came.quiet (visits_quiet first ys (state_after c s h.front) h.rest h.goes))
+  pub visits_calm : (first : ℕ) (ys : List ℕ) (s : State) (es : List Event) → AreVisits c first ys s es → Calm c s es
+  visits_calm first [] s es h = subst (λ (l : List Event). Calm c s l) (sym h) tt
+  visits_calm first (y ∷ ys) s es h = subst (λ (l : List Event). Calm c s l) (sym h.whole) (calm_joins s h.front h.rest h.came.steps.0 (visits_calm first ys (state_after c s h.front) h.rest h.goes))
 
   -- one more node is visited
   pub visits_push : (first : ℕ) (ys : List ℕ) (y : ℕ) → Joins c (AreVisits c first ys) (IsVisit c first y) (AreVisits c first (ys ++ y ∷ []))
@@ -89,8 +158,9 @@ module _ (c : Config) where
       (splits_end (IsVisit c first y) (AreVisits c first []) s fs (subst (λ (x : State). IsVisit c first y x fs) (ap (state_after c s) h ∙ after_none c s) v) refl)
   visits_push first (z ∷ zs) y s es fs h v = splits_more (IsVisit c first z) (AreVisits c first zs) (IsVisit c first y) (AreVisits c first (zs ++ y ∷ [])) (visits_push first zs y) s es fs h v
 
-  pub visits_calm : (first : ℕ) (ys : List ℕ) → Joins c (AreVisits c first ys) Quiet Quiet
-  visits_calm first ys s es fs h q = quiet_joins s es fs (visits_quiet first ys s es h) q
+  -- and a part of one more
+  pub visits_part : (first : ℕ) (ys : List ℕ) (y : ℕ) → Joins c (AreVisits c first ys) (Visiting c y) (Calm c)
+  visits_part first ys y s es fs h q = calm_joins s es fs (visits_calm first ys s es h) q.0
 
   -- ---- rounds ----
 
@@ -118,30 +188,30 @@ module _ (c : Config) where
   taken-append s [] fs = refl
   taken-append s (e ∷ es) fs = ap (λ l. taken_by c s e ++ l) (taken-append (step c s e).state es fs) ∙ sym (append_assoc (taken_by c s e) (taken_of c (step c s e).state es) (taken_of c (state_after c (step c s e).state es) fs))
 
-  quiet_takes : (s : State) (e : Event) → is_quiet e ≡ true → taken_by c s e ≡ []
-  quiet_takes s (events.Append n payload) h = absurd cc
-  quiet_takes s (events.Deliver i) h = refl
-  quiet_takes s (events.Lose i) h = refl
-  quiet_takes s (events.Format n) h = refl
-  quiet_takes s (events.Activate n l) h = refl
-  quiet_takes s (events.Trim n p) h = refl
-  quiet_takes s (events.Retry n) h = refl
-  quiet_takes s (events.Drop n) h = refl
-  quiet_takes s (events.Flow k) h = refl
-  quiet_takes s (events.Open n l from until) h = refl
-  quiet_takes s (events.Poll n) h = refl
-  quiet_takes s (events.Tick n l) h = refl
-  quiet_takes s (events.Down n) h = refl
-  quiet_takes s (events.Up n) h = refl
-  quiet_takes s (events.Wipe n) h = refl
-  quiet_takes s (events.Fail n k) h = refl
-  quiet_takes s (events.Tear n k picture) h = refl
-  quiet_takes s (events.RegFail k done) h = refl
-  quiet_takes s (events.Set l r x set) h = refl
+  calm_takes : (o : Option ℕ) (s : State) (e : Event) → IsCalm o e → taken_by c s e ≡ []
+  calm_takes o s (events.Append n payload) h = absurd h
+  calm_takes o s (events.Deliver i) h = refl
+  calm_takes o s (events.Lose i) h = refl
+  calm_takes o s (events.Format n) h = refl
+  calm_takes o s (events.Activate n l) h = refl
+  calm_takes o s (events.Trim n p) h = refl
+  calm_takes o s (events.Retry n) h = refl
+  calm_takes o s (events.Drop n) h = refl
+  calm_takes o s (events.Flow k) h = refl
+  calm_takes o s (events.Open n l from until) h = refl
+  calm_takes o s (events.Poll n) h = refl
+  calm_takes o s (events.Tick n l) h = refl
+  calm_takes o s (events.Down n) h = refl
+  calm_takes o s (events.Up n) h = refl
+  calm_takes o s (events.Wipe n) h = refl
+  calm_takes o s (events.Fail n k) h = refl
+  calm_takes o s (events.Tear n k picture) h = refl
+  calm_takes o s (events.RegFail k done) h = refl
+  calm_takes o s (events.Set l r x set) h = refl
 
-  none_taken : (s : State) (es : List Event) → Quiet s es → taken_of c s es ≡ []
-  none_taken s [] h = refl
-  none_taken s (e ∷ es) h = ap (λ l. l ++ taken_of c (step c s e).state es) (quiet_takes s e h.0) ∙ none_taken (step c s e).state es h.1
+  none_taken : (o : Option ℕ) (s : State) (es : List Event) → AreCalm c o s es → taken_of c s es ≡ []
+  none_taken o s [] h = refl
+  none_taken o s (e ∷ es) h = ap (λ l. l ++ taken_of c (step c s e).state es) (calm_takes o s e h.0) ∙ none_taken (waiting s e o) (step c s e).state es h.1
 
   pub feeds_here : (i : Option Input) (s : State) → Feeds c i i s []
   feeds_here None s = tt
@@ -181,21 +251,12 @@ module _ (c : Config) where
   until_join None j e s es fs a b = tt
   until_join (Some i) j e s es fs a b = until_by i a.left e s es fs a.payloads a.off (subst (λ o. FeedsUntil c o e (state_after c s es) fs) a.now b)
 
-  pub feeds_quiet : (i j : Option Input) → Joins c (Feeds c i j) Quiet (Feeds c i j)
-  feeds_quiet None j s es fs a q = tt
-  feeds_quiet (Some i) j s es fs a q = record {
+  pub feeds_calm : (i j : Option Input) → Joins c (Feeds c i j) (Calm c) (Feeds c i j)
+  feeds_calm None j s es fs a q = tt
+  feeds_calm (Some i) j s es fs a q = record {
     left = a.left;
     now = a.now;
-    payloads = a.payloads ∙ ap (λ l. l ++ a.left.payloads) (sym (taken-append s es fs ∙ (ap (λ l. taken_of c s es ++ l) (none_taken (state_after c s es) fs q) ∙ append-nil (taken_of c s es))));
-    off = a.off;
-  }
-
-  pub quiet_feeds : (i j : Option Input) → Joins c Quiet (Feeds c i j) (Feeds c i j)
-  quiet_feeds None j s es fs q a = tt
-  quiet_feeds (Some i) j s es fs q a = record {
-    left = a.left;
-    now = a.now;
-    payloads = a.payloads ∙ ap (λ l. l ++ a.left.payloads) (sym (taken-append s es fs ∙ ap (λ l. l ++ taken_of c (state_after c s es) fs) (none_taken s es q)));
+    payloads = a.payloads ∙ ap (λ l. l ++ a.left.payloads) (sym (taken-append s es fs ∙ (ap (λ l. taken_of c s es ++ l) (none_taken None (state_after c s es) fs q) ∙ append-nil (taken_of c s es))));
     off = a.off;
   }
 

@@ -6,6 +6,7 @@ pub mod Going
 pub mod Joining
 pub mod News
 pub mod Queueing
+pub mod Reminding
 pub mod Steps
 pub mod Visiting
 pub mod Writing

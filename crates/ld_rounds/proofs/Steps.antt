@@ -77,6 +77,7 @@ driven_if who one other c s (e ∷ es) f d = (event_if e d.0, driven_if who one 
     event_if (events.Retry n) h = h
     event_if (events.Open n l from until) h = h
     event_if (events.Poll n) h = h
+    event_if (events.Tick n l) h = h
     event_if (events.Deliver i) h = h
     event_if (events.Lose i) h = lose_if (who.takes s) (message s.network i) h
     event_if x h = absurd h
@@ -141,7 +142,7 @@ pub record IsFar (s : State) (d e : Done) : Type 0 where
   pub sends : d.sends ≡ e.sends
   pub quiet : own_lines d.lines ≡ []
 
-kept_quiet : (n : ℕ) (k : Kept) → own_lines (kept_lines n [] k) ≡ []
+pub kept_quiet : (n : ℕ) (k : Kept) → own_lines (kept_lines n [] k) ≡ []
 kept_quiet n Written = refl
 kept_quiet n DiskFailed = refl
 kept_quiet n Crashed = refl
@@ -212,7 +213,7 @@ handled_unanswered generation g l ballot released (bodies.DigestAsk from) h = ab
 handled_unanswered generation g l ballot released (bodies.ReadAsk round from) h = absurd cc
 handled_unanswered generation g l ballot released b h = refl
 
-when_none : (b : Bool) → let none : List Msg = [] in (if b then none else none) ≡ none
+pub when_none : (b : Bool) → let none : List Msg = [] in (if b then none else none) ≡ none
 when_none true = refl
 when_none false = refl
 

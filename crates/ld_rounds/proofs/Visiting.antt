@@ -1,8 +1,10 @@
 -- A node is visited.
-use Rattle.std.proofs.Common.{◌≡◌, ◌⊎◌, ◌≤◌, ℕ, zero, suc, Bool, true, false, List, [], ◌∷◌, ◌++◌, set, Option, Some, None, Ok, Err, refl, ap, sym, ◌∙◌, subst, inl, inr, arith}
-use Rattle.std.specs.Prelude.{IfOk}
+use Rattle.std.proofs.Common.{◌≡◌, ◌⊎◌, ◌≤◌, ◌==◌, ◌||◌, ℕ, zero, suc, Bool, true, false, List, [], ◌∷◌, ◌++◌, set, Option, Some, None, Ok, Err, refl, ap, sym, ◌∙◌, subst, inl, inr, arith}
 use Rattle.std.specs.declared.result.Result.{Result}
-use Rattle.ld_table.specs.Words.{first as first_of}
+use Rattle.std.specs.List.{AllByRecursion}
+use Rattle.std.proofs.lemmas.Bool.{eq-eqb}
+use Rattle.ld_table.specs.Words.{first as first_of, is_in}
+use Rattle.ld_ids.specs.Set.{members}
 use Rattle.ld_ids.specs.Id.{IsNode}
 use Rattle.ld_io.specs.Causes.{Rose}
 use Rattle.ld_config.specs.declared.config.Config.{Config}
@@ -11,18 +13,18 @@ use Rattle.ld_msg.specs.declared.msg.Msg.{Msg}
 use Rattle.ld_machine.specs.State.{State}
 use Rattle.ld_dial.specs.declared.fault.Fault.{Fault}
 use Rattle.ld_dial.specs.declared.fault.Fault.TheVariants as faults
-use Rattle.ld_dial.specs.Far.{Far, alone, handed, IsHanded, IsNext, Receives, SendsTo, CountsFault, CountsEnding}
-use Rattle.ld_rounds.specs.declared.ended.Ended.{Ended}
+use Rattle.ld_dial.specs.Far.{Far, alone, handed, IsHanded, Receives, SendsTo, CountsFault, CountsEnding}
 use Rattle.ld_rounds.specs.Queued.{queue_of, behind, waits}
 use Rattle.std.proofs.lemmas.List.{set-get_or}
 use Rattle.ld_rounds.specs.Telling.{is_of, is_answered, missed_by, AnswersOnce}
-use Rattle.ld_rounds.specs.Drives.{Driver, IsBroken, AreLater, IsApart, Holds, Went, GoesOn, AllTaken, WithNode, Answering}
-use Rattle.ld_rounds.specs.Acts.{Own}
+use Rattle.ld_rounds.specs.Drives.{Driver, AreOfConfig, IsBroken, AreLater, IsApart, Holds, Went, GoesOn, WithNode, Answering}
+use Rattle.ld_rounds.specs.Acts.{Own, IsDriverOf}
 use Rattle.ld_rounds.proofs.News.{first_waits}
 use Rattle.ld_rounds.proofs.Steps.{answers_once, answers_none}
-use Rattle.ld_rounds.specs.Rounds.{Quiet, QuietEnd}
+use Rattle.ld_rounds.specs.Rounds.{Visiting, VisitEnd}
+use Rattle.ld_rounds.proofs.Joining.{visiting_joins}
 use Rattle.ld_rounds.proofs.Driving.{lose_first, lose_answer, lose_queue, turn_to, hand_first, moved_quietly}
-use Rattle.ld_rounds.proofs.Going.{went_quietly, went_quiet, stopped_here, goes_as}
+use Rattle.ld_rounds.proofs.Going.{went_visiting, went_on, stopped_here}
 
 some_is : {X : Type 0} {a b : X} → Some a ≡ Some b → a ≡ b
 some_is {X} {a} {b} e = ap (λ o. of o a) e
@@ -72,12 +74,6 @@ ending_later before now (Err f) h = omega (arith, h)
 pub sent_later : {T : Type 0} (f g e d : ℕ) (r : Result T Fault) → CountsFault f g r → d ≡ e → AreLater f g e d
 sent_later f g e d r h same = (fault_later f g r h, omega (arith, same))
 
--- the drive goes on with another node only where the link failed
-pub missed_link : (before now : ℕ) (f : Fault) → CountsFault {T = Unit {0}} before now (Err f) → IfOk (missed_by f) (λ on. on ≡ false → Rose before now)
-missed_link before now faults.Link h = λ e. h.0
-missed_link before now faults.NoMemory h = tt
-missed_link before now (faults.BadFrame fault) h = tt
-
 pub later_since : (f g h e d k : ℕ) → AreLater f g e d → AreLater g h d k → AreLater f h e k
 later_since f g h e d k p q = (omega (arith, p.0, q.0), omega (arith, p.1, q.1))
 
@@ -95,9 +91,27 @@ emptied [] y = refl
 emptied (q ∷ qs) zero = refl
 emptied (q ∷ qs) (suc y) = emptied qs y
 
+-- ---- the nodes of a configuration ----
+
+in_more : (x : ℕ) (xs ys : List ℕ) → AllByRecursion (λ y. is_in y xs ≡ true) ys → AllByRecursion (λ y. is_in y (x ∷ xs) ≡ true) ys
+in_more x xs [] h = tt
+in_more x xs (y ∷ ys) h = (or_right (x == y) (is_in y xs) h.0, in_more x xs ys h.1)
+  where
+    or_right : (a b : Bool) → b ≡ true → (a || b) ≡ true
+    or_right true b p = refl
+    or_right false b p = p
+
+all_in : (xs : List ℕ) → AllByRecursion (λ y. is_in y xs ≡ true) xs
+all_in [] = tt
+all_in (x ∷ xs) = (ap (λ b. b || is_in x xs) (eq-eqb x x refl), in_more x xs xs (all_in xs))
+
+-- its nodes are its own
+pub all_there : (c : Config) → AreOfConfig c (members c.nodes)
+all_there c = all_in (members c.nodes)
+
 -- ---- one answer ----
 
-only_one : (y : ℕ) (m : Msg) (rest : List Msg) → AnswersOnce y (m ∷ rest) → rest ≡ []
+pub only_one : (y : ℕ) (m : Msg) (rest : List Msg) → AnswersOnce y (m ∷ rest) → rest ≡ []
 only_one y m [] h = refl
 only_one y m (x ∷ xs) h = absurd h
 
@@ -105,9 +119,9 @@ pub its_own : (y : ℕ) (m : Msg) (rest : List Msg) → AnswersOnce y (m ∷ res
 its_own y m [] h = h
 its_own y m (x ∷ xs) h = absurd h
 
--- what the same actor takes
-pub takes_on : (f : State → Msg → Bool) (a b : Own) → f ≡ a.takes → b ≡ a → f ≡ b.takes
-takes_on f a b e same = e ∙ ap (λ (x : Own). x.takes) (sym same)
+-- it drives the same actor
+pub drives_on : (who : Driver) (a b : Own) → IsDriverOf who a → b ≡ a → IsDriverOf who b
+drives_on who a b is same = (is.0 ∙ ap (λ (x : Own). x.takes) (sym same), is.1 ∙ ap (λ (x : Own). x.ticks) (sym same))
 
 -- whether it takes a message, as the state has it
 pub takes_is : (f : State → Msg → Bool) (own : Own) (s : State) (m : Msg) (x y : Bool) → f ≡ own.takes → x ≡ own.takes s m → x ≡ y → f s m ≡ y
@@ -115,9 +129,9 @@ takes_is f own s m x y e taken is = ap (λ (g : State → Msg → Bool). g s m) 
 
 module _ (who : Driver) (broken : Type 0) (c : Config) (first : ℕ) (b : IsInBounds c) (A : Config → State → Type 0) (apart : IsApart A) (s : State) where
   -- an answer that the actor doesn't take does nothing
-  pub ignored : (far : Far) (qs : List (List Msg)) (m : Msg) (rest : List Msg) (w : Option (List ℕ)) → far.answers ≡ m ∷ rest → who.takes s m ≡ false → Holds A c first s far qs
-      → Went who broken Quiet A (λ now. now ≡ record far { answers = rest }) c first s qs w w
-  ignored far qs m rest w e untaken h = went_quietly who broken c first b Quiet A (λ now. now ≡ record far { answers = rest }) s (record far { answers = rest }) qs w refl (lose_answer who broken c first b A apart s far qs m rest h e untaken)
+  pub ignored : (y : ℕ) (far : Far) (qs : List (List Msg)) (m : Msg) (rest : List Msg) (w : Option (List ℕ)) → far.answers ≡ m ∷ rest → who.takes s m ≡ false → Holds A c first s far qs
+      → Went who broken (Visiting c y) A (λ now. now ≡ record far { answers = rest }) c first s qs w w
+  ignored y far qs m rest w e untaken h = went_visiting who broken c first b y A (λ now. now ≡ record far { answers = rest }) s (record far { answers = rest }) qs w refl (lose_answer who broken c first b A apart s far qs m rest h e untaken)
 
   module _ (tells : Config → Far → Type 0) (far : Far) (y : ℕ) (present : far.present ≡ Some y) (none : far.answers ≡ []) (is : IsNode y) (w : Option (List ℕ)) where
     -- what stands there once the node has handled a message
@@ -127,53 +141,47 @@ module _ (who : Driver) (broken : Type 0) (c : Config) (first : ℕ) (b : IsInBo
     told_of : (m : Msg) → IsHanded c far m (tells c) → tells c (handled m)
     told_of m i = subst (λ n. tells c (record { nodes = (handed c far.nodes n m).state.nodes; present = Some n; answers = far.answers ++ (handed c far.nodes n m).sends })) (some_is (sym i.present ∙ present)) i.told
 
-    handed_as : (U : Far → Type 0) (qs : List (List Msg)) (m : Msg) (rest : List Msg) → Holds A c first s far qs → queue_of qs y ≡ m ∷ rest → U (handled m) → Went who broken Quiet A U c first s (set qs y rest) w w
-    handed_as U qs m rest h q u = went_quietly who broken c first b Quiet A U s (handled m) (set qs y rest) w u (hand_first who broken c first b A apart s far qs y m rest h is q (first_waits first s.network qs far.answers y m rest h.news is q))
+    handed_as : (U : Far → Type 0) (qs : List (List Msg)) (m : Msg) (rest : List Msg) → Holds A c first s far qs → queue_of qs y ≡ m ∷ rest → U (handled m) → Went who broken (Visiting c y) A U c first s (set qs y rest) w w
+    handed_as U qs m rest h q u = went_visiting who broken c first b y A U s (handled m) (set qs y rest) w u (hand_first who broken c first b A apart s far qs y m rest h is q (first_waits first s.network qs far.answers y m rest h.news is q))
 
     -- the first message is handled by the node
-    pub handed_on : (qs : List (List Msg)) (m : Msg) (rest : List Msg) → Holds A c first s far qs → queue_of qs y ≡ m ∷ rest → IsHanded c far m (tells c) → Went who broken Quiet A (Answering tells c y) c first s (set qs y rest) w w
+    pub handed_on : (qs : List (List Msg)) (m : Msg) (rest : List Msg) → Holds A c first s far qs → queue_of qs y ≡ m ∷ rest → IsHanded c far m (tells c) → Went who broken (Visiting c y) A (Answering tells c y) c first s (set qs y rest) w w
     handed_on qs m rest h q i = handed_as (Answering tells c y) qs m rest h q (told_of m i, refl, subst (λ ans. AnswersOnce y (ans ++ (handed c far.nodes y m).sends)) (sym none) (answers_once c (alone far.nodes) y m))
 
     -- it is of a kind that no node answers
-    pub handed_quietly : (qs : List (List Msg)) (m : Msg) (rest : List Msg) → Holds A c first s far qs → queue_of qs y ≡ m ∷ rest → is_answered m.body ≡ false → IsHanded c far m (tells c) → Went who broken Quiet A (WithNode tells c y) c first s (set qs y rest) w w
+    pub handed_quietly : (qs : List (List Msg)) (m : Msg) (rest : List Msg) → Holds A c first s far qs → queue_of qs y ≡ m ∷ rest → is_answered m.body ≡ false → IsHanded c far m (tells c) → Went who broken (Visiting c y) A (WithNode tells c y) c first s (set qs y rest) w w
     handed_quietly qs m rest h q kind i = handed_as (WithNode tells c y) qs m rest h q ((told_of m i, ap (λ ans. ans ++ (handed c far.nodes y m).sends) none ∙ answers_none c (alone far.nodes) y m kind), refl)
 
     -- the first message is lost
-    pub gone_on : broken → (qs : List (List Msg)) (m : Msg) (rest : List Msg) → Holds A c first s far qs → queue_of qs y ≡ m ∷ rest → tells c far → Went who broken Quiet A (WithNode tells c y) c first s (set qs y rest) w w
-    gone_on why qs m rest h q t = went_quietly who broken c first b Quiet A (WithNode tells c y) s far (set qs y rest) w ((t, none), present) (lose_first who broken c first b A apart why s far qs y m rest h is q)
-
-  -- an answer was taken, and heard or ignored
-  pub next_on : {R : Type 0} (tells : Config → Far → Type 0) (far : Far) (y : ℕ) (B : Config → State → Type 0) (rs : List (List Msg)) (old new : Option (List ℕ)) (m : Msg) (r : Result R Ended) → far.present ≡ Some y → AnswersOnce y far.answers → (i : IsNext far (tells c) m)
-      → GoesOn who broken Quiet QuietEnd B (λ now. now ≡ record far { answers = i.rest }) c first s rs old new r → GoesOn who broken Quiet QuietEnd B (WithNode tells c y) c first s rs old new r
-  next_on tells far y B rs old new m r present once i g =
-      goes_as who broken c first b Quiet QuietEnd broken B (λ now. now ≡ record far { answers = i.rest }) (WithNode tells c y) s rs old new r (λ l. l) (λ now e. subst (λ x. WithNode tells c y x) (sym e) ((i.told, only_one y m i.rest (subst (AnswersOnce y) i.first once)), present)) g
+    pub gone_on : broken → (qs : List (List Msg)) (m : Msg) (rest : List Msg) → Holds A c first s far qs → queue_of qs y ≡ m ∷ rest → tells c far → Went who broken (Visiting c y) A (WithNode tells c y) c first s (set qs y rest) w w
+    gone_on why qs m rest h q t = went_visiting who broken c first b y A (WithNode tells c y) s far (set qs y rest) w ((t, none), present) (lose_first who broken c first b A apart why s far qs y m rest h is q)
 
   -- nothing is taken
-  pub unheard : (T U : Far → Type 0) (far : Far) (qs : List (List Msg)) (w : Option (List ℕ)) (f : Fault) → Receives far T (Err f) → GoesOn who broken Quiet QuietEnd A U c first s qs w w (missed_by f)
-  unheard T U far qs w faults.Link h = absurd h
-  unheard T U far qs w (faults.BadFrame fault) h = absurd h
-  unheard T U far qs w faults.NoMemory h = stopped_here who broken c first b Quiet s w tt
+  pub unheard : (y : ℕ) (T U : Far → Type 0) (far : Far) (qs : List (List Msg)) (w : Option (List ℕ)) (f : Fault) → Receives far T (Err f) → GoesOn who broken (Visiting c y) (VisitEnd c y) A U c first s qs w w (missed_by f)
+  unheard y T U far qs w faults.Link h = absurd h
+  unheard y T U far qs w (faults.BadFrame fault) h = absurd h
+  unheard y T U far qs w faults.NoMemory h = stopped_here who broken c first b (Visiting c y) s w (tt, tt)
 
   -- nothing is sent
   pub unsent : (tells : Config → Far → Type 0) (quiet : Bool) (far : Far) (y : ℕ) (m : Msg) (rest : List Msg) (qs now : List (List Msg)) (w : Option (List ℕ)) (f : Fault) (before count : ℕ) → CountsFault {T = Unit {0}} before count (Err f) → (Rose before count → broken) → far.present ≡ Some y → far.answers ≡ [] → IsNode y → Holds A c first s far qs
-      → queue_of qs y ≡ m ∷ rest → now ≡ set qs y rest → SendsTo c far m quiet (tells c) (Err f) → (quiet ≡ true) ⊎ GoesOn who broken Quiet QuietEnd A (WithNode tells c y) c first s now w w (missed_by f)
-  unsent tells quiet far y m rest qs now w faults.Link before count rose why present none is h q e (inl gone) = inr (subst (λ (x : List (List Msg)). Went who broken Quiet A (WithNode tells c y) c first s x w w) (sym e) (gone_on tells far y present none is w (why rose.0) qs m rest h q gone.told))
+      → queue_of qs y ≡ m ∷ rest → now ≡ set qs y rest → SendsTo c far m quiet (tells c) (Err f) → (quiet ≡ true) ⊎ GoesOn who broken (Visiting c y) (VisitEnd c y) A (WithNode tells c y) c first s now w w (missed_by f)
+  unsent tells quiet far y m rest qs now w faults.Link before count rose why present none is h q e (inl gone) = inr (subst (λ (x : List (List Msg)). Went who broken (Visiting c y) A (WithNode tells c y) c first s x w w) (sym e) (gone_on tells far y present none is w (why rose.0) qs m rest h q gone.told))
   unsent tells quiet far y m rest qs now w faults.Link before count rose why present none is h q e (inr silent) = inl silent
   unsent tells quiet far y m rest qs now w (faults.BadFrame fault) before count rose why present none is h q e sent = absurd sent
-  unsent tells quiet far y m rest qs now w faults.NoMemory before count rose why present none is h q e sent = inr (stopped_here who broken c first b Quiet s w tt)
+  unsent tells quiet far y m rest qs now w faults.NoMemory before count rose why present none is h q e sent = inr (stopped_here who broken c first b (Visiting c y) s w (tt, tt))
 
   -- a node is dialed
-  pub dialed : (tells : Config → Far → Type 0) (far : Far) (y : ℕ) (qs : List (List Msg)) (w : Option (List ℕ)) → far.answers ≡ [] → Holds A c first s far qs → tells c (record { nodes = far.nodes; present = Some y; answers = [] }) → Went who broken Quiet A (WithNode tells c y) c first s qs w w
-  dialed tells far y qs w none h t = went_quietly who broken c first b Quiet A (WithNode tells c y) s (record { nodes = far.nodes; present = Some y; answers = [] }) qs w ((t, refl), refl) (turn_to who broken c first b A apart s far (Some y) qs none h)
+  pub dialed : (tells : Config → Far → Type 0) (far : Far) (y : ℕ) (qs : List (List Msg)) (w : Option (List ℕ)) → far.answers ≡ [] → Holds A c first s far qs → tells c (record { nodes = far.nodes; present = Some y; answers = [] }) → Went who broken (Visiting c y) A (WithNode tells c y) c first s qs w w
+  dialed tells far y qs w none h t = went_visiting who broken c first b y A (WithNode tells c y) s (record { nodes = far.nodes; present = Some y; answers = [] }) qs w ((t, refl), refl) (turn_to who broken c first b A apart s far (Some y) qs none h)
 
   -- a node wasn't reached, and what waits for it is dropped
-  pub missed : broken → (T : Far → Type 0) (far : Far) (y : ℕ) (qs : List (List Msg)) (w : Option (List ℕ)) → far.answers ≡ [] → IsNode y → Holds A c first s far qs → T (record { nodes = far.nodes; present = None; answers = [] }) → Went who broken Quiet A T c first s (set qs y []) w w
+  pub missed : broken → (T : Far → Type 0) (far : Far) (y : ℕ) (qs : List (List Msg)) (w : Option (List ℕ)) → far.answers ≡ [] → IsNode y → Holds A c first s far qs → T (record { nodes = far.nodes; present = None; answers = [] }) → Went who broken (Visiting c y) A T c first s (set qs y []) w w
   missed why T far y qs w none is h t =
       let end : Far = record { nodes = far.nodes; present = None; answers = [] } in
       let m = turn_to who broken c first b A apart s far None qs none h in
-      went_quietly who broken c first b Quiet A T s end (set qs y []) w t (moved_quietly who broken c first b A A s end end qs (set qs y []) [] [] m (lose_queue who broken c first b A apart why m.state end qs y m.holds is))
+      went_visiting who broken c first b y A T s end (set qs y []) w t (moved_quietly who broken c first b A A s end end qs (set qs y []) [] [] m (lose_queue who broken c first b A apart why m.state end qs y m.holds is))
 
   -- what waits for a node is dropped
-  pub dropped : broken → (T : Far → Type 0) (qs : List (List Msg)) (y : ℕ) (old new : Option (List ℕ)) → IsNode y → Went who broken Quiet A T c first s qs old new → Went who broken Quiet A T c first s (set qs y []) old new
+  pub dropped : broken → (T : Far → Type 0) (qs : List (List Msg)) (y : ℕ) (old new : Option (List ℕ)) → IsNode y → Went who broken (Visiting c y) A T c first s qs old new → Went who broken (Visiting c y) A T c first s (set qs y []) old new
   dropped why T qs y old new is w =
-      went_quiet who broken c first b A A T T s qs (set qs y []) old new new w (went_quietly who broken c first b Quiet A T w.moved.state w.far (set qs y []) new w.told (lose_queue who broken c first b A apart why w.moved.state w.far qs y w.moved.holds is))
+      went_on who broken c first b (Visiting c y) (Visiting c y) (Visiting c y) A A T T s qs (set qs y []) old new new (visiting_joins c y) w (went_visiting who broken c first b y A T w.moved.state w.far (set qs y []) new w.told (lose_queue who broken c first b A apart why w.moved.state w.far qs y w.moved.holds is))

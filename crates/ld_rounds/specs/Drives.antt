@@ -1,5 +1,6 @@
 -- What a drive stands for, and the steps of the written machine that it takes.
 use Rattle.std.specs.Prelude.{ℕ, ◌≡◌, ◌⊎◌, ◌≤◌, ◌<◌, ◌+◌, List, [], ◌∷◌, length, Bool, true, false, filter, Option, None, Some}
+use Rattle.std.specs.List.{AllByRecursion}
 use Rattle.std.specs.Io.KnownBytes.{Appends}
 use Rattle.ld_io.specs.Causes.{Rose}
 use Rattle.ld_config.specs.declared.config.Config.{Config}
@@ -10,6 +11,7 @@ use Rattle.ld_transcript.specs.declared.line.Line.TheVariants as lines
 use Rattle.ld_transcript.specs.Text.{text}
 use Rattle.ld_msg.specs.declared.msg.Msg.{Msg}
 use Rattle.ld_msg.specs.Network.{Network, message}
+use Rattle.ld_machine.specs.Config.{has_node}
 use Rattle.ld_machine.specs.Disk.{Node}
 use Rattle.ld_machine.specs.State.{State}
 use Rattle.ld_machine.specs.Run.{step, state_after, lines_of}
@@ -65,10 +67,11 @@ MayDeliver takes (Some m) = (is_answer m ≡ false) ⊎ (takes m ≡ true)
 
 -- ---- steps ----
 
--- the actor that is driven: what it is called, and whether it takes a message in a state
+-- the actor that is driven: what it is called, whether it takes a message in a state, and the log whose closed epochs it tells nodes of, where it does: what that does at a node is a tick
 pub record Driver : Type 0 where
   pub name : List ℕ
   pub takes : State → Msg → Bool
+  pub ticks : Option ℕ
 
 -- in this state the event is one of its drive
 abbrev pub IsDriven : Driver → Type 0 → State → Event → Type 0
@@ -77,6 +80,7 @@ IsDriven who broken s (events.Append n payload) = n ≡ who.name
 IsDriven who broken s (events.Retry n) = n ≡ who.name
 IsDriven who broken s (events.Open n l from until) = n ≡ who.name
 IsDriven who broken s (events.Poll n) = n ≡ who.name
+IsDriven who broken s (events.Tick n l) = who.ticks ≡ Some l
 IsDriven who broken s (events.Deliver i) = MayDeliver (who.takes s) (message s.network i)
 IsDriven who broken s (events.Lose i) = MayLose broken (who.takes s) (message s.network i)
 IsDriven who broken s _ = ⊥
@@ -155,6 +159,10 @@ abbrev pub TookRounds : ℕ → (ℕ → Type 0) → (ℕ → Type 0) → (Ended
 TookRounds rounds all some part (Ok false) = all rounds
 TookRounds rounds all some part (Ok true) = Turned 1 (rounds + 1) some
 TookRounds rounds all some part (Err ended) = Turned 0 rounds (part ended)
+
+-- all of them are nodes of the configuration
+abbrev pub AreOfConfig : Config → List ℕ → Type 0
+AreOfConfig c ys = AllByRecursion (λ y. has_node c y ≡ true) ys
 
 -- the nodes are told of, and no answer is to be taken
 abbrev pub AllTaken : (Far → Type 0) → Far → Type 0

@@ -9,6 +9,7 @@ pub mod News
 pub mod Output
 pub mod Queued
 pub mod Reaching
+pub mod Reminding
 pub mod Rounds
 pub mod Taking
 pub mod Telling

@@ -6,7 +6,12 @@ use Rattle.ld_schedule.specs.declared.event.Event.{Event}
 use Rattle.ld_schedule.specs.declared.event.Event.TheVariants as events
 use Rattle.ld_transcript.specs.declared.line.Line.{Line}
 use Rattle.ld_transcript.specs.declared.line.Line.TheVariants as lines
+use Rattle.ld_msg.specs.declared.msg.Who.{Who}
+use Rattle.ld_msg.specs.declared.msg.Who.TheVariants as whos
+use Rattle.ld_msg.specs.declared.msg.Body.{Body}
+use Rattle.ld_msg.specs.declared.msg.Body.TheVariants as bodies
 use Rattle.ld_msg.specs.declared.msg.Msg.{Msg}
+use Rattle.ld_msg.specs.Network.{message}
 use Rattle.ld_machine.specs.State.{State}
 use Rattle.ld_machine.specs.Step.{happens}
 use Rattle.ld_machine.specs.Run.{step, state_after}
@@ -45,13 +50,72 @@ is_quiet _ = false
 abbrev pub Quiet : State → List Event → Type 0
 Quiet s es = AllByRecursion (λ e. is_quiet e ≡ true) es
 
--- however it ends
-abbrev pub QuietEnd : Ended → State → List Event → Type 0
-QuietEnd ended = Quiet
+-- the answer of a place is delivered
+pub record IsDelivered (m : Msg) (s : State) (es : List Event) : Type 0 where
+  pub place : ℕ
+  pub one : es ≡ events.Deliver place ∷ []
+  pub there : message s.network place ≡ Some m
 
--- quiet steps to a state in which no message that is new from the first place on waits for the node, and no answer is to be taken
+-- the node that tells its actor to wait, by such a message
+abbrev pub waiting_by : Who → Body → Option ℕ
+waiting_by (whos.Node n) (bodies.ReadWait round from released) = Some n
+waiting_by _ _ = None
+
+-- the node is ticked, where it is a message by which it tells its actor to wait
+abbrev pub IsTickBehind : ℕ → Msg → Event → Type 0
+IsTickBehind y m (events.Tick n l) = (n ≡ y) × (waiting_by m.from m.body ≡ Some y)
+IsTickBehind y m _ = ⊥
+
+abbrev pub IsReminded : ℕ → Msg → State → List Event → Type 0
+IsReminded y m s es = AllByRecursion (IsTickBehind y m) es
+
+abbrev pub RemindEnd : ℕ → Msg → Ended → State → List Event → Type 0
+RemindEnd y m ended = IsReminded y m
+
+abbrev pub waiting_in : Option Msg → Option ℕ
+waiting_in None = None
+waiting_in (Some m) = waiting_by m.from m.body
+
+-- the node that told its actor to wait in the step before, or before ticks alone, by what was so before the event
+abbrev pub waiting : State → Event → Option ℕ → Option ℕ
+waiting s (events.Deliver i) o = waiting_in (message s.network i)
+waiting s (events.Tick n l) o = o
+waiting s _ o = None
+
+-- a message is delivered or lost, or the node is ticked that told its actor to wait
+abbrev pub IsCalm : Option ℕ → Event → Type 0
+IsCalm o (events.Deliver i) = Unit {0}
+IsCalm o (events.Lose i) = Unit {0}
+IsCalm o (events.Tick n l) = o ≡ Some n
+IsCalm o _ = ⊥
+
+abbrev pub AreCalm : Config → Option ℕ → State → List Event → Type 0
+AreCalm c o s [] = Unit {0}
+AreCalm c o s (e ∷ es) = IsCalm o e × AreCalm c (waiting s e o) (step c s e).state es
+
+-- messages are delivered and lost, and behind the delivery of a message by which a node tells its actor to wait, right there, the node may be ticked
+abbrev pub Calm : Config → State → List Event → Type 0
+Calm c s es = AreCalm c None s es
+
+-- however it ends
+abbrev pub CalmEnd : Config → Ended → State → List Event → Type 0
+CalmEnd c ended = Calm c
+
+-- no other node is ticked
+abbrev pub ticks_only : ℕ → Event → Bool
+ticks_only y (events.Tick n l) = n == y
+ticks_only y _ = true
+
+-- the steps of a visit of a node
+abbrev pub Visiting : Config → ℕ → State → List Event → Type 0
+Visiting c y s es = Calm c s es × AllByRecursion (λ e. ticks_only y e ≡ true) es
+
+abbrev pub VisitEnd : Config → ℕ → Ended → State → List Event → Type 0
+VisitEnd c y ended = Visiting c y
+
+-- such steps to a state in which no message that is new from the first place on waits for the node, and no answer is to be taken
 pub record IsVisit (c : Config) (first y : ℕ) (s : State) (es : List Event) : Type 0 where
-  pub quiet : Quiet s es
+  pub steps : Visiting c y s es
   pub queues : List (List Msg)
   pub news : AreNews first (state_after c s es).network queues []
   pub emptied : queue_of queues y ≡ []
@@ -74,7 +138,7 @@ IsReadRound name c first ys s es = Splits (IsOne (events.Poll name)) (AreVisits 
 
 -- so far
 abbrev pub IsReadPart : List ℕ → Config → State → List Event → Type 0
-IsReadPart name c s es = Splits (IsBegun (events.Poll name)) Quiet c s es
+IsReadPart name c s es = Splits (IsBegun (events.Poll name)) (Calm c) c s es
 
 -- a sequencer sends again before each round but the first
 abbrev pub IsRetry : List ℕ → Bool → State → List Event → Type 0
@@ -102,7 +166,7 @@ IsAppendRound name c first ys is_first s es = Splits (IsPrepared name c is_first
 
 -- so far
 abbrev pub IsAppendPart : List ℕ → Config → Bool → State → List Event → Type 0
-IsAppendPart name c is_first s es = Splits (Splits (MayRetry name is_first) (AreAppends name) c) Quiet c s es
+IsAppendPart name c is_first s es = Splits (Splits (MayRetry name is_first) (AreAppends name) c) (Calm c) c s es
 
 abbrev pub AreAppendRounds : List ℕ → Config → ℕ → List ℕ → ℕ → State → List Event → Type 0
 AreAppendRounds name c first ys n s es = AreRounds (λ k. IsAppendRound name c first ys (k == 0)) c n s es

@@ -12,6 +12,7 @@ ghost use Rattle.ld_machine.specs.Step.{comes_to};
 ghost use Rattle.ld_bounds.specs.Sound.{IsSound};
 ghost use Rattle.ld_rounds.specs.Ends.{IsSaid};
 ghost use Rattle.ld_rounds.specs.Acts.{IsActed, Own};
+ghost use Rattle.ld_rounds.specs.Reminding.{reminded};
 
 use crate::Ended;
 use ld_ids::NoMemory;
@@ -58,6 +59,22 @@ pub trait Actor {
         ensures acted { IfOk result (λ heard. (c : Config) (s : State) → IsInBounds c → IsSound c s → stands self.old c s
             → IsActed (stands self.new c) s heard.lines.items heard.sends (comes_to c s message.now message.now.to)) }
         ensures said { IfOk result (λ heard. IfSome heard.end (IsSaid heard.lines.items)) }
+        ensures itself { own self.new ≡ own self.old }
+        ensures since { since self.old self.new };
+
+    /// What the sender of a message is told of an epoch, by what a look at the register shows: where the message told the
+    /// actor to wait for a number of a closed epoch, and this one is closed too, its `Clean`, from the sequencer that closed
+    /// it. One that tells nodes of no log's closed epochs has none. After want of memory it is of no use.
+    fn reminder(
+        &mut self,
+        alloc: Global,
+        message: &Msg,
+        epoch: u32,
+    ) -> Result<Option<Msg>, NoMemory>
+        requires { IsMessage message.now }
+        ensures message { IfOk result (λ reminder. IfSome reminder IsMessage) }
+        ensures told { IfOk result (λ reminder. (c : Config) (s : State) → stands self.old c s
+            → (reminder ≡ reminded (own self.old).ticks s.register epoch message.now) × stands self.new c s) }
         ensures itself { own self.new ≡ own self.old }
         ensures since { since self.old self.new };
 

@@ -11,7 +11,7 @@ ghost use Rattle.ld_bounds.specs.Sound.{IsSound};
 ghost use Rattle.ld_dial.specs.Far.{Far};
 ghost use Rattle.ld_rounds.specs.Ends.{IsSaid};
 ghost use Rattle.ld_rounds.specs.Acts.{IsActed, Own, driver};
-ghost use Rattle.ld_rounds.specs.Drives.{Holds, GoesOn, AllTaken, IsBroken, AreLater};
+ghost use Rattle.ld_rounds.specs.Drives.{AreOfConfig, Holds, GoesOn, AllTaken, IsBroken, AreLater};
 ghost use Rattle.ld_rounds.specs.Rounds.{IsOne, IsBegun, IsRetry, MayRetry, Adds, AddsUntil, Prepares, PreparesUntil, Rounds, RoundsUntil, taken_of, tells_full};
 ghost use Rattle.ld_rounds.specs.Taking.{TookAppends};
 ghost use Rattle.ld_rounds.specs.Endings.{IsEnding, IsLater};
@@ -53,8 +53,9 @@ pub trait Appends: Actor {
         ensures itself { Self.own self.new ≡ Self.own self.old }
         ensures since { Self.since self.old self.new };
 
-    /// The sequencer of the name sends again what is still wanted, and tries a close again. It ends the drive where it says
-    /// so in a line. After want of memory it is of no use.
+    /// The sequencer of the name sends again what is still wanted, looks again where no look succeeded at an epoch whose nodes
+    /// have told all that they can, and tries its close again. It ends the drive where it says so in a line. After want of
+    /// memory it is of no use.
     fn retry(&mut self, alloc: Global, name: &Name) -> Result<Heard, NoMemory>
         ensures messages { IfOk result (λ heard. AreMessages heard.sends) }
         ensures retried { IfOk result (λ heard. (c : Config) (s : State) → IsInBounds c → IsSound c s → Self.stands self.old c s
@@ -236,7 +237,7 @@ fn append_round<A: Appends, N: Nodes, P: Payloads, O: Sink>(
     queues: &mut Queues,
     out: &mut O,
 ) -> Result<(), Ended>
-    ensures held { (own : Own) → A.own sequencer.old ≡ own → (c : Config) (first : ℕ) (s : State) (far : Far) → IsInBounds c
+    ensures held { (own : Own) → A.own sequencer.old ≡ own → (c : Config) (first : ℕ) (s : State) (far : Far) → IsInBounds c → AreOfConfig c (members set.now)
         → AllTaken (N.tells nodes.old c) far → Holds (A.stands sequencer.old) c first s far queues.old
         → (N.silent nodes.new ≡ true) ⊎ GoesOn (driver name.now own) (IsBroken (N.faults nodes.old) (N.faults nodes.new) (N.endings nodes.old) (N.endings nodes.new)) (Rounds name.now c first (members set.now) is_first (upcoming feed.old.held (P.coming input.old)) (upcoming feed.new.held (P.coming input.new))) (RoundsUntil name.now c is_first (upcoming feed.old.held (P.coming input.old))) (A.stands sequencer.new) (AllTaken (N.tells nodes.new c)) c first s queues.new (O.written out.old) (O.written out.new) result }
     ensures silent { N.silent nodes.old ≡ true → N.silent nodes.new ≡ true }
@@ -279,7 +280,7 @@ pub fn append<A: Appends, N: Nodes, P: Payloads, O: Sink>(
     // all where it is done, and where it comes to a line that is off. The lines that were written are the sequencer's lines of
     // those steps. A message to a node is lost only where a call of the nodes failed or a node had ended, and an answer only
     // where the sequencer doesn't take it; it never ends with `BadFrame`.
-    ensures held { (c : Config) (first : ℕ) (s : State) (far : Far) → IsInBounds c
+    ensures held { (c : Config) (first : ℕ) (s : State) (far : Far) → IsInBounds c → AreOfConfig c (members set.now)
         → AllTaken (N.tells nodes.old c) far → Holds (A.stands sequencer.old) c first s far queues.old
         → (N.silent nodes.new ≡ true) ⊎ TookAppends (driver name.now (A.own sequencer.old)) (IsBroken (N.faults nodes.old) (N.faults nodes.new) (N.endings nodes.old) (N.endings nodes.new)) (members set.now) (P.coming input.old) rounds (A.stands sequencer.new) (AllTaken (N.tells nodes.new c)) c first s queues.new (O.written out.old) (O.written out.new) result }
     ensures settled { IfOk result (λ done. done ≡ true → (A.settled sequencer.new ≡ true) × (are_empty queues.new ≡ true)) }

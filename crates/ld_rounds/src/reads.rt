@@ -11,7 +11,7 @@ ghost use Rattle.ld_bounds.specs.Sound.{IsSound};
 ghost use Rattle.ld_dial.specs.Far.{Far};
 ghost use Rattle.ld_rounds.specs.Ends.{IsSaid};
 ghost use Rattle.ld_rounds.specs.Acts.{IsActed, Own, driver};
-ghost use Rattle.ld_rounds.specs.Drives.{Holds, GoesOn, AllTaken, IsBroken, AreLater};
+ghost use Rattle.ld_rounds.specs.Drives.{AreOfConfig, Holds, GoesOn, AllTaken, IsBroken, AreLater};
 ghost use Rattle.ld_rounds.specs.Rounds.{IsOne, IsBegun, IsReadRound, IsReadPart};
 ghost use Rattle.ld_rounds.specs.Taking.{TookReads};
 ghost use Rattle.ld_rounds.specs.Endings.{IsEnding, IsLater};
@@ -73,7 +73,7 @@ fn read_round<R: Reads, N: Nodes, O: Sink>(
     queues: &mut Queues,
     out: &mut O,
 ) -> Result<(), Ended>
-    ensures held { (own : Own) → R.own reader.old ≡ own → (c : Config) (first : ℕ) (s : State) (far : Far) → IsInBounds c
+    ensures held { (own : Own) → R.own reader.old ≡ own → (c : Config) (first : ℕ) (s : State) (far : Far) → IsInBounds c → AreOfConfig c (members set.now)
         → AllTaken (N.tells nodes.old c) far → Holds (R.stands reader.old) c first s far queues.old
         → (N.silent nodes.new ≡ true) ⊎ GoesOn (driver name.now own) (IsBroken (N.faults nodes.old) (N.faults nodes.new) (N.endings nodes.old) (N.endings nodes.new)) (IsReadRound name.now c first (members set.now)) (λ e. IsReadPart name.now c) (R.stands reader.new) (AllTaken (N.tells nodes.new c)) c first s queues.new (O.written out.old) (O.written out.new) result }
     ensures silent { N.silent nodes.old ≡ true → N.silent nodes.new ≡ true }
@@ -103,8 +103,10 @@ pub fn read<R: Reads, N: Nodes, O: Sink>(
     // Where the nodes tell what stands there: all that was done are steps of the written machine from any state that the
     // drive stands for, round by round: it polls, and the set's nodes are visited one after the other. The lines that were
     // written are the reader's lines of those steps. A message to a node is lost only where a call of the nodes failed or a
-    // node had ended, and an answer only where the reader doesn't take it; it never ends with `BadFrame`.
-    ensures held { (c : Config) (first : ℕ) (s : State) (far : Far) → IsInBounds c
+    // node had ended, and an answer only where the reader doesn't take it. In its visit a node may be ticked, right behind an
+    // answer by which it tells the reader to wait, where the reader tells nodes of a log's closed epochs; it never ends with
+    // `BadFrame`.
+    ensures held { (c : Config) (first : ℕ) (s : State) (far : Far) → IsInBounds c → AreOfConfig c (members set.now)
         → AllTaken (N.tells nodes.old c) far → Holds (R.stands reader.old) c first s far queues.old
         → (N.silent nodes.new ≡ true) ⊎ TookReads (driver name.now (R.own reader.old)) (IsBroken (N.faults nodes.old) (N.faults nodes.new) (N.endings nodes.old) (N.endings nodes.new)) (members set.now) rounds (R.stands reader.new) (AllTaken (N.tells nodes.new c)) c first s queues.new (O.written out.old) (O.written out.new) result }
     ensures finished { IfOk result (λ done. done ≡ true → R.finished reader.new name.now ≡ true) }

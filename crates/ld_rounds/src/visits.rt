@@ -1,8 +1,9 @@
 // A round: each node is visited, and what waits for it is sent.
-ghost use Rattle.std.specs.Prelude.{◌≡◌, ◌⊎◌, ◌∷◌, [], ℕ, List, Option, Some, true, false, set, IfOk, IfErr, IfSome, MatchResult};
+ghost use Rattle.std.specs.Prelude.{◌≡◌, ◌⊎◌, ◌∷◌, [], ℕ, List, Option, Some, true, false, set, IsTrue, IfOk, IfErr, IfSome, MatchResult};
 ghost use Rattle.ld_ids.specs.Set.{members};
 ghost use Rattle.ld_config.specs.declared.config.Config.{Config};
 ghost use Rattle.ld_config.specs.Bounds.{IsInBounds};
+ghost use Rattle.ld_machine.specs.Config.{has_node};
 ghost use Rattle.ld_msg.specs.declared.msg.Msg.{Msg as Message};
 ghost use Rattle.ld_msg.specs.declared.msg.Who.TheVariants.{Node};
 ghost use Rattle.ld_msg.specs.Bounds.{IsMessage};
@@ -11,8 +12,9 @@ ghost use Rattle.ld_machine.specs.State.{State};
 ghost use Rattle.ld_dial.specs.Far.{Far};
 ghost use Rattle.ld_rounds.specs.Queued.{queue_of};
 ghost use Rattle.ld_rounds.specs.Telling.{HasTold, IsTelling, is_of, is_answered, missed_by};
-ghost use Rattle.ld_rounds.specs.Drives.{Driver, Holds, GoesOn, AllTaken, WithNode, Answering, IsBroken, AreLater};
-ghost use Rattle.ld_rounds.specs.Rounds.{Quiet, QuietEnd, IsVisit, AreVisits};
+ghost use Rattle.ld_rounds.specs.Drives.{Driver, AreOfConfig, Holds, GoesOn, AllTaken, WithNode, Answering, IsBroken, AreLater};
+ghost use Rattle.ld_rounds.specs.Rounds.{IsDelivered, IsReminded, RemindEnd, CalmEnd, Visiting, VisitEnd, IsVisit, AreVisits};
+ghost use Rattle.ld_rounds.specs.Acts.{IsDriverOf};
 ghost use Rattle.ld_rounds.specs.Ends.{IsSaid};
 ghost use Rattle.ld_rounds.specs.Endings.{IsEnding, IsLater};
 ghost use Rattle.ld_rounds.specs.Output.{WritesFault};
@@ -82,8 +84,8 @@ pub fn tell<O: Sink>(
     }
 }
 
-/// Takes one answer of the present node. One of another node, for another actor or of another log does nothing. False
-/// where the node fails or has ended.
+/// Takes one answer of the present node, and reminds the node of what is closed. An answer of another node, for another
+/// actor or of another log does nothing. False where the node fails or has ended.
 fn listen<A: Actor, N: Nodes, O: Sink>(
     alloc: Global,
     node: NodeId,
@@ -92,10 +94,10 @@ fn listen<A: Actor, N: Nodes, O: Sink>(
     queues: &mut Queues,
     out: &mut O,
 ) -> Result<bool, Ended>
-    ensures held { (who : Driver) → who.takes ≡ (A.own actor.old).takes → (c : Config) (first : ℕ) (s : State) (far : Far) → IsInBounds c
+    ensures held { (who : Driver) → IsDriverOf who (A.own actor.old) → (c : Config) (first : ℕ) (s : State) (far : Far) → IsInBounds c → has_node c node ≡ true
         → Answering (N.tells nodes.old) c node far → Holds (A.stands actor.old) c first s far queues.old
-        → GoesOn who (IsBroken (N.faults nodes.old) (N.faults nodes.new) (N.endings nodes.old) (N.endings nodes.new)) Quiet QuietEnd (A.stands actor.new) (WithNode (N.tells nodes.new) c node) c first s queues.new (O.written out.old) (O.written out.new) result }
-    ensures silent { N.silent nodes.new ≡ N.silent nodes.old }
+        → (N.silent nodes.new ≡ true) ⊎ GoesOn who (IsBroken (N.faults nodes.old) (N.faults nodes.new) (N.endings nodes.old) (N.endings nodes.new)) (Visiting c node) (VisitEnd c node) (A.stands actor.new) (WithNode (N.tells nodes.new) c node) c first s queues.new (O.written out.old) (O.written out.new) result }
+    ensures silent { N.silent nodes.old ≡ true → N.silent nodes.new ≡ true }
     ensures itself { A.own actor.new ≡ A.own actor.old }
     ensures since { A.since actor.old actor.new }
     ensures cause { IfErr result (IsEnding (O.faults out.old) (O.faults out.new) (O.written out.old) (O.written out.new)) }
@@ -110,38 +112,80 @@ fn listen<A: Actor, N: Nodes, O: Sink>(
     let Some(answer) = next else {
         return Ok(false);
     };
-    take(alloc, node, &answer, actor, queues, out)?;
-    Ok(true)
+    if !is_its(&answer, node, actor) {
+        return Ok(true);
+    }
+    take(alloc, &answer, actor, queues, out)?;
+    remind(alloc, node, &answer, actor, nodes)
 }
 
-/// The actor takes the answer of the node, where it is of this node and for this actor; else the answer does nothing.
+/// Whether the answer is of the node and for the actor.
+fn is_its<A: Actor>(answer: &Msg, node: NodeId, actor: &A) -> bool
+    ensures heard { IsTrue result → A.hears actor.now answer.now }
+    ensures taken { (c : Config) (s : State) → A.stands actor.now c s → is_of node answer.now.from ≡ true → result ≡ (A.own actor.now).takes s answer.now }
+{
+    is_of(answer, node) && actor.is_for(answer)
+}
+
+/// The actor takes an answer that is for it.
 fn take<A: Actor, O: Sink>(
     alloc: Global,
-    node: NodeId,
     answer: &Msg,
     actor: &mut A,
     queues: &mut Queues,
     out: &mut O,
 ) -> Result<(), Ended>
-    requires { IsMessage answer.now }
-    ensures held { (who : Driver) → who.takes ≡ (A.own actor.old).takes → (c : Config) (first : ℕ) (s : State) (far : Far) (rest : List Message) → IsInBounds c
-        → is_of node answer.now.from ≡ true → far.answers ≡ answer.now ∷ rest → Holds (A.stands actor.old) c first s far queues.old
-        → GoesOn who ⊥ Quiet QuietEnd (A.stands actor.new) (λ now. now ≡ record far { answers = rest }) c first s queues.new (O.written out.old) (O.written out.new) result }
+    requires message { IsMessage answer.now }
+    requires hears { A.hears actor.old answer.now }
+    ensures held { (who : Driver) (y : ℕ) (c : Config) (first : ℕ) (s : State) (far : Far) (rest : List Message) → IsInBounds c
+        → who.takes s answer.now ≡ true → far.answers ≡ answer.now ∷ rest → Holds (A.stands actor.old) c first s far queues.old
+        → GoesOn who ⊥ (IsDelivered answer.now) (VisitEnd c y) (A.stands actor.new) (λ now. now ≡ record far { answers = rest }) c first s queues.new (O.written out.old) (O.written out.new) result }
     ensures itself { A.own actor.new ≡ A.own actor.old }
     ensures since { A.since actor.old actor.new }
     ensures cause { IfErr result (IsEnding (O.faults out.old) (O.faults out.new) (O.written out.old) (O.written out.new)) }
     ensures later { IsLater (O.faults out.old) (O.faults out.new) (O.written out.old) (O.written out.new) }
 {
-    if !is_of(answer, node) {
-        return Ok(());
-    }
-    if !actor.is_for(answer) {
-        return Ok(());
-    }
     let Ok(heard) = actor.hear(alloc, answer) else {
         return Err(Ended::NoMemory);
     };
     tell(alloc, heard, queues, out)
+}
+
+/// Tells the present node, which sent this answer, what the register says of the epochs of the log, one after the other from
+/// the first one on, where the answer told the actor to wait for a number of a closed epoch: a look and a frame for each
+/// closed epoch, and one look more. The node answers none of them. False where the node fails.
+fn remind<A: Actor, N: Nodes>(
+    alloc: Global,
+    node: NodeId,
+    answer: &Msg,
+    actor: &mut A,
+    nodes: &mut N,
+) -> Result<bool, Ended>
+    requires { IsMessage answer.now }
+    // What each of them does at the node is a tick of it, where it didn't know the epoch, and else nothing.
+    ensures held { (who : Driver) → IsDriverOf who (A.own actor.old) → (c : Config) (first : ℕ) (s : State) (far : Far) (queues : List (List Message)) (written : Option (List ℕ)) → IsInBounds c → has_node c node ≡ true
+        → is_of node answer.now.from ≡ true → WithNode (N.tells nodes.old) c node far → Holds (A.stands actor.old) c first s far queues
+        → (N.silent nodes.new ≡ true) ⊎ GoesOn who ⊥ (IsReminded node answer.now) (RemindEnd node answer.now) (A.stands actor.new) (WithNode (N.tells nodes.new) c node) c first s queues written written result }
+    ensures silent { N.silent nodes.old ≡ true → N.silent nodes.new ≡ true }
+    ensures itself { A.own actor.new ≡ A.own actor.old }
+    ensures since { A.since actor.old actor.new }
+    ensures cause { (before : ℕ) (now : ℕ) (old : Option (List ℕ)) (new : Option (List ℕ)) → IfErr result (IsEnding before now old new) }
+    ensures counts { AreLater (N.faults nodes.old) (N.faults nodes.new) (N.endings nodes.old) (N.endings nodes.new) }
+    ensures broken { IfOk result (λ on. on ≡ false → IsBroken (N.faults nodes.old) (N.faults nodes.new) (N.endings nodes.old) (N.endings nodes.new)) }
+{
+    'epochs: for before in 0..u32::MAX {
+        let Ok(next) = actor.reminder(alloc, answer, before + 1) else {
+            return Err(Ended::NoMemory);
+        };
+        let Some(reminder) = next else {
+            return Ok(true);
+        };
+        match nodes.send(alloc, &reminder) {
+            Ok(()) => {}
+            Err(fault) => return missed(fault),
+        }
+    }
+    Ok(true)
 }
 
 /// Sends a message to the present node, and takes one answer of it, where a node answers such a message. False where the
@@ -156,10 +200,10 @@ fn exchange<A: Actor, N: Nodes, O: Sink>(
     out: &mut O,
 ) -> Result<bool, Ended>
     requires { IsMessage message.now }
-    ensures held { (who : Driver) → who.takes ≡ (A.own actor.old).takes → (c : Config) (first : ℕ) (s : State) (far : Far) (before : List (List Message)) (rest : List Message) → IsInBounds c
+    ensures held { (who : Driver) → IsDriverOf who (A.own actor.old) → (c : Config) (first : ℕ) (s : State) (far : Far) (before : List (List Message)) (rest : List Message) → IsInBounds c → has_node c node ≡ true
         → WithNode (N.tells nodes.old) c node far → Holds (A.stands actor.old) c first s far before
         → queue_of before node ≡ message.now ∷ rest → queues.old ≡ set before node rest
-        → (N.silent nodes.new ≡ true) ⊎ GoesOn who (IsBroken (N.faults nodes.old) (N.faults nodes.new) (N.endings nodes.old) (N.endings nodes.new)) Quiet QuietEnd (A.stands actor.new) (WithNode (N.tells nodes.new) c node) c first s queues.new (O.written out.old) (O.written out.new) result }
+        → (N.silent nodes.new ≡ true) ⊎ GoesOn who (IsBroken (N.faults nodes.old) (N.faults nodes.new) (N.endings nodes.old) (N.endings nodes.new)) (Visiting c node) (VisitEnd c node) (A.stands actor.new) (WithNode (N.tells nodes.new) c node) c first s queues.new (O.written out.old) (O.written out.new) result }
     ensures silent { N.silent nodes.old ≡ true → N.silent nodes.new ≡ true }
     ensures itself { A.own actor.new ≡ A.own actor.old }
     ensures since { A.since actor.old actor.new }
@@ -193,10 +237,11 @@ pub fn visit<A: Actor, N: Nodes, O: Sink>(
     // Where the nodes tell what stands there: what was delivered, heard and lost are steps of the written machine from any
     // state that the drive stands for, and the lines that were written are the actor's lines of those steps. A message to a
     // node is lost only where a call of the nodes failed or a node had ended, and an answer only where the actor doesn't
-    // take it. Where it goes on nothing waits for the node, and no answer is to be taken.
-    ensures held { (who : Driver) → who.takes ≡ (A.own actor.old).takes → (c : Config) (first : ℕ) (s : State) (far : Far) → IsInBounds c
+    // take it. Right behind an answer by which it tells its actor to wait the node may be ticked, where the actor tells nodes
+    // of a log's closed epochs. Where it goes on nothing waits for the node, and no answer is to be taken.
+    ensures held { (who : Driver) → IsDriverOf who (A.own actor.old) → (c : Config) (first : ℕ) (s : State) (far : Far) → IsInBounds c → has_node c node ≡ true
         → AllTaken (N.tells nodes.old c) far → Holds (A.stands actor.old) c first s far queues.old
-        → (N.silent nodes.new ≡ true) ⊎ GoesOn who (IsBroken (N.faults nodes.old) (N.faults nodes.new) (N.endings nodes.old) (N.endings nodes.new)) (IsVisit c first node) QuietEnd (A.stands actor.new) (AllTaken (N.tells nodes.new c)) c first s queues.new (O.written out.old) (O.written out.new) result }
+        → (N.silent nodes.new ≡ true) ⊎ GoesOn who (IsBroken (N.faults nodes.old) (N.faults nodes.new) (N.endings nodes.old) (N.endings nodes.new)) (IsVisit c first node) (VisitEnd c node) (A.stands actor.new) (AllTaken (N.tells nodes.new c)) c first s queues.new (O.written out.old) (O.written out.new) result }
     ensures silent { N.silent nodes.old ≡ true → N.silent nodes.new ≡ true }
     ensures itself { A.own actor.new ≡ A.own actor.old }
     ensures since { A.since actor.old actor.new }
@@ -242,9 +287,9 @@ pub fn round<A: Actor, N: Nodes, O: Sink>(
     // node is lost only where a call of the nodes failed or a node had ended, and an answer only where the actor doesn't
     // take it. Where it goes on they are visits of the set's nodes, one after the other: each leads to a state in which
     // nothing waits for its node, and no answer is to be taken.
-    ensures held { (who : Driver) → who.takes ≡ (A.own actor.old).takes → (c : Config) (first : ℕ) (s : State) (far : Far) → IsInBounds c
+    ensures held { (who : Driver) → IsDriverOf who (A.own actor.old) → (c : Config) (first : ℕ) (s : State) (far : Far) → IsInBounds c → AreOfConfig c (members set.now)
         → AllTaken (N.tells nodes.old c) far → Holds (A.stands actor.old) c first s far queues.old
-        → (N.silent nodes.new ≡ true) ⊎ GoesOn who (IsBroken (N.faults nodes.old) (N.faults nodes.new) (N.endings nodes.old) (N.endings nodes.new)) (AreVisits c first (members set.now)) QuietEnd (A.stands actor.new) (AllTaken (N.tells nodes.new c)) c first s queues.new (O.written out.old) (O.written out.new) result }
+        → (N.silent nodes.new ≡ true) ⊎ GoesOn who (IsBroken (N.faults nodes.old) (N.faults nodes.new) (N.endings nodes.old) (N.endings nodes.new)) (AreVisits c first (members set.now)) (CalmEnd c) (A.stands actor.new) (AllTaken (N.tells nodes.new c)) c first s queues.new (O.written out.old) (O.written out.new) result }
     ensures silent { N.silent nodes.old ≡ true → N.silent nodes.new ≡ true }
     ensures itself { A.own actor.new ≡ A.own actor.old }
     ensures since { A.since actor.old actor.new }

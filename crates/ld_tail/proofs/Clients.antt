@@ -10,7 +10,7 @@ use Rattle.ld_msg.specs.declared.msg.Who.TheVariants as whos
 use Rattle.ld_msg.specs.declared.msg.Msg.{Msg}
 use Rattle.ld_msg.specs.Reader.{Reader, Read, is_finished, on_answer, opened}
 use Rattle.ld_msg.specs.Register.{Register}
-use Rattle.ld_msg.specs.Reading.{Item, TrimTo, RecordHere, HoleHere, BridgeTo, LossHere}
+use Rattle.ld_msg.specs.Reading.{Item, TrimTo, RecordHere, HoleHere, BridgeTo, LossHere, LossTo}
 use Rattle.ld_reader.specs.Following.{Following}
 use Rattle.ld_node_bounds.specs.Messages.{AreMessages}
 use Rattle.ld_machine.specs.State.{State, Done, start, unchanged, with_line, with_reader, only_state}
@@ -33,6 +33,7 @@ own_item name n until (RecordHere p) ls h = ap (λ l. machine.item_line name n u
 own_item name n until HoleHere ls h = ap (λ l. machine.item_line name n until HoleHere ∷ l) h
 own_item name n until (BridgeTo last) ls h = ap (λ l. machine.item_line name n until (BridgeTo last) ∷ l) h
 own_item name n until LossHere ls h = ap (λ l. machine.item_line name n until LossHere ∷ l) h
+own_item name n until (LossTo last) ls h = ap (λ l. machine.item_line name n until (LossTo last) ∷ l) h
 
 own_items : (name : List ℕ) (until : ℕ) (is : List (ℕ × Item)) → own_lines (item_lines name until is) ≡ item_lines name until is
 own_items name until [] = refl

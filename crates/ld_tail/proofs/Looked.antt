@@ -66,6 +66,7 @@ module _ (told_old told_new : Type 0) (holds_old holds_new may_old may_new : Reg
     register_looked registers.NoMemory free keeps failed lost = refusal_looked ends.NoMemory tt (⊎_elim (λ x. absurd cc) (λ k. inr k) keeps)
     register_looked registers.LogLimit free keeps failed lost = absurd free
     register_looked (registers.Behind lce next) free keeps failed lost = absurd free
+    register_looked (registers.Overtaken kept) free keeps failed lost = absurd free
     register_looked registers.EpochLimit free keeps failed lost = absurd free
     register_looked registers.GenLimit free keeps failed lost = absurd free
     register_looked registers.Full free keeps failed lost = absurd free
@@ -85,6 +86,7 @@ damaged_by registers.Failed place h = absurd cc
 damaged_by registers.NoMemory place h = absurd cc
 damaged_by registers.LogLimit place h = absurd cc
 damaged_by (registers.Behind lce next) place h = absurd cc
+damaged_by (registers.Overtaken kept) place h = absurd cc
 damaged_by registers.EpochLimit place h = absurd cc
 damaged_by registers.GenLimit place h = absurd cc
 damaged_by registers.Full place h = absurd cc

@@ -35,9 +35,9 @@ pub record Wanted : Type 0 where
 abbrev pub opening : Wanted → Event
 opening w = Open w.name w.log w.from w.until
 
--- the reader that is driven
+-- the reader that is driven: it tells nodes of its log's closed epochs
 abbrev pub tailing : Wanted → Driver
-tailing w = record { name = w.name; takes = takes w.log }
+tailing w = record { name = w.name; takes = takes w.log; ticks = Some w.log }
 
 -- the reader of the name is past its last number
 pub record IsFinished (name : List ℕ) (s : State) : Type 0 where

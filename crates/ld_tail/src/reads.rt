@@ -1,5 +1,5 @@
 // A reader that is driven.
-ghost use Rattle.std.specs.Prelude.{◌≡◌, ℕ, [], None, Some, IfOk, OnOk};
+ghost use Rattle.std.specs.Prelude.{◌≡◌, ℕ, nat_le, [], None, Some, IfOk, OnOk, if◌then◌else◌};
 ghost use Rattle.ld_table.specs.Named.{find_named};
 ghost use Rattle.ld_config.specs.Bounds.{IsInBounds};
 ghost use Rattle.ld_schedule.specs.declared.event.Event.TheVariants.{Open};
@@ -8,7 +8,9 @@ ghost use Rattle.ld_node_bounds.specs.Messages.{AreMessages};
 ghost use Rattle.ld_machine.specs.State.{State};
 ghost use Rattle.ld_machine.specs.Step.{happens};
 ghost use Rattle.ld_clients.specs.Finished.{finished_in};
+ghost use Rattle.ld_register.specs.Calls.{looked, IsView};
 ghost use Rattle.ld_rounds.specs.Acts.{IsActed};
+ghost use Rattle.ld_rounds.specs.Reminding.{waited, closing};
 ghost use Rattle.ld_tail.specs.Looking.{HasLooked};
 ghost use Rattle.ld_tail.specs.Readers.{Follows, IsOf, takes};
 
@@ -17,8 +19,8 @@ use ld_clients::{Outcome, Readers};
 use ld_config::Config;
 use ld_ids::{LogId, Name, NoMemory};
 use ld_lsn::Lsn;
-use ld_msg::{Msg, Who};
-use ld_register::Register;
+use ld_msg::{Body, Msg, Who};
+use ld_register::{Register, View};
 use ld_rounds::{Actor, Ended, Heard, Reads, Refusal};
 use std::alloc::Global;
 
@@ -44,6 +46,38 @@ fn told(outcome: Outcome) -> Heard
         lines,
         sends,
         end: None,
+    }
+}
+
+/// The epoch of the number for which a message tells the reader to wait.
+fn waited(message: &Msg) -> Option<u32>
+    ensures { result ≡ waited message.now.body }
+{
+    match &message.body {
+        Body::ReadWait { from, .. } => Some(from.home().0),
+        _ => None,
+    }
+}
+
+/// The close of an epoch of a log, from the sequencer that closed it, as a look at the epoch shows it; none where it isn't
+/// closed, or where that one isn't, for a number of which the reader waits.
+fn closed(log: LogId, home: u32, epoch: u32, to: Who, view: &View) -> Option<Msg>
+    ensures { result ≡ (if nat_le home view.now.lce then closing log epoch to view.now.summary else None) }
+{
+    if home > view.lce {
+        return None;
+    }
+    match &view.summary {
+        Some(summary) => Some(Msg {
+            from: Who::Sequencer(summary.ballot),
+            to,
+            log,
+            body: Body::Clean {
+                epoch,
+                summary: *summary,
+            },
+        }),
+        None => None,
     }
 }
 
@@ -80,8 +114,8 @@ impl<G: Register> Reading<G> {
         self.end
     }
 
-    /// Looks at an epoch of the log, before anything is done. Where the register doesn't answer, the reader can't go on.
-    pub fn look(&mut self, alloc: Global, epoch: u32) -> Result<(), NoMemory>
+    /// Looks at an epoch of the log. Where the register doesn't answer, the reader can't go on.
+    pub fn look(&mut self, alloc: Global, epoch: u32) -> Result<View, NoMemory>
         ensures name { self.new.name ≡ self.old.name }
         ensures log { self.new.log ≡ self.old.log }
         ensures readers { self.new.readers ≡ self.old.readers }
@@ -89,10 +123,12 @@ impl<G: Register> Reading<G> {
         ensures looked { self.old.end ≡ None → HasLooked None self.new.end (G.told self.old.register) (G.told self.new.register) (G.holds self.old.register) (G.holds self.new.register) (G.may_hold self.old.register) (G.may_hold self.new.register) (G.faults self.old.register) (G.faults self.new.register) (G.identity self.old.register) (G.identity self.new.register) }
         ensures whole { G.told self.old.register → OnOk result ((c : Contents) × G.holds self.new.register c) }
         ensures exact { (c : Contents) → G.tells self.old.register c → OnOk result (G.tells self.new.register c) }
+        ensures shown { (c : Contents) → G.tells self.old.register c → IfOk result (λ view. view ≡ looked c self.old.log epoch) }
+        ensures bounds { IfOk result (IsView self.old.log epoch) }
         ensures damaged { self.old.end ≡ None → (place : ℕ) → self.new.end ≡ Some (Ended.Register (Refusal.Damaged place)) → G.told self.old.register → G.damaged self.old.register place }
     {
         match self.register.look(alloc, self.log, epoch) {
-            Ok(_) => Ok(()),
+            Ok(view) => Ok(view),
             Err(fault) => {
                 self.end = Some(register_end(&fault));
                 Err(NoMemory)
@@ -134,7 +170,7 @@ impl<G: Register> Actor for Reading<G> {
 
     ghost stands_apart = { λ a c s nodes network is. record { readers = record { readers = is.readers.readers; logs = is.readers.logs }; register = is.register } };
 
-    ghost own = { λ a. record { name = a.name; log = a.log; takes = takes a.log } };
+    ghost own = { λ a. record { name = a.name; log = a.log; takes = takes a.log; ticks = Some a.log } };
 
     ghost since = { λ a b. HasLooked a.end b.end (G.told a.register) (G.told b.register) (G.holds a.register) (G.holds b.register) (G.may_hold a.register) (G.may_hold b.register) (G.faults a.register) (G.faults b.register) (G.identity a.register) (G.identity b.register) };
 
@@ -169,6 +205,23 @@ impl<G: Register> Actor for Reading<G> {
                 Err(NoMemory)
             }
         }
+    }
+
+    fn reminder(
+        &mut self,
+        alloc: Global,
+        message: &Msg,
+        epoch: u32,
+    ) -> Result<Option<Msg>, NoMemory> {
+        let Some(home) = waited(message) else {
+            return Ok(None);
+        };
+        let None = self.end else {
+            return Err(NoMemory);
+        };
+        let _ = self.log.number();
+        let view = self.look(alloc, epoch)?;
+        Ok(closed(self.log, home, epoch, message.from, &view))
     }
 }
 

@@ -43,7 +43,7 @@ fn drive<G: Register, N: Nodes, O: Sink>(
     ensures damaged { (place : ℕ) → reading.new.end ≡ Some (Ended.Register (Refusal.Damaged place)) → G.told reading.old.register → G.damaged reading.old.register place }
     ensures cause { IfErr result (IsEnding (O.faults out.old) (O.faults out.new) (O.written out.old) (O.written out.new)) }
 {
-    let Ok(()) = reading.look(alloc, from.epoch()) else {
+    let Ok(_) = reading.look(alloc, from.epoch()) else {
         return Err(Ended::NoMemory);
     };
     let Ok(mut queues) = Queues::new(alloc) else {
@@ -82,6 +82,11 @@ fn end_of(driven: Result<bool, Ended>, why: Ended) -> Ended
 /// many rounds over the configuration's nodes are driven, in each of which it polls. Its lines are written as they come. The
 /// register is given back.
 ///
+/// A node may have missed that an epoch was closed, and then it tells the reader to wait for numbers of that epoch, though it
+/// has them. So a node that tells the reader to wait for a number of a closed epoch is told at once what the register says of
+/// the log's epochs, from the first one to the last closed one: a look and a frame for each, and one look more, once for each
+/// such node; for a number of an epoch that isn't closed it is one look for each such answer.
+///
 /// It ends with `Done` where the reader is past its last number, with `Rounds` where all rounds were taken and it isn't, with
 /// `BadFrame` where what a node sent begins no frame, with `Write` where the output failed, and for want of memory. It ends
 /// with `Register` where a look at the register failed, and no line says so: with `Damaged` and a place where its bytes are
@@ -102,8 +107,9 @@ pub fn tail<G: Register, N: Nodes, O: Sink>(
     // Where the nodes and the register tell what stands there: all that was done are steps of the written machine from any state
     // without readers that they stand for: the reader is opened, and then round by round it polls, and the configuration's nodes
     // are visited one after the other. The lines that were written are the reader's lines of those steps. A message to a node is
-    // lost only where a call of the nodes failed or a node had ended, and an answer only where the reader doesn't take it. It
-    // never ends with `BadFrame`.
+    // lost only where a call of the nodes failed or a node had ended, and an answer only where the reader doesn't take it. A node
+    // may be ticked for the log in its visit, right behind an answer by which it tells the reader to wait. It never ends with
+    // `BadFrame`.
     ensures tailed { (s : State) (far : Far) → N.tells nodes.old config.now far → Begins (HasNone (G.tells register)) config.now s far
         → (N.silent nodes.new ≡ true) ⊎ IsTailed (record { name = name; log = log; from = from; until = until }) (IsBroken (N.faults nodes.old) (N.faults nodes.new) (N.endings nodes.old) (N.endings nodes.new)) rounds (N.tells nodes.new) (G.tells result.1) config.now s (O.written out.old) (O.written out.new) result.0 }
     ensures cause { IsTailEnd (λ place. G.told register → G.damaged register place) (G.faults register) (G.faults result.1) (O.faults out.old) (O.faults out.new) result.0 }

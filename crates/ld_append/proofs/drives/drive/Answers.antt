@@ -6,6 +6,7 @@ use Rattle.ld_rounds.specs.declared.ended.Ended.TheVariants as ends
 use Rattle.ld_rounds.specs.Acts.{Own}
 use Rattle.ld_rounds.specs.Drives.{AllTaken, IsBroken, Holds}
 use Rattle.ld_rounds.specs.Taking.{TookAppends}
+use Rattle.ld_rounds.proofs.Visiting.{all_there}
 use Rattle.ld_rounds.proofs.Joining.{feeds_here, feeds_until}
 use Rattle.ld_append.specs.Appends.{EndAt, sequencing}
 use Rattle.ld_rounds.proofs.Going.{whatever, stopped_here}
@@ -67,8 +68,8 @@ returns-clause-drove g c named none s far b is unset told h =
     let same : y.name ≡ name = ap (λ (x : Own). x.name) c.append.ensures.actor ∙ (c.in_ok-start.ensures.name ∙ named) in
     drove_loud name c.args.spec.now.log broken i c.args.rounds (g.N.Nodes.tells c.append.new.nodes) k b s y.name same y.sequencer (g.G.Register.tells y.register) c.append.new.queues old new A (AllTaken (g.N.Nodes.tells c.args.nodes.now k)) c.start.new.queues mid
     (g.G.Register.told a.register → MayCrowd (g.G.Register.may_hold a.register) c.args.spec.now.log) (λ place. g.G.Register.told a.register → g.G.Register.damaged a.register place) i (g.P.Payloads.faults c.args.input.now) (g.P.Payloads.faults c.append.new.input) (g.O.Sink.faults c.args.out.now) (g.O.Sink.faults c.append.new.out) w
-    (g.N.Nodes.silent c.append.new.nodes ≡ true) c.append.result c.append.ensures.settled (rounds_cause _ _ _ _ _ _ _ _ _ _ _ c.append.result c.in_ok-start.ensures.later c.append.ensures.cause) (subst (λ (n : List ℕ). (g.N.Nodes.silent c.append.new.nodes ≡ true) ⊎ TookAppends (record { name = name; takes = takes n }) broken (members k.nodes) i c.args.rounds (Serves y.name y.sequencer (g.G.Register.tells y.register)) (AllTaken (g.N.Nodes.tells c.append.new.nodes k)) k first w.moved.state c.append.new.queues mid new c.append.result)
-    (c.in_ok-start.ensures.name ∙ named) (c.append.ensures.held k first w.moved.state w.far b w.told w.moved.holds))
+    (g.N.Nodes.silent c.append.new.nodes ≡ true) c.append.result c.append.ensures.settled (rounds_cause _ _ _ _ _ _ _ _ _ _ _ c.append.result c.in_ok-start.ensures.later c.append.ensures.cause) (subst (λ (n : List ℕ). (g.N.Nodes.silent c.append.new.nodes ≡ true) ⊎ TookAppends (record { name = name; takes = takes n; ticks = None }) broken (members k.nodes) i c.args.rounds (Serves y.name y.sequencer (g.G.Register.tells y.register)) (AllTaken (g.N.Nodes.tells c.append.new.nodes k)) k first w.moved.state c.append.new.queues mid new c.append.result)
+    (c.in_ok-start.ensures.name ∙ named) (c.append.ensures.held k first w.moved.state w.far b (all_there k) w.told w.moved.holds))
 
 pub returns-clause-shut : goal.returns-clause-shut
 returns-clause-shut g c none unshut =

@@ -1,12 +1,13 @@
-use Rattle.std.proofs.Common.{◌≡◌, List, [], sym, subst, inr, Ok, Err, Option, None, Some, Bool, true}
+use Rattle.std.proofs.Common.{◌≡◌, [], sym, subst, inr, Ok, Err, Option, None, Some, Bool, true}
 use Rattle.std.proofs.lemmas.Result.{err_from_is_err_and}
 use Rattle.ld_msg.specs.declared.msg.Msg.{Msg}
 use Rattle.ld_dial.specs.Far.{Far, Receives, IsNext, CountsEnding}
 use Rattle.ld_rounds.specs.Telling.{AnswersOnce}
 use Rattle.ld_rounds.specs.Drives.{IsBroken, WithNode, GoesOn}
-use Rattle.ld_rounds.specs.Rounds.{Quiet, QuietEnd}
-use Rattle.ld_rounds.proofs.Going.{went_here, goes_as}
-use Rattle.ld_rounds.proofs.Visiting.{its_own, next_on, unheard}
+use Rattle.ld_rounds.specs.Rounds.{IsDelivered, IsReminded, RemindEnd, Visiting, VisitEnd}
+use Rattle.ld_rounds.proofs.Joining.{reminded_joins}
+use Rattle.ld_rounds.proofs.Going.{each_end, went_here, went_as, goes_as, then_on}
+use Rattle.ld_rounds.proofs.Visiting.{its_own, only_one, drives_on, takes_is, ignored, unheard}
 use Rattle.ld_rounds.proofs.visits.listen.Goals as goal
 
 nothing_came : (far : Far) (T : Far → Type 0) (o : Option Msg) → o ≡ None → Receives far T (Ok o) → (far.answers ≡ []) × T far
@@ -16,33 +17,60 @@ next_came : (far : Far) (T : Far → Type 0) (o : Option Msg) (m : Msg) → o �
 next_came far T o m h received = subst (λ x. Receives far T (Ok x)) h received
 
 pub returns-in-Err-clause-held : goal.returns-in-Err-clause-held
-returns-in-Err-clause-held g c who is k first s far b told h =
+returns-in-Err-clause-held g c who is k first s far b there told h =
     let U = WithNode (g.N.Nodes.tells c.receive.new.self) k c.args.node in
     let w = g.O.Sink.written c.args.out.now in
-    subst (λ r. GoesOn who (IsBroken (g.N.Nodes.faults c.args.nodes.now) (g.N.Nodes.faults c.receive.new.self) (g.N.Nodes.endings c.args.nodes.now) (g.N.Nodes.endings c.receive.new.self)) Quiet QuietEnd (g.A.Actor.stands c.args.actor.now) U k first s c.args.queues.now w w r) (sym c.missed.ensures.value)
-    (unheard who (IsBroken (g.N.Nodes.faults c.args.nodes.now) (g.N.Nodes.faults c.receive.new.self) (g.N.Nodes.endings c.args.nodes.now) (g.N.Nodes.endings c.receive.new.self)) k first b (g.A.Actor.stands c.args.actor.now) (g.met.A.Actor.stands_apart c.args.actor.now) s (g.N.Nodes.tells c.receive.new.self k) U far c.args.queues.now w c.in-Err.fault (c.in-Err.ensures.received k far told.0))
+    inr (subst (λ r. GoesOn who (IsBroken (g.N.Nodes.faults c.args.nodes.now) (g.N.Nodes.faults c.receive.new.self) (g.N.Nodes.endings c.args.nodes.now) (g.N.Nodes.endings c.receive.new.self)) (Visiting k c.args.node) (VisitEnd k c.args.node) (g.A.Actor.stands c.args.actor.now) U k first s c.args.queues.now w w r) (sym c.missed.ensures.value)
+    (unheard who (IsBroken (g.N.Nodes.faults c.args.nodes.now) (g.N.Nodes.faults c.receive.new.self) (g.N.Nodes.endings c.args.nodes.now) (g.N.Nodes.endings c.receive.new.self)) k first b (g.A.Actor.stands c.args.actor.now) (g.met.A.Actor.stands_apart c.args.actor.now) s c.args.node (g.N.Nodes.tells c.receive.new.self k) U far c.args.queues.now w c.in-Err.fault (c.in-Err.ensures.received k far told.0)))
 
 pub returns-in_default-clause-held : goal.returns-in_default-clause-held
-returns-in_default-clause-held g c who is k first s far b told h =
+returns-in_default-clause-held g c who is k first s far b there told h =
     let none = nothing_came far (g.N.Nodes.tells c.receive.new.self k) c.in-Ok.next c.in_default.is (c.in-Ok.ensures.received k far told.0) in
-    went_here who (IsBroken (g.N.Nodes.faults c.args.nodes.now) (g.N.Nodes.faults c.receive.new.self) (g.N.Nodes.endings c.args.nodes.now) (g.N.Nodes.endings c.receive.new.self)) k first b Quiet (g.A.Actor.stands c.args.actor.now) (WithNode (g.N.Nodes.tells c.receive.new.self) k c.args.node) s far c.args.queues.now (g.O.Sink.written c.args.out.now) tt ((none.1, none.0), told.1) h
+    inr (went_here who (IsBroken (g.N.Nodes.faults c.args.nodes.now) (g.N.Nodes.faults c.receive.new.self) (g.N.Nodes.endings c.args.nodes.now) (g.N.Nodes.endings c.receive.new.self)) k first b (Visiting k c.args.node) (g.A.Actor.stands c.args.actor.now) (WithNode (g.N.Nodes.tells c.receive.new.self) k c.args.node) s far c.args.queues.now (g.O.Sink.written c.args.out.now) (tt, tt) ((none.1, none.0), told.1) h)
+
+pub returns-then-not-is_its-clause-held : goal.returns-then-not-is_its-clause-held
+returns-then-not-is_its-clause-held g c who is k first s far b there told h =
+    let a = c.args.actor.now in
+    let w = g.O.Sink.written c.args.out.now in
+    let T = g.N.Nodes.tells c.receive.new.self in
+    let next = next_came far (T k) c.in-Ok.next c.in-Some.answer c.in-Some.is (c.in-Ok.ensures.received k far told.0) in
+    let once = subst (AnswersOnce c.args.node) next.first told.2 in
+    inr (went_as who (IsBroken (g.N.Nodes.faults c.args.nodes.now) (g.N.Nodes.faults c.receive.new.self) (g.N.Nodes.endings c.args.nodes.now) (g.N.Nodes.endings c.receive.new.self)) k first b (Visiting k c.args.node) ⊥ (g.A.Actor.stands a) (λ now. now ≡ record far { answers = next.rest }) (WithNode T k c.args.node) s c.args.queues.now w w (λ x. absurd x)
+    (λ f e. subst (WithNode T k c.args.node) (sym e) ((next.told, only_one c.args.node c.in-Some.answer next.rest once), told.1))
+    (ignored who ⊥ k first b (g.A.Actor.stands a) (g.met.A.Actor.stands_apart a) s c.args.node far c.args.queues.now c.in-Some.answer next.rest w next.first
+    (takes_is who.takes (g.A.Actor.own a) s c.in-Some.answer _ _ is.0 (c.is_its.ensures.taken k s h.actor (its_own c.args.node c.in-Some.answer next.rest once)) c.if-not-is_its.true) h))
 
 pub returns-in_err-take-clause-held : goal.returns-in_err-take-clause-held
-returns-in_err-take-clause-held g c who is k first s far b told h =
+returns-in_err-take-clause-held g c who is k first s far b there told h =
     let p = err_from_is_err_and c.from_residual.result c.from_residual.ensures.1 in
-    let old = c.args.actor.now in
     let new = c.take.new.actor in
-    let next = next_came far (g.N.Nodes.tells c.receive.new.self k) c.in-Ok.next c.in-Some.answer c.in-Some.is (c.in-Ok.ensures.received k far told.0) in
-    rw (p.1, p.2) (next_on who (IsBroken (g.N.Nodes.faults c.args.nodes.now) (g.N.Nodes.faults c.receive.new.self) (g.N.Nodes.endings c.args.nodes.now) (g.N.Nodes.endings c.receive.new.self)) k first b (g.A.Actor.stands old) (g.met.A.Actor.stands_apart old) s {R = Bool} (g.N.Nodes.tells c.receive.new.self) far c.args.node (g.A.Actor.stands new) c.take.new.queues (g.O.Sink.written c.args.out.now) (g.O.Sink.written c.take.new.out)
-    c.in-Some.answer (Err c.in_err-take.field-0.0) told.1 told.2 next (goes_as who (IsBroken (g.N.Nodes.faults c.args.nodes.now) (g.N.Nodes.faults c.receive.new.self) (g.N.Nodes.endings c.args.nodes.now) (g.N.Nodes.endings c.receive.new.self)) k first b {R = Bool} Quiet QuietEnd ⊥ (g.A.Actor.stands new) (λ now. now ≡ record far { answers = next.rest }) (λ now. now ≡ record far { answers = next.rest }) s c.take.new.queues (g.O.Sink.written c.args.out.now) (g.O.Sink.written c.take.new.out) (Err c.in_err-take.field-0.0) (λ x. absurd x) (λ f t. t) (c.in_err-take.ensures.held who is k first s far next.rest b (its_own c.args.node c.in-Some.answer next.rest (subst (AnswersOnce c.args.node) next.first told.2)) next.first h)))
+    let T = g.N.Nodes.tells c.receive.new.self in
+    let next = next_came far (T k) c.in-Ok.next c.in-Some.answer c.in-Some.is (c.in-Ok.ensures.received k far told.0) in
+    let once = subst (AnswersOnce c.args.node) next.first told.2 in
+    let taken = takes_is who.takes (g.A.Actor.own c.args.actor.now) s c.in-Some.answer _ _ is.0 (c.is_its.ensures.taken k s h.actor (its_own c.args.node c.in-Some.answer next.rest once)) c.if-not-is_its.false in
+    rw (p.1, p.2) (inr (goes_as who (IsBroken (g.N.Nodes.faults c.args.nodes.now) (g.N.Nodes.faults c.receive.new.self) (g.N.Nodes.endings c.args.nodes.now) (g.N.Nodes.endings c.receive.new.self)) k first b {R = Bool} (IsDelivered c.in-Some.answer) (VisitEnd k c.args.node) ⊥ (g.A.Actor.stands new) (λ now. now ≡ record far { answers = next.rest }) (WithNode T k c.args.node) s c.take.new.queues (g.O.Sink.written c.args.out.now) (g.O.Sink.written c.take.new.out) (Err c.in_err-take.field-0.0) (λ x. absurd x)
+    (λ f e. subst (WithNode T k c.args.node) (sym e) ((next.told, only_one c.args.node c.in-Some.answer next.rest once), told.1))
+    (c.in_err-take.ensures.held who c.args.node k first s far next.rest b taken next.first h)))
 
 pub returns-clause-held : goal.returns-clause-held
-returns-clause-held g c who is k first s far b told h =
-    let old = c.args.actor.now in
+returns-clause-held g c who is k first s far b there told h =
     let new = c.take.new.actor in
-    let next = next_came far (g.N.Nodes.tells c.receive.new.self k) c.in-Ok.next c.in-Some.answer c.in-Some.is (c.in-Ok.ensures.received k far told.0) in
-    next_on who (IsBroken (g.N.Nodes.faults c.args.nodes.now) (g.N.Nodes.faults c.receive.new.self) (g.N.Nodes.endings c.args.nodes.now) (g.N.Nodes.endings c.receive.new.self)) k first b (g.A.Actor.stands old) (g.met.A.Actor.stands_apart old) s {R = Bool} (g.N.Nodes.tells c.receive.new.self) far c.args.node (g.A.Actor.stands new) c.take.new.queues (g.O.Sink.written c.args.out.now) (g.O.Sink.written c.take.new.out)
-    c.in-Some.answer (Ok true) told.1 told.2 next (goes_as who (IsBroken (g.N.Nodes.faults c.args.nodes.now) (g.N.Nodes.faults c.receive.new.self) (g.N.Nodes.endings c.args.nodes.now) (g.N.Nodes.endings c.receive.new.self)) k first b {R = Bool} Quiet QuietEnd ⊥ (g.A.Actor.stands new) (λ now. now ≡ record far { answers = next.rest }) (λ now. now ≡ record far { answers = next.rest }) s c.take.new.queues (g.O.Sink.written c.args.out.now) (g.O.Sink.written c.take.new.out) (Ok true) (λ x. absurd x) (λ f t. t) (c.in_ok-take.ensures.held who is k first s far next.rest b (its_own c.args.node c.in-Some.answer next.rest (subst (AnswersOnce c.args.node) next.first told.2)) next.first h))
+    let y = c.args.node in
+    let m = c.in-Some.answer in
+    let T = g.N.Nodes.tells c.receive.new.self in
+    let U = g.N.Nodes.tells c.remind.new.nodes in
+    let w = g.O.Sink.written c.take.new.out in
+    let broken = IsBroken (g.N.Nodes.faults c.args.nodes.now) (g.N.Nodes.faults c.remind.new.nodes) (g.N.Nodes.endings c.args.nodes.now) (g.N.Nodes.endings c.remind.new.nodes) in
+    let next = next_came far (T k) c.in-Ok.next m c.in-Some.is (c.in-Ok.ensures.received k far told.0) in
+    let once = subst (AnswersOnce y) next.first told.2 in
+    let own = its_own y m next.rest once in
+    let taken = takes_is who.takes (g.A.Actor.own c.args.actor.now) s m _ _ is.0 (c.is_its.ensures.taken k s h.actor own) c.if-not-is_its.false in
+    let went = went_as who ⊥ k first b (IsDelivered m) ⊥ (g.A.Actor.stands new) (λ now. now ≡ record far { answers = next.rest }) (WithNode T k y) s c.take.new.queues (g.O.Sink.written c.args.out.now) w (λ x. x)
+    (λ f e. subst (WithNode T k y) (sym e) ((next.told, only_one y m next.rest once), told.1))
+    (c.in_ok-take.ensures.held who y k first s far next.rest b taken next.first h) in
+    then_on who broken k first b {R = Bool} (IsDelivered m) (IsReminded y m) (Visiting k y) (RemindEnd y m) (VisitEnd k y) ⊥ ⊥ (g.N.Nodes.silent c.remind.new.nodes ≡ true) (g.N.Nodes.silent c.remind.new.nodes ≡ true) (g.A.Actor.stands new) (g.A.Actor.stands c.remind.new.actor) (WithNode T k y) (WithNode U k y) s c.take.new.queues c.take.new.queues (g.O.Sink.written c.args.out.now) w w c.remind.result
+    (reminded_joins k y m) (each_end c.remind.result (λ e. reminded_joins k y m)) (λ x. absurd x) (λ x. absurd x) (λ quiet. quiet)
+    (λ v. c.remind.ensures.held who (drives_on who (g.A.Actor.own c.args.actor.now) (g.A.Actor.own new) is c.in_ok-take.ensures.itself) k first v.moved.state v.far c.take.new.queues w b there own v.told v.moved.holds) (inr went)
 
 pub returns-in_default-clause-broken : goal.returns-in_default-clause-broken
 returns-in_default-clause-broken g c = λ e.
@@ -53,3 +81,12 @@ returns-in-Err-clause-since g c = g.met.A.Actor.since_here c.args.actor.now
 
 pub returns-in_default-clause-since : goal.returns-in_default-clause-since
 returns-in_default-clause-since g c = g.met.A.Actor.since_here c.args.actor.now
+
+pub returns-then-not-is_its-clause-since : goal.returns-then-not-is_its-clause-since
+returns-then-not-is_its-clause-since g c = g.met.A.Actor.since_here c.args.actor.now
+
+pub returns-clause-since : goal.returns-clause-since
+returns-clause-since g c = g.met.A.Actor.since_on c.args.actor.now c.take.new.actor c.remind.new.actor c.in_ok-take.ensures.since c.remind.ensures.since
+
+pub returns-clause-cause : goal.returns-clause-cause
+returns-clause-cause g c = c.remind.ensures.cause (g.O.Sink.faults c.args.out.now) (g.O.Sink.faults c.take.new.out) (g.O.Sink.written c.args.out.now) (g.O.Sink.written c.take.new.out)

@@ -1,17 +1,18 @@
-use Rattle.std.proofs.Common.{◌≡◌, ◌⊎◌, ◌≤◌, ◌-◌, ℕ, List, true, length, take}
+use Rattle.std.proofs.Common.{◌≡◌, ◌⊎◌, ◌≤◌, ◌-◌, ℕ, true, length, take}
 use Rattle.ld_ids.specs.Set.{members}
 use Rattle.ld_config.specs.declared.config.Config.{Config}
 use Rattle.ld_config.specs.Bounds.{IsInBounds}
 use Rattle.ld_machine.specs.State.{State}
 use Rattle.ld_dial.specs.Far.{Far}
 use Rattle.ld_rounds.specs.Endings.{IsLater}
-use Rattle.ld_rounds.specs.Drives.{Driver, AllTaken, IsBroken, AreLater, Holds, Went}
+use Rattle.ld_rounds.specs.Drives.{Driver, AreOfConfig, AllTaken, IsBroken, AreLater, Holds, Went}
+use Rattle.ld_rounds.specs.Acts.{IsDriverOf}
 use Rattle.ld_rounds.specs.Rounds.{AreVisits}
 use Rattle.ld_rounds.proofs.visits.round.Given as goal
 
 abbrev pub invariant-nodes : goal.invariant-nodes
 invariant-nodes g l =
-    ((who : Driver) → who.takes ≡ (g.A.Actor.own l.fn.actor).takes → (c : Config) (first : ℕ) (s : State) (far : Far) → IsInBounds c → AllTaken (g.N.Nodes.tells l.fn.nodes c) far → Holds (g.A.Actor.stands l.fn.actor) c first s far l.fn.queues
+    ((who : Driver) → IsDriverOf who (g.A.Actor.own l.fn.actor) → (c : Config) (first : ℕ) (s : State) (far : Far) → IsInBounds c → AreOfConfig c (members l.set) → AllTaken (g.N.Nodes.tells l.fn.nodes c) far → Holds (g.A.Actor.stands l.fn.actor) c first s far l.fn.queues
     → (g.N.Nodes.silent l.nodes ≡ true) ⊎ Went who (IsBroken (g.N.Nodes.faults l.fn.nodes) (g.N.Nodes.faults l.nodes) (g.N.Nodes.endings l.fn.nodes) (g.N.Nodes.endings l.nodes)) (AreVisits c first (take l.place (members l.set))) (g.A.Actor.stands l.actor) (AllTaken (g.N.Nodes.tells l.nodes c)) c first s l.queues (g.O.Sink.written l.fn.out) (g.O.Sink.written l.out))
     × (g.N.Nodes.silent l.fn.nodes ≡ true → g.N.Nodes.silent l.nodes ≡ true)
     × IsLater (g.O.Sink.faults l.fn.out) (g.O.Sink.faults l.out) (g.O.Sink.written l.fn.out) (g.O.Sink.written l.out)

@@ -4,31 +4,31 @@ use Rattle.ld_msg.specs.declared.msg.Msg.{Msg}
 use Rattle.ld_rounds.specs.Queued.{queue_of, behind}
 use Rattle.ld_rounds.specs.Drives.{IsBroken, Went, AllTaken, WithNode}
 use Rattle.ld_rounds.proofs.Endings.{later_here, later_on, ending_since}
-use Rattle.ld_rounds.specs.Rounds.{Quiet, QuietEnd}
-use Rattle.ld_rounds.proofs.Going.{halted, went_here, went_as, goes_as, quiet_on, went_visit}
-use Rattle.ld_rounds.proofs.Visiting.{takes_on, broken_since, broken_until, later_since, fronted, not_taken, taken_none, unwaited, emptied, dialed, missed, dropped}
+use Rattle.ld_rounds.specs.Rounds.{Visiting, VisitEnd}
+use Rattle.ld_rounds.proofs.Going.{halted, went_here, went_as, goes_as, visiting_on, went_visit}
+use Rattle.ld_rounds.proofs.Visiting.{drives_on, broken_since, broken_until, later_since, fronted, not_taken, taken_none, unwaited, emptied, dialed, missed, dropped}
 use Rattle.ld_rounds.proofs.visits.visit.Goals as goal
 
 pub returns-then-not-has-clause-held : goal.returns-then-not-has-clause-held
-returns-then-not-has-clause-held g c who is k first s far b told h =
+returns-then-not-has-clause-held g c who is k first s far b there told h =
     let broken = IsBroken (g.N.Nodes.faults c.args.nodes.now) (g.N.Nodes.faults c.args.nodes.now) (g.N.Nodes.endings c.args.nodes.now) (g.N.Nodes.endings c.args.nodes.now) in
     let w = g.O.Sink.written c.args.out.now in
     inr (went_visit who broken k first b c.args.node (g.A.Actor.stands c.args.actor.now) (g.N.Nodes.tells c.args.nodes.now k) s c.args.queues.now w w (unwaited (queue_of c.args.queues.now c.args.node) c.has.result c.has.ensures.waits c.if-not-has.true)
-    (went_here who broken k first b Quiet (g.A.Actor.stands c.args.actor.now) (AllTaken (g.N.Nodes.tells c.args.nodes.now k)) s far c.args.queues.now w tt told h))
+    (went_here who broken k first b (Visiting k c.args.node) (g.A.Actor.stands c.args.actor.now) (AllTaken (g.N.Nodes.tells c.args.nodes.now k)) s far c.args.queues.now w (tt, tt) told h))
 
 pub returns-in-Err-clause-held : goal.returns-in-Err-clause-held
-returns-in-Err-clause-held g c who is k first s far b told h =
+returns-in-Err-clause-held g c who is k first s far b there told h =
     let a = c.args.actor.now in
     let w = g.O.Sink.written c.args.out.now in
     let T = g.N.Nodes.tells c.dial.new.self k in
     let broken = IsBroken (g.N.Nodes.faults c.args.nodes.now) (g.N.Nodes.faults c.dial.new.self) (g.N.Nodes.endings c.args.nodes.now) (g.N.Nodes.endings c.dial.new.self) in
     inr (went_visit who broken k first b c.args.node (g.A.Actor.stands a) T s c.drop_all.new.self w w (ap (λ (x : List (List Msg)). queue_of x c.args.node) c.drop_all.ensures.dropped ∙ emptied c.args.queues.now c.args.node)
-    (subst (λ (x : List (List Msg)). Went who broken Quiet (g.A.Actor.stands a) (AllTaken T) k first s x w w) (sym c.drop_all.ensures.dropped)
+    (subst (λ (x : List (List Msg)). Went who broken (Visiting k c.args.node) (g.A.Actor.stands a) (AllTaken T) k first s x w w) (sym c.drop_all.ensures.dropped)
     (missed who (IsBroken (g.N.Nodes.faults c.args.nodes.now) (g.N.Nodes.faults c.dial.new.self) (g.N.Nodes.endings c.args.nodes.now) (g.N.Nodes.endings c.dial.new.self)) k first b (g.A.Actor.stands a) (g.met.A.Actor.stands_apart a) s (inl c.in-Err.ensures.cause.failed) (AllTaken T) far c.args.node c.args.queues.now w told.1 c.has.ensures.node h ((c.in-Err.ensures.dialed k far told.0).1, refl))))
 
 pub frames-init : goal.frames-init
 frames-init g c = (
-  λ who is k first s far b told h. inr (dialed who (IsBroken (g.N.Nodes.faults c.args.nodes.now) (g.N.Nodes.faults c.dial.new.self) (g.N.Nodes.endings c.args.nodes.now) (g.N.Nodes.endings c.dial.new.self)) k first b (g.A.Actor.stands c.args.actor.now) (g.met.A.Actor.stands_apart c.args.actor.now) s (g.N.Nodes.tells c.dial.new.self) far c.args.node c.args.queues.now (g.O.Sink.written c.args.out.now) told.1 h (c.in-Ok.ensures.dialed k far told.0).1),
+  λ who is k first s far b there told h. inr (dialed who (IsBroken (g.N.Nodes.faults c.args.nodes.now) (g.N.Nodes.faults c.dial.new.self) (g.N.Nodes.endings c.args.nodes.now) (g.N.Nodes.endings c.dial.new.self)) k first b (g.A.Actor.stands c.args.actor.now) (g.met.A.Actor.stands_apart c.args.actor.now) s (g.N.Nodes.tells c.dial.new.self) far c.args.node c.args.queues.now (g.O.Sink.written c.args.out.now) told.1 h (c.in-Ok.ensures.dialed k far told.0).1),
   λ quiet. c.in-Ok.ensures.silent ∙ quiet,
   later_here _ _,
   (let l = c.in-Ok.ensures.cause.later in let e = c.in-Ok.ensures.endings in (l, omega (arith, e))),
@@ -37,7 +37,7 @@ frames-init g c = (
 )
 
 pub returns-in_default-clause-held : goal.returns-in_default-clause-held
-returns-in_default-clause-held g c who is k first s far b told h =
+returns-in_default-clause-held g c who is k first s far b there told h =
     let a = c.frames.actor in
     let old = g.O.Sink.written c.args.out.now in
     let new = g.O.Sink.written c.frames.out in
@@ -46,24 +46,24 @@ returns-in_default-clause-held g c who is k first s far b told h =
     (λ w. let broken = IsBroken (g.N.Nodes.faults c.args.nodes.now) (g.N.Nodes.faults c.frames.nodes) (g.N.Nodes.endings c.args.nodes.now) (g.N.Nodes.endings c.frames.nodes) in
     inr (went_visit who broken k first b c.args.node (g.A.Actor.stands a) (T k) s c.next.new.self old new
     (taken_none c.frames.queues c.next.new.self c.args.node (sym c.in_default.is ∙ c.next.ensures.first) c.next.ensures.left)
-    (subst (λ (x : List (List Msg)). Went who broken Quiet (g.A.Actor.stands a) (AllTaken (T k)) k first s x old new)
+    (subst (λ (x : List (List Msg)). Went who broken (Visiting k c.args.node) (g.A.Actor.stands a) (AllTaken (T k)) k first s x old new)
     (sym (not_taken c.frames.queues c.next.new.self c.args.node (sym c.in_default.is ∙ c.next.ensures.first) c.next.ensures.left))
-    (went_as who (IsBroken (g.N.Nodes.faults c.args.nodes.now) (g.N.Nodes.faults c.frames.nodes) (g.N.Nodes.endings c.args.nodes.now) (g.N.Nodes.endings c.frames.nodes)) k first b Quiet (IsBroken (g.N.Nodes.faults c.args.nodes.now) (g.N.Nodes.faults c.frames.nodes) (g.N.Nodes.endings c.args.nodes.now) (g.N.Nodes.endings c.frames.nodes)) (g.A.Actor.stands a) (WithNode T k c.args.node) (AllTaken (T k)) s c.frames.queues old new (λ l. l) (λ f t. t.0) w))))
-    (c.frames.invariant.0 who is k first s far b told h)
+    (went_as who (IsBroken (g.N.Nodes.faults c.args.nodes.now) (g.N.Nodes.faults c.frames.nodes) (g.N.Nodes.endings c.args.nodes.now) (g.N.Nodes.endings c.frames.nodes)) k first b (Visiting k c.args.node) (IsBroken (g.N.Nodes.faults c.args.nodes.now) (g.N.Nodes.faults c.frames.nodes) (g.N.Nodes.endings c.args.nodes.now) (g.N.Nodes.endings c.frames.nodes)) (g.A.Actor.stands a) (WithNode T k c.args.node) (AllTaken (T k)) s c.frames.queues old new (λ l. l) (λ f t. t.0) w))))
+    (c.frames.invariant.0 who is k first s far b there told h)
 
 pub returns-in_err-exchange-clause-held : goal.returns-in_err-exchange-clause-held
-returns-in_err-exchange-clause-held g c who is k first s far b told h =
+returns-in_err-exchange-clause-held g c who is k first s far b there told h =
     let p = err_from_is_err_and c.from_residual.result c.from_residual.ensures.1 in
     let T = g.N.Nodes.tells c.frames.nodes in
     let U = g.N.Nodes.tells c.exchange.new.nodes in
     let y = c.args.node in
     let front = fronted (queue_of c.frames.queues y) c.in-Some.message (sym c.in-Some.is ∙ c.next.ensures.first) in
-    rw (p.1, p.2) (quiet_on who (IsBroken (g.N.Nodes.faults c.args.nodes.now) (g.N.Nodes.faults c.exchange.new.nodes) (g.N.Nodes.endings c.args.nodes.now) (g.N.Nodes.endings c.exchange.new.nodes)) k first b {R = Bool} (IsBroken (g.N.Nodes.faults c.args.nodes.now) (g.N.Nodes.faults c.frames.nodes) (g.N.Nodes.endings c.args.nodes.now) (g.N.Nodes.endings c.frames.nodes)) (IsBroken (g.N.Nodes.faults c.frames.nodes) (g.N.Nodes.faults c.exchange.new.nodes) (g.N.Nodes.endings c.frames.nodes) (g.N.Nodes.endings c.exchange.new.nodes)) (g.N.Nodes.silent c.frames.nodes ≡ true) (g.N.Nodes.silent c.exchange.new.nodes ≡ true) (g.A.Actor.stands c.frames.actor) (g.A.Actor.stands c.exchange.new.actor) (WithNode T k y) (AllTaken (U k)) s
+    rw (p.1, p.2) (visiting_on who (IsBroken (g.N.Nodes.faults c.args.nodes.now) (g.N.Nodes.faults c.exchange.new.nodes) (g.N.Nodes.endings c.args.nodes.now) (g.N.Nodes.endings c.exchange.new.nodes)) k first b {R = Bool} c.args.node (IsBroken (g.N.Nodes.faults c.args.nodes.now) (g.N.Nodes.faults c.frames.nodes) (g.N.Nodes.endings c.args.nodes.now) (g.N.Nodes.endings c.frames.nodes)) (IsBroken (g.N.Nodes.faults c.frames.nodes) (g.N.Nodes.faults c.exchange.new.nodes) (g.N.Nodes.endings c.frames.nodes) (g.N.Nodes.endings c.exchange.new.nodes)) (g.N.Nodes.silent c.frames.nodes ≡ true) (g.N.Nodes.silent c.exchange.new.nodes ≡ true) (g.A.Actor.stands c.frames.actor) (g.A.Actor.stands c.exchange.new.actor) (WithNode T k y) (AllTaken (U k)) s
     c.frames.queues c.exchange.new.queues (g.O.Sink.written c.args.out.now) (g.O.Sink.written c.frames.out) (g.O.Sink.written c.exchange.new.out) (Err c.in_err-exchange.field-0.0) (broken_until _ _ _ _ _ _ c.in_err-exchange.ensures.counts) (broken_since _ _ _ _ _ _ c.frames.invariant.3)
     c.in_err-exchange.ensures.silent
-    (λ w. ⊎_elim (λ quiet. inl quiet) (λ v. inr (goes_as who (IsBroken (g.N.Nodes.faults c.frames.nodes) (g.N.Nodes.faults c.exchange.new.nodes) (g.N.Nodes.endings c.frames.nodes) (g.N.Nodes.endings c.exchange.new.nodes)) k first b {R = Bool} Quiet QuietEnd (IsBroken (g.N.Nodes.faults c.frames.nodes) (g.N.Nodes.faults c.exchange.new.nodes) (g.N.Nodes.endings c.frames.nodes) (g.N.Nodes.endings c.exchange.new.nodes)) (g.A.Actor.stands c.exchange.new.actor) (WithNode U k y) (AllTaken (U k)) w.moved.state c.exchange.new.queues (g.O.Sink.written c.frames.out) (g.O.Sink.written c.exchange.new.out) (Err c.in_err-exchange.field-0.0) (λ l. l) (λ f t. t.0) v))
-    (c.in_err-exchange.ensures.held who (takes_on who.takes (g.A.Actor.own c.args.actor.now) (g.A.Actor.own c.frames.actor) is c.frames.invariant.4) k first w.moved.state w.far c.frames.queues (behind (queue_of c.frames.queues y)) b w.told w.moved.holds front c.next.ensures.left))
-    (c.frames.invariant.0 who is k first s far b told h))
+    (λ w. ⊎_elim (λ quiet. inl quiet) (λ v. inr (goes_as who (IsBroken (g.N.Nodes.faults c.frames.nodes) (g.N.Nodes.faults c.exchange.new.nodes) (g.N.Nodes.endings c.frames.nodes) (g.N.Nodes.endings c.exchange.new.nodes)) k first b {R = Bool} (Visiting k c.args.node) (VisitEnd k c.args.node) (IsBroken (g.N.Nodes.faults c.frames.nodes) (g.N.Nodes.faults c.exchange.new.nodes) (g.N.Nodes.endings c.frames.nodes) (g.N.Nodes.endings c.exchange.new.nodes)) (g.A.Actor.stands c.exchange.new.actor) (WithNode U k y) (AllTaken (U k)) w.moved.state c.exchange.new.queues (g.O.Sink.written c.frames.out) (g.O.Sink.written c.exchange.new.out) (Err c.in_err-exchange.field-0.0) (λ l. l) (λ f t. t.0) v))
+    (c.in_err-exchange.ensures.held who (drives_on who (g.A.Actor.own c.args.actor.now) (g.A.Actor.own c.frames.actor) is c.frames.invariant.4) k first w.moved.state w.far c.frames.queues (behind (queue_of c.frames.queues y)) b there w.told w.moved.holds front c.next.ensures.left))
+    (c.frames.invariant.0 who is k first s far b there told h))
 
 pub returns-in_err-exchange-clause-cause : goal.returns-in_err-exchange-clause-cause
 returns-in_err-exchange-clause-cause g c =
@@ -74,7 +74,7 @@ pub returns-in_err-exchange-clause-later : goal.returns-in_err-exchange-clause-l
 returns-in_err-exchange-clause-later g c = later_on _ _ _ _ _ _ c.frames.invariant.2 c.in_err-exchange.ensures.later
 
 pub returns-then-not-branch-clause-held : goal.returns-then-not-branch-clause-held
-returns-then-not-branch-clause-held g c who is k first s far b told h =
+returns-then-not-branch-clause-held g c who is k first s far b there told h =
     let T = g.N.Nodes.tells c.frames.nodes in
     let U = g.N.Nodes.tells c.exchange.new.nodes in
     let y = c.args.node in
@@ -82,16 +82,16 @@ returns-then-not-branch-clause-held g c who is k first s far b told h =
     let old = g.O.Sink.written c.args.out.now in
     let new = g.O.Sink.written c.exchange.new.out in
     let front = fronted (queue_of c.frames.queues y) c.in-Some.message (sym c.in-Some.is ∙ c.next.ensures.first) in
-    let went = quiet_on who (IsBroken (g.N.Nodes.faults c.args.nodes.now) (g.N.Nodes.faults c.exchange.new.nodes) (g.N.Nodes.endings c.args.nodes.now) (g.N.Nodes.endings c.exchange.new.nodes)) k first b {R = Bool} (IsBroken (g.N.Nodes.faults c.args.nodes.now) (g.N.Nodes.faults c.frames.nodes) (g.N.Nodes.endings c.args.nodes.now) (g.N.Nodes.endings c.frames.nodes)) (IsBroken (g.N.Nodes.faults c.frames.nodes) (g.N.Nodes.faults c.exchange.new.nodes) (g.N.Nodes.endings c.frames.nodes) (g.N.Nodes.endings c.exchange.new.nodes)) (g.N.Nodes.silent c.frames.nodes ≡ true) (g.N.Nodes.silent c.exchange.new.nodes ≡ true) (g.A.Actor.stands c.frames.actor) B (WithNode T k y) (WithNode U k y) s
+    let went = visiting_on who (IsBroken (g.N.Nodes.faults c.args.nodes.now) (g.N.Nodes.faults c.exchange.new.nodes) (g.N.Nodes.endings c.args.nodes.now) (g.N.Nodes.endings c.exchange.new.nodes)) k first b {R = Bool} c.args.node (IsBroken (g.N.Nodes.faults c.args.nodes.now) (g.N.Nodes.faults c.frames.nodes) (g.N.Nodes.endings c.args.nodes.now) (g.N.Nodes.endings c.frames.nodes)) (IsBroken (g.N.Nodes.faults c.frames.nodes) (g.N.Nodes.faults c.exchange.new.nodes) (g.N.Nodes.endings c.frames.nodes) (g.N.Nodes.endings c.exchange.new.nodes)) (g.N.Nodes.silent c.frames.nodes ≡ true) (g.N.Nodes.silent c.exchange.new.nodes ≡ true) (g.A.Actor.stands c.frames.actor) B (WithNode T k y) (WithNode U k y) s
     c.frames.queues c.exchange.new.queues old (g.O.Sink.written c.frames.out) new (Ok false) (broken_until _ _ _ _ _ _ c.in_ok-exchange.ensures.counts) (broken_since _ _ _ _ _ _ c.frames.invariant.3)
     c.in_ok-exchange.ensures.silent
-    (λ w. c.in_ok-exchange.ensures.held who (takes_on who.takes (g.A.Actor.own c.args.actor.now) (g.A.Actor.own c.frames.actor) is c.frames.invariant.4) k first w.moved.state w.far c.frames.queues (behind (queue_of c.frames.queues y)) b w.told w.moved.holds front c.next.ensures.left)
-    (c.frames.invariant.0 who is k first s far b told h) in
+    (λ w. c.in_ok-exchange.ensures.held who (drives_on who (g.A.Actor.own c.args.actor.now) (g.A.Actor.own c.frames.actor) is c.frames.invariant.4) k first w.moved.state w.far c.frames.queues (behind (queue_of c.frames.queues y)) b there w.told w.moved.holds front c.next.ensures.left)
+    (c.frames.invariant.0 who is k first s far b there told h) in
     let broken = IsBroken (g.N.Nodes.faults c.args.nodes.now) (g.N.Nodes.faults c.exchange.new.nodes) (g.N.Nodes.endings c.args.nodes.now) (g.N.Nodes.endings c.exchange.new.nodes) in
     ⊎_elim (λ quiet. inl quiet) (λ v. inr (went_visit who broken k first b y B (U k) s c.drop_all-then-not-branch.new.self old new (ap (λ (x : List (List Msg)). queue_of x y) c.drop_all-then-not-branch.ensures.dropped ∙ emptied c.exchange.new.queues y)
-    (subst (λ (x : List (List Msg)). Went who broken Quiet B (AllTaken (U k)) k first s x old new) (sym c.drop_all-then-not-branch.ensures.dropped)
+    (subst (λ (x : List (List Msg)). Went who broken (Visiting k c.args.node) B (AllTaken (U k)) k first s x old new) (sym c.drop_all-then-not-branch.ensures.dropped)
     (dropped who (IsBroken (g.N.Nodes.faults c.args.nodes.now) (g.N.Nodes.faults c.exchange.new.nodes) (g.N.Nodes.endings c.args.nodes.now) (g.N.Nodes.endings c.exchange.new.nodes)) k first b B (g.met.A.Actor.stands_apart c.exchange.new.actor) s (broken_since _ _ _ _ _ _ c.frames.invariant.3 (c.in_ok-exchange.ensures.broken c.if-not-branch.true)) (AllTaken (U k)) c.exchange.new.queues y old new c.has.ensures.node
-    (went_as who (IsBroken (g.N.Nodes.faults c.args.nodes.now) (g.N.Nodes.faults c.exchange.new.nodes) (g.N.Nodes.endings c.args.nodes.now) (g.N.Nodes.endings c.exchange.new.nodes)) k first b Quiet (IsBroken (g.N.Nodes.faults c.args.nodes.now) (g.N.Nodes.faults c.exchange.new.nodes) (g.N.Nodes.endings c.args.nodes.now) (g.N.Nodes.endings c.exchange.new.nodes)) B (WithNode U k y) (AllTaken (U k)) s c.exchange.new.queues old new (λ l. l) (λ f t. t.0) v))))) went
+    (went_as who (IsBroken (g.N.Nodes.faults c.args.nodes.now) (g.N.Nodes.faults c.exchange.new.nodes) (g.N.Nodes.endings c.args.nodes.now) (g.N.Nodes.endings c.exchange.new.nodes)) k first b (Visiting k c.args.node) (IsBroken (g.N.Nodes.faults c.args.nodes.now) (g.N.Nodes.faults c.exchange.new.nodes) (g.N.Nodes.endings c.args.nodes.now) (g.N.Nodes.endings c.exchange.new.nodes)) B (WithNode U k y) (AllTaken (U k)) s c.exchange.new.queues old new (λ l. l) (λ f t. t.0) v))))) went
 
 pub returns-then-not-branch-clause-later : goal.returns-then-not-branch-clause-later
 returns-then-not-branch-clause-later g c = later_on _ _ _ _ _ _ c.frames.invariant.2 c.in_ok-exchange.ensures.later
@@ -102,11 +102,11 @@ frames-preserved g c =
     let U = g.N.Nodes.tells c.exchange.new.nodes in
     let y = c.args.node in
     let front = fronted (queue_of c.frames.queues y) c.in-Some.message (sym c.in-Some.is ∙ c.next.ensures.first) in (
-      λ who is k first s far b told h. quiet_on who (IsBroken (g.N.Nodes.faults c.args.nodes.now) (g.N.Nodes.faults c.exchange.new.nodes) (g.N.Nodes.endings c.args.nodes.now) (g.N.Nodes.endings c.exchange.new.nodes)) k first b {R = Bool} (IsBroken (g.N.Nodes.faults c.args.nodes.now) (g.N.Nodes.faults c.frames.nodes) (g.N.Nodes.endings c.args.nodes.now) (g.N.Nodes.endings c.frames.nodes)) (IsBroken (g.N.Nodes.faults c.frames.nodes) (g.N.Nodes.faults c.exchange.new.nodes) (g.N.Nodes.endings c.frames.nodes) (g.N.Nodes.endings c.exchange.new.nodes)) (g.N.Nodes.silent c.frames.nodes ≡ true) (g.N.Nodes.silent c.exchange.new.nodes ≡ true) (g.A.Actor.stands c.frames.actor) (g.A.Actor.stands c.exchange.new.actor) (WithNode T k y) (WithNode U k y) s
+      λ who is k first s far b there told h. visiting_on who (IsBroken (g.N.Nodes.faults c.args.nodes.now) (g.N.Nodes.faults c.exchange.new.nodes) (g.N.Nodes.endings c.args.nodes.now) (g.N.Nodes.endings c.exchange.new.nodes)) k first b {R = Bool} c.args.node (IsBroken (g.N.Nodes.faults c.args.nodes.now) (g.N.Nodes.faults c.frames.nodes) (g.N.Nodes.endings c.args.nodes.now) (g.N.Nodes.endings c.frames.nodes)) (IsBroken (g.N.Nodes.faults c.frames.nodes) (g.N.Nodes.faults c.exchange.new.nodes) (g.N.Nodes.endings c.frames.nodes) (g.N.Nodes.endings c.exchange.new.nodes)) (g.N.Nodes.silent c.frames.nodes ≡ true) (g.N.Nodes.silent c.exchange.new.nodes ≡ true) (g.A.Actor.stands c.frames.actor) (g.A.Actor.stands c.exchange.new.actor) (WithNode T k y) (WithNode U k y) s
           c.frames.queues c.exchange.new.queues (g.O.Sink.written c.args.out.now) (g.O.Sink.written c.frames.out) (g.O.Sink.written c.exchange.new.out) (Ok true) (broken_until _ _ _ _ _ _ c.in_ok-exchange.ensures.counts) (broken_since _ _ _ _ _ _ c.frames.invariant.3)
           c.in_ok-exchange.ensures.silent
-          (λ w. c.in_ok-exchange.ensures.held who (takes_on who.takes (g.A.Actor.own c.args.actor.now) (g.A.Actor.own c.frames.actor) is c.frames.invariant.4) k first w.moved.state w.far c.frames.queues (behind (queue_of c.frames.queues y)) b w.told w.moved.holds front c.next.ensures.left)
-          (c.frames.invariant.0 who is k first s far b told h),
+          (λ w. c.in_ok-exchange.ensures.held who (drives_on who (g.A.Actor.own c.args.actor.now) (g.A.Actor.own c.frames.actor) is c.frames.invariant.4) k first w.moved.state w.far c.frames.queues (behind (queue_of c.frames.queues y)) b there w.told w.moved.holds front c.next.ensures.left)
+          (c.frames.invariant.0 who is k first s far b there told h),
       λ quiet. c.in_ok-exchange.ensures.silent (c.frames.invariant.1 quiet),
       later_on _ _ _ _ _ _ c.frames.invariant.2 c.in_ok-exchange.ensures.later,
       later_since _ _ _ _ _ _ c.frames.invariant.3 c.in_ok-exchange.ensures.counts,
@@ -115,9 +115,9 @@ frames-preserved g c =
     )
 
 pub returns-clause-held : goal.returns-clause-held
-returns-clause-held g c who is k first s far b told h =
-    ⊎_elim (λ quiet. inl quiet) (λ w. inr (halted who (IsBroken (g.N.Nodes.faults c.args.nodes.now) (g.N.Nodes.faults c.frames.nodes) (g.N.Nodes.endings c.args.nodes.now) (g.N.Nodes.endings c.frames.nodes)) k first b Quiet (g.A.Actor.stands c.frames.actor) (WithNode (g.N.Nodes.tells c.frames.nodes) k c.args.node) s c.frames.queues (g.O.Sink.written c.args.out.now) (g.O.Sink.written c.frames.out) w))
-    (c.frames.invariant.0 who is k first s far b told h)
+returns-clause-held g c who is k first s far b there told h =
+    ⊎_elim (λ quiet. inl quiet) (λ w. inr (halted who (IsBroken (g.N.Nodes.faults c.args.nodes.now) (g.N.Nodes.faults c.frames.nodes) (g.N.Nodes.endings c.args.nodes.now) (g.N.Nodes.endings c.frames.nodes)) k first b (Visiting k c.args.node) (g.A.Actor.stands c.frames.actor) (WithNode (g.N.Nodes.tells c.frames.nodes) k c.args.node) s c.frames.queues (g.O.Sink.written c.args.out.now) (g.O.Sink.written c.frames.out) w))
+    (c.frames.invariant.0 who is k first s far b there told h)
 
 pub returns-then-not-has-clause-since : goal.returns-then-not-has-clause-since
 returns-then-not-has-clause-since g c = g.met.A.Actor.since_here c.args.actor.now

@@ -1,8 +1,9 @@
 use Rattle.std.proofs.Common.{◌∙◌, refl, sym, ap, subst, Some, None}
+use Rattle.ld_sequencer.specs.Looks.{shows}
 use Rattle.ld_clients.proofs.Acting.{retried_goes}
 use Rattle.ld_sequencer.specs.Whole.{retry_acts}
 use Rattle.ld_append.specs.Acting.{Serves, IsSince, is_here}
-use Rattle.ld_append.proofs.Crowding.{tries_leave, may_fail, called_since, gone_since, since_as}
+use Rattle.ld_append.proofs.Crowding.{tries_leave, called_since, gone_since, since_as}
 use Rattle.ld_append.proofs.Serving.{live_client, none_retried, retried, serves_as}
 use Rattle.ld_append.proofs.acting.Acting.again.Goals as goal
 
@@ -28,9 +29,9 @@ returns-in-Ok-clause-since g c =
     let told = g.G.Register.told c.args.self.now.register in
     let may = g.G.Register.may_hold c.args.self.now.register in
     let goes = retried_goes (live_client w) (live_client v) c.retry-answer.result c.empty-sends.result c.retry-answer.new.out refl c.retry-answer.ensures.acted c.retry-answer.ensures.refused c.in-Ok.ensures.memory in
-    let leaves = tries_leave w.sequencer.log (retry_acts w).tries told (g.G.Register.told c.retry-answer.new.reg) may (g.G.Register.may_hold c.retry-answer.new.reg) c.retry-answer.ensures.told c.retry-answer.ensures.done_or_not in
+    let leaves = tries_leave w.sequencer.log (retry_acts (shows w.sequencer.spec) w).tries told (g.G.Register.told c.retry-answer.new.reg) may (g.G.Register.may_hold c.retry-answer.new.reg) c.retry-answer.ensures.told (c.retry-answer.ensures.done_or_not (shows w.sequencer.spec)) in
     let since = called_since told (g.G.Register.told c.retry-answer.new.reg) (g.G.Register.holds c.args.self.now.register) may (g.G.Register.may_hold c.retry-answer.new.reg) (g.G.Register.damaged c.args.self.now.register) (g.met.G.Register.held_may_be c.args.self.now.register) w v goes.log leaves
-    c.retry-answer.result c.in-Ok.heard.end c.args.self.now.is_shut c.go_on.new.self.is_shut (λ t. may_fail (g.G.Register.holds c.args.self.now.register) (g.G.Register.damaged c.args.self.now.register) w.sequencer.log c.retry-answer.result (c.retry-answer.ensures.caused t)) c.in-Ok.ensures.end c.go_on.ensures.shut in
+    c.retry-answer.result c.in-Ok.heard.end c.args.self.now.is_shut c.go_on.new.self.is_shut c.retry-answer.ensures.caused c.in-Ok.ensures.end c.go_on.ensures.shut in
     subst (λ o. IsSince o c.go_on.new.self.sequencer told (g.G.Register.told c.go_on.new.self.register) may (g.G.Register.may_hold c.go_on.new.self.register) c.args.self.now.is_shut c.go_on.new.self.is_shut) (sym c.in-Some.is)
     (since_as (Some w) (Some v) c.go_on.new.self.sequencer told (g.G.Register.told c.retry-answer.new.reg) (g.G.Register.told c.go_on.new.self.register) may (g.G.Register.may_hold c.retry-answer.new.reg) (g.G.Register.may_hold c.go_on.new.self.register) c.args.self.now.is_shut c.go_on.new.self.is_shut
     (sym c.go_on.ensures.sequencer) (ap g.G.Register.told (sym c.go_on.ensures.register)) (ap g.G.Register.may_hold (sym c.go_on.ensures.register)) since)
@@ -43,7 +44,7 @@ returns-in-Err-clause-since g c =
     let w = c.in-Some.sequencer in
     let told = g.G.Register.told c.args.self.now.register in
     let may = g.G.Register.may_hold c.args.self.now.register in
-    let leaves = tries_leave w.sequencer.log (retry_acts w).tries told (g.G.Register.told c.retry-answer.new.reg) may (g.G.Register.may_hold c.retry-answer.new.reg) c.retry-answer.ensures.told c.retry-answer.ensures.done_or_not in
+    let leaves = tries_leave w.sequencer.log (retry_acts (shows w.sequencer.spec) w).tries told (g.G.Register.told c.retry-answer.new.reg) may (g.G.Register.may_hold c.retry-answer.new.reg) c.retry-answer.ensures.told (c.retry-answer.ensures.done_or_not (shows w.sequencer.spec)) in
     (subst (λ o. IsSince o None told (g.G.Register.told c.retry-answer.new.reg) may (g.G.Register.may_hold c.retry-answer.new.reg) c.args.self.now.is_shut c.args.self.now.is_shut) (sym c.in-Some.is)
     (gone_since w told (g.G.Register.told c.retry-answer.new.reg) may (g.G.Register.may_hold c.retry-answer.new.reg) c.args.self.now.is_shut leaves))
 
