@@ -128,13 +128,33 @@ class Causes:
             return [("No moment is told at which enough nodes stood lost.", [])]
         names = ", ".join(map(str, lost))
         what = f"From step {moment + 1} on, nodes {names} stood lost for epoch {epoch}."
-        told = [(f"{what} A record is acknowledged once {copies} keep it, so these may have been all that did.", [])]
+        told = self.of_loss_plan(item, log, copies)
+        told.append((f"{what} A record is acknowledged once {copies} keep it, so these may have been all that did.", []))
         for node, span in lost.items():
             since = span.since.get(log, [])
             told.append((f"Node {node} stood lost since these lines." if since else f"Node {node} was blank from the start.", since))
         confirmed = [m for m in self.taken_by.get(("losthere", item.reader), []) if m.line < item.line and m.lsn == item.low]
         told.append(("They said so when the reader asked.", [m.line for m in confirmed]))
         return told
+
+    def of_loss_plan(self, item, log, copies):
+        """The closing plan, where it was made from what too many lost nodes left, and says that the item is lost."""
+        epoch = home(item.low)
+        at = self.cleans.get((log, epoch))
+        if at is None:
+            return []
+        name, end = self.story.lines[at].actor, self.story.lines[at].fields[0]
+        plan = [m for m in self.stores.get((name, epoch), []) if m.line < at]
+        lost = [m for m in self.taken_by.get(("losthere", name), []) if home(m.lsn) == epoch and m.line < at]
+        mine = [m.line for m in plan if m.lsn == (item.low if item.high == item.low else end)]
+        if len({m.sender for m in lost}) < copies or not mine:
+            return []
+        what = "put a plug there" if item.high == item.low else f"ends the epoch at {end}, and what stood behind may be lost"
+        return [
+            (f"Sequencer {name[2:]} closed epoch {epoch} without the nodes that lost it.", [at]),
+            ("They had told it so.", [m.line for m in lost]),
+            (f"Its plan {what}, in these stores.", mine),
+        ]
 
     def moment(self, end, log, epoch, nodes, copies):
         """The step at which the last such time before `end` began, and those of the nodes that stood lost then, each with its

@@ -27,8 +27,8 @@ SHAPES = {
     "n store": "[DXYM]", "n digestask": "[DXYM]", "n readask": "[DXYM]", "n clean": "[DXY]", "n trim": "[DXY]",
     "n release": "[DXY]", "n readpage": "[DXY]", "n readtrim": "[DXY]",
     "s stored own": "k?r?R*", "s stored": "z?c?r?C*R*G*", "s trimmedhere": "z?c?r?C*R*G*", "s cleanhere": "z|r?C*R*G*",
-    "s sealedhere": "z", "s digestpage": "G|S*",
-    "r readpage": "([12][1-5]*)?K*", "r readended": "(3[1-5]*)?K*", "r readtrim": "(4[1-5]*)?K*", "r losthere": "(5[1-5]*)?K*",
+    "s sealedhere": "z", "s digestpage": "G|S*|z|r?C*R*G*", "s losthere": "S*|z?c?r?C*R*G*",
+    "r readpage": "([125][1-5]*)?K*", "r readended": "([35][1-5]*)?K*", "r readtrim": "(4[1-5]*)?K*", "r losthere": "(5[1-5]*)?K*",
     "r readwait": "K*",
 }
 SHAPES = {step: re.compile(shape) for step, shape in SHAPES.items()}
@@ -99,7 +99,8 @@ class Splitter:
 
     def gather(self):
         """Who has which log, which numbers each node is known to have stored and for which epoch's sequencer, by whom each
-        epoch was closed, when each node lost its disk, and how many nodes a number of each epoch is sent to."""
+        epoch was closed, when each node lost its disk, and how many nodes a number of each epoch is sent to by its own sequencer
+        and by another, whose plan may go to all nodes of the epoch."""
         self.log_of, self.stored, self.wiped, self.closed, self.choice = {}, {}, {}, {}, {}
         for event in self.events:
             if event.word in ("activate", "open"):
@@ -111,7 +112,7 @@ class Splitter:
             elif line.kind == "active":
                 log = self.log_of.get(line.actor)
                 if log in named:
-                    self.choice[log, int(line.fields[0])] = named[log].copies + named[log].extras
+                    self.choice[log, int(line.fields[0])] = named[log].copies + named[log].extras, len(named[log].nodes)
             elif line.kind == "wiped":
                 self.wiped.setdefault(line.actor, []).append(line.number)
             elif line.kind == "clean":
@@ -143,7 +144,8 @@ class Splitter:
                 return k
             if line.fields[3] == "store":
                 stores[line.fields[4]] = stores.get(line.fields[4], 0) + 1
-                if stores[line.fields[4]] > self.choice.get((log, home(line.fields[4])), 16):
+                epoch = home(line.fields[4])
+                if stores[line.fields[4]] > self.choice.get((log, epoch), (16, 16))[self.epochs.get(line.actor) != epoch]:
                     return k
             told.add(what)
         return end

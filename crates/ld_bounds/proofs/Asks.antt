@@ -1,5 +1,5 @@
 -- What a reader asks is one that a frame can carry, and each answer leaves it in its bounds.
-use Rattle.std.proofs.Common.{◌≡◌, ◌≤◌, ◌<◌, ℕ, zero, suc, ◌+◌, refl, sym, subst, Bool, true, false, ◌==◌, ◌&&◌, not, nat_lt, nat_le, cond, List, [], ◌∷◌, Option, Some, None, arith}
+use Rattle.std.proofs.Common.{◌≡◌, ◌≤◌, ◌<◌, ℕ, zero, suc, ◌+◌, refl, sym, subst, Bool, true, false, ◌==◌, ◌&&◌, not, nat_lt, nat_le, cond, List, [], ◌∷◌, Option, Some, None, IfSome, arith}
 use Rattle.std.specs.List.{AllByRecursion}
 use Rattle.std.proofs.lemmas.Bool.{cond_both, and_parts, ltb-true, ltb-false}
 use Rattle.ld_table.specs.Table.{find, put}
@@ -12,9 +12,9 @@ use Rattle.ld_msg.specs.declared.msg.Who.{Who}
 use Rattle.ld_msg.specs.declared.msg.Who.TheVariants as whos
 use Rattle.ld_msg.specs.declared.msg.Body.{Body}
 use Rattle.ld_msg.specs.declared.msg.Body.TheVariants as bodies
-use Rattle.ld_msg.specs.Bounds.{Is32, Is64, IsNodeHere, Fits, last_reader}
+use Rattle.ld_msg.specs.Bounds.{Is32, Is64, IsSummary, IsNodeHere, Fits, last_reader}
 use Rattle.ld_msg.specs.Register.{View}
-use Rattle.ld_msg.specs.Reading.{Held, Item, TrimTo, BridgeTo, LossHere, Verdict, Gives, Confirms, NotYet, decide, trim_held, record_held, hole_held, end_held, bridge_to, is_loss, within, lost_held, lost_generation, entry_verdict, loss_verdict}
+use Rattle.ld_msg.specs.Reading.{Held, Item, TrimTo, LossHere, Verdict, Gives, Confirms, NotYet, decide, trim_held, record_held, hole_held, plug_held, end_held, is_loss, within, lost_held, lost_generation, entry_verdict, end_verdict, loss_verdict}
 use Rattle.ld_msg.specs.Reader.{Reader, Read, opened, is_finished, last_round, asks_of, keys, look_of, polled, poll_asks, gives, confirms, has_seen, seen_nodes, may_confirm, is_confirming, verdict, gives_all, most_items, round_of, is_newer, held_with, is_confirmed, heard, loses, asks_on, on_answer}
 use Rattle.ld_machine.specs.Config.{has_log}
 use Rattle.ld_machine.specs.Step.{sender_node}
@@ -41,7 +41,7 @@ node_sent w r (bodies.Release n) f = absurd f.0.1
 node_sent w r (bodies.Trim t) f = absurd f.0.1
 node_sent w r (bodies.ReadAsk round n) f = absurd f.1
 node_sent w r (bodies.ReadPage round n upto c es) f = f.0.0
-node_sent w r (bodies.ReadEnded round n end) f = f.0.0
+node_sent w r (bodies.ReadEnded round n end loss) f = f.0.0
 node_sent w r (bodies.ReadTrim round n t) f = f.0.0
 node_sent w r (bodies.ReadWait round n k) f = f.0.0
 
@@ -72,7 +72,7 @@ round_is y r (bodies.Release n) f = omega arith
 round_is y r (bodies.Trim t) f = omega arith
 round_is y r (bodies.ReadAsk round n) f = absurd f.1
 round_is y r (bodies.ReadPage round n upto c es) f = f.0.2
-round_is y r (bodies.ReadEnded round n end) f = f.0.2
+round_is y r (bodies.ReadEnded round n end loss) f = f.0.2
 round_is y r (bodies.ReadTrim round n t) f = f.0.2
 round_is y r (bodies.ReadWait round n k) f = f.0.2
 
@@ -100,7 +100,7 @@ lost_keys s number h a (bodies.Release n) = tt
 lost_keys s number h a (bodies.Trim t) = tt
 lost_keys s number h a (bodies.ReadAsk round n) = tt
 lost_keys s number h a (bodies.ReadPage round n upto c es) = tt
-lost_keys s number h a (bodies.ReadEnded round n end) = tt
+lost_keys s number h a (bodies.ReadEnded round n end loss) = tt
 lost_keys s number h a (bodies.ReadTrim round n t) = tt
 lost_keys s number h a (bodies.ReadWait round n k) = tt
 
@@ -133,7 +133,7 @@ module _ (c : Config) (looks : ℕ → View) where
   -- what a look at the start of a round shows
   looked_is : (d : Reader) → ((e : ℕ) → IsLook c d.log e (looks e)) → d.next ≤ d.until → IsReader c d → MayHaveSeen c d.log (Some (look_of looks d))
   looked_is d K l D = let k = K (home_epoch d.next) in let e = k.of_epoch in let u = D.until in let h = home_at_most d.next in let b = epoch_bound d.next (omega arith) in
-      (omega arith, record { of_epoch = refl; most = k.most; spec = k.spec })
+      (omega arith, record { of_epoch = refl; most = k.most; summary = subst (λ n. IfSome (look_of looks d).summary (IsSummary n)) (sym e) k.summary; spec = k.spec })
 
   pub polled_is : (d : Reader) → ((e : ℕ) → IsLook c d.log e (looks e)) → d.next ≤ d.until → IsReader c d → IsReader c (polled looks d)
   polled_is d K l D = record {
@@ -156,10 +156,15 @@ module _ (c : Config) (looks : ℕ → View) where
     looks_of d h e = subst (λ l. IsLook c l e (looks e)) (sym h) (K e)
 
     -- ---- verdicts ----
-    entry_is : (d : Reader) (o : Option (List ℕ)) (hole : Bool) (v : Verdict) → IsVerdict d v → IsVerdict d (entry_verdict o hole v)
-    entry_is d (Some p) hole v h = tt
-    entry_is d None true v h = tt
-    entry_is d None false v h = h
+    entry_is : (d : Reader) (o : Option (List ℕ)) (hole plug : Bool) (v : Verdict) → IsVerdict d v → IsVerdict d (entry_verdict o hole plug v)
+    entry_is d (Some p) hole plug v h = tt
+    entry_is d None true plug v h = tt
+    entry_is d None false true v h = tt
+    entry_is d None false false v h = h
+
+    end_is : (d : Reader) (o : Option Bool) (v : Verdict) → IsVerdict d v → IsVerdict d (end_verdict d.next o v)
+    end_is d None v h = h
+    end_is d (Some loss) v h = tt
 
     loss_is : (d : Reader) (set : List ℕ) → IsReader c d → d.next ≤ d.until → IsVerdict d (loss_verdict d.next (may_confirm d) set d.held)
     loss_is d set D l = cond_both (may_confirm d && is_loss d.next set d.held) (Confirms (lost_held d.next (within set d.held))) NotYet (IsVerdict d)
@@ -170,9 +175,9 @@ module _ (c : Config) (looks : ℕ → View) where
 
     decided : (d : Reader) (set : List ℕ) → IsReader c d → d.next ≤ d.until → IsVerdict d (decide d.next (may_confirm d) set d.held)
     unfolding decide
-    decided d set D l = cond_both (nat_le d.next (trim_held d.held)) (Gives (TrimTo (trim_held d.held))) (entry_verdict (record_held d.next d.held) (hole_held d.next d.held) (cond (end_held d.next d.held) (Gives (BridgeTo (bridge_to d.next))) (loss_verdict d.next (may_confirm d) set d.held))) (IsVerdict d)
-        (λ t. tt) (λ t. entry_is d (record_held d.next d.held) (hole_held d.next d.held) (cond (end_held d.next d.held) (Gives (BridgeTo (bridge_to d.next))) (loss_verdict d.next (may_confirm d) set d.held))
-        (cond_both (end_held d.next d.held) (Gives (BridgeTo (bridge_to d.next))) (loss_verdict d.next (may_confirm d) set d.held) (IsVerdict d) (λ u. tt) (λ u. loss_is d set D l)))
+    decided d set D l = let rest : Verdict = end_verdict d.next (end_held d.next d.held) (loss_verdict d.next (may_confirm d) set d.held) in
+        cond_both (nat_le d.next (trim_held d.held)) (Gives (TrimTo (trim_held d.held))) (entry_verdict (record_held d.next d.held) (hole_held d.next d.held) (plug_held d.next d.held) rest) (IsVerdict d)
+        (λ t. tt) (λ t. entry_is d (record_held d.next d.held) (hole_held d.next d.held) (plug_held d.next d.held) rest (end_is d (end_held d.next d.held) (loss_verdict d.next (may_confirm d) set d.held) (loss_is d set D l)))
 
     verdict_is : (d : Reader) → IsReader c d → IsVerdict d (verdict d)
     verdict_is d D = cond_both (is_finished d) NotYet (decide d.next (may_confirm d) (seen_nodes d.seen) d.held) (IsVerdict d) (λ t. tt) (λ t. decided d (seen_nodes d.seen) D (ltb-false d.until d.next t))

@@ -42,7 +42,7 @@ node_end from to (bodies.Release n) f = Takes (sequencer_actor from f.0.0) f.0.1
 node_end from to (bodies.Trim t) f = Takes (sequencer_actor from f.0.0) f.0.1
 node_end from to (bodies.ReadAsk round n) f = Takes (asker_actor from f.0) f.1
 node_end from to (bodies.ReadPage round n upto c es) f = Sends f.0.0 (asker_actor to f.0.1)
-node_end from to (bodies.ReadEnded round n end) f = Sends f.0.0 (asker_actor to f.0.1)
+node_end from to (bodies.ReadEnded round n end loss) f = Sends f.0.0 (asker_actor to f.0.1)
 node_end from to (bodies.ReadTrim round n t) f = Sends f.0.0 (asker_actor to f.0.1)
 node_end from to (bodies.ReadWait round n k) f = Sends f.0.0 (asker_actor to f.0.1)
 

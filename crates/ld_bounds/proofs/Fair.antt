@@ -35,7 +35,7 @@ fair_of from to (bodies.Release n) f = taker from to f.0.1
 fair_of from to (bodies.Trim t) f = taker from to f.0.1
 fair_of from to (bodies.ReadAsk round n) f = taker from to f.1
 fair_of from to (bodies.ReadPage round n upto c es) f = sender from to f.0.0
-fair_of from to (bodies.ReadEnded round n end) f = sender from to f.0.0
+fair_of from to (bodies.ReadEnded round n end loss) f = sender from to f.0.0
 fair_of from to (bodies.ReadTrim round n t) f = sender from to f.0.0
 fair_of from to (bodies.ReadWait round n k) f = sender from to f.0.0
 

@@ -1,15 +1,17 @@
 -- What is set for a log and what a look at one of its epochs shows is in its bounds.
-use Rattle.std.proofs.Common.{◌≡◌, ℕ, refl, true, ◌==◌, ◌&&◌, nat_le, List, [], ◌∷◌, Bool, length, Option, Some, None, inl, inr, subst}
+use Rattle.std.proofs.Common.{◌≡◌, ℕ, refl, true, ◌==◌, ◌&&◌, nat_le, List, [], ◌∷◌, Bool, length, Option, Some, None, IfSome, inl, inr, subst}
 use Rattle.std.specs.Option.{unwrap_or}
 use Rattle.std.specs.List.{AllByRecursion}
-use Rattle.std.proofs.lemmas.Bool.{and_parts, or_cases, eqb-true, leb-true}
+use Rattle.std.proofs.lemmas.Bool.{cond_both, and_parts, or_cases, eqb-true, leb-true}
 use Rattle.ld_table.specs.Table.{find}
 use Rattle.ld_table.specs.Words.{is_in, all_of}
 use Rattle.ld_ids.specs.Set.{members, IsSet}
 use Rattle.ld_ids.specs.declared.set.Spec.{Spec}
 use Rattle.ld_config.specs.declared.config.Config.{Config}
 use Rattle.ld_config.specs.Bounds.{IsInBounds}
-use Rattle.ld_msg.specs.Register.{Register, Epochs, epochs_of, epoch_shown, spec_shown, look}
+use Rattle.ld_msg.specs.declared.msg.Summary.{Summary}
+use Rattle.ld_msg.specs.Bounds.{IsSummary}
+use Rattle.ld_msg.specs.Register.{Register, Epochs, epochs_of, lce_of, epoch_shown, spec_shown, summary_shown, look}
 use Rattle.ld_machine.specs.Config.{first_spec, looks_at, has_log, has_node}
 use Rattle.ld_machine.specs.State.{State}
 use Rattle.ld_machine.specs.Step.{spec_set, can_set}
@@ -17,7 +19,7 @@ use Rattle.ld_bounds.specs.Specs.{IsSpecFor, IsSetFor}
 use Rattle.ld_bounds.specs.Registers.{IsFixed, IsRegister, IsLook}
 use Rattle.ld_node_bounds.proofs.Alls.{all-find}
 use Rattle.ld_bounds.proofs.Configs.{first_is, log_is}
-use Rattle.ld_bounds.proofs.RegisterChanges.{begun}
+use Rattle.ld_bounds.proofs.RegisterChanges.{begun, closed_summary}
 
 -- one of a list passes what all pass
 passed : (p : ℕ → Bool) (n : ℕ) (ns : List ℕ) → all_of p ns ≡ true → is_in n ns ≡ true → p n ≡ true
@@ -39,9 +41,16 @@ module _ (c : Config) (B : IsInBounds c) where
   shown_is : (r : Register) (l e : ℕ) → IsRegister c r → has_log c l ≡ true → IsSpecFor c l (spec_shown (epochs_of r l) (first_spec c l) e)
   shown_is r l e R h = let g : Epochs = epochs_of r l in or_first l (find (epoch_shown g e) g.specs) h (λ x k. (all-find (IsFixed c l g.epoch) (epoch_shown g e) g.specs x (begun c r l R).specs k).spec)
 
+  -- the summary that is shown is the closed epoch's
+  summary_is : (r : Register) (l e : ℕ) → IsRegister c r → IfSome (summary_shown r l e) (IsSummary e)
+  summary_is r l e R = cond_both (nat_le 1 e && nat_le e (lce_of r l)) (find e (epochs_of r l).summaries) None (λ (o : Option Summary). IfSome o (IsSummary e)) (λ t. or_open (find e (epochs_of r l).summaries) (λ y k. (closed_summary c r l e y R k).summary)) (λ t. tt) where
+    or_open : (o : Option Summary) → ((y : Summary) → o ≡ Some y → IsSummary e y) → IfSome o (IsSummary e)
+    or_open None f = tt
+    or_open (Some y) f = f y refl
+
   pub look_is : (r : Register) (l : ℕ) → IsRegister c r → has_log c l ≡ true → (e : ℕ) → IsLook c l e (looks_at c r l e)
   unfolding look
-  look_is r l R h e = record { of_epoch = refl; most = (begun c r l R).epoch_most; spec = shown_is r l e R h }
+  look_is r l R h e = record { of_epoch = refl; most = (begun c r l R).epoch_most; summary = summary_is r l e R; spec = shown_is r l e R h }
 
   -- what a configuration takes to be set
   pub taken_is : (l r x : ℕ) (set : List Bool) → IsSet set → can_set c l r x (members set) ≡ true → IsSetFor c (l, record { log = l; set = set; r = r; extras = x })

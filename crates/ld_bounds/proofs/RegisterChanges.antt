@@ -2,7 +2,7 @@
 use Rattle.std.proofs.Common.{inl, inr, ◌≡◌, ◌∙◌, ◌≤◌, ◌<◌, ℕ, ◌+◌, ◌-◌, ◌^◌, refl, ap, sym, subst, Bool, true, false, not, ◌||◌, ◌==◌, nat_lt, nat_le, cond, List, Option, Some, None, arith}
 use Rattle.std.specs.Option.{unwrap_or}
 use Rattle.std.specs.List.{AllByRecursion}
-use Rattle.std.proofs.lemmas.Bool.{cond_both, leb-false, eqb-true}
+use Rattle.std.proofs.lemmas.Bool.{cond_both, leb-false, eqb-true, not-false}
 use Rattle.ld_table.specs.Table.{find, put, Ordered}
 use Rattle.ld_table.proofs.Laws.{put_cases}
 use Rattle.ld_table.proofs.Order.{Ordered-put}
@@ -11,7 +11,7 @@ use Rattle.ld_ids.specs.declared.set.Spec.{Spec}
 use Rattle.ld_config.specs.declared.config.Config.{Config}
 use Rattle.ld_msg.specs.declared.msg.Summary.{Summary}
 use Rattle.ld_msg.specs.Bounds.{Is32, IsEpoch, IsSummary}
-use Rattle.ld_msg.specs.Register.{Register, Epochs, Armed, Changed, Answer, Granted, AtLimit, Behind, Fails, activate, close, draw, change, made, unmade, is_made, falls, journal_limit, record_length, no_epochs, epochs_of, generation_of, lce_of, with_epochs, next_epoch, closed_epochs, epoch_limit, generation_limit}
+use Rattle.ld_msg.specs.Register.{Register, Epochs, Armed, Changed, Answer, Granted, AtLimit, Behind, Overtaken, Fails, is_overtaken, activate, close, draw, change, made, unmade, is_made, falls, journal_limit, record_length, no_epochs, epochs_of, generation_of, lce_of, with_epochs, next_epoch, closed_epochs, epoch_limit, generation_limit}
 use Rattle.ld_machine.specs.Config.{has_log}
 use Rattle.ld_node_bounds.specs.States.{IsClosed}
 use Rattle.ld_bounds.specs.Specs.{IsSpecFor}
@@ -173,22 +173,30 @@ module _ (c : Config) where
     summaries = all-put (IsClosedBy e) e y (epochs_of r l).summaries (record { closed = omega arith; summary = record { epoch = i; summary = s } }) (subst (λ k. AllByRecursion (IsClosedBy k) (epochs_of r l).summaries) q (earlier (lce_of r l) (epochs_of r l).summaries E.summaries));
   }
 
-  pub close_follows : (r : Register) (l e : ℕ) (y : Summary) → IsRegister c r → has_log c l ≡ true → IsEpoch e → IsSummary e y → e < (epochs_of r l).epoch → Follows c r (close r l e y).register
+  pub close_follows : (r : Register) (l e : ℕ) (y : Summary) (short : Bool) → IsRegister c r → has_log c l ≡ true → IsEpoch e → IsSummary e y → e < (epochs_of r l).epoch → Follows c r (close r l e y short).register
   unfolding close
-  close_follows r l e y R h i s u = cond_both (lce_of r l + 1 == e) (change r (with_epochs r l (closed_epochs (epochs_of r l) e y)) 29) (record { register = r; answer = Behind (lce_of r l) }) (λ (d : Changed). Follows c r d.register)
-      (λ t. changed_follows r (with_epochs r l (closed_epochs (epochs_of r l) e y)) 29 R (with_follows r l (closed_epochs (epochs_of r l) e y) R h (closed_is r l e y R i s u (eqb-true (lce_of r l + 1) e t)) (omega arith)))
+  close_follows r l e y short R h i s u = cond_both (not (lce_of r l + 1 == e)) (record { register = r; answer = Behind (lce_of r l) })
+      (cond (is_overtaken (epochs_of r l) y short) (record { register = r; answer = Overtaken (epochs_of r l).epoch }) (change r (with_epochs r l (closed_epochs (epochs_of r l) e y)) 30)) (λ (d : Changed). Follows c r d.register)
       (λ t. follows_self r R)
+      (λ t. cond_both (is_overtaken (epochs_of r l) y short) (record { register = r; answer = Overtaken (epochs_of r l).epoch }) (change r (with_epochs r l (closed_epochs (epochs_of r l) e y)) 30) (λ (d : Changed). Follows c r d.register)
+      (λ o. follows_self r R)
+      (λ o. changed_follows r (with_epochs r l (closed_epochs (epochs_of r l) e y)) 30 R (with_follows r l (closed_epochs (epochs_of r l) e y) R h (closed_is r l e y R i s u (eqb-true (lce_of r l + 1) e (not-false (lce_of r l + 1 == e) t))) (omega arith))))
 
-  -- the answer to a close: a last closed epoch is in its bounds
+  -- the answer to a close: a last closed epoch or a greatest one is in its bounds
   abbrev pub IsAnswered : Answer → Type 0
   IsAnswered (Behind lce) = lce ≤ 2 ^ 32 - 2
+  IsAnswered (Overtaken k) = k ≤ 2 ^ 32 - 2
   IsAnswered _ = Unit {0}
 
-  pub close_answers : (r : Register) (l e : ℕ) (y : Summary) → IsRegister c r → IsAnswered (close r l e y).answer
+  pub close_answers : (r : Register) (l e : ℕ) (y : Summary) (short : Bool) → IsRegister c r → IsAnswered (close r l e y short).answer
   unfolding close
-  close_answers r l e y R = cond_both (lce_of r l + 1 == e) (change r (with_epochs r l (closed_epochs (epochs_of r l) e y)) 29) (record { register = r; answer = Behind (lce_of r l) }) (λ (d : Changed). IsAnswered d.answer)
-      (λ t. changed r (with_epochs r l (closed_epochs (epochs_of r l) e y)) 29 (λ n a. IsAnswered a) (record { granted = λ n s. tt; made_and_fails = λ n s. tt; fails = λ n s. tt }))
-      (λ t. let b = begun r l R in let p = b.epoch_most in let q = b.lce in omega arith)
+  close_answers r l e y short R = let b = begun r l R in let p = b.epoch_most in let q = b.lce in
+      cond_both (not (lce_of r l + 1 == e)) (record { register = r; answer = Behind (lce_of r l) })
+      (cond (is_overtaken (epochs_of r l) y short) (record { register = r; answer = Overtaken (epochs_of r l).epoch }) (change r (with_epochs r l (closed_epochs (epochs_of r l) e y)) 30)) (λ (d : Changed). IsAnswered d.answer)
+      (λ t. omega arith)
+      (λ t. cond_both (is_overtaken (epochs_of r l) y short) (record { register = r; answer = Overtaken (epochs_of r l).epoch }) (change r (with_epochs r l (closed_epochs (epochs_of r l) e y)) 30) (λ (d : Changed). IsAnswered d.answer)
+      (λ o. p)
+      (λ o. changed r (with_epochs r l (closed_epochs (epochs_of r l) e y)) 30 (λ n a. IsAnswered a) (record { granted = λ n s. tt; made_and_fails = λ n s. tt; fails = λ n s. tt })))
 
   -- ---- generations ----
   or_first : (o : Option ℕ) → ((g : ℕ) → o ≡ Some g → Is32 g) → Is32 (unwrap_or o 0)

@@ -1,5 +1,5 @@
 -- What a reply, a retry or the register's answer makes a sequencer do leaves it in its bounds.
-use Rattle.std.proofs.Common.{◌≡◌, ◌∙◌, ◌≤◌, ◌<◌, ℕ, ◌+◌, ◌-◌, ◌^◌, refl, sym, subst, Bool, true, ◌==◌, nat_lt, nat_le, List, [], ◌∷◌, ◌++◌, length, Option, Some, None, arith}
+use Rattle.std.proofs.Common.{◌≡◌, ◌∙◌, ◌≤◌, ◌<◌, ℕ, ◌+◌, ◌-◌, ◌^◌, refl, sym, subst, Bool, true, false, not, ◌||◌, ◌==◌, cond, nat_lt, nat_le, List, [], ◌∷◌, ◌++◌, length, Option, Some, None, IfSome, arith}
 use Rattle.std.specs.List.{AllByRecursion}
 use Rattle.std.proofs.lemmas.Bool.{cond_both, eqb-true, ltb-true, leb-false}
 use Rattle.ld_table.specs.Table.{find, put}
@@ -16,9 +16,9 @@ use Rattle.ld_msg.specs.declared.msg.Summary.{Summary}
 use Rattle.ld_msg.specs.declared.msg.Body.{Body}
 use Rattle.ld_msg.specs.declared.msg.Body.TheVariants as bodies
 use Rattle.ld_msg.specs.Bounds.{Is32, IsLng, Is64, IsEpoch, IsSummary, IsPage, Fits}
-use Rattle.ld_msg.specs.Register.{Register, View, Answer, Granted, AtLimit, Behind, Fails, epochs_of, close}
-use Rattle.ld_msg.specs.Digest.{Told, no_digest, with_page, with_asks, enough, plan}
-use Rattle.ld_msg.specs.Sequencer.{Sequencer, Append, Storing, Stage, Seals, Stores, Closes, Recovery, Acts, does_nothing, becomes, with_stage, preempt, begun, recovery_of, recovery_asks, goes_on, recovered_nodes, tells_clean, after_close, try_close, storing_of, planned, item_stores, is_ready, summary_of, stores_plan, closes_ready, settled_by, settles, next_ask, takes_any, adds_page, digests, lost_stage, recovery_lost, acked_first, unacked_from, stored_at, with_append, acks_append, in_recovery, by_stored, by_trimmed, by_lost, by_clean, by_reply, unless_preempted, on_reply, raised, next_wave, last_wave, retries_appends, next_try, retries_stage, retries_recovery, on_retry, of_member, digest_asks, Called, called, acted_messages, release_messages}
+use Rattle.ld_msg.specs.Register.{Register, View, Answer, Granted, AtLimit, Behind, Overtaken, Fails, epochs_of, close}
+use Rattle.ld_msg.specs.Digest.{Told, Plan, no_digest, with_page, with_asks, enough, is_spent, plan}
+use Rattle.ld_msg.specs.Sequencer.{Sequencer, Append, Storing, Stage, Seals, Stores, Closes, Recovery, Attempt, Acts, does_nothing, becomes, with_stage, preempt, begun, recovery_of, recovery_asks, goes_on, recovered_nodes, tells_clean, after_close, try_close, storing_of, planned, item_stores, is_fully_ready, is_ready_short, summary_of, stores_plan, closes_ready, settled_by, settles, next_ask, takes_any, seals_on, passes, by_look, looks_now, with_digest, adds_page, digests, lost_stage, recovery_lost, after_lost, loses_node, acked_first, unacked_from, stored_at, with_append, acks_append, in_recovery, by_stored, by_trimmed, by_lost, by_clean, by_reply, unless_preempted, on_reply, raised, next_wave, last_wave, retries_appends, next_try, with_stores, asks_again, retries_stage, retries_recovery, on_retry, of_member, digest_asks, Called, called, acted_messages, release_messages}
 use Rattle.ld_sequencer_bounds.specs.Sequencers.{IsAppend, IsTold, IsStoring, Posts}
 use Rattle.ld_bounds.specs.Registers.{IsRegister, IsLook}
 use Rattle.ld_bounds.specs.Sequencers.{IsInWave, IsStage, IsRecovery, MayRecover, IsSequencer, AreNumbered}
@@ -31,11 +31,11 @@ use Rattle.ld_sequencer_bounds.proofs.Sends.{asks_are, next_ask_is, items_sent, 
 use Rattle.ld_bounds.proofs.Configs.{spec_nodes}
 use Rattle.ld_bounds.proofs.RegisterChanges.{Follows, follows_self, IsAnswered, close_follows, close_answers}
 
--- an earlier epoch with its summary
-pub record IsTry (own : ℕ) (t : ℕ × Summary) : Type 0 where
-  pub from_one : 1 ≤ t.0
-  pub before : t.0 < own
-  pub summary : IsSummary t.0 t.1
+-- the close of an earlier epoch
+pub record IsTry (own : ℕ) (t : Attempt) : Type 0 where
+  pub from_one : 1 ≤ t.epoch
+  pub before : t.epoch < own
+  pub summary : IsSummary t.epoch t.summary
 
 pub record IsActs (c : Config) (r : Register) (old : Sequencer) (a : Acts) : Type 0 where
   pub sequencer : IsSequencer c r a.sequencer
@@ -131,7 +131,78 @@ module _ (c : Config) (r : Register) (old : Sequencer) (looks : ℕ → View) (K
   after_is a e y AtLimit one l s i A = A
   after_is a e y (Behind lce) one l s i A = cond_both (nat_le a.sequencer.epoch lce) (preempt a (lce + 1)) (goes_on looks a lce) (IsActs c r old)
       (λ t. preempt_is a (lce + 1) (omega (arith, i)) A) (λ t. goes_on_is a lce (leb-false a.sequencer.epoch lce t) A)
+  after_is a e y (Overtaken k) one l s i A = preempt_is a k (omega (arith, i)) A
   after_is a e y Fails one l s i A = record { sequencer = A.sequencer; log = A.log; epoch = A.epoch; tries = A.tries; cleans = A.cleans; asks = A.asks; stores = A.stores }
+
+  -- ---- what becomes of a recovery ----
+
+  module _ (a : Acts) (A : IsActs c r old a) (v : Recovery) (V : IsRecovery c a.sequencer.log a.sequencer.epoch v) where
+    staged : (s : Stage) → IsStage v.epoch s → IsSequencer c r (with_stage a.sequencer v s)
+    staged s h = recovering c r a.sequencer A.sequencer (Some (record v { stage = s })) (record { from_one = V.from_one; before = V.before; spec = V.spec; stage = h })
+
+    at_stage : (s : Stage) → IsStage v.epoch s → IsActs c r old (becomes a (with_stage a.sequencer v s))
+    at_stage s h = record { sequencer = staged s h; log = A.log; epoch = A.epoch; tries = A.tries; cleans = A.cleans; asks = A.asks; stores = A.stores }
+
+    -- a plan is stored
+    plans : (loss : Bool) (d : List Told) → AllByRecursion (IsTold v.epoch) d → IsActs c r old (stores_plan a v (plan v.epoch loss d))
+    plans loss d h = let p : Plan = plan v.epoch loss d in let g = plan_is v.epoch loss d h in record {
+      sequencer = staged (Stores (storing_of p)) (g, omega arith);
+      log = A.log;
+      epoch = A.epoch;
+      tries = A.tries;
+      cleans = A.cleans;
+      asks = A.asks;
+      stores = items_sent a.sequencer.epoch A.sequencer.epoch v.epoch V.from_one V.before v.spec v.lost p.loss p.lng 0 (planned p.items) g.lng (spec_nodes c a.sequencer.log v.spec V.spec) g.items;
+    }
+
+    -- the digest has one answer more
+    seals : (d : List Told) (asks : List (ℕ × Body)) → AllByRecursion (IsTold v.epoch) d → Posts a.sequencer.epoch asks → IsActs c r old (seals_on a v d asks)
+    seals d asks h p = record { sequencer = staged (Seals d) h; log = A.log; epoch = A.epoch; tries = A.tries; cleans = A.cleans; asks = p; stores = A.stores }
+
+    -- the epoch is closed
+    passed : (y : Summary) → IsSummary v.epoch y → IsActs c r old (passes looks a v.epoch y)
+    passed y h = goes_on_is (tells_clean a v.epoch y) v.epoch V.before (tells_is a v.epoch y V.from_one V.before h A)
+
+    -- a spent digest, and what a look shows
+    looked : (d : List Told) (o : Option Summary) (k : ℕ) → AllByRecursion (IsTold v.epoch) d → IfSome o (IsSummary v.epoch) → k ≤ 2 ^ 32 - 2 → IsActs c r old (by_look looks a v d o k)
+    looked d (Some y) k h s m = passed y s
+    looked d None k h s m = cond_both (k == a.sequencer.epoch) (stores_plan a v (plan v.epoch true d)) (preempt a k) (IsActs c r old) (λ t. plans true d h) (λ t. preempt_is a k (omega (arith, m)) A)
+
+    looks_are : (d : List Told) → AllByRecursion (IsTold v.epoch) d → IsActs c r old (looks_now looks a v d)
+    looks_are d h = looked d (looks v.epoch).summary (looks v.epoch).epoch h (K v.epoch).summary (K v.epoch).most
+
+    digest_with : (d : List Told) (asks : List (ℕ × Body)) → AllByRecursion (IsTold v.epoch) d → Posts a.sequencer.epoch asks → IsActs c r old (with_digest looks a v d asks)
+    digest_with d asks h p = cond_both (enough v.spec d) (stores_plan a v (plan v.epoch false d)) (cond (is_spent v.spec d) (looks_now looks a v d) (seals_on a v d asks)) (IsActs c r old) (λ t. plans false d h)
+        (λ t. cond_both (is_spent v.spec d) (looks_now looks a v d) (seals_on a v d asks) (IsActs c r old) (λ u. looks_are d h) (λ u. seals d asks h p))
+
+    -- what was settled
+    closing_summary : (g : Storing) → IsStoring v.epoch g → IsSummary v.epoch (summary_of a.sequencer.epoch g)
+    closing_summary g G = record { ballot = V.before; ballot_most = A.sequencer.epoch.1; lng = G.lng; trim = G.trim; end = G.end; end_most = G.end_most }
+
+    closes_is : (g : Storing) → IsStage v.epoch (Stores g) → IsActs c r old (closes_ready a v g)
+    closes_is g G = let s = closing_summary g G.0 in let y : Summary = summary_of a.sequencer.epoch g in let short : Bool = not (is_fully_ready v.spec g) in
+        cond_both (is_fully_ready v.spec g || is_ready_short v.spec v.lost g) (try_close (becomes a (with_stage a.sequencer v (Closes y short))) v.epoch y short) (becomes a (with_stage a.sequencer v (Stores g))) (IsActs c r old)
+        (λ t. record { sequencer = staged (Closes y short) s; log = A.log; epoch = A.epoch; tries = (record { from_one = V.from_one; before = V.before; summary = s }, tt); cleans = A.cleans; asks = A.asks; stores = A.stores })
+        (λ t. at_stage (Stores g) G)
+
+    -- a node more is lost
+    after_lost_is : (s : Stage) → IsStage v.epoch s → IsActs c r old (after_lost looks a v s)
+    after_lost_is (Seals d) h = digest_with d [] h tt
+    after_lost_is (Stores g) h = closes_is g h
+    after_lost_is (Closes y short) h = at_stage (Closes y short) h
+
+  lost_stage_is : (e y : ℕ) (s : Stage) → IsStage e s → IsStage e (lost_stage y s)
+  lost_stage_is e y (Seals d) h = with_lost_is e y d h
+  lost_stage_is e y (Stores g) h = h
+  lost_stage_is e y (Closes s short) h = h
+
+  lost_is : (a : Acts) (A : IsActs c r old a) (v : Recovery) (V : IsRecovery c a.sequencer.log a.sequencer.epoch v) (y : ℕ) → IsActs c r old (loses_node looks a (recovery_lost y v))
+  lost_is a A v V y = let h = lost_stage_is v.epoch y v.stage V.stage in
+      after_lost_is a A (recovery_lost y v) (record { from_one = V.from_one; before = V.before; spec = V.spec; stage = h }) (lost_stage y v.stage) h
+
+  -- with these stores, and with them behind others
+  storing_acts : (a : Acts) (ms : List (ℕ × Body)) → Posts a.sequencer.epoch ms → IsActs c r old a → IsActs c r old (record a { stores = ms })
+  storing_acts a ms p A = record { sequencer = A.sequencer; log = A.log; epoch = A.epoch; tries = A.tries; cleans = A.cleans; asks = A.asks; stores = p }
 
   -- ---- one sequencer that does something ----
 
@@ -143,62 +214,17 @@ module _ (c : Config) (r : Register) (old : Sequencer) (looks : ℕ → View) (K
     became p P l e = record { sequencer = P; log = l ∙ log_is; epoch = e ∙ epoch_is; tries = tt; cleans = tt; asks = tt; stores = tt }
 
     module _ (v : Recovery) (V : IsRecovery c q.log q.epoch v) where
-      members : AllByRecursion IsNode (nodes_of v.spec)
-      members = spec_nodes c q.log v.spec V.spec
-
-      staged : (s : Stage) → IsStage v.epoch s → IsSequencer c r (with_stage q v s)
-      staged s h = recovering c r q Q (Some (record v { stage = s })) (record { from_one = V.from_one; before = V.before; spec = V.spec; stage = h })
-
-      -- a plan is stored
-      plans : (d : List Told) → AllByRecursion (IsTold v.epoch) d → IsActs c r old (stores_plan (does_nothing q) v (plan v.epoch d))
-      plans d a = let g = plan_is v.epoch d a in record {
-        sequencer = staged (Stores (storing_of (plan v.epoch d))) (g, omega arith);
-        log = log_is;
-        epoch = epoch_is;
-        tries = tt;
-        cleans = tt;
-        asks = tt;
-        stores = items_sent q.epoch Q.epoch v.epoch V.from_one V.before v.spec v.lost (plan v.epoch d).lng 0 (planned (plan v.epoch d).items) g.lng members g.items;
-      }
-
-      asks_on : (y : ℕ) (d : List Told) → AllByRecursion (IsTold v.epoch) d → IsActs c r old (record (does_nothing q) { sequencer = with_stage q v (Seals d); asks = next_ask y d })
-      asks_on y d a = record { sequencer = staged (Seals d) a; log = log_is; epoch = epoch_is; tries = tt; cleans = tt; asks = next_ask_is q.epoch Q.epoch v.epoch V.from_one V.before y d a; stores = tt }
-
-      adds_is : (y : ℕ) (d : List Told) → AllByRecursion (IsTold v.epoch) d → IsActs c r old (adds_page (does_nothing q) v y d)
-      adds_is y d a = cond_both (enough v.spec d) (stores_plan (does_nothing q) v (plan v.epoch d)) (record (does_nothing q) { sequencer = with_stage q v (Seals d); asks = next_ask y d }) (IsActs c r old) (λ t. plans d a) (λ t. asks_on y d a)
-
-      digests_is : (y from upto trim lng : ℕ) (es : List Entry) (s : Stage) → IsPage from upto es → Is64 trim → IsLng lng → IsStage v.epoch s → IsActs c r old (digests (does_nothing q) v y from upto trim lng es s)
-      digests_is y from upto trim lng es (Seals d) p b l h = cond_both (takes_any y from d) (adds_page (does_nothing q) v y (with_page v.epoch y from upto trim lng es d)) (does_nothing q) (IsActs c r old)
-          (λ t. adds_is y (with_page v.epoch y from upto trim lng es d) (with_page_is v.epoch y from upto trim lng es p b l d h)) (λ t. quiet)
+      digests_is : (y from upto trim lng : ℕ) (es : List Entry) (s : Stage) → IsPage from upto es → Is64 trim → IsLng lng → IsStage v.epoch s → IsActs c r old (digests looks (does_nothing q) v y from upto trim lng es s)
+      digests_is y from upto trim lng es (Seals d) p b l h = let paged : List Told = with_page v.epoch y from upto trim lng es d in let i = with_page_is v.epoch y from upto trim lng es p b l d h in
+          cond_both (takes_any y from d) (adds_page looks (does_nothing q) v y paged) (does_nothing q) (IsActs c r old)
+          (λ t. digest_with (does_nothing q) quiet v V paged (next_ask y paged) i (next_ask_is q.epoch Q.epoch v.epoch V.from_one V.before y paged i)) (λ t. quiet)
       digests_is y from upto trim lng es (Stores g) p b l h = quiet
-      digests_is y from upto trim lng es (Closes s) p b l h = quiet
-
-      -- what was settled
-      closing_summary : (g : Storing) → IsStoring v.epoch g → IsSummary v.epoch (summary_of q.epoch g)
-      closing_summary g G = record { ballot = V.before; ballot_most = Q.epoch.1; lng = G.lng; trim = G.trim; end = G.end; end_most = G.end_most }
-
-      closes_is : (g : Storing) → IsStage v.epoch (Stores g) → IsActs c r old (closes_ready (does_nothing q) v g)
-      closes_is g G = let s = closing_summary g G.0 in cond_both (is_ready v.spec g) (try_close (becomes (does_nothing q) (with_stage q v (Closes (summary_of q.epoch g)))) v.epoch (summary_of q.epoch g)) (becomes (does_nothing q) (with_stage q v (Stores g))) (IsActs c r old)
-          (λ t. record { sequencer = staged (Closes (summary_of q.epoch g)) s; log = log_is; epoch = epoch_is; tries = (record { from_one = V.from_one; before = V.before; summary = s }, tt); cleans = tt; asks = tt; stores = tt })
-          (λ t. became (with_stage q v (Stores g)) (staged (Stores g) G) refl refl)
+      digests_is y from upto trim lng es (Closes s short) p b l h = quiet
 
       settles_is : (p : ℕ → Bool) (y : ℕ) (s : Stage) → IsStage v.epoch s → IsActs c r old (settles (does_nothing q) v p y s)
       settles_is p y (Seals d) h = quiet
-      settles_is p y (Stores g) h = closes_is (settled_by p y g) (settled_is v.epoch p y g h.0, h.1)
-      settles_is p y (Closes s) h = quiet
-
-      -- lost nodes
-      lost_stage_is : (y : ℕ) (s : Stage) → IsStage v.epoch s → IsStage v.epoch (lost_stage y s)
-      lost_stage_is y (Seals d) h = with_lost_is v.epoch y d h
-      lost_stage_is y (Stores g) h = h
-      lost_stage_is y (Closes s) h = h
-
-      lost_is : (y : ℕ) → IsActs c r old (becomes (does_nothing q) (record q { recovery = Some (recovery_lost y v) }))
-      lost_is y = became (record q { recovery = Some (recovery_lost y v) }) (recovering c r q Q (Some (recovery_lost y v)) (record { from_one = V.from_one; before = V.before; spec = V.spec; stage = lost_stage_is y v.stage V.stage })) refl refl
-
-      -- the epoch is closed
-      cleaned_is : (s : Summary) → IsSummary v.epoch s → IsActs c r old (goes_on looks (tells_clean (does_nothing q) v.epoch s) v.epoch)
-      cleaned_is s h = goes_on_is (tells_clean (does_nothing q) v.epoch s) v.epoch V.before (tells_is (does_nothing q) v.epoch s V.from_one V.before h quiet)
+      settles_is p y (Stores g) h = closes_is (does_nothing q) quiet v V (settled_by p y g) (settled_is v.epoch p y g h.0, h.1)
+      settles_is p y (Closes s short) h = quiet
 
     -- ---- replies ----
     in_is : (e : ℕ) (o : Option Recovery) (f : Recovery → Acts) → MayRecover c q.log q.epoch o → ((v : Recovery) → IsRecovery c q.log q.epoch v → v.epoch ≡ e → IsActs c r old (f v)) → IsActs c r old (in_recovery (does_nothing q) e o f)
@@ -231,18 +257,18 @@ module _ (c : Config) (r : Register) (old : Sequencer) (looks : ℕ → View) (K
     trimmed_is : (y n t : ℕ) → IsActs c r old (by_trimmed (does_nothing q) y n t)
     trimmed_is y n t = settled_in (epoch_of n) y (λ s. nat_le s t)
 
-    by_lost_is : (y n : ℕ) → IsActs c r old (by_lost (does_nothing q) y n)
-    by_lost_is y n = cond_both (home_epoch n == q.epoch) (becomes (does_nothing q) (record q { lost = with_one y q.lost })) (in_recovery (does_nothing q) (home_epoch n) q.recovery (λ v. becomes (does_nothing q) (record q { recovery = Some (recovery_lost y v) }))) (IsActs c r old)
+    by_lost_is : (y n : ℕ) → IsActs c r old (by_lost looks (does_nothing q) y n)
+    by_lost_is y n = cond_both (home_epoch n == q.epoch) (becomes (does_nothing q) (record q { lost = with_one y q.lost })) (in_recovery (does_nothing q) (home_epoch n) q.recovery (λ v. loses_node looks (does_nothing q) (recovery_lost y v))) (IsActs c r old)
         (λ t. became (record q { lost = with_one y q.lost }) (losing c r q Q (with_one y q.lost)) refl refl)
-        (λ t. in_is (home_epoch n) q.recovery (λ v. becomes (does_nothing q) (record q { recovery = Some (recovery_lost y v) })) Q.recovery (λ v V e. lost_is v V y))
+        (λ t. in_is (home_epoch n) q.recovery (λ v. loses_node looks (does_nothing q) (recovery_lost y v)) Q.recovery (λ v V e. lost_is (does_nothing q) quiet v V y))
 
     summary_down : (e f : ℕ) (s : Summary) → e ≤ f → IsSummary f s → IsSummary e s
     summary_down e f s l h = record { ballot = (let z = h.ballot in omega arith); ballot_most = h.ballot_most; lng = h.lng; trim = h.trim; end = h.end; end_most = h.end_most }
 
     by_clean_is : (n : ℕ) (s : Summary) → IsSummary (epoch_of n) s → IsActs c r old (by_clean looks (does_nothing q) n s)
-    by_clean_is n s h = cond_both (home_epoch n == q.epoch) (preempt (does_nothing q) s.ballot) (in_recovery (does_nothing q) (home_epoch n) q.recovery (λ v. goes_on looks (tells_clean (does_nothing q) v.epoch s) v.epoch)) (IsActs c r old)
+    by_clean_is n s h = cond_both (home_epoch n == q.epoch) (preempt (does_nothing q) s.ballot) (in_recovery (does_nothing q) (home_epoch n) q.recovery (λ v. passes looks (does_nothing q) v.epoch s)) (IsActs c r old)
         (λ t. preempt_is (does_nothing q) s.ballot (let z = h.ballot_most in omega arith) quiet)
-        (λ t. in_is (home_epoch n) q.recovery (λ v. goes_on looks (tells_clean (does_nothing q) v.epoch s) v.epoch) Q.recovery (λ v V e. cleaned_is v V s (summary_down v.epoch (epoch_of n) s (let z = home_at_most n in omega arith) h)))
+        (λ t. in_is (home_epoch n) q.recovery (λ v. passes looks (does_nothing q) v.epoch s) Q.recovery (λ v V e. passed (does_nothing q) quiet v V s (summary_down v.epoch (epoch_of n) s (let z = home_at_most n in omega arith) h)))
 
     by_reply_is : (from : Who) (y : ℕ) (b : Body) → Fits from (whos.Sequencer q.epoch) b → IsActs c r old (by_reply looks (does_nothing q) y b)
     by_reply_is from y (bodies.Stored n) f = stored_is y n
@@ -250,7 +276,7 @@ module _ (c : Config) (r : Register) (old : Sequencer) (looks : ℕ → View) (K
     by_reply_is from y (bodies.LostHere n round generation end) f = by_lost_is y n
     by_reply_is from y (bodies.CleanHere n s) f = by_clean_is n s f.2
     by_reply_is from y (bodies.TrimmedHere n t) f = trimmed_is y n t
-    by_reply_is from y (bodies.DigestPage n upto trim lng es) f = in_is (epoch_of n) q.recovery (λ v. digests (does_nothing q) v y n upto trim lng es v.stage) Q.recovery (λ v V e. digests_is v V y n upto trim lng es v.stage f.1 f.2 f.3 V.stage)
+    by_reply_is from y (bodies.DigestPage n upto trim lng es) f = in_is (epoch_of n) q.recovery (λ v. digests looks (does_nothing q) v y n upto trim lng es v.stage) Q.recovery (λ v V e. digests_is v V y n upto trim lng es v.stage f.1 f.2 f.3 V.stage)
     by_reply_is from y (bodies.Store n lng w) f = quiet
     by_reply_is from y (bodies.DigestAsk n) f = quiet
     by_reply_is from y (bodies.Clean e s) f = quiet
@@ -258,7 +284,7 @@ module _ (c : Config) (r : Register) (old : Sequencer) (looks : ℕ → View) (K
     by_reply_is from y (bodies.Trim t) f = quiet
     by_reply_is from y (bodies.ReadAsk round n) f = quiet
     by_reply_is from y (bodies.ReadPage round n upto k es) f = quiet
-    by_reply_is from y (bodies.ReadEnded round n end) f = quiet
+    by_reply_is from y (bodies.ReadEnded round n end loss) f = quiet
     by_reply_is from y (bodies.ReadTrim round n t) f = quiet
     by_reply_is from y (bodies.ReadWait round n k) f = quiet
 
@@ -282,36 +308,38 @@ module _ (c : Config) (r : Register) (old : Sequencer) (looks : ℕ → View) (K
       stores = appends_sent q.epoch Q.epoch q.spec q.lost q.lng (raised q.spec q.appends) (lng_is c r q Q) (spec_nodes c q.log q.spec Q.spec) (raised_are q.spec q.epoch q.appends Q.appends);
     }
 
-    retry_stage : (v : Recovery) (s : Stage) → IsRecovery c q.log q.epoch v → IsStage v.epoch s → IsActs c r old (retries_stage (retries_appends (does_nothing q)) v s)
-    retry_stage v (Seals d) V h = let R = retried in let a = with_asks_is v.epoch d h in record {
-      sequencer = recovering c r (retries_appends (does_nothing q)).sequencer R.sequencer (Some (record v { stage = Seals (with_asks v.epoch d) })) (record { from_one = V.from_one; before = V.before; spec = V.spec; stage = a });
-      log = log_is;
-      epoch = epoch_is;
-      tries = tt;
-      cleans = tt;
-      asks = asks_are q.epoch Q.epoch v.epoch V.from_one V.before (with_asks v.epoch d) a;
-      stores = R.stores;
-    }
-    retry_stage v (Stores g) V h = let R = retried in let w : next_wave g.wave ≤ last_wave = omega arith in record {
-      sequencer = recovering c r (retries_appends (does_nothing q)).sequencer R.sequencer (Some (record v { stage = Stores (next_try g) }))
-          (record { from_one = V.from_one; before = V.before; spec = V.spec; stage = (record { trim = h.0.trim; lng = h.0.lng; end = h.0.end; end_most = h.0.end_most; items = h.0.items }, w) });
-      log = log_is;
-      epoch = epoch_is;
-      tries = tt;
-      cleans = tt;
-      asks = tt;
-      stores = all-append (IsPost (whos.Sequencer q.epoch)) (item_stores v.spec v.lost g.lng (next_wave g.wave) g.items) (retries_appends (does_nothing q)).stores
-          (items_sent q.epoch Q.epoch v.epoch V.from_one V.before v.spec v.lost g.lng (next_wave g.wave) g.items h.0.lng (spec_nodes c q.log v.spec V.spec) h.0.items) R.stores;
-    }
-    retry_stage v (Closes s) V h = let R = retried in record { sequencer = R.sequencer; log = log_is; epoch = epoch_is; tries = (record { from_one = V.from_one; before = V.before; summary = h }, tt); cleans = tt; asks = tt; stores = R.stores }
+    -- what a look makes of a spent digest stands before the stores of the appends
+    looked_again : (v : Recovery) → IsRecovery c q.log q.epoch v → (d : List Told) → AllByRecursion (IsTold v.epoch) d
+        → IsActs c r old (with_stores (retries_appends (does_nothing q)).stores (looks_now looks (record (retries_appends (does_nothing q)) { stores = [] }) v d))
+    looked_again v V d h =
+        let R = retried in
+        let b : Acts = record (retries_appends (does_nothing q)) { stores = [] } in
+        let L = looks_are b (storing_acts (retries_appends (does_nothing q)) [] tt R) v V d h in
+        let m : Acts = looks_now looks b v d in
+        storing_acts m (m.stores ++ (retries_appends (does_nothing q)).stores)
+        (all-append (IsPost (whos.Sequencer m.sequencer.epoch)) m.stores (retries_appends (does_nothing q)).stores L.stores (subst (λ e. Posts e (retries_appends (does_nothing q)).stores) (R.epoch ∙ sym L.epoch) R.stores)) L
 
-    retry_recovery : (o : Option Recovery) → MayRecover c q.log q.epoch o → IsActs c r old (retries_recovery (retries_appends (does_nothing q)) o)
+    retry_stage : (v : Recovery) (s : Stage) → IsRecovery c q.log q.epoch v → IsStage v.epoch s → IsActs c r old (retries_stage looks (retries_appends (does_nothing q)) v s)
+    retry_stage v (Seals d) V h = let a = with_asks_is v.epoch d h in
+        cond_both (is_spent v.spec d) (with_stores (retries_appends (does_nothing q)).stores (looks_now looks (record (retries_appends (does_nothing q)) { stores = [] }) v d)) (asks_again (retries_appends (does_nothing q)) v (with_asks v.epoch d)) (IsActs c r old)
+        (λ t. looked_again v V d h)
+        (λ t. seals (retries_appends (does_nothing q)) retried v V (with_asks v.epoch d) (digest_asks (with_asks v.epoch d)) a (asks_are q.epoch Q.epoch v.epoch V.from_one V.before (with_asks v.epoch d) a))
+    retry_stage v (Stores g) V h = let R = retried in let w : next_wave g.wave ≤ last_wave = omega arith in
+        let ms : List (ℕ × Body) = item_stores v.spec v.lost g.loss g.lng (next_wave g.wave) g.items in
+        let S = storing_acts (retries_appends (does_nothing q)) (ms ++ (retries_appends (does_nothing q)).stores)
+        (all-append (IsPost (whos.Sequencer q.epoch)) ms (retries_appends (does_nothing q)).stores
+        (items_sent q.epoch Q.epoch v.epoch V.from_one V.before v.spec v.lost g.loss g.lng (next_wave g.wave) g.items h.0.lng (spec_nodes c q.log v.spec V.spec) h.0.items) R.stores) R in
+        closes_is (record (retries_appends (does_nothing q)) { stores = ms ++ (retries_appends (does_nothing q)).stores }) S v V (next_try g)
+        (record { trim = h.0.trim; lng = h.0.lng; end = h.0.end; end_most = h.0.end_most; items = h.0.items }, w)
+    retry_stage v (Closes s short) V h = let R = retried in record { sequencer = R.sequencer; log = log_is; epoch = epoch_is; tries = (record { from_one = V.from_one; before = V.before; summary = h }, tt); cleans = tt; asks = tt; stores = R.stores }
+
+    retry_recovery : (o : Option Recovery) → MayRecover c q.log q.epoch o → IsActs c r old (retries_recovery looks (retries_appends (does_nothing q)) o)
     retry_recovery None h = retried
     retry_recovery (Some v) h = retry_stage v v.stage h h.stage
 
-    pub retry_is : IsActs c r old (on_retry q)
+    pub retry_is : IsActs c r old (on_retry looks q)
     unfolding on_retry
-    retry_is = unless_is q.preempted (retries_recovery (retries_appends (does_nothing q)) q.recovery) (retry_recovery q.recovery Q.recovery)
+    retry_is = unless_is q.preempted (retries_recovery looks (retries_appends (does_nothing q)) q.recovery) (retry_recovery q.recovery Q.recovery)
 
 -- ---- the register's answer ----
 
@@ -327,16 +355,16 @@ pub record IsCalled (c : Config) (r : Register) (old : Sequencer) (k : Called) :
   pub acts : IsActs c k.register old k.acts
 
 module _ (c : Config) (r : Register) (R : IsRegister c r) (old : Sequencer) (looks : ℕ → View) (K : (e : ℕ) → IsLook c old.log e (looks e)) where
-  pub called_is : (a : Acts) (ts : List (ℕ × Summary)) → AllByRecursion (IsTry a.sequencer.epoch) ts → IsActs c r old a → IsCalled c r old (called looks r a ts)
+  pub called_is : (a : Acts) (ts : List Attempt) → AllByRecursion (IsTry a.sequencer.epoch) ts → IsActs c r old a → IsCalled c r old (called looks r a ts)
   called_is a [] t A = record { register = follows_self c r R; acts = A }
   called_is a (t ∷ ts) T A =
       let i = T.0 in
       let E = A.sequencer.epoch in let z = i.from_one in let b = i.before in let u = A.sequencer.handed_out in let m = E.1 in
-      let F = close_follows c r a.sequencer.log t.0 t.1 R A.sequencer.log (z, omega arith) i.summary (omega arith) in
+      let F = close_follows c r a.sequencer.log t.epoch t.summary t.short R A.sequencer.log (z, omega arith) i.summary (omega arith) in
       record {
         register = F;
-        acts = acts_grown c r (close r a.sequencer.log t.0 t.1).register old (after_close looks a t.0 t.1 (close r a.sequencer.log t.0 t.1).answer) F.up
-            (after_is c r old looks K a t.0 t.1 (close r a.sequencer.log t.0 t.1).answer z b i.summary (close_answers c r a.sequencer.log t.0 t.1 R) A);
+        acts = acts_grown c r (close r a.sequencer.log t.epoch t.summary t.short).register old (after_close looks a t.epoch t.summary (close r a.sequencer.log t.epoch t.summary t.short).answer) F.up
+            (after_is c r old looks K a t.epoch t.summary (close r a.sequencer.log t.epoch t.summary t.short).answer z b i.summary (close_answers c r a.sequencer.log t.epoch t.summary t.short R) A);
       }
 
 -- the messages of a call

@@ -22,7 +22,7 @@ use Rattle.ld_msg.specs.declared.msg.Body.TheVariants as bodies
 use Rattle.ld_msg.specs.Bounds.{Is64, IsEpoch, Fits, IsMessage}
 use Rattle.ld_msg.specs.Network.{Network, send, send_all, message, oldest_new, posted}
 use Rattle.ld_msg.specs.Choice.{choice}
-use Rattle.ld_msg.specs.Register.{Register, Epochs, Answer, Granted, AtLimit, Behind, Fails, epochs_of, epochs_in, generation_of, lce_of, activate, draw}
+use Rattle.ld_msg.specs.Register.{Register, Epochs, Answer, Granted, AtLimit, Behind, Overtaken, Fails, epochs_of, epochs_in, generation_of, lce_of, activate, draw}
 use Rattle.ld_msg.specs.Sequencer.{Sequencer, Acts, called, acted_messages, on_reply, on_retry, released_of, to_each, activated, bare, recovery_asks, Appending, TooLong, Preempted, EpochFull, WindowFull, Numbered, or_preempted, appending, appended, fresh_append, first_stores, next_esn, payload_limit, window_limit}
 use Rattle.ld_msg.specs.Reader.{Reader, Read, opened, is_finished, polled, poll_asks, on_answer}
 use Rattle.ld_op.specs.declared.op.Op.{Op}
@@ -288,8 +288,8 @@ module _ (c : Config) where
           (λ t. let z = ltb-false (released_of q) point t in let b = released_bound q Q.epoch (omega arith) in
           record { state = S; sends = posts_sent (whos.Sequencer q.epoch) q.log (to_each (bodies.Trim point) (all_nodes c)) (log_is c B q.log Q.log) (trims_sent q.epoch Q.epoch point (all_nodes c) (omega arith) (all_are c B)) })
 
-      retry_by : (name : List ℕ) (q : Sequencer) → IsSequencer c s.register q → IsDoneSoundly c (Step.acted c s name q (on_retry q))
-      retry_by name q Q = acted_is s S name q (on_retry q) Q (retry_is c s.register q (looks_at c s.register q.log) (looks_are s S q.log Q.log) q Q refl refl)
+      retry_by : (name : List ℕ) (q : Sequencer) → IsSequencer c s.register q → IsDoneSoundly c (Step.acted c s name q (on_retry (looks_at c s.register q.log) q))
+      retry_by name q Q = acted_is s S name q (on_retry (looks_at c s.register q.log) q) Q (retry_is c s.register q (looks_at c s.register q.log) (looks_are s S q.log Q.log) q Q refl refl)
 
       -- ---- activations ----
       activated_is : (r : Register) (x : Spec) (l e lce : ℕ) → ((k : ℕ) → IsLook c l k (looks_at c r l k)) → has_log c l ≡ true → IsSpecFor c l x → IsEpoch e → e ≤ (epochs_of r l).epoch → lce < e → IsSequencer c r (activated (looks_at c r l) x l e lce)
@@ -307,6 +307,7 @@ module _ (c : Config) where
       }
       activated_by name l r AtLimit h F g = record { state = register_put s S r F; sends = tt }
       activated_by name l r (Behind lce) h F g = quietly s S
+      activated_by name l r (Overtaken k) h F g = quietly s S
       activated_by name l r Fails h F g = record { state = register_put s S r F; sends = tt }
 
       activates_is : (name : List ℕ) (l : ℕ) → has_log c l ≡ true → IsDoneSoundly c (Step.activates c s name l (activate s.register l (Step.spec_set c s l)))
@@ -359,6 +360,7 @@ module _ (c : Config) where
       formats_by n r Granted h F = keeps_is (with_register s r) (register_put s S r F) n (ops.Format (generation_of r n) (epochs_in r.logs)) (Step.format_lines c n r) [] h (generation_is c r n F.register, epochs_told c B r.logs F.register.logs) tt
       formats_by n r AtLimit h F = saying s S _
       formats_by n r (Behind lce) h F = quietly s S
+      formats_by n r (Overtaken k) h F = quietly s S
       formats_by n r Fails h F = record { state = register_put s S r F; sends = tt }
 
       formats_loaded : (n : ℕ) (k : Kept) → IsNode n → IsDoneSoundly c (Step.formats_loaded c s n k)
@@ -390,7 +392,7 @@ module _ (c : Config) where
     happens_is s (events.Activate name l) i S = either s S (has_log c l && not (is_some (find_named name s.sequencers))) _ _ (λ t. activates_is s S name l (and_parts (has_log c l) _ t).0) (λ t. quietly s S)
     happens_is s (events.Append name payload) i S = live s S name (λ q. Step.append_done s name q payload (appending q payload)) (λ q Q. append_by s S name q payload (appending q payload) Q (appending_is s S q payload Q))
     happens_is s (events.Trim name point) i S = live s S name (λ q. Step.trim_done c s name q point) (λ q Q. trim_by s S name q point Q)
-    happens_is s (events.Retry name) i S = live s S name (λ q. Step.acted c s name q (on_retry q)) (λ q Q. retry_by s S name q Q)
+    happens_is s (events.Retry name) i S = live s S name (λ q. Step.acted c s name q (on_retry (looks_at c s.register q.log) q)) (λ q Q. retry_by s S name q Q)
     happens_is s (events.Drop name) i S = live s S name (λ q. only_state (with_sequencer s name (Step.dropped q))) (λ q Q. record { state = sequencer_put s S name (Step.dropped q) (dropped_is c s.register q Q); sends = tt })
     happens_is s (events.Deliver k) i S = delivers_is s S k
     happens_is s (events.Lose k) i S = record { state = marked_is s S k; sends = tt }

@@ -1,12 +1,12 @@
 -- What holds of the register: its logs are some of the configuration's, and its numbers are in their bounds.
-use Rattle.std.specs.Prelude.{ℕ, ◌≡◌, ◌≤◌, ◌<◌, ◌-◌, ◌^◌, true}
+use Rattle.std.specs.Prelude.{ℕ, ◌≡◌, ◌≤◌, ◌<◌, ◌-◌, ◌^◌, true, IfSome}
 use Rattle.std.specs.List.{AllByRecursion}
 use Rattle.ld_table.specs.Table.{Ordered}
 use Rattle.ld_ids.specs.Id.{IsNode}
 use Rattle.ld_ids.specs.declared.set.Spec.{Spec}
 use Rattle.ld_config.specs.declared.config.Config.{Config}
 use Rattle.ld_msg.specs.declared.msg.Summary.{Summary}
-use Rattle.ld_msg.specs.Bounds.{Is32, IsEpoch}
+use Rattle.ld_msg.specs.Bounds.{Is32, IsEpoch, IsSummary}
 use Rattle.ld_msg.specs.Register.{Register, Epochs, View}
 use Rattle.ld_machine.specs.Config.{has_log}
 use Rattle.ld_node_bounds.specs.States.{IsClosed}
@@ -49,4 +49,5 @@ pub record IsRegister (c : Config) (r : Register) : Type 0 where
 pub record IsLook (c : Config) (l e : ℕ) (w : View) : Type 0 where
   pub of_epoch : w.at ≡ e
   pub most : w.epoch ≤ 2 ^ 32 - 2
+  pub summary : IfSome w.summary (IsSummary e)
   pub spec : IsSpecFor c l w.spec

@@ -17,7 +17,7 @@ IsInWave p = p.1.wave ≤ last_wave
 abbrev pub IsStage : ℕ → Stage → Type 0
 IsStage epoch (Seals d) = AllByRecursion (IsTold epoch) d
 IsStage epoch (Stores g) = IsStoring epoch g × (g.wave ≤ last_wave)
-IsStage epoch (Closes y) = IsSummary epoch y
+IsStage epoch (Closes y short) = IsSummary epoch y
 
 -- the recovery of an epoch before the sequencer's own
 pub record IsRecovery (c : Config) (l own : ℕ) (v : Recovery) : Type 0 where

@@ -14,6 +14,7 @@ fn closing() -> Summary {
         lng: 0,
         trim: Lsn::from_u64(0),
         end: 4,
+        loss: false,
     }
 }
 

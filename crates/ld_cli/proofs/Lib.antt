@@ -1,6 +1,7 @@
 pub mod Left
 pub mod LineLoop
 pub mod OffLines
+pub mod Safely
 pub mod PlayLoop
 pub mod FirstLines
 pub mod OneReading

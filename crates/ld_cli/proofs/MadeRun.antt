@@ -11,8 +11,6 @@ use Rattle.ld_schedule.specs.Grammar.{IsNamed}
 use Rattle.ld_config.specs.declared.config.Config.{Config}
 use Rattle.ld_machine.specs.State.{State, start}
 use Rattle.ld_machine.specs.Run.{step, state_after, lines_of}
-use Rattle.ld_safety.proofs.LostJoined.{every_run_is_safe, copies_were_lost}
-use Rattle.ld_safety.proofs.Traces.{lines_are_the_steps}
 use Rattle.ld_cluster.specs.Standing.{config_of, past_of, state_of, IsReached}
 use Rattle.ld_cluster.specs.Steps.{Counts}
 use Rattle.ld_cluster.specs.declared.cluster.Cluster.{Cluster}
@@ -23,9 +21,9 @@ use Rattle.ld_maker.specs.declared.tally.Tally.{Tally}
 use Rattle.ld_maker.proofs.Bounds.{made_in_bounds}
 use Rattle.ld_maker.proofs.Counting.{tally-append, less_room}
 use Rattle.ld_cli.specs.Step.{IsTaken}
-use Rattle.ld_cli.specs.Ends.{IsSafe}
 use Rattle.ld_cli.specs.Exercise.{made_lines, HasPlayed, IsExercised}
 use Rattle.ld_cli.proofs.PlayLoop.{state_after-push, lines_of-push}
+use Rattle.ld_cli.proofs.Safely.{run_is_safe}
 
 -- ---- what a made schedule names ----
 
@@ -57,15 +55,6 @@ first_counts = All-from_recursion Counts first_events (tt, (tt, (tt, (tt, (tt, (
 pub first_one_counts : (xs : List Event) (i : ℕ) (e : Event) → xs ≡ first_events → i < length xs → e ≡ get_or xs i e → Counts e
 first_one_counts xs i e are inside at =
     subst Counts (sym at) (All-get_or Counts xs i e inside (subst (All Counts) (sym are) first_counts))
-
--- every run of the made configuration is safe
-pub made_is_safe : (events : List Event) → IsSafe made_config events
-made_is_safe events =
-    record {
-      told = lines_are_the_steps made_config events;
-      lines = every_run_is_safe made_config events;
-      losses = λ name log number round before asks between gives after whole ends. copies_were_lost made_config name log number round before asks between gives made_in_bounds ends;
-    }
 
 -- ---- one event more ----
 
@@ -188,5 +177,5 @@ pub exercised : (seed m : ℕ) (old new : Option (List ℕ)) (line bytes : List 
 exercised seed m old new line bytes t counted is at written =
     record {
       written = subst (Appends old new) (at ∙ is ∙ ap (λ u. summary (m + 7) u) counted) written;
-      safe = made_is_safe (made seed m);
+      safe = run_is_safe made_config made_in_bounds (made seed m);
     }

@@ -9,8 +9,6 @@ use Rattle.ld_transcript.specs.Text.{line_text, text}
 use Rattle.ld_config.specs.declared.config.Config.{Config}
 use Rattle.ld_machine.specs.State.{State, start}
 use Rattle.ld_machine.specs.Run.{step, state_after, lines_of}
-use Rattle.ld_safety.proofs.LostJoined.{every_run_is_safe, copies_were_lost}
-use Rattle.ld_safety.proofs.Traces.{lines_are_the_steps}
 use Rattle.ld_schedule.specs.declared.event.Event.TheVariants as events
 use Rattle.ld_cluster.specs.Standing.{config_of, past_of, state_of, IsReached}
 use Rattle.ld_cluster.specs.Steps.{Counts}
@@ -23,9 +21,10 @@ use Rattle.ld_rounds.specs.Output.{AppendsPart}
 use Rattle.ld_cli.specs.declared.status.Stop.{Stop}
 use Rattle.ld_cli.specs.declared.status.Stop.TheVariants as stops
 use Rattle.ld_cli.specs.Causes.{IsReadStop, IsWriteStop, IsStop}
-use Rattle.ld_cli.specs.Ends.{written_by, IsSafe, IsReplayed, IsStopped, IsCut, StopsBy}
+use Rattle.ld_cli.specs.Ends.{written_by, IsReplayed, IsStopped, IsCut, StopsBy}
 use Rattle.ld_rounds.proofs.Writing.{Appends-trans, Appends-nil}
 use Rattle.ld_cli.proofs.Left.{Consumes-trans}
+use Rattle.ld_cli.proofs.Safely.{run_is_safe}
 
 -- the lines of the configuration and of some events were read, and the transcript of the events was written
 pub record Playing (input_old input_new written_old written_new : Option (List ℕ)) (cluster : Cluster) (number : ℕ) : Type 0 where
@@ -38,15 +37,6 @@ pub record Playing (input_old input_new written_old written_new : Option (List �
   pub reached : IsReached cluster
   pub written : Appends written_old written_new (written_by (config_of cluster) events)
   pub count : number ≡ length events + 2
-
--- every run of a cluster's configuration is safe
-safe_run : (cluster : Cluster) → IsReached cluster → (events : List Event) → IsSafe (config_of cluster) events
-safe_run cluster reached events =
-    record {
-      told = lines_are_the_steps (config_of cluster) events;
-      lines = every_run_is_safe (config_of cluster) events;
-      losses = λ name log number round before asks between gives after whole ends. copies_were_lost (config_of cluster) name log number round before asks between gives reached.bounds ends;
-    }
 
 -- ---- one event more ----
 
@@ -174,7 +164,7 @@ off_later (Some bytes) (Some rest) old written cluster number place playing off 
       off = off;
       line = playing.count;
       written = playing.written;
-      safe = safe_run cluster playing.reached playing.events;
+      safe = run_is_safe (config_of cluster) playing.reached.bounds playing.events;
     })
 
 pub replayed : (left new old written : Option (List ℕ)) (cluster : Cluster) (number : ℕ) → Playing left new old written cluster number
@@ -190,7 +180,7 @@ replayed (Some bytes) (Some rest) old written cluster number playing ends =
       spelt = playing.spelt;
       whole = playing.read ∙ ap (λ l. schedule_text playing.first playing.events ++ l) ends ∙ append-nil (schedule_text playing.first playing.events);
       written = playing.written;
-      safe = safe_run cluster playing.reached playing.events;
+      safe = run_is_safe (config_of cluster) playing.reached.bounds playing.events;
     }
 
 pub cut_here : (left new old written : Option (List ℕ)) (cluster : Cluster) (number : ℕ) → Playing left new old written cluster number
@@ -210,7 +200,7 @@ cut_here (Some bytes) (Some rest) old written cluster number playing =
       missing = [];
       written = playing.written;
       prefix = sym (append-nil (written_by (config_of cluster) playing.events));
-      safe = safe_run cluster playing.reached playing.events;
+      safe = run_is_safe (config_of cluster) playing.reached.bounds playing.events;
     })
 
 pub cut_in : (left mid new old written written' : Option (List ℕ)) (cluster : Cluster) (number : ℕ) (e : Event) → Playing left mid old written cluster number
@@ -235,7 +225,7 @@ cut_in (Some bytes) mid (Some rest) old written written' cluster number e playin
       written = Appends-trans _ _ _ _ _ playing.written more.written;
       prefix = written_by-push c (state_of cluster) playing.events e playing.state
           ∙ ap (λ l. written_by c playing.events ++ l) more.whole ∙ sym (append_assoc (written_by c playing.events) more.part more.missing);
-      safe = safe_run cluster playing.reached (playing.events ++ e ∷ []);
+      safe = run_is_safe (config_of cluster) playing.reached.bounds (playing.events ++ e ∷ []);
     })
 
 pub at_end : (held : List ℕ) (left : Option (List ℕ)) → IsAtEnd (prepend_known held left) → IsAtEnd left

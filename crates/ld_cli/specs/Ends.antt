@@ -1,11 +1,18 @@
 -- How a replay ends, by the bytes of the input and what was written.
-use Rattle.std.specs.Prelude.{ℕ, ◌≡◌, ◌+◌, ◌⊎◌, List, [], ◌∷◌, ◌++◌, length, Option}
+use Rattle.std.specs.Prelude.{ℕ, ◌≡◌, ◌≤◌, ◌+◌, ◌⊎◌, List, [], ◌∷◌, ◌++◌, length, Option, Some, true, ⊥}
 use Rattle.std.specs.Io.KnownBytes.{Appends}
 use Rattle.ld_schedule.specs.declared.event.Event.{Event}
 use Rattle.ld_config.specs.declared.config.Config.{Config}
-use Rattle.ld_machine.specs.Run.{Move, transcript, history, moves, after_step, world_after}
-use Rattle.ld_machine.specs.World.{begin}
-use Rattle.ld_machine.specs.Losses.{EndsAsLoss}
+use Rattle.ld_table.specs.Named.{find_named}
+use Rattle.ld_table.specs.Words.{is_in, how_many}
+use Rattle.ld_lsn.specs.Number.{home_epoch}
+use Rattle.ld_transcript.specs.declared.line.Line.TheVariants as lines
+use Rattle.ld_transcript.specs.declared.line.GapKind.TheVariants as gaps
+use Rattle.ld_msg.specs.Reader.{Reader}
+use Rattle.ld_machine.specs.Config.{spec_of, set_at}
+use Rattle.ld_machine.specs.Run.{Move, transcript, history, moves, after_step, world_after, step_happened}
+use Rattle.ld_machine.specs.World.{World, Made, In, HasPlan, begin}
+use Rattle.ld_machine.specs.Losses.{EndsAsLoss, Completes as Confirms}
 use Rattle.ld_machine.specs.Safe.{Safe}
 use Rattle.ld_safety.specs.Lost.{CopiesAreLost}
 use Rattle.ld_safety.specs.OneRun.{AreOneRun}
@@ -19,21 +26,41 @@ use Rattle.ld_cli.specs.Schedule.{Configures, AreSpelt, schedule_text, IsOffFirs
 abbrev pub written_by : Config → List Event → List ℕ
 written_by config events = transcript config events
 
--- where a reader of the run asks once more for a number that it then calls lost, the number's epoch is closed, and of the nodes that settled the number for the
--- closing plan, or stored its append where it was known good, as many as the log has copies are lost for it, each before a record that was cut short, where there is one
+-- where a reader of the run asks once more for a number that it then calls lost, the number's epoch is closed, and as many of its nodes as it has copies are lost for
+-- it, each before a record that was cut short, where there is one; and unless the epoch was closed short, or where the number was known good, so many of those
+-- that settled the number for the closing plan, or stored its append
 abbrev pub LossesStood : Config → List Event → Type 0
 LossesStood config events = (name : List ℕ) (log number round : ℕ) (before : List Move) (asks : Move) (between : List Move) (gives : Move) (after : List Move)
     → moves config events ≡ before ++ asks ∷ between ++ gives ∷ after
     → EndsAsLoss config name log number round before asks between gives
     → CopiesAreLost config (after_step config (world_after config (begin config) before) asks) log number
 
+-- the epoch has a plan that says what is lost, and as it was made, as many nodes of the epoch as it has copies were blank, or lost for it
+pub record WasPlanned (config : Config) (world : World) (log epoch : ℕ) : Type 0 where
+  pub ballot : ℕ
+  pub plan : Made
+  pub there : HasPlan world log epoch ballot plan
+  pub says : plan.loss ≡ true
+  pub gone : (spec_of config world.state.register log epoch).r ≤ how_many (λ y. is_in y plan.gone) (set_at config world.state.register log epoch)
+
+-- numbers that a reader of the run is told are lost in a step that completes no confirmation are of an epoch that has such a plan
+abbrev pub LossesPlanned : Config → List Event → Type 0
+LossesPlanned config events = (name : List ℕ) (low high number : ℕ) (before : List Move) (gives : Move) (after : List Move) (d : Reader)
+    → moves config events ≡ before ++ gives ∷ after
+    → find_named name (world_after config (begin config) before).state.readers ≡ Some d
+    → In (lines.Gap name gaps.DataLoss low high) (step_happened config (world_after config (begin config) before).state gives).lines
+    → (Confirms (world_after config (begin config) before) d gives → ⊥)
+    → low ≤ number → number ≤ high
+    → WasPlanned config (world_after config (begin config) before) d.log (home_epoch number)
+
 -- the headline: in the run of these events what each reader gets tiles the numbers from its first one on, a record is the payload that was appended under its
 -- number, no hole or bridge holds a number that was acknowledged or read as a record, a trim gap ends at an issued point, and a data loss had its moment, in the
--- lines and in the state; and these are the lines of the transcript, but for `none`
+-- lines and in the state, which for one that a plan says is that plan's step; and these are the lines of the transcript, but for `none`
 pub record IsSafe (config : Config) (events : List Event) : Type 0 where
   pub told : AreOneRun config events
   pub lines : Safe config (history config events)
   pub losses : LossesStood config events
+  pub planned : LossesPlanned config events
 
 -- the input is a schedule, and its whole transcript was written
 pub record IsReplayed (bytes : List ℕ) (old new : Option (List ℕ)) : Type 0 where

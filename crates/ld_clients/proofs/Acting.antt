@@ -21,14 +21,13 @@ use Rattle.ld_machine.specs.Config.{looks_at}
 use Rattle.ld_machine.specs.State.{State, Done, unchanged, only_state, with_line, with_sequencer, with_register, posted}
 use Rattle.ld_machine.specs.Step as step
 use Rattle.ld_recovery.specs.Recovering.{sender_of}
-use Rattle.ld_register.specs.Bounds.{IsSpecFor}
 use Rattle.ld_register.specs.declared.fault.RegisterFault.TheVariants as registers
 use Rattle.ld_sequencer.specs.declared.fault.SequencerFault.{SequencerFault}
 use Rattle.ld_sequencer.specs.declared.fault.SequencerFault.TheVariants as faults
 use Rattle.ld_sequencer.specs.declared.report.Report.{Report}
 use Rattle.ld_sequencer.specs.Looks.{shows}
 use Rattle.ld_sequencer.specs.Own.{append_fault, trim_fault}
-use Rattle.ld_sequencer.specs.Whole.{Whole, as_now, sent_as, looks_of, Acted, IsRefused, Unseen, tried, called_by, reply_acts, retry_acts}
+use Rattle.ld_sequencer.specs.Whole.{Whole, as_now, with_recovery, sent_as, looks_of, Acted, ActedBy, IsRefused, Unseen, Unlooked, tried, called_by, reply_acts, retry_acts, raised_whole, pending_stores}
 use Rattle.ld_clients.specs.declared.client.Client.{Client}
 use Rattle.ld_clients.specs.declared.outcome.Outcome.{Outcome}
 use Rattle.ld_clients.specs.Serving.{shown, IsWhole, GoesOn}
@@ -178,11 +177,14 @@ module _ (c : Config) (s : State) (name : List ℕ) (k : Client) (h : IsNamed c 
     answered_done (Ok report) g old new a o told d e n t x m room b ls ms = told_done g report old new a o told d e n t.0 t.1 b ls ms
     answered_done (Err fault) g old new a o told d e n t x m room b ls ms = absurd (crowded (Err fault) fault (told s.register) refl m room x)
 
-    retry_row : step.on_live s (Some (shown k)) (λ x. step.acted c s name x (on_retry x)) ≡ step.told s name q (called_by k.sequencer s.register (retry_acts k.sequencer))
-    retry_row = live_row (λ x. step.acted c s name x (on_retry x)) live
-        ∙ ap (λ (f : ℕ → View). step.told s name q (called f s.register (on_retry q) (on_retry q).tries)) looks_are
+    -- what a retry and the message do by the register
+    abbrev retried : Acts
+    retried = retry_acts (looks_of k.sequencer s.register) k.sequencer
 
-    -- what the message does by the register
+    retry_row : step.on_live s (Some (shown k)) (λ x. step.acted c s name x (on_retry (looks_at c s.register x.log) x)) ≡ step.told s name q (called_by k.sequencer s.register retried)
+    retry_row = live_row (λ x. step.acted c s name x (on_retry (looks_at c s.register x.log) x)) live
+        ∙ ap (λ (f : ℕ → View). step.told s name q (called f s.register (on_retry f q) (on_retry f q).tries)) looks_are
+
     abbrev replied : Msg → Acts
     replied m = reply_acts (looks_of k.sequencer s.register) k.sequencer m.from m.body
 
@@ -191,11 +193,11 @@ module _ (c : Config) (s : State) (name : List ℕ) (k : Client) (h : IsNamed c 
         ∙ (λ i. step.told s name q (called (looks_are i) s.register (on_reply (looks_are i) q (sender_is m.from i) m.body) (on_reply (looks_are i) q (sender_is m.from i) m.body).tries))
 
     pub retry_done : (r : Result Report SequencerFault) (g : Client) (old new : List Msg) (o : Outcome) (told : Register → Type 0) → g.dropped ≡ false
-        → IfOk r (λ report. Acted k.sequencer g.sequencer report old new (called_by k.sequencer s.register (retry_acts k.sequencer)).acts × told (called_by k.sequencer s.register (retry_acts k.sequencer)).register)
+        → IfOk r (λ report. Acted k.sequencer g.sequencer report old new (called_by k.sequencer s.register retried).acts × told (called_by k.sequencer s.register retried).register)
         → IfErr r (λ fault. (fault ≡ faults.NoMemory) ⊎ ((fault ≡ faults.Register registers.LogLimit) × (is_crowded s.register k.sequencer.sequencer.log ≡ true) × told s.register))
         → (r ≢ Err faults.NoMemory) → is_crowded s.register k.sequencer.sequencer.log ≡ false → old ≡ [] → o.lines.items ≡ told_lines name r → o.sends ≡ new
-        → HasActed s name g o told (step.on_live s (Some (shown k)) (λ x. step.acted c s name x (on_retry x)))
-    retry_done r g old new o told n t x m room b ls ms = answered_done r g old new (retry_acts k.sequencer) o told _ retry_row n t x m room b ls ms
+        → HasActed s name g o told (step.on_live s (Some (shown k)) (λ x. step.acted c s name x (on_retry (looks_at c s.register x.log) x)))
+    retry_done r g old new o told n t x m room b ls ms = answered_done r g old new retried o told _ retry_row n t x m room b ls ms
 
     pub reply_done : (m : Msg) (r : Result Report SequencerFault) (g : Client) (old new : List Msg) (o : Outcome) (told : Register → Type 0) → g.dropped ≡ false
         → IfOk r (λ report. Acted k.sequencer g.sequencer report old new (called_by k.sequencer s.register (replied m)).acts × told (called_by k.sequencer s.register (replied m)).register)
@@ -217,29 +219,41 @@ goes_as k g x d e m = record {
 }
 
 -- with what looks show and what the register answers to a close
-answered_goes : (k g : Client) (looks : ℕ → View) (a : Acts) (d : Answer) (report : Report) (old new : List Msg) → g.dropped ≡ k.dropped → Same k.sequencer.sequencer a.sequencer → Acted k.sequencer g.sequencer report old new (tried looks a d) → GoesOn k g
-answered_goes k g looks a d report old new e m t = goes_as k g (tried looks a d).sequencer e t.now (same_after k.sequencer.sequencer a.sequencer (tried looks a d).sequencer m (same_tried looks a d a.tries))
+answered_goes : (k g : Client) (report : Report) (old new : List Msg) (f : (ℕ → View) → Acts) → g.dropped ≡ k.dropped → ((looks : ℕ → View) → Same k.sequencer.sequencer (f looks).sequencer) → ActedBy k.sequencer g.sequencer report old new f → GoesOn k g
+answered_goes k g report old new f e m t = let looks : ℕ → View = t.0 in let a : Acts = f looks in
+    goes_as k g (tried looks a t.2).sequencer e t.3.now (same_after k.sequencer.sequencer a.sequencer (tried looks a t.2).sequencer (m looks) (same_tried looks a t.2 a.tries))
 
 refused_goes : (k g : Client) (fault : SequencerFault) (r : Result Report SequencerFault) (old new : List Msg) (a : Acts) → r ≡ Err fault → (r ≢ Err faults.NoMemory) → g.dropped ≡ k.dropped → Same k.sequencer.sequencer a.sequencer → IsRefused k.sequencer g.sequencer fault old new a → GoesOn k g
 refused_goes k g fault r old new a e n d m (inl f) = absurd (n (e ∙ ap (λ (x : SequencerFault). Err x) f))
 refused_goes k g fault r old new a e n d m (inr u) = goes_as k g a.sequencer d u.now m
 
+-- where the register couldn't be looked at, or a close isn't known to be made
+unlooked_goes : (k g : Client) (fault : SequencerFault) (r : Result Report SequencerFault) (old new : List Msg) (own : Sequencer) (stores : List (ℕ × Body)) (f : (ℕ → View) → Acts) → r ≡ Err fault → (r ≢ Err faults.NoMemory) → g.dropped ≡ k.dropped
+    → Same k.sequencer.sequencer own → ((looks : ℕ → View) → Same k.sequencer.sequencer (f looks).sequencer)
+    → Unlooked k.sequencer g.sequencer fault old new own stores f ⊎ ((looks : ℕ → View) → IsRefused k.sequencer g.sequencer fault old new (f looks)) → GoesOn k g
+unlooked_goes k g fault r old new own stores f e n d o m (inl u) = goes_as k g (with_recovery (Some u.recovery) own) d u.now record { log = o.log; epoch = o.epoch; spec = o.spec; gone = o.gone }
+unlooked_goes k g fault r old new own stores f e n d o m (inr h) = let looks : ℕ → View = shows k.sequencer.sequencer.spec in refused_goes k g fault r old new (f looks) e n d (m looks) (h looks)
+
 pub retried_goes : (k g : Client) (r : Result Report SequencerFault) (old new : List Msg) → g.dropped ≡ k.dropped
-    → IfOk r (λ report. (s : Spec) × IsSpecFor k.sequencer.sequencer.log s × (d : Answer) × Acted k.sequencer g.sequencer report old new (tried (shows s) (retry_acts k.sequencer) d))
-    → IfErr r (λ fault. IsRefused k.sequencer g.sequencer fault old new (retry_acts k.sequencer)) → (r ≢ Err faults.NoMemory) → GoesOn k g
-retried_goes k g (Ok report) old new e t x n = answered_goes k g (shows t.0) (retry_acts k.sequencer) t.2 report old new e (same_on_retry k.sequencer.sequencer) t.3
-retried_goes k g (Err fault) old new e t x n = refused_goes k g fault (Err fault) old new (retry_acts k.sequencer) refl n e (same_on_retry k.sequencer.sequencer) x
+    → IfOk r (λ report. ActedBy k.sequencer g.sequencer report old new (λ looks. retry_acts looks k.sequencer))
+    → IfErr r (λ fault. Unlooked k.sequencer g.sequencer fault old new (raised_whole k.sequencer).sequencer (pending_stores (raised_whole k.sequencer)) (λ looks. retry_acts looks k.sequencer)
+    ⊎ ((looks : ℕ → View) → IsRefused k.sequencer g.sequencer fault old new (retry_acts looks k.sequencer))) → (r ≢ Err faults.NoMemory) → GoesOn k g
+retried_goes k g (Ok report) old new e t x n = answered_goes k g report old new (λ looks. retry_acts looks k.sequencer) e (λ looks. same_on_retry looks k.sequencer.sequencer) t
+retried_goes k g (Err fault) old new e t x n = unlooked_goes k g fault (Err fault) old new (raised_whole k.sequencer).sequencer (pending_stores (raised_whole k.sequencer)) (λ looks. retry_acts looks k.sequencer) refl n e
+    record { log = refl; epoch = refl; spec = refl; gone = refl } (λ looks. same_on_retry looks k.sequencer.sequencer) x
 
 unheard_goes : (k g : Client) (fault : SequencerFault) (r : Result Report SequencerFault) (old new : List Msg) (w : Who) (b : Body) → r ≡ Err fault → (r ≢ Err faults.NoMemory) → g.dropped ≡ k.dropped
-    → Unseen k.sequencer g.sequencer fault old new b ⊎ ((looks : ℕ → View) → IsRefused k.sequencer g.sequencer fault old new (reply_acts looks k.sequencer w b)) → GoesOn k g
+    → Unseen k.sequencer g.sequencer fault old new b ⊎ (Unlooked k.sequencer g.sequencer fault old new k.sequencer.sequencer [] (λ looks. reply_acts looks k.sequencer w b)
+    ⊎ ((looks : ℕ → View) → IsRefused k.sequencer g.sequencer fault old new (reply_acts looks k.sequencer w b))) → GoesOn k g
 unheard_goes k g fault r old new w b e n d (inl u) = goes_as k g k.sequencer.sequencer d u.now (itself k.sequencer.sequencer)
-unheard_goes k g fault r old new w b e n d (inr f) = let looks : ℕ → View = shows k.sequencer.sequencer.spec in
-    refused_goes k g fault r old new (reply_acts looks k.sequencer w b) e n d (same_on_reply looks k.sequencer.sequencer (sender_of w) b) (f looks)
+unheard_goes k g fault r old new w b e n d (inr x) = unlooked_goes k g fault r old new k.sequencer.sequencer [] (λ looks. reply_acts looks k.sequencer w b) e n d
+    (itself k.sequencer.sequencer) (λ looks. same_on_reply looks k.sequencer.sequencer (sender_of w) b) x
 
 pub replied_goes : (k g : Client) (r : Result Report SequencerFault) (old new : List Msg) (w : Who) (b : Body) → g.dropped ≡ k.dropped
-    → IfOk r (λ report. (s : Spec) × IsSpecFor k.sequencer.sequencer.log s × (d : Answer) × Acted k.sequencer g.sequencer report old new (tried (shows s) (reply_acts (shows s) k.sequencer w b) d))
-    → IfErr r (λ fault. Unseen k.sequencer g.sequencer fault old new b ⊎ ((looks : ℕ → View) → IsRefused k.sequencer g.sequencer fault old new (reply_acts looks k.sequencer w b))) → (r ≢ Err faults.NoMemory) → GoesOn k g
-replied_goes k g (Ok report) old new w b e t x n = answered_goes k g (shows t.0) (reply_acts (shows t.0) k.sequencer w b) t.2 report old new e (same_on_reply (shows t.0) k.sequencer.sequencer (sender_of w) b) t.3
+    → IfOk r (λ report. ActedBy k.sequencer g.sequencer report old new (λ looks. reply_acts looks k.sequencer w b))
+    → IfErr r (λ fault. Unseen k.sequencer g.sequencer fault old new b ⊎ (Unlooked k.sequencer g.sequencer fault old new k.sequencer.sequencer [] (λ looks. reply_acts looks k.sequencer w b)
+    ⊎ ((looks : ℕ → View) → IsRefused k.sequencer g.sequencer fault old new (reply_acts looks k.sequencer w b)))) → (r ≢ Err faults.NoMemory) → GoesOn k g
+replied_goes k g (Ok report) old new w b e t x n = answered_goes k g report old new (λ looks. reply_acts looks k.sequencer w b) e (λ looks. same_on_reply looks k.sequencer.sequencer (sender_of w) b) t
 replied_goes k g (Err fault) old new w b e t x n = unheard_goes k g fault (Err fault) old new w b refl n e x
 
 pub appended_goes : (k g : Client) (p : List ℕ) → g.dropped ≡ k.dropped → g.sequencer ≡ as_now k.sequencer (appended k.sequencer.sequencer p) → GoesOn k g

@@ -9,7 +9,7 @@ use Rattle.ld_transcript.specs.declared.line.Line.TheVariants as lines
 use Rattle.ld_ids.specs.declared.set.Spec.{Spec}
 use Rattle.ld_msg.specs.declared.msg.Who.TheVariants as whos
 use Rattle.ld_msg.specs.declared.msg.Msg.{Msg}
-use Rattle.ld_msg.specs.Register.{Register, Epochs, Changed, Answer, View, Granted, AtLimit, Behind, Fails, epoch_limit, journal_limit, record_length, no_epochs, epochs_of, next_epoch, with_epochs, lce_of, falls, is_made, made, unmade, change, activate, is_crowded, look}
+use Rattle.ld_msg.specs.Register.{Register, Epochs, Changed, Answer, View, Granted, AtLimit, Behind, Overtaken, Fails, epoch_limit, journal_limit, record_length, no_epochs, epochs_of, next_epoch, with_epochs, lce_of, falls, is_made, made, unmade, change, activate, is_crowded, look}
 use Rattle.ld_msg.specs.Sequencer.{activated, recovery_asks}
 use Rattle.ld_config.specs.declared.config.Config.{Config}
 use Rattle.ld_machine.specs.Config.{first_spec, has_log}
@@ -52,18 +52,29 @@ kept_lce r l spec = changed_if (nat_le epoch_limit (epochs_of r l).epoch) (recor
     (register_if (nat_lt journal_limit (r.length + record_length 13)) r (if is_made r.armed then made r (with_epochs r l (next_epoch (epochs_of r l) spec)) 13 else unmade r) l (lce_of r l) refl
     (register_if (is_made r.armed) (made r (with_epochs r l (next_epoch (epochs_of r l) spec)) 13) (unmade r) l (lce_of r l) (made_lce r l spec) refl))
 
-fails_if : (b : Bool) (lce : ℕ) → (if b then Fails else Granted) ≡ Behind lce → ⊥
-fails_if true lce h = absurd cc
-fails_if false lce h = absurd cc
+-- it answers a close
+abbrev of_close : Answer → Bool
+of_close Granted = false
+of_close AtLimit = false
+of_close (Behind lce) = true
+of_close (Overtaken epoch) = true
+of_close Fails = false
 
-answer_if : (b : Bool) (r : Register) (y : Changed) (lce : ℕ) → (y.answer ≡ Behind lce → ⊥) → (if b then record { register = r; answer = AtLimit } else y).answer ≡ Behind lce → ⊥
-answer_if true r y lce n h = absurd cc
-answer_if false r y lce n h = n h
+fails_if : (b : Bool) → of_close (if b then Fails else Granted) ≡ false
+fails_if true = refl
+fails_if false = refl
 
--- an activation is never behind
-never_behind : (r : Register) (l : ℕ) (spec : Spec) (lce : ℕ) → (activate r l spec).answer ≡ Behind lce → ⊥
+answer_if : (b : Bool) (r : Register) (y : Changed) → of_close y.answer ≡ false → of_close (if b then record { register = r; answer = AtLimit } else y).answer ≡ false
+answer_if true r y n = refl
+answer_if false r y n = n
+
+-- an activation is neither behind nor overtaken
+no_close : (r : Register) (l : ℕ) (spec : Spec) → of_close (activate r l spec).answer ≡ false
 unfolding activate change
-never_behind r l spec lce h = answer_if (nat_le epoch_limit (epochs_of r l).epoch) r (change r (with_epochs r l (next_epoch (epochs_of r l) spec)) 13) lce (fails_if (nat_lt journal_limit (r.length + record_length 13) || falls r.armed) lce) h
+no_close r l spec = answer_if (nat_le epoch_limit (epochs_of r l).epoch) r (change r (with_epochs r l (next_epoch (epochs_of r l) spec)) 13) (fails_if (nat_lt journal_limit (r.length + record_length 13) || falls r.armed))
+
+not_so : (r : Register) (l : ℕ) (spec : Spec) (x : Answer) → (activate r l spec).answer ≡ x → of_close x ≡ true → ⊥
+not_so r l spec x e h = let wrong : true ≡ false = sym h ∙ (sym (ap of_close e) ∙ no_close r l spec) in cc
 
 -- ---- what it answers ----
 
@@ -71,6 +82,7 @@ granted_only : (origin : Origin) (spec : Spec) (looks : ℕ → View) (old new :
 granted_only origin spec looks old new w Granted full limit g h = (refl, h)
 granted_only origin spec looks old new w AtLimit full limit g h = absurd h
 granted_only origin spec looks old new w (Behind lce) full limit g h = absurd h
+granted_only origin spec looks old new w (Overtaken epoch) full limit g h = absurd h
 granted_only origin spec looks old new w Fails true limit g h = absurd h
 granted_only origin spec looks old new w Fails false limit g h = absurd h
 
@@ -198,7 +210,8 @@ module _ (c : Config) (s : State) (ks : List (List ℕ × Client)) (a : AreSeque
     refused_as old new fault Granted f e h t b ls ms = absurd h
     refused_as old new fault AtLimit f e h t b ls ms = acted_as c s ks a ks o told _ (with_line (with_register s changed.register) (lines.RefusedEpochLimit name)) (new_row ∙ ap (step.activates_by c s name spec.log changed.register) e)
         record { state = ap (λ y. record s { sequencers = y; register = changed.register }) a.sequencers; register = t; lines = ls ∙ ap (fault_lines name) h.0; sends = ms ∙ (h.1 ∙ b) }
-    refused_as old new fault (Behind lce) f e h t b ls ms = absurd (never_behind s.register spec.log spec lce e)
+    refused_as old new fault (Behind lce) f e h t b ls ms = absurd (not_so s.register spec.log spec (Behind lce) e refl)
+    refused_as old new fault (Overtaken epoch) f e h t b ls ms = absurd (not_so s.register spec.log spec (Overtaken epoch) e refl)
     refused_as old new fault Fails true e h t b ls ms = acted_as c s ks a ks o told _ (with_line (with_register s changed.register) (lines.RefusedRegister name)) (new_row ∙ ap (step.activates_by c s name spec.log changed.register) e)
         record { state = ap (λ y. record s { sequencers = y; register = changed.register }) a.sequencers; register = t; lines = ls ∙ ap (fault_lines name) h.0; sends = ms ∙ (h.1 ∙ b) }
     refused_as old new fault Fails false e h t b ls ms = acted_as c s ks a ks o told _ (with_line (with_register s changed.register) (lines.RefusedRegister name)) (new_row ∙ ap (step.activates_by c s name spec.log changed.register) e)

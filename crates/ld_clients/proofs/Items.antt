@@ -3,7 +3,7 @@ use Rattle.std.proofs.Common.{◌≡◌, ℕ, ◌+◌, ◌<◌, List, [], ◌∷
 use Rattle.std.proofs.lemmas.List.{take_more}
 use Rattle.ld_msg.specs.declared.msg.Who.TheVariants as whos
 use Rattle.ld_msg.specs.declared.msg.Body.{Body}
-use Rattle.ld_msg.specs.Reading.{Item, TrimTo, RecordHere, HoleHere, BridgeTo, LossHere}
+use Rattle.ld_msg.specs.Reading.{Item, TrimTo, RecordHere, HoleHere, BridgeTo, LossHere, LossTo}
 use Rattle.ld_msg.specs.Network.{posted}
 use Rattle.ld_machine.specs.Step.{item_line, item_lines}
 use Rattle.ld_reader.specs.Clipped.{clipped, all_clipped}
@@ -16,6 +16,7 @@ line_is name s until (RecordHere p) = refl
 line_is name s until HoleHere = refl
 line_is name s until (BridgeTo last) = refl
 line_is name s until LossHere = refl
+line_is name s until (LossTo last) = refl
 
 pub lines_are : (name : List ℕ) (until : ℕ) (is : List (ℕ × Item)) → given_lines name (all_clipped until is) ≡ item_lines name until is
 lines_are name until [] = refl

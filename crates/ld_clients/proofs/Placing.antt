@@ -6,6 +6,7 @@ use Rattle.ld_msg.specs.declared.msg.Msg.{Msg}
 use Rattle.ld_msg.specs.Register.{Register, is_crowded}
 use Rattle.ld_msg.specs.Sequencer.{Sequencer, appending, on_retry}
 use Rattle.ld_config.specs.declared.config.Config.{Config}
+use Rattle.ld_machine.specs.Config.{looks_at}
 use Rattle.ld_machine.specs.State.{State, Done, unchanged, only_state, with_sequencer, sequencer_of}
 use Rattle.ld_machine.specs.Step as step
 use Rattle.ld_clients.specs.declared.client.Client.{Client}
@@ -72,12 +73,12 @@ module _ (c : Config) (s : State) (ks : List (List ℕ × Client)) (a : AreSeque
 
     pub retry_nobody : (told : Register → Type 0) → find_named name ks ≡ None → told s.register → o.lines.items ≡ [] → o.sends ≡ [] → IsActed s ks o told (step.happens c s (events.Retry name))
     unfolding step.happens
-    retry_nobody told e t ls ms = nobody name (λ q. step.acted c s name q (on_retry q)) o told e t ls ms
+    retry_nobody told e t ls ms = nobody name (λ q. step.acted c s name q (on_retry (looks_at c s.register q.log) q)) o told e t ls ms
 
     pub retry_somebody : (told : Register → Type 0) (k g : Client) (gs : List (List ℕ × Client)) → find_named name ks ≡ Some k → gs ≡ put_named name g ks
-        → HasActed s name g o told (step.on_live s (Some (shown k)) (λ q. step.acted c s name q (on_retry q))) → IsActed s gs o told (step.happens c s (events.Retry name))
+        → HasActed s name g o told (step.on_live s (Some (shown k)) (λ q. step.acted c s name q (on_retry (looks_at c s.register q.log) q))) → IsActed s gs o told (step.happens c s (events.Retry name))
     unfolding step.happens
-    retry_somebody told k g gs e q h = somebody name (λ q. step.acted c s name q (on_retry q)) o told k g gs e q h
+    retry_somebody told k g gs e q h = somebody name (λ q. step.acted c s name q (on_retry (looks_at c s.register q.log) q)) o told k g gs e q h
 
     pub drop_nobody : find_named name ks ≡ None → o.lines.items ≡ [] → o.sends ≡ [] → IsActed s ks o (Stays s) (step.happens c s (events.Drop name))
     unfolding step.happens

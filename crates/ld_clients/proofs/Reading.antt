@@ -56,7 +56,7 @@ fits w r (bodies.Release n) h = absurd h.0.1
 fits w r (bodies.Trim t) h = absurd h.0.1
 fits w r (bodies.ReadAsk round n) h = absurd h.1
 fits w r (bodies.ReadPage round n upto c es) h = here w h.0.0
-fits w r (bodies.ReadEnded round n end) h = here w h.0.0
+fits w r (bodies.ReadEnded round n end loss) h = here w h.0.0
 fits w r (bodies.ReadTrim round n t) h = here w h.0.0
 fits w r (bodies.ReadWait round n x) h = here w h.0.0
 

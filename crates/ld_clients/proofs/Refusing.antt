@@ -12,6 +12,7 @@ register_line name registers.Failed n = refl
 register_line name (registers.Damaged place) n = refl
 register_line name registers.LogLimit n = refl
 register_line name (registers.Behind lce next) n = refl
+register_line name (registers.Overtaken epoch) n = refl
 register_line name registers.EpochLimit n = absurd (n refl)
 register_line name registers.GenLimit n = refl
 register_line name registers.Full n = refl

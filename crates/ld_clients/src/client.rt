@@ -4,6 +4,7 @@ ghost use Rattle.ld_config.specs.declared.config.Config.{Config as Contents};
 ghost use Rattle.ld_msg.specs.Bounds.{IsMessage};
 ghost use Rattle.ld_msg.specs.Register.{is_crowded};
 ghost use Rattle.ld_msg.specs.Sequencer.{appending, on_retry};
+ghost use Rattle.ld_machine.specs.Config.{looks_at};
 ghost use Rattle.ld_machine.specs.State.{State};
 ghost use Rattle.ld_machine.specs.Step.{on_live, append_done, trim_done, acted, to_live};
 ghost use Rattle.ld_clients.specs.Acting.{IsNamed, HasActed, Stays};
@@ -104,7 +105,8 @@ impl Client {
         }
     }
 
-    /// Sends again what is still wanted. After want of memory it is of no use.
+    /// Sends again what is still wanted, looks again where no look succeeded at an epoch whose nodes have told all that they
+    /// can, and tries its close again. After want of memory it is of no use.
     pub(crate) fn retry<G: Register>(
         &mut self,
         alloc: Global,
@@ -115,7 +117,7 @@ impl Client {
         ensures done { IfOk result (λ outcome. (c : Contents) (s : State) → IsNamed c s name.now self.old
             → G.tells reg.old s.register → is_crowded s.register self.old.sequencer.sequencer.log ≡ false
             → HasActed s name.now self.new outcome (G.tells reg.new)
-            (on_live s (Some (shown self.old)) (λ q. acted c s name.now q (on_retry q)))) }
+            (on_live s (Some (shown self.old)) (λ q. acted c s name.now q (on_retry (looks_at c s.register q.log) q)))) }
         ensures goes_on { OnOk result (GoesOn self.old self.new) }
     {
         if self.dropped {

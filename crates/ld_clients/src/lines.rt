@@ -41,6 +41,7 @@ fn given_line(alloc: Global, name: &Name, given: &Given) -> Result<Line, NoMemor
         Item::Hole => Ok(gap(name, GapKind::Hole, from, from)),
         Item::Bridge(last) => Ok(gap(name, GapKind::Bridge, from, *last)),
         Item::Loss => Ok(gap(name, GapKind::DataLoss, from, from)),
+        Item::LossTo(last) => Ok(gap(name, GapKind::DataLoss, from, *last)),
     }
 }
 

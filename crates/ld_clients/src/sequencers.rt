@@ -153,8 +153,8 @@ impl Sequencers {
         client.trim(alloc, name, point)
     }
 
-    /// The sequencer of the name sends again what is still wanted, and tries its close again. One that isn't there or was
-    /// dropped does nothing.
+    /// The sequencer of the name sends again what is still wanted, looks again where no look succeeded at an epoch whose nodes
+    /// have told all that they can, and tries its close again. One that isn't there or was dropped does nothing.
     pub fn retry<G: Register>(
         &mut self,
         alloc: Global,

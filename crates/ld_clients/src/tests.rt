@@ -338,22 +338,40 @@ fn polls<G: Register>(
     shows(alloc, &outcome, b"", sends)
 }
 
-// A node trimmed all up to the place 9 of epoch 1, and tells the first reader.
-fn trimmed() -> Result<Msg, NoMemory>
+// What a node says of the first place of epoch 1: all up to the place 9 is trimmed, or the epoch ends there, and what follows
+// is lost or isn't.
+#[derive(Clone, Copy)]
+enum Says {
+    Trimmed,
+    Ended { loss: bool },
+}
+
+// The first node says so to the first reader.
+fn said(says: Says) -> Result<Msg, NoMemory>
     ensures message { IfOk result IsMessage }
     ensures to { IfOk result (λ msg. msg.to ≡ OfReader 0) }
 {
     if let (Some(log), Some(node)) = (LogId::new(7), NodeId::new(1)) {
         let _ = (log.number(), node.number());
+        let from = Lsn::new(1, 1);
+        let body = match says {
+            Says::Trimmed => Body::ReadTrim {
+                round: 1,
+                from,
+                trim: Lsn::new(1, 9),
+            },
+            Says::Ended { loss } => Body::ReadEnded {
+                round: 1,
+                from,
+                end: from,
+                loss,
+            },
+        };
         return Ok(Msg {
             from: Who::Node(node),
             to: Who::Reader(0),
             log,
-            body: Body::ReadTrim {
-                round: 1,
-                from: Lsn::new(1, 1),
-                trim: Lsn::new(1, 9),
-            },
+            body,
         });
     }
     Err(NoMemory)
@@ -363,11 +381,19 @@ fn reads<G: Register>(
     alloc: Global,
     readers: &mut Readers,
     reg: &mut G,
+    says: Says,
     lines: &[u8],
 ) -> Result<bool, NoMemory> {
-    let outcome = read(alloc, readers, &trimmed()?, reg)?;
+    let outcome = read(alloc, readers, &said(says)?, reg)?;
     shows(alloc, &outcome, lines, b"")
 }
+
+// What a node says, and the lines of a reader of the places 1 to 4 then.
+const GAPS: &[(Says, &[u8])] = &[
+    (Says::Trimmed, b"gap d trim e1n1 e1n4\n"),
+    (Says::Ended { loss: false }, b"gap d bridge e1n1 e1n4\n"),
+    (Says::Ended { loss: true }, b"gap d dataloss e1n1 e1n4\n"),
+];
 
 // On how many nodes a record of the log is stored, 0 where the log is none of the configuration's.
 fn factor(alloc: Global, number: u32) -> Result<u8, NoMemory> {
@@ -432,13 +458,15 @@ fn a_dropped_sequencer_does_nothing_more(rt: HostRuntime) -> Result<(), Fail> {
 #[test]
 fn a_gap_ends_at_the_last_number_that_is_wanted(rt: HostRuntime) -> Result<(), Fail> {
     let alloc = rt.alloc();
-    let mut readers = Readers::new(alloc);
-    let mut reg = new_register(alloc)?;
-    assert!(rt; opens(alloc, &mut readers)?);
-    assert!(rt; polls(alloc, &mut readers, &mut reg, b"a1a2a3")?);
-    assert!(rt; reads(alloc, &mut readers, &mut reg, b"gap d trim e1n1 e1n4\n")?);
-    // it is finished
-    assert!(rt; polls(alloc, &mut readers, &mut reg, b"")?);
+    for (says, lines) in GAPS {
+        let mut readers = Readers::new(alloc);
+        let mut reg = new_register(alloc)?;
+        assert!(rt; opens(alloc, &mut readers)?);
+        assert!(rt; polls(alloc, &mut readers, &mut reg, b"a1a2a3")?);
+        assert!(rt; reads(alloc, &mut readers, &mut reg, *says, lines)?);
+        // it is finished
+        assert!(rt; polls(alloc, &mut readers, &mut reg, b"")?);
+    }
     Ok(())
 }
 

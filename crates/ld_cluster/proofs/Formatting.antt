@@ -14,7 +14,7 @@ use Rattle.ld_schedule.specs.declared.event.Event.TheVariants as events
 use Rattle.ld_transcript.specs.declared.line.Line.{Line}
 use Rattle.ld_transcript.specs.declared.line.Line.TheVariants as lines
 use Rattle.ld_msg.specs.declared.msg.Msg.{Msg}
-use Rattle.ld_msg.specs.Register.{Register, Changed, Answer, Granted, AtLimit, Behind, Fails, draw, change, made, unmade, is_made, falls, generation_of, generation_limit, epochs_in, Epochs, no_epochs, journal_limit, record_length}
+use Rattle.ld_msg.specs.Register.{Register, Changed, Answer, Granted, AtLimit, Behind, Overtaken, Fails, draw, change, made, unmade, is_made, falls, generation_of, generation_limit, epochs_in, Epochs, no_epochs, journal_limit, record_length}
 use Rattle.ld_op.specs.declared.op.Op.{Op}
 use Rattle.ld_op.specs.declared.op.Op.TheVariants as ops
 use Rattle.ld_machine.specs.Config.{has_node}
@@ -79,6 +79,7 @@ granted_is : (a : Answer) (full : Bool) (given d : Drawn) → ended a full fault
 granted_is Granted full given d h = (refl, cc)
 granted_is AtLimit full given d h = absurd cc
 granted_is (Behind l) full given d h = absurd cc
+granted_is (Overtaken k) full given d h = absurd cc
 granted_is Fails true given d h = absurd cc
 granted_is Fails false given d h = absurd cc
 

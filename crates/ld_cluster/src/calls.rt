@@ -60,7 +60,7 @@ impl Cluster {
         Ok(outcome)
     }
 
-    /// A sequencer asks and sends again.
+    /// A sequencer asks and sends again, and where its digest is spent it looks at the register again.
     pub(crate) fn retry(&mut self, alloc: Global, name: &Name) -> Result<Outcome, NoMemory>
         requires reached { IsReached self.old }
         ensures same { OnErr result (IsSame self.old self.new) }

@@ -5,7 +5,7 @@ use Rattle.ld_msg.specs.declared.msg.Entry.{Entry}
 use Rattle.ld_ids.specs.declared.set.Spec.{Spec}
 use Rattle.ld_msg.specs.Digest.{Told, is_bridge}
 
--- what the nodes of a log have told of an epoch
+-- what the nodes of an epoch's set have told of the epoch
 pub record Gathering : Type 0 where
   pub spec : Spec
   pub epoch : ℕ

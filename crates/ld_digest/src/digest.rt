@@ -1,17 +1,22 @@
 // A digest.
-ghost use Rattle.std.specs.Prelude.{◌≡◌, ◌<◌, ◌-◌, ◌^◌, IfSome, IfNone, IfOk, OnOk, OnErr, false, length, map, slice_get, option_copied, Option};
+ghost use Rattle.std.specs.Prelude.{◌≡◌, ◌<◌, ◌-◌, ◌^◌, ◌&&◌, ℕ, List, IfSome, IfNone, IfOk, OnOk, OnErr, false, length, map, slice_get, option_copied, Option};
 ghost use Rattle.ld_table.specs.Words.{is_in};
 ghost use Rattle.ld_lsn.specs.Number.{last_esn};
-ghost use Rattle.ld_msg.specs.Digest.{no_digest, with_page, with_asks, with_lost, asked_anew, enough, digest_lng, Told};
+ghost use Rattle.ld_msg.specs.declared.msg.Entry.{Entry};
+ghost use Rattle.ld_msg.specs.Sequencer.{takes_any};
+ghost use Rattle.ld_msg.specs.Digest.{no_digest, with_page, with_asks, with_lost, asked_anew, enough, is_spent, digest_lng, Told};
 ghost use Rattle.ld_digest.specs.Added.{IsAdded};
 ghost use Rattle.ld_digest.specs.Gathering.{with_told, nodes_told, IsNodeAt, AreInPlace, IsInPlace};
 
+use crate::count::Count;
+use crate::told::reaches_end;
 use crate::{Added, Page, Told};
 use ld_ids::{NoMemory, NodeId, Spec};
+use ld_lsn::Lsn;
 use std::alloc::Global;
 use std::marker::Model;
 
-/// What the nodes of a log have told of an epoch, each node once, in rising order.
+/// What the nodes of an epoch's set have told of the epoch, each node once, in rising order.
 #[derive(Drop)]
 pub struct Digest {
     spec: Spec,
@@ -32,7 +37,7 @@ impl Model for Digest {
 }
 
 impl Digest {
-    /// Of each node of the log nothing.
+    /// Of each node of the epoch's set nothing.
     pub fn new(alloc: Global, spec: &Spec, epoch: u32) -> Result<Digest, NoMemory>
         ensures spec { IfOk result (λ digest. digest.spec ≡ spec.now) }
         ensures epoch { IfOk result (λ digest. digest.epoch ≡ epoch) }
@@ -52,7 +57,7 @@ impl Digest {
         })
     }
 
-    /// What is said of the log.
+    /// What is fixed for the epoch.
     pub fn spec(&self) -> &Spec
         ensures { result.now ≡ self.now.spec }
     {
@@ -147,6 +152,45 @@ impl Digest {
             }
         }
         self.spec.set.len() < usize::from(self.spec.r) + whole
+    }
+
+    /// Whether no node is left that may still tell, and those that told aren't enough: each is whole or has said that it is
+    /// lost.
+    #[tactic(auto, unfolding(ld_msg::specs::Digest::is_spent))]
+    pub fn spent(&self) -> bool
+        ensures { result ≡ is_spent self.now.spec self.now.told }
+    {
+        let mut each = true;
+        for told in &self.told {
+            each = each && (told.is_whole() || told.is_lost());
+        }
+        each && !self.enough()
+    }
+
+    /// Whether a page of the node from a number up to another would be taken, and leaves the digest spent.
+    pub fn spent_by_page(&self, node: NodeId, from: Lsn, upto: Lsn) -> bool
+        ensures { (trim lng : ℕ) (entries : List Entry) → result ≡ (takes_any node from self.now.told && is_spent self.now.spec (with_page self.now.epoch node from upto trim lng entries self.now.told)) }
+    {
+        let ends = reaches_end(self.epoch, upto);
+        let mut taken = false;
+        let mut count = Count::none();
+        for told in &self.told {
+            let takes = told.takes_of(node, from);
+            taken = taken || takes;
+            count.add(if takes { ends } else { told.is_whole() }, told.is_lost());
+        }
+        taken && count.spent(&self.spec)
+    }
+
+    /// Whether word of the node that it is lost leaves the digest spent.
+    pub fn spent_by_loss(&self, node: NodeId) -> bool
+        ensures { result ≡ is_spent self.now.spec (with_lost node self.now.told) }
+    {
+        let mut count = Count::none();
+        for told in &self.told {
+            count.add(told.is_whole(), told.is_lost() || told.node() == node);
+        }
+        count.spent(&self.spec)
     }
 }
 

@@ -1,7 +1,8 @@
-//! What the nodes of a log tell of an epoch before it is closed.
+//! What the nodes of an epoch tell of it before it is closed.
 #![tactic(auto)]
 
 mod added;
+mod count;
 mod digest;
 #[cfg(test)]
 mod tests;

@@ -89,3 +89,35 @@ fn nodes_are_asked_on_past_what_is_known_good(rt: HostRuntime) -> Result<(), Fai
     assert_eq!(rt; adds(alloc, &mut digest, one, 101, LAST, 0)?, 1);
     Ok(())
 }
+
+#[test]
+fn a_digest_is_spent_once_no_node_may_tell_more(rt: HostRuntime) -> Result<(), Fail> {
+    let alloc = rt.alloc();
+    let log = LogId::new(1).expect(&rt, "a log");
+    let mut digest = Digest::new(alloc, &five_nodes(log), 1)?;
+    assert_eq!(rt;
+        adds(
+            alloc,
+            &mut digest,
+            NodeId::new(1).expect(&rt, "a node"),
+            1,
+            LAST,
+            0
+        )?,
+        1
+    );
+    'lost: for number in [2, 3, 4] {
+        digest.lost(NodeId::new(number).expect(&rt, "a node"));
+        assert!(rt; !digest.spent());
+    }
+    let five = NodeId::new(5).expect(&rt, "a node");
+    assert!(rt; digest.spent_by_loss(five));
+    // a page that isn't its last one leaves it to be asked, and one that isn't its next one is ignored
+    assert!(rt; !digest.spent_by_page(five, Lsn::new(1, 1), Lsn::new(1, 64)));
+    assert!(rt; !digest.spent_by_page(five, Lsn::new(1, 2), Lsn::new(1, LAST)));
+    assert!(rt; digest.spent_by_page(five, Lsn::new(1, 1), Lsn::new(1, LAST)));
+    assert_eq!(rt; adds(alloc, &mut digest, five, 1, LAST, 0)?, 1);
+    assert!(rt; digest.spent());
+    assert!(rt; !digest.enough());
+    Ok(())
+}

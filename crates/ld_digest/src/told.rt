@@ -1,6 +1,6 @@
 // What one node has told.
-ghost use Rattle.std.specs.Prelude.{◌≡◌, ◌<◌, ◌-◌, ◌^◌, IfOk, OnOk, OnErr};
-ghost use Rattle.ld_lsn.specs.Number.{last_esn};
+ghost use Rattle.std.specs.Prelude.{◌≡◌, ◌<◌, ◌-◌, ◌^◌, nat_le, IfOk, OnOk, OnErr};
+ghost use Rattle.ld_lsn.specs.Number.{numbered, last_esn};
 ghost use Rattle.ld_msg.specs.Digest.{told_nothing, told_page, takes_page, asked_anew, told_lost};
 ghost use Rattle.ld_digest.specs.Added.{page_added, IsAnswer};
 
@@ -13,6 +13,13 @@ use std::marker::Model;
 
 // The greatest place of an epoch.
 const LAST_ESN: u32 = u32::MAX;
+
+/// Whether a page up to this number reaches the end of the epoch.
+pub(crate) fn reaches_end(epoch: u32, upto: Lsn) -> bool
+    ensures { result ≡ nat_le (numbered epoch last_esn) upto }
+{
+    Lsn::new(epoch, LAST_ESN) <= upto
+}
 
 /// What one node has told: the number that it was asked from last, the entries, the trim and the
 /// last known good place of its pages, whether they reach the epoch's end, and whether it then said that it is lost.
@@ -115,6 +122,13 @@ impl Told {
         self.asked == from && !self.whole
     }
 
+    /// Whether it is of this node, and a page from this number on is the node's next one.
+    pub fn takes_of(&self, node: NodeId, from: Lsn) -> bool
+        ensures { result ≡ takes_page node from self.now }
+    {
+        self.node == node && self.takes(from)
+    }
+
     // Takes the page, and is asked on past it and past what is known good. Without memory nothing changes.
     fn take(&mut self, alloc: Global, epoch: u32, good: u32, page: &Page) -> Result<(), NoMemory>
         requires upto { page.now.upto < 2 ^ 64 - 1 }
@@ -130,7 +144,7 @@ impl Told {
         }
         self.trim = self.trim.max(page.trim);
         self.lng = self.lng.max(page.lng);
-        self.whole = Lsn::new(epoch, LAST_ESN) <= page.upto;
+        self.whole = reaches_end(epoch, page.upto);
         Ok(())
     }
 

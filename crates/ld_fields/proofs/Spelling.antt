@@ -1,5 +1,5 @@
 -- The bytes of an entry, a summary or a log are read as that.
-use Rattle.std.proofs.Common.{◌≡◌, ◌<◌, ◌≤◌, ◌+◌, ◌^◌, ◌&&◌, ℕ, suc, Bool, true, cond, List, [], ◌∷◌, ◌++◌, refl, ap, sym, ◌∙◌, subst, append_assoc, take, drop, length, nat_le, arith, length-append, length-drop}
+use Rattle.std.proofs.Common.{◌≡◌, ◌<◌, ◌≤◌, ◌+◌, ◌^◌, ◌&&◌, ℕ, suc, Bool, true, false, cond, List, [], ◌∷◌, ◌++◌, refl, ap, sym, ◌∙◌, subst, append_assoc, take, drop, length, nat_le, arith, length-append, length-drop}
 use Rattle.std.proofs.lemmas.Bool.Decides.{nat_tests}
 use Rattle.std.proofs.lemmas.Grind.{common_steps}
 use Rattle.std.proofs.lemmas.List.{append-nil}
@@ -8,12 +8,12 @@ use Rattle.byteorder.specs.Numbers.{big_number-reads_back, length-bytes_high_fir
 use Rattle.ld_lsn.specs.Number.{epoch_of, esn_of}
 use Rattle.ld_ids.specs.Id.{IsLog}
 use Rattle.ld_msg.specs.declared.msg.What.{What}
-use Rattle.ld_msg.specs.declared.msg.What.TheVariants.{Rec, Hole, Bridge}
+use Rattle.ld_msg.specs.declared.msg.What.TheVariants.{Rec, Hole, Bridge, Plug}
 use Rattle.ld_msg.specs.declared.msg.Entry.{Entry}
 use Rattle.ld_msg.specs.declared.msg.Summary.{Summary}
 use Rattle.ld_msg.specs.Bounds.{IsLng, IsEpoch, IsEntry, IsSummary, IsShort, AreEntries, RiseWithin, last_place}
 use Rattle.ld_fields.specs.Fields.{Read, Got, Off, follow, check, field, within}
-use Rattle.ld_fields.specs.Items.{what_bytes, entry_bytes, entries_bytes, summary_bytes, greatest_epoch, greatest_lng, is_number, is_tag, payload, tagged, read_entry, read_entries, read_summary, read_log}
+use Rattle.ld_fields.specs.Items.{what_bytes, entry_bytes, entries_bytes, older_summary_bytes, summary_bytes, flag, greatest_epoch, greatest_lng, is_number, is_tag, may_stand, payload, tagged, read_entry, read_entries, read_older_summary, read_flag, with_loss, read_summary, read_log}
 use Rattle.ld_fields.proofs.There.{field_got}
 
 -- from a place on the bytes are these
@@ -81,16 +81,19 @@ abbrev pub tag_of : What → ℕ
 tag_of (Rec p) = 0
 tag_of Hole = 1
 tag_of Bridge = 2
+tag_of Plug = 3
 
 abbrev pub after_tag : What → List ℕ
 after_tag (Rec p) = big_bytes 2 (length p) ++ p
 after_tag Hole = []
 after_tag Bridge = []
+after_tag Plug = []
 
 pub what_is : (w : What) (ys : List ℕ) → what_bytes w ++ ys ≡ big_bytes 1 (tag_of w) ++ (after_tag w ++ ys)
 what_is (Rec p) ys = append_assoc (big_bytes 1 0) (big_bytes 2 (length p) ++ p) ys
 what_is Hole ys = refl
 what_is Bridge ys = refl
+what_is Plug ys = refl
 
 pub taken : (xs ys : List ℕ) → take (length xs) (xs ++ ys) ≡ xs
 taken [] ys = refl
@@ -105,6 +108,7 @@ tagged_reads bs at (Rec p) ys h s = follow_reads bs (field 2 bs at) (payload bs 
     (field_reads 1 (length p) bs at (p ++ ys) (omega arith) (stands_as bs at _ _ (append_assoc (big_bytes 2 (length p)) p ys) s)) (λ next t. payload_reads bs at next p ys t)
 tagged_reads bs at Hole ys h s = got_reads bs Hole at ys s
 tagged_reads bs at Bridge ys h s = got_reads bs Bridge at ys s
+tagged_reads bs at Plug ys h s = got_reads bs Plug at ys s
 
 pub number_fits : (n : ℕ) → IsEpoch (epoch_of n) → n < 256 ^ 8
 number_fits n h = let a = h.1 in omega arith
@@ -122,64 +126,81 @@ pub tag_passes : (n : ℕ) (w : What) → esn_of n ≤ last_place w → is_tag n
 tag_passes n (Rec p) h = grind (arith, nat_tests)
 tag_passes n Hole h = grind (arith, nat_tests)
 tag_passes n Bridge h = grind (arith, nat_tests)
+tag_passes n Plug h = grind (arith, nat_tests)
 
-top_passes : (n top : ℕ) (w : What) → esn_of n ≤ last_place w → tag_of w ≤ top → (is_tag n (tag_of w) && nat_le (tag_of w) top) ≡ true
-top_passes n top w h l = let e = tag_passes n w h in grind (arith, nat_tests)
+stands_passes : (n : ℕ) (bridges : Bool) (w : What) → esn_of n ≤ last_place w → may_stand bridges (tag_of w) ≡ true → (is_tag n (tag_of w) && may_stand bridges (tag_of w)) ≡ true
+stands_passes n bridges w h l = let e = tag_passes n w h in grind (arith, nat_tests)
 
 pub tag_fits : (w : What) → tag_of w < 256 ^ 1
 tag_fits (Rec p) = omega arith
 tag_fits Hole = omega arith
 tag_fits Bridge = omega arith
+tag_fits Plug = omega arith
 
 entry_is : (e : Entry) (ys : List ℕ) → entry_bytes e ++ ys ≡ big_bytes 8 e.number ++ (big_bytes 4 e.ballot ++ (big_bytes 1 (tag_of e.what) ++ (after_tag e.what ++ ys)))
 entry_is e ys = append_assoc (big_bytes 8 e.number) (big_bytes 4 e.ballot ++ what_bytes e.what) ys
     ∙ ap (λ r. big_bytes 8 e.number ++ r) (append_assoc (big_bytes 4 e.ballot) (what_bytes e.what) ys ∙ ap (λ r. big_bytes 4 e.ballot ++ r) (what_is e.what ys))
 
-pub entry_reads : (bs : List ℕ) (top most least at : ℕ) (e : Entry) (ys : List ℕ) → IsEntry e → tag_of e.what ≤ top → least ≤ e.number → e.number ≤ most → Stands bs at (entry_bytes e ++ ys) → Reads bs (read_entry bs top most least at) e ys
+pub entry_reads : (bs : List ℕ) (bridges : Bool) (most least at : ℕ) (e : Entry) (ys : List ℕ) → IsEntry e → may_stand bridges (tag_of e.what) ≡ true → least ≤ e.number → e.number ≤ most → Stands bs at (entry_bytes e ++ ys) → Reads bs (read_entry bs bridges most least at) e ys
 unfolding read_entry
-entry_reads bs top most least at e ys i o l m s = follow_reads bs (field 8 bs at) _ e.number e _ ys (field_reads 7 e.number bs at _ (number_fits e.number i.epoch) (stands_as bs at _ _ (entry_is e ys) s)) (λ at_ballot t.
+entry_reads bs bridges most least at e ys i o l m s = follow_reads bs (field 8 bs at) _ e.number e _ ys (field_reads 7 e.number bs at _ (number_fits e.number i.epoch) (stands_as bs at _ _ (entry_is e ys) s)) (λ at_ballot t.
     check_reads bs _ at _ e ys (number_passes e.number least most i.epoch i.from_one l m)
     (follow_reads bs (field 4 bs at_ballot) _ e.ballot e _ ys (field_reads 3 e.ballot bs at_ballot _ (let b = i.ballot_most in omega arith) t) (λ at_tag u.
     check_reads bs _ at_ballot _ e ys (ballot_passes (epoch_of e.number) e.ballot i.ballot i.ballot_most)
     (follow_reads bs (field 1 bs at_tag) _ (tag_of e.what) e _ ys (field_reads 0 (tag_of e.what) bs at_tag _ (tag_fits e.what) u) (λ at_what v.
-    check_reads bs _ at_tag _ e ys (top_passes e.number top e.what i.place o)
+    check_reads bs _ at_tag _ e ys (stands_passes e.number bridges e.what i.place o)
     (follow_reads bs (tagged bs at_what (tag_of e.what)) _ e.what e _ ys (tagged_reads bs at_what e.what ys i.short v) (λ next z. got_reads bs e next ys z)))))))
 
--- no tag is above the top
-abbrev pub TagsTo : ℕ → List Entry → Type 0
-TagsTo top [] = Unit {0}
-TagsTo top (e ∷ es) = (tag_of e.what ≤ top) × TagsTo top es
+-- bridges stand only where they may
+abbrev pub MayStand : Bool → List Entry → Type 0
+MayStand bridges [] = Unit {0}
+MayStand bridges (e ∷ es) = (may_stand bridges (tag_of e.what) ≡ true) × MayStand bridges es
 
-pub tag_two : (w : What) → tag_of w ≤ 2
-tag_two (Rec p) = omega arith
-tag_two Hole = omega arith
-tag_two Bridge = omega arith
+pub tag_three : (w : What) → tag_of w ≤ 3
+tag_three (Rec p) = omega arith
+tag_three Hole = omega arith
+tag_three Bridge = omega arith
+tag_three Plug = omega arith
 
-pub any_tags : (es : List Entry) → TagsTo 2 es
-any_tags [] = tt
-any_tags (e ∷ es) = (tag_two e.what, any_tags es)
+pub all_stand : (es : List Entry) → MayStand true es
+all_stand [] = tt
+all_stand (e ∷ es) = (refl, all_stand es)
 
-pub entries_reads : (bs : List ℕ) (top most : ℕ) (es : List Entry) (least at : ℕ) (ys : List ℕ) → AreEntries es → TagsTo top es → RiseWithin least most es → Stands bs at (entries_bytes es ++ ys) → Reads bs (read_entries bs top most (length es) least at) es ys
+pub entries_reads : (bs : List ℕ) (bridges : Bool) (most : ℕ) (es : List Entry) (least at : ℕ) (ys : List ℕ) → AreEntries es → MayStand bridges es → RiseWithin least most es → Stands bs at (entries_bytes es ++ ys) → Reads bs (read_entries bs bridges most (length es) least at) es ys
 unfolding read_entries
-entries_reads bs top most [] least at ys a o r s = got_reads bs [] at ys s
-entries_reads bs top most (e ∷ es) least at ys a o r s = follow_reads bs (read_entry bs top most least at) _ e (e ∷ es) _ ys (entry_reads bs top most least at e (entries_bytes es ++ ys) a.0 o.0 r.0 r.1 (stands_as bs at _ _ (append_assoc (entry_bytes e) (entries_bytes es) ys) s)) (λ next t.
-    follow_reads bs (read_entries bs top most (length es) (e.number + 1) next) _ es (e ∷ es) _ ys (entries_reads bs top most es (e.number + 1) next ys a.1 o.1 r.2 t) (λ last u. got_reads bs (e ∷ es) last ys u))
+entries_reads bs bridges most [] least at ys a o r s = got_reads bs [] at ys s
+entries_reads bs bridges most (e ∷ es) least at ys a o r s = follow_reads bs (read_entry bs bridges most least at) _ e (e ∷ es) _ ys (entry_reads bs bridges most least at e (entries_bytes es ++ ys) a.0 o.0 r.0 r.1 (stands_as bs at _ _ (append_assoc (entry_bytes e) (entries_bytes es) ys) s)) (λ next t.
+    follow_reads bs (read_entries bs bridges most (length es) (e.number + 1) next) _ es (e ∷ es) _ ys (entries_reads bs bridges most es (e.number + 1) next ys a.1 o.1 r.2 t) (λ last u. got_reads bs (e ∷ es) last ys u))
 
 -- ---- summaries and logs ----
 
-summary_is : (y : Summary) (ys : List ℕ) → summary_bytes y ++ ys ≡ big_bytes 4 y.ballot ++ (big_bytes 4 y.lng ++ (big_bytes 8 y.trim ++ (big_bytes 4 y.end ++ ys)))
-summary_is y ys = append_assoc (big_bytes 4 y.ballot) (big_bytes 4 y.lng ++ (big_bytes 8 y.trim ++ big_bytes 4 y.end)) ys
+older_is : (y : Summary) (ys : List ℕ) → older_summary_bytes y ++ ys ≡ big_bytes 4 y.ballot ++ (big_bytes 4 y.lng ++ (big_bytes 8 y.trim ++ (big_bytes 4 y.end ++ ys)))
+older_is y ys = append_assoc (big_bytes 4 y.ballot) (big_bytes 4 y.lng ++ (big_bytes 8 y.trim ++ big_bytes 4 y.end)) ys
     ∙ ap (λ r. big_bytes 4 y.ballot ++ r) (append_assoc (big_bytes 4 y.lng) (big_bytes 8 y.trim ++ big_bytes 4 y.end) ys ∙ ap (λ r. big_bytes 4 y.lng ++ r) (append_assoc (big_bytes 8 y.trim) (big_bytes 4 y.end) ys))
+
+-- what stands of a summary in its older form
+abbrev pub unlost : Summary → Summary
+unlost y = with_loss y false
+
+pub older_reads : (bs : List ℕ) (epoch at : ℕ) (y : Summary) (ys : List ℕ) → IsSummary epoch y → Stands bs at (older_summary_bytes y ++ ys) → Reads bs (read_older_summary bs epoch at) (unlost y) ys
+unfolding read_older_summary
+older_reads bs epoch at y ys i s = follow_reads bs (field 4 bs at) _ y.ballot (unlost y) _ ys (field_reads 3 y.ballot bs at _ (let b = i.ballot_most in omega arith) (stands_as bs at _ _ (older_is y ys) s)) (λ at_lng t.
+    check_reads bs _ at _ (unlost y) ys (ballot_passes (epoch + 1) y.ballot (let b = i.ballot in omega arith) i.ballot_most)
+    (follow_reads bs (field 4 bs at_lng) _ y.lng (unlost y) _ ys (field_reads 3 y.lng bs at_lng _ (let b = i.lng in omega arith) t) (λ at_trim u.
+    check_reads bs _ at_lng _ (unlost y) ys (lng_passes y.lng i.lng)
+    (follow_reads bs (field 8 bs at_trim) _ y.trim (unlost y) _ ys (field_reads 7 y.trim bs at_trim _ (let b = i.trim in omega arith) u) (λ at_end v.
+    follow_reads bs (field 4 bs at_end) _ y.end (unlost y) _ ys (field_reads 3 y.end bs at_end _ (let b = i.end_most in omega arith) v) (λ next z.
+    check_reads bs _ at_end _ (unlost y) ys (let b = i.end in grind (arith, nat_tests)) (got_reads bs (unlost y) next ys z)))))))
+
+pub flag_reads : (bs : List ℕ) (at : ℕ) (b : Bool) (ys : List ℕ) → Stands bs at (big_bytes 1 (flag b) ++ ys) → Reads bs (read_flag bs at) b ys
+flag_reads bs at true ys s = follow_reads bs (field 1 bs at) _ 1 true ys ys (field_reads 0 1 bs at ys (omega arith) s) (λ next t. check_reads bs true at _ true ys refl (got_reads bs true next ys t))
+flag_reads bs at false ys s = follow_reads bs (field 1 bs at) _ 0 false ys ys (field_reads 0 0 bs at ys (omega arith) s) (λ next t. check_reads bs true at _ false ys refl (got_reads bs false next ys t))
 
 pub summary_reads : (bs : List ℕ) (epoch at : ℕ) (y : Summary) (ys : List ℕ) → IsSummary epoch y → Stands bs at (summary_bytes y ++ ys) → Reads bs (read_summary bs epoch at) y ys
 unfolding read_summary
-summary_reads bs epoch at y ys i s = follow_reads bs (field 4 bs at) _ y.ballot y _ ys (field_reads 3 y.ballot bs at _ (let b = i.ballot_most in omega arith) (stands_as bs at _ _ (summary_is y ys) s)) (λ at_lng t.
-    check_reads bs _ at _ y ys (ballot_passes (epoch + 1) y.ballot (let b = i.ballot in omega arith) i.ballot_most)
-    (follow_reads bs (field 4 bs at_lng) _ y.lng y _ ys (field_reads 3 y.lng bs at_lng _ (let b = i.lng in omega arith) t) (λ at_trim u.
-    check_reads bs _ at_lng _ y ys (lng_passes y.lng i.lng)
-    (follow_reads bs (field 8 bs at_trim) _ y.trim y _ ys (field_reads 7 y.trim bs at_trim _ (let b = i.trim in omega arith) u) (λ at_end v.
-    follow_reads bs (field 4 bs at_end) _ y.end y _ ys (field_reads 3 y.end bs at_end _ (let b = i.end_most in omega arith) v) (λ next z.
-    check_reads bs _ at_end _ y ys (let b = i.end in grind (arith, nat_tests)) (got_reads bs y next ys z)))))))
+summary_reads bs epoch at y ys i s = follow_reads bs (read_older_summary bs epoch at) _ (unlost y) y _ ys
+    (older_reads bs epoch at y (big_bytes 1 (flag y.loss) ++ ys) i (stands_as bs at _ _ (append_assoc (older_summary_bytes y) (big_bytes 1 (flag y.loss)) ys) s))
+    (λ at_loss t. follow_reads bs (read_flag bs at_loss) _ y.loss y ys ys (flag_reads bs at_loss y.loss ys t) (λ next u. got_reads bs y next ys u))
 
 pub log_reads : (bs : List ℕ) (at l : ℕ) (ys : List ℕ) → IsLog l → Stands bs at (big_bytes 4 l ++ ys) → Reads bs (read_log bs at) l ys
 log_reads bs at l ys i s = follow_reads bs (field 4 bs at) _ l l ys ys (field_reads 3 l bs at ys (let b = i.1 in omega arith) s) (λ next t. check_reads bs _ at _ l ys (let a = i.0 in let b = i.1 in grind (arith, nat_tests)) (got_reads bs l next ys t))

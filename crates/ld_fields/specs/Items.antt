@@ -1,9 +1,9 @@
 -- Entries, summaries and logs as bytes, and how bytes are judged.
-use Rattle.std.specs.Prelude.{ℕ, ◌+◌, ◌-◌, ◌^◌, List, [], ◌∷◌, ◌++◌, length, take, drop, Bool, ◌&&◌, ◌||◌, ◌==◌, nat_lt, nat_le, zero, suc}
+use Rattle.std.specs.Prelude.{ℕ, ◌+◌, ◌-◌, ◌^◌, List, [], ◌∷◌, ◌++◌, length, take, drop, Bool, not, ◌&&◌, ◌||◌, ◌==◌, nat_lt, nat_le, if◌then◌else◌, false, zero, suc}
 use Rattle.byteorder.specs.Endian.{big_bytes}
 use Rattle.ld_lsn.specs.Number.{epoch_of, esn_of, last_esn}
 use Rattle.ld_msg.specs.declared.msg.What.{What}
-use Rattle.ld_msg.specs.declared.msg.What.TheVariants.{Rec, Hole, Bridge}
+use Rattle.ld_msg.specs.declared.msg.What.TheVariants.{Rec, Hole, Bridge, Plug}
 use Rattle.ld_msg.specs.declared.msg.Entry.{Entry}
 use Rattle.ld_msg.specs.declared.msg.Summary.{Summary}
 use Rattle.ld_fields.specs.Fields.{Read, Got, follow, check, field, within}
@@ -15,6 +15,7 @@ abbrev pub what_bytes : What → List ℕ
 what_bytes (Rec p) = big_bytes 1 0 ++ (big_bytes 2 (length p) ++ p)
 what_bytes Hole = big_bytes 1 1
 what_bytes Bridge = big_bytes 1 2
+what_bytes Plug = big_bytes 1 3
 
 abbrev pub entry_bytes : Entry → List ℕ
 entry_bytes e = big_bytes 8 e.number ++ (big_bytes 4 e.ballot ++ what_bytes e.what)
@@ -23,8 +24,15 @@ abbrev pub entries_bytes : List Entry → List ℕ
 entries_bytes [] = []
 entries_bytes (e ∷ es) = entry_bytes e ++ entries_bytes es
 
+-- a summary as the first version of frames and journals had it, which says nothing of a loss
+abbrev pub older_summary_bytes : Summary → List ℕ
+older_summary_bytes y = big_bytes 4 y.ballot ++ (big_bytes 4 y.lng ++ (big_bytes 8 y.trim ++ big_bytes 4 y.end))
+
+abbrev pub flag : Bool → ℕ
+flag b = if b then 1 else 0
+
 abbrev pub summary_bytes : Summary → List ℕ
-summary_bytes y = big_bytes 4 y.ballot ++ (big_bytes 4 y.lng ++ (big_bytes 8 y.trim ++ big_bytes 4 y.end))
+summary_bytes y = older_summary_bytes y ++ big_bytes 1 (flag y.loss)
 
 -- ---- how bytes are judged ----
 
@@ -40,7 +48,7 @@ abbrev pub is_number : ℕ → Bool
 is_number n = within 1 greatest_epoch (epoch_of n) && nat_le 1 (esn_of n)
 
 abbrev pub is_tag : ℕ → ℕ → Bool
-is_tag n tag = nat_le tag 2 && (nat_lt (esn_of n) last_esn || (tag == 2))
+is_tag n tag = nat_le tag 3 && (nat_lt (esn_of n) last_esn || (tag == 2))
 
 -- a payload that is longer than what is left is charged to its length
 abbrev pub payload : List ℕ → ℕ → ℕ → ℕ → Read What
@@ -49,29 +57,45 @@ payload bs at n next = check (nat_le (next + n) (length bs)) at (Got (Rec (take 
 abbrev pub tagged : List ℕ → ℕ → ℕ → Read What
 tagged bs at zero = follow (field 2 bs at) (payload bs at)
 tagged bs at (suc zero) = Got Hole at
-tagged bs at (suc (suc n)) = Got Bridge at
+tagged bs at (suc (suc zero)) = Got Bridge at
+tagged bs at (suc (suc (suc n))) = Got Plug at
 
--- an entry whose number lies between two others, and whose tag is at most the top
-unfoldable pub read_entry : List ℕ → ℕ → ℕ → ℕ → ℕ → Read Entry
-read_entry bs top most least at =
+-- a bridge stands only where bridges may
+abbrev pub may_stand : Bool → ℕ → Bool
+may_stand bridges tag = bridges || not (tag == 2)
+
+-- an entry whose number lies between two others, and which may be a bridge or not
+unfoldable pub read_entry : List ℕ → Bool → ℕ → ℕ → ℕ → Read Entry
+read_entry bs bridges most least at =
     follow (field 8 bs at) (λ number at_ballot. check (is_number number && within least most number) at (
     follow (field 4 bs at_ballot) (λ ballot at_tag. check (within (epoch_of number) greatest_epoch ballot) at_ballot (
-    follow (field 1 bs at_tag) (λ tag at_what. check (is_tag number tag && nat_le tag top) at_tag (
+    follow (field 1 bs at_tag) (λ tag at_what. check (is_tag number tag && may_stand bridges tag) at_tag (
     follow (tagged bs at_what tag) (λ what next. Got (record { number = number; ballot = ballot; what = what }) next)))))))
 
 -- so many entries, their numbers rising
-unfoldable pub read_entries : List ℕ → ℕ → ℕ → ℕ → ℕ → ℕ → Read (List Entry)
-read_entries bs top most zero least at = Got [] at
-read_entries bs top most (suc k) least at =
-    follow (read_entry bs top most least at) (λ e next. follow (read_entries bs top most k (e.number + 1) next) (λ es last. Got (e ∷ es) last))
+unfoldable pub read_entries : List ℕ → Bool → ℕ → ℕ → ℕ → ℕ → Read (List Entry)
+read_entries bs bridges most zero least at = Got [] at
+read_entries bs bridges most (suc k) least at =
+    follow (read_entry bs bridges most least at) (λ e next. follow (read_entries bs bridges most k (e.number + 1) next) (λ es last. Got (e ∷ es) last))
 
--- the summary of an epoch
-unfoldable pub read_summary : List ℕ → ℕ → ℕ → Read Summary
-read_summary bs epoch at =
+-- the summary of an epoch in its older form: nothing is lost there
+unfoldable pub read_older_summary : List ℕ → ℕ → ℕ → Read Summary
+read_older_summary bs epoch at =
     follow (field 4 bs at) (λ ballot at_lng. check (within (epoch + 1) greatest_epoch ballot) at (
     follow (field 4 bs at_lng) (λ lng at_trim. check (nat_le lng greatest_lng) at_lng (
     follow (field 8 bs at_trim) (λ trim at_end.
-    follow (field 4 bs at_end) (λ end next. check (nat_le 1 end) at_end (Got (record { ballot = ballot; lng = lng; trim = trim; end = end }) next)))))))
+    follow (field 4 bs at_end) (λ end next. check (nat_le 1 end) at_end (Got (record { ballot = ballot; lng = lng; trim = trim; end = end; loss = false }) next)))))))
+
+abbrev pub with_loss : Summary → Bool → Summary
+with_loss y loss = record { ballot = y.ballot; lng = y.lng; trim = y.trim; end = y.end; loss = loss }
+
+-- a byte that is 0 or 1
+abbrev pub read_flag : List ℕ → ℕ → Read Bool
+read_flag bs at = follow (field 1 bs at) (λ byte next. check (nat_le byte 1) at (Got (byte == 1) next))
+
+-- the summary of an epoch
+unfoldable pub read_summary : List ℕ → ℕ → ℕ → Read Summary
+read_summary bs epoch at = follow (read_older_summary bs epoch at) (λ y at_loss. follow (read_flag bs at_loss) (λ loss next. Got (with_loss y loss) next))
 
 -- a log
 abbrev pub read_log : List ℕ → ℕ → Read ℕ

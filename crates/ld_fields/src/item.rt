@@ -2,7 +2,7 @@
 ghost use Rattle.std.specs.Prelude.{◌≡◌, ◌≤◌, ◌+◌, true, length, IfOk, IfErr};
 ghost use Rattle.ld_fields.specs.Fields.{Got};
 ghost use Rattle.ld_fields.specs.Faults.{IsOff};
-ghost use Rattle.ld_fields.specs.Items.{is_number, is_tag, tagged, read_entry, read_summary, read_log};
+ghost use Rattle.ld_fields.specs.Items.{is_number, is_tag, may_stand, tagged, read_entry, read_older_summary, read_flag, read_summary, read_log};
 
 use crate::FieldFault;
 use crate::bounds::{GREATEST_EPOCH, GREATEST_LNG};
@@ -26,13 +26,17 @@ pub fn read_log(bytes: &[u8], at: usize) -> Result<(LogId, usize), FieldFault>
     }
 }
 
-/// The summary of the epoch at a place.
-#[tactic(auto, unfolding(crate::specs::Items::read_summary))]
-pub fn read_summary(bytes: &[u8], epoch: u32, at: usize) -> Result<(Summary, usize), FieldFault>
+/// The summary of the epoch at a place, in its older form, which says nothing of a loss.
+#[tactic(auto, unfolding(crate::specs::Items::read_older_summary))]
+pub fn read_older_summary(
+    bytes: &[u8],
+    epoch: u32,
+    at: usize,
+) -> Result<(Summary, usize), FieldFault>
     requires { at ≤ length bytes.now }
-    ensures ok { IfOk result (λ p. read_summary bytes.now epoch at ≡ Got p.0 p.1) }
+    ensures ok { IfOk result (λ p. read_older_summary bytes.now epoch at ≡ Got p.0 p.1) }
     ensures next { IfOk result (λ p. p.1 ≤ length bytes.now) }
-    ensures off { IfErr result (IsOff (read_summary bytes.now epoch at)) }
+    ensures off { IfErr result (IsOff (read_older_summary bytes.now epoch at)) }
 {
     let (ballot, at_lng) = read_u32(bytes, at)?;
     check(epoch < ballot && ballot <= GREATEST_EPOCH, at)?;
@@ -47,25 +51,51 @@ pub fn read_summary(bytes: &[u8], epoch: u32, at: usize) -> Result<(Summary, usi
             lng,
             trim,
             end,
+            loss: false,
         },
         next,
     ))
 }
 
-/// The entry at a place, its number between two others and its tag at most the top.
+/// The summary of the epoch at a place.
+#[tactic(auto, unfolding(crate::specs::Items::read_summary))]
+pub fn read_summary(bytes: &[u8], epoch: u32, at: usize) -> Result<(Summary, usize), FieldFault>
+    requires { at ≤ length bytes.now }
+    ensures ok { IfOk result (λ p. read_summary bytes.now epoch at ≡ Got p.0 p.1) }
+    ensures next { IfOk result (λ p. p.1 ≤ length bytes.now) }
+    ensures off { IfErr result (IsOff (read_summary bytes.now epoch at)) }
+{
+    let (summary, at_loss) = read_older_summary(bytes, epoch, at)?;
+    let (loss, next) = read_flag(bytes, at_loss)?;
+    Ok((Summary { loss, ..summary }, next))
+}
+
+/// The byte at a place, 1 for true and 0 for false.
+pub fn read_flag(bytes: &[u8], at: usize) -> Result<(bool, usize), FieldFault>
+    requires { at ≤ length bytes.now }
+    ensures ok { IfOk result (λ p. read_flag bytes.now at ≡ Got p.0 p.1) }
+    ensures next { IfOk result (λ p. p.1 ≤ length bytes.now) }
+    ensures off { IfErr result (IsOff (read_flag bytes.now at)) }
+{
+    let (byte, next) = read_u8(bytes, at)?;
+    check(byte <= 1, at)?;
+    Ok((byte == 1, next))
+}
+
+/// The entry at a place, its number between two others; a bridge only where one may stand there.
 #[tactic(auto, unfolding(crate::specs::Items::read_entry))]
 pub fn read_entry(
     alloc: Global,
     bytes: &[u8],
-    top: u8,
+    bridges: bool,
     most: Lsn,
     least: u64,
     at: usize,
 ) -> Result<(Entry, usize), FieldFault>
     requires { at ≤ length bytes.now }
-    ensures ok { IfOk result (λ p. read_entry bytes.now top most least at ≡ Got p.0 p.1) }
+    ensures ok { IfOk result (λ p. read_entry bytes.now bridges most least at ≡ Got p.0 p.1) }
     ensures next { IfOk result (λ p. p.1 ≤ length bytes.now) }
-    ensures off { IfErr result (IsOff (read_entry bytes.now top most least at)) }
+    ensures off { IfErr result (IsOff (read_entry bytes.now bridges most least at)) }
     ensures number { IfOk result (λ p. is_number p.0.number ≡ true) }
 {
     let (number, at_ballot) = read_number(bytes, at)?;
@@ -79,7 +109,7 @@ pub fn read_entry(
         at_ballot,
     )?;
     let (tag, at_what) = read_u8(bytes, at_tag)?;
-    check(is_tag(number, tag) && tag <= top, at_tag)?;
+    check(is_tag(number, tag) && may_stand(bridges, tag), at_tag)?;
     let (what, next) = read_what(alloc, bytes, at_what, tag)?;
     Ok((
         Entry {
@@ -89,6 +119,13 @@ pub fn read_entry(
         },
         next,
     ))
+}
+
+/// Whether what has the tag may stand where bridges may or may not.
+fn may_stand(bridges: bool, tag: u8) -> bool
+    ensures { result ≡ may_stand bridges tag }
+{
+    bridges || tag != 2
 }
 
 /// Whether an entry may have the number.
@@ -102,7 +139,7 @@ pub fn is_number(number: Lsn) -> bool
 pub fn is_tag(number: Lsn, tag: u8) -> bool
     ensures { result ≡ is_tag number tag }
 {
-    tag <= 2 && (number.esn() < u32::MAX || tag == 2)
+    tag <= 3 && (number.esn() < u32::MAX || tag == 2)
 }
 
 /// What stands behind a tag at a place.
@@ -113,7 +150,7 @@ pub fn read_what(
     tag: u8,
 ) -> Result<(What, usize), FieldFault>
     requires place { at ≤ length bytes.now }
-    requires tag { tag ≤ 2 }
+    requires tag { tag ≤ 3 }
     ensures ok { IfOk result (λ p. tagged bytes.now at tag ≡ Got p.0 p.1) }
     ensures next { IfOk result (λ p. p.1 ≤ length bytes.now) }
     ensures off { IfErr result (IsOff (tagged bytes.now at tag)) }
@@ -123,6 +160,9 @@ pub fn read_what(
     }
     if tag == 2 {
         return Ok((What::Bridge, at));
+    }
+    if tag == 3 {
+        return Ok((What::Plug, at));
     }
     let (size, from) = read_u16(bytes, at)?;
     let size = usize::from(size);

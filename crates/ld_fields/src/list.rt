@@ -10,26 +10,26 @@ use ld_lsn::Lsn;
 use ld_msg::Entries;
 use std::alloc::Global;
 
-/// So many entries at a place, their numbers rising from one to another and their tags at most the top.
+/// So many entries at a place, their numbers rising from one to another and bridges only where they may stand there.
 pub fn read_entries(
     alloc: Global,
     bytes: &[u8],
-    top: u8,
+    bridges: bool,
     upto: Lsn,
     count: u16,
     from: Lsn,
     at: usize,
 ) -> Result<(Entries, usize), FieldFault>
     requires { at ≤ length bytes.now }
-    ensures ok { IfOk result (λ p. read_entries bytes.now top upto count from at ≡ Got p.0 p.1) }
+    ensures ok { IfOk result (λ p. read_entries bytes.now bridges upto count from at ≡ Got p.0 p.1) }
     ensures next { IfOk result (λ p. p.1 ≤ length bytes.now) }
-    ensures off { IfErr result (IsOff (read_entries bytes.now top upto count from at)) }
+    ensures off { IfErr result (IsOff (read_entries bytes.now bridges upto count from at)) }
 {
     let mut entries = Entries::empty(alloc);
     let mut next = at;
     let mut least: u64 = from.value();
     'entries: for _ in 0..count {
-        let (entry, behind) = read_entry(alloc, bytes, top, upto, least, next)?;
+        let (entry, behind) = read_entry(alloc, bytes, bridges, upto, least, next)?;
         least = after(entry.number);
         next = behind;
         entries.push(entry)?;

@@ -2,7 +2,7 @@
 ghost use Rattle.std.specs.Prelude.{◌≡◌, ◌++◌, OnOk};
 ghost use Rattle.byteorder.specs.Endian.{big_bytes};
 ghost use Rattle.ld_msg.specs.Bounds.{IsShort, AreEntries};
-ghost use Rattle.ld_fields.specs.Items.{what_bytes, entry_bytes, entries_bytes, summary_bytes};
+ghost use Rattle.ld_fields.specs.Items.{what_bytes, entry_bytes, entries_bytes, older_summary_bytes, summary_bytes, flag as flag_number};
 
 use byteorder::{BigEndian, ByteOrder};
 use ld_ids::NoMemory;
@@ -51,10 +51,25 @@ pub fn put_number(out: &mut Vec<u8>, number: Lsn) -> Result<(), NoMemory>
 pub fn put_summary(out: &mut Vec<u8>, summary: &Summary) -> Result<(), NoMemory>
     ensures { OnOk result (out.new.items ≡ out.old.items ++ summary_bytes summary.now) }
 {
+    put_older_summary(out, summary)?;
+    put_flag(out, summary.loss)
+}
+
+/// Writes what a summary has in its older form.
+fn put_older_summary(out: &mut Vec<u8>, summary: &Summary) -> Result<(), NoMemory>
+    ensures { OnOk result (out.new.items ≡ out.old.items ++ older_summary_bytes summary.now) }
+{
     put_u32(out, summary.ballot)?;
     put_u32(out, summary.lng)?;
     put_number(out, summary.trim)?;
     put_u32(out, summary.end)
+}
+
+/// Writes a byte, 1 for true and 0 for false.
+pub fn put_flag(out: &mut Vec<u8>, flag: bool) -> Result<(), NoMemory>
+    ensures { OnOk result (out.new.items ≡ out.old.items ++ big_bytes 1 (flag_number flag)) }
+{
+    put_u8(out, u8::from(flag))
 }
 
 /// Writes entries, one behind the other.
@@ -93,5 +108,6 @@ pub fn put_what(out: &mut Vec<u8>, what: &What) -> Result<(), NoMemory>
         }
         What::Hole => put_u8(out, 1),
         What::Bridge => put_u8(out, 2),
+        What::Plug => put_u8(out, 3),
     }
 }

@@ -11,6 +11,8 @@ shown_item (items.Trim last) = reading.TrimTo last
 shown_item (items.Record payload) = reading.RecordHere payload.now
 shown_item items.Hole = reading.HoleHere
 shown_item (items.Bridge epoch) = reading.BridgeTo (epoch_end epoch)
+shown_item items.Loss = reading.LossHere
+shown_item (items.LossTo epoch) = reading.LossTo (epoch_end epoch)
 
 abbrev pub shown : Verdict → reading.Verdict
 shown (verdicts.Gives item) = reading.Gives (shown_item item)

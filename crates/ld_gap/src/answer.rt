@@ -1,7 +1,7 @@
 // One node's answer.
 ghost use Rattle.std.specs.Prelude.{◌≡◌, option_copied, Option};
 ghost use Rattle.ld_lsn.specs.Number.{home_epoch};
-ghost use Rattle.ld_msg.specs.Reading.{trim_told, page_at, entry_at, record_of, is_hole, shows_end, lacks, is_lost_for, knows_end_above};
+ghost use Rattle.ld_msg.specs.Reading.{trim_told, page_at, entry_at, record_of, is_hole, is_plug, end_shown, lacks, is_lost_for, knows_end_above};
 ghost use Rattle.ld_msg.specs.Reader.{round_of, reaches};
 ghost use Rattle.ld_gap.specs.Slots.{generation_told};
 
@@ -107,13 +107,25 @@ impl Answer {
         }
     }
 
-    /// Whether it says that the number's epoch ends before the number.
-    pub fn shows_end(&self, number: Lsn) -> bool
-        ensures { result ≡ shows_end number self.now.body }
+    /// Whether its page has a plug under the number.
+    pub fn has_plug_at(&self, number: Lsn) -> bool
+        ensures { result ≡ is_plug (page_at number self.now.body) }
+    {
+        match self.page_at(number) {
+            Some(What::Plug) => true,
+            _ => false,
+        }
+    }
+
+    /// Whether what follows the end of the number's epoch is lost, where it says that the epoch ends
+    /// at the number or before it.
+    pub fn end_shown(&self, number: Lsn) -> Option<bool>
+        ensures { result ≡ end_shown number self.now.body }
     {
         match &self.body {
-            Body::ReadEnded { end, .. } => end.home().0 == number.home().0 && *end <= number,
-            _ => false,
+            Body::ReadEnded { end, loss, .. }
+                if end.home().0 == number.home().0 && *end <= number => { Some(*loss) }
+            _ => None,
         }
     }
 

@@ -3,7 +3,7 @@ ghost use Rattle.std.specs.Prelude.{◌≡◌, ◌<◌, ◌+◌, [], option_copi
 ghost use Rattle.ld_table.specs.Table.{find};
 ghost use Rattle.ld_table.specs.Words.{is_in, all_of, any_of};
 ghost use Rattle.ld_ids.specs.Set.{members};
-ghost use Rattle.ld_msg.specs.Reading.{trim_held, record_held, hole_held, end_held, is_loss, lost_held, within, leaves_open, is_lost_for, knows_end_above};
+ghost use Rattle.ld_msg.specs.Reading.{trim_held, record_held, hole_held, plug_held, end_held, is_loss, lost_held, within, leaves_open, is_lost_for, knows_end_above};
 ghost use Rattle.ld_msg.specs.Reader.{held_with, is_newer, reaches};
 ghost use Rattle.ld_gap.specs.Restored.{restored};
 ghost use Rattle.ld_gap.specs.Slots.{generation_within, with_slot};
@@ -138,19 +138,35 @@ impl Held {
         false
     }
 
-    /// Whether an answer says that the number's epoch ends before the number.
+    /// Whether a page has a plug under the number.
     #[tactic(auto, unfolding(crate::specs::Slots::filled_from))]
-    pub fn shows_end(&self, number: Lsn) -> bool
-        ensures { result ≡ end_held number self.now }
+    pub fn has_plug(&self, number: Lsn) -> bool
+        ensures { result ≡ plug_held number self.now }
     {
         for slot in &self.answers {
             if let Some(answer) = slot
-                && answer.shows_end(number)
+                && answer.has_plug_at(number)
             {
                 return true;
             }
         }
         false
+    }
+
+    /// Whether what follows the end of the number's epoch is lost, by the lowest node's answer that
+    /// says that the epoch ends at the number or before it.
+    #[tactic(auto, unfolding(crate::specs::Slots::filled_from))]
+    pub fn end(&self, number: Lsn) -> Option<bool>
+        ensures { result ≡ end_held number self.now }
+    {
+        for slot in &self.answers {
+            if let Some(answer) = slot
+                && let Some(loss) = answer.end_shown(number)
+            {
+                return Some(loss);
+            }
+        }
+        None
     }
 
     /// Whether a page reaches the number.

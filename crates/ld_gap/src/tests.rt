@@ -1,8 +1,8 @@
 // Verdicts on held answers.
 use crate::{Held, Item, Verdict, decide};
-use ld_ids::{NodeId, NodeSet};
+use ld_ids::{NoMemory, NodeId, NodeSet, Payload};
 use ld_lsn::Lsn;
-use ld_msg::{Body, Entries};
+use ld_msg::{Body, Entries, Entry, What};
 use std::alloc::Global;
 use std::test::Fail;
 
@@ -13,6 +13,8 @@ fn letter(set: &NodeSet, held: &Held) -> u8 {
         Verdict::Gives(Item::Record(_)) => b'r',
         Verdict::Gives(Item::Hole) => b'h',
         Verdict::Gives(Item::Bridge(_)) => b'b',
+        Verdict::Gives(Item::Loss) => b'l',
+        Verdict::Gives(Item::LossTo(_)) => b'L',
         Verdict::Confirms(_) => b'c',
         Verdict::NotYet => b'n',
     }
@@ -55,6 +57,78 @@ fn hold_trim(held: &mut Held, node: NodeId, round: u32, esn: u32) {
             trim: Lsn::new(1, esn),
         },
     );
+}
+
+// A clean page with this at e1n1.
+fn page(alloc: Global, what: What) -> Result<Body, NoMemory> {
+    let mut entries = Entries::empty(alloc);
+    entries.push(Entry {
+        number: Lsn::new(1, 1),
+        ballot: 1,
+        what,
+    })?;
+    Ok(Body::ReadPage {
+        round: 1,
+        from: Lsn::new(1, 1),
+        upto: Lsn::new(1, 1),
+        clean: true,
+        entries,
+    })
+}
+
+// Epoch 1 ends at its first number.
+fn ended(loss: bool) -> Body {
+    Body::ReadEnded {
+        round: 1,
+        from: Lsn::new(1, 1),
+        end: Lsn::new(1, 1),
+        loss,
+    }
+}
+
+// The answer that has this letter where no other is held.
+fn answer(alloc: Global, letter: u8) -> Result<Body, NoMemory> {
+    match letter {
+        b'b' => Ok(ended(false)),
+        b'L' => Ok(ended(true)),
+        b'h' => page(alloc, What::Hole),
+        b'l' => page(alloc, What::Plug),
+        _ => page(alloc, What::Rec(Payload::new(Vec::new(alloc)))),
+    }
+}
+
+// What two nodes' answers show, the lower node's first.
+fn letter_of_two(alloc: Global, lower: u8, higher: u8) -> Result<u8, NoMemory> {
+    let mut held = Held::nothing();
+    let mut set = NodeSet::empty();
+    for (number, shown) in [(2, higher), (1, lower)] {
+        if let Some(node) = NodeId::new(number) {
+            held.hold(node, answer(alloc, shown)?);
+            set = set.with(node);
+        }
+    }
+    Ok(letter(&set, &held))
+}
+
+#[test]
+fn records_come_before_holes_holes_before_plugs_and_these_before_the_lowest_end(
+    rt: HostRuntime,
+) -> Result<(), Fail> {
+    let alloc = rt.alloc();
+    for (lower, higher, given) in [
+        (b'l', b'l', b'l'),
+        (b'l', b'h', b'h'),
+        (b'h', b'l', b'h'),
+        (b'l', b'r', b'r'),
+        (b'r', b'l', b'r'),
+        (b'h', b'r', b'r'),
+        (b'L', b'l', b'l'),
+        (b'L', b'b', b'L'),
+        (b'b', b'L', b'b'),
+    ] {
+        assert_eq!(rt; letter_of_two(alloc, lower, higher)?, given);
+    }
+    Ok(())
 }
 
 #[test]

@@ -14,6 +14,10 @@ pub enum Item<'a> {
     Hole,
     /// No record stands from the next number to the end of this epoch.
     Bridge(u32),
+    /// The record of the next number is lost, if it had one.
+    Loss,
+    /// The records from the next number to the end of this epoch are lost, where there were any.
+    LossTo(u32),
 }
 
 /// An item, or what else follows from the answers.

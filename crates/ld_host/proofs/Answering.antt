@@ -7,6 +7,7 @@ use Rattle.ld_msg.specs.declared.msg.Body.{Body}
 use Rattle.ld_msg.specs.declared.msg.Body.TheVariants as bodies
 use Rattle.ld_msg.specs.declared.msg.Who.TheVariants as whos
 use Rattle.ld_op.specs.declared.op.Op.{Op}
+use Rattle.ld_op.specs.declared.record.Record.{Record}
 use Rattle.ld_op.specs.Plain.{log_of}
 use Rattle.ld_op.specs.Answers.{Handled, silent}
 use Rattle.ld_op.specs.Handles.{answer_message}
@@ -69,7 +70,7 @@ module _ (c : Config) (n : ℕ) (m : Msg) (to : m.to ≡ whos.Node n) (has : has
   raises x l (bodies.Trim t) = refl
   raises x l (bodies.ReadAsk ro s) = refl
   raises x l (bodies.ReadPage ro s u k es) = refl
-  raises x l (bodies.ReadEnded ro s e) = refl
+  raises x l (bodies.ReadEnded ro s e loss) = refl
   raises x l (bodies.ReadTrim ro s t) = refl
   raises x l (bodies.ReadWait ro s r) = refl
 
@@ -117,7 +118,7 @@ disk_memory : faults.Disk ≡ faults.NoMemory → ⊥
 disk_memory is = absurd (cc is)
 
 module _ (c : Config) (n : ℕ) (p : DiskPlain) (y : Node) (lies : Lies p y) (whole : y.cut ≡ None) (ms : List Msg) where
-  pub still : (op : Option Op) (fault : NodeFault) (q : DiskPlain) → Refused (place_behind lies.ops) op fault p q → StandsStill c n p y lies whole ms op fault q
+  pub still : (op : Option Op) (fault : NodeFault) (q : DiskPlain) → Refused (place_behind lies.found) op fault p q → StandsStill c n p y lies whole ms op fault q
   still op fault q not = record {
     full = λ is. (not.full is, ⊎_elim (λ disk. absurd (full_differs (sym is ∙ disk))) (λ same. same) not.keeps);
     failed = λ is. ((λ past. ⊎_elim (λ full. disk_full (sym is ∙ full)) (λ memory. disk_memory (sym is ∙ memory)) (not.too_long past)), (not.exact is).1, (not.exact is).0);
@@ -131,8 +132,8 @@ module _ {g : Ghosts MemDisk} (c : Config) (n : ℕ) (node : Running MemDisk g) 
   plain_is : plain_of node ≡ x.plain
   plain_is = runs.holds.state ∙ sym runs.lies.plain
 
-  place_is : place_of node ≡ place_behind runs.lies.ops
-  place_is = runs.holds.place ∙ places runs.lies.ops
+  place_is : place_of node ≡ place_behind runs.lies.found
+  place_is = runs.holds.place ∙ places runs.lies.found
 
   handled_here : handled (id_of node) (known_of node) (released_of node) (plain_of node) m ≡ node_handles x m
   handled_here = (λ i. handled (runs.id i) (runs.known i) (runs.released i) (plain_is i) m) ∙ handled_is c n m to has x
@@ -145,7 +146,7 @@ module _ {g : Ghosts MemDisk} (c : Config) (n : ℕ) (node : Running MemDisk g) 
   raised_here = λ i. released_after (runs.id i) (runs.known i) (runs.released i) m
 
   abbrev raised_lies : Lies (disk_plain (disk_of node)) raised_node
-  raised_lies = record { ops = runs.lies.ops; plain = runs.lies.plain; length = runs.lies.length; formatted = runs.lies.formatted; rests = runs.lies.rests; armed = runs.lies.armed }
+  raised_lies = record { found = runs.lies.found; version = runs.lies.version; plain = runs.lies.plain; length = runs.lies.length; formatted = runs.lies.formatted; rests = runs.lies.rests; armed = runs.lies.armed }
 
   well_here : IsWell x.plain
   well_here = subst (λ q. IsWell q) plain_is well
@@ -154,27 +155,27 @@ module _ {g : Ghosts MemDisk} (c : Config) (n : ℕ) (node : Running MemDisk g) 
   changes = changes_of (node_handles x m).op
       (λ o taken. handled_change (log_of x.plain m.log) (λ e y there. summaries_are last_carried x.plain m.log e y well_here there) x.plain.generation m.log (released_at x m.log) m.from m.to m.body o is.log is.fits taken)
 
-  may : MayKeepAny runs.lies.ops x.plain (node_handles x m).op
-  may = change_may runs.lies.ops x.plain (node_handles x m).op changes (sym runs.holds.blank ∙ formatted) runs.lies.formatted
+  may : MayKeepAny runs.lies.found x.plain (node_handles x m).op
+  may = change_may runs.lies.found x.plain (node_handles x m).op changes (sym runs.holds.blank ∙ formatted) runs.lies.formatted
 
   abbrev sent : List Msg
   sent = answer_message n m (node_handles x m).answer
 
   pub answered : (h : Handled) (new : Running MemDisk g) → h ≡ handled (id_of node) (known_of node) (released_of node) (plain_of node) m
       → id_of new ≡ id_of node → known_of new ≡ known_of node → released_of new ≡ released_after (id_of node) (known_of node) (released_of node) m
-      → ((ops : List Op) → Holds seen_in leaves_of node ops → Holds seen_in leaves_of new (with_op ops h.op)) → (IsPast (place_of node) h.op → ⊥)
+      → ((vs : List Record) → Holds seen_in leaves_of node vs → Holds seen_in leaves_of new (with_op vs h.op)) → (IsPast (place_of node) h.op → ⊥)
       → disk_plain (disk_of new) ≡ after_calls (calls_of (place_of node) h.op) (disk_plain (disk_of node)) → all_succeed (calls_of (place_of node) h.op) (disk_plain (disk_of node)) ≡ true
       → Runs c n new (message_done n x m).node × (Written ≡ (message_done n x m).end) × (answer_message (id_of node) m h.answer ≡ (message_done n x m).sends)
   answered h new h_is id known released holds within disk succeed =
       let p = disk_plain (disk_of node) in
       let same : h ≡ node_handles x m = h_is ∙ handled_here in
       let o = (node_handles x m).op in
-      let calls : calls_of (place_of node) h.op ≡ calls_of (place_behind runs.lies.ops) o = λ i. calls_of (place_is i) (same i).op in
+      let calls : calls_of (place_of node) h.op ≡ calls_of (place_behind runs.lies.found) o = λ i. calls_of (place_is i) (same i).op in
       let keeps_it : Keeps c n p raised_node raised_lies runs.cut sent o new = record {
         id = id ∙ runs.id;
         known = known ∙ runs.known;
         released = released ∙ raised_here;
-        holds = subst (λ k. Holds seen_in leaves_of new (with_op runs.lies.ops k.op)) same (holds runs.lies.ops runs.holds);
+        holds = subst (λ k. Holds seen_in leaves_of new (with_op runs.lies.found k.op)) same (holds runs.lies.found runs.holds);
         within = λ past. within (subst (λ k. IsPast (place_of node) k) (ap (λ k. k.op) (sym same)) (subst (λ l. IsPast l o) (sym place_is) past));
         succeed = ap (λ l. all_succeed l p) (sym calls) ∙ succeed;
         disk = disk ∙ ap (λ l. after_calls l p) calls;
@@ -193,7 +194,7 @@ module _ {g : Ghosts MemDisk} (c : Config) (n : ℕ) (node : Running MemDisk g) 
       let p = disk_plain (disk_of node) in
       let same : h ≡ node_handles x m = h_is ∙ handled_here in
       let o = (node_handles x m).op in
-      let not_here : Refused (place_behind runs.lies.ops) o fault p q = subst (λ l. Refused l o fault p q) place_is (subst (λ k. Refused (place_of node) k fault p q) (ap (λ k. k.op) same) not) in
+      let not_here : Refused (place_behind runs.lies.found) o fault p q = subst (λ l. Refused l o fault p q) place_is (subst (λ k. Refused (place_of node) k fault p q) (ap (λ k. k.op) same) not) in
       let left = stayed c n p raised_node raised_lies runs.cut sent o fault q done may (still c n p raised_node raised_lies runs.cut sent o fault q not_here) refuses in
       let back = sym (releases_is c n m to has x) in (
         subst (λ z. StandsAs c n done.0 (op_done z o sent).node) back left.0,

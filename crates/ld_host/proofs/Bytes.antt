@@ -12,7 +12,7 @@ use Rattle.ld_host.specs.Stands.{StandsAs, HasBytesOf}
 use Rattle.ld_host.proofs.Loading.{finds}
 
 bytes_of : (p : DiskPlain) (x : Node) → Lies p x → x.cut ≡ None → StandsFor x.plain p.state.bytes
-bytes_of p x lies whole = let f = finds p x lies in record { ops = f.ops; journal = f.journal; state = sym (ap (λ k. found x k) whole) ∙ f.plain_is }
+bytes_of p x lies whole = let f = finds p x lies in record { found = f.read; journal = f.journal; state = sym (ap (λ k. found x k) whole) ∙ f.plain_is }
 
 blank_not_up : Blank ≡ Up → ⊥
 blank_not_up is = absurd (cc is)

@@ -8,12 +8,15 @@ use Rattle.ld_disk.specs.declared.memory.MemDisk.{MemDisk}
 use Rattle.ld_journal.specs.Format.{append_calls}
 use Rattle.ld_op.specs.declared.op.Op.{Op}
 use Rattle.ld_op.specs.declared.op.Op.TheVariants as ops
+use Rattle.ld_op.specs.declared.record.Record.{Record}
+use Rattle.ld_op.specs.declared.record.Record.TheVariants.{Now}
 use Rattle.ld_op.specs.Plain.{Plain, apply}
+use Rattle.ld_op.specs.Records.{is_format}
 use Rattle.ld_op.specs.Bytes.{op_bytes}
-use Rattle.ld_store.specs.Ops.{place_behind, is_format, are_none, MayFollow}
+use Rattle.ld_store.specs.Ops.{place_behind, are_none}
 use Rattle.ld_register.specs.declared.fault.RegisterFault.{RegisterFault}
 use Rattle.ld_node.specs.Changes as nodes
-use Rattle.ld_node.specs.Changes.{IsChange, IsPast, calls_of, AreChanges}
+use Rattle.ld_node.specs.Changes.{IsPast, calls_of, AreChanges}
 use Rattle.ld_node.specs.Node.{id_of, known_of, released_of, disk_of, Holds}
 use Rattle.ld_node.specs.Known.{known_in}
 use Rattle.ld_node.specs.declared.node.Node.{Node as Running}
@@ -25,7 +28,7 @@ use Rattle.ld_machine.specs.Step.{is_written}
 use Rattle.ld_host.specs.declared.kept.Kept.{Kept as HostKept}
 use Rattle.ld_host.specs.declared.state.State.{State}
 use Rattle.ld_host.specs.Faults.{IsArmed}
-use Rattle.ld_host.specs.Lies.{Rests, Lies}
+use Rattle.ld_host.specs.Lies.{Follows, Rests, Lies}
 use Rattle.ld_host.specs.Stands.{Runs, StandsAs, seen_in, leaves_of}
 use Rattle.ld_host.specs.Done.{op_done, shown_kept}
 use Rattle.ld_host.proofs.Fates.{AllMade, Stops, fates}
@@ -50,21 +53,21 @@ pub change_formatted : (p : Plain) (o : Op) → is_format o ≡ false → (p.gen
 change_formatted p o is formatted = ap (λ n. n == 0) (generation_stays p o is) ∙ formatted
 
 -- an op, where there is one, that may be kept behind these, and leaves a store formatted
-pub record MayKeep (os : List Op) (p : Plain) (o : Op) : Type 0 where
-  pub next : MayFollow os o
+pub record MayKeep (vs : List Record) (p : Plain) (o : Op) : Type 0 where
+  pub next : Follows vs o
   pub formatted : ((apply p o).generation == 0) ≡ false
 
-abbrev pub MayKeepAny : List Op → Plain → Option Op → Type 0
-MayKeepAny os p None = Unit {0}
-MayKeepAny os p (Some o) = MayKeep os p o
+abbrev pub MayKeepAny : List Record → Plain → Option Op → Type 0
+MayKeepAny vs p None = Unit {0}
+MayKeepAny vs p (Some o) = MayKeep vs p o
 
-pub change_may : (os : List Op) (p : Plain) (op : Option Op) → AreChanges op → are_none os ≡ false → (p.generation == 0) ≡ are_none os → MayKeepAny os p op
-change_may os p None is some formatted = tt
-change_may os p (Some o) is some formatted = record { next = record { op = is.op; format = is.kind ∙ sym some }; formatted = change_formatted p o is.kind (formatted ∙ some) }
+pub change_may : (vs : List Record) (p : Plain) (op : Option Op) → AreChanges op → are_none vs ≡ false → (p.generation == 0) ≡ are_none vs → MayKeepAny vs p op
+change_may vs p None is some formatted = tt
+change_may vs p (Some o) is some formatted = record { next = record { op = is.op; format = is.kind ∙ sym some }; formatted = change_formatted p o is.kind (formatted ∙ some) }
 
 module _ (c : Config) (n : ℕ) (p : DiskPlain) (y : Node) (lies : Lies p y) (whole : y.cut ≡ None) (ms : List Msg) where
   abbrev place : ℕ
-  place = place_behind lies.ops
+  place = place_behind lies.found
 
   -- ---- written ----
 
@@ -73,7 +76,7 @@ module _ (c : Config) (n : ℕ) (p : DiskPlain) (y : Node) (lies : Lies p y) (wh
     pub id : id_of new ≡ n
     pub known : known_of new ≡ known_in c
     pub released : released_of new ≡ y.released
-    pub holds : Holds seen_in leaves_of new (nodes.with_op lies.ops op)
+    pub holds : Holds seen_in leaves_of new (nodes.with_op lies.found op)
     pub within : IsPast place op → ⊥
     pub succeed : all_succeed (calls_of place op) p ≡ true
     pub disk : disk_plain (disk_of new) ≡ after_calls (calls_of place op) p
@@ -82,7 +85,7 @@ module _ (c : Config) (n : ℕ) (p : DiskPlain) (y : Node) (lies : Lies p y) (wh
   Wrote op new = Runs c n new (op_done y op ms).node × (Written ≡ (op_done y op ms).end) × (ms ≡ (op_done y op ms).sends)
 
   module _ {g : Ghosts MemDisk} (new : Running MemDisk g) where
-    made_one : (o : Op) → MayKeep lies.ops y.plain o → Keeps (Some o) new → AllMade (append_calls place (op_bytes o)) y.fault p → Wrote (Some o) new
+    made_one : (o : Op) → MayKeep lies.found y.plain o → Keeps (Some o) new → AllMade (append_calls place (op_bytes o)) y.fault p → Wrote (Some o) new
     unfolding written_lies
     made_one o may keeps made =
         let kept = keep_by y o Made (not_full y o place lies.length keeps.within) made.fate_is in
@@ -94,11 +97,12 @@ module _ (c : Config) (n : ℕ) (p : DiskPlain) (y : Node) (lies : Lies p y) (wh
           released = keeps.released;
           cut = whole;
           lies = record {
-            ops = lies.ops ++ o ∷ [];
+            found = lies.found ++ Now o ∷ [];
+            version = lies_then.version;
             plain = lies_then.plain;
             length = lies_then.length;
             formatted = lies_then.formatted;
-            rests = subst (λ q. Rests (lies.ops ++ o ∷ []) (with_op y o).plain (with_op y o).length y.cut q.state) (sym keeps.disk) lies_then.rests;
+            rests = subst (λ q. Rests (lies.found ++ Now o ∷ []) (with_op y o).plain (with_op y o).length y.cut q.state) (sym keeps.disk) lies_then.rests;
             armed = subst (λ q. IsArmed (with_op y o).fault q) (sym keeps.disk) lies_then.armed;
           };
           holds = keeps.holds;
@@ -108,10 +112,10 @@ module _ (c : Config) (n : ℕ) (p : DiskPlain) (y : Node) (lies : Lies p y) (wh
     not_stopped : {A : Type 0} (o : Op) → Keeps (Some o) new → Stops (append_calls place (op_bytes o)) y.fault p → A
     not_stopped o keeps stops = absurd (true≢false (sym keeps.succeed ∙ stops.succeed))
 
-    pub wrote_one : (o : Op) → MayKeep lies.ops y.plain o → Keeps (Some o) new → Wrote (Some o) new
+    pub wrote_one : (o : Op) → MayKeep lies.found y.plain o → Keeps (Some o) new → Wrote (Some o) new
     wrote_one o may keeps = ⊎_elim (λ made. made_one o may keeps made) (λ stops. not_stopped o keeps stops) (fates (append_calls place (op_bytes o)) y.fault p lies.armed)
 
-    pub wrote : y.status ≡ Up → (op : Option Op) → MayKeepAny lies.ops y.plain op → Keeps op new → Wrote op new
+    pub wrote : y.status ≡ Up → (op : Option Op) → MayKeepAny lies.found y.plain op → Keeps op new → Wrote op new
     wrote up None may keeps = (
       record {
         status = up;
@@ -120,11 +124,12 @@ module _ (c : Config) (n : ℕ) (p : DiskPlain) (y : Node) (lies : Lies p y) (wh
         released = keeps.released;
         cut = whole;
         lies = record {
-          ops = lies.ops;
+          found = lies.found;
+          version = lies.version;
           plain = lies.plain;
           length = lies.length;
           formatted = lies.formatted;
-          rests = subst (λ q. Rests lies.ops y.plain y.length y.cut q.state) (sym keeps.disk) lies.rests;
+          rests = subst (λ q. Rests lies.found y.plain y.length y.cut q.state) (sym keeps.disk) lies.rests;
           armed = subst (λ q. IsArmed y.fault q) (sym keeps.disk) lies.armed;
         };
         holds = keeps.holds;
@@ -155,7 +160,7 @@ module _ (c : Config) (n : ℕ) (p : DiskPlain) (y : Node) (lies : Lies p y) (wh
   none_refused (faults.Register f) q done still refuses = absurd (still.register f refl)
   none_refused faults.NoMemory q done still refuses = absurd (refuses.memory refl)
 
-  pub stayed : (op : Option Op) (fault : NodeFault) (q : DiskPlain) (done : State × HostKept) → MayKeepAny lies.ops y.plain op → StandsStill op fault q → Refuses fault q done → Stayed op done
+  pub stayed : (op : Option Op) (fault : NodeFault) (q : DiskPlain) (done : State × HostKept) → MayKeepAny lies.found y.plain op → StandsStill op fault q → Refuses fault q done → Stayed op done
   stayed None fault q done may still refuses = none_refused fault q done still refuses
   stayed (Some o) fault q done may still refuses =
       let not_kept : NotKept c n p y o lies whole may.next may.formatted fault q = record { full = still.full; failed = still.failed; loaded = still.loaded; whole_still = still.whole_still; register = still.register } in

@@ -1,5 +1,5 @@
 -- How a format of a host ends.
-use Rattle.std.proofs.Common.{◌≡◌, ◌≢◌, ◌⊎◌, ⊎_elim, inl, inr, ◌+◌, ◌==◌, ◌<◌, ◌≤◌, ◌^◌, ◌||◌, ℕ, List, [], ◌∷◌, ◌++◌, Bool, true, false, not, nat_le, nat_lt, Option, None, Some, Result, Ok, Err, IfOk, if◌then◌else◌, refl, sym, ◌∙◌, ap, subst, arith, true≢false}
+use Rattle.std.proofs.Common.{◌≡◌, ◌≢◌, ◌⊎◌, ⊎_elim, inl, inr, ◌+◌, ◌==◌, ◌<◌, ◌≤◌, ◌^◌, ◌||◌, ℕ, List, [], ◌∷◌, ◌++◌, Bool, true, false, not, nat_le, nat_lt, Option, None, Some, Result, Ok, Err, IfOk, if◌then◌else◌, refl, sym, ◌∙◌, ap, subst, arith}
 use Rattle.std.specs.Option.{unwrap_or}
 use Rattle.std.proofs.lemmas.Bool.{cases_lt}
 use Rattle.ld_table.specs.Table.{put}
@@ -9,11 +9,11 @@ use Rattle.ld_disk.specs.Memory.{disk_plain}
 use Rattle.ld_disk.specs.Plain.{Plain as DiskPlain, Call, after_calls, all_succeed}
 use Rattle.ld_disk.specs.declared.disk.Disk.{Ghosts}
 use Rattle.ld_disk.specs.declared.memory.MemDisk.{MemDisk}
-use Rattle.ld_msg.specs.Register.{Register, Armed, Answer, Granted, AtLimit, Behind, Fails, draw, change, generation_of, generation_limit, journal_limit, record_length, is_made, falls, made, unmade}
-use Rattle.ld_op.specs.declared.op.Op.{Op}
+use Rattle.ld_msg.specs.Register.{Register, Armed, Answer, Granted, AtLimit, Behind, Overtaken, Fails, draw, change, generation_of, generation_limit, journal_limit, record_length, is_made, falls, made, unmade}
 use Rattle.ld_op.specs.Plain.{Plain, apply, op_length}
+use Rattle.ld_op.specs.declared.record.Record.TheVariants.{Now}
 use Rattle.ld_op.specs.Bounds.{IsOp}
-use Rattle.ld_store.specs.Ops.{place_behind, are_none, AreOps}
+use Rattle.ld_store.specs.Ops.{place_behind, are_none}
 use Rattle.ld_store.proofs.Bodies.{places}
 use Rattle.ld_register.specs.Calls.{after_draw, handed, ended, draw_length, is_full}
 use Rattle.ld_register.specs.Calls as calls
@@ -42,6 +42,7 @@ use Rattle.ld_host.specs.Stands.{Runs, IsBlank, IsFresh, StandsAs, seen_in, leav
 use Rattle.ld_host.specs.Done.{HasFormatted}
 use Rattle.ld_host.proofs.Ending.{NotKept, not_kept_ends}
 use Rattle.ld_host.proofs.Done.{MayKeep, Keeps, wrote_one}
+use Rattle.ld_host.proofs.Versions.{last_is}
 use Rattle.ld_host.proofs.Rising.{some_is}
 
 -- ---- a generation that is drawn ----
@@ -50,6 +51,7 @@ granted_if : (a : Answer) (full : Bool) (limit : RegisterFault) (given d : Drawn
 granted_if Granted full limit given d is = (refl, cc)
 granted_if AtLimit full limit given d is = absurd (cc is)
 granted_if (Behind lce) full limit given d is = absurd (cc is)
+granted_if (Overtaken k) full limit given d is = absurd (cc is)
 granted_if Fails true limit given d is = absurd (cc is)
 granted_if Fails false limit given d is = absurd (cc is)
 
@@ -160,6 +162,7 @@ module _ (place : ℕ) (p : DiskPlain) (now : Option DiskPlain) where
   same_refusal f (refusals.Damaged at) is = cc
   same_refusal f refusals.LogLimit is = cc
   same_refusal f (refusals.Behind lce next) is = cc
+  same_refusal f (refusals.Overtaken epoch) is = cc
   same_refusal f refusals.EpochLimit is = cc
   same_refusal f refusals.GenLimit is = cc
   same_refusal f refusals.Full is = cc
@@ -198,6 +201,7 @@ module _ (place : ℕ) (p : DiskPlain) (now : Option DiskPlain) where
   refused_none fault (refusals.Damaged at) none memory is = absurd (none (refusals.Damaged at) is)
   refused_none fault refusals.LogLimit none memory is = absurd (none refusals.LogLimit is)
   refused_none fault (refusals.Behind lce next) none memory is = absurd (none (refusals.Behind lce next) is)
+  refused_none fault (refusals.Overtaken epoch) none memory is = absurd (none (refusals.Overtaken epoch) is)
   refused_none fault refusals.EpochLimit none memory is = absurd (none refusals.EpochLimit is)
   refused_none fault refusals.GenLimit none memory is = absurd (none refusals.GenLimit is)
   refused_none fault refusals.Full none memory is = absurd (none refusals.Full is)
@@ -225,14 +229,6 @@ module _ (place : ℕ) (p : DiskPlain) (now : Option DiskPlain) where
       ⊎_elim (λ past. not_kept_full fault e keeps past) (λ within. not_kept_failed fault e keeps within) (past_or_within e)
 
 -- ---- what it leaves of the host ----
-
-none_are : (os : List Op) → are_none os ≡ true → os ≡ []
-none_are [] is = refl
-none_are (o ∷ os) is = absurd (true≢false (sym is))
-
-first_op : (os : List Op) (o : Op) → os ≡ [] → AreOps (os ++ o ∷ []) → IsOp o
-first_op [] o none are = are.0
-first_op (p ∷ os) o none are = absurd (cc none)
 
 format_generation : (q : Plain) (d : Drawn) → (apply q (format_of d)).generation ≡ d.gen_
 unfolding apply
@@ -274,19 +270,19 @@ drawn_same a b is = cc is
 
 module _ {g : Ghosts MemDisk} (c : Config) (n : ℕ) (node : Running MemDisk g) (x : Node) (r : Register) (tells : Register → Type 0) (fresh : IsFresh c n node (load x)) (loaded : load_end x ≡ Written) (told : tells (after_draw r n)) where
   abbrev place : ℕ
-  place = place_behind fresh.lies.ops
+  place = place_behind fresh.lies.found
 
   pub place_is : place_of node ≡ place
-  place_is = fresh.holds.place ∙ places fresh.lies.ops
+  place_is = fresh.holds.place ∙ places fresh.lies.found
 
-  no_ops : are_none fresh.lies.ops ≡ true
-  no_ops = sym fresh.holds.blank ∙ fresh.blank
+  none_found : are_none fresh.lies.found ≡ true
+  none_found = sym fresh.holds.blank ∙ fresh.blank
 
-  may : (d : Drawn) → IsOp (format_of d) → calls.drawn r n ≡ Ok d → MayKeep fresh.lies.ops (load x).plain (format_of d)
-  may d is granted = record { next = record { op = is; format = sym no_ops }; formatted = ap (λ k. k == 0) (format_generation (load x).plain d) ∙ generation_drawn r n d granted }
+  may : (d : Drawn) → IsOp (format_of d) → calls.drawn r n ≡ Ok d → MayKeep fresh.lies.found (load x).plain (format_of d)
+  may d is granted = record { next = record { op = is; format = sym none_found }; formatted = ap (λ k. k == 0) (format_generation (load x).plain d) ∙ generation_drawn r n d granted }
 
   pub formats_done : (d : Drawn) (new : Running MemDisk g) → WasKept place (disk_plain (disk_of node)) (Some (disk_plain (disk_of new))) (calls.drawn r n) d → id_of new ≡ id_of node → known_of new ≡ known_of node → released_of new ≡ released_of node
-      → Holds seen_in leaves_of new (fresh.lies.ops ++ format_of d ∷ []) → HasFormatted (λ y. Runs c n new y) tells x n r (endings.Done d)
+      → Holds seen_in leaves_of new (fresh.lies.found ++ Now (format_of d) ∷ []) → HasFormatted (λ y. Runs c n new y) tells x n r (endings.Done d)
   formats_done d new was id known released holds =
       let p = disk_plain (disk_of node) in
       let keeps : Keeps c n p (load x) fresh.lies fresh.cut [] (Some (format_of d)) new = record {
@@ -298,7 +294,7 @@ module _ {g : Ghosts MemDisk} (c : Config) (n : ℕ) (node : Running MemDisk g) 
         succeed = was.succeed;
         disk = some_is (disk_plain (disk_of new)) _ was.disk;
       } in
-      let is = first_op fresh.lies.ops (format_of d) (none_are fresh.lies.ops no_ops) holds.ops in
+      let is = last_is fresh.lies.found (Now (format_of d)) holds.are in
       let done = wrote_one c n p (load x) fresh.lies fresh.cut [] new (format_of d) (may d is was.granted) keeps in
       record { node = keep_op (load x) (format_of d); register = after_draw r n; stands = done.0; told = told; does = record { loaded = loaded; granted = was.granted; node = refl; register = refl; end = sym done.1 } }
 
@@ -341,15 +337,15 @@ is_op_of a b draw is same op = subst (λ d. IsOp (format_of d)) (drawn_same a b 
 module _ {g : Ghosts MemDisk} (c : Config) (n : ℕ) (node : Running MemDisk g) (x : Node) (r : Register) (tells : Register → Type 0) (fresh : IsFresh c n node (load x)) (loaded : load_end x ≡ Written) where
   -- how the node's answer is told, by its own place and number
   pub by_here : (now : Option DiskPlain) (result : Result Drawn NodeFault) → FormatsBy (place_of node) (disk_plain (disk_of node)) (calls.drawn r (id_of node)) now result
-      → FormatsBy (place_behind fresh.lies.ops) (disk_plain (disk_of node)) (calls.drawn r n) now result
+      → FormatsBy (place_behind fresh.lies.found) (disk_plain (disk_of node)) (calls.drawn r n) now result
   by_here now result by =
-      subst (λ k. FormatsBy k (disk_plain (disk_of node)) (calls.drawn r n) now result) (fresh.holds.place ∙ places fresh.lies.ops)
+      subst (λ k. FormatsBy k (disk_plain (disk_of node)) (calls.drawn r n) now result) (fresh.holds.place ∙ places fresh.lies.found)
       (subst (λ k. FormatsBy (place_of node) (disk_plain (disk_of node)) (calls.drawn r k) now result) fresh.id by)
 
   register_undone : (f : RegisterFault) (m : MemDisk) (done : State × Formatted) → tells (after_draw r n) → (done.1 ≡ endings.Refused f) × IsBlankAt m done.0
-      → FormatsBy (place_behind fresh.lies.ops) (disk_plain (disk_of node)) (calls.drawn r n) (Some (disk_plain m)) (Err (faults.Register f)) → HasFormatted (λ y. StandsAs c n done.0 y) tells x n r done.1
+      → FormatsBy (place_behind fresh.lies.found) (disk_plain (disk_of node)) (calls.drawn r n) (Some (disk_plain m)) (Err (faults.Register f)) → HasFormatted (λ y. StandsAs c n done.0 y) tells x n r done.1
   register_undone f m done told left by =
-      let was = was_refused (place_behind fresh.lies.ops) (disk_plain (disk_of node)) (Some (disk_plain m)) (calls.drawn r n) f by in
+      let was = was_refused (place_behind fresh.lies.found) (disk_plain (disk_of node)) (Some (disk_plain m)) (calls.drawn r n) f by in
       let has = formats_refused c n node x r tells fresh loaded told f m was.0 (some_is (disk_plain m) (disk_plain (disk_of node)) was.1) in
       subst (λ e. HasFormatted (λ y. StandsAs c n done.0 y) tells x n r e) (sym left.0)
       (record { node = has.node; register = has.register; stands = blank_stands c n done.0 m has.node left.1 has.stands; told = has.told; does = has.does })
@@ -358,15 +354,15 @@ module _ {g : Ghosts MemDisk} (c : Config) (n : ℕ) (node : Running MemDisk g) 
   Left fault m done = (k : HostKept) × (done.1 ≡ endings.NotKept k) × Refuses fault (disk_plain m) (done.0, k)
 
   other_undone : (fault : NodeFault) (m : MemDisk) (done : State × Formatted) → tells (after_draw r n) → ((f : RegisterFault) → fault ≢ faults.Register f) → Left fault m done
-      → FormatsBy (place_behind fresh.lies.ops) (disk_plain (disk_of node)) (calls.drawn r n) (Some (disk_plain m)) (Err fault)
+      → FormatsBy (place_behind fresh.lies.found) (disk_plain (disk_of node)) (calls.drawn r n) (Some (disk_plain m)) (Err fault)
       → ((d : Drawn) → calls.drawn r n ≡ Ok d → (fault ≡ faults.Disk) ⊎ (fault ≡ faults.Full) → IsOp (format_of d)) → HasFormatted (λ y. StandsAs c n done.0 y) tells x n r done.1
   other_undone fault m done told none left by is_op =
-      let was = was_not_kept (place_behind fresh.lies.ops) (disk_plain (disk_of node)) (Some (disk_plain m)) (calls.drawn r n) fault none left.2.memory by in
+      let was = was_not_kept (place_behind fresh.lies.found) (disk_plain (disk_of node)) (Some (disk_plain m)) (calls.drawn r n) fault none left.2.memory by in
       subst (λ e. HasFormatted (λ y. StandsAs c n done.0 y) tells x n r e) (sym left.1) (formats_not_kept c n node x r tells fresh loaded told fault m (done.0, left.0) was is_op left.2)
 
   undone_by : (fault : NodeFault) (m : MemDisk) (done : State × Formatted) → tells (after_draw r n)
       → ((f : RegisterFault) → fault ≡ faults.Register f → (done.1 ≡ endings.Refused f) × IsBlankAt m done.0) → (((f : RegisterFault) → fault ≢ faults.Register f) → Left fault m done)
-      → FormatsBy (place_behind fresh.lies.ops) (disk_plain (disk_of node)) (calls.drawn r n) (Some (disk_plain m)) (Err fault)
+      → FormatsBy (place_behind fresh.lies.found) (disk_plain (disk_of node)) (calls.drawn r n) (Some (disk_plain m)) (Err fault)
       → ((d : Drawn) → calls.drawn r n ≡ Ok d → (fault ≡ faults.Disk) ⊎ (fault ≡ faults.Full) → IsOp (format_of d)) → HasFormatted (λ y. StandsAs c n done.0 y) tells x n r done.1
   undone_by faults.Disk m done told refused not_kept by is_op = other_undone faults.Disk m done told disk_register (not_kept disk_register) by is_op
   undone_by (faults.Damaged at) m done told refused not_kept by is_op = other_undone (faults.Damaged at) m done told (damaged_register at) (not_kept (damaged_register at)) by is_op

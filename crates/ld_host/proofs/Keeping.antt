@@ -7,6 +7,7 @@ use Rattle.ld_journal.specs.Format.{append_calls}
 use Rattle.ld_journal.specs.Pictures.{appended, seen_by}
 use Rattle.ld_msg.specs.Register.{record_length}
 use Rattle.ld_op.specs.declared.op.Op.{Op}
+use Rattle.ld_op.specs.declared.record.Record.TheVariants.{Now}
 use Rattle.ld_op.specs.Plain.{apply, op_length}
 use Rattle.ld_op.specs.Bytes.{op_bytes}
 use Rattle.ld_store.specs.Ops.{place_behind, MayFollow}
@@ -14,8 +15,9 @@ use Rattle.ld_store.proofs.Bodies.{state-push, some-push}
 use Rattle.ld_store.proofs.Cuts.{place_more, durable, safe_too}
 use Rattle.ld_machine.specs.Disk.{Node, Status, cut_of, with_op}
 use Rattle.ld_host.specs.Faults.{crash_of, pictures_of}
-use Rattle.ld_host.specs.Lies.{IsWhole, Rests, Lies}
+use Rattle.ld_host.specs.Lies.{Follows, IsWhole, Rests, Lies}
 use Rattle.ld_host.proofs.Fates.{AllMade, Stops}
+use Rattle.ld_host.proofs.Versions.{may_follow, current_then}
 
 -- the pictures of a crash in a call, one or none
 abbrev pub seen_then : Option Named → List Named
@@ -34,35 +36,40 @@ seen_too : (crash : Option Named) → pictures_of (seen_then crash) ≡ seen_by 
 seen_too None = refl
 seen_too (Some p) = refl
 
-module _ (p : DiskPlain) (x : Node) (o : Op) (lies : Lies p x) (whole : x.cut ≡ None) (next : MayFollow lies.ops o) (formatted : ((apply x.plain o).generation == 0) ≡ false) where
+module _ (p : DiskPlain) (x : Node) (o : Op) (lies : Lies p x) (whole : x.cut ≡ None) (next : Follows lies.found o) (formatted : ((apply x.plain o).generation == 0) ≡ false) where
   abbrev calls : List Call
-  calls = append_calls (place_behind lies.ops) (op_bytes o)
+  calls = append_calls (place_behind lies.found) (op_bytes o)
 
-  pub whole_is : IsWhole lies.ops p.state
-  whole_is = subst (λ k. Rests lies.ops x.plain x.length k p.state) whole lies.rests
+  may : MayFollow lies.found (Now o)
+  may = may_follow lies.found o lies.version next
 
-  pub whole_then : (s : State) → s ≡ all_made calls p.state → IsWhole (lies.ops ++ o ∷ []) s
+  pub whole_is : IsWhole lies.found p.state
+  whole_is = subst (λ k. Rests lies.found x.plain x.length k p.state) whole lies.rests
+
+  pub whole_then : (s : State) → s ≡ all_made calls p.state → IsWhole (lies.found ++ Now o ∷ []) s
   whole_then s is =
       let w = whole_is in
       record {
-        bytes = appended (place_behind lies.ops) (op_bytes o) w.bytes;
-        journal = durable lies.ops o w.bytes (place_behind lies.ops) w.journal next refl;
-        safe = is ∙ safe_too lies.ops o w.bytes (place_behind lies.ops) w.journal next refl p.state w.safe;
+        bytes = appended (place_behind lies.found) (op_bytes o) w.bytes;
+        journal = durable lies.found (Now o) w.bytes (place_behind lies.found) w.journal may refl;
+        safe = is ∙ safe_too lies.found (Now o) w.bytes (place_behind lies.found) w.journal may refl p.state w.safe;
       }
 
   unfoldable pub written_lies : AllMade calls x.fault p → Lies (after_calls calls p) (with_op x o)
   written_lies made = record {
-    ops = lies.ops ++ o ∷ [];
-    plain = ap (λ q. apply q o) lies.plain ∙ sym (state-push lies.ops o);
-    length = omega (arith, lies.length, place_more lies.ops o);
-    formatted = formatted ∙ sym (some-push lies.ops o);
-    rests = subst (λ k. Rests (lies.ops ++ o ∷ []) (apply x.plain o) (x.length + record_length (op_length o)) k (after_calls calls p).state) (sym whole) (whole_then (after_calls calls p).state made.state);
+    found = lies.found ++ Now o ∷ [];
+    version = current_then lies.found o lies.version next;
+    plain = ap (λ q. apply q o) lies.plain ∙ sym (state-push lies.found (Now o));
+    length = omega (arith, lies.length, place_more lies.found (Now o));
+    formatted = formatted ∙ sym (some-push lies.found (Now o));
+    rests = subst (λ k. Rests (lies.found ++ Now o ∷ []) (apply x.plain o) (x.length + record_length (op_length o)) k (after_calls calls p).state) (sym whole) (whole_then (after_calls calls p).state made.state);
     armed = made.armed;
   }
 
   pub cut_lies : (stops : Stops calls x.fault p) (q : DiskPlain) (status : Status) → q.state ≡ (after_calls calls p).state → q.armed ≡ None → q.crashed ≡ false → Lies q (cut_node x o status stops.left stops.crash)
   cut_lies stops q status state armed stands = record {
-    ops = lies.ops;
+    found = lies.found;
+    version = lies.version;
     plain = lies.plain;
     length = lies.length;
     formatted = lies.formatted;

@@ -1,4 +1,5 @@
 pub mod Fates
+pub mod Versions
 pub mod Keeping
 pub mod Loading
 pub mod Fulls

@@ -6,25 +6,29 @@ use Rattle.ld_disk.specs.Record.{State, synced}
 use Rattle.ld_disk.specs.Plain.{Plain as DiskPlain, Call, after_call}
 use Rattle.ld_disk.specs.declared.disk.Picture.{Picture}
 use Rattle.ld_journal.specs.Pictures as journals
-use Rattle.ld_journal.specs.Pictures.{IsSafe, is_there, crashed_by, seen_by}
+use Rattle.ld_journal.specs.Pictures.{is_there, seen_by}
 use Rattle.ld_msg.specs.Register.{record_length}
 use Rattle.ld_op.specs.declared.op.Op.{Op}
+use Rattle.ld_op.specs.declared.record.Record.{Record}
+use Rattle.ld_op.specs.declared.record.Record.TheVariants.{Now}
 use Rattle.ld_op.specs.Plain.{Plain, apply, op_length}
 use Rattle.ld_store.specs.Ops.{state_after, place_behind, are_none, IsJournalOf}
 use Rattle.ld_store.proofs.Bodies.{state-push, some-push}
 use Rattle.ld_store.proofs.Cuts.{place_more, cut_ops}
 use Rattle.ld_machine.specs.Disk.{Node, Status, Cut, shows_gate, gate_reads, is_found, found, found_length, seen_too, loaded_by, Made}
 use Rattle.ld_host.specs.Faults.{picture_of, pictures_of, crash_of, IsArmed}
-use Rattle.ld_host.specs.Lies.{IsWhole, IsCut, Rests, Lies}
+use Rattle.ld_host.specs.Lies.{IsCurrent, Follows, IsWhole, IsCut, Rests, Lies}
 use Rattle.ld_host.proofs.Fates.{AllMade, Stops, after_one, stopped_sync, sync_stops}
+use Rattle.ld_host.proofs.Versions.{may_follow, current_then}
 
--- the bytes are a journal of ops that add up to what a load finds
+-- the bytes are a journal of records that add up to what a load finds, and of the second version where they are any
 pub record Finds (bytes : List ℕ) (plain : Plain) (length : ℕ) : Type 0 where
-  pub ops : List Op
-  pub journal : IsJournalOf ops bytes
-  pub plain_is : plain ≡ state_after ops
-  pub length_is : length ≡ place_behind ops + 1
-  pub formatted : (plain.generation == 0) ≡ are_none ops
+  pub read : List Record
+  pub version : IsCurrent read
+  pub journal : IsJournalOf read bytes
+  pub plain_is : plain ≡ state_after read
+  pub length_is : length ≡ place_behind read + 1
+  pub formatted : (plain.generation == 0) ≡ are_none read
 
 -- ---- what decides ----
 
@@ -44,37 +48,43 @@ found_there k how later crashed seen =
 
 -- ---- with the op or without it ----
 
-plain_either : (b : Bool) (os : List Op) (o : Op) (p q : Plain) → p ≡ state_after os → q ≡ apply p o → (if b then q else p) ≡ state_after (if b then os ++ o ∷ [] else os)
-plain_either true os o p q is more = more ∙ ap (λ r. apply r o) is ∙ sym (state-push os o)
-plain_either false os o p q is more = is
+plain_either : (b : Bool) (vs : List Record) (o : Op) (p q : Plain) → p ≡ state_after vs → q ≡ apply p o → (if b then q else p) ≡ state_after (if b then vs ++ Now o ∷ [] else vs)
+plain_either true vs o p q is more = more ∙ ap (λ r. apply r o) is ∙ sym (state-push vs (Now o))
+plain_either false vs o p q is more = is
 
-length_either : (b : Bool) (os : List Op) (o : Op) (m n : ℕ) → m ≡ place_behind os + 1 → n ≡ m + record_length (op_length o) → (if b then n else m) ≡ place_behind (if b then os ++ o ∷ [] else os) + 1
-length_either true os o m n is more = omega (arith, is, more, place_more os o)
-length_either false os o m n is more = is
+version_either : (b : Bool) (vs : List Record) (o : Op) → IsCurrent vs → Follows vs o → IsCurrent (if b then vs ++ Now o ∷ [] else vs)
+version_either true vs o version next = current_then vs o version next
+version_either false vs o version next = version
 
-formatted_either : (b : Bool) (os : List Op) (o : Op) (p q : Plain) → (p.generation == 0) ≡ are_none os → (q.generation == 0) ≡ false → ((if b then q else p).generation == 0) ≡ are_none (if b then os ++ o ∷ [] else os)
-formatted_either true os o p q is more = more ∙ sym (some-push os o)
-formatted_either false os o p q is more = is
+length_either : (b : Bool) (vs : List Record) (o : Op) (m n : ℕ) → m ≡ place_behind vs + 1 → n ≡ m + record_length (op_length o) → (if b then n else m) ≡ place_behind (if b then vs ++ Now o ∷ [] else vs) + 1
+length_either true vs o m n is more = omega (arith, is, more, place_more vs (Now o))
+length_either false vs o m n is more = is
 
-module _ (ops : List Op) (x : Node) (plain : x.plain ≡ state_after ops) (length_is : x.length ≡ place_behind ops + 1) (formatted : (x.plain.generation == 0) ≡ are_none ops) where
-  finds_cut : (k : Cut) (s : State) → IsCut ops x.plain x.length k s → Finds s.bytes (found x (Some k)) (found_length x (Some k))
+formatted_either : (b : Bool) (vs : List Record) (o : Op) (p q : Plain) → (p.generation == 0) ≡ are_none vs → (q.generation == 0) ≡ false → ((if b then q else p).generation == 0) ≡ are_none (if b then vs ++ Now o ∷ [] else vs)
+formatted_either true vs o p q is more = more ∙ sym (some-push vs (Now o))
+formatted_either false vs o p q is more = is
+
+module _ (vs : List Record) (x : Node) (version : IsCurrent vs) (plain : x.plain ≡ state_after vs) (length_is : x.length ≡ place_behind vs + 1) (formatted : (x.plain.generation == 0) ≡ are_none vs) where
+  finds_cut : (k : Cut) (s : State) → IsCut vs x.plain x.length k s → Finds s.bytes (found x (Some k)) (found_length x (Some k))
   finds_cut k s cut =
       let there = found_there k cut.how cut.later cut.crashed cut.seen in
       let b = is_there k.call cut.how cut.later in
-      let journal = cut_ops ops cut.op cut.whole.bytes (place_behind ops) cut.whole.journal cut.next refl k.call cut.how cut.later cut.before cut.whole.safe cut.told cut.call in
+      let journal = cut_ops vs (Now cut.op) cut.whole.bytes (place_behind vs) cut.whole.journal (may_follow vs cut.op version cut.next) refl k.call cut.how cut.later cut.before cut.whole.safe cut.told cut.call in
       subst (λ c. Finds s.bytes (if c then k.plain else x.plain) (if c then k.length else x.length)) (sym there)
       (record {
-        ops = if b then ops ++ cut.op ∷ [] else ops;
-        journal = subst (λ l. IsJournalOf (if b then ops ++ cut.op ∷ [] else ops) l) (ap (λ t. t.bytes) (sym cut.state)) journal;
-        plain_is = plain_either b ops cut.op x.plain k.plain plain cut.plain_is;
-        length_is = length_either b ops cut.op x.length k.length length_is cut.length_is;
-        formatted = formatted_either b ops cut.op x.plain k.plain formatted cut.formatted;
+        read = if b then vs ++ Now cut.op ∷ [] else vs;
+        version = version_either b vs cut.op version cut.next;
+        journal = subst (λ l. IsJournalOf (if b then vs ++ Now cut.op ∷ [] else vs) l) (ap (λ t. t.bytes) (sym cut.state)) journal;
+        plain_is = plain_either b vs cut.op x.plain k.plain plain cut.plain_is;
+        length_is = length_either b vs cut.op x.length k.length length_is cut.length_is;
+        formatted = formatted_either b vs cut.op x.plain k.plain formatted cut.formatted;
       })
 
-  finds_rest : (cut : Option Cut) (s : State) → Rests ops x.plain x.length cut s → Finds s.bytes (found x cut) (found_length x cut)
+  finds_rest : (cut : Option Cut) (s : State) → Rests vs x.plain x.length cut s → Finds s.bytes (found x cut) (found_length x cut)
   finds_rest None s whole = record {
-    ops = ops;
-    journal = subst (λ l. IsJournalOf ops l) (ap (λ t. t.bytes) (sym whole.safe)) whole.journal;
+    read = vs;
+    version = version;
+    journal = subst (λ l. IsJournalOf vs l) (ap (λ t. t.bytes) (sym whole.safe)) whole.journal;
     plain_is = plain;
     length_is = length_is;
     formatted = formatted;
@@ -82,24 +92,25 @@ module _ (ops : List Op) (x : Node) (plain : x.plain ≡ state_after ops) (lengt
   finds_rest (Some k) s cut = finds_cut k s cut
 
 pub finds : (p : DiskPlain) (x : Node) → Lies p x → Finds p.state.bytes (found x x.cut) (found_length x x.cut)
-finds p x lies = finds_rest lies.ops x lies.plain lies.length lies.formatted x.cut p.state lies.rests
+finds p x lies = finds_rest lies.found x lies.version lies.plain lies.length lies.formatted x.cut p.state lies.rests
 
 -- ---- after the load ----
 
 abbrev pub one_sync : List Call
 one_sync = None ∷ []
 
-pub loaded_lies : (p : DiskPlain) (x : Node) → Lies p x → AllMade one_sync x.fault p → Lies (after_call None p) (loaded_by x Made)
-loaded_lies p x lies made =
+unfoldable pub loaded_lies : (p : DiskPlain) (x : Node) → Lies p x → AllMade one_sync x.fault p → (q : DiskPlain) → q ≡ after_call None p → Lies q (loaded_by x Made)
+loaded_lies p x lies made q is =
     let f = finds p x lies in
     let one = after_one None p in
     record {
-      ops = f.ops;
+      found = f.read;
+      version = f.version;
       plain = f.plain_is;
       length = f.length_is;
       formatted = f.formatted;
-      rests = record { bytes = p.state.bytes; journal = f.journal; safe = ap (λ q. q.state) (sym one) ∙ made.state };
-      armed = subst (λ q. IsArmed (loaded_by x Made).fault q) one made.armed;
+      rests = record { bytes = p.state.bytes; journal = f.journal; safe = ap (λ r. r.state) (is ∙ sym one) ∙ made.state };
+      armed = subst (λ r. IsArmed (loaded_by x Made).fault r) (one ∙ sym is) made.armed;
     }
 
 -- ---- a load that stops ----
@@ -108,11 +119,11 @@ seen_later : (how : Option Picture) (picture : Picture) (later seen : List Pictu
 seen_later None picture later seen is = ap (λ l. picture ∷ l) is
 seen_later (Some first) picture later seen is = ap (λ l. picture ∷ l) is
 
-crashed_whole : (ops : List Op) (s : State) (picture : Picture) → IsWhole ops s → IsWhole ops (synced (Some picture) s)
-crashed_whole ops s picture whole = record { bytes = whole.bytes; journal = whole.journal; safe = ap (λ t. synced (Some picture) t) whole.safe }
+crashed_whole : (vs : List Record) (s : State) (picture : Picture) → IsWhole vs s → IsWhole vs (synced (Some picture) s)
+crashed_whole vs s picture whole = record { bytes = whole.bytes; journal = whole.journal; safe = ap (λ t. synced (Some picture) t) whole.safe }
 
-crashed_cut : (ops : List Op) (plain : Plain) (length : ℕ) (k : Cut) (s : State) (p : Named) → IsCut ops plain length k s → IsCut ops plain length (record k { seen = p ∷ k.seen }) (synced (Some (picture_of p)) s)
-crashed_cut ops plain length k s p cut = record {
+crashed_cut : (vs : List Record) (plain : Plain) (length : ℕ) (k : Cut) (s : State) (p : Named) → IsCut vs plain length k s → IsCut vs plain length (record k { seen = p ∷ k.seen }) (synced (Some (picture_of p)) s)
+crashed_cut vs plain length k s p cut = record {
   op = cut.op;
   next = cut.next;
   before = cut.before;
@@ -129,27 +140,28 @@ crashed_cut ops plain length k s p cut = record {
   seen = seen_later cut.how (picture_of p) cut.later (pictures_of k.seen) cut.seen;
 }
 
-crashed_rests : (ops : List Op) (plain : Plain) (length : ℕ) (cut : Option Cut) (s : State) (p : Named) → Rests ops plain length cut s → Rests ops plain length (seen_too p cut) (synced (Some (picture_of p)) s)
-crashed_rests ops plain length None s p whole = crashed_whole ops s (picture_of p) whole
-crashed_rests ops plain length (Some k) s p cut = crashed_cut ops plain length k s p cut
+crashed_rests : (vs : List Record) (plain : Plain) (length : ℕ) (cut : Option Cut) (s : State) (p : Named) → Rests vs plain length cut s → Rests vs plain length (seen_too p cut) (synced (Some (picture_of p)) s)
+crashed_rests vs plain length None s p whole = crashed_whole vs s (picture_of p) whole
+crashed_rests vs plain length (Some k) s p cut = crashed_cut vs plain length k s p cut
 
 -- with the picture of a crash, where there was one
 abbrev pub cut_then : Option Named → Option Cut → Option Cut
 cut_then None cut = cut
 cut_then (Some p) cut = seen_too p cut
 
-stopped_rests : (ops : List Op) (plain : Plain) (length : ℕ) (cut : Option Cut) (s : State) (crash : Option Named) → Rests ops plain length cut s → Rests ops plain length (cut_then crash cut) (stopped_sync (crash_of crash) s)
-stopped_rests ops plain length cut s None rests = rests
-stopped_rests ops plain length cut s (Some p) rests = crashed_rests ops plain length cut s p rests
+stopped_rests : (vs : List Record) (plain : Plain) (length : ℕ) (cut : Option Cut) (s : State) (crash : Option Named) → Rests vs plain length cut s → Rests vs plain length (cut_then crash cut) (stopped_sync (crash_of crash) s)
+stopped_rests vs plain length cut s None rests = rests
+stopped_rests vs plain length cut s (Some p) rests = crashed_rests vs plain length cut s p rests
 
 pub stopped_lies : (p : DiskPlain) (x : Node) → Lies p x → (stops : Stops one_sync x.fault p) (q : DiskPlain) (status : Status) → q.state ≡ (after_call None p).state → q.armed ≡ None → q.crashed ≡ false
     → Lies q (record x { status = status; fault = None; cut = cut_then stops.crash x.cut })
 stopped_lies p x lies stops q status state armed stands = record {
-  ops = lies.ops;
+  found = lies.found;
+  version = lies.version;
   plain = lies.plain;
   length = lies.length;
   formatted = lies.formatted;
-  rests = subst (λ s. Rests lies.ops x.plain x.length (cut_then stops.crash x.cut) s) (sym (state ∙ sync_stops stops.left (crash_of stops.crash) p stops.told stops.most))
-      (stopped_rests lies.ops x.plain x.length x.cut p.state stops.crash lies.rests);
+  rests = subst (λ s. Rests lies.found x.plain x.length (cut_then stops.crash x.cut) s) (sym (state ∙ sync_stops stops.left (crash_of stops.crash) p stops.told stops.most))
+      (stopped_rests lies.found x.plain x.length x.cut p.state stops.crash lies.rests);
   armed = record { stands = stands; told = armed; counts = tt };
 }

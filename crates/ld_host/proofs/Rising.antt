@@ -1,17 +1,17 @@
 -- How a load of a host ends.
-use Rattle.std.proofs.Common.{◌≡◌, ◌≢◌, ◌⊎◌, ◌↔◌, ⊎_elim, ◌+◌, ◌==◌, ℕ, List, [], ◌∷◌, Bool, true, false, Option, None, Some, is_some, Result, Ok, Err, IfOk, if◌then◌else◌, refl, sym, ◌∙◌, ap, subst, true≢false}
+use Rattle.std.proofs.Common.{◌≡◌, ◌≢◌, ◌⊎◌, ◌↔◌, ⊎_elim, ◌==◌, ℕ, List, [], ◌∷◌, Bool, true, false, Option, None, Some, is_some, Result, Ok, Err, IfOk, if◌then◌else◌, refl, sym, ◌∙◌, ap, subst, true≢false}
 use Rattle.ld_ids.specs.declared.memory.NoMemory.{NoMemory}
 use Rattle.ld_schedule.specs.declared.event.Picture.{Picture as Named}
 use Rattle.ld_disk.specs.Memory.{disk_plain}
 use Rattle.ld_disk.specs.Plain.{Plain as DiskPlain, after_call, after_calls, succeeds, restarted}
 use Rattle.ld_disk.specs.declared.disk.Disk.{Ghosts}
 use Rattle.ld_disk.specs.declared.memory.MemDisk.{MemDisk}
-use Rattle.ld_op.specs.declared.op.Op.{Op}
+use Rattle.ld_op.specs.declared.record.Record.{Record}
 use Rattle.ld_op.specs.Plain.{unformatted}
-use Rattle.ld_store.specs.Ops.{state_after, place_behind, are_none, IsDamaged}
+use Rattle.ld_store.specs.Ops.{state_after, are_none, marked, IsOfFirst, HasNoRoom, IsDamaged}
 use Rattle.ld_store.proofs.Readings.{one_list, not_damaged}
 use Rattle.ld_register.specs.declared.fault.RegisterFault.{RegisterFault}
-use Rattle.ld_node.specs.Node.{id_of, known_of, released_of, disk_of, is_blank, IsOpened}
+use Rattle.ld_node.specs.Node.{id_of, known_of, released_of, disk_of, is_blank, Holds, IsOpened}
 use Rattle.ld_node.specs.Known.{known_in}
 use Rattle.ld_node.specs.declared.node.Node.{Node as Running}
 use Rattle.ld_node.specs.declared.fault.NodeFault.{NodeFault}
@@ -24,12 +24,13 @@ use Rattle.ld_host.specs.declared.kept.Kept.TheVariants as ends
 use Rattle.ld_host.specs.declared.state.State.{State}
 use Rattle.ld_host.specs.declared.state.State.TheVariants as states
 use Rattle.ld_host.specs.States.{IsFailedAt, IsDownAt, IsBlankAt, Refuses}
-use Rattle.ld_host.specs.Faults.{crash_of, IsArmed}
+use Rattle.ld_host.specs.Faults.{crash_of}
 use Rattle.ld_host.specs.Lies.{Lies}
 use Rattle.ld_host.specs.Stands.{Runs, IsBlank, IsFresh, StandsAs, seen_in, leaves_of}
 use Rattle.ld_host.specs.Done.{shown_kept}
 use Rattle.ld_host.proofs.Fates.{AllMade, Stops, fates, after_one, succeeds_one}
-use Rattle.ld_host.proofs.Loading.{finds, one_sync, stopped_lies, cut_then}
+use Rattle.ld_host.proofs.Versions.{not_of_first, unmarked}
+use Rattle.ld_host.proofs.Loading.{finds, one_sync, loaded_lies, stopped_lies, cut_then}
 use Rattle.ld_host.proofs.Ending.{failed_stands, down_stands}
 
 -- what is known of a call that was refused, by its clauses
@@ -42,9 +43,9 @@ pub if_refused : (r : Result (State × HostKept) NoMemory) (fault : NodeFault) (
 if_refused (Err e) fault q P full failed crashed memory each = tt
 if_refused (Ok done) fault q P full failed crashed memory each = each done (record { full = full; failed = failed; crashed = crashed; memory = memory })
 
-none_are : (os : List Op) → are_none os ≡ true → os ≡ []
+none_are : (vs : List Record) → are_none vs ≡ true → vs ≡ []
 none_are [] is = refl
-none_are (o ∷ os) is = absurd (true≢false (sym is))
+none_are (v ∷ vs) is = absurd (true≢false (sym is))
 
 pub some_is : {A : Type 0} (a b : A) → Some a ≡ Some b → a ≡ b
 some_is a b is = cc
@@ -57,33 +58,30 @@ module _ (c : Config) (n : ℕ) (p : DiskPlain) (x : Node) (lies : Lies p x) whe
   made_all : succeeds p ≡ true → AllMade one_sync x.fault p
   made_all works = ⊎_elim (λ made. made) (λ stops. absurd (true≢false (sym works ∙ (sym (succeeds_one None p) ∙ stops.succeed)))) (fates one_sync x.fault p lies.armed)
 
+  -- its journal isn't of the first version
+  pub no_first : IsOfFirst p.state.bytes → ⊥
+  no_first first = let f = finds p x lies in not_of_first f.read p.state.bytes f.version f.journal first
+
   -- ---- it comes up ----
 
   module _ {g : Ghosts MemDisk} (node : Running MemDisk g) (opened : IsOpened seen_in leaves_of node p.state.bytes) (disk : disk_plain (disk_of node) ≡ after_call None p) (works : succeeds p ≡ true) where
-    same_ops : (finds p x lies).ops ≡ opened.ops
-    same_ops = let f = finds p x lies in one_list f.ops opened.ops p.state.bytes f.journal opened.journal
+    -- what the load found is what lies there, and it marked nothing
+    holds_now : Holds seen_in leaves_of node (finds p x lies).read
+    holds_now =
+        let f = finds p x lies in
+        let same : marked opened.found ≡ f.read = ap marked (sym (one_list f.read opened.found p.state.bytes f.journal opened.journal)) ∙ unmarked f.read f.version in
+        subst (λ vs. Holds seen_in leaves_of node vs) same opened.holds
 
     formatted_is : ((found x x.cut).generation == 0) ≡ is_blank node
-    formatted_is = (finds p x lies).formatted ∙ ap are_none same_ops ∙ sym opened.holds.blank
+    formatted_is = (finds p x lies).formatted ∙ sym holds_now.blank
 
-    unfoldable lies_now : Lies (disk_plain (disk_of node)) (loaded_by x Made)
-    lies_now =
-        let f = finds p x lies in
-        let made = made_all works in
-        record {
-          ops = opened.ops;
-          plain = f.plain_is ∙ ap state_after same_ops;
-          length = f.length_is ∙ ap (λ os. place_behind os + 1) same_ops;
-          formatted = f.formatted ∙ ap are_none same_ops;
-          rests = record { bytes = p.state.bytes; journal = opened.journal; safe = ap (λ q. q.state) (disk ∙ sym (after_one None p)) ∙ made.state };
-          armed = subst (λ q. IsArmed (loaded_by x Made).fault q) (after_one None p ∙ sym disk) made.armed;
-        }
+    abbrev lies_now : Lies (disk_plain (disk_of node)) (loaded_by x Made)
+    lies_now = loaded_lies p x lies (made_all works) (disk_plain (disk_of node)) disk
 
     blank_now : is_blank node ≡ true → (m : MemDisk) → m ≡ disk_of node → IsBlank m (loaded_by x Made)
-    unfolding lies_now
     blank_now blank m same = record {
       status = ap (λ b. if b then Blank else Up) (formatted_is ∙ blank);
-      plain = lies_now.plain ∙ ap state_after (none_are opened.ops (sym opened.holds.blank ∙ blank));
+      plain = (finds p x lies).plain_is ∙ ap state_after (none_are (finds p x lies).read (sym holds_now.blank ∙ blank));
       cut = refl;
       lies = subst (λ m. Lies (disk_plain m) (loaded_by x Made)) (sym same) lies_now;
     }
@@ -93,10 +91,10 @@ module _ (c : Config) (n : ℕ) (p : DiskPlain) (x : Node) (lies : Lies p x) whe
     blank_stays cut plain = sym formatted_is ∙ (ap (λ k. (found x k).generation == 0) cut ∙ ap (λ q. q.generation == 0) plain)
 
     fresh_now : id_of node ≡ n → known_of node ≡ known_in c → released_of node ≡ [] → is_blank node ≡ true → IsFresh c n node (loaded_by x Made)
-    unfolding lies_now
+    unfolding loaded_lies
     fresh_now id known released blank =
         let b = blank_now blank (disk_of node) refl in
-        record { id = id; known = known; released = released; blank = blank; status = b.status; plain = b.plain; cut = refl; lies = lies_now; holds = opened.holds }
+        record { id = id; known = known; released = released; blank = blank; status = b.status; plain = b.plain; cut = refl; lies = lies_now; holds = holds_now }
 
     pub fresh : id_of node ≡ n → known_of node ≡ known_in c → released_of node ≡ [] → is_blank node ≡ true → IsFresh c n node (load x) × (load_end x ≡ Written)
     fresh id known released blank =
@@ -111,7 +109,7 @@ module _ (c : Config) (n : ℕ) (p : DiskPlain) (x : Node) (lies : Lies p x) whe
     blank_at blank states.Gone at = absurd at
 
     runs_now : id_of node ≡ n → known_of node ≡ known_in c → released_of node ≡ [] → is_blank node ≡ false → Runs c n node (loaded_by x Made)
-    unfolding lies_now
+    unfolding loaded_lies
     runs_now id known released formatted = record {
       status = ap (λ b. if b then Blank else Up) (formatted_is ∙ formatted);
       id = id;
@@ -119,7 +117,7 @@ module _ (c : Config) (n : ℕ) (p : DiskPlain) (x : Node) (lies : Lies p x) whe
       released = released;
       cut = refl;
       lies = lies_now;
-      holds = opened.holds;
+      holds = holds_now;
     }
 
     -- the state of a node that runs is this
@@ -180,7 +178,7 @@ module _ (c : Config) (n : ℕ) (p : DiskPlain) (x : Node) (lies : Lies p x) whe
   pub record NotLoaded (fault : NodeFault) (q : DiskPlain) : Type 0 where
     pub exact : ((fault ≡ faults.NoMemory) × ((Some q ≡ Some p) ⊎ (Some q ≡ Some (after_call None p)))) ⊎ ((Some q ≡ Some (after_call None p)) × ((fault ≡ faults.Disk) ↔ (succeeds p ≡ false)))
     pub damaged : (place : ℕ) → fault ≡ faults.Damaged place → IsDamaged place p.state.bytes
-    pub full : fault ≢ faults.Full
+    pub full : fault ≡ faults.Full → HasNoRoom p.state.bytes
     pub loaded : fault ≢ faults.NeedsLoad
     pub register : (f : RegisterFault) → fault ≢ faults.Register f
 
@@ -192,8 +190,8 @@ module _ (c : Config) (n : ℕ) (p : DiskPlain) (x : Node) (lies : Lies p x) whe
       (λ is. absurd (no_memory is.0))
       (λ exact. falls_made q done (some_is q (after_call None p) exact.0) (exact.1.0 refl) refuses)
       not.exact
-  falls (faults.Damaged place) q done not refuses = let f = finds p x lies in absurd (not_damaged f.ops p.state.bytes place f.journal (not.damaged place refl))
-  falls faults.Full q done not refuses = absurd (not.full refl)
+  falls (faults.Damaged place) q done not refuses = let f = finds p x lies in absurd (not_damaged f.read p.state.bytes place f.journal (not.damaged place refl))
+  falls faults.Full q done not refuses = absurd (no_first (not.full refl).was)
   falls faults.NeedsLoad q done not refuses = absurd (not.loaded refl)
   falls (faults.Register f) q done not refuses = absurd (not.register f refl)
   falls faults.NoMemory q done not refuses = absurd (refuses.memory refl)

@@ -10,7 +10,8 @@ use Rattle.ld_disk.specs.declared.memory.MemDisk.{MemDisk}
 use Rattle.ld_store.specs.Ops.{IsJournalOf}
 use Rattle.ld_node.specs.Node.{id_of, known_of, released_of, disk_of, Holds}
 use Rattle.ld_node.specs.declared.node.Node.{Node as Running}
-use Rattle.ld_op.specs.declared.op.Op.{Op}
+use Rattle.ld_op.specs.declared.record.Record.{Record}
+use Rattle.ld_op.specs.declared.version.Version.TheVariants.{Blank}
 use Rattle.ld_config.specs.declared.config.Config.{Config}
 use Rattle.ld_machine.specs.Disk.{Node, Fault, Down, new_node}
 use Rattle.ld_machine.specs.Step.{with_fault, stopped}
@@ -28,11 +29,12 @@ not_one : (gate : ℕ) → gate ≡ 0 → gate ≢ 1
 not_one gate shut is = absurd (omega (arith, shut, is))
 
 empty_journal : IsJournalOf [] (0 ∷ [])
-empty_journal = record { journal = record { gate = 0; after = []; bytes_are = refl; shut = not_one 0 refl; fits = All-nil (λ (body : List ℕ). length body < 2 ^ 32) }; ops = tt }
+empty_journal = record { journal = record { gate = 0; after = []; bytes_are = refl; shut = not_one 0 refl; fits = All-nil (λ (body : List ℕ). length body < 2 ^ 32) }; placed = record { are = tt; version = Blank; version_is = refl } }
 
 new_lies : Lies new_disk new_node
 new_lies = record {
-  ops = [];
+  found = [];
+  version = refl;
   plain = refl;
   length = refl;
   formatted = refl;
@@ -46,7 +48,7 @@ new_blank m is = record { status = refl; plain = refl; cut = refl; lies = subst 
 -- ---- a node that stops ----
 
 stopped_lies : (p : DiskPlain) (x : Node) → Lies p x → Lies p (stopped x)
-stopped_lies p x lies = record { ops = lies.ops; plain = lies.plain; length = lies.length; formatted = lies.formatted; rests = lies.rests; armed = lies.armed }
+stopped_lies p x lies = record { found = lies.found; version = lies.version; plain = lies.plain; length = lies.length; formatted = lies.formatted; rests = lies.rests; armed = lies.armed }
 
 module _ (c : Config) (n : ℕ) where
   pub lies_in : (s : State) (x : Node) (m : MemDisk) → StandsAs c n s x → disk_in s ≡ Some m → Lies (disk_plain m) x
@@ -70,7 +72,8 @@ module _ (c : Config) (n : ℕ) where
 
 unfoldable pub armed_lies : (p : DiskPlain) (x : Node) (f : Fault) (fault : DiskFault) → fault ≡ fault_of f.left (crash_of f.crash) → 1 ≤ f.left → Lies p x → Lies (armed_with fault p) (with_fault x f)
 armed_lies p x f fault is counts lies = record {
-  ops = lies.ops;
+  found = lies.found;
+  version = lies.version;
   plain = lies.plain;
   length = lies.length;
   formatted = lies.formatted;
@@ -83,7 +86,7 @@ armed_too m new fault is = some_is (disk_plain new) (armed_with fault (disk_plai
 
 module _ {g : Ghosts MemDisk} (c : Config) (n : ℕ) (node new : Running MemDisk g) (x : Node) (f : Fault) (fault : DiskFault) where
   pub armed_runs : fault ≡ fault_of f.left (crash_of f.crash) → 1 ≤ f.left → Runs c n node x → disk_plain (disk_of new) ≡ armed_with fault (disk_plain (disk_of node))
-      → id_of new ≡ id_of node → known_of new ≡ known_of node → released_of new ≡ released_of node → ((ops : List Op) → Holds seen_in leaves_of node ops → Holds seen_in leaves_of new ops) → Runs c n new (with_fault x f)
+      → id_of new ≡ id_of node → known_of new ≡ known_of node → released_of new ≡ released_of node → ((vs : List Record) → Holds seen_in leaves_of node vs → Holds seen_in leaves_of new vs) → Runs c n new (with_fault x f)
   unfolding armed_lies
   armed_runs is counts runs disk id known released holds =
       let now = armed_lies (disk_plain (disk_of node)) x f fault is counts runs.lies in
@@ -94,12 +97,13 @@ module _ {g : Ghosts MemDisk} (c : Config) (n : ℕ) (node new : Running MemDisk
         released = released ∙ runs.released;
         cut = runs.cut;
         lies = record {
-          ops = runs.lies.ops;
+          found = runs.lies.found;
+          version = runs.lies.version;
           plain = runs.lies.plain;
           length = runs.lies.length;
           formatted = runs.lies.formatted;
-          rests = subst (λ q. Rests runs.lies.ops x.plain x.length x.cut q.state) (sym disk) runs.lies.rests;
+          rests = subst (λ q. Rests runs.lies.found x.plain x.length x.cut q.state) (sym disk) runs.lies.rests;
           armed = subst (λ q. IsArmed (Some f) q) (sym disk) now.armed;
         };
-        holds = holds runs.lies.ops runs.holds;
+        holds = holds runs.lies.found runs.holds;
       }

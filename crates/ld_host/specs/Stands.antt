@@ -26,7 +26,7 @@ abbrev pub leaves_of : MemDisk → List ℕ → Type 0
 leaves_of m c = leaves (disk_plain m).state c
 
 module _ {g : Ghosts MemDisk} where
-  -- a node runs: its store holds the ops that lie on its disk
+  -- a node runs: its store holds the records that lie on its disk
   pub record Runs (c : Config) (n : ℕ) (node : Running MemDisk g) (x : Node) : Type 0 where
     pub status : x.status ≡ Up
     pub id : id_of node ≡ n
@@ -34,7 +34,7 @@ module _ {g : Ghosts MemDisk} where
     pub released : released_of node ≡ x.released
     pub cut : x.cut ≡ None
     pub lies : Lies (disk_plain (disk_of node)) x
-    pub holds : Holds seen_in leaves_of node lies.ops
+    pub holds : Holds seen_in leaves_of node lies.found
 
 -- a new store lies on the disk
 pub record IsBlank (m : MemDisk) (x : Node) : Type 0 where
@@ -54,7 +54,7 @@ module _ {g : Ghosts MemDisk} where
     pub plain : y.plain ≡ unformatted
     pub cut : y.cut ≡ None
     pub lies : Lies (disk_plain (disk_of node)) y
-    pub holds : Holds seen_in leaves_of node lies.ops
+    pub holds : Holds seen_in leaves_of node lies.found
 
 -- no node runs over the disk
 pub record IsStopped (status : Status) (m : MemDisk) (x : Node) : Type 0 where

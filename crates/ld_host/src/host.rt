@@ -18,8 +18,9 @@ use ld_schedule::Picture;
 use std::alloc::Global;
 use std::mem;
 
-/// The machine of one node: its disk, and the node that runs on it where one runs. After a call that had no memory it
-/// is of no use.
+/// The machine of one node: its disk, and the node that runs on it where one runs. What it writes is of the second
+/// version of journals from the first byte on, so that no load has to mark it. After a call that had no memory it is of no
+/// use.
 #[derive(Drop)]
 pub struct Host {
     id: NodeId,

@@ -9,7 +9,7 @@ use ld_disk::MemDisk;
 use ld_ids::{LogId, NoMemory, NodeId, NodeSet, Payload, Spec};
 use ld_lsn::Lsn;
 use ld_msg::{Body, Msg, What, Who};
-use ld_register::DiskRegister;
+use ld_register::{DiskRegister, Register};
 use ld_schedule::Picture;
 use std::alloc::Global;
 use std::test::Fail;
@@ -56,10 +56,10 @@ fn config(alloc: Global) -> Result<Config, NoMemory> {
 }
 
 /// Formats a host, and says whether that was done.
-fn format_by(
+fn format_by<G: Register>(
     alloc: Global,
     host: &mut Host,
-    reg: &mut DiskRegister<MemDisk>,
+    reg: &mut G,
 ) -> Result<bool, NoMemory> {
     let config = config(alloc)?;
     match &host.format(alloc, &config, reg)? {
@@ -243,11 +243,11 @@ fn a_wiped_host_is_blank(rt: HostRuntime) -> Result<(), Fail> {
 }
 
 /// How a format crashes in the first call of its record, and how the node is after a load.
-fn crash_in_format(
+fn crash_in_format<G: Register>(
     alloc: Global,
     hosts: &mut Hosts,
     config: &Config,
-    reg: &mut DiskRegister<MemDisk>,
+    reg: &mut G,
 ) -> Result<(Kept, Status), NoMemory> {
     let node = node_of(2)?;
     hosts.arm(alloc, node, 2, Some(Picture::New))?;
@@ -274,11 +274,11 @@ fn a_format_that_crashes_is_not_kept(rt: HostRuntime) -> Result<(), Fail> {
 
 /// How a store and then a tick end at node 1, how many messages it sends, and how node 1 and node 2 are once node 1
 /// is stopped.
-fn run_one(
+fn run_one<G: Register>(
     alloc: Global,
     hosts: &mut Hosts,
     config: &Config,
-    reg: &mut DiskRegister<MemDisk>,
+    reg: &mut G,
 ) -> Result<(Kept, usize, Kept), NoMemory> {
     let node = node_of(1)?;
     let _ = hosts.format(alloc, node, config, reg)?;

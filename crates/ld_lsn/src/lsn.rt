@@ -1,5 +1,5 @@
 // A log sequence number.
-ghost use Rattle.std.specs.Prelude.{◌≡◌, ◌≢◌, ◌+◌, ◌-◌, ◌≤◌, ◌<◌, ◌^◌, ℕ, length, take, IfSome, IfNone};
+ghost use Rattle.std.specs.Prelude.{◌≡◌, ◌≢◌, ◌+◌, ◌-◌, ◌≤◌, ◌<◌, ◌^◌, ℕ, length, take, min, max, IfSome, IfNone};
 ghost use Rattle.ld_lsn.specs.Number.{epoch_of, esn_of, epoch_end, home_epoch, home_esn, numbered, lsn_text};
 
 use crate::text::{after, number, put, split_at_byte};
@@ -86,6 +86,28 @@ impl Lsn {
         ensures { result ≡ epoch_end epoch }
     {
         Lsn::new(epoch + 1, 0)
+    }
+
+    /// The later of two numbers.
+    pub fn later(self, other: Lsn) -> Lsn
+        ensures { result ≡ max self other }
+    {
+        if self.number < other.number {
+            other
+        } else {
+            self
+        }
+    }
+
+    /// The earlier of two numbers.
+    pub fn earlier(self, other: Lsn) -> Lsn
+        ensures { result ≡ min self other }
+    {
+        if other.number < self.number {
+            other
+        } else {
+            self
+        }
     }
 
     /// The next number; None exactly at the greatest 64-bit number.

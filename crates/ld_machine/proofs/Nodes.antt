@@ -17,7 +17,7 @@ use Rattle.ld_op.specs.Ticks.{Ticked, Cleans, Rebuilt, Asks, Nothing, on_tick}
 use Rattle.ld_config.specs.declared.config.Config.{Config}
 use Rattle.ld_ids.specs.Set.{members}
 use Rattle.ld_machine.specs.Config.{has_log}
-use Rattle.ld_msg.specs.Register.{Register, Answer, Granted, AtLimit, Behind, Fails, activate, draw, epochs_of, epochs_in, generation_of}
+use Rattle.ld_msg.specs.Register.{Register, Answer, Granted, AtLimit, Behind, Overtaken, Fails, activate, draw, epochs_of, epochs_in, generation_of}
 use Rattle.ld_machine.specs.Disk.{Node, Fault, new_node, Kept, Written, DiskFailed, Crashed, JournalFull, keep_op, load, load_end, is_up}
 use Rattle.ld_msg.specs.Network.{message, oldest_new}
 use Rattle.ld_msg.specs.Sequencer.{Sequencer, Appending, TooLong, Preempted, EpochFull, WindowFull, Numbered, appending, released_of}
@@ -95,12 +95,14 @@ module _ (P : Node → Type 0) (K : NodeKeeps P) where
   activated_kept c s name l r Granted a = a
   activated_kept c s name l r AtLimit a = a
   activated_kept c s name l r (Behind lce) a = a
+  activated_kept c s name l r (Overtaken k) a = a
   activated_kept c s name l r Fails a = a
 
   formatted_kept : (c : Config) (s : State) (n : ℕ) (r : Register) (o : Answer) → AllNodes P s → AllNodes P (Step.formats_by c s n r o).state
   formatted_kept c s n r Granted a = op_kept (with_register s r) n (ops.Format (generation_of r n) (epochs_in r.logs)) a
   formatted_kept c s n r AtLimit a = a
   formatted_kept c s n r (Behind lce) a = a
+  formatted_kept c s n r (Overtaken k) a = a
   formatted_kept c s n r Fails a = a
 
   loaded_kept : (c : Config) (s : State) (n : ℕ) (k : Kept) → AllNodes P s → AllNodes P (Step.formats_loaded c s n k).state

@@ -1,7 +1,8 @@
 -- What holds of every state of a run, beside the steps so far and the book of plans.
-use Rattle.std.specs.Prelude.{ℕ, ◌≡◌, ◌≤◌, ◌<◌, ◌⊎◌, ◌+◌, List, [], ◌∷◌, map, Some, true, false}
+use Rattle.std.specs.Prelude.{ℕ, ◌≡◌, ◌≤◌, ◌<◌, ◌⊎◌, ◌+◌, ◌==◌, List, [], ◌∷◌, length, map, Some, true, false}
+use Rattle.std.specs.List.{IsDistinct}
 use Rattle.ld_table.specs.Table.{find}
-use Rattle.ld_table.specs.Words.{how_many}
+use Rattle.ld_table.specs.Words.{is_in, how_many}
 use Rattle.ld_lsn.specs.Number.{epoch_of, esn_of, numbered, home_epoch}
 use Rattle.ld_transcript.specs.declared.line.Line.TheVariants as lines
 use Rattle.ld_msg.specs.declared.msg.What.{What}
@@ -14,7 +15,8 @@ use Rattle.ld_msg.specs.declared.msg.Summary.{Summary}
 use Rattle.ld_msg.specs.declared.msg.Body.{Body}
 use Rattle.ld_msg.specs.declared.msg.Body.TheVariants as bodies
 use Rattle.ld_msg.specs.Bounds.{ballot_of}
-use Rattle.ld_msg.specs.Digest.{Told, plan_end, digest_lng}
+use Rattle.ld_msg.specs.Digest.{Told, best, content, plan_end, digest_lng}
+use Rattle.ld_machine.specs.Config.{spec_of, set_at}
 use Rattle.ld_msg.specs.Reading.{Held}
 use Rattle.ld_msg.specs.Reader.{Reader, Confirmation}
 use Rattle.ld_op.specs.Plain.{Plain, log_of, is_lost}
@@ -74,7 +76,7 @@ released_in _ = []
 abbrev pub trims_of : Stage → List ℕ
 trims_of (Seals ts) = map (λ t. t.trim) ts
 trims_of (Stores g) = g.trim ∷ []
-trims_of (Closes y) = y.trim ∷ []
+trims_of (Closes y short) = y.trim ∷ []
 
 -- what a plan that is stored says of its numbers
 abbrev pub planned_in : Stage → List (ℕ × Planned)
@@ -170,9 +172,13 @@ OnePlan w = (l e b : ℕ) → how_many (is_made l e b) w.made ≤ 1
 abbrev pub IsKnownGood : World → ℕ → Entry → Type 0
 IsKnownGood w l e = (y : Summary) × Closed w l (epoch_of e.number) y × (y.ballot ≡ e.ballot) × (esn_of e.number ≤ y.lng) × (item w l e.number (epoch_of e.number) ≡ Some e.what)
 
+-- a refilled entry of a loss plan: it has the ballot of its epoch's close, and is what a loss plan of a greater ballot says
+abbrev pub IsOfLoss : World → ℕ → Entry → Type 0
+IsOfLoss w l e = (y : Summary) × (g : ℕ) × (m : Made) × Closed w l (epoch_of e.number) y × (y.ballot ≡ e.ballot) × (y.ballot < g) × HasPlan w l (epoch_of e.number) g m × (m.loss ≡ true) × (item w l e.number g ≡ Some e.what)
+
 -- an entry says what its ballot says of its number, and a record is the payload that was appended there
 pub record IsItem (hs : List Happened) (w : World) (l : ℕ) (e : Entry) : Type 0 where
-  pub item : (item w l e.number e.ballot ≡ Some e.what) ⊎ IsKnownGood w l e
+  pub item : (item w l e.number e.ballot ≡ Some e.what) ⊎ (IsKnownGood w l e ⊎ IsOfLoss w l e)
   pub appended : (p : List ℕ) → e.what ≡ Rec p → (k : ℕ) × Appends hs l e.number p k
 
 -- each entry at a node, in a store or in a page; each item of a plan that is stored, and each append that waits
@@ -188,7 +194,7 @@ pub record EntriesAreItems (hs : List Happened) (w : World) : Type 0 where
 
 -- a plan of a greater ballot that reached the node ends below the number
 abbrev pub CutAbove : World → Plain → ℕ → ℕ → ℕ → Type 0
-CutAbove w p l n b = (g : ℕ) × (d : List Told) × HasPlan w l (epoch_of n) g d × (b < g) × (g ≤ (log_of p l).sealed) × (plan_end (epoch_of n) d < esn_of n)
+CutAbove w p l n b = (g : ℕ) × (m : Made) × HasPlan w l (epoch_of n) g m × (b < g) × (g ≤ (log_of p l).sealed) × (plan_end (epoch_of n) m.digest < esn_of n)
 
 -- what a node stored stays, unless the epoch isn't served there, it was trimmed, or a plan cut it off
 abbrev pub Retains : World → Type 0
@@ -203,10 +209,15 @@ SealsHold w = AtNodes w (λ y p. (l b from upto t lng : ℕ) (es : List Entry) �
 
 -- ---- agreement ----
 
--- a record or hole that is chosen is the item of each plan of a greater ballot, or trimmed or known good there
+-- a ballot says what was found: it is the epoch's own, or its plan isn't a loss plan
+abbrev pub IsFound : World → ℕ → ℕ → ℕ → Type 0
+IsFound w l e b = (b ≡ e) ⊎ ((m : Made) × HasPlan w l e b m × (m.loss ≡ false))
+
+-- a record or hole that is chosen is the item of each plan of a greater ballot, or trimmed or known good there; plans that say what is lost are left out
 abbrev pub Agrees : Config → World → Type 0
-Agrees c w = (l n b g : ℕ) (x : What) (d : List Told) → chosen c w l n b ≡ true → item w l n b ≡ Some x → (x ≡ Bridge → ⊥) → b < g → HasPlan w l (epoch_of n) g d →
-    (item w l n g ≡ Some x) ⊎ ((esn_of n ≤ plan_trim (epoch_of n) d) ⊎ (esn_of n ≤ digest_lng d))
+Agrees c w = (l n b g : ℕ) (x : What) (m : Made) → chosen c w l n b ≡ true → item w l n b ≡ Some x → (x ≡ Bridge → ⊥) → IsFound w l (epoch_of n) b → b < g →
+    HasPlan w l (epoch_of n) g m → m.loss ≡ false →
+    (item w l n g ≡ Some x) ⊎ ((esn_of n ≤ plan_trim (epoch_of n) m.digest) ⊎ (esn_of n ≤ digest_lng m.digest))
 
 -- each number that the plan says something of is settled
 abbrev pub Ready : Config → World → ℕ → ℕ → ℕ → Type 0
@@ -222,7 +233,20 @@ pub record Follows (w : World) (l e b g : ℕ) (d f : List Told) : Type 0 where
 
 -- what stands is held by each plan of a greater ballot
 abbrev pub StandsOn : Config → World → Type 0
-StandsOn c w = (l e b g : ℕ) (d f : List Told) → HasPlan w l e b d → HasPlan w l e g f → e < b → b < g → Stands c w l e b → Follows w l e b g d f
+StandsOn c w = (l e b g : ℕ) (d f : Made) → HasPlan w l e b d → HasPlan w l e g f → d.loss ≡ false → f.loss ≡ false → e < b → b < g → Stands c w l e b →
+    Follows w l e b g d.digest f.digest
+
+-- a loss plan was made where as many nodes of the epoch as it has copies had nothing to tell
+abbrev pub LossesWereGone : Config → World → Type 0
+LossesWereGone c w = (l e b : ℕ) (m : Made) → HasPlan w l e b m → m.loss ≡ true → (spec_of c w.state.register l e).r ≤ how_many (λ y. is_in y m.gone) (set_at c w.state.register l e)
+
+-- a plan of a greater ballot than a loss plan is one too
+abbrev pub LossesLast : World → Type 0
+LossesLast w = (l e b g : ℕ) (d f : Made) → HasPlan w l e b d → HasPlan w l e g f → d.loss ≡ true → b < g → f.loss ≡ true
+
+-- between what it doesn't vouch for and its end a loss plan says the record of the best statement, and where that is none, a plug
+abbrev pub LossesSay : World → Type 0
+LossesSay w = (l e b k : ℕ) (m : Made) → HasPlan w l e b m → m.loss ≡ true → e < b → plan_from e m.digest < k → k < plan_end e m.digest → item w l (numbered e k) b ≡ Some (content true (best (numbered e k) m.digest))
 
 -- ---- copies ----
 
@@ -245,13 +269,28 @@ pub record CopiesOf (c : Config) (w : World) (l n b : ℕ) : Type 0 where
   pub enough : settled c w l n b ≡ true
   pub kept : (y : ℕ) → has_told w (says_settled n) l b y ≡ true → CopyAt w l n b y
 
+-- where an epoch was closed short: as many of its nodes as there are copies, whether or not they settled the number
+pub record ShortCopies (c : Config) (w : World) (l n b : ℕ) : Type 0 where
+  pub nodes : List ℕ
+  pub apart : IsDistinct ◌==◌ nodes
+  pub of_epoch : (y : ℕ) → In y nodes → is_in y (set_at c w.state.register l (epoch_of n)) ≡ true
+  pub enough : (spec_of c w.state.register l (epoch_of n)).r ≤ length nodes
+  pub kept : (y : ℕ) → In y nodes → CopyAt w l n b y
+
+-- some plan of the epoch says what is lost
+abbrev pub HasLoss : World → ℕ → ℕ → Type 0
+HasLoss w l e = (b : ℕ) × (m : Made) × HasPlan w l e b m × (m.loss ≡ true)
+
 pub record Copies (c : Config) (hs : List Happened) (w : World) : Type 0 where
   -- an acknowledged number of an open epoch was stored by as many nodes as the log has copies
   pub acked : (l n : ℕ) → IsOpen w l (epoch_of n) → Acked hs l n → chosen c w l n (epoch_of n) ≡ true
   pub open_epochs : (l n y : ℕ) → IsOpen w l (epoch_of n) → Acked hs l n → Stored w l y n (epoch_of n) → CopyAt w l n (epoch_of n) y
-  -- a number of a closed epoch was settled for the closing plan, or its append was stored where it was known good, and is where it was
-  pub closed_epochs : (l e k : ℕ) (s : Summary) → Closed w l e s → s.trim < numbered e k → s.lng < k → k < s.end → CopiesOf c w l (numbered e k) s.ballot
-  pub known_good : (l e k : ℕ) (s : Summary) → Closed w l e s → s.trim < numbered e k → 0 < k → k ≤ s.lng → AppendsOf c w l (numbered e k)
+  -- where each number of the closing plan was settled, as it was unless the epoch was closed short, each of a closed epoch is where it was settled
+  pub closed_epochs : (l e k : ℕ) (s : Summary) → Closed w l e s → Ready c w l e s.ballot → s.trim < numbered e k → s.lng < k → k < s.end → CopiesOf c w l (numbered e k) s.ballot ⊎ HasLoss w l e
+  -- else some nodes have it, or have it no more
+  pub closed_short : (l e k : ℕ) (s : Summary) → Closed w l e s → s.trim < numbered e k → s.lng < k → k < s.end → ShortCopies c w l (numbered e k) s.ballot ⊎ HasLoss w l e
+  -- what was known good as the epoch was closed is where its append was stored
+  pub known_good : (l e k : ℕ) (s : Summary) → Closed w l e s → s.trim < numbered e k → 0 < k → k ≤ s.lng → AppendsOf c w l (numbered e k) ⊎ HasLoss w l e
 
 -- ---- lost once ----
 
@@ -279,5 +318,8 @@ pub record Invariant (c : Config) (hs : List Happened) (w : World) : Type 0 wher
   pub seals : SealsHold w
   pub agrees : Agrees c w
   pub stands : StandsOn c w
+  pub losses : LossesWereGone c w
+  pub losses_last : LossesLast w
+  pub losses_say : LossesSay w
   pub copies : Copies c hs w
   pub lost_once : LostOnce hs w

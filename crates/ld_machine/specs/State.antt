@@ -94,7 +94,7 @@ kind_of (bodies.Release n) = kinds.Release
 kind_of (bodies.Trim t) = kinds.Trim
 kind_of (bodies.ReadAsk round n) = kinds.ReadAsk
 kind_of (bodies.ReadPage round n upto c es) = kinds.ReadPage
-kind_of (bodies.ReadEnded round n end) = kinds.ReadEnded
+kind_of (bodies.ReadEnded round n end loss) = kinds.ReadEnded
 kind_of (bodies.ReadTrim round n t) = kinds.ReadTrim
 kind_of (bodies.ReadWait round n r) = kinds.ReadWait
 
@@ -113,7 +113,7 @@ shown (bodies.Release n) = n
 shown (bodies.Trim t) = t
 shown (bodies.ReadAsk round n) = n
 shown (bodies.ReadPage round n upto c es) = n
-shown (bodies.ReadEnded round n end) = end
+shown (bodies.ReadEnded round n end loss) = end
 shown (bodies.ReadTrim round n t) = t
 shown (bodies.ReadWait round n r) = r
 

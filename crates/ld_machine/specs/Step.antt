@@ -17,7 +17,7 @@ use Rattle.ld_msg.specs.declared.msg.Msg.{Msg}
 use Rattle.ld_msg.specs.declared.msg.Body.{Body}
 use Rattle.ld_msg.specs.declared.msg.Body.TheVariants as bodies
 use Rattle.ld_ids.specs.declared.set.Spec.{Spec}
-use Rattle.ld_msg.specs.Reading.{Item, TrimTo, RecordHere, HoleHere, BridgeTo, LossHere}
+use Rattle.ld_msg.specs.Reading.{Item, TrimTo, RecordHere, HoleHere, BridgeTo, LossHere, LossTo}
 use Rattle.ld_op.specs.declared.op.Op.{Op}
 use Rattle.ld_op.specs.declared.op.Op.TheVariants as ops
 use Rattle.ld_op.specs.Plain.{log_of}
@@ -26,7 +26,7 @@ use Rattle.ld_op.specs.Ticks.{Ticked, Cleans, Rebuilt, Asks, Nothing, on_tick, n
 use Rattle.ld_op.specs.Handles.{ballot_of, handled_by, answer_message}
 use Rattle.ld_config.specs.declared.config.Config.{Config}
 use Rattle.ld_machine.specs.Config.{first_spec, all_nodes, looks_at, has_log, has_node}
-use Rattle.ld_msg.specs.Register.{Register, Changed, Answer, Granted, AtLimit, Behind, Fails, epochs_of, epochs_in, generation_of, lce_of, activate, draw}
+use Rattle.ld_msg.specs.Register.{Register, Changed, Answer, Granted, AtLimit, Behind, Overtaken, Fails, epochs_of, epochs_in, generation_of, lce_of, activate, draw}
 use Rattle.ld_machine.specs.Disk.{Node, Fault, new_node, is_up, is_blank, is_down, is_failed, Kept, Written, DiskFailed, Crashed, JournalFull, keep_op, keep_end, load, load_end, Down}
 use Rattle.ld_msg.specs.Network.{message, mark, posted}
 use Rattle.ld_msg.specs.Sequencer.{Sequencer, Acts, Called, called, rose, acted_messages, on_reply, on_retry, released_of, to_each, activated, recovery_asks, Appending, TooLong, Preempted, EpochFull, WindowFull, Numbered, appending, appended, first_stores, next_esn}
@@ -153,6 +153,7 @@ abbrev pub activates_by : Config → State → List ℕ → ℕ → Register →
 activates_by c s name l r Granted = activated_as c s name l r (epochs_of r l).epoch (lce_of r l)
 activates_by c s name l r AtLimit = with_line (with_register s r) (lines.RefusedEpochLimit name)
 activates_by c s name l r (Behind lce) = unchanged s
+activates_by c s name l r (Overtaken k) = unchanged s
 activates_by c s name l r Fails = with_line (with_register s r) (lines.RefusedRegister name)
 
 abbrev pub activates : Config → State → List ℕ → ℕ → Changed → Done
@@ -166,6 +167,7 @@ item_line name s until (RecordHere p) = lines.Record name s p
 item_line name s until HoleHere = lines.Gap name gaps.Hole s s
 item_line name s until (BridgeTo last) = lines.Gap name gaps.Bridge s (if nat_lt until last then until else last)
 item_line name s until LossHere = lines.Gap name gaps.DataLoss s s
+item_line name s until (LossTo last) = lines.Gap name gaps.DataLoss s (if nat_lt until last then until else last)
 
 abbrev pub item_lines : List ℕ → ℕ → List (ℕ × Item) → List Line
 item_lines name until [] = []
@@ -235,6 +237,7 @@ abbrev pub formats_by : Config → State → ℕ → Register → Answer → Don
 formats_by c s n r Granted = keeps_op (with_register s r) n (ops.Format (generation_of r n) (epochs_in r.logs)) (format_lines c n r) []
 formats_by c s n r AtLimit = with_line s (lines.NodeRefusedGenLimit n)
 formats_by c s n r (Behind lce) = unchanged s
+formats_by c s n r (Overtaken k) = unchanged s
 formats_by c s n r Fails = with_line (with_register s r) (lines.NodeRefusedRegister n)
 
 abbrev pub formats_with : Config → State → ℕ → Changed → Done
@@ -296,7 +299,7 @@ happens c s (events.Format n) = where_node c s n (is_blank (node_at s n).status)
 happens c s (events.Activate name l) = if has_log c l && not (is_some (find_named name s.sequencers)) then activates c s name l (activate s.register l (spec_set c s l)) else unchanged s
 happens c s (events.Append name payload) = live s name (λ q. append_done s name q payload (appending q payload))
 happens c s (events.Trim name point) = live s name (λ q. trim_done c s name q point)
-happens c s (events.Retry name) = live s name (λ q. acted c s name q (on_retry q))
+happens c s (events.Retry name) = live s name (λ q. acted c s name q (on_retry (looks_at c s.register q.log) q))
 happens c s (events.Drop name) = live s name (λ q. only_state (with_sequencer s name (dropped q)))
 happens c s (events.Deliver i) = delivers c s i
 happens c s (events.Lose i) = only_state (marked s i)

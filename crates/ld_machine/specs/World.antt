@@ -1,8 +1,9 @@
 -- A state with a book that never forgets: the digests that plans were made from.
-use Rattle.std.specs.Prelude.{ℕ, max, ◌≡◌, ◌⊎◌, List, [], ◌∷◌, Option, Some, None, is_some, Bool, true, false, ◌&&◌, ◌||◌, ◌==◌, nat_le, if◌then◌else◌}
+use Rattle.std.specs.Prelude.{ℕ, max, ◌≡◌, ◌⊎◌, List, [], ◌∷◌, filter, Option, Some, None, is_some, is_none, not, Bool, true, false, ◌&&◌, ◌||◌, ◌==◌, nat_le, if◌then◌else◌}
 use Rattle.ld_table.specs.Table.{find}
+use Rattle.ld_table.specs.Named.{find_named}
 use Rattle.ld_table.specs.Words.{how_many, any_of}
-use Rattle.ld_lsn.specs.Number.{epoch_of, esn_of}
+use Rattle.ld_lsn.specs.Number.{epoch_of, esn_of, home_epoch}
 use Rattle.ld_schedule.specs.declared.event.Event.{Event}
 use Rattle.ld_schedule.specs.declared.event.Event.TheVariants as events
 use Rattle.ld_msg.specs.declared.msg.What.{What}
@@ -12,21 +13,25 @@ use Rattle.ld_msg.specs.declared.msg.Msg.{Msg}
 use Rattle.ld_msg.specs.declared.msg.Entry.{Entry}
 use Rattle.ld_msg.specs.declared.msg.Body.{Body}
 use Rattle.ld_msg.specs.declared.msg.Body.TheVariants as bodies
-use Rattle.ld_msg.specs.Digest.{Told, with_page, enough, plan_item, trim_place, digest_trim, digest_lng}
+use Rattle.ld_msg.specs.Digest.{Told, with_page, with_lost, enough, is_spent, plan_item, trim_place, digest_trim, digest_lng}
 use Rattle.ld_op.specs.Plain.{Plain, log_of, summary_at, is_lost}
 use Rattle.ld_config.specs.declared.config.Config.{Config}
-use Rattle.ld_machine.specs.Config.{spec_of, set_at}
+use Rattle.ld_ids.specs.Choice.{nodes_of}
+use Rattle.ld_machine.specs.Config.{spec_of, set_at, looks_at}
 use Rattle.ld_machine.specs.Disk.{Node, Cut}
 use Rattle.ld_msg.specs.Network.{message}
-use Rattle.ld_msg.specs.Sequencer.{Sequencer, Recovery, Stage, Seals, takes_any}
-use Rattle.ld_machine.specs.State.{State, start, sequencer_of}
+use Rattle.ld_msg.specs.Sequencer.{Sequencer, Recovery, Stage, Seals, takes_any, recovery_lost}
+use Rattle.ld_msg.specs.Register.{View}
+use Rattle.ld_machine.specs.State.{State, start, node_at, sequencer_of}
 
--- a plan: whose, of which epoch of which log, and the digest that it was made from
+-- a plan: whose, of which epoch of which log, whether it says what is lost, the digest that it was made from, and the nodes that were blank or lost for the epoch then
 pub record Made : Type 0 where
   pub log : ℕ
   pub epoch : ℕ
   pub ballot : ℕ
+  pub loss : Bool
   pub digest : List Told
+  pub gone : List ℕ
 
 pub record World : Type 0 where
   pub state : State
@@ -37,35 +42,76 @@ begin c = record { state = start c; made = [] }
 
 -- ---- the plan that a delivery makes ----
 
-abbrev pub if_enough : Config → Sequencer → Recovery → List Told → List Made
-if_enough c q v d = if enough v.spec d then record { log = q.log; epoch = v.epoch; ballot = q.epoch; digest = d } ∷ [] else []
+-- the node has nothing of the epoch to tell, in each state that a load may find
+abbrev pub is_gone : ℕ → ℕ → Plain → Bool
+is_gone l e p = (p.generation == 0) || is_lost (log_of p l) e
 
-abbrev pub made_in : Config → Sequencer → Recovery → Stage → ℕ → ℕ → ℕ → ℕ → ℕ → List Entry → List Made
-made_in c q v (Seals d) y from upto trim lng es = if takes_any y from d then if_enough c q v (with_page v.epoch y from upto trim lng es d) else []
-made_in c q v _ y from upto trim lng es = []
+abbrev pub is_cut_gone : ℕ → ℕ → Option Cut → Bool
+is_cut_gone l e None = true
+is_cut_gone l e (Some k) = is_gone l e k.plain
 
-abbrev pub made_with : Config → Sequencer → Option Recovery → ℕ → Body → List Made
-made_with c q (Some v) y (bodies.DigestPage from upto trim lng es) = if v.epoch == epoch_of from then made_in c q v v.stage y from upto trim lng es else []
-made_with c q _ y b = []
+abbrev pub gone_nodes : State → ℕ → ℕ → List ℕ → List ℕ
+gone_nodes s l e set = filter (λ y. is_gone l e (node_at s y).plain && is_cut_gone l e (node_at s y).cut) set
 
-abbrev pub made_by : Config → Option (List ℕ × Sequencer) → ℕ → Body → List Made
-made_by c None y b = []
-made_by c (Some q) y b = if q.1.gone || is_some q.1.preempted then [] else made_with c q.1 q.1.recovery y b
+abbrev pub makes : State → Sequencer → Recovery → Bool → List Told → List Made
+makes s q v loss d = record { log = q.log; epoch = v.epoch; ballot = q.epoch; loss = loss; digest = d; gone = gone_nodes s q.log v.epoch (nodes_of v.spec) } ∷ []
+
+-- the look shows an open epoch, and no greater one than the sequencer's
+abbrev pub lets_lose : Sequencer → View → Bool
+lets_lose q w = is_none w.summary && (w.epoch == q.epoch)
+
+abbrev pub makes_by : Config → State → Sequencer → Recovery → List Told → List Made
+makes_by c s q v d =
+    if enough v.spec d then makes s q v false d
+    else if is_spent v.spec d && lets_lose q (looks_at c s.register q.log v.epoch) then makes s q v true d
+    else []
+
+abbrev pub made_in : Config → State → Sequencer → Recovery → Stage → ℕ → ℕ → ℕ → ℕ → ℕ → List Entry → List Made
+made_in c s q v (Seals d) y from upto trim lng es = if takes_any y from d then makes_by c s q v (with_page v.epoch y from upto trim lng es d) else []
+made_in c s q v _ y from upto trim lng es = []
+
+abbrev pub made_lost : Config → State → Sequencer → Recovery → Stage → ℕ → List Made
+made_lost c s q v (Seals d) y = makes_by c s q v (with_lost y d)
+made_lost c s q v _ y = []
+
+abbrev pub made_with : Config → State → Sequencer → Option Recovery → ℕ → Body → List Made
+made_with c s q (Some v) y (bodies.DigestPage from upto trim lng es) = if v.epoch == epoch_of from then made_in c s q v v.stage y from upto trim lng es else []
+made_with c s q (Some v) y (bodies.LostHere n round generation end) =
+    if (v.epoch == home_epoch n) && not (home_epoch n == q.epoch) then made_lost c s q (recovery_lost y v) v.stage y else []
+made_with c s q _ y b = []
+
+abbrev pub made_by : Config → State → Option (List ℕ × Sequencer) → ℕ → Body → List Made
+made_by c s None y b = []
+made_by c s (Some q) y b = if q.1.gone || is_some q.1.preempted then [] else made_with c s q.1 q.1.recovery y b
 
 abbrev pub page_from : Who → ℕ
 page_from (whos.Node y) = y
 page_from _ = 0
 
 abbrev pub made_for : Config → State → Msg → Who → List Made
-made_for c s m (whos.Sequencer b) = made_by c (sequencer_of m.log b s.sequencers) (page_from m.from) m.body
+made_for c s m (whos.Sequencer b) = made_by c s (sequencer_of m.log b s.sequencers) (page_from m.from) m.body
 made_for c s m _ = []
 
 abbrev pub made_at : Config → State → Option Msg → List Made
 made_at c s None = []
 made_at c s (Some m) = made_for c s m m.to
 
+-- a retry looks again where a digest stayed spent
+abbrev pub made_anew : Config → State → Sequencer → Recovery → Stage → List Made
+made_anew c s q v (Seals d) = if is_spent v.spec d then makes_by c s q v d else []
+made_anew c s q v _ = []
+
+abbrev pub made_again : Config → State → Sequencer → Option Recovery → List Made
+made_again c s q None = []
+made_again c s q (Some v) = made_anew c s q v v.stage
+
+abbrev pub made_retried : Config → State → Option Sequencer → List Made
+made_retried c s None = []
+made_retried c s (Some q) = if q.gone || is_some q.preempted then [] else made_again c s q q.recovery
+
 abbrev pub made_on : Config → State → Event → List Made
 made_on c s (events.Deliver i) = made_at c s (message s.network i)
+made_on c s (events.Retry name) = made_retried c s (find_named name s.sequencers)
 made_on c s _ = []
 
 -- ---- what was sent ----
@@ -112,7 +158,7 @@ told_by p l y b m = ((m.log == l) && p m.body) && (is_node y m.from && is_sequen
 abbrev pub has_told : World → (Body → Bool) → ℕ → ℕ → ℕ → Bool
 has_told w p l b y = any_of (told_by p l y b) w.state.network.sent
 
--- as many nodes of the log as it has copies stored the number for ballot b
+-- as many nodes of the epoch's set as it has copies stored the number for ballot b
 unfoldable pub chosen : Config → World → ℕ → ℕ → ℕ → Bool
 chosen c w l n b = nat_le (spec_of c w.state.register l (epoch_of n)).r (how_many (has_told w (says_stored n) l b) (set_at c w.state.register l (epoch_of n)))
 
@@ -124,12 +170,12 @@ settled c w l n b = nat_le (spec_of c w.state.register l (epoch_of n)).r (how_ma
 abbrev pub is_made : ℕ → ℕ → ℕ → Made → Bool
 is_made l e b m = ((m.log == l) && (m.epoch == e)) && (m.ballot == b)
 
-abbrev pub digest_in : ℕ → ℕ → ℕ → List Made → Option (List Told)
-digest_in l e b [] = None
-digest_in l e b (m ∷ ms) = if is_made l e b m then Some m.digest else digest_in l e b ms
+abbrev pub plan_in : ℕ → ℕ → ℕ → List Made → Option Made
+plan_in l e b [] = None
+plan_in l e b (m ∷ ms) = if is_made l e b m then Some m else plan_in l e b ms
 
-abbrev pub HasPlan : World → ℕ → ℕ → ℕ → List Told → Type 0
-HasPlan w l e b d = digest_in l e b w.made ≡ Some d
+abbrev pub HasPlan : World → ℕ → ℕ → ℕ → Made → Type 0
+HasPlan w l e b m = plan_in l e b w.made ≡ Some m
 
 abbrev pub stores_at : ℕ → Body → Bool
 stores_at n (bodies.Store s lng x) = s == n
@@ -147,13 +193,13 @@ abbrev pub append_in : ℕ → ℕ → List Msg → Option What
 append_in l n [] = None
 append_in l n (m ∷ ms) = if what_sent l (epoch_of n) n m then stored_what m.body else append_in l n ms
 
-abbrev pub item_in : ℕ → ℕ → Option (List Told) → Option What
+abbrev pub item_in : ℕ → ℕ → Option Made → Option What
 item_in e n None = None
-item_in e n (Some d) = plan_item e d n
+item_in e n (Some m) = plan_item e m.loss m.digest n
 
 -- the append's record for the epoch's own ballot, and else the item of the ballot's plan
 unfoldable pub item : World → ℕ → ℕ → ℕ → Option What
-item w l n b = if b == epoch_of n then append_in l n w.state.network.sent else item_in (epoch_of n) (esn_of n) (digest_in l (epoch_of n) b w.made)
+item w l n b = if b == epoch_of n then append_in l n w.state.network.sent else item_in (epoch_of n) (esn_of n) (plan_in l (epoch_of n) b w.made)
 
 abbrev pub plan_trim : ℕ → List Told → ℕ
 plan_trim e d = trim_place e (digest_trim d)

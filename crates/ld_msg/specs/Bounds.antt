@@ -5,7 +5,7 @@ use Rattle.ld_ids.specs.Id.{IsNode, IsLog}
 use Rattle.ld_msg.specs.declared.msg.Who.{Who}
 use Rattle.ld_msg.specs.declared.msg.Who.TheVariants as whos
 use Rattle.ld_msg.specs.declared.msg.What.{What}
-use Rattle.ld_msg.specs.declared.msg.What.TheVariants.{Rec, Hole, Bridge}
+use Rattle.ld_msg.specs.declared.msg.What.TheVariants.{Rec, Hole, Bridge, Plug}
 use Rattle.ld_msg.specs.declared.msg.Entry.{Entry}
 use Rattle.ld_msg.specs.declared.msg.Summary.{Summary}
 use Rattle.ld_msg.specs.declared.msg.Msg.{Msg}
@@ -40,12 +40,14 @@ abbrev pub last_place : What → ℕ
 last_place (Rec p) = last_esn - 1
 last_place Hole = last_esn - 1
 last_place Bridge = last_esn
+last_place Plug = last_esn - 1
 
 -- a payload's bytes are bytes by their type
 abbrev pub IsShort : What → Type 0
 IsShort (Rec p) = length p ≤ 65535
 IsShort Hole = Unit {0}
 IsShort Bridge = Unit {0}
+IsShort Plug = Unit {0}
 
 pub record IsEntry (e : Entry) : Type 0 where
   pub epoch : IsEpoch (epoch_of e.number)
@@ -79,6 +81,7 @@ abbrev pub IsReadable : What → Type 0
 IsReadable (Rec p) = Unit {0}
 IsReadable Hole = Unit {0}
 IsReadable Bridge = ⊥
+IsReadable Plug = Unit {0}
 
 abbrev pub AreReadable : List Entry → Type 0
 AreReadable [] = Unit {0}
@@ -138,6 +141,7 @@ abbrev pub IsRecord : What → Type 0
 IsRecord (Rec p) = Unit {0}
 IsRecord Hole = ⊥
 IsRecord Bridge = ⊥
+IsRecord Plug = ⊥
 
 abbrev pub ToSequencer : Who → Who → Type 0
 ToSequencer from to = IsNodeHere from × IsSequencerHere to
@@ -163,7 +167,7 @@ Fits from to (bodies.Release n) = ToNode from to × Is64 n
 Fits from to (bodies.Trim t) = ToNode from to × Is64 t
 Fits from to (bodies.ReadAsk round n) = IsAsker from × IsNodeHere to × Is32 round × AsksIn from round × (1 ≤ n) × Is64 n
 Fits from to (bodies.ReadPage round n upto c es) = ToAsker from to round n × IsPage n upto es × AreReadable es
-Fits from to (bodies.ReadEnded round n end) = ToAsker from to round n × Is64 end
+Fits from to (bodies.ReadEnded round n end loss) = ToAsker from to round n × Is64 end
 Fits from to (bodies.ReadTrim round n t) = ToAsker from to round n × Is64 t
 Fits from to (bodies.ReadWait round n r) = ToAsker from to round n × Is64 r
 

@@ -1,11 +1,11 @@
 -- What nodes tell of an epoch before it is closed, and the plan that follows from it.
-use Rattle.std.specs.Prelude.{ℕ, ◌+◌, ◌-◌, max, min, suc, List, [], ◌∷◌, ◌++◌, map, length, Option, Some, None, Bool, true, false, ◌&&◌, not, ◌==◌, nat_lt, nat_le, if◌then◌else◌}
-use Rattle.ld_table.specs.Words.{how_many, numbers_from}
+use Rattle.std.specs.Prelude.{ℕ, ◌+◌, ◌-◌, max, min, suc, List, [], ◌∷◌, ◌++◌, map, length, Option, Some, None, Bool, true, false, ◌&&◌, ◌||◌, not, ◌==◌, nat_lt, nat_le, if◌then◌else◌}
+use Rattle.ld_table.specs.Words.{how_many, all_of, numbers_from}
 use Rattle.ld_lsn.specs.Number.{epoch_of, esn_of, numbered, last_esn}
 use Rattle.ld_ids.specs.declared.set.Spec.{Spec}
 use Rattle.ld_ids.specs.Choice.{nodes_of}
 use Rattle.ld_msg.specs.declared.msg.What.{What}
-use Rattle.ld_msg.specs.declared.msg.What.TheVariants.{Rec, Hole, Bridge}
+use Rattle.ld_msg.specs.declared.msg.What.TheVariants.{Rec, Hole, Bridge, Plug}
 use Rattle.ld_msg.specs.declared.msg.Entry.{Entry}
 
 -- ---- statements ----
@@ -20,6 +20,7 @@ abbrev pub is_bridge : What → Bool
 is_bridge (Rec p) = false
 is_bridge Hole = false
 is_bridge Bridge = true
+is_bridge Plug = false
 
 -- an entry speaks of its own number; a bridge also of each number above it
 abbrev pub says : ℕ → Entry → Option Entry
@@ -88,6 +89,10 @@ with_lost y d = map (told_lost y) d
 unfoldable pub enough : Spec → List Told → Bool
 enough s d = nat_lt (length (nodes_of s)) (s.r + how_many (λ t. t.whole && not t.lost) d)
 
+-- every node is whole or has said that it is lost, and it isn't enough
+unfoldable pub is_spent : Spec → List Told → Bool
+is_spent s d = all_of (λ t. t.whole || t.lost) d && not (enough s d)
+
 -- ---- the plan ----
 
 -- the statement of the greatest ballot over the digest, of equal ones the lowest node's
@@ -99,15 +104,17 @@ abbrev pub is_content : Option Entry → Bool
 is_content None = false
 is_content (Some e) = not (is_bridge e.what)
 
--- the record, or else a hole
-abbrev pub record_or_hole : What → What
-record_or_hole (Rec p) = Rec p
-record_or_hole Hole = Hole
-record_or_hole Bridge = Hole
+-- where no record is found a plan puts a hole, and a loss plan a plug
+abbrev pub no_record : Bool → What
+no_record loss = if loss then Plug else Hole
 
-abbrev pub content : Option Entry → What
-content None = Hole
-content (Some e) = record_or_hole e.what
+abbrev pub record_or : What → What → What
+record_or other (Rec p) = Rec p
+record_or other _ = other
+
+abbrev pub content : Bool → Option Entry → What
+content loss None = no_record loss
+content loss (Some e) = record_or (no_record loss) e.what
 
 -- the greatest trim of a digest
 unfoldable pub digest_trim : List Told → ℕ
@@ -121,7 +128,7 @@ trim_place epoch trim =
     else if nat_lt epoch (epoch_of trim) then last_esn - 1
     else min (esn_of trim) (last_esn - 1)
 
--- the greatest place at which the best statement is a record or a hole, 0 where there is none
+-- the greatest place at which the best statement is a record, a hole or a plug, 0 where there is none
 abbrev pub top_in : List Told → List Entry → ℕ
 top_in d [] = 0
 top_in d (e ∷ es) = if not (is_bridge e.what) && is_content (best e.number d) then max (esn_of e.number) (top_in d es) else top_in d es
@@ -143,35 +150,37 @@ pub record Item : Type 0 where
   pub what : What
 
 -- what a plan puts at a place: nothing at or below its floor or above the end
-unfoldable pub plan_item : ℕ → List Told → ℕ → Option What
-plan_item epoch d n =
+unfoldable pub plan_item : ℕ → Bool → List Told → ℕ → Option What
+plan_item epoch loss d n =
     if nat_le n (plan_floor epoch d) then None
-    else if nat_lt n (plan_end epoch d) then Some (content (best (numbered epoch n) d))
+    else if nat_lt n (plan_end epoch d) then Some (content loss (best (numbered epoch n) d))
     else if n == plan_end epoch d then Some Bridge
     else None
 
--- the trim as it was found, the last known good place, the bridge's place, and the items by number, the bridge last
+-- the trim as it was found, the last known good place, the bridge's place, whether it says what is lost, and the items by number, the bridge last
 pub record Plan : Type 0 where
   pub trim : ℕ
   pub lng : ℕ
   pub end : ℕ
+  pub loss : Bool
   pub items : List Item
 
-abbrev pub record_items : ℕ → List Told → List ℕ → List Item
-record_items epoch d [] = []
-record_items epoch d (n ∷ ns) = record { number = numbered epoch n; what = content (best (numbered epoch n) d) } ∷ record_items epoch d ns
+abbrev pub record_items : ℕ → Bool → List Told → List ℕ → List Item
+record_items epoch loss d [] = []
+record_items epoch loss d (n ∷ ns) = record { number = numbered epoch n; what = content loss (best (numbered epoch n) d) } ∷ record_items epoch loss d ns
 
 -- the places above one and below another
 abbrev pub places_between : ℕ → ℕ → List ℕ
 places_between t end = numbers_from (t + 1) (end - 1 - t)
 
-abbrev pub plan_to : ℕ → List Told → ℕ → Plan
-plan_to epoch d end = record {
+abbrev pub plan_to : ℕ → Bool → List Told → ℕ → Plan
+plan_to epoch loss d end = record {
   trim = digest_trim d;
   lng = digest_lng d;
   end = end;
-  items = record_items epoch d (places_between (plan_floor epoch d) end) ++ record { number = numbered epoch end; what = Bridge } ∷ [];
+  loss = loss;
+  items = record_items epoch loss d (places_between (plan_floor epoch d) end) ++ record { number = numbered epoch end; what = Bridge } ∷ [];
 }
 
-unfoldable pub plan : ℕ → List Told → Plan
-plan epoch d = plan_to epoch d (plan_end epoch d)
+unfoldable pub plan : ℕ → Bool → List Told → Plan
+plan epoch loss d = plan_to epoch loss d (plan_end epoch d)

@@ -7,7 +7,7 @@ use Rattle.ld_ids.specs.Choice.{nodes_of}
 use Rattle.ld_msg.specs.Register.{View}
 use Rattle.ld_msg.specs.declared.msg.Body.{Body}
 use Rattle.ld_msg.specs.declared.msg.Body.TheVariants as bodies
-use Rattle.ld_msg.specs.Reading.{Held, Item, TrimTo, RecordHere, HoleHere, BridgeTo, LossHere, Verdict, Gives, Confirms, NotYet, decide}
+use Rattle.ld_msg.specs.Reading.{Held, Item, TrimTo, RecordHere, HoleHere, BridgeTo, LossHere, LossTo, Verdict, Gives, Confirms, NotYet, decide}
 
 -- the lost nodes that are asked once more: the round, the generation held for each, and those that said so again
 pub record Confirmation : Type 0 where
@@ -76,6 +76,7 @@ item_end s (RecordHere p) = s
 item_end s HoleHere = s
 item_end s (BridgeTo last) = last
 item_end s LossHere = s
+item_end s (LossTo last) = last
 
 -- an item ends a confirmation
 abbrev pub after_item : Reader → Item → Reader
@@ -132,7 +133,7 @@ most_items d = held_size d.held + 2
 abbrev pub round_of : Body → ℕ
 round_of (bodies.LostHere number round generation end) = round
 round_of (bodies.ReadPage round from upto clean es) = round
-round_of (bodies.ReadEnded round from end) = round
+round_of (bodies.ReadEnded round from end loss) = round
 round_of (bodies.ReadTrim round from trim) = round
 round_of (bodies.ReadWait round from released) = round
 round_of _ = 0

@@ -4,7 +4,7 @@ use Rattle.ld_table.specs.Table.{find}
 use Rattle.ld_table.specs.Words.{is_in, all_of, any_of, or_else}
 use Rattle.ld_lsn.specs.Number.{home_epoch, epoch_end}
 use Rattle.ld_msg.specs.declared.msg.What.{What}
-use Rattle.ld_msg.specs.declared.msg.What.TheVariants.{Rec, Hole}
+use Rattle.ld_msg.specs.declared.msg.What.TheVariants.{Rec, Hole, Plug}
 use Rattle.ld_msg.specs.declared.msg.Entry.{Entry}
 use Rattle.ld_msg.specs.declared.msg.Body.{Body}
 use Rattle.ld_msg.specs.declared.msg.Body.TheVariants as bodies
@@ -21,6 +21,7 @@ pub data Item : Type 0 where
   HoleHere : Item
   BridgeTo : (last : ℕ) → Item
   LossHere : Item
+  LossTo : (last : ℕ) → Item
 
 -- an item, or the lost nodes with their generations that are to be asked once more, or nothing
 pub data Verdict : Type 0 where
@@ -37,7 +38,7 @@ abbrev pub trim_held : List (ℕ × Held) → ℕ
 trim_held [] = 0
 trim_held (h ∷ hs) = max (trim_told h.1.body) (trim_held hs)
 
--- ---- records and holes ----
+-- ---- records, holes and plugs ----
 abbrev pub entry_at : ℕ → List Entry → Option What
 entry_at s [] = None
 entry_at s (e ∷ es) = if e.number == s then Some e.what else entry_at s es
@@ -54,6 +55,10 @@ abbrev pub is_hole : Option What → Bool
 is_hole (Some Hole) = true
 is_hole _ = false
 
+abbrev pub is_plug : Option What → Bool
+is_plug (Some Plug) = true
+is_plug _ = false
+
 -- the lowest node's record
 abbrev pub record_held : ℕ → List (ℕ × Held) → Option (List ℕ)
 record_held s [] = None
@@ -62,13 +67,20 @@ record_held s (h ∷ hs) = or_else (record_of (page_at s h.1.body)) (record_held
 abbrev pub hole_held : ℕ → List (ℕ × Held) → Bool
 hole_held s hs = any_of (λ h. is_hole (page_at s h.1.body)) hs
 
--- ---- bridges ----
-abbrev pub shows_end : ℕ → Body → Bool
-shows_end s (bodies.ReadEnded round from end) = (home_epoch end == home_epoch s) && nat_le end s
-shows_end s _ = false
+abbrev pub plug_held : ℕ → List (ℕ × Held) → Bool
+plug_held s hs = any_of (λ h. is_plug (page_at s h.1.body)) hs
 
-abbrev pub end_held : ℕ → List (ℕ × Held) → Bool
-end_held s hs = any_of (λ h. shows_end s h.1.body) hs
+-- ---- bridges ----
+
+-- an end at or below the number, and whether what follows it is lost
+abbrev pub end_shown : ℕ → Body → Option Bool
+end_shown s (bodies.ReadEnded round from end loss) = if (home_epoch end == home_epoch s) && nat_le end s then Some loss else None
+end_shown s _ = None
+
+-- the lowest node's end
+abbrev pub end_held : ℕ → List (ℕ × Held) → Option Bool
+end_held s [] = None
+end_held s (h ∷ hs) = or_else (end_shown s h.1.body) (end_held s hs)
 
 -- the last number of a bridge: the end of the epoch
 abbrev pub bridge_to : ℕ → ℕ
@@ -115,13 +127,18 @@ is_loss s set hs = (all_of (λ y. leaves_open s (find y hs)) set && any_of (λ h
 abbrev pub loss_verdict : ℕ → Bool → List ℕ → List (ℕ × Held) → Verdict
 loss_verdict s may_confirm set hs = if may_confirm && is_loss s set hs then Confirms (lost_held s (within set hs)) else NotYet
 
-abbrev pub entry_verdict : Option (List ℕ) → Bool → Verdict → Verdict
-entry_verdict (Some p) hole other = Gives (RecordHere p)
-entry_verdict None true other = Gives HoleHere
-entry_verdict None false other = other
+abbrev pub entry_verdict : Option (List ℕ) → Bool → Bool → Verdict → Verdict
+entry_verdict (Some p) hole plug other = Gives (RecordHere p)
+entry_verdict None true plug other = Gives HoleHere
+entry_verdict None false true other = Gives LossHere
+entry_verdict None false false other = other
 
--- the first that holds: a trim, a record, a hole, a bridge, a loss to confirm
+abbrev pub end_verdict : ℕ → Option Bool → Verdict → Verdict
+end_verdict s None other = other
+end_verdict s (Some loss) other = Gives (if loss then LossTo (bridge_to s) else BridgeTo (bridge_to s))
+
+-- the first that holds: a trim, a record, a hole, a plug, an end, a loss to confirm
 unfoldable pub decide : ℕ → Bool → List ℕ → List (ℕ × Held) → Verdict
 decide s may_confirm set hs =
     if nat_le s (trim_held hs) then Gives (TrimTo (trim_held hs))
-    else entry_verdict (record_held s hs) (hole_held s hs) (if end_held s hs then Gives (BridgeTo (bridge_to s)) else loss_verdict s may_confirm set hs)
+    else entry_verdict (record_held s hs) (hole_held s hs) (plug_held s hs) (end_verdict s (end_held s hs) (loss_verdict s may_confirm set hs))

@@ -60,6 +60,7 @@ pub data Answer : Type 0 where
   Granted : Answer
   AtLimit : Answer
   Behind : (lce : ℕ) → Answer
+  Overtaken : (epoch : ℕ) → Answer
   Fails : Answer
 
 pub record Changed : Type 0 where
@@ -108,10 +109,15 @@ activate r l s =
 abbrev pub closed_epochs : Epochs → ℕ → Summary → Epochs
 closed_epochs e epoch y = record e { lce = epoch; summaries = put epoch y e.summaries }
 
-unfoldable pub close : Register → ℕ → ℕ → Summary → Changed
-close r l epoch y =
-    if lce_of r l + 1 == epoch then change r (with_epochs r l (closed_epochs (epochs_of r l) epoch y)) 29
-    else record { register = r; answer = Behind (lce_of r l) }
+-- a short close counts only as long as no greater epoch was handed out than its sequencer's
+abbrev pub is_overtaken : Epochs → Summary → Bool → Bool
+is_overtaken e y short = short && not (e.epoch == y.ballot)
+
+unfoldable pub close : Register → ℕ → ℕ → Summary → Bool → Changed
+close r l epoch y short =
+    if not (lce_of r l + 1 == epoch) then record { register = r; answer = Behind (lce_of r l) }
+    else if is_overtaken (epochs_of r l) y short then record { register = r; answer = Overtaken (epochs_of r l).epoch }
+    else change r (with_epochs r l (closed_epochs (epochs_of r l) epoch y)) 30
 
 -- the next generation of a node
 unfoldable pub draw : Register → ℕ → Changed

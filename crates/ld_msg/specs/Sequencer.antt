@@ -1,5 +1,5 @@
 -- A sequencer: appends, acknowledgements, the recovery of earlier epochs, and what it does at a reply or a retry.
-use Rattle.std.specs.Prelude.{ℕ, ◌+◌, ◌-◌, ◌^◌, min, suc, List, [], ◌∷◌, ◌++◌, length, Option, Some, None, Bool, true, false, ◌||◌, ◌==◌, nat_lt, nat_le, if◌then◌else◌}
+use Rattle.std.specs.Prelude.{ℕ, ◌+◌, ◌-◌, ◌^◌, min, suc, List, [], ◌∷◌, ◌++◌, length, Option, Some, None, Bool, true, false, ◌&&◌, ◌||◌, not, ◌==◌, nat_lt, nat_le, if◌then◌else◌}
 use Rattle.ld_table.specs.Table.{find, put}
 use Rattle.ld_table.specs.Words.{is_in, with_one, without, all_of}
 use Rattle.ld_lsn.specs.Number.{epoch_of, numbered, home_epoch, last_esn, epoch_end}
@@ -12,8 +12,8 @@ use Rattle.ld_msg.specs.declared.msg.Body.TheVariants as bodies
 use Rattle.ld_ids.specs.declared.set.Spec.{Spec}
 use Rattle.ld_ids.specs.Choice.{nodes_of}
 use Rattle.ld_msg.specs.Choice.{choice}
-use Rattle.ld_msg.specs.Digest.{Told, no_digest, with_page, with_asks, with_lost, takes_page, enough, Item, Plan, plan}
-use Rattle.ld_msg.specs.Register.{Register, Changed, Answer, Granted, AtLimit, Behind, Fails, View, close}
+use Rattle.ld_msg.specs.Digest.{Told, no_digest, with_page, with_asks, with_lost, takes_page, enough, is_spent, Item, Plan, plan}
+use Rattle.ld_msg.specs.Register.{Register, Changed, Answer, Granted, AtLimit, Behind, Overtaken, Fails, View, close}
 
 -- an append: its payload, the wave that it was sent in last, and the nodes that stored it
 pub record Append : Type 0 where
@@ -26,18 +26,19 @@ pub record Planned : Type 0 where
   pub what : What
   pub settled : List ℕ
 
--- a plan that is being stored: its trim, its last known good place, its end, its items by number, the wave that they were sent in last
+-- a plan that is being stored: its trim, its last known good place, its end, whether it says what is lost, its items by number, the wave that they were sent in last
 pub record Storing : Type 0 where
   pub trim : ℕ
   pub lng : ℕ
   pub end : ℕ
+  pub loss : Bool
   pub items : List (ℕ × Planned)
   pub wave : ℕ
 
 pub data Stage : Type 0 where
   Seals : (digest : List Told) → Stage
   Stores : (storing : Storing) → Stage
-  Closes : (summary : Summary) → Stage
+  Closes : (summary : Summary) (short : Bool) → Stage
 
 -- the recovery of an epoch, what was fixed for it as the recovery began, and the nodes that said that they are lost for it
 pub record Recovery : Type 0 where
@@ -77,10 +78,16 @@ next_wave w = min (w + 1) last_wave
 
 -- ---- what one call did ----
 
+-- a close: of an epoch, with a summary, and whether all its nodes answered or are lost, but not enough answered
+pub record Attempt : Type 0 where
+  pub epoch : ℕ
+  pub summary : Summary
+  pub short : Bool
+
 -- the new sequencer, the close that is then tried in the register, what was acknowledged, the end of the epoch that was closed, what was refused, and the messages by kind
 pub record Acts : Type 0 where
   pub sequencer : Sequencer
-  pub tries : List (ℕ × Summary)
+  pub tries : List Attempt
   pub acked : List ℕ
   pub closed : List ℕ
   pub preempts : List ℕ
@@ -142,11 +149,12 @@ unfoldable pub after_close : (ℕ → View) → Acts → ℕ → Summary → Ans
 after_close looks a epoch y Granted = record (goes_on looks (tells_clean a epoch y) epoch) { closed = numbered epoch y.end ∷ [] }
 after_close looks a epoch y AtLimit = a
 after_close looks a epoch y (Behind lce) = if nat_le a.sequencer.epoch lce then preempt a (lce + 1) else goes_on looks a lce
+after_close looks a epoch y (Overtaken k) = preempt a k
 after_close looks a epoch y Fails = record a { failed = true }
 
 -- the close comes last in a call
-abbrev pub try_close : Acts → ℕ → Summary → Acts
-try_close a epoch y = record a { tries = (epoch, y) ∷ [] }
+abbrev pub try_close : Acts → ℕ → Summary → Bool → Acts
+try_close a epoch y short = record a { tries = record { epoch = epoch; summary = y; short = short } ∷ [] }
 
 -- ---- storing a plan ----
 
@@ -155,32 +163,54 @@ planned [] = []
 planned (i ∷ is) = (i.number, record { what = i.what; settled = [] }) ∷ planned is
 
 abbrev pub storing_of : Plan → Storing
-storing_of p = record { trim = p.trim; lng = p.lng; end = p.end; items = planned p.items; wave = 0 }
+storing_of p = record { trim = p.trim; lng = p.lng; end = p.end; loss = p.loss; items = planned p.items; wave = 0 }
 
--- each item that fewer nodes than the factor settled goes to the choice of the wave
-abbrev pub item_stores : Spec → List ℕ → ℕ → ℕ → List (ℕ × Planned) → List (ℕ × Body)
-item_stores s lost lng wave [] = []
-item_stores s lost lng wave (i ∷ is) = (if nat_lt (length i.1.settled) s.r then to_each (bodies.Store i.0 lng i.1.what) (choice s lost i.0 wave) else []) ++ item_stores s lost lng wave is
+-- the nodes of the epoch that haven't said that they are lost
+abbrev pub left_nodes : Spec → List ℕ → List ℕ
+left_nodes s lost = without lost (nodes_of s)
+
+-- a loss plan goes to all of these, and so does any where they are fewer than the factor
+abbrev pub is_wide : Spec → List ℕ → Bool → Bool
+is_wide s lost loss = loss || nat_lt (length (left_nodes s lost)) s.r
+
+-- where an item goes: each item that fewer nodes than the factor settled goes to the choice of the wave
+abbrev pub item_nodes : Spec → List ℕ → Bool → ℕ → ℕ → List ℕ → List ℕ
+item_nodes s lost loss wave n settled =
+    if is_wide s lost loss then without settled (left_nodes s lost)
+    else if nat_lt (length settled) s.r then choice s lost n wave
+    else []
+
+abbrev pub item_stores : Spec → List ℕ → Bool → ℕ → ℕ → List (ℕ × Planned) → List (ℕ × Body)
+item_stores s lost loss lng wave [] = []
+item_stores s lost loss lng wave (i ∷ is) = to_each (bodies.Store i.0 lng i.1.what) (item_nodes s lost loss wave i.0 i.1.settled) ++ item_stores s lost loss lng wave is
 
 -- each item has enough nodes
 unfoldable pub is_ready : Spec → Storing → Bool
 is_ready s g = all_of (λ i. nat_le s.r (length i.1.settled)) g.items
 
 abbrev pub summary_of : ℕ → Storing → Summary
-summary_of ballot g = record { ballot = ballot; lng = g.lng; trim = g.trim; end = g.end }
+summary_of ballot g = record { ballot = ballot; lng = g.lng; trim = g.trim; end = g.end; loss = g.loss }
+
+-- a loss plan isn't, whatever its nodes answered
+abbrev pub is_fully_ready : Spec → Storing → Bool
+is_fully_ready s g = not g.loss && is_ready s g
+
+-- each node of the epoch settled each item, or is lost
+unfoldable pub is_ready_short : Spec → List ℕ → Storing → Bool
+is_ready_short s lost g = all_of (λ i. all_of (λ y. is_in y i.1.settled || is_in y lost) (nodes_of s)) g.items
 
 -- a plan goes to its first wave
 abbrev pub stores_plan : Acts → Recovery → Plan → Acts
 stores_plan a v p = record a {
   sequencer = with_stage a.sequencer v (Stores (storing_of p));
-  stores = item_stores v.spec v.lost p.lng 0 (planned p.items);
+  stores = item_stores v.spec v.lost p.loss p.lng 0 (planned p.items);
 }
 
 -- after an answer the plan is closed, where it is ready
 abbrev pub closes_ready : Acts → Recovery → Storing → Acts
 closes_ready a v g =
-    if is_ready v.spec g
-    then try_close (becomes a (with_stage a.sequencer v (Closes (summary_of a.sequencer.epoch g)))) v.epoch (summary_of a.sequencer.epoch g)
+    if is_fully_ready v.spec g || is_ready_short v.spec v.lost g
+    then try_close (becomes a (with_stage a.sequencer v (Closes (summary_of a.sequencer.epoch g) (not (is_fully_ready v.spec g))))) v.epoch (summary_of a.sequencer.epoch g) (not (is_fully_ready v.spec g))
     else becomes a (with_stage a.sequencer v (Stores g))
 
 -- a node settles the items that pass
@@ -205,25 +235,53 @@ abbrev pub takes_any : ℕ → ℕ → List Told → Bool
 takes_any y from [] = false
 takes_any y from (t ∷ d) = takes_page y from t || takes_any y from d
 
--- a digest with one page more: enough, or the node is asked on
-abbrev pub adds_page : Acts → Recovery → ℕ → List Told → Acts
-adds_page a v y d =
-    if enough v.spec d then stores_plan a v (plan v.epoch d)
-    else record a { sequencer = with_stage a.sequencer v (Seals d); asks = next_ask y d }
+abbrev pub seals_on : Acts → Recovery → List Told → List (ℕ × Body) → Acts
+seals_on a v d asks = record a { sequencer = with_stage a.sequencer v (Seals d); asks = asks }
 
-abbrev pub digests : Acts → Recovery → ℕ → ℕ → ℕ → ℕ → ℕ → List Entry → Stage → Acts
-digests a v y from upto trim lng es (Seals d) = if takes_any y from d then adds_page a v y (with_page v.epoch y from upto trim lng es d) else a
-digests a v y from upto trim lng es _ = a
+-- the epoch was closed by someone
+abbrev pub passes : (ℕ → View) → Acts → ℕ → Summary → Acts
+passes looks a epoch y = goes_on looks (tells_clean a epoch y) epoch
+
+-- a look at an epoch whose digest is spent: it was closed, or it is this sequencer that says what is lost, or one after it
+abbrev pub by_look : (ℕ → View) → Acts → Recovery → List Told → Option Summary → ℕ → Acts
+by_look looks a v d (Some y) epoch = passes looks a v.epoch y
+by_look looks a v d None epoch = if epoch == a.sequencer.epoch then stores_plan a v (plan v.epoch true d) else preempt a epoch
+
+abbrev pub looks_now : (ℕ → View) → Acts → Recovery → List Told → Acts
+looks_now looks a v d = by_look looks a v d (looks v.epoch).summary (looks v.epoch).epoch
+
+-- a digest with one answer more: enough, or spent, or these asks are sent
+abbrev pub with_digest : (ℕ → View) → Acts → Recovery → List Told → List (ℕ × Body) → Acts
+with_digest looks a v d asks =
+    if enough v.spec d then stores_plan a v (plan v.epoch false d)
+    else if is_spent v.spec d then looks_now looks a v d
+    else seals_on a v d asks
+
+abbrev pub adds_page : (ℕ → View) → Acts → Recovery → ℕ → List Told → Acts
+adds_page looks a v y d = with_digest looks a v d (next_ask y d)
+
+abbrev pub digests : (ℕ → View) → Acts → Recovery → ℕ → ℕ → ℕ → ℕ → ℕ → List Entry → Stage → Acts
+digests looks a v y from upto trim lng es (Seals d) = if takes_any y from d then adds_page looks a v y (with_page v.epoch y from upto trim lng es d) else a
+digests looks a v y from upto trim lng es _ = a
 
 -- ---- lost nodes ----
 
 abbrev pub lost_stage : ℕ → Stage → Stage
 lost_stage y (Seals d) = Seals (with_lost y d)
 lost_stage y (Stores g) = Stores g
-lost_stage y (Closes s) = Closes s
+lost_stage y (Closes s short) = Closes s short
 
 abbrev pub recovery_lost : ℕ → Recovery → Recovery
 recovery_lost y v = record v { lost = with_one y v.lost; stage = lost_stage y v.stage }
+
+-- the digest may be spent now, or the plan ready
+abbrev pub after_lost : (ℕ → View) → Acts → Recovery → Stage → Acts
+after_lost looks a v (Seals d) = with_digest looks a v d []
+after_lost looks a v (Stores g) = closes_ready a v g
+after_lost looks a v (Closes s short) = becomes a (with_stage a.sequencer v (Closes s short))
+
+abbrev pub loses_node : (ℕ → View) → Acts → Recovery → Acts
+loses_node looks a v = after_lost looks a v v.stage
 
 -- ---- acknowledgements ----
 
@@ -272,23 +330,23 @@ by_stored a y n =
 abbrev pub by_trimmed : Acts → ℕ → ℕ → ℕ → Acts
 by_trimmed a y n t = in_recovery a (epoch_of n) a.sequencer.recovery (λ v. of_member v.spec y (settles a v (λ s. nat_le s t) y v.stage) a)
 
-abbrev pub by_lost : Acts → ℕ → ℕ → Acts
-by_lost a y n =
+abbrev pub by_lost : (ℕ → View) → Acts → ℕ → ℕ → Acts
+by_lost looks a y n =
     if home_epoch n == a.sequencer.epoch then becomes a (record a.sequencer { lost = with_one y a.sequencer.lost })
-    else in_recovery a (home_epoch n) a.sequencer.recovery (λ v. becomes a (record a.sequencer { recovery = Some (recovery_lost y v) }))
+    else in_recovery a (home_epoch n) a.sequencer.recovery (λ v. loses_node looks a (recovery_lost y v))
 
 abbrev pub by_clean : (ℕ → View) → Acts → ℕ → Summary → Acts
 by_clean looks a n s =
     if home_epoch n == a.sequencer.epoch then preempt a s.ballot
-    else in_recovery a (home_epoch n) a.sequencer.recovery (λ v. goes_on looks (tells_clean a v.epoch s) v.epoch)
+    else in_recovery a (home_epoch n) a.sequencer.recovery (λ v. passes looks a v.epoch s)
 
 abbrev pub by_reply : (ℕ → View) → Acts → ℕ → Body → Acts
 by_reply looks a y (bodies.Stored n) = by_stored a y n
 by_reply looks a y (bodies.SealedHere n k) = if nat_lt a.sequencer.epoch k then preempt a k else a
-by_reply looks a y (bodies.LostHere n round generation end) = by_lost a y n
+by_reply looks a y (bodies.LostHere n round generation end) = by_lost looks a y n
 by_reply looks a y (bodies.CleanHere n s) = by_clean looks a n s
 by_reply looks a y (bodies.TrimmedHere n t) = by_trimmed a y n t
-by_reply looks a y (bodies.DigestPage from upto trim lng es) = in_recovery a (epoch_of from) a.sequencer.recovery (λ v. digests a v y from upto trim lng es v.stage)
+by_reply looks a y (bodies.DigestPage from upto trim lng es) = in_recovery a (epoch_of from) a.sequencer.recovery (λ v. digests looks a v y from upto trim lng es v.stage)
 by_reply looks a y _ = a
 
 -- a preempted sequencer ignores all replies
@@ -319,20 +377,26 @@ retries_appends a = record a {
 abbrev pub next_try : Storing → Storing
 next_try g = record g { wave = next_wave g.wave }
 
-abbrev pub retries_stage : Acts → Recovery → Stage → Acts
-retries_stage a v (Seals d) = record a { sequencer = with_stage a.sequencer v (Seals (with_asks v.epoch d)); asks = digest_asks (with_asks v.epoch d) }
-retries_stage a v (Stores g) = record a {
-  sequencer = with_stage a.sequencer v (Stores (next_try g));
-  stores = item_stores v.spec v.lost g.lng (next_wave g.wave) g.items ++ a.stores;
-}
-retries_stage a v (Closes y) = try_close a v.epoch y
+abbrev pub with_stores : List (ℕ × Body) → Acts → Acts
+with_stores ms a = record a { stores = a.stores ++ ms }
 
-abbrev pub retries_recovery : Acts → Option Recovery → Acts
-retries_recovery a None = a
-retries_recovery a (Some v) = retries_stage a v v.stage
+abbrev pub asks_again : Acts → Recovery → List Told → Acts
+asks_again a v d = seals_on a v d (digest_asks d)
 
-unfoldable pub on_retry : Sequencer → Acts
-on_retry q = unless_preempted q.preempted (retries_recovery (retries_appends (does_nothing q)) q.recovery) (does_nothing q)
+-- a digest stays spent only where the register couldn't be looked at: then it is now
+abbrev pub retries_stage : (ℕ → View) → Acts → Recovery → Stage → Acts
+retries_stage looks a v (Seals d) =
+    if is_spent v.spec d then with_stores a.stores (looks_now looks (record a { stores = [] }) v d)
+    else asks_again a v (with_asks v.epoch d)
+retries_stage looks a v (Stores g) = closes_ready (record a { stores = item_stores v.spec v.lost g.loss g.lng (next_wave g.wave) g.items ++ a.stores }) v (next_try g)
+retries_stage looks a v (Closes y short) = try_close a v.epoch y short
+
+abbrev pub retries_recovery : (ℕ → View) → Acts → Option Recovery → Acts
+retries_recovery looks a None = a
+retries_recovery looks a (Some v) = retries_stage looks a v v.stage
+
+unfoldable pub on_retry : (ℕ → View) → Sequencer → Acts
+on_retry looks q = unless_preempted q.preempted (retries_recovery looks (retries_appends (does_nothing q)) q.recovery) (does_nothing q)
 
 -- ---- the close, and the messages of a call ----
 
@@ -344,9 +408,9 @@ pub record Called : Type 0 where
 abbrev pub answered : (ℕ → View) → Acts → ℕ → Summary → Changed → Called
 answered looks a epoch y d = record { acts = after_close looks a epoch y d.answer; register = d.register }
 
-abbrev pub called : (ℕ → View) → Register → Acts → List (ℕ × Summary) → Called
+abbrev pub called : (ℕ → View) → Register → Acts → List Attempt → Called
 called looks r a [] = record { acts = a; register = r }
-called looks r a (t ∷ ts) = answered looks a t.0 t.1 (close r a.sequencer.log t.0 t.1)
+called looks r a (t ∷ ts) = answered looks a t.epoch t.summary (close r a.sequencer.log t.epoch t.summary t.short)
 
 -- whether the released number rose
 abbrev pub rose : Sequencer → Sequencer → Bool

@@ -41,6 +41,8 @@ pub enum What {
     Hole,
     /// No record from here to the end of the epoch.
     Bridge,
+    /// Its record is lost, if it had one.
+    Plug,
 }
 
 impl What {
@@ -52,6 +54,7 @@ impl What {
             What::Rec(payload) => Ok(What::Rec(payload.copy(alloc)?)),
             What::Hole => Ok(What::Hole),
             What::Bridge => Ok(What::Bridge),
+            What::Plug => Ok(What::Plug),
         }
     }
 
@@ -63,6 +66,7 @@ impl What {
             What::Rec(_) => false,
             What::Hole => false,
             What::Bridge => true,
+            What::Plug => false,
         }
     }
 }
@@ -88,13 +92,15 @@ impl Entry {
     }
 }
 
-/// How an epoch was closed: by which sequencer, its trim point then, and where its bridge stands.
+/// How an epoch was closed: by which sequencer, its trim point then, where its bridge stands, and whether the plan said what
+/// is lost.
 #[derive(Clone, Copy, Debug, PartialEq, Eq)]
 pub struct Summary {
     pub ballot: u32,
     pub lng: u32,
     pub trim: Lsn,
     pub end: u32,
+    pub loss: bool,
 }
 
 /// What a message says. The ballot of a message between a sequencer and a node is the sequencer's epoch.
@@ -175,6 +181,7 @@ pub enum Body {
         round: u32,
         from: Lsn,
         end: Lsn,
+        loss: bool,
     },
     /// The number is trimmed.
     ReadTrim {
@@ -264,10 +271,16 @@ impl Body {
                 clean: *clean,
                 entries: entries.copy(alloc)?,
             }),
-            Body::ReadEnded { round, from, end } => Ok(Body::ReadEnded {
+            Body::ReadEnded {
+                round,
+                from,
+                end,
+                loss,
+            } => Ok(Body::ReadEnded {
                 round: *round,
                 from: *from,
                 end: *end,
+                loss: *loss,
             }),
             Body::ReadTrim { round, from, trim } => Ok(Body::ReadTrim {
                 round: *round,

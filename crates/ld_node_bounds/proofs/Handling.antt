@@ -201,7 +201,7 @@ module _ (n : ℕ) (N : IsNode n) (generation : ℕ) (gen_is : Is32 generation) 
     by_summary None h = cond_both (is_lost g (home_epoch from)) (bodies.LostHere from round generation 0) (open_answer g released round from) (Fits (whos.Node n) w) (λ t. lost_is 0 (omega arith)) (λ t. open_is)
     by_summary (Some y) h = let top = (summary_end small g G (home_epoch from) y h).1 in let he = home_at_most from in let eb = epoch_bound from from_is in
         let b : Is64 (numbered (home_epoch from) y.end) = numbered_bound (home_epoch from) y.end (omega arith) (omega arith) in
-        cond_both (nat_le y.end (home_esn from)) (bodies.ReadEnded round from (numbered (home_epoch from) y.end)) _ (Fits (whos.Node n) w)
+        cond_both (nat_le y.end (home_esn from)) (bodies.ReadEnded round from (numbered (home_epoch from) y.end) y.loss) _ (Fits (whos.Node n) w)
         (λ t. ((N, asks, round_is, one, from_is), b))
         (λ t. cond_both (is_lost g (home_epoch from)) (bodies.LostHere from round generation (numbered (home_epoch from) y.end)) (clean_page g round from y) (Fits (whos.Node n) w) (λ u. lost_is _ b) (λ u. clean_is y h (leb-false y.end (home_esn from) t)))
 
@@ -251,7 +251,7 @@ module _ (n : ℕ) (N : IsNode n) (generation : ℕ) (gen_is : Is32 generation) 
   handled_is w released r (bodies.TrimmedHere s t) f = paged w (bodies.TrimmedHere s t) tt
   handled_is w released r (bodies.DigestPage from upto t lng es) f = paged w (bodies.DigestPage from upto t lng es) tt
   handled_is w released r (bodies.Release s) f = paged w (bodies.Release s) tt
-  handled_is w released r (bodies.ReadEnded round from end) f = paged w (bodies.ReadEnded round from end) tt
+  handled_is w released r (bodies.ReadEnded round from end loss) f = paged w (bodies.ReadEnded round from end loss) tt
   handled_is w released r (bodies.ReadWait round from k) f = paged w (bodies.ReadWait round from k) tt
 
 pub answers_sent : (n : ℕ) (m : Msg) (o : Option Body) → IsLog m.log → MayAnswer n m.from o → AreMessages (answer_message n m o)

@@ -11,7 +11,7 @@ use Rattle.ld_lsn.specs.Number.{epoch_of}
 use Rattle.ld_ids.specs.Id.{IsLog}
 use Rattle.ld_msg.specs.declared.msg.Entry.{Entry}
 use Rattle.ld_msg.specs.declared.msg.What.{What}
-use Rattle.ld_msg.specs.declared.msg.What.TheVariants.{Rec, Hole, Bridge}
+use Rattle.ld_msg.specs.declared.msg.What.TheVariants.{Rec, Hole, Bridge, Plug}
 use Rattle.ld_msg.specs.declared.msg.Summary.{Summary}
 use Rattle.ld_msg.specs.Bounds.{IsLng, Is64, IsEpoch, IsEntry, IsSummary, AreEntries}
 use Rattle.ld_op.specs.declared.op.Op.{Op}
@@ -57,6 +57,7 @@ entry_put e m i s = record { rise = Ordered-put e.number e m s.rise; entries = a
 entry_accepted : (e : Entry) (x : What) (m : List (ℕ × Entry)) → IsEntry e → Entries m → Entries (accept_entry e x m)
 entry_accepted e (Rec p) m i s = entry_put e m i s
 entry_accepted e Hole m i s = entry_put e m i s
+entry_accepted e Plug m i s = entry_put e m i s
 entry_accepted e Bridge m i s = entry_put e (keep (λ k f. survives_bridge e f) m) i (record { rise = ordered-keep (λ k f. survives_bridge e f) m s.rise; entries = all-keep IsStored (λ k f. survives_bridge e f) m s.entries })
 
 entries_refilled : (es : List Entry) (m : List (ℕ × Entry)) → AreEntries es → Entries m → Entries (refill_entries es m)

@@ -10,7 +10,7 @@ use Rattle.ld_table.specs.Words.{values}
 use Rattle.ld_lsn.specs.Number.{home_epoch}
 use Rattle.ld_msg.specs.declared.msg.Entry.{Entry}
 use Rattle.ld_msg.specs.declared.msg.What.{What}
-use Rattle.ld_msg.specs.declared.msg.What.TheVariants.{Rec, Hole, Bridge}
+use Rattle.ld_msg.specs.declared.msg.What.TheVariants.{Rec, Hole, Bridge, Plug}
 use Rattle.ld_msg.specs.Digest.{is_bridge}
 use Rattle.ld_msg.specs.Bounds.{Is64, IsEntry, AreEntries, IsReadable, AreReadable, RiseWithin, IsPage}
 use Rattle.ld_op.specs.Plain.{Log}
@@ -71,6 +71,7 @@ not_bridge : (x : What) → not (is_bridge x) ≡ true → IsReadable x
 not_bridge (Rec p) h = tt
 not_bridge Hole h = tt
 not_bridge Bridge h = absurd cc
+not_bridge Plug h = tt
 
 readable-filter : (es : List Entry) → AreReadable (filter (λ e. not (is_bridge e.what)) es)
 readable-filter [] = tt

@@ -10,7 +10,7 @@ use Rattle.ld_ids.specs.Id.{IsLog}
 use Rattle.ld_msg.specs.declared.msg.Entry.{Entry}
 use Rattle.ld_msg.specs.declared.msg.Summary.{Summary}
 use Rattle.ld_msg.specs.declared.msg.What.{What}
-use Rattle.ld_msg.specs.declared.msg.What.TheVariants.{Rec, Hole, Bridge}
+use Rattle.ld_msg.specs.declared.msg.What.TheVariants.{Rec, Hole, Bridge, Plug}
 use Rattle.ld_msg.specs.Bounds.{Is32, IsLng, Is64, IsEpoch, IsShort, IsEntry, IsSummary}
 use Rattle.ld_op.specs.Plain.{Log, Plain}
 
@@ -65,6 +65,7 @@ IsShort-prop : (x : What) → IsProp (IsShort x)
 IsShort-prop (Rec p) = le_prop
 IsShort-prop Hole = Unit-prop
 IsShort-prop Bridge = Unit-prop
+IsShort-prop Plug = Unit-prop
 
 IsEntry-prop : (e : Entry) → IsProp (IsEntry e)
 IsEntry-prop e a b = λ i. record {

@@ -1,5 +1,5 @@
--- What is read as an op is spelled by its bytes.
-use Rattle.std.proofs.Common.{◌≡◌, ◌≤◌, ◌+◌, ◌-◌, ◌^◌, ◌==◌, ℕ, suc, zero, true, false, cond, List, [], ◌∷◌, ◌++◌, refl, ap, sym, ◌∙◌, subst, append_assoc, length, nat_le, arith}
+-- What is read as a record is spelled by its bytes.
+use Rattle.std.proofs.Common.{◌≡◌, ◌≤◌, ◌+◌, ◌-◌, ◌^◌, ◌==◌, ◌⊎◌, inl, inr, ⊎_elim, ℕ, suc, zero, Bool, true, false, cond, List, [], ◌∷◌, ◌++◌, refl, ap, sym, ◌∙◌, subst, append_assoc, length, nat_le, arith}
 use Rattle.std.proofs.lemmas.Bool.Decides.{nat_tests}
 use Rattle.std.proofs.lemmas.List.{append-nil}
 use Rattle.byteorder.specs.Endian.{big_bytes}
@@ -8,12 +8,14 @@ use Rattle.ld_ids.specs.Bytes.{AreBytes}
 use Rattle.ld_msg.specs.declared.msg.Entry.{Entry}
 use Rattle.ld_msg.specs.Bounds.{Is32, RiseWithin}
 use Rattle.ld_fields.specs.Fields.{Got, follow, field, within}
-use Rattle.ld_fields.specs.Items.{entry_bytes, entries_bytes, summary_bytes, greatest_epoch, greatest_lng, read_entry, read_entries, read_summary, read_log}
-use Rattle.ld_fields.proofs.Unspelling.{ended, gone, Spelled, spelled_on, spelled_none, Spells, field_spells, by_follow, by_check, by_got, entry_spelled, entries_spelled, within_is, summary_spelled, log_spelled}
+use Rattle.ld_fields.specs.Items.{entry_bytes, entries_bytes, older_summary_bytes, summary_bytes, greatest_epoch, greatest_lng, read_entry, read_entries, read_older_summary, read_summary, read_log}
+use Rattle.ld_fields.proofs.Unspelling.{ended, gone, Spelled, spelled_on, spelled_none, Spells, field_spells, by_follow, by_check, by_got, entry_spelled, entries_spelled, same_is, within_is, older_spelled, summary_spelled, log_spelled}
 use Rattle.ld_op.specs.declared.op.Op.{Op}
 use Rattle.ld_op.specs.declared.op.Op.TheVariants as ops
-use Rattle.ld_op.specs.Bounds.{IsOp, AreEpochs, RiseFrom}
-use Rattle.ld_op.specs.Bytes.{epochs_bytes, op_bytes, read_epoch, read_epochs, read_format, read_accept, read_seal, read_clean, read_refill, read_fields, read_body, judge}
+use Rattle.ld_op.specs.declared.record.Record.{Record}
+use Rattle.ld_op.specs.declared.record.Record.TheVariants.{Now, Before, Mark}
+use Rattle.ld_op.specs.Bounds.{IsOp, IsRecord, AreEpochs, RiseFrom}
+use Rattle.ld_op.specs.Bytes.{epochs_bytes, format_bytes, op_bytes, older_bytes, record_bytes, read_version, read_epoch, read_epochs, read_format, read_accept, read_seal, read_clean, read_refill, read_fields, read_op, recorded, read_body, is_kind, judge}
 
 -- entries that rise within two numbers rise from the first
 rise_from : (from upto : ℕ) (es : List Entry) → RiseWithin from upto es → RiseFrom from es
@@ -70,37 +72,61 @@ epochs_spelled bs (suc count) least at ds next h a l r =
 
 -- ---- ops ----
 
--- what stands behind the first byte, with which it makes the op's bytes
-pub record BodyRead (bs : List ℕ) (kind at next : ℕ) (o : Op) : Type 0 where
+-- what stands behind the first byte, with which it makes the record's bytes
+pub record BodyRead (bs : List ℕ) (kind at next : ℕ) (w : Record) : Type 0 where
   pub rest : List ℕ
   pub spelled : Spelled bs at next rest
-  pub bytes_are : big_bytes 1 kind ++ rest ≡ op_bytes o
-  pub is : IsOp o
+  pub bytes_are : big_bytes 1 kind ++ rest ≡ record_bytes w
+  pub is : IsRecord w
 
 -- the same behind the log
 pub record FieldsRead (bs : List ℕ) (kind l at next : ℕ) (o : Op) : Type 0 where
   pub rest : List ℕ
   pub spelled : Spelled bs at next rest
-  pub bytes_are : big_bytes 1 kind ++ (big_bytes 4 l ++ rest) ≡ op_bytes o
-  pub is : IsLog l → IsOp o
+  pub bytes_are : big_bytes 1 kind ++ (big_bytes 4 l ++ rest) ≡ record_bytes (recorded kind o)
+  pub is : IsLog l → IsRecord (recorded kind o)
 
-format_spelled : (bs : List ℕ) (at next : ℕ) (o : Op) → AreBytes bs → read_format bs at ≡ Got o next → BodyRead bs 1 at next o
-unfolding read_format op_bytes
+-- what a format says behind its version
+record FormatRead (bs : List ℕ) (at next : ℕ) (o : Op) : Type 0 where
+  generation : ℕ
+  epochs : List (ℕ × ℕ)
+  op_is : ops.Format generation epochs ≡ o
+  spelled : Spelled bs at next (format_bytes generation epochs)
+  is : IsOp (ops.Format generation epochs)
+
+version_spelled : (bs : List ℕ) (at byte next : ℕ) → AreBytes bs → read_version bs at ≡ Got byte next → Spelled bs at next (big_bytes 1 2)
+unfolding read_version
+version_spelled bs at byte next h r = by_follow (field 1 bs at) _ byte next r (λ v a f r. by_check (v == 2) at _ byte next r (λ ok r. by_got v byte a next r (λ is n.
+    subst (λ m. Spelled bs at m (big_bytes 1 2)) n (subst (λ k. Spelled bs at a (big_bytes 1 k)) (same_is v 2 ok) (field_spells 1 bs at v a h f).spelled))))
+
+format_spelled : (bs : List ℕ) (at next : ℕ) (o : Op) → AreBytes bs → read_format bs at ≡ Got o next → FormatRead bs at next o
+unfolding read_format
 format_spelled bs at next o h r =
     by_follow (field 4 bs at) _ o next r (λ g a f r. by_follow (field 1 bs a) _ o next r (λ count b k r. by_follow (read_epochs bs count 1 b) _ o next r (λ ds last q r. by_got (ops.Format g ds) o last next r (λ is n.
     let s = field_spells 4 bs at g a h f in let t = field_spells 1 bs a count b h k in let u = epochs_spelled bs count 1 b ds last h t.spelled.within (omega arith) q in let m = t.fits in let e = u.count_is in let z = s.fits in
-    subst (BodyRead bs 1 at next) is (subst (λ x. BodyRead bs 1 at x (ops.Format g ds)) n (record {
-      rest = big_bytes 4 g ++ (big_bytes 1 count ++ epochs_bytes ds);
-      spelled = spelled_on bs at a last (big_bytes 4 g) _ s.spelled (spelled_on bs a b last (big_bytes 1 count) _ t.spelled u.spelled);
-      bytes_are = ap (λ x. big_bytes 1 1 ++ (big_bytes 4 g ++ (big_bytes 1 x ++ epochs_bytes ds))) (sym e);
+    record {
+      generation = g;
+      epochs = ds;
+      op_is = is;
+      spelled = subst (λ x. Spelled bs at x (format_bytes g ds)) n (subst (λ x. Spelled bs at last (big_bytes 4 g ++ (big_bytes 1 x ++ epochs_bytes ds))) (sym e)
+          (spelled_on bs at a last (big_bytes 4 g) _ s.spelled (spelled_on bs a b last (big_bytes 1 count) _ t.spelled u.spelled)));
       is = (omega arith, omega arith, u.are);
-    }))))))
+    }))))
+
+older_format : (bs : List ℕ) (at next : ℕ) (o : Op) → FormatRead bs at next o → BodyRead bs 1 at next (Before o)
+unfolding older_bytes
+older_format bs at next o u = subst (λ x. BodyRead bs 1 at next (Before x)) u.op_is (record { rest = format_bytes u.generation u.epochs; spelled = u.spelled; bytes_are = refl; is = (u.is, tt) })
+
+newer_format : (bs : List ℕ) (at mid next : ℕ) (o : Op) → Spelled bs at mid (big_bytes 1 2) → FormatRead bs mid next o → BodyRead bs 10 at next (Now o)
+unfolding op_bytes
+newer_format bs at mid next o s u = subst (λ x. BodyRead bs 10 at next (Now x)) u.op_is
+    (record { rest = big_bytes 1 2 ++ format_bytes u.generation u.epochs; spelled = spelled_on bs at mid next (big_bytes 1 2) _ s u.spelled; bytes_are = refl; is = u.is })
 
 accept_spelled : (bs : List ℕ) (l at next : ℕ) (o : Op) → AreBytes bs → read_accept bs l at ≡ Got o next → FieldsRead bs 2 l at next o
 unfolding read_accept op_bytes
 accept_spelled bs l at next o h r =
-    by_follow (field 4 bs at) _ o next r (λ lng a f r. by_check (nat_le lng greatest_lng) at _ o next r (λ ok r. by_follow (read_entry bs 2 (2 ^ 64 - 1) 0 a) _ o next r (λ e last q r. by_got (ops.Accept l lng e) o last next r (λ is n.
-    let s = field_spells 4 bs at lng a h f in let u = entry_spelled bs 2 (2 ^ 64 - 1) 0 a e last h q in let z = s.fits in
+    by_follow (field 4 bs at) _ o next r (λ lng a f r. by_check (nat_le lng greatest_lng) at _ o next r (λ ok r. by_follow (read_entry bs true (2 ^ 64 - 1) 0 a) _ o next r (λ e last q r. by_got (ops.Accept l lng e) o last next r (λ is n.
+    let s = field_spells 4 bs at lng a h f in let u = entry_spelled bs true (2 ^ 64 - 1) 0 a e last h q in let z = s.fits in
     subst (FieldsRead bs 2 l at next) is (subst (λ x. FieldsRead bs 2 l at x (ops.Accept l lng e)) n (record {
       rest = big_bytes 4 lng ++ entry_bytes e;
       spelled = spelled_on bs at a last (big_bytes 4 lng) (entry_bytes e) s.spelled u.spelled;
@@ -113,12 +139,24 @@ unfolding read_seal op_bytes
 seal_spelled bs l at next o h r = by_follow (field 4 bs at) _ o next r (λ b a f r. by_check _ at _ o next r (λ ok r. by_got (ops.Seal l b) o a next r (λ is n. let s = field_spells 4 bs at b a h f in
     subst (FieldsRead bs 3 l at next) is (subst (λ x. FieldsRead bs 3 l at x (ops.Seal l b)) n (record { rest = big_bytes 4 b; spelled = s.spelled; bytes_are = refl; is = λ i. (i, within_is 1 greatest_epoch b ok) })))))
 
-clean_spelled : (bs : List ℕ) (l at next : ℕ) (o : Op) → AreBytes bs → read_clean bs l at ≡ Got o next → FieldsRead bs 4 l at next o
+older_clean : (bs : List ℕ) (l at next : ℕ) (o : Op) → AreBytes bs → read_clean true bs l at ≡ Got o next → FieldsRead bs 4 l at next o
+unfolding read_clean older_bytes
+older_clean bs l at next o h r =
+    by_follow (field 4 bs at) _ o next r (λ epoch a f r. by_check _ at _ o next r (λ ok r. by_follow (read_older_summary bs epoch a) _ o next r (λ y last q r. by_got (ops.Clean l epoch y) o last next r (λ is n.
+    let s = field_spells 4 bs at epoch a h f in let u = older_spelled bs epoch a y last h q in
+    subst (FieldsRead bs 4 l at next) is (subst (λ x. FieldsRead bs 4 l at x (ops.Clean l epoch y)) n (record {
+      rest = big_bytes 4 epoch ++ older_summary_bytes y;
+      spelled = spelled_on bs at a last (big_bytes 4 epoch) (older_summary_bytes y) s.spelled u.spelled;
+      bytes_are = refl;
+      is = λ i. ((i, within_is 1 greatest_epoch epoch ok, u.is), u.unlost);
+    }))))))
+
+newer_clean : (bs : List ℕ) (l at next : ℕ) (o : Op) → AreBytes bs → read_clean false bs l at ≡ Got o next → FieldsRead bs 12 l at next o
 unfolding read_clean op_bytes
-clean_spelled bs l at next o h r =
+newer_clean bs l at next o h r =
     by_follow (field 4 bs at) _ o next r (λ epoch a f r. by_check _ at _ o next r (λ ok r. by_follow (read_summary bs epoch a) _ o next r (λ y last q r. by_got (ops.Clean l epoch y) o last next r (λ is n.
     let s = field_spells 4 bs at epoch a h f in let u = summary_spelled bs epoch a y last h q in
-    subst (FieldsRead bs 4 l at next) is (subst (λ x. FieldsRead bs 4 l at x (ops.Clean l epoch y)) n (record {
+    subst (FieldsRead bs 12 l at next) is (subst (λ x. FieldsRead bs 12 l at x (ops.Clean l epoch y)) n (record {
       rest = big_bytes 4 epoch ++ summary_bytes y;
       spelled = spelled_on bs at a last (big_bytes 4 epoch) (summary_bytes y) s.spelled u.spelled;
       bytes_are = refl;
@@ -133,8 +171,8 @@ trim_spelled bs l at next o h r = by_follow (field 8 bs at) _ o next r (λ t a f
 refill_spelled : (bs : List ℕ) (l at next : ℕ) (o : Op) → AreBytes bs → read_refill bs l at ≡ Got o next → FieldsRead bs 6 l at next o
 unfolding read_refill op_bytes
 refill_spelled bs l at next o h r =
-    by_follow (field 2 bs at) _ o next r (λ count a f r. by_check _ at _ o next r (λ ok r. by_follow (read_entries bs 2 (2 ^ 64 - 1) count 0 a) _ o next r (λ es last q r. by_got (ops.Refill l es) o last next r (λ is n.
-    let s = field_spells 2 bs at count a h f in let u = entries_spelled bs 2 (2 ^ 64 - 1) count 0 a es last h s.spelled.within q in let e = u.count_is in let w = within_is 1 64 count ok in let w0 = w.0 in let w1 = w.1 in
+    by_follow (field 2 bs at) _ o next r (λ count a f r. by_check _ at _ o next r (λ ok r. by_follow (read_entries bs true (2 ^ 64 - 1) count 0 a) _ o next r (λ es last q r. by_got (ops.Refill l es) o last next r (λ is n.
+    let s = field_spells 2 bs at count a h f in let u = entries_spelled bs true (2 ^ 64 - 1) count 0 a es last h s.spelled.within q in let e = u.count_is in let w = within_is 1 64 count ok in let w0 = w.0 in let w1 = w.1 in
     subst (FieldsRead bs 6 l at next) is (subst (λ x. FieldsRead bs 6 l at x (ops.Refill l es)) n (record {
       rest = big_bytes 2 count ++ entries_bytes es;
       spelled = spelled_on bs at a last (big_bytes 2 count) (entries_bytes es) s.spelled u.spelled;
@@ -142,45 +180,79 @@ refill_spelled bs l at next o h r =
       is = λ i. (i, omega arith, omega arith, u.are, rise_from 0 (2 ^ 64 - 1) es u.rise);
     }))))))
 
-fields_spelled : (bs : List ℕ) (kind l at next : ℕ) (o : Op) → AreBytes bs → at ≤ length bs → 2 ≤ kind → kind ≤ 7 → read_fields bs kind l at ≡ Got o next → FieldsRead bs kind l at next o
+older_fields : (bs : List ℕ) (kind l at next : ℕ) (o : Op) → AreBytes bs → at ≤ length bs → 2 ≤ kind → kind ≤ 7 → read_fields bs kind l at ≡ Got o next → FieldsRead bs kind l at next o
 unfolding read_fields op_bytes
-fields_spelled bs zero l at next o h a k m r = absurd (omega arith)
-fields_spelled bs (suc zero) l at next o h a k m r = absurd (omega arith)
-fields_spelled bs (suc (suc zero)) l at next o h a k m r = accept_spelled bs l at next o h r
-fields_spelled bs (suc (suc (suc zero))) l at next o h a k m r = seal_spelled bs l at next o h r
-fields_spelled bs (suc (suc (suc (suc zero)))) l at next o h a k m r = clean_spelled bs l at next o h r
-fields_spelled bs (suc (suc (suc (suc (suc zero))))) l at next o h a k m r = trim_spelled bs l at next o h r
-fields_spelled bs (suc (suc (suc (suc (suc (suc zero)))))) l at next o h a k m r = refill_spelled bs l at next o h r
-fields_spelled bs (suc (suc (suc (suc (suc (suc (suc zero))))))) l at next o h a k m r = by_got (ops.Refilled l) o at next r (λ is n.
+older_fields bs zero l at next o h a k m r = absurd (omega arith)
+older_fields bs (suc zero) l at next o h a k m r = absurd (omega arith)
+older_fields bs (suc (suc zero)) l at next o h a k m r = accept_spelled bs l at next o h r
+older_fields bs (suc (suc (suc zero))) l at next o h a k m r = seal_spelled bs l at next o h r
+older_fields bs (suc (suc (suc (suc zero)))) l at next o h a k m r = older_clean bs l at next o h r
+older_fields bs (suc (suc (suc (suc (suc zero))))) l at next o h a k m r = trim_spelled bs l at next o h r
+older_fields bs (suc (suc (suc (suc (suc (suc zero)))))) l at next o h a k m r = refill_spelled bs l at next o h r
+older_fields bs (suc (suc (suc (suc (suc (suc (suc zero))))))) l at next o h a k m r = by_got (ops.Refilled l) o at next r (λ is n.
     subst (FieldsRead bs 7 l at next) is (subst (λ x. FieldsRead bs 7 l at x (ops.Refilled l)) n (record { rest = []; spelled = spelled_none bs at a; bytes_are = append-nil (big_bytes 1 7 ++ big_bytes 4 l); is = λ i. i })))
-fields_spelled bs (suc (suc (suc (suc (suc (suc (suc (suc kind)))))))) l at next o h a k m r = absurd (omega arith)
+older_fields bs (suc (suc (suc (suc (suc (suc (suc (suc kind)))))))) l at next o h a k m r = absurd (omega arith)
 
-body_of : (bs : List ℕ) (kind at next : ℕ) (o : Op) → AreBytes bs → 2 ≤ kind → kind ≤ 7 → follow (read_log bs at) (read_fields bs kind) ≡ Got o next → BodyRead bs kind at next o
+newer_fields : (bs : List ℕ) (l at next : ℕ) (o : Op) → AreBytes bs → read_fields bs 12 l at ≡ Got o next → FieldsRead bs 12 l at next o
+unfolding read_fields
+newer_fields bs l at next o h r = newer_clean bs l at next o h r
+
+fields_spelled : (bs : List ℕ) (kind l at next : ℕ) (o : Op) → AreBytes bs → at ≤ length bs → 2 ≤ kind → (kind ≤ 7) ⊎ (kind ≡ 12) → read_fields bs kind l at ≡ Got o next → FieldsRead bs kind l at next o
+fields_spelled bs kind l at next o h a k m r = ⊎_elim
+    (λ few. older_fields bs kind l at next o h a k few r)
+    (λ is. subst (λ n. read_fields bs n l at ≡ Got o next → FieldsRead bs n l at next o) (sym is) (newer_fields bs l at next o h) r) m
+
+body_of : (bs : List ℕ) (kind at next : ℕ) (o : Op) → AreBytes bs → 2 ≤ kind → (kind ≤ 7) ⊎ (kind ≡ 12) → follow (read_log bs at) (read_fields bs kind) ≡ Got o next → BodyRead bs kind at next (recorded kind o)
 body_of bs kind at next o h k m r = by_follow (read_log bs at) (read_fields bs kind) o next r (λ l a f r.
     let s = log_spelled bs at l a h f in let u = fields_spelled bs kind l a next o h s.spelled.within k m r in
     record { rest = big_bytes 4 l ++ u.rest; spelled = spelled_on bs at a next (big_bytes 4 l) u.rest s.spelled u.spelled; bytes_are = u.bytes_are; is = u.is s.is })
 
-not_format : (bs : List ℕ) (kind at : ℕ) → 2 ≤ kind → read_body bs kind at ≡ follow (read_log bs at) (read_fields bs kind)
+-- the first byte of a log's op
+log_kind : (kind : ℕ) → is_kind kind ≡ true → (kind == 1) ≡ false → (kind == 10) ≡ false → (kind == 11) ≡ false → (2 ≤ kind) × ((kind ≤ 7) ⊎ (kind ≡ 12))
+log_kind kind k f t m = (
+  grind (arith, nat_tests),
+  elim (nat_le kind 7) as (λ b. nat_le kind 7 ≡ b → (kind ≤ 7) ⊎ (kind ≡ 12)) [
+    | true ↦ λ e. inl (grind (arith, nat_tests))
+    | false ↦ λ e. inr (grind (arith, nat_tests))
+  ] refl,
+)
+
+op_by : (bs : List ℕ) (kind at next : ℕ) (o : Op) (a b : Bool) → (kind == 1) ≡ a → (kind == 10) ≡ b → AreBytes bs → is_kind kind ≡ true → (kind == 11) ≡ false
+    → cond a (read_format bs at) (cond b (follow (read_version bs at) (λ byte next. read_format bs next)) (follow (read_log bs at) (read_fields bs kind))) ≡ Got o next → BodyRead bs kind at next (recorded kind o)
+op_by bs kind at next o true b e g h k m r = subst (λ n. BodyRead bs n at next (recorded n o)) (sym (same_is kind 1 e)) (older_format bs at next o (format_spelled bs at next o h r))
+op_by bs kind at next o false true e g h k m r = by_follow (read_version bs at) _ o next r (λ v a f r.
+    subst (λ n. BodyRead bs n at next (recorded n o)) (sym (same_is kind 10 g)) (newer_format bs at a next o (version_spelled bs at v a h f) (format_spelled bs a next o h r)))
+op_by bs kind at next o false false e g h k m r = let w = log_kind kind k e g m in body_of bs kind at next o h w.0 w.1 r
+
+op_spelled : (bs : List ℕ) (kind at next : ℕ) (o : Op) → AreBytes bs → is_kind kind ≡ true → (kind == 11) ≡ false → read_op bs kind at ≡ Got o next → BodyRead bs kind at next (recorded kind o)
+unfolding read_op
+op_spelled bs kind at next o h k m r = op_by bs kind at next o (kind == 1) (kind == 10) refl refl h k m r
+
+-- ---- records ----
+
+body_by : (bs : List ℕ) (kind at next : ℕ) (w : Record) (b : Bool) → (kind == 11) ≡ b → AreBytes bs → is_kind kind ≡ true
+    → cond b (follow (read_version bs at) (λ byte next. Got Mark next)) (follow (read_op bs kind at) (λ o next. Got (recorded kind o) next)) ≡ Got w next → BodyRead bs kind at next w
+body_by bs kind at next w true e h k r = by_follow (read_version bs at) _ w next r (λ v a f r. by_got Mark w a next r (λ is n.
+    subst (λ m. BodyRead bs m at next w) (sym (same_is kind 11 e)) (subst (BodyRead bs 11 at next) is (subst (λ x. BodyRead bs 11 at x Mark) n
+    (record { rest = big_bytes 1 2; spelled = version_spelled bs at v a h f; bytes_are = refl; is = tt })))))
+body_by bs kind at next w false e h k r = by_follow (read_op bs kind at) _ w next r (λ o a f r. by_got (recorded kind o) w a next r (λ is n.
+    subst (BodyRead bs kind at next) is (subst (λ x. BodyRead bs kind at x (recorded kind o)) n (op_spelled bs kind at a o h k e f))))
+
+body_spelled : (bs : List ℕ) (kind at next : ℕ) (w : Record) → AreBytes bs → is_kind kind ≡ true → read_body bs kind at ≡ Got w next → BodyRead bs kind at next w
 unfolding read_body
-not_format bs kind at h = let e : (kind == 1) ≡ false = grind (arith, nat_tests) in ap (λ b. cond b (read_format bs at) (follow (read_log bs at) (read_fields bs kind))) e
+body_spelled bs kind at next w h k r = body_by bs kind at next w (kind == 11) refl h k r
 
-body_spelled : (bs : List ℕ) (kind at next : ℕ) (o : Op) → AreBytes bs → 1 ≤ kind → kind ≤ 7 → read_body bs kind at ≡ Got o next → BodyRead bs kind at next o
-unfolding read_body
-body_spelled bs zero at next o h k m r = absurd (omega arith)
-body_spelled bs (suc zero) at next o h k m r = format_spelled bs at next o h r
-body_spelled bs (suc (suc kind)) at next o h k m r = let k : 2 ≤ suc (suc kind) = omega arith in body_of bs (suc (suc kind)) at next o h k m (sym (not_format bs (suc (suc kind)) at k) ∙ r)
+-- bytes that are judged to be a record are its bytes, and the record is one
+pub record IsSpelling (bs : List ℕ) (w : Record) : Type 0 where
+  pub bytes_are : bs ≡ record_bytes w
+  pub is : IsRecord w
 
--- bytes that are judged to be an op are its bytes, and the op is one
-pub record IsSpelling (bs : List ℕ) (o : Op) : Type 0 where
-  pub bytes_are : bs ≡ op_bytes o
-  pub is : IsOp o
-
-pub judge_spelled : (bs : List ℕ) (o : Op) (next : ℕ) → AreBytes bs → judge bs ≡ Got o next → IsSpelling bs o
+pub judge_spelled : (bs : List ℕ) (v : Record) (next : ℕ) → AreBytes bs → judge bs ≡ Got v next → IsSpelling bs v
 unfolding judge
-judge_spelled bs o next h r =
-    by_follow (field 1 bs 0) _ o next r (λ kind a f r. by_check _ 0 _ o next r (λ ok r. by_follow (read_body bs kind a) _ o next r (λ w last q r.
-    let e = ended bs last w o next r in let k = within_is 1 7 kind ok in
-    let s = field_spells 1 bs 0 kind a h f in let u = body_spelled bs kind a last w h k.0 k.1 q in
+judge_spelled bs v next h r =
+    by_follow (field 1 bs 0) _ v next r (λ kind a f r. by_check _ 0 _ v next r (λ ok r. by_follow (read_body bs kind a) _ v next r (λ w last q r.
+    let e = ended bs last w v next r in
+    let s = field_spells 1 bs 0 kind a h f in let u = body_spelled bs kind a last w h ok q in
     subst (IsSpelling bs) e.1 (record {
       bytes_are = (spelled_on bs 0 a last (big_bytes 1 kind) u.rest s.spelled u.spelled).there ∙ (ap (λ x. (big_bytes 1 kind ++ u.rest) ++ x) (gone bs last e.0) ∙ (append-nil (big_bytes 1 kind ++ u.rest) ∙ u.bytes_are));
       is = u.is;

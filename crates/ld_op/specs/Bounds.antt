@@ -1,10 +1,12 @@
--- What an op may hold: what a journal's body can carry.
-use Rattle.std.specs.Prelude.{ℕ, ◌≤◌, ◌+◌, List, [], ◌∷◌, length}
+-- What an op and a record may hold: what a journal's body can carry.
+use Rattle.std.specs.Prelude.{◌≡◌, ℕ, ◌≤◌, ◌+◌, List, [], ◌∷◌, length, false}
 use Rattle.ld_ids.specs.Id.{IsLog}
 use Rattle.ld_msg.specs.declared.msg.Entry.{Entry}
 use Rattle.ld_msg.specs.Bounds.{Is32, IsLng, Is64, IsEpoch, IsEntry, IsSummary, AreEntries}
 use Rattle.ld_op.specs.declared.op.Op.{Op}
 use Rattle.ld_op.specs.declared.op.Op.TheVariants as ops
+use Rattle.ld_op.specs.declared.record.Record.{Record}
+use Rattle.ld_op.specs.declared.record.Record.TheVariants.{Now, Before, Mark}
 
 -- logs from one on, rising, each with an epoch
 abbrev pub AreEpochs : ℕ → List (ℕ × ℕ) → Type 0
@@ -25,3 +27,14 @@ IsOp (ops.Clean l epoch y) = IsLog l × IsEpoch epoch × IsSummary epoch y
 IsOp (ops.Trim l t) = IsLog l × Is64 t
 IsOp (ops.Refill l es) = IsLog l × (1 ≤ length es) × (length es ≤ 64) × AreEntries es × RiseFrom 0 es
 IsOp (ops.Refilled l) = IsLog l
+
+-- an op that the first version of journals spelt in its own way: a format, or a close without a loss
+abbrev pub IsOlder : Op → Type 0
+IsOlder (ops.Format generation epochs) = Unit {0}
+IsOlder (ops.Clean l epoch y) = y.loss ≡ false
+IsOlder _ = ⊥
+
+abbrev pub IsRecord : Record → Type 0
+IsRecord (Now o) = IsOp o
+IsRecord (Before o) = IsOp o × IsOlder o
+IsRecord Mark = Unit {0}

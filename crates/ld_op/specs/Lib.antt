@@ -14,3 +14,4 @@ pub mod ShownPlain
 pub mod Picks
 pub mod Bytes
 pub mod Judged
+pub mod Records

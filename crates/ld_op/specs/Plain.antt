@@ -4,7 +4,7 @@ use Rattle.std.specs.Option.{unwrap_or}
 use Rattle.ld_table.specs.Table.{find, put, take_out, keep, keep_keys}
 use Rattle.ld_lsn.specs.Number.{epoch_of, esn_of, numbered}
 use Rattle.ld_msg.specs.declared.msg.What.{What}
-use Rattle.ld_msg.specs.declared.msg.What.TheVariants.{Rec, Hole, Bridge}
+use Rattle.ld_msg.specs.declared.msg.What.TheVariants.{Rec, Hole, Bridge, Plug}
 use Rattle.ld_msg.specs.declared.msg.Entry.{Entry}
 use Rattle.ld_msg.specs.declared.msg.Summary.{Summary}
 use Rattle.ld_op.specs.declared.op.Op.{Op}
@@ -38,7 +38,7 @@ log_of p l = unwrap_or (find l p.logs) empty_log
 
 -- epoch 0 is closed and clean everywhere, and ends before its place 1
 abbrev pub epoch_zero : Summary
-epoch_zero = record { ballot = 0; lng = 0; trim = 0; end = 1 }
+epoch_zero = record { ballot = 0; lng = 0; trim = 0; end = 1; loss = false }
 
 unfoldable pub summary_at : Log → ℕ → Option Summary
 summary_at g e = if e == 0 then Some epoch_zero else find e g.summaries
@@ -63,6 +63,7 @@ survives_bridge b e = nat_le e.number b.number || (not (epoch_of e.number == epo
 abbrev pub accept_entry : Entry → What → List (ℕ × Entry) → List (ℕ × Entry)
 accept_entry e (Rec p) m = put e.number e m
 accept_entry e Hole m = put e.number e m
+accept_entry e Plug m = put e.number e m
 accept_entry e Bridge m = put e.number e (keep (λ s f. survives_bridge e f) m)
 
 -- the greatest last known good place that was told of an epoch; none is kept of 0
@@ -128,6 +129,7 @@ abbrev pub what_length : What → ℕ
 what_length (Rec p) = 2 + length p
 what_length Hole = 0
 what_length Bridge = 0
+what_length Plug = 0
 
 abbrev pub entry_length : Entry → ℕ
 entry_length e = 13 + what_length e.what
@@ -141,10 +143,10 @@ epochs_length [] = 0
 epochs_length (d ∷ ds) = 8 + epochs_length ds
 
 unfoldable pub op_length : Op → ℕ
-op_length (ops.Format generation epochs) = 6 + epochs_length epochs
+op_length (ops.Format generation epochs) = 7 + epochs_length epochs
 op_length (ops.Accept l lng e) = 9 + entry_length e
 op_length (ops.Seal l b) = 9
-op_length (ops.Clean l epoch y) = 29
+op_length (ops.Clean l epoch y) = 30
 op_length (ops.Trim l t) = 13
 op_length (ops.Refill l es) = 7 + entries_length es
 op_length (ops.Refilled l) = 5

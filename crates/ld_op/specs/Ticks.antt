@@ -65,7 +65,7 @@ on_page g l b = record { op = if g.lost then page_op g l b else None; answer = N
 
 -- ---- asks for what is missing ----
 
--- asks of a node go to the other nodes of the log, and have round 0
+-- asks of a node go to the other nodes of the set, and have round 0
 abbrev pub node_asks : ℕ → List ℕ → ℕ → List (ℕ × Body)
 node_asks n set from = to_each (bodies.ReadAsk 0 from) (without (n ∷ []) set)
 

@@ -2,7 +2,7 @@
 ghost use Rattle.std.specs.Prelude.{◌≡◌, ◌≤◌, ◌++◌, length, OnOk, OnErr, IfOk};
 ghost use Rattle.byteorder.specs.Endian.{big_bytes};
 ghost use Rattle.ld_op.specs.Bounds.{IsOp};
-ghost use Rattle.ld_op.specs.Bytes.{epochs_bytes, op_bytes};
+ghost use Rattle.ld_op.specs.Bytes.{epochs_bytes, format_bytes, op_bytes};
 
 use crate::Op;
 use ld_fields::{put_entries, put_entry, put_number, put_summary, put_u8, put_u16, put_u32};
@@ -53,7 +53,7 @@ impl Op {
                 epoch,
                 summary,
             } => {
-                put_head(out, 4, *log)?;
+                put_head(out, 12, *log)?;
                 put_u32(out, *epoch)?;
                 put_summary(out, summary)
             }
@@ -71,12 +71,13 @@ impl Op {
     }
 }
 
-/// A format.
+/// A format, which tells the second version.
 fn put_format(out: &mut Vec<u8>, generation: u32, epochs: &[(LogId, u32)]) -> Result<(), NoMemory>
     requires { length epochs.now ≤ 255 }
-    ensures { OnOk result (out.new.items ≡ out.old.items ++ (big_bytes 1 1 ++ (big_bytes 4 generation ++ (big_bytes 1 (length epochs.now) ++ epochs_bytes epochs.now)))) }
+    ensures { OnOk result (out.new.items ≡ out.old.items ++ (big_bytes 1 10 ++ (big_bytes 1 2 ++ format_bytes generation epochs.now))) }
 {
-    put_u8(out, 1)?;
+    put_u8(out, 10)?;
+    put_u8(out, 2)?;
     put_u32(out, generation)?;
     put_u8(out, epochs.len() as u8)?;
     put_epochs(out, epochs)

@@ -1,12 +1,12 @@
-// Why bytes are no op.
+// Why bytes are no record.
 use thiserror::Error;
 
-/// Why bytes were not read as an op.
+/// Why bytes were not read as a record.
 #[derive(Clone, Copy, Debug, PartialEq, Eq, Error)]
 pub enum OpFault {
     /// The first field that is cut off or out of its range begins at this place, or else the first byte that is too
     /// many stands there.
-    #[error("no op at byte {0}")]
+    #[error("no record at byte {0}")]
     Bad(u64),
     /// There is no memory left.
     #[error("out of memory")]

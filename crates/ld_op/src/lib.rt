@@ -1,4 +1,4 @@
-//! The ops of a node's journal.
+//! The ops of a node's journal, and the records that they stand in.
 #![tactic(auto)]
 
 mod decode;
@@ -12,11 +12,15 @@ mod missing;
 mod op;
 mod page;
 mod plain;
+mod record;
 mod summaries;
 #[cfg(test)]
 mod tests;
+mod version;
 
 pub use fault::OpFault;
 pub use op::{Epochs, Op};
 pub use page::Excerpt;
 pub use plain::Plain;
+pub use record::Record;
+pub use version::Version;

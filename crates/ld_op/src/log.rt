@@ -1,5 +1,5 @@
 // One log's part of a node's plain state.
-ghost use Rattle.std.specs.Prelude.{◌≡◌, ◌≢◌, true, false, None, OnOk, IfOk, option_copied, take, min, max};
+ghost use Rattle.std.specs.Prelude.{◌≡◌, ◌≢◌, true, false, None, OnOk, IfOk, option_copied, take};
 ghost use Rattle.ld_table.specs.Table.{find, first_from, Ordered};
 ghost use Rattle.ld_lsn.specs.Number.{epoch_of};
 ghost use Rattle.ld_op.specs.Plain.{empty_log, epoch_zero, summary_at, lng_at, lost_log, accepted, sealed_by, cleaned, trimmed_to, refilled_with, refilled};
@@ -205,7 +205,7 @@ impl LogState {
         self.entries.numbers_agree();
         self.there = true;
         self.sealed = entry.ballot;
-        self.whole = earlier(self.whole, entry.number);
+        self.whole = self.whole.earlier(entry.number);
         self.lngs.raise(entry.number.epoch(), lng);
         self.entries.accept(entry);
     }
@@ -225,7 +225,7 @@ impl LogState {
         ensures there { self.new.there ≡ true }
     {
         self.there = true;
-        self.trim = later(self.trim, trim);
+        self.trim = self.trim.later(trim);
         self.entries.trim(self.trim.value());
     }
 
@@ -237,8 +237,8 @@ impl LogState {
     {
         self.entries.numbers_agree();
         self.there = true;
-        self.trim = later(self.trim, summary.trim);
-        self.whole = earlier(self.whole, Lsn::new(epoch, 0));
+        self.trim = self.trim.later(summary.trim);
+        self.whole = self.whole.earlier(Lsn::new(epoch, 0));
         self.entries.close(self.trim.value(), epoch, &summary);
         self.summaries.put(epoch, summary);
         self.lngs.forget(epoch);
@@ -336,27 +336,6 @@ pub(crate) fn epoch_zero() -> Summary
         lng: 0,
         trim: Lsn::from_u64(0),
         end: 1,
-    }
-}
-
-/// The earlier of two numbers.
-fn earlier(one: Lsn, other: Lsn) -> Lsn
-    ensures { result ≡ min one other }
-{
-    if other.value() < one.value() {
-        other
-    } else {
-        one
-    }
-}
-
-/// The later of two numbers.
-fn later(one: Lsn, other: Lsn) -> Lsn
-    ensures { result ≡ max one other }
-{
-    if one.value() < other.value() {
-        other
-    } else {
-        one
+        loss: false,
     }
 }

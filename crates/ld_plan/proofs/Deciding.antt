@@ -8,15 +8,16 @@ use Rattle.ld_table.specs.Words.{or_else}
 use Rattle.ld_table.proofs.Laws.{find-put_same, find-put_other, find-empty}
 use Rattle.ld_lsn.specs.Number.{esn_of}
 use Rattle.ld_msg.specs.declared.msg.What.{What}
-use Rattle.ld_msg.specs.declared.msg.What.TheVariants.{Rec, Hole, Bridge}
+use Rattle.ld_msg.specs.declared.msg.What.TheVariants.{Rec, Hole, Bridge, Plug}
 use Rattle.ld_msg.specs.declared.msg.Entry.{Entry}
-use Rattle.ld_msg.specs.Digest.{says, is_bridge, content, record_or_hole, is_content}
+use Rattle.ld_msg.specs.Digest.{says, is_bridge, no_record, content, record_or, is_content}
 use Rattle.ld_plan.specs.Claims.{last_for, Decided, is_bridged, is_decided, claimed, decided_by}
 
 pub a_bridge : (w : What) → is_bridge w ≡ true → w ≡ Bridge
 a_bridge (Rec p) e = absurd cc
 a_bridge Hole e = absurd cc
 a_bridge Bridge e = refl
+a_bridge Plug e = absurd cc
 
 -- ---- what one claim says ----
 
@@ -37,12 +38,12 @@ says_none s e n h = says_other s e n ∙ ap (λ b. if b then Some e else None) h
 -- each number is decided where a claim speaks of it, and as the last such claim says
 pub record Decides (es : List Entry) : Type 0 where
   pub decided : (s : ℕ) → is_decided s (decided_by es) ≡ is_some (last_for s es)
-  pub content : (s : ℕ) → content (find s (decided_by es).entries) ≡ content (last_for s es)
+  pub content : (loss : Bool) (s : ℕ) → content loss (find s (decided_by es).entries) ≡ content loss (last_for s es)
 
 -- the same of one number and of any state
 record DecidesOne (s : ℕ) (c : Decided) (o : Option Entry) : Type 0 where
   decided : is_decided s c ≡ is_some o
-  content : content (find s c.entries) ≡ content o
+  content : (loss : Bool) → content loss (find s c.entries) ≡ content loss o
 
 there : (s : ℕ) (c : Decided) (o : Option Entry) → DecidesOne s c o → is_decided s c ≡ true → (x : Entry) × (o ≡ Some x)
 there s c None d h = absurd (let t : true ≡ false = sym h ∙ d.decided in cc)
@@ -136,7 +137,7 @@ own_one e c o d = elim (cases_Bool (is_decided e.number c)) [
       let last : or_else o (says e.number e) ≡ Some x.0 = ap (λ p. or_else p (says e.number e)) x.1 in
       record {
         decided = own_decided e c h ∙ sym (ap is_some last);
-        content = ap (λ m. content (find e.number m)) (kept_entries e c h) ∙ (d.content ∙ (ap content x.1 ∙ sym (ap content last)));
+        content = λ loss. ap (λ m. content loss (find e.number m)) (kept_entries e c h) ∙ (d.content loss ∙ (ap (content loss) x.1 ∙ sym (ap (content loss) last)));
       }
   | inr h ↦
       let none = absent e.number c o d h in
@@ -144,7 +145,7 @@ own_one e c o d = elim (cases_Bool (is_decided e.number c)) [
       let found : find e.number (claimed e c).entries ≡ Some e = ap (find e.number) (new_entries e c h) ∙ find-put_same e.number e.number e c.entries refl in
       record {
         decided = ap (λ p. is_some p || is_bridged e.number (claimed e c).bridge) found ∙ sym (ap is_some last);
-        content = ap content found ∙ sym (ap content last);
+        content = λ loss. ap (content loss) found ∙ sym (ap (content loss) last);
       }
 ]
 
@@ -166,12 +167,12 @@ below_same s e c h = elim (cases_Bool (is_bridge e.what && not (is_bridged e.num
       ap (is_bridged s) (new_bridge e c k) ∙ (lt ∙ sym (bridged_down e.number s c.bridge nb (grind (arith, nat_tests))))
 ]
 
-content_bridge : (e : Entry) → is_bridge e.what ≡ true → content (Some e) ≡ Hole
-content_bridge e h = ap record_or_hole (a_bridge e.what h)
+content_bridge : (loss : Bool) (e : Entry) → is_bridge e.what ≡ true → content loss (Some e) ≡ no_record loss
+content_bridge loss e h = ap (record_or (no_record loss)) (a_bridge e.what h)
 
-with_bridge : (e : Entry) (o : Option Entry) → is_bridge e.what ≡ true → content o ≡ content (or_else o (Some e))
-with_bridge e None h = sym (content_bridge e h)
-with_bridge e (Some x) h = refl
+with_bridge : (loss : Bool) (e : Entry) (o : Option Entry) → is_bridge e.what ≡ true → content loss o ≡ content loss (or_else o (Some e))
+with_bridge loss e None h = sym (content_bridge loss e h)
+with_bridge loss e (Some x) h = refl
 
 or_nothing : (o : Option Entry) → or_else o None ≡ o
 or_nothing None = refl
@@ -189,13 +190,13 @@ other_one s e c o n d = elim (cases_Bool (is_bridge e.what && nat_lt e.number s)
       let last = ap (or_else o) (says_above s e n a) in
       record {
         decided = or_true (is_some (find s (claimed e c).entries)) (is_bridged s (claimed e c).bridge) (above_decided s e c br lt) ∙ sym (ap is_some last ∙ is_some_or o e);
-        content = ap content (same_find s e c n) ∙ (d.content ∙ (with_bridge e o br ∙ sym (ap content last)));
+        content = λ loss. ap (content loss) (same_find s e c n) ∙ (d.content loss ∙ (with_bridge loss e o br ∙ sym (ap (content loss) last)));
       }
   | inr a ↦
       let last = ap (or_else o) (says_none s e n a) ∙ or_nothing o in
       record {
         decided = ap (λ p. is_some p || is_bridged s (claimed e c).bridge) (same_find s e c n) ∙ (ap (λ t. is_some (find s c.entries) || t) (below_same s e c a) ∙ (d.decided ∙ sym (ap is_some last)));
-        content = ap content (same_find s e c n) ∙ (d.content ∙ sym (ap content last));
+        content = λ loss. ap (content loss) (same_find s e c n) ∙ (d.content loss ∙ sym (ap (content loss) last));
       }
 ]
 
@@ -207,15 +208,15 @@ one_more s e c o d = elim (cases_eq s e.number) [
 
 decides_one : (s : ℕ) (es : List Entry) → DecidesOne s (decided_by es) (last_for s es)
 unfolding decided_by last_for
-decides_one s [] = record { decided = ap (λ p. is_some p || false) (find-empty {X = Entry} s); content = ap content (find-empty {X = Entry} s) }
+decides_one s [] = record { decided = ap (λ p. is_some p || false) (find-empty {X = Entry} s); content = λ loss. ap (content loss) (find-empty {X = Entry} s) }
 decides_one s (e ∷ es) = one_more s e (decided_by es) (last_for s es) (decides_one s es)
 
 pub decides : (es : List Entry) → Decides es
-decides es = record { decided = λ s. (decides_one s es).decided; content = λ s. (decides_one s es).content }
+decides es = record { decided = λ s. (decides_one s es).decided; content = λ loss s. (decides_one s es).content loss }
 
 -- ---- the greatest place ----
 
--- a number is the greatest place of a record or hole
+-- a number is the greatest place of a record, a hole or a plug
 pub record IsTop (f : ℕ → Option Entry) (top : ℕ) : Type 0 where
   pub bounds : (s : ℕ) → is_content (f s) ≡ true → esn_of s ≤ top
   pub reached : (top ≡ 0) ⊎ ((s : ℕ) × (esn_of s ≡ top) × (is_content (f s) ≡ true))

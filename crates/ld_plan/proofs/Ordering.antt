@@ -64,7 +64,7 @@ decision d sorted rise stable =
     let best_last : (s : ℕ) → last_for s sorted ≡ best s d = (λ s. sym (last_is s sorted (rise_of sorted rise)) ∙ (sym (same_statement s (claims_of d) sorted (same_classes (claims_of d) sorted stable)) ∙ sym (best_is s d))) in
     let of_sorted = top_is sorted in
     record {
-      content = λ s. (decides sorted).content s ∙ ap content (best_last s);
+      content = λ loss s. (decides sorted).content loss s ∙ ap (content loss) (best_last s);
       top = one_top (λ s. best s d) (decided_by sorted).top _
           (record { bounds = λ s h. of_sorted.bounds s (ap is_content (best_last s) ∙ h); reached = elim of_sorted.reached [ inl z ↦ inl z | inr w ↦ inr (w.0, w.1, ap is_content (sym (best_last w.0)) ∙ w.2) ] })
           (top_of d);

@@ -53,9 +53,6 @@ impl<'a> Claim<'a> {
     pub fn is_bridge(&self) -> bool
         ensures { result ≡ is_bridge self.now.what }
     {
-        match &self.entry.what {
-            What::Rec(_) | What::Hole => false,
-            What::Bridge => true,
-        }
+        self.entry.what.is_bridge()
     }
 }

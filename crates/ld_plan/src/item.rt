@@ -79,12 +79,13 @@ impl Items {
 }
 
 /// How an epoch is to be closed: its trim as it was found, its last known good place, the place of its
-/// bridge, and what is to stand under each number above both, the bridge last.
+/// bridge, whether it says what is lost, and what is to stand under each number above the first two, the bridge last.
 #[derive(Debug, Drop)]
 pub struct Plan {
     pub trim: Lsn,
     pub lng: u32,
     pub end: u32,
+    pub loss: bool,
     pub items: Items,
 }
 
@@ -93,5 +94,5 @@ impl Model for Plan {
 
     ghost Value = { Plan };
 
-    ghost view = { λ plan. record { trim = plan.trim; lng = plan.lng; end = plan.end; items = plan.items } };
+    ghost view = { λ plan. record { trim = plan.trim; lng = plan.lng; end = plan.end; loss = plan.loss; items = plan.items } };
 }

@@ -1,10 +1,10 @@
 // The plan of a digest.
-ghost use Rattle.std.specs.Prelude.{◌≡◌, ◌≤◌, ◌<◌, ◌++◌, ◌-◌, ◌^◌, ℕ, IfOk, OnOk};
+ghost use Rattle.std.specs.Prelude.{◌≡◌, ◌≤◌, ◌<◌, ◌++◌, ◌-◌, ◌^◌, ℕ, true, IfOk, OnOk};
 ghost use Rattle.ld_table.specs.Table.{find};
 ghost use Rattle.ld_lsn.specs.Number.{numbered, last_esn};
-ghost use Rattle.ld_msg.specs.Digest.{best, content, digest_trim, trim_place, top_place, plan};
+ghost use Rattle.ld_msg.specs.Digest.{best, no_record, content, digest_trim, trim_place, top_place, plan};
 ghost use Rattle.ld_plan.specs.Claims.{claims_of, decided_by};
-ghost use Rattle.ld_plan.specs.Decision.{IsDecision, record_items_from};
+ghost use Rattle.ld_plan.specs.Decision.{IsDecision, record_items_from, lets_plan};
 
 use crate::{Claim, Decided, Items, Plan};
 use ld_digest::{Digest, Told};
@@ -76,51 +76,62 @@ fn trim_place(epoch: u32, trim: Lsn) -> u32
     }
 }
 
-// The record that is decided for the number, or else a hole.
-fn what(alloc: Global, decided: &Decided, number: Lsn) -> Result<What, NoMemory>
-    ensures { IfOk result (λ what. what ≡ content (find number decided.now.entries)) }
+// What a plan has where no record is decided: a plug, where it says what is lost, and else a hole.
+fn no_record(loss: bool) -> What
+    ensures { result ≡ no_record loss }
+{
+    if loss { What::Plug } else { What::Hole }
+}
+
+// The record that is decided for the number, or else what stands for none.
+fn what(alloc: Global, decided: &Decided, loss: bool, number: Lsn) -> Result<What, NoMemory>
+    ensures { IfOk result (λ what. what ≡ content loss (find number decided.now.entries)) }
 {
     match decided.entry(number) {
         Some(claim) => match claim.what() {
             What::Rec(payload) => Ok(What::Rec(payload.copy(alloc)?)),
-            What::Hole | What::Bridge => Ok(What::Hole),
+            What::Hole | What::Bridge | What::Plug => Ok(no_record(loss)),
         },
-        None => Ok(What::Hole),
+        None => Ok(no_record(loss)),
     }
 }
 
-// The records and holes from a place of the epoch up to the end.
+// What stands from a place of the epoch up to the end.
 #[tactic(auto, unfolding(crate::specs::Decision::record_items_from))]
 fn items(
     alloc: Global,
     epoch: u32,
     decided: &Decided,
+    loss: bool,
     from: u32,
     end: u32,
 ) -> Result<Items, NoMemory>
     requires { from ≤ end }
-    ensures { IfOk result (λ items. items ≡ record_items_from epoch decided.now.entries from (end - from)) }
+    ensures { IfOk result (λ items. items ≡ record_items_from epoch loss decided.now.entries from (end - from)) }
 {
     let mut items = Items::empty(alloc);
     for place in from..end {
         let number = Lsn::new(epoch, place);
-        items.push(number, what(alloc, decided, number)?)?;
+        items.push(number, what(alloc, decided, loss, number)?)?;
     }
     Ok(items)
 }
 
-/// The plan by which the digest's epoch is closed.
+/// The plan by which the digest's epoch is closed, where enough nodes told. Where the digest is spent it is one that
+/// says what is lost.
 ///
 /// The statement of a number is that of the greatest ballot over all entries of the number and all
 /// bridges below it; of equal ballots the lowest node's, and of one node's the entry's. The end is
-/// one above the greatest place whose statement is a record or hole, at least 1, and above the
+/// one above the greatest place whose statement is a record, a hole or a plug, at least 1, and above the
 /// trim and the greatest last known good place that was told. Above these two and below the end stands
-/// the record where the statement is one, else a hole; at the end stands the bridge.
+/// the record where the statement is one, else a plug where it says what is lost, and else a hole; at
+/// the end stands the bridge.
 ///
 /// It takes the time of sorting the digest's entries, and that of a look-up for each item.
 #[tactic(auto, unfolding(ld_msg::specs::Digest::plan, ld_msg::specs::Digest::plan_end))]
-pub fn plan(alloc: Global, digest: &Digest) -> Result<Plan, NoMemory>
-    ensures { IfOk result (λ plan'. plan' ≡ plan digest.now.epoch digest.now.told) }
+pub fn plan(alloc: Global, digest: &Digest, loss: bool) -> Result<Plan, NoMemory>
+    requires { lets_plan digest.now.spec loss digest.now.told ≡ true }
+    ensures { IfOk result (λ plan'. plan' ≡ plan digest.now.epoch loss digest.now.told) }
 {
     let epoch = digest.epoch();
     let told = digest.told();
@@ -130,12 +141,13 @@ pub fn plan(alloc: Global, digest: &Digest) -> Result<Plan, NoMemory>
     let trimmed = trim_place(epoch, trim);
     let floor = trimmed.max(lng);
     let end = decided.top().max(floor) + 1;
-    let mut items = items(alloc, epoch, &decided, floor + 1, end)?;
+    let mut items = items(alloc, epoch, &decided, loss, floor + 1, end)?;
     items.push(Lsn::new(epoch, end), What::Bridge)?;
     Ok(Plan {
         trim,
         lng,
         end,
+        loss,
         items,
     })
 }

@@ -69,15 +69,21 @@ fn tells(
     Ok(())
 }
 
-// What the plan has at each of its places, one number each: a record's first byte, 100 for a hole, 101 for a bridge.
+// What the plan has at each of its places, one number each: a record's first byte, 100 for a hole, 101 for a bridge, 102 for
+// a plug. Nothing, where a node is left that may still tell.
 fn planned(alloc: Global, digest: &Digest) -> Result<Vec<u8>, NoMemory> {
     let mut all = Vec::new(alloc);
-    let plan = plan(alloc, digest)?;
+    let loss = digest.spent();
+    if !loss && !digest.enough() {
+        return Ok(all);
+    }
+    let plan = plan(alloc, digest, loss)?;
     for item in plan.items.as_slice() {
         let code = match &item.what {
             What::Rec(payload) => payload.bytes().first().copied().unwrap_or(0),
             What::Hole => 100,
             What::Bridge => 101,
+            What::Plug => 102,
         };
         all.push(code)?;
     }
@@ -98,7 +104,7 @@ fn a_lone_record_is_kept_and_the_gap_before_it_is_a_hole(rt: HostRuntime) -> Res
 }
 
 #[test]
-fn trimmed_numbers_are_not_plugged(rt: HostRuntime) -> Result<(), Fail> {
+fn trimmed_numbers_are_not_planned(rt: HostRuntime) -> Result<(), Fail> {
     let alloc = rt.alloc();
     let one = NodeId::new(1).expect(&rt, "a node");
     let two = NodeId::new(2).expect(&rt, "a node");
@@ -114,8 +120,10 @@ fn trimmed_numbers_are_not_plugged(rt: HostRuntime) -> Result<(), Fail> {
 fn what_is_known_good_is_not_planned(rt: HostRuntime) -> Result<(), Fail> {
     let alloc = rt.alloc();
     let one = NodeId::new(1).expect(&rt, "a node");
+    let two = NodeId::new(2).expect(&rt, "a node");
     let mut digest = nothing_told(alloc, LogId::new(1).expect(&rt, "a log"))?;
     tells(alloc, &mut digest, one, 0, 2, &[(2, 1, 2), (3, 1, 3)])?;
+    tells(alloc, &mut digest, two, 0, 0, &[])?;
     let all = planned(alloc, &digest)?;
     assert!(rt; all.as_slice() == [3, 101].as_slice());
     Ok(())
@@ -131,5 +139,20 @@ fn the_greatest_ballot_decides(rt: HostRuntime) -> Result<(), Fail> {
     tells(alloc, &mut digest, two, 0, 0, &[(1, 2, 9)])?;
     let all = planned(alloc, &digest)?;
     assert!(rt; all.as_slice() == [9, 101].as_slice());
+    Ok(())
+}
+
+#[test]
+fn where_two_nodes_are_lost_a_gap_is_a_plug(rt: HostRuntime) -> Result<(), Fail> {
+    let alloc = rt.alloc();
+    let one = NodeId::new(1).expect(&rt, "a node");
+    let mut digest = nothing_told(alloc, LogId::new(1).expect(&rt, "a log"))?;
+    tells(alloc, &mut digest, one, 0, 0, &[(1, 1, 1), (3, 1, 3)])?;
+    digest.lost(NodeId::new(2).expect(&rt, "a node"));
+    // node 3 may still tell
+    assert_eq!(rt; planned(alloc, &digest)?.len(), 0);
+    digest.lost(NodeId::new(3).expect(&rt, "a node"));
+    let all = planned(alloc, &digest)?;
+    assert!(rt; all.as_slice() == [1, 102, 3, 101].as_slice());
     Ok(())
 }

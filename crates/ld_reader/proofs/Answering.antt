@@ -3,13 +3,13 @@ use Rattle.std.proofs.Common.{◌≡◌, ℕ, ◌+◌, ◌<◌, ◌≤◌, List,
 use Rattle.std.specs.Prelude.{◌&&◌, if◌then◌else◌}
 use Rattle.std.proofs.lemmas.Bool.Decides.{nat_tests}
 use Rattle.ld_table.specs.Words.{any_of}
-use Rattle.ld_lsn.specs.Number.{home_epoch, epoch_end}
+use Rattle.ld_lsn.specs.Number.{home_epoch}
 use Rattle.ld_msg.specs.declared.msg.Body.{Body}
 use Rattle.ld_msg.specs.declared.msg.Msg.{Msg}
 use Rattle.ld_msg.specs.declared.msg.Who.{Who}
 use Rattle.ld_msg.specs.declared.msg.Who.TheVariants as whos
 use Rattle.ld_msg.specs.Register.{View}
-use Rattle.ld_msg.specs.Reading.{Held, Item, TrimTo, BridgeTo, LossHere, Verdict, Gives, Confirms, NotYet, decide, trim_held, record_held, hole_held, end_held, entry_verdict, loss_verdict}
+use Rattle.ld_msg.specs.Reading.{Held, Item, TrimTo, LossHere, Verdict, Gives, Confirms, NotYet, decide, trim_held, record_held, hole_held, plug_held, end_held, entry_verdict, end_verdict, loss_verdict}
 use Rattle.ld_msg.specs.Reader.{Reader, Read, Confirmation, is_finished, verdict, may_confirm, seen_nodes, is_confirming, last_round, on_answer, heard, loses, most_items, held_size, next_round, asks_on, asks_of, gave_item, confirms, polled, poll_asks, look_of, reaches, gives, is_confirmed}
 use Rattle.ld_reader.specs.Clipped.{all_clipped}
 use Rattle.ld_reader.specs.Course.{followed, lasting, placed, on_course, begun, begun_asks, begins}
@@ -26,10 +26,15 @@ by_loss : (s : ℕ) (mc : Bool) (set : List ℕ) (hs : List (ℕ × Held)) (lost
 by_loss s true set hs lost e = refl
 by_loss s false set hs lost e = absurd cc
 
-by_entry : (r : Option (List ℕ)) (h mc : Bool) (other : Verdict) (lost : List (ℕ × ℕ)) → (other ≡ Confirms lost → mc ≡ true) → entry_verdict r h other ≡ Confirms lost → mc ≡ true
-by_entry (Some p) h mc other lost rest e = absurd cc
-by_entry None true mc other lost rest e = absurd cc
-by_entry None false mc other lost rest e = rest e
+by_entry : (r : Option (List ℕ)) (h p mc : Bool) (other : Verdict) (lost : List (ℕ × ℕ)) → (other ≡ Confirms lost → mc ≡ true) → entry_verdict r h p other ≡ Confirms lost → mc ≡ true
+by_entry (Some x) h p mc other lost rest e = absurd cc
+by_entry None true p mc other lost rest e = absurd cc
+by_entry None false true mc other lost rest e = absurd cc
+by_entry None false false mc other lost rest e = rest e
+
+by_end : (s : ℕ) (o : Option Bool) (mc : Bool) (other : Verdict) (lost : List (ℕ × ℕ)) → (other ≡ Confirms lost → mc ≡ true) → end_verdict s o other ≡ Confirms lost → mc ≡ true
+by_end s (Some loss) mc other lost rest e = absurd cc
+by_end s None mc other lost rest e = rest e
 
 by_test : (b mc : Bool) (i : Item) (other : Verdict) (lost : List (ℕ × ℕ)) → (other ≡ Confirms lost → mc ≡ true) → (if b then Gives i else other) ≡ Confirms lost → mc ≡ true
 by_test true mc i other lost rest e = absurd cc
@@ -39,7 +44,7 @@ may : (s : ℕ) (mc : Bool) (set : List ℕ) (hs : List (ℕ × Held)) (lost : L
 unfolding decide
 may s mc set hs lost e =
     by_test (nat_le s (trim_held hs)) mc (TrimTo (trim_held hs)) _ lost
-    (λ f. by_entry (record_held s hs) (hole_held s hs) mc _ lost (λ g. by_test (end_held s hs) mc (BridgeTo (epoch_end (home_epoch s))) _ lost (λ h. by_loss s mc set hs lost h) g) f) e
+    (λ f. by_entry (record_held s hs) (hole_held s hs) (plug_held s hs) mc _ lost (λ g. by_end s (end_held s hs) mc _ lost (λ h. by_loss s mc set hs lost h) g) f) e
 
 may_now : (d : Reader) (lost : List (ℕ × ℕ)) → verdict d ≡ Confirms lost → may_confirm d ≡ true
 may_now d lost e = elim (is_finished d) as (λ b. (if b then NotYet else decide d.next (may_confirm d) (seen_nodes d.seen) d.held) ≡ Confirms lost → may_confirm d ≡ true) [

@@ -1,7 +1,7 @@
 -- Items that are clipped.
 use Rattle.std.proofs.Common.{◌≡◌, ℕ, ◌+◌, ◌<◌, min, List, [], ◌∷◌, ◌++◌, None, refl, ap, sym, ◌∙◌, subst, arith}
 use Rattle.std.proofs.lemmas.Bool.Decides.{nat_tests}
-use Rattle.ld_msg.specs.Reading.{Item, TrimTo, RecordHere, HoleHere, BridgeTo, LossHere, Verdict, Gives, Confirms, NotYet}
+use Rattle.ld_msg.specs.Reading.{Item, TrimTo, RecordHere, HoleHere, BridgeTo, LossHere, LossTo, Verdict, Gives, Confirms, NotYet}
 use Rattle.ld_msg.specs.Reader.{Reader, after_item, verdict}
 use Rattle.ld_reader.specs.Clipped.{clip, clipped, all_clipped, clipped_verdict}
 use Rattle.ld_reader.specs.Given.{given, after, rows_left}
@@ -21,6 +21,7 @@ after_clipped d (RecordHere p) = refl
 after_clipped d HoleHere = refl
 after_clipped d (BridgeTo last) = ap (λ n. record d { next = n + 1; confirming = None }) (clip_end d.until last)
 after_clipped d LossHere = refl
+after_clipped d (LossTo last) = ap (λ n. record d { next = n + 1; confirming = None }) (clip_end d.until last)
 
 pub gives_clipped : (until : ℕ) (v : Verdict) (x : Item) → Gives x ≡ clipped_verdict until v → (i : Item) × (v ≡ Gives i) × (x ≡ clipped until i)
 gives_clipped until (Gives i) x e = (i, refl, cc)

@@ -1,16 +1,16 @@
 -- Each item that a row of the table gives leaves fewer rows.
-use Rattle.std.proofs.Common.{◌≡◌, ℕ, ◌+◌, ◌-◌, ◌/◌, ◌^◌, ◌<◌, ◌≤◌, List, [], ◌∷◌, Option, Some, None, Bool, true, false, refl, ap, arith, inl, inr, nat_lt, nat_le}
+use Rattle.std.proofs.Common.{◌≡◌, ℕ, ◌+◌, ◌-◌, ◌/◌, ◌^◌, ◌<◌, ◌≤◌, List, [], ◌∷◌, Option, Some, None, Bool, true, false, refl, ap, sym, ◌∙◌, arith, inl, inr, nat_lt, nat_le}
 use Rattle.std.specs.Prelude.{◌==◌, ◌&&◌, ◌||◌, if◌then◌else◌}
 use Rattle.std.proofs.lemmas.Bool.{cases_Bool, cases_lt}
 use Rattle.std.proofs.lemmas.Bool.Decides.{nat_tests}
-use Rattle.ld_table.specs.Words.{or_else}
+use Rattle.ld_table.specs.Words.{any_of, or_else}
 use Rattle.ld_lsn.specs.Number.{home_epoch, epoch_end, epoch_of, esn_of}
 use Rattle.ld_msg.specs.declared.msg.What.{What}
-use Rattle.ld_msg.specs.declared.msg.What.TheVariants.{Rec, Hole, Bridge}
+use Rattle.ld_msg.specs.declared.msg.What.TheVariants.{Rec, Hole, Bridge, Plug}
 use Rattle.ld_msg.specs.declared.msg.Entry.{Entry}
 use Rattle.ld_msg.specs.declared.msg.Body.{Body}
 use Rattle.ld_msg.specs.declared.msg.Body.TheVariants as bodies
-use Rattle.ld_msg.specs.Reading.{Held, Item, TrimTo, RecordHere, HoleHere, BridgeTo, Verdict, Gives, Confirms, NotYet, decide, trim_told, trim_held, record_held, hole_held, end_held, entry_at, page_at, record_of, is_hole, shows_end, entry_verdict, loss_verdict, is_loss, within, lost_held}
+use Rattle.ld_msg.specs.Reading.{Held, Item, TrimTo, RecordHere, HoleHere, BridgeTo, LossHere, LossTo, Verdict, Gives, Confirms, NotYet, decide, trim_told, trim_held, record_held, hole_held, plug_held, end_shown, end_held, bridge_to, entry_at, page_at, record_of, is_hole, is_plug, entry_verdict, end_verdict, loss_verdict, is_loss, within, lost_held}
 use Rattle.ld_msg.specs.Reader.{item_end}
 use Rattle.ld_reader.specs.Given.{entries_from, rows_of, rows_from}
 
@@ -34,7 +34,7 @@ entries_fall s t (e ∷ es) h = let ih = entries_fall s t es h in grind (arith, 
 of_falls : (s t : ℕ) (b : Body) → s ≤ t → rows_of t b ≤ rows_of s b
 of_falls s t (bodies.ReadPage round from upto clean es) h = entries_fall s t es h
 of_falls s t (bodies.ReadTrim round from trim) h = grind (arith, nat_tests)
-of_falls s t (bodies.ReadEnded round from end) h = let r = home_rises s t h in grind (arith, nat_tests)
+of_falls s t (bodies.ReadEnded round from end loss) h = let r = home_rises s t h in grind (arith, nat_tests)
 of_falls s t _ h = omega arith
 
 pub rows_fall : (s t : ℕ) (hs : List (ℕ × Held)) → s ≤ t → rows_from t hs ≤ rows_from s hs
@@ -76,12 +76,12 @@ record_here None p e = absurd cc
 record_here (Some (Rec q)) p e = let same : q ≡ p = cc in ap (λ r. Some (Rec r)) same
 record_here (Some Hole) p e = absurd cc
 record_here (Some Bridge) p e = absurd cc
+record_here (Some Plug) p e = absurd cc
 
-hole_here : (o : Option What) → is_hole o ≡ true → o ≡ Some Hole
-hole_here None e = absurd cc
-hole_here (Some (Rec q)) e = absurd cc
-hole_here (Some Hole) e = refl
-hole_here (Some Bridge) e = absurd cc
+-- where nothing doesn't pass a test, what passes it is an entry
+entry_here : (test : Option What → Bool) → test None ≡ false → (o : Option What) → test o ≡ true → (w : What) × (o ≡ Some w)
+entry_here test none None e = absurd (let wrong : true ≡ false = sym e ∙ none in cc)
+entry_here test none (Some w) e = (w, refl)
 
 record_falls : (s : ℕ) (hs : List (ℕ × Held)) (p : List ℕ) → record_held s hs ≡ Some p → rows_from (s + 1) hs < rows_from s hs
 record_falls s [] p e = absurd cc
@@ -90,14 +90,14 @@ record_falls s (x ∷ hs) p e = elim (record_of (page_at s x.1.body)) as (λ o. 
   | None ↦ λ here f. omega (arith, of_falls s (s + 1) x.1.body (omega arith), record_falls s hs p f)
 ] refl e
 
-hole_falls : (s : ℕ) (hs : List (ℕ × Held)) → hole_held s hs ≡ true → rows_from (s + 1) hs < rows_from s hs
-hole_falls s [] e = absurd cc
-hole_falls s (x ∷ hs) e = elim (is_hole (page_at s x.1.body)) as (λ b. is_hole (page_at s x.1.body) ≡ b → (b || hole_held s hs) ≡ true → rows_from (s + 1) (x ∷ hs) < rows_from s (x ∷ hs)) [
-  | true ↦ λ here f. omega (arith, page_falls s x.1.body Hole (hole_here _ here), rows_fall s (s + 1) hs (omega arith))
-  | false ↦ λ here f. omega (arith, of_falls s (s + 1) x.1.body (omega arith), hole_falls s hs f)
+any_falls : (test : Option What → Bool) → test None ≡ false → (s : ℕ) (hs : List (ℕ × Held)) → any_of (λ h. test (page_at s h.1.body)) hs ≡ true → rows_from (s + 1) hs < rows_from s hs
+any_falls test none s [] e = absurd cc
+any_falls test none s (x ∷ hs) e = elim (test (page_at s x.1.body)) as (λ b. test (page_at s x.1.body) ≡ b → (b || any_of (λ h. test (page_at s h.1.body)) hs) ≡ true → rows_from (s + 1) (x ∷ hs) < rows_from s (x ∷ hs)) [
+  | true ↦ λ here f. let w = entry_here test none (page_at s x.1.body) here in omega (arith, page_falls s x.1.body w.0 w.1, rows_fall s (s + 1) hs (omega arith))
+  | false ↦ λ here f. omega (arith, of_falls s (s + 1) x.1.body (omega arith), any_falls test none s hs f)
 ] refl e
 
--- ---- bridges ----
+-- ---- ends ----
 
 past_end : (s : ℕ) → home_epoch s < home_epoch (epoch_end (home_epoch s) + 1)
 past_end s = omega (arith, home_is (epoch_end (home_epoch s) + 1))
@@ -105,24 +105,29 @@ past_end s = omega (arith, home_is (epoch_end (home_epoch s) + 1))
 pub below_end : (s : ℕ) → s ≤ epoch_end (home_epoch s)
 below_end s = omega (arith, home_is s)
 
-ended_falls : (s : ℕ) (b : Body) → shows_end s b ≡ true → rows_of (epoch_end (home_epoch s) + 1) b < rows_of s b
-ended_falls s (bodies.ReadEnded round from end) e = let p = past_end s in grind (arith, nat_tests)
-ended_falls s _ e = absurd cc
+shown_if : (b loss l : Bool) → (if b then Some loss else None) ≡ Some l → b ≡ true
+shown_if true loss l e = refl
+shown_if false loss l e = absurd cc
 
-end_falls : (s : ℕ) (hs : List (ℕ × Held)) → end_held s hs ≡ true → rows_from (epoch_end (home_epoch s) + 1) hs < rows_from s hs
-end_falls s [] e = absurd cc
-end_falls s (x ∷ hs) e = elim (shows_end s x.1.body) as (λ b. shows_end s x.1.body ≡ b → (b || end_held s hs) ≡ true → rows_from (epoch_end (home_epoch s) + 1) (x ∷ hs) < rows_from s (x ∷ hs)) [
-  | true ↦ λ here f. omega (arith, ended_falls s x.1.body here, rows_fall s (epoch_end (home_epoch s) + 1) hs (omega (arith, below_end s)))
-  | false ↦ λ here f. omega (arith, of_falls s (epoch_end (home_epoch s) + 1) x.1.body (omega (arith, below_end s)), end_falls s hs f)
+ended_falls : (s : ℕ) (b : Body) (l : Bool) → end_shown s b ≡ Some l → rows_of (bridge_to s + 1) b < rows_of s b
+ended_falls s (bodies.ReadEnded round from end loss) l e = let p = past_end s in let t = shown_if ((home_epoch end == home_epoch s) && nat_le end s) loss l e in grind (arith, nat_tests)
+ended_falls s _ l e = absurd cc
+
+end_falls : (s : ℕ) (hs : List (ℕ × Held)) (l : Bool) → end_held s hs ≡ Some l → rows_from (bridge_to s + 1) hs < rows_from s hs
+end_falls s [] l e = absurd cc
+end_falls s (x ∷ hs) l e = elim (end_shown s x.1.body) as (λ o. end_shown s x.1.body ≡ o → or_else o (end_held s hs) ≡ Some l → rows_from (bridge_to s + 1) (x ∷ hs) < rows_from s (x ∷ hs)) [
+  | Some k ↦ λ here f. omega (arith, ended_falls s x.1.body k here, rows_fall s (bridge_to s + 1) hs (omega (arith, below_end s)))
+  | None ↦ λ here f. omega (arith, of_falls s (bridge_to s + 1) x.1.body (omega (arith, below_end s)), end_falls s hs l f)
 ] refl e
 
 -- ---- the table ----
 
-by_entries : (s : ℕ) (hs : List (ℕ × Held)) (r : Option (List ℕ)) (h : Bool) (other : Verdict) (i : Item) → record_held s hs ≡ r → hole_held s hs ≡ h
-    → (other ≡ Gives i → rows_from (item_end s i + 1) hs < rows_from s hs) → entry_verdict r h other ≡ Gives i → rows_from (item_end s i + 1) hs < rows_from s hs
-by_entries s hs (Some p) h other i here hole rest e = let same : RecordHere p ≡ i = cc in rw (← same) (record_falls s hs p here)
-by_entries s hs None true other i here hole rest e = let same : HoleHere ≡ i = cc in rw (← same) (hole_falls s hs hole)
-by_entries s hs None false other i here hole rest e = rest e
+by_entries : (s : ℕ) (hs : List (ℕ × Held)) (r : Option (List ℕ)) (h p : Bool) (other : Verdict) (i : Item) → record_held s hs ≡ r → hole_held s hs ≡ h → plug_held s hs ≡ p
+    → (other ≡ Gives i → rows_from (item_end s i + 1) hs < rows_from s hs) → entry_verdict r h p other ≡ Gives i → rows_from (item_end s i + 1) hs < rows_from s hs
+by_entries s hs (Some x) h p other i here hole plug rest e = let same : RecordHere x ≡ i = cc in rw (← same) (record_falls s hs x here)
+by_entries s hs None true p other i here hole plug rest e = let same : HoleHere ≡ i = cc in rw (← same) (any_falls is_hole refl s hs hole)
+by_entries s hs None false true other i here hole plug rest e = let same : LossHere ≡ i = cc in rw (← same) (any_falls is_plug refl s hs plug)
+by_entries s hs None false false other i here hole plug rest e = rest e
 
 pub no_loss : (s : ℕ) (mc : Bool) (set : List ℕ) (hs : List (ℕ × Held)) (i : Item) → loss_verdict s mc set hs ≡ Gives i → ⊥
 no_loss s mc set hs i e = elim (mc && is_loss s set hs) as (λ b. (if b then Confirms (lost_held s (within set hs)) else NotYet) ≡ Gives i → ⊥) [
@@ -130,10 +135,10 @@ no_loss s mc set hs i e = elim (mc && is_loss s set hs) as (λ b. (if b then Con
   | false ↦ λ f. cc
 ] e
 
-by_end : (s : ℕ) (mc : Bool) (set : List ℕ) (hs : List (ℕ × Held)) (b : Bool) (i : Item) → end_held s hs ≡ b
-    → (if b then Gives (BridgeTo (epoch_end (home_epoch s))) else loss_verdict s mc set hs) ≡ Gives i → rows_from (item_end s i + 1) hs < rows_from s hs
-by_end s mc set hs true i here e = let same : BridgeTo (epoch_end (home_epoch s)) ≡ i = cc in rw (← same) (end_falls s hs here)
-by_end s mc set hs false i here e = absurd (no_loss s mc set hs i e)
+by_end : (s : ℕ) (mc : Bool) (set : List ℕ) (hs : List (ℕ × Held)) (o : Option Bool) (i : Item) → end_held s hs ≡ o → end_verdict s o (loss_verdict s mc set hs) ≡ Gives i → rows_from (item_end s i + 1) hs < rows_from s hs
+by_end s mc set hs (Some true) i here e = let same : LossTo (bridge_to s) ≡ i = cc in rw (← same) (end_falls s hs true here)
+by_end s mc set hs (Some false) i here e = let same : BridgeTo (bridge_to s) ≡ i = cc in rw (← same) (end_falls s hs false here)
+by_end s mc set hs None i here e = absurd (no_loss s mc set hs i e)
 
 by_trim : (s : ℕ) (mc : Bool) (set : List ℕ) (hs : List (ℕ × Held)) (b : Bool) (i : Item) (rest : Verdict) → nat_le s (trim_held hs) ≡ b → 0 < s
     → (rest ≡ Gives i → rows_from (item_end s i + 1) hs < rows_from s hs) → (if b then Gives (TrimTo (trim_held hs)) else rest) ≡ Gives i → rows_from (item_end s i + 1) hs < rows_from s hs
@@ -145,4 +150,4 @@ by_trim s mc set hs false i rest here p other e = other e
 
 pub table_falls : (s : ℕ) (mc : Bool) (set : List ℕ) (hs : List (ℕ × Held)) (i : Item) → 0 < s → decide s mc set hs ≡ Gives i → rows_from (item_end s i + 1) hs < rows_from s hs
 unfolding decide
-table_falls s mc set hs i p e = by_trim s mc set hs (nat_le s (trim_held hs)) i _ refl p (λ f. by_entries s hs (record_held s hs) (hole_held s hs) _ i refl refl (by_end s mc set hs (end_held s hs) i refl) f) e
+table_falls s mc set hs i p e = by_trim s mc set hs (nat_le s (trim_held hs)) i _ refl p (λ f. by_entries s hs (record_held s hs) (hole_held s hs) (plug_held s hs) _ i refl refl refl (by_end s mc set hs (end_held s hs) i refl) f) e

@@ -151,7 +151,7 @@ entries_few s (e ∷ es) = let ih = entries_few s es in grind (arith, nat_tests)
 rows_few : (s : ℕ) (b : Body) → rows_of s b ≤ body_size b
 rows_few s (bodies.ReadPage round from upto clean es) = omega (arith, entries_few s es)
 rows_few s (bodies.ReadTrim round from trim) = grind (arith, nat_tests)
-rows_few s (bodies.ReadEnded round from end) = grind (arith, nat_tests)
+rows_few s (bodies.ReadEnded round from end loss) = grind (arith, nat_tests)
 rows_few s _ = omega arith
 
 held_few : (s : ℕ) (hs : List (ℕ × Held)) → rows_from s hs ≤ held_size hs

@@ -4,9 +4,8 @@ use Rattle.std.specs.Prelude.{nat_le, if◌then◌else◌}
 use Rattle.std.specs.List.{All}
 use Rattle.std.proofs.lemmas.Bool.Decides.{nat_tests}
 use Rattle.std.proofs.lemmas.List.Elements.{All-nil, All-cons}
-use Rattle.ld_lsn.specs.Number.{home_epoch, epoch_end}
 use Rattle.ld_msg.specs.declared.msg.Body.{Body}
-use Rattle.ld_msg.specs.Reading.{Held, Item, TrimTo, RecordHere, HoleHere, BridgeTo, LossHere, Verdict, Gives, Confirms, NotYet, decide, trim_held, record_held, hole_held, end_held, entry_verdict, loss_verdict}
+use Rattle.ld_msg.specs.Reading.{Held, Item, TrimTo, RecordHere, HoleHere, BridgeTo, LossHere, LossTo, Verdict, Gives, Confirms, NotYet, decide, trim_held, record_held, hole_held, plug_held, end_held, bridge_to, entry_verdict, end_verdict, loss_verdict}
 use Rattle.ld_msg.specs.declared.msg.Msg.{Msg}
 use Rattle.ld_msg.specs.Register.{View}
 use Rattle.ld_msg.specs.Reader.{Reader, Read, is_finished, item_end, gives, confirms, verdict, may_confirm, seen_nodes, gives_all, most_items, heard, loses, is_confirmed, next_round, asks_on, polled, on_answer}
@@ -46,6 +45,7 @@ clipped_end s until (RecordHere p) h = omega arith
 clipped_end s until HoleHere h = omega arith
 clipped_end s until (BridgeTo last) h = grind (arith, nat_tests)
 clipped_end s until LossHere h = omega arith
+clipped_end s until (LossTo last) h = grind (arith, nat_tests)
 
 tiles_push : (from until s : ℕ) (is : List (ℕ × Item)) (i : Item) → s ≤ until → s ≤ item_end s i → Tiles from (all_clipped until is) s → Tiles from (all_clipped until (is ++ (s, i) ∷ [])) (min (item_end s i) until + 1)
 tiles_push from until s is i h l t =
@@ -55,15 +55,16 @@ tiles_push from until s is i h l t =
 
 -- ---- what the table gives ends at the next number or above it ----
 
-by_entries : (s : ℕ) (r : Option (List ℕ)) (h : Bool) (other : Verdict) (i : Item) → (other ≡ Gives i → s ≤ item_end s i) → entry_verdict r h other ≡ Gives i → s ≤ item_end s i
-by_entries s (Some p) h other i rest e = let same : RecordHere p ≡ i = cc in subst (λ k. s ≤ item_end s k) same (omega arith)
-by_entries s None true other i rest e = let same : HoleHere ≡ i = cc in subst (λ k. s ≤ item_end s k) same (omega arith)
-by_entries s None false other i rest e = rest e
+by_entries : (s : ℕ) (r : Option (List ℕ)) (h p : Bool) (other : Verdict) (i : Item) → (other ≡ Gives i → s ≤ item_end s i) → entry_verdict r h p other ≡ Gives i → s ≤ item_end s i
+by_entries s (Some x) h p other i rest e = let same : RecordHere x ≡ i = cc in subst (λ k. s ≤ item_end s k) same (omega arith)
+by_entries s None true p other i rest e = let same : HoleHere ≡ i = cc in subst (λ k. s ≤ item_end s k) same (omega arith)
+by_entries s None false true other i rest e = let same : LossHere ≡ i = cc in subst (λ k. s ≤ item_end s k) same (omega arith)
+by_entries s None false false other i rest e = rest e
 
-by_end : (s : ℕ) (mc : Bool) (set : List ℕ) (hs : List (ℕ × Held)) (b : Bool) (i : Item)
-    → (if b then Gives (BridgeTo (epoch_end (home_epoch s))) else loss_verdict s mc set hs) ≡ Gives i → s ≤ item_end s i
-by_end s mc set hs true i e = let same : BridgeTo (epoch_end (home_epoch s)) ≡ i = cc in subst (λ k. s ≤ item_end s k) same (below_end s)
-by_end s mc set hs false i e = absurd (no_loss s mc set hs i e)
+by_end : (s : ℕ) (mc : Bool) (set : List ℕ) (hs : List (ℕ × Held)) (o : Option Bool) (i : Item) → end_verdict s o (loss_verdict s mc set hs) ≡ Gives i → s ≤ item_end s i
+by_end s mc set hs (Some true) i e = let same : LossTo (bridge_to s) ≡ i = cc in subst (λ k. s ≤ item_end s k) same (below_end s)
+by_end s mc set hs (Some false) i e = let same : BridgeTo (bridge_to s) ≡ i = cc in subst (λ k. s ≤ item_end s k) same (below_end s)
+by_end s mc set hs None i e = absurd (no_loss s mc set hs i e)
 
 by_trim : (s t : ℕ) (b : Bool) (i : Item) (rest : Verdict) → nat_le s t ≡ b → (rest ≡ Gives i → s ≤ item_end s i) → (if b then Gives (TrimTo t) else rest) ≡ Gives i → s ≤ item_end s i
 by_trim s t true i rest here other e = let same : TrimTo t ≡ i = cc in subst (λ k. s ≤ item_end s k) same (grind (arith, nat_tests))
@@ -71,7 +72,7 @@ by_trim s t false i rest here other e = other e
 
 table_goes_on : (s : ℕ) (mc : Bool) (set : List ℕ) (hs : List (ℕ × Held)) (i : Item) → decide s mc set hs ≡ Gives i → s ≤ item_end s i
 unfolding decide
-table_goes_on s mc set hs i e = by_trim s (trim_held hs) (nat_le s (trim_held hs)) i _ refl (λ f. by_entries s (record_held s hs) (hole_held s hs) _ i (by_end s mc set hs (end_held s hs) i) f) e
+table_goes_on s mc set hs i e = by_trim s (trim_held hs) (nat_le s (trim_held hs)) i _ refl (λ f. by_entries s (record_held s hs) (hole_held s hs) (plug_held s hs) _ i (by_end s mc set hs (end_held s hs) i) f) e
 
 -- ---- a reader ----
 

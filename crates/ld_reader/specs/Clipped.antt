@@ -1,6 +1,6 @@
 -- Items that end at the last number that a reader wants, where they would go past it.
 use Rattle.std.specs.Prelude.{ℕ, nat_lt, if◌then◌else◌, List, [], ◌∷◌}
-use Rattle.ld_msg.specs.Reading.{Item, TrimTo, RecordHere, HoleHere, BridgeTo, LossHere, Verdict, Gives, Confirms, NotYet}
+use Rattle.ld_msg.specs.Reading.{Item, TrimTo, RecordHere, HoleHere, BridgeTo, LossHere, LossTo, Verdict, Gives, Confirms, NotYet}
 
 abbrev pub clip : ℕ → ℕ → ℕ
 clip until last = if nat_lt until last then until else last
@@ -11,6 +11,7 @@ clipped until (RecordHere payload) = RecordHere payload
 clipped until HoleHere = HoleHere
 clipped until (BridgeTo last) = BridgeTo (clip until last)
 clipped until LossHere = LossHere
+clipped until (LossTo last) = LossTo (clip until last)
 
 abbrev pub all_clipped : ℕ → List (ℕ × Item) → List (ℕ × Item)
 all_clipped until [] = []

@@ -12,6 +12,7 @@ of_register registers.Failed = readers.Register registers.Failed
 of_register (registers.Damaged place) = readers.Register (registers.Damaged place)
 of_register registers.LogLimit = readers.Register registers.LogLimit
 of_register (registers.Behind lce next) = readers.Register (registers.Behind lce next)
+of_register (registers.Overtaken epoch) = readers.Register (registers.Overtaken epoch)
 of_register registers.EpochLimit = readers.Register registers.EpochLimit
 of_register registers.GenLimit = readers.Register registers.GenLimit
 of_register registers.Full = readers.Register registers.Full

@@ -16,7 +16,7 @@ entries_from s (e ∷ es) = if nat_le s e.number then suc (entries_from s es) el
 abbrev pub rows_of : ℕ → Body → ℕ
 rows_of s (bodies.ReadPage round from upto clean entries) = entries_from s entries
 rows_of s (bodies.ReadTrim round from trim) = if nat_le s trim then 1 else 0
-rows_of s (bodies.ReadEnded round from end) = if nat_le (home_epoch s) (home_epoch end) then 1 else 0
+rows_of s (bodies.ReadEnded round from end loss) = if nat_le (home_epoch s) (home_epoch end) then 1 else 0
 rows_of s _ = 0
 
 abbrev pub rows_from : ℕ → List (ℕ × Held) → ℕ

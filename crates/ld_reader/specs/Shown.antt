@@ -18,6 +18,7 @@ shown_item (items.Record payload) = reading.RecordHere payload
 shown_item items.Hole = reading.HoleHere
 shown_item (items.Bridge last) = reading.BridgeTo last
 shown_item items.Loss = reading.LossHere
+shown_item (items.LossTo last) = reading.LossTo last
 
 abbrev pub shown_confirming : Option Asked → List ℕ → Option Confirmation
 shown_confirming None told = None

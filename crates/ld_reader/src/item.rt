@@ -25,10 +25,13 @@ pub enum Item {
     Bridge(Lsn),
     /// Nobody has the number's record any more, if there was one.
     Loss,
+    /// Nobody has a record any more up to this number, past the last one that is known of an epoch,
+    /// if there were any.
+    LossTo(Lsn),
 }
 
-// The last number of an epoch's bridge, or `until` where the bridge goes past it.
-fn bridge_end(epoch: u32, until: Lsn) -> Lsn
+// The last number of an epoch, or `until` where the epoch goes past it.
+fn last_within(epoch: u32, until: Lsn) -> Lsn
     ensures { result ≡ clip until (epoch_end epoch) }
 {
     if epoch < until.epoch() {
@@ -47,7 +50,9 @@ impl Item {
             ld_gap::Item::Trim(last) => Ok(Item::Trim(last.min(until))),
             ld_gap::Item::Record(payload) => Ok(Item::Record(payload.copy(alloc)?)),
             ld_gap::Item::Hole => Ok(Item::Hole),
-            ld_gap::Item::Bridge(epoch) => Ok(Item::Bridge(bridge_end(epoch, until))),
+            ld_gap::Item::Bridge(epoch) => Ok(Item::Bridge(last_within(epoch, until))),
+            ld_gap::Item::Loss => Ok(Item::Loss),
+            ld_gap::Item::LossTo(epoch) => Ok(Item::LossTo(last_within(epoch, until))),
         }
     }
 
@@ -56,7 +61,7 @@ impl Item {
         ensures { result ≡ item_end from (shown_item self.now) }
     {
         match self {
-            Item::Trim(last) | Item::Bridge(last) => *last,
+            Item::Trim(last) | Item::Bridge(last) | Item::LossTo(last) => *last,
             Item::Record(_) | Item::Hole | Item::Loss => from,
         }
     }

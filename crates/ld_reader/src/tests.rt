@@ -1,4 +1,4 @@
-// Readers against answers as nodes give them.
+// Readers against answers as nodes give them. Each reads the places 1 and 2 of epoch 1 of a log whose first nodes are three.
 use crate::{Item, Items, Reader, ReaderFault};
 use ld_disk::{Fault, MemDisk};
 use ld_ids::{LogId, NoMemory, NodeId, NodeSet, Payload, Spec};
@@ -8,8 +8,13 @@ use ld_register::{DiskRegister, Register, RegisterFault};
 use std::alloc::Global;
 use std::test::Fail;
 
-// A log on the nodes from 1 to this one.
-fn nodes_to(log: LogId, last: u8) -> Spec {
+// ---- registers ----
+
+// The log on the nodes from 1 to this one.
+fn nodes_to(last: u8) -> Result<Spec, ReaderFault> {
+    let Some(log) = LogId::new(1) else {
+        return Err(ReaderFault::NoMemory);
+    };
     let mut set = NodeSet::empty();
     for number in 1..4 {
         if let Some(node) = NodeId::new(number)
@@ -18,12 +23,12 @@ fn nodes_to(log: LogId, last: u8) -> Spec {
             set = set.with(node);
         }
     }
-    Spec {
+    Ok(Spec {
         log,
         set,
         r: 2,
         extras: 0,
-    }
+    })
 }
 
 // A register on an empty disk.
@@ -34,12 +39,15 @@ fn new_register(alloc: Global) -> Result<DiskRegister<MemDisk>, ReaderFault> {
     }
 }
 
-// Hands out the next epoch of the log on these nodes.
-fn hand_out(
-    alloc: Global,
-    reg: &mut DiskRegister<MemDisk>,
-    spec: &Spec,
-) -> Result<(), ReaderFault> {
+// A register whose first read fails.
+fn failing_register(alloc: Global) -> Result<DiskRegister<MemDisk>, ReaderFault> {
+    let mut reg = new_register(alloc)?;
+    reg.arm(Fault::FailReadAt(1));
+    Ok(reg)
+}
+
+// Fixes these nodes, factor and extras for the log's next epoch.
+fn fix<G: Register>(alloc: Global, reg: &mut G, spec: &Spec) -> Result<(), ReaderFault> {
     let _log = spec.log.number();
     if spec.r == 0 || spec.set.len() < usize::from(spec.r) || spec.extras > 3 {
         return Err(ReaderFault::NoMemory);
@@ -48,95 +56,117 @@ fn hand_out(
     Ok(())
 }
 
+// Hands out the next epoch of the log on the nodes from 1 to this one.
+fn hand_out<G: Register>(alloc: Global, reg: &mut G, last: u8) -> Result<(), ReaderFault> {
+    fix(alloc, reg, &nodes_to(last)?)
+}
+
 // A register that has handed out the first epoch on the nodes from 1 to this one.
-fn first_epoch(alloc: Global, log: LogId, last: u8) -> Result<DiskRegister<MemDisk>, ReaderFault> {
+fn first_epoch(alloc: Global, last: u8) -> Result<DiskRegister<MemDisk>, ReaderFault> {
     let mut reg = new_register(alloc)?;
-    hand_out(alloc, &mut reg, &nodes_to(log, last))?;
+    hand_out(alloc, &mut reg, last)?;
     Ok(reg)
 }
 
-// A reader of the places 1 and 2 of epoch 1, of a log whose first nodes are three, has asked.
-fn begin<G: Register>(
-    alloc: Global,
-    log: LogId,
-    reg: &mut G,
-    out: &mut Outbox,
-) -> Result<Reader, ReaderFault> {
-    let first = Lsn::new(1, 1);
-    let last = Lsn::new(1, 2);
-    let mut reader = Reader::start(alloc, &nodes_to(log, 3), 0, first, last)?;
-    reader.ask(alloc, reg, out)?;
-    Ok(reader)
+// ---- answers ----
+
+// What stands at a place.
+#[derive(Clone, Copy)]
+enum Stands {
+    Record,
+    Hole,
+    Plug,
 }
 
-// A record of one byte, or a hole where there is none.
-fn entry(alloc: Global, esn: u32, byte: Option<u8>) -> Result<Entry, NoMemory> {
-    let what = match byte {
-        Some(byte) => What::Rec(Payload::new(Vec::from_slice(alloc, &[byte])?)),
-        None => What::Hole,
-    };
-    Ok(Entry {
+// What a node says: it is lost for epoch 1 under generation 2, the epoch ends at the place 2, or a clean page of the places
+// from 1 to `last` has something at one of them.
+#[derive(Clone, Copy)]
+enum Says {
+    Lost,
+    Ended { loss: bool },
+    Page { last: u32, esn: u32, stands: Stands },
+}
+
+fn what(alloc: Global, stands: Stands) -> Result<What, NoMemory> {
+    match stands {
+        Stands::Record => Ok(What::Rec(Payload::new(Vec::from_slice(alloc, &[7])?))),
+        Stands::Hole => Ok(What::Hole),
+        Stands::Plug => Ok(What::Plug),
+    }
+}
+
+fn entries(alloc: Global, esn: u32, stands: Stands) -> Result<Entries, NoMemory> {
+    let mut entries = Entries::empty(alloc);
+    entries.push(Entry {
         number: Lsn::new(1, esn),
         ballot: 1,
-        what,
-    })
+        what: what(alloc, stands)?,
+    })?;
+    Ok(entries)
 }
 
-// A clean page of the places 1 and 2 of epoch 1 with a record or a hole at one of them.
-fn page(alloc: Global, round: u32, esn: u32, byte: Option<u8>) -> Result<Body, NoMemory> {
-    page_to(alloc, 2, round, esn, byte)
-}
-
-// A clean page of the places from 1 to this one.
-fn page_to(
-    alloc: Global,
-    last: u32,
-    round: u32,
-    esn: u32,
-    byte: Option<u8>,
-) -> Result<Body, NoMemory> {
-    let mut entries = Entries::empty(alloc);
-    entries.push(entry(alloc, esn, byte)?)?;
-    Ok(Body::ReadPage {
-        round,
-        from: Lsn::new(1, 1),
-        upto: Lsn::new(1, last),
-        clean: true,
-        entries,
-    })
-}
-
-// The node is lost for epoch 1, under generation 2.
-fn lost(round: u32) -> Body {
-    Body::LostHere {
-        number: Lsn::new(1, 1),
-        round,
-        generation: 2,
-        end: Lsn::from_u64(0),
+fn answer(alloc: Global, round: u32, says: Says) -> Result<Body, NoMemory> {
+    match says {
+        Says::Lost => Ok(Body::LostHere {
+            number: Lsn::new(1, 1),
+            round,
+            generation: 2,
+            end: Lsn::from_u64(0),
+        }),
+        Says::Ended { loss } => Ok(Body::ReadEnded {
+            round,
+            from: Lsn::new(1, 2),
+            end: Lsn::new(1, 2),
+            loss,
+        }),
+        Says::Page { last, esn, stands } => Ok(Body::ReadPage {
+            round,
+            from: Lsn::new(1, 1),
+            upto: Lsn::new(1, last),
+            clean: true,
+            entries: entries(alloc, esn, stands)?,
+        }),
     }
 }
 
-// Epoch 1 ends at the place 2.
-fn ended(round: u32) -> Body {
-    Body::ReadEnded {
-        round,
-        from: Lsn::new(1, 2),
-        end: Lsn::new(1, 2),
-    }
+// ---- readers ----
+
+// A reader, and all that it has sent.
+#[derive(Drop)]
+struct Scene {
+    reader: Reader,
+    out: Outbox,
 }
 
-// What a node's answer gives: the first two items as letters, and how many messages were sent until
-// then.
-fn hears<G: Register>(
+fn start(alloc: Global, first: &Spec) -> Result<Reader, NoMemory> {
+    Reader::start(alloc, first, 0, Lsn::new(1, 1), Lsn::new(1, 2))
+}
+
+// It asks, and has then sent so many messages.
+fn asks<G: Register>(alloc: Global, scene: &mut Scene, reg: &mut G) -> Result<usize, ReaderFault> {
+    scene.reader.ask(alloc, reg, &mut scene.out)?;
+    Ok(scene.out.len())
+}
+
+// One that has asked.
+fn begin<G: Register>(alloc: Global, reg: &mut G) -> Result<Scene, ReaderFault> {
+    let mut scene = Scene {
+        reader: start(alloc, &nodes_to(3)?)?,
+        out: Outbox::empty(alloc),
+    };
+    asks(alloc, &mut scene, reg)?;
+    Ok(scene)
+}
+
+// What a node's answer gives.
+fn gives<G: Register>(
     alloc: Global,
-    reader: &mut Reader,
-    log: LogId,
+    scene: &mut Scene,
+    reg: &mut G,
     number: u8,
     body: Body,
-    reg: &mut G,
-    out: &mut Outbox,
-) -> Result<(u8, u8, usize), ReaderFault> {
-    let Some(node) = NodeId::new(number) else {
+) -> Result<Items, ReaderFault> {
+    let (Some(node), Some(log)) = (NodeId::new(number), LogId::new(1)) else {
         return Err(ReaderFault::NoMemory);
     };
     let msg = Msg {
@@ -145,8 +175,21 @@ fn hears<G: Register>(
         log,
         body,
     };
-    let items = reader.on_reply(alloc, &msg, reg, out)?;
-    Ok((letter(&items, 0), letter(&items, 1), out.len()))
+    scene.reader.on_reply(alloc, &msg, reg, &mut scene.out)
+}
+
+// What a node's answer gives: the first two items as letters, and how many messages were sent until then.
+fn hears<G: Register>(
+    alloc: Global,
+    scene: &mut Scene,
+    reg: &mut G,
+    number: u8,
+    round: u32,
+    says: Says,
+) -> Result<(u8, u8, usize), ReaderFault> {
+    let body = answer(alloc, round, says)?;
+    let items = gives(alloc, scene, reg, number, body)?;
+    Ok((letter(&items, 0), letter(&items, 1), scene.out.len()))
 }
 
 // The item at a place, as one letter, with a dot where there is none.
@@ -158,116 +201,128 @@ fn letter(items: &Items, place: usize) -> u8 {
             Item::Hole => b'h',
             Item::Bridge(_) => b'b',
             Item::Loss => b'l',
+            Item::LossTo(_) => b'L',
         },
         None => b'.',
     }
 }
 
+// A record at the place 2, on a page of both places.
+const SECOND: Says = Says::Page {
+    last: 2,
+    esn: 2,
+    stands: Stands::Record,
+};
+
+// A record at the place 1, on a page of both places.
+const FIRST: Says = Says::Page {
+    last: 2,
+    esn: 1,
+    stands: Stands::Record,
+};
+
+// A record at the place 1, on a page of that place alone.
+const ONLY: Says = Says::Page {
+    last: 1,
+    esn: 1,
+    stands: Stands::Record,
+};
+
+// What stands at the place 1, whether what follows the end is lost, and what the page and the end then give.
+const ENDS: &[(Stands, bool, u8, u8)] = &[
+    (Stands::Hole, false, b'h', b'b'),
+    (Stands::Hole, true, b'h', b'L'),
+    (Stands::Plug, false, b'l', b'b'),
+    (Stands::Plug, true, b'l', b'L'),
+];
+
 #[test]
 fn a_page_and_an_end_give_all_items_in_order(rt: HostRuntime) -> Result<(), Fail> {
     let alloc = rt.alloc();
-    let log = LogId::new(1).expect(&rt, "a log");
-    let mut out = Outbox::empty(alloc);
-    let mut reg = first_epoch(alloc, log, 3)?;
-    let mut reader = begin(alloc, log, &mut reg, &mut out)?;
-    let hole = page(alloc, 1, 1, None)?;
-    assert_eq!(rt;
-        hears(alloc, &mut reader, log, 1, hole, &mut reg, &mut out)?,
-        (b'h', b'.', 3)
-    );
-    assert_eq!(rt;
-        hears(alloc, &mut reader, log, 1, ended(1), &mut reg, &mut out)?,
-        (b'b', b'.', 3)
-    );
-    assert!(rt; reader.finished());
+    for (stands, loss, first, second) in ENDS {
+        let mut reg = first_epoch(alloc, 3)?;
+        let mut scene = begin(alloc, &mut reg)?;
+        let page = Says::Page {
+            last: 2,
+            esn: 1,
+            stands: *stands,
+        };
+        let end = Says::Ended { loss: *loss };
+        assert_eq!(rt;
+            hears(alloc, &mut scene, &mut reg, 1, 1, page)?,
+            (*first, b'.', 3)
+        );
+        assert_eq!(rt;
+            hears(alloc, &mut scene, &mut reg, 1, 1, end)?,
+            (*second, b'.', 3)
+        );
+        assert!(rt; scene.reader.finished());
+    }
     Ok(())
 }
 
 #[test]
 fn a_loss_is_confirmed_before_it_is_given(rt: HostRuntime) -> Result<(), Fail> {
     let alloc = rt.alloc();
-    let log = LogId::new(1).expect(&rt, "a log");
-    let mut out = Outbox::empty(alloc);
-    let mut reg = first_epoch(alloc, log, 3)?;
-    let mut reader = begin(alloc, log, &mut reg, &mut out)?;
-    let second = page(alloc, 1, 2, Some(7))?;
-    assert_eq!(rt;
-        hears(alloc, &mut reader, log, 2, second, &mut reg, &mut out)?,
-        (b'.', b'.', 3)
-    );
+    let mut reg = first_epoch(alloc, 3)?;
+    let mut scene = begin(alloc, &mut reg)?;
     // the nodes 1 and 3 are lost, and are asked once more; an answer to the first ask is none to the second
-    'rows: for (number, round, given) in [
-        (1, 1, (b'.', b'.', 3)),
-        (3, 1, (b'.', b'.', 5)),
-        (1, 2, (b'.', b'.', 5)),
-        (3, 1, (b'.', b'.', 5)),
-        (3, 2, (b'l', b'r', 5)),
+    for (number, round, says, given) in [
+        (2, 1, SECOND, (b'.', b'.', 3)),
+        (1, 1, Says::Lost, (b'.', b'.', 3)),
+        (3, 1, Says::Lost, (b'.', b'.', 5)),
+        (1, 2, Says::Lost, (b'.', b'.', 5)),
+        (3, 1, Says::Lost, (b'.', b'.', 5)),
+        (3, 2, Says::Lost, (b'l', b'r', 5)),
     ] {
         assert_eq!(rt;
-            hears(
-                alloc,
-                &mut reader,
-                log,
-                number,
-                lost(round),
-                &mut reg,
-                &mut out
-            )?,
+            hears(alloc, &mut scene, &mut reg, number, round, says)?,
             given
         );
     }
-    assert!(rt; reader.finished());
+    assert!(rt; scene.reader.finished());
     Ok(())
 }
 
 #[test]
 fn a_rebuilt_node_ends_the_confirmation_with_the_record(rt: HostRuntime) -> Result<(), Fail> {
     let alloc = rt.alloc();
-    let log = LogId::new(1).expect(&rt, "a log");
-    let mut out = Outbox::empty(alloc);
-    let mut reg = first_epoch(alloc, log, 3)?;
-    let mut reader = begin(alloc, log, &mut reg, &mut out)?;
-    let second = page(alloc, 1, 2, Some(7))?;
-    assert_eq!(rt;
-        hears(alloc, &mut reader, log, 1, second, &mut reg, &mut out)?,
-        (b'.', b'.', 3)
-    );
-    assert_eq!(rt;
-        hears(alloc, &mut reader, log, 2, lost(1), &mut reg, &mut out)?,
-        (b'.', b'.', 3)
-    );
-    assert_eq!(rt;
-        hears(alloc, &mut reader, log, 3, lost(1), &mut reg, &mut out)?,
-        (b'.', b'.', 5)
-    );
-    let first = page(alloc, 2, 1, Some(9))?;
-    assert_eq!(rt;
-        hears(alloc, &mut reader, log, 2, first, &mut reg, &mut out)?,
-        (b'r', b'r', 5)
-    );
-    assert!(rt; reader.finished());
+    let mut reg = first_epoch(alloc, 3)?;
+    let mut scene = begin(alloc, &mut reg)?;
+    for (number, round, says, given) in [
+        (1, 1, SECOND, (b'.', b'.', 3)),
+        (2, 1, Says::Lost, (b'.', b'.', 3)),
+        (3, 1, Says::Lost, (b'.', b'.', 5)),
+        (2, 2, FIRST, (b'r', b'r', 5)),
+    ] {
+        assert_eq!(rt;
+            hears(alloc, &mut scene, &mut reg, number, round, says)?,
+            given
+        );
+    }
+    assert!(rt; scene.reader.finished());
     Ok(())
 }
 
 #[test]
 fn a_failed_look_leaves_the_reader_as_it_was(rt: HostRuntime) -> Result<(), Fail> {
     let alloc = rt.alloc();
-    let log = LogId::new(1).expect(&rt, "a log");
-    let mut out = Outbox::empty(alloc);
-    let mut reg = first_epoch(alloc, log, 3)?;
-    let mut reader = begin(alloc, log, &mut reg, &mut out)?;
-    let mut failing = new_register(alloc)?;
-    failing.arm(Fault::FailReadAt(1));
-    let first = page_to(alloc, 1, 1, 1, Some(7))?;
+    let mut reg = first_epoch(alloc, 3)?;
+    let mut scene = begin(alloc, &mut reg)?;
+    let mut failing = failing_register(alloc)?;
     assert_eq!(rt;
-        hears(alloc, &mut reader, log, 1, first, &mut failing, &mut out),
+        hears(alloc, &mut scene, &mut failing, 1, 1, ONLY),
         Err(ReaderFault::Register(RegisterFault::Failed))
     );
-    assert_eq!(rt; out.len(), 3);
+    assert_eq!(rt; scene.out.len(), 3);
     // an answer of the round before it doesn't come too late, as no answer is held
-    let first = page_to(alloc, 1, 0, 1, None)?;
+    let hole = Says::Page {
+        last: 1,
+        esn: 1,
+        stands: Stands::Hole,
+    };
     assert_eq!(rt;
-        hears(alloc, &mut reader, log, 1, first, &mut reg, &mut out)?,
+        hears(alloc, &mut scene, &mut reg, 1, 0, hole)?,
         (b'h', b'.', 6)
     );
     Ok(())
@@ -276,47 +331,39 @@ fn a_failed_look_leaves_the_reader_as_it_was(rt: HostRuntime) -> Result<(), Fail
 #[test]
 fn a_reader_asks_the_nodes_that_the_register_shows(rt: HostRuntime) -> Result<(), Fail> {
     let alloc = rt.alloc();
-    let log = LogId::new(1).expect(&rt, "a log");
-    let mut out = Outbox::empty(alloc);
-    let mut reg = first_epoch(alloc, log, 2)?;
-    let mut reader = begin(alloc, log, &mut reg, &mut out)?;
-    assert_eq!(rt; out.len(), 2);
-    let first = page_to(alloc, 1, 1, 1, Some(7))?;
+    let mut reg = first_epoch(alloc, 2)?;
+    let mut scene = begin(alloc, &mut reg)?;
+    assert_eq!(rt; scene.out.len(), 2);
     assert_eq!(rt;
-        hears(alloc, &mut reader, log, 1, first, &mut reg, &mut out)?,
+        hears(alloc, &mut scene, &mut reg, 1, 1, ONLY)?,
         (b'r', b'.', 4)
     );
     // where it shows none, the first nodes of the log
     let mut empty = new_register(alloc)?;
-    reader.ask(alloc, &mut empty, &mut out)?;
-    assert_eq!(rt; out.len(), 7);
+    assert_eq!(rt; asks(alloc, &mut scene, &mut empty)?, 7);
     Ok(())
 }
 
 #[test]
 fn a_look_before_its_epoch_gives_no_loss(rt: HostRuntime) -> Result<(), Fail> {
     let alloc = rt.alloc();
-    let log = LogId::new(1).expect(&rt, "a log");
-    let mut out = Outbox::empty(alloc);
     let mut reg = new_register(alloc)?;
-    let mut reader = begin(alloc, log, &mut reg, &mut out)?;
-    hand_out(alloc, &mut reg, &nodes_to(log, 2))?;
-    let second = page(alloc, 1, 2, Some(7))?;
-    hears(alloc, &mut reader, log, 2, second, &mut reg, &mut out)?;
-    for number in [1, 3] {
-        hears(alloc, &mut reader, log, number, lost(1), &mut reg, &mut out)?;
+    let mut scene = begin(alloc, &mut reg)?;
+    hand_out(alloc, &mut reg, 2)?;
+    for (number, says) in [(2, SECOND), (1, Says::Lost), (3, Says::Lost)] {
+        assert_eq!(rt;
+            hears(alloc, &mut scene, &mut reg, number, 1, says)?,
+            (b'.', b'.', 3)
+        );
     }
-    assert_eq!(rt; out.len(), 3);
     // after the next look the lost node of the epoch is asked once more
-    reader.ask(alloc, &mut reg, &mut out)?;
-    assert_eq!(rt;
-        hears(alloc, &mut reader, log, 1, lost(2), &mut reg, &mut out)?,
-        (b'.', b'.', 6)
-    );
-    assert_eq!(rt;
-        hears(alloc, &mut reader, log, 1, lost(3), &mut reg, &mut out)?,
-        (b'l', b'r', 6)
-    );
-    assert!(rt; reader.finished());
+    assert_eq!(rt; asks(alloc, &mut scene, &mut reg)?, 5);
+    for (round, given) in [(2, (b'.', b'.', 6)), (3, (b'l', b'r', 6))] {
+        assert_eq!(rt;
+            hears(alloc, &mut scene, &mut reg, 1, round, Says::Lost)?,
+            given
+        );
+    }
+    assert!(rt; scene.reader.finished());
     Ok(())
 }

@@ -108,6 +108,7 @@ fn ended_body(
             round: ask.round,
             from: ask.from,
             end: Lsn::new(epoch, summary.end),
+            loss: summary.loss,
         });
     }
     if plain.is_lost_in(ask.log, epoch) {

@@ -13,10 +13,21 @@ const LAST: u32 = 4_294_967_295;
 // The node keeps a record at a place of epoch 1.
 fn keep_record(alloc: Global, plain: &mut Plain, log: LogId, esn: u32) -> Result<(), NoMemory> {
     let payload = Payload::new(Vec::from_slice(alloc, &[7])?);
+    keep_what(alloc, plain, log, esn, What::Rec(payload))
+}
+
+// The node keeps anything else at a place of epoch 1.
+fn keep_what(
+    alloc: Global,
+    plain: &mut Plain,
+    log: LogId,
+    esn: u32,
+    what: What,
+) -> Result<(), NoMemory> {
     let entry = Entry {
         number: Lsn::new(1, esn),
         ballot: 2,
-        what: What::Rec(payload),
+        what,
     };
     let op = Op::Accept { log, lng: 0, entry };
     plain.room(alloc, &op)?;
@@ -32,13 +43,14 @@ fn fill(alloc: Global, plain: &mut Plain, log: LogId, places: u32) -> Result<(),
     Ok(())
 }
 
-// Epoch 1 is clean on the node, with its bridge at the place 5.
-fn keep_close(alloc: Global, plain: &mut Plain, log: LogId) -> Result<(), NoMemory> {
+// Epoch 1 is clean on the node, with its bridge at the place 5 and with or without a loss behind it.
+fn keep_close(alloc: Global, plain: &mut Plain, log: LogId, loss: bool) -> Result<(), NoMemory> {
     let summary = Summary {
         ballot: 2,
         lng: 0,
         trim: Lsn::from_u64(0),
         end: 5,
+        loss,
     };
     let op = Op::Clean {
         log,
@@ -70,6 +82,9 @@ struct Said {
 fn shown(body: &Body) -> Said {
     let (letter, number, count) = match body {
         Body::ReadTrim { trim, .. } => (b't', *trim, 0),
+        Body::ReadEnded {
+            end, loss: true, ..
+        } => (b'g', *end, 0),
         Body::ReadEnded { end, .. } => (b'e', *end, 0),
         Body::LostHere { end, .. } => (b'l', *end, 0),
         Body::ReadWait { released, .. } => (b'w', *released, 0),
@@ -183,8 +198,26 @@ fn a_clean_epoch_is_served_from_its_trim_up_to_its_bridge(rt: HostRuntime) -> Re
     let mut plain = Plain::new(alloc);
     fill(alloc, &mut plain, log, 3)?;
     keep_trim(alloc, &mut plain, log)?;
-    keep_close(alloc, &mut plain, log)?;
+    keep_close(alloc, &mut plain, log, false)?;
     'rows: for (from, letter, esn, count) in [(1, b't', 2, 0), (3, b'c', 4, 1), (5, b'e', 5, 0)] {
+        let said = reads(alloc, &plain, log, node, 0, from)?;
+        assert_eq!(rt; said.letter, letter);
+        assert_eq!(rt; said.esn, esn);
+        assert_eq!(rt; said.count, count);
+    }
+    Ok(())
+}
+
+#[test]
+fn a_plug_is_read_and_a_bridge_is_not(rt: HostRuntime) -> Result<(), Fail> {
+    let alloc = rt.alloc();
+    let log = LogId::new(1).expect(&rt, "a log");
+    let node = NodeId::new(1).expect(&rt, "a node");
+    let mut plain = Plain::new(alloc);
+    keep_what(alloc, &mut plain, log, 1, What::Plug)?;
+    keep_what(alloc, &mut plain, log, 2, What::Bridge)?;
+    keep_close(alloc, &mut plain, log, true)?;
+    'rows: for (from, letter, esn, count) in [(1, b'c', 4, 1), (5, b'g', 5, 0)] {
         let said = reads(alloc, &plain, log, node, 0, from)?;
         assert_eq!(rt; said.letter, letter);
         assert_eq!(rt; said.esn, esn);

@@ -93,9 +93,10 @@ impl<'a, R: Files<File = File>> Register for FileRegister<'a, R> {
         log: LogId,
         epoch: u32,
         summary: &Summary,
+        short: bool,
     ) -> Result<Option<Spec>, RegisterFault> {
         let mut register = self.fresh(alloc);
-        let answer = register.close(alloc, log, epoch, summary);
+        let answer = register.close(alloc, log, epoch, summary, short);
         self.count(&answer);
         answer
     }

@@ -47,6 +47,7 @@ fn keep_close(
         lng: 0,
         trim: Lsn::from_u64(0),
         end,
+        loss: false,
     };
     let op = Op::Clean {
         log,
@@ -68,11 +69,16 @@ fn answer(log: LogId, from: NodeId, to: NodeId, body: Body) -> Msg {
 
 // A page of the places 1 to 9 of epoch 1 with a record at the place 1.
 fn page(alloc: Global, clean: bool) -> Result<Body, NoMemory> {
+    page_of(alloc, clean, What::Rec(Payload::new(Vec::new(alloc))))
+}
+
+// A page of them with anything else there.
+fn page_of(alloc: Global, clean: bool, what: What) -> Result<Body, NoMemory> {
     let mut entries = Vec::new(alloc);
     entries.push(Entry {
         number: Lsn::new(1, 1),
         ballot: 1,
-        what: What::Rec(Payload::new(Vec::new(alloc))),
+        what,
     })?;
     Ok(Body::ReadPage {
         round: 0,
@@ -164,6 +170,22 @@ fn a_wiped_node_asks_all_others_until_it_is_full(rt: HostRuntime) -> Result<(), 
         assert_eq!(rt; takes(alloc, &mut plain, &msg)?, taken);
         assert_eq!(rt; is_full(&plain, log), full);
     }
+    Ok(())
+}
+
+#[test]
+fn a_plug_is_refilled(rt: HostRuntime) -> Result<(), Fail> {
+    let alloc = rt.alloc();
+    let log = LogId::new(1).expect(&rt, "a log");
+    let one = NodeId::new(1).expect(&rt, "a node");
+    let two = NodeId::new(2).expect(&rt, "a node");
+    let mut plain = wiped(alloc, log)?;
+    'closes: for (epoch, end) in [(1, 2), (2, 1)] {
+        keep_close(alloc, &mut plain, log, epoch, end)?;
+    }
+    let msg = answer(log, one, two, page_of(alloc, true, What::Plug)?);
+    assert_eq!(rt; takes(alloc, &mut plain, &msg)?, b'r');
+    assert!(rt; is_full(&plain, log));
     Ok(())
 }
 

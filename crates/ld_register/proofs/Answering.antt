@@ -1,5 +1,5 @@
 -- What each call answers by the contents.
-use Rattle.std.proofs.Common.{◌≡◌, ◌≤◌, ◌<◌, ◌+◌, ◌^◌, ℕ, Bool, true, false, List, Option, None, Some, Ok, Err, refl, ap, sym, ◌∙◌, arith, if◌then◌else◌}
+use Rattle.std.proofs.Common.{◌≡◌, ◌≤◌, ◌<◌, ◌+◌, ◌^◌, ◌==◌, ℕ, Bool, true, false, not, List, Option, None, Some, Ok, Err, refl, ap, sym, ◌∙◌, arith, if◌then◌else◌}
 use Rattle.std.specs.Option.{unwrap_or}
 use Rattle.std.proofs.lemmas.Bool.{lt-ltb, le-ltb, lt-leb, le-leb, eq-eqb, ne_eqb}
 use Rattle.std.proofs.lemmas.Bool.Decides.{nat_tests}
@@ -7,7 +7,7 @@ use Rattle.ld_table.specs.Table.{find, put}
 use Rattle.ld_table.proofs.Laws.{find-put_same, find-put_other}
 use Rattle.ld_ids.specs.declared.set.Spec.{Spec}
 use Rattle.ld_msg.specs.declared.msg.Summary.{Summary}
-use Rattle.ld_msg.specs.Register.{Register, Epochs, Changed, Answer, Granted, AtLimit, Behind, Fails, no_epochs, epochs_of, generation_of, lce_of, epoch_limit, generation_limit, journal_limit, record_length, change, activate, close, draw, next_epoch, closed_epochs, with_epochs, is_crowded, epochs_in, epoch_shown}
+use Rattle.ld_msg.specs.Register.{Register, Epochs, Changed, Answer, Granted, AtLimit, Behind, Overtaken, Fails, no_epochs, epochs_of, generation_of, lce_of, is_overtaken, epoch_limit, generation_limit, journal_limit, record_length, change, activate, close, draw, next_epoch, closed_epochs, with_epochs, is_crowded, epochs_in, epoch_shown}
 use Rattle.ld_register.specs.declared.fault.RegisterFault.TheVariants as faults
 use Rattle.ld_register.specs.declared.change.Change.TheVariants as changes
 use Rattle.ld_register.specs.declared.register.Grant.{Grant}
@@ -112,38 +112,48 @@ made_activate k n e s next c h f is told =
 
 -- ---- a close ----
 
-pub closed_by : (r : Register) (l e : ℕ) (y : Summary) (ch : Changed) (full : Bool) → is_crowded r l ≡ false → close r l e y ≡ ch → is_full r 29 ≡ full
-    → (close_ended ch.answer full (next_told r l) (next_told ch.register l) ≡ closed r l e y) × (after_close r l e y ≡ ch.register)
-closed_by r l e y ch full c a f =
-    let after : after_close r l e y ≡ ch.register = ap (λ b. if b then r else (close r l e y).register) c ∙ ap (λ x. x.register) a in (
-      sym (ap (λ b. if b then Err faults.LogLimit else close_ended (close r l e y).answer (is_full r 29) (next_told r l) (next_told (after_close r l e y) l)) c
-          ∙ (ap (λ x. close_ended x.answer (is_full r 29) (next_told r l) (next_told (after_close r l e y) l)) a
-          ∙ (ap (λ b. close_ended ch.answer b (next_told r l) (next_told (after_close r l e y) l)) f ∙ ap (λ d. close_ended ch.answer full (next_told r l) (next_told d l)) after))),
+pub closed_by : (r : Register) (l e : ℕ) (y : Summary) (short : Bool) (ch : Changed) (full : Bool) → is_crowded r l ≡ false → close r l e y short ≡ ch → is_full r 30 ≡ full
+    → (close_ended ch.answer full (next_told r l) (next_told ch.register l) ≡ closed r l e y short) × (after_close r l e y short ≡ ch.register)
+closed_by r l e y short ch full c a f =
+    let after : after_close r l e y short ≡ ch.register = ap (λ b. if b then r else (close r l e y short).register) c ∙ ap (λ x. x.register) a in (
+      sym (ap (λ b. if b then Err faults.LogLimit else close_ended (close r l e y short).answer (is_full r 30) (next_told r l) (next_told (after_close r l e y short) l)) c
+          ∙ (ap (λ x. close_ended x.answer (is_full r 30) (next_told r l) (next_told (after_close r l e y short) l)) a
+          ∙ (ap (λ b. close_ended ch.answer b (next_told r l) (next_told (after_close r l e y short) l)) f ∙ ap (λ d. close_ended ch.answer full (next_told r l) (next_told d l)) after))),
       after,
     )
 
-pub crowded_close : (r : Register) (l e : ℕ) (y : Summary) → is_crowded r l ≡ true → (Err faults.LogLimit ≡ closed r l e y) × (after_close r l e y ≡ r)
-crowded_close r l e y c = (sym (ap (λ b. if b then Err faults.LogLimit else close_ended (close r l e y).answer (is_full r 29) (next_told r l) (next_told (after_close r l e y) l)) c), ap (λ b. if b then r else (close r l e y).register) c)
+pub crowded_close : (r : Register) (l e : ℕ) (y : Summary) (short : Bool) → is_crowded r l ≡ true → (Err faults.LogLimit ≡ closed r l e y short) × (after_close r l e y short ≡ r)
+crowded_close r l e y short c = (sym (ap (λ b. if b then Err faults.LogLimit else close_ended (close r l e y short).answer (is_full r 30) (next_told r l) (next_told (after_close r l e y short) l)) c), ap (λ b. if b then r else (close r l e y short).register) c)
 
-close_behind : (r : Register) (l e : ℕ) (y : Summary) → (lce_of r l + 1 ≡ e → ⊥) → close r l e y ≡ to r (Behind (lce_of r l))
+abbrev pub closing : Register → ℕ → ℕ → Summary → Register
+closing r l e y = with_epochs r l (closed_epochs (epochs_of r l) e y)
+
+-- a close by whether the epoch is the next one and whether it comes too late
+pub close_at : (r : Register) (l e : ℕ) (y : Summary) (short next late : Bool) → (lce_of r l + 1 == e) ≡ next → is_overtaken (epochs_of r l) y short ≡ late
+    → close r l e y short ≡ (if not next then to r (Behind (lce_of r l)) else if late then to r (Overtaken (epochs_of r l).epoch) else change r (closing r l e y) 30)
 unfolding close
-close_behind r l e y h = rw (ne_eqb (lce_of r l + 1) e h) refl
+close_at r l e y short next late n t =
+    ap (λ b. if not b then to r (Behind (lce_of r l)) else if is_overtaken (epochs_of r l) y short then to r (Overtaken (epochs_of r l).epoch) else change r (closing r l e y) 30) n
+    ∙ ap (λ b. if not next then to r (Behind (lce_of r l)) else if b then to r (Overtaken (epochs_of r l).epoch) else change r (closing r l e y) 30) t
 
-close_changes : (r : Register) (l e : ℕ) (y : Summary) → lce_of r l + 1 ≡ e → close r l e y ≡ change r (with_epochs r l (closed_epochs (epochs_of r l) e y)) 29
-unfolding close
-close_changes r l e y h = rw (eq-eqb (lce_of r l + 1) e h) refl
+pub behind_close : (r : Register) (l e : ℕ) (y : Summary) (short : Bool) → is_crowded r l ≡ false → (lce_of r l + 1 ≡ e → ⊥) → (Err (faults.Behind (lce_of r l) (next_told r l)) ≡ closed r l e y short) × (after_close r l e y short ≡ r)
+behind_close r l e y short c h = closed_by r l e y short (to r (Behind (lce_of r l))) (is_full r 30) c (close_at r l e y short false (is_overtaken (epochs_of r l) y short) (ne_eqb (lce_of r l + 1) e h) refl) refl
 
-pub behind_close : (r : Register) (l e : ℕ) (y : Summary) → is_crowded r l ≡ false → (lce_of r l + 1 ≡ e → ⊥) → (Err (faults.Behind (lce_of r l) (next_told r l)) ≡ closed r l e y) × (after_close r l e y ≡ r)
-behind_close r l e y c h = closed_by r l e y (to r (Behind (lce_of r l))) (is_full r 29) c (close_behind r l e y h) refl
+pub overtaken_close : (r : Register) (l e : ℕ) (y : Summary) (short : Bool) → is_crowded r l ≡ false → lce_of r l + 1 ≡ e → is_overtaken (epochs_of r l) y short ≡ true → (Err (faults.Overtaken (epochs_of r l).epoch) ≡ closed r l e y short) × (after_close r l e y short ≡ r)
+overtaken_close r l e y short c h t = closed_by r l e y short (to r (Overtaken (epochs_of r l).epoch)) (is_full r 30) c (close_at r l e y short true true (eq-eqb (lce_of r l + 1) e h) t) refl
 
-pub full_close : (k : Kept) (n l e : ℕ) (y : Summary) → is_crowded (register_of k n) l ≡ false → lce_of (register_of k n) l + 1 ≡ e → 2 ^ 40 < n + 34 → (Err faults.Full ≡ closed (register_of k n) l e y) × (after_close (register_of k n) l e y ≡ register_of k n)
-full_close k n l e y c h f = closed_by (register_of k n) l e y (to (register_of k n) Fails) true c (close_changes (register_of k n) l e y h ∙ change_full k n _ 29 (omega arith)) (lt-ltb journal_limit (n + record_length 29) (omega arith))
+pub full_close : (k : Kept) (n l e : ℕ) (y : Summary) (short : Bool) → is_crowded (register_of k n) l ≡ false → lce_of (register_of k n) l + 1 ≡ e → is_overtaken (epochs_of (register_of k n) l) y short ≡ false → 2 ^ 40 < n + 35
+    → (Err faults.Full ≡ closed (register_of k n) l e y short) × (after_close (register_of k n) l e y short ≡ register_of k n)
+full_close k n l e y short c h t f = closed_by (register_of k n) l e y short (to (register_of k n) Fails) true c
+    (close_at (register_of k n) l e y short true false (eq-eqb (lce_of (register_of k n) l + 1) e h) t ∙ change_full k n _ 30 (omega arith)) (lt-ltb journal_limit (n + record_length 30) (omega arith))
 
-pub made_close : (k : Kept) (n l e : ℕ) (y : Summary) (next : Option Spec) → is_crowded (register_of k n) l ≡ false → lce_of (register_of k n) l + 1 ≡ e → n + 34 ≤ 2 ^ 40 → next ≡ spec_told (register_of k n) l (e + 1)
-    → (Ok next ≡ closed (register_of k n) l e y) × (after_close (register_of k n) l e y ≡ changed (register_of k n) (changes.Close l e y))
-made_close k n l e y next c h f told =
+pub made_close : (k : Kept) (n l e : ℕ) (y : Summary) (short : Bool) (next : Option Spec) → is_crowded (register_of k n) l ≡ false → lce_of (register_of k n) l + 1 ≡ e → is_overtaken (epochs_of (register_of k n) l) y short ≡ false → n + 35 ≤ 2 ^ 40
+    → next ≡ spec_told (register_of k n) l (e + 1)
+    → (Ok next ≡ closed (register_of k n) l e y short) × (after_close (register_of k n) l e y short ≡ changed (register_of k n) (changes.Close l e y))
+made_close k n l e y short next c h t f told =
     let r = register_of k n in
-    let a = closed_by r l e y (to (changed r (changes.Close l e y)) Granted) false c (close_changes r l e y h ∙ change_made k n _ 29 (omega arith)) (le-ltb journal_limit (n + record_length 29) (omega arith)) in
+    let a = closed_by r l e y short (to (changed r (changes.Close l e y)) Granted) false c
+    (close_at r l e y short true false (eq-eqb (lce_of r l + 1) e h) t ∙ change_made k n _ 30 (omega arith)) (le-ltb journal_limit (n + record_length 30) (omega arith)) in
     (ap (λ v. Ok v) (told ∙ tells_behind r l e y) ∙ a.0, a.1)
 
 -- ---- a draw ----

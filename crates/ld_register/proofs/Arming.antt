@@ -6,7 +6,7 @@ use Rattle.ld_table.specs.Table.{put}
 use Rattle.ld_disk.specs.declared.disk.Disk.{Ghosts}
 use Rattle.ld_ids.specs.declared.set.Spec.{Spec}
 use Rattle.ld_msg.specs.declared.msg.Summary.{Summary}
-use Rattle.ld_msg.specs.Register.{Register, Armed, Changed, Granted, AtLimit, Behind, Fails, epochs_of, generation_of, lce_of, epoch_limit, generation_limit, record_length, falls, armed_after, is_made, made, unmade, change, activate, close, draw, next_epoch, closed_epochs, with_epochs, is_crowded, epochs_in}
+use Rattle.ld_msg.specs.Register.{Register, Armed, Changed, Granted, AtLimit, Behind, Overtaken, Fails, epochs_of, generation_of, lce_of, is_overtaken, epoch_limit, generation_limit, record_length, falls, armed_after, is_made, made, unmade, change, activate, draw, next_epoch, with_epochs, is_crowded, epochs_in}
 use Rattle.ld_register.specs.declared.fault.RegisterFault.{RegisterFault}
 use Rattle.ld_register.specs.declared.fault.RegisterFault.TheVariants as faults
 use Rattle.ld_register.specs.declared.disk.DiskRegister.{DiskRegister}
@@ -18,7 +18,7 @@ use Rattle.ld_register.specs.Calls.{IsFree, ended, close_ended, next_told, is_fu
 use Rattle.ld_register.specs.Held.{Holds, MayHold, Foretells, IsDue, Meets, granting}
 use Rattle.ld_register.specs.Arming.{kept_in, disk_in, armed_of, own_faults, Foresees, MeetsArmed, HasFallen}
 use Rattle.ld_register.proofs.Meeting.{failure, meets_unmade, leaves_changed}
-use Rattle.ld_register.proofs.Answering.{to, grant_in, activated_by, crowded_activate, closed_by, crowded_close, drawn_by}
+use Rattle.ld_register.proofs.Answering.{to, grant_in, activated_by, crowded_activate, closing, close_at, closed_by, crowded_close, drawn_by}
 
 -- ---- a call, by what it answers with no fault armed ----
 
@@ -105,43 +105,46 @@ arms_activate p = record {
 
 -- ---- a close ----
 
-abbrev closing : Register → ℕ → ℕ → Summary → Register
-closing r l e y = with_epochs r l (closed_epochs (epochs_of r l) e y)
-
-close_at : (r : Register) (l e : ℕ) (y : Summary) (b : Bool) → (lce_of r l + 1 == e) ≡ b → close r l e y ≡ (if b then change r (closing r l e y) 29 else to r (Behind (lce_of r l)))
-unfolding close
-close_at r l e y b h = ap (λ b. if b then change r (closing r l e y) 29 else to r (Behind (lce_of r l))) h
-
--- a close that isn't behind
+-- a close that is neither behind nor overtaken
 closes_as : (f full : Bool) (before after : Option Spec) → close_ended (if f then Fails else Granted) full before after ≡ ended (if f then Fails else Granted) full faults.EpochLimit after
 closes_as true full before after = refl
 closes_as false full before after = refl
 
-ends_close : (r : Register) (l e : ℕ) (y : Summary) (full : Bool) → is_crowded r l ≡ false → (lce_of r l + 1 == e) ≡ true → is_full r 29 ≡ full
-    → (ended (outcome r (closing r l e y) 29 full).answer full faults.EpochLimit (next_told (outcome r (closing r l e y) 29 full).register l) ≡ closed r l e y) × (after_close r l e y ≡ (outcome r (closing r l e y) 29 full).register)
-ends_close r l e y full c h f =
-    let s = closed_by r l e y (outcome r (closing r l e y) 29 full) full c (close_at r l e y true h ∙ changes_by r (closing r l e y) 29 full f) f in
-    (sym (closes_as (full || falls r.armed) full (next_told r l) (next_told (outcome r (closing r l e y) 29 full).register l)) ∙ s.0, s.1)
+ends_close : (r : Register) (l e : ℕ) (y : Summary) (short full : Bool) → is_crowded r l ≡ false → (lce_of r l + 1 == e) ≡ true → is_overtaken (epochs_of r l) y short ≡ false → is_full r 30 ≡ full
+    → (ended (outcome r (closing r l e y) 30 full).answer full faults.EpochLimit (next_told (outcome r (closing r l e y) 30 full).register l) ≡ closed r l e y short) × (after_close r l e y short ≡ (outcome r (closing r l e y) 30 full).register)
+ends_close r l e y short full c h o f =
+    let s = closed_by r l e y short (outcome r (closing r l e y) 30 full) full c (close_at r l e y short true false h o ∙ changes_by r (closing r l e y) 30 full f) f in
+    (sym (closes_as (full || falls r.armed) full (next_told r l) (next_told (outcome r (closing r l e y) 30 full).register l)) ∙ s.0, s.1)
 
-refused_close : (c : Register) (l k : ℕ) (y : Summary) (e : RegisterFault) (crowded next full : Bool) → is_crowded c l ≡ crowded → (lce_of c l + 1 == k) ≡ next → is_full c 29 ≡ full
-    → failure (Option Spec) e ≡ closed (unarmed c) l k y → (failure (Option Spec) e ≡ closed c l k y) × (after_close c l k y ≡ c)
-refused_close c l k y e true next full a b d h = let s = crowded_close c l k y a in let t = crowded_close (unarmed c) l k y a in ((h ∙ sym t.0) ∙ s.0, s.1)
-refused_close c l k y e false false full a b d h = let s = closed_by c l k y (to c (Behind (lce_of c l))) full a (close_at c l k y false b) d in let t = closed_by (unarmed c) l k y (to (unarmed c) (Behind (lce_of c l))) full a (close_at (unarmed c) l k y false b) d in ((h ∙ sym t.0) ∙ s.0, s.1)
-refused_close c l k y e false true true a b d h = let s = ends_close c l k y true a b d in let t = ends_close (unarmed c) l k y true a b d in ((h ∙ sym t.0) ∙ s.0, s.1)
-refused_close c l k y e false true false a b d h = let t = ends_close (unarmed c) l k y false a b d in absurd (not_granted e _ (h ∙ sym t.0))
+-- one that is
+behind_at : (r : Register) (l k : ℕ) (y : Summary) (short : Bool) → is_crowded r l ≡ false → (lce_of r l + 1 == k) ≡ false → (failure (Option Spec) (faults.Behind (lce_of r l) (next_told r l)) ≡ closed r l k y short) × (after_close r l k y short ≡ r)
+behind_at r l k y short a b = closed_by r l k y short (to r (Behind (lce_of r l))) (is_full r 30) a (close_at r l k y short false (is_overtaken (epochs_of r l) y short) b refl) refl
 
-granted_close : (c : Register) (l k : ℕ) (y : Summary) (x : Option Spec) (crowded next full : Bool) → is_crowded c l ≡ crowded → (lce_of c l + 1 == k) ≡ next → is_full c 29 ≡ full
-    → granting x ≡ closed (unarmed c) l k y → ((if falls c.armed then failure (Option Spec) faults.Failed else granting x) ≡ closed c l k y) × (after_close c l k y ≡ with_armed (if is_made c.armed then after_close (unarmed c) l k y else c) (armed_after c.armed))
-granted_close c l k y x true next full a b d h = let t = crowded_close (unarmed c) l k y a in absurd (not_granted faults.LogLimit x (sym (h ∙ sym t.0)))
-granted_close c l k y x false false full a b d h = let t = closed_by (unarmed c) l k y (to (unarmed c) (Behind (lce_of c l))) full a (close_at (unarmed c) l k y false b) d in absurd (not_granted (faults.Behind (lce_of c l) (next_told c l)) x (sym (h ∙ sym t.0)))
-granted_close c l k y x false true true a b d h = let t = ends_close (unarmed c) l k y true a b d in absurd (not_granted faults.Full x (sym (h ∙ sym t.0)))
-granted_close c l k y x false true false a b d h = let s = ends_close c l k y false a b d in let t = ends_close (unarmed c) l k y false a b d in
-    arms_grant c x (closing c l k y) 29 faults.EpochLimit (λ r. next_told r l) (closed c l k y) (after_close c l k y) (after_close (unarmed c) l k y) s.0 s.1 (h ∙ sym t.0) (sym t.1)
+overtaken_at : (r : Register) (l k : ℕ) (y : Summary) (short : Bool) → is_crowded r l ≡ false → (lce_of r l + 1 == k) ≡ true → is_overtaken (epochs_of r l) y short ≡ true
+    → (failure (Option Spec) (faults.Overtaken (epochs_of r l).epoch) ≡ closed r l k y short) × (after_close r l k y short ≡ r)
+overtaken_at r l k y short a b o = closed_by r l k y short (to r (Overtaken (epochs_of r l).epoch)) (is_full r 30) a (close_at r l k y short true true b o) refl
 
-pub arms_close : (l e : ℕ) (y : Summary) → Arms (λ c. closed c l e y) (λ c. after_close c l e y)
-arms_close l k y = record {
-  refused = λ c e h. refused_close c l k y e (is_crowded c l) (lce_of c l + 1 == k) (is_full c 29) refl refl refl h;
-  granted = λ c x h. granted_close c l k y x (is_crowded c l) (lce_of c l + 1 == k) (is_full c 29) refl refl refl h;
+refused_close : (c : Register) (l k : ℕ) (y : Summary) (short : Bool) (e : RegisterFault) (crowded next late full : Bool) → is_crowded c l ≡ crowded → (lce_of c l + 1 == k) ≡ next → is_overtaken (epochs_of c l) y short ≡ late → is_full c 30 ≡ full
+    → failure (Option Spec) e ≡ closed (unarmed c) l k y short → (failure (Option Spec) e ≡ closed c l k y short) × (after_close c l k y short ≡ c)
+refused_close c l k y short e true next late full a b o d h = let s = crowded_close c l k y short a in let t = crowded_close (unarmed c) l k y short a in ((h ∙ sym t.0) ∙ s.0, s.1)
+refused_close c l k y short e false false late full a b o d h = let s = behind_at c l k y short a b in let t = behind_at (unarmed c) l k y short a b in ((h ∙ sym t.0) ∙ s.0, s.1)
+refused_close c l k y short e false true true full a b o d h = let s = overtaken_at c l k y short a b o in let t = overtaken_at (unarmed c) l k y short a b o in ((h ∙ sym t.0) ∙ s.0, s.1)
+refused_close c l k y short e false true false true a b o d h = let s = ends_close c l k y short true a b o d in let t = ends_close (unarmed c) l k y short true a b o d in ((h ∙ sym t.0) ∙ s.0, s.1)
+refused_close c l k y short e false true false false a b o d h = let t = ends_close (unarmed c) l k y short false a b o d in absurd (not_granted e _ (h ∙ sym t.0))
+
+granted_close : (c : Register) (l k : ℕ) (y : Summary) (short : Bool) (x : Option Spec) (crowded next late full : Bool) → is_crowded c l ≡ crowded → (lce_of c l + 1 == k) ≡ next → is_overtaken (epochs_of c l) y short ≡ late → is_full c 30 ≡ full
+    → granting x ≡ closed (unarmed c) l k y short → ((if falls c.armed then failure (Option Spec) faults.Failed else granting x) ≡ closed c l k y short) × (after_close c l k y short ≡ with_armed (if is_made c.armed then after_close (unarmed c) l k y short else c) (armed_after c.armed))
+granted_close c l k y short x true next late full a b o d h = let t = crowded_close (unarmed c) l k y short a in absurd (not_granted faults.LogLimit x (sym (h ∙ sym t.0)))
+granted_close c l k y short x false false late full a b o d h = let t = behind_at (unarmed c) l k y short a b in absurd (not_granted (faults.Behind (lce_of c l) (next_told c l)) x (sym (h ∙ sym t.0)))
+granted_close c l k y short x false true true full a b o d h = let t = overtaken_at (unarmed c) l k y short a b o in absurd (not_granted (faults.Overtaken (epochs_of c l).epoch) x (sym (h ∙ sym t.0)))
+granted_close c l k y short x false true false true a b o d h = let t = ends_close (unarmed c) l k y short true a b o d in absurd (not_granted faults.Full x (sym (h ∙ sym t.0)))
+granted_close c l k y short x false true false false a b o d h = let s = ends_close c l k y short false a b o d in let t = ends_close (unarmed c) l k y short false a b o d in
+    arms_grant c x (closing c l k y) 30 faults.EpochLimit (λ r. next_told r l) (closed c l k y short) (after_close c l k y short) (after_close (unarmed c) l k y short) s.0 s.1 (h ∙ sym t.0) (sym t.1)
+
+pub arms_close : (l e : ℕ) (y : Summary) (short : Bool) → Arms (λ c. closed c l e y short) (λ c. after_close c l e y short)
+arms_close l k y short = record {
+  refused = λ c e h. refused_close c l k y short e (is_crowded c l) (lce_of c l + 1 == k) (is_overtaken (epochs_of c l) y short) (is_full c 30) refl refl refl refl h;
+  granted = λ c x h. granted_close c l k y short x (is_crowded c l) (lce_of c l + 1 == k) (is_overtaken (epochs_of c l) y short) (is_full c 30) refl refl refl refl h;
 }
 
 -- ---- a draw ----

@@ -1,7 +1,8 @@
 -- The bytes of a change, taken apart.
-use Rattle.std.proofs.Common.{◌≡◌, ◌≤◌, ◌<◌, ◌+◌, ◌-◌, ◌^◌, ℕ, Bool, List, [], ◌∷◌, ◌++◌, length, get_or, take, drop, refl, ap, sym, ◌∙◌, subst, arith, take-append-drop, length-drop}
+use Rattle.std.proofs.Common.{◌≡◌, ◌≤◌, ◌<◌, ◌+◌, ◌-◌, ◌^◌, ◌==◌, ℕ, Bool, true, false, List, [], ◌∷◌, ◌++◌, length, get_or, take, drop, refl, ap, sym, ◌∙◌, subst, arith, take-append-drop, length-drop}
 use Rattle.std.proofs.lemmas.Nat.{from_be_bytes-to_be_bytes_2, from_be_bytes-to_be_bytes_4, from_be_bytes-to_be_bytes_8}
 use Rattle.std.proofs.lemmas.Grind.{common_steps}
+use Rattle.std.proofs.lemmas.Bool.Decides.{nat_tests}
 use Rattle.std.proofs.lemmas.List.{drop_more, drop_all}
 use Rattle.std.specs.Int.{w16, w32, w64, to_be_bytes, from_be_bytes}
 use Rattle.ld_ids.specs.Id.{IsLog, IsNode}
@@ -9,10 +10,10 @@ use Rattle.ld_ids.specs.Set.{IsSet, set_bits, bits_set, bits_flags}
 use Rattle.ld_ids.specs.declared.set.Spec.{Spec}
 use Rattle.ld_ids.proofs.Bits.{bits_small, set_again}
 use Rattle.ld_msg.specs.declared.msg.Summary.{Summary}
-use Rattle.ld_msg.specs.Bounds.{IsLng, IsEpoch}
+use Rattle.ld_msg.specs.Bounds.{IsLng, IsEpoch, IsSummary}
 use Rattle.ld_register.specs.Bounds.{IsSpec}
 use Rattle.ld_register.specs.declared.change.Change.TheVariants as changes
-use Rattle.ld_register.specs.Changes.{change_bytes, IsNoBody}
+use Rattle.ld_register.specs.Changes.{change_bytes, closing_bytes, flag, IsNoBody}
 
 -- two numbers of so many bytes with the same bytes
 pub same_half : (m n : ℕ) → m < 2 ^ 16 → n < 2 ^ 16 → to_be_bytes w16 m ≡ to_be_bytes w16 n → m ≡ n
@@ -81,6 +82,7 @@ no_activation bs e s len are fl fe set none (changes.Activate f t) i is =
     none (subst IsEpoch (sym same.0) i.0) (subst IsSpec (sym same.1) i.1)
 no_activation bs e s len are fl fe set none (changes.Unfixed m f) i is = omega (arith, len, ap length is)
 no_activation bs e s len are fl fe set none (changes.Close m f y) i is = omega (arith, len, ap length is)
+no_activation bs e s len are fl fe set none (changes.Lossless m f y) i is = omega (arith, len, ap length is)
 no_activation bs e s len are fl fe set none (changes.Draw n g) i is = omega (arith, len, ap length is)
 
 -- ---- an activation that fixes nothing ----
@@ -98,31 +100,85 @@ no_unfixed bs l e len fl fe le ee none (changes.Unfixed m f) i is =
     none (subst IsLog (sym a) i.0) (subst IsEpoch (sym b) i.1)
 no_unfixed bs l e len fl fe le ee none (changes.Activate f s) i is = omega (arith, len, ap length is)
 no_unfixed bs l e len fl fe le ee none (changes.Close m f y) i is = omega (arith, len, ap length is)
+no_unfixed bs l e len fl fe le ee none (changes.Lossless m f y) i is = omega (arith, len, ap length is)
 no_unfixed bs l e len fl fe le ee none (changes.Draw n g) i is = omega (arith, len, ap length is)
 
 -- ---- a close ----
 
-pub close_is : (bs : List ℕ) (l e : ℕ) (y : Summary) → length bs ≡ 29 → get_or bs 0 0 ≡ 17 → to_be_bytes w32 l ≡ take 4 (drop 1 bs) → to_be_bytes w32 e ≡ take 4 (drop 5 bs)
+-- behind the first byte of a close
+pub closing_is : (bs : List ℕ) (l e : ℕ) (y : Summary) → 29 ≤ length bs → to_be_bytes w32 l ≡ take 4 (drop 1 bs) → to_be_bytes w32 e ≡ take 4 (drop 5 bs)
     → to_be_bytes w32 y.ballot ≡ take 4 (drop 9 bs) → to_be_bytes w32 y.lng ≡ take 4 (drop 13 bs) → to_be_bytes w64 y.trim ≡ take 8 (drop 17 bs) → to_be_bytes w32 y.end ≡ take 4 (drop 25 bs)
-    → bs ≡ change_bytes (changes.Close l e y)
-unfolding change_bytes
-close_is bs l e y len kind le ee be ge te de =
-    first_of bs (omega arith) ∙ (ap (λ k. k ∷ drop 1 bs) kind ∙ ap (λ t. 17 ∷ t)
-    (step bs 1 4 (to_be_bytes w32 l) le (step bs 5 4 (to_be_bytes w32 e) ee (step bs 9 4 (to_be_bytes w32 y.ballot) be (step bs 13 4 (to_be_bytes w32 y.lng) ge (step bs 17 8 (to_be_bytes w64 y.trim) te (last 4 25 bs len ∙ sym de)))))))
+    → bs ≡ get_or bs 0 0 ∷ (closing_bytes l e y ++ drop 29 bs)
+closing_is bs l e y len le ee be ge te de =
+    first_of bs (omega arith) ∙ ap (λ t. get_or bs 0 0 ∷ t)
+    (step bs 1 4 (to_be_bytes w32 l) le (step bs 5 4 (to_be_bytes w32 e) ee (step bs 9 4 (to_be_bytes w32 y.ballot) be (step bs 13 4 (to_be_bytes w32 y.lng) ge (step bs 17 8 (to_be_bytes w64 y.trim) te (step bs 25 4 (to_be_bytes w32 y.end) de refl))))))
 
-pub no_close : (bs : List ℕ) (l e : ℕ) (y : Summary) → length bs ≡ 29 → l < 2 ^ 32 → e < 2 ^ 32 → y.ballot < 2 ^ 32 → y.lng < 2 ^ 32 → y.end < 2 ^ 32 → to_be_bytes w32 l ≡ take 4 (drop 1 bs) → to_be_bytes w32 e ≡ take 4 (drop 5 bs)
-    → to_be_bytes w32 y.ballot ≡ take 4 (drop 9 bs) → to_be_bytes w32 y.lng ≡ take 4 (drop 13 bs) → to_be_bytes w32 y.end ≡ take 4 (drop 25 bs) → (IsLog l → IsEpoch e → e < y.ballot → y.ballot ≤ 2 ^ 32 - 2 → IsLng y.lng → 1 ≤ y.end → ⊥) → IsNoBody bs
+pub no_closing : (bs : List ℕ) (l e : ℕ) (y : Summary) → l < 2 ^ 32 → e < 2 ^ 32 → y.ballot < 2 ^ 32 → y.lng < 2 ^ 32 → y.end < 2 ^ 32 → to_be_bytes w32 l ≡ take 4 (drop 1 bs) → to_be_bytes w32 e ≡ take 4 (drop 5 bs)
+    → to_be_bytes w32 y.ballot ≡ take 4 (drop 9 bs) → to_be_bytes w32 y.lng ≡ take 4 (drop 13 bs) → to_be_bytes w32 y.end ≡ take 4 (drop 25 bs) → (IsLog l → IsEpoch e → e < y.ballot → y.ballot ≤ 2 ^ 32 - 2 → IsLng y.lng → 1 ≤ y.end → ⊥)
+    → (m f : ℕ) (z : Summary) → IsLog m → IsEpoch f → IsSummary f z → bs ≡ get_or bs 0 0 ∷ (closing_bytes m f z ++ drop 29 bs) → ⊥
+no_closing bs l e y fl fe fb fg fd le ee be ge de none m f z i j k is =
+    let a : l ≡ m = (let q = i.1 in same_word l m fl (omega arith) (le ∙ ap (λ b. take 4 (drop 1 b)) is)) in
+    let b : e ≡ f = (let q = j.1 in same_word e f fe (omega arith) (ee ∙ ap (λ b. take 4 (drop 5 b)) is)) in
+    let c : y.ballot ≡ z.ballot = (let q = k.ballot_most in same_word y.ballot z.ballot fb (omega arith) (be ∙ ap (λ b. take 4 (drop 9 b)) is)) in
+    let g : y.lng ≡ z.lng = (let q = k.lng in same_word y.lng z.lng fg (omega arith) (ge ∙ ap (λ b. take 4 (drop 13 b)) is)) in
+    let d : y.end ≡ z.end = (let q = k.end_most in same_word y.end z.end fd (omega arith) (de ∙ ap (λ b. take 4 (drop 25 b)) is)) in
+    none (subst IsLog (sym a) i) (subst IsEpoch (sym b) j) (let q = k.ballot in omega arith) (let q = k.ballot_most in omega arith) (let q = k.lng in omega arith) (let q = k.end in omega arith)
+
+-- no log, epoch and summary stand behind the first byte
+abbrev IsNoClosing : List ℕ → Type 0
+IsNoClosing bs = (l e : ℕ) (y : Summary) → IsLog l → IsEpoch e → IsSummary e y → bs ≡ get_or bs 0 0 ∷ (closing_bytes l e y ++ drop 29 bs) → ⊥
+
+last_left : (bs : List ℕ) → length bs ≡ 30 → drop 29 bs ≡ get_or bs 29 0 ∷ []
+last_left bs h = drop_more bs 29 0 (omega arith) ∙ ap (λ t. get_or bs 29 0 ∷ t) (drop_all 30 bs (omega arith))
+
+pub close_is : (bs : List ℕ) (l e : ℕ) (y : Summary) → length bs ≡ 30 → get_or bs 0 0 ≡ 20 → flag y.loss ≡ get_or bs 29 0 → bs ≡ get_or bs 0 0 ∷ (closing_bytes l e y ++ drop 29 bs) → bs ≡ change_bytes (changes.Close l e y)
 unfolding change_bytes
-no_close bs l e y len fl fe fb fg fd le ee be ge de none (changes.Activate f s) i is = omega (arith, len, ap length is)
-no_close bs l e y len fl fe fb fg fd le ee be ge de none (changes.Unfixed m f) i is = omega (arith, len, ap length is)
-no_close bs l e y len fl fe fb fg fd le ee be ge de none (changes.Close m f z) i is =
-    let a : l ≡ m = (let j = i.0.1 in same_word l m fl (omega arith) (le ∙ ap (λ b. take 4 (drop 1 b)) is)) in
-    let b : e ≡ f = (let j = i.1.1 in same_word e f fe (omega arith) (ee ∙ ap (λ b. take 4 (drop 5 b)) is)) in
-    let c : y.ballot ≡ z.ballot = (let j = i.2.ballot_most in same_word y.ballot z.ballot fb (omega arith) (be ∙ ap (λ b. take 4 (drop 9 b)) is)) in
-    let g : y.lng ≡ z.lng = (let j = i.2.lng in same_word y.lng z.lng fg (omega arith) (ge ∙ ap (λ b. take 4 (drop 13 b)) is)) in
-    let d : y.end ≡ z.end = (let j = i.2.end_most in same_word y.end z.end fd (omega arith) (de ∙ ap (λ b. take 4 (drop 25 b)) is)) in
-    none (subst IsLog (sym a) i.0) (subst IsEpoch (sym b) i.1) (let j = i.2.ballot in omega arith) (let j = i.2.ballot_most in omega arith) (let j = i.2.lng in omega arith) (let j = i.2.end in omega arith)
-no_close bs l e y len fl fe fb fg fd le ee be ge de none (changes.Draw n g) i is = omega (arith, len, ap length is)
+close_is bs l e y len kind fe is = is ∙ (ap (λ k. k ∷ (closing_bytes l e y ++ drop 29 bs)) kind ∙ ap (λ t. 20 ∷ (closing_bytes l e y ++ t)) (last_left bs len ∙ ap (λ k. k ∷ []) (sym fe)))
+
+-- the byte of a flag
+pub flag_of : (n : ℕ) (b : Bool) → b ≡ (n == 1) → n ≤ 1 → flag b ≡ n
+flag_of n b h small = ap flag h ∙ grind (arith, nat_tests)
+
+flag_small : (b : Bool) → flag b ≤ 1
+flag_small true = omega arith
+flag_small false = omega arith
+
+pub same_flag : (a b : Bool) → flag a ≡ flag b → a ≡ b
+same_flag true true h = refl
+same_flag false false h = refl
+same_flag true false h = absurd (omega (arith, h))
+same_flag false true h = absurd (omega (arith, h))
+
+pub no_close : (bs : List ℕ) → length bs ≡ 30 → IsNoClosing bs → IsNoBody bs
+unfolding change_bytes
+no_close bs len none (changes.Activate f s) i is = omega (arith, len, ap length is)
+no_close bs len none (changes.Unfixed m f) i is = omega (arith, len, ap length is)
+no_close bs len none (changes.Close m f z) i is = none m f z i.0 i.1 i.2 (is ∙ ap (λ b. get_or b 0 0 ∷ (closing_bytes m f z ++ drop 29 b)) (sym is))
+no_close bs len none (changes.Lossless m f z) i is = omega (arith, len, ap length is)
+no_close bs len none (changes.Draw n g) i is = omega (arith, len, ap length is)
+
+-- the last byte is no flag
+pub no_flag : (bs : List ℕ) → length bs ≡ 30 → 1 < get_or bs 29 0 → IsNoBody bs
+unfolding change_bytes
+no_flag bs len big (changes.Activate f s) i is = omega (arith, len, ap length is)
+no_flag bs len big (changes.Unfixed m f) i is = omega (arith, len, ap length is)
+no_flag bs len big (changes.Close m f z) i is = (let h : get_or bs 29 0 ≡ flag z.loss = ap (λ b. get_or b 29 0) is in let k = flag_small z.loss in omega arith)
+no_flag bs len big (changes.Lossless m f z) i is = omega (arith, len, ap length is)
+no_flag bs len big (changes.Draw n g) i is = omega (arith, len, ap length is)
+
+-- ---- a close that says nothing of a loss ----
+
+pub lossless_is : (bs : List ℕ) (l e : ℕ) (y : Summary) → length bs ≡ 29 → get_or bs 0 0 ≡ 17 → bs ≡ get_or bs 0 0 ∷ (closing_bytes l e y ++ drop 29 bs) → bs ≡ change_bytes (changes.Lossless l e y)
+unfolding change_bytes
+lossless_is bs l e y len kind is = is ∙ (ap (λ k. k ∷ (closing_bytes l e y ++ drop 29 bs)) kind ∙ ap (λ t. 17 ∷ (closing_bytes l e y ++ t)) (drop_all 29 bs (omega arith)))
+
+pub no_lossless : (bs : List ℕ) → length bs ≡ 29 → IsNoClosing bs → IsNoBody bs
+unfolding change_bytes
+no_lossless bs len none (changes.Activate f s) i is = omega (arith, len, ap length is)
+no_lossless bs len none (changes.Unfixed m f) i is = omega (arith, len, ap length is)
+no_lossless bs len none (changes.Close m f z) i is = omega (arith, len, ap length is)
+no_lossless bs len none (changes.Lossless m f z) i is = none m f z i.0 i.1 i.2 (is ∙ ap (λ b. get_or b 0 0 ∷ (closing_bytes m f z ++ drop 29 b)) (sym is))
+no_lossless bs len none (changes.Draw n g) i is = omega (arith, len, ap length is)
 
 -- ---- a draw ----
 
@@ -141,12 +197,14 @@ unfolding change_bytes
 no_draw bs len none (changes.Activate f s) i is = omega (arith, len, ap length is)
 no_draw bs len none (changes.Unfixed m f) i is = omega (arith, len, ap length is)
 no_draw bs len none (changes.Close m f y) i is = omega (arith, len, ap length is)
+no_draw bs len none (changes.Lossless m f y) i is = omega (arith, len, ap length is)
 no_draw bs len none (changes.Draw n g) i is = none (subst IsNode (sym (ap (λ b. get_or b 1 0) is)) i.0)
 
 -- a body of another length or another first byte
-pub no_change : (bs : List ℕ) → (length bs ≡ 13 → get_or bs 0 0 ≡ 19 → ⊥) → (length bs ≡ 9 → get_or bs 0 0 ≡ 16 → ⊥) → (length bs ≡ 29 → get_or bs 0 0 ≡ 17 → ⊥) → (length bs ≡ 6 → get_or bs 0 0 ≡ 18 → ⊥) → IsNoBody bs
+pub no_change : (bs : List ℕ) → (length bs ≡ 13 → get_or bs 0 0 ≡ 19 → ⊥) → (length bs ≡ 9 → get_or bs 0 0 ≡ 16 → ⊥) → (length bs ≡ 30 → get_or bs 0 0 ≡ 20 → ⊥) → (length bs ≡ 29 → get_or bs 0 0 ≡ 17 → ⊥) → (length bs ≡ 6 → get_or bs 0 0 ≡ 18 → ⊥) → IsNoBody bs
 unfolding change_bytes
-no_change bs a u b c (changes.Activate f s) i is = a (ap length is) (ap (λ b. get_or b 0 0) is)
-no_change bs a u b c (changes.Unfixed m f) i is = u (ap length is) (ap (λ b. get_or b 0 0) is)
-no_change bs a u b c (changes.Close m f y) i is = b (ap length is) (ap (λ b. get_or b 0 0) is)
-no_change bs a u b c (changes.Draw n g) i is = c (ap length is) (ap (λ b. get_or b 0 0) is)
+no_change bs a u b o c (changes.Activate f s) i is = a (ap length is) (ap (λ b. get_or b 0 0) is)
+no_change bs a u b o c (changes.Unfixed m f) i is = u (ap length is) (ap (λ b. get_or b 0 0) is)
+no_change bs a u b o c (changes.Close m f y) i is = b (ap length is) (ap (λ b. get_or b 0 0) is)
+no_change bs a u b o c (changes.Lossless m f y) i is = o (ap length is) (ap (λ b. get_or b 0 0) is)
+no_change bs a u b o c (changes.Draw n g) i is = c (ap length is) (ap (λ b. get_or b 0 0) is)

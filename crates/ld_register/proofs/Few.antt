@@ -11,11 +11,6 @@ use Rattle.ld_table.specs.Words.{how_many}
 use Rattle.ld_table.proofs.Order.{Ordered-put}
 use Rattle.ld_op.proofs.There.{Ordered-map_values}
 use Rattle.ld_msg.specs.Register.{Epochs, epochs_in, is_crowded, log_limit}
-use Rattle.ld_ids.specs.declared.set.Spec.{Spec}
-use Rattle.ld_msg.specs.declared.msg.Summary.{Summary}
-use Rattle.ld_register.specs.declared.change.Change.{Change}
-use Rattle.ld_register.specs.declared.change.Change.TheVariants as changes
-use Rattle.ld_register.specs.Changes.{is_next}
 use Rattle.ld_register.specs.Kept.{Kept, register_of, shown_log, shown_logs, is_held, AreLogs, AreFewLogs}
 use Rattle.ld_register.proofs.Tables.{Ordered-passing}
 
@@ -80,14 +75,8 @@ off : (t b : Bool) → (not t && b) ≡ true → t ≡ false
 off true b h = absurd cc
 off false b h = refl
 
-pub activate_few : (k : Kept) (m : List (ℕ × Epochs)) (g : List (ℕ × ℕ)) (x : Change) (e : ℕ) (s : Spec) → record { logs = m; generations = g } ≡ k → x ≡ changes.Activate e s → is_next (register_of k 0) x ≡ true → how_many (λ i. not (i.0 == s.log)) (shown_logs m) < 64
-activate_few k m g x e s v i h = subst (λ n. how_many (λ j. not (j.0 == s.log)) (shown_logs n) < 64) (sym (ap (λ (n : Kept). n.logs) v)) (leb-false log_limit _ (off (is_crowded (register_of k 0) s.log) _ (subst (λ y. is_next (register_of k 0) y ≡ true) i h)))
-
-pub unfixed_few : (k : Kept) (m : List (ℕ × Epochs)) (g : List (ℕ × ℕ)) (x : Change) (l e : ℕ) → record { logs = m; generations = g } ≡ k → x ≡ changes.Unfixed l e → is_next (register_of k 0) x ≡ true → how_many (λ i. not (i.0 == l)) (shown_logs m) < 64
-unfixed_few k m g x l e v i h = subst (λ n. how_many (λ j. not (j.0 == l)) (shown_logs n) < 64) (sym (ap (λ (n : Kept). n.logs) v)) (leb-false log_limit _ (off (is_crowded (register_of k 0) l) _ (subst (λ y. is_next (register_of k 0) y ≡ true) i h)))
-
-pub close_few : (k : Kept) (m : List (ℕ × Epochs)) (g : List (ℕ × ℕ)) (x : Change) (l e : ℕ) (y : Summary) → record { logs = m; generations = g } ≡ k → x ≡ changes.Close l e y → is_next (register_of k 0) x ≡ true → how_many (λ i. not (i.0 == l)) (shown_logs m) < 64
-close_few k m g x l e y v i h = subst (λ n. how_many (λ j. not (j.0 == l)) (shown_logs n) < 64) (sym (ap (λ (n : Kept). n.logs) v)) (leb-false log_limit _ (off (is_crowded (register_of k 0) l) _ (subst (λ z. is_next (register_of k 0) z ≡ true) i h)))
+pub few_others : (k : Kept) (m : List (ℕ × Epochs)) (g : List (ℕ × ℕ)) (l : ℕ) (b : Bool) → record { logs = m; generations = g } ≡ k → (not (is_crowded (register_of k 0) l) && b) ≡ true → how_many (λ i. not (i.0 == l)) (shown_logs m) < 64
+few_others k m g l b v h = subst (λ n. how_many (λ j. not (j.0 == l)) (shown_logs n) < 64) (sym (ap (λ (n : Kept). n.logs) v)) (leb-false log_limit _ (off (is_crowded (register_of k 0) l) b h))
 
 active_by : (b : Bool) (e : ℕ × ℕ) (es : List (ℕ × ℕ)) (n : ℕ) → length es ≤ n → length (if b then es else e ∷ es) ≤ suc n
 active_by true e es n h = omega arith

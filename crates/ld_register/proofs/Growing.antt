@@ -1,12 +1,12 @@
 -- Over any list of calls, failed ones among them, numbers that were handed out don't fall, and what is closed stays.
-use Rattle.std.proofs.Common.{◌≡◌, ◌∙◌, ◌≤◌, ◌<◌, ◌⊎◌, ◌+◌, ℕ, inl, inr, refl, ap, sym, subst, Bool, true, false, cond, ◌==◌, ◌&&◌, nat_lt, nat_le, Option, Some, None, List, [], ◌∷◌, ◌++◌, Result, Ok, Err, arith}
+use Rattle.std.proofs.Common.{◌≡◌, ◌∙◌, ◌≤◌, ◌<◌, ◌⊎◌, ◌+◌, ℕ, inl, inr, refl, ap, sym, subst, Bool, true, false, not, cond, ◌==◌, ◌&&◌, nat_lt, nat_le, Option, Some, None, List, [], ◌∷◌, ◌++◌, Result, Ok, Err, arith}
 use Rattle.std.specs.Option.{unwrap_or}
 use Rattle.std.proofs.lemmas.Bool.{eqb-true, leb-true, le-leb, or_parts}
 use Rattle.ld_table.specs.Table.{find, put}
 use Rattle.ld_table.proofs.Laws.{put_cases, find-put_same, find-put_other}
 use Rattle.ld_ids.specs.declared.set.Spec.{Spec}
 use Rattle.ld_msg.specs.declared.msg.Summary.{Summary}
-use Rattle.ld_msg.specs.Register.{Register, Epochs, Armed, Changed, Answer, Granted, AtLimit, Behind, Fails, activate, close, draw, change, made, unmade, is_made, falls, journal_limit, record_length, epochs_of, no_epochs, generation_of, lce_of, with_epochs, next_epoch, closed_epochs, epoch_limit, generation_limit, is_crowded, summary_shown}
+use Rattle.ld_msg.specs.Register.{Register, Epochs, Armed, Changed, Answer, Granted, AtLimit, Behind, Overtaken, Fails, is_overtaken, activate, close, draw, change, made, unmade, is_made, falls, journal_limit, record_length, epochs_of, no_epochs, generation_of, lce_of, with_epochs, next_epoch, closed_epochs, epoch_limit, generation_limit, is_crowded, summary_shown}
 use Rattle.ld_register.specs.declared.fault.RegisterFault.{RegisterFault}
 use Rattle.ld_register.specs.declared.fault.RegisterFault.TheVariants as faults
 use Rattle.ld_register.specs.declared.register.Grant.{Grant}
@@ -142,6 +142,7 @@ ended_ok : {T : Type 0} (a : Answer) (full : Bool) (limit : RegisterFault) (v g 
 ended_ok Granted full limit v g h = (refl, cc)
 ended_ok AtLimit full limit v g h = absurd cc
 ended_ok (Behind lce) full limit v g h = absurd cc
+ended_ok (Overtaken epoch) full limit v g h = absurd cc
 ended_ok Fails true limit v g h = absurd cc
 ended_ok Fails false limit v g h = absurd cc
 
@@ -172,6 +173,10 @@ activated_ok r s g h = activated_by r s g (is_crowded r s.log) refl h
 
 -- ---- a close ----
 
+not_not : (b : Bool) → not b ≡ false → b ≡ true
+not_not true h = refl
+not_not false h = absurd cc
+
 close_log : (v : Epochs) (e : ℕ) (y : Summary) → v.lce + 1 ≡ e → LogGrows v (closed_epochs v e y)
 close_log v e y h = record {
   epoch = omega arith;
@@ -180,18 +185,20 @@ close_log v e y h = record {
   summaries = λ k b. elim (put_cases k e y v.summaries) [ inl a ↦ absurd (let z = a.0 in omega arith) | inr a ↦ a.1 ];
 }
 
-close_grows : (r : Register) (l e : ℕ) (y : Summary) → Grows r (close r l e y).register
+close_grows : (r : Register) (l e : ℕ) (y : Summary) (short : Bool) → Grows r (close r l e y short).register
 unfolding close
-close_grows r l e y = by_test (lce_of r l + 1 == e) _ _ (λ (d : Changed). Grows r d.register)
-    (λ t. change_grows r (with_epochs r l (closed_epochs (epochs_of r l) e y)) 29 (λ m s. log_grows r m l (closed_epochs (epochs_of r l) e y) (close_log (epochs_of r l) e y (eqb-true _ _ t)) s)) (λ t. stays r)
+close_grows r l e y short = by_test (not (lce_of r l + 1 == e)) _ _ (λ (d : Changed). Grows r d.register) (λ t. stays r) (λ t.
+    by_test (is_overtaken (epochs_of r l) y short) _ _ (λ (d : Changed). Grows r d.register) (λ o. stays r) (λ o.
+    change_grows r (with_epochs r l (closed_epochs (epochs_of r l) e y)) 30 (λ m s. log_grows r m l (closed_epochs (epochs_of r l) e y) (close_log (epochs_of r l) e y (eqb-true _ _ (not_not _ t))) s)))
 
-pub after_close_grows : (r : Register) (l e : ℕ) (y : Summary) → Grows r (after_close r l e y)
-after_close_grows r l e y = by_test (is_crowded r l) r (close r l e y).register (λ d. Grows r d) (λ t. stays r) (λ t. close_grows r l e y)
+pub after_close_grows : (r : Register) (l e : ℕ) (y : Summary) (short : Bool) → Grows r (after_close r l e y short)
+after_close_grows r l e y short = by_test (is_crowded r l) r (close r l e y short).register (λ d. Grows r d) (λ t. stays r) (λ t. close_grows r l e y short)
 
-close_granted : (r : Register) (l e : ℕ) (y : Summary) → (close r l e y).answer ≡ Granted → (lce_of r l + 1 ≡ e) × Same (with_epochs r l (closed_epochs (epochs_of r l) e y)) (close r l e y).register
+close_granted : (r : Register) (l e : ℕ) (y : Summary) (short : Bool) → (close r l e y short).answer ≡ Granted → (lce_of r l + 1 ≡ e) × Same (with_epochs r l (closed_epochs (epochs_of r l) e y)) (close r l e y short).register
 unfolding close
-close_granted r l e y = by_test (lce_of r l + 1 == e) _ _ (λ (d : Changed). d.answer ≡ Granted → (lce_of r l + 1 ≡ e) × Same (with_epochs r l (closed_epochs (epochs_of r l) e y)) d.register)
-    (λ t h. (eqb-true _ _ t, change_granted r (with_epochs r l (closed_epochs (epochs_of r l) e y)) 29 h)) (λ t h. absurd cc)
+close_granted r l e y short = by_test (not (lce_of r l + 1 == e)) _ _ (λ (d : Changed). d.answer ≡ Granted → (lce_of r l + 1 ≡ e) × Same (with_epochs r l (closed_epochs (epochs_of r l) e y)) d.register) (λ t h. absurd cc) (λ t.
+    by_test (is_overtaken (epochs_of r l) y short) _ _ (λ (d : Changed). d.answer ≡ Granted → (lce_of r l + 1 ≡ e) × Same (with_epochs r l (closed_epochs (epochs_of r l) e y)) d.register) (λ o h. absurd cc) (λ o h.
+    (eqb-true _ _ (not_not _ t), change_granted r (with_epochs r l (closed_epochs (epochs_of r l) e y)) 30 h)))
 
 -- a log whose epoch is closed with a summary
 abbrev IsClosed : Register → ℕ → ℕ → Summary → Type 0
@@ -201,21 +208,22 @@ close_ended_ok : (a : Answer) (full : Bool) (before after g : Option Spec) → O
 close_ended_ok Granted full before after g h = refl
 close_ended_ok AtLimit full before after g h = absurd cc
 close_ended_ok (Behind lce) full before after g h = absurd cc
+close_ended_ok (Overtaken epoch) full before after g h = absurd cc
 close_ended_ok Fails true before after g h = absurd cc
 close_ended_ok Fails false before after g h = absurd cc
 
-closed_by : (r : Register) (l e : ℕ) (y : Summary) (g : Option Spec) (b : Bool) → is_crowded r l ≡ b → Ok g ≡ (cond b (Err faults.LogLimit) (close_ended (close r l e y).answer (is_full r 29) (next_told r l) (next_told (after_close r l e y) l))) → IsClosed (after_close r l e y) l e y
-closed_by r l e y g true c h = absurd cc
-closed_by r l e y g false c h =
-    let s = close_granted r l e y (close_ended_ok (close r l e y).answer (is_full r 29) (next_told r l) (next_told (after_close r l e y) l) g h) in
-    let after : after_close r l e y ≡ (close r l e y).register = ap (λ b. cond b r (close r l e y).register) c in
-    let there : epochs_of (close r l e y).register l ≡ closed_epochs (epochs_of r l) e y = ap (λ m. unwrap_or (find l m) no_epochs) s.1.0 ∙ ap (λ o. unwrap_or o no_epochs) (find-put_same l l (closed_epochs (epochs_of r l) e y) r.logs refl) in
-    let lce : lce_of (close r l e y).register l ≡ e = ap (λ (x : Epochs). x.lce) there in
+closed_by : (r : Register) (l e : ℕ) (y : Summary) (short : Bool) (g : Option Spec) (b : Bool) → is_crowded r l ≡ b → Ok g ≡ (cond b (Err faults.LogLimit) (close_ended (close r l e y short).answer (is_full r 30) (next_told r l) (next_told (after_close r l e y short) l))) → IsClosed (after_close r l e y short) l e y
+closed_by r l e y short g true c h = absurd cc
+closed_by r l e y short g false c h =
+    let s = close_granted r l e y short (close_ended_ok (close r l e y short).answer (is_full r 30) (next_told r l) (next_told (after_close r l e y short) l) g h) in
+    let after : after_close r l e y short ≡ (close r l e y short).register = ap (λ b. cond b r (close r l e y short).register) c in
+    let there : epochs_of (close r l e y short).register l ≡ closed_epochs (epochs_of r l) e y = ap (λ m. unwrap_or (find l m) no_epochs) s.1.0 ∙ ap (λ o. unwrap_or o no_epochs) (find-put_same l l (closed_epochs (epochs_of r l) e y) r.logs refl) in
+    let lce : lce_of (close r l e y short).register l ≡ e = ap (λ (x : Epochs). x.lce) there in
     let z = s.0 in
     subst (λ d. IsClosed d l e y) (sym after) (omega arith, omega arith, ap (λ (x : Epochs). find e x.summaries) there ∙ find-put_same e e y (epochs_of r l).summaries refl)
 
-closed_ok : (r : Register) (l e : ℕ) (y : Summary) (g : Option Spec) → Ok g ≡ closed r l e y → IsClosed (after_close r l e y) l e y
-closed_ok r l e y g h = closed_by r l e y g (is_crowded r l) refl h
+closed_ok : (r : Register) (l e : ℕ) (y : Summary) (short : Bool) (g : Option Spec) → Ok g ≡ closed r l e y short → IsClosed (after_close r l e y short) l e y
+closed_ok r l e y short g h = closed_by r l e y short g (is_crowded r l) refl h
 
 -- ---- a draw ----
 
@@ -246,7 +254,7 @@ ends_grows result answer c a d g (inr p) = subst (λ x. Grows c x) (sym p.1) g
 
 call_grows : (c : Register) (x : Call) (d : Register) → Passes c x d → Grows c d
 call_grows c (Activates s o) d h = ends_grows o (activated c s) c (after_activate c s) d (after_activate_grows c s) h
-call_grows c (Closes l e y o) d h = ends_grows o (closed c l e y) c (after_close c l e y) d (after_close_grows c l e y) h
+call_grows c (Closes l e y short o) d h = ends_grows o (closed c l e y short) c (after_close c l e y short) d (after_close_grows c l e y short) h
 call_grows c (Draws n o) d h = ends_grows o (drawn c n) c (after_draw c n) d (after_draw_grows c n) h
 call_grows c (Looks l e o) d h = ends_grows o (Ok (looked c l e)) c c d (stays c) h
 
@@ -274,8 +282,8 @@ activates_ok c d s g h = let p = ends_ok g (activated c s) c (after_activate c s
 draws_ok : (c d : Register) (n : ℕ) (g : Drawn) → Passes c (Draws n (Ok g)) d → (generation_of d n ≡ g.gen_) × (generation_of c n + 1 ≡ g.gen_)
 draws_ok c d n g h = let p = ends_ok g (drawn c n) c (after_draw c n) d h in let a = drawn_ok c n g p.0 in (ap (λ x. generation_of x n) p.1 ∙ a.0, a.1)
 
-closes_ok : (c d : Register) (l e : ℕ) (y : Summary) (g : Option Spec) → Passes c (Closes l e y (Ok g)) d → IsClosed d l e y
-closes_ok c d l e y g h = let p = ends_ok g (closed c l e y) c (after_close c l e y) d h in subst (λ x. IsClosed x l e y) (sym p.1) (closed_ok c l e y g p.0)
+closes_ok : (c d : Register) (l e : ℕ) (y : Summary) (short : Bool) (g : Option Spec) → Passes c (Closes l e y short (Ok g)) d → IsClosed d l e y
+closes_ok c d l e y short g h = let p = ends_ok g (closed c l e y short) c (after_close c l e y short) d h in subst (λ x. IsClosed x l e y) (sym p.1) (closed_ok c l e y short g p.0)
 
 looks_ok : (c d : Register) (l e : ℕ) (v : View) → Passes c (Looks l e (Ok v)) d → (v ≡ looked c l e) × (d ≡ c)
 looks_ok c d l e v h = let p = ends_ok v (Ok (looked c l e)) c c d h in let q = p.0 in (cc, p.1)
@@ -322,11 +330,11 @@ pub summary_stays : (c d : Register) (calls : List Call) (l e : ℕ) (y : Summar
 summary_stays c d calls l e y r h = closed_shown d l e y (closed_on c d calls l e y r (shown_closed c l e y h))
 
 -- what a close that answered closed is shown by each later look
-pub close_is_shown : (c d : Register) (before between after : List Call) (l e : ℕ) (y : Summary) (n : Option Spec) (v : View) → Runs c (before ++ Closes l e y (Ok n) ∷ (between ++ Looks l e (Ok v) ∷ after)) d → v.summary ≡ Some y
-close_is_shown c d before between after l e y n v r =
-    let (a, first, (b, p, rest)) = runs_split c before (Closes l e y (Ok n) ∷ (between ++ Looks l e (Ok v) ∷ after)) d r in
+pub close_is_shown : (c d : Register) (before between after : List Call) (l e : ℕ) (y : Summary) (short : Bool) (n : Option Spec) (v : View) → Runs c (before ++ Closes l e y short (Ok n) ∷ (between ++ Looks l e (Ok v) ∷ after)) d → v.summary ≡ Some y
+close_is_shown c d before between after l e y short n v r =
+    let (a, first, (b, p, rest)) = runs_split c before (Closes l e y short (Ok n) ∷ (between ++ Looks l e (Ok v) ∷ after)) d r in
     let (i, middle, (f, q, last)) = runs_split b between (Looks l e (Ok v) ∷ after) d rest in
-    ap (λ (x : View). x.summary) (looks_ok i f l e v q).0 ∙ closed_shown i l e y (closed_on b i between l e y middle (closes_ok a b l e y n p))
+    ap (λ (x : View). x.summary) (looks_ok i f l e v q).0 ∙ closed_shown i l e y (closed_on b i between l e y middle (closes_ok a b l e y short n p))
 
 -- what is told of an epoch that is handed out is what is fixed for it
 fixed_told : (c : Register) (l e : ℕ) → 1 ≤ e → e ≤ (epochs_of c l).epoch → spec_told c l e ≡ find e (epochs_of c l).specs

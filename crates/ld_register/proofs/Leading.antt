@@ -1,28 +1,44 @@
 -- Rows of changes, and the contents that they lead to.
-use Rattle.std.proofs.Common.{◌≡◌, ◌<◌, ◌+◌, ◌^◌, inl, inr, ℕ, List, [], ◌∷◌, ◌++◌, Option, Some, length, get_or, take, drop, refl, ap, sym, ◌∙◌, subst, arith, length-append}
+use Rattle.std.proofs.Common.{◌≡◌, ◌<◌, ◌+◌, ◌^◌, inl, inr, ℕ, Bool, List, [], ◌∷◌, ◌++◌, Option, Some, length, get_or, take, drop, refl, ap, sym, ◌∙◌, subst, arith, length-append}
 use Rattle.std.proofs.lemmas.List.{drop_at}
 use Rattle.std.proofs.Math.Seq.{get_or-append_seam}
 use Rattle.ld_journal.proofs.Records.{records-push}
 use Rattle.ld_journal.specs.Open.{HasGiven, IsSettled}
 use Rattle.ld_journal.specs.declared.journal.Journal.{Journal}
 use Rattle.ld_journal.specs.Format.{framed, records, Fits, IsCutShort}
+use Rattle.ld_ids.specs.Id.{IsLog}
 use Rattle.ld_msg.specs.declared.msg.Summary.{Summary}
+use Rattle.ld_msg.specs.Bounds.{IsEpoch, IsSummary}
 use Rattle.ld_msg.specs.Register.{Register, empty_register, record_length}
 use Rattle.ld_register.specs.declared.change.Change.{Change}
 use Rattle.ld_register.specs.declared.change.Change.TheVariants as changes
-use Rattle.ld_register.specs.Changes.{change_bytes, IsChange, IsBody, IsNext, Leads, is_next, changed, body_length}
+use Rattle.ld_register.specs.Changes.{change_bytes, closing_bytes, IsChange, IsBody, IsNext, Leads, is_next, changed, body_length}
 use Rattle.ld_register.specs.Kept.{Kept, register_of}
 use Rattle.ld_register.specs.Stands.{IsDamaged, HasReplayed, IsReplayed}
-use Rattle.ld_register.proofs.Bytes.{same_word, same_long, same_activation}
+use Rattle.ld_register.proofs.Bytes.{same_word, same_long, same_flag, same_activation}
 
 -- ---- one change a body ----
 
 first_same : (a b : ℕ) (xs ys : List ℕ) → a ∷ xs ≡ b ∷ ys → (a ≡ b) × (xs ≡ ys)
 first_same a b xs ys e = (ap (λ l. get_or l 0 0) e, ap (λ l. drop 1 l) e)
 
-same_summary : (y z : Summary) → y.ballot ≡ z.ballot → y.lng ≡ z.lng → y.trim ≡ z.trim → y.end ≡ z.end → y ≡ z
-same_summary y z a b c d = ap (λ n. record { ballot = n; lng = y.lng; trim = y.trim; end = y.end }) a ∙ (ap (λ n. record { ballot = z.ballot; lng = n; trim = y.trim; end = y.end }) b
-    ∙ (ap (λ n. record { ballot = z.ballot; lng = z.lng; trim = n; end = y.end }) c ∙ ap (λ n. record { ballot = z.ballot; lng = z.lng; trim = z.trim; end = n }) d))
+same_summary : (y z : Summary) → y.ballot ≡ z.ballot → y.lng ≡ z.lng → y.trim ≡ z.trim → y.end ≡ z.end → y.loss ≡ z.loss → y ≡ z
+same_summary y z a b c d e = ap (λ n. record { ballot = n; lng = y.lng; trim = y.trim; end = y.end; loss = y.loss }) a ∙ (ap (λ n. record { ballot = z.ballot; lng = n; trim = y.trim; end = y.end; loss = y.loss }) b
+    ∙ (ap (λ n. record { ballot = z.ballot; lng = z.lng; trim = n; end = y.end; loss = y.loss }) c ∙ (ap (λ n. record { ballot = z.ballot; lng = z.lng; trim = z.trim; end = n; loss = y.loss }) d
+    ∙ ap (λ (b : Bool). record { ballot = z.ballot; lng = z.lng; trim = z.trim; end = z.end; loss = b }) e)))
+
+-- two closes with the same bytes, but for whether anything is lost
+same_closing : (l m e f : ℕ) (y z : Summary) → IsLog l → IsLog m → IsEpoch e → IsEpoch f → IsSummary e y → IsSummary f z → closing_bytes l e y ≡ closing_bytes m f z → y.loss ≡ z.loss → (l ≡ m) × (e ≡ f) × (y ≡ z)
+same_closing l m e f y z i j p q s t h loss = (
+  (let a = i.1 in let b = j.1 in same_word l m (omega arith) (omega arith) (ap (λ b. take 4 b) h)),
+  (let a = p.1 in let b = q.1 in same_word e f (omega arith) (omega arith) (ap (λ b. take 4 (drop 4 b)) h)),
+  same_summary y z
+      (let a = s.ballot_most in let b = t.ballot_most in same_word y.ballot z.ballot (omega arith) (omega arith) (ap (λ b. take 4 (drop 8 b)) h))
+      (let a = s.lng in let b = t.lng in same_word y.lng z.lng (omega arith) (omega arith) (ap (λ b. take 4 (drop 12 b)) h))
+      (same_long y.trim z.trim s.trim t.trim (ap (λ b. take 8 (drop 16 b)) h))
+      (let a = s.end_most in let b = t.end_most in same_word y.end z.end (omega arith) (omega arith) (ap (λ b. take 4 (drop 24 b)) h))
+      loss,
+)
 
 pub same_change : (x y : Change) → IsChange x → IsChange y → change_bytes x ≡ change_bytes y → x ≡ y
 unfolding change_bytes
@@ -35,27 +51,32 @@ same_change (changes.Unfixed l e) (changes.Unfixed m f) i j h =
     let b : e ≡ f = (let p = i.1.1 in let q = j.1.1 in same_word e f (omega arith) (omega arith) (ap (λ b. take 4 (drop 5 b)) h)) in
     ap (λ n. changes.Unfixed n e) a ∙ ap (λ n. changes.Unfixed m n) b
 same_change (changes.Close l e y) (changes.Close m f z) i j h =
-    let a : l ≡ m = (let p = i.0.1 in let q = j.0.1 in same_word l m (omega arith) (omega arith) (ap (λ b. take 4 (drop 1 b)) h)) in
-    let b : e ≡ f = (let p = i.1.1 in let q = j.1.1 in same_word e f (omega arith) (omega arith) (ap (λ b. take 4 (drop 5 b)) h)) in
-    let s : y ≡ z = same_summary y z
-    (let p = i.2.ballot_most in let q = j.2.ballot_most in same_word y.ballot z.ballot (omega arith) (omega arith) (ap (λ b. take 4 (drop 9 b)) h))
-    (let p = i.2.lng in let q = j.2.lng in same_word y.lng z.lng (omega arith) (omega arith) (ap (λ b. take 4 (drop 13 b)) h))
-    (same_long y.trim z.trim i.2.trim j.2.trim (ap (λ b. take 8 (drop 17 b)) h))
-    (let p = i.2.end_most in let q = j.2.end_most in same_word y.end z.end (omega arith) (omega arith) (ap (λ b. take 4 (drop 25 b)) h)) in
-    ap (λ n. changes.Close n e y) a ∙ (ap (λ n. changes.Close m n y) b ∙ ap (λ n. changes.Close m f n) s)
+    let s = same_closing l m e f y z i.0 j.0 i.1 j.1 i.2 j.2 (ap (λ b. take 28 (drop 1 b)) h) (same_flag y.loss z.loss (ap (λ b. get_or b 29 0) h)) in
+    ap (λ n. changes.Close n e y) s.0 ∙ (ap (λ n. changes.Close m n y) s.1 ∙ ap (λ n. changes.Close m f n) s.2)
+same_change (changes.Lossless l e y) (changes.Lossless m f z) i j h =
+    let s = same_closing l m e f y z i.0 j.0 i.1 j.1 i.2 j.2 (ap (λ b. drop 1 b) h) (i.3 ∙ sym j.3) in
+    ap (λ n. changes.Lossless n e y) s.0 ∙ (ap (λ n. changes.Lossless m n y) s.1 ∙ ap (λ n. changes.Lossless m f n) s.2)
 same_change (changes.Draw n g) (changes.Draw m k) i j h = ap (λ a. changes.Draw a g) (ap (λ b. get_or b 1 0) h) ∙ ap (λ a. changes.Draw m a) (same_word g k i.1 j.1 (ap (λ b. take 4 (drop 2 b)) h))
 same_change (changes.Activate e s) (changes.Unfixed m f) i j h = absurd (omega (arith, ap (λ b. get_or b 0 0) h))
 same_change (changes.Activate e s) (changes.Close m f z) i j h = absurd (omega (arith, ap (λ b. get_or b 0 0) h))
+same_change (changes.Activate e s) (changes.Lossless m f z) i j h = absurd (omega (arith, ap (λ b. get_or b 0 0) h))
 same_change (changes.Activate e s) (changes.Draw m k) i j h = absurd (omega (arith, ap (λ b. get_or b 0 0) h))
 same_change (changes.Unfixed l e) (changes.Activate f t) i j h = absurd (omega (arith, ap (λ b. get_or b 0 0) h))
 same_change (changes.Unfixed l e) (changes.Close m f z) i j h = absurd (omega (arith, ap (λ b. get_or b 0 0) h))
+same_change (changes.Unfixed l e) (changes.Lossless m f z) i j h = absurd (omega (arith, ap (λ b. get_or b 0 0) h))
 same_change (changes.Unfixed l e) (changes.Draw m k) i j h = absurd (omega (arith, ap (λ b. get_or b 0 0) h))
 same_change (changes.Close l e y) (changes.Activate f t) i j h = absurd (omega (arith, ap (λ b. get_or b 0 0) h))
 same_change (changes.Close l e y) (changes.Unfixed m f) i j h = absurd (omega (arith, ap (λ b. get_or b 0 0) h))
+same_change (changes.Close l e y) (changes.Lossless m f z) i j h = absurd (omega (arith, ap (λ b. get_or b 0 0) h))
 same_change (changes.Close l e y) (changes.Draw m k) i j h = absurd (omega (arith, ap (λ b. get_or b 0 0) h))
+same_change (changes.Lossless l e y) (changes.Activate f t) i j h = absurd (omega (arith, ap (λ b. get_or b 0 0) h))
+same_change (changes.Lossless l e y) (changes.Unfixed m f) i j h = absurd (omega (arith, ap (λ b. get_or b 0 0) h))
+same_change (changes.Lossless l e y) (changes.Close m f z) i j h = absurd (omega (arith, ap (λ b. get_or b 0 0) h))
+same_change (changes.Lossless l e y) (changes.Draw m k) i j h = absurd (omega (arith, ap (λ b. get_or b 0 0) h))
 same_change (changes.Draw n g) (changes.Activate f t) i j h = absurd (omega (arith, ap (λ b. get_or b 0 0) h))
 same_change (changes.Draw n g) (changes.Unfixed m f) i j h = absurd (omega (arith, ap (λ b. get_or b 0 0) h))
 same_change (changes.Draw n g) (changes.Close m f z) i j h = absurd (omega (arith, ap (λ b. get_or b 0 0) h))
+same_change (changes.Draw n g) (changes.Lossless m f z) i j h = absurd (omega (arith, ap (λ b. get_or b 0 0) h))
 
 pub one_body : (body : List ℕ) (x y : Change) → IsBody body x → IsBody body y → x ≡ y
 one_body body x y b d = same_change x y b.is d.is (sym b.bytes ∙ d.bytes)
@@ -65,30 +86,35 @@ unfolding change_bytes
 length_is (changes.Activate e s) = refl
 length_is (changes.Unfixed l e) = refl
 length_is (changes.Close l e y) = refl
+length_is (changes.Lossless l e y) = refl
 length_is (changes.Draw n g) = refl
 
 pub longer_by : (r : Register) (x : Change) → (changed r x).length ≡ r.length + record_length (body_length x)
 longer_by r (changes.Activate e s) = refl
 longer_by r (changes.Unfixed l e) = refl
 longer_by r (changes.Close l e y) = refl
+longer_by r (changes.Lossless l e y) = refl
 longer_by r (changes.Draw n g) = refl
 
 pub as_armed : (r : Register) (x : Change) → (changed r x).armed ≡ r.armed
 as_armed r (changes.Activate e s) = refl
 as_armed r (changes.Unfixed l e) = refl
 as_armed r (changes.Close l e y) = refl
+as_armed r (changes.Lossless l e y) = refl
 as_armed r (changes.Draw n g) = refl
 
 pub short : (x : Change) → body_length x < 2 ^ 32
 short (changes.Activate e s) = omega arith
 short (changes.Unfixed l e) = omega arith
 short (changes.Close l e y) = omega arith
+short (changes.Lossless l e y) = omega arith
 short (changes.Draw n g) = omega arith
 
 pub next_any : (k : Kept) (n m : ℕ) (x : Change) → is_next (register_of k n) x ≡ is_next (register_of k m) x
 next_any k n m (changes.Activate e s) = refl
 next_any k n m (changes.Unfixed l e) = refl
 next_any k n m (changes.Close l e y) = refl
+next_any k n m (changes.Lossless l e y) = refl
 next_any k n m (changes.Draw a g) = refl
 
 -- ---- rows ----

@@ -85,6 +85,7 @@ free_as S T faults.Failed h = h
 free_as S T (faults.Damaged place) h = h
 free_as S T faults.LogLimit h = h
 free_as S T (faults.Behind lce next) h = h
+free_as S T (faults.Overtaken epoch) h = h
 free_as S T faults.EpochLimit h = h
 free_as S T faults.GenLimit h = h
 free_as S T faults.Full h = h
@@ -236,6 +237,7 @@ module _ {D : Type 0} {g : Ghosts D} where
   unready_exact old new (faults.Damaged place) r is l n free keeps c f = absurd (f.holds.whole place (n.damaged place refl))
   unready_exact old new faults.LogLimit r is l n free keeps c f = absurd free
   unready_exact old new (faults.Behind lce next) r is l n free keeps c f = absurd free
+  unready_exact old new (faults.Overtaken epoch) r is l n free keeps c f = absurd free
   unready_exact old new faults.EpochLimit r is l n free keeps c f = absurd free
   unready_exact old new faults.GenLimit r is l n free keeps c f = absurd free
   unready_exact old new faults.Full r is l n free keeps c f = absurd free

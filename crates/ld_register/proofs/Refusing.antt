@@ -1,5 +1,6 @@
--- Which fault of a journal a register passed on.
-use Rattle.std.proofs.Common.{◌≡◌, ℕ, ap, subst, Result}
+-- Which fault of a journal a register passed on, and what it says of a close that it is overtaken.
+use Rattle.std.proofs.Common.{◌≡◌, ◌≢◌, ◌==◌, ◌&&◌, ◌∙◌, ℕ, Bool, true, false, not, refl, ap, sym, subst, Result}
+use Rattle.std.proofs.lemmas.Bool.{eq-eqb}
 use Rattle.std.specs.Result.{IsErrAnd, IsErrOf}
 use Rattle.ld_journal.specs.declared.fault.JournalFault.{JournalFault}
 use Rattle.ld_journal.specs.declared.fault.JournalFault.TheVariants as journals
@@ -22,3 +23,11 @@ same_place m n is = cc
 
 pub no_place : (n : ℕ) → registers.NoMemory ≡ registers.Damaged n → ⊥
 no_place n is = absurd (cc is)
+
+pub same_epoch : (m n : ℕ) → registers.Overtaken m ≡ registers.Overtaken n → m ≡ n
+same_epoch m n is = cc
+
+-- a close that is overtaken is short, and not of the sequencer of the greatest epoch
+pub late_is : (short : Bool) (kept ballot : ℕ) → (short && not (kept == ballot)) ≡ true → (short ≡ true) × (kept ≢ ballot)
+late_is true kept ballot h = (refl, λ same. absurd (let e = eq-eqb kept ballot same in let f = sym h ∙ ap not e in cc f))
+late_is false kept ballot h = absurd (cc h)

@@ -1,7 +1,6 @@
 -- Which writing calls a load, a change and a whole call make.
-use Rattle.std.proofs.Common.{◌≡◌, ◌≢◌, ◌⊎◌, ◌↔◌, ◌+◌, ◌-◌, ◌==◌, ◌&&◌, inl, inr, ℕ, Bool, true, false, not, List, [], ◌∷◌, Option, Some, None, IsSome, Result, Ok, Err, OnErr, if◌then◌else◌, refl, ap, sym, ◌∙◌, subst, arith}
+use Rattle.std.proofs.Common.{◌≡◌, ◌⊎◌, ◌↔◌, ◌+◌, ◌-◌, ◌==◌, ◌&&◌, inl, inr, ℕ, Bool, true, false, not, List, [], ◌∷◌, Option, Some, None, IsSome, Result, Ok, Err, OnErr, if◌then◌else◌, refl, ap, sym, ◌∙◌, subst, arith}
 use Rattle.std.specs.Result.{IsErrOf}
-use Rattle.std.specs.Prelude.{is_ok, IsOk}
 use Rattle.std.proofs.lemmas.Bool.{eqb-true}
 use Rattle.ld_disk.specs.Plain.{Plain, Call, fate, is_made, armed_after, crashed_after, succeeds, after_call, after_calls, all_succeed, read_fine, reads_fine}
 use Rattle.ld_disk.specs.declared.disk.Disk.{Ghosts}
@@ -23,8 +22,8 @@ use Rattle.ld_register.specs.declared.disk.DiskRegister.{DiskRegister}
 use Rattle.ld_register.specs.Changes.{change_bytes, is_next}
 use Rattle.ld_register.specs.Faults.{passed_on}
 use Rattle.ld_register.specs.Held.{owned, is_loaded, Holds, IsRefused, IsDue}
-use Rattle.ld_register.specs.Writing.{with_load, Made, Writes, activation, drawing, change_calls, WritesOne}
-use Rattle.ld_register.proofs.Committing.{on_err, not_both, refusal, refused_as}
+use Rattle.ld_register.specs.Writing.{with_load, Writes, activation, drawing, change_calls, WritesOne}
+use Rattle.ld_register.proofs.Committing.{on_err, refusal, refused_as}
 use Rattle.ld_register.proofs.Leading.{next_in}
 use Rattle.ld_register.proofs.Meeting.{failure, hold_on, tells_unloaded, replays_length}
 

@@ -5,7 +5,7 @@ use Rattle.ld_table.specs.Table.{find}
 use Rattle.ld_ids.specs.declared.set.Spec.{Spec}
 use Rattle.ld_msg.specs.declared.msg.Summary.{Summary}
 use Rattle.ld_msg.specs.Bounds.{IsEpoch, IsSummary}
-use Rattle.ld_msg.specs.Register.{Register, Answer, Granted, AtLimit, Behind, Fails, epochs_of, generation_of, lce_of, record_length, journal_limit, activate, close, draw, epochs_in, is_crowded, summary_shown, epoch_shown}
+use Rattle.ld_msg.specs.Register.{Register, Answer, Granted, AtLimit, Behind, Overtaken, Fails, epochs_of, generation_of, lce_of, record_length, journal_limit, activate, close, draw, epochs_in, is_crowded, summary_shown, epoch_shown}
 use Rattle.ld_register.specs.Bounds.{IsSpecFor}
 use Rattle.ld_register.specs.declared.fault.RegisterFault.{RegisterFault}
 use Rattle.ld_register.specs.declared.fault.RegisterFault.TheVariants as faults
@@ -22,6 +22,7 @@ abbrev pub ended : {T : Type 0} → Answer → Bool → RegisterFault → T → 
 ended Granted full limit given = Ok given
 ended AtLimit full limit given = Err limit
 ended (Behind lce) full limit given = Err (faults.Behind lce None)
+ended (Overtaken epoch) full limit given = Err (faults.Overtaken epoch)
 ended Fails true limit given = Err faults.Full
 ended Fails false limit given = Err faults.Failed
 
@@ -35,7 +36,7 @@ abbrev pub activation_length : ℕ
 activation_length = 13
 
 abbrev pub close_length : ℕ
-close_length = 29
+close_length = 30
 
 abbrev pub draw_length : ℕ
 draw_length = 6
@@ -67,13 +68,13 @@ pub record IsGrant (l : ℕ) (grant : Grant) : Type 0 where
   pub lce : grant.lce ≤ 2 ^ 32 - 2
   pub next : IfSome grant.next (IsSpecFor l)
 
--- ---- a close: it is taken where the epoch before is the last closed one ----
+-- ---- a close: it is taken where the epoch before is the last closed one, and where it is short only as long as its sequencer's epoch is the greatest one ----
 
-abbrev pub after_close : Register → ℕ → ℕ → Summary → Register
-after_close r l e y = if is_crowded r l then r else (close r l e y).register
+abbrev pub after_close : Register → ℕ → ℕ → Summary → Bool → Register
+after_close r l e y short = if is_crowded r l then r else (close r l e y short).register
 
-abbrev pub closed : Register → ℕ → ℕ → Summary → Result (Option Spec) RegisterFault
-closed r l e y = if is_crowded r l then Err faults.LogLimit else close_ended (close r l e y).answer (is_full r close_length) (next_told r l) (next_told (after_close r l e y) l)
+abbrev pub closed : Register → ℕ → ℕ → Summary → Bool → Result (Option Spec) RegisterFault
+closed r l e y short = if is_crowded r l then Err faults.LogLimit else close_ended (close r l e y short).answer (is_full r close_length) (next_told r l) (next_told (after_close r l e y short) l)
 
 -- ---- a draw: the node's next generation, and the epoch of each log that has one ----
 
@@ -108,6 +109,7 @@ IsFree (Err faults.Failed) = Unit {0}
 IsFree (Err (faults.Damaged place)) = Unit {0}
 IsFree (Err faults.LogLimit) = ⊥
 IsFree (Err (faults.Behind lce next)) = ⊥
+IsFree (Err (faults.Overtaken epoch)) = ⊥
 IsFree (Err faults.EpochLimit) = ⊥
 IsFree (Err faults.GenLimit) = ⊥
 IsFree (Err faults.Full) = ⊥

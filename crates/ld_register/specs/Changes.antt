@@ -1,5 +1,5 @@
 -- The changes of a register: their bytes, which one may come next, and what each makes of the contents.
-use Rattle.std.specs.Prelude.{◌≡◌, ◌≢◌, ◌+◌, ℕ, Bool, true, not, ◌&&◌, ◌==◌, List, [], ◌∷◌, ◌++◌}
+use Rattle.std.specs.Prelude.{◌≡◌, ◌≢◌, ◌+◌, ℕ, Bool, true, false, not, ◌&&◌, ◌==◌, if◌then◌else◌, List, [], ◌∷◌, ◌++◌}
 use Rattle.std.specs.Int.{w16, w32, w64, to_be_bytes}
 use Rattle.ld_table.specs.Table.{put}
 use Rattle.ld_ids.specs.Id.{IsLog, IsNode}
@@ -15,8 +15,16 @@ use Rattle.ld_register.specs.declared.change.Change.TheVariants as changes
 
 -- ---- bytes ----
 
+-- a summary but for whether anything is lost
 abbrev pub summary_bytes : Summary → List ℕ
 summary_bytes y = to_be_bytes w32 y.ballot ++ (to_be_bytes w32 y.lng ++ (to_be_bytes w64 y.trim ++ to_be_bytes w32 y.end))
+
+-- a log, an epoch of it, and its summary
+abbrev pub closing_bytes : ℕ → ℕ → Summary → List ℕ
+closing_bytes l e y = to_be_bytes w32 l ++ (to_be_bytes w32 e ++ summary_bytes y)
+
+abbrev pub flag : Bool → ℕ
+flag b = if b then 1 else 0
 
 abbrev pub spec_bytes : Spec → List ℕ
 spec_bytes s = to_be_bytes w16 (set_bits s.set) ++ s.r ∷ s.extras ∷ []
@@ -25,7 +33,8 @@ spec_bytes s = to_be_bytes w16 (set_bits s.set) ++ s.r ∷ s.extras ∷ []
 unfoldable pub change_bytes : Change → List ℕ
 change_bytes (changes.Activate e s) = 19 ∷ (to_be_bytes w32 s.log ++ (to_be_bytes w32 e ++ spec_bytes s))
 change_bytes (changes.Unfixed l e) = 16 ∷ (to_be_bytes w32 l ++ to_be_bytes w32 e)
-change_bytes (changes.Close l e y) = 17 ∷ (to_be_bytes w32 l ++ (to_be_bytes w32 e ++ summary_bytes y))
+change_bytes (changes.Close l e y) = 20 ∷ (closing_bytes l e y ++ flag y.loss ∷ [])
+change_bytes (changes.Lossless l e y) = 17 ∷ closing_bytes l e y
 change_bytes (changes.Draw n g) = 18 ∷ (n ∷ to_be_bytes w32 g)
 
 -- what a record's body may carry
@@ -33,6 +42,7 @@ abbrev pub IsChange : Change → Type 0
 IsChange (changes.Activate e s) = IsEpoch e × IsSpec s
 IsChange (changes.Unfixed l e) = IsLog l × IsEpoch e
 IsChange (changes.Close l e y) = IsLog l × IsEpoch e × IsSummary e y
+IsChange (changes.Lossless l e y) = IsLog l × IsEpoch e × IsSummary e y × (y.loss ≡ false)
 IsChange (changes.Draw n g) = IsNode n × Is32 g
 
 -- a body is this change's
@@ -51,16 +61,21 @@ abbrev pub is_next : Register → Change → Bool
 is_next r (changes.Activate e s) = not (is_crowded r s.log) && ((epochs_of r s.log).epoch + 1 == e)
 is_next r (changes.Unfixed l e) = not (is_crowded r l) && ((epochs_of r l).epoch + 1 == e)
 is_next r (changes.Close l e y) = not (is_crowded r l) && (lce_of r l + 1 == e)
+is_next r (changes.Lossless l e y) = not (is_crowded r l) && (lce_of r l + 1 == e)
 is_next r (changes.Draw n g) = generation_of r n + 1 == g
 
--- the length of the body of an activation that fixes nothing
+-- the lengths of the bodies of an activation that fixes nothing, and of a close that says nothing of a loss
 abbrev pub unfixed_length : ℕ
 unfixed_length = 9
+
+abbrev pub lossless_length : ℕ
+lossless_length = 29
 
 abbrev pub body_length : Change → ℕ
 body_length (changes.Activate e s) = activation_length
 body_length (changes.Unfixed l e) = unfixed_length
 body_length (changes.Close l e y) = close_length
+body_length (changes.Lossless l e y) = lossless_length
 body_length (changes.Draw n g) = draw_length
 
 abbrev pub longer : Register → ℕ → Register
@@ -75,6 +90,7 @@ abbrev pub changed : Register → Change → Register
 changed r (changes.Activate e s) = longer (with_epochs r s.log (next_epoch (epochs_of r s.log) s)) activation_length
 changed r (changes.Unfixed l e) = longer (with_epochs r l (unfixed_epoch (epochs_of r l))) unfixed_length
 changed r (changes.Close l e y) = longer (with_epochs r l (closed_epochs (epochs_of r l) e y)) close_length
+changed r (changes.Lossless l e y) = longer (with_epochs r l (closed_epochs (epochs_of r l) e y)) lossless_length
 changed r (changes.Draw n g) = longer (record r { generations = put n (generation_of r n + 1) r.generations }) draw_length
 
 -- a body is the next change of these contents

@@ -1,5 +1,5 @@
 -- Lists of calls of a register, each with its answer, and the contents that they lead to.
-use Rattle.std.specs.Prelude.{◌≡◌, ◌⊎◌, ℕ, Option, List, [], ◌∷◌, Ok}
+use Rattle.std.specs.Prelude.{◌≡◌, ◌⊎◌, ℕ, Bool, Option, List, [], ◌∷◌, Ok}
 use Rattle.std.specs.declared.result.Result.{Result}
 use Rattle.ld_ids.specs.declared.set.Spec.{Spec}
 use Rattle.ld_msg.specs.declared.msg.Summary.{Summary}
@@ -13,7 +13,7 @@ use Rattle.ld_register.specs.Calls.{IsFree, activated, after_activate, closed, a
 -- a call and its answer
 pub data Call : Type 0 where
   Activates : (spec : Spec) → (answer : Result Grant RegisterFault) → Call
-  Closes : (log epoch : ℕ) → (summary : Summary) → (answer : Result (Option Spec) RegisterFault) → Call
+  Closes : (log epoch : ℕ) → (summary : Summary) → (short : Bool) → (answer : Result (Option Spec) RegisterFault) → Call
   Draws : (node : ℕ) → (answer : Result Drawn RegisterFault) → Call
   Looks : (log epoch : ℕ) → (answer : Result View RegisterFault) → Call
 
@@ -23,7 +23,7 @@ Ends result answer before changed after = (IsFree result × ((after ≡ before) 
 
 abbrev pub Passes : Register → Call → Register → Type 0
 Passes c (Activates s result) d = Ends result (activated c s) c (after_activate c s) d
-Passes c (Closes l e y result) d = Ends result (closed c l e y) c (after_close c l e y) d
+Passes c (Closes l e y short result) d = Ends result (closed c l e y short) c (after_close c l e y short) d
 Passes c (Draws n result) d = Ends result (drawn c n) c (after_draw c n) d
 Passes c (Looks l e result) d = Ends result (Ok (looked c l e)) c c d
 

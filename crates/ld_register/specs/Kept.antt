@@ -68,4 +68,5 @@ abbrev pub has_room : Kept → Change → Bool
 has_room k (changes.Activate e s) = is_some (find s.log k.logs) && is_some (find e (log_at k.logs s.log).specs)
 has_room k (changes.Unfixed l e) = is_some (find l k.logs)
 has_room k (changes.Close l e y) = is_some (find l k.logs) && is_some (find e (log_at k.logs l).summaries)
+has_room k (changes.Lossless l e y) = is_some (find l k.logs) && is_some (find e (log_at k.logs l).summaries)
 has_room k (changes.Draw n g) = is_some (find n k.generations)

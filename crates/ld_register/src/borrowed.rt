@@ -45,8 +45,9 @@ impl<G: Register> Register for &mut G {
         log: LogId,
         epoch: u32,
         summary: &Summary,
+        short: bool,
     ) -> Result<Option<Spec>, RegisterFault> {
-        (**self).close(alloc, log, epoch, summary)
+        (**self).close(alloc, log, epoch, summary, short)
     }
 
     fn draw(&mut self, alloc: Global, node: NodeId) -> Result<Drawn, RegisterFault> {

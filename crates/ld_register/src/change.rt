@@ -1,8 +1,11 @@
 // The changes of a register, and the bodies of their records.
-ghost use Rattle.std.specs.Prelude.{◌≡◌, ◌≤◌, ◌+◌, ◌++◌, ◌∷◌, [], length, take, drop, get_or, true, false, IfOk, OnOk, IfSome, IfNone};
+ghost use Rattle.std.specs.Prelude.{◌≡◌, ◌≤◌, ◌+◌, ◌++◌, ◌∷◌, [], ℕ, length, take, drop, get_or, true, false, IfOk, OnOk, IfSome, IfNone};
 ghost use Rattle.std.specs.Int.{w16, w32, w64, to_be_bytes};
+ghost use Rattle.ld_ids.specs.Id.{IsLog};
+ghost use Rattle.ld_msg.specs.declared.msg.Summary.{Summary as Closing};
+ghost use Rattle.ld_msg.specs.Bounds.{IsEpoch, IsSummary};
 ghost use Rattle.ld_register.specs.Bounds.{IsSpec};
-ghost use Rattle.ld_register.specs.Changes.{change_bytes, summary_bytes, spec_bytes, IsBody, IsNoBody};
+ghost use Rattle.ld_register.specs.Changes.{change_bytes, closing_bytes, summary_bytes, spec_bytes, IsBody, IsNoBody};
 
 use ld_ids::{LogId, NoMemory, NodeId, NodeSet, Spec};
 use ld_lsn::Lsn;
@@ -11,11 +14,13 @@ use std::alloc::Global;
 
 const UNFIXED: u8 = 16;
 
-const CLOSE: u8 = 17;
+const LOSSLESS: u8 = 17;
 
 const DRAW: u8 = 18;
 
 const ACTIVATE: u8 = 19;
+
+const CLOSE: u8 = 20;
 
 /// The greatest epoch of a log.
 pub(crate) const GREATEST_EPOCH: u32 = u32::MAX - 1;
@@ -41,6 +46,12 @@ pub(crate) enum Change {
     },
     /// The log's epoch is closed.
     Close {
+        log: LogId,
+        epoch: u32,
+        summary: Summary,
+    },
+    /// The log's epoch is closed with a summary that says nothing of a loss. It is read and never written.
+    Lossless {
         log: LogId,
         epoch: u32,
         summary: Summary,
@@ -78,9 +89,17 @@ impl Change {
                 summary,
             } => {
                 let mut out = begun(alloc, CLOSE)?;
-                put_word(&mut out, log.number())?;
-                put_word(&mut out, *epoch)?;
-                put_summary(&mut out, summary)?;
+                put_closing(&mut out, *log, *epoch, summary)?;
+                out.push(u8::from(summary.loss))?;
+                Ok(out)
+            }
+            Change::Lossless {
+                log,
+                epoch,
+                summary,
+            } => {
+                let mut out = begun(alloc, LOSSLESS)?;
+                put_closing(&mut out, *log, *epoch, summary)?;
                 Ok(out)
             }
             Change::Draw { node, generation } => {
@@ -103,8 +122,11 @@ impl Change {
         if body.len() == 9 && body[0] == UNFIXED {
             return read_unfixed(body);
         }
-        if body.len() == 29 && body[0] == CLOSE {
+        if body.len() == 30 && body[0] == CLOSE {
             return read_close(body);
+        }
+        if body.len() == 29 && body[0] == LOSSLESS {
+            return read_lossless(body);
         }
         if body.len() == 6 && body[0] == DRAW {
             return read_draw(body);
@@ -125,6 +147,14 @@ fn put_word(out: &mut Vec<u8>, number: u32) -> Result<(), NoMemory>
 {
     out.extend_from_slice(&number.to_be_bytes())?;
     Ok(())
+}
+
+fn put_closing(out: &mut Vec<u8>, log: LogId, epoch: u32, summary: &Summary) -> Result<(), NoMemory>
+    ensures { OnOk result (out.new.items ≡ out.old.items ++ closing_bytes log epoch summary.now) }
+{
+    put_word(out, log.number())?;
+    put_word(out, epoch)?;
+    put_summary(out, summary)
 }
 
 fn put_summary(out: &mut Vec<u8>, summary: &Summary) -> Result<(), NoMemory>
@@ -236,10 +266,49 @@ fn read_unfixed(body: &[u8]) -> Option<Change>
 }
 
 fn read_close(body: &[u8]) -> Option<Change>
+    requires len { length body.now ≡ 30 }
+    requires kind { get_or body.now 0 0 ≡ 20 }
+    ensures some { IfSome result (IsBody body.now) }
+    ensures none { IfNone result (IsNoBody body.now) }
+{
+    let loss = body[29];
+    let Some(read) = read_closing(body, loss == 1) else {
+        return None;
+    };
+    if 1 < loss {
+        return None;
+    }
+    let (log, epoch, summary) = read;
+    Some(Change::Close {
+        log,
+        epoch,
+        summary,
+    })
+}
+
+fn read_lossless(body: &[u8]) -> Option<Change>
     requires len { length body.now ≡ 29 }
     requires kind { get_or body.now 0 0 ≡ 17 }
     ensures some { IfSome result (IsBody body.now) }
     ensures none { IfNone result (IsNoBody body.now) }
+{
+    let Some(read) = read_closing(body, false) else {
+        return None;
+    };
+    let (log, epoch, summary) = read;
+    Some(Change::Lossless {
+        log,
+        epoch,
+        summary,
+    })
+}
+
+/// The log, the epoch and the summary behind the first byte, where it is so whether anything is lost.
+fn read_closing(body: &[u8], loss: bool) -> Option<(LogId, u32, Summary)>
+    requires { 29 ≤ length body.now }
+    ensures bytes { IfSome result (λ read. body.now ≡ get_or body.now 0 0 ∷ (closing_bytes read.0 read.1 read.2 ++ drop 29 body.now)) }
+    ensures is { IfSome result (λ read. IsLog read.0 × IsEpoch read.1 × IsSummary read.1 read.2 × (read.2.loss ≡ loss)) }
+    ensures none { IfNone result ((l e : ℕ) (y : Closing) → IsLog l → IsEpoch e → IsSummary e y → body.now ≡ get_or body.now 0 0 ∷ (closing_bytes l e y ++ drop 29 body.now) → ⊥) }
 {
     let number = word(body, 1);
     let epoch = word(body, 5);
@@ -248,6 +317,7 @@ fn read_close(body: &[u8]) -> Option<Change>
         lng: word(body, 13),
         trim: Lsn::from_u64(long_word(body, 17)),
         end: word(body, 25),
+        loss,
     };
     let Some(log) = LogId::new(number) else {
         return None;
@@ -259,11 +329,7 @@ fn read_close(body: &[u8]) -> Option<Change>
     if GREATEST_EPOCH < summary.ballot || summary.end == 0 || GREATEST_LNG < summary.lng {
         return None;
     }
-    Some(Change::Close {
-        log,
-        epoch,
-        summary,
-    })
+    Some((log, epoch, summary))
 }
 
 fn read_draw(body: &[u8]) -> Option<Change>

@@ -132,6 +132,9 @@ impl Contents {
             Change::Close { log, epoch, .. } => {
                 is_behind(self.is_crowded(*log), self.lce(*log), *epoch)
             }
+            Change::Lossless { log, epoch, .. } => {
+                is_behind(self.is_crowded(*log), self.lce(*log), *epoch)
+            }
             Change::Draw { node, generation } => {
                 is_behind(false, self.generation(*node), *generation)
             }
@@ -159,6 +162,14 @@ impl Contents {
                 room_for_log(alloc, &mut self.logs, *log)?;
                 room_for_summary(&mut self.logs, *log, *epoch, summary)
             }
+            Change::Lossless {
+                log,
+                epoch,
+                summary,
+            } => {
+                room_for_log(alloc, &mut self.logs, *log)?;
+                room_for_summary(&mut self.logs, *log, *epoch, summary)
+            }
             Change::Draw { node, .. } => room_for_node(&mut self.generations, *node),
         }
     }
@@ -174,6 +185,11 @@ impl Contents {
             Change::Activate { epoch, spec } => activate_in(&mut self.logs, *epoch, spec),
             Change::Unfixed { log, epoch } => activate_unfixed_in(&mut self.logs, *log, *epoch),
             Change::Close {
+                log,
+                epoch,
+                summary,
+            } => close_in(&mut self.logs, *log, *epoch, summary),
+            Change::Lossless {
                 log,
                 epoch,
                 summary,

@@ -1,5 +1,5 @@
 // A register on a disk.
-ghost use Rattle.std.specs.Prelude.{◌≡◌, true, false};
+ghost use Rattle.std.specs.Prelude.{◌≡◌, ◌==◌, ◌&&◌, not, true, false};
 ghost use Rattle.ld_journal.specs.Open.{has_ended, must_load};
 ghost use Rattle.ld_register.specs.Faults.{is_disk};
 
@@ -20,7 +20,7 @@ const JOURNAL_LIMIT: u64 = 1 << 40;
 const ACTIVATION_LENGTH: u64 = 13;
 
 /// The length of the body of a close's record, in bytes.
-const CLOSE_LENGTH: u64 = 29;
+const CLOSE_LENGTH: u64 = 30;
 
 /// The length of the body of a draw's record, in bytes.
 const DRAW_LENGTH: u64 = 6;
@@ -52,7 +52,6 @@ impl<D: Disk> DiskRegister<D> {
     ghost use Rattle.ld_ids.specs.declared.set.Spec.{Spec as Fixed};
     ghost use Rattle.ld_msg.specs.Bounds.{IsSummary};
     ghost use Rattle.ld_msg.specs.Register.{Register as Held, empty_register, epochs_of, lce_of};
-    ghost use Rattle.ld_msg.specs.declared.msg.Summary.{Summary as Closing};
     ghost use Rattle.ld_op.specs.Bounds.{IsOp};
     ghost use Rattle.ld_op.specs.declared.op.Op.TheVariants.{Format};
     ghost use Rattle.ld_register.specs.Bounds.{IsSpec, IsSpecFor};
@@ -145,6 +144,7 @@ impl<D: Disk> DiskRegister<D> {
         ensures itself { D.identity (owned self.new) ≡ D.identity (owned self.old) }
         ensures bounds { IfOk result (IsGrant spec.now.log) }
         ensures behind { (lce : ℕ) (next : Option Fixed) → result ≢ Err (RegisterFault.Behind lce next) }
+        ensures overtaken { (kept : ℕ) → result ≢ Err (RegisterFault.Overtaken kept) }
         ensures generations { result ≢ Err RegisterFault.GenLimit }
         ensures exact_calls { (p : Plain) → D.plain (owned self.old) ≡ Some p → reads_fine p ≡ true → Writes (is_loaded self.old) [] p result (D.plain (owned self.new)) }
         ensures stays { is_loaded self.old ≡ true → IsErrOf result RegisterFault.Failed ⊎ (is_loaded self.new ≡ true) }
@@ -188,14 +188,17 @@ impl<D: Disk> DiskRegister<D> {
         alloc: Global,
         log: LogId,
         epoch: u32,
+        summary: &Summary,
+        short: bool,
     ) -> Result<Option<Spec>, RegisterFault>
-        requires { epoch < 2 ^ 32 - 2 }
-        ensures due { (y : Closing) → IsSummary epoch y → IfOk result (λ given. IsDue self.old self.new (Change.Close log epoch y) given (λ c. closed c log epoch y) (λ c. after_close c log epoch y)) }
-        ensures refused { (y : Closing) → OnErr result (Meets self.old self.new result (λ c. closed c log epoch y) (λ c. after_close c log epoch y)) }
+        requires { IsSummary epoch summary.now }
+        ensures due { IfOk result (λ given. IsDue self.old self.new (Change.Close log epoch summary.now) given (λ c. closed c log epoch summary.now short) (λ c. after_close c log epoch summary.now short)) }
+        ensures refused { OnErr result (Meets self.old self.new result (λ c. closed c log epoch summary.now short) (λ c. after_close c log epoch summary.now short)) }
         ensures steady { IsErrOf result RegisterFault.Failed ⊎ (D.faults (owned self.new) ≡ D.faults (owned self.old)) }
         ensures itself { D.identity (owned self.new) ≡ D.identity (owned self.old) }
         ensures next { IfOk result (λ next. IfSome next (IsSpecFor log)) }
         ensures bounds { (lce : ℕ) (next : Option Fixed) → IsErrOf result (RegisterFault.Behind lce next) → (lce ≤ 2 ^ 32 - 2) × IfSome next (IsSpecFor log) }
+        ensures overtaken { (kept : ℕ) → IsErrOf result (RegisterFault.Overtaken kept) → (short ≡ true) × (kept ≤ 2 ^ 32 - 2) × (kept ≢ summary.now.ballot) }
         ensures epochs { result ≢ Err RegisterFault.EpochLimit }
         ensures generations { result ≢ Err RegisterFault.GenLimit }
         ensures exact_calls { (p : Plain) → D.plain (owned self.old) ≡ Some p → reads_fine p ≡ true → Writes (is_loaded self.old) [] p result (D.plain (owned self.new)) }
@@ -209,6 +212,10 @@ impl<D: Disk> DiskRegister<D> {
         if lce + 1 != epoch {
             let next = self.contents.spec(log, lce + 1);
             return Err(RegisterFault::Behind { lce, next });
+        }
+        let kept = self.contents.epoch(log);
+        if is_overtaken(kept, summary.ballot, short) {
+            return Err(RegisterFault::Overtaken(kept));
         }
         if self.is_full(CLOSE_LENGTH) {
             return Err(RegisterFault::Full);
@@ -226,6 +233,7 @@ impl<D: Disk> DiskRegister<D> {
         ensures bounds { IfOk result (λ handed. IsOp (Format handed.gen_ handed.epochs)) }
         ensures logs { result ≢ Err RegisterFault.LogLimit }
         ensures behind { (lce : ℕ) (next : Option Fixed) → result ≢ Err (RegisterFault.Behind lce next) }
+        ensures overtaken { (kept : ℕ) → result ≢ Err (RegisterFault.Overtaken kept) }
         ensures epochs { result ≢ Err RegisterFault.EpochLimit }
         ensures exact_calls { (p : Plain) → D.plain (owned self.old) ≡ Some p → reads_fine p ≡ true → Writes (is_loaded self.old) [] p result (D.plain (owned self.new)) }
         ensures stays { is_loaded self.old ≡ true → IsErrOf result RegisterFault.Failed ⊎ (is_loaded self.new ≡ true) }
@@ -327,6 +335,7 @@ impl<D: Disk> Register for DiskRegister<D> {
         ensures stays { is_loaded self.old ≡ true → IsErrOf result RegisterFault.Failed ⊎ (is_loaded self.new ≡ true) }
         ensures bounds { IfOk result (IsGrant spec.now.log) }
         ensures behind { (lce : ℕ) (next : Option Fixed) → result ≢ Err (RegisterFault.Behind lce next) }
+        ensures overtaken { (kept : ℕ) → result ≢ Err (RegisterFault.Overtaken kept) }
         ensures generations { result ≢ Err RegisterFault.GenLimit }
     {
         let grant = self.check_activate(alloc, spec)?;
@@ -342,9 +351,10 @@ impl<D: Disk> Register for DiskRegister<D> {
         log: LogId,
         epoch: u32,
         summary: &Summary,
+        short: bool,
     ) -> Result<Option<Spec>, RegisterFault>
         requires { IsSummary epoch summary.now }
-        ensures meets { Meets self.old self.new result (λ c. closed c log epoch summary.now) (λ c. after_close c log epoch summary.now) }
+        ensures meets { Meets self.old self.new result (λ c. closed c log epoch summary.now short) (λ c. after_close c log epoch summary.now short) }
         ensures steady { IsErrOf result RegisterFault.Failed ⊎ (D.faults (owned self.new) ≡ D.faults (owned self.old)) }
         ensures itself { D.identity (owned self.new) ≡ D.identity (owned self.old) }
         ensures loaded { OnOk result (is_loaded self.new ≡ true) }
@@ -352,10 +362,11 @@ impl<D: Disk> Register for DiskRegister<D> {
         ensures stays { is_loaded self.old ≡ true → IsErrOf result RegisterFault.Failed ⊎ (is_loaded self.new ≡ true) }
         ensures next { IfOk result (λ next. IfSome next (IsSpecFor log)) }
         ensures bounds { (lce : ℕ) (next : Option Fixed) → IsErrOf result (RegisterFault.Behind lce next) → (lce ≤ 2 ^ 32 - 2) × IfSome next (IsSpecFor log) }
+        ensures overtaken { (kept : ℕ) → IsErrOf result (RegisterFault.Overtaken kept) → (short ≡ true) × (kept ≤ 2 ^ 32 - 2) × (kept ≢ summary.now.ballot) }
         ensures epochs { result ≢ Err RegisterFault.EpochLimit }
         ensures generations { result ≢ Err RegisterFault.GenLimit }
     {
-        let next = self.check_close(alloc, log, epoch)?;
+        let next = self.check_close(alloc, log, epoch, summary, short)?;
         let summary = *summary;
         self.commit(
             alloc,
@@ -378,6 +389,7 @@ impl<D: Disk> Register for DiskRegister<D> {
         ensures bounds { IfOk result (λ drawn. IsOp (Format drawn.gen_ drawn.epochs)) }
         ensures logs { result ≢ Err RegisterFault.LogLimit }
         ensures behind { (lce : ℕ) (next : Option Fixed) → result ≢ Err (RegisterFault.Behind lce next) }
+        ensures overtaken { (kept : ℕ) → result ≢ Err (RegisterFault.Overtaken kept) }
         ensures epochs { result ≢ Err RegisterFault.EpochLimit }
     {
         let handed = self.check_draw(alloc, node)?;
@@ -409,6 +421,13 @@ impl<D: Disk> Register for DiskRegister<D> {
             spec: self.contents.spec(log, e),
         })
     }
+}
+
+/// Whether a close that may be short comes from the sequencer of another epoch than the greatest one.
+fn is_overtaken(kept: u32, ballot: u32, short: bool) -> bool
+    ensures { result ≡ (short && not (kept == ballot)) }
+{
+    short && kept != ballot
 }
 
 /// Whether a call of the disk failed.

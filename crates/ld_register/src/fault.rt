@@ -23,6 +23,9 @@ pub enum RegisterFault {
     /// epoch behind it, as a look at that one shows.
     #[error("the last closed epoch is {lce}")]
     Behind { lce: u32, next: Option<Spec> },
+    /// This greatest epoch was handed out, and a short close came from the sequencer of another one.
+    #[error("epoch {0} has been handed out")]
+    Overtaken(u32),
     /// The greatest epoch has been handed out.
     #[error("no epoch is left")]
     EpochLimit,

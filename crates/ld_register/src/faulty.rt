@@ -123,6 +123,7 @@ impl<D: Disk> FaultyRegister<D> {
         ensures itself { D.identity (disk_in self.new) ≡ D.identity (disk_in self.old) }
         ensures bounds { IfOk result (IsGrant spec.now.log) }
         ensures behind { (lce : ℕ) (next : Option Fixed) → result ≢ Err (RegisterFault.Behind lce next) }
+        ensures overtaken { (kept : ℕ) → result ≢ Err (RegisterFault.Overtaken kept) }
         ensures generations { result ≢ Err RegisterFault.GenLimit }
     {
         if self.is_prevented() {
@@ -138,23 +139,25 @@ impl<D: Disk> FaultyRegister<D> {
         log: LogId,
         epoch: u32,
         summary: &Summary,
+        short: bool,
     ) -> Result<Option<Spec>, RegisterFault>
         requires { IsSummary epoch summary.now }
         ensures armed { armed_of self.new ≡ armed_of self.old }
         ensures faults { own_faults self.new ≡ own_faults self.old }
-        ensures granted { OnOk result (Meets (kept_in self.old) (kept_in self.new) result (λ c. closed c log epoch summary.now) (λ c. if is_made (armed_of self.old) then after_close c log epoch summary.now else c)) }
-        ensures refused { OnErr result (Meets (kept_in self.old) (kept_in self.new) result (λ c. closed c log epoch summary.now) (λ c. after_close c log epoch summary.now)) }
+        ensures granted { OnOk result (Meets (kept_in self.old) (kept_in self.new) result (λ c. closed c log epoch summary.now short) (λ c. if is_made (armed_of self.old) then after_close c log epoch summary.now short else c)) }
+        ensures refused { OnErr result (Meets (kept_in self.old) (kept_in self.new) result (λ c. closed c log epoch summary.now short) (λ c. after_close c log epoch summary.now short)) }
         ensures steady { IsErrOf result RegisterFault.Failed ⊎ (D.faults (disk_in self.new) ≡ D.faults (disk_in self.old)) }
         ensures itself { D.identity (disk_in self.new) ≡ D.identity (disk_in self.old) }
         ensures next { IfOk result (λ next. IfSome next (IsSpecFor log)) }
         ensures bounds { (lce : ℕ) (next : Option Fixed) → IsErrOf result (RegisterFault.Behind lce next) → (lce ≤ 2 ^ 32 - 2) × IfSome next (IsSpecFor log) }
+        ensures overtaken { (kept : ℕ) → IsErrOf result (RegisterFault.Overtaken kept) → (short ≡ true) × (kept ≤ 2 ^ 32 - 2) × (kept ≢ summary.now.ballot) }
         ensures epochs { result ≢ Err RegisterFault.EpochLimit }
         ensures generations { result ≢ Err RegisterFault.GenLimit }
     {
         if self.is_prevented() {
-            return self.register.check_close(alloc, log, epoch);
+            return self.register.check_close(alloc, log, epoch, summary, short);
         }
-        self.register.close(alloc, log, epoch, summary)
+        self.register.close(alloc, log, epoch, summary, short)
     }
 
     /// Makes a draw, or only checks it where the armed fault prevents it.
@@ -168,6 +171,7 @@ impl<D: Disk> FaultyRegister<D> {
         ensures bounds { IfOk result (λ handed. IsOp (Format handed.gen_ handed.epochs)) }
         ensures logs { result ≢ Err RegisterFault.LogLimit }
         ensures behind { (lce : ℕ) (next : Option Fixed) → result ≢ Err (RegisterFault.Behind lce next) }
+        ensures overtaken { (kept : ℕ) → result ≢ Err (RegisterFault.Overtaken kept) }
         ensures epochs { result ≢ Err RegisterFault.EpochLimit }
     {
         if self.is_prevented() {
@@ -178,7 +182,7 @@ impl<D: Disk> FaultyRegister<D> {
 }
 
 impl<D: Disk> Register for FaultyRegister<D> {
-    ghost use Rattle.std.specs.Prelude.{◌≢◌, ◌⊎◌, ◌≤◌, ◌-◌, ◌^◌, ℕ, List, Option, IfOk, IfSome, IsErrOf, OnOk, OnErr, Ok, Err};
+    ghost use Rattle.std.specs.Prelude.{◌≢◌, ◌⊎◌, ◌≤◌, ◌-◌, ◌^◌, ℕ, true, List, Option, IfOk, IfSome, IsErrOf, OnOk, OnErr, Ok, Err};
     ghost use Rattle.ld_ids.specs.declared.set.Spec.{Spec as Fixed};
     ghost use Rattle.ld_msg.specs.Bounds.{IsSummary};
     ghost use Rattle.ld_msg.specs.Register.{Register as Contents};
@@ -228,6 +232,7 @@ impl<D: Disk> Register for FaultyRegister<D> {
         ensures fell { OnErr result (StaysArmed self.old self.new ⊎ HasFallen self.old self.new result (λ c. after_activate c spec.now)) }
         ensures bounds { IfOk result (IsGrant spec.now.log) }
         ensures behind { (lce : ℕ) (next : Option Fixed) → result ≢ Err (RegisterFault.Behind lce next) }
+        ensures overtaken { (kept : ℕ) → result ≢ Err (RegisterFault.Overtaken kept) }
         ensures generations { result ≢ Err RegisterFault.GenLimit }
     {
         let grant = self.attempt_activate(alloc, spec)?;
@@ -241,19 +246,21 @@ impl<D: Disk> Register for FaultyRegister<D> {
         log: LogId,
         epoch: u32,
         summary: &Summary,
+        short: bool,
     ) -> Result<Option<Spec>, RegisterFault>
         requires { IsSummary epoch summary.now }
-        ensures meets { MeetsArmed self.old self.new result (λ c. closed c log epoch summary.now) (λ c. after_close c log epoch summary.now) }
+        ensures meets { MeetsArmed self.old self.new result (λ c. closed c log epoch summary.now short) (λ c. after_close c log epoch summary.now short) }
         ensures steady { IsErrOf result RegisterFault.Failed ⊎ (faults_in self.new ≡ faults_in self.old) }
         ensures itself { D.identity (disk_in self.new) ≡ D.identity (disk_in self.old) }
         ensures passes { OnOk result (HasCounted self.old self.new) }
-        ensures fell { OnErr result (StaysArmed self.old self.new ⊎ HasFallen self.old self.new result (λ c. after_close c log epoch summary.now)) }
+        ensures fell { OnErr result (StaysArmed self.old self.new ⊎ HasFallen self.old self.new result (λ c. after_close c log epoch summary.now short)) }
         ensures next { IfOk result (λ next. IfSome next (IsSpecFor log)) }
         ensures bounds { (lce : ℕ) (next : Option Fixed) → IsErrOf result (RegisterFault.Behind lce next) → (lce ≤ 2 ^ 32 - 2) × IfSome next (IsSpecFor log) }
+        ensures overtaken { (kept : ℕ) → IsErrOf result (RegisterFault.Overtaken kept) → (short ≡ true) × (kept ≤ 2 ^ 32 - 2) × (kept ≢ summary.now.ballot) }
         ensures epochs { result ≢ Err RegisterFault.EpochLimit }
         ensures generations { result ≢ Err RegisterFault.GenLimit }
     {
-        let next = self.attempt_close(alloc, log, epoch, summary)?;
+        let next = self.attempt_close(alloc, log, epoch, summary, short)?;
         self.count_down()?;
         Ok(next)
     }
@@ -267,6 +274,7 @@ impl<D: Disk> Register for FaultyRegister<D> {
         ensures bounds { IfOk result (λ handed. IsOp (Format handed.gen_ handed.epochs)) }
         ensures logs { result ≢ Err RegisterFault.LogLimit }
         ensures behind { (lce : ℕ) (next : Option Fixed) → result ≢ Err (RegisterFault.Behind lce next) }
+        ensures overtaken { (kept : ℕ) → result ≢ Err (RegisterFault.Overtaken kept) }
         ensures epochs { result ≢ Err RegisterFault.EpochLimit }
     {
         let handed = self.attempt_draw(alloc, node)?;

@@ -45,11 +45,25 @@ fn the_second_change_fails(rt: HostRuntime) -> Result<(), Fail> {
 fn a_close_that_is_behind_does_not_count(rt: HostRuntime) -> Result<(), Fail> {
     let alloc = rt.alloc();
     let mut register = new_register(alloc)?;
-    assert_eq!(rt; close(alloc, &mut register), Ok(None));
+    assert_eq!(rt; close(alloc, &mut register, false), Ok(()));
     register.arm(1, true);
     assert_eq!(rt;
-        close(alloc, &mut register),
+        close(alloc, &mut register, false),
         Err(RegisterFault::Behind { lce: 1, next: None })
+    );
+    assert_eq!(rt; epoch(alloc, &mut register, 1), Err(RegisterFault::Failed));
+    Ok(())
+}
+
+#[test]
+fn a_close_that_is_overtaken_does_not_count(rt: HostRuntime) -> Result<(), Fail> {
+    let alloc = rt.alloc();
+    let mut register = new_register(alloc)?;
+    assert_eq!(rt; epoch(alloc, &mut register, 1), Ok(1));
+    register.arm(1, true);
+    assert_eq!(rt;
+        close(alloc, &mut register, true),
+        Err(RegisterFault::Overtaken(1))
     );
     assert_eq!(rt; epoch(alloc, &mut register, 1), Err(RegisterFault::Failed));
     Ok(())

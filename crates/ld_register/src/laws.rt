@@ -1,5 +1,5 @@
 // What holds of a register's answers over any list of calls.
-ghost use Rattle.std.specs.Prelude.{◌≡◌, ◌≤◌, ◌<◌, ◌⊎◌, ◌++◌, ◌∷◌, [], ℕ, List, Option, Ok, Some};
+ghost use Rattle.std.specs.Prelude.{◌≡◌, ◌≤◌, ◌<◌, ◌⊎◌, ◌++◌, ◌∷◌, [], ℕ, Bool, List, Option, Ok, Some};
 ghost use Rattle.std.specs.declared.result.Result.{Result as Outcome};
 ghost use Rattle.ld_disk.specs.Plain.{Plain};
 ghost use Rattle.ld_ids.specs.declared.set.Spec.{Spec};
@@ -45,8 +45,8 @@ pub fn summaries_stay()
 
 /// Each look after a close that answered shows the summary of that close.
 pub fn closes_are_shown()
-    ensures { (c d : Contents) (before between after : List Call) (l e : ℕ) (y : Summary) (next : Option Spec) (view : View)
-        → Runs c (before ++ Closes l e y (Ok next) ∷ (between ++ Looks l e (Ok view) ∷ after)) d → view.summary ≡ Some y }
+    ensures { (c d : Contents) (before between after : List Call) (l e : ℕ) (y : Summary) (short : Bool) (next : Option Spec) (view : View)
+        → Runs c (before ++ Closes l e y short (Ok next) ∷ (between ++ Looks l e (Ok view) ∷ after)) d → view.summary ≡ Some y }
 {}
 
 /// What is fixed for an epoch that was handed out never changes.

@@ -1,5 +1,5 @@
 // A register as its users see it.
-ghost use Rattle.std.specs.Prelude.{◌≡◌, ◌≢◌, ◌⊎◌, ◌≤◌, ◌-◌, ◌^◌, ◌∷◌, [], ℕ, List, Option, IfOk, IfSome, OnErr, IsErrOf, Ok, Err};
+ghost use Rattle.std.specs.Prelude.{◌≡◌, ◌≢◌, ◌⊎◌, ◌≤◌, ◌-◌, ◌^◌, ◌∷◌, [], ℕ, true, List, Option, IfOk, IfSome, OnErr, IsErrOf, Ok, Err};
 ghost use Rattle.ld_io.specs.Causes.{Rose};
 ghost use Rattle.ld_ids.specs.declared.set.Spec.{Spec as Fixed};
 ghost use Rattle.ld_msg.specs.Bounds.{IsSummary};
@@ -95,38 +95,43 @@ pub trait Register {
         ensures failed { IsErrOf result RegisterFault.Failed → Rose (faults self.old) (faults self.new) }
         ensures damaged { (place : ℕ) → IsErrOf result (RegisterFault.Damaged place) → told self.old → damaged self.old place }
         ensures behind { (lce : ℕ) (next : Option Fixed) → result ≢ Err (RegisterFault.Behind lce next) }
+        ensures overtaken { (kept : ℕ) → result ≢ Err (RegisterFault.Overtaken kept) }
         ensures generations { result ≢ Err RegisterFault.GenLimit }
         ensures steady { IsErrOf result RegisterFault.Failed ⊎ (faults self.new ≡ faults self.old) }
         ensures itself { identity self.new ≡ identity self.old }
         ensures counts { faults self.old ≤ faults self.new };
 
     /// Closes the log's epoch with a summary of it. It is taken exactly where the epoch before is the last closed
-    /// one. It tells what is fixed for the epoch behind: for the greatest one where that isn't handed out, and nothing
-    /// where none was fixed.
+    /// one and, of a short close, the greatest epoch is the summary's ballot. It tells what is fixed for the epoch
+    /// behind: for the greatest one where that isn't handed out, and nothing where none was fixed.
     ///
     /// It refuses with `LogLimit` exactly where 64 other logs are held, then with `Behind`, the last closed epoch and
-    /// what is fixed for the one behind it exactly where that isn't the one to be closed, then with `Full` exactly where its journal would be longer than 2^40
-    /// bytes; with `Damaged` where the bytes are no journal of changes; and with `Failed` and `NoMemory` at any point.
+    /// what is fixed for the one behind it exactly where that isn't the one to be closed, then with `Overtaken` and the
+    /// greatest epoch exactly where `short` holds and that epoch isn't the summary's ballot, then with `Full` exactly
+    /// where its journal would be longer than 2^40 bytes; with `Damaged` where the bytes are no journal of changes; and
+    /// with `Failed` and `NoMemory` at any point.
     fn close(
         &mut self,
         alloc: Global,
         log: LogId,
         epoch: u32,
         summary: &Summary,
+        short: bool,
     ) -> Result<Option<Spec>, RegisterFault>
         requires { IsSummary epoch summary.now }
-        ensures answers { (c : Contents) → holds self.old c → IsFree result ⊎ ((result ≡ closed c log epoch summary.now) × holds self.new (after_close c log epoch summary.now)) }
+        ensures answers { (c : Contents) → holds self.old c → IsFree result ⊎ ((result ≡ closed c log epoch summary.now short) × holds self.new (after_close c log epoch summary.now short)) }
         ensures told { told self.old → told self.new }
         ensures whole { told self.old → IsFree result ⊎ ((c : Contents) × holds self.old c) }
         ensures settled { told self.old → IsFree result ⊎ ((c : Contents) → may_hold self.new c → holds self.new c) }
         ensures sure { told self.old → IsFree result ⊎ ((c : Contents) × holds self.new c × leaves self.new (c ∷ [])) }
-        ensures done_or_not { told self.old → ChangedOrNot (may_hold self.old) (may_hold self.new) (λ c. after_close c log epoch summary.now) }
-        ensures survives { (cs : List Contents) → told self.old → leaves self.old cs → leaves self.new (with_and_without (λ c. after_close c log epoch summary.now) cs) }
+        ensures done_or_not { told self.old → ChangedOrNot (may_hold self.old) (may_hold self.new) (λ c. after_close c log epoch summary.now short) }
+        ensures survives { (cs : List Contents) → told self.old → leaves self.old cs → leaves self.new (with_and_without (λ c. after_close c log epoch summary.now short) cs) }
         ensures keeps { IsErrOf result RegisterFault.Failed ⊎ OnErr result (Keeps (holds self.old) (holds self.new) (may_hold self.old) (may_hold self.new)) }
         ensures exact { (c : Contents) → tells self.old c
-            → (IsErrOf result RegisterFault.NoMemory × tells self.new c) ⊎ ((result ≡ closed c log epoch summary.now) × tells self.new (after_close c log epoch summary.now)) }
+            → (IsErrOf result RegisterFault.NoMemory × tells self.new c) ⊎ ((result ≡ closed c log epoch summary.now short) × tells self.new (after_close c log epoch summary.now short)) }
         ensures next { IfOk result (λ next. IfSome next (IsSpecFor log)) }
         ensures bounds { (lce : ℕ) (next : Option Fixed) → IsErrOf result (RegisterFault.Behind lce next) → (lce ≤ 2 ^ 32 - 2) × IfSome next (IsSpecFor log) }
+        ensures overtaken { (kept : ℕ) → IsErrOf result (RegisterFault.Overtaken kept) → (short ≡ true) × (kept ≤ 2 ^ 32 - 2) × (kept ≢ summary.now.ballot) }
         ensures failed { IsErrOf result RegisterFault.Failed → Rose (faults self.old) (faults self.new) }
         ensures damaged { (place : ℕ) → IsErrOf result (RegisterFault.Damaged place) → told self.old → damaged self.old place }
         ensures epochs { result ≢ Err RegisterFault.EpochLimit }
@@ -157,6 +162,7 @@ pub trait Register {
         ensures damaged { (place : ℕ) → IsErrOf result (RegisterFault.Damaged place) → told self.old → damaged self.old place }
         ensures logs { result ≢ Err RegisterFault.LogLimit }
         ensures behind { (lce : ℕ) (next : Option Fixed) → result ≢ Err (RegisterFault.Behind lce next) }
+        ensures overtaken { (kept : ℕ) → result ≢ Err (RegisterFault.Overtaken kept) }
         ensures epochs { result ≢ Err RegisterFault.EpochLimit }
         ensures steady { IsErrOf result RegisterFault.Failed ⊎ (faults self.new ≡ faults self.old) }
         ensures itself { identity self.new ≡ identity self.old }

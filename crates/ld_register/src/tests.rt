@@ -39,7 +39,8 @@ fn first_node() -> Result<NodeId, RegisterFault> {
     }
 }
 
-fn summary() -> Summary
+/// A summary of epoch 1 with ballot 2.
+fn summary(loss: bool) -> Summary
     ensures { IsSummary 1 result }
 {
     Summary {
@@ -47,6 +48,7 @@ fn summary() -> Summary
         lng: 0,
         trim: Lsn::from_u64(0),
         end: 1,
+        loss,
     }
 }
 
@@ -68,6 +70,14 @@ fn spec_over(log: u32, bits: u16) -> Result<Spec, RegisterFault>
     })
 }
 
+/// The nodes of a set of this number as they are fixed for an epoch of log 1, and nothing for the number 0.
+fn fixed_over(bits: u16) -> Result<Option<Spec>, RegisterFault> {
+    if bits == 0 {
+        return Ok(None);
+    }
+    Ok(Some(spec_over(1, bits)?))
+}
+
 /// The epoch that an activation of the log hands out.
 pub(crate) fn epoch<R: Register>(
     alloc: Global,
@@ -78,17 +88,56 @@ pub(crate) fn epoch<R: Register>(
     Ok(grant.epoch)
 }
 
-/// Closes epoch 1 of log 1, and tells what is fixed for epoch 2.
+/// Closes epoch 1 of log 1 with ballot 2.
 pub(crate) fn close<R: Register>(
     alloc: Global,
     register: &mut R,
-) -> Result<Option<Spec>, RegisterFault> {
-    register.close(alloc, log_of(1)?, 1, &summary())
+    short: bool,
+) -> Result<(), RegisterFault> {
+    let _ = register.close(alloc, log_of(1)?, 1, &summary(true), short)?;
+    Ok(())
+}
+
+/// Whether a close of epoch 1 of log 1 tells that the set of this number is fixed for epoch 2.
+fn closes_before<R: Register>(
+    alloc: Global,
+    register: &mut R,
+    bits: u16,
+) -> Result<bool, RegisterFault> {
+    let next = register.close(alloc, log_of(1)?, 1, &summary(false), false)?;
+    Ok(next == fixed_over(bits)?)
 }
 
 /// What is shown of log 1 and its epoch 1.
 fn view<R: Register>(alloc: Global, register: &mut R) -> Result<View, RegisterFault> {
     register.look(alloc, log_of(1)?, 1)
+}
+
+/// Whether this is shown of log 1 and its epoch 1, which is closed or not.
+fn shows<R: Register>(
+    alloc: Global,
+    register: &mut R,
+    lce: u32,
+    bits: u16,
+) -> Result<bool, RegisterFault> {
+    let shown = view(alloc, register)?;
+    let expected = View {
+        epoch: 1,
+        lce,
+        summary: if lce == 1 { Some(summary(false)) } else { None },
+        spec: fixed_over(bits)?,
+    };
+    Ok(shown == expected)
+}
+
+/// What is shown of whether anything is lost in an epoch of log 1: 0 where the epoch isn't closed, 1 where nothing is
+/// lost, else 2.
+fn loss<R: Register>(alloc: Global, register: &mut R, e: u32) -> Result<u32, RegisterFault> {
+    let view = register.look(alloc, log_of(1)?, e)?;
+    match view.summary {
+        Some(summary) => Ok(if summary.loss { 2 } else { 1 }),
+        None => Ok(0),
+    }
 }
 
 /// The generation that a draw hands out, and how many logs have an epoch.
@@ -126,7 +175,7 @@ pub(crate) fn make<R: Register>(
             let _ = epoch(alloc, register, 1)?;
         }
         Change::Close => {
-            let _ = close(alloc, register)?;
+            close(alloc, register, false)?;
         }
         Change::Draw => {
             let _ = drawn(alloc, register)?;
@@ -171,16 +220,39 @@ fn an_epoch_is_handed_out_and_closed(rt: HostRuntime) -> Result<(), Fail> {
     let alloc = rt.alloc();
     let mut register = new_register(alloc)?;
     assert_eq!(rt; epoch(alloc, &mut register, 1), Ok(1));
-    let spec = Some(spec_over(1, 5)?);
-    let shown = View {
-        epoch: 1,
-        lce: 1,
-        summary: Some(summary()),
-        spec,
-    };
-    assert_eq!(rt; close(alloc, &mut register), Ok(spec));
-    assert_eq!(rt; view(alloc, &mut register), Ok(shown));
+    assert_eq!(rt; closes_before(alloc, &mut register, 5), Ok(true));
+    assert_eq!(rt; shows(alloc, &mut register, 1, 5), Ok(true));
     assert_eq!(rt; drawn(alloc, &mut register), Ok((1, 1)));
+    Ok(())
+}
+
+/// A register that has handed out so many epochs of log 1.
+fn with_epochs(alloc: Global, count: u32) -> Result<DiskRegister<MemDisk>, RegisterFault> {
+    let mut register = new_register(alloc)?;
+    for _ in 0..count {
+        let _ = epoch(alloc, &mut register, 1)?;
+    }
+    Ok(register)
+}
+
+#[test]
+fn a_short_close_is_overtaken_by_another_epoch(rt: HostRuntime) -> Result<(), Fail> {
+    let alloc = rt.alloc();
+    let mut register = with_epochs(alloc, 3)?;
+    let overtaken = Err(RegisterFault::Overtaken(3));
+    assert_eq!(rt; close(alloc, &mut register, true), overtaken);
+    assert_eq!(rt; close(alloc, &mut register, false), Ok(()));
+    Ok(())
+}
+
+#[test]
+fn a_short_close_of_the_greatest_epoch_is_taken(rt: HostRuntime) -> Result<(), Fail> {
+    let alloc = rt.alloc();
+    let mut register = with_epochs(alloc, 2)?;
+    assert_eq!(rt; close(alloc, &mut register, true), Ok(()));
+    assert_eq!(rt; loss(alloc, &mut register, 1), Ok(2));
+    let mut register = again(alloc, register);
+    assert_eq!(rt; loss(alloc, &mut register, 1), Ok(2));
     Ok(())
 }
 
@@ -213,71 +285,102 @@ fn a_crash_leaves_the_change_or_does_not(rt: HostRuntime) -> Result<(), Fail> {
     Ok(())
 }
 
+/// Whether the register's disk has these bytes.
+fn has_bytes(register: DiskRegister<MemDisk>, expected: &[u8; 40]) -> Result<bool, Fail> {
+    let mut disk = register.into_disk();
+    let mut bytes = [9; 40];
+    let _ = disk.read(0, &mut bytes)?;
+    Ok(bytes == *expected)
+}
+
 #[test]
 fn an_activation_is_a_record_of_thirteen_bytes(rt: HostRuntime) -> Result<(), Fail> {
     let alloc = rt.alloc();
     let mut register = new_register(alloc)?;
-    assert_eq!(rt;
-        register.activate(alloc, &spec_over(1, 0x8005)?).is_ok(),
-        true
-    );
-    let mut disk = register.into_disk();
-    let mut bytes = [9; 20];
-    assert_eq!(rt; disk.read(0, &mut bytes)?, 19);
-    assert_eq!(rt;
-        bytes,
-        [
-            1, 0, 0, 0, 13, 19, 0, 0, 0, 1, 0, 0, 0, 1, 128, 5, 1, 2, 0, 9
-        ]
-    );
+    let spec = spec_over(1, 0x8005)?;
+    assert_eq!(rt; register.activate(alloc, &spec).is_ok(), true);
+    let mut bytes = [9; 40];
+    bytes[..19].copy_from_slice(&[1, 0, 0, 0, 13, 19, 0, 0, 0, 1, 0, 0, 0, 1, 128, 5, 1, 2, 0]);
+    assert_eq!(rt; has_bytes(register, &bytes)?, true);
     Ok(())
 }
 
-/// What is shown of log 1 and an epoch of it that is fixed.
-fn fixed<R: Register>(
+#[test]
+fn a_close_is_a_record_of_thirty_bytes(rt: HostRuntime) -> Result<(), Fail> {
+    let alloc = rt.alloc();
+    let mut register = new_register(alloc)?;
+    close(alloc, &mut register, false)?;
+    let bytes = [
+        1, 0, 0, 0, 30, 20, 0, 0, 0, 1, 0, 0, 0, 1, 0, 0, 0, 2, 0, 0, 0, 0, //
+        0, 0, 0, 0, 0, 0, 0, 0, 0, 0, 0, 1, 1, 0, 9, 9, 9, 9,
+    ];
+    assert_eq!(rt; has_bytes(register, &bytes)?, true);
+    Ok(())
+}
+
+/// Whether the set of this number is shown as fixed for an epoch of log 1.
+fn fixes<R: Register>(
     alloc: Global,
     register: &mut R,
     e: u32,
-) -> Result<Option<Spec>, RegisterFault> {
+    bits: u16,
+) -> Result<bool, RegisterFault> {
     let view = register.look(alloc, log_of(1)?, e)?;
-    Ok(view.spec)
+    Ok(view.spec == fixed_over(bits)?)
+}
+
+/// Whether an activation of log 1 over the set of this number hands out an epoch, and tells which set is fixed for the
+/// next one to be closed.
+fn grants<R: Register>(
+    alloc: Global,
+    register: &mut R,
+    bits: u16,
+    epoch: u32,
+    next: u16,
+) -> Result<bool, RegisterFault> {
+    let grant = register.activate(alloc, &spec_over(1, bits)?)?;
+    let expected = Grant {
+        epoch,
+        lce: 0,
+        next: fixed_over(next)?,
+    };
+    Ok(grant == expected)
 }
 
 #[test]
 fn each_epoch_keeps_what_was_fixed_for_it(rt: HostRuntime) -> Result<(), Fail> {
     let alloc = rt.alloc();
     let mut register = new_register(alloc)?;
-    assert_eq!(rt; fixed(alloc, &mut register, 1), Ok(None));
-    let first = spec_over(1, 5)?;
-    let second = spec_over(1, 6)?;
-    let grant = |epoch, next| Grant {
-        epoch,
-        lce: 0,
-        next: Some(next),
-    };
-    assert_eq!(rt; register.activate(alloc, &first), Ok(grant(1, first)));
-    assert_eq!(rt; register.activate(alloc, &second), Ok(grant(2, first)));
+    assert_eq!(rt; fixes(alloc, &mut register, 1, 0), Ok(true));
+    assert_eq!(rt; grants(alloc, &mut register, 5, 1, 5), Ok(true));
+    assert_eq!(rt; grants(alloc, &mut register, 6, 2, 5), Ok(true));
     let mut register = again(alloc, register);
-    for (e, spec) in [(0, second), (1, first), (2, second), (3, second)] {
-        assert_eq!(rt; fixed(alloc, &mut register, e), Ok(Some(spec)));
+    for (e, bits) in [(0, 6), (1, 5), (2, 6), (3, 6)] {
+        assert_eq!(rt; fixes(alloc, &mut register, e, bits), Ok(true));
     }
-    assert_eq!(rt; close(alloc, &mut register), Ok(Some(second)));
-    assert_eq!(rt;
-        close(alloc, &mut register),
-        Err(RegisterFault::Behind {
-            lce: 1,
-            next: Some(second),
-        })
-    );
+    Ok(())
+}
+
+#[test]
+fn a_close_that_is_behind_tells_what_is_fixed_next(rt: HostRuntime) -> Result<(), Fail> {
+    let alloc = rt.alloc();
+    let mut register = with_epochs(alloc, 1)?;
+    assert_eq!(rt; grants(alloc, &mut register, 6, 2, 5), Ok(true));
+    assert_eq!(rt; closes_before(alloc, &mut register, 6), Ok(true));
+    let behind = RegisterFault::Behind {
+        lce: 1,
+        next: fixed_over(6)?,
+    };
+    assert_eq!(rt; close(alloc, &mut register, true), Err(behind));
     Ok(())
 }
 
 /// A register on a disk of these bytes.
 fn register_of(alloc: Global, bytes: &[u8]) -> Result<DiskRegister<MemDisk>, Fail>
-    requires { length bytes.now ≤ 40 }
+    requires { length bytes.now ≤ 80 }
 {
     let mut disk = MemDisk::new(alloc)?;
-    disk.reserve(40, 1)?;
+    disk.reserve(80, 1)?;
     disk.write_at(0, bytes)?;
     Ok(DiskRegister::new(alloc, disk))
 }
@@ -287,25 +390,57 @@ fn an_old_journal_goes_on(rt: HostRuntime) -> Result<(), Fail> {
     let alloc = rt.alloc();
     let bytes = [1, 0, 0, 0, 9, 16, 0, 0, 0, 1, 0, 0, 0, 1, 0];
     let mut register = register_of(alloc, &bytes)?;
-    let shown = View {
-        epoch: 1,
-        lce: 0,
-        summary: None,
-        spec: None,
-    };
-    assert_eq!(rt; view(alloc, &mut register), Ok(shown));
-    let spec = spec_over(1, 5)?;
-    let grant = Grant {
-        epoch: 2,
-        lce: 0,
-        next: None,
-    };
-    assert_eq!(rt; register.activate(alloc, &spec), Ok(grant));
+    assert_eq!(rt; shows(alloc, &mut register, 0, 0), Ok(true));
+    assert_eq!(rt; grants(alloc, &mut register, 5, 2, 0), Ok(true));
     let mut register = again(alloc, register);
-    for (e, spec) in [(1, None), (2, Some(spec))] {
-        assert_eq!(rt; fixed(alloc, &mut register, e), Ok(spec));
+    for (e, bits) in [(1, 0), (2, 5)] {
+        assert_eq!(rt; fixes(alloc, &mut register, e, bits), Ok(true));
     }
-    assert_eq!(rt; close(alloc, &mut register), Ok(Some(spec)));
+    assert_eq!(rt; closes_before(alloc, &mut register, 5), Ok(true));
+    Ok(())
+}
+
+#[test]
+fn old_and_new_closes_may_follow_each_other(rt: HostRuntime) -> Result<(), Fail> {
+    let alloc = rt.alloc();
+    let bytes = [
+        1, 0, 0, 0, 30, 20, 0, 0, 0, 1, 0, 0, 0, 1, 0, 0, 0, 2, 0, 0, 0, 0, //
+        0, 0, 0, 0, 0, 0, 0, 0, 0, 0, 0, 1, 1, //
+        1, 0, 0, 0, 29, 17, 0, 0, 0, 1, 0, 0, 0, 2, 0, 0, 0, 3, 0, 0, 0, 0, //
+        0, 0, 0, 0, 0, 0, 0, 0, 0, 0, 0, 1, 0,
+    ];
+    let mut register = register_of(alloc, &bytes)?;
+    for (e, shown) in [(1, 2), (2, 1), (3, 0)] {
+        assert_eq!(rt; loss(alloc, &mut register, e), Ok(shown));
+    }
+    Ok(())
+}
+
+#[test]
+fn an_old_close_loses_nothing(rt: HostRuntime) -> Result<(), Fail> {
+    let alloc = rt.alloc();
+    let bytes = [
+        1, 0, 0, 0, 29, 17, 0, 0, 0, 1, 0, 0, 0, 1, 0, 0, 0, 2, 0, 0, 0, 0, //
+        0, 0, 0, 0, 0, 0, 0, 0, 0, 0, 0, 1, //
+        1, 0, 0, 0, 30, 20, 0, 0, 0, 1, 0, 0, 0, 2, 0, 0, 0, 3, 0, 0, 0, 0, //
+        0, 0, 0, 0, 0, 0, 0, 0, 0, 0, 0, 1, 1, 0,
+    ];
+    let mut register = register_of(alloc, &bytes)?;
+    for (e, shown) in [(1, 1), (2, 2)] {
+        assert_eq!(rt; loss(alloc, &mut register, e), Ok(shown));
+    }
+    Ok(())
+}
+
+#[test]
+fn a_close_with_another_loss_than_0_or_1_is_damaged(rt: HostRuntime) -> Result<(), Fail> {
+    let alloc = rt.alloc();
+    let bytes = [
+        1, 0, 0, 0, 30, 20, 0, 0, 0, 1, 0, 0, 0, 1, 0, 0, 0, 2, 0, 0, 0, 0, //
+        0, 0, 0, 0, 0, 0, 0, 0, 0, 0, 0, 1, 2, 0,
+    ];
+    let mut register = register_of(alloc, &bytes)?;
+    assert_eq!(rt; view(alloc, &mut register), Err(RegisterFault::Damaged(0)));
     Ok(())
 }
 

@@ -1,5 +1,5 @@
 -- A sequencer's acknowledged numbers were told so in lines: each number up to its last one such that it and all below are acknowledged, and each pending one that has enough copies.
-use Rattle.std.proofs.Common.{◌≡◌, ◌∙◌, ◌≤◌, ◌<◌, ℕ, ◌+◌, inl, inr, refl, ap, sym, subst, true, nat_le, if◌then◌else◌, List, [], ◌∷◌, ◌++◌, length, Option, Some, None, arith}
+use Rattle.std.proofs.Common.{Bool, ◌≡◌, ◌∙◌, ◌≤◌, ◌<◌, ℕ, ◌+◌, inl, inr, refl, ap, sym, subst, true, nat_le, if◌then◌else◌, List, [], ◌∷◌, ◌++◌, length, Option, Some, None, arith}
 use Rattle.std.proofs.lemmas.Bool.{cases_Bool, cases_order, leb-true}
 use Rattle.ld_table.specs.Table.{find, put}
 use Rattle.ld_table.specs.Named.{find_named, put_named}
@@ -12,7 +12,7 @@ use Rattle.ld_msg.specs.declared.msg.Msg.{Msg}
 use Rattle.ld_msg.specs.declared.msg.Body.{Body}
 use Rattle.ld_msg.specs.declared.msg.Summary.{Summary}
 use Rattle.ld_msg.specs.Register.{Register, View, epochs_of, lce_of}
-use Rattle.ld_msg.specs.Sequencer.{Sequencer, Append, Acts, Called, called, on_reply, on_retry, Numbered, appended, fresh_append, activated, next_esn, is_acked, acked_first, stored_at, with_append, raised, rose, released_of}
+use Rattle.ld_msg.specs.Sequencer.{Sequencer, Recovery, Append, Acts, Called, called, on_reply, on_retry, Numbered, appended, fresh_append, activated, next_esn, is_acked, acked_first, stored_at, with_append, raised, rose, released_of}
 use Rattle.ld_op.specs.declared.op.Op.{Op}
 use Rattle.ld_op.specs.Ticks.{Ticked, Cleans, Rebuilt, Asks, Nothing}
 use Rattle.ld_machine.specs.Config.{looks_at}
@@ -29,7 +29,7 @@ use Rattle.ld_safety.proofs.Names.{named_cases}
 use Rattle.ld_safety.proofs.Traces.{Keeps, happened, beside_kept}
 use Rattle.ld_safety.proofs.Steps.{told, writes_before, finish_In}
 use Rattle.ld_safety.proofs.Events.{Cases, dispatch, Live, refreshed}
-use Rattle.ld_safety.proofs.SequencerSteps.{Acting, Retrying, Closing, replied, retried}
+use Rattle.ld_safety.proofs.SequencerSteps.{Acting, Retrying, Closing, gone_of, replied, retried}
 use Rattle.ld_safety.proofs.Appends.{RowOf, put_in_row}
 use Rattle.ld_safety.proofs.Acks.{acked_in_row, unacked_in, raised_in}
 use Rattle.ld_safety.proofs.Base.{counts_of}
@@ -106,34 +106,40 @@ module _ (c : Config) (hs : List Happened) (q : Sequencer) (F : LinesFine hs q) 
           let z = acked_in_row q.spec (numbered q.epoch (q.lng + 1)) (put n (stored_at p y) q.appends) (numbered q.epoch k) t.row (omega arith) (omega arith) in
           subst (Acked hs q.log) z.2 (put_now z.0 z.1 z.3)
 
-  close_before : (r : Register) (looks : ℕ → View) (a : Acts) (e : ℕ) (y : Summary) → a.sequencer.log ≡ q.log → a.sequencer.epoch ≡ q.epoch → a.sequencer.spec ≡ q.spec → a.sequencer.lng ≡ q.lng → a.sequencer.appends ≡ q.appends → Closing r looks a e y CallFine
-  close_before r looks a e y l b k g x = record { granted = λ n h i. as_before _ l b k g x; overtaken = λ h. as_before _ l b k g x; behind = λ u h. as_before _ l b k g x; failed = λ n i. as_before _ l b k g x }
+  close_before : (r : Register) (looks : ℕ → View) (a : Acts) (e : ℕ) (y : Summary) (short : Bool) → a.sequencer.log ≡ q.log → a.sequencer.epoch ≡ q.epoch → a.sequencer.spec ≡ q.spec → a.sequencer.lng ≡ q.lng → a.sequencer.appends ≡ q.appends → Closing r looks a e y short CallFine
+  close_before r looks a e y short l b k g x = record { granted = λ n h o i. as_before _ l b k g x; passed = λ h. as_before _ l b k g x; behind = λ u h. as_before _ l b k g x; overtaken = λ h o. as_before _ l b k g x; failed = λ n i. as_before _ l b k g x }
 
-  close_raised : (r : Register) (looks : ℕ → View) (a : Acts) (e : ℕ) (y : Summary) → a.sequencer.log ≡ q.log → a.sequencer.epoch ≡ q.epoch → a.sequencer.spec ≡ q.spec → a.sequencer.lng ≡ q.lng → a.sequencer.appends ≡ raised q.spec q.appends → Closing r looks a e y CallFine
-  close_raised r looks a e y l b k g x = record { granted = λ n h i. as_raised _ l b k g x; overtaken = λ h. as_raised _ l b k g x; behind = λ u h. as_raised _ l b k g x; failed = λ n i. as_raised _ l b k g x }
+  close_raised : (r : Register) (looks : ℕ → View) (a : Acts) (e : ℕ) (y : Summary) (short : Bool) → a.sequencer.log ≡ q.log → a.sequencer.epoch ≡ q.epoch → a.sequencer.spec ≡ q.spec → a.sequencer.lng ≡ q.lng → a.sequencer.appends ≡ raised q.spec q.appends → Closing r looks a e y short CallFine
+  close_raised r looks a e y short l b k g x = record { granted = λ n h o i. as_raised _ l b k g x; passed = λ h. as_raised _ l b k g x; behind = λ u h. as_raised _ l b k g x; overtaken = λ h o. as_raised _ l b k g x; failed = λ n i. as_raised _ l b k g x }
 
-  acting_lines : (r : Register) (y : ℕ) (b : Body) → RowOf q → Acting c r q y b (λ k m. CallFine k)
-  acting_lines r y b R = record {
+  acting_lines : (r : Register) (gone : Recovery → List ℕ) (y : ℕ) (b : Body) → RowOf q → Acting c r gone q y b (λ k m. CallFine k)
+  acting_lines r gone y b R = record {
     quiet = as_before _ refl refl refl refl refl;
     sealed = λ n k f i l. as_before _ refl refl refl refl refl;
     cleaned_own = λ n s f i g. as_before _ refl refl refl refl refl;
     acks = λ n p f i g k m. record { fine = λ h. stored_lines y n p k R h };
-    settles_some = λ v g p f e i s m u. as_before _ refl refl refl refl refl;
-    settles_all = λ v g p f e i z m u. close_before r _ _ v.epoch _ refl refl refl refl refl;
     lost_own = λ n round g end f i k. as_before _ refl refl refl refl refl;
-    lost_there = λ v n round g end f e i k. as_before _ refl refl refl refl refl;
     cleaned = λ v n s f e i k. as_before _ refl refl refl refl refl;
-    asks_more = λ v d from upto trim lng es f e i g k t u. as_before _ refl refl refl refl refl;
-    plans = λ v d from upto trim lng es f e i g k t u. as_before _ refl refl refl refl refl;
+    asks_more = λ w d asks f h a n u. as_before _ refl refl refl refl refl;
+    plans = λ w d loss f h p. as_before _ refl refl refl refl refl;
+    looks_closed = λ w d s f h u o. as_before _ refl refl refl refl refl;
+    looks_later = λ w d f h u o n. as_before _ refl refl refl refl refl;
+    stores_on = λ w g f h t. as_before _ refl refl refl refl refl;
+    closes_now = λ w g f h t. close_before r _ _ w.epoch _ _ refl refl refl refl refl;
+    lost_closing = λ v s short n round g end f e i h k. as_before _ refl refl refl refl refl;
   }
 
-  retrying_lines : (r : Register) → Retrying c r q CallFine
-  retrying_lines r = record {
+  retrying_lines : (r : Register) (gone : Recovery → List ℕ) → Retrying c r gone q (λ k m. CallFine k)
+  retrying_lines r gone = record {
     quiet = as_before _ refl refl refl refl refl;
     appends = λ f. as_raised _ refl refl refl refl refl;
-    seals = λ v d f e i. as_raised _ refl refl refl refl refl;
-    stores = λ v g f e i. as_raised _ refl refl refl refl refl;
-    closes = λ v y f e i. close_raised r _ _ v.epoch y refl refl refl refl refl;
+    seals = λ v d f e i u. as_raised _ refl refl refl refl refl;
+    plans = λ v d f e i p. as_raised _ refl refl refl refl refl;
+    looks_closed = λ v d s f e i u o. as_raised _ refl refl refl refl refl;
+    looks_later = λ v d f e i u o n. as_raised _ refl refl refl refl refl;
+    stores_on = λ v g f e i t. as_raised _ refl refl refl refl refl;
+    closes_now = λ v g f e i t. close_raised r _ _ v.epoch _ _ refl refl refl refl refl;
+    closes = λ v y short f e i. close_raised r _ _ v.epoch y short refl refl refl refl refl;
   }
 
 -- ---- the lines of a call ----
@@ -207,8 +213,8 @@ module _ (c : Config) (hs : List Happened) (s : State) (e : Event) (D : (t : Lis
     faults = λ n f o. stays _ refl;
     sets = λ l r x set h. stays _ refl;
     arms = λ k done o. stays _ refl;
-    hears = λ f name q m i t l v o. acted f name q (on_reply (looks_at c s.register q.log) q (Step.sender_node m.from) m.body) v.named (λ gs F. replied c s.register name q v.there (Step.sender_node m.from) m.body (λ k n. CallFine c gs q F k) (acting_lines c gs q F s.register (Step.sender_node m.from) m.body (rows name q v.named)));
-    retries = λ name q v o. acted s.network.fresh name q (on_retry q) v.named (λ gs F. retried c s.register q (CallFine c gs q F) (retrying_lines c gs q F s.register));
+    hears = λ f name q m i t l v o. acted f name q (on_reply (looks_at c s.register q.log) q (Step.sender_node m.from) m.body) v.named (λ gs F. replied c s name q v.there (Step.sender_node m.from) m.body (λ k n. CallFine c gs q F k) (acting_lines c gs q F s.register (gone_of s q) (Step.sender_node m.from) m.body (rows name q v.named)));
+    retries = λ name q v o. acted s.network.fresh name q (on_retry (looks_at c s.register q.log) q) v.named (λ gs F. retried c s q v.there (λ k n. CallFine c gs q F k) (retrying_lines c gs q F s.register (gone_of s q)));
     appends = λ name q p v a i. appends_on name q p v;
     trims = λ name q t v a. stays _ refl;
     drops = λ name q v o. puts (only_state (with_sequencer s name (Step.dropped q))) name (Step.dropped q) refl (let F = lines_grow hs s.register e (only_state (with_sequencer s name (Step.dropped q))) q (D name q v.named) in record { appends = F.appends; acked = F.acked });

@@ -1,5 +1,5 @@
 -- Each event leaves sequencers that acknowledged only what was stored by enough nodes.
-use Rattle.std.proofs.Common.{◌≡◌, ◌∙◌, ◌≤◌, ℕ, ◌+◌, inl, inr, refl, ap, sym, subst, true, if◌then◌else◌, List, [], ◌∷◌, Option, Some, None, arith, ◌<◌}
+use Rattle.std.proofs.Common.{Bool, ◌≡◌, ◌∙◌, ◌≤◌, ℕ, ◌+◌, inl, inr, refl, ap, sym, subst, true, if◌then◌else◌, List, [], ◌∷◌, Option, Some, None, arith, ◌<◌}
 use Rattle.ld_safety.proofs.Protocol.{tells_stored}
 use Rattle.ld_ids.specs.Choice.{nodes_of}
 use Rattle.ld_table.specs.Table.{find}
@@ -17,7 +17,7 @@ use Rattle.ld_msg.specs.declared.msg.Who.TheVariants as whos
 use Rattle.ld_op.specs.declared.op.Op.{Op}
 use Rattle.ld_op.specs.Ticks.{Ticked, Cleans, Rebuilt, Asks, Nothing}
 use Rattle.ld_msg.specs.Register.{Register, View, Epochs, Granted, epochs_of, lce_of, close, activate, closed_epochs, with_epochs}
-use Rattle.ld_msg.specs.Sequencer.{Sequencer, Acts, Append, Called, called, on_reply, on_retry, is_acked, stored_at, raised, activated, appended, appending, Numbered, next_esn, fresh_append}
+use Rattle.ld_msg.specs.Sequencer.{Sequencer, Recovery, Acts, Append, Called, called, on_reply, on_retry, is_acked, stored_at, raised, activated, appended, appending, Numbered, next_esn, fresh_append}
 use Rattle.ld_machine.specs.Config.{looks_at, has_log}
 use Rattle.ld_machine.specs.Disk.{Node}
 use Rattle.ld_machine.specs.State.{State, Done, node_at, with_node, with_sequencer, only_state}
@@ -27,9 +27,9 @@ use Rattle.ld_machine.specs.Step as Step
 use Rattle.ld_safety.proofs.Lists.{Some_inj, not_none, In-append, only, cond_both}
 use Rattle.ld_safety.proofs.Names.{named_cases}
 use Rattle.ld_safety.proofs.Events.{Cases, Live, refreshed}
-use Rattle.ld_safety.proofs.SequencerSteps.{Closing, Acting, Retrying, replied, retried}
+use Rattle.ld_safety.proofs.SequencerSteps.{Closing, Acting, Retrying, gone_of, replied, retried}
 use Rattle.ld_safety.proofs.RegisterSteps.{activated_epochs, close_granted, epochs_put, epochs_same}
-use Rattle.ld_safety.proofs.Registers.{Up, Reached, activated_spec}
+use Rattle.ld_safety.proofs.Registers.{Up, Reached, look_closed, activated_spec}
 use Rattle.ld_safety.proofs.Appends.{RowOf}
 use Rattle.ld_safety.proofs.Given.{AppendedBy}
 use Rattle.ld_safety.proofs.Votes.{nobody, in_of}
@@ -47,18 +47,19 @@ module _ (c : Config) (hs : List Happened) (sent : List Msg) where
   weaken : (r k : Register) (q : Sequencer) → AcksFine c hs sent r q → Up r k → Stays c r k → AcksFine c hs sent k q
   weaken r k q A u y = acks_later c hs hs sent sent (λ m i. i) (λ l n p a. a) r k u y (acked_stays c hs sent r k u y) q A
 
-  closed_lce : (r n : Register) (l e : ℕ) (y : Summary) → lce_of r l + 1 ≡ e → close r l e y ≡ record { register = n; answer = Granted } → lce_of n l ≡ e
-  closed_lce r n l e y h g = let s = close_granted r l e y n h g in elim (epochs_put r l l (closed_epochs (epochs_of r l) e y)) [
+  closed_lce : (r n : Register) (l e : ℕ) (y : Summary) (short : Bool) → lce_of r l + 1 ≡ e → close r l e y short ≡ record { register = n; answer = Granted } → lce_of n l ≡ e
+  closed_lce r n l e y short h g = let s = (close_granted r l e y short n h g).0 in elim (epochs_put r l l (closed_epochs (epochs_of r l) e y)) [
     | inl a ↦ ap (λ (x : Epochs). x.lce) (epochs_same (with_epochs r l (closed_epochs (epochs_of r l) e y)) n l s ∙ a.1)
     | inr a ↦ absurd (a.0 refl)
   ]
 
   module _ (r : Register) (q : Sequencer) where
-    close_acks : (looks : ℕ → View) (a : Acts) (e : ℕ) (y : Summary) → a.sequencer.log ≡ q.log → AcksFine c hs sent r a.sequencer → ((n : ℕ) → In n a.acked → ⊥) → Closing r looks a e y (ActsFine r q)
-    close_acks looks a e y lg A none = record {
-      granted = λ n h g. record { log = lg; fine = λ u w. let B = weaken r n a.sequencer A u w in record { reached = B.reached; spec = B.spec; kept = B.kept; appends = B.appends; acked = B.acked; closed = let z = closed_lce r n a.sequencer.log e y h g in omega arith }; acked = λ n i. absurd (none n i) };
-      overtaken = λ h. record { log = lg; fine = λ u w. record { reached = A.reached; spec = A.spec; kept = A.kept; appends = A.appends; acked = A.acked; closed = A.closed }; acked = λ n i. absurd (none n i) };
+    close_acks : (looks : ℕ → View) (a : Acts) (e : ℕ) (y : Summary) (short : Bool) → a.sequencer.log ≡ q.log → AcksFine c hs sent r a.sequencer → ((n : ℕ) → In n a.acked → ⊥) → Closing r looks a e y short (ActsFine r q)
+    close_acks looks a e y short lg A none = record {
+      granted = λ n h o g. record { log = lg; fine = λ u w. let B = weaken r n a.sequencer A u w in record { reached = B.reached; spec = B.spec; kept = B.kept; appends = B.appends; acked = B.acked; closed = let z = closed_lce r n a.sequencer.log e y short h g in omega arith }; acked = λ n i. absurd (none n i) };
+      passed = λ h. record { log = lg; fine = λ u w. record { reached = A.reached; spec = A.spec; kept = A.kept; appends = A.appends; acked = A.acked; closed = A.closed }; acked = λ n i. absurd (none n i) };
       behind = λ b h. record { log = lg; fine = λ u w. record { reached = A.reached; spec = A.spec; kept = A.kept; appends = A.appends; acked = A.acked; closed = omega arith }; acked = λ n i. absurd (none n i) };
+      overtaken = λ h o. record { log = lg; fine = λ u w. record { reached = A.reached; spec = A.spec; kept = A.kept; appends = A.appends; acked = A.acked; closed = A.closed }; acked = λ n i. absurd (none n i) };
       failed = λ n g. record { log = lg; fine = λ u w. weaken r n a.sequencer A u w; acked = λ n i. absurd (none n i) };
     }
 
@@ -67,31 +68,37 @@ module _ (c : Config) (hs : List Happened) (sent : List Msg) where
       still : (k : Called) → k.acts.sequencer.log ≡ q.log → (Up r k.register → Stays c r k.register → AcksFine c hs sent k.register k.acts.sequencer) → ((n : ℕ) → In n k.acts.acked → ⊥) → ActsFine r q k
       still k lg f none = record { log = lg; fine = f; acked = λ n i. absurd (none n i) }
 
-      acting_acks : (y : ℕ) (b : Body) → RowOf q → ((n : ℕ) → b ≡ bodies.Stored n → tells_stored sent q.log n q.epoch y ≡ true) → ((n : ℕ) (s : Summary) → b ≡ bodies.CleanHere n s → home_epoch n ≤ lce_of r q.log) → Acting c r q y b (λ k m. ActsFine r q k)
-      acting_acks y b R V C = record {
+      acting_acks : (y : ℕ) (b : Body) → RowOf q → ((n : ℕ) → b ≡ bodies.Stored n → tells_stored sent q.log n q.epoch y ≡ true) → ((n : ℕ) (s : Summary) → b ≡ bodies.CleanHere n s → home_epoch n ≤ lce_of r q.log) → (gone : Recovery → List ℕ) → Acting c r gone q y b (λ k m. ActsFine r q k)
+      acting_acks y b R V C gone = record {
         quiet = still _ refl (weaken r r q A) (λ n i. i);
         sealed = λ n k f i l. still _ refl (λ u w. record { reached = A.reached; spec = A.spec; kept = A.kept; appends = A.appends; acked = A.acked; closed = A.closed }) (λ n i. i);
         cleaned_own = λ n s f i h. still _ refl (λ u w. record { reached = A.reached; spec = A.spec; kept = A.kept; appends = A.appends; acked = A.acked; closed = A.closed }) (λ n i. i);
         acks = λ n p f i h g m. record { log = refl; fine = λ u w. acks_fine c hs sent r q A y n p g (in_of y (nodes_of q.spec) m, V n i) R; acked = λ k j. acked_one n p i h g (in_of y (nodes_of q.spec) m) k j };
-        settles_some = λ v g p f e h s m u. still _ refl (λ w x. record { reached = A.reached; spec = A.spec; kept = A.kept; appends = A.appends; acked = A.acked; closed = A.closed }) (λ n i. i);
-        settles_all = λ v g p f e h s m u. close_acks _ _ v.epoch _ refl (record { reached = A.reached; spec = A.spec; kept = A.kept; appends = A.appends; acked = A.acked; closed = A.closed }) (λ n i. i);
         lost_own = λ n round g end f i h. still _ refl (λ w x. record { reached = A.reached; spec = A.spec; kept = A.kept; appends = A.appends; acked = A.acked; closed = A.closed }) (λ n i. i);
-        lost_there = λ v n round g end f e i h. still _ refl (λ w x. record { reached = A.reached; spec = A.spec; kept = A.kept; appends = A.appends; acked = A.acked; closed = A.closed }) (λ n i. i);
         cleaned = λ v n s f e i h. still _ refl (λ w x. record { reached = A.reached; spec = A.spec; kept = A.kept; appends = A.appends; acked = A.acked; closed = let z = C n s i in omega arith }) (λ n i. i);
-        asks_more = λ v d from upto trim lng es f e h i g t u. still _ refl (λ w x. record { reached = A.reached; spec = A.spec; kept = A.kept; appends = A.appends; acked = A.acked; closed = A.closed }) (λ n i. i);
-        plans = λ v d from upto trim lng es f e h i g t u. still _ refl (λ w x. record { reached = A.reached; spec = A.spec; kept = A.kept; appends = A.appends; acked = A.acked; closed = A.closed }) (λ n i. i);
+        asks_more = λ v d asks f g a n u. still _ refl (λ w x. record { reached = A.reached; spec = A.spec; kept = A.kept; appends = A.appends; acked = A.acked; closed = A.closed }) (λ n i. i);
+        plans = λ v d loss f g p. still _ refl (λ w x. record { reached = A.reached; spec = A.spec; kept = A.kept; appends = A.appends; acked = A.acked; closed = A.closed }) (λ n i. i);
+        looks_closed = λ v d z f g u o. still _ refl (λ w x. record { reached = A.reached; spec = A.spec; kept = A.kept; appends = A.appends; acked = A.acked; closed = let k = look_closed c r q.log v.epoch z o in omega arith }) (λ n i. i);
+        looks_later = λ v d f g u o n. still _ refl (λ w x. record { reached = A.reached; spec = A.spec; kept = A.kept; appends = A.appends; acked = A.acked; closed = A.closed }) (λ n i. i);
+        stores_on = λ v g f k t. still _ refl (λ w x. record { reached = A.reached; spec = A.spec; kept = A.kept; appends = A.appends; acked = A.acked; closed = A.closed }) (λ n i. i);
+        closes_now = λ v g f k t. close_acks _ _ v.epoch _ _ refl (record { reached = A.reached; spec = A.spec; kept = A.kept; appends = A.appends; acked = A.acked; closed = A.closed }) (λ n i. i);
+        lost_closing = λ v z short n round g end f e i k j. still _ refl (λ w x. record { reached = A.reached; spec = A.spec; kept = A.kept; appends = A.appends; acked = A.acked; closed = A.closed }) (λ n i. i);
       } where
         acked_one : (n : ℕ) (p : Append) → b ≡ bodies.Stored n → epoch_of n ≡ q.epoch → find n q.appends ≡ Some p → In y (nodes_of q.spec) → (k : ℕ) → In k (if is_acked q.spec p then [] else if is_acked q.spec (stored_at p y) then n ∷ [] else []) → Acknowledged c hs sent r q.log k
         acked_one n p i h g m k j = cond_both (is_acked q.spec p) [] (if is_acked q.spec (stored_at p y) then n ∷ [] else []) (λ l. In k l → Acknowledged c hs sent r q.log k) (λ t j. absurd j)
             (λ t. cond_both (is_acked q.spec (stored_at p y)) (n ∷ []) [] (λ l. In k l → Acknowledged c hs sent r q.log k) (λ u j. subst (Acknowledged c hs sent r q.log) (sym (only k n j)) (acks_now c hs sent r q A y n p g (m, V n i) u)) (λ u j. absurd j)) j
 
-      retrying_acks : Retrying c r q (ActsFine r q)
-      retrying_acks = record {
+      retrying_acks : (gone : Recovery → List ℕ) → Retrying c r gone q (λ k m. ActsFine r q k)
+      retrying_acks gone = record {
         quiet = still _ refl (weaken r r q A) (λ n i. i);
         appends = λ f. still _ refl (λ u w. up) (λ n i. i);
-        seals = λ v d f e h. still _ refl (λ u w. record { reached = A.reached; spec = A.spec; kept = A.kept; appends = raised_fine c hs sent r q A; acked = A.acked; closed = A.closed }) (λ n i. i);
-        stores = λ v g f e h. still _ refl (λ u w. record { reached = A.reached; spec = A.spec; kept = A.kept; appends = raised_fine c hs sent r q A; acked = A.acked; closed = A.closed }) (λ n i. i);
-        closes = λ v y f e h. close_acks _ _ v.epoch y refl up (λ n i. i);
+        seals = λ v d f e h u. still _ refl (λ u w. record { reached = A.reached; spec = A.spec; kept = A.kept; appends = raised_fine c hs sent r q A; acked = A.acked; closed = A.closed }) (λ n i. i);
+        plans = λ v d f e h p. still _ refl (λ u w. record { reached = A.reached; spec = A.spec; kept = A.kept; appends = raised_fine c hs sent r q A; acked = A.acked; closed = A.closed }) (λ n i. i);
+        looks_closed = λ v d z f e h u o. still _ refl (λ w x. record { reached = A.reached; spec = A.spec; kept = A.kept; appends = raised_fine c hs sent r q A; acked = A.acked; closed = let k = look_closed c r q.log v.epoch z o in omega arith }) (λ n i. i);
+        looks_later = λ v d f e h u o n. still _ refl (λ u w. record { reached = A.reached; spec = A.spec; kept = A.kept; appends = raised_fine c hs sent r q A; acked = A.acked; closed = A.closed }) (λ n i. i);
+        stores_on = λ v g f e h t. still _ refl (λ u w. record { reached = A.reached; spec = A.spec; kept = A.kept; appends = raised_fine c hs sent r q A; acked = A.acked; closed = A.closed }) (λ n i. i);
+        closes_now = λ v g f e h t. close_acks _ _ v.epoch _ _ refl (record { reached = A.reached; spec = A.spec; kept = A.kept; appends = raised_fine c hs sent r q A; acked = A.acked; closed = A.closed }) (λ n i. i);
+        closes = λ v y short f e h. close_acks _ _ v.epoch y short refl up (λ n i. i);
       } where
         up : AcksFine c hs sent r (record q { appends = raised q.spec q.appends })
         up = record { reached = A.reached; spec = A.spec; kept = A.kept; appends = raised_fine c hs sent r q A; acked = A.acked; closed = A.closed }
@@ -126,11 +133,11 @@ module _ (c : Config) (s : State) (e : Event) (hs : List Happened) (D : (t : Lis
 
   -- the call of a message and of a retry
   pub heard_acts : (name : List ℕ) (q : Sequencer) → Live s name q → (m : Msg) → In m s.network.sent → m.to ≡ whos.Sequencer q.epoch → m.log ≡ q.log → ActsFine c hs s.network.sent s.register q (called (looks_at c s.register q.log) s.register (on_reply (looks_at c s.register q.log) q (Step.sender_node m.from) m.body) (on_reply (looks_at c s.register q.log) q (Step.sender_node m.from) m.body).tries)
-  heard_acts name q v m i t l = replied c s.register name q v.there (Step.sender_node m.from) m.body (λ k n. ActsFine c hs s.network.sent s.register q k)
-      (acting_acks c hs s.network.sent s.register q (D name q v.named) (Step.sender_node m.from) m.body (rows name q v.named) (stored name q v m i t l) (cleaned name q v m i l))
+  heard_acts name q v m i t l = replied c s name q v.there (Step.sender_node m.from) m.body (λ k n. ActsFine c hs s.network.sent s.register q k)
+      (acting_acks c hs s.network.sent s.register q (D name q v.named) (Step.sender_node m.from) m.body (rows name q v.named) (stored name q v m i t l) (cleaned name q v m i l) (gone_of s q))
 
-  pub retry_acts : (name : List ℕ) (q : Sequencer) → Live s name q → ActsFine c hs s.network.sent s.register q (called (looks_at c s.register q.log) s.register (on_retry q) (on_retry q).tries)
-  retry_acts name q v = retried c s.register q (ActsFine c hs s.network.sent s.register q) (retrying_acks c hs s.network.sent s.register q (D name q v.named))
+  pub retry_acts : (name : List ℕ) (q : Sequencer) → Live s name q → ActsFine c hs s.network.sent s.register q (called (looks_at c s.register q.log) s.register (on_retry (looks_at c s.register q.log) q) (on_retry (looks_at c s.register q.log) q).tries)
+  retry_acts name q v = retried c s q v.there (λ k m. ActsFine c hs s.network.sent s.register q k) (retrying_acks c hs s.network.sent s.register q (D name q v.named) (gone_of s q))
 
   called_result : (f : List ℕ) (name : List ℕ) (q : Sequencer) (a : Acts) (m : List Made) → Live s name q → ActsFine c hs s.network.sent s.register q (called (looks_at c s.register q.log) s.register a a.tries) → Result (Step.acted c (refreshed s f) name q a) m
   unfolding SameLog
@@ -182,7 +189,7 @@ module _ (c : Config) (s : State) (e : Event) (hs : List Happened) (D : (t : Lis
     sets = λ l r x set h. stays _ refl;
     arms = λ k done o. stays _ refl;
     hears = λ f name q m i t l v o. called_result f name q (on_reply (looks_at c s.register q.log) q (Step.sender_node m.from) m.body) [] v (heard_acts name q v m i t l);
-    retries = λ name q v o. called_result s.network.fresh name q (on_retry q) [] v (retry_acts name q v);
+    retries = λ name q v o. called_result s.network.fresh name q (on_retry (looks_at c s.register q.log) q) [] v (retry_acts name q v);
     appends = λ name q p v a i. append_result name q p v a i;
     trims = λ name q t v b. stays _ refl;
     drops = λ name q v o. puts (only_state (with_sequencer s name (Step.dropped q))) name (Step.dropped q) refl (λ u w. let A = D name q v.named in record { reached = A.reached; spec = A.spec; kept = A.kept; appends = A.appends; acked = A.acked; closed = A.closed }) (λ p g. ap (λ (x : Sequencer). x.log) (Some_inj (sym v.named ∙ g)));

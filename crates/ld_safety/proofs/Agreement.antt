@@ -1,35 +1,27 @@
 -- Recoveries agree: what as many nodes as there are copies stored for a ballot is the item of each plan of a greater one, unless it is trimmed or known good there.
-use Rattle.std.proofs.Common.{◌≡◌, ◌∙◌, ◌⊎◌, ◌≤◌, ◌<◌, ℕ, zero, suc, ◌-◌, min, inl, inr, refl, ap, sym, subst, Bool, true, false, not, ◌&&◌, nat_lt, if◌then◌else◌, List, [], ◌∷◌, map, length, Some, arith}
+use Rattle.std.proofs.Common.{◌≡◌, ◌∙◌, ◌⊎◌, ◌≤◌, ◌<◌, ℕ, zero, suc, ◌-◌, min, inl, inr, refl, ap, sym, subst, true, false, not, ◌&&◌, nat_lt, if◌then◌else◌, List, map, length, Some, arith}
 use Rattle.std.proofs.lemmas.Bool.{and_parts, cases_order, cases_lt, ltb-true, ltb-false}
 use Rattle.ld_table.specs.Words.{how_many}
 use Rattle.ld_lsn.specs.Number.{epoch_of, esn_of, numbered, last_esn}
 use Rattle.ld_ids.specs.declared.set.Spec.{Spec}
 use Rattle.ld_msg.specs.declared.msg.What.{What}
-use Rattle.ld_msg.specs.declared.msg.What.TheVariants.{Rec, Hole, Bridge}
+use Rattle.ld_msg.specs.declared.msg.What.TheVariants.{Rec, Hole, Bridge, Plug}
 use Rattle.ld_msg.specs.declared.msg.Entry.{Entry}
 use Rattle.ld_msg.specs.declared.msg.Msg.{Msg}
-use Rattle.ld_msg.specs.Digest.{Told, best, content, record_or_hole, is_bridge, is_content, plan_item, plan_end, plan_floor, trim_place, digest_trim, digest_lng}
+use Rattle.ld_msg.specs.Digest.{Told, best, content, record_or, is_bridge, is_content, plan_end, plan_floor, trim_place, digest_trim, digest_lng}
 use Rattle.ld_machine.specs.Facts.{Happened}
 use Rattle.ld_machine.specs.World.{Made, In}
 use Rattle.ld_safety.proofs.Lists.{count_share, cond_both}
+use Rattle.ld_safety.proofs.Losses.{counted_nodes, told_length}
 use Rattle.ld_safety.proofs.Plans.{best_of, best_least, ranked, trim_least, top_least, plan_shape, plan_between, content_no_bridge, no_bridge, floor_trim, floor_lng, end_above_floor, end_above_top}
-use Rattle.ld_safety.proofs.Protocol.{plan_of, Says, PlansOnce, AppendsOnce, says_once, tells_stored, told_stored, Chosen, Ends, Kept, PlanFacts}
-
--- ---- counts ----
-counted_nodes : (p : ℕ → Bool) (d : List Told) → how_many (λ (t : Told). p t.node) d ≡ how_many p (map (λ (t : Told). t.node) d)
-counted_nodes p [] = refl
-counted_nodes p (t ∷ d) = ap (λ k. if p t.node then suc k else k) (counted_nodes p d)
-
-told_length : (d : List Told) → length (map (λ (t : Told). t.node) d) ≡ length d
-told_length [] = refl
-told_length (t ∷ d) = ap suc (told_length d)
+use Rattle.ld_safety.proofs.Protocol.{Basis, plan_of, plan_at, Says, PlansOnce, AppendsOnce, says_once, tells_stored, told_stored, Chosen, Ends, Kept, PlanFacts}
 
 -- the place of a trim in its epoch covers what the trim covers
 pub trim_covers : (e n t : ℕ) → epoch_of n ≡ e → esn_of n < last_esn → n ≤ t → esn_of n ≤ trim_place e t
 trim_covers e n t q b l = cond_both (nat_lt (epoch_of t) e) 0 _ (λ x. esn_of n ≤ x) (λ a. absurd (let z = ltb-true _ _ a in omega arith))
     (λ a. cond_both (nat_lt e (epoch_of t)) (last_esn - 1) (min (esn_of t) (last_esn - 1)) (λ x. esn_of n ≤ x) (λ c. omega arith) (λ c. let y = ltb-false _ _ a in let z = ltb-false _ _ c in omega arith))
 
-trim_place_up : (e t u : ℕ) → t ≤ u → trim_place e t ≤ trim_place e u
+pub trim_place_up : (e t u : ℕ) → t ≤ u → trim_place e t ≤ trim_place e u
 trim_place_up e t u l = cond_both (nat_lt (epoch_of t) e) 0 _ (λ x. x ≤ trim_place e u) (λ a. omega arith)
     (λ a. cond_both (nat_lt (epoch_of u) e) 0 _ (λ x. (if nat_lt e (epoch_of t) then last_esn - 1 else min (esn_of t) (last_esn - 1)) ≤ x) (λ b. absurd (let y = ltb-false _ _ a in let z = ltb-true _ _ b in omega arith))
     (λ b. cond_both (nat_lt e (epoch_of u)) (last_esn - 1) (min (esn_of u) (last_esn - 1)) (λ x. (if nat_lt e (epoch_of t) then last_esn - 1 else min (esn_of t) (last_esn - 1)) ≤ x)
@@ -38,38 +30,42 @@ trim_place_up e t u l = cond_both (nat_lt (epoch_of t) e) 0 _ (λ x. x ≤ trim_
     (λ k. absurd (let y = ltb-true _ _ k in let z = ltb-false _ _ d in omega arith))
     (λ k. let y = ltb-false _ _ a in let z = ltb-false _ _ d in let v = ltb-false _ _ b in let w = ltb-false _ _ k in omega arith))))
 
-content_is : (f : Entry) → is_bridge f.what ≡ false → content (Some f) ≡ f.what
-content_is f h = by_what f.what h where
-  by_what : (w : What) → is_bridge w ≡ false → record_or_hole w ≡ w
-  by_what (Rec p) g = refl
-  by_what Hole g = refl
-  by_what Bridge g = absurd cc
+content_is : (f : Entry) → is_bridge f.what ≡ false → (f.what ≡ Plug → ⊥) → content false (Some f) ≡ f.what
+content_is f h np = by_what f.what h np where
+  by_what : (w : What) → is_bridge w ≡ false → (w ≡ Plug → ⊥) → record_or Hole w ≡ w
+  by_what (Rec p) g k = refl
+  by_what Hole g k = refl
+  by_what Bridge g k = absurd cc
+  by_what Plug g k = absurd (k refl)
 
 module _ (hs : List Happened) (made : List Made) (sent : List Msg) (s : ℕ → Spec) (A : AppendsOnce hs) (P : PlansOnce made)
-    (l : ℕ) (O : ℕ → Type 0) (F : (e b : ℕ) (d : List Told) → O e → In (plan_of l e b d) made → PlanFacts hs made sent (s e) l e b d) where
+    (l : ℕ) (O : ℕ → Type 0)
+    -- below a plan that found what it says each one did
+    (last : (e a g : ℕ) (d f : Basis) → In (plan_of l e a d) made → In (plan_of l e g f) made → a < g → f.loss ≡ false → d.loss ≡ false)
+    (F : (e b : ℕ) (d : Basis) → O e → In (plan_of l e b d) made → d.loss ≡ false → PlanFacts hs made sent (s e) l e b d.digest) where
   -- a node that both stored n for b and is whole in g's digest shows g what it had of n
-  shared : (n b g : ℕ) (d : List Told) → O (epoch_of n) → digest_lng d < esn_of n → b < g → In (plan_of l (epoch_of n) g d) made → Chosen (s (epoch_of n)) sent l n b → (t : Told) × In t d × Kept made l g t.trim t.entries n b
-  shared n b g d oe p lt i ch =
-      let f = F (epoch_of n) g d oe i in
+  shared : (n b g : ℕ) (d : Basis) → O (epoch_of n) → digest_lng d.digest < esn_of n → b < g → In (plan_of l (epoch_of n) g d) made → d.loss ≡ false → Chosen (s (epoch_of n)) sent l n b → (t : Told) × In t d.digest × Kept made l g t.trim t.entries n b
+  shared n b g d oe p lt i fd ch =
+      let f = F (epoch_of n) g d oe i fd in
       let e = f.enough in
-      let c = counted_nodes (tells_stored sent l n b) d in
+      let c = counted_nodes (tells_stored sent l n b) d.digest in
       let m = ap (how_many (tells_stored sent l n b)) f.digest.nodes in
       let k = ap length f.digest.nodes in
-      let q : length d ≡ length (map (λ (t : Told). t.node) d) = sym (told_length d) in
-      let r = count_share (λ (t : Told). tells_stored sent l n b t.node) (λ (t : Told). t.whole && not t.lost) d (omega arith) in
+      let q : length d.digest ≡ length (map (λ (t : Told). t.node) d.digest) = sym (told_length d.digest) in
+      let r = count_share (λ (t : Told). tells_stored sent l n b t.node) (λ (t : Told). t.whole && not t.lost) d.digest (omega arith) in
       let w = and_parts r.0.whole (not r.0.lost) r.3 in
       (r.0, r.1, (f.digest.told r.0 r.1).seen w.0 n b refl p lt (told_stored sent l n b r.0.node r.2))
 
   -- x is at n in each plan between b and g, unless it is trimmed or known good there
   Older : ℕ → ℕ → ℕ → What → Type 0
-  Older n b g x = (a : ℕ) (d : List Told) → b < a → a < g → In (plan_of l (epoch_of n) a d) made → (plan_item (epoch_of n) d (esn_of n) ≡ Some x) ⊎ (esn_of n ≤ plan_floor (epoch_of n) d)
+  Older n b g x = (a : ℕ) (d : Basis) → b < a → a < g → In (plan_of l (epoch_of n) a d) made → (plan_at (epoch_of n) d (esn_of n) ≡ Some x) ⊎ (esn_of n ≤ plan_floor (epoch_of n) d.digest)
 
   -- no plan between ends below n
   no_end : (n b g : ℕ) (x : What) → Older n b g x → (x ≡ Bridge → ⊥) → Ends made l b g n → ⊥
   unfolding Older
-  no_end n b g x old nb en = elim (old en.ballot en.digest en.above en.below en.planned) [
-    | inl q ↦ let h = plan_shape (epoch_of n) en.digest (esn_of n) x q in let u = en.before in elim h.kind [ inl k ↦ (let v = k.0 in omega arith) | inr k ↦ nb k.1 ]
-    | inr q ↦ let u = en.before in let v = end_above_floor (epoch_of n) en.digest in omega arith
+  no_end n b g x old nb en = elim (old en.ballot en.basis en.above en.below en.planned) [
+    | inl q ↦ let h = plan_shape (epoch_of n) en.basis.loss en.basis.digest (esn_of n) x q in let u = en.before in elim h.kind [ inl k ↦ (let v = k.0 in omega arith) | inr k ↦ nb k.1 ]
+    | inr q ↦ let u = en.before in let v = end_above_floor (epoch_of n) en.basis.digest in omega arith
   ]
 
   -- what a ballot from b on says of n is x
@@ -85,9 +81,9 @@ module _ (hs : List Happened) (made : List Made) (sent : List Msg) (s : ℕ → 
       own_late : Says hs made l b n x → a ≡ epoch_of n → b < a → ⊥
       own_late (inl p) e r = let u = p.own in omega arith
       own_late (inr p) e r = let u = p.later in omega arith
-    by_plan q (inr o) = elim (old a o.digest q ag o.planned) [
+    by_plan q (inr o) = elim (old a o.basis q ag o.planned) [
       | inl k ↦ let e : Some z ≡ Some x = sym o.item ∙ k in cc
-      | inr k ↦ absurd (let h = plan_shape (epoch_of n) o.digest (esn_of n) z o.item in let u = h.above in omega arith)
+      | inr k ↦ absurd (let h = plan_shape (epoch_of n) o.basis.loss o.basis.digest (esn_of n) z o.item in let u = h.above in omega arith)
     ]
 
   same_number : (n : ℕ) → numbered (epoch_of n) (esn_of n) ≡ n
@@ -98,63 +94,63 @@ module _ (hs : List Happened) (made : List Made) (sent : List Msg) (s : ℕ → 
   unfolding Older
   no_bridge_below n b g x old sx nb f fg bf below br ep (inl o) = let z : Bridge ≡ Rec o.payload = sym br ∙ o.is in cc
   no_bridge_below n b g x old sx nb f fg bf below br ep (inr o) =
-      let h = plan_shape (epoch_of f.number) o.digest (esn_of f.number) f.what o.item in
+      let h = plan_shape (epoch_of f.number) o.basis.loss o.basis.digest (esn_of f.number) f.what o.item in
       let u : esn_of f.number < esn_of n = omega arith in
       elim h.kind [
-        | inl k ↦ content_no_bridge (best (numbered (epoch_of f.number) (esn_of f.number)) o.digest) (sym k.1 ∙ br)
+        | inl k ↦ content_no_bridge o.basis.loss (best (numbered (epoch_of f.number) (esn_of f.number)) o.basis.digest) (sym k.1 ∙ br)
         | inr k ↦ let z = k.0 in
-            let pl : In (plan_of l (epoch_of n) f.ballot o.digest) made = subst (λ v. In (plan_of l v f.ballot o.digest) made) ep o.planned in
-            let en : plan_end (epoch_of n) o.digest < esn_of n = subst (λ v. plan_end v o.digest < esn_of n) ep (omega arith) in
+            let pl : In (plan_of l (epoch_of n) f.ballot o.basis) made = subst (λ v. In (plan_of l v f.ballot o.basis) made) ep o.planned in
+            let en : plan_end (epoch_of n) o.basis.digest < esn_of n = subst (λ v. plan_end v o.basis.digest < esn_of n) ep (omega arith) in
             elim (cases_order b f.ballot) [
               | inl q ↦ at_own sx q pl en
-              | inr (inl q) ↦ no_end n b g x old nb (record { ballot = f.ballot; digest = o.digest; planned = pl; above = q; below = fg; before = en })
+              | inr (inl q) ↦ no_end n b g x old nb (record { ballot = f.ballot; basis = o.basis; planned = pl; above = q; below = fg; before = en })
               | inr (inr q) ↦ omega arith
             ]
       ] where
-        at_own : Says hs made l b n x → b ≡ f.ballot → In (plan_of l (epoch_of n) f.ballot o.digest) made → plan_end (epoch_of n) o.digest < esn_of n → ⊥
+        at_own : Says hs made l b n x → b ≡ f.ballot → In (plan_of l (epoch_of n) f.ballot o.basis) made → plan_end (epoch_of n) o.basis.digest < esn_of n → ⊥
         at_own (inl w) q pl en = let a = w.own in let c = o.later in let d = ep in omega arith
         at_own (inr w) q pl en =
-            let e : w.digest ≡ o.digest = P l (epoch_of n) f.ballot w.digest o.digest (subst (λ v. In (plan_of l (epoch_of n) v w.digest) made) q w.planned) pl in
-            let h = plan_shape (epoch_of n) o.digest (esn_of n) x (subst (λ v. plan_item (epoch_of n) v (esn_of n) ≡ Some x) e w.item) in
+            let e : w.basis ≡ o.basis = P l (epoch_of n) f.ballot w.basis o.basis (subst (λ v. In (plan_of l (epoch_of n) v w.basis) made) q w.planned) pl in
+            let h = plan_shape (epoch_of n) o.basis.loss o.basis.digest (esn_of n) x (subst (λ (v : Basis). plan_at (epoch_of n) v (esn_of n) ≡ Some x) e w.item) in
             elim h.kind [ inl k ↦ (let y = k.0 in omega arith) | inr k ↦ (let y = k.0 in omega arith) ]
 
   -- one step of the induction
-  agrees_step : (n b g : ℕ) (x : What) (d : List Told) → Older n b g x → O (epoch_of n) → esn_of n < last_esn → b < g → In (plan_of l (epoch_of n) g d) made → Chosen (s (epoch_of n)) sent l n b → Says hs made l b n x → (x ≡ Bridge → ⊥)
-      → plan_floor (epoch_of n) d < esn_of n → plan_item (epoch_of n) d (esn_of n) ≡ Some x
-  agrees_step n b g x d old oe small lt i ch sx nb above = shown (shared n b g d oe (let z = floor_lng (epoch_of n) d in omega arith) lt i ch) where
-    by_best : (f : Entry) → b ≤ f.ballot → best n d ≡ Some f → plan_item (epoch_of n) d (esn_of n) ≡ Some x
+  agrees_step : (n b g : ℕ) (x : What) (d : Basis) → Older n b g x → O (epoch_of n) → esn_of n < last_esn → b < g → In (plan_of l (epoch_of n) g d) made → d.loss ≡ false → Chosen (s (epoch_of n)) sent l n b → Says hs made l b n x → (x ≡ Bridge → ⊥) → (x ≡ Plug → ⊥)
+      → plan_floor (epoch_of n) d.digest < esn_of n → plan_at (epoch_of n) d (esn_of n) ≡ Some x
+  agrees_step n b g x d old oe small lt i fd ch sx nb np above = shown (shared n b g d oe (let z = floor_lng (epoch_of n) d.digest in omega arith) lt i fd ch) where
+    by_best : (f : Entry) → b ≤ f.ballot → best n d.digest ≡ Some f → plan_at (epoch_of n) d (esn_of n) ≡ Some x
     by_best f bf e =
-        let r = best_of n d f e in
-        let z = ((F (epoch_of n) g d oe i).digest.told r.told r.in_digest).frozen f r.in_entries in
+        let r = best_of n d.digest f e in
+        let z = ((F (epoch_of n) g d oe i fd).digest.told r.told r.in_digest).frozen f r.in_entries in
         elim r.whose [
           | inl q ↦
               let same : f.what ≡ x = same_item n b g f.ballot x f.what old sx bf z.below (subst (λ v. Says hs made l f.ballot v f.what) q z.says) in
               let nf : is_bridge f.what ≡ false = no_bridge f.what (λ w. nb (sym same ∙ w)) in
-              let is_c : is_content (best f.number d) ≡ true = subst (λ v. is_content (best v d) ≡ true) (sym q) (ap is_content e ∙ ap not nf) in
-              let top = top_least d r.told f r.in_digest r.in_entries nf is_c in
-              let en = end_above_top (epoch_of n) d in
+              let is_c : is_content (best f.number d.digest) ≡ true = subst (λ v. is_content (best v d.digest) ≡ true) (sym q) (ap is_content e ∙ ap not nf) in
+              let top = top_least d.digest r.told f r.in_digest r.in_entries nf is_c in
+              let en = end_above_top (epoch_of n) d.digest in
               let y : esn_of f.number ≡ esn_of n = ap esn_of q in
-              plan_between (epoch_of n) d (esn_of n) above (omega arith) ∙ ap Some (ap (λ v. content (best v d)) (same_number n) ∙ (ap content e ∙ (content_is f nf ∙ same)))
+              plan_between (epoch_of n) d.loss d.digest (esn_of n) above (omega arith) ∙ ap Some (ap (λ k. content k (best (numbered (epoch_of n) (esn_of n)) d.digest)) fd ∙ (ap (λ v. content false (best v d.digest)) (same_number n) ∙ (ap (content false) e ∙ (content_is f nf (λ w. np (sym same ∙ w)) ∙ same))))
           | inr q ↦ absurd (no_bridge_below n b g x old sx nb f z.below bf q.0 q.1 z.epoch z.says)
         ]
 
-    shown : ((t : Told) × In t d × Kept made l g t.trim t.entries n b) → plan_item (epoch_of n) d (esn_of n) ≡ Some x
+    shown : ((t : Told) × In t d.digest × Kept made l g t.trim t.entries n b) → plan_at (epoch_of n) d (esn_of n) ≡ Some x
     shown r = elim r.2 [
-      | inl k ↦ absurd (let a = trim_covers (epoch_of n) n r.0.trim refl small k in let c = trim_place_up (epoch_of n) r.0.trim (digest_trim d) (trim_least d r.0 r.1) in let v = floor_trim (epoch_of n) d in omega arith)
-      | inr (inl k) ↦ let z = best_least n d r.0 k.entry r.1 k.there k.number in let y = ranked (best n d) k.entry.ballot z in let u = k.least in let v = y.2 in by_best y.0 (omega arith) y.1
+      | inl k ↦ absurd (let a = trim_covers (epoch_of n) n r.0.trim refl small k in let c = trim_place_up (epoch_of n) r.0.trim (digest_trim d.digest) (trim_least d.digest r.0 r.1) in let v = floor_trim (epoch_of n) d.digest in omega arith)
+      | inr (inl k) ↦ let z = best_least n d.digest r.0 k.entry r.1 k.there k.number in let y = ranked (best n d.digest) k.entry.ballot z in let u = k.least in let v = y.2 in by_best y.0 (omega arith) y.1
       | inr (inr k) ↦ absurd (no_end n b g x old nb k)
     ]
 
-  agrees_below : (k n b g : ℕ) (x : What) (d : List Told) → g ≤ k → O (epoch_of n) → esn_of n < last_esn → b < g → In (plan_of l (epoch_of n) g d) made → Chosen (s (epoch_of n)) sent l n b → Says hs made l b n x → (x ≡ Bridge → ⊥)
-      → (plan_item (epoch_of n) d (esn_of n) ≡ Some x) ⊎ (esn_of n ≤ plan_floor (epoch_of n) d)
+  agrees_below : (k n b g : ℕ) (x : What) (d : Basis) → g ≤ k → O (epoch_of n) → esn_of n < last_esn → b < g → In (plan_of l (epoch_of n) g d) made → d.loss ≡ false → Chosen (s (epoch_of n)) sent l n b → Says hs made l b n x → (x ≡ Bridge → ⊥) → (x ≡ Plug → ⊥)
+      → (plan_at (epoch_of n) d (esn_of n) ≡ Some x) ⊎ (esn_of n ≤ plan_floor (epoch_of n) d.digest)
   unfolding Older
-  agrees_below zero n b g x d le oe small lt i ch sx nb = absurd (omega arith)
-  agrees_below (suc k) n b g x d le oe small lt i ch sx nb = elim (cases_lt (plan_floor (epoch_of n) d) (esn_of n)) [
-    | inl above ↦ inl (agrees_step n b g x d (λ a f ba ag j. agrees_below k n b a x f (omega arith) oe small ba j ch sx nb) oe small lt i ch sx nb above)
+  agrees_below zero n b g x d le oe small lt i fd ch sx nb np = absurd (omega arith)
+  agrees_below (suc k) n b g x d le oe small lt i fd ch sx nb np = elim (cases_lt (plan_floor (epoch_of n) d.digest) (esn_of n)) [
+    | inl above ↦ inl (agrees_step n b g x d (λ a f ba ag j. agrees_below k n b a x f (omega arith) oe small ba j (last (epoch_of n) a g f d j i ag fd) ch sx nb np) oe small lt i fd ch sx nb np above)
     | inr below ↦ inr below
   ]
 
   -- what is chosen is the item of each plan of a greater ballot, or is trimmed or known good there
-  pub agrees : (n b g : ℕ) (x : What) (d : List Told) → O (epoch_of n) → esn_of n < last_esn → b < g → In (plan_of l (epoch_of n) g d) made → Chosen (s (epoch_of n)) sent l n b → Says hs made l b n x → (x ≡ Bridge → ⊥)
-      → (plan_item (epoch_of n) d (esn_of n) ≡ Some x) ⊎ (esn_of n ≤ plan_floor (epoch_of n) d)
-  agrees n b g x d oe small lt i ch sx nb = agrees_below g n b g x d (omega arith) oe small lt i ch sx nb
+  pub agrees : (n b g : ℕ) (x : What) (d : Basis) → O (epoch_of n) → esn_of n < last_esn → b < g → In (plan_of l (epoch_of n) g d) made → d.loss ≡ false → Chosen (s (epoch_of n)) sent l n b → Says hs made l b n x → (x ≡ Bridge → ⊥) → (x ≡ Plug → ⊥)
+      → (plan_at (epoch_of n) d (esn_of n) ≡ Some x) ⊎ (esn_of n ≤ plan_floor (epoch_of n) d.digest)
+  agrees n b g x d oe small lt i fd ch sx nb np = agrees_below g n b g x d (omega arith) oe small lt i fd ch sx nb np

@@ -166,7 +166,7 @@ module _ (c : Config) (s : State) (e : Event) (fine : (name : List ℕ) (q : Seq
     sets = λ l r x set h. others OfSets _ (λ q. cc) (one_of (lines.Set l r x set));
     arms = λ k done o. others OfNodes _ (λ h. cc) (none_of OfNodes);
     hears = λ f name q m i t l v o. others OfActs _ (λ h. cc) (acted_of name q (called (looks_at c s.register q.log) s.register (on_reply (looks_at c s.register q.log) q (Step.sender_node m.from) m.body) (on_reply (looks_at c s.register q.log) q (Step.sender_node m.from) m.body).tries).acts);
-    retries = λ name q v o. others OfActs _ (λ h. cc) (acted_of name q (called (looks_at c s.register q.log) s.register (on_retry q) (on_retry q).tries).acts);
+    retries = λ name q v o. others OfActs _ (λ h. cc) (acted_of name q (called (looks_at c s.register q.log) s.register (on_retry (looks_at c s.register q.log) q) (on_retry (looks_at c s.register q.log) q).tries).acts);
     appends = λ name q p v a i. appends name q p v;
     trims = λ name q t v a. others OfTrims _ (λ h. cc) (one_of (lines.Trimmed name t));
     drops = λ name q v o. others OfNodes _ (λ h. cc) (none_of OfNodes);

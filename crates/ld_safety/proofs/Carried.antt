@@ -64,11 +64,12 @@ module _ (E : ℕ → ℕ → ℕ → What → Type 0) (T : ℕ → ℕ → Type
     pub same_epoch : epoch_of upto ≡ epoch_of from
 
   -- an end of an epoch that is told to a reader which asked past it
-  pub record EndedOk (l from end : ℕ) : Type 0 where
+  pub record EndedOk (l from end : ℕ) (loss : Bool) : Type 0 where
     pub summary : Summary
     pub closed : Y l (home_epoch from) summary
     pub past : summary.end ≤ home_esn from
     pub is : end ≡ numbered (home_epoch from) summary.end
+    pub lossy : loss ≡ summary.loss
 
   -- pages come from nodes
   abbrev pub NodeWho : Who → Type 0
@@ -86,7 +87,7 @@ module _ (E : ℕ → ℕ → ℕ → What → Type 0) (T : ℕ → ℕ → Type
   BodyOk l from (bodies.Trim t) = T l t
   BodyOk l from (bodies.Release r) = W l r
   BodyOk l from (bodies.ReadPage round n upto clean es) = AllKeptOk l es × ShownOk l clean es
-  BodyOk l from (bodies.ReadEnded round n end) = EndedOk l n end
+  BodyOk l from (bodies.ReadEnded round n end loss) = EndedOk l n end loss
   BodyOk l from (bodies.ReadTrim round n t) = T l t
   BodyOk l from (bodies.ReadWait round n r) = W l r
   BodyOk l from _ = Unit {0}
@@ -104,7 +105,7 @@ module _ (E : ℕ → ℕ → ℕ → What → Type 0) (T : ℕ → ℕ → Type
   abbrev pub StageOk : ℕ → ℕ → ℕ → Stage → Type 0
   StageOk l b e (Seals d) = (t : Told) → In t d → ToldOk l e t
   StageOk l b e (Stores g) = (T l g.trim × G l e g.lng × ((i : ℕ × Planned) → In i g.items → epoch_of i.0 ≡ e)) × ((i : ℕ × Planned) → In i g.items → E l b i.0 i.1.what)
-  StageOk l b e (Closes y) = T l y.trim × G l e y.lng
+  StageOk l b e (Closes y short) = T l y.trim × G l e y.lng
 
   abbrev pub RecoveryOk : ℕ → ℕ → Option Recovery → Type 0
   RecoveryOk l b None = Unit {0}
@@ -131,13 +132,13 @@ module _ (E : ℕ → ℕ → ℕ → What → Type 0) (T : ℕ → ℕ → Type
   -- an answer that a reader holds
   abbrev pub HeldOk : ℕ → Body → Type 0
   HeldOk l (bodies.ReadPage round n upto clean es) = AllKeptOk l es × ShownOk l clean es
-  HeldOk l (bodies.ReadEnded round n end) = EndedOk l n end
+  HeldOk l (bodies.ReadEnded round n end loss) = EndedOk l n end loss
   HeldOk l (bodies.ReadTrim round n t) = T l t
   HeldOk l _ = Unit {0}
 
   pub held_of : (l : ℕ) (from : Who) (b : Body) → BodyOk l from b → HeldOk l b
   held_of l from (bodies.ReadPage round n upto clean es) h = h
-  held_of l from (bodies.ReadEnded round n end) h = h
+  held_of l from (bodies.ReadEnded round n end loss) h = h
   held_of l from (bodies.ReadTrim round n t) h = h
   held_of l from _ h = tt
 

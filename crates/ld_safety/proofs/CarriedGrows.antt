@@ -32,21 +32,21 @@ module _ (E : ℕ → ℕ → ℕ → What → Type 0) (T : ℕ → ℕ → Type
   body_grows l from (bodies.Trim k) h = t l k h
   body_grows l from (bodies.Release k) h = w l k h
   body_grows l from (bodies.ReadPage round n upto clean es) h = ((λ z i. x l _ _ _ (h.0 z i)), (λ z i. v l clean z (h.1 z i)))
-  body_grows l from (bodies.ReadEnded round n end) h = record { summary = h.summary; closed = y l _ _ h.closed; past = h.past; is = h.is }
+  body_grows l from (bodies.ReadEnded round n end loss) h = record { summary = h.summary; closed = y l _ _ h.closed; past = h.past; is = h.is; lossy = h.lossy }
   body_grows l from (bodies.ReadTrim round n k) h = t l k h
   body_grows l from (bodies.ReadWait round n k) h = w l k h
   body_grows l from _ h = tt
 
   held_grows : (l : ℕ) (b : Body) → carried.HeldOk E T Y O V W R G l b → carried.HeldOk E₂ T₂ Y₂ O₂ V₂ W₂ R₂ G₂ l b
   held_grows l (bodies.ReadPage round n upto clean es) h = ((λ z i. x l _ _ _ (h.0 z i)), (λ z i. v l clean z (h.1 z i)))
-  held_grows l (bodies.ReadEnded round n end) h = record { summary = h.summary; closed = y l _ _ h.closed; past = h.past; is = h.is }
+  held_grows l (bodies.ReadEnded round n end loss) h = record { summary = h.summary; closed = y l _ _ h.closed; past = h.past; is = h.is; lossy = h.lossy }
   held_grows l (bodies.ReadTrim round n k) h = t l k h
   held_grows l _ h = tt
 
   stage_grows : (l b k : ℕ) (g : Stage) → carried.StageOk E T Y O V W R G l b k g → carried.StageOk E₂ T₂ Y₂ O₂ V₂ W₂ R₂ G₂ l b k g
   stage_grows l b k (Seals d) h = λ u i. let o = h u i in record { entries = λ z j. e l _ _ _ (o.entries z j); trim = t l _ o.trim; good = g l k _ o.good; asks = o.asks }
   stage_grows l b k (Stores z) h = ((t l _ h.0.0, g l k _ h.0.1, h.0.2), λ i j. e l b _ _ (h.1 i j))
-  stage_grows l b k (Closes z) h = (t l _ h.0, g l k _ h.1)
+  stage_grows l b k (Closes z short) h = (t l _ h.0, g l k _ h.1)
 
   recovery_grows : (l b : ℕ) (o : Option Recovery) → carried.RecoveryOk E T Y O V W R G l b o → carried.RecoveryOk E₂ T₂ Y₂ O₂ V₂ W₂ R₂ G₂ l b o
   recovery_grows l b None h = tt

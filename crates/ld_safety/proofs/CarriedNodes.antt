@@ -2,7 +2,7 @@
 use Rattle.std.proofs.Common.{◌-◌, ◌≡◌, ◌∙◌, ◌⊎◌, ◌≤◌, ◌<◌, ℕ, max, inl, inr, refl, ap, sym, subst, Bool, true, false, cond, if◌then◌else◌, suc, nat_lt, nat_le, ◌==◌, List, [], ◌∷◌, length, take, Option, Some, None, arith}
 use Rattle.ld_op.specs.Handles.{handled_by, ballot_of}
 use Rattle.std.specs.Option.{unwrap_or}
-use Rattle.std.proofs.lemmas.Bool.{and_parts, leb-true, ltb-true, eqb-true, cases_order}
+use Rattle.std.proofs.lemmas.Bool.{and_parts, not-true, leb-true, ltb-true, eqb-true, cases_order}
 use Rattle.std.specs.Ordering.{nat_cmp}
 use Rattle.std.specs.BTreeMap.{is_at}
 use Rattle.ld_table.specs.Table.{find, put}
@@ -10,13 +10,14 @@ use Rattle.ld_table.specs.Words.{values}
 use Rattle.ld_table.proofs.Laws.{put_cases}
 use Rattle.ld_lsn.specs.Number.{epoch_of, esn_of, home_epoch, numbered, last_esn, home_esn}
 use Rattle.ld_msg.specs.declared.msg.What.{What}
-use Rattle.ld_msg.specs.declared.msg.What.TheVariants.{Rec, Hole, Bridge}
+use Rattle.ld_msg.specs.declared.msg.What.TheVariants.{Rec, Hole, Bridge, Plug}
 use Rattle.ld_msg.specs.declared.msg.Entry.{Entry}
 use Rattle.ld_msg.specs.declared.msg.Summary.{Summary}
 use Rattle.ld_msg.specs.declared.msg.Who.{Who}
 use Rattle.ld_msg.specs.declared.msg.Who.TheVariants as whos
 use Rattle.ld_msg.specs.declared.msg.Body.{Body}
 use Rattle.ld_msg.specs.declared.msg.Body.TheVariants as bodies
+use Rattle.ld_msg.specs.Digest.{is_bridge}
 use Rattle.ld_op.specs.declared.op.Op.{Op}
 use Rattle.ld_op.specs.declared.op.Op.TheVariants as ops
 use Rattle.ld_op.specs.Plain.{Plain, Log, log_of, empty_log, unformatted, with_log, lost_logs, lost_log, accepted, accept_entry, lng_in, lng_at, raised_lng, sealed_by, trimmed_to, cleaned, refill_entries, refilled_with, refilled, apply, epoch_zero, summary_at, is_lost}
@@ -74,6 +75,7 @@ module _ (E : ℕ → ℕ → ℕ → What → Type 0) (T : ℕ → ℕ → Type
   accept_all : (P : ℕ × Entry → Type 0) (e : Entry) (w : What) (m : List (ℕ × Entry)) → P (e.number, e) → ((p : ℕ × Entry) → In p m → P p) → (p : ℕ × Entry) → In p (accept_entry e w m) → P p
   accept_all P e (Rec p) m h a q i = elim (In_put e.number e m q i) [ inl x ↦ subst P (sym x) h | inr x ↦ a q x ]
   accept_all P e Hole m h a q i = elim (In_put e.number e m q i) [ inl x ↦ subst P (sym x) h | inr x ↦ a q x ]
+  accept_all P e Plug m h a q i = elim (In_put e.number e m q i) [ inl x ↦ subst P (sym x) h | inr x ↦ a q x ]
   accept_all P e Bridge m h a q i = elim (In_put e.number e _ q i) [ inl x ↦ subst P (sym x) h | inr x ↦ a q (In_keep _ m q x) ]
 
   refill_all : (P : ℕ × Entry → Type 0) (es : List Entry) (m : List (ℕ × Entry)) → ((e : Entry) → In e es → P (e.number, e)) → ((p : ℕ × Entry) → In p m → P p) → (p : ℕ × Entry) → In p (refill_entries es m) → P p
@@ -260,20 +262,20 @@ module _ (E : ℕ → ℕ → ℕ → What → Type 0) (T : ℕ → ℕ → Type
 
   -- what a node's answer to a reader may show
   pub record Shows (l : ℕ) (g : Log) (released : ℕ) : Type 0 where
-    pub clean : (from : ℕ) (y : Summary) (k : ℕ) (e : Entry) → g.trim < from → summary_at g (home_epoch from) ≡ Some y → home_esn from < y.end → is_lost g (home_epoch from) ≡ false → In (k, e) g.entries → from ≤ e.number → e.number ≤ numbered (home_epoch from) (y.end - 1) → V l true e
+    pub clean : (from : ℕ) (y : Summary) (k : ℕ) (e : Entry) → g.trim < from → summary_at g (home_epoch from) ≡ Some y → home_esn from < y.end → is_lost g (home_epoch from) ≡ false → In (k, e) g.entries → from ≤ e.number → e.number ≤ numbered (home_epoch from) (y.end - 1) → is_bridge e.what ≡ false → V l true e
     pub open_still : (from : ℕ) (k : ℕ) (e : Entry) → lets_read released from ≡ true → In (k, e) g.entries → from ≤ e.number → e.number ≤ released → V l false e
 
-  shown_of : (l : ℕ) (clean : Bool) (g : Log) (from last : ℕ) → ((k : ℕ) (e : Entry) → In (k, e) g.entries → from ≤ e.number → e.number ≤ last → V l clean e) → carried.ShownOk E T Y O V W R G l clean (take page_limit (readable g from last))
-  shown_of l clean g from last h e i = let f = In_filter _ e _ (In_take page_limit e _ i) in let w = within g from last e f.0 in let u = In_filter _ e (values g.entries) f.0 in let v = In_values e g.entries u.0 in h v.0 e v.1 w.0 w.1
+  shown_of : (l : ℕ) (clean : Bool) (g : Log) (from last : ℕ) → ((k : ℕ) (e : Entry) → In (k, e) g.entries → from ≤ e.number → e.number ≤ last → is_bridge e.what ≡ false → V l clean e) → carried.ShownOk E T Y O V W R G l clean (take page_limit (readable g from last))
+  shown_of l clean g from last h e i = let f = In_filter _ e _ (In_take page_limit e _ i) in let w = within g from last e f.0 in let u = In_filter _ e (values g.entries) f.0 in let v = In_values e g.entries u.0 in h v.0 e v.1 w.0 w.1 (not-true _ f.1)
 
   read_ok : (l generation released round from y : ℕ) (g : Log) → carried.LogOk E T Y O V W R G l g → Shows l g released → W l released → carried.BodyOk E T Y O V W R G l (whos.Node y) (read_answer generation g released round from)
   read_ok l generation released round from y g a S rel = read_answered generation g released round from (carried.BodyOk E T Y O V W R G l (whos.Node y)) (record {
     trimmed = λ h. a.trim;
-    ended = λ z x h k. record { summary = z; closed = summary_ok l (home_epoch from) g z a h; past = k; is = refl };
+    ended = λ z x h k. record { summary = z; closed = summary_ok l (home_epoch from) g z a h; past = k; is = refl; lossy = refl };
     lost_clean = λ z x h k t. tt;
     lost = λ x h t. tt;
-    clean = λ z x h k t. ((λ e i. within_ok l g _ _ a e (In_filter _ e _ (In_take page_limit e _ i)).0), shown_of l true g from (numbered (home_epoch from) (z.end - 1)) (λ j e u v w. S.clean from z j e x h k t u v w));
-    open_page = λ x h t u. ((λ e i. within_ok l g _ _ a e (In_filter _ e _ (In_take page_limit e _ i)).0), shown_of l false g from released (λ j e v w z. S.open_still from j e u v w z));
+    clean = λ z x h k t. ((λ e i. within_ok l g _ _ a e (In_filter _ e _ (In_take page_limit e _ i)).0), shown_of l true g from (numbered (home_epoch from) (z.end - 1)) (λ j e u v w o. S.clean from z j e x h k t u v w o));
+    open_page = λ x h t u. ((λ e i. within_ok l g _ _ a e (In_filter _ e _ (In_take page_limit e _ i)).0), shown_of l false g from released (λ j e v w z o. S.open_still from j e u v w z));
     waits = λ x. rel;
   })
 

@@ -1,8 +1,8 @@
 -- What a sequencer keeps and sends carries only what it was given, what it appended and what it planned.
-use Rattle.std.proofs.Common.{◌≡◌, ◌∙◌, ◌<◌, ℕ, ◌+◌, max, inl, inr, refl, ap, sym, subst, Bool, true, false, if◌then◌else◌, nat_lt, nat_le, ◌&&◌, ◌==◌, List, [], ◌∷◌, ◌++◌, Some, None, arith}
+use Rattle.std.proofs.Common.{◌≡◌, ◌∙◌, ◌<◌, ℕ, ◌+◌, max, inl, inr, refl, ap, sym, subst, Bool, true, false, if◌then◌else◌, nat_lt, nat_le, ◌&&◌, ◌==◌, List, [], ◌∷◌, ◌++◌, ◌⊎◌, Some, None, arith}
 use Rattle.std.proofs.lemmas.Bool.{and_parts, eqb-true, ltb-true, leb-false}
 use Rattle.ld_table.specs.Table.{find, put}
-use Rattle.ld_table.specs.Words.{is_in, without}
+use Rattle.ld_table.specs.Words.{without}
 use Rattle.ld_lsn.specs.Number.{epoch_of, esn_of, home_epoch, numbered, last_esn}
 use Rattle.ld_ids.specs.declared.set.Spec.{Spec}
 use Rattle.ld_ids.specs.Choice.{nodes_of}
@@ -16,15 +16,15 @@ use Rattle.ld_msg.specs.declared.msg.Who.TheVariants as whos
 use Rattle.ld_msg.specs.declared.msg.Body.{Body}
 use Rattle.ld_msg.specs.declared.msg.Body.TheVariants as bodies
 use Rattle.ld_msg.specs.Register.{Register, View, Granted, lce_of, close, look}
-use Rattle.ld_msg.specs.Digest.{Told, told_nothing, no_digest, told_page, takes_page, with_page, asked_anew, with_asks, enough, told_lost, with_lost, Item, plan, digest_trim, digest_lng}
-use Rattle.ld_msg.specs.Sequencer.{Sequencer, Recovery, Stage, Seals, Stores, Closes, Storing, Append, Planned, Acts, does_nothing, to_each, digest_asks, next_ask, begun, recovery_of, recovery_asks, planned, item_stores, settle, settled_by, summary_of, lost_stage, stored_at, unacked_from, is_acked, raised, append_stores, next_wave, takes_any, is_ready, activated, bare, Called, acted_messages, release_messages, released_of}
+use Rattle.ld_msg.specs.Digest.{Told, told_nothing, no_digest, told_page, takes_page, with_page, asked_anew, with_asks, told_lost, with_lost, Item, plan, digest_trim, digest_lng}
+use Rattle.ld_msg.specs.Sequencer.{Sequencer, Recovery, Stage, Seals, Stores, Closes, Storing, Append, Planned, Acts, does_nothing, to_each, digest_asks, next_ask, begun, recovery_of, recovery_asks, planned, item_stores, settle, summary_of, stored_at, unacked_from, is_acked, raised, append_stores, next_wave, activated, bare, Called, acted_messages, release_messages, released_of, storing_of, item_nodes}
 use Rattle.ld_machine.specs.Config.{looks_at, spec_of}
 use Rattle.ld_machine.specs.World.{In, Made}
 use Rattle.ld_safety.proofs.Lists.{cond_both, max_both, In-append, In-map}
 use Rattle.ld_safety.proofs.Plans.{lng_has, trim_has}
 use Rattle.ld_safety.proofs.Members.{find_in, In_put}
 use Rattle.ld_safety.proofs.Acks.{raised_in}
-use Rattle.ld_safety.proofs.SequencerSteps.{Settling, Closing, Acting, Retrying, acts_with}
+use Rattle.ld_safety.proofs.SequencerSteps.{Closing, Acting, Retrying, Hearing, heard_page, heard_lost, Hearing_stored, heard_settled, heard_gone, Ending, ends_again, ends_ready, ending_of, is_short, retry_acts, acts_with}
 use Rattle.ld_safety.proofs.Carried as carried
 
 module _ (E : ℕ → ℕ → ℕ → What → Type 0) (T : ℕ → ℕ → Type 0) (Y : ℕ → ℕ → Summary → Type 0) (O : ℕ → ℕ → Type 0) (V : ℕ → Bool → Entry → Type 0) (W : ℕ → ℕ → Type 0) (R : ℕ → ℕ → ℕ → What → Type 0) (G : ℕ → ℕ → ℕ → Type 0) (K : carried.Sound E T Y O V W R G) where
@@ -135,10 +135,10 @@ module _ (E : ℕ → ℕ → ℕ → What → Type 0) (T : ℕ → ℕ → Type
   abbrev OfEpoch : ℕ → List (ℕ × Planned) → Type 0
   OfEpoch e is = (i : ℕ × Planned) → In i is → epoch_of i.0 ≡ e
 
-  stores_ok : (l b e : ℕ) (s : Spec) (lost : List ℕ) (lng wave : ℕ) (is : List (ℕ × Planned)) → G l e lng → OfEpoch e is → ItemsOk l b is → BodiesOk l b (item_stores s lost lng wave is)
+  stores_ok : (l b e : ℕ) (s : Spec) (lost : List ℕ) (k : Bool) (lng wave : ℕ) (is : List (ℕ × Planned)) → G l e lng → OfEpoch e is → ItemsOk l b is → BodiesOk l b (item_stores s lost k lng wave is)
   unfolding ItemsOk
-  stores_ok l b e s lost lng wave [] g o h = none_ok l b
-  stores_ok l b e s lost lng wave (j ∷ is) g o h = both_ok l b _ _ (if_ok l b _ _ _ (each_ok l b _ (choice s lost j.0 wave) (h j (inl refl), subst (λ k. G l k lng) (sym (o j (inl refl))) g)) (none_ok l b)) (stores_ok l b e s lost lng wave is g (λ y k. o y (inr k)) (λ y k. h y (inr k)))
+  stores_ok l b e s lost k lng wave [] g o h = none_ok l b
+  stores_ok l b e s lost k lng wave (j ∷ is) g o h = both_ok l b _ _ (each_ok l b _ (item_nodes s lost k wave j.0 j.1.settled) (h j (inl refl), subst (λ k. G l k lng) (sym (o j (inl refl))) g)) (stores_ok l b e s lost k lng wave is g (λ y k. o y (inr k)) (λ y k. h y (inr k)))
 
   settle_ok : (l b : ℕ) (p : ℕ → Bool) (y : ℕ) (is : List (ℕ × Planned)) → ItemsOk l b is → ItemsOk l b (settle p y is)
   unfolding ItemsOk
@@ -218,11 +218,6 @@ module _ (E : ℕ → ℕ → ℕ → What → Type 0) (T : ℕ → ℕ → Type
   pub messages_ok : (name : List ℕ) (q : Sequencer) (k : Called) → CalledOk name q k → W q.log (released_of k.acts.sequencer) → BodiesOk q.log q.epoch (acted_messages q k.acts)
   messages_ok name q k h r = both_ok q.log q.epoch _ _ h.cleans (both_ok q.log q.epoch _ _ (release_ok q.log q.epoch q k.acts.sequencer r) (both_ok q.log q.epoch _ _ h.asks h.stores))
 
-  -- the summary with which a recovery is closed: it was tried before, or the plan is ready
-  pub data Ending (q : Sequencer) (heard : ℕ → Body → Type 0) (v : Recovery) (y : Summary) : Type 0 where
-    closing_now : v.stage ≡ Closes y → Ending q heard v y
-    ready_now : (g : Storing) (p : ℕ → Bool) (z : ℕ) (b : Body) → heard z b → Settling b v.epoch p → is_in z (nodes_of v.spec) ≡ true → v.stage ≡ Stores g → is_ready v.spec (settled_by p z g) ≡ true → y ≡ summary_of q.epoch (settled_by p z g) → Ending q heard v y
-
   -- the call that is made, and the plans that it makes
   module _ (name : List ℕ) (q : Sequencer) (r : Register) (call : Called) (plans_made : List Made) (C : (e : ℕ) → 0 < e → e < q.epoch → O q.log e) (L : G q.log q.epoch q.lng) (own : OfOwn q.epoch q.appends) where
     -- a sequencer with other stages and the like, and no message
@@ -232,82 +227,125 @@ module _ (E : ℕ → ℕ → ℕ → What → Type 0) (T : ℕ → ℕ → Type
     ap_register : {n : Register} {a : Acts} → call ≡ record { acts = a; register = n } → call.register ≡ n
     ap_register w = ap (λ (k : Called). k.register) w
 
-    with_plans : (p : Register) (looks : ℕ → View) (a : Acts) (e : ℕ) (y : Summary) → Closing p looks a e y (λ k. call ≡ k → CalledOk name q k) → Closing p looks a e y (λ k. call ≡ k → plans_made ≡ [] → CalledOk name q k)
-    with_plans p looks a e y h = record { granted = λ n i j w m. h.granted n i j w; overtaken = λ i w m. h.overtaken i w; behind = λ b i w m. h.behind b i w; failed = λ n j w m. h.failed n j w }
+    with_plans : (p : Register) (looks : ℕ → View) (a : Acts) (e : ℕ) (y : Summary) (short : Bool) → Closing p looks a e y short (λ k. call ≡ k → CalledOk name q k) → Closing p looks a e y short (λ k. call ≡ k → plans_made ≡ [] → CalledOk name q k)
+    with_plans p looks a e y short h = record { granted = λ n i o j w m. h.granted n i o j w; passed = λ i w m. h.passed i w; behind = λ b i w m. h.behind b i w; overtaken = λ i o w m. h.overtaken i o w; failed = λ n j w m. h.failed n j w }
 
     -- the close: what it closes with is sound
-    close_ok : (c : Config) (a : Acts) (e : ℕ) (y : Summary) → a.sequencer.log ≡ q.log → a.sequencer.epoch ≡ q.epoch → carried.AppendsOk E T Y O V W R G a.sequencer.log a.sequencer.epoch a.sequencer.appends → carried.SequencerOk E T Y O V W R G name a.sequencer → BodiesOk q.log q.epoch a.cleans → BodiesOk q.log q.epoch a.asks → BodiesOk q.log q.epoch a.stores
-        → ((n : Register) → lce_of r a.sequencer.log + 1 ≡ e → close r a.sequencer.log e y ≡ record { register = n; answer = Granted } → call.register ≡ n → Y q.log e y)
-        → Closing r (looks_at c r q.log) a e y (λ k. call ≡ k → CalledOk name q k)
-    close_ok c a e y o oe ap h x m z g = let D : (k : ℕ) → 0 < k → k < a.sequencer.epoch → O a.sequencer.log k = λ k u v. subst (λ l. O l k) (sym o) (C k u (omega arith)) in record {
-      granted = λ n i j w. let v = g n i j (ap_register w) in record {
-        sequencer = record { appends = ap; recovery = begins_ok c r q.log a.sequencer.log a.sequencer e D };
+    close_ok : (c : Config) (a : Acts) (e : ℕ) (y : Summary) (short : Bool) → a.sequencer.log ≡ q.log → a.sequencer.epoch ≡ q.epoch → carried.AppendsOk E T Y O V W R G a.sequencer.log a.sequencer.epoch a.sequencer.appends → carried.SequencerOk E T Y O V W R G name a.sequencer → BodiesOk q.log q.epoch a.cleans → BodiesOk q.log q.epoch a.asks → BodiesOk q.log q.epoch a.stores
+        → ((n : Register) → lce_of r a.sequencer.log + 1 ≡ e → close r a.sequencer.log e y short ≡ record { register = n; answer = Granted } → call.register ≡ n → Y q.log e y)
+        → Closing r (looks_at c r q.log) a e y short (λ k. call ≡ k → CalledOk name q k)
+    close_ok c a e y short o oe aps h x m z g = let D : (k : ℕ) → 0 < k → k < a.sequencer.epoch → O a.sequencer.log k = λ k u v. subst (λ l. O l k) (sym o) (C k u (omega arith)) in record {
+      granted = λ n i l j w. let v = g n i j (ap_register w) in record {
+        sequencer = record { appends = aps; recovery = begins_ok c r q.log a.sequencer.log a.sequencer e D };
         cleans = each_ok q.log q.epoch _ _ v;
         asks = begin_asks_ok q.log q.epoch (looks_at c r q.log) a.sequencer e (λ k u v. C k u (omega arith));
         stores = z;
       };
-      overtaken = λ i w. record { sequencer = record { appends = ap; recovery = h.recovery }; cleans = x; asks = m; stores = z };
-      behind = λ b i w. record { sequencer = record { appends = ap; recovery = begins_ok c r q.log a.sequencer.log a.sequencer (lce_of r a.sequencer.log) D }; cleans = x; asks = begin_asks_ok q.log q.epoch (looks_at c r q.log) a.sequencer (lce_of r a.sequencer.log) (λ k u v. C k u (omega arith)); stores = z };
+      passed = λ i w. record { sequencer = record { appends = aps; recovery = h.recovery }; cleans = x; asks = m; stores = z };
+      behind = λ b i w. record { sequencer = record { appends = aps; recovery = begins_ok c r q.log a.sequencer.log a.sequencer (lce_of r a.sequencer.log) D }; cleans = x; asks = begin_asks_ok q.log q.epoch (looks_at c r q.log) a.sequencer (lce_of r a.sequencer.log) (λ k u v. C k u (omega arith)); stores = z };
+      overtaken = λ i l w. record { sequencer = record { appends = aps; recovery = h.recovery }; cleans = x; asks = m; stores = z };
       failed = λ n j w. record { sequencer = h; cleans = x; asks = m; stores = z };
     }
 
-    module _ (c : Config) (heard : ℕ → Body → Type 0) (P0 : carried.SequencerOk E T Y O V W R G name q)
-        (grants : (v : Recovery) (y : Summary) (n : Register) → q.recovery ≡ Some v → Ending q heard v y → lce_of r q.log + 1 ≡ v.epoch → close r q.log v.epoch y ≡ record { register = n; answer = Granted } → call.register ≡ n → Y q.log v.epoch y) where
+    module _ (c : Config) (heard : ℕ → Body → Type 0) (gone : Recovery → List ℕ) (P0 : carried.SequencerOk E T Y O V W R G name q)
+        (grants : (v : Recovery) (y : Summary) (short : Bool) (n : Register) → q.recovery ≡ Some v → Ending q heard v y short → lce_of r q.log + 1 ≡ v.epoch → close r q.log v.epoch y short ≡ record { register = n; answer = Granted } → call.register ≡ n → Y q.log v.epoch y)
+        -- what a look shows of a closed epoch
+        (shown : (e : ℕ) (y : Summary) → (looks_at c r q.log e).summary ≡ Some y → Y q.log e y)
+        -- what a plan says that is made in the call
+        (plans : (v : Recovery) (d : List Told) (loss : Bool) (g : List ℕ) → q.recovery ≡ Some v → DigestOk q.log v.epoch d → plans_made ≡ record { log = q.log; epoch = v.epoch; ballot = q.epoch; loss = loss; digest = d; gone = g } ∷ []
+        → (i : Item) → In i (plan v.epoch loss d).items → E q.log q.epoch i.number i.what × (epoch_of i.number ≡ v.epoch)) where
       same_ok : CalledOk name q (acts_with r (does_nothing q))
       same_ok = quiet_ok (does_nothing q) P0 (none_ok q.log q.epoch) (none_ok q.log q.epoch) (none_ok q.log q.epoch)
 
       stage_of : (v : Recovery) (g : Stage) → q.recovery ≡ Some v → v.stage ≡ g → carried.StageOk E T Y O V W R G q.log q.epoch v.epoch g
       stage_of v g e f = subst (carried.StageOk E T Y O V W R G q.log q.epoch v.epoch) f (subst (carried.RecoveryOk E T Y O V W R G q.log q.epoch) e P0.recovery).1
 
-      below : (v : Recovery) → q.recovery ≡ Some v → (0 < v.epoch) × (v.epoch < q.epoch) × O q.log v.epoch
+      Below : Recovery → Type 0
+      Below v = (0 < v.epoch) × (v.epoch < q.epoch) × O q.log v.epoch
+
+      below : (v : Recovery) → q.recovery ≡ Some v → Below v
+      unfolding Below
       below v e = (subst (carried.RecoveryOk E T Y O V W R G q.log q.epoch) e P0.recovery).0
 
-      pub acting_ok : (y : ℕ) (b : Body) → heard y b → carried.ReplyOk E T Y O V W R G q.log b
-          → ((v : Recovery) (d : List Told) (from upto trim lng : ℕ) (es : List Entry) → q.preempted ≡ None → q.recovery ≡ Some v → v.stage ≡ Seals d → b ≡ bodies.DigestPage from upto trim lng es → v.epoch ≡ epoch_of from → takes_any y from d ≡ true
-          → enough v.spec (with_page v.epoch y from upto trim lng es d) ≡ true → DigestOk q.log v.epoch (with_page v.epoch y from upto trim lng es d)
-          → plans_made ≡ record { log = q.log; epoch = v.epoch; ballot = q.epoch; digest = with_page v.epoch y from upto trim lng es d } ∷ []
-          → (i : Item) → In i (plan v.epoch (with_page v.epoch y from upto trim lng es d)).items → E q.log q.epoch i.number i.what × (epoch_of i.number ≡ v.epoch))
-          → Acting c r q y b (λ k m. call ≡ k → plans_made ≡ m → CalledOk name q k)
+      -- a plan that is stored from now on
+      plan_ok : (v : Recovery) (d : List Told) (loss : Bool) (g : List ℕ) → q.recovery ≡ Some v → DigestOk q.log v.epoch d → plans_made ≡ record { log = q.log; epoch = v.epoch; ballot = q.epoch; loss = loss; digest = d; gone = g } ∷ []
+          → carried.StageOk E T Y O V W R G q.log q.epoch v.epoch (Stores (storing_of (plan v.epoch loss d))) × ((s : Spec) (lost : List ℕ) → BodiesOk q.log q.epoch (item_stores s lost loss (plan v.epoch loss d).lng 0 (planned (plan v.epoch loss d).items)))
       unfolding plan ItemsOk
-      acting_ok y b H B P = record {
+      plan_ok v d loss g e z m =
+          let k = plans v d loss g e z m in
+          let x = planned_ok q.log q.epoch _ (λ j o. (k j o).0) in let w = planned_epoch v.epoch _ (λ j o. (k j o).1) in let good = digest_good q.log v.epoch _ z in
+          (((digest_trim_ok q.log v.epoch _ z, good, w), x), λ s lost. stores_ok q.log q.epoch v.epoch s lost loss _ 0 _ good w x)
+
+      -- a digest after a reply, and the recovery before it
+      record Next (v : Recovery) (d : List Told) : Type 0 where
+        recovery : Recovery
+        there : q.recovery ≡ Some recovery
+        epoch : v.epoch ≡ recovery.epoch
+        below : (0 < v.epoch) × (v.epoch < q.epoch) × O q.log v.epoch
+        digest : DigestOk q.log v.epoch d
+
+      pub acting_ok : (y : ℕ) (b : Body) → heard y b → carried.ReplyOk E T Y O V W R G q.log b → Acting c r gone q y b (λ k m. call ≡ k → plans_made ≡ m → CalledOk name q k)
+      unfolding plan ItemsOk Below
+      acting_ok y b H B = record {
         quiet = λ w m. same_ok;
         sealed = λ n k f i l w m. quiet_ok _ (record { appends = P0.appends; recovery = P0.recovery }) (none_ok _ _) (none_ok _ _) (none_ok _ _);
         cleaned_own = λ n s f i h w m. quiet_ok _ (record { appends = P0.appends; recovery = P0.recovery }) (none_ok _ _) (none_ok _ _) (none_ok _ _);
         acks = λ n p f i h g o w m. quiet_ok _ (record { appends = acks_ok q.spec q y n p P0.appends g; recovery = P0.recovery }) (none_ok _ _) (none_ok _ _) (none_ok _ _);
-        settles_some = λ v g p f e h s o u w m. let z = stage_of v (Stores g) e h in quiet_ok _ (record { appends = P0.appends; recovery = (below v e, ((z.0.0, z.0.1, settle_epoch v.epoch p y g.items z.0.2), settle_ok q.log q.epoch p y g.items z.1)) }) (none_ok _ _) (none_ok _ _) (none_ok _ _);
-        settles_all = λ v g p f e h s o u. let z = stage_of v (Stores g) e h in with_plans r _ _ v.epoch _ (close_ok c _ v.epoch _ refl refl P0.appends (record { appends = P0.appends; recovery = (below v e, (z.0.0, z.0.1)) }) (none_ok _ _) (none_ok _ _) (none_ok _ _)
-            (λ n i j x. grants v _ n e (ready_now g p y b H s o h u refl) i j x));
         lost_own = λ n round g end f i h w m. quiet_ok _ (record { appends = P0.appends; recovery = P0.recovery }) (none_ok _ _) (none_ok _ _) (none_ok _ _);
-        lost_there = λ v n round g end f e i h w m. quiet_ok _ (record { appends = P0.appends; recovery = (below v e, lost_ok v y e v.stage refl) }) (none_ok _ _) (none_ok _ _) (none_ok _ _);
         cleaned = λ v n s f e i h w m. let z : carried.ReplyOk E T Y O V W R G q.log (bodies.CleanHere n s) = subst (carried.ReplyOk E T Y O V W R G q.log) i B in
             quiet_ok _ (record { appends = P0.appends; recovery = begins_ok c r q.log q.log q v.epoch C })
             (each_ok q.log q.epoch _ _ (subst (λ k. Y q.log k s) (sym (home_of n z.0) ∙ h) z.1)) (begin_asks_ok q.log q.epoch (looks_at c r q.log) q v.epoch C) (none_ok _ _);
-        asks_more = λ v d from upto trim lng es f e h i g t u w m. let z = page_next v d from upto trim lng es e h i g in
-            quiet_ok _ (record { appends = P0.appends; recovery = (below v e, z) }) (none_ok _ _) (next_ok q.log q.epoch v.epoch y _ (below v e).2 z) (none_ok _ _);
-        plans = λ v d from upto trim lng es f e h i g t u w m. let z = page_next v d from upto trim lng es e h i g in let k = P v d from upto trim lng es f e h i g t u z m in
-            let x = planned_ok q.log q.epoch _ (λ j o. (k j o).0) in let w = planned_epoch v.epoch _ (λ j o. (k j o).1) in let good = digest_good q.log v.epoch _ z in
-            quiet_ok _ (record { appends = P0.appends; recovery = (below v e, ((digest_trim_ok q.log v.epoch _ z, good, w), x)) }) (none_ok _ _) (none_ok _ _) (stores_ok q.log q.epoch v.epoch _ v.lost _ 0 _ good w x);
+        asks_more = λ v d asks f h a n u w m. let z = digest_next v d h in
+            quiet_ok _ (record { appends = P0.appends; recovery = (z.below, z.digest) }) (none_ok _ _) (asks_next v d asks z a) (none_ok _ _);
+        plans = λ v d loss f h p w m. let z = digest_next v d h in let k = plan_ok z.recovery d loss (gone v) z.there (subst (λ e. DigestOk q.log e d) z.epoch z.digest) (subst (λ e. plans_made ≡ record { log = q.log; epoch = e; ballot = q.epoch; loss = loss; digest = d; gone = gone v } ∷ []) z.epoch m) in
+            quiet_ok _ (record { appends = P0.appends; recovery = (z.below, subst (λ e. carried.StageOk E T Y O V W R G q.log q.epoch e (Stores (storing_of (plan e loss d)))) (sym z.epoch) k.0) }) (none_ok _ _) (none_ok _ _)
+            (subst (λ e. BodiesOk q.log q.epoch (item_stores v.spec v.lost loss (plan e loss d).lng 0 (planned (plan e loss d).items))) (sym z.epoch) (k.1 v.spec v.lost));
+        looks_closed = λ v d s f h u o w m. quiet_ok _ (record { appends = P0.appends; recovery = begins_ok c r q.log q.log q v.epoch C }) (each_ok q.log q.epoch _ _ (shown v.epoch s o)) (begin_asks_ok q.log q.epoch (looks_at c r q.log) q v.epoch C) (none_ok _ _);
+        looks_later = λ v d f h u o n w m. quiet_ok _ (record { appends = P0.appends; recovery = P0.recovery }) (none_ok _ _) (none_ok _ _) (none_ok _ _);
+        stores_on = λ v g f h t w m. quiet_ok _ (record { appends = P0.appends; recovery = stored_next v g h }) (none_ok _ _) (none_ok _ _) (none_ok _ _);
+        closes_now = λ v g f h t. let z = stored_next v g h in let d = ending_of q heard y b v g H h t in with_plans r _ _ v.epoch _ _ (close_ok c _ v.epoch _ _ refl refl P0.appends (record { appends = P0.appends; recovery = (z.0, (z.1.0.0, z.1.0.1)) }) (none_ok _ _) (none_ok _ _) (none_ok _ _)
+            (λ n i j x. subst (λ e. Y q.log e (summary_of q.epoch g)) (sym d.epoch) (grants d.recovery _ _ n d.there d.ending (i ∙ d.epoch) (subst (λ e. close r q.log e (summary_of q.epoch g) (is_short v g) ≡ record { register = n; answer = Granted }) d.epoch j) x)));
+        lost_closing = λ v s short n round g end f e i k h w m. quiet_ok _ (record { appends = P0.appends; recovery = (below v e, stage_of v (Closes s short) e i) }) (none_ok _ _) (none_ok _ _) (none_ok _ _);
       } where
         home_of : (n : ℕ) → 0 < esn_of n → home_epoch n ≡ epoch_of n
         home_of n h = cond_both ((esn_of n == 0) && nat_lt 0 (epoch_of n)) _ (epoch_of n) (λ x. x ≡ epoch_of n) (λ t. absurd (let p = and_parts (esn_of n == 0) (nat_lt 0 (epoch_of n)) t in let q = eqb-true (esn_of n) 0 p.0 in omega arith)) (λ t. refl)
 
-        lost_ok : (v : Recovery) (y : ℕ) → q.recovery ≡ Some v → (g : Stage) → v.stage ≡ g → carried.StageOk E T Y O V W R G q.log q.epoch v.epoch (lost_stage y g)
-        lost_ok v y e (Seals d) f = with_lost_ok q.log v.epoch y d (stage_of v (Seals d) e f)
-        lost_ok v y e (Stores g) f = stage_of v (Stores g) e f
-        lost_ok v y e (Closes s) f = stage_of v (Closes s) e f
-
         page_next : (v : Recovery) (d : List Told) (from upto trim lng : ℕ) (es : List Entry) → q.recovery ≡ Some v → v.stage ≡ Seals d → b ≡ bodies.DigestPage from upto trim lng es → v.epoch ≡ epoch_of from → DigestOk q.log v.epoch (with_page v.epoch y from upto trim lng es d)
         page_next v d from upto trim lng es e h i g = with_page_ok q.log v.epoch y from upto trim lng es d (subst (carried.ReplyOk E T Y O V W R G q.log) i B) (sym g) (stage_of v (Seals d) e h)
 
-      pub retrying_ok : Retrying c r q (λ k. call ≡ k → CalledOk name q k)
-      unfolding ItemsOk
+        digest_next : (v : Recovery) (d : List Told) → Hearing q y b v d → Next v d
+        digest_next v d (heard_page f from upto trim lng es e h i g t j) = record { recovery = v; there = e; epoch = refl; below = below v e; digest = subst (DigestOk q.log v.epoch) (sym j) (page_next v f from upto trim lng es e h i g) }
+        digest_next v d (heard_lost x f n round g end e h i k u j) = let ep : v.epoch ≡ x.epoch = ap (λ (z : Recovery). z.epoch) u in record {
+          recovery = x;
+          there = e;
+          epoch = ep;
+          below = subst (λ e. (0 < e) × (e < q.epoch) × O q.log e) (sym ep) (below x e);
+          digest = subst (λ e. DigestOk q.log e d) (sym ep) (subst (DigestOk q.log x.epoch) (sym j) (with_lost_ok q.log x.epoch y f (stage_of x (Seals f) e h)));
+        }
+
+        asks_next : (v : Recovery) (d : List Told) (asks : List (ℕ × Body)) → Next v d → (asks ≡ next_ask y d) ⊎ (asks ≡ []) → BodiesOk q.log q.epoch asks
+        asks_next v d asks z (inl a) = subst (BodiesOk q.log q.epoch) (sym a) (next_ok q.log q.epoch v.epoch y d z.below.2 z.digest)
+        asks_next v d asks z (inr a) = subst (BodiesOk q.log q.epoch) (sym a) (none_ok q.log q.epoch)
+
+        stored_next : (v : Recovery) (g : Storing) → Hearing_stored q y b v g → ((0 < v.epoch) × (v.epoch < q.epoch) × O q.log v.epoch) × carried.StageOk E T Y O V W R G q.log q.epoch v.epoch (Stores g)
+        stored_next v g (heard_settled f p e h s m j) = let z = stage_of v (Stores f) e h in (below v e, subst (λ x. carried.StageOk E T Y O V W R G q.log q.epoch v.epoch (Stores x)) (sym j) ((z.0.0, z.0.1, settle_epoch v.epoch p y f.items z.0.2), settle_ok q.log q.epoch p y f.items z.1))
+        stored_next v g (heard_gone x n round k end e h i u j) = let ep : v.epoch ≡ x.epoch = ap (λ (z : Recovery). z.epoch) j in
+            (subst (λ e. (0 < e) × (e < q.epoch) × O q.log e) (sym ep) (below x e), subst (λ e. carried.StageOk E T Y O V W R G q.log q.epoch e (Stores g)) (sym ep) (stage_of x (Stores g) e h))
+
+      pub retrying_ok : Retrying c r gone q (λ k m. call ≡ k → plans_made ≡ m → CalledOk name q k)
+      unfolding plan ItemsOk Below
       retrying_ok =
           let s : Spec = q.spec in
           let up = raised_ok q.log q.epoch s q.appends P0.appends in
           let st = append_stores_ok q.log q.epoch s q.lost q.lng (raised s q.appends) L (raised_own q.epoch s q.appends own) up in record {
-            quiet = λ w. same_ok;
-            appends = λ f w. quiet_ok _ (record { appends = up; recovery = P0.recovery }) (none_ok _ _) (none_ok _ _) st;
-            seals = λ v d f e h w. let z = with_asks_ok q.log v.epoch d (stage_of v (Seals d) e h) in quiet_ok _ (record { appends = up; recovery = (below v e, z) }) (none_ok _ _) (asks_ok q.log q.epoch v.epoch (with_asks v.epoch d) (below v e).2 z) st;
-            stores = λ v g f e h w. let z = stage_of v (Stores g) e h in quiet_ok _ (record { appends = up; recovery = (below v e, z) }) (none_ok _ _) (none_ok _ _) (both_ok q.log q.epoch _ _ (stores_ok q.log q.epoch v.epoch _ v.lost g.lng (next_wave g.wave) g.items z.0.1 z.0.2 z.1) st);
-            closes = λ v y f e h. close_ok c _ v.epoch y refl refl up (record { appends = up; recovery = P0.recovery }) (none_ok _ _) (none_ok _ _) st (λ n i j x. grants v y n e (closing_now h) i j x);
+            quiet = λ w m. same_ok;
+            appends = λ f w m. quiet_ok _ (record { appends = up; recovery = P0.recovery }) (none_ok _ _) (none_ok _ _) st;
+            seals = λ v d f e h u w m. let z = with_asks_ok q.log v.epoch d (stage_of v (Seals d) e h) in quiet_ok _ (record { appends = up; recovery = (below v e, z) }) (none_ok _ _) (asks_ok q.log q.epoch v.epoch (with_asks v.epoch d) (below v e).2 z) st;
+            plans = λ v d f e h p w m. let k = plan_ok v d true (gone v) e (stage_of v (Seals d) e h) m in quiet_ok _ (record { appends = up; recovery = (below v e, k.0) }) (none_ok _ _) (none_ok _ _) (both_ok q.log q.epoch _ _ (k.1 v.spec v.lost) st);
+            looks_closed = λ v d z f e h u o w m. quiet_ok _ (record { appends = up; recovery = begins_ok c r q.log q.log (retry_acts q).sequencer v.epoch C }) (each_ok q.log q.epoch _ _ (shown v.epoch z o)) (begin_asks_ok q.log q.epoch (looks_at c r q.log) (retry_acts q).sequencer v.epoch C) st;
+            looks_later = λ v d f e h u o n w m. quiet_ok _ (record { appends = up; recovery = P0.recovery }) (none_ok _ _) (none_ok _ _) st;
+            stores_on = λ v g f e h t w m. let z = stage_of v (Stores g) e h in quiet_ok _ (record { appends = up; recovery = (below v e, z) }) (none_ok _ _) (none_ok _ _) (both_ok q.log q.epoch _ _ (stores_ok q.log q.epoch v.epoch _ v.lost g.loss g.lng (next_wave g.wave) g.items z.0.1 z.0.2 z.1) st);
+            closes_now = λ v g f e h t. let z = stage_of v (Stores g) e h in with_plans r _ _ v.epoch _ _ (close_ok c _ v.epoch _ _ refl refl up (record { appends = up; recovery = (below v e, (z.0.0, z.0.1)) }) (none_ok _ _) (none_ok _ _) (both_ok q.log q.epoch _ _ (stores_ok q.log q.epoch v.epoch _ v.lost g.loss g.lng (next_wave g.wave) g.items z.0.1 z.0.2 z.1) st)
+                (λ n i j x. grants v _ _ n e (ends_ready g h t refl refl) i j x));
+            closes = λ v y short f e h. with_plans r _ _ v.epoch y short (close_ok c _ v.epoch y short refl refl up (record { appends = up; recovery = P0.recovery }) (none_ok _ _) (none_ok _ _) st (λ n i j x. grants v y short n e (ends_again h) i j x));
           }

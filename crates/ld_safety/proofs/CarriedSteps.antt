@@ -24,16 +24,16 @@ use Rattle.ld_op.specs.declared.op.Op.TheVariants as ops
 use Rattle.ld_op.specs.Plain.{Plain, Log, log_of, apply}
 use Rattle.ld_op.specs.Ticks.{Ticked, Cleans, Rebuilt, Asks, Nothing, on_tick, lowest_unclean, tick_with, lost_tick, refill_tick, missing, node_asks}
 use Rattle.ld_table.specs.Words.{without}
-use Rattle.ld_machine.specs.Config.{all_nodes, looks_at}
+use Rattle.ld_machine.specs.Config.{all_nodes, first_spec, looks_at}
 use Rattle.ld_msg.specs.Register.{Register, View, Granted, epochs_of, generation_of, epochs_in, lce_of, close}
 use Rattle.ld_machine.specs.Disk.{Node, new_node, load}
-use Rattle.ld_msg.specs.Digest.{Told, with_page, enough, plan, Item}
-use Rattle.ld_msg.specs.Sequencer.{Sequencer, Acts, Recovery, Seals, Numbered, appending, appended, next_esn, first_stores, released_of, takes_any, on_reply, on_retry, to_each, activated, recovery_asks, Append, fresh_append, called, acted_messages}
+use Rattle.ld_msg.specs.Digest.{Told, plan, Item}
+use Rattle.ld_msg.specs.Sequencer.{Sequencer, Acts, Recovery, Numbered, appending, appended, next_esn, first_stores, released_of, on_reply, on_retry, to_each, activated, recovery_asks, Append, fresh_append, called, acted_messages}
 use Rattle.ld_msg.specs.Choice.{choice}
 use Rattle.ld_msg.specs.Reading.{Held}
 use Rattle.ld_msg.specs.Reader.{Reader, Read, polled, opened, held_with, is_newer, round_of, on_answer, poll_asks, asks_of, look_of, last_round}
 use Rattle.ld_machine.specs.State.{State, Done, finish, node_at, with_node, with_register, with_sequencer, with_reader, only_state, posted}
-use Rattle.ld_machine.specs.World.{Made, In, made_on, made_by, page_from}
+use Rattle.ld_machine.specs.World.{Made, In, made_on, made_by, made_retried, page_from}
 use Rattle.ld_machine.specs.Step as Step
 use Rattle.ld_safety.proofs.Lists.{only, In-append, cond_both, not_both}
 use Rattle.ld_safety.proofs.Names.{named_cases}
@@ -42,7 +42,8 @@ use Rattle.ld_op.specs.Answers.{on_release}
 use Rattle.std.proofs.lemmas.Bool.{cases_order}
 use Rattle.ld_safety.proofs.Members.{In_put}
 use Rattle.ld_safety.proofs.Events.{NamesOnce, Cases, dispatch, Live, Reading, Serves, refreshed, loaded, with_spec}
-use Rattle.ld_safety.proofs.SequencerSteps.{same_sender, replied, retried}
+use Rattle.ld_safety.proofs.SequencerSteps.{same_sender, Ending, gone_of, replied, retried}
+use Rattle.ld_safety.proofs.RegisterSteps.{shown_closed}
 use Rattle.ld_safety.proofs.ReaderSteps.{ReadKeeps, answered}
 use Rattle.ld_safety.proofs.ReaderLogs.{Apart}
 use Rattle.ld_safety.proofs.Carried as carried
@@ -73,12 +74,11 @@ module _ (c : Config) (s : State) (e : Event) (E : ℕ → ℕ → ℕ → What 
     pub new_epochs : (l : ℕ) (r : Register) → (Step.happens c s e).state.register ≡ r → (k : ℕ) → 0 < k → k < (epochs_of r l).epoch → O l k
     pub append : (name : List ℕ) (q : Sequencer) (payload : List ℕ) → Live s name q → appending q payload ≡ Numbered → e ≡ events.Append name payload → In (lines.Appended name (numbered q.epoch (next_esn q))) (Step.happens c s e).lines → E q.log q.epoch (numbered q.epoch (next_esn q)) (Rec payload)
     pub trim : (name : List ℕ) (q : Sequencer) (point : ℕ) → Live s name q → point ≤ released_of q → In (lines.Trimmed name point) (Step.happens c s e).lines → T q.log point
-    pub planned : (name : List ℕ) (q : Sequencer) (v : Recovery) (d : List Told) (y from upto trim lng : ℕ) (es : List Entry) → Live s name q → HeardOf s q y (bodies.DigestPage from upto trim lng es) → q.preempted ≡ None → q.recovery ≡ Some v → v.stage ≡ Seals d
-        → v.epoch ≡ epoch_of from → takes_any y from d ≡ true → enough v.spec (with_page v.epoch y from upto trim lng es d) ≡ true → sequencers.DigestOk E T Y O V W R G sound q.log v.epoch (with_page v.epoch y from upto trim lng es d)
-        → made_on c s e ≡ record { log = q.log; epoch = v.epoch; ballot = q.epoch; digest = with_page v.epoch y from upto trim lng es d } ∷ []
-        → (i : Item) → In i (plan v.epoch (with_page v.epoch y from upto trim lng es d)).items → E q.log q.epoch i.number i.what × (epoch_of i.number ≡ v.epoch)
-    pub closed : (name : List ℕ) (q : Sequencer) (v : Recovery) (y : Summary) → Live s name q → q.recovery ≡ Some v → sequencers.Ending E T Y O V W R G sound q (HeardOf s q) v y → lce_of s.register q.log + 1 ≡ v.epoch
-        → close s.register q.log v.epoch y ≡ record { register = (Step.happens c s e).state.register; answer = Granted } → Y q.log v.epoch y
+    pub planned : (name : List ℕ) (q : Sequencer) (v : Recovery) (d : List Told) (loss : Bool) (gone : List ℕ) → Live s name q → q.recovery ≡ Some v → sequencers.DigestOk E T Y O V W R G sound q.log v.epoch d
+        → made_on c s e ≡ record { log = q.log; epoch = v.epoch; ballot = q.epoch; loss = loss; digest = d; gone = gone } ∷ []
+        → (i : Item) → In i (plan v.epoch loss d).items → E q.log q.epoch i.number i.what × (epoch_of i.number ≡ v.epoch)
+    pub closed : (name : List ℕ) (q : Sequencer) (v : Recovery) (y : Summary) (short : Bool) → Live s name q → q.recovery ≡ Some v → Ending q (HeardOf s q) v y short → lce_of s.register q.log + 1 ≡ v.epoch
+        → close s.register q.log v.epoch y short ≡ record { register = (Step.happens c s e).state.register; answer = Granted } → Y q.log v.epoch y
     pub refill : (n : ℕ) (m : Msg) (round from upto : ℕ) (es : List Entry) → In m s.network.sent → m.to ≡ whos.Node n → Serves c s n m.log → m.body ≡ bodies.ReadPage round from upto true es → (log_of (node_at s n).plain m.log).lost ≡ true
         → nodes.RefillOk E T Y O V W R G sound m.log (log_of (node_at s n).plain m.log) es
     pub shows : (n l : ℕ) → Serves c s n l → nodes.Shows E T Y O V W R G sound l (log_of (node_at s n).plain l) (Step.released_at (node_at s n) l)
@@ -171,27 +171,31 @@ module _ (c : Config) (s : State) (e : Event) (E : ℕ → ℕ → ℕ → What 
         (has.register_has _ _ _ _ _ _ (with_sequencer (refreshed s f) name (called (looks_at c s.register q.log) s.register a a.tries).acts.sequencer) (called (looks_at c s.register q.log) s.register a a.tries).register (has.sequencer_has _ _ _ _ _ _ (refreshed s f) name (called (looks_at c s.register q.log) s.register a a.tries).acts.sequencer K.before h.sequencer) (to_register (Step.acted c (refreshed s f) name q a) w))
         (posted_ok (whos.Sequencer q.epoch) q.log (acted_messages q (called (looks_at c s.register q.log) s.register a a.tries).acts) (λ b i. (sequencers.messages_ok E T Y O V W R G K.sound name q (called (looks_at c s.register q.log) s.register a a.tries) h (K.released name q (called (looks_at c s.register q.log) s.register a a.tries).acts.sequencer v (ap (λ (d : Done). find_named name d.state.sequencers) w ∙ put_here name _))).each b i))
 
-    closing : (f : List ℕ) (name : List ℕ) (q : Sequencer) (a : Acts) → Live s name q → Step.happens c s e ≡ Step.acted c (refreshed s f) name q a → (v : Recovery) (y : Summary) (n : Register) → q.recovery ≡ Some v → sequencers.Ending E T Y O V W R G K.sound q (HeardOf s q) v y → lce_of s.register q.log + 1 ≡ v.epoch
-        → close s.register q.log v.epoch y ≡ record { register = n; answer = Granted } → (called (looks_at c s.register q.log) s.register a a.tries).register ≡ n → Y q.log v.epoch y
-    closing f name q a l w v y n r d k g z = K.closed name q v y l r d k (g ∙ ap (λ (x : Register). record { register = x; answer = Granted }) (sym z ∙ sym (ap (λ (x : Done). x.state.register) w)))
+    closing : (f : List ℕ) (name : List ℕ) (q : Sequencer) (a : Acts) → Live s name q → Step.happens c s e ≡ Step.acted c (refreshed s f) name q a → (v : Recovery) (y : Summary) (short : Bool) (n : Register) → q.recovery ≡ Some v → Ending q (HeardOf s q) v y short → lce_of s.register q.log + 1 ≡ v.epoch
+        → close s.register q.log v.epoch y short ≡ record { register = n; answer = Granted } → (called (looks_at c s.register q.log) s.register a a.tries).register ≡ n → Y q.log v.epoch y
+    closing f name q a l w v y short n r d k g z = K.closed name q v y short l r d k (g ∙ ap (λ (x : Register). record { register = x; answer = Granted }) (sym z ∙ sym (ap (λ (x : Done). x.state.register) w)))
+
+    shown_here : (l k : ℕ) (y : Summary) → (looks_at c s.register l k).summary ≡ Some y → Y l k y
+    shown_here l k y h = K.before.register l k y (shown_closed (first_spec c l) s.register l k y h)
 
     replies : (f : List ℕ) (name : List ℕ) (q : Sequencer) (m : Msg) → In m s.network.sent → m.to ≡ whos.Sequencer q.epoch → m.log ≡ q.log → Live s name q
-        → Result (Step.acted c (refreshed s f) name q (on_reply (looks_at c s.register q.log) q (Step.sender_node m.from) m.body)) (made_by c (Some (name, q)) (page_from m.from) m.body)
+        → Result (Step.acted c (refreshed s f) name q (on_reply (looks_at c s.register q.log) q (Step.sender_node m.from) m.body)) (made_by c s (Some (name, q)) (page_from m.from) m.body)
     replies f name q m i t l v w x =
         let y = Step.sender_node m.from in
         let a = on_reply (looks_at c s.register q.log) q y m.body in
         let call = called (looks_at c s.register q.log) s.register a a.tries in
         let h : HeardOf s q y m.body = record { message = m; sent = i; to = t; log = l; from = refl; body = refl } in
-        let ok = sequencers.acting_ok E T Y O V W R G K.sound name q s.register call (made_on c s e) (K.epochs name q v.named) (K.good name q v.named) (K.own name q v.named) c (HeardOf s q) (K.before.sequencers name q v.named) (closing f name q a v w) y m.body h (subst (λ k. carried.ReplyOk E T Y O V W R G k m.body) l (carried.reply_of E T Y O V W R G m.log m.from m.body (K.before.sent m i)))
-        (λ r d from upto trim lng es g k u z j o b D made it. K.planned name q r d y from upto trim lng es v (record { message = m; sent = i; to = t; log = l; from = refl; body = z }) g k u j o b D made it) in
-        acted f name q a v w (replied c s.register name q v.there y m.body (λ k n. call ≡ k → made_on c s e ≡ n → sequencers.CalledOk E T Y O V W R G K.sound name q k) ok refl (x ∙ ap (λ p. made_by c (Some (name, q)) p m.body) (same_sender m.from)))
+        let ok = sequencers.acting_ok E T Y O V W R G K.sound name q s.register call (made_on c s e) (K.epochs name q v.named) (K.good name q v.named) (K.own name q v.named) c (HeardOf s q) (gone_of s q) (K.before.sequencers name q v.named) (closing f name q a v w) (shown_here q.log)
+        (λ r d loss g k D it. K.planned name q r d loss g v k D it) y m.body h (subst (λ k. carried.ReplyOk E T Y O V W R G k m.body) l (carried.reply_of E T Y O V W R G m.log m.from m.body (K.before.sent m i))) in
+        acted f name q a v w (replied c s name q v.there y m.body (λ k n. call ≡ k → made_on c s e ≡ n → sequencers.CalledOk E T Y O V W R G K.sound name q k) ok refl (x ∙ ap (λ p. made_by c s (Some (name, q)) p m.body) (same_sender m.from)))
 
-    retries : (name : List ℕ) (q : Sequencer) → Live s name q → Result (Step.acted c s name q (on_retry q)) []
+    retries : (name : List ℕ) (q : Sequencer) → Live s name q → Result (Step.acted c s name q (on_retry (looks_at c s.register q.log) q)) (made_retried c s (Some q))
     retries name q v w x =
-        let a = on_retry q in
+        let a = on_retry (looks_at c s.register q.log) q in
         let call = called (looks_at c s.register q.log) s.register a a.tries in
-        let ok = sequencers.retrying_ok E T Y O V W R G K.sound name q s.register call (made_on c s e) (K.epochs name q v.named) (K.good name q v.named) (K.own name q v.named) c (HeardOf s q) (K.before.sequencers name q v.named) (closing s.network.fresh name q a v w) in
-        acted s.network.fresh name q a v w (retried c s.register q (λ k. call ≡ k → sequencers.CalledOk E T Y O V W R G K.sound name q k) ok refl)
+        let ok = sequencers.retrying_ok E T Y O V W R G K.sound name q s.register call (made_on c s e) (K.epochs name q v.named) (K.good name q v.named) (K.own name q v.named) c (HeardOf s q) (gone_of s q) (K.before.sequencers name q v.named) (closing s.network.fresh name q a v w) (shown_here q.log)
+        (λ r d loss g k D it. K.planned name q r d loss g v k D it) in
+        acted s.network.fresh name q a v w (retried c s q v.there (λ k n. call ≡ k → made_on c s e ≡ n → sequencers.CalledOk E T Y O V W R G K.sound name q k) ok refl x)
 
     appends : (name : List ℕ) (q : Sequencer) (payload : List ℕ) → Live s name q → appending q payload ≡ Numbered → e ≡ events.Append name payload → Result (Step.append_done s name q payload Numbered) []
     appends name q payload v a i w x =
@@ -252,7 +256,9 @@ module _ (c : Config) (s : State) (e : Event) (E : ℕ → ℕ → ℕ → What 
       trim = λ a g n t. record { log = g.log; held = g.held; asks = g.asks };
       record_there = λ a p g n t. record { log = g.log; held = g.held; asks = g.asks };
       hole_there = λ a g n t. record { log = g.log; held = g.held; asks = g.asks };
+      plug = λ a g n t. record { log = g.log; held = g.held; asks = g.asks };
       bridge = λ a g n t. record { log = g.log; held = g.held; asks = g.asks };
+      lossy_end = λ a g n t. record { log = g.log; held = g.held; asks = g.asks };
       confirm = λ a g n m t. record { log = g.log; held = g.held; asks = λ r x i. asks_plain d.log r _ _ _ x i };
       polls_on = λ a g t. record { log = g.log; held = g.held; asks = λ r x i. poll_plain d.log r looks a.reader x i };
     } where

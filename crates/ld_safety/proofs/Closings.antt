@@ -1,5 +1,5 @@
 -- Where the summaries of a register come from: they were there before the step, or a recovery closes its epoch in it.
-use Rattle.std.proofs.Common.{◌≡◌, ◌∙◌, ◌⊎◌, ℕ, ◌+◌, inl, inr, refl, ap, sym, subst, true, List, Option, Some, None, Bool}
+use Rattle.std.proofs.Common.{◌≡◌, ◌∙◌, ℕ, ◌+◌, inl, inr, refl, ap, sym, subst, false, List, Option, Some, None, Bool}
 use Rattle.std.specs.Option.{unwrap_or}
 use Rattle.ld_table.specs.Table.{find}
 use Rattle.ld_table.proofs.Laws.{put_cases}
@@ -9,18 +9,16 @@ use Rattle.ld_msg.specs.declared.msg.Summary.{Summary}
 use Rattle.ld_msg.specs.declared.msg.Msg.{Msg}
 use Rattle.ld_msg.specs.declared.msg.Body.{Body}
 use Rattle.ld_ids.specs.declared.set.Spec.{Spec}
-use Rattle.ld_ids.specs.Choice.{nodes_of}
-use Rattle.ld_table.specs.Words.{is_in}
 use Rattle.ld_op.specs.declared.op.Op.{Op}
 use Rattle.ld_op.specs.Ticks.{Ticked, Cleans, Rebuilt, Asks, Nothing}
 use Rattle.ld_machine.specs.Disk.{Node}
-use Rattle.ld_msg.specs.Register.{Register, View, Epochs, Changed, no_epochs, epochs_of, lce_of, with_epochs, next_epoch, closed_epochs, close, activate, draw}
-use Rattle.ld_msg.specs.Sequencer.{Sequencer, Acts, Recovery, Storing, Stores, Closes, is_ready, settled_by, summary_of}
+use Rattle.ld_msg.specs.Register.{Register, View, Epochs, Changed, no_epochs, epochs_of, lce_of, with_epochs, next_epoch, closed_epochs, is_overtaken, close, activate, draw}
+use Rattle.ld_msg.specs.Sequencer.{Sequencer, Acts, Recovery, summary_of}
 use Rattle.ld_machine.specs.State.{State, node_at, with_node}
 use Rattle.ld_machine.specs.Step as Step
 use Rattle.ld_safety.proofs.Lists.{Some_inj}
 use Rattle.ld_safety.proofs.Events.{NamesOnce, Cases, dispatch, Live, refreshed}
-use Rattle.ld_safety.proofs.SequencerSteps.{Settling, Closing, Acting, Retrying, replied, retried}
+use Rattle.ld_safety.proofs.SequencerSteps.{Closing, Acting, Retrying, Ending, ends_again, ends_ready, ending_of, gone_of, replied, retried}
 use Rattle.ld_safety.proofs.RegisterSteps.{Same, activate_leaves, close_leaves, draw_leaves, epochs_put, epochs_same}
 use Rattle.ld_safety.proofs.CarriedSteps.{HeardOf}
 
@@ -38,11 +36,11 @@ module _ (P : ℕ → ℕ → Summary → Type 0) where
     | inr a ↦ h k e y (ap (λ (z : Epochs). find e z.summaries) (sym (epochs_same (with_epochs r l x) n k s ∙ a.1)) ∙ f)
   ]
 
-  close_summaries : (r : Register) (l e : ℕ) (y : Summary) → (lce_of r l + 1 ≡ e → P l e y) → OfSummaries P r → OfSummaries P (close r l e y).register
-  close_summaries r l e y t h = elim (close_leaves r l e y) [
-    | inl s ↦ same_summaries r (close r l e y).register s h
-    | inr s ↦ put_summaries r (close r l e y).register l (closed_epochs (epochs_of r l) e y) (λ k z f. elim (put_cases k e y (epochs_of r l).summaries) [
-      | inl a ↦ subst (λ j. P l j z) (sym a.0) (subst (λ (v : Summary). P l e v) (Some_inj (sym a.1 ∙ f)) (t s.0))
+  close_summaries : (r : Register) (l e : ℕ) (y : Summary) (b : Bool) → (lce_of r l + 1 ≡ e → is_overtaken (epochs_of r l) y b ≡ false → P l e y) → OfSummaries P r → OfSummaries P (close r l e y b).register
+  close_summaries r l e y b t h = elim (close_leaves r l e y b) [
+    | inl s ↦ same_summaries r (close r l e y b).register s h
+    | inr s ↦ put_summaries r (close r l e y b).register l (closed_epochs (epochs_of r l) e y) (λ k z f. elim (put_cases k e y (epochs_of r l).summaries) [
+      | inl a ↦ subst (λ j. P l j z) (sym a.0) (subst (λ (v : Summary). P l e v) (Some_inj (sym a.1 ∙ f)) (t s.0 s.2))
       | inr a ↦ h l k z (sym a.1 ∙ f)
     ]) s.1 h
   ]
@@ -53,49 +51,46 @@ module _ (P : ℕ → ℕ → Summary → Type 0) where
   draw_summaries : (r : Register) (n : ℕ) → OfSummaries P r → OfSummaries P (draw r n).register
   draw_summaries r n h = elim (draw_leaves r n) [ inl s ↦ same_summaries r (draw r n).register s h | inr s ↦ (λ l e y f. h l e y (ap (λ m. find e (unwrap_or (find l m) no_epochs).summaries) (sym s.0) ∙ f)) ]
 
-  close_called : (r : Register) (looks : ℕ → View) (a : Acts) (e : ℕ) (y : Summary) → (lce_of r a.sequencer.log + 1 ≡ e → P a.sequencer.log e y) → OfSummaries P r → Closing r looks a e y (λ k. OfSummaries P k.register)
-  close_called r looks a e y t h = let z = close_summaries r a.sequencer.log e y t h in record {
-    granted = λ n i j. subst (λ (d : Changed). OfSummaries P d.register) j z;
-    overtaken = λ i. h;
+  close_called : (r : Register) (looks : ℕ → View) (a : Acts) (e : ℕ) (y : Summary) (short : Bool) → (lce_of r a.sequencer.log + 1 ≡ e → is_overtaken (epochs_of r a.sequencer.log) y short ≡ false → P a.sequencer.log e y) → OfSummaries P r → Closing r looks a e y short (λ k. OfSummaries P k.register)
+  close_called r looks a e y short t h = let z = close_summaries r a.sequencer.log e y short t h in record {
+    granted = λ n i o j. subst (λ (d : Changed). OfSummaries P d.register) j z;
+    passed = λ i. h;
     behind = λ b i. h;
+    overtaken = λ i o. h;
     failed = λ n j. subst (λ (d : Changed). OfSummaries P d.register) j z;
   }
 
--- how a recovery closes its epoch: it tried before, or its plan is ready
-pub record Readied (s : State) (q : Sequencer) (v : Recovery) (y : Summary) : Type 0 where
-  pub storing : Storing
-  pub settles : ℕ → Bool
-  pub node : ℕ
-  pub body : Body
-  pub heard : HeardOf s q node body
-  pub settling : Settling body v.epoch settles
-  pub member : is_in node (nodes_of v.spec) ≡ true
-  pub stage : v.stage ≡ Stores storing
-  pub ready : is_ready v.spec (settled_by settles node storing) ≡ true
-  pub summary : y ≡ summary_of q.epoch (settled_by settles node storing)
-
-abbrev pub Ends_with : State → Sequencer → Recovery → Summary → Type 0
-Ends_with s q v y = (v.stage ≡ Closes y) ⊎ Readied s q v y
-
 module _ (c : Config) (s : State) (e : Event) (P : ℕ → ℕ → Summary → Type 0) (h : OfSummaries P s.register)
-    (closes : (name : List ℕ) (q : Sequencer) (v : Recovery) (y : Summary) → Live s name q → q.recovery ≡ Some v → Ends_with s q v y → lce_of s.register q.log + 1 ≡ v.epoch → P q.log v.epoch y) where
-  acting : (name : List ℕ) (q : Sequencer) → Live s name q → (y : ℕ) (b : Body) → HeardOf s q y b → Acting c s.register q y b (λ k m. OfSummaries P k.register)
+    (closes : (name : List ℕ) (q : Sequencer) (v : Recovery) (y : Summary) (short : Bool) → Live s name q → q.recovery ≡ Some v → Ending q (HeardOf s q) v y short → lce_of s.register q.log + 1 ≡ v.epoch → is_overtaken (epochs_of s.register q.log) y short ≡ false → P q.log v.epoch y) where
+  acting : (name : List ℕ) (q : Sequencer) → Live s name q → (y : ℕ) (b : Body) → HeardOf s q y b → Acting c s.register (gone_of s q) q y b (λ k m. OfSummaries P k.register)
   acting name q live y b H = record {
     quiet = h;
     sealed = λ n k f i l. h;
     cleaned_own = λ n s f i g. h;
     acks = λ n p f i g k m. h;
-    settles_some = λ v g p f e i s m u. h;
-    settles_all = λ v g p f e i z m u. close_called P s.register _ _ v.epoch _ (λ j. closes name q v _ live e (inr (record { storing = g; settles = p; node = y; body = b; heard = H; settling = z; member = m; stage = i; ready = u; summary = refl })) j) h;
     lost_own = λ n round g end f i k. h;
-    lost_there = λ v n round g end f e i k. h;
     cleaned = λ v n s f e i k. h;
-    asks_more = λ v d from upto trim lng es f e i g k t u. h;
-    plans = λ v d from upto trim lng es f e i g k t u. h;
+    asks_more = λ v d asks f g a n u. h;
+    plans = λ v d loss f g p. h;
+    looks_closed = λ v d z f g u o. h;
+    looks_later = λ v d f g u o n. h;
+    stores_on = λ v g f k t. h;
+    closes_now = λ v g f k t. let d = ending_of q (HeardOf s q) y b v g H k t in close_called P s.register _ _ v.epoch _ _ (λ j o. subst (λ e. P q.log e (summary_of q.epoch g)) (sym d.epoch) (closes name q d.recovery _ _ live d.there d.ending (j ∙ d.epoch) o)) h;
+    lost_closing = λ v z short n round g end f e i k j. h;
   }
 
-  retrying : (name : List ℕ) (q : Sequencer) → Live s name q → Retrying c s.register q (λ k. OfSummaries P k.register)
-  retrying name q live = record { quiet = h; appends = λ f. h; seals = λ v d f e i. h; stores = λ v g f e i. h; closes = λ v y f e i. close_called P s.register _ _ v.epoch y (λ j. closes name q v y live e (inl i) j) h }
+  retrying : (name : List ℕ) (q : Sequencer) → Live s name q → Retrying c s.register (gone_of s q) q (λ k m. OfSummaries P k.register)
+  retrying name q live = record {
+    quiet = h;
+    appends = λ f. h;
+    seals = λ v d f e i u. h;
+    plans = λ v d f e i p. h;
+    looks_closed = λ v d z f e i u o. h;
+    looks_later = λ v d f e i u o n. h;
+    stores_on = λ v g f e i t. h;
+    closes_now = λ v g f e i t. close_called P s.register _ _ v.epoch _ _ (λ j o. closes name q v _ _ live e (ends_ready g i t refl refl) j o) h;
+    closes = λ v y short f e i. close_called P s.register _ _ v.epoch y short (λ j o. closes name q v y short live e (ends_again i) j o) h;
+  }
 
   handled : (f : List ℕ) (n : ℕ) (m : Msg) (x : Node) (o : Option Op) (b : Option Body) → OfSummaries P (Step.handles (with_node (refreshed s f) n x) n m o b).state.register
   handled f n m x None b = h
@@ -121,8 +116,8 @@ module _ (c : Config) (s : State) (e : Event) (P : ℕ → ℕ → Summary → T
     faults = λ n f o. h;
     sets = λ l r x set i. h;
     arms = λ k done o. h;
-    hears = λ f name q m i t l v o. replied c s.register name q v.there (Step.sender_node m.from) m.body (λ k n. OfSummaries P k.register) (acting name q v (Step.sender_node m.from) m.body (record { message = m; sent = i; to = t; log = l; from = refl; body = refl }));
-    retries = λ name q v o. retried c s.register q (λ k. OfSummaries P k.register) (retrying name q v);
+    hears = λ f name q m i t l v o. replied c s name q v.there (Step.sender_node m.from) m.body (λ k n. OfSummaries P k.register) (acting name q v (Step.sender_node m.from) m.body (record { message = m; sent = i; to = t; log = l; from = refl; body = refl }));
+    retries = λ name q v o. retried c s q v.there (λ k n. OfSummaries P k.register) (retrying name q v);
     appends = λ name q p v a i. h;
     trims = λ name q t v b. h;
     drops = λ name q v o. h;

@@ -1,7 +1,7 @@
 -- After each event the digests of all recoveries have what their pages showed, and each plan was made from such a digest.
 use Rattle.std.proofs.Common.{◌≡◌, ◌∙◌, ◌≤◌, ◌<◌, ℕ, ◌+◌, inl, inr, refl, ap, sym, subst, Bool, true, false, ◌&&◌, ◌==◌, nat_lt, List, [], ◌++◌, Option, Some, None, arith}
 use Rattle.ld_safety.proofs.Senders.{AnswersFrom}
-use Rattle.ld_safety.proofs.Storings.{storing_later, summarized_later, ReplyFine}
+use Rattle.ld_safety.proofs.Storings.{full_later, storing_later, summarized_later, ReplyFine}
 use Rattle.std.proofs.lemmas.Bool.{and_parts, eqb-true}
 use Rattle.ld_table.specs.Named.{same, find_named, put_named}
 use Rattle.ld_table.proofs.NameLaws.{same-self}
@@ -19,14 +19,14 @@ use Rattle.ld_msg.specs.declared.msg.Body.{Body}
 use Rattle.ld_msg.specs.declared.msg.Body.TheVariants as bodies
 use Rattle.ld_msg.specs.Register.{Register, Epochs, Granted, activate, draw, epochs_of, lce_of}
 use Rattle.ld_msg.specs.Digest.{Told, digest_lng}
-use Rattle.ld_msg.specs.Sequencer.{Sequencer, Recovery, Stage, Seals, Stores, Closes, called, on_reply, on_retry, Numbered, appended, activated, bare}
+use Rattle.ld_msg.specs.Sequencer.{Sequencer, Recovery, Stage, Seals, Stores, Closes, Acts, called, on_reply, on_retry, Numbered, appended, activated, bare}
 use Rattle.ld_op.specs.declared.op.Op.{Op}
 use Rattle.ld_op.specs.Ticks.{Ticked, Cleans, Rebuilt, Asks, Nothing}
 use Rattle.ld_machine.specs.Config.{spec_of, looks_at}
 use Rattle.ld_machine.specs.Disk.{Node}
 use Rattle.ld_machine.specs.State.{State, Done, node_at, with_node, with_sequencer, only_state}
 use Rattle.ld_machine.specs.Facts.{Happened}
-use Rattle.ld_machine.specs.World.{Made, In, made_by}
+use Rattle.ld_machine.specs.World.{Made, In, gone_nodes, made_by, made_retried}
 use Rattle.ld_machine.specs.Step as Step
 use Rattle.ld_safety.proofs.Lists.{Some_inj, cond_both, In-append, In_right, not_both}
 use Rattle.ld_safety.proofs.Names.{named_cases}
@@ -34,20 +34,23 @@ use Rattle.ld_safety.proofs.Events.{Cases, Live, refreshed}
 use Rattle.ld_safety.proofs.RegisterSteps.{activated_epochs}
 use Rattle.ld_safety.proofs.SequencerSteps.{same_sender, replied, retried}
 use Rattle.ld_safety.proofs.Numbers.{Epochs_once}
-use Rattle.ld_safety.proofs.Protocol.{plan_of, Chosen, Says, StoredBy, PlansOnce, same_message, stored_told, stored_settles}
+use Rattle.ld_safety.proofs.Protocol.{Basis, plan_of, Chosen, Says, StoredBy, PlansOnce, same_message, stored_told, stored_settles}
 use Rattle.ld_safety.proofs.Said.{Open, Said, SaidHere, AllSaid}
-use Rattle.ld_safety.proofs.Settled.{TrimFine, CloseFine, ShowFine, ReleaseFine, LngFine, Stays, close_low, Acknowledged}
+use Rattle.ld_safety.proofs.Settled.{LostTold, TrimFine, CloseFine, ShowFine, ReleaseFine, LngFine, Stays, close_low, Acknowledged}
 use Rattle.ld_safety.proofs.Sent.{ShowsAll, PagesBounded}
-use Rattle.ld_safety.proofs.Registers.{Up, Reached, reached_later}
+use Rattle.ld_safety.proofs.Registers.{Up, Reached, EachClosed, reached_later}
 use Rattle.ld_safety.proofs.Carried as carried
 use Rattle.ld_safety.proofs.Digests.{Covered, ToldSoFar, DigestSoFar, PageFacts, NoPlan, page_frozen}
-use Rattle.ld_safety.proofs.Digesting.{PagesGood, StageFine, RecoveryFine, Fine, NewPlan, begins_fine, Both, Ok, retrying_fine, acting_fine}
+use Rattle.ld_safety.proofs.Digesting.{PagesGood, StageFine, RecoveryFine, Fine, NewPlan, begins_fine, Both, retrying_fine, acting_fine}
 
 -- ---- while more happens ----
 module _ (hs next : List Happened) (made more : List Made) (sent after : List Msg) (into : (m : Msg) → In m sent → In m after)
     (grow : (l b n : ℕ) (x : What) → Says hs made l b n x → Says next (more ++ made) l b n x) where
   covered_later : (l e b : ℕ) (t : Told) (n : ℕ) → Covered sent l e b t n → Covered after l e b t n
-  covered_later l e b t n v = record { from = v.from; upto = v.upto; trim = v.trim; lng = v.lng; entries = v.entries; page = into _ v.page; epoch = v.epoch; low = v.low; high = v.high; told = v.told; trims = v.trims }
+  covered_later l e b t n v = record { from = v.from; upto = v.upto; trim = v.trim; lng = v.lng; entries = v.entries; page = into _ v.page; epoch = v.epoch; low = v.low; high = v.high; told = v.told; trims = v.trims; knows = v.knows }
+
+  lost_later : (l e b y : ℕ) → LostTold sent l e b y → LostTold after l e b y
+  lost_later l e b y h = record { number = h.number; round = h.round; generation = h.generation; end = h.end; said = into _ h.said; home = h.home }
 
   told_later : (l e b good : ℕ) (t : Told) → ToldSoFar hs made sent l e b good t → ToldSoFar next (more ++ made) after l e b good t
   told_later l e b good t h = record {
@@ -56,6 +59,7 @@ module _ (hs next : List Happened) (made more : List Made) (sent after : List Ms
     known = elim h.known [ inl z ↦ inl z | inr z ↦ inr (record { from = z.from; upto = z.upto; trim = z.trim; entries = z.entries; page = into _ z.page; epoch = z.epoch }) ];
     frozen = λ f i. (let z = h.frozen f i in record { below = z.below; epoch = z.epoch; place = z.place; says = grow l f.ballot f.number f.what z.says });
     covers = λ n q p g. covered_later l e b t n (h.covers n q p g);
+    lost_said = λ q. lost_later l e b t.node (h.lost_said q);
   }
 
   pub digest_later : (s : Spec) (l e b : ℕ) (d : List Told) → DigestSoFar hs made sent s l e b d → DigestSoFar next (more ++ made) after s l e b d
@@ -65,9 +69,9 @@ module _ (hs next : List Happened) (made more : List Made) (sent after : List Ms
     stage_later : (l b e : ℕ) (s : Stage) → Reached r l e → StageFine c hs sent made r l b e s → StageFine c next after (more ++ made) k l b e s
     stage_later l b e (Seals d) o h = subst (λ p. DigestSoFar next (more ++ made) after p l e b d) (sym (y.specs l e o)) (digest_later (spec_of c r l e) l e b d h)
     stage_later l b e (Stores g) o h = storing_later c hs next sent after into r k u y acks made more l b e g o h
-    stage_later l b e (Closes z) o h = λ w. summarized_later c hs next sent after into r k u y acks made more l e z (h (let v = (u l).1 in omega arith))
+    stage_later l b e (Closes z short) o h = λ w. (let g = h (let v = (u l).1 in omega arith) in (summarized_later c hs next sent after into r k u y acks made more l e z g.0, λ t. (let f = g.1 t in (f.0, In_right _ more made f.1, full_later c hs next sent after into r k u y acks l e z.ballot f.0 o f.2))))
 
-    pub recovery_later : (l b : ℕ) (o : Option Recovery) → ((e : ℕ) (d : List Told) → In (plan_of l e b d) more → ⊥) → RecoveryFine c hs sent made r l b o → RecoveryFine c next after (more ++ made) k l b o
+    pub recovery_later : (l b : ℕ) (o : Option Recovery) → ((e : ℕ) (d : Basis) → In (plan_of l e b d) more → ⊥) → RecoveryFine c hs sent made r l b o → RecoveryFine c next after (more ++ made) k l b o
     recovery_later l b None n h = tt
     recovery_later l b (Some v) n h = record {
       next = (let a = h.next in let z = (u l).1 in omega arith);
@@ -76,6 +80,7 @@ module _ (hs next : List Happened) (made more : List Made) (sent after : List Ms
       spec = h.spec ∙ sym (y.specs l v.epoch h.reached);
       stage = stage_later l b v.epoch v.stage h.reached h.stage;
       before = λ e d i. elim (In-append _ more made i) [ inl a ↦ absurd (n e d a) | inr a ↦ h.before e d a ];
+      lost = λ z i. lost_later l v.epoch b z (h.lost z i);
     }
 
 pub up_same : (r : Register) → Up r r
@@ -100,7 +105,7 @@ abbrev pub AllFine : Config → List Happened → List Msg → List Made → Reg
 AllFine c hs sent made r m = (t : List ℕ) (v : Sequencer) → find_named t m ≡ Some v → Fine c hs sent made r v
 
 abbrev pub MadeBelow : List Made → Register → Type 0
-MadeBelow made r = (l e b : ℕ) (f : List Told) → In (plan_of l e b f) made → b ≤ (epochs_of r l).epoch
+MadeBelow made r = (l e b : ℕ) (f : Basis) → In (plan_of l e b f) made → b ≤ (epochs_of r l).epoch
 
 pub pages_good : (c : Config) (hs : List Happened) (made : List Made) (s : State) → AllSaid c hs made s.register s → PagesGood c hs s.network.sent s.register
 pages_good c hs made s S l e b y g p = subst (λ x. LngFine c hs s.network.sent s.register l x g) p.epoch (S.sent _ p.page).0.good
@@ -116,29 +121,29 @@ node_from E T Y O V W R G (whos.Reader n) h = absurd h
 -- ---- every event ----
 module _ (c : Config) (s : State) (e : Event) (hs : List Happened) (made : List Made) (S : AllSaid c hs made s.register s) (X : Epochs_once s.sequencers s.register)
     (A : ShowsAll made s.network.sent) (B : PagesBounded s.network.sent) (M : MadeBelow made s.register) (D : AllFine c hs s.network.sent made s.register s.sequencers)
-    (V : AnswersFrom s.network.sent) where
+    (V : AnswersFrom s.network.sent) (EC : EachClosed s.register) where
   sent : List Msg
   sent = s.network.sent
 
   abbrev pub Result : Done → List Made → Type 0
   Result d more = Up s.register d.state.register → Stays c s.register d.state.register → AllFine c hs s.network.sent (more ++ made) d.state.register d.state.sequencers
-      × ((l x b : ℕ) (f : List Told) → In (plan_of l x b f) more → NewPlan c hs s.network.sent made s.register l x b f × (b ≤ (epochs_of s.register l).epoch)) × PlansOnce more
+      × ((l x b : ℕ) (f : Basis) → In (plan_of l x b f) more → NewPlan c hs s.network.sent (gone_nodes s) made s.register l x b f × (b ≤ (epochs_of s.register l).epoch)) × PlansOnce more
 
-  none_new : (l x b : ℕ) (f : List Told) → In (plan_of l x b f) [] → NewPlan c hs s.network.sent made s.register l x b f × (b ≤ (epochs_of s.register l).epoch)
+  none_new : (l x b : ℕ) (f : Basis) → In (plan_of l x b f) [] → NewPlan c hs s.network.sent (gone_nodes s) made s.register l x b f × (b ≤ (epochs_of s.register l).epoch)
   none_new l x b f i = absurd i
 
   none_once : PlansOnce []
   none_once l x b f g i j = absurd i
 
-  lifted : (k : Register) (more : List Made) → Up s.register k → Stays c s.register k → (l b : ℕ) (o : Option Recovery) → ((x : ℕ) (f : List Told) → In (plan_of l x b f) more → ⊥) → RecoveryFine c hs s.network.sent made s.register l b o → RecoveryFine c hs s.network.sent (more ++ made) k l b o
-  lifted k more u y l b o n h = recovery_later hs hs made more s.network.sent s.network.sent (λ m i. i) (λ l b n x z. elim z [ inl a ↦ inl a | inr a ↦ inr (record { later = a.later; digest = a.digest; planned = In_right _ more made a.planned; item = a.item }) ])
+  lifted : (k : Register) (more : List Made) → Up s.register k → Stays c s.register k → (l b : ℕ) (o : Option Recovery) → ((x : ℕ) (f : Basis) → In (plan_of l x b f) more → ⊥) → RecoveryFine c hs s.network.sent made s.register l b o → RecoveryFine c hs s.network.sent (more ++ made) k l b o
+  lifted k more u y l b o n h = recovery_later hs hs made more s.network.sent s.network.sent (λ m i. i) (λ l b n x z. elim z [ inl a ↦ inl a | inr a ↦ inr (record { later = a.later; basis = a.basis; planned = In_right _ more made a.planned; item = a.item }) ])
       c s.register k u y (acked_stays c hs s.network.sent s.register k u y) l b o n h
 
   stays : (d : Done) → d.state.sequencers ≡ s.sequencers → Result d []
   stays d q u y = ((λ t v f. lifted d.state.register [] u y v.log v.epoch v.recovery (λ x g i. i) (D t v (subst (λ (m : List (List ℕ × Sequencer)). find_named t m ≡ Some v) q f))), none_new, none_once)
 
   -- one sequencer changes
-  puts : (name : List ℕ) (p : Sequencer) (k : Register) (more : List Made) → Up s.register k → Stays c s.register k → Fine c hs s.network.sent (more ++ made) k p → ((t : List ℕ) (v : Sequencer) → same t name ≡ false → find_named t s.sequencers ≡ Some v → (x : ℕ) (f : List Told) → In (plan_of v.log x v.epoch f) more → ⊥)
+  puts : (name : List ℕ) (p : Sequencer) (k : Register) (more : List Made) → Up s.register k → Stays c s.register k → Fine c hs s.network.sent (more ++ made) k p → ((t : List ℕ) (v : Sequencer) → same t name ≡ false → find_named t s.sequencers ≡ Some v → (x : ℕ) (f : Basis) → In (plan_of v.log x v.epoch f) more → ⊥)
       → AllFine c hs s.network.sent (more ++ made) k (put_named name p s.sequencers)
   puts name p k more u y h n t v f = elim (named_cases t name p s.sequencers) [
     | inl a ↦ subst (λ (z : Sequencer). Fine c hs s.network.sent (more ++ made) k z) (Some_inj (sym a.1 ∙ f)) h
@@ -158,15 +163,28 @@ module _ (c : Config) (s : State) (e : Event) (hs : List Happened) (made : List 
     own : q.epoch ≤ (epochs_of s.register q.log).epoch
     own = X.drawn name q v.named
 
-    retry : Result (Step.acted c s name q (on_retry q)) []
-    retry u y = let a = on_retry q in let call = called (looks_at c s.register q.log) s.register a a.tries in let F = lifted call.register [] u y q.log q.epoch q.recovery (λ x g i. i) (D name q v.named) in (
-      puts name call.acts.sequencer call.register [] u y
-          (retried c s.register q (λ x. call ≡ x → Ok c hs s.network.sent made s.register q call u y own (D name q v.named) F [] x)
-          (retrying_fine c hs s.network.sent made s.register q call u y own (D name q v.named) F) refl)
-          (λ t w b g x h i. i),
-      none_new,
-      none_once,
+    -- what its call comes to
+    by_call : (k : List (List ℕ × Sequencer)) (a : Acts) (more : List Made) → k ≡ put_named name (called (looks_at c s.register q.log) s.register a a.tries).acts.sequencer s.sequencers → (u : Up s.register (called (looks_at c s.register q.log) s.register a a.tries).register) (w : Stays c s.register (called (looks_at c s.register q.log) s.register a a.tries).register)
+        → Both c hs s.network.sent (gone_nodes s) made s.register q (called (looks_at c s.register q.log) s.register a a.tries) u w EC own (D name q v.named) (lifted (called (looks_at c s.register q.log) s.register a a.tries).register [] u w q.log q.epoch q.recovery (λ x h j. j) (D name q v.named)) (called (looks_at c s.register q.log) s.register a a.tries) more
+        → AllFine c hs s.network.sent (more ++ made) (called (looks_at c s.register q.log) s.register a a.tries).register k
+        × ((l x b : ℕ) (f : Basis) → In (plan_of l x b f) more → NewPlan c hs s.network.sent (gone_nodes s) made s.register l x b f × (b ≤ (epochs_of s.register l).epoch)) × PlansOnce more
+    by_call k a more h u w both = let call = called (looks_at c s.register q.log) s.register a a.tries in (
+      subst (AllFine c hs s.network.sent (more ++ made) call.register) (sym h) (puts name call.acts.sequencer call.register more u w both.0
+          (λ k w b h x j n. let z = both.1 w.log x w.epoch j n in let o : k ≡ name = X.once k name w q h v.named z.1 z.2 in not_both _ (subst (λ p. same k p ≡ true) o (same-self k)) b)),
+      (λ l x b h n. let z = both.1 l x b h n in let o = X.drawn name q v.named in (z.0, subst (λ p. b ≤ (epochs_of s.register p).epoch) (sym z.1) (let p = z.2 in omega arith))),
+      both.2,
     )
+
+    pages_after : (k : Register) → Up s.register k → Stays c s.register k → PagesGood c hs s.network.sent k
+    pages_after k u w l x b o h p n q j z = acked_stays c hs s.network.sent s.register k u w l n (pages_good c hs made s S l x b o h p n q j z)
+
+    retry : Result (Step.acted c s name q (on_retry (looks_at c s.register q.log) q)) (made_retried c s (Some q))
+    retry u w =
+        let a = on_retry (looks_at c s.register q.log) q in
+        let call = called (looks_at c s.register q.log) s.register a a.tries in
+        let F = lifted call.register [] u w q.log q.epoch q.recovery (λ x h j. j) (D name q v.named) in
+        let both = retried c s q v.there (λ x n. call ≡ x → Both c hs s.network.sent (gone_nodes s) made s.register q call u w EC own (D name q v.named) F x n)
+        (retrying_fine c hs s.network.sent (gone_nodes s) made s.register q call u w EC own (D name q v.named) F A (pages_after call.register u w)) refl in by_call _ a (made_retried c s (Some q)) refl u w both
 
     -- what a message says
     pub cleaned_closed : (m : Msg) → In m s.network.sent → m.log ≡ q.log → (n : ℕ) (y : Summary) → m.body ≡ bodies.CleanHere n y → home_epoch n ≤ lce_of s.register q.log
@@ -191,21 +209,25 @@ module _ (c : Config) (s : State) (e : Event) (hs : List Happened) (made : List 
           λ p a b o. let y = (u q.log).1 in acked_stays c hs s.network.sent s.register k u w q.log p (subst (λ l. Acknowledged c hs s.network.sent s.register l p) g (z.0 p a b (subst (λ l. Open s.register l (epoch_of p)) (sym g) (omega arith)))));
     }
 
-    heard : (f : List ℕ) (m : Msg) → In m s.network.sent → m.to ≡ whos.Sequencer q.epoch → m.log ≡ q.log → Result (Step.acted c (refreshed s f) name q (on_reply (looks_at c s.register q.log) q (Step.sender_node m.from) m.body)) (made_by c (Some (name, q)) (Step.sender_node m.from) m.body)
+    pub lost_said : (m : Msg) → In m s.network.sent → m.to ≡ whos.Sequencer q.epoch → m.log ≡ q.log → (n round generation end : ℕ) → m.body ≡ bodies.LostHere n round generation end → LostTold s.network.sent q.log (home_epoch n) q.epoch (Step.sender_node m.from)
+    lost_said m i t g n round generation end h = record {
+      number = n;
+      round = round;
+      generation = generation;
+      end = end;
+      said = subst (λ x. In x s.network.sent) (same_message m q.log (Step.sender_node m.from) q.epoch (bodies.LostHere n round generation end) (V m q.epoch i t) t g h) i;
+      home = refl;
+    }
+
+    heard : (f : List ℕ) (m : Msg) → In m s.network.sent → m.to ≡ whos.Sequencer q.epoch → m.log ≡ q.log → Result (Step.acted c (refreshed s f) name q (on_reply (looks_at c s.register q.log) q (Step.sender_node m.from) m.body)) (made_by c s (Some (name, q)) (Step.sender_node m.from) m.body)
     heard f m i t g u w =
         let y = Step.sender_node m.from in
         let a = on_reply (looks_at c s.register q.log) q y m.body in
         let call = called (looks_at c s.register q.log) s.register a a.tries in
         let F = lifted call.register [] u w q.log q.epoch q.recovery (λ x h j. j) (D name q v.named) in
         let R = reply m i t g call.register u w in
-        let G : PagesGood c hs s.network.sent call.register = λ l x b o h p n q k j. acked_stays c hs s.network.sent s.register call.register u w l n (pages_good c hs made s S l x b o h p n q k j) in
-        let both = replied c s.register name q v.there y m.body (λ x n. call ≡ x → Both c hs s.network.sent made s.register q call u w own (D name q v.named) F y m.body A G (cleaned_closed m i g) R (page m i t g) x n)
-        (acting_fine c hs s.network.sent made s.register q call u w own (D name q v.named) F y m.body A G (cleaned_closed m i g) R (page m i t g)) refl in (
-          puts name call.acts.sequencer call.register (made_by c (Some (name, q)) y m.body) u w both.0
-              (λ k w b h x j n. let z = both.1 w.log x w.epoch j n in let o : k ≡ name = X.once k name w q h v.named z.1 z.2 in not_both _ (subst (λ p. same k p ≡ true) o (same-self k)) b),
-          (λ l x b h n. let z = both.1 l x b h n in let o = X.drawn name q v.named in (z.0, subst (λ p. b ≤ (epochs_of s.register p).epoch) (sym z.1) (let p = z.2 in omega arith))),
-          both.2,
-        )
+        let both = replied c s name q v.there y m.body (λ x n. call ≡ x → Both c hs s.network.sent (gone_nodes s) made s.register q call u w EC own (D name q v.named) F x n)
+        (acting_fine c hs s.network.sent (gone_nodes s) made s.register q call u w EC own (D name q v.named) F y m.body A (pages_after call.register u w) (cleaned_closed m i g) (lost_said m i t g) R (page m i t g)) refl in by_call _ a (made_by c s (Some (name, q)) y m.body) refl u w both
 
   activates : (name : List ℕ) (l : ℕ) (k : Register) → activate s.register l (Step.spec_set c s l) ≡ record { register = k; answer = Granted } → Result (Step.activated_as c s name l k (epochs_of k l).epoch (lce_of k l)) []
   unfolding activated
@@ -245,7 +267,7 @@ module _ (c : Config) (s : State) (e : Event) (hs : List Happened) (made : List 
     faults = λ n f o u y. (same_all s.register u y, none_new, none_once);
     sets = λ l r x set h u y. (same_all s.register u y, none_new, none_once);
     arms = λ k done o u y. (same_all (Step.armed s.register k done) u y, none_new, none_once);
-    hears = λ f name q m i t l v o. subst (λ p. Result (Step.acted c (refreshed s f) name q (on_reply (looks_at c s.register q.log) q (Step.sender_node m.from) m.body)) (made_by c (Some (name, q)) p m.body)) (sym (same_sender m.from)) (heard name q v f m i t l);
+    hears = λ f name q m i t l v o. subst (λ p. Result (Step.acted c (refreshed s f) name q (on_reply (looks_at c s.register q.log) q (Step.sender_node m.from) m.body)) (made_by c s (Some (name, q)) p m.body)) (sym (same_sender m.from)) (heard name q v f m i t l);
     retries = λ name q v o. retry name q v;
     appends = λ name q p v a i. goes_on (Step.append_done s name q p Numbered) name q (appended q p) v.named refl refl refl refl;
     trims = λ name q t v b u y. (same_all s.register u y, none_new, none_once);

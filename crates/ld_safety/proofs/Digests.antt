@@ -13,7 +13,8 @@ use Rattle.ld_machine.specs.World.{Made, In, from_node}
 use Rattle.ld_safety.proofs.Lists.{cond_both, max_both, In-append, In-map, In_left, In_right}
 use Rattle.ld_safety.proofs.Given.{Place}
 use Rattle.ld_safety.proofs.Plans.{lng_least, lng_up, lng_same}
-use Rattle.ld_safety.proofs.Protocol.{plan_of, Says, StoredBy, Kept, Frozen}
+use Rattle.ld_safety.proofs.Protocol.{Basis, plan_of, Says, StoredBy, Kept, Frozen}
+use Rattle.ld_safety.proofs.Settled.{LostTold}
 use Rattle.ld_safety.proofs.Sent.{ShowsAll, PagesBounded}
 
 -- a page of the node covers the number, and is in what it told
@@ -29,6 +30,7 @@ pub record Covered (sent : List Msg) (l e b : ℕ) (t : Told) (n : ℕ) : Type 0
   pub high : n ≤ upto
   pub told : (f : Entry) → In f entries → In f t.entries
   pub trims : trim ≤ t.trim
+  pub knows : lng ≤ t.lng
 
 -- an entry came in a page of the node
 pub record Paged (sent : List Msg) (l b y : ℕ) (f : Entry) : Type 0 where
@@ -65,6 +67,7 @@ module _ (hs : List Happened) (made : List Made) (sent : List Msg) where
     pub known : (t.lng ≡ 0) ⊎ LngPaged sent l e b t.node t.lng
     pub frozen : (f : Entry) → In f t.entries → Frozen hs made l e b f
     pub covers : (n : ℕ) → epoch_of n ≡ e → good < esn_of n → (n < t.asked) ⊎ (t.whole ≡ true) → Covered sent l e b t n
+    pub lost_said : t.lost ≡ true → LostTold sent l e b t.node
 
   pub record DigestSoFar (s : Spec) (l e b : ℕ) (d : List Told) : Type 0 where
     pub told : (t : Told) → In t d → ToldSoFar l e b (digest_lng d) t
@@ -72,7 +75,7 @@ module _ (hs : List Happened) (made : List Made) (sent : List Msg) where
 
   -- the less is claimed the more is known good
   told_above : (l e b g h : ℕ) (t : Told) → g ≤ h → ToldSoFar l e b g t → ToldSoFar l e b h t
-  told_above l e b g h t k u = record { paged = u.paged; trimmed = u.trimmed; known = u.known; frozen = u.frozen; covers = λ n q p w. u.covers n q (omega arith) w }
+  told_above l e b g h t k u = record { paged = u.paged; trimmed = u.trimmed; known = u.known; frozen = u.frozen; covers = λ n q p w. u.covers n q (omega arith) w; lost_said = u.lost_said }
 
   -- ---- a digest that begins ----
   nothing_nodes : (e : ℕ) (ns : List ℕ) → map (λ (t : Told). t.node) (map (told_nothing e) ns) ≡ ns
@@ -80,7 +83,7 @@ module _ (hs : List Happened) (made : List Made) (sent : List Msg) where
   nothing_nodes e (n ∷ ns) = ap (λ l. n ∷ l) (nothing_nodes e ns)
 
   nothing_told : (l e b good y : ℕ) → ToldSoFar l e b good (told_nothing e y)
-  nothing_told l e b good y = record { paged = λ f i. absurd i; trimmed = inl refl; known = inl refl; frozen = λ f i. absurd i; covers = λ n q p h. elim h [ inl a ↦ absurd (omega arith) | inr a ↦ absurd cc ] }
+  nothing_told l e b good y = record { paged = λ f i. absurd i; trimmed = inl refl; known = inl refl; frozen = λ f i. absurd i; covers = λ n q p h. elim h [ inl a ↦ absurd (omega arith) | inr a ↦ absurd cc ]; lost_said = λ h. absurd cc }
 
   pub begins : (s : Spec) (l e b : ℕ) → DigestSoFar s l e b (no_digest s e)
   begins s l e b = record {
@@ -93,8 +96,8 @@ module _ (hs : List Happened) (made : List Made) (sent : List Msg) where
   same_nodes f [] h = refl
   same_nodes f (t ∷ d) h = λ i. h t i ∷ same_nodes f d h i
 
-  covered_as : (l e b n : ℕ) (t u : Told) → u.node ≡ t.node → ((f : Entry) → In f t.entries → In f u.entries) → t.trim ≤ u.trim → Covered sent l e b t n → Covered sent l e b u n
-  covered_as l e b n t u q h k v = record {
+  covered_as : (l e b n : ℕ) (t u : Told) → u.node ≡ t.node → ((f : Entry) → In f t.entries → In f u.entries) → t.trim ≤ u.trim → t.lng ≤ u.lng → Covered sent l e b t n → Covered sent l e b u n
+  covered_as l e b n t u q h k g v = record {
     from = v.from;
     upto = v.upto;
     trim = v.trim;
@@ -106,18 +109,20 @@ module _ (hs : List Happened) (made : List Made) (sent : List Msg) where
     high = v.high;
     told = λ f i. h f (v.told f i);
     trims = let z = v.trims in omega arith;
+    knows = let z = v.knows in omega arith;
   }
 
   -- ---- a node that says that it is lost ----
-  pub loses : (s : Spec) (l e b y : ℕ) (d : List Told) → DigestSoFar s l e b d → DigestSoFar s l e b (with_lost y d)
+  pub loses : (s : Spec) (l e b y : ℕ) (d : List Told) → LostTold sent l e b y → DigestSoFar s l e b d → DigestSoFar s l e b (with_lost y d)
   unfolding with_lost
-  loses s l e b y d D = record {
+  loses s l e b y d L D = record {
     told = λ t i. (let m = In-map (told_lost y) t d i in let u = D.told m.0 m.1 in let g = lng_same (told_lost y) d (λ t. refl) in subst (ToldSoFar l e b (digest_lng (map (told_lost y) d))) (sym m.2) (record {
       paged = u.paged;
       trimmed = u.trimmed;
       known = u.known;
       frozen = u.frozen;
-      covers = λ n q p h. covered_as l e b n m.0 (told_lost y m.0) refl (λ f j. j) (omega arith) (u.covers n q (omega arith) h);
+      covers = λ n q p h. covered_as l e b n m.0 (told_lost y m.0) refl (λ f j. j) (omega arith) (omega arith) (u.covers n q (omega arith) h);
+      lost_said = cond_both (m.0.node == y) true m.0.lost (λ x. x ≡ true → LostTold sent l e b m.0.node) (λ k h. subst (LostTold sent l e b) (sym (eqb-true _ _ k)) L) (λ k h. u.lost_said h);
     }));
     nodes = same_nodes (told_lost y) d (λ t. refl) ∙ D.nodes;
   }
@@ -135,8 +140,9 @@ module _ (hs : List Happened) (made : List Made) (sent : List Msg) where
           trimmed = u.trimmed;
           known = u.known;
           frozen = u.frozen;
-          covers = λ n q p h. let k : digest_lng d < esn_of n = omega arith in covered_as l e b n m.0 (asked_anew e (digest_lng d) m.0) refl (λ f j. j) (omega arith)
+          covers = λ n q p h. let k : digest_lng d < esn_of n = omega arith in covered_as l e b n m.0 (asked_anew e (digest_lng d) m.0) refl (λ f j. j) (omega arith) (omega arith)
               (u.covers n q k (elim h [ inl z ↦ inl (asked_before e (digest_lng d) n m.0.asked q k z) | inr z ↦ inr z ]));
+          lost_said = u.lost_said;
         }));
     nodes = same_nodes (asked_anew e (digest_lng d)) d (λ t. refl) ∙ D.nodes;
   }
@@ -160,7 +166,7 @@ module _ (hs : List Happened) (made : List Made) (sent : List Msg) where
         known = max_both (λ k. (k ≡ 0) ⊎ LngPaged sent l e b t.node k) t.lng lng u.known (inr (record { from = from; upto = upto; trim = trim; entries = es; page = page; epoch = p.epoch }));
         frozen = λ f i. elim (In-append f t.entries es i) [ inl j ↦ u.frozen f j | inr j ↦ p.frozen f j ];
         covers = λ n q k g. elim (cases_lt n from) [
-          | inl lt ↦ covered_as l e b n t (told_page e past upto trim lng es t) refl (λ f i. In_left f t.entries es i) (omega arith) (u.covers n q k (inl (omega arith)))
+          | inl lt ↦ covered_as l e b n t (told_page e past upto trim lng es t) refl (λ f i. In_left f t.entries es i) (omega arith) (omega arith) (u.covers n q k (inl (omega arith)))
           | inr ge ↦ record {
             from = from;
             upto = upto;
@@ -173,8 +179,10 @@ module _ (hs : List Happened) (made : List Made) (sent : List Msg) where
             high = elim g [ inl z ↦ (let w : n < max (upto + 1) (numbered e (past + 1)) = z in omega arith) | inr z ↦ (let w = leb-true (numbered e last_esn) upto z in omega arith) ];
             told = λ f i. In_right f t.entries es i;
             trims = omega arith;
+            knows = omega arith;
           }
         ];
+        lost_said = u.lost_said;
       }
 
   -- what a page of the number makes of what a node told
@@ -205,7 +213,7 @@ module _ (hs : List Happened) (made : List Made) (sent : List Msg) where
 
   -- ---- what a page shows, before the ballot has planned its epoch ----
   abbrev pub NoPlan : ℕ → ℕ → ℕ → Type 0
-  NoPlan l e b = (d : List Told) → In (plan_of l e b d) made → ⊥
+  NoPlan l e b = (d : Basis) → In (plan_of l e b d) made → ⊥
 
   pub page_frozen : (l e b y from upto trim lng : ℕ) (es : List Entry) → In (from_node l y b (bodies.DigestPage from upto trim lng es)) sent → epoch_of from ≡ e → e < b → PagesBounded sent → ((f : Entry) → In f es → Place f.number f.what × Says hs made l f.ballot f.number f.what) → NoPlan l e b
       → PageFacts l e b y from upto trim lng es
@@ -222,7 +230,7 @@ module _ (hs : List Happened) (made : List Made) (sent : List Msg) where
     lesser : (f : Entry) → f.ballot ≤ b → epoch_of f.number ≡ e → Says hs made l f.ballot f.number f.what → f.ballot < b
     lesser f h ep (inl s) = let z = s.own in omega arith
     lesser f h ep (inr s) = elim (cases_order f.ballot b) [
-      | inl z ↦ absurd (N s.digest (subst (λ v. In (plan_of l v b s.digest) made) ep (subst (λ v. In (plan_of l (epoch_of f.number) v s.digest) made) z s.planned)))
+      | inl z ↦ absurd (N s.basis (subst (λ v. In (plan_of l v b s.basis) made) ep (subst (λ v. In (plan_of l (epoch_of f.number) v s.basis) made) z s.planned)))
       | inr (inl z) ↦ z
       | inr (inr z) ↦ absurd (omega arith)
     ]
@@ -236,12 +244,12 @@ module _ (hs : List Happened) (made : List Made) (sent : List Msg) where
         | inr (inl z) ↦ inr (inl (record { entry = z.entry; there = k.told z.entry z.there; number = z.number; least = z.least }))
         | inr (inr z) ↦ inr (inr (record {
           ballot = z.ballot;
-          digest = z.digest;
+          basis = z.basis;
           planned = z.planned;
           above = z.above;
           before = z.before;
           below = elim (cases_order z.ballot b) [
-            | inl v ↦ absurd (N z.digest (subst (λ x. In (plan_of l x b z.digest) made) q (subst (λ x. In (plan_of l (epoch_of n) x z.digest) made) v z.planned)))
+            | inl v ↦ absurd (N z.basis (subst (λ x. In (plan_of l x b z.basis) made) q (subst (λ x. In (plan_of l (epoch_of n) x z.basis) made) v z.planned)))
             | inr (inl v) ↦ v
             | inr (inr v) ↦ absurd (let u = z.below in omega arith)
           ];

@@ -17,7 +17,7 @@ use Rattle.ld_op.specs.Plain.{log_of}
 use Rattle.ld_op.specs.Ticks.{Ticked, on_tick}
 use Rattle.ld_config.specs.declared.config.Config.{Config}
 use Rattle.ld_machine.specs.Config.{all_nodes, looks_at, has_log, has_node}
-use Rattle.ld_msg.specs.Register.{Register, Changed, Answer, Granted, AtLimit, Behind, Fails, activate, draw, epochs_of, epochs_in, generation_of, lce_of}
+use Rattle.ld_msg.specs.Register.{Register, Changed, Answer, Granted, AtLimit, Behind, Overtaken, Fails, activate, draw, epochs_of, epochs_in, generation_of, lce_of}
 use Rattle.ld_machine.specs.Disk.{Fault, new_node, Kept, Written, DiskFailed, Crashed, JournalFull, load, load_end, is_up, is_blank, is_down, is_failed}
 use Rattle.ld_msg.specs.Network.{message}
 use Rattle.ld_msg.specs.Sequencer.{Sequencer, Appending, TooLong, Preempted, EpochFull, WindowFull, Numbered, appending, released_of, on_reply, on_retry, to_each}
@@ -25,7 +25,7 @@ use Rattle.ld_msg.specs.declared.msg.Body.TheVariants as bodies
 use Rattle.ld_msg.specs.Reader.{Reader, opened, is_finished, on_answer, polled, poll_asks}
 use Rattle.ld_machine.specs.State.{State, Done, node_at, with_node, with_register, with_sequencer, with_reader, unchanged, only_state, with_line, posted, sequencer_of, reader_of}
 use Rattle.ld_machine.specs.Step as Step
-use Rattle.ld_machine.specs.World.{In, Made, made_by, made_with, made_for, made_at, made_on, page_from}
+use Rattle.ld_machine.specs.World.{In, Made, made_by, made_with, made_for, made_at, made_on, made_again, made_retried, page_from}
 use Rattle.ld_safety.proofs.Lists.{In-slice_get, not_none, branch, cond_both}
 use Rattle.ld_safety.proofs.Names.{Once, found, sequencer_found, reader_found}
 
@@ -86,6 +86,23 @@ abbrev pub Idle : Config → State → Event → Type 0
 Idle c s (events.Open name l from until) = has_log c l ≡ true → is_some (find_named name s.readers) ≡ true
 Idle c s _ = Unit {0}
 
+-- the event delivers the message
+abbrev pub Delivers : State → Event → Msg → Type 0
+Delivers s (events.Deliver i) m = message s.network i ≡ Some m
+Delivers s _ m = ⊥
+
+pub delivery : (s : State) (e : Event) (m : Msg) → Delivers s e m → (i : ℕ) × (e ≡ events.Deliver i) × (message s.network i ≡ Some m)
+delivery s (events.Deliver i) m h = (i, refl, h)
+delivery s _ m h = absurd h
+
+-- a message that is delivered was sent
+pub message_sent : (s : State) (i : ℕ) (m : Msg) → message s.network i ≡ Some m → In m s.network.sent
+unfolding message
+message_sent s i m h = elim (branch (nat_lt i s.network.count) _ None (Some m) h) [
+  | inl a ↦ In-slice_get m s.network.sent _ a.1
+  | inr a ↦ absurd (not_none a.1)
+]
+
 -- what a step comes to: what is done, and the plans that are made
 pub record Cases (c : Config) (s : State) (e : Event) (Q : Done → List Made → Type 0) : Type 0 where
   pub still : (f : List ℕ) → Idle c s e → Q (unchanged (refreshed s f)) []
@@ -104,8 +121,8 @@ pub record Cases (c : Config) (s : State) (e : Event) (Q : Done → List Made �
   pub arms : (k : ℕ) (done : Bool) → Idle c s e → Q (only_state (with_register s (Step.armed s.register k done))) []
   -- sequencers
   pub hears : (f : List ℕ) (name : List ℕ) (q : Sequencer) (m : Msg) → In m s.network.sent → m.to ≡ whos.Sequencer q.epoch → m.log ≡ q.log → Live s name q → Idle c s e →
-      Q (Step.acted c (refreshed s f) name q (on_reply (looks_at c s.register q.log) q (Step.sender_node m.from) m.body)) (made_by c (Some (name, q)) (page_from m.from) m.body)
-  pub retries : (name : List ℕ) (q : Sequencer) → Live s name q → Idle c s e → Q (Step.acted c s name q (on_retry q)) []
+      Q (Step.acted c (refreshed s f) name q (on_reply (looks_at c s.register q.log) q (Step.sender_node m.from) m.body)) (made_by c s (Some (name, q)) (page_from m.from) m.body)
+  pub retries : (name : List ℕ) (q : Sequencer) → Live s name q → Idle c s e → Q (Step.acted c s name q (on_retry (looks_at c s.register q.log) q)) (made_retried c s (Some q))
   pub appends : (name : List ℕ) (q : Sequencer) (payload : List ℕ) → Live s name q → appending q payload ≡ Numbered → e ≡ events.Append name payload → Q (Step.append_done s name q payload Numbered) []
   pub trims : (name : List ℕ) (q : Sequencer) (point : ℕ) → Live s name q → point ≤ released_of q →
       Q (record { state = s; lines = lines.Trimmed name point ∷ []; sends = posted (whos.Sequencer q.epoch) q.log (to_each (bodies.Trim point) (all_nodes c)) }) []
@@ -114,7 +131,7 @@ pub record Cases (c : Config) (s : State) (e : Event) (Q : Done → List Made �
       Q (Step.activated_as c s name l r (epochs_of r l).epoch (lce_of r l)) []
   pub activate_fails : (name : List ℕ) (l : ℕ) (x : Line) → has_log c l ≡ true → is_quiet x ≡ true → Q (with_line (with_register s (activate s.register l (Step.spec_set c s l)).register) x) []
   -- readers
-  pub answers : (f : List ℕ) (name : List ℕ) (d : Reader) (m : Msg) → In m s.network.sent → m.to ≡ whos.Reader d.number → Reading s name d → Idle c s e →
+  pub answers : (f : List ℕ) (name : List ℕ) (d : Reader) (m : Msg) → In m s.network.sent → m.to ≡ whos.Reader d.number → Reading s name d → Idle c s e × Delivers s e m →
       Q (Step.read (refreshed s f) name (on_answer (looks_at c s.register d.log) d (Step.sender_node m.from) m.body)) []
   pub polls : (name : List ℕ) (d : Reader) → Reading s name d → Idle c s e → Q (record { state = with_reader s name (polled (looks_at c s.register d.log) d); lines = []; sends = posted (whos.Reader d.number) d.log (poll_asks (looks_at c s.register d.log) d) }) []
   pub opens : (name : List ℕ) (l from until : ℕ) → Opens c s name l from until → e ≡ events.Open name l from until → Q (only_state (with_reader s name (opened l (length s.readers) from until))) []
@@ -140,33 +157,26 @@ module _ (c : Config) (s : State) (e : Event) (Q : Done → List Made → Type 0
     to_node f n m i t = either (is_up (node_at s n).status && has_log c m.log) _ _ []
         (λ u. let p = and_parts (is_up (node_at s n).status) (has_log c m.log) u in K.node_hears f n m i t (record { up = p.0; log = p.1 }) idle) (λ u. K.still f idle)
 
-    to_sequencer : (f : List ℕ) (b : ℕ) (m : Msg) (o : Option (List ℕ × Sequencer)) → In m s.network.sent → m.to ≡ whos.Sequencer b → sequencer_of m.log b s.sequencers ≡ o → Q (Step.to_sequencer c (refreshed s f) m o) (made_by c o (page_from m.from) m.body)
+    to_sequencer : (f : List ℕ) (b : ℕ) (m : Msg) (o : Option (List ℕ × Sequencer)) → In m s.network.sent → m.to ≡ whos.Sequencer b → sequencer_of m.log b s.sequencers ≡ o → Q (Step.to_sequencer c (refreshed s f) m o) (made_by c s o (page_from m.from) m.body)
     to_sequencer f b m None i t h = K.still f idle
     to_sequencer f b m (Some q) i t h = let r = sequencer_found m.log b s.sequencers q h in
         either q.1.gone _ _ _
-        (λ g. subst (λ x. Q (unchanged (refreshed s f)) (cond (x || is_some q.1.preempted) [] (made_with c q.1 q.1.recovery (page_from m.from) m.body))) (sym g) (K.still f idle))
+        (λ g. subst (λ x. Q (unchanged (refreshed s f)) (cond (x || is_some q.1.preempted) [] (made_with c s q.1 q.1.recovery (page_from m.from) m.body))) (sym g) (K.still f idle))
         (λ g. K.hears f q.0 q.1 m i (t ∙ ap whos.Sequencer (sym r.epoch)) (sym r.log) (record { named = found s.sequencers q N.0 r.there; there = g }) idle)
 
-    to_reader : (f : List ℕ) (r : ℕ) (m : Msg) (o : Option (List ℕ × Reader)) → In m s.network.sent → m.to ≡ whos.Reader r → reader_of r s.readers ≡ o → Q (Step.to_reader c (refreshed s f) m o) []
-    to_reader f r m None i t h = K.still f idle
-    to_reader f r m (Some d) i t h = let q = reader_found r s.readers d h in
-        either (is_finished d.1) _ _ [] (λ g. K.still f idle) (λ g. K.answers f d.0 d.1 m i (t ∙ ap whos.Reader (sym q.number)) (record { named = found s.readers d N.1 q.there; open_still = g }) idle)
+    to_reader : (f : List ℕ) (r : ℕ) (m : Msg) (o : Option (List ℕ × Reader)) → In m s.network.sent → Delivers s e m → m.to ≡ whos.Reader r → reader_of r s.readers ≡ o → Q (Step.to_reader c (refreshed s f) m o) []
+    to_reader f r m None i v t h = K.still f idle
+    to_reader f r m (Some d) i v t h = let q = reader_found r s.readers d h in
+        either (is_finished d.1) _ _ [] (λ g. K.still f idle) (λ g. K.answers f d.0 d.1 m i (t ∙ ap whos.Reader (sym q.number)) (record { named = found s.readers d N.1 q.there; open_still = g }) (idle, v))
 
-    to_who : (f : List ℕ) (m : Msg) (w : Who) → In m s.network.sent → m.to ≡ w → Q (Step.comes_to c (refreshed s f) m w) (made_for c s m w)
-    to_who f m (whos.Node n) i t = to_node f n m i t
-    to_who f m (whos.Sequencer b) i t = to_sequencer f b m (sequencer_of m.log b s.sequencers) i t refl
-    to_who f m (whos.Reader r) i t = to_reader f r m (reader_of r s.readers) i t refl
+    to_who : (f : List ℕ) (m : Msg) (w : Who) → In m s.network.sent → Delivers s e m → m.to ≡ w → Q (Step.comes_to c (refreshed s f) m w) (made_for c s m w)
+    to_who f m (whos.Node n) i v t = to_node f n m i t
+    to_who f m (whos.Sequencer b) i v t = to_sequencer f b m (sequencer_of m.log b s.sequencers) i t refl
+    to_who f m (whos.Reader r) i v t = to_reader f r m (reader_of r s.readers) i v t refl
 
-    message_sent : (i : ℕ) (m : Msg) → message s.network i ≡ Some m → In m s.network.sent
-    unfolding message
-    message_sent i m h = elim (branch (nat_lt i s.network.count) _ None (Some m) h) [
-      | inl a ↦ In-slice_get m s.network.sent _ a.1
-      | inr a ↦ absurd (not_none a.1)
-    ]
-
-    delivered : (i : ℕ) (o : Option Msg) → message s.network i ≡ o → Q (Step.delivers_it c s i o) (made_at c s o)
-    delivered i None h = nothing
-    delivered i (Some m) h = to_who _ m m.to (message_sent i m h) refl
+    delivered : (i : ℕ) (o : Option Msg) → ((m : Msg) → message s.network i ≡ Some m → Delivers s e m) → message s.network i ≡ o → Q (Step.delivers_it c s i o) (made_at c s o)
+    delivered i None v h = nothing
+    delivered i (Some m) v h = to_who _ m m.to (message_sent s i m h) (v m h) refl
 
     -- ---- sequencers ----
     live_by : (name : List ℕ) (o : Option Sequencer) (f : Sequencer → Done) → find_named name s.sequencers ≡ o → ((q : Sequencer) → Live s name q → Q (f q) []) → Q (Step.on_live s o f) []
@@ -175,6 +185,11 @@ module _ (c : Config) (s : State) (e : Event) (Q : Done → List Made → Type 0
 
     live : (name : List ℕ) (f : Sequencer → Done) → ((q : Sequencer) → Live s name q → Q (f q) []) → Q (Step.live s name f) []
     live name f h = live_by name (find_named name s.sequencers) f refl h
+
+    retried_by : (name : List ℕ) (o : Option Sequencer) → find_named name s.sequencers ≡ o → Q (Step.on_live s o (λ q. Step.acted c s name q (on_retry (looks_at c s.register q.log) q))) (made_retried c s o)
+    retried_by name None i = nothing
+    retried_by name (Some q) i = either q.gone _ _ _ (λ g. subst (λ x. Q (unchanged s) (cond (x || is_some q.preempted) [] (made_again c s q q.recovery))) (sym g) nothing)
+        (λ g. K.retries name q (record { named = i; there = g }) idle)
 
     appended_by : (name : List ℕ) (q : Sequencer) (p : List ℕ) (o : Appending) → Live s name q → e ≡ events.Append name p → appending q p ≡ o → Q (Step.append_done s name q p o) []
     appended_by name q p TooLong a x i = K.says _ refl
@@ -190,6 +205,7 @@ module _ (c : Config) (s : State) (e : Event) (Q : Done → List Made → Type 0
     activated_by name l r Granted g n x i = K.activates name l r g n i x
     activated_by name l r AtLimit g n x i = subst (λ (d : Changed). Q (with_line (with_register s d.register) (lines.RefusedEpochLimit name)) []) i (K.activate_fails name l (lines.RefusedEpochLimit name) g refl)
     activated_by name l r (Behind lce) g n x i = nothing
+    activated_by name l r (Overtaken k) g n x i = nothing
     activated_by name l r Fails g n x i = subst (λ (d : Changed). Q (with_line (with_register s d.register) (lines.RefusedRegister name)) []) i (K.activate_fails name l (lines.RefusedRegister name) g refl)
 
     activates : (name : List ℕ) (l : ℕ) → e ≡ events.Activate name l → Q (Step.happens c s (events.Activate name l)) []
@@ -220,6 +236,7 @@ module _ (c : Config) (s : State) (e : Event) (Q : Done → List Made → Type 0
     formats_by n r Granted g b w i = K.formats n r g b w i
     formats_by n r AtLimit g b w i = K.loads n _ (quiet_one _ refl) (blank_or n b) idle
     formats_by n r (Behind lce) g b w i = K.loads n [] (λ x j. absurd j) (blank_or n b) idle
+    formats_by n r (Overtaken k) g b w i = K.loads n [] (λ x j. absurd j) (blank_or n b) idle
     formats_by n r Fails g b w i = subst (λ (d : Changed). Q (with_line (with_register (loaded s n) d.register) (lines.NodeRefusedRegister n)) []) i (K.draw_fails n b)
 
     formats_loaded : (n : ℕ) (k : Kept) → has_node c n ≡ true → is_blank (node_at s n).status ≡ true → load_end (node_at s n) ≡ k → Q (Step.formats_loaded c (loaded s n) n k) []
@@ -248,9 +265,9 @@ dispatch c s (events.Format n) Q N K = where_node c s (events.Format n) Q N K tt
 dispatch c s (events.Activate name l) Q N K = activates c s (events.Activate name l) Q N K tt name l refl
 dispatch c s (events.Append name p) Q N K = live c s (events.Append name p) Q N K tt name _ (λ q a. appended_by c s (events.Append name p) Q N K tt name q p (appending q p) a refl refl)
 dispatch c s (events.Trim name t) Q N K = live c s (events.Trim name t) Q N K tt name _ (λ q a. trimmed_by c s (events.Trim name t) Q N K tt name q t a)
-dispatch c s (events.Retry name) Q N K = live c s (events.Retry name) Q N K tt name _ (λ q a. K.retries name q a tt)
+dispatch c s (events.Retry name) Q N K = retried_by c s (events.Retry name) Q N K tt name (find_named name s.sequencers) refl
 dispatch c s (events.Drop name) Q N K = live c s (events.Drop name) Q N K tt name _ (λ q a. K.drops name q a tt)
-dispatch c s (events.Deliver i) Q N K = delivered c s (events.Deliver i) Q N K tt i (message s.network i) refl
+dispatch c s (events.Deliver i) Q N K = delivered c s (events.Deliver i) Q N K tt i (message s.network i) (λ m h. h) refl
 dispatch c s (events.Lose i) Q N K = K.still _ tt
 dispatch c s (events.Flow k) Q N K = nothing c s (events.Flow k) Q N K tt
 dispatch c s (events.Open name l from until) Q N K = either c s (events.Open name l from until) Q N K (has_log c l && not (is_some (find_named name s.readers))) _ _ []

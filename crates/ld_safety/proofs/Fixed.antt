@@ -18,9 +18,9 @@ use Rattle.ld_msg.specs.declared.msg.Who.{Who}
 use Rattle.ld_msg.specs.declared.msg.Who.TheVariants as whos
 use Rattle.ld_msg.specs.declared.msg.Msg.{Msg}
 use Rattle.ld_msg.specs.declared.msg.Body.{Body}
-use Rattle.ld_msg.specs.Register.{Register, Epochs, Answer, Granted, AtLimit, Behind, Fails, View, no_epochs, epochs_of, with_epochs, next_epoch, closed_epochs, activate, close, draw}
+use Rattle.ld_msg.specs.Register.{Register, Epochs, Answer, Granted, AtLimit, Behind, Overtaken, Fails, View, no_epochs, epochs_of, with_epochs, next_epoch, closed_epochs, activate, close, draw}
 use Rattle.ld_msg.specs.Reader.{Reader, is_finished}
-use Rattle.ld_msg.specs.Sequencer.{Sequencer, Acts, Appending, TooLong, Preempted, EpochFull, WindowFull, Numbered, appending, called, on_reply, on_retry, released_of}
+use Rattle.ld_msg.specs.Sequencer.{Sequencer, Acts, Appending, TooLong, Preempted, EpochFull, WindowFull, Numbered, appending, called, on_reply, on_retry, released_of, Attempt}
 use Rattle.ld_op.specs.declared.op.Op.{Op}
 use Rattle.ld_op.specs.declared.op.Op.TheVariants as ops
 use Rattle.ld_op.specs.Plain.{log_of}
@@ -141,7 +141,7 @@ module _ (c : Config) (s : State) (e : Event) where
     faults = λ n f o. keeps _ refl nothing;
     arms = λ k done o. keeps _ refl nothing;
     hears = λ f name q m i t l v o. others OfActs _ (λ z. cc) refl (acted_of name q (called (looks_at c s.register q.log) s.register (on_reply (looks_at c s.register q.log) q (Step.sender_node m.from) m.body) (on_reply (looks_at c s.register q.log) q (Step.sender_node m.from) m.body).tries).acts);
-    retries = λ name q v o. others OfActs _ (λ z. cc) refl (acted_of name q (called (looks_at c s.register q.log) s.register (on_retry q) (on_retry q).tries).acts);
+    retries = λ name q v o. others OfActs _ (λ z. cc) refl (acted_of name q (called (looks_at c s.register q.log) s.register (on_retry (looks_at c s.register q.log) q) (on_retry (looks_at c s.register q.log) q).tries).acts);
     appends = λ name q p v a i. others OfNumbers _ (λ q. cc) refl (one_of (lines.Appended name _));
     trims = λ name q t v b. others OfTrims _ (λ q. cc) refl (one_of (lines.Trimmed name t));
     drops = λ name q v o. keeps _ refl nothing;
@@ -179,18 +179,18 @@ module _ (c : Config) (s : State) where
   drawn : (n k : ℕ) → (epochs_of (draw s.register n).register k).specs ≡ (epochs_of s.register k).specs
   drawn n = elim (draw_leaves s.register n) [ inl a ↦ by_logs (draw s.register n).register a.0 | inr a ↦ by_logs (draw s.register n).register a.0 ]
 
-  closed : (l e : ℕ) (y : Summary) (k : ℕ) → (epochs_of (close s.register l e y).register k).specs ≡ (epochs_of s.register k).specs
-  closed l e y k = elim (close_leaves s.register l e y) [
-    | inl a ↦ by_logs (close s.register l e y).register a.0 k
-    | inr a ↦ ap (λ (x : Epochs). x.specs) (epochs_same (with_epochs s.register l (closed_epochs (epochs_of s.register l) e y)) (close s.register l e y).register k a.1) ∙ elim (epochs_put s.register l k (closed_epochs (epochs_of s.register l) e y)) [
+  closed : (l e : ℕ) (y : Summary) (b : Bool) (k : ℕ) → (epochs_of (close s.register l e y b).register k).specs ≡ (epochs_of s.register k).specs
+  closed l e y b k = elim (close_leaves s.register l e y b) [
+    | inl a ↦ by_logs (close s.register l e y b).register a.0 k
+    | inr a ↦ ap (λ (x : Epochs). x.specs) (epochs_same (with_epochs s.register l (closed_epochs (epochs_of s.register l) e y)) (close s.register l e y b).register k a.1) ∙ elim (epochs_put s.register l k (closed_epochs (epochs_of s.register l) e y)) [
       | inl p ↦ ap (λ (x : Epochs). x.specs) p.1 ∙ ap (λ j. (epochs_of s.register j).specs) (sym p.0)
       | inr p ↦ ap (λ (x : Epochs). x.specs) p.1
     ]
   ]
 
-  called_same : (looks : ℕ → View) (a : Acts) (ts : List (ℕ × Summary)) (k : ℕ) → (epochs_of (called looks s.register a ts).register k).specs ≡ (epochs_of s.register k).specs
+  called_same : (looks : ℕ → View) (a : Acts) (ts : List Attempt) (k : ℕ) → (epochs_of (called looks s.register a ts).register k).specs ≡ (epochs_of s.register k).specs
   called_same looks a [] k = refl
-  called_same looks a (t ∷ ts) k = closed a.sequencer.log t.0 t.1 k
+  called_same looks a (t ∷ ts) k = closed a.sequencer.log t.epoch t.summary t.short k
 
   acted : (f : List ℕ) (name : List ℕ) (q : Sequencer) (a : Acts) → SameFixed (Step.acted c (refreshed s f) name q a)
   acted f name q a = moved _ (called_same (looks_at c s.register q.log) a a.tries)
@@ -222,6 +222,7 @@ module _ (c : Config) (s : State) where
   formats_by n Granted = moved _ (drawn n)
   formats_by n AtLimit = same _ refl
   formats_by n (Behind lce) = same _ refl
+  formats_by n (Overtaken k) = same _ refl
   formats_by n Fails = moved _ (drawn n)
 
   formats_loaded : (n : ℕ) (o : Kept) → SameFixed (Step.formats_loaded c (loaded s n) n o)
@@ -330,6 +331,7 @@ module _ (c : Config) (s : State) where
     answered_by name Granted = activated name
     answered_by name AtLimit = activated name
     answered_by name (Behind lce) = idle name
+    answered_by name (Overtaken k) = idle name
     answered_by name Fails = activated name
 
     activation : (name : List ℕ) → let d : Done = Step.happens c s (events.Activate name l) in OnceMore (epoch_made s.register d.state.register (events.Activate name l)) d.state.register
@@ -344,7 +346,7 @@ module _ (c : Config) (s : State) where
   register_step (events.Format n) low = idle_step (Step.happens c s (events.Format n)) (either (has_node c n && is_blank (node_at s n).status) _ _ (formats_loaded n (load_end (node_at s n))) (same _ refl))
   register_step (events.Append name p) low = idle_step (Step.happens c s (events.Append name p)) (on_live (find_named name s.sequencers) _ (λ q. append_done name q p (appending q p)))
   register_step (events.Trim name t) low = idle_step (Step.happens c s (events.Trim name t)) (on_live (find_named name s.sequencers) _ (λ q. either (nat_lt (released_of q) t) _ _ (same _ refl) (same _ refl)))
-  register_step (events.Retry name) low = idle_step (Step.happens c s (events.Retry name)) (on_live (find_named name s.sequencers) _ (λ q. acted s.network.fresh name q (on_retry q)))
+  register_step (events.Retry name) low = idle_step (Step.happens c s (events.Retry name)) (on_live (find_named name s.sequencers) _ (λ q. acted s.network.fresh name q (on_retry (looks_at c s.register q.log) q)))
   register_step (events.Drop name) low = idle_step (Step.happens c s (events.Drop name)) (on_live (find_named name s.sequencers) _ (λ q. same _ refl))
   register_step (events.Deliver i) low = idle_step (Step.happens c s (events.Deliver i)) (delivered i (message s.network i))
   register_step (events.Lose i) low = idle_step (Step.happens c s (events.Lose i)) (same _ refl)
@@ -382,9 +384,9 @@ specs_at_step c s e N h = register_kept c s e SpecsAt h
       | inl a ↦ (λ k. subst FineAt (sym (epochs_same s.register (activate s.register l (Step.spec_set c s l)).register k a)) (h k))
       | inr a ↦ by_put (activate s.register l (Step.spec_set c s l)).register l (next_epoch (epochs_of s.register l) (Step.spec_set c s l)) a.1 (next_fine (epochs_of s.register l) (Step.spec_set c s l) (h l))
     ])
-    (λ l x y. elim (close_leaves s.register l x y) [
-      | inl a ↦ (λ k. subst FineAt (sym (epochs_same s.register (close s.register l x y).register k a)) (h k))
-      | inr a ↦ by_put (close s.register l x y).register l (closed_epochs (epochs_of s.register l) x y) a.1 (record { low = (h l).low; there = (h l).there })
+    (λ l x y b. elim (close_leaves s.register l x y b) [
+      | inl a ↦ (λ k. subst FineAt (sym (epochs_same s.register (close s.register l x y b).register k a)) (h k))
+      | inr a ↦ by_put (close s.register l x y b).register l (closed_epochs (epochs_of s.register l) x y) a.1 (record { low = (h l).low; there = (h l).there })
     ])
     (λ n. elim (draw_leaves s.register n) [ inl a ↦ by_logs_fine (draw s.register n).register a.0 | inr a ↦ by_logs_fine (draw s.register n).register a.0 ])
     (λ n q. by_logs_fine n q) N where

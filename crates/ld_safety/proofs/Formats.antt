@@ -112,7 +112,7 @@ module _ (c : Config) (s : State) (e : Event) where
     sets = λ l r x set h. one_other _ _ (lines.Set l r x set) (λ m g q. cc);
     arms = λ k done o. none _ _;
     hears = λ f name q m i t l v o. others _ _ OfActs _ (λ h. cc) (acted_of name q (called (looks_at c s.register q.log) s.register (on_reply (looks_at c s.register q.log) q (Step.sender_node m.from) m.body) (on_reply (looks_at c s.register q.log) q (Step.sender_node m.from) m.body).tries).acts);
-    retries = λ name q v o. others _ _ OfActs _ (λ h. cc) (acted_of name q (called (looks_at c s.register q.log) s.register (on_retry q) (on_retry q).tries).acts);
+    retries = λ name q v o. others _ _ OfActs _ (λ h. cc) (acted_of name q (called (looks_at c s.register q.log) s.register (on_retry (looks_at c s.register q.log) q) (on_retry (looks_at c s.register q.log) q).tries).acts);
     appends = λ name q p v a i. one_other _ _ (lines.Appended name _) (λ m g q. cc);
     trims = λ name q t v b. one_other _ _ (lines.Trimmed name t) (λ m g q. cc);
     drops = λ name q v o. none _ _;

@@ -1,5 +1,5 @@
 -- Along a run no node's generation at the register falls, so a node that is lost later under a generation of before was lost all the time between.
-use Rattle.std.proofs.Common.{◌≡◌, ◌∙◌, ◌≤◌, ℕ, ◌+◌, inl, inr, refl, ap, subst, List, [], ◌∷◌, Option, Some, None, arith}
+use Rattle.std.proofs.Common.{Bool, ◌≡◌, ◌∙◌, ◌≤◌, ℕ, ◌+◌, inl, inr, refl, ap, subst, List, [], ◌∷◌, Option, Some, None, arith}
 use Rattle.std.specs.Option.{unwrap_or}
 use Rattle.ld_table.specs.Table.{find}
 use Rattle.ld_table.proofs.Laws.{put_cases}
@@ -13,7 +13,7 @@ use Rattle.ld_op.specs.declared.op.Op.{Op}
 use Rattle.ld_op.specs.Ticks.{Ticked, Cleans, Rebuilt, Asks, Nothing}
 use Rattle.ld_machine.specs.Disk.{Node}
 use Rattle.ld_msg.specs.Register.{Register, View, Changed, generation_of, close, activate, draw}
-use Rattle.ld_msg.specs.Sequencer.{Acts, called}
+use Rattle.ld_msg.specs.Sequencer.{Acts, called, Attempt}
 use Rattle.ld_machine.specs.State.{State, finish, node_at, with_node}
 use Rattle.ld_machine.specs.World.{World}
 use Rattle.ld_machine.specs.Run.{next_world}
@@ -39,15 +39,15 @@ drawn_generations r n k d y = elim (put_cases y n (generation_of r n + 1) r.gene
 pub activate_generations : (r : Register) (l : ℕ) (p : Spec) → NoneFalls r (activate r l p).register
 activate_generations r l p = elim (activate_leaves r l p) [ inl a ↦ same_generations r (activate r l p).register a.1 | inr a ↦ same_generations r (activate r l p).register a.1.1 ]
 
-close_generations : (r : Register) (l e : ℕ) (y : Summary) → NoneFalls r (close r l e y).register
-close_generations r l e y = elim (close_leaves r l e y) [ inl a ↦ same_generations r (close r l e y).register a.1 | inr a ↦ same_generations r (close r l e y).register a.1.1 ]
+close_generations : (r : Register) (l e : ℕ) (y : Summary) (b : Bool) → NoneFalls r (close r l e y b).register
+close_generations r l e y b = elim (close_leaves r l e y b) [ inl a ↦ same_generations r (close r l e y b).register a.1 | inr a ↦ same_generations r (close r l e y b).register a.1.1 ]
 
 pub draw_generations : (r : Register) (n : ℕ) → NoneFalls r (draw r n).register
 draw_generations r n = elim (draw_leaves r n) [ inl a ↦ same_generations r (draw r n).register a.1 | inr a ↦ drawn_generations r n (draw r n).register a ]
 
-pub call_generations : (r : Register) (looks : ℕ → View) (a : Acts) (ts : List (ℕ × Summary)) → NoneFalls r (called looks r a ts).register
+pub call_generations : (r : Register) (looks : ℕ → View) (a : Acts) (ts : List Attempt) → NoneFalls r (called looks r a ts).register
 call_generations r looks a [] = same_generations r r refl
-call_generations r looks a (t ∷ ts) = close_generations r a.sequencer.log t.0 t.1
+call_generations r looks a (t ∷ ts) = close_generations r a.sequencer.log t.epoch t.summary t.short
 
 module _ (c : Config) (s : State) (e : Event) where
   same : NoneFalls s.register s.register

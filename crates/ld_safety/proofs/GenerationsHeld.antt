@@ -101,7 +101,7 @@ module _ (c : Config) (s : State) (e : Event) (A : AllDrawn s.register s) where
     sets = λ l r x set h. A;
     arms = λ k done o. A;
     hears = λ f name q m i t l v o. let a = on_reply (looks_at c s.register q.log) q (Step.sender_node m.from) m.body in up_drawn s.register (called (looks_at c s.register q.log) s.register a a.tries).register s (call_generations s.register (looks_at c s.register q.log) a a.tries) A;
-    retries = λ name q v o. let a = on_retry q in up_drawn s.register (called (looks_at c s.register q.log) s.register a a.tries).register s (call_generations s.register (looks_at c s.register q.log) a a.tries) A;
+    retries = λ name q v o. let a = on_retry (looks_at c s.register q.log) q in up_drawn s.register (called (looks_at c s.register q.log) s.register a a.tries).register s (call_generations s.register (looks_at c s.register q.log) a a.tries) A;
     appends = λ name q p v a i. A;
     trims = λ name q t v b. A;
     drops = λ name q v o. A;

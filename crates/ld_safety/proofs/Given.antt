@@ -3,10 +3,10 @@ use Rattle.std.proofs.Common.{Bool, ◌≡◌, ◌∙◌, ◌⊎◌, ◌≤◌, 
 use Rattle.ld_lsn.specs.Number.{epoch_of, esn_of, numbered, last_esn}
 use Rattle.ld_schedule.specs.declared.event.Event.{Event}
 use Rattle.ld_msg.specs.declared.msg.What.{What}
-use Rattle.ld_msg.specs.declared.msg.What.TheVariants.{Rec, Hole, Bridge}
+use Rattle.ld_msg.specs.declared.msg.What.TheVariants.{Rec, Hole, Bridge, Plug}
 use Rattle.ld_msg.specs.declared.msg.Entry.{Entry}
 use Rattle.ld_msg.specs.declared.msg.Summary.{Summary}
-use Rattle.ld_msg.specs.Digest.{Told, best, content, record_or_hole, is_bridge, plan, plan_end, plan_floor, digest_trim, digest_lng, Item}
+use Rattle.ld_msg.specs.Digest.{Told, best, content, record_or, no_record, is_bridge, plan, plan_end, plan_floor, digest_trim, digest_lng, Item}
 use Rattle.ld_machine.specs.Facts.{Happened, OfLog, Appends, Issues, sequencer_log}
 use Rattle.ld_machine.specs.State.{Done}
 use Rattle.ld_machine.specs.World.{In}
@@ -68,16 +68,21 @@ trim_grows hs old e d l t (inr h) = inr (h.0, h.1, h.2, issues_grows hs old e d 
 
 -- ---- plans ----
 module _ (hs : List Happened) (l b e : ℕ) (d : List Told) (D : (t : Told) → In t d → (f : Entry) → In f t.entries → GivenEntry hs l f.ballot f.number f.what) (L : digest_lng d < last_esn) where
-  content_given : (n : ℕ) (p : List ℕ) → content (best n d) ≡ Rec p → AppendedBy hs l n p
-  content_given n p h = by_best (best n d) refl h where
-    by_what : (w : What) → record_or_hole w ≡ Rec p → w ≡ Rec p
-    by_what (Rec q) g = g
-    by_what Hole g = absurd cc
-    by_what Bridge g = absurd cc
+  content_given : (k : Bool) (n : ℕ) (p : List ℕ) → content k (best n d) ≡ Rec p → AppendedBy hs l n p
+  content_given k n p h = by_best k (best n d) refl h where
+    by_what : (k : Bool) (w : What) → record_or (no_record k) w ≡ Rec p → w ≡ Rec p
+    by_what k (Rec q) g = g
+    by_what true Hole g = absurd cc
+    by_what true Bridge g = absurd cc
+    by_what true Plug g = absurd cc
+    by_what false Hole g = absurd cc
+    by_what false Bridge g = absurd cc
+    by_what false Plug g = absurd cc
 
-    by_best : (o : Option Entry) → best n d ≡ o → content o ≡ Rec p → AppendedBy hs l n p
-    by_best None e g = absurd cc
-    by_best (Some f) e g = let x = best_of n d f e in let w = by_what f.what g in elim x.whose [
+    by_best : (k : Bool) (o : Option Entry) → best n d ≡ o → content k o ≡ Rec p → AppendedBy hs l n p
+    by_best true None e g = absurd cc
+    by_best false None e g = absurd cc
+    by_best k (Some f) e g = let x = best_of n d f e in let w = by_what k f.what g in elim x.whose [
       | inl q ↦ subst (λ m. AppendedBy hs l m p) q ((D x.told x.in_digest f x.in_entries).appended p w)
       | inr q ↦ absurd (let z : Bridge ≡ Rec p = sym q.1 ∙ w in cc)
     ]
@@ -88,11 +93,11 @@ module _ (hs : List Happened) (l b e : ℕ) (d : List Told) (D : (t : Told) → 
     bridge_no : (w : What) → w ≡ Bridge → is_bridge w ≡ false → ⊥
     bridge_no w q n = let z : is_bridge w ≡ true = ap is_bridge q in cc
 
-  pub plan_epoch : (i : Item) → In i (plan e d).items → epoch_of i.number ≡ e
-  plan_epoch i h = let p = plan_items e d i h in let u = end_place in let z = p.below in let n = p.number in omega arith
+  pub plan_epoch : (k : Bool) (i : Item) → In i (plan e k d).items → epoch_of i.number ≡ e
+  plan_epoch k i h = let p = plan_items e k d i h in let u = end_place in let z = p.below in let n = p.number in omega arith
 
-  pub plan_given : (i : Item) → In i (plan e d).items → GivenEntry hs l b i.number i.what
-  plan_given i h = let p = plan_items e d i h in let s = plan_shape e d p.place i.what p.item in let u = end_place in let a = p.above in let z = p.below in let n = p.number in record {
+  pub plan_given : (k : Bool) (i : Item) → In i (plan e k d).items → GivenEntry hs l b i.number i.what
+  plan_given k i h = let p = plan_items e k d i h in let s = plan_shape e k d p.place i.what p.item in let u = end_place in let a = p.above in let z = p.below in let n = p.number in record {
     place = record {
       above = subst (λ m. 0 < esn_of m) (sym n) (omega arith);
       below = λ q. elim s.kind [
@@ -101,7 +106,7 @@ module _ (hs : List Happened) (l b e : ℕ) (d : List Told) (D : (t : Told) → 
       ];
     };
     appended = λ x q. elim s.kind [
-      | inl k ↦ subst (λ m. AppendedBy hs l m x) (sym n) (content_given (numbered e p.place) x (sym k.1 ∙ q))
+      | inl j ↦ subst (λ m. AppendedBy hs l m x) (sym n) (content_given k (numbered e p.place) x (sym j.1 ∙ q))
       | inr k ↦ absurd (let y : Bridge ≡ Rec x = sym k.1 ∙ q in cc)
     ];
   }

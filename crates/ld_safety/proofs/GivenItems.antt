@@ -10,13 +10,13 @@ use Rattle.ld_transcript.specs.declared.line.Line.{Line}
 use Rattle.ld_transcript.specs.declared.line.Line.TheVariants as lines
 use Rattle.ld_transcript.specs.declared.line.GapKind.TheVariants as gaps
 use Rattle.ld_msg.specs.declared.msg.What.{What}
-use Rattle.ld_msg.specs.declared.msg.What.TheVariants.{Rec, Hole, Bridge}
+use Rattle.ld_msg.specs.declared.msg.What.TheVariants.{Rec, Hole, Bridge, Plug}
 use Rattle.ld_msg.specs.declared.msg.Entry.{Entry}
 use Rattle.ld_msg.specs.declared.msg.Msg.{Msg}
 use Rattle.ld_msg.specs.declared.msg.Who.TheVariants as whos
 use Rattle.ld_msg.specs.declared.msg.Body.{Body}
 use Rattle.ld_msg.specs.declared.msg.Body.TheVariants as bodies
-use Rattle.ld_msg.specs.Reading.{Held, Item, TrimTo, RecordHere, HoleHere, BridgeTo, LossHere, trim_held, trim_told, record_held, record_of, page_at, entry_at}
+use Rattle.ld_msg.specs.Reading.{Held, Item, TrimTo, RecordHere, HoleHere, BridgeTo, LossHere, trim_held, trim_told, record_held, record_of, page_at, entry_at, LossTo, bridge_to}
 use Rattle.ld_msg.specs.Register.{View}
 use Rattle.ld_machine.specs.Config.{looks_at}
 use Rattle.ld_msg.specs.Reader.{Reader, Read, heard, held_with, is_newer, round_of, on_answer, gives}
@@ -69,6 +69,7 @@ record_of_some : (o : Option What) (p : List ℕ) → record_of o ≡ Some p →
 record_of_some (Some (Rec q)) p h = ap (λ x. Some (Rec x)) (Some_inj h)
 record_of_some (Some Hole) p h = absurd (not_none h)
 record_of_some (Some Bridge) p h = absurd (not_none h)
+record_of_some (Some Plug) p h = absurd (not_none h)
 record_of_some None p h = absurd (not_none h)
 
 or_else_of : {X : Type 0} (o p : Option X) (x : X) → or_else o p ≡ Some x → (o ≡ Some x) ⊎ (p ≡ Some x)
@@ -143,7 +144,9 @@ module _ (hs : List Happened) (l : ℕ) where
     trim = λ a g n t. gives_given a (TrimTo (trim_held a.reader.held)) g (trim_item a.reader.next a.reader.held g.held g.positive t);
     record_there = λ a x g n t. gives_given a (RecordHere x) g (record_given a.reader.next a.reader.held x g.held t);
     hole_there = λ a g n t. gives_given a HoleHere g tt;
-    bridge = λ a g n t. gives_given a _ g tt;
+    plug = λ a g n t. gives_given a LossHere g tt;
+    bridge = λ a g n t. gives_given a (BridgeTo (bridge_to a.reader.next)) g tt;
+    lossy_end = λ a g n t. gives_given a (LossTo (bridge_to a.reader.next)) g tt;
     confirm = λ a g n m t. record { held = g.held; positive = g.positive; items = g.items };
     polls_on = λ a g t. record { held = g.held; positive = g.positive; items = g.items };
   }
@@ -169,6 +172,7 @@ item_lines_given hs s name d until (i ∷ is) f h = let r = item_lines_given hs 
   rec_at HoleHere a n p g e = absurd cc
   rec_at (BridgeTo last) a n p g e = absurd cc
   rec_at LossHere a n p g e = absurd cc
+  rec_at (LossTo last) a n p g e = absurd cc
 
   trim_at : (x : Item) (a : List ℕ) (low high : ℕ) → ItemGiven hs d.log i.0 x → lines.Gap a gaps.Trim low high ≡ Step.item_line name i.0 until x → (d : Reader) × (find_named a s.readers ≡ Some d) × ((k t : ℕ) × (high ≤ t) × Issues hs d.log t k)
   trim_at (TrimTo last) a low high g e = let x : a ≡ name = cc in let y : high ≡ (if nat_lt until last then until else last) = cc in (
@@ -180,6 +184,7 @@ item_lines_given hs s name d until (i ∷ is) f h = let r = item_lines_given hs 
   trim_at HoleHere a low high g e = absurd cc
   trim_at (BridgeTo last) a low high g e = absurd cc
   trim_at LossHere a low high g e = absurd cc
+  trim_at (LossTo last) a low high g e = absurd cc
 
 quiet_lines_given : (hs : List Happened) (s : State) (ls : List Line) → ((x : Line) → In x ls → is_quiet x ≡ true) → LinesGiven hs s ls
 quiet_lines_given hs s ls q = record { records = λ name n p i. absurd (let z = q _ i in cc); trims = λ name low high i. absurd (let z = q _ i in cc) }
@@ -207,7 +212,7 @@ module _ (c : Config) (hs : List Happened) (w : World) (e : Event) (B : Base c h
       item_lines_given hs w.state name d _ (on_answer (looks_at c w.state.register d.log) d y m.body).items v.named k.items
 
   pub lines_given : LinesGiven hs w.state (Step.happens c w.state e).lines
-  lines_given = dispatch c w.state e (λ d m. LinesGiven hs w.state d.lines) B.0.0 (line_cases c w.state e (LinesGiven hs w.state) (other_lines hs w.state) reads_given (quiet_lines_given hs w.state))
+  lines_given = dispatch c w.state e (λ d m. LinesGiven hs w.state d.lines) B.0.0 (line_cases c w.state e (LinesGiven hs w.state) (other_lines hs w.state) (λ f name d m i t v o. reads_given f name d m i t v) (quiet_lines_given hs w.state))
 
 -- ---- the laws ----
 

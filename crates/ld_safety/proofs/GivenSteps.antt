@@ -1,5 +1,5 @@
 -- Each step leaves records that were appended and trims that were issued.
-use Rattle.std.proofs.Common.{◌≡◌, ◌∙◌, ◌≤◌, ℕ, inl, inr, refl, ap, sym, subst, List, [], ◌∷◌, ◌++◌, length, Some, arith}
+use Rattle.std.proofs.Common.{Bool, ◌⊎◌, ◌≡◌, ◌∙◌, ◌≤◌, ℕ, inl, inr, refl, ap, sym, subst, List, [], ◌∷◌, ◌++◌, length, Some, arith}
 use Rattle.ld_table.specs.Table.{find}
 use Rattle.ld_table.specs.Named.{find_named}
 use Rattle.ld_lsn.specs.Number.{numbered}
@@ -27,7 +27,8 @@ use Rattle.ld_safety.proofs.Given.{AnyEpoch, AnyShown, AnyReleased, SmallGood, G
 use Rattle.ld_safety.proofs.CarriedSteps.{Carries, Sources, HeardOf, carried_on}
 use Rattle.ld_safety.proofs.CarriedSequencers as sequencers
 use Rattle.ld_safety.proofs.CarriedNodes as nodes
-use Rattle.ld_safety.proofs.Closings.{Ends_with, summaries_after}
+use Rattle.ld_safety.proofs.Closings.{summaries_after}
+use Rattle.ld_safety.proofs.SequencerSteps.{Ending, OfStored, ended_by}
 use Rattle.ld_safety.proofs.CarriedGrows.{carries_grow}
 use Rattle.ld_safety.proofs.Carried as carried
 use Rattle.ld_safety.proofs.Has as has
@@ -58,9 +59,11 @@ module _ (c : Config) (hs : List Happened) (w : World) (e : Event) (B : Base c h
   limit_of : (name : List ℕ) (q : Sequencer) → find_named name w.state.sequencers ≡ Some q → q.epoch ≤ epoch_limit
   limit_of name q f = let o = B.0.1.epochs in let a = o.drawn name q f in let b = o.limit q.log in omega arith
 
-  closes_given : (name : List ℕ) (q : Sequencer) (v : Recovery) (y : Summary) → Live w.state name q → q.recovery ≡ Some v → Ends_with w.state q v y → GivenSummary next q.log v.epoch y
-  closes_given name q v y l r (inl g) = ((stage next q (limit_of name q l.named) (now.sequencers name q l.named).recovery v (Closes y) r g).0, in_limit next q (limit_of name q l.named) (now.sequencers name q l.named).recovery v r)
-  closes_given name q v y l r (inr g) = (subst (λ (x : Summary). GivenTrim next q.log x.trim) (sym g.summary) (stage next q (limit_of name q l.named) (now.sequencers name q l.named).recovery v (Stores g.storing) r g.stage).0.0, in_limit next q (limit_of name q l.named) (now.sequencers name q l.named).recovery v r)
+  closes_given : (name : List ℕ) (q : Sequencer) (v : Recovery) (y : Summary) (short : Bool) → Live w.state name q → q.recovery ≡ Some v → Ending q (HeardOf w.state q) v y short → GivenSummary next q.log v.epoch y
+  closes_given name q v y short l r g = (trim_by (ended_by q (HeardOf w.state q) v y short g), in_limit next q (limit_of name q l.named) (now.sequencers name q l.named).recovery v r) where
+    trim_by : (v.stage ≡ Closes y short) ⊎ OfStored q v y → GivenTrim next q.log y.trim
+    trim_by (inl k) = (stage next q (limit_of name q l.named) (now.sequencers name q l.named).recovery v (Closes y short) r k).0
+    trim_by (inr k) = subst (GivenTrim next q.log) (sym k.trim) (stage next q (limit_of name q l.named) (now.sequencers name q l.named).recovery v (Stores k.storing) r k.stage).0.0
 
   log_known : (name : List ℕ) (q : Sequencer) → Live w.state name q → OfLog next q.log name
   log_known name q v = of_log_grows hs w.state.register e (Step.happens c w.state e) q.log name (counts_of c hs w B name q v.named).known
@@ -89,10 +92,6 @@ module _ (c : Config) (hs : List Happened) (w : World) (e : Event) (B : Base c h
   trim_given name q point v x = let y = slice_get-In _ _ (finish_In (Step.happens c w.state e) _ x) in
       inr (length hs, point, refl, record { name = name; told = (happened c w.state e, slice_get_last (happened c w.state e) hs [], y.0, y.1); of_log = log_known name q v })
 
-  ending : (q : Sequencer) (v : Recovery) (y : Summary) → sequencers.Ending (GivenEntry next) (GivenTrim next) (GivenSummary next) AnyEpoch AnyShown AnyReleased (GivenEntry next) SmallGood (given_sound next) q (HeardOf w.state q) v y → Ends_with w.state q v y
-  ending q v y (sequencers.closing_now g) = inl g
-  ending q v y (sequencers.ready_now g p z b h s m k u i) = inr (record { storing = g; settles = p; node = z; body = b; heard = h; settling = s; member = m; stage = k; ready = u; summary = i })
-
   sources : Sources c w.state e (GivenEntry next) (GivenTrim next) (GivenSummary next) AnyEpoch AnyShown AnyReleased (GivenEntry next) SmallGood
   sources = record {
     sound = given_sound next;
@@ -100,15 +99,15 @@ module _ (c : Config) (hs : List Happened) (w : World) (e : Event) (B : Base c h
     apart = B.1.1;
     epochs = λ name q f k u v. tt;
     new_epochs = λ l r i k u v. tt;
-    register = summaries_after c w.state e (GivenSummary next) now.register (λ name q v y l r h k. closes_given name q v y l r h) B.0.0;
+    register = summaries_after c w.state e (GivenSummary next) now.register (λ name q v y short l r h k o. closes_given name q v y short l r h) B.0.0;
     append = append_given;
     trim = λ name q point v b x. trim_given name q point v x;
-    planned = λ name q v d y from upto trim lng es l h f r g k t u D m i j. let low = sequencers.digest_good (GivenEntry next) (GivenTrim next) (GivenSummary next) AnyEpoch AnyShown AnyReleased (GivenEntry next) SmallGood (given_sound next) q.log v.epoch _ D in (plan_given next q.log q.epoch v.epoch _ (λ z o x k. (D z o).entries x k) low i j, plan_epoch next q.log q.epoch v.epoch _ (λ z o x k. (D z o).entries x k) low i j);
-    closed = λ name q v y l r d k g. closes_given name q v y l r (ending q v y d);
+    planned = λ name q v d loss gone l r D m i j. let low = sequencers.digest_good (GivenEntry next) (GivenTrim next) (GivenSummary next) AnyEpoch AnyShown AnyReleased (GivenEntry next) SmallGood (given_sound next) q.log v.epoch _ D in (plan_given next q.log q.epoch v.epoch d (λ z o x k. (D z o).entries x k) low loss i j, plan_epoch next q.log q.epoch v.epoch d (λ z o x k. (D z o).entries x k) low loss i j);
+    closed = λ name q v y short l r d k g. closes_given name q v y short l r d;
     refill = λ n m round from upto es i t v b u x j k. let z : carried.MsgOk (GivenEntry next) (GivenTrim next) (GivenSummary next) AnyEpoch AnyShown AnyReleased (GivenEntry next) SmallGood m = now.sent m i in
         let y : carried.AllKeptOk (GivenEntry next) (GivenTrim next) (GivenSummary next) AnyEpoch AnyShown AnyReleased (GivenEntry next) SmallGood m.log es = (subst (carried.BodyOk (GivenEntry next) (GivenTrim next) (GivenSummary next) AnyEpoch AnyShown AnyReleased (GivenEntry next) SmallGood m.log m.from) b z).0 in
         let o = y x j in record { place = o.place; appended = o.appended };
-    shows = λ n l v. record { clean = λ f z k x a h b t i u o. tt; open_still = λ f k x t i u o. tt };
+    shows = λ n l v. record { clean = λ f z k x a h b t i u o n. tt; open_still = λ f k x t i u o. tt };
     good = λ name q f. (let u = (counts_of c hs w B name q f).small in omega arith);
     own = λ name q f. let u = counts_of c hs w B name q f in own_epoch q u.row u.small;
     small = λ name q f. (counts_of c hs w B name q f).small;

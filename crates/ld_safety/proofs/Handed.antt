@@ -1,5 +1,5 @@
 -- What messages say and how nodes are sealed was handed out by the register: ballots, seals, generations; and summaries that are told are of epochs from 1 on.
-use Rattle.std.proofs.Common.{◌≡◌, ◌∙◌, ◌≤◌, ◌<◌, ℕ, inl, inr, refl, ap, sym, subst, Bool, true, false, ◌==◌, ◌+◌, nat_lt, cond, if◌then◌else◌, List, [], ◌∷◌, ◌++◌, Option, Some, None, arith, length}
+use Rattle.std.proofs.Common.{◌≡◌, ◌∙◌, ◌⊎◌, ◌≤◌, ◌<◌, ℕ, inl, inr, refl, ap, sym, subst, Bool, true, false, ◌==◌, ◌+◌, nat_lt, cond, if◌then◌else◌, List, [], ◌∷◌, ◌++◌, Option, Some, None, arith}
 use Rattle.std.specs.Option.{unwrap_or}
 use Rattle.ld_table.specs.Table.{find}
 use Rattle.ld_table.specs.Words.{without}
@@ -21,10 +21,10 @@ use Rattle.ld_msg.specs.declared.msg.Msg.{Msg}
 use Rattle.ld_msg.specs.declared.msg.Body.{Body}
 use Rattle.ld_msg.specs.declared.msg.Body.TheVariants as bodies
 use Rattle.ld_msg.specs.Choice.{choice}
-use Rattle.ld_msg.specs.Digest.{Told, no_digest, with_page, with_asks, plan}
+use Rattle.ld_msg.specs.Digest.{Told, no_digest, with_asks, plan}
 use Rattle.ld_msg.specs.Reader.{Reader, on_answer, poll_asks, polled}
 use Rattle.ld_msg.specs.Register.{Register, View, Epochs, Granted, epochs_of, generation_of, epochs_in, lce_of, activate}
-use Rattle.ld_msg.specs.Sequencer.{Sequencer, Append, Recovery, Planned, Acts, Called, called, on_reply, on_retry, to_each, digest_asks, next_ask, recovery_asks, item_stores, append_stores, release_messages, acted_messages, released_of, rose, is_acked, Numbered, activated, planned, raised, next_wave}
+use Rattle.ld_msg.specs.Sequencer.{Sequencer, Append, Recovery, Planned, Storing, Acts, Called, called, does_nothing, passes, item_nodes, on_reply, on_retry, to_each, digest_asks, next_ask, recovery_asks, item_stores, append_stores, release_messages, acted_messages, released_of, rose, is_acked, Numbered, activated, planned, raised, next_wave}
 use Rattle.ld_op.specs.declared.op.Op.{Op}
 use Rattle.ld_op.specs.declared.op.Op.TheVariants as ops
 use Rattle.ld_op.specs.Plain.{Plain, Log, log_of, empty_log, apply, with_log, lost_log, lost_logs}
@@ -44,7 +44,7 @@ use Rattle.ld_safety.proofs.Steps.{sent_by}
 use Rattle.ld_safety.proofs.Events.{Cases, dispatch, Reading, refreshed, loaded}
 use Rattle.ld_safety.proofs.NodeSteps.{store_decided, ask_decided, read_answered}
 use Rattle.ld_safety.proofs.NodeCases.{NodeKeeps, node_cases}
-use Rattle.ld_safety.proofs.SequencerSteps.{Acting, Retrying, Closing, replied, retried}
+use Rattle.ld_safety.proofs.SequencerSteps.{Acting, Retrying, Closing, acts_with, heard_epoch, stored_epoch, retry_acts, retry_stores, gone_of, replied, retried}
 use Rattle.ld_safety.proofs.Registers.{Up, follows}
 use Rattle.ld_safety.proofs.RegisterSteps.{activated_epochs}
 use Rattle.ld_safety.proofs.LostReads.{read_on, poll_are}
@@ -96,10 +96,10 @@ next_body y (t ∷ d) = cond_both (t.node == y) (if t.whole then [] else (y, bod
 recovery_body : (looks : ℕ → View) (q : Sequencer) (lce : ℕ) → AllOfSequencer (recovery_asks looks q lce)
 recovery_body looks q lce = let d = no_digest (looks (lce + 1)).spec (lce + 1) in cond_both (nat_lt (lce + 1) q.epoch) (digest_asks d) [] AllOfSequencer (λ t. asks_body d) (λ t. no_bodies)
 
-items_body : (s : Spec) (lost : List ℕ) (lng wave : ℕ) (is : List (ℕ × Planned)) → AllOfSequencer (item_stores s lost lng wave is)
-items_body s lost lng wave [] = no_bodies
-items_body s lost lng wave (i ∷ is) = both_bodies (if nat_lt (length i.1.settled) s.r then to_each (bodies.Store i.0 lng i.1.what) (choice s lost i.0 wave) else []) (item_stores s lost lng wave is)
-    (cond_both (nat_lt (length i.1.settled) s.r) (to_each (bodies.Store i.0 lng i.1.what) (choice s lost i.0 wave)) [] AllOfSequencer (λ t. each_body _ (choice s lost i.0 wave) tt) (λ t. no_bodies)) (items_body s lost lng wave is)
+items_body : (s : Spec) (lost : List ℕ) (loss : Bool) (lng wave : ℕ) (is : List (ℕ × Planned)) → AllOfSequencer (item_stores s lost loss lng wave is)
+items_body s lost loss lng wave [] = no_bodies
+items_body s lost loss lng wave (i ∷ is) = both_bodies (to_each (bodies.Store i.0 lng i.1.what) (item_nodes s lost loss wave i.0 i.1.settled)) (item_stores s lost loss lng wave is)
+    (each_body _ (item_nodes s lost loss wave i.0 i.1.settled) tt) (items_body s lost loss lng wave is)
 
 appends_body : (s : Spec) (lost : List ℕ) (lng : ℕ) (ps : List (ℕ × Append)) → AllOfSequencer (append_stores s lost lng ps)
 appends_body s lost lng [] = no_bodies
@@ -116,10 +116,11 @@ said_by_acts : (q : Sequencer) (k : Called) → ActsSay k → AllOfSequencer (ac
 said_by_acts q k A = both_bodies k.acts.cleans _ A.cleans (both_bodies (release_messages q k.acts.sequencer) _
     (cond_both (rose q k.acts.sequencer) (to_each (bodies.Release (released_of k.acts.sequencer)) _) [] AllOfSequencer (λ t. each_body _ _ tt) (λ t. no_bodies)) (both_bodies k.acts.asks k.acts.stores A.asks A.stores))
 
-close_says : (r : Register) (looks : ℕ → View) (a : Acts) (e : ℕ) (y : Summary) → 0 < e → AllOfSequencer a.cleans → AllOfSequencer a.asks → AllOfSequencer a.stores → Closing r looks a e y ActsSay
-close_says r looks a e y pos cl ask st = record {
-  granted = λ n h g. record { cleans = each_body (bodies.Clean e y) _ pos; asks = recovery_body looks a.sequencer e; stores = st };
-  overtaken = λ h. record { cleans = cl; asks = ask; stores = st };
+close_says : (r : Register) (looks : ℕ → View) (a : Acts) (e : ℕ) (y : Summary) (short : Bool) → 0 < e → AllOfSequencer a.cleans → AllOfSequencer a.asks → AllOfSequencer a.stores → Closing r looks a e y short ActsSay
+close_says r looks a e y short pos cl ask st = record {
+  granted = λ n h o g. record { cleans = each_body (bodies.Clean e y) _ pos; asks = recovery_body looks a.sequencer e; stores = st };
+  passed = λ h. record { cleans = cl; asks = ask; stores = st };
+  overtaken = λ h o. record { cleans = cl; asks = ask; stores = st };
   behind = λ b h. record { cleans = cl; asks = recovery_body looks a.sequencer (lce_of r a.sequencer.log); stores = st };
   failed = λ n g. record { cleans = cl; asks = ask; stores = st };
 }
@@ -128,28 +129,45 @@ quiet_says : (r : Register) (a : Acts) → a.cleans ≡ [] → a.asks ≡ [] →
 quiet_says r a p q s = record { cleans = subst AllOfSequencer (sym p) no_bodies; asks = subst AllOfSequencer (sym q) no_bodies; stores = subst AllOfSequencer (sym s) no_bodies }
 
 module _ (c : Config) (r : Register) (q : Sequencer) (P : (v : Recovery) → q.recovery ≡ Some v → 0 < v.epoch) where
-  acting_says : (y : ℕ) (b : Body) → Acting c r q y b (λ k m. ActsSay k)
-  acting_says y b = record {
+  -- on to the epoch after a closed one
+  passes_say : (v : Recovery) (s : Summary) → 0 < v.epoch → ActsSay (acts_with r (passes (looks_at c r q.log) (does_nothing q) v.epoch s))
+  passes_say v s p = record { cleans = each_body (bodies.Clean v.epoch s) _ p; asks = recovery_body (looks_at c r q.log) q v.epoch; stores = no_bodies }
+
+  either_body : (y : ℕ) (d : List Told) (asks : List (ℕ × Body)) → (asks ≡ next_ask y d) ⊎ (asks ≡ []) → AllOfSequencer asks
+  either_body y d asks (inl e) = subst AllOfSequencer (sym e) (next_body y d)
+  either_body y d asks (inr e) = subst AllOfSequencer (sym e) no_bodies
+
+  acting_says : (gone : Recovery → List ℕ) (y : ℕ) (b : Body) → Acting c r gone q y b (λ k m. ActsSay k)
+  acting_says gone y b = record {
     quiet = quiet_says r _ refl refl refl;
     sealed = λ n k f i l. quiet_says r _ refl refl refl;
     cleaned_own = λ n s f i g. quiet_says r _ refl refl refl;
     acks = λ n p f i g k m. quiet_says r _ refl refl refl;
-    settles_some = λ v g p f e i s m u. quiet_says r _ refl refl refl;
-    settles_all = λ v g p f e i z m u. close_says r _ _ v.epoch _ (P v e) no_bodies no_bodies no_bodies;
     lost_own = λ n round g end f i k. quiet_says r _ refl refl refl;
-    lost_there = λ v n round g end f e i k. quiet_says r _ refl refl refl;
-    cleaned = λ v n s f e i k. record { cleans = each_body (bodies.Clean v.epoch s) _ (P v e); asks = recovery_body (looks_at c r q.log) q v.epoch; stores = no_bodies };
-    asks_more = λ v d from upto trim lng es f e i g k t u. record { cleans = no_bodies; asks = next_body y _; stores = no_bodies };
-    plans = λ v d from upto trim lng es f e i g k t u. record { cleans = no_bodies; asks = no_bodies; stores = items_body v.spec v.lost _ 0 (planned (plan v.epoch (with_page v.epoch y from upto trim lng es d)).items) };
+    cleaned = λ v n s f e i k. passes_say v s (P v e);
+    asks_more = λ w d asks f h a n u. record { cleans = no_bodies; asks = either_body y d asks a; stores = no_bodies };
+    plans = λ w d loss f h p. record { cleans = no_bodies; asks = no_bodies; stores = items_body w.spec w.lost _ _ 0 (planned (plan w.epoch loss d).items) };
+    looks_closed = λ w d s f h u o. passes_say w s (heard_epoch q y b w d (λ k. 0 < k) P h);
+    looks_later = λ w d f h u o n. quiet_says r _ refl refl refl;
+    stores_on = λ w g f h t. quiet_says r _ refl refl refl;
+    closes_now = λ w g f h t. close_says r _ _ w.epoch _ _ (stored_epoch q y b w g (λ k. 0 < k) P h) no_bodies no_bodies no_bodies;
+    lost_closing = λ v s short n round g end f e i h k. quiet_says r _ refl refl refl;
   }
 
-  retrying_says : Retrying c r q ActsSay
-  retrying_says = record {
+  again_stores : (v : Recovery) (g : Storing) → AllOfSequencer (retry_stores q v g).stores
+  again_stores v g = both_bodies (item_stores v.spec v.lost g.loss g.lng (next_wave g.wave) g.items) (append_stores q.spec q.lost q.lng (raised q.spec q.appends)) (items_body v.spec v.lost g.loss g.lng (next_wave g.wave) g.items) (appends_body q.spec q.lost q.lng (raised q.spec q.appends))
+
+  retrying_says : (gone : Recovery → List ℕ) → Retrying c r gone q (λ k m. ActsSay k)
+  retrying_says gone = let again = appends_body q.spec q.lost q.lng (raised q.spec q.appends) in record {
     quiet = quiet_says r _ refl refl refl;
     appends = λ f. record { cleans = no_bodies; asks = no_bodies; stores = appends_body q.spec q.lost q.lng (raised q.spec q.appends) };
-    seals = λ v d f e i. record { cleans = no_bodies; asks = asks_body (with_asks v.epoch d); stores = appends_body q.spec q.lost q.lng (raised q.spec q.appends) };
-    stores = λ v g f e i. record { cleans = no_bodies; asks = no_bodies; stores = both_bodies (item_stores v.spec v.lost g.lng (next_wave g.wave) g.items) (append_stores q.spec q.lost q.lng (raised q.spec q.appends)) (items_body v.spec v.lost g.lng (next_wave g.wave) g.items) (appends_body q.spec q.lost q.lng (raised q.spec q.appends)) };
-    closes = λ v y f e i. close_says r _ _ v.epoch y (P v e) no_bodies no_bodies (appends_body q.spec q.lost q.lng (raised q.spec q.appends));
+    seals = λ v d f e i u. record { cleans = no_bodies; asks = asks_body (with_asks v.epoch d); stores = again };
+    plans = λ v d f e i p. record { cleans = no_bodies; asks = no_bodies; stores = both_bodies (item_stores v.spec v.lost (plan v.epoch true d).loss (plan v.epoch true d).lng 0 (planned (plan v.epoch true d).items)) (append_stores q.spec q.lost q.lng (raised q.spec q.appends)) (items_body v.spec v.lost (plan v.epoch true d).loss (plan v.epoch true d).lng 0 (planned (plan v.epoch true d).items)) again };
+    looks_closed = λ v d s f e i u o. record { cleans = each_body (bodies.Clean v.epoch s) _ (P v e); asks = recovery_body (looks_at c r q.log) (retry_acts q).sequencer v.epoch; stores = again };
+    looks_later = λ v d f e i u o n. record { cleans = no_bodies; asks = no_bodies; stores = again };
+    stores_on = λ v g f e i t. record { cleans = no_bodies; asks = no_bodies; stores = again_stores v g };
+    closes_now = λ v g f e i t. close_says r _ _ v.epoch _ _ (P v e) no_bodies no_bodies (again_stores v g);
+    closes = λ v y short f e i. close_says r _ _ v.epoch y short (P v e) no_bodies no_bodies again;
   }
 
 -- ---- what a message says ----
@@ -483,8 +501,8 @@ module _ (c : Config) (s : State) (e : Event) (M : AllMessages s.register s.netw
     faults = λ n f o. nothing _ refl;
     sets = λ l r x set h. nothing _ refl;
     arms = λ k done o. nothing _ refl;
-    hears = λ f name q m i t l v o. acted f name q (on_reply (looks_at c s.register q.log) q (Step.sender_node m.from) m.body) v.named (replied c s.register name q v.there (Step.sender_node m.from) m.body (λ k n. ActsSay k) (acting_says c s.register q (recovers name q v.named) (Step.sender_node m.from) m.body));
-    retries = λ name q v o. acted s.network.fresh name q (on_retry q) v.named (retried c s.register q ActsSay (retrying_says c s.register q (recovers name q v.named)));
+    hears = λ f name q m i t l v o. acted f name q (on_reply (looks_at c s.register q.log) q (Step.sender_node m.from) m.body) v.named (replied c s name q v.there (Step.sender_node m.from) m.body (λ k n. ActsSay k) (acting_says c s.register q (recovers name q v.named) (gone_of s q) (Step.sender_node m.from) m.body));
+    retries = λ name q v o. acted s.network.fresh name q (on_retry (looks_at c s.register q.log) q) v.named (retried c s q v.there (λ k n. ActsSay k) (retrying_says c s.register q (recovers name q v.named) (gone_of s q)));
     appends = λ name q p v a i. from_own (Step.append_done s name q p Numbered) name q _ _ v.named tt refl;
     trims = λ name q t v b. from_own (record { state = s; lines = lines.Trimmed name t ∷ []; sends = posted (whos.Sequencer q.epoch) q.log (to_each (bodies.Trim t) (all_nodes c)) }) name q _ _ v.named tt refl;
     drops = λ name q v o. nothing _ refl;

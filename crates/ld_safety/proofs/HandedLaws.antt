@@ -58,17 +58,20 @@ module _ (c : Config) (hs : List Happened) (w : World) (B : BaseGiven c hs w × 
 
   -- ---- ballots ----
   closing : (l e : ℕ) (s : Summary) → ClosedBy c hs w.made w.state.network.sent w.state.register l e s → (0 < e) × (e < s.ballot) × Epoch w l s.ballot
-  closing l e s k = let t = (B.1.plans l e s.ballot k.plan.digest k.plan.planned).later in let b = B.1.below l e s.ballot k.plan.digest k.plan.planned in let p = k.positive in (p, t, (omega arith, b))
+  closing l e s k = let t = (B.1.plans l e s.ballot k.plan.basis k.plan.planned).later in let b = B.1.below l e s.ballot k.plan.basis k.plan.planned in let p = k.positive in (p, t, (omega arith, b))
 
   closed_so : (l e : ℕ) (y : Summary) → 0 < e → find e (epochs_of w.state.register l).summaries ≡ Some y → ClosedBy c hs w.made w.state.network.sent w.state.register l e y
   closed_so l e y p f = elim (B.1.said.register l e y f).1 [ inl a ↦ absurd (let z = a.0 in omega arith) | inr a ↦ a ]
 
   pub entry_drawn : (l : ℕ) (e : Entry) → SaidHere hs w.made w.state.register l e.ballot e.number e.what → EntryDrawn w l e
   entry_drawn l e s = elim s.says [
-    | inr o ↦ (let k = o.ballot in let a = s.reached.0 in let z = closing l (epoch_of e.number) o.summary (closed_so l (epoch_of e.number) o.summary s.reached.0 o.found_so) in let p = z.1 in let u = z.2.0 in let v = z.2.1 in record { epoch = omega arith; below = omega arith; ballot = (omega arith, omega arith) })
+    | inr (inl o) ↦ by_summary o.summary o.found_so o.ballot
+    | inr (inr o) ↦ by_summary o.summary o.found_so o.ballot
     | inl (inl o) ↦ (let q = o.own in let a = s.reached.0 in let b = s.reached.1 in record { epoch = omega arith; below = omega arith; ballot = (omega arith, omega arith) })
-    | inl (inr o) ↦ (let q = o.later in let a = s.reached.0 in let b = B.1.below l (epoch_of e.number) e.ballot o.digest o.planned in record { epoch = omega arith; below = omega arith; ballot = (omega arith, omega arith) })
-  ]
+    | inl (inr o) ↦ (let q = o.later in let a = s.reached.0 in let b = B.1.below l (epoch_of e.number) e.ballot o.basis o.planned in record { epoch = omega arith; below = omega arith; ballot = (omega arith, omega arith) })
+  ] where
+    by_summary : (y : Summary) → find (epoch_of e.number) (epochs_of w.state.register l).summaries ≡ Some y → e.ballot ≡ y.ballot → EntryDrawn w l e
+    by_summary y f k = let a = s.reached.0 in let z = closing l (epoch_of e.number) y (closed_so l (epoch_of e.number) y s.reached.0 f) in let p = z.1 in let u = z.2.0 in let v = z.2.1 in record { epoch = omega arith; below = omega arith; ballot = (omega arith, omega arith) }
 
   said_here : (l b n : ℕ) (x : What) → Said hs w.made w.state.register l b n x → SaidHere hs w.made w.state.register l b n x
   said_here l b n x s = record { given = s.given; reached = s.reached; says = inl s.says }

@@ -41,6 +41,9 @@ module _ (N : ℕ → Plain → Type 0) (R : ℕ → ℕ → ℕ → Type 0) (M 
     pub cut : CutHas y x.cut
     pub released : (l : ℕ) → R y l (Step.released_at x l)
 
+  pub cut_plain : (y : ℕ) (x : Node) (k : Cut) → NodeHas y x → x.cut ≡ Some k → N y k.plain
+  cut_plain y x k h q = subst (CutHas y) q h.cut
+
   pub record Parts (ns : List (ℕ × Node)) (r : Register) (ms : List Msg) (qs : List (List ℕ × Sequencer)) (ds : List (List ℕ × Reader)) : Type 0 where
     pub nodes : (y : ℕ) → NodeHas y (unwrap_or (find y ns) new_node)
     pub sent : (m : Msg) → In m ms → M m

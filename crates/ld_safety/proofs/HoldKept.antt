@@ -91,7 +91,7 @@ module _ (made : List worlds.Made) (sent : List Msg) where
 -- ---- what holds while more plans are made and more epochs closed ----
 module _ (made more : List worlds.Made) (sent : List Msg) where
   pub ends_later : (l lo hi n : ℕ) → Ends made l lo hi n → Ends (more ++ made) l lo hi n
-  ends_later l lo hi n e = record { ballot = e.ballot; digest = e.digest; planned = In_right _ more made e.planned; above = e.above; below = e.below; before = e.before }
+  ends_later l lo hi n e = record { ballot = e.ballot; basis = e.basis; planned = In_right _ more made e.planned; above = e.above; below = e.below; before = e.before }
 
   pub kept_later : (g : Log) (l n b : ℕ) → KeptBy made g l n b → KeptBy (more ++ made) g l n b
   kept_later g l n b (inl h) = inl h

@@ -1,10 +1,12 @@
 -- What readers and recoveries hold was sent, a ballot plans an epoch once, and a log that isn't lost has all of the epochs that were.
-use Rattle.std.proofs.Common.{◌≡◌, ◌∙◌, ◌⊎◌, ◌≤◌, ◌<◌, ℕ, ◌+◌, ◌-◌, inl, inr, refl, ap, sym, subst, Bool, true, false, ◌&&◌, ◌||◌, ◌==◌, nat_lt, nat_le, cond, List, [], ◌∷◌, ◌++◌, filter, flat_map, Option, Some, None, is_some, is_none, arith}
+use Rattle.std.proofs.Common.{◌≡◌, ◌∙◌, ◌⊎◌, ◌≤◌, ◌<◌, ℕ, ◌+◌, ◌-◌, inl, inr, refl, ap, sym, subst, Bool, true, false, not, ◌&&◌, ◌||◌, ◌==◌, nat_lt, nat_le, cond, if◌then◌else◌, List, [], ◌∷◌, ◌++◌, filter, flat_map, Option, Some, None, is_some, is_none, arith}
 use Rattle.std.proofs.lemmas.Bool.{cases_Bool, and_parts, eqb-true, leb-true, ltb-true, ltb-false}
 use Rattle.ld_table.specs.Table.{find}
+use Rattle.ld_table.specs.Named.{find_named}
 use Rattle.ld_table.specs.Words.{how_many, numbers_from}
-use Rattle.ld_lsn.specs.Number.{epoch_of, esn_of, numbered, last_esn}
+use Rattle.ld_lsn.specs.Number.{epoch_of, esn_of, numbered, home_epoch, last_esn}
 use Rattle.ld_config.specs.declared.config.Config.{Config}
+use Rattle.ld_machine.specs.Config.{looks_at}
 use Rattle.ld_schedule.specs.declared.event.Event.{Event}
 use Rattle.ld_schedule.specs.declared.event.Event.TheVariants as events
 use Rattle.ld_msg.specs.declared.msg.Entry.{Entry}
@@ -14,14 +16,14 @@ use Rattle.ld_msg.specs.declared.msg.Who.TheVariants as whos
 use Rattle.ld_msg.specs.declared.msg.Msg.{Msg}
 use Rattle.ld_msg.specs.declared.msg.Body.{Body}
 use Rattle.ld_msg.specs.declared.msg.Body.TheVariants as bodies
-use Rattle.ld_msg.specs.Digest.{Told, enough, with_page}
+use Rattle.ld_msg.specs.Digest.{Told, enough, is_spent, with_page, with_lost}
 use Rattle.ld_msg.specs.Network.{message}
-use Rattle.ld_msg.specs.Sequencer.{Sequencer, Recovery, Stage, Seals, Stores, Closes, takes_any}
+use Rattle.ld_msg.specs.Sequencer.{Sequencer, Recovery, Stage, Seals, Stores, Closes, takes_any, recovery_lost}
 use Rattle.ld_op.specs.Plain.{Plain, Log, log_of}
 use Rattle.ld_op.specs.Ticks.{missing, missing_of, numbers_of}
 use Rattle.ld_machine.specs.State.{State, node_at}
 use Rattle.ld_machine.specs.Facts.{Happened}
-use Rattle.ld_machine.specs.World.{World, Made, In, begin, MayHold, if_enough, made_in, made_with, made_by, made_for, made_at, made_on, page_from, is_made}
+use Rattle.ld_machine.specs.World.{World, Made, In, begin, MayHold, makes, makes_by, lets_lose, made_in, made_lost, made_with, made_by, made_for, made_at, made_anew, made_again, made_retried, made_on, page_from, is_made}
 use Rattle.ld_machine.specs.Invariant.{HeldWasSent, OnePlan}
 use Rattle.ld_machine.specs.Run.{Move, next_world, world_after, trace}
 use Rattle.ld_machine.specs.State.{sequencer_of}
@@ -36,10 +38,11 @@ use Rattle.ld_safety.proofs.Protocol.{plan_of}
 use Rattle.ld_safety.proofs.Digesting.{InRecovery, RecoveryFine, StageFine}
 use Rattle.ld_safety.proofs.Along.{Along}
 use Rattle.ld_safety.proofs.AlongSteps.{along_kept, new_plan}
+use Rattle.ld_safety.proofs.Agreed.{basis_of}
 use Rattle.ld_safety.proofs.LostAlong.{RoundsOf, Asked, asked_kept}
 use Rattle.ld_safety.proofs.LostFull.{FullLog}
 use Rattle.ld_safety.proofs.LostFullKept.{AllFull}
-use Rattle.ld_safety.proofs.LostJoined.{clean_kept}
+use Rattle.ld_safety.proofs.LostJoined.{bounded_here, summaries_here}
 
 -- ---- what is held ----
 module _ (c : Config) (hs : List Happened) (w : World) (B : Base c hs w) (R : Along c hs w) where
@@ -56,37 +59,61 @@ module _ (c : Config) (hs : List Happened) (w : World) (B : Base c hs w) (R : Al
 abbrev AtMostOne : List Made → Type 0
 AtMostOne ms = (ms ≡ []) ⊎ ((m : Made) × (ms ≡ m ∷ []))
 
-enough_one : (c : Config) (q : Sequencer) (v : Recovery) (d : List Told) → AtMostOne (if_enough c q v d)
-enough_one c q v d = cond_both (enough v.spec d) (record { log = q.log; epoch = v.epoch; ballot = q.epoch; digest = d } ∷ []) [] AtMostOne (λ t. inr (record { log = q.log; epoch = v.epoch; ballot = q.epoch; digest = d }, refl)) (λ t. inl refl)
+just_one : (m : Made) → AtMostOne (m ∷ [])
+just_one m = inr (m, refl)
 
-in_one : (c : Config) (q : Sequencer) (v : Recovery) (g : Stage) (y from upto trim lng : ℕ) (es : List Entry) → AtMostOne (made_in c q v g y from upto trim lng es)
-in_one c q v (Seals d) y from upto trim lng es = cond_both (takes_any y from d) (if_enough c q v (with_page v.epoch y from upto trim lng es d)) [] AtMostOne (λ t. enough_one c q v (with_page v.epoch y from upto trim lng es d)) (λ t. inl refl)
-in_one c q v (Stores s) y from upto trim lng es = inl refl
-in_one c q v (Closes s) y from upto trim lng es = inl refl
+makes_one : (c : Config) (s : State) (q : Sequencer) (v : Recovery) (d : List Told) → AtMostOne (makes_by c s q v d)
+makes_one c s q v d = cond_both (enough v.spec d) (makes s q v false d) (if is_spent v.spec d && lets_lose q (looks_at c s.register q.log v.epoch) then makes s q v true d else []) AtMostOne (λ t. just_one _)
+    (λ t. cond_both (is_spent v.spec d && lets_lose q (looks_at c s.register q.log v.epoch)) (makes s q v true d) [] AtMostOne (λ u. just_one _) (λ u. inl refl))
 
-with_one_made : (c : Config) (q : Sequencer) (o : Option Recovery) (y : ℕ) (b : Body) → AtMostOne (made_with c q o y b)
-with_one_made c q None y b = inl refl
-with_one_made c q (Some v) y (bodies.DigestPage from upto trim lng es) = cond_both (v.epoch == epoch_of from) (made_in c q v v.stage y from upto trim lng es) [] AtMostOne (λ t. in_one c q v v.stage y from upto trim lng es) (λ t. inl refl)
-with_one_made c q (Some v) y _ = inl refl
+in_one : (c : Config) (s : State) (q : Sequencer) (v : Recovery) (g : Stage) (y from upto trim lng : ℕ) (es : List Entry) → AtMostOne (made_in c s q v g y from upto trim lng es)
+in_one c s q v (Seals d) y from upto trim lng es = cond_both (takes_any y from d) (makes_by c s q v (with_page v.epoch y from upto trim lng es d)) [] AtMostOne (λ t. makes_one c s q v (with_page v.epoch y from upto trim lng es d)) (λ t. inl refl)
+in_one c s q v (Stores g) y from upto trim lng es = inl refl
+in_one c s q v (Closes z short) y from upto trim lng es = inl refl
 
-by_one : (c : Config) (o : Option (List ℕ × Sequencer)) (y : ℕ) (b : Body) → AtMostOne (made_by c o y b)
-by_one c None y b = inl refl
-by_one c (Some q) y b = cond_both (q.1.gone || is_some q.1.preempted) [] (made_with c q.1 q.1.recovery y b) AtMostOne (λ t. inl refl) (λ t. with_one_made c q.1 q.1.recovery y b)
+lost_one : (c : Config) (s : State) (q : Sequencer) (v : Recovery) (g : Stage) (y : ℕ) → AtMostOne (made_lost c s q v g y)
+lost_one c s q v (Seals d) y = makes_one c s q v (with_lost y d)
+lost_one c s q v (Stores g) y = inl refl
+lost_one c s q v (Closes z short) y = inl refl
+
+with_one_made : (c : Config) (s : State) (q : Sequencer) (o : Option Recovery) (y : ℕ) (b : Body) → AtMostOne (made_with c s q o y b)
+with_one_made c s q None y b = inl refl
+with_one_made c s q (Some v) y (bodies.DigestPage from upto trim lng es) = cond_both (v.epoch == epoch_of from) (made_in c s q v v.stage y from upto trim lng es) [] AtMostOne (λ t. in_one c s q v v.stage y from upto trim lng es) (λ t. inl refl)
+with_one_made c s q (Some v) y (bodies.LostHere n round generation end) = cond_both ((v.epoch == home_epoch n) && not (home_epoch n == q.epoch)) (made_lost c s q (recovery_lost y v) v.stage y) [] AtMostOne (λ t. lost_one c s q (recovery_lost y v) v.stage y) (λ t. inl refl)
+with_one_made c s q (Some v) y _ = inl refl
+
+by_one : (c : Config) (s : State) (o : Option (List ℕ × Sequencer)) (y : ℕ) (b : Body) → AtMostOne (made_by c s o y b)
+by_one c s None y b = inl refl
+by_one c s (Some q) y b = cond_both (q.1.gone || is_some q.1.preempted) [] (made_with c s q.1 q.1.recovery y b) AtMostOne (λ t. inl refl) (λ t. with_one_made c s q.1 q.1.recovery y b)
 
 for_one : (c : Config) (s : State) (m : Msg) (w : Who) → AtMostOne (made_for c s m w)
-for_one c s m (whos.Sequencer b) = by_one c (sequencer_of m.log b s.sequencers) (page_from m.from) m.body
+for_one c s m (whos.Sequencer b) = by_one c s (sequencer_of m.log b s.sequencers) (page_from m.from) m.body
 for_one c s m _ = inl refl
 
 at_one : (c : Config) (s : State) (o : Option Msg) → AtMostOne (made_at c s o)
 at_one c s None = inl refl
 at_one c s (Some m) = for_one c s m m.to
 
+anew_one : (c : Config) (s : State) (q : Sequencer) (v : Recovery) (g : Stage) → AtMostOne (made_anew c s q v g)
+anew_one c s q v (Seals d) = cond_both (is_spent v.spec d) (makes_by c s q v d) [] AtMostOne (λ t. makes_one c s q v d) (λ t. inl refl)
+anew_one c s q v (Stores g) = inl refl
+anew_one c s q v (Closes z short) = inl refl
+
+again_one : (c : Config) (s : State) (q : Sequencer) (o : Option Recovery) → AtMostOne (made_again c s q o)
+again_one c s q None = inl refl
+again_one c s q (Some v) = anew_one c s q v v.stage
+
+retried_one : (c : Config) (s : State) (o : Option Sequencer) → AtMostOne (made_retried c s o)
+retried_one c s None = inl refl
+retried_one c s (Some q) = cond_both (q.gone || is_some q.preempted) [] (made_again c s q q.recovery) AtMostOne (λ t. inl refl) (λ t. again_one c s q q.recovery)
+
 on_one : (c : Config) (s : State) (e : Event) → AtMostOne (made_on c s e)
 on_one c s (events.Deliver i) = at_one c s (message s.network i)
+on_one c s (events.Retry name) = retried_one c s (find_named name s.sequencers)
 on_one c s _ = inl refl
 
-made_is : (l e b : ℕ) (m : Made) → is_made l e b m ≡ true → m ≡ plan_of l e b m.digest
-made_is l e b m t = let p = and_parts ((m.log == l) && (m.epoch == e)) (m.ballot == b) t in let q = and_parts (m.log == l) (m.epoch == e) p.0 in λ i. record { log = eqb-true _ _ q.0 i; epoch = eqb-true _ _ q.1 i; ballot = eqb-true _ _ p.1 i; digest = m.digest }
+made_is : (l e b : ℕ) (m : Made) → is_made l e b m ≡ true → m ≡ plan_of l e b (basis_of m)
+made_is l e b m t = let p = and_parts ((m.log == l) && (m.epoch == e)) (m.ballot == b) t in let q = and_parts (m.log == l) (m.epoch == e) p.0 in λ i. record { log = eqb-true _ _ q.0 i; epoch = eqb-true _ _ q.1 i; ballot = eqb-true _ _ p.1 i; loss = m.loss; digest = m.digest; gone = m.gone }
 
 one_plan_step : (c : Config) (hs : List Happened) (w : World) (e : Event) → BaseGiven c hs w × Along c hs w → OnePlan w → OnePlan (next_world c w e)
 one_plan_step c hs w e B h l k b = elim (on_one c w.state e) [
@@ -99,7 +126,7 @@ one_plan_step c hs w e B h l k b = elim (on_one c w.state e) [
   no_other : (m : Made) → is_made l k b m ≡ true → In m (made_on c w.state e) → how_many (is_made l k b) w.made ≡ 0
   no_other m t i = elim (some_or_none (is_made l k b) w.made) [
     | inr z ↦ z
-    | inl x ↦ absurd ((new_plan c hs w e B.0.0 B.0.1 B.1 l k b m.digest (subst (λ v. In v (made_on c w.state e)) (made_is l k b m t) i)).0.first x.0.digest (subst (λ v. In v w.made) (made_is l k b x.0 x.2) x.1))
+    | inl x ↦ absurd ((new_plan c hs w e B.0.0 B.0.1 B.1 l k b (basis_of m) (subst (λ v. In v (made_on c w.state e)) (made_is l k b m t) i)).0.first (basis_of x.0) (subst (λ v. In v w.made) (made_is l k b x.0 x.2) x.1))
   ]
 
 abbrev pub Planning : Config → List Happened → World → Type 0
@@ -140,8 +167,8 @@ nothing_missing g F l b = none_mapped (missing_of g) g.summaries (λ q i. cond_b
 
 pub full_here : (c : Config) (hs : List Happened) (w : World) → BaseGiven c hs w × Along c hs w → AllFull w → (y : ℕ) (p : Plain) → MayHold (node_at w.state y) p → (l : ℕ) → (log_of p l).lost ≡ false → missing (log_of p l) ≡ []
 full_here c hs w B F y p m l h = nothing_missing (log_of p l) (F y p m l) h (λ q i.
-    let K = clean_kept c hs w B in let f = found_rising q (log_of p l).summaries (F y p m l).rising i in let pos = (F y p m l).positive q i in
-    (K.bounded l q.0 q.1 (K.summaries y l q.0 p q.1 m pos f).0 pos).1)
+    let f = found_rising q (log_of p l).summaries (F y p m l).rising i in let pos = (F y p m l).positive q i in
+    (bounded_here c hs w B l q.0 q.1 (summaries_here c hs w B y l q.0 p q.1 m pos f).0 pos).1)
 
 -- ---- the laws ----
 pub what_is_held_was_sent : (c : Config) (es : List Move) → HeldWasSent (world_after c (begin c) es)

@@ -8,7 +8,7 @@ use Rattle.ld_table.specs.Table.{find, put}
 use Rattle.ld_table.proofs.Laws.{put_cases, find-keep, find-keep_keys, find-put_other, kept, table_rules}
 use Rattle.ld_lsn.specs.Number.{epoch_of, esn_of}
 use Rattle.ld_msg.specs.declared.msg.What.{What}
-use Rattle.ld_msg.specs.declared.msg.What.TheVariants.{Rec, Hole, Bridge}
+use Rattle.ld_msg.specs.declared.msg.What.TheVariants.{Rec, Hole, Bridge, Plug}
 use Rattle.ld_msg.specs.declared.msg.Entry.{Entry}
 use Rattle.ld_msg.specs.declared.msg.Summary.{Summary}
 use Rattle.ld_msg.specs.declared.msg.Msg.{Msg}
@@ -50,6 +50,7 @@ pub entry_stays : (e : Entry) (w : What) (m : List (ℕ × Entry)) (q : ℕ) (f 
     (find q (accept_entry e w m) ≡ Some f) ⊎ ((q ≡ e.number) ⊎ ((w ≡ Bridge) × (survives_bridge e f ≡ false)))
 entry_stays e (Rec p) m q f h = grind (arith, table_rules)
 entry_stays e Hole m q f h = grind (arith, table_rules)
+entry_stays e Plug m q f h = grind (arith, table_rules)
 entry_stays e Bridge m q f h = grind (arith, table_rules)
 
 module _ (made : List Made) (sent : List Msg) where
@@ -69,7 +70,7 @@ module _ (made : List Made) (sent : List Msg) where
   stays l g F = record { fine = F; gone_stays = λ e h. h; sealed = omega arith; keeps = λ n b s k. inr k }
 
   pub wider : (l lo hi ho n : ℕ) → hi ≤ ho → Ends made l lo hi n → Ends made l lo ho n
-  wider l lo hi ho n h e = record { ballot = e.ballot; digest = e.digest; planned = e.planned; above = e.above; below = let z = e.below in omega arith; before = e.before }
+  wider l lo hi ho n h e = record { ballot = e.ballot; basis = e.basis; planned = e.planned; above = e.above; below = let z = e.below in omega arith; before = e.before }
 
   -- ---- a log that moves moves its node ----
   with_log_cases : (p : Plain) (l k : ℕ) (g : Log) → ((k ≡ l) × (log_of (with_log p l g) k ≡ g)) ⊎ ((k ≡ l → ⊥) × (log_of (with_log p l g) k ≡ log_of p k))
@@ -111,11 +112,13 @@ module _ (made : List Made) (sent : List Msg) where
   pub accept_in : (e : Entry) (w : What) (m : List (ℕ × Entry)) (q : ℕ × Entry) → In q (accept_entry e w m) → (q ≡ (e.number, e)) ⊎ In q m
   accept_in e (Rec p) m q i = In_put e.number e m q i
   accept_in e Hole m q i = In_put e.number e m q i
+  accept_in e Plug m q i = In_put e.number e m q i
   accept_in e Bridge m q i = elim (In_put e.number e _ q i) [ inl a ↦ inl a | inr a ↦ inr (In_keep _ m q a) ]
 
   accept_rising : (e : Entry) (w : What) (m : List (ℕ × Entry)) → Rising m → Rising (accept_entry e w m)
   accept_rising e (Rec p) m h = Rising-put e.number e m h
   accept_rising e Hole m h = Rising-put e.number e m h
+  accept_rising e Plug m h = Rising-put e.number e m h
   accept_rising e Bridge m h = Rising-put e.number e _ (Rising-keep _ m h)
 
   -- a bridge that takes an entry away is one of a later plan's ends
@@ -135,15 +138,15 @@ module _ (made : List Made) (sent : List Msg) where
 
         by_says : {hs : List Happened} → Says hs made l e.ballot e.number e.what → f.number ≡ n → e.number < f.number → f.ballot < e.ballot → epoch_of e.number ≡ epoch_of n → Ends made l b (e.ballot + 1) n
         by_says (inl z) num below less ep = absurd (let y : Bridge ≡ Rec z.payload = sym w ∙ z.is in cc)
-        by_says (inr z) num below less ep = let k = plan_shape (epoch_of e.number) z.digest (esn_of e.number) e.what z.item in elim k.kind [
-          | inl u ↦ absurd (content_no_bridge _ (sym u.1 ∙ w))
+        by_says (inr z) num below less ep = let k = plan_shape (epoch_of e.number) z.basis.loss z.basis.digest (esn_of e.number) e.what z.item in elim k.kind [
+          | inl u ↦ absurd (content_no_bridge z.basis.loss _ (sym u.1 ∙ w))
           | inr u ↦ let v = u.0 in record {
             ballot = e.ballot;
-            digest = z.digest;
-            planned = subst (λ x. In (plan_of l x e.ballot z.digest) made) ep z.planned;
+            basis = z.basis;
+            planned = subst (λ x. In (plan_of l x e.ballot z.basis) made) ep z.planned;
             above = omega arith;
             below = omega arith;
-            before = subst (λ x. plan_end x z.digest < esn_of n) ep (omega arith);
+            before = subst (λ x. plan_end x z.basis.digest < esn_of n) ep (omega arith);
           }
         ]
 

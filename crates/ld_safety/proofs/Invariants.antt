@@ -27,6 +27,9 @@ invariants_hold c es b = record {
   seals = retained.seals_hold c es;
   agrees = agreed.recoveries_agree c es;
   stands = standing.what_stands_is_followed c es;
+  losses = agreed.losses_were_gone c es;
+  losses_last = agreed.losses_are_last c es;
+  losses_say = agreed.losses_say_so c es;
   copies = entries.all_copies_stand c es b;
   lost_once = rebuilt.rebuilt_once c es;
 }

@@ -20,6 +20,7 @@ use Rattle.ld_safety.proofs.Traces.{later}
 use Rattle.ld_safety.proofs.Given.{AnyEpoch, AnyShown, AnyReleased, SmallGood, GivenEntry, GivenTrim, GivenSummary}
 use Rattle.ld_safety.proofs.GivenSteps.{BaseGiven}
 use Rattle.ld_safety.proofs.Along.{Along}
+use Rattle.ld_safety.proofs.Agreed.{basis_of}
 use Rattle.ld_safety.proofs.AlongSteps.{along_kept}
 use Rattle.ld_safety.proofs.Carried as carried
 
@@ -61,7 +62,7 @@ module _ (c : Config) (hs : List Happened) (w : World) (B : BaseGiven c hs w) wh
   stage_trim : (l b e t : ℕ) (g : Stage) → StageGiven l b e g → In t (trims_of g) → IsTrim hs l t
   stage_trim l b e t (Seals ts) h i = let m = In-map (λ (x : Told). x.trim) t ts i in subst (IsTrim hs l) (sym m.2) (is_trim hs l m.0.trim (h m.0 m.1).trim)
   stage_trim l b e t (Stores g) h i = subst (IsTrim hs l) (sym (only t g.trim i)) (is_trim hs l g.trim h.0.0)
-  stage_trim l b e t (Closes y) h i = subst (IsTrim hs l) (sym (only t y.trim i)) (is_trim hs l y.trim h.0)
+  stage_trim l b e t (Closes y short) h i = subst (IsTrim hs l) (sym (only t y.trim i)) (is_trim hs l y.trim h.0)
 
   recovery_trim : (q : List ℕ × Sequencer) (v : Recovery) (t : ℕ) → In q w.state.sequencers → q.1.recovery ≡ Some v → In t (trims_of v.stage) → IsTrim hs q.1.log t
   recovery_trim q v t i r j = let k = (B.1.sequencers q.0 q.1 (found w.state.sequencers q B.0.0.0.0 i)).recovery in
@@ -69,7 +70,7 @@ module _ (c : Config) (hs : List Happened) (w : World) (B : BaseGiven c hs w) wh
 
   -- a digest that a plan was made from has its trims of pages
   plan_trim : Along c hs w → (m : Made) (d : Told) → In m w.made → In d m.digest → IsTrim hs m.log d.trim
-  plan_trim R m d i j = elim ((R.plans m.log m.epoch m.ballot m.digest i).digest.told d j).trimmed [
+  plan_trim R m d i j = elim ((R.plans m.log m.epoch m.ballot (basis_of m) i).digest.told d j).trimmed [
     | inl z ↦ inl z
     | inr z ↦ told_trim m.log d.trim (whos.Node d.node) (bodies.DigestPage z.from z.upto d.trim z.lng z.entries) (B.1.sent _ z.page) (inl refl)
   ]

@@ -18,12 +18,12 @@ use Rattle.ld_msg.specs.Reader.{Reader, on_answer}
 use Rattle.ld_machine.specs.State.{State, node_at, with_node, with_register}
 use Rattle.ld_machine.specs.World.{In}
 use Rattle.ld_machine.specs.Step as Step
-use Rattle.ld_safety.proofs.Events.{Cases, Reading, refreshed, loaded, is_quiet}
+use Rattle.ld_safety.proofs.Events.{Cases, Delivers, Reading, refreshed, loaded, is_quiet}
 use Rattle.ld_safety.proofs.Lines.{Group, OfNodes, OfNumbers, OfActs, OfTrims, OfSets, OfItems, AllOf, none_of, one_of, kept_of, format_of, acted_of, quiet_of}
 
 module _ (c : Config) (s : State) (e : Event) (P : List Line → Type 0)
     (other : (g : Group) (ls : List Line) → (g ≡ OfItems → ⊥) → AllOf g ls → P ls)
-    (reads : (f : List ℕ) (name : List ℕ) (d : Reader) (m : Msg) → In m s.network.sent → m.to ≡ whos.Reader d.number → Reading s name d → P (Step.item_lines name (on_answer (looks_at c s.register d.log) d (Step.sender_node m.from) m.body).reader.until (on_answer (looks_at c s.register d.log) d (Step.sender_node m.from) m.body).items)) where
+    (reads : (f : List ℕ) (name : List ℕ) (d : Reader) (m : Msg) → In m s.network.sent → m.to ≡ whos.Reader d.number → Reading s name d → Delivers s e m → P (Step.item_lines name (on_answer (looks_at c s.register d.log) d (Step.sender_node m.from) m.body).reader.until (on_answer (looks_at c s.register d.log) d (Step.sender_node m.from) m.body).items)) where
   none : P []
   none = other OfNodes [] (λ h. cc) (none_of OfNodes)
 
@@ -61,13 +61,13 @@ module _ (c : Config) (s : State) (e : Event) (P : List Line → Type 0)
     sets = λ l r x set h. other OfSets (lines.Set l r x set ∷ []) (λ h. cc) (one_of (lines.Set l r x set));
     arms = λ k done o. none;
     hears = λ f name q m i t l v o. acts _ (acted_of name q (called (looks_at c s.register q.log) s.register (on_reply (looks_at c s.register q.log) q (Step.sender_node m.from) m.body) (on_reply (looks_at c s.register q.log) q (Step.sender_node m.from) m.body).tries).acts);
-    retries = λ name q v o. acts _ (acted_of name q (called (looks_at c s.register q.log) s.register (on_retry q) (on_retry q).tries).acts);
+    retries = λ name q v o. acts _ (acted_of name q (called (looks_at c s.register q.log) s.register (on_retry (looks_at c s.register q.log) q) (on_retry (looks_at c s.register q.log) q).tries).acts);
     appends = λ name q p v a i. other OfNumbers (lines.Appended name _ ∷ []) (λ h. cc) (one_of (lines.Appended name _));
     trims = λ name q t v b. other OfTrims (lines.Trimmed name t ∷ []) (λ h. cc) (one_of (lines.Trimmed name t));
     drops = λ name q v o. none;
     activates = λ name l r g n i x. other OfNumbers (lines.Active name _ ∷ []) (λ h. cc) (one_of (lines.Active name _));
     activate_fails = λ name l x g q. quiet_one x q;
-    answers = λ f name d m i t v o. reads f name d m i t v;
+    answers = λ f name d m i t v o. reads f name d m i t v o.1;
     polls = λ name d v o. none;
     opens = λ name l from until o x. none;
   }

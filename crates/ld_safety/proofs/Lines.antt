@@ -6,7 +6,7 @@ use Rattle.ld_ids.specs.declared.set.Spec.{Spec}
 use Rattle.ld_config.specs.declared.config.Config.{Config}
 use Rattle.ld_msg.specs.Register.{Register}
 use Rattle.ld_msg.specs.Sequencer.{Sequencer, Acts, rose}
-use Rattle.ld_msg.specs.Reading.{Item, TrimTo, RecordHere, HoleHere, BridgeTo, LossHere}
+use Rattle.ld_msg.specs.Reading.{Item, TrimTo, RecordHere, HoleHere, BridgeTo, LossHere, LossTo}
 use Rattle.ld_machine.specs.Disk.{Kept, Written, DiskFailed, Crashed, JournalFull}
 use Rattle.ld_machine.specs.State.{Done, finish}
 use Rattle.ld_machine.specs.Step as Step
@@ -91,6 +91,7 @@ item_of r s until (RecordHere p) = refl
 item_of r s until HoleHere = refl
 item_of r s until (BridgeTo last) = refl
 item_of r s until LossHere = refl
+item_of r s until (LossTo last) = refl
 
 pub items_of : (r : List ℕ) (until : ℕ) (is : List (ℕ × Item)) → AllOf OfItems (Step.item_lines r until is)
 items_of r until [] x i = absurd i

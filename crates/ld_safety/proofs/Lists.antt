@@ -1,5 +1,5 @@
 -- Lists, counts and cases of tests.
-use Rattle.std.proofs.Common.{◌≡◌, ◌∙◌, ◌⊎◌, ◌||◌, ◌&&◌, ℕ, zero, suc, max, ◌+◌, ◌<◌, ◌≤◌, inl, inr, refl, ap, sym, subst, Bool, true, false, cond, List, [], ◌∷◌, ◌++◌, map, length, Option, Some, None, filter_map, arith, slice_get}
+use Rattle.std.proofs.Common.{◌≡◌, ◌∙◌, ◌⊎◌, ◌||◌, ◌&&◌, ℕ, zero, suc, max, ◌+◌, ◌<◌, ◌≤◌, inl, inr, refl, ap, sym, subst, Bool, true, false, cond, List, [], ◌∷◌, ◌++◌, map, length, Option, Some, None, is_some, filter_map, arith, slice_get}
 use Rattle.std.proofs.lemmas.List.Elements.{filter_map-append}
 use Rattle.std.proofs.lemmas.Bool.{cases_Bool, cases_lt, or_left, or_right, or_from}
 use Rattle.ld_table.specs.Words.{how_many, any_of, all_of, first, or_else}
@@ -64,6 +64,10 @@ Some_inj h = cc
 
 pub not_none : {X : Type 0} {x : X} → None ≡ Some x → ⊥
 not_none h = cc
+
+pub of_some : {X : Type 0} (o : Option X) → is_some o ≡ true → (x : X) × (o ≡ Some x)
+of_some None h = absurd cc
+of_some (Some x) h = (x, refl)
 
 pub not_both : (b : Bool) → b ≡ true → b ≡ false → ⊥
 not_both b p q = cc

@@ -1,5 +1,5 @@
 -- An epoch that is closed at the register has an active line of its log with at least this epoch.
-use Rattle.std.proofs.Common.{◌≡◌, ◌∙◌, ◌≤◌, ◌<◌, ℕ, inl, inr, ap, sym, subst, true, ◌==◌, List, ◌++◌, Some, arith}
+use Rattle.std.proofs.Common.{Bool, ◌≡◌, ◌∙◌, ◌≤◌, ◌<◌, ℕ, inl, inr, ap, sym, subst, true, ◌==◌, List, ◌++◌, Some, arith}
 use Rattle.std.specs.Option.{unwrap_or}
 use Rattle.std.proofs.lemmas.Bool.{and_parts, and_from, leb-true, le-leb}
 use Rattle.ld_table.specs.Table.{find}
@@ -19,7 +19,7 @@ use Rattle.ld_msg.specs.Sequencer.{Sequencer, Acts, Recovery}
 use Rattle.ld_machine.specs.Facts.{Happened, active_line, activates_log, has_epoch}
 use Rattle.ld_safety.proofs.Lists.{any_in, any_from, In_left}
 use Rattle.ld_safety.proofs.RegisterSteps.{Same, activate_leaves, close_leaves, draw_leaves, epochs_put, epochs_same}
-use Rattle.ld_safety.proofs.SequencerSteps.{Closing, Acting, Retrying}
+use Rattle.ld_safety.proofs.SequencerSteps.{Closing, Acting, Retrying, stored_epoch}
 use Rattle.ld_safety.proofs.LostRounds.{found_in}
 
 -- ---- words on lines ----
@@ -54,10 +54,10 @@ module _ (c : Config) (hs : List Happened) where
     | inr p ↦ h k e y (ap (λ (z : Epochs). find e z.summaries) (sym (epochs_same (with_epochs r l x) n k s ∙ p.1)) ∙ f)
   ]
 
-  close_closed : (r : Register) (l e : ℕ) (y : Summary) → has_epoch l e hs ≡ true → ClosedActive r → ClosedActive (close r l e y).register
-  close_closed r l e y t h = elim (close_leaves r l e y) [
-    | inl s ↦ same_closed r (close r l e y).register s h
-    | inr s ↦ put_closed r (close r l e y).register l (closed_epochs (epochs_of r l) e y) (λ k z f. elim (put_cases k e y (epochs_of r l).summaries) [
+  close_closed : (r : Register) (l e : ℕ) (y : Summary) (b : Bool) → has_epoch l e hs ≡ true → ClosedActive r → ClosedActive (close r l e y b).register
+  close_closed r l e y b t h = elim (close_leaves r l e y b) [
+    | inl s ↦ same_closed r (close r l e y b).register s h
+    | inr s ↦ put_closed r (close r l e y b).register l (closed_epochs (epochs_of r l) e y) (λ k z f. elim (put_cases k e y (epochs_of r l).summaries) [
       | inl a ↦ subst (λ j. has_epoch l j hs ≡ true) (sym a.0) t
       | inr a ↦ h l k z (sym a.1 ∙ f)
     ]) s.1 h
@@ -72,11 +72,12 @@ module _ (c : Config) (hs : List Happened) where
   pub draw_closed : (r : Register) (n : ℕ) → ClosedActive r → ClosedActive (draw r n).register
   draw_closed r n h = elim (draw_leaves r n) [ inl s ↦ logs_closed r (draw r n).register s.0 h | inr s ↦ logs_closed r (draw r n).register s.0 h ]
 
-  close_called : (r : Register) (looks : ℕ → View) (a : Acts) (e : ℕ) (y : Summary) → has_epoch a.sequencer.log e hs ≡ true → ClosedActive r → Closing r looks a e y (λ k. ClosedActive k.register)
-  close_called r looks a e y t h = let z = close_closed r a.sequencer.log e y t h in record {
-    granted = λ n i j. subst (λ (d : Changed). ClosedActive d.register) j z;
-    overtaken = λ i. h;
+  close_called : (r : Register) (looks : ℕ → View) (a : Acts) (e : ℕ) (y : Summary) (short : Bool) → has_epoch a.sequencer.log e hs ≡ true → ClosedActive r → Closing r looks a e y short (λ k. ClosedActive k.register)
+  close_called r looks a e y short t h = let z = close_closed r a.sequencer.log e y short t h in record {
+    granted = λ n i o j. subst (λ (d : Changed). ClosedActive d.register) j z;
+    passed = λ i. h;
     behind = λ b i. h;
+    overtaken = λ i o. h;
     failed = λ n j. subst (λ (d : Changed). ClosedActive d.register) j z;
   }
 
@@ -84,23 +85,35 @@ module _ (c : Config) (hs : List Happened) where
     lower : (v : Recovery) → q.recovery ≡ Some v → has_epoch q.log v.epoch hs ≡ true
     lower v e = epoch_lower q.log v.epoch q.epoch hs (let z = B v e in omega arith) A
 
-    pub acting_closed : (y : ℕ) (b : Body) → Acting c r q y b (λ k m. ClosedActive k.register)
-    acting_closed y b = record {
+    pub acting_closed : (gone : Recovery → List ℕ) (y : ℕ) (b : Body) → Acting c r gone q y b (λ k m. ClosedActive k.register)
+    acting_closed gone y b = record {
       quiet = h;
       sealed = λ n k f i l. h;
       cleaned_own = λ n s f i g. h;
       acks = λ n p f i g k m. h;
-      settles_some = λ v g p f e i s m u. h;
-      settles_all = λ v g p f e i s m u. close_called r _ _ v.epoch _ (lower v e) h;
       lost_own = λ n round g end f i k. h;
-      lost_there = λ v n round g end f e i k. h;
       cleaned = λ v n s f e i k. h;
-      asks_more = λ v d from upto trim lng es f e i g k t u. h;
-      plans = λ v d from upto trim lng es f e i g k t u. h;
+      asks_more = λ w d asks f H g n u. h;
+      plans = λ w d loss f H p. h;
+      looks_closed = λ w d s f H u o. h;
+      looks_later = λ w d f H u o n. h;
+      stores_on = λ w g f H t. h;
+      closes_now = λ w g f H t. close_called r _ _ w.epoch _ _ (stored_epoch q y b w g (λ k. has_epoch q.log k hs ≡ true) lower H) h;
+      lost_closing = λ v s short n round g end f e i j k. h;
     }
 
-    pub retrying_closed : Retrying c r q (λ k. ClosedActive k.register)
-    retrying_closed = record { quiet = h; appends = λ f. h; seals = λ v d f e i. h; stores = λ v g f e i. h; closes = λ v y f e i. close_called r _ _ v.epoch y (lower v e) h }
+    pub retrying_closed : (gone : Recovery → List ℕ) → Retrying c r gone q (λ k m. ClosedActive k.register)
+    retrying_closed gone = record {
+      quiet = h;
+      appends = λ f. h;
+      seals = λ v d f e i u. h;
+      plans = λ v d f e i p. h;
+      looks_closed = λ v d s f e i u o. h;
+      looks_later = λ v d f e i u o n. h;
+      stores_on = λ v g f e i t. h;
+      closes_now = λ v g f e i t. close_called r _ _ v.epoch _ _ (lower v e) h;
+      closes = λ v y short f e i. close_called r _ _ v.epoch y short (lower v e) h;
+    }
 
   pub put_active : (name : List ℕ) (q : Sequencer) (qs : List (List ℕ × Sequencer)) → has_epoch q.log q.epoch hs ≡ true → AllActive qs → AllActive (put_named name q qs)
   put_active name q qs a h t z f = elim (found_in t name q z qs f) [ inl p ↦ subst (λ (y : Sequencer). has_epoch y.log y.epoch hs ≡ true) p.1 a | inr p ↦ h t z p.1 ]

@@ -25,7 +25,7 @@ use Rattle.ld_safety.proofs.Lists.{not_none, any_from, In_right}
 use Rattle.ld_safety.proofs.Traces.{Keeps, happened, beside_kept}
 use Rattle.ld_safety.proofs.Steps.{told, finish_In}
 use Rattle.ld_safety.proofs.Events.{Cases, dispatch, refreshed, Live}
-use Rattle.ld_safety.proofs.SequencerSteps.{replied, retried}
+use Rattle.ld_safety.proofs.SequencerSteps.{gone_of, replied, retried}
 use Rattle.ld_safety.proofs.Appends.{Continues}
 use Rattle.ld_safety.proofs.Continues.{reply_continues, retry_continues}
 use Rattle.ld_safety.proofs.Base.{Base, counts_of}
@@ -69,14 +69,14 @@ module _ (c : Config) (hs : List Happened) (w : World) (e : Event) (B : Base c h
 
   hears : (f : List ℕ) (name : List ℕ) (q : Sequencer) (m : Msg) → Live w.state name q → Result (Step.acted c (refreshed w.state f) name q (on_reply (looks_at c w.state.register q.log) q (Step.sender_node m.from) m.body))
   hears f name q m v = let d = Step.acted c (refreshed w.state f) name q (on_reply (looks_at c w.state.register q.log) q (Step.sender_node m.from) m.body) in let next = hs ++ told w.state.register e d ∷ [] in (
-    replied c w.state.register name q v.there (Step.sender_node m.from) m.body (λ k n. ClosedActive c next k.register) (acting_closed c next w.state.register (closed d) q (active d name q v.named) (recovers_below c hs w.state G name q v.named) (Step.sender_node m.from) m.body),
-    goes d name q _ v.named (reply_continues c w.state.register q (counts_of c hs w B name q v.named).row name (Step.sender_node m.from) m.body v.there),
+    replied c w.state name q v.there (Step.sender_node m.from) m.body (λ k n. ClosedActive c next k.register) (acting_closed c next w.state.register (closed d) q (active d name q v.named) (recovers_below c hs w.state G name q v.named) (gone_of w.state q) (Step.sender_node m.from) m.body),
+    goes d name q _ v.named (reply_continues c w.state q (counts_of c hs w B name q v.named).row name (Step.sender_node m.from) m.body v.there),
   )
 
-  retries : (name : List ℕ) (q : Sequencer) → Live w.state name q → Result (Step.acted c w.state name q (on_retry q))
-  retries name q v = let d = Step.acted c w.state name q (on_retry q) in let next = hs ++ told w.state.register e d ∷ [] in (
-    retried c w.state.register q (λ k. ClosedActive c next k.register) (retrying_closed c next w.state.register (closed d) q (active d name q v.named) (recovers_below c hs w.state G name q v.named)),
-    goes d name q _ v.named (retry_continues c w.state.register q (counts_of c hs w B name q v.named).row),
+  retries : (name : List ℕ) (q : Sequencer) → Live w.state name q → Result (Step.acted c w.state name q (on_retry (looks_at c w.state.register q.log) q))
+  retries name q v = let d = Step.acted c w.state name q (on_retry (looks_at c w.state.register q.log) q) in let next = hs ++ told w.state.register e d ∷ [] in (
+    retried c w.state q v.there (λ k n. ClosedActive c next k.register) (retrying_closed c next w.state.register (closed d) q (active d name q v.named) (recovers_below c hs w.state G name q v.named) (gone_of w.state q)),
+    goes d name q _ v.named (retry_continues c w.state q (counts_of c hs w B name q v.named).row v.there),
   )
 
   -- an active line

@@ -1,5 +1,5 @@
 -- Along a run each log of a node that isn't lost has the numbers of the clean epochs that were lost.
-use Rattle.std.proofs.Common.{◌≡◌, ◌∙◌, ◌≤◌, ◌<◌, ℕ, zero, suc, ◌+◌, inl, inr, refl, sym, subst, Bool, true, false, ◌==◌, nat_lt, cond, if◌then◌else◌, List, [], ◌∷◌, Option, Some, None, arith}
+use Rattle.std.proofs.Common.{◌≡◌, ◌∙◌, ◌≤◌, ◌<◌, ℕ, zero, suc, ◌+◌, inl, inr, refl, sym, ap, subst, Bool, true, false, ◌==◌, nat_lt, cond, if◌then◌else◌, List, [], ◌∷◌, filter, Option, Some, None, is_some, arith}
 use Rattle.std.specs.Option.{unwrap_or}
 use Rattle.std.specs.Ordering.{nat_cmp}
 use Rattle.std.specs.BTreeMap.{is_at}
@@ -15,25 +15,26 @@ use Rattle.ld_msg.specs.declared.msg.Body.{Body}
 use Rattle.ld_msg.specs.declared.msg.Body.TheVariants as bodies
 use Rattle.ld_op.specs.declared.op.Op.{Op}
 use Rattle.ld_op.specs.declared.op.Op.TheVariants as ops
-use Rattle.ld_op.specs.Plain.{Plain, Log, log_of, empty_log, summary_at, apply, with_log, lost_log, lost_logs}
+use Rattle.ld_op.specs.Plain.{Plain, Log, log_of, empty_log, epoch_zero, summary_at, apply, with_log, lost_log, lost_logs}
 use Rattle.ld_op.specs.Answers.{Decision, Lost, CleanAlready, Trimmed, Sealed, Same, Take, store_decision, digest_decision, taken, on_store, on_digest_ask, on_clean, clean_op, on_trim}
 use Rattle.ld_op.specs.Handles.{handled_by}
-use Rattle.ld_op.specs.Ticks.{Ticked, Cleans, Rebuilt, Asks, Nothing, on_tick, tick_with, lost_tick, refill_tick, lowest_unclean, gap_from, missing, on_page, page_op, refill_op, lacking}
+use Rattle.ld_op.specs.Ticks.{Ticked, Cleans, Rebuilt, Asks, Nothing, on_tick, tick_with, lost_tick, refill_tick, lowest_unclean, gap_from, missing, is_missing, on_page, page_op, refill_op, as_closed, lacking}
 use Rattle.ld_msg.specs.Register.{epochs_of, epochs_in, generation_of}
 use Rattle.ld_machine.specs.Disk.{Node, new_node, keep_op, load}
 use Rattle.ld_machine.specs.State.{State, new_nodes, finish, node_at}
 use Rattle.ld_machine.specs.World.{World, MayHold}
 use Rattle.ld_machine.specs.Run.{next_world}
 use Rattle.ld_machine.specs.Step as Step
-use Rattle.ld_safety.proofs.Lists.{Some_inj, not_none, cond_both}
+use Rattle.ld_safety.proofs.Lists.{Some_inj, not_none, cond_both, In-map}
 use Rattle.ld_safety.proofs.Traces.{Keeps, beside_kept}
 use Rattle.ld_safety.proofs.Base.{Base, base_kept}
 use Rattle.ld_safety.proofs.Events.{NamesOnce, dispatch}
-use Rattle.ld_safety.proofs.NodeSteps.{Served, store_decided}
+use Rattle.ld_safety.proofs.NodeSteps.{Served, store_decided, missing_clean}
+use Rattle.ld_safety.proofs.Members.{In_filter}
 use Rattle.ld_safety.proofs.NodeCases.{NodeKeeps, node_cases}
 use Rattle.ld_safety.proofs.LostNodes.{kept_from, loaded_from, released_from}
 use Rattle.ld_safety.proofs.LostUnserved.{FullClean, rebuilt_full}
-use Rattle.ld_safety.proofs.LostFull.{FullLog, full_empty, full_lost, full_accept, full_seal, full_trim, full_clean, full_refill, full_refilled, unclean_none}
+use Rattle.ld_safety.proofs.LostFull.{FullLog, full_empty, full_lost, full_accept, full_seal, full_trim, full_clean, OfClean, full_refill, full_refilled, unclean_none}
 
 -- ---- what an op needs ----
 abbrev pub OpFits : Plain → Op → Type 0
@@ -42,7 +43,7 @@ OpFits p (ops.Accept l lng e) = Served (log_of p l) (epoch_of e.number)
 OpFits p (ops.Seal l b) = Unit {0}
 OpFits p (ops.Clean l epoch y) = (0 < epoch) × (summary_at (log_of p l) epoch ≡ None)
 OpFits p (ops.Trim l t) = Unit {0}
-OpFits p (ops.Refill l es) = Unit {0}
+OpFits p (ops.Refill l es) = OfClean (log_of p l) es
 OpFits p (ops.Refilled l) = FullClean (log_of p l) × (missing (log_of p l) ≡ [])
 
 abbrev pub FullPlain : Plain → Type 0
@@ -69,7 +70,7 @@ op_full p (ops.Accept l lng e) h F = with_full p l _ F (full_accept (log_of p l)
 op_full p (ops.Seal l b) h F = with_full p l _ F (full_seal (log_of p l) b (F l))
 op_full p (ops.Clean l epoch y) h F = with_full p l _ F (full_clean (log_of p l) epoch y h.0 h.1 (F l))
 op_full p (ops.Trim l t) h F = with_full p l _ F (full_trim (log_of p l) t (F l))
-op_full p (ops.Refill l es) h F = with_full p l _ F (full_refill (log_of p l) es (F l))
+op_full p (ops.Refill l es) h F = with_full p l _ F (full_refill (log_of p l) es h (F l))
 op_full p (ops.Refilled l) h F = with_full p l _ F (full_refilled (log_of p l) h.0 h.1 (F l))
 
 -- ---- ops of messages ----
@@ -92,22 +93,32 @@ clean_fits p l e y None q h k = subst (OpFits p) (Some_inj k) (positive e h, h) 
   positive (suc n) z = omega arith
 clean_fits p l e y (Some z) q h k = absurd cc
 
-refill_fits : (p : Plain) (l : ℕ) (es : List Entry) (q : Op) → refill_op l es ≡ Some q → OpFits p q
-refill_fits p l [] q h = absurd cc
-refill_fits p l (e ∷ es) q h = subst (OpFits p) (Some_inj h) tt
+-- what is lacking is of clean epochs
+lacking_clean : (g : Log) (es : List Entry) → OfClean g (lacking g es)
+unfolding summary_at
+lacking_clean g es e i =
+    let m = In-map (as_closed g) e (filter (λ x. is_missing g x.number) es) i in
+    let f = In_filter (λ (x : Entry). is_missing g x.number) m.0 es m.1 in
+    let c = missing_clean g m.0.number f.1 in
+    subst (λ k. is_some (if epoch_of k == 0 then Some epoch_zero else find (epoch_of k) g.summaries) ≡ true) (sym (ap (λ (x : Entry). x.number) m.2))
+    (cond_both (epoch_of m.0.number == 0) (Some epoch_zero) (find (epoch_of m.0.number) g.summaries) (λ o. is_some o ≡ true) (λ t. refl) (λ t. ap is_some c.1))
+
+refill_fits : (p : Plain) (l : ℕ) (es : List Entry) (q : Op) → OfClean (log_of p l) es → refill_op l es ≡ Some q → OpFits p q
+refill_fits p l [] q c h = absurd cc
+refill_fits p l (e ∷ es) q c h = subst (OpFits p) (Some_inj h) c
 
 if_fits : (p : Plain) (b : Bool) (o : Option Op) (q : Op) → (o ≡ Some q → OpFits p q) → (if b then o else None) ≡ Some q → OpFits p q
 if_fits p true o q h k = h k
 if_fits p false o q h k = absurd cc
 
-page_fits : (p : Plain) (g : Log) (l : ℕ) (b : Body) (q : Op) → page_op g l b ≡ Some q → OpFits p q
-page_fits p g l (bodies.ReadPage round from upto clean es) q h = if_fits p clean (refill_op l (lacking g es)) q (refill_fits p l (lacking g es) q) h
-page_fits p g l (bodies.ReadTrim round from t) q h = if_fits p (nat_lt g.trim t) (Some (ops.Trim l t)) q (λ e. subst (OpFits p) (Some_inj e) tt) h
-page_fits p g l _ q h = absurd cc
+page_fits : (p : Plain) (l : ℕ) (b : Body) (q : Op) → page_op (log_of p l) l b ≡ Some q → OpFits p q
+page_fits p l (bodies.ReadPage round from upto clean es) q h = if_fits p clean (refill_op l (lacking (log_of p l) es)) q (refill_fits p l (lacking (log_of p l) es) q (lacking_clean (log_of p l) es)) h
+page_fits p l (bodies.ReadTrim round from t) q h = if_fits p (nat_lt (log_of p l).trim t) (Some (ops.Trim l t)) q (λ e. subst (OpFits p) (Some_inj e) tt) h
+page_fits p l _ q h = absurd cc
 
 on_page_fits : (p : Plain) (l : ℕ) (b : Body) (q : Op) → (on_page (log_of p l) l b).op ≡ Some q → OpFits p q
 unfolding on_page
-on_page_fits p l b q h = if_fits p (log_of p l).lost (page_op (log_of p l) l b) q (page_fits p (log_of p l) l b q) h
+on_page_fits p l b q h = if_fits p (log_of p l).lost (page_op (log_of p l) l b) q (page_fits p l b q) h
 
 handled_fits : (p : Plain) (generation l ballot released : ℕ) (b : Body) (q : Op) → (handled_by generation (log_of p l) l ballot released b).op ≡ Some q → OpFits p q
 unfolding on_store on_digest_ask on_clean on_trim
@@ -151,7 +162,7 @@ FullNode x = (p : Plain) → MayHold x p → FullPlain p
 kept_full : (x : Node) (o : Op) → OpFits x.plain o → FullNode x → FullNode (keep_op x o)
 kept_full x o f h p q = elim (kept_from x o p q).from [ inl a ↦ h p a | inr a ↦ subst FullPlain (sym a) (op_full x.plain o f (h x.plain (inl refl))) ]
 
-blank_full : FullNode new_node
+pub blank_full : FullNode new_node
 unfolding find
 blank_full p (inl q) = subst FullPlain (sym q) (λ l. full_empty)
 blank_full p (inr q) = absurd (not_none q.1)
@@ -160,7 +171,7 @@ same_plain : (x : Node) (k : ℕ) (b : Body) → (Step.releases x k b).plain ≡
 same_plain x k (bodies.Release y) = refl
 same_plain x k _ = refl
 
-full_keeps : (c : Config) (s : State) (v : Event) → ((y : ℕ) → FullNode (node_at s y)) → NodeKeeps c s v (λ y x. FullNode x)
+pub full_keeps : (c : Config) (s : State) (v : Event) → ((y : ℕ) → FullNode (node_at s y)) → NodeKeeps c s v (λ y x. FullNode x)
 full_keeps c s v F = record {
   all = F;
   hears = λ n m i t u p q. F n p (released_from (node_at s n) m.log m.body p q);

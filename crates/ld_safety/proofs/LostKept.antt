@@ -44,7 +44,7 @@ fine_step : (c : Config) (w : World) (e : Event) → NamesOnce w.state → LogsF
 unfolding finish
 fine_step c w e N h = let r = w.state.register in register_kept c w.state e (λ n. LogsFine c n) h
     (λ l g. let p = Step.spec_set c w.state l in elim (activate_leaves r l p) [ inl a ↦ same_fine c r (activate r l p).register a.0 h | inr a ↦ put_fine c r (activate r l p).register l (next_epoch (epochs_of r l) p) (λ z. g) a.1 h ])
-    (λ l k y. elim (close_leaves r l k y) [ inl a ↦ same_fine c r (close r l k y).register a.0 h | inr a ↦ put_fine c r (close r l k y).register l (closed_epochs (epochs_of r l) k y) (h.1 l) a.1 h ])
+    (λ l k y b. elim (close_leaves r l k y b) [ inl a ↦ same_fine c r (close r l k y b).register a.0 h | inr a ↦ put_fine c r (close r l k y b).register l (closed_epochs (epochs_of r l) k y) (h.1 l) a.1 h ])
     (λ n. elim (draw_leaves r n) [ inl a ↦ same_fine c r (draw r n).register a.0 h | inr a ↦ same_fine c r (draw r n).register a.0 h ])
     (λ n q. same_fine c r n q h) N
 

@@ -1,5 +1,6 @@
--- A line that calls a number lost comes of a confirmation that each asked node answered: each was lost when the asks were sent.
-use Rattle.std.proofs.Common.{◌≡◌, ◌∙◌, ℕ, inl, inr, refl, ap, sym, subst, true, cond, List, [], ◌∷◌, Option, Some, None}
+-- A line that calls numbers lost comes of a confirmation that each asked node answered, and each was lost when the asks were sent; or of a plug or an end that a node told.
+use Rattle.std.proofs.Common.{◌≡◌, ◌∙◌, ◌⊎◌, ◌≤◌, ℕ, inl, inr, refl, ap, sym, subst, true, nat_lt, cond, arith, List, [], ◌∷◌, Option, Some, None}
+use Rattle.std.proofs.lemmas.Bool.{ltb-true}
 use Rattle.ld_table.specs.Named.{find_named}
 use Rattle.ld_table.specs.Words.{is_in}
 use Rattle.ld_config.specs.declared.config.Config.{Config}
@@ -11,68 +12,109 @@ use Rattle.ld_msg.specs.declared.msg.Msg.{Msg}
 use Rattle.ld_msg.specs.declared.msg.Who.TheVariants as whos
 use Rattle.ld_msg.specs.declared.msg.Body.{Body}
 use Rattle.ld_msg.specs.declared.msg.Body.TheVariants as bodies
-use Rattle.ld_msg.specs.Reading.{Held, Item, TrimTo, RecordHere, HoleHere, BridgeTo, LossHere, lost_held, lost_generation, is_lost_for, within}
+use Rattle.ld_msg.specs.Reading.{Held, Item, TrimTo, RecordHere, HoleHere, BridgeTo, LossHere, LossTo, bridge_to, lost_held, lost_generation, is_lost_for, within}
 use Rattle.ld_msg.specs.Reader.{Reader, Confirmation, heard, is_confirmed, on_answer}
 use Rattle.ld_machine.specs.Config.{looks_at}
 use Rattle.ld_machine.specs.State.{State}
 use Rattle.ld_machine.specs.World.{World, In}
 use Rattle.ld_safety.proofs.Members.{filter_in, in_set}
 use Rattle.ld_machine.specs.Step as Step
-use Rattle.ld_safety.proofs.Lists.{Some_inj, In_left, In_right, all_in}
-use Rattle.ld_safety.proofs.Events.{NamesOnce, Reading, dispatch, is_quiet}
+use Rattle.ld_safety.proofs.Lists.{Some_inj, In_left, In_right, all_in, cond_both}
+use Rattle.ld_safety.proofs.Events.{NamesOnce, Reading, Delivers, dispatch, is_quiet}
 use Rattle.ld_safety.proofs.ItemLines.{line_cases}
 use Rattle.ld_safety.proofs.ReaderLogs.{Apart}
-use Rattle.ld_safety.proofs.LostReads.{read_on, heard_lasts}
+use Rattle.ld_safety.proofs.LostReads.{ReadOn, PlugAt, LossyEnd, read_on, heard_lasts}
 use Rattle.ld_safety.proofs.LostAlong.{RoundsOf}
 use Rattle.ld_safety.proofs.LostSince.{Since, LostThen, again}
 
 -- ---- lines ----
-pub record LossGiven (s : State) (name : List ℕ) (low high : ℕ) : Type 0 where
+
+-- a confirmation that each node that was asked once more answered: of one number
+pub record ByConfirmation (d : Reader) (next low high : ℕ) : Type 0 where
+  pub confirmed : is_confirmed d.confirming ≡ true
+  pub first : low ≡ next
+  pub last : high ≡ next
+
+-- a plug that is held: of one number
+pub record ByPlug (d : Reader) (low high : ℕ) : Type 0 where
+  pub plug : PlugAt low d.held
+  pub last : high ≡ low
+
+-- an end that is held, past which the epoch's numbers are lost
+pub record ByEnd (d : Reader) (low high : ℕ) : Type 0 where
+  pub ended : LossyEnd low d.held
+  pub last : high ≤ bridge_to low
+
+-- a node told of a plan that says what is lost
+abbrev pub ToldLost : Reader → ℕ → ℕ → Type 0
+ToldLost d low high = ByPlug d low high ⊎ ByEnd d low high
+
+abbrev pub LossCause : Reader → ℕ → ℕ → ℕ → Type 0
+LossCause d next low high = ByConfirmation d next low high ⊎ ToldLost d low high
+
+-- a reader was given numbers as lost
+pub record LossGiven (s : State) (e : Event) (name : List ℕ) (low high : ℕ) : Type 0 where
   pub reader : Reader
   pub named : find_named name s.readers ≡ Some reader
   pub message : Msg
   pub sent : In message s.network.sent
   pub to : message.to ≡ whos.Reader reader.number
-  pub confirmed : is_confirmed (heard reader (Step.sender_node message.from) message.body).confirming ≡ true
-  pub first : low ≡ reader.next
-  pub last : high ≡ reader.next
+  pub delivers : Delivers s e message
+  pub how : LossCause (heard reader (Step.sender_node message.from) message.body) reader.next low high
 
 record LossItem (r : List ℕ) (is : List (ℕ × Item)) (name : List ℕ) (low high : ℕ) : Type 0 where
   item : ℕ × Item
   there : In item is
-  loss : item.1 ≡ LossHere
   whose : name ≡ r
   first : low ≡ item.0
-  last : high ≡ item.0
+  kind : ((item.1 ≡ LossHere) × (high ≡ item.0)) ⊎ ((last : ℕ) × (item.1 ≡ LossTo last) × (high ≤ last))
 
-one_item : (r : List ℕ) (until s : ℕ) (i : Item) (name : List ℕ) (low high : ℕ) → lines.Gap name gaps.DataLoss low high ≡ Step.item_line r s until i → (i ≡ LossHere) × (name ≡ r) × (low ≡ s) × (high ≡ s)
+record OneLoss (r : List ℕ) (s : ℕ) (i : Item) (name : List ℕ) (low high : ℕ) : Type 0 where
+  whose : name ≡ r
+  first : low ≡ s
+  kind : ((i ≡ LossHere) × (high ≡ s)) ⊎ ((last : ℕ) × (i ≡ LossTo last) × (high ≤ last))
+
+one_item : (r : List ℕ) (until s : ℕ) (i : Item) (name : List ℕ) (low high : ℕ) → lines.Gap name gaps.DataLoss low high ≡ Step.item_line r s until i → OneLoss r s i name low high
 one_item r until s (TrimTo last) name low high e = absurd cc
 one_item r until s (RecordHere p) name low high e = absurd cc
 one_item r until s HoleHere name low high e = absurd cc
 one_item r until s (BridgeTo last) name low high e = absurd cc
-one_item r until s LossHere name low high e = (refl, cc, cc, cc)
+one_item r until s LossHere name low high e = record { whose = cc; first = cc; kind = inl (refl, cc) }
+one_item r until s (LossTo last) name low high e = record {
+  whose = cc;
+  first = cc;
+  kind = inr (last, refl, let z : high ≡ cond (nat_lt until last) until last = cc in cond_both (nat_lt until last) until last (λ k. high ≡ k → high ≤ last) (λ t w. let v = ltb-true until last t in omega arith) (λ t w. omega arith) z);
+}
 
 loss_item : (r : List ℕ) (until : ℕ) (is : List (ℕ × Item)) (name : List ℕ) (low high : ℕ) → In (lines.Gap name gaps.DataLoss low high) (Step.item_lines r until is) → LossItem r is name low high
 loss_item r until [] name low high i = absurd i
-loss_item r until (j ∷ is) name low high (inl e) = let k = one_item r until j.0 j.1 name low high e in record { item = j; there = inl refl; loss = k.0; whose = k.1; first = k.2; last = k.3 }
-loss_item r until (j ∷ is) name low high (inr i) = let k = loss_item r until is name low high i in record { item = k.item; there = inr k.there; loss = k.loss; whose = k.whose; first = k.first; last = k.last }
+loss_item r until (j ∷ is) name low high (inl e) = let k = one_item r until j.0 j.1 name low high e in record { item = j; there = inl refl; whose = k.whose; first = k.first; kind = k.kind }
+loss_item r until (j ∷ is) name low high (inr i) = let k = loss_item r until is name low high i in record { item = k.item; there = inr k.there; whose = k.whose; first = k.first; kind = k.kind }
 
-abbrev LossesOf : State → List Line → Type 0
-LossesOf s ls = (name : List ℕ) (low high : ℕ) → In (lines.Gap name gaps.DataLoss low high) ls → LossGiven s name low high
+abbrev LossesOf : State → Event → List Line → Type 0
+LossesOf s e ls = (name : List ℕ) (low high : ℕ) → In (lines.Gap name gaps.DataLoss low high) ls → LossGiven s e name low high
 
-reads_losses : (c : Config) (s : State) (name : List ℕ) (d : Reader) (m : Msg) → In m s.network.sent → m.to ≡ whos.Reader d.number → Reading s name d
-    → LossesOf s (Step.item_lines name (on_answer (looks_at c s.register d.log) d (Step.sender_node m.from) m.body).reader.until (on_answer (looks_at c s.register d.log) d (Step.sender_node m.from) m.body).items)
-reads_losses c s name d m i t v r low high j =
+reads_losses : (c : Config) (s : State) (e : Event) (name : List ℕ) (d : Reader) (m : Msg) → In m s.network.sent → m.to ≡ whos.Reader d.number → Reading s name d → Delivers s e m
+    → LossesOf s e (Step.item_lines name (on_answer (looks_at c s.register d.log) d (Step.sender_node m.from) m.body).reader.until (on_answer (looks_at c s.register d.log) d (Step.sender_node m.from) m.body).items)
+reads_losses c s e name d m i t v o r low high j =
     let y = Step.sender_node m.from in
     let G = read_on (looks_at c s.register d.log) d y m.body v.open_still in
     let k = loss_item name _ _ r low high j in
-    let z = G.losses k.item k.there k.loss in
-    record { reader = d; named = subst (λ (u : List ℕ). find_named u s.readers ≡ Some d) (sym k.whose) v.named; message = m; sent = i; to = t; confirmed = z.1; first = k.first ∙ z.0; last = k.last ∙ z.0 }
+    record { reader = d; named = subst (λ (u : List ℕ). find_named u s.readers ≡ Some d) (sym k.whose) v.named; message = m; sent = i; to = t; delivers = o; how = by_kind G k } where
+      by_kind : ReadOn (looks_at c s.register d.log) d (Step.sender_node m.from) m.body (on_answer (looks_at c s.register d.log) d (Step.sender_node m.from) m.body) → LossItem name (on_answer (looks_at c s.register d.log) d (Step.sender_node m.from) m.body).items r low high → LossCause (heard d (Step.sender_node m.from) m.body) d.next low high
+      by_kind G k = elim k.kind [
+        | inl a ↦ elim (G.losses k.item k.there a.0) [
+          | inl z ↦ inl (record { confirmed = z.1; first = k.first ∙ z.0; last = a.1 ∙ z.0 })
+          | inr z ↦ inr (inl (record { plug = subst (λ n. PlugAt n (heard d (Step.sender_node m.from) m.body).held) (sym k.first) z; last = a.1 ∙ sym k.first }))
+        ]
+        | inr a ↦ let z = G.ends k.item a.0 k.there a.1 in let q = z.0 in let h = a.2 in
+            inr (inr (record { ended = subst (λ n. LossyEnd n (heard d (Step.sender_node m.from) m.body).held) (sym k.first) z.1; last = subst (λ n. high ≤ bridge_to n) (sym k.first) (omega arith) }))
+      ]
 
-pub losses_given : (c : Config) (s : State) (e : Event) → NamesOnce s → LossesOf s (Step.happens c s e).lines
-losses_given c s e N = dispatch c s e (λ d m. LossesOf s d.lines) N (line_cases c s e (LossesOf s)
+pub losses_given : (c : Config) (s : State) (e : Event) → NamesOnce s → LossesOf s e (Step.happens c s e).lines
+losses_given c s e N = dispatch c s e (λ d m. LossesOf s e d.lines) N (line_cases c s e (LossesOf s e)
     (λ g ls n a name low high i. absurd (n (sym (a _ i))))
-    (λ f name d m i t v. reads_losses c s name d m i t v)
+    (λ f name d m i t v o. reads_losses c s e name d m i t v o)
     (λ ls q name low high i. absurd (no_quiet name low high (q _ i)))) where
       no_quiet : (name : List ℕ) (low high : ℕ) → is_quiet (lines.Gap name gaps.DataLoss low high) ≡ true → ⊥
       no_quiet name low high h = cc

@@ -1,4 +1,4 @@
--- Each line that calls a number lost had a moment: the end of the step that sent the confirming asks. Each node of the number's epoch was lost then, or the reader held a clean page of it that lacks the number.
+-- Each line that calls a number lost after a confirmation had a moment: the end of the step that sent the confirming asks. Each node of the number's epoch was lost then, or the reader held a clean page of it that lacks the number.
 use Rattle.std.proofs.Common.{◌≡◌, ◌∙◌, ◌⊎◌, ◌≤◌, ◌<◌, ℕ, ◌+◌, inl, inr, refl, ap, sym, subst, true, List, [], ◌∷◌, ◌++◌, length, Option, Some, None, append_assoc, append-nil, length-append, arith}
 use Rattle.std.proofs.lemmas.Bool.{and_parts, or_cases}
 use Rattle.ld_table.specs.Table.{find}
@@ -11,6 +11,8 @@ use Rattle.ld_transcript.specs.declared.line.Line.TheVariants as lines
 use Rattle.ld_transcript.specs.declared.line.GapKind.TheVariants as gaps
 use Rattle.ld_msg.specs.Reading.{Held, is_loss, leaves_open, lacks, is_lost_for, lost_held, knows_end_above, within}
 use Rattle.ld_msg.specs.Reader.{Reader, Confirmation, heard, is_confirmed}
+use Rattle.ld_msg.specs.declared.msg.Msg.{Msg}
+use Rattle.ld_msg.specs.declared.msg.Who.TheVariants as whos
 use Rattle.ld_msg.specs.declared.msg.Body.{Body}
 use Rattle.ld_msg.specs.Register.{generation_of}
 use Rattle.ld_machine.specs.Config.{set_at}
@@ -30,7 +32,7 @@ use Rattle.ld_safety.proofs.LostRounds.{AtMost, answer_to}
 use Rattle.ld_safety.proofs.LostAlong.{Asked, asked_kept}
 use Rattle.ld_safety.proofs.LostSince.{Since, since_step}
 use Rattle.ld_safety.proofs.LostBegins.{StillThere, NewHere, lost_in, came, new_set, since_new}
-use Rattle.ld_safety.proofs.LostLines.{LossGiven, losses_given, among_lost, confirmed_lost}
+use Rattle.ld_safety.proofs.LostLines.{LossGiven, ToldLost, losses_given, among_lost, confirmed_lost}
 
 -- Q is whatever else is known of each state of the run
 module _ (c : Config) (Q : List Happened → World → Type 0) where
@@ -158,10 +160,10 @@ module _ (c : Config) (Q : List Happened → World → Type 0) where
   confirmation_of d y b None q h = absurd cc
   confirmation_of d y b (Some v) q h = let o = heard_lasts d y b v q in (o.before, o.was)
 
-  module _ (hs : List Happened) (w : World) (e : Event) (M : Moments hs w) (name : List ℕ) (low high : ℕ) (g : LossGiven w.state name low high) where
+  module _ (hs : List Happened) (w : World) (e : Event) (M : Moments hs w) (name : List ℕ) (low high : ℕ) (g : LossGiven w.state e name low high) (by : is_confirmed (heard g.reader (Step.sender_node g.message.from) g.message.body).confirming ≡ true) where
     moment_of : LossMoment hs (length hs) g.reader.next g.reader
     moment_of =
-        let u = confirmation_of g.reader (Step.sender_node g.message.from) g.message.body _ refl g.confirmed in
+        let u = confirmation_of g.reader (Step.sender_node g.message.from) g.message.body _ refl by in
         let b = M.1 name g.reader u.0 g.named u.1 in
         record {
           before = b.before;
@@ -181,7 +183,7 @@ module _ (c : Config) (Q : List Happened → World → Type 0) where
           loss = b.loss;
           sent = λ h i. (b.holds.0.1.1.held b.name b.reader h b.named i, b.holds.0.1.1.waves (answer_to h.0 b.reader h.1.body) b.reader.number b.name b.reader (b.holds.0.1.1.held b.name b.reader h b.named i) (inl refl) b.named refl);
           lost = λ y h m f l. let z = among_lost g.reader.next y h (set_at c b.then.state.register g.reader.log (home_epoch g.reader.next)) b.reader.held m (find_in y b.reader.held h f) l in
-              let t = confirmed_lost c b.then w e M.0.0.0.1.1 M.0.0.1.1 name g.reader u.0 b.since g.named u.1 g.message g.sent g.to g.confirmed y z.generation (subst (λ (k : List (ℕ × ℕ)). In {X = ℕ × ℕ} (y, z.generation) k) (sym b.asked_held) z.there) in
+              let t = confirmed_lost c b.then w e M.0.0.0.1.1 M.0.0.1.1 name g.reader u.0 b.since g.named u.1 g.message g.sent g.to by y z.generation (subst (λ (k : List (ℕ × ℕ)). In {X = ℕ × ℕ} (y, z.generation) k) (sym b.asked_held) z.there) in
               (t.generation, t.lost);
         }
 
@@ -195,9 +197,10 @@ module _ (c : Config) (Q : List Happened → World → Type 0) where
     pub holds : Moments before world
     pub reader : Reader
     pub named : find_named name world.state.readers ≡ Some reader
-    pub first : low ≡ reader.next
-    pub last : high ≡ reader.next
-    pub moment : LossMoment before k low reader
+    pub message : Msg
+    pub sent : Sent world message
+    pub to : message.to ≡ whos.Reader reader.number
+    pub how : ((low ≡ high) × LossMoment before k low reader) ⊎ ToldLost (heard reader (Step.sender_node message.from) message.body) low high
 
   pub loss_line : Keeps c Q → (es : List Event) (k : ℕ) (name : List ℕ) (low high : ℕ) → Writes (history c es) k (lines.Gap name gaps.DataLoss low high) → LossLine (history c es) k name low high
   loss_line K es k name low high x =
@@ -212,9 +215,13 @@ module _ (c : Config) (Q : List Happened → World → Type 0) where
         holds = a.holds;
         reader = g.reader;
         named = g.named;
-        first = g.first;
-        last = g.last;
-        moment = subst (λ y. LossMoment a.before k y g.reader) (sym g.first) (subst (λ y. LossMoment a.before y g.reader.next g.reader) a.place (moment_of a.before a.world a.event a.holds name low high g));
+        message = g.message;
+        sent = g.sent;
+        to = g.to;
+        how = elim g.how [
+          | inl z ↦ inl (z.first ∙ sym z.last, subst (λ y. LossMoment a.before k y g.reader) (sym z.first) (subst (λ y. LossMoment a.before y g.reader.next g.reader) a.place (moment_of a.before a.world a.event a.holds name low high g z.confirmed)))
+          | inr z ↦ inr z
+        ];
       }
 
 -- each node of the set lacks the number in a clean page, or is lost for it

@@ -10,22 +10,23 @@ use Rattle.ld_msg.specs.declared.msg.Summary.{Summary}
 use Rattle.ld_msg.specs.Digest.{is_bridge}
 use Rattle.ld_msg.specs.Reading.{entry_at}
 use Rattle.ld_msg.specs.Register.{epochs_of}
-use Rattle.ld_op.specs.Plain.{Plain, Log, log_of, is_lost, summary_at, epoch_zero}
+use Rattle.ld_op.specs.Plain.{Plain, log_of, is_lost, summary_at, epoch_zero}
 use Rattle.ld_op.specs.Answers.{readable, entries_within, page_upto, page_limit}
 use Rattle.ld_machine.specs.Config.{spec_of, set_at}
 use Rattle.ld_machine.specs.State.{node_at}
 use Rattle.ld_machine.specs.World.{World, In, MayHold, Unserved}
-use Rattle.ld_machine.specs.Invariant.{Closed}
+use Rattle.ld_machine.specs.Invariant.{Closed, Ready}
 use Rattle.ld_safety.specs.Lost.{has_copied}
 use Rattle.ld_safety.proofs.Lists.{Some_inj, not_both, cond_both}
 use Rattle.ld_safety.proofs.Members.{In_filter, filter_in, find_in}
 use Rattle.ld_safety.proofs.Rising.{Rising, rising_values, rising_filter, page_has}
 use Rattle.ld_safety.proofs.CarriedNodes.{upto_cases}
 use Rattle.ld_safety.proofs.LostUnserved.{AllUnserved}
+use Rattle.ld_safety.proofs.LostEntries.{Accounts}
 
--- a record or a hole of the number
-abbrev pub HasEntry : Log → ℕ → Type 0
-HasEntry g s = (f : Entry) × (find s g.entries ≡ Some f) × (is_bridge f.what ≡ false)
+-- as many nodes as there are copies answered for the number
+abbrev pub Enough : Config → World → ℕ → ℕ → Summary → Type 0
+Enough c w l s z = (spec_of c w.state.register l (home_epoch s)).r ≤ how_many (has_copied w l s z) (set_at c w.state.register l (home_epoch s))
 
 -- what is asked of the nodes of a state
 pub record CleanKept (c : Config) (w : World) : Type 0 where
@@ -34,11 +35,12 @@ pub record CleanKept (c : Config) (w : World) : Type 0 where
   -- a node's summaries are the register's, and it is trimmed as they say
   pub summaries : (y l e : ℕ) (p : Plain) (z : Summary) → MayHold (node_at w.state y) p → 0 < e → find e (log_of p l).summaries ≡ Some z → Closed w l e z × (z.trim ≤ (log_of p l).trim)
   pub tables : (y l : ℕ) (p : Plain) → MayHold (node_at w.state y) p → Rising (log_of p l).entries × ((q : ℕ × Entry) → In q (log_of p l).entries → q.1.number ≡ q.0)
-  -- as many nodes as there are copies answered for each number between the closing plan's trim and its end
-  pub settled : (l s : ℕ) (z : Summary) → Closed w l (home_epoch s) z → z.trim < s → s < numbered (home_epoch s) z.end → (spec_of c w.state.register l (home_epoch s)).r ≤ how_many (has_copied w l s z) (set_at c w.state.register l (home_epoch s))
-  -- and each of these nodes is blank, lost for the epoch, trimmed there, or has the number
-  pub copies : (y l s : ℕ) (z : Summary) (p : Plain) → Closed w l (home_epoch s) z → z.trim < s → s < numbered (home_epoch s) z.end → has_copied w l s z y ≡ true → MayHold (node_at w.state y) p →
-      (p.generation ≡ 0) ⊎ ((is_lost (log_of p l) (home_epoch s) ≡ true) ⊎ ((s ≤ (log_of p l).trim) ⊎ HasEntry (log_of p l) s))
+  -- each node that answered for a number between the closing plan's trim and its end is blank, lost for the epoch, trimmed there, or has the number
+  pub copies : (y l s : ℕ) (z : Summary) (p : Plain) → Closed w l (home_epoch s) z → z.trim < s → s < numbered (home_epoch s) z.end → has_copied w l s z y ≡ true → MayHold (node_at w.state y) p → Accounts p l (home_epoch s) s
+  -- as many nodes as there are copies answered for it, or each node of the epoch is so
+  pub settled : (l s : ℕ) (z : Summary) → Closed w l (home_epoch s) z → z.trim < s → s < numbered (home_epoch s) z.end → Enough c w l s z ⊎ ((y : ℕ) (p : Plain) → In y (set_at c w.state.register l (home_epoch s)) → MayHold (node_at w.state y) p → Accounts p l (home_epoch s) s)
+  -- as many did where it was known good, or each item of the closing plan was settled
+  pub enough : (l s : ℕ) (z : Summary) → Closed w l (home_epoch s) z → z.trim < s → s < numbered (home_epoch s) z.end → (esn_of s ≤ z.lng) ⊎ Ready c w l (home_epoch s) z.ballot → Enough c w l s z
 
 -- ---- numbers ----
 pub home_is : (s e : ℕ) → e * 2 ^ 32 < s → s < e * 2 ^ 32 + 2 ^ 32 → (home_epoch s ≡ e) × (epoch_of s ≡ e)
@@ -73,7 +75,7 @@ shown_at s f (e ∷ es) i n = by_test (e.number == s) refl i (λ j. shown_at s f
   by_test false q (inr j) ih = ih j
 
 -- ---- a clean page ----
-pub record CleanPage (w : World) (y l from upto : ℕ) (es : List Entry) : Type 0 where
+pub record CleanPage (c : Config) (w : World) (y l from upto : ℕ) (es : List Entry) : Type 0 where
   pub summary : Summary
   pub closed : Closed w l (home_epoch from) summary
   pub above : summary.trim < from
@@ -82,12 +84,14 @@ pub record CleanPage (w : World) (y l from upto : ℕ) (es : List Entry) : Type 
   pub ends : upto < numbered (home_epoch from) summary.end
   pub place : summary.end ≤ last_esn
   pub has : (s : ℕ) → from ≤ s → s ≤ upto → has_copied w l s summary y ≡ true → is_some (entry_at s es) ≡ true
+  pub short : (s : ℕ) → from ≤ s → s ≤ upto → Enough c w l s summary ⊎ (In y (set_at c w.state.register l (home_epoch from)) → is_some (entry_at s es) ≡ true)
   pub unserved : AllUnserved (node_at w.state y) l (home_epoch from)
 
 -- an end that a lost node knows
 pub record KnownEnd (w : World) (l n end : ℕ) : Type 0 where
   pub summary : Summary
   pub closed : Closed w l (home_epoch n) summary
+  pub positive : 0 < home_epoch n
   pub above : summary.trim < n
   pub is : end ≡ numbered (home_epoch n) summary.end
 
@@ -102,7 +106,7 @@ module _ (c : Config) (w : World) (K : CleanKept c w) (y l : ℕ) (p : Plain) (h
     not_zero e n = elim (cases_order e 0) [ inl q ↦ absurd (n q) | inr (inl q) ↦ absurd (omega arith) | inr (inr q) ↦ q ]
 
   pub known_end : (from : ℕ) (z : Summary) → (log_of p l).trim < from → summary_at (log_of p l) (home_epoch from) ≡ Some z → home_esn from < z.end → KnownEnd w l from (numbered (home_epoch from) z.end)
-  known_end from z a h b = let n = no_zero from z a h b in let k = K.summaries y l (home_epoch from) p z held n.0 n.1 in record { summary = z; closed = k.0; above = (let u = k.1 in omega arith); is = refl }
+  known_end from z a h b = let n = no_zero from z a h b in let k = K.summaries y l (home_epoch from) p z held n.0 n.1 in record { summary = z; closed = k.0; positive = n.0; above = (let u = k.1 in omega arith); is = refl }
 
   -- what is in a page
   module _ (generation : 0 < p.generation) (whole : (q : Plain) → MayHold (node_at w.state y) q → q ≡ p) (from : ℕ) (z : Summary) (a : (log_of p l).trim < from) (h : summary_at (log_of p l) (home_epoch from) ≡ Some z) (b : home_esn from < z.end) (found : is_lost (log_of p l) (home_epoch from) ≡ false) where
@@ -134,7 +138,15 @@ module _ (c : Config) (w : World) (K : CleanKept c w) (y l : ℕ) (p : Plain) (h
         shown_at s f _ (page_has (readable g from last) last f r (filter_in (λ (e : Entry). not (is_bridge e.what)) f (entries_within g from last)
         (filter_in (λ (e : Entry). nat_le from e.number && nat_le e.number last) f (values g.entries) (in_values s f g.entries i) (and_from _ _ (le-leb from f.number (omega arith)) (le-leb f.number last (omega arith)))) (ap not n)) (omega arith)) m
 
-    pub page_of : CleanPage w y l from (page_upto (readable (log_of p l) from (numbered (home_epoch from) (z.end - 1))) (numbered (home_epoch from) (z.end - 1))) (take page_limit (readable (log_of p l) from (numbered (home_epoch from) (z.end - 1))))
+    -- a node that accounts for a number shows it
+    shows : (s : ℕ) → from ≤ s → s ≤ page_upto (readable (log_of p l) from (numbered (home_epoch from) (z.end - 1))) (numbered (home_epoch from) (z.end - 1)) → home_epoch s ≡ home_epoch from → Accounts p l (home_epoch s) s
+        → is_some (entry_at s (take page_limit (readable (log_of p l) from (numbered (home_epoch from) (z.end - 1))))) ≡ true
+    shows s lo hi q (inl v) = absurd (omega arith)
+    shows s lo hi q (inr (inl v)) = absurd (not_both _ (subst (λ j. is_lost (log_of p l) j ≡ true) q v) found)
+    shows s lo hi q (inr (inr (inl v))) = absurd (omega arith)
+    shows s lo hi q (inr (inr (inr v))) = in_page s v.0 v.1 v.2 lo hi
+
+    pub page_of : CleanPage c w y l from (page_upto (readable (log_of p l) from (numbered (home_epoch from) (z.end - 1))) (numbered (home_epoch from) (z.end - 1))) (take page_limit (readable (log_of p l) from (numbered (home_epoch from) (z.end - 1))))
     unfolding summary_at
     page_of = let m = (no_zero from z a h b).0 in let k = K.bounded l (home_epoch from) z closed.0 m in let e = k.1 in let o = place in let u = up in let t = closed.1 in record {
       summary = z;
@@ -146,11 +158,12 @@ module _ (c : Config) (w : World) (K : CleanKept c w) (y l : ℕ) (p : Plain) (h
       place = e;
       has = λ s lo hi x.
           let q = home_is s (home_epoch from) (omega arith) (omega arith) in
-          elim (K.copies y l s z p (subst (λ j. Closed w l j z) (sym q.0) closed.0) (omega arith) (subst (λ j. s < numbered j z.end) (sym q.0) (omega arith)) x held) [
-            | inl v ↦ absurd (omega arith)
-            | inr (inl v) ↦ absurd (not_both _ (subst (λ j. is_lost (log_of p l) j ≡ true) q.0 v) found)
-            | inr (inr (inl v)) ↦ absurd (omega arith)
-            | inr (inr (inr v)) ↦ in_page s v.0 v.1 v.2 lo hi
+          shows s lo hi q.0 (K.copies y l s z p (subst (λ j. Closed w l j z) (sym q.0) closed.0) (omega arith) (subst (λ j. s < numbered j z.end) (sym q.0) (omega arith)) x held);
+      short = λ s lo hi.
+          let q = home_is s (home_epoch from) (omega arith) (omega arith) in
+          elim (K.settled l s z (subst (λ j. Closed w l j z) (sym q.0) closed.0) (omega arith) (subst (λ j. s < numbered j z.end) (sym q.0) (omega arith))) [
+            | inl v ↦ inl v
+            | inr v ↦ inr (λ i. shows s lo hi q.0 (v y p (subst (λ j. In y (set_at c w.state.register l j)) (sym q.0) i) held))
           ];
       unserved = λ j i. subst (λ v. Unserved v l (home_epoch from)) (sym (whole j i)) (inr (inr (ap is_some h)));
     }

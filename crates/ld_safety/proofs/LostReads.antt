@@ -1,19 +1,22 @@
 -- What an answer leaves of a reader's rounds and of its confirmation.
-use Rattle.std.proofs.Common.{◌≡◌, ◌∙◌, ◌⊎◌, ◌≤◌, ◌<◌, ℕ, ◌+◌, min, inl, inr, refl, ap, sym, subst, Bool, true, false, ◌&&◌, ◌||◌, not, ◌==◌, nat_lt, if◌then◌else◌, cond, List, [], ◌∷◌, ◌++◌, Option, Some, None, arith}
-use Rattle.std.proofs.lemmas.Bool.{cases_Bool, and_parts, or_cases, ltb-false, eqb-true}
+use Rattle.std.proofs.Common.{◌≡◌, ◌∙◌, ◌⊎◌, ◌≤◌, ◌<◌, ℕ, ◌+◌, min, inl, inr, refl, ap, sym, subst, Bool, true, false, ◌&&◌, not, ◌==◌, nat_lt, if◌then◌else◌, cond, List, [], ◌∷◌, Option, Some, None, arith}
+use Rattle.std.proofs.lemmas.Bool.{and_parts, ltb-false, eqb-true}
 use Rattle.ld_table.specs.Table.{find, put}
 use Rattle.ld_table.specs.Words.{is_in, with_one}
 use Rattle.ld_lsn.specs.Number.{home_epoch}
 use Rattle.ld_ids.specs.Choice.{nodes_of}
+use Rattle.ld_msg.specs.declared.msg.What.{What}
+use Rattle.ld_msg.specs.declared.msg.What.TheVariants.{Rec, Hole, Bridge, Plug}
 use Rattle.ld_msg.specs.declared.msg.Body.{Body}
 use Rattle.ld_msg.specs.declared.msg.Body.TheVariants as bodies
-use Rattle.ld_msg.specs.Reading.{Held, Item, TrimTo, RecordHere, HoleHere, BridgeTo, LossHere, trim_held, is_loss, within, lost_held, bridge_to}
+use Rattle.ld_msg.specs.Reading.{Held, Item, TrimTo, RecordHere, HoleHere, BridgeTo, LossHere, LossTo, trim_held, page_at, plug_held, is_plug, end_held, end_shown, is_loss, within, lost_held, bridge_to}
 use Rattle.ld_msg.specs.Register.{View}
 use Rattle.ld_msg.specs.Reader.{Reader, Read, Confirmation, is_finished, may_confirm, is_confirming, seen_nodes, has_seen, look_of, gives, confirms, heard, is_newer, round_of, confirming_with, confirms_loss, same_generation, is_confirmed, polled, poll_asks, asks_of, keys, last_round, item_end, on_answer}
 use Rattle.ld_machine.specs.World.{In}
-use Rattle.ld_safety.proofs.Lists.{Some_inj, not_none, cond_both, In-append, only}
+use Rattle.ld_safety.proofs.Lists.{Some_inj, not_none, cond_both, In-append, only, any_in}
 use Rattle.ld_safety.proofs.Members.{In_put}
-use Rattle.ld_safety.proofs.ReaderSteps.{answered, below_end}
+use Rattle.ld_safety.proofs.Losses.{with_one_in}
+use Rattle.ld_safety.proofs.ReaderSteps.{answered, below_end, end_in}
 
 -- an ask of a round, at or below the next number
 pub record AskOf (round next : ℕ) (b : Body) : Type 0 where
@@ -54,6 +57,14 @@ pub record Begins (looks : ℕ → View) (d : Reader) (a : Read) (v : Confirmati
   pub loss : is_loss a.reader.next (seen_nodes view) a.reader.held ≡ true
   pub asks : (x : ℕ × Body) → In x a.asks → x.1 ≡ bodies.ReadAsk v.round a.reader.next
 
+-- an answer shows a plug at the number
+abbrev pub PlugAt : ℕ → List (ℕ × Held) → Type 0
+PlugAt s hs = (h : ℕ × Held) × In h hs × (page_at s h.1.body ≡ Some Plug)
+
+-- an answer shows an end at or below the number, past which the epoch's numbers are lost
+abbrev pub LossyEnd : ℕ → List (ℕ × Held) → Type 0
+LossyEnd s hs = (h : ℕ × Held) × In h hs × (end_shown s h.1.body ≡ Some true)
+
 abbrev pub new_held : ℕ → Body → ℕ × Held
 new_held y b = (y, record { round = round_of b; body = b })
 
@@ -67,7 +78,9 @@ pub record ReadOn (looks : ℕ → View) (d : Reader) (y : ℕ) (b : Body) (a : 
   pub confirming : (v : Confirmation) → a.reader.confirming ≡ Some v → Lasts d y b a.reader v ⊎ Begins looks d a v
   pub seen : SeenBy looks d a.reader.seen
   pub held : (h : ℕ × Held) → In h a.reader.held → In h d.held ⊎ (h ≡ new_held y b)
-  pub losses : (i : ℕ × Item) → In i a.items → i.1 ≡ LossHere → (i.0 ≡ d.next) × (is_confirmed (heard d y b).confirming ≡ true)
+  pub same_held : a.reader.held ≡ (heard d y b).held
+  pub losses : (i : ℕ × Item) → In i a.items → i.1 ≡ LossHere → ((i.0 ≡ d.next) × (is_confirmed (heard d y b).confirming ≡ true)) ⊎ PlugAt i.0 (heard d y b).held
+  pub ends : (i : ℕ × Item) (last : ℕ) → In i a.items → i.1 ≡ LossTo last → (last ≡ bridge_to i.0) × LossyEnd i.0 (heard d y b).held
 
 -- ---- asks ----
 pub asks_are : (round next : ℕ) (set : List ℕ) (x : ℕ × Body) → In x (asks_of round next set) → x.1 ≡ bodies.ReadAsk round next
@@ -92,15 +105,6 @@ polled_seen looks d = cond_both (nat_lt d.round last_round) (Some (look_of looks
 same_is : (o : Option ℕ) (g : ℕ) → same_generation o g ≡ true → o ≡ Some g
 same_is None g h = absurd cc
 same_is (Some k) g h = ap Some (eqb-true k g h)
-
-with_one_in : (y z : ℕ) (xs : List ℕ) → is_in z (with_one y xs) ≡ true → (is_in z xs ≡ true) ⊎ (z ≡ y)
-with_one_in y z xs h = cond_both (is_in y xs) xs (xs ++ y ∷ []) (λ l. is_in z l ≡ true → (is_in z xs ≡ true) ⊎ (z ≡ y)) (λ t q. inl q) (λ t q. at_end xs q) h where
-  at_end : (ys : List ℕ) → is_in z (ys ++ y ∷ []) ≡ true → (is_in z ys ≡ true) ⊎ (z ≡ y)
-  at_end [] q = elim (or_cases (y == z) false q) [ inl e ↦ inr (sym (eqb-true y z e)) | inr e ↦ absurd cc ]
-  at_end (x ∷ ys) q = elim (cases_Bool (x == z)) [
-    | inl e ↦ inl (subst (λ b. (b || is_in z ys) ≡ true) (sym e) refl)
-    | inr e ↦ elim (at_end ys (subst (λ b. (b || is_in z (ys ++ y ∷ [])) ≡ true) e q)) [ inl k ↦ inl (subst (λ b. (b || is_in z ys) ≡ true) (sym e) k) | inr k ↦ inr k ]
-  ]
 
 says_again : (u : Confirmation) (y : ℕ) (b : Body) → round_of b ≡ u.round → confirms_loss u.asked y b ≡ true → SaysAgain u y b
 says_again u y (bodies.LostHere n round g end) e h = record { number = n; generation = g; end = end; is = ap (λ r. bodies.LostHere n r g end) e; asked = same_is (find y u.asked) g h }
@@ -127,7 +131,7 @@ heard_lasts d y b v h = by_confirming d.confirming refl h where
       })
       (λ r x. absurd cc)) q
 
-heard_held : (d : Reader) (y : ℕ) (b : Body) (h : ℕ × Held) → In h (heard d y b).held → In h d.held ⊎ (h ≡ new_held y b)
+pub heard_held : (d : Reader) (y : ℕ) (b : Body) (h : ℕ × Held) → In h (heard d y b).held → In h d.held ⊎ (h ≡ new_held y b)
 heard_held d y b h = cond_both (is_newer (find y d.held) (round_of b)) (put y (record { round = round_of b; body = b }) d.held) d.held (λ x. In h x → In h d.held ⊎ (h ≡ new_held y b))
     (λ t i. elim (In_put y (record { round = round_of b; body = b }) d.held h i) [ inl q ↦ inr q | inr j ↦ inl j ]) (λ t i. inl i)
 
@@ -138,9 +142,19 @@ not_finished d h = ltb-false d.until d.next h
 item_up : (n e u : ℕ) → n ≤ e → n ≤ u → n ≤ min e u + 1
 item_up n e u a b = omega arith
 
+plug_of : (o : Option What) → is_plug o ≡ true → o ≡ Some Plug
+plug_of (Some Plug) h = refl
+plug_of (Some (Rec p)) h = absurd cc
+plug_of (Some Hole) h = absurd cc
+plug_of (Some Bridge) h = absurd cc
+plug_of None h = absurd cc
+
+last_of : {a b : ℕ} → LossTo a ≡ LossTo b → a ≡ b
+last_of q = cc
+
 module _ (looks : ℕ → View) (d : Reader) (y : ℕ) (b : Body) where
-  given : (a : Read) (i : Item) → ReadOn looks d y b a → is_finished a.reader ≡ false → a.reader.next ≤ item_end a.reader.next i → (i ≡ LossHere → ⊥) → ReadOn looks d y b (gives a i)
-  given a i g f up n =
+  given : (a : Read) (i : Item) → ReadOn looks d y b a → is_finished a.reader ≡ false → a.reader.next ≤ item_end a.reader.next i → (i ≡ LossHere → PlugAt a.reader.next (heard d y b).held) → ((last : ℕ) → i ≡ LossTo last → (last ≡ bridge_to a.reader.next) × LossyEnd a.reader.next (heard d y b).held) → ReadOn looks d y b (gives a i)
+  given a i g f up n m =
       let lower = item_up a.reader.next (item_end a.reader.next i) a.reader.until up (not_finished a.reader f) in
       record {
         number = g.number;
@@ -152,7 +166,15 @@ module _ (looks : ℕ → View) (d : Reader) (y : ℕ) (b : Body) where
         confirming = λ v q. absurd (not_none q);
         seen = g.seen;
         held = g.held;
-        losses = λ j k q. elim (In-append j a.items _ k) [ inl o ↦ g.losses j o q | inr o ↦ absurd (n (sym (ap (λ (x : ℕ × Item). x.1) (only j (a.reader.next, i) o)) ∙ q)) ];
+        same_held = g.same_held;
+        losses = λ j k q. elim (In-append j a.items _ k) [
+          | inl o ↦ g.losses j o q
+          | inr o ↦ (let z = only j (a.reader.next, i) o in inr (subst (λ (x : ℕ × Item). PlugAt x.0 (heard d y b).held) (sym z) (n (sym (ap (λ (x : ℕ × Item). x.1) z) ∙ q))))
+        ];
+        ends = λ j last k q. elim (In-append j a.items _ k) [
+          | inl o ↦ g.ends j last o q
+          | inr o ↦ (let z = only j (a.reader.next, i) o in subst (λ (x : ℕ × Item). (last ≡ bridge_to x.0) × LossyEnd x.0 (heard d y b).held) (sym z) (m last (sym (ap (λ (x : ℕ × Item). x.1) z) ∙ q)))
+        ];
       }
 
   started : ReadOn looks d y b (record { reader = heard d y b; items = []; asks = [] })
@@ -166,7 +188,9 @@ module _ (looks : ℕ → View) (d : Reader) (y : ℕ) (b : Body) where
     confirming = λ v q. inl (heard_lasts d y b v q);
     seen = inl refl;
     held = heard_held d y b;
+    same_held = refl;
     losses = λ i j q. absurd j;
+    ends = λ i last j q. absurd j;
   }
 
   lost_first : is_finished d ≡ false → is_confirmed (heard d y b).confirming ≡ true → ReadOn looks d y b (gives (record { reader = heard d y b; items = []; asks = [] }) LossHere)
@@ -180,7 +204,9 @@ module _ (looks : ℕ → View) (d : Reader) (y : ℕ) (b : Body) where
     confirming = λ v q. absurd (not_none q);
     seen = inl refl;
     held = heard_held d y b;
-    losses = λ i j q. (ap (λ (x : ℕ × Item). x.0) (only i (d.next, LossHere) j), h);
+    same_held = refl;
+    losses = λ i j q. inl (ap (λ (x : ℕ × Item). x.0) (only i (d.next, LossHere) j), h);
+    ends = λ i last j q. absurd (let z : LossHere ≡ LossTo last = sym (ap (λ (x : ℕ × Item). x.1) (only i (d.next, LossHere) j)) ∙ q in cc);
   }
 
   begun : (a : Read) → ReadOn looks d y b a → may_confirm a.reader ≡ true → is_loss a.reader.next (seen_nodes a.reader.seen) a.reader.held ≡ true → ReadOn looks d y b (confirms looks a (lost_held a.reader.next (within (seen_nodes a.reader.seen) a.reader.held)))
@@ -204,7 +230,9 @@ module _ (looks : ℕ → View) (d : Reader) (y : ℕ) (b : Body) where
     });
     seen = inr (home_epoch a.reader.next, refl);
     held = g.held;
+    same_held = g.same_held;
     losses = g.losses;
+    ends = g.ends;
   }
 
   asked_on : (a : Read) → ReadOn looks d y b a → ReadOn looks d y b (record { reader = polled looks a.reader; items = a.items; asks = poll_asks looks a.reader })
@@ -218,17 +246,28 @@ module _ (looks : ℕ → View) (d : Reader) (y : ℕ) (b : Body) where
     confirming = λ v q. absurd (not_none q);
     seen = elim (polled_seen looks a.reader) [ inl q ↦ subst (SeenBy looks d) (sym q) g.seen | inr q ↦ inr q ];
     held = g.held;
+    same_held = g.same_held;
     losses = g.losses;
+    ends = g.ends;
   }
+
+  -- what is held stays while items are given
+  plug_there : (a : Read) → ReadOn looks d y b a → plug_held a.reader.next a.reader.held ≡ true → PlugAt a.reader.next (heard d y b).held
+  plug_there a g t = let z = any_in (λ (h : ℕ × Held). is_plug (page_at a.reader.next h.1.body)) (heard d y b).held (subst (λ (hs : List (ℕ × Held)). plug_held a.reader.next hs ≡ true) g.same_held t) in (z.0, z.1, plug_of _ z.2)
+
+  end_there : (a : Read) → ReadOn looks d y b a → end_held a.reader.next a.reader.held ≡ Some true → LossyEnd a.reader.next (heard d y b).held
+  end_there a g t = end_in a.reader.next (heard d y b).held true (subst (λ (hs : List (ℕ × Held)). end_held a.reader.next hs ≡ Some true) g.same_held t)
 
   pub read_on : is_finished d ≡ false → ReadOn looks d y b (on_answer looks d y b)
   read_on f = answered looks d y b (ReadOn looks d y b) (record {
     starts = started;
     loss = λ h. lost_first f h;
-    trim = λ a g n t. given a (TrimTo (trim_held a.reader.held)) g n t (λ q. cc);
-    record_there = λ a p g n t. given a (RecordHere p) g n (omega arith) (λ q. cc);
-    hole_there = λ a g n t. given a HoleHere g n (omega arith) (λ q. cc);
-    bridge = λ a g n t. given a (BridgeTo (bridge_to a.reader.next)) g n (below_end a.reader.next) (λ q. cc);
+    trim = λ a g n t. given a (TrimTo (trim_held a.reader.held)) g n t (λ q. cc) (λ e q. cc);
+    record_there = λ a p g n t. given a (RecordHere p) g n (omega arith) (λ q. cc) (λ e q. cc);
+    hole_there = λ a g n t. given a HoleHere g n (omega arith) (λ q. cc) (λ e q. cc);
+    bridge = λ a g n t. given a (BridgeTo (bridge_to a.reader.next)) g n (below_end a.reader.next) (λ q. cc) (λ e q. cc);
+    plug = λ a g n t. given a LossHere g n (omega arith) (λ q. plug_there a g t) (λ e q. cc);
+    lossy_end = λ a g n t. given a (LossTo (bridge_to a.reader.next)) g n (below_end a.reader.next) (λ q. cc) (λ e q. (sym (last_of q), end_there a g t));
     confirm = λ a g n m t. begun a g m t;
     polls_on = λ a g t. asked_on a g;
   })

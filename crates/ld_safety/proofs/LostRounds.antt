@@ -35,7 +35,7 @@ abbrev pub place_of : Body → ℕ
 place_of (bodies.ReadAsk round from) = from
 place_of (bodies.LostHere number round generation end) = number
 place_of (bodies.ReadPage round from upto clean es) = from
-place_of (bodies.ReadEnded round from end) = from
+place_of (bodies.ReadEnded round from end loss) = from
 place_of (bodies.ReadTrim round from trim) = from
 place_of (bodies.ReadWait round from released) = from
 place_of _ = 0

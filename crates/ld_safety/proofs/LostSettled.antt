@@ -1,6 +1,6 @@
 -- Where nodes keep what was settled, as many nodes as there are copies answered for a number that a reader may call lost, and none of them shows a clean page without it.
-use Rattle.std.proofs.Common.{◌≡◌, ◌∙◌, ◌⊎◌, ◌≤◌, ◌<◌, ℕ, inl, inr, refl, ap, sym, subst, Bool, true, false, not, ◌&&◌, ◌==◌, nat_lt, nat_le, List, Some, is_some, arith}
-use Rattle.std.proofs.lemmas.Bool.{and_parts, eqb-true, ltb-true, leb-true}
+use Rattle.std.proofs.Common.{◌≡◌, ◌∙◌, ◌⊎◌, ◌≤◌, ◌<◌, ℕ, inl, inr, refl, ap, sym, subst, Bool, true, false, not, ◌&&◌, ◌==◌, nat_lt, nat_le, List, [], ◌∷◌, Option, Some, None, is_some, arith}
+use Rattle.std.proofs.lemmas.Bool.{cases_Bool, and_parts, eqb-true, ltb-true, leb-true}
 use Rattle.ld_table.specs.Table.{find}
 use Rattle.ld_table.specs.Named.{find_named}
 use Rattle.ld_table.specs.Words.{all_of, any_of}
@@ -15,7 +15,7 @@ use Rattle.ld_msg.specs.declared.msg.Body.TheVariants as bodies
 use Rattle.ld_msg.specs.Reading.{Held, is_loss, leaves_open, lacks, is_lost_for, knows_end_above, entry_at}
 use Rattle.ld_msg.specs.Reading as reading
 use Rattle.ld_msg.specs.Reader.{Reader}
-use Rattle.ld_machine.specs.Config.{set_at}
+use Rattle.ld_machine.specs.Config.{spec_of, set_at}
 use Rattle.ld_machine.specs.Facts.{Happened}
 use Rattle.ld_machine.specs.Safe.{LossesHappened}
 use Rattle.ld_machine.specs.World.{World, In, begin}
@@ -23,14 +23,16 @@ use Rattle.ld_machine.specs.Invariant.{Closed}
 use Rattle.ld_machine.specs.Losses.{EndsAsLoss}
 use Rattle.ld_machine.specs.Run.{Move, Takes, history, next_world, world_after}
 use Rattle.ld_safety.specs.Lost.{CopiesAreLost, has_copied}
-use Rattle.ld_safety.proofs.Lists.{Some_inj, any_in, not_both}
+use Rattle.ld_safety.proofs.Lists.{Some_inj, not_none, any_in, not_both}
 use Rattle.ld_safety.proofs.Members.{find_in, In_filter}
 use Rattle.ld_safety.proofs.Traces.{Keeps}
+use Rattle.ld_safety.proofs.Registers.{Reached}
+use Rattle.ld_safety.proofs.Specs.{SpecFine}
 use Rattle.ld_safety.proofs.LostRounds.{answer_to, place_of}
 use Rattle.ld_safety.proofs.LostAlong.{RoundsOf}
-use Rattle.ld_safety.proofs.LostLaw.{SettledApart, LossesSettled, losses_happened}
+use Rattle.ld_safety.proofs.LostLaw.{SettledApart, LossesSettled, LossesTold, losses_happened}
 use Rattle.ld_safety.proofs.LostLaws.{copies_are_lost}
-use Rattle.ld_safety.proofs.LostPages.{CleanKept, CleanPage, home_is}
+use Rattle.ld_safety.proofs.LostPages.{Enough, CleanKept, CleanPage, home_is}
 use Rattle.ld_safety.proofs.LostShown.{Facts, PageFacts, Shown, shown_kept}
 
 -- ---- what is held ----
@@ -77,23 +79,25 @@ knows_cases s _ h = absurd cc
 pub record Within (w : World) (l s : ℕ) : Type 0 where
   pub summary : Summary
   pub closed : Closed w l (home_epoch s) summary
+  pub positive : 0 < home_epoch s
   pub above : summary.trim < s
   pub below : s < numbered (home_epoch s) summary.end
 
-page_home : (w : World) (y l s from upto : ℕ) (es : List Entry) → CleanPage w y l from upto es → from ≤ s → s ≤ upto → home_epoch s ≡ home_epoch from
-page_home w y l s from upto es P lo hi = let a = P.starts in let z = P.ends in let x = P.place in (home_is s (home_epoch from) (omega arith) (omega arith)).0
+page_home : (c : Config) (w : World) (y l s from upto : ℕ) (es : List Entry) → CleanPage c w y l from upto es → from ≤ s → s ≤ upto → home_epoch s ≡ home_epoch from
+page_home c w y l s from upto es P lo hi = let a = P.starts in let z = P.ends in let x = P.place in (home_is s (home_epoch from) (omega arith) (omega arith)).0
 
-module _ (c : Config) (w : World) (A : RoundsOf w) (F : (m : Msg) → In m w.state.network.sent → Facts w m) (name : List ℕ) (d : Reader) (f : find_named name w.state.readers ≡ Some d) where
-  facts_of : (h : ℕ × Held) → In h d.held → PageFacts w h.0 d.log h.1.body
+module _ (c : Config) (w : World) (A : RoundsOf w) (F : (m : Msg) → In m w.state.network.sent → Facts c w m) (name : List ℕ) (d : Reader) (f : find_named name w.state.readers ≡ Some d) where
+  facts_of : (h : ℕ × Held) → In h d.held → PageFacts c w h.0 d.log h.1.body
   facts_of h i = F (answer_to h.0 d h.1.body) (A.held name d h f i) d.number refl
 
-  page_held : (h : ℕ × Held) → In h d.held → (k : Lacking d.next h.1.body) → CleanPage w h.0 d.log k.from k.upto k.entries
+  page_held : (h : ℕ × Held) → In h d.held → (k : Lacking d.next h.1.body) → CleanPage c w h.0 d.log k.from k.upto k.entries
   page_held h i k = (facts_of h i).pages k.round k.from k.upto k.entries k.is
 
   within_page : (h : ℕ × Held) → In h d.held → (k : Lacking d.next h.1.body) → Within w d.log d.next
-  within_page h i k = let P = page_held h i k in let q = page_home w h.0 d.log d.next k.from k.upto k.entries P k.low k.high in let a = P.above in let lo = k.low in let hi = k.high in let z = P.ends in record {
+  within_page h i k = let P = page_held h i k in let q = page_home c w h.0 d.log d.next k.from k.upto k.entries P k.low k.high in let a = P.above in let lo = k.low in let hi = k.high in let z = P.ends in record {
     summary = P.summary;
     closed = subst (λ j. Closed w d.log j P.summary) (sym q) P.closed;
+    positive = let f = P.positive in omega arith;
     above = omega arith;
     below = subst (λ j. d.next < numbered j P.summary.end) (sym q) (omega arith);
   }
@@ -105,6 +109,7 @@ module _ (c : Config) (w : World) (A : RoundsOf w) (F : (m : Msg) → In m w.sta
       record {
         summary = e.summary;
         closed = subst (λ j. Closed w d.log j e.summary) k.home e.closed;
+        positive = let f = e.positive in let g = k.home in omega arith;
         above = let a = e.above in omega arith;
         below = subst (λ j. d.next < numbered j e.summary.end) k.home (let a = e.is in let z = k.above in omega arith);
       }
@@ -118,26 +123,66 @@ module _ (c : Config) (w : World) (A : RoundsOf w) (F : (m : Msg) → In m w.sta
       let i = (In_filter _ x.0 d.held x.1).0 in
       elim (knows_cases d.next x.0.1.body x.2) [ inl k ↦ within_known x.0 i k | inr k ↦ within_page x.0 i k ]
 
-  pub settled_apart : CleanKept c w → is_loss d.next (set_at c w.state.register d.log (home_epoch d.next)) d.held ≡ true → SettledApart c w d.log d.next d.held
-  settled_apart K l = let z = within (set_at c w.state.register d.log (home_epoch d.next)) l in record {
+  -- a clean page without the number, of the same close
+  record PageWithout (y : ℕ) (z : Within w d.log d.next) : Type 0 where
+    from : ℕ
+    upto : ℕ
+    entries : List Entry
+    page : CleanPage c w y d.log from upto entries
+    low : from ≤ d.next
+    high : d.next ≤ upto
+    without : is_some (entry_at d.next entries) ≡ false
+    home : home_epoch d.next ≡ home_epoch from
+    same : z.summary ≡ page.summary
+
+  page_without : (y : ℕ) (h : Held) (z : Within w d.log d.next) → find y d.held ≡ Some h → lacks d.next h.body ≡ true → PageWithout y z
+  page_without y h z q b =
+      let k = lacks_parts d.next h.body b in
+      let P = page_held (y, h) (find_in y d.held h q) k in
+      let e = page_home c w y d.log d.next k.from k.upto k.entries P k.low k.high in
+      record { from = k.from; upto = k.upto; entries = k.entries; page = P; low = k.low; high = k.high; without = k.without; home = e; same = Some_inj (sym z.closed ∙ subst (λ j. Closed w d.log j P.summary) (sym e) P.closed) }
+
+  abbrev Set : List ℕ
+  Set = set_at c w.state.register d.log (home_epoch d.next)
+
+  -- as many as there are copies answered, or none of some nodes of the epoch gave such a page
+  some_lack : (z : Within w d.log d.next) (ys : List ℕ) → ((y : ℕ) → In y ys → In y Set) → Enough c w d.log d.next z.summary ⊎ ((y : ℕ) (h : Held) → In y ys → find y d.held ≡ Some h → lacks d.next h.body ≡ true → ⊥)
+  some_lack z [] m = inr (λ y h i. absurd i)
+  some_lack z (x ∷ ys) m = elim (some_lack z ys (λ y i. m y (inr i))) [
+    | inl e ↦ inl e
+    | inr none ↦ by_held (find x d.held) refl none
+  ] where
+    with_first : ((h : Held) → find x d.held ≡ Some h → lacks d.next h.body ≡ true → ⊥) → ((y : ℕ) (h : Held) → In y ys → find y d.held ≡ Some h → lacks d.next h.body ≡ true → ⊥) → (y : ℕ) (h : Held) → In y (x ∷ ys) → find y d.held ≡ Some h → lacks d.next h.body ≡ true → ⊥
+    with_first f none y h (inl e) q b = f h (ap (λ v. find v d.held) (sym e) ∙ q) b
+    with_first f none y h (inr i) q b = none y h i q b
+
+    by_held : (o : Option Held) → find x d.held ≡ o → ((y : ℕ) (h : Held) → In y ys → find y d.held ≡ Some h → lacks d.next h.body ≡ true → ⊥) → Enough c w d.log d.next z.summary ⊎ ((y : ℕ) (h : Held) → In y (x ∷ ys) → find y d.held ≡ Some h → lacks d.next h.body ≡ true → ⊥)
+    by_held None q none = inr (with_first (λ h g b. not_none (sym q ∙ g)) none)
+    by_held (Some a) q none = elim (cases_Bool (lacks d.next a.body)) [
+      | inl b ↦ (let P = page_without x a z q b in elim (P.page.short d.next P.low P.high) [
+        | inl e ↦ inl (subst (λ (u : Summary). Enough c w d.log d.next u) (sym P.same) e)
+        | inr e ↦ absurd (not_both _ (e (subst (λ j. In x (set_at c w.state.register d.log j)) P.home (m x (inl refl)))) P.without)
+      ])
+      | inr b ↦ inr (with_first (λ h g u. not_both _ (subst (λ (v : Held). lacks d.next v.body ≡ true) (Some_inj (sym g ∙ q)) u) b) none)
+    ]
+
+  pub settled_apart : CleanKept c w → ((l e : ℕ) → Reached w.state.register l e → SpecFine (spec_of c w.state.register l e)) → is_loss d.next (set_at c w.state.register d.log (home_epoch d.next)) d.held ≡ true → SettledApart c w d.log d.next d.held
+  settled_apart K F l = let z = within (set_at c w.state.register d.log (home_epoch d.next)) l in record {
     summary = z.summary;
     closed = z.closed;
-    enough = K.settled d.log d.next z.summary z.closed z.above z.below;
-    apart = λ y h i q b t.
-        let k = lacks_parts d.next h.body b in
-        let P = page_held (y, h) (find_in y d.held h q) k in
-        let e = page_home w y d.log d.next k.from k.upto k.entries P k.low k.high in
-        let same : z.summary ≡ P.summary = Some_inj (sym z.closed ∙ subst (λ j. Closed w d.log j P.summary) (sym e) P.closed) in
-        not_both _ (P.has d.next k.low k.high (subst (λ (u : Summary). has_copied w d.log d.next u y ≡ true) same t)) k.without;
+    fine = F d.log (home_epoch d.next) (z.positive, (K.bounded d.log (home_epoch d.next) z.summary z.closed z.positive).0);
+    apart = λ y h i q b t. let P = page_without y h z q b in not_both _ (P.page.has d.next P.low P.high (subst (λ (u : Summary). has_copied w d.log d.next u y ≡ true) P.same t)) P.without;
+    copied = some_lack z (set_at c w.state.register d.log (home_epoch d.next)) (λ y i. i);
+    enough = K.enough d.log d.next z.summary z.closed z.above z.below;
   }
 
 -- ---- the laws, where nodes keep what was settled ----
-module _ (c : Config) (Q : List Happened → World → Type 0) (C : (hs : List Happened) (w : World) → Q hs w → CleanKept c w) where
+module _ (c : Config) (Q : List Happened → World → Type 0) (C : (hs : List Happened) (w : World) → Q hs w → CleanKept c w) (F : (hs : List Happened) (w : World) → Q hs w → (l e : ℕ) → Reached w.state.register l e → SpecFine (spec_of c w.state.register l e)) where
   pub losses_settled : LossesSettled c (Shown c Q C)
-  losses_settled hs w K name d f l = settled_apart c w K.0.1.1 K.1.1.1 name d f (C hs w K.1.0.0.1) l
+  losses_settled hs w K name d f l = settled_apart c w K.0.1.1 K.1.1.1 name d f (C hs w K.1.0.0.1) (F hs w K.1.0.0.1) l
 
-  pub happened : Keeps c Q → (es : List Event) → LossesHappened c (history c es)
-  happened K es = losses_happened c (Shown c Q C) (shown_kept c Q C K) losses_settled es
+  pub happened : Keeps c Q → LossesTold c Q → (es : List Event) → LossesHappened c (history c es)
+  happened K T es = losses_happened c (Shown c Q C) (shown_kept c Q C K) losses_settled (λ hs w k. T hs w (k.0, k.1.0.0.1)) es
 
   pub stood : Keeps c Q → (name : List ℕ) (l s round : ℕ) (before : List Move) (asks : Event) (between : List Move) (gives : Event) → EndsAsLoss c name l s round before (Takes asks) between (Takes gives) → CopiesAreLost c (next_world c (world_after c (begin c) before) asks) l s
   stood K name l s round before asks between gives E = copies_are_lost c (Shown c Q C) (shown_kept c Q C K) losses_settled name l s round before asks between gives E

@@ -262,7 +262,7 @@ module _ (c : Config) (hs : List Happened) (s : State) (e : Event) where
       sets = λ l r x set h. quietly _ (still_one (lines.Set l r x set) refl) A;
       arms = λ k done o. quietly _ still_none A;
       hears = λ f name q m i t l v o. quietly _ (still_group OfActs _ (λ h. cc) (acted_of name q (called (looks_at c s.register q.log) s.register (on_reply (looks_at c s.register q.log) q (Step.sender_node m.from) m.body) (on_reply (looks_at c s.register q.log) q (Step.sender_node m.from) m.body).tries).acts)) A;
-      retries = λ name q v o. quietly _ (still_group OfActs _ (λ h. cc) (acted_of name q (called (looks_at c s.register q.log) s.register (on_retry q) (on_retry q).tries).acts)) A;
+      retries = λ name q v o. quietly _ (still_group OfActs _ (λ h. cc) (acted_of name q (called (looks_at c s.register q.log) s.register (on_retry (looks_at c s.register q.log) q) (on_retry (looks_at c s.register q.log) q).tries).acts)) A;
       appends = λ name q p v a i. quietly _ (still_one (lines.Appended name _) refl) A;
       trims = λ name q t v b. quietly _ (still_one (lines.Trimmed name t) refl) A;
       drops = λ name q v o. quietly _ still_none A;

@@ -5,9 +5,8 @@ use Rattle.ld_table.specs.Named.{find_named, put_named}
 use Rattle.ld_lsn.specs.Number.{home_epoch}
 use Rattle.ld_config.specs.declared.config.Config.{Config}
 use Rattle.ld_schedule.specs.declared.event.Event.{Event}
-use Rattle.ld_msg.specs.declared.msg.Who.TheVariants as whos
 use Rattle.ld_msg.specs.Reading.{Held, lost_held, is_loss, is_lost_for, within}
-use Rattle.ld_msg.specs.Reader.{Reader, heard, is_confirmed, polled, seen_nodes}
+use Rattle.ld_msg.specs.Reader.{Reader, polled, seen_nodes}
 use Rattle.ld_machine.specs.Config.{looks_at, set_at}
 use Rattle.ld_machine.specs.Disk.{Node}
 use Rattle.ld_machine.specs.State.{State, node_at}
@@ -20,9 +19,8 @@ use Rattle.ld_safety.specs.Lost.{LostUnder, is_lost_at}
 use Rattle.ld_safety.proofs.Lists.{Some_inj, not_none}
 use Rattle.ld_safety.proofs.Names.{named_cases}
 use Rattle.ld_safety.proofs.Members.{find_in}
-use Rattle.ld_safety.proofs.Lines.{line_of}
 use Rattle.ld_safety.proofs.Traces.{happened, trace, later}
-use Rattle.ld_safety.proofs.Events.{NamesOnce}
+use Rattle.ld_safety.proofs.Events.{NamesOnce, message_sent}
 use Rattle.ld_safety.proofs.LostNodes.{LostIn}
 use Rattle.ld_safety.proofs.LostReads.{read_on}
 use Rattle.ld_safety.proofs.LostTalk.{TalkKeeps, talked, same_readers}
@@ -31,7 +29,7 @@ use Rattle.ld_safety.proofs.LostAlong.{Asked, asked_kept}
 use Rattle.ld_safety.proofs.LostSince.{Since, SinceConfirming, since_step}
 use Rattle.ld_safety.proofs.LostBegins.{NewHere, lost_in, came, new_set, since_new}
 use Rattle.ld_safety.proofs.LostSpoken.{CutOld, Spoken, Answering, answering_kept, lost_plain}
-use Rattle.ld_safety.proofs.LostLines.{losses_given, among_lost, confirmed_lost}
+use Rattle.ld_safety.proofs.LostLines.{among_lost, confirmed_lost}
 
 -- ---- words ----
 pub lost_under : (x : Node) (l e g : ℕ) → LostIn x l e g → LostUnder x l e g
@@ -159,8 +157,7 @@ module _ (c : Config) (name : List ℕ) (l s round : ℕ) (before : List Move) (
       let C : SinceConfirming _ x.number x.log x.next v.round v.asked d u = (o.since.talk.readers name d E.still.there number).confirming u E.still.lasts round in
       let S : Since _ d.number d.log d.next u.round u.asked _ = subst (λ y. Since _ d.number d.log d.next u.round y _) (sym C.same) (subst (λ y. Since _ d.number d.log d.next y v.asked _) (sym round) (subst (λ y. Since _ d.number d.log y v.round v.asked _) (sym C.next)
       (subst (λ y. Since _ d.number y x.next v.round v.asked _) (sym log) (subst (λ y. Since _ y x.log x.next v.round v.asked _) (sym number) o.since)))) in
-      let g = losses_given c _ gives o.known.0.0.0 name s s (line_of (Step.happens c _ gives) _ (λ h. cc) E.told) in
-      let same : g.reader ≡ d = Some_inj (sym g.named ∙ E.still.there) in
+      let g = E.completes in
       let lg : x.log ≡ l = sym log ∙ E.of_log in
       record {
         reader = x;
@@ -172,8 +169,7 @@ module _ (c : Config) (name : List ℕ) (l s round : ℕ) (before : List Move) (
             let k = among_lost s y h (set_at c r x.log (home_epoch s)) x.held (subst (λ j. In y (set_at c r j (home_epoch s))) (sym lg) m) (find_in y x.held h f) z in
             let j : In {X = ℕ × ℕ} (y, k.generation) (lost_held x.next (within (set_at c r x.log (home_epoch x.next)) x.held)) = subst (λ j. In {X = ℕ × ℕ} (y, k.generation) (lost_held j (within (set_at c r x.log (home_epoch j)) x.held))) (sym E.asked.next) k.there in
             let i : In {X = ℕ × ℕ} (y, k.generation) v.asked = subst (λ (m : List (ℕ × ℕ)). In {X = ℕ × ℕ} (y, k.generation) m) (sym n.asked) (subst (λ (u : List ℕ). In {X = ℕ × ℕ} (y, k.generation) (lost_held x.next (within u x.held))) (sym epoch_set) j) in
-            let t = confirmed_lost c _ _ gives o.known.0.1.1 o.known.1.1 name d u S E.still.there E.still.lasts g.message g.sent (g.to ∙ ap (λ (j : Reader). whos.Reader j.number) same)
-            (subst (λ (j : Reader). is_confirmed (heard j (Step.sender_node g.message.from) g.message.body).confirming ≡ true) same g.confirmed) y k.generation (subst (λ (m : List (ℕ × ℕ)). In {X = ℕ × ℕ} (y, k.generation) m) (sym C.same) i) in
+            let t = confirmed_lost c _ _ gives o.known.0.1.1 o.known.1.1 name d u S E.still.there E.still.lasts g.answer (message_sent last.state g.index g.answer g.there) g.for_reader g.complete y k.generation (subst (λ (m : List (ℕ × ℕ)). In {X = ℕ × ℕ} (y, k.generation) m) (sym C.same) i) in
             let p : Node = node_at (next_world c (world_after c (begin c) before) asks).state y in
             lost_plain p l (home_epoch s) t.generation (asked_old y t.generation (subst (λ (m : List (ℕ × ℕ)). find y m ≡ Some t.generation) C.same t.held))
             (subst (λ j. LostIn p l (home_epoch j) t.generation) (C.next ∙ E.asked.next) (subst (λ j. LostIn p j (home_epoch d.next) t.generation) E.of_log t.lost));

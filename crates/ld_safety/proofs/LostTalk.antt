@@ -96,7 +96,7 @@ module _ (c : Config) (s : State) (e : Event) (Q : List Msg → List (List ℕ �
       sets = λ l r x set h. quietly _ refl refl refl;
       arms = λ k done o. quietly _ refl refl refl;
       hears = λ f name q m i t l v o. acted f name q (on_reply (looks_at c s.register q.log) q (Step.sender_node m.from) m.body);
-      retries = λ name q v o. acted s.network.fresh name q (on_retry q);
+      retries = λ name q v o. acted s.network.fresh name q (on_retry (looks_at c s.register q.log) q);
       appends = λ name q p v a i. abroad _ refl refl (posted_elsewhere (whos.Sequencer q.epoch) q.log _ (λ r z. cc));
       trims = λ name q t v b. abroad _ refl refl (posted_elsewhere (whos.Sequencer q.epoch) q.log _ (λ r z. cc));
       drops = λ name q v o. quietly _ refl refl refl;

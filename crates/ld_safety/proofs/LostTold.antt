@@ -23,7 +23,7 @@ use Rattle.ld_safety.specs.Lost.{has_copied}
 use Rattle.ld_safety.proofs.Lists.{Some_inj, only, any_in, any_from, not_both}
 use Rattle.ld_safety.proofs.NodeSteps.{Served, store_decided, ask_decided, read_answered}
 use Rattle.ld_safety.proofs.Events.{NamesOnce, Serves}
-use Rattle.ld_safety.proofs.LostTalk.{TalkKeeps, talked, new_or_old}
+use Rattle.ld_safety.proofs.LostTalk.{TalkKeeps, talked, new_or_old, still_sent}
 use Rattle.ld_safety.proofs.LostRounds.{posted_to}
 use Rattle.ld_safety.proofs.LostUnserved.{AllUnserved}
 
@@ -124,6 +124,16 @@ module _ (c : Config) (w : World) (e : Event) (up : (n l : ℕ) → Serves c w.s
     | inl o ↦ any_from (told_by p l y b) x.0 w.state.network.sent o x.2
     | inr n ↦ absurd (t.talk y l s b u x.0 n (let v = and_parts ((x.0.log == l) && p x.0.body) (is_node y x.0.from && is_sequencer b x.0.to) x.2 in let z = and_parts (x.0.log == l) (p x.0.body) v.0 in and_from _ _ (and_from _ _ z.0 (k x.0.body z.1)) v.1))
   ]
+
+  -- who told it before tells it after
+  told_after : NamesOnce w.state → (p : Body → Bool) (y l b : ℕ) → has_told w p l b y ≡ true → has_told (next_world c w e) p l b y ≡ true
+  told_after N p y l b h = let t = talked c w.state e (λ ms ds. NoneTold ms) none_talk N in let x = any_in (told_by p l y b) w.state.network.sent h in any_from (told_by p l y b) x.0 (next_world c w e).state.network.sent (still_sent c w.state e x.0 t.same x.1) x.2
+
+  pub copied_after : NamesOnce w.state → (y l s : ℕ) (z : Summary) → has_copied w l s z y ≡ true → has_copied (next_world c w e) l s z y ≡ true
+  copied_after N y l s z = by_good (nat_le (esn_of s) z.lng) where
+    by_good : (t : Bool) → (if t then has_told w (says_stored s) l (epoch_of s) y else has_told w (says_settled s) l z.ballot y) ≡ true → (if t then has_told (next_world c w e) (says_stored s) l (epoch_of s) y else has_told (next_world c w e) (says_settled s) l z.ballot y) ≡ true
+    by_good true h = told_after N (says_stored s) y l (epoch_of s) h
+    by_good false h = told_after N (says_settled s) y l z.ballot h
 
   pub copied_before : NamesOnce w.state → (y l s : ℕ) (z : Summary) → AllUnserved (node_at w.state y) l (epoch_of s) → has_copied (next_world c w e) l s z y ≡ true → has_copied w l s z y ≡ true
   copied_before N y l s z u = by_good (nat_le (esn_of s) z.lng) where

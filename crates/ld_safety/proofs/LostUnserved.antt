@@ -65,7 +65,7 @@ on_page_other : (g : Log) (l : ℕ) (b : Body) (p : Op) → (on_page g l b).op �
 unfolding on_page
 on_page_other g l b p q = if_other g.lost (page_op g l b) p (page_other g l b p) q
 
-handled_other : (generation : ℕ) (g : Log) (l ballot released : ℕ) (b : Body) (p : Op) → (handled_by generation g l ballot released b).op ≡ Some p → is_refilled p ≡ false
+pub handled_other : (generation : ℕ) (g : Log) (l ballot released : ℕ) (b : Body) (p : Op) → (handled_by generation g l ballot released b).op ≡ Some p → is_refilled p ≡ false
 unfolding on_store on_digest_ask on_clean on_trim
 handled_other generation g l ballot released (bodies.Store n lng x) p q = taken_other (ops.Accept l lng (record { number = n; ballot = ballot; what = x })) p (store_decision g (record { number = n; ballot = ballot; what = x })) refl q
 handled_other generation g l ballot released (bodies.DigestAsk from) p q = taken_other (ops.Seal l ballot) p (digest_decision g ballot from) refl q
@@ -129,7 +129,7 @@ lost_found l (e ∷ es) x h p = by_key (is_at (nat_cmp l) e.0) refl (e.1.epoch =
 lost_is : (n e : ℕ) → 0 < e → e ≤ n → is_lost (lost_log n) e ≡ true
 lost_is n e p q = and_from _ _ (lt-ltb 0 n (omega arith)) (and_from _ _ (lt-ltb 0 e p) (le-leb e n q))
 
-format_lost : (k : Register) (g l e : ℕ) → 0 < e → e ≤ (epochs_of k l).epoch → is_lost (log_of (record { generation = g; logs = lost_logs (epochs_in k.logs) }) l) e ≡ true
+pub format_lost : (k : Register) (g l e : ℕ) → 0 < e → e ≤ (epochs_of k l).epoch → is_lost (log_of (record { generation = g; logs = lost_logs (epochs_in k.logs) }) l) e ≡ true
 format_lost k g l e a b = by_find (find l k.logs) refl where
   by_find : (o : Option Epochs) → find l k.logs ≡ o → is_lost (unwrap_or (find l (lost_logs (epochs_in k.logs))) empty_log) e ≡ true
   by_find None f = absurd (let z : (epochs_of k l).epoch ≡ 0 = ap (λ o. (unwrap_or o no_epochs).epoch) f in omega arith)
@@ -173,7 +173,7 @@ AllUnserved x l e = (p : Plain) → MayHold x p → Unserved p l e
 kept_unserved : (x : Node) (o : Op) (l e : ℕ) → is_format o ≡ false → ((k : ℕ) → o ≡ ops.Refilled k → FullClean (log_of x.plain k)) → AllUnserved x l e → AllUnserved (keep_op x o) l e
 kept_unserved x o l e n f h p q = elim (kept_from x o p q).from [ inl a ↦ h p a | inr a ↦ subst (λ z. Unserved z l e) (sym a) (op_unserved x.plain o l e n f (h x.plain (inl refl))) ]
 
-not_refilled : (o : Op) (k : ℕ) → is_refilled o ≡ false → o ≡ ops.Refilled k → ⊥
+pub not_refilled : (o : Op) (k : ℕ) → is_refilled o ≡ false → o ≡ ops.Refilled k → ⊥
 not_refilled o k h q = let z : is_refilled (ops.Refilled k) ≡ false = subst (λ x. is_refilled x ≡ false) q h in cc
 
 format_unserved : (x : Node) (r : Register) (k : Register) (n l e : ℕ) → draw r n ≡ record { register = k; answer = Granted } → 0 < e → e ≤ (epochs_of r l).epoch → AllUnserved x l e → AllUnserved (keep_op (load x) (ops.Format (generation_of k n) (epochs_in k.logs))) l e

@@ -1,12 +1,14 @@
 -- What is in a table after a change, and in a list that is made from others.
-use Rattle.std.proofs.Common.{◌≡◌, ◌∙◌, ◌⊎◌, ℕ, ◌≤◌, ◌<◌, ◌+◌, ◌==◌, inl, inr, refl, sym, subst, Bool, true, false, cond, nat_cmp, Ordering, Less, Equal, Greater, List, [], ◌∷◌, filter, take, zero, suc, Some, arith}
+use Rattle.std.proofs.Common.{◌≡◌, ◌∙◌, ◌⊎◌, ℕ, ◌≤◌, ◌<◌, ◌+◌, ◌==◌, inl, inr, refl, sym, subst, Bool, true, false, cond, nat_cmp, Ordering, Less, Equal, Greater, List, [], ◌∷◌, filter, length, take, zero, suc, Some, arith}
 use Rattle.std.specs.Ordering.{match_ordering}
 use Rattle.std.specs.BTreeMap.{is_at}
 use Rattle.std.specs.FinMap.{nat_cmp-IsAntisymmetric}
-use Rattle.std.proofs.lemmas.Bool.{cases_eq, cases_order, eq-eqb, or_left, or_right}
+use Rattle.std.specs.List.{AllByRecursion, IsDistinct}
+use Rattle.std.proofs.lemmas.Bool.{cases_eq, cases_order, eq-eqb, ne_eqb, or_left, or_right}
 use Rattle.ld_table.specs.Table.{find, put, take_out, keep, keep_keys}
-use Rattle.ld_table.specs.Words.{values, numbers_from, is_in}
+use Rattle.ld_table.specs.Words.{values, numbers_from, is_in, how_many}
 use Rattle.ld_table.proofs.Laws.{same_key}
+use Rattle.ld_ids.specs.Set.{members, members_from}
 use Rattle.ld_machine.specs.World.{In}
 use Rattle.ld_safety.proofs.Lists.{Some_inj, not_none, not_both}
 
@@ -34,6 +36,45 @@ pub in_set : (y : ℕ) (xs : List ℕ) → In y xs → is_in y xs ≡ true
 in_set y [] i = absurd i
 in_set y (x ∷ xs) (inl e) = or_left (x == y) (is_in y xs) (eq-eqb x y (sym e))
 in_set y (x ∷ xs) (inr i) = or_right (x == y) (is_in y xs) (in_set y xs i)
+
+pub filter_count : {X : Type 0} (p : X → Bool) (xs : List X) → how_many p xs ≤ length (filter p xs)
+filter_count p [] = omega arith
+filter_count p (y ∷ xs) = by_test (p y) (filter_count p xs) where
+  by_test : (b : Bool) → how_many p xs ≤ length (filter p xs) → cond b (suc (how_many p xs)) (how_many p xs) ≤ length (cond b (y ∷ filter p xs) (filter p xs))
+  by_test true h = omega arith
+  by_test false h = h
+
+-- ---- lists without a number twice ----
+filter_all : (p : ℕ → Bool) (P : ℕ → Type 0) (xs : List ℕ) → AllByRecursion P xs → AllByRecursion P (filter p xs)
+filter_all p P [] h = tt
+filter_all p P (y ∷ xs) h = by_test (p y) (filter_all p P xs h.1) where
+  by_test : (b : Bool) → AllByRecursion P (filter p xs) → AllByRecursion P (cond b (y ∷ filter p xs) (filter p xs))
+  by_test true g = (h.0, g)
+  by_test false g = g
+
+pub filter_apart : (p : ℕ → Bool) (xs : List ℕ) → IsDistinct ◌==◌ xs → IsDistinct ◌==◌ (filter p xs)
+unfolding IsDistinct
+filter_apart p [] h = tt
+filter_apart p (y ∷ xs) h = by_test (p y) (filter_apart p xs h.1) where
+  by_test : (b : Bool) → IsDistinct ◌==◌ (filter p xs) → IsDistinct ◌==◌ (cond b (y ∷ filter p xs) (filter p xs))
+  by_test true g = (filter_all p (λ x. (y == x) ≡ false) xs h.0, g)
+  by_test false g = g
+
+members_above : (j k : ℕ) (flags : List Bool) → j < k → AllByRecursion (λ x. (j == x) ≡ false) (members_from k flags)
+unfolding members_from
+members_above j k [] lt = tt
+members_above j k (true ∷ flags) lt = (ne_eqb j k (λ z. omega arith), members_above j (k + 1) flags (omega arith))
+members_above j k (false ∷ flags) lt = members_above j (k + 1) flags (omega arith)
+
+apart_from : (k : ℕ) (flags : List Bool) → IsDistinct ◌==◌ (members_from k flags)
+unfolding members_from IsDistinct
+apart_from k [] = tt
+apart_from k (true ∷ flags) = (members_above k (k + 1) flags (omega arith), apart_from (k + 1) flags)
+apart_from k (false ∷ flags) = apart_from (k + 1) flags
+
+-- the nodes of a set
+pub members_apart : (flags : List Bool) → IsDistinct ◌==◌ (members flags)
+members_apart flags = apart_from 1 flags
 
 pub In_take : {X : Type 0} (n : ℕ) (x : X) (xs : List X) → In x (take n xs) → In x xs
 In_take zero x xs h = absurd h

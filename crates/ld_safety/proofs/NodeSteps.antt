@@ -60,7 +60,7 @@ module _ (g : Log) (ballot from : ℕ) (Q : Decision → Type 0) (K : Asking g b
 
 pub record ReadAnswering (generation : ℕ) (g : Log) (released round from : ℕ) (Q : Body → Type 0) : Type 0 where
   pub trimmed : from ≤ g.trim → Q (bodies.ReadTrim round from g.trim)
-  pub ended : (y : Summary) → g.trim < from → summary_at g (home_epoch from) ≡ Some y → y.end ≤ home_esn from → Q (bodies.ReadEnded round from (numbered (home_epoch from) y.end))
+  pub ended : (y : Summary) → g.trim < from → summary_at g (home_epoch from) ≡ Some y → y.end ≤ home_esn from → Q (bodies.ReadEnded round from (numbered (home_epoch from) y.end) y.loss)
   pub lost_clean : (y : Summary) → g.trim < from → summary_at g (home_epoch from) ≡ Some y → home_esn from < y.end → is_lost g (home_epoch from) ≡ true → Q (bodies.LostHere from round generation (numbered (home_epoch from) y.end))
   pub lost : g.trim < from → summary_at g (home_epoch from) ≡ None → is_lost g (home_epoch from) ≡ true → Q (bodies.LostHere from round generation 0)
   pub clean : (y : Summary) → g.trim < from → summary_at g (home_epoch from) ≡ Some y → home_esn from < y.end → is_lost g (home_epoch from) ≡ false → Q (clean_page g round from y)

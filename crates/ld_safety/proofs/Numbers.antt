@@ -24,7 +24,7 @@ use Rattle.ld_ids.specs.declared.set.Spec.{Spec}
 use Rattle.ld_msg.specs.declared.msg.Summary.{Summary}
 use Rattle.ld_msg.specs.Register.{Register, View, Changed, Epochs, epoch_limit, no_epochs, next_epoch, closed_epochs, with_epochs, close, epochs_of, generation_of, epochs_in, activate, draw, lce_of}
 use Rattle.ld_machine.specs.Disk.{Node, keep_end}
-use Rattle.ld_msg.specs.Sequencer.{Sequencer, Acts, Appending, TooLong, EpochFull, Numbered, or_preempted, payload_limit, appending, appended, fresh_append, next_esn, activated, on_reply, on_retry, called}
+use Rattle.ld_msg.specs.Sequencer.{Sequencer, Acts, Appending, TooLong, EpochFull, Numbered, or_preempted, payload_limit, appending, appended, fresh_append, next_esn, activated, on_reply, on_retry, called, Attempt}
 use Rattle.ld_machine.specs.State.{State, Done, finish, node_at, with_node, with_register}
 use Rattle.ld_machine.specs.Facts.{Happened, Writes, Appends, sequencer_log, log_activated, activates_name}
 use Rattle.ld_machine.specs.Safe.{NumbersRise, NumbersDiffer}
@@ -208,7 +208,7 @@ put_rises r n l x h m s k = let e = epochs_same (with_epochs r l x) n k s in let
 ]
 
 activate_rises : (r : Register) (l : ℕ) (p : Spec) → Rises r (activate r l p).register
-activate_rises r l p = elim (activate_leaves r l p) [ inl s ↦ same_rises r (activate r l p).register s | inr s ↦ let z = s.0 in put_rises r (activate r l p).register l (next_epoch (epochs_of r l) p) (omega arith) (λ b. omega arith) s.1 ]
+activate_rises r l p = elim (activate_leaves r l p) [ inl s ↦ same_rises r (activate r l p).register s | inr s ↦ let z = s.0 in put_rises r (activate r l p).register l (next_epoch (epochs_of r l) p) (omega arith) (λ z. omega arith) s.1 ]
 
 draw_rises : (r : Register) (n : ℕ) → Rises r (draw r n).register
 draw_rises r n l = elim (draw_leaves r n) [
@@ -216,12 +216,12 @@ draw_rises r n l = elim (draw_leaves r n) [
   | inr s ↦ let f : (epochs_of (draw r n).register l).epoch ≡ (epochs_of r l).epoch = ap (λ m. (unwrap_or (find l m) no_epochs).epoch) s.0 in (omega arith, λ b. omega arith)
 ]
 
-close_rises : (r : Register) (l e : ℕ) (y : Summary) → Rises r (close r l e y).register
-close_rises r l e y = elim (close_leaves r l e y) [ inl s ↦ same_rises r (close r l e y).register s | inr s ↦ put_rises r (close r l e y).register l (closed_epochs (epochs_of r l) e y) (omega arith) (λ b. omega arith) s.1 ]
+close_rises : (r : Register) (l e : ℕ) (y : Summary) (b : Bool) → Rises r (close r l e y b).register
+close_rises r l e y b = elim (close_leaves r l e y b) [ inl s ↦ same_rises r (close r l e y b).register s | inr s ↦ put_rises r (close r l e y b).register l (closed_epochs (epochs_of r l) e y) (omega arith) (λ z. omega arith) s.1 ]
 
-called_rises : (looks : ℕ → View) (r : Register) (a : Acts) (ts : List (ℕ × Summary)) → Rises r (called looks r a ts).register
+called_rises : (looks : ℕ → View) (r : Register) (a : Acts) (ts : List Attempt) → Rises r (called looks r a ts).register
 called_rises looks r a [] l = (omega arith, λ b. omega arith)
-called_rises looks r a (t ∷ ts) l = close_rises r a.sequencer.log t.0 t.1 l
+called_rises looks r a (t ∷ ts) l = close_rises r a.sequencer.log t.epoch t.summary t.short l
 
 rises_once : (m : List (List ℕ × Sequencer)) (r n : Register) → Rises r n → Epochs_once m r → Epochs_once m n
 rises_once m r n h o = record { limit = λ l. (h l).1 (o.limit l); drawn = λ s q f. let a = o.drawn s q f in let b = (h q.log).0 in omega arith; positive = o.positive; once = o.once }
@@ -396,8 +396,8 @@ module _ (c : Config) (hs : List Happened) (w : World) (e : Event) (N : NamesOnc
     faults = λ n f o. stays _ refl no_rise sends_nothing;
     sets = λ l r x set h. stays _ refl no_rise (λ s. groups_apart s OfSets (lines.Set l r x set ∷ []) (λ h. cc) (one_of (lines.Set l r x set)));
     arms = λ k done o. stays _ refl no_rise sends_nothing;
-    hears = λ f name q m i t l v o. acted_on f name q (on_reply (looks_at c w.state.register q.log) q (Step.sender_node m.from) m.body) v.named (λ r. reply_continues c w.state.register q r name (Step.sender_node m.from) m.body v.there);
-    retries = λ name q v o. acted_on w.state.network.fresh name q (on_retry q) v.named (λ r. retry_continues c w.state.register q r);
+    hears = λ f name q m i t l v o. acted_on f name q (on_reply (looks_at c w.state.register q.log) q (Step.sender_node m.from) m.body) v.named (λ r. reply_continues c w.state q r name (Step.sender_node m.from) m.body v.there);
+    retries = λ name q v o. acted_on w.state.network.fresh name q (on_retry (looks_at c w.state.register q.log) q) v.named (λ r. retry_continues c w.state q r v.there);
     appends = λ name q p v a i. appends_one _ name q p refl refl refl v.named a;
     trims = λ name q t v b. stays _ refl no_rise (λ s. groups_apart s OfTrims (lines.Trimmed name t ∷ []) (λ h. cc) (one_of (lines.Trimmed name t)));
     drops = λ name q v o. goes_on _ name q (Step.dropped q) refl no_rise v.named sends_nothing (λ r. record { log = refl; epoch = refl; count = refl; row = r });

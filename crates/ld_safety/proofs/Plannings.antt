@@ -1,6 +1,7 @@
 -- What each plan that was made stands on: a digest that showed all, of enough nodes.
-use Rattle.std.proofs.Common.{◌≡◌, ◌∙◌, ◌⊎◌, ◌≤◌, ◌<◌, ℕ, ◌+◌, ◌-◌, inl, inr, sym, subst, true, not, ◌&&◌, List, [], ◌++◌, length}
-use Rattle.ld_table.specs.Words.{how_many}
+use Rattle.std.proofs.Common.{◌≡◌, ◌∙◌, ◌⊎◌, ◌≤◌, ◌<◌, ℕ, ◌+◌, ◌-◌, inl, inr, ap, sym, subst, Bool, true, false, not, ◌&&◌, List, [], ◌∷◌, ◌++◌, map, filter, length, arith}
+use Rattle.std.proofs.lemmas.Bool.{cases_Bool}
+use Rattle.ld_table.specs.Words.{is_in, how_many}
 use Rattle.ld_lsn.specs.Number.{epoch_of, esn_of, last_esn}
 use Rattle.ld_ids.specs.declared.set.Spec.{Spec}
 use Rattle.ld_ids.specs.Choice.{nodes_of}
@@ -8,39 +9,78 @@ use Rattle.ld_config.specs.declared.config.Config.{Config}
 use Rattle.ld_msg.specs.declared.msg.What.{What}
 use Rattle.ld_msg.specs.declared.msg.Msg.{Msg}
 use Rattle.ld_msg.specs.Register.{Register}
-use Rattle.ld_msg.specs.Digest.{Told, digest_lng}
+use Rattle.ld_msg.specs.Digest.{Told, digest_lng, digest_trim, plan_end, is_bridge}
+use Rattle.ld_msg.specs.declared.msg.What.TheVariants.{Bridge}
+use Rattle.ld_safety.proofs.Plans.{trim_place_most, end_most, top_most}
 use Rattle.ld_machine.specs.Config.{spec_of, set_at}
 use Rattle.ld_machine.specs.State.{Done, finish, node_at}
 use Rattle.ld_machine.specs.Facts.{Happened}
 use Rattle.ld_machine.specs.World.{Made, In}
 use Rattle.ld_safety.proofs.Steps.{sent_by, sent_before}
-use Rattle.ld_safety.proofs.Protocol.{Says, StoredBy, Kept, PlanFacts}
+use Rattle.ld_safety.proofs.Protocol.{Basis, Says, StoredBy, Kept, DigestFacts, PlanFacts}
+use Rattle.ld_safety.proofs.Lists.{not_both}
+use Rattle.ld_safety.proofs.Losses.{spent_each, spent_gone, in_filter}
 use Rattle.ld_safety.proofs.HoldKept.{NodeHolds, ends_later}
 use Rattle.ld_safety.proofs.Sent.{SendsFine, no_page}
 use Rattle.ld_safety.proofs.Registers.{Up, Reached, reached_later}
-use Rattle.ld_safety.proofs.Settled.{Stays}
+use Rattle.ld_safety.proofs.Settled.{Open, LostTold, Stays}
 use Rattle.ld_safety.proofs.Digests.{DigestSoFar}
-use Rattle.ld_safety.proofs.Digesting.{NewPlan}
+use Rattle.ld_safety.proofs.Digesting.{NewPlan, WhyNow}
 use Rattle.ld_safety.proofs.DigestKept.{digest_later}
 
-pub record PlanMade (c : Config) (hs : List Happened) (sent : List Msg) (made : List Made) (r : Register) (l e b : ℕ) (d : List Told) : Type 0 where
-  pub reached : Reached r l e
-  pub digest : DigestSoFar hs made sent (spec_of c r l e) l e b d
-  pub enough_told : length (set_at c r l e) < (spec_of c r l e).r + how_many (λ (t : Told). t.whole && not t.lost) d
-  pub later : e < b
-  pub seen : (t : Told) → In t d → t.whole ≡ true → (n a : ℕ) → epoch_of n ≡ e → digest_lng d < esn_of n → a < b → StoredBy sent l t.node n a → Kept made l b t.trim t.entries n a
-  pub good_most : digest_lng d ≤ last_esn - 1
+-- a loss plan: each node is whole in its digest, or had nothing to tell, and as many of them had as there are copies
+pub record LossMade (s : Spec) (d : Basis) : Type 0 where
+  pub told : (t : Told) → In t d.digest → ((t.whole ≡ true) × (t.lost ≡ false)) ⊎ (is_in t.node d.gone ≡ true)
+  pub gone : s.r ≤ how_many (λ y. is_in y d.gone) (nodes_of s)
 
-pub just_made : (c : Config) (hs : List Happened) (sent : List Msg) (made : List Made) (r : Register) (l e b : ℕ) (d : List Told) → NewPlan c hs sent made r l e b d → PlanMade c hs sent made r l e b d
-just_made c hs sent made r l e b d n = record { reached = n.reached; digest = n.digest; enough_told = n.enough_told; later = n.later; seen = n.seen; good_most = n.good_most }
+-- why a plan was made
+abbrev pub WhyMade : Spec → Basis → Type 0
+WhyMade s d = ((d.loss ≡ false) × (length (nodes_of s) < s.r + how_many (λ (t : Told). t.whole && not t.lost) d.digest)) ⊎ ((d.loss ≡ true) × LossMade s d)
+
+pub record PlanMade (c : Config) (hs : List Happened) (sent : List Msg) (made : List Made) (r : Register) (l e b : ℕ) (d : Basis) : Type 0 where
+  pub reached : Reached r l e
+  pub digest : DigestSoFar hs made sent (spec_of c r l e) l e b d.digest
+  pub why : WhyMade (spec_of c r l e) d
+  pub later : e < b
+  pub seen : (t : Told) → In t d.digest → t.whole ≡ true → (n a : ℕ) → epoch_of n ≡ e → digest_lng d.digest < esn_of n → a < b → StoredBy sent l t.node n a → Kept made l b t.trim t.entries n a
+  pub good_most : digest_lng d.digest ≤ last_esn - 1
+
+-- nodes that have nothing to tell, among those of a set
+abbrev pub Test : Type 0
+Test = ℕ → ℕ → ℕ → Bool
+
+abbrev pub passing : Test → ℕ → ℕ → List ℕ → List ℕ
+passing p l e set = filter (p l e) set
+
+pub in_nodes : (t : Told) (d : List Told) (ns : List ℕ) → map (λ (t : Told). t.node) d ≡ ns → In t d → In t.node ns
+in_nodes t d ns q i = subst (In t.node) q (map_in t d i) where
+  map_in : (t : Told) (d : List Told) → In t d → In t.node (map (λ (t : Told). t.node) d)
+  map_in t [] i = i
+  map_in t (x ∷ d) (inl e) = inl (ap (λ (y : Told). y.node) e)
+  map_in t (x ∷ d) (inr i) = inr (map_in t d i)
+
+pub just_made : (c : Config) (hs : List Happened) (sent : List Msg) (made : List Made) (r : Register) (p : Test) (l e b : ℕ) (d : Basis) → ((y : ℕ) → LostTold sent l e b y → Open r l e → p l e y ≡ true) → NewPlan c hs sent (passing p) made r l e b d → PlanMade c hs sent made r l e b d
+just_made c hs sent made r p l e b d said n = record { reached = n.reached; digest = n.digest; why = by_why n.why; later = n.later; seen = n.seen; good_most = n.good_most } where
+  by_why : WhyNow c hs sent r l e b d → WhyMade (spec_of c r l e) d
+  by_why (inl h) = inl h
+  by_why (inr h) = inr (
+    h.0,
+    record {
+      told = λ t i. elim (cases_Bool t.lost) [
+        | inl k ↦ inr (subst (λ g. is_in t.node g ≡ true) (sym n.gone_now) (in_filter (p l e) t.node (set_at c r l e) (in_nodes t d.digest (set_at c r l e) n.digest.nodes i) (said t.node ((n.digest.told t i).lost_said k) h.1.open_still)))
+        | inr k ↦ inl (spent_each (spec_of c r l e) d.digest t h.1.spent i k, k)
+      ];
+      gone = subst (λ g. (spec_of c r l e).r ≤ how_many (λ y. is_in y g) (set_at c r l e)) (sym n.gone_now) (spent_gone (p l e) (spec_of c r l e) d.digest n.digest.nodes (λ t i k. said t.node ((n.digest.told t i).lost_said k) h.1.open_still) h.1.spent);
+    },
+  )
 
 -- while more happens
 module _ (c : Config) (hs next : List Happened) (made more : List Made) (sent : List Msg) (r k : Register) (u : Up r k) (y : Stays c r k) (grow : (l b n : ℕ) (x : What) → Says hs made l b n x → Says next (more ++ made) l b n x) where
-  pub plan_later : (l e b : ℕ) (d : List Told) → PlanMade c hs sent made r l e b d → PlanMade c next sent (more ++ made) k l e b d
+  pub plan_later : (l e b : ℕ) (d : Basis) → PlanMade c hs sent made r l e b d → PlanMade c next sent (more ++ made) k l e b d
   plan_later l e b d p = record {
     reached = reached_later r k l e u p.reached;
-    digest = subst (λ s. DigestSoFar next (more ++ made) sent s l e b d) (sym (y.specs l e p.reached)) (digest_later hs next made more sent sent (λ m i. i) grow (spec_of c r l e) l e b d p.digest);
-    enough_told = subst (λ (s : Spec). length (nodes_of s) < s.r + how_many (λ (t : Told). t.whole && not t.lost) d) (sym (y.specs l e p.reached)) p.enough_told;
+    digest = subst (λ s. DigestSoFar next (more ++ made) sent s l e b d.digest) (sym (y.specs l e p.reached)) (digest_later hs next made more sent sent (λ m i. i) grow (spec_of c r l e) l e b d.digest p.digest);
+    why = subst (λ (s : Spec). WhyMade s d) (sym (y.specs l e p.reached)) p.why;
     later = p.later;
     seen = λ t i w n a q pl lt st. (kept_later l b n a t (p.seen t i w n a q pl lt st));
     good_most = p.good_most;
@@ -58,11 +98,11 @@ module _ (c : Config) (hs : List Happened) (made : List Made) (sent : List Msg) 
   new_or_old : (m : Msg) → In m (finish d).state.network.sent → In m sent ⊎ In m d.sends
   new_or_old m i = elim (sent_by d m i) [ inl a ↦ inl (subst (λ (z : List Msg). In m z) Q a) | inr a ↦ inr a ]
 
-  pub plan_sent : (l e b : ℕ) (f : List Told) → PlanMade c hs sent made r l e b f → PlanMade c hs (finish d).state.network.sent made r l e b f
+  pub plan_sent : (l e b : ℕ) (f : Basis) → PlanMade c hs sent made r l e b f → PlanMade c hs (finish d).state.network.sent made r l e b f
   plan_sent l e b f p = record {
     reached = p.reached;
-    digest = digest_later hs hs made [] sent (finish d).state.network.sent into (λ l b n x s. s) (spec_of c r l e) l e b f p.digest;
-    enough_told = p.enough_told;
+    digest = digest_later hs hs made [] sent (finish d).state.network.sent into (λ l b n x s. s) (spec_of c r l e) l e b f.digest p.digest;
+    why = p.why;
     later = p.later;
     seen = λ t i w n a q pl lt st. elim (new_or_old _ st) [
       | inl j ↦ p.seen t i w n a q pl lt j
@@ -71,11 +111,21 @@ module _ (c : Config) (hs : List Happened) (made : List Made) (sent : List Msg) 
     good_most = p.good_most;
   }
 
+-- a plan ends in its epoch
+pub ends_in : (c : Config) (hs : List Happened) (sent : List Msg) (made : List Made) (r : Register) (l e b : ℕ) (d : Basis) → PlanMade c hs sent made r l e b d → plan_end e d.digest ≤ last_esn
+ends_in c hs sent made r l e b d p = let t = trim_place_most e (digest_trim d.digest) in
+    let z = end_most e d.digest (last_esn - 1) (top_most (last_esn - 1) d.digest (λ u f j k n. let y = ((p.digest.told u j).frozen f k).place.below (λ q. not_bridge f.what q n) in omega arith)) t p.good_most in omega arith where
+      not_bridge : (x : What) → x ≡ Bridge → is_bridge x ≡ false → ⊥
+      not_bridge x q n = let z : is_bridge x ≡ true = ap is_bridge q in cc
+
 -- what agreement stands on
-pub plan_facts : (c : Config) (hs : List Happened) (sent : List Msg) (made : List Made) (r : Register) (l e b : ℕ) (d : List Told) → PlanMade c hs sent made r l e b d → PlanFacts hs made sent (spec_of c r l e) l e b d
-plan_facts c hs sent made r l e b d p = record {
-  digest = record { told = λ t i. record { frozen = (p.digest.told t i).frozen; seen = p.seen t i }; nodes = p.digest.nodes };
-  enough = p.enough_told;
+digest_facts : (c : Config) (hs : List Happened) (sent : List Msg) (made : List Made) (r : Register) (l e b : ℕ) (d : Basis) → PlanMade c hs sent made r l e b d → DigestFacts hs made sent (spec_of c r l e) l e b d.digest
+digest_facts c hs sent made r l e b d p = record { told = λ t i. record { frozen = (p.digest.told t i).frozen; seen = p.seen t i }; nodes = p.digest.nodes }
+
+pub plan_facts : (c : Config) (hs : List Happened) (sent : List Msg) (made : List Made) (r : Register) (l e b : ℕ) (d : Basis) → PlanMade c hs sent made r l e b d → d.loss ≡ false → PlanFacts hs made sent (spec_of c r l e) l e b d.digest
+plan_facts c hs sent made r l e b d p f = record {
+  digest = digest_facts c hs sent made r l e b d p;
+  enough = elim p.why [ inl h ↦ h.1 | inr h ↦ absurd (not_both d.loss h.0 f) ];
   later = p.later;
   good_most = p.good_most;
 }

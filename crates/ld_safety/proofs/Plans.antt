@@ -4,9 +4,9 @@ use Rattle.ld_table.specs.Words.{numbers_from}
 use Rattle.std.proofs.lemmas.Bool.{cases_Bool, and_parts, ltb-true, ltb-false, leb-true, leb-false, lt-ltb, eqb-true, eq-eqb, cases_lt}
 use Rattle.ld_lsn.specs.Number.{epoch_of, esn_of, numbered, last_esn}
 use Rattle.ld_msg.specs.declared.msg.What.{What}
-use Rattle.ld_msg.specs.declared.msg.What.TheVariants.{Rec, Hole, Bridge}
+use Rattle.ld_msg.specs.declared.msg.What.TheVariants.{Rec, Hole, Bridge, Plug}
 use Rattle.ld_msg.specs.declared.msg.Entry.{Entry}
-use Rattle.ld_msg.specs.Digest.{better, is_bridge, says, statement, Told, best, is_content, record_or_hole, content, digest_trim, digest_lng, trim_place, top_in, top_place, plan_floor, plan_end, plan_item, Item, record_items, plan}
+use Rattle.ld_msg.specs.Digest.{better, is_bridge, says, statement, Told, best, is_content, record_or, content, digest_trim, digest_lng, trim_place, top_in, top_place, plan_floor, plan_end, plan_item, Item, record_items, no_record, plan}
 use Rattle.ld_machine.specs.World.{In}
 use Rattle.ld_safety.proofs.Lists.{Some_inj, not_none, not_both, branch, cond_both, max_both, In-append, only, In_left}
 use Rattle.ld_safety.proofs.Members.{In_numbers, numbers_in}
@@ -35,11 +35,13 @@ better_right (Some e) (Some f) = cond_both (nat_lt e.ballot f.ballot) (Some f) (
 pub bridge_what : (w : What) → is_bridge w ≡ true → w ≡ Bridge
 bridge_what (Rec p) h = absurd cc
 bridge_what Hole h = absurd cc
+bridge_what Plug h = absurd cc
 bridge_what Bridge h = refl
 
 pub no_bridge : (w : What) → (w ≡ Bridge → ⊥) → is_bridge w ≡ false
 no_bridge (Rec p) h = refl
 no_bridge Hole h = refl
+no_bridge Plug h = refl
 no_bridge Bridge h = absurd (h refl)
 
 says_of : (s : ℕ) (e f : Entry) → says s e ≡ Some f → (e ≡ f) × ((e.number ≡ s) ⊎ ((e.number < s) × (e.what ≡ Bridge)))
@@ -173,15 +175,15 @@ pub trim_place_most : (e t : ℕ) → trim_place e t ≤ last_esn - 1
 trim_place_most e t = cond_both (nat_lt (epoch_of t) e) 0 _ (λ x. x ≤ last_esn - 1) (λ a. omega arith) (λ a. cond_both (nat_lt e (epoch_of t)) (last_esn - 1) (min (esn_of t) (last_esn - 1)) (λ x. x ≤ last_esn - 1) (λ b. omega arith) (λ b. omega arith))
 
 -- ---- the plan's shape ----
-pub record Shape (e : ℕ) (d : List Told) (n : ℕ) (w : What) : Type 0 where
+pub record Shape (e : ℕ) (b : Bool) (d : List Told) (n : ℕ) (w : What) : Type 0 where
   pub above : plan_floor e d < n
-  pub kind : ((n < plan_end e d) × (w ≡ content (best (numbered e n) d))) ⊎ ((n ≡ plan_end e d) × (w ≡ Bridge))
+  pub kind : ((n < plan_end e d) × (w ≡ content b (best (numbered e n) d))) ⊎ ((n ≡ plan_end e d) × (w ≡ Bridge))
 
-pub plan_shape : (e : ℕ) (d : List Told) (n : ℕ) (w : What) → plan_item e d n ≡ Some w → Shape e d n w
+pub plan_shape : (e : ℕ) (b : Bool) (d : List Told) (n : ℕ) (w : What) → plan_item e b d n ≡ Some w → Shape e b d n w
 unfolding plan_item
-plan_shape e d n w h = elim (branch (nat_le n (plan_floor e d)) None _ (Some w) h) [
+plan_shape e b d n w h = elim (branch (nat_le n (plan_floor e d)) None _ (Some w) h) [
   | inl t ↦ absurd (not_none t.1)
-  | inr t ↦ let a : plan_floor e d < n = leb-false _ _ t.0 in elim (branch (nat_lt n (plan_end e d)) (Some (content (best (numbered e n) d))) _ (Some w) t.1) [
+  | inr t ↦ let a : plan_floor e d < n = leb-false _ _ t.0 in elim (branch (nat_lt n (plan_end e d)) (Some (content b (best (numbered e n) d))) _ (Some w) t.1) [
     | inl u ↦ record { above = a; kind = inl (ltb-true _ _ u.0, sym (Some_inj u.1)) }
     | inr u ↦ elim (branch (n == plan_end e d) (Some Bridge) None (Some w) u.1) [
       | inl v ↦ record { above = a; kind = inr (eqb-true _ _ v.0, sym (Some_inj v.1)) }
@@ -196,15 +198,15 @@ leb_no x y h = elim (cases_Bool (nat_le x y)) [ inl t ↦ absurd (let l = leb-tr
 ltb_no : (x y : ℕ) → y ≤ x → nat_lt x y ≡ false
 ltb_no x y h = elim (cases_Bool (nat_lt x y)) [ inl t ↦ absurd (let l = ltb-true x y t in omega arith) | inr t ↦ t ]
 
-pub plan_between : (e : ℕ) (d : List Told) (n : ℕ) → plan_floor e d < n → n < plan_end e d → plan_item e d n ≡ Some (content (best (numbered e n) d))
+pub plan_between : (e : ℕ) (b : Bool) (d : List Told) (n : ℕ) → plan_floor e d < n → n < plan_end e d → plan_item e b d n ≡ Some (content b (best (numbered e n) d))
 unfolding plan_item
-plan_between e d n a b = ap (λ x. cond x None (cond (nat_lt n (plan_end e d)) (Some (content (best (numbered e n) d))) (cond (n == plan_end e d) (Some Bridge) None))) (leb_no n (plan_floor e d) a)
-    ∙ ap (λ x. cond x (Some (content (best (numbered e n) d))) (cond (n == plan_end e d) (Some Bridge) None)) (lt-ltb n (plan_end e d) b)
+plan_between e b d n a k = ap (λ x. cond x None (cond (nat_lt n (plan_end e d)) (Some (content b (best (numbered e n) d))) (cond (n == plan_end e d) (Some Bridge) None))) (leb_no n (plan_floor e d) a)
+    ∙ ap (λ x. cond x (Some (content b (best (numbered e n) d))) (cond (n == plan_end e d) (Some Bridge) None)) (lt-ltb n (plan_end e d) k)
 
-pub plan_at_end : (e : ℕ) (d : List Told) (n : ℕ) → plan_floor e d < n → n ≡ plan_end e d → plan_item e d n ≡ Some Bridge
+pub plan_at_end : (e : ℕ) (b : Bool) (d : List Told) (n : ℕ) → plan_floor e d < n → n ≡ plan_end e d → plan_item e b d n ≡ Some Bridge
 unfolding plan_item
-plan_at_end e d n a b = ap (λ x. cond x None (cond (nat_lt n (plan_end e d)) (Some (content (best (numbered e n) d))) (cond (n == plan_end e d) (Some Bridge) None))) (leb_no n (plan_floor e d) a)
-    ∙ (ap (λ x. cond x (Some (content (best (numbered e n) d))) (cond (n == plan_end e d) (Some Bridge) None)) (ltb_no n (plan_end e d) (omega arith)) ∙ ap (λ x. cond x (Some Bridge) None) (eq-eqb n (plan_end e d) b))
+plan_at_end e b d n a k = ap (λ x. cond x None (cond (nat_lt n (plan_end e d)) (Some (content b (best (numbered e n) d))) (cond (n == plan_end e d) (Some Bridge) None))) (leb_no n (plan_floor e d) a)
+    ∙ (ap (λ x. cond x (Some (content b (best (numbered e n) d))) (cond (n == plan_end e d) (Some Bridge) None)) (ltb_no n (plan_end e d) (omega arith)) ∙ ap (λ x. cond x (Some Bridge) None) (eq-eqb n (plan_end e d) k))
 
 pub floor_trim : (e : ℕ) (d : List Told) → trim_place e (digest_trim d) ≤ plan_floor e d
 unfolding plan_floor
@@ -238,45 +240,50 @@ pub end_most : (e : ℕ) (d : List Told) (n : ℕ) → top_place d d ≤ n → t
 unfolding plan_end plan_floor
 end_most e d n a b k = omega arith
 
-pub plan_bridge : (e : ℕ) (d : List Told) → plan_item e d (plan_end e d) ≡ Some Bridge
-plan_bridge e d = plan_at_end e d (plan_end e d) (end_above_floor e d) refl
+pub plan_bridge : (e : ℕ) (b : Bool) (d : List Told) → plan_item e b d (plan_end e d) ≡ Some Bridge
+plan_bridge e b d = plan_at_end e b d (plan_end e d) (end_above_floor e d) refl
 
 -- a content isn't a bridge
-pub content_no_bridge : (o : Option Entry) → content o ≡ Bridge → ⊥
-content_no_bridge None h = cc
-content_no_bridge (Some e) h = by_what e.what h where
-  by_what : (w : What) → record_or_hole w ≡ Bridge → ⊥
-  by_what (Rec p) g = cc
-  by_what Hole g = cc
-  by_what Bridge g = cc
+pub content_no_bridge : (b : Bool) (o : Option Entry) → content b o ≡ Bridge → ⊥
+content_no_bridge true None h = cc
+content_no_bridge false None h = cc
+content_no_bridge b (Some e) h = by_what b e.what h where
+  by_what : (b : Bool) (w : What) → record_or (no_record b) w ≡ Bridge → ⊥
+  by_what b (Rec p) g = cc
+  by_what true Hole g = cc
+  by_what true Bridge g = cc
+  by_what true Plug g = cc
+  by_what false Hole g = cc
+  by_what false Bridge g = cc
+  by_what false Plug g = cc
 
 -- the items of a plan are those of its places
-record_items_in : (e : ℕ) (d : List Told) (ns : List ℕ) (i : Item) → In i (record_items e d ns) → (n : ℕ) × In n ns × (i.number ≡ numbered e n) × (i.what ≡ content (best (numbered e n) d))
-record_items_in e d [] i h = absurd h
-record_items_in e d (n ∷ ns) i (inl q) = (n, inl refl, ap (λ (x : Item). x.number) q, ap (λ (x : Item). x.what) q)
-record_items_in e d (n ∷ ns) i (inr h) = let r = record_items_in e d ns i h in (r.0, inr r.1, r.2, r.3)
+record_items_in : (e : ℕ) (b : Bool) (d : List Told) (ns : List ℕ) (i : Item) → In i (record_items e b d ns) → (n : ℕ) × In n ns × (i.number ≡ numbered e n) × (i.what ≡ content b (best (numbered e n) d))
+record_items_in e b d [] i h = absurd h
+record_items_in e b d (n ∷ ns) i (inl q) = (n, inl refl, ap (λ (x : Item). x.number) q, ap (λ (x : Item). x.what) q)
+record_items_in e b d (n ∷ ns) i (inr h) = let r = record_items_in e b d ns i h in (r.0, inr r.1, r.2, r.3)
 
-pub record Placed (e : ℕ) (d : List Told) (i : Item) : Type 0 where
+pub record Placed (e : ℕ) (b : Bool) (d : List Told) (i : Item) : Type 0 where
   pub place : ℕ
   pub number : i.number ≡ numbered e place
-  pub item : plan_item e d place ≡ Some i.what
+  pub item : plan_item e b d place ≡ Some i.what
   pub above : 0 < place
   pub below : place ≤ plan_end e d
 
-pub plan_items : (e : ℕ) (d : List Told) (i : Item) → In i (plan e d).items → Placed e d i
+pub plan_items : (e : ℕ) (b : Bool) (d : List Told) (i : Item) → In i (plan e b d).items → Placed e b d i
 unfolding plan
-plan_items e d i h = elim (In-append i _ (record { number = numbered e (plan_end e d); what = Bridge } ∷ []) h) [
-  | inl a ↦ let r = record_items_in e d _ i a in let n = In_numbers r.0 _ _ r.1 in let x = n.0 in let y = n.1 in
-      record { place = r.0; number = r.2; item = plan_between e d r.0 (omega arith) (omega arith) ∙ ap Some (sym r.3); above = omega arith; below = omega arith }
-  | inr a ↦ let q = only i _ a in record { place = plan_end e d; number = ap (λ (x : Item). x.number) q; item = plan_bridge e d ∙ ap Some (sym (ap (λ (x : Item). x.what) q)); above = let z = end_above_floor e d in omega arith; below = omega arith }
+plan_items e b d i h = elim (In-append i _ (record { number = numbered e (plan_end e d); what = Bridge } ∷ []) h) [
+  | inl a ↦ let r = record_items_in e b d _ i a in let n = In_numbers r.0 _ _ r.1 in let x = n.0 in let y = n.1 in
+      record { place = r.0; number = r.2; item = plan_between e b d r.0 (omega arith) (omega arith) ∙ ap Some (sym r.3); above = omega arith; below = omega arith }
+  | inr a ↦ let q = only i _ a in record { place = plan_end e d; number = ap (λ (x : Item). x.number) q; item = plan_bridge e b d ∙ ap Some (sym (ap (λ (x : Item). x.what) q)); above = let z = end_above_floor e d in omega arith; below = omega arith }
 ]
 
 -- each place between the floor and the end has its item
-record_items_have : (e : ℕ) (d : List Told) (ns : List ℕ) (n : ℕ) → In n ns → In (record { number = numbered e n; what = content (best (numbered e n) d) }) (record_items e d ns)
-record_items_have e d [] n i = absurd i
-record_items_have e d (m ∷ ns) n (inl q) = inl (ap (λ k. record { number = numbered e k; what = content (best (numbered e k) d) }) q)
-record_items_have e d (m ∷ ns) n (inr i) = inr (record_items_have e d ns n i)
+record_items_have : (e : ℕ) (b : Bool) (d : List Told) (ns : List ℕ) (n : ℕ) → In n ns → In (record { number = numbered e n; what = content b (best (numbered e n) d) }) (record_items e b d ns)
+record_items_have e b d [] n i = absurd i
+record_items_have e b d (m ∷ ns) n (inl q) = inl (ap (λ k. record { number = numbered e k; what = content b (best (numbered e k) d) }) q)
+record_items_have e b d (m ∷ ns) n (inr i) = inr (record_items_have e b d ns n i)
 
-pub plan_has : (e : ℕ) (d : List Told) (n : ℕ) → plan_floor e d < n → n < plan_end e d → (i : Item) × In i (plan e d).items × (i.number ≡ numbered e n)
+pub plan_has : (e : ℕ) (b : Bool) (d : List Told) (n : ℕ) → plan_floor e d < n → n < plan_end e d → (i : Item) × In i (plan e b d).items × (i.number ≡ numbered e n)
 unfolding plan
-plan_has e d n a b = (record { number = numbered e n; what = content (best (numbered e n) d) }, In_left _ (record_items e d (numbers_from (plan_floor e d + 1) (plan_end e d - 1 - plan_floor e d))) _ (record_items_have e d _ n (numbers_in n (plan_floor e d + 1) (plan_end e d - 1 - plan_floor e d) (omega arith) (omega arith))), refl)
+plan_has e b d n a k = (record { number = numbered e n; what = content b (best (numbered e n) d) }, In_left _ (record_items e b d (numbers_from (plan_floor e d + 1) (plan_end e d - 1 - plan_floor e d))) _ (record_items_have e b d _ n (numbers_in n (plan_floor e d + 1) (plan_end e d - 1 - plan_floor e d) (omega arith) (omega arith))), refl)

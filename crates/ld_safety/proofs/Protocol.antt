@@ -1,5 +1,5 @@
 -- What ballots say of numbers, who stored what, and what a digest must be for recoveries to agree.
-use Rattle.std.proofs.Common.{refl, ◌≡◌, ◌∙◌, ◌⊎◌, ◌≤◌, ◌<◌, ℕ, ◌+◌, ◌-◌, inl, inr, ap, sym, subst, Bool, true, not, ◌&&◌, ◌==◌, List, map, length, Some, arith, eq-eqb, le-leb, nat_le, leb-true}
+use Rattle.std.proofs.Common.{refl, ◌≡◌, ◌∙◌, ◌⊎◌, ◌≤◌, ◌<◌, ℕ, ◌+◌, ◌-◌, inl, inr, ap, sym, subst, Bool, true, not, ◌&&◌, ◌==◌, List, map, length, Option, Some, arith, eq-eqb, le-leb, nat_le, leb-true}
 use Rattle.std.proofs.lemmas.Bool.{and_parts, eqb-true, and_from}
 use Rattle.ld_table.specs.Words.{how_many, any_of}
 use Rattle.ld_lsn.specs.Number.{epoch_of, esn_of, last_esn}
@@ -21,8 +21,17 @@ use Rattle.ld_safety.proofs.Given.{AppendedBy, Place}
 
 -- ---- what a ballot says of a number ----
 
-abbrev pub plan_of : ℕ → ℕ → ℕ → List Told → Made
-plan_of l e b d = record { log = l; epoch = e; ballot = b; digest = d }
+-- what a plan was made from: whether it says what is lost, its digest, and who had nothing to tell
+pub record Basis : Type 0 where
+  pub loss : Bool
+  pub digest : List Told
+  pub gone : List ℕ
+
+abbrev pub plan_of : ℕ → ℕ → ℕ → Basis → Made
+plan_of l e b d = record { log = l; epoch = e; ballot = b; loss = d.loss; digest = d.digest; gone = d.gone }
+
+abbrev pub plan_at : ℕ → Basis → ℕ → Option What
+plan_at e d n = plan_item e d.loss d.digest n
 
 -- the append's record, for the epoch's own ballot
 pub record OwnSays (hs : List Happened) (l b n : ℕ) (x : What) : Type 0 where
@@ -34,16 +43,16 @@ pub record OwnSays (hs : List Happened) (l b n : ℕ) (x : What) : Type 0 where
 -- the item of the ballot's plan, for a greater one
 pub record PlanSays (made : List Made) (l b n : ℕ) (x : What) : Type 0 where
   pub later : epoch_of n < b
-  pub digest : List Told
-  pub planned : In (plan_of l (epoch_of n) b digest) made
-  pub item : plan_item (epoch_of n) digest (esn_of n) ≡ Some x
+  pub basis : Basis
+  pub planned : In (plan_of l (epoch_of n) b basis) made
+  pub item : plan_at (epoch_of n) basis (esn_of n) ≡ Some x
 
 abbrev pub Says : List Happened → List Made → ℕ → ℕ → ℕ → What → Type 0
 Says hs made l b n x = OwnSays hs l b n x ⊎ PlanSays made l b n x
 
 -- a ballot plans an epoch at most once
 abbrev pub PlansOnce : List Made → Type 0
-PlansOnce made = (l e b : ℕ) (d f : List Told) → In (plan_of l e b d) made → In (plan_of l e b f) made → d ≡ f
+PlansOnce made = (l e b : ℕ) (d f : Basis) → In (plan_of l e b d) made → In (plan_of l e b f) made → d ≡ f
 
 -- a number is appended at most once
 abbrev pub AppendsOnce : List Happened → Type 0
@@ -55,8 +64,8 @@ says_once hs made l b n x z A P (inl s) (inl t) = s.is ∙ (ap Rec (A l n s.payl
 says_once hs made l b n x z A P (inl s) (inr t) = absurd (let a = s.own in let b = t.later in omega arith)
 says_once hs made l b n x z A P (inr s) (inl t) = absurd (let a = t.own in let b = s.later in omega arith)
 says_once hs made l b n x z A P (inr s) (inr t) =
-    let q : s.digest ≡ t.digest = P l (epoch_of n) b s.digest t.digest s.planned t.planned in
-    let e : Some x ≡ Some z = sym s.item ∙ (ap (λ d. plan_item (epoch_of n) d (esn_of n)) q ∙ t.item) in cc
+    let q : s.basis ≡ t.basis = P l (epoch_of n) b s.basis t.basis s.planned t.planned in
+    let e : Some x ≡ Some z = sym s.item ∙ (ap (λ (d : Basis). plan_at (epoch_of n) d (esn_of n)) q ∙ t.item) in cc
 
 -- ---- who stored what ----
 
@@ -138,11 +147,11 @@ Chosen s sent l n b = s.r ≤ how_many (tells_stored sent l n b) (nodes_of s)
 -- a plan of a ballot between two ends below the number
 pub record Ends (made : List Made) (l lo hi n : ℕ) : Type 0 where
   pub ballot : ℕ
-  pub digest : List Told
-  pub planned : In (plan_of l (epoch_of n) ballot digest) made
+  pub basis : Basis
+  pub planned : In (plan_of l (epoch_of n) ballot basis) made
   pub above : lo < ballot
   pub below : ballot < hi
-  pub before : plan_end (epoch_of n) digest < esn_of n
+  pub before : plan_end (epoch_of n) basis.digest < esn_of n
 
 -- an entry of the number, of at least the ballot
 pub record Shows (es : List Entry) (n b : ℕ) : Type 0 where
@@ -171,7 +180,7 @@ pub record DigestFacts (hs : List Happened) (made : List Made) (sent : List Msg)
   pub told : (t : Told) → In t d → ToldFacts hs made sent l e b (digest_lng d) t
   pub nodes : map (λ (t : Told). t.node) d ≡ nodes_of s
 
--- a plan was made from enough whole nodes, and what they knew good lies in the epoch
+-- a plan that found what it says was made from enough whole nodes, and what they knew good lies in the epoch
 pub record PlanFacts (hs : List Happened) (made : List Made) (sent : List Msg) (s : Spec) (l e b : ℕ) (d : List Told) : Type 0 where
   pub digest : DigestFacts hs made sent s l e b d
   pub enough : length (nodes_of s) < s.r + how_many (λ (t : Told). t.whole && not t.lost) d

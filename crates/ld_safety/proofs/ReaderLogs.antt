@@ -175,7 +175,9 @@ same_keeps looks d y b = record {
   trim = λ a g n t. record { number = g.number; log = g.log };
   record_there = λ a p g n t. record { number = g.number; log = g.log };
   hole_there = λ a g n t. record { number = g.number; log = g.log };
+  plug = λ a g n t. record { number = g.number; log = g.log };
   bridge = λ a g n t. record { number = g.number; log = g.log };
+  lossy_end = λ a g n t. record { number = g.number; log = g.log };
   confirm = λ a g n m t. record { number = g.number; log = g.log };
   polls_on = λ a g t. record { number = g.number; log = g.log };
 }
@@ -250,7 +252,7 @@ module _ (c : Config) (w : World) (A : Apart w.state.network.sent w.state.reader
     sets = λ l r x set h. silent _ refl refl refl;
     arms = λ k done o. silent _ refl refl refl;
     hears = λ f name q m i t l v o. acted f name q (on_reply (looks_at c w.state.register q.log) q (Step.sender_node m.from) m.body);
-    retries = λ name q v o. acted w.state.network.fresh name q (on_retry q);
+    retries = λ name q v o. acted w.state.network.fresh name q (on_retry (looks_at c w.state.register q.log) q);
     appends = λ name q p v a i. to_nodes _ refl refl (posted_apart (whos.Sequencer q.epoch) q.log _ (λ r z. cc));
     trims = λ name q t v b. to_nodes _ refl refl (posted_apart (whos.Sequencer q.epoch) q.log _ (λ r z. cc));
     drops = λ name q v o. silent _ refl refl refl;

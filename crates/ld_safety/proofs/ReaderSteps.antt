@@ -1,30 +1,40 @@
 -- What an answer makes a reader do, case by case.
-use Rattle.std.proofs.Common.{◌≡◌, ◌≤◌, ℕ, zero, suc, ◌+◌, ◌-◌, refl, Bool, true, false, ◌&&◌, ◌==◌, nat_lt, nat_le, if◌then◌else◌, List, [], Option, Some, None, arith}
+use Rattle.std.proofs.Common.{inl, inr, ◌∙◌, ◌∷◌, ◌≡◌, ◌≤◌, ℕ, zero, suc, ◌+◌, ◌-◌, refl, Bool, true, false, ◌&&◌, ◌==◌, nat_lt, nat_le, if◌then◌else◌, List, [], Option, Some, None, arith}
 use Rattle.std.proofs.lemmas.Bool.{and_parts, leb-true, ltb-true, eqb-true}
 use Rattle.ld_lsn.specs.Number.{home_epoch, epoch_end, epoch_of, esn_of, is_epoch_end, numbered}
 use Rattle.ld_msg.specs.declared.msg.Body.{Body}
-use Rattle.ld_msg.specs.Reading.{Held, TrimTo, RecordHere, HoleHere, BridgeTo, LossHere, Verdict, Gives, Confirms, NotYet, decide, trim_held, record_held, hole_held, end_held, is_loss, within, lost_held, bridge_to, entry_verdict, loss_verdict}
+use Rattle.ld_msg.specs.Reading.{Held, TrimTo, RecordHere, HoleHere, BridgeTo, LossHere, LossTo, Verdict, Gives, Confirms, NotYet, decide, trim_held, record_held, hole_held, plug_held, end_held, end_shown, is_loss, within, lost_held, bridge_to, entry_verdict, end_verdict, loss_verdict}
 use Rattle.ld_msg.specs.Register.{View}
 use Rattle.ld_msg.specs.Reader.{Reader, Read, is_finished, may_confirm, seen_nodes, gives, confirms, gives_all, most_items, heard, loses, is_confirmed, asks_on, polled, poll_asks, on_answer}
-use Rattle.ld_safety.proofs.Lists.{cond_both}
+use Rattle.ld_table.specs.Words.{or_else}
+use Rattle.ld_machine.specs.World.{In}
+use Rattle.ld_safety.proofs.Lists.{cond_both, not_none}
 
 pub record Deciding (s : ℕ) (may : Bool) (set : List ℕ) (hs : List (ℕ × Held)) (Q : Verdict → Type 0) : Type 0 where
   pub trim : s ≤ trim_held hs → Q (Gives (TrimTo (trim_held hs)))
   pub record_there : (p : List ℕ) → record_held s hs ≡ Some p → Q (Gives (RecordHere p))
   pub hole_there : hole_held s hs ≡ true → Q (Gives HoleHere)
-  pub bridge : end_held s hs ≡ true → Q (Gives (BridgeTo (bridge_to s)))
+  pub plug : plug_held s hs ≡ true → Q (Gives LossHere)
+  pub bridge : end_held s hs ≡ Some false → Q (Gives (BridgeTo (bridge_to s)))
+  pub lossy_end : end_held s hs ≡ Some true → Q (Gives (LossTo (bridge_to s)))
   pub confirm : may ≡ true → is_loss s set hs ≡ true → Q (Confirms (lost_held s (within set hs)))
   pub not_yet : Q NotYet
 
 module _ (s : ℕ) (may : Bool) (set : List ℕ) (hs : List (ℕ × Held)) (Q : Verdict → Type 0) (K : Deciding s may set hs Q) where
-  no_entry : (o : Option (List ℕ)) (h : Bool) → record_held s hs ≡ o → hole_held s hs ≡ h → Q (entry_verdict o h (if end_held s hs then Gives (BridgeTo (bridge_to s)) else loss_verdict s may set hs))
-  no_entry (Some p) h e f = K.record_there p e
-  no_entry None true e f = K.hole_there f
-  no_entry None false e f = cond_both (end_held s hs) _ _ Q (λ t. K.bridge t) (λ t. cond_both (may && is_loss s set hs) _ _ Q (λ u. let p = and_parts may (is_loss s set hs) u in K.confirm p.0 p.1) (λ u. K.not_yet))
+  no_end : (o : Option Bool) → end_held s hs ≡ o → Q (end_verdict s o (loss_verdict s may set hs))
+  no_end (Some true) e = K.lossy_end e
+  no_end (Some false) e = K.bridge e
+  no_end None e = cond_both (may && is_loss s set hs) _ _ Q (λ u. let p = and_parts may (is_loss s set hs) u in K.confirm p.0 p.1) (λ u. K.not_yet)
+
+  no_entry : (o : Option (List ℕ)) (h p : Bool) → record_held s hs ≡ o → hole_held s hs ≡ h → plug_held s hs ≡ p → Q (entry_verdict o h p (end_verdict s (end_held s hs) (loss_verdict s may set hs)))
+  no_entry (Some x) h p e f g = K.record_there x e
+  no_entry None true p e f g = K.hole_there f
+  no_entry None false true e f g = K.plug g
+  no_entry None false false e f g = no_end (end_held s hs) refl
 
   pub decided : Q (decide s may set hs)
   unfolding decide
-  decided = cond_both (nat_le s (trim_held hs)) _ _ Q (λ t. K.trim (leb-true s (trim_held hs) t)) (λ t. no_entry (record_held s hs) (hole_held s hs) refl refl)
+  decided = cond_both (nat_le s (trim_held hs)) _ _ Q (λ t. K.trim (leb-true s (trim_held hs) t)) (λ t. no_entry (record_held s hs) (hole_held s hs) (plug_held s hs) refl refl refl)
 
 pub record ReadKeeps (looks : ℕ → View) (d : Reader) (y : ℕ) (b : Body) (I : Read → Type 0) : Type 0 where
   pub starts : I (record { reader = heard d y b; items = []; asks = [] })
@@ -32,7 +42,9 @@ pub record ReadKeeps (looks : ℕ → View) (d : Reader) (y : ℕ) (b : Body) (I
   pub trim : (a : Read) → I a → is_finished a.reader ≡ false → a.reader.next ≤ trim_held a.reader.held → I (gives a (TrimTo (trim_held a.reader.held)))
   pub record_there : (a : Read) (p : List ℕ) → I a → is_finished a.reader ≡ false → record_held a.reader.next a.reader.held ≡ Some p → I (gives a (RecordHere p))
   pub hole_there : (a : Read) → I a → is_finished a.reader ≡ false → hole_held a.reader.next a.reader.held ≡ true → I (gives a HoleHere)
-  pub bridge : (a : Read) → I a → is_finished a.reader ≡ false → end_held a.reader.next a.reader.held ≡ true → I (gives a (BridgeTo (bridge_to a.reader.next)))
+  pub plug : (a : Read) → I a → is_finished a.reader ≡ false → plug_held a.reader.next a.reader.held ≡ true → I (gives a LossHere)
+  pub bridge : (a : Read) → I a → is_finished a.reader ≡ false → end_held a.reader.next a.reader.held ≡ Some false → I (gives a (BridgeTo (bridge_to a.reader.next)))
+  pub lossy_end : (a : Read) → I a → is_finished a.reader ≡ false → end_held a.reader.next a.reader.held ≡ Some true → I (gives a (LossTo (bridge_to a.reader.next)))
   pub confirm : (a : Read) → I a → is_finished a.reader ≡ false → may_confirm a.reader ≡ true → is_loss a.reader.next (seen_nodes a.reader.seen) a.reader.held ≡ true → I (confirms looks a (lost_held a.reader.next (within (seen_nodes a.reader.seen) a.reader.held)))
   pub polls_on : (a : Read) → I a → asks_on a ≡ true → I (record { reader = polled looks a.reader; items = a.items; asks = poll_asks looks a.reader })
 
@@ -48,7 +60,9 @@ module _ (looks : ℕ → View) (d : Reader) (y : ℕ) (b : Body) (I : Read → 
         trim = λ u. all_given k _ (K.trim a h t u);
         record_there = λ p u. all_given k _ (K.record_there a p h t u);
         hole_there = λ u. all_given k _ (K.hole_there a h t u);
+        plug = λ u. all_given k _ (K.plug a h t u);
         bridge = λ u. all_given k _ (K.bridge a h t u);
+        lossy_end = λ u. all_given k _ (K.lossy_end a h t u);
         confirm = λ u v. K.confirm a h t u v;
         not_yet = h;
       }))
@@ -64,6 +78,14 @@ module _ (looks : ℕ → View) (d : Reader) (y : ℕ) (b : Body) (I : Read → 
   pub answered : I (on_answer looks d y b)
   unfolding on_answer
   answered = rounded (gives_all (most_items (heard d y b)) looks (loses (heard d y b))) (all_given (most_items (heard d y b)) (loses (heard d y b)) (lost_first (is_confirmed (heard d y b).confirming) refl)) _ refl
+
+-- an end that is held is one of the answers'
+pub end_in : (s : ℕ) (hs : List (ℕ × Held)) (b : Bool) → end_held s hs ≡ Some b → (h : ℕ × Held) × In h hs × (end_shown s h.1.body ≡ Some b)
+end_in s [] b e = absurd (not_none e)
+end_in s (h ∷ hs) b e = by_shown (end_shown s h.1.body) refl e (end_in s hs b) where
+  by_shown : (o : Option Bool) → end_shown s h.1.body ≡ o → or_else o (end_held s hs) ≡ Some b → (end_held s hs ≡ Some b → (k : ℕ × Held) × In k hs × (end_shown s k.1.body ≡ Some b)) → (k : ℕ × Held) × In k (h ∷ hs) × (end_shown s k.1.body ≡ Some b)
+  by_shown (Some x) f q ih = (h, inl refl, f ∙ q)
+  by_shown None f q ih = let z = ih q in (z.0, inr z.1, z.2)
 
 -- the end of a number's epoch isn't below it
 pub below_end : (s : ℕ) → s ≤ epoch_end (home_epoch s)

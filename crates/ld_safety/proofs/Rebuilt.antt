@@ -247,7 +247,7 @@ module _ (c : Config) (s : State) (e : Event) (U : (y : ℕ) → UpFine (node_at
     sets = λ l r x set h. nobody _ (not_one (lines.Set l r x set) (λ a b z. cc));
     arms = λ k done o. nobody _ (λ a l z. z);
     hears = λ f name q m i t l v o. nobody _ (not_group OfActs _ (λ h. cc) (acted_of name q (called (looks_at c s.register q.log) s.register (on_reply (looks_at c s.register q.log) q (Step.sender_node m.from) m.body) (on_reply (looks_at c s.register q.log) q (Step.sender_node m.from) m.body).tries).acts));
-    retries = λ name q v o. nobody _ (not_group OfActs _ (λ h. cc) (acted_of name q (called (looks_at c s.register q.log) s.register (on_retry q) (on_retry q).tries).acts));
+    retries = λ name q v o. nobody _ (not_group OfActs _ (λ h. cc) (acted_of name q (called (looks_at c s.register q.log) s.register (on_retry (looks_at c s.register q.log) q) (on_retry (looks_at c s.register q.log) q).tries).acts));
     appends = λ name q p v a i. nobody _ (not_one (lines.Appended name _) (λ a l z. cc));
     trims = λ name q t v b. nobody _ (not_one (lines.Trimmed name t) (λ a l z. cc));
     drops = λ name q v o. nobody _ (λ a l z. z);

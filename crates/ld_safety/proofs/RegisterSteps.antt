@@ -1,13 +1,13 @@
 -- What a change of the register leaves of its contents.
-use Rattle.std.proofs.Common.{◌≡◌, ◌∙◌, ◌<◌, ◌⊎◌, ℕ, ◌+◌, inl, inr, refl, ap, sym, subst, Bool, true, false, ◌==◌, nat_lt, nat_le, cond, Option, Some, None, arith}
+use Rattle.std.proofs.Common.{◌≡◌, ◌∙◌, ◌<◌, ◌⊎◌, ℕ, ◌+◌, inl, inr, refl, ap, sym, subst, Bool, true, false, not, ◌==◌, ◌&&◌, nat_lt, nat_le, cond, if◌then◌else◌, Option, Some, None, arith}
 use Rattle.std.specs.Option.{unwrap_or}
 use Rattle.std.proofs.lemmas.Bool.{cases_Bool, eqb-true, eq-eqb, leb-false, or_parts}
 use Rattle.ld_table.specs.Table.{find, put}
 use Rattle.ld_table.proofs.Laws.{put_cases}
 use Rattle.ld_ids.specs.declared.set.Spec.{Spec}
 use Rattle.ld_msg.specs.declared.msg.Summary.{Summary}
-use Rattle.ld_msg.specs.Register.{Register, Epochs, Armed, Changed, Granted, AtLimit, Behind, Fails, activate, close, draw, change, made, unmade, is_made, falls, journal_limit, record_length, epochs_of, no_epochs, generation_of, lce_of, with_epochs, next_epoch, closed_epochs, epoch_limit, generation_limit}
-use Rattle.ld_safety.proofs.Lists.{cond_both}
+use Rattle.ld_msg.specs.Register.{Register, Epochs, Armed, Changed, Granted, AtLimit, Behind, Overtaken, Fails, activate, close, draw, change, made, unmade, is_made, falls, journal_limit, record_length, epochs_of, no_epochs, generation_of, lce_of, with_epochs, next_epoch, closed_epochs, is_overtaken, look, epoch_limit, generation_limit}
+use Rattle.ld_safety.proofs.Lists.{cond_both, branch, not_none}
 
 -- the same contents
 abbrev pub Same : Register → Register → Type 0
@@ -90,16 +90,52 @@ activate_leaves r l p = cond_both (nat_le epoch_limit (epochs_of r l).epoch) _ _
 abbrev pub Closed_with : Register → ℕ → ℕ → Summary → Register → Type 0
 Closed_with r l e y n = Same (with_epochs r l (closed_epochs (epochs_of r l) e y)) n
 
-pub close_granted : (r : Register) (l e : ℕ) (y : Summary) (n : Register) → lce_of r l + 1 ≡ e → close r l e y ≡ record { register = n; answer = Granted } → Closed_with r l e y n
-unfolding close
-close_granted r l e y n g h =
-    let q : change r (with_epochs r l (closed_epochs (epochs_of r l) e y)) 29 ≡ record { register = n; answer = Granted } = sym (ap (λ b. cond b (change r (with_epochs r l (closed_epochs (epochs_of r l) e y)) 29) (record { register = r; answer = Behind (lce_of r l) })) (eq-eqb (lce_of r l + 1) e g)) ∙ h in
-    subst (λ (d : Changed). Same (with_epochs r l (closed_epochs (epochs_of r l) e y)) d.register) q (granted r (with_epochs r l (closed_epochs (epochs_of r l) e y)) 29 (ap (λ (d : Changed). d.answer) q))
+-- a close by its tests
+close_by : Register → ℕ → ℕ → Summary → Bool → Bool → Changed
+close_by r l e y next late = if not next then record { register = r; answer = Behind (lce_of r l) } else if late then record { register = r; answer = Overtaken (epochs_of r l).epoch } else change r (with_epochs r l (closed_epochs (epochs_of r l) e y)) 30
 
-pub close_leaves : (r : Register) (l e : ℕ) (y : Summary) → Same r (close r l e y).register ⊎ ((lce_of r l + 1 ≡ e) × Closed_with r l e y (close r l e y).register)
-unfolding close
-close_leaves r l e y = cond_both (lce_of r l + 1 == e) _ _ (λ (d : Changed). Same r d.register ⊎ ((lce_of r l + 1 ≡ e) × Same (with_epochs r l (closed_epochs (epochs_of r l) e y)) d.register))
-    (λ t. elim (changed r (with_epochs r l (closed_epochs (epochs_of r l) e y)) 29) [ inl a ↦ inl a | inr a ↦ inr (eqb-true _ _ t, a) ]) (λ t. inl (refl, refl))
+close_tests : (r : Register) (l e : ℕ) (y : Summary) (short next late : Bool) → (lce_of r l + 1 == e) ≡ next → is_overtaken (epochs_of r l) y short ≡ late → close r l e y short ≡ close_by r l e y next late
+unfolding close close_by
+close_tests r l e y short next late h g = λ i. close_by r l e y (h i) (g i)
+
+pub close_behind : (r : Register) (l e : ℕ) (y : Summary) (short : Bool) → (lce_of r l + 1 == e) ≡ false → close r l e y short ≡ record { register = r; answer = Behind (lce_of r l) }
+unfolding close_by
+close_behind r l e y short h = close_tests r l e y short false (is_overtaken (epochs_of r l) y short) h refl
+
+pub close_overtaken : (r : Register) (l e : ℕ) (y : Summary) (short : Bool) → lce_of r l + 1 ≡ e → is_overtaken (epochs_of r l) y short ≡ true → close r l e y short ≡ record { register = r; answer = Overtaken (epochs_of r l).epoch }
+unfolding close_by
+close_overtaken r l e y short h g = close_tests r l e y short true true (eq-eqb (lce_of r l + 1) e h) g
+
+pub close_changes : (r : Register) (l e : ℕ) (y : Summary) (short : Bool) → lce_of r l + 1 ≡ e → is_overtaken (epochs_of r l) y short ≡ false → close r l e y short ≡ change r (with_epochs r l (closed_epochs (epochs_of r l) e y)) 30
+unfolding close_by
+close_changes r l e y short h g = close_tests r l e y short true false (eq-eqb (lce_of r l + 1) e h) g
+
+-- a close that is granted closes the epoch, and a short one wasn't overtaken
+pub close_granted : (r : Register) (l e : ℕ) (y : Summary) (short : Bool) (n : Register) → lce_of r l + 1 ≡ e → close r l e y short ≡ record { register = n; answer = Granted } → Closed_with r l e y n × (is_overtaken (epochs_of r l) y short ≡ false)
+close_granted r l e y short n g h = elim (cases_Bool (is_overtaken (epochs_of r l) y short)) [
+  | inl t ↦ absurd (let q : record { register = r; answer = Overtaken (epochs_of r l).epoch } ≡ record { register = n; answer = Granted } = sym (close_overtaken r l e y short g t) ∙ h in let z = ap (λ (d : Changed). d.answer) q in cc)
+  | inr t ↦ let q : change r (with_epochs r l (closed_epochs (epochs_of r l) e y)) 30 ≡ record { register = n; answer = Granted } = sym (close_changes r l e y short g t) ∙ h in
+      (subst (λ (d : Changed). Same (with_epochs r l (closed_epochs (epochs_of r l) e y)) d.register) q (granted r (with_epochs r l (closed_epochs (epochs_of r l) e y)) 30 (ap (λ (d : Changed). d.answer) q)), t)
+]
+
+pub close_leaves : (r : Register) (l e : ℕ) (y : Summary) (short : Bool) → Same r (close r l e y short).register ⊎ ((lce_of r l + 1 ≡ e) × Closed_with r l e y (close r l e y short).register × (is_overtaken (epochs_of r l) y short ≡ false))
+close_leaves r l e y short = elim (cases_Bool (lce_of r l + 1 == e)) [
+  | inr t ↦ inl (subst (λ (d : Changed). Same r d.register) (sym (close_behind r l e y short t)) (refl, refl))
+  | inl t ↦ elim (cases_Bool (is_overtaken (epochs_of r l) y short)) [
+    | inl u ↦ inl (subst (λ (d : Changed). Same r d.register) (sym (close_overtaken r l e y short (eqb-true _ _ t) u)) (refl, refl))
+    | inr u ↦ let q = close_changes r l e y short (eqb-true _ _ t) u in elim (changed r (with_epochs r l (closed_epochs (epochs_of r l) e y)) 30) [
+      | inl a ↦ inl (subst (λ (d : Changed). Same r d.register) (sym q) a)
+      | inr a ↦ inr (eqb-true _ _ t, subst (λ (d : Changed). Closed_with r l e y d.register) (sym q) a, u)
+    ]
+  ]
+]
+
+-- ---- a look ----
+
+-- what a look shows of a closed epoch
+pub shown_closed : (s : Spec) (r : Register) (l e : ℕ) (y : Summary) → (look s r l e).summary ≡ Some y → find e (epochs_of r l).summaries ≡ Some y
+unfolding look
+shown_closed s r l e y h = elim (branch (nat_le 1 e && nat_le e (lce_of r l)) (find e (epochs_of r l).summaries) None (Some y) h) [ inl a ↦ a.1 | inr a ↦ absurd (not_none a.1) ]
 
 -- ---- draw ----
 

@@ -1,6 +1,6 @@
 -- Along a run the register's epochs and last closed epochs don't fall, only closed epochs have summaries, and what is fixed for an epoch stays.
-use Rattle.std.proofs.Common.{◌≡◌, ◌∙◌, ◌≤◌, ◌<◌, ◌+◌, ◌||◌, ◌==◌, nat_lt, ℕ, inl, inr, refl, ap, sym, subst, true, List, [], ◌∷◌, Option, Some, None, arith}
-use Rattle.std.proofs.lemmas.Bool.{eqb-true, ltb-true, or_cases}
+use Rattle.std.proofs.Common.{Bool, false, nat_le, ◌&&◌, le-leb, leb-true, ◌≡◌, ◌∙◌, ◌≤◌, ◌<◌, ◌+◌, ◌||◌, ◌==◌, nat_lt, ℕ, inl, inr, refl, ap, sym, subst, true, List, [], ◌∷◌, Option, Some, None, arith}
+use Rattle.std.proofs.lemmas.Bool.{eqb-true, ltb-true, or_cases, cases_order, cases_lt, and_parts, and_from}
 use Rattle.std.specs.Option.{unwrap_or}
 use Rattle.ld_table.specs.Table.{find}
 use Rattle.ld_table.proofs.Laws.{put_cases, find-put_same}
@@ -14,8 +14,8 @@ use Rattle.ld_op.specs.declared.op.Op.{Op}
 use Rattle.ld_op.specs.Ticks.{Ticked, Cleans, Rebuilt, Asks, Nothing}
 use Rattle.ld_machine.specs.Disk.{Node}
 use Rattle.ld_msg.specs.Register.{Register, View, Epochs, Changed, Granted, no_epochs, epochs_of, lce_of, epoch_shown, look, with_epochs, next_epoch, closed_epochs, close, activate, draw, empty_register}
-use Rattle.ld_machine.specs.Config.{first_spec, spec_of, has_log}
-use Rattle.ld_msg.specs.Sequencer.{Acts, called}
+use Rattle.ld_machine.specs.Config.{first_spec, spec_of, looks_at, has_log}
+use Rattle.ld_msg.specs.Sequencer.{Acts, called, Attempt}
 use Rattle.ld_machine.specs.State.{State, node_at, with_node}
 use Rattle.ld_machine.specs.Step as Step
 use Rattle.ld_safety.proofs.Lists.{not_none, cond_both}
@@ -24,11 +24,11 @@ use Rattle.ld_safety.proofs.RegisterSteps.{Same, activated_epochs, activate_leav
 
 -- what each change of the register keeps holds of the register after each event
 module _ (c : Config) (s : State) (e : Event) (P : Register → Type 0) (same : P s.register)
-    (acts : (l : ℕ) → has_log c l ≡ true → P (activate s.register l (Step.spec_set c s l)).register) (closes : (l k : ℕ) (y : Summary) → P (close s.register l k y).register) (draws : (n : ℕ) → P (draw s.register n).register)
+    (acts : (l : ℕ) → has_log c l ≡ true → P (activate s.register l (Step.spec_set c s l)).register) (closes : (l k : ℕ) (y : Summary) (b : Bool) → P (close s.register l k y b).register) (draws : (n : ℕ) → P (draw s.register n).register)
     (arms : (n : Register) → n.logs ≡ s.register.logs → P n) where
-  by_call : (looks : ℕ → View) (a : Acts) (ts : List (ℕ × Summary)) → P (called looks s.register a ts).register
+  by_call : (looks : ℕ → View) (a : Acts) (ts : List Attempt) → P (called looks s.register a ts).register
   by_call looks a [] = same
-  by_call looks a (t ∷ ts) = closes a.sequencer.log t.0 t.1
+  by_call looks a (t ∷ ts) = closes a.sequencer.log t.epoch t.summary t.short
 
   handled : (f : List ℕ) (n : ℕ) (m : Msg) (x : Node) (o : Option Op) (b : Option Body) → P (Step.handles (with_node (refreshed s f) n x) n m o b).state.register
   handled f n m x None b = same
@@ -101,9 +101,9 @@ put_follow r n l x a b c s h = (
 pub follows : (c : Config) (s : State) (e : Event) → NamesOnce s → OnlyClosed s.register → Up s.register (Step.happens c s e).state.register × OnlyClosed (Step.happens c s e).state.register
 follows c s e N h = register_kept c s e (λ n. Follows s.register n) (logs_follow s.register s.register refl h)
     (λ l g. elim (activate_leaves s.register l (Step.spec_set c s l)) [ inl a ↦ logs_follow s.register (activate s.register l (Step.spec_set c s l)).register a.0 h | inr a ↦ put_follow s.register (activate s.register l (Step.spec_set c s l)).register l (next_epoch (epochs_of s.register l) (Step.spec_set c s l)) (omega arith) (omega arith) (λ e y f. h l e y f) a.1 h ])
-    (λ l k y. elim (close_leaves s.register l k y) [
-      | inl a ↦ logs_follow s.register (close s.register l k y).register a.0 h
-      | inr a ↦ let z = a.0 in put_follow s.register (close s.register l k y).register l (closed_epochs (epochs_of s.register l) k y) (omega arith) (omega arith)
+    (λ l k y b. elim (close_leaves s.register l k y b) [
+      | inl a ↦ logs_follow s.register (close s.register l k y b).register a.0 h
+      | inr a ↦ let z = a.0 in put_follow s.register (close s.register l k y b).register l (closed_epochs (epochs_of s.register l) k y) (omega arith) (omega arith)
           (λ e z f. elim (put_cases e k y (epochs_of s.register l).summaries) [ inl b ↦ (let u = b.0 in omega arith) | inr b ↦ let u = h l e z (sym b.1 ∙ f) in omega arith ]) a.1 h
     ])
     (λ n. elim (draw_leaves s.register n) [ inl a ↦ logs_follow s.register (draw s.register n).register a.0 h | inr a ↦ logs_follow s.register (draw s.register n).register a.0 h ])
@@ -113,9 +113,9 @@ follows c s e N h = register_kept c s e (λ n. Follows s.register n) (logs_follo
 pub summaries_stay : (c : Config) (s : State) (e : Event) → NamesOnce s → OnlyClosed s.register → (l k : ℕ) (y : Summary) → find k (epochs_of s.register l).summaries ≡ Some y → find k (epochs_of (Step.happens c s e).state.register l).summaries ≡ Some y
 summaries_stay c s e N h = register_kept c s e (λ n. (l k : ℕ) (y : Summary) → find k (epochs_of s.register l).summaries ≡ Some y → find k (epochs_of n l).summaries ≡ Some y) (λ l k y f. f)
     (λ l g. elim (activate_leaves s.register l (Step.spec_set c s l)) [ inl a ↦ by_logs (activate s.register l (Step.spec_set c s l)).register a.0 | inr a ↦ by_put (activate s.register l (Step.spec_set c s l)).register l (next_epoch (epochs_of s.register l) (Step.spec_set c s l)) a.1 (λ k y f. f) ])
-    (λ l k y. elim (close_leaves s.register l k y) [
-      | inl a ↦ by_logs (close s.register l k y).register a.0
-      | inr a ↦ by_put (close s.register l k y).register l (closed_epochs (epochs_of s.register l) k y) a.1 (λ j z f. elim (put_cases j k y (epochs_of s.register l).summaries) [ inl b ↦ absurd (let u = h l j z f in let v = b.0 in let w = a.0 in omega arith) | inr b ↦ b.1 ∙ f ])
+    (λ l k y b. elim (close_leaves s.register l k y b) [
+      | inl a ↦ by_logs (close s.register l k y b).register a.0
+      | inr a ↦ by_put (close s.register l k y b).register l (closed_epochs (epochs_of s.register l) k y) a.1 (λ j z f. elim (put_cases j k y (epochs_of s.register l).summaries) [ inl b ↦ absurd (let u = h l j z f in let v = b.0 in let w = a.0 in omega arith) | inr b ↦ b.1 ∙ f ])
     ])
     (λ n. elim (draw_leaves s.register n) [ inl a ↦ by_logs (draw s.register n).register a.0 | inr a ↦ by_logs (draw s.register n).register a.0 ])
     (λ n q. by_logs n q) N where
@@ -127,6 +127,52 @@ summaries_stay c s e N h = register_kept c s e (λ n. (l k : ℕ) (y : Summary) 
         | inl p ↦ ap (λ (z : Epochs). find k z.summaries) (epochs_same (with_epochs s.register l x) n j q ∙ p.1) ∙ g k y (subst (λ z. find k (epochs_of s.register z).summaries ≡ Some y) p.0 f)
         | inr p ↦ ap (λ (z : Epochs). find k z.summaries) (epochs_same (with_epochs s.register l x) n j q ∙ p.1) ∙ f
       ]
+
+-- each closed epoch has a summary
+abbrev pub EachClosed : Register → Type 0
+EachClosed r = (l e : ℕ) → 0 < e → e ≤ lce_of r l → find e (epochs_of r l).summaries ≡ None → ⊥
+
+pub each_closed : (c : Config) (s : State) (e : Event) → NamesOnce s → EachClosed s.register → EachClosed (Step.happens c s e).state.register
+each_closed c s e N h = register_kept c s e EachClosed h
+    (λ l g. elim (activate_leaves s.register l (Step.spec_set c s l)) [
+      | inl a ↦ by_logs (activate s.register l (Step.spec_set c s l)).register a.0
+      | inr a ↦ by_put (activate s.register l (Step.spec_set c s l)).register l (next_epoch (epochs_of s.register l) (Step.spec_set c s l)) a.1 (λ k p b f. h l k p b f)
+    ])
+    (λ l k y b. elim (close_leaves s.register l k y b) [
+      | inl a ↦ by_logs (close s.register l k y b).register a.0
+      | inr a ↦ by_put (close s.register l k y b).register l (closed_epochs (epochs_of s.register l) k y) a.1 (λ j p b f. elim (put_cases j k y (epochs_of s.register l).summaries) [ inl v ↦ (let z : None ≡ Some y = sym f ∙ v.1 in cc) | inr v ↦ h l j p (others l k j a.0 b v.0) (sym v.1 ∙ f) ])
+    ])
+    (λ n. elim (draw_leaves s.register n) [ inl a ↦ by_logs (draw s.register n).register a.0 | inr a ↦ by_logs (draw s.register n).register a.0 ])
+    (λ n q. by_logs n q) N where
+      others : (l k j : ℕ) → lce_of s.register l + 1 ≡ k → j ≤ k → (j ≡ k → ⊥) → j ≤ lce_of s.register l
+      others l k j a b n = elim (cases_order j k) [ inl z ↦ absurd (n z) | inr (inl z) ↦ omega arith | inr (inr z) ↦ absurd (omega arith) ]
+
+      by_logs : (n : Register) → n.logs ≡ s.register.logs → EachClosed n
+      by_logs n q l k p b f = let z : epochs_of n l ≡ epochs_of s.register l = ap (λ m. unwrap_or (find l m) no_epochs) q in let v = ap (λ (x : Epochs). x.lce) z in h l k p (omega arith) (ap (λ (x : Epochs). find k x.summaries) (sym z) ∙ f)
+
+      by_put : (n : Register) (l : ℕ) (x : Epochs) → Same (with_epochs s.register l x) n → ((k : ℕ) → 0 < k → k ≤ x.lce → find k x.summaries ≡ None → ⊥) → EachClosed n
+      by_put n l x q g j k p b f = elim (epochs_put s.register l j x) [
+        | inl a ↦ (let z = epochs_same (with_epochs s.register l x) n j q ∙ a.1 in let v = ap (λ (w : Epochs). w.lce) z in g k p (omega arith) (ap (λ (w : Epochs). find k w.summaries) (sym z) ∙ f))
+        | inr a ↦ (let z = epochs_same (with_epochs s.register l x) n j q ∙ a.1 in let v = ap (λ (w : Epochs). w.lce) z in h j k p (omega arith) (ap (λ (w : Epochs). find k w.summaries) (sym z) ∙ f))
+      ]
+
+-- a look shows the summary of a closed epoch alone, and of each
+pub look_closed : (c : Config) (r : Register) (l e : ℕ) (y : Summary) → (looks_at c r l e).summary ≡ Some y → e ≤ lce_of r l
+unfolding look
+look_closed c r l e y = cond_both (nat_le 1 e && nat_le e (lce_of r l)) (find e (epochs_of r l).summaries) None (λ o. o ≡ Some y → e ≤ lce_of r l) (λ t h. let p = and_parts (nat_le 1 e) (nat_le e (lce_of r l)) t in leb-true _ _ p.1) (λ t h. cc)
+
+pub look_open : (c : Config) (r : Register) (l e : ℕ) → EachClosed r → 0 < e → (looks_at c r l e).summary ≡ None → lce_of r l < e
+unfolding look
+look_open c r l e C p = cond_both (nat_le 1 e && nat_le e (lce_of r l)) (find e (epochs_of r l).summaries) None (λ o. o ≡ None → lce_of r l < e) (λ t h. let q = and_parts (nat_le 1 e) (nat_le e (lce_of r l)) t in absurd (C l e p (leb-true _ _ q.1) h))
+    (λ t h. elim (cases_lt (lce_of r l) e) [ inl a ↦ a | inr a ↦ absurd (let z : true ≡ false = sym (and_from (nat_le 1 e) (nat_le e (lce_of r l)) (le-leb 1 e (omega arith)) (le-leb e (lce_of r l) a)) ∙ t in cc) ])
+
+pub look_epoch : (c : Config) (r : Register) (l e : ℕ) → (looks_at c r l e).epoch ≡ (epochs_of r l).epoch
+unfolding look
+look_epoch c r l e = refl
+
+pub start_each : EachClosed empty_register
+unfolding find
+start_each l e p b f = omega arith
 
 -- ---- nodes, factor and extras ----
 
@@ -145,9 +191,9 @@ specs_stay c s e N = register_kept c s e (λ n. SpecsStay s.register n) (λ l k 
       | inr a ↦ by_put (activate s.register l (Step.spec_set c s l)).register l (next_epoch (epochs_of s.register l) (Step.spec_set c s l)) a.1
           (λ k h. elim (put_cases k ((epochs_of s.register l).epoch + 1) (Step.spec_set c s l) (epochs_of s.register l).specs) [ inl b ↦ absurd (let u = h.1 in let v = b.0 in omega arith) | inr b ↦ b.1 ])
     ])
-    (λ l k y. elim (close_leaves s.register l k y) [
-      | inl a ↦ by_logs (close s.register l k y).register a.0
-      | inr a ↦ by_put (close s.register l k y).register l (closed_epochs (epochs_of s.register l) k y) a.1 (λ j h. refl)
+    (λ l k y b. elim (close_leaves s.register l k y b) [
+      | inl a ↦ by_logs (close s.register l k y b).register a.0
+      | inr a ↦ by_put (close s.register l k y b).register l (closed_epochs (epochs_of s.register l) k y) a.1 (λ j h. refl)
     ])
     (λ n. elim (draw_leaves s.register n) [ inl a ↦ by_logs (draw s.register n).register a.0 | inr a ↦ by_logs (draw s.register n).register a.0 ])
     (λ n q. by_logs n q) N where

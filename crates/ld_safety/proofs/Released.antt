@@ -91,12 +91,12 @@ module _ (c : Config) (hs : List Happened) (w : World) (e : Event) (B : BaseGive
     register = λ l k y f. tt;
     append = append_given c hs w e B.0.0 B.0.1;
     trim = λ name q point v b x. tt;
-    planned = λ name q v d y from upto trim lng es l h f r g k t u D m i j. let low = sequencers.digest_good (GivenEntry next) AnyTrim AnySummary AnyEpoch AnyShown (ReleaseLines next) (GivenEntry next) SmallGood (releases_sound next) q.log v.epoch _ D in (plan_given next q.log q.epoch v.epoch _ (λ z o x k. (D z o).entries x k) low i j, plan_epoch next q.log q.epoch v.epoch _ (λ z o x k. (D z o).entries x k) low i j);
-    closed = λ name q v y l r d k g. tt;
+    planned = λ name q v d loss gone l r D m i j. let low = sequencers.digest_good (GivenEntry next) AnyTrim AnySummary AnyEpoch AnyShown (ReleaseLines next) (GivenEntry next) SmallGood (releases_sound next) q.log v.epoch _ D in (plan_given next q.log q.epoch v.epoch _ (λ z o x k. (D z o).entries x k) low loss i j, plan_epoch next q.log q.epoch v.epoch _ (λ z o x k. (D z o).entries x k) low loss i j);
+    closed = λ name q v y short l r d k g. tt;
     refill = λ n m round from upto es i t v b u x j k. let z : carried.MsgOk (GivenEntry next) AnyTrim AnySummary AnyEpoch AnyShown (ReleaseLines next) (GivenEntry next) SmallGood m = now.sent m i in
         let y : carried.AllKeptOk (GivenEntry next) AnyTrim AnySummary AnyEpoch AnyShown (ReleaseLines next) (GivenEntry next) SmallGood m.log es = (subst (carried.BodyOk (GivenEntry next) AnyTrim AnySummary AnyEpoch AnyShown (ReleaseLines next) (GivenEntry next) SmallGood m.log m.from) b z).0 in
         let o = y x j in record { place = o.place; appended = o.appended };
-    shows = λ n l v. record { clean = λ f z k x a h b t i u o. tt; open_still = λ f k x t i u o. tt };
+    shows = λ n l v. record { clean = λ f z k x a h b t i u o n. tt; open_still = λ f k x t i u o. tt };
     good = λ name q f. (let u = (counts_of c hs w B.0.0 name q f).small in omega arith);
     own = λ name q f. let u = counts_of c hs w B.0.0 name q f in own_epoch q u.row u.small;
     small = λ name q f. (counts_of c hs w B.0.0 name q f).small;
@@ -163,7 +163,7 @@ module _ (c : Config) (s : State) (e : Event) where
     sets = λ l r x set h. others OfSets _ (λ q. cc) (one_of (lines.Set l r x set));
     arms = λ k done o. others OfNodes _ (λ h. cc) (none_of OfNodes);
     hears = λ f name q m i t l v o. others OfActs _ (λ h. cc) (acted_of name q (called (looks_at c s.register q.log) s.register (on_reply (looks_at c s.register q.log) q (Step.sender_node m.from) m.body) (on_reply (looks_at c s.register q.log) q (Step.sender_node m.from) m.body).tries).acts);
-    retries = λ name q v o. others OfActs _ (λ h. cc) (acted_of name q (called (looks_at c s.register q.log) s.register (on_retry q) (on_retry q).tries).acts);
+    retries = λ name q v o. others OfActs _ (λ h. cc) (acted_of name q (called (looks_at c s.register q.log) s.register (on_retry (looks_at c s.register q.log) q) (on_retry (looks_at c s.register q.log) q).tries).acts);
     appends = λ name q p v a i. others OfNumbers _ (λ h. cc) (one_of (lines.Appended name _));
     trims = λ name q t v b. issues _ name q t v b refl;
     drops = λ name q v o. others OfNodes _ (λ h. cc) (none_of OfNodes);

@@ -14,14 +14,13 @@ use Rattle.ld_machine.specs.Run.{Move, world_after, trace}
 use Rattle.ld_safety.proofs.Lists.{Some_inj, not_none}
 use Rattle.ld_safety.proofs.Traces.{later}
 use Rattle.ld_safety.proofs.GivenSteps.{BaseGiven}
-use Rattle.ld_safety.proofs.Protocol.{Ends}
+use Rattle.ld_safety.proofs.Protocol.{plan_of, Ends}
 use Rattle.ld_safety.proofs.Serving.{Gone}
 use Rattle.ld_safety.proofs.Holdings.{Holding}
 use Rattle.ld_safety.proofs.HoldKept.{CutHolds}
 use Rattle.ld_safety.proofs.Along.{Along}
 use Rattle.ld_safety.proofs.AlongSteps.{along_kept}
-use Rattle.ld_safety.proofs.Agreed.{found_plan}
-use Rattle.ld_safety.proofs.CopiesStand.{in_book}
+use Rattle.ld_safety.proofs.CopiesStand.{has_plan}
 
 unserved : (p : Plain) (l e : ℕ) → Gone p l e → world.Unserved p l e
 unserved p l e (inl h) = inl h
@@ -31,9 +30,7 @@ unserved p l e (inr (inr h)) = inr (inr (ap is_some h.1))
 module _ (c : Config) (hs : List Happened) (w : World) (R : Along c hs w) where
   cut_above : (p : Plain) (l n b : ℕ) → Ends w.made l b ((log_of p l).sealed + 1) n → CutAbove w p l n b
   cut_above p l n b e =
-      let k = in_book l (epoch_of n) e.ballot w.made e.digest e.planned in
-      let q : k.0 ≡ e.digest = R.once l (epoch_of n) e.ballot k.0 e.digest (found_plan l (epoch_of n) e.ballot w.made k.0 k.1) e.planned in
-      (e.ballot, e.digest, k.1 ∙ ap Some q, e.above, let z = e.below in omega arith, e.before)
+      (e.ballot, plan_of l (epoch_of n) e.ballot e.basis, has_plan l (epoch_of n) e.ballot w.made e.basis R.once e.planned, e.above, let z = e.below in omega arith, e.before)
 
   retained : (y : ℕ) (p : Plain) → Holding w.made w.state.network.sent y p → (l n b : ℕ) → Stored w l y n b → world.Unserved p l (epoch_of n) ⊎ ((n ≤ (log_of p l).trim) ⊎ (Holds p l n b ⊎ CutAbove w p l n b))
   retained y p H l n b i = elim (H.retains l n b i) [

@@ -16,7 +16,7 @@ use Rattle.ld_msg.specs.declared.msg.What.{What}
 use Rattle.ld_msg.specs.declared.msg.What.TheVariants.{Rec}
 use Rattle.ld_msg.specs.declared.msg.Summary.{Summary}
 use Rattle.ld_msg.specs.declared.msg.Entry.{Entry}
-use Rattle.ld_msg.specs.Digest.{Told, with_page, Item, plan, plan_item, digest_lng}
+use Rattle.ld_msg.specs.Digest.{Told, Item, plan, is_bridge, digest_lng}
 use Rattle.ld_msg.specs.Register.{Register, Granted, Epochs, epochs_of, lce_of, close, closed_epochs, with_epochs}
 use Rattle.ld_msg.specs.Sequencer.{Sequencer, Recovery, next_esn, released_of, Stage, Closes, Stores}
 use Rattle.ld_op.specs.Plain.{log_of, summary_at, is_lost}
@@ -41,10 +41,11 @@ use Rattle.ld_safety.proofs.GivenSteps.{Given, append_given}
 use Rattle.ld_safety.proofs.CarriedSteps.{Carries, Sources, carried_on, HeardOf}
 use Rattle.ld_safety.proofs.CarriedGrows.{carries_grow}
 use Rattle.ld_safety.proofs.Carried as carried
-use Rattle.ld_safety.proofs.Protocol.{plan_of, Says}
+use Rattle.ld_safety.proofs.Protocol.{Basis, plan_of, plan_at, Says}
 pub use Rattle.ld_safety.proofs.Settled.{Open, Reached}
-use Rattle.ld_safety.proofs.Settled.{TrimFine, CloseFine, ShowFine, ReleaseFine, LngFine, KnownGood, ClosedEntry, Summarized, Stays, acked_grows, trim_fine_grows, lng_fine_grows, close_fine_grows, show_grows, known_good_grows, release_grows, summarized_grows}
-use Rattle.ld_safety.proofs.Closings.{OfSummaries, Ends_with, summaries_after}
+use Rattle.ld_safety.proofs.Settled.{OfLoss, FreshLosses, of_loss_grows, TrimFine, CloseFine, ShowFine, ReleaseFine, LngFine, KnownGood, ClosedEntry, Summarized, Stays, acked_grows, trim_fine_grows, lng_fine_grows, close_fine_grows, show_grows, known_good_grows, release_grows, summarized_grows}
+use Rattle.ld_safety.proofs.Closings.{OfSummaries, summaries_after}
+use Rattle.ld_safety.proofs.SequencerSteps.{Ending, OfStored, ended_by}
 
 pub record Said (hs : List Happened) (made : List Made) (r : Register) (l b n : ℕ) (x : What) : Type 0 where
   pub given : GivenEntry hs l b n x
@@ -55,7 +56,7 @@ pub record Said (hs : List Happened) (made : List Made) (r : Register) (l b n : 
 pub record SaidHere (hs : List Happened) (made : List Made) (r : Register) (l b n : ℕ) (x : What) : Type 0 where
   pub given : GivenEntry hs l b n x
   pub reached : Reached r l (epoch_of n)
-  pub says : Says hs made l b n x ⊎ KnownGood hs r l b n x
+  pub says : Says hs made l b n x ⊎ (KnownGood hs r l b n x ⊎ OfLoss made r l b n x)
 
 abbrev pub AllSaid : Config → List Happened → List Made → Register → State → Type 0
 AllSaid c hs made r s = Carries c s (events.Flow 0) (Said hs made r) (TrimFine c hs s.network.sent r) (CloseFine c hs made s.network.sent r) (Reached r) (ShowFine c hs made s.network.sent r) (ReleaseFine c hs s.network.sent r) (SaidHere hs made r) (LngFine c hs s.network.sent r) s
@@ -73,7 +74,7 @@ good_low c hs sent r l e g h = elim (cases_order g last_esn) [
 
 pub says_grows : (hs : List Happened) (old : Register) (e : Event) (d : Done) (made more : List Made) (l b n : ℕ) (x : What) → Says hs made l b n x → Says (hs ++ told old e d ∷ []) (more ++ made) l b n x
 says_grows hs old e d made more l b n x (inl s) = inl (record { own = s.own; payload = s.payload; is = s.is; appended = (s.appended.0, appends_grows hs old e d l n s.appended.0 s.payload s.appended.1) })
-says_grows hs old e d made more l b n x (inr s) = inr (record { later = s.later; digest = s.digest; planned = In_right _ more made s.planned; item = s.item })
+says_grows hs old e d made more l b n x (inr s) = inr (record { later = s.later; basis = s.basis; planned = In_right _ more made s.planned; item = s.item })
 
 pub said_grows : (hs : List Happened) (e : Event) (d : Done) (made more : List Made) (r k : Register) → Up r k → (l b n : ℕ) (x : What) → Said hs made r l b n x → Said (hs ++ told r e d ∷ []) (more ++ made) k l b n x
 said_grows hs e d made more r k u l b n x s = let v = u l in let a = v.0 in let z = v.1 in let q = s.reached in record {
@@ -86,7 +87,7 @@ pub here_grows : (c : Config) (hs : List Happened) (e : Event) (d : Done) (made 
 here_grows c hs e d made more sent after r k into u s l b n x h = let v = u l in let a = v.0 in let z = v.1 in let q = h.reached in record {
   given = entry_grows hs r e d l b n x h.given;
   reached = (q.0, let y = q.1 in omega arith);
-  says = elim h.says [ inl p ↦ inl (says_grows hs r e d made more l b n x p) | inr p ↦ inr (known_good_grows c hs e d made more sent after r k into u s l b n x p) ];
+  says = elim h.says [ inl p ↦ inl (says_grows hs r e d made more l b n x p) | inr (inl p) ↦ inr (inl (known_good_grows c hs e d made more sent after r k into u s l b n x p)) | inr (inr p) ↦ inr (inr (of_loss_grows c hs e d made more sent after r k into u s l b n x p)) ];
 }
 
 module _ (c : Config) (hs : List Happened) (w : World) (e : Event) (B : Base c hs w) (G : Given c hs w.state) (O : OnlyClosed w.state.register) (A : AllSaid c hs w.made w.state.register w.state) where
@@ -135,8 +136,9 @@ module _ (c : Config) (hs : List Happened) (w : World) (e : Event) (B : Base c h
       (released_after : (name : List ℕ) (q p : Sequencer) → Live w.state name q → find_named name (Step.happens c w.state e).state.sequencers ≡ Some p → ReleaseNow q.log (released_of p))
       (good_before : (name : List ℕ) (q : Sequencer) → find_named name w.state.sequencers ≡ Some q → LngFine c hs w.state.network.sent w.state.register q.log q.epoch q.lng)
       (clean_shown : (n l : ℕ) → (from : ℕ) (y : Summary) (k : ℕ) (x : Entry) → (log_of (node_at w.state n).plain l).trim < from → summary_at (log_of (node_at w.state n).plain l) (home_epoch from) ≡ Some y → home_esn from < y.end → is_lost (log_of (node_at w.state n).plain l) (home_epoch from) ≡ false
-      → In (k, x) (log_of (node_at w.state n).plain l).entries → from ≤ x.number → x.number ≤ numbered (home_epoch from) (y.end - 1) → ClosedEntry c hs w.made w.state.network.sent w.state.register l x)
-      (closing : (name : List ℕ) (q : Sequencer) (v : Recovery) (y : Summary) → Live w.state name q → q.recovery ≡ Some v → Ends_with w.state q v y → lce_of w.state.register q.log + 1 ≡ v.epoch → Summarized c hs w.made w.state.network.sent w.state.register q.log v.epoch y) where
+      → In (k, x) (log_of (node_at w.state n).plain l).entries → from ≤ x.number → x.number ≤ numbered (home_epoch from) (y.end - 1) → is_bridge x.what ≡ false → ClosedEntry c hs w.made w.state.network.sent w.state.register l x)
+      (closing : (name : List ℕ) (q : Sequencer) (v : Recovery) (y : Summary) (short : Bool) → Live w.state name q → q.recovery ≡ Some v → Ending q (HeardOf w.state q) v y short → lce_of w.state.register q.log + 1 ≡ v.epoch → Summarized c hs w.made w.state.network.sent w.state.register q.log v.epoch y)
+      (fresh : FreshLosses (made_on c w.state e) w.state.register) where
     G1 : (l b n : ℕ) (x : What) → Said hs w.made w.state.register l b n x → SaidNow l b n x
     G1 = said_grows hs e (Step.happens c w.state e) w.made (made_on c w.state e) w.state.register reg up
 
@@ -149,7 +151,7 @@ module _ (c : Config) (hs : List Happened) (w : World) (e : Event) (B : Base c h
         (trim_fine_grows c hs e (Step.happens c w.state e) w.made (made_on c w.state e) w.state.network.sent after w.state.register reg into up stays)
         (close_fine_grows c hs e (Step.happens c w.state e) w.made (made_on c w.state e) w.state.network.sent after w.state.register reg into up stays)
         (λ l k h. (h.0, let z = (up l).0 in let y = h.1 in omega arith))
-        (show_grows c hs e (Step.happens c w.state e) w.made (made_on c w.state e) w.state.network.sent after w.state.register reg into up stays)
+        (show_grows c hs e (Step.happens c w.state e) w.made (made_on c w.state e) w.state.network.sent after w.state.register reg into up stays fresh)
         (release_grows c hs e (Step.happens c w.state e) w.made (made_on c w.state e) w.state.network.sent after w.state.register reg into up stays)
         (here_grows c hs e (Step.happens c w.state e) w.made (made_on c w.state e) w.state.network.sent after w.state.register reg into up stays) grow_good c w.state e w.state A
 
@@ -159,7 +161,7 @@ module _ (c : Config) (hs : List Happened) (w : World) (e : Event) (B : Base c h
       place = λ l b n x s. s.given.place.above;
       reached = λ l b n x s. s.reached;
       closing_trim = λ l k y h. h.0;
-      zero_closed = λ l. ((λ n a b o. absurd (omega arith)), inl (refl, refl));
+      zero_closed = λ l. ((λ n a b o. absurd (omega arith)), inl (refl, refl, refl));
       zero_released = λ l. record { acked = λ n a b o. absurd (omega arith); closed = omega arith };
       kept = λ l b n x s. record { given = s.given; reached = s.reached; says = inl s.says };
       zero_good = λ l k n a b o. absurd (omega arith);
@@ -176,11 +178,11 @@ module _ (c : Config) (hs : List Happened) (w : World) (e : Event) (B : Base c h
       says = inl (record { own = sym ep; payload = payload; is = refl; appended = g.appended payload refl });
     }
 
-    plan_said : (name : List ℕ) (q : Sequencer) (v : Recovery) (d : List Told) → find_named name w.state.sequencers ≡ Some q → q.recovery ≡ Some v → In (plan_of q.log v.epoch q.epoch d) plans_now
-        → ((t : Told) → In t d → (f : Entry) → In f t.entries → GivenEntry next q.log f.ballot f.number f.what) → digest_lng d < last_esn → (i : Item) → In i (plan v.epoch d).items → Said next plans_now reg q.log q.epoch i.number i.what × (epoch_of i.number ≡ v.epoch)
+    plan_said : (name : List ℕ) (q : Sequencer) (v : Recovery) (d : Basis) → find_named name w.state.sequencers ≡ Some q → q.recovery ≡ Some v → In (plan_of q.log v.epoch q.epoch d) plans_now
+        → ((t : Told) → In t d.digest → (f : Entry) → In f t.entries → GivenEntry next q.log f.ballot f.number f.what) → digest_lng d.digest < last_esn → (i : Item) → In i (plan v.epoch d.loss d.digest).items → Said next plans_now reg q.log q.epoch i.number i.what × (epoch_of i.number ≡ v.epoch)
     plan_said name q v d f r m D L i j =
-        let p = plan_items v.epoch d i j in
-        let en = end_place next q.log q.epoch v.epoch d D L in
+        let p = plan_items v.epoch d.loss d.digest i j in
+        let en = end_place next q.log q.epoch v.epoch d.digest D L in
         let a = p.above in let b = p.below in let nm = p.number in
         let rec = (subst (carried.RecoveryOk SaidNow TrimNow CloseNow ReachedNow ShowNow ReleaseNow HereNow GoodNow q.log q.epoch) r (now.sequencers name q f).recovery).0 in
         let lo = rec.0 in let hi = rec.1 in
@@ -188,13 +190,13 @@ module _ (c : Config) (hs : List Happened) (w : World) (e : Event) (B : Base c h
         let es : esn_of i.number ≡ p.place = omega arith in
         let own = reached_own name q f in let top = own.1 in (
           record {
-            given = plan_given next q.log q.epoch v.epoch d D L i j;
+            given = plan_given next q.log q.epoch v.epoch d.digest D L d.loss i j;
             reached = (omega arith, omega arith);
             says = inr (record {
               later = omega arith;
-              digest = d;
+              basis = d;
               planned = subst (λ k. In (plan_of q.log k q.epoch d) plans_now) (sym ep) m;
-              item = subst (λ k. plan_item k d (esn_of i.number) ≡ Some i.what) (sym ep) (subst (λ k. plan_item v.epoch d k ≡ Some i.what) (sym es) p.item);
+              item = subst (λ k. plan_at k d (esn_of i.number) ≡ Some i.what) (sym ep) (subst (λ k. plan_at v.epoch d k ≡ Some i.what) (sym es) p.item);
             });
           },
           ep,
@@ -204,28 +206,26 @@ module _ (c : Config) (hs : List Happened) (w : World) (e : Event) (B : Base c h
     trim_said name q point v b n le pos o = let r = released_before name q v.named in let u = (up q.log).1 in let k = r.closed in
         acked_grows c hs e (Step.happens c w.state e) w.made (made_on c w.state e) w.state.network.sent after w.state.register reg into up stays q.log n (r.acked n (omega arith) pos (omega arith))
 
-    ending : (q : Sequencer) (v : Recovery) (y : Summary) → sequencers.Ending SaidNow TrimNow CloseNow ReachedNow ShowNow ReleaseNow HereNow GoodNow sound q (HeardOf w.state q) v y → Ends_with w.state q v y
-    ending q v y (sequencers.closing_now g) = inl g
-    ending q v y (sequencers.ready_now g p z b h s o k u i) = inr (record { storing = g; settles = p; node = z; body = b; heard = h; settling = s; member = o; stage = k; ready = u; summary = i })
-
     stage_of : (name : List ℕ) (q : Sequencer) (v : Recovery) (g : Stage) → find_named name w.state.sequencers ≡ Some q → q.recovery ≡ Some v → v.stage ≡ g → carried.StageOk SaidNow TrimNow CloseNow ReachedNow ShowNow ReleaseNow HereNow GoodNow q.log q.epoch v.epoch g
     stage_of name q v g f r k = subst (carried.StageOk SaidNow TrimNow CloseNow ReachedNow ShowNow ReleaseNow HereNow GoodNow q.log q.epoch v.epoch) k (subst (carried.RecoveryOk SaidNow TrimNow CloseNow ReachedNow ShowNow ReleaseNow HereNow GoodNow q.log q.epoch) r (now.sequencers name q f).recovery).1
 
-    closing_trims : (name : List ℕ) (q : Sequencer) (v : Recovery) (y : Summary) → find_named name w.state.sequencers ≡ Some q → q.recovery ≡ Some v → Ends_with w.state q v y → TrimNow q.log y.trim
-    closing_trims name q v y f r (inl g) = (stage_of name q v (Closes y) f r g).0
-    closing_trims name q v y f r (inr g) = subst (λ (x : Summary). TrimNow q.log x.trim) (sym g.summary) (stage_of name q v (Stores g.storing) f r g.stage).0.0
+    closing_trims : (name : List ℕ) (q : Sequencer) (v : Recovery) (y : Summary) (short : Bool) → find_named name w.state.sequencers ≡ Some q → q.recovery ≡ Some v → Ending q (HeardOf w.state q) v y short → TrimNow q.log y.trim
+    closing_trims name q v y short f r g = trim_by (ended_by q (HeardOf w.state q) v y short g) where
+      trim_by : (v.stage ≡ Closes y short) ⊎ OfStored q v y → TrimNow q.log y.trim
+      trim_by (inl k) = (stage_of name q v (Closes y short) f r k).0
+      trim_by (inr k) = subst (TrimNow q.log) (sym k.trim) (stage_of name q v (Stores k.storing) f r k.stage).0.0
 
-    closed_said : (name : List ℕ) (q : Sequencer) (v : Recovery) (y : Summary) → Live w.state name q → q.recovery ≡ Some v → Ends_with w.state q v y → lce_of w.state.register q.log + 1 ≡ v.epoch → close w.state.register q.log v.epoch y ≡ record { register = reg; answer = Granted } → CloseNow q.log v.epoch y
-    closed_said name q v y live r t h g = let s = close_granted w.state.register q.log v.epoch y reg h g in elim (epochs_put w.state.register q.log q.log (closed_epochs (epochs_of w.state.register q.log) v.epoch y)) [
+    closed_said : (name : List ℕ) (q : Sequencer) (v : Recovery) (y : Summary) (short : Bool) → Live w.state name q → q.recovery ≡ Some v → Ending q (HeardOf w.state q) v y short → lce_of w.state.register q.log + 1 ≡ v.epoch → close w.state.register q.log v.epoch y short ≡ record { register = reg; answer = Granted } → CloseNow q.log v.epoch y
+    closed_said name q v y short live r t h g = let s = (close_granted w.state.register q.log v.epoch y short reg h g).0 in elim (epochs_put w.state.register q.log q.log (closed_epochs (epochs_of w.state.register q.log) v.epoch y)) [
       | inl a ↦
           let eq = epochs_same (with_epochs w.state.register q.log (closed_epochs (epochs_of w.state.register q.log) v.epoch y)) reg q.log s ∙ a.1 in
           let z : lce_of reg q.log ≡ v.epoch = ap (λ (x : Epochs). x.lce) eq in (
-            closing_trims name q v y live.named r t,
+            closing_trims name q v y short live.named r t,
             inr (record {
               found_so = ap (λ (x : Epochs). find v.epoch x.summaries) eq ∙ find-put_same v.epoch v.epoch y (epochs_of w.state.register q.log).summaries refl;
               positive = omega arith;
               low = omega arith;
-              plan = summarized_grows c hs e (Step.happens c w.state e) w.made (made_on c w.state e) w.state.network.sent after w.state.register reg into up stays q.log v.epoch y (closing name q v y live r t h);
+              plan = summarized_grows c hs e (Step.happens c w.state e) w.made (made_on c w.state e) w.state.network.sent after w.state.register reg into up stays q.log v.epoch y (closing name q v y short live r t h);
             }),
           )
       | inr a ↦ absurd (a.0 refl)
@@ -240,7 +240,7 @@ module _ (c : Config) (hs : List Happened) (w : World) (e : Event) (B : Base c h
         subst (λ v. HereNow l v x.number x.what) (sym b) (record {
           given = record { place = d.given.place; appended = d.given.appended };
           reached = d.reached;
-          says = elim s.says [ inl p ↦ inl (inr p) | inr p ↦ inr (record { summary = s.summary; found_so = s.closed.found_so; ballot = refl; good = p }) ];
+          says = elim s.says [ inl p ↦ inl (inr p) | inr (inl p) ↦ inr (inl (record { summary = s.summary; found_so = s.closed.found_so; ballot = refl; good = p })) | inr (inr p) ↦ inr (inr (record { summary = s.summary; found_so = s.closed.found_so; ballot = refl; says = p; content = s.content })) ];
         })
 
     home_low : (from : ℕ) → numbered (home_epoch from) 0 ≤ from
@@ -258,19 +258,19 @@ module _ (c : Config) (hs : List Happened) (w : World) (e : Event) (B : Base c h
 
     -- where a summary comes from
     Came : ℕ → ℕ → Summary → Type 0
-    Came l k y = (find k (epochs_of w.state.register l).summaries ≡ Some y) ⊎ ((name : List ℕ) × (q : Sequencer) × (v : Recovery) × Live w.state name q × (q.recovery ≡ Some v) × Ends_with w.state q v y × (lce_of w.state.register q.log + 1 ≡ v.epoch) × (l ≡ q.log) × (k ≡ v.epoch))
+    Came l k y = (find k (epochs_of w.state.register l).summaries ≡ Some y) ⊎ ((name : List ℕ) × (q : Sequencer) × (v : Recovery) × (short : Bool) × Live w.state name q × (q.recovery ≡ Some v) × Ending q (HeardOf w.state q) v y short × (lce_of w.state.register q.log + 1 ≡ v.epoch) × (l ≡ q.log) × (k ≡ v.epoch))
 
     came : OfSummaries Came (Step.happens c w.state e).state.register
     unfolding Came
-    came = summaries_after c w.state e Came (λ l k y f. inl f) (λ name q v y live r t h. inr (name, q, v, live, r, t, h, refl, refl)) B.0.0
+    came = summaries_after c w.state e Came (λ l k y f. inl f) (λ name q v y short live r t h o. inr (name, q, v, short, live, r, t, h, refl, refl)) B.0.0
 
     register_now : carried.RegisterOk SaidNow TrimNow CloseNow ReachedNow ShowNow ReleaseNow HereNow GoodNow (Step.happens c w.state e).state.register
     unfolding Came
     register_now l k y f = elim (came l k y f) [
       | inl a ↦ now.register l k y a
-      | inr (name, q, v, live, r, t, h, il, ik) ↦
-          let plan = summarized_grows c hs e (Step.happens c w.state e) w.made (made_on c w.state e) w.state.network.sent after w.state.register reg into up stays q.log v.epoch y (closing name q v y live r t h) in (
-            subst (λ z. TrimNow z y.trim) (sym il) (closing_trims name q v y live.named r t),
+      | inr (name, q, v, short, live, r, t, h, il, ik) ↦
+          let plan = summarized_grows c hs e (Step.happens c w.state e) w.made (made_on c w.state e) w.state.network.sent after w.state.register reg into up stays q.log v.epoch y (closing name q v y short live r t h) in (
+            subst (λ z. TrimNow z y.trim) (sym il) (closing_trims name q v y short live.named r t),
             inr (record {
               found_so = f;
               positive = omega arith;
@@ -290,14 +290,14 @@ module _ (c : Config) (hs : List Happened) (w : World) (e : Event) (B : Base c h
       register = register_now;
       append = λ name q payload v a i x. append_said name q payload v (append_given c hs w e B G name q payload v a i x) (counts_of c hs w B name q v.named).small;
       trim = λ name q point v b x. trim_said name q point v b;
-      planned = λ name q v d y from upto trim lng es l h f r g k t u D m i j. plan_said name q v (with_page v.epoch y from upto trim lng es d) l.named r (subst (λ (z : List Made). In (plan_of q.log v.epoch q.epoch (with_page v.epoch y from upto trim lng es d)) (z ++ w.made)) (sym m) (inl refl)) (λ z p x o. ((D z p).entries x o).given)
+      planned = λ name q v d loss gone l r D m i j. plan_said name q v (record { loss = loss; digest = d; gone = gone }) l.named r (subst (λ (z : List Made). In (plan_of q.log v.epoch q.epoch (record { loss = loss; digest = d; gone = gone })) (z ++ w.made)) (sym m) (inl refl)) (λ z p x o. ((D z p).entries x o).given)
           (good_low c next after reg q.log v.epoch _ (sequencers.digest_good SaidNow TrimNow CloseNow ReachedNow ShowNow ReleaseNow HereNow GoodNow sound q.log v.epoch _ D)) i j;
-      closed = λ name q v y l r d k g. closed_said name q v y l r (ending q v y d) k g;
+      closed = λ name q v y short l r d k g. closed_said name q v y short l r d k g;
       refill = λ n m round from upto es i t v b u x j k. let z : carried.MsgOk SaidNow TrimNow CloseNow ReachedNow ShowNow ReleaseNow HereNow GoodNow m = now.sent m i in
           let y = subst (carried.BodyOk SaidNow TrimNow CloseNow ReachedNow ShowNow ReleaseNow HereNow GoodNow m.log m.from) b z in
           refill_said n m.log x (y.1 x j) (y.0 x j) k (missing_clean (log_of (node_at w.state n).plain m.log) x.number k);
       shows = λ n l v. record {
-        clean = λ from y k x a b d f i lo hi. show_grows c hs e (Step.happens c w.state e) w.made (made_on c w.state e) w.state.network.sent after w.state.register reg into up stays l true x (clean_shown n l from y k x a b d f i lo hi);
+        clean = λ from y k x a b d f i lo hi o. show_grows c hs e (Step.happens c w.state e) w.made (made_on c w.state e) w.state.network.sent after w.state.register reg into up stays fresh l true x (clean_shown n l from y k x a b d f i lo hi o);
         open_still = λ from k x h i lo hi. open_shown n l from k x h i lo hi;
       };
       good = λ name q f. grow_good q.log q.epoch q.lng (good_before name q f);

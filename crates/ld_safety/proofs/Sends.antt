@@ -11,7 +11,7 @@ use Rattle.ld_msg.specs.declared.msg.Body.{Body}
 use Rattle.ld_msg.specs.declared.msg.Body.TheVariants as bodies
 use Rattle.ld_op.specs.declared.op.Op.{Op}
 use Rattle.ld_op.specs.declared.op.Op.TheVariants as ops
-use Rattle.ld_op.specs.Plain.{Plain, Log, log_of, empty_log, apply, with_log, accepted, sealed_by, summary_at}
+use Rattle.ld_op.specs.Plain.{Plain, Log, log_of, empty_log, apply, with_log, accepted, sealed_by, summary_at, lng_at}
 use Rattle.ld_op.specs.Answers.{Decision, Lost, CleanAlready, Trimmed, Sealed, Same, Take, store_decision, digest_decision, taken, is_same, refusal, store_answer, digest_answer, entries_within, page_upto, page_limit, on_store, on_digest_ask, on_clean, on_trim, read_answer}
 use Rattle.ld_op.specs.Handles.{handled_by}
 use Rattle.ld_op.specs.Ticks.{on_page}
@@ -31,10 +31,11 @@ pub record StoredIn (p : Plain) (l n b : ℕ) : Type 0 where
   pub held : HeldAt (log_of p l) n b
 
 -- a page shows what stands in this plain state
-pub record PageIn (p : Plain) (l b from upto t : ℕ) (es : List Entry) : Type 0 where
+pub record PageIn (p : Plain) (l b from upto t good : ℕ) (es : List Entry) : Type 0 where
   pub served : Served (log_of p l) (epoch_of from)
   pub sealed : (log_of p l).sealed ≡ b
   pub trim : t ≡ (log_of p l).trim
+  pub known : good ≡ lng_at (log_of p l) (epoch_of from)
   pub has : (k : ℕ) (f : Entry) → find k (log_of p l).entries ≡ Some f → epoch_of k ≡ epoch_of from → from ≤ k → k ≤ upto → In f es
   pub only : (f : Entry) → In f es → In (f.number, f) (log_of p l).entries × (from ≤ f.number) × (f.number ≤ numbered (epoch_of from) last_esn)
 
@@ -94,13 +95,14 @@ filter_in p x (y ∷ xs) i h = by_test (p y) refl i (λ j. filter_in p x xs j h)
   by_test false q (inr j) ih = ih j
 
 page_shows : (g : Log) (l b from : ℕ) → LogFine g → Served g (epoch_of from) → 0 < esn_of from → (p : Plain) → log_of p l ≡ g → g.sealed ≡ b
-    → PageIn p l b from (page_upto (entries_within g from (numbered (epoch_of from) last_esn)) (numbered (epoch_of from) last_esn)) g.trim (take page_limit (entries_within g from (numbered (epoch_of from) last_esn)))
+    → PageIn p l b from (page_upto (entries_within g from (numbered (epoch_of from) last_esn)) (numbered (epoch_of from) last_esn)) g.trim (lng_at g (epoch_of from)) (take page_limit (entries_within g from (numbered (epoch_of from) last_esn)))
 page_shows g l b from F s pos p q z =
     let last = numbered (epoch_of from) last_esn in
     let rising = rising_filter (λ (e : Entry). nat_le from e.number && nat_le e.number last) (values g.entries) (rising_values g.entries F.numbers F.rising) in record {
       served = subst (λ h. Served h (epoch_of from)) (sym q) s;
       sealed = subst (λ (h : Log). h.sealed ≡ b) (sym q) z;
       trim = ap (λ (h : Log). h.trim) (sym q);
+      known = ap (λ (h : Log). lng_at h (epoch_of from)) (sym q);
       has = λ k f h e lo up. shown f k (subst (λ (x : Log). find k x.entries ≡ Some f) q h) e lo up rising;
       only = λ f i. let j = In_take page_limit f _ i in let u = In_filter _ f (values g.entries) j in let v = In_values f g.entries u.0 in let n = F.numbers (v.0, f) v.1 in let w = and_parts (nat_le from f.number) (nat_le f.number last) u.1 in
           (subst (λ (x : Log). In (f.number, f) x.entries) (sym q) (subst (λ x. In (x, f) g.entries) (sym n) v.1), leb-true _ _ w.0, leb-true _ _ w.1);
@@ -112,27 +114,28 @@ page_shows g l b from F s pos p q z =
           (filter_in (λ (x : Entry). nat_le from x.number && nat_le x.number (numbered (epoch_of from) last_esn)) f (values g.entries) (in_values k f g.entries i) (and_from _ _ (le-leb from f.number (omega arith)) (le-leb f.number (numbered (epoch_of from) last_esn) (omega arith)))) (omega arith)
 
 -- two pages are the same message
-record SamePage (f u t : ℕ) (es : List Entry) (from upto trim : ℕ) (xs : List Entry) : Type 0 where
+record SamePage (f u t good : ℕ) (es : List Entry) (from upto trim lng : ℕ) (xs : List Entry) : Type 0 where
   from_same : f ≡ from
   upto_same : u ≡ upto
   trim_same : t ≡ trim
+  known_same : good ≡ lng
   entries_same : es ≡ xs
 
-same_page : (f u t good from upto trim lng : ℕ) (es xs : List Entry) → Some (bodies.DigestPage f u t good es) ≡ Some (bodies.DigestPage from upto trim lng xs) → SamePage f u t es from upto trim xs
-same_page f u t good from upto trim lng es xs h = let q : bodies.DigestPage f u t good es ≡ bodies.DigestPage from upto trim lng xs = Some_inj h in record { from_same = cc; upto_same = cc; trim_same = cc; entries_same = cc }
+same_page : (f u t good from upto trim lng : ℕ) (es xs : List Entry) → Some (bodies.DigestPage f u t good es) ≡ Some (bodies.DigestPage from upto trim lng xs) → SamePage f u t good es from upto trim lng xs
+same_page f u t good from upto trim lng es xs h = let q : bodies.DigestPage f u t good es ≡ bodies.DigestPage from upto trim lng xs = Some_inj h in record { from_same = cc; upto_same = cc; trim_same = cc; known_same = cc; entries_same = cc }
 
-as_page : (p : Plain) (l b f u t from upto trim : ℕ) (es xs : List Entry) → SamePage f u t es from upto trim xs → PageIn p l b f u t es → PageIn p l b from upto trim xs
-as_page p l b f u t from upto trim es xs q h = subst (λ z. PageIn p l b z upto trim xs) q.from_same (subst (λ z. PageIn p l b f z trim xs) q.upto_same (subst (λ z. PageIn p l b f u z xs) q.trim_same (subst (λ z. PageIn p l b f u t z) q.entries_same h)))
+as_page : (p : Plain) (l b f u t good from upto trim lng : ℕ) (es xs : List Entry) → SamePage f u t good es from upto trim lng xs → PageIn p l b f u t good es → PageIn p l b from upto trim lng xs
+as_page p l b f u t good from upto trim lng es xs q h = subst (λ z. PageIn p l b z upto trim lng xs) q.from_same (subst (λ z. PageIn p l b f z trim lng xs) q.upto_same (subst (λ z. PageIn p l b f u z lng xs) q.trim_same (subst (λ z. PageIn p l b f u t z xs) q.known_same (subst (λ z. PageIn p l b f u t good z) q.entries_same h))))
 
 page_in : (p : Plain) (generation l ballot f from upto t lng : ℕ) (es : List Entry) → LogFine (log_of p l) → 0 < esn_of f → digest_answer generation (log_of p l) f (digest_decision (log_of p l) ballot f) ≡ Some (bodies.DigestPage from upto t lng es)
-    → PageIn (after p (taken (ops.Seal l ballot) (digest_decision (log_of p l) ballot f))) l ballot from upto t es
+    → PageIn (after p (taken (ops.Seal l ballot) (digest_decision (log_of p l) ballot f))) l ballot from upto t lng es
 unfolding apply summary_at
-page_in p generation l ballot f from upto t lng es F pos h = ask_decided (log_of p l) ballot f (λ d. digest_answer generation (log_of p l) f d ≡ Some (bodies.DigestPage from upto t lng es) → PageIn (after p (taken (ops.Seal l ballot) d)) l ballot from upto t es) (record {
+page_in p generation l ballot f from upto t lng es F pos h = ask_decided (log_of p l) ballot f (λ d. digest_answer generation (log_of p l) f d ≡ Some (bodies.DigestPage from upto t lng es) → PageIn (after p (taken (ops.Seal l ballot) d)) l ballot from upto t lng es) (record {
   lost = λ t q. absurd cc;
   clean = λ y t k q. absurd cc;
   sealed = λ s k q. absurd cc;
-  same = λ s k q. as_page p l ballot _ _ _ from upto t _ es (same_page _ _ _ _ from upto t lng _ es q) (page_shows (log_of p l) l ballot f F s pos p refl (sym k));
-  takes = λ s k q. as_page (with_log p l (sealed_by (log_of p l) ballot)) l ballot _ _ _ from upto t _ es (same_page _ _ _ _ from upto t lng _ es q)
+  same = λ s k q. as_page p l ballot _ _ _ _ from upto t lng _ es (same_page _ _ _ _ from upto t lng _ es q) (page_shows (log_of p l) l ballot f F s pos p refl (sym k));
+  takes = λ s k q. as_page (with_log p l (sealed_by (log_of p l) ballot)) l ballot _ _ _ _ from upto t lng _ es (same_page _ _ _ _ from upto t lng _ es q)
       (page_shows (sealed_by (log_of p l) ballot) l ballot f (record { rising = F.rising; numbers = F.numbers; bounded = λ q i u. (let z = F.bounded q i (record { found_here = u.found_here; unclean = u.unclean }) in omega arith) }) (record { found_here = s.found_here; unclean = s.unclean }) pos (with_log p l (sealed_by (log_of p l) ballot)) (log_here p l (sealed_by (log_of p l) ballot)) refl);
 }) h
 
@@ -149,7 +152,7 @@ read_untold generation g released round from = read_answered generation g releas
 -- what an answer says of the plain state after it
 pub record Answered (p : Plain) (l b : ℕ) (x : Body) : Type 0 where
   pub stored : (n : ℕ) → x ≡ bodies.Stored n → StoredIn p l n b
-  pub page : (from upto t lng : ℕ) (es : List Entry) → x ≡ bodies.DigestPage from upto t lng es → PageIn p l b from upto t es
+  pub page : (from upto t lng : ℕ) (es : List Entry) → x ≡ bodies.DigestPage from upto t lng es → PageIn p l b from upto t lng es
   pub trimmed : (n t : ℕ) → x ≡ bodies.TrimmedHere n t → t ≤ (log_of p l).trim
 
 untold : (p : Plain) (l b : ℕ) (x : Body) → is_told x ≡ false → Answered p l b x

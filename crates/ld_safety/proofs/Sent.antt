@@ -47,7 +47,7 @@ pub record Allowed (x : Node) : Type 0 where
 
 pub record SendsFine (t : State) (ms : List Msg) : Type 0 where
   pub stored : (l y n b : ℕ) → In (from_node l y b (bodies.Stored n)) ms → Allowed (node_at t y) × StoredIn (node_at t y).plain l n b
-  pub pages : (l y b from upto trim lng : ℕ) (es : List Entry) → In (from_node l y b (bodies.DigestPage from upto trim lng es)) ms → Allowed (node_at t y) × PageIn (node_at t y).plain l b from upto trim es
+  pub pages : (l y b from upto trim lng : ℕ) (es : List Entry) → In (from_node l y b (bodies.DigestPage from upto trim lng es)) ms → Allowed (node_at t y) × PageIn (node_at t y).plain l b from upto trim lng es
   pub trimmed : (l y n trim b : ℕ) → In (from_node l y b (bodies.TrimmedHere n trim)) ms → Allowed (node_at t y) × (trim ≤ (log_of (node_at t y).plain l).trim)
   pub alone : (l y n b m z a from upto trim lng : ℕ) (es : List Entry) → In (from_node l y b (bodies.Stored n)) ms → In (from_node m z a (bodies.DigestPage from upto trim lng es)) ms → ⊥
 
@@ -84,7 +84,7 @@ answer_fine t n m x a h = record {
   stored = λ l y k b i. (let q = answer_is n m x l y b (bodies.Stored k) i in
       subst (λ z. Allowed (node_at t z) × StoredIn (node_at t z).plain l k b) (sym q.node) (a, subst (λ z. StoredIn (node_at t n).plain z k b) (sym q.log) (subst (λ z. StoredIn (node_at t n).plain m.log k z) (ap ballot_of (sym q.to)) (h.stored k (sym q.body)))));
   pages = λ l y b from upto trim lng es i. (let q = answer_is n m x l y b (bodies.DigestPage from upto trim lng es) i in
-      subst (λ z. Allowed (node_at t z) × PageIn (node_at t z).plain l b from upto trim es) (sym q.node) (a, subst (λ z. PageIn (node_at t n).plain z b from upto trim es) (sym q.log) (subst (λ z. PageIn (node_at t n).plain m.log z from upto trim es) (ap ballot_of (sym q.to)) (h.page from upto trim lng es (sym q.body)))));
+      subst (λ z. Allowed (node_at t z) × PageIn (node_at t z).plain l b from upto trim lng es) (sym q.node) (a, subst (λ z. PageIn (node_at t n).plain z b from upto trim lng es) (sym q.log) (subst (λ z. PageIn (node_at t n).plain m.log z from upto trim lng es) (ap ballot_of (sym q.to)) (h.page from upto trim lng es (sym q.body)))));
   trimmed = λ l y k trim b i. (let q = answer_is n m x l y b (bodies.TrimmedHere k trim) i in subst (λ z. Allowed (node_at t z) × (trim ≤ (log_of (node_at t z).plain l).trim)) (sym q.node) (a, subst (λ z. trim ≤ (log_of (node_at t n).plain z).trim) (sym q.log) (h.trimmed k trim (sym q.body))));
   alone = λ l y k b j z a from upto trim lng es i u. (let q = answer_is n m x l y b (bodies.Stored k) i in let v = answer_is n m x j z a (bodies.DigestPage from upto trim lng es) u in
       let e : bodies.Stored k ≡ bodies.DigestPage from upto trim lng es = q.body ∙ sym v.body in cc);
@@ -264,7 +264,7 @@ module _ (made : List worlds.Made) (sent : List Msg) (d : Done) (F : SendsFine d
         | inl (inr z) ↦ absurd (not_served g (epoch_of from) (subst (Unserved g) e z) p.1.served)
         | inr (inl z) ↦ inl (let u = p.1.trim in omega arith)
         | inr (inr (inl z)) ↦ inr (inl (record { entry = z.entry; there = p.1.has n z.entry z.found_at e lo hi; number = ((H y).0.fine l).numbers (n, z.entry) (find_in n g.entries z.entry z.found_at); least = z.least }))
-        | inr (inr (inr z)) ↦ inr (inr (record { ballot = z.ballot; digest = z.digest; planned = z.planned; above = z.above; below = let u = z.below in let v = p.1.sealed in omega arith; before = z.before }))
+        | inr (inr (inr z)) ↦ inr (inr (record { ballot = z.ballot; basis = z.basis; planned = z.planned; above = z.above; below = let u = z.below in let v = p.1.sealed in omega arith; before = z.before }))
       ]
 
   pub shows_sent : ShowsAll made sent → ShowsAll made (finish d).state.network.sent

@@ -2,27 +2,29 @@
 use Rattle.std.proofs.Common.{◌≡◌, sym, subst, ◌⊎◌, ◌≤◌, ◌<◌, ℕ, ◌+◌, inl, inr, Bool, true, false, List, ◌++◌, [], ◌∷◌, Some, arith}
 use Rattle.ld_table.specs.Words.{how_many}
 use Rattle.ld_table.specs.Table.{find}
-use Rattle.ld_lsn.specs.Number.{epoch_of, esn_of, last_esn}
+use Rattle.ld_lsn.specs.Number.{epoch_of, esn_of, home_epoch, last_esn}
 use Rattle.ld_ids.specs.declared.set.Spec.{Spec}
 use Rattle.ld_ids.specs.Choice.{nodes_of}
 use Rattle.ld_config.specs.declared.config.Config.{Config}
 use Rattle.ld_schedule.specs.declared.event.Event.{Event}
 use Rattle.ld_msg.specs.declared.msg.What.{What}
+use Rattle.ld_msg.specs.declared.msg.What.TheVariants.{Rec, Hole}
 use Rattle.ld_msg.specs.declared.msg.Entry.{Entry}
 use Rattle.ld_msg.specs.declared.msg.Summary.{Summary}
 use Rattle.ld_msg.specs.declared.msg.Msg.{Msg}
-use Rattle.ld_msg.specs.Digest.{Told, plan_end, plan_floor, digest_trim, digest_lng}
+use Rattle.ld_msg.specs.declared.msg.Body.TheVariants as bodies
+use Rattle.ld_msg.specs.Digest.{is_bridge, plan_end, plan_floor, digest_trim, digest_lng}
 use Rattle.ld_msg.specs.Register.{Register, epochs_of, lce_of}
 use Rattle.ld_machine.specs.Config.{spec_of, set_at}
 use Rattle.ld_machine.specs.State.{Done}
 use Rattle.ld_machine.specs.Facts.{Happened}
-use Rattle.ld_machine.specs.World.{Made, In, told_by, says_stored, says_settled}
-use Rattle.ld_safety.proofs.Lists.{any_from, any_in, count_mono, In_right}
+use Rattle.ld_machine.specs.World.{Made, In, from_node, told_by, says_stored, says_settled}
+use Rattle.ld_safety.proofs.Lists.{any_from, any_in, count_mono, In_right, In-append}
 use Rattle.ld_safety.proofs.Steps.{told}
 pub use Rattle.ld_safety.proofs.Registers.{Reached}
 use Rattle.ld_safety.proofs.Registers.{Up, reached_later}
 use Rattle.ld_safety.proofs.Given.{AppendedBy, appends_grows}
-use Rattle.ld_safety.proofs.Protocol.{plan_of, OwnSays, PlanSays, Chosen, tells_stored, tells_settled}
+use Rattle.ld_safety.proofs.Protocol.{Basis, plan_of, plan_at, OwnSays, PlanSays, Chosen, tells_stored, tells_settled}
 
 abbrev pub Open : Register → ℕ → ℕ → Type 0
 Open r l e = lce_of r l < e
@@ -53,17 +55,36 @@ pub record ReleaseFine (c : Config) (hs : List Happened) (sent : List Msg) (r : 
 abbrev pub Fixed : Config → List Happened → List Msg → Register → ℕ → ℕ → ℕ → Type 0
 Fixed c hs sent r l n b = Acknowledged c hs sent r l n ⊎ Chosen (spec_of c r l (epoch_of n)) sent l n b
 
+-- a node told the ballot that it is lost for the epoch
+pub record LostTold (sent : List Msg) (l e b y : ℕ) : Type 0 where
+  pub number : ℕ
+  pub round : ℕ
+  pub generation : ℕ
+  pub end : ℕ
+  pub said : In (from_node l y b (bodies.LostHere number round generation end)) sent
+  pub home : home_epoch number ≡ e
+
+-- a plan each of whose numbers was settled by as many nodes as there are copies
+pub record FullClose (c : Config) (hs : List Happened) (sent : List Msg) (r : Register) (l e b : ℕ) (d : Basis) : Type 0 where
+  pub found : d.loss ≡ false
+  pub copies : (n : ℕ) → epoch_of n ≡ e → plan_floor e d.digest < esn_of n → esn_of n < plan_end e d.digest → (spec_of c r l e).r ≤ how_many (tells_settled sent l n b) (set_at c r l e)
+  pub fixed : (n : ℕ) → epoch_of n ≡ e → plan_floor e d.digest < esn_of n → esn_of n < plan_end e d.digest → Fixed c hs sent r l n b
+
+-- a plan each of whose numbers each node settled that wasn't lost
+pub record ShortClose (c : Config) (sent : List Msg) (r : Register) (l e b : ℕ) (d : Basis) : Type 0 where
+  pub settled : (n : ℕ) → epoch_of n ≡ e → plan_floor e d.digest < esn_of n → esn_of n < plan_end e d.digest → (y : ℕ) → In y (set_at c r l e) → (tells_settled sent l n b y ≡ true) ⊎ LostTold sent l e b y
+
 -- a summary of a plan that stands
 pub record Summarized (c : Config) (hs : List Happened) (made : List Made) (sent : List Msg) (r : Register) (l e : ℕ) (y : Summary) : Type 0 where
   pub reached : Reached r l e
-  pub digest : List Told
-  pub planned : In (plan_of l e y.ballot digest) made
-  pub end : y.end ≡ plan_end e digest
-  pub trim : y.trim ≡ digest_trim digest
-  pub lng : y.lng ≡ digest_lng digest
+  pub basis : Basis
+  pub planned : In (plan_of l e y.ballot basis) made
+  pub loss : y.loss ≡ basis.loss
+  pub end : y.end ≡ plan_end e basis.digest
+  pub trim : y.trim ≡ digest_trim basis.digest
+  pub lng : y.lng ≡ digest_lng basis.digest
   pub good : LngFine c hs sent r l e y.lng
-  pub copies : (n : ℕ) → epoch_of n ≡ e → plan_floor e digest < esn_of n → esn_of n < plan_end e digest → (spec_of c r l e).r ≤ how_many (tells_settled sent l n y.ballot) (set_at c r l e)
-  pub fixed : (n : ℕ) → epoch_of n ≡ e → plan_floor e digest < esn_of n → esn_of n < plan_end e digest → Fixed c hs sent r l n y.ballot
+  pub how : FullClose c hs sent r l e y.ballot basis ⊎ ShortClose c sent r l e y.ballot basis
 
 -- an epoch that is closed with this summary
 pub record ClosedBy (c : Config) (hs : List Happened) (made : List Made) (sent : List Msg) (r : Register) (l e : ℕ) (y : Summary) : Type 0 where
@@ -72,9 +93,12 @@ pub record ClosedBy (c : Config) (hs : List Happened) (made : List Made) (sent :
   pub low : e ≤ lce_of r l
   pub plan : Summarized c hs made sent r l e y
 
--- epoch 0 is closed before its place 1
+-- epoch 0 is closed before its place 1, by no plan
+abbrev pub OfZero : ℕ → Summary → Type 0
+OfZero e y = (e ≡ 0) × (y.end ≡ 1) × (y.loss ≡ false)
+
 abbrev pub CloseFine : Config → List Happened → List Made → List Msg → Register → ℕ → ℕ → Summary → Type 0
-CloseFine c hs made sent r l e y = TrimFine c hs sent r l y.trim × (((e ≡ 0) × (y.end ≡ 1)) ⊎ ClosedBy c hs made sent r l e y)
+CloseFine c hs made sent r l e y = TrimFine c hs sent r l y.trim × (OfZero e y ⊎ ClosedBy c hs made sent r l e y)
 
 -- a number that was known good as its epoch was closed has the append's record
 pub record GoodSays (hs : List Happened) (l n : ℕ) (y : Summary) (x : What) : Type 0 where
@@ -82,15 +106,36 @@ pub record GoodSays (hs : List Happened) (l n : ℕ) (y : Summary) (x : What) : 
   pub low : esn_of n ≤ y.lng
   pub says : OwnSays hs l (epoch_of n) n x
 
--- what a closed epoch says of its number: the closing plan's item, or what was known good
+-- what a loss plan of the epoch says of its number
+pub record LossSays (made : List Made) (l n : ℕ) (x : What) : Type 0 where
+  pub ballot : ℕ
+  pub basis : Basis
+  pub planned : In (plan_of l (epoch_of n) ballot basis) made
+  pub later : epoch_of n < ballot
+  pub loss : basis.loss ≡ true
+  pub item : plan_at (epoch_of n) basis (esn_of n) ≡ Some x
+
+-- and its ballot isn't below the closing one, but where the number was known good
+pub record LossBeside (made : List Made) (l n : ℕ) (y : Summary) (x : What) : Type 0 where
+  pub says : LossSays made l n x
+  pub side : (y.ballot ≤ says.ballot) ⊎ (esn_of n ≤ y.lng)
+
+-- what a closed epoch says of its number: the closing plan's item, or what was known good, or a loss plan's item
 abbrev pub ClosedSays : List Happened → List Made → ℕ → ℕ → Summary → What → Type 0
-ClosedSays hs made l n y x = PlanSays made l y.ballot n x ⊎ GoodSays hs l n y x
+ClosedSays hs made l n y x = PlanSays made l y.ballot n x ⊎ (GoodSays hs l n y x ⊎ LossBeside made l n y x)
+
+-- a hole that stands where no loss plan has a record
+abbrev pub HoleFine : List Made → ℕ → ℕ → What → Type 0
+HoleFine made l n x = x ≡ Hole → (b : ℕ) (f : Basis) (p : List ℕ) → In (plan_of l (epoch_of n) b f) made → f.loss ≡ true → plan_at (epoch_of n) f (esn_of n) ≡ Some (Rec p) → ⊥
 
 -- a clean page shows what the closed epoch says
 pub record ClosedEntry (c : Config) (hs : List Happened) (made : List Made) (sent : List Msg) (r : Register) (l : ℕ) (e : Entry) : Type 0 where
   pub summary : Summary
   pub closed : ClosedBy c hs made sent r l (epoch_of e.number) summary
   pub says : ClosedSays hs made l e.number summary e.what
+  pub hole : HoleFine made l e.number e.what
+  pub content : is_bridge e.what ≡ false
+  pub below : esn_of e.number < summary.end
 
 -- and one that isn't clean shows acknowledged appends
 abbrev pub ShowFine : Config → List Happened → List Made → List Msg → Register → ℕ → Bool → Entry → Type 0
@@ -103,6 +148,18 @@ pub record KnownGood (hs : List Happened) (r : Register) (l b n : ℕ) (x : What
   pub found_so : find (epoch_of n) (epochs_of r l).summaries ≡ Some summary
   pub ballot : b ≡ summary.ballot
   pub good : GoodSays hs l n summary x
+
+-- what a refilled entry is that a loss plan says: it has the closing ballot
+pub record OfLoss (made : List Made) (r : Register) (l b n : ℕ) (x : What) : Type 0 where
+  pub summary : Summary
+  pub found_so : find (epoch_of n) (epochs_of r l).summaries ≡ Some summary
+  pub ballot : b ≡ summary.ballot
+  pub says : LossBeside made l n summary x
+  pub content : is_bridge x ≡ false
+
+-- loss plans are made of open epochs alone
+abbrev pub FreshLosses : List Made → Register → Type 0
+FreshLosses more r = (l e b : ℕ) (f : Basis) → In (plan_of l e b f) more → f.loss ≡ true → Open r l e
 
 -- ---- what grows ----
 
@@ -149,8 +206,17 @@ module _ (c : Config) (hs : List Happened) (e : Event) (d : Done) (made more : L
   fixed_grows l n b o (inl h) = inl (acked_grows l n h)
   fixed_grows l n b o (inr h) = inr (chosen_grows l n b o h)
 
+  lost_told_grows : (l x b y : ℕ) → LostTold sent l x b y → LostTold after l x b y
+  lost_told_grows l x b y h = record { number = h.number; round = h.round; generation = h.generation; end = h.end; said = into _ h.said; home = h.home }
+
+  how_grows : (l x b : ℕ) (f : Basis) → Reached r l x → FullClose c hs sent r l x b f ⊎ ShortClose c sent r l x b f → FullClose c (hs ++ told r e d ∷ []) after k l x b f ⊎ ShortClose c after k l x b f
+  how_grows l x b f o (inl h) = inl (record { found = h.found; copies = λ n q lo hi. copies_grow l x n b o (h.copies n q lo hi); fixed = λ n q lo hi. fixed_grows l n b (subst (Reached r l) (sym q) o) (h.fixed n q lo hi) })
+  how_grows l x b f o (inr h) = inr (record {
+    settled = λ n q lo hi y i. elim (h.settled n q lo hi y (subst (λ (p : Spec). In y (nodes_of p)) (s.specs l x o) i)) [ inl t ↦ inl (settles_more sent after into l n b y t) | inr t ↦ inr (lost_told_grows l x b y t) ];
+  })
+
   pub summarized_grows : (l x : ℕ) (y : Summary) → Summarized c hs made sent r l x y → Summarized c (hs ++ told r e d ∷ []) (more ++ made) after k l x y
-  summarized_grows l x y h = record { reached = reached_later r k l x u h.reached; digest = h.digest; planned = In_right _ more made h.planned; end = h.end; trim = h.trim; lng = h.lng; good = lng_fine_grows l x y.lng h.good; copies = λ n a b o. copies_grow l x n y.ballot h.reached (h.copies n a b o); fixed = λ n a b o. fixed_grows l n y.ballot (subst (Reached r l) (sym a) h.reached) (h.fixed n a b o) }
+  summarized_grows l x y h = record { reached = reached_later r k l x u h.reached; basis = h.basis; planned = In_right _ more made h.planned; loss = h.loss; end = h.end; trim = h.trim; lng = h.lng; good = lng_fine_grows l x y.lng h.good; how = how_grows l x y.ballot h.basis h.reached h.how }
 
   pub closed_grows : (l x : ℕ) (y : Summary) → ClosedBy c hs made sent r l x y → ClosedBy c (hs ++ told r e d ∷ []) (more ++ made) after k l x y
   closed_grows l x y h = record { found_so = s.summaries l x y h.found_so; positive = h.positive; low = let z = (u l).1 in let w = h.low in omega arith; plan = summarized_grows l x y h.plan }
@@ -162,16 +228,29 @@ module _ (c : Config) (hs : List Happened) (e : Event) (d : Done) (made more : L
   good_grows : (l n : ℕ) (y : Summary) (x : What) → GoodSays hs l n y x → GoodSays (hs ++ told r e d ∷ []) l n y x
   good_grows l n y x g = record { above = g.above; low = g.low; says = record { own = g.says.own; payload = g.says.payload; is = g.says.is; appended = (g.says.appended.0, appends_grows hs r e d l n g.says.appended.0 g.says.payload g.says.appended.1) } }
 
+  beside_grows : (l n : ℕ) (y : Summary) (x : What) → LossBeside made l n y x → LossBeside (more ++ made) l n y x
+  beside_grows l n y x h = let z = h.says in record { says = record { ballot = z.ballot; basis = z.basis; planned = In_right _ more made z.planned; later = z.later; loss = z.loss; item = z.item }; side = h.side }
+
   pub closed_says_grows : (l n : ℕ) (y : Summary) (x : What) → ClosedSays hs made l n y x → ClosedSays (hs ++ told r e d ∷ []) (more ++ made) l n y x
-  closed_says_grows l n y x (inl p) = inl (record { later = p.later; digest = p.digest; planned = In_right _ more made p.planned; item = p.item })
-  closed_says_grows l n y x (inr g) = inr (good_grows l n y x g)
+  closed_says_grows l n y x (inl p) = inl (record { later = p.later; basis = p.basis; planned = In_right _ more made p.planned; item = p.item })
+  closed_says_grows l n y x (inr (inl g)) = inr (inl (good_grows l n y x g))
+  closed_says_grows l n y x (inr (inr g)) = inr (inr (beside_grows l n y x g))
+
+  pub hole_grows : (l n : ℕ) (x : What) → FreshLosses more r → epoch_of n ≤ lce_of r l → HoleFine made l n x → HoleFine (more ++ made) l n x
+  hole_grows l n x fresh low h q b f p i lo it = elim (In-append (plan_of l (epoch_of n) b f) more made i) [
+    | inl j ↦ let z = fresh l (epoch_of n) b f j lo in omega arith
+    | inr j ↦ h q b f p j lo it
+  ]
+
+  pub of_loss_grows : (l b n : ℕ) (x : What) → OfLoss made r l b n x → OfLoss (more ++ made) k l b n x
+  of_loss_grows l b n x h = record { summary = h.summary; found_so = s.summaries l (epoch_of n) h.summary h.found_so; ballot = h.ballot; says = beside_grows l n h.summary x h.says; content = h.content }
 
   pub known_good_grows : (l b n : ℕ) (x : What) → KnownGood hs r l b n x → KnownGood (hs ++ told r e d ∷ []) k l b n x
   known_good_grows l b n x h = record { summary = h.summary; found_so = s.summaries l (epoch_of n) h.summary h.found_so; ballot = h.ballot; good = good_grows l n h.summary x h.good }
 
-  pub show_grows : (l : ℕ) (b : Bool) (x : Entry) → ShowFine c hs made sent r l b x → ShowFine c (hs ++ told r e d ∷ []) (more ++ made) after k l b x
-  show_grows l true x h = record { summary = h.summary; closed = closed_grows l (epoch_of x.number) h.summary h.closed; says = closed_says_grows l x.number h.summary x.what h.says }
-  show_grows l false x h = acked_grows l x.number h
+  pub show_grows : FreshLosses more r → (l : ℕ) (b : Bool) (x : Entry) → ShowFine c hs made sent r l b x → ShowFine c (hs ++ told r e d ∷ []) (more ++ made) after k l b x
+  show_grows fresh l true x h = record { summary = h.summary; closed = closed_grows l (epoch_of x.number) h.summary h.closed; says = closed_says_grows l x.number h.summary x.what h.says; hole = hole_grows l x.number x.what fresh h.closed.low h.hole; content = h.content; below = h.below }
+  show_grows fresh l false x h = acked_grows l x.number h
 
 pub close_low : (c : Config) (hs : List Happened) (made : List Made) (sent : List Msg) (r : Register) (l e : ℕ) (y : Summary) → CloseFine c hs made sent r l e y → e ≤ lce_of r l
 close_low c hs made sent r l e y (t, inl h) = let z = h.0 in omega arith

@@ -1,6 +1,6 @@
 -- What is set for later epochs of a log, and what is fixed for those that were handed out, needs at least one copy, and has as many nodes as it needs copies.
-use Rattle.std.proofs.Common.{◌≡◌, ◌∙◌, ◌≤◌, ◌+◌, nat_le, ℕ, inl, inr, refl, ap, sym, subst, Bool, true, false, if◌then◌else◌, ◌||◌, ◌==◌, List, [], ◌∷◌, length, Option, Some, None}
-use Rattle.std.proofs.lemmas.Bool.{and_parts, leb-true}
+use Rattle.std.proofs.Common.{◌≡◌, ◌∙◌, ◌≤◌, ◌<◌, ◌+◌, nat_le, ℕ, arith, inl, inr, refl, ap, sym, subst, Bool, true, false, if◌then◌else◌, ◌||◌, ◌==◌, List, [], ◌∷◌, length, Option, Some, None}
+use Rattle.std.proofs.lemmas.Bool.{and_parts, cases_lt, leb-true}
 use Rattle.std.specs.Option.{unwrap_or}
 use Rattle.ld_table.specs.Table.{find, put}
 use Rattle.ld_table.specs.Words.{any_of, all_of}
@@ -47,9 +47,13 @@ SetFine ps = (l : ℕ) (p : Spec) → find l ps ≡ Some p → SpecFine p
 abbrev pub FixedFine : Register → Type 0
 FixedFine r = (l e : ℕ) (p : Spec) → find e (epochs_of r l).specs ≡ Some p → SpecFine p
 
+-- for each epoch that was handed out something is fixed
+abbrev pub EachFixed : Register → Type 0
+EachFixed r = (l e : ℕ) → Reached r l e → find e (epochs_of r l).specs ≡ None → ⊥
+
 -- what is set, and what is fixed
 abbrev pub SetsFine : State → Type 0
-SetsFine s = SetFine s.specs × FixedFine s.register
+SetsFine s = SetFine s.specs × FixedFine s.register × EachFixed s.register
 
 or_first : (c : Config) (l : ℕ) (o : Option Spec) → IsInBounds c → has_log c l ≡ true → ((p : Spec) → o ≡ Some p → SpecFine p) → SpecFine (unwrap_or o (first_spec c l))
 or_first c l None b h g = first_fine c l b h
@@ -118,20 +122,53 @@ module _ (c : Config) (b : IsInBounds c) (s : State) (e : Event) (N : NamesOnce 
               | inr z ↦ A.1 l k p (sym z.1 ∙ f)
             ])
       ])
-      (λ l k y. elim (close_leaves s.register l k y) [
-        | inl a ↦ by_logs (close s.register l k y).register a.0
-        | inr a ↦ by_put (close s.register l k y).register l (closed_epochs (epochs_of s.register l) k y) a.1 (A.1 l)
+      (λ l k y b. elim (close_leaves s.register l k y b) [
+        | inl a ↦ by_logs (close s.register l k y b).register a.0
+        | inr a ↦ by_put (close s.register l k y b).register l (closed_epochs (epochs_of s.register l) k y) a.1 (A.1 l)
       ])
       (λ n. elim (draw_leaves s.register n) [ inl a ↦ by_logs (draw s.register n).register a.0 | inr a ↦ by_logs (draw s.register n).register a.0 ])
       by_logs N
 
+  each_by_logs : (n : Register) → n.logs ≡ s.register.logs → EachFixed n
+  each_by_logs n q l k h f = let z : epochs_of n l ≡ epochs_of s.register l = ap (λ m. unwrap_or (find l m) no_epochs) q in let v = ap (λ (x : Epochs). x.epoch) z in A.2 l k (h.0, let u = h.1 in omega arith) (ap (λ (x : Epochs). find k x.specs) (sym z) ∙ f)
+
+  each_by_put : (n : Register) (l : ℕ) (x : Epochs) → Same (with_epochs s.register l x) n → ((k : ℕ) → 0 < k → k ≤ x.epoch → find k x.specs ≡ None → ⊥) → EachFixed n
+  each_by_put n l x q g j k h f = elim (epochs_put s.register l j x) [
+    | inl a ↦ (let z = epochs_same (with_epochs s.register l x) n j q ∙ a.1 in let v = ap (λ (w : Epochs). w.epoch) z in g k h.0 (let u = h.1 in omega arith) (ap (λ (w : Epochs). find k w.specs) (sym z) ∙ f))
+    | inr a ↦ (let z = epochs_same (with_epochs s.register l x) n j q ∙ a.1 in let v = ap (λ (w : Epochs). w.epoch) z in A.2 j k (h.0, let u = h.1 in omega arith) (ap (λ (w : Epochs). find k w.specs) (sym z) ∙ f))
+  ]
+
+  -- a new epoch has what is set
+  each_after : EachFixed (Step.happens c s e).state.register
+  each_after = register_kept c s e EachFixed A.2
+      (λ l g. elim (activate_leaves s.register l (Step.spec_set c s l)) [
+        | inl a ↦ each_by_logs (activate s.register l (Step.spec_set c s l)).register a.0
+        | inr a ↦ each_by_put (activate s.register l (Step.spec_set c s l)).register l (next_epoch (epochs_of s.register l) (Step.spec_set c s l)) a.1
+            (λ k p b f. elim (put_cases k ((epochs_of s.register l).epoch + 1) (Step.spec_set c s l) (epochs_of s.register l).specs) [
+              | inl z ↦ not_none (sym f ∙ z.1)
+              | inr z ↦ A.2 l k (p, elim (cases_lt k ((epochs_of s.register l).epoch + 1)) [ inl v ↦ omega arith | inr v ↦ absurd (z.0 (omega arith)) ]) (sym z.1 ∙ f)
+            ])
+      ])
+      (λ l k y b. elim (close_leaves s.register l k y b) [
+        | inl a ↦ each_by_logs (close s.register l k y b).register a.0
+        | inr a ↦ each_by_put (close s.register l k y b).register l (closed_epochs (epochs_of s.register l) k y) a.1 (λ j p b f. A.2 l j (p, b) f)
+      ])
+      (λ n. elim (draw_leaves s.register n) [ inl a ↦ each_by_logs (draw s.register n).register a.0 | inr a ↦ each_by_logs (draw s.register n).register a.0 ])
+      each_by_logs N
+
   pub fine_step : SetsFine (finish (Step.happens c s e)).state
   unfolding finish
-  fine_step = (dispatch c s e (λ d m. SetFine d.state.specs) N set_cases, fixed_after)
+  fine_step = (dispatch c s e (λ d m. SetFine d.state.specs) N set_cases, fixed_after, each_after)
 
 pub start_fine : (c : Config) → SetsFine (begin c).state
 unfolding find
-start_fine c = ((λ l p f. absurd (not_none f)), (λ l e p f. absurd (not_none f)))
+start_fine c = ((λ l p f. absurd (not_none f)), (λ l e p f. absurd (not_none f)), λ l e h. absurd (let z = h.0 in let y = h.1 in omega arith))
+
+pub each_fine : (c : Config) (r : Register) (l e : ℕ) → FixedFine r → EachFixed r → Reached r l e → SpecFine (spec_of c r l e)
+each_fine c r l e F E h = subst SpecFine (sym (spec_found c r l e h)) (by_found (find e (epochs_of r l).specs) refl) where
+  by_found : (o : Option Spec) → find e (epochs_of r l).specs ≡ o → SpecFine (unwrap_or o (first_spec c l))
+  by_found None q = absurd (E l e h q)
+  by_found (Some p) q = F l e p q
 
 -- so is that of an epoch that was handed out
 pub fixed_fine : (c : Config) → IsInBounds c → (r : Register) (l e : ℕ) → FixedFine r → has_log c l ≡ true → Reached r l e → SpecFine (spec_of c r l e)

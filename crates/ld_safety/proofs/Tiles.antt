@@ -21,7 +21,7 @@ use Rattle.ld_machine.specs.Config.{looks_at, has_log}
 use Rattle.ld_msg.specs.Register.{View, epoch_limit, Register, generation_of, epochs_in}
 use Rattle.ld_op.specs.declared.op.Op.TheVariants as ops
 use Rattle.ld_machine.specs.Disk.{Node, Kept, Written, DiskFailed, Crashed, JournalFull, keep_end}
-use Rattle.ld_msg.specs.Reading.{Held, bridge_to, shows_end, end_held, Item, TrimTo, RecordHere, HoleHere, BridgeTo, LossHere, trim_held}
+use Rattle.ld_msg.specs.Reading.{Held, bridge_to, end_shown, end_held, Item, TrimTo, RecordHere, HoleHere, BridgeTo, LossHere, LossTo, trim_held}
 use Rattle.ld_msg.specs.Reader.{Reader, Read, is_finished, gives, item_end, heard, held_with, is_newer, round_of, opened, on_answer, polled}
 use Rattle.ld_msg.specs.Sequencer.{Sequencer, Acts, called, rose}
 use Rattle.ld_machine.specs.State.{State, Done, finish, or_none, message_lines, node_at, with_node, with_register}
@@ -30,12 +30,12 @@ use Rattle.ld_machine.specs.Safe.{TilesFrom, ItemsTile}
 use Rattle.ld_machine.specs.World.{World, In, begin}
 use Rattle.ld_machine.specs.Run.{history}
 use Rattle.ld_machine.specs.Step as Step
-use Rattle.ld_safety.proofs.Lists.{any_in, not_both, first_grows, or_else_some, or_else_none, or_else_new, In-append, Some_inj, not_none, cond_both}
+use Rattle.ld_safety.proofs.Lists.{not_both, first_grows, or_else_some, or_else_none, or_else_new, In-append, Some_inj, not_none, cond_both, branch}
 use Rattle.ld_safety.proofs.Names.{named_cases}
 use Rattle.ld_safety.proofs.Traces.{Keeps, at_end, beside_kept}
 use Rattle.ld_safety.proofs.Events.{Cases, refreshed, loaded, Opens, Idle, is_quiet}
 use Rattle.ld_safety.proofs.Steps.{is_plain, filter_finish, told, became, step_by}
-use Rattle.ld_safety.proofs.ReaderSteps.{ReadKeeps, answered, below_end}
+use Rattle.ld_safety.proofs.ReaderSteps.{ReadKeeps, answered, below_end, end_in}
 use Rattle.ld_safety.proofs.Members.{In_put}
 use Rattle.ld_safety.proofs.Base.{Base}
 use Rattle.ld_safety.proofs.Given.{AnyEpoch, AnyShown, AnyReleased, SmallGood, GivenEntry, GivenTrim, GivenSummary}
@@ -217,7 +217,7 @@ lines_from r until a = filter_map (interval_of r) (Step.item_lines r until a.ite
 record Gives (r : List ℕ) (d : Reader) (a : Read) : Type 0 where
   log : a.reader.log ≡ d.log
   until : a.reader.until ≡ d.until
-  held : (h : ℕ × Held) → In h a.reader.held → (round from end : ℕ) → h.1.body ≡ bodies.ReadEnded round from end → home_epoch end ≤ epoch_limit
+  held : (h : ℕ × Held) → In h a.reader.held → (round from end : ℕ) (loss : Bool) → h.1.body ≡ bodies.ReadEnded round from end loss → home_epoch end ≤ epoch_limit
   tiles : TilesTo d.until d.next (lines_from r d.until a) a.reader.next
 
 item_lines-append : (r : List ℕ) (until : ℕ) (is js : List (ℕ × Item)) → Step.item_lines r until (is ++ js) ≡ Step.item_lines r until is ++ Step.item_lines r until js
@@ -233,22 +233,26 @@ one_tile r s until (RecordHere p) l h = rw same-self (refl, omega arith, l, omeg
 one_tile r s until HoleHere l h = rw same-self (refl, omega arith, l, omega arith)
 one_tile r s until (BridgeTo last) l h = rw same-self (refl, let e = clipped last until in omega arith, let e = clipped last until in omega arith, let e = clipped last until in omega arith)
 one_tile r s until LossHere l h = rw same-self (refl, omega arith, l, omega arith)
+one_tile r s until (LossTo last) l h = rw same-self (refl, let e = clipped last until in omega arith, let e = clipped last until in omega arith, let e = clipped last until in omega arith)
 
 -- an end that is held is of an epoch that a register hands out
 Small : Body → Type 0
-Small b = (round from end : ℕ) → b ≡ bodies.ReadEnded round from end → home_epoch end ≤ epoch_limit
+Small b = (round from end : ℕ) (loss : Bool) → b ≡ bodies.ReadEnded round from end loss → home_epoch end ≤ epoch_limit
 
 AllSmall : List (ℕ × Held) → Type 0
 AllSmall hs = (h : ℕ × Held) → In h hs → Small h.1.body
 
-shown_small : (s : ℕ) (b : Body) → Small b → shows_end s b ≡ true → home_epoch s ≤ epoch_limit
+shown_small : (s : ℕ) (b : Body) (k : Bool) → Small b → end_shown s b ≡ Some k → home_epoch s ≤ epoch_limit
 unfolding Small
-shown_small s (bodies.ReadEnded round from end) h e = let p = and_parts (home_epoch end == home_epoch s) (nat_le end s) e in subst (λ x. x ≤ epoch_limit) (eqb-true _ _ p.0) (h round from end refl)
-shown_small s _ h e = absurd cc
+shown_small s (bodies.ReadEnded round from end loss) k h e = elim (branch ((home_epoch end == home_epoch s) && nat_le end s) (Some loss) None (Some k) e) [
+  | inl t ↦ let p = and_parts (home_epoch end == home_epoch s) (nat_le end s) t.0 in subst (λ x. x ≤ epoch_limit) (eqb-true _ _ p.0) (h round from end loss refl)
+  | inr t ↦ absurd (not_none t.1)
+]
+shown_small s _ k h e = absurd cc
 
-end_small : (s : ℕ) (hs : List (ℕ × Held)) → AllSmall hs → end_held s hs ≡ true → home_epoch s ≤ epoch_limit
+end_small : (s : ℕ) (hs : List (ℕ × Held)) (k : Bool) → AllSmall hs → end_held s hs ≡ Some k → home_epoch s ≤ epoch_limit
 unfolding AllSmall
-end_small s hs a h = let x = any_in (λ (k : ℕ × Held). shows_end s k.1.body) hs h in shown_small s x.0.1.body (a x.0 x.1) x.2
+end_small s hs k a h = let x = end_in s hs k h in shown_small s x.0.1.body k (a x.0 x.1) x.2
 
 bridge_up : (s : ℕ) → home_epoch s ≤ epoch_limit → s ≤ bridge_to s
 bridge_up s h = let b = below_end s in omega arith
@@ -272,7 +276,7 @@ ended_small from end e a q l = let z : home_esn from ≤ 2 ^ 32 = cond_both (is_
 
 body_small : (hs : List Happened) (l : ℕ) (b : Body) → carried.HeldOk (GivenEntry hs) (GivenTrim hs) (GivenSummary hs) AnyEpoch AnyShown AnyReleased (GivenEntry hs) SmallGood l b → Small b
 unfolding Small
-body_small hs l b h round from end e = let k : carried.EndedOk (GivenEntry hs) (GivenTrim hs) (GivenSummary hs) AnyEpoch AnyShown AnyReleased (GivenEntry hs) SmallGood l from end = subst (carried.HeldOk (GivenEntry hs) (GivenTrim hs) (GivenSummary hs) AnyEpoch AnyShown AnyReleased (GivenEntry hs) SmallGood l) e h in ended_small from end k.summary.end k.past k.is k.closed.1
+body_small hs l b h round from end loss e = let k : carried.EndedOk (GivenEntry hs) (GivenTrim hs) (GivenSummary hs) AnyEpoch AnyShown AnyReleased (GivenEntry hs) SmallGood l from end loss = subst (carried.HeldOk (GivenEntry hs) (GivenTrim hs) (GivenSummary hs) AnyEpoch AnyShown AnyReleased (GivenEntry hs) SmallGood l) e h in ended_small from end k.summary.end k.past k.is k.closed.1
 
 module _ (r : List ℕ) (d : Reader) where
   gives_one : (a : Read) (i : Item) → Gives r d a → is_finished a.reader ≡ false → a.reader.next ≤ item_end a.reader.next i → Gives r d (gives a i)
@@ -294,7 +298,9 @@ module _ (r : List ℕ) (d : Reader) where
     trim = λ a g n t. gives_one a (TrimTo (trim_held a.reader.held)) g n t;
     record_there = λ a p g n t. gives_one a (RecordHere p) g n (omega arith);
     hole_there = λ a g n t. gives_one a HoleHere g n (omega arith);
-    bridge = λ a g n t. gives_one a (BridgeTo (bridge_to a.reader.next)) g n (bridge_up a.reader.next (end_small a.reader.next a.reader.held g.held t));
+    plug = λ a g n t. gives_one a LossHere g n (omega arith);
+    bridge = λ a g n t. gives_one a (BridgeTo (bridge_to a.reader.next)) g n (bridge_up a.reader.next (end_small a.reader.next a.reader.held false g.held t));
+    lossy_end = λ a g n t. gives_one a (LossTo (bridge_to a.reader.next)) g n (bridge_up a.reader.next (end_small a.reader.next a.reader.held true g.held t));
     confirm = λ a g n m t. record { log = g.log; until = g.until; held = g.held; tiles = g.tiles };
     polls_on = λ a g t. record { log = g.log; until = g.until; held = g.held; tiles = g.tiles };
   }
@@ -309,6 +315,7 @@ others_lines r q until (i ∷ is) h = rw (other i.1) (others_lines r q until is 
   other HoleHere = rw h refl
   other (BridgeTo last) = rw h refl
   other LossHere = rw h refl
+  other (LossTo last) = rw h refl
 
 -- ---- every event ----
 
@@ -408,7 +415,7 @@ module _ (c : Config) (hs : List Happened) (w : World) (e : Event) (B : Base c h
     activates = λ name l r g n i x. said_stays _ _ [] refl refl refl (one_line _ refl);
     activate_fails = λ name l x g q. said_stays _ x [] refl (quiet_something x q) refl (one_line x (quiet_item x q));
     answers = λ f name d m i t v o. let a = answered (looks_at c w.state.register d.log) d (Step.sender_node m.from) m.body (Gives name d) (gives_keeps name d (looks_at c w.state.register d.log) (Step.sender_node m.from) m.body v.open_still (reader_small name d v.named) (message_small d m name i t v.named)) in
-        changes _ name d (on_answer (looks_at c w.state.register d.log) d (Step.sender_node m.from) m.body).reader refl v.named o
+        changes _ name d (on_answer (looks_at c w.state.register d.log) d (Step.sender_node m.from) m.body).reader refl v.named o.0
         (λ q h. others_lines name q (on_answer (looks_at c w.state.register d.log) d (Step.sender_node m.from) m.body).reader.until (on_answer (looks_at c w.state.register d.log) d (Step.sender_node m.from) m.body).items h)
         (λ g. more_got c hs w.state e (Step.read (refreshed w.state f) name (on_answer (looks_at c w.state.register d.log) d (Step.sender_node m.from) m.body)) name d (on_answer (looks_at c w.state.register d.log) d (Step.sender_node m.from) m.body).reader g a.log a.until
         (subst (λ u. TilesTo d.until d.next (lines_from name u (on_answer (looks_at c w.state.register d.log) d (Step.sender_node m.from) m.body)) (on_answer (looks_at c w.state.register d.log) d (Step.sender_node m.from) m.body).reader.next) (sym a.until) a.tiles));

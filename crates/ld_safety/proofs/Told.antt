@@ -38,7 +38,7 @@ use Rattle.ld_safety.proofs.Registers.{Up}
 use Rattle.ld_safety.proofs.Base.{Base, counts_of}
 use Rattle.ld_safety.proofs.Given.{of_log_grows}
 use Rattle.ld_safety.proofs.GivenSteps.{Given}
-use Rattle.ld_safety.proofs.Settled.{Acknowledged, Stays, acked_grows, closed_grows, closed_says_grows, TrimFine, CloseFine, ShowFine, ReleaseFine, LngFine}
+use Rattle.ld_safety.proofs.Settled.{FreshLosses, hole_grows, Acknowledged, Stays, acked_grows, closed_grows, closed_says_grows, TrimFine, CloseFine, ShowFine, ReleaseFine, LngFine}
 use Rattle.ld_safety.proofs.AcksKept.{ActsFine, heard_acts, retry_acts}
 use Rattle.ld_safety.proofs.Along.{Along}
 use Rattle.ld_safety.proofs.ItemFacts.{ClosedItem, RecordAt, BridgeAt}
@@ -47,16 +47,16 @@ use Rattle.ld_safety.proofs.Carried as carried
 use Rattle.ld_safety.proofs.AlongSteps as along
 
 -- ---- what grows ----
-module _ (c : Config) (hs : List Happened) (e : Event) (d : Done) (made more : List Made) (sent after : List Msg) (r k : Register) (into : (m : Msg) → In m sent → In m after) (u : Up r k) (s : Stays c r k) where
+module _ (c : Config) (hs : List Happened) (e : Event) (d : Done) (made more : List Made) (sent after : List Msg) (r k : Register) (into : (m : Msg) → In m sent → In m after) (u : Up r k) (s : Stays c r k) (fresh : FreshLosses more r) where
   item_grows : (l n : ℕ) (x : What) → ClosedItem c hs made sent r l n x → ClosedItem c (hs ++ told r e d ∷ []) (more ++ made) after k l n x
-  item_grows l n x h = record { summary = h.summary; closed = closed_grows c hs e d made more sent after r k into u s l (epoch_of n) h.summary h.closed; says = closed_says_grows c hs e d made more sent after r k into u s l n h.summary x h.says }
+  item_grows l n x h = record { summary = h.summary; closed = closed_grows c hs e d made more sent after r k into u s l (epoch_of n) h.summary h.closed; says = closed_says_grows c hs e d made more sent after r k into u s l n h.summary x h.says; hole = hole_grows c hs e d made more sent after r k into u s l n x fresh h.closed.low h.hole; below = h.below }
 
   record_grows : (l n : ℕ) → RecordAt c hs made sent r l n → RecordAt c (hs ++ told r e d ∷ []) (more ++ made) after k l n
   record_grows l n (inl a) = inl (acked_grows c hs e d made more sent after r k into u s l n a)
   record_grows l n (inr p) = inr (p.0, item_grows l n _ p.1)
 
   bridge_grows : (l low high : ℕ) → BridgeAt c hs made sent r l low high → BridgeAt c (hs ++ told r e d ∷ []) (more ++ made) after k l low high
-  bridge_grows l low high b = record { epoch = b.epoch; upto = b.upto; past = elim b.past [ inl z ↦ inl z | inr z ↦ inr (z.0, closed_grows c hs e d made more sent after r k into u s l b.epoch z.0 z.1, z.2) ] }
+  bridge_grows l low high b = record { epoch = b.epoch; upto = b.upto; past = elim b.past [ inl z ↦ inl z | inr z ↦ inr (z.0, closed_grows c hs e d made more sent after r k into u s l b.epoch z.0 z.1, z.2, z.3) ] }
 
 reads_grows : (c : Config) (hs : List Happened) (h : Happened) (l : ℕ) (name : List ℕ) → ReadsLog c hs l name → ReadsLog c (hs ++ h ∷ []) l name
 reads_grows c hs h l name o = (o.0, first_left (λ (g : Happened). opening_of c name g.lines g.event) hs (h ∷ []) o.0 o.1, o.2)
@@ -109,7 +109,7 @@ module _ (c : Config) (hs : List Happened) (s : State) where
   acts_told name q k f A a n i = let z = acted_acked name q k.acts a n i in (q, subst (λ x. find_named x s.sequencers ≡ Some q) (sym z.0) f, A.acked n z.1)
 
   acked_cases : (e : Event) → ((name : List ℕ) (q : Sequencer) → Live s name q → (m : Msg) → In m s.network.sent → m.to ≡ whos.Sequencer q.epoch → m.log ≡ q.log → ActsFine c hs s.network.sent s.register q (called (looks_at c s.register q.log) s.register (on_reply (looks_at c s.register q.log) q (Step.sender_node m.from) m.body) (on_reply (looks_at c s.register q.log) q (Step.sender_node m.from) m.body).tries))
-      → ((name : List ℕ) (q : Sequencer) → Live s name q → ActsFine c hs s.network.sent s.register q (called (looks_at c s.register q.log) s.register (on_retry q) (on_retry q).tries)) → Cases c s e (λ d m. AckedTold d.lines)
+      → ((name : List ℕ) (q : Sequencer) → Live s name q → ActsFine c hs s.network.sent s.register q (called (looks_at c s.register q.log) s.register (on_retry (looks_at c s.register q.log) q) (on_retry (looks_at c s.register q.log) q).tries)) → Cases c s e (λ d m. AckedTold d.lines)
   acked_cases e heard retry = record {
     still = λ f i. none;
     says = λ x q. quiets (x ∷ []) (λ y i. one_quiet x q y i);
@@ -173,7 +173,7 @@ module _ (c : Config) (hs : List Happened) (w : World) (e : Event) (B : Base c h
   reads_log name x f = let g = got_of c hs w A name x f in (g.open_as, g.is, g.log)
 
   items_now : ItemsTold c hs w.made w.state.network.sent w.state.register w.state (Step.happens c w.state e).lines
-  items_now = dispatch c w.state e (λ d m. ItemsTold c hs w.made w.state.network.sent w.state.register w.state d.lines) B.0.0 (line_cases c w.state e (ItemsTold c hs w.made w.state.network.sent w.state.register w.state) no_items reads_now quiet_items) where
+  items_now = dispatch c w.state e (λ d m. ItemsTold c hs w.made w.state.network.sent w.state.register w.state d.lines) B.0.0 (line_cases c w.state e (ItemsTold c hs w.made w.state.network.sent w.state.register w.state) no_items (λ f name x m i t v o. reads_now f name x m i t v) quiet_items) where
     no_items : (g : Group) (ls : List Line) → (g ≡ OfItems → ⊥) → AllOf g ls → ItemsTold c hs w.made w.state.network.sent w.state.register w.state ls
     no_items g ls n a = record { records = λ name m p i. absurd (n (sym (a _ i))); holes = λ name low high i. absurd (n (sym (a _ i))); bridges = λ name low high i. absurd (n (sym (a _ i))) }
 
@@ -187,9 +187,9 @@ module _ (c : Config) (hs : List Happened) (w : World) (e : Event) (B : Base c h
         let y = Step.sender_node m.from in
         let o = subst (λ k. carried.HeldOk (Said hs w.made w.state.register) (TrimFine c hs w.state.network.sent w.state.register) (CloseFine c hs w.made w.state.network.sent w.state.register) (Reached w.state.register) (ShowFine c hs w.made w.state.network.sent w.state.register) (ReleaseFine c hs w.state.network.sent w.state.register) (SaidHere hs w.made w.state.register) (LngFine c hs w.state.network.sent w.state.register) k m.body) (sym lg)
         (carried.held_of (Said hs w.made w.state.register) (TrimFine c hs w.state.network.sent w.state.register) (CloseFine c hs w.made w.state.network.sent w.state.register) (Reached w.state.register) (ShowFine c hs w.made w.state.network.sent w.state.register) (ReleaseFine c hs w.state.network.sent w.state.register) (SaidHere hs w.made w.state.register) (LngFine c hs w.state.network.sent w.state.register) m.log m.from m.body (R.said.sent m i)) in
-        let k = answered (looks_at c w.state.register x.log) x y m.body (ReadFine c hs w.made w.state.network.sent w.state.register (along.once_before c hs w e B G R) R.once (along.facts_before c hs w e B G R) x.log)
-        (fine_keeps c hs w.made w.state.network.sent w.state.register (along.once_before c hs w e B G R) R.once (along.facts_before c hs w e B G R) x.log (looks_at c w.state.register x.log) x y m.body (R.said.readers name x v.named) o) in
-        item_lines_told c hs w.made w.state.network.sent w.state.register w.state (along.once_before c hs w e B G R) R.once (along.facts_before c hs w e B G R) name x _ (on_answer (looks_at c w.state.register x.log) x y m.body).items v.named k.items
+        let k = answered (looks_at c w.state.register x.log) x y m.body (ReadFine c hs w.made w.state.network.sent w.state.register (along.once_before c hs w e B G R) R.once R.plans R.last x.log)
+        (fine_keeps c hs w.made w.state.network.sent w.state.register (along.once_before c hs w e B G R) R.once R.plans R.last x.log (looks_at c w.state.register x.log) x y m.body (R.said.readers name x v.named) o) in
+        item_lines_told c hs w.made w.state.network.sent w.state.register w.state (along.once_before c hs w e B G R) R.once R.plans R.last name x _ (on_answer (looks_at c w.state.register x.log) x y m.body).items v.named k.items
 
   acked_now : AckedTold c (hs ++ happened c w.state e ∷ []) w.state (Step.happens c w.state e).lines
   acked_now = dispatch c w.state e (λ d m. AckedTold c (hs ++ happened c w.state e ∷ []) w.state d.lines) B.0.0 (acked_cases c (hs ++ happened c w.state e ∷ []) w.state e
@@ -221,10 +221,10 @@ module _ (c : Config) (hs : List Happened) (w : World) (e : Event) (B : Base c h
     ];
   } where
     record_next : (l n : ℕ) → RecordAt c hs w.made w.state.network.sent w.state.register l n → RecordAt c (hs ++ happened c w.state e ∷ []) (made_on c w.state e ++ w.made) (next_world c w e).state.network.sent (next_world c w e).state.register l n
-    record_next = record_grows c hs e (Step.happens c w.state e) w.made (made_on c w.state e) w.state.network.sent (finish (Step.happens c w.state e)).state.network.sent w.state.register (Step.happens c w.state e).state.register (along.into_after c hs w e B G R) (along.follow c hs w e B G R).0 (along.stays c hs w e B G R)
+    record_next = record_grows c hs e (Step.happens c w.state e) w.made (made_on c w.state e) w.state.network.sent (finish (Step.happens c w.state e)).state.network.sent w.state.register (Step.happens c w.state e).state.register (along.into_after c hs w e B G R) (along.follow c hs w e B G R).0 (along.stays c hs w e B G R) (along.fresh_losses c hs w e B G R)
 
     item_next : (l n : ℕ) → ClosedItem c hs w.made w.state.network.sent w.state.register l n Hole → ClosedItem c (hs ++ happened c w.state e ∷ []) (made_on c w.state e ++ w.made) (next_world c w e).state.network.sent (next_world c w e).state.register l n Hole
-    item_next l n = item_grows c hs e (Step.happens c w.state e) w.made (made_on c w.state e) w.state.network.sent (finish (Step.happens c w.state e)).state.network.sent w.state.register (Step.happens c w.state e).state.register (along.into_after c hs w e B G R) (along.follow c hs w e B G R).0 (along.stays c hs w e B G R) l n Hole
+    item_next l n = item_grows c hs e (Step.happens c w.state e) w.made (made_on c w.state e) w.state.network.sent (finish (Step.happens c w.state e)).state.network.sent w.state.register (Step.happens c w.state e).state.register (along.into_after c hs w e B G R) (along.follow c hs w e B G R).0 (along.stays c hs w e B G R) (along.fresh_losses c hs w e B G R) l n Hole
 
     bridge_next : (l low high : ℕ) → BridgeAt c hs w.made w.state.network.sent w.state.register l low high → BridgeAt c (hs ++ happened c w.state e ∷ []) (made_on c w.state e ++ w.made) (next_world c w e).state.network.sent (next_world c w e).state.register l low high
-    bridge_next = bridge_grows c hs e (Step.happens c w.state e) w.made (made_on c w.state e) w.state.network.sent (finish (Step.happens c w.state e)).state.network.sent w.state.register (Step.happens c w.state e).state.register (along.into_after c hs w e B G R) (along.follow c hs w e B G R).0 (along.stays c hs w e B G R)
+    bridge_next = bridge_grows c hs e (Step.happens c w.state e) w.made (made_on c w.state e) w.state.network.sent (finish (Step.happens c w.state e)).state.network.sent w.state.register (Step.happens c w.state e).state.register (along.into_after c hs w e B G R) (along.follow c hs w e B G R).0 (along.stays c hs w e B G R) (along.fresh_losses c hs w e B G R)

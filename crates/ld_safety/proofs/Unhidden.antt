@@ -6,19 +6,16 @@ use Rattle.ld_schedule.specs.declared.event.Event.{Event}
 use Rattle.ld_transcript.specs.declared.line.Line.TheVariants as lines
 use Rattle.ld_transcript.specs.declared.line.GapKind.{GapKind}
 use Rattle.ld_msg.specs.declared.msg.What.TheVariants.{Hole}
-use Rattle.ld_msg.specs.Digest.{Told}
-use Rattle.ld_machine.specs.Config.{spec_of}
 use Rattle.ld_machine.specs.Facts.{Happened, Writes, ReadsLog, Opening, Acks, GivesRecord, GivesGap}
 use Rattle.ld_machine.specs.Safe.{SaysNone, NothingHidden}
-use Rattle.ld_machine.specs.World.{World, In}
+use Rattle.ld_machine.specs.World.{World}
 use Rattle.ld_machine.specs.Run.{history}
 use Rattle.ld_safety.proofs.Lists.{Some_inj}
 use Rattle.ld_safety.proofs.Traces.{Keeps, at_end, both_kept, beside_kept}
 use Rattle.ld_safety.proofs.Numbers.{one_payload}
 use Rattle.ld_safety.proofs.Tiles.{Reads, tiles_kept}
 use Rattle.ld_safety.proofs.GivenSteps.{BaseGiven}
-use Rattle.ld_safety.proofs.Protocol.{plan_of, AppendsOnce, PlanFacts}
-use Rattle.ld_safety.proofs.Plannings.{plan_facts}
+use Rattle.ld_safety.proofs.Protocol.{AppendsOnce}
 use Rattle.ld_safety.proofs.Along.{Along}
 use Rattle.ld_safety.proofs.AlongSteps.{along_kept}
 use Rattle.ld_safety.proofs.ItemFacts.{ClosedItem, RecordAt, BridgeAt, no_hole, no_bridge_over}
@@ -38,9 +35,6 @@ module _ (c : Config) (hs : List Happened) (w : World) (E : Everything c hs w) w
   once : AppendsOnce hs
   once l n p q a b = one_payload hs w.state.sequencers w.state.register E.0.1.0.0.0.1 l n a.0 b.0 p q a.1 b.1
 
-  facts : (l x b : ℕ) (d : List Told) → In (plan_of l x b d) w.made → PlanFacts hs w.made w.state.network.sent (spec_of c w.state.register l x) l x b d
-  facts l x b d i = plan_facts c hs w.state.network.sent w.made w.state.register l x b d (E.0.1.1.plans l x b d i)
-
   acked_record : (l n j : ℕ) → Acks hs l n j → RecordAt c hs w.made w.state.network.sent w.state.register l n
   acked_record l n j a = let z = E.1.acked j a.name n a.told in let q : z.0 ≡ l = Some_inj (sym z.1 ∙ a.of_log) in inl (subst (λ k. Acknowledged c hs w.state.network.sent w.state.register k n) q z.2)
 
@@ -52,11 +46,11 @@ module _ (c : Config) (hs : List Happened) (w : World) (E : Everything c hs w) w
       let z = E.1.holes i g.name low high (subst (λ k. Writes hs i (lines.Gap g.name k low high)) q g.told) in
       let s = same_reads c hs z.0 l g.name z.1 g.of_log in
       let e : low ≡ n = (let y = z.2 in omega arith) in
-      no_hole c hs w.made w.state.network.sent w.state.register once E.0.1.1.once facts l n (subst (λ k. ClosedItem c hs w.made w.state.network.sent w.state.register l k Hole) e (subst (λ k. ClosedItem c hs w.made w.state.network.sent w.state.register k low Hole) s z.3)) h
+      no_hole c hs w.made w.state.network.sent w.state.register once E.0.1.1.once E.0.1.1.plans E.0.1.1.last l n (subst (λ k. ClosedItem c hs w.made w.state.network.sent w.state.register l k Hole) e (subst (λ k. ClosedItem c hs w.made w.state.network.sent w.state.register k low Hole) s z.3)) h
   no_record l low high n i kind (inr q) g lo hi h =
       let z = E.1.bridges i g.name low high (subst (λ k. Writes hs i (lines.Gap g.name k low high)) q g.told) in
       let s = same_reads c hs z.0 l g.name z.1 g.of_log in
-      no_bridge_over c hs w.made w.state.network.sent w.state.register once E.0.1.1.once facts l low high n (subst (λ k. BridgeAt c hs w.made w.state.network.sent w.state.register k low high) s z.2) lo hi h
+      no_bridge_over c hs w.made w.state.network.sent w.state.register once E.0.1.1.once E.0.1.1.plans E.0.1.1.last l low high n (subst (λ k. BridgeAt c hs w.made w.state.network.sent w.state.register k low high) s z.2) lo hi h
 
   hidden_here : NothingHidden c hs
   hidden_here l low high n i j kind k g lo hi = ((λ a. no_record l low high n i kind k g lo hi (acked_record l n j a)), (λ p r. no_record l low high n i kind k g lo hi (given_record l n j p r)))

@@ -7,6 +7,7 @@ use Rattle.ld_lsn.specs.Number.{epoch_of, esn_of, home_epoch}
 use Rattle.ld_config.specs.declared.config.Config.{Config}
 use Rattle.ld_config.specs.Bounds.{IsInBounds}
 use Rattle.ld_transcript.specs.declared.line.Line.TheVariants as lines
+use Rattle.ld_transcript.specs.declared.line.GapKind.TheVariants as gaps
 use Rattle.ld_msg.specs.declared.msg.Summary.{Summary}
 use Rattle.ld_msg.specs.Reading.{Held, lacks}
 use Rattle.ld_msg.specs.Reader.{Reader}
@@ -15,10 +16,10 @@ use Rattle.ld_machine.specs.Config.{spec_of, set_at}
 use Rattle.ld_machine.specs.Disk.{Node, Cut}
 use Rattle.ld_machine.specs.State.{node_at}
 use Rattle.ld_machine.specs.Facts.{Writes, Lost, standing, stands_for}
-use Rattle.ld_machine.specs.World.{World, begin, MayHold, has_told, says_stored, says_settled}
+use Rattle.ld_machine.specs.World.{World, In, begin, MayHold, has_told, says_stored, says_settled}
 use Rattle.ld_machine.specs.Run.{Move, after_step, world_after, step_happened, trace}
-use Rattle.ld_machine.specs.Invariant.{Closed}
-use Rattle.ld_machine.specs.Losses.{EndsAsLoss}
+use Rattle.ld_machine.specs.Invariant.{Closed, Ready, HasLoss}
+use Rattle.ld_machine.specs.Losses.{Completes, EndsAsLoss}
 
 -- ---- lost under a generation ----
 
@@ -83,16 +84,26 @@ LossesWereSeen = (c : Config) (name : List ℕ) (l s round : ℕ) (before : List
 abbrev pub has_copied : World → ℕ → ℕ → Summary → ℕ → Bool
 has_copied w l s y n = if nat_le (esn_of s) y.lng then has_told w (says_stored s) l (epoch_of s) n else has_told w (says_settled s) l y.ballot n
 
--- as many nodes of the number's epoch as it has copies are lost that had so answered: each in its plain state, which a crash leaves where the record that the node writes is lost.
+-- as many nodes of the number's epoch as it has copies are lost; and where the number was known good as the epoch was closed, or each item of the closing plan was settled by as many, so many are lost that had so answered: each in its plain state, which a crash leaves where the record that the node writes is lost.
+-- Each item of the closing plan was settled so unless the epoch was closed short, and stays so; of an epoch that was closed short the lost nodes may be any, whether or not they answered.
 -- It doesn't hold that each of them is lost in both states that a crash leaves, nor in the one that a load would find: a lost node that crashes in the record that it is rebuilt is not lost after this record.
 -- With three nodes and two copies: nodes 1 and 3 have a record; node 3 is wiped and gets it back from node 1, which is wiped then; a reader hears that node 3 is lost, which crashes in that record, at the third writing call, with a picture of the open gate.
 -- The reader hears that node 1 is lost, and asks both once more. A load of node 3 would find it rebuilt now; it crashes in its next load with a picture of the closed gate, loads, is found lost, and says so under the generation that was held for it, as does node 1.
 -- So the number is called lost, and one node alone had been lost in both states, and in the state that a load would find (the run is `torn_later` in ld_rows).
 abbrev pub CopiesAreLost : Config → World → ℕ → ℕ → Type 0
 CopiesAreLost c w l s = (y : Summary) × Closed w l (home_epoch s) y ×
-    ((spec_of c w.state.register l (home_epoch s)).r ≤ how_many (λ n. is_lost_at l (home_epoch s) (node_at w.state n) && has_copied w l s y n) (set_at c w.state.register l (home_epoch s)))
+    ((spec_of c w.state.register l (home_epoch s)).r ≤ how_many (λ n. is_lost_at l (home_epoch s) (node_at w.state n)) (set_at c w.state.register l (home_epoch s))) ×
+    ((esn_of s ≤ y.lng) ⊎ Ready c w l (home_epoch s) y.ballot → (spec_of c w.state.register l (home_epoch s)).r ≤ how_many (λ n. is_lost_at l (home_epoch s) (node_at w.state n) && has_copied w l s y n) (set_at c w.state.register l (home_epoch s)))
 
 -- that holds where the reader asks once more for a number that it then calls lost
 abbrev pub CopiesWereLost : Type 0
 CopiesWereLost = (c : Config) (name : List ℕ) (l s round : ℕ) (before : List Move) (asks : Move) (between : List Move) (gives : Move) → IsInBounds c →
     EndsAsLoss c name l s round before asks between gives → CopiesAreLost c (after_step c (world_after c (begin c) before) asks) l s
+
+-- ---- plans that say what is lost ----
+
+-- numbers that a reader is told are lost in a step that completes no confirmation are of an epoch that has a plan that says what is lost: as it was made, as many nodes of the epoch as it has copies were blank or lost for it
+abbrev pub LossesWereTold : Type 0
+LossesWereTold = (c : Config) (name : List ℕ) (low high n : ℕ) (before : List Move) (gives : Move) (d : Reader) → IsInBounds c → find_named name (world_after c (begin c) before).state.readers ≡ Some d →
+    In (lines.Gap name gaps.DataLoss low high) (step_happened c (world_after c (begin c) before).state gives).lines → (Completes (world_after c (begin c) before) d gives → ⊥) → low ≤ n → n ≤ high →
+    HasLoss (world_after c (begin c) before) d.log (home_epoch n)

@@ -1,7 +1,7 @@
 //! What holds of every run of the written machine, as laws on empty functions.
 #![tactic(auto)]
 
-ghost use Rattle.std.specs.Prelude.{ℕ, ◌≡◌, ◌≤◌, ◌<◌, List, [], false, true};
+ghost use Rattle.std.specs.Prelude.{ℕ, ◌≡◌, ◌⊎◌, ◌≤◌, ◌<◌, List, [], false, true};
 ghost use Rattle.ld_lsn.specs.Number.{epoch_of, numbered};
 ghost use Rattle.ld_msg.specs.declared.msg.Summary.{Summary};
 ghost use Rattle.ld_config.specs.declared.config.Config.{Config};
@@ -15,8 +15,8 @@ ghost use Rattle.ld_machine.specs.State.{node_at};
 ghost use Rattle.ld_machine.specs.Facts.{Lost, Writes, standing, stands_for};
 ghost use Rattle.ld_machine.specs.World.{MayHold, Stored, begin, chosen};
 ghost use Rattle.ld_machine.specs.Run.{InvariantHolds, Move, history, trace, world_after};
-ghost use Rattle.ld_machine.specs.Invariant.{Acked, Agrees, AppendsOf, BallotsDrawn, Closed, CopiesOf, CopyAt, EntriesAreItems, GenerationsDrawn, HeldWasSent, IsOpen, OnePlan, OpenTrims, ReleasesAcked, Retains, SealsHold, SequencersDrawn, StandsOn, SummariesAgree, TrimsIssued};
-ghost use Rattle.ld_safety.specs.Lost.{CopiesWereLost, LossesWereSeen, LostOnce, WholeStays, may_be_lost};
+ghost use Rattle.ld_machine.specs.Invariant.{Acked, Agrees, AppendsOf, BallotsDrawn, Closed, CopiesOf, CopyAt, EntriesAreItems, GenerationsDrawn, HasLoss, HeldWasSent, IsOpen, LossesLast, LossesSay, LossesWereGone, OnePlan, OpenTrims, Ready, ReleasesAcked, Retains, SealsHold, SequencersDrawn, ShortCopies, StandsOn, SummariesAgree, TrimsIssued};
+ghost use Rattle.ld_safety.specs.Lost.{CopiesWereLost, LossesWereSeen, LossesWereTold, LostOnce, WholeStays, may_be_lost};
 ghost use Rattle.ld_safety.specs.OneRun.{LinesAreTheSteps, StepsAreTheTrace};
 
 /// But for `none`, the lines of a run's steps are those of its transcript.
@@ -59,15 +59,23 @@ pub fn trims_were_issued()
     ensures { (c : Config) (es : List Event) → IsInBounds c → TrimsWereIssued c (history c es) }
 {}
 
-/// What as many nodes as there are copies stored for a ballot is in each plan of a greater ballot, unless it is trimmed or known good there.
+/// What as many nodes as there are copies stored for a ballot is in each plan of a greater ballot, unless it is trimmed or known good there; loss plans are left out.
 pub fn recoveries_agree()
     ensures { (c : Config) (ms : List Move) → IsInBounds c → Agrees c (world_after c (begin c) ms) }
 {}
 
-/// In every state, each number of a closed epoch above its trim and its last known good place and below its end was settled for the closing plan by as many nodes as there are copies, and each of these is blank, or lost for the epoch, or trimmed at the number, or has what the closing plan says; up to that place the number's append was stored by as many, and each of these is blank, or lost, or trimmed so, or has its record.
+/// In every state, a loss plan was made where as many nodes of its epoch as there are copies were blank or lost for it, each plan of a greater ballot is a loss plan too, and between what it vouches for nothing of and its end it says the record of the best statement, and where that is none, a plug.
+pub fn losses_are_planned()
+    ensures gone { (c : Config) (ms : List Move) → IsInBounds c → LossesWereGone c (world_after c (begin c) ms) }
+    ensures last { (c : Config) (ms : List Move) → IsInBounds c → LossesLast (world_after c (begin c) ms) }
+    ensures say { (c : Config) (ms : List Move) → IsInBounds c → LossesSay (world_after c (begin c) ms) }
+{}
+
+/// In every state, of each closed epoch that has no loss plan: each number above its trim and its last known good place and below its end, where each item of the closing plan was settled by as many nodes as there are copies, was settled so, and each of these is blank, or lost for the epoch, or trimmed at the number, or has what the closing plan says; also where not each was, as many nodes of the epoch are so, whether or not they settled the number; up to that place the number's append was stored by as many, and each of these is blank, or lost, or trimmed so, or has its record.
 pub fn copies_stand()
-    ensures settled { (c : Config) (ms : List Move) → IsInBounds c → (l e k : ℕ) (s : Summary) → Closed (world_after c (begin c) ms) l e s → s.trim < numbered e k → s.lng < k → k < s.end → CopiesOf c (world_after c (begin c) ms) l (numbered e k) s.ballot }
-    ensures known_good { (c : Config) (ms : List Move) → IsInBounds c → (l e k : ℕ) (s : Summary) → Closed (world_after c (begin c) ms) l e s → s.trim < numbered e k → 0 < k → k ≤ s.lng → AppendsOf c (world_after c (begin c) ms) l (numbered e k) }
+    ensures settled { (c : Config) (ms : List Move) → IsInBounds c → (l e k : ℕ) (s : Summary) → Closed (world_after c (begin c) ms) l e s → Ready c (world_after c (begin c) ms) l e s.ballot → s.trim < numbered e k → s.lng < k → k < s.end → CopiesOf c (world_after c (begin c) ms) l (numbered e k) s.ballot ⊎ HasLoss (world_after c (begin c) ms) l e }
+    ensures short { (c : Config) (ms : List Move) → IsInBounds c → (l e k : ℕ) (s : Summary) → Closed (world_after c (begin c) ms) l e s → s.trim < numbered e k → s.lng < k → k < s.end → ShortCopies c (world_after c (begin c) ms) l (numbered e k) s.ballot ⊎ HasLoss (world_after c (begin c) ms) l e }
+    ensures known_good { (c : Config) (ms : List Move) → IsInBounds c → (l e k : ℕ) (s : Summary) → Closed (world_after c (begin c) ms) l e s → s.trim < numbered e k → 0 < k → k ≤ s.lng → AppendsOf c (world_after c (begin c) ms) l (numbered e k) ⊎ HasLoss (world_after c (begin c) ms) l e }
 {}
 
 /// In every state, what a node stored for a ballot it still has with at least that ballot, unless it doesn't serve the epoch, was trimmed at the number, or a later plan cut the number off.
@@ -115,12 +123,12 @@ pub fn trims_are_issued_points()
     ensures { (c : Config) (ms : List Move) → IsInBounds c → TrimsIssued (trace c (begin c) ms) (world_after c (begin c) ms) }
 {}
 
-/// In every state, each entry at a node, in a store or in a page, each item of a plan that is stored and each append that waits says what its ballot says of its number, or was refilled where it was known good as the epoch was closed, and a record is the payload that was appended under it.
+/// In every state, each entry at a node, in a store or in a page, each item of a plan that is stored and each append that waits says what its ballot says of its number, or was refilled where it was known good as the epoch was closed or where a loss plan says it, and a record is the payload that was appended under it.
 pub fn entries_are_items()
     ensures { (c : Config) (ms : List Move) → IsInBounds c → EntriesAreItems (trace c (begin c) ms) (world_after c (begin c) ms) }
 {}
 
-/// In every state, what a plan says that closed its epoch, or that is settled while its epoch is open, is in each plan of a greater ballot, unless it is trimmed or known good in one of the two, and none of these ends before it.
+/// In every state, what a plan says that closed its epoch, or that is settled while its epoch is open, is in each plan of a greater ballot, unless it is trimmed or known good in one of the two, and none of these ends before it; loss plans are left out.
 pub fn what_stands_is_followed()
     ensures { (c : Config) (ms : List Move) → IsInBounds c → StandsOn c (world_after c (begin c) ms) }
 {}
@@ -164,14 +172,19 @@ pub fn losses_were_seen()
     ensures { LossesWereSeen }
 {}
 
-/// A number that a reader calls lost had a moment before at which as many nodes of its epoch as it has copies stood lost for it.
+/// A number that a reader calls lost had a moment before at which as many nodes of its epoch as it has copies stood lost for it: of one that a plan says is lost, the moment is before that plan.
 pub fn losses_happened()
     ensures { (c : Config) (es : List Event) → IsInBounds c → LossesHappened c (history c es) }
 {}
 
-/// When a reader asks once more for a number that it then calls lost, the number's epoch is closed, and of the nodes that settled the number for the closing plan, or stored its append where it was known good, as many as the epoch has copies are lost for it, each in its plain state: before a record that was cut short, where there is one.
+/// When a reader asks once more for a number that it then calls lost, the number's epoch is closed, and as many of its nodes as it has copies are lost for it, each in its plain state: before a record that was cut short, where there is one. Where the number was known good as the epoch was closed, or each item of the closing plan was settled by as many nodes, so many of those are lost that stored its append, or settled it for the closing plan.
 pub fn copies_were_lost()
     ensures { CopiesWereLost }
+{}
+
+/// Numbers that a reader calls lost in a step that completes no confirmation are of an epoch that has a plan that says what is lost.
+pub fn losses_were_told()
+    ensures { LossesWereTold }
 {}
 
 /// Every run is safe: what readers get tiles their numbers, records were appended before, nothing that was acknowledged or read is hidden, trims were issued, losses happened, and the numbers of appends rise and differ.

@@ -117,6 +117,7 @@ fn same_what(one: &What, other: &What) -> bool
         (What::Rec(one), What::Rec(other)) => one == other,
         (What::Hole, What::Hole) => true,
         (What::Bridge, What::Bridge) => true,
+        (What::Plug, What::Plug) => true,
         _ => false,
     }
 }

@@ -21,6 +21,18 @@ fn letter(decision: Decision) -> u8 {
 
 // What the node makes of a hole at a place of epoch 1 from the sequencer of the epoch `ballot`.
 fn stores(plain: &Plain, log: LogId, node: NodeId, ballot: u32, esn: u32) -> u8 {
+    stores_what(plain, log, node, ballot, esn, What::Hole)
+}
+
+// What the node makes of anything else there.
+fn stores_what(
+    plain: &Plain,
+    log: LogId,
+    node: NodeId,
+    ballot: u32,
+    esn: u32,
+    what: What,
+) -> u8 {
     let msg = Msg {
         from: Who::Sequencer(ballot),
         to: Who::Node(node),
@@ -28,7 +40,7 @@ fn stores(plain: &Plain, log: LogId, node: NodeId, ballot: u32, esn: u32) -> u8 
         body: Body::Store {
             number: Lsn::new(1, esn),
             lng: 0,
-            what: What::Hole,
+            what,
         },
     };
     letter(on_store(plain, &msg))
@@ -49,10 +61,15 @@ fn asks(plain: &Plain, log: LogId, node: NodeId, ballot: u32) -> u8 {
 
 // The node keeps a hole at the place 4 of epoch 1, of ballot 2.
 fn keep_hole(alloc: Global, plain: &mut Plain, log: LogId) -> Result<(), NoMemory> {
+    keep_what(alloc, plain, log, What::Hole)
+}
+
+// The node keeps anything else there.
+fn keep_what(alloc: Global, plain: &mut Plain, log: LogId, what: What) -> Result<(), NoMemory> {
     let entry = Entry {
         number: Lsn::new(1, 4),
         ballot: 2,
-        what: What::Hole,
+        what,
     };
     let op = Op::Accept { log, lng: 0, entry };
     plain.room(alloc, &op)?;
@@ -84,6 +101,7 @@ fn keep_close(alloc: Global, plain: &mut Plain, log: LogId) -> Result<(), NoMemo
         lng: 0,
         trim: Lsn::from_u64(0),
         end: 5,
+        loss: false,
     };
     let op = Op::Clean {
         log,
@@ -111,6 +129,19 @@ fn stores_by_what_is_sealed_trimmed_stored_and_clean(rt: HostRuntime) -> Result<
     assert_eq!(rt; stores(&plain, log, node, 2, 4), b'=');
     keep_close(alloc, &mut plain, log)?;
     assert_eq!(rt; stores(&plain, log, node, 3, 4), b'c');
+    Ok(())
+}
+
+#[test]
+fn a_plug_is_the_same_as_a_plug_alone(rt: HostRuntime) -> Result<(), Fail> {
+    let alloc = rt.alloc();
+    let log = LogId::new(1).expect(&rt, "a log");
+    let node = NodeId::new(1).expect(&rt, "a node");
+    let mut plain = Plain::new(alloc);
+    keep_what(alloc, &mut plain, log, What::Plug)?;
+    assert_eq!(rt; stores_what(&plain, log, node, 2, 4, What::Plug), b'=');
+    assert_eq!(rt; stores_what(&plain, log, node, 2, 4, What::Hole), b'+');
+    assert_eq!(rt; stores_what(&plain, log, node, 3, 4, What::Plug), b'+');
     Ok(())
 }
 

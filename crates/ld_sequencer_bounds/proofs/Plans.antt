@@ -1,5 +1,5 @@
 -- A digest stays in its bounds page by page, and so is the plan that follows from it.
-use Rattle.std.proofs.Common.{◌≡◌, ◌≤◌, ◌<◌, ℕ, Bool, zero, suc, ◌+◌, ◌-◌, ◌^◌, min, max, refl, subst, true, ◌&&◌, ◌==◌, not, nat_lt, cond, List, [], ◌∷◌, ◌++◌, Option, Some, None, arith}
+use Rattle.std.proofs.Common.{◌≡◌, ◌≤◌, ◌<◌, ℕ, Bool, zero, suc, ◌+◌, ◌-◌, ◌^◌, min, max, refl, subst, true, false, ◌&&◌, ◌==◌, not, nat_lt, cond, List, [], ◌∷◌, ◌++◌, Option, Some, None, arith}
 use Rattle.std.specs.List.{AllByRecursion}
 use Rattle.std.proofs.lemmas.Bool.{cond_both, and_parts, eqb-true, leb-false, not-true}
 use Rattle.ld_table.specs.Words.{numbers_from}
@@ -8,10 +8,10 @@ use Rattle.ld_ids.specs.declared.set.Spec.{Spec}
 use Rattle.ld_ids.specs.Choice.{nodes_of}
 use Rattle.ld_lsn.specs.Number.{epoch_of, esn_of, numbered, last_esn}
 use Rattle.ld_msg.specs.declared.msg.What.{What}
-use Rattle.ld_msg.specs.declared.msg.What.TheVariants.{Rec, Hole, Bridge}
+use Rattle.ld_msg.specs.declared.msg.What.TheVariants.{Rec, Hole, Bridge, Plug}
 use Rattle.ld_msg.specs.declared.msg.Entry.{Entry}
 use Rattle.ld_msg.specs.Bounds.{IsLng, Is64, IsEntry, AreEntries, IsShort, IsPage, last_place}
-use Rattle.ld_msg.specs.Digest.{Told, better, is_bridge, says, statement, told_nothing, no_digest, told_page, takes_page, with_page, told_lost, with_lost, asked_anew, with_asks, digest_lng, best, is_content, record_or_hole, content, digest_trim, trim_place, plan_floor, top_in, top_place, plan_end, Item, record_items, places_between, plan_to, plan}
+use Rattle.ld_msg.specs.Digest.{Told, better, is_bridge, says, statement, told_nothing, no_digest, told_page, takes_page, with_page, told_lost, with_lost, asked_anew, with_asks, digest_lng, best, is_content, no_record, record_or, content, digest_trim, trim_place, plan_floor, top_in, top_place, plan_end, Item, record_items, places_between, plan_to, plan}
 use Rattle.ld_table.specs.Words.{with_one}
 use Rattle.ld_msg.specs.Sequencer.{Planned, Storing, planned, storing_of, settle, settled_by}
 use Rattle.ld_sequencer_bounds.specs.Sequencers.{IsTold, IsPlanned, IsStoring}
@@ -110,28 +110,39 @@ unfolding statement
 statement_is s [] a = tt
 statement_is s (e ∷ es) a = better_is (statement s es) (says s e) (statement_is s es a.1) (says_is s e a.0)
 
-short_of : (x : What) → IsShort x → IsShort (record_or_hole x)
-short_of (Rec p) h = h
-short_of Hole h = tt
-short_of Bridge h = tt
+none_short : (loss : Bool) → IsShort (no_record loss)
+none_short true = tt
+none_short false = tt
 
-place_of : (x : What) → last_place (record_or_hole x) ≡ last_esn - 1
-place_of (Rec p) = refl
-place_of Hole = refl
-place_of Bridge = refl
+none_place : (loss : Bool) → last_place (no_record loss) ≡ last_esn - 1
+none_place true = refl
+none_place false = refl
 
-content_short : (o : Option Entry) → MayBe o → IsShort (content o)
-content_short None a = tt
-content_short (Some e) a = short_of e.what a.short
+short_of : (loss : Bool) (x : What) → IsShort x → IsShort (record_or (no_record loss) x)
+short_of loss (Rec p) h = h
+short_of loss Hole h = none_short loss
+short_of loss Bridge h = none_short loss
+short_of loss Plug h = none_short loss
 
-content_place : (o : Option Entry) → last_place (content o) ≡ last_esn - 1
-content_place None = refl
-content_place (Some e) = place_of e.what
+place_of : (loss : Bool) (x : What) → last_place (record_or (no_record loss) x) ≡ last_esn - 1
+place_of loss (Rec p) = refl
+place_of loss Hole = none_place loss
+place_of loss Bridge = none_place loss
+place_of loss Plug = none_place loss
+
+content_short : (loss : Bool) (o : Option Entry) → MayBe o → IsShort (content loss o)
+content_short loss None a = none_short loss
+content_short loss (Some e) a = short_of loss e.what a.short
+
+content_place : (loss : Bool) (o : Option Entry) → last_place (content loss o) ≡ last_esn - 1
+content_place loss None = none_place loss
+content_place loss (Some e) = place_of loss e.what
 
 below_bridge : (x : What) → not (is_bridge x) ≡ true → last_place x ≡ last_esn - 1
 below_bridge (Rec p) h = refl
 below_bridge Hole h = refl
 below_bridge Bridge h = absurd cc
+below_bridge Plug h = refl
 
 top_in_most : (d : List Told) (es : List Entry) → AreEntries es → top_in d es ≤ last_esn - 1
 top_in_most d [] a = omega arith
@@ -182,19 +193,19 @@ module _ (e : ℕ) where
   places_are first zero h i = tt
   places_are first (suc k) h i = ((h, omega arith), places_are (first + 1) k (omega arith) (omega arith))
 
-  items_are : (d : List Told) (ns : List ℕ) → AllByRecursion (IsTold e) d → AllByRecursion IsPlace ns → AllByRecursion IsItem (record_items e d ns)
-  items_are d [] a b = tt
-  items_are d (n ∷ ns) a b = let p = b.0 in let lo = p.0 in let hi = p.1 in
-      let z = esn_numbered e n (omega arith) in let w = content_place (best (numbered e n) d) in
-      (record { epoch_is = epoch_numbered e n (omega arith); from_one = omega arith; place = omega arith; short = content_short (best (numbered e n) d) (best_is (numbered e n) d a) }, items_are d ns a b.1)
+  items_are : (loss : Bool) (d : List Told) (ns : List ℕ) → AllByRecursion (IsTold e) d → AllByRecursion IsPlace ns → AllByRecursion IsItem (record_items e loss d ns)
+  items_are loss d [] a b = tt
+  items_are loss d (n ∷ ns) a b = let p = b.0 in let lo = p.0 in let hi = p.1 in
+      let z = esn_numbered e n (omega arith) in let w = content_place loss (best (numbered e n) d) in
+      (record { epoch_is = epoch_numbered e n (omega arith); from_one = omega arith; place = omega arith; short = content_short loss (best (numbered e n) d) (best_is (numbered e n) d a) }, items_are loss d ns a b.1)
 
   planned_are : (is : List Item) → AllByRecursion IsItem is → AllByRecursion (IsPlanned e) (planned is)
   planned_are [] a = tt
   planned_are (i ∷ is) a = (record { epoch_is = a.0.epoch_is; from_one = a.0.from_one; place = a.0.place; short = a.0.short }, planned_are is a.1)
 
-  pub plan_is : (d : List Told) → AllByRecursion (IsTold e) d → IsStoring e (storing_of (plan e d))
+  pub plan_is : (loss : Bool) (d : List Told) → AllByRecursion (IsTold e) d → IsStoring e (storing_of (plan e loss d))
   unfolding plan
-  plan_is d a =
+  plan_is loss d a =
       let b = end_is d a in let lo = b.0 in let hi = b.1 in
       let t = floor_most d a in
       let z = esn_numbered e (plan_end e d) (omega arith) in
@@ -203,9 +214,9 @@ module _ (e : ℕ) where
         lng = digest_lng_is e d a;
         end = lo;
         end_most = hi;
-        items = planned_are (plan_to e d (plan_end e d)).items
-            (all-append IsItem (record_items e d (places_between (plan_floor e d) (plan_end e d))) (record { number = numbered e (plan_end e d); what = Bridge } ∷ [])
-            (items_are d (places_between (plan_floor e d) (plan_end e d)) a (places_are (plan_floor e d + 1) (plan_end e d - 1 - plan_floor e d) (omega arith) (omega arith)))
+        items = planned_are (plan_to e loss d (plan_end e d)).items
+            (all-append IsItem (record_items e loss d (places_between (plan_floor e d) (plan_end e d))) (record { number = numbered e (plan_end e d); what = Bridge } ∷ [])
+            (items_are loss d (places_between (plan_floor e d) (plan_end e d)) a (places_are (plan_floor e d + 1) (plan_end e d - 1 - plan_floor e d) (omega arith) (omega arith)))
             (record { epoch_is = epoch_numbered e (plan_end e d) (omega arith); from_one = omega arith; place = omega arith; short = tt }, tt));
       }
 

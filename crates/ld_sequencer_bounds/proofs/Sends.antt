@@ -1,5 +1,5 @@
 -- What a sequencer sends to nodes is one that a frame can carry.
-use Rattle.std.proofs.Common.{◌≡◌, ◌≤◌, ◌<◌, ℕ, ◌+◌, ◌-◌, ◌^◌, sym, subst, false, ◌==◌, nat_lt, cond, List, [], ◌∷◌, length, arith}
+use Rattle.std.proofs.Common.{◌≡◌, ◌≤◌, ◌<◌, ℕ, ◌+◌, ◌-◌, ◌^◌, sym, subst, false, ◌==◌, nat_lt, cond, Bool, List, [], ◌∷◌, length, arith}
 use Rattle.std.specs.List.{AllByRecursion}
 use Rattle.std.proofs.lemmas.Bool.{cond_both, eqb-true, ltb-true}
 use Rattle.ld_table.specs.Words.{without}
@@ -14,7 +14,7 @@ use Rattle.ld_msg.specs.declared.msg.Body.TheVariants as bodies
 use Rattle.ld_msg.specs.Choice.{choice}
 use Rattle.ld_msg.specs.Bounds.{IsLng, Is64, IsEpoch, IsSummary, Fits}
 use Rattle.ld_msg.specs.Digest.{Told}
-use Rattle.ld_msg.specs.Sequencer.{Sequencer, Append, Planned, released_of, to_each, digest_asks, item_stores, next_ask, is_acked, append_stores, rose, release_messages}
+use Rattle.ld_msg.specs.Sequencer.{Sequencer, Append, Planned, released_of, to_each, digest_asks, left_nodes, is_wide, item_nodes, item_stores, next_ask, is_acked, append_stores, rose, release_messages}
 use Rattle.ld_sequencer_bounds.specs.Sequencers.{IsAppend, IsTold, IsPlanned, Posts}
 use Rattle.ld_node_bounds.proofs.Alls.{all-append}
 use Rattle.ld_node_bounds.proofs.Posts.{IsPost, each_post, without_nodes}
@@ -42,12 +42,16 @@ module _ (own : ℕ) (E : IsEpoch own) where
     item_is lng l i y p h = let z = p.epoch_is in
         ((E, h), l, record { epoch = (omega arith, (let m = E.1 in omega arith)); from_one = p.from_one; place = p.place; ballot = omega arith; ballot_most = E.1; short = p.short }, (λ q. absurd (omega arith)))
 
-    pub items_sent : (s : Spec) (lost : List ℕ) (lng wave : ℕ) (is : List (ℕ × Planned)) → IsLng lng → AllByRecursion IsNode (nodes_of s) → AllByRecursion (IsPlanned e) is → Posts own (item_stores s lost lng wave is)
-    items_sent s lost lng wave [] l n a = tt
-    items_sent s lost lng wave (i ∷ is) l n a = all-append (IsPost (whos.Sequencer own)) (cond (nat_lt (length i.1.settled) s.r) (to_each (bodies.Store i.0 lng i.1.what) (choice s lost i.0 wave)) []) (item_stores s lost lng wave is)
-        (cond_both (nat_lt (length i.1.settled) s.r) (to_each (bodies.Store i.0 lng i.1.what) (choice s lost i.0 wave)) [] (AllByRecursion (IsPost (whos.Sequencer own)))
-        (λ t. each_post (whos.Sequencer own) (bodies.Store i.0 lng i.1.what) (choice s lost i.0 wave) (λ y h. item_is lng l i y a.0 h) (choice_nodes s lost i.0 wave n)) (λ t. tt))
-        (items_sent s lost lng wave is l n a.1)
+    item_nodes_are : (s : Spec) (lost : List ℕ) (loss : Bool) (wave n : ℕ) (settled : List ℕ) → AllByRecursion IsNode (nodes_of s) → AllByRecursion IsNode (item_nodes s lost loss wave n settled)
+    item_nodes_are s lost loss wave n settled a = cond_both (is_wide s lost loss) (without settled (left_nodes s lost)) (cond (nat_lt (length settled) s.r) (choice s lost n wave) []) (AllByRecursion IsNode)
+        (λ t. without_nodes settled (left_nodes s lost) (without_nodes lost (nodes_of s) a))
+        (λ t. cond_both (nat_lt (length settled) s.r) (choice s lost n wave) [] (AllByRecursion IsNode) (λ u. choice_nodes s lost n wave a) (λ u. tt))
+
+    pub items_sent : (s : Spec) (lost : List ℕ) (loss : Bool) (lng wave : ℕ) (is : List (ℕ × Planned)) → IsLng lng → AllByRecursion IsNode (nodes_of s) → AllByRecursion (IsPlanned e) is → Posts own (item_stores s lost loss lng wave is)
+    items_sent s lost loss lng wave [] l n a = tt
+    items_sent s lost loss lng wave (i ∷ is) l n a = all-append (IsPost (whos.Sequencer own)) (to_each (bodies.Store i.0 lng i.1.what) (item_nodes s lost loss wave i.0 i.1.settled)) (item_stores s lost loss lng wave is)
+        (each_post (whos.Sequencer own) (bodies.Store i.0 lng i.1.what) (item_nodes s lost loss wave i.0 i.1.settled) (λ y h. item_is lng l i y a.0 h) (item_nodes_are s lost loss wave i.0 i.1.settled n))
+        (items_sent s lost loss lng wave is l n a.1)
 
     -- ---- closes ----
     pub cleans_sent : (y : Summary) (ns : List ℕ) → IsSummary e y → AllByRecursion IsNode ns → Posts own (to_each (bodies.Clean e y) ns)

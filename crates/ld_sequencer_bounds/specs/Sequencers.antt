@@ -43,7 +43,7 @@ pub record IsStoring (epoch : ℕ) (g : Storing) : Type 0 where
 abbrev pub IsStage : ℕ → Stage → Type 0
 IsStage epoch (Seals d) = AllByRecursion (IsTold epoch) d
 IsStage epoch (Stores g) = IsStoring epoch g
-IsStage epoch (Closes y) = IsSummary epoch y
+IsStage epoch (Closes y short) = IsSummary epoch y
 
 -- what goes to nodes from the sequencer of an epoch
 abbrev pub Posts : ℕ → List (ℕ × Body) → Type 0

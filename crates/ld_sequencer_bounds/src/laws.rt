@@ -22,7 +22,7 @@ pub fn recoveries_stay_in_bounds()
     ensures page { (e y from upto trim lng : ℕ) (es : List Entry) (d : List Told) → IsPage from upto es → Is64 trim → IsLng lng → AllByRecursion (IsTold e) d → AllByRecursion (IsTold e) (with_page e y from upto trim lng es d) }
     ensures anew { (e : ℕ) (d : List Told) → AllByRecursion (IsTold e) d → AllByRecursion (IsTold e) (with_asks e d) }
     ensures lost { (e y : ℕ) (d : List Told) → AllByRecursion (IsTold e) d → AllByRecursion (IsTold e) (with_lost y d) }
-    ensures plan { (e : ℕ) (d : List Told) → AllByRecursion (IsTold e) d → IsStoring e (storing_of (plan e d)) }
+    ensures plan { (e : ℕ) (loss : Bool) (d : List Told) → AllByRecursion (IsTold e) d → IsStoring e (storing_of (plan e loss d)) }
     ensures settled { (e y : ℕ) (p : ℕ → Bool) (g : Storing) → IsStoring e g → IsStoring e (settled_by p y g) }
 {}
 
@@ -30,7 +30,7 @@ pub fn recoveries_stay_in_bounds()
 /// log; and what may go to nodes is sent as messages.
 pub fn posts_are_messages()
     ensures asks { (own e : ℕ) (d : List Told) → IsEpoch own → 1 ≤ e → e < own → AllByRecursion (IsTold e) d → Posts own (digest_asks d) }
-    ensures items { (own e lng wave : ℕ) (s : Spec) (lost : List ℕ) (is : List (ℕ × Planned)) → IsEpoch own → IsLng lng → 1 ≤ e → e < own → AllByRecursion IsNode (nodes_of s) → AllByRecursion (IsPlanned e) is → Posts own (item_stores s lost lng wave is) }
+    ensures items { (own e lng wave : ℕ) (s : Spec) (lost : List ℕ) (loss : Bool) (is : List (ℕ × Planned)) → IsEpoch own → IsLng lng → 1 ≤ e → e < own → AllByRecursion IsNode (nodes_of s) → AllByRecursion (IsPlanned e) is → Posts own (item_stores s lost loss lng wave is) }
     ensures appends { (own lng : ℕ) (s : Spec) (lost : List ℕ) (ps : List (ℕ × Append)) → IsEpoch own → IsLng lng → AllByRecursion IsNode (nodes_of s) → AllByRecursion (IsAppend own) ps → Posts own (append_stores s lost lng ps) }
     ensures sent { (own l : ℕ) (bs : List (ℕ × Body)) (ms : List Msg) → IsLog l → Posts own bs → AreMessages ms → AreMessages (ms ++ posted (whos.Sequencer own) l bs) }
 {}

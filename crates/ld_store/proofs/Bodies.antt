@@ -1,41 +1,42 @@
--- Ops as bodies of a journal.
-use Rattle.std.proofs.Common.{◌≡◌, ◌≢◌, ◌<◌, ◌≤◌, ◌+◌, ◌*◌, ◌^◌, ℕ, List, [], ◌∷◌, ◌++◌, length, sym, ◌∙◌, ap, refl, arith, true, false, Bool, not, length-append}
-use mathlib.Core.Bool.{beq}
+-- Records as bodies of a journal.
+use Rattle.std.proofs.Common.{◌≡◌, ◌≢◌, ◌<◌, ◌≤◌, ◌+◌, ◌*◌, ◌^◌, ℕ, List, [], ◌∷◌, ◌++◌, length, sym, ◌∙◌, ap, refl, subst, arith, true, false, Bool, not, cond, Option, Some, None, length-append}
 use Rattle.std.proofs.lemmas.List.Elements.{All-nil, All-cons}
 use Rattle.byteorder.specs.Endian.{big_bytes}
 use Rattle.ld_journal.specs.Format.{records, Fits, framed}
 use Rattle.ld_msg.specs.declared.msg.What.{What}
-use Rattle.ld_msg.specs.declared.msg.What.TheVariants.{Rec, Hole, Bridge}
+use Rattle.ld_msg.specs.declared.msg.What.TheVariants.{Rec, Hole, Bridge, Plug}
 use Rattle.ld_msg.specs.declared.msg.Entry.{Entry}
 use Rattle.ld_msg.specs.Bounds.{AreEntries, IsShort}
 use Rattle.ld_op.specs.declared.op.Op.{Op}
 use Rattle.ld_op.specs.declared.op.Op.TheVariants as ops
-use Rattle.ld_op.specs.Plain.{Plain, unformatted, apply, op_length, what_length, entry_length, entries_length, epochs_length}
-use Rattle.ld_op.specs.Bounds.{IsOp}
+use Rattle.ld_op.specs.declared.record.Record.{Record}
+use Rattle.ld_op.specs.declared.record.Record.TheVariants.{Now, Before, Mark}
+use Rattle.ld_op.specs.declared.version.Version.{Version}
+use Rattle.ld_op.specs.declared.version.Version.TheVariants.{Blank, First, Second}
+use Rattle.ld_op.specs.Plain.{Plain, unformatted, op_length, what_length, entry_length, entries_length, epochs_length}
+use Rattle.ld_op.specs.Records.{applied, is_format, is_clean, is_blank, version_after, older_length, body_length}
+use Rattle.ld_op.specs.Bounds.{IsOp, IsRecord}
 use Rattle.ld_fields.specs.Fields.{Read, Got, Off}
 use Rattle.ld_fields.specs.Items.{what_bytes, entry_bytes, entries_bytes}
-use Rattle.ld_op.specs.Bytes.{op_bytes, epochs_bytes, judge}
-use Rattle.ld_op.proofs.Spelling.{judge-op_bytes}
-use Rattle.ld_store.specs.Ops.{bodies_of, apply_all, state_after, place_behind, is_format, are_none, AreChanges, AreOps, MayFollow}
+use Rattle.ld_op.specs.Bytes.{op_bytes, older_bytes, record_bytes, epochs_bytes, judge}
+use Rattle.ld_op.proofs.Spelling.{judge-record_bytes}
+use Rattle.ld_store.specs.Ops.{bodies_of, applied_all, state_after, place_behind, are_none, next_version, version_on, version_of, current, AreRecords, ArePlaced, MayFollow}
 
--- ---- one op from its bytes ----
+-- ---- one record from its bytes ----
 
-abbrev op_in : Op → Read Op → Op
-op_in other (Got o next) = o
-op_in other (Off place) = other
+abbrev record_in : Record → Read Record → Record
+record_in other (Got v next) = v
+record_in other (Off place) = other
 
-pub same_op : (o p : Op) → IsOp o → IsOp p → op_bytes o ≡ op_bytes p → o ≡ p
-same_op o p is_o is_p same = ap (op_in o) (sym (judge-op_bytes o is_o) ∙ ap judge same ∙ judge-op_bytes p is_p)
+pub same_record : (u v : Record) → IsRecord u → IsRecord v → record_bytes u ≡ record_bytes v → u ≡ v
+same_record u v is_u is_v same = ap (record_in u) (sym (judge-record_bytes u is_u) ∙ ap judge same ∙ judge-record_bytes v is_v)
 
--- an op whose kind may not stand somewhere: its bytes are none's that may
-pub other_kind : (o : Op) (blank : Bool) (body : List ℕ) → IsOp o → body ≡ op_bytes o → is_format o ≢ blank → (p : Op) → IsOp p → is_format p ≡ blank → body ≢ op_bytes p
-other_kind o blank body is_o here not p is_p fits there = not (ap is_format (same_op o p is_o is_p (sym here ∙ there)) ∙ fits)
+none_or_some : (o : Option Version) (w : Version) → o ≡ None → o ≡ Some w → ⊥
+none_or_some o w none some = absurd (let e = sym none ∙ some in cc)
 
-pub kinds_differ : (b c : Bool) → not (beq b c) ≡ true → b ≢ c
-kinds_differ true true is same = absurd (cc is)
-kinds_differ true false is same = absurd (cc same)
-kinds_differ false true is same = absurd (cc same)
-kinds_differ false false is same = absurd (cc is)
+-- a record that may not stand somewhere: its bytes are none's that may
+pub other_place : (u : Record) (x : Version) (body : List ℕ) → IsRecord u → body ≡ record_bytes u → version_after x u ≡ None → (v : Record) (w : Version) → IsRecord v → version_after x v ≡ Some w → body ≢ record_bytes v
+other_place u x body is_u here none v w is_v some there = none_or_some (version_after x u) w none (ap (version_after x) (same_record u v is_u is_v (sym here ∙ there)) ∙ some)
 
 -- ---- lengths ----
 
@@ -43,6 +44,7 @@ what_long : (w : What) → length (what_bytes w) ≡ 1 + what_length w
 what_long (Rec p) = omega (arith, length-append (big_bytes 2 (length p)) p)
 what_long Hole = refl
 what_long Bridge = refl
+what_long Plug = refl
 
 entry_long : (e : Entry) → length (entry_bytes e) ≡ entry_length e
 entry_long e = omega (arith, what_long e.what)
@@ -55,7 +57,7 @@ epochs_long : (ds : List (ℕ × ℕ)) → length (epochs_bytes ds) ≡ epochs_l
 epochs_long [] = refl
 epochs_long (d ∷ ds) = omega (arith, epochs_long ds)
 
-pub op_long : (o : Op) → length (op_bytes o) ≡ op_length o
+op_long : (o : Op) → length (op_bytes o) ≡ op_length o
 unfolding op_bytes op_length
 op_long (ops.Format generation epochs) = omega (arith, epochs_long epochs)
 op_long (ops.Accept l lng e) = omega (arith, entry_long e)
@@ -69,6 +71,7 @@ what_short : (w : What) → IsShort w → what_length w ≤ 65537
 what_short (Rec p) short = omega (arith, short)
 what_short Hole short = omega arith
 what_short Bridge short = omega arith
+what_short Plug short = omega arith
 
 entries_short : (es : List Entry) → AreEntries es → entries_length es ≤ length es * 65550
 entries_short [] are = omega arith
@@ -88,42 +91,130 @@ op_short (ops.Trim l t) is = omega arith
 op_short (ops.Refill l es) is = omega (arith, entries_short es is.3, is.2)
 op_short (ops.Refilled l) is = omega arith
 
-pub op_fits : (o : Op) → IsOp o → length (op_bytes o) < 2 ^ 32
-op_fits o is = omega (arith, op_long o, op_short o is)
+older_long : (o : Op) → length (older_bytes o) ≡ older_length o
+unfolding older_bytes older_length
+older_long (ops.Format generation epochs) = omega (arith, epochs_long epochs)
+older_long (ops.Accept l lng e) = refl
+older_long (ops.Seal l b) = refl
+older_long (ops.Clean l epoch y) = refl
+older_long (ops.Trim l t) = refl
+older_long (ops.Refill l es) = refl
+older_long (ops.Refilled l) = refl
 
--- ---- lists of ops ----
+older_short : (o : Op) → IsOp o → older_length o < 2 ^ 32
+unfolding older_length
+older_short (ops.Format generation epochs) is = omega (arith, epochs_short epochs, is.1)
+older_short (ops.Accept l lng e) is = omega arith
+older_short (ops.Seal l b) is = omega arith
+older_short (ops.Clean l epoch y) is = omega arith
+older_short (ops.Trim l t) is = omega arith
+older_short (ops.Refill l es) is = omega arith
+older_short (ops.Refilled l) is = omega arith
 
-pub bodies-push : (os : List Op) (o : Op) → bodies_of (os ++ o ∷ []) ≡ bodies_of os ++ op_bytes o ∷ []
-bodies-push [] o = refl
-bodies-push (p ∷ os) o = ap (λ l. op_bytes p ∷ l) (bodies-push os o)
+pub record_long : (v : Record) → length (record_bytes v) ≡ body_length v
+record_long (Now o) = op_long o
+record_long (Before o) = older_long o
+record_long Mark = refl
 
-all-push : (p : Plain) (os : List Op) (o : Op) → apply_all p (os ++ o ∷ []) ≡ apply (apply_all p os) o
-all-push p [] o = refl
-all-push p (q ∷ os) o = all-push (apply p q) os o
+record_short : (v : Record) → IsRecord v → body_length v < 2 ^ 32
+record_short (Now o) is = op_short o is
+record_short (Before o) is = older_short o is.0
+record_short Mark is = omega arith
 
-pub state-push : (os : List Op) (o : Op) → state_after (os ++ o ∷ []) ≡ apply (state_after os) o
-state-push os o = all-push unformatted os o
+pub record_fits : (v : Record) → IsRecord v → length (record_bytes v) < 2 ^ 32
+record_fits v is = omega (arith, record_long v, record_short v is)
 
-changes-push : (os : List Op) (o : Op) → AreChanges os → IsOp o → is_format o ≡ false → AreChanges (os ++ o ∷ [])
-changes-push [] o are is kind = (is, kind, tt)
-changes-push (p ∷ os) o are is kind = (are.0, are.1, changes-push os o are.2 is kind)
+-- ---- lists of records ----
 
-pub ops-push : (os : List Op) (o : Op) → AreOps os → MayFollow os o → AreOps (os ++ o ∷ [])
-ops-push [] o are next = (next.op, next.format, tt)
-ops-push (p ∷ os) o are next = (are.0, are.1, changes-push os o are.2 next.op next.format)
+pub bodies-push : (vs : List Record) (v : Record) → bodies_of (vs ++ v ∷ []) ≡ bodies_of vs ++ record_bytes v ∷ []
+bodies-push [] v = refl
+bodies-push (u ∷ vs) v = ap (λ l. record_bytes u ∷ l) (bodies-push vs v)
 
-pub some-push : (os : List Op) (o : Op) → are_none (os ++ o ∷ []) ≡ false
-some-push [] o = refl
-some-push (p ∷ os) o = refl
+all-push : (p : Plain) (vs : List Record) (v : Record) → applied_all p (vs ++ v ∷ []) ≡ applied (applied_all p vs) v
+all-push p [] v = refl
+all-push p (u ∷ vs) v = all-push (applied p u) vs v
 
-pub places : (os : List Op) → length (records (bodies_of os)) ≡ place_behind os
+pub state-push : (vs : List Record) (v : Record) → state_after (vs ++ v ∷ []) ≡ applied (state_after vs) v
+state-push vs v = all-push unformatted vs v
+
+pub are-push : (vs : List Record) (v : Record) → AreRecords vs → IsRecord v → AreRecords (vs ++ v ∷ [])
+are-push [] v are is = (is, tt)
+are-push (u ∷ vs) v are is = (are.0, are-push vs v are.1 is)
+
+on-push : (o : Option Version) (vs : List Record) (v : Record) → version_on o (vs ++ v ∷ []) ≡ next_version (version_on o vs) v
+on-push o [] v = refl
+on-push o (u ∷ vs) v = on-push (next_version o u) vs v
+
+pub version-push : (vs : List Record) (v : Record) → version_of (vs ++ v ∷ []) ≡ next_version (version_of vs) v
+version-push vs v = on-push (Some Blank) vs v
+
+pub placed-push : (vs : List Record) (v : Record) → ArePlaced vs → MayFollow vs v → ArePlaced (vs ++ v ∷ [])
+placed-push vs v placed next = record { are = are-push vs v placed.are next.is; version = next.version; version_is = version-push vs v ∙ next.version_is }
+
+pub some-push : (vs : List Record) (v : Record) → are_none (vs ++ v ∷ []) ≡ false
+some-push [] v = refl
+some-push (u ∷ vs) v = refl
+
+pub places : (vs : List Record) → length (records (bodies_of vs)) ≡ place_behind vs
 places [] = refl
-places (o ∷ os) = omega (arith, length-append (framed (op_bytes o)) (records (bodies_of os)), op_long o, places os)
+places (v ∷ vs) = omega (arith, length-append (framed (record_bytes v)) (records (bodies_of vs)), record_long v, places vs)
 
-changes_fit : (os : List Op) → AreChanges os → Fits (bodies_of os)
-changes_fit [] are = All-nil (λ body. length body < 2 ^ 32)
-changes_fit (o ∷ os) are = All-cons (λ body. length body < 2 ^ 32) (op_bytes o) (bodies_of os) (op_fits o are.0) (changes_fit os are.2)
+pub records_fit : (vs : List Record) → AreRecords vs → Fits (bodies_of vs)
+records_fit [] are = All-nil (λ body. length body < 2 ^ 32)
+records_fit (v ∷ vs) are = All-cons (λ body. length body < 2 ^ 32) (record_bytes v) (bodies_of vs) (record_fits v are.0) (records_fit vs are.1)
 
-pub ops_fit : (os : List Op) → AreOps os → Fits (bodies_of os)
-ops_fit [] are = All-nil (λ body. length body < 2 ^ 32)
-ops_fit (o ∷ os) are = All-cons (λ body. length body < 2 ^ 32) (op_bytes o) (bodies_of os) (op_fits o are.0) (changes_fit os are.2)
+-- ---- versions ----
+
+pub same_version : (x w : Version) → Some x ≡ Some w → x ≡ w
+same_version x w e = cc
+
+some_if : (b : Bool) (x w : Version) → cond b (Some x) None ≡ Some w → x ≡ w
+some_if true x w e = cc
+some_if false x w e = absurd cc
+
+not_blank : (b : Bool) (x w : Version) → is_blank x ≡ false → cond b (Some x) None ≡ Some w → is_blank w ≡ false
+not_blank b x w n e = subst (λ y. is_blank y ≡ false) (some_if b x w e) n
+
+-- behind a record no journal is blank
+never_blank : (x : Version) (v : Record) (w : Version) → version_after x v ≡ Some w → is_blank w ≡ false
+never_blank Blank (Now o) w e = not_blank (is_format o) Second w refl e
+never_blank Blank (Before o) w e = not_blank (is_format o) First w refl e
+never_blank Blank Mark w e = absurd cc
+never_blank First (Now o) w e = not_blank _ First w refl e
+never_blank First (Before o) w e = not_blank (is_clean o) First w refl e
+never_blank First Mark w e = subst (λ y. is_blank y ≡ false) (same_version Second w e) refl
+never_blank Second (Now o) w e = not_blank _ Second w refl e
+never_blank Second (Before o) w e = absurd cc
+never_blank Second Mark w e = absurd cc
+
+none_on : (vs : List Record) (w : Version) → version_on None vs ≡ Some w → ⊥
+none_on [] w e = absurd cc
+none_on (v ∷ vs) w e = none_on vs w e
+
+on_next : (o : Option Version) (x : Version) (v : Record) (vs : List Record) (w : Version) → version_after x v ≡ o → ((y : Version) → is_blank y ≡ false → version_on (Some y) vs ≡ Some w → is_blank w ≡ false) → version_on o vs ≡ Some w → is_blank w ≡ false
+on_next None x v vs w h g e = absurd (none_on vs w e)
+on_next (Some y) x v vs w h g e = g y (never_blank x v y h) e
+
+stays_some : (x : Version) (vs : List Record) (w : Version) → is_blank x ≡ false → version_on (Some x) vs ≡ Some w → is_blank w ≡ false
+stays_some x [] w n e = subst (λ y. is_blank y ≡ false) (same_version x w e) n
+stays_some x (v ∷ vs) w n e = on_next (version_after x v) x v vs w refl (λ y m f. stays_some y vs w m f) e
+
+-- a journal is blank exactly where no record stands in it
+pub blank_is : (vs : List Record) (w : Version) → version_of vs ≡ Some w → is_blank w ≡ are_none vs
+blank_is [] w e = ap is_blank (sym (same_version Blank w e))
+blank_is (v ∷ vs) w e = on_next (version_after Blank v) Blank v vs w refl (λ y m f. stays_some y vs w m f) e
+
+current_after : (o : Op) (blank : Bool) → is_format o ≡ blank → version_after (current blank) (Now o) ≡ Some Second
+current_after o true e = ap (λ b. cond b (Some Second) None) e
+current_after o false e = ap (λ b. cond (not b) (Some Second) None) e
+
+-- an op may follow a journal that is blank or of the second version, where it is a format or isn't
+pub may_keep : (vs : List Record) (o : Op) (blank : Bool) → version_of vs ≡ Some (current blank) → IsOp o → is_format o ≡ blank → MayFollow vs (Now o)
+may_keep vs o blank version is kind = record { is = is; version = Second; version_is = ap (λ w. next_version w (Now o)) version ∙ current_after o blank kind }
+
+-- then it is of the second version
+pub kept_version : (vs : List Record) (o : Op) (blank : Bool) → version_of vs ≡ Some (current blank) → is_format o ≡ blank → version_of (vs ++ Now o ∷ []) ≡ Some (current false)
+kept_version vs o blank version kind = version-push vs (Now o) ∙ ap (λ w. next_version w (Now o)) version ∙ current_after o blank kind
+
+pub may_mark : (vs : List Record) → version_of vs ≡ Some First → MayFollow vs Mark
+may_mark vs first = record { is = tt; version = Second; version_is = ap (λ w. next_version w Mark) first }

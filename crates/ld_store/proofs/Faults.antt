@@ -1,11 +1,12 @@
 -- Which fault of a journal a store passed on.
-use Rattle.std.proofs.Common.{◌≡◌, ℕ, ap, refl, subst, Result, Ok, Err}
-use Rattle.std.specs.Result.{IsErrAnd, IsErrOf}
+use Rattle.std.proofs.Common.{◌≡◌, ℕ, ap, refl, subst, Some, Result, Ok, Err}
+use Rattle.std.specs.Result.{IsErr, IsErrAnd, IsErrOf}
 use Rattle.ld_journal.specs.declared.fault.JournalFault.{JournalFault}
 use Rattle.ld_journal.specs.declared.fault.JournalFault.TheVariants as journals
 use Rattle.ld_store.specs.declared.fault.StoreFault.{StoreFault}
 use Rattle.ld_store.specs.declared.fault.StoreFault.TheVariants as stores
 use Rattle.ld_store.specs.Faults.{passed_on}
+use Rattle.ld_store.specs.Loads.{refused_by}
 
 abbrev pub refusal : StoreFault → Result (Unit {0}) StoreFault
 refusal e = Err e
@@ -46,6 +47,17 @@ error_in a b is = cc is
 
 pub none_refused : (e : JournalFault) → journal_ok ≡ journal_refusal e → ⊥
 none_refused e is = absurd (cc is)
+
+abbrev pub no_refusal : Result (Unit {0}) StoreFault
+no_refusal = Ok tt
+
+pub never_refused : (e : StoreFault) → no_refusal ≡ refusal e → ⊥
+never_refused e is = absurd (cc is)
+
+-- the fault of an answer that was passed on
+pub passed : {T : Type 0} (r : Result T StoreFault) (e : StoreFault) → IsErr r → IsErrAnd r (λ f. f ≡ e) → refused_by r ≡ Some e
+passed (Ok v) e is and = absurd (cc is)
+passed (Err f) e is and = ap (λ x. Some x) and
 
 pub fault_in : (a b : JournalFault) → journal_refusal a ≡ journal_refusal b → a ≡ b
 fault_in a b is = cc is

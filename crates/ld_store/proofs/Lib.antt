@@ -7,3 +7,5 @@ pub mod FineAfter
 pub mod Holding
 pub mod Cuts
 pub mod Wells
+pub mod Marking
+pub mod Loading

@@ -1,18 +1,20 @@
 -- One record more that was replayed.
-use Rattle.std.proofs.Common.{◌≡◌, ◌≢◌, inl, inr, ◌<◌, ◌^◌, drop, ℕ, List, [], ◌∷◌, ◌++◌, length, Option, Some, Bool, false, sym, ◌∙◌, ap, refl, subst, arith, length-append}
+use Rattle.std.proofs.Common.{◌≡◌, ◌≢◌, inl, inr, ◌<◌, ◌^◌, drop, ℕ, List, [], ◌∷◌, ◌++◌, length, Option, Some, sym, ◌∙◌, ap, refl, subst, arith, length-append}
 use Rattle.std.proofs.lemmas.List.{drop_at}
 use Rattle.std.proofs.Math.Seq.{get_or-append_seam}
 use Rattle.ld_journal.specs.Format.{framed, records, Fits}
 use Rattle.ld_journal.specs.Open.{HasGiven}
 use Rattle.ld_journal.specs.declared.journal.Journal.{Journal}
 use Rattle.ld_journal.proofs.Records.{records-push}
-use Rattle.ld_op.specs.declared.op.Op.{Op}
-use Rattle.ld_op.specs.Plain.{Plain, apply}
-use Rattle.ld_op.specs.Bounds.{IsOp}
-use Rattle.ld_op.specs.Bytes.{op_bytes}
-use Rattle.ld_store.specs.Ops.{bodies_of, is_format, IsDamaged}
+use Rattle.ld_op.specs.declared.record.Record.{Record}
+use Rattle.ld_op.specs.declared.version.Version.{Version}
+use Rattle.ld_op.specs.Plain.{Plain}
+use Rattle.ld_op.specs.Records.{applied, version_after}
+use Rattle.ld_op.specs.Bounds.{IsRecord}
+use Rattle.ld_op.specs.Bytes.{record_bytes}
+use Rattle.ld_store.specs.Ops.{bodies_of, next_version, IsDamaged}
 use Rattle.ld_store.specs.Replayed.{HasReplayed}
-use Rattle.ld_store.proofs.Bodies.{bodies-push, state-push, ops-push, some-push}
+use Rattle.ld_store.proofs.Bodies.{bodies-push, state-push, are-push, version-push}
 
 -- the bytes of a disk are told once
 told_once : {bytes other : List ℕ} → Some bytes ≡ Some other → bytes ≡ other
@@ -30,49 +32,49 @@ module _ {D : Type 0} (seen : D → Option (List ℕ)) (may_leave : D → List �
     pub after : List ℕ
     pub given : HasGiven seen may_leave new (bodies ++ body ∷ []) after
 
-  -- a record whose op was applied
-  pub one_more : (old new : Journal D) (bytes body : List ℕ) (p q : Plain) (blank : Bool) (o : Op)
-      → (has : HasReplayed seen may_leave old bytes p blank)
+  -- a record that was replayed
+  pub one_more : (old new : Journal D) (bytes body : List ℕ) (p q : Plain) (x w : Version) (v : Record)
+      → (has : HasReplayed seen may_leave old bytes p x)
       → ((bodies : List (List ℕ)) (rest : List ℕ) → HasGiven seen may_leave old bodies rest → (after : List ℕ) × HasGiven seen may_leave new (bodies ++ body ∷ []) after)
-      → seen old.disk ≡ seen new.disk → body ≡ op_bytes o → IsOp o → is_format o ≡ blank → q ≡ apply p o
-      → HasReplayed seen may_leave new bytes q false
-  one_more old new bytes body p q blank o has gives same is_body is_op kind applied =
-      let next = gives (bodies_of has.ops) has.rest has.given in
-      let bodies : bodies_of has.ops ++ body ∷ [] ≡ bodies_of (has.ops ++ o ∷ []) = ap (λ b. bodies_of has.ops ++ b ∷ []) is_body ∙ sym (bodies-push has.ops o) in
+      → seen old.disk ≡ seen new.disk → body ≡ record_bytes v → IsRecord v → version_after x v ≡ Some w → q ≡ applied p v
+      → HasReplayed seen may_leave new bytes q w
+  one_more old new bytes body p q x w v has gives same is_body is follows made =
+      let next = gives (bodies_of has.found) has.rest has.given in
+      let bodies : bodies_of has.found ++ body ∷ [] ≡ bodies_of (has.found ++ v ∷ []) = ap (λ b. bodies_of has.found ++ b ∷ []) is_body ∙ sym (bodies-push has.found v) in
       let given = subst (λ bs. HasGiven seen may_leave new bs next.0) bodies next.1 in
-      let all : bytes ≡ records (bodies_of (has.ops ++ o ∷ [])) ++ next.0 = has.bytes_are ∙ told_once (sym has.given.bytes ∙ same ∙ given.bytes) in
+      let all : bytes ≡ records (bodies_of (has.found ++ v ∷ [])) ++ next.0 = has.bytes_are ∙ told_once (sym has.given.bytes ∙ same ∙ given.bytes) in
       record {
-        ops = has.ops ++ o ∷ [];
+        found = has.found ++ v ∷ [];
         rest = next.0;
         given = given;
         bytes_are = all;
-        are = ops-push has.ops o has.are (record { op = is_op; format = kind ∙ has.blank_is });
-        state_is = applied ∙ ap (λ s. apply s o) has.state_is ∙ sym (state-push has.ops o);
-        blank_is = sym (some-push has.ops o);
+        are = are-push has.found v has.are is;
+        state_is = made ∙ ap (λ s. applied s v) has.state_is ∙ sym (state-push has.found v);
+        version_is = version-push has.found v ∙ ap (λ o. next_version o v) has.version_is ∙ follows;
       }
 
-  -- a record whose body is no op that may stand there
-  pub foreign : (old new : Journal D) (bytes body : List ℕ) (p : Plain) (blank : Bool)
-      → (has : HasReplayed seen may_leave old bytes p blank)
+  -- a record whose body is none that may stand there
+  pub foreign : (old new : Journal D) (bytes body : List ℕ) (p : Plain) (x : Version)
+      → (has : HasReplayed seen may_leave old bytes p x)
       → ((bodies : List (List ℕ)) (rest : List ℕ) → HasGiven seen may_leave old bodies rest → (after : List ℕ) × HasGiven seen may_leave new (bodies ++ body ∷ []) after)
-      → seen old.disk ≡ seen new.disk → ((o : Op) → IsOp o → is_format o ≡ blank → body ≢ op_bytes o)
+      → seen old.disk ≡ seen new.disk → ((v : Record) (w : Version) → IsRecord v → version_after x v ≡ Some w → body ≢ record_bytes v)
       → IsDamaged old.at bytes
-  foreign old new bytes body p blank has gives same none =
-      let next = gives (bodies_of has.ops) has.rest has.given in
-      let told : records (bodies_of has.ops) ++ has.rest ≡ records (bodies_of has.ops) ++ (framed body ++ next.0) =
-      told_once (sym has.given.bytes ∙ same ∙ next.1.bytes) ∙ records-push (bodies_of has.ops) body next.0 in
+  foreign old new bytes body p x has gives same none =
+      let next = gives (bodies_of has.found) has.rest has.given in
+      let told : records (bodies_of has.found) ++ has.rest ≡ records (bodies_of has.found) ++ (framed body ++ next.0) =
+      told_once (sym has.given.bytes ∙ same ∙ next.1.bytes) ∙ records-push (bodies_of has.found) body next.0 in
       record {
-        ops = has.ops;
+        found = has.found;
         rest = has.rest;
         bytes_are = has.bytes_are;
         place_is = has.given.place_is;
-        are = has.are;
+        placed = record { are = has.are; version = x; version_is = has.version_is };
         cause = inr (inl (record {
           body = body;
           after = next.0;
-          rest_is = same_rest (records (bodies_of has.ops)) (records (bodies_of has.ops)) has.rest (framed body ++ next.0) refl told;
+          rest_is = same_rest (records (bodies_of has.found)) (records (bodies_of has.found)) has.rest (framed body ++ next.0) refl told;
           some = next.1.some;
-          fits = last_fits (bodies_of has.ops) body next.1.fits;
-          none = λ o next. none o next.op (next.format ∙ sym has.blank_is);
+          fits = last_fits (bodies_of has.found) body next.1.fits;
+          none = λ v next. none v next.version next.is (sym (ap (λ o. next_version o v) has.version_is) ∙ next.version_is);
         }));
       }

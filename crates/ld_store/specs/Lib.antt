@@ -2,4 +2,5 @@ pub mod Ops
 pub mod Faults
 pub mod Replayed
 pub mod Open
+pub mod Loads
 pub mod Well

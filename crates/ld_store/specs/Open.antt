@@ -1,11 +1,11 @@
 -- What an open store knows of its disk.
-use Rattle.std.specs.Prelude.{◌≡◌, ℕ, List, length, Option, Bool, false}
+use Rattle.std.specs.Prelude.{◌≡◌, ℕ, List, length, Option, Some, Bool, false}
 use Rattle.ld_journal.specs.Format.{records}
 use Rattle.ld_journal.specs.Open as journals
 use Rattle.ld_journal.specs.Open.{IsSettled, HasGiven}
-use Rattle.ld_op.specs.declared.op.Op.{Op}
+use Rattle.ld_op.specs.declared.record.Record.{Record}
 use Rattle.ld_op.specs.Plain.{Plain}
-use Rattle.ld_store.specs.Ops.{bodies_of, state_after, are_none, AreOps, IsJournalOf}
+use Rattle.ld_store.specs.Ops.{bodies_of, state_after, are_none, version_of, current, marked, AreRecords, IsJournalOf}
 use Rattle.ld_disk.specs.declared.disk.Disk.{Ghosts}
 use Rattle.ld_store.specs.declared.store.Store.{Store}
 
@@ -22,7 +22,7 @@ module _ {D : Type 0} {g : Ghosts D} where
   abbrev pub must_load : Store D g → Bool
   must_load store = store.failed
 
-  -- no op stands in the journal
+  -- no record stands in the journal
   abbrev pub is_blank : Store D g → Bool
   is_blank store = store.blank
 
@@ -31,17 +31,18 @@ module _ {D : Type 0} {g : Ghosts D} where
   plain_of store = store.plain.state
 
 module _ {D : Type 0} {g : Ghosts D} (seen : D → Option (List ℕ)) (may_leave : D → List ℕ → Type 0) where
-  -- the journal holds these ops, a crash leaves them, and the plain state is what they add up to
-  pub record Holds (store : Store D g) (os : List Op) : Type 0 where
-    pub settled : IsSettled seen may_leave store.journal (bodies_of os)
-    pub ops : AreOps os
-    pub state : plain_of store ≡ state_after os
-    pub blank : is_blank store ≡ are_none os
-    pub place : place_of store ≡ length (records (bodies_of os))
+  -- the journal holds these records, a crash leaves them, and the plain state is what they add up to; it is blank, or of the second version
+  pub record Holds (store : Store D g) (found : List Record) : Type 0 where
+    pub settled : IsSettled seen may_leave store.journal (bodies_of found)
+    pub are : AreRecords found
+    pub version : version_of found ≡ Some (current (is_blank store))
+    pub state : plain_of store ≡ state_after found
+    pub blank : is_blank store ≡ are_none found
+    pub place : place_of store ≡ length (records (bodies_of found))
     pub works : must_load store ≡ false
 
-  -- it holds the ops that these bytes are a journal of
+  -- it holds the records that these bytes are a journal of, and a mark behind those of the first version
   pub record IsOpened (store : Store D g) (bytes : List ℕ) : Type 0 where
-    pub ops : List Op
-    pub journal : IsJournalOf ops bytes
-    pub holds : Holds store ops
+    pub found : List Record
+    pub journal : IsJournalOf found bytes
+    pub holds : Holds store (marked found)

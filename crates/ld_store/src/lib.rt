@@ -8,7 +8,8 @@ mod store;
 
 pub use fault::StoreFault;
 pub use law::{
-    bytes_stand_for_one_state, durable_ops_are_safe, picture_decides_the_state, places_are_lengths,
+    bytes_stand_for_one_state, durable_records_are_safe, marks_change_no_state,
+    picture_decides_the_state, places_are_lengths,
 };
 pub use store::Store;
 

@@ -1,89 +1,111 @@
-// How a journal's ops are replayed.
-ghost use Rattle.std.specs.Prelude.{◌≡◌, ◌≢◌, ◌⊎◌, ◌↔◌, ◌≤◌, ◌<◌, ◌++◌, ◌∷◌, [], List, ℕ, length, IfOk, IfErr, OnOk, OnErr, IfSome, IsErrOf, Ok, Err, Some, true, false};
+// How a journal's records are replayed, and a journal of the first version marked.
+ghost use Rattle.std.specs.Prelude.{◌≡◌, ◌≢◌, ◌⊎◌, ◌↔◌, ◌≤◌, ◌<◌, ◌+◌, ◌^◌, ◌++◌, ◌∷◌, [], List, ℕ, length, IfOk, IfErr, OnOk, OnErr, IfSome, IsErrOf, Ok, Err, Some, None, is_ok, true, false};
 ghost use Rattle.ld_io.specs.Causes.{Rose};
-ghost use Rattle.ld_disk.specs.Moments.{Unchanged};
-ghost use Rattle.ld_disk.specs.Plain.{Plain as DiskPlain, reads_fine};
+ghost use Rattle.ld_disk.specs.Moments.{LeavesOnly, Unchanged};
+ghost use Rattle.ld_disk.specs.Plain.{Plain as DiskPlain, reads_fine, after_calls, all_succeed};
+ghost use Rattle.ld_journal.specs.Format.{IsWithOrWithout, append_calls};
 ghost use Rattle.ld_journal.specs.Open.{IsSettled, HasGiven, disk_of, place_of, length_of, has_ended, must_load};
-ghost use Rattle.ld_op.specs.declared.op.Op.{Op as Kind};
+ghost use Rattle.ld_op.specs.declared.record.Record.{Record as Kind};
+ghost use Rattle.ld_op.specs.declared.version.Version.{Version as Stage};
 ghost use Rattle.ld_op.specs.Plain.{apply, unformatted};
-ghost use Rattle.ld_op.specs.Bounds.{IsOp};
-ghost use Rattle.ld_op.specs.Bytes.{op_bytes};
-ghost use Rattle.ld_store.specs.Ops.{is_format, bodies_of, state_after, are_none, AreOps, IsDamaged};
+ghost use Rattle.ld_op.specs.Records.{applied, version_after};
+ghost use Rattle.ld_op.specs.Bounds.{IsOp, IsRecord};
+ghost use Rattle.ld_op.specs.Bytes.{record_bytes};
+ghost use Rattle.ld_store.specs.Ops.{IsOfFirst, HasNoRoom, IsDamaged};
+ghost use Rattle.ld_store.specs.Loads.{LeftOrMarked, Marks, refused_by};
 ghost use Rattle.ld_store.specs.Well.{IsWell};
-ghost use Rattle.ld_store.specs.Replayed.{HasReplayed, IsReplayed};
+ghost use Rattle.ld_store.specs.Replayed.{HasReplayed, IsReplayed, IsMarked};
 
 use crate::StoreFault;
 use ld_disk::Disk;
+use ld_ids::NoMemory;
 use ld_journal::Journal;
-use ld_op::{Op, OpFault, Plain};
+use ld_op::{Op, OpFault, Plain, Record, Version};
 use std::alloc::Global;
 
-/// Whether an op is a format.
-fn is_format(op: &Op) -> bool
-    ensures { result ≡ is_format op.now }
-{
-    matches!(op, Op::Format { .. })
-}
-
-/// The op of the record at a place, behind some ops or none.
-pub(crate) fn read_op(alloc: Global, body: &[u8], blank: bool, at: u64) -> Result<Op, StoreFault>
-    ensures op { IfOk result (λ op. (body.now ≡ op_bytes op) × IsOp op × (is_format op ≡ blank)) }
+/// The record at a place of a journal of some version so far, and the version with it.
+pub(crate) fn read_record(
+    alloc: Global,
+    body: &[u8],
+    version: Version,
+    at: u64,
+) -> Result<(Record, Version), StoreFault>
+    ensures found { IfOk result (λ p. (body.now ≡ record_bytes p.0) × IsRecord p.0 × (version_after version p.0 ≡ Some p.1)) }
     ensures refused { IfErr result (λ fault. (fault ≡ StoreFault.NoMemory)
-        ⊎ ((fault ≡ StoreFault.Damaged at) × ((op : Kind) → IsOp op → is_format op ≡ blank → body.now ≢ op_bytes op))) }
+        ⊎ ((fault ≡ StoreFault.Damaged at) × ((v : Kind) (w : Stage) → IsRecord v → version_after version v ≡ Some w → body.now ≢ record_bytes v))) }
 {
-    match Op::decode(alloc, body) {
-        Ok(op) => {
-            if is_format(&op) != blank {
-                return Err(StoreFault::Damaged(at));
-            }
-            Ok(op)
-        }
+    match Record::decode(alloc, body) {
+        Ok(found) => match version.after(&found) {
+            Some(next) => Ok((found, next)),
+            None => Err(StoreFault::Damaged(at)),
+        },
         Err(OpFault::Bad(_)) => Err(StoreFault::Damaged(at)),
         Err(OpFault::NoMemory) => Err(StoreFault::NoMemory),
     }
 }
 
-/// Applies the op of the record at a place.
+/// Applies an op.
 #[tactic(auto, using(crate::proofs::Formats::op_rises))]
-pub(crate) fn replay_body(
-    alloc: Global,
-    plain: &mut Plain,
-    body: &[u8],
-    blank: bool,
-    at: u64,
-) -> Result<(), StoreFault>
-    requires well { IsWell plain.old.state }
-    ensures applied { OnOk result ((op : Kind) × (body.now ≡ op_bytes op) × IsOp op × (is_format op ≡ blank) × (plain.new.state ≡ apply plain.old.state op)) }
-    ensures refused { IfErr result (λ fault. (fault ≡ StoreFault.NoMemory)
-        ⊎ ((fault ≡ StoreFault.Damaged at) × ((op : Kind) → IsOp op → is_format op ≡ blank → body.now ≢ op_bytes op))) }
-    ensures well { OnOk result (IsWell plain.new.state) }
+fn apply_op(alloc: Global, plain: &mut Plain, op: Op) -> Result<(), NoMemory>
+    requires { IsOp op }
+    ensures { OnOk result (plain.new.state ≡ apply plain.old.state op) }
 {
-    let op = read_op(alloc, body, blank, at)?;
     plain.room(alloc, &op)?;
     plain.apply(op);
     Ok(())
 }
 
-/// Replays the next record, and says whether there was one.
+/// Does what a record makes of the plain state.
+fn apply_record(alloc: Global, plain: &mut Plain, found: Record) -> Result<(), NoMemory>
+    requires { IsRecord found }
+    ensures { OnOk result (plain.new.state ≡ applied plain.old.state found) }
+{
+    match found {
+        Record::Now(op) => apply_op(alloc, plain, op),
+        Record::Before(op) => apply_op(alloc, plain, op),
+        Record::Mark => Ok(()),
+    }
+}
+
+/// Does what the record at a place makes of the plain state, and gives the version with it.
+pub(crate) fn replay_body(
+    alloc: Global,
+    plain: &mut Plain,
+    body: &[u8],
+    version: Version,
+    at: u64,
+) -> Result<Version, StoreFault>
+    requires well { IsWell plain.old.state }
+    ensures applied { IfOk result (λ next. (v : Kind) × (body.now ≡ record_bytes v) × IsRecord v × (version_after version v ≡ Some next) × (plain.new.state ≡ applied plain.old.state v)) }
+    ensures refused { IfErr result (λ fault. (fault ≡ StoreFault.NoMemory)
+        ⊎ ((fault ≡ StoreFault.Damaged at) × ((v : Kind) (w : Stage) → IsRecord v → version_after version v ≡ Some w → body.now ≢ record_bytes v))) }
+    ensures well { OnOk result (IsWell plain.new.state) }
+{
+    let (found, next) = read_record(alloc, body, version, at)?;
+    apply_record(alloc, plain, found)?;
+    Ok(next)
+}
+
+/// Replays the next record, and gives the version with it; None where there was none.
 pub(crate) fn replay_next<D: Disk>(
     alloc: Global,
     journal: &mut Journal<D>,
     plain: &mut Plain,
     body: &mut Vec<u8>,
-    blank: bool,
-) -> Result<bool, StoreFault>
+    version: Version,
+) -> Result<Option<Version>, StoreFault>
     requires works { must_load journal.old ≡ false }
     requires well { IsWell plain.old.state }
-    ensures more { result ≡ Ok true → (bytes : List ℕ) → HasReplayed D.seen D.may_leave journal.old bytes plain.old.state blank
-        → HasReplayed D.seen D.may_leave journal.new bytes plain.new.state false }
-    ensures all { result ≡ Ok false → (bytes : List ℕ) → HasReplayed D.seen D.may_leave journal.old bytes plain.old.state blank
-        → IsReplayed D.seen D.may_leave journal.new bytes plain.new.state blank }
+    ensures more { (next : Stage) → result ≡ Ok (Some next) → (bytes : List ℕ) → HasReplayed D.seen D.may_leave journal.old bytes plain.old.state version
+        → HasReplayed D.seen D.may_leave journal.new bytes plain.new.state next }
+    ensures all { result ≡ Ok None → (bytes : List ℕ) → HasReplayed D.seen D.may_leave journal.old bytes plain.old.state version
+        → IsReplayed D.seen D.may_leave journal.new bytes plain.new.state version }
     ensures damaged { (place : ℕ) → IsErrOf result (StoreFault.Damaged place) → (bytes : List ℕ)
-        → HasReplayed D.seen D.may_leave journal.old bytes plain.old.state blank → IsDamaged place bytes }
+        → HasReplayed D.seen D.may_leave journal.old bytes plain.old.state version → IsDamaged place bytes }
     ensures exact { (p : DiskPlain) → D.plain (disk_of journal.old) ≡ Some p → reads_fine p ≡ true
         → (D.plain (disk_of journal.new) ≡ Some p) × (result ≢ Err StoreFault.Disk) }
-    ensures ended { result ≡ Ok false → has_ended journal.new ≡ true }
-    ensures advances { result ≡ Ok true → (place_of journal.old < place_of journal.new) × (place_of journal.new < length_of journal.new) }
+    ensures ended { result ≡ Ok None → has_ended journal.new ≡ true }
+    ensures advances { (next : Stage) → result ≡ Ok (Some next) → (place_of journal.old < place_of journal.new) × (place_of journal.new < length_of journal.new) }
     ensures len { length_of journal.new ≡ length_of journal.old }
     ensures same { Unchanged D.seen D.may_leave D.moment D.left_since (disk_of journal.old) (disk_of journal.new) }
     ensures itself { D.identity (disk_of journal.new) ≡ D.identity (disk_of journal.old) }
@@ -98,23 +120,23 @@ pub(crate) fn replay_next<D: Disk>(
     let at = journal.place();
     let more = journal.next_body(body)?;
     if !more {
-        return Ok(false);
+        return Ok(None);
     }
-    replay_body(alloc, plain, body, blank, at)?;
-    Ok(true)
+    let next = replay_body(alloc, plain, body, version, at)?;
+    Ok(Some(next))
 }
 
-/// Replays the records of a journal of which none was given yet, and says whether there is none.
+/// Replays the records of a journal of which none was given yet, and gives its version.
 pub(crate) fn replay<D: Disk>(
     alloc: Global,
     journal: &mut Journal<D>,
     plain: &mut Plain,
-) -> Result<bool, StoreFault>
+) -> Result<Version, StoreFault>
     requires works { must_load journal.old ≡ false }
     requires well { IsWell plain.old.state }
     requires new { plain.old.state ≡ unformatted }
-    ensures opened { IfOk result (λ blank. (bytes : List ℕ) → HasGiven D.seen D.may_leave journal.old [] bytes
-        → IsReplayed D.seen D.may_leave journal.new bytes plain.new.state blank) }
+    ensures opened { IfOk result (λ version. (bytes : List ℕ) → HasGiven D.seen D.may_leave journal.old [] bytes
+        → IsReplayed D.seen D.may_leave journal.new bytes plain.new.state version) }
     ensures damaged { (place : ℕ) → IsErrOf result (StoreFault.Damaged place) → (bytes : List ℕ)
         → HasGiven D.seen D.may_leave journal.old [] bytes → IsDamaged place bytes }
     ensures exact { (p : DiskPlain) → D.plain (disk_of journal.old) ≡ Some p → reads_fine p ≡ true
@@ -131,9 +153,84 @@ pub(crate) fn replay<D: Disk>(
     ensures well { OnOk result (IsWell plain.new.state) }
 {
     let mut body = Vec::new(alloc);
-    let mut blank = true;
-    'records: while replay_next(alloc, journal, plain, &mut body, blank)? {
-        blank = false;
+    let mut version = Version::Blank;
+    'records: while let Some(next) = replay_next(alloc, journal, plain, &mut body, version)? {
+        version = next;
     }
-    Ok(blank)
+    Ok(version)
+}
+
+/// Marks a journal of which all records were given, as one more record.
+pub(crate) fn mark<D: Disk>(alloc: Global, journal: &mut Journal<D>) -> Result<(), StoreFault>
+    requires works { must_load journal.old ≡ false }
+    requires ended { has_ended journal.old ≡ true }
+    ensures marks { (bodies : List (List ℕ)) → IsSettled D.seen D.may_leave journal.old bodies
+        → OnOk result (IsSettled D.seen D.may_leave journal.new (bodies ++ record_bytes Record.Mark ∷ [])) }
+    ensures any_moment { (bodies : List (List ℕ)) → IsSettled D.seen D.may_leave journal.old bodies
+        → LeavesOnly D.moment D.left_since (disk_of journal.old) (disk_of journal.new) (IsWithOrWithout bodies (record_bytes Record.Mark)) }
+    ensures exact { (p : DiskPlain) → D.plain (disk_of journal.old) ≡ Some p → (result ≡ Ok tt ⊎ IsErrOf result StoreFault.Disk)
+        → (D.plain (disk_of journal.new) ≡ Some (after_calls (append_calls (place_of journal.old) (record_bytes Record.Mark)) p)) × (is_ok result ≡ all_succeed (append_calls (place_of journal.old) (record_bytes Record.Mark)) p) }
+    ensures full { IsErrOf result StoreFault.Full ↔ (2 ^ 40 < place_of journal.old + 8) }
+    ensures stays { OnErr result (IsErrOf result StoreFault.Disk ⊎ Unchanged D.seen D.may_leave D.moment D.left_since (disk_of journal.old) (disk_of journal.new)) }
+    ensures keeps { OnErr result (IsErrOf result StoreFault.Disk ⊎ (D.plain (disk_of journal.new) ≡ D.plain (disk_of journal.old))) }
+    ensures ended { has_ended journal.new ≡ true }
+    ensures works { OnOk result (must_load journal.new ≡ false) }
+    ensures itself { D.identity (disk_of journal.new) ≡ D.identity (disk_of journal.old) }
+    ensures counts { D.faults (disk_of journal.old) ≤ D.faults (disk_of journal.new) }
+    ensures steady { IsErrOf result StoreFault.Disk ⊎ (D.faults (disk_of journal.new) ≡ D.faults (disk_of journal.old)) }
+    ensures failed { IsErrOf result StoreFault.Disk → Rose (D.faults (disk_of journal.old)) (D.faults (disk_of journal.new)) }
+    ensures damaged { (place : ℕ) → result ≢ Err (StoreFault.Damaged place) }
+    ensures needs_load { result ≢ Err StoreFault.NeedsLoad }
+{
+    let body = Record::mark_bytes();
+    match journal.append(alloc, &body) {
+        Ok(()) => Ok(()),
+        Err(fault) => Err(StoreFault::from(fault)),
+    }
+}
+
+/// Replays the records of a journal of which none was given yet, marks it where it is of the first version, and says
+/// whether there is none.
+pub(crate) fn open<D: Disk>(
+    alloc: Global,
+    journal: &mut Journal<D>,
+    plain: &mut Plain,
+) -> Result<bool, StoreFault>
+    requires works { must_load journal.old ≡ false }
+    requires well { IsWell plain.old.state }
+    requires new { plain.old.state ≡ unformatted }
+    ensures opened { IfOk result (λ blank. (bytes : List ℕ) → HasGiven D.seen D.may_leave journal.old [] bytes
+        → IsMarked D.seen D.may_leave journal.new bytes plain.new.state blank) }
+    ensures damaged { (place : ℕ) → IsErrOf result (StoreFault.Damaged place) → (bytes : List ℕ)
+        → HasGiven D.seen D.may_leave journal.old [] bytes → IsDamaged place bytes }
+
+    // A crash at any moment leaves what a crash before the call might have left, or the journal with a mark or without.
+    ensures any_moment { (bytes : List ℕ) → HasGiven D.seen D.may_leave journal.old [] bytes
+        → LeavesOnly D.moment D.left_since (disk_of journal.old) (disk_of journal.new) (LeftOrMarked (D.may_leave (disk_of journal.old)) bytes) }
+
+    // Without a mark it makes no writing call.
+    ensures exact { (p : DiskPlain) → D.plain (disk_of journal.old) ≡ Some p → reads_fine p ≡ true → HasGiven D.seen D.may_leave journal.old [] p.state.bytes
+        → ¬ IsOfFirst p.state.bytes → (D.plain (disk_of journal.new) ≡ Some p) × (result ≢ Err StoreFault.Disk) }
+    ensures marks { (p : DiskPlain) (was : IsOfFirst p.state.bytes) → D.plain (disk_of journal.old) ≡ Some p → reads_fine p ≡ true
+        → HasGiven D.seen D.may_leave journal.old [] p.state.bytes → Marks was.found p (D.plain (disk_of journal.new)) (refused_by result) }
+
+    ensures full { IsErrOf result StoreFault.Full → (bytes : List ℕ) → HasGiven D.seen D.may_leave journal.old [] bytes → HasNoRoom bytes }
+    ensures too_long { OnOk result ((bytes : List ℕ) → HasGiven D.seen D.may_leave journal.old [] bytes → ¬ HasNoRoom bytes) }
+    ensures same { IsErrOf result StoreFault.Disk ⊎ Unchanged D.seen D.may_leave D.moment D.left_since (disk_of journal.old) (disk_of journal.new)
+        ⊎ ((is_ok result ≡ true) × ((bytes : List ℕ) → HasGiven D.seen D.may_leave journal.old [] bytes → IsOfFirst bytes)) }
+    ensures ended { OnOk result (has_ended journal.new ≡ true) }
+    ensures itself { D.identity (disk_of journal.new) ≡ D.identity (disk_of journal.old) }
+    ensures counts { D.faults (disk_of journal.old) ≤ D.faults (disk_of journal.new) }
+    ensures steady { IsErrOf result StoreFault.Disk ⊎ (D.faults (disk_of journal.new) ≡ D.faults (disk_of journal.old)) }
+    ensures failed { IsErrOf result StoreFault.Disk → Rose (D.faults (disk_of journal.old)) (D.faults (disk_of journal.new)) }
+    ensures works { OnOk result (must_load journal.new ≡ false) }
+    ensures needs_load { result ≢ Err StoreFault.NeedsLoad }
+    ensures well { OnOk result (IsWell plain.new.state) }
+{
+    let version = replay(alloc, journal, plain)?;
+    if !version.is_first() {
+        return Ok(version.is_blank());
+    }
+    mark(alloc, journal)?;
+    Ok(false)
 }

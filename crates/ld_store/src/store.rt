@@ -4,14 +4,15 @@ ghost use Rattle.ld_journal.specs.Open.{has_ended, must_load as journal_must_loa
 ghost use Rattle.ld_store.specs.Well.{IsWell, IsWell-prop};
 
 use crate::StoreFault;
-use crate::replay::replay;
+use crate::replay::open;
 use ld_disk::{Disk, Fault};
 use ld_journal::{Journal, JournalFault};
 use ld_op::{Epochs, Op, Plain};
 use std::alloc::Global;
 
-/// A node's plain state, and the disk that its ops are kept on. The state's numbers are what a journal's body can carry;
-/// its entries rise, each is one and stands under its number, and each summary is one of the epoch that it stands under.
+/// A node's plain state, and the disk that its ops are kept on, in a journal of the second version. The state's numbers
+/// are what a journal's body can carry; its entries rise, each is one and stands under its number, and each summary is
+/// one of the epoch that it stands under.
 #[derive(Drop)]
 pub struct Store<D: Disk> {
     journal: Journal<D>,
@@ -31,19 +32,24 @@ impl<D: Disk> Store<D> {
     ghost use Rattle.ld_disk.specs.Moments.{LeavesOnly, Unchanged};
     ghost use Rattle.ld_disk.specs.Plain.{Plain as DiskPlain, after_call, succeeds, after_calls, all_succeed, reads_fine, armed_with};
     ghost use Rattle.ld_journal.specs.Format.{append_calls};
-    ghost use Rattle.ld_op.specs.declared.op.Op.{Op as Kind};
+    ghost use Rattle.ld_op.specs.declared.record.Record.{Record as Kind};
+    ghost use Rattle.ld_op.specs.declared.record.Record.TheVariants.{Now};
     ghost use Rattle.ld_op.specs.declared.op.Op.TheVariants as kinds;
     ghost use Rattle.ld_op.specs.Plain.{apply, op_length};
     ghost use Rattle.ld_op.specs.Bounds.{IsOp};
     ghost use Rattle.ld_op.specs.Bytes.{op_bytes};
-    ghost use Rattle.ld_store.specs.Ops.{is_format, StandsFor, StandsForEither, IsDamaged};
+    ghost use Rattle.ld_store.specs.Ops.{is_format, StandsFor, StandsForEither, IsOfFirst, HasNoRoom, IsDamaged};
+    ghost use Rattle.ld_store.specs.Loads.{LeftOrMarked, Loads};
     ghost use Rattle.ld_store.specs.Open.{disk_of, place_of, must_load, is_blank, plain_of, Holds, IsOpened};
 
-    /// Opens the store on a disk, in one writing call, and replays its ops in one walk.
+    /// Opens the store on a disk, in one writing call, and replays its records in one walk. A journal of the first
+    /// version is then marked as one of the second, in four writing calls more; that leaves the plain state as it is.
     ///
     /// A refusal hands the disk back: `Disk` where a call of it failed, `Damaged(place)` where the record whose gate
-    /// is at that place is cut short, or its body is no op that may stand there (the first is a format, and no other
-    /// is), or the disk has no byte at all, and `NoMemory`.
+    /// is at that place is cut short, or its body is none that may stand there (the first is a format, and no other
+    /// is; a mark stands in a journal of the first version only, and once; of the ops that the versions write in two
+    /// ways each stands in its own), or the disk has no byte at all, `Full` where a mark would make the journal longer
+    /// than 2^40 bytes, and `NoMemory`.
     pub fn load(alloc: Global, disk: D) -> Result<Store<D>, (D, StoreFault)>
         ensures opens { IfOk result (λ store. IfSome (D.seen disk) (IsOpened D.seen D.may_leave store)) }
         ensures works { IfOk result (λ store. must_load store ≡ false) }
@@ -51,21 +57,30 @@ impl<D: Disk> Store<D> {
         ensures counts { MatchResult result (λ store. D.faults disk ≤ D.faults (disk_of store)) (λ e. D.faults disk ≤ D.faults e.0) }
         ensures steady { MatchResult result (λ store. D.faults (disk_of store) ≡ D.faults disk) (λ e. (e.1 ≡ StoreFault.Disk) ⊎ (D.faults e.0 ≡ D.faults disk)) }
 
-        // A crash at any moment leaves what a crash before the call might have left.
-        ensures any_moment { MatchResult result (λ store. LeavesOnly D.moment D.left_since disk (disk_of store) (D.may_leave disk))
-            (λ e. LeavesOnly D.moment D.left_since disk e.0 (D.may_leave disk)) }
+        // A crash at any moment leaves what a crash before the call might have left, or the journal of the first
+        // version with a mark or without it.
+        ensures any_moment { IfSome (D.seen disk) (λ bytes. MatchResult result (λ store. LeavesOnly D.moment D.left_since disk (disk_of store) (LeftOrMarked (D.may_leave disk) bytes))
+            (λ e. LeavesOnly D.moment D.left_since disk e.0 (LeftOrMarked (D.may_leave disk) bytes))) }
 
-        // Where the disk tells what each call will do, and no read of it fails, it is one writing call.
-        ensures exact { (p : DiskPlain) → D.plain disk ≡ Some p → reads_fine p ≡ true
+        // Where the disk tells what each call will do, no read of it fails, and it has no journal of the first version,
+        // it is one writing call.
+        ensures exact { (p : DiskPlain) → D.plain disk ≡ Some p → reads_fine p ≡ true → ¬ IsOfFirst p.state.bytes
             → MatchResult result (λ store. (D.plain (disk_of store) ≡ Some (after_call None p)) × (succeeds p ≡ true))
             (λ e. ((e.1 ≡ StoreFault.NoMemory) × ((D.plain e.0 ≡ Some p) ⊎ (D.plain e.0 ≡ Some (after_call None p)))) ⊎ ((D.plain e.0 ≡ Some (after_call None p)) × ((e.1 ≡ StoreFault.Disk) ↔ (succeeds p ≡ false)))) }
 
-        ensures seen { MatchResult result (λ store. D.seen (disk_of store) ≡ D.seen disk) (λ e. (e.1 ≡ StoreFault.Disk) ⊎ (D.seen e.0 ≡ D.seen disk)) }
+        // Where it has one, it is five.
+        ensures marks { (p : DiskPlain) (was : IsOfFirst p.state.bytes) → D.plain disk ≡ Some p → reads_fine p ≡ true
+            → MatchResult result (λ store. Loads was.found p (D.plain (disk_of store)) None) (λ e. Loads was.found p (D.plain e.0) (Some e.1)) }
+
+        ensures seen { MatchResult result (λ store. (D.seen (disk_of store) ≡ D.seen disk) ⊎ IfSome (D.seen disk) IsOfFirst) (λ e. (e.1 ≡ StoreFault.Disk) ⊎ (D.seen e.0 ≡ D.seen disk)) }
         ensures failed { IfErr result (λ e. e.1 ≡ StoreFault.Disk → Rose (D.faults disk) (D.faults e.0)) }
         ensures damaged { IfErr result (λ e. (place : ℕ) → e.1 ≡ StoreFault.Damaged place → IfSome (D.seen disk) (IsDamaged place)) }
         ensures honest { IfErr result (λ e. IsHonest (D.seen disk) → ((c : List ℕ) → D.may_leave disk c → (state : _) × StandsFor state c)
             → (place : ℕ) → e.1 ≢ StoreFault.Damaged place) }
-        ensures full { IfErr result (λ e. e.1 ≢ StoreFault.Full) }
+
+        // It is full exactly where a mark has no room.
+        ensures full { IfErr result (λ e. e.1 ≡ StoreFault.Full → IfSome (D.seen disk) HasNoRoom) }
+        ensures too_long { IfOk result (λ _. IfSome (D.seen disk) (λ bytes. ¬ HasNoRoom bytes)) }
         ensures needs_load { IfErr result (λ e. e.1 ≢ StoreFault.NeedsLoad) }
     {
         let mut journal = match Journal::load(disk) {
@@ -73,7 +88,7 @@ impl<D: Disk> Store<D> {
             Err((disk, fault)) => return Err((disk, StoreFault::from(fault))),
         };
         let mut plain = Plain::new(alloc);
-        match replay(alloc, &mut journal, &mut plain) {
+        match open(alloc, &mut journal, &mut plain) {
             Ok(blank) => Ok(Store {
                 journal,
                 plain,
@@ -84,7 +99,7 @@ impl<D: Disk> Store<D> {
         }
     }
 
-    /// Whether no op stands in the journal.
+    /// Whether no record stands in the journal.
     pub fn is_blank(&self) -> bool
         ensures { result ≡ is_blank self.now }
     {
@@ -135,13 +150,13 @@ impl<D: Disk> Store<D> {
         requires op { IsOp op }
         requires format { is_format op ≡ is_blank self.old }
 
-        ensures acknowledged { (ops : List Kind) → Holds D.seen D.may_leave self.old ops
-            → OnOk result (Holds D.seen D.may_leave self.new (ops ++ op ∷ [])) }
-        ensures images { (ops : List Kind) → Holds D.seen D.may_leave self.old ops
+        ensures acknowledged { (found : List Kind) → Holds D.seen D.may_leave self.old found
+            → OnOk result (Holds D.seen D.may_leave self.new (found ++ Now op ∷ [])) }
+        ensures images { (found : List Kind) → Holds D.seen D.may_leave self.old found
             → OnOk result ((c : List ℕ) → D.may_leave (disk_of self.new) c → StandsFor (plain_of self.new) c) }
 
         // A crash at any moment of the call leaves what stands for the plain state before it or for that with the op.
-        ensures any_moment { (ops : List Kind) → Holds D.seen D.may_leave self.old ops
+        ensures any_moment { (found : List Kind) → Holds D.seen D.may_leave self.old found
             → LeavesOnly D.moment D.left_since (disk_of self.old) (disk_of self.new) (StandsForEither (plain_of self.old) (apply (plain_of self.old) op)) }
 
         ensures applied { OnOk result ((plain_of self.new ≡ apply (plain_of self.old) op) × (is_blank self.new ≡ false)) }
@@ -165,8 +180,8 @@ impl<D: Disk> Store<D> {
         // Another refusal than `Disk` changes nothing.
         ensures stays { OnErr result (IsErrOf result StoreFault.Disk ⊎ Unchanged D.seen D.may_leave D.moment D.left_since (disk_of self.old) (disk_of self.new)) }
         ensures keeps { OnErr result (IsErrOf result StoreFault.Disk ⊎ ((D.plain (disk_of self.new) ≡ D.plain (disk_of self.old)) × (place_of self.new ≡ place_of self.old))) }
-        ensures holds { (ops : List Kind) → Holds D.seen D.may_leave self.old ops
-            → OnErr result (IsErrOf result StoreFault.Disk ⊎ Holds D.seen D.may_leave self.new ops) }
+        ensures holds { (found : List Kind) → Holds D.seen D.may_leave self.old found
+            → OnErr result (IsErrOf result StoreFault.Disk ⊎ Holds D.seen D.may_leave self.new found) }
     {
         if self.failed {
             return Err(StoreFault::NeedsLoad);
@@ -199,13 +214,13 @@ impl<D: Disk> Store<D> {
         requires blank { is_blank self.old ≡ true }
         requires op { IsOp (kinds.Format generation epochs) }
 
-        ensures acknowledged { (ops : List Kind) → Holds D.seen D.may_leave self.old ops
-            → OnOk result (Holds D.seen D.may_leave self.new (ops ++ kinds.Format generation epochs ∷ [])) }
-        ensures images { (ops : List Kind) → Holds D.seen D.may_leave self.old ops
+        ensures acknowledged { (found : List Kind) → Holds D.seen D.may_leave self.old found
+            → OnOk result (Holds D.seen D.may_leave self.new (found ++ Now (kinds.Format generation epochs) ∷ [])) }
+        ensures images { (found : List Kind) → Holds D.seen D.may_leave self.old found
             → OnOk result ((c : List ℕ) → D.may_leave (disk_of self.new) c → StandsFor (plain_of self.new) c) }
 
         // A crash at any moment of the call leaves what stands for the plain state before it or for that with the op.
-        ensures any_moment { (ops : List Kind) → Holds D.seen D.may_leave self.old ops
+        ensures any_moment { (found : List Kind) → Holds D.seen D.may_leave self.old found
             → LeavesOnly D.moment D.left_since (disk_of self.old) (disk_of self.new) (StandsForEither (plain_of self.old) (apply (plain_of self.old) (kinds.Format generation epochs))) }
 
         ensures applied { OnOk result ((plain_of self.new ≡ apply (plain_of self.old) (kinds.Format generation epochs)) × (is_blank self.new ≡ false)) }
@@ -229,8 +244,8 @@ impl<D: Disk> Store<D> {
         // Another refusal than `Disk` changes nothing.
         ensures stays { OnErr result (IsErrOf result StoreFault.Disk ⊎ Unchanged D.seen D.may_leave D.moment D.left_since (disk_of self.old) (disk_of self.new)) }
         ensures keeps { OnErr result (IsErrOf result StoreFault.Disk ⊎ ((D.plain (disk_of self.new) ≡ D.plain (disk_of self.old)) × (place_of self.new ≡ place_of self.old))) }
-        ensures holds { (ops : List Kind) → Holds D.seen D.may_leave self.old ops
-            → OnErr result (IsErrOf result StoreFault.Disk ⊎ Holds D.seen D.may_leave self.new ops) }
+        ensures holds { (found : List Kind) → Holds D.seen D.may_leave self.old found
+            → OnErr result (IsErrOf result StoreFault.Disk ⊎ Holds D.seen D.may_leave self.new found) }
     {
         self.apply(alloc, Op::Format { generation, epochs })
     }

@@ -141,6 +141,7 @@ fn change(alloc: Global, log: LogId, kind: u64) -> Result<Op, NoMemory>
                 lng: 0,
                 trim: Lsn::from_u64(0),
                 end: 1,
+                loss: true,
             },
         }),
         5 => Ok(Op::Trim {
@@ -240,9 +241,119 @@ fn each_op_is_there_or_is_not(rt: HostRuntime) -> Result<(), Fail> {
 #[test]
 fn a_format_is_one_record(rt: HostRuntime) -> Result<(), Fail> {
     let mut disk = formatted(rt.alloc())?.into_disk();
-    let mut bytes = [9; 13];
-    assert_eq!(rt; disk.read(0, &mut bytes)?, 12);
-    assert_eq!(rt; bytes, [1, 0, 0, 0, 6, 1, 0, 0, 0, 1, 0, 0, 9]);
+    let mut bytes = [9; 14];
+    assert_eq!(rt; disk.read(0, &mut bytes)?, 13);
+    assert_eq!(rt; bytes, [1, 0, 0, 0, 7, 10, 2, 0, 0, 0, 1, 0, 0, 9]);
+    Ok(())
+}
+
+// A store of the first version: its format under generation 1.
+const OLDER: &[u8] = &[1, 0, 0, 0, 6, 1, 0, 0, 0, 1, 0, 0];
+// The same with a mark.
+const MARKED: &[u8] = &[1, 0, 0, 0, 6, 1, 0, 0, 0, 1, 0, 1, 0, 0, 0, 2, 11, 2, 0];
+
+/// A disk that holds the bytes.
+fn disk_with(alloc: Global, bytes: &[u8]) -> Result<MemDisk, Fail> {
+    let mut disk = new_disk(alloc)?;
+    disk.reserve(bytes.len() as u64, 2)?;
+    disk.write_at(0, bytes)?;
+    disk.sync()?;
+    Ok(disk)
+}
+
+/// Whether a disk holds the bytes.
+fn holds(disk: &mut MemDisk, bytes: &[u8]) -> Result<bool, Fail> {
+    let mut read = [9; 64];
+    let count = disk.read(0, &mut read)?;
+    Ok(&read[..count] == bytes)
+}
+
+/// Whether a load of a disk that holds the bytes is a store of generation 1, and leaves the others on it.
+fn leaves(alloc: Global, before: &[u8], after: &[u8]) -> Result<bool, Fail> {
+    let store = loaded(alloc, disk_with(alloc, before)?)?;
+    let is_formatted = store.plain().generation() == 1;
+    let mut disk = store.into_disk();
+    let same = holds(&mut disk, after)?;
+    Ok(is_formatted && same)
+}
+
+#[test]
+fn a_journal_of_the_first_version_is_marked_once(rt: HostRuntime) -> Result<(), Fail> {
+    let alloc = rt.alloc();
+    assert!(rt; leaves(alloc, OLDER, MARKED)?);
+    assert!(rt; leaves(alloc, MARKED, MARKED)?);
+    Ok(())
+}
+
+/// Whether a store of the first version is marked by a load after one that a crash in its k-th writing call cut short.
+fn is_marked_after(alloc: Global, k: u64, picture: Picture) -> Result<bool, Fail> {
+    let mut disk = disk_with(alloc, OLDER)?;
+    disk.arm(Fault::CrashAt(k, picture));
+    let mut disk = match Store::load(alloc, disk) {
+        Ok(store) => store.into_disk(),
+        Err((disk, _)) => disk,
+    };
+    disk.restart();
+    let store = loaded(alloc, disk)?;
+    let is_formatted = store.plain().generation() == 1;
+    let mut disk = store.into_disk();
+    let same = holds(&mut disk, MARKED)?;
+    Ok(is_formatted && same)
+}
+
+#[test]
+fn a_mark_that_is_cut_short_comes_with_the_next_load(rt: HostRuntime) -> Result<(), Fail> {
+    // A sync, the four calls of the mark, and the sync of the next load: the seventh doesn't come.
+    for k in [1, 2, 3, 4, 5, 7] {
+        for picture in PICTURES {
+            assert!(rt; is_marked_after(rt.alloc(), k, picture)?);
+        }
+    }
+    Ok(())
+}
+
+/// The fault of a load of a disk that holds the bytes.
+fn fault_of(alloc: Global, bytes: &[u8]) -> Result<Option<StoreFault>, Fail> {
+    let disk = disk_with(alloc, bytes)?;
+    Ok(loaded(alloc, disk).err())
+}
+
+#[test]
+fn records_out_of_place_are_damage(rt: HostRuntime) -> Result<(), Fail> {
+    let alloc = rt.alloc();
+    // A mark alone.
+    assert_eq!(rt;
+        fault_of(alloc, &[1, 0, 0, 0, 2, 11, 2, 0])?,
+        Some(StoreFault::Damaged(0))
+    );
+    // A second mark.
+    assert_eq!(rt;
+        fault_of(
+            alloc,
+            &[
+                1, 0, 0, 0, 6, 1, 0, 0, 0, 1, 0, 1, 0, 0, 0, 2, 11, 2, 1, 0, 0, 0, 2, 11, 2, 0
+            ]
+        )?,
+        Some(StoreFault::Damaged(18))
+    );
+    // A mark in a journal of the second version.
+    assert_eq!(rt;
+        fault_of(
+            alloc,
+            &[1, 0, 0, 0, 7, 10, 2, 0, 0, 0, 1, 0, 1, 0, 0, 0, 2, 11, 2, 0]
+        )?,
+        Some(StoreFault::Damaged(12))
+    );
+    // A format of the second version in a journal of the first.
+    assert_eq!(rt;
+        fault_of(
+            alloc,
+            &[
+                1, 0, 0, 0, 6, 1, 0, 0, 0, 1, 0, 1, 0, 0, 0, 7, 10, 2, 0, 0, 0, 1, 0, 0
+            ]
+        )?,
+        Some(StoreFault::Damaged(11))
+    );
     Ok(())
 }
 

@@ -12,53 +12,53 @@ use Rattle.ld_msg.specs.declared.msg.Msg.{Msg}
 use Rattle.ld_msg.specs.Bounds.{IsMessage}
 use Rattle.ld_wire.specs.declared.fault.WireFault.{WireFault}
 use Rattle.ld_wire.specs.declared.fault.WireFault.TheVariants as faults
-use Rattle.ld_fields.specs.Fields.{Read, Got, Off, within}
+use Rattle.ld_fields.specs.Fields.{Read, Got, Off}
 use Rattle.ld_fields.proofs.Spelling.{past, taken}
 use Rattle.ld_fields.proofs.Unspelling.{drop_bytes, split_at, bytes_back}
 use Rattle.ld_wire.specs.Frames.{kind_of, msg_bytes, frame_of}
-use Rattle.ld_wire.specs.Judging.{read_msg, Reading, Complete, Waits, Refused, longest, framed, of_kind, behind, sized, judge}
+use Rattle.ld_wire.specs.Judging.{read_msg, Reading, Complete, Waits, Refused, longest, framed, is_kind, of_kind, behind, sized, judge}
 use Rattle.ld_wire.proofs.Sizes.{msg_many}
 use Rattle.ld_wire.proofs.Spelling.{msg_reads}
 use Rattle.ld_wire.proofs.Unspelling.{msg_spelled, behind_kind}
 
 -- ---- a frame is judged to be its message ----
 
-kind_bounds : (b : Body) → (1 ≤ kind_of b) × (kind_of b ≤ 16)
+kind_passes : (b : Body) → is_kind (kind_of b) ≡ true
 unfolding kind_of
-kind_bounds (bodies.Store n lng x) = (omega arith, omega arith)
-kind_bounds (bodies.Stored n) = (omega arith, omega arith)
-kind_bounds (bodies.SealedHere n k) = (omega arith, omega arith)
-kind_bounds (bodies.LostHere n round g end) = (omega arith, omega arith)
-kind_bounds (bodies.CleanHere n y) = (omega arith, omega arith)
-kind_bounds (bodies.TrimmedHere n t) = (omega arith, omega arith)
-kind_bounds (bodies.DigestAsk n) = (omega arith, omega arith)
-kind_bounds (bodies.DigestPage n upto t lng es) = (omega arith, omega arith)
-kind_bounds (bodies.Clean e y) = (omega arith, omega arith)
-kind_bounds (bodies.Release n) = (omega arith, omega arith)
-kind_bounds (bodies.Trim t) = (omega arith, omega arith)
-kind_bounds (bodies.ReadAsk round n) = (omega arith, omega arith)
-kind_bounds (bodies.ReadPage round n upto c es) = (omega arith, omega arith)
-kind_bounds (bodies.ReadEnded round n end) = (omega arith, omega arith)
-kind_bounds (bodies.ReadTrim round n t) = (omega arith, omega arith)
-kind_bounds (bodies.ReadWait round n r) = (omega arith, omega arith)
+kind_passes (bodies.Store n lng x) = refl
+kind_passes (bodies.Stored n) = refl
+kind_passes (bodies.SealedHere n k) = refl
+kind_passes (bodies.LostHere n round g end) = refl
+kind_passes (bodies.CleanHere n y) = refl
+kind_passes (bodies.TrimmedHere n t) = refl
+kind_passes (bodies.DigestAsk n) = refl
+kind_passes (bodies.DigestPage n upto t lng es) = refl
+kind_passes (bodies.Clean e y) = refl
+kind_passes (bodies.Release n) = refl
+kind_passes (bodies.Trim t) = refl
+kind_passes (bodies.ReadAsk round n) = refl
+kind_passes (bodies.ReadPage round n upto c es) = refl
+kind_passes (bodies.ReadEnded round n end loss) = refl
+kind_passes (bodies.ReadTrim round n t) = refl
+kind_passes (bodies.ReadWait round n r) = refl
 
-first_byte : (k : ℕ) (xs : List ℕ) → k ≤ 16 → get_or (big_bytes 1 k ++ xs) 0 0 ≡ k
+kind_small : (k : ℕ) → is_kind k ≡ true → k ≤ 19
+kind_small k h = grind (arith, nat_tests)
+
+first_byte : (k : ℕ) (xs : List ℕ) → k ≤ 19 → get_or (big_bytes 1 k ++ xs) 0 0 ≡ k
 first_byte k xs h = grind (arith, common_steps)
 
 first_of : (m : Msg) (ys : List ℕ) → get_or (msg_bytes m ++ ys) 0 0 ≡ kind_of m.body
 unfolding msg_bytes
-first_of m ys = let b = kind_bounds m.body in first_byte (kind_of m.body) (behind_kind m ++ ys) b.1
-
-within_passes : (k : ℕ) → 1 ≤ k → k ≤ 16 → within 1 16 k ≡ true
-within_passes k a b = grind (arith, nat_tests)
+first_of m ys = first_byte (kind_of m.body) (behind_kind m ++ ys) (kind_small (kind_of m.body) (kind_passes m.body))
 
 room : (xs ys : List ℕ) → nat_lt (length (xs ++ ys)) (length xs) ≡ false
 room xs ys = let e = length-append xs ys in grind (arith, nat_tests)
 
 pub of_kind-frame : (m : Msg) (ys : List ℕ) → IsMessage m → of_kind (length (msg_bytes m)) (kind_of m.body) (msg_bytes m ++ ys) ≡ Complete m ys
 unfolding of_kind
-of_kind-frame m ys h = let xs : List ℕ = msg_bytes m in let k : ℕ = kind_of m.body in let b = kind_bounds m.body in
-    let e : within 1 16 k ≡ true = within_passes k b.0 b.1 in
+of_kind-frame m ys h = let xs : List ℕ = msg_bytes m in let k : ℕ = kind_of m.body in
+    let e : is_kind k ≡ true = kind_passes m.body in
     let f : nat_lt (length (xs ++ ys)) (length xs) ≡ false = room xs ys in
     ap (λ x. cond x (cond (nat_lt (length (xs ++ ys)) (length xs)) Waits (framed k (drop (length xs) (xs ++ ys)) (read_msg k (take (length xs) (xs ++ ys))))) (Refused (faults.BadKind k))) e
     ∙ (ap (λ x. cond x Waits (framed k (drop (length xs) (xs ++ ys)) (read_msg k (take (length xs) (xs ++ ys))))) f
@@ -134,12 +134,12 @@ kind_first zero bs h l = absurd (omega arith)
 kind_first (suc n) [] h l = absurd (omega arith)
 kind_first (suc n) (b ∷ bs) h l = refl
 
-one_byte_is : (k : ℕ) → k ≤ 16 → big_bytes 1 k ≡ k ∷ []
+one_byte_is : (k : ℕ) → k ≤ 19 → big_bytes 1 k ≡ k ∷ []
 one_byte_is k h = let e : k % 256 ≡ k = omega arith in ap (λ x. x ∷ []) e
 
 whole : (n : ℕ) (bs : List ℕ) (m : Msg) → 1 ≤ n → n ≤ length bs → kind_of m.body ≡ get_or bs 0 0 → drop 1 (take n bs) ≡ behind_kind m → take n bs ≡ msg_bytes m
 unfolding msg_bytes
-whole n bs m h l k e = let b = kind_bounds m.body in kind_first n bs h l ∙ (ap (λ r. get_or bs 0 0 ∷ r) e ∙ (ap (λ x. x ∷ behind_kind m) (sym k) ∙ ap (λ r. r ++ behind_kind m) (sym (one_byte_is (kind_of m.body) b.1))))
+whole n bs m h l k e = kind_first n bs h l ∙ (ap (λ r. get_or bs 0 0 ∷ r) e ∙ (ap (λ x. x ∷ behind_kind m) (sym k) ∙ ap (λ r. r ++ behind_kind m) (sym (one_byte_is (kind_of m.body) (kind_small (kind_of m.body) (kind_passes m.body))))))
 
 take_long : (n : ℕ) (bs : List ℕ) → n ≤ length bs → length (take n bs) ≡ n
 take_long n bs h = grind (arith, common_steps)
@@ -147,11 +147,10 @@ take_long n bs h = grind (arith, common_steps)
 of_kind_is : (n k : ℕ) (bs : List ℕ) (m : Msg) (rest : List ℕ) → AreBytes bs → 1 ≤ n → k ≡ get_or bs 0 0 → of_kind n k bs ≡ Complete m rest → IsBehind n bs m rest
 unfolding of_kind
 of_kind_is n k bs m rest h l f r =
-    by_cond (within 1 16 k) _ _ _ r (λ e r. by_cond (nat_lt (length bs) n) _ _ _ r (λ c r. absurd cc) (λ c r.
+    by_cond (is_kind k) _ _ _ r (λ e r. by_cond (nat_lt (length bs) n) _ _ _ r (λ c r. absurd cc) (λ c r.
     let w = was_framed k (drop n bs) (read_msg k (take n bs)) m rest r in
-    let b : (1 ≤ k) × (k ≤ 16) = (grind (arith, nat_tests), grind (arith, nat_tests)) in
     let long : n ≤ length bs = grind (arith, nat_tests) in
-    let s = msg_spelled (take n bs) k m w.next (take_bytes n bs h) b.0 b.1 w.read in
+    let s = msg_spelled (take n bs) k m w.next (take_bytes n bs h) e w.read in
     let t = whole n bs m l long (s.kind_is ∙ f) s.there in record {
       length_is = ap length (sym t) ∙ take_long n bs long;
       bytes_are = split_at n bs ∙ (ap (λ x. x ++ drop n bs) t ∙ ap (λ x. msg_bytes m ++ x) w.rest_is);
@@ -220,7 +219,7 @@ module _ (ys : List ℕ) where
 
   of_kind_extends : (n k : ℕ) (xs : List ℕ) → Extends ys (of_kind n k xs) (of_kind n k (xs ++ ys))
   unfolding of_kind
-  of_kind_extends n k xs = both (within 1 16 k) _ _ _ _ (λ e. unless (nat_lt (length xs) n) (nat_lt (length (xs ++ ys)) n) _ _ (enough_on n xs) (λ c.
+  of_kind_extends n k xs = both (is_kind k) _ _ _ _ (λ e. unless (nat_lt (length xs) n) (nat_lt (length (xs ++ ys)) n) _ _ (enough_on n xs) (λ c.
       let l : n ≤ length xs = grind (arith, nat_tests) in
       subst (λ x. Extends ys (framed k (drop n xs) (read_msg k (take n xs))) (framed k x (read_msg k (take n (xs ++ ys))))) (sym (drop_on n xs l))
       (subst (λ x. Extends ys (framed k (drop n xs) (read_msg k (take n xs))) (framed k (drop n xs ++ ys) (read_msg k x))) (sym (take_on n xs l)) (framed_extends k (drop n xs) (read_msg k (take n xs)))))) (λ e. refl)
@@ -277,7 +276,7 @@ drop_less n bs = let d = length-drop n bs in omega arith
 of_kind_less : (n k : ℕ) (bs : List ℕ) (m : Msg) (rest : List ℕ) → of_kind n k bs ≡ Complete m rest → length rest ≤ length bs
 unfolding of_kind
 of_kind_less n k bs m rest r =
-    by_cond (within 1 16 k) _ _ _ r (λ e r. by_cond (nat_lt (length bs) n) _ _ _ r (λ c r. absurd cc) (λ c r.
+    by_cond (is_kind k) _ _ _ r (λ e r. by_cond (nat_lt (length bs) n) _ _ _ r (λ c r. absurd cc) (λ c r.
     let w = was_framed k (drop n bs) (read_msg k (take n bs)) m rest r in let d = drop_less n bs in subst (λ x. length x ≤ length bs) w.rest_is d)) (λ e r. absurd cc)
 
 behind_less : (n : ℕ) (bs : List ℕ) (m : Msg) (rest : List ℕ) → behind n bs ≡ Complete m rest → length rest ≤ length bs

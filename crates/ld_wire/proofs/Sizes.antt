@@ -6,14 +6,14 @@ use Rattle.ld_msg.specs.declared.msg.Entry.{Entry}
 use Rattle.ld_msg.specs.declared.msg.Who.{Who}
 use Rattle.ld_msg.specs.declared.msg.Who.TheVariants as whos
 use Rattle.ld_msg.specs.declared.msg.What.{What}
-use Rattle.ld_msg.specs.declared.msg.What.TheVariants.{Rec, Hole, Bridge}
+use Rattle.ld_msg.specs.declared.msg.What.TheVariants.{Rec, Hole, Bridge, Plug}
 use Rattle.ld_msg.specs.declared.msg.Summary.{Summary}
 use Rattle.ld_msg.specs.declared.msg.Msg.{Msg}
 use Rattle.ld_msg.specs.declared.msg.Body.{Body}
 use Rattle.ld_msg.specs.declared.msg.Body.TheVariants as bodies
 use Rattle.ld_msg.specs.Bounds.{IsShort, AreEntries, Fits, IsMessage}
-use Rattle.ld_fields.specs.Items.{what_bytes, entry_bytes, entries_bytes, summary_bytes}
-use Rattle.ld_wire.specs.Frames.{who_bytes, page_bytes, kind_of, body_bytes, msg_bytes, CanCarry, flag}
+use Rattle.ld_fields.specs.Items.{what_bytes, entry_bytes, entries_bytes, summary_bytes, flag}
+use Rattle.ld_wire.specs.Frames.{who_bytes, page_bytes, kind_of, body_bytes, msg_bytes, CanCarry}
 
 -- a message that fits can be carried
 pub fits_carried : (from to : Who) (b : Body) → Fits from to b → CanCarry b
@@ -30,7 +30,7 @@ fits_carried from to (bodies.Release n) h = tt
 fits_carried from to (bodies.Trim t) h = tt
 fits_carried from to (bodies.ReadAsk round n) h = tt
 fits_carried from to (bodies.ReadPage round n upto c es) h = (h.1.few, h.1.entries)
-fits_carried from to (bodies.ReadEnded round n end) h = tt
+fits_carried from to (bodies.ReadEnded round n end loss) h = tt
 fits_carried from to (bodies.ReadTrim round n t) h = tt
 fits_carried from to (bodies.ReadWait round n r) h = tt
 
@@ -43,6 +43,7 @@ what_many : (w : What) → IsShort w → length (what_bytes w) ≤ 65538
 what_many (Rec p) h = let a = many 1 0 (big_bytes 2 (length p) ++ p) in let b = many 2 (length p) p in omega arith
 what_many Hole h = omega arith
 what_many Bridge h = omega arith
+what_many Plug h = omega arith
 
 entry_many : (e : Entry) → IsShort e.what → length (entry_bytes e) ≤ 65550
 entry_many e h = let a = many 8 e.number (big_bytes 4 e.ballot ++ what_bytes e.what) in let b = many 4 e.ballot (what_bytes e.what) in let c = what_many e.what h in omega arith
@@ -54,7 +55,7 @@ entries_many (e ∷ es) h = let a = length-append (entry_bytes e) (entries_bytes
 page_many : (es : List Entry) → length es ≤ 64 → AreEntries es → length (page_bytes es) ≤ 4195202
 page_many es l h = let a = many 2 (length es) (entries_bytes es) in let b = entries_many es h in omega arith
 
-summary_many : (y : Summary) → length (summary_bytes y) ≡ 20
+summary_many : (y : Summary) → length (summary_bytes y) ≡ 21
 summary_many y = refl
 
 pub body_many : (b : Body) → CanCarry b → length (body_bytes b) ≤ 4195231
@@ -72,7 +73,7 @@ body_many (bodies.Release n) h = omega arith
 body_many (bodies.Trim t) h = omega arith
 body_many (bodies.ReadAsk round n) h = omega arith
 body_many (bodies.ReadPage round n upto c es) h = let p = page_many es h.0 h.1 in let a = many 4 round (big_bytes 8 n ++ (big_bytes 8 upto ++ (big_bytes 1 (flag c) ++ page_bytes es))) in let b = many 8 n (big_bytes 8 upto ++ (big_bytes 1 (flag c) ++ page_bytes es)) in let d = many 8 upto (big_bytes 1 (flag c) ++ page_bytes es) in let e = many 1 (flag c) (page_bytes es) in omega arith
-body_many (bodies.ReadEnded round n end) h = omega arith
+body_many (bodies.ReadEnded round n end loss) h = omega arith
 body_many (bodies.ReadTrim round n t) h = omega arith
 body_many (bodies.ReadWait round n r) h = omega arith
 

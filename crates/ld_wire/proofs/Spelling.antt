@@ -7,7 +7,7 @@ use Rattle.ld_lsn.specs.Number.{epoch_of, esn_of, home_epoch}
 use Rattle.ld_msg.specs.declared.msg.Who.{Who}
 use Rattle.ld_msg.specs.declared.msg.Who.TheVariants as whos
 use Rattle.ld_msg.specs.declared.msg.What.{What}
-use Rattle.ld_msg.specs.declared.msg.What.TheVariants.{Rec, Hole, Bridge}
+use Rattle.ld_msg.specs.declared.msg.What.TheVariants.{Rec, Hole, Bridge, Plug}
 use Rattle.ld_msg.specs.declared.msg.Entry.{Entry}
 use Rattle.ld_msg.specs.declared.msg.Summary.{Summary}
 use Rattle.ld_msg.specs.declared.msg.Msg.{Msg}
@@ -17,11 +17,11 @@ use Rattle.ld_msg.specs.Bounds.{Is32, IsLng, Is64, IsEpoch, IsEntry, IsSummary, 
 use Rattle.ld_wire.specs.declared.role.Role.{Role}
 use Rattle.ld_wire.specs.declared.role.Role.TheVariants as roles
 use Rattle.ld_fields.specs.Fields.{Got, Off, follow, field}
-use Rattle.ld_fields.specs.Items.{what_bytes, summary_bytes, greatest_epoch, is_tag, tagged, read_summary, read_log}
+use Rattle.ld_fields.specs.Items.{what_bytes, summary_bytes, flag, greatest_epoch, is_tag, may_stand, tagged, read_flag, read_summary, read_log}
 use Rattle.ld_wire.specs.Roles.{may_be, IsIn, sender, receiver}
-use Rattle.ld_wire.specs.Frames.{who_bytes, page_bytes, kind_of, body_bytes, msg_bytes, flag}
-use Rattle.ld_wire.specs.Judging.{is_actor, actor, read_who, read_page, read_upto, asks_in, answers_in, may_store, read_store, read_sealed, read_lost, read_clean_here, read_trimmed, read_digest_ask, read_digest_page, read_clean, read_read_ask, read_asked, read_read_page, answer, read_answer, read_stored, read_told, read_body, read_msg}
-use Rattle.ld_fields.proofs.Spelling.{Stands, stands_as, nothing, at_end, Reads, field_reads, follow_reads, check_reads, got_reads, reads_as, tag_of, what_is, tagged_reads, number_fits, lng_passes, tag_passes, tag_fits, TagsTo, any_tags, entries_reads, summary_reads, log_reads}
+use Rattle.ld_wire.specs.Frames.{who_bytes, page_bytes, kind_of, body_bytes, msg_bytes}
+use Rattle.ld_wire.specs.Judging.{is_actor, actor, read_who, read_page, read_upto, asks_in, answers_in, may_store, read_store, read_sealed, read_lost, read_clean_here, read_trimmed, read_digest_ask, read_digest_page, read_clean, read_read_ask, read_asked, read_read_page, read_ended, answer, read_answer, read_stored, read_told, read_late, read_body, read_msg}
+use Rattle.ld_fields.proofs.Spelling.{Stands, stands_as, nothing, at_end, Reads, field_reads, follow_reads, check_reads, got_reads, reads_as, tag_of, what_is, tagged_reads, number_fits, lng_passes, tag_passes, tag_fits, MayStand, all_stand, entries_reads, flag_reads, summary_reads, log_reads}
 
 -- ---- actors ----
 
@@ -98,19 +98,20 @@ who_reads bs role at w ys i s = let k = in_actor role w i in
 
 -- ---- pages ----
 
-tag_one : (w : What) → IsReadable w → tag_of w ≤ 1
-tag_one (Rec p) h = omega arith
-tag_one Hole h = omega arith
-tag_one Bridge h = absurd h
+readable_stands : (w : What) → IsReadable w → may_stand false (tag_of w) ≡ true
+readable_stands (Rec p) h = refl
+readable_stands Hole h = refl
+readable_stands Bridge h = absurd h
+readable_stands Plug h = refl
 
-pub readable_tags : (es : List Entry) → AreReadable es → TagsTo 1 es
-readable_tags [] h = tt
-readable_tags (e ∷ es) h = (tag_one e.what h.0, readable_tags es h.1)
+pub readable_stand : (es : List Entry) → AreReadable es → MayStand false es
+readable_stand [] h = tt
+readable_stand (e ∷ es) h = (readable_stands e.what h.0, readable_stand es h.1)
 
-page_reads : (bs : List ℕ) (top from upto at : ℕ) (es : List Entry) → IsPage from upto es → TagsTo top es → Stands bs at (page_bytes es) → Reads bs (read_page bs top from upto at) es []
+page_reads : (bs : List ℕ) (bridges : Bool) (from upto at : ℕ) (es : List Entry) → IsPage from upto es → MayStand bridges es → Stands bs at (page_bytes es) → Reads bs (read_page bs bridges from upto at) es []
 unfolding read_page
-page_reads bs top from upto at es i o s = follow_reads bs (field 2 bs at) _ (length es) es _ [] (field_reads 1 (length es) bs at _ (let f = i.few in omega arith) s) (λ next t.
-    check_reads bs _ at _ es [] (let f = i.few in grind (arith, nat_tests)) (entries_reads bs top upto es from next [] i.entries o i.rise (nothing bs next _ t)))
+page_reads bs bridges from upto at es i o s = follow_reads bs (field 2 bs at) _ (length es) es _ [] (field_reads 1 (length es) bs at _ (let f = i.few in omega arith) s) (λ next t.
+    check_reads bs _ at _ es [] (let f = i.few in grind (arith, nat_tests)) (entries_reads bs bridges upto es from next [] i.entries o i.rise (nothing bs next _ t)))
 
 same_passes : (a b : ℕ) → a ≡ b → (a == b) ≡ true
 same_passes a b e = grind (arith, nat_tests)
@@ -135,6 +136,7 @@ record_tag : (w : What) → IsRecord w → tag_of w ≡ 0
 record_tag (Rec p) h = refl
 record_tag Hole h = absurd h
 record_tag Bridge h = absurd h
+record_tag Plug h = absurd h
 
 store_passes : (ballot n tag : ℕ) → is_tag n tag ≡ true → (epoch_of n ≡ ballot → tag ≡ 0) → (b : Bool) → (epoch_of n == ballot) ≡ b → may_store ballot n tag ≡ true
 store_passes ballot n tag h f true e = let k : epoch_of n ≡ ballot = grind (arith, nat_tests) in let z = f k in let y : (tag == 0) ≡ true = grind (arith, nat_tests) in ap (λ x. x && (not (epoch_of n == ballot) || (tag == 0))) h ∙ (ap (λ x. not x || (tag == 0)) e ∙ y)
@@ -184,7 +186,7 @@ digest_page_reads bs n upto t lng at es i j k s =
     follow_reads bs (field 8 bs at_trim) _ t _ _ [] (field_reads 7 t bs at_trim _ (omega arith) v) (λ at_lng w.
     follow_reads bs (field 4 bs at_lng) _ lng _ _ [] (field_reads 3 lng bs at_lng _ (omega arith) w) (λ at_page x.
     check_reads bs _ at_lng _ _ [] (lng_passes lng k)
-    (follow_reads bs (read_page bs 2 n upto at_page) _ es _ [] [] (page_reads bs 2 n upto at_page es i (any_tags es) x) (λ next y. got_reads bs _ next [] y))))))
+    (follow_reads bs (read_page bs true n upto at_page) _ es _ [] [] (page_reads bs true n upto at_page es i (all_stand es) x) (λ next y. got_reads bs _ next [] y))))))
 
 asked_reads : (bs : List ℕ) (round n at : ℕ) (ys : List ℕ) → Is32 round → 1 ≤ n → Is64 n → Stands bs at (big_bytes 4 round ++ (big_bytes 8 n ++ ys)) → Reads bs (read_asked bs at) (round, n) ys
 unfolding read_asked
@@ -193,27 +195,20 @@ asked_reads bs round n at ys i one j s =
     follow_reads bs (field 8 bs a) _ n _ ys ys (field_reads 7 n bs a ys (omega arith) t) (λ next u.
     check_reads bs _ a _ _ ys (grind (arith, nat_tests)) (got_reads bs (round, n) next ys u)))
 
-flag_small : (c : Bool) → flag c < 256 ^ 1
-flag_small true = omega arith
-flag_small false = omega arith
-
-flag_passes : (c : Bool) → nat_le (flag c) 1 ≡ true
-flag_passes true = refl
-flag_passes false = refl
-
-flag_back : (c : Bool) → (flag c == 1) ≡ c
-flag_back true = refl
-flag_back false = refl
-
 read_page_reads : (bs : List ℕ) (round n upto at : ℕ) (c : Bool) (es : List Entry) → Is32 round → 1 ≤ n → Is64 n → IsPage n upto es → AreReadable es → Stands bs at (big_bytes 4 round ++ (big_bytes 8 n ++ (big_bytes 8 upto ++ (big_bytes 1 (flag c) ++ page_bytes es)))) → Reads bs (read_read_page bs at) (bodies.ReadPage round n upto c es) []
 unfolding read_read_page
 read_page_reads bs round n upto at c es i one j p o s =
     follow_reads bs (read_asked bs at) _ (round, n) _ _ [] (asked_reads bs round n at _ i one j s) (λ at_upto t.
     follow_reads bs (read_upto bs n at_upto) _ upto _ _ [] (upto_reads bs n upto at_upto es _ p t) (λ at_clean u.
-    follow_reads bs (field 1 bs at_clean) _ (flag c) _ _ [] (field_reads 0 (flag c) bs at_clean _ (flag_small c) u) (λ at_page v.
-    check_reads bs _ at_clean _ _ [] (flag_passes c)
-    (follow_reads bs (read_page bs 1 n upto at_page) _ es _ [] [] (page_reads bs 1 n upto at_page es p (readable_tags es o) v) (λ next y.
-    reads_as bs _ (bodies.ReadPage round n upto (flag c == 1) es) _ [] (ap (λ x. bodies.ReadPage round n upto x es) (flag_back c)) (got_reads bs _ next [] y))))))
+    follow_reads bs (read_flag bs at_clean) _ c _ _ [] (flag_reads bs at_clean c _ u) (λ at_page v.
+    follow_reads bs (read_page bs false n upto at_page) _ es _ [] [] (page_reads bs false n upto at_page es p (readable_stand es o) v) (λ next y. got_reads bs _ next [] y))))
+
+ended_reads : (bs : List ℕ) (round n end at : ℕ) (loss : Bool) → Is32 round → 1 ≤ n → Is64 n → Is64 end → Stands bs at (big_bytes 4 round ++ (big_bytes 8 n ++ (big_bytes 8 end ++ big_bytes 1 (flag loss)))) → Reads bs (read_ended bs at) (bodies.ReadEnded round n end loss) []
+unfolding read_ended
+ended_reads bs round n end at loss i one j k s =
+    follow_reads bs (read_asked bs at) _ (round, n) _ _ [] (asked_reads bs round n at _ i one j s) (λ at_end t.
+    follow_reads bs (field 8 bs at_end) _ end _ _ [] (field_reads 7 end bs at_end _ (omega arith) t) (λ at_loss u.
+    follow_reads bs (read_flag bs at_loss) _ loss _ [] [] (flag_reads bs at_loss loss [] (nothing bs at_loss _ u)) (λ next v. got_reads bs _ next [] v)))
 
 answer_reads : (bs : List ℕ) (kind round n x at : ℕ) (b : Body) → answer kind round n x ≡ b → Is32 round → 1 ≤ n → Is64 n → Is64 x → Stands bs at (big_bytes 4 round ++ (big_bytes 8 n ++ big_bytes 8 x)) → Reads bs (read_answer kind bs at) b []
 unfolding read_answer
@@ -251,7 +246,7 @@ read_ask_reads bs from round n at i o one j s = follow_reads bs (field 4 bs at) 
     (follow_reads bs (field 8 bs a) _ n _ [] [] (field_reads 7 n bs a [] (omega arith) (nothing bs a _ t)) (λ next u. check_reads bs _ a _ _ [] (grind (arith, nat_tests)) (got_reads bs _ next [] u))))
 
 pub body_reads : (bs : List ℕ) (from to : Who) (b : Body) (at : ℕ) → Fits from to b → Stands bs at (body_bytes b) → Reads bs (read_body (kind_of b) from to bs at) b []
-unfolding read_body read_stored read_told kind_of body_bytes
+unfolding read_body read_stored read_told read_late kind_of body_bytes
 body_reads bs from to (bodies.Store n lng x) at h s = store_reads bs (ballot_of from) n lng at x h.1 h.2 h.3 s
 body_reads bs from to (bodies.Stored n) at h s = last_number bs n at _ (λ v. bodies.Stored v) refl h.1 s
 body_reads bs from to (bodies.SealedHere n k) at h s = sealed_reads bs n k at h.1 h.2 s
@@ -265,7 +260,7 @@ body_reads bs from to (bodies.Release n) at h s = last_number bs n at _ (λ v. b
 body_reads bs from to (bodies.Trim t) at h s = last_number bs t at _ (λ v. bodies.Trim v) refl h.1 s
 body_reads bs from to (bodies.ReadAsk round n) at h s = read_ask_reads bs from round n at h.2 h.3 h.4 h.5 s
 body_reads bs from to (bodies.ReadPage round n upto c es) at h s = read_page_reads bs round n upto at c es h.0.2 h.0.3 h.0.4 h.1 h.2 s
-body_reads bs from to (bodies.ReadEnded round n end) at h s = answer_reads bs 14 round n end at _ refl h.0.2 h.0.3 h.0.4 h.1 s
+body_reads bs from to (bodies.ReadEnded round n end loss) at h s = ended_reads bs round n end at loss h.0.2 h.0.3 h.0.4 h.1 s
 body_reads bs from to (bodies.ReadTrim round n t) at h s = answer_reads bs 15 round n t at _ refl h.0.2 h.0.3 h.0.4 h.1 s
 body_reads bs from to (bodies.ReadWait round n r) at h s = answer_reads bs 16 round n r at _ refl h.0.2 h.0.3 h.0.4 h.1 s
 
@@ -285,7 +280,7 @@ roles_fit from to (bodies.Release n) h = (h.0.0, h.0.1)
 roles_fit from to (bodies.Trim t) h = (h.0.0, h.0.1)
 roles_fit from to (bodies.ReadAsk round n) h = (h.0, h.1)
 roles_fit from to (bodies.ReadPage round n upto c es) h = (h.0.0, h.0.1)
-roles_fit from to (bodies.ReadEnded round n end) h = (h.0.0, h.0.1)
+roles_fit from to (bodies.ReadEnded round n end loss) h = (h.0.0, h.0.1)
 roles_fit from to (bodies.ReadTrim round n t) h = (h.0.0, h.0.1)
 roles_fit from to (bodies.ReadWait round n r) h = (h.0.0, h.0.1)
 

@@ -8,7 +8,7 @@ use Rattle.ld_ids.specs.Bytes.{AreBytes}
 use Rattle.ld_msg.specs.declared.msg.Who.{Who}
 use Rattle.ld_msg.specs.declared.msg.Who.TheVariants as whos
 use Rattle.ld_msg.specs.declared.msg.What.{What}
-use Rattle.ld_msg.specs.declared.msg.What.TheVariants.{Rec, Hole, Bridge}
+use Rattle.ld_msg.specs.declared.msg.What.TheVariants.{Rec, Hole, Bridge, Plug}
 use Rattle.ld_msg.specs.declared.msg.Entry.{Entry}
 use Rattle.ld_msg.specs.declared.msg.Msg.{Msg}
 use Rattle.ld_msg.specs.declared.msg.Body.{Body}
@@ -17,33 +17,33 @@ use Rattle.ld_msg.specs.Bounds.{Is32, Is64, IsEpoch, AreEntries, RiseWithin, IsP
 use Rattle.ld_wire.specs.declared.role.Role.{Role}
 use Rattle.ld_wire.specs.declared.role.Role.TheVariants as roles
 use Rattle.ld_fields.specs.Fields.{Got, follow, field}
-use Rattle.ld_fields.specs.Items.{entries_bytes, greatest_epoch, greatest_lng, is_number, is_tag, tagged, read_summary, read_log}
+use Rattle.ld_fields.specs.Items.{entries_bytes, flag, greatest_epoch, greatest_lng, is_number, is_tag, may_stand, tagged, read_flag, read_summary, read_log}
 use Rattle.ld_wire.specs.Roles.{may_be, IsIn, sender, receiver}
-use Rattle.ld_wire.specs.Frames.{who_bytes, page_bytes, kind_of, body_bytes, flag}
-use Rattle.ld_wire.specs.Judging.{is_actor, actor, read_who, read_page, read_upto, asks_in, answers_in, may_store, read_store, read_sealed, read_lost, read_clean_here, read_trimmed, read_digest_ask, read_digest_page, read_clean, read_read_ask, read_asked, read_read_page, answer, read_answer, read_stored, read_told, read_body, read_msg}
-use Rattle.ld_fields.proofs.Spelling.{tag_of, after_tag, TagsTo}
-use Rattle.ld_fields.proofs.Unspelling.{ended, gone, Spelled, spelled_on, field_spells, by_follow, by_check, by_got, tagged_spelled, entries_spelled, within_is, both_true, tag_most, place_of, what_made, le_is, same_is, lng_is, summary_spelled, log_spelled}
+use Rattle.ld_wire.specs.Frames.{who_bytes, page_bytes, kind_of, body_bytes}
+use Rattle.ld_wire.specs.Judging.{is_actor, actor, read_who, read_page, read_upto, asks_in, answers_in, may_store, read_store, read_sealed, read_lost, read_clean_here, read_trimmed, read_digest_ask, read_digest_page, read_clean, read_read_ask, read_asked, read_read_page, read_ended, answer, read_answer, read_stored, read_told, read_late, read_body, is_kind, read_msg}
+use Rattle.ld_fields.proofs.Spelling.{tag_of, after_tag, MayStand}
+use Rattle.ld_fields.proofs.Unspelling.{ended, gone, Spelled, spelled_on, field_spells, by_follow, by_check, by_got, tagged_spelled, entries_spelled, within_is, both_true, tag_most, place_of, what_made, le_is, same_is, lng_is, flag_spelled, summary_spelled, log_spelled}
 use Rattle.ld_wire.proofs.Spelling.{who_tag, who_number, sequencer_most}
 
 -- ---- pages ----
 
-pub record PageRead (bs : List ℕ) (top from upto at next : ℕ) (es : List Entry) : Type 0 where
+pub record PageRead (bs : List ℕ) (bridges : Bool) (from upto at next : ℕ) (es : List Entry) : Type 0 where
   pub spelled : Spelled bs at next (page_bytes es)
   pub few : length es ≤ 64
   pub are : AreEntries es
   pub rise : RiseWithin from upto es
-  pub tags : TagsTo top es
+  pub stand : MayStand bridges es
 
-page_spelled : (bs : List ℕ) (top from upto at : ℕ) (es : List Entry) (next : ℕ) → AreBytes bs → read_page bs top from upto at ≡ Got es next → PageRead bs top from upto at next es
+page_spelled : (bs : List ℕ) (bridges : Bool) (from upto at : ℕ) (es : List Entry) (next : ℕ) → AreBytes bs → read_page bs bridges from upto at ≡ Got es next → PageRead bs bridges from upto at next es
 unfolding read_page
-page_spelled bs top from upto at es next h r =
+page_spelled bs bridges from upto at es next h r =
     by_follow (field 2 bs at) _ es next r (λ count a f r. by_check _ at _ es next r (λ ok r.
-    let s = field_spells 2 bs at count a h f in let u = entries_spelled bs top upto count from a es next h s.spelled.within r in let e = u.count_is in let m = le_is count 64 ok in record {
+    let s = field_spells 2 bs at count a h f in let u = entries_spelled bs bridges upto count from a es next h s.spelled.within r in let e = u.count_is in let m = le_is count 64 ok in record {
       spelled = spelled_on bs at a next (big_bytes 2 (length es)) (entries_bytes es) (subst (λ x. Spelled bs at a (big_bytes 2 x)) (sym e) s.spelled) u.spelled;
       few = omega arith;
       are = u.are;
       rise = u.rise;
-      tags = u.tags;
+      stand = u.stand;
     }))
 
 pub record UptoRead (bs : List ℕ) (from at next upto : ℕ) : Type 0 where
@@ -64,15 +64,16 @@ upto_spelled bs from at upto next h r =
       home = same_is (home_epoch from) (home_epoch v) o.1;
     })))))
 
-page_is : (bs : List ℕ) (top from upto at mid to next : ℕ) (es : List Entry) → UptoRead bs from at mid upto → PageRead bs top from upto to next es → IsPage from upto es
-page_is bs top from upto at mid to next es u p = record { range = u.range; bound = u.bound; home = u.home; few = p.few; entries = p.are; rise = p.rise }
+page_is : (bs : List ℕ) (bridges : Bool) (from upto at mid to next : ℕ) (es : List Entry) → UptoRead bs from at mid upto → PageRead bs bridges from upto to next es → IsPage from upto es
+page_is bs bridges from upto at mid to next es u p = record { range = u.range; bound = u.bound; home = u.home; few = p.few; entries = p.are; rise = p.rise }
 
-readable_of : (w : What) → tag_of w ≤ 1 → IsReadable w
+readable_of : (w : What) → may_stand false (tag_of w) ≡ true → IsReadable w
 readable_of (Rec p) h = tt
 readable_of Hole h = tt
-readable_of Bridge h = absurd (omega arith)
+readable_of Bridge h = absurd cc
+readable_of Plug h = tt
 
-are_readable : (es : List Entry) → TagsTo 1 es → AreReadable es
+are_readable : (es : List Entry) → MayStand false es → AreReadable es
 are_readable [] h = tt
 are_readable (e ∷ es) h = (readable_of e.what h.0, are_readable es h.1)
 
@@ -155,6 +156,8 @@ record_of ballot n tag Hole h e k = let b = both_true (is_tag n tag) (not (epoch
     let y : (tag == 0) ≡ false = grind (arith, nat_tests) in let z = sym (ap (λ v. not v || (tag == 0)) x ∙ y) ∙ b.1 in absurd cc
 record_of ballot n tag Bridge h e k = let b = both_true (is_tag n tag) (not (epoch_of n == ballot) || (tag == 0)) h in let x : (epoch_of n == ballot) ≡ true = grind (arith, nat_tests) in
     let y : (tag == 0) ≡ false = grind (arith, nat_tests) in let z = sym (ap (λ v. not v || (tag == 0)) x ∙ y) ∙ b.1 in absurd cc
+record_of ballot n tag Plug h e k = let b = both_true (is_tag n tag) (not (epoch_of n == ballot) || (tag == 0)) h in let x : (epoch_of n == ballot) ≡ true = grind (arith, nat_tests) in
+    let y : (tag == 0) ≡ false = grind (arith, nat_tests) in let z = sym (ap (λ v. not v || (tag == 0)) x ∙ y) ∙ b.1 in absurd cc
 
 store_is : (n ballot : ℕ) → (is_number n && nat_le (epoch_of n) ballot) ≡ true → IsEpoch (epoch_of n) × (1 ≤ esn_of n) × (epoch_of n ≤ ballot)
 store_is n ballot h = ((grind (arith, nat_tests), grind (arith, nat_tests)), grind (arith, nat_tests), grind (arith, nat_tests))
@@ -227,12 +230,12 @@ lost_spelled bs from to at b next h r =
       fits = λ x z. (x, z, le_is 1 n ok, omega arith, omega arith, answers_of to round ok2, omega arith, omega arith);
     }))))))))
 
-clean_here_spelled : (bs : List ℕ) (from to : Who) (at : ℕ) (b : Body) (next : ℕ) → AreBytes bs → read_clean_here bs at ≡ Got b next → BodyRead bs 5 from to at next b
+clean_here_spelled : (bs : List ℕ) (from to : Who) (at : ℕ) (b : Body) (next : ℕ) → AreBytes bs → read_clean_here bs at ≡ Got b next → BodyRead bs 17 from to at next b
 unfolding read_clean_here kind_of body_bytes sender receiver
 clean_here_spelled bs from to at b next h r =
     by_follow (field 8 bs at) _ b next r (λ n a f r. by_follow (read_summary bs (epoch_of n) a) _ b next r (λ y c g r. by_got _ b c next r (λ is e.
     let s = field_spells 8 bs at n a h f in let t = summary_spelled bs (epoch_of n) a y c h g in let w = s.fits in
-    made bs 5 from to at (bodies.CleanHere n y) b c next is e (record { spelled = spelled_on bs at a c (big_bytes 8 n) _ s.spelled t.spelled; kind_is = refl; fits = λ x z. ((x, z), omega arith, t.is) }))))
+    made bs 17 from to at (bodies.CleanHere n y) b c next is e (record { spelled = spelled_on bs at a c (big_bytes 8 n) _ s.spelled t.spelled; kind_is = refl; fits = λ x z. ((x, z), omega arith, t.is) }))))
 
 trimmed_spelled : (bs : List ℕ) (from to : Who) (at : ℕ) (b : Body) (next : ℕ) → AreBytes bs → read_trimmed bs at ≡ Got b next → BodyRead bs 6 from to at next b
 unfolding read_trimmed kind_of body_bytes sender receiver
@@ -258,21 +261,21 @@ digest_page_spelled bs from to at b next h r =
     by_follow (read_upto bs n a) _ b next r (λ upto c g r.
     by_follow (field 8 bs c) _ b next r (λ trim d k r.
     by_follow (field 4 bs d) _ b next r (λ lng l q r. by_check (nat_le lng greatest_lng) d _ b next r (λ ok1 r.
-    by_follow (read_page bs 2 n upto l) _ b next r (λ es last p r. by_got _ b last next r (λ is e.
-    let s = field_spells 8 bs at n a h f in let t = upto_spelled bs n a upto c h g in let u = field_spells 8 bs c trim d h k in let v = field_spells 4 bs d lng l h q in let w = page_spelled bs 2 n upto l es last h p in
+    by_follow (read_page bs true n upto l) _ b next r (λ es last p r. by_got _ b last next r (λ is e.
+    let s = field_spells 8 bs at n a h f in let t = upto_spelled bs n a upto c h g in let u = field_spells 8 bs c trim d h k in let v = field_spells 4 bs d lng l h q in let w = page_spelled bs true n upto l es last h p in
     let o3 = u.fits in let o4 = v.fits in
     made bs 8 from to at (bodies.DigestPage n upto trim lng es) b last next is e (record {
       spelled = spelled_on bs at a last (big_bytes 8 n) _ s.spelled (spelled_on bs a c last (big_bytes 8 upto) _ t.spelled (spelled_on bs c d last (big_bytes 8 trim) _ u.spelled (spelled_on bs d l last (big_bytes 4 lng) _ v.spelled w.spelled)));
       kind_is = refl;
-      fits = λ x z. ((x, z), page_is bs 2 n upto a c l last es t w, omega arith, lng_is lng ok1);
+      fits = λ x z. ((x, z), page_is bs true n upto a c l last es t w, omega arith, lng_is lng ok1);
     }))))))))
 
-clean_spelled : (bs : List ℕ) (from to : Who) (at : ℕ) (b : Body) (next : ℕ) → AreBytes bs → read_clean bs at ≡ Got b next → BodyRead bs 9 from to at next b
+clean_spelled : (bs : List ℕ) (from to : Who) (at : ℕ) (b : Body) (next : ℕ) → AreBytes bs → read_clean bs at ≡ Got b next → BodyRead bs 18 from to at next b
 unfolding read_clean kind_of body_bytes sender receiver
 clean_spelled bs from to at b next h r =
     by_follow (field 4 bs at) _ b next r (λ k a f r. by_check _ at _ b next r (λ ok r. by_follow (read_summary bs k a) _ b next r (λ y c g r. by_got _ b c next r (λ is e.
     let s = field_spells 4 bs at k a h f in let t = summary_spelled bs k a y c h g in
-    made bs 9 from to at (bodies.Clean k y) b c next is e (record { spelled = spelled_on bs at a c (big_bytes 4 k) _ s.spelled t.spelled; kind_is = refl; fits = λ x z. ((x, z), within_is 1 greatest_epoch k ok, t.is) })))))
+    made bs 18 from to at (bodies.Clean k y) b c next is e (record { spelled = spelled_on bs at a c (big_bytes 4 k) _ s.spelled t.spelled; kind_is = refl; fits = λ x z. ((x, z), within_is 1 greatest_epoch k ok, t.is) })))))
 
 read_ask_spelled : (bs : List ℕ) (from to : Who) (at : ℕ) (b : Body) (next : ℕ) → AreBytes bs → read_read_ask from bs at ≡ Got b next → BodyRead bs 12 from to at next b
 unfolding read_read_ask kind_of body_bytes sender receiver
@@ -294,11 +297,6 @@ asked_spelled bs at p next h r =
     let s = field_spells 4 bs at round a h f in let t = field_spells 8 bs a n c h g in let o1 = s.fits in let o2 = t.fits in
     subst (λ (q : ℕ × ℕ). AskedRead bs at next q.0 q.1) is (subst (λ x. AskedRead bs at x round n) e (record { spelled = spelled_on bs at a c (big_bytes 4 round) _ s.spelled t.spelled; round_fits = omega arith; number = le_is 1 n ok; fits = omega arith }))))))
 
-flag_of : (c : ℕ) → c ≤ 1 → c ≡ flag (c == 1)
-flag_of zero h = refl
-flag_of (suc zero) h = refl
-flag_of (suc (suc c)) h = absurd (omega arith)
-
 -- behind the round and the number that were asked for
 onto_asked : (bs : List ℕ) (at a last round n : ℕ) (xs : List ℕ) → AskedRead bs at a round n → Spelled bs a last xs → Spelled bs at last (big_bytes 4 round ++ (big_bytes 8 n ++ xs))
 onto_asked bs at a last round n xs s t = subst (Spelled bs at last) (append_assoc (big_bytes 4 round) (big_bytes 8 n) xs) (spelled_on bs at a last (big_bytes 4 round ++ big_bytes 8 n) xs s.spelled t)
@@ -308,14 +306,14 @@ unfolding read_read_page kind_of body_bytes sender receiver
 read_page_spelled bs from to at b next h r =
     by_follow (read_asked bs at) _ b next r (λ p a f r.
     by_follow (read_upto bs p.1 a) _ b next r (λ upto c g r.
-    by_follow (field 1 bs c) _ b next r (λ bit d k r. by_check _ c _ b next r (λ ok r.
-    by_follow (read_page bs 1 p.1 upto d) _ b next r (λ es last q r. by_got _ b last next r (λ is e.
-    let s = asked_spelled bs at p a h f in let t = upto_spelled bs p.1 a upto c h g in let u = field_spells 1 bs c bit d h k in let w = page_spelled bs 1 p.1 upto d es last h q in
-    made bs 13 from to at (bodies.ReadPage p.0 p.1 upto (bit == 1) es) b last next is e (record {
-      spelled = onto_asked bs at a last p.0 p.1 _ s (spelled_on bs a c last (big_bytes 8 upto) _ t.spelled (spelled_on bs c d last (big_bytes 1 (flag (bit == 1))) _ (subst (λ x. Spelled bs c d (big_bytes 1 x)) (flag_of bit (le_is bit 1 ok)) u.spelled) w.spelled));
+    by_follow (read_flag bs c) _ b next r (λ clean d k r.
+    by_follow (read_page bs false p.1 upto d) _ b next r (λ es last q r. by_got _ b last next r (λ is e.
+    let s = asked_spelled bs at p a h f in let t = upto_spelled bs p.1 a upto c h g in let u = flag_spelled bs c clean d h k in let w = page_spelled bs false p.1 upto d es last h q in
+    made bs 13 from to at (bodies.ReadPage p.0 p.1 upto clean es) b last next is e (record {
+      spelled = onto_asked bs at a last p.0 p.1 _ s (spelled_on bs a c last (big_bytes 8 upto) _ t.spelled (spelled_on bs c d last (big_bytes 1 (flag clean)) _ u w.spelled));
       kind_is = refl;
-      fits = λ x z. ((x, z, s.round_fits, s.number, s.fits), page_is bs 1 p.1 upto a c d last es t w, are_readable es w.tags);
-    })))))))
+      fits = λ x z. ((x, z, s.round_fits, s.number, s.fits), page_is bs false p.1 upto a c d last es t w, are_readable es w.stand);
+    }))))))
 
 answer_spelled : (bs : List ℕ) (kind : ℕ) (from to : Who) (at : ℕ) (b : Body) (next : ℕ) → AreBytes bs
     → ((round n x : ℕ) → body_bytes (answer kind round n x) ≡ big_bytes 4 round ++ (big_bytes 8 n ++ big_bytes 8 x)) → ((round n x : ℕ) → kind_of (answer kind round n x) ≡ kind)
@@ -331,9 +329,16 @@ answer_spelled bs kind from to at b next h e k g r =
       fits = g p.0 p.1 x s.round_fits s.number s.fits (omega arith);
     }))))
 
-ended_spelled : (bs : List ℕ) (from to : Who) (at : ℕ) (b : Body) (next : ℕ) → AreBytes bs → read_answer 14 bs at ≡ Got b next → BodyRead bs 14 from to at next b
-unfolding kind_of body_bytes sender receiver
-ended_spelled bs from to at b next h r = answer_spelled bs 14 from to at b next h (λ round n x. refl) (λ round n x. refl) (λ round n x i j k l y z. ((y, z, i, j, k), l)) r
+ended_spelled : (bs : List ℕ) (from to : Who) (at : ℕ) (b : Body) (next : ℕ) → AreBytes bs → read_ended bs at ≡ Got b next → BodyRead bs 19 from to at next b
+unfolding read_ended kind_of body_bytes sender receiver
+ended_spelled bs from to at b next h r =
+    by_follow (read_asked bs at) _ b next r (λ p a f r. by_follow (field 8 bs a) _ b next r (λ end c g r. by_follow (read_flag bs c) _ b next r (λ loss d k r. by_got _ b d next r (λ is e.
+    let s = asked_spelled bs at p a h f in let t = field_spells 8 bs a end c h g in let u = flag_spelled bs c loss d h k in let o = t.fits in
+    made bs 19 from to at (bodies.ReadEnded p.0 p.1 end loss) b d next is e (record {
+      spelled = onto_asked bs at a d p.0 p.1 _ s (spelled_on bs a c d (big_bytes 8 end) _ t.spelled u);
+      kind_is = refl;
+      fits = λ x z. ((x, z, s.round_fits, s.number, s.fits), omega arith);
+    })))))
 
 read_trim_spelled : (bs : List ℕ) (from to : Who) (at : ℕ) (b : Body) (next : ℕ) → AreBytes bs → read_answer 15 bs at ≡ Got b next → BodyRead bs 15 from to at next b
 unfolding kind_of body_bytes sender receiver
@@ -351,41 +356,46 @@ module _ {X P : Type 0} where
 of_kind_is : (bs : List ℕ) (k kind : ℕ) (from to : Who) (at next : ℕ) (b : Body) → (kind == k) ≡ true → BodyRead bs k from to at next b → BodyRead bs kind from to at next b
 of_kind_is bs k kind from to at next b e h = subst (λ x. BodyRead bs x from to at next b) (sym (same_is kind k e)) h
 
-stored_body : (bs : List ℕ) (kind : ℕ) (from to : Who) (at : ℕ) (b : Body) (next : ℕ) → AreBytes bs → 1 ≤ kind → kind ≤ 6 → read_stored kind from to bs at ≡ Got b next → BodyRead bs kind from to at next b
+stored_body : (bs : List ℕ) (kind : ℕ) (from to : Who) (at : ℕ) (b : Body) (next : ℕ) → AreBytes bs → is_kind kind ≡ true → kind ≤ 6 → read_stored kind from to bs at ≡ Got b next → BodyRead bs kind from to at next b
 unfolding read_stored
 stored_body bs kind from to at b next h l m r =
     by_cond (kind == 1) _ _ _ r (λ e r. of_kind_is bs 1 kind from to at next b e (store_spelled bs from to at b next h r)) (λ e1 r.
     by_cond (kind == 2) _ _ _ r (λ e r. of_kind_is bs 2 kind from to at next b e (stored_spelled bs from to at b next h r)) (λ e2 r.
     by_cond (kind == 3) _ _ _ r (λ e r. of_kind_is bs 3 kind from to at next b e (sealed_spelled bs from to at b next h r)) (λ e3 r.
     by_cond (kind == 4) _ _ _ r (λ e r. of_kind_is bs 4 kind from to at next b e (lost_spelled bs from to at b next h r)) (λ e4 r.
-    by_cond (kind == 5) _ _ _ r (λ e r. of_kind_is bs 5 kind from to at next b e (clean_here_spelled bs from to at b next h r)) (λ e5 r.
-    of_kind_is bs 6 kind from to at next b (grind (arith, nat_tests)) (trimmed_spelled bs from to at b next h r))))))
+    of_kind_is bs 6 kind from to at next b (grind (arith, nat_tests)) (trimmed_spelled bs from to at b next h r)))))
 
-told_body : (bs : List ℕ) (kind : ℕ) (from to : Who) (at : ℕ) (b : Body) (next : ℕ) → AreBytes bs → 7 ≤ kind → kind ≤ 11 → read_told kind from bs at ≡ Got b next → BodyRead bs kind from to at next b
+told_body : (bs : List ℕ) (kind : ℕ) (from to : Who) (at : ℕ) (b : Body) (next : ℕ) → AreBytes bs → is_kind kind ≡ true → 7 ≤ kind → kind ≤ 11 → read_told kind from bs at ≡ Got b next → BodyRead bs kind from to at next b
 unfolding read_told
-told_body bs kind from to at b next h l m r =
+told_body bs kind from to at b next h i l m r =
     by_cond (kind == 7) _ _ _ r (λ e r. of_kind_is bs 7 kind from to at next b e (digest_ask_spelled bs from to at b next h r)) (λ e1 r.
     by_cond (kind == 8) _ _ _ r (λ e r. of_kind_is bs 8 kind from to at next b e (digest_page_spelled bs from to at b next h r)) (λ e2 r.
-    by_cond (kind == 9) _ _ _ r (λ e r. of_kind_is bs 9 kind from to at next b e (clean_spelled bs from to at b next h r)) (λ e3 r.
-    by_cond (kind == 10) _ _ _ r (λ e r. of_kind_is bs 10 kind from to at next b e (release_spelled bs from to at b next h r)) (λ e4 r.
-    of_kind_is bs 11 kind from to at next b (grind (arith, nat_tests)) (trim_spelled bs from to at b next h r)))))
+    by_cond (kind == 10) _ _ _ r (λ e r. of_kind_is bs 10 kind from to at next b e (release_spelled bs from to at b next h r)) (λ e3 r.
+    of_kind_is bs 11 kind from to at next b (grind (arith, nat_tests)) (trim_spelled bs from to at b next h r))))
 
 answer_at : (bs : List ℕ) (k kind at : ℕ) (b : Body) (next : ℕ) → (kind == k) ≡ true → read_answer kind bs at ≡ Got b next → read_answer k bs at ≡ Got b next
 answer_at bs k kind at b next e r = subst (λ x. read_answer x bs at ≡ Got b next) (same_is kind k e) r
 
-answer_body : (bs : List ℕ) (kind : ℕ) (from to : Who) (at : ℕ) (b : Body) (next : ℕ) (e f : Bool) → (kind == 14) ≡ e → (kind == 15) ≡ f → AreBytes bs → 14 ≤ kind → kind ≤ 16 → read_answer kind bs at ≡ Got b next → BodyRead bs kind from to at next b
-answer_body bs kind from to at b next true f e g h l m r = of_kind_is bs 14 kind from to at next b e (ended_spelled bs from to at b next h (answer_at bs 14 kind at b next e r))
-answer_body bs kind from to at b next false true e g h l m r = of_kind_is bs 15 kind from to at next b g (read_trim_spelled bs from to at b next h (answer_at bs 15 kind at b next g r))
-answer_body bs kind from to at b next false false e g h l m r = let k : (kind == 16) ≡ true = grind (arith, nat_tests) in of_kind_is bs 16 kind from to at next b k (wait_spelled bs from to at b next h (answer_at bs 16 kind at b next k r))
+answer_body : (bs : List ℕ) (kind : ℕ) (from to : Who) (at : ℕ) (b : Body) (next : ℕ) (e : Bool) → (kind == 15) ≡ e → AreBytes bs → 15 ≤ kind → kind ≤ 16 → read_answer kind bs at ≡ Got b next → BodyRead bs kind from to at next b
+answer_body bs kind from to at b next true e h l m r = of_kind_is bs 15 kind from to at next b e (read_trim_spelled bs from to at b next h (answer_at bs 15 kind at b next e r))
+answer_body bs kind from to at b next false e h l m r = let k : (kind == 16) ≡ true = grind (arith, nat_tests) in of_kind_is bs 16 kind from to at next b k (wait_spelled bs from to at b next h (answer_at bs 16 kind at b next k r))
 
-body_spelled : (bs : List ℕ) (kind : ℕ) (from to : Who) (at : ℕ) (b : Body) (next : ℕ) → AreBytes bs → 1 ≤ kind → kind ≤ 16 → read_body kind from to bs at ≡ Got b next → BodyRead bs kind from to at next b
+late_body : (bs : List ℕ) (kind : ℕ) (from to : Who) (at : ℕ) (b : Body) (next : ℕ) → AreBytes bs → is_kind kind ≡ true → 14 ≤ kind → read_late kind bs at ≡ Got b next → BodyRead bs kind from to at next b
+unfolding read_late
+late_body bs kind from to at b next h i l r =
+    by_cond (kind == 17) _ _ _ r (λ e r. of_kind_is bs 17 kind from to at next b e (clean_here_spelled bs from to at b next h r)) (λ e1 r.
+    by_cond (kind == 18) _ _ _ r (λ e r. of_kind_is bs 18 kind from to at next b e (clean_spelled bs from to at b next h r)) (λ e2 r.
+    by_cond (kind == 19) _ _ _ r (λ e r. of_kind_is bs 19 kind from to at next b e (ended_spelled bs from to at b next h r)) (λ e3 r.
+    answer_body bs kind from to at b next (kind == 15) refl h (grind (arith, nat_tests)) (grind (arith, nat_tests)) r)))
+
+body_spelled : (bs : List ℕ) (kind : ℕ) (from to : Who) (at : ℕ) (b : Body) (next : ℕ) → AreBytes bs → is_kind kind ≡ true → read_body kind from to bs at ≡ Got b next → BodyRead bs kind from to at next b
 unfolding read_body
-body_spelled bs kind from to at b next h l m r =
-    by_cond (nat_le kind 6) _ _ _ r (λ e r. stored_body bs kind from to at b next h l (le_is kind 6 e) r) (λ e1 r.
-    by_cond (nat_le kind 11) _ _ _ r (λ e r. told_body bs kind from to at b next h (grind (arith, nat_tests)) (le_is kind 11 e) r) (λ e2 r.
+body_spelled bs kind from to at b next h i r =
+    by_cond (nat_le kind 6) _ _ _ r (λ e r. stored_body bs kind from to at b next h i (le_is kind 6 e) r) (λ e1 r.
+    by_cond (nat_le kind 11) _ _ _ r (λ e r. told_body bs kind from to at b next h i (grind (arith, nat_tests)) (le_is kind 11 e) r) (λ e2 r.
     by_cond (kind == 12) _ _ _ r (λ e r. of_kind_is bs 12 kind from to at next b e (read_ask_spelled bs from to at b next h r)) (λ e3 r.
     by_cond (kind == 13) _ _ _ r (λ e r. of_kind_is bs 13 kind from to at next b e (read_page_spelled bs from to at b next h r)) (λ e4 r.
-    answer_body bs kind from to at b next (kind == 14) (kind == 15) refl refl h (grind (arith, nat_tests)) m r))))
+    late_body bs kind from to at b next h i (grind (arith, nat_tests)) r))))
 
 -- ---- messages ----
 
@@ -398,13 +408,13 @@ pub record MsgRead (bs : List ℕ) (kind : ℕ) (m : Msg) : Type 0 where
   pub kind_is : kind_of m.body ≡ kind
   pub is : IsMessage m
 
-pub msg_spelled : (bs : List ℕ) (kind : ℕ) (m : Msg) (next : ℕ) → AreBytes bs → 1 ≤ kind → kind ≤ 16 → read_msg kind bs ≡ Got m next → MsgRead bs kind m
+pub msg_spelled : (bs : List ℕ) (kind : ℕ) (m : Msg) (next : ℕ) → AreBytes bs → is_kind kind ≡ true → read_msg kind bs ≡ Got m next → MsgRead bs kind m
 unfolding read_msg
-msg_spelled bs kind m next h l k r =
+msg_spelled bs kind m next h i r =
     by_follow (read_who (sender kind) bs 1) _ m next r (λ from a f r. by_follow (read_who (receiver kind) bs a) _ m next r (λ to b g r.
     by_follow (read_log bs b) _ m next r (λ log c p r. by_follow (read_body kind from to bs c) _ m next r (λ body last q r.
     let e = ended bs last (record { from = from; to = to; log = log; body = body }) m next r in
-    let s = who_spelled bs (sender kind) 1 from a h f in let t = who_spelled bs (receiver kind) a to b h g in let u = log_spelled bs b log c h p in let v = body_spelled bs kind from to c body last h l k q in
+    let s = who_spelled bs (sender kind) 1 from a h f in let t = who_spelled bs (receiver kind) a to b h g in let u = log_spelled bs b log c h p in let v = body_spelled bs kind from to c body last h i q in
     subst (MsgRead bs kind) e.1 (record {
       there = (spelled_on bs 1 a last (who_bytes from) _ s.spelled (spelled_on bs a b last (who_bytes to) _ t.spelled (spelled_on bs b c last (big_bytes 4 log) (body_bytes body) u.spelled v.spelled))).there
           ∙ (ap (λ x. (who_bytes from ++ (who_bytes to ++ (big_bytes 4 log ++ body_bytes body))) ++ x) (gone bs last e.0) ∙ append-nil (who_bytes from ++ (who_bytes to ++ (big_bytes 4 log ++ body_bytes body))));

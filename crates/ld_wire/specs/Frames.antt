@@ -1,5 +1,5 @@
 -- Messages as frames: a length of four bytes, and so many bytes behind it.
-use Rattle.std.specs.Prelude.{ℕ, List, ◌++◌, length, Bool, true, false, ◌≤◌}
+use Rattle.std.specs.Prelude.{ℕ, List, ◌++◌, length, ◌≤◌}
 use Rattle.byteorder.specs.Endian.{big_bytes}
 use Rattle.ld_msg.specs.declared.msg.Who.{Who}
 use Rattle.ld_msg.specs.declared.msg.Who.TheVariants as whos
@@ -8,7 +8,7 @@ use Rattle.ld_msg.specs.declared.msg.Msg.{Msg}
 use Rattle.ld_msg.specs.declared.msg.Body.{Body}
 use Rattle.ld_msg.specs.declared.msg.Body.TheVariants as bodies
 use Rattle.ld_msg.specs.Bounds.{IsShort, AreEntries}
-use Rattle.ld_fields.specs.Items.{what_bytes, entries_bytes, summary_bytes}
+use Rattle.ld_fields.specs.Items.{what_bytes, entries_bytes, summary_bytes, flag}
 
 -- an actor is a tag and its number
 abbrev pub who_bytes : Who → List ℕ
@@ -19,25 +19,22 @@ who_bytes (whos.Reader r) = big_bytes 1 2 ++ big_bytes 4 r
 abbrev pub page_bytes : List Entry → List ℕ
 page_bytes es = big_bytes 2 (length es) ++ entries_bytes es
 
-abbrev pub flag : Bool → ℕ
-flag true = 1
-flag false = 0
-
+-- those of the bodies that grew since the first version come last
 unfoldable pub kind_of : Body → ℕ
 kind_of (bodies.Store n lng x) = 1
 kind_of (bodies.Stored n) = 2
 kind_of (bodies.SealedHere n k) = 3
 kind_of (bodies.LostHere n round g end) = 4
-kind_of (bodies.CleanHere n y) = 5
+kind_of (bodies.CleanHere n y) = 17
 kind_of (bodies.TrimmedHere n t) = 6
 kind_of (bodies.DigestAsk n) = 7
 kind_of (bodies.DigestPage n upto t lng es) = 8
-kind_of (bodies.Clean e y) = 9
+kind_of (bodies.Clean e y) = 18
 kind_of (bodies.Release n) = 10
 kind_of (bodies.Trim t) = 11
 kind_of (bodies.ReadAsk round n) = 12
 kind_of (bodies.ReadPage round n upto c es) = 13
-kind_of (bodies.ReadEnded round n end) = 14
+kind_of (bodies.ReadEnded round n end loss) = 19
 kind_of (bodies.ReadTrim round n t) = 15
 kind_of (bodies.ReadWait round n r) = 16
 
@@ -55,7 +52,7 @@ body_bytes (bodies.Release n) = big_bytes 8 n
 body_bytes (bodies.Trim t) = big_bytes 8 t
 body_bytes (bodies.ReadAsk round n) = big_bytes 4 round ++ big_bytes 8 n
 body_bytes (bodies.ReadPage round n upto c es) = big_bytes 4 round ++ (big_bytes 8 n ++ (big_bytes 8 upto ++ (big_bytes 1 (flag c) ++ page_bytes es)))
-body_bytes (bodies.ReadEnded round n end) = big_bytes 4 round ++ (big_bytes 8 n ++ big_bytes 8 end)
+body_bytes (bodies.ReadEnded round n end loss) = big_bytes 4 round ++ (big_bytes 8 n ++ (big_bytes 8 end ++ big_bytes 1 (flag loss)))
 body_bytes (bodies.ReadTrim round n t) = big_bytes 4 round ++ (big_bytes 8 n ++ big_bytes 8 t)
 body_bytes (bodies.ReadWait round n r) = big_bytes 4 round ++ (big_bytes 8 n ++ big_bytes 8 r)
 
@@ -81,6 +78,6 @@ CanCarry (bodies.Release n) = Unit {0}
 CanCarry (bodies.Trim t) = Unit {0}
 CanCarry (bodies.ReadAsk round n) = Unit {0}
 CanCarry (bodies.ReadPage round n upto c es) = (length es ≤ 64) × AreEntries es
-CanCarry (bodies.ReadEnded round n end) = Unit {0}
+CanCarry (bodies.ReadEnded round n end loss) = Unit {0}
 CanCarry (bodies.ReadTrim round n t) = Unit {0}
 CanCarry (bodies.ReadWait round n r) = Unit {0}

@@ -1,5 +1,5 @@
 -- How bytes are judged: the message that they begin with, or what is wrong with them.
-use Rattle.std.specs.Prelude.{ℕ, List, length, take, drop, Bool, true, ◌&&◌, ◌||◌, not, ◌==◌, nat_lt, nat_le, if◌then◌else◌, get_or}
+use Rattle.std.specs.Prelude.{ℕ, List, length, take, drop, Bool, true, false, ◌&&◌, ◌||◌, not, ◌==◌, nat_lt, nat_le, if◌then◌else◌, get_or}
 use Rattle.byteorder.specs.Endian.{big_number}
 use Rattle.ld_lsn.specs.Number.{epoch_of, esn_of, home_epoch}
 use Rattle.ld_msg.specs.declared.msg.Who.{Who}
@@ -13,7 +13,7 @@ use Rattle.ld_wire.specs.declared.role.Role.{Role}
 use Rattle.ld_wire.specs.declared.fault.WireFault.{WireFault}
 use Rattle.ld_wire.specs.declared.fault.WireFault.TheVariants as faults
 use Rattle.ld_fields.specs.Fields.{Read, Got, Off, follow, check, field, within, end_at}
-use Rattle.ld_fields.specs.Items.{greatest_epoch, greatest_lng, is_number, is_tag, tagged, read_entries, read_summary, read_log}
+use Rattle.ld_fields.specs.Items.{greatest_epoch, greatest_lng, is_number, is_tag, tagged, read_entries, read_flag, read_summary, read_log}
 use Rattle.ld_wire.specs.Roles.{may_be, sender, receiver}
 
 -- ---- actors ----
@@ -37,9 +37,9 @@ read_who role bs at =
 
 -- ---- pages ----
 
--- how many entries, and the entries
-unfoldable pub read_page : List ℕ → ℕ → ℕ → ℕ → ℕ → Read (List Entry)
-read_page bs top from upto at = follow (field 2 bs at) (λ count next. check (nat_le count 64) at (read_entries bs top upto count from next))
+-- how many entries, and the entries, bridges among them or not
+unfoldable pub read_page : List ℕ → Bool → ℕ → ℕ → ℕ → Read (List Entry)
+read_page bs bridges from upto at = follow (field 2 bs at) (λ count next. check (nat_le count 64) at (read_entries bs bridges upto count from next))
 
 -- the last number of a page
 unfoldable pub read_upto : List ℕ → ℕ → ℕ → Read ℕ
@@ -95,7 +95,7 @@ read_digest_page bs at =
     follow (read_upto bs n at_upto) (λ upto at_trim.
     follow (field 8 bs at_trim) (λ t at_lng.
     follow (field 4 bs at_lng) (λ lng at_page. check (nat_le lng greatest_lng) at_lng (
-    follow (read_page bs 2 n upto at_page) (λ es next. Got (bodies.DigestPage n upto t lng es) next))))))
+    follow (read_page bs true n upto at_page) (λ es next. Got (bodies.DigestPage n upto t lng es) next))))))
 
 unfoldable pub read_clean : List ℕ → ℕ → Read Body
 read_clean bs at = follow (field 4 bs at) (λ e a. check (within 1 greatest_epoch e) at (follow (read_summary bs e a) (λ y next. Got (bodies.Clean e y) next)))
@@ -113,14 +113,19 @@ unfoldable pub read_read_page : List ℕ → ℕ → Read Body
 read_read_page bs at =
     follow (read_asked bs at) (λ asked at_upto.
     follow (read_upto bs asked.1 at_upto) (λ upto at_clean.
-    follow (field 1 bs at_clean) (λ c at_page. check (nat_le c 1) at_clean (
-    follow (read_page bs 1 asked.1 upto at_page) (λ es next. Got (bodies.ReadPage asked.0 asked.1 upto (c == 1) es) next)))))
+    follow (read_flag bs at_clean) (λ clean at_page.
+    follow (read_page bs false asked.1 upto at_page) (λ es next. Got (bodies.ReadPage asked.0 asked.1 upto clean es) next))))
+
+unfoldable pub read_ended : List ℕ → ℕ → Read Body
+read_ended bs at =
+    follow (read_asked bs at) (λ asked at_end.
+    follow (field 8 bs at_end) (λ end at_loss.
+    follow (read_flag bs at_loss) (λ loss next. Got (bodies.ReadEnded asked.0 asked.1 end loss) next)))
 
 -- an answer of one number to a reader
 abbrev pub answer : ℕ → ℕ → ℕ → ℕ → Body
 answer kind round from n =
-    if kind == 14 then bodies.ReadEnded round from n
-    else if kind == 15 then bodies.ReadTrim round from n
+    if kind == 15 then bodies.ReadTrim round from n
     else bodies.ReadWait round from n
 
 unfoldable pub read_answer : ℕ → List ℕ → ℕ → Read Body
@@ -133,7 +138,6 @@ read_stored kind from to bs at =
     else if kind == 2 then follow (field 8 bs at) (λ n next. Got (bodies.Stored n) next)
     else if kind == 3 then read_sealed bs at
     else if kind == 4 then read_lost to bs at
-    else if kind == 5 then read_clean_here bs at
     else read_trimmed bs at
 
 -- digests, and what a sequencer tells
@@ -141,9 +145,16 @@ unfoldable pub read_told : ℕ → Who → List ℕ → ℕ → Read Body
 read_told kind from bs at =
     if kind == 7 then read_digest_ask (ballot_of from) bs at
     else if kind == 8 then read_digest_page bs at
-    else if kind == 9 then read_clean bs at
     else if kind == 10 then follow (field 8 bs at) (λ n next. Got (bodies.Release n) next)
     else follow (field 8 bs at) (λ n next. Got (bodies.Trim n) next)
+
+-- what grew since the first version, and the answers of one number
+unfoldable pub read_late : ℕ → List ℕ → ℕ → Read Body
+read_late kind bs at =
+    if kind == 17 then read_clean_here bs at
+    else if kind == 18 then read_clean bs at
+    else if kind == 19 then read_ended bs at
+    else read_answer kind bs at
 
 unfoldable pub read_body : ℕ → Who → Who → List ℕ → ℕ → Read Body
 read_body kind from to bs at =
@@ -151,7 +162,7 @@ read_body kind from to bs at =
     else if nat_le kind 11 then read_told kind from bs at
     else if kind == 12 then read_read_ask from bs at
     else if kind == 13 then read_read_page bs at
-    else read_answer kind bs at
+    else read_late kind bs at
 
 -- ---- frames ----
 
@@ -177,10 +188,14 @@ abbrev pub framed : ℕ → List ℕ → Read Msg → Reading
 framed kind rest (Got m next) = Complete m rest
 framed kind rest (Off place) = Refused (faults.BadField kind place)
 
+-- 5, 9 and 14 were the first version's closes
+abbrev pub is_kind : ℕ → Bool
+is_kind kind = within 1 19 kind && not ((kind == 5) || (kind == 9) || (kind == 14))
+
 -- behind a length of n
 unfoldable pub of_kind : ℕ → ℕ → List ℕ → Reading
 of_kind n kind bs =
-    if within 1 16 kind then (if nat_lt (length bs) n then Waits else framed kind (drop n bs) (read_msg kind (take n bs)))
+    if is_kind kind then (if nat_lt (length bs) n then Waits else framed kind (drop n bs) (read_msg kind (take n bs)))
     else Refused (faults.BadKind kind)
 
 unfoldable pub behind : ℕ → List ℕ → Reading

@@ -1,5 +1,5 @@
 -- Who may send and who may get the messages of a kind.
-use Rattle.std.specs.Prelude.{ℕ, Bool, ◌&&◌, ◌||◌, ◌==◌, nat_le, if◌then◌else◌}
+use Rattle.std.specs.Prelude.{ℕ, Bool, ◌&&◌, ◌||◌, not, ◌==◌, nat_le, if◌then◌else◌}
 use Rattle.ld_msg.specs.declared.msg.Who.{Who}
 use Rattle.ld_msg.specs.Bounds.{IsNodeHere, IsSequencerHere, IsAsker, IsActor}
 use Rattle.ld_wire.specs.declared.role.Role.{Role}
@@ -18,9 +18,9 @@ IsIn roles.Sequencer who = IsSequencerHere who
 IsIn roles.Asker who = IsAsker who
 IsIn roles.Anyone who = IsActor who
 
--- what a sequencer sends: Store, DigestAsk, Clean, Release, Trim
+-- what a sequencer sends: Store, DigestAsk, Release, Trim, Clean
 abbrev pub by_sequencer : ℕ → Bool
-by_sequencer kind = (kind == 1) || (kind == 7) || (nat_le 9 kind && nat_le kind 11)
+by_sequencer kind = (kind == 1) || (kind == 7) || (kind == 10) || (kind == 11) || (kind == 18)
 
 unfoldable pub sender : ℕ → Role
 sender kind =
@@ -32,5 +32,5 @@ unfoldable pub receiver : ℕ → Role
 receiver kind =
     if kind == 4 then roles.Anyone
     else if by_sequencer kind || (kind == 12) then roles.Node
-    else if nat_le 13 kind then roles.Asker
+    else if nat_le 13 kind && not (kind == 17) then roles.Asker
     else roles.Sequencer

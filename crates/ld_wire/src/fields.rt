@@ -2,12 +2,12 @@
 ghost use Rattle.std.specs.Prelude.{◌≡◌, ◌≤◌, length, IfOk, IfErr};
 ghost use Rattle.ld_fields.specs.Fields.{Got};
 ghost use Rattle.ld_fields.specs.Faults.{IsOff};
-ghost use Rattle.ld_wire.specs.Judging.{asks_in, answers_in, may_store, answer, read_store, read_sealed, read_lost, read_clean_here, read_trimmed, read_digest_ask, read_digest_page, read_clean, read_read_ask, read_asked, read_read_page, read_answer, read_stored, read_told, read_body};
+ghost use Rattle.ld_wire.specs.Judging.{asks_in, answers_in, may_store, answer, read_store, read_sealed, read_lost, read_clean_here, read_trimmed, read_digest_ask, read_digest_page, read_clean, read_read_ask, read_asked, read_read_page, read_ended, read_answer, read_stored, read_told, read_late, read_body};
 
 use crate::page::{read_page, read_upto};
 use ld_fields::{
-    FieldFault, GREATEST_EPOCH, GREATEST_LNG, check, is_number, is_tag, read_number, read_summary,
-    read_u8, read_u32, read_what,
+    FieldFault, GREATEST_EPOCH, GREATEST_LNG, check, is_number, is_tag, read_flag, read_number,
+    read_summary, read_u8, read_u32, read_what,
 };
 use ld_lsn::Lsn;
 use ld_msg::{Body, Who};
@@ -40,6 +40,25 @@ pub(crate) fn read_body(
     if kind == 13 {
         return read_read_page(alloc, bytes, at);
     }
+    read_late(bytes, kind, at)
+}
+
+#[tactic(auto, unfolding(crate::specs::Judging::read_late))]
+fn read_late(bytes: &[u8], kind: u8, at: usize) -> Result<(Body, usize), FieldFault>
+    requires { at ≤ length bytes.now }
+    ensures ok { IfOk result (λ p. read_late kind bytes.now at ≡ Got p.0 p.1) }
+    ensures next { IfOk result (λ p. p.1 ≤ length bytes.now) }
+    ensures off { IfErr result (IsOff (read_late kind bytes.now at)) }
+{
+    if kind == 17 {
+        return read_clean_here(bytes, at);
+    }
+    if kind == 18 {
+        return read_clean(bytes, at);
+    }
+    if kind == 19 {
+        return read_ended(bytes, at);
+    }
     read_answer(bytes, kind, at)
 }
 
@@ -70,9 +89,6 @@ fn read_stored(
     if kind == 4 {
         return read_lost(bytes, to, at);
     }
-    if kind == 5 {
-        return read_clean_here(bytes, at);
-    }
     read_trimmed(bytes, at)
 }
 
@@ -94,9 +110,6 @@ fn read_told(
     }
     if kind == 8 {
         return read_digest_page(alloc, bytes, at);
-    }
-    if kind == 9 {
-        return read_clean(bytes, at);
     }
     if kind == 10 {
         let (released, next) = read_number(bytes, at)?;
@@ -231,7 +244,7 @@ fn read_digest_page(alloc: Global, bytes: &[u8], at: usize) -> Result<(Body, usi
     let (trim, at_lng) = read_number(bytes, at_trim)?;
     let (lng, at_page) = read_u32(bytes, at_lng)?;
     check(lng <= GREATEST_LNG, at_lng)?;
-    let (entries, next) = read_page(alloc, bytes, 2, from, upto, at_page)?;
+    let (entries, next) = read_page(alloc, bytes, true, from, upto, at_page)?;
     Ok((
         Body::DigestPage {
             from,
@@ -296,16 +309,36 @@ fn read_read_page(alloc: Global, bytes: &[u8], at: usize) -> Result<(Body, usize
 {
     let ((round, from), at_upto) = read_asked(bytes, at)?;
     let (upto, at_clean) = read_upto(bytes, from, at_upto)?;
-    let (clean, at_page) = read_u8(bytes, at_clean)?;
-    check(clean <= 1, at_clean)?;
-    let (entries, next) = read_page(alloc, bytes, 1, from, upto, at_page)?;
+    let (clean, at_page) = read_flag(bytes, at_clean)?;
+    let (entries, next) = read_page(alloc, bytes, false, from, upto, at_page)?;
     Ok((
         Body::ReadPage {
             round,
             from,
             upto,
-            clean: clean == 1,
+            clean,
             entries,
+        },
+        next,
+    ))
+}
+
+#[tactic(auto, unfolding(crate::specs::Judging::read_ended))]
+fn read_ended(bytes: &[u8], at: usize) -> Result<(Body, usize), FieldFault>
+    requires { at ≤ length bytes.now }
+    ensures ok { IfOk result (λ p. read_ended bytes.now at ≡ Got p.0 p.1) }
+    ensures next { IfOk result (λ p. p.1 ≤ length bytes.now) }
+    ensures off { IfErr result (IsOff (read_ended bytes.now at)) }
+{
+    let ((round, from), at_end) = read_asked(bytes, at)?;
+    let (end, at_loss) = read_number(bytes, at_end)?;
+    let (loss, next) = read_flag(bytes, at_loss)?;
+    Ok((
+        Body::ReadEnded {
+            round,
+            from,
+            end,
+            loss,
         },
         next,
     ))
@@ -340,13 +373,6 @@ fn read_answer(bytes: &[u8], kind: u8, at: usize) -> Result<(Body, usize), Field
 fn answer(kind: u8, round: u32, from: Lsn, number: Lsn) -> Body
     ensures { result ≡ answer kind round from number }
 {
-    if kind == 14 {
-        return Body::ReadEnded {
-            round,
-            from,
-            end: number,
-        };
-    }
     if kind == 15 {
         return Body::ReadTrim {
             round,

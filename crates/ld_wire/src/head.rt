@@ -6,7 +6,7 @@ ghost use Rattle.ld_fields.specs.Fields.{Got};
 ghost use Rattle.ld_wire.specs.Frames.{frame_of};
 ghost use Rattle.ld_fields.specs.Faults.{IsOff};
 ghost use Rattle.ld_wire.specs.Faults.{IsRefused, IsOffIn};
-ghost use Rattle.ld_wire.specs.Judging.{Complete, Waits, judge, behind, read_msg};
+ghost use Rattle.ld_wire.specs.Judging.{Complete, Waits, judge, behind, is_kind, read_msg};
 
 use crate::WireFault;
 use crate::actor::read_who;
@@ -83,7 +83,7 @@ fn read_behind(alloc: Global, bytes: &[u8], size: usize) -> Result<Option<Msg>, 
         return Ok(None);
     }
     let kind = bytes[0];
-    if kind < 1 || 16 < kind {
+    if !is_kind(kind) {
         return Err(WireFault::BadKind(kind));
     }
     if bytes.len() < size {
@@ -91,6 +91,13 @@ fn read_behind(alloc: Global, bytes: &[u8], size: usize) -> Result<Option<Msg>, 
     }
     let message = read_msg(alloc, &bytes[..size], kind)?;
     Ok(Some(message))
+}
+
+/// Whether messages have the kind; 5, 9 and 14 were those of the first version's closes.
+fn is_kind(kind: u8) -> bool
+    ensures { result ≡ is_kind kind }
+{
+    1 <= kind && kind <= 19 && !(kind == 5 || kind == 9 || kind == 14)
 }
 
 /// The message of the kind that the bytes of a frame are, the kind among them.

@@ -36,22 +36,22 @@ fn home_epoch(number: Lsn) -> u32
     epoch
 }
 
-/// The count of a page at a place, and its entries, with tags up to the top.
+/// The count of a page at a place, and its entries, bridges among them or not.
 #[tactic(auto, unfolding(crate::specs::Judging::read_page))]
 pub(crate) fn read_page(
     alloc: Global,
     bytes: &[u8],
-    top: u8,
+    bridges: bool,
     from: Lsn,
     upto: Lsn,
     at: usize,
 ) -> Result<(Entries, usize), FieldFault>
     requires { at ≤ length bytes.now }
-    ensures ok { IfOk result (λ p. read_page bytes.now top from upto at ≡ Got p.0 p.1) }
+    ensures ok { IfOk result (λ p. read_page bytes.now bridges from upto at ≡ Got p.0 p.1) }
     ensures next { IfOk result (λ p. p.1 ≤ length bytes.now) }
-    ensures off { IfErr result (IsOff (read_page bytes.now top from upto at)) }
+    ensures off { IfErr result (IsOff (read_page bytes.now bridges from upto at)) }
 {
     let (count, at_entries) = read_u16(bytes, at)?;
     check(count <= MOST_ENTRIES, at)?;
-    read_entries(alloc, bytes, top, upto, count, from, at_entries)
+    read_entries(alloc, bytes, bridges, upto, count, from, at_entries)
 }

@@ -32,7 +32,7 @@ impl Role {
 fn by_sequencer(kind: u8) -> bool
     ensures { result ≡ by_sequencer kind }
 {
-    kind == 1 || kind == 7 || (9 <= kind && kind <= 11)
+    kind == 1 || kind == 7 || kind == 10 || kind == 11 || kind == 18
 }
 
 /// Who sends the messages of a kind.
@@ -60,7 +60,7 @@ pub fn receiver(kind: u8) -> Role
     if by_sequencer(kind) || kind == 12 {
         return Role::Node;
     }
-    if kind >= 13 {
+    if 13 <= kind && kind != 17 {
         return Role::Asker;
     }
     Role::Sequencer

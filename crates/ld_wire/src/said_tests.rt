@@ -2,8 +2,8 @@
 use crate::Decoder;
 use crate::samples::{
     CLEAN, CLEAN_HERE, DIGEST_ASK, DIGEST_PAGE, LOST_HERE, LOST_HERE_READER, READ_ASK, READ_ENDED,
-    READ_PAGE, READ_TRIM, READ_WAIT, RELEASE, SEALED_HERE, STORE, STORE_BRIDGE, STORED, TRIM,
-    TRIMMED_HERE,
+    READ_PAGE, READ_PAGE_PLUG, READ_TRIM, READ_WAIT, RELEASE, SEALED_HERE, STORE, STORE_BRIDGE,
+    STORE_PLUG, STORED, TRIM, TRIMMED_HERE,
 };
 use crate::tests::{ASK, ENDED, TRIM_TO_E1N1, framed};
 use ld_ids::{LogId, NoMemory, NodeId, Payload};
@@ -97,6 +97,7 @@ fn a_reader_asks_and_is_answered_so(rt: HostRuntime) -> Result<(), Fail> {
         round: 1,
         from: Lsn::new(0, 1),
         end: Lsn::new(0, 1),
+        loss: false,
     };
     assert!(rt; is_first(rt.alloc(), ASK, message(Who::Reader(0), node(1), 1, ask)));
     assert!(rt;
@@ -136,6 +137,19 @@ fn stores_are_read(rt: HostRuntime) -> Result<(), Fail> {
                 number: Lsn::new(2, u32::MAX),
                 lng: 0,
                 what: What::Bridge
+            }
+        )
+    );
+    assert!(rt;
+        says(
+            alloc,
+            STORE_PLUG,
+            Who::Sequencer(3),
+            node(4),
+            Body::Store {
+                number: Lsn::new(2, 5),
+                lng: 0,
+                what: What::Plug
             }
         )
     );
@@ -219,6 +233,7 @@ fn closed_epochs_are_read(rt: HostRuntime) -> Result<(), Fail> {
         lng: 0,
         trim: Lsn::new(1, 1),
         end: 6,
+        loss: false,
     };
     assert!(rt;
         says(
@@ -237,6 +252,7 @@ fn closed_epochs_are_read(rt: HostRuntime) -> Result<(), Fail> {
         lng: 1,
         trim: Lsn::new(1, 1),
         end: 6,
+        loss: true,
     };
     assert!(rt;
         says(
@@ -341,6 +357,26 @@ fn read_pages_are_read(rt: HostRuntime) -> Result<(), Fail> {
 }
 
 #[test]
+fn plugs_are_read(rt: HostRuntime) -> Result<(), Fail> {
+    let alloc = rt.alloc();
+    let mut entries = Entries::empty(alloc);
+    entries.push(Entry {
+        number: Lsn::new(1, 2),
+        ballot: 2,
+        what: What::Plug,
+    })?;
+    let body = Body::ReadPage {
+        round: 5,
+        from: Lsn::new(1, 1),
+        upto: Lsn::new(1, 3),
+        clean: true,
+        entries,
+    };
+    assert!(rt; says(alloc, READ_PAGE_PLUG, node(4), Who::Reader(7), body));
+    Ok(())
+}
+
+#[test]
 fn other_answers_are_read(rt: HostRuntime) -> Result<(), Fail> {
     let alloc = rt.alloc();
     assert!(rt;
@@ -352,7 +388,8 @@ fn other_answers_are_read(rt: HostRuntime) -> Result<(), Fail> {
             Body::ReadEnded {
                 round: 5,
                 from: Lsn::new(1, 9),
-                end: Lsn::new(1, 8)
+                end: Lsn::new(1, 8),
+                loss: true
             }
         )
     );

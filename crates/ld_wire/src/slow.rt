@@ -46,7 +46,7 @@ fn home(number: u64) -> u64 {
 
 /// Whether an actor of the tag may send a message of the kind.
 fn may_send(kind: u64, tag: u64) -> bool {
-    if kind == 1 || kind == 7 || kind == 9 || kind == 10 || kind == 11 {
+    if kind == 1 || kind == 7 || kind == 10 || kind == 11 || kind == 18 {
         return tag == 1;
     }
     tag == 0 || (kind == 12 && tag == 2)
@@ -54,13 +54,13 @@ fn may_send(kind: u64, tag: u64) -> bool {
 
 /// Whether an actor of the tag may get a message of the kind.
 fn may_get(kind: u64, tag: u64) -> bool {
-    if kind == 2 || kind == 3 || kind == 5 || kind == 6 || kind == 8 {
+    if kind == 2 || kind == 3 || kind == 6 || kind == 8 || kind == 17 {
         return tag == 1;
     }
     if kind == 4 {
         return tag <= 2;
     }
-    tag == 0 || (kind >= 13 && tag == 2)
+    tag == 0 || (kind >= 13 && kind != 18 && tag == 2)
 }
 
 fn is_actor(tag: u64, number: u64) -> bool {
@@ -91,7 +91,7 @@ fn is_entry_number(number: u64) -> bool {
 }
 
 fn is_entry_tag(number: u64, tag: u64) -> bool {
-    tag <= 2 && (place(number) < 4_294_967_295 || tag == 2)
+    tag <= 3 && (place(number) < 4_294_967_295 || tag == 2)
 }
 
 fn store(body: &[u8]) -> [(usize, usize, bool); 5] {
@@ -127,12 +127,13 @@ fn summary(body: &[u8], at: usize, epoch: u64) -> [(usize, usize, bool); 5] {
     let ballot = number(body, at, 4);
     let trim = at.saturating_add(8);
     let end = at.saturating_add(16);
+    let loss = at.saturating_add(20);
     [
         (at, 4, epoch < ballot && is_epoch(ballot)),
         (at.saturating_add(4), 4, true),
         (trim, 8, true),
         (end, 4, number(body, end, 4) >= 1),
-        (end, 4, true),
+        (loss, 1, number(body, loss, 1) <= 1),
     ]
 }
 
@@ -186,6 +187,16 @@ fn asked(body: &[u8], last: usize) -> [(usize, usize, bool); 5] {
     ]
 }
 
+fn ended(body: &[u8]) -> [(usize, usize, bool); 5] {
+    [
+        (15, 4, true),
+        (19, 8, number(body, 19, 8) >= 1),
+        (27, 8, true),
+        (35, 1, number(body, 35, 1) <= 1),
+        (15, 4, true),
+    ]
+}
+
 /// The first wrong field of those that stand at places of their own.
 fn first_wrong_field(body: &[u8], kind: u64) -> Option<usize> {
     if kind == 1 {
@@ -209,21 +220,24 @@ fn first_wrong_field(body: &[u8], kind: u64) -> Option<usize> {
     if kind == 13 {
         return first_wrong(body, &read_page(body));
     }
-    if kind >= 14 {
+    if kind == 15 || kind == 16 {
         return first_wrong(body, &asked(body, 8));
+    }
+    if kind == 19 {
+        return first_wrong(body, &ended(body));
     }
     first_wrong_number(body, kind)
 }
 
 fn first_wrong_number(body: &[u8], kind: u64) -> Option<usize> {
-    if kind == 5 {
+    if kind == 17 {
         let wrong = first_wrong(body, &any(8, 0));
         if wrong.is_some() {
             return wrong;
         }
         return first_wrong(body, &summary(body, 23, epoch(number(body, 15, 8))));
     }
-    if kind == 9 {
+    if kind == 18 {
         let closed = number(body, 15, 4);
         let wrong = first_wrong(body, &[(15, 4, is_epoch(closed))]);
         if wrong.is_some() {
@@ -254,7 +268,13 @@ fn payload(body: &[u8], at: usize) -> Result<usize, usize> {
 }
 
 /// Where an entry at a place ends, and its number; or the first wrong field in it.
-fn entry(body: &[u8], at: usize, top: u64, least: u64, most: u64) -> Result<(usize, u64), usize> {
+fn entry(
+    body: &[u8],
+    at: usize,
+    bridges: bool,
+    least: u64,
+    most: u64,
+) -> Result<(usize, u64), usize> {
     let found = number(body, at, 8);
     let ballot = number(body, at.saturating_add(8), 4);
     let tag = number(body, at.saturating_add(12), 1);
@@ -272,7 +292,7 @@ fn entry(body: &[u8], at: usize, top: u64, least: u64, most: u64) -> Result<(usi
         (
             at.saturating_add(12),
             1,
-            is_entry_tag(found, tag) && tag <= top,
+            is_entry_tag(found, tag) && (bridges || tag != 2),
         ),
     ];
     if let Some(place) = first_wrong(body, &fields) {
@@ -288,12 +308,12 @@ fn entry(body: &[u8], at: usize, top: u64, least: u64, most: u64) -> Result<(usi
     }
 }
 
-fn entries(body: &[u8], at: usize, top: u64, from: u64, most: u64) -> Result<usize, usize> {
+fn entries(body: &[u8], at: usize, bridges: bool, from: u64, most: u64) -> Result<usize, usize> {
     let count = number(body, at, 2);
     let mut next = at.saturating_add(2);
     let mut least = from;
     for _ in 0..count {
-        match entry(body, next, top, least, most) {
+        match entry(body, next, bridges, least, most) {
             Ok((end, found)) => {
                 next = end;
                 least = found.saturating_add(1);
@@ -315,13 +335,13 @@ fn end(body: &[u8], kind: u64) -> Result<usize, usize> {
         return payload(body, 28);
     }
     if kind == 8 {
-        return entries(body, 43, 2, number(body, 15, 8), number(body, 23, 8));
+        return entries(body, 43, true, number(body, 15, 8), number(body, 23, 8));
     }
     if kind == 13 {
-        return entries(body, 36, 1, number(body, 19, 8), number(body, 27, 8));
+        return entries(body, 36, false, number(body, 19, 8), number(body, 27, 8));
     }
-    let ends: [usize; 17] = [
-        0, 0, 23, 27, 39, 43, 31, 23, 0, 39, 23, 23, 27, 0, 35, 35, 35,
+    let ends: [usize; 20] = [
+        0, 0, 23, 27, 39, 0, 31, 23, 0, 0, 23, 23, 27, 0, 0, 35, 35, 44, 40, 36,
     ];
     match ends.get(kind as usize) {
         Some(end) => Ok(*end),
@@ -329,7 +349,13 @@ fn end(body: &[u8], kind: u64) -> Result<usize, usize> {
     }
 }
 
-/// The place of what is wrong in the bytes behind a length, where their kind is one of the sixteen.
+/// Whether messages have the kind.
+pub fn is_kind(kind: u8) -> bool {
+    let is_older = kind == 5 || kind == 9 || kind == 14;
+    1 <= kind && kind <= 19 && !is_older
+}
+
+/// The place of what is wrong in the bytes behind a length, where messages have their kind.
 pub fn wrong_place(body: &[u8]) -> Option<usize> {
     let kind = number(body, 0, 1);
     let wrong = first_wrong(body, &head(body, kind));

@@ -2,7 +2,7 @@
 ghost use Rattle.std.specs.Prelude.{◌≤◌};
 
 use crate::samples::{STORE, samples};
-use crate::slow::wrong_place;
+use crate::slow::{is_kind, wrong_place};
 use crate::{Decoder, WireFault, encode};
 use ld_ids::NoMemory;
 use std::alloc::Global;
@@ -52,7 +52,7 @@ fn is_judged(alloc: Global, body: &[u8], frame: &[u8]) -> bool {
             return is_refused(alloc, frame, WireFault::BadField(0, 0));
         }
     };
-    if kind < 1 || kind > 16 {
+    if !is_kind(kind) {
         return is_refused(alloc, frame, WireFault::BadKind(kind));
     }
     match wrong_place(body) {
@@ -79,7 +79,9 @@ fn changed(alloc: Global, body: &[u8], at: usize, byte: u8) -> Result<Vec<u8>, F
 /// Whether the bytes are judged as the plain reading says with any one byte changed.
 fn agrees_with_one(alloc: Global, body: &[u8]) -> Result<bool, Fail> {
     for at in 0..body.len() {
-        for byte in [0, 1, 2, 3, 4, 16, 17, 64, 65, 127, 200, 254, 255] {
+        for byte in [
+            0, 1, 2, 3, 4, 5, 9, 14, 16, 19, 20, 64, 65, 127, 200, 254, 255,
+        ] {
             let bytes = changed(alloc, body, at, byte)?;
             if !agrees(alloc, &bytes) {
                 return Ok(false);
@@ -158,7 +160,7 @@ pub(crate) const ASK: &[u8] =
     b"\x00\x00\x00\x1b\x0c\x02\x00\x00\x00\x00\x00\x00\x00\x00\x01\x00\x00\x00\x01\x00\x00\x00\x01\x00\x00\x00\x00\x00\x00\x00\x01";
 
 pub(crate) const ENDED: &[u8] =
-    b"\x00\x00\x00\x23\x0e\x00\x00\x00\x00\x01\x02\x00\x00\x00\x00\x00\x00\x00\x01\x00\x00\x00\x01\x00\x00\x00\x00\x00\x00\x00\x01\x00\x00\x00\x00\x00\x00\x00\x01";
+    b"\x00\x00\x00\x24\x13\x00\x00\x00\x00\x01\x02\x00\x00\x00\x00\x00\x00\x00\x01\x00\x00\x00\x01\x00\x00\x00\x00\x00\x00\x00\x01\x00\x00\x00\x00\x00\x00\x00\x01\x00";
 
 #[test]
 fn frames_go_round(rt: HostRuntime) -> Result<(), Fail> {
@@ -203,13 +205,16 @@ fn cut_and_surplus_bytes_are_charged(rt: HostRuntime) -> Result<(), Fail> {
 
 /// Bytes that begin no frame: faults in the length and the kind, which are told at once, and a trim that is cut short by
 /// its last byte, has one more, comes from a node, or goes to nobody.
-const REFUSED: [(&[u8], WireFault); 11] = [
+const REFUSED: [(&[u8], WireFault); 14] = [
     (b"\x00\x80\x00\x01", WireFault::TooLong(8_388_609)),
     (b"\xff\xff\xff\xff", WireFault::TooLong(u32::MAX)),
     (b"\x00\x00\x00\x00", WireFault::BadField(0, 0)),
     (b"\x00\x80\x00\x00\xc8", WireFault::BadKind(200)),
     (b"\x00\x00\x00\x01\x00", WireFault::BadKind(0)),
-    (b"\x00\x00\x00\x01\x11", WireFault::BadKind(17)),
+    (b"\x00\x00\x00\x01\x05", WireFault::BadKind(5)),
+    (b"\x00\x00\x00\x01\x09", WireFault::BadKind(9)),
+    (b"\x00\x00\x00\x01\x0e", WireFault::BadKind(14)),
+    (b"\x00\x00\x00\x01\x14", WireFault::BadKind(20)),
     (b"\x00\x00\x00\x01\x10", WireFault::BadField(16, 1)),
     (
         b"\x00\x00\x00\x16\x0b\x01\x00\x00\x00\x01\x00\x00\x00\x00\x01\x00\x00\x00\x01\x00\x00\x00\x01\x00\x00\x00",

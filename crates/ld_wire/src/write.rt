@@ -2,11 +2,13 @@
 ghost use Rattle.std.specs.Prelude.{◌≡◌, ◌≤◌, ◌++◌, length, OnOk, IfOk};
 ghost use Rattle.byteorder.specs.Endian.{big_bytes};
 ghost use Rattle.ld_msg.specs.Bounds.{IsMessage, IsShort, AreEntries};
-ghost use Rattle.ld_fields.specs.Items.{what_bytes, summary_bytes};
-ghost use Rattle.ld_wire.specs.Frames.{who_bytes, page_bytes, kind_of, body_bytes, msg_bytes, frame_of, flag, CanCarry};
+ghost use Rattle.ld_fields.specs.Items.{what_bytes, summary_bytes, flag};
+ghost use Rattle.ld_wire.specs.Frames.{who_bytes, page_bytes, kind_of, body_bytes, msg_bytes, frame_of, CanCarry};
 
 use crate::Frame;
-use ld_fields::{put_entries, put_number, put_summary, put_u8, put_u16, put_u32, put_what};
+use ld_fields::{
+    put_entries, put_flag, put_number, put_summary, put_u8, put_u16, put_u32, put_what,
+};
 use ld_ids::NoMemory;
 use ld_lsn::Lsn;
 use ld_msg::{Body, Entry, Msg, Summary, What, Who};
@@ -58,16 +60,16 @@ fn kind(body: &Body) -> u8
         Body::Stored { .. } => 2,
         Body::SealedHere { .. } => 3,
         Body::LostHere { .. } => 4,
-        Body::CleanHere { .. } => 5,
+        Body::CleanHere { .. } => 17,
         Body::TrimmedHere { .. } => 6,
         Body::DigestAsk { .. } => 7,
         Body::DigestPage { .. } => 8,
-        Body::Clean { .. } => 9,
+        Body::Clean { .. } => 18,
         Body::Release { .. } => 10,
         Body::Trim { .. } => 11,
         Body::ReadAsk { .. } => 12,
         Body::ReadPage { .. } => 13,
-        Body::ReadEnded { .. } => 14,
+        Body::ReadEnded { .. } => 19,
         Body::ReadTrim { .. } => 15,
         Body::ReadWait { .. } => 16,
     }
@@ -138,7 +140,12 @@ fn put_body(out: &mut Vec<u8>, body: &Body) -> Result<(), NoMemory>
             clean,
             entries,
         } => put_read_page(out, *round, *from, *upto, *clean, entries.as_slice()),
-        Body::ReadEnded { round, from, end } => put_answer(out, *round, *from, *end),
+        Body::ReadEnded {
+            round,
+            from,
+            end,
+            loss,
+        } => put_ended(out, *round, *from, *end, *loss),
         Body::ReadTrim { round, from, trim } => put_answer(out, *round, *from, *trim),
         Body::ReadWait {
             round,
@@ -253,14 +260,8 @@ fn put_entries_upto(
     ensures { OnOk result (out.new.items ≡ out.old.items ++ (big_bytes 8 upto ++ (big_bytes 1 (flag clean) ++ page_bytes entries.now))) }
 {
     put_number(out, upto)?;
-    put_u8(out, flag(clean))?;
+    put_flag(out, clean)?;
     put_page(out, entries)
-}
-
-fn flag(clean: bool) -> u8
-    ensures { result ≡ flag clean }
-{
-    if clean { 1 } else { 0 }
 }
 
 fn put_two(out: &mut Vec<u8>, first: Lsn, second: Lsn) -> Result<(), NoMemory>
@@ -275,6 +276,14 @@ fn put_asked(out: &mut Vec<u8>, round: u32, from: Lsn) -> Result<(), NoMemory>
 {
     put_u32(out, round)?;
     put_number(out, from)
+}
+
+fn put_ended(out: &mut Vec<u8>, round: u32, from: Lsn, end: Lsn, loss: bool) -> Result<(), NoMemory>
+    ensures { OnOk result (out.new.items ≡ out.old.items ++ (big_bytes 4 round ++ (big_bytes 8 from ++ (big_bytes 8 end ++ big_bytes 1 (flag loss))))) }
+{
+    put_asked(out, round, from)?;
+    put_number(out, end)?;
+    put_flag(out, loss)
 }
 
 fn put_answer(out: &mut Vec<u8>, round: u32, from: Lsn, number: Lsn) -> Result<(), NoMemory>

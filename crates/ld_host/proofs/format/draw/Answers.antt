@@ -17,13 +17,13 @@ returns-in-Ok-clause-formats g c settings n x r fresh loaded tells =
     let told = c.in-Ok.ensures in
     let drawn = c.in-Ok.drawn in
     let p = disk_plain (disk_of node) in
-    let place = place_behind fresh.lies.ops in
+    let place = place_behind fresh.lies.found in
     let tells_then = g.G.Register.tells c.format.new.reg in
     let after : tells_then (after_draw r n) = ⊎_elim (λ no. nothing_of (ok_no_error drawn faults.NoMemory no.0)) (λ t. subst (λ k. tells_then (after_draw r k)) fresh.id t) (told.tells r fresh.holds.works tells) in
     let by : FormatsBy place p (calls.drawn r n) (Some (disk_plain (disk_of new))) (Ok drawn) = ⊎_elim (λ no. nothing_of (ok_no_error drawn faults.NoMemory no))
     (λ b. by_here settings n node x r tells_then fresh loaded (Some (disk_plain (disk_of new))) (Ok drawn) b) (told.exact r p fresh.holds.works tells refl) in
     let was = was_kept place p (Some (disk_plain (disk_of new))) (calls.drawn r n) drawn by in
-    formats_done settings n node x r tells_then fresh loaded after drawn new was told.rest.0 told.rest.1 told.rest.2 (told.acknowledged fresh.lies.ops fresh.holds)
+    formats_done settings n node x r tells_then fresh loaded after drawn new was told.rest.0 told.rest.1 told.rest.2 (told.acknowledged fresh.lies.found fresh.holds)
 
 pub returns-in-Err-clause-formats : goal.returns-in-Err-clause-formats
 returns-in-Err-clause-formats g c settings n x r fresh loaded tells =

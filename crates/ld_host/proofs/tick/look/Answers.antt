@@ -18,7 +18,7 @@ returns-in-Ok-clause-stands g c settings n x r runs has closed tells =
     let held = g.met.G.Register.tells_what_is_held c.args.reg.now r tells in
     let exact = told.exact (unarmed r) (disk_plain (disk_of node)) held refl (inl refl) in
     let done = ticked_well settings n node x l r runs c.requires.formatted has closed (ticked (known_of node) (plain_of node) l (unarmed r)) new c.in-Ok.ticked refl
-    told.rest.0 told.rest.1 told.rest.2 (told.acknowledged runs.lies.ops (unarmed r) runs.holds held)
+    told.rest.0 told.rest.1 told.rest.2 (told.acknowledged runs.lies.found (unarmed r) runs.holds held)
     (λ past. ⊎_elim (λ e. ok_no_error c.in-Ok.ticked _ e) (λ e. ⊎_elim (λ f. ok_no_error c.in-Ok.ticked _ f) (λ f. ok_no_error c.in-Ok.ticked _ f.1) e) (told.too_long (unarmed r) held runs.holds.works past))
     (some_is (disk_plain (disk_of new)) _ exact.0) (sym exact.1) (told.answer (unarmed r) held) in
     (done.0, told.tells r tells, done.1, done.2)

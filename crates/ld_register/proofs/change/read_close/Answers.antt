@@ -1,23 +1,15 @@
-use Rattle.std.proofs.Common.{◌∙◌, ap, arith}
-use Rattle.std.specs.Int.{w32, w64, to_be_bytes}
-use Rattle.ld_register.proofs.Bytes.{close_is, no_close}
+use Rattle.std.proofs.Common.{arith}
+use Rattle.ld_register.proofs.Bytes.{close_is, no_close, no_flag, flag_of}
 use Rattle.ld_register.proofs.change.read_close.Goals as goal
 
 pub returns-in_default-clause-none : goal.returns-in_default-clause-none
-returns-in_default-clause-none c = no_close c.args.body.now c.word-number.result c.word-epoch.result (record { ballot = c.word.result; lng = c.word-2.result; trim = c.from_u64.result; end = c.word-3.result }) c.requires.len c.word-number.type_inv c.word-epoch.type_inv c.word.type_inv c.word-2.type_inv c.word-3.type_inv
-    c.word-number.ensures c.word-epoch.ensures c.word.ensures c.word-2.ensures c.word-3.ensures (λ i e f g k h. c.in_default.ensures.none i)
+returns-in_default-clause-none c = no_close c.args.body.now c.requires.len c.in_default.ensures.none
 
-pub returns-then-epoch-eq0-clause-none : goal.returns-then-epoch-eq0-clause-none
-returns-then-epoch-eq0-clause-none c = no_close c.args.body.now c.word-number.result c.word-epoch.result (record { ballot = c.word.result; lng = c.word-2.result; trim = c.from_u64.result; end = c.word-3.result }) c.requires.len c.word-number.type_inv c.word-epoch.type_inv c.word.type_inv c.word-2.type_inv c.word-3.type_inv
-    c.word-number.ensures c.word-epoch.ensures c.word.ensures c.word-2.ensures c.word-3.ensures (λ i e f g k h. let o = c.then-epoch-eq0.either in let a = e.0 in omega arith)
-
-pub returns-then-summary-gt-GREATEST_EPOCH-clause-none : goal.returns-then-summary-gt-GREATEST_EPOCH-clause-none
-returns-then-summary-gt-GREATEST_EPOCH-clause-none c = no_close c.args.body.now c.word-number.result c.word-epoch.result (record { ballot = c.word.result; lng = c.word-2.result; trim = c.from_u64.result; end = c.word-3.result }) c.requires.len c.word-number.type_inv c.word-epoch.type_inv c.word.type_inv c.word-2.type_inv c.word-3.type_inv
-    c.word-number.ensures c.word-epoch.ensures c.word.ensures c.word-2.ensures c.word-3.ensures (λ i e f g k h. let o = c.then-summary-gt-GREATEST_EPOCH.either in omega arith)
+pub returns-then-loss-gt1-clause-none : goal.returns-then-loss-gt1-clause-none
+returns-then-loss-gt1-clause-none c = no_flag c.args.body.now c.requires.len c.if-loss-gt1.true
 
 pub returns-clause-some : goal.returns-clause-some
-returns-clause-some c = let log = c.in-Some.ensures.some in let b = c.if-summary-epoch.false in let m = c.if-summary-gt-GREATEST_EPOCH.false in let l = c.if-summary-gt-GREATEST_LNG.false in let t = c.long_word.type_inv in let d = c.word-3.type_inv in
-    record {
-      bytes = close_is c.args.body.now c.in-Some.log c.word-epoch.result _ c.requires.len c.requires.kind (ap (to_be_bytes w32) log ∙ c.word-number.ensures) c.word-epoch.ensures c.word.ensures c.word-2.ensures (ap (to_be_bytes w64) c.from_u64.ensures ∙ c.long_word.ensures) c.word-3.ensures;
-      is = (c.number.ensures.bounds, (omega arith, omega arith), record { ballot = b; ballot_most = m; lng = l; trim = omega (arith, c.from_u64.ensures); end = omega arith; end_most = omega arith });
-    }
+returns-clause-some c = record {
+  bytes = close_is c.args.body.now c.in-Some.read.0 c.in-Some.read.1 c.in-Some.read.2 c.requires.len c.requires.kind (flag_of _ _ c.in-Some.ensures.is.3 (omega arith)) c.in-Some.ensures.bytes;
+  is = let i = c.in-Some.ensures.is in (i.0, i.1, i.2);
+}

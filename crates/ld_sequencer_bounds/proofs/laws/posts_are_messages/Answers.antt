@@ -9,7 +9,7 @@ pub returns-clause-asks : goal.returns-clause-asks
 returns-clause-asks c = λ own e d E one before a. asks_are own E e one before d a
 
 pub returns-clause-items : goal.returns-clause-items
-returns-clause-items c = λ own e lng wave s lost is E l one before n a. items_sent own E e one before s lost lng wave is l n a
+returns-clause-items c = λ own e lng wave s lost loss is E l one before n a. items_sent own E e one before s lost loss lng wave is l n a
 
 pub returns-clause-appends : goal.returns-clause-appends
 returns-clause-appends c = λ own lng s lost ps E l n a. appends_sent own E s lost lng ps l n a

@@ -14,7 +14,7 @@ pub returns-clause-lost : goal.returns-clause-lost
 returns-clause-lost c = λ e y d a. with_lost_is e y d a
 
 pub returns-clause-plan : goal.returns-clause-plan
-returns-clause-plan c = λ e d a. plan_is e d a
+returns-clause-plan c = λ e loss d a. plan_is e loss d a
 
 pub returns-clause-settled : goal.returns-clause-settled
 returns-clause-settled c = λ e y p g G. settled_is e p y g G

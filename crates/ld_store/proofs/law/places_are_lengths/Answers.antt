@@ -1,12 +1,12 @@
-use Rattle.ld_store.proofs.Bodies.{places, op_long}
+use Rattle.ld_store.proofs.Bodies.{places, record_long}
 use Rattle.ld_store.proofs.Cuts.{place_more}
 use Rattle.ld_store.proofs.law.places_are_lengths.Goals as goal
 
 pub returns-clause-length : goal.returns-clause-length
-returns-clause-length c os = places os
+returns-clause-length c vs = places vs
 
 pub returns-clause-more : goal.returns-clause-more
-returns-clause-more c os o = place_more os o
+returns-clause-more c vs v = place_more vs v
 
 pub returns-clause-bytes : goal.returns-clause-bytes
-returns-clause-bytes c o = op_long o
+returns-clause-bytes c v = record_long v

@@ -9,23 +9,23 @@ use Rattle.ld_store.proofs.replay.replay_next.Goals as goal
 pub returns-in_err-more-clause-damaged : goal.returns-in_err-more-clause-damaged
 returns-in_err-more-clause-damaged g c place is bytes has =
     let told = ap Err (of_damaged c.in_err-more.field-0.0 place (sym (err_is c.from_residual.result (stores.Damaged place) (λ e. e ≡ passed_on c.in_err-more.field-0.0) c.from_residual.ensures.1 is))) in
-    let cut = c.in_err-more.ensures.cut place told (bodies_of has.ops) has.rest has.given in
-    record { ops = has.ops; rest = has.rest; bytes_are = has.bytes_are; place_is = cut.0 ∙ has.given.place_is; are = has.are; cause = inl cut.1 }
+    let cut = c.in_err-more.ensures.cut place told (bodies_of has.found) has.rest has.given in
+    record { found = has.found; rest = has.rest; bytes_are = has.bytes_are; place_is = cut.0 ∙ has.given.place_is; placed = record { are = has.are; version = c.args.version; version_is = has.version_is }; cause = inl cut.1 }
 
-pub returns-in_err-replay_body-clause-damaged : goal.returns-in_err-replay_body-clause-damaged
-returns-in_err-replay_body-clause-damaged g c place is bytes has =
+pub returns-in_err-next-clause-damaged : goal.returns-in_err-next-clause-damaged
+returns-in_err-next-clause-damaged g c place is bytes has =
     let D = g.D.Disk in
-    let told = err_is c.from_residual-in_err-replay_body.result (stores.Damaged place) (λ e. e ≡ c.in_err-replay_body.field-0.0) c.from_residual-in_err-replay_body.ensures.1 is in
+    let told = err_is c.from_residual-in_err-next.result (stores.Damaged place) (λ e. e ≡ c.in_err-next.field-0.0) c.from_residual-in_err-next.ensures.1 is in
     ⊎_elim
     (λ none. absurd (no_place place (sym none ∙ sym told)))
     (λ bad. subst (λ n. IsDamaged n bytes) (sym c.place-at.ensures ∙ same_place c.place-at.result place (sym bad.0 ∙ sym told))
-    (foreign D.seen D.may_leave c.args.journal.now c.next_body.new.self bytes c.next_body.new.body.items c.args.plain.now.state c.args.blank has
-    (c.in_ok-more.ensures.gives (ap Ok c.if-not-more.false)) (sym c.in_ok-more.ensures.same.bytes) (λ o is_op kind body. bad.1 o is_op kind (c.deref.ensures.value ∙ body))))
-    c.in_err-replay_body.ensures.refused
+    (foreign D.seen D.may_leave c.args.journal.now c.next_body.new.self bytes c.next_body.new.body.items c.args.plain.now.state c.args.version has
+    (c.in_ok-more.ensures.gives (ap Ok c.if-not-more.false)) (sym c.in_ok-more.ensures.same.bytes) (λ v w is_record follows body. bad.1 v w is_record follows (c.deref.ensures.value ∙ body))))
+    c.in_err-next.ensures.refused
 
 pub returns-clause-more : goal.returns-clause-more
-returns-clause-more g c ok bytes has =
+returns-clause-more g c w ok bytes has =
     let D = g.D.Disk in
-    let o = c.in_ok-replay_body.ensures.applied in
-    one_more D.seen D.may_leave c.args.journal.now c.next_body.new.self bytes c.next_body.new.body.items c.args.plain.now.state c.replay_body.new.plain.state c.args.blank o.0 has
-    (c.in_ok-more.ensures.gives (ap Ok c.if-not-more.false)) (sym c.in_ok-more.ensures.same.bytes) (sym c.deref.ensures.value ∙ o.1) o.2 o.3 o.4
+    let v = c.in_ok-next.ensures.applied in
+    one_more D.seen D.may_leave c.args.journal.now c.next_body.new.self bytes c.next_body.new.body.items c.args.plain.now.state c.replay_body.new.plain.state c.args.version w v.0 has
+    (c.in_ok-more.ensures.gives (ap Ok c.if-not-more.false)) (sym c.in_ok-more.ensures.same.bytes) (sym c.deref.ensures.value ∙ v.1) v.2 (v.3 ∙ cc ok) v.4

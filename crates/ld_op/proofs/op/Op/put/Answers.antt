@@ -15,5 +15,5 @@ returns-in_ok-put_u32-in-Accept c = on_ok_with c.put_entry.result _ _
 pub returns-in_ok-put_u32-in-Clean : goal.returns-in_ok-put_u32-in-Clean
 unfolding op_bytes
 returns-in_ok-put_u32-in-Clean c = on_ok_with c.put_summary.result _ _
-    (λ h. four c.args.out.now.items (big_bytes 1 4) (big_bytes 4 c.in-Clean.log) (big_bytes 4 c.in-Clean.epoch) (summary_bytes c.in-Clean.summary) c.put_head-in-Clean.new.out.items c.put_u32-in-Clean.new.out.items c.put_summary.new.out.items c.in_ok-put_head-in-Clean.ensures c.in_ok-put_u32-in-Clean.ensures h
+    (λ h. four c.args.out.now.items (big_bytes 1 12) (big_bytes 4 c.in-Clean.log) (big_bytes 4 c.in-Clean.epoch) (summary_bytes c.in-Clean.summary) c.put_head-in-Clean.new.out.items c.put_u32-in-Clean.new.out.items c.put_summary.new.out.items c.in_ok-put_head-in-Clean.ensures c.in_ok-put_u32-in-Clean.ensures h
     ∙ ap (λ o. c.args.out.now.items ++ op_bytes o) (sym c.in-Clean.is)) c.put_summary.ensures

@@ -16,5 +16,9 @@ pub returns-in-Close : goal.returns-in-Close
 returns-in-Close c n = c.is_behind-in-Close.ensures ∙ (ap (λ b. not b && (c.lce.result + 1 == c.in-Close.epoch)) (c.is_crowded-in-Close.ensures n)
     ∙ (ap (λ e. not (is_crowded (register_of c.args.self.now n) c.in-Close.log) && (e + 1 == c.in-Close.epoch)) (c.lce.ensures.value n) ∙ ap (is_next (register_of c.args.self.now n)) (sym c.in-Close.is)))
 
+pub returns-in-Lossless : goal.returns-in-Lossless
+returns-in-Lossless c n = c.is_behind-in-Lossless.ensures ∙ (ap (λ b. not b && (c.lce-in-Lossless.result + 1 == c.in-Lossless.epoch)) (c.is_crowded-in-Lossless.ensures n)
+    ∙ (ap (λ e. not (is_crowded (register_of c.args.self.now n) c.in-Lossless.log) && (e + 1 == c.in-Lossless.epoch)) (c.lce-in-Lossless.ensures.value n) ∙ ap (is_next (register_of c.args.self.now n)) (sym c.in-Lossless.is)))
+
 pub returns-in-Draw : goal.returns-in-Draw
 returns-in-Draw c n = c.is_behind-in-Draw.ensures ∙ (ap (λ e. e + 1 == c.in-Draw.generation) (c.generation.ensures n) ∙ ap (is_next (register_of c.args.self.now n)) (sym c.in-Draw.is))

@@ -15,3 +15,9 @@ invariant_of-self-in_err-room_for_log-in-Close c = few_same c.self.inside.logs.e
 
 pub invariant_of-self-in-Close : goal.invariant_of-self-in-Close
 invariant_of-self-in-Close c = few_same c.room_for_log-in-Close.new.logs.entries c.room_for_summary.new.logs.entries c.room_for_summary.ensures.same c.room_for_summary.ensures.logs (few_same c.self.inside.logs.entries c.room_for_log-in-Close.new.logs.entries c.room_for_log-in-Close.ensures.same c.room_for_log-in-Close.ensures.logs c.self.invariant)
+
+pub invariant_of-self-in_err-room_for_log-in-Lossless : goal.invariant_of-self-in_err-room_for_log-in-Lossless
+invariant_of-self-in_err-room_for_log-in-Lossless c = few_same c.self.inside.logs.entries c.room_for_log-in-Lossless.new.logs.entries c.room_for_log-in-Lossless.ensures.same c.room_for_log-in-Lossless.ensures.logs c.self.invariant
+
+pub invariant_of-self-in-Lossless : goal.invariant_of-self-in-Lossless
+invariant_of-self-in-Lossless c = few_same c.room_for_log-in-Lossless.new.logs.entries c.room_for_summary-in-Lossless.new.logs.entries c.room_for_summary-in-Lossless.ensures.same c.room_for_summary-in-Lossless.ensures.logs (few_same c.self.inside.logs.entries c.room_for_log-in-Lossless.new.logs.entries c.room_for_log-in-Lossless.ensures.same c.room_for_log-in-Lossless.ensures.logs c.self.invariant)

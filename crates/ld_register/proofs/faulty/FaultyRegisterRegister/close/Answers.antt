@@ -8,17 +8,17 @@ use Rattle.ld_register.proofs.Arming.{arms_close, armed_refused, armed_fell, arm
 use Rattle.ld_register.proofs.faulty.FaultyRegisterRegister.close.Goals as goal
 
 pub returns-in_err-next-clause-meets : goal.returns-in_err-next-clause-meets
-returns-in_err-next-clause-meets g c = armed_refused c.args.self.now c.attempt_close.new.self c.in_err-next.field-0.0 c.from_residual.result _ _ (arms_close c.args.log c.args.epoch c.args.summary.now) (err_of c.from_residual.result c.in_err-next.field-0.0 c.from_residual.ensures.1) c.in_err-next.ensures.armed c.in_err-next.ensures.faults c.in_err-next.ensures.refused
+returns-in_err-next-clause-meets g c = armed_refused c.args.self.now c.attempt_close.new.self c.in_err-next.field-0.0 c.from_residual.result _ _ (arms_close c.args.log c.args.epoch c.args.summary.now c.args.short) (err_of c.from_residual.result c.in_err-next.field-0.0 c.from_residual.ensures.1) c.in_err-next.ensures.armed c.in_err-next.ensures.faults c.in_err-next.ensures.refused
 
 pub returns-in_err-count_down-clause-meets : goal.returns-in_err-count_down-clause-meets
 returns-in_err-count_down-clause-meets g c = let a = c.in_ok-next.ensures.armed in let k = c.in_err-count_down.ensures.falls in
-    armed_fell c.args.self.now c.attempt_close.new.self c.count_down.new.self c.in_ok-next.next c.from_residual-in_err-count_down.result _ _ (arms_close c.args.log c.args.epoch c.args.summary.now)
+    armed_fell c.args.self.now c.attempt_close.new.self c.count_down.new.self c.in_ok-next.next c.from_residual-in_err-count_down.result _ _ (arms_close c.args.log c.args.epoch c.args.summary.now c.args.short)
     (err_of c.from_residual-in_err-count_down.result c.in_err-count_down.field-0.0 c.from_residual-in_err-count_down.ensures.1 ∙ ap (λ e. Err e) k.0) (ap falls (sym a) ∙ k.1) c.in_err-count_down.ensures.register
     (c.in_err-count_down.ensures.armed ∙ ap armed_after a) (k.2 ∙ ap (λ n. min (n + 1) (2 ^ 64 - 1)) c.in_ok-next.ensures.faults) c.in_ok-next.ensures.granted
 
 pub returns-clause-meets : goal.returns-clause-meets
 returns-clause-meets g c = let a = c.in_ok-next.ensures.armed in let k = c.in_ok-count_down.ensures.passes in
-    armed_passed c.args.self.now c.attempt_close.new.self c.count_down.new.self c.in_ok-next.next _ _ (arms_close c.args.log c.args.epoch c.args.summary.now) (ap falls (sym a) ∙ k.0) c.in_ok-count_down.ensures.register
+    armed_passed c.args.self.now c.attempt_close.new.self c.count_down.new.self c.in_ok-next.next _ _ (arms_close c.args.log c.args.epoch c.args.summary.now c.args.short) (ap falls (sym a) ∙ k.0) c.in_ok-count_down.ensures.register
     (c.in_ok-count_down.ensures.armed ∙ ap armed_after a) (k.1 ∙ c.in_ok-next.ensures.faults) c.in_ok-next.ensures.granted
 
 pub returns-in_err-next-clause-fell : goal.returns-in_err-next-clause-fell
@@ -26,7 +26,7 @@ returns-in_err-next-clause-fell g c = on_err c.from_residual.result _ (inl (reco
 
 pub returns-in_err-count_down-clause-fell : goal.returns-in_err-count_down-clause-fell
 returns-in_err-count_down-clause-fell g c = let a = c.in_ok-next.ensures.armed in let k = c.in_err-count_down.ensures.falls in
-    on_err c.from_residual-in_err-count_down.result _ (inr (fallen c.args.self.now c.attempt_close.new.self c.count_down.new.self c.in_ok-next.next c.from_residual-in_err-count_down.result (λ h. closed h c.args.log c.args.epoch c.args.summary.now) (λ h. after_close h c.args.log c.args.epoch c.args.summary.now)
+    on_err c.from_residual-in_err-count_down.result _ (inr (fallen c.args.self.now c.attempt_close.new.self c.count_down.new.self c.in_ok-next.next c.from_residual-in_err-count_down.result (λ h. closed h c.args.log c.args.epoch c.args.summary.now c.args.short) (λ h. after_close h c.args.log c.args.epoch c.args.summary.now c.args.short)
     (err_of c.from_residual-in_err-count_down.result c.in_err-count_down.field-0.0 c.from_residual-in_err-count_down.ensures.1 ∙ ap (λ e. Err e) k.0) (ap falls (sym a) ∙ k.1) c.in_err-count_down.ensures.register
     (c.in_err-count_down.ensures.armed ∙ ap armed_after a) (k.2 ∙ ap (λ n. min (n + 1) (2 ^ 64 - 1)) c.in_ok-next.ensures.faults) c.in_ok-next.ensures.granted))
 
@@ -36,3 +36,6 @@ returns-clause-passes g c = let a = c.in_ok-next.ensures.armed in let k = c.in_o
 
 pub returns-in_err-next-clause-bounds : goal.returns-in_err-next-clause-bounds
 returns-in_err-next-clause-bounds g c lce next e = c.in_err-next.ensures.bounds lce next (subst (λ r. IsErrOf r (faults.Behind lce next)) (err_of c.from_residual.result c.in_err-next.field-0.0 c.from_residual.ensures.1) e)
+
+pub returns-in_err-next-clause-overtaken : goal.returns-in_err-next-clause-overtaken
+returns-in_err-next-clause-overtaken g c kept e = c.in_err-next.ensures.overtaken kept (subst (λ r. IsErrOf r (faults.Overtaken kept)) (err_of c.from_residual.result c.in_err-next.field-0.0 c.from_residual.ensures.1) e)

@@ -1,5 +1,6 @@
 use Rattle.std.proofs.Common.{Err, ap, sym, ◌∙◌, inl, refl, ◌∷◌, [], ◌++◌, arith}
 use Rattle.ld_journal.specs.Format.{IsWithOrWithout}
+use Rattle.ld_op.specs.declared.record.Record.TheVariants.{Now}
 use Rattle.ld_op.specs.Plain.{apply}
 use Rattle.ld_op.specs.Bytes.{op_bytes}
 use Rattle.ld_store.specs.Ops.{bodies_of, StandsForEither}
@@ -20,24 +21,24 @@ pub append-requires-clause-fits : goal.append-requires-clause-fits
 append-requires-clause-fits g c = body_fits c.args.op c.deref.result.now c.requires.op (body_is _ _ _ (op_bytes c.args.op) c.new-body.ensures.items c.in_ok-encode.ensures.ok c.deref.ensures.value)
 
 pub returns-in-Ok-clause-acknowledged : goal.returns-in-Ok-clause-acknowledged
-returns-in-Ok-clause-acknowledged g c ops holds =
+returns-in-Ok-clause-acknowledged g c found holds =
     let D = g.D.Disk in
     let is = body_is _ _ _ (op_bytes c.args.op) c.new-body.ensures.items c.in_ok-encode.ensures.ok c.deref.ensures.value in
-    held_too D.seen D.may_leave c.args.self.now _ ops c.args.op c.deref.result.now holds c.requires.op c.requires.format is (c.in-Ok.ensures.acknowledged (bodies_of ops) holds.settled) (c.apply.ensures ∙ ap (λ s. apply s c.args.op) c.in_ok-room.ensures.same) refl holds.works
+    held_too D.seen D.may_leave c.args.self.now _ found c.args.op c.deref.result.now holds c.requires.op c.requires.format is (c.in-Ok.ensures.acknowledged (bodies_of found) holds.settled) (c.apply.ensures ∙ ap (λ s. apply s c.args.op) c.in_ok-room.ensures.same) refl holds.works
 
 pub returns-in-Ok-clause-images : goal.returns-in-Ok-clause-images
-returns-in-Ok-clause-images g c ops holds left =
+returns-in-Ok-clause-images g c found holds left =
     let D = g.D.Disk in
-    images_stand D.seen D.may_leave _ (ops ++ c.args.op ∷ []) (returns-in-Ok-clause-acknowledged g c ops holds) left
+    images_stand D.seen D.may_leave _ (found ++ Now c.args.op ∷ []) (returns-in-Ok-clause-acknowledged g c found holds) left
 
 pub returns-in-Ok-clause-any_moment : goal.returns-in-Ok-clause-any_moment
-returns-in-Ok-clause-any_moment g c ops holds =
+returns-in-Ok-clause-any_moment g c found holds =
     let D = g.D.Disk in
     let p = plain_of c.args.self.now in
     let is = body_is _ _ _ (op_bytes c.args.op) c.new-body.ensures.items c.in_ok-encode.ensures.ok c.deref.ensures.value in
-    leaves_too D.moment D.left_since (disk_of c.args.self.now) c.append.new.self.disk (IsWithOrWithout (bodies_of ops) c.deref.result.now) (StandsForEither p (apply p c.args.op))
-    (λ bytes either. stand_either ops c.args.op p c.args.self.now.blank c.deref.result.now bytes holds.ops c.requires.op holds.state holds.blank c.requires.format is either)
-    (c.in-Ok.ensures.any_moment (bodies_of ops) holds.settled)
+    leaves_too D.moment D.left_since (disk_of c.args.self.now) c.append.new.self.disk (IsWithOrWithout (bodies_of found) c.deref.result.now) (StandsForEither p (apply p c.args.op))
+    (λ bytes either. stand_either D.seen D.may_leave c.args.self.now found c.args.op c.deref.result.now bytes holds c.requires.op c.requires.format is either)
+    (c.in-Ok.ensures.any_moment (bodies_of found) holds.settled)
 
 pub returns-in-Ok-clause-too_long : goal.returns-in-Ok-clause-too_long
 returns-in-Ok-clause-too_long g c works long =
@@ -45,13 +46,13 @@ returns-in-Ok-clause-too_long g c works long =
     absurd (none_refused journals.Full (c.in-Ok.ensures.full.1 (c.args.self.now.failed_is ∙ works, omega (arith, long, is))))
 
 pub returns-in-Err-clause-any_moment : goal.returns-in-Err-clause-any_moment
-returns-in-Err-clause-any_moment g c ops holds =
+returns-in-Err-clause-any_moment g c found holds =
     let D = g.D.Disk in
     let p = plain_of c.args.self.now in
     let is = body_is _ _ _ (op_bytes c.args.op) c.new-body.ensures.items c.in_ok-encode.ensures.ok c.deref.ensures.value in
-    leaves_too D.moment D.left_since (disk_of c.args.self.now) c.append.new.self.disk (IsWithOrWithout (bodies_of ops) c.deref.result.now) (StandsForEither p (apply p c.args.op))
-    (λ bytes either. stand_either ops c.args.op p c.args.self.now.blank c.deref.result.now bytes holds.ops c.requires.op holds.state holds.blank c.requires.format is either)
-    (c.in-Err.ensures.any_moment (bodies_of ops) holds.settled)
+    leaves_too D.moment D.left_since (disk_of c.args.self.now) c.append.new.self.disk (IsWithOrWithout (bodies_of found) c.deref.result.now) (StandsForEither p (apply p c.args.op))
+    (λ bytes either. stand_either D.seen D.may_leave c.args.self.now found c.args.op c.deref.result.now bytes holds c.requires.op c.requires.format is either)
+    (c.in-Err.ensures.any_moment (bodies_of found) holds.settled)
 
 pub returns-in-Err-clause-full : goal.returns-in-Err-clause-full
 returns-in-Err-clause-full g c is =

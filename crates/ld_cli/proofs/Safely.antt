@@ -1,0 +1,21 @@
+-- Every run is safe.
+use Rattle.std.proofs.Common.{List}
+use Rattle.ld_config.specs.declared.config.Config.{Config}
+use Rattle.ld_config.specs.Bounds.{IsInBounds}
+use Rattle.ld_schedule.specs.declared.event.Event.{Event}
+use Rattle.ld_lsn.specs.Number.{home_epoch}
+use Rattle.ld_safety.proofs.Agreed.{losses_were_gone}
+use Rattle.ld_safety.proofs.LostJoined.{every_run_is_safe, copies_were_lost, losses_were_told}
+use Rattle.ld_safety.proofs.Traces.{lines_are_the_steps}
+use Rattle.ld_cli.specs.Ends.{IsSafe}
+
+pub run_is_safe : (c : Config) → IsInBounds c → (events : List Event) → IsSafe c events
+run_is_safe c b events =
+    record {
+      told = lines_are_the_steps c events;
+      lines = every_run_is_safe c events b;
+      losses = λ name log number round before asks between gives after whole ends. copies_were_lost c name log number round before asks between gives b ends;
+      planned = λ name low high number before gives after d whole there given unasked from to.
+        let h = losses_were_told c name low high number before gives d b there given unasked from to in
+        record { ballot = h.0; plan = h.1.0; there = h.1.1.0; says = h.1.1.1; gone = losses_were_gone c before d.log (home_epoch number) h.0 h.1.0 h.1.1.0 h.1.1.1 };
+    }
