@@ -1,5 +1,7 @@
 -- What is read from a run's steps: what was appended, acknowledged and trimmed, what readers got, and which nodes stood lost.
 use Rattle.std.specs.Prelude.{ℕ, ◌≡◌, List, [], ◌∷◌, filter_map, flat_map, Option, Some, None, Bool, true, false, ◌&&◌, ◌==◌, nat_lt, nat_le, if◌then◌else◌, slice_get}
+use Rattle.std.specs.Option.{unwrap_or}
+use Rattle.ld_table.specs.Table.{find}
 use Rattle.ld_table.specs.Named.{same}
 use Rattle.ld_table.specs.Words.{any_of, first}
 use Rattle.ld_schedule.specs.declared.event.Event.{Event}
@@ -12,16 +14,27 @@ use Rattle.ld_config.specs.declared.config.Config.{Config}
 use Rattle.ld_msg.specs.Register.{Register, epochs_of}
 use Rattle.ld_machine.specs.Config.{has_log}
 
--- one step: its event, its lines, and the log and epoch that it made in the register, which lines alone don't tell of a refused activation
+-- the nodes, factor and extras of a log's epochs, as a swap left them
+pub record Swapped : Type 0 where
+  pub log : ℕ
+  pub specs : List (ℕ × Spec)
+
+-- one step: its event, its lines, the log and epoch that it made in the register, and what the swap left that it made there, which lines alone don't tell of a refused activation or swap
 pub record Happened : Type 0 where
   pub event : Event
   pub lines : List Line
   pub made : Option (ℕ × ℕ)
+  pub swapped : Option Swapped
 
 -- what an event made of a register: an activation makes an epoch or none
 abbrev pub epoch_made : Register → Register → Event → Option (ℕ × ℕ)
 epoch_made before after (events.Activate name l) = if nat_lt (epochs_of before l).epoch (epochs_of after l).epoch then Some (l, (epochs_of after l).epoch) else None
 epoch_made before after _ = None
+
+-- what a swap left that an event made
+abbrev pub swap_made : Register → Register → Event → Option Swapped
+swap_made before after (events.Replace n other l) = if nat_lt (epochs_of before l).swaps (epochs_of after l).swaps then Some (record { log = l; specs = (epochs_of after l).swapped }) else None
+swap_made before after _ = None
 
 -- ---- the nodes, factor and extras of an epoch ----
 
@@ -47,6 +60,21 @@ makes l e (Some m) = (m.0 == l) && (m.1 == e)
 abbrev pub spec_fixed : ℕ → ℕ → List Happened → Spec → Option Spec
 spec_fixed l e [] s = None
 spec_fixed l e (h ∷ hs) s = if makes l e h.made then Some s else spec_fixed l e hs (set_in l h.lines s)
+
+-- what a swap made of an epoch
+abbrev pub swapped_by : ℕ → ℕ → Option Swapped → Spec → Spec
+swapped_by l e None s = s
+swapped_by l e (Some x) s = if x.log == l then unwrap_or (find e x.specs) s else s
+
+-- what these steps make of an epoch that was made before
+abbrev pub swapped_in : ℕ → ℕ → List Happened → Spec → Spec
+swapped_in l e [] s = s
+swapped_in l e (h ∷ hs) s = swapped_in l e hs (swapped_by l e h.swapped s)
+
+-- what was fixed for an epoch of a log, as the swaps since then left it
+abbrev pub spec_now : ℕ → ℕ → List Happened → Spec → Option Spec
+spec_now l e [] s = None
+spec_now l e (h ∷ hs) s = if makes l e h.made then Some (swapped_in l e hs s) else spec_now l e hs (set_in l h.lines s)
 
 -- ---- the log of a name ----
 

@@ -26,7 +26,7 @@ use Rattle.ld_op.specs.Ticks.{Ticked, Cleans, Rebuilt, Asks, Nothing, on_tick, n
 use Rattle.ld_op.specs.Handles.{ballot_of, handled_by, answer_message}
 use Rattle.ld_config.specs.declared.config.Config.{Config}
 use Rattle.ld_machine.specs.Config.{first_spec, all_nodes, looks_at, has_log, has_node}
-use Rattle.ld_msg.specs.Register.{Register, Changed, Answer, Granted, AtLimit, Behind, Overtaken, Fails, epochs_of, epochs_in, generation_of, lce_of, activate, draw}
+use Rattle.ld_msg.specs.Register.{Register, Changed, Answer, Granted, AtLimit, Behind, Overtaken, Fails, epochs_of, epochs_in, generation_of, lce_of, activate, draw, swap, swappable}
 use Rattle.ld_machine.specs.Disk.{Node, Fault, new_node, is_up, is_blank, is_down, is_failed, Kept, Written, DiskFailed, Crashed, JournalFull, keep_op, keep_end, load, load_end, Down}
 use Rattle.ld_msg.specs.Network.{message, mark, posted}
 use Rattle.ld_msg.specs.Sequencer.{Sequencer, Acts, Called, called, rose, acted_messages, on_reply, on_retry, released_of, to_each, activated, recovery_asks, Appending, TooLong, Preempted, EpochFull, WindowFull, Numbered, appending, appended, first_stores, next_esn}
@@ -284,6 +284,23 @@ where_node c s n fits d = if has_node c n && fits then d else unchanged s
 abbrev pub armed : Register → ℕ → Bool → Register
 armed r k done = record r { armed = Some (record { left = k; done = done }) }
 
+-- a node takes the place of another one where it has all that it lost of a log: up to the epoch that it was lost for
+abbrev pub can_replace : Config → State → ℕ → ℕ → ℕ → Bool
+can_replace c s n other l = (has_log c l && (has_node c other && not (n == other))) && (is_up (node_at s n).status && (not (log_of (node_at s n).plain l).lost && nat_lt 0 (log_of (node_at s n).plain l).lost_to))
+
+abbrev pub replaces_by : State → ℕ → ℕ → ℕ → ℕ → Register → Answer → Done
+replaces_by s n other l count r Granted = if count == 0 then unchanged s else with_line (with_register s r) (lines.NodeReplaced n l other count)
+replaces_by s n other l count r AtLimit = with_line s (lines.NodeRefusedSwapLimit n)
+replaces_by s n other l count r (Behind lce) = unchanged s
+replaces_by s n other l count r (Overtaken k) = unchanged s
+replaces_by s n other l count r Fails = with_line (with_register s r) (lines.NodeRefusedRegister n)
+
+abbrev pub replaces_with : State → ℕ → ℕ → ℕ → ℕ → Changed → Done
+replaces_with s n other l count d = replaces_by s n other l count d.register d.answer
+
+abbrev pub replaces : State → ℕ → ℕ → ℕ → ℕ → Done
+replaces s n other l upto = replaces_with s n other l (swappable s.register l upto other n) (swap s.register l upto other n)
+
 -- later activations of a log use these nodes, where the configuration has them, this factor, from 1 up to their count, and these extras, at most 3
 abbrev pub can_set : Config → ℕ → ℕ → ℕ → List ℕ → Bool
 can_set c l r x nodes = has_log c l && (all_of (has_node c) nodes && (nat_le 1 r && (nat_le r (length nodes) && nat_le x 3)))
@@ -313,4 +330,5 @@ happens c s (events.Wipe n) = where_node c s n true (with_line (with_node s n ne
 happens c s (events.Fail n k) = where_node c s n true (only_state (with_node s n (with_fault (node_at s n) (record { left = k; crash = None }))))
 happens c s (events.Tear n k picture) = where_node c s n true (only_state (with_node s n (with_fault (node_at s n) (record { left = k; crash = Some picture }))))
 happens c s (events.Set l r x set) = sets c s l r x set
+happens c s (events.Replace n other l) = where_node c s n (can_replace c s n other l) (replaces s n other l (log_of (node_at s n).plain l).lost_to)
 happens c s (events.RegFail k done) = only_state (with_register s (armed s.register k done))

@@ -15,7 +15,7 @@ pub record Confirmation : Type 0 where
   pub asked : List (ℕ × ℕ)
   pub told : List ℕ
 
--- seen is what the look showed with which its last round began
+-- seen is what its last look showed, least the round below which answers aren't taken any more
 pub record Reader : Type 0 where
   pub log : ℕ
   pub number : ℕ
@@ -25,9 +25,10 @@ pub record Reader : Type 0 where
   pub held : List (ℕ × Held)
   pub confirming : Option Confirmation
   pub seen : Option View
+  pub least : ℕ
 
 abbrev pub opened : ℕ → ℕ → ℕ → ℕ → Reader
-opened l number from until = record { log = l; number = number; next = from; until = until; round = 0; held = []; confirming = None; seen = None }
+opened l number from until = record { log = l; number = number; next = from; until = until; round = 0; held = []; confirming = None; seen = None; least = 0 }
 
 abbrev pub is_finished : Reader → Bool
 is_finished d = nat_lt d.until d.next
@@ -55,12 +56,23 @@ keys (k ∷ ks) = k.0 ∷ keys ks
 abbrev pub look_of : (ℕ → View) → Reader → View
 look_of looks d = looks (home_epoch d.next)
 
--- a new round, which ends a confirmation
+-- the count of swaps that a look showed
+abbrev pub shown_swaps : Option View → ℕ
+shown_swaps None = 0
+shown_swaps (Some v) = v.swaps
+
+-- it is another one than at the last look: sets have changed since
+abbrev pub sees_swap : Option View → View → Bool
+sees_swap o w = not (shown_swaps o == w.swaps)
+
+-- a new round, which ends a confirmation; where sets have changed, answers of earlier rounds don't count any more
 abbrev pub polled : (ℕ → View) → Reader → Reader
 polled looks d = record d {
   round = if nat_lt d.round last_round then d.round + 1 else d.round;
+  held = if nat_lt d.round last_round && sees_swap d.seen (look_of looks d) then [] else d.held;
   confirming = None;
   seen = if nat_lt d.round last_round then Some (look_of looks d) else d.seen;
+  least = if nat_lt d.round last_round && sees_swap d.seen (look_of looks d) then d.round + 1 else d.least;
 }
 
 -- it asks the nodes that its look showed
@@ -85,11 +97,18 @@ after_item d i = record d { next = min (item_end d.next i) d.until + 1; confirmi
 abbrev pub gives : Read → Item → Read
 gives a i = record { reader = after_item a.reader i; items = a.items ++ (a.reader.next, i) ∷ []; asks = a.asks }
 
+-- the asks of a confirmation go to the lost nodes alone, unless its look shows that sets have changed: then the round is one over all nodes
 abbrev pub confirms : (ℕ → View) → Read → List (ℕ × ℕ) → Read
 confirms looks a lost = record {
-  reader = record a.reader { round = a.reader.round + 1; seen = Some (look_of looks a.reader); confirming = Some (record { round = a.reader.round + 1; asked = lost; told = [] }) };
+  reader = record a.reader {
+    round = a.reader.round + 1;
+    held = if sees_swap a.reader.seen (look_of looks a.reader) then [] else a.reader.held;
+    confirming = if sees_swap a.reader.seen (look_of looks a.reader) then None else Some (record { round = a.reader.round + 1; asked = lost; told = [] });
+    seen = Some (look_of looks a.reader);
+    least = if sees_swap a.reader.seen (look_of looks a.reader) then a.reader.round + 1 else a.reader.least;
+  };
   items = a.items;
-  asks = asks_of (a.reader.round + 1) a.reader.next (keys lost);
+  asks = asks_of (a.reader.round + 1) a.reader.next (if sees_swap a.reader.seen (look_of looks a.reader) then nodes_of (look_of looks a.reader).spec else keys lost);
 }
 
 abbrev pub is_confirming : Option Confirmation → Bool
@@ -170,8 +189,16 @@ is_confirmed (Some v) = all_of (λ k. is_in k.0 v.told) v.asked
 abbrev pub heard : Reader → ℕ → Body → Reader
 heard d y b = record d { held = held_with d.held y b; confirming = confirming_with d.confirming y b }
 
-abbrev pub loses : Reader → Read
-loses d = if is_confirmed d.confirming then gives (record { reader = d; items = []; asks = [] }) LossHere else record { reader = d; items = []; asks = [] }
+abbrev pub nothing_read : Reader → Read
+nothing_read d = record { reader = d; items = []; asks = [] }
+
+-- a number that is confirmed to be lost is called so, after one more look
+abbrev pub loses : (ℕ → View) → Reader → Read
+loses looks d = if is_confirmed d.confirming then gives (nothing_read (record d { seen = Some (look_of looks d) })) LossHere else nothing_read d
+
+-- that look may show that sets have changed: then a new round begins, and nothing is given
+abbrev pub is_swapped : (ℕ → View) → Reader → Bool
+is_swapped looks d = is_confirmed d.confirming && sees_swap d.seen (look_of looks d)
 
 -- ---- the next round ----
 
@@ -192,8 +219,15 @@ abbrev pub next_round : (ℕ → View) → Read → Read
 next_round looks a = record {
   reader = if asks_on a then polled looks a.reader else a.reader;
   items = a.items;
-  asks = if asks_on a then poll_asks looks a.reader else a.asks;
+  asks = if asks_on a then a.asks ++ poll_asks looks a.reader else a.asks;
 }
 
+abbrev pub goes_through : (ℕ → View) → Reader → Read
+goes_through looks d = next_round looks (gives_all (most_items d) looks (loses looks d))
+
+abbrev pub heard_on : (ℕ → View) → Reader → Read
+heard_on looks d = if is_swapped looks d then record { reader = polled looks d; items = []; asks = poll_asks looks d } else goes_through looks d
+
+-- an answer of a round before the least one isn't taken
 unfoldable pub on_answer : (ℕ → View) → Reader → ℕ → Body → Read
-on_answer looks d y b = next_round looks (gives_all (most_items (heard d y b)) looks (loses (heard d y b)))
+on_answer looks d y b = if nat_lt (round_of b) d.least then nothing_read d else heard_on looks (heard d y b)
