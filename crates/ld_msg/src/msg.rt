@@ -168,7 +168,7 @@ pub enum Body {
         round: u32,
         from: Lsn,
     },
-    /// Which records and holes stand from the number up to another, and whether the epoch is clean here.
+    /// Which records, holes and plugs stand from the number up to another, and whether the epoch is clean here.
     ReadPage {
         round: u32,
         from: Lsn,
@@ -176,7 +176,7 @@ pub enum Body {
         clean: bool,
         entries: Entries,
     },
-    /// The epoch ends before the number.
+    /// The epoch ends at or before the number, and whether what stood from its end on may be lost.
     ReadEnded {
         round: u32,
         from: Lsn,

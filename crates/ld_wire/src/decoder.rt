@@ -66,7 +66,7 @@ impl Decoder {
     ///
     /// None comes exactly where there is no fault yet and the bytes are empty or less than one frame, which has at most
     /// 8,388,612 bytes with its length; nothing changes then. A fault comes exactly where the bytes begin with what is no frame: a length above 8,388,608 as soon as
-    /// the length is there, a length of 0 too, a kind outside 1 to 16 as soon as the kind is there, and a wrong field
+    /// the length is there, a length of 0 too, a kind of no message as soon as the kind is there, and a wrong field
     /// once the whole frame is there. The bytes stay, and from then on each call answers that fault. Want of memory
     /// changes nothing.
     pub fn take(&mut self, alloc: Global) -> Result<Option<Msg>, WireFault>

@@ -93,7 +93,7 @@ fn read_behind(alloc: Global, bytes: &[u8], size: usize) -> Result<Option<Msg>, 
     Ok(Some(message))
 }
 
-/// Whether messages have the kind; 5, 9 and 14 were those of the first version's closes.
+/// Whether messages have the kind; 5, 9 and 14 were those of the first version's closes and ends.
 fn is_kind(kind: u8) -> bool
     ensures { result ≡ is_kind kind }
 {
