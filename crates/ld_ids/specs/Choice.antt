@@ -1,6 +1,6 @@
 -- The choice of the nodes that a number is sent to.
-use Rattle.std.specs.Prelude.{ℕ, ◌+◌, ◌%◌, List, ◌++◌, length, take, drop, nat_lt, if◌then◌else◌}
-use Rattle.ld_table.specs.Words.{without}
+use Rattle.std.specs.Prelude.{ℕ, ◌+◌, ◌%◌, Bool, List, ◌++◌, length, take, drop, Option, nat_lt, if◌then◌else◌}
+use Rattle.ld_table.specs.Words.{without, first}
 use Rattle.ld_ids.specs.Set.{members}
 use Rattle.ld_ids.specs.declared.set.Spec.{Spec}
 
@@ -23,3 +23,7 @@ left_out s excluded around = if nat_lt (length (without excluded around)) s.r th
 -- the nodes that follow a place round the ring of a log's nodes: as many as its factor and extras say, or all that are left
 unfoldable pub choice_at : Spec → List ℕ → ℕ → List ℕ
 choice_at s excluded place = take (s.r + s.extras) (left_out s excluded (ring (place % length (nodes_of s)) (nodes_of s)))
+
+-- the first node of a set from a place on and round that isn't excluded
+unfoldable pub first_left : List Bool → List Bool → ℕ → Option ℕ
+first_left set excluded place = first (without (members excluded) (ring (place % length (members set)) (members set)))

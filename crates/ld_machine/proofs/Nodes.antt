@@ -16,8 +16,8 @@ use Rattle.ld_op.specs.Plain.{log_of}
 use Rattle.ld_op.specs.Ticks.{Ticked, Cleans, Rebuilt, Asks, Nothing, on_tick}
 use Rattle.ld_config.specs.declared.config.Config.{Config}
 use Rattle.ld_ids.specs.Set.{members}
-use Rattle.ld_machine.specs.Config.{has_log}
-use Rattle.ld_msg.specs.Register.{Register, Answer, Granted, AtLimit, Behind, Overtaken, Fails, activate, draw, epochs_of, epochs_in, generation_of}
+use Rattle.ld_machine.specs.Config.{has_node, has_log}
+use Rattle.ld_msg.specs.Register.{Register, Answer, Granted, AtLimit, Behind, Overtaken, Fails, activate, draw, swap, epochs_of, epochs_in, generation_of}
 use Rattle.ld_machine.specs.Disk.{Node, Fault, new_node, Kept, Written, DiskFailed, Crashed, JournalFull, keep_op, load, load_end, is_up}
 use Rattle.ld_msg.specs.Network.{message, oldest_new}
 use Rattle.ld_msg.specs.Sequencer.{Sequencer, Appending, TooLong, Preempted, EpochFull, WindowFull, Numbered, appending, released_of}
@@ -98,6 +98,13 @@ module _ (P : Node → Type 0) (K : NodeKeeps P) where
   activated_kept c s name l r (Overtaken k) a = a
   activated_kept c s name l r Fails a = a
 
+  replaced_kept : (s : State) (n other l count : ℕ) (r : Register) (o : Answer) → AllNodes P s → AllNodes P (Step.replaces_by s n other l count r o).state
+  replaced_kept s n other l count r Granted a = either (count == 0) (unchanged s) _ a a
+  replaced_kept s n other l count r AtLimit a = a
+  replaced_kept s n other l count r (Behind lce) a = a
+  replaced_kept s n other l count r (Overtaken k) a = a
+  replaced_kept s n other l count r Fails a = a
+
   formatted_kept : (c : Config) (s : State) (n : ℕ) (r : Register) (o : Answer) → AllNodes P s → AllNodes P (Step.formats_by c s n r o).state
   formatted_kept c s n r Granted a = op_kept (with_register s r) n (ops.Format (generation_of r n) (epochs_in r.logs)) a
   formatted_kept c s n r AtLimit a = a
@@ -147,6 +154,7 @@ module _ (P : Node → Type 0) (K : NodeKeeps P) where
   event_keeps c s (events.Fail n k) a = either _ _ (unchanged s) (all_with s n _ (K.faults (node_at s n) _ (a n)) a) a
   event_keeps c s (events.Tear n k p) a = either _ _ (unchanged s) (all_with s n _ (K.faults (node_at s n) _ (a n)) a) a
   event_keeps c s (events.Set l r x set) a = either (Step.can_set c l r x (members set)) _ (unchanged s) a a
+  event_keeps c s (events.Replace n other l) a = either (has_node c n && Step.can_replace c s n other l) _ (unchanged s) (replaced_kept s n other l _ (swap s.register l (log_of (node_at s n).plain l).lost_to other n).register (swap s.register l (log_of (node_at s n).plain l).lost_to other n).answer a) a
   event_keeps c s (events.RegFail k done) a = a
 
   finished : (d : Done) → AllNodes P d.state → AllNodes P (finish d).state
@@ -184,6 +192,7 @@ module _ (P : Node → Type 0) (K : NodeKeeps P) where
   step_keeps c s (events.Fail n k) a = finished (Step.happens c s (events.Fail n k)) (event_keeps c s (events.Fail n k) a)
   step_keeps c s (events.Tear n k p) a = finished (Step.happens c s (events.Tear n k p)) (event_keeps c s (events.Tear n k p) a)
   step_keeps c s (events.Set l r x set) a = finished (Step.happens c s (events.Set l r x set)) (event_keeps c s (events.Set l r x set) a)
+  step_keeps c s (events.Replace n other l) a = finished (Step.happens c s (events.Replace n other l)) (event_keeps c s (events.Replace n other l) a)
   step_keeps c s (events.RegFail k done) a = finished (Step.happens c s (events.RegFail k done)) (event_keeps c s (events.RegFail k done) a)
 
   fresh_at : (y : ℕ) (ns : List ℕ) → P (unwrap_or (find y (new_nodes ns)) new_node)

@@ -5,7 +5,7 @@ use Rattle.ld_ids.specs.Set.{no_nodes, members}
 use Rattle.ld_ids.specs.declared.set.Spec.{Spec}
 use Rattle.ld_config.specs.declared.config.Config.{Config}
 use Rattle.ld_ids.specs.Choice.{nodes_of}
-use Rattle.ld_msg.specs.Register.{Register, View, look}
+use Rattle.ld_msg.specs.Register.{Register, View, look, epochs_of, fixed_shown}
 
 -- a log that the configuration lacks
 abbrev pub no_spec : ℕ → Spec
@@ -27,7 +27,15 @@ all_nodes c = members c.nodes
 abbrev pub looks_at : Config → Register → ℕ → ℕ → View
 looks_at c r l e = look (first_spec c l) r l e
 
--- the nodes, factor and extras of an epoch of a log
+-- the nodes, factor and extras that were fixed for an epoch of a log
+abbrev pub fixed_of : Config → Register → ℕ → ℕ → Spec
+fixed_of c r l e = fixed_shown (epochs_of r l) (first_spec c l) e
+
+-- the nodes that were fixed for it
+abbrev pub fixed_at : Config → Register → ℕ → ℕ → List ℕ
+fixed_at c r l e = nodes_of (fixed_of c r l e)
+
+-- the nodes, factor and extras of an epoch of a log, as swaps left them
 abbrev pub spec_of : Config → Register → ℕ → ℕ → Spec
 spec_of c r l e = (looks_at c r l e).spec
 

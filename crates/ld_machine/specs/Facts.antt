@@ -1,5 +1,7 @@
 -- What is read from a run's steps: what was appended, acknowledged and trimmed, what readers got, and which nodes stood lost.
-use Rattle.std.specs.Prelude.{ℕ, ◌≡◌, List, [], ◌∷◌, filter_map, flat_map, Option, Some, None, Bool, true, false, ◌&&◌, ◌==◌, nat_lt, nat_le, if◌then◌else◌, slice_get}
+use Rattle.std.specs.Prelude.{ℕ, ◌≡◌, List, [], ◌∷◌, filter_map, flat_map, Option, Some, None, Bool, true, false, ◌⊎◌, ◌&&◌, ◌==◌, nat_lt, nat_le, if◌then◌else◌, slice_get}
+use Rattle.std.specs.Option.{unwrap_or}
+use Rattle.ld_table.specs.Table.{find}
 use Rattle.ld_table.specs.Named.{same}
 use Rattle.ld_table.specs.Words.{any_of, first}
 use Rattle.ld_schedule.specs.declared.event.Event.{Event}
@@ -9,19 +11,31 @@ use Rattle.ld_transcript.specs.declared.line.Line.TheVariants as lines
 use Rattle.ld_transcript.specs.declared.line.GapKind.{GapKind}
 use Rattle.ld_ids.specs.declared.set.Spec.{Spec}
 use Rattle.ld_config.specs.declared.config.Config.{Config}
+use Rattle.ld_batch.specs.Batch.{packed}
 use Rattle.ld_msg.specs.Register.{Register, epochs_of}
 use Rattle.ld_machine.specs.Config.{has_log}
 
--- one step: its event, its lines, and the log and epoch that it made in the register, which lines alone don't tell of a refused activation
+-- the nodes, factor and extras of a log's epochs, as a swap left them
+pub record Swapped : Type 0 where
+  pub log : ℕ
+  pub specs : List (ℕ × Spec)
+
+-- one step: its event, its lines, the log and epoch that it made in the register, and what the swap left that it made there, which lines alone don't tell of a refused activation or swap
 pub record Happened : Type 0 where
   pub event : Event
   pub lines : List Line
   pub made : Option (ℕ × ℕ)
+  pub swapped : Option Swapped
 
 -- what an event made of a register: an activation makes an epoch or none
 abbrev pub epoch_made : Register → Register → Event → Option (ℕ × ℕ)
 epoch_made before after (events.Activate name l) = if nat_lt (epochs_of before l).epoch (epochs_of after l).epoch then Some (l, (epochs_of after l).epoch) else None
 epoch_made before after _ = None
+
+-- what a swap left that an event made
+abbrev pub swap_made : Register → Register → Event → Option Swapped
+swap_made before after (events.Replace n other l) = if nat_lt (epochs_of before l).swaps (epochs_of after l).swaps then Some (record { log = l; specs = (epochs_of after l).swapped }) else None
+swap_made before after _ = None
 
 -- ---- the nodes, factor and extras of an epoch ----
 
@@ -48,6 +62,21 @@ abbrev pub spec_fixed : ℕ → ℕ → List Happened → Spec → Option Spec
 spec_fixed l e [] s = None
 spec_fixed l e (h ∷ hs) s = if makes l e h.made then Some s else spec_fixed l e hs (set_in l h.lines s)
 
+-- what a swap made of an epoch
+abbrev pub swapped_by : ℕ → ℕ → Option Swapped → Spec → Spec
+swapped_by l e None s = s
+swapped_by l e (Some x) s = if x.log == l then unwrap_or (find e x.specs) s else s
+
+-- what these steps make of an epoch that was made before
+abbrev pub swapped_in : ℕ → ℕ → List Happened → Spec → Spec
+swapped_in l e [] s = s
+swapped_in l e (h ∷ hs) s = swapped_in l e hs (swapped_by l e h.swapped s)
+
+-- what was fixed for an epoch of a log, as the swaps since then left it
+abbrev pub spec_now : ℕ → ℕ → List Happened → Spec → Option Spec
+spec_now l e [] s = None
+spec_now l e (h ∷ hs) s = if makes l e h.made then Some (swapped_in l e hs s) else spec_now l e hs (set_in l h.lines s)
+
 -- ---- the log of a name ----
 
 abbrev pub activates_name : List ℕ → Line → Bool
@@ -72,8 +101,13 @@ abbrev pub wrote_nothing : List Line → Bool
 wrote_nothing (lines.Nothing ∷ []) = true
 wrote_nothing _ = false
 
+abbrev pub opened_as : Config → List ℕ → List Line → List ℕ → ℕ → ℕ → ℕ → Option Opening
+opened_as c r ls name l from until = if (same name r && has_log c l) && wrote_nothing ls then Some (record { log = l; from = from; until = until }) else None
+
 abbrev pub opening_of : Config → List ℕ → List Line → Event → Option Opening
-opening_of c r ls (events.Open name l from until) = if (same name r && has_log c l) && wrote_nothing ls then Some (record { log = l; from = from; until = until }) else None
+opening_of c r ls (events.Open name l from until) = opened_as c r ls name l from until
+opening_of c r ls (events.OpenOne name l from until) = opened_as c r ls name l from until
+opening_of c r ls (events.OpenMessages name l from until) = opened_as c r ls name l from until
 opening_of c r ls _ = None
 
 -- how a reader was opened: the first open of its name that wasn't refused
@@ -92,12 +126,16 @@ OfLog hs l s = sequencer_log s hs ≡ Some l
 abbrev pub ReadsLog : Config → List Happened → ℕ → List ℕ → Type 0
 ReadsLog c hs l r = (o : Opening) × (opening c r hs ≡ Some o) × (o.log ≡ l)
 
+-- the event asks a sequencer to append a payload
+abbrev pub AsksToAppend : List ℕ → List ℕ → Event → Type 0
+AsksToAppend name p e = (e ≡ events.Append name p) ⊎ ((ms : List (List ℕ)) × (e ≡ events.Batch name ms) × (p ≡ packed ms))
+
 -- step k appended the payload under the number of the log
 pub record Appends (hs : List Happened) (l n : ℕ) (p : List ℕ) (k : ℕ) : Type 0 where
   pub name : List ℕ
   pub here : Happened
   pub at : slice_get hs k ≡ Some here
-  pub asked : here.event ≡ events.Append name p
+  pub asked : AsksToAppend name p here.event
   pub told : Writes hs k (lines.Appended name n)
   pub of_log : OfLog hs l name
 
@@ -113,10 +151,15 @@ pub record Issues (hs : List Happened) (l t k : ℕ) : Type 0 where
   pub told : Writes hs k (lines.Trimmed name t)
   pub of_log : OfLog hs l name
 
--- step k gave a reader the record
+-- step k wrote a line for each message of the batch, in order, and no more
+pub record WritesBatch (hs : List Happened) (k : ℕ) (name : List ℕ) (n : ℕ) (ms : List (List ℕ)) : Type 0 where
+  pub each : (i : ℕ) (m : List ℕ) → slice_get ms i ≡ Some m → Writes hs k (lines.BatchMessage name n i m)
+  pub only : (i : ℕ) (m : List ℕ) → Writes hs k (lines.BatchMessage name n i m) → slice_get ms i ≡ Some m
+
+-- step k gave a reader the record, or the messages of its batch
 pub record GivesRecord (c : Config) (hs : List Happened) (l n : ℕ) (p : List ℕ) (k : ℕ) : Type 0 where
   pub name : List ℕ
-  pub told : Writes hs k (lines.Record name n p)
+  pub told : Writes hs k (lines.Record name n p) ⊎ ((ms : List (List ℕ)) × (p ≡ packed ms) × WritesBatch hs k name n ms)
   pub of_log : ReadsLog c hs l name
 
 -- step k gave a reader the gap
@@ -133,10 +176,11 @@ pub record Interval : Type 0 where
 
 abbrev pub interval_of : List ℕ → Line → Option Interval
 interval_of r (lines.Record name n p) = if same name r then Some (record { low = n; high = n }) else None
+interval_of r (lines.BatchMessage name n index p) = if same name r && (index == 0) then Some (record { low = n; high = n }) else None
 interval_of r (lines.Gap name kind low high) = if same name r then Some (record { low = low; high = high }) else None
 interval_of r _ = None
 
--- what a reader got, in order
+-- what a reader got, in order; the messages of one batch are one item
 abbrev pub intervals : List ℕ → List Happened → List Interval
 intervals r hs = flat_map (λ h. filter_map (interval_of r) h.lines) hs
 

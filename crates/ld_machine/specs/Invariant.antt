@@ -1,12 +1,12 @@
 -- What holds of every state of a run, beside the steps so far and the book of plans.
-use Rattle.std.specs.Prelude.{ℕ, ◌≡◌, ◌≤◌, ◌<◌, ◌⊎◌, ◌+◌, ◌==◌, List, [], ◌∷◌, length, map, Some, true, false}
+use Rattle.std.specs.Prelude.{ℕ, ◌≡◌, ◌≤◌, ◌<◌, ◌⊎◌, ◌+◌, ◌==◌, not, Bool, List, [], ◌∷◌, filter, length, map, Some, true, false}
 use Rattle.std.specs.List.{IsDistinct}
 use Rattle.ld_table.specs.Table.{find}
 use Rattle.ld_table.specs.Words.{is_in, how_many}
 use Rattle.ld_lsn.specs.Number.{epoch_of, esn_of, numbered, home_epoch}
 use Rattle.ld_transcript.specs.declared.line.Line.TheVariants as lines
 use Rattle.ld_msg.specs.declared.msg.What.{What}
-use Rattle.ld_msg.specs.declared.msg.What.TheVariants.{Rec, Bridge}
+use Rattle.ld_msg.specs.declared.msg.What.TheVariants.{Rec, Bridge, Withheld}
 use Rattle.ld_msg.specs.declared.msg.Who.{Who}
 use Rattle.ld_msg.specs.declared.msg.Who.TheVariants as whos
 use Rattle.ld_msg.specs.declared.msg.Msg.{Msg}
@@ -16,7 +16,7 @@ use Rattle.ld_msg.specs.declared.msg.Body.{Body}
 use Rattle.ld_msg.specs.declared.msg.Body.TheVariants as bodies
 use Rattle.ld_msg.specs.Bounds.{ballot_of}
 use Rattle.ld_msg.specs.Digest.{Told, best, content, plan_end, digest_lng}
-use Rattle.ld_machine.specs.Config.{spec_of, set_at}
+use Rattle.ld_machine.specs.Config.{spec_of, set_at, fixed_of, fixed_at}
 use Rattle.ld_msg.specs.Reading.{Held}
 use Rattle.ld_msg.specs.Reader.{Reader, Confirmation}
 use Rattle.ld_op.specs.Plain.{Plain, log_of, is_lost}
@@ -26,7 +26,7 @@ use Rattle.ld_msg.specs.Register.{epochs_of, generation_of, lce_of}
 use Rattle.ld_msg.specs.Sequencer.{Sequencer, Recovery, Stage, Seals, Stores, Closes, Planned, Append}
 use Rattle.ld_machine.specs.State.{node_at}
 use Rattle.ld_machine.specs.Facts.{Happened, Writes, Appends, Acks, Issues}
-use Rattle.ld_machine.specs.World.{World, Made, In, Sent, Stored, from_node, to_node_of, has_told, says_settled, chosen, settled, is_made, HasPlan, item, plan_trim, plan_from, MayHold, Unserved, Holds}
+use Rattle.ld_machine.specs.World.{World, Made, In, Sent, Stored, from_node, to_node_of, has_told, has_settled, has_append, vouched, upheld, chosen, settled, is_made, HasPlan, item, plan_trim, plan_from, MayHold, Unserved, Holds}
 
 -- every plain state that some node may hold
 abbrev pub AtNodes : World → (ℕ → Plain → Type 0) → Type 0
@@ -41,11 +41,15 @@ Issued hs l t = (k : ℕ) × Issues hs l t k
 
 -- ---- what stands in a message ----
 
--- a store carries one entry, a page some
+abbrev pub is_withheld : What → Bool
+is_withheld Withheld = true
+is_withheld _ = false
+
+-- a store carries one entry, a page some; those without their payload say nothing
 abbrev pub entries_of : Who → Body → List Entry
 entries_of from (bodies.Store n lng x) = record { number = n; ballot = ballot_of from; what = x } ∷ []
 entries_of from (bodies.DigestPage n upto t lng es) = es
-entries_of from (bodies.ReadPage round n upto c es) = es
+entries_of from (bodies.ReadPage round n upto c es) = filter (λ e. not (is_withheld e.what)) es
 entries_of from _ = []
 
 abbrev pub seals_in : Body → List ℕ
@@ -238,7 +242,7 @@ StandsOn c w = (l e b g : ℕ) (d f : Made) → HasPlan w l e b d → HasPlan w 
 
 -- a loss plan was made where as many nodes of the epoch as it has copies had nothing to tell
 abbrev pub LossesWereGone : Config → World → Type 0
-LossesWereGone c w = (l e b : ℕ) (m : Made) → HasPlan w l e b m → m.loss ≡ true → (spec_of c w.state.register l e).r ≤ how_many (λ y. is_in y m.gone) (set_at c w.state.register l e)
+LossesWereGone c w = (l e b : ℕ) (m : Made) → HasPlan w l e b m → m.loss ≡ true → (fixed_of c w.state.register l e).r ≤ how_many (λ y. is_in y m.gone) (fixed_at c w.state.register l e)
 
 -- a plan of a greater ballot than a loss plan is one too
 abbrev pub LossesLast : World → Type 0
@@ -259,15 +263,15 @@ abbrev pub CopyAt : World → ℕ → ℕ → ℕ → ℕ → Type 0
 CopyAt w l n b y = (p : Plain) → MayHold (node_at w.state y) p →
     (p.generation ≡ 0) ⊎ ((is_lost (log_of p l) (epoch_of n) ≡ true) ⊎ ((n ≤ (log_of p l).trim) ⊎ ((x : What) × (item w l n b ≡ Some x) × HoldsItem p l n b x)))
 
--- the nodes that stored the append of the number are as many as the log has copies, and each has its copy
+-- the nodes that stored the append of the number, or took a place in its epoch, are as many as the log has copies, and each has its copy
 pub record AppendsOf (c : Config) (w : World) (l n : ℕ) : Type 0 where
-  pub enough : chosen c w l n (epoch_of n) ≡ true
-  pub kept : (y : ℕ) → Stored w l y n (epoch_of n) → CopyAt w l n (epoch_of n) y
+  pub enough : vouched c w l n ≡ true
+  pub kept : (y : ℕ) → has_append w l n y ≡ true → CopyAt w l n (epoch_of n) y
 
--- the nodes that settled the number for the ballot are as many as the log has copies, and each has its copy
+-- the nodes that settled the number for the ballot, or took a place in its epoch, are as many as the log has copies, and each has its copy
 pub record CopiesOf (c : Config) (w : World) (l n b : ℕ) : Type 0 where
-  pub enough : settled c w l n b ≡ true
-  pub kept : (y : ℕ) → has_told w (says_settled n) l b y ≡ true → CopyAt w l n b y
+  pub enough : upheld c w l n b ≡ true
+  pub kept : (y : ℕ) → has_settled w l n b y ≡ true → CopyAt w l n b y
 
 -- where an epoch was closed short: as many of its nodes as there are copies, whether or not they settled the number
 pub record ShortCopies (c : Config) (w : World) (l n b : ℕ) : Type 0 where

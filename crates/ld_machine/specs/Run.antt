@@ -9,9 +9,9 @@ use Rattle.ld_config.specs.declared.config.Config.{Config}
 use Rattle.ld_msg.specs.Network.{oldest_new}
 use Rattle.ld_machine.specs.State.{State, Stepped, start, finish, or_none}
 use Rattle.ld_machine.specs.Step.{happens, delivers}
-use Rattle.ld_machine.specs.Facts.{Happened, epoch_made}
+use Rattle.ld_machine.specs.Facts.{Happened, epoch_made, swap_made}
 use Rattle.ld_machine.specs.Safe.{Safe}
-use Rattle.ld_machine.specs.World.{World, begin, made_on}
+use Rattle.ld_machine.specs.World.{World, begin, made_on, joined_on}
 use Rattle.ld_machine.specs.Invariant.{Invariant}
 
 -- at most so many of the oldest new messages are delivered, each in a step of its own
@@ -54,7 +54,7 @@ pub data Move : Type 0 where
 
 -- a step that an event made, as it is told
 abbrev pub made_by : State → Event → Stepped → Happened
-made_by s e r = record { event = e; lines = r.lines; made = epoch_made s.register r.state.register e }
+made_by s e r = record { event = e; lines = r.lines; made = epoch_made s.register r.state.register e; swapped = swap_made s.register r.state.register e }
 
 pub record Went : Type 0 where
   pub state : State
@@ -107,7 +107,7 @@ EveryRunIsSafe = (c : Config) (es : List Event) → IsInBounds c → Safe c (his
 
 -- what an event makes of a world
 abbrev pub next_world : Config → World → Event → World
-next_world c w e = record { state = (finish (happens c w.state e)).state; made = made_on c w.state e ++ w.made }
+next_world c w e = record { state = (finish (happens c w.state e)).state; made = made_on c w.state e ++ w.made; joined = joined_on w.state (finish (happens c w.state e)).state e ++ w.joined }
 
 -- what a step makes of it
 abbrev pub after_step : Config → World → Move → World

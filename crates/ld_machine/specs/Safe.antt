@@ -9,7 +9,7 @@ use Rattle.ld_config.specs.declared.config.Config.{Config}
 use Rattle.ld_ids.specs.Choice.{nodes_of}
 use Rattle.ld_ids.specs.declared.set.Spec.{Spec}
 use Rattle.ld_machine.specs.Config.{first_spec}
-use Rattle.ld_machine.specs.Facts.{Happened, Opening, opening, Writes, Appends, Acks, Issues, GivesRecord, GivesGap, Interval, intervals, spec_fixed, stands_lost}
+use Rattle.ld_machine.specs.Facts.{Happened, Opening, opening, Writes, Appends, Acks, Issues, GivesRecord, GivesGap, Interval, intervals, spec_now, stands_lost}
 
 -- intervals that follow one another without a space, none empty and none past the end
 abbrev pub TilesFrom : ℕ → ℕ → List Interval → Type 0
@@ -37,9 +37,9 @@ NothingHidden c hs = (l low high n i j : ℕ) (kind : GapKind) → SaysNone kind
 abbrev pub TrimsWereIssued : Config → List Happened → Type 0
 TrimsWereIssued c hs = (l low high k : ℕ) → GivesGap c hs l gaps.Trim low high k → (j t : ℕ) × (j < k) × (high ≤ t) × Issues hs l t j
 
--- at the end of step k so many of the nodes that were fixed for the epoch stood lost as it has copies
+-- at the end of step k so many nodes of the epoch, as swaps had left it, stood lost as it has copies
 abbrev pub Lacking : Config → List Happened → ℕ → ℕ → ℕ → Type 0
-Lacking c hs l e k = (s : Spec) × (spec_fixed l e (take (k + 1) hs) (first_spec c l) ≡ Some s) × (s.r ≤ how_many (stands_lost l e (take (k + 1) hs)) (nodes_of s))
+Lacking c hs l e k = (s : Spec) × (spec_now l e (take (k + 1) hs) (first_spec c l) ≡ Some s) × (s.r ≤ how_many (stands_lost l e (take (k + 1) hs)) (nodes_of s))
 
 -- a number that is called lost had such a moment
 abbrev pub LossesHappened : Config → List Happened → Type 0

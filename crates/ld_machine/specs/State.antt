@@ -97,6 +97,7 @@ kind_of (bodies.ReadPage round n upto c es) = kinds.ReadPage
 kind_of (bodies.ReadEnded round n end loss) = kinds.ReadEnded
 kind_of (bodies.ReadTrim round n t) = kinds.ReadTrim
 kind_of (bodies.ReadWait round n r) = kinds.ReadWait
+kind_of (bodies.ReadOne round n set excluded) = kinds.ReadOne
 
 -- the number that its line shows
 abbrev pub shown : Body → ℕ
@@ -116,6 +117,7 @@ shown (bodies.ReadPage round n upto c es) = n
 shown (bodies.ReadEnded round n end loss) = end
 shown (bodies.ReadTrim round n t) = t
 shown (bodies.ReadWait round n r) = r
+shown (bodies.ReadOne round n set excluded) = n
 
 abbrev pub message_line : State → ℕ → Msg → Line
 message_line s i m = lines.Message i (actor_of s m.log m.from) (actor_of s m.log m.to) (kind_of m.body) (shown m.body)

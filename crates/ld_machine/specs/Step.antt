@@ -1,5 +1,5 @@
 -- What each event does.
-use Rattle.std.specs.Prelude.{ℕ, List, [], ◌∷◌, ◌++◌, length, Option, Some, None, is_some, Bool, true, false, ◌&&◌, ◌||◌, not, ◌==◌, nat_lt, nat_le, if◌then◌else◌}
+use Rattle.std.specs.Prelude.{ℕ, ◌+◌, List, [], ◌∷◌, ◌++◌, length, Option, Some, None, is_some, Bool, true, false, ◌&&◌, ◌||◌, not, ◌==◌, nat_lt, nat_le, if◌then◌else◌}
 use Rattle.std.specs.Option.{unwrap_or}
 use Rattle.ld_table.specs.Table.{find, put}
 use Rattle.ld_table.specs.Named.{find_named}
@@ -25,11 +25,14 @@ use Rattle.ld_op.specs.Answers.{Handled, on_release}
 use Rattle.ld_op.specs.Ticks.{Ticked, Cleans, Rebuilt, Asks, Nothing, on_tick, node_asks}
 use Rattle.ld_op.specs.Handles.{ballot_of, handled_by, answer_message}
 use Rattle.ld_config.specs.declared.config.Config.{Config}
+use Rattle.ld_batch.specs.Batch.{packed, Unpacked, Messages, Bad, unpacked}
 use Rattle.ld_machine.specs.Config.{first_spec, all_nodes, looks_at, has_log, has_node}
-use Rattle.ld_msg.specs.Register.{Register, Changed, Answer, Granted, AtLimit, Behind, Overtaken, Fails, epochs_of, epochs_in, generation_of, lce_of, activate, draw}
+use Rattle.ld_msg.specs.Register.{Register, Changed, Answer, Granted, AtLimit, Behind, Overtaken, Fails, epochs_of, epochs_in, generation_of, lce_of, activate, draw, swap, swappable}
 use Rattle.ld_machine.specs.Disk.{Node, Fault, new_node, is_up, is_blank, is_down, is_failed, Kept, Written, DiskFailed, Crashed, JournalFull, keep_op, keep_end, load, load_end, Down}
 use Rattle.ld_msg.specs.Network.{message, mark, posted}
 use Rattle.ld_msg.specs.Sequencer.{Sequencer, Acts, Called, called, rose, acted_messages, on_reply, on_retry, released_of, to_each, activated, recovery_asks, Appending, TooLong, Preempted, EpochFull, WindowFull, Numbered, appending, appended, first_stores, next_esn}
+use Rattle.ld_msg.specs.declared.style.Style.{Style}
+use Rattle.ld_msg.specs.declared.style.Style.TheVariants as styles
 use Rattle.ld_msg.specs.Reader.{Reader, Read, opened, is_finished, polled, poll_asks, on_answer}
 use Rattle.ld_machine.specs.State.{State, Done, unchanged, only_state, with_line, node_at, with_node, with_register, with_sequencer, with_reader, sequencer_of, reader_of}
 
@@ -61,8 +64,8 @@ handles s n m (Some o) answer = keeps_op s n o [] (answer_message n m answer)
 abbrev pub released_at : Node → ℕ → ℕ
 released_at x l = unwrap_or (find l x.released) 0
 
-abbrev pub node_handles : Node → Msg → Handled
-node_handles x m = handled_by x.plain.generation (log_of x.plain m.log) m.log (ballot_of m.from) (released_at x m.log) m.body
+abbrev pub node_handles : ℕ → Node → Msg → Handled
+node_handles n x m = handled_by n x.plain.generation (log_of x.plain m.log) m.log (ballot_of m.from) (released_at x m.log) m.body
 
 abbrev pub releases : Node → ℕ → Body → Node
 releases x l (bodies.Release y) = record x { released = put l (on_release (released_at x l) y) x.released }
@@ -70,7 +73,7 @@ releases x l _ = x
 
 -- a message to a node that is up
 abbrev pub to_up_node : State → ℕ → Msg → Done
-to_up_node s n m = handles (with_node s n (releases (node_at s n) m.log m.body)) n m (node_handles (node_at s n) m).op (node_handles (node_at s n) m).answer
+to_up_node s n m = handles (with_node s n (releases (node_at s n) m.log m.body)) n m (node_handles n (node_at s n) m).op (node_handles n (node_at s n) m).answer
 
 abbrev pub to_node : Config → State → ℕ → Msg → Done
 to_node c s n m = if is_up (node_at s n).status && has_log c m.log then to_up_node s n m else unchanged s
@@ -169,14 +172,27 @@ item_line name s until (BridgeTo last) = lines.Gap name gaps.Bridge s (if nat_lt
 item_line name s until LossHere = lines.Gap name gaps.DataLoss s s
 item_line name s until (LossTo last) = lines.Gap name gaps.DataLoss s (if nat_lt until last then until else last)
 
-abbrev pub item_lines : List ℕ → ℕ → List (ℕ × Item) → List Line
-item_lines name until [] = []
-item_lines name until (i ∷ is) = item_line name i.0 until i.1 ∷ item_lines name until is
+abbrev pub message_lines_from : List ℕ → ℕ → ℕ → List (List ℕ) → List Line
+message_lines_from name s index [] = []
+message_lines_from name s index (m ∷ ms) = lines.BatchMessage name s index m ∷ message_lines_from name s (index + 1) ms
+
+-- the messages of a batch, and of another payload the record
+abbrev pub payload_lines : List ℕ → ℕ → List ℕ → Unpacked → List Line
+payload_lines name s p (Messages ms) = message_lines_from name s 0 ms
+payload_lines name s p (Bad place) = lines.Record name s p ∷ []
+
+abbrev pub lines_of_item : Style → List ℕ → ℕ → ℕ → Item → List Line
+lines_of_item styles.OfMessages name s until (RecordHere p) = payload_lines name s p (unpacked p)
+lines_of_item style name s until i = item_line name s until i ∷ []
+
+abbrev pub item_lines : Style → List ℕ → ℕ → List (ℕ × Item) → List Line
+item_lines style name until [] = []
+item_lines style name until (i ∷ is) = lines_of_item style name i.0 until i.1 ++ item_lines style name until is
 
 abbrev pub read : State → List ℕ → Read → Done
 read s name a = record {
   state = with_reader s name a.reader;
-  lines = item_lines name a.reader.until a.items;
+  lines = item_lines a.reader.style name a.reader.until a.items;
   sends = posted (whos.Reader a.reader.number) a.reader.log a.asks;
 }
 
@@ -197,11 +213,14 @@ polls c s name (Some d) =
 abbrev pub reader_limit : ℕ
 reader_limit = 1000
 
-abbrev pub opens : State → List ℕ → ℕ → ℕ → ℕ → Done
-opens s name l from until =
+abbrev pub opens : State → Style → List ℕ → ℕ → ℕ → ℕ → Done
+opens s style name l from until =
     if (from == 0) || nat_lt until from then with_line s (lines.RefusedRange name)
     else if nat_le reader_limit (length s.readers) then with_line s (lines.RefusedFull name)
-    else only_state (with_reader s name (opened l (length s.readers) from until))
+    else only_state (with_reader s name (opened style l (length s.readers) from until))
+
+abbrev pub opens_new : Config → State → Style → List ℕ → ℕ → ℕ → ℕ → Done
+opens_new c s style name l from until = if has_log c l && not (is_some (find_named name s.readers)) then opens s style name l from until else unchanged s
 
 -- ---- deliveries ----
 
@@ -284,6 +303,23 @@ where_node c s n fits d = if has_node c n && fits then d else unchanged s
 abbrev pub armed : Register → ℕ → Bool → Register
 armed r k done = record r { armed = Some (record { left = k; done = done }) }
 
+-- a node takes the place of another one where it has all that it lost of a log: up to the epoch that it was lost for
+abbrev pub can_replace : Config → State → ℕ → ℕ → ℕ → Bool
+can_replace c s n other l = (has_log c l && (has_node c other && not (n == other))) && (is_up (node_at s n).status && (not (log_of (node_at s n).plain l).lost && nat_lt 0 (log_of (node_at s n).plain l).lost_to))
+
+abbrev pub replaces_by : State → ℕ → ℕ → ℕ → ℕ → Register → Answer → Done
+replaces_by s n other l count r Granted = if count == 0 then unchanged s else with_line (with_register s r) (lines.NodeReplaced n l other count)
+replaces_by s n other l count r AtLimit = with_line s (lines.NodeRefusedSwapLimit n)
+replaces_by s n other l count r (Behind lce) = unchanged s
+replaces_by s n other l count r (Overtaken k) = unchanged s
+replaces_by s n other l count r Fails = with_line (with_register s r) (lines.NodeRefusedRegister n)
+
+abbrev pub replaces_with : State → ℕ → ℕ → ℕ → ℕ → Changed → Done
+replaces_with s n other l count d = replaces_by s n other l count d.register d.answer
+
+abbrev pub replaces : State → ℕ → ℕ → ℕ → ℕ → Done
+replaces s n other l upto = replaces_with s n other l (swappable s.register l upto other n) (swap s.register l upto other n)
+
 -- later activations of a log use these nodes, where the configuration has them, this factor, from 1 up to their count, and these extras, at most 3
 abbrev pub can_set : Config → ℕ → ℕ → ℕ → List ℕ → Bool
 can_set c l r x nodes = has_log c l && (all_of (has_node c) nodes && (nat_le 1 r && (nat_le r (length nodes) && nat_le x 3)))
@@ -298,13 +334,16 @@ unfoldable pub happens : Config → State → Event → Done
 happens c s (events.Format n) = where_node c s n (is_blank (node_at s n).status) (formats c s n)
 happens c s (events.Activate name l) = if has_log c l && not (is_some (find_named name s.sequencers)) then activates c s name l (activate s.register l (spec_set c s l)) else unchanged s
 happens c s (events.Append name payload) = live s name (λ q. append_done s name q payload (appending q payload))
+happens c s (events.Batch name messages) = live s name (λ q. append_done s name q (packed messages) (appending q (packed messages)))
 happens c s (events.Trim name point) = live s name (λ q. trim_done c s name q point)
 happens c s (events.Retry name) = live s name (λ q. acted c s name q (on_retry (looks_at c s.register q.log) q))
 happens c s (events.Drop name) = live s name (λ q. only_state (with_sequencer s name (dropped q)))
 happens c s (events.Deliver i) = delivers c s i
 happens c s (events.Lose i) = only_state (marked s i)
 happens c s (events.Flow k) = unchanged s
-happens c s (events.Open name l from until) = if has_log c l && not (is_some (find_named name s.readers)) then opens s name l from until else unchanged s
+happens c s (events.Open name l from until) = opens_new c s styles.EachCopy name l from until
+happens c s (events.OpenOne name l from until) = opens_new c s styles.OneCopy name l from until
+happens c s (events.OpenMessages name l from until) = opens_new c s styles.OfMessages name l from until
 happens c s (events.Poll name) = polls c s name (find_named name s.readers)
 happens c s (events.Tick n l) = where_node c s n true (ticks c s n l)
 happens c s (events.Down n) = where_node c s n (is_up (node_at s n).status || is_failed (node_at s n).status) (with_line (with_node s n (stopped (node_at s n))) (lines.NodeDown n))
@@ -313,4 +352,5 @@ happens c s (events.Wipe n) = where_node c s n true (with_line (with_node s n ne
 happens c s (events.Fail n k) = where_node c s n true (only_state (with_node s n (with_fault (node_at s n) (record { left = k; crash = None }))))
 happens c s (events.Tear n k picture) = where_node c s n true (only_state (with_node s n (with_fault (node_at s n) (record { left = k; crash = Some picture }))))
 happens c s (events.Set l r x set) = sets c s l r x set
+happens c s (events.Replace n other l) = where_node c s n (can_replace c s n other l) (replaces s n other l (log_of (node_at s n).plain l).lost_to)
 happens c s (events.RegFail k done) = only_state (with_register s (armed s.register k done))

@@ -1,8 +1,9 @@
--- A state with a book that never forgets: the digests that plans were made from.
-use Rattle.std.specs.Prelude.{ℕ, max, ◌≡◌, ◌⊎◌, List, [], ◌∷◌, filter, Option, Some, None, is_some, is_none, not, Bool, true, false, ◌&&◌, ◌||◌, ◌==◌, nat_le, if◌then◌else◌}
+-- A state with a book that never forgets: the digests that plans were made from, and the swaps.
+use Rattle.std.specs.Prelude.{ℕ, max, ◌≡◌, ◌⊎◌, List, [], ◌∷◌, filter, Option, Some, None, is_some, is_none, not, Bool, true, false, ◌&&◌, ◌||◌, ◌==◌, nat_lt, nat_le, if◌then◌else◌}
 use Rattle.ld_table.specs.Table.{find}
 use Rattle.ld_table.specs.Named.{find_named}
 use Rattle.ld_table.specs.Words.{how_many, any_of}
+use Rattle.ld_ids.specs.declared.set.Spec.{Spec}
 use Rattle.ld_lsn.specs.Number.{epoch_of, esn_of, home_epoch}
 use Rattle.ld_schedule.specs.declared.event.Event.{Event}
 use Rattle.ld_schedule.specs.declared.event.Event.TheVariants as events
@@ -17,11 +18,11 @@ use Rattle.ld_msg.specs.Digest.{Told, with_page, with_lost, enough, is_spent, pl
 use Rattle.ld_op.specs.Plain.{Plain, log_of, summary_at, is_lost}
 use Rattle.ld_config.specs.declared.config.Config.{Config}
 use Rattle.ld_ids.specs.Choice.{nodes_of}
-use Rattle.ld_machine.specs.Config.{spec_of, set_at, looks_at}
+use Rattle.ld_machine.specs.Config.{spec_of, set_at, fixed_of, fixed_at, looks_at}
 use Rattle.ld_machine.specs.Disk.{Node, Cut}
 use Rattle.ld_msg.specs.Network.{message}
 use Rattle.ld_msg.specs.Sequencer.{Sequencer, Recovery, Stage, Seals, takes_any, recovery_lost}
-use Rattle.ld_msg.specs.Register.{View}
+use Rattle.ld_msg.specs.Register.{Register, View, epochs_of, closed_upto, swaps_in}
 use Rattle.ld_machine.specs.State.{State, start, node_at, sequencer_of}
 
 -- a plan: whose, of which epoch of which log, whether it says what is lost, the digest that it was made from, and the nodes that were blank or lost for the epoch then
@@ -33,12 +34,21 @@ pub record Made : Type 0 where
   pub digest : List Told
   pub gone : List ℕ
 
+-- a swap: the new node took the place of the old one in each epoch of the log up to one that had the old one and lacked the new one; and what the epochs were before
+pub record Joined : Type 0 where
+  pub log : ℕ
+  pub upto : ℕ
+  pub old : ℕ
+  pub new : ℕ
+  pub before : List (ℕ × Spec)
+
 pub record World : Type 0 where
   pub state : State
   pub made : List Made
+  pub joined : List Joined
 
 abbrev pub begin : Config → World
-begin c = record { state = start c; made = [] }
+begin c = record { state = start c; made = []; joined = [] }
 
 -- ---- the plan that a delivery makes ----
 
@@ -114,6 +124,30 @@ made_on c s (events.Deliver i) = made_at c s (message s.network i)
 made_on c s (events.Retry name) = made_retried c s (find_named name s.sequencers)
 made_on c s _ = []
 
+-- ---- the places that an event lets a node take ----
+
+-- the swap that an event made, and what it found
+abbrev pub joins : Register → Register → ℕ → ℕ → ℕ → ℕ → List Joined
+joins before after l upto old new = if nat_lt (epochs_of before l).swaps (epochs_of after l).swaps
+    then record { log = l; upto = closed_upto (epochs_of before l) upto; old = old; new = new; before = (epochs_of before l).swapped } ∷ [] else []
+
+abbrev pub joined_on : State → State → Event → List Joined
+joined_on s t (events.Replace n other l) = joins s.register t.register l (log_of (node_at s n).plain l).lost_to other n
+joined_on s t _ = []
+
+-- a set in which it put its new node
+abbrev pub swaps_there : ℕ → ℕ → Option Spec → Bool
+swaps_there old new None = false
+swaps_there old new (Some p) = swaps_in old new p.set
+
+-- it put the node in the place of another one in the epoch
+abbrev pub joins_there : ℕ → ℕ → ℕ → Joined → Bool
+joins_there l e y j = ((j.log == l) && (j.new == y)) && (nat_le e j.upto && swaps_there j.old j.new (find e j.before))
+
+-- some swap did
+abbrev pub has_joined : World → ℕ → ℕ → ℕ → Bool
+has_joined w l e y = any_of (joins_there l e y) w.joined
+
 -- ---- what was sent ----
 
 -- x is one of the list
@@ -158,12 +192,29 @@ told_by p l y b m = ((m.log == l) && p m.body) && (is_node y m.from && is_sequen
 abbrev pub has_told : World → (Body → Bool) → ℕ → ℕ → ℕ → Bool
 has_told w p l b y = any_of (told_by p l y b) w.state.network.sent
 
--- as many nodes of the epoch's set as it has copies stored the number for ballot b
+-- as many nodes as there are copies stored the number for ballot b, of those that were fixed for the epoch
 unfoldable pub chosen : Config → World → ℕ → ℕ → ℕ → Bool
-chosen c w l n b = nat_le (spec_of c w.state.register l (epoch_of n)).r (how_many (has_told w (says_stored n) l b) (set_at c w.state.register l (epoch_of n)))
+chosen c w l n b = nat_le (fixed_of c w.state.register l (epoch_of n)).r (how_many (has_told w (says_stored n) l b) (fixed_at c w.state.register l (epoch_of n)))
 
+-- as many stored it, or are trimmed at or above it
 unfoldable pub settled : Config → World → ℕ → ℕ → ℕ → Bool
-settled c w l n b = nat_le (spec_of c w.state.register l (epoch_of n)).r (how_many (has_told w (says_settled n) l b) (set_at c w.state.register l (epoch_of n)))
+settled c w l n b = nat_le (fixed_of c w.state.register l (epoch_of n)).r (how_many (has_told w (says_settled n) l b) (fixed_at c w.state.register l (epoch_of n)))
+
+-- the node stored the append of the number, or took a place in its epoch
+abbrev pub has_append : World → ℕ → ℕ → ℕ → Bool
+has_append w l n y = has_told w (says_stored n) l (epoch_of n) y || has_joined w l (epoch_of n) y
+
+-- as many nodes of the epoch, as swaps left it, as there are copies
+unfoldable pub vouched : Config → World → ℕ → ℕ → Bool
+vouched c w l n = nat_le (spec_of c w.state.register l (epoch_of n)).r (how_many (has_append w l n) (set_at c w.state.register l (epoch_of n)))
+
+-- the node settled the number for the ballot, or took a place in its epoch
+abbrev pub has_settled : World → ℕ → ℕ → ℕ → ℕ → Bool
+has_settled w l n b y = has_told w (says_settled n) l b y || has_joined w l (epoch_of n) y
+
+-- as many nodes of the epoch, as swaps left it, as there are copies
+unfoldable pub upheld : Config → World → ℕ → ℕ → ℕ → Bool
+upheld c w l n b = nat_le (spec_of c w.state.register l (epoch_of n)).r (how_many (has_settled w l n b) (set_at c w.state.register l (epoch_of n)))
 
 -- ---- what a ballot says of a number ----
 

@@ -1,11 +1,13 @@
 -- What an entry, a summary and a message may hold: what a frame can carry.
-use Rattle.std.specs.Prelude.{ℕ, ◌≡◌, ◌≤◌, ◌<◌, ◌+◌, ◌-◌, ◌^◌, List, [], ◌∷◌, length}
+use Rattle.std.specs.Prelude.{ℕ, ◌≡◌, ◌≤◌, ◌<◌, ◌+◌, ◌-◌, ◌^◌, List, [], ◌∷◌, length, Bool, true, not}
 use Rattle.ld_lsn.specs.Number.{epoch_of, esn_of, home_epoch, last_esn}
 use Rattle.ld_ids.specs.Id.{IsNode, IsLog}
+use Rattle.ld_ids.specs.Set.{IsSubset, members}
+use Rattle.ld_table.specs.Words.{is_in, any_of}
 use Rattle.ld_msg.specs.declared.msg.Who.{Who}
 use Rattle.ld_msg.specs.declared.msg.Who.TheVariants as whos
 use Rattle.ld_msg.specs.declared.msg.What.{What}
-use Rattle.ld_msg.specs.declared.msg.What.TheVariants.{Rec, Hole, Bridge, Plug}
+use Rattle.ld_msg.specs.declared.msg.What.TheVariants.{Rec, Hole, Bridge, Plug, Withheld}
 use Rattle.ld_msg.specs.declared.msg.Entry.{Entry}
 use Rattle.ld_msg.specs.declared.msg.Summary.{Summary}
 use Rattle.ld_msg.specs.declared.msg.Msg.{Msg}
@@ -41,6 +43,7 @@ last_place (Rec p) = last_esn - 1
 last_place Hole = last_esn - 1
 last_place Bridge = last_esn
 last_place Plug = last_esn - 1
+last_place Withheld = last_esn - 1
 
 -- a payload's bytes are bytes by their type
 abbrev pub IsShort : What → Type 0
@@ -48,6 +51,7 @@ IsShort (Rec p) = length p ≤ 65535
 IsShort Hole = Unit {0}
 IsShort Bridge = Unit {0}
 IsShort Plug = Unit {0}
+IsShort Withheld = Unit {0}
 
 pub record IsEntry (e : Entry) : Type 0 where
   pub epoch : IsEpoch (epoch_of e.number)
@@ -77,15 +81,22 @@ abbrev pub AreEntries : List Entry → Type 0
 AreEntries [] = Unit {0}
 AreEntries (e ∷ es) = IsEntry e × AreEntries es
 
-abbrev pub IsReadable : What → Type 0
-IsReadable (Rec p) = Unit {0}
-IsReadable Hole = Unit {0}
-IsReadable Bridge = ⊥
-IsReadable Plug = Unit {0}
+abbrev pub IsReader : Who → Type 0
+IsReader (whos.Node n) = ⊥
+IsReader (whos.Sequencer e) = ⊥
+IsReader (whos.Reader r) = Unit {0}
 
-abbrev pub AreReadable : List Entry → Type 0
-AreReadable [] = Unit {0}
-AreReadable (e ∷ es) = IsReadable e.what × AreReadable es
+-- a record may be withheld from a reader alone
+abbrev pub IsReadable : Who → What → Type 0
+IsReadable to (Rec p) = Unit {0}
+IsReadable to Hole = Unit {0}
+IsReadable to Bridge = ⊥
+IsReadable to Plug = Unit {0}
+IsReadable to Withheld = IsReader to
+
+abbrev pub AreReadable : Who → List Entry → Type 0
+AreReadable to [] = Unit {0}
+AreReadable to (e ∷ es) = IsReadable to e.what × AreReadable to es
 
 pub record IsPage (from upto : ℕ) (es : List Entry) : Type 0 where
   pub range : from ≤ upto
@@ -142,6 +153,19 @@ IsRecord (Rec p) = Unit {0}
 IsRecord Hole = ⊥
 IsRecord Bridge = ⊥
 IsRecord Plug = ⊥
+IsRecord Withheld = ⊥
+
+-- what nodes keep, and tell sequencers, is never withheld
+abbrev pub IsKept : What → Type 0
+IsKept (Rec p) = Unit {0}
+IsKept Hole = Unit {0}
+IsKept Bridge = Unit {0}
+IsKept Plug = Unit {0}
+IsKept Withheld = ⊥
+
+abbrev pub AreKept : List Entry → Type 0
+AreKept [] = Unit {0}
+AreKept (e ∷ es) = IsKept e.what × AreKept es
 
 abbrev pub ToSequencer : Who → Who → Type 0
 ToSequencer from to = IsNodeHere from × IsSequencerHere to
@@ -152,21 +176,26 @@ ToNode from to = IsSequencerHere from × IsNodeHere to
 abbrev pub ToAsker : Who → Who → ℕ → ℕ → Type 0
 ToAsker from to round number = IsNodeHere from × IsAsker to × Is32 round × (1 ≤ number) × Is64 number
 
+-- some node of the set is not excluded
+abbrev pub share_out : List Bool → List Bool → Bool
+share_out excluded set = any_of (λ n. not (is_in n (members excluded))) (members set)
+
 -- what each body may hold between its actors
 abbrev pub Fits : Who → Who → Body → Type 0
-Fits from to (bodies.Store n lng x) = ToNode from to × IsLng lng × IsEntry (record { number = n; ballot = ballot_of from; what = x }) × (epoch_of n ≡ ballot_of from → IsRecord x)
+Fits from to (bodies.Store n lng x) = ToNode from to × IsLng lng × IsEntry (record { number = n; ballot = ballot_of from; what = x }) × IsKept x × (epoch_of n ≡ ballot_of from → IsRecord x)
 Fits from to (bodies.Stored n) = ToSequencer from to × Is64 n
 Fits from to (bodies.SealedHere n k) = ToSequencer from to × Is64 n × Is32 k
 Fits from to (bodies.LostHere n round g end) = IsNodeHere from × IsActor to × (1 ≤ n) × Is64 n × Is32 round × AnswersIn to round × Is32 g × Is64 end
 Fits from to (bodies.CleanHere n y) = ToSequencer from to × Is64 n × IsSummary (epoch_of n) y
 Fits from to (bodies.TrimmedHere n t) = ToSequencer from to × Is64 n × Is64 t
 Fits from to (bodies.DigestAsk n) = ToNode from to × (1 ≤ epoch_of n) × (epoch_of n < ballot_of from) × (1 ≤ esn_of n)
-Fits from to (bodies.DigestPage n upto t lng es) = ToSequencer from to × IsPage n upto es × Is64 t × IsLng lng
+Fits from to (bodies.DigestPage n upto t lng es) = ToSequencer from to × IsPage n upto es × AreKept es × Is64 t × IsLng lng
 Fits from to (bodies.Clean e y) = ToNode from to × IsEpoch e × IsSummary e y
 Fits from to (bodies.Release n) = ToNode from to × Is64 n
 Fits from to (bodies.Trim t) = ToNode from to × Is64 t
 Fits from to (bodies.ReadAsk round n) = IsAsker from × IsNodeHere to × Is32 round × AsksIn from round × (1 ≤ n) × Is64 n
-Fits from to (bodies.ReadPage round n upto c es) = ToAsker from to round n × IsPage n upto es × AreReadable es
+Fits from to (bodies.ReadOne round n set excluded) = IsAsker from × IsReader from × IsNodeHere to × Is32 round × (1 ≤ n) × Is64 n × IsSubset excluded set × (share_out excluded set ≡ true)
+Fits from to (bodies.ReadPage round n upto c es) = ToAsker from to round n × IsPage n upto es × AreReadable to es
 Fits from to (bodies.ReadEnded round n end loss) = ToAsker from to round n × Is64 end
 Fits from to (bodies.ReadTrim round n t) = ToAsker from to round n × Is64 t
 Fits from to (bodies.ReadWait round n r) = ToAsker from to round n × Is64 r

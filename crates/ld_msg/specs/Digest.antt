@@ -5,7 +5,7 @@ use Rattle.ld_lsn.specs.Number.{epoch_of, esn_of, numbered, last_esn}
 use Rattle.ld_ids.specs.declared.set.Spec.{Spec}
 use Rattle.ld_ids.specs.Choice.{nodes_of}
 use Rattle.ld_msg.specs.declared.msg.What.{What}
-use Rattle.ld_msg.specs.declared.msg.What.TheVariants.{Rec, Hole, Bridge, Plug}
+use Rattle.ld_msg.specs.declared.msg.What.TheVariants.{Rec, Hole, Bridge, Plug, Withheld}
 use Rattle.ld_msg.specs.declared.msg.Entry.{Entry}
 
 -- ---- statements ----
@@ -21,6 +21,7 @@ is_bridge (Rec p) = false
 is_bridge Hole = false
 is_bridge Bridge = true
 is_bridge Plug = false
+is_bridge Withheld = false
 
 -- an entry speaks of its own number; a bridge also of each number above it
 abbrev pub says : ℕ → Entry → Option Entry

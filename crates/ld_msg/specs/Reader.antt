@@ -1,13 +1,17 @@
 -- A reader of a log: its asks, what it holds, and the items that it gives.
-use Rattle.std.specs.Prelude.{ℕ, ◌+◌, ◌-◌, ◌^◌, min, suc, zero, List, [], ◌∷◌, ◌++◌, length, Option, Some, None, Bool, true, false, ◌&&◌, not, ◌==◌, nat_lt, nat_le, if◌then◌else◌}
-use Rattle.ld_table.specs.Table.{find, put}
+use Rattle.std.specs.Prelude.{ℕ, ◌+◌, ◌-◌, ◌^◌, min, suc, zero, List, [], ◌∷◌, ◌++◌, length, filter, Option, Some, None, Bool, true, false, ◌&&◌, not, ◌==◌, nat_lt, nat_le, if◌then◌else◌}
+use Rattle.ld_table.specs.Table.{find, put, take_out}
 use Rattle.ld_table.specs.Words.{is_in, with_one, all_of, any_of}
 use Rattle.ld_lsn.specs.Number.{home_epoch}
+use Rattle.ld_ids.specs.Set.{no_nodes, with_node}
 use Rattle.ld_ids.specs.Choice.{nodes_of}
+use Rattle.ld_msg.specs.Choice.{sender}
 use Rattle.ld_msg.specs.Register.{View}
+use Rattle.ld_msg.specs.declared.style.Style.{Style}
+use Rattle.ld_msg.specs.declared.style.Style.TheVariants as styles
 use Rattle.ld_msg.specs.declared.msg.Body.{Body}
 use Rattle.ld_msg.specs.declared.msg.Body.TheVariants as bodies
-use Rattle.ld_msg.specs.Reading.{Held, Item, TrimTo, RecordHere, HoleHere, BridgeTo, LossHere, LossTo, Verdict, Gives, Confirms, NotYet, decide}
+use Rattle.ld_msg.specs.Reading.{Held, Item, TrimTo, RecordHere, HoleHere, BridgeTo, LossHere, LossTo, Verdict, Gives, Confirms, AsksAll, NotYet, lacks_copy, decide}
 
 -- the lost nodes that are asked once more: the round, the generation held for each, and those that said so again
 pub record Confirmation : Type 0 where
@@ -15,7 +19,13 @@ pub record Confirmation : Type 0 where
   pub asked : List (ℕ × ℕ)
   pub told : List ℕ
 
--- seen is what the look showed with which its last round began
+-- the nodes that are asked in a round in which one of them sends each payload, and those that are not to send
+pub record Senders : Type 0 where
+  pub set : List Bool
+  pub excluded : List Bool
+
+-- seen is what its last look showed, least the round below which answers aren't taken any more, senders those of the present round where one node sends each payload;
+-- polled is the next number as it was polled last, and missing has the nodes whose last answer was that they are lost, each with the epoch that was asked
 pub record Reader : Type 0 where
   pub log : ℕ
   pub number : ℕ
@@ -25,9 +35,14 @@ pub record Reader : Type 0 where
   pub held : List (ℕ × Held)
   pub confirming : Option Confirmation
   pub seen : Option View
+  pub least : ℕ
+  pub style : Style
+  pub senders : Option Senders
+  pub polled : ℕ
+  pub missing : List (ℕ × ℕ)
 
-abbrev pub opened : ℕ → ℕ → ℕ → ℕ → Reader
-opened l number from until = record { log = l; number = number; next = from; until = until; round = 0; held = []; confirming = None; seen = None }
+abbrev pub opened : Style → ℕ → ℕ → ℕ → ℕ → Reader
+opened style l number from until = record { log = l; number = number; next = from; until = until; round = 0; held = []; confirming = None; seen = None; least = 0; style = style; senders = None; polled = 0; missing = [] }
 
 abbrev pub is_finished : Reader → Bool
 is_finished d = nat_lt d.until d.next
@@ -35,17 +50,22 @@ is_finished d = nat_lt d.until d.next
 abbrev pub last_round : ℕ
 last_round = 2 ^ 32 - 1
 
--- what one answer did: the items with the numbers from which they stand, and the asks
+-- what one answer did: the items with the numbers from which they stand, the asks, and whether these began a round that ends the going-through
 pub record Read : Type 0 where
   pub reader : Reader
   pub items : List (ℕ × Item)
   pub asks : List (ℕ × Body)
+  pub anew : Bool
 
 -- ---- asks ----
 
+abbrev pub asks_with : Body → List ℕ → List (ℕ × Body)
+asks_with b [] = []
+asks_with b (y ∷ ys) = (y, b) ∷ asks_with b ys
+
+-- each node is asked for all that it has
 abbrev pub asks_of : ℕ → ℕ → List ℕ → List (ℕ × Body)
-asks_of round next [] = []
-asks_of round next (y ∷ ys) = (y, bodies.ReadAsk round next) ∷ asks_of round next ys
+asks_of round next ys = asks_with (bodies.ReadAsk round next) ys
 
 abbrev pub keys : List (ℕ × ℕ) → List ℕ
 keys [] = []
@@ -55,17 +75,75 @@ keys (k ∷ ks) = k.0 ∷ keys ks
 abbrev pub look_of : (ℕ → View) → Reader → View
 look_of looks d = looks (home_epoch d.next)
 
--- a new round, which ends a confirmation
-abbrev pub polled : (ℕ → View) → Reader → Reader
-polled looks d = record d {
+-- the count of swaps that a look showed
+abbrev pub shown_swaps : Option View → ℕ
+shown_swaps None = 0
+shown_swaps (Some v) = v.swaps
+
+-- it is another one than at the last look: sets have changed since
+abbrev pub sees_swap : Option View → View → Bool
+sees_swap o w = not (shown_swaps o == w.swaps)
+
+-- ---- rounds in which one node sends each payload ----
+
+abbrev pub is_single : Style → Bool
+is_single styles.EachCopy = false
+is_single styles.OneCopy = true
+is_single styles.OfMessages = false
+
+abbrev pub is_epoch : ℕ → Option ℕ → Bool
+is_epoch e None = false
+is_epoch e (Some f) = f == e
+
+-- the node's last answer was that it is lost for the epoch
+abbrev pub missed_by : List (ℕ × ℕ) → ℕ → ℕ → Bool
+missed_by missing e y = is_epoch e (find y missing)
+
+abbrev pub flags_of : List ℕ → List Bool
+flags_of [] = no_nodes
+flags_of (y ∷ ys) = with_node y (flags_of ys)
+
+-- those of the nodes that are lost for the epoch of the next number
+abbrev pub left_out : Reader → View → List ℕ
+left_out d w = filter (missed_by d.missing (home_epoch d.next)) (nodes_of w.spec)
+
+-- one of the nodes that are left sends each payload, unless all are to send, or none would be left
+abbrev pub senders_of : Bool → View → Reader → Option Senders
+senders_of full w d =
+    if (is_single d.style && not full) && nat_lt (length (left_out d w)) (length (nodes_of w.spec))
+    then Some (record { set = w.spec.set; excluded = flags_of (left_out d w) })
+    else None
+
+abbrev pub round_ask : Option Senders → ℕ → ℕ → Body
+round_ask None round next = bodies.ReadAsk round next
+round_ask (Some o) round next = bodies.ReadOne round next o.set o.excluded
+
+-- ---- rounds ----
+
+-- a new round, which ends a confirmation, one in which all nodes are to send payloads or not; where sets have changed, answers of earlier rounds don't count any more
+abbrev pub starts : Bool → (ℕ → View) → Reader → Reader
+starts full looks d = record d {
   round = if nat_lt d.round last_round then d.round + 1 else d.round;
+  held = if nat_lt d.round last_round && sees_swap d.seen (look_of looks d) then [] else d.held;
   confirming = None;
   seen = if nat_lt d.round last_round then Some (look_of looks d) else d.seen;
+  least = if nat_lt d.round last_round && sees_swap d.seen (look_of looks d) then d.round + 1 else d.least;
+  senders = if nat_lt d.round last_round then senders_of full (look_of looks d) d else d.senders;
 }
 
 -- it asks the nodes that its look showed
+abbrev pub start_asks : Bool → (ℕ → View) → Reader → List (ℕ × Body)
+start_asks full looks d = if nat_lt d.round last_round then asks_with (round_ask (senders_of full (look_of looks d) d) (d.round + 1) d.next) (nodes_of (look_of looks d).spec) else []
+
+-- where the next number is what it was at the last poll, all nodes are to send
+abbrev pub is_full_poll : Reader → Bool
+is_full_poll d = d.polled == d.next
+
+abbrev pub polled : (ℕ → View) → Reader → Reader
+polled looks d = record (starts (is_full_poll d) looks d) { polled = d.next }
+
 abbrev pub poll_asks : (ℕ → View) → Reader → List (ℕ × Body)
-poll_asks looks d = if nat_lt d.round last_round then asks_of (d.round + 1) d.next (nodes_of (look_of looks d).spec) else []
+poll_asks looks d = start_asks (is_full_poll d) looks d
 
 -- ---- items ----
 
@@ -83,14 +161,27 @@ abbrev pub after_item : Reader → Item → Reader
 after_item d i = record d { next = min (item_end d.next i) d.until + 1; confirming = None }
 
 abbrev pub gives : Read → Item → Read
-gives a i = record { reader = after_item a.reader i; items = a.items ++ (a.reader.next, i) ∷ []; asks = a.asks }
+gives a i = record { reader = after_item a.reader i; items = a.items ++ (a.reader.next, i) ∷ []; asks = a.asks; anew = a.anew }
 
+-- the asks of a confirmation go to the lost nodes alone, unless its look shows that sets have changed: then the round is one over all nodes
 abbrev pub confirms : (ℕ → View) → Read → List (ℕ × ℕ) → Read
 confirms looks a lost = record {
-  reader = record a.reader { round = a.reader.round + 1; seen = Some (look_of looks a.reader); confirming = Some (record { round = a.reader.round + 1; asked = lost; told = [] }) };
+  reader = record a.reader {
+    round = a.reader.round + 1;
+    held = if sees_swap a.reader.seen (look_of looks a.reader) then [] else a.reader.held;
+    confirming = if sees_swap a.reader.seen (look_of looks a.reader) then None else Some (record { round = a.reader.round + 1; asked = lost; told = [] });
+    seen = Some (look_of looks a.reader);
+    least = if sees_swap a.reader.seen (look_of looks a.reader) then a.reader.round + 1 else a.reader.least;
+    senders = if sees_swap a.reader.seen (look_of looks a.reader) then senders_of false (look_of looks a.reader) a.reader else None;
+  };
   items = a.items;
-  asks = asks_of (a.reader.round + 1) a.reader.next (keys lost);
+  asks = if sees_swap a.reader.seen (look_of looks a.reader) then start_asks false looks a.reader else asks_of (a.reader.round + 1) a.reader.next (keys lost);
+  anew = false;
 }
+
+-- the next number is asked of all nodes anew, each with all that it has
+abbrev pub asks_all : (ℕ → View) → Read → Read
+asks_all looks a = record { reader = starts true looks a.reader; items = a.items; asks = start_asks true looks a.reader; anew = true }
 
 abbrev pub is_confirming : Option Confirmation → Bool
 is_confirming None = false
@@ -108,13 +199,18 @@ has_seen e (Some w) = (w.at == e) && nat_le e w.epoch
 abbrev pub may_confirm : Reader → Bool
 may_confirm d = (not (is_confirming d.confirming) && nat_lt d.round last_round) && has_seen (home_epoch d.next) d.seen
 
+-- the node that is to send the next number in this round lacks it
+abbrev pub misses : Reader → Option Senders → Bool
+misses d None = false
+misses d (Some o) = lacks_copy d.round d.next (sender o.set o.excluded d.next) d.held
+
 abbrev pub verdict : Reader → Verdict
-verdict d = if is_finished d then NotYet else decide d.next (may_confirm d) (seen_nodes d.seen) d.held
+verdict d = if is_finished d then NotYet else decide d.next (misses d d.senders) (may_confirm d) (seen_nodes d.seen) d.held
 
 -- while a row of the table holds, at most so often
 abbrev pub gives_all : ℕ → (ℕ → View) → Read → Read
 gives_all zero looks a = a
-gives_all (suc k) looks a = elim (verdict a.reader) [ Gives i ↦ gives_all k looks (gives a i) | Confirms lost ↦ confirms looks a lost | NotYet ↦ a ]
+gives_all (suc k) looks a = elim (verdict a.reader) [ Gives i ↦ gives_all k looks (gives a i) | Confirms lost ↦ confirms looks a lost | AsksAll ↦ asks_all looks a | NotYet ↦ a ]
 
 abbrev pub body_size : Body → ℕ
 body_size (bodies.ReadPage round from upto clean es) = 1 + length es
@@ -167,11 +263,43 @@ abbrev pub is_confirmed : Option Confirmation → Bool
 is_confirmed None = false
 is_confirmed (Some v) = all_of (λ k. is_in k.0 v.told) v.asked
 
-abbrev pub heard : Reader → ℕ → Body → Reader
-heard d y b = record d { held = held_with d.held y b; confirming = confirming_with d.confirming y b }
+-- the number that was asked
+abbrev pub number_of : Body → ℕ
+number_of (bodies.LostHere number round generation end) = number
+number_of (bodies.ReadPage round from upto clean es) = from
+number_of (bodies.ReadEnded round from end loss) = from
+number_of (bodies.ReadTrim round from trim) = from
+number_of (bodies.ReadWait round from released) = from
+number_of _ = 0
 
-abbrev pub loses : Reader → Read
-loses d = if is_confirmed d.confirming then gives (record { reader = d; items = []; asks = [] }) LossHere else record { reader = d; items = []; asks = [] }
+abbrev pub is_lost_answer : Body → Bool
+is_lost_answer (bodies.LostHere number round generation end) = true
+is_lost_answer _ = false
+
+-- an answer that is held tells whether its node is lost for the epoch that was asked
+abbrev pub missing_with : List (ℕ × ℕ) → ℕ → Body → List (ℕ × ℕ)
+missing_with m y b = if is_lost_answer b then put y (home_epoch (number_of b)) m else take_out y m
+
+abbrev pub tells_missing : Reader → ℕ → Body → Bool
+tells_missing d y b = is_single d.style && is_newer (find y d.held) (round_of b)
+
+abbrev pub heard : Reader → ℕ → Body → Reader
+heard d y b = record d {
+  held = held_with d.held y b;
+  confirming = confirming_with d.confirming y b;
+  missing = if tells_missing d y b then missing_with d.missing y b else d.missing;
+}
+
+abbrev pub nothing_read : Reader → Read
+nothing_read d = record { reader = d; items = []; asks = []; anew = false }
+
+-- a number that is confirmed to be lost is called so, after one more look
+abbrev pub loses : (ℕ → View) → Reader → Read
+loses looks d = if is_confirmed d.confirming then gives (nothing_read (record d { seen = Some (look_of looks d) })) LossHere else nothing_read d
+
+-- that look may show that sets have changed: then a new round begins, and nothing is given
+abbrev pub is_swapped : (ℕ → View) → Reader → Bool
+is_swapped looks d = is_confirmed d.confirming && sees_swap d.seen (look_of looks d)
 
 -- ---- the next round ----
 
@@ -186,14 +314,22 @@ gave_item (i ∷ is) = true
 
 -- an item was given, the reader isn't finished, no confirmation lasts, and no held page reaches the next number
 abbrev pub asks_on : Read → Bool
-asks_on a = (gave_item a.items && not (is_finished a.reader)) && (not (is_confirming a.reader.confirming) && not (any_of (λ h. reaches a.reader.next h.1.body) a.reader.held))
+asks_on a = ((gave_item a.items && not a.anew) && not (is_finished a.reader)) && (not (is_confirming a.reader.confirming) && not (any_of (λ h. reaches a.reader.next h.1.body) a.reader.held))
 
 abbrev pub next_round : (ℕ → View) → Read → Read
 next_round looks a = record {
-  reader = if asks_on a then polled looks a.reader else a.reader;
+  reader = if asks_on a then starts false looks a.reader else a.reader;
   items = a.items;
-  asks = if asks_on a then poll_asks looks a.reader else a.asks;
+  asks = if asks_on a then a.asks ++ start_asks false looks a.reader else a.asks;
+  anew = a.anew;
 }
 
+abbrev pub goes_through : (ℕ → View) → Reader → Read
+goes_through looks d = next_round looks (gives_all (most_items d) looks (loses looks d))
+
+abbrev pub heard_on : (ℕ → View) → Reader → Read
+heard_on looks d = if is_swapped looks d then record { reader = starts false looks d; items = []; asks = start_asks false looks d; anew = true } else goes_through looks d
+
+-- an answer of a round before the least one isn't taken
 unfoldable pub on_answer : (ℕ → View) → Reader → ℕ → Body → Read
-on_answer looks d y b = next_round looks (gives_all (most_items (heard d y b)) looks (loses (heard d y b)))
+on_answer looks d y b = if nat_lt (round_of b) d.least then nothing_read d else heard_on looks (heard d y b)

@@ -4,7 +4,7 @@ use Rattle.ld_table.specs.Table.{find}
 use Rattle.ld_table.specs.Words.{is_in, all_of, any_of, or_else}
 use Rattle.ld_lsn.specs.Number.{home_epoch, epoch_end}
 use Rattle.ld_msg.specs.declared.msg.What.{What}
-use Rattle.ld_msg.specs.declared.msg.What.TheVariants.{Rec, Hole, Plug}
+use Rattle.ld_msg.specs.declared.msg.What.TheVariants.{Rec, Hole, Plug, Withheld}
 use Rattle.ld_msg.specs.declared.msg.Entry.{Entry}
 use Rattle.ld_msg.specs.declared.msg.Body.{Body}
 use Rattle.ld_msg.specs.declared.msg.Body.TheVariants as bodies
@@ -23,10 +23,11 @@ pub data Item : Type 0 where
   LossHere : Item
   LossTo : (last : ℕ) → Item
 
--- an item, or the lost nodes with their generations that are to be asked once more, or nothing
+-- an item, or the lost nodes with their generations that are to be asked once more, or a round in which every node sends payloads, or nothing
 pub data Verdict : Type 0 where
   Gives : (item : Item) → Verdict
   Confirms : (lost : List (ℕ × ℕ)) → Verdict
+  AsksAll : Verdict
   NotYet : Verdict
 
 -- ---- trims ----
@@ -69,6 +70,28 @@ hole_held s hs = any_of (λ h. is_hole (page_at s h.1.body)) hs
 
 abbrev pub plug_held : ℕ → List (ℕ × Held) → Bool
 plug_held s hs = any_of (λ h. is_plug (page_at s h.1.body)) hs
+
+abbrev pub is_withheld : Option What → Bool
+is_withheld (Some Withheld) = true
+is_withheld _ = false
+
+abbrev pub withheld_held : ℕ → List (ℕ × Held) → Bool
+withheld_held s hs = any_of (λ h. is_withheld (page_at s h.1.body)) hs
+
+-- a page, clean or not, covers the number and lacks it; or the node is lost
+abbrev pub sends_nothing : ℕ → Body → Bool
+sends_nothing s (bodies.ReadPage round from upto clean entries) = (nat_le from s && nat_le s upto) && not (is_some (entry_at s entries))
+sends_nothing s (bodies.LostHere number round generation end) = true
+sends_nothing s _ = false
+
+abbrev pub sent_nothing : ℕ → ℕ → Option Held → Bool
+sent_nothing round s None = false
+sent_nothing round s (Some h) = (h.round == round) && sends_nothing s h.body
+
+-- the node that is to send a number, as far as there is one, sent nothing of it in a round
+abbrev pub lacks_copy : ℕ → ℕ → Option ℕ → List (ℕ × Held) → Bool
+lacks_copy round s None hs = false
+lacks_copy round s (Some y) hs = sent_nothing round s (find y hs)
 
 -- ---- bridges ----
 
@@ -137,8 +160,12 @@ abbrev pub end_verdict : ℕ → Option Bool → Verdict → Verdict
 end_verdict s None other = other
 end_verdict s (Some loss) other = Gives (if loss then LossTo (bridge_to s) else BridgeTo (bridge_to s))
 
--- the first that holds: a trim, a record, a hole, a plug, an end, a loss to confirm
-unfoldable pub decide : ℕ → Bool → List ℕ → List (ℕ × Held) → Verdict
-decide s may_confirm set hs =
+-- a number that others withhold and its sender lacks is asked of all; misses tells whether the sender lacks it
+abbrev pub copy_verdict : Bool → Bool → Verdict → Verdict
+copy_verdict withheld misses other = if withheld && misses then AsksAll else other
+
+-- the first that holds: a trim, a record, a hole, a plug, a copy to ask of all, an end, a loss to confirm
+unfoldable pub decide : ℕ → Bool → Bool → List ℕ → List (ℕ × Held) → Verdict
+decide s misses may_confirm set hs =
     if nat_le s (trim_held hs) then Gives (TrimTo (trim_held hs))
-    else entry_verdict (record_held s hs) (hole_held s hs) (plug_held s hs) (end_verdict s (end_held s hs) (loss_verdict s may_confirm set hs))
+    else entry_verdict (record_held s hs) (hole_held s hs) (plug_held s hs) (copy_verdict (withheld_held s hs) misses (end_verdict s (end_held s hs) (loss_verdict s may_confirm set hs)))

@@ -1,16 +1,19 @@
 -- The register of epochs, closes and generations.
-use Rattle.std.specs.Prelude.{ℕ, ◌+◌, ◌-◌, ◌^◌, List, [], ◌∷◌, Option, Some, None, Bool, true, false, ◌||◌, ◌&&◌, not, ◌==◌, nat_lt, nat_le, if◌then◌else◌}
+use Rattle.std.specs.Prelude.{ℕ, ◌+◌, ◌-◌, ◌^◌, min, List, [], ◌∷◌, length, Option, Some, None, Bool, true, false, ◌||◌, ◌&&◌, not, ◌==◌, nat_lt, nat_le, if◌then◌else◌}
 use Rattle.std.specs.Option.{unwrap_or}
 use Rattle.ld_table.specs.Table.{find, put}
 use Rattle.ld_table.specs.Words.{how_many}
+use Rattle.ld_ids.specs.Set.{has_node, with_node, without_node}
 use Rattle.ld_ids.specs.declared.set.Spec.{Spec}
 use Rattle.ld_msg.specs.declared.msg.Summary.{Summary}
 
--- one log's: the greatest epoch handed out, the last closed one, the nodes, factor and extras that were fixed for each epoch handed out, and the summaries of the closed ones
+-- one log's: the greatest epoch handed out, the last closed one, the nodes, factor and extras that were fixed for each epoch handed out, the same as swaps left them, how many swaps there were, and the summaries of the closed ones
 pub record Epochs : Type 0 where
   pub epoch : ℕ
   pub lce : ℕ
   pub specs : List (ℕ × Spec)
+  pub swapped : List (ℕ × Spec)
+  pub swaps : ℕ
   pub summaries : List (ℕ × Summary)
 
 -- the change of this count from now fails, made or not
@@ -28,7 +31,7 @@ abbrev pub empty_register : Register
 empty_register = record { logs = []; generations = []; length = 1; armed = None }
 
 abbrev pub no_epochs : Epochs
-no_epochs = record { epoch = 0; lce = 0; specs = []; summaries = [] }
+no_epochs = record { epoch = 0; lce = 0; specs = []; swapped = []; swaps = 0; summaries = [] }
 
 abbrev pub epochs_of : Register → ℕ → Epochs
 epochs_of r l = unwrap_or (find l r.logs) no_epochs
@@ -98,7 +101,7 @@ with_epochs r l e = record r { logs = put l e r.logs }
 
 -- the next epoch of a log, and what is fixed for it
 abbrev pub next_epoch : Epochs → Spec → Epochs
-next_epoch e s = record e { epoch = e.epoch + 1; specs = put (e.epoch + 1) s e.specs }
+next_epoch e s = record e { epoch = e.epoch + 1; specs = put (e.epoch + 1) s e.specs; swapped = put (e.epoch + 1) s e.swapped }
 
 unfoldable pub activate : Register → ℕ → Spec → Changed
 activate r l s =
@@ -118,6 +121,47 @@ close r l epoch y short =
     if not (lce_of r l + 1 == epoch) then record { register = r; answer = Behind (lce_of r l) }
     else if is_overtaken (epochs_of r l) y short then record { register = r; answer = Overtaken (epochs_of r l).epoch }
     else change r (with_epochs r l (closed_epochs (epochs_of r l) epoch y)) 30
+
+-- ---- swaps ----
+
+abbrev pub swap_limit : ℕ
+swap_limit = 2 ^ 32 - 1
+
+-- a set that has the old node, and has a flag for the new one but lacks it
+abbrev pub swaps_in : ℕ → ℕ → List Bool → Bool
+swaps_in old new set = has_node old set && ((nat_lt 0 new && nat_le new (length set)) && not (has_node new set))
+
+abbrev pub swapped_set : ℕ → ℕ → List Bool → List Bool
+swapped_set old new set = if swaps_in old new set then with_node new (without_node old set) else set
+
+abbrev pub swapped_spec : ℕ → ℕ → Spec → Spec
+swapped_spec old new s = record s { set = swapped_set old new s.set }
+
+-- in each closed epoch up to one
+abbrev pub swapped_specs : ℕ → ℕ → ℕ → List (ℕ × Spec) → List (ℕ × Spec)
+swapped_specs upto old new [] = []
+swapped_specs upto old new (e ∷ es) = (e.0, if nat_le e.0 upto then swapped_spec old new e.1 else e.1) ∷ swapped_specs upto old new es
+
+abbrev pub swap_count : ℕ → ℕ → ℕ → List (ℕ × Spec) → ℕ
+swap_count upto old new m = how_many (λ e. nat_le e.0 upto && swaps_in old new e.1.set) m
+
+-- of a log's epochs those up to one that are closed
+abbrev pub closed_upto : Epochs → ℕ → ℕ
+closed_upto e upto = min upto e.lce
+
+abbrev pub swapped_epochs : Epochs → ℕ → ℕ → ℕ → Epochs
+swapped_epochs e upto old new = record e { swapped = swapped_specs (closed_upto e upto) old new e.swapped; swaps = e.swaps + 1 }
+
+-- in how many epochs a swap would put the new node in the place of the old one
+abbrev pub swappable : Register → ℕ → ℕ → ℕ → ℕ → ℕ
+swappable r l upto old new = swap_count (closed_upto (epochs_of r l) upto) old new (epochs_of r l).swapped
+
+-- the new node takes the place of the old one in each closed epoch up to one that has the old one and lacks the new one; where there is none nothing is asked of the register
+unfoldable pub swap : Register → ℕ → ℕ → ℕ → ℕ → Changed
+swap r l upto old new =
+    if swappable r l upto old new == 0 then record { register = r; answer = Granted }
+    else if nat_le swap_limit (epochs_of r l).swaps then record { register = r; answer = AtLimit }
+    else change r (with_epochs r l (swapped_epochs (epochs_of r l) upto old new)) 11
 
 -- the next generation of a node
 unfoldable pub draw : Register → ℕ → Changed
@@ -144,11 +188,12 @@ summary_shown r l e = if nat_le 1 e && nat_le e (lce_of r l) then find e (epochs
 
 -- ---- a look ----
 
--- what a look at an epoch shows: the epoch, the greatest one handed out, the last closed one, the summary of this one where it is closed, and what was fixed for it
+-- what a look at an epoch shows: the epoch, the greatest one handed out, the last closed one, the count of swaps, the summary of this one where it is closed, and its nodes, factor and extras as swaps left them
 pub record View : Type 0 where
   pub at : ℕ
   pub epoch : ℕ
   pub lce : ℕ
+  pub swaps : ℕ
   pub summary : Option Summary
   pub spec : Spec
 
@@ -157,8 +202,12 @@ abbrev pub epoch_shown : Epochs → ℕ → ℕ
 epoch_shown g e = if (e == 0) || nat_lt g.epoch e then g.epoch else e
 
 -- where none was fixed, the first one counts
+abbrev pub fixed_shown : Epochs → Spec → ℕ → Spec
+fixed_shown g start e = unwrap_or (find (epoch_shown g e) g.specs) start
+
+-- as swaps left it
 abbrev pub spec_shown : Epochs → Spec → ℕ → Spec
-spec_shown g start e = unwrap_or (find (epoch_shown g e) g.specs) start
+spec_shown g start e = unwrap_or (find (epoch_shown g e) g.swapped) start
 
 unfoldable pub look : Spec → Register → ℕ → ℕ → View
-look start r l e = record { at = e; epoch = (epochs_of r l).epoch; lce = lce_of r l; summary = summary_shown r l e; spec = spec_shown (epochs_of r l) start e }
+look start r l e = record { at = e; epoch = (epochs_of r l).epoch; lce = lce_of r l; swaps = (epochs_of r l).swaps; summary = summary_shown r l e; spec = spec_shown (epochs_of r l) start e }

@@ -4,9 +4,11 @@
 mod entries;
 mod msg;
 mod outbox;
+mod style;
 #[cfg(test)]
 mod tests;
 
 pub use entries::Entries;
 pub use msg::{Body, Entry, Msg, Summary, What, Who};
 pub use outbox::{Outbox, Replies};
+pub use style::Style;

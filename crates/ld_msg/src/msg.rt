@@ -4,7 +4,7 @@ ghost use Rattle.ld_msg.specs.Bounds.{ballot_of};
 ghost use Rattle.ld_msg.specs.Digest.{is_bridge};
 
 use crate::Entries;
-use ld_ids::{LogId, NoMemory, NodeId, Payload};
+use ld_ids::{LogId, NoMemory, NodeId, NodeSet, Payload};
 use ld_lsn::Lsn;
 use std::alloc::Global;
 
@@ -43,6 +43,8 @@ pub enum What {
     Bridge,
     /// Its record is lost, if it had one.
     Plug,
+    /// A record that another node sends.
+    Withheld,
 }
 
 impl What {
@@ -55,6 +57,7 @@ impl What {
             What::Hole => Ok(What::Hole),
             What::Bridge => Ok(What::Bridge),
             What::Plug => Ok(What::Plug),
+            What::Withheld => Ok(What::Withheld),
         }
     }
 
@@ -67,6 +70,7 @@ impl What {
             What::Hole => false,
             What::Bridge => true,
             What::Plug => false,
+            What::Withheld => false,
         }
     }
 }
@@ -195,6 +199,14 @@ pub enum Body {
         from: Lsn,
         released: Lsn,
     },
+    /// What stands from this number on? Of each record one node of the set alone sends the payload: the first one of its
+    /// ring that isn't excluded.
+    ReadOne {
+        round: u32,
+        from: Lsn,
+        set: NodeSet,
+        excluded: NodeSet,
+    },
 }
 
 impl Body {
@@ -295,6 +307,17 @@ impl Body {
                 round: *round,
                 from: *from,
                 released: *released,
+            }),
+            Body::ReadOne {
+                round,
+                from,
+                set,
+                excluded,
+            } => Ok(Body::ReadOne {
+                round: *round,
+                from: *from,
+                set: *set,
+                excluded: *excluded,
             }),
         }
     }

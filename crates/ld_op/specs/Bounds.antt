@@ -2,7 +2,7 @@
 use Rattle.std.specs.Prelude.{◌≡◌, ℕ, ◌≤◌, ◌+◌, List, [], ◌∷◌, length, false}
 use Rattle.ld_ids.specs.Id.{IsLog}
 use Rattle.ld_msg.specs.declared.msg.Entry.{Entry}
-use Rattle.ld_msg.specs.Bounds.{Is32, IsLng, Is64, IsEpoch, IsEntry, IsSummary, AreEntries}
+use Rattle.ld_msg.specs.Bounds.{Is32, IsLng, Is64, IsEpoch, IsEntry, IsKept, AreKept, IsSummary, AreEntries}
 use Rattle.ld_op.specs.declared.op.Op.{Op}
 use Rattle.ld_op.specs.declared.op.Op.TheVariants as ops
 use Rattle.ld_op.specs.declared.record.Record.{Record}
@@ -21,11 +21,11 @@ RiseFrom from (e ∷ es) = (from ≤ e.number) × RiseFrom (e.number + 1) es
 -- the count of a format's logs is one byte
 abbrev pub IsOp : Op → Type 0
 IsOp (ops.Format generation epochs) = Is32 generation × (length epochs ≤ 255) × AreEpochs 1 epochs
-IsOp (ops.Accept l lng e) = IsLog l × IsLng lng × IsEntry e
+IsOp (ops.Accept l lng e) = IsLog l × IsLng lng × IsEntry e × IsKept e.what
 IsOp (ops.Seal l b) = IsLog l × IsEpoch b
 IsOp (ops.Clean l epoch y) = IsLog l × IsEpoch epoch × IsSummary epoch y
 IsOp (ops.Trim l t) = IsLog l × Is64 t
-IsOp (ops.Refill l es) = IsLog l × (1 ≤ length es) × (length es ≤ 64) × AreEntries es × RiseFrom 0 es
+IsOp (ops.Refill l es) = IsLog l × (1 ≤ length es) × (length es ≤ 64) × AreEntries es × RiseFrom 0 es × AreKept es
 IsOp (ops.Refilled l) = IsLog l
 
 -- an op that the first version of journals spelt in its own way: a format, or a close without a loss

@@ -4,7 +4,7 @@ use Rattle.std.specs.Option.{unwrap_or}
 use Rattle.ld_table.specs.Table.{find, put, take_out, keep, keep_keys}
 use Rattle.ld_lsn.specs.Number.{epoch_of, esn_of, numbered}
 use Rattle.ld_msg.specs.declared.msg.What.{What}
-use Rattle.ld_msg.specs.declared.msg.What.TheVariants.{Rec, Hole, Bridge, Plug}
+use Rattle.ld_msg.specs.declared.msg.What.TheVariants.{Rec, Hole, Bridge, Plug, Withheld}
 use Rattle.ld_msg.specs.declared.msg.Entry.{Entry}
 use Rattle.ld_msg.specs.declared.msg.Summary.{Summary}
 use Rattle.ld_op.specs.declared.op.Op.{Op}
@@ -64,6 +64,7 @@ abbrev pub accept_entry : Entry → What → List (ℕ × Entry) → List (ℕ �
 accept_entry e (Rec p) m = put e.number e m
 accept_entry e Hole m = put e.number e m
 accept_entry e Plug m = put e.number e m
+accept_entry e Withheld m = put e.number e m
 accept_entry e Bridge m = put e.number e (keep (λ s f. survives_bridge e f) m)
 
 -- the greatest last known good place that was told of an epoch; none is kept of 0
@@ -130,6 +131,7 @@ what_length (Rec p) = 2 + length p
 what_length Hole = 0
 what_length Bridge = 0
 what_length Plug = 0
+what_length Withheld = 0
 
 abbrev pub entry_length : Entry → ℕ
 entry_length e = 13 + what_length e.what

@@ -219,6 +219,7 @@ module _ (c : Config) (hs : List Happened) (s : State) (e : Event) (D : (t : Lis
     trims = λ name q t v a. stays _ refl;
     drops = λ name q v o. puts (only_state (with_sequencer s name (Step.dropped q))) name (Step.dropped q) refl (let F = lines_grow hs s.register e (only_state (with_sequencer s name (Step.dropped q))) q (D name q v.named) in record { appends = F.appends; acked = F.acked });
     activates = λ name l k g n i x. activates_on name l k;
+    swaps = λ n m l x r q i. stays _ refl;
     activate_fails = λ name l x g q. stays _ refl;
     answers = λ f name d m i t v o. stays _ refl;
     polls = λ name d v o. stays _ refl;

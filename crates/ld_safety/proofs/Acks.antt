@@ -10,7 +10,7 @@ use Rattle.ld_config.specs.declared.config.Config.{Config}
 use Rattle.ld_msg.specs.declared.msg.Msg.{Msg}
 use Rattle.ld_msg.specs.Register.{Register, lce_of}
 use Rattle.ld_msg.specs.Sequencer.{Sequencer, Append, released_of, is_acked, acked_first, unacked_from, stored_at, with_append, raised, next_wave, next_esn}
-use Rattle.ld_machine.specs.Config.{spec_of, has_log}
+use Rattle.ld_machine.specs.Config.{fixed_of, has_log}
 use Rattle.ld_machine.specs.Facts.{Happened}
 use Rattle.ld_machine.specs.World.{In}
 use Rattle.ld_safety.proofs.Lists.{cond_both}
@@ -60,20 +60,20 @@ module _ (c : Config) (hs : List Happened) (sent : List Msg) where
 
   pub record AcksFine (r : Register) (q : Sequencer) : Type 0 where
     pub reached : Reached r q.log q.epoch
-    pub spec : q.spec ≡ spec_of c r q.log q.epoch
+    pub spec : q.spec ≡ fixed_of c r q.log q.epoch
     pub kept : has_log c q.log ≡ true
     pub appends : (p : ℕ × Append) → In p q.appends → AppendFine q.spec q.log q.epoch p
     pub acked : (k : ℕ) → 0 < k → k ≤ q.lng → Acknowledged c hs sent r q.log (numbered q.epoch k)
     pub closed : q.lce ≤ lce_of r q.log
 
-  acked_append : (r : Register) (s : Spec) (l b : ℕ) (p : ℕ × Append) → Reached r l b → s ≡ spec_of c r l b → is_acked s p.1 ≡ true → AppendFine s l b p → Acknowledged c hs sent r l p.0
+  acked_append : (r : Register) (s : Spec) (l b : ℕ) (p : ℕ × Append) → Reached r l b → s ≡ fixed_of c r l b → is_acked s p.1 ≡ true → AppendFine s l b p → Acknowledged c hs sent r l p.0
   acked_append r s l b p o q a f = record {
     reached = subst (Reached r l) (sym f.epoch) o;
     above = f.above;
     below = f.below;
     payload = p.1.payload;
     appended = f.appended;
-    chosen = subst (λ k. Chosen (spec_of c r l k) sent l p.0 k) (sym f.epoch) (subst (λ t. Chosen t sent l p.0 b) q (counted_votes s (tells_stored sent l p.0 b) p.1.stored f.votes (leb-true _ _ a)));
+    chosen = subst (λ k. Chosen (fixed_of c r l k) sent l p.0 k) (sym f.epoch) (subst (λ t. Chosen t sent l p.0 b) q (counted_votes s (tells_stored sent l p.0 b) p.1.stored f.votes (leb-true _ _ a)));
   }
 
   -- a node stored an append

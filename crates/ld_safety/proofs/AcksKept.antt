@@ -194,6 +194,7 @@ module _ (c : Config) (s : State) (e : Event) (hs : List Happened) (D : (t : Lis
     trims = λ name q t v b. stays _ refl;
     drops = λ name q v o. puts (only_state (with_sequencer s name (Step.dropped q))) name (Step.dropped q) refl (λ u w. let A = D name q v.named in record { reached = A.reached; spec = A.spec; kept = A.kept; appends = A.appends; acked = A.acked; closed = A.closed }) (λ p g. ap (λ (x : Sequencer). x.log) (Some_inj (sym v.named ∙ g)));
     activates = λ name l k g n i x. activate_result name l k g n i;
+    swaps = λ n m l x r q i. stays _ refl;
     activate_fails = λ name l x g q. stays _ refl;
     answers = λ f name d m i t v o. stays _ refl;
     polls = λ name d v o. stays _ refl;

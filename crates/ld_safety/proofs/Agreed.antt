@@ -13,7 +13,7 @@ use Rattle.ld_msg.specs.declared.msg.Body.TheVariants as bodies
 use Rattle.ld_msg.specs.Register.{Register}
 use Rattle.ld_msg.specs.Digest.{Told, best, content, plan_item, plan_end, plan_floor}
 use Rattle.ld_op.specs.Handles.{ballot_of}
-use Rattle.ld_machine.specs.Config.{spec_of}
+use Rattle.ld_machine.specs.Config.{fixed_of}
 use Rattle.ld_machine.specs.Facts.{Happened}
 use Rattle.ld_machine.specs.World.{World, Made, In, begin, chosen, item, item_in, append_in, HasPlan, plan_in, plan_from, is_made, what_sent, stored_what, stores_at, is_sequencer}
 use Rattle.ld_machine.specs.Invariant.{Agrees, IsFound, LossesWereGone, LossesLast, LossesSay}
@@ -126,7 +126,7 @@ module _ (c : Config) (hs : List Happened) (w : World) (B : Base c hs w) (R : Al
       | inr u ↦ (let z : Plug ≡ Bridge = sym q ∙ u.1 in cc)
     ]
 
-  chosen_here : (l n b : ℕ) → chosen c w l n b ≡ true → Chosen (spec_of c w.state.register l (epoch_of n)) w.state.network.sent l n b
+  chosen_here : (l n b : ℕ) → chosen c w l n b ≡ true → Chosen (fixed_of c w.state.register l (epoch_of n)) w.state.network.sent l n b
   unfolding chosen
   chosen_here l n b h = leb-true _ _ h
 
@@ -134,7 +134,7 @@ module _ (c : Config) (hs : List Happened) (w : World) (B : Base c hs w) (R : Al
   agree_here l n b g x d ch it nb fd lt pl lo =
       let t = told_here l n b x nb it in
       let i = found_plan l (epoch_of n) g w.made d pl in
-      elim (agrees hs w.made w.state.network.sent (spec_of c w.state.register l) once R.once l (λ e. Unit {0}) (λ e a g d f i j lt lo. R.last l e a g d f i j lt lo) (λ e a f u j lo. plan_facts c hs w.state.network.sent w.made w.state.register l e a f (R.plans l e a f j) lo)
+      elim (agrees hs w.made w.state.network.sent (fixed_of c w.state.register l) once R.once l (λ e. Unit {0}) (λ e a g d f i j lt lo. R.last l e a g d f i j lt lo) (λ e a f u j lo. plan_facts c hs w.state.network.sent w.made w.state.register l e a f (R.plans l e a f j) lo)
       n b g x (basis_of d) tt t.below lt i lo (chosen_here l n b ch) t.says nb (no_plug l n b x it fd)) [
         | inl z ↦ inl (plan_says w l n g d x (R.plans l (epoch_of n) g (basis_of d) i).later pl z)
         | inr z ↦ inr (floor_cases (epoch_of n) d.digest (esn_of n) z)

@@ -1,9 +1,9 @@
 -- Recoveries agree: what as many nodes as there are copies stored for a ballot is the item of each plan of a greater one, unless it is trimmed or known good there.
-use Rattle.std.proofs.Common.{◌≡◌, ◌∙◌, ◌⊎◌, ◌≤◌, ◌<◌, ℕ, zero, suc, ◌-◌, min, inl, inr, refl, ap, sym, subst, true, false, not, ◌&&◌, nat_lt, if◌then◌else◌, List, map, length, Some, arith}
-use Rattle.std.proofs.lemmas.Bool.{and_parts, cases_order, cases_lt, ltb-true, ltb-false}
-use Rattle.ld_table.specs.Words.{how_many}
+use Rattle.std.proofs.Common.{◌≡◌, ◌∙◌, ◌⊎◌, ◌≤◌, ◌<◌, ℕ, zero, suc, ◌-◌, min, inl, inr, refl, ap, sym, subst, true, false, not, ◌&&◌, ◌==◌, nat_lt, if◌then◌else◌, List, Some, arith}
+use Rattle.std.proofs.lemmas.Bool.{and_parts, eqb-true, cases_order, cases_lt, ltb-true, ltb-false}
 use Rattle.ld_lsn.specs.Number.{epoch_of, esn_of, numbered, last_esn}
 use Rattle.ld_ids.specs.declared.set.Spec.{Spec}
+use Rattle.ld_ids.specs.Choice.{nodes_of}
 use Rattle.ld_msg.specs.declared.msg.What.{What}
 use Rattle.ld_msg.specs.declared.msg.What.TheVariants.{Rec, Hole, Bridge, Plug}
 use Rattle.ld_msg.specs.declared.msg.Entry.{Entry}
@@ -11,10 +11,9 @@ use Rattle.ld_msg.specs.declared.msg.Msg.{Msg}
 use Rattle.ld_msg.specs.Digest.{Told, best, content, record_or, is_bridge, is_content, plan_end, plan_floor, trim_place, digest_trim, digest_lng}
 use Rattle.ld_machine.specs.Facts.{Happened}
 use Rattle.ld_machine.specs.World.{Made, In}
-use Rattle.ld_safety.proofs.Lists.{count_share, cond_both}
-use Rattle.ld_safety.proofs.Losses.{counted_nodes, told_length}
+use Rattle.ld_safety.proofs.Lists.{count_share, cond_both, any_in}
 use Rattle.ld_safety.proofs.Plans.{best_of, best_least, ranked, trim_least, top_least, plan_shape, plan_between, content_no_bridge, no_bridge, floor_trim, floor_lng, end_above_floor, end_above_top}
-use Rattle.ld_safety.proofs.Protocol.{Basis, plan_of, plan_at, Says, PlansOnce, AppendsOnce, says_once, tells_stored, told_stored, Chosen, Ends, Kept, PlanFacts}
+use Rattle.ld_safety.proofs.Protocol.{Basis, plan_of, plan_at, Says, PlansOnce, AppendsOnce, says_once, tells_stored, told_stored, Chosen, Ends, Kept, PlanFacts, whole_in}
 
 -- the place of a trim in its epoch covers what the trim covers
 pub trim_covers : (e n t : ℕ) → epoch_of n ≡ e → esn_of n < last_esn → n ≤ t → esn_of n ≤ trim_place e t
@@ -48,13 +47,12 @@ module _ (hs : List Happened) (made : List Made) (sent : List Msg) (s : ℕ → 
   shared n b g d oe p lt i fd ch =
       let f = F (epoch_of n) g d oe i fd in
       let e = f.enough in
-      let c = counted_nodes (tells_stored sent l n b) d.digest in
-      let m = ap (how_many (tells_stored sent l n b)) f.digest.nodes in
-      let k = ap length f.digest.nodes in
-      let q : length d.digest ≡ length (map (λ (t : Told). t.node) d.digest) = sym (told_length d.digest) in
-      let r = count_share (λ (t : Told). tells_stored sent l n b t.node) (λ (t : Told). t.whole && not t.lost) d.digest (omega arith) in
-      let w = and_parts r.0.whole (not r.0.lost) r.3 in
-      (r.0, r.1, (f.digest.told r.0 r.1).seen w.0 n b refl p lt (told_stored sent l n b r.0.node r.2))
+      let c = f.digest.whole in
+      let r = count_share (tells_stored sent l n b) (whole_in d.digest) (nodes_of (s (epoch_of n))) (omega arith) in
+      let t = any_in (λ (t : Told). (t.node == r.0) && (t.whole && not t.lost)) d.digest r.3 in
+      let k = and_parts (t.0.node == r.0) (t.0.whole && not t.0.lost) t.2 in
+      let w = and_parts t.0.whole (not t.0.lost) k.1 in
+      (t.0, t.1, (f.digest.told t.0 t.1).seen w.0 n b refl p lt (told_stored sent l n b t.0.node (subst (λ y. tells_stored sent l n b y ≡ true) (sym (eqb-true _ _ k.0)) r.2)))
 
   -- x is at n in each plan between b and g, unless it is trimmed or known good there
   Older : ℕ → ℕ → ℕ → What → Type 0

@@ -30,7 +30,7 @@ use Rattle.ld_safety.proofs.HoldSteps.{UpFine}
 use Rattle.ld_safety.proofs.HoldKept.{NodeHolds}
 use Rattle.ld_safety.proofs.Sent.{ShowsAll, PagesBounded}
 use Rattle.ld_safety.proofs.DigestKept.{AllFine, MadeBelow}
-use Rattle.ld_safety.proofs.Plannings.{PlanMade}
+use Rattle.ld_safety.proofs.Plannings.{PlanMade, PagesOf}
 use Rattle.ld_safety.proofs.Rising.{Rising}
 use Rattle.ld_safety.proofs.Registers.{EachClosed, start_each}
 use Rattle.ld_safety.proofs.SentDrawn.{Drawn}
@@ -38,7 +38,10 @@ use Rattle.ld_safety.proofs.LostSaid.{LostWithin, SaidLost, blank_within}
 use Rattle.ld_safety.proofs.LossBook.{AllLosses, FoundBelow}
 use Rattle.ld_safety.proofs.Shown.{ClosedLast}
 use Rattle.ld_safety.proofs.LastClose.{NextOf}
-use Rattle.ld_safety.proofs.InSet.{InSent, StoredOf}
+use Rattle.ld_safety.proofs.InSet.{InSent, StoredOf, LookIn}
+use Rattle.ld_safety.proofs.Answered.{TrimmedOf}
+use Rattle.ld_safety.proofs.Joins.{SetsFollow, JoinedFine, start_follow}
+use Rattle.ld_safety.proofs.LookedUp.{OfLook}
 use Rattle.ld_safety.proofs.LostFullKept.{FullNode, blank_full}
 use Rattle.ld_safety.proofs.Marks.{Marked, blank_marked}
 use Rattle.ld_safety.proofs.MarksKept.{MarkedNode}
@@ -78,8 +81,13 @@ pub record Along (c : Config) (hs : List Happened) (w : World) : Type 0 where
   pub lost_said : SaidLost w.state
   pub losses : AllLosses c w
   pub last : FoundBelow w.made
-  pub in_sent : InSent c w.state.register w.made w.state.network.sent
+  pub in_sent : InSent c w.state.register w.joined w.made w.state.network.sent
   pub stored_of : StoredOf c w.state.register w.state.network.sent
+  pub trimmed_of : TrimmedOf c w.state.register w.state.network.sent
+  pub pages_of : PagesOf c w.state.register w.state.network.sent
+  pub follow : SetsFollow w.joined w.state.register
+  pub joined : JoinedFine w.joined w.state
+  pub recovers : (t : List ℕ) (q : Sequencer) → find_named t w.state.sequencers ≡ Some q → OfLook (LookIn c w.state.register w.joined) q
   pub full : (y : ℕ) → FullNode (node_at w.state y)
   pub lows : PagesLow w.made w.state.network.sent
   pub marks : (y : ℕ) → MarkedNode c w.made w.state y (node_at w.state y)
@@ -137,6 +145,11 @@ start_along c = record {
   last = λ l e a g f d i. absurd i;
   in_sent = λ m i. absurd i;
   stored_of = λ l y n b i. absurd i;
+  trimmed_of = λ l y b n t i. absurd i;
+  pages_of = λ l y b from upto t lng es i. absurd i;
+  follow = start_follow c;
+  joined = λ l e y h. absurd cc;
+  recovers = λ t q f. absurd (not_none f);
   full = λ y. subst FullNode (sym (start_node y (members c.nodes))) blank_full;
   lows = λ l e b d i. absurd i;
   marks = λ y. subst (MarkedNode c [] (start c) y) (sym (start_node y (members c.nodes))) (λ p q. elim q [ inl a ↦ subst (Marked c [] empty_register [] y) (sym a) (blank_marked c [] empty_register [] y) | inr a ↦ absurd (not_none a.1) ]);

@@ -4,17 +4,16 @@ use Rattle.ld_safety.proofs.Copies.{KnownSettled}
 use Rattle.ld_safety.proofs.Members.{find_in}
 use Rattle.ld_msg.specs.declared.msg.Who.{Who}
 use Rattle.ld_safety.proofs.CopiesKept.{NodeCopies, copies_later, copies_keep, copies_sent}
-use Rattle.ld_safety.proofs.Storings.{StoringFine, ReplyFine, full_close, full_later, full_stands, short_stands, settles_fine}
+use Rattle.ld_safety.proofs.Storings.{SettlersOf, StoringFine, ReplyFine, full_close, full_later, full_stands, short_stands, settles_fine}
 use Rattle.ld_safety.proofs.CarriedSteps.{HeardOf}
 use Rattle.ld_safety.proofs.Shown.{clean_entry}
 use Rattle.ld_msg.specs.declared.msg.Body.{Body}
 use Rattle.ld_ids.specs.declared.set.Spec.{Spec}
 use Rattle.ld_ids.specs.Choice.{nodes_of}
-use Rattle.ld_safety.proofs.Votes.{in_of}
 use Rattle.ld_safety.proofs.Given.{appends_grows, AppendedBy}
 use Rattle.ld_safety.proofs.SequencerSteps.{Ending, ends_again, ends_settled, ends_lost, ends_ready}
 use Rattle.ld_msg.specs.Digest.{is_bridge}
-use Rattle.ld_machine.specs.Config.{spec_of}
+use Rattle.ld_machine.specs.Config.{fixed_of, fixed_at, looks_at}
 use Rattle.ld_safety.proofs.Numbers.{one_payload, below_last}
 use Rattle.ld_msg.specs.declared.msg.Summary.{Summary}
 use Rattle.ld_op.specs.Handles.{ballot_of}
@@ -35,12 +34,12 @@ use Rattle.ld_msg.specs.declared.msg.What.{What}
 use Rattle.ld_msg.specs.declared.msg.Entry.{Entry}
 use Rattle.ld_msg.specs.declared.msg.Msg.{Msg}
 use Rattle.ld_msg.specs.declared.msg.Body.TheVariants as bodies
-use Rattle.ld_msg.specs.Register.{Register, Changed, Granted, is_overtaken, no_epochs, epochs_of, lce_of, draw}
-use Rattle.ld_msg.specs.Sequencer.{Sequencer, released_of, Recovery, appending, Numbered, Stage, next_esn, Closes, settled_by, is_fully_ready, is_ready_short, summary_of, Storing, Stores}
+use Rattle.ld_msg.specs.Register.{Register, Changed, Granted, is_overtaken, no_epochs, epochs_of, lce_of, draw, activate}
+use Rattle.ld_msg.specs.Sequencer.{Sequencer, released_of, Recovery, appending, Numbered, Stage, next_esn, Seals, Closes, settled_by, is_fully_ready, is_ready_short, summary_of, Storing, Stores}
 use Rattle.ld_machine.specs.Disk.{Cut, load}
 use Rattle.ld_machine.specs.State.{Done, finish, node_at}
 use Rattle.ld_machine.specs.Facts.{Happened}
-use Rattle.ld_machine.specs.World.{World, Made, In, from_node, MayHold, made_on, gone_nodes, is_gone, is_cut_gone}
+use Rattle.ld_machine.specs.World.{World, Made, Joined, In, from_node, joined_on, MayHold, made_on, gone_nodes, is_gone, is_cut_gone}
 use Rattle.ld_machine.specs.Run.{next_world}
 use Rattle.ld_machine.specs.Step as Step
 use Rattle.ld_safety.proofs.Lists.{not_none, In-append, In_right, Some_inj, cond_both, not_both}
@@ -63,16 +62,16 @@ use Rattle.ld_safety.proofs.Registers.{each_closed, Up, OnlyClosed, follows, sum
 use Rattle.ld_safety.proofs.Base.{Base, counts_of}
 use Rattle.ld_safety.proofs.GivenSteps.{Given, BaseGiven, given_kept, append_given}
 use Rattle.ld_safety.proofs.Protocol.{Basis, plan_of, Says, Kept, PlansOnce, AppendsOnce, tells_stored, StoredBy, TrimmedBy}
-use Rattle.ld_safety.proofs.Said.{Reached, Said, SaidHere, says_grows, said_step}
+use Rattle.ld_safety.proofs.Said.{good_low, Reached, Said, SaidHere, says_grows, said_step}
 use Rattle.ld_safety.proofs.Settled.{hole_grows, Open, LostTold, FreshLosses, close_low, ReleaseFine, LngFine, Stays, Acknowledged, chosen_more, Summarized, ClosedEntry}
 use Rattle.ld_safety.proofs.Holdings.{Known, Holding}
 use Rattle.ld_safety.proofs.HoldSteps.{UpFine, ups_keep}
 use Rattle.ld_safety.proofs.HoldKept.{NodeHolds, holds_keep, node_later, ends_later, load_node}
 use Rattle.ld_safety.proofs.NodeCases.{node_cases}
 use Rattle.ld_safety.proofs.Sent.{Allowed, SendsFine, sends_cases, network_same, holds_sent, ShowsAll, PagesBounded, shows_sent, bounded_sent}
-use Rattle.ld_safety.proofs.Digesting.{FullAt, NewPlan, InRecovery, RecoveryFine, StageFine}
-use Rattle.ld_safety.proofs.DigestKept.{lost_said, Result, digest_cases, recovery_later, up_same, stays_same, acked_stays, cleaned_closed, reply}
-use Rattle.ld_safety.proofs.Plannings.{Test, PlanMade, just_made, plan_later, plan_sent, into, ends_in}
+use Rattle.ld_safety.proofs.Digesting.{digest_good, FullAt, NewPlan, InRecovery, RecoveryFine, StageFine}
+use Rattle.ld_safety.proofs.DigestKept.{heard_digest, pages_good, lost_said, Result, digest_cases, recovery_later, up_same, stays_same, acked_stays, cleaned_closed, reply}
+use Rattle.ld_safety.proofs.Plannings.{in_nodes, Test, PlanMade, just_made, plan_later, plan_sent, into, ends_in}
 use Rattle.ld_safety.proofs.Has as has
 use Rattle.ld_safety.proofs.Holes.{no_record_beside}
 use Rattle.ld_safety.proofs.Rising.{found_rising}
@@ -84,9 +83,13 @@ use Rattle.ld_safety.proofs.LngBelow.{plans_low}
 use Rattle.ld_safety.proofs.Plans.{lng_least}
 use Rattle.ld_safety.proofs.Sends.{PageIn}
 use Rattle.ld_safety.proofs.NodeSteps.{Served}
-use Rattle.ld_safety.proofs.Digests.{Covered}
-use Rattle.ld_msg.specs.Digest.{Told, digest_lng}
+use Rattle.ld_safety.proofs.Digests.{Covered, DigestSoFar, asks_anew}
+use Rattle.ld_msg.specs.Digest.{Told, digest_lng, with_asks}
 use Rattle.ld_safety.proofs.InSet as inset
+use Rattle.ld_safety.proofs.InSet.{LookIn}
+use Rattle.ld_safety.proofs.LookedUp.{AllLook, look_cases}
+use Rattle.ld_safety.proofs.Joins.{joins_more, now_members, activated_in, follow_step, joined_step}
+use Rattle.ld_safety.proofs.Answered.{trims_answered, pages_answered}
 use Rattle.ld_safety.proofs.AcksKept as acks
 use Rattle.ld_msg.specs.declared.msg.Who.TheVariants as whos
 use Rattle.ld_schedule.specs.declared.event.Event.TheVariants as events
@@ -106,6 +109,10 @@ module _ (c : Config) (hs : List Happened) (w : World) (e : Event) (B : Base c h
 
   pub stays : Stays c w.state.register (Step.happens c w.state e).state.register
   stays = record { summaries = summaries_stay c w.state e B.0.0 B.1.0; specs = spec_stays c w.state.register (Step.happens c w.state e).state.register follow.0 (specs_stay c w.state e B.0.0) }
+
+  pub settlers : SettlersOf c w.state.register w.state.network.sent
+  settlers l y b n x (inl q) i = R.stored_of l y n b (subst (λ z. In (from_node l y b z) w.state.network.sent) q i)
+  settlers l y b n x (inr q) i = R.trimmed_of l y b n q.0 (subst (λ z. In (from_node l y b z) w.state.network.sent) q.1 i)
 
   drawn_known : (n : ℕ) (k : Register) → draw w.state.register n ≡ record { register = k; answer = Granted } → Known w.made w.state.network.sent k
   drawn_known n k q = record { stored = λ l y s b i. reached l (epoch_of s) (R.said.sent _ i); pages = λ l y b from upto t lng es i. reached l (epoch_of from) (R.said.sent _ i).0.reached } where
@@ -128,8 +135,8 @@ module _ (c : Config) (hs : List Happened) (w : World) (e : Event) (B : Base c h
   pub same_sent : (Step.happens c w.state e).state.network.sent ≡ w.state.network.sent
   same_sent = network_same c w.state e B.0.0
 
-  pub digests_now : Result c w.state e hs w.made R.said B.0.1.epochs R.shows R.bounded R.below R.recoveries R.stored_from R.each (Step.happens c w.state e) (made_on c w.state e)
-  digests_now = dispatch c w.state e (Result c w.state e hs w.made R.said B.0.1.epochs R.shows R.bounded R.below R.recoveries R.stored_from R.each) B.0.0 (digest_cases c w.state e hs w.made R.said B.0.1.epochs R.shows R.bounded R.below R.recoveries R.stored_from R.each)
+  pub digests_now : Result c w.state e hs w.made R.said B.0.1.epochs R.shows R.bounded R.below R.recoveries R.stored_from R.each settlers (Step.happens c w.state e) (made_on c w.state e)
+  digests_now = dispatch c w.state e (Result c w.state e hs w.made R.said B.0.1.epochs R.shows R.bounded R.below R.recoveries R.stored_from R.each settlers) B.0.0 (digest_cases c w.state e hs w.made R.said B.0.1.epochs R.shows R.bounded R.below R.recoveries R.stored_from R.each settlers)
 
   abbrev after_sent : List Msg
   after_sent = (finish (Step.happens c w.state e)).state.network.sent
@@ -184,7 +191,7 @@ module _ (c : Config) (hs : List Happened) (w : World) (e : Event) (B : Base c h
   acks_next k l n h = record { reached = h.reached; above = h.above; below = h.below; payload = h.payload; appended = (h.appended.0, appends_grows hs w.state.register e (Step.happens c w.state e) l n h.appended.0 h.payload h.appended.1); chosen = h.chosen }
 
   acks_sent : (l n : ℕ) → Acknowledged c (hs ++ happened c w.state e ∷ []) w.state.network.sent reg l n → Acknowledged c (hs ++ happened c w.state e ∷ []) (finish (Step.happens c w.state e)).state.network.sent reg l n
-  acks_sent l n h = record { reached = h.reached; above = h.above; below = h.below; payload = h.payload; appended = h.appended; chosen = chosen_more (spec_of c reg l (epoch_of n)) w.state.network.sent (finish (Step.happens c w.state e)).state.network.sent into_after l n (epoch_of n) h.chosen }
+  acks_sent l n h = record { reached = h.reached; above = h.above; below = h.below; payload = h.payload; appended = h.appended; chosen = chosen_more (fixed_of c reg l (epoch_of n)) w.state.network.sent (finish (Step.happens c w.state e)).state.network.sent into_after l n (epoch_of n) h.chosen }
 
   pub acks_after : (l n : ℕ) → Acknowledged c (hs ++ happened c w.state e ∷ []) w.state.network.sent w.state.register l n → Acknowledged c (hs ++ happened c w.state e ∷ []) (finish (Step.happens c w.state e)).state.network.sent (Step.happens c w.state e).state.register l n
   acks_after l n h = acks_sent l n (acked_stays c (hs ++ happened c w.state e ∷ []) w.state.network.sent w.state.register reg follow.0 stays l n h)
@@ -197,13 +204,13 @@ module _ (c : Config) (hs : List Happened) (w : World) (e : Event) (B : Base c h
   acks_before t q f = acks_later c hs (hs ++ happened c w.state e ∷ []) w.state.network.sent w.state.network.sent (λ m i. i) (λ l n p a. (a.0, appends_grows hs w.state.register e (Step.happens c w.state e) l n a.0 p a.1)) w.state.register w.state.register (up_same w.state.register) (stays_same c w.state.register) (acks_next w.state.register) q (R.acks t q f)
 
   pub stored_told_now : (name : List ℕ) (q : Sequencer) → Live w.state name q → (m : Msg) → In m w.state.network.sent → m.to ≡ whos.Sequencer q.epoch → m.log ≡ q.log → (n : ℕ) → m.body ≡ bodies.Stored n → tells_stored w.state.network.sent q.log n q.epoch (Step.sender_node m.from) ≡ true
-  stored_told_now name q v m i t l n h = ((reply c w.state e hs w.made R.said B.0.1.epochs R.shows R.bounded R.below R.recoveries R.stored_from R.each name q v m i t l w.state.register (up_same w.state.register) (stays_same c w.state.register)).stored n h).0
+  stored_told_now name q v m i t l n h = ((reply c w.state e hs w.made R.said B.0.1.epochs R.shows R.bounded R.below R.recoveries R.stored_from R.each settlers name q v m i t l w.state.register (up_same w.state.register) (stays_same c w.state.register)).stored n h).0
 
   pub rows_before : (t : List ℕ) (v : Sequencer) → find_named t w.state.sequencers ≡ Some v → RowOf v
   rows_before t v f = (counts_of c hs w B t v f).row
 
   pub cleaned_now : (name : List ℕ) (q : Sequencer) → Live w.state name q → (m : Msg) → In m w.state.network.sent → m.log ≡ q.log → (n : ℕ) (y : Summary) → m.body ≡ bodies.CleanHere n y → home_epoch n ≤ lce_of w.state.register q.log
-  cleaned_now name q v m i l n y h = cleaned_closed c w.state e hs w.made R.said B.0.1.epochs R.shows R.bounded R.below R.recoveries R.stored_from R.each name q v m i l n y h
+  cleaned_now name q v m i l n y h = cleaned_closed c w.state e hs w.made R.said B.0.1.epochs R.shows R.bounded R.below R.recoveries R.stored_from R.each settlers name q v m i l n y h
 
   pub numbers_now : (name : List ℕ) (q : Sequencer) (payload : List ℕ) → Live w.state name q → appending q payload ≡ Numbered → e ≡ events.Append name payload → In (lines.Appended name (numbered q.epoch (next_esn q))) (Step.happens c w.state e).lines → (next_esn q < last_esn) × AppendedBy (hs ++ happened c w.state e ∷ []) q.log (numbered q.epoch (next_esn q)) payload
   numbers_now name q payload v a i x = (below_last q payload (counts_of c hs w B name q v.named).small a, (append_given c hs w e B G name q payload v a i x).appended payload refl)
@@ -298,24 +305,24 @@ module _ (c : Config) (hs : List Happened) (w : World) (e : Event) (B : Base c h
     in_recovery : InRecovery c hs w.state.network.sent w.made w.state.register q.log q.epoch v
     in_recovery = subst (RecoveryFine c hs w.state.network.sent w.made w.state.register q.log q.epoch) f (R.recoveries name q live.named)
 
-    stage_is : (g : Stage) → v.stage ≡ g → StageFine c hs w.state.network.sent w.made w.state.register q.log q.epoch v.epoch g
-    stage_is g k = subst (StageFine c hs w.state.network.sent w.made w.state.register q.log q.epoch v.epoch) k in_recovery.stage
+    stage_is : (g : Stage) → v.stage ≡ g → StageFine c hs w.state.network.sent w.made w.state.register v.spec q.log q.epoch v.epoch g
+    stage_is g k = subst (StageFine c hs w.state.network.sent w.made w.state.register v.spec q.log q.epoch v.epoch) k in_recovery.stage
 
     heard_reply : (y : ℕ) (b : Body) → HeardOf w.state q y b → ReplyFine c hs w.state.network.sent w.state.register q.log q.epoch y b
     heard_reply y b h = subst (λ z. ReplyFine c hs w.state.network.sent w.state.register q.log q.epoch z b) h.from (subst (ReplyFine c hs w.state.network.sent w.state.register q.log q.epoch (Step.sender_node h.message.from)) h.body
-        (reply c w.state e hs w.made R.said B.0.1.epochs R.shows R.bounded R.below R.recoveries R.stored_from R.each name q live h.message h.sent h.to h.log w.state.register (up_same w.state.register) (stays_same c w.state.register)))
+        (reply c w.state e hs w.made R.said B.0.1.epochs R.shows R.bounded R.below R.recoveries R.stored_from R.each settlers name q live h.message h.sent h.to h.log w.state.register (up_same w.state.register) (stays_same c w.state.register)))
 
     heard_lost : (y n round generation end : ℕ) → HeardOf w.state q y (bodies.LostHere n round generation end) → LostTold w.state.network.sent q.log (home_epoch n) q.epoch y
-    heard_lost y n round generation end h = subst (LostTold w.state.network.sent q.log (home_epoch n) q.epoch) h.from (lost_said c w.state e hs w.made R.said B.0.1.epochs R.shows R.bounded R.below R.recoveries R.stored_from R.each name q live h.message h.sent h.to h.log n round generation end h.body)
+    heard_lost y n round generation end h = subst (LostTold w.state.network.sent q.log (home_epoch n) q.epoch) h.from (lost_said c w.state e hs w.made R.said B.0.1.epochs R.shows R.bounded R.below R.recoveries R.stored_from R.each settlers name q live h.message h.sent h.to h.log n round generation end h.body)
 
     -- a plan that is ready
     ready : (g : Storing) (lost : List ℕ) → ((x : ℕ) → is_in x lost ≡ true → LostTold w.state.network.sent q.log v.epoch q.epoch x) → StoringFine c hs w.state.network.sent w.made w.state.register q.log q.epoch v.epoch g → (is_fully_ready v.spec g || is_ready_short v.spec lost g) ≡ true
         → short ≡ not (is_fully_ready v.spec g) → ClosesWith q v short (summary_of q.epoch g)
-    ready g lost said S t o = (stands, λ z. (S.basis, S.planned_so, full_close c hs w.state.network.sent w.made w.state.register q.log q.epoch v.epoch g in_recovery.reached S (subst (λ p. is_fully_ready p g ≡ true) in_recovery.spec (not-false _ (sym o ∙ z))) (omega arith))) where
+    ready g lost said S t o = (stands, λ z. (S.basis, S.planned_so, full_close c hs w.state.network.sent w.made w.state.register q.log q.epoch v.epoch g in_recovery.reached S (subst (λ p. is_fully_ready p g ≡ true) (in_recovery.spec.fixed (omega arith)) (not-false _ (sym o ∙ z))) (omega arith))) where
       stands : Summarized c hs w.made w.state.network.sent w.state.register q.log v.epoch (summary_of q.epoch g)
       stands = elim (or_cases (is_fully_ready v.spec g) (is_ready_short v.spec lost g) t) [
-        | inl k ↦ full_stands c hs w.state.network.sent w.made w.state.register q.log q.epoch v.epoch g in_recovery.reached S (subst (λ p. is_fully_ready p g ≡ true) in_recovery.spec k) (omega arith)
-        | inr k ↦ short_stands c hs w.state.network.sent w.made w.state.register q.log q.epoch v.epoch g in_recovery.reached S lost said (subst (λ p. is_ready_short p lost g ≡ true) in_recovery.spec k)
+        | inl k ↦ full_stands c hs w.state.network.sent w.made w.state.register q.log q.epoch v.epoch g in_recovery.reached S (subst (λ p. is_fully_ready p g ≡ true) (in_recovery.spec.fixed (omega arith)) k) (omega arith)
+        | inr k ↦ short_stands c hs w.state.network.sent w.made w.state.register q.log q.epoch v.epoch g in_recovery.reached S lost said (subst (λ p. is_ready_short p lost g ≡ true) (in_recovery.spec.fixed (omega arith)) k)
       ]
 
     as_lost : (z n round generation end : ℕ) → HeardOf w.state q z (bodies.LostHere n round generation end) → home_epoch n ≡ v.epoch → (x : ℕ) → is_in x (with_one z v.lost) ≡ true → LostTold w.state.network.sent q.log v.epoch q.epoch x
@@ -327,19 +334,23 @@ module _ (c : Config) (hs : List Happened) (w : World) (e : Event) (B : Base c h
     by_end : Ending q (HeardOf w.state q) v y short → ClosesWith q v short y
     by_end (ends_again k) = stage_is (Closes y short) k (omega arith)
     by_end (ends_settled g p z b k j m u t i o) = subst (ClosesWith q v short) (sym i) (ready (settled_by p z g) v.lost in_recovery.lost
-        (settles_fine c hs w.state.network.sent w.state.register q.log q.epoch v.epoch z b (heard_reply z b k) (subst (λ (p : Spec). In z (nodes_of p)) in_recovery.spec (in_of z (nodes_of v.spec) u)) w.made p g m (stage_is (Stores g) j)) t o)
+        (settles_fine c hs w.state.network.sent w.state.register q.log q.epoch v.epoch z b (heard_reply z b k) w.made p g m (stage_is (Stores g) j)) t o)
     by_end (ends_lost g z n round generation end k j m t i o) = subst (ClosesWith q v short) (sym i) (ready g (with_one z v.lost) (as_lost z n round generation end k m) (stage_is (Stores g) j) t o)
     by_end (ends_ready g j t i o) = subst (ClosesWith q v short) (sym i) (ready g v.lost in_recovery.lost (stage_is (Stores g) j) t o)
 
   -- ---- where items and appends go ----
-  known_now : (t : List ℕ) (q : Sequencer) → find_named t w.state.sequencers ≡ Some q → inset.Known c w.made w.state.register q
+  known_now : (t : List ℕ) (q : Sequencer) → find_named t w.state.sequencers ≡ Some q → inset.Known c w.joined w.made w.state w.state.register q
   known_now t q f = let a = R.acks t q f in record {
     own = a.reached;
     spec = a.spec;
     small = (counts_of c hs w B t q f).small;
     appends = λ p i. (a.appends p i).epoch;
     reached = λ v h. (recovers v h).reached;
-    specs = λ v h. (recovers v h).spec;
+    specs = λ v h. (R.recovers t q f v h).1;
+    looked = λ x y o i. now_members c w.joined w.state.register q.log x y R.follow R.each o i;
+    digests = λ v d h k x i. (let D = sealed v d h k in (in_nodes x d (nodes_of v.spec) D.nodes i, (D.told x i).asks));
+    anew = λ v d h k x i. (let D = asks_anew hs w.made w.state.network.sent v.spec q.log v.epoch q.epoch d (most v d (sealed v d h k)) (sealed v d h k) in (in_nodes x (with_asks v.epoch d) (nodes_of v.spec) D.nodes i, (D.told x i).asks));
+    heard = λ m i o g th v d H x j. (let D = (heard_digest c w.state e hs w.made R.said B.0.1.epochs R.shows R.bounded R.below R.recoveries R.stored_from R.each settlers t q (record { named = f; there = th }) m i o g v d H).stage in (in_nodes x d (nodes_of v.spec) D.nodes j, (D.told x j).asks));
     items = λ v g h k i j. ((stored v g h k).items i j).epoch;
     good = λ v g h k. (let z = stored v g h k in (z.basis, z.planned_so, z.lng));
   } where
@@ -347,7 +358,13 @@ module _ (c : Config) (hs : List Happened) (w : World) (e : Event) (B : Base c h
     recovers v h = subst (RecoveryFine c hs w.state.network.sent w.made w.state.register q.log q.epoch) h (R.recoveries t q f)
 
     stored : (v : Recovery) (g : Storing) → q.recovery ≡ Some v → v.stage ≡ Stores g → StoringFine c hs w.state.network.sent w.made w.state.register q.log q.epoch v.epoch g
-    stored v g h k = subst (StageFine c hs w.state.network.sent w.made w.state.register q.log q.epoch v.epoch) k (recovers v h).stage
+    stored v g h k = subst (StageFine c hs w.state.network.sent w.made w.state.register v.spec q.log q.epoch v.epoch) k (recovers v h).stage
+
+    sealed : (v : Recovery) (d : List Told) → q.recovery ≡ Some v → v.stage ≡ Seals d → DigestSoFar hs w.made w.state.network.sent v.spec q.log v.epoch q.epoch d
+    sealed v d h k = subst (StageFine c hs w.state.network.sent w.made w.state.register v.spec q.log q.epoch v.epoch) k (recovers v h).stage
+
+    most : (v : Recovery) (d : List Told) → DigestSoFar hs w.made w.state.network.sent v.spec q.log v.epoch q.epoch d → digest_lng d ≤ last_esn - 1
+    most v d D = let z = good_low c hs w.state.network.sent w.state.register q.log v.epoch _ (digest_good c hs w.state.network.sent w.made w.state.register (pages_good c hs w.made w.state R.said) v.spec q.log v.epoch q.epoch d D) in omega arith
 
   -- ---- how epochs were closed ----
   pub low_now : (t : List ℕ) (q : Sequencer) → find_named t w.state.sequencers ≡ Some q → q.lce ≤ lce_of w.state.register q.log
@@ -437,22 +454,47 @@ module _ (c : Config) (hs : List Happened) (w : World) (e : Event) (B : Base c h
   lost_passes l x b y o h u = unserved_gone (node_at w.state y) l x (subst (AllUnserved (node_at w.state y) l) h.home (R.lost_said l y b h.number h.round h.generation h.end h.said (let z = o.0 in let k = h.home in omega arith)).1) (unclean y l x o u)
 
   pub plan_now : (l x b : ℕ) (f : Basis) → In (plan_of l x b f) (made_on c w.state e) → PlanMade c hs w.state.network.sent w.made w.state.register l x b f
-  plan_now l x b f i = let n = (new_plan l x b f i).0 in just_made c hs w.state.network.sent w.made w.state.register test l x b f (λ y h u. lost_passes l x b y n.reached h u) n
+  plan_now l x b f i = let n = (new_plan l x b f i).0 in just_made c hs w.state.network.sent w.made w.state.register test l x b f (λ y h u. lost_passes l x b y n.reached h u) R.pages_of n
 
-  posts_now : inset.InSent c w.state.register all_made (Step.happens c w.state e).sends
-  posts_now = dispatch c w.state e (inset.Posts c w.made w.state e known_now) B.0.0 (inset.posts_cases c w.made w.state e known_now) (λ l x b f i. ends_in c hs w.state.network.sent w.made w.state.register l x b f (plan_now l x b f i))
+  -- what looks show
+  activated_look : (l : ℕ) (k : Register) → activate w.state.register l (Step.spec_set c w.state l) ≡ record { register = k; answer = Granted } → (x : ℕ) → 0 < x → x < (epochs_of k l).epoch → LookIn c w.state.register w.joined l x (looks_at c k l x).spec
+  activated_look l k i x pos lt = activated_in c w.joined w.state.register k l x (Step.spec_set c w.state l) R.follow R.each i pos lt
 
-  in_next : inset.InSent c reg all_made after_sent
-  in_next m i b y n lng x f t k = grown (elim (sent_by (Step.happens c w.state e) m i) [
-    | inl a ↦ let z = R.in_sent m (subst (λ (z : List Msg). In m z) same_sent a) b y n lng x f t k in (z.0, z.1, elim z.2 [ inl v ↦ inl v | inr v ↦ inr (v.0, In_right _ (made_on c w.state e) w.made v.1, v.2) ])
-    | inr a ↦ posts_now m a b y n lng x f t k
-  ]) where
-    grown : Reached w.state.register m.log (epoch_of n) × In y (nodes_of (spec_of c w.state.register m.log (epoch_of n))) × inset.StoreLng all_made m.log b n lng → Reached reg m.log (epoch_of n) × In y (nodes_of (spec_of c reg m.log (epoch_of n))) × inset.StoreLng all_made m.log b n lng
-    grown h = ((h.0.0, let u = (follow.0 m.log).0 in let v = h.0.1 in omega arith), subst (λ (p : Spec). In y (nodes_of p)) (sym (stays.specs m.log (epoch_of n) h.0)) h.1, h.2)
+  activated_ask : (l : ℕ) (k : Register) → activate w.state.register l (Step.spec_set c w.state l) ≡ record { register = k; answer = Granted } → (x y : ℕ) → 0 < x → x < (epochs_of k l).epoch → In y (nodes_of (looks_at c k l x).spec) → inset.AskGoes c w.state.register w.joined l y (numbered x 1)
+  activated_ask l k i x y pos lt j = let z = activated_look l k i x pos lt in let q : epoch_of (numbered x 1) ≡ x = omega arith in (subst (Reached w.state.register l) (sym q) z.0, subst (λ v. inset.InEpoch c w.state.register w.joined l v y) (sym q) (z.1 y j))
+
+  own_look : (t : List ℕ) (q : Sequencer) → find_named t w.state.sequencers ≡ Some q → (x : ℕ) → 0 < x → x < q.epoch → LookIn c w.state.register w.joined q.log x (looks_at c w.state.register q.log x).spec
+  own_look t q f x pos lt = let o : Reached w.state.register q.log x = (pos, let z = (R.acks t q f).reached.1 in omega arith) in (o, λ y i. now_members c w.joined w.state.register q.log x y R.follow R.each o i)
+
+  looks_now : AllLook (LookIn c w.state.register w.joined) c w.state e R.recovers own_look activated_look (Step.happens c w.state e) (made_on c w.state e)
+  looks_now = dispatch c w.state e (AllLook (LookIn c w.state.register w.joined) c w.state e R.recovers own_look activated_look) B.0.0 (look_cases (LookIn c w.state.register w.joined) c w.state e R.recovers own_look activated_look)
+
+  abbrev new_joined : List Joined
+  new_joined = joined_on w.state (finish (Step.happens c w.state e)).state e
+
+  epoch_next : (l x y : ℕ) → Reached w.state.register l x → inset.InEpoch c w.state.register w.joined l x y → inset.InEpoch c reg (new_joined ++ w.joined) l x y
+  epoch_next l x y o (inl i) = inl (subst (λ (p : Spec). In y (nodes_of p)) (sym (stays.specs l x o)) i)
+  epoch_next l x y o (inr j) = inr (joins_more new_joined w.joined l x y j)
+
+  posts_now : inset.InSent c w.state.register w.joined all_made (Step.happens c w.state e).sends
+  posts_now = dispatch c w.state e (inset.Posts c w.joined w.made w.state e known_now activated_ask) B.0.0 (inset.posts_cases c w.joined w.made w.state e known_now activated_ask) (λ l x b f i. ends_in c hs w.state.network.sent w.made w.state.register l x b f (plan_now l x b f i))
+
+  in_next : inset.InSent c reg (new_joined ++ w.joined) all_made after_sent
+  in_next m i b y f t = elim (sent_by (Step.happens c w.state e) m i) [
+    | inl a ↦ grown w.made m.body (λ l n g z. elim z [ inl v ↦ inl v | inr v ↦ inr (v.0, In_right _ (made_on c w.state e) w.made v.1, v.2) ]) (R.in_sent m (subst (λ (z : List Msg). In m z) same_sent a) b y f t)
+    | inr a ↦ grown all_made m.body (λ l n g z. z) (posts_now m a b y f t)
+  ] where
+    reached_next : (l x : ℕ) → Reached w.state.register l x → Reached reg l x
+    reached_next l x h = (h.0, let u = (follow.0 l).0 in let v = h.1 in omega arith)
+
+    grown : (ms : List Made) (k : Body) → ((l n g : ℕ) → inset.StoreLng ms l b n g → inset.StoreLng all_made l b n g) → inset.MayGo (inset.Goes c w.state.register w.joined ms m.log b) (inset.AskGoes c w.state.register w.joined m.log) y k → inset.MayGo (inset.Goes c reg (new_joined ++ w.joined) all_made m.log b) (inset.AskGoes c reg (new_joined ++ w.joined) m.log) y k
+    grown ms (bodies.Store n lng x) more h = (reached_next m.log (epoch_of n) h.0, epoch_next m.log (epoch_of n) y h.0 h.1, more m.log n lng h.2)
+    grown ms (bodies.DigestAsk n) more h = (reached_next m.log (epoch_of n) h.0, epoch_next m.log (epoch_of n) y h.0 h.1)
+    grown ms _ more h = tt
 
   -- ---- what entries say of their nodes ----
-  sent_from : (m : Msg) → In m w.state.network.sent → (y n lng : ℕ) (x : What) → m.to ≡ whos.Node y → m.body ≡ bodies.Store n lng x → OfSet c w.made w.state.register w.state.network.sent y m.log n × inset.StoreLng w.made m.log (ballot_of m.from) n lng
-  sent_from m i y n lng x t h = by_who m.from refl where
+  sent_from : (m : Msg) → In m w.state.network.sent → (y n lng : ℕ) (x : What) → m.to ≡ whos.Node y → m.body ≡ bodies.Store n lng x → 0 < (node_at w.state y).plain.generation → Served (log_of (node_at w.state y).plain m.log) (epoch_of n) → OfSet c w.made w.state.register w.state.network.sent y m.log n × inset.StoreLng w.made m.log (ballot_of m.from) n lng
+  sent_from m i y n lng x t h gen sv = by_who m.from refl where
     said : (who : Who) → m.from ≡ who → Said hs w.made w.state.register m.log (ballot_of who) n x
     said who q = body_says m.log who n lng x (subst (λ z. BodySaidIn c hs w m.log z (bodies.Store n lng x)) q (subst (BodySaidIn c hs w m.log m.from) h (R.said.sent m i)))
 
@@ -460,7 +502,7 @@ module _ (c : Config) (hs : List Happened) (w : World) (e : Event) (B : Base c h
     no_ballot s = elim s.says [ inl o ↦ (let a = o.own in let b = s.reached.0 in omega arith) | inr o ↦ (let a = o.later in omega arith) ]
 
     by_who : (who : Who) → m.from ≡ who → OfSet c w.made w.state.register w.state.network.sent y m.log n × inset.StoreLng w.made m.log (ballot_of m.from) n lng
-    by_who (whos.Sequencer b) q = let z = R.in_sent m i b y n lng x q t h in ((z.0, z.1), subst (λ (k : Who). inset.StoreLng w.made m.log (ballot_of k) n lng) (sym q) z.2)
+    by_who (whos.Sequencer b) q = let z : inset.Goes c w.state.register w.joined w.made m.log b y n lng = subst (inset.MayGo (inset.Goes c w.state.register w.joined w.made m.log b) (inset.AskGoes c w.state.register w.joined m.log) y) h (R.in_sent m i b y q t) in ((z.0, elim z.1 [ inl j ↦ j | inr j ↦ absurd (served_not (node_at w.state y).plain m.log (epoch_of n) gen sv ((R.joined m.log (epoch_of n) y j).unserved (node_at w.state y).plain (inl refl))) ]), subst (λ (k : Who). inset.StoreLng w.made m.log (ballot_of k) n lng) (sym q) z.2)
     by_who (whos.Node b) q = absurd (no_ballot (said (whos.Node b) q))
     by_who (whos.Reader b) q = absurd (no_ballot (said (whos.Reader b) q))
 
@@ -555,6 +597,9 @@ module _ (c : Config) (hs : List Happened) (w : World) (e : Event) (B : Base c h
         (marks_next y (node_at (Step.happens c w.state e).state y).plain (inl refl)).of_set l n z.held.entry z.held.found_at (served_later (log_of (node_at (Step.happens c w.state e).state y).plain l) (epoch_of n) (full_now y (node_at (Step.happens c w.state e).state y).plain (inl refl) l) (served_positive (log_of (node_at (Step.happens c w.state e).state y).plain l) (epoch_of n) z.served) z.served))
   ]
 
+  of_next : (l x y : ℕ) → Reached w.state.register l x × In y (fixed_at c w.state.register l x) → Reached reg l x × In y (fixed_at c reg l x)
+  of_next l x y h = ((h.0.0, let u = (follow.0 l).0 in let v = h.0.1 in omega arith), subst (λ (p : Spec). In y (nodes_of p)) (sym (stays.specs l x h.0)) h.1)
+
   drawn_own : (name : List ℕ) (q : Sequencer) → find_named name w.state.sequencers ≡ Some q → q.epoch ≤ (epochs_of w.state.register q.log).epoch
   drawn_own name q f = B.0.1.epochs.drawn name q f
 
@@ -600,6 +645,11 @@ module _ (c : Config) (hs : List Happened) (w : World) (e : Event) (B : Base c h
     last = found_below c hs w.made (made_on c w.state e) w.state R.losses R.last R.below new_plan plan_now;
     in_sent = in_next;
     stored_of = stored_next;
+    trimmed_of = λ l y b n t i. elim (trims_answered c w e B.0.0 R.ups R.joined R.in_sent l y b n t i) [ inl a ↦ of_next l (epoch_of n) y (R.trimmed_of l y b n t a) | inr a ↦ of_next l (epoch_of n) y a ];
+    pages_of = λ l y b from upto t lng es i. elim (pages_answered c w e B.0.0 R.ups R.joined R.in_sent l y b from upto t lng es i) [ inl a ↦ of_next l (epoch_of from) y (R.pages_of l y b from upto t lng es a) | inr a ↦ of_next l (epoch_of from) y a ];
+    follow = follow_step c w e B.0.0 R.follow;
+    joined = joined_step c w e B.0.0 follow.0 R.each R.ups R.full R.joined;
+    recovers = λ t q f v h. (let z = looks_now t q f v h in ((z.0.0, let u = (follow.0 q.log).0 in let p = z.0.1 in omega arith), λ y i. epoch_next q.log v.epoch y z.0 (z.1 y i)));
     full = full_now;
     lows = lows_next;
     marks = marks_next;

@@ -171,6 +171,7 @@ module _ (c : Config) (s : State) (e : Event) (fine : (name : List ℕ) (q : Seq
     trims = λ name q t v a. others OfTrims _ (λ h. cc) (one_of (lines.Trimmed name t));
     drops = λ name q v o. others OfNodes _ (λ h. cc) (none_of OfNodes);
     activates = λ name l r g n i x. activated name l r;
+    swaps = λ n m l x r q i. quiets _ (quiet_one x q);
     activate_fails = λ name l x g q. quiets _ (quiet_one x q);
     answers = λ f name d m i t v o. others OfItems _ (λ h. cc) (items_of name _ _);
     polls = λ name d v o. others OfNodes _ (λ h. cc) (none_of OfNodes);

@@ -18,7 +18,7 @@ use Rattle.ld_msg.specs.declared.msg.Body.TheVariants as bodies
 use Rattle.ld_msg.specs.Register.{Register, View, Granted, lce_of, close, look}
 use Rattle.ld_msg.specs.Digest.{Told, told_nothing, no_digest, told_page, takes_page, with_page, asked_anew, with_asks, told_lost, with_lost, Item, plan, digest_trim, digest_lng}
 use Rattle.ld_msg.specs.Sequencer.{Sequencer, Recovery, Stage, Seals, Stores, Closes, Storing, Append, Planned, Acts, does_nothing, to_each, digest_asks, next_ask, begun, recovery_of, recovery_asks, planned, item_stores, settle, summary_of, stored_at, unacked_from, is_acked, raised, append_stores, next_wave, activated, bare, Called, acted_messages, release_messages, released_of, storing_of, item_nodes}
-use Rattle.ld_machine.specs.Config.{looks_at, spec_of}
+use Rattle.ld_machine.specs.Config.{looks_at}
 use Rattle.ld_machine.specs.World.{In, Made}
 use Rattle.ld_safety.proofs.Lists.{cond_both, max_both, In-append, In-map}
 use Rattle.ld_safety.proofs.Plans.{lng_has, trim_has}
@@ -192,7 +192,7 @@ module _ (E : ℕ → ℕ → ℕ → What → Type 0) (T : ℕ → ℕ → Type
   unfolding look
   begins_ok c r k l q lce C = begins_by (nat_lt (lce + 1) q.epoch) refl where
     begins_by : (t : Bool) → nat_lt (lce + 1) q.epoch ≡ t → carried.RecoveryOk E T Y O V W R G l q.epoch (if t then Some (begun (looks_at c r k (lce + 1))) else None)
-    begins_by true h = ((omega arith, ltb-true (lce + 1) q.epoch h, C (lce + 1) (omega arith) (ltb-true (lce + 1) q.epoch h)), fresh_digest l (spec_of c r k (lce + 1)) (lce + 1))
+    begins_by true h = ((omega arith, ltb-true (lce + 1) q.epoch h, C (lce + 1) (omega arith) (ltb-true (lce + 1) q.epoch h)), fresh_digest l (looks_at c r k (lce + 1)).spec (lce + 1))
     begins_by false h = tt
 
   pub begin_asks_ok : (l b : ℕ) (looks : ℕ → View) (q : Sequencer) (lce : ℕ) → ((e : ℕ) → 0 < e → e < q.epoch → O l e) → BodiesOk l b (recovery_asks looks q lce)

@@ -31,7 +31,7 @@ use Rattle.ld_msg.specs.Digest.{Told, plan, Item}
 use Rattle.ld_msg.specs.Sequencer.{Sequencer, Acts, Recovery, Numbered, appending, appended, next_esn, first_stores, released_of, on_reply, on_retry, to_each, activated, recovery_asks, Append, fresh_append, called, acted_messages}
 use Rattle.ld_msg.specs.Choice.{choice}
 use Rattle.ld_msg.specs.Reading.{Held}
-use Rattle.ld_msg.specs.Reader.{Reader, Read, polled, opened, held_with, is_newer, round_of, on_answer, poll_asks, asks_of, look_of, last_round}
+use Rattle.ld_msg.specs.Reader.{Reader, Read, heard, polled, opened, held_with, is_newer, round_of, on_answer, poll_asks, asks_of, look_of, last_round}
 use Rattle.ld_machine.specs.State.{State, Done, finish, node_at, with_node, with_register, with_sequencer, with_reader, only_state, posted}
 use Rattle.ld_machine.specs.World.{Made, In, made_on, made_by, made_retried, page_from}
 use Rattle.ld_machine.specs.Step as Step
@@ -44,7 +44,7 @@ use Rattle.ld_safety.proofs.Members.{In_put}
 use Rattle.ld_safety.proofs.Events.{NamesOnce, Cases, dispatch, Live, Reading, Serves, refreshed, loaded, with_spec}
 use Rattle.ld_safety.proofs.SequencerSteps.{same_sender, Ending, gone_of, replied, retried}
 use Rattle.ld_safety.proofs.RegisterSteps.{shown_closed}
-use Rattle.ld_safety.proofs.ReaderSteps.{ReadKeeps, answered}
+use Rattle.ld_safety.proofs.ReaderSteps.{dropped_held, ReadKeeps, answered}
 use Rattle.ld_safety.proofs.ReaderLogs.{Apart}
 use Rattle.ld_safety.proofs.Carried as carried
 use Rattle.ld_safety.proofs.CarriedNodes as nodes
@@ -250,17 +250,20 @@ module _ (c : Config) (s : State) (e : Event) (E : ℕ → ℕ → ℕ → What 
         (λ t k i. elim (In_put y (record { round = round_of b; body = b }) d.held k i) [ inl q ↦ subst (λ (x : ℕ × Held). carried.HeldOk E T Y O V W R G d.log x.1.body) (sym q) o | inr j ↦ h k j ]) (λ t. h)
 
     read_keeps : (looks : ℕ → View) (d : Reader) (y : ℕ) (b : Body) → HeldFine d.log d.held → carried.HeldOk E T Y O V W R G d.log b → ReadKeeps looks d y b (ReadOk d)
+    unfolding HeldFine
     read_keeps looks d y b h o = let k = held_put d y b h o in record {
       starts = record { log = refl; held = k; asks = λ r x i. absurd i };
-      loss = λ u. record { log = refl; held = k; asks = λ r x i. absurd i };
+      ignored = λ u. record { log = refl; held = h; asks = λ r x i. absurd i };
+      loss = λ u n. record { log = refl; held = k; asks = λ r x i. absurd i };
+      swapped = λ u n. record { log = refl; held = dropped_held (HeldFine d.log) (λ z i. absurd i) _ _ k; asks = λ r x i. poll_plain d.log r looks (heard d y b) x i };
       trim = λ a g n t. record { log = g.log; held = g.held; asks = g.asks };
       record_there = λ a p g n t. record { log = g.log; held = g.held; asks = g.asks };
       hole_there = λ a g n t. record { log = g.log; held = g.held; asks = g.asks };
       plug = λ a g n t. record { log = g.log; held = g.held; asks = g.asks };
       bridge = λ a g n t. record { log = g.log; held = g.held; asks = g.asks };
       lossy_end = λ a g n t. record { log = g.log; held = g.held; asks = g.asks };
-      confirm = λ a g n m t. record { log = g.log; held = g.held; asks = λ r x i. asks_plain d.log r _ _ _ x i };
-      polls_on = λ a g t. record { log = g.log; held = g.held; asks = λ r x i. poll_plain d.log r looks a.reader x i };
+      confirm = λ a g n m t. record { log = g.log; held = dropped_held (HeldFine d.log) (λ z i. absurd i) _ _ g.held; asks = λ r x i. asks_plain d.log r _ _ _ x i };
+      polls_on = λ a g t. record { log = g.log; held = dropped_held (HeldFine d.log) (λ z i. absurd i) _ _ g.held; asks = λ r x i. elim (In-append x a.asks _ i) [ inl j ↦ g.asks r x j | inr j ↦ poll_plain d.log r looks a.reader x j ] };
     } where
       poll_plain : (l r : ℕ) (looks : ℕ → View) (x : Reader) (b : ℕ × Body) → In b (poll_asks looks x) → carried.BodyOk E T Y O V W R G l (whos.Reader r) b.1
       poll_plain l r looks x b i = cond_both (nat_lt x.round last_round) (asks_of (x.round + 1) x.next (nodes_of (look_of looks x).spec)) [] (λ z. In b z → carried.BodyOk E T Y O V W R G l (whos.Reader r) b.1) (λ t j. asks_plain l r _ _ _ b j) (λ t j. absurd j) i
@@ -277,8 +280,9 @@ module _ (c : Config) (s : State) (e : Event) (E : ℕ → ℕ → ℕ → What 
         (posted_ok (whos.Reader a.reader.number) a.reader.log a.asks (λ b j. subst (λ z. carried.BodyOk E T Y O V W R G z (whos.Reader a.reader.number) b.1) (sym k.log) (k.asks a.reader.number b j)))
 
     polls : (name : List ℕ) (d : Reader) → Reading s name d → Carries (finish (record { state = with_reader s name (polled (looks_at c s.register d.log) d); lines = []; sends = posted (whos.Reader d.number) d.log (poll_asks (looks_at c s.register d.log) d) })).state
+    unfolding HeldFine
     polls name d v = has.finish_has _ _ _ _ _ _ (record { state = with_reader s name (polled (looks_at c s.register d.log) d); lines = []; sends = posted (whos.Reader d.number) d.log (poll_asks (looks_at c s.register d.log) d) })
-        (has.reader_has _ _ _ _ _ _ s name (polled (looks_at c s.register d.log) d) K.before (K.before.readers name d v.named))
+        (has.reader_has _ _ _ _ _ _ s name (polled (looks_at c s.register d.log) d) K.before (dropped_held (HeldFine d.log) (λ z i. absurd i) _ _ (K.before.readers name d v.named)))
         (posted_ok (whos.Reader d.number) d.log (poll_asks (looks_at c s.register d.log) d) (λ b j. cond_both (nat_lt d.round last_round) (asks_of (d.round + 1) d.next (nodes_of (look_of (looks_at c s.register d.log) d).spec)) [] (λ z. In b z → carried.BodyOk E T Y O V W R G d.log (whos.Reader d.number) b.1) (λ t k. asks_plain d.log d.number _ _ _ b k) (λ t k. absurd k) j))
 
     opens : (name : List ℕ) (l from until : ℕ) → Carries (finish (only_state (with_reader s name (opened l (length s.readers) from until)))).state
@@ -307,6 +311,7 @@ module _ (c : Config) (s : State) (e : Event) (E : ℕ → ℕ → ℕ → What 
       trims = λ name q t v b w x. trims name q t v b w x;
       drops = λ name q v o w x. drops name q v;
       activates = λ name l r g n i j w x. activates name l r (ap (λ (d : Done). d.state.register) w) w x;
+      swaps = λ n m l y r q i w x. register_only s _ _ K.before w;
       activate_fails = λ name l y g q w x. register_only s _ _ K.before w;
       answers = λ f name d m i t v o w x. reads f name d m i t v;
       polls = λ name d v o w x. polls name d v;

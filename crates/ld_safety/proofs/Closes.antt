@@ -9,7 +9,7 @@ use Rattle.ld_msg.specs.declared.msg.What.TheVariants.{Bridge}
 use Rattle.ld_msg.specs.declared.msg.Summary.{Summary}
 use Rattle.ld_msg.specs.declared.msg.Body.TheVariants as bodies
 use Rattle.ld_msg.specs.Digest.{best, content, plan_item, plan_end, plan_floor}
-use Rattle.ld_machine.specs.Config.{spec_of, set_at}
+use Rattle.ld_machine.specs.Config.{fixed_of, fixed_at}
 use Rattle.ld_machine.specs.Facts.{Happened}
 use Rattle.ld_machine.specs.Invariant.{Closed}
 use Rattle.ld_machine.specs.Run.{Move, world_after, trace}
@@ -58,12 +58,12 @@ module _ (c : Config) (hs : List Happened) (w : World) (B : BaseGiven c hs w × 
     unfolding settled
     fully h = record {
       found = k.plan.loss ∙ h.found;
-      ready = λ n x q i. let p = placed n x q i in le-leb _ _ (subst (λ v. (spec_of c w.state.register l v).r ≤ how_many (has_told w (says_settled n) l s.ballot) (set_at c w.state.register l v)) (sym q) (h.copies n q p.0 p.1));
+      ready = λ n x q i. let p = placed n x q i in le-leb _ _ (subst (λ v. (fixed_of c w.state.register l v).r ≤ how_many (has_told w (says_settled n) l s.ballot) (fixed_at c w.state.register l v)) (sym q) (h.copies n q p.0 p.1));
     }
 
     short : LastPlan w l e s.ballot → ShortClose c w.state.network.sent w.state.register l e s.ballot k.plan.basis → ClosedShort c w l e s
     short last h = record {
-      settled = λ n x y q i m. let p = placed n x q i in elim (h.settled n q p.0 p.1 y (in_of y (set_at c w.state.register l e) m)) [
+      settled = λ n x y q i m. let p = placed n x q i in elim (h.settled n q p.0 p.1 y (in_of y (fixed_at c w.state.register l e) m)) [
         | inl t ↦ inl t
         | inr t ↦ inr (lost_tells l e s.ballot y t)
       ];

@@ -12,14 +12,14 @@ use Rattle.ld_ids.specs.declared.set.Spec.{Spec}
 use Rattle.ld_op.specs.declared.op.Op.{Op}
 use Rattle.ld_op.specs.Ticks.{Ticked, Cleans, Rebuilt, Asks, Nothing}
 use Rattle.ld_machine.specs.Disk.{Node}
-use Rattle.ld_msg.specs.Register.{Register, View, Epochs, Changed, no_epochs, epochs_of, lce_of, with_epochs, next_epoch, closed_epochs, is_overtaken, close, activate, draw}
+use Rattle.ld_msg.specs.Register.{swap, swapped_epochs, Register, View, Epochs, Changed, no_epochs, epochs_of, lce_of, with_epochs, next_epoch, closed_epochs, is_overtaken, close, activate, draw}
 use Rattle.ld_msg.specs.Sequencer.{Sequencer, Acts, Recovery, summary_of}
 use Rattle.ld_machine.specs.State.{State, node_at, with_node}
 use Rattle.ld_machine.specs.Step as Step
 use Rattle.ld_safety.proofs.Lists.{Some_inj}
 use Rattle.ld_safety.proofs.Events.{NamesOnce, Cases, dispatch, Live, refreshed}
 use Rattle.ld_safety.proofs.SequencerSteps.{Closing, Acting, Retrying, Ending, ends_again, ends_ready, ending_of, gone_of, replied, retried}
-use Rattle.ld_safety.proofs.RegisterSteps.{Same, activate_leaves, close_leaves, draw_leaves, epochs_put, epochs_same}
+use Rattle.ld_safety.proofs.RegisterSteps.{Same, activate_leaves, close_leaves, draw_leaves, swap_leaves, epochs_put, epochs_same}
 use Rattle.ld_safety.proofs.CarriedSteps.{HeardOf}
 
 -- what holds of each summary of a register
@@ -44,6 +44,9 @@ module _ (P : ℕ → ℕ → Summary → Type 0) where
       | inr a ↦ h l k z (sym a.1 ∙ f)
     ]) s.1 h
   ]
+
+  swap_summaries : (r : Register) (l upto old new : ℕ) → OfSummaries P r → OfSummaries P (swap r l upto old new).register
+  swap_summaries r l upto old new h = elim (swap_leaves r l upto old new) [ inl s ↦ same_summaries r (swap r l upto old new).register s h | inr s ↦ put_summaries r (swap r l upto old new).register l (swapped_epochs (epochs_of r l) upto old new) (λ e y f. h l e y f) s h ]
 
   activate_summaries : (r : Register) (l : ℕ) (p : Spec) → OfSummaries P r → OfSummaries P (activate r l p).register
   activate_summaries r l p h = elim (activate_leaves r l p) [ inl s ↦ same_summaries r (activate r l p).register s h | inr s ↦ put_summaries r (activate r l p).register l (next_epoch (epochs_of r l) p) (λ e y f. h l e y f) s.1 h ]
@@ -122,6 +125,7 @@ module _ (c : Config) (s : State) (e : Event) (P : ℕ → ℕ → Summary → T
     trims = λ name q t v b. h;
     drops = λ name q v o. h;
     activates = λ name l r g n i x. subst (λ (d : Changed). OfSummaries P d.register) i (activate_summaries P s.register l (Step.spec_set c s l) h);
+    swaps = λ n m l x r q i. swap_summaries P s.register l _ m n h;
     activate_fails = λ name l x g q. activate_summaries P s.register l (Step.spec_set c s l) h;
     answers = λ f name d m i t v o. h;
     polls = λ name d v o. h;

@@ -1,8 +1,8 @@
 -- Copies of a closed epoch stand, but where nodes were lost or trimmed.
 use Rattle.std.proofs.Common.{◌≡◌, ◌∙◌, ◌⊎◌, ◌≤◌, ◌<◌, ℕ, inl, inr, refl, ap, sym, subst, Bool, true, false, ◌&&◌, ◌==◌, filter, List, [], ◌∷◌, Option, Some, None, is_some, arith, if◌then◌else◌}
-use Rattle.std.proofs.lemmas.Bool.{cases_Bool, cases_lt, and_from, and_parts, eq-eqb, eqb-true}
+use Rattle.std.proofs.lemmas.Bool.{cases_Bool, cases_lt, and_from, and_parts, or_left, or_right, or_cases, eq-eqb, eqb-true, leb-true, le-leb}
 use Rattle.ld_table.specs.Table.{find}
-use Rattle.ld_table.specs.Words.{any_of}
+use Rattle.ld_table.specs.Words.{any_of, how_many}
 use Rattle.ld_lsn.specs.Number.{epoch_of, esn_of, numbered}
 use Rattle.ld_config.specs.declared.config.Config.{Config}
 use Rattle.ld_msg.specs.declared.msg.What.{What}
@@ -13,13 +13,13 @@ use Rattle.ld_msg.specs.declared.msg.Msg.{Msg}
 use Rattle.ld_msg.specs.Digest.{best, content, plan_end, plan_floor}
 use Rattle.ld_msg.specs.Register.{epochs_of}
 use Rattle.ld_op.specs.Plain.{Plain, Log, log_of, is_lost, summary_at, epoch_zero}
-use Rattle.ld_machine.specs.Config.{spec_of, set_at}
+use Rattle.ld_machine.specs.Config.{fixed_of, fixed_at, spec_of, set_at}
 use Rattle.ld_machine.specs.Disk.{Cut}
 use Rattle.ld_machine.specs.State.{node_at}
 use Rattle.ld_machine.specs.Facts.{Happened}
-use Rattle.ld_machine.specs.World.{World, Made, In, MayHold, Stored, is_made, plan_in, item, has_told, says_settled}
+use Rattle.ld_machine.specs.World.{World, Made, In, MayHold, Stored, is_made, plan_in, item, has_told, has_settled, has_joined, says_settled, settled, upheld}
 use Rattle.ld_machine.specs.Invariant.{Closed, CopyAt, CopiesOf, ShortCopies, HoldsItem, HasLoss, Ready}
-use Rattle.ld_safety.proofs.Lists.{Some_inj, not_none, not_both, of_some, any_from, any_in, cond_both}
+use Rattle.ld_safety.proofs.Lists.{Some_inj, not_none, not_both, of_some, any_from, any_in, cond_both, count_mono}
 use Rattle.ld_safety.proofs.Members.{find_in, In_filter, filter_count, filter_apart, members_apart, in_set}
 use Rattle.ld_safety.proofs.Plans.{plan_between, content_no_bridge, floor_lng, end_above_floor}
 use Rattle.ld_safety.proofs.Losses.{found_no_plug}
@@ -36,7 +36,9 @@ use Rattle.ld_safety.proofs.Said.{SaidHere}
 use Rattle.ld_safety.proofs.Holdings.{KeptBy}
 use Rattle.ld_safety.proofs.Cleans.{PlainClean}
 use Rattle.ld_safety.proofs.LostFull.{FullLog}
-use Rattle.ld_safety.proofs.Fallen.{lost_no_more}
+use Rattle.ld_safety.proofs.Fallen.{Fallen, lost_no_more}
+use Rattle.ld_safety.proofs.Joins.{now_members, now_count}
+use Rattle.ld_safety.proofs.Registers.{look_like}
 use Rattle.ld_safety.proofs.Shown.{plan_ends, acked_item, acked_own, kept_says, above_floor, full_of}
 use Rattle.ld_safety.proofs.Along.{Along, PlainSaid, closed_last}
 use Rattle.ld_safety.proofs.Agreed.{basis_of, found_plan}
@@ -124,7 +126,7 @@ module _ (c : Config) (hs : List Happened) (w : World) (B : Base c hs w) (R : Al
         let p : plan_at (epoch_of n) s.basis (esn_of n) ≡ Some x = plan_between (epoch_of n) s.basis.loss s.basis.digest (esn_of n) lo up in
         let t = plan_ends c hs w.made w.state.network.sent w.state.register once R.once R.plans R.last l (epoch_of n) y.ballot s.basis s.planned in
         let late = (R.plans l (epoch_of n) y.ballot s.basis s.planned).later in
-        no_item l n y.ballot hi x en (agrees hs w.made w.state.network.sent (spec_of c w.state.register l) once R.once l (λ e. Unit {0}) (λ e a g f d i j lt lo. R.last l e a g f d i j lt lo) (λ e a f u j lo. plan_facts c hs w.state.network.sent w.made w.state.register l e a f (R.plans l e a f j) lo)
+        no_item l n y.ballot hi x en (agrees hs w.made w.state.network.sent (fixed_of c w.state.register l) once R.once l (λ e. Unit {0}) (λ e a g f d i j lt lo. R.last l e a g f d i j lt lo) (λ e a f u j lo. plan_facts c hs w.state.network.sent w.made w.state.register l e a f (R.plans l e a f j) lo)
         n y.ballot en.ballot x en.basis tt (omega arith) en.above en.planned fd h (inr (record { later = late; basis = s.basis; planned = s.planned; item = p })) (content_no_bridge s.basis.loss _) (λ z. found_no_plug _ (ap (λ v. content v (best (numbered (epoch_of n) (esn_of n)) s.basis.digest)) (sym full.found) ∙ z)))
 
 module _ (c : Config) (hs : List Happened) (w : World) (B : BaseGiven c hs w × Along c hs w) where
@@ -196,6 +198,43 @@ module _ (c : Config) (hs : List Happened) (w : World) (B : BaseGiven c hs w × 
       | inr (inr (inr h)) ↦ absurd (not_elsewhere z p m h)
     ]
 
+    -- what is kept of a number has at least the ballot of its epoch
+    own_ballot : (p : Plain) (f : Entry) → SaidHere hs w.made w.state.register l f.ballot n f.what → epoch_of n ≤ f.ballot
+    own_ballot p f s = elim s.says [
+      | inl o ↦ elim o [ inl a ↦ (let u = a.own in omega arith) | inr a ↦ (let u = a.later in omega arith) ]
+      | inr o ↦ elim o [ inl a ↦ at_close a.summary a.found_so a.ballot | inr a ↦ at_close a.summary a.found_so a.ballot ]
+    ] where
+      at_close : (v : Summary) → find (epoch_of n) (epochs_of w.state.register l).summaries ≡ Some v → f.ballot ≡ v.ballot → epoch_of n ≤ f.ballot
+      at_close v h q = let u : v.ballot ≡ y.ballot = ap (λ (x : Summary). x.ballot) (Some_inj (sym h ∙ k.found_so)) in let g = (B.1.plans l (epoch_of n) y.ballot k.plan.basis k.plan.planned).later in omega arith
+
+    -- so is one that took a place in the epoch
+    pub joined_good : (z : ℕ) → has_joined w l (epoch_of n) z ≡ true → (p : Plain) → MayHold (node_at w.state z) p → (p.generation ≡ 0) ⊎ ((is_lost (log_of p l) (epoch_of n) ≡ true) ⊎ ((n ≤ (log_of p l).trim) ⊎ HoldsItem p l n (epoch_of n) (Rec (k.plan.good n refl pos low).payload)))
+    joined_good z j p m = elim ((B.1.joined l (epoch_of n) z j).fallen p m) [
+      | inl h ↦ inl h
+      | inr h ↦ elim (cases_Bool (is_lost (log_of p l) (epoch_of n))) [
+        | inl u ↦ inr (inl u)
+        | inr u ↦ inr (inr (there_again h u))
+      ]
+    ] where
+      below_end : esn_of n < y.end
+      below_end = let u = k.plan.lng in let e = k.plan.end in let f = floor_lng (epoch_of n) k.plan.basis.digest in let g = end_above_floor (epoch_of n) k.plan.basis.digest in omega arith
+
+      full : FullLog (log_of p l)
+      full = B.1.full z p m l
+
+      there_again : epoch_of n ≤ (log_of p l).lost_to → is_lost (log_of p l) (epoch_of n) ≡ false → (n ≤ (log_of p l).trim) ⊎ HoldsItem p l n (epoch_of n) (Rec (k.plan.good n refl pos low).payload)
+      there_again le u = elim (cases_lt (log_of p l).trim n) [
+        | inr a ↦ inl a
+        | inl a ↦
+            let g = lost_no_more (log_of p l) (epoch_of n) k.positive le u in
+            let s = summary_there (log_of p l) (epoch_of n) k.positive (full.clean g (epoch_of n) k.positive le) in
+            let q : s.0 ≡ y = same_summary l (epoch_of n) z p s.0 y m k.positive s.1 k.found_so in
+            let f = of_some (find n (log_of p l).entries) (full.full g n s.0 s.1 le a pos (subst (λ (v : Summary). esn_of n < v.end) (sym q) below_end)) in
+            let o = (said_at z p m l).entries (n, f.0) (find_in n (log_of p l).entries f.0 f.1) in
+            let t = subst (λ v. SaidHere hs w.made w.state.register l f.0.ballot v f.0.what) o.0 o.1 in
+            inr (f.0, f.1, own_ballot p f.0 t, held_what l n nl (k.plan.good n refl pos low) f.0 t)
+      ]
+
   -- ---- numbers that the closing plan says something of ----
   module _ (l n : ℕ) (y : Summary) (nl : NoLoss w.made l (epoch_of n)) (k : ClosedBy c hs w.made w.state.network.sent w.state.register l (epoch_of n) y) (tr : y.trim < n) (up : y.lng < esn_of n) (hi : esn_of n < y.end) where
     above : plan_floor (epoch_of n) k.plan.basis.digest < esn_of n
@@ -240,25 +279,15 @@ module _ (c : Config) (hs : List Happened) (w : World) (B : BaseGiven c hs w × 
       by_copy (inr (inr (inl (inr (inr h))))) = absurd (not_ended c hs w B.0.0 B.1 l n _ y k above below h (nl h.ballot h.basis h.planned))
       by_copy (inr (inr (inl (inr (inl h))))) = inr (inr (inr (held_item z p h.entry m h.found_at h.least)))
 
-    -- each item of the closing plan was settled
-    closed_copies : Ready c w l (epoch_of n) y.ballot → CopiesOf c w l n y.ballot
-    closed_copies r =
-        let x = content k.plan.basis.loss (best (numbered (epoch_of n) (esn_of n)) k.plan.basis.digest) in
-        let late = (B.1.plans l (epoch_of n) y.ballot k.plan.basis k.plan.planned).later in
-        record {
-          enough = r n x refl (as_item x (record { later = late; basis = k.plan.basis; planned = k.plan.planned; item = plan_between (epoch_of n) k.plan.basis.loss k.plan.basis.digest (esn_of n) above below }));
-          kept = closed_copy;
-        }
-
     -- ---- an epoch that was closed short ----
 
-    -- a node that told the ballot that it is lost is blank, lost, trimmed there, or has what the closing plan says
-    fallen_copy : (z : ℕ) → LostTold w.state.network.sent l (epoch_of n) y.ballot z → CopyAt w l n y.ballot z
-    fallen_copy z t p m = elim ((B.1.lost_said l z y.ballot t.number t.round t.generation t.end t.said (let h = t.home in let q = k.positive in omega arith)).2 p m) [
+    -- a node that fell, and may have been filled again, is blank, lost, trimmed there, or has what the closing plan says
+    back_copy : (z : ℕ) → ((p : Plain) → MayHold (node_at w.state z) p → Fallen p l (epoch_of n)) → CopyAt w l n y.ballot z
+    back_copy z t p m = elim (t p m) [
       | inl h ↦ inl h
       | inr h ↦ elim (cases_Bool (is_lost (log_of p l) (epoch_of n))) [
         | inl u ↦ inr (inl u)
-        | inr u ↦ inr (inr (refilled_there (subst (λ e. e ≤ (log_of p l).lost_to) t.home h) u))
+        | inr u ↦ inr (inr (refilled_there h u))
       ]
     ] where
       full : FullLog (log_of p l)
@@ -276,21 +305,56 @@ module _ (c : Config) (hs : List Happened) (w : World) (B : BaseGiven c hs w × 
             inr (held_item z p f.0 m f.1 (elim ((clean_at z p m l).least (n, f.0) y (find_in n (log_of p l).entries f.0 f.1) ky) [ inl v ↦ v | inr v ↦ absurd (omega arith) ]))
       ]
 
-    closed_short : SpecFine (spec_of c w.state.register l (epoch_of n)) → ShortCopies c w l n y.ballot
+    -- so one that told the ballot that it is lost
+    fallen_copy : (z : ℕ) → LostTold w.state.network.sent l (epoch_of n) y.ballot z → CopyAt w l n y.ballot z
+    fallen_copy z t = back_copy z (λ p m. elim ((B.1.lost_said l z y.ballot t.number t.round t.generation t.end t.said (let h = t.home in let q = k.positive in omega arith)).2 p m) [
+      | inl h ↦ inl h
+      | inr h ↦ inr (subst (λ e. e ≤ (log_of p l).lost_to) t.home h)
+    ])
+
+    -- and one that took a place in the epoch
+    joined_copy : (z : ℕ) → has_joined w l (epoch_of n) z ≡ true → CopyAt w l n y.ballot z
+    joined_copy z j = back_copy z (B.1.joined l (epoch_of n) z j).fallen
+
+    settled_copy : (z : ℕ) → has_settled w l n y.ballot z ≡ true → CopyAt w l n y.ballot z
+    settled_copy z h = elim (or_cases (has_told w (says_settled n) l y.ballot z) (has_joined w l (epoch_of n) z) h) [ inl t ↦ closed_copy z t | inr j ↦ joined_copy z j ]
+
+    -- as many as settled it of the nodes that were fixed are there now
+    now_settled : (fixed_of c w.state.register l (epoch_of n)).r ≤ how_many (tells_settled w.state.network.sent l n y.ballot) (fixed_at c w.state.register l (epoch_of n)) → (spec_of c w.state.register l (epoch_of n)).r ≤ how_many (has_settled w l n y.ballot) (set_at c w.state.register l (epoch_of n))
+    now_settled h =
+        let a = count_mono (tells_settled w.state.network.sent l n y.ballot) (has_settled w l n y.ballot) (fixed_at c w.state.register l (epoch_of n)) (λ z i t. or_left (has_told w (says_settled n) l y.ballot z) (has_joined w l (epoch_of n) z) t) in
+        let b = now_count c w.joined w.state.register l (epoch_of n) (has_settled w l n y.ballot) B.1.follow B.1.each k.plan.reached (λ z j. or_right (has_told w (says_settled n) l y.ballot z) (has_joined w l (epoch_of n) z) j) in
+        let f = (look_like c w.state.register l (epoch_of n) B.1.each k.plan.reached).factor in omega arith
+
+    -- each item of the closing plan was settled
+    closed_copies : Ready c w l (epoch_of n) y.ballot → CopiesOf c w l n y.ballot
+    unfolding settled upheld
+    closed_copies r =
+        let x = content k.plan.basis.loss (best (numbered (epoch_of n) (esn_of n)) k.plan.basis.digest) in
+        let late = (B.1.plans l (epoch_of n) y.ballot k.plan.basis k.plan.planned).later in
+        record {
+          enough = le-leb _ _ (now_settled (leb-true _ _ (r n x refl (as_item x (record { later = late; basis = k.plan.basis; planned = k.plan.planned; item = plan_between (epoch_of n) k.plan.basis.loss k.plan.basis.digest (esn_of n) above below })))));
+          kept = settled_copy;
+        }
+
+    closed_short : SpecFine (fixed_of c w.state.register l (epoch_of n)) → ShortCopies c w l n y.ballot
     closed_short sf = elim k.plan.how [
       | inl h ↦ record {
-        nodes = filter (tells_settled w.state.network.sent l n y.ballot) (set_at c w.state.register l (epoch_of n));
-        apart = filter_apart (tells_settled w.state.network.sent l n y.ballot) (set_at c w.state.register l (epoch_of n)) (members_apart (spec_of c w.state.register l (epoch_of n)).set);
-        of_epoch = λ z i. in_set z (set_at c w.state.register l (epoch_of n)) (In_filter (tells_settled w.state.network.sent l n y.ballot) z (set_at c w.state.register l (epoch_of n)) i).0;
-        enough = let a = h.copies n refl above (let v = below in omega arith) in let b = filter_count (tells_settled w.state.network.sent l n y.ballot) (set_at c w.state.register l (epoch_of n)) in omega arith;
-        kept = λ z i. closed_copy z (In_filter (tells_settled w.state.network.sent l n y.ballot) z (set_at c w.state.register l (epoch_of n)) i).1;
+        nodes = filter (has_settled w l n y.ballot) (set_at c w.state.register l (epoch_of n));
+        apart = filter_apart (has_settled w l n y.ballot) (set_at c w.state.register l (epoch_of n)) (members_apart (spec_of c w.state.register l (epoch_of n)).set);
+        of_epoch = λ z i. in_set z (set_at c w.state.register l (epoch_of n)) (In_filter (has_settled w l n y.ballot) z (set_at c w.state.register l (epoch_of n)) i).0;
+        enough = let a = now_settled (h.copies n refl above (let v = below in omega arith)) in let b = filter_count (has_settled w l n y.ballot) (set_at c w.state.register l (epoch_of n)) in omega arith;
+        kept = λ z i. settled_copy z (In_filter (has_settled w l n y.ballot) z (set_at c w.state.register l (epoch_of n)) i).1;
       }
       | inr h ↦ record {
         nodes = set_at c w.state.register l (epoch_of n);
         apart = members_apart (spec_of c w.state.register l (epoch_of n)).set;
         of_epoch = λ z i. in_set z (set_at c w.state.register l (epoch_of n)) i;
-        enough = sf.most;
-        kept = λ z i. elim (h.settled n refl above (let v = below in omega arith) z i) [ inl t ↦ closed_copy z t | inr t ↦ fallen_copy z t ];
+        enough = (let a = look_like c w.state.register l (epoch_of n) B.1.each k.plan.reached in let u = a.factor in let v = a.size in let m = sf.most in omega arith);
+        kept = λ z i. elim (now_members c w.joined w.state.register l (epoch_of n) z B.1.follow B.1.each k.plan.reached i) [
+          | inl j ↦ elim (h.settled n refl above (let v = below in omega arith) z j) [ inl t ↦ closed_copy z t | inr t ↦ fallen_copy z t ]
+          | inr j ↦ joined_copy z j
+        ];
       }
     ]
 
@@ -314,5 +378,5 @@ module _ (c : Config) (hs : List Happened) (w : World) (B : BaseGiven c hs w × 
     pub copies_here : Ready c w l e s.ballot → CopiesOf c w l (numbered e k) s.ballot ⊎ HasLoss w l e
     copies_here r = by_closed (λ n. CopiesOf c w l n s.ballot) (λ n q ep a nl tr lo hi. closed_copies l n s nl a tr lo hi (subst (λ x. Ready c w l x s.ballot) (sym ep) r))
 
-    pub short_here : SpecFine (spec_of c w.state.register l e) → ShortCopies c w l (numbered e k) s.ballot ⊎ HasLoss w l e
-    short_here sf = by_closed (λ n. ShortCopies c w l n s.ballot) (λ n q ep a nl tr lo hi. closed_short l n s nl a tr lo hi (subst (λ x. SpecFine (spec_of c w.state.register l x)) (sym ep) sf))
+    pub short_here : SpecFine (fixed_of c w.state.register l e) → ShortCopies c w l (numbered e k) s.ballot ⊎ HasLoss w l e
+    short_here sf = by_closed (λ n. ShortCopies c w l n s.ballot) (λ n q ep a nl tr lo hi. closed_short l n s nl a tr lo hi (subst (λ x. SpecFine (fixed_of c w.state.register l x)) (sym ep) sf))

@@ -1,12 +1,13 @@
 -- After each event the digests of all recoveries have what their pages showed, and each plan was made from such a digest.
 use Rattle.std.proofs.Common.{◌≡◌, ◌∙◌, ◌≤◌, ◌<◌, ℕ, ◌+◌, inl, inr, refl, ap, sym, subst, Bool, true, false, ◌&&◌, ◌==◌, nat_lt, List, [], ◌++◌, Option, Some, None, arith}
 use Rattle.ld_safety.proofs.Senders.{AnswersFrom}
-use Rattle.ld_safety.proofs.Storings.{full_later, storing_later, summarized_later, ReplyFine}
+use Rattle.ld_safety.proofs.Storings.{SettlersOf, full_later, storing_later, summarized_later, ReplyFine}
 use Rattle.std.proofs.lemmas.Bool.{and_parts, eqb-true}
 use Rattle.ld_table.specs.Named.{same, find_named, put_named}
 use Rattle.ld_table.proofs.NameLaws.{same-self}
 use Rattle.ld_lsn.specs.Number.{epoch_of, esn_of, home_epoch}
 use Rattle.ld_ids.specs.declared.set.Spec.{Spec}
+use Rattle.ld_ids.specs.Choice.{nodes_of}
 use Rattle.ld_config.specs.declared.config.Config.{Config}
 use Rattle.ld_schedule.specs.declared.event.Event.{Event}
 use Rattle.ld_msg.specs.declared.msg.What.{What}
@@ -17,12 +18,12 @@ use Rattle.ld_msg.specs.declared.msg.Who.TheVariants as whos
 use Rattle.ld_msg.specs.declared.msg.Msg.{Msg}
 use Rattle.ld_msg.specs.declared.msg.Body.{Body}
 use Rattle.ld_msg.specs.declared.msg.Body.TheVariants as bodies
-use Rattle.ld_msg.specs.Register.{Register, Epochs, Granted, activate, draw, epochs_of, lce_of}
+use Rattle.ld_msg.specs.Register.{Changed, Register, Epochs, Granted, activate, draw, epochs_of, lce_of}
 use Rattle.ld_msg.specs.Digest.{Told, digest_lng}
 use Rattle.ld_msg.specs.Sequencer.{Sequencer, Recovery, Stage, Seals, Stores, Closes, Acts, called, on_reply, on_retry, Numbered, appended, activated, bare}
 use Rattle.ld_op.specs.declared.op.Op.{Op}
 use Rattle.ld_op.specs.Ticks.{Ticked, Cleans, Rebuilt, Asks, Nothing}
-use Rattle.ld_machine.specs.Config.{spec_of, looks_at}
+use Rattle.ld_machine.specs.Config.{looks_at}
 use Rattle.ld_machine.specs.Disk.{Node}
 use Rattle.ld_machine.specs.State.{State, Done, node_at, with_node, with_sequencer, only_state}
 use Rattle.ld_machine.specs.Facts.{Happened}
@@ -30,18 +31,18 @@ use Rattle.ld_machine.specs.World.{Made, In, gone_nodes, made_by, made_retried}
 use Rattle.ld_machine.specs.Step as Step
 use Rattle.ld_safety.proofs.Lists.{Some_inj, cond_both, In-append, In_right, not_both}
 use Rattle.ld_safety.proofs.Names.{named_cases}
-use Rattle.ld_safety.proofs.Events.{Cases, Live, refreshed}
+use Rattle.ld_safety.proofs.Events.{swapped_by, Cases, Live, refreshed}
 use Rattle.ld_safety.proofs.RegisterSteps.{activated_epochs}
-use Rattle.ld_safety.proofs.SequencerSteps.{same_sender, replied, retried}
+use Rattle.ld_safety.proofs.SequencerSteps.{Hearing, same_sender, replied, retried}
 use Rattle.ld_safety.proofs.Numbers.{Epochs_once}
 use Rattle.ld_safety.proofs.Protocol.{Basis, plan_of, Chosen, Says, StoredBy, PlansOnce, same_message, stored_told, stored_settles}
-use Rattle.ld_safety.proofs.Said.{Open, Said, SaidHere, AllSaid}
+use Rattle.ld_safety.proofs.Said.{Open, Said, SaidHere, AllSaid, good_low}
 use Rattle.ld_safety.proofs.Settled.{LostTold, TrimFine, CloseFine, ShowFine, ReleaseFine, LngFine, Stays, close_low, Acknowledged}
 use Rattle.ld_safety.proofs.Sent.{ShowsAll, PagesBounded}
-use Rattle.ld_safety.proofs.Registers.{Up, Reached, EachClosed, reached_later}
+use Rattle.ld_safety.proofs.Registers.{Up, Reached, EachClosed, activate_each, reached_later, like_later}
 use Rattle.ld_safety.proofs.Carried as carried
 use Rattle.ld_safety.proofs.Digests.{Covered, ToldSoFar, DigestSoFar, PageFacts, NoPlan, page_frozen}
-use Rattle.ld_safety.proofs.Digesting.{PagesGood, StageFine, RecoveryFine, Fine, NewPlan, begins_fine, Both, retrying_fine, acting_fine}
+use Rattle.ld_safety.proofs.Digesting.{InRecovery, heard_in, PagesGood, StageFine, RecoveryFine, Fine, NewPlan, begins_fine, Both, retrying_fine, acting_fine}
 
 -- ---- while more happens ----
 module _ (hs next : List Happened) (made more : List Made) (sent after : List Msg) (into : (m : Msg) → In m sent → In m after)
@@ -60,16 +61,17 @@ module _ (hs next : List Happened) (made more : List Made) (sent after : List Ms
     frozen = λ f i. (let z = h.frozen f i in record { below = z.below; epoch = z.epoch; place = z.place; says = grow l f.ballot f.number f.what z.says });
     covers = λ n q p g. covered_later l e b t n (h.covers n q p g);
     lost_said = λ q. lost_later l e b t.node (h.lost_said q);
+    asks = h.asks;
   }
 
   pub digest_later : (s : Spec) (l e b : ℕ) (d : List Told) → DigestSoFar hs made sent s l e b d → DigestSoFar next (more ++ made) after s l e b d
   digest_later s l e b d h = record { told = λ t i. told_later l e b (digest_lng d) t (h.told t i); nodes = h.nodes }
 
   module _ (c : Config) (r k : Register) (u : Up r k) (y : Stays c r k) (acks : (l n : ℕ) → Acknowledged c hs sent r l n → Acknowledged c next after k l n) where
-    stage_later : (l b e : ℕ) (s : Stage) → Reached r l e → StageFine c hs sent made r l b e s → StageFine c next after (more ++ made) k l b e s
-    stage_later l b e (Seals d) o h = subst (λ p. DigestSoFar next (more ++ made) after p l e b d) (sym (y.specs l e o)) (digest_later (spec_of c r l e) l e b d h)
-    stage_later l b e (Stores g) o h = storing_later c hs next sent after into r k u y acks made more l b e g o h
-    stage_later l b e (Closes z short) o h = λ w. (let g = h (let v = (u l).1 in omega arith) in (summarized_later c hs next sent after into r k u y acks made more l e z g.0, λ t. (let f = g.1 t in (f.0, In_right _ more made f.1, full_later c hs next sent after into r k u y acks l e z.ballot f.0 o f.2))))
+    stage_later : (p : Spec) (l b e : ℕ) (s : Stage) → Reached r l e → StageFine c hs sent made r p l b e s → StageFine c next after (more ++ made) k p l b e s
+    stage_later p l b e (Seals d) o h = digest_later p l e b d h
+    stage_later p l b e (Stores g) o h = storing_later c hs next sent after into r k u y acks made more l b e g o h
+    stage_later p l b e (Closes z short) o h = λ w. (let g = h (let v = (u l).1 in omega arith) in (summarized_later c hs next sent after into r k u y acks made more l e z g.0, λ t. (let f = g.1 t in (f.0, In_right _ more made f.1, full_later c hs next sent after into r k u y acks l e z.ballot f.0 o f.2))))
 
     pub recovery_later : (l b : ℕ) (o : Option Recovery) → ((e : ℕ) (d : Basis) → In (plan_of l e b d) more → ⊥) → RecoveryFine c hs sent made r l b o → RecoveryFine c next after (more ++ made) k l b o
     recovery_later l b None n h = tt
@@ -77,8 +79,8 @@ module _ (hs next : List Happened) (made more : List Made) (sent after : List Ms
       next = (let a = h.next in let z = (u l).1 in omega arith);
       later = h.later;
       reached = reached_later r k l v.epoch u h.reached;
-      spec = h.spec ∙ sym (y.specs l v.epoch h.reached);
-      stage = stage_later l b v.epoch v.stage h.reached h.stage;
+      spec = like_later c r k l v.epoch v.spec u (y.specs l v.epoch h.reached) h.spec;
+      stage = stage_later v.spec l b v.epoch v.stage h.reached h.stage;
       before = λ e d i. elim (In-append _ more made i) [ inl a ↦ absurd (n e d a) | inr a ↦ h.before e d a ];
       lost = λ z i. lost_later l v.epoch b z (h.lost z i);
     }
@@ -121,7 +123,7 @@ node_from E T Y O V W R G (whos.Reader n) h = absurd h
 -- ---- every event ----
 module _ (c : Config) (s : State) (e : Event) (hs : List Happened) (made : List Made) (S : AllSaid c hs made s.register s) (X : Epochs_once s.sequencers s.register)
     (A : ShowsAll made s.network.sent) (B : PagesBounded s.network.sent) (M : MadeBelow made s.register) (D : AllFine c hs s.network.sent made s.register s.sequencers)
-    (V : AnswersFrom s.network.sent) (EC : EachClosed s.register) where
+    (V : AnswersFrom s.network.sent) (EC : EachClosed s.register) (SO : SettlersOf c s.register s.network.sent) where
   sent : List Msg
   sent = s.network.sent
 
@@ -197,13 +199,14 @@ module _ (c : Config) (s : State) (e : Event) (hs : List Happened) (made : List 
         let z : carried.BodyOk (Said hs made s.register) (TrimFine c hs s.network.sent s.register) (CloseFine c hs made s.network.sent s.register) (Reached s.register) (ShowFine c hs made s.network.sent s.register) (ReleaseFine c hs s.network.sent s.register) (SaidHere hs made s.register) (LngFine c hs s.network.sent s.register) m.log m.from (bodies.DigestPage from upto trim lng es) = subst (carried.BodyOk (Said hs made s.register) (TrimFine c hs s.network.sent s.register) (CloseFine c hs made s.network.sent s.register) (Reached s.register) (ShowFine c hs made s.network.sent s.register) (ReleaseFine c hs s.network.sent s.register) (SaidHere hs made s.register) (LngFine c hs s.network.sent s.register) m.log m.from) h (S.sent m i) in
         let o = same_message m q.log (Step.sender_node m.from) q.epoch (bodies.DigestPage from upto trim lng es) (node_from (Said hs made s.register) (TrimFine c hs s.network.sent s.register) (CloseFine c hs made s.network.sent s.register) (Reached s.register) (ShowFine c hs made s.network.sent s.register) (ReleaseFine c hs s.network.sent s.register) (SaidHere hs made s.register) (LngFine c hs s.network.sent s.register) m.from z.1) t g h in
         page_frozen hs made s.network.sent q.log w.epoch q.epoch (Step.sender_node m.from) from upto trim lng es (subst (λ x. In x s.network.sent) o i) (sym ep) lt B
-        (λ f j. let k = z.0.entries f j in (k.given.place, subst (λ l. Says hs made l f.ballot f.number f.what) g k.says)) n
+        (λ f j. let k = z.0.entries f j in (k.given.place, subst (λ l. Says hs made l f.ballot f.number f.what) g k.says)) n (let u = good_low c hs s.network.sent s.register m.log (epoch_of from) lng z.0.good in omega arith)
 
     pub reply : (m : Msg) → In m s.network.sent → m.to ≡ whos.Sequencer q.epoch → m.log ≡ q.log → (k : Register) → Up s.register k → Stays c s.register k → ReplyFine c hs s.network.sent k q.log q.epoch (Step.sender_node m.from) m.body
     reply m i t g k u w = record {
       stored = λ n h. (let z = same_message m q.log (Step.sender_node m.from) q.epoch (bodies.Stored n) (V m q.epoch i t) t g h in let j : StoredBy s.network.sent q.log (Step.sender_node m.from) n q.epoch = subst (λ x. In x s.network.sent) z i in
           (stored_told s.network.sent q.log n q.epoch (Step.sender_node m.from) j, stored_settles s.network.sent q.log n q.epoch (Step.sender_node m.from) j));
       told_trim = λ n x h. subst (λ y. In y s.network.sent) (same_message m q.log (Step.sender_node m.from) q.epoch (bodies.TrimmedHere n x) (V m q.epoch i t) t g h) i;
+      settler = λ n z. (let a = SO q.log (Step.sender_node m.from) q.epoch n m.body z (subst (λ y. In y s.network.sent) (same_message m q.log (Step.sender_node m.from) q.epoch m.body (V m q.epoch i t) t g refl) i) in subst (λ (p : Spec). In (Step.sender_node m.from) (nodes_of p)) (sym (w.specs q.log (epoch_of n) a.0)) a.1);
       trimmed = λ n x h. (let z : carried.BodyOk (Said hs made s.register) (TrimFine c hs s.network.sent s.register) (CloseFine c hs made s.network.sent s.register) (Reached s.register) (ShowFine c hs made s.network.sent s.register) (ReleaseFine c hs s.network.sent s.register) (SaidHere hs made s.register) (LngFine c hs s.network.sent s.register) m.log m.from (bodies.TrimmedHere n x)
           = subst (carried.BodyOk (Said hs made s.register) (TrimFine c hs s.network.sent s.register) (CloseFine c hs made s.network.sent s.register) (Reached s.register) (ShowFine c hs made s.network.sent s.register) (ReleaseFine c hs s.network.sent s.register) (SaidHere hs made s.register) (LngFine c hs s.network.sent s.register) m.log m.from) h (S.sent m i) in
           λ p a b o. let y = (u q.log).1 in acked_stays c hs s.network.sent s.register k u w q.log p (subst (λ l. Acknowledged c hs s.network.sent s.register l p) g (z.0 p a b (subst (λ l. Open s.register l (epoch_of p)) (sym g) (omega arith)))));
@@ -219,6 +222,11 @@ module _ (c : Config) (s : State) (e : Event) (hs : List Happened) (made : List 
       home = refl;
     }
 
+    -- what is heard belongs to the recovery
+    pub heard_digest : (m : Msg) → In m s.network.sent → m.to ≡ whos.Sequencer q.epoch → m.log ≡ q.log → (w : Recovery) (d : List Told) → Hearing q (Step.sender_node m.from) m.body w d → InRecovery c hs s.network.sent made s.register q.log q.epoch (record w { stage = Seals d })
+    heard_digest m i t g w d H = heard_in c hs s.network.sent (gone_nodes s) made s.register q (called (looks_at c s.register q.log) s.register (on_retry (looks_at c s.register q.log) q) []) (up_same s.register) (stays_same c s.register) EC own (D name q v.named) (D name q v.named)
+        (Step.sender_node m.from) m.body A (pages_good c hs made s S) (cleaned_closed m i g) (lost_said m i t g) (reply m i t g s.register (up_same s.register) (stays_same c s.register)) (page m i t g) s.register (λ u e. subst (RecoveryFine c hs s.network.sent made s.register q.log q.epoch) e (D name q v.named)) w d H
+
     heard : (f : List ℕ) (m : Msg) → In m s.network.sent → m.to ≡ whos.Sequencer q.epoch → m.log ≡ q.log → Result (Step.acted c (refreshed s f) name q (on_reply (looks_at c s.register q.log) q (Step.sender_node m.from) m.body)) (made_by c s (Some (name, q)) (Step.sender_node m.from) m.body)
     heard f m i t g u w =
         let y = Step.sender_node m.from in
@@ -233,7 +241,7 @@ module _ (c : Config) (s : State) (e : Event) (hs : List Happened) (made : List 
   unfolding activated
   activates name l k i u y = (
     puts name (activated (looks_at c k l) (Step.spec_set c s l) l (epochs_of k l).epoch (lce_of k l)) k [] u y
-        (begins_fine c hs s.network.sent made k k (up_same k) (stays_same c k) l (bare (Step.spec_set c s l) l (epochs_of k l).epoch (lce_of k l)) (lce_of k l) (omega arith) (omega arith) (λ x f j. absurd (let z = M l x (epochs_of k l).epoch f j in let w = new_epoch in omega arith))) (λ t w b g x h j. j),
+        (begins_fine c hs s.network.sent made k k (up_same k) (stays_same c k) (subst (λ (d : Changed). EachClosed d.register) i (activate_each s.register l (Step.spec_set c s l) EC)) l (bare (Step.spec_set c s l) l (epochs_of k l).epoch (lce_of k l)) (lce_of k l) (omega arith) (omega arith) (λ x f j. absurd (let z = M l x (epochs_of k l).epoch f j in let w = new_epoch in omega arith))) (λ t w b g x h j. j),
     none_new,
     none_once,
   ) where
@@ -273,6 +281,7 @@ module _ (c : Config) (s : State) (e : Event) (hs : List Happened) (made : List 
     trims = λ name q t v b u y. (same_all s.register u y, none_new, none_once);
     drops = λ name q v o. goes_on (only_state (with_sequencer s name (Step.dropped q))) name q (Step.dropped q) v.named refl refl refl refl;
     activates = λ name l k g n i x. activates name l k i;
+    swaps = λ n m l x r q i u y. (same_all (swapped_by s n m l).register u y, none_new, none_once);
     activate_fails = λ name l x g q u y. (same_all (activate s.register l (Step.spec_set c s l)).register u y, none_new, none_once);
     answers = λ f name d m i t v o u y. (same_all s.register u y, none_new, none_once);
     polls = λ name d v o u y. (same_all s.register u y, none_new, none_once);

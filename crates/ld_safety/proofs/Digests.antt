@@ -1,6 +1,6 @@
 -- A digest in the making has all that its pages showed, so a plan that is made from it has what recoveries need to agree.
-use Rattle.std.proofs.Common.{◌≡◌, ◌∙◌, ◌⊎◌, ◌≤◌, ◌<◌, ℕ, ◌+◌, max, inl, inr, refl, ap, sym, subst, true, not, ◌&&◌, ◌==◌, if◌then◌else◌, List, [], ◌∷◌, map, arith}
-use Rattle.std.proofs.lemmas.Bool.{and_parts, eqb-true, leb-true, cases_order, cases_lt}
+use Rattle.std.proofs.Common.{◌≡◌, ◌∙◌, ◌⊎◌, ◌≤◌, ◌<◌, ℕ, ◌+◌, ◌-◌, max, inl, inr, refl, ap, sym, subst, true, false, not, ◌&&◌, ◌==◌, if◌then◌else◌, List, [], ◌∷◌, map, arith}
+use Rattle.std.proofs.lemmas.Bool.{and_parts, eqb-true, leb-true, leb-false, cases_order, cases_lt}
 use Rattle.ld_lsn.specs.Number.{epoch_of, esn_of, numbered, last_esn}
 use Rattle.ld_ids.specs.declared.set.Spec.{Spec}
 use Rattle.ld_ids.specs.Choice.{nodes_of}
@@ -68,6 +68,7 @@ module _ (hs : List Happened) (made : List Made) (sent : List Msg) where
     pub frozen : (f : Entry) → In f t.entries → Frozen hs made l e b f
     pub covers : (n : ℕ) → epoch_of n ≡ e → good < esn_of n → (n < t.asked) ⊎ (t.whole ≡ true) → Covered sent l e b t n
     pub lost_said : t.lost ≡ true → LostTold sent l e b t.node
+    pub asks : t.whole ≡ false → epoch_of t.asked ≡ e
 
   pub record DigestSoFar (s : Spec) (l e b : ℕ) (d : List Told) : Type 0 where
     pub told : (t : Told) → In t d → ToldSoFar l e b (digest_lng d) t
@@ -75,7 +76,7 @@ module _ (hs : List Happened) (made : List Made) (sent : List Msg) where
 
   -- the less is claimed the more is known good
   told_above : (l e b g h : ℕ) (t : Told) → g ≤ h → ToldSoFar l e b g t → ToldSoFar l e b h t
-  told_above l e b g h t k u = record { paged = u.paged; trimmed = u.trimmed; known = u.known; frozen = u.frozen; covers = λ n q p w. u.covers n q (omega arith) w; lost_said = u.lost_said }
+  told_above l e b g h t k u = record { paged = u.paged; trimmed = u.trimmed; known = u.known; frozen = u.frozen; covers = λ n q p w. u.covers n q (omega arith) w; lost_said = u.lost_said; asks = u.asks }
 
   -- ---- a digest that begins ----
   nothing_nodes : (e : ℕ) (ns : List ℕ) → map (λ (t : Told). t.node) (map (told_nothing e) ns) ≡ ns
@@ -83,7 +84,7 @@ module _ (hs : List Happened) (made : List Made) (sent : List Msg) where
   nothing_nodes e (n ∷ ns) = ap (λ l. n ∷ l) (nothing_nodes e ns)
 
   nothing_told : (l e b good y : ℕ) → ToldSoFar l e b good (told_nothing e y)
-  nothing_told l e b good y = record { paged = λ f i. absurd i; trimmed = inl refl; known = inl refl; frozen = λ f i. absurd i; covers = λ n q p h. elim h [ inl a ↦ absurd (omega arith) | inr a ↦ absurd cc ]; lost_said = λ h. absurd cc }
+  nothing_told l e b good y = record { paged = λ f i. absurd i; trimmed = inl refl; known = inl refl; frozen = λ f i. absurd i; covers = λ n q p h. elim h [ inl a ↦ absurd (omega arith) | inr a ↦ absurd cc ]; lost_said = λ h. absurd cc; asks = λ h. omega arith }
 
   pub begins : (s : Spec) (l e b : ℕ) → DigestSoFar s l e b (no_digest s e)
   begins s l e b = record {
@@ -123,6 +124,7 @@ module _ (hs : List Happened) (made : List Made) (sent : List Msg) where
       frozen = u.frozen;
       covers = λ n q p h. covered_as l e b n m.0 (told_lost y m.0) refl (λ f j. j) (omega arith) (omega arith) (u.covers n q (omega arith) h);
       lost_said = cond_both (m.0.node == y) true m.0.lost (λ x. x ≡ true → LostTold sent l e b m.0.node) (λ k h. subst (LostTold sent l e b) (sym (eqb-true _ _ k)) L) (λ k h. u.lost_said h);
+      asks = u.asks;
     }));
     nodes = same_nodes (told_lost y) d (λ t. refl) ∙ D.nodes;
   }
@@ -131,9 +133,12 @@ module _ (hs : List Happened) (made : List Made) (sent : List Msg) where
   asked_before : (e good n a : ℕ) → epoch_of n ≡ e → good < esn_of n → n < (if a == numbered e 1 then a else max a (numbered e (good + 1))) → n < a
   asked_before e good n a q p = cond_both (a == numbered e 1) a (max a (numbered e (good + 1))) (λ x. n < x → n < a) (λ t h. h) (λ t h. omega arith)
 
-  pub asks_anew : (s : Spec) (l e b : ℕ) (d : List Told) → DigestSoFar s l e b d → DigestSoFar s l e b (with_asks e d)
+  asked_epoch : (e good a : ℕ) → good ≤ last_esn - 1 → epoch_of a ≡ e → epoch_of (if a == numbered e 1 then a else max a (numbered e (good + 1))) ≡ e
+  asked_epoch e good a m q = cond_both (a == numbered e 1) a (max a (numbered e (good + 1))) (λ x. epoch_of x ≡ e) (λ t. q) (λ t. omega arith)
+
+  pub asks_anew : (s : Spec) (l e b : ℕ) (d : List Told) → digest_lng d ≤ last_esn - 1 → DigestSoFar s l e b d → DigestSoFar s l e b (with_asks e d)
   unfolding with_asks
-  asks_anew s l e b d D = record {
+  asks_anew s l e b d most D = record {
     told = λ t i. (let m = In-map (asked_anew e (digest_lng d)) t d i in let u = D.told m.0 m.1 in let g = lng_same (asked_anew e (digest_lng d)) d (λ t. refl) in
         subst (ToldSoFar l e b (digest_lng (map (asked_anew e (digest_lng d)) d))) (sym m.2) (record {
           paged = u.paged;
@@ -143,6 +148,7 @@ module _ (hs : List Happened) (made : List Made) (sent : List Msg) where
           covers = λ n q p h. let k : digest_lng d < esn_of n = omega arith in covered_as l e b n m.0 (asked_anew e (digest_lng d) m.0) refl (λ f j. j) (omega arith) (omega arith)
               (u.covers n q k (elim h [ inl z ↦ inl (asked_before e (digest_lng d) n m.0.asked q k z) | inr z ↦ inr z ]));
           lost_said = u.lost_said;
+          asks = λ h. asked_epoch e (digest_lng d) m.0.asked most (u.asks h);
         }));
     nodes = same_nodes (asked_anew e (digest_lng d)) d (λ t. refl) ∙ D.nodes;
   }
@@ -153,9 +159,10 @@ module _ (hs : List Happened) (made : List Made) (sent : List Msg) where
     pub sent_so : In (from_node l y b (bodies.DigestPage from upto trim lng es)) sent
     pub epoch : epoch_of from ≡ e
     pub frozen : (f : Entry) → In f es → Frozen hs made l e b f
+    pub good : lng ≤ last_esn - 1
 
-  takes_one : (l e b y from upto trim lng past good : ℕ) (es : List Entry) (t : Told) → past ≤ good → takes_page y from t ≡ true → PageFacts l e b y from upto trim lng es → ToldSoFar l e b good t → ToldSoFar l e b good (told_page e past upto trim lng es t)
-  takes_one l e b y from upto trim lng past good es t le h p u =
+  takes_one : (l e b y from upto trim lng past good : ℕ) (es : List Entry) (t : Told) → past ≤ good → past ≤ last_esn - 1 → takes_page y from t ≡ true → PageFacts l e b y from upto trim lng es → ToldSoFar l e b good t → ToldSoFar l e b good (told_page e past upto trim lng es t)
+  takes_one l e b y from upto trim lng past good es t le most h p u =
       let a = and_parts (t.node == y) ((t.asked == from) && not t.whole) h in
       let c = and_parts (t.asked == from) (not t.whole) a.1 in
       let node : t.node ≡ y = eqb-true _ _ a.0 in
@@ -183,15 +190,16 @@ module _ (hs : List Happened) (made : List Made) (sent : List Msg) where
           }
         ];
         lost_said = u.lost_said;
+        asks = λ w. (let v = leb-false (numbered e last_esn) upto w in omega arith);
       }
 
   -- what a page of the number makes of what a node told
   abbrev paged_told : ℕ → ℕ → ℕ → ℕ → ℕ → ℕ → ℕ → List Entry → Told → Told
   paged_told e good y from upto trim lng es t = if takes_page y from t then told_page e good upto trim lng es t else t
 
-  pub takes : (s : Spec) (l e b y from upto trim lng : ℕ) (es : List Entry) (d : List Told) → PageFacts l e b y from upto trim lng es → DigestSoFar s l e b d → DigestSoFar s l e b (with_page e y from upto trim lng es d)
+  pub takes : (s : Spec) (l e b y from upto trim lng : ℕ) (es : List Entry) (d : List Told) → digest_lng d ≤ last_esn - 1 → PageFacts l e b y from upto trim lng es → DigestSoFar s l e b d → DigestSoFar s l e b (with_page e y from upto trim lng es d)
   unfolding with_page
-  takes s l e b y from upto trim lng es d p D = record {
+  takes s l e b y from upto trim lng es d most p D = record {
     told = λ t i. (let m = In-map one t d i in subst (ToldSoFar l e b after) (sym m.2) (by_page m.0 (D.told m.0 m.1) (subst (λ (u : Told). u.lng ≤ after) m.2 (lng_least (map one d) t i))));
     nodes = same_nodes one d (λ t. cond_both (takes_page y from t) (told_page e past upto trim lng es t) t (λ (u : Told). u.node ≡ t.node) (λ h. refl) (λ h. refl)) ∙ D.nodes;
   } where
@@ -209,15 +217,16 @@ module _ (hs : List Happened) (made : List Made) (sent : List Msg) where
 
     by_page : (t : Told) → ToldSoFar l e b (digest_lng d) t → (one t).lng ≤ after → ToldSoFar l e b after (one t)
     by_page t u = let g = grown in let v = told_above l e b (digest_lng d) after t g u in
-        cond_both (takes_page y from t) (told_page e past upto trim lng es t) t (λ (x : Told). x.lng ≤ after → ToldSoFar l e b after x) (λ h k. takes_one l e b y from upto trim lng past after es t (omega arith) h p v) (λ h k. v)
+        cond_both (takes_page y from t) (told_page e past upto trim lng es t) t (λ (x : Told). x.lng ≤ after → ToldSoFar l e b after x) (λ h k. takes_one l e b y from upto trim lng past after es t (omega arith) (let w = p.good in omega arith) h p v) (λ h k. v)
 
   -- ---- what a page shows, before the ballot has planned its epoch ----
   abbrev pub NoPlan : ℕ → ℕ → ℕ → Type 0
   NoPlan l e b = (d : Basis) → In (plan_of l e b d) made → ⊥
 
-  pub page_frozen : (l e b y from upto trim lng : ℕ) (es : List Entry) → In (from_node l y b (bodies.DigestPage from upto trim lng es)) sent → epoch_of from ≡ e → e < b → PagesBounded sent → ((f : Entry) → In f es → Place f.number f.what × Says hs made l f.ballot f.number f.what) → NoPlan l e b
+  pub page_frozen : (l e b y from upto trim lng : ℕ) (es : List Entry) → In (from_node l y b (bodies.DigestPage from upto trim lng es)) sent → epoch_of from ≡ e → e < b → PagesBounded sent → ((f : Entry) → In f es → Place f.number f.what × Says hs made l f.ballot f.number f.what) → NoPlan l e b → lng ≤ last_esn - 1
       → PageFacts l e b y from upto trim lng es
-  page_frozen l e b y from upto trim lng es i q lt B S N = record {
+  page_frozen l e b y from upto trim lng es i q lt B S N most = record {
+    good = most;
     sent_so = i;
     epoch = q;
     frozen = λ f j. let k = B l y b from upto trim lng es f i j in let s = S f j in let ep : epoch_of f.number ≡ e = k.1 ∙ q in record {

@@ -1,7 +1,7 @@
 -- Each entry says what its ballot says of its number, or was refilled, and the copies of acknowledged numbers of open epochs stand, and of closed ones.
 use Rattle.std.proofs.Common.{◌≡◌, ◌∙◌, ◌⊎◌, ◌≤◌, ◌<◌, ℕ, inl, inr, refl, ap, sym, subst, true, false, is_some, List, [], Some, arith}
-use Rattle.std.proofs.lemmas.Bool.{cases_Bool, cases_eq, cases_order, le-leb}
-use Rattle.ld_table.specs.Words.{is_in}
+use Rattle.std.proofs.lemmas.Bool.{cases_Bool, cases_eq, cases_order, le-leb, or_left, or_right, or_cases}
+use Rattle.ld_table.specs.Words.{is_in, how_many}
 use Rattle.ld_lsn.specs.Number.{epoch_of, esn_of, numbered}
 use Rattle.ld_config.specs.declared.config.Config.{Config}
 use Rattle.ld_config.specs.Bounds.{IsInBounds}
@@ -12,17 +12,18 @@ use Rattle.ld_msg.specs.declared.msg.Summary.{Summary}
 use Rattle.ld_msg.specs.Digest.{plan_floor}
 use Rattle.ld_msg.specs.Sequencer.{Sequencer, Recovery, Stage, Seals, Stores, Closes, Planned}
 use Rattle.ld_op.specs.Plain.{Plain, log_of, is_lost, summary_at}
+use Rattle.ld_machine.specs.Config.{spec_of, fixed_at, set_at}
 use Rattle.ld_machine.specs.State.{node_at}
 use Rattle.ld_machine.specs.Facts.{Happened}
-use Rattle.ld_machine.specs.World.{World, In, MayHold, Stored, begin, chosen, item}
+use Rattle.ld_machine.specs.World.{World, In, MayHold, Stored, begin, item, has_told, has_append, has_joined, says_stored, vouched}
 use Rattle.ld_machine.specs.Invariant.{EntriesAreItems, IsItem, IsKnownGood, IsOfLoss, planned_in, Closed, IsOpen, Acked, CopyAt, AppendsOf, HasLoss, Copies, HoldsItem}
 use Rattle.ld_machine.specs.Run.{Move, world_after, trace}
-use Rattle.ld_safety.proofs.Lists.{Some_inj, not_both}
+use Rattle.ld_safety.proofs.Lists.{Some_inj, not_both, count_mono}
 use Rattle.ld_safety.proofs.Members.{find_in}
 use Rattle.ld_safety.proofs.Traces.{Keeps, later, both_kept}
 use Rattle.ld_safety.proofs.Plans.{plan_shape, floor_lng}
 use Rattle.ld_safety.proofs.GivenSteps.{BaseGiven}
-use Rattle.ld_safety.proofs.Protocol.{Basis, plan_of, plan_at, OwnSays, Says}
+use Rattle.ld_safety.proofs.Protocol.{Basis, plan_of, plan_at, OwnSays, Says, tells_stored, told_stored}
 use Rattle.ld_safety.proofs.Settled.{Acknowledged, LossSays, OfLoss, ClosedBy, Reached, TrimFine, CloseFine, ShowFine, ReleaseFine, LngFine, close_low}
 use Rattle.ld_safety.proofs.Carried as carried
 use Rattle.ld_safety.proofs.Names.{found}
@@ -32,7 +33,9 @@ use Rattle.ld_safety.proofs.Shown as shown
 use Rattle.ld_safety.proofs.Along.{Along}
 use Rattle.ld_safety.proofs.LngBelow.{plans_low}
 use Rattle.ld_safety.proofs.LossHeard as losses
-use Rattle.ld_safety.proofs.CopiesStand.{NoLoss, has_plan, loss_or_none, has_loss, once, summary_there, said_at, acked_not_ended, good_held, copies_here, short_here}
+use Rattle.ld_safety.proofs.CopiesStand.{NoLoss, has_plan, loss_or_none, has_loss, once, summary_there, said_at, acked_not_ended, good_held, joined_good, copies_here, short_here}
+use Rattle.ld_safety.proofs.Joins.{now_count}
+use Rattle.ld_safety.proofs.Registers.{look_like}
 use Rattle.ld_safety.proofs.Holdings.{KeptBy}
 use Rattle.ld_safety.proofs.Serving.{Gone}
 use Rattle.ld_safety.proofs.Retained.{at_nodes}
@@ -179,15 +182,26 @@ module _ (c : Config) (hs : List Happened) (w : World) (B : BaseGiven c hs w × 
 
   -- ---- where they were known good as their epoch was closed ----
   good_copies : (l n : ℕ) (y : Summary) → NoLoss w.made l (epoch_of n) → ClosedBy c hs w.made w.state.network.sent w.state.register l (epoch_of n) y → 0 < esn_of n → esn_of n ≤ y.lng → AppendsOf c w l n
-  unfolding chosen
+  unfolding vouched
   good_copies l n y nl k pos low = record {
-    enough = le-leb _ _ (k.plan.good n refl pos low).chosen;
-    kept = λ z i p m. elim (good_held c hs w B l n y nl k pos low z i p m) [
-      | inl h ↦ inl h
-      | inr (inl h) ↦ inr (inl h)
-      | inr (inr h) ↦ inr (inr (with_item l n p (k.plan.good n refl pos low) h))
-    ];
-  }
+    enough = le-leb _ _ now_chosen;
+    kept = λ z i p m. with_what p (elim (or_cases (has_told w (says_stored n) l (epoch_of n) z) (has_joined w l (epoch_of n) z) i) [
+      | inl t ↦ good_held c hs w B l n y nl k pos low z (told_stored w.state.network.sent l n (epoch_of n) z t) p m
+      | inr j ↦ joined_good c hs w B l n y nl k pos low z j p m
+    ]);
+  } where
+    with_what : (p : Plain) → (p.generation ≡ 0) ⊎ ((is_lost (log_of p l) (epoch_of n) ≡ true) ⊎ ((n ≤ (log_of p l).trim) ⊎ HoldsItem p l n (epoch_of n) (Rec (k.plan.good n refl pos low).payload))) → (p.generation ≡ 0) ⊎ ((is_lost (log_of p l) (epoch_of n) ≡ true) ⊎ ((n ≤ (log_of p l).trim) ⊎ ((x : What) × (item w l n (epoch_of n) ≡ Some x) × HoldsItem p l n (epoch_of n) x)))
+    with_what p (inl h) = inl h
+    with_what p (inr (inl h)) = inr (inl h)
+    with_what p (inr (inr h)) = inr (inr (with_item l n p (k.plan.good n refl pos low) h))
+
+    -- as many as stored it of the nodes that were fixed are there now
+    now_chosen : (spec_of c w.state.register l (epoch_of n)).r ≤ how_many (has_append w l n) (set_at c w.state.register l (epoch_of n))
+    now_chosen =
+        let h = (k.plan.good n refl pos low).chosen in
+        let a = count_mono (tells_stored w.state.network.sent l n (epoch_of n)) (has_append w l n) (fixed_at c w.state.register l (epoch_of n)) (λ z i t. or_left (has_told w (says_stored n) l (epoch_of n) z) (has_joined w l (epoch_of n) z) t) in
+        let b = now_count c w.joined w.state.register l (epoch_of n) (has_append w l n) B.1.follow B.1.each k.plan.reached (λ z j. or_right (has_told w (says_stored n) l (epoch_of n) z) (has_joined w l (epoch_of n) z) j) in
+        let f = (look_like c w.state.register l (epoch_of n) B.1.each k.plan.reached).factor in omega arith
 
   known_good : FromOneOn w → (l e k : ℕ) (s : Summary) → Closed w l e s → s.trim < numbered e k → 0 < k → k ≤ s.lng → AppendsOf c w l (numbered e k) ⊎ HasLoss w l e
   known_good P l e k s f tr pos low = elim (B.1.said.register l e s f).1 [

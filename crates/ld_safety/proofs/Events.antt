@@ -1,6 +1,6 @@
 -- What an event may come to, case by case: whoever speaks of all events answers these cases once.
-use Rattle.std.proofs.Common.{◌≡◌, ◌∙◌, ◌≤◌, ℕ, inl, inr, refl, ap, sym, subst, Bool, true, false, not, ◌&&◌, ◌||◌, ◌==◌, List, [], ◌∷◌, length, Option, Some, None, is_some, cond, nat_lt, nat_le, arith}
-use Rattle.std.proofs.lemmas.Bool.{cases_Bool, and_parts, or_parts, or_left, or_right, ltb-false, eqb-false}
+use Rattle.std.proofs.Common.{◌≡◌, ◌∙◌, ◌≤◌, ◌<◌, ℕ, inl, inr, refl, ap, sym, subst, Bool, true, false, not, ◌&&◌, ◌||◌, ◌==◌, List, [], ◌∷◌, length, Option, Some, None, is_some, cond, nat_lt, nat_le, arith}
+use Rattle.std.proofs.lemmas.Bool.{cases_Bool, and_parts, or_parts, or_left, or_right, ltb-true, ltb-false, eqb-false}
 use Rattle.ld_table.specs.Named.{find_named}
 use Rattle.ld_table.specs.Table.{put}
 use Rattle.ld_ids.specs.Set.{members}
@@ -17,7 +17,7 @@ use Rattle.ld_op.specs.Plain.{log_of}
 use Rattle.ld_op.specs.Ticks.{Ticked, on_tick}
 use Rattle.ld_config.specs.declared.config.Config.{Config}
 use Rattle.ld_machine.specs.Config.{all_nodes, looks_at, has_log, has_node}
-use Rattle.ld_msg.specs.Register.{Register, Changed, Answer, Granted, AtLimit, Behind, Overtaken, Fails, activate, draw, epochs_of, epochs_in, generation_of, lce_of}
+use Rattle.ld_msg.specs.Register.{Register, Changed, Answer, Granted, AtLimit, Behind, Overtaken, Fails, activate, draw, swap, epochs_of, epochs_in, generation_of, lce_of}
 use Rattle.ld_machine.specs.Disk.{Fault, new_node, Kept, Written, DiskFailed, Crashed, JournalFull, load, load_end, is_up, is_blank, is_down, is_failed}
 use Rattle.ld_msg.specs.Network.{message}
 use Rattle.ld_msg.specs.Sequencer.{Sequencer, Appending, TooLong, Preempted, EpochFull, WindowFull, Numbered, appending, released_of, on_reply, on_retry, to_each}
@@ -81,6 +81,19 @@ pub record Serves (c : Config) (s : State) (n l : ℕ) : Type 0 where
   pub up : is_up (node_at s n).status ≡ true
   pub log : has_log c l ≡ true
 
+-- a node takes the place of another one
+pub record Replaces (c : Config) (s : State) (n other l : ℕ) : Type 0 where
+  pub node : has_node c n ≡ true
+  pub log : has_log c l ≡ true
+  pub other_node : has_node c other ≡ true
+  pub up : is_up (node_at s n).status ≡ true
+  pub whole : (log_of (node_at s n).plain l).lost ≡ false
+  pub some : 0 < (log_of (node_at s n).plain l).lost_to
+
+-- the register after the swap that it asks for
+abbrev pub swapped_by : State → ℕ → ℕ → ℕ → Changed
+swapped_by s n other l = swap s.register l (log_of (node_at s n).plain l).lost_to other n
+
 -- the event opens no reader
 abbrev pub Idle : Config → State → Event → Type 0
 Idle c s (events.Open name l from until) = has_log c l ≡ true → is_some (find_named name s.readers) ≡ true
@@ -118,6 +131,7 @@ pub record Cases (c : Config) (s : State) (e : Event) (Q : Done → List Made �
   pub wipes : (n : ℕ) → Q (with_line (with_node s n new_node) (lines.NodeWiped n)) []
   pub faults : (n : ℕ) (f : Fault) → Idle c s e → Q (only_state (with_node s n (Step.with_fault (node_at s n) f))) []
   pub sets : (l r x : ℕ) (set : List Bool) → Step.can_set c l r x (members set) ≡ true → Q (with_line (with_spec s l (record { log = l; set = set; r = r; extras = x })) (lines.Set l r x set)) []
+  pub swaps : (n other l : ℕ) (x : Line) → Replaces c s n other l → is_quiet x ≡ true → e ≡ events.Replace n other l → Q (with_line (with_register s (swapped_by s n other l).register) x) []
   pub arms : (k : ℕ) (done : Bool) → Idle c s e → Q (only_state (with_register s (Step.armed s.register k done))) []
   -- sequencers
   pub hears : (f : List ℕ) (name : List ℕ) (q : Sequencer) (m : Msg) → In m s.network.sent → m.to ≡ whos.Sequencer q.epoch → m.log ≡ q.log → Live s name q → Idle c s e →
@@ -248,6 +262,26 @@ module _ (c : Config) (s : State) (e : Event) (Q : Done → List Made → Type 0
     where_node : (n : ℕ) (fits : Bool) (d : Done) → (has_node c n ≡ true → fits ≡ true → Q d []) → Q (Step.where_node c s n fits d) []
     where_node n fits d h = either (has_node c n && fits) _ _ [] (λ t. let p = and_parts (has_node c n) fits t in h p.0 p.1) (λ t. nothing)
 
+    -- ---- swaps ----
+    replaces_by : (n other l count : ℕ) (a : Answer) → Replaces c s n other l → e ≡ events.Replace n other l → Q (Step.replaces_by s n other l count (swapped_by s n other l).register a) []
+    replaces_by n other l count Granted r i = either (count == 0) _ _ [] (λ t. nothing) (λ t. K.swaps n other l (lines.NodeReplaced n l other count) r refl i)
+    replaces_by n other l count AtLimit r i = K.says _ refl
+    replaces_by n other l count (Behind lce) r i = nothing
+    replaces_by n other l count (Overtaken k) r i = nothing
+    replaces_by n other l count Fails r i = K.swaps n other l (lines.NodeRefusedRegister n) r refl i
+
+    replacing : (n other l : ℕ) → has_node c n ≡ true → Step.can_replace c s n other l ≡ true → Replaces c s n other l
+    replacing n other l g t =
+        let p = and_parts (has_log c l && (has_node c other && not (n == other))) _ t in
+        let q = and_parts (has_log c l) (has_node c other && not (n == other)) p.0 in
+        let o = and_parts (has_node c other) (not (n == other)) q.1 in
+        let u = and_parts (is_up (node_at s n).status) (not (log_of (node_at s n).plain l).lost && nat_lt 0 (log_of (node_at s n).plain l).lost_to) p.1 in
+        let v = and_parts (not (log_of (node_at s n).plain l).lost) (nat_lt 0 (log_of (node_at s n).plain l).lost_to) u.1 in
+        record { node = g; log = q.0; other_node = o.0; up = u.0; whole = not_true _ v.0; some = ltb-true 0 _ v.1 } where
+          not_true : (b : Bool) → not b ≡ true → b ≡ false
+          not_true true h = absurd cc
+          not_true false h = refl
+
     ticks_by : (n l : ℕ) → Q (Step.ticks c s n l) []
     ticks_by n l = either (is_up (node_at s n).status && has_log c l) _ _ []
         (λ t. let p = and_parts (is_up (node_at s n).status) (has_log c l) t in K.ticks n l _ (record { up = p.0; log = p.1 }) refl idle) (λ t. nothing)
@@ -282,4 +316,5 @@ dispatch c s (events.Wipe n) Q N K = where_node c s (events.Wipe n) Q N K tt n t
 dispatch c s (events.Fail n k) Q N K = where_node c s (events.Fail n k) Q N K tt n true _ (λ g t. K.faults n _ tt)
 dispatch c s (events.Tear n k picture) Q N K = where_node c s (events.Tear n k picture) Q N K tt n true _ (λ g t. K.faults n _ tt)
 dispatch c s (events.Set l r x set) Q N K = either c s (events.Set l r x set) Q N K (Step.can_set c l r x (members set)) _ _ [] (λ t. K.sets l r x set t) (λ t. nothing c s (events.Set l r x set) Q N K tt)
+dispatch c s (events.Replace n other l) Q N K = where_node c s (events.Replace n other l) Q N K tt n (Step.can_replace c s n other l) _ (λ g t. replaces_by c s (events.Replace n other l) Q N K tt n other l _ (swapped_by s n other l).answer (replacing c s (events.Replace n other l) Q N K tt n other l g t) refl)
 dispatch c s (events.RegFail k done) Q N K = K.arms k done tt

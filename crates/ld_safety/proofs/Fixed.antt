@@ -18,14 +18,14 @@ use Rattle.ld_msg.specs.declared.msg.Who.{Who}
 use Rattle.ld_msg.specs.declared.msg.Who.TheVariants as whos
 use Rattle.ld_msg.specs.declared.msg.Msg.{Msg}
 use Rattle.ld_msg.specs.declared.msg.Body.{Body}
-use Rattle.ld_msg.specs.Register.{Register, Epochs, Answer, Granted, AtLimit, Behind, Overtaken, Fails, View, no_epochs, epochs_of, with_epochs, next_epoch, closed_epochs, activate, close, draw}
+use Rattle.ld_msg.specs.Register.{swap, swapped_epochs, Register, Epochs, Answer, Granted, AtLimit, Behind, Overtaken, Fails, View, no_epochs, epochs_of, with_epochs, next_epoch, closed_epochs, activate, close, draw}
 use Rattle.ld_msg.specs.Reader.{Reader, is_finished}
 use Rattle.ld_msg.specs.Sequencer.{Sequencer, Acts, Appending, TooLong, Preempted, EpochFull, WindowFull, Numbered, appending, called, on_reply, on_retry, released_of, Attempt}
 use Rattle.ld_op.specs.declared.op.Op.{Op}
 use Rattle.ld_op.specs.declared.op.Op.TheVariants as ops
 use Rattle.ld_op.specs.Plain.{log_of}
 use Rattle.ld_op.specs.Ticks.{Ticked, Cleans, Rebuilt, Asks, Nothing, on_tick}
-use Rattle.ld_machine.specs.Config.{first_spec, looks_at, spec_of, has_log, has_node}
+use Rattle.ld_machine.specs.Config.{first_spec, looks_at, fixed_of, has_log, has_node}
 use Rattle.ld_machine.specs.Disk.{Node, Kept, Written, DiskFailed, Crashed, JournalFull, keep_end, load_end, is_up, is_blank, is_down, is_failed}
 use Rattle.ld_machine.specs.State.{State, Done, finish, node_at, with_node, with_line, or_none, message_lines, sequencer_of, reader_of}
 use Rattle.ld_machine.specs.Facts.{Happened, epoch_made, set_by, set_in, set_after, makes, spec_fixed}
@@ -39,7 +39,7 @@ use Rattle.ld_safety.proofs.NamesKept.{names_step}
 use Rattle.ld_safety.proofs.Lines.{Group, group, OfNodes, OfNumbers, OfActs, OfTrims, OfSets, OfItems, AllOf, none_of, one_of, kept_of, format_of, acted_of, items_of, quiet_of}
 use Rattle.ld_safety.proofs.Events.{NamesOnce, Cases, dispatch, is_quiet, refreshed, loaded}
 use Rattle.ld_safety.proofs.Registers.{Reached, register_kept, spec_found}
-use Rattle.ld_safety.proofs.RegisterSteps.{Same, activate_leaves, close_leaves, draw_leaves, epochs_put, epochs_same}
+use Rattle.ld_safety.proofs.RegisterSteps.{Same, activate_leaves, close_leaves, draw_leaves, swap_leaves, epochs_put, epochs_same}
 
 -- ---- steps at the end of a history ----
 set_in-append : (l : ℕ) (xs ys : List Line) (s : Spec) → set_in l (xs ++ ys) s ≡ set_in l ys (set_in l xs s)
@@ -146,6 +146,7 @@ module _ (c : Config) (s : State) (e : Event) where
     trims = λ name q t v b. others OfTrims _ (λ q. cc) refl (one_of (lines.Trimmed name t));
     drops = λ name q v o. keeps _ refl nothing;
     activates = λ name l r g n i x. others OfNumbers _ (λ q. cc) refl (one_of (lines.Active name _));
+    swaps = λ n m l x r q i. keeps _ refl (quiet_one x q);
     activate_fails = λ name l x g q. keeps _ refl (quiet_one x q);
     answers = λ f name d m i t v o. others OfItems _ (λ q. cc) refl (items_of name _ _);
     polls = λ name d v o. keeps _ refl nothing;
@@ -256,6 +257,23 @@ module _ (c : Config) (s : State) where
   opens : (name : List ℕ) (l from until : ℕ) → SameFixed (Step.opens s name l from until)
   opens name l from until = either ((from == 0) || nat_lt until from) _ _ (same _ refl) (either (nat_le Step.reader_limit (length s.readers)) _ _ (same _ refl) (same _ refl))
 
+  -- ---- swaps ----
+  swapped : (l upto old new : ℕ) (k : ℕ) → (epochs_of (swap s.register l upto old new).register k).specs ≡ (epochs_of s.register k).specs
+  swapped l upto old new k = elim (swap_leaves s.register l upto old new) [
+    | inl a ↦ by_logs (swap s.register l upto old new).register a.0 k
+    | inr a ↦ ap (λ (x : Epochs). x.specs) (epochs_same (with_epochs s.register l (swapped_epochs (epochs_of s.register l) upto old new)) (swap s.register l upto old new).register k a) ∙ elim (epochs_put s.register l k (swapped_epochs (epochs_of s.register l) upto old new)) [
+      | inl p ↦ ap (λ (x : Epochs). x.specs) p.1 ∙ ap (λ j. (epochs_of s.register j).specs) (sym p.0)
+      | inr p ↦ ap (λ (x : Epochs). x.specs) p.1
+    ]
+  ]
+
+  replaces : (n other l count : ℕ) (a : Answer) → let r = (swap s.register l (log_of (node_at s n).plain l).lost_to other n).register in SameFixed (Step.replaces_by s n other l count r a)
+  replaces n other l count Granted = either (count == 0) _ _ (same _ refl) (moved _ (swapped l _ other n))
+  replaces n other l count AtLimit = same _ refl
+  replaces n other l count (Behind lce) = same _ refl
+  replaces n other l count (Overtaken k) = same _ refl
+  replaces n other l count Fails = moved _ (swapped l _ other n)
+
   -- ---- activations ----
   -- of an epoch that was made what was set is fixed, and nothing else changes
   OnceMore : Option (ℕ × ℕ) → Register → Type 0
@@ -360,7 +378,13 @@ module _ (c : Config) (s : State) where
   register_step (events.Fail n k) low = idle_step (Step.happens c s (events.Fail n k)) (either (has_node c n && true) _ _ (same _ refl) (same _ refl))
   register_step (events.Tear n k picture) low = idle_step (Step.happens c s (events.Tear n k picture)) (either (has_node c n && true) _ _ (same _ refl) (same _ refl))
   register_step (events.Set l r x set) low = idle_step (Step.happens c s (events.Set l r x set)) (either (Step.can_set c l r x (members set)) _ _ (same _ refl) (same _ refl))
+  register_step (events.Replace n other l) low = idle_step (Step.happens c s (events.Replace n other l)) (either (has_node c n && Step.can_replace c s n other l) _ _ (replaces n other l _ (swap s.register l (log_of (node_at s n).plain l).lost_to other n).answer) (same _ refl))
   register_step (events.RegFail k done) low = idle_step (Step.happens c s (events.RegFail k done)) (moved _ (by_logs (Step.armed s.register k done) refl))
+
+pub made_step : (c : Config) (s : State) (e : Event) → ((l e : ℕ) (t : Spec) → find e (epochs_of s.register l).specs ≡ Some t → e ≤ (epochs_of s.register l).epoch)
+    → (k x : ℕ) → find x (epochs_of (Step.happens c s e).state.register k).specs ≡ or_else (find x (epochs_of s.register k).specs) (if makes k x (epoch_made s.register (Step.happens c s e).state.register e) then Some (Step.spec_set c s k) else None)
+unfolding OnceMore
+made_step c s e low = register_step c s e low
 
 -- ---- just the epochs that were handed out have nodes, factor and extras ----
 pub record FineAt (g : Epochs) : Type 0 where
@@ -389,6 +413,10 @@ specs_at_step c s e N h = register_kept c s e SpecsAt h
       | inr a ↦ by_put (close s.register l x y b).register l (closed_epochs (epochs_of s.register l) x y) a.1 (record { low = (h l).low; there = (h l).there })
     ])
     (λ n. elim (draw_leaves s.register n) [ inl a ↦ by_logs_fine (draw s.register n).register a.0 | inr a ↦ by_logs_fine (draw s.register n).register a.0 ])
+    (λ l upto old new. elim (swap_leaves s.register l upto old new) [
+      | inl a ↦ (λ k. subst FineAt (sym (epochs_same s.register (swap s.register l upto old new).register k a)) (h k))
+      | inr a ↦ by_put (swap s.register l upto old new).register l (swapped_epochs (epochs_of s.register l) upto old new) a (record { low = (h l).low; there = (h l).there })
+    ])
     (λ n q. by_logs_fine n q) N where
       by_logs_fine : (n : Register) → n.logs ≡ s.register.logs → SpecsAt n
       by_logs_fine n q k = subst FineAt (sym (ap (λ m. unwrap_or (find k m) no_epochs) q)) (h k)
@@ -422,5 +450,5 @@ pub fixed_kept : (c : Config) → Keeps c (λ hs w. NamesOnce w.state × AsFixed
 fixed_kept c = record { begins = ((tt, tt), start_fixed c); goes_on = λ hs w e p. (names_step c w.state e p.0, fixed_step c hs w e p.0 p.1) }
 
 -- of an epoch that was handed out the lines say what the register shows
-pub spec_said : (c : Config) (hs : List Happened) (w : World) → AsFixed c hs w → (l e : ℕ) → Reached w.state.register l e → spec_fixed l e hs (first_spec c l) ≡ Some (spec_of c w.state.register l e)
+pub spec_said : (c : Config) (hs : List Happened) (w : World) → AsFixed c hs w → (l e : ℕ) → Reached w.state.register l e → spec_fixed l e hs (first_spec c l) ≡ Some (fixed_of c w.state.register l e)
 spec_said c hs w F l e h = let z = (F.specs l).there e h.0 h.1 in F.fixed l e ∙ (z.1 ∙ ap Some (sym (spec_found c w.state.register l e h ∙ ap (λ o. unwrap_or o (first_spec c l)) z.1)))

@@ -117,6 +117,7 @@ module _ (c : Config) (s : State) (e : Event) where
     trims = λ name q t v b. one_other _ _ (lines.Trimmed name t) (λ m g q. cc);
     drops = λ name q v o. none _ _;
     activates = λ name l r g n i x. one_other _ _ (lines.Active name _) (λ m g q. cc);
+    swaps = λ n m l x r q i. quiet_one _ _ x q;
     activate_fails = λ name l x g q. quiet_one _ _ x q;
     answers = λ f name d m i t v o. others _ _ OfItems _ (λ h. cc) (items_of name _ _);
     polls = λ name d v o. none _ _;

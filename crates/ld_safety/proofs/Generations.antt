@@ -12,14 +12,14 @@ use Rattle.ld_msg.specs.declared.msg.Body.{Body}
 use Rattle.ld_op.specs.declared.op.Op.{Op}
 use Rattle.ld_op.specs.Ticks.{Ticked, Cleans, Rebuilt, Asks, Nothing}
 use Rattle.ld_machine.specs.Disk.{Node}
-use Rattle.ld_msg.specs.Register.{Register, View, Changed, generation_of, close, activate, draw}
+use Rattle.ld_msg.specs.Register.{swap, Register, View, Changed, generation_of, close, activate, draw}
 use Rattle.ld_msg.specs.Sequencer.{Acts, called, Attempt}
 use Rattle.ld_machine.specs.State.{State, finish, node_at, with_node}
 use Rattle.ld_machine.specs.World.{World}
 use Rattle.ld_machine.specs.Run.{next_world}
 use Rattle.ld_machine.specs.Step as Step
 use Rattle.ld_safety.proofs.Events.{NamesOnce, Cases, dispatch, refreshed}
-use Rattle.ld_safety.proofs.RegisterSteps.{Drawn, activate_leaves, close_leaves, draw_leaves}
+use Rattle.ld_safety.proofs.RegisterSteps.{Drawn, activate_leaves, close_leaves, draw_leaves, swap_leaves}
 use Rattle.ld_safety.proofs.NodeCases.{node_cases}
 use Rattle.ld_safety.proofs.LostNodes.{LostIn, lost_keeps}
 
@@ -35,6 +35,9 @@ drawn_generations r n k d y = elim (put_cases y n (generation_of r n + 1) r.gene
   | inl a ↦ (let z : generation_of k y ≡ generation_of r n + 1 = ap (λ m. unwrap_or (find y m) 0) d.1 ∙ ap (λ o. unwrap_or o 0) a.1 in let w : generation_of r y ≡ generation_of r n = ap (generation_of r) a.0 in omega arith)
   | inr a ↦ (let z : generation_of k y ≡ generation_of r y = ap (λ m. unwrap_or (find y m) 0) d.1 ∙ ap (λ o. unwrap_or o 0) a.1 in omega arith)
 ]
+
+pub swap_generations : (r : Register) (l upto old new : ℕ) → NoneFalls r (swap r l upto old new).register
+swap_generations r l upto old new = elim (swap_leaves r l upto old new) [ inl a ↦ same_generations r (swap r l upto old new).register a.1 | inr a ↦ same_generations r (swap r l upto old new).register a.1 ]
 
 pub activate_generations : (r : Register) (l : ℕ) (p : Spec) → NoneFalls r (activate r l p).register
 activate_generations r l p = elim (activate_leaves r l p) [ inl a ↦ same_generations r (activate r l p).register a.1 | inr a ↦ same_generations r (activate r l p).register a.1.1 ]
@@ -83,6 +86,7 @@ module _ (c : Config) (s : State) (e : Event) where
     trims = λ name q t v b. same;
     drops = λ name q v o. same;
     activates = λ name l r g n i x. subst (λ (d : Changed). NoneFalls s.register d.register) i (activate_generations s.register l (Step.spec_set c s l));
+    swaps = λ n m l x r q i. swap_generations s.register l _ m n;
     activate_fails = λ name l x g q. activate_generations s.register l (Step.spec_set c s l);
     answers = λ f name d m i t v o. same;
     polls = λ name d v o. same;

@@ -21,10 +21,10 @@ use Rattle.ld_machine.specs.World.{World, MayHold}
 use Rattle.ld_machine.specs.Run.{next_world}
 use Rattle.ld_machine.specs.Step as Step
 use Rattle.ld_safety.proofs.Lists.{not_none}
-use Rattle.ld_safety.proofs.Events.{NamesOnce, Cases, dispatch, refreshed, loaded}
+use Rattle.ld_safety.proofs.Events.{swapped_by, NamesOnce, Cases, dispatch, refreshed, loaded}
 use Rattle.ld_safety.proofs.HoldSteps.{is_format, same_generation, handled_plain}
 use Rattle.ld_safety.proofs.LostNodes.{kept_from, loaded_from, released_from}
-use Rattle.ld_safety.proofs.Generations.{NoneFalls, activate_generations, draw_generations, call_generations}
+use Rattle.ld_safety.proofs.Generations.{NoneFalls, swap_generations, activate_generations, draw_generations, call_generations}
 
 -- each plain state that a load may find at the node
 abbrev pub DrawnAt : Register → ℕ → Node → Type 0
@@ -106,6 +106,7 @@ module _ (c : Config) (s : State) (e : Event) (A : AllDrawn s.register s) where
     trims = λ name q t v b. A;
     drops = λ name q v o. A;
     activates = λ name l r g n i x. up_drawn s.register r s (subst (λ (d : Changed). NoneFalls s.register d.register) i (activate_generations s.register l (Step.spec_set c s l))) A;
+    swaps = λ n m l x r q i. up_drawn s.register (swapped_by s n m l).register s (swap_generations s.register l _ m n) A;
     activate_fails = λ name l x g q. up_drawn s.register (activate s.register l (Step.spec_set c s l)).register s (activate_generations s.register l (Step.spec_set c s l)) A;
     answers = λ f name d m i t v o. A;
     polls = λ name d v o. A;

@@ -19,7 +19,7 @@ use Rattle.ld_msg.specs.declared.msg.Body.TheVariants as bodies
 use Rattle.ld_msg.specs.Reading.{Held, Item, TrimTo, RecordHere, HoleHere, BridgeTo, LossHere, trim_held, trim_told, record_held, record_of, page_at, entry_at, LossTo, bridge_to}
 use Rattle.ld_msg.specs.Register.{View}
 use Rattle.ld_machine.specs.Config.{looks_at}
-use Rattle.ld_msg.specs.Reader.{Reader, Read, heard, held_with, is_newer, round_of, on_answer, gives}
+use Rattle.ld_msg.specs.Reader.{Reader, Read, heard, held_with, is_newer, round_of, on_answer, gives, nothing_read, look_of}
 use Rattle.ld_machine.specs.State.{State}
 use Rattle.ld_machine.specs.Facts.{Happened, Opening, opening, opening_of, Interval, Writes, Appends, Issues, ReadsLog, log_activated}
 use Rattle.ld_machine.specs.Safe.{RecordsWereAppended, TrimsWereIssued}
@@ -33,7 +33,7 @@ use Rattle.ld_safety.proofs.Events.{dispatch, Reading, is_quiet}
 use Rattle.ld_safety.proofs.Steps.{writes_before}
 use Rattle.ld_safety.proofs.ItemLines.{line_cases}
 use Rattle.ld_safety.proofs.Lines.{Group, OfItems, OfMessages, group, AllOf, line_of}
-use Rattle.ld_safety.proofs.ReaderSteps.{ReadKeeps, answered}
+use Rattle.ld_safety.proofs.ReaderSteps.{dropped_held, ReadKeeps, answered}
 use Rattle.ld_safety.proofs.Tiles.{Got, TilesTo, AllGot, Reads, got_of, tiles_kept}
 use Rattle.ld_safety.proofs.Base.{Base}
 use Rattle.ld_safety.proofs.Given.{AnyEpoch, AnyShown, AnyReleased, SmallGood, AppendedBy, GivenEntry, GivenTrim, GivenSummary}
@@ -137,18 +137,24 @@ module _ (hs : List Happened) (l : ℕ) where
   held_given d y b h o = cond_both (is_newer (find y d.held) (round_of b)) (put y (record { round = round_of b; body = b }) d.held) d.held (λ x. (k : ℕ × Held) → In k x → carried.HeldOk (GivenEntry hs) (GivenTrim hs) (GivenSummary hs) AnyEpoch AnyShown AnyReleased (GivenEntry hs) SmallGood l k.1.body)
       (λ t k i. elim (In_put y (record { round = round_of b; body = b }) d.held k i) [ inl q ↦ subst (λ (x : ℕ × Held). carried.HeldOk (GivenEntry hs) (GivenTrim hs) (GivenSummary hs) AnyEpoch AnyShown AnyReleased (GivenEntry hs) SmallGood l x.1.body) (sym q) o | inr j ↦ h k j ]) (λ t. h)
 
+  no_held : HeldGiven []
+  unfolding HeldGiven
+  no_held h i = absurd i
+
   given_keeps : (looks : ℕ → View) (d : Reader) (y : ℕ) (b : Body) → 0 < d.next → HeldGiven d.held → carried.HeldOk (GivenEntry hs) (GivenTrim hs) (GivenSummary hs) AnyEpoch AnyShown AnyReleased (GivenEntry hs) SmallGood l b → ReadKeeps looks d y b ReadGiven
   given_keeps looks d y b p h o = let k = held_given d y b h o in let start : ReadGiven (record { reader = heard d y b; items = []; asks = [] }) = record { held = k; positive = p; items = λ i j. absurd j } in record {
     starts = start;
-    loss = λ u. gives_given _ LossHere start tt;
+    ignored = λ u. record { held = h; positive = p; items = λ i j. absurd j };
+    loss = λ u n. gives_given (nothing_read (record (heard d y b) { seen = Some (look_of looks d) })) LossHere (record { held = k; positive = p; items = λ i j. absurd j }) tt;
+    swapped = λ u n. record { held = dropped_held HeldGiven no_held _ _ k; positive = p; items = λ i j. absurd j };
     trim = λ a g n t. gives_given a (TrimTo (trim_held a.reader.held)) g (trim_item a.reader.next a.reader.held g.held g.positive t);
     record_there = λ a x g n t. gives_given a (RecordHere x) g (record_given a.reader.next a.reader.held x g.held t);
     hole_there = λ a g n t. gives_given a HoleHere g tt;
     plug = λ a g n t. gives_given a LossHere g tt;
     bridge = λ a g n t. gives_given a (BridgeTo (bridge_to a.reader.next)) g tt;
     lossy_end = λ a g n t. gives_given a (LossTo (bridge_to a.reader.next)) g tt;
-    confirm = λ a g n m t. record { held = g.held; positive = g.positive; items = g.items };
-    polls_on = λ a g t. record { held = g.held; positive = g.positive; items = g.items };
+    confirm = λ a g n m t. record { held = dropped_held HeldGiven no_held _ _ g.held; positive = g.positive; items = g.items };
+    polls_on = λ a g t. record { held = dropped_held HeldGiven no_held _ _ g.held; positive = g.positive; items = g.items };
   }
 
 -- ---- the lines of a step ----

@@ -477,7 +477,7 @@ module _ (c : Config) (s : State) (e : Event) (M : AllMessages s.register s.netw
 
   reads_say : (f : List ℕ) (name : List ℕ) (d : Reader) (y : ℕ) (b : Body) → Reading s name d → Result (Step.read (refreshed s f) name (on_answer (looks_at c s.register d.log) d y b))
   unfolding Result
-  reads_say f name d y b v u n m i = let a = on_answer (looks_at c s.register d.log) d y b in ask_says s.register m (whos.Reader a.reader.number) a.reader.log a.asks (λ k q. cc) (λ x j. let z = ((read_on (looks_at c s.register d.log) d y b v.open_still).asks x j).0 in (a.reader.round, z.from, z.is)) i
+  reads_say f name d y b v u n m i = let a = on_answer (looks_at c s.register d.log) d y b in ask_says s.register m (whos.Reader a.reader.number) a.reader.log a.asks (λ k q. cc) (λ x j. let z = (read_on (looks_at c s.register d.log) d y b v.open_still).asks x j in (z.at, z.from, z.is)) i
 
   polls_say : (name : List ℕ) (d : Reader) → Result (record { state = with_reader s name (polled (looks_at c s.register d.log) d); lines = []; sends = posted (whos.Reader d.number) d.log (poll_asks (looks_at c s.register d.log) d) })
   unfolding Result
@@ -507,6 +507,7 @@ module _ (c : Config) (s : State) (e : Event) (M : AllMessages s.register s.netw
     trims = λ name q t v b. from_own (record { state = s; lines = lines.Trimmed name t ∷ []; sends = posted (whos.Sequencer q.epoch) q.log (to_each (bodies.Trim t) (all_nodes c)) }) name q _ _ v.named tt refl;
     drops = λ name q v o. nothing _ refl;
     activates = λ name l r g n i x. activated_says name l r i;
+    swaps = λ n m l x r q i. nothing _ refl;
     activate_fails = λ name l x g q. nothing _ refl;
     answers = λ f name d m i t v o. reads_say f name d (Step.sender_node m.from) m.body v;
     polls = λ name d v o. polls_say name d;

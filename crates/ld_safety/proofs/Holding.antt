@@ -52,7 +52,7 @@ module _ (c : Config) (hs : List Happened) (w : World) (B : Base c hs w) (R : Al
   pub held_here : RoundsOf w → HeldWasSent w
   held_here H = record {
     readers = λ d y h i f. H.held d.0 d.1 (y, h) (found w.state.readers d B.0.0.1 i) (find_in y d.1.held h f);
-    digests = λ q v ts t e i f g j k. let z = (subst (StageFine c hs w.state.network.sent w.made w.state.register q.1.log q.1.epoch v.epoch) g (in_recovery q v i f).stage).told t j in let p = z.paged e k in (p.from, p.upto, p.trim, p.lng, p.entries, p.page, p.there);
+    digests = λ q v ts t e i f g j k. let z = (subst (StageFine c hs w.state.network.sent w.made w.state.register v.spec q.1.log q.1.epoch v.epoch) g (in_recovery q v i f).stage).told t j in let p = z.paged e k in (p.from, p.upto, p.trim, p.lng, p.entries, p.page, p.there);
   }
 
 -- ---- plans ----

@@ -12,7 +12,7 @@ use Rattle.ld_msg.specs.declared.msg.Summary.{Summary}
 use Rattle.ld_msg.specs.declared.msg.Body.TheVariants as bodies
 use Rattle.ld_msg.specs.Digest.{Told, best, plan_item, plan_floor, digest_lng}
 use Rattle.ld_op.specs.Plain.{log_of}
-use Rattle.ld_machine.specs.Config.{spec_of, set_at}
+use Rattle.ld_machine.specs.Config.{fixed_of, fixed_at}
 use Rattle.ld_machine.specs.Facts.{Happened}
 use Rattle.ld_machine.specs.State.{node_at}
 use Rattle.ld_machine.specs.World.{World, In, from_node}
@@ -23,7 +23,7 @@ use Rattle.ld_safety.proofs.Protocol.{Basis, plan_of, plan_at, Says, PlanSays, A
 use Rattle.ld_safety.proofs.Settled.{ClosedBy}
 use Rattle.ld_safety.proofs.Said.{SaidHere}
 use Rattle.ld_safety.proofs.Shown.{acked_says, follows_closed, above_floor}
-use Rattle.ld_safety.proofs.Plannings.{WhyMade, LossMade}
+use Rattle.ld_safety.proofs.Plannings.{WhyMade, LossMade, loss_nodes}
 use Rattle.ld_safety.proofs.Along.{Along, closed_last}
 
 -- a node of the set is in a digest of it
@@ -93,17 +93,17 @@ module _ (c : Config) (hs : List Happened) (w : World) (R : Along c hs w) (A : A
     -- its entry is in the digest of each loss plan that says something of the number
     in_digest : (b : ℕ) (f : Basis) → In (plan_of l (epoch_of x.number) b f) w.made → f.loss ≡ true → digest_lng f.digest < esn_of x.number → (t : Told) × In t f.digest × In x t.entries
     in_digest b f i lo lng = by_told (made_so (R.plans l (epoch_of x.number) b f i).why) where
-      set : In y (set_at c w.state.register l (epoch_of x.number))
+      set : In y (fixed_at c w.state.register l (epoch_of x.number))
       set = ((R.marks y (node_at w.state y).plain (inl refl)).of_set l x.number x here accepted).1
 
-      made_so : WhyMade (spec_of c w.state.register l (epoch_of x.number)) f → LossMade (spec_of c w.state.register l (epoch_of x.number)) f
+      made_so : WhyMade (fixed_of c w.state.register l (epoch_of x.number)) f → LossMade (fixed_of c w.state.register l (epoch_of x.number)) f
       made_so (inl h) = absurd (not_both f.loss lo h.0)
       made_so (inr h) = h.1
 
-      by_told : LossMade (spec_of c w.state.register l (epoch_of x.number)) f → (t : Told) × In t f.digest × In x t.entries
+      by_told : LossMade (fixed_of c w.state.register l (epoch_of x.number)) f → (t : Told) × In t f.digest × In x t.entries
       by_told m =
           let p = R.plans l (epoch_of x.number) b f i in
-          let t = node_told y f.digest (set_at c w.state.register l (epoch_of x.number)) p.digest.nodes set in elim (m.told t.0 t.1) [
+          let t = node_told y f.digest (fixed_at c w.state.register l (epoch_of x.number)) (loss_nodes c hs w.state.network.sent w.made w.state.register l (epoch_of x.number) b f p lo) set in elim (m.told t.0 t.1) [
             | inl k ↦ (let v = (p.digest.told t.0 t.1).covers x.number refl lng (inr k.0) in
                 let sh = (R.marks y (node_at w.state y).plain (inl refl)).shown l b v.from v.upto v.trim v.lng v.entries (subst (λ z. In (from_node l z b (bodies.DigestPage v.from v.upto v.trim v.lng v.entries)) w.state.network.sent) t.2 v.page) in
                 (t.0, t.1, v.told x (sh x.number x here (sym v.epoch) v.low v.high (hole_before b f i lo) (subst (λ e. (log_of (node_at w.state y).plain l).lost_to < e) (sym v.epoch) accepted))))

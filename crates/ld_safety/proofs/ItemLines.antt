@@ -66,6 +66,7 @@ module _ (c : Config) (s : State) (e : Event) (P : List Line → Type 0)
     trims = λ name q t v b. other OfTrims (lines.Trimmed name t ∷ []) (λ h. cc) (one_of (lines.Trimmed name t));
     drops = λ name q v o. none;
     activates = λ name l r g n i x. other OfNumbers (lines.Active name _ ∷ []) (λ h. cc) (one_of (lines.Active name _));
+    swaps = λ n m l x r q i. quiet_one x q;
     activate_fails = λ name l x g q. quiet_one x q;
     answers = λ f name d m i t v o. reads f name d m i t v o.1;
     polls = λ name d v o. none;

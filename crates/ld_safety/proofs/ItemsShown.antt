@@ -17,7 +17,7 @@ use Rattle.ld_msg.specs.declared.msg.Body.{Body}
 use Rattle.ld_msg.specs.declared.msg.Body.TheVariants as bodies
 use Rattle.ld_msg.specs.Register.{Register, View}
 use Rattle.ld_msg.specs.Reading.{Held, Item, TrimTo, RecordHere, HoleHere, BridgeTo, LossHere, LossTo, page_at, is_hole, hole_held, record_held, end_shown, end_held, bridge_to, trim_held}
-use Rattle.ld_msg.specs.Reader.{Reader, Read, gives, heard, held_with, is_newer, round_of}
+use Rattle.ld_msg.specs.Reader.{Reader, Read, gives, heard, held_with, is_newer, round_of, nothing_read, look_of}
 use Rattle.ld_machine.specs.State.{State}
 use Rattle.ld_machine.specs.Facts.{Happened}
 use Rattle.ld_machine.specs.World.{Made, In}
@@ -25,7 +25,7 @@ use Rattle.ld_machine.specs.Step as Step
 use Rattle.ld_safety.proofs.Lists.{Some_inj, not_none, only, any_in, In-append, cond_both}
 use Rattle.ld_safety.proofs.Members.{In_put}
 use Rattle.ld_safety.proofs.Plans.{end_above_trim}
-use Rattle.ld_safety.proofs.ReaderSteps.{ReadKeeps, end_in}
+use Rattle.ld_safety.proofs.ReaderSteps.{dropped_held, ReadKeeps, end_in}
 use Rattle.ld_safety.proofs.GivenItems.{PageWith, page_with, record_in}
 use Rattle.ld_safety.proofs.Protocol.{Basis, plan_of, Says, OwnSays, PlansOnce, AppendsOnce}
 use Rattle.ld_safety.proofs.Settled.{Acknowledged, TrimFine, CloseFine, ShowFine, ReleaseFine, LngFine, Reached}
@@ -137,15 +137,17 @@ module _ (c : Config) (hs : List Happened) (made : List Made) (sent : List Msg) 
   pub fine_keeps : (looks : ℕ → View) (d : Reader) (y : ℕ) (b : Body) → HeldFine d.held → HeldSaid b → ReadKeeps looks d y b ReadFine
   fine_keeps looks d y b h o = let k = held_fine d y b h o in let start : ReadFine (record { reader = heard d y b; items = []; asks = [] }) = record { held = k; items = λ i j. absurd j } in record {
     starts = start;
-    loss = λ u. gives_fine _ LossHere start tt;
+    ignored = λ u. record { held = h; items = λ i j. absurd j };
+    loss = λ u n. gives_fine (nothing_read (record (heard d y b) { seen = Some (look_of looks d) })) LossHere (record { held = k; items = λ i j. absurd j }) tt;
+    swapped = λ u n. record { held = dropped_held HeldFine (λ z i. absurd i) _ _ k; items = λ i j. absurd j };
     trim = λ a g n t. gives_fine a (TrimTo (trim_held a.reader.held)) g tt;
     record_there = λ a x g n t. gives_fine a (RecordHere x) g (record_fine a.reader.next a.reader.held x g.held t);
     hole_there = λ a g n t. gives_fine a HoleHere g (hole_fine a.reader.next a.reader.held g.held t);
     plug = λ a g n t. gives_fine a LossHere g tt;
     lossy_end = λ a g n t. gives_fine a (LossTo (bridge_to a.reader.next)) g tt;
     bridge = λ a g n t. gives_fine a (BridgeTo (bridge_to a.reader.next)) g (bridge_fine a.reader.next a.reader.held g.held t);
-    confirm = λ a g n m t. record { held = g.held; items = g.items };
-    polls_on = λ a g t. record { held = g.held; items = g.items };
+    confirm = λ a g n m t. record { held = dropped_held HeldFine (λ z i. absurd i) _ _ g.held; items = g.items };
+    polls_on = λ a g t. record { held = dropped_held HeldFine (λ z i. absurd i) _ _ g.held; items = g.items };
   }
 
 -- ---- lines ----

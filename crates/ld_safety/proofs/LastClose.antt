@@ -177,6 +177,7 @@ module _ (c : Config) (s : State) (e : Event) (low : (t : List ℕ) (q : Sequenc
     trims = λ name q t v b. same_all _ refl;
     drops = λ name q v o. one_goes name q (Step.dropped q) (only_state (with_sequencer s name (Step.dropped q))) v.named refl refl refl refl refl;
     activates = λ name l k g n i x. new_one name l k;
+    swaps = λ n m l x r q i. same_all _ refl;
     activate_fails = λ name l x g q. same_all _ refl;
     answers = λ f name d m i t v o. same_all _ refl;
     polls = λ name d v o. same_all _ refl;

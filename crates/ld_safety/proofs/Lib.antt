@@ -34,6 +34,7 @@ pub mod ItemLines
 pub mod GivenItems
 pub mod Protocol
 pub mod Agreement
+pub mod Swaps
 pub mod Registers
 pub mod Votes
 pub mod Settled
@@ -65,6 +66,10 @@ pub mod LastClose
 pub mod Along
 pub mod Holes
 pub mod LossHeard
+pub mod Joins
+pub mod FixedNow
+pub mod LookedUp
+pub mod Answered
 pub mod AlongSteps
 pub mod Agreed
 pub mod ItemFacts
@@ -105,6 +110,7 @@ pub mod LostSaid
 pub mod SentDrawn
 pub mod LogsRise
 pub mod LostShown
+pub mod LostFresh
 pub mod LostSettled
 pub mod LostFull
 pub mod Fallen

@@ -5,12 +5,11 @@ use Rattle.ld_table.specs.Words.{is_in}
 use Rattle.ld_config.specs.declared.config.Config.{Config}
 use Rattle.ld_msg.specs.declared.msg.Body.TheVariants as bodies
 use Rattle.ld_msg.specs.Digest.{Told, digest_lng}
-use Rattle.ld_machine.specs.Config.{set_at}
+use Rattle.ld_machine.specs.Config.{fixed_at}
 use Rattle.ld_machine.specs.Facts.{Happened}
 use Rattle.ld_machine.specs.World.{World, In, from_node}
 use Rattle.ld_safety.proofs.Plans.{lng_has}
 use Rattle.ld_safety.proofs.Protocol.{Basis, plan_of}
-use Rattle.ld_safety.proofs.Plannings.{in_nodes}
 use Rattle.ld_safety.proofs.Along.{Along}
 use Rattle.ld_safety.proofs.LossHeard.{whole_told}
 
@@ -21,7 +20,7 @@ module _ (c : Config) (hs : List Happened) (w : World) (R : Along c hs w) where
     by_told t u = elim ((R.plans l e g f j).digest.told t u).known [
       | inl z ↦ omega arith
       | inr z ↦
-          let v = whole_told c hs w R l e t.node (in_nodes t f.digest (set_at c w.state.register l e) (R.plans l e g f j).digest.nodes u) b d i lo (elim (cases_Bool (is_in t.node d.gone)) [
+          let v = whole_told c hs w R l e t.node (subst (λ x. In t.node (fixed_at c w.state.register l x)) z.epoch (R.pages_of l t.node g z.from z.upto z.trim t.lng z.entries z.page).1) b d i lo (elim (cases_Bool (is_in t.node d.gone)) [
             | inr k ↦ k
             | inl k ↦ absurd (let y = (R.losses l e b d i lo).pages t.node g z.from z.upto z.trim t.lng z.entries k z.page z.epoch in omega arith)
           ]) in

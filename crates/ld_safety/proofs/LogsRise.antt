@@ -2,12 +2,12 @@
 use Rattle.std.proofs.Common.{ℕ, inl, inr, sym, subst}
 use Rattle.ld_config.specs.declared.config.Config.{Config}
 use Rattle.ld_schedule.specs.declared.event.Event.{Event}
-use Rattle.ld_msg.specs.Register.{Register, Epochs, epochs_of, with_epochs, next_epoch, closed_epochs, activate, close}
+use Rattle.ld_msg.specs.Register.{swap, swapped_epochs, Register, Epochs, epochs_of, with_epochs, next_epoch, closed_epochs, activate, close}
 use Rattle.ld_machine.specs.State.{State}
 use Rattle.ld_machine.specs.Step as Step
 use Rattle.ld_safety.proofs.Rising.{Rising, Rising-put}
 use Rattle.ld_safety.proofs.Events.{NamesOnce}
-use Rattle.ld_safety.proofs.RegisterSteps.{Same, activate_leaves, close_leaves, draw_leaves}
+use Rattle.ld_safety.proofs.RegisterSteps.{Same, activate_leaves, close_leaves, draw_leaves, swap_leaves}
 use Rattle.ld_safety.proofs.Registers.{register_kept}
 
 put_rises : (r n : Register) (l : ℕ) (x : Epochs) → Same (with_epochs r l x) n → Rising r.logs → Rising n.logs
@@ -24,4 +24,8 @@ logs_rise c s e N h = register_kept c s e (λ n. Rising n.logs) h
       | inr a ↦ put_rises s.register (close s.register l k y b).register l (closed_epochs (epochs_of s.register l) k y) a.1 h
     ])
     (λ n. elim (draw_leaves s.register n) [ inl a ↦ subst Rising (sym a.0) h | inr a ↦ subst Rising (sym a.0) h ])
+    (λ l upto old new. elim (swap_leaves s.register l upto old new) [
+      | inl a ↦ subst Rising (sym a.0) h
+      | inr a ↦ put_rises s.register (swap s.register l upto old new).register l (swapped_epochs (epochs_of s.register l) upto old new) a h
+    ])
     (λ n q. subst Rising (sym q) h) N

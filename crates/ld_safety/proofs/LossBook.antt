@@ -1,6 +1,6 @@
 -- Of each loss plan as many nodes as there are copies don't serve its epoch, for good, and gave pages of it to no greater ballot; so each plan of a greater ballot is a loss plan too.
-use Rattle.std.proofs.Common.{◌≡◌, ◌≤◌, ◌<◌, ℕ, inl, inr, refl, sym, subst, true, false, ◌&&◌, List, ◌++◌, arith}
-use Rattle.std.proofs.lemmas.Bool.{cases_Bool}
+use Rattle.std.proofs.Common.{◌≡◌, ◌≤◌, ◌<◌, ℕ, inl, inr, refl, sym, subst, true, false, not, ◌&&◌, ◌==◌, List, [], ◌++◌, arith}
+use Rattle.std.proofs.lemmas.Bool.{cases_Bool, and_parts, eqb-true}
 use Rattle.ld_table.specs.Words.{is_in, how_many}
 use Rattle.ld_lsn.specs.Number.{epoch_of, numbered, last_esn}
 use Rattle.ld_ids.specs.declared.set.Spec.{Spec}
@@ -10,16 +10,17 @@ use Rattle.ld_schedule.specs.declared.event.Event.{Event}
 use Rattle.ld_msg.specs.declared.msg.Entry.{Entry}
 use Rattle.ld_msg.specs.declared.msg.Body.TheVariants as bodies
 use Rattle.ld_msg.specs.Register.{epochs_of}
-use Rattle.ld_machine.specs.Config.{spec_of, set_at}
+use Rattle.ld_machine.specs.Config.{fixed_of, fixed_at}
 use Rattle.ld_machine.specs.Facts.{Happened}
 use Rattle.ld_machine.specs.State.{State, node_at}
+use Rattle.ld_msg.specs.Digest.{Told}
 use Rattle.ld_machine.specs.World.{World, Made, In, from_node, gone_nodes, is_gone, is_cut_gone}
 use Rattle.ld_machine.specs.Run.{next_world}
-use Rattle.ld_safety.proofs.Lists.{In-append, not_both}
-use Rattle.ld_safety.proofs.Losses.{enough_shares, filter_passes}
+use Rattle.ld_safety.proofs.Lists.{In-append, not_both, any_in, count_share}
+use Rattle.ld_safety.proofs.Losses.{filter_passes}
 use Rattle.ld_safety.proofs.Events.{NamesOnce}
 use Rattle.ld_safety.proofs.Registers.{Up, Reached, reached_later}
-use Rattle.ld_safety.proofs.Protocol.{Basis, plan_of}
+use Rattle.ld_safety.proofs.Protocol.{Basis, plan_of, whole_in}
 use Rattle.ld_safety.proofs.Settled.{Stays}
 use Rattle.ld_safety.proofs.HoldSteps.{UpFine}
 use Rattle.ld_safety.proofs.LostUnserved.{AllUnserved, unserved_step}
@@ -33,7 +34,7 @@ use Rattle.ld_safety.proofs.DigestKept.{MadeBelow}
 -- of a loss plan: the nodes that had nothing to tell as it was made
 pub record LossKept (c : Config) (s : State) (l e b : ℕ) (d : Basis) : Type 0 where
   pub reached : Reached s.register l e
-  pub gone : (spec_of c s.register l e).r ≤ how_many (λ y. is_in y d.gone) (set_at c s.register l e)
+  pub gone : (fixed_of c s.register l e).r ≤ how_many (λ y. is_in y d.gone) (fixed_at c s.register l e)
   pub unserved : (y : ℕ) → is_in y d.gone ≡ true → AllUnserved (node_at s y) l e
   pub fallen : (y : ℕ) → is_in y d.gone ≡ true → AllFallen (node_at s y) l e
   pub pages : (y g from upto trim lng : ℕ) (es : List Entry) → is_in y d.gone ≡ true → In (from_node l y g (bodies.DigestPage from upto trim lng es)) s.network.sent → epoch_of from ≡ e → g ≤ b
@@ -55,7 +56,7 @@ loss_made c hs made s l e b d D lo n p = record {
   pages = λ y g from upto trim lng es i j q. elim n.why [ inl h ↦ absurd (not_both d.loss lo h.0) | inr h ↦ (let z = D _ j g (inr refl) in let k = h.1.newest in omega arith) ];
 } where
   passed : (y : ℕ) → is_in y d.gone ≡ true → (is_gone l e (node_at s y).plain && is_cut_gone l e (node_at s y).cut) ≡ true
-  passed y i = filter_passes (λ y. is_gone l e (node_at s y).plain && is_cut_gone l e (node_at s y).cut) y (set_at c s.register l e) (subst (λ g. is_in y g ≡ true) n.gone_now i)
+  passed y i = filter_passes (λ y. is_gone l e (node_at s y).plain && is_cut_gone l e (node_at s y).cut) y (nodes_of n.spec) (subst (λ g. is_in y g ≡ true) n.gone_now i)
 
 -- ---- a step ----
 pub loss_step : (c : Config) (w : World) (v : Event) → NamesOnce w.state → ((y : ℕ) → UpFine (node_at w.state y)) → ((y : ℕ) → LostWithin w.state.register (node_at w.state y)) → Up w.state.register (next_world c w v).state.register → Stays c w.state.register (next_world c w v).state.register
@@ -72,15 +73,19 @@ loss_step c w v N ups within u y l e b d h = record {
 no_page_after : (c : Config) (hs : List Happened) (made : List Made) (s : State) (l e a g : ℕ) (f d : Basis) → LossKept c s l e a f → PlanMade c hs s.network.sent made s.register l e g d → d.loss ≡ false → g ≤ a
 no_page_after c hs made s l e a g f d K p lo = elim p.why [
   | inl h ↦
-      let t = enough_shares (spec_of c s.register l e) (λ y. is_in y f.gone) d.digest p.digest.nodes K.gone h.1 in
+      let a = p.whole in let b = K.gone in let n = h.1 in
+      let x = count_share (λ y. is_in y f.gone) (whole_in d.digest) (fixed_at c s.register l e) (omega arith) in
+      let u = any_in (λ (t : Told). (t.node == x.0) && (t.whole && not t.lost)) d.digest x.3 in
+      let k = and_parts (u.0.node == x.0) (u.0.whole && not u.0.lost) u.2 in
+      let w = and_parts u.0.whole (not u.0.lost) k.1 in
       let good = p.good_most in
-      let v = (p.digest.told t.0 t.1).covers (numbered e last_esn) (omega arith) (omega arith) (inr t.2) in
-      K.pages t.0.node g v.from v.upto v.trim v.lng v.entries t.4 v.page v.epoch
+      let v = (p.digest.told u.0 u.1).covers (numbered e last_esn) (omega arith) (omega arith) (inr w.0) in
+      K.pages u.0.node g v.from v.upto v.trim v.lng v.entries (subst (λ y. is_in y f.gone ≡ true) (sym (eqb-true _ _ k.0)) x.2) v.page v.epoch
   | inr h ↦ absurd (not_both d.loss h.0 lo)
 ]
 
 -- all plans of a step are of open epochs' newest ballots, or found what they say
-pub found_below : (c : Config) (hs : List Happened) (made more : List Made) (s : State) → AllLosses c (record { state = s; made = made }) → FoundBelow made → MadeBelow made s.register
+pub found_below : (c : Config) (hs : List Happened) (made more : List Made) (s : State) → AllLosses c (record { state = s; made = made; joined = [] }) → FoundBelow made → MadeBelow made s.register
     → ((l x b : ℕ) (f : Basis) → In (plan_of l x b f) more → NewPlan c hs s.network.sent (gone_nodes s) made s.register l x b f × (b ≤ (epochs_of s.register l).epoch)) → ((l x b : ℕ) (f : Basis) → In (plan_of l x b f) more → PlanMade c hs s.network.sent made s.register l x b f) → FoundBelow (more ++ made)
 found_below c hs made more s K F M new pm l e a g f d i j lt lo = elim (cases_Bool f.loss) [
   | inr t ↦ t

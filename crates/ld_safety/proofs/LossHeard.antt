@@ -9,7 +9,7 @@ use Rattle.ld_msg.specs.declared.msg.What.TheVariants.{Rec, Bridge}
 use Rattle.ld_msg.specs.declared.msg.Entry.{Entry}
 use Rattle.ld_msg.specs.declared.msg.Body.TheVariants as bodies
 use Rattle.ld_msg.specs.Digest.{Told, best, content, is_content, is_bridge, plan_item, plan_end, plan_floor, digest_trim, digest_lng}
-use Rattle.ld_machine.specs.Config.{spec_of, set_at}
+use Rattle.ld_machine.specs.Config.{fixed_of, fixed_at}
 use Rattle.ld_machine.specs.Facts.{Happened}
 use Rattle.ld_machine.specs.World.{World, In, from_node}
 use Rattle.ld_safety.proofs.Lists.{Some_inj, not_both}
@@ -17,13 +17,13 @@ use Rattle.ld_safety.proofs.Plans.{plan_shape, plan_between, content_no_bridge, 
 use Rattle.ld_safety.proofs.LossPlans.{as_loss, loss_twice, loss_content, loss_no_bridge, not_below, floor_not_below, same_number}
 use Rattle.ld_safety.proofs.Protocol.{Basis, plan_of, plan_at, Says, StoredBy, Ends, AppendsOnce, says_once}
 use Rattle.ld_safety.proofs.Agreement.{trim_covers, trim_place_up}
-use Rattle.ld_safety.proofs.Plannings.{WhyMade, LossMade}
+use Rattle.ld_safety.proofs.Plannings.{WhyMade, LossMade, loss_nodes}
 use Rattle.ld_safety.proofs.Along.{Along}
 use Rattle.ld_safety.proofs.Holes.{node_told}
 
 -- ---- nodes in digests of loss plans ----
-module _ (c : Config) (hs : List Happened) (w : World) (R : Along c hs w) (l e y : ℕ) (member : In y (set_at c w.state.register l e)) where
-  made_so : (d : Basis) → d.loss ≡ true → WhyMade (spec_of c w.state.register l e) d → LossMade (spec_of c w.state.register l e) d
+module _ (c : Config) (hs : List Happened) (w : World) (R : Along c hs w) (l e y : ℕ) (member : In y (fixed_at c w.state.register l e)) where
+  made_so : (d : Basis) → d.loss ≡ true → WhyMade (fixed_of c w.state.register l e) d → LossMade (fixed_of c w.state.register l e) d
   made_so d lo (inl h) = absurd (not_both d.loss lo h.0)
   made_so d lo (inr h) = h.1
 
@@ -31,7 +31,7 @@ module _ (c : Config) (hs : List Happened) (w : World) (R : Along c hs w) (l e y
   pub whole_told : (g : ℕ) (d : Basis) → In (plan_of l e g d) w.made → d.loss ≡ true → is_in y d.gone ≡ false → (t : Told) × In t d.digest × (t.node ≡ y) × (t.whole ≡ true)
   whole_told g d i lo ng =
       let p = R.plans l e g d i in
-      let t = node_told y d.digest (set_at c w.state.register l e) p.digest.nodes member in
+      let t = node_told y d.digest (fixed_at c w.state.register l e) (loss_nodes c hs w.state.network.sent w.made w.state.register l e g d p lo) member in
       elim ((made_so d lo p.why).told t.0 t.1) [ inl k ↦ (t.0, t.1, t.2, k.0) | inr k ↦ absurd (not_both (is_in y d.gone) (subst (λ z. is_in z d.gone ≡ true) t.2 k) ng) ]
 
   -- it had so as each lesser loss plan was made
@@ -50,7 +50,7 @@ module _ (c : Config) (hs : List Happened) (w : World) (R : Along c hs w) (l e y
 module _ (c : Config) (hs : List Happened) (w : World) (R : Along c hs w) (A : AppendsOnce hs) (l n b y : ℕ) (x : What) (nb : x ≡ Bridge → ⊥) (small : esn_of n < last_esn) (says : Says hs w.made l b n x)
     (found_there : (d : Basis) → In (plan_of l (epoch_of n) b d) w.made → d.loss ≡ false)
     (found : (g : ℕ) (d : Basis) → In (plan_of l (epoch_of n) g d) w.made → d.loss ≡ false → b < g → (plan_at (epoch_of n) d (esn_of n) ≡ Some x) ⊎ (esn_of n ≤ plan_floor (epoch_of n) d.digest))
-    (member : In y (set_at c w.state.register l (epoch_of n))) (stored : StoredBy w.state.network.sent l y n b) where
+    (member : In y (fixed_at c w.state.register l (epoch_of n))) (stored : StoredBy w.state.network.sent l y n b) where
   -- what a loss plan says of the number
   abbrev pub Heard : Basis → Type 0
   Heard d = (esn_of n ≤ plan_floor (epoch_of n) d.digest) ⊎ ((plan_at (epoch_of n) d (esn_of n) ≡ Some (as_loss x)) × (esn_of n < plan_end (epoch_of n) d.digest))

@@ -14,11 +14,11 @@ use Rattle.ld_transcript.specs.declared.line.Line.TheVariants as lines
 use Rattle.ld_ids.specs.declared.set.Spec.{Spec}
 use Rattle.ld_msg.specs.declared.msg.Summary.{Summary}
 use Rattle.ld_msg.specs.declared.msg.Body.{Body}
-use Rattle.ld_msg.specs.Register.{Register, View, Epochs, Changed, no_epochs, epochs_of, with_epochs, next_epoch, closed_epochs, activate, close, draw}
+use Rattle.ld_msg.specs.Register.{swap, swapped_epochs, Register, View, Epochs, Changed, no_epochs, epochs_of, with_epochs, next_epoch, closed_epochs, activate, close, draw}
 use Rattle.ld_msg.specs.Sequencer.{Sequencer, Acts, Recovery}
 use Rattle.ld_machine.specs.Facts.{Happened, active_line, activates_log, has_epoch}
 use Rattle.ld_safety.proofs.Lists.{any_in, any_from, In_left}
-use Rattle.ld_safety.proofs.RegisterSteps.{Same, activate_leaves, close_leaves, draw_leaves, epochs_put, epochs_same}
+use Rattle.ld_safety.proofs.RegisterSteps.{Same, activate_leaves, close_leaves, draw_leaves, swap_leaves, epochs_put, epochs_same}
 use Rattle.ld_safety.proofs.SequencerSteps.{Closing, Acting, Retrying, stored_epoch}
 use Rattle.ld_safety.proofs.LostRounds.{found_in}
 
@@ -62,6 +62,9 @@ module _ (c : Config) (hs : List Happened) where
       | inr a ↦ h l k z (sym a.1 ∙ f)
     ]) s.1 h
   ]
+
+  pub swap_closed : (r : Register) (l upto old new : ℕ) → ClosedActive r → ClosedActive (swap r l upto old new).register
+  swap_closed r l upto old new h = elim (swap_leaves r l upto old new) [ inl s ↦ same_closed r (swap r l upto old new).register s h | inr s ↦ put_closed r (swap r l upto old new).register l (swapped_epochs (epochs_of r l) upto old new) (λ e y f. h l e y f) s h ]
 
   pub activate_closed : (r : Register) (l : ℕ) (p : Spec) → ClosedActive r → ClosedActive (activate r l p).register
   activate_closed r l p h = elim (activate_leaves r l p) [ inl s ↦ same_closed r (activate r l p).register s h | inr s ↦ put_closed r (activate r l p).register l (next_epoch (epochs_of r l) p) (λ e y f. h l e y f) s.1 h ]

@@ -32,7 +32,7 @@ use Rattle.ld_safety.proofs.Base.{Base, counts_of}
 use Rattle.ld_safety.proofs.Carried as carried
 use Rattle.ld_safety.proofs.Given.{AnyEpoch, AnyShown, AnyReleased, SmallGood, GivenEntry, GivenTrim, GivenSummary}
 use Rattle.ld_safety.proofs.GivenSteps.{Given, BaseGiven, given_kept}
-use Rattle.ld_safety.proofs.LostActive.{ClosedActive, AllActive, epoch_grows, acting_closed, retrying_closed, activate_closed, draw_closed, logs_closed, put_active}
+use Rattle.ld_safety.proofs.LostActive.{ClosedActive, AllActive, epoch_grows, acting_closed, retrying_closed, swap_closed, activate_closed, draw_closed, logs_closed, put_active}
 
 -- a sequencer recovers epochs below its own alone
 recovers_below : (c : Config) (hs : List Happened) (s : State) → Given c hs s → (name : List ℕ) (q : Sequencer) → find_named name s.sequencers ≡ Some q → (v : Recovery) → q.recovery ≡ Some v → v.epoch < q.epoch
@@ -121,6 +121,7 @@ module _ (c : Config) (hs : List Happened) (w : World) (e : Event) (B : Base c h
     trims = λ name q t v b. quietly _ refl refl;
     drops = λ name q v o. sequencer_only _ name q (Step.dropped q) refl refl v.named refl refl;
     activates = λ name l r g n i x. activates name l r i x;
+    swaps = λ n m l x r q i. register_only _ _ refl refl (λ gs h. swap_closed c gs w.state.register l _ m n h);
     activate_fails = λ name l x g q. register_only _ _ refl refl (λ gs h. activate_closed c gs w.state.register l (Step.spec_set c w.state l) h);
     answers = λ f name d m i t v o. quietly _ refl refl;
     polls = λ name d v o. quietly _ refl refl;

@@ -1,5 +1,5 @@
 -- A confirmation after a step lasted through it, or begins in it: then what has happened since its asks is known.
-use Rattle.std.proofs.Common.{◌≡◌, ◌∙◌, ◌⊎◌, ◌≤◌, ◌<◌, ℕ, inl, inr, refl, ap, sym, subst, true, ◌&&◌, ◌==◌, List, [], ◌∷◌, length, Option, Some, None, arith}
+use Rattle.std.proofs.Common.{◌≡◌, ◌∙◌, ◌⊎◌, ◌≤◌, ◌<◌, ℕ, inl, inr, refl, ap, sym, subst, Bool, true, false, not, ◌&&◌, ◌==◌, List, [], ◌∷◌, length, Option, Some, None, arith}
 use Rattle.std.proofs.lemmas.Bool.{and_parts, eqb-true}
 use Rattle.ld_table.specs.Table.{find}
 use Rattle.ld_table.specs.Named.{find_named, put_named}
@@ -12,8 +12,8 @@ use Rattle.ld_msg.specs.declared.msg.Who.TheVariants as whos
 use Rattle.ld_msg.specs.declared.msg.Body.{Body}
 use Rattle.ld_msg.specs.declared.msg.Body.TheVariants as bodies
 use Rattle.ld_msg.specs.Reading.{Held, lost_held, lost_generation, is_loss, is_lost_for, leaves_open, knows_end_above, within}
-use Rattle.ld_msg.specs.Reader.{Reader, Confirmation, opened, polled, on_answer, seen_nodes, has_seen}
-use Rattle.ld_msg.specs.Register.{View, generation_of, epochs_of}
+use Rattle.ld_msg.specs.Reader.{Reader, Confirmation, shown_swaps, sees_swap, opened, polled, on_answer, seen_nodes, has_seen}
+use Rattle.ld_msg.specs.Register.{View, look, generation_of, epochs_of}
 use Rattle.ld_machine.specs.Config.{looks_at, set_at}
 use Rattle.ld_machine.specs.State.{State, finish, posted}
 use Rattle.ld_machine.specs.World.{World, In, Sent}
@@ -23,7 +23,8 @@ use Rattle.ld_safety.proofs.Lists.{Some_inj, not_none, In-append, any_in, cond_b
 use Rattle.ld_safety.proofs.Members.{find_in, In_filter}
 use Rattle.ld_safety.proofs.ReaderLogs.{Apart}
 use Rattle.ld_safety.proofs.Events.{NamesOnce}
-use Rattle.ld_safety.proofs.Registers.{OnlyClosed, follows, specs_stay}
+use Rattle.ld_safety.proofs.Registers.{OnlyClosed, follows}
+use Rattle.ld_safety.proofs.Joins.{counts_step, swap_or_kept, swap_readers}
 use Rattle.ld_safety.proofs.Generations.{back_here}
 use Rattle.ld_safety.proofs.LostReads.{SeenBy, ReadOn, read_on}
 use Rattle.ld_safety.proofs.LostSeen.{AllShow, Shows, seen_shows, shows_later}
@@ -109,6 +110,8 @@ module _ (c : Config) (s : State) where
     pub seen : has_seen (home_epoch x.next) view ≡ true
     pub asked : v.asked ≡ lost_held x.next (within (seen_nodes view) x.held)
     pub loss : is_loss x.next (seen_nodes view) x.held ≡ true
+    pub same : sees_swap view (looks_at c s.register reader.log (home_epoch x.next)) ≡ false
+    pub now : x.seen ≡ Some (looks_at c s.register reader.log (home_epoch x.next))
     pub asks : (m : Msg) → In m ms → (y : ℕ) × (m.to ≡ whos.Node y) × (m.from ≡ whos.Reader x.number) × (m.log ≡ x.log) × (m.body ≡ bodies.ReadAsk v.round x.next)
 
   abbrev pub Came : List Msg → List (List ℕ × Reader) → Type 0
@@ -140,6 +143,8 @@ module _ (c : Config) (s : State) where
         seen = n.seen;
         asked = n.asked;
         loss = n.loss;
+        same = n.same;
+        now = n.now;
         asks = asks_new a.reader v a.asks n.asks;
       })
     ])
@@ -191,15 +196,34 @@ module _ (c : Config) (w : World) (e : Event) (N : NamesOnce w.state) (A : Apart
       subst (λ y. g ≤ generation_of (next_world c w e).state.register y) o.node
       (Q.generations (answer_to o.answer.0 x o.answer.1.body) x.number o.number o.round g o.end (Q.held t x o.answer f o.there) refl o.is)
 
+  not_not : (b : Bool) → not b ≡ false → b ≡ true
+  not_not true q = refl
+  not_not false q = absurd cc
+
+  -- a step in which a confirmation begins swaps nothing
+  still : (l : ℕ) → (epochs_of (Step.happens c w.state e).state.register l).swaps ≡ (epochs_of w.state.register l).swaps
+  still l = elim (swap_or_kept c w.state e N) [
+    | inl a ↦ (a l).swaps
+    | inr k ↦ absurd (let g : find_named t w.state.readers ≡ Some x = ap (find_named t) (sym (swap_readers c w.state k.node k.other k.log)) ∙ (ap (λ v. find_named t (Step.happens c w.state v).state.readers) (sym k.event) ∙ (ap (find_named t) (sym (same_readers (Step.happens c w.state e))) ∙ f)) in
+        let y = ap (λ (z : Reader). z.round) (Some_inj (sym n.named ∙ g)) in let a = n.round in let b = n.higher in omega arith)
+  ]
+
   -- the nodes that the last look showed are those of the number's epoch
   pub new_set : OnlyClosed w.state.register → AllShow c w.state.register w.state.readers → (0 < home_epoch x.next) × (home_epoch x.next ≤ (epochs_of (next_world c w e).state.register x.log).epoch) × (seen_nodes n.view ≡ set_at c (next_world c w e).state.register x.log (home_epoch x.next))
-  unfolding finish
+  unfolding finish look
   new_set O S =
       let p : 0 < home_epoch x.next = loss_positive (next_world c w e) Q t x f x.next (seen_nodes n.view) n.loss in
       let u = follows c w.state e N O in
-      let k : Shows c (next_world c w e).state.register n.reader.log n.view = shows_later c w.state.register (next_world c w e).state.register n.reader.log n.view u.0 (specs_stay c w.state e N) (seen_shows c w.state.register n.reader n.view (S t n.reader n.named) n.came) in
+      let k : Shows c (next_world c w e).state.register n.reader.log n.view = shows_later c w.state.register (next_world c w e).state.register n.reader.log n.view u.0 (counts_step c w.state e N u.0 n.reader.log) (seen_shows c w.state.register n.reader n.view (S t n.reader n.named) n.came) in
       let h : Shows c (next_world c w e).state.register x.log n.view = subst (λ l. Shows c (next_world c w e).state.register l n.view) (sym n.log) k in
-      (p, h.epoch (home_epoch x.next) n.seen, h.nodes (home_epoch x.next) p n.seen)
+      (p, h.epoch (home_epoch x.next) n.seen, h.nodes (home_epoch x.next) p n.seen (equal n.view n.same ∙ (sym (still n.reader.log) ∙ ap (λ l. (epochs_of (Step.happens c w.state e).state.register l).swaps) (sym n.log)))) where
+        equal : (o : Option View) → sees_swap o (looks_at c w.state.register n.reader.log (home_epoch x.next)) ≡ false → shown_swaps o ≡ (epochs_of w.state.register n.reader.log).swaps
+        equal o q = eqb-true _ _ (not_not (shown_swaps o == (epochs_of w.state.register n.reader.log).swaps) q)
+
+  -- its last look showed the count of swaps as it is
+  pub new_equal : shown_swaps x.seen ≡ (epochs_of (next_world c w e).state.register x.log).swaps
+  unfolding finish look
+  new_equal = ap shown_swaps n.now ∙ sym (ap (λ l. (epochs_of (Step.happens c w.state e).state.register l).swaps) n.log ∙ still n.reader.log)
 
   pub since_new : Since (next_world c w e) x.number x.log x.next v.round v.asked (next_world c w e)
   since_new = record {

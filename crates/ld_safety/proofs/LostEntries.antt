@@ -11,7 +11,7 @@ use Rattle.ld_msg.specs.declared.msg.Entry.{Entry}
 use Rattle.ld_msg.specs.declared.msg.Summary.{Summary}
 use Rattle.ld_msg.specs.Digest.{best, content, is_bridge, plan_end, plan_floor}
 use Rattle.ld_op.specs.Plain.{Plain, Log, log_of, is_lost}
-use Rattle.ld_machine.specs.Config.{spec_of, set_at}
+use Rattle.ld_machine.specs.Config.{fixed_of, fixed_at}
 use Rattle.ld_machine.specs.State.{node_at}
 use Rattle.ld_machine.specs.Facts.{Happened}
 use Rattle.ld_machine.specs.World.{World, In, MayHold}
@@ -140,7 +140,7 @@ module _ (c : Config) (hs : List Happened) (w : World) (B : BaseGiven c hs w × 
         | inr u ↦ absurd (let x = above tr up in omega arith)
       ]
     ]
-    by_fixed g d i lo lt (inr ch) = agrees hs w.made w.state.network.sent (spec_of c w.state.register l) (once c hs w B.0.0 B.1) B.1.once l (λ e. Unit {0}) (λ e a g d f i j lt lo. B.1.last l e a g d f i j lt lo)
+    by_fixed g d i lo lt (inr ch) = agrees hs w.made w.state.network.sent (fixed_of c w.state.register l) (once c hs w B.0.0 B.1) B.1.once l (λ e. Unit {0}) (λ e a g d f i j lt lo. B.1.last l e a g d f i j lt lo)
         (λ e a f u j lo. plan_facts c hs w.state.network.sent w.made w.state.register l e a f (B.1.plans l e a f j) lo) n z.ballot g Item d tt small lt i lo ch says_so (content_no_bridge k.plan.basis.loss _)
         (λ q. found_no_plug _ (ap (λ v. content v (best (numbered (epoch_of n) (esn_of n)) k.plan.basis.digest)) (sym h.found) ∙ q))
 
@@ -171,7 +171,7 @@ module _ (c : Config) (hs : List Happened) (w : World) (B : BaseGiven c hs w × 
         | inr (inr e) ↦ elim (cases_lt (log_of p l).lost_to (epoch_of n)) [ inr a ↦ inl (inr a) | inl a ↦ inr (λ h. elim h [ inl u ↦ omega arith | inr u ↦ omega arith ]) ]
       ]
 
-      member : In y (set_at c w.state.register l (epoch_of n))
+      member : In y (fixed_at c w.state.register l (epoch_of n))
       member = (B.1.stored_of l y n b stored).1
 
       -- it had something to tell

@@ -1,9 +1,9 @@
 -- Along every run nodes keep what was settled; so losses happened, and stood at the confirming asks.
-use Rattle.std.proofs.Common.{◌≡◌, ◌∙◌, ◌⊎◌, ◌≤◌, ◌<◌, ℕ, ◌-◌, inl, inr, refl, ap, sym, subst, Bool, true, false, ◌==◌, nat_lt, nat_le, if◌then◌else◌, List, [], Some, arith}
-use Rattle.std.proofs.lemmas.Bool.{cases_Bool, cases_lt, and_parts, and_from, eqb-true, eqb-false, leb-true, leb-false, le-leb, lt-ltb, cases_order}
+use Rattle.std.proofs.Common.{◌≡◌, ◌∙◌, ◌⊎◌, ◌≤◌, ◌<◌, ℕ, inl, inr, refl, ap, sym, subst, Bool, true, false, nat_le, if◌then◌else◌, List, [], Some, arith}
+use Rattle.std.proofs.lemmas.Bool.{cases_Bool, cases_lt, leb-true, leb-false, le-leb}
 use Rattle.ld_table.specs.Table.{find}
 use Rattle.ld_table.specs.Words.{how_many}
-use Rattle.ld_lsn.specs.Number.{epoch_of, esn_of, numbered, home_epoch, is_epoch_end, last_esn}
+use Rattle.ld_lsn.specs.Number.{epoch_of, esn_of, numbered, home_epoch, last_esn}
 use Rattle.ld_config.specs.declared.config.Config.{Config}
 use Rattle.ld_config.specs.Bounds.{IsInBounds}
 use Rattle.ld_schedule.specs.declared.event.Event.{Event}
@@ -11,7 +11,7 @@ use Rattle.ld_msg.specs.declared.msg.Summary.{Summary}
 use Rattle.ld_msg.specs.Register.{epochs_of}
 use Rattle.ld_msg.specs.Reader.{Reader}
 use Rattle.ld_op.specs.Plain.{Plain, log_of}
-use Rattle.ld_machine.specs.Config.{spec_of, set_at}
+use Rattle.ld_machine.specs.Config.{fixed_of, fixed_at}
 use Rattle.ld_machine.specs.State.{node_at}
 use Rattle.ld_machine.specs.Facts.{Happened}
 use Rattle.ld_machine.specs.Losses.{Completes}
@@ -20,8 +20,8 @@ use Rattle.ld_machine.specs.World.{World, In, begin, MayHold, settled, has_told,
 use Rattle.ld_machine.specs.Invariant.{Closed, Ready}
 use Rattle.ld_machine.specs.Run.{Takes, history, trace, world_after}
 use Rattle.ld_machine.specs.Step as Step
-use Rattle.ld_safety.specs.Lost.{CopiesWereLost, LossesWereTold, has_copied}
-use Rattle.ld_safety.proofs.Lists.{Some_inj, not_both}
+use Rattle.ld_safety.specs.Lost.{CopiesWereLost, LossesWereTold}
+use Rattle.ld_safety.proofs.Lists.{Some_inj}
 use Rattle.ld_safety.proofs.Members.{find_in}
 use Rattle.ld_safety.proofs.Traces.{Keeps, later, both_kept, beside_kept}
 use Rattle.ld_safety.proofs.Lines.{line_of}
@@ -39,11 +39,14 @@ use Rattle.ld_safety.proofs.CopiesStand.{has_plan, once, said_at, clean_at}
 use Rattle.ld_safety.proofs.Closes.{how}
 use Rattle.ld_safety.proofs.Retained.{at_nodes}
 use Rattle.ld_safety.proofs.LostTrims.{TrimsTold, trims_kept}
-use Rattle.ld_safety.proofs.LostEntries.{Accounts, above, below, item_at, good_accounts, close_accounts, lost_accounts}
+use Rattle.ld_safety.proofs.LostEntries.{Accounts, above, below, item_at, good_accounts, close_accounts, lost_accounts, fallen_accounts}
+use Rattle.ld_safety.proofs.Fallen.{Fallen}
+use Rattle.ld_safety.proofs.LostTold.{told_copied}
+use Rattle.ld_safety.proofs.Joins.{Joins}
 use Rattle.ld_safety.proofs.LostPlans.{Telling, PlansLacked, lacked_kept, made_of_lost}
 use Rattle.ld_safety.proofs.LostLines.{LossGiven, losses_given}
 use Rattle.ld_safety.proofs.LostPlugs.{LossPlan, told_planned}
-use Rattle.ld_safety.proofs.LostPages.{CleanKept}
+use Rattle.ld_safety.proofs.LostPages.{CleanKept, place_in}
 use Rattle.ld_safety.proofs.LostLaw.{LossesTold}
 use Rattle.ld_safety.proofs.LostSettled as settled_losses
 use Rattle.ld_safety.proofs.Tiles as tiles
@@ -56,18 +59,6 @@ use Rattle.ld_safety.proofs.Numbers as numbers
 -- epoch 0 ends before its place 1
 no_place : (e s end t : ℕ) → e ≡ 0 → end ≡ 1 → t < s → s < numbered e end → ⊥
 no_place e s end t a b c d = omega arith
-
--- a number below an end of its epoch stands at a place of it
-place_in : (s k : ℕ) → 0 < home_epoch s → s < numbered (home_epoch s) k → k ≤ last_esn → (home_epoch s ≡ epoch_of s) × (0 < esn_of s) × (esn_of s < k)
-place_in s k = by_end (is_epoch_end s) refl where
-  by_end : (b : Bool) → is_epoch_end s ≡ b → 0 < (if b then epoch_of s - 1 else epoch_of s) → s < numbered (if b then epoch_of s - 1 else epoch_of s) k → k ≤ last_esn → ((if b then epoch_of s - 1 else epoch_of s) ≡ epoch_of s) × (0 < esn_of s) × (esn_of s < k)
-  by_end true t p h b = absurd (let u = and_parts (esn_of s == 0) (nat_lt 0 (epoch_of s)) t in let v = eqb-true (esn_of s) 0 u.0 in omega arith)
-  by_end false t p h b = (refl, above, omega arith) where
-    above : 0 < esn_of s
-    above = elim (cases_Bool (esn_of s == 0)) [
-      | inl u ↦ absurd (not_both (is_epoch_end s) (and_from (esn_of s == 0) (nat_lt 0 (epoch_of s)) u (lt-ltb 0 (epoch_of s) p)) t)
-      | inr u ↦ let v = eqb-false (esn_of s) 0 u in elim (cases_order (esn_of s) 0) [ inl q ↦ absurd (v q) | inr (inl q) ↦ absurd (omega arith) | inr (inr q) ↦ q ]
-    ]
 
 number_is : (e s : ℕ) → e ≡ epoch_of s → numbered e (esn_of s) ≡ s
 number_is e s q = omega arith
@@ -111,10 +102,10 @@ module _ (c : Config) (hs : List Happened) (w : World) (B : BaseGiven c hs w × 
 
   -- of the number's own epoch
   abbrev EnoughHere : ℕ → ℕ → Summary → ℕ → Type 0
-  EnoughHere l s z e = (spec_of c w.state.register l e).r ≤ how_many (has_copied w l s z) (set_at c w.state.register l e)
+  EnoughHere l s z e = (fixed_of c w.state.register l e).r ≤ how_many (told_copied w l s z) (fixed_at c w.state.register l e)
 
   abbrev Copies_in : ℕ → ℕ → Summary → Bool → Type 0
-  Copies_in l s z b = (spec_of c w.state.register l (epoch_of s)).r ≤ how_many (λ y. if b then has_told w (says_stored s) l (epoch_of s) y else has_told w (says_settled s) l z.ballot y) (set_at c w.state.register l (epoch_of s))
+  Copies_in l s z b = (fixed_of c w.state.register l (epoch_of s)).r ≤ how_many (λ y. if b then has_told w (says_stored s) l (epoch_of s) y else has_told w (says_settled s) l z.ballot y) (fixed_at c w.state.register l (epoch_of s))
 
   at_good : (l s : ℕ) (z : Summary) (b : Bool) → nat_le (esn_of s) z.lng ≡ b → Copies_in l s z b → EnoughHere l s z (epoch_of s)
   at_good l s z b t h = subst (Copies_in l s z) (sym t) h
@@ -140,19 +131,23 @@ module _ (c : Config) (hs : List Happened) (w : World) (B : BaseGiven c hs w × 
     at_home p h = subst (λ e. Accounts p l e s) (sym i.home) h
 
     -- who answered accounts for the number
-    pub kept_here : (y : ℕ) (p : Plain) → has_copied w l s z y ≡ true → MayHold (node_at w.state y) p → Accounts p l (home_epoch s) s
+    pub kept_here : (y : ℕ) (p : Plain) → told_copied w l s z y ≡ true → MayHold (node_at w.state y) p → Accounts p l (home_epoch s) s
     kept_here y p t m = at_home p (by_good (nat_le (esn_of s) z.lng) refl t) where
       by_good : (b : Bool) → nat_le (esn_of s) z.lng ≡ b → (if b then has_told w (says_stored s) l (epoch_of s) y else has_told w (says_settled s) l z.ballot y) ≡ true → Accounts p l (epoch_of s) s
       by_good true q h = good_accounts c hs w B T l s z i.closed i.place i.below (leb-true _ _ q) y p m (told_stored w.state.network.sent l s (epoch_of s) y h)
       by_good false q h = close_accounts c hs w B T l s z i.closed i.place i.below lo (leb-false _ _ q) y p m (told_settled w.state.network.sent l s z.ballot y h)
 
+    -- so does who took a place in the epoch
+    pub joined_here : (y : ℕ) (p : Plain) → Joins w.joined l (home_epoch s) y → MayHold (node_at w.state y) p → Accounts p l (home_epoch s) s
+    joined_here y p j m = at_home p (fallen_accounts c hs w B T l s z i.closed i.place i.below y p m (subst (Fallen p l) i.home ((B.1.joined l (home_epoch s) y j).fallen p m)))
+
     -- as many answered as there are copies, or each node accounts for it
-    pub settled_here : EnoughHere l s z (home_epoch s) ⊎ ((y : ℕ) (p : Plain) → In y (set_at c w.state.register l (home_epoch s)) → MayHold (node_at w.state y) p → Accounts p l (home_epoch s) s)
+    pub settled_here : EnoughHere l s z (home_epoch s) ⊎ ((y : ℕ) (p : Plain) → In y (fixed_at c w.state.register l (home_epoch s)) → MayHold (node_at w.state y) p → Accounts p l (home_epoch s) s)
     settled_here = elim (cases_lt z.lng (esn_of s)) [
       | inr low ↦ inl (home_enough (good_enough l s z i low))
       | inl up ↦ elim i.closed.plan.how [
         | inl h ↦ inl (home_enough (at_good l s z false (above_good l s z up) (h.copies s refl (above c hs w B T l s z i.closed i.place i.below lo up) (let v = below c hs w B T l s z i.closed i.place i.below in omega arith))))
-        | inr h ↦ inr (λ y p j m. at_home p (elim (h.settled s refl (above c hs w B T l s z i.closed i.place i.below lo up) (let v = below c hs w B T l s z i.closed i.place i.below in omega arith) y (subst (λ e. In y (set_at c w.state.register l e)) i.home j)) [
+        | inr h ↦ inr (λ y p j m. at_home p (elim (h.settled s refl (above c hs w B T l s z i.closed i.place i.below lo up) (let v = below c hs w B T l s z i.closed i.place i.below in omega arith) y (subst (λ e. In y (fixed_at c w.state.register l e)) i.home j)) [
           | inl t ↦ close_accounts c hs w B T l s z i.closed i.place i.below lo up y p m (told_settled w.state.network.sent l s z.ballot y t)
           | inr t ↦ lost_accounts c hs w B T l s z i.closed i.place i.below y p m t
         ]))
@@ -173,10 +168,13 @@ module _ (c : Config) (hs : List Happened) (w : World) (B : BaseGiven c hs w × 
 -- nodes keep what was settled
 pub clean_kept : (c : Config) (hs : List Happened) (w : World) → (BaseGiven c hs w × Along c hs w) × TrimsTold w → CleanKept c w
 clean_kept c hs w (B, T) = record {
+  follow = B.1.follow;
+  each = B.1.each;
   bounded = bounded_here c hs w B;
   summaries = summaries_here c hs w B;
   tables = λ y l p m. let F = (at_nodes c hs w B.1 y p m).fine l in (F.rising, F.numbers);
   copies = λ y l s z p f lo hi t m. kept_here c hs w B T l s z f lo hi y p t m;
+  joined = λ y l s z p f lo hi j m. joined_here c hs w B T l s z f lo hi y p j m;
   settled = λ l s z f lo hi. settled_here c hs w B T l s z f lo hi;
   enough = λ l s z f lo hi h. enough_here c hs w B T l s z f lo hi h;
   how = λ l e z f p. how c hs w B l e z (closed_by c hs w B l e z f p);
@@ -196,7 +194,7 @@ settling_clean : (c : Config) (hs : List Happened) (w : World) → Settling c hs
 settling_clean c hs w S = clean_kept c hs w S.1.0
 
 -- an epoch that was handed out has as many nodes as it has copies
-settling_fine : (c : Config) → IsInBounds c → (hs : List Happened) (w : World) → Settling c hs w → (l e : ℕ) → Reached w.state.register l e → SpecFine (spec_of c w.state.register l e)
+settling_fine : (c : Config) → IsInBounds c → (hs : List Happened) (w : World) → Settling c hs w → (l e : ℕ) → Reached w.state.register l e → SpecFine (fixed_of c w.state.register l e)
 settling_fine c b hs w S l e o = fixed_fine c b w.state.register l e S.1.1.1.1 (S.0.0.1.0.1.0.1 l (let a = o.0 in let z = o.1 in omega arith)) o
 
 told_lost : (c : Config) → LossesTold c (Settling c)

@@ -5,7 +5,7 @@ use Rattle.ld_table.specs.Table.{find}
 use Rattle.ld_ids.specs.Set.{members}
 use Rattle.ld_config.specs.declared.config.Config.{Config}
 use Rattle.ld_schedule.specs.declared.event.Event.{Event}
-use Rattle.ld_msg.specs.Register.{Register, Epochs, activate, close, draw, with_epochs, next_epoch, closed_epochs, no_epochs, epochs_of, empty_register}
+use Rattle.ld_msg.specs.Register.{swap, swapped_epochs, Register, Epochs, activate, close, draw, with_epochs, next_epoch, closed_epochs, no_epochs, epochs_of, empty_register}
 use Rattle.ld_machine.specs.Config.{has_log}
 use Rattle.ld_machine.specs.Disk.{Node, new_node}
 use Rattle.ld_machine.specs.State.{new_nodes, finish, node_at}
@@ -18,7 +18,7 @@ use Rattle.ld_safety.proofs.Base.{Base, base_kept}
 use Rattle.ld_safety.proofs.Steps.{told}
 use Rattle.ld_safety.proofs.Events.{NamesOnce, dispatch}
 use Rattle.ld_safety.proofs.Rising.{Rising, Rising-put}
-use Rattle.ld_safety.proofs.RegisterSteps.{Same, epochs_put, activate_leaves, close_leaves, draw_leaves}
+use Rattle.ld_safety.proofs.RegisterSteps.{Same, epochs_put, activate_leaves, close_leaves, draw_leaves, swap_leaves}
 use Rattle.ld_safety.proofs.Registers.{register_kept}
 use Rattle.ld_safety.proofs.LostNodes.{LostIn}
 use Rattle.ld_safety.proofs.LostStanding.{Stands, new_stands}
@@ -46,6 +46,7 @@ fine_step c w e N h = let r = w.state.register in register_kept c w.state e (λ 
     (λ l g. let p = Step.spec_set c w.state l in elim (activate_leaves r l p) [ inl a ↦ same_fine c r (activate r l p).register a.0 h | inr a ↦ put_fine c r (activate r l p).register l (next_epoch (epochs_of r l) p) (λ z. g) a.1 h ])
     (λ l k y b. elim (close_leaves r l k y b) [ inl a ↦ same_fine c r (close r l k y b).register a.0 h | inr a ↦ put_fine c r (close r l k y b).register l (closed_epochs (epochs_of r l) k y) (h.1 l) a.1 h ])
     (λ n. elim (draw_leaves r n) [ inl a ↦ same_fine c r (draw r n).register a.0 h | inr a ↦ same_fine c r (draw r n).register a.0 h ])
+    (λ l upto old new. elim (swap_leaves r l upto old new) [ inl a ↦ same_fine c r (swap r l upto old new).register a.0 h | inr a ↦ put_fine c r (swap r l upto old new).register l (swapped_epochs (epochs_of r l) upto old new) (h.1 l) a h ])
     (λ n q. same_fine c r n q h) N
 
 start_fine : (c : Config) → LogsFine c empty_register

@@ -11,11 +11,12 @@ use Rattle.ld_msg.specs.declared.msg.Summary.{Summary}
 use Rattle.ld_msg.specs.Reading.{Held, lacks, is_loss}
 use Rattle.ld_msg.specs.declared.msg.Msg.{Msg}
 use Rattle.ld_msg.specs.declared.msg.Who.TheVariants as whos
-use Rattle.ld_msg.specs.Reader.{Reader, heard}
+use Rattle.ld_msg.specs.Reader.{Reader, heard, shown_swaps}
+use Rattle.ld_msg.specs.Register.{epochs_of}
 use Rattle.ld_ids.specs.Choice.{nodes_of}
 use Rattle.ld_ids.specs.declared.set.Spec.{Spec}
 use Rattle.ld_machine.specs.Config.{first_spec, spec_of, set_at}
-use Rattle.ld_machine.specs.Facts.{Happened, Lost, standing, stands_for, stands_lost, spec_fixed, has_epoch}
+use Rattle.ld_machine.specs.Facts.{Happened, Lost, standing, stands_for, stands_lost, spec_now, has_epoch}
 use Rattle.ld_machine.specs.Safe.{LossesHappened, Lacking}
 use Rattle.ld_machine.specs.World.{World, In, Sent}
 use Rattle.ld_machine.specs.Step as Step
@@ -26,8 +27,7 @@ use Rattle.ld_safety.specs.Lost.{has_copied}
 use Rattle.ld_safety.proofs.Lists.{count_mono, how_many-yes}
 use Rattle.ld_safety.proofs.Traces.{Keeps, both_kept}
 use Rattle.ld_safety.proofs.Tiles.{Reads, tiles_kept, got_of}
-use Rattle.ld_safety.proofs.Events.{NamesOnce}
-use Rattle.ld_safety.proofs.Fixed.{AsFixed, fixed_kept, spec_said}
+use Rattle.ld_safety.proofs.FixedNow.{AllNow, now_kept, now_said}
 use Rattle.ld_safety.proofs.GivenItems.{same_log}
 use Rattle.ld_safety.proofs.LostKept.{Standings, standings_kept, stands_there}
 use Rattle.ld_safety.proofs.LostActiveKept.{Active, active_kept}
@@ -36,8 +36,6 @@ use Rattle.ld_safety.proofs.GivenSteps.{BaseGiven}
 use Rattle.ld_safety.proofs.LostMoments.{Known, LossMoment, loss_line, open_at}
 use Rattle.ld_safety.proofs.LostLines.{ToldLost}
 use Rattle.ld_safety.proofs.LostPlans.{Lacked, lacking_later}
-use Rattle.ld_safety.proofs.LostPages.{Enough}
-use Rattle.ld_safety.proofs.Specs.{SpecFine}
 
 -- ---- lists ----
 pub take_all : {X : Type 0} (xs ys : List X) → take (length xs) (xs ++ ys) ≡ xs
@@ -50,20 +48,24 @@ count_whole p (x ∷ xs) h = let ih = count_whole p xs (λ y i. h y (inr i)) in 
 
 -- ---- what is left to be shown of the nodes ----
 
+-- as many as there are copies answered for the number, or took places in its epoch
+abbrev pub EnoughNow : Config → World → ℕ → ℕ → Summary → Type 0
+EnoughNow c w l s z = (spec_of c w.state.register l (home_epoch s)).r ≤ how_many (has_copied w l s z) (set_at c w.state.register l (home_epoch s))
+
 -- the number's epoch is closed, and no node that answered for the number gave the reader a clean page without it; as many as there are copies answered, or no node of the epoch gave such a page
 pub record SettledApart (c : Config) (w : World) (l s : ℕ) (held : List (ℕ × Held)) : Type 0 where
   pub summary : Summary
   pub closed : Closed w l (home_epoch s) summary
-  pub fine : SpecFine (spec_of c w.state.register l (home_epoch s))
+  pub fine : (spec_of c w.state.register l (home_epoch s)).r ≤ length (set_at c w.state.register l (home_epoch s))
   pub apart : (y : ℕ) (h : Held) → In y (set_at c w.state.register l (home_epoch s)) → find y held ≡ Some h → lacks s h.body ≡ true → has_copied w l s summary y ≡ true → ⊥
-  pub copied : Enough c w l s summary ⊎ ((y : ℕ) (h : Held) → In y (set_at c w.state.register l (home_epoch s)) → find y held ≡ Some h → lacks s h.body ≡ true → ⊥)
-  pub enough : (esn_of s ≤ summary.lng) ⊎ Ready c w l (home_epoch s) summary.ballot → Enough c w l s summary
+  pub copied : EnoughNow c w l s summary ⊎ ((y : ℕ) (h : Held) → In y (set_at c w.state.register l (home_epoch s)) → find y held ≡ Some h → lacks s h.body ≡ true → ⊥)
+  pub enough : (esn_of s ≤ summary.lng) ⊎ Ready c w l (home_epoch s) summary.ballot → EnoughNow c w l s summary
   pub how : ClosedFully c w l (home_epoch s) summary ⊎ ClosedShort c w l (home_epoch s) summary
 
 module _ (c : Config) (Q : List Happened → World → Type 0) where
-  -- in each state in which what a reader holds amounts to a loss
+  -- in each state in which what a reader holds amounts to a loss, where it has seen each swap
   abbrev pub LossesSettled : Type 0
-  LossesSettled = (hs : List Happened) (w : World) → Known c Q hs w → (name : List ℕ) (d : Reader) → find_named name w.state.readers ≡ Some d → is_loss d.next (set_at c w.state.register d.log (home_epoch d.next)) d.held ≡ true → SettledApart c w d.log d.next d.held
+  LossesSettled = (hs : List Happened) (w : World) → Known c Q hs w → (name : List ℕ) (d : Reader) → find_named name w.state.readers ≡ Some d → shown_swaps d.seen ≡ (epochs_of w.state.register d.log).swaps → is_loss d.next (set_at c w.state.register d.log (home_epoch d.next)) d.held ≡ true → SettledApart c w d.log d.next d.held
 
   -- what a reader is told lost without a confirmation
   abbrev pub LossesTold : Type 0
@@ -71,7 +73,7 @@ module _ (c : Config) (Q : List Happened → World → Type 0) where
 
   -- with what stands of lines
   abbrev pub OfLines : List Happened → World → Type 0
-  OfLines hs w = (BaseGiven c hs w × Active c hs w) × (Reads c hs w × (NamesOnce w.state × AsFixed c hs w))
+  OfLines hs w = (BaseGiven c hs w × Active c hs w) × (Reads c hs w × AllNow c hs w)
 
   abbrev pub Beside : List Happened → World → Type 0
   Beside hs w = Q hs w × ((Base c hs w × Standings c hs w) × OfLines hs w)
@@ -79,14 +81,14 @@ module _ (c : Config) (Q : List Happened → World → Type 0) where
   pub beside_all : Keeps c Q → Keeps c Beside
   beside_all K = both_kept c Q (λ hs w. (Base c hs w × Standings c hs w) × OfLines hs w) K
       (both_kept c (λ hs w. Base c hs w × Standings c hs w) OfLines (standings_kept c)
-      (both_kept c (λ hs w. BaseGiven c hs w × Active c hs w) (λ hs w. Reads c hs w × (NamesOnce w.state × AsFixed c hs w)) (active_kept c)
-      (both_kept c (Reads c) (λ hs w. NamesOnce w.state × AsFixed c hs w) (tiles_kept c) (fixed_kept c))))
+      (both_kept c (λ hs w. BaseGiven c hs w × Active c hs w) (λ hs w. Reads c hs w × AllNow c hs w) (active_kept c)
+      (both_kept c (Reads c) (λ hs w. AllNow c hs w) (tiles_kept c) (now_kept c))))
 
   -- each node that answered for the number was lost at the moment of the asks
   module _ (P : LossesSettled) (hs : List Happened) (k s : ℕ) (d : Reader) (m : LossMoment c Beside hs k s d) where
     pub settled_apart : SettledApart c m.then d.log s m.reader.held
     settled_apart = subst (λ y. SettledApart c m.then d.log y m.reader.held) m.next (subst (λ y. SettledApart c m.then y m.reader.next m.reader.held) m.log
-        (P m.before m.then (m.holds.0, m.holds.1.0) m.name m.reader m.named (subst (λ y. is_loss m.reader.next (set_at c m.then.state.register y (home_epoch m.reader.next)) m.reader.held ≡ true) (sym m.log)
+        (P m.before m.then (m.holds.0, m.holds.1.0) m.name m.reader m.named (m.equal ∙ ap (λ l. (epochs_of m.then.state.register l).swaps) (sym m.log)) (subst (λ y. is_loss m.reader.next (set_at c m.then.state.register y (home_epoch m.reader.next)) m.reader.held ≡ true) (sym m.log)
         (subst (λ y. is_loss y (set_at c m.then.state.register d.log (home_epoch y)) m.reader.held ≡ true) (sym m.next) m.loss))))
 
     settled_lost : (y : ℕ) → In y (set_at c m.then.state.register d.log (home_epoch s)) → ((h : Held) → find y m.reader.held ≡ Some h → lacks s h.body ≡ true → ⊥) → stands_lost d.log (home_epoch s) m.before y ≡ true
@@ -101,12 +103,12 @@ module _ (c : Config) (Q : List Happened → World → Type 0) where
     lacking_then : (spec_of c m.then.state.register d.log (home_epoch s)).r ≤ how_many (stands_lost d.log (home_epoch s) m.before) (set_at c m.then.state.register d.log (home_epoch s))
     lacking_then = elim settled_apart.copied [
       | inl a ↦ (let b = count_mono (has_copied m.then d.log s settled_apart.summary) (stands_lost d.log (home_epoch s) m.before) (set_at c m.then.state.register d.log (home_epoch s)) (λ y i t. settled_lost y i (λ h f k. settled_apart.apart y h i f k t)) in omega arith)
-      | inr a ↦ (let b = count_whole (stands_lost d.log (home_epoch s) m.before) (set_at c m.then.state.register d.log (home_epoch s)) (λ y i. settled_lost y i (λ h f k. a y h i f k)) in let u = settled_apart.fine.most in omega arith)
+      | inr a ↦ (let b = count_whole (stands_lost d.log (home_epoch s) m.before) (set_at c m.then.state.register d.log (home_epoch s)) (λ y i. settled_lost y i (λ h f k. a y h i f k)) in let u = settled_apart.fine in omega arith)
     ]
 
-    -- of what the lines before say was fixed for the epoch
-    pub lacks_then : (p : Spec) × (spec_fixed d.log (home_epoch s) m.before (first_spec c d.log) ≡ Some p) × (p.r ≤ how_many (stands_lost d.log (home_epoch s) m.before) (nodes_of p))
-    lacks_then = (spec_of c m.then.state.register d.log (home_epoch s), spec_said c m.before m.then m.holds.1.1.1.1.1.1 d.log (home_epoch s) m.reached, lacking_then)
+    -- of what the steps before say of the epoch
+    pub lacks_then : (p : Spec) × (spec_now d.log (home_epoch s) m.before (first_spec c d.log) ≡ Some p) × (p.r ≤ how_many (stands_lost d.log (home_epoch s) m.before) (nodes_of p))
+    lacks_then = (spec_of c m.then.state.register d.log (home_epoch s), now_said c m.before m.then m.holds.1.1.1.1.1 d.log (home_epoch s) m.reached, lacking_then)
 
   -- a moment before a step of the run
   as_moment : (hs gs rest : List Happened) (l e k : ℕ) → rest ≡ hs ++ gs → length hs ≡ k → Lacked c hs l e → (j : ℕ) × (j ≤ k) × Lacking c rest l e j
@@ -118,7 +120,7 @@ module _ (c : Config) (Q : List Happened → World → Type 0) where
       let t : take (m.step + 1) hs ≡ m.before = subst (λ (z : List Happened). take (m.step + 1) z ≡ m.before) (sym m.split) (subst (λ z. take z (m.before ++ m.after) ≡ m.before) m.place (take_all m.before m.after)) in (
         m.step,
         (let a = m.place in let b = ap (λ (z : List Happened). length z) m.split ∙ length-append m.before m.after in omega arith),
-        subst (λ (z : List Happened). (p : Spec) × (spec_fixed d.log (home_epoch s) z (first_spec c d.log) ≡ Some p) × (p.r ≤ how_many (stands_lost d.log (home_epoch s) z) (nodes_of p))) (sym t) (lacks_then P hs k s d m),
+        subst (λ (z : List Happened). (p : Spec) × (spec_now d.log (home_epoch s) z (first_spec c d.log) ≡ Some p) × (p.r ≤ how_many (stands_lost d.log (home_epoch s) z) (nodes_of p))) (sym t) (lacks_then P hs k s d m),
       )
 
   pub losses_happened : Keeps c Q → LossesSettled → LossesTold → (es : List Event) → LossesHappened c (history c es)

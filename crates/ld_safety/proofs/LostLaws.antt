@@ -1,5 +1,5 @@
 -- The laws on lost nodes over every list of events.
-use Rattle.std.proofs.Common.{◌≡◌, ◌≤◌, ℕ, inl, inr, refl, sym, subst, true, ◌&&◌, ◌==◌, List, [], ◌∷◌, ◌++◌, Some, arith}
+use Rattle.std.proofs.Common.{◌≡◌, ◌∙◌, ◌≤◌, ℕ, inl, inr, refl, ap, sym, subst, true, ◌&&◌, ◌==◌, List, [], ◌∷◌, ◌++◌, Some, arith}
 use Rattle.std.proofs.lemmas.Bool.{and_from, or_cases, eqb-true}
 use Rattle.ld_table.specs.Words.{is_in}
 use Rattle.ld_lsn.specs.Number.{home_epoch}
@@ -8,7 +8,7 @@ use Rattle.ld_schedule.specs.declared.event.Event.{Event}
 use Rattle.ld_table.specs.Table.{find}
 use Rattle.ld_table.specs.Words.{how_many}
 use Rattle.ld_msg.specs.Reading.{Held, is_loss, lacks}
-use Rattle.ld_msg.specs.Register.{generation_of}
+use Rattle.ld_msg.specs.Register.{generation_of, epochs_of}
 use Rattle.ld_machine.specs.Config.{spec_of, set_at}
 use Rattle.ld_machine.specs.State.{node_at}
 use Rattle.ld_machine.specs.Facts.{Happened}
@@ -77,12 +77,12 @@ module _ (c : Config) (Q : List Happened → World → Type 0) (K : Keeps c Q) (
       let h : Known c Q (hs ++ happened c w.state asks ∷ []) t = B.goes_on hs w asks (later c (Known c Q) B [] (begin c) before B.begins) in
       let r = t.state.register in
       let z : SettledApart c t l s a.reader.held = subst (λ k. SettledApart c t l k a.reader.held) a.next (subst (λ k. SettledApart c t k a.reader.next a.reader.held) a.log
-      (P (hs ++ happened c w.state asks ∷ []) t h name a.reader a.there (subst (λ k. is_loss a.reader.next (set_at c r k (home_epoch a.reader.next)) a.reader.held ≡ true) (sym a.log) (subst (λ k. is_loss k (set_at c r l (home_epoch k)) a.reader.held ≡ true) (sym a.next) a.loss)))) in
+      (P (hs ++ happened c w.state asks ∷ []) t h name a.reader a.there (a.equal ∙ ap (λ j. (epochs_of r j).swaps) (sym a.log)) (subst (λ k. is_loss a.reader.next (set_at c r k (home_epoch a.reader.next)) a.reader.held ≡ true) (sym a.log) (subst (λ k. is_loss k (set_at c r l (home_epoch k)) a.reader.held ≡ true) (sym a.next) a.loss)))) in
       let lost : (y : ℕ) → In y (set_at c r l (home_epoch s)) → ((h : Held) → find y a.reader.held ≡ Some h → lacks s h.body ≡ true → ⊥) → is_lost_at l (home_epoch s) (node_at t.state y) ≡ true = λ y i none.
       (let o = open_at s y (set_at c r l (home_epoch s)) a.reader.held a.loss i in elim o.how [ inl v ↦ absurd (none o.answer o.held v) | inr v ↦ a.lost y o.answer i o.held v ]) in
       let any : (spec_of c r l (home_epoch s)).r ≤ how_many (λ n. is_lost_at l (home_epoch s) (node_at t.state n)) (set_at c r l (home_epoch s)) = elim z.copied [
         | inl v ↦ (let m = count_mono (has_copied t l s z.summary) (λ n. is_lost_at l (home_epoch s) (node_at t.state n)) (set_at c r l (home_epoch s)) (λ y i q. lost y i (λ h f k. z.apart y h i f k q)) in omega arith)
-        | inr v ↦ (let m = count_whole (λ n. is_lost_at l (home_epoch s) (node_at t.state n)) (set_at c r l (home_epoch s)) (λ y i. lost y i (λ h f k. v y h i f k)) in let u = z.fine.most in omega arith)
+        | inr v ↦ (let m = count_whole (λ n. is_lost_at l (home_epoch s) (node_at t.state n)) (set_at c r l (home_epoch s)) (λ y i. lost y i (λ h f k. v y h i f k)) in let u = z.fine in omega arith)
       ] in
       let m = count_mono (has_copied t l s z.summary) (λ n. is_lost_at l (home_epoch s) (node_at t.state n) && has_copied t l s z.summary n) (set_at c r l (home_epoch s))
       (λ y i q. and_from (is_lost_at l (home_epoch s) (node_at t.state y)) (has_copied t l s z.summary y) (lost y i (λ h f k. z.apart y h i f k q)) q) in

@@ -10,11 +10,11 @@ use Rattle.ld_schedule.specs.declared.event.Event.{Event}
 use Rattle.ld_transcript.specs.declared.line.Line.TheVariants as lines
 use Rattle.ld_transcript.specs.declared.line.GapKind.TheVariants as gaps
 use Rattle.ld_msg.specs.Reading.{Held, is_loss, leaves_open, lacks, is_lost_for, lost_held, knows_end_above, within}
-use Rattle.ld_msg.specs.Reader.{Reader, Confirmation, heard, is_confirmed}
+use Rattle.ld_msg.specs.Reader.{Reader, Confirmation, heard, is_confirmed, shown_swaps}
 use Rattle.ld_msg.specs.declared.msg.Msg.{Msg}
 use Rattle.ld_msg.specs.declared.msg.Who.TheVariants as whos
 use Rattle.ld_msg.specs.declared.msg.Body.{Body}
-use Rattle.ld_msg.specs.Register.{generation_of}
+use Rattle.ld_msg.specs.Register.{generation_of, epochs_of}
 use Rattle.ld_machine.specs.Config.{set_at}
 use Rattle.ld_machine.specs.State.{node_at}
 use Rattle.ld_machine.specs.Facts.{Happened, Writes}
@@ -31,7 +31,7 @@ use Rattle.ld_safety.proofs.LostReads.{heard_lasts}
 use Rattle.ld_safety.proofs.LostRounds.{AtMost, answer_to}
 use Rattle.ld_safety.proofs.LostAlong.{Asked, asked_kept}
 use Rattle.ld_safety.proofs.LostSince.{Since, since_step}
-use Rattle.ld_safety.proofs.LostBegins.{StillThere, NewHere, lost_in, came, new_set, since_new}
+use Rattle.ld_safety.proofs.LostBegins.{StillThere, NewHere, lost_in, came, new_set, new_equal, since_new}
 use Rattle.ld_safety.proofs.LostLines.{LossGiven, ToldLost, losses_given, among_lost, confirmed_lost}
 
 -- Q is whatever else is known of each state of the run
@@ -56,6 +56,7 @@ module _ (c : Config) (Q : List Happened → World → Type 0) where
     pub log : reader.log ≡ l
     pub next : reader.next ≡ s
     pub reached : Reached then.state.register l (home_epoch s)
+    pub equal : shown_swaps reader.seen ≡ (epochs_of then.state.register l).swaps
     pub asked_held : asked ≡ lost_held s (within (set_at c then.state.register l (home_epoch s)) reader.held)
     pub loss : is_loss s (set_at c then.state.register l (home_epoch s)) reader.held ≡ true
 
@@ -85,6 +86,7 @@ module _ (c : Config) (Q : List Happened → World → Type 0) where
       log = b.log;
       next = b.next;
       reached = b.reached;
+      equal = b.equal;
       asked_held = b.asked_held;
       loss = b.loss;
     })
@@ -106,6 +108,7 @@ module _ (c : Config) (Q : List Happened → World → Type 0) where
       log = refl;
       next = refl;
       reached = (z.0, z.1);
+      equal = new_equal c w e K.0.0.0.0 K.0.0.1.1 K.0.1.1 L.0.0.1.1 L.0.1.1 t x v f h n;
       asked_held = subst (λ (k : List ℕ). v.asked ≡ lost_held x.next (within k x.held)) z.2 n.asked;
       loss = subst (λ (k : List ℕ). is_loss x.next k x.held ≡ true) z.2 n.loss;
     }
@@ -152,6 +155,7 @@ module _ (c : Config) (Q : List Happened → World → Type 0) where
     pub log : reader.log ≡ d.log
     pub next : reader.next ≡ s
     pub reached : Reached then.state.register d.log (home_epoch s)
+    pub equal : shown_swaps reader.seen ≡ (epochs_of then.state.register d.log).swaps
     pub loss : is_loss s (set_at c then.state.register d.log (home_epoch s)) reader.held ≡ true
     pub sent : (h : ℕ × Held) → In h reader.held → Sent then (answer_to h.0 reader h.1.body) × AtMost h.1.body reader
     pub lost : (y : ℕ) (h : Held) → In y (set_at c then.state.register d.log (home_epoch s)) → find y reader.held ≡ Some h → is_lost_for s h.body ≡ true → (g : ℕ) × LostIn (node_at then.state y) d.log (home_epoch s) g
@@ -180,6 +184,7 @@ module _ (c : Config) (Q : List Happened → World → Type 0) where
           log = b.log;
           next = b.next;
           reached = b.reached;
+          equal = b.equal;
           loss = b.loss;
           sent = λ h i. (b.holds.0.1.1.held b.name b.reader h b.named i, b.holds.0.1.1.waves (answer_to h.0 b.reader h.1.body) b.reader.number b.name b.reader (b.holds.0.1.1.held b.name b.reader h b.named i) (inl refl) b.named refl);
           lost = λ y h m f l. let z = among_lost g.reader.next y h (set_at c b.then.state.register g.reader.log (home_epoch g.reader.next)) b.reader.held m (find_in y b.reader.held h f) l in

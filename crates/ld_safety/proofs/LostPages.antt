@@ -12,34 +12,41 @@ use Rattle.ld_msg.specs.Reading.{entry_at}
 use Rattle.ld_msg.specs.Register.{epochs_of}
 use Rattle.ld_op.specs.Plain.{Plain, log_of, is_lost, summary_at, epoch_zero}
 use Rattle.ld_op.specs.Answers.{readable, entries_within, page_upto, page_limit}
-use Rattle.ld_machine.specs.Config.{spec_of, set_at}
+use Rattle.ld_machine.specs.Config.{fixed_of, fixed_at}
 use Rattle.ld_machine.specs.State.{node_at}
 use Rattle.ld_machine.specs.World.{World, In, MayHold, Unserved}
 use Rattle.ld_machine.specs.Invariant.{Closed, Ready}
 use Rattle.ld_safety.specs.Closes.{ClosedFully, ClosedShort}
-use Rattle.ld_safety.specs.Lost.{has_copied}
 use Rattle.ld_safety.proofs.Lists.{Some_inj, not_both, cond_both}
 use Rattle.ld_safety.proofs.Members.{In_filter, filter_in, find_in}
 use Rattle.ld_safety.proofs.Rising.{Rising, rising_values, rising_filter, page_has}
 use Rattle.ld_safety.proofs.CarriedNodes.{upto_cases}
 use Rattle.ld_safety.proofs.LostUnserved.{AllUnserved}
+use Rattle.ld_safety.proofs.LostTold.{told_copied}
+use Rattle.ld_safety.proofs.Joins.{Joins, SetsFollow}
+use Rattle.ld_safety.proofs.Registers.{EachClosed}
 use Rattle.ld_safety.proofs.LostEntries.{Accounts}
 
 -- as many nodes as there are copies answered for the number
 abbrev pub Enough : Config → World → ℕ → ℕ → Summary → Type 0
-Enough c w l s z = (spec_of c w.state.register l (home_epoch s)).r ≤ how_many (has_copied w l s z) (set_at c w.state.register l (home_epoch s))
+Enough c w l s z = (fixed_of c w.state.register l (home_epoch s)).r ≤ how_many (told_copied w l s z) (fixed_at c w.state.register l (home_epoch s))
 
 -- what is asked of the nodes of a state
 pub record CleanKept (c : Config) (w : World) : Type 0 where
+  -- what swaps left of sets follows what was fixed
+  pub follow : SetsFollow w.joined w.state.register
+  pub each : EachClosed w.state.register
   -- a closed epoch was handed out, and ends at a place
   pub bounded : (l e : ℕ) (z : Summary) → Closed w l e z → 0 < e → (e ≤ (epochs_of w.state.register l).epoch) × (z.end ≤ last_esn)
   -- a node's summaries are the register's, and it is trimmed as they say
   pub summaries : (y l e : ℕ) (p : Plain) (z : Summary) → MayHold (node_at w.state y) p → 0 < e → find e (log_of p l).summaries ≡ Some z → Closed w l e z × (z.trim ≤ (log_of p l).trim)
   pub tables : (y l : ℕ) (p : Plain) → MayHold (node_at w.state y) p → Rising (log_of p l).entries × ((q : ℕ × Entry) → In q (log_of p l).entries → q.1.number ≡ q.0)
   -- each node that answered for a number between the closing plan's trim and its end is blank, lost for the epoch, trimmed there, or has the number
-  pub copies : (y l s : ℕ) (z : Summary) (p : Plain) → Closed w l (home_epoch s) z → z.trim < s → s < numbered (home_epoch s) z.end → has_copied w l s z y ≡ true → MayHold (node_at w.state y) p → Accounts p l (home_epoch s) s
+  pub copies : (y l s : ℕ) (z : Summary) (p : Plain) → Closed w l (home_epoch s) z → z.trim < s → s < numbered (home_epoch s) z.end → told_copied w l s z y ≡ true → MayHold (node_at w.state y) p → Accounts p l (home_epoch s) s
+  -- so is each node that took a place in its epoch
+  pub joined : (y l s : ℕ) (z : Summary) (p : Plain) → Closed w l (home_epoch s) z → z.trim < s → s < numbered (home_epoch s) z.end → Joins w.joined l (home_epoch s) y → MayHold (node_at w.state y) p → Accounts p l (home_epoch s) s
   -- as many nodes as there are copies answered for it, or each node of the epoch is so
-  pub settled : (l s : ℕ) (z : Summary) → Closed w l (home_epoch s) z → z.trim < s → s < numbered (home_epoch s) z.end → Enough c w l s z ⊎ ((y : ℕ) (p : Plain) → In y (set_at c w.state.register l (home_epoch s)) → MayHold (node_at w.state y) p → Accounts p l (home_epoch s) s)
+  pub settled : (l s : ℕ) (z : Summary) → Closed w l (home_epoch s) z → z.trim < s → s < numbered (home_epoch s) z.end → Enough c w l s z ⊎ ((y : ℕ) (p : Plain) → In y (fixed_at c w.state.register l (home_epoch s)) → MayHold (node_at w.state y) p → Accounts p l (home_epoch s) s)
   -- as many did where it was known good, or each item of the closing plan was settled
   pub enough : (l s : ℕ) (z : Summary) → Closed w l (home_epoch s) z → z.trim < s → s < numbered (home_epoch s) z.end → (esn_of s ≤ z.lng) ⊎ Ready c w l (home_epoch s) z.ballot → Enough c w l s z
   -- the epoch was closed fully, or short
@@ -48,6 +55,18 @@ pub record CleanKept (c : Config) (w : World) : Type 0 where
 -- ---- numbers ----
 pub home_is : (s e : ℕ) → e * 2 ^ 32 < s → s < e * 2 ^ 32 + 2 ^ 32 → (home_epoch s ≡ e) × (epoch_of s ≡ e)
 home_is s e a b = (cond_both (is_epoch_end s) (epoch_of s - 1) (epoch_of s) (λ h. h ≡ e) (λ t. absurd (let p = and_parts (esn_of s == 0) (nat_lt 0 (epoch_of s)) t in let q = eqb-true (esn_of s) 0 p.0 in omega arith)) (λ t. omega arith), omega arith)
+
+-- a number below an end of its epoch stands at a place of it
+pub place_in : (s k : ℕ) → 0 < home_epoch s → s < numbered (home_epoch s) k → k ≤ last_esn → (home_epoch s ≡ epoch_of s) × (0 < esn_of s) × (esn_of s < k)
+place_in s k = by_end (is_epoch_end s) refl where
+  by_end : (b : Bool) → is_epoch_end s ≡ b → 0 < (if b then epoch_of s - 1 else epoch_of s) → s < numbered (if b then epoch_of s - 1 else epoch_of s) k → k ≤ last_esn → ((if b then epoch_of s - 1 else epoch_of s) ≡ epoch_of s) × (0 < esn_of s) × (esn_of s < k)
+  by_end true t p h b = absurd (let u = and_parts (esn_of s == 0) (nat_lt 0 (epoch_of s)) t in let v = eqb-true (esn_of s) 0 u.0 in omega arith)
+  by_end false t p h b = (refl, above, omega arith) where
+    above : 0 < esn_of s
+    above = elim (cases_Bool (esn_of s == 0)) [
+      | inl u ↦ absurd (not_both (is_epoch_end s) (and_from (esn_of s == 0) (nat_lt 0 (epoch_of s)) u (lt-ltb 0 (epoch_of s) p)) t)
+      | inr u ↦ let v = eqb-false (esn_of s) 0 u in elim (cases_order (esn_of s) 0) [ inl q ↦ absurd (v q) | inr (inl q) ↦ absurd (omega arith) | inr (inr q) ↦ q ]
+    ]
 
 -- a number whose place is below the last one
 pub home_place : (f k : ℕ) → home_esn f < k → k ≤ last_esn → (0 < home_epoch f → home_epoch f * 2 ^ 32 < f) × (home_epoch f * 2 ^ 32 ≤ f) × (f < home_epoch f * 2 ^ 32 + k)
@@ -86,8 +105,8 @@ pub record CleanPage (c : Config) (w : World) (y l from upto : ℕ) (es : List E
   pub starts : home_epoch from * 2 ^ 32 < from
   pub ends : upto < numbered (home_epoch from) summary.end
   pub place : summary.end ≤ last_esn
-  pub has : (s : ℕ) → from ≤ s → s ≤ upto → has_copied w l s summary y ≡ true → is_some (entry_at s es) ≡ true
-  pub short : (s : ℕ) → from ≤ s → s ≤ upto → Enough c w l s summary ⊎ (In y (set_at c w.state.register l (home_epoch from)) → is_some (entry_at s es) ≡ true)
+  pub has : (s : ℕ) → from ≤ s → s ≤ upto → told_copied w l s summary y ≡ true → is_some (entry_at s es) ≡ true
+  pub short : (s : ℕ) → from ≤ s → s ≤ upto → Enough c w l s summary ⊎ (In y (fixed_at c w.state.register l (home_epoch from)) → is_some (entry_at s es) ≡ true)
   pub unserved : AllUnserved (node_at w.state y) l (home_epoch from)
 
 -- an end that a lost node knows
@@ -149,6 +168,13 @@ module _ (c : Config) (w : World) (K : CleanKept c w) (y l : ℕ) (p : Plain) (h
     shows s lo hi q (inr (inr (inl v))) = absurd (omega arith)
     shows s lo hi q (inr (inr (inr v))) = in_page s v.0 v.1 v.2 lo hi
 
+    -- a node that took a place in the epoch shows each number that its page covers
+    pub joined_shown : (s : ℕ) → from ≤ s → s ≤ page_upto (readable (log_of p l) from (numbered (home_epoch from) (z.end - 1))) (numbered (home_epoch from) (z.end - 1)) → Joins w.joined l (home_epoch from) y
+        → is_some (entry_at s (take page_limit (readable (log_of p l) from (numbered (home_epoch from) (z.end - 1))))) ≡ true
+    joined_shown s lo hi j = let m = (no_zero from z a h b).0 in let k = K.bounded l (home_epoch from) z closed.0 m in let e = k.1 in let o = place in let u = up in let t = closed.1 in
+        let q = home_is s (home_epoch from) (omega arith) (omega arith) in
+        shows s lo hi q.0 (K.joined y l s z p (subst (λ v. Closed w l v z) (sym q.0) closed.0) (omega arith) (subst (λ v. s < numbered v z.end) (sym q.0) (omega arith)) (subst (λ v. Joins w.joined l v y) (sym q.0) j) held)
+
     pub page_of : CleanPage c w y l from (page_upto (readable (log_of p l) from (numbered (home_epoch from) (z.end - 1))) (numbered (home_epoch from) (z.end - 1))) (take page_limit (readable (log_of p l) from (numbered (home_epoch from) (z.end - 1))))
     unfolding summary_at
     page_of = let m = (no_zero from z a h b).0 in let k = K.bounded l (home_epoch from) z closed.0 m in let e = k.1 in let o = place in let u = up in let t = closed.1 in record {
@@ -166,7 +192,7 @@ module _ (c : Config) (w : World) (K : CleanKept c w) (y l : ℕ) (p : Plain) (h
           let q = home_is s (home_epoch from) (omega arith) (omega arith) in
           elim (K.settled l s z (subst (λ j. Closed w l j z) (sym q.0) closed.0) (omega arith) (subst (λ j. s < numbered j z.end) (sym q.0) (omega arith))) [
             | inl v ↦ inl v
-            | inr v ↦ inr (λ i. shows s lo hi q.0 (v y p (subst (λ j. In y (set_at c w.state.register l j)) (sym q.0) i) held))
+            | inr v ↦ inr (λ i. shows s lo hi q.0 (v y p (subst (λ j. In y (fixed_at c w.state.register l j)) (sym q.0) i) held))
           ];
       unserved = λ j i. subst (λ v. Unserved v l (home_epoch from)) (sym (whole j i)) (inr (inr (ap is_some h)));
     }

@@ -1,6 +1,6 @@
 -- What an answer leaves of a reader's rounds and of its confirmation.
-use Rattle.std.proofs.Common.{◌≡◌, ◌∙◌, ◌⊎◌, ◌≤◌, ◌<◌, ℕ, ◌+◌, min, inl, inr, refl, ap, sym, subst, Bool, true, false, ◌&&◌, not, ◌==◌, nat_lt, if◌then◌else◌, cond, List, [], ◌∷◌, Option, Some, None, arith}
-use Rattle.std.proofs.lemmas.Bool.{and_parts, ltb-false, eqb-true}
+use Rattle.std.proofs.Common.{◌≡◌, ◌∙◌, ◌⊎◌, ◌≤◌, ◌<◌, ℕ, ◌+◌, min, inl, inr, refl, ap, sym, subst, Bool, true, false, ◌&&◌, not, ◌==◌, nat_lt, if◌then◌else◌, cond, List, [], ◌∷◌, ◌++◌, Option, Some, None, arith}
+use Rattle.std.proofs.lemmas.Bool.{cases_Bool, and_parts, ltb-false, eqb-true}
 use Rattle.ld_table.specs.Table.{find, put}
 use Rattle.ld_table.specs.Words.{is_in, with_one}
 use Rattle.ld_lsn.specs.Number.{home_epoch}
@@ -11,17 +11,20 @@ use Rattle.ld_msg.specs.declared.msg.Body.{Body}
 use Rattle.ld_msg.specs.declared.msg.Body.TheVariants as bodies
 use Rattle.ld_msg.specs.Reading.{Held, Item, TrimTo, RecordHere, HoleHere, BridgeTo, LossHere, LossTo, trim_held, page_at, plug_held, is_plug, end_held, end_shown, is_loss, within, lost_held, bridge_to}
 use Rattle.ld_msg.specs.Register.{View}
-use Rattle.ld_msg.specs.Reader.{Reader, Read, Confirmation, is_finished, may_confirm, is_confirming, seen_nodes, has_seen, look_of, gives, confirms, heard, is_newer, round_of, confirming_with, confirms_loss, same_generation, is_confirmed, polled, poll_asks, asks_of, keys, last_round, item_end, on_answer}
+use Rattle.ld_msg.specs.Reader.{Reader, Read, Confirmation, is_finished, may_confirm, is_confirming, seen_nodes, has_seen, look_of, shown_swaps, sees_swap, nothing_read, heard_on, gives, confirms, heard, is_newer, round_of, confirming_with, confirms_loss, same_generation, is_confirmed, polled, poll_asks, asks_of, last_round, item_end, on_answer}
 use Rattle.ld_machine.specs.World.{In}
-use Rattle.ld_safety.proofs.Lists.{Some_inj, not_none, cond_both, In-append, only, any_in}
+use Rattle.ld_safety.proofs.Lists.{Some_inj, not_none, not_both, branch, cond_both, In-append, only, any_in}
 use Rattle.ld_safety.proofs.Members.{In_put}
 use Rattle.ld_safety.proofs.Losses.{with_one_in}
-use Rattle.ld_safety.proofs.ReaderSteps.{answered, below_end, end_in}
+use Rattle.ld_safety.proofs.ReaderSteps.{ReadKeeps, dropped_held, answered, below_end, end_in}
 
 -- an ask of a round, at or below the next number
-pub record AskOf (round next : ℕ) (b : Body) : Type 0 where
+pub record AskOf (low round next : ℕ) (b : Body) : Type 0 where
+  pub at : ℕ
   pub from : ℕ
-  pub is : b ≡ bodies.ReadAsk round from
+  pub above : low < at
+  pub upto : at ≤ round
+  pub is : b ≡ bodies.ReadAsk at from
   pub below : from ≤ next
 
 -- the node says again that it is lost, under the generation that was held for it
@@ -55,6 +58,8 @@ pub record Begins (looks : ℕ → View) (d : Reader) (a : Read) (v : Confirmati
   pub told : v.told ≡ []
   pub asked : v.asked ≡ lost_held a.reader.next (within (seen_nodes view) a.reader.held)
   pub loss : is_loss a.reader.next (seen_nodes view) a.reader.held ≡ true
+  pub same : sees_swap view (looks (home_epoch a.reader.next)) ≡ false
+  pub now : a.reader.seen ≡ Some (looks (home_epoch a.reader.next))
   pub asks : (x : ℕ × Body) → In x a.asks → x.1 ≡ bodies.ReadAsk v.round a.reader.next
 
 -- an answer shows a plug at the number
@@ -68,19 +73,52 @@ LossyEnd s hs = (h : ℕ × Held) × In h hs × (end_shown s h.1.body ≡ Some t
 abbrev pub new_held : ℕ → Body → ℕ × Held
 new_held y b = (y, record { round = round_of b; body = b })
 
+-- the same count of swaps was shown as before, or answers of all rounds before aren't taken any more
+abbrev pub FreshOf : Reader → Option View → ℕ → Type 0
+FreshOf d seen least = ((shown_swaps seen ≡ shown_swaps d.seen) × (d.least ≤ least)) ⊎ (d.round < least)
+
+-- what is held is of a round from one on
+abbrev pub AllFrom : ℕ → List (ℕ × Held) → Type 0
+AllFrom least hs = (h : ℕ × Held) → In h hs → least ≤ round_of h.1.body
+
+not_swapped : (o : Option View) (w : View) → sees_swap o w ≡ false → w.swaps ≡ shown_swaps o
+not_swapped o w h = sym (eqb-true (shown_swaps o) w.swaps (same (shown_swaps o == w.swaps) h)) where
+  same : (b : Bool) → not b ≡ false → b ≡ true
+  same true q = refl
+  same false q = absurd cc
+
+-- after a look
+looked_fresh : (d : Reader) (seen : Option View) (least round : ℕ) (w : View) (lt s : Bool) → sees_swap seen w ≡ s → d.round ≤ round → FreshOf d seen least → FreshOf d (if lt then Some w else seen) (if lt && s then round + 1 else least)
+looked_fresh d seen least round w false s q le g = g
+looked_fresh d seen least round w true true q le g = inr (omega arith)
+looked_fresh d seen least round w true false q le g = elim g [ inl z ↦ inl (not_swapped seen w q ∙ z.0, z.1) | inr z ↦ inr z ]
+
+looked_held : (s : Bool) (k m : ℕ) (hs : List (ℕ × Held)) → AllFrom m hs → AllFrom (if s then k else m) (if s then [] else hs)
+looked_held true k m hs g h i = absurd i
+looked_held false k m hs g h i = g h i
+
 pub record ReadOn (looks : ℕ → View) (d : Reader) (y : ℕ) (b : Body) (a : Read) : Type 0 where
   pub number : a.reader.number ≡ d.number
   pub log : a.reader.log ≡ d.log
   pub until : a.reader.until ≡ d.until
   pub round : d.round ≤ a.reader.round
   pub next : d.next ≤ a.reader.next
-  pub asks : (x : ℕ × Body) → In x a.asks → AskOf a.reader.round a.reader.next x.1 × (d.round < a.reader.round)
+  pub asks : (x : ℕ × Body) → In x a.asks → AskOf d.round a.reader.round a.reader.next x.1
   pub confirming : (v : Confirmation) → a.reader.confirming ≡ Some v → Lasts d y b a.reader v ⊎ Begins looks d a v
   pub seen : SeenBy looks d a.reader.seen
   pub held : (h : ℕ × Held) → In h a.reader.held → In h d.held ⊎ (h ≡ new_held y b)
-  pub same_held : a.reader.held ≡ (heard d y b).held
+  pub fresh : FreshOf d a.reader.seen a.reader.least
+  pub held_least : AllFrom d.least d.held → AllFrom a.reader.least a.reader.held
   pub losses : (i : ℕ × Item) → In i a.items → i.1 ≡ LossHere → ((i.0 ≡ d.next) × (is_confirmed (heard d y b).confirming ≡ true)) ⊎ PlugAt i.0 (heard d y b).held
   pub ends : (i : ℕ × Item) (last : ℕ) → In i a.items → i.1 ≡ LossTo last → (last ≡ bridge_to i.0) × LossyEnd i.0 (heard d y b).held
+
+-- what is held is what was heard, or it was dropped
+abbrev pub AsHeard : Reader → ℕ → Body → Read → Type 0
+AsHeard d y b a = (a.reader.held ≡ (heard d y b).held) ⊎ (a.reader.held ≡ [])
+
+as_dropped : (t : Bool) (d : Reader) (y : ℕ) (b : Body) (hs : List (ℕ × Held)) → (hs ≡ (heard d y b).held) ⊎ (hs ≡ []) → ((if t then [] else hs) ≡ (heard d y b).held) ⊎ ((if t then [] else hs) ≡ [])
+as_dropped true d y b hs h = inr refl
+as_dropped false d y b hs h = h
 
 -- ---- asks ----
 pub asks_are : (round next : ℕ) (set : List ℕ) (x : ℕ × Body) → In x (asks_of round next set) → x.1 ≡ bodies.ReadAsk round next
@@ -100,6 +138,16 @@ polled_up looks d = cond_both (nat_lt d.round last_round) (d.round + 1) d.round 
 
 pub polled_seen : (looks : ℕ → View) (d : Reader) → SeenBy looks d (polled looks d).seen
 polled_seen looks d = cond_both (nat_lt d.round last_round) (Some (look_of looks d)) d.seen (λ o. SeenBy looks d o) (λ t. inr (home_epoch d.next, refl)) (λ t. inl refl)
+
+-- a poll
+pub polled_fresh : (looks : ℕ → View) (d : Reader) → FreshOf d (polled looks d).seen (polled looks d).least
+polled_fresh looks d = looked_fresh d d.seen d.least d.round (look_of looks d) (nat_lt d.round last_round) (sees_swap d.seen (look_of looks d)) refl (omega arith) (inl (refl, omega arith))
+
+pub polled_held : (looks : ℕ → View) (d : Reader) → AllFrom d.least d.held → AllFrom (polled looks d).least (polled looks d).held
+polled_held looks d g = looked_held (nat_lt d.round last_round && sees_swap d.seen (look_of looks d)) _ _ d.held g
+
+pub polled_kept : (looks : ℕ → View) (d : Reader) (h : ℕ × Held) → In h (polled looks d).held → In h d.held
+polled_kept looks d h = dropped_held (λ hs. In h hs → In h d.held) (λ i. absurd i) (nat_lt d.round last_round && sees_swap d.seen (look_of looks d)) d.held (λ i. i)
 
 -- ---- what comes of an answer that is heard ----
 same_is : (o : Option ℕ) (g : ℕ) → same_generation o g ≡ true → o ≡ Some g
@@ -162,11 +210,12 @@ module _ (looks : ℕ → View) (d : Reader) (y : ℕ) (b : Body) where
         until = g.until;
         round = g.round;
         next = let z = g.next in omega arith;
-        asks = λ x j. let k = g.asks x j in (record { from = k.0.from; is = k.0.is; below = let z = k.0.below in omega arith }, k.1);
+        asks = λ x j. let k = g.asks x j in record { at = k.at; from = k.from; above = k.above; upto = k.upto; is = k.is; below = let z = k.below in omega arith };
         confirming = λ v q. absurd (not_none q);
         seen = g.seen;
         held = g.held;
-        same_held = g.same_held;
+        fresh = g.fresh;
+        held_least = g.held_least;
         losses = λ j k q. elim (In-append j a.items _ k) [
           | inl o ↦ g.losses j o q
           | inr o ↦ (let z = only j (a.reader.next, i) o in inr (subst (λ (x : ℕ × Item). PlugAt x.0 (heard d y b).held) (sym z) (n (sym (ap (λ (x : ℕ × Item). x.1) z) ∙ q))))
@@ -177,8 +226,30 @@ module _ (looks : ℕ → View) (d : Reader) (y : ℕ) (b : Body) where
         ];
       }
 
-  started : ReadOn looks d y b (record { reader = heard d y b; items = []; asks = [] })
-  started = record {
+  -- an answer that isn't taken
+  ignored_on : ReadOn looks d y b (nothing_read d)
+  ignored_on = record {
+    number = refl;
+    log = refl;
+    until = refl;
+    round = omega arith;
+    next = omega arith;
+    asks = λ x j. absurd j;
+    confirming = λ v q. inl (record { before = v; was = q; round = refl; asked = refl; told = λ z i. inl i; next = refl });
+    seen = inl refl;
+    held = λ h i. inl i;
+    fresh = inl (refl, omega arith);
+    held_least = λ h. h;
+    losses = λ i j q. absurd j;
+    ends = λ i last j q. absurd j;
+  }
+
+  -- an answer that is taken is of a round from the least on
+  heard_least : nat_lt (round_of b) d.least ≡ false → AllFrom d.least d.held → AllFrom d.least (heard d y b).held
+  heard_least n g h i = elim (heard_held d y b h i) [ inl o ↦ g h o | inr q ↦ subst (λ (z : ℕ × Held). d.least ≤ round_of z.1.body) (sym q) (ltb-false (round_of b) d.least n) ]
+
+  started : nat_lt (round_of b) d.least ≡ false → ReadOn looks d y b (record { reader = heard d y b; items = []; asks = [] })
+  started n = record {
     number = refl;
     log = refl;
     until = refl;
@@ -188,13 +259,14 @@ module _ (looks : ℕ → View) (d : Reader) (y : ℕ) (b : Body) where
     confirming = λ v q. inl (heard_lasts d y b v q);
     seen = inl refl;
     held = heard_held d y b;
-    same_held = refl;
+    fresh = inl (refl, omega arith);
+    held_least = heard_least n;
     losses = λ i j q. absurd j;
     ends = λ i last j q. absurd j;
   }
 
-  lost_first : is_finished d ≡ false → is_confirmed (heard d y b).confirming ≡ true → ReadOn looks d y b (gives (record { reader = heard d y b; items = []; asks = [] }) LossHere)
-  lost_first f h = let lower = item_up d.next d.next d.until (omega arith) (not_finished d f) in record {
+  lost_first : nat_lt (round_of b) d.least ≡ false → sees_swap d.seen (look_of looks d) ≡ false → is_finished d ≡ false → is_confirmed (heard d y b).confirming ≡ true → ReadOn looks d y b (gives (nothing_read (record (heard d y b) { seen = Some (look_of looks d) })) LossHere)
+  lost_first n s f h = let lower = item_up d.next d.next d.until (omega arith) (not_finished d f) in record {
     number = refl;
     log = refl;
     until = refl;
@@ -202,9 +274,10 @@ module _ (looks : ℕ → View) (d : Reader) (y : ℕ) (b : Body) where
     next = omega arith;
     asks = λ x j. absurd j;
     confirming = λ v q. absurd (not_none q);
-    seen = inl refl;
+    seen = inr (home_epoch d.next, refl);
     held = heard_held d y b;
-    same_held = refl;
+    fresh = inl (not_swapped d.seen (look_of looks d) s, omega arith);
+    held_least = heard_least n;
     losses = λ i j q. inl (ap (λ (x : ℕ × Item). x.0) (only i (d.next, LossHere) j), h);
     ends = λ i last j q. absurd (let z : LossHere ≡ LossTo last = sym (ap (λ (x : ℕ × Item). x.1) (only i (d.next, LossHere) j)) ∙ q in cc);
   }
@@ -216,58 +289,84 @@ module _ (looks : ℕ → View) (d : Reader) (y : ℕ) (b : Body) where
     until = g.until;
     round = let z = g.round in omega arith;
     next = g.next;
-    asks = λ x j. (record { from = a.reader.next; is = asks_are (a.reader.round + 1) a.reader.next (keys (lost_held a.reader.next (within (seen_nodes a.reader.seen) a.reader.held))) x j; below = omega arith }, let z = g.round in omega arith);
-    confirming = λ v q. inr (let z : record { round = a.reader.round + 1; asked = lost_held a.reader.next (within (seen_nodes a.reader.seen) a.reader.held); told = [] } ≡ v = Some_inj q in record {
-      view = a.reader.seen;
-      came = g.seen;
-      seen = (and_parts (not (is_confirming a.reader.confirming) && nat_lt a.reader.round last_round) (has_seen (home_epoch a.reader.next) a.reader.seen) m).1;
-      round = ap (λ (k : Confirmation). k.round) (sym z);
-      higher = let e : a.reader.round + 1 ≡ v.round = ap (λ (k : Confirmation). k.round) z in let z = g.round in omega arith;
-      told = ap (λ (k : Confirmation). k.told) (sym z);
-      asked = ap (λ (k : Confirmation). k.asked) (sym z);
-      loss = l;
-      asks = λ x j. asks_are (a.reader.round + 1) a.reader.next (keys (lost_held a.reader.next (within (seen_nodes a.reader.seen) a.reader.held))) x j ∙ ap (λ r. bodies.ReadAsk r a.reader.next) (ap (λ (k : Confirmation). k.round) z);
-    });
+    asks = λ x j. record { at = a.reader.round + 1; from = a.reader.next; above = (let z = g.round in omega arith); upto = omega arith; is = asks_are (a.reader.round + 1) a.reader.next _ x j; below = omega arith };
+    confirming = λ v q. inr (by_swap v (branch (sees_swap a.reader.seen (look_of looks a.reader)) None (Some (record { round = a.reader.round + 1; asked = lost_held a.reader.next (within (seen_nodes a.reader.seen) a.reader.held); told = [] })) (Some v) q));
     seen = inr (home_epoch a.reader.next, refl);
-    held = g.held;
-    same_held = g.same_held;
+    held = dropped_held (λ hs. (h : ℕ × Held) → In h hs → In h d.held ⊎ (h ≡ new_held y b)) (λ h i. absurd i) (sees_swap a.reader.seen (look_of looks a.reader)) a.reader.held g.held;
+    fresh = looked_fresh d a.reader.seen a.reader.least a.reader.round (look_of looks a.reader) true (sees_swap a.reader.seen (look_of looks a.reader)) refl g.round g.fresh;
+    held_least = λ h. looked_held (sees_swap a.reader.seen (look_of looks a.reader)) _ _ a.reader.held (g.held_least h);
     losses = g.losses;
     ends = g.ends;
-  }
+  } where
+    by_swap : (v : Confirmation) → ((sees_swap a.reader.seen (look_of looks a.reader) ≡ true) × (None ≡ Some v)) ⊎ ((sees_swap a.reader.seen (look_of looks a.reader) ≡ false) × (Some (record { round = a.reader.round + 1; asked = lost_held a.reader.next (within (seen_nodes a.reader.seen) a.reader.held); told = [] }) ≡ Some v)) → Begins looks d (confirms looks a (lost_held a.reader.next (within (seen_nodes a.reader.seen) a.reader.held))) v
+    by_swap v (inl q) = absurd (not_none q.1)
+    by_swap v (inr q) = let z : record { round = a.reader.round + 1; asked = lost_held a.reader.next (within (seen_nodes a.reader.seen) a.reader.held); told = [] } ≡ v = Some_inj q.1 in
+        let hold : a.reader.held ≡ (confirms looks a (lost_held a.reader.next (within (seen_nodes a.reader.seen) a.reader.held))).reader.held = sym (ap (λ (k : Bool). if k then [] else a.reader.held) q.0) in record {
+          view = a.reader.seen;
+          came = g.seen;
+          seen = (and_parts (not (is_confirming a.reader.confirming) && nat_lt a.reader.round last_round) (has_seen (home_epoch a.reader.next) a.reader.seen) m).1;
+          round = ap (λ (k : Confirmation). k.round) (sym z);
+          higher = let e : a.reader.round + 1 ≡ v.round = ap (λ (k : Confirmation). k.round) z in let u = g.round in omega arith;
+          told = ap (λ (k : Confirmation). k.told) (sym z);
+          asked = ap (λ (k : Confirmation). k.asked) (sym z) ∙ ap (λ (hs : List (ℕ × Held)). lost_held a.reader.next (within (seen_nodes a.reader.seen) hs)) hold;
+          loss = subst (λ (hs : List (ℕ × Held)). is_loss a.reader.next (seen_nodes a.reader.seen) hs ≡ true) hold l;
+          same = q.0;
+          now = refl;
+          asks = λ x j. asks_are (a.reader.round + 1) a.reader.next _ x j ∙ ap (λ r. bodies.ReadAsk r a.reader.next) (ap (λ (k : Confirmation). k.round) z);
+        }
 
-  asked_on : (a : Read) → ReadOn looks d y b a → ReadOn looks d y b (record { reader = polled looks a.reader; items = a.items; asks = poll_asks looks a.reader })
+  asked_on : (a : Read) → ReadOn looks d y b a → ReadOn looks d y b (record { reader = polled looks a.reader; items = a.items; asks = a.asks ++ poll_asks looks a.reader })
   asked_on a g = let up = polled_up looks a.reader in record {
     number = g.number;
     log = g.log;
     until = g.until;
     round = let z = g.round in omega arith;
     next = g.next;
-    asks = λ x j. let k = poll_are looks a.reader x j in (record { from = a.reader.next; is = k.0; below = omega arith }, let z = g.round in let l = k.1 in omega arith);
+    asks = λ x j. elim (In-append x a.asks _ j) [
+      | inl o ↦ (let k = g.asks x o in record { at = k.at; from = k.from; above = k.above; upto = (let z = k.upto in let u = up in omega arith); is = k.is; below = k.below })
+      | inr o ↦ (let k = poll_are looks a.reader x o in record { at = (polled looks a.reader).round; from = a.reader.next; above = (let z = g.round in let l = k.1 in omega arith); upto = omega arith; is = k.0; below = omega arith })
+    ];
     confirming = λ v q. absurd (not_none q);
     seen = elim (polled_seen looks a.reader) [ inl q ↦ subst (SeenBy looks d) (sym q) g.seen | inr q ↦ inr q ];
-    held = g.held;
-    same_held = g.same_held;
+    held = dropped_held (λ hs. (h : ℕ × Held) → In h hs → In h d.held ⊎ (h ≡ new_held y b)) (λ h i. absurd i) _ a.reader.held g.held;
+    fresh = looked_fresh d a.reader.seen a.reader.least a.reader.round (look_of looks a.reader) (nat_lt a.reader.round last_round) (sees_swap a.reader.seen (look_of looks a.reader)) refl g.round g.fresh;
+    held_least = λ h. looked_held (nat_lt a.reader.round last_round && sees_swap a.reader.seen (look_of looks a.reader)) _ _ a.reader.held (g.held_least h);
     losses = g.losses;
     ends = g.ends;
   }
 
   -- what is held stays while items are given
-  plug_there : (a : Read) → ReadOn looks d y b a → plug_held a.reader.next a.reader.held ≡ true → PlugAt a.reader.next (heard d y b).held
-  plug_there a g t = let z = any_in (λ (h : ℕ × Held). is_plug (page_at a.reader.next h.1.body)) (heard d y b).held (subst (λ (hs : List (ℕ × Held)). plug_held a.reader.next hs ≡ true) g.same_held t) in (z.0, z.1, plug_of _ z.2)
+  plug_there : (a : Read) → AsHeard d y b a → plug_held a.reader.next a.reader.held ≡ true → PlugAt a.reader.next (heard d y b).held
+  plug_there a (inl g) t = let z = any_in (λ (h : ℕ × Held). is_plug (page_at a.reader.next h.1.body)) (heard d y b).held (subst (λ (hs : List (ℕ × Held)). plug_held a.reader.next hs ≡ true) g t) in (z.0, z.1, plug_of _ z.2)
+  plug_there a (inr g) t = absurd (let z : plug_held a.reader.next [] ≡ true = subst (λ (hs : List (ℕ × Held)). plug_held a.reader.next hs ≡ true) g t in cc)
 
-  end_there : (a : Read) → ReadOn looks d y b a → end_held a.reader.next a.reader.held ≡ Some true → LossyEnd a.reader.next (heard d y b).held
-  end_there a g t = end_in a.reader.next (heard d y b).held true (subst (λ (hs : List (ℕ × Held)). end_held a.reader.next hs ≡ Some true) g.same_held t)
+  end_there : (a : Read) → AsHeard d y b a → end_held a.reader.next a.reader.held ≡ Some true → LossyEnd a.reader.next (heard d y b).held
+  end_there a (inl g) t = end_in a.reader.next (heard d y b).held true (subst (λ (hs : List (ℕ × Held)). end_held a.reader.next hs ≡ Some true) g t)
+  end_there a (inr g) t = absurd (let z : end_held a.reader.next [] ≡ Some true = subst (λ (hs : List (ℕ × Held)). end_held a.reader.next hs ≡ Some true) g t in not_none z)
+
+  -- what holds of an answer that is taken
+  abbrev Taken : Read → Type 0
+  Taken a = nat_lt (round_of b) d.least ≡ false → ReadOn looks d y b a × AsHeard d y b a
+
+  taken_keeps : is_finished d ≡ false → ReadKeeps looks d y b Taken
+  taken_keeps f = record {
+    starts = λ n. (started n, inl refl);
+    ignored = λ t n. absurd (not_both _ t n);
+    loss = λ h s n. (lost_first n s f h, inl refl);
+    swapped = λ h s n. (asked_on (nothing_read (heard d y b)) (started n), as_dropped _ d y b (heard d y b).held (inl refl));
+    trim = λ a g n t k. (given a (TrimTo (trim_held a.reader.held)) (g k).0 n t (λ q. cc) (λ e q. cc), (g k).1);
+    record_there = λ a p g n t k. (given a (RecordHere p) (g k).0 n (omega arith) (λ q. cc) (λ e q. cc), (g k).1);
+    hole_there = λ a g n t k. (given a HoleHere (g k).0 n (omega arith) (λ q. cc) (λ e q. cc), (g k).1);
+    bridge = λ a g n t k. (given a (BridgeTo (bridge_to a.reader.next)) (g k).0 n (below_end a.reader.next) (λ q. cc) (λ e q. cc), (g k).1);
+    plug = λ a g n t k. (given a LossHere (g k).0 n (omega arith) (λ q. plug_there a (g k).1 t) (λ e q. cc), (g k).1);
+    lossy_end = λ a g n t k. (given a (LossTo (bridge_to a.reader.next)) (g k).0 n (below_end a.reader.next) (λ q. cc) (λ e q. (sym (last_of q), end_there a (g k).1 t)), (g k).1);
+    confirm = λ a g n m t k. (begun a (g k).0 m t, as_dropped _ d y b a.reader.held (g k).1);
+    polls_on = λ a g t k. (asked_on a (g k).0, as_dropped _ d y b a.reader.held (g k).1);
+  }
 
   pub read_on : is_finished d ≡ false → ReadOn looks d y b (on_answer looks d y b)
-  read_on f = answered looks d y b (ReadOn looks d y b) (record {
-    starts = started;
-    loss = λ h. lost_first f h;
-    trim = λ a g n t. given a (TrimTo (trim_held a.reader.held)) g n t (λ q. cc) (λ e q. cc);
-    record_there = λ a p g n t. given a (RecordHere p) g n (omega arith) (λ q. cc) (λ e q. cc);
-    hole_there = λ a g n t. given a HoleHere g n (omega arith) (λ q. cc) (λ e q. cc);
-    bridge = λ a g n t. given a (BridgeTo (bridge_to a.reader.next)) g n (below_end a.reader.next) (λ q. cc) (λ e q. cc);
-    plug = λ a g n t. given a LossHere g n (omega arith) (λ q. plug_there a g t) (λ e q. cc);
-    lossy_end = λ a g n t. given a (LossTo (bridge_to a.reader.next)) g n (below_end a.reader.next) (λ q. cc) (λ e q. (sym (last_of q), end_there a g t));
-    confirm = λ a g n m t. begun a g m t;
-    polls_on = λ a g t. asked_on a g;
-  })
+  unfolding on_answer
+  read_on f = elim (cases_Bool (nat_lt (round_of b) d.least)) [
+    | inl t ↦ subst (λ (k : Bool). ReadOn looks d y b (if k then nothing_read d else heard_on looks (heard d y b))) (sym t) ignored_on
+    | inr n ↦ (answered looks d y b Taken (taken_keeps f) n).0
+  ]

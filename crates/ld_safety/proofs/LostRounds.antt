@@ -171,7 +171,7 @@ module _ (r k : Register) (U : NoneFalls r k) (ms : List Msg) (ds : List (List �
 
   -- a reader that goes on, with its asks
   module _ (name : List ℕ) (d x : Reader) (bs : List (ℕ × Body)) (F : find_named name ds ≡ Some d) (number : x.number ≡ d.number) (log : x.log ≡ d.log) (round : d.round ≤ x.round) (next : d.next ≤ x.next)
-      (asks : (b : ℕ × Body) → In b bs → AskOf x.round x.next b.1) (held : (h : ℕ × Held) → In h x.held → In (answer_to h.0 x h.1.body) ms) (confirming : (v : Confirmation) → x.confirming ≡ Some v → v.round ≤ x.round) where
+      (asks : (b : ℕ × Body) → In b bs → AskOf d.round x.round x.next b.1) (held : (h : ℕ × Held) → In h x.held → In (answer_to h.0 x h.1.body) ms) (confirming : (v : Confirmation) → x.confirming ≡ Some v → v.round ≤ x.round) where
     once : (t : List ℕ) (z : Reader) → find_named t (put_named name x ds) ≡ Some z → z.number ≡ x.number → x ≡ z
     once t z f e = elim (found_in t name x z ds f) [ inl a ↦ a.1 | inr a ↦ absurd (not_same t name a.0 (A.once t name z d a.1 F (e ∙ number))) ]
 
@@ -185,7 +185,7 @@ module _ (r k : Register) (U : NoneFalls r k) (ms : List Msg) (ds : List (List �
     ]
 
     ask_wave : (b : ℕ × Body) → In b bs → AtMost b.1 x
-    ask_wave b i = let k = asks b i in subst (λ y. AtMost y x) (sym k.is) (record { wave = omega arith; place = k.below })
+    ask_wave b i = let k = asks b i in subst (λ y. AtMost y x) (sym k.is) (record { wave = (let u = k.upto in omega arith); place = k.below })
 
     new_wave : (m : Msg) (j : ℕ) (t : List ℕ) (z : Reader) → In m (posted (whos.Reader x.number) x.log bs) → Concerns m j → find_named t (put_named name x ds) ≡ Some z → z.number ≡ j → AtMost m.body z
     new_wave m j t z i q f e = let p = posted_to (whos.Reader x.number) x.log bs m i in elim q [
@@ -197,7 +197,7 @@ module _ (r k : Register) (U : NoneFalls r k) (ms : List Msg) (ds : List (List �
     pub rounds_on : Rounds k (λ m. In m ms ⊎ In m (posted (whos.Reader x.number) x.log bs)) (put_named name x ds)
     rounds_on = record {
       nodes = λ m j o q. elim o [ inl i ↦ R.nodes m j i q | inr i ↦ absurd (to_node m j i q) ];
-      asks = λ m j o q. elim o [ inl i ↦ R.asks m j i q | inr i ↦ let p = posted_to (whos.Reader x.number) x.log bs m i in let y = asks p.0 p.1 in record { round = x.round; from = y.from; is = ap (λ (u : Msg). u.body) p.2 ∙ y.is } ];
+      asks = λ m j o q. elim o [ inl i ↦ R.asks m j i q | inr i ↦ let p = posted_to (whos.Reader x.number) x.log bs m i in let y = asks p.0 p.1 in record { round = y.at; from = y.from; is = ap (λ (u : Msg). u.body) p.2 ∙ y.is } ];
       waves = λ m j t z o q f e. elim o [ inl i ↦ old_wave m j t z i q f e | inr i ↦ new_wave m j t z i q f e ];
       generations = λ m j n u g end o q b. elim o [ inl i ↦ raised _ g (R.generations m j n u g end i q b) | inr i ↦ absurd (to_node m j i q) ];
       positive = λ m j n u g end o q b. elim o [ inl i ↦ R.positive m j n u g end i q b | inr i ↦ absurd (to_node m j i q) ];

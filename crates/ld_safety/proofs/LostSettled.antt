@@ -1,10 +1,10 @@
 -- Where nodes keep what was settled, as many nodes as there are copies answered for a number that a reader may call lost, and none of them shows a clean page without it.
-use Rattle.std.proofs.Common.{◌≡◌, ◌∙◌, ◌⊎◌, ◌≤◌, ◌<◌, ℕ, inl, inr, refl, ap, sym, subst, Bool, true, false, not, ◌&&◌, ◌==◌, nat_lt, nat_le, List, [], ◌∷◌, Option, Some, None, is_some, arith}
-use Rattle.std.proofs.lemmas.Bool.{cases_Bool, and_parts, eqb-true, ltb-true, leb-true}
+use Rattle.std.proofs.Common.{◌≡◌, ◌∙◌, ◌⊎◌, ◌≤◌, ◌<◌, ℕ, inl, inr, refl, ap, sym, subst, Bool, true, false, not, ◌&&◌, ◌||◌, ◌==◌, if◌then◌else◌, nat_lt, nat_le, List, [], ◌∷◌, Option, Some, None, is_some, arith}
+use Rattle.std.proofs.lemmas.Bool.{cases_Bool, and_parts, or_cases, or_left, or_right, eqb-true, ltb-true, leb-true}
 use Rattle.ld_table.specs.Table.{find}
 use Rattle.ld_table.specs.Named.{find_named}
 use Rattle.ld_table.specs.Words.{all_of, any_of}
-use Rattle.ld_lsn.specs.Number.{numbered, home_epoch}
+use Rattle.ld_lsn.specs.Number.{epoch_of, esn_of, numbered, home_epoch}
 use Rattle.ld_config.specs.declared.config.Config.{Config}
 use Rattle.ld_schedule.specs.declared.event.Event.{Event}
 use Rattle.ld_msg.specs.declared.msg.Msg.{Msg}
@@ -14,26 +14,30 @@ use Rattle.ld_msg.specs.declared.msg.Body.{Body}
 use Rattle.ld_msg.specs.declared.msg.Body.TheVariants as bodies
 use Rattle.ld_msg.specs.Reading.{Held, is_loss, leaves_open, lacks, is_lost_for, knows_end_above, entry_at}
 use Rattle.ld_msg.specs.Reading as reading
-use Rattle.ld_msg.specs.Reader.{Reader}
-use Rattle.ld_machine.specs.Config.{spec_of, set_at}
+use Rattle.ld_msg.specs.Reader.{Reader, shown_swaps}
+use Rattle.ld_msg.specs.Register.{epochs_of}
+use Rattle.ld_machine.specs.Config.{fixed_of, fixed_at, set_at}
 use Rattle.ld_machine.specs.Facts.{Happened}
 use Rattle.ld_machine.specs.Safe.{LossesHappened}
-use Rattle.ld_machine.specs.World.{World, In, begin}
+use Rattle.ld_machine.specs.World.{World, In, Sent, begin, has_told, has_joined, says_stored, says_settled}
 use Rattle.ld_machine.specs.Invariant.{Closed}
 use Rattle.ld_machine.specs.Losses.{EndsAsLoss}
 use Rattle.ld_machine.specs.Run.{Move, Takes, history, next_world, world_after}
 use Rattle.ld_safety.specs.Lost.{CopiesAreLost, has_copied}
-use Rattle.ld_safety.proofs.Lists.{Some_inj, not_none, any_in, not_both}
+use Rattle.ld_safety.proofs.Lists.{Some_inj, not_none, any_in, not_both, count_mono}
 use Rattle.ld_safety.proofs.Members.{find_in, In_filter}
 use Rattle.ld_safety.proofs.Traces.{Keeps}
-use Rattle.ld_safety.proofs.Registers.{Reached}
+use Rattle.ld_safety.proofs.Registers.{Reached, look_like}
 use Rattle.ld_safety.proofs.Specs.{SpecFine}
 use Rattle.ld_safety.proofs.LostRounds.{answer_to, place_of}
 use Rattle.ld_safety.proofs.LostAlong.{RoundsOf}
-use Rattle.ld_safety.proofs.LostLaw.{SettledApart, LossesSettled, LossesTold, losses_happened}
+use Rattle.ld_safety.proofs.LostLaw.{SettledApart, EnoughNow, LossesSettled, LossesTold, losses_happened}
 use Rattle.ld_safety.proofs.LostLaws.{copies_are_lost}
-use Rattle.ld_safety.proofs.LostPages.{Enough, CleanKept, CleanPage, home_is}
-use Rattle.ld_safety.proofs.LostShown.{Facts, PageFacts, Shown, shown_kept}
+use Rattle.ld_safety.proofs.LostPages.{Enough, CleanKept, CleanPage, home_is, place_in}
+use Rattle.ld_safety.proofs.LostShown.{Facts, PageFacts}
+use Rattle.ld_safety.proofs.LostFresh.{FreshAt, Seeing, seeing_kept}
+use Rattle.ld_safety.proofs.LostTold.{told_copied}
+use Rattle.ld_safety.proofs.Joins.{Joins, now_count, now_members}
 
 -- ---- what is held ----
 
@@ -85,6 +89,28 @@ pub record Within (w : World) (l s : ℕ) : Type 0 where
 
 page_home : (c : Config) (w : World) (y l s from upto : ℕ) (es : List Entry) → CleanPage c w y l from upto es → from ≤ s → s ≤ upto → home_epoch s ≡ home_epoch from
 page_home c w y l s from upto es P lo hi = let a = P.starts in let z = P.ends in let x = P.place in (home_is s (home_epoch from) (omega arith) (omega arith)).0
+
+-- ---- who answered for the copy ----
+copied_by : (b s t j : Bool) → (if b then (s || j) else (t || j)) ≡ true → ((if b then s else t) ≡ true) ⊎ (j ≡ true)
+copied_by true s t j h = or_cases s j h
+copied_by false s t j h = or_cases t j h
+
+copied_of : (b s t j : Bool) → (if b then s else t) ≡ true → (if b then (s || j) else (t || j)) ≡ true
+copied_of true s t j h = or_left s j h
+copied_of false s t j h = or_left t j h
+
+joined_of : (b s t j : Bool) → j ≡ true → (if b then (s || j) else (t || j)) ≡ true
+joined_of true s t j h = or_right s j h
+joined_of false s t j h = or_right t j h
+
+copied_parts : (w : World) (l s : ℕ) (z : Summary) (y : ℕ) → home_epoch s ≡ epoch_of s → has_copied w l s z y ≡ true → (told_copied w l s z y ≡ true) ⊎ Joins w.joined l (home_epoch s) y
+copied_parts w l s z y q h = elim (copied_by (nat_le (esn_of s) z.lng) (has_told w (says_stored s) l (epoch_of s) y) (has_told w (says_settled s) l z.ballot y) (has_joined w l (epoch_of s) y) h) [ inl t ↦ inl t | inr j ↦ inr (subst (λ e. Joins w.joined l e y) (sym q) j) ]
+
+told_copies : (w : World) (l s : ℕ) (z : Summary) (y : ℕ) → told_copied w l s z y ≡ true → has_copied w l s z y ≡ true
+told_copies w l s z y h = copied_of (nat_le (esn_of s) z.lng) (has_told w (says_stored s) l (epoch_of s) y) (has_told w (says_settled s) l z.ballot y) (has_joined w l (epoch_of s) y) h
+
+joined_copies : (w : World) (l s : ℕ) (z : Summary) (y : ℕ) → home_epoch s ≡ epoch_of s → Joins w.joined l (home_epoch s) y → has_copied w l s z y ≡ true
+joined_copies w l s z y q j = joined_of (nat_le (esn_of s) z.lng) (has_told w (says_stored s) l (epoch_of s) y) (has_told w (says_settled s) l z.ballot y) (has_joined w l (epoch_of s) y) (subst (λ e. Joins w.joined l e y) q j)
 
 module _ (c : Config) (w : World) (A : RoundsOf w) (F : (m : Msg) → In m w.state.network.sent → Facts c w m) (name : List ℕ) (d : Reader) (f : find_named name w.state.readers ≡ Some d) where
   facts_of : (h : ℕ × Held) → In h d.held → PageFacts c w h.0 d.log h.1.body
@@ -145,10 +171,41 @@ module _ (c : Config) (w : World) (A : RoundsOf w) (F : (m : Msg) → In m w.sta
   abbrev Set : List ℕ
   Set = set_at c w.state.register d.log (home_epoch d.next)
 
+  -- ---- nodes that took places in the epoch ----
+  module _ (K : CleanKept c w) (H : FreshAt w.joined (Sent w) w.state.register d) (equal : shown_swaps d.seen ≡ (epochs_of w.state.register d.log).swaps) (z : Within w d.log d.next) where
+    reached : Reached w.state.register d.log (home_epoch d.next)
+    reached = (z.positive, (K.bounded d.log (home_epoch d.next) z.summary z.closed z.positive).0)
+
+    -- they show the number in each page that covers it
+    not_joined : (y : ℕ) (h : Held) → find y d.held ≡ Some h → lacks d.next h.body ≡ true → Joins w.joined d.log (home_epoch d.next) y → ⊥
+    not_joined y h q b j =
+        let k = lacks_parts d.next h.body b in
+        let i = find_in y d.held h q in
+        let P = page_held (y, h) i k in
+        let e = page_home c w y d.log d.next k.from k.upto k.entries P k.low k.high in
+        not_both _ (H.right equal (answer_to y d h.body) (A.held name d (y, h) f i) refl (H.held (y, h) i) k.round k.from k.upto k.entries k.is d.next k.low k.high (subst (λ v. Joins w.joined d.log v y) e j)) k.without
+
+    home_same : home_epoch d.next ≡ epoch_of d.next
+    home_same = (place_in d.next z.summary.end z.positive z.below (K.bounded d.log (home_epoch d.next) z.summary z.closed z.positive).1).0
+
+    -- who answered for its copy told so, or took a place
+    by_told : (y : ℕ) → has_copied w d.log d.next z.summary y ≡ true → (told_copied w d.log d.next z.summary y ≡ true) ⊎ Joins w.joined d.log (home_epoch d.next) y
+    by_told y = copied_parts w d.log d.next z.summary y home_same
+
+    of_told : (y : ℕ) → told_copied w d.log d.next z.summary y ≡ true → has_copied w d.log d.next z.summary y ≡ true
+    of_told y = told_copies w d.log d.next z.summary y
+
+    -- as many answered of the nodes that were fixed are there now
+    enough_now : Enough c w d.log d.next z.summary → EnoughNow c w d.log d.next z.summary
+    enough_now h =
+        let a = count_mono (told_copied w d.log d.next z.summary) (has_copied w d.log d.next z.summary) (fixed_at c w.state.register d.log (home_epoch d.next)) (λ y i t. of_told y t) in
+        let b = now_count c w.joined w.state.register d.log (home_epoch d.next) (has_copied w d.log d.next z.summary) K.follow K.each reached (λ y j. joined_copies w d.log d.next z.summary y home_same j) in
+        let g = (look_like c w.state.register d.log (home_epoch d.next) K.each reached).factor in omega arith
+
   -- as many as there are copies answered, or none of some nodes of the epoch gave such a page
-  some_lack : (z : Within w d.log d.next) (ys : List ℕ) → ((y : ℕ) → In y ys → In y Set) → Enough c w d.log d.next z.summary ⊎ ((y : ℕ) (h : Held) → In y ys → find y d.held ≡ Some h → lacks d.next h.body ≡ true → ⊥)
-  some_lack z [] m = inr (λ y h i. absurd i)
-  some_lack z (x ∷ ys) m = elim (some_lack z ys (λ y i. m y (inr i))) [
+  some_lack : (K : CleanKept c w) → FreshAt w.joined (Sent w) w.state.register d → shown_swaps d.seen ≡ (epochs_of w.state.register d.log).swaps → (z : Within w d.log d.next) (ys : List ℕ) → ((y : ℕ) → In y ys → In y Set) → EnoughNow c w d.log d.next z.summary ⊎ ((y : ℕ) (h : Held) → In y ys → find y d.held ≡ Some h → lacks d.next h.body ≡ true → ⊥)
+  some_lack K H equal z [] m = inr (λ y h i. absurd i)
+  some_lack K H equal z (x ∷ ys) m = elim (some_lack K H equal z ys (λ y i. m y (inr i))) [
     | inl e ↦ inl e
     | inr none ↦ by_held (find x d.held) refl none
   ] where
@@ -156,34 +213,41 @@ module _ (c : Config) (w : World) (A : RoundsOf w) (F : (m : Msg) → In m w.sta
     with_first f none y h (inl e) q b = f h (ap (λ v. find v d.held) (sym e) ∙ q) b
     with_first f none y h (inr i) q b = none y h i q b
 
-    by_held : (o : Option Held) → find x d.held ≡ o → ((y : ℕ) (h : Held) → In y ys → find y d.held ≡ Some h → lacks d.next h.body ≡ true → ⊥) → Enough c w d.log d.next z.summary ⊎ ((y : ℕ) (h : Held) → In y (x ∷ ys) → find y d.held ≡ Some h → lacks d.next h.body ≡ true → ⊥)
+    by_held : (o : Option Held) → find x d.held ≡ o → ((y : ℕ) (h : Held) → In y ys → find y d.held ≡ Some h → lacks d.next h.body ≡ true → ⊥) → EnoughNow c w d.log d.next z.summary ⊎ ((y : ℕ) (h : Held) → In y (x ∷ ys) → find y d.held ≡ Some h → lacks d.next h.body ≡ true → ⊥)
     by_held None q none = inr (with_first (λ h g b. not_none (sym q ∙ g)) none)
     by_held (Some a) q none = elim (cases_Bool (lacks d.next a.body)) [
       | inl b ↦ (let P = page_without x a z q b in elim (P.page.short d.next P.low P.high) [
-        | inl e ↦ inl (subst (λ (u : Summary). Enough c w d.log d.next u) (sym P.same) e)
-        | inr e ↦ absurd (not_both _ (e (subst (λ j. In x (set_at c w.state.register d.log j)) P.home (m x (inl refl)))) P.without)
+        | inl e ↦ inl (enough_now K H equal z (subst (λ (u : Summary). Enough c w d.log d.next u) (sym P.same) e))
+        | inr e ↦ absurd (elim (now_members c w.joined w.state.register d.log (home_epoch d.next) x K.follow K.each (reached K H equal z) (m x (inl refl))) [
+          | inl i ↦ not_both _ (e (subst (λ j. In x (fixed_at c w.state.register d.log j)) P.home i)) P.without
+          | inr j ↦ not_joined K H equal z x a q b j
+        ])
       ])
       | inr b ↦ inr (with_first (λ h g u. not_both _ (subst (λ (v : Held). lacks d.next v.body ≡ true) (Some_inj (sym g ∙ q)) u) b) none)
     ]
 
-  pub settled_apart : CleanKept c w → ((l e : ℕ) → Reached w.state.register l e → SpecFine (spec_of c w.state.register l e)) → is_loss d.next (set_at c w.state.register d.log (home_epoch d.next)) d.held ≡ true → SettledApart c w d.log d.next d.held
-  settled_apart K F l = let z = within (set_at c w.state.register d.log (home_epoch d.next)) l in record {
+  pub settled_apart : CleanKept c w → FreshAt w.joined (Sent w) w.state.register d → ((l e : ℕ) → Reached w.state.register l e → SpecFine (fixed_of c w.state.register l e)) → shown_swaps d.seen ≡ (epochs_of w.state.register d.log).swaps
+      → is_loss d.next (set_at c w.state.register d.log (home_epoch d.next)) d.held ≡ true → SettledApart c w d.log d.next d.held
+  settled_apart K H F equal l = let z = within (set_at c w.state.register d.log (home_epoch d.next)) l in let o = reached K H equal z in record {
     summary = z.summary;
     closed = z.closed;
-    fine = F d.log (home_epoch d.next) (z.positive, (K.bounded d.log (home_epoch d.next) z.summary z.closed z.positive).0);
-    apart = λ y h i q b t. let P = page_without y h z q b in not_both _ (P.page.has d.next P.low P.high (subst (λ (u : Summary). has_copied w d.log d.next u y ≡ true) P.same t)) P.without;
-    copied = some_lack z (set_at c w.state.register d.log (home_epoch d.next)) (λ y i. i);
-    enough = K.enough d.log d.next z.summary z.closed z.above z.below;
+    fine = let a = (F d.log (home_epoch d.next) o).most in let b = look_like c w.state.register d.log (home_epoch d.next) K.each o in let u = b.factor in let v = b.size in omega arith;
+    apart = λ y h i q b t. elim (by_told K H equal z y t) [
+      | inl t ↦ (let P = page_without y h z q b in not_both _ (P.page.has d.next P.low P.high (subst (λ (u : Summary). told_copied w d.log d.next u y ≡ true) P.same t)) P.without)
+      | inr j ↦ not_joined K H equal z y h q b j
+    ];
+    copied = some_lack K H equal z (set_at c w.state.register d.log (home_epoch d.next)) (λ y i. i);
+    enough = λ h. enough_now K H equal z (K.enough d.log d.next z.summary z.closed z.above z.below h);
     how = K.how d.log (home_epoch d.next) z.summary z.closed z.positive;
   }
 
 -- ---- the laws, where nodes keep what was settled ----
-module _ (c : Config) (Q : List Happened → World → Type 0) (C : (hs : List Happened) (w : World) → Q hs w → CleanKept c w) (F : (hs : List Happened) (w : World) → Q hs w → (l e : ℕ) → Reached w.state.register l e → SpecFine (spec_of c w.state.register l e)) where
-  pub losses_settled : LossesSettled c (Shown c Q C)
-  losses_settled hs w K name d f l = settled_apart c w K.0.1.1 K.1.1.1 name d f (C hs w K.1.0.0.1) (F hs w K.1.0.0.1) l
+module _ (c : Config) (Q : List Happened → World → Type 0) (C : (hs : List Happened) (w : World) → Q hs w → CleanKept c w) (F : (hs : List Happened) (w : World) → Q hs w → (l e : ℕ) → Reached w.state.register l e → SpecFine (fixed_of c w.state.register l e)) where
+  pub losses_settled : LossesSettled c (Seeing c Q C)
+  losses_settled hs w K name d f e l = let G = K.1.0 in settled_apart c w K.0.1.1 G.1.1 name d f (C hs w G.0.0.1) (K.1.1 name d f) (F hs w G.0.0.1) e l
 
   pub happened : Keeps c Q → LossesTold c Q → (es : List Event) → LossesHappened c (history c es)
-  happened K T es = losses_happened c (Shown c Q C) (shown_kept c Q C K) losses_settled (λ hs w k. T hs w (k.0, k.1.0.0.1)) es
+  happened K T es = losses_happened c (Seeing c Q C) (seeing_kept c Q C K) losses_settled (λ hs w k. T hs w (k.0, k.1.0.0.0.1)) es
 
   pub stood : Keeps c Q → (name : List ℕ) (l s round : ℕ) (before : List Move) (asks : Event) (between : List Move) (gives : Event) → EndsAsLoss c name l s round before (Takes asks) between (Takes gives) → CopiesAreLost c (next_world c (world_after c (begin c) before) asks) l s
-  stood K name l s round before asks between gives E = copies_are_lost c (Shown c Q C) (shown_kept c Q C K) losses_settled name l s round before asks between gives E
+  stood K name l s round before asks between gives E = copies_are_lost c (Seeing c Q C) (seeing_kept c Q C K) losses_settled name l s round before asks between gives E

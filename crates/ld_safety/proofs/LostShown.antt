@@ -14,13 +14,13 @@ use Rattle.ld_msg.specs.declared.msg.Entry.{Entry}
 use Rattle.ld_msg.specs.declared.msg.Summary.{Summary}
 use Rattle.ld_msg.specs.declared.msg.Body.{Body}
 use Rattle.ld_msg.specs.declared.msg.Body.TheVariants as bodies
-use Rattle.ld_msg.specs.Register.{Register, Epochs, no_epochs, epochs_of, with_epochs, next_epoch, closed_epochs, activate, close, draw}
+use Rattle.ld_msg.specs.Register.{swap, swapped_epochs, Register, Epochs, no_epochs, epochs_of, with_epochs, next_epoch, closed_epochs, activate, close, draw}
 use Rattle.ld_op.specs.Plain.{Plain, log_of}
 use Rattle.ld_op.specs.Answers.{read_answer}
 use Rattle.ld_op.specs.Handles.{handled_by, ballot_of}
 use Rattle.ld_ids.specs.Choice.{nodes_of}
 use Rattle.ld_ids.specs.declared.set.Spec.{Spec}
-use Rattle.ld_machine.specs.Config.{spec_of, set_at}
+use Rattle.ld_machine.specs.Config.{fixed_of, fixed_at}
 use Rattle.ld_machine.specs.Disk.{Node}
 use Rattle.ld_machine.specs.State.{finish, node_at, posted}
 use Rattle.ld_machine.specs.Facts.{Happened}
@@ -30,18 +30,17 @@ use Rattle.ld_machine.specs.Run.{next_world}
 use Rattle.ld_machine.specs.Step as Step
 use Rattle.ld_safety.proofs.Lists.{Some_inj, not_none, only, count_mono}
 use Rattle.ld_safety.proofs.Traces.{Keeps, both_kept, beside_kept}
-use Rattle.ld_safety.specs.Lost.{has_copied}
 use Rattle.ld_safety.proofs.Base.{Base}
 use Rattle.ld_safety.proofs.Events.{NamesOnce, Serves}
 use Rattle.ld_safety.proofs.NodeSteps.{read_answered}
-use Rattle.ld_safety.proofs.RegisterSteps.{Same, activate_leaves, close_leaves, draw_leaves, epochs_put, epochs_same}
+use Rattle.ld_safety.proofs.RegisterSteps.{Same, activate_leaves, close_leaves, draw_leaves, swap_leaves, epochs_put, epochs_same}
 use Rattle.ld_safety.proofs.Registers.{OnlyClosed, register_kept, follows, specs_stay, spec_stays, start_closed}
 use Rattle.ld_safety.proofs.LostTalk.{TalkKeeps, talked, new_or_old}
 use Rattle.ld_safety.proofs.LostRounds.{posted_to}
 use Rattle.ld_safety.proofs.LostAlong.{Asked, RoundsOf, asked_kept}
 use Rattle.ld_safety.proofs.LostKept.{Standings, standings_kept}
 use Rattle.ld_safety.proofs.LostUnserved.{unserved_step}
-use Rattle.ld_safety.proofs.LostTold.{copied_before, copied_after}
+use Rattle.ld_safety.proofs.LostTold.{told_copied, copied_before, copied_after}
 use Rattle.ld_safety.proofs.LostPages.{Enough, CleanKept, CleanPage, KnownEnd, home_is, known_end, page_of}
 
 -- ---- closed epochs stay closed ----
@@ -66,6 +65,7 @@ closed_step c w v N h = let r = w.state.register in register_kept c w.state v (�
       | inr a ↦ put_stays r (close r l k y b).register l (closed_epochs (epochs_of r l) k y) (λ e z q. elim (put_cases e k y (epochs_of r l).summaries) [ inl b ↦ absurd (let u = h l e z q in let x = a.0 in let t = b.0 in omega arith) | inr b ↦ b.1 ∙ q ]) a.1
     ])
     (λ n. elim (draw_leaves r n) [ inl a ↦ logs_stay r (draw r n).register a.0 | inr a ↦ logs_stay r (draw r n).register a.0 ])
+    (λ l upto old new. elim (swap_leaves r l upto old new) [ inl a ↦ logs_stay r (swap r l upto old new).register a.0 | inr a ↦ put_stays r (swap r l upto old new).register l (swapped_epochs (epochs_of r l) upto old new) (λ e z q. q) a ])
     (λ n q. logs_stay r n q) N
 
 only_closed_step : (c : Config) (w : World) (v : Event) → NamesOnce w.state → OnlyClosed w.state.register → OnlyClosed (next_world c w v).state.register
@@ -85,13 +85,13 @@ module _ (c : Config) (w : World) (v : Event) (N : NamesOnce w.state) (O : OnlyC
   closed_later : (l e : ℕ) (z : Summary) → Closed w l e z → Closed (next_world c w v) l e z
   closed_later l e z h = closed_step c w v N O l e z h
 
-  spec_later : (l e : ℕ) → 0 < e → e ≤ (epochs_of w.state.register l).epoch → spec_of c (next_world c w v).state.register l e ≡ spec_of c w.state.register l e
+  spec_later : (l e : ℕ) → 0 < e → e ≤ (epochs_of w.state.register l).epoch → fixed_of c (next_world c w v).state.register l e ≡ fixed_of c w.state.register l e
   unfolding finish
   spec_later l e p b = spec_stays c w.state.register (Step.happens c w.state v).state.register (follows c w.state v N O).0 (specs_stay c w.state v N) l e (p, b)
 
   enough_later : (l s : ℕ) (z : Summary) → 0 < home_epoch s → home_epoch s ≤ (epochs_of w.state.register l).epoch → Enough c w l s z → Enough c (next_world c w v) l s z
-  enough_later l s z p b h = subst (λ (k : Spec). k.r ≤ how_many (has_copied (next_world c w v) l s z) (nodes_of k)) (sym (spec_later l (home_epoch s) p b))
-      (let k = count_mono (has_copied w l s z) (has_copied (next_world c w v) l s z) (set_at c w.state.register l (home_epoch s)) (λ y i t. copied_after c w v (λ n j u. (up n j u).1) N y l s z t) in omega arith)
+  enough_later l s z p b h = subst (λ (k : Spec). k.r ≤ how_many (told_copied (next_world c w v) l s z) (nodes_of k)) (sym (spec_later l (home_epoch s) p b))
+      (let k = count_mono (told_copied w l s z) (told_copied (next_world c w v) l s z) (fixed_at c w.state.register l (home_epoch s)) (λ y i t. copied_after c w v (λ n j u. (up n j u).1) N y l s z t) in omega arith)
 
   page_later : (y l from upto : ℕ) (es : List Entry) → CleanPage c w y l from upto es → CleanPage c (next_world c w v) y l from upto es
   page_later y l from upto es P = let k = K.bounded l (home_epoch from) P.summary P.closed P.positive in let b = k.0 in record {

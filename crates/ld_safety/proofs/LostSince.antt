@@ -1,5 +1,5 @@
 -- Since the asks of a confirmation were sent: each node that says in its round that it is lost was so at that moment, and nobody else is told.
-use Rattle.std.proofs.Common.{◌≡◌, ◌∙◌, ◌≤◌, ◌<◌, ℕ, inl, inr, refl, ap, sym, subst, true, List, [], length, Some, None, arith}
+use Rattle.std.proofs.Common.{◌≡◌, ◌∙◌, ◌≤◌, ℕ, inl, inr, refl, ap, sym, subst, true, List, [], length, Some, None, arith}
 use Rattle.ld_table.specs.Table.{find}
 use Rattle.ld_table.specs.Named.{find_named, put_named}
 use Rattle.ld_table.specs.Words.{is_in}
@@ -24,7 +24,7 @@ use Rattle.ld_safety.proofs.ReaderLogs.{Apart, Concerns}
 use Rattle.ld_safety.proofs.Events.{NamesOnce}
 use Rattle.ld_safety.proofs.LostNodes.{LostIn}
 use Rattle.ld_safety.proofs.Generations.{Back, back_on, back_step}
-use Rattle.ld_safety.proofs.LostReads.{ReadOn, SaysAgain, poll_are, polled_up, read_on}
+use Rattle.ld_safety.proofs.LostReads.{ReadOn, SaysAgain, poll_are, polled_up, read_on, AskOf}
 use Rattle.ld_safety.proofs.LostTalk.{Elsewhere, TalkKeeps, talked, new_or_old, same_readers}
 use Rattle.ld_safety.proofs.LostRounds.{ask_answer, found_in, posted_to}
 use Rattle.ld_safety.proofs.LostAlong.{RoundsOf}
@@ -109,7 +109,7 @@ module _ (then : World) (r l s round : ℕ) (asked : List (ℕ × ℕ)) where
 
     -- a reader that goes on
     module _ (name : List ℕ) (d x : Reader) (bs : List (ℕ × Body)) (F : find_named name w.state.readers ≡ Some d) (number : x.number ≡ d.number) (log : x.log ≡ d.log) (up : d.round ≤ x.round)
-        (asks : (b : ℕ × Body) → In b bs → (k : ℕ) × (b.1 ≡ bodies.ReadAsk x.round k) × (d.round < x.round)) (on : d.number ≡ r → (v : Confirmation) → x.confirming ≡ Some v → v.round ≡ round → SinceConfirming x v) where
+        (asks : (b : ℕ × Body) → In b bs → AskOf d.round x.round x.next b.1) (on : d.number ≡ r → (v : Confirmation) → x.confirming ≡ Some v → v.round ≡ round → SinceConfirming x v) where
       was : x.number ≡ r → SinceReader d
       was e = P.talk.readers name d F (sym number ∙ e)
 
@@ -119,7 +119,7 @@ module _ (then : World) (r l s round : ℕ) (asked : List (ℕ × ℕ)) where
           | inl z ↦ absurd (to_node p.0.0 (sym (ap (λ (y : Msg). y.to) p.2) ∙ z))
           | inr z ↦ ap (λ (y : Msg). y.log) p.2 ∙ (log ∙ (was (from_here (sym (ap (λ (y : Msg). y.from) p.2) ∙ z))).log)
         ];
-        ask = λ q n b. absurd (let y = asks p.0 p.1 in let z : bodies.ReadAsk x.round y.0 ≡ bodies.ReadAsk round n = sym y.1 ∙ (sym (ap (λ (u : Msg). u.body) p.2) ∙ b) in let k : x.round ≡ round = cc in let h = (was (from_here (sym (ap (λ (u : Msg). u.from) p.2) ∙ q))).up in let v = y.2 in omega arith);
+        ask = λ q n b. absurd (let y = asks p.0 p.1 in let z : bodies.ReadAsk y.at y.from ≡ bodies.ReadAsk round n = sym y.is ∙ (sym (ap (λ (u : Msg). u.body) p.2) ∙ b) in let k : y.at ≡ round = cc in let h = (was (from_here (sym (ap (λ (u : Msg). u.from) p.2) ∙ q))).up in let v = y.above in omega arith);
         answer = λ q n g end b u. absurd (to_node p.0.0 (sym (ap (λ (y : Msg). y.to) p.2) ∙ q));
       } where
         to_node : (y : ℕ) → whos.Node y ≡ whos.Reader r → ⊥
@@ -176,8 +176,8 @@ module _ (then : World) (r l s round : ℕ) (asked : List (ℕ × ℕ)) where
       elsewhere = λ ms h. record { sent = λ m i. elsewhere_since m (h m i); there = P.talk.there; readers = P.talk.readers };
       answers = λ n m x i t v h. record { sent = λ z j. subst SinceMsg (sym (only z _ j)) (answer_since n m x i h); there = P.talk.there; readers = P.talk.readers };
       reads = λ name d m i t v. let looks = looks_at c w.state.register d.log in let y = Step.sender_node m.from in let a = on_answer looks d y m.body in let G = read_on looks d y m.body v.open_still in
-          goes_since name d a.reader a.asks v.named G.number G.log G.round (λ b j. let k = G.asks b j in (k.0.from, k.0.is, k.1)) (read_since looks name d m v.named i t G);
-      polls = λ name d v. let looks = looks_at c w.state.register d.log in goes_since name d (polled looks d) (poll_asks looks d) v.named refl refl (polled_up looks d) (λ b j. let z = poll_are looks d b j in (d.next, z.0, z.1)) (λ q v h. absurd (not_none h));
+          goes_since name d a.reader a.asks v.named G.number G.log G.round (λ b j. G.asks b j) (read_since looks name d m v.named i t G);
+      polls = λ name d v. let looks = looks_at c w.state.register d.log in goes_since name d (polled looks d) (poll_asks looks d) v.named refl refl (polled_up looks d) (λ b j. let z = poll_are looks d b j in record { at = (polled looks d).round; from = d.next; above = z.1; upto = omega arith; is = z.0; below = omega arith }) (λ q v h. absurd (not_none h));
       opens = λ name k from until o. opened_since name k from until o.fresh_name;
     }
 

@@ -267,6 +267,7 @@ module _ (c : Config) (hs : List Happened) (s : State) (e : Event) where
       trims = λ name q t v b. quietly _ (still_one (lines.Trimmed name t) refl) A;
       drops = λ name q v o. quietly _ still_none A;
       activates = λ name l r g n i x. quietly _ (still_one (lines.Active name _) refl) A;
+      swaps = λ n m l x r q i. quietly _ (still_one x (still_quiet x q)) A;
       activate_fails = λ name l x g q. quietly _ (still_one x (still_quiet x q)) A;
       answers = λ f name d m i t v o. quietly _ (still_group OfItems _ (λ h. cc) (items_of name _ _)) A;
       polls = λ name d v o. quietly _ still_none A;

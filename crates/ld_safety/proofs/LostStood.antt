@@ -6,7 +6,8 @@ use Rattle.ld_lsn.specs.Number.{home_epoch}
 use Rattle.ld_config.specs.declared.config.Config.{Config}
 use Rattle.ld_schedule.specs.declared.event.Event.{Event}
 use Rattle.ld_msg.specs.Reading.{Held, lost_held, is_loss, is_lost_for, within}
-use Rattle.ld_msg.specs.Reader.{Reader, polled, seen_nodes}
+use Rattle.ld_msg.specs.Reader.{Reader, polled, seen_nodes, shown_swaps}
+use Rattle.ld_msg.specs.Register.{epochs_of}
 use Rattle.ld_machine.specs.Config.{looks_at, set_at}
 use Rattle.ld_machine.specs.Disk.{Node}
 use Rattle.ld_machine.specs.State.{State, node_at}
@@ -27,7 +28,7 @@ use Rattle.ld_safety.proofs.LostTalk.{TalkKeeps, talked, same_readers}
 use Rattle.ld_safety.proofs.LostRounds.{answer_to}
 use Rattle.ld_safety.proofs.LostAlong.{Asked, asked_kept}
 use Rattle.ld_safety.proofs.LostSince.{Since, SinceConfirming, since_step}
-use Rattle.ld_safety.proofs.LostBegins.{NewHere, lost_in, came, new_set, since_new}
+use Rattle.ld_safety.proofs.LostBegins.{NewHere, lost_in, came, new_set, new_equal, since_new}
 use Rattle.ld_safety.proofs.LostSpoken.{CutOld, Spoken, Answering, answering_kept, lost_plain}
 use Rattle.ld_safety.proofs.LostLines.{among_lost, confirmed_lost}
 
@@ -93,6 +94,7 @@ pub record AtAsks (c : Config) (then : World) (name : List ℕ) (l s : ℕ) : Ty
   pub there : find_named name then.state.readers ≡ Some reader
   pub log : reader.log ≡ l
   pub next : reader.next ≡ s
+  pub equal : shown_swaps reader.seen ≡ (epochs_of then.state.register l).swaps
   pub loss : is_loss s (set_at c then.state.register l (home_epoch s)) reader.held ≡ true
   pub lost : (y : ℕ) (h : Held) → In y (set_at c then.state.register l (home_epoch s)) → find y reader.held ≡ Some h → is_lost_for s h.body ≡ true → is_lost_at l (home_epoch s) (node_at then.state y) ≡ true
 
@@ -164,6 +166,7 @@ module _ (c : Config) (name : List ℕ) (l s round : ℕ) (before : List Move) (
         there = E.asked.there;
         log = lg;
         next = E.asked.next;
+        equal = new_equal c (world_after c (begin c) before) asks known_first.0.0.0 known_first.0.1.1 known_first.1.1 known_then.0.1.1 known_then.1.1 name x v E.asked.there E.asked.lasts n ∙ ap (λ j. (epochs_of r j).swaps) lg;
         loss = subst (λ y. is_loss s (set_at c r y (home_epoch s)) x.held ≡ true) lg (subst (λ y. is_loss y (set_at c r x.log (home_epoch y)) x.held ≡ true) E.asked.next (subst (λ (y : List ℕ). is_loss x.next y x.held ≡ true) epoch_set n.loss));
         lost = λ y h m f z.
             let k = among_lost s y h (set_at c r x.log (home_epoch s)) x.held (subst (λ j. In y (set_at c r j (home_epoch s))) (sym lg) m) (find_in y x.held h f) z in

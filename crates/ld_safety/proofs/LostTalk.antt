@@ -101,6 +101,7 @@ module _ (c : Config) (s : State) (e : Event) (Q : List Msg → List (List ℕ �
       trims = λ name q t v b. abroad _ refl refl (posted_elsewhere (whos.Sequencer q.epoch) q.log _ (λ r z. cc));
       drops = λ name q v o. quietly _ refl refl refl;
       activates = λ name l r g n i x. abroad _ refl refl (posted_elsewhere (whos.Sequencer (epochs_of r l).epoch) l _ (λ r z. cc));
+      swaps = λ n m l x r q i. quietly _ refl refl refl;
       activate_fails = λ name l x g q. quietly _ refl refl refl;
       answers = λ f name d m i t v o. record { same = refl; talk = K.reads name d m i t v };
       polls = λ name d v o. record { same = refl; talk = K.polls name d v };

@@ -19,13 +19,16 @@ use Rattle.ld_machine.specs.State.{node_at, posted}
 use Rattle.ld_machine.specs.World.{World, In, Unserved, is_node, is_sequencer, says_stored, says_settled, told_by, has_told}
 use Rattle.ld_machine.specs.Run.{next_world}
 use Rattle.ld_machine.specs.Step as Step
-use Rattle.ld_safety.specs.Lost.{has_copied}
 use Rattle.ld_safety.proofs.Lists.{Some_inj, only, any_in, any_from, not_both}
 use Rattle.ld_safety.proofs.NodeSteps.{Served, store_decided, ask_decided, read_answered}
 use Rattle.ld_safety.proofs.Events.{NamesOnce, Serves}
 use Rattle.ld_safety.proofs.LostTalk.{TalkKeeps, talked, new_or_old, still_sent}
 use Rattle.ld_safety.proofs.LostRounds.{posted_to}
 use Rattle.ld_safety.proofs.LostUnserved.{AllUnserved}
+
+-- the node has told that it has the copy of the number that counts where its epoch is closed so: it settled the number for the closing plan, or it stored the append where that was known good
+abbrev pub told_copied : World → ℕ → ℕ → Summary → ℕ → Bool
+told_copied w l s y n = if nat_le (esn_of s) y.lng then has_told w (says_stored s) l (epoch_of s) n else has_told w (says_settled s) l y.ballot n
 
 -- ---- what a settling answer says of its node ----
 store_settled : (generation : ℕ) (g : Log) (e : Entry) (s : ℕ) (x : Body) → store_answer generation e.number (store_decision g e) ≡ Some x → says_settled s x ≡ true → Served g (epoch_of s)
@@ -129,13 +132,13 @@ module _ (c : Config) (w : World) (e : Event) (up : (n l : ℕ) → Serves c w.s
   told_after : NamesOnce w.state → (p : Body → Bool) (y l b : ℕ) → has_told w p l b y ≡ true → has_told (next_world c w e) p l b y ≡ true
   told_after N p y l b h = let t = talked c w.state e (λ ms ds. NoneTold ms) none_talk N in let x = any_in (told_by p l y b) w.state.network.sent h in any_from (told_by p l y b) x.0 (next_world c w e).state.network.sent (still_sent c w.state e x.0 t.same x.1) x.2
 
-  pub copied_after : NamesOnce w.state → (y l s : ℕ) (z : Summary) → has_copied w l s z y ≡ true → has_copied (next_world c w e) l s z y ≡ true
+  pub copied_after : NamesOnce w.state → (y l s : ℕ) (z : Summary) → told_copied w l s z y ≡ true → told_copied (next_world c w e) l s z y ≡ true
   copied_after N y l s z = by_good (nat_le (esn_of s) z.lng) where
     by_good : (t : Bool) → (if t then has_told w (says_stored s) l (epoch_of s) y else has_told w (says_settled s) l z.ballot y) ≡ true → (if t then has_told (next_world c w e) (says_stored s) l (epoch_of s) y else has_told (next_world c w e) (says_settled s) l z.ballot y) ≡ true
     by_good true h = told_after N (says_stored s) y l (epoch_of s) h
     by_good false h = told_after N (says_settled s) y l z.ballot h
 
-  pub copied_before : NamesOnce w.state → (y l s : ℕ) (z : Summary) → AllUnserved (node_at w.state y) l (epoch_of s) → has_copied (next_world c w e) l s z y ≡ true → has_copied w l s z y ≡ true
+  pub copied_before : NamesOnce w.state → (y l s : ℕ) (z : Summary) → AllUnserved (node_at w.state y) l (epoch_of s) → told_copied (next_world c w e) l s z y ≡ true → told_copied w l s z y ≡ true
   copied_before N y l s z u = by_good (nat_le (esn_of s) z.lng) where
     by_good : (t : Bool) → (if t then has_told (next_world c w e) (says_stored s) l (epoch_of s) y else has_told (next_world c w e) (says_settled s) l z.ballot y) ≡ true → (if t then has_told w (says_stored s) l (epoch_of s) y else has_told w (says_settled s) l z.ballot y) ≡ true
     by_good true h = told_before N (says_stored s) y l s (epoch_of s) (stored_too s) u h

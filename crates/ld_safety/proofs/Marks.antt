@@ -17,7 +17,7 @@ use Rattle.ld_op.specs.Plain.{Plain, Log, log_of, empty_log, unformatted, is_los
 use Rattle.ld_op.proofs.Moves.{taken_from}
 use Rattle.ld_msg.specs.Digest.{is_bridge}
 use Rattle.ld_msg.specs.Register.{Register, lce_of}
-use Rattle.ld_machine.specs.Config.{set_at}
+use Rattle.ld_machine.specs.Config.{fixed_at}
 use Rattle.ld_machine.specs.World.{Made, In, from_node}
 use Rattle.ld_safety.proofs.Lists.{not_none, not_both}
 use Rattle.ld_safety.proofs.NodeSteps.{Served}
@@ -94,7 +94,7 @@ module _ (c : Config) (made : List Made) (r : Register) (sent : List Msg) where
   HoleClosed l x = HoleFine made l x.number x.what × (epoch_of x.number ≤ lce_of r l) × (is_bridge x.what ≡ false)
 
   abbrev pub OfSet : ℕ → ℕ → ℕ → Type 0
-  OfSet y l k = Reached r l (epoch_of k) × In y (set_at c r l (epoch_of k))
+  OfSet y l k = Reached r l (epoch_of k) × In y (fixed_at c r l (epoch_of k))
 
   pub record Marked (y : ℕ) (p : Plain) : Type 0 where
     pub of_set : (l k : ℕ) (x : Entry) → find k (log_of p l).entries ≡ Some x → (log_of p l).lost_to < epoch_of k → OfSet y l k

@@ -125,7 +125,7 @@ MarkedNode c made s y x = (p : Plain) → MayHold x p → Marked c made s.regist
 
 module _ (c : Config) (made : List Made) (s : State) (v : Event) (M : (y : ℕ) → MarkedNode c made s y (node_at s y)) (F : (y : ℕ) → FullNode (node_at s y)) (ups : (y : ℕ) → UpFine (node_at s y))
     (seals : (y l b from upto t lng : ℕ) (es : List Entry) → In (from_node l y b (bodies.DigestPage from upto t lng es)) s.network.sent → Gone (node_at s y).plain l (epoch_of from) ⊎ (b ≤ (log_of (node_at s y).plain l).sealed))
-    (stores : (m : Msg) → In m s.network.sent → (y n lng : ℕ) (x : What) → m.to ≡ whos.Node y → m.body ≡ bodies.Store n lng x → OfSet c made s.register s.network.sent y m.log n × StoreLng made m.log (ballot_of m.from) n lng)
+    (stores : (m : Msg) → In m s.network.sent → (y n lng : ℕ) (x : What) → m.to ≡ whos.Node y → m.body ≡ bodies.Store n lng x → 0 < (node_at s y).plain.generation → Served (log_of (node_at s y).plain m.log) (epoch_of n) → OfSet c made s.register s.network.sent y m.log n × StoreLng made m.log (ballot_of m.from) n lng)
     (pages : (m : Msg) → In m s.network.sent → (round from upto : ℕ) (es : List Entry) → m.body ≡ bodies.ReadPage round from upto true es → (x : Entry) → In x es → HoleClosed c made s.register s.network.sent m.log x) where
   sealed_at : (n : ℕ) → 0 < (node_at s n).plain.generation → (l b from upto t lng : ℕ) (es : List Entry) → In (from_node l n b (bodies.DigestPage from upto t lng es)) s.network.sent → Served (log_of (node_at s n).plain l) (epoch_of from) → b ≤ (log_of (node_at s n).plain l).sealed
   sealed_at n g l b from upto t lng es i sv = elim (seals n l b from upto t lng es i) [ inl z ↦ elim z [ inl a ↦ absurd (omega arith) | inr a ↦ absurd (not_served (log_of (node_at s n).plain l) (epoch_of from) a sv) ] | inr z ↦ z ]
@@ -141,7 +141,7 @@ module _ (c : Config) (made : List Made) (s : State) (v : Event) (M : (y : ℕ) 
   op_marks n m o i t g q = let h = handled (node_at s n).plain _ m.log (ballot_of m.from) _ m.body o q in record {
     plain = handled_plain _ _ _ _ _ m.body o q;
     formatted = g;
-    accept = λ l lng e k. (let z = h.accept l lng e k in let u = stores m i n e.number lng e.what t z.1 in
+    accept = λ l lng e k. (let z = h.accept l lng e k in let u = stores m i n e.number lng e.what t z.1 g z.2 in
         subst (λ j. Served (log_of (node_at s n).plain j) (epoch_of e.number) × ((log_of (node_at s n).plain j).sealed ≤ e.ballot) × OfSet c made s.register s.network.sent n j e.number × StoreLng made j e.ballot e.number lng) (sym z.0) (z.2, z.3, u.0, subst (λ b. StoreLng made m.log b e.number lng) (sym z.4) u.1));
     refilled = λ k z. absurd (not_refilled o k (handled_other _ _ _ _ _ m.body o q) z);
     refill = λ l xs k e j. (let z = h.refill l xs k in subst (λ a. (epoch_of e.number ≤ (log_of (node_at s n).plain a).lost_to) × HoleClosed c made s.register s.network.sent a e) (sym z.0) (refill_marks m i n z.1.0 z.1.1 z.1.2 z.1.3 z.1.4 e (subst (In e) z.1.5 j)));

@@ -39,6 +39,7 @@ module _ (c : Config) (s : State) (e : Event) (N : NamesOnce s) where
     trims = λ name q t v b. N;
     drops = λ name q v o. with_sequencer_once name _;
     activates = λ name l r g n i x. with_sequencer_once name _;
+    swaps = λ n m l x r q i. N;
     activate_fails = λ name l x g q. N;
     answers = λ f name d m i t v o. with_reader_once name _;
     polls = λ name d v o. with_reader_once name _;
@@ -66,7 +67,7 @@ module _ (c : Config) (s : State) (e : Event) (N : NamesOnce s) where
 
 -- what is kept beside them
 pub with_names : (c : Config) (P : List Happened → World → Type 0) → P [] (begin c)
-    → ((hs : List Happened) (w : World) (e : Event) → NamesOnce w.state → P hs w → Cases c w.state e (λ d m. P (hs ++ told w.state.register e d ∷ []) (became w d m)))
+    → ((hs : List Happened) (w : World) (e : Event) → NamesOnce w.state → P hs w → Cases c w.state e (λ d m. P (hs ++ told w.state.register e d ∷ []) (became w e d m)))
     → Keeps c (λ hs w. NamesOnce w.state × P hs w)
 with_names c P b k = record {
   begins = ((tt, tt), b);

@@ -81,6 +81,7 @@ module _ (c : Config) (s : State) (e : Event) (P : ℕ → Node → Type 0) wher
       trims = λ name q t v b. K.all;
       drops = λ name q v o. K.all;
       activates = λ name l r g n i x. K.all;
+      swaps = λ n m l x r q i. K.all;
       activate_fails = λ name l x g q. K.all;
       answers = λ f name d m i t v o. K.all;
       polls = λ name d v o. K.all;

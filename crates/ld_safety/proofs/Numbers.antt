@@ -22,7 +22,7 @@ use Rattle.std.specs.Option.{unwrap_or}
 use Rattle.ld_table.specs.Table.{find}
 use Rattle.ld_ids.specs.declared.set.Spec.{Spec}
 use Rattle.ld_msg.specs.declared.msg.Summary.{Summary}
-use Rattle.ld_msg.specs.Register.{Register, View, Changed, Epochs, epoch_limit, no_epochs, next_epoch, closed_epochs, with_epochs, close, epochs_of, generation_of, epochs_in, activate, draw, lce_of}
+use Rattle.ld_msg.specs.Register.{swap, swapped_epochs, Register, View, Changed, Epochs, epoch_limit, no_epochs, next_epoch, closed_epochs, with_epochs, close, epochs_of, generation_of, epochs_in, activate, draw, lce_of}
 use Rattle.ld_machine.specs.Disk.{Node, keep_end}
 use Rattle.ld_msg.specs.Sequencer.{Sequencer, Acts, Appending, TooLong, EpochFull, Numbered, or_preempted, payload_limit, appending, appended, fresh_append, next_esn, activated, on_reply, on_retry, called, Attempt}
 use Rattle.ld_machine.specs.State.{State, Done, finish, node_at, with_node, with_register}
@@ -40,7 +40,7 @@ use Rattle.ld_safety.proofs.NamesKept.{with_names}
 use Rattle.ld_safety.proofs.Lines.{Group, OfNodes, OfNumbers, OfActs, OfTrims, OfSets, OfItems, AllOf, none_of, one_of, kept_of, format_of, acted_of, items_of, quiet_of, line_of}
 use Rattle.ld_safety.proofs.Appends.{RowOf, Continues, row_end}
 use Rattle.ld_safety.proofs.Continues.{stays_same, reply_continues, retry_continues}
-use Rattle.ld_safety.proofs.RegisterSteps.{Same, Advanced, activate_granted, activate_leaves, close_leaves, draw_leaves, epochs_put, epochs_same}
+use Rattle.ld_safety.proofs.RegisterSteps.{Same, Advanced, activate_granted, activate_leaves, close_leaves, draw_leaves, swap_leaves, epochs_put, epochs_same}
 
 -- ---- what the steps say of a name ----
 
@@ -207,6 +207,9 @@ put_rises r n l x h m s k = let e = epochs_same (with_epochs r l x) n k s in let
   | inr a ↦ let g : (epochs_of (with_epochs r l x) k).epoch ≡ (epochs_of r k).epoch = ap (λ (x : Epochs). x.epoch) a.1 in (omega arith, λ b. omega arith)
 ]
 
+swap_rises : (r : Register) (l upto old new : ℕ) → Rises r (swap r l upto old new).register
+swap_rises r l upto old new = elim (swap_leaves r l upto old new) [ inl s ↦ same_rises r (swap r l upto old new).register s | inr s ↦ put_rises r (swap r l upto old new).register l (swapped_epochs (epochs_of r l) upto old new) (omega arith) (λ z. omega arith) s ]
+
 activate_rises : (r : Register) (l : ℕ) (p : Spec) → Rises r (activate r l p).register
 activate_rises r l p = elim (activate_leaves r l p) [ inl s ↦ same_rises r (activate r l p).register s | inr s ↦ let z = s.0 in put_rises r (activate r l p).register l (next_epoch (epochs_of r l) p) (omega arith) (λ z. omega arith) s.1 ]
 
@@ -281,7 +284,7 @@ active_once m r n s l fixed p f rises g h k o = record {
 
 module _ (c : Config) (hs : List Happened) (w : World) (e : Event) (N : NamesOnce w.state) (A : AllCounts hs w) where
   abbrev Result : Done → Type 0
-  Result d = AllCounts (hs ++ told w.state.register e d ∷ []) (became w d [])
+  Result d = AllCounts (hs ++ told w.state.register e d ∷ []) (became w e d [])
 
   -- sequencers stay
   stays : (d : Done) → d.state.sequencers ≡ w.state.sequencers → Rises w.state.register d.state.register → ((s : List ℕ) → Says_nothing s d.lines) → Result d
@@ -402,6 +405,7 @@ module _ (c : Config) (hs : List Happened) (w : World) (e : Event) (N : NamesOnc
     trims = λ name q t v b. stays _ refl no_rise (λ s. groups_apart s OfTrims (lines.Trimmed name t ∷ []) (λ h. cc) (one_of (lines.Trimmed name t)));
     drops = λ name q v o. goes_on _ name q (Step.dropped q) refl no_rise v.named sends_nothing (λ r. record { log = refl; epoch = refl; count = refl; row = r });
     activates = λ name l r g n i x. activates_one _ name l (epochs_of r l).epoch (lce_of r l) (looks_at c r l) (Step.spec_set c w.state l) refl (activate_granted w.state.register l (Step.spec_set c w.state l) r i) refl refl n (subst (λ (d : Changed). Rises w.state.register d.register) i (activate_rises w.state.register l (Step.spec_set c w.state l))) x;
+    swaps = λ n m l x r q i. stays _ refl (swap_rises w.state.register l _ m n) (quiet_says x q);
     activate_fails = λ name l x g q. stays _ refl (activate_rises w.state.register l (Step.spec_set c w.state l)) (quiet_says x q);
     answers = λ f name d m i t v o. stays _ refl no_rise (λ s. groups_apart s OfItems _ (λ h. cc) (items_of name _ (on_answer (looks_at c w.state.register d.log) d (Step.sender_node m.from) m.body).items));
     polls = λ name d v o. stays _ refl no_rise sends_nothing;

@@ -1,5 +1,5 @@
 -- What ballots say of numbers, who stored what, and what a digest must be for recoveries to agree.
-use Rattle.std.proofs.Common.{refl, ◌≡◌, ◌∙◌, ◌⊎◌, ◌≤◌, ◌<◌, ℕ, ◌+◌, ◌-◌, inl, inr, ap, sym, subst, Bool, true, not, ◌&&◌, ◌==◌, List, map, length, Option, Some, arith, eq-eqb, le-leb, nat_le, leb-true}
+use Rattle.std.proofs.Common.{refl, ◌≡◌, ◌∙◌, ◌⊎◌, ◌≤◌, ◌<◌, ℕ, ◌+◌, ◌-◌, inl, inr, ap, sym, subst, Bool, true, not, ◌&&◌, ◌==◌, List, length, Option, Some, arith, eq-eqb, le-leb, nat_le, leb-true}
 use Rattle.std.proofs.lemmas.Bool.{and_parts, eqb-true, and_from}
 use Rattle.ld_table.specs.Words.{how_many, any_of}
 use Rattle.ld_lsn.specs.Number.{epoch_of, esn_of, last_esn}
@@ -176,9 +176,17 @@ pub record ToldFacts (hs : List Happened) (made : List Made) (sent : List Msg) (
   pub frozen : (f : Entry) → In f t.entries → Frozen hs made l e b f
   pub seen : t.whole ≡ true → (n a : ℕ) → epoch_of n ≡ e → good < esn_of n → a < b → StoredBy sent l t.node n a → Kept made l b t.trim t.entries n a
 
+-- the node is whole in the digest
+abbrev pub whole_in : List Told → ℕ → Bool
+whole_in d y = any_of (λ (t : Told). (t.node == y) && (t.whole && not t.lost)) d
+
+-- each whole node is one of the set
+abbrev pub WholeCount : List Told → List ℕ → Type 0
+WholeCount d set = how_many (λ (t : Told). t.whole && not t.lost) d ≤ how_many (whole_in d) set
+
 pub record DigestFacts (hs : List Happened) (made : List Made) (sent : List Msg) (s : Spec) (l e b : ℕ) (d : List Told) : Type 0 where
   pub told : (t : Told) → In t d → ToldFacts hs made sent l e b (digest_lng d) t
-  pub nodes : map (λ (t : Told). t.node) d ≡ nodes_of s
+  pub whole : WholeCount d (nodes_of s)
 
 -- a plan that found what it says was made from enough whole nodes, and what they knew good lies in the epoch
 pub record PlanFacts (hs : List Happened) (made : List Made) (sent : List Msg) (s : Spec) (l e b : ℕ) (d : List Told) : Type 0 where

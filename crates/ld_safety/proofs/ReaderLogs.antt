@@ -171,7 +171,9 @@ pub record SameReader (d x : Reader) : Type 0 where
 same_keeps : (looks : ℕ → View) (d : Reader) (y : ℕ) (b : Body) → ReadKeeps looks d y b (λ a. SameReader d a.reader)
 same_keeps looks d y b = record {
   starts = record { number = refl; log = refl };
-  loss = λ h. record { number = refl; log = refl };
+  ignored = λ h. record { number = refl; log = refl };
+  loss = λ h n. record { number = refl; log = refl };
+  swapped = λ h n. record { number = refl; log = refl };
   trim = λ a g n t. record { number = g.number; log = g.log };
   record_there = λ a p g n t. record { number = g.number; log = g.log };
   hole_there = λ a g n t. record { number = g.number; log = g.log };
@@ -257,6 +259,7 @@ module _ (c : Config) (w : World) (A : Apart w.state.network.sent w.state.reader
     trims = λ name q t v b. to_nodes _ refl refl (posted_apart (whos.Sequencer q.epoch) q.log _ (λ r z. cc));
     drops = λ name q v o. silent _ refl refl refl;
     activates = λ name l r g n i x. to_nodes _ refl refl (posted_apart (whos.Sequencer (epochs_of r l).epoch) l _ (λ r z. cc));
+    swaps = λ n m l x r q i. silent _ refl refl refl;
     activate_fails = λ name l x g q. silent _ refl refl refl;
     answers = λ f name d m i t v o. reads f name d (Step.sender_node m.from) m.body v.named;
     polls = λ name d v o. polled_one name d v.named;

@@ -1,11 +1,11 @@
 -- What an answer makes a reader do, case by case.
-use Rattle.std.proofs.Common.{inl, inr, ◌∙◌, ◌∷◌, ◌≡◌, ◌≤◌, ℕ, zero, suc, ◌+◌, ◌-◌, refl, Bool, true, false, ◌&&◌, ◌==◌, nat_lt, nat_le, if◌then◌else◌, List, [], Option, Some, None, arith}
+use Rattle.std.proofs.Common.{inl, inr, ◌∙◌, ◌∷◌, ◌≡◌, ◌≤◌, ℕ, zero, suc, ◌+◌, ◌-◌, refl, Bool, true, false, ◌&&◌, ◌==◌, nat_lt, nat_le, if◌then◌else◌, List, [], ◌++◌, subst, sym, Option, Some, None, arith}
 use Rattle.std.proofs.lemmas.Bool.{and_parts, leb-true, ltb-true, eqb-true}
 use Rattle.ld_lsn.specs.Number.{home_epoch, epoch_end, epoch_of, esn_of, is_epoch_end, numbered}
 use Rattle.ld_msg.specs.declared.msg.Body.{Body}
 use Rattle.ld_msg.specs.Reading.{Held, TrimTo, RecordHere, HoleHere, BridgeTo, LossHere, LossTo, Verdict, Gives, Confirms, NotYet, decide, trim_held, record_held, hole_held, plug_held, end_held, end_shown, is_loss, within, lost_held, bridge_to, entry_verdict, end_verdict, loss_verdict}
 use Rattle.ld_msg.specs.Register.{View}
-use Rattle.ld_msg.specs.Reader.{Reader, Read, is_finished, may_confirm, seen_nodes, gives, confirms, gives_all, most_items, heard, loses, is_confirmed, asks_on, polled, poll_asks, on_answer}
+use Rattle.ld_msg.specs.Reader.{Reader, Read, is_finished, may_confirm, seen_nodes, gives, confirms, gives_all, most_items, heard, nothing_read, round_of, look_of, sees_swap, loses, goes_through, heard_on, is_confirmed, asks_on, polled, poll_asks, on_answer}
 use Rattle.ld_table.specs.Words.{or_else}
 use Rattle.ld_machine.specs.World.{In}
 use Rattle.ld_safety.proofs.Lists.{cond_both, not_none}
@@ -36,9 +36,17 @@ module _ (s : ℕ) (may : Bool) (set : List ℕ) (hs : List (ℕ × Held)) (Q : 
   unfolding decide
   decided = cond_both (nat_le s (trim_held hs)) _ _ Q (λ t. K.trim (leb-true s (trim_held hs) t)) (λ t. no_entry (record_held s hs) (hole_held s hs) (plug_held s hs) refl refl refl)
 
+-- what is held after a look: all, or nothing
+pub dropped_held : (P : List (ℕ × Held) → Type 0) → P [] → (t : Bool) (hs : List (ℕ × Held)) → P hs → P (if t then [] else hs)
+dropped_held P e true hs h = e
+dropped_held P e false hs h = h
+
 pub record ReadKeeps (looks : ℕ → View) (d : Reader) (y : ℕ) (b : Body) (I : Read → Type 0) : Type 0 where
   pub starts : I (record { reader = heard d y b; items = []; asks = [] })
-  pub loss : is_confirmed (heard d y b).confirming ≡ true → I (gives (record { reader = heard d y b; items = []; asks = [] }) LossHere)
+  -- an answer that isn't taken; a confirmed loss, where the last look shows the same sets, and where it doesn't
+  pub ignored : nat_lt (round_of b) d.least ≡ true → I (nothing_read d)
+  pub loss : is_confirmed (heard d y b).confirming ≡ true → sees_swap d.seen (look_of looks d) ≡ false → I (gives (nothing_read (record (heard d y b) { seen = Some (look_of looks d) })) LossHere)
+  pub swapped : is_confirmed (heard d y b).confirming ≡ true → sees_swap d.seen (look_of looks d) ≡ true → I (record { reader = polled looks (heard d y b); items = []; asks = poll_asks looks (heard d y b) })
   pub trim : (a : Read) → I a → is_finished a.reader ≡ false → a.reader.next ≤ trim_held a.reader.held → I (gives a (TrimTo (trim_held a.reader.held)))
   pub record_there : (a : Read) (p : List ℕ) → I a → is_finished a.reader ≡ false → record_held a.reader.next a.reader.held ≡ Some p → I (gives a (RecordHere p))
   pub hole_there : (a : Read) → I a → is_finished a.reader ≡ false → hole_held a.reader.next a.reader.held ≡ true → I (gives a HoleHere)
@@ -46,7 +54,7 @@ pub record ReadKeeps (looks : ℕ → View) (d : Reader) (y : ℕ) (b : Body) (I
   pub bridge : (a : Read) → I a → is_finished a.reader ≡ false → end_held a.reader.next a.reader.held ≡ Some false → I (gives a (BridgeTo (bridge_to a.reader.next)))
   pub lossy_end : (a : Read) → I a → is_finished a.reader ≡ false → end_held a.reader.next a.reader.held ≡ Some true → I (gives a (LossTo (bridge_to a.reader.next)))
   pub confirm : (a : Read) → I a → is_finished a.reader ≡ false → may_confirm a.reader ≡ true → is_loss a.reader.next (seen_nodes a.reader.seen) a.reader.held ≡ true → I (confirms looks a (lost_held a.reader.next (within (seen_nodes a.reader.seen) a.reader.held)))
-  pub polls_on : (a : Read) → I a → asks_on a ≡ true → I (record { reader = polled looks a.reader; items = a.items; asks = poll_asks looks a.reader })
+  pub polls_on : (a : Read) → I a → asks_on a ≡ true → I (record { reader = polled looks a.reader; items = a.items; asks = a.asks ++ poll_asks looks a.reader })
 
 module _ (looks : ℕ → View) (d : Reader) (y : ℕ) (b : Body) (I : Read → Type 0) (K : ReadKeeps looks d y b I) where
   going : (k : ℕ) (a : Read) → Verdict → Read
@@ -67,17 +75,21 @@ module _ (looks : ℕ → View) (d : Reader) (y : ℕ) (b : Body) (I : Read → 
         not_yet = h;
       }))
 
-  rounded : (a : Read) → I a → (o : Bool) → asks_on a ≡ o → I (record { reader = if o then polled looks a.reader else a.reader; items = a.items; asks = if o then poll_asks looks a.reader else a.asks })
+  rounded : (a : Read) → I a → (o : Bool) → asks_on a ≡ o → I (record { reader = if o then polled looks a.reader else a.reader; items = a.items; asks = if o then a.asks ++ poll_asks looks a.reader else a.asks })
   rounded a h true e = K.polls_on a h e
   rounded a h false e = h
 
-  lost_first : (o : Bool) → is_confirmed (heard d y b).confirming ≡ o → I (if o then gives (record { reader = heard d y b; items = []; asks = [] }) LossHere else record { reader = heard d y b; items = []; asks = [] })
-  lost_first true e = K.loss e
-  lost_first false e = K.starts
+  through : I (loses looks (heard d y b)) → I (goes_through looks (heard d y b))
+  through h = rounded (gives_all (most_items (heard d y b)) looks (loses looks (heard d y b))) (all_given (most_items (heard d y b)) (loses looks (heard d y b)) h) _ refl
+
+  by_swap : (o s : Bool) → is_confirmed (heard d y b).confirming ≡ o → sees_swap d.seen (look_of looks d) ≡ s → I (if o && s then record { reader = polled looks (heard d y b); items = []; asks = poll_asks looks (heard d y b) } else goes_through looks (heard d y b))
+  by_swap true true e f = K.swapped e f
+  by_swap true false e f = through (subst (λ o. I (if o then gives (nothing_read (record (heard d y b) { seen = Some (look_of looks d) })) LossHere else nothing_read (heard d y b))) (sym e) (K.loss e f))
+  by_swap false s e f = through (subst (λ o. I (if o then gives (nothing_read (record (heard d y b) { seen = Some (look_of looks d) })) LossHere else nothing_read (heard d y b))) (sym e) K.starts)
 
   pub answered : I (on_answer looks d y b)
   unfolding on_answer
-  answered = rounded (gives_all (most_items (heard d y b)) looks (loses (heard d y b))) (all_given (most_items (heard d y b)) (loses (heard d y b)) (lost_first (is_confirmed (heard d y b).confirming) refl)) _ refl
+  answered = cond_both (nat_lt (round_of b) d.least) (nothing_read d) (heard_on looks (heard d y b)) I (λ t. K.ignored t) (λ t. by_swap (is_confirmed (heard d y b).confirming) (sees_swap d.seen (look_of looks d)) refl refl)
 
 -- an end that is held is one of the answers'
 pub end_in : (s : ℕ) (hs : List (ℕ × Held)) (b : Bool) → end_held s hs ≡ Some b → (h : ℕ × Held) × In h hs × (end_shown s h.1.body ≡ Some b)

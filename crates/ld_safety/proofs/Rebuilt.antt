@@ -163,6 +163,7 @@ module _ (c : Config) (s : State) (e : Event) (U : (y : ℕ) → UpFine (node_at
     trims = λ name q t v b. by_state _ same;
     drops = λ name q v o. by_state _ same;
     activates = λ name l r g n i x. by_state _ same;
+    swaps = λ n m l x r q i. by_state _ same;
     activate_fails = λ name l x g q. by_state _ same;
     answers = λ f name d m i t v o. by_state _ same;
     polls = λ name d v o. by_state _ same;
@@ -252,6 +253,7 @@ module _ (c : Config) (s : State) (e : Event) (U : (y : ℕ) → UpFine (node_at
     trims = λ name q t v b. nobody _ (not_one (lines.Trimmed name t) (λ a l z. cc));
     drops = λ name q v o. nobody _ (λ a l z. z);
     activates = λ name l r g n i x. nobody _ (not_one (lines.Active name _) (λ a l z. cc));
+    swaps = λ n m l x r q i. nobody _ (not_quiet (x ∷ []) (quiet_one x q));
     activate_fails = λ name l x g q. nobody _ (not_quiet (x ∷ []) (quiet_one x q));
     answers = λ f name d m i t v o. nobody _ (not_group OfItems _ (λ h. cc) (items_of name _ _));
     polls = λ name d v o. nobody _ (λ a l z. z);

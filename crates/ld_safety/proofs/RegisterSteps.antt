@@ -6,7 +6,7 @@ use Rattle.ld_table.specs.Table.{find, put}
 use Rattle.ld_table.proofs.Laws.{put_cases}
 use Rattle.ld_ids.specs.declared.set.Spec.{Spec}
 use Rattle.ld_msg.specs.declared.msg.Summary.{Summary}
-use Rattle.ld_msg.specs.Register.{Register, Epochs, Armed, Changed, Granted, AtLimit, Behind, Overtaken, Fails, activate, close, draw, change, made, unmade, is_made, falls, journal_limit, record_length, epochs_of, no_epochs, generation_of, lce_of, with_epochs, next_epoch, closed_epochs, is_overtaken, look, epoch_limit, generation_limit}
+use Rattle.ld_msg.specs.Register.{Register, Epochs, Armed, Changed, Granted, AtLimit, Behind, Overtaken, Fails, activate, close, draw, change, made, unmade, is_made, falls, journal_limit, record_length, epochs_of, no_epochs, generation_of, lce_of, with_epochs, next_epoch, closed_epochs, is_overtaken, look, epoch_limit, generation_limit, swap, swappable, swap_limit, swapped_epochs}
 use Rattle.ld_safety.proofs.Lists.{cond_both, branch, not_none}
 
 -- the same contents
@@ -129,6 +129,17 @@ close_leaves r l e y short = elim (cases_Bool (lce_of r l + 1 == e)) [
     ]
   ]
 ]
+
+-- ---- swaps ----
+
+-- what a swap that is made leaves of a log
+abbrev pub Swapped_as : Register → ℕ → ℕ → ℕ → ℕ → Register → Type 0
+Swapped_as r l upto old new n = Same (with_epochs r l (swapped_epochs (epochs_of r l) upto old new)) n
+
+pub swap_leaves : (r : Register) (l upto old new : ℕ) → Same r (swap r l upto old new).register ⊎ Swapped_as r l upto old new (swap r l upto old new).register
+unfolding swap
+swap_leaves r l upto old new = cond_both (swappable r l upto old new == 0) _ _ (λ (d : Changed). Same r d.register ⊎ Swapped_as r l upto old new d.register) (λ t. inl (refl, refl))
+    (λ t. cond_both (nat_le swap_limit (epochs_of r l).swaps) _ _ (λ (d : Changed). Same r d.register ⊎ Swapped_as r l upto old new d.register) (λ u. inl (refl, refl)) (λ u. changed r (with_epochs r l (swapped_epochs (epochs_of r l) upto old new)) 11))
 
 -- ---- a look ----
 

@@ -56,6 +56,7 @@ sender_cases c s e = record {
   trims = λ name q t v b. posted_from (whos.Sequencer q.epoch) q.log _;
   drops = λ name q v o. none_from;
   activates = λ name l r g n i x. posted_from (whos.Sequencer _) l _;
+  swaps = λ n m l x r q i. none_from;
   activate_fails = λ name l x g q. none_from;
   answers = λ f name d m i t v o. posted_from (whos.Reader _) _ _;
   polls = λ name d v o. posted_from (whos.Reader d.number) d.log _;

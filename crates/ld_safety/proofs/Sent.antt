@@ -168,6 +168,7 @@ module _ (c : Config) (s : State) (e : Event) (hs : List Happened) (made : List 
     trims = λ name q t v b. posted_fine _ (whos.Sequencer q.epoch) q.log _;
     drops = λ name q v o. none_fine _;
     activates = λ name l k g n i x. posted_fine _ (whos.Sequencer _) l _;
+    swaps = λ n m l x r q i. none_fine _;
     activate_fails = λ name l x g q. none_fine _;
     answers = λ f name d m i t v o. posted_fine _ (whos.Reader _) _ _;
     polls = λ name d v o. posted_fine _ (whos.Reader d.number) d.log _;
@@ -195,6 +196,7 @@ network_by c s e = record {
   trims = λ name q t v b. refl;
   drops = λ name q v o. refl;
   activates = λ name l r g n i x. refl;
+  swaps = λ n m l x r q i. refl;
   activate_fails = λ name l x g q. refl;
   answers = λ f name d m i t v o. refl;
   polls = λ name d v o. refl;

@@ -20,7 +20,7 @@ use Rattle.ld_machine.specs.World.{World, In, from_node}
 use Rattle.ld_machine.specs.Run.{next_world}
 use Rattle.ld_machine.specs.Step as Step
 use Rattle.ld_safety.proofs.Steps.{sent_by}
-use Rattle.ld_safety.proofs.Events.{NamesOnce, Cases, dispatch, Live, refreshed, loaded}
+use Rattle.ld_safety.proofs.Events.{swapped_by, NamesOnce, Cases, dispatch, Live, refreshed, loaded}
 use Rattle.ld_safety.proofs.Registers.{Up}
 use Rattle.ld_safety.proofs.Lists.{only}
 use Rattle.ld_safety.proofs.Sent.{to_nodes}
@@ -94,6 +94,7 @@ module _ (c : Config) (s : State) (e : Event) (M : Drawn s.register s.network.se
     trims = λ name q t v b u. posted_drawn s.register (whos.Sequencer q.epoch) q.log _ (λ b z. let o = own name q v.named in let y : q.epoch ≡ b = cc in omega arith);
     drops = λ name q v o u. no_messages s.register;
     activates = λ name l r g n i x u. posted_drawn r (whos.Sequencer (epochs_of r l).epoch) l _ (λ b z. let y : (epochs_of r l).epoch ≡ b = cc in omega arith);
+    swaps = λ n m l x r q i u. no_messages (swapped_by s n m l).register;
     activate_fails = λ name l x g q u. no_messages (activate s.register l (Step.spec_set c s l)).register;
     answers = λ f name d m i t v o u. posted_drawn s.register (whos.Reader _) _ _ (λ b q. absurd cc);
     polls = λ name d v o u. posted_drawn s.register (whos.Reader _) _ _ (λ b q. absurd cc);

@@ -15,7 +15,7 @@ use Rattle.ld_msg.specs.declared.msg.Msg.{Msg}
 use Rattle.ld_msg.specs.declared.msg.Body.TheVariants as bodies
 use Rattle.ld_msg.specs.Digest.{is_bridge, plan_end, plan_floor, digest_trim, digest_lng}
 use Rattle.ld_msg.specs.Register.{Register, epochs_of, lce_of}
-use Rattle.ld_machine.specs.Config.{spec_of, set_at}
+use Rattle.ld_machine.specs.Config.{fixed_of, fixed_at}
 use Rattle.ld_machine.specs.State.{Done}
 use Rattle.ld_machine.specs.Facts.{Happened}
 use Rattle.ld_machine.specs.World.{Made, In, from_node, told_by, says_stored, says_settled}
@@ -36,7 +36,7 @@ pub record Acknowledged (c : Config) (hs : List Happened) (sent : List Msg) (r :
   pub below : esn_of n < last_esn
   pub payload : List ℕ
   pub appended : AppendedBy hs l n payload
-  pub chosen : Chosen (spec_of c r l (epoch_of n)) sent l n (epoch_of n)
+  pub chosen : Chosen (fixed_of c r l (epoch_of n)) sent l n (epoch_of n)
 
 -- of an open epoch a trim covers acknowledged appends alone
 abbrev pub TrimFine : Config → List Happened → List Msg → Register → ℕ → ℕ → Type 0
@@ -53,7 +53,7 @@ pub record ReleaseFine (c : Config) (hs : List Happened) (sent : List Msg) (r : 
 
 -- a number that stands for a ballot, whatever comes
 abbrev pub Fixed : Config → List Happened → List Msg → Register → ℕ → ℕ → ℕ → Type 0
-Fixed c hs sent r l n b = Acknowledged c hs sent r l n ⊎ Chosen (spec_of c r l (epoch_of n)) sent l n b
+Fixed c hs sent r l n b = Acknowledged c hs sent r l n ⊎ Chosen (fixed_of c r l (epoch_of n)) sent l n b
 
 -- a node told the ballot that it is lost for the epoch
 pub record LostTold (sent : List Msg) (l e b y : ℕ) : Type 0 where
@@ -67,12 +67,12 @@ pub record LostTold (sent : List Msg) (l e b y : ℕ) : Type 0 where
 -- a plan each of whose numbers was settled by as many nodes as there are copies, its bridge too
 pub record FullClose (c : Config) (hs : List Happened) (sent : List Msg) (r : Register) (l e b : ℕ) (d : Basis) : Type 0 where
   pub found : d.loss ≡ false
-  pub copies : (n : ℕ) → epoch_of n ≡ e → plan_floor e d.digest < esn_of n → esn_of n ≤ plan_end e d.digest → (spec_of c r l e).r ≤ how_many (tells_settled sent l n b) (set_at c r l e)
+  pub copies : (n : ℕ) → epoch_of n ≡ e → plan_floor e d.digest < esn_of n → esn_of n ≤ plan_end e d.digest → (fixed_of c r l e).r ≤ how_many (tells_settled sent l n b) (fixed_at c r l e)
   pub fixed : (n : ℕ) → epoch_of n ≡ e → plan_floor e d.digest < esn_of n → esn_of n < plan_end e d.digest → Fixed c hs sent r l n b
 
 -- a plan each of whose numbers each node settled that wasn't lost, its bridge too
 pub record ShortClose (c : Config) (sent : List Msg) (r : Register) (l e b : ℕ) (d : Basis) : Type 0 where
-  pub settled : (n : ℕ) → epoch_of n ≡ e → plan_floor e d.digest < esn_of n → esn_of n ≤ plan_end e d.digest → (y : ℕ) → In y (set_at c r l e) → (tells_settled sent l n b y ≡ true) ⊎ LostTold sent l e b y
+  pub settled : (n : ℕ) → epoch_of n ≡ e → plan_floor e d.digest < esn_of n → esn_of n ≤ plan_end e d.digest → (y : ℕ) → In y (fixed_at c r l e) → (tells_settled sent l n b y ≡ true) ⊎ LostTold sent l e b y
 
 -- a summary of a plan that stands
 pub record Summarized (c : Config) (hs : List Happened) (made : List Made) (sent : List Msg) (r : Register) (l e : ℕ) (y : Summary) : Type 0 where
@@ -166,7 +166,7 @@ FreshLosses more r = (l e b : ℕ) (f : Basis) → In (plan_of l e b f) more →
 -- summaries stay, and what is fixed for an epoch that was handed out
 pub record Stays (c : Config) (r k : Register) : Type 0 where
   pub summaries : (l e : ℕ) (y : Summary) → find e (epochs_of r l).summaries ≡ Some y → find e (epochs_of k l).summaries ≡ Some y
-  pub specs : (l e : ℕ) → Reached r l e → spec_of c k l e ≡ spec_of c r l e
+  pub specs : (l e : ℕ) → Reached r l e → fixed_of c k l e ≡ fixed_of c r l e
 
 pub tells_more : (sent after : List Msg) (into : (m : Msg) → In m sent → In m after) (l n b y : ℕ) → tells_stored sent l n b y ≡ true → tells_stored after l n b y ≡ true
 tells_more sent after into l n b y h = let a = any_in (told_by (says_stored n) l y b) sent h in any_from (told_by (says_stored n) l y b) a.0 after (into a.0 a.1) a.2
@@ -184,11 +184,11 @@ module _ (c : Config) (hs : List Happened) (e : Event) (d : Done) (made more : L
   next : List Happened
   next = hs ++ told r e d ∷ []
 
-  pub chosen_grows : (l n b : ℕ) → Reached r l (epoch_of n) → Chosen (spec_of c r l (epoch_of n)) sent l n b → Chosen (spec_of c k l (epoch_of n)) after l n b
-  chosen_grows l n b o h = subst (λ p. Chosen p after l n b) (sym (s.specs l (epoch_of n) o)) (chosen_more (spec_of c r l (epoch_of n)) sent after into l n b h)
+  pub chosen_grows : (l n b : ℕ) → Reached r l (epoch_of n) → Chosen (fixed_of c r l (epoch_of n)) sent l n b → Chosen (fixed_of c k l (epoch_of n)) after l n b
+  chosen_grows l n b o h = subst (λ p. Chosen p after l n b) (sym (s.specs l (epoch_of n) o)) (chosen_more (fixed_of c r l (epoch_of n)) sent after into l n b h)
 
-  pub copies_grow : (l x n b : ℕ) → Reached r l x → (spec_of c r l x).r ≤ how_many (tells_settled sent l n b) (set_at c r l x) → (spec_of c k l x).r ≤ how_many (tells_settled after l n b) (set_at c k l x)
-  copies_grow l x n b o h = subst (λ (p : Spec). p.r ≤ how_many (tells_settled after l n b) (nodes_of p)) (sym (s.specs l x o)) (copies_more (spec_of c r l x) sent after into l n b h)
+  pub copies_grow : (l x n b : ℕ) → Reached r l x → (fixed_of c r l x).r ≤ how_many (tells_settled sent l n b) (fixed_at c r l x) → (fixed_of c k l x).r ≤ how_many (tells_settled after l n b) (fixed_at c k l x)
+  copies_grow l x n b o h = subst (λ (p : Spec). p.r ≤ how_many (tells_settled after l n b) (nodes_of p)) (sym (s.specs l x o)) (copies_more (fixed_of c r l x) sent after into l n b h)
 
   pub acked_grows : (l n : ℕ) → Acknowledged c hs sent r l n → Acknowledged c (hs ++ told r e d ∷ []) after k l n
   acked_grows l n h = record { reached = reached_later r k l (epoch_of n) u h.reached; above = h.above; below = h.below; payload = h.payload; appended = (h.appended.0, appends_grows hs r e d l n h.appended.0 h.payload h.appended.1); chosen = chosen_grows l n (epoch_of n) h.reached h.chosen }

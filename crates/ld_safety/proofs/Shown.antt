@@ -12,7 +12,7 @@ use Rattle.ld_msg.specs.declared.msg.Msg.{Msg}
 use Rattle.ld_msg.specs.Digest.{best, content, is_bridge, plan_end, plan_floor, trim_place, digest_trim}
 use Rattle.ld_msg.specs.Register.{Register, epochs_of}
 use Rattle.ld_op.specs.Plain.{Log, summary_at, epoch_zero}
-use Rattle.ld_machine.specs.Config.{spec_of}
+use Rattle.ld_machine.specs.Config.{fixed_of}
 use Rattle.ld_machine.specs.Facts.{Happened}
 use Rattle.ld_machine.specs.World.{Made, In}
 use Rattle.ld_safety.proofs.Lists.{Some_inj, branch, cond_both}
@@ -39,7 +39,7 @@ ClosedLast c hs made sent r = (l e b : ℕ) (y : Summary) (d : Basis) → find e
 
 module _ (c : Config) (hs : List Happened) (made : List Made) (sent : List Msg) (r : Register) (A : AppendsOnce hs) (P : PlansOnce made)
     (F : (l e b : ℕ) (d : Basis) → In (plan_of l e b d) made → PlanMade c hs sent made r l e b d) (last : FoundBelow made) where
-  facts_of : (l e b : ℕ) (d : Basis) → In (plan_of l e b d) made → d.loss ≡ false → PlanFacts hs made sent (spec_of c r l e) l e b d.digest
+  facts_of : (l e b : ℕ) (d : Basis) → In (plan_of l e b d) made → d.loss ≡ false → PlanFacts hs made sent (fixed_of c r l e) l e b d.digest
   facts_of l e b d i lo = plan_facts c hs sent made r l e b d (F l e b d i) lo
 
   -- a plan ends in its epoch
@@ -51,7 +51,7 @@ module _ (c : Config) (hs : List Happened) (made : List Made) (sent : List Msg) 
 
   -- what is acknowledged is in each plan of its epoch that found what it says, unless it is trimmed or known good there
   pub acked_item : (l n b : ℕ) (d : Basis) → (a : Acknowledged c hs sent r l n) → In (plan_of l (epoch_of n) b d) made → d.loss ≡ false → (plan_at (epoch_of n) d (esn_of n) ≡ Some (Rec a.payload)) ⊎ (esn_of n ≤ plan_floor (epoch_of n) d.digest)
-  acked_item l n b d a i lo = agrees hs made sent (spec_of c r l) A P l (λ e. Unit {0}) (λ e a g d f i j lt lo. last l e a g d f i j lt lo) (λ e b d o j lo. facts_of l e b d j lo) n (epoch_of n) b (Rec a.payload) d tt a.below (F l (epoch_of n) b d i).later i lo a.chosen
+  acked_item l n b d a i lo = agrees hs made sent (fixed_of c r l) A P l (λ e. Unit {0}) (λ e a g d f i j lt lo. last l e a g d f i j lt lo) (λ e b d o j lo. facts_of l e b d j lo) n (epoch_of n) b (Rec a.payload) d tt a.below (F l (epoch_of n) b d i).later i lo a.chosen
       (inl (record { own = refl; payload = a.payload; is = refl; appended = a.appended })) (λ z. cc) (λ z. cc)
 
   -- what a plan that found what it says has between its ends is no plug
@@ -78,7 +78,7 @@ module _ (c : Config) (hs : List Happened) (made : List Made) (sent : List Msg) 
         let p : plan_at (epoch_of n) s (esn_of n) ≡ Some w = plan_between (epoch_of n) s.loss s.digest (esn_of n) lo hi in
         let k = plan_ends l (epoch_of n) a s m in
         let late = (F l (epoch_of n) a s m).later in
-        elim (agrees hs made sent (spec_of c r l) A P l (λ e. Unit {0}) (λ e a g d f i j lt lo. last l e a g d f i j lt lo) (λ e b d o j lo. facts_of l e b d j lo) n a b w d tt (omega arith) lt i found h (inr (record { later = late; basis = s; planned = m; item = p })) (content_no_bridge s.loss _) (found_item l n s full.found)) [
+        elim (agrees hs made sent (fixed_of c r l) A P l (λ e. Unit {0}) (λ e a g d f i j lt lo. last l e a g d f i j lt lo) (λ e b d o j lo. facts_of l e b d j lo) n a b w d tt (omega arith) lt i found h (inr (record { later = late; basis = s; planned = m; item = p })) (content_no_bridge s.loss _) (found_item l n s full.found)) [
           | inl q ↦ p ∙ (sym q ∙ it)
           | inr q ↦ absurd (let z = above in omega arith)
         ]

@@ -13,16 +13,16 @@ use Rattle.ld_config.specs.declared.config.Config.{Config}
 use Rattle.ld_schedule.specs.declared.event.Event.{Event}
 use Rattle.ld_msg.specs.declared.msg.Msg.{Msg}
 use Rattle.ld_msg.specs.declared.msg.Body.{Body}
-use Rattle.ld_msg.specs.Register.{Register, Epochs, epochs_of, no_epochs, with_epochs, next_epoch, closed_epochs, activate, close, draw}
+use Rattle.ld_msg.specs.Register.{swap, swapped_epochs, Register, Epochs, epochs_of, no_epochs, with_epochs, next_epoch, closed_epochs, activate, close, draw}
 use Rattle.ld_op.specs.declared.op.Op.{Op}
 use Rattle.ld_op.specs.Ticks.{Ticked, Cleans, Rebuilt, Asks, Nothing}
-use Rattle.ld_machine.specs.Config.{first_spec, spec_in, spec_of, has_log, has_node}
+use Rattle.ld_machine.specs.Config.{first_spec, spec_in, fixed_of, has_log, has_node}
 use Rattle.ld_machine.specs.Disk.{Node}
 use Rattle.ld_machine.specs.State.{State, finish, node_at, with_node}
 use Rattle.ld_machine.specs.Step as Step
 use Rattle.ld_machine.specs.World.{begin}
 use Rattle.ld_safety.proofs.Lists.{Some_inj, not_none}
-use Rattle.ld_safety.proofs.RegisterSteps.{Same, activate_leaves, close_leaves, draw_leaves, epochs_put, epochs_same}
+use Rattle.ld_safety.proofs.RegisterSteps.{Same, activate_leaves, close_leaves, draw_leaves, swap_leaves, epochs_put, epochs_same}
 use Rattle.ld_safety.proofs.Events.{NamesOnce, Cases, dispatch, refreshed}
 use Rattle.ld_safety.proofs.Registers.{Reached, spec_found, register_kept}
 
@@ -97,6 +97,7 @@ module _ (c : Config) (b : IsInBounds c) (s : State) (e : Event) (N : NamesOnce 
     trims = λ name q t v b. A.0;
     drops = λ name q v o. A.0;
     activates = λ name l r g n i x. A.0;
+    swaps = λ n m l x r q i. A.0;
     activate_fails = λ name l x g q. A.0;
     answers = λ f name d m i t v o. A.0;
     polls = λ name d v o. A.0;
@@ -127,6 +128,10 @@ module _ (c : Config) (b : IsInBounds c) (s : State) (e : Event) (N : NamesOnce 
         | inr a ↦ by_put (close s.register l k y b).register l (closed_epochs (epochs_of s.register l) k y) a.1 (A.1 l)
       ])
       (λ n. elim (draw_leaves s.register n) [ inl a ↦ by_logs (draw s.register n).register a.0 | inr a ↦ by_logs (draw s.register n).register a.0 ])
+      (λ l upto old new. elim (swap_leaves s.register l upto old new) [
+        | inl a ↦ by_logs (swap s.register l upto old new).register a.0
+        | inr a ↦ by_put (swap s.register l upto old new).register l (swapped_epochs (epochs_of s.register l) upto old new) a (A.1 l)
+      ])
       by_logs N
 
   each_by_logs : (n : Register) → n.logs ≡ s.register.logs → EachFixed n
@@ -154,6 +159,10 @@ module _ (c : Config) (b : IsInBounds c) (s : State) (e : Event) (N : NamesOnce 
         | inr a ↦ each_by_put (close s.register l k y b).register l (closed_epochs (epochs_of s.register l) k y) a.1 (λ j p b f. A.2 l j (p, b) f)
       ])
       (λ n. elim (draw_leaves s.register n) [ inl a ↦ each_by_logs (draw s.register n).register a.0 | inr a ↦ each_by_logs (draw s.register n).register a.0 ])
+      (λ l upto old new. elim (swap_leaves s.register l upto old new) [
+        | inl a ↦ each_by_logs (swap s.register l upto old new).register a.0
+        | inr a ↦ each_by_put (swap s.register l upto old new).register l (swapped_epochs (epochs_of s.register l) upto old new) a (λ j p b f. A.2 l j (p, b) f)
+      ])
       each_by_logs N
 
   pub fine_step : SetsFine (finish (Step.happens c s e)).state
@@ -164,12 +173,12 @@ pub start_fine : (c : Config) → SetsFine (begin c).state
 unfolding find
 start_fine c = ((λ l p f. absurd (not_none f)), (λ l e p f. absurd (not_none f)), λ l e h. absurd (let z = h.0 in let y = h.1 in omega arith))
 
-pub each_fine : (c : Config) (r : Register) (l e : ℕ) → FixedFine r → EachFixed r → Reached r l e → SpecFine (spec_of c r l e)
+pub each_fine : (c : Config) (r : Register) (l e : ℕ) → FixedFine r → EachFixed r → Reached r l e → SpecFine (fixed_of c r l e)
 each_fine c r l e F E h = subst SpecFine (sym (spec_found c r l e h)) (by_found (find e (epochs_of r l).specs) refl) where
   by_found : (o : Option Spec) → find e (epochs_of r l).specs ≡ o → SpecFine (unwrap_or o (first_spec c l))
   by_found None q = absurd (E l e h q)
   by_found (Some p) q = F l e p q
 
 -- so is that of an epoch that was handed out
-pub fixed_fine : (c : Config) → IsInBounds c → (r : Register) (l e : ℕ) → FixedFine r → has_log c l ≡ true → Reached r l e → SpecFine (spec_of c r l e)
+pub fixed_fine : (c : Config) → IsInBounds c → (r : Register) (l e : ℕ) → FixedFine r → has_log c l ≡ true → Reached r l e → SpecFine (fixed_of c r l e)
 fixed_fine c b r l e A h g = subst SpecFine (sym (spec_found c r l e g)) (or_first c l (find e (epochs_of r l).specs) b h (A l e))

@@ -11,7 +11,7 @@ use Rattle.ld_msg.specs.declared.msg.What.TheVariants.{Rec, Bridge}
 use Rattle.ld_msg.specs.declared.msg.Summary.{Summary}
 use Rattle.ld_msg.specs.Digest.{Told, best, content, plan_end, plan_floor, trim_place, digest_trim, digest_lng}
 use Rattle.ld_msg.specs.Sequencer.{Sequencer, Recovery, Stage, Stores, Closes}
-use Rattle.ld_machine.specs.Config.{spec_of, set_at}
+use Rattle.ld_machine.specs.Config.{fixed_of, fixed_at}
 use Rattle.ld_machine.specs.State.{finish}
 use Rattle.ld_machine.specs.Facts.{Happened}
 use Rattle.ld_machine.specs.World.{World, Made, In, begin, item, settled, HasPlan}
@@ -131,7 +131,7 @@ module _ (c : Config) (hs : List Happened) (w : World) (B : BaseGiven c hs w × 
       let x = content d.loss (best (numbered (epoch_of n) (esn_of n)) d.digest) in
       let p : plan_at (epoch_of n) d (esn_of n) ≡ Some x = plan_between (epoch_of n) d.loss d.digest (esn_of n) lo hi in
       let en = plan_ends c hs w.made w.state.network.sent w.state.register appends_once B.1.once B.1.plans B.1.last l (epoch_of n) b d i in
-      elim (agrees hs w.made w.state.network.sent (spec_of c w.state.register l) appends_once B.1.once l (λ e. Unit {0}) (λ e a g d f i j lt lo. B.1.last l e a g d f i j lt lo) (λ e a u o k lo. plan_facts c hs w.state.network.sent w.made w.state.register l e a u (B.1.plans l e a u k) lo)
+      elim (agrees hs w.made w.state.network.sent (fixed_of c w.state.register l) appends_once B.1.once l (λ e. Unit {0}) (λ e a g d f i j lt lo. B.1.last l e a g d f i j lt lo) (λ e a u o k lo. plan_facts c hs w.state.network.sent w.made w.state.register l e a u (B.1.plans l e a u k) lo)
       n b g x f tt (omega arith) lt j ff h (inr (record { later = (B.1.plans l (epoch_of n) b d i).later; basis = d; planned = i; item = p })) (content_no_bridge d.loss _) (found_item c hs w.made w.state.network.sent w.state.register appends_once B.1.once B.1.plans B.1.last l n d fd)) [
         | inl q ↦ inr (record { what = x; first = p; second = q; below = below_end (epoch_of n) f (esn_of n) x (content_no_bridge d.loss _) q })
         | inr q ↦ inl q
@@ -235,8 +235,8 @@ module _ (c : Config) (hs : List Happened) (w : World) (B : BaseGiven c hs w × 
 
   settled_fixed : (l n b : ℕ) → 0 < esn_of n → IsOpen w l (epoch_of n) → settled c w l n b ≡ true → Fixed c hs w.state.network.sent w.state.register l n b
   unfolding settled
-  settled_fixed l n b pos o h = elim (all_or_one (tells_settled w.state.network.sent l n b) (tells_stored w.state.network.sent l n b) (set_at c w.state.register l (epoch_of n))) [
-    | inr a ↦ inr (let z = leb-true _ _ h in let y = count_mono (tells_settled w.state.network.sent l n b) (tells_stored w.state.network.sent l n b) (set_at c w.state.register l (epoch_of n)) a in omega arith)
+  settled_fixed l n b pos o h = elim (all_or_one (tells_settled w.state.network.sent l n b) (tells_stored w.state.network.sent l n b) (fixed_at c w.state.register l (epoch_of n))) [
+    | inr a ↦ inr (let z = leb-true _ _ h in let y = count_mono (tells_settled w.state.network.sent l n b) (tells_stored w.state.network.sent l n b) (fixed_at c w.state.register l (epoch_of n)) a in omega arith)
     | inl a ↦ elim (told_settled w.state.network.sent l n b a.0 a.2) [
       | inl s ↦ absurd (not_both (tells_stored w.state.network.sent l n b a.0) (stored_told w.state.network.sent l n b a.0 s) a.3)
       | inr t ↦ inl ((B.1.said.sent _ t.told_so).0 n t.covers pos o)
@@ -247,7 +247,7 @@ module _ (c : Config) (hs : List Happened) (w : World) (B : BaseGiven c hs w × 
   open_firm l e b d P late o R = record {
     fixed = λ n q lo hi. settled_fixed l n b (omega arith) (subst (IsOpen w l) (sym q) o) (R n _ q (subst_item n q lo hi));
     trims = λ n q pos lt. planned_trim l e b (basis_of d) (found_plan l e b w.made d P) n lt pos (subst (IsOpen w l) (sym q) o);
-    good = digest_good c hs w.state.network.sent w.made w.state.register (pages_good c hs w.made w.state B.1.said) (spec_of c w.state.register l e) l e b d.digest (B.1.plans l e b (basis_of d) (found_plan l e b w.made d P)).digest;
+    good = digest_good c hs w.state.network.sent w.made w.state.register (pages_good c hs w.made w.state B.1.said) (B.1.plans l e b (basis_of d) (found_plan l e b w.made d P)).spec l e b d.digest (B.1.plans l e b (basis_of d) (found_plan l e b w.made d P)).digest;
   } where
     subst_item : (n : ℕ) → epoch_of n ≡ e → plan_floor e d.digest < esn_of n → esn_of n < plan_end e d.digest → item w l n b ≡ Some (content d.loss (best (numbered (epoch_of n) (esn_of n)) d.digest))
     subst_item n q lo hi = plan_says w l n b d (content d.loss (best (numbered (epoch_of n) (esn_of n)) d.digest)) (omega arith) (subst (λ x. HasPlan w l x b d) (sym q) P)

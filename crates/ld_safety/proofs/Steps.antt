@@ -9,8 +9,8 @@ use Rattle.ld_config.specs.declared.config.Config.{Config}
 use Rattle.ld_msg.specs.Network.{Network, send, send_all}
 use Rattle.ld_machine.specs.State.{State, Done, finish, or_none, message_lines, message_line}
 use Rattle.ld_msg.specs.Register.{Register}
-use Rattle.ld_machine.specs.Facts.{Happened, Writes, epoch_made}
-use Rattle.ld_machine.specs.World.{World, Made, In}
+use Rattle.ld_machine.specs.Facts.{Happened, Writes, epoch_made, swap_made}
+use Rattle.ld_machine.specs.World.{World, Made, In, joined_on}
 use Rattle.ld_machine.specs.Run.{next_world}
 use Rattle.ld_safety.proofs.Lists.{In-append, In_left, In-slice_get, slice_get_end, slice_get_left}
 use Rattle.ld_safety.proofs.Traces.{happened}
@@ -109,12 +109,12 @@ writes_before hs gs k x w = (w.0, slice_get_left w.0 hs gs k w.1, w.2, w.3)
 
 -- ---- from cases of events to what each step keeps ----
 
-abbrev pub became : World → Done → List Made → World
-became w d m = record { state = (finish d).state; made = m ++ w.made }
+abbrev pub became : World → Event → Done → List Made → World
+became w e d m = record { state = (finish d).state; made = m ++ w.made; joined = joined_on w.state (finish d).state e ++ w.joined }
 
 abbrev pub told : Register → Event → Done → Happened
-told r e d = record { event = e; lines = (finish d).lines; made = epoch_made r (finish d).state.register e }
+told r e d = record { event = e; lines = (finish d).lines; made = epoch_made r (finish d).state.register e; swapped = swap_made r (finish d).state.register e }
 
 pub step_by : (c : Config) (P : List Happened → World → Type 0) (hs : List Happened) (w : World) (e : Event) → NamesOnce w.state
-    → Cases c w.state e (λ d m. P (hs ++ told w.state.register e d ∷ []) (became w d m)) → P (hs ++ happened c w.state e ∷ []) (next_world c w e)
-step_by c P hs w e N K = dispatch c w.state e (λ d m. P (hs ++ told w.state.register e d ∷ []) (became w d m)) N K
+    → Cases c w.state e (λ d m. P (hs ++ told w.state.register e d ∷ []) (became w e d m)) → P (hs ++ happened c w.state e ∷ []) (next_world c w e)
+step_by c P hs w e N K = dispatch c w.state e (λ d m. P (hs ++ told w.state.register e d ∷ []) (became w e d m)) N K

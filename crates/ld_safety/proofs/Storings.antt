@@ -13,7 +13,7 @@ use Rattle.ld_msg.specs.declared.msg.Body.TheVariants as bodies
 use Rattle.ld_msg.specs.Digest.{Item, plan, plan_end, plan_floor, digest_trim, digest_lng}
 use Rattle.ld_msg.specs.Register.{Register}
 use Rattle.ld_msg.specs.Sequencer.{Planned, Storing, planned, storing_of, settle, settled_by, is_ready, is_fully_ready, is_ready_short, summary_of}
-use Rattle.ld_machine.specs.Config.{spec_of, set_at}
+use Rattle.ld_machine.specs.Config.{fixed_of, fixed_at}
 use Rattle.ld_machine.specs.Facts.{Happened}
 use Rattle.ld_machine.specs.World.{Made, In, from_node}
 use Rattle.ld_safety.proofs.Registers.{Up, Reached, reached_later}
@@ -24,15 +24,23 @@ use Rattle.ld_safety.proofs.Protocol.{Basis, plan_of, Chosen, tells_stored, tell
 use Rattle.ld_safety.proofs.Votes.{Voters, nobody, one_voter, counted_votes, Settlers}
 use Rattle.ld_safety.proofs.Settled.{Open, Acknowledged, TrimFine, LngFine, Fixed, LostTold, FullClose, ShortClose, Summarized, Stays, tells_more, chosen_more, copies_more, settles_more}
 
+-- the number is stored, or trimmed away
+abbrev pub SettlesBody : ℕ → Body → Type 0
+SettlesBody n x = (x ≡ bodies.Stored n) ⊎ ((t : ℕ) × (x ≡ bodies.TrimmedHere n t))
+
+-- who settled a number is a node that was fixed for its epoch
+abbrev pub SettlersOf : Config → Register → List Msg → Type 0
+SettlersOf c r ms = (l y b n : ℕ) (x : Body) → SettlesBody n x → In (from_node l y b x) ms → Reached r l (epoch_of n) × In y (fixed_at c r l (epoch_of n))
+
 module _ (c : Config) (hs : List Happened) (sent : List Msg) where
   -- an item of an open epoch: acknowledged, or stored by those that settled it
   abbrev pub SettledBy : Register → ℕ → ℕ → ℕ → ℕ → List ℕ → Type 0
-  SettledBy r l e n b ys = Acknowledged c hs sent r l n ⊎ Voters (spec_of c r l e) sent l n b ys
+  SettledBy r l e n b ys = Acknowledged c hs sent r l n ⊎ Voters (fixed_of c r l e) sent l n b ys
 
   pub record ItemFine (r : Register) (l e b : ℕ) (i : ℕ × Planned) : Type 0 where
     pub epoch : epoch_of i.0 ≡ e
     pub above : 0 < esn_of i.0
-    pub settlers : Settlers (spec_of c r l e) sent l i.0 b i.1.settled
+    pub settlers : Settlers (fixed_of c r l e) sent l i.0 b i.1.settled
     pub settled : Open r l e → SettledBy r l e i.0 b i.1.settled
 
   pub record StoringFine (made : List Made) (r : Register) (l b e : ℕ) (g : Storing) : Type 0 where
@@ -70,8 +78,8 @@ module _ (c : Config) (hs : List Happened) (sent : List Msg) where
     items = λ i j. let q = planned_in (plan e d.loss d.digest).items i j in let p = plan_items e d.loss d.digest q.0 q.1 in let n : i.0 ≡ numbered e p.place = q.2 ∙ p.number in let a = p.above in let z = p.below in record {
       epoch = omega arith;
       above = omega arith;
-      settlers = subst (Settlers (spec_of c r l e) sent l i.0 b) (sym q.3) (nobody (spec_of c r l e) (tells_settled sent l i.0 b));
-      settled = λ o. inr (subst (Voters (spec_of c r l e) sent l i.0 b) (sym q.3) (nobody (spec_of c r l e) (tells_stored sent l i.0 b)));
+      settlers = subst (Settlers (fixed_of c r l e) sent l i.0 b) (sym q.3) (nobody (fixed_of c r l e) (tells_settled sent l i.0 b));
+      settled = λ o. inr (subst (Voters (fixed_of c r l e) sent l i.0 b) (sym q.3) (nobody (fixed_of c r l e) (tells_stored sent l i.0 b)));
     };
     covers = λ n q lo hi. let h = plan_has e d.loss d.digest (esn_of n) lo hi in let p = planned_has (plan e d.loss d.digest).items h.0 h.1 in (p.0, p.1, let z = p.2 in let y = h.2 in omega arith);
   }
@@ -92,23 +100,25 @@ module _ (c : Config) (hs : List Happened) (sent : List Msg) where
     pub stored : (n : ℕ) → x ≡ bodies.Stored n → (tells_stored sent l n b y ≡ true) × (tells_settled sent l n b y ≡ true)
     pub trimmed : (n t : ℕ) → x ≡ bodies.TrimmedHere n t → TrimFine c hs sent r l t
     pub told_trim : (n t : ℕ) → x ≡ bodies.TrimmedHere n t → In (from_node l y b (bodies.TrimmedHere n t)) sent
+    -- who settles a number is a node that was fixed for its epoch
+    pub settler : (n : ℕ) → SettlesBody n x → In y (fixed_at c r l (epoch_of n))
 
-  module _ (r : Register) (l b e y : ℕ) (x : Body) (R : ReplyFine r l b y x) (M : In y (set_at c r l e)) where
+  module _ (r : Register) (l b e y : ℕ) (x : Body) (R : ReplyFine r l b y x) where
     one_settled : (p : ℕ → Bool) → Settling x e p → (n : ℕ) (ys : List ℕ) → epoch_of n ≡ e → 0 < esn_of n → Open r l e → p n ≡ true → SettledBy r l e n b ys → SettledBy r l e n b (with_one y ys)
     one_settled p S n ys ep pos o t (inl a) = inl a
     one_settled p S n ys ep pos o t (inr v) = by_settling S where
       by_settling : Settling x e p → SettledBy r l e n b (with_one y ys)
       by_settling (by_stored_one m i k q) = let f = R.stored m i in let z : n ≡ m = eqb-true n m (subst (λ (u : ℕ → Bool). u n ≡ true) q t) in
-          inr (one_voter (spec_of c r l e) (tells_stored sent l n b) y ys M (subst (λ u. tells_stored sent l u b y ≡ true) (sym z) f.0) v)
+          inr (one_voter (fixed_of c r l e) (tells_stored sent l n b) y ys (subst (λ j. In y (fixed_at c r l j)) k (R.settler m (inl i))) (subst (λ u. tells_stored sent l u b y ≡ true) (sym z) f.0) v)
       by_settling (by_trimmed_to m k i j q) = inl (R.trimmed m k i n (leb-true n k (subst (λ (u : ℕ → Bool). u n ≡ true) q t)) pos (subst (Open r l) (sym ep) o))
 
-    one_settler : (p : ℕ → Bool) → Settling x e p → (n : ℕ) (ys : List ℕ) → epoch_of n ≡ e → p n ≡ true → Settlers (spec_of c r l e) sent l n b ys → Settlers (spec_of c r l e) sent l n b (with_one y ys)
+    one_settler : (p : ℕ → Bool) → Settling x e p → (n : ℕ) (ys : List ℕ) → epoch_of n ≡ e → p n ≡ true → Settlers (fixed_of c r l e) sent l n b ys → Settlers (fixed_of c r l e) sent l n b (with_one y ys)
     one_settler p S n ys ep t v = by_settling S where
-      by_settling : Settling x e p → Settlers (spec_of c r l e) sent l n b (with_one y ys)
+      by_settling : Settling x e p → Settlers (fixed_of c r l e) sent l n b (with_one y ys)
       by_settling (by_stored_one m i k q) = let f = R.stored m i in let z : n ≡ m = eqb-true n m (subst (λ (u : ℕ → Bool). u n ≡ true) q t) in
-          one_voter (spec_of c r l e) (tells_settled sent l n b) y ys M (subst (λ u. tells_settled sent l u b y ≡ true) (sym z) f.1) v
+          one_voter (fixed_of c r l e) (tells_settled sent l n b) y ys (subst (λ j. In y (fixed_at c r l j)) k (R.settler m (inl i))) (subst (λ u. tells_settled sent l u b y ≡ true) (sym z) f.1) v
       by_settling (by_trimmed_to m k i j q) = let f = R.told_trim m k i in
-          one_voter (spec_of c r l e) (tells_settled sent l n b) y ys M (trimmed_settles sent l n b y m k f (j ∙ sym ep) (leb-true n k (subst (λ (u : ℕ → Bool). u n ≡ true) q t))) v
+          one_voter (fixed_of c r l e) (tells_settled sent l n b) y ys (subst (λ v. In y (fixed_at c r l v)) j (R.settler m (inr (k, i)))) (trimmed_settles sent l n b y m k f (j ∙ sym ep) (leb-true n k (subst (λ (u : ℕ → Bool). u n ≡ true) q t))) v
 
     pub settles_fine : (made : List Made) (p : ℕ → Bool) (g : Storing) → Settling x e p → StoringFine made r l b e g → StoringFine made r l b e (settled_by p y g)
     settles_fine made p g S F = record {
@@ -122,7 +132,7 @@ module _ (c : Config) (hs : List Happened) (sent : List Msg) where
       items = λ j h. let q = settle_in p y g.items j h in let f = F.items q.0 q.1 in let n = q.2 in record {
         epoch = ap epoch_of n ∙ f.epoch;
         above = let z = f.above in subst (λ k. 0 < esn_of k) (sym n) z;
-        settlers = subst (λ k. Settlers (spec_of c r l e) sent l k b j.1.settled) (sym n) (subst (Settlers (spec_of c r l e) sent l q.0.0 b) (sym q.3) (cond_both (p q.0.0) (with_one y q.0.1.settled) q.0.1.settled (Settlers (spec_of c r l e) sent l q.0.0 b)
+        settlers = subst (λ k. Settlers (fixed_of c r l e) sent l k b j.1.settled) (sym n) (subst (Settlers (fixed_of c r l e) sent l q.0.0 b) (sym q.3) (cond_both (p q.0.0) (with_one y q.0.1.settled) q.0.1.settled (Settlers (fixed_of c r l e) sent l q.0.0 b)
             (λ t. one_settler p S q.0.0 q.0.1.settled f.epoch t f.settlers) (λ t. f.settlers)));
         settled = λ o. subst (λ k. SettledBy r l e k b j.1.settled) (sym n) (subst (SettledBy r l e q.0.0 b) (sym q.3) (cond_both (p q.0.0) (with_one y q.0.1.settled) q.0.1.settled (SettledBy r l e q.0.0 b)
             (λ t. one_settled p S q.0.0 q.0.1.settled f.epoch f.above o t (f.settled o)) (λ t. f.settled o)));
@@ -136,29 +146,29 @@ module _ (c : Config) (hs : List Happened) (sent : List Msg) where
     summed h = record { reached = reached; basis = F.basis; planned = F.planned_so; loss = F.loss; end = F.end; trim = F.trim; lng = F.lng; good = F.good; how = h }
 
     -- each number was settled by as many nodes as there are copies
-    pub full_close : is_fully_ready (spec_of c r l e) g ≡ true → Open r l e → FullClose c hs sent r l e b F.basis
+    pub full_close : is_fully_ready (fixed_of c r l e) g ≡ true → Open r l e → FullClose c hs sent r l e b F.basis
     unfolding is_ready
-    full_close t o = let h = and_parts (not g.loss) (all_of (λ (i : ℕ × Planned). nat_le (spec_of c r l e).r (length i.1.settled)) g.items) t in record {
+    full_close t o = let h = and_parts (not g.loss) (all_of (λ (i : ℕ × Planned). nat_le (fixed_of c r l e).r (length i.1.settled)) g.items) t in record {
       found = sym F.loss ∙ not-true g.loss h.0;
-      copies = λ n q lo hi. let z = F.covers n q lo hi in let f = F.items z.0 z.1 in let k = leb-true _ _ (all_in (λ (i : ℕ × Planned). nat_le (spec_of c r l e).r (length i.1.settled)) z.0 g.items h.1 z.1) in
-          subst (λ x. (spec_of c r l e).r ≤ how_many (tells_settled sent l x b) (set_at c r l e)) z.2 (counted_votes (spec_of c r l e) (tells_settled sent l z.0.0 b) z.0.1.settled f.settlers k);
-      fixed = λ n q lo hi. let z = F.covers n q lo (omega arith) in let f = F.items z.0 z.1 in let k = leb-true _ _ (all_in (λ (i : ℕ × Planned). nat_le (spec_of c r l e).r (length i.1.settled)) z.0 g.items h.1 z.1) in
+      copies = λ n q lo hi. let z = F.covers n q lo hi in let f = F.items z.0 z.1 in let k = leb-true _ _ (all_in (λ (i : ℕ × Planned). nat_le (fixed_of c r l e).r (length i.1.settled)) z.0 g.items h.1 z.1) in
+          subst (λ x. (fixed_of c r l e).r ≤ how_many (tells_settled sent l x b) (fixed_at c r l e)) z.2 (counted_votes (fixed_of c r l e) (tells_settled sent l z.0.0 b) z.0.1.settled f.settlers k);
+      fixed = λ n q lo hi. let z = F.covers n q lo (omega arith) in let f = F.items z.0 z.1 in let k = leb-true _ _ (all_in (λ (i : ℕ × Planned). nat_le (fixed_of c r l e).r (length i.1.settled)) z.0 g.items h.1 z.1) in
           subst (λ x. Fixed c hs sent r l x b) z.2 (by_settled z.0.0 z.0.1.settled f.epoch k (f.settled o));
     } where
-      by_settled : (n : ℕ) (ys : List ℕ) → epoch_of n ≡ e → (spec_of c r l e).r ≤ length ys → SettledBy r l e n b ys → Fixed c hs sent r l n b
+      by_settled : (n : ℕ) (ys : List ℕ) → epoch_of n ≡ e → (fixed_of c r l e).r ≤ length ys → SettledBy r l e n b ys → Fixed c hs sent r l n b
       by_settled n ys q k (inl a) = inl a
-      by_settled n ys q k (inr v) = inr (subst (λ x. Chosen (spec_of c r l x) sent l n b) (sym q) (counted_votes (spec_of c r l e) (tells_stored sent l n b) ys v k))
+      by_settled n ys q k (inr v) = inr (subst (λ x. Chosen (fixed_of c r l x) sent l n b) (sym q) (counted_votes (fixed_of c r l e) (tells_stored sent l n b) ys v k))
 
-    pub full_stands : is_fully_ready (spec_of c r l e) g ≡ true → Open r l e → Summarized c hs made sent r l e (summary_of b g)
+    pub full_stands : is_fully_ready (fixed_of c r l e) g ≡ true → Open r l e → Summarized c hs made sent r l e (summary_of b g)
     full_stands t o = summed (inl (full_close t o))
 
     -- each node settled each number, or said that it is lost
-    pub short_stands : (lost : List ℕ) → ((y : ℕ) → is_in y lost ≡ true → LostTold sent l e b y) → is_ready_short (spec_of c r l e) lost g ≡ true → Summarized c hs made sent r l e (summary_of b g)
+    pub short_stands : (lost : List ℕ) → ((y : ℕ) → is_in y lost ≡ true → LostTold sent l e b y) → is_ready_short (fixed_of c r l e) lost g ≡ true → Summarized c hs made sent r l e (summary_of b g)
     unfolding is_ready_short
     short_stands lost said t = summed (inr (record {
       settled = λ n q lo hi y i. let z = F.covers n q lo hi in let f = F.items z.0 z.1 in
-          let k = all_in (λ (j : ℕ × Planned). all_of (λ x. is_in x j.1.settled || is_in x lost) (set_at c r l e)) z.0 g.items t z.1 in
-          let u = all_in (λ x. is_in x z.0.1.settled || is_in x lost) y (set_at c r l e) k i in elim (or_cases (is_in y z.0.1.settled) (is_in y lost) u) [
+          let k = all_in (λ (j : ℕ × Planned). all_of (λ x. is_in x j.1.settled || is_in x lost) (fixed_at c r l e)) z.0 g.items t z.1 in
+          let u = all_in (λ x. is_in x z.0.1.settled || is_in x lost) y (fixed_at c r l e) k i in elim (or_cases (is_in y z.0.1.settled) (is_in y lost) u) [
             | inl v ↦ inl (subst (λ x. tells_settled sent l x b y ≡ true) z.2 (f.settlers.stored y v))
             | inr v ↦ inr (said y v)
           ];
@@ -172,7 +182,7 @@ module _ (c : Config) (hs next : List Happened) (sent after : List Msg) (into : 
 
   pub fixed_later : (l n b : ℕ) → Reached r l (epoch_of n) → Fixed c hs sent r l n b → Fixed c next after k l n b
   fixed_later l n b o (inl a) = inl (acks l n a)
-  fixed_later l n b o (inr h) = inr (subst (λ p. Chosen p after l n b) (sym (s.specs l (epoch_of n) o)) (chosen_more (spec_of c r l (epoch_of n)) sent after into l n b h))
+  fixed_later l n b o (inr h) = inr (subst (λ p. Chosen p after l n b) (sym (s.specs l (epoch_of n) o)) (chosen_more (fixed_of c r l (epoch_of n)) sent after into l n b h))
 
   lost_told_later : (l e b y : ℕ) → LostTold sent l e b y → LostTold after l e b y
   lost_told_later l e b y h = record { number = h.number; round = h.round; generation = h.generation; end = h.end; said = into _ h.said; home = h.home }
@@ -180,7 +190,7 @@ module _ (c : Config) (hs next : List Happened) (sent after : List Msg) (into : 
   pub full_later : (l e b : ℕ) (d : Basis) → Reached r l e → FullClose c hs sent r l e b d → FullClose c next after k l e b d
   full_later l e b d o h = record {
     found = h.found;
-    copies = λ n q lo hi. subst (λ (p : Spec). p.r ≤ how_many (tells_settled after l n b) (nodes_of p)) (sym (s.specs l e o)) (copies_more (spec_of c r l e) sent after into l n b (h.copies n q lo hi));
+    copies = λ n q lo hi. subst (λ (p : Spec). p.r ≤ how_many (tells_settled after l n b) (nodes_of p)) (sym (s.specs l e o)) (copies_more (fixed_of c r l e) sent after into l n b (h.copies n q lo hi));
     fixed = λ n q lo hi. fixed_later l n b (subst (Reached r l) (sym q) o) (h.fixed n q lo hi);
   }
 

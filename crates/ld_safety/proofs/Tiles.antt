@@ -22,7 +22,7 @@ use Rattle.ld_msg.specs.Register.{View, epoch_limit, Register, generation_of, ep
 use Rattle.ld_op.specs.declared.op.Op.TheVariants as ops
 use Rattle.ld_machine.specs.Disk.{Node, Kept, Written, DiskFailed, Crashed, JournalFull, keep_end}
 use Rattle.ld_msg.specs.Reading.{Held, bridge_to, end_shown, end_held, Item, TrimTo, RecordHere, HoleHere, BridgeTo, LossHere, LossTo, trim_held}
-use Rattle.ld_msg.specs.Reader.{Reader, Read, is_finished, gives, item_end, heard, held_with, is_newer, round_of, opened, on_answer, polled}
+use Rattle.ld_msg.specs.Reader.{Reader, Read, is_finished, gives, item_end, heard, held_with, is_newer, round_of, opened, on_answer, polled, nothing_read, look_of}
 use Rattle.ld_msg.specs.Sequencer.{Sequencer, Acts, called, rose}
 use Rattle.ld_machine.specs.State.{State, Done, finish, or_none, message_lines, node_at, with_node, with_register}
 use Rattle.ld_machine.specs.Facts.{Happened, Opening, opening, opening_of, wrote_nothing, Interval, interval_of, intervals}
@@ -35,7 +35,7 @@ use Rattle.ld_safety.proofs.Names.{named_cases}
 use Rattle.ld_safety.proofs.Traces.{Keeps, at_end, beside_kept}
 use Rattle.ld_safety.proofs.Events.{Cases, refreshed, loaded, Opens, Idle, is_quiet}
 use Rattle.ld_safety.proofs.Steps.{is_plain, filter_finish, told, became, step_by}
-use Rattle.ld_safety.proofs.ReaderSteps.{ReadKeeps, answered, below_end, end_in}
+use Rattle.ld_safety.proofs.ReaderSteps.{dropped_held, ReadKeeps, answered, below_end, end_in}
 use Rattle.ld_safety.proofs.Members.{In_put}
 use Rattle.ld_safety.proofs.Base.{Base}
 use Rattle.ld_safety.proofs.Given.{AnyEpoch, AnyShown, AnyReleased, SmallGood, GivenEntry, GivenTrim, GivenSummary}
@@ -294,15 +294,17 @@ module _ (r : List ℕ) (d : Reader) where
   unfolding AllSmall Small
   gives_keeps looks y b f a o = let start : Gives r d (record { reader = heard d y b; items = []; asks = [] }) = record { log = refl; until = refl; held = held_small d y b a o; tiles = refl } in record {
     starts = start;
-    loss = λ h. gives_one _ LossHere start f (omega arith);
+    ignored = λ h. record { log = refl; until = refl; held = a; tiles = refl };
+    loss = λ h n. gives_one (nothing_read (record (heard d y b) { seen = Some (look_of looks d) })) LossHere (record { log = refl; until = refl; held = held_small d y b a o; tiles = refl }) f (omega arith);
+    swapped = λ h n. record { log = refl; until = refl; held = dropped_held AllSmall (λ z i. absurd i) _ _ (held_small d y b a o); tiles = refl };
     trim = λ a g n t. gives_one a (TrimTo (trim_held a.reader.held)) g n t;
     record_there = λ a p g n t. gives_one a (RecordHere p) g n (omega arith);
     hole_there = λ a g n t. gives_one a HoleHere g n (omega arith);
     plug = λ a g n t. gives_one a LossHere g n (omega arith);
     bridge = λ a g n t. gives_one a (BridgeTo (bridge_to a.reader.next)) g n (bridge_up a.reader.next (end_small a.reader.next a.reader.held false g.held t));
     lossy_end = λ a g n t. gives_one a (LossTo (bridge_to a.reader.next)) g n (bridge_up a.reader.next (end_small a.reader.next a.reader.held true g.held t));
-    confirm = λ a g n m t. record { log = g.log; until = g.until; held = g.held; tiles = g.tiles };
-    polls_on = λ a g t. record { log = g.log; until = g.until; held = g.held; tiles = g.tiles };
+    confirm = λ a g n m t. record { log = g.log; until = g.until; held = dropped_held AllSmall (λ z i. absurd i) _ _ g.held; tiles = g.tiles };
+    polls_on = λ a g t. record { log = g.log; until = g.until; held = dropped_held AllSmall (λ z i. absurd i) _ _ g.held; tiles = g.tiles };
   }
 
 -- another reader's lines
@@ -321,7 +323,7 @@ others_lines r q until (i ∷ is) h = rw (other i.1) (others_lines r q until is 
 
 module _ (c : Config) (hs : List Happened) (w : World) (e : Event) (B : Base c hs w) (G : Given c hs w.state) (A : AllGot c hs w) where
   abbrev Result : Done → Type 0
-  Result d = AllGot c (hs ++ told w.state.register e d ∷ []) (became w d [])
+  Result d = AllGot c (hs ++ told w.state.register e d ∷ []) (became w e d [])
 
   -- readers stay, no item is given, and nobody is opened
   stays : (d : Done) → d.state.readers ≡ w.state.readers → NoItems d.lines → ((r : List ℕ) → find_named r w.state.readers ≡ None → opening_of c r (finish d).lines e ≡ None) → Result d
@@ -413,6 +415,7 @@ module _ (c : Config) (hs : List Happened) (w : World) (e : Event) (B : Base c h
     trims = λ name q t v b. said_stays _ _ [] refl refl refl (one_line _ refl);
     drops = λ name q v o. idle_stays _ o refl nothing_none;
     activates = λ name l r g n i x. said_stays _ _ [] refl refl refl (one_line _ refl);
+    swaps = λ n m l x r q i. said_stays _ x [] refl (quiet_something x q) refl (one_line x (quiet_item x q));
     activate_fails = λ name l x g q. said_stays _ x [] refl (quiet_something x q) refl (one_line x (quiet_item x q));
     answers = λ f name d m i t v o. let a = answered (looks_at c w.state.register d.log) d (Step.sender_node m.from) m.body (Gives name d) (gives_keeps name d (looks_at c w.state.register d.log) (Step.sender_node m.from) m.body v.open_still (reader_small name d v.named) (message_small d m name i t v.named)) in
         changes _ name d (on_answer (looks_at c w.state.register d.log) d (Step.sender_node m.from) m.body).reader refl v.named o.0

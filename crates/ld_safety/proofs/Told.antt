@@ -129,6 +129,7 @@ module _ (c : Config) (hs : List Happened) (s : State) where
     trims = λ name q t v b. others OfTrims (lines.Trimmed name t ∷ []) (λ h. cc) (one_of (lines.Trimmed name t));
     drops = λ name q v o. none;
     activates = λ name l r g n i x. others OfNumbers (lines.Active name _ ∷ []) (λ h. cc) (one_of (lines.Active name _));
+    swaps = λ n m l x r q i. quiets (x ∷ []) (λ y i. one_quiet x q y i);
     activate_fails = λ name l x g q. quiets (x ∷ []) (λ y i. one_quiet x q y i);
     answers = λ f name d m i t v o. others OfItems _ (λ h. cc) (items_of name (on_answer (looks_at c s.register d.log) d (Step.sender_node m.from) m.body).reader.until (on_answer (looks_at c s.register d.log) d (Step.sender_node m.from) m.body).items);
     polls = λ name d v o. none;

@@ -85,6 +85,7 @@ event_same c w (events.Wipe n) = one_same c w (events.Wipe n)
 event_same c w (events.Fail n k) = one_same c w (events.Fail n k)
 event_same c w (events.Tear n k p) = one_same c w (events.Tear n k p)
 event_same c w (events.Set l r x set) = one_same c w (events.Set l r x set)
+event_same c w (events.Replace n other l) = one_same c w (events.Replace n other l)
 event_same c w (events.RegFail k done) = one_same c w (events.RegFail k done)
 
 -- so are the steps of a run

@@ -3,7 +3,7 @@ use Rattle.std.specs.Prelude.{ℕ, ◌≡◌, ◌≤◌, ◌<◌, ◌⊎◌, Lis
 use Rattle.ld_table.specs.Table.{find}
 use Rattle.ld_table.specs.Named.{find_named}
 use Rattle.ld_table.specs.Words.{is_in, how_many}
-use Rattle.ld_lsn.specs.Number.{epoch_of, esn_of, home_epoch}
+use Rattle.ld_lsn.specs.Number.{esn_of, home_epoch}
 use Rattle.ld_config.specs.declared.config.Config.{Config}
 use Rattle.ld_config.specs.Bounds.{IsInBounds}
 use Rattle.ld_schedule.specs.declared.event.Event.{Event}
@@ -13,11 +13,11 @@ use Rattle.ld_msg.specs.declared.msg.Summary.{Summary}
 use Rattle.ld_msg.specs.Reading.{Held, lacks}
 use Rattle.ld_msg.specs.Reader.{Reader}
 use Rattle.ld_op.specs.Plain.{Plain, log_of, is_lost}
-use Rattle.ld_machine.specs.Config.{spec_of, set_at}
+use Rattle.ld_machine.specs.Config.{fixed_of, fixed_at, spec_of, set_at}
 use Rattle.ld_machine.specs.Disk.{Node, Cut}
 use Rattle.ld_machine.specs.State.{node_at}
 use Rattle.ld_machine.specs.Facts.{Writes, Lost, standing, stands_for, stands_lost}
-use Rattle.ld_machine.specs.World.{World, Made, In, HasPlan, begin, MayHold, has_told, says_stored, says_settled, made_on}
+use Rattle.ld_machine.specs.World.{World, Made, In, HasPlan, begin, MayHold, has_append, has_settled, made_on}
 use Rattle.ld_machine.specs.Run.{Move, Takes, after_step, world_after, step_happened, trace}
 use Rattle.ld_machine.specs.Invariant.{Closed, Ready}
 use Rattle.ld_machine.specs.Losses.{Completes, EndsAsLoss}
@@ -82,11 +82,11 @@ LossesWereSeen = (c : Config) (name : List ℕ) (l s round : ℕ) (before : List
     EndsAsLoss c name l s round before asks between gives → is_in y (set_at c (after_step c (world_after c (begin c) before) asks).state.register l (home_epoch s)) ≡ true →
     SeenLost c before asks l s y ⊎ ShowsWithout (after_step c (world_after c (begin c) before) asks) name s y
 
--- the node has answered for the copy of the number that counts where its epoch is closed so: it settled the number for the closing plan, or it stored the append where that was known good
+-- the node has answered for the copy of the number that counts where its epoch is closed so: it settled the number for the closing plan, or it stored the append where that was known good; or it took a place in the epoch
 abbrev pub has_copied : World → ℕ → ℕ → Summary → ℕ → Bool
-has_copied w l s y n = if nat_le (esn_of s) y.lng then has_told w (says_stored s) l (epoch_of s) n else has_told w (says_settled s) l y.ballot n
+has_copied w l s y n = if nat_le (esn_of s) y.lng then has_append w l s n else has_settled w l s y.ballot n
 
--- as many nodes of the number's epoch as it has copies are lost; and where the number was known good as the epoch was closed, or each item of the closing plan was settled by as many, so many are lost that had so answered: each in its plain state, which a crash leaves where the record that the node writes is lost.
+-- as many nodes of the number's epoch as it has copies are lost; and where the number was known good as the epoch was closed, or each item of the closing plan was settled by as many, so many are lost that had so answered, or took places in the epoch: each in its plain state, which a crash leaves where the record that the node writes is lost.
 -- Each item of the closing plan was settled so, and stays so, where the epoch was closed fully; else it was closed short, and the lost nodes may be any, whether or not they answered.
 -- It doesn't hold that each of them is lost in both states that a crash leaves, nor in the one that a load would find: a lost node that crashes in the record that it is rebuilt is not lost after this record.
 -- With three nodes and two copies: nodes 1 and 3 have a record; node 3 is wiped and gets it back from node 1, which is wiped then; a reader hears that node 3 is lost, which crashes in that record, at the third writing call, with a picture of the open gate.
@@ -105,14 +105,14 @@ CopiesWereLost = (c : Config) (name : List ℕ) (l s round : ℕ) (before : List
 
 -- ---- plans that say what is lost ----
 
--- one of these steps made the plan, and before that step as many nodes of the epoch as it has copies stood lost for it in the lines
+-- one of these steps made the plan, and before that step as many of the nodes that were fixed for the epoch as it has copies stood lost for it in the lines
 pub record MadeOfLost (c : Config) (steps : List Move) (l e : ℕ) (plan : Made) : Type 0 where
   pub earlier : List Move
   pub event : Event
   pub after : List Move
   pub split : steps ≡ earlier ++ Takes event ∷ after
   pub makes : In plan (made_on c (world_after c (begin c) earlier).state event)
-  pub stood : (spec_of c (world_after c (begin c) earlier).state.register l e).r ≤ how_many (stands_lost l e (trace c (begin c) earlier)) (set_at c (world_after c (begin c) earlier).state.register l e)
+  pub stood : (fixed_of c (world_after c (begin c) earlier).state.register l e).r ≤ how_many (stands_lost l e (trace c (begin c) earlier)) (fixed_at c (world_after c (begin c) earlier).state.register l e)
 
 -- the epoch has a plan that says what is lost, and it was made so
 pub record LossPlanned (c : Config) (steps : List Move) (l e : ℕ) : Type 0 where

@@ -65,21 +65,21 @@ pub fn recoveries_agree()
     ensures { (c : Config) (ms : List Move) → IsInBounds c → Agrees c (world_after c (begin c) ms) }
 {}
 
-/// In every state, a loss plan was made where as many nodes of its epoch as there are copies were blank or lost for it, each plan of a greater ballot is a loss plan too, and between what it vouches for nothing of and its end it says the record of the best statement, and where that is none, a plug.
+/// In every state, a loss plan was made where as many of the nodes that were fixed for its epoch as there are copies were blank or lost for it, each plan of a greater ballot is a loss plan too, and between what it vouches for nothing of and its end it says the record of the best statement, and where that is none, a plug.
 pub fn losses_are_planned()
     ensures gone { (c : Config) (ms : List Move) → IsInBounds c → LossesWereGone c (world_after c (begin c) ms) }
     ensures last { (c : Config) (ms : List Move) → IsInBounds c → LossesLast (world_after c (begin c) ms) }
     ensures say { (c : Config) (ms : List Move) → IsInBounds c → LossesSay (world_after c (begin c) ms) }
 {}
 
-/// In every state, of each closed epoch that has no loss plan: each number above its trim and its last known good place and below its end, where each item of the closing plan was settled by as many nodes as there are copies, was settled so, and each of these is blank, or lost for the epoch, or trimmed at the number, or has what the closing plan says; also where not each was, as many nodes of the epoch are so, whether or not they settled the number; up to that place the number's append was stored by as many, and each of these is blank, or lost, or trimmed so, or has its record.
+/// In every state, of each closed epoch that has no loss plan: each number above its trim and its last known good place and below its end, where each item of the closing plan was settled by as many nodes as there are copies, as many nodes of the epoch, as swaps left it, settled the number so or took places in the epoch, and each of these is blank, or lost for the epoch, or trimmed at the number, or has what the closing plan says; also where not each was, as many nodes of the epoch are so, whether or not they settled the number; up to that place as many stored the number's append or took places in the epoch, and each of these is blank, or lost, or trimmed so, or has its record.
 pub fn copies_stand()
     ensures settled { (c : Config) (ms : List Move) → IsInBounds c → (l e k : ℕ) (s : Summary) → Closed (world_after c (begin c) ms) l e s → Ready c (world_after c (begin c) ms) l e s.ballot → s.trim < numbered e k → s.lng < k → k < s.end → CopiesOf c (world_after c (begin c) ms) l (numbered e k) s.ballot ⊎ HasLoss (world_after c (begin c) ms) l e }
     ensures short { (c : Config) (ms : List Move) → IsInBounds c → (l e k : ℕ) (s : Summary) → Closed (world_after c (begin c) ms) l e s → s.trim < numbered e k → s.lng < k → k < s.end → ShortCopies c (world_after c (begin c) ms) l (numbered e k) s.ballot ⊎ HasLoss (world_after c (begin c) ms) l e }
     ensures known_good { (c : Config) (ms : List Move) → IsInBounds c → (l e k : ℕ) (s : Summary) → Closed (world_after c (begin c) ms) l e s → s.trim < numbered e k → 0 < k → k ≤ s.lng → AppendsOf c (world_after c (begin c) ms) l (numbered e k) ⊎ HasLoss (world_after c (begin c) ms) l e }
 {}
 
-/// In every state, an epoch is closed fully or short. Fully: by a plan that found what it says, each item of which, the bridge too, as many nodes of the epoch as there are copies settled for that plan. Short: each node of the epoch settled each item of the closing plan for it, the bridge too, or told its sequencer that it is lost for the epoch, and no plan of the epoch has a greater ballot. The closing plan has an item at each place up to its end that is above its trim and its last known good place.
+/// In every state, an epoch is closed fully or short. Fully: by a plan that found what it says, each item of which, the bridge too, as many nodes as there are copies, of those that were fixed for the epoch, settled for that plan. Short: each node that was fixed for the epoch settled each item of the closing plan for it, the bridge too, or told its sequencer that it is lost for the epoch, and no plan of the epoch has a greater ballot. The closing plan has an item at each place up to its end that is above its trim and its last known good place.
 pub fn closes_are_full_or_short()
     ensures how { (c : Config) (ms : List Move) → IsInBounds c → FullOrShort c (world_after c (begin c) ms) }
     ensures say { (c : Config) (ms : List Move) → IsInBounds c → ClosesSay (world_after c (begin c) ms) }
@@ -174,22 +174,22 @@ pub fn lost_once()
     ensures { LostOnce }
 {}
 
-/// When a reader asks once more for a number that it then calls lost, each node of the number's epoch is lost for it, in its plain state and in the lines, or had shown the reader a clean page without the number.
+/// When a reader asks once more for a number that it then calls lost, each node of the number's epoch, as swaps left it by then, is lost for it, in its plain state and in the lines, or had shown the reader a clean page without the number.
 pub fn losses_were_seen()
     ensures { LossesWereSeen }
 {}
 
-/// A number that a reader calls lost had a moment, not after the step that says so, at which as many nodes of its epoch as it has copies stood lost for it.
+/// A number that a reader calls lost had a moment, not after the step that says so, at which as many nodes of its epoch, as swaps had left it, as it has copies stood lost for it: of one that a plan says is lost, the moment is before that plan.
 pub fn losses_happened()
     ensures { (c : Config) (es : List Event) → IsInBounds c → LossesHappened c (history c es) }
 {}
 
-/// When a reader asks once more for a number that it then calls lost, the number's epoch is closed, and as many of its nodes as it has copies are lost for it, each in its plain state: before a record that was cut short, where there is one. Where the number was known good as the epoch was closed, or each item of the closing plan was settled by as many nodes, so many of those are lost that stored its append, or settled it for the closing plan. Each item was settled so where the epoch was closed fully; else it was closed short.
+/// When a reader asks once more for a number that it then calls lost, the number's epoch is closed, and as many of its nodes, as swaps left it by then, as it has copies are lost for it, each in its plain state: before a record that was cut short, where there is one. Where the number was known good as the epoch was closed, or each item of the closing plan was settled by as many nodes, so many of those are lost that stored its append, or settled it for the closing plan, or took places in the epoch. Each item was settled so where the epoch was closed fully; else it was closed short.
 pub fn copies_were_lost()
     ensures { CopiesWereLost }
 {}
 
-/// Numbers that a reader calls lost are of an epoch that has a plan that says what is lost, except the one number whose confirmation the step completes; and before the step that made this plan, as many nodes of the epoch as it has copies stood lost for it in the lines.
+/// Numbers that a reader calls lost are of an epoch that has a plan that says what is lost, except the one number whose confirmation the step completes; and before the step that made this plan, as many of the nodes that were fixed for the epoch as it has copies stood lost for it in the lines.
 pub fn losses_were_told()
     ensures { LossesWereTold }
 {}

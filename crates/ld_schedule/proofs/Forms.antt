@@ -6,7 +6,7 @@ use Rattle.ld_ids.specs.Bytes.{AreBytes, hex_text}
 use Rattle.ld_ids.specs.Id.{IsNode, IsLog}
 use Rattle.ld_schedule.specs.declared.event.Picture.{Picture}
 use Rattle.ld_schedule.specs.declared.event.Event.{Event}
-use Rattle.ld_schedule.specs.declared.event.Event.TheVariants.{Format, Activate, Append, Trim, Retry, Drop, Deliver, Lose, Flow, Open, Poll, Tick, Down, Up, Wipe, Fail, Tear, Set, RegFail}
+use Rattle.ld_schedule.specs.declared.event.Event.TheVariants.{Format, Activate, Append, Trim, Retry, Drop, Deliver, Lose, Flow, Open, Poll, Tick, Down, Up, Wipe, Fail, Tear, Set, Replace, RegFail}
 use Rattle.ld_schedule.specs.declared.form.Form.{Form}
 use Rattle.ld_schedule.specs.declared.form.Form.TheVariants as forms
 use Rattle.ld_schedule.specs.declared.form.NodeForm.TheVariants as node_forms
@@ -286,6 +286,18 @@ back_set _ is = let other = is.form_is in cc
 pub form_set : IsFormOf (both IsLog (both is_factor (both are_extras IsNodes))) (behind (codes "set ") (joined decimal 32 (joined factor_text 32 (joined extras_text 32 nodes_text)))) make_set (forms.Count count_forms.Set)
 unfolding event_text
 form_set = record { into = λ v can. (record { form_is = refl; can = (can.0, can.1.0, can.1.1.0, can.1.1.1) }, refl); back = back_set }
+
+abbrev pub make_replace : ℕ × (ℕ × ℕ) → Event
+make_replace v = Replace v.0 v.1.0 v.1.1
+
+back_replace : (w : Event) → IsOfForm (forms.Node node_forms.Replace) w → (v : ℕ × (ℕ × ℕ)) × (both IsNode (both IsNode IsLog)) v × (behind (codes "replace ") (joined decimal 32 (joined decimal 32 decimal)) v ≡ event_text w)
+unfolding event_text
+back_replace (Replace n m l) is = ((n, (m, l)), (is.can.0, (is.can.1, is.can.2)), refl)
+back_replace _ is = let other = is.form_is in cc
+
+pub form_replace : IsFormOf (both IsNode (both IsNode IsLog)) (behind (codes "replace ") (joined decimal 32 (joined decimal 32 decimal))) make_replace (forms.Node node_forms.Replace)
+unfolding event_text
+form_replace = record { into = λ v can. (record { form_is = refl; can = (can.0, can.1.0, can.1.1) }, refl); back = back_replace }
 
 abbrev pub make_regfail : Count × Done → Event
 make_regfail v = RegFail v.0.count v.1.done

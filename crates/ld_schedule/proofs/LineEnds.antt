@@ -12,7 +12,7 @@ use Rattle.ld_ids.specs.Set.{members, numbers_text}
 use Rattle.ld_schedule.specs.declared.event.Picture.{Picture}
 use Rattle.ld_schedule.specs.declared.event.Picture.TheVariants as pictures
 use Rattle.ld_schedule.specs.declared.event.Event.{Event}
-use Rattle.ld_schedule.specs.declared.event.Event.TheVariants.{Format, Activate, Append, Trim, Retry, Drop, Deliver, Lose, Flow, Open, Poll, Tick, Down, Up, Wipe, Fail, Tear, Set, RegFail}
+use Rattle.ld_schedule.specs.declared.event.Event.TheVariants.{Format, Activate, Append, Trim, Retry, Drop, Deliver, Lose, Flow, Open, Poll, Tick, Down, Up, Wipe, Fail, Tear, Set, Replace, RegFail}
 use Rattle.ld_schedule.specs.Grammar.{IsName, IsLsn, IsPicture, is_name_byte, is_digit, IsNodes, picture_text, done_text, nodes_text, IsNamed, event_text, blank}
 use Rattle.ld_schedule.specs.Form.{form_of}
 use Rattle.ld_schedule.specs.Rising.{IsRising}
@@ -87,6 +87,7 @@ parts_10 (Wipe n) can = number_10 n (omega (arith, can.1))
 parts_10 (Fail n k) can = between (decimal n) (decimal k) (number_10 n (omega (arith, can.0.1))) (number_10 k (omega (arith, can.1.1)))
 parts_10 (Tear n k p) can = between (decimal n) (decimal k ++ blank ∷ picture_text p) (number_10 n (omega (arith, can.0.1))) (between (decimal k) (picture_text p) (number_10 k (omega (arith, can.1.1))) (picture_10 p can.2))
 parts_10 (Set l r x s) can = between (decimal l) (decimal r ++ blank ∷ (decimal x ++ blank ∷ nodes_text s)) (number_10 l (omega (arith, can.0.1))) (between (decimal r) (decimal x ++ blank ∷ nodes_text s) (number_10 r (omega (arith, can.1.1))) (between (decimal x) (nodes_text s) (number_10 x (omega (arith, can.2))) (nodes_10 s can.3)))
+parts_10 (Replace n m l) can = between (decimal n) (decimal m ++ blank ∷ decimal l) (number_10 n (omega (arith, can.0.1))) (between (decimal m) (decimal l) (number_10 m (omega (arith, can.1.1))) (number_10 l (omega (arith, can.2.1))))
 parts_10 (RegFail k d) can = between (decimal k) (done_text d) (number_10 k (omega (arith, can.1))) (done_10 d)
 
 pub text_lacks : (e : Event) → IsNamed e → Lacks 10 (event_text e)

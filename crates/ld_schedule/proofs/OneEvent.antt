@@ -14,7 +14,7 @@ use Rattle.ld_ids.specs.Bytes.{AreBytes, hex_text}
 use Rattle.ld_ids.specs.Id.{IsNode, IsLog}
 use Rattle.ld_schedule.specs.declared.event.Picture.TheVariants as pictures
 use Rattle.ld_schedule.specs.declared.event.Event.{Event}
-use Rattle.ld_schedule.specs.declared.event.Event.TheVariants.{Format, Activate, Append, Trim, Retry, Drop, Deliver, Lose, Flow, Open, Poll, Tick, Down, Up, Wipe, Fail, Tear, Set, RegFail}
+use Rattle.ld_schedule.specs.declared.event.Event.TheVariants.{Format, Activate, Append, Trim, Retry, Drop, Deliver, Lose, Flow, Open, Poll, Tick, Down, Up, Wipe, Fail, Tear, Set, Replace, RegFail}
 use Rattle.ld_schedule.specs.declared.form.Form.{Form}
 use Rattle.ld_schedule.specs.declared.form.Form.TheVariants as forms
 use Rattle.ld_schedule.specs.declared.form.NodeForm.TheVariants as node_forms
@@ -124,6 +124,7 @@ word_of (forms.Node node_forms.Wipe) = codes "wipe"
 word_of (forms.Node node_forms.Fail) = codes "fail"
 word_of (forms.Node node_forms.Tear) = codes "tear"
 word_of (forms.Count count_forms.Set) = codes "set"
+word_of (forms.Node node_forms.Replace) = codes "replace"
 word_of (forms.Count count_forms.RegFail) = codes "regfail"
 
 abbrev is_word : List ℕ → List ℕ → Bool
@@ -150,6 +151,7 @@ told word =
     else if is_word word (codes "fail") then (forms.Node node_forms.Fail)
     else if is_word word (codes "tear") then (forms.Node node_forms.Tear)
     else if is_word word (codes "set") then (forms.Count count_forms.Set)
+    else if is_word word (codes "replace") then (forms.Node node_forms.Replace)
     else (forms.Count count_forms.RegFail)
 
 told_again : (form : Form) → told (word_of form) ≡ form
@@ -171,6 +173,7 @@ told_again (forms.Node node_forms.Wipe) = refl
 told_again (forms.Node node_forms.Fail) = refl
 told_again (forms.Node node_forms.Tear) = refl
 told_again (forms.Count count_forms.Set) = refl
+told_again (forms.Node node_forms.Replace) = refl
 told_again (forms.Count count_forms.RegFail) = refl
 
 abbrev are_letters : List ℕ → Bool
@@ -196,6 +199,7 @@ letters_of (forms.Node node_forms.Wipe) = refl
 letters_of (forms.Node node_forms.Fail) = refl
 letters_of (forms.Node node_forms.Tear) = refl
 letters_of (forms.Count count_forms.Set) = refl
+letters_of (forms.Node node_forms.Replace) = refl
 letters_of (forms.Count count_forms.RegFail) = refl
 
 letters_lack : (c : ℕ) (xs : List ℕ) → is_name_byte c ≡ false → are_letters xs ≡ true → Lacks c xs
@@ -228,6 +232,7 @@ parts_of (Wipe n) = decimal n
 parts_of (Fail n k) = decimal n ++ blank ∷ decimal k
 parts_of (Tear n k p) = decimal n ++ blank ∷ (decimal k ++ blank ∷ picture_text p)
 parts_of (Set l r x s) = decimal l ++ blank ∷ (decimal r ++ blank ∷ (decimal x ++ blank ∷ nodes_text s))
+parts_of (Replace n m l) = decimal n ++ blank ∷ (decimal m ++ blank ∷ decimal l)
 parts_of (RegFail k d) = decimal k ++ blank ∷ done_text d
 
 pub text_parts : (e : Event) → event_text e ≡ word_of (form_of e) ++ 32 ∷ parts_of e
@@ -250,6 +255,7 @@ text_parts (Wipe n) = refl
 text_parts (Fail n k) = refl
 text_parts (Tear n k p) = refl
 text_parts (Set l r x s) = refl
+text_parts (Replace n m l) = refl
 text_parts (RegFail k d) = refl
 
 same_form : (a b : Event) → event_text a ≡ event_text b → AreSame (form_of a) (form_of b) (parts_of a) (parts_of b)
@@ -328,6 +334,13 @@ same_event (Set l r x s) (Set l2 r2 x2 s2) a b form e =
     let y : x ≡ x2 = three.first in
     let z : s ≡ s2 = one_nodes s s2 a.3 b.3 three.second in cc
 same_event (Set l r x s) _ a b form e = absurd (cc)
+same_event (Replace n m l) (Replace n2 m2 l2) a b form e =
+    let one = same_parts IsNode decimal n n2 _ _ node_lacks one_node a.0 b.0 e in
+    let two = same_parts IsNode decimal m m2 _ _ node_lacks one_node a.1 b.1 one.second in
+    let x : n ≡ n2 = one.first in
+    let y : m ≡ m2 = two.first in
+    let z : l ≡ l2 = one_log l l2 a.2 b.2 two.second in cc
+same_event (Replace n m l) _ a b form e = absurd (cc)
 same_event (RegFail k d) (RegFail k2 d2) a b form e =
     let parts = same_parts IsCount decimal k k2 _ _ count_lacks one_count a b e in
     let x : k ≡ k2 = parts.first in

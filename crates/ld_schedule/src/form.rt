@@ -25,6 +25,7 @@ pub enum NodeForm {
     Wipe,
     Fail,
     Tear,
+    Replace,
 }
 
 /// The first word of a line that names a sequencer or a reader.
@@ -106,6 +107,10 @@ fn read_of_node(form: NodeForm, alloc: Global, line: &[u8]) -> Result<Event, Lin
                 call: call.count,
                 picture,
             }),
+            Err(fault) => Err(fault),
+        },
+        NodeForm::Replace => match behind::<(NodeId, (NodeId, LogId))>(alloc, line, b"replace ") {
+            Ok((node, (other, log))) => Ok(Event::Replace { node, other, log }),
             Err(fault) => Err(fault),
         },
     }

@@ -9,7 +9,7 @@ use crate::form::{CountForm, Form, NameForm, NodeForm, read};
 use std::alloc::Global;
 
 /// The words that a line can begin with.
-const FORMS: [Form; 19] = [
+const FORMS: [Form; 20] = [
     Form::Node(NodeForm::Format),
     Form::Name(NameForm::Activate),
     Form::Name(NameForm::Append),
@@ -28,6 +28,7 @@ const FORMS: [Form; 19] = [
     Form::Node(NodeForm::Fail),
     Form::Node(NodeForm::Tear),
     Form::Count(CountForm::Set),
+    Form::Node(NodeForm::Replace),
     Form::Count(CountForm::RegFail),
 ];
 

@@ -76,6 +76,22 @@ fn lines_name_nodes(rt: HostRuntime) -> Result<(), Fail> {
     Ok(())
 }
 
+/// The nodes and the log of a line by which one node takes the place of another one.
+fn swapped(alloc: Global, line: &[u8]) -> Result<(u8, u8, u32), LineFault> {
+    match &parse_line(alloc, line)? {
+        Event::Replace { node, other, log } => Ok((node.number(), other.number(), log.number())),
+        _ => Ok((0, 0, 0)),
+    }
+}
+
+#[test]
+fn lines_swap_nodes(rt: HostRuntime) -> Result<(), Fail> {
+    let alloc = rt.alloc();
+    assert_eq!(rt; swapped(alloc, b"replace 4 3 1")?, (4, 3, 1));
+    assert_eq!(rt; swapped(alloc, b"replace 16 1 65535")?, (16, 1, 65_535));
+    Ok(())
+}
+
 #[test]
 fn lines_have_counts(rt: HostRuntime) -> Result<(), Fail> {
     let alloc = rt.alloc();
@@ -87,7 +103,7 @@ fn lines_have_counts(rt: HostRuntime) -> Result<(), Fail> {
 
 /// Lines, and the length of the longest prefix with which some line begins where they are none, as it was found by
 /// trying each prefix against the grammar: events at the bounds of their parts, and lines a byte away.
-const LINES: [(&[u8], Option<usize>); 60] = [
+const LINES: [(&[u8], Option<usize>); 68] = [
     (b"format 16", None),
     (b"activate s0 65535", None),
     (b"append abcdefghijklmnop -", None),
@@ -148,6 +164,14 @@ const LINES: [(&[u8], Option<usize>); 60] = [
     (b"set 1 2 0 1, 4", Some(12)),
     (b"set 1 2 0 ,1", Some(10)),
     (b"sets", Some(3)),
+    (b"replace 4 3 1", None),
+    (b"replace 16 16 65535", None),
+    (b"replace 4 3", Some(11)),
+    (b"replace 4 17 1", Some(11)),
+    (b"replace 0 3 1", Some(8)),
+    (b"replace 4 3 65536", Some(16)),
+    (b"replace 4  3 1", Some(10)),
+    (b"replaces", Some(7)),
 ];
 
 #[test]

@@ -52,6 +52,13 @@ fn of_a_node(alloc: Global, node: NodeId, log: LogId) -> Result<Lines, NoMemory>
         epoch: 2,
     })?;
     lines.push(Line::NodeRebuilt { node, log })?;
+    lines.push(Line::NodeReplaced {
+        node,
+        log,
+        other: node,
+        count: 2,
+    })?;
+    lines.push(Line::NodeRefusedSwapLimit { node })?;
     lines.push(Line::RefusedLong {
         name: name(alloc, b"a")?,
         bytes: 65_536,
@@ -90,7 +97,7 @@ fn a_nodes_lines_are_written(rt: HostRuntime) -> Result<(), Fail> {
     let mut out = Vec::new(alloc);
     of_a_node(alloc, node, log)?.write(alloc, &mut out)?;
     let text =
-        b"node 1 formatted 2\nnode 1 lost 1 2\nnode 1 rebuilt 1\nrefused a long 65536\nrefused a past e1n1\nmsg 0 s.a n.1 store e1n1\n";
+        b"node 1 formatted 2\nnode 1 lost 1 2\nnode 1 rebuilt 1\nnode 1 replaced 1 1 2\nnode 1 refused swaplimit\nrefused a long 65536\nrefused a past e1n1\nmsg 0 s.a n.1 store e1n1\n";
     assert_eq!(rt; &out[..], &text[..]);
     Ok(())
 }

@@ -6,7 +6,7 @@ use crate::line::Line;
 use crate::parts::word;
 use crate::shapes::{
     gap_line, message_line, name_line, name_lsn_line, name_number_line, node_line, node_lost_line,
-    node_number_line, record_line, set_line,
+    node_number_line, node_replaced_line, record_line, set_line,
 };
 use ld_ids::NoMemory;
 use std::alloc::Global;
@@ -43,6 +43,13 @@ pub fn add(alloc: Global, line: &Line, out: &mut Vec<u8>) -> Result<(), NoMemory
         Line::NodeFailed { node } => node_line(out, *node, b" failed"),
         Line::NodeFull { node } => node_line(out, *node, b" full"),
         Line::NodeRebuilt { node, log } => node_number_line(out, *node, b" rebuilt ", log.number()),
+        Line::NodeReplaced {
+            node,
+            log,
+            other,
+            count,
+        } => node_replaced_line(out, *node, *log, *other, *count),
+        Line::NodeRefusedSwapLimit { node } => node_line(out, *node, b" refused swaplimit"),
         Line::NodeRefusedRegister { node } => node_line(out, *node, b" refused register"),
         Line::NodeRefusedGenLimit { node } => node_line(out, *node, b" refused genlimit"),
         Line::Set {

@@ -1,6 +1,6 @@
 use Rattle.std.proofs.Common.{ap}
 use Rattle.ld_schedule.specs.declared.form.Form.TheVariants as forms
-use Rattle.ld_schedule.proofs.Forms.{text_form, fault_form, form_format, form_tick, form_down, form_up, form_wipe, form_fail, form_tear}
+use Rattle.ld_schedule.proofs.Forms.{text_form, fault_form, form_format, form_tick, form_down, form_up, form_wipe, form_fail, form_tear, form_replace}
 use Rattle.ld_schedule.proofs.form.read_of_node.Goals as goal
 
 pub returns-in-Ok : goal.returns-in-Ok
@@ -44,3 +44,9 @@ returns-in-Ok-behind-6 c = text_form form_tear (forms.Node c.args.form) (ap (λ 
 
 pub returns-in-Err-behind-6 : goal.returns-in-Err-behind-6
 returns-in-Err-behind-6 c = fault_form form_tear (forms.Node c.args.form) (ap (λ f. forms.Node f) c.in-Tear.is) c.args.line.now c.in-Err-behind-6.fault c.in-Err-behind-6.ensures
+
+pub returns-in-Ok-behind-7 : goal.returns-in-Ok-behind-7
+returns-in-Ok-behind-7 c = text_form form_replace (forms.Node c.args.form) (ap (λ f. forms.Node f) c.in-Replace.is) c.args.line.now _ c.in-Ok-behind-7.ensures
+
+pub returns-in-Err-behind-7 : goal.returns-in-Err-behind-7
+returns-in-Err-behind-7 c = fault_form form_replace (forms.Node c.args.form) (ap (λ f. forms.Node f) c.in-Replace.is) c.args.line.now c.in-Err-behind-7.fault c.in-Err-behind-7.ensures

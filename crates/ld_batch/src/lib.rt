@@ -1,0 +1,6 @@
+//! Batches: several messages of a client in one record.
+#![tactic(auto)]
+
+mod messages;
+
+pub use messages::Messages;
