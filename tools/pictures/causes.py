@@ -28,7 +28,7 @@ class Causes:
     def of(self, item):
         """A list of (sentence, indices of lines)."""
         log = self.story.log_of[item.reader]
-        if item.kind == "record":
+        if item.kind in ("record", "message"):
             return self.of_record(item, log)
         if item.kind == "trim":
             return self.of_trim(item, log)
@@ -122,7 +122,7 @@ class Causes:
     def of_loss(self, item, log):
         """The last time before the gap in which as many nodes as the replication factor stood lost for the epoch."""
         epoch = home(item.low)
-        nodes, copies, _ = self.story.log_at(log, epoch)
+        nodes, copies, _ = self.story.log_at(log, epoch, item.step)
         moment, lost = self.moment(item.step, log, epoch, nodes, copies)
         if not lost:
             return [("No moment is told at which enough nodes stood lost.", [])]

@@ -8,8 +8,11 @@ SPACE, BETWEEN, TOP = 104, 14, 100
 MARKS = {"appended": "appended", "acked": "acked", "released": "released", "trimmed": "trimmed", "clean": "closed"}
 MOST_ITEMS, MOST_TEXT, MOST_COLUMNS = 6, 20, 6
 
+# how a reader is opened, and what its column says of that
+OPENS = {"open": "", "openone": ", one copy of each", "openmsgs": ", as messages"}
+
 # events that write `none` also where they do something
-QUIET = ("drop", "lose", "open", "fail", "tear", "regfail")
+QUIET = ("drop", "lose", *OPENS, "fail", "tear", "regfail")
 
 
 class Drawing:
@@ -159,7 +162,7 @@ class Drawing:
                 yield "plain", f"active, epoch {words[0]}"
             elif line.kind == "refused":
                 yield "refused", "refused: " + " ".join(words)
-            elif line.kind == "unformatted":
+            elif line.kind == "refusednode":
                 yield "refused", "refused: " + words[-1]
             elif line.kind == "formatted":
                 yield "plain", f"formatted, generation {words[0]}"
@@ -167,6 +170,8 @@ class Drawing:
                 yield "lost", f"lost, log {words[0]} to epoch {words[1]}"
             elif line.kind == "rebuilt":
                 yield "released", f"rebuilt, log {words[0]}"
+            elif line.kind == "replaced":
+                yield "plain", f"in place of node {words[1]}, log {words[0]}, epochs: {words[2]}"
             elif line.kind == "up":
                 yield "plain", "up"
             elif line.kind in ("down", "failed", "full", "wiped"):
@@ -175,15 +180,15 @@ class Drawing:
             yield "bad", f"armed: {event.word} in call {event.args[1]}" + (f", {event.args[2]}" if event.word == "tear" else "")
         elif event.word == "drop" and lines[0].kind == "none":
             yield "plain", "dropped"
-        elif event.word == "open" and lines[0].kind == "none":
-            yield "plain", f"log {event.args[1]}, {event.args[2]} to {event.args[3]}"
+        elif event.word in OPENS and lines[0].kind == "none":
+            yield "plain", f"log {event.args[1]}, {event.args[2]} to {event.args[3]}{OPENS[event.word]}"
 
     def call(self, number, step, lines):
         """The call of the register in a step, where one is told: a dotted line to it and what it gave."""
-        told = {"active": "epoch {}", "clean": "closed {}", "formatted": "generation {}"}
-        refusals = ("register", "epochlimit", "genlimit")
+        told = {"active": "epoch {}", "clean": "closed {}", "formatted": "generation {}", "replaced": "log {}"}
+        refusals = ("register", "epochlimit", "genlimit", "swaplimit")
         for line in lines:
-            is_refused = line.kind in ("refused", "unformatted") and line.fields[-1] in refusals
+            is_refused = line.kind in ("refused", "refusednode") and line.fields[-1] in refusals
             if (line.kind in told or is_refused) and step.actor in self.columns:
                 x, y = self.columns["register"], self.y(number)
                 path = f'<path class="call" d="M{short(x)},{short(y)}H{short(self.columns[step.actor])}"/>'

@@ -7,7 +7,7 @@ HUGE = 2**32 - 1
 
 MESSAGES = (
     "store stored sealedhere losthere cleanhere trimmedhere digestask digestpage "
-    "clean release trim readask readpage readended readtrim readwait"
+    "clean release trim readask readpage readended readtrim readwait readone"
 ).split()
 
 # what a word of an event has to be
@@ -19,6 +19,7 @@ WORDS = {
     "I": lambda w: is_number(w, 0, 999_999_999_999),
     "S": lambda w: re.fullmatch("[a-z0-9]{1,16}", w),
     "HEX": lambda w: re.fullmatch("-|([0-9a-f]{2})+", w),
+    "HEX,HEX,..": lambda w: w.count(",") < 1024 and all(re.fullmatch("-|([0-9a-f]{2})+", part) for part in w.split(",")),
     "LSN": lambda w: is_lsn(w),
     "PICTURE": lambda w: re.fullmatch("old|new|[0-9a-f]{2}", w),
     "HOW": lambda w: re.fullmatch("done|undone", w),
@@ -30,9 +31,10 @@ WORDS = {
 EVENTS = {
     form.split()[0]: form.split()[1:]
     for form in (
-        "format N,activate S L,append S HEX,trim S LSN,retry S,drop S,deliver I,lose I,flow K,open S L LSN LSN,poll S,"
-        "tick N L,down N,up N,wipe N,fail N K,tear N K PICTURE,set L R X NODES,regfail K HOW"
-    ).split(",")
+        "format N;activate S L;append S HEX;batch S HEX,HEX,..;trim S LSN;retry S;drop S;deliver I;lose I;flow K;open S L LSN LSN;"
+        "openone S L LSN LSN;openmsgs S L LSN LSN;poll S;tick N L;down N;up N;wipe N;fail N K;tear N K PICTURE;set L R X NODES;replace N N L;"
+        "regfail K HOW"
+    ).split(";")
 }
 
 # the lines of a transcript: kind, whose line it is, form; `#` is a number, `@` a name, `%` a number of a log
@@ -47,7 +49,8 @@ wiped       n  node # wiped
 failed      n  node # failed
 full        n  node # full
 rebuilt     n  node # rebuilt #
-unformatted n  node # refused (register|genlimit)
+replaced    n  node # replaced # # #
+refusednode n  node # refused (register|genlimit|swaplimit)
 active      s  active @ #
 appended    s  appended @ %
 refused     r  refused @ (range|full)
@@ -57,6 +60,7 @@ clean       s  clean @ %
 trimmed     s  trimmed @ %
 released    s  released @ %
 record      r  record @ % (-|(?:[0-9a-f]{2})+)
+message     r  message @ % # (-|(?:[0-9a-f]{2})+)
 gap         r  gap @ (trim|hole|bridge|dataloss) % %
 msg         m  msg # ([nsr]\\.[a-z0-9]{1,16}) ([nsr]\\.[a-z0-9]{1,16}) ([a-z]+) %
 """

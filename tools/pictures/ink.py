@@ -7,7 +7,7 @@ FAMILIES = {
     "write": ("store", "stored"),
     "digest": ("digestask", "digestpage"),
     "tell": ("clean", "release", "trim"),
-    "read": ("readask", "readpage", "readended", "readtrim", "readwait"),
+    "read": ("readask", "readone", "readpage", "readended", "readtrim", "readwait"),
     "turn": ("sealedhere", "losthere", "cleanhere", "trimmedhere"),
 }
 FAMILY = {kind: family for family, kinds in FAMILIES.items() for kind in kinds}

@@ -3,7 +3,7 @@
 const run = JSON.parse(document.getElementById("run").textContent);
 const $ = id => document.getElementById(id);
 const LINE = 18, MARGIN = 12, SPACE = "http://www.w3.org/2000/svg";
-const NAMES = { record: "the record", trim: "a trim gap,", hole: "a hole,", bridge: "a bridge,", dataloss: "a data loss," };
+const NAMES = { record: "the record", message: "a message of the record", trim: "a trim gap,", hole: "a hole,", bridge: "a bridge,", dataloss: "a data loss," };
 const state = { step: 0, zoom: 1, lit: -1, pinned: -1, led: new Set(), ledLines: new Set(), hits: [], hit: -1, item: -1 };
 const last = run.steps.length - 1;
 

@@ -70,7 +70,7 @@ def ring(x, y):
 
 def items_and_marks(y):
     x, out = 24, []
-    kinds = {"record": "record", "trim": "trim gap", "hole": "hole", "bridge": "bridge to the next epoch", "dataloss": "data loss"}
+    kinds = {"record": "record", "message": "message of a batch", "trim": "trim gap", "hole": "hole", "bridge": "bridge to the next epoch", "dataloss": "data loss"}
     for kind, words in kinds.items():
         piece, x = ink.cell(x, y, Item("", kind, words, words, "", 0, 0), -1)
         out.append(piece.replace(' data-item="-1"', ""))

@@ -14,24 +14,27 @@ from .formats import Unreadable, home, lsn, named_log, shorten
 # a letter for each kind of line
 LETTERS = {
     "none": "0", "set": "s", "formatted": "F", "lost": "L", "up": "U", "down": "D", "wiped": "W", "failed": "X", "full": "Y",
-    "rebuilt": "B", "unformatted": "Z", "active": "a", "appended": "p", "refused": "z", "acked": "k", "clean": "c",
-    "trimmed": "t", "released": "r", "record": "1",
+    "rebuilt": "B", "replaced": "P", "refusednode": "Z", "active": "a", "appended": "p", "refused": "z", "acked": "k", "clean": "c",
+    "trimmed": "t", "released": "r", "record": "1", "message": "6",
 }
 GAP_LETTERS = {"hole": "2", "bridge": "3", "trim": "4", "dataloss": "5"}
-MESSAGE_LETTERS = {"clean": "C", "release": "R", "trim": "T", "digestask": "G", "store": "S", "readask": "K"}
+MESSAGE_LETTERS = {"clean": "C", "release": "R", "trim": "T", "digestask": "G", "store": "S", "readask": "K", "readone": "O"}
 
 # what a step may write, by its event, or by who takes which message; nothing but `none` where it isn't here
 SHAPES = {
-    "set": "s", "format": "FL*|[DXYZ]", "up": "[UDX]", "down": "D", "wipe": "W", "activate": "aG*|z", "append": "pS*|z",
-    "trim": "tT*|z", "retry": "z?c?r?C*R*G*S*", "open": "z", "poll": "K*", "tick": "[DXYB]|K+",
-    "n store": "[DXYM]", "n digestask": "[DXYM]", "n readask": "[DXYM]", "n clean": "[DXY]", "n trim": "[DXY]",
+    "set": "s", "format": "FL*|[DXYZ]", "up": "[UDX]", "down": "D", "wipe": "W", "activate": "aG*|z", "append": "pS*|z", "batch": "pS*|z",
+    "trim": "tT*|z", "retry": "z?c?r?C*R*G*S*", "open": "z", "openone": "z", "openmsgs": "z", "poll": "O+|K*", "tick": "[DXYB]|K+",
+    "replace": "[PZ]",
+    "n store": "[DXYM]", "n digestask": "[DXYM]", "n readask": "[DXYM]", "n readone": "[DXYM]", "n clean": "[DXY]", "n trim": "[DXY]",
     "n release": "[DXY]", "n readpage": "[DXY]", "n readtrim": "[DXY]",
     "s stored own": "k?r?R*", "s stored": "z?c?r?C*R*G*", "s trimmedhere": "z?c?r?C*R*G*", "s cleanhere": "z|r?C*R*G*",
-    "s sealedhere": "z", "s digestpage": "G|S*|z|r?C*R*G*", "s losthere": "S*|z?c?r?C*R*G*",
-    "r readpage": "([125][1-5]*)?K*", "r readended": "([35][1-5]*)?K*", "r readtrim": "(4[1-5]*)?K*", "r losthere": "(5[1-5]*)?K*",
-    "r readwait": "K*",
+    "s sealedhere": "z", "s digestpage": "G|S+|z|c?r?C*R*G*", "s losthere": "S+|z?c?r?C*R*G*",
+    "r readpage": "([1256][1-6]*)?(O+|K*)", "r readended": "([35][1-6]*)?(O+|K*)", "r readtrim": "(4[1-6]*)?(O+|K*)",
+    "r losthere": "(5[1-6]*)?(O+|K*)",
+    "r readwait": "O+|K*",
 }
 SHAPES = {step: re.compile(shape) for step, shape in SHAPES.items()}
+OPENS = ("open", "openone", "openmsgs")
 REFUSE_AT_ONCE = 200_000
 
 
@@ -57,9 +60,9 @@ class Split(NamedTuple):
 
 def actor_of(event):
     """Who acts in an event that is no delivery."""
-    if event.word in ("activate", "append", "trim", "retry", "drop"):
+    if event.word in ("activate", "append", "batch", "trim", "retry", "drop"):
         return "s." + event.args[0]
-    if event.word in ("open", "poll"):
+    if event.word in OPENS or event.word == "poll":
         return "r." + event.args[0]
     return None if event.word in ("set", "regfail") else "n." + event.args[0]
 
@@ -103,8 +106,9 @@ class Splitter:
         and by another, whose plan may go to all nodes of the epoch."""
         self.log_of, self.stored, self.wiped, self.closed, self.choice = {}, {}, {}, {}, {}
         for event in self.events:
-            if event.word in ("activate", "open"):
+            if event.word == "activate" or event.word in OPENS:
                 self.log_of.setdefault(actor_of(event), int(event.args[1]))
+        self.single = {actor_of(event) for event in self.events if event.word == "openone"}
         named = dict(self.logs)
         for line in self.lines:
             if line.kind == "set":
@@ -161,27 +165,32 @@ class Splitter:
         end = self.in_order(at, found.end() if found else at)
         if end == at:
             return []
-        if shape in ("append", "retry", "tick"):
+        if shape in ("append", "batch", "retry", "tick"):
             return [k for k in range(at + 1, end) if self.lines[k].kind == "msg"] + [end]
         if shape[:2] != "r ":
             return [end]
-        if self.letters[at] == "K" and not self.has_lost(actor, message):
+        if self.letters[at] in "KO" and not self.may_ask(actor, message):
             return []
-        inside = [k for k in range(at + 1, end) if self.letters[k - 1] in "12345"]
+        inside = [k for k in range(at + 1, end) if self.letters[k - 1] in "123456" and not self.goes_on(k)]
         gaps = [k for k in inside if shape == "r readpage" and not self.is_held(actor, message, self.lines[k])]
         likely = gaps[0] if gaps else end
         return [k for k in inside + [end] if k != likely] + [likely]
 
-    def has_lost(self, reader, message):
-        """Whether the reader took an answer of a lost node. Without one it asks in a delivery only after an item."""
-        return self.messages[message].fields[3] == "losthere" or self.answers.get((reader, "losthere"), 0) > 0
+    def goes_on(self, at):
+        """Whether a line is a message of the batch whose messages stand before it: they are one item, and of one step."""
+        return self.letters[at] == "6" and self.lines[at].fields[1] != "0"
+
+    def may_ask(self, reader, message):
+        """Whether the reader took an answer of a lost node, or has one copy sent of each record: without that it asks in a delivery only
+        after an item."""
+        return reader in self.single or self.messages[message].fields[3] == "losthere" or self.answers.get((reader, "losthere"), 0) > 0
 
     def is_held(self, reader, message, item):
         """Whether the reader may have this item from what it took so far: false of a record or hole that no node is known
         to have stored before it sent a page to this reader."""
-        if item.kind != "record" and item.fields[0] != "hole":
+        if item.kind not in ("record", "message") and item.fields[0] != "hole":
             return True
-        number = item.fields[0 if item.kind == "record" else 1]
+        number = item.fields[1 if item.kind == "gap" else 0]
         pages = [message] + self.pages.get((reader, self.messages[message].fields[4]), [])
         return any(self.shows(self.messages[page], reader, number) for page in pages)
 

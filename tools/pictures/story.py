@@ -3,7 +3,7 @@ from typing import NamedTuple
 
 from . import formats, steps
 
-LETTER = {"record": "R", "trim": "T", "hole": "H", "bridge": "B", "dataloss": "D"}
+LETTER = {"record": "R", "message": "M", "trim": "T", "hole": "H", "bridge": "B", "dataloss": "D"}
 
 
 class Taking(NamedTuple):
@@ -101,7 +101,7 @@ class Story:
             self.seen[name] = number
             if event.word == "activate" and lines[0].kind == "active":
                 self.born[name], self.log_of[name] = number, int(event.args[1])
-            if event.word == "open" and lines[0].kind == "none" and name not in self.born and int(event.args[1]) in self.config.logs:
+            if event.word in steps.OPENS and lines[0].kind == "none" and name not in self.born and int(event.args[1]) in self.config.logs:
                 self.born[name], self.log_of[name], self.until[name] = number, int(event.args[1]), event.args[3]
             if event.word == "drop" and name in self.born:
                 self.gone.setdefault(name, number)
@@ -121,10 +121,11 @@ class Story:
                 message.takings.append(Taking(number, not step.was_new))
 
     def gather_logs(self):
-        """The nodes, the factor and the extras that were fixed for each epoch of a log: those that were named last before it
-        was handed out. An activation that failed handed one out where the fault that was armed last is one with the change made."""
-        named, self.logs, last, is_done = dict(self.config.logs), {}, {}, False
-        for step in self.steps:
+        """The nodes, the factor and the extras of each epoch of a log, from which step on: those that were named last before it
+        was handed out, and then as nodes took the places of others in it. An activation that failed handed one out where the fault that was
+        armed last is one with the change made."""
+        named, self.logs, last, is_done, upto = dict(self.config.logs), {}, {}, False, {}
+        for number, step in enumerate(self.steps):
             event, line = self.events[step.event], self.lines[step.first]
             if event.word == "regfail":
                 is_done = event.args[1] == "done"
@@ -135,16 +136,29 @@ class Story:
                 log = int(event.args[1])
                 if is_made and log in named:
                     last[log] = last.get(log, 0) + 1
-                    self.logs[log, last[log]] = named[log]
+                    self.logs[log, last[log]] = [(number, named[log])]
+            elif event.word == "format":
+                upto.update({(step.actor, int(l.fields[0])): int(l.fields[1]) for l in self.text_of(step) if l.kind == "lost"})
+            elif line.kind == "replaced":
+                log, old = (int(word) for word in line.fields[:2])
+                self.replace(number, log, old, int(step.actor[2:]), upto.get((step.actor, log), 0))
 
-    def log_at(self, log, epoch):
-        """What was fixed for an epoch of a log; what the configuration has, where nothing was."""
-        return self.logs.get((log, epoch), self.config.logs[log])
+    def replace(self, number, log, old, new, upto):
+        """A node took the place of another one in the epochs up to one that had the old one and lacked the new one."""
+        for epoch in range(1, upto + 1):
+            _, now = self.logs.get((log, epoch), [(0, self.config.logs[log])])[-1]
+            if old in now.nodes and new not in now.nodes:
+                self.logs[log, epoch].append((number, now._replace(nodes=sorted({*now.nodes, new} - {old}))))
+
+    def log_at(self, log, epoch, step=None):
+        """What an epoch of a log had by a step, or by the end; what the configuration has, where it wasn't handed out."""
+        found = [it for since, it in self.logs.get((log, epoch), []) if step is None or since <= step]
+        return found[-1] if found else self.config.logs[log]
 
     def item(self, line):
         at, words = line.number - 1, line.fields
-        if line.kind == "record":
-            return Item(line.actor, "record", words[0], words[0], words[1], at, self.step_of[at])
+        if line.kind in ("record", "message"):
+            return Item(line.actor, line.kind, words[0], words[0], words[-1], at, self.step_of[at])
         return Item(line.actor, words[0], words[1], words[2], "", at, self.step_of[at])
 
     def stand(self, node):
