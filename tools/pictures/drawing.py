@@ -185,7 +185,7 @@ class Drawing:
 
     def call(self, number, step, lines):
         """The call of the register in a step, where one is told: a dotted line to it and what it gave."""
-        told = {"active": "epoch {}", "clean": "closed {}", "formatted": "generation {}", "replaced": "log {}"}
+        told = {"active": "epoch {}", "clean": "closed {}", "formatted": "generation {}", "replaced": "swapped in log {}"}
         refusals = ("register", "epochlimit", "genlimit", "swaplimit")
         for line in lines:
             is_refused = line.kind in ("refused", "refusednode") and line.fields[-1] in refusals

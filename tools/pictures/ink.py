@@ -64,12 +64,12 @@ font-size:11.5px;fill:#1f2933}
 .run .p-lost rect{fill:#fbdc8c;stroke:#b98a00}
 .run .item text{font-size:10.5px}
 .run .letter{font-weight:700;text-anchor:middle}
-.run .i-R rect{fill:#2a62a5;stroke:#2a62a5}
+.run .i-R rect,.run .i-M rect{fill:#2a62a5;stroke:#2a62a5}
 .run .i-T rect{fill:#eeb52c;stroke:#94690a}
 .run .i-H rect{fill:#fff;stroke:#1f2933;stroke-dasharray:3 2}
 .run .i-B rect{fill:#bfe9e2;stroke:#0b726a}
 .run .i-D rect{fill:#1c1c1c;stroke:#d0342c;stroke-width:2}
-.run .i-R .letter,.run .i-D .letter{fill:#fff}
+.run .i-R .letter,.run .i-M .letter,.run .i-D .letter{fill:#fff}
 """
 
 DEFS = (
