@@ -17,4 +17,5 @@ shown_item (items.LossTo epoch) = reading.LossTo (epoch_end epoch)
 abbrev pub shown : Verdict → reading.Verdict
 shown (verdicts.Gives item) = reading.Gives (shown_item item)
 shown (verdicts.Confirms lost) = reading.Confirms lost
+shown verdicts.AsksAll = reading.AsksAll
 shown verdicts.NotYet = reading.NotYet

@@ -1,7 +1,7 @@
 // One node's answer.
-ghost use Rattle.std.specs.Prelude.{◌≡◌, option_copied, Option};
+ghost use Rattle.std.specs.Prelude.{◌≡◌, ◌&&◌, not, is_some, nat_le, option_copied, Option};
 ghost use Rattle.ld_lsn.specs.Number.{home_epoch};
-ghost use Rattle.ld_msg.specs.Reading.{trim_told, page_at, entry_at, record_of, is_hole, is_plug, end_shown, lacks, is_lost_for, knows_end_above};
+ghost use Rattle.ld_msg.specs.Reading.{trim_told, page_at, entry_at, record_of, is_hole, is_plug, is_withheld, sends_nothing, end_shown, lacks, is_lost_for, knows_end_above};
 ghost use Rattle.ld_msg.specs.Reader.{round_of, reaches};
 ghost use Rattle.ld_gap.specs.Slots.{generation_told};
 
@@ -35,6 +35,13 @@ fn entry_at(number: Lsn, entries: &Entries) -> Option<&What>
         }
     }
     None
+}
+
+// Whether a page from a number to another, with these entries, covers the number and lacks it.
+fn passes_over(number: Lsn, from: Lsn, upto: Lsn, entries: &Entries) -> bool
+    ensures { result ≡ ((nat_le from number && nat_le number upto) && not (is_some (entry_at number entries.now))) }
+{
+    from <= number && number <= upto && entry_at(number, entries).is_none()
 }
 
 /// The round of an answer to a reader, 0 for any other body.
@@ -117,6 +124,16 @@ impl Answer {
         }
     }
 
+    /// Whether its page withholds a record under the number.
+    pub fn withholds(&self, number: Lsn) -> bool
+        ensures { result ≡ is_withheld (page_at number self.now.body) }
+    {
+        match self.page_at(number) {
+            Some(What::Withheld) => true,
+            _ => false,
+        }
+    }
+
     /// Whether what follows the end of the number's epoch is lost, where it says that the epoch ends
     /// at the number or before it.
     pub fn end_shown(&self, number: Lsn) -> Option<bool>
@@ -140,10 +157,24 @@ impl Answer {
                 clean,
                 entries,
                 ..
-            } => *clean
-                && *from <= number
-                && number <= *upto
-                && entry_at(number, entries).is_none(),
+            } => *clean && passes_over(number, *from, *upto, entries),
+            _ => false,
+        }
+    }
+
+    /// Whether its node sends nothing of the number: it is a page, clean or not, that covers the
+    /// number and lacks it, or says that the node is lost.
+    pub fn sends_nothing(&self, number: Lsn) -> bool
+        ensures { result ≡ sends_nothing number self.now.body }
+    {
+        match &self.body {
+            Body::ReadPage {
+                from,
+                upto,
+                entries,
+                ..
+            } => passes_over(number, *from, *upto, entries),
+            Body::LostHere { .. } => true,
             _ => false,
         }
     }

@@ -3,7 +3,7 @@ ghost use Rattle.std.specs.Prelude.{◌≡◌, ◌<◌, ◌+◌, [], option_copi
 ghost use Rattle.ld_table.specs.Table.{find};
 ghost use Rattle.ld_table.specs.Words.{is_in, all_of, any_of};
 ghost use Rattle.ld_ids.specs.Set.{members};
-ghost use Rattle.ld_msg.specs.Reading.{trim_held, record_held, hole_held, plug_held, end_held, is_loss, lost_held, within, leaves_open, is_lost_for, knows_end_above};
+ghost use Rattle.ld_msg.specs.Reading.{trim_held, record_held, hole_held, plug_held, withheld_held, sent_nothing, lacks_copy, end_held, is_loss, lost_held, within, leaves_open, is_lost_for, knows_end_above};
 ghost use Rattle.ld_msg.specs.Reader.{held_with, is_newer, reaches};
 ghost use Rattle.ld_gap.specs.Restored.{restored};
 ghost use Rattle.ld_gap.specs.Slots.{generation_within, with_slot};
@@ -151,6 +151,42 @@ impl Held {
             }
         }
         false
+    }
+
+    /// Whether a page withholds a record under the number.
+    #[tactic(auto, unfolding(crate::specs::Slots::filled_from))]
+    pub fn withholds(&self, number: Lsn) -> bool
+        ensures { result ≡ withheld_held number self.now }
+    {
+        for slot in &self.answers {
+            if let Some(answer) = slot
+                && answer.withholds(number)
+            {
+                return true;
+            }
+        }
+        false
+    }
+
+    /// Whether the sender of the number, where there is one, sent nothing of it in the round: its
+    /// answer of that round is a page that covers the number and lacks it, or says that it is lost.
+    pub fn lacks_copy(&self, round: u32, number: Lsn, sender: Option<NodeId>) -> bool
+        ensures { result ≡ lacks_copy round number sender self.now }
+    {
+        match sender {
+            Some(node) => self.sent_nothing(round, number, node),
+            None => false,
+        }
+    }
+
+    // Whether the node sent nothing of the number in the round.
+    fn sent_nothing(&self, round: u32, number: Lsn, node: NodeId) -> bool
+        ensures { result ≡ sent_nothing round number (find node self.now) }
+    {
+        match self.of(node) {
+            Some(answer) => answer.round() == round && answer.sends_nothing(number),
+            None => false,
+        }
     }
 
     /// Whether what follows the end of the number's epoch is lost, by the lowest node's answer that

@@ -25,6 +25,8 @@ fn past_end<'a>(epoch: u32, loss: bool) -> Item<'a>
 /// - the number is trimmed: a trim to the greatest trim that is held;
 /// - a page has an entry of the number: the record of the lowest node that has one, or else a hole,
 ///   or else, where there are plugs alone, the loss of the number;
+/// - a page withholds a record under the number, and the node that is to send it sent nothing of it
+///   (`misses`): all nodes are to be asked, each for the payload too;
 /// - the number's epoch ends at it or before it: a bridge to the end of the epoch, or the loss of all
 ///   up to there, as the lowest node says that shows such an end;
 /// - `may_confirm`, each node of the set either has given a clean page that covers the number and
@@ -34,8 +36,14 @@ fn past_end<'a>(epoch: u32, loss: bool) -> Item<'a>
 /// Nothing is known yet exactly where none of these holds. The time is that of a walk over the held
 /// entries.
 #[tactic(auto, unfolding(ld_msg::specs::Reading::decide))]
-pub fn decide<'a>(next: Lsn, may_confirm: bool, set: &NodeSet, held: &'a Held) -> Verdict<'a>
-    ensures { shown result ≡ decide next may_confirm (members set.now) held.now }
+pub fn decide<'a>(
+    next: Lsn,
+    misses: bool,
+    may_confirm: bool,
+    set: &NodeSet,
+    held: &'a Held,
+) -> Verdict<'a>
+    ensures { shown result ≡ decide next misses may_confirm (members set.now) held.now }
 {
     let trim = held.trim();
     if next <= trim {
@@ -49,6 +57,9 @@ pub fn decide<'a>(next: Lsn, may_confirm: bool, set: &NodeSet, held: &'a Held) -
     }
     if held.has_plug(next) {
         return Verdict::Gives(Item::Loss);
+    }
+    if misses && held.withholds(next) {
+        return Verdict::AsksAll;
     }
     if let Some(loss) = held.end(next) {
         return Verdict::Gives(past_end(next.home().0, loss));

@@ -27,6 +27,9 @@ pub enum Verdict<'a> {
     Gives(Item<'a>),
     /// These nodes are to be asked once more: if they are lost still, the next number is lost.
     Confirms(Lost),
+    /// All nodes are to be asked for the next number, each for the payload too: some withhold its
+    /// record, and the node that was to send it hasn't.
+    AsksAll,
     /// Nothing is known of the next number.
     NotYet,
 }
