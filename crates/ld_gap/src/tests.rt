@@ -6,9 +6,12 @@ use ld_msg::{Body, Entries, Entry, What};
 use std::alloc::Global;
 use std::test::Fail;
 
-// What the answers that are held show of e1n1, as one letter, where a loss may be confirmed.
+// What the answers that are held show of e1n1, as one letter, where a loss may be confirmed, and node 1 is to send the
+// payload in round 1.
 fn letter(set: &NodeSet, held: &Held) -> u8 {
-    match decide(Lsn::new(1, 1), true, set, held) {
+    let next = Lsn::new(1, 1);
+    let misses = held.lacks_copy(1, next, NodeId::new(1));
+    match decide(next, misses, true, set, held) {
         Verdict::Gives(Item::Trim(_)) => b't',
         Verdict::Gives(Item::Record(_)) => b'r',
         Verdict::Gives(Item::Hole) => b'h',
@@ -16,22 +19,25 @@ fn letter(set: &NodeSet, held: &Held) -> u8 {
         Verdict::Gives(Item::Loss) => b'l',
         Verdict::Gives(Item::LossTo(_)) => b'L',
         Verdict::Confirms(_) => b'c',
+        Verdict::AsksAll => b'a',
         Verdict::NotYet => b'n',
     }
 }
 
-// A node gives a page of e1n1 to e1n9 without entries.
+// A page of e1n1 to e1n9 without entries.
+fn empty_page(alloc: Global, clean: bool) -> Body {
+    Body::ReadPage {
+        round: 1,
+        from: Lsn::new(1, 1),
+        upto: Lsn::new(1, 9),
+        clean,
+        entries: Entries::empty(alloc),
+    }
+}
+
+// A node gives such a page.
 fn hold_empty_page(alloc: Global, held: &mut Held, node: NodeId, clean: bool) {
-    held.hold(
-        node,
-        Body::ReadPage {
-            round: 1,
-            from: Lsn::new(1, 1),
-            upto: Lsn::new(1, 9),
-            clean,
-            entries: Entries::empty(alloc),
-        },
-    );
+    held.hold(node, empty_page(alloc, clean));
 }
 
 // A node says that it lost epoch 1.
@@ -93,6 +99,8 @@ fn answer(alloc: Global, letter: u8) -> Result<Body, NoMemory> {
         b'L' => Ok(ended(true)),
         b'h' => page(alloc, What::Hole),
         b'l' => page(alloc, What::Plug),
+        b'w' => page(alloc, What::Withheld),
+        b'e' => Ok(empty_page(alloc, true)),
         _ => page(alloc, What::Rec(Payload::new(Vec::new(alloc)))),
     }
 }
@@ -111,7 +119,7 @@ fn letter_of_two(alloc: Global, lower: u8, higher: u8) -> Result<u8, NoMemory> {
 }
 
 #[test]
-fn records_come_before_holes_holes_before_plugs_and_these_before_the_lowest_end(
+fn records_come_before_holes_holes_before_plugs_and_these_before_copies_to_ask_and_the_lowest_end(
     rt: HostRuntime,
 ) -> Result<(), Fail> {
     let alloc = rt.alloc();
@@ -125,6 +133,9 @@ fn records_come_before_holes_holes_before_plugs_and_these_before_the_lowest_end(
         (b'L', b'l', b'l'),
         (b'L', b'b', b'L'),
         (b'b', b'L', b'b'),
+        (b'w', b'w', b'n'),
+        (b'e', b'w', b'a'),
+        (b'e', b'h', b'h'),
     ] {
         assert_eq!(rt; letter_of_two(alloc, lower, higher)?, given);
     }
