@@ -54,8 +54,8 @@ impl Held {
         }
     }
 
-    // Whether no answer of a greater round is held for the node.
-    fn is_newer(&self, node: NodeId, round: u32) -> bool
+    /// Whether no answer of a greater round is held for the node.
+    pub fn is_newer(&self, node: NodeId, round: u32) -> bool
         ensures { result ≡ is_newer (find node self.now) round }
     {
         match self.of(node) {
