@@ -8,10 +8,12 @@ use Rattle.byteorder.specs.Numbers.{big_number-reads_back, length-bytes_high_fir
 use Rattle.ld_lsn.specs.Number.{epoch_of, esn_of}
 use Rattle.ld_ids.specs.Id.{IsLog}
 use Rattle.ld_msg.specs.declared.msg.What.{What}
-use Rattle.ld_msg.specs.declared.msg.What.TheVariants.{Rec, Hole, Bridge, Plug}
+use Rattle.ld_msg.specs.declared.msg.What.TheVariants.{Rec, Hole, Bridge, Plug, Withheld}
 use Rattle.ld_msg.specs.declared.msg.Entry.{Entry}
 use Rattle.ld_msg.specs.declared.msg.Summary.{Summary}
-use Rattle.ld_msg.specs.Bounds.{IsLng, IsEpoch, IsEntry, IsSummary, IsShort, AreEntries, RiseWithin, last_place}
+use Rattle.ld_msg.specs.Bounds.{IsLng, IsEpoch, IsEntry, IsSummary, IsShort, IsKept, AreKept, AreEntries, RiseWithin, last_place}
+use Rattle.ld_fields.specs.declared.beside.Beside.{Beside}
+use Rattle.ld_fields.specs.declared.beside.Beside.TheVariants as besides
 use Rattle.ld_fields.specs.Fields.{Read, Got, Off, follow, check, field, within}
 use Rattle.ld_fields.specs.Items.{what_bytes, entry_bytes, entries_bytes, older_summary_bytes, summary_bytes, flag, greatest_epoch, greatest_lng, is_number, is_tag, may_stand, payload, tagged, read_entry, read_entries, read_older_summary, read_flag, with_loss, read_summary, read_log}
 use Rattle.ld_fields.proofs.There.{field_got}
@@ -82,18 +84,21 @@ tag_of (Rec p) = 0
 tag_of Hole = 1
 tag_of Bridge = 2
 tag_of Plug = 3
+tag_of Withheld = 4
 
 abbrev pub after_tag : What → List ℕ
 after_tag (Rec p) = big_bytes 2 (length p) ++ p
 after_tag Hole = []
 after_tag Bridge = []
 after_tag Plug = []
+after_tag Withheld = []
 
 pub what_is : (w : What) (ys : List ℕ) → what_bytes w ++ ys ≡ big_bytes 1 (tag_of w) ++ (after_tag w ++ ys)
 what_is (Rec p) ys = append_assoc (big_bytes 1 0) (big_bytes 2 (length p) ++ p) ys
 what_is Hole ys = refl
 what_is Bridge ys = refl
 what_is Plug ys = refl
+what_is Withheld ys = refl
 
 pub taken : (xs ys : List ℕ) → take (length xs) (xs ++ ys) ≡ xs
 taken [] ys = refl
@@ -109,6 +114,7 @@ tagged_reads bs at (Rec p) ys h s = follow_reads bs (field 2 bs at) (payload bs 
 tagged_reads bs at Hole ys h s = got_reads bs Hole at ys s
 tagged_reads bs at Bridge ys h s = got_reads bs Bridge at ys s
 tagged_reads bs at Plug ys h s = got_reads bs Plug at ys s
+tagged_reads bs at Withheld ys h s = got_reads bs Withheld at ys s
 
 pub number_fits : (n : ℕ) → IsEpoch (epoch_of n) → n < 256 ^ 8
 number_fits n h = let a = h.1 in omega arith
@@ -127,50 +133,54 @@ tag_passes n (Rec p) h = grind (arith, nat_tests)
 tag_passes n Hole h = grind (arith, nat_tests)
 tag_passes n Bridge h = grind (arith, nat_tests)
 tag_passes n Plug h = grind (arith, nat_tests)
+tag_passes n Withheld h = grind (arith, nat_tests)
 
-stands_passes : (n : ℕ) (bridges : Bool) (w : What) → esn_of n ≤ last_place w → may_stand bridges (tag_of w) ≡ true → (is_tag n (tag_of w) && may_stand bridges (tag_of w)) ≡ true
-stands_passes n bridges w h l = let e = tag_passes n w h in grind (arith, nat_tests)
+stands_passes : (n : ℕ) (beside : Beside) (w : What) → esn_of n ≤ last_place w → may_stand beside (tag_of w) ≡ true → (is_tag n (tag_of w) && may_stand beside (tag_of w)) ≡ true
+stands_passes n beside w h l = let e = tag_passes n w h in grind (arith, nat_tests)
 
 pub tag_fits : (w : What) → tag_of w < 256 ^ 1
 tag_fits (Rec p) = omega arith
 tag_fits Hole = omega arith
 tag_fits Bridge = omega arith
 tag_fits Plug = omega arith
+tag_fits Withheld = omega arith
 
 entry_is : (e : Entry) (ys : List ℕ) → entry_bytes e ++ ys ≡ big_bytes 8 e.number ++ (big_bytes 4 e.ballot ++ (big_bytes 1 (tag_of e.what) ++ (after_tag e.what ++ ys)))
 entry_is e ys = append_assoc (big_bytes 8 e.number) (big_bytes 4 e.ballot ++ what_bytes e.what) ys
     ∙ ap (λ r. big_bytes 8 e.number ++ r) (append_assoc (big_bytes 4 e.ballot) (what_bytes e.what) ys ∙ ap (λ r. big_bytes 4 e.ballot ++ r) (what_is e.what ys))
 
-pub entry_reads : (bs : List ℕ) (bridges : Bool) (most least at : ℕ) (e : Entry) (ys : List ℕ) → IsEntry e → may_stand bridges (tag_of e.what) ≡ true → least ≤ e.number → e.number ≤ most → Stands bs at (entry_bytes e ++ ys) → Reads bs (read_entry bs bridges most least at) e ys
+pub entry_reads : (bs : List ℕ) (beside : Beside) (most least at : ℕ) (e : Entry) (ys : List ℕ) → IsEntry e → may_stand beside (tag_of e.what) ≡ true → least ≤ e.number → e.number ≤ most → Stands bs at (entry_bytes e ++ ys) → Reads bs (read_entry bs beside most least at) e ys
 unfolding read_entry
-entry_reads bs bridges most least at e ys i o l m s = follow_reads bs (field 8 bs at) _ e.number e _ ys (field_reads 7 e.number bs at _ (number_fits e.number i.epoch) (stands_as bs at _ _ (entry_is e ys) s)) (λ at_ballot t.
+entry_reads bs beside most least at e ys i o l m s = follow_reads bs (field 8 bs at) _ e.number e _ ys (field_reads 7 e.number bs at _ (number_fits e.number i.epoch) (stands_as bs at _ _ (entry_is e ys) s)) (λ at_ballot t.
     check_reads bs _ at _ e ys (number_passes e.number least most i.epoch i.from_one l m)
     (follow_reads bs (field 4 bs at_ballot) _ e.ballot e _ ys (field_reads 3 e.ballot bs at_ballot _ (let b = i.ballot_most in omega arith) t) (λ at_tag u.
     check_reads bs _ at_ballot _ e ys (ballot_passes (epoch_of e.number) e.ballot i.ballot i.ballot_most)
     (follow_reads bs (field 1 bs at_tag) _ (tag_of e.what) e _ ys (field_reads 0 (tag_of e.what) bs at_tag _ (tag_fits e.what) u) (λ at_what v.
-    check_reads bs _ at_tag _ e ys (stands_passes e.number bridges e.what i.place o)
+    check_reads bs _ at_tag _ e ys (stands_passes e.number beside e.what i.place o)
     (follow_reads bs (tagged bs at_what (tag_of e.what)) _ e.what e _ ys (tagged_reads bs at_what e.what ys i.short v) (λ next z. got_reads bs e next ys z)))))))
 
--- bridges stand only where they may
-abbrev pub MayStand : Bool → List Entry → Type 0
-MayStand bridges [] = Unit {0}
-MayStand bridges (e ∷ es) = (may_stand bridges (tag_of e.what) ≡ true) × MayStand bridges es
+-- bridges and withheld records stand only where they may
+abbrev pub MayStand : Beside → List Entry → Type 0
+MayStand beside [] = Unit {0}
+MayStand beside (e ∷ es) = (may_stand beside (tag_of e.what) ≡ true) × MayStand beside es
 
-pub tag_three : (w : What) → tag_of w ≤ 3
-tag_three (Rec p) = omega arith
-tag_three Hole = omega arith
-tag_three Bridge = omega arith
-tag_three Plug = omega arith
+-- what is kept is all but withheld records
+pub kept_stands : (w : What) → IsKept w → may_stand besides.Bridges (tag_of w) ≡ true
+kept_stands (Rec p) k = refl
+kept_stands Hole k = refl
+kept_stands Bridge k = refl
+kept_stands Plug k = refl
+kept_stands Withheld k = elim k [ ]
 
-pub all_stand : (es : List Entry) → MayStand true es
-all_stand [] = tt
-all_stand (e ∷ es) = (refl, all_stand es)
+pub all_stand : (es : List Entry) → AreKept es → MayStand besides.Bridges es
+all_stand [] k = tt
+all_stand (e ∷ es) k = (kept_stands e.what k.0, all_stand es k.1)
 
-pub entries_reads : (bs : List ℕ) (bridges : Bool) (most : ℕ) (es : List Entry) (least at : ℕ) (ys : List ℕ) → AreEntries es → MayStand bridges es → RiseWithin least most es → Stands bs at (entries_bytes es ++ ys) → Reads bs (read_entries bs bridges most (length es) least at) es ys
+pub entries_reads : (bs : List ℕ) (beside : Beside) (most : ℕ) (es : List Entry) (least at : ℕ) (ys : List ℕ) → AreEntries es → MayStand beside es → RiseWithin least most es → Stands bs at (entries_bytes es ++ ys) → Reads bs (read_entries bs beside most (length es) least at) es ys
 unfolding read_entries
-entries_reads bs bridges most [] least at ys a o r s = got_reads bs [] at ys s
-entries_reads bs bridges most (e ∷ es) least at ys a o r s = follow_reads bs (read_entry bs bridges most least at) _ e (e ∷ es) _ ys (entry_reads bs bridges most least at e (entries_bytes es ++ ys) a.0 o.0 r.0 r.1 (stands_as bs at _ _ (append_assoc (entry_bytes e) (entries_bytes es) ys) s)) (λ next t.
-    follow_reads bs (read_entries bs bridges most (length es) (e.number + 1) next) _ es (e ∷ es) _ ys (entries_reads bs bridges most es (e.number + 1) next ys a.1 o.1 r.2 t) (λ last u. got_reads bs (e ∷ es) last ys u))
+entries_reads bs beside most [] least at ys a o r s = got_reads bs [] at ys s
+entries_reads bs beside most (e ∷ es) least at ys a o r s = follow_reads bs (read_entry bs beside most least at) _ e (e ∷ es) _ ys (entry_reads bs beside most least at e (entries_bytes es ++ ys) a.0 o.0 r.0 r.1 (stands_as bs at _ _ (append_assoc (entry_bytes e) (entries_bytes es) ys) s)) (λ next t.
+    follow_reads bs (read_entries bs beside most (length es) (e.number + 1) next) _ es (e ∷ es) _ ys (entries_reads bs beside most es (e.number + 1) next ys a.1 o.1 r.2 t) (λ last u. got_reads bs (e ∷ es) last ys u))
 
 -- ---- summaries and logs ----
 

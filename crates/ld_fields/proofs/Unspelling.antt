@@ -12,10 +12,12 @@ use Rattle.ld_lsn.specs.Number.{epoch_of, esn_of}
 use Rattle.ld_ids.specs.Id.{IsLog}
 use Rattle.ld_ids.specs.Bytes.{AreBytes}
 use Rattle.ld_msg.specs.declared.msg.What.{What}
-use Rattle.ld_msg.specs.declared.msg.What.TheVariants.{Rec, Hole, Bridge, Plug}
+use Rattle.ld_msg.specs.declared.msg.What.TheVariants.{Rec, Hole, Bridge, Plug, Withheld}
 use Rattle.ld_msg.specs.declared.msg.Entry.{Entry}
 use Rattle.ld_msg.specs.declared.msg.Summary.{Summary}
-use Rattle.ld_msg.specs.Bounds.{IsLng, IsEpoch, IsEntry, IsSummary, IsShort, AreEntries, RiseWithin, last_place}
+use Rattle.ld_msg.specs.Bounds.{IsLng, IsEpoch, IsEntry, IsSummary, IsShort, IsKept, AreKept, AreEntries, RiseWithin, last_place}
+use Rattle.ld_fields.specs.declared.beside.Beside.{Beside}
+use Rattle.ld_fields.specs.declared.beside.Beside.TheVariants as besides
 use Rattle.ld_fields.specs.Fields.{Read, Got, Off, follow, check, field, within, end_at}
 use Rattle.ld_fields.specs.Items.{what_bytes, entry_bytes, entries_bytes, older_summary_bytes, summary_bytes, flag, greatest_epoch, greatest_lng, is_number, is_tag, may_stand, payload, tagged, read_entry, read_entries, read_older_summary, read_flag, with_loss, read_summary, read_log}
 use Rattle.ld_fields.proofs.Spelling.{tag_of, after_tag, MayStand}
@@ -167,19 +169,20 @@ payload_spelled bs at n mid w next f s r =
       short = omega arith;
     })
 
-pub tagged_spelled : (bs : List ℕ) (at tag : ℕ) (w : What) (next : ℕ) → AreBytes bs → at ≤ length bs → tag ≤ 3 → tagged bs at tag ≡ Got w next → WhatRead bs at next tag w
+pub tagged_spelled : (bs : List ℕ) (at tag : ℕ) (w : What) (next : ℕ) → AreBytes bs → at ≤ length bs → tag ≤ 4 → tagged bs at tag ≡ Got w next → WhatRead bs at next tag w
 tagged_spelled bs at zero w next h a t r = let f = followed (field 2 bs at) (payload bs at) w next r in let s = field_spells 2 bs at f.value f.next h f.first in payload_spelled bs at f.value f.next w next s.fits s.spelled f.second
 tagged_spelled bs at (suc zero) w next h a t r = let e : Hole ≡ w = cc in let k : at ≡ next = cc in subst (WhatRead bs at next 1) e (record { spelled = subst (λ n. Spelled bs at n []) k (spelled_none bs at a); tag_is = refl; short = tt })
 tagged_spelled bs at (suc (suc zero)) w next h a t r = let e : Bridge ≡ w = cc in let k : at ≡ next = cc in subst (WhatRead bs at next 2) e (record { spelled = subst (λ n. Spelled bs at n []) k (spelled_none bs at a); tag_is = refl; short = tt })
 tagged_spelled bs at (suc (suc (suc zero))) w next h a t r = let e : Plug ≡ w = cc in let k : at ≡ next = cc in subst (WhatRead bs at next 3) e (record { spelled = subst (λ n. Spelled bs at n []) k (spelled_none bs at a); tag_is = refl; short = tt })
-tagged_spelled bs at (suc (suc (suc (suc tag)))) w next h a t r = absurd (omega arith)
+tagged_spelled bs at (suc (suc (suc (suc zero)))) w next h a t r = let e : Withheld ≡ w = cc in let k : at ≡ next = cc in subst (WhatRead bs at next 4) e (record { spelled = subst (λ n. Spelled bs at n []) k (spelled_none bs at a); tag_is = refl; short = tt })
+tagged_spelled bs at (suc (suc (suc (suc (suc tag))))) w next h a t r = absurd (omega arith)
 
-pub record EntryRead (bs : List ℕ) (bridges : Bool) (most least at next : ℕ) (e : Entry) : Type 0 where
+pub record EntryRead (bs : List ℕ) (beside : Beside) (most least at next : ℕ) (e : Entry) : Type 0 where
   pub spelled : Spelled bs at next (entry_bytes e)
   pub is : IsEntry e
   pub least_is : least ≤ e.number
   pub most_is : e.number ≤ most
-  pub stands : may_stand bridges (tag_of e.what) ≡ true
+  pub stands : may_stand beside (tag_of e.what) ≡ true
 
 number_is : (n least most : ℕ) → (is_number n && within least most n) ≡ true → IsEpoch (epoch_of n) × (1 ≤ esn_of n) × (least ≤ n) × (n ≤ most)
 number_is n least most h = ((grind (arith, nat_tests), grind (arith, nat_tests)), grind (arith, nat_tests), grind (arith, nat_tests), grind (arith, nat_tests))
@@ -191,7 +194,7 @@ pub both_true : (a b : Bool) → (a && b) ≡ true → (a ≡ true) × (b ≡ tr
 both_true true b h = (refl, h)
 both_true false b h = absurd cc
 
-pub tag_most : (n tag : ℕ) → is_tag n tag ≡ true → tag ≤ 3
+pub tag_most : (n tag : ℕ) → is_tag n tag ≡ true → tag ≤ 4
 tag_most n tag h = grind (arith, nat_tests)
 
 pub place_of : (n tag : ℕ) (w : What) → is_tag n tag ≡ true → tag ≡ tag_of w → esn_of n ≤ last_place w
@@ -199,48 +202,50 @@ place_of n tag (Rec p) h e = grind (arith, nat_tests)
 place_of n tag Hole h e = grind (arith, nat_tests)
 place_of n tag Bridge h e = omega arith
 place_of n tag Plug h e = grind (arith, nat_tests)
+place_of n tag Withheld h e = grind (arith, nat_tests)
 
 pub what_made : (tag : ℕ) (w : What) → tag ≡ tag_of w → big_bytes 1 tag ++ after_tag w ≡ what_bytes w
 what_made tag (Rec p) e = ap (λ t. big_bytes 1 t ++ (big_bytes 2 (length p) ++ p)) e
 what_made tag Hole e = ap (λ t. big_bytes 1 t ++ []) e
 what_made tag Bridge e = ap (λ t. big_bytes 1 t ++ []) e
 what_made tag Plug e = ap (λ t. big_bytes 1 t ++ []) e
+what_made tag Withheld e = ap (λ t. big_bytes 1 t ++ []) e
 
 pub le_is : (a b : ℕ) → nat_le a b ≡ true → a ≤ b
 le_is a b h = grind (arith, nat_tests)
 
-entry_made : (bs : List ℕ) (bridges : Bool) (most least at a b c next number ballot tag : ℕ) (w : What) → Spells bs 8 at number a → (is_number number && within least most number) ≡ true → Spells bs 4 a ballot b → within (epoch_of number) greatest_epoch ballot ≡ true
-    → Spells bs 1 b tag c → is_tag number tag ≡ true → may_stand bridges tag ≡ true → WhatRead bs c next tag w → EntryRead bs bridges most least at next (record { number = number; ballot = ballot; what = w })
-entry_made bs bridges most least at a b c next number ballot tag w s m t n u o p v = let i = number_is number least most m in let j = within_is (epoch_of number) greatest_epoch ballot n in record {
+entry_made : (bs : List ℕ) (beside : Beside) (most least at a b c next number ballot tag : ℕ) (w : What) → Spells bs 8 at number a → (is_number number && within least most number) ≡ true → Spells bs 4 a ballot b → within (epoch_of number) greatest_epoch ballot ≡ true
+    → Spells bs 1 b tag c → is_tag number tag ≡ true → may_stand beside tag ≡ true → WhatRead bs c next tag w → EntryRead bs beside most least at next (record { number = number; ballot = ballot; what = w })
+entry_made bs beside most least at a b c next number ballot tag w s m t n u o p v = let i = number_is number least most m in let j = within_is (epoch_of number) greatest_epoch ballot n in record {
   spelled = spelled_on bs at a next (big_bytes 8 number) (big_bytes 4 ballot ++ what_bytes w) s.spelled (spelled_on bs a b next (big_bytes 4 ballot) (what_bytes w) t.spelled
       (subst (Spelled bs b next) (what_made tag w v.tag_is) (spelled_on bs b c next (big_bytes 1 tag) (after_tag w) u.spelled v.spelled)));
   is = record { epoch = i.0; from_one = i.1; place = place_of number tag w o v.tag_is; ballot = j.0; ballot_most = j.1; short = v.short };
   least_is = i.2;
   most_is = i.3;
-  stands = subst (λ t. may_stand bridges t ≡ true) v.tag_is p;
+  stands = subst (λ t. may_stand beside t ≡ true) v.tag_is p;
 }
 
-pub entry_spelled : (bs : List ℕ) (bridges : Bool) (most least at : ℕ) (e : Entry) (next : ℕ) → AreBytes bs → read_entry bs bridges most least at ≡ Got e next → EntryRead bs bridges most least at next e
+pub entry_spelled : (bs : List ℕ) (beside : Beside) (most least at : ℕ) (e : Entry) (next : ℕ) → AreBytes bs → read_entry bs beside most least at ≡ Got e next → EntryRead bs beside most least at next e
 unfolding read_entry
-entry_spelled bs bridges most least at e next h r =
+entry_spelled bs beside most least at e next h r =
     by_follow (field 8 bs at) _ e next r (λ number a f r. by_check _ at _ e next r (λ ok r.
     by_follow (field 4 bs a) _ e next r (λ ballot b g r. by_check _ a _ e next r (λ ok2 r.
     by_follow (field 1 bs b) _ e next r (λ tag c k r. by_check _ b _ e next r (λ ok3 r.
     by_follow (tagged bs c tag) _ e next r (λ w last q r. by_got _ e last next r (λ is n.
-    let u = field_spells 1 bs b tag c h k in let o = both_true (is_tag number tag) (may_stand bridges tag) ok3 in
-    subst (EntryRead bs bridges most least at next) is (subst (λ x. EntryRead bs bridges most least at x (record { number = number; ballot = ballot; what = w })) n
-    (entry_made bs bridges most least at a b c last number ballot tag w (field_spells 8 bs at number a h f) ok (field_spells 4 bs a ballot b h g) ok2 u o.0 o.1
+    let u = field_spells 1 bs b tag c h k in let o = both_true (is_tag number tag) (may_stand beside tag) ok3 in
+    subst (EntryRead bs beside most least at next) is (subst (λ x. EntryRead bs beside most least at x (record { number = number; ballot = ballot; what = w })) n
+    (entry_made bs beside most least at a b c last number ballot tag w (field_spells 8 bs at number a h f) ok (field_spells 4 bs a ballot b h g) ok2 u o.0 o.1
     (tagged_spelled bs c tag w last h u.spelled.within (tag_most number tag o.0) q)))))))))))
 
-pub record EntriesRead (bs : List ℕ) (bridges : Bool) (most count least at next : ℕ) (es : List Entry) : Type 0 where
+pub record EntriesRead (bs : List ℕ) (beside : Beside) (most count least at next : ℕ) (es : List Entry) : Type 0 where
   pub spelled : Spelled bs at next (entries_bytes es)
   pub count_is : length es ≡ count
   pub are : AreEntries es
   pub rise : RiseWithin least most es
-  pub stand : MayStand bridges es
+  pub stand : MayStand beside es
 
-entries_more : (bs : List ℕ) (bridges : Bool) (most count least at mid next : ℕ) (e : Entry) (es : List Entry) → EntryRead bs bridges most least at mid e → EntriesRead bs bridges most count (e.number + 1) mid next es → EntriesRead bs bridges most (suc count) least at next (e ∷ es)
-entries_more bs bridges most count least at mid next e es h k = record {
+entries_more : (bs : List ℕ) (beside : Beside) (most count least at mid next : ℕ) (e : Entry) (es : List Entry) → EntryRead bs beside most least at mid e → EntriesRead bs beside most count (e.number + 1) mid next es → EntriesRead bs beside most (suc count) least at next (e ∷ es)
+entries_more bs beside most count least at mid next e es h k = record {
   spelled = spelled_on bs at mid next (entry_bytes e) (entries_bytes es) h.spelled k.spelled;
   count_is = ap suc k.count_is;
   are = (h.is, k.are);
@@ -248,15 +253,27 @@ entries_more bs bridges most count least at mid next e es h k = record {
   stand = (h.stands, k.stand);
 }
 
-pub entries_spelled : (bs : List ℕ) (bridges : Bool) (most count least at : ℕ) (es : List Entry) (next : ℕ) → AreBytes bs → at ≤ length bs → read_entries bs bridges most count least at ≡ Got es next → EntriesRead bs bridges most count least at next es
+pub entries_spelled : (bs : List ℕ) (beside : Beside) (most count least at : ℕ) (es : List Entry) (next : ℕ) → AreBytes bs → at ≤ length bs → read_entries bs beside most count least at ≡ Got es next → EntriesRead bs beside most count least at next es
 unfolding read_entries
-entries_spelled bs bridges most zero least at es next h a r = by_got [] es at next r (λ is n. subst (EntriesRead bs bridges most zero least at next) is (subst (λ x. EntriesRead bs bridges most zero least at x []) n
+entries_spelled bs beside most zero least at es next h a r = by_got [] es at next r (λ is n. subst (EntriesRead bs beside most zero least at next) is (subst (λ x. EntriesRead bs beside most zero least at x []) n
     (record { spelled = spelled_none bs at a; count_is = refl; are = tt; rise = tt; stand = tt })))
-entries_spelled bs bridges most (suc count) least at es next h a r =
-    by_follow (read_entry bs bridges most least at) _ es next r (λ e mid f r. by_follow (read_entries bs bridges most count (e.number + 1) mid) _ es next r (λ fs last g r. by_got (e ∷ fs) es last next r (λ is n.
-    let u = entry_spelled bs bridges most least at e mid h f in
-    subst (EntriesRead bs bridges most (suc count) least at next) is (subst (λ x. EntriesRead bs bridges most (suc count) least at x (e ∷ fs)) n
-    (entries_more bs bridges most count least at mid last e fs u (entries_spelled bs bridges most count (e.number + 1) mid fs last h u.spelled.within g))))))
+entries_spelled bs beside most (suc count) least at es next h a r =
+    by_follow (read_entry bs beside most least at) _ es next r (λ e mid f r. by_follow (read_entries bs beside most count (e.number + 1) mid) _ es next r (λ fs last g r. by_got (e ∷ fs) es last next r (λ is n.
+    let u = entry_spelled bs beside most least at e mid h f in
+    subst (EntriesRead bs beside most (suc count) least at next) is (subst (λ x. EntriesRead bs beside most (suc count) least at x (e ∷ fs)) n
+    (entries_more bs beside most count least at mid last e fs u (entries_spelled bs beside most count (e.number + 1) mid fs last h u.spelled.within g))))))
+
+-- what stands where bridges may is kept
+pub stands_kept : (w : What) → may_stand besides.Bridges (tag_of w) ≡ true → IsKept w
+stands_kept (Rec p) s = tt
+stands_kept Hole s = tt
+stands_kept Bridge s = tt
+stands_kept Plug s = tt
+stands_kept Withheld s = absurd cc
+
+pub all_kept : (es : List Entry) → MayStand besides.Bridges es → AreKept es
+all_kept [] s = tt
+all_kept (e ∷ es) s = (stands_kept e.what s.0, all_kept es s.1)
 
 pub same_is : (a b : ℕ) → (a == b) ≡ true → a ≡ b
 same_is a b h = grind (arith, nat_tests)

@@ -3,9 +3,11 @@ use Rattle.std.specs.Prelude.{ℕ, ◌+◌, ◌-◌, ◌^◌, List, [], ◌∷�
 use Rattle.byteorder.specs.Endian.{big_bytes}
 use Rattle.ld_lsn.specs.Number.{epoch_of, esn_of, last_esn}
 use Rattle.ld_msg.specs.declared.msg.What.{What}
-use Rattle.ld_msg.specs.declared.msg.What.TheVariants.{Rec, Hole, Bridge, Plug}
+use Rattle.ld_msg.specs.declared.msg.What.TheVariants.{Rec, Hole, Bridge, Plug, Withheld}
 use Rattle.ld_msg.specs.declared.msg.Entry.{Entry}
 use Rattle.ld_msg.specs.declared.msg.Summary.{Summary}
+use Rattle.ld_fields.specs.declared.beside.Beside.{Beside}
+use Rattle.ld_fields.specs.declared.beside.Beside.TheVariants as besides
 use Rattle.ld_fields.specs.Fields.{Read, Got, follow, check, field, within}
 
 -- ---- their bytes ----
@@ -16,6 +18,7 @@ what_bytes (Rec p) = big_bytes 1 0 ++ (big_bytes 2 (length p) ++ p)
 what_bytes Hole = big_bytes 1 1
 what_bytes Bridge = big_bytes 1 2
 what_bytes Plug = big_bytes 1 3
+what_bytes Withheld = big_bytes 1 4
 
 abbrev pub entry_bytes : Entry → List ℕ
 entry_bytes e = big_bytes 8 e.number ++ (big_bytes 4 e.ballot ++ what_bytes e.what)
@@ -48,7 +51,7 @@ abbrev pub is_number : ℕ → Bool
 is_number n = within 1 greatest_epoch (epoch_of n) && nat_le 1 (esn_of n)
 
 abbrev pub is_tag : ℕ → ℕ → Bool
-is_tag n tag = nat_le tag 3 && (nat_lt (esn_of n) last_esn || (tag == 2))
+is_tag n tag = nat_le tag 4 && (nat_lt (esn_of n) last_esn || (tag == 2))
 
 -- a payload that is longer than what is left is charged to its length
 abbrev pub payload : List ℕ → ℕ → ℕ → ℕ → Read What
@@ -58,25 +61,28 @@ abbrev pub tagged : List ℕ → ℕ → ℕ → Read What
 tagged bs at zero = follow (field 2 bs at) (payload bs at)
 tagged bs at (suc zero) = Got Hole at
 tagged bs at (suc (suc zero)) = Got Bridge at
-tagged bs at (suc (suc (suc n))) = Got Plug at
+tagged bs at (suc (suc (suc zero))) = Got Plug at
+tagged bs at (suc (suc (suc (suc n)))) = Got Withheld at
 
--- a bridge stands only where bridges may
-abbrev pub may_stand : Bool → ℕ → Bool
-may_stand bridges tag = bridges || not (tag == 2)
+-- bridges and withheld records stand only where they may
+abbrev pub may_stand : Beside → ℕ → Bool
+may_stand besides.Bridges tag = not (tag == 4)
+may_stand besides.Nothing tag = not (tag == 2) && not (tag == 4)
+may_stand besides.Withheld tag = not (tag == 2)
 
--- an entry whose number lies between two others, and which may be a bridge or not
-unfoldable pub read_entry : List ℕ → Bool → ℕ → ℕ → ℕ → Read Entry
-read_entry bs bridges most least at =
+-- an entry whose number lies between two others, and what may stand beside records, holes and plugs
+unfoldable pub read_entry : List ℕ → Beside → ℕ → ℕ → ℕ → Read Entry
+read_entry bs beside most least at =
     follow (field 8 bs at) (λ number at_ballot. check (is_number number && within least most number) at (
     follow (field 4 bs at_ballot) (λ ballot at_tag. check (within (epoch_of number) greatest_epoch ballot) at_ballot (
-    follow (field 1 bs at_tag) (λ tag at_what. check (is_tag number tag && may_stand bridges tag) at_tag (
+    follow (field 1 bs at_tag) (λ tag at_what. check (is_tag number tag && may_stand beside tag) at_tag (
     follow (tagged bs at_what tag) (λ what next. Got (record { number = number; ballot = ballot; what = what }) next)))))))
 
 -- so many entries, their numbers rising
-unfoldable pub read_entries : List ℕ → Bool → ℕ → ℕ → ℕ → ℕ → Read (List Entry)
-read_entries bs bridges most zero least at = Got [] at
-read_entries bs bridges most (suc k) least at =
-    follow (read_entry bs bridges most least at) (λ e next. follow (read_entries bs bridges most k (e.number + 1) next) (λ es last. Got (e ∷ es) last))
+unfoldable pub read_entries : List ℕ → Beside → ℕ → ℕ → ℕ → ℕ → Read (List Entry)
+read_entries bs beside most zero least at = Got [] at
+read_entries bs beside most (suc k) least at =
+    follow (read_entry bs beside most least at) (λ e next. follow (read_entries bs beside most k (e.number + 1) next) (λ es last. Got (e ∷ es) last))
 
 -- the summary of an epoch in its older form: nothing is lost there
 unfoldable pub read_older_summary : List ℕ → ℕ → ℕ → Read Summary

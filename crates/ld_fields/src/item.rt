@@ -4,9 +4,9 @@ ghost use Rattle.ld_fields.specs.Fields.{Got};
 ghost use Rattle.ld_fields.specs.Faults.{IsOff};
 ghost use Rattle.ld_fields.specs.Items.{is_number, is_tag, may_stand, tagged, read_entry, read_older_summary, read_flag, read_summary, read_log};
 
-use crate::FieldFault;
 use crate::bounds::{GREATEST_EPOCH, GREATEST_LNG};
 use crate::field::{check, read_number, read_u8, read_u16, read_u32};
+use crate::{Beside, FieldFault};
 use ld_ids::{LogId, NoMemory, Payload};
 use ld_lsn::Lsn;
 use ld_msg::{Entry, Summary, What};
@@ -82,20 +82,20 @@ pub fn read_flag(bytes: &[u8], at: usize) -> Result<(bool, usize), FieldFault>
     Ok((byte == 1, next))
 }
 
-/// The entry at a place, its number between two others; a bridge only where one may stand there.
+/// The entry at a place, its number between two others, and what may stand beside records, holes and plugs.
 #[tactic(auto, unfolding(crate::specs::Items::read_entry))]
 pub fn read_entry(
     alloc: Global,
     bytes: &[u8],
-    bridges: bool,
+    beside: Beside,
     most: Lsn,
     least: u64,
     at: usize,
 ) -> Result<(Entry, usize), FieldFault>
     requires { at ≤ length bytes.now }
-    ensures ok { IfOk result (λ p. read_entry bytes.now bridges most least at ≡ Got p.0 p.1) }
+    ensures ok { IfOk result (λ p. read_entry bytes.now beside most least at ≡ Got p.0 p.1) }
     ensures next { IfOk result (λ p. p.1 ≤ length bytes.now) }
-    ensures off { IfErr result (IsOff (read_entry bytes.now bridges most least at)) }
+    ensures off { IfErr result (IsOff (read_entry bytes.now beside most least at)) }
     ensures number { IfOk result (λ p. is_number p.0.number ≡ true) }
 {
     let (number, at_ballot) = read_number(bytes, at)?;
@@ -109,7 +109,7 @@ pub fn read_entry(
         at_ballot,
     )?;
     let (tag, at_what) = read_u8(bytes, at_tag)?;
-    check(is_tag(number, tag) && may_stand(bridges, tag), at_tag)?;
+    check(is_tag(number, tag) && may_stand(beside, tag), at_tag)?;
     let (what, next) = read_what(alloc, bytes, at_what, tag)?;
     Ok((
         Entry {
@@ -121,11 +121,15 @@ pub fn read_entry(
     ))
 }
 
-/// Whether what has the tag may stand where bridges may or may not.
-fn may_stand(bridges: bool, tag: u8) -> bool
-    ensures { result ≡ may_stand bridges tag }
+/// Whether what has the tag may stand there.
+pub fn may_stand(beside: Beside, tag: u8) -> bool
+    ensures { result ≡ may_stand beside tag }
 {
-    bridges || tag != 2
+    match beside {
+        Beside::Bridges => tag != 4,
+        Beside::Nothing => tag != 2 && tag != 4,
+        Beside::Withheld => tag != 2,
+    }
 }
 
 /// Whether an entry may have the number.
@@ -139,7 +143,7 @@ pub fn is_number(number: Lsn) -> bool
 pub fn is_tag(number: Lsn, tag: u8) -> bool
     ensures { result ≡ is_tag number tag }
 {
-    tag <= 3 && (number.esn() < u32::MAX || tag == 2)
+    tag <= 4 && (number.esn() < u32::MAX || tag == 2)
 }
 
 /// What stands behind a tag at a place.
@@ -150,7 +154,7 @@ pub fn read_what(
     tag: u8,
 ) -> Result<(What, usize), FieldFault>
     requires place { at ≤ length bytes.now }
-    requires tag { tag ≤ 3 }
+    requires tag { tag ≤ 4 }
     ensures ok { IfOk result (λ p. tagged bytes.now at tag ≡ Got p.0 p.1) }
     ensures next { IfOk result (λ p. p.1 ≤ length bytes.now) }
     ensures off { IfErr result (IsOff (tagged bytes.now at tag)) }
@@ -163,6 +167,9 @@ pub fn read_what(
     }
     if tag == 3 {
         return Ok((What::Plug, at));
+    }
+    if tag == 4 {
+        return Ok((What::Withheld, at));
     }
     let (size, from) = read_u16(bytes, at)?;
     let size = usize::from(size);

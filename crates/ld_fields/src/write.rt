@@ -109,5 +109,6 @@ pub fn put_what(out: &mut Vec<u8>, what: &What) -> Result<(), NoMemory>
         What::Hole => put_u8(out, 1),
         What::Bridge => put_u8(out, 2),
         What::Plug => put_u8(out, 3),
+        What::Withheld => put_u8(out, 4),
     }
 }

@@ -7,5 +7,5 @@ abbrev pub invariant-entries : goal.invariant-entries
 invariant-entries l = record {
   place : l.next ≤ length l.bytes;
   most : l.counter ≤ l.count;
-  rest : resumed l.entries (read_entries l.bytes l.bridges l.upto (l.count - l.counter) l.least l.next) ≡ read_entries l.bytes l.bridges l.upto l.count l.fn.from l.fn.at;
+  rest : resumed l.entries (read_entries l.bytes l.beside l.upto (l.count - l.counter) l.least l.next) ≡ read_entries l.bytes l.beside l.upto l.count l.fn.from l.fn.at;
 }
