@@ -2,7 +2,7 @@
 use Rattle.std.specs.Prelude.{ℕ, ◌≡◌, ◌≤◌, ◌<◌, ◌+◌, ◌-◌, ◌^◌, List, [], ◌∷◌, length, Bool, true, not}
 use Rattle.ld_lsn.specs.Number.{epoch_of, esn_of, home_epoch, last_esn}
 use Rattle.ld_ids.specs.Id.{IsNode, IsLog}
-use Rattle.ld_ids.specs.Set.{IsSubset, members}
+use Rattle.ld_ids.specs.Set.{IsSet, IsSubset, members}
 use Rattle.ld_table.specs.Words.{is_in, any_of}
 use Rattle.ld_msg.specs.declared.msg.Who.{Who}
 use Rattle.ld_msg.specs.declared.msg.Who.TheVariants as whos
@@ -194,7 +194,7 @@ Fits from to (bodies.Clean e y) = ToNode from to × IsEpoch e × IsSummary e y
 Fits from to (bodies.Release n) = ToNode from to × Is64 n
 Fits from to (bodies.Trim t) = ToNode from to × Is64 t
 Fits from to (bodies.ReadAsk round n) = IsAsker from × IsNodeHere to × Is32 round × AsksIn from round × (1 ≤ n) × Is64 n
-Fits from to (bodies.ReadOne round n set excluded) = IsAsker from × IsReader from × IsNodeHere to × Is32 round × (1 ≤ n) × Is64 n × IsSubset excluded set × (share_out excluded set ≡ true)
+Fits from to (bodies.ReadOne round n set excluded) = IsAsker from × IsReader from × IsNodeHere to × Is32 round × (1 ≤ n) × Is64 n × IsSubset excluded set × (share_out excluded set ≡ true) × IsSet set × IsSet excluded
 Fits from to (bodies.ReadPage round n upto c es) = ToAsker from to round n × IsPage n upto es × AreReadable to es
 Fits from to (bodies.ReadEnded round n end loss) = ToAsker from to round n × Is64 end
 Fits from to (bodies.ReadTrim round n t) = ToAsker from to round n × Is64 t
