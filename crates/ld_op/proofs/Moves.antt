@@ -4,7 +4,7 @@ use Rattle.ld_table.specs.Table.{find}
 use Rattle.ld_table.proofs.Laws.{table_rules}
 use Rattle.ld_lsn.specs.Number.{epoch_of}
 use Rattle.ld_msg.specs.declared.msg.What.{What}
-use Rattle.ld_msg.specs.declared.msg.What.TheVariants.{Rec, Hole, Bridge, Plug}
+use Rattle.ld_msg.specs.declared.msg.What.TheVariants.{Rec, Hole, Bridge, Plug, Withheld}
 use Rattle.ld_msg.specs.declared.msg.Entry.{Entry}
 use Rattle.ld_msg.specs.declared.msg.Summary.{Summary}
 use Rattle.ld_op.specs.Plain.{Log, accepted, accept_entry, survives_bridge, trimmed_to, cleaned, is_lost, summary_at}
@@ -16,6 +16,7 @@ entry_there e (Rec p) m = grind (arith, table_rules)
 entry_there e Hole m = grind (arith, table_rules)
 entry_there e Bridge m = grind (arith, table_rules)
 entry_there e Plug m = grind (arith, table_rules)
+entry_there e Withheld m = grind (arith, table_rules)
 
 pub taken_there : (g : Log) (lng : ℕ) (e : Entry) → find e.number (accepted g lng e).entries ≡ Some e
 taken_there g lng e = entry_there e e.what g.entries
@@ -26,6 +27,7 @@ entry_from e (Rec p) m q f h = grind (arith, table_rules)
 entry_from e Hole m q f h = grind (arith, table_rules)
 entry_from e Bridge m q f h = grind (arith, table_rules)
 entry_from e Plug m q f h = grind (arith, table_rules)
+entry_from e Withheld m q f h = grind (arith, table_rules)
 
 pub taken_from : (g : Log) (lng : ℕ) (e : Entry) (q : ℕ) (f : Entry) → find q (accepted g lng e).entries ≡ Some f → ((q ≡ e.number) × (f ≡ e)) ⊎ (find q g.entries ≡ Some f)
 taken_from g lng e q f h = entry_from e e.what g.entries q f h
@@ -37,6 +39,7 @@ entry_stays e (Rec p) m q f h = grind (arith, table_rules)
 entry_stays e Hole m q f h = grind (arith, table_rules)
 entry_stays e Bridge m q f h = grind (arith, table_rules)
 entry_stays e Plug m q f h = grind (arith, table_rules)
+entry_stays e Withheld m q f h = grind (arith, table_rules)
 
 -- above a trim all stays
 pub trim_keeps : (g : Log) (t q : ℕ) (f : Entry) → t < q → g.trim < q → find q g.entries ≡ Some f → find q (trimmed_to g t).entries ≡ Some f

@@ -6,9 +6,10 @@ use Rattle.ld_ids.specs.Id.{IsLog}
 use Rattle.ld_msg.specs.declared.msg.Entry.{Entry}
 use Rattle.ld_msg.specs.declared.msg.Summary.{Summary}
 use Rattle.ld_msg.specs.Bounds.{Is32, AreEntries, RiseWithin}
+use Rattle.ld_fields.specs.declared.beside.Beside.TheVariants as besides
 use Rattle.ld_fields.specs.Fields.{Got, Off, follow, check, field, end_at}
 use Rattle.ld_fields.specs.Items.{read_entry, read_entries, read_older_summary, read_summary, read_log}
-use Rattle.ld_fields.proofs.Spelling.{Stands, stands_as, nothing, at_end, Reads, field_reads, follow_reads, check_reads, got_reads, reads_as, number_fits, lng_passes, entry_reads, all_stand, entries_reads, unlost, older_reads, summary_reads, log_reads}
+use Rattle.ld_fields.proofs.Spelling.{Stands, stands_as, nothing, at_end, Reads, field_reads, follow_reads, check_reads, got_reads, reads_as, number_fits, lng_passes, kept_stands, entry_reads, all_stand, entries_reads, unlost, older_reads, summary_reads, log_reads}
 use Rattle.ld_op.specs.declared.op.Op.{Op}
 use Rattle.ld_op.specs.declared.op.Op.TheVariants as ops
 use Rattle.ld_op.specs.declared.record.Record.{Record}
@@ -82,7 +83,7 @@ judge-op_bytes (ops.Accept l lng e) i = op_framed _ 2 _ (ops.Accept l lng e) (om
     fields_read _ 2 at l _ _ i.0 s (λ at_lng t.
     follow_reads _ (field 4 _ at_lng) _ lng _ _ [] (field_reads 3 lng _ at_lng _ (let n = i.1 in omega arith) t) (λ at_entry u.
     check_reads _ _ at_lng _ _ [] (lng_passes lng i.1)
-    (follow_reads _ (read_entry _ true (2 ^ 64 - 1) 0 at_entry) _ e _ [] [] (entry_reads _ true (2 ^ 64 - 1) 0 at_entry e [] i.2 refl (omega arith) (let m = number_fits e.number i.2.epoch in omega arith) (nothing _ at_entry _ u)) (λ next v. got_reads _ _ next [] v)))))
+    (follow_reads _ (read_entry _ besides.Bridges (2 ^ 64 - 1) 0 at_entry) _ e _ [] [] (entry_reads _ besides.Bridges (2 ^ 64 - 1) 0 at_entry e [] i.2 (kept_stands e.what i.3) (omega arith) (let m = number_fits e.number i.2.epoch in omega arith) (nothing _ at_entry _ u)) (λ next v. got_reads _ _ next [] v)))))
 judge-op_bytes (ops.Seal l b) i = op_framed _ 3 _ (ops.Seal l b) (omega arith) refl refl refl (λ at s.
     fields_read _ 3 at l _ _ i.0 s (λ at_b t.
     follow_reads _ (field 4 _ at_b) _ b _ [] [] (field_reads 3 b _ at_b [] (let n = i.1.1 in omega arith) (nothing _ at_b _ t)) (λ next v.
@@ -99,7 +100,7 @@ judge-op_bytes (ops.Refill l es) i = op_framed _ 6 _ (ops.Refill l es) (omega ar
     fields_read _ 6 at l _ _ i.0 s (λ at_n t.
     follow_reads _ (field 2 _ at_n) _ (length es) _ _ [] (field_reads 1 (length es) _ at_n _ (let n = i.2 in omega arith) t) (λ at_es u.
     check_reads _ _ at_n _ _ [] (let a = i.1 in let b = i.2 in grind (arith, nat_tests))
-    (follow_reads _ (read_entries _ true (2 ^ 64 - 1) (length es) 0 at_es) _ es _ [] [] (entries_reads _ true (2 ^ 64 - 1) es 0 at_es [] i.3 (all_stand es) (rise_within 0 es i.3 i.4) (nothing _ at_es _ u)) (λ next v. got_reads _ _ next [] v)))))
+    (follow_reads _ (read_entries _ besides.Bridges (2 ^ 64 - 1) (length es) 0 at_es) _ es _ [] [] (entries_reads _ besides.Bridges (2 ^ 64 - 1) es 0 at_es [] i.3 (all_stand es i.5) (rise_within 0 es i.3 i.4) (nothing _ at_es _ u)) (λ next v. got_reads _ _ next [] v)))))
 judge-op_bytes (ops.Refilled l) i = op_framed _ 7 _ (ops.Refilled l) (omega arith) refl refl refl (λ at s.
     fields_read _ 7 at l _ _ i (nothing _ at _ s) (λ next t. got_reads _ _ next [] t))
 

@@ -7,9 +7,10 @@ use Rattle.ld_ids.specs.Id.{IsLog}
 use Rattle.ld_ids.specs.Bytes.{AreBytes}
 use Rattle.ld_msg.specs.declared.msg.Entry.{Entry}
 use Rattle.ld_msg.specs.Bounds.{Is32, RiseWithin}
+use Rattle.ld_fields.specs.declared.beside.Beside.TheVariants as besides
 use Rattle.ld_fields.specs.Fields.{Got, follow, field, within}
 use Rattle.ld_fields.specs.Items.{entry_bytes, entries_bytes, older_summary_bytes, summary_bytes, greatest_epoch, greatest_lng, read_entry, read_entries, read_older_summary, read_summary, read_log}
-use Rattle.ld_fields.proofs.Unspelling.{ended, gone, Spelled, spelled_on, spelled_none, Spells, field_spells, by_follow, by_check, by_got, entry_spelled, entries_spelled, same_is, within_is, older_spelled, summary_spelled, log_spelled}
+use Rattle.ld_fields.proofs.Unspelling.{ended, gone, Spelled, spelled_on, spelled_none, Spells, field_spells, by_follow, by_check, by_got, entry_spelled, entries_spelled, stands_kept, all_kept, same_is, within_is, older_spelled, summary_spelled, log_spelled}
 use Rattle.ld_op.specs.declared.op.Op.{Op}
 use Rattle.ld_op.specs.declared.op.Op.TheVariants as ops
 use Rattle.ld_op.specs.declared.record.Record.{Record}
@@ -125,13 +126,13 @@ newer_format bs at mid next o s u = subst (λ x. BodyRead bs 10 at next (Now x))
 accept_spelled : (bs : List ℕ) (l at next : ℕ) (o : Op) → AreBytes bs → read_accept bs l at ≡ Got o next → FieldsRead bs 2 l at next o
 unfolding read_accept op_bytes
 accept_spelled bs l at next o h r =
-    by_follow (field 4 bs at) _ o next r (λ lng a f r. by_check (nat_le lng greatest_lng) at _ o next r (λ ok r. by_follow (read_entry bs true (2 ^ 64 - 1) 0 a) _ o next r (λ e last q r. by_got (ops.Accept l lng e) o last next r (λ is n.
-    let s = field_spells 4 bs at lng a h f in let u = entry_spelled bs true (2 ^ 64 - 1) 0 a e last h q in let z = s.fits in
+    by_follow (field 4 bs at) _ o next r (λ lng a f r. by_check (nat_le lng greatest_lng) at _ o next r (λ ok r. by_follow (read_entry bs besides.Bridges (2 ^ 64 - 1) 0 a) _ o next r (λ e last q r. by_got (ops.Accept l lng e) o last next r (λ is n.
+    let s = field_spells 4 bs at lng a h f in let u = entry_spelled bs besides.Bridges (2 ^ 64 - 1) 0 a e last h q in let z = s.fits in
     subst (FieldsRead bs 2 l at next) is (subst (λ x. FieldsRead bs 2 l at x (ops.Accept l lng e)) n (record {
       rest = big_bytes 4 lng ++ entry_bytes e;
       spelled = spelled_on bs at a last (big_bytes 4 lng) (entry_bytes e) s.spelled u.spelled;
       bytes_are = refl;
-      is = λ i. (i, grind (arith, nat_tests), u.is);
+      is = λ i. (i, grind (arith, nat_tests), u.is, stands_kept e.what u.stands);
     }))))))
 
 seal_spelled : (bs : List ℕ) (l at next : ℕ) (o : Op) → AreBytes bs → read_seal bs l at ≡ Got o next → FieldsRead bs 3 l at next o
@@ -171,13 +172,13 @@ trim_spelled bs l at next o h r = by_follow (field 8 bs at) _ o next r (λ t a f
 refill_spelled : (bs : List ℕ) (l at next : ℕ) (o : Op) → AreBytes bs → read_refill bs l at ≡ Got o next → FieldsRead bs 6 l at next o
 unfolding read_refill op_bytes
 refill_spelled bs l at next o h r =
-    by_follow (field 2 bs at) _ o next r (λ count a f r. by_check _ at _ o next r (λ ok r. by_follow (read_entries bs true (2 ^ 64 - 1) count 0 a) _ o next r (λ es last q r. by_got (ops.Refill l es) o last next r (λ is n.
-    let s = field_spells 2 bs at count a h f in let u = entries_spelled bs true (2 ^ 64 - 1) count 0 a es last h s.spelled.within q in let e = u.count_is in let w = within_is 1 64 count ok in let w0 = w.0 in let w1 = w.1 in
+    by_follow (field 2 bs at) _ o next r (λ count a f r. by_check _ at _ o next r (λ ok r. by_follow (read_entries bs besides.Bridges (2 ^ 64 - 1) count 0 a) _ o next r (λ es last q r. by_got (ops.Refill l es) o last next r (λ is n.
+    let s = field_spells 2 bs at count a h f in let u = entries_spelled bs besides.Bridges (2 ^ 64 - 1) count 0 a es last h s.spelled.within q in let e = u.count_is in let w = within_is 1 64 count ok in let w0 = w.0 in let w1 = w.1 in
     subst (FieldsRead bs 6 l at next) is (subst (λ x. FieldsRead bs 6 l at x (ops.Refill l es)) n (record {
       rest = big_bytes 2 count ++ entries_bytes es;
       spelled = spelled_on bs at a last (big_bytes 2 count) (entries_bytes es) s.spelled u.spelled;
       bytes_are = ap (λ x. big_bytes 1 6 ++ (big_bytes 4 l ++ (big_bytes 2 x ++ entries_bytes es))) (sym e);
-      is = λ i. (i, omega arith, omega arith, u.are, rise_from 0 (2 ^ 64 - 1) es u.rise);
+      is = λ i. (i, omega arith, omega arith, u.are, rise_from 0 (2 ^ 64 - 1) es u.rise, all_kept es u.stand);
     }))))))
 
 older_fields : (bs : List ℕ) (kind l at next : ℕ) (o : Op) → AreBytes bs → at ≤ length bs → 2 ≤ kind → kind ≤ 7 → read_fields bs kind l at ≡ Got o next → FieldsRead bs kind l at next o

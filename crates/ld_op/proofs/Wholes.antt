@@ -7,7 +7,7 @@ use Rattle.ld_lsn.specs.Number.{numbered, epoch_of}
 use Rattle.ld_msg.specs.declared.msg.Entry.{Entry}
 use Rattle.ld_msg.specs.declared.msg.Summary.{Summary}
 use Rattle.ld_msg.specs.declared.msg.What.{What}
-use Rattle.ld_msg.specs.declared.msg.What.TheVariants.{Rec, Hole, Bridge, Plug}
+use Rattle.ld_msg.specs.declared.msg.What.TheVariants.{Rec, Hole, Bridge, Plug, Withheld}
 use Rattle.ld_op.specs.Plain.{Log, empty_log, lost_log, accept_entry, accepted, trimmed_to, cleaned, refill_entries, refilled_with, survives_bridge, survives_clean}
 use Rattle.ld_op.specs.Whole.{IsWhole, AreNumbered}
 
@@ -36,6 +36,7 @@ unaccepted : (n : ℕ) (d : Entry) (w : What) (m : List (ℕ × Entry)) → ((k 
 unaccepted n d (Rec p) m u l h = behind n d m l h
 unaccepted n d Hole m u l h = behind n d m l h
 unaccepted n d Plug m u l h = behind n d m l h
+unaccepted n d Withheld m u l h = behind n d m l h
 unaccepted n d Bridge m u l h = unbridged n d m u l (behind n d (keep (λ s f. survives_bridge d f) m) l h)
 
 pub whole_accepted : (g : Log) (lng : ℕ) (d : Entry) (to : ℕ) → AreNumbered g → IsWhole g to → IsWhole (accepted g lng d) (min to d.number)

@@ -6,6 +6,7 @@ use Rattle.ld_op.specs.declared.op.Op.{Op}
 use Rattle.ld_op.specs.declared.op.Op.TheVariants as ops
 use Rattle.ld_op.specs.declared.record.Record.{Record}
 use Rattle.ld_op.specs.declared.record.Record.TheVariants.{Now, Before, Mark}
+use Rattle.ld_fields.specs.declared.beside.Beside.TheVariants as besides
 use Rattle.ld_fields.specs.Fields.{Read, Got, follow, check, field, within, end_at}
 use Rattle.ld_fields.specs.Items.{entry_bytes, entries_bytes, older_summary_bytes, summary_bytes, greatest_epoch, greatest_lng, read_entry, read_entries, read_older_summary, read_summary, read_log}
 
@@ -66,7 +67,7 @@ read_format bs at =
     follow (read_epochs bs count 1 at_epochs) (λ epochs next. Got (ops.Format generation epochs) next)))
 
 unfoldable pub read_accept : List ℕ → ℕ → ℕ → Read Op
-read_accept bs l at = follow (field 4 bs at) (λ lng at_entry. check (nat_le lng greatest_lng) at (follow (read_entry bs true (2 ^ 64 - 1) 0 at_entry) (λ e next. Got (ops.Accept l lng e) next)))
+read_accept bs l at = follow (field 4 bs at) (λ lng at_entry. check (nat_le lng greatest_lng) at (follow (read_entry bs besides.Bridges (2 ^ 64 - 1) 0 at_entry) (λ e next. Got (ops.Accept l lng e) next)))
 
 -- a ballot is the epoch of a sequencer
 unfoldable pub read_seal : List ℕ → ℕ → ℕ → Read Op
@@ -84,7 +85,7 @@ read_clean older bs l at =
 unfoldable pub read_refill : List ℕ → ℕ → ℕ → Read Op
 read_refill bs l at =
     follow (field 2 bs at) (λ count at_entries. check (within 1 64 count) at (
-    follow (read_entries bs true (2 ^ 64 - 1) count 0 at_entries) (λ es next. Got (ops.Refill l es) next)))
+    follow (read_entries bs besides.Bridges (2 ^ 64 - 1) count 0 at_entries) (λ es next. Got (ops.Refill l es) next)))
 
 -- the fields of a log's op, by its first byte
 unfoldable pub read_fields : List ℕ → ℕ → ℕ → ℕ → Read Op

@@ -9,7 +9,7 @@ ghost use Rattle.ld_op.specs.Bounds.{IsRecord};
 
 use crate::{Epochs, Op, OpFault, Record};
 use ld_fields::{
-    FieldFault, GREATEST_EPOCH, GREATEST_LNG, check, read_entries, read_entry, read_log,
+    Beside, FieldFault, GREATEST_EPOCH, GREATEST_LNG, check, read_entries, read_entry, read_log,
     read_number, read_older_summary, read_summary, read_u8, read_u16, read_u32,
 };
 use ld_ids::{LogId, NoMemory};
@@ -172,7 +172,7 @@ fn read_accept(
 {
     let (lng, at_entry) = read_u32(bytes, at)?;
     check(lng <= GREATEST_LNG, at)?;
-    let (entry, next) = read_entry(alloc, bytes, true, greatest(), 0, at_entry)?;
+    let (entry, next) = read_entry(alloc, bytes, Beside::Bridges, greatest(), 0, at_entry)?;
     Ok((Op::Accept { log, lng, entry }, next))
 }
 
@@ -241,7 +241,15 @@ fn read_refill(
     let (count, at_entries) = read_u16(bytes, at)?;
     check(1 <= count && count <= 64, at)?;
     let first = Lsn::from_u64(0);
-    let (entries, next) = read_entries(alloc, bytes, true, greatest(), count, first, at_entries)?;
+    let (entries, next) = read_entries(
+        alloc,
+        bytes,
+        Beside::Bridges,
+        greatest(),
+        count,
+        first,
+        at_entries,
+    )?;
     Ok((Op::Refill { log, entries }, next))
 }
 

@@ -324,7 +324,7 @@ fn entries_are_judged(rt: HostRuntime) -> Result<(), Fail> {
             ]
         )
     );
-    // A tag above the last.
+    // A record that another node sends.
     assert!(rt;
         is_off_at(
             alloc,
