@@ -7,17 +7,20 @@ use Rattle.ld_lsn.specs.Number.{epoch_of, esn_of, numbered, home_epoch, home_esn
 use Rattle.ld_ids.specs.Id.{IsNode, IsLog}
 use Rattle.ld_msg.specs.declared.msg.Who.{Who}
 use Rattle.ld_msg.specs.declared.msg.Who.TheVariants as whos
+use Rattle.ld_msg.specs.declared.msg.What.{What}
+use Rattle.ld_msg.specs.declared.msg.What.TheVariants.{Rec, Hole, Bridge, Plug, Withheld}
 use Rattle.ld_msg.specs.declared.msg.Entry.{Entry}
 use Rattle.ld_msg.specs.declared.msg.Summary.{Summary}
 use Rattle.ld_msg.specs.declared.msg.Msg.{Msg}
 use Rattle.ld_msg.specs.declared.msg.Body.{Body}
 use Rattle.ld_msg.specs.declared.msg.Body.TheVariants as bodies
-use Rattle.ld_msg.specs.Bounds.{Is32, IsLng, Is64, IsEpoch, IsEntry, IsSummary, AreEntries, IsSequencerHere, IsActor, IsAsker, AnswersIn, ballot_of, Fits, IsMessage}
+use Rattle.ld_msg.specs.Bounds as bounds
+use Rattle.ld_msg.specs.Bounds.{Is32, IsLng, Is64, IsEpoch, IsEntry, AreKept, IsReadable, AreReadable, IsSummary, AreEntries, IsSequencerHere, IsActor, IsAsker, IsReader, AnswersIn, ballot_of, Fits, IsMessage}
 use Rattle.ld_op.specs.declared.op.Op.{Op}
 use Rattle.ld_op.specs.declared.op.Op.TheVariants as ops
 use Rattle.ld_op.specs.Plain.{Plain, Log, log_of, summary_at, epoch_zero, end_here, end_of, is_lost}
 use Rattle.ld_op.specs.Answers as answers
-use Rattle.ld_op.specs.Answers.{Handled, Decision, or_clean, is_same, store_decision, store_answer, taken, on_store, digest_decision, digest_answer, on_digest_ask, entries_within, page_upto, page_limit, clean_op, on_clean, on_trim, lets_read, readable, read_page, open_answer, clean_page, epoch_answer, read_answer}
+use Rattle.ld_op.specs.Answers.{Handled, Decision, or_clean, is_same, store_decision, store_answer, taken, on_store, digest_decision, digest_answer, on_digest_ask, entries_within, page_upto, page_limit, clean_op, on_clean, on_trim, lets_read, readable, read_page, open_answer, clean_page, epoch_answer, read_answer, withheld_in, one_answer}
 use Rattle.ld_op.specs.Ticks as ticks
 use Rattle.ld_op.specs.Ticks.{as_closed, is_missing, lacking, refill_op, page_op, on_page}
 use Rattle.ld_op.specs.Handles.{handled_by, answer_message}
@@ -26,7 +29,7 @@ use Rattle.ld_node_bounds.specs.Messages.{AreMessages, IsKept, MayKeep, MayAnswe
 use Rattle.ld_node_bounds.proofs.Alls.{all-find}
 use Rattle.ld_node_bounds.proofs.Numbers.{home_is, numbered_bound, number_bound, epoch_bound, number_from_one, epoch_numbered, esn_numbered, home_of_place, home_at_most, home_esn_is}
 use Rattle.ld_node_bounds.proofs.Ops.{log_state}
-use Rattle.ld_node_bounds.proofs.Pages.{digest_is, read_is, read_readable, entries-filter}
+use Rattle.ld_node_bounds.proofs.Pages.{digest_is, digest_kept, read_is, read_readable, entries-filter, kept-filter, withheld_page, all_withheld}
 
 -- ---- who is answered ----
 
@@ -44,6 +47,25 @@ ballot_most : (w : Who) → IsSequencerHere w → ballot_of w ≤ 2 ^ 32 - 2
 ballot_most (whos.Node n) s = absurd s
 ballot_most (whos.Sequencer e) s = s.1
 ballot_most (whos.Reader r) s = absurd s
+
+-- ---- what a node is shown, and a reader ----
+
+kept_shown : (n : ℕ) (x : What) → IsReadable (whos.Node n) x → bounds.IsKept x
+kept_shown n (Rec p) h = tt
+kept_shown n Hole h = tt
+kept_shown n Bridge h = absurd h
+kept_shown n Plug h = tt
+kept_shown n Withheld h = absurd h
+
+-- what a node reads of others is kept
+all_kept : (n : ℕ) (es : List Entry) → AreReadable (whos.Node n) es → AreKept es
+all_kept n [] h = tt
+all_kept n (e ∷ es) h = (kept_shown n e.what h.0, all_kept n es h.1)
+
+-- an answer to a reader may withhold records
+withheld_fits : (n : ℕ) (set excluded : List Bool) (w : Who) → IsReader w → (b : Body) → Fits (whos.Node n) w b → Fits (whos.Node n) w (withheld_in n set excluded b)
+withheld_fits n set excluded w r (bodies.ReadPage round from upto clean es) f = (f.0, withheld_page n set excluded from upto es f.1, all_withheld n set excluded w es r f.2)
+withheld_fits n set excluded w r b f = f
 
 -- ---- decisions ----
 
@@ -116,10 +138,10 @@ module _ (n : ℕ) (N : IsNode n) (generation : ℕ) (gen_is : Is32 generation) 
   stored_is s w answers.Same q one b i = ((N, q), b)
   stored_is s w answers.Take q one b i = ((N, q), b)
 
-  pub store_handled : (w : Who) (lng : ℕ) (e : Entry) → IsSequencerHere w → IsLng lng → IsEntry e → IsHandled n w (on_store generation g l lng e)
+  pub store_handled : (w : Who) (lng : ℕ) (e : Entry) → IsSequencerHere w → IsLng lng → IsEntry e → bounds.IsKept e.what → IsHandled n w (on_store generation g l lng e)
   unfolding on_store
-  store_handled w lng e q h i = let d = i.epoch in let b : Is64 e.number = number_bound e.number d.1 in let one : 1 ≤ e.number = number_from_one e.number i.from_one in record {
-    op = taken_is (ops.Accept l lng e) (store_decision g e) (L, h, i);
+  store_handled w lng e q h i k = let d = i.epoch in let b : Is64 e.number = number_bound e.number d.1 in let one : 1 ≤ e.number = number_from_one e.number i.from_one in record {
+    op = taken_is (ops.Accept l lng e) (store_decision g e) (L, h, i, k);
     answer = stored_is e.number w (store_decision g e) q one b (store_decided small g G e d.0 d.1);
   }
 
@@ -135,6 +157,7 @@ module _ (n : ℕ) (N : IsNode n) (generation : ℕ) (gen_is : Is32 generation) 
         (N, q),
         digest_is g G from (numbered (epoch_of from) last_esn) (number_from_one from one) (omega arith) (numbered_bound (epoch_of from) last_esn (omega arith) (omega arith))
             (home_of_place from one ∙ sym (home_of_place (numbered (epoch_of from) last_esn) (omega (arith, k)) ∙ e)),
+        digest_kept g G from (numbered (epoch_of from) last_esn),
         G.trim,
         good_is (epoch_of from) (find (epoch_of from) g.lngs) refl,
       )
@@ -176,7 +199,7 @@ module _ (n : ℕ) (N : IsNode n) (generation : ℕ) (gen_is : Is32 generation) 
     open_is = cond_both (lets_read released from) (read_page round from false released (readable g from released)) (bodies.ReadWait round from released) (Fits (whos.Node n) w)
         (λ t. let p = and_parts (nat_lt 0 (esn_of released) && (epoch_of released == home_epoch from)) (nat_le from released) t in let q = and_parts (nat_lt 0 (esn_of released)) (epoch_of released == home_epoch from) p.0 in
         let k = ltb-true 0 (esn_of released) q.0 in let e = eqb-true (epoch_of released) (home_epoch from) q.1 in
-        ((N, asks, round_is, one, from_is), read_is g G from released one (leb-true from released p.1) released_is (sym (home_of_place released (omega (arith, k)) ∙ e)), read_readable g G from released))
+        ((N, asks, round_is, one, from_is), read_is g G from released one (leb-true from released p.1) released_is (sym (home_of_place released (omega (arith, k)) ∙ e)), read_readable g G w from released))
         (λ t. ((N, asks, round_is, one, from_is), released_is))
 
     clean_is : (y : Summary) → summary_at g (home_epoch from) ≡ Some y → home_esn from < y.end → Fits (whos.Node n) w (clean_page g round from y)
@@ -190,7 +213,7 @@ module _ (n : ℕ) (N : IsNode n) (generation : ℕ) (gen_is : Is32 generation) 
         let k : 1 ≤ esn_of from = place_there a b in
         let e1 = epoch_numbered (home_epoch from) (y.end - 1) (omega arith) in
         let e2 = esn_numbered (home_epoch from) (y.end - 1) (omega arith) in
-        ((N, asks, round_is, one, from_is), read_is g G from upto one (omega arith) (numbered_bound (home_epoch from) (y.end - 1) (omega arith) (omega arith)) (sym (home_of_place upto (omega arith) ∙ e1)), read_readable g G from upto) where
+        ((N, asks, round_is, one, from_is), read_is g G from upto one (omega arith) (numbered_bound (home_epoch from) (y.end - 1) (omega arith) (omega arith)) (sym (home_of_place upto (omega arith) ∙ e1)), read_readable g G w from upto) where
           place_there : home_epoch from ≡ epoch_of from → home_esn from ≡ esn_of from → 1 ≤ esn_of from
           place_there a b = elim (cases_Bool (esn_of from == 0)) [
             | inl t ↦ (let z = eqb-true (esn_of from) 0 t in let q = home_is from one in absurd (omega arith))
@@ -210,6 +233,11 @@ module _ (n : ℕ) (N : IsNode n) (generation : ℕ) (gen_is : Is32 generation) 
     read_fits = cond_both (nat_le from g.trim) (bodies.ReadTrim round from g.trim) (epoch_answer generation g released round from (summary_at g (home_epoch from))) (Fits (whos.Node n) w)
         (λ t. ((N, asks, round_is, one, from_is), G.trim)) (λ t. by_summary (summary_at g (home_epoch from)) refl)
 
+    -- to a reader that has one node send each payload
+    pub one_fits : (set excluded : List Bool) → IsReader w → Fits (whos.Node n) w (one_answer n generation g released round from set excluded)
+    unfolding one_answer
+    one_fits set excluded r = withheld_fits n set excluded w r (read_answer generation g released round from) read_fits
+
   -- ---- pages to a lost node ----
   as_closed_is : (e : Entry) (o : Option Summary) → find (epoch_of e.number) g.summaries ≡ o → IsEntry e → IsEntry (record { number = e.number; ballot = ticks.ballot_of e.ballot o; what = e.what })
   as_closed_is e None h i = record { epoch = i.epoch; from_one = i.from_one; place = i.place; ballot = i.ballot; ballot_most = i.ballot_most; short = i.short }
@@ -220,29 +248,34 @@ module _ (n : ℕ) (N : IsNode n) (generation : ℕ) (gen_is : Is32 generation) 
   closed_entries [] a = tt
   closed_entries (e ∷ es) a = (as_closed_is e (find (epoch_of e.number) g.summaries) refl a.0, closed_entries es a.1)
 
-  refill_is : (es : List Entry) → AreEntries es → MayKeep last_handed_out (refill_op l es)
-  refill_is [] a = tt
-  refill_is (e ∷ es) a = (L, a)
+  closed_kept : (es : List Entry) → AreKept es → AreKept (map (as_closed g) es)
+  closed_kept [] k = tt
+  closed_kept (e ∷ es) k = (k.0, closed_kept es k.1)
+
+  refill_is : (es : List Entry) → AreEntries es → AreKept es → MayKeep last_handed_out (refill_op l es)
+  refill_is [] a k = tt
+  refill_is (e ∷ es) a k = (L, a, k)
 
   paged : (w : Who) (b : Body) → MayKeep last_handed_out (page_op g l b) → IsHandled n w (on_page g l b)
   unfolding on_page
   paged w b k = record { op = cond_both g.lost (page_op g l b) None (MayKeep last_handed_out) (λ t. k) (λ t. tt); answer = tt }
 
-  page_is : (w v : Who) (round from upto : ℕ) (clean : Bool) (es : List Entry) → AreEntries es → IsHandled n w (on_page g l (bodies.ReadPage round from upto clean es))
-  page_is w v round from upto clean es a = paged w (bodies.ReadPage round from upto clean es)
-      (cond_both clean (refill_op l (lacking g es)) None (MayKeep last_handed_out) (λ t. refill_is (lacking g es) (closed_entries (filter (λ e. is_missing g e.number) es) (entries-filter (λ e. is_missing g e.number) es a))) (λ t. tt))
+  page_is : (w v : Who) (round from upto : ℕ) (clean : Bool) (es : List Entry) → AreEntries es → AreKept es → IsHandled n w (on_page g l (bodies.ReadPage round from upto clean es))
+  page_is w v round from upto clean es a k = paged w (bodies.ReadPage round from upto clean es)
+      (cond_both clean (refill_op l (lacking g es)) None (MayKeep last_handed_out) (λ t. refill_is (lacking g es) (closed_entries (filter (λ e. is_missing g e.number) es) (entries-filter (λ e. is_missing g e.number) es a)) (closed_kept (filter (λ e. is_missing g e.number) es) (kept-filter (λ e. is_missing g e.number) es k))) (λ t. tt))
 
   trim_page_is : (w : Who) (round from t : ℕ) → Is64 t → IsHandled n w (on_page g l (bodies.ReadTrim round from t))
   trim_page_is w round from t b = paged w (bodies.ReadTrim round from t) (cond_both (nat_lt g.trim t) (Some (ops.Trim l t)) None (MayKeep last_handed_out) (λ u. (L, b)) (λ u. tt))
 
   -- ---- all messages ----
-  pub handled_is : (w : Who) (released : ℕ) → Is64 released → (b : Body) → Fits w (whos.Node n) b → IsHandled n w (handled_by generation g l (ballot_of w) released b)
-  handled_is w released r (bodies.Store s lng x) f = store_handled w lng (record { number = s; ballot = ballot_of w; what = x }) f.0.0 f.1 f.2
+  pub handled_is : (w : Who) (released : ℕ) → Is64 released → (b : Body) → Fits w (whos.Node n) b → IsHandled n w (handled_by n generation g l (ballot_of w) released b)
+  handled_is w released r (bodies.Store s lng x) f = store_handled w lng (record { number = s; ballot = ballot_of w; what = x }) f.0.0 f.1 f.2 f.3
   handled_is w released r (bodies.DigestAsk from) f = digest_handled w from f.0.0 f.1 f.2 f.3
   handled_is w released r (bodies.Clean epoch y) f = clean_handled w epoch y f.1 f.2
   handled_is w released r (bodies.Trim t) f = trim_handled w t f.1
   handled_is w released r (bodies.ReadAsk round from) f = record { op = tt; answer = read_fits w f.0 round f.2 from f.4 f.5 released r }
-  handled_is w released r (bodies.ReadPage round from upto c es) f = page_is w w round from upto c es f.1.entries
+  handled_is w released r (bodies.ReadOne round from set excluded) f = record { op = tt; answer = one_fits w f.0 round f.3 from f.4 f.5 released r set excluded f.1 }
+  handled_is w released r (bodies.ReadPage round from upto c es) f = page_is w w round from upto c es f.1.entries (all_kept n es f.2)
   handled_is w released r (bodies.ReadTrim round from t) f = trim_page_is w round from t f.1
   handled_is w released r (bodies.Stored s) f = paged w (bodies.Stored s) tt
   handled_is w released r (bodies.SealedHere s k) f = paged w (bodies.SealedHere s k) tt
@@ -260,6 +293,6 @@ answers_sent n m (Some b) l a = (record { log = l; fits = a }, tt)
 
 -- a message to the node
 pub message_handled : {most : ℕ} (small : most ≤ last_carried) (p : Plain) (P : IsPlain most p) (n : ℕ) → IsNode n → (released : ℕ) → Is64 released → (m : Msg) → IsMessage m → m.to ≡ whos.Node n
-    → IsHandled n m.from (handled_by p.generation (log_of p m.log) m.log (ballot_of m.from) released m.body)
+    → IsHandled n m.from (handled_by n p.generation (log_of p m.log) m.log (ballot_of m.from) released m.body)
 message_handled {most} small p P n h released r m i to =
     handled_is n h p.generation P.generation small (log_of p m.log) (log_state most p m.log P) m.log i.log m.from released r m.body (subst (λ w. Fits m.from w m.body) to i.fits)

@@ -11,9 +11,10 @@ use Rattle.ld_lsn.specs.Number.{epoch_of}
 use Rattle.ld_ids.specs.Id.{IsLog}
 use Rattle.ld_msg.specs.declared.msg.Entry.{Entry}
 use Rattle.ld_msg.specs.declared.msg.What.{What}
-use Rattle.ld_msg.specs.declared.msg.What.TheVariants.{Rec, Hole, Bridge, Plug}
+use Rattle.ld_msg.specs.declared.msg.What.TheVariants.{Rec, Hole, Bridge, Plug, Withheld}
 use Rattle.ld_msg.specs.declared.msg.Summary.{Summary}
-use Rattle.ld_msg.specs.Bounds.{IsLng, Is64, IsEpoch, IsEntry, IsSummary, AreEntries}
+use Rattle.ld_msg.specs.Bounds as bounds
+use Rattle.ld_msg.specs.Bounds.{IsLng, Is64, IsEpoch, IsEntry, AreKept, IsSummary, AreEntries}
 use Rattle.ld_op.specs.declared.op.Op.{Op}
 use Rattle.ld_op.specs.declared.op.Op.TheVariants as ops
 use Rattle.ld_op.specs.Bounds.{IsOp, AreEpochs}
@@ -51,18 +52,19 @@ record Entries (m : List (ℕ × Entry)) : Type 0 where
   rise : Ordered m
   entries : AllByRecursion IsStored m
 
-entry_put : (e : Entry) (m : List (ℕ × Entry)) → IsEntry e → Entries m → Entries (put e.number e m)
-entry_put e m i s = record { rise = Ordered-put e.number e m s.rise; entries = all-put IsStored e.number e m (record { number = refl; entry = i }) s.entries }
+entry_put : (e : Entry) (m : List (ℕ × Entry)) → IsEntry e → bounds.IsKept e.what → Entries m → Entries (put e.number e m)
+entry_put e m i k s = record { rise = Ordered-put e.number e m s.rise; entries = all-put IsStored e.number e m (record { number = refl; entry = i; kept = k }) s.entries }
 
-entry_accepted : (e : Entry) (x : What) (m : List (ℕ × Entry)) → IsEntry e → Entries m → Entries (accept_entry e x m)
-entry_accepted e (Rec p) m i s = entry_put e m i s
-entry_accepted e Hole m i s = entry_put e m i s
-entry_accepted e Plug m i s = entry_put e m i s
-entry_accepted e Bridge m i s = entry_put e (keep (λ k f. survives_bridge e f) m) i (record { rise = ordered-keep (λ k f. survives_bridge e f) m s.rise; entries = all-keep IsStored (λ k f. survives_bridge e f) m s.entries })
+entry_accepted : (e : Entry) (x : What) (m : List (ℕ × Entry)) → IsEntry e → bounds.IsKept e.what → Entries m → Entries (accept_entry e x m)
+entry_accepted e (Rec p) m i k s = entry_put e m i k s
+entry_accepted e Hole m i k s = entry_put e m i k s
+entry_accepted e Plug m i k s = entry_put e m i k s
+entry_accepted e Withheld m i k s = entry_put e m i k s
+entry_accepted e Bridge m i k s = entry_put e (keep (λ k f. survives_bridge e f) m) i k (record { rise = ordered-keep (λ k f. survives_bridge e f) m s.rise; entries = all-keep IsStored (λ k f. survives_bridge e f) m s.entries })
 
-entries_refilled : (es : List Entry) (m : List (ℕ × Entry)) → AreEntries es → Entries m → Entries (refill_entries es m)
-entries_refilled [] m a s = s
-entries_refilled (e ∷ es) m a s = entries_refilled es (put e.number e m) a.1 (entry_put e m a.0 s)
+entries_refilled : (es : List Entry) (m : List (ℕ × Entry)) → AreEntries es → AreKept es → Entries m → Entries (refill_entries es m)
+entries_refilled [] m a k s = s
+entries_refilled (e ∷ es) m a k s = entries_refilled es (put e.number e m) a.1 k.1 (entry_put e m a.0 k.0 s)
 
 greater : (a b : ℕ) → Is64 a → Is64 b → Is64 (max a b)
 greater a b h i = omega (arith, h, i)
@@ -80,8 +82,8 @@ module _ (most : ℕ) where
     raised_is : (epoch lng : ℕ) → IsLng lng → AllByRecursion IsGood (raised_lng epoch lng g.lngs)
     raised_is epoch lng h = cond_both (nat_lt (lng_in g.lngs epoch) lng) (put epoch lng g.lngs) g.lngs (AllByRecursion IsGood) (λ t. all-put IsGood epoch lng g.lngs h G.lngs) (λ t. G.lngs)
 
-    accepted_is : (lng : ℕ) (e : Entry) → last_handed_out ≤ most → IsLng lng → IsEntry e → IsLogState most (accepted g lng e)
-    accepted_is lng e enough h i = let s = entry_accepted e e.what g.entries i has in
+    accepted_is : (lng : ℕ) (e : Entry) → last_handed_out ≤ most → IsLng lng → IsEntry e → bounds.IsKept e.what → IsLogState most (accepted g lng e)
+    accepted_is lng e enough h i k = let s = entry_accepted e e.what g.entries i k has in
         record { sealed = omega (arith, i.ballot_most, enough); trim = G.trim; rise = s.rise; entries = s.entries; summaries = G.summaries; lngs = raised_is (epoch_of e.number) lng h; lost_to = G.lost_to }
 
     sealed_is : (b : ℕ) → b ≤ most → IsLogState most (sealed_by g b)
@@ -109,8 +111,8 @@ module _ (most : ℕ) where
       lost_to = G.lost_to;
     }
 
-    refilled_with_is : (es : List Entry) → AreEntries es → IsLogState most (refilled_with g es)
-    refilled_with_is es a = let s = entries_refilled es g.entries a has in record { sealed = G.sealed; trim = G.trim; rise = s.rise; entries = s.entries; summaries = G.summaries; lngs = G.lngs; lost_to = G.lost_to }
+    refilled_with_is : (es : List Entry) → AreEntries es → AreKept es → IsLogState most (refilled_with g es)
+    refilled_with_is es a k = let s = entries_refilled es g.entries a k has in record { sealed = G.sealed; trim = G.trim; rise = s.rise; entries = s.entries; summaries = G.summaries; lngs = G.lngs; lost_to = G.lost_to }
 
     refilled_is : IsLogState most (refilled g)
     refilled_is = record { sealed = G.sealed; trim = G.trim; rise = G.rise; entries = G.entries; summaries = G.summaries; lngs = G.lngs; lost_to = G.lost_to }
@@ -147,11 +149,11 @@ module _ (most : ℕ) where
   pub apply_is : (p : Plain) (o : Op) → last_handed_out ≤ most → IsPlain most p → IsKept most o → IsPlain most (apply p o)
   unfolding apply
   apply_is p (ops.Format generation epochs) enough P k = record { generation = k.0; logs = logs_lost epochs k.1 }
-  apply_is p (ops.Accept l lng e) enough P k = with_is p l (accepted (log_of p l) lng e) P k.0 (accepted_is (log_of p l) (log_state p l P) lng e enough k.1 k.2)
+  apply_is p (ops.Accept l lng e) enough P k = with_is p l (accepted (log_of p l) lng e) P k.0 (accepted_is (log_of p l) (log_state p l P) lng e enough k.1 k.2 k.3)
   apply_is p (ops.Seal l b) enough P k = with_is p l (sealed_by (log_of p l) b) P k.0 (sealed_is (log_of p l) (log_state p l P) b k.1)
   apply_is p (ops.Clean l epoch y) enough P k = with_is p l (cleaned (log_of p l) epoch y) P k.0 (cleaned_is (log_of p l) (log_state p l P) epoch y k.1 k.2)
   apply_is p (ops.Trim l t) enough P k = with_is p l (trimmed_to (log_of p l) t) P k.0 (trimmed_is (log_of p l) (log_state p l P) t k.1)
-  apply_is p (ops.Refill l es) enough P k = with_is p l (refilled_with (log_of p l) es) P k.0 (refilled_with_is (log_of p l) (log_state p l P) es k.1)
+  apply_is p (ops.Refill l es) enough P k = with_is p l (refilled_with (log_of p l) es) P k.0 (refilled_with_is (log_of p l) (log_state p l P) es k.1 k.2)
   apply_is p (ops.Refilled l) enough P k = with_is p l (refilled (log_of p l)) P k (refilled_is (log_of p l) (log_state p l P))
 
 -- ---- what a journal's body carries ----
@@ -166,5 +168,5 @@ op_carried (ops.Accept l lng e) i = i
 op_carried (ops.Seal l b) i = (i.0, omega (arith, i.1.1))
 op_carried (ops.Clean l epoch y) i = i
 op_carried (ops.Trim l t) i = i
-op_carried (ops.Refill l es) i = (i.0, i.3)
+op_carried (ops.Refill l es) i = (i.0, i.3, i.5)
 op_carried (ops.Refilled l) i = i

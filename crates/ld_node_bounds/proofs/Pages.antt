@@ -1,20 +1,22 @@
--- What a node shows of its entries is a page: its numbers rise in their range, and it is short.
-use Rattle.std.proofs.Common.{◌≡◌, ◌≤◌, ◌<◌, ℕ, zero, suc, ◌+◌, sym, subst, Bool, true, ◌&&◌, not, List, [], ◌∷◌, filter, take, length, nat_cmp, nat_le, nat_lt, Less, arith}
-use Rattle.std.specs.Map as map
+-- What a node shows of its entries is a page: its numbers rise in their range, and it is short; and so it is where records are withheld.
+use Rattle.std.proofs.Common.{◌≡◌, ◌≤◌, ◌<◌, ℕ, zero, suc, ◌+◌, sym, subst, Bool, true, false, ◌&&◌, not, List, [], ◌∷◌, filter, map, take, length, nat_cmp, nat_le, nat_lt, Less, arith}
+use Rattle.std.specs.Map as maps
 use Rattle.std.specs.List.{AllByRecursion}
 use Rattle.std.specs.List.Sorted.{IsStrictlySortedBy}
 use Rattle.std.proofs.lemmas.Bool.{cond_both, and_parts, leb-true, ltb-true}
 use Rattle.std.proofs.lemmas.Bool.Decides.{nat_tests}
 use Rattle.ld_table.specs.Table.{Ordered}
 use Rattle.ld_table.specs.Words.{values}
-use Rattle.ld_lsn.specs.Number.{home_epoch}
+use Rattle.ld_lsn.specs.Number.{esn_of, home_epoch}
+use Rattle.ld_msg.specs.declared.msg.Who.{Who}
 use Rattle.ld_msg.specs.declared.msg.Entry.{Entry}
 use Rattle.ld_msg.specs.declared.msg.What.{What}
-use Rattle.ld_msg.specs.declared.msg.What.TheVariants.{Rec, Hole, Bridge, Plug}
+use Rattle.ld_msg.specs.declared.msg.What.TheVariants.{Rec, Hole, Bridge, Plug, Withheld}
 use Rattle.ld_msg.specs.Digest.{is_bridge}
-use Rattle.ld_msg.specs.Bounds.{Is64, IsEntry, AreEntries, IsReadable, AreReadable, RiseWithin, IsPage}
+use Rattle.ld_msg.specs.Bounds.{Is64, IsEntry, IsShort, AreEntries, IsReader, IsReadable, AreReadable, IsKept, AreKept, RiseWithin, IsPage, last_place}
 use Rattle.ld_op.specs.Plain.{Log}
-use Rattle.ld_op.specs.Answers.{entries_within, readable, page_limit, page_upto, last_number}
+use Rattle.ld_op.specs.Answers.{entries_within, readable, page_limit, page_upto, last_number, is_node, withheld_what, withheld}
+use Rattle.ld_msg.specs.Choice.{sender}
 use Rattle.ld_node_bounds.specs.States.{IsStored, IsLogState}
 use Rattle.ld_node_bounds.proofs.Numbers.{home_between}
 
@@ -30,11 +32,11 @@ all_after : (x : ℕ) (ks : List ℕ) → AllByRecursion (λ y. nat_cmp x y ≡ 
 all_after x [] h = tt
 all_after x (k ∷ ks) h = (after x k h.0, all_after x ks h.1)
 
-table_rises : (from : ℕ) (m : List (ℕ × Entry)) → Ordered m → AllByRecursion IsStored m → AllByRecursion (λ y. from ≤ y) (map.keys_of m) → Rises from (values m)
+table_rises : (from : ℕ) (m : List (ℕ × Entry)) → Ordered m → AllByRecursion IsStored m → AllByRecursion (λ y. from ≤ y) (maps.keys_of m) → Rises from (values m)
 unfolding IsStrictlySortedBy
 table_rises from [] o a b = tt
 table_rises from (e ∷ m) o a b = let q = a.0.number in
-    (omega (arith, b.0, q), a.0.entry, table_rises (e.1.number + 1) m o.1 a.1 (subst (λ x. AllByRecursion (λ y. x + 1 ≤ y) (map.keys_of m)) (sym q) (all_after e.0 (map.keys_of m) o.0)))
+    (omega (arith, b.0, q), a.0.entry, table_rises (e.1.number + 1) m o.1 a.1 (subst (λ x. AllByRecursion (λ y. x + 1 ≤ y) (maps.keys_of m)) (sym q) (all_after e.0 (maps.keys_of m) o.0)))
 
 from_zero : (ks : List ℕ) → AllByRecursion (λ y. 0 ≤ y) ks
 from_zero [] = tt
@@ -67,15 +69,31 @@ rise_filter p from upto [] r = tt
 rise_filter p from upto (e ∷ es) r = let rest : RiseWithin (e.number + 1) upto (filter p es) = rise_filter p (e.number + 1) upto es r.2 in
     cond_both (p e) (e ∷ filter p es) (filter p es) (RiseWithin from upto) (λ t. (r.0, r.1, rest)) (λ t. rise_down from (e.number + 1) upto (filter p es) (let z = r.0 in omega arith) rest)
 
-not_bridge : (x : What) → not (is_bridge x) ≡ true → IsReadable x
-not_bridge (Rec p) h = tt
-not_bridge Hole h = tt
-not_bridge Bridge h = absurd cc
-not_bridge Plug h = tt
+not_bridge : (to : Who) (x : What) → IsKept x → not (is_bridge x) ≡ true → IsReadable to x
+not_bridge to (Rec p) k h = tt
+not_bridge to Hole k h = tt
+not_bridge to Bridge k h = absurd cc
+not_bridge to Plug k h = tt
+not_bridge to Withheld k h = absurd k
 
-readable-filter : (es : List Entry) → AreReadable (filter (λ e. not (is_bridge e.what)) es)
-readable-filter [] = tt
-readable-filter (e ∷ es) = cond_both (not (is_bridge e.what)) (e ∷ filter (λ e. not (is_bridge e.what)) es) (filter (λ e. not (is_bridge e.what)) es) AreReadable (λ t. (not_bridge e.what t, readable-filter es)) (λ t. readable-filter es)
+readable-filter : (to : Who) (es : List Entry) → AreKept es → AreReadable to (filter (λ e. not (is_bridge e.what)) es)
+readable-filter to [] k = tt
+readable-filter to (e ∷ es) k = cond_both (not (is_bridge e.what)) (e ∷ filter (λ e. not (is_bridge e.what)) es) (filter (λ e. not (is_bridge e.what)) es) (AreReadable to) (λ t. (not_bridge to e.what k.0 t, readable-filter to es k.1)) (λ t. readable-filter to es k.1)
+
+-- ---- kept entries ----
+
+table_kept : (m : List (ℕ × Entry)) → AllByRecursion IsStored m → AreKept (values m)
+table_kept [] a = tt
+table_kept (e ∷ m) a = (a.0.kept, table_kept m a.1)
+
+pub kept-filter : (p : Entry → Bool) (es : List Entry) → AreKept es → AreKept (filter p es)
+kept-filter p [] k = tt
+kept-filter p (e ∷ es) k = cond_both (p e) (e ∷ filter p es) (filter p es) AreKept (λ t. (k.0, kept-filter p es k.1)) (λ t. kept-filter p es k.1)
+
+kept-take : (n : ℕ) (es : List Entry) → AreKept es → AreKept (take n es)
+kept-take zero es k = tt
+kept-take (suc n) [] k = tt
+kept-take (suc n) (e ∷ es) k = (k.0, kept-take n es k.1)
 
 -- ---- a page's length ----
 
@@ -84,10 +102,10 @@ entries-take zero es a = tt
 entries-take (suc k) [] a = tt
 entries-take (suc k) (e ∷ es) a = (a.0, entries-take k es a.1)
 
-readable-take : (k : ℕ) (es : List Entry) → AreReadable es → AreReadable (take k es)
-readable-take zero es a = tt
-readable-take (suc k) [] a = tt
-readable-take (suc k) (e ∷ es) a = (a.0, readable-take k es a.1)
+readable-take : (to : Who) (k : ℕ) (es : List Entry) → AreReadable to es → AreReadable to (take k es)
+readable-take to zero es a = tt
+readable-take to (suc k) [] a = tt
+readable-take to (suc k) (e ∷ es) a = (a.0, readable-take to k es a.1)
 
 rise-take : (k from upto : ℕ) (es : List Entry) → RiseWithin from upto es → RiseWithin from upto (take k es)
 rise-take zero from upto es r = tt
@@ -125,7 +143,7 @@ page_is from bound es one le b h a r = cond_both (nat_lt page_limit (length es))
 
 module _ {most : ℕ} (g : Log) (G : IsLogState most g) where
   log_rises : Rises 0 (values g.entries)
-  log_rises = table_rises 0 g.entries G.rise G.entries (from_zero (map.keys_of g.entries))
+  log_rises = table_rises 0 g.entries G.rise G.entries (from_zero (maps.keys_of g.entries))
 
   pub within_is : (from upto : ℕ) → RiseWithin from upto (entries_within g from upto)
   within_is from upto = within_rises 0 from upto from (values g.entries) (λ n i j. j) log_rises
@@ -139,5 +157,63 @@ module _ {most : ℕ} (g : Log) (G : IsLogState most g) where
   pub read_is : (from bound : ℕ) → 1 ≤ from → from ≤ bound → Is64 bound → home_epoch from ≡ home_epoch bound → IsPage from (page_upto (readable g from bound) bound) (take page_limit (readable g from bound))
   read_is from bound one le b h = page_is from bound (readable g from bound) one le b h (entries-filter (λ e. not (is_bridge e.what)) (entries_within g from bound) (within_entries from bound)) (rise_filter (λ e. not (is_bridge e.what)) from bound (entries_within g from bound) (within_is from bound))
 
-  pub read_readable : (from bound : ℕ) → AreReadable (take page_limit (readable g from bound))
-  read_readable from bound = readable-take page_limit (readable g from bound) (readable-filter (entries_within g from bound))
+  within_kept : (from upto : ℕ) → AreKept (entries_within g from upto)
+  within_kept from upto = kept-filter (λ e. nat_le from e.number && nat_le e.number upto) (values g.entries) (table_kept g.entries G.entries)
+
+  pub digest_kept : (from bound : ℕ) → AreKept (take page_limit (entries_within g from bound))
+  digest_kept from bound = kept-take page_limit (entries_within g from bound) (within_kept from bound)
+
+  pub read_readable : (to : Who) (from bound : ℕ) → AreReadable to (take page_limit (readable g from bound))
+  read_readable to from bound = readable-take to page_limit (readable g from bound) (readable-filter to (entries_within g from bound) (within_kept from bound))
+
+-- ---- records of which another node sends the payload ----
+
+withheld_place : (mine : Bool) (x : What) (n : ℕ) → n ≤ last_place x → n ≤ last_place (withheld_what mine x)
+withheld_place true (Rec p) n h = h
+withheld_place false (Rec p) n h = h
+withheld_place mine Hole n h = h
+withheld_place mine Bridge n h = h
+withheld_place mine Plug n h = h
+withheld_place mine Withheld n h = h
+
+withheld_short : (mine : Bool) (x : What) → IsShort x → IsShort (withheld_what mine x)
+withheld_short true (Rec p) h = h
+withheld_short false (Rec p) h = tt
+withheld_short mine Hole h = h
+withheld_short mine Bridge h = h
+withheld_short mine Plug h = h
+withheld_short mine Withheld h = h
+
+withheld_readable : (to : Who) (mine : Bool) (x : What) → IsReader to → IsReadable to x → IsReadable to (withheld_what mine x)
+withheld_readable to true (Rec p) r h = tt
+withheld_readable to false (Rec p) r h = r
+withheld_readable to mine Hole r h = h
+withheld_readable to mine Bridge r h = h
+withheld_readable to mine Plug r h = h
+withheld_readable to mine Withheld r h = h
+
+module _ (n : ℕ) (set excluded : List Bool) where
+  withheld_entry : (e : Entry) → IsEntry e → IsEntry (withheld n set excluded e)
+  withheld_entry e i = let mine : Bool = is_node n (sender set excluded e.number) in
+      record { epoch = i.epoch; from_one = i.from_one; place = withheld_place mine e.what (esn_of e.number) i.place; ballot = i.ballot; ballot_most = i.ballot_most; short = withheld_short mine e.what i.short }
+
+  withheld_entries : (es : List Entry) → AreEntries es → AreEntries (map (withheld n set excluded) es)
+  withheld_entries [] a = tt
+  withheld_entries (e ∷ es) a = (withheld_entry e a.0, withheld_entries es a.1)
+
+  withheld_rise : (from upto : ℕ) (es : List Entry) → RiseWithin from upto es → RiseWithin from upto (map (withheld n set excluded) es)
+  withheld_rise from upto [] r = tt
+  withheld_rise from upto (e ∷ es) r = (r.0, r.1, withheld_rise (e.number + 1) upto es r.2)
+
+  withheld_few : (k : ℕ) (es : List Entry) → length es ≤ k → length (map (withheld n set excluded) es) ≤ k
+  withheld_few k [] h = h
+  withheld_few zero (e ∷ es) h = absurd (omega arith)
+  withheld_few (suc k) (e ∷ es) h = omega (arith, withheld_few k es (omega arith))
+
+  -- a page with records withheld is one
+  pub withheld_page : (from upto : ℕ) (es : List Entry) → IsPage from upto es → IsPage from upto (map (withheld n set excluded) es)
+  withheld_page from upto es i = record { range = i.range; bound = i.bound; home = i.home; few = withheld_few 64 es i.few; entries = withheld_entries es i.entries; rise = withheld_rise from upto es i.rise }
+
+  pub all_withheld : (to : Who) (es : List Entry) → IsReader to → AreReadable to es → AreReadable to (map (withheld n set excluded) es)
+  all_withheld to [] r a = tt
+  all_withheld to (e ∷ es) r a = (withheld_readable to (is_node n (sender set excluded e.number)) e.what r a.0, all_withheld to es r a.1)

@@ -6,7 +6,8 @@ use Rattle.ld_msg.specs.declared.msg.Who.{Who}
 use Rattle.ld_msg.specs.declared.msg.Who.TheVariants as whos
 use Rattle.ld_msg.specs.declared.msg.Msg.{Msg}
 use Rattle.ld_msg.specs.declared.msg.Body.{Body}
-use Rattle.ld_msg.specs.Bounds.{Is32, IsLng, Is64, IsEpoch, IsEntry, IsSummary, AreEntries, Fits, IsMessage}
+use Rattle.ld_msg.specs.Bounds as bounds
+use Rattle.ld_msg.specs.Bounds.{Is32, IsLng, Is64, IsEpoch, IsEntry, AreKept, IsSummary, AreEntries, Fits, IsMessage}
 use Rattle.ld_op.specs.declared.op.Op.{Op}
 use Rattle.ld_op.specs.declared.op.Op.TheVariants as ops
 use Rattle.ld_op.specs.Answers.{Handled}
@@ -26,11 +27,11 @@ pub record IsLostTo (most : ℕ) (d : ℕ × ℕ) : Type 0 where
 -- what an op may hold, its ballot or epochs at most this one
 abbrev pub IsKept : ℕ → Op → Type 0
 IsKept most (ops.Format generation epochs) = Is32 generation × AllByRecursion (IsLostTo most) epochs
-IsKept most (ops.Accept l lng e) = IsLog l × IsLng lng × IsEntry e
+IsKept most (ops.Accept l lng e) = IsLog l × IsLng lng × IsEntry e × bounds.IsKept e.what
 IsKept most (ops.Seal l b) = IsLog l × (b ≤ most)
 IsKept most (ops.Clean l epoch y) = IsLog l × IsEpoch epoch × IsSummary epoch y
 IsKept most (ops.Trim l t) = IsLog l × Is64 t
-IsKept most (ops.Refill l es) = IsLog l × AreEntries es
+IsKept most (ops.Refill l es) = IsLog l × AreEntries es × AreKept es
 IsKept most (ops.Refilled l) = IsLog l
 
 abbrev pub MayKeep : ℕ → Option Op → Type 0

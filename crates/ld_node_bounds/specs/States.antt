@@ -1,4 +1,4 @@
--- What holds of a node's plain state: its numbers are in their bounds, and its entries rise and stand under their numbers.
+-- What holds of a node's plain state: its numbers are in their bounds, and its entries rise, stand under their numbers and are not withheld.
 use Rattle.std.specs.Prelude.{ℕ, ◌≡◌, ◌≤◌, ◌^◌, ◌-◌}
 use Rattle.std.specs.List.{AllByRecursion, AllByRecursion-prop}
 use Rattle.std.specs.List.Sorted.{IsStrictlySortedBy-prop}
@@ -10,8 +10,8 @@ use Rattle.ld_ids.specs.Id.{IsLog}
 use Rattle.ld_msg.specs.declared.msg.Entry.{Entry}
 use Rattle.ld_msg.specs.declared.msg.Summary.{Summary}
 use Rattle.ld_msg.specs.declared.msg.What.{What}
-use Rattle.ld_msg.specs.declared.msg.What.TheVariants.{Rec, Hole, Bridge, Plug}
-use Rattle.ld_msg.specs.Bounds.{Is32, IsLng, Is64, IsEpoch, IsShort, IsEntry, IsSummary}
+use Rattle.ld_msg.specs.declared.msg.What.TheVariants.{Rec, Hole, Bridge, Plug, Withheld}
+use Rattle.ld_msg.specs.Bounds.{Is32, IsLng, Is64, IsEpoch, IsShort, IsEntry, IsKept, IsSummary}
 use Rattle.ld_op.specs.Plain.{Log, Plain}
 
 -- the greatest epoch that a register hands out, and the greatest number that a journal's body can carry in its place
@@ -21,10 +21,11 @@ last_handed_out = 2 ^ 32 - 2
 abbrev pub last_carried : ℕ
 last_carried = 2 ^ 32 - 1
 
--- an entry under its own number
+-- an entry under its own number, with its payload where it is a record
 pub record IsStored (e : ℕ × Entry) : Type 0 where
   pub number : e.1.number ≡ e.0
   pub entry : IsEntry e.1
+  pub kept : IsKept e.1.what
 
 -- a summary under the epoch that it closes
 pub record IsClosed (y : ℕ × Summary) : Type 0 where
@@ -66,6 +67,14 @@ IsShort-prop (Rec p) = le_prop
 IsShort-prop Hole = Unit-prop
 IsShort-prop Bridge = Unit-prop
 IsShort-prop Plug = Unit-prop
+IsShort-prop Withheld = Unit-prop
+
+IsKept-prop : (x : What) → IsProp (IsKept x)
+IsKept-prop (Rec p) = Unit-prop
+IsKept-prop Hole = Unit-prop
+IsKept-prop Bridge = Unit-prop
+IsKept-prop Plug = Unit-prop
+IsKept-prop Withheld = λ a b. absurd a
 
 IsEntry-prop : (e : Entry) → IsProp (IsEntry e)
 IsEntry-prop e a b = λ i. record {
@@ -91,6 +100,7 @@ IsStored-prop : (e : ℕ × Entry) → IsProp (IsStored e)
 IsStored-prop e a b = λ i. record {
   number = Coded-set coded_ℕ e.1.number e.0 a.number b.number i;
   entry = IsEntry-prop e.1 a.entry b.entry i;
+  kept = IsKept-prop e.1.what a.kept b.kept i;
 }
 
 IsClosed-prop : (y : ℕ × Summary) → IsProp (IsClosed y)

@@ -32,7 +32,7 @@ pub fn states_stay_plain()
 /// carry.
 pub fn answers_are_messages()
     ensures handled { (most n released : ℕ) (p : Plain) (m : Msg) → most ≤ last_carried → IsPlain most p → IsNode n → Is64 released → IsMessage m → m.to ≡ whos.Node n
-        → IsHandled n m.from (handled_by p.generation (log_of p m.log) m.log (ballot_of m.from) released m.body) }
+        → IsHandled n m.from (handled_by n p.generation (log_of p m.log) m.log (ballot_of m.from) released m.body) }
     ensures sent { (n : ℕ) (m : Msg) (o : Option Body) → IsMessage m → MayAnswer n m.from o → AreMessages (answer_message n m o) }
 {}
 
