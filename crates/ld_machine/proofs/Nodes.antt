@@ -15,12 +15,15 @@ use Rattle.ld_op.specs.declared.op.Op.TheVariants as ops
 use Rattle.ld_op.specs.Plain.{log_of}
 use Rattle.ld_op.specs.Ticks.{Ticked, Cleans, Rebuilt, Asks, Nothing, on_tick}
 use Rattle.ld_config.specs.declared.config.Config.{Config}
+use Rattle.ld_batch.specs.Batch.{packed}
 use Rattle.ld_ids.specs.Set.{members}
 use Rattle.ld_machine.specs.Config.{has_node, has_log}
 use Rattle.ld_msg.specs.Register.{Register, Answer, Granted, AtLimit, Behind, Overtaken, Fails, activate, draw, swap, epochs_of, epochs_in, generation_of}
 use Rattle.ld_machine.specs.Disk.{Node, Fault, new_node, Kept, Written, DiskFailed, Crashed, JournalFull, keep_op, load, load_end, is_up}
 use Rattle.ld_msg.specs.Network.{message, oldest_new}
 use Rattle.ld_msg.specs.Sequencer.{Sequencer, Appending, TooLong, Preempted, EpochFull, WindowFull, Numbered, appending, released_of}
+use Rattle.ld_msg.specs.declared.style.Style.{Style}
+use Rattle.ld_msg.specs.declared.style.Style.TheVariants as styles
 use Rattle.ld_msg.specs.Reader.{Reader, is_finished}
 use Rattle.ld_machine.specs.State.{State, Done, Stepped, node_at, with_node, unchanged, start, new_nodes, sequencer_of, reader_of, finish, with_register}
 use Rattle.ld_machine.specs.Step
@@ -61,7 +64,7 @@ module _ (P : Node → Type 0) (K : NodeKeeps P) where
 
   at_node : (c : Config) (s : State) (n : ℕ) (m : Msg) → AllNodes P s → AllNodes P (Step.to_node c s n m).state
   at_node c s n m a = either (is_up (node_at s n).status && has_log c m.log) (Step.to_up_node s n m) (unchanged s)
-      (handled _ n m (Step.node_handles (node_at s n) m).op (Step.node_handles (node_at s n) m).answer (all_with s n _ (K.releases (node_at s n) m.log m.body (a n)) a)) a
+      (handled _ n m (Step.node_handles n (node_at s n) m).op (Step.node_handles n (node_at s n) m).answer (all_with s n _ (K.releases (node_at s n) m.log m.body (a n)) a)) a
 
   at_sequencer : (c : Config) (s : State) (m : Msg) (q : Option (List ℕ × Sequencer)) → AllNodes P s → AllNodes P (Step.to_sequencer c s m q).state
   at_sequencer c s m None a = a
@@ -118,8 +121,8 @@ module _ (P : Node → Type 0) (K : NodeKeeps P) where
   loaded_kept c s n Crashed a = a
   loaded_kept c s n JournalFull a = a
 
-  opened_kept : (s : State) (name : List ℕ) (l from until : ℕ) → AllNodes P s → AllNodes P (Step.opens s name l from until).state
-  opened_kept s name l from until a = either ((from == 0) || nat_lt until from) _ _ a (either _ _ _ a a)
+  opened_kept : (c : Config) (s : State) (style : Style) (name : List ℕ) (l from until : ℕ) → AllNodes P s → AllNodes P (Step.opens_new c s style name l from until).state
+  opened_kept c s style name l from until a = either _ (Step.opens s style name l from until) (unchanged s) (either ((from == 0) || nat_lt until from) _ _ a (either _ _ _ a a)) a
 
   polled_kept : (c : Config) (s : State) (name : List ℕ) (d : Option Reader) → AllNodes P s → AllNodes P (Step.polls c s name d).state
   polled_kept c s name None a = a
@@ -139,13 +142,16 @@ module _ (P : Node → Type 0) (K : NodeKeeps P) where
   event_keeps c s (events.Format n) a = either _ (Step.formats c s n) (unchanged s) (loaded_kept c _ n (load_end (node_at s n)) (with_loaded s n a)) a
   event_keeps c s (events.Activate name l) a = either _ (Step.activates c s name l (activate s.register l (Step.spec_set c s l))) (unchanged s) (activated_kept c s name l (activate s.register l (Step.spec_set c s l)).register (activate s.register l (Step.spec_set c s l)).answer a) a
   event_keeps c s (events.Append name p) a = on_live_kept s (find_named name s.sequencers) _ (λ q. appended_kept s name q p (appending q p) a) a
+  event_keeps c s (events.Batch name ms) a = on_live_kept s (find_named name s.sequencers) _ (λ q. appended_kept s name q (packed ms) (appending q (packed ms)) a) a
   event_keeps c s (events.Trim name t) a = on_live_kept s (find_named name s.sequencers) _ (λ q. either (nat_lt (released_of q) t) _ _ a a) a
   event_keeps c s (events.Retry name) a = on_live_kept s (find_named name s.sequencers) _ (λ q. a) a
   event_keeps c s (events.Drop name) a = on_live_kept s (find_named name s.sequencers) _ (λ q. a) a
   event_keeps c s (events.Deliver i) a = delivered c s i (message s.network i) a
   event_keeps c s (events.Lose i) a = a
   event_keeps c s (events.Flow k) a = a
-  event_keeps c s (events.Open name l from until) a = either _ (Step.opens s name l from until) (unchanged s) (opened_kept s name l from until a) a
+  event_keeps c s (events.Open name l from until) a = opened_kept c s styles.EachCopy name l from until a
+  event_keeps c s (events.OpenOne name l from until) a = opened_kept c s styles.OneCopy name l from until a
+  event_keeps c s (events.OpenMessages name l from until) a = opened_kept c s styles.OfMessages name l from until a
   event_keeps c s (events.Poll name) a = polled_kept c s name (find_named name s.readers) a
   event_keeps c s (events.Tick n l) a = either _ (Step.ticks c s n l) (unchanged s) (either _ (Step.ticks_as c s n l (on_tick (log_of (node_at s n).plain l) (epochs_of s.register l).summaries)) (unchanged s) (ticked_kept c s n l (on_tick (log_of (node_at s n).plain l) (epochs_of s.register l).summaries) a) a) a
   event_keeps c s (events.Down n) a = either _ _ (unchanged s) (all_with s n _ (K.stops (node_at s n) (a n)) a) a
@@ -178,12 +184,15 @@ module _ (P : Node → Type 0) (K : NodeKeeps P) where
   step_keeps c s (events.Format n) a = finished (Step.happens c s (events.Format n)) (event_keeps c s (events.Format n) a)
   step_keeps c s (events.Activate name l) a = finished (Step.happens c s (events.Activate name l)) (event_keeps c s (events.Activate name l) a)
   step_keeps c s (events.Append name p) a = finished (Step.happens c s (events.Append name p)) (event_keeps c s (events.Append name p) a)
+  step_keeps c s (events.Batch name ms) a = finished (Step.happens c s (events.Batch name ms)) (event_keeps c s (events.Batch name ms) a)
   step_keeps c s (events.Trim name t) a = finished (Step.happens c s (events.Trim name t)) (event_keeps c s (events.Trim name t) a)
   step_keeps c s (events.Retry name) a = finished (Step.happens c s (events.Retry name)) (event_keeps c s (events.Retry name) a)
   step_keeps c s (events.Drop name) a = finished (Step.happens c s (events.Drop name)) (event_keeps c s (events.Drop name) a)
   step_keeps c s (events.Deliver i) a = finished (Step.happens c s (events.Deliver i)) (event_keeps c s (events.Deliver i) a)
   step_keeps c s (events.Lose i) a = finished (Step.happens c s (events.Lose i)) (event_keeps c s (events.Lose i) a)
   step_keeps c s (events.Open name l from until) a = finished (Step.happens c s (events.Open name l from until)) (event_keeps c s (events.Open name l from until) a)
+  step_keeps c s (events.OpenOne name l from until) a = finished (Step.happens c s (events.OpenOne name l from until)) (event_keeps c s (events.OpenOne name l from until) a)
+  step_keeps c s (events.OpenMessages name l from until) a = finished (Step.happens c s (events.OpenMessages name l from until)) (event_keeps c s (events.OpenMessages name l from until) a)
   step_keeps c s (events.Poll name) a = finished (Step.happens c s (events.Poll name)) (event_keeps c s (events.Poll name) a)
   step_keeps c s (events.Tick n l) a = finished (Step.happens c s (events.Tick n l)) (event_keeps c s (events.Tick n l) a)
   step_keeps c s (events.Down n) a = finished (Step.happens c s (events.Down n)) (event_keeps c s (events.Down n) a)

@@ -26,7 +26,7 @@ use Rattle.ld_msg.specs.Register.{epochs_of, generation_of, lce_of}
 use Rattle.ld_msg.specs.Sequencer.{Sequencer, Recovery, Stage, Seals, Stores, Closes, Planned, Append}
 use Rattle.ld_machine.specs.State.{node_at}
 use Rattle.ld_machine.specs.Facts.{Happened, Writes, Appends, Acks, Issues}
-use Rattle.ld_machine.specs.World.{World, Made, In, Sent, Stored, from_node, to_node_of, has_told, has_settled, has_append, vouched, upheld, chosen, settled, is_made, HasPlan, item, plan_trim, plan_from, MayHold, Unserved, Holds}
+use Rattle.ld_machine.specs.World.{World, Made, In, Sent, Stored, from_node, to_node_of, has_settled, has_append, vouched, upheld, chosen, settled, is_made, HasPlan, item, plan_trim, plan_from, MayHold, Unserved, Holds}
 
 -- every plain state that some node may hold
 abbrev pub AtNodes : World → (ℕ → Plain → Type 0) → Type 0
