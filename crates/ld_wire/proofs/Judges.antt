@@ -41,11 +41,12 @@ kind_passes (bodies.ReadPage round n upto c es) = refl
 kind_passes (bodies.ReadEnded round n end loss) = refl
 kind_passes (bodies.ReadTrim round n t) = refl
 kind_passes (bodies.ReadWait round n r) = refl
+kind_passes (bodies.ReadOne round n set excluded) = refl
 
-kind_small : (k : ℕ) → is_kind k ≡ true → k ≤ 19
+kind_small : (k : ℕ) → is_kind k ≡ true → k ≤ 20
 kind_small k h = grind (arith, nat_tests)
 
-first_byte : (k : ℕ) (xs : List ℕ) → k ≤ 19 → get_or (big_bytes 1 k ++ xs) 0 0 ≡ k
+first_byte : (k : ℕ) (xs : List ℕ) → k ≤ 20 → get_or (big_bytes 1 k ++ xs) 0 0 ≡ k
 first_byte k xs h = grind (arith, common_steps)
 
 first_of : (m : Msg) (ys : List ℕ) → get_or (msg_bytes m ++ ys) 0 0 ≡ kind_of m.body
@@ -134,7 +135,7 @@ kind_first zero bs h l = absurd (omega arith)
 kind_first (suc n) [] h l = absurd (omega arith)
 kind_first (suc n) (b ∷ bs) h l = refl
 
-one_byte_is : (k : ℕ) → k ≤ 19 → big_bytes 1 k ≡ k ∷ []
+one_byte_is : (k : ℕ) → k ≤ 20 → big_bytes 1 k ≡ k ∷ []
 one_byte_is k h = let e : k % 256 ≡ k = omega arith in ap (λ x. x ∷ []) e
 
 whole : (n : ℕ) (bs : List ℕ) (m : Msg) → 1 ≤ n → n ≤ length bs → kind_of m.body ≡ get_or bs 0 0 → drop 1 (take n bs) ≡ behind_kind m → take n bs ≡ msg_bytes m

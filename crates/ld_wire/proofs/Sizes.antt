@@ -6,7 +6,7 @@ use Rattle.ld_msg.specs.declared.msg.Entry.{Entry}
 use Rattle.ld_msg.specs.declared.msg.Who.{Who}
 use Rattle.ld_msg.specs.declared.msg.Who.TheVariants as whos
 use Rattle.ld_msg.specs.declared.msg.What.{What}
-use Rattle.ld_msg.specs.declared.msg.What.TheVariants.{Rec, Hole, Bridge, Plug}
+use Rattle.ld_msg.specs.declared.msg.What.TheVariants.{Rec, Hole, Bridge, Plug, Withheld}
 use Rattle.ld_msg.specs.declared.msg.Summary.{Summary}
 use Rattle.ld_msg.specs.declared.msg.Msg.{Msg}
 use Rattle.ld_msg.specs.declared.msg.Body.{Body}
@@ -33,6 +33,7 @@ fits_carried from to (bodies.ReadPage round n upto c es) h = (h.1.few, h.1.entri
 fits_carried from to (bodies.ReadEnded round n end loss) h = tt
 fits_carried from to (bodies.ReadTrim round n t) h = tt
 fits_carried from to (bodies.ReadWait round n r) h = tt
+fits_carried from to (bodies.ReadOne round n set excluded) h = tt
 
 -- ---- how many bytes there are ----
 
@@ -44,6 +45,7 @@ what_many (Rec p) h = let a = many 1 0 (big_bytes 2 (length p) ++ p) in let b = 
 what_many Hole h = omega arith
 what_many Bridge h = omega arith
 what_many Plug h = omega arith
+what_many Withheld h = omega arith
 
 entry_many : (e : Entry) → IsShort e.what → length (entry_bytes e) ≤ 65550
 entry_many e h = let a = many 8 e.number (big_bytes 4 e.ballot ++ what_bytes e.what) in let b = many 4 e.ballot (what_bytes e.what) in let c = what_many e.what h in omega arith
@@ -76,6 +78,7 @@ body_many (bodies.ReadPage round n upto c es) h = let p = page_many es h.0 h.1 i
 body_many (bodies.ReadEnded round n end loss) h = omega arith
 body_many (bodies.ReadTrim round n t) h = omega arith
 body_many (bodies.ReadWait round n r) h = omega arith
+body_many (bodies.ReadOne round n set excluded) h = omega arith
 
 who_many : (w : Who) (ys : List ℕ) → length (who_bytes w ++ ys) ≡ 5 + length ys
 who_many (whos.Node n) ys = length-append (who_bytes (whos.Node n)) ys

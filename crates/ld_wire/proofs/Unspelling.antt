@@ -1,44 +1,50 @@
 -- What is read as a message is spelled by its bytes.
-use Rattle.std.proofs.Common.{◌≡◌, ◌<◌, ◌≤◌, ◌&&◌, ◌||◌, ◌==◌, not, ℕ, suc, zero, Bool, true, false, cond, List, [], ◌∷◌, ◌++◌, refl, ap, sym, ◌∙◌, subst, append_assoc, drop, length, nat_le, nat_lt, arith}
+use Rattle.std.proofs.Common.{◌≡◌, ◌<◌, ◌≤◌, ◌&&◌, ◌||◌, ◌==◌, not, inl, inr, ℕ, suc, zero, Bool, true, false, cond, List, [], ◌∷◌, ◌++◌, refl, ap, sym, ◌∙◌, subst, append_assoc, drop, length, nat_le, nat_lt, arith}
+use Rattle.std.proofs.lemmas.Bool.{or_cases}
 use Rattle.std.proofs.lemmas.Bool.Decides.{nat_tests}
 use Rattle.std.proofs.lemmas.List.{append-nil}
 use Rattle.byteorder.specs.Endian.{big_bytes}
 use Rattle.ld_lsn.specs.Number.{epoch_of, esn_of, home_epoch}
 use Rattle.ld_ids.specs.Bytes.{AreBytes}
+use Rattle.ld_table.specs.Words.{is_in, any_of}
+use Rattle.ld_ids.specs.Set.{IsSet, set_bits, bits_set, bits_flags, members}
+use Rattle.ld_ids.proofs.Bits.{number_again}
 use Rattle.ld_msg.specs.declared.msg.Who.{Who}
 use Rattle.ld_msg.specs.declared.msg.Who.TheVariants as whos
 use Rattle.ld_msg.specs.declared.msg.What.{What}
-use Rattle.ld_msg.specs.declared.msg.What.TheVariants.{Rec, Hole, Bridge, Plug}
+use Rattle.ld_msg.specs.declared.msg.What.TheVariants.{Rec, Hole, Bridge, Plug, Withheld}
 use Rattle.ld_msg.specs.declared.msg.Entry.{Entry}
 use Rattle.ld_msg.specs.declared.msg.Msg.{Msg}
 use Rattle.ld_msg.specs.declared.msg.Body.{Body}
 use Rattle.ld_msg.specs.declared.msg.Body.TheVariants as bodies
-use Rattle.ld_msg.specs.Bounds.{Is32, Is64, IsEpoch, AreEntries, RiseWithin, IsPage, AreReadable, IsReadable, IsRecord, IsActor, AsksIn, AnswersIn, Fits, IsMessage, ballot_of, last_reader}
+use Rattle.ld_msg.specs.Bounds.{Is32, Is64, IsEpoch, AreEntries, RiseWithin, IsPage, AreReadable, IsReadable, IsRecord, share_out, IsActor, AsksIn, AnswersIn, Fits, IsMessage, ballot_of, last_reader}
 use Rattle.ld_wire.specs.declared.role.Role.{Role}
 use Rattle.ld_wire.specs.declared.role.Role.TheVariants as roles
+use Rattle.ld_fields.specs.declared.beside.Beside.{Beside}
+use Rattle.ld_fields.specs.declared.beside.Beside.TheVariants as besides
 use Rattle.ld_fields.specs.Fields.{Got, follow, field}
 use Rattle.ld_fields.specs.Items.{entries_bytes, flag, greatest_epoch, greatest_lng, is_number, is_tag, may_stand, tagged, read_flag, read_summary, read_log}
 use Rattle.ld_wire.specs.Roles.{may_be, IsIn, sender, receiver}
 use Rattle.ld_wire.specs.Frames.{who_bytes, page_bytes, kind_of, body_bytes}
-use Rattle.ld_wire.specs.Judging.{is_actor, actor, read_who, read_page, read_upto, asks_in, answers_in, may_store, read_store, read_sealed, read_lost, read_clean_here, read_trimmed, read_digest_ask, read_digest_page, read_clean, read_read_ask, read_asked, read_read_page, read_ended, answer, read_answer, read_stored, read_told, read_late, read_body, is_kind, read_msg}
+use Rattle.ld_wire.specs.Judging.{is_actor, actor, read_who, page_beside, read_page, read_upto, asks_in, answers_in, may_store, read_store, read_sealed, read_lost, read_clean_here, read_trimmed, read_digest_ask, read_digest_page, read_clean, read_read_ask, read_asked, read_read_page, read_read_one, read_ended, answer, read_answer, read_stored, read_told, read_late, read_body, is_kind, read_msg}
 use Rattle.ld_fields.proofs.Spelling.{tag_of, after_tag, MayStand}
-use Rattle.ld_fields.proofs.Unspelling.{ended, gone, Spelled, spelled_on, field_spells, by_follow, by_check, by_got, tagged_spelled, entries_spelled, within_is, both_true, tag_most, place_of, what_made, le_is, same_is, lng_is, flag_spelled, summary_spelled, log_spelled}
+use Rattle.ld_fields.proofs.Unspelling.{ended, gone, Spelled, spelled_on, Spells, field_spells, by_follow, by_check, by_got, tagged_spelled, entries_spelled, within_is, both_true, tag_most, place_of, what_made, stands_kept, all_kept, le_is, same_is, lng_is, flag_spelled, summary_spelled, log_spelled}
 use Rattle.ld_wire.proofs.Spelling.{who_tag, who_number, sequencer_most}
 
 -- ---- pages ----
 
-pub record PageRead (bs : List ℕ) (bridges : Bool) (from upto at next : ℕ) (es : List Entry) : Type 0 where
+pub record PageRead (bs : List ℕ) (beside : Beside) (from upto at next : ℕ) (es : List Entry) : Type 0 where
   pub spelled : Spelled bs at next (page_bytes es)
   pub few : length es ≤ 64
   pub are : AreEntries es
   pub rise : RiseWithin from upto es
-  pub stand : MayStand bridges es
+  pub stand : MayStand beside es
 
-page_spelled : (bs : List ℕ) (bridges : Bool) (from upto at : ℕ) (es : List Entry) (next : ℕ) → AreBytes bs → read_page bs bridges from upto at ≡ Got es next → PageRead bs bridges from upto at next es
+page_spelled : (bs : List ℕ) (beside : Beside) (from upto at : ℕ) (es : List Entry) (next : ℕ) → AreBytes bs → read_page bs beside from upto at ≡ Got es next → PageRead bs beside from upto at next es
 unfolding read_page
-page_spelled bs bridges from upto at es next h r =
+page_spelled bs beside from upto at es next h r =
     by_follow (field 2 bs at) _ es next r (λ count a f r. by_check _ at _ es next r (λ ok r.
-    let s = field_spells 2 bs at count a h f in let u = entries_spelled bs bridges upto count from a es next h s.spelled.within r in let e = u.count_is in let m = le_is count 64 ok in record {
+    let s = field_spells 2 bs at count a h f in let u = entries_spelled bs beside upto count from a es next h s.spelled.within r in let e = u.count_is in let m = le_is count 64 ok in record {
       spelled = spelled_on bs at a next (big_bytes 2 (length es)) (entries_bytes es) (subst (λ x. Spelled bs at a (big_bytes 2 x)) (sym e) s.spelled) u.spelled;
       few = omega arith;
       are = u.are;
@@ -64,18 +70,23 @@ upto_spelled bs from at upto next h r =
       home = same_is (home_epoch from) (home_epoch v) o.1;
     })))))
 
-page_is : (bs : List ℕ) (bridges : Bool) (from upto at mid to next : ℕ) (es : List Entry) → UptoRead bs from at mid upto → PageRead bs bridges from upto to next es → IsPage from upto es
-page_is bs bridges from upto at mid to next es u p = record { range = u.range; bound = u.bound; home = u.home; few = p.few; entries = p.are; rise = p.rise }
+page_is : (bs : List ℕ) (beside : Beside) (from upto at mid to next : ℕ) (es : List Entry) → UptoRead bs from at mid upto → PageRead bs beside from upto to next es → IsPage from upto es
+page_is bs beside from upto at mid to next es u p = record { range = u.range; bound = u.bound; home = u.home; few = p.few; entries = p.are; rise = p.rise }
 
-readable_of : (w : What) → may_stand false (tag_of w) ≡ true → IsReadable w
-readable_of (Rec p) h = tt
-readable_of Hole h = tt
-readable_of Bridge h = absurd cc
-readable_of Plug h = tt
+readable_of : (to : Who) (w : What) → may_stand (page_beside to) (tag_of w) ≡ true → IsReadable to w
+readable_of to (Rec p) h = tt
+readable_of to Hole h = tt
+readable_of (whos.Node n) Bridge h = absurd cc
+readable_of (whos.Sequencer e) Bridge h = absurd cc
+readable_of (whos.Reader r) Bridge h = absurd cc
+readable_of to Plug h = tt
+readable_of (whos.Node n) Withheld h = absurd cc
+readable_of (whos.Sequencer e) Withheld h = absurd cc
+readable_of (whos.Reader r) Withheld h = tt
 
-are_readable : (es : List Entry) → MayStand false es → AreReadable es
-are_readable [] h = tt
-are_readable (e ∷ es) h = (readable_of e.what h.0, are_readable es h.1)
+are_readable : (to : Who) (es : List Entry) → MayStand (page_beside to) es → AreReadable to es
+are_readable to [] h = tt
+are_readable to (e ∷ es) h = (readable_of to e.what h.0, are_readable to es h.1)
 
 -- ---- actors ----
 
@@ -91,6 +102,7 @@ who_made tag n (whos.Reader m) e f = ap (λ t. big_bytes 1 t ++ big_bytes 4 n) e
 role_tag : (role : Role) (tag : ℕ) → may_be role tag ≡ true → tag ≤ 2
 role_tag roles.Node tag h = grind (arith, nat_tests)
 role_tag roles.Sequencer tag h = grind (arith, nat_tests)
+role_tag roles.Reader tag h = grind (arith, nat_tests)
 role_tag roles.Asker tag h = grind (arith, nat_tests)
 role_tag roles.Anyone tag h = grind (arith, nat_tests)
 
@@ -119,6 +131,9 @@ in_role roles.Node (whos.Reader r) h i = absurd cc
 in_role roles.Sequencer (whos.Node n) h i = absurd cc
 in_role roles.Sequencer (whos.Sequencer e) h i = i
 in_role roles.Sequencer (whos.Reader r) h i = absurd cc
+in_role roles.Reader (whos.Node n) h i = absurd cc
+in_role roles.Reader (whos.Sequencer e) h i = absurd cc
+in_role roles.Reader (whos.Reader r) h i = (i, tt)
 in_role roles.Asker (whos.Node n) h i = i
 in_role roles.Asker (whos.Sequencer e) h i = absurd cc
 in_role roles.Asker (whos.Reader r) h i = i
@@ -150,14 +165,24 @@ module _ (bs : List ℕ) (kind : ℕ) (from to : Who) (at : ℕ) where
   made : (b w : Body) (last next : ℕ) → b ≡ w → last ≡ next → BodyRead bs kind from to at last b → BodyRead bs kind from to at next w
   made b w last next e n h = subst (BodyRead bs kind from to at next) e (subst (λ x. BodyRead bs kind from to at x b) n h)
 
-record_of : (ballot n tag : ℕ) (w : What) → may_store ballot n tag ≡ true → tag ≡ tag_of w → epoch_of n ≡ ballot → IsRecord w
-record_of ballot n tag (Rec p) h e k = tt
-record_of ballot n tag Hole h e k = let b = both_true (is_tag n tag) (not (epoch_of n == ballot) || (tag == 0)) h in let x : (epoch_of n == ballot) ≡ true = grind (arith, nat_tests) in
-    let y : (tag == 0) ≡ false = grind (arith, nat_tests) in let z = sym (ap (λ v. not v || (tag == 0)) x ∙ y) ∙ b.1 in absurd cc
-record_of ballot n tag Bridge h e k = let b = both_true (is_tag n tag) (not (epoch_of n == ballot) || (tag == 0)) h in let x : (epoch_of n == ballot) ≡ true = grind (arith, nat_tests) in
-    let y : (tag == 0) ≡ false = grind (arith, nat_tests) in let z = sym (ap (λ v. not v || (tag == 0)) x ∙ y) ∙ b.1 in absurd cc
-record_of ballot n tag Plug h e k = let b = both_true (is_tag n tag) (not (epoch_of n == ballot) || (tag == 0)) h in let x : (epoch_of n == ballot) ≡ true = grind (arith, nat_tests) in
-    let y : (tag == 0) ≡ false = grind (arith, nat_tests) in let z = sym (ap (λ v. not v || (tag == 0)) x ∙ y) ∙ b.1 in absurd cc
+-- the checks of a stored tag
+pub record TagRead (ballot n tag : ℕ) : Type 0 where
+  pub is : is_tag n tag ≡ true
+  pub stands : may_stand besides.Bridges tag ≡ true
+  pub own : epoch_of n ≡ ballot → tag ≡ 0
+
+own_tag : (ballot n tag : ℕ) → (not (epoch_of n == ballot) || (tag == 0)) ≡ true → epoch_of n ≡ ballot → tag ≡ 0
+own_tag ballot n tag h e = grind (arith, nat_tests)
+
+tag_read : (ballot n tag : ℕ) → may_store ballot n tag ≡ true → TagRead ballot n tag
+tag_read ballot n tag h = let b = both_true (is_tag n tag && may_stand besides.Bridges tag) _ h in let c = both_true (is_tag n tag) (may_stand besides.Bridges tag) b.0 in record { is = c.0; stands = c.1; own = own_tag ballot n tag b.1 }
+
+record_of : (w : What) → tag_of w ≡ 0 → IsRecord w
+record_of (Rec p) e = tt
+record_of Hole e = absurd (omega arith)
+record_of Bridge e = absurd (omega arith)
+record_of Plug e = absurd (omega arith)
+record_of Withheld e = absurd (omega arith)
 
 store_is : (n ballot : ℕ) → (is_number n && nat_le (epoch_of n) ballot) ≡ true → IsEpoch (epoch_of n) × (1 ≤ esn_of n) × (epoch_of n ≤ ballot)
 store_is n ballot h = ((grind (arith, nat_tests), grind (arith, nat_tests)), grind (arith, nat_tests), grind (arith, nat_tests))
@@ -170,14 +195,14 @@ store_spelled bs from to at b next h r =
     by_follow (field 1 bs c) _ b next r (λ tag d k r. by_check _ c _ b next r (λ ok2 r.
     by_follow (tagged bs d tag) _ b next r (λ w last q r. by_got _ b last next r (λ is e.
     let s = field_spells 8 bs at n a h f in let t = field_spells 4 bs a lng c h g in let u = field_spells 1 bs c tag d h k in
-    let o = both_true (is_tag n tag) (not (epoch_of n == ballot_of from) || (tag == 0)) ok2 in let i = store_is n (ballot_of from) ok in
-    let v = tagged_spelled bs d tag w last h u.spelled.within (tag_most n tag o.0) q in
+    let o = tag_read (ballot_of from) n tag ok2 in let i = store_is n (ballot_of from) ok in
+    let v = tagged_spelled bs d tag w last h u.spelled.within (tag_most n tag o.is) q in
     let y = t.fits in
     made bs 1 from to at (bodies.Store n lng w) b last next is e (record {
       spelled = spelled_on bs at a last (big_bytes 8 n) _ s.spelled (spelled_on bs a c last (big_bytes 4 lng) _ t.spelled
           (subst (Spelled bs c last) (what_made tag w v.tag_is) (spelled_on bs c d last (big_bytes 1 tag) (after_tag w) u.spelled v.spelled)));
       kind_is = refl;
-      fits = λ x z. let m = sequencer_most from x in ((x, z), lng_is lng ok1, record { epoch = i.0; from_one = i.1; place = place_of n tag w o.0 v.tag_is; ballot = i.2; ballot_most = m.1; short = v.short }, record_of (ballot_of from) n tag w ok2 v.tag_is);
+      fits = λ x z. let m = sequencer_most from x in ((x, z), lng_is lng ok1, record { epoch = i.0; from_one = i.1; place = place_of n tag w o.is v.tag_is; ballot = i.2; ballot_most = m.1; short = v.short }, stands_kept w (subst (λ k. may_stand besides.Bridges k ≡ true) v.tag_is o.stands), λ k. record_of w (sym v.tag_is ∙ o.own k));
     })))))))))
 
 number_spelled : (bs : List ℕ) (kind : ℕ) (from to : Who) (at : ℕ) (b : Body) (next : ℕ) (f : ℕ → Body) → AreBytes bs → ((n : ℕ) → body_bytes (f n) ≡ big_bytes 8 n) → ((n : ℕ) → kind_of (f n) ≡ kind) → ((n : ℕ) → Is64 n → IsIn (sender kind) from → IsIn (receiver kind) to → Fits from to (f n))
@@ -261,13 +286,13 @@ digest_page_spelled bs from to at b next h r =
     by_follow (read_upto bs n a) _ b next r (λ upto c g r.
     by_follow (field 8 bs c) _ b next r (λ trim d k r.
     by_follow (field 4 bs d) _ b next r (λ lng l q r. by_check (nat_le lng greatest_lng) d _ b next r (λ ok1 r.
-    by_follow (read_page bs true n upto l) _ b next r (λ es last p r. by_got _ b last next r (λ is e.
-    let s = field_spells 8 bs at n a h f in let t = upto_spelled bs n a upto c h g in let u = field_spells 8 bs c trim d h k in let v = field_spells 4 bs d lng l h q in let w = page_spelled bs true n upto l es last h p in
+    by_follow (read_page bs besides.Bridges n upto l) _ b next r (λ es last p r. by_got _ b last next r (λ is e.
+    let s = field_spells 8 bs at n a h f in let t = upto_spelled bs n a upto c h g in let u = field_spells 8 bs c trim d h k in let v = field_spells 4 bs d lng l h q in let w = page_spelled bs besides.Bridges n upto l es last h p in
     let o3 = u.fits in let o4 = v.fits in
     made bs 8 from to at (bodies.DigestPage n upto trim lng es) b last next is e (record {
       spelled = spelled_on bs at a last (big_bytes 8 n) _ s.spelled (spelled_on bs a c last (big_bytes 8 upto) _ t.spelled (spelled_on bs c d last (big_bytes 8 trim) _ u.spelled (spelled_on bs d l last (big_bytes 4 lng) _ v.spelled w.spelled)));
       kind_is = refl;
-      fits = λ x z. ((x, z), page_is bs true n upto a c l last es t w, omega arith, lng_is lng ok1);
+      fits = λ x z. ((x, z), page_is bs besides.Bridges n upto a c l last es t w, all_kept es w.stand, omega arith, lng_is lng ok1);
     }))))))))
 
 clean_spelled : (bs : List ℕ) (from to : Who) (at : ℕ) (b : Body) (next : ℕ) → AreBytes bs → read_clean bs at ≡ Got b next → BodyRead bs 18 from to at next b
@@ -301,18 +326,18 @@ asked_spelled bs at p next h r =
 onto_asked : (bs : List ℕ) (at a last round n : ℕ) (xs : List ℕ) → AskedRead bs at a round n → Spelled bs a last xs → Spelled bs at last (big_bytes 4 round ++ (big_bytes 8 n ++ xs))
 onto_asked bs at a last round n xs s t = subst (Spelled bs at last) (append_assoc (big_bytes 4 round) (big_bytes 8 n) xs) (spelled_on bs at a last (big_bytes 4 round ++ big_bytes 8 n) xs s.spelled t)
 
-read_page_spelled : (bs : List ℕ) (from to : Who) (at : ℕ) (b : Body) (next : ℕ) → AreBytes bs → read_read_page bs at ≡ Got b next → BodyRead bs 13 from to at next b
+read_page_spelled : (bs : List ℕ) (from to : Who) (at : ℕ) (b : Body) (next : ℕ) → AreBytes bs → read_read_page to bs at ≡ Got b next → BodyRead bs 13 from to at next b
 unfolding read_read_page kind_of body_bytes sender receiver
 read_page_spelled bs from to at b next h r =
     by_follow (read_asked bs at) _ b next r (λ p a f r.
     by_follow (read_upto bs p.1 a) _ b next r (λ upto c g r.
     by_follow (read_flag bs c) _ b next r (λ clean d k r.
-    by_follow (read_page bs false p.1 upto d) _ b next r (λ es last q r. by_got _ b last next r (λ is e.
-    let s = asked_spelled bs at p a h f in let t = upto_spelled bs p.1 a upto c h g in let u = flag_spelled bs c clean d h k in let w = page_spelled bs false p.1 upto d es last h q in
+    by_follow (read_page bs (page_beside to) p.1 upto d) _ b next r (λ es last q r. by_got _ b last next r (λ is e.
+    let s = asked_spelled bs at p a h f in let t = upto_spelled bs p.1 a upto c h g in let u = flag_spelled bs c clean d h k in let w = page_spelled bs (page_beside to) p.1 upto d es last h q in
     made bs 13 from to at (bodies.ReadPage p.0 p.1 upto clean es) b last next is e (record {
       spelled = onto_asked bs at a last p.0 p.1 _ s (spelled_on bs a c last (big_bytes 8 upto) _ t.spelled (spelled_on bs c d last (big_bytes 1 (flag clean)) _ u w.spelled));
       kind_is = refl;
-      fits = λ x z. ((x, z, s.round_fits, s.number, s.fits), page_is bs false p.1 upto a c d last es t w, are_readable es w.stand);
+      fits = λ x z. ((x, z, s.round_fits, s.number, s.fits), page_is bs (page_beside to) p.1 upto a c d last es t w, are_readable to es w.stand);
     }))))))
 
 answer_spelled : (bs : List ℕ) (kind : ℕ) (from to : Who) (at : ℕ) (b : Body) (next : ℕ) → AreBytes bs
@@ -328,6 +353,41 @@ answer_spelled bs kind from to at b next h e k g r =
       kind_is = k p.0 p.1 x;
       fits = g p.0 p.1 x s.round_fits s.number s.fits (omega arith);
     }))))
+
+bits_spelled : (bs : List ℕ) (at x next : ℕ) → Spells bs 2 at x next → Spelled bs at next (big_bytes 2 (set_bits (bits_set x)))
+bits_spelled bs at x next s = let f = s.fits in subst (λ v. Spelled bs at next (big_bytes 2 v)) (sym (number_again x (omega arith))) s.spelled
+
+are_set : (x : ℕ) → IsSet (bits_set x)
+unfolding bits_flags
+are_set x = refl
+
+neither : (a b : Bool) → (not a || b) ≡ false → (a ≡ true) × (b ≡ false)
+neither true b e = (refl, e)
+neither false b e = absurd cc
+
+-- where no one is beside the others, each of these is among them
+among : (ns ms : List ℕ) → any_of (λ n. not (is_in n ns)) ms ≡ false → (n : ℕ) → is_in n ms ≡ true → is_in n ns ≡ true
+among ns [] e n h = absurd cc
+among ns (m ∷ ms) e n h = let b = neither (is_in m ns) (any_of (λ k. not (is_in k ns)) ms) e in elim (or_cases (m == n) (is_in n ms) h) [
+  | inl here ↦ subst (λ k. is_in k ns ≡ true) (same_is m n here) b.0
+  | inr later ↦ among ns ms b.1 n later
+]
+
+not_true : (b : Bool) → not b ≡ true → b ≡ false
+not_true true e = absurd cc
+not_true false e = refl
+
+read_one_spelled : (bs : List ℕ) (from to : Who) (at : ℕ) (b : Body) (next : ℕ) → AreBytes bs → read_read_one bs at ≡ Got b next → BodyRead bs 20 from to at next b
+unfolding read_read_one kind_of body_bytes sender receiver
+read_one_spelled bs from to at b next h r =
+    by_follow (read_asked bs at) _ b next r (λ p a f r. by_follow (field 2 bs a) _ b next r (λ x c g r. by_follow (field 2 bs c) _ b next r (λ y d k r. by_check _ c _ b next r (λ ok r. by_got _ b d next r (λ is e.
+    let s = asked_spelled bs at p a h f in let t = field_spells 2 bs a x c h g in let u = field_spells 2 bs c y d h k in
+    let o = both_true (share_out (bits_set y) (bits_set x)) (not (share_out (bits_set x) (bits_set y))) ok in
+    made bs 20 from to at (bodies.ReadOne p.0 p.1 (bits_set x) (bits_set y)) b d next is e (record {
+      spelled = onto_asked bs at a d p.0 p.1 _ s (spelled_on bs a c d (big_bytes 2 (set_bits (bits_set x))) _ (bits_spelled bs a x c t) (bits_spelled bs c y d u));
+      kind_is = refl;
+      fits = λ v w. (v.0, v.1, w, s.round_fits, s.number, s.fits, among (members (bits_set x)) (members (bits_set y)) (not_true _ o.1), o.0, are_set x, are_set y);
+    }))))))
 
 ended_spelled : (bs : List ℕ) (from to : Who) (at : ℕ) (b : Body) (next : ℕ) → AreBytes bs → read_ended bs at ≡ Got b next → BodyRead bs 19 from to at next b
 unfolding read_ended kind_of body_bytes sender receiver
@@ -386,7 +446,8 @@ late_body bs kind from to at b next h i l r =
     by_cond (kind == 17) _ _ _ r (λ e r. of_kind_is bs 17 kind from to at next b e (clean_here_spelled bs from to at b next h r)) (λ e1 r.
     by_cond (kind == 18) _ _ _ r (λ e r. of_kind_is bs 18 kind from to at next b e (clean_spelled bs from to at b next h r)) (λ e2 r.
     by_cond (kind == 19) _ _ _ r (λ e r. of_kind_is bs 19 kind from to at next b e (ended_spelled bs from to at b next h r)) (λ e3 r.
-    answer_body bs kind from to at b next (kind == 15) refl h (grind (arith, nat_tests)) (grind (arith, nat_tests)) r)))
+    by_cond (kind == 20) _ _ _ r (λ e r. of_kind_is bs 20 kind from to at next b e (read_one_spelled bs from to at b next h r)) (λ e4 r.
+    answer_body bs kind from to at b next (kind == 15) refl h (grind (arith, nat_tests)) (grind (arith, nat_tests)) r))))
 
 body_spelled : (bs : List ℕ) (kind : ℕ) (from to : Who) (at : ℕ) (b : Body) (next : ℕ) → AreBytes bs → is_kind kind ≡ true → read_body kind from to bs at ≡ Got b next → BodyRead bs kind from to at next b
 unfolding read_body

@@ -1,6 +1,7 @@
 -- Messages as frames: a length of four bytes, and so many bytes behind it.
 use Rattle.std.specs.Prelude.{ℕ, List, ◌++◌, length, ◌≤◌}
 use Rattle.byteorder.specs.Endian.{big_bytes}
+use Rattle.ld_ids.specs.Set.{set_bits}
 use Rattle.ld_msg.specs.declared.msg.Who.{Who}
 use Rattle.ld_msg.specs.declared.msg.Who.TheVariants as whos
 use Rattle.ld_msg.specs.declared.msg.Entry.{Entry}
@@ -19,7 +20,7 @@ who_bytes (whos.Reader r) = big_bytes 1 2 ++ big_bytes 4 r
 abbrev pub page_bytes : List Entry → List ℕ
 page_bytes es = big_bytes 2 (length es) ++ entries_bytes es
 
--- those of the bodies that grew since the first version come last
+-- those of the bodies that grew since the first version come last, but for the asks for one copy, which are new
 unfoldable pub kind_of : Body → ℕ
 kind_of (bodies.Store n lng x) = 1
 kind_of (bodies.Stored n) = 2
@@ -37,6 +38,7 @@ kind_of (bodies.ReadPage round n upto c es) = 13
 kind_of (bodies.ReadEnded round n end loss) = 19
 kind_of (bodies.ReadTrim round n t) = 15
 kind_of (bodies.ReadWait round n r) = 16
+kind_of (bodies.ReadOne round n set excluded) = 20
 
 unfoldable pub body_bytes : Body → List ℕ
 body_bytes (bodies.Store n lng x) = big_bytes 8 n ++ (big_bytes 4 lng ++ what_bytes x)
@@ -55,6 +57,7 @@ body_bytes (bodies.ReadPage round n upto c es) = big_bytes 4 round ++ (big_bytes
 body_bytes (bodies.ReadEnded round n end loss) = big_bytes 4 round ++ (big_bytes 8 n ++ (big_bytes 8 end ++ big_bytes 1 (flag loss)))
 body_bytes (bodies.ReadTrim round n t) = big_bytes 4 round ++ (big_bytes 8 n ++ big_bytes 8 t)
 body_bytes (bodies.ReadWait round n r) = big_bytes 4 round ++ (big_bytes 8 n ++ big_bytes 8 r)
+body_bytes (bodies.ReadOne round n set excluded) = big_bytes 4 round ++ (big_bytes 8 n ++ (big_bytes 2 (set_bits set) ++ big_bytes 2 (set_bits excluded)))
 
 -- what stands behind the length
 unfoldable pub msg_bytes : Msg → List ℕ
@@ -81,3 +84,4 @@ CanCarry (bodies.ReadPage round n upto c es) = (length es ≤ 64) × AreEntries 
 CanCarry (bodies.ReadEnded round n end loss) = Unit {0}
 CanCarry (bodies.ReadTrim round n t) = Unit {0}
 CanCarry (bodies.ReadWait round n r) = Unit {0}
+CanCarry (bodies.ReadOne round n set excluded) = Unit {0}

@@ -1,19 +1,22 @@
 -- How bytes are judged: the message that they begin with, or what is wrong with them.
-use Rattle.std.specs.Prelude.{ℕ, List, length, take, drop, Bool, true, false, ◌&&◌, ◌||◌, not, ◌==◌, nat_lt, nat_le, if◌then◌else◌, get_or}
+use Rattle.std.specs.Prelude.{ℕ, List, length, take, drop, Bool, true, ◌&&◌, ◌||◌, not, ◌==◌, nat_lt, nat_le, if◌then◌else◌, get_or}
 use Rattle.byteorder.specs.Endian.{big_number}
 use Rattle.ld_lsn.specs.Number.{epoch_of, esn_of, home_epoch}
+use Rattle.ld_ids.specs.Set.{bits_set}
 use Rattle.ld_msg.specs.declared.msg.Who.{Who}
 use Rattle.ld_msg.specs.declared.msg.Who.TheVariants as whos
 use Rattle.ld_msg.specs.declared.msg.Entry.{Entry}
 use Rattle.ld_msg.specs.declared.msg.Msg.{Msg}
 use Rattle.ld_msg.specs.declared.msg.Body.{Body}
 use Rattle.ld_msg.specs.declared.msg.Body.TheVariants as bodies
-use Rattle.ld_msg.specs.Bounds.{ballot_of, last_reader}
+use Rattle.ld_msg.specs.Bounds.{ballot_of, last_reader, share_out}
 use Rattle.ld_wire.specs.declared.role.Role.{Role}
 use Rattle.ld_wire.specs.declared.fault.WireFault.{WireFault}
 use Rattle.ld_wire.specs.declared.fault.WireFault.TheVariants as faults
+use Rattle.ld_fields.specs.declared.beside.Beside.{Beside}
+use Rattle.ld_fields.specs.declared.beside.Beside.TheVariants as besides
 use Rattle.ld_fields.specs.Fields.{Read, Got, Off, follow, check, field, within, end_at}
-use Rattle.ld_fields.specs.Items.{greatest_epoch, greatest_lng, is_number, is_tag, tagged, read_entries, read_flag, read_summary, read_log}
+use Rattle.ld_fields.specs.Items.{greatest_epoch, greatest_lng, is_number, is_tag, may_stand, tagged, read_entries, read_flag, read_summary, read_log}
 use Rattle.ld_wire.specs.Roles.{may_be, sender, receiver}
 
 -- ---- actors ----
@@ -37,9 +40,15 @@ read_who role bs at =
 
 -- ---- pages ----
 
--- how many entries, and the entries, bridges among them or not
-unfoldable pub read_page : List ℕ → Bool → ℕ → ℕ → ℕ → Read (List Entry)
-read_page bs bridges from upto at = follow (field 2 bs at) (λ count next. check (nat_le count 64) at (read_entries bs bridges upto count from next))
+-- withheld records stand in pages to readers alone
+abbrev pub page_beside : Who → Beside
+page_beside (whos.Node n) = besides.Nothing
+page_beside (whos.Sequencer e) = besides.Nothing
+page_beside (whos.Reader r) = besides.Withheld
+
+-- how many entries, and the entries, among them what may stand beside records, holes and plugs
+unfoldable pub read_page : List ℕ → Beside → ℕ → ℕ → ℕ → Read (List Entry)
+read_page bs beside from upto at = follow (field 2 bs at) (λ count next. check (nat_le count 64) at (read_entries bs beside upto count from next))
 
 -- the last number of a page
 unfoldable pub read_upto : List ℕ → ℕ → ℕ → Read ℕ
@@ -61,7 +70,7 @@ answers_in (whos.Reader r) round = true
 
 -- what an epoch's own sequencer stores is a record
 abbrev pub may_store : ℕ → ℕ → ℕ → Bool
-may_store ballot n tag = is_tag n tag && (not (epoch_of n == ballot) || (tag == 0))
+may_store ballot n tag = is_tag n tag && may_stand besides.Bridges tag && (not (epoch_of n == ballot) || (tag == 0))
 
 unfoldable pub read_store : ℕ → List ℕ → ℕ → Read Body
 read_store ballot bs at =
@@ -95,7 +104,7 @@ read_digest_page bs at =
     follow (read_upto bs n at_upto) (λ upto at_trim.
     follow (field 8 bs at_trim) (λ t at_lng.
     follow (field 4 bs at_lng) (λ lng at_page. check (nat_le lng greatest_lng) at_lng (
-    follow (read_page bs true n upto at_page) (λ es next. Got (bodies.DigestPage n upto t lng es) next))))))
+    follow (read_page bs besides.Bridges n upto at_page) (λ es next. Got (bodies.DigestPage n upto t lng es) next))))))
 
 unfoldable pub read_clean : List ℕ → ℕ → Read Body
 read_clean bs at = follow (field 4 bs at) (λ e a. check (within 1 greatest_epoch e) at (follow (read_summary bs e a) (λ y next. Got (bodies.Clean e y) next)))
@@ -109,18 +118,30 @@ read_read_ask from bs at =
 unfoldable pub read_asked : List ℕ → ℕ → Read (ℕ × ℕ)
 read_asked bs at = follow (field 4 bs at) (λ round at_from. follow (field 8 bs at_from) (λ n next. check (nat_le 1 n) at_from (Got (round, n) next)))
 
-unfoldable pub read_read_page : List ℕ → ℕ → Read Body
-read_read_page bs at =
+unfoldable pub read_read_page : Who → List ℕ → ℕ → Read Body
+read_read_page to bs at =
     follow (read_asked bs at) (λ asked at_upto.
     follow (read_upto bs asked.1 at_upto) (λ upto at_clean.
     follow (read_flag bs at_clean) (λ clean at_page.
-    follow (read_page bs false asked.1 upto at_page) (λ es next. Got (bodies.ReadPage asked.0 asked.1 upto clean es) next))))
+    follow (read_page bs (page_beside to) asked.1 upto at_page) (λ es next. Got (bodies.ReadPage asked.0 asked.1 upto clean es) next))))
 
 unfoldable pub read_ended : List ℕ → ℕ → Read Body
 read_ended bs at =
     follow (read_asked bs at) (λ asked at_end.
     follow (field 8 bs at_end) (λ end at_loss.
     follow (read_flag bs at_loss) (λ loss next. Got (bodies.ReadEnded asked.0 asked.1 end loss) next)))
+
+-- some node of the set isn't excluded, and each excluded node is one of the set
+abbrev pub may_share : List Bool → List Bool → Bool
+may_share excluded set = share_out excluded set && not (share_out set excluded)
+
+-- what is wrong between a set and its excluded nodes is charged to these
+unfoldable pub read_read_one : List ℕ → ℕ → Read Body
+read_read_one bs at =
+    follow (read_asked bs at) (λ asked at_set.
+    follow (field 2 bs at_set) (λ set at_excluded.
+    follow (field 2 bs at_excluded) (λ excluded next.
+    check (may_share (bits_set excluded) (bits_set set)) at_excluded (Got (bodies.ReadOne asked.0 asked.1 (bits_set set) (bits_set excluded)) next))))
 
 -- an answer of one number to a reader
 abbrev pub answer : ℕ → ℕ → ℕ → ℕ → Body
@@ -148,12 +169,13 @@ read_told kind from bs at =
     else if kind == 10 then follow (field 8 bs at) (λ n next. Got (bodies.Release n) next)
     else follow (field 8 bs at) (λ n next. Got (bodies.Trim n) next)
 
--- what grew since the first version, and the answers of one number
+-- what grew since the first version or is new, and the answers of one number
 unfoldable pub read_late : ℕ → List ℕ → ℕ → Read Body
 read_late kind bs at =
     if kind == 17 then read_clean_here bs at
     else if kind == 18 then read_clean bs at
     else if kind == 19 then read_ended bs at
+    else if kind == 20 then read_read_one bs at
     else read_answer kind bs at
 
 unfoldable pub read_body : ℕ → Who → Who → List ℕ → ℕ → Read Body
@@ -161,7 +183,7 @@ read_body kind from to bs at =
     if nat_le kind 6 then read_stored kind from to bs at
     else if nat_le kind 11 then read_told kind from bs at
     else if kind == 12 then read_read_ask from bs at
-    else if kind == 13 then read_read_page bs at
+    else if kind == 13 then read_read_page to bs at
     else read_late kind bs at
 
 -- ---- frames ----
@@ -190,7 +212,7 @@ framed kind rest (Off place) = Refused (faults.BadField kind place)
 
 -- 5, 9 and 14 were the first version's closes
 abbrev pub is_kind : ℕ → Bool
-is_kind kind = within 1 19 kind && not ((kind == 5) || (kind == 9) || (kind == 14))
+is_kind kind = within 1 20 kind && not ((kind == 5) || (kind == 9) || (kind == 14))
 
 -- behind a length of n
 unfoldable pub of_kind : ℕ → ℕ → List ℕ → Reading

@@ -2,13 +2,15 @@
 ghost use Rattle.std.specs.Prelude.{◌≡◌, ◌≤◌, length, IfOk, IfErr};
 ghost use Rattle.ld_fields.specs.Fields.{Got};
 ghost use Rattle.ld_fields.specs.Faults.{IsOff};
-ghost use Rattle.ld_wire.specs.Judging.{asks_in, answers_in, may_store, answer, read_store, read_sealed, read_lost, read_clean_here, read_trimmed, read_digest_ask, read_digest_page, read_clean, read_read_ask, read_asked, read_read_page, read_ended, read_answer, read_stored, read_told, read_late, read_body};
+ghost use Rattle.ld_wire.specs.Judging.{asks_in, answers_in, may_store, page_beside, answer, read_store, read_sealed, read_lost, read_clean_here, read_trimmed, read_digest_ask, read_digest_page, read_clean, read_read_ask, read_asked, read_read_page, read_ended, read_read_one, read_answer, read_stored, read_told, read_late, read_body};
 
-use crate::page::{read_page, read_upto};
+use crate::asked::may_share;
+use crate::page::{page_beside, read_page, read_upto};
 use ld_fields::{
-    FieldFault, GREATEST_EPOCH, GREATEST_LNG, check, is_number, is_tag, read_flag, read_number,
-    read_summary, read_u8, read_u32, read_what,
+    Beside, FieldFault, GREATEST_EPOCH, GREATEST_LNG, check, is_number, is_tag, may_stand,
+    read_flag, read_number, read_summary, read_u8, read_u16, read_u32, read_what,
 };
+use ld_ids::NodeSet;
 use ld_lsn::Lsn;
 use ld_msg::{Body, Who};
 use std::alloc::Global;
@@ -38,7 +40,7 @@ pub(crate) fn read_body(
         return read_read_ask(bytes, from, at);
     }
     if kind == 13 {
-        return read_read_page(alloc, bytes, at);
+        return read_read_page(alloc, bytes, to, at);
     }
     read_late(bytes, kind, at)
 }
@@ -58,6 +60,9 @@ fn read_late(bytes: &[u8], kind: u8, at: usize) -> Result<(Body, usize), FieldFa
     }
     if kind == 19 {
         return read_ended(bytes, at);
+    }
+    if kind == 20 {
+        return read_read_one(bytes, at);
     }
     read_answer(bytes, kind, at)
 }
@@ -144,7 +149,7 @@ fn read_store(
 fn may_store(ballot: u32, number: Lsn, tag: u8) -> bool
     ensures { result ≡ may_store ballot number tag }
 {
-    is_tag(number, tag) && (number.epoch() != ballot || tag == 0)
+    is_tag(number, tag) && may_stand(Beside::Bridges, tag) && (number.epoch() != ballot || tag == 0)
 }
 
 #[tactic(auto, unfolding(crate::specs::Judging::read_sealed))]
@@ -244,7 +249,7 @@ fn read_digest_page(alloc: Global, bytes: &[u8], at: usize) -> Result<(Body, usi
     let (trim, at_lng) = read_number(bytes, at_trim)?;
     let (lng, at_page) = read_u32(bytes, at_lng)?;
     check(lng <= GREATEST_LNG, at_lng)?;
-    let (entries, next) = read_page(alloc, bytes, true, from, upto, at_page)?;
+    let (entries, next) = read_page(alloc, bytes, Beside::Bridges, from, upto, at_page)?;
     Ok((
         Body::DigestPage {
             from,
@@ -301,16 +306,21 @@ fn asks_in(from: &Who, round: u32) -> bool
 }
 
 #[tactic(auto, unfolding(crate::specs::Judging::read_read_page))]
-fn read_read_page(alloc: Global, bytes: &[u8], at: usize) -> Result<(Body, usize), FieldFault>
+fn read_read_page(
+    alloc: Global,
+    bytes: &[u8],
+    to: &Who,
+    at: usize,
+) -> Result<(Body, usize), FieldFault>
     requires { at ≤ length bytes.now }
-    ensures ok { IfOk result (λ p. read_read_page bytes.now at ≡ Got p.0 p.1) }
+    ensures ok { IfOk result (λ p. read_read_page to.now bytes.now at ≡ Got p.0 p.1) }
     ensures next { IfOk result (λ p. p.1 ≤ length bytes.now) }
-    ensures off { IfErr result (IsOff (read_read_page bytes.now at)) }
+    ensures off { IfErr result (IsOff (read_read_page to.now bytes.now at)) }
 {
     let ((round, from), at_upto) = read_asked(bytes, at)?;
     let (upto, at_clean) = read_upto(bytes, from, at_upto)?;
     let (clean, at_page) = read_flag(bytes, at_clean)?;
-    let (entries, next) = read_page(alloc, bytes, false, from, upto, at_page)?;
+    let (entries, next) = read_page(alloc, bytes, page_beside(to), from, upto, at_page)?;
     Ok((
         Body::ReadPage {
             round,
@@ -339,6 +349,30 @@ fn read_ended(bytes: &[u8], at: usize) -> Result<(Body, usize), FieldFault>
             from,
             end,
             loss,
+        },
+        next,
+    ))
+}
+
+#[tactic(auto, unfolding(crate::specs::Judging::read_read_one))]
+fn read_read_one(bytes: &[u8], at: usize) -> Result<(Body, usize), FieldFault>
+    requires { at ≤ length bytes.now }
+    ensures ok { IfOk result (λ p. read_read_one bytes.now at ≡ Got p.0 p.1) }
+    ensures next { IfOk result (λ p. p.1 ≤ length bytes.now) }
+    ensures off { IfErr result (IsOff (read_read_one bytes.now at)) }
+{
+    let ((round, from), at_set) = read_asked(bytes, at)?;
+    let (set, at_excluded) = read_u16(bytes, at_set)?;
+    let (excluded, next) = read_u16(bytes, at_excluded)?;
+    let set = NodeSet::from_bits(set);
+    let excluded = NodeSet::from_bits(excluded);
+    check(may_share(&excluded, &set), at_excluded)?;
+    Ok((
+        Body::ReadOne {
+            round,
+            from,
+            set,
+            excluded,
         },
         next,
     ))

@@ -97,7 +97,7 @@ fn read_behind(alloc: Global, bytes: &[u8], size: usize) -> Result<Option<Msg>, 
 fn is_kind(kind: u8) -> bool
     ensures { result ≡ is_kind kind }
 {
-    1 <= kind && kind <= 19 && !(kind == 5 || kind == 9 || kind == 14)
+    1 <= kind && kind <= 20 && !(kind == 5 || kind == 9 || kind == 14)
 }
 
 /// The message of the kind that the bytes of a frame are, the kind among them.

@@ -2,6 +2,7 @@
 #![tactic(auto)]
 
 mod actor;
+mod asked;
 mod decoder;
 mod fault;
 mod fields;

@@ -3,11 +3,11 @@ ghost use Rattle.std.specs.Prelude.{◌≡◌, ◌≤◌, length, IfOk, IfErr};
 ghost use Rattle.ld_fields.specs.Fields.{Got};
 ghost use Rattle.ld_fields.specs.Faults.{IsOff};
 ghost use Rattle.ld_lsn.specs.Number.{home_epoch};
-ghost use Rattle.ld_wire.specs.Judging.{read_page, read_upto};
+ghost use Rattle.ld_wire.specs.Judging.{page_beside, read_page, read_upto};
 
-use ld_fields::{FieldFault, check, read_entries, read_number, read_u16};
+use ld_fields::{Beside, FieldFault, check, read_entries, read_number, read_u16};
 use ld_lsn::Lsn;
-use ld_msg::Entries;
+use ld_msg::{Entries, Who};
 use std::alloc::Global;
 
 /// The greatest count of entries in a page.
@@ -36,22 +36,33 @@ fn home_epoch(number: Lsn) -> u32
     epoch
 }
 
-/// The count of a page at a place, and its entries, bridges among them or not.
+/// What may stand beside records, holes and plugs in a page to an asker.
+pub(crate) fn page_beside(to: &Who) -> Beside
+    ensures { result ≡ page_beside to.now }
+{
+    match to {
+        Who::Node(_) => Beside::Nothing,
+        Who::Sequencer(_) => Beside::Nothing,
+        Who::Reader(_) => Beside::Withheld,
+    }
+}
+
+/// The count of a page at a place, and its entries, among them what may stand beside records, holes and plugs.
 #[tactic(auto, unfolding(crate::specs::Judging::read_page))]
 pub(crate) fn read_page(
     alloc: Global,
     bytes: &[u8],
-    bridges: bool,
+    beside: Beside,
     from: Lsn,
     upto: Lsn,
     at: usize,
 ) -> Result<(Entries, usize), FieldFault>
     requires { at ≤ length bytes.now }
-    ensures ok { IfOk result (λ p. read_page bytes.now bridges from upto at ≡ Got p.0 p.1) }
+    ensures ok { IfOk result (λ p. read_page bytes.now beside from upto at ≡ Got p.0 p.1) }
     ensures next { IfOk result (λ p. p.1 ≤ length bytes.now) }
-    ensures off { IfErr result (IsOff (read_page bytes.now bridges from upto at)) }
+    ensures off { IfErr result (IsOff (read_page bytes.now beside from upto at)) }
 {
     let (count, at_entries) = read_u16(bytes, at)?;
     check(count <= MOST_ENTRIES, at)?;
-    read_entries(alloc, bytes, bridges, upto, count, from, at_entries)
+    read_entries(alloc, bytes, beside, upto, count, from, at_entries)
 }

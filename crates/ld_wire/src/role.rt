@@ -9,6 +9,8 @@ pub enum Role {
     Node,
     /// The log's sequencer.
     Sequencer,
+    /// A reader.
+    Reader,
     /// A reader, or a node that refills.
     Asker,
     /// Each of them.
@@ -23,6 +25,7 @@ impl Role {
         match self {
             Role::Node => tag == 0,
             Role::Sequencer => tag == 1,
+            Role::Reader => tag == 2,
             Role::Asker => tag == 0 || tag == 2,
             Role::Anyone => tag <= 2,
         }
@@ -46,6 +49,9 @@ pub fn sender(kind: u8) -> Role
     if kind == 12 {
         return Role::Asker;
     }
+    if kind == 20 {
+        return Role::Reader;
+    }
     Role::Node
 }
 
@@ -57,7 +63,7 @@ pub fn receiver(kind: u8) -> Role
     if kind == 4 {
         return Role::Anyone;
     }
-    if by_sequencer(kind) || kind == 12 {
+    if by_sequencer(kind) || kind == 12 || kind == 20 {
         return Role::Node;
     }
     if 13 <= kind && kind != 17 {

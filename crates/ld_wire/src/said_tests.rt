@@ -2,11 +2,11 @@
 use crate::Decoder;
 use crate::samples::{
     CLEAN, CLEAN_HERE, DIGEST_ASK, DIGEST_PAGE, LOST_HERE, LOST_HERE_READER, READ_ASK, READ_ENDED,
-    READ_PAGE, READ_PAGE_PLUG, READ_TRIM, READ_WAIT, RELEASE, SEALED_HERE, STORE, STORE_BRIDGE,
-    STORE_PLUG, STORED, TRIM, TRIMMED_HERE,
+    READ_ONE, READ_PAGE, READ_PAGE_PLUG, READ_PAGE_WITHHELD, READ_TRIM, READ_WAIT, RELEASE,
+    SEALED_HERE, STORE, STORE_BRIDGE, STORE_PLUG, STORED, TRIM, TRIMMED_HERE,
 };
 use crate::tests::{ASK, ENDED, TRIM_TO_E1N1, framed};
-use ld_ids::{LogId, NoMemory, NodeId, Payload};
+use ld_ids::{LogId, NoMemory, NodeId, NodeSet, Payload};
 use ld_lsn::Lsn;
 use ld_msg::{Body, Entries, Entry, Msg, Summary, What, Who};
 use std::alloc::Global;
@@ -373,6 +373,33 @@ fn plugs_are_read(rt: HostRuntime) -> Result<(), Fail> {
         entries,
     };
     assert!(rt; says(alloc, READ_PAGE_PLUG, node(4), Who::Reader(7), body));
+    Ok(())
+}
+
+#[test]
+fn one_copy_is_asked_for_and_withheld_by_the_others(rt: HostRuntime) -> Result<(), Fail> {
+    let alloc = rt.alloc();
+    let body = Body::ReadOne {
+        round: 5,
+        from: Lsn::new(1, 1),
+        set: NodeSet::from_bits(0x8007),
+        excluded: NodeSet::from_bits(2),
+    };
+    assert!(rt; says(alloc, READ_ONE, Who::Reader(7), node(4), body));
+    let mut entries = Entries::empty(alloc);
+    entries.push(Entry {
+        number: Lsn::new(1, 2),
+        ballot: 2,
+        what: What::Withheld,
+    })?;
+    let body = Body::ReadPage {
+        round: 5,
+        from: Lsn::new(1, 1),
+        upto: Lsn::new(1, 3),
+        clean: true,
+        entries,
+    };
+    assert!(rt; says(alloc, READ_PAGE_WITHHELD, node(4), Who::Reader(7), body));
     Ok(())
 }
 

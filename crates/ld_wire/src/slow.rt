@@ -49,6 +49,9 @@ fn may_send(kind: u64, tag: u64) -> bool {
     if kind == 1 || kind == 7 || kind == 10 || kind == 11 || kind == 18 {
         return tag == 1;
     }
+    if kind == 20 {
+        return tag == 2;
+    }
     tag == 0 || (kind == 12 && tag == 2)
 }
 
@@ -60,7 +63,7 @@ fn may_get(kind: u64, tag: u64) -> bool {
     if kind == 4 {
         return tag <= 2;
     }
-    tag == 0 || (kind >= 13 && kind != 18 && tag == 2)
+    tag == 0 || (kind >= 13 && kind != 18 && kind != 20 && tag == 2)
 }
 
 fn is_actor(tag: u64, number: u64) -> bool {
@@ -90,8 +93,10 @@ fn is_entry_number(number: u64) -> bool {
     is_epoch(epoch(number)) && place(number) >= 1
 }
 
-fn is_entry_tag(number: u64, tag: u64) -> bool {
-    tag <= 3 && (place(number) < 4_294_967_295 || tag == 2)
+/// Whether an entry may have the tag, where another tag may stand beside 0, 1 and 3.
+fn is_entry_tag(number: u64, tag: u64, beside: u64) -> bool {
+    let stands = tag == 0 || tag == 1 || tag == 3 || tag == beside;
+    stands && (place(number) < 4_294_967_295 || tag == 2)
 }
 
 fn store(body: &[u8]) -> [(usize, usize, bool); 5] {
@@ -104,7 +109,7 @@ fn store(body: &[u8]) -> [(usize, usize, bool); 5] {
         (
             27,
             1,
-            is_entry_tag(stored, tag) && (epoch(stored) < ballot || tag == 0),
+            is_entry_tag(stored, tag, 2) && (epoch(stored) < ballot || tag == 0),
         ),
         (27, 1, true),
         (27, 1, true),
@@ -197,6 +202,18 @@ fn ended(body: &[u8]) -> [(usize, usize, bool); 5] {
     ]
 }
 
+fn one_asked(body: &[u8]) -> [(usize, usize, bool); 5] {
+    let set = number(body, 27, 2);
+    let excluded = number(body, 29, 2);
+    [
+        (15, 4, true),
+        (19, 8, number(body, 19, 8) >= 1),
+        (27, 2, true),
+        (29, 2, set & excluded == excluded && set != excluded),
+        (15, 4, true),
+    ]
+}
+
 /// The first wrong field of those that stand at places of their own.
 fn first_wrong_field(body: &[u8], kind: u64) -> Option<usize> {
     if kind == 1 {
@@ -225,6 +242,9 @@ fn first_wrong_field(body: &[u8], kind: u64) -> Option<usize> {
     }
     if kind == 19 {
         return first_wrong(body, &ended(body));
+    }
+    if kind == 20 {
+        return first_wrong(body, &one_asked(body));
     }
     first_wrong_number(body, kind)
 }
@@ -271,7 +291,7 @@ fn payload(body: &[u8], at: usize) -> Result<usize, usize> {
 fn entry(
     body: &[u8],
     at: usize,
-    bridges: bool,
+    beside: u64,
     least: u64,
     most: u64,
 ) -> Result<(usize, u64), usize> {
@@ -289,11 +309,7 @@ fn entry(
             4,
             epoch(found) <= ballot && is_epoch(ballot),
         ),
-        (
-            at.saturating_add(12),
-            1,
-            is_entry_tag(found, tag) && (bridges || tag != 2),
-        ),
+        (at.saturating_add(12), 1, is_entry_tag(found, tag, beside)),
     ];
     if let Some(place) = first_wrong(body, &fields) {
         return Err(place);
@@ -308,12 +324,12 @@ fn entry(
     }
 }
 
-fn entries(body: &[u8], at: usize, bridges: bool, from: u64, most: u64) -> Result<usize, usize> {
+fn entries(body: &[u8], at: usize, beside: u64, from: u64, most: u64) -> Result<usize, usize> {
     let count = number(body, at, 2);
     let mut next = at.saturating_add(2);
     let mut least = from;
     for _ in 0..count {
-        match entry(body, next, bridges, least, most) {
+        match entry(body, next, beside, least, most) {
             Ok((end, found)) => {
                 next = end;
                 least = found.saturating_add(1);
@@ -335,13 +351,14 @@ fn end(body: &[u8], kind: u64) -> Result<usize, usize> {
         return payload(body, 28);
     }
     if kind == 8 {
-        return entries(body, 43, true, number(body, 15, 8), number(body, 23, 8));
+        return entries(body, 43, 2, number(body, 15, 8), number(body, 23, 8));
     }
     if kind == 13 {
-        return entries(body, 36, false, number(body, 19, 8), number(body, 27, 8));
+        let beside = if number(body, 6, 1) == 2 { 4 } else { 0 };
+        return entries(body, 36, beside, number(body, 19, 8), number(body, 27, 8));
     }
-    let ends: [usize; 20] = [
-        0, 0, 23, 27, 39, 0, 31, 23, 0, 0, 23, 23, 27, 0, 0, 35, 35, 44, 40, 36,
+    let ends: [usize; 21] = [
+        0, 0, 23, 27, 39, 0, 31, 23, 0, 0, 23, 23, 27, 0, 0, 35, 35, 44, 40, 36, 31,
     ];
     match ends.get(kind as usize) {
         Some(end) => Ok(*end),
@@ -352,7 +369,7 @@ fn end(body: &[u8], kind: u64) -> Result<usize, usize> {
 /// Whether messages have the kind.
 pub fn is_kind(kind: u8) -> bool {
     let is_older = kind == 5 || kind == 9 || kind == 14;
-    1 <= kind && kind <= 19 && !is_older
+    1 <= kind && kind <= 20 && !is_older
 }
 
 /// The place of what is wrong in the bytes behind a length, where messages have their kind.

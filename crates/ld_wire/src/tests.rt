@@ -80,7 +80,7 @@ fn changed(alloc: Global, body: &[u8], at: usize, byte: u8) -> Result<Vec<u8>, F
 fn agrees_with_one(alloc: Global, body: &[u8]) -> Result<bool, Fail> {
     for at in 0..body.len() {
         for byte in [
-            0, 1, 2, 3, 4, 5, 9, 14, 16, 19, 20, 64, 65, 127, 200, 254, 255,
+            0, 1, 2, 3, 4, 5, 9, 14, 16, 19, 20, 21, 64, 65, 127, 200, 254, 255,
         ] {
             let bytes = changed(alloc, body, at, byte)?;
             if !agrees(alloc, &bytes) {
@@ -214,7 +214,7 @@ const REFUSED: [(&[u8], WireFault); 14] = [
     (b"\x00\x00\x00\x01\x05", WireFault::BadKind(5)),
     (b"\x00\x00\x00\x01\x09", WireFault::BadKind(9)),
     (b"\x00\x00\x00\x01\x0e", WireFault::BadKind(14)),
-    (b"\x00\x00\x00\x01\x14", WireFault::BadKind(20)),
+    (b"\x00\x00\x00\x01\x15", WireFault::BadKind(21)),
     (b"\x00\x00\x00\x01\x10", WireFault::BadField(16, 1)),
     (
         b"\x00\x00\x00\x16\x0b\x01\x00\x00\x00\x01\x00\x00\x00\x00\x01\x00\x00\x00\x01\x00\x00\x00\x01\x00\x00\x00",

@@ -3,13 +3,14 @@ ghost use Rattle.std.specs.Prelude.{◌≡◌, ◌≤◌, ◌++◌, length, OnOk
 ghost use Rattle.byteorder.specs.Endian.{big_bytes};
 ghost use Rattle.ld_msg.specs.Bounds.{IsMessage, IsShort, AreEntries};
 ghost use Rattle.ld_fields.specs.Items.{what_bytes, summary_bytes, flag};
+ghost use Rattle.ld_ids.specs.Set.{set_bits};
 ghost use Rattle.ld_wire.specs.Frames.{who_bytes, page_bytes, kind_of, body_bytes, msg_bytes, frame_of, CanCarry};
 
 use crate::Frame;
 use ld_fields::{
     put_entries, put_flag, put_number, put_summary, put_u8, put_u16, put_u32, put_what,
 };
-use ld_ids::NoMemory;
+use ld_ids::{NoMemory, NodeSet};
 use ld_lsn::Lsn;
 use ld_msg::{Body, Entry, Msg, Summary, What, Who};
 use std::alloc::Global;
@@ -72,6 +73,7 @@ fn kind(body: &Body) -> u8
         Body::ReadEnded { .. } => 19,
         Body::ReadTrim { .. } => 15,
         Body::ReadWait { .. } => 16,
+        Body::ReadOne { .. } => 20,
     }
 }
 
@@ -152,6 +154,12 @@ fn put_body(out: &mut Vec<u8>, body: &Body) -> Result<(), NoMemory>
             from,
             released,
         } => put_answer(out, *round, *from, *released),
+        Body::ReadOne {
+            round,
+            from,
+            set,
+            excluded,
+        } => put_read_one(out, *round, *from, set, excluded),
     }
 }
 
@@ -276,6 +284,20 @@ fn put_asked(out: &mut Vec<u8>, round: u32, from: Lsn) -> Result<(), NoMemory>
 {
     put_u32(out, round)?;
     put_number(out, from)
+}
+
+fn put_read_one(
+    out: &mut Vec<u8>,
+    round: u32,
+    from: Lsn,
+    set: &NodeSet,
+    excluded: &NodeSet,
+) -> Result<(), NoMemory>
+    ensures { OnOk result (out.new.items ≡ out.old.items ++ (big_bytes 4 round ++ (big_bytes 8 from ++ (big_bytes 2 (set_bits set.now) ++ big_bytes 2 (set_bits excluded.now))))) }
+{
+    put_asked(out, round, from)?;
+    put_u16(out, set.bits())?;
+    put_u16(out, excluded.bits())
 }
 
 fn put_ended(out: &mut Vec<u8>, round: u32, from: Lsn, end: Lsn, loss: bool) -> Result<(), NoMemory>
