@@ -9,9 +9,13 @@ batch_limit = 1024
 abbrev pub two_bytes : ℕ → List ℕ
 two_bytes n = n / 256 ∷ n % 256 ∷ []
 
+-- a message: its length and its bytes
+abbrev pub packed_message : List ℕ → List ℕ
+packed_message m = two_bytes (length m) ++ m
+
 abbrev pub packed_messages : List (List ℕ) → List ℕ
 packed_messages [] = []
-packed_messages (m ∷ ms) = two_bytes (length m) ++ (m ++ packed_messages ms)
+packed_messages (m ∷ ms) = packed_message m ++ packed_messages ms
 
 -- the payload of a batch
 unfoldable pub packed : List (List ℕ) → List ℕ

@@ -2,5 +2,6 @@
 #![tactic(auto)]
 
 mod messages;
+mod pack;
 
 pub use messages::Messages;
