@@ -35,6 +35,12 @@ fn of_a_reader(alloc: Global, node: NodeId) -> Result<Lines, NoMemory> {
         number: Lsn::new(1, 1),
         payload: Payload::new(Vec::new(alloc)),
     })?;
+    lines.push(Line::BatchMessage {
+        name: name(alloc, b"r")?,
+        number: Lsn::new(1, 1),
+        index: 1,
+        payload: Payload::new(Vec::from_slice(alloc, &[0x68, 0x69])?),
+    })?;
     lines.push(Line::Nothing)?;
     Ok(lines)
 }
@@ -84,7 +90,7 @@ fn a_readers_lines_are_written(rt: HostRuntime) -> Result<(), Fail> {
     let mut out = Vec::new(alloc);
     of_a_reader(alloc, node)?.write(alloc, &mut out)?;
     let text =
-        b"msg 10 n.1 r.r readended e0n1\ngap r bridge e0n1 e1n0\nrecord r e1n1 6869\nrecord r e1n1 -\nnone\n";
+        b"msg 10 n.1 r.r readended e0n1\ngap r bridge e0n1 e1n0\nrecord r e1n1 6869\nrecord r e1n1 -\nmessage r e1n1 1 6869\nnone\n";
     assert_eq!(rt; &out[..], &text[..]);
     Ok(())
 }

@@ -5,8 +5,8 @@ ghost use Rattle.ld_transcript.specs.Text.{line_text};
 use crate::line::Line;
 use crate::parts::word;
 use crate::shapes::{
-    gap_line, message_line, name_line, name_lsn_line, name_number_line, node_line, node_lost_line,
-    node_number_line, node_replaced_line, record_line, set_line,
+    batch_line, gap_line, message_line, name_line, name_lsn_line, name_number_line, node_line,
+    node_lost_line, node_number_line, node_replaced_line, record_line, set_line,
 };
 use ld_ids::NoMemory;
 use std::alloc::Global;
@@ -102,6 +102,12 @@ pub fn add(alloc: Global, line: &Line, out: &mut Vec<u8>) -> Result<(), NoMemory
             number,
             payload,
         } => record_line(alloc, out, name, *number, payload),
+        Line::BatchMessage {
+            name,
+            number,
+            index,
+            payload,
+        } => batch_line(alloc, out, name, *number, *index, payload),
         Line::Gap {
             name,
             kind,
