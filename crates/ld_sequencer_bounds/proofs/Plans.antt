@@ -8,9 +8,9 @@ use Rattle.ld_ids.specs.declared.set.Spec.{Spec}
 use Rattle.ld_ids.specs.Choice.{nodes_of}
 use Rattle.ld_lsn.specs.Number.{epoch_of, esn_of, numbered, last_esn}
 use Rattle.ld_msg.specs.declared.msg.What.{What}
-use Rattle.ld_msg.specs.declared.msg.What.TheVariants.{Rec, Hole, Bridge, Plug}
+use Rattle.ld_msg.specs.declared.msg.What.TheVariants.{Rec, Hole, Bridge, Plug, Withheld}
 use Rattle.ld_msg.specs.declared.msg.Entry.{Entry}
-use Rattle.ld_msg.specs.Bounds.{IsLng, Is64, IsEntry, AreEntries, IsShort, IsPage, last_place}
+use Rattle.ld_msg.specs.Bounds.{IsLng, Is64, IsEntry, AreEntries, IsShort, IsKept, IsPage, last_place}
 use Rattle.ld_msg.specs.Digest.{Told, better, is_bridge, says, statement, told_nothing, no_digest, told_page, takes_page, with_page, told_lost, with_lost, asked_anew, with_asks, digest_lng, best, is_content, no_record, record_or, content, digest_trim, trim_place, plan_floor, top_in, top_place, plan_end, Item, record_items, places_between, plan_to, plan}
 use Rattle.ld_table.specs.Words.{with_one}
 use Rattle.ld_msg.specs.Sequencer.{Planned, Storing, planned, storing_of, settle, settled_by}
@@ -123,12 +123,30 @@ short_of loss (Rec p) h = h
 short_of loss Hole h = none_short loss
 short_of loss Bridge h = none_short loss
 short_of loss Plug h = none_short loss
+short_of loss Withheld h = none_short loss
 
 place_of : (loss : Bool) (x : What) → last_place (record_or (no_record loss) x) ≡ last_esn - 1
 place_of loss (Rec p) = refl
 place_of loss Hole = none_place loss
 place_of loss Bridge = none_place loss
 place_of loss Plug = none_place loss
+place_of loss Withheld = none_place loss
+
+none_kept : (loss : Bool) → IsKept (no_record loss)
+none_kept true = tt
+none_kept false = tt
+
+kept_of : (loss : Bool) (x : What) → IsKept (record_or (no_record loss) x)
+kept_of loss (Rec p) = tt
+kept_of loss Hole = none_kept loss
+kept_of loss Bridge = none_kept loss
+kept_of loss Plug = none_kept loss
+kept_of loss Withheld = none_kept loss
+
+-- what a plan says is never withheld
+content_kept : (loss : Bool) (o : Option Entry) → IsKept (content loss o)
+content_kept loss None = none_kept loss
+content_kept loss (Some e) = kept_of loss e.what
 
 content_short : (loss : Bool) (o : Option Entry) → MayBe o → IsShort (content loss o)
 content_short loss None a = none_short loss
@@ -143,6 +161,7 @@ below_bridge (Rec p) h = refl
 below_bridge Hole h = refl
 below_bridge Bridge h = absurd cc
 below_bridge Plug h = refl
+below_bridge Withheld h = refl
 
 top_in_most : (d : List Told) (es : List Entry) → AreEntries es → top_in d es ≤ last_esn - 1
 top_in_most d [] a = omega arith
@@ -185,6 +204,7 @@ module _ (e : ℕ) where
     from_one : 1 ≤ esn_of i.number
     place : esn_of i.number ≤ last_place i.what
     short : IsShort i.what
+    kept : IsKept i.what
 
   abbrev IsPlace : ℕ → Type 0
   IsPlace n = (1 ≤ n) × (n ≤ last_esn - 1)
@@ -197,11 +217,11 @@ module _ (e : ℕ) where
   items_are loss d [] a b = tt
   items_are loss d (n ∷ ns) a b = let p = b.0 in let lo = p.0 in let hi = p.1 in
       let z = esn_numbered e n (omega arith) in let w = content_place loss (best (numbered e n) d) in
-      (record { epoch_is = epoch_numbered e n (omega arith); from_one = omega arith; place = omega arith; short = content_short loss (best (numbered e n) d) (best_is (numbered e n) d a) }, items_are loss d ns a b.1)
+      (record { epoch_is = epoch_numbered e n (omega arith); from_one = omega arith; place = omega arith; short = content_short loss (best (numbered e n) d) (best_is (numbered e n) d a); kept = content_kept loss (best (numbered e n) d) }, items_are loss d ns a b.1)
 
   planned_are : (is : List Item) → AllByRecursion IsItem is → AllByRecursion (IsPlanned e) (planned is)
   planned_are [] a = tt
-  planned_are (i ∷ is) a = (record { epoch_is = a.0.epoch_is; from_one = a.0.from_one; place = a.0.place; short = a.0.short }, planned_are is a.1)
+  planned_are (i ∷ is) a = (record { epoch_is = a.0.epoch_is; from_one = a.0.from_one; place = a.0.place; short = a.0.short; kept = a.0.kept }, planned_are is a.1)
 
   pub plan_is : (loss : Bool) (d : List Told) → AllByRecursion (IsTold e) d → IsStoring e (storing_of (plan e loss d))
   unfolding plan
@@ -217,7 +237,7 @@ module _ (e : ℕ) where
         items = planned_are (plan_to e loss d (plan_end e d)).items
             (all-append IsItem (record_items e loss d (places_between (plan_floor e d) (plan_end e d))) (record { number = numbered e (plan_end e d); what = Bridge } ∷ [])
             (items_are loss d (places_between (plan_floor e d) (plan_end e d)) a (places_are (plan_floor e d + 1) (plan_end e d - 1 - plan_floor e d) (omega arith) (omega arith)))
-            (record { epoch_is = epoch_numbered e (plan_end e d) (omega arith); from_one = omega arith; place = omega arith; short = tt }, tt));
+            (record { epoch_is = epoch_numbered e (plan_end e d) (omega arith); from_one = omega arith; place = omega arith; short = tt; kept = tt }, tt));
       }
 
   -- ---- what nodes settle ----
@@ -226,7 +246,7 @@ module _ (e : ℕ) where
   settle_are p y [] a = tt
   settle_are p y (i ∷ is) a = (
     cond_both (p i.0) (record { what = i.1.what; settled = with_one y i.1.settled }) i.1 (λ (x : Planned). IsPlanned e (i.0, x))
-        (λ t. record { epoch_is = a.0.epoch_is; from_one = a.0.from_one; place = a.0.place; short = a.0.short }) (λ t. a.0),
+        (λ t. record { epoch_is = a.0.epoch_is; from_one = a.0.from_one; place = a.0.place; short = a.0.short; kept = a.0.kept }) (λ t. a.0),
     settle_are p y is a.1,
   )
 

@@ -40,7 +40,7 @@ module _ (own : ℕ) (E : IsEpoch own) where
     -- ---- items of a plan ----
     item_is : (lng : ℕ) → IsLng lng → (i : ℕ × Planned) (y : ℕ) → IsPlanned e i → IsNode y → Fits (whos.Sequencer own) (whos.Node y) (bodies.Store i.0 lng i.1.what)
     item_is lng l i y p h = let z = p.epoch_is in
-        ((E, h), l, record { epoch = (omega arith, (let m = E.1 in omega arith)); from_one = p.from_one; place = p.place; ballot = omega arith; ballot_most = E.1; short = p.short }, (λ q. absurd (omega arith)))
+        ((E, h), l, record { epoch = (omega arith, (let m = E.1 in omega arith)); from_one = p.from_one; place = p.place; ballot = omega arith; ballot_most = E.1; short = p.short }, p.kept, (λ q. absurd (omega arith)))
 
     item_nodes_are : (s : Spec) (lost : List ℕ) (loss : Bool) (wave n : ℕ) (settled : List ℕ) → AllByRecursion IsNode (nodes_of s) → AllByRecursion IsNode (item_nodes s lost loss wave n settled)
     item_nodes_are s lost loss wave n settled a = cond_both (is_wide s lost loss) (without settled (left_nodes s lost)) (cond (nat_lt (length settled) s.r) (choice s lost n wave) []) (AllByRecursion IsNode)
@@ -60,7 +60,7 @@ module _ (own : ℕ) (E : IsEpoch own) where
   -- ---- appends ----
   append_is : (lng : ℕ) → IsLng lng → (p : ℕ × Append) (y : ℕ) → IsAppend own p → IsNode y → Fits (whos.Sequencer own) (whos.Node y) (bodies.Store p.0 lng (Rec p.1.payload))
   append_is lng l p y a h = let z = a.epoch_is in
-      ((E, h), l, record { epoch = subst IsEpoch (sym z) E; from_one = a.from_one; place = a.place; ballot = omega arith; ballot_most = E.1; short = a.short }, (λ q. tt))
+      ((E, h), l, record { epoch = subst IsEpoch (sym z) E; from_one = a.from_one; place = a.place; ballot = omega arith; ballot_most = E.1; short = a.short }, tt, (λ q. tt))
 
   pub append_sent : (lng : ℕ) → IsLng lng → (p : ℕ × Append) (ns : List ℕ) → IsAppend own p → AllByRecursion IsNode ns → Posts own (to_each (bodies.Store p.0 lng (Rec p.1.payload)) ns)
   append_sent lng l p ns a n = each_post (whos.Sequencer own) (bodies.Store p.0 lng (Rec p.1.payload)) ns (λ y h. append_is lng l p y a h) n

@@ -7,7 +7,7 @@ use Rattle.ld_ids.specs.declared.set.Spec.{Spec}
 use Rattle.ld_ids.specs.Choice.{nodes_of}
 use Rattle.ld_msg.specs.declared.msg.Who.TheVariants as whos
 use Rattle.ld_msg.specs.declared.msg.Body.{Body}
-use Rattle.ld_msg.specs.Bounds.{IsLng, Is64, IsSummary, IsShort, AreEntries, Fits, last_place}
+use Rattle.ld_msg.specs.Bounds.{IsLng, Is64, IsSummary, IsShort, IsKept, AreEntries, Fits, last_place}
 use Rattle.ld_msg.specs.Digest.{Told}
 use Rattle.ld_msg.specs.Sequencer.{Append, Planned, Storing, Stage, Seals, Stores, Closes, payload_limit}
 
@@ -32,6 +32,7 @@ pub record IsPlanned (epoch : ℕ) (i : ℕ × Planned) : Type 0 where
   pub from_one : 1 ≤ esn_of i.0
   pub place : esn_of i.0 ≤ last_place i.1.what
   pub short : IsShort i.1.what
+  pub kept : IsKept i.1.what
 
 pub record IsStoring (epoch : ℕ) (g : Storing) : Type 0 where
   pub trim : Is64 g.trim
