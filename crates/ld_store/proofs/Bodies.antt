@@ -4,7 +4,7 @@ use Rattle.std.proofs.lemmas.List.Elements.{All-nil, All-cons}
 use Rattle.byteorder.specs.Endian.{big_bytes}
 use Rattle.ld_journal.specs.Format.{records, Fits, framed}
 use Rattle.ld_msg.specs.declared.msg.What.{What}
-use Rattle.ld_msg.specs.declared.msg.What.TheVariants.{Rec, Hole, Bridge, Plug}
+use Rattle.ld_msg.specs.declared.msg.What.TheVariants.{Rec, Hole, Bridge, Plug, Withheld}
 use Rattle.ld_msg.specs.declared.msg.Entry.{Entry}
 use Rattle.ld_msg.specs.Bounds.{AreEntries, IsShort}
 use Rattle.ld_op.specs.declared.op.Op.{Op}
@@ -45,6 +45,7 @@ what_long (Rec p) = omega (arith, length-append (big_bytes 2 (length p)) p)
 what_long Hole = refl
 what_long Bridge = refl
 what_long Plug = refl
+what_long Withheld = refl
 
 entry_long : (e : Entry) → length (entry_bytes e) ≡ entry_length e
 entry_long e = omega (arith, what_long e.what)
@@ -72,6 +73,7 @@ what_short (Rec p) short = omega (arith, short)
 what_short Hole short = omega arith
 what_short Bridge short = omega arith
 what_short Plug short = omega arith
+what_short Withheld short = omega arith
 
 entries_short : (es : List Entry) → AreEntries es → entries_length es ≤ length es * 65550
 entries_short [] are = omega arith
