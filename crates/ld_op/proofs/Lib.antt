@@ -10,6 +10,7 @@ pub mod Accepts
 pub mod HavePlaces
 pub mod There
 pub mod Pages
+pub mod Carried
 pub mod Walks
 pub mod Parts
 pub mod Writes

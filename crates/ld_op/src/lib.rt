@@ -1,6 +1,7 @@
 //! The ops of a node's journal, and the records that they stand in.
 #![tactic(auto)]
 
+mod carries;
 mod decode;
 mod encode;
 mod entries;
@@ -18,6 +19,7 @@ mod summaries;
 mod tests;
 mod version;
 
+pub use carries::Carries;
 pub use fault::OpFault;
 pub use op::{Epochs, Op};
 pub use page::Excerpt;

@@ -1,10 +1,10 @@
 // One log's part of a node's plain state.
-ghost use Rattle.std.specs.Prelude.{◌≡◌, ◌≢◌, true, false, None, OnOk, IfOk, option_copied, take};
+ghost use Rattle.std.specs.Prelude.{◌≡◌, ◌≢◌, true, false, None, OnOk, IfOk, option_copied, map, take};
 ghost use Rattle.ld_table.specs.Table.{find, first_from, Ordered};
 ghost use Rattle.ld_lsn.specs.Number.{epoch_of};
 ghost use Rattle.ld_op.specs.Plain.{empty_log, epoch_zero, summary_at, lng_at, lost_log, accepted, sealed_by, cleaned, trimmed_to, refilled_with, refilled};
 ghost use Rattle.ld_op.specs.Places.{has_place};
-ghost use Rattle.ld_op.specs.Picks.{picked};
+ghost use Rattle.ld_op.specs.Picks.{picked, carried};
 ghost use Rattle.ld_op.specs.Ticks.{lowest_unclean};
 ghost use Rattle.ld_op.specs.Answers.{page_limit, page_upto};
 ghost use Rattle.ld_op.specs.Whole.{EndInEpochs};
@@ -13,7 +13,7 @@ ghost use Rattle.ld_op.specs.Room.{log_after, log_has_room, log_named, have_plac
 use crate::entries::EntryMap;
 use crate::known_good::KnownGood;
 use crate::summaries::SummaryMap;
-use crate::{Excerpt, Op};
+use crate::{Carries, Excerpt, Op};
 use ld_ids::NoMemory;
 use ld_lsn::Lsn;
 use ld_msg::{Entries, Entry, Summary};
@@ -180,19 +180,21 @@ impl LogState {
         self.lost_to
     }
 
-    /// The first entries from one number to another, with or without bridges.
-    pub(crate) fn excerpt(
+    /// The first entries from one number to another, with or without bridges, and the payloads of those records that are
+    /// carried.
+    pub(crate) fn excerpt<C: Carries>(
         &self,
         alloc: Global,
         from: Lsn,
         last: Lsn,
         bridges: bool,
+        carries: &C,
     ) -> Result<Excerpt, NoMemory>
-        ensures entries { IfOk result (λ page. page.entries ≡ take page_limit (picked bridges self.now.log.entries from last)) }
+        ensures entries { IfOk result (λ page. page.entries ≡ map (λ e. carried (C.carries carries.now e.number) e) (take page_limit (picked bridges self.now.log.entries from last))) }
         ensures upto { IfOk result (λ page. page.upto ≡ page_upto (picked bridges self.now.log.entries from last) last) }
     {
         self.entries
-            .excerpt(alloc, from.value(), last.value(), bridges)
+            .excerpt(alloc, from.value(), last.value(), bridges, carries)
     }
 
     /// Takes an entry, which has a place, and a last known good place of its epoch, which has one too.

@@ -1,14 +1,15 @@
 // The entries that a page carries.
-ghost use Rattle.std.specs.Prelude.{◌≡◌, ◌<◌, ◌≤◌, ℕ, Bool, [], ◌∷◌, None, IfOk, option_copied, take, length};
+ghost use Rattle.std.specs.Prelude.{◌≡◌, ◌<◌, ◌≤◌, ℕ, Bool, [], ◌∷◌, None, IfOk, option_copied, map, take, length};
 ghost use Rattle.ld_msg.specs.Digest.{is_bridge};
 ghost use Rattle.ld_op.specs.Answers.{page_limit, page_upto, last_number};
 ghost use Rattle.ld_op.specs.Places.{filled};
-ghost use Rattle.ld_op.specs.Picks.{picked, picked_one};
+ghost use Rattle.ld_op.specs.Picks.{picked, picked_one, carried};
 
+use crate::carries::Carries;
 use crate::entries::EntryMap;
 use ld_ids::NoMemory;
 use ld_lsn::Lsn;
-use ld_msg::{Entries, Entry};
+use ld_msg::{Entries, Entry, What};
 use std::alloc::Global;
 
 /// How many entries a page has at most.
@@ -22,16 +23,17 @@ pub struct Excerpt {
 }
 
 impl EntryMap {
-    /// The first entries from one number to another, with or without bridges. Takes time in what it
-    /// gives and leaves out, not in all entries of the log.
-    pub(crate) fn excerpt(
+    /// The first entries from one number to another, with or without bridges, and the payloads of those records that are
+    /// carried. Takes time in what it gives and leaves out, not in all entries of the log.
+    pub(crate) fn excerpt<C: Carries>(
         &self,
         alloc: Global,
         from: u64,
         last: u64,
         bridges: bool,
+        carries: &C,
     ) -> Result<Excerpt, NoMemory>
-        ensures entries { IfOk result (λ page. page.entries ≡ take page_limit (picked bridges (filled self.now) from last)) }
+        ensures entries { IfOk result (λ page. page.entries ≡ map (λ e. carried (C.carries carries.now e.number) e) (take page_limit (picked bridges (filled self.now) from last))) }
         ensures upto { IfOk result (λ page. page.upto ≡ page_upto (picked bridges (filled self.now) from last) last) }
     {
         let mut entries = Entries::empty(alloc);
@@ -47,7 +49,7 @@ impl EntryMap {
                     let upto = last_number(entries.as_slice());
                     return Ok(Excerpt { entries, upto });
                 }
-                entries.push(entry.copy(alloc)?)?;
+                entries.push(copy(alloc, entry, carries)?)?;
             }
         }
         Ok(Excerpt {
@@ -55,6 +57,24 @@ impl EntryMap {
             upto: Lsn::from_u64(last),
         })
     }
+}
+
+/// The entry once more; of a record that isn't carried no payload.
+fn copy<C: Carries>(alloc: Global, entry: &Entry, carries: &C) -> Result<Entry, NoMemory>
+    ensures { IfOk result (λ copy. copy ≡ carried (C.carries carries.now entry.now.number) entry.now) }
+{
+    if carries.carries(entry.number) {
+        return entry.copy(alloc);
+    }
+    let what = match &entry.what {
+        What::Rec(_) => What::Withheld,
+        other => other.copy(alloc)?,
+    };
+    Ok(Entry {
+        number: entry.number,
+        ballot: entry.ballot,
+        what,
+    })
 }
 
 /// What stands in a place, where the page picks it.

@@ -1,17 +1,18 @@
 // A node's plain state: what its journal's ops add up to.
-ghost use Rattle.std.specs.Prelude.{◌≡◌, [], None, OnOk, IfOk, option_copied, take};
+ghost use Rattle.std.specs.Prelude.{◌≡◌, [], None, OnOk, IfOk, option_copied, map, take};
 ghost use Rattle.ld_table.specs.Table.{find, Ordered};
 ghost use Rattle.ld_table.specs.Words.{first};
 ghost use Rattle.ld_op.specs.Plain.{empty_log, unformatted, log_of, summary_at, lng_at, is_lost, end_here, apply, lost_logs};
 ghost use Rattle.ld_op.specs.Room.{HasRoom, held_log, log_named, there_of};
 ghost use Rattle.ld_op.specs.Rising.{IsRising};
-ghost use Rattle.ld_op.specs.Picks.{picked};
+ghost use Rattle.ld_op.specs.Picks.{picked, carried};
 ghost use Rattle.ld_op.specs.Ticks.{lowest_unclean, missing};
 ghost use Rattle.ld_op.specs.Answers.{page_limit, page_upto};
 
+use crate::carries::All;
 use crate::log::{LogState, epoch_zero};
 use crate::logs::LogMap;
-use crate::{Excerpt, Op};
+use crate::{Carries, Excerpt, Op};
 use ld_ids::{LogId, NoMemory};
 use ld_lsn::Lsn;
 use ld_msg::{Entries, Entry, Summary};
@@ -184,7 +185,6 @@ impl Plain {
     /// The first entries of the log from one number to another, at most 64, with or without bridges,
     /// and the number up to which there are no others. Takes time in what it gives and leaves out,
     /// not in all entries of the log.
-    #[tactic(auto, using(crate::proofs::Pages::picked_rules))]
     pub fn excerpt(
         &self,
         alloc: Global,
@@ -196,8 +196,25 @@ impl Plain {
         ensures entries { IfOk result (λ page. page.entries ≡ take page_limit (picked bridges (log_of self.now.state log).entries from last)) }
         ensures upto { IfOk result (λ page. page.upto ≡ page_upto (picked bridges (log_of self.now.state log).entries from last) last) }
     {
+        self.excerpt_of(alloc, log, from, last, bridges, &All)
+    }
+
+    /// The same with the payloads of those records that are carried, and no others.
+    #[tactic(auto, using(crate::proofs::Pages::picked_rules))]
+    pub fn excerpt_of<C: Carries>(
+        &self,
+        alloc: Global,
+        log: LogId,
+        from: Lsn,
+        last: Lsn,
+        bridges: bool,
+        carries: &C,
+    ) -> Result<Excerpt, NoMemory>
+        ensures entries { IfOk result (λ page. page.entries ≡ map (λ e. carried (C.carries carries.now e.number) e) (take page_limit (picked bridges (log_of self.now.state log).entries from last))) }
+        ensures upto { IfOk result (λ page. page.upto ≡ page_upto (picked bridges (log_of self.now.state log).entries from last) last) }
+    {
         match self.log(log) {
-            Some(state) => state.excerpt(alloc, from, last, bridges),
+            Some(state) => state.excerpt(alloc, from, last, bridges, carries),
             None => Ok(Excerpt {
                 entries: Entries::empty(alloc),
                 upto: last,
