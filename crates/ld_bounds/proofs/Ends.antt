@@ -41,6 +41,7 @@ node_end from to (bodies.Clean e y) f = Takes (sequencer_actor from f.0.0) f.0.1
 node_end from to (bodies.Release n) f = Takes (sequencer_actor from f.0.0) f.0.1
 node_end from to (bodies.Trim t) f = Takes (sequencer_actor from f.0.0) f.0.1
 node_end from to (bodies.ReadAsk round n) f = Takes (asker_actor from f.0) f.1
+node_end from to (bodies.ReadOne round n set excluded) f = Takes (asker_actor from f.0) f.2
 node_end from to (bodies.ReadPage round n upto c es) f = Sends f.0.0 (asker_actor to f.0.1)
 node_end from to (bodies.ReadEnded round n end loss) f = Sends f.0.0 (asker_actor to f.0.1)
 node_end from to (bodies.ReadTrim round n t) f = Sends f.0.0 (asker_actor to f.0.1)

@@ -34,6 +34,7 @@ fair_of from to (bodies.Clean e y) f = taker from to f.0.1
 fair_of from to (bodies.Release n) f = taker from to f.0.1
 fair_of from to (bodies.Trim t) f = taker from to f.0.1
 fair_of from to (bodies.ReadAsk round n) f = taker from to f.1
+fair_of from to (bodies.ReadOne round n set excluded) f = taker from to f.2
 fair_of from to (bodies.ReadPage round n upto c es) f = sender from to f.0.0
 fair_of from to (bodies.ReadEnded round n end loss) f = sender from to f.0.0
 fair_of from to (bodies.ReadTrim round n t) f = sender from to f.0.0

@@ -1,6 +1,8 @@
 pub mod Alls
 pub mod Configs
 pub mod NodeStates
+pub mod SwappedSets
+pub mod Senders
 pub mod RegisterChanges
 pub mod Looks
 pub mod Rows

@@ -39,7 +39,7 @@ module _ (c : Config) (B : IsInBounds c) where
   set_is s l a h = or_first l (find l s.specs) h (λ x e. (all-find (IsSetFor c) l s.specs x a e).spec)
 
   shown_is : (r : Register) (l e : ℕ) → IsRegister c r → has_log c l ≡ true → IsSpecFor c l (spec_shown (epochs_of r l) (first_spec c l) e)
-  shown_is r l e R h = let g : Epochs = epochs_of r l in or_first l (find (epoch_shown g e) g.specs) h (λ x k. (all-find (IsFixed c l g.epoch) (epoch_shown g e) g.specs x (begun c r l R).specs k).spec)
+  shown_is r l e R h = let g : Epochs = epochs_of r l in or_first l (find (epoch_shown g e) g.swapped) h (λ x k. (all-find (IsFixed c l g.epoch) (epoch_shown g e) g.swapped x (begun c r l R).swapped k).spec)
 
   -- the summary that is shown is the closed epoch's
   summary_is : (r : Register) (l e : ℕ) → IsRegister c r → IfSome (summary_shown r l e) (IsSummary e)

@@ -82,6 +82,7 @@ module _ (x : Node) (X : IsNodeState x) where
   releases_is l from to (bodies.Clean e y) h f = X
   releases_is l from to (bodies.Trim t) h f = X
   releases_is l from to (bodies.ReadAsk round n) h f = X
+  releases_is l from to (bodies.ReadOne round n set excluded) h f = X
   releases_is l from to (bodies.ReadPage round n upto c es) h f = X
   releases_is l from to (bodies.ReadEnded round n end loss) h f = X
   releases_is l from to (bodies.ReadTrim round n t) h f = X

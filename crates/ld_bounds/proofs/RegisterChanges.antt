@@ -1,5 +1,5 @@
 -- Each change of the register leaves it in its bounds, and no epoch falls.
-use Rattle.std.proofs.Common.{inl, inr, ◌≡◌, ◌∙◌, ◌≤◌, ◌<◌, ℕ, ◌+◌, ◌-◌, ◌^◌, refl, ap, sym, subst, Bool, true, false, not, ◌||◌, ◌==◌, nat_lt, nat_le, cond, List, Option, Some, None, arith}
+use Rattle.std.proofs.Common.{inl, inr, ◌≡◌, ◌∙◌, ◌≤◌, ◌<◌, ℕ, ◌+◌, ◌-◌, ◌^◌, refl, ap, sym, subst, Bool, true, false, not, ◌||◌, ◌==◌, nat_lt, nat_le, cond, List, [], ◌∷◌, Option, Some, None, arith}
 use Rattle.std.specs.Option.{unwrap_or}
 use Rattle.std.specs.List.{AllByRecursion}
 use Rattle.std.proofs.lemmas.Bool.{cond_both, leb-false, eqb-true, not-false}
@@ -11,13 +11,15 @@ use Rattle.ld_ids.specs.declared.set.Spec.{Spec}
 use Rattle.ld_config.specs.declared.config.Config.{Config}
 use Rattle.ld_msg.specs.declared.msg.Summary.{Summary}
 use Rattle.ld_msg.specs.Bounds.{Is32, IsEpoch, IsSummary}
-use Rattle.ld_msg.specs.Register.{Register, Epochs, Armed, Changed, Answer, Granted, AtLimit, Behind, Overtaken, Fails, is_overtaken, activate, close, draw, change, made, unmade, is_made, falls, journal_limit, record_length, no_epochs, epochs_of, generation_of, lce_of, with_epochs, next_epoch, closed_epochs, epoch_limit, generation_limit}
-use Rattle.ld_machine.specs.Config.{has_log}
+use Rattle.ld_msg.specs.Register.{Register, Epochs, Armed, Changed, Answer, Granted, AtLimit, Behind, Overtaken, Fails, is_overtaken, activate, close, draw, change, made, unmade, is_made, falls, journal_limit, record_length, no_epochs, epochs_of, generation_of, lce_of, with_epochs, next_epoch, closed_epochs, epoch_limit, generation_limit, swap, swap_limit, swap_count, swappable, swapped_spec, swapped_specs, swapped_epochs, closed_upto}
+use Rattle.ld_config.specs.Bounds.{IsInBounds}
+use Rattle.ld_machine.specs.Config.{has_log, has_node}
 use Rattle.ld_node_bounds.specs.States.{IsClosed}
 use Rattle.ld_bounds.specs.Specs.{IsSpecFor}
 use Rattle.ld_bounds.specs.Registers.{IsClosedBy, IsFixed, IsEpochs, IsKnownLog, IsGeneration, IsRegister}
 use Rattle.ld_node_bounds.proofs.Alls.{all-put, all-find}
 use Rattle.ld_bounds.proofs.Alls.{all_weaker}
+use Rattle.ld_bounds.proofs.SwappedSets.{swapped_is}
 
 -- the same contents
 abbrev pub Same : Register → Register → Type 0
@@ -92,11 +94,12 @@ module _ (c : Config) where
     pub epoch_most : v.epoch ≤ 2 ^ 32 - 2
     pub lce : v.lce ≤ v.epoch
     pub specs : AllByRecursion (IsFixed c l v.epoch) v.specs
+    pub swapped : AllByRecursion (IsFixed c l v.epoch) v.swapped
     pub summaries : AllByRecursion (IsClosedBy v.lce) v.summaries
 
   or_not_begun : (l : ℕ) (o : Option Epochs) → ((v : Epochs) → o ≡ Some v → IsEpochs c l v) → Begun l (unwrap_or o no_epochs)
-  or_not_begun l None f = record { epoch_most = omega arith; lce = omega arith; specs = tt; summaries = tt }
-  or_not_begun l (Some v) f = let e = f v refl in let z = e.lce in record { epoch_most = e.epoch.1; lce = omega arith; specs = e.specs; summaries = e.summaries }
+  or_not_begun l None f = record { epoch_most = omega arith; lce = omega arith; specs = tt; swapped = tt; summaries = tt }
+  or_not_begun l (Some v) f = let e = f v refl in let z = e.lce in record { epoch_most = e.epoch.1; lce = omega arith; specs = e.specs; swapped = e.swapped; summaries = e.summaries }
 
   pub begun : (r : Register) (l : ℕ) → IsRegister c r → Begun l (epochs_of r l)
   begun r l R = or_not_begun l (find l r.logs) (λ v e. (all-find (IsKnownLog c) l r.logs v R.logs e).epochs)
@@ -123,6 +126,7 @@ module _ (c : Config) where
     epoch = (omega arith, omega arith);
     lce = omega arith;
     specs = all-put (IsFixed c l (e + 1)) (e + 1) s (epochs_of r l).specs (record { from_one = omega arith; handed_out = omega arith; spec = S }) (still_fixed l e (epochs_of r l).specs b.specs);
+    swapped = all-put (IsFixed c l (e + 1)) (e + 1) s (epochs_of r l).swapped (record { from_one = omega arith; handed_out = omega arith; spec = S }) (still_fixed l e (epochs_of r l).swapped b.swapped);
     summaries = b.summaries;
   }
 
@@ -170,6 +174,7 @@ module _ (c : Config) where
     epoch = E.epoch;
     lce = u;
     specs = E.specs;
+    swapped = E.swapped;
     summaries = all-put (IsClosedBy e) e y (epochs_of r l).summaries (record { closed = omega arith; summary = record { epoch = i; summary = s } }) (subst (λ k. AllByRecursion (IsClosedBy k) (epochs_of r l).summaries) q (earlier (lce_of r l) (epochs_of r l).summaries E.summaries));
   }
 
@@ -197,6 +202,34 @@ module _ (c : Config) where
       (λ t. cond_both (is_overtaken (epochs_of r l) y short) (record { register = r; answer = Overtaken (epochs_of r l).epoch }) (change r (with_epochs r l (closed_epochs (epochs_of r l) e y)) 30) (λ (d : Changed). IsAnswered d.answer)
       (λ o. p)
       (λ o. changed r (with_epochs r l (closed_epochs (epochs_of r l) e y)) 30 (λ n a. IsAnswered a) (record { granted = λ n s. tt; made_and_fails = λ n s. tt; fails = λ n s. tt })))
+
+  -- ---- swaps ----
+  module _ (B : IsInBounds c) (upto old new : ℕ) (O : has_node c old ≡ true) (N : has_node c new ≡ true) where
+    swapped_fixed : (l epoch : ℕ) (m : List (ℕ × Spec)) → AllByRecursion (IsFixed c l epoch) m → AllByRecursion (IsFixed c l epoch) (swapped_specs upto old new m)
+    swapped_fixed l epoch [] a = tt
+    swapped_fixed l epoch (s ∷ m) a = (record { from_one = a.0.from_one; handed_out = a.0.handed_out; spec = cond_both (nat_le s.0 upto) (swapped_spec old new s.1) s.1 (IsSpecFor c l) (λ t. swapped_is c B l s.1 old new O N a.0.spec) (λ t. a.0.spec) }, swapped_fixed l epoch m a.1)
+
+    -- where some epoch changes, one was handed out
+    some_handed : (l epoch : ℕ) (m : List (ℕ × Spec)) → AllByRecursion (IsFixed c l epoch) m → (swap_count upto old new m == 0) ≡ false → 1 ≤ epoch
+    some_handed l epoch [] a h = absurd cc
+    some_handed l epoch (s ∷ m) a h = let x = a.0.from_one in let y = a.0.handed_out in omega arith
+
+  swap_epochs : IsInBounds c → (r : Register) (l upto old new : ℕ) → IsRegister c r → has_node c old ≡ true → has_node c new ≡ true → (swappable r l upto old new == 0) ≡ false → IsEpochs c l (swapped_epochs (epochs_of r l) upto old new)
+  swap_epochs B r l upto old new R O N h = let b = begun r l R in let v : Epochs = epochs_of r l in let E = epochs_are r l R (some_handed B (closed_upto v upto) old new O N l v.epoch v.swapped b.swapped h) in record {
+    epoch = E.epoch;
+    lce = E.lce;
+    specs = E.specs;
+    swapped = swapped_fixed B (closed_upto v upto) old new O N l v.epoch v.swapped b.swapped;
+    summaries = E.summaries;
+  }
+
+  pub swap_follows : IsInBounds c → (r : Register) (l upto old new : ℕ) → IsRegister c r → has_log c l ≡ true → has_node c old ≡ true → has_node c new ≡ true → Follows c r (swap r l upto old new).register
+  unfolding swap
+  swap_follows B r l upto old new R h O N = let next : Register = with_epochs r l (swapped_epochs (epochs_of r l) upto old new) in
+      cond_both (swappable r l upto old new == 0) (record { register = r; answer = Granted }) (cond (nat_le swap_limit (epochs_of r l).swaps) (record { register = r; answer = AtLimit }) (change r next 11)) (λ (d : Changed). Follows c r d.register)
+      (λ t. follows_self r R)
+      (λ t. cond_both (nat_le swap_limit (epochs_of r l).swaps) (record { register = r; answer = AtLimit }) (change r next 11) (λ (d : Changed). Follows c r d.register) (λ u. follows_self r R)
+      (λ u. changed_follows r next 11 R (with_follows r l (swapped_epochs (epochs_of r l) upto old new) R h (swap_epochs B r l upto old new R O N t) (omega arith))))
 
   -- ---- generations ----
   or_first : (o : Option ℕ) → ((g : ℕ) → o ≡ Some g → Is32 g) → Is32 (unwrap_or o 0)

@@ -276,13 +276,14 @@ module _ (c : Config) (r : Register) (old : Sequencer) (looks : ℕ → View) (K
     by_reply_is from y (bodies.LostHere n round generation end) f = by_lost_is y n
     by_reply_is from y (bodies.CleanHere n s) f = by_clean_is n s f.2
     by_reply_is from y (bodies.TrimmedHere n t) f = trimmed_is y n t
-    by_reply_is from y (bodies.DigestPage n upto trim lng es) f = in_is (epoch_of n) q.recovery (λ v. digests looks (does_nothing q) v y n upto trim lng es v.stage) Q.recovery (λ v V e. digests_is v V y n upto trim lng es v.stage f.1 f.2 f.3 V.stage)
+    by_reply_is from y (bodies.DigestPage n upto trim lng es) f = in_is (epoch_of n) q.recovery (λ v. digests looks (does_nothing q) v y n upto trim lng es v.stage) Q.recovery (λ v V e. digests_is v V y n upto trim lng es v.stage f.1 f.3 f.4 V.stage)
     by_reply_is from y (bodies.Store n lng w) f = quiet
     by_reply_is from y (bodies.DigestAsk n) f = quiet
     by_reply_is from y (bodies.Clean e s) f = quiet
     by_reply_is from y (bodies.Release n) f = quiet
     by_reply_is from y (bodies.Trim t) f = quiet
     by_reply_is from y (bodies.ReadAsk round n) f = quiet
+    by_reply_is from y (bodies.ReadOne round n set excluded) f = quiet
     by_reply_is from y (bodies.ReadPage round n upto k es) f = quiet
     by_reply_is from y (bodies.ReadEnded round n end loss) f = quiet
     by_reply_is from y (bodies.ReadTrim round n t) f = quiet

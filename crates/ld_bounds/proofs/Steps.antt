@@ -15,6 +15,7 @@ use Rattle.ld_ids.specs.declared.set.Spec.{Spec}
 use Rattle.ld_lsn.specs.Number.{numbered, last_esn}
 use Rattle.ld_config.specs.declared.config.Config.{Config}
 use Rattle.ld_config.specs.Bounds.{IsInBounds}
+use Rattle.ld_batch.specs.Batch.{packed}
 use Rattle.ld_schedule.specs.declared.event.Event.{Event}
 use Rattle.ld_schedule.specs.declared.event.Event.TheVariants as events
 use Rattle.ld_transcript.specs.declared.line.Line.{Line}
@@ -26,8 +27,10 @@ use Rattle.ld_msg.specs.declared.msg.Body.TheVariants as bodies
 use Rattle.ld_msg.specs.Bounds.{Is64, IsEpoch, Fits, IsMessage}
 use Rattle.ld_msg.specs.Network.{Network, send, send_all, message, oldest_new, posted}
 use Rattle.ld_msg.specs.Choice.{choice}
-use Rattle.ld_msg.specs.Register.{Register, Epochs, Answer, Granted, AtLimit, Behind, Overtaken, Fails, epochs_of, epochs_in, generation_of, lce_of, activate, draw}
+use Rattle.ld_msg.specs.Register.{Register, Epochs, Answer, Granted, AtLimit, Behind, Overtaken, Fails, epochs_of, epochs_in, generation_of, lce_of, activate, draw, swap, swappable}
 use Rattle.ld_msg.specs.Sequencer.{Sequencer, Acts, called, acted_messages, on_reply, on_retry, released_of, to_each, activated, bare, recovery_asks, Appending, TooLong, Preempted, EpochFull, WindowFull, Numbered, or_preempted, appending, appended, fresh_append, first_stores, next_esn, payload_limit, window_limit}
+use Rattle.ld_msg.specs.declared.style.Style.{Style}
+use Rattle.ld_msg.specs.declared.style.Style.TheVariants as styles
 use Rattle.ld_msg.specs.Reader.{Reader, Read, opened, is_finished, polled, poll_asks, on_answer}
 use Rattle.ld_op.specs.declared.op.Op.{Op}
 use Rattle.ld_op.specs.declared.op.Op.TheVariants as ops
@@ -58,7 +61,7 @@ use Rattle.ld_bounds.proofs.Looks.{set_is, look_is, taken_is}
 use Rattle.ld_node_bounds.proofs.Ops.{log_state}
 use Rattle.ld_node_bounds.proofs.Handling.{handled_is, answers_sent}
 use Rattle.ld_bounds.proofs.NodeStates.{new_is, node_there, released_is, releases_is, keep_is, load_is, stopped_is, fault_is}
-use Rattle.ld_bounds.proofs.RegisterChanges.{Follows, follows_same, follows_self, activate_follows, Handed, activate_hands, generation_is, draw_follows, closed_summary}
+use Rattle.ld_bounds.proofs.RegisterChanges.{Follows, follows_same, follows_self, activate_follows, Handed, activate_hands, generation_is, draw_follows, swap_follows, closed_summary}
 use Rattle.ld_node_bounds.proofs.Posts.{posts_sent}
 use Rattle.ld_sequencer_bounds.proofs.Posts.{choice_nodes}
 use Rattle.ld_bounds.proofs.Rows.{numbered_end, length_end}
@@ -171,7 +174,7 @@ module _ (c : Config) where
         let x : Node = node_at s n in
         let X = node_is_sound s S n in
         let H = handled_is n h x.plain.generation X.plain.generation (omega arith) (log_of x.plain m.log) (log_state last_handed_out x.plain m.log X.plain) m.log l m.from (Step.released_at x m.log) (released_is x X m.log) m.body f in
-        handles_is (with_node s n (Step.releases x m.log m.body)) (node_put s S n (Step.releases x m.log m.body) h (releases_is x X m.log m.from (whos.Node n) m.body l f)) n m (Step.node_handles x m).op (Step.node_handles x m).answer h l H.op H.answer
+        handles_is (with_node s n (Step.releases x m.log m.body)) (node_put s S n (Step.releases x m.log m.body) h (releases_is x X m.log m.from (whos.Node n) m.body l f)) n m (Step.node_handles n x m).op (Step.node_handles n x m).answer h l H.op H.answer
 
     module _ (s : State) (S : IsSound c s) where
       to_node : (n : ℕ) (m : Msg) → IsLog m.log → Fits m.from (whos.Node n) m.body → IsDoneSoundly c (Step.to_node c s n m)
@@ -209,7 +212,7 @@ module _ (c : Config) where
       to_open : (name : List ℕ) (d : Reader) (m : Msg) → find_named name s.readers ≡ Some d → IsReader c d → Fits m.from (whos.Reader d.number) m.body → IsDoneSoundly c (Step.to_open c s name d m)
       to_open name d m h D f = either s S (is_finished d) (unchanged s) (Step.read s name (on_answer (looks_at c s.register d.log) d (Step.sender_node m.from) m.body)) (λ t. quietly s S)
           (λ t. let z = from_node m.from d.number m.body f in
-          let a = answer_is c (looks_at c s.register d.log) d (Step.sender_node m.from) m.body (looks_are d.log D.log) D z.node z.fits in
+          let a = answer_is c (looks_at c s.register d.log) d (Step.sender_node m.from) m.body (looks_are d.log D.log) (ltb-false d.until d.next t) D z.node z.fits in
           let x : Read = on_answer (looks_at c s.register d.log) d (Step.sender_node m.from) m.body in
           record { state = reader_put s S name d x.reader h a.number a.reader; sends = posts_sent (whos.Reader x.reader.number) x.reader.log x.asks (log_is c B x.reader.log a.reader.log) a.asks })
 
@@ -342,11 +345,15 @@ module _ (c : Config) where
       none_of None h = refl
       none_of (Some x) h = absurd cc
 
-      opens_is : (name : List ℕ) (l from until : ℕ) → has_log c l ≡ true → find_named name s.readers ≡ None → Is64 until → IsDoneSoundly c (Step.opens s name l from until)
-      opens_is name l from until h f u = either s S ((from == 0) || nat_lt until from) _ _ (λ t. saying s S _)
+      opens_is : (style : Style) (name : List ℕ) (l from until : ℕ) → has_log c l ≡ true → find_named name s.readers ≡ None → Is64 until → IsDoneSoundly c (Step.opens s style name l from until)
+      opens_is style name l from until h f u = either s S ((from == 0) || nat_lt until from) _ _ (λ t. saying s S _)
           (λ t. either s S (nat_le Step.reader_limit (length s.readers)) _ _ (λ k. saying s S _)
           (λ k. let p = or_parts (from == 0) (nat_lt until from) t in let z = eqb-false from 0 p.0 in let o = ltb-false until from p.1 in let b = leb-false Step.reader_limit (length s.readers) k in
-          record { state = reader_new s S name (opened l (length s.readers) from until) f refl b (opened_is c l (length s.readers) from until h (omega arith) (omega arith) o u); sends = tt }))
+          record { state = reader_new s S name (opened style l (length s.readers) from until) f refl b (opened_is c style l (length s.readers) from until h (omega arith) (omega arith) o u); sends = tt }))
+
+      opens_new_is : (style : Style) (name : List ℕ) (l from until : ℕ) → Is64 until → IsDoneSoundly c (Step.opens_new c s style name l from until)
+      opens_new_is style name l from until i = either s S (has_log c l && not (is_some (find_named name s.readers))) _ _
+          (λ t. let p = and_parts (has_log c l) (not (is_some (find_named name s.readers))) t in opens_is style name l from until p.0 (none_of (find_named name s.readers) p.1) i) (λ t. quietly s S)
 
       polls_is : (name : List ℕ) (o : Option Reader) → find_named name s.readers ≡ o → IsDoneSoundly c (Step.polls c s name o)
       polls_is name None h = quietly s S
@@ -376,6 +383,20 @@ module _ (c : Config) where
       formats_loaded n Crashed h = saying s S _
       formats_loaded n JournalFull h = quietly s S
 
+      replaces_by : (n other l count : ℕ) (r : Register) (o : Answer) → Follows c s.register r → IsDoneSoundly c (Step.replaces_by s n other l count r o)
+      replaces_by n other l count r Granted F = either s S (count == 0) _ _ (λ t. quietly s S) (λ t. record { state = register_put s S r F; sends = tt })
+      replaces_by n other l count r AtLimit F = saying s S _
+      replaces_by n other l count r (Behind lce) F = quietly s S
+      replaces_by n other l count r (Overtaken k) F = quietly s S
+      replaces_by n other l count r Fails F = record { state = register_put s S r F; sends = tt }
+
+      replaces_is : (n other l : ℕ) → IsDoneSoundly c (Step.where_node c s n (Step.can_replace c s n other l) (Step.replaces s n other l (log_of (node_at s n).plain l).lost_to))
+      replaces_is n other l = let upto : ℕ = (log_of (node_at s n).plain l).lost_to in either s S (has_node c n && Step.can_replace c s n other l) _ _
+          (λ t. let p = and_parts (has_node c n) (Step.can_replace c s n other l) t in
+          let q = and_parts (has_log c l) (has_node c other && not (n == other)) (and_parts (has_log c l && (has_node c other && not (n == other))) _ p.1).0 in
+          let o = (and_parts (has_node c other) (not (n == other)) q.1).0 in
+          replaces_by n other l (swappable s.register l upto other n) (swap s.register l upto other n).register (swap s.register l upto other n).answer (swap_follows c B s.register l upto other n S.register q.0 o p.0)) (λ t. quietly s S)
+
       ticks_by : (n l : ℕ) (t : Ticked) → IsNode n → IsLog l → IsTicked t → IsDoneSoundly c (Step.ticks_as c s n l t)
       ticks_by n l (Cleans epoch y) h i k = keeps_is s S n (ops.Clean l epoch y) [] [] h (i, k.0, k.1) tt
       ticks_by n l Rebuilt h i k = keeps_is s S n (ops.Refilled l) _ [] h i tt
@@ -398,14 +419,16 @@ module _ (c : Config) where
     happens_is s (events.Format n) i S = where_node s S n (is_blank (node_at s n).status) (Step.formats c s n) (λ h. formats_is s S n h)
     happens_is s (events.Activate name l) i S = either s S (has_log c l && not (is_some (find_named name s.sequencers))) _ _ (λ t. activates_is s S name l (and_parts (has_log c l) _ t).0) (λ t. quietly s S)
     happens_is s (events.Append name payload) i S = live s S name (λ q. Step.append_done s name q payload (appending q payload)) (λ q Q. append_by s S name q payload (appending q payload) Q (appending_is s S q payload Q))
+    happens_is s (events.Batch name messages) i S = live s S name (λ q. Step.append_done s name q (packed messages) (appending q (packed messages))) (λ q Q. append_by s S name q (packed messages) (appending q (packed messages)) Q (appending_is s S q (packed messages) Q))
     happens_is s (events.Trim name point) i S = live s S name (λ q. Step.trim_done c s name q point) (λ q Q. trim_by s S name q point Q)
     happens_is s (events.Retry name) i S = live s S name (λ q. Step.acted c s name q (on_retry (looks_at c s.register q.log) q)) (λ q Q. retry_by s S name q Q)
     happens_is s (events.Drop name) i S = live s S name (λ q. only_state (with_sequencer s name (Step.dropped q))) (λ q Q. record { state = sequencer_put s S name (Step.dropped q) (dropped_is c s.register q Q); sends = tt })
     happens_is s (events.Deliver k) i S = delivers_is s S k
     happens_is s (events.Lose k) i S = record { state = marked_is s S k; sends = tt }
     happens_is s (events.Flow k) i S = quietly s S
-    happens_is s (events.Open name l from until) i S = either s S (has_log c l && not (is_some (find_named name s.readers))) _ _
-        (λ t. let p = and_parts (has_log c l) (not (is_some (find_named name s.readers))) t in opens_is s S name l from until p.0 (none_of s S (find_named name s.readers) p.1) i) (λ t. quietly s S)
+    happens_is s (events.Open name l from until) i S = opens_new_is s S styles.EachCopy name l from until i
+    happens_is s (events.OpenOne name l from until) i S = opens_new_is s S styles.OneCopy name l from until i
+    happens_is s (events.OpenMessages name l from until) i S = opens_new_is s S styles.OfMessages name l from until i
     happens_is s (events.Poll name) i S = polls_is s S name (find_named name s.readers) refl
     happens_is s (events.Tick n l) i S = where_node s S n true (Step.ticks c s n l) (λ h. ticks_is s S n l h)
     happens_is s (events.Down n) i S = where_node s S n (is_up (node_at s n).status || is_failed (node_at s n).status) _ (λ h. node_done s S n (Step.stopped (node_at s n)) _ h (stopped_is (node_at s n) (node_is_sound s S n)))
@@ -414,6 +437,7 @@ module _ (c : Config) where
     happens_is s (events.Fail n k) i S = where_node s S n true _ (λ h. node_done s S n (Step.with_fault (node_at s n) (record { left = k; crash = None })) [] h (fault_is (node_at s n) (node_is_sound s S n) (record { left = k; crash = None })))
     happens_is s (events.Tear n k picture) i S = where_node s S n true _ (λ h. node_done s S n (Step.with_fault (node_at s n) (record { left = k; crash = Some picture })) [] h (fault_is (node_at s n) (node_is_sound s S n) (record { left = k; crash = Some picture })))
     happens_is s (events.Set l r x set) i S = sets_is s S l r x set i
+    happens_is s (events.Replace n other l) i S = replaces_is s S n other l
     happens_is s (events.RegFail k done) i S = record { state = register_put s S (Step.armed s.register k done) (follows_same c s.register s.register (Step.armed s.register k done) (refl, refl) (follows_self c s.register S.register)); sends = tt }
 
     -- ---- steps and runs ----
@@ -445,12 +469,15 @@ module _ (c : Config) where
     step_is s (events.Format n) i S = one_is s (events.Format n) i S
     step_is s (events.Activate name l) i S = one_is s (events.Activate name l) i S
     step_is s (events.Append name payload) i S = one_is s (events.Append name payload) i S
+    step_is s (events.Batch name messages) i S = one_is s (events.Batch name messages) i S
     step_is s (events.Trim name point) i S = one_is s (events.Trim name point) i S
     step_is s (events.Retry name) i S = one_is s (events.Retry name) i S
     step_is s (events.Drop name) i S = one_is s (events.Drop name) i S
     step_is s (events.Deliver k) i S = one_is s (events.Deliver k) i S
     step_is s (events.Lose k) i S = one_is s (events.Lose k) i S
     step_is s (events.Open name l from until) i S = one_is s (events.Open name l from until) i S
+    step_is s (events.OpenOne name l from until) i S = one_is s (events.OpenOne name l from until) i S
+    step_is s (events.OpenMessages name l from until) i S = one_is s (events.OpenMessages name l from until) i S
     step_is s (events.Poll name) i S = one_is s (events.Poll name) i S
     step_is s (events.Tick n l) i S = one_is s (events.Tick n l) i S
     step_is s (events.Down n) i S = one_is s (events.Down n) i S
@@ -459,6 +486,7 @@ module _ (c : Config) where
     step_is s (events.Fail n k) i S = one_is s (events.Fail n k) i S
     step_is s (events.Tear n k picture) i S = one_is s (events.Tear n k picture) i S
     step_is s (events.Set l r x set) i S = one_is s (events.Set l r x set) i S
+    step_is s (events.Replace n other l) i S = one_is s (events.Replace n other l) i S
     step_is s (events.RegFail k done) i S = one_is s (events.RegFail k done) i S
 
     -- ---- the start ----

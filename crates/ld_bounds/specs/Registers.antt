@@ -17,7 +17,7 @@ pub record IsClosedBy (lce : ℕ) (y : ℕ × Summary) : Type 0 where
   pub closed : y.0 ≤ lce
   pub summary : IsClosed y
 
--- what is fixed for an epoch of the log up to the greatest one that was handed out
+-- what is fixed for an epoch of the log up to the greatest one that was handed out, or what swaps left of it
 pub record IsFixed (c : Config) (l epoch : ℕ) (s : ℕ × Spec) : Type 0 where
   pub from_one : 1 ≤ s.0
   pub handed_out : s.0 ≤ epoch
@@ -28,6 +28,7 @@ pub record IsEpochs (c : Config) (l : ℕ) (v : Epochs) : Type 0 where
   pub epoch : IsEpoch v.epoch
   pub lce : v.lce < v.epoch
   pub specs : AllByRecursion (IsFixed c l v.epoch) v.specs
+  pub swapped : AllByRecursion (IsFixed c l v.epoch) v.swapped
   pub summaries : AllByRecursion (IsClosedBy v.lce) v.summaries
 
 -- a log of the configuration, with its epochs

@@ -23,6 +23,8 @@ use Rattle.ld_bounds.specs.Readers.{IsNamedReader, AreInPlace}
 -- what an event is within: the last number of a reader has 64 bits, a set has a flag for each node; all else is tested in the step
 abbrev pub IsEvent : Event → Type 0
 IsEvent (events.Open name l from until) = Is64 until
+IsEvent (events.OpenOne name l from until) = Is64 until
+IsEvent (events.OpenMessages name l from until) = Is64 until
 IsEvent (events.Set l r x set) = IsSet set
 IsEvent _ = Unit {0}
 

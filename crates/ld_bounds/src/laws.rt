@@ -66,6 +66,12 @@ pub fn events_are_events(event: &Event)
     if let Event::Open { until, .. } = event {
         let _until = until.value();
     }
+    if let Event::OpenOne { until, .. } = event {
+        let _until = until.value();
+    }
+    if let Event::OpenMessages { until, .. } = event {
+        let _until = until.value();
+    }
     if let Event::Set { set, .. } = event {
         let _count = set.len();
     }
