@@ -1,11 +1,11 @@
 -- The choice, by the nodes that are left.
 use Rattle.std.proofs.Common.{◌≡◌, ℕ, ◌+◌, ◌%◌, ◌≤◌, ◌<◌, List, [], ◌∷◌, length, take, refl, sym, ap}
-use Rattle.std.specs.Prelude.{Bool, true, false, nat_lt}
+use Rattle.std.specs.Prelude.{Bool, true, false, nat_lt, slice_get}
 use Rattle.std.proofs.lemmas.Bool.{lt-ltb, le-ltb}
-use Rattle.ld_table.specs.Words.{without}
+use Rattle.ld_table.specs.Words.{without, first}
 use Rattle.ld_ids.specs.declared.set.Spec.{Spec}
 use Rattle.ld_ids.specs.Set.{members, members_from, no_nodes}
-use Rattle.ld_ids.specs.Choice.{choice_at, ring}
+use Rattle.ld_ids.specs.Choice.{choice_at, first_left, ring}
 use Rattle.ld_copyset.specs.Copyset.{left_at}
 
 pub choice-enough : (spec : Spec) (excluded : List Bool) (place : ℕ) → spec.r ≤ length (left_at spec.set excluded place)
@@ -29,3 +29,11 @@ unfolding choice_at
 choice-few spec excluded place h =
     let few : nat_lt (length (left_at spec.set excluded place)) spec.r ≡ true = lt-ltb (length (left_at spec.set excluded place)) spec.r h in
     rw few (ap (take (spec.r + spec.extras)) (sym (left-none spec.set place)))
+
+get-first : (nodes : List ℕ) → slice_get nodes 0 ≡ first nodes
+get-first [] = refl
+get-first (node ∷ nodes) = refl
+
+pub first-is : (set excluded : List Bool) (place : ℕ) → slice_get (left_at set excluded place) 0 ≡ first_left set excluded place
+unfolding first_left
+first-is set excluded place = get-first (left_at set excluded place)

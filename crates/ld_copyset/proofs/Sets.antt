@@ -1,12 +1,12 @@
 -- Nodes of a list as a set: which they are, and not their order, decides a choice.
-use Rattle.std.proofs.Common.{◌≡◌, ℕ, ◌+◌, ◌<◌, Bool, true, false, ◌||◌, ◌==◌, not, List, [], ◌∷◌, ◌++◌, length, take, slice_get, Some, refl, ap, sym, inl, inr, ◌∙◌, if◌then◌else◌, nat_lt, ◌%◌, arith}
+use Rattle.std.proofs.Common.{◌≡◌, ℕ, ◌+◌, Bool, true, false, ◌||◌, ◌==◌, not, List, [], ◌∷◌, ◌++◌, length, take, slice_get, Some, refl, ap, sym, inl, inr, ◌∙◌, if◌then◌else◌, nat_lt, ◌%◌}
 use Rattle.std.proofs.lemmas.Bool.{eq-eqb, ne_eqb, cases_eq}
 use Rattle.std.proofs.lemmas.List.{take_more}
 use Rattle.std.proofs.lemmas.Option.{slice_get_within, get_or_from_slice_get}
 use Rattle.ld_table.specs.Words.{is_in, without}
 use Rattle.ld_ids.specs.Set.{members, members_from, no_nodes, with_node}
 use Rattle.ld_ids.specs.declared.set.Spec.{Spec}
-use Rattle.ld_ids.specs.Choice.{choice_at, ring, nodes_of, left_out}
+use Rattle.ld_ids.specs.Choice.{choice_at, ring, nodes_of}
 
 pub without_same : (xs ys zs : List ℕ) → ((n : ℕ) → is_in n xs ≡ is_in n ys) → without xs zs ≡ without ys zs
 without_same xs ys [] h = refl

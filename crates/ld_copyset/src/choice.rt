@@ -2,11 +2,12 @@
 ghost use Rattle.std.specs.Prelude.{◌≡◌, ◌≤◌, ◌<◌, ◌+◌, ◌-◌, ◌++◌, ℕ, List, length, take, drop, true, false, IfOk, IfErr, OnOk};
 ghost use Rattle.ld_table.specs.Words.{is_in, without};
 ghost use Rattle.ld_ids.specs.Set.{members};
-ghost use Rattle.ld_ids.specs.Choice.{choice_at, ring};
+ghost use Rattle.ld_lsn.specs.Number.{epoch_of, esn_of};
+ghost use Rattle.ld_ids.specs.Choice.{choice_at, first_left, ring};
 ghost use Rattle.ld_copyset.specs.Copyset.{place_of, left_at, AreDistinct};
 
 use crate::NodeList;
-use ld_ids::{NodeSet, Spec};
+use ld_ids::{NodeId, NodeSet, Spec};
 use ld_lsn::Lsn;
 use thiserror::Error;
 
@@ -57,6 +58,15 @@ pub fn choose_for(spec: &Spec, lsn: Lsn, wave: u32, excluded: &NodeSet) -> Choic
     }
     left.truncate(usize::from(spec.r) + usize::from(spec.extras));
     left
+}
+
+/// The one node of a set that sends the payload of a number, where each is to be sent once: the first one that isn't
+/// excluded, from the number's place on and round. None exactly where none is left.
+pub fn sender(set: &NodeSet, excluded: &NodeSet, lsn: Lsn) -> Option<NodeId>
+    ensures { result ≡ first_left set.now excluded.now (epoch_of lsn + esn_of lsn) }
+{
+    let left = around(set, lsn, 0, excluded);
+    left.nth(0)
 }
 
 /// The nodes of the set that aren't excluded, from the number's place on and round.

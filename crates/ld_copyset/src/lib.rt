@@ -4,7 +4,7 @@
 mod choice;
 mod nodes;
 
-pub use choice::{Choice, TooFew, choose, choose_for};
+pub use choice::{Choice, TooFew, choose, choose_for, sender};
 pub use nodes::NodeList;
 
 #[cfg(test)]
