@@ -9,14 +9,16 @@ use Rattle.ld_lsn.proofs.Texts.{one_lsn as one_number_text}
 use Rattle.ld_config.specs.declared.config.Config.{Config}
 use Rattle.ld_config.specs.Config.{config_of_text}
 use Rattle.ld_words.specs.declared.command.NodeWords.{NodeWords}
+use Rattle.ld_msg.specs.declared.style.Style.{Style}
 use Rattle.ld_words.specs.declared.command.LogWords.{LogWords}
+use Rattle.ld_words.specs.declared.command.AppendWords.{AppendWords}
 use Rattle.ld_words.specs.declared.command.TailWords.{TailWords}
 use Rattle.ld_words.specs.declared.command.Places.{Places}
 use Rattle.ld_words.specs.declared.command.Command.{Command}
 use Rattle.ld_words.specs.declared.command.Command.TheVariants.{Replay, Exercise, Node, Append, Tail}
 use Rattle.ld_words.specs.declared.refusal.Refusal.{Refusal}
 use Rattle.ld_words.specs.Refuses.{Refuses}
-use Rattle.ld_words.specs.Meaning.{Is, IsNumber, IsLsn, IsConfig, Says, IsMember, IsLogOf, IsNodeWords, IsLogWords, IsRange, IsTailWords, IsNamed, Asks, ArePlacesOf, HasNoPlaces, AskForPlaces, AskForNoPlaces}
+use Rattle.ld_words.specs.Meaning.{Is, IsNumber, IsLsn, IsConfig, Says, IsMember, IsLogOf, IsNodeWords, IsLogWords, IsAppendWords, IsRange, IsTailWords, IsNamed, Asks, ArePlacesOf, HasNoPlaces, AskForPlaces, AskForNoPlaces}
 
 -- an argument has one value
 one_text : (name : Text) (rows : List Row) (a b : Text) → Is name rows a → Is name rows b → a ≡ b
@@ -111,19 +113,26 @@ one_log rows a b x y =
     (one_number _ rows 1 65519 a.port b.port (omega arith) x.port y.port)
     (one_number _ rows 1 1000000 a.rounds b.rounds (omega arith) x.rounds y.rounds)
 
-tail_of : LogWords → ℕ → ℕ → TailWords
-tail_of w first last = record { of = w; from = first; until = last }
+one_append : (rows : List Row) (a b : AppendWords) → IsAppendWords rows a → IsAppendWords rows b → a ≡ b
+one_append rows a b x y = ap₂ (λ w s. record { of = w; batches = s }) (one_log rows a.of b.of x.of y.of) (x.batches ∙ sym y.batches)
 
-threefold : {A B X : Type 0} (f : A → B → B → X) (a b : A) (c d g h : B) → a ≡ b → c ≡ d → g ≡ h → f a c g ≡ f b d h
-threefold f a b c d g h e1 e2 e3 = cc
+tail_of : LogWords → ℕ → ℕ → Style → TailWords
+tail_of w first last style = record { of = w; from = first; until = last; style = style }
+
+fourfold : {A B C X : Type 0} (f : A → B → B → C → X) (a b : A) (c d g h : B) (i j : C) → a ≡ b → c ≡ d → g ≡ h → i ≡ j → f a c g i ≡ f b d h j
+fourfold f a b c d g h i j e1 e2 e3 e4 = cc
+
+one_style : (o : Option Style) (a b : Style) → o ≡ Some a → o ≡ Some b → a ≡ b
+one_style o a b x y = let e : Some a ≡ Some b = sym x ∙ y in cc
 
 one_tail : (rows : List Row) (a b : TailWords) → IsTailWords rows a → IsTailWords rows b → a ≡ b
 unfolding tail_of
 one_tail rows a b x y =
-    threefold tail_of a.of b.of a.from b.from a.until b.until
+    fourfold tail_of a.of b.of a.from b.from a.until b.until a.style b.style
     (one_log rows a.of b.of x.of y.of)
     (one_lsn _ rows a.from b.from x.range.from y.range.from)
     (one_lsn _ rows a.until b.until x.range.until y.range.until)
+    (one_style _ a.style b.style x.style y.style)
 
 -- the second letter of a text, which tells the names of the commands apart
 abbrev second : Text → ℕ
@@ -148,7 +157,7 @@ one_named name rows Replay Replay x y = refl
 one_named name rows (Exercise seed events) (Exercise other more) x y =
     ap₂ Exercise (one_number _ rows 0 (2 ^ 64 - 1) seed other (omega arith) x.1.seed y.1.seed) (one_number _ rows 0 100000 events more (omega arith) x.1.events y.1.events)
 one_named name rows (Node n) (Node m) x y = ap Node (one_node rows n m x.1 y.1)
-one_named name rows (Append w) (Append v) x y = ap Append (one_log rows w v x.1 y.1)
+one_named name rows (Append w) (Append v) x y = ap Append (one_append rows w v x.1 y.1)
 one_named name rows (Tail t) (Tail u) x y = ap Tail (one_tail rows t u x.1 y.1)
 one_named name rows a b x y = let e : letter_of a ≡ letter_of b = sym (called name rows a x) ∙ called name rows b y in absurd (omega (arith, e))
 

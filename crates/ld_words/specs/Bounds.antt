@@ -23,5 +23,5 @@ abbrev pub HasBounds : Command → Type 0
 HasBounds Replay = Unit {0}
 HasBounds (Exercise seed events) = Unit {0}
 HasBounds (Node n) = IsInBounds n.config
-HasBounds (Append w) = IsLogInBounds w
+HasBounds (Append w) = IsLogInBounds w.of
 HasBounds (Tail t) = IsTailInBounds t

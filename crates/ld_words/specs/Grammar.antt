@@ -35,12 +35,16 @@ log_shape name = record (new_shape name) {
 }
 
 abbrev pub append_shape : Shape
-append_shape = log_shape (codes "append")
+append_shape = record (new_shape (codes "append")) {
+  rules = option_rule (codes "config") ∷ option_rule (codes "log") ∷ option_rule (codes "register") ∷ option_rule (codes "port")
+      ∷ option_rule (codes "rounds") ∷ flag_rule (codes "batches") ∷ [];
+}
 
 abbrev pub tail_shape : Shape
 tail_shape = record (new_shape (codes "tail")) {
   rules = option_rule (codes "config") ∷ option_rule (codes "log") ∷ option_rule (codes "register") ∷ option_rule (codes "port")
-      ∷ option_rule (codes "rounds") ∷ option_rule (codes "from") ∷ option_rule (codes "until") ∷ [];
+      ∷ option_rule (codes "rounds") ∷ option_rule (codes "from") ∷ option_rule (codes "until")
+      ∷ flag_rule (codes "one-copy") ∷ flag_rule (codes "messages") ∷ [];
 }
 
 -- clap's command has this shape, and nothing in it is for other commands

@@ -10,7 +10,10 @@ use Rattle.ld_ids.specs.Set.{has_node}
 use Rattle.ld_config.specs.declared.config.Config.{Config}
 use Rattle.ld_config.specs.Config.{config_of_text}
 use Rattle.ld_words.specs.declared.command.NodeWords.{NodeWords}
+use Rattle.ld_msg.specs.declared.style.Style.{Style}
+use Rattle.ld_msg.specs.declared.style.Style.TheVariants.{EachCopy, OneCopy, OfMessages}
 use Rattle.ld_words.specs.declared.command.LogWords.{LogWords}
+use Rattle.ld_words.specs.declared.command.AppendWords.{AppendWords}
 use Rattle.ld_words.specs.declared.command.TailWords.{TailWords}
 use Rattle.ld_words.specs.declared.command.Places.{Places}
 use Rattle.ld_words.specs.declared.command.Command.{Command}
@@ -104,16 +107,28 @@ pub record IsRange (rows : List Row) (first last : ℕ) : Type 0 where
   pub some : 1 ≤ first
   pub order : first ≤ last
 
+pub record IsAppendWords (rows : List Row) (w : AppendWords) : Type 0 where
+  pub of : IsLogWords rows w.of
+  pub batches : w.batches ≡ is_true (first_of (codes "batches") rows)
+
+-- one copy is asked for, or messages, or none of both; not both
+abbrev pub style_of : Bool → Bool → Option Style
+style_of false false = Some EachCopy
+style_of true false = Some OneCopy
+style_of false true = Some OfMessages
+style_of true true = None
+
 pub record IsTailWords (rows : List Row) (t : TailWords) : Type 0 where
   pub of : IsLogWords rows t.of
   pub range : IsRange rows t.from t.until
+  pub style : style_of (is_true (first_of (codes "one-copy") rows)) (is_true (first_of (codes "messages") rows)) ≡ Some t.style
 
 -- the command has this name, and these values of its arguments
 abbrev pub IsNamed : Text → List Row → Command → Type 0
 IsNamed name rows Replay = name ≡ codes "replay"
 IsNamed name rows (Exercise seed events) = (name ≡ codes "exercise") × IsExercise rows seed events
 IsNamed name rows (Node n) = (name ≡ codes "node") × IsNodeWords rows n
-IsNamed name rows (Append w) = (name ≡ codes "append") × IsLogWords rows w
+IsNamed name rows (Append w) = (name ≡ codes "append") × IsAppendWords rows w
 IsNamed name rows (Tail t) = (name ≡ codes "tail") × IsTailWords rows t
 
 -- the command is what clap finds in the words
@@ -150,7 +165,7 @@ abbrev pub ArePlacesOf : Command → Places → Type 0
 ArePlacesOf Replay places = ⊥
 ArePlacesOf (Exercise seed events) places = ⊥
 ArePlacesOf (Node n) places = ArePlacesOfNode n places
-ArePlacesOf (Append w) places = ArePlacesOfLog w places
+ArePlacesOf (Append w) places = ArePlacesOfLog w.of places
 ArePlacesOf (Tail t) places = ArePlacesOfLog t.of places
 
 -- the command is one that has neither files nor a port

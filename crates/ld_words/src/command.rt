@@ -3,6 +3,7 @@ use crate::FileName;
 use ld_config::Config;
 use ld_ids::{LogId, NodeId};
 use ld_lsn::Lsn;
+use ld_msg::Style;
 
 /// What the words ask for.
 #[derive(Debug, Drop)]
@@ -15,7 +16,7 @@ pub enum Command {
     /// A node serves its peers.
     Node(NodeWords),
     /// Payloads from standard input are appended to a log.
-    Append(LogWords),
+    Append(AppendWords),
     /// Records of a log are read, and written to standard output.
     Tail(TailWords),
 }
@@ -54,6 +55,15 @@ pub struct LogWords {
     pub rounds: u32,
 }
 
+/// What the words say of a log that is appended to, and how its lines are read.
+#[derive(Debug, Drop)]
+pub struct AppendWords {
+    /// The log, and how it is reached.
+    pub of: LogWords,
+    /// Whether each line is the messages of a batch, with commas between them.
+    pub batches: bool,
+}
+
 /// What the words say of a log that is read, and which records of it.
 #[derive(Debug, Drop)]
 pub struct TailWords {
@@ -63,6 +73,8 @@ pub struct TailWords {
     pub from: Lsn,
     /// The last number that is read, which isn't below the first.
     pub until: Lsn,
+    /// How payloads come, and are written.
+    pub style: Style,
 }
 
 /// The things of the outside that a command needs.

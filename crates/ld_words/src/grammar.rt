@@ -1,7 +1,7 @@
 // The commands and their arguments, as clap has them.
 ghost use Rattle.std.specs.Prelude.{◌≡◌, IfOk, MatchResult, false, map, string_bytes};
 ghost use Rattle.clap.specs.Words.{app_of, rule_of, subcommand_rows_of};
-ghost use Rattle.ld_words.specs.Grammar.{option_rule, flag_rule, exercise_shape, node_shape, log_shape, tail_shape, ld_app, found, IsCommand};
+ghost use Rattle.ld_words.specs.Grammar.{option_rule, flag_rule, exercise_shape, node_shape, log_shape, append_shape, tail_shape, ld_app, found, IsCommand};
 ghost use Rattle.ld_words.specs.Meaning.{IsNoCommand};
 ghost use Rattle.ld_words.specs.Refuses.{Refuses};
 
@@ -61,13 +61,22 @@ fn log_command<'a>(alloc: Global, name: &'a str) -> Result<Command<'a>, AllocErr
         .arg(option(alloc, "rounds"))
 }
 
+/// The command that appends to a log.
+fn append_command<'a>(alloc: Global) -> Result<Command<'a>, AllocError>
+    ensures { IfOk result (IsCommand append_shape) }
+{
+    log_command(alloc, "append")?.arg(flag(alloc, "batches"))
+}
+
 /// The command that reads a log.
 fn tail_command<'a>(alloc: Global) -> Result<Command<'a>, AllocError>
     ensures { IfOk result (IsCommand tail_shape) }
 {
     log_command(alloc, "tail")?
         .arg(option(alloc, "from"))?
-        .arg(option(alloc, "until"))
+        .arg(option(alloc, "until"))?
+        .arg(flag(alloc, "one-copy"))?
+        .arg(flag(alloc, "messages"))
 }
 
 /// The commands, with no help and no version.
@@ -76,7 +85,7 @@ fn ld_command<'a>(alloc: Global) -> Result<Command<'a>, AllocError>
 {
     let exercise = exercise_command(alloc)?;
     let node = node_command(alloc)?;
-    let append = log_command(alloc, "append")?;
+    let append = append_command(alloc)?;
     let tail = tail_command(alloc)?;
     let replay = Command::new(alloc, "replay");
     let ld = Command::new(alloc, "ld")

@@ -12,7 +12,7 @@ mod refusal;
 mod words;
 
 pub use cause::config_cause;
-pub use command::{Command, LogWords, NodeWords, Places, TailWords};
+pub use command::{AppendWords, Command, LogWords, NodeWords, Places, TailWords};
 pub use file_name::FileName;
 pub use law::words_ask_for_one_command;
 pub use words::{places, read, reason};

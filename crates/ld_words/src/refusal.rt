@@ -35,6 +35,8 @@ pub enum Refusal {
     StrangeLog(LogId),
     /// The first number that is to be read is 0, or above the last.
     Order,
+    /// One copy of each record is asked for, and messages too.
+    Styles,
     /// There is no command of this name.
     Unknown,
     /// There is no memory left to tell.
@@ -70,6 +72,9 @@ impl Refusal {
                 log.number()
             ),
             Refusal::Order => format!(in alloc; "--from is e0n0 or above --until"),
+            Refusal::Styles => format!(in alloc;
+                "--one-copy and --messages can't be asked for at once"
+            ),
             Refusal::Unknown => format!(in alloc; "there is no such command"),
             Refusal::NoMemory => format!(in alloc; "out of memory"),
         }

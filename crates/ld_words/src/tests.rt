@@ -1,5 +1,5 @@
 // Words, as they may be given, and which command they ask for.
-use crate::{Command, LogWords, NodeWords, Places, TailWords, places, read, reason};
+use crate::{AppendWords, Command, LogWords, NodeWords, Places, TailWords, places, read, reason};
 use std::alloc::Global;
 use std::test::Fail;
 
@@ -41,19 +41,20 @@ fn log_shown(alloc: Global, words: &LogWords) -> Result<String, Fail> {
 }
 
 /// The words of a log that is appended to, in a line.
-fn append_shown(alloc: Global, words: &LogWords) -> Result<String, Fail> {
-    let log = log_shown(alloc, words)?;
-    Ok(format!(in alloc; "append {}", log.as_str())?)
+fn append_shown(alloc: Global, words: &AppendWords) -> Result<String, Fail> {
+    let log = log_shown(alloc, &words.of)?;
+    Ok(format!(in alloc; "append {} {}", log.as_str(), words.batches)?)
 }
 
 /// The words of a log that is read, in a line.
 fn tail_shown(alloc: Global, words: &TailWords) -> Result<String, Fail> {
     let log = log_shown(alloc, &words.of)?;
     let shown = format!(in alloc;
-        "tail {} {} {}",
+        "tail {} {} {} {:?}",
         log.as_str(),
         words.from.value(),
-        words.until.value()
+        words.until.value(),
+        words.style
     )?;
     Ok(shown)
 }
@@ -177,11 +178,16 @@ fn append_asks(alloc: Global, rest: &str, expected: &str) -> Result<bool, Fail> 
 #[test]
 fn words_of_appends(rt: HostRuntime) -> Result<(), Fail> {
     let cases = [
-        ("--log 1 --port 1 --rounds 1", "append log 1 of 2: r 1 1"),
+        ("--log 1 --port 1 --rounds 1", "append log 1 of 2: r 1 1 false"),
         (
             "--rounds=1000000 --port=65519 --log=65535 --",
-            "append log 65535 of 2: r 65519 1000000",
+            "append log 65535 of 2: r 65519 1000000 false",
         ),
+        (
+            "--batches --log 1 --port 1 --rounds 1",
+            "append log 1 of 2: r 1 1 true",
+        ),
+        ("--batches=true --log 1 --port 1 --rounds 1", "none"),
         ("--log 0 --port 1 --rounds 1", "none"),
         ("--log 2 --port 1 --rounds 1", "none"),
         ("--log 65536 --port 1 --rounds 1", "none"),
@@ -215,15 +221,25 @@ fn tail_asks(alloc: Global, rest: &str, expected: &str) -> Result<bool, Fail> {
 #[test]
 fn words_of_tails(rt: HostRuntime) -> Result<(), Fail> {
     let cases = [
-        ("--from e0n1 --until e0n1", "tail log 1 of 2: r 7000 9 1 1"),
+        ("--from e0n1 --until e0n1", "tail log 1 of 2: r 7000 9 1 1 EachCopy"),
         (
             "--until=e4294967295n4294967295 --from=e4294967295n4294967295",
-            "tail log 1 of 2: r 7000 9 18446744073709551615 18446744073709551615",
+            "tail log 1 of 2: r 7000 9 18446744073709551615 18446744073709551615 EachCopy",
         ),
         (
             "--from e0n4294967295 --until e1n0",
-            "tail log 1 of 2: r 7000 9 4294967295 4294967296",
+            "tail log 1 of 2: r 7000 9 4294967295 4294967296 EachCopy",
         ),
+        (
+            "--one-copy --from e0n1 --until e0n1",
+            "tail log 1 of 2: r 7000 9 1 1 OneCopy",
+        ),
+        (
+            "--from e0n1 --until e0n1 --messages",
+            "tail log 1 of 2: r 7000 9 1 1 OfMessages",
+        ),
+        ("--messages --from e0n1 --until e0n1 --one-copy", "none"),
+        ("--messages --from e0n1 --until e0n1 --messages", "none"),
         ("--from e0n0 --until e1n1", "none"),
         ("--from e0n0 --until e0n0", "none"),
         ("--from e1n0 --until e0n4294967295", "none"),

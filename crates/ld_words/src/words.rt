@@ -1,22 +1,24 @@
 // The command that the words ask for.
-ghost use Rattle.std.specs.Prelude.{◌≡◌, ℕ, IfOk, MatchOption, MatchResult, IfSome, map, string_bytes};
-ghost use Rattle.clap.specs.Words.{rows_of, found_of, subcommand_rows_of};
+ghost use Rattle.std.specs.Prelude.{◌≡◌, ℕ, None, Some, IfOk, MatchOption, MatchResult, IfSome, codes, map, string_bytes};
+ghost use Rattle.clap.specs.Words.{rows_of, found_of, first_of, subcommand_rows_of};
 ghost use Rattle.ld_config.specs.Bounds.{IsInBounds};
 ghost use Rattle.ld_words.specs.declared.command.NodeWords.{NodeWords as Node};
 ghost use Rattle.ld_words.specs.declared.command.LogWords.{LogWords as Log};
+ghost use Rattle.ld_words.specs.declared.command.AppendWords.{AppendWords as Appending};
 ghost use Rattle.ld_words.specs.declared.command.TailWords.{TailWords as Tail};
 ghost use Rattle.ld_words.specs.declared.command.Command.{Command as Choice};
-ghost use Rattle.ld_words.specs.Meaning.{IsExercise, IsNodeWords, IsLogWords, IsRange, IsTailWords, IsNamed, IsFound, Asks, IsNoCommand, ArePlacesOf, ArePlacesOfLog, HasNoPlaces, AskForPlaces, AskForNoPlaces};
+ghost use Rattle.ld_words.specs.Meaning.{IsExercise, IsNodeWords, IsLogWords, IsAppendWords, IsRange, IsTailWords, is_true, style_of, IsNamed, IsFound, Asks, IsNoCommand, ArePlacesOf, ArePlacesOfLog, HasNoPlaces, AskForPlaces, AskForNoPlaces};
 ghost use Rattle.ld_words.specs.Refuses.{Refuses};
 ghost use Rattle.ld_words.specs.Bounds.{IsLogInBounds, IsTailInBounds, HasBounds};
 
 use crate::arguments::{config, file_name, flag, log_of, lsn, member, number, text};
 use crate::grammar::matches;
 use crate::refusal::Refusal;
-use crate::{Command, LogWords, NodeWords, Places, TailWords};
+use crate::{AppendWords, Command, LogWords, NodeWords, Places, TailWords};
 use clap::ArgMatches;
 use ld_ids::NoMemory;
 use ld_lsn::Lsn;
+use ld_msg::Style;
 use std::alloc::Global;
 
 /// What the arguments say of a node.
@@ -67,6 +69,32 @@ fn log_words(alloc: Global, matches: &ArgMatches<'_>) -> Result<LogWords, Refusa
     })
 }
 
+/// What the arguments say of a log that is appended to.
+fn append_words(alloc: Global, matches: &ArgMatches<'_>) -> Result<AppendWords, Refusal>
+    ensures says { MatchResult result
+        (IsAppendWords (rows_of (found_of matches.now)))
+        (Refuses ((w : Appending) → IsAppendWords (rows_of (found_of matches.now)) w → ⊥)) }
+    ensures bounds { IfOk result (λ w. IsLogInBounds w.of) }
+{
+    let of = log_words(alloc, matches)?;
+    let batches = flag(matches, "batches");
+    Ok(AppendWords { of, batches })
+}
+
+/// How payloads come, and are written.
+fn style(matches: &ArgMatches<'_>) -> Result<Style, Refusal>
+    ensures { MatchResult result
+        (λ style. style_of (is_true (first_of (codes "one-copy") (rows_of (found_of matches.now)))) (is_true (first_of (codes "messages") (rows_of (found_of matches.now)))) ≡ Some style)
+        (Refuses (style_of (is_true (first_of (codes "one-copy") (rows_of (found_of matches.now)))) (is_true (first_of (codes "messages") (rows_of (found_of matches.now)))) ≡ None)) }
+{
+    match (flag(matches, "one-copy"), flag(matches, "messages")) {
+        (false, false) => Ok(Style::EachCopy),
+        (true, false) => Ok(Style::OneCopy),
+        (false, true) => Ok(Style::OfMessages),
+        (true, true) => Err(Refusal::Styles),
+    }
+}
+
 /// The first and the last number that the arguments say.
 #[tactic(auto, using(crate::proofs::OneCommand::first_of_range, crate::proofs::OneCommand::last_of_range))]
 fn range(matches: &ArgMatches<'_>) -> Result<(Lsn, Lsn), Refusal>
@@ -91,7 +119,13 @@ fn tail_words(alloc: Global, matches: &ArgMatches<'_>) -> Result<TailWords, Refu
 {
     let of = log_words(alloc, matches)?;
     let (from, until) = range(matches)?;
-    Ok(TailWords { of, from, until })
+    let style = style(matches)?;
+    Ok(TailWords {
+        of,
+        from,
+        until,
+        style,
+    })
 }
 
 /// The seed and the number of events that the arguments say.
@@ -123,7 +157,7 @@ fn named(alloc: Global, name: &str, matches: &ArgMatches<'_>) -> Result<Command,
         return Ok(Command::Node(node_words(alloc, matches)?));
     }
     if name == "append" {
-        return Ok(Command::Append(log_words(alloc, matches)?));
+        return Ok(Command::Append(append_words(alloc, matches)?));
     }
     if name == "tail" {
         return Ok(Command::Tail(tail_words(alloc, matches)?));
@@ -181,7 +215,7 @@ fn places_of(command: Command) -> Option<Places>
             register: node.register,
             port: node.port,
         }),
-        Command::Append(words) => Some(log_places(words)),
+        Command::Append(words) => Some(log_places(words.of)),
         Command::Tail(words) => Some(log_places(words.of)),
     }
 }
