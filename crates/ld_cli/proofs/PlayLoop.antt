@@ -78,6 +78,7 @@ spelt_counts (events.RegFail call done) h = h.0.0
 spelt_counts (events.Format n) h = tt
 spelt_counts (events.Activate name l) h = tt
 spelt_counts (events.Append name p) h = tt
+spelt_counts (events.Batch name ms) h = tt
 spelt_counts (events.Trim name t) h = tt
 spelt_counts (events.Retry name) h = tt
 spelt_counts (events.Drop name) h = tt
@@ -85,12 +86,15 @@ spelt_counts (events.Deliver i) h = tt
 spelt_counts (events.Lose i) h = tt
 spelt_counts (events.Flow k) h = tt
 spelt_counts (events.Open name l from until) h = tt
+spelt_counts (events.OpenOne name l from until) h = tt
+spelt_counts (events.OpenMessages name l from until) h = tt
 spelt_counts (events.Poll name) h = tt
 spelt_counts (events.Tick n l) h = tt
 spelt_counts (events.Down n) h = tt
 spelt_counts (events.Up n) h = tt
 spelt_counts (events.Wipe n) h = tt
 spelt_counts (events.Set l r extras nodes) h = tt
+spelt_counts (events.Replace n other l) h = tt
 
 -- ---- the loop ----
 
