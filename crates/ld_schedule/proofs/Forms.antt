@@ -6,7 +6,7 @@ use Rattle.ld_ids.specs.Bytes.{AreBytes, hex_text}
 use Rattle.ld_ids.specs.Id.{IsNode, IsLog}
 use Rattle.ld_schedule.specs.declared.event.Picture.{Picture}
 use Rattle.ld_schedule.specs.declared.event.Event.{Event}
-use Rattle.ld_schedule.specs.declared.event.Event.TheVariants.{Format, Activate, Append, Trim, Retry, Drop, Deliver, Lose, Flow, Open, Poll, Tick, Down, Up, Wipe, Fail, Tear, Set, Replace, RegFail}
+use Rattle.ld_schedule.specs.declared.event.Event.TheVariants.{Format, Activate, Append, Batch, Trim, Retry, Drop, Deliver, Lose, Flow, Open, OpenOne, OpenMessages, Poll, Tick, Down, Up, Wipe, Fail, Tear, Set, Replace, RegFail}
 use Rattle.ld_schedule.specs.declared.form.Form.{Form}
 use Rattle.ld_schedule.specs.declared.form.Form.TheVariants as forms
 use Rattle.ld_schedule.specs.declared.form.NodeForm.TheVariants as node_forms
@@ -18,7 +18,7 @@ use Rattle.ld_schedule.specs.declared.digits.Done.{Done}
 use Rattle.ld_schedule.specs.declared.nodes.Factor.{Factor}
 use Rattle.ld_schedule.specs.declared.nodes.Extras.{Extras}
 use Rattle.ld_schedule.specs.Reading.{behind, both, joined, Always}
-use Rattle.ld_schedule.specs.Grammar.{IsName, IsCount, IsMessage, IsLsn, IsPicture, IsFactor, AreExtras, IsNodes, picture_text, done_text, nodes_text, event_text}
+use Rattle.ld_schedule.specs.Grammar.{IsName, IsCount, IsMessage, IsLsn, IsPicture, IsFactor, AreExtras, IsNodes, IsBatch, picture_text, done_text, nodes_text, messages_text, event_text}
 use Rattle.ld_schedule.specs.Form.{IsOfForm}
 use Rattle.ld_schedule.specs.declared.fault.LineFault.{LineFault}
 use Rattle.ld_schedule.specs.Reading.{IsText, IsRead}
@@ -107,6 +107,18 @@ pub form_append : IsFormOf (both IsName AreBytes) (behind (codes "append ") (joi
 unfolding event_text
 form_append = record { into = λ v can. (record { form_is = refl; can = can }, refl); back = back_append }
 
+abbrev pub make_batch : List ℕ × List (List ℕ) → Event
+make_batch v = Batch v.0 v.1
+
+back_batch : (w : Event) → IsOfForm (forms.Name name_forms.Batch) w → (v : List ℕ × List (List ℕ)) × (both IsName IsBatch) v × (behind (codes "batch ") (joined itself 32 messages_text) v ≡ event_text w)
+unfolding event_text
+back_batch (Batch s ms) is = ((s, ms), is.can, refl)
+back_batch _ is = let other = is.form_is in cc
+
+pub form_batch : IsFormOf (both IsName IsBatch) (behind (codes "batch ") (joined itself 32 messages_text)) make_batch (forms.Name name_forms.Batch)
+unfolding event_text
+form_batch = record { into = λ v can. (record { form_is = refl; can = can }, refl); back = back_batch }
+
 abbrev pub make_trim : List ℕ × ℕ → Event
 make_trim v = Trim v.0 v.1
 
@@ -190,6 +202,30 @@ back_open _ is = let other = is.form_is in cc
 pub form_open : IsFormOf (both IsName (both IsLog (both IsLsn IsLsn))) (behind (codes "open ") (joined itself 32 (joined decimal 32 (joined lsn_text 32 lsn_text)))) make_open (forms.Name name_forms.Open)
 unfolding event_text
 form_open = record { into = λ v can. (record { form_is = refl; can = (can.0, can.1.0, can.1.1.0, can.1.1.1) }, refl); back = back_open }
+
+abbrev pub make_openone : List ℕ × (ℕ × (ℕ × ℕ)) → Event
+make_openone v = OpenOne v.0 v.1.0 v.1.1.0 v.1.1.1
+
+back_openone : (w : Event) → IsOfForm (forms.Name name_forms.OpenOne) w → (v : List ℕ × (ℕ × (ℕ × ℕ))) × (both IsName (both IsLog (both IsLsn IsLsn))) v × (behind (codes "openone ") (joined itself 32 (joined decimal 32 (joined lsn_text 32 lsn_text))) v ≡ event_text w)
+unfolding event_text
+back_openone (OpenOne s l f u) is = ((s, (l, (f, u))), (is.can.0, (is.can.1, (is.can.2, is.can.3))), refl)
+back_openone _ is = let other = is.form_is in cc
+
+pub form_openone : IsFormOf (both IsName (both IsLog (both IsLsn IsLsn))) (behind (codes "openone ") (joined itself 32 (joined decimal 32 (joined lsn_text 32 lsn_text)))) make_openone (forms.Name name_forms.OpenOne)
+unfolding event_text
+form_openone = record { into = λ v can. (record { form_is = refl; can = (can.0, can.1.0, can.1.1.0, can.1.1.1) }, refl); back = back_openone }
+
+abbrev pub make_openmsgs : List ℕ × (ℕ × (ℕ × ℕ)) → Event
+make_openmsgs v = OpenMessages v.0 v.1.0 v.1.1.0 v.1.1.1
+
+back_openmsgs : (w : Event) → IsOfForm (forms.Name name_forms.OpenMessages) w → (v : List ℕ × (ℕ × (ℕ × ℕ))) × (both IsName (both IsLog (both IsLsn IsLsn))) v × (behind (codes "openmsgs ") (joined itself 32 (joined decimal 32 (joined lsn_text 32 lsn_text))) v ≡ event_text w)
+unfolding event_text
+back_openmsgs (OpenMessages s l f u) is = ((s, (l, (f, u))), (is.can.0, (is.can.1, (is.can.2, is.can.3))), refl)
+back_openmsgs _ is = let other = is.form_is in cc
+
+pub form_openmsgs : IsFormOf (both IsName (both IsLog (both IsLsn IsLsn))) (behind (codes "openmsgs ") (joined itself 32 (joined decimal 32 (joined lsn_text 32 lsn_text)))) make_openmsgs (forms.Name name_forms.OpenMessages)
+unfolding event_text
+form_openmsgs = record { into = λ v can. (record { form_is = refl; can = (can.0, can.1.0, can.1.1.0, can.1.1.1) }, refl); back = back_openmsgs }
 
 abbrev pub make_poll : List ℕ → Event
 make_poll v = Poll v

@@ -1,33 +1,27 @@
 -- No text of an event has the byte that ends a line.
 use Rattle.std.specs.Prelude.{Bool}
-use Rattle.std.proofs.Common.{◌≡◌, inl, ℕ, ◌<◌, ◌^◌, List, [], ◌∷◌, ◌++◌, true, false, refl, sym, ap, ◌∙◌, arith, decimal}
-use Rattle.std.specs.List.{AllPass}
+use Rattle.std.proofs.Common.{inl, ℕ, ◌<◌, ◌^◌, List, [], ◌∷◌, ◌++◌, true, false, refl, arith, decimal}
+use Rattle.std.specs.List.{All}
 use Rattle.std.proofs.lemmas.List.Elements.{All-head, All-tail}
 use Rattle.hex.specs.Hex.{encode_lower}
 use Rattle.ld_lsn.specs.Text.{Lacks}
 use Rattle.ld_lsn.specs.Number.{epoch_of, esn_of, pair_text, lsn_text}
 use Rattle.ld_lsn.proofs.Texts.{Lacks-append}
 use Rattle.ld_ids.specs.Bytes.{AreBytes, hex_text}
+use Rattle.ld_ids.specs.Id.{IsLog}
 use Rattle.ld_ids.specs.Set.{members, numbers_text}
 use Rattle.ld_schedule.specs.declared.event.Picture.{Picture}
 use Rattle.ld_schedule.specs.declared.event.Picture.TheVariants as pictures
 use Rattle.ld_schedule.specs.declared.event.Event.{Event}
-use Rattle.ld_schedule.specs.declared.event.Event.TheVariants.{Format, Activate, Append, Trim, Retry, Drop, Deliver, Lose, Flow, Open, Poll, Tick, Down, Up, Wipe, Fail, Tear, Set, Replace, RegFail}
-use Rattle.ld_schedule.specs.Grammar.{IsName, IsLsn, IsPicture, is_name_byte, is_digit, IsNodes, picture_text, done_text, nodes_text, IsNamed, event_text, blank}
+use Rattle.ld_schedule.specs.declared.event.Event.TheVariants.{Format, Activate, Append, Batch, Trim, Retry, Drop, Deliver, Lose, Flow, Open, OpenOne, OpenMessages, Poll, Tick, Down, Up, Wipe, Fail, Tear, Set, Replace, RegFail}
+use Rattle.ld_schedule.specs.Grammar.{IsName, IsLsn, IsPicture, is_name_byte, is_digit, IsNodes, picture_text, done_text, nodes_text, messages_text, IsNamed, event_text, blank}
 use Rattle.ld_schedule.specs.Form.{form_of}
 use Rattle.ld_schedule.specs.Rising.{IsRising}
 use Rattle.ld_schedule.specs.WordLaws.{decimal_lacks}
 use Rattle.ld_schedule.proofs.Rising.{members_rising}
 use Rattle.ld_schedule.proofs.HexTexts.{encode_passes}
+use Rattle.ld_schedule.proofs.MessageLists.{passed_lack}
 use Rattle.ld_schedule.proofs.OneEvent.{byte_bytes, word_of, words_lack, parts_of, text_parts}
-
--- bytes that pass a test which the byte fails
-passed_lack : (test : ℕ → Bool) (c : ℕ) → test c ≡ false → (xs : List ℕ) → AllPass test xs → Lacks c xs
-passed_lack test c other [] all = tt
-passed_lack test c other (x ∷ xs) all = (
-  λ e. let both : true ≡ false = sym (All-head (λ b. test b ≡ true) x xs all) ∙ ap test e ∙ other in cc,
-  passed_lack test c other xs (All-tail (λ b. test b ≡ true) x xs all),
-)
 
 name_10 : (name : List ℕ) → IsName name → Lacks 10 name
 name_10 name named = passed_lack is_name_byte 10 refl name named.2
@@ -61,6 +55,12 @@ numbers_10 low (n ∷ m ∷ ns) are = Lacks-append 10 (decimal n) (44 ∷ number
 nodes_10 : (set : List Bool) → IsNodes set → Lacks 10 (nodes_text set)
 nodes_10 set can = numbers_10 0 (members set) (members_rising set can.0)
 
+messages_10 : (ms : List (List ℕ)) → All AreBytes ms → Lacks 10 (messages_text ms)
+messages_10 [] all = tt
+messages_10 (m ∷ []) all = payload_10 m (All-head AreBytes m [] all)
+messages_10 (m ∷ n ∷ ms) all =
+    Lacks-append 10 (hex_text m) (44 ∷ messages_text (n ∷ ms)) (payload_10 m (All-head AreBytes m (n ∷ ms) all)) (omega arith, messages_10 (n ∷ ms) (All-tail AreBytes m (n ∷ ms) all))
+
 done_10 : (d : Bool) → Lacks 10 (done_text d)
 done_10 true = (omega arith, (omega arith, (omega arith, (omega arith, tt))))
 done_10 false = (omega arith, (omega arith, (omega arith, (omega arith, (omega arith, (omega arith, tt))))))
@@ -68,17 +68,23 @@ done_10 false = (omega arith, (omega arith, (omega arith, (omega arith, (omega a
 between : (a b : List ℕ) → Lacks 10 a → Lacks 10 b → Lacks 10 (a ++ blank ∷ b)
 between a b first second = Lacks-append 10 a (blank ∷ b) first (omega arith, second)
 
+opened_10 : (s : List ℕ) (l f u : ℕ) → IsName s × IsLog l × IsLsn f × IsLsn u → Lacks 10 (s ++ blank ∷ (decimal l ++ blank ∷ (lsn_text f ++ blank ∷ lsn_text u)))
+opened_10 s l f u can = between s (decimal l ++ blank ∷ (lsn_text f ++ blank ∷ lsn_text u)) (name_10 s can.0) (between (decimal l) (lsn_text f ++ blank ∷ lsn_text u) (number_10 l (omega (arith, can.1.1))) (between (lsn_text f) (lsn_text u) (lsn_10 f can.2) (lsn_10 u can.3)))
+
 parts_10 : (e : Event) → IsNamed e → Lacks 10 (parts_of e)
 parts_10 (Format n) can = number_10 n (omega (arith, can.1))
 parts_10 (Activate s l) can = between s (decimal l) (name_10 s can.0) (number_10 l (omega (arith, can.1.1)))
 parts_10 (Append s p) can = between s (hex_text p) (name_10 s can.0) (payload_10 p can.1)
+parts_10 (Batch s ms) can = between s (messages_text ms) (name_10 s can.0) (messages_10 ms can.1.2)
 parts_10 (Trim s p) can = between s (lsn_text p) (name_10 s can.0) (lsn_10 p can.1)
 parts_10 (Retry s) can = name_10 s can
 parts_10 (Drop s) can = name_10 s can
 parts_10 (Deliver i) can = number_10 i (omega (arith, can))
 parts_10 (Lose i) can = number_10 i (omega (arith, can))
 parts_10 (Flow k) can = number_10 k (omega (arith, can.1))
-parts_10 (Open s l f u) can = between s (decimal l ++ blank ∷ (lsn_text f ++ blank ∷ lsn_text u)) (name_10 s can.0) (between (decimal l) (lsn_text f ++ blank ∷ lsn_text u) (number_10 l (omega (arith, can.1.1))) (between (lsn_text f) (lsn_text u) (lsn_10 f can.2) (lsn_10 u can.3)))
+parts_10 (Open s l f u) can = opened_10 s l f u can
+parts_10 (OpenOne s l f u) can = opened_10 s l f u can
+parts_10 (OpenMessages s l f u) can = opened_10 s l f u can
 parts_10 (Poll s) can = name_10 s can
 parts_10 (Tick n l) can = between (decimal n) (decimal l) (number_10 n (omega (arith, can.0.1))) (number_10 l (omega (arith, can.1.1)))
 parts_10 (Down n) can = number_10 n (omega (arith, can.1))

@@ -1,30 +1,33 @@
 -- A text is that of one event.
 use Rattle.std.specs.Prelude.{codes, Bool, ◌&&◌, if◌then◌else◌, ◌==◌, Result}
 use Rattle.std.specs.Cmp.Lexicographic.{pointwise}
-use Rattle.std.proofs.Common.{◌≡◌, ℕ, zero, suc, ◌<◌, List, [], ◌∷◌, ◌++◌, length, get_or, true, false, refl, sym, ap, ◌∙◌, arith, decimal, Ok}
+use Rattle.std.proofs.Common.{◌≡◌, ℕ, zero, suc, ◌-◌, ◌<◌, subst, List, [], ◌∷◌, ◌++◌, length, get_or, true, false, refl, sym, ap, ◌∙◌, arith, decimal, Ok}
 use Rattle.std.proofs.lemmas.Bool.{and_parts}
+use Rattle.std.proofs.lemmas.List.Elements.{All-head, All-tail}
 use Rattle.std.proofs.lemmas.Fmt.{decimal_injective}
 use Rattle.hex.specs.Hex.{lower_digits, decode_of}
 use Rattle.hex.specs.declared.error.FromHexError.{FromHexError}
 use Rattle.hex.proofs.HexLemmas.{length-encode_with, decode_of-encode_lower}
 use Rattle.ld_lsn.specs.Text.{Lacks}
 use Rattle.ld_lsn.specs.Number.{lsn_text}
-use Rattle.ld_lsn.proofs.Texts.{parted, one_lsn}
+use Rattle.ld_lsn.proofs.Texts.{parted, one_lsn, Lacks-not}
 use Rattle.ld_ids.specs.Bytes.{AreBytes, hex_text}
 use Rattle.ld_ids.specs.Id.{IsNode, IsLog}
 use Rattle.ld_schedule.specs.declared.event.Picture.TheVariants as pictures
 use Rattle.ld_schedule.specs.declared.event.Event.{Event}
-use Rattle.ld_schedule.specs.declared.event.Event.TheVariants.{Format, Activate, Append, Trim, Retry, Drop, Deliver, Lose, Flow, Open, Poll, Tick, Down, Up, Wipe, Fail, Tear, Set, Replace, RegFail}
+use Rattle.ld_schedule.specs.declared.event.Event.TheVariants.{Format, Activate, Append, Batch, Trim, Retry, Drop, Deliver, Lose, Flow, Open, OpenOne, OpenMessages, Poll, Tick, Down, Up, Wipe, Fail, Tear, Set, Replace, RegFail}
 use Rattle.ld_schedule.specs.declared.form.Form.{Form}
 use Rattle.ld_schedule.specs.declared.form.Form.TheVariants as forms
 use Rattle.ld_schedule.specs.declared.form.NodeForm.TheVariants as node_forms
 use Rattle.ld_schedule.specs.declared.form.NameForm.TheVariants as name_forms
 use Rattle.ld_schedule.specs.declared.form.CountForm.TheVariants as count_forms
 use Rattle.ld_schedule.specs.Reading.{AllLack}
-use Rattle.ld_schedule.specs.Grammar.{IsName, IsCount, IsMessage, IsLsn, IsPicture, IsByte, IsFactor, AreExtras, picture_text, byte_text, done_text, nodes_text, is_name_byte, IsNamed, event_text, blank}
+use Rattle.ld_schedule.specs.Grammar.{IsName, IsCount, IsMessage, IsLsn, IsPicture, IsByte, IsFactor, AreExtras, AreParts, IsBatch, messages_text, picture_text, byte_text, done_text, nodes_text, is_name_byte, IsNamed, event_text, blank}
 use Rattle.ld_schedule.specs.Form.{form_of}
 use Rattle.ld_schedule.specs.WordLaws.{node_lacks, log_lacks, count_lacks, factor_lacks, extras_lack, name_lacks, lsn_lacks}
 use Rattle.ld_schedule.proofs.Rising.{one_nodes}
+use Rattle.ld_schedule.proofs.MessageLists.{payload_comma}
+use Rattle.ld_batch.specs.Batch.{batch_limit}
 
 -- a text of the language is that of one value
 abbrev HasOne : {V : Type 0} → (V → Type 0) → (V → List ℕ) → Type 0
@@ -91,6 +94,23 @@ one_done true false e = absurd (omega (arith, ap (λ l. get_or l 0 0) e))
 one_done false true e = absurd (omega (arith, ap (λ l. get_or l 0 0) e))
 one_done false false e = refl
 
+-- a text is that of one list of messages
+one_batch : (most : ℕ) → HasOne (AreParts most) messages_text
+one_batch most [] w a b e = absurd (omega (arith, a.0))
+one_batch most (m ∷ ms) [] a b e = absurd (omega (arith, b.0))
+one_batch most (m ∷ []) (k ∷ []) a b e = ap (λ n. n ∷ []) (one_payload m k (All-head AreBytes m [] a.2) (All-head AreBytes k [] b.2) e)
+one_batch most (m ∷ []) (k ∷ l ∷ ks) a b e = absurd (Lacks-not 44 (hex_text k) (messages_text (l ∷ ks)) (subst (Lacks 44) e (payload_comma m (All-head AreBytes m [] a.2))))
+one_batch most (m ∷ n ∷ ms) (k ∷ []) a b e = absurd (Lacks-not 44 (hex_text m) (messages_text (n ∷ ms)) (subst (Lacks 44) (sym e) (payload_comma k (All-head AreBytes k [] b.2))))
+one_batch most (m ∷ n ∷ ms) (k ∷ l ∷ ks) a b e =
+    let first = All-head AreBytes m (n ∷ ms) a.2 in
+    let other = All-head AreBytes k (l ∷ ks) b.2 in
+    let parts = parted 44 (hex_text m) (hex_text k) (messages_text (n ∷ ms)) (messages_text (l ∷ ks)) (payload_comma m first) (payload_comma k other) e in
+    let rest = one_batch (most - 1) (n ∷ ms) (l ∷ ks) (omega arith, omega (arith, a.1), All-tail AreBytes m (n ∷ ms) a.2) (omega arith, omega (arith, b.1), All-tail AreBytes k (l ∷ ks) b.2) parts.1 in
+    ap (λ x. x ∷ n ∷ ms) (one_payload m k first other parts.0) ∙ ap (λ l. k ∷ l) rest
+
+one_messages : HasOne IsBatch messages_text
+one_messages v w a b e = one_batch batch_limit v w a b e
+
 -- the parts on both sides of a byte that the first part lacks
 pub record AreSame {A B : Type 0} (v x : A) (b y : B) : Type 0 where
   pub first : v ≡ x
@@ -125,6 +145,9 @@ word_of (forms.Node node_forms.Fail) = codes "fail"
 word_of (forms.Node node_forms.Tear) = codes "tear"
 word_of (forms.Count count_forms.Set) = codes "set"
 word_of (forms.Node node_forms.Replace) = codes "replace"
+word_of (forms.Name name_forms.Batch) = codes "batch"
+word_of (forms.Name name_forms.OpenOne) = codes "openone"
+word_of (forms.Name name_forms.OpenMessages) = codes "openmsgs"
 word_of (forms.Count count_forms.RegFail) = codes "regfail"
 
 abbrev is_word : List ℕ → List ℕ → Bool
@@ -152,6 +175,9 @@ told word =
     else if is_word word (codes "tear") then (forms.Node node_forms.Tear)
     else if is_word word (codes "set") then (forms.Count count_forms.Set)
     else if is_word word (codes "replace") then (forms.Node node_forms.Replace)
+    else if is_word word (codes "batch") then (forms.Name name_forms.Batch)
+    else if is_word word (codes "openone") then (forms.Name name_forms.OpenOne)
+    else if is_word word (codes "openmsgs") then (forms.Name name_forms.OpenMessages)
     else (forms.Count count_forms.RegFail)
 
 told_again : (form : Form) → told (word_of form) ≡ form
@@ -174,6 +200,9 @@ told_again (forms.Node node_forms.Fail) = refl
 told_again (forms.Node node_forms.Tear) = refl
 told_again (forms.Count count_forms.Set) = refl
 told_again (forms.Node node_forms.Replace) = refl
+told_again (forms.Name name_forms.Batch) = refl
+told_again (forms.Name name_forms.OpenOne) = refl
+told_again (forms.Name name_forms.OpenMessages) = refl
 told_again (forms.Count count_forms.RegFail) = refl
 
 abbrev are_letters : List ℕ → Bool
@@ -200,6 +229,9 @@ letters_of (forms.Node node_forms.Fail) = refl
 letters_of (forms.Node node_forms.Tear) = refl
 letters_of (forms.Count count_forms.Set) = refl
 letters_of (forms.Node node_forms.Replace) = refl
+letters_of (forms.Name name_forms.Batch) = refl
+letters_of (forms.Name name_forms.OpenOne) = refl
+letters_of (forms.Name name_forms.OpenMessages) = refl
 letters_of (forms.Count count_forms.RegFail) = refl
 
 letters_lack : (c : ℕ) (xs : List ℕ) → is_name_byte c ≡ false → are_letters xs ≡ true → Lacks c xs
@@ -217,6 +249,7 @@ abbrev pub parts_of : Event → List ℕ
 parts_of (Format n) = decimal n
 parts_of (Activate s l) = s ++ blank ∷ decimal l
 parts_of (Append s p) = s ++ blank ∷ hex_text p
+parts_of (Batch s ms) = s ++ blank ∷ messages_text ms
 parts_of (Trim s p) = s ++ blank ∷ lsn_text p
 parts_of (Retry s) = s
 parts_of (Drop s) = s
@@ -224,6 +257,8 @@ parts_of (Deliver i) = decimal i
 parts_of (Lose i) = decimal i
 parts_of (Flow k) = decimal k
 parts_of (Open s l f u) = s ++ blank ∷ (decimal l ++ blank ∷ (lsn_text f ++ blank ∷ lsn_text u))
+parts_of (OpenOne s l f u) = s ++ blank ∷ (decimal l ++ blank ∷ (lsn_text f ++ blank ∷ lsn_text u))
+parts_of (OpenMessages s l f u) = s ++ blank ∷ (decimal l ++ blank ∷ (lsn_text f ++ blank ∷ lsn_text u))
 parts_of (Poll s) = s
 parts_of (Tick n l) = decimal n ++ blank ∷ decimal l
 parts_of (Down n) = decimal n
@@ -240,6 +275,7 @@ unfolding event_text
 text_parts (Format n) = refl
 text_parts (Activate s l) = refl
 text_parts (Append s p) = refl
+text_parts (Batch s ms) = refl
 text_parts (Trim s p) = refl
 text_parts (Retry s) = refl
 text_parts (Drop s) = refl
@@ -247,6 +283,8 @@ text_parts (Deliver i) = refl
 text_parts (Lose i) = refl
 text_parts (Flow k) = refl
 text_parts (Open s l f u) = refl
+text_parts (OpenOne s l f u) = refl
+text_parts (OpenMessages s l f u) = refl
 text_parts (Poll s) = refl
 text_parts (Tick n l) = refl
 text_parts (Down n) = refl
@@ -276,6 +314,11 @@ same_event (Append s p) (Append s2 p2) a b form e =
     let x : s ≡ s2 = parts.first in
     let y : p ≡ p2 = one_payload p p2 a.1 b.1 parts.second in cc
 same_event (Append s p) _ a b form e = absurd (cc)
+same_event (Batch s ms) (Batch s2 ms2) a b form e =
+    let parts = same_parts IsName itself s s2 _ _ name_lacks one_name a.0 b.0 e in
+    let x : s ≡ s2 = parts.first in
+    let y : ms ≡ ms2 = one_messages ms ms2 a.1 b.1 parts.second in cc
+same_event (Batch s ms) _ a b form e = absurd (cc)
 same_event (Trim s p) (Trim s2 p2) a b form e =
     let parts = same_parts IsName itself s s2 _ _ name_lacks one_name a.0 b.0 e in
     let x : s ≡ s2 = parts.first in
@@ -300,6 +343,24 @@ same_event (Open s l f u) (Open s2 l2 f2 u2) a b form e =
     let y : f ≡ f2 = three.first in
     let z : u ≡ u2 = one_lsn u u2 a.3 b.3 three.second in cc
 same_event (Open s l f u) _ a b form e = absurd (cc)
+same_event (OpenOne s l f u) (OpenOne s2 l2 f2 u2) a b form e =
+    let one = same_parts IsName itself s s2 _ _ name_lacks one_name a.0 b.0 e in
+    let two = same_parts IsLog decimal l l2 _ _ log_lacks one_log a.1 b.1 one.second in
+    let three = same_parts IsLsn lsn_text f f2 _ _ lsn_lacks one_lsn a.2 b.2 two.second in
+    let w : s ≡ s2 = one.first in
+    let x : l ≡ l2 = two.first in
+    let y : f ≡ f2 = three.first in
+    let z : u ≡ u2 = one_lsn u u2 a.3 b.3 three.second in cc
+same_event (OpenOne s l f u) _ a b form e = absurd (cc)
+same_event (OpenMessages s l f u) (OpenMessages s2 l2 f2 u2) a b form e =
+    let one = same_parts IsName itself s s2 _ _ name_lacks one_name a.0 b.0 e in
+    let two = same_parts IsLog decimal l l2 _ _ log_lacks one_log a.1 b.1 one.second in
+    let three = same_parts IsLsn lsn_text f f2 _ _ lsn_lacks one_lsn a.2 b.2 two.second in
+    let w : s ≡ s2 = one.first in
+    let x : l ≡ l2 = two.first in
+    let y : f ≡ f2 = three.first in
+    let z : u ≡ u2 = one_lsn u u2 a.3 b.3 three.second in cc
+same_event (OpenMessages s l f u) _ a b form e = absurd (cc)
 same_event (Poll s) (Poll s2) a b form e = ap (λ x. Poll x) e
 same_event (Poll s) _ a b form e = absurd (cc)
 same_event (Tick n l) (Tick n2 l2) a b form e =

@@ -11,6 +11,7 @@ use crate::fault::LineFault;
 use crate::field::behind;
 use crate::nodes::{Extras, Factor};
 use crate::words::{Count, Place};
+use ld_batch::Messages;
 use ld_ids::{LogId, Name, NodeId, NodeSet, Payload};
 use ld_lsn::Lsn;
 use std::alloc::Global;
@@ -38,6 +39,9 @@ pub enum NameForm {
     Drop,
     Open,
     Poll,
+    Batch,
+    OpenOne,
+    OpenMessages,
 }
 
 /// The first word of a line that begins with the place of a message, a count or a log.
@@ -152,6 +156,32 @@ fn read_of_name(form: NameForm, alloc: Global, line: &[u8]) -> Result<Event, Lin
         },
         NameForm::Poll => match behind::<Name>(alloc, line, b"poll ") {
             Ok(name) => Ok(Event::Poll { name }),
+            Err(fault) => Err(fault),
+        },
+        NameForm::Batch => match behind::<(Name, Messages)>(alloc, line, b"batch ") {
+            Ok((name, messages)) => Ok(Event::Batch { name, messages }),
+            Err(fault) => Err(fault),
+        },
+        NameForm::OpenOne => match behind::<(Name, (LogId, (Lsn, Lsn)))>(alloc, line, b"openone ") {
+            Ok((name, (log, (from, until)))) => Ok(Event::OpenOne {
+                name,
+                log,
+                from,
+                until,
+            }),
+            Err(fault) => Err(fault),
+        },
+        NameForm::OpenMessages => match behind::<(Name, (LogId, (Lsn, Lsn)))>(
+            alloc,
+            line,
+            b"openmsgs ",
+        ) {
+            Ok((name, (log, (from, until)))) => Ok(Event::OpenMessages {
+                name,
+                log,
+                from,
+                until,
+            }),
             Err(fault) => Err(fault),
         },
     }

@@ -9,6 +9,7 @@ mod form;
 mod law;
 mod nodes;
 mod number;
+mod parts;
 mod read;
 #[cfg(test)]
 mod tests;

@@ -9,7 +9,7 @@ use crate::form::{CountForm, Form, NameForm, NodeForm, read};
 use std::alloc::Global;
 
 /// The words that a line can begin with.
-const FORMS: [Form; 20] = [
+const FORMS: [Form; 23] = [
     Form::Node(NodeForm::Format),
     Form::Name(NameForm::Activate),
     Form::Name(NameForm::Append),
@@ -30,6 +30,9 @@ const FORMS: [Form; 20] = [
     Form::Count(CountForm::Set),
     Form::Node(NodeForm::Replace),
     Form::Count(CountForm::RegFail),
+    Form::Name(NameForm::Batch),
+    Form::Name(NameForm::OpenOne),
+    Form::Name(NameForm::OpenMessages),
 ];
 
 /// The event that a line spells, without the byte 10 that ends it. A line that spells none is

@@ -1,7 +1,7 @@
 // Lines and their places.
 use crate::{Event, LineFault, parse_line};
 use ld_lsn::Lsn;
-use std::alloc::Global;
+use std::alloc::{AllocError, Global};
 use std::test::Fail;
 
 /// The place of the fault of a line, where it has one.
@@ -103,7 +103,7 @@ fn lines_have_counts(rt: HostRuntime) -> Result<(), Fail> {
 
 /// Lines, and the length of the longest prefix with which some line begins where they are none, as it was found by
 /// trying each prefix against the grammar: events at the bounds of their parts, and lines a byte away.
-const LINES: [(&[u8], Option<usize>); 68] = [
+const LINES: [(&[u8], Option<usize>); 84] = [
     (b"format 16", None),
     (b"activate s0 65535", None),
     (b"append abcdefghijklmnop -", None),
@@ -172,6 +172,22 @@ const LINES: [(&[u8], Option<usize>); 68] = [
     (b"replace 4 3 65536", Some(16)),
     (b"replace 4  3 1", Some(10)),
     (b"replaces", Some(7)),
+    (b"batch a -", None),
+    (b"batch a 01,-,00ff", None),
+    (b"batch a ", Some(8)),
+    (b"batch a ,01", Some(8)),
+    (b"batch a 0,01", Some(9)),
+    (b"batch a 01,", Some(11)),
+    (b"batch a 01,,", Some(11)),
+    (b"batch a --", Some(9)),
+    (b"batch a -,0", Some(11)),
+    (b"batch a 01, 02", Some(11)),
+    (b"batch a 01 02", Some(10)),
+    (b"openone r 1 e1n1 e1n2", None),
+    (b"openmsgs q 65535 e0n1 e4294967295n4294967295", None),
+    (b"openonce", Some(6)),
+    (b"openmsg r 1 e1n1 e1n1", Some(7)),
+    (b"openmsgs r 0 e1n1 e1n1", Some(11)),
 ];
 
 #[test]
@@ -179,5 +195,33 @@ fn lines_are_read_to_their_faults(rt: HostRuntime) -> Result<(), Fail> {
     for (line, place) in LINES {
         assert_eq!(rt; fault(rt.alloc(), line)?, place);
     }
+    Ok(())
+}
+
+/// How many messages a line has, and how many bytes their batch.
+fn batched(alloc: Global, line: &[u8]) -> Result<(usize, usize), LineFault> {
+    match &parse_line(alloc, line)? {
+        Event::Batch { messages, .. } => Ok((messages.len(), messages.packed_len())),
+        _ => Ok((0, 0)),
+    }
+}
+
+/// A line of so many empty messages.
+fn empty_messages(alloc: Global, count: usize) -> Result<Vec<u8>, AllocError> {
+    let mut line = Vec::from_slice(alloc, b"batch a -")?;
+    for _ in 1..count {
+        line.extend_from_slice(b",-")?;
+    }
+    Ok(line)
+}
+
+#[test]
+fn a_batch_has_up_to_1024_messages(rt: HostRuntime) -> Result<(), Fail> {
+    let alloc = rt.alloc();
+    assert_eq!(rt; batched(alloc, b"batch a 01,-")?, (2, 7));
+    let most = empty_messages(alloc, 1_024)?;
+    assert_eq!(rt; batched(alloc, &most)?, (1_024, 2_050));
+    let more = empty_messages(alloc, 1_025)?;
+    assert_eq!(rt; fault(alloc, &more)?, Some(2_055));
     Ok(())
 }

@@ -1,0 +1,4 @@
+use Rattle.ld_schedule.proofs.parts.+parts.Given as goal
+
+abbrev pub decreases-parts : goal.decreases-parts
+decreases-parts l = l.most
