@@ -8,7 +8,7 @@ use Rattle.ld_table.specs.Words.{or_else}
 use Rattle.ld_table.proofs.Laws.{find-put_same, find-put_other, find-empty}
 use Rattle.ld_lsn.specs.Number.{esn_of}
 use Rattle.ld_msg.specs.declared.msg.What.{What}
-use Rattle.ld_msg.specs.declared.msg.What.TheVariants.{Rec, Hole, Bridge, Plug}
+use Rattle.ld_msg.specs.declared.msg.What.TheVariants.{Rec, Hole, Bridge, Plug, Withheld}
 use Rattle.ld_msg.specs.declared.msg.Entry.{Entry}
 use Rattle.ld_msg.specs.Digest.{says, is_bridge, no_record, content, record_or, is_content}
 use Rattle.ld_plan.specs.Claims.{last_for, Decided, is_bridged, is_decided, claimed, decided_by}
@@ -18,6 +18,7 @@ a_bridge (Rec p) e = absurd cc
 a_bridge Hole e = absurd cc
 a_bridge Bridge e = refl
 a_bridge Plug e = absurd cc
+a_bridge Withheld e = absurd cc
 
 -- ---- what one claim says ----
 

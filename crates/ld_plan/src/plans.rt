@@ -90,7 +90,7 @@ fn what(alloc: Global, decided: &Decided, loss: bool, number: Lsn) -> Result<Wha
     match decided.entry(number) {
         Some(claim) => match claim.what() {
             What::Rec(payload) => Ok(What::Rec(payload.copy(alloc)?)),
-            What::Hole | What::Bridge | What::Plug => Ok(no_record(loss)),
+            What::Hole | What::Bridge | What::Plug | What::Withheld => Ok(no_record(loss)),
         },
         None => Ok(no_record(loss)),
     }

@@ -84,6 +84,7 @@ fn planned(alloc: Global, digest: &Digest) -> Result<Vec<u8>, NoMemory> {
             What::Hole => 100,
             What::Bridge => 101,
             What::Plug => 102,
+            What::Withheld => 103,
         };
         all.push(code)?;
     }
