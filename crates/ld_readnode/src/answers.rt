@@ -1,22 +1,26 @@
 // The read answer and the digest page.
-ghost use Rattle.std.specs.Prelude.{◌≡◌, None, IfOk};
+ghost use Rattle.std.specs.Prelude.{◌≡◌, ℕ, Bool, List, None, IfOk};
 ghost use Rattle.ld_lsn.specs.Number.{home_epoch, home_esn};
 ghost use Rattle.ld_op.specs.Plain.{log_of};
+ghost use Rattle.ld_msg.specs.declared.msg.Body.TheVariants.{ReadOne};
 ghost use Rattle.ld_op.specs.Answers.{read_answer, epoch_answer, read_page, readable};
-ghost use Rattle.ld_readnode.specs.Answered.{IsReadAsk, IsDigestAsk, read_answered, digest_answered, ended_answer, lost_here};
+ghost use Rattle.ld_readnode.specs.Answered.{IsReadAsk, IsReadOne, IsDigestAsk, read_answered, one_answered, digest_answered, ended_answer, lost_here, carried_in, entries_read, AreSentBy};
+ghost use Rattle.ld_readnode.specs.Payloads.{carries_of};
 
-use ld_ids::{LogId, NoMemory};
+use crate::payloads::Payloads;
+use ld_ids::{LogId, NoMemory, NodeId};
 use ld_lsn::Lsn;
 use ld_msg::{Body, Msg, Summary};
 use ld_op::Plain;
 use std::alloc::Global;
 
-/// An ask of a reader, or of a node that refills.
+/// An ask of a reader, or of a node that refills, and the payloads that the answer carries.
 #[derive(Clone, Copy)]
 struct Ask {
     log: LogId,
     round: u32,
     from: Lsn,
+    payloads: Payloads,
 }
 
 /// The answer to an ask for what stands at a number and behind it. The message is a ReadAsk, and `released` the
@@ -32,6 +36,51 @@ pub fn answer(alloc: Global, plain: &Plain, released: Lsn, msg: &Msg) -> Result<
                 log: msg.log,
                 round: *round,
                 from: *from,
+                payloads: Payloads::All,
+            };
+            let body = read_body(alloc, plain, released, ask)?;
+            Ok(Msg {
+                from: msg.to,
+                to: msg.from,
+                log: msg.log,
+                body,
+            })
+        }
+        _ => Err(NoMemory),
+    }
+}
+
+/// The answer of a node to an ask for one copy of each record: the same, but of a record that another node sends the page
+/// says only that there is one, and its payload isn't copied. The message is a ReadOne.
+pub fn answer_one(
+    alloc: Global,
+    plain: &Plain,
+    node: NodeId,
+    released: Lsn,
+    msg: &Msg,
+) -> Result<Msg, NoMemory>
+    requires { IsReadOne msg.now.body }
+    ensures answer { IfOk result (λ answer. answer ≡ one_answered node plain.now.state released msg.now) }
+
+    // A payload stands in the page only where this node is the one that sends it.
+    ensures senders { (round from : ℕ) (set excluded : List Bool) → msg.now.body ≡ ReadOne round from set excluded → IfOk result (λ answer. AreSentBy node set excluded (entries_read answer.body)) }
+{
+    match &msg.body {
+        Body::ReadOne {
+            round,
+            from,
+            set,
+            excluded,
+        } => {
+            let ask = Ask {
+                log: msg.log,
+                round: *round,
+                from: *from,
+                payloads: Payloads::Share {
+                    node,
+                    set: *set,
+                    excluded: *excluded,
+                },
             };
             let body = read_body(alloc, plain, released, ask)?;
             Ok(Msg {
@@ -71,9 +120,10 @@ pub fn digest(alloc: Global, plain: &Plain, msg: &Msg) -> Result<Msg, NoMemory>
     }
 }
 
+/// The answer with the payloads of those records that are carried.
 #[tactic(auto, unfolding(ld_op::specs::Answers::read_answer))]
 fn read_body(alloc: Global, plain: &Plain, released: Lsn, ask: Ask) -> Result<Body, NoMemory>
-    ensures { IfOk result (λ body. body ≡ read_answer plain.now.state.generation (log_of plain.now.state ask.log) released ask.round ask.from) }
+    ensures { IfOk result (λ body. body ≡ carried_in (carries_of ask.payloads) (read_answer plain.now.state.generation (log_of plain.now.state ask.log) released ask.round ask.from)) }
 {
     let trim = plain.trim(ask.log);
     if ask.from.value() <= trim.value() {
@@ -101,7 +151,7 @@ fn ended_body(
 ) -> Result<Body, NoMemory>
     requires epoch { epoch ≡ home_epoch ask.from }
     requires esn { esn ≡ home_esn ask.from }
-    ensures { IfOk result (λ body. body ≡ ended_answer plain.now.state.generation (log_of plain.now.state ask.log) ask.round ask.from summary) }
+    ensures { IfOk result (λ body. body ≡ carried_in (carries_of ask.payloads) (ended_answer plain.now.state.generation (log_of plain.now.state ask.log) ask.round ask.from summary)) }
 {
     if u64::from(summary.end) <= esn {
         return Ok(Body::ReadEnded {
@@ -127,7 +177,7 @@ fn open_body(
     epoch: u32,
 ) -> Result<Body, NoMemory>
     requires { epoch ≡ home_epoch ask.from }
-    ensures { IfOk result (λ body. body ≡ epoch_answer plain.now.state.generation (log_of plain.now.state ask.log) released ask.round ask.from None) }
+    ensures { IfOk result (λ body. body ≡ carried_in (carries_of ask.payloads) (epoch_answer plain.now.state.generation (log_of plain.now.state ask.log) released ask.round ask.from None)) }
 {
     if plain.is_lost_in(ask.log, epoch) {
         return Ok(lost_body(plain, ask, Lsn::from_u64(0)));
@@ -162,9 +212,9 @@ fn read_page(
     last: Lsn,
     clean: bool,
 ) -> Result<Body, NoMemory>
-    ensures { IfOk result (λ body. body ≡ read_page ask.round ask.from clean last (readable (log_of plain.now.state ask.log) ask.from last)) }
+    ensures { IfOk result (λ body. body ≡ carried_in (carries_of ask.payloads) (read_page ask.round ask.from clean last (readable (log_of plain.now.state ask.log) ask.from last))) }
 {
-    let page = plain.excerpt(alloc, ask.log, ask.from, last, false)?;
+    let page = plain.excerpt_of(alloc, ask.log, ask.from, last, false, &ask.payloads)?;
     Ok(Body::ReadPage {
         round: ask.round,
         from: ask.from,

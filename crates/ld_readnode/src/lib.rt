@@ -3,8 +3,9 @@
 
 mod answers;
 mod laws;
+mod payloads;
 #[cfg(test)]
 mod tests;
 
-pub use answers::{answer, digest};
+pub use answers::{answer, answer_one, digest};
 pub use laws::{digests_join, read_pages_join};

@@ -1,6 +1,6 @@
 // Answers as tables: what a node has, where it is asked, what it says.
-use crate::{answer, digest};
-use ld_ids::{LogId, NoMemory, NodeId, Payload};
+use crate::{answer, answer_one, digest};
+use ld_ids::{LogId, NoMemory, NodeId, NodeSet, Payload};
 use ld_lsn::Lsn;
 use ld_msg::{Body, Entry, Msg, Summary, What, Who};
 use ld_op::{Op, Plain};
@@ -147,6 +147,58 @@ fn tells(
     };
     let reply = digest(alloc, plain, &msg)?;
     Ok(shown(&reply.body))
+}
+
+// How many payloads are in the page that the node gives to a reader of one copy from the first place of epoch 1 on.
+fn payloads(
+    alloc: Global,
+    plain: &Plain,
+    log: LogId,
+    node: NodeId,
+    set: NodeSet,
+    excluded: NodeSet,
+) -> Result<usize, NoMemory> {
+    let msg = Msg {
+        from: Who::Reader(0),
+        to: Who::Node(node),
+        log,
+        body: Body::ReadOne {
+            round: 1,
+            from: Lsn::new(1, 1),
+            set,
+            excluded,
+        },
+    };
+    let reply = answer_one(alloc, plain, node, Lsn::new(1, 3), &msg)?;
+    let mut count = 0;
+    if let Body::ReadPage { entries, .. } = &reply.body {
+        for entry in entries.as_slice() {
+            if let What::Rec(_) = &entry.what {
+                count += 1;
+            }
+        }
+    }
+    Ok(count)
+}
+
+#[test]
+fn each_payload_comes_from_one_node(rt: HostRuntime) -> Result<(), Fail> {
+    let alloc = rt.alloc();
+    let log = LogId::new(1).expect(&rt, "a log");
+    let first = NodeId::new(1).expect(&rt, "a node");
+    let second = NodeId::new(2).expect(&rt, "a node");
+    let none = NodeSet::empty();
+    let set = none.with(first).with(second);
+    let mut plain = Plain::new(alloc);
+    fill(alloc, &mut plain, log, 3)?;
+    'rows: for (node, excluded, count) in [
+        (first, none, 2),
+        (second, none, 1),
+        (second, none.with(first), 3),
+    ] {
+        assert_eq!(rt; payloads(alloc, &plain, log, node, set, excluded)?, count);
+    }
+    Ok(())
 }
 
 #[test]
