@@ -19,4 +19,5 @@ pub use digits::parse_payload;
 pub use event::{Event, Picture};
 pub use fault::LineFault;
 pub use law::spells_one_event;
+pub use parts::parse_messages;
 pub use read::parse_line;

@@ -62,3 +62,11 @@ impl Field for Messages {
         parts(alloc, line, 1024)
     }
 }
+
+/// The messages of the batch that a line spells, without the byte 10 that ends it: 1 to 1,024 payloads, with commas between
+/// them. A line that spells none is `Bad` at the length of its longest prefix with which some such line begins.
+pub fn parse_messages(alloc: Global, line: &[u8]) -> Result<Messages, LineFault>
+    ensures { IsRead IsBatch messages_text line.now result }
+{
+    Messages::read(alloc, line)
+}
