@@ -5,7 +5,7 @@ use Rattle.std.proofs.lemmas.Bool.{cases_Bool}
 use Rattle.std.proofs.lemmas.Bool.Decides.{nat_tests}
 use Rattle.ld_lsn.specs.Number.{epoch_of, esn_of, home_epoch, last_esn}
 use Rattle.ld_msg.specs.declared.msg.What.{What}
-use Rattle.ld_msg.specs.declared.msg.What.TheVariants.{Rec, Hole, Bridge, Plug}
+use Rattle.ld_msg.specs.declared.msg.What.TheVariants.{Rec, Hole, Bridge, Plug, Withheld}
 use Rattle.ld_msg.specs.declared.msg.Entry.{Entry}
 use Rattle.ld_msg.specs.Bounds.{AreEntries, last_place, IsPage}
 use Rattle.ld_msg.specs.Digest.{is_bridge}
@@ -33,6 +33,7 @@ placed (Rec p) esn h n = omega (arith, h)
 placed Hole esn h n = omega (arith, h)
 placed Bridge esn h n = absurd cc
 placed Plug esn h n = omega (arith, h)
+placed Withheld esn h n = omega (arith, h)
 
 -- only a bridge stands at the last place of an epoch
 pub in_place : (es : List Entry) → AreEntries es → AreInPlace es

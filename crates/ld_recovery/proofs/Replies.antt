@@ -370,6 +370,7 @@ other_body r y (bodies.Clean ep s) h a b c d e f = quiet r y (bodies.Clean ep s)
 other_body r y (bodies.Release n) h a b c d e f = quiet r y (bodies.Release n) h refl refl
 other_body r y (bodies.Trim n) h a b c d e f = quiet r y (bodies.Trim n) h refl refl
 other_body r y (bodies.ReadAsk ro n) h a b c d e f = quiet r y (bodies.ReadAsk ro n) h refl refl
+other_body r y (bodies.ReadOne ro n set excluded) h a b c d e f = quiet r y (bodies.ReadOne ro n set excluded) h refl refl
 other_body r y (bodies.ReadPage ro n u cl es) h a b c d e f = quiet r y (bodies.ReadPage ro n u cl es) h refl refl
 other_body r y (bodies.ReadEnded ro n en lo) h a b c d e f = quiet r y (bodies.ReadEnded ro n en lo) h refl refl
 other_body r y (bodies.ReadTrim ro n t) h a b c d e f = quiet r y (bodies.ReadTrim ro n t) h refl refl

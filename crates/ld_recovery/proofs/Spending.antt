@@ -95,6 +95,7 @@ looks_there looks q v y (bodies.Clean e s) m l h = absurd cc
 looks_there looks q v y (bodies.Release n) m l h = absurd cc
 looks_there looks q v y (bodies.Trim n) m l h = absurd cc
 looks_there looks q v y (bodies.ReadAsk ro n) m l h = absurd cc
+looks_there looks q v y (bodies.ReadOne ro n set excluded) m l h = absurd cc
 looks_there looks q v y (bodies.ReadPage ro n u c es) m l h = absurd cc
 looks_there looks q v y (bodies.ReadEnded ro n en lo) m l h = absurd cc
 looks_there looks q v y (bodies.ReadTrim ro n t) m l h = absurd cc

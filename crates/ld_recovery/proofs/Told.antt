@@ -35,7 +35,7 @@ stranger r y from to b h isnt f = other_body r y b h
 
 pub reply_of : (from to : Who) (b : Body) → Fits from to b → IsReply b
 reply_of from to (bodies.CleanHere n y) f = f.2
-reply_of from to (bodies.DigestPage n u t l es) f = (f.1, f.3)
+reply_of from to (bodies.DigestPage n u t l es) f = (f.1, f.4)
 reply_of from to _ f = tt
 
 -- ---- which summary it is done with ----

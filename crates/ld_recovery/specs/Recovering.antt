@@ -136,7 +136,7 @@ spends r y b = counts r.recovery y b && (is_spent_stage (spec_of r) (told_by r.r
 
 -- it ends where a later epoch's would begin: what a look shows of that one doesn't matter
 abbrev pub no_looks : Recovering → ℕ → View
-no_looks r e = record { at = e; epoch = r.ballot; lce = r.recovery.epoch; summary = None; spec = spec_of r }
+no_looks r e = record { at = e; epoch = r.ballot; lce = r.recovery.epoch; swaps = 0; summary = None; spec = spec_of r }
 
 abbrev pub reply_acts : Recovering → ℕ → Body → Acts
 reply_acts r y b = on_reply (no_looks r) (as_sequencer r) y b
