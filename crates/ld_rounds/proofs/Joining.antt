@@ -199,6 +199,10 @@ module _ (c : Config) where
   calm_takes o s (events.Drop n) h = refl
   calm_takes o s (events.Flow k) h = refl
   calm_takes o s (events.Open n l from until) h = refl
+  calm_takes o s (events.OpenOne n l from until) h = refl
+  calm_takes o s (events.OpenMessages n l from until) h = refl
+  calm_takes o s (events.Batch n ms) h = refl
+  calm_takes o s (events.Replace n m l) h = refl
   calm_takes o s (events.Poll n) h = refl
   calm_takes o s (events.Tick n l) h = refl
   calm_takes o s (events.Down n) h = refl

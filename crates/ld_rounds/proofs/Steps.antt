@@ -76,6 +76,8 @@ driven_if who one other c s (e ∷ es) f d = (event_if e d.0, driven_if who one 
     event_if (events.Append n payload) h = h
     event_if (events.Retry n) h = h
     event_if (events.Open n l from until) h = h
+    event_if (events.OpenOne n l from until) h = h
+    event_if (events.OpenMessages n l from until) h = h
     event_if (events.Poll n) h = h
     event_if (events.Tick n l) h = h
     event_if (events.Deliver i) h = h
@@ -159,7 +161,7 @@ to_node_by false s d e h = record { state = refl; sends = refl; quiet = refl }
 pub to_node_far : (c : Config) (s : State) (n : ℕ) (m : Msg) → IsFar s (to_node c s n m) (handed c s.nodes n m)
 to_node_far c s n m =
     to_node_by (is_up (node_at s n).status && has_log c m.log) s _ _
-    (handles_far s n (machine.releases (node_at s n) m.log m.body) m (machine.node_handles (node_at s n) m).op (machine.node_handles (node_at s n) m).answer)
+    (handles_far s n (machine.releases (node_at s n) m.log m.body) m (machine.node_handles n (node_at s n) m).op (machine.node_handles n (node_at s n) m).answer)
 
 -- what it answers comes from a node
 answer_from : (n : ℕ) (m : Msg) (b : Option Body) → AllByRecursion (λ x. is_answer x ≡ true) (answer_message n m b)
@@ -181,7 +183,7 @@ answers_by false s d h = tt
 pub answers_from : (c : Config) (s : State) (n : ℕ) (m : Msg) → AllByRecursion (λ x. is_answer x ≡ true) (to_node c s n m).sends
 answers_from c s n m =
     answers_by (is_up (node_at s n).status && has_log c m.log) s _
-    (handles_from _ n m (machine.node_handles (node_at s n) m).op (machine.node_handles (node_at s n) m).answer)
+    (handles_from _ n m (machine.node_handles n (node_at s n) m).op (machine.node_handles n (node_at s n) m).answer)
 
 -- it answers at most once
 answer_once : (n : ℕ) (m : Msg) (b : Option Body) → AnswersOnce n (answer_message n m b)
@@ -203,15 +205,16 @@ once_by n false s d h = tt
 pub answers_once : (c : Config) (s : State) (n : ℕ) (m : Msg) → AnswersOnce n (to_node c s n m).sends
 answers_once c s n m =
     once_by n (is_up (node_at s n).status && has_log c m.log) s _
-    (handles_once _ n m (machine.node_handles (node_at s n) m).op (machine.node_handles (node_at s n) m).answer)
+    (handles_once _ n m (machine.node_handles n (node_at s n) m).op (machine.node_handles n (node_at s n) m).answer)
 
 -- a message of another kind it doesn't answer
-handled_unanswered : (generation : ℕ) (g : Log) (l ballot released : ℕ) (b : Body) → is_answered b ≡ false → (handled_by generation g l ballot released b).answer ≡ None
+handled_unanswered : (n generation : ℕ) (g : Log) (l ballot released : ℕ) (b : Body) → is_answered b ≡ false → (handled_by n generation g l ballot released b).answer ≡ None
 unfolding on_clean on_trim on_page
-handled_unanswered generation g l ballot released (bodies.Store number lng what) h = absurd cc
-handled_unanswered generation g l ballot released (bodies.DigestAsk from) h = absurd cc
-handled_unanswered generation g l ballot released (bodies.ReadAsk round from) h = absurd cc
-handled_unanswered generation g l ballot released b h = refl
+handled_unanswered n generation g l ballot released (bodies.Store number lng what) h = absurd cc
+handled_unanswered n generation g l ballot released (bodies.DigestAsk from) h = absurd cc
+handled_unanswered n generation g l ballot released (bodies.ReadAsk round from) h = absurd cc
+handled_unanswered n generation g l ballot released (bodies.ReadOne round from set excluded) h = absurd cc
+handled_unanswered n generation g l ballot released b h = refl
 
 pub when_none : (b : Bool) → let none : List Msg = [] in (if b then none else none) ≡ none
 when_none true = refl
@@ -229,7 +232,7 @@ none_by false s d h = refl
 pub answers_none : (c : Config) (s : State) (n : ℕ) (m : Msg) → is_answered m.body ≡ false → (to_node c s n m).sends ≡ []
 answers_none c s n m h =
     none_by (is_up (node_at s n).status && has_log c m.log) s _
-    (handles_none _ n m (machine.node_handles (node_at s n) m).op (machine.node_handles (node_at s n) m).answer (handled_unanswered _ _ _ _ _ m.body h))
+    (handles_none _ n m (machine.node_handles n (node_at s n) m).op (machine.node_handles n (node_at s n) m).answer (handled_unanswered _ _ _ _ _ _ m.body h))
 
 -- ---- the steps of a client ----
 

@@ -22,6 +22,7 @@ abbrev pub is_answered : Body → Bool
 is_answered (bodies.Store n lng w) = true
 is_answered (bodies.DigestAsk n) = true
 is_answered (bodies.ReadAsk round n) = true
+is_answered (bodies.ReadOne round n set excluded) = true
 is_answered _ = false
 
 abbrev pub is_of : ℕ → Who → Bool

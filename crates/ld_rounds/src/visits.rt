@@ -34,6 +34,7 @@ fn is_answered(message: &Msg) -> bool
         Body::Store { .. } => true,
         Body::DigestAsk { .. } => true,
         Body::ReadAsk { .. } => true,
+        Body::ReadOne { .. } => true,
         _ => false,
     }
 }
