@@ -1,5 +1,5 @@
 -- What is read from a run's steps: what was appended, acknowledged and trimmed, what readers got, and which nodes stood lost.
-use Rattle.std.specs.Prelude.{ℕ, ◌≡◌, List, [], ◌∷◌, filter_map, flat_map, Option, Some, None, Bool, true, false, ◌⊎◌, ◌&&◌, ◌==◌, nat_lt, nat_le, if◌then◌else◌, slice_get}
+use Rattle.std.specs.Prelude.{ℕ, ◌≡◌, ◌<◌, length, List, [], ◌∷◌, filter_map, flat_map, Option, Some, None, Bool, true, false, ◌⊎◌, ◌&&◌, ◌==◌, nat_lt, nat_le, if◌then◌else◌, slice_get}
 use Rattle.std.specs.Option.{unwrap_or}
 use Rattle.ld_table.specs.Table.{find}
 use Rattle.ld_table.specs.Named.{same}
@@ -156,10 +156,17 @@ pub record WritesBatch (hs : List Happened) (k : ℕ) (name : List ℕ) (n : ℕ
   pub each : (i : ℕ) (m : List ℕ) → slice_get ms i ≡ Some m → Writes hs k (lines.BatchMessage name n i m)
   pub only : (i : ℕ) (m : List ℕ) → Writes hs k (lines.BatchMessage name n i m) → slice_get ms i ≡ Some m
 
--- step k gave a reader the record, or the messages of its batch
+-- step k gave a reader the record
 pub record GivesRecord (c : Config) (hs : List Happened) (l n : ℕ) (p : List ℕ) (k : ℕ) : Type 0 where
   pub name : List ℕ
-  pub told : Writes hs k (lines.Record name n p) ⊎ ((ms : List (List ℕ)) × (p ≡ packed ms) × WritesBatch hs k name n ms)
+  pub told : Writes hs k (lines.Record name n p)
+  pub of_log : ReadsLog c hs l name
+
+-- step k gave a reader the messages of a batch, one at least
+pub record GivesBatch (c : Config) (hs : List Happened) (l n : ℕ) (ms : List (List ℕ)) (k : ℕ) : Type 0 where
+  pub name : List ℕ
+  pub some : 0 < length ms
+  pub told : WritesBatch hs k name n ms
   pub of_log : ReadsLog c hs l name
 
 -- step k gave a reader the gap

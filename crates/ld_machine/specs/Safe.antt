@@ -6,10 +6,11 @@ use Rattle.ld_transcript.specs.declared.line.GapKind.{GapKind}
 use Rattle.ld_transcript.specs.declared.line.GapKind.TheVariants as gaps
 use Rattle.ld_transcript.specs.declared.line.Line.TheVariants as lines
 use Rattle.ld_config.specs.declared.config.Config.{Config}
+use Rattle.ld_batch.specs.Batch.{Messages, unpacked}
 use Rattle.ld_ids.specs.Choice.{nodes_of}
 use Rattle.ld_ids.specs.declared.set.Spec.{Spec}
 use Rattle.ld_machine.specs.Config.{first_spec}
-use Rattle.ld_machine.specs.Facts.{Happened, Opening, opening, Writes, Appends, Acks, Issues, GivesRecord, GivesGap, Interval, intervals, spec_now, stands_lost}
+use Rattle.ld_machine.specs.Facts.{Happened, Opening, opening, Writes, Appends, Acks, Issues, GivesRecord, GivesBatch, GivesGap, Interval, intervals, spec_now, stands_lost}
 
 -- intervals that follow one another without a space, none empty and none past the end
 abbrev pub TilesFrom : ℕ → ℕ → List Interval → Type 0
@@ -24,14 +25,18 @@ ItemsTile c hs = (r : List ℕ) (o : Opening) → opening c r hs ≡ Some o → 
 abbrev pub RecordsWereAppended : Config → List Happened → Type 0
 RecordsWereAppended c hs = (l n k : ℕ) (p : List ℕ) → GivesRecord c hs l n p k → (j : ℕ) × (j < k) × Appends hs l n p j
 
+-- the messages of a batch that a reader gets are in order those of the payload that was appended under its number before
+abbrev pub BatchesWereAppended : Config → List Happened → Type 0
+BatchesWereAppended c hs = (l n k : ℕ) (ms : List (List ℕ)) → GivesBatch c hs l n ms k → (j : ℕ) × (p : List ℕ) × (j < k) × (unpacked p ≡ Messages ms) × Appends hs l n p j
+
 -- a hole or a bridge
 abbrev pub SaysNone : GapKind → Type 0
 SaysNone kind = (kind ≡ gaps.Hole) ⊎ (kind ≡ gaps.Bridge)
 
--- no hole or bridge holds a number that was acknowledged or read as a record, earlier or later
+-- no hole or bridge holds a number that was acknowledged or read as a record or a batch, earlier or later
 abbrev pub NothingHidden : Config → List Happened → Type 0
 NothingHidden c hs = (l low high n i j : ℕ) (kind : GapKind) → SaysNone kind → GivesGap c hs l kind low high i → low ≤ n → n ≤ high →
-    (Acks hs l n j → ⊥) × ((p : List ℕ) → GivesRecord c hs l n p j → ⊥)
+    (Acks hs l n j → ⊥) × ((p : List ℕ) → GivesRecord c hs l n p j → ⊥) × ((ms : List (List ℕ)) → GivesBatch c hs l n ms j → ⊥)
 
 -- a trim gap ends at or below a point that was issued before
 abbrev pub TrimsWereIssued : Config → List Happened → Type 0
@@ -56,6 +61,7 @@ NumbersDiffer hs = (l n j k : ℕ) (p q : List ℕ) → Appends hs l n p j → A
 pub record Safe (c : Config) (hs : List Happened) : Type 0 where
   pub tiles : ItemsTile c hs
   pub records : RecordsWereAppended c hs
+  pub batches : BatchesWereAppended c hs
   pub hidden : NothingHidden c hs
   pub trims : TrimsWereIssued c hs
   pub losses : LossesHappened c hs
