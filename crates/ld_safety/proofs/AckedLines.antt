@@ -203,7 +203,7 @@ module _ (c : Config) (hs : List Happened) (s : State) (e : Event) (D : (t : Lis
   line_cases = record {
     still = λ f i. stays _ refl;
     says = λ x q. stays _ refl;
-    node_hears = λ f n m i t v o. handled f (Step.releases (node_at s n) m.log m.body) n m (Step.node_handles (node_at s n) m).op (Step.node_handles (node_at s n) m).answer;
+    node_hears = λ f n m i t v o. handled f (Step.releases (node_at s n) m.log m.body) n m (Step.node_handles n (node_at s n) m).op (Step.node_handles n (node_at s n) m).answer;
     loads = λ n ls q a o. stays _ refl;
     draw_fails = λ n a. stays _ refl;
     formats = λ n k g a v i. stays _ refl;
@@ -223,7 +223,7 @@ module _ (c : Config) (hs : List Happened) (s : State) (e : Event) (D : (t : Lis
     activate_fails = λ name l x g q. stays _ refl;
     answers = λ f name d m i t v o. stays _ refl;
     polls = λ name d v o. stays _ refl;
-    opens = λ name l from until o x. stays _ refl;
+    opens = λ style name l from until o x. stays _ refl;
   }
 
 -- ---- along a run ----

@@ -7,7 +7,6 @@ use Rattle.ld_table.specs.Named.{find_named, put_named}
 use Rattle.ld_lsn.specs.Number.{epoch_of, numbered, home_epoch, last_esn}
 use Rattle.ld_config.specs.declared.config.Config.{Config}
 use Rattle.ld_schedule.specs.declared.event.Event.{Event}
-use Rattle.ld_schedule.specs.declared.event.Event.TheVariants as events
 use Rattle.ld_transcript.specs.declared.line.Line.TheVariants as lines
 use Rattle.ld_msg.specs.declared.msg.Summary.{Summary}
 use Rattle.ld_msg.specs.declared.msg.Msg.{Msg}
@@ -21,7 +20,7 @@ use Rattle.ld_msg.specs.Sequencer.{Sequencer, Recovery, Acts, Append, Called, ca
 use Rattle.ld_machine.specs.Config.{looks_at, has_log}
 use Rattle.ld_machine.specs.Disk.{Node}
 use Rattle.ld_machine.specs.State.{State, Done, node_at, with_node, with_sequencer, only_state}
-use Rattle.ld_machine.specs.Facts.{Happened}
+use Rattle.ld_machine.specs.Facts.{Happened, AsksToAppend}
 use Rattle.ld_machine.specs.World.{Made, In}
 use Rattle.ld_machine.specs.Step as Step
 use Rattle.ld_safety.proofs.Lists.{Some_inj, not_none, In-append, only, cond_both}
@@ -108,7 +107,7 @@ module _ (c : Config) (s : State) (e : Event) (hs : List Happened) (D : (t : Lis
     (rows : (t : List ℕ) (v : Sequencer) → find_named t s.sequencers ≡ Some v → RowOf v)
     (stored : (name : List ℕ) (q : Sequencer) → Live s name q → (m : Msg) → In m s.network.sent → m.to ≡ whos.Sequencer q.epoch → m.log ≡ q.log → (n : ℕ) → m.body ≡ bodies.Stored n → tells_stored s.network.sent q.log n q.epoch (Step.sender_node m.from) ≡ true)
     (cleaned : (name : List ℕ) (q : Sequencer) → Live s name q → (m : Msg) → In m s.network.sent → m.log ≡ q.log → (n : ℕ) (y : Summary) → m.body ≡ bodies.CleanHere n y → home_epoch n ≤ lce_of s.register q.log)
-    (numbers : (name : List ℕ) (q : Sequencer) (payload : List ℕ) → Live s name q → appending q payload ≡ Numbered → e ≡ events.Append name payload → In (lines.Appended name (numbered q.epoch (next_esn q))) (Step.happens c s e).lines → (next_esn q < last_esn) × AppendedBy hs q.log (numbered q.epoch (next_esn q)) payload) where
+    (numbers : (name : List ℕ) (q : Sequencer) (payload : List ℕ) → Live s name q → appending q payload ≡ Numbered → AsksToAppend name payload e → In (lines.Appended name (numbered q.epoch (next_esn q))) (Step.happens c s e).lines → (next_esn q < last_esn) × AppendedBy hs q.log (numbered q.epoch (next_esn q)) payload) where
   SameLog : List ℕ → Sequencer → Type 0
   SameLog t v = (q : Sequencer) → find_named t s.sequencers ≡ Some q → v.log ≡ q.log
 
@@ -143,7 +142,7 @@ module _ (c : Config) (s : State) (e : Event) (hs : List Happened) (D : (t : Lis
   unfolding SameLog
   called_result f name q a m v A = puts (Step.acted c (refreshed s f) name q a) name (called (looks_at c s.register q.log) s.register a a.tries).acts.sequencer refl A.fine (λ p g. A.log ∙ ap (λ (x : Sequencer). x.log) (Some_inj (sym v.named ∙ g)))
 
-  append_result : (name : List ℕ) (q : Sequencer) (payload : List ℕ) → Live s name q → appending q payload ≡ Numbered → e ≡ events.Append name payload → Result (Step.append_done s name q payload Numbered) []
+  append_result : (name : List ℕ) (q : Sequencer) (payload : List ℕ) → Live s name q → appending q payload ≡ Numbered → AsksToAppend name payload e → Result (Step.append_done s name q payload Numbered) []
   unfolding SameLog
   append_result name q payload v a i w = puts (Step.append_done s name q payload Numbered) name (appended q payload) refl (λ u w. record { reached = A.reached; spec = A.spec; kept = A.kept; appends = λ p j. elim (In-append p q.appends _ j) [ inl k ↦ A.appends p k | inr k ↦ subst (AppendFine c hs s.network.sent q.spec q.log q.epoch) (sym (only p (numbered q.epoch (next_esn q), fresh_append payload) k)) fresh ]; acked = A.acked; closed = A.closed })
       (λ p g. ap (λ (x : Sequencer). x.log) (Some_inj (sym v.named ∙ g))) w where
@@ -178,7 +177,7 @@ module _ (c : Config) (s : State) (e : Event) (hs : List Happened) (D : (t : Lis
   acks_cases = record {
     still = λ f i. stays _ refl;
     says = λ x q. stays _ refl;
-    node_hears = λ f n m i t v o. handled f (Step.releases (node_at s n) m.log m.body) n m (Step.node_handles (node_at s n) m).op (Step.node_handles (node_at s n) m).answer;
+    node_hears = λ f n m i t v o. handled f (Step.releases (node_at s n) m.log m.body) n m (Step.node_handles n (node_at s n) m).op (Step.node_handles n (node_at s n) m).answer;
     loads = λ n ls q b o. stays _ refl;
     draw_fails = λ n b. stays _ refl;
     formats = λ n k g b v i. stays _ refl;
@@ -198,5 +197,5 @@ module _ (c : Config) (s : State) (e : Event) (hs : List Happened) (D : (t : Lis
     activate_fails = λ name l x g q. stays _ refl;
     answers = λ f name d m i t v o. stays _ refl;
     polls = λ name d v o. stays _ refl;
-    opens = λ name l from until o x. stays _ refl;
+    opens = λ style name l from until o x. stays _ refl;
   }

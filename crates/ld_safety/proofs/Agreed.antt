@@ -78,7 +78,7 @@ module _ (c : Config) (hs : List Happened) (w : World) (B : Base c hs w) (R : Al
 
   pub store_said : (l n : ℕ) (x : What) → append_in l n w.state.network.sent ≡ Some x → Said hs w.made w.state.register l (epoch_of n) n x
   store_said l n x h = let s = found_store l n w.state.network.sent x h in
-      let z : carried.BodyOk (Said hs w.made w.state.register) (TrimFine c hs w.state.network.sent w.state.register) (CloseFine c hs w.made w.state.network.sent w.state.register) (Reached w.state.register) (ShowFine c hs w.made w.state.network.sent w.state.register) (ReleaseFine c hs w.state.network.sent w.state.register) (SaidHere hs w.made w.state.register) (LngFine c hs w.state.network.sent w.state.register) s.message.log s.message.from (bodies.Store n s.lng x) = subst (carried.BodyOk (Said hs w.made w.state.register) (TrimFine c hs w.state.network.sent w.state.register) (CloseFine c hs w.made w.state.network.sent w.state.register) (Reached w.state.register) (ShowFine c hs w.made w.state.network.sent w.state.register) (ReleaseFine c hs w.state.network.sent w.state.register) (SaidHere hs w.made w.state.register) (LngFine c hs w.state.network.sent w.state.register) s.message.log s.message.from) s.body (R.said.sent s.message s.there) in
+      let z : carried.BodyOk (Said hs w.made w.state.register) (TrimFine c hs w.state.network.sent w.state.register) (CloseFine c hs w.made w.state.network.sent w.state.register) (Reached w.state.register) (ShowFine c hs w.made w.state.network.sent w.state.register) (ReleaseFine c hs w.state.network.sent w.state.register) (SaidHere hs w.made w.state.register) (LngFine c hs w.state.network.sent w.state.register) s.message.log s.message.from (bodies.Store n s.lng x) = subst (carried.BodyOk (Said hs w.made w.state.register) (TrimFine c hs w.state.network.sent w.state.register) (CloseFine c hs w.made w.state.network.sent w.state.register) (Reached w.state.register) (ShowFine c hs w.made w.state.network.sent w.state.register) (ReleaseFine c hs w.state.network.sent w.state.register) (SaidHere hs w.made w.state.register) (LngFine c hs w.state.network.sent w.state.register) s.message.log s.message.from) s.body (R.said.sent s.message s.there).0 in
       subst (λ k. Said hs w.made w.state.register k (epoch_of n) n x) s.log (subst (λ (k : Who). Said hs w.made w.state.register s.message.log (ballot_of k) n x) s.from z.0)
 
   -- a plan ends in its epoch

@@ -5,14 +5,14 @@ use Rattle.ld_lsn.specs.Number.{epoch_of, esn_of, numbered, last_esn}
 use Rattle.ld_ids.specs.declared.set.Spec.{Spec}
 use Rattle.ld_ids.specs.Choice.{nodes_of}
 use Rattle.ld_msg.specs.declared.msg.What.{What}
-use Rattle.ld_msg.specs.declared.msg.What.TheVariants.{Rec, Hole, Bridge, Plug}
+use Rattle.ld_msg.specs.declared.msg.What.TheVariants.{Rec, Hole, Bridge, Plug, Withheld}
 use Rattle.ld_msg.specs.declared.msg.Entry.{Entry}
 use Rattle.ld_msg.specs.declared.msg.Msg.{Msg}
 use Rattle.ld_msg.specs.Digest.{Told, best, content, record_or, is_bridge, is_content, plan_end, plan_floor, trim_place, digest_trim, digest_lng}
 use Rattle.ld_machine.specs.Facts.{Happened}
 use Rattle.ld_machine.specs.World.{Made, In}
 use Rattle.ld_safety.proofs.Lists.{count_share, cond_both, any_in}
-use Rattle.ld_safety.proofs.Plans.{best_of, best_least, ranked, trim_least, top_least, plan_shape, plan_between, content_no_bridge, no_bridge, floor_trim, floor_lng, end_above_floor, end_above_top}
+use Rattle.ld_safety.proofs.Plans.{best_of, best_least, ranked, trim_least, top_least, plan_shape, plan_between, content_no_bridge, no_bridge, floor_trim, floor_lng, end_above_floor, end_above_top, content_no_withheld}
 use Rattle.ld_safety.proofs.Protocol.{Basis, plan_of, plan_at, Says, PlansOnce, AppendsOnce, says_once, tells_stored, told_stored, Chosen, Ends, Kept, PlanFacts, whole_in}
 
 -- the place of a trim in its epoch covers what the trim covers
@@ -29,13 +29,22 @@ trim_place_up e t u l = cond_both (nat_lt (epoch_of t) e) 0 _ (λ x. x ≤ trim_
     (λ k. absurd (let y = ltb-true _ _ k in let z = ltb-false _ _ d in omega arith))
     (λ k. let y = ltb-false _ _ a in let z = ltb-false _ _ d in let v = ltb-false _ _ b in let w = ltb-false _ _ k in omega arith))))
 
-content_is : (f : Entry) → is_bridge f.what ≡ false → (f.what ≡ Plug → ⊥) → content false (Some f) ≡ f.what
-content_is f h np = by_what f.what h np where
-  by_what : (w : What) → is_bridge w ≡ false → (w ≡ Plug → ⊥) → record_or Hole w ≡ w
-  by_what (Rec p) g k = refl
-  by_what Hole g k = refl
-  by_what Bridge g k = absurd cc
-  by_what Plug g k = absurd (k refl)
+content_is : (f : Entry) → is_bridge f.what ≡ false → (f.what ≡ Plug → ⊥) → (f.what ≡ Withheld → ⊥) → content false (Some f) ≡ f.what
+content_is f h np nw = by_what f.what h np nw where
+  by_what : (w : What) → is_bridge w ≡ false → (w ≡ Plug → ⊥) → (w ≡ Withheld → ⊥) → record_or Hole w ≡ w
+  by_what (Rec p) g k u = refl
+  by_what Hole g k u = refl
+  by_what Bridge g k u = absurd cc
+  by_what Plug g k u = absurd (k refl)
+  by_what Withheld g k u = absurd (u refl)
+
+-- what a ballot says of a number isn't withheld
+pub says_kept : (hs : List Happened) (made : List Made) (l b n : ℕ) (x : What) → Says hs made l b n x → x ≡ Withheld → ⊥
+says_kept hs made l b n x (inl o) q = let z : Withheld ≡ Rec o.payload = sym q ∙ o.is in cc
+says_kept hs made l b n x (inr o) q = let h = plan_shape (epoch_of n) o.basis.loss o.basis.digest (esn_of n) x o.item in elim h.kind [
+  | inl k ↦ content_no_withheld o.basis.loss (best (numbered (epoch_of n) (esn_of n)) o.basis.digest) (sym k.1 ∙ q)
+  | inr k ↦ let z : Withheld ≡ Bridge = sym q ∙ k.1 in cc
+]
 
 module _ (hs : List Happened) (made : List Made) (sent : List Msg) (s : ℕ → Spec) (A : AppendsOnce hs) (P : PlansOnce made)
     (l : ℕ) (O : ℕ → Type 0)
@@ -128,7 +137,7 @@ module _ (hs : List Happened) (made : List Made) (sent : List Msg) (s : ℕ → 
               let top = top_least d.digest r.told f r.in_digest r.in_entries nf is_c in
               let en = end_above_top (epoch_of n) d.digest in
               let y : esn_of f.number ≡ esn_of n = ap esn_of q in
-              plan_between (epoch_of n) d.loss d.digest (esn_of n) above (omega arith) ∙ ap Some (ap (λ k. content k (best (numbered (epoch_of n) (esn_of n)) d.digest)) fd ∙ (ap (λ v. content false (best v d.digest)) (same_number n) ∙ (ap (content false) e ∙ (content_is f nf (λ w. np (sym same ∙ w)) ∙ same))))
+              plan_between (epoch_of n) d.loss d.digest (esn_of n) above (omega arith) ∙ ap Some (ap (λ k. content k (best (numbered (epoch_of n) (esn_of n)) d.digest)) fd ∙ (ap (λ v. content false (best v d.digest)) (same_number n) ∙ (ap (content false) e ∙ (content_is f nf (λ w. np (sym same ∙ w)) (λ w. says_kept hs made l b n x sx (sym same ∙ w)) ∙ same))))
           | inr q ↦ absurd (no_bridge_below n b g x old sx nb f z.below bf q.0 q.1 z.epoch z.says)
         ]
 

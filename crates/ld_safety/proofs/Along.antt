@@ -118,6 +118,7 @@ start_sound c = record {
   kept = λ l b n x s. record { given = s.given; reached = s.reached; says = inl s.says };
   zero_good = λ l e n a b o. absurd (omega arith);
   good_below = λ l e g h. good_low c [] [] empty_register l e g h;
+  whole = λ l b n x s. s.given.kept;
 }
 
 pub start_along : (c : Config) → Along c [] (begin c)

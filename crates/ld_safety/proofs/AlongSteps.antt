@@ -38,7 +38,7 @@ use Rattle.ld_msg.specs.Register.{Register, Changed, Granted, is_overtaken, no_e
 use Rattle.ld_msg.specs.Sequencer.{Sequencer, released_of, Recovery, appending, Numbered, Stage, next_esn, Seals, Closes, settled_by, is_fully_ready, is_ready_short, summary_of, Storing, Stores}
 use Rattle.ld_machine.specs.Disk.{Cut, load}
 use Rattle.ld_machine.specs.State.{Done, finish, node_at}
-use Rattle.ld_machine.specs.Facts.{Happened}
+use Rattle.ld_machine.specs.Facts.{Happened, AsksToAppend}
 use Rattle.ld_machine.specs.World.{World, Made, Joined, In, from_node, joined_on, MayHold, made_on, gone_nodes, is_gone, is_cut_gone}
 use Rattle.ld_machine.specs.Run.{next_world}
 use Rattle.ld_machine.specs.Step as Step
@@ -92,9 +92,10 @@ use Rattle.ld_safety.proofs.Joins.{joins_more, now_members, activated_in, follow
 use Rattle.ld_safety.proofs.Answered.{trims_answered, pages_answered}
 use Rattle.ld_safety.proofs.AcksKept as acks
 use Rattle.ld_msg.specs.declared.msg.Who.TheVariants as whos
-use Rattle.ld_schedule.specs.declared.event.Event.TheVariants as events
 use Rattle.ld_transcript.specs.declared.line.Line.TheVariants as lines
 use Rattle.ld_safety.proofs.Along.{Along, LastPlan, ClosedHow, closed_last, start_along, PlainSaid, BodySaidIn, zero_release}
+use Rattle.ld_safety.proofs.Withheld.{told_entry}
+use Rattle.ld_safety.proofs.Carried.{message_whole}
 
 -- ---- every step ----
 module _ (c : Config) (hs : List Happened) (w : World) (e : Event) (B : Base c hs w) (G : Given c hs w.state) (R : Along c hs w) where
@@ -115,7 +116,7 @@ module _ (c : Config) (hs : List Happened) (w : World) (e : Event) (B : Base c h
   settlers l y b n x (inr q) i = R.trimmed_of l y b n q.0 (subst (λ z. In (from_node l y b z) w.state.network.sent) q.1 i)
 
   drawn_known : (n : ℕ) (k : Register) → draw w.state.register n ≡ record { register = k; answer = Granted } → Known w.made w.state.network.sent k
-  drawn_known n k q = record { stored = λ l y s b i. reached l (epoch_of s) (R.said.sent _ i); pages = λ l y b from upto t lng es i. reached l (epoch_of from) (R.said.sent _ i).0.reached } where
+  drawn_known n k q = record { stored = λ l y s b i. reached l (epoch_of s) (R.said.sent _ i).0; pages = λ l y b from upto t lng es i. reached l (epoch_of from) (R.said.sent _ i).0.0.reached } where
     logs : k.logs ≡ w.state.register.logs
     logs = ap (λ (x : Changed). x.register.logs) (sym q) ∙ elim (draw_leaves w.state.register n) [ inl a ↦ a.0 | inr a ↦ a.0 ]
 
@@ -212,7 +213,7 @@ module _ (c : Config) (hs : List Happened) (w : World) (e : Event) (B : Base c h
   pub cleaned_now : (name : List ℕ) (q : Sequencer) → Live w.state name q → (m : Msg) → In m w.state.network.sent → m.log ≡ q.log → (n : ℕ) (y : Summary) → m.body ≡ bodies.CleanHere n y → home_epoch n ≤ lce_of w.state.register q.log
   cleaned_now name q v m i l n y h = cleaned_closed c w.state e hs w.made R.said B.0.1.epochs R.shows R.bounded R.below R.recoveries R.stored_from R.each settlers name q v m i l n y h
 
-  pub numbers_now : (name : List ℕ) (q : Sequencer) (payload : List ℕ) → Live w.state name q → appending q payload ≡ Numbered → e ≡ events.Append name payload → In (lines.Appended name (numbered q.epoch (next_esn q))) (Step.happens c w.state e).lines → (next_esn q < last_esn) × AppendedBy (hs ++ happened c w.state e ∷ []) q.log (numbered q.epoch (next_esn q)) payload
+  pub numbers_now : (name : List ℕ) (q : Sequencer) (payload : List ℕ) → Live w.state name q → appending q payload ≡ Numbered → AsksToAppend name payload e → In (lines.Appended name (numbered q.epoch (next_esn q))) (Step.happens c w.state e).lines → (next_esn q < last_esn) × AppendedBy (hs ++ happened c w.state e ∷ []) q.log (numbered q.epoch (next_esn q)) payload
   numbers_now name q payload v a i x = (below_last q payload (counts_of c hs w B name q v.named).small a, (append_given c hs w e B G name q payload v a i x).appended payload refl)
 
   pub acks_now : acks.Result c w.state e (hs ++ happened c w.state e ∷ []) acks_before rows_before stored_told_now cleaned_now numbers_now (Step.happens c w.state e) (made_on c w.state e)
@@ -267,7 +268,7 @@ module _ (c : Config) (hs : List Happened) (w : World) (e : Event) (B : Base c h
   body_says l from n lng x h = h.0
 
   store_says : (m : Msg) (n lng : ℕ) (x : What) → In m w.state.network.sent → m.body ≡ bodies.Store n lng x → Says hs w.made m.log (ballot_of m.from) n x
-  store_says m n lng x i h = (body_says m.log m.from n lng x (subst (BodySaidIn c hs w m.log m.from) h (R.said.sent m i))).says
+  store_says m n lng x i h = (body_says m.log m.from n lng x (subst (BodySaidIn c hs w m.log m.from) h (R.said.sent m i).0)).says
 
   same_summaries : (n l k : ℕ) (y z : Summary) → 0 < k → find k (epochs_of w.state.register l).summaries ≡ Some y → find k (log_of (node_at w.state n).plain l).summaries ≡ Some z → z ≡ y
   same_summaries n l k y z p f g = elim (((R.said.nodes n).plain l).summaries (k, z) (find_in k (log_of (node_at w.state n).plain l).summaries z g)).1 [
@@ -284,8 +285,8 @@ module _ (c : Config) (hs : List Happened) (w : World) (e : Event) (B : Base c h
     as_drawn l x h = (h.0, let z : (epochs_of k l).epoch ≡ (epochs_of w.state.register l).epoch = ap (λ m. (unwrap_or (find l m) no_epochs).epoch) logs in let y = h.1 in omega arith)
 
     reached_settled : (l y s b : ℕ) → StoredBy w.state.network.sent l y s b ⊎ TrimmedBy w.state.network.sent l y s b → Reached k l (epoch_of s)
-    reached_settled l y s b (inl i) = as_drawn l (epoch_of s) (R.said.sent _ i)
-    reached_settled l y s b (inr t) = as_drawn l (epoch_of s) (subst (Reached w.state.register l) t.epoch (R.said.sent _ t.told_so).1)
+    reached_settled l y s b (inl i) = as_drawn l (epoch_of s) (R.said.sent _ i).0
+    reached_settled l y s b (inr t) = as_drawn l (epoch_of s) (subst (Reached w.state.register l) t.epoch (R.said.sent _ t.told_so).0.1)
 
   copies_now : (y : ℕ) → NodeCopies w.made w.state.network.sent y (node_at (Step.happens c w.state e).state y)
   copies_now = dispatch c w.state e (λ d m. (y : ℕ) → NodeCopies w.made w.state.network.sent y (node_at d.state y)) B.0.0
@@ -496,7 +497,7 @@ module _ (c : Config) (hs : List Happened) (w : World) (e : Event) (B : Base c h
   sent_from : (m : Msg) → In m w.state.network.sent → (y n lng : ℕ) (x : What) → m.to ≡ whos.Node y → m.body ≡ bodies.Store n lng x → 0 < (node_at w.state y).plain.generation → Served (log_of (node_at w.state y).plain m.log) (epoch_of n) → OfSet c w.made w.state.register w.state.network.sent y m.log n × inset.StoreLng w.made m.log (ballot_of m.from) n lng
   sent_from m i y n lng x t h gen sv = by_who m.from refl where
     said : (who : Who) → m.from ≡ who → Said hs w.made w.state.register m.log (ballot_of who) n x
-    said who q = body_says m.log who n lng x (subst (λ z. BodySaidIn c hs w m.log z (bodies.Store n lng x)) q (subst (BodySaidIn c hs w m.log m.from) h (R.said.sent m i)))
+    said who q = body_says m.log who n lng x (subst (λ z. BodySaidIn c hs w m.log z (bodies.Store n lng x)) q (subst (BodySaidIn c hs w m.log m.from) h (R.said.sent m i).0))
 
     no_ballot : Said hs w.made w.state.register m.log 0 n x → ⊥
     no_ballot s = elim s.says [ inl o ↦ (let a = o.own in let b = s.reached.0 in omega arith) | inr o ↦ (let a = o.later in omega arith) ]
@@ -506,8 +507,8 @@ module _ (c : Config) (hs : List Happened) (w : World) (e : Event) (B : Base c h
     by_who (whos.Node b) q = absurd (no_ballot (said (whos.Node b) q))
     by_who (whos.Reader b) q = absurd (no_ballot (said (whos.Reader b) q))
 
-  page_holes : (m : Msg) → In m w.state.network.sent → (round from upto : ℕ) (es : List Entry) → m.body ≡ bodies.ReadPage round from upto true es → (x : Entry) → In x es → HoleClosed c w.made w.state.register w.state.network.sent m.log x
-  page_holes m i round from upto es h x j = let z = (subst (BodySaidIn c hs w m.log m.from) h (R.said.sent m i)).1 x j in (z.hole, z.closed.low, z.content)
+  page_holes : (m : Msg) → In m w.state.network.sent → (n round from upto : ℕ) (es : List Entry) → m.to ≡ whos.Node n → m.body ≡ bodies.ReadPage round from upto true es → (x : Entry) → In x es → HoleClosed c w.made w.state.register w.state.network.sent m.log x
+  page_holes m i n round from upto es t h x j = let z = (subst (BodySaidIn c hs w m.log m.from) h (R.said.sent m i).0).0.1 x (told_entry x es j (message_whole m n round from upto es t h (R.said.sent m i).1 x j)) in (z.hole, z.closed.low, z.content)
 
   marks_now : (y : ℕ) → MarkedNode c w.made w.state y (node_at (Step.happens c w.state e).state y)
   marks_now = dispatch c w.state e (λ d m. (y : ℕ) → MarkedNode c w.made w.state y (node_at d.state y)) B.0.0

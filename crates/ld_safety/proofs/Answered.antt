@@ -30,6 +30,7 @@ use Rattle.ld_safety.proofs.LostTalk.{TalkKeeps, talked, new_or_old}
 use Rattle.ld_safety.proofs.LostSaid.{served_not}
 use Rattle.ld_safety.proofs.InSet.{MayGo, Goes, AskGoes, InEpoch, InSent}
 use Rattle.ld_safety.proofs.Joins.{JoinedFine}
+use Rattle.ld_safety.proofs.Withheld.{one_kind}
 
 -- ---- what was asked ----
 abbrev says_trim : ℕ → Body → Bool
@@ -92,23 +93,25 @@ no_answer : (g : Log) (l : ℕ) (b x : Body) → (on_page g l b).answer ≡ Some
 unfolding on_page
 no_answer g l b x q = cc
 
-trim_asked : (generation : ℕ) (g : Log) (l ballot released n : ℕ) (b x : Body) → (handled_by generation g l ballot released b).answer ≡ Some x → says_trim n x ≡ true → StoreOf g n b
+trim_asked : (self generation : ℕ) (g : Log) (l ballot released n : ℕ) (b x : Body) → (handled_by self generation g l ballot released b).answer ≡ Some x → says_trim n x ≡ true → StoreOf g n b
 unfolding on_store on_digest_ask on_clean on_trim
-trim_asked generation g l ballot released n (bodies.Store m lng w) x q h = store_trim generation g m ballot lng w n x q h
-trim_asked generation g l ballot released n (bodies.DigestAsk from) x q h = absurd (ask_trim generation g ballot from n x q h)
-trim_asked generation g l ballot released n (bodies.Clean e y) x q h = absurd cc
-trim_asked generation g l ballot released n (bodies.Trim t) x q h = absurd cc
-trim_asked generation g l ballot released n (bodies.ReadAsk round from) x q h = absurd (not_both (says_trim n x) h (subst (λ (o : Body). says_trim n o ≡ false) (Some_inj q) (read_neither generation g released round from n).0))
-trim_asked generation g l ballot released n b x q h = absurd (no_answer g l b x q)
+trim_asked self generation g l ballot released n (bodies.Store m lng w) x q h = store_trim generation g m ballot lng w n x q h
+trim_asked self generation g l ballot released n (bodies.DigestAsk from) x q h = absurd (ask_trim generation g ballot from n x q h)
+trim_asked self generation g l ballot released n (bodies.Clean e y) x q h = absurd cc
+trim_asked self generation g l ballot released n (bodies.Trim t) x q h = absurd cc
+trim_asked self generation g l ballot released n (bodies.ReadAsk round from) x q h = absurd (not_both (says_trim n x) h (subst (λ (o : Body). says_trim n o ≡ false) (Some_inj q) (read_neither generation g released round from n).0))
+trim_asked self generation g l ballot released n (bodies.ReadOne round from set excluded) x q h = absurd (not_both (says_trim n x) h (subst (λ (o : Body). says_trim n o ≡ false) (Some_inj q) (one_kind self set excluded (says_trim n) false (λ a b z k es fs. refl) generation g released round from (read_neither generation g released round from n).0)))
+trim_asked self generation g l ballot released n b x q h = absurd (no_answer g l b x q)
 
-page_asked : (generation : ℕ) (g : Log) (l ballot released n : ℕ) (b x : Body) → (handled_by generation g l ballot released b).answer ≡ Some x → begins_at n x ≡ true → AskOf g n b
+page_asked : (self generation : ℕ) (g : Log) (l ballot released n : ℕ) (b x : Body) → (handled_by self generation g l ballot released b).answer ≡ Some x → begins_at n x ≡ true → AskOf g n b
 unfolding on_store on_digest_ask on_clean on_trim
-page_asked generation g l ballot released n (bodies.Store m lng w) x q h = absurd (store_begins generation g (record { number = m; ballot = ballot; what = w }) n x q h)
-page_asked generation g l ballot released n (bodies.DigestAsk from) x q h = ask_begins generation g ballot from n x q h
-page_asked generation g l ballot released n (bodies.Clean k y) x q h = absurd cc
-page_asked generation g l ballot released n (bodies.Trim t) x q h = absurd cc
-page_asked generation g l ballot released n (bodies.ReadAsk round from) x q h = absurd (not_both (begins_at n x) h (subst (λ (o : Body). begins_at n o ≡ false) (Some_inj q) (read_neither generation g released round from n).1))
-page_asked generation g l ballot released n b x q h = absurd (no_answer g l b x q)
+page_asked self generation g l ballot released n (bodies.Store m lng w) x q h = absurd (store_begins generation g (record { number = m; ballot = ballot; what = w }) n x q h)
+page_asked self generation g l ballot released n (bodies.DigestAsk from) x q h = ask_begins generation g ballot from n x q h
+page_asked self generation g l ballot released n (bodies.Clean k y) x q h = absurd cc
+page_asked self generation g l ballot released n (bodies.Trim t) x q h = absurd cc
+page_asked self generation g l ballot released n (bodies.ReadAsk round from) x q h = absurd (not_both (begins_at n x) h (subst (λ (o : Body). begins_at n o ≡ false) (Some_inj q) (read_neither generation g released round from n).1))
+page_asked self generation g l ballot released n (bodies.ReadOne round from set excluded) x q h = absurd (not_both (begins_at n x) h (subst (λ (o : Body). begins_at n o ≡ false) (Some_inj q) (one_kind self set excluded (begins_at n) false (λ a b z k es fs. refl) generation g released round from (read_neither generation g released round from n).1)))
+page_asked self generation g l ballot released n b x q h = absurd (no_answer g l b x q)
 
 -- ---- messages to sequencers ----
 
@@ -148,18 +151,18 @@ module _ (c : Config) (w : World) (v : Event) (N : NamesOnce w.state) (ups : (y 
   ask_of : (l y b n : ℕ) (k : Body) → 0 < (node_at w.state y).plain.generation → AskOf (log_of (node_at w.state y).plain l) n k → MayGo (Goes c w.state.register w.joined w.made l b) (AskGoes c w.state.register w.joined l) y k → Of l (epoch_of n) y
   ask_of l y b n k g h m = let z : AskGoes c w.state.register w.joined l y n = subst (MayGo (Goes c w.state.register w.joined w.made l b) (AskGoes c w.state.register w.joined l) y) h.0 m in (z.0, serving l (epoch_of n) y g h.1 z.1)
 
-  answer_new : (n : ℕ) (m : Msg) (x : Body) → In m w.state.network.sent → m.to ≡ whos.Node n → Serves c w.state n m.log → (Step.node_handles (node_at w.state n) m).answer ≡ Some x → NewAnswers (record { from = whos.Node n; to = m.from; log = m.log; body = x } ∷ [])
+  answer_new : (n : ℕ) (m : Msg) (x : Body) → In m w.state.network.sent → m.to ≡ whos.Node n → Serves c w.state n m.log → (Step.node_handles n (node_at w.state n) m).answer ≡ Some x → NewAnswers (record { from = whos.Node n; to = m.from; log = m.log; body = x } ∷ [])
   answer_new n m x i t v a = record {
     trim = λ z l y b k j f to g h. (let o = only z _ j in
         let node : n ≡ y = same_node (sym (ap (λ (u : Msg). u.from) o) ∙ f) in
         let lg : m.log ≡ l = sym (ap (λ (u : Msg). u.log) o) ∙ g in
         let from : m.from ≡ whos.Sequencer b = sym (ap (λ (u : Msg). u.to) o) ∙ to in
-        subst (Of l (epoch_of k)) node (subst (λ p. Of p (epoch_of k) n) lg (store_of m.log n b k m.body (ups n v.up).1 (trim_asked _ (log_of (node_at w.state n).plain m.log) _ _ _ k m.body x a (subst (λ (u : Body). says_trim k u ≡ true) (ap (λ (u : Msg). u.body) o) h)) (S m i b n from t))));
+        subst (Of l (epoch_of k)) node (subst (λ p. Of p (epoch_of k) n) lg (store_of m.log n b k m.body (ups n v.up).1 (trim_asked _ _ (log_of (node_at w.state n).plain m.log) _ _ _ k m.body x a (subst (λ (u : Body). says_trim k u ≡ true) (ap (λ (u : Msg). u.body) o) h)) (S m i b n from t))));
     page = λ z l y b k j f to g h. (let o = only z _ j in
         let node : n ≡ y = same_node (sym (ap (λ (u : Msg). u.from) o) ∙ f) in
         let lg : m.log ≡ l = sym (ap (λ (u : Msg). u.log) o) ∙ g in
         let from : m.from ≡ whos.Sequencer b = sym (ap (λ (u : Msg). u.to) o) ∙ to in
-        subst (Of l (epoch_of k)) node (subst (λ p. Of p (epoch_of k) n) lg (ask_of m.log n b k m.body (ups n v.up).1 (page_asked _ (log_of (node_at w.state n).plain m.log) _ _ _ k m.body x a (subst (λ (u : Body). begins_at k u ≡ true) (ap (λ (u : Msg). u.body) o) h)) (S m i b n from t))));
+        subst (Of l (epoch_of k)) node (subst (λ p. Of p (epoch_of k) n) lg (ask_of m.log n b k m.body (ups n v.up).1 (page_asked _ _ (log_of (node_at w.state n).plain m.log) _ _ _ k m.body x a (subst (λ (u : Body). begins_at k u ≡ true) (ap (λ (u : Msg). u.body) o) h)) (S m i b n from t))));
   }
 
   new_talk : TalkKeeps c w.state v (λ ms ds. NewAnswers ms)
@@ -169,7 +172,7 @@ module _ (c : Config) (w : World) (v : Event) (N : NamesOnce w.state) (ups : (y 
     answers = λ n m x i t u a. answer_new n m x i t u a;
     reads = λ name d m i t u. elsewhere_new _ (λ m i b t. posted_on _ _ _ m b i t);
     polls = λ name d u. elsewhere_new _ (λ m i b t. posted_on _ _ _ m b i t);
-    opens = λ name l from until o. none_new;
+    opens = λ style name l from until o. none_new;
   }
 
   -- what is said in a step

@@ -155,7 +155,7 @@ module _ (c : Config) (s : State) (e : Event) (fine : (name : List ℕ) (q : Seq
   append_cases = record {
     still = λ f i. others OfNodes _ (λ h. cc) (none_of OfNodes);
     says = λ x q. quiets _ (quiet_one x q);
-    node_hears = λ f n m i t v o. handled f (Step.releases (node_at s n) m.log m.body) n m (Step.node_handles (node_at s n) m).op (Step.node_handles (node_at s n) m).answer;
+    node_hears = λ f n m i t v o. handled f (Step.releases (node_at s n) m.log m.body) n m (Step.node_handles n (node_at s n) m).op (Step.node_handles n (node_at s n) m).answer;
     loads = λ n ls q a o. quiets _ q;
     draw_fails = λ n a. others OfNodes _ (λ h. cc) (one_of (lines.NodeRefusedRegister n));
     formats = λ n r g a v i. others OfNodes _ (λ h. cc) (kept_of n (Step.format_lines c n r) (keep_end (node_at (with_register (loaded s n) r) n) (ops.Format (generation_of r n) (epochs_in r.logs))) (format_of c n r));
@@ -173,9 +173,9 @@ module _ (c : Config) (s : State) (e : Event) (fine : (name : List ℕ) (q : Seq
     activates = λ name l r g n i x. activated name l r;
     swaps = λ n m l x r q i. quiets _ (quiet_one x q);
     activate_fails = λ name l x g q. quiets _ (quiet_one x q);
-    answers = λ f name d m i t v o. others OfItems _ (λ h. cc) (items_of name _ _);
+    answers = λ f name d m i t v o. others OfItems _ (λ h. cc) (items_of _ name _ _);
     polls = λ name d v o. others OfNodes _ (λ h. cc) (none_of OfNodes);
-    opens = λ name l from until o x. others OfNodes _ (λ h. cc) (none_of OfNodes);
+    opens = λ style name l from until o x. others OfNodes _ (λ h. cc) (none_of OfNodes);
   }
 
 -- ---- along a run ----

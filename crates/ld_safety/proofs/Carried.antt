@@ -1,5 +1,5 @@
 -- Entries, trims, summaries, last known good places and released numbers wherever a state carries them: at nodes, in messages, in digests and plans, at readers, in the register.
-use Rattle.std.proofs.Common.{◌≡◌, ℕ, ◌<◌, ◌≤◌, Bool, false, List, Option, Some, None}
+use Rattle.std.proofs.Common.{◌≡◌, ℕ, ◌<◌, ◌≤◌, Bool, true, false, List, Option, Some, None, subst}
 use Rattle.ld_op.specs.Handles.{ballot_of}
 use Rattle.ld_table.specs.Table.{find}
 use Rattle.ld_lsn.specs.Number.{epoch_of, esn_of, home_epoch, home_esn, numbered, last_esn}
@@ -19,6 +19,16 @@ use Rattle.ld_msg.specs.Reading.{Held}
 use Rattle.ld_msg.specs.Reader.{Reader}
 use Rattle.ld_op.specs.Plain.{Plain, Log, log_of, epoch_zero}
 use Rattle.ld_machine.specs.World.{In}
+use Rattle.ld_machine.specs.Invariant.{is_withheld}
+use Rattle.ld_safety.proofs.Withheld.{told_in, Whole}
+
+-- pages for nodes hold all that they say
+abbrev pub WholeTo : Who → Body → Type 0
+WholeTo (whos.Node n) (bodies.ReadPage round from upto clean es) = Whole es
+WholeTo _ _ = Unit {0}
+
+pub message_whole : (m : Msg) (n round from upto : ℕ) (es : List Entry) → m.to ≡ whos.Node n → m.body ≡ bodies.ReadPage round from upto true es → WholeTo m.to m.body → Whole es
+message_whole m n round from upto es t b h = subst (WholeTo (whos.Node n)) b (subst (λ w. WholeTo w m.body) t h)
 
 -- what ballot b says of a number of a log; what is a trim of a log; how an epoch of a log is closed; which epochs were handed out; what a page, clean or not, may show; what may be released; what may be kept or read of a number, beside what a ballot says; what is a last known good place of an epoch
 module _ (E : ℕ → ℕ → ℕ → What → Type 0) (T : ℕ → ℕ → Type 0) (Y : ℕ → ℕ → Summary → Type 0) (O : ℕ → ℕ → Type 0) (V : ℕ → Bool → Entry → Type 0) (W : ℕ → ℕ → Type 0) (R : ℕ → ℕ → ℕ → What → Type 0) (G : ℕ → ℕ → ℕ → Type 0) where
@@ -76,6 +86,11 @@ module _ (E : ℕ → ℕ → ℕ → What → Type 0) (T : ℕ → ℕ → Type
   NodeWho (whos.Node y) = Unit {0}
   NodeWho _ = ⊥
 
+  -- asks for one copy come from readers
+  abbrev pub ReaderWho : Who → Type 0
+  ReaderWho (whos.Reader r) = Unit {0}
+  ReaderWho _ = ⊥
+
   abbrev pub BodyOk : ℕ → Who → Body → Type 0
   BodyOk l from (bodies.Store n lng w) = E l (ballot_of from) n w × G l (epoch_of n) lng
   BodyOk l from (bodies.Stored n) = O l (epoch_of n)
@@ -86,14 +101,15 @@ module _ (E : ℕ → ℕ → ℕ → What → Type 0) (T : ℕ → ℕ → Type
   BodyOk l from (bodies.Clean e y) = Y l e y
   BodyOk l from (bodies.Trim t) = T l t
   BodyOk l from (bodies.Release r) = W l r
-  BodyOk l from (bodies.ReadPage round n upto clean es) = AllKeptOk l es × ShownOk l clean es
+  BodyOk l from (bodies.ReadPage round n upto clean es) = (AllKeptOk l (told_in es) × ShownOk l clean (told_in es)) × NodeWho from
   BodyOk l from (bodies.ReadEnded round n end loss) = EndedOk l n end loss
   BodyOk l from (bodies.ReadTrim round n t) = T l t
   BodyOk l from (bodies.ReadWait round n r) = W l r
+  BodyOk l from (bodies.ReadOne round n set excluded) = ReaderWho from
   BodyOk l from _ = Unit {0}
 
   abbrev pub MsgOk : Msg → Type 0
-  MsgOk m = BodyOk m.log m.from m.body
+  MsgOk m = BodyOk m.log m.from m.body × WholeTo m.to m.body
 
   -- what one node has told of an epoch
   pub record ToldOk (l e : ℕ) (t : Told) : Type 0 where
@@ -131,13 +147,13 @@ module _ (E : ℕ → ℕ → ℕ → What → Type 0) (T : ℕ → ℕ → Type
 
   -- an answer that a reader holds
   abbrev pub HeldOk : ℕ → Body → Type 0
-  HeldOk l (bodies.ReadPage round n upto clean es) = AllKeptOk l es × ShownOk l clean es
+  HeldOk l (bodies.ReadPage round n upto clean es) = AllKeptOk l (told_in es) × ShownOk l clean (told_in es)
   HeldOk l (bodies.ReadEnded round n end loss) = EndedOk l n end loss
   HeldOk l (bodies.ReadTrim round n t) = T l t
   HeldOk l _ = Unit {0}
 
   pub held_of : (l : ℕ) (from : Who) (b : Body) → BodyOk l from b → HeldOk l b
-  held_of l from (bodies.ReadPage round n upto clean es) h = h
+  held_of l from (bodies.ReadPage round n upto clean es) h = h.0
   held_of l from (bodies.ReadEnded round n end loss) h = h
   held_of l from (bodies.ReadTrim round n t) h = h
   held_of l from _ h = tt
@@ -159,3 +175,4 @@ module _ (E : ℕ → ℕ → ℕ → What → Type 0) (T : ℕ → ℕ → Type
     pub kept : (l b n : ℕ) (w : What) → E l b n w → R l b n w
     pub zero_good : (l e : ℕ) → G l e 0
     pub good_below : (l e g : ℕ) → G l e g → g < last_esn
+    pub whole : (l b n : ℕ) (w : What) → R l b n w → is_withheld w ≡ false

@@ -5,6 +5,7 @@ use Rattle.ld_msg.specs.declared.msg.What.{What}
 use Rattle.ld_msg.specs.declared.msg.What.TheVariants.{Rec}
 use Rattle.ld_msg.specs.declared.msg.Summary.{Summary}
 use Rattle.ld_msg.specs.declared.msg.Who.{Who}
+use Rattle.ld_msg.specs.declared.msg.Who.TheVariants as whos
 use Rattle.ld_msg.specs.declared.msg.Body.{Body}
 use Rattle.ld_msg.specs.declared.msg.Body.TheVariants as bodies
 use Rattle.ld_msg.specs.Sequencer.{Recovery, Stage, Seals, Stores, Closes}
@@ -21,6 +22,11 @@ module _ (E : ℕ → ℕ → ℕ → What → Type 0) (T : ℕ → ℕ → Type
   log_grows : (l : ℕ) (g : Log) → carried.LogOk E T Y O V W R G l g → carried.LogOk E₂ T₂ Y₂ O₂ V₂ W₂ R₂ G₂ l g
   log_grows l k h = record { entries = λ p i. let z = h.entries p i in (z.0, x l _ _ _ z.1); trim = t l _ h.trim; summaries = λ p i. y l _ _ (h.summaries p i); goods = λ p i. g l _ _ (h.goods p i); unclean = λ p i f. e l _ _ _ (h.unclean p i f) }
 
+  reader_who : (who : Who) → carried.ReaderWho E T Y O V W R G who → carried.ReaderWho E₂ T₂ Y₂ O₂ V₂ W₂ R₂ G₂ who
+  reader_who (whos.Node n) h = h
+  reader_who (whos.Sequencer b) h = h
+  reader_who (whos.Reader r) h = tt
+
   body_grows : (l : ℕ) (w : Who) (b : Body) → carried.BodyOk E T Y O V W R G l w b → carried.BodyOk E₂ T₂ Y₂ O₂ V₂ W₂ R₂ G₂ l w b
   body_grows l from (bodies.Store n lng z) h = (e l _ n z h.0, g l _ lng h.1)
   body_grows l from (bodies.Stored n) h = o l _ h
@@ -31,10 +37,11 @@ module _ (E : ℕ → ℕ → ℕ → What → Type 0) (T : ℕ → ℕ → Type
   body_grows l from (bodies.Clean k z) h = y l k z h
   body_grows l from (bodies.Trim k) h = t l k h
   body_grows l from (bodies.Release k) h = w l k h
-  body_grows l from (bodies.ReadPage round n upto clean es) h = ((λ z i. x l _ _ _ (h.0 z i)), (λ z i. v l clean z (h.1 z i)))
+  body_grows l from (bodies.ReadPage round n upto clean es) h = (((λ z i. x l _ _ _ (h.0.0 z i)), (λ z i. v l clean z (h.0.1 z i))), h.1)
   body_grows l from (bodies.ReadEnded round n end loss) h = record { summary = h.summary; closed = y l _ _ h.closed; past = h.past; is = h.is; lossy = h.lossy }
   body_grows l from (bodies.ReadTrim round n k) h = t l k h
   body_grows l from (bodies.ReadWait round n k) h = w l k h
+  body_grows l from (bodies.ReadOne round n set excluded) h = reader_who from h
   body_grows l from _ h = tt
 
   held_grows : (l : ℕ) (b : Body) → carried.HeldOk E T Y O V W R G l b → carried.HeldOk E₂ T₂ Y₂ O₂ V₂ W₂ R₂ G₂ l b
@@ -54,5 +61,5 @@ module _ (E : ℕ → ℕ → ℕ → What → Type 0) (T : ℕ → ℕ → Type
 
   pub carries_grow : (c : Config) (s : State) (q : Event) (u : State) → Carries c s q E T Y O V W R G u → Carries c s q E₂ T₂ Y₂ O₂ V₂ W₂ R₂ G₂ u
   carries_grow c s q u h = has.weaker _ _ _ _ _ _ (λ y p. carried.PlainOk E₂ T₂ Y₂ O₂ V₂ W₂ R₂ G₂ p) (λ y l r. W₂ l r) (carried.MsgOk E₂ T₂ Y₂ O₂ V₂ W₂ R₂ G₂) (carried.SequencerOk E₂ T₂ Y₂ O₂ V₂ W₂ R₂ G₂) (carried.ReaderOk E₂ T₂ Y₂ O₂ V₂ W₂ R₂ G₂) (carried.RegisterOk E₂ T₂ Y₂ O₂ V₂ W₂ R₂ G₂)
-      (λ y p z l. log_grows l _ (z l)) (λ y l k z. w l k z) (λ m z. body_grows m.log m.from m.body z) (λ s q z. record { appends = λ p i. e q.log q.epoch p.0 (Rec p.1.payload) (z.appends p i); recovery = recovery_grows q.log q.epoch q.recovery z.recovery })
+      (λ y p z l. log_grows l _ (z l)) (λ y l k z. w l k z) (λ m z. (body_grows m.log m.from m.body z.0, z.1)) (λ s q z. record { appends = λ p i. e q.log q.epoch p.0 (Rec p.1.payload) (z.appends p i); recovery = recovery_grows q.log q.epoch q.recovery z.recovery })
       (λ s d z k i. held_grows d.log k.1.body (z k i)) (λ r o l k z f. y l k z (o l k z f)) u h

@@ -10,7 +10,7 @@ use Rattle.ld_table.specs.Words.{values}
 use Rattle.ld_table.proofs.Laws.{put_cases}
 use Rattle.ld_lsn.specs.Number.{epoch_of, esn_of, home_epoch, numbered, last_esn, home_esn}
 use Rattle.ld_msg.specs.declared.msg.What.{What}
-use Rattle.ld_msg.specs.declared.msg.What.TheVariants.{Rec, Hole, Bridge, Plug}
+use Rattle.ld_msg.specs.declared.msg.What.TheVariants.{Rec, Hole, Bridge, Plug, Withheld}
 use Rattle.ld_msg.specs.declared.msg.Entry.{Entry}
 use Rattle.ld_msg.specs.declared.msg.Summary.{Summary}
 use Rattle.ld_msg.specs.declared.msg.Who.{Who}
@@ -21,13 +21,14 @@ use Rattle.ld_msg.specs.Digest.{is_bridge}
 use Rattle.ld_op.specs.declared.op.Op.{Op}
 use Rattle.ld_op.specs.declared.op.Op.TheVariants as ops
 use Rattle.ld_op.specs.Plain.{Plain, Log, log_of, empty_log, unformatted, with_log, lost_logs, lost_log, accepted, accept_entry, lng_in, lng_at, raised_lng, sealed_by, trimmed_to, cleaned, refill_entries, refilled_with, refilled, apply, epoch_zero, summary_at, is_lost}
-use Rattle.ld_op.specs.Answers.{Handled, Decision, Lost, CleanAlready, Trimmed, Sealed, Same, Take, store_decision, digest_decision, refusal, store_answer, digest_answer, digest_page, taken, on_store, on_digest_ask, on_clean, clean_op, on_trim, read_answer, entries_within, page_upto, page_limit, last_number, readable, lets_read}
+use Rattle.ld_op.specs.Answers.{Handled, Decision, Lost, CleanAlready, Trimmed, Sealed, Same, Take, store_decision, digest_decision, refusal, store_answer, digest_answer, digest_page, taken, on_store, on_digest_ask, on_clean, clean_op, on_trim, read_answer, entries_within, page_upto, page_limit, last_number, readable, lets_read, withheld_in}
 use Rattle.ld_op.specs.Ticks.{on_page, page_op, refill_op, lacking, as_closed, is_missing}
 use Rattle.ld_machine.specs.World.{In}
 use Rattle.ld_safety.proofs.Lists.{Some_inj, cond_both, branch, In-map}
 use Rattle.ld_safety.proofs.Members.{In_filter, In_take, In_values, find_in, In_put, In_take_out, In_keep, In_keep_keys}
 use Rattle.ld_safety.proofs.NodeSteps.{store_decided, ask_decided, read_answered, missing_clean}
 use Rattle.ld_safety.proofs.Carried as carried
+use Rattle.ld_safety.proofs.Withheld.{told_from, told_withheld, of_one}
 
 cases_le : (a b : ℕ) → (a ≤ b) ⊎ (b ≤ a)
 cases_le a b = elim (cases_order a b) [ inl e ↦ inl (omega arith) | inr (inl l) ↦ inl (omega arith) | inr (inr l) ↦ inr (omega arith) ]
@@ -76,6 +77,7 @@ module _ (E : ℕ → ℕ → ℕ → What → Type 0) (T : ℕ → ℕ → Type
   accept_all P e (Rec p) m h a q i = elim (In_put e.number e m q i) [ inl x ↦ subst P (sym x) h | inr x ↦ a q x ]
   accept_all P e Hole m h a q i = elim (In_put e.number e m q i) [ inl x ↦ subst P (sym x) h | inr x ↦ a q x ]
   accept_all P e Plug m h a q i = elim (In_put e.number e m q i) [ inl x ↦ subst P (sym x) h | inr x ↦ a q x ]
+  accept_all P e Withheld m h a q i = elim (In_put e.number e m q i) [ inl x ↦ subst P (sym x) h | inr x ↦ a q x ]
   accept_all P e Bridge m h a q i = elim (In_put e.number e _ q i) [ inl x ↦ subst P (sym x) h | inr x ↦ a q (In_keep _ m q x) ]
 
   refill_all : (P : ℕ × Entry → Type 0) (es : List Entry) (m : List (ℕ × Entry)) → ((e : Entry) → In e es → P (e.number, e)) → ((p : ℕ × Entry) → In p m → P p) → (p : ℕ × Entry) → In p (refill_entries es m) → P p
@@ -274,10 +276,27 @@ module _ (E : ℕ → ℕ → ℕ → What → Type 0) (T : ℕ → ℕ → Type
     ended = λ z x h k. record { summary = z; closed = summary_ok l (home_epoch from) g z a h; past = k; is = refl; lossy = refl };
     lost_clean = λ z x h k t. tt;
     lost = λ x h t. tt;
-    clean = λ z x h k t. ((λ e i. within_ok l g _ _ a e (In_filter _ e _ (In_take page_limit e _ i)).0), shown_of l true g from (numbered (home_epoch from) (z.end - 1)) (λ j e u v w o. S.clean from z j e x h k t u v w o));
-    open_page = λ x h t u. ((λ e i. within_ok l g _ _ a e (In_filter _ e _ (In_take page_limit e _ i)).0), shown_of l false g from released (λ j e v w z o. S.open_still from j e u v w z));
+    clean = λ z x h k t. (((λ e i. within_ok l g _ _ a e (In_filter _ e _ (In_take page_limit e _ (told_from e _ i).0)).0), (λ e i. shown_of l true g from (numbered (home_epoch from) (z.end - 1)) (λ j e u v w o. S.clean from z j e x h k t u v w o) e (told_from e _ i).0)), tt);
+    open_page = λ x h t u. (((λ e i. within_ok l g _ _ a e (In_filter _ e _ (In_take page_limit e _ (told_from e _ i).0)).0), (λ e i. shown_of l false g from released (λ j e v w z o. S.open_still from j e u v w z) e (told_from e _ i).0)), tt);
     waits = λ x. rel;
   })
+
+  -- what a node answers to an ask for all says what it holds
+  read_whole : (l generation released round from k : ℕ) (g : Log) → carried.LogOk E T Y O V W R G l g → carried.WholeTo (whos.Node k) (read_answer generation g released round from)
+  read_whole l generation released round from k g a = read_answered generation g released round from (carried.WholeTo (whos.Node k)) (record {
+    trimmed = λ h. tt;
+    ended = λ z x h k. tt;
+    lost_clean = λ z x h k t. tt;
+    lost = λ x h t. tt;
+    clean = λ z x h k t e i. K.whole l e.ballot e.number e.what (within_ok l g _ _ a e (In_filter _ e _ (In_take page_limit e _ i)).0);
+    open_page = λ x h t u e i. K.whole l e.ballot e.number e.what (within_ok l g _ _ a e (In_filter _ e _ (In_take page_limit e _ i)).0);
+    waits = λ x. tt;
+  })
+
+  -- what is said stands where records are withheld
+  withheld_ok : (l y n : ℕ) (set excluded : List Bool) (b : Body) → carried.BodyOk E T Y O V W R G l (whos.Node y) b → carried.BodyOk E T Y O V W R G l (whos.Node y) (withheld_in n set excluded b)
+  withheld_ok l y n set excluded (bodies.ReadPage round from upto clean es) h = (((λ e i. h.0.0 e (told_withheld n set excluded es e i)), (λ e i. h.0.1 e (told_withheld n set excluded es e i))), tt)
+  withheld_ok l y n set excluded _ h = h
 
   -- what a refill is given
   abbrev pub RefillOk : ℕ → Log → List Entry → Type 0
@@ -325,23 +344,60 @@ module _ (E : ℕ → ℕ → ℕ → What → Type 0) (T : ℕ → ℕ → Type
   unfolding on_page
   no_answer g l b x q = cc
 
-  pub record HandlesOk (x : Plain) (l y : ℕ) (h : Handled) : Type 0 where
+  pub record HandlesOk (x : Plain) (l y : ℕ) (to : Who) (h : Handled) : Type 0 where
     pub keeps : (p : Op) → h.op ≡ Some p → OpOk x p
     pub answers : (b : Body) → h.answer ≡ Some b → carried.BodyOk E T Y O V W R G l (whos.Node y) b
+    pub whole : (b : Body) → h.answer ≡ Some b → carried.WholeTo to b
 
-  pub message_ok : (x : Plain) (generation l released y : ℕ) (w : Who) (b : Body) → carried.LogOk E T Y O V W R G l (log_of x l) → Shows l (log_of x l) released → W l released → carried.BodyOk E T Y O V W R G l w b
-      → ((round n upto : ℕ) (es : List Entry) → b ≡ bodies.ReadPage round n upto true es → (log_of x l).lost ≡ true → RefillOk l (log_of x l) es) → HandlesOk x l y (handled_by generation (log_of x l) l (ballot_of w) released b)
+  -- an answer to a node says what it holds
+  to_node : (w : Who) (b : Body) → ((k : ℕ) → carried.WholeTo (whos.Node k) b) → carried.WholeTo w b
+  to_node (whos.Node k) b h = h k
+  to_node (whos.Sequencer k) b h = tt
+  to_node (whos.Reader k) b h = tt
+
+  to_reader : (w : Who) (b : Body) → carried.ReaderWho E T Y O V W R G w → carried.WholeTo w b
+  to_reader (whos.Node k) b h = absurd h
+  to_reader (whos.Sequencer k) b h = absurd h
+  to_reader (whos.Reader k) b h = tt
+
+  refused_whole : (generation s k : ℕ) (d : Decision) (b : Body) → refusal generation s d ≡ Some b → carried.WholeTo (whos.Node k) b
+  refused_whole generation s k (Lost end) b h = subst (carried.WholeTo (whos.Node k)) (Some_inj h) tt
+  refused_whole generation s k (CleanAlready z) b h = subst (carried.WholeTo (whos.Node k)) (Some_inj h) tt
+  refused_whole generation s k (Trimmed t) b h = subst (carried.WholeTo (whos.Node k)) (Some_inj h) tt
+  refused_whole generation s k (Sealed t) b h = subst (carried.WholeTo (whos.Node k)) (Some_inj h) tt
+  refused_whole generation s k Same b h = absurd cc
+  refused_whole generation s k Take b h = absurd cc
+
+  stored_whole : (generation s k : ℕ) (d : Decision) (b : Body) → store_answer generation s d ≡ Some b → carried.WholeTo (whos.Node k) b
+  stored_whole generation s k Same b h = subst (carried.WholeTo (whos.Node k)) (Some_inj h) tt
+  stored_whole generation s k Take b h = subst (carried.WholeTo (whos.Node k)) (Some_inj h) tt
+  stored_whole generation s k d b h = refused_whole generation s k d b h
+
+  told_whole : (generation from k : ℕ) (g : Log) (d : Decision) (b : Body) → digest_answer generation g from d ≡ Some b → carried.WholeTo (whos.Node k) b
+  told_whole generation from k g Same b h = subst (carried.WholeTo (whos.Node k)) (Some_inj h) tt
+  told_whole generation from k g Take b h = subst (carried.WholeTo (whos.Node k)) (Some_inj h) tt
+  told_whole generation from k g d b h = refused_whole generation from k d b h
+
+  pub message_ok : (x : Plain) (n generation l released y : ℕ) (w : Who) (b : Body) → carried.LogOk E T Y O V W R G l (log_of x l) → Shows l (log_of x l) released → W l released → carried.BodyOk E T Y O V W R G l w b
+      → ((round n upto : ℕ) (es : List Entry) → b ≡ bodies.ReadPage round n upto true es → (log_of x l).lost ≡ true → RefillOk l (log_of x l) es) → HandlesOk x l y w (handled_by n generation (log_of x l) l (ballot_of w) released b)
   unfolding on_store on_digest_ask on_clean on_trim Telling
-  message_ok x generation l released y w (bodies.Store n lng z) a S rel h r =
+  message_ok x self generation l released y w (bodies.Store n lng z) a S rel h r =
       let g = log_of x l in let e : Entry = record { number = n; ballot = ballot_of w; what = z } in let t = store_tells l g e a in record {
         keeps = λ p q. taken_ok x (ops.Accept l lng e) p (store_decision g e) h q;
         answers = λ b q. stored_ok l generation n y g (store_decision g e) b a (K.place l (ballot_of w) n z h.0) (K.reached l (ballot_of w) n z h.0) t.0 t.1 q;
+        whole = λ b q. to_node w b (λ k. stored_whole generation n k (store_decision g e) b q);
       }
-  message_ok x generation l released y w (bodies.DigestAsk from) a S rel h r = let g = log_of x l in let t = ask_tells l g (ballot_of w) from a in record {
+  message_ok x n generation l released y w (bodies.DigestAsk from) a S rel h r = let g = log_of x l in let t = ask_tells l g (ballot_of w) from a in record {
     keeps = λ p q. taken_ok x (ops.Seal l (ballot_of w)) p (digest_decision g (ballot_of w) from) tt q;
     answers = λ b q. told_ok l generation from y g (digest_decision g (ballot_of w) from) b a h.0 h.1 t.0 t.1 (asks_unclean g (ballot_of w) from) q;
+    whole = λ b q. to_node w b (λ k. told_whole generation from k g (digest_decision g (ballot_of w) from) b q);
   }
-  message_ok x generation l released y w (bodies.Clean e s) a S rel h r = record { keeps = λ p q. clean_ok x l e s (summary_at (log_of x l) e) p h q; answers = λ b q. absurd cc }
-  message_ok x generation l released y w (bodies.Trim t) a S rel h r = record { keeps = λ p q. if_some x (nat_lt (log_of x l).trim t) (Some (ops.Trim l t)) p (λ u e. subst (OpOk x) (Some_inj e) h) q; answers = λ b q. absurd cc }
-  message_ok x generation l released y w (bodies.ReadAsk round from) a S rel h r = record { keeps = λ p q. absurd cc; answers = λ b q. subst (carried.BodyOk E T Y O V W R G l (whos.Node y)) (Some_inj q) (read_ok l generation released round from y (log_of x l) a S rel) }
-  message_ok x generation l released y w b a S rel h r = record { keeps = λ p q. keeps_page x l w b p h r q; answers = λ o q. absurd (no_answer (log_of x l) l b o q) }
+  message_ok x n generation l released y w (bodies.Clean e s) a S rel h r = record { keeps = λ p q. clean_ok x l e s (summary_at (log_of x l) e) p h q; answers = λ b q. absurd cc; whole = λ b q. absurd cc }
+  message_ok x n generation l released y w (bodies.Trim t) a S rel h r = record { keeps = λ p q. if_some x (nat_lt (log_of x l).trim t) (Some (ops.Trim l t)) p (λ u e. subst (OpOk x) (Some_inj e) h) q; answers = λ b q. absurd cc; whole = λ b q. absurd cc }
+  message_ok x n generation l released y w (bodies.ReadAsk round from) a S rel h r = record { keeps = λ p q. absurd cc; answers = λ b q. subst (carried.BodyOk E T Y O V W R G l (whos.Node y)) (Some_inj q) (read_ok l generation released round from y (log_of x l) a S rel); whole = λ b q. to_node w b (λ k. subst (carried.WholeTo (whos.Node k)) (Some_inj q) (read_whole l generation released round from k (log_of x l) a)) }
+  message_ok x n generation l released y w (bodies.ReadOne round from set excluded) a S rel h r = record {
+    keeps = λ p q. absurd cc;
+    answers = λ b q. subst (carried.BodyOk E T Y O V W R G l (whos.Node y)) (Some_inj q) (of_one n set excluded (carried.BodyOk E T Y O V W R G l (whos.Node y)) generation (log_of x l) released round from (λ z k. withheld_ok l y n set excluded z k) (read_ok l generation released round from y (log_of x l) a S rel));
+    whole = λ b q. to_reader w b h;
+  }
+  message_ok x n generation l released y w b a S rel h r = record { keeps = λ p q. keeps_page x l w b p h r q; answers = λ o q. absurd (no_answer (log_of x l) l b o q); whole = λ o q. absurd (no_answer (log_of x l) l b o q) }

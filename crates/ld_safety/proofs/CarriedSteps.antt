@@ -5,10 +5,8 @@ use Rattle.ld_table.specs.Table.{find, put}
 use Rattle.ld_table.specs.Named.{find_named, put_named}
 use Rattle.ld_table.proofs.Laws.{find-put_same}
 use Rattle.ld_lsn.specs.Number.{epoch_of, numbered, last_esn}
-use Rattle.ld_ids.specs.Choice.{nodes_of}
 use Rattle.ld_config.specs.declared.config.Config.{Config}
 use Rattle.ld_schedule.specs.declared.event.Event.{Event}
-use Rattle.ld_schedule.specs.declared.event.Event.TheVariants as events
 use Rattle.ld_transcript.specs.declared.line.Line.{Line}
 use Rattle.ld_transcript.specs.declared.line.Line.TheVariants as lines
 use Rattle.ld_msg.specs.declared.msg.What.{What}
@@ -30,8 +28,8 @@ use Rattle.ld_machine.specs.Disk.{Node, new_node, load}
 use Rattle.ld_msg.specs.Digest.{Told, plan, Item}
 use Rattle.ld_msg.specs.Sequencer.{Sequencer, Acts, Recovery, Numbered, appending, appended, next_esn, first_stores, released_of, on_reply, on_retry, to_each, activated, recovery_asks, Append, fresh_append, called, acted_messages}
 use Rattle.ld_msg.specs.Choice.{choice}
-use Rattle.ld_msg.specs.Reading.{Held}
-use Rattle.ld_msg.specs.Reader.{Reader, Read, heard, polled, opened, held_with, is_newer, round_of, on_answer, poll_asks, asks_of, look_of, last_round}
+use Rattle.ld_msg.specs.Reading.{Held, lost_held, within}
+use Rattle.ld_msg.specs.Reader.{Reader, Read, heard, polled, opened, held_with, is_newer, round_of, on_answer, poll_asks, start_asks, seen_nodes}
 use Rattle.ld_machine.specs.State.{State, Done, finish, node_at, with_node, with_register, with_sequencer, with_reader, only_state, posted}
 use Rattle.ld_machine.specs.World.{Made, In, made_on, made_by, made_retried, page_from}
 use Rattle.ld_machine.specs.Step as Step
@@ -44,12 +42,14 @@ use Rattle.ld_safety.proofs.Members.{In_put}
 use Rattle.ld_safety.proofs.Events.{NamesOnce, Cases, dispatch, Live, Reading, Serves, refreshed, loaded, with_spec}
 use Rattle.ld_safety.proofs.SequencerSteps.{same_sender, Ending, gone_of, replied, retried}
 use Rattle.ld_safety.proofs.RegisterSteps.{shown_closed}
-use Rattle.ld_safety.proofs.ReaderSteps.{dropped_held, ReadKeeps, answered}
+use Rattle.ld_safety.proofs.ReaderSteps.{dropped_held, ReadKeeps, answered, IsAskOf, start_are, confirm_are}
 use Rattle.ld_safety.proofs.ReaderLogs.{Apart}
 use Rattle.ld_safety.proofs.Carried as carried
 use Rattle.ld_safety.proofs.CarriedNodes as nodes
 use Rattle.ld_safety.proofs.CarriedSequencers as sequencers
 use Rattle.ld_safety.proofs.Has as has
+use Rattle.ld_machine.specs.Facts.{AsksToAppend}
+use Rattle.ld_msg.specs.declared.style.Style.{Style}
 
 -- a message that a sequencer heard
 pub record HeardOf (s : State) (q : Sequencer) (y : ℕ) (b : Body) : Type 0 where
@@ -72,7 +72,7 @@ module _ (c : Config) (s : State) (e : Event) (E : ℕ → ℕ → ℕ → What 
     pub register : carried.RegisterOk E T Y O V W R G (Step.happens c s e).state.register
     pub epochs : (name : List ℕ) (q : Sequencer) → find_named name s.sequencers ≡ Some q → (k : ℕ) → 0 < k → k < q.epoch → O q.log k
     pub new_epochs : (l : ℕ) (r : Register) → (Step.happens c s e).state.register ≡ r → (k : ℕ) → 0 < k → k < (epochs_of r l).epoch → O l k
-    pub append : (name : List ℕ) (q : Sequencer) (payload : List ℕ) → Live s name q → appending q payload ≡ Numbered → e ≡ events.Append name payload → In (lines.Appended name (numbered q.epoch (next_esn q))) (Step.happens c s e).lines → E q.log q.epoch (numbered q.epoch (next_esn q)) (Rec payload)
+    pub append : (name : List ℕ) (q : Sequencer) (payload : List ℕ) → Live s name q → appending q payload ≡ Numbered → AsksToAppend name payload e → In (lines.Appended name (numbered q.epoch (next_esn q))) (Step.happens c s e).lines → E q.log q.epoch (numbered q.epoch (next_esn q)) (Rec payload)
     pub trim : (name : List ℕ) (q : Sequencer) (point : ℕ) → Live s name q → point ≤ released_of q → In (lines.Trimmed name point) (Step.happens c s e).lines → T q.log point
     pub planned : (name : List ℕ) (q : Sequencer) (v : Recovery) (d : List Told) (loss : Bool) (gone : List ℕ) → Live s name q → q.recovery ≡ Some v → sequencers.DigestOk E T Y O V W R G sound q.log v.epoch d
         → made_on c s e ≡ record { log = q.log; epoch = v.epoch; ballot = q.epoch; loss = loss; digest = d; gone = gone } ∷ []
@@ -97,8 +97,11 @@ module _ (c : Config) (s : State) (e : Event) (E : ℕ → ℕ → ℕ → What 
     to_register : (d : Done) → Step.happens c s e ≡ d → carried.RegisterOk E T Y O V W R G d.state.register
     to_register d w = subst (λ (x : Done). carried.RegisterOk E T Y O V W R G x.state.register) w K.register
 
-    posted_ok : (who : Who) (l : ℕ) (bs : List (ℕ × Body)) → ((b : ℕ × Body) → In b bs → carried.BodyOk E T Y O V W R G l who b.1) → (m : Msg) → In m (posted who l bs) → carried.MsgOk E T Y O V W R G m
-    posted_ok who l bs h = has.posted_has (λ y p. carried.PlainOk E T Y O V W R G p) (λ y l r. W l r) (carried.MsgOk E T Y O V W R G) (carried.SequencerOk E T Y O V W R G) (carried.ReaderOk E T Y O V W R G) (carried.RegisterOk E T Y O V W R G) who l bs h
+    posted_ok : (who : Who) → (carried.NodeWho E T Y O V W R G who → ⊥) → (l : ℕ) (bs : List (ℕ × Body)) → ((b : ℕ × Body) → In b bs → carried.BodyOk E T Y O V W R G l who b.1) → (m : Msg) → In m (posted who l bs) → carried.MsgOk E T Y O V W R G m
+    posted_ok who nw l bs h = has.posted_has (λ y p. carried.PlainOk E T Y O V W R G p) (λ y l r. W l r) (carried.MsgOk E T Y O V W R G) (carried.SequencerOk E T Y O V W R G) (carried.ReaderOk E T Y O V W R G) (carried.RegisterOk E T Y O V W R G) who l bs (λ b i. (h b i, whole_posted b.0 b.1 (h b i))) where
+      whole_posted : (n : ℕ) (b : Body) → carried.BodyOk E T Y O V W R G l who b → carried.WholeTo (whos.Node n) b
+      whole_posted n (bodies.ReadPage round from upto clean es) k = absurd (nw k.1)
+      whole_posted n _ k = tt
 
     -- ---- nodes ----
     node_here : (t : State) (n : ℕ) (x : Node) → node_at (with_node t n x) n ≡ x
@@ -119,13 +122,13 @@ module _ (c : Config) (s : State) (e : Event) (E : ℕ → ℕ → ℕ → What 
     hears : (f : List ℕ) (n : ℕ) (m : Msg) → In m s.network.sent → m.to ≡ whos.Node n → Serves c s n m.log → Carries (finish (Step.to_up_node (refreshed s f) n m)).state
     hears f n m i t v =
         let x : Node = node_at s n in
-        let h = nodes.message_ok E T Y O V W R G K.sound x.plain x.plain.generation m.log (Step.released_at x m.log) n m.from m.body ((K.before.nodes n).plain m.log) (K.shows n m.log v) ((K.before.nodes n).released m.log) (K.before.sent m i) (λ round from upto es b u. K.refill n m round from upto es i t v b u) in
+        let h = nodes.message_ok E T Y O V W R G K.sound x.plain n x.plain.generation m.log (Step.released_at x m.log) n m.from m.body ((K.before.nodes n).plain m.log) (K.shows n m.log v) ((K.before.nodes n).released m.log) (K.before.sent m i).0 (λ round from upto es b u. K.refill n m round from upto es i t v b u) in
         let y : Node = Step.releases x m.log m.body in
         let p : (node_at (with_node (refreshed s f) n y) n).plain ≡ x.plain = ap (λ (z : Node). z.plain) (node_here (refreshed s f) n y) ∙ released_same x m.log m.body in
-        has.handles_has _ _ _ _ _ _ (with_node (refreshed s f) n y) n m (Step.node_handles x m).op (Step.node_handles x m).answer
-        (has.node_has _ _ _ _ _ _ (refreshed s f) n y K.before (has.release_has _ _ _ _ _ _ n x m.log m.body (K.before.nodes n) (λ r b. max_released m.log _ r ((K.before.nodes n).released m.log) (subst (carried.BodyOk E T Y O V W R G m.log m.from) b (K.before.sent m i)))))
+        has.handles_has _ _ _ _ _ _ (with_node (refreshed s f) n y) n m (Step.node_handles n x m).op (Step.node_handles n x m).answer
+        (has.node_has _ _ _ _ _ _ (refreshed s f) n y K.before (has.release_has _ _ _ _ _ _ n x m.log m.body (K.before.nodes n) (λ r b. max_released m.log _ r ((K.before.nodes n).released m.log) (subst (carried.BodyOk E T Y O V W R G m.log m.from) b (K.before.sent m i).0))))
         (λ o q. subst (λ (z : Plain). carried.PlainOk E T Y O V W R G (apply z o)) (sym p) (nodes.op_ok E T Y O V W R G K.sound x.plain o (K.before.nodes n).plain (h.keeps o q)))
-        (λ b q. h.answers b q)
+        (λ b q. (h.answers b q, h.whole b q))
 
     loaded_has : (n : ℕ) → Carries (loaded s n)
     loaded_has n = has.node_has _ _ _ _ _ _ s n (load (node_at s n)) K.before (has.load_has _ _ _ _ _ _ (λ y l. K.sound.zero_released l) n (node_at s n) (K.before.nodes n))
@@ -152,14 +155,14 @@ module _ (c : Config) (s : State) (e : Event) (E : ℕ → ℕ → ℕ → What 
     ticked : (n l : ℕ) (t : Ticked) → on_tick (log_of (node_at s n).plain l) (epochs_of s.register l).summaries ≡ t → Carries (finish (Step.ticks_as c s n l t)).state
     ticked n l (Cleans k y) h = has.keeps_has _ _ _ _ _ _ s n (ops.Clean l k y) [] [] K.before (nodes.op_ok E T Y O V W R G K.sound (node_at s n).plain (ops.Clean l k y) (K.before.nodes n).plain (cleans_closed n l k y h)) (λ m i. absurd i)
     ticked n l Rebuilt h = has.keeps_has _ _ _ _ _ _ s n (ops.Refilled l) (lines.NodeRebuilt n l ∷ []) [] K.before (nodes.op_ok E T Y O V W R G K.sound (node_at s n).plain (ops.Refilled l) (K.before.nodes n).plain tt) (λ m i. absurd i)
-    ticked n l (Asks from) h = has.finish_has _ _ _ _ _ _ (Step.ticks_as c s n l (Asks from)) K.before (posted_ok (whos.Node n) l (node_asks n (all_nodes c) from) (λ b i. ask_plain (node_asks n (all_nodes c) from) b (to_each_is (without (n ∷ []) (all_nodes c)) b i))) where
+    ticked n l (Asks from) h = has.finish_has _ _ _ _ _ _ (Step.ticks_as c s n l (Asks from)) K.before (has.posted_has (λ y p. carried.PlainOk E T Y O V W R G p) (λ y l r. W l r) (carried.MsgOk E T Y O V W R G) (carried.SequencerOk E T Y O V W R G) (carried.ReaderOk E T Y O V W R G) (carried.RegisterOk E T Y O V W R G) (whos.Node n) l (node_asks n (all_nodes c) from) (λ b i. ask_plain b (to_each_is (without (n ∷ []) (all_nodes c)) b i))) where
       to_each_is : (ys : List ℕ) (b : ℕ × Body) → In b (to_each (bodies.ReadAsk 0 from) ys) → b.1 ≡ bodies.ReadAsk 0 from
       to_each_is [] b i = absurd i
       to_each_is (y ∷ ys) b (inl q) = ap (λ (x : ℕ × Body). x.1) q
       to_each_is (y ∷ ys) b (inr i) = to_each_is ys b i
 
-      ask_plain : (bs : List (ℕ × Body)) (b : ℕ × Body) → b.1 ≡ bodies.ReadAsk 0 from → carried.BodyOk E T Y O V W R G l (whos.Node n) b.1
-      ask_plain bs b q = subst (carried.BodyOk E T Y O V W R G l (whos.Node n)) (sym q) tt
+      ask_plain : (b : ℕ × Body) → b.1 ≡ bodies.ReadAsk 0 from → carried.BodyOk E T Y O V W R G l (whos.Node n) b.1 × carried.WholeTo (whos.Node b.0) b.1
+      ask_plain b q = subst (λ z. carried.BodyOk E T Y O V W R G l (whos.Node n) z × carried.WholeTo (whos.Node b.0) z) (sym q) (tt, tt)
     ticked n l Nothing h = quiet_has s [] K.before
 
     -- ---- sequencers ----
@@ -169,7 +172,7 @@ module _ (c : Config) (s : State) (e : Event) (E : ℕ → ℕ → ℕ → What 
     acted : (f : List ℕ) (name : List ℕ) (q : Sequencer) (a : Acts) → Live s name q → Step.happens c s e ≡ Step.acted c (refreshed s f) name q a → sequencers.CalledOk E T Y O V W R G K.sound name q (called (looks_at c s.register q.log) s.register a a.tries) → Carries (finish (Step.acted c (refreshed s f) name q a)).state
     acted f name q a v w h = has.finish_has _ _ _ _ _ _ (Step.acted c (refreshed s f) name q a)
         (has.register_has _ _ _ _ _ _ (with_sequencer (refreshed s f) name (called (looks_at c s.register q.log) s.register a a.tries).acts.sequencer) (called (looks_at c s.register q.log) s.register a a.tries).register (has.sequencer_has _ _ _ _ _ _ (refreshed s f) name (called (looks_at c s.register q.log) s.register a a.tries).acts.sequencer K.before h.sequencer) (to_register (Step.acted c (refreshed s f) name q a) w))
-        (posted_ok (whos.Sequencer q.epoch) q.log (acted_messages q (called (looks_at c s.register q.log) s.register a a.tries).acts) (λ b i. (sequencers.messages_ok E T Y O V W R G K.sound name q (called (looks_at c s.register q.log) s.register a a.tries) h (K.released name q (called (looks_at c s.register q.log) s.register a a.tries).acts.sequencer v (ap (λ (d : Done). find_named name d.state.sequencers) w ∙ put_here name _))).each b i))
+        (posted_ok (whos.Sequencer q.epoch) (λ h. h) q.log (acted_messages q (called (looks_at c s.register q.log) s.register a a.tries).acts) (λ b i. (sequencers.messages_ok E T Y O V W R G K.sound name q (called (looks_at c s.register q.log) s.register a a.tries) h (K.released name q (called (looks_at c s.register q.log) s.register a a.tries).acts.sequencer v (ap (λ (d : Done). find_named name d.state.sequencers) w ∙ put_here name _))).each b i))
 
     closing : (f : List ℕ) (name : List ℕ) (q : Sequencer) (a : Acts) → Live s name q → Step.happens c s e ≡ Step.acted c (refreshed s f) name q a → (v : Recovery) (y : Summary) (short : Bool) (n : Register) → q.recovery ≡ Some v → Ending q (HeardOf s q) v y short → lce_of s.register q.log + 1 ≡ v.epoch
         → close s.register q.log v.epoch y short ≡ record { register = n; answer = Granted } → (called (looks_at c s.register q.log) s.register a a.tries).register ≡ n → Y q.log v.epoch y
@@ -186,7 +189,7 @@ module _ (c : Config) (s : State) (e : Event) (E : ℕ → ℕ → ℕ → What 
         let call = called (looks_at c s.register q.log) s.register a a.tries in
         let h : HeardOf s q y m.body = record { message = m; sent = i; to = t; log = l; from = refl; body = refl } in
         let ok = sequencers.acting_ok E T Y O V W R G K.sound name q s.register call (made_on c s e) (K.epochs name q v.named) (K.good name q v.named) (K.own name q v.named) c (HeardOf s q) (gone_of s q) (K.before.sequencers name q v.named) (closing f name q a v w) (shown_here q.log)
-        (λ r d loss g k D it. K.planned name q r d loss g v k D it) y m.body h (subst (λ k. carried.ReplyOk E T Y O V W R G k m.body) l (carried.reply_of E T Y O V W R G m.log m.from m.body (K.before.sent m i))) in
+        (λ r d loss g k D it. K.planned name q r d loss g v k D it) y m.body h (subst (λ k. carried.ReplyOk E T Y O V W R G k m.body) l (carried.reply_of E T Y O V W R G m.log m.from m.body (K.before.sent m i).0)) in
         acted f name q a v w (replied c s name q v.there y m.body (λ k n. call ≡ k → made_on c s e ≡ n → sequencers.CalledOk E T Y O V W R G K.sound name q k) ok refl (x ∙ ap (λ p. made_by c s (Some (name, q)) p m.body) (same_sender m.from)))
 
     retries : (name : List ℕ) (q : Sequencer) → Live s name q → Result (Step.acted c s name q (on_retry (looks_at c s.register q.log) q)) (made_retried c s (Some q))
@@ -197,7 +200,7 @@ module _ (c : Config) (s : State) (e : Event) (E : ℕ → ℕ → ℕ → What 
         (λ r d loss g k D it. K.planned name q r d loss g v k D it) in
         acted s.network.fresh name q a v w (retried c s q v.there (λ k n. call ≡ k → made_on c s e ≡ n → sequencers.CalledOk E T Y O V W R G K.sound name q k) ok refl x)
 
-    appends : (name : List ℕ) (q : Sequencer) (payload : List ℕ) → Live s name q → appending q payload ≡ Numbered → e ≡ events.Append name payload → Result (Step.append_done s name q payload Numbered) []
+    appends : (name : List ℕ) (q : Sequencer) (payload : List ℕ) → Live s name q → appending q payload ≡ Numbered → AsksToAppend name payload e → Result (Step.append_done s name q payload Numbered) []
     appends name q payload v a i w x =
         let o = K.before.sequencers name q v.named in let n = K.append name q payload v a i (subst (λ (d : Done). In (lines.Appended name (numbered q.epoch (next_esn q))) d.lines) (sym w) (inl refl)) in
         has.finish_has _ _ _ _ _ _ (Step.append_done s name q payload Numbered)
@@ -208,11 +211,11 @@ module _ (c : Config) (s : State) (e : Event) (E : ℕ → ℕ → ℕ → What 
           ];
           recovery = o.recovery;
         }))
-        (posted_ok (whos.Sequencer q.epoch) q.log (first_stores q payload) (λ b j. (sequencers.each_ok E T Y O V W R G K.sound q.log q.epoch _ (choice q.spec q.lost (numbered q.epoch (next_esn q)) 0) (n, subst (λ k. G q.log k q.lng) (let u = K.small name q v.named in let z : q.epoch ≡ epoch_of (numbered q.epoch (next_esn q)) = omega arith in z) (K.good name q v.named))).each b j))
+        (posted_ok (whos.Sequencer q.epoch) (λ h. h) q.log (first_stores q payload) (λ b j. (sequencers.each_ok E T Y O V W R G K.sound q.log q.epoch _ (choice q.spec q.lost (numbered q.epoch (next_esn q)) 0) (n, subst (λ k. G q.log k q.lng) (let u = K.small name q v.named in let z : q.epoch ≡ epoch_of (numbered q.epoch (next_esn q)) = omega arith in z) (K.good name q v.named))).each b j))
 
     trims : (name : List ℕ) (q : Sequencer) (point : ℕ) → Live s name q → point ≤ released_of q → Result (record { state = s; lines = lines.Trimmed name point ∷ []; sends = posted (whos.Sequencer q.epoch) q.log (to_each (bodies.Trim point) (all_nodes c)) }) []
     trims name q point v b w x = has.finish_has _ _ _ _ _ _ (record { state = s; lines = lines.Trimmed name point ∷ []; sends = posted (whos.Sequencer q.epoch) q.log (to_each (bodies.Trim point) (all_nodes c)) }) K.before
-        (posted_ok (whos.Sequencer q.epoch) q.log (to_each (bodies.Trim point) (all_nodes c)) (λ y j. (sequencers.each_ok E T Y O V W R G K.sound q.log q.epoch (bodies.Trim point) (all_nodes c) (K.trim name q point v b (subst (λ (d : Done). In (lines.Trimmed name point) d.lines) (sym w) (inl refl)))).each y j))
+        (posted_ok (whos.Sequencer q.epoch) (λ h. h) q.log (to_each (bodies.Trim point) (all_nodes c)) (λ y j. (sequencers.each_ok E T Y O V W R G K.sound q.log q.epoch (bodies.Trim point) (all_nodes c) (K.trim name q point v b (subst (λ (d : Done). In (lines.Trimmed name point) d.lines) (sym w) (inl refl)))).each y j))
 
     drops : (name : List ℕ) (q : Sequencer) → Live s name q → Carries (finish (only_state (with_sequencer s name (Step.dropped q)))).state
     drops name q v = let o = K.before.sequencers name q v.named in quiet_has _ [] (has.sequencer_has _ _ _ _ _ _ s name (Step.dropped q) K.before (record { appends = o.appends; recovery = o.recovery }))
@@ -224,16 +227,15 @@ module _ (c : Config) (s : State) (e : Event) (E : ℕ → ℕ → ℕ → What 
     activates : (name : List ℕ) (l : ℕ) (r : Register) → (Step.happens c s e).state.register ≡ r → Result (Step.activated_as c s name l r (epochs_of r l).epoch (lce_of r l)) []
     activates name l r i w x = let n = (epochs_of r l).epoch in let d : Done = Step.activated_as c s name l r n (lce_of r l) in
         has.finish_has _ _ _ _ _ _ d (has.register_has _ _ _ _ _ _ (with_sequencer s name (activated (looks_at c r l) (Step.spec_set c s l) l n (lce_of r l))) r (has.sequencer_has _ _ _ _ _ _ s name (activated (looks_at c r l) (Step.spec_set c s l) l n (lce_of r l)) K.before (sequencers.activated_ok E T Y O V W R G K.sound name c r (Step.spec_set c s l) l n (lce_of r l) (K.new_epochs l r i))) (to_register d w))
-        (posted_ok (whos.Sequencer n) l (recovery_asks (looks_at c r l) (activated (looks_at c r l) (Step.spec_set c s l) l n (lce_of r l)) (lce_of r l)) (λ b j. (sequencers.begin_asks_ok E T Y O V W R G K.sound l n (looks_at c r l) (activated (looks_at c r l) (Step.spec_set c s l) l n (lce_of r l)) (lce_of r l) (unactivated l n r i)).each b j))
+        (posted_ok (whos.Sequencer n) (λ h. h) l (recovery_asks (looks_at c r l) (activated (looks_at c r l) (Step.spec_set c s l) l n (lce_of r l)) (lce_of r l)) (λ b j. (sequencers.begin_asks_ok E T Y O V W R G K.sound l n (looks_at c r l) (activated (looks_at c r l) (Step.spec_set c s l) l n (lce_of r l)) (lce_of r l) (unactivated l n r i)).each b j))
 
     register_only : (t : State) (r : Register) (ls : List Line) → Carries t → Step.happens c s e ≡ record { state = with_register t r; lines = ls; sends = [] } → Carries (finish (record { state = with_register t r; lines = ls; sends = [] })).state
     register_only t r ls h w = quiet_has (with_register t r) ls (has.register_has _ _ _ _ _ _ t r h (to_register (record { state = with_register t r; lines = ls; sends = [] }) w))
 
     -- ---- readers ----
-    asks_plain : (l r round next : ℕ) (set : List ℕ) (b : ℕ × Body) → In b (asks_of round next set) → carried.BodyOk E T Y O V W R G l (whos.Reader r) b.1
-    asks_plain l r round next [] b i = absurd i
-    asks_plain l r round next (y ∷ set) b (inl q) = subst (λ (x : ℕ × Body). carried.BodyOk E T Y O V W R G l (whos.Reader r) x.1) (sym q) tt
-    asks_plain l r round next (y ∷ set) b (inr i) = asks_plain l r round next set b i
+    ask_ok : (l r round from : ℕ) (b : Body) → IsAskOf round from b → carried.BodyOk E T Y O V W R G l (whos.Reader r) b
+    ask_ok l r round from b (inl q) = subst (carried.BodyOk E T Y O V W R G l (whos.Reader r)) (sym q) tt
+    ask_ok l r round from b (inr q) = subst (carried.BodyOk E T Y O V W R G l (whos.Reader r)) (sym q.2) tt
 
     HeldFine : ℕ → List (ℕ × Held) → Type 0
     HeldFine l hs = (h : ℕ × Held) → In h hs → carried.HeldOk E T Y O V W R G l h.1.body
@@ -249,24 +251,26 @@ module _ (c : Config) (s : State) (e : Event) (E : ℕ → ℕ → ℕ → What 
     held_put d y b h o = cond_both (is_newer (find y d.held) (round_of b)) (put y (record { round = round_of b; body = b }) d.held) d.held (λ x. (k : ℕ × Held) → In k x → carried.HeldOk E T Y O V W R G d.log k.1.body)
         (λ t k i. elim (In_put y (record { round = round_of b; body = b }) d.held k i) [ inl q ↦ subst (λ (x : ℕ × Held). carried.HeldOk E T Y O V W R G d.log x.1.body) (sym q) o | inr j ↦ h k j ]) (λ t. h)
 
+    start_ok : (l r : ℕ) (full : Bool) (looks : ℕ → View) (x : Reader) (b : ℕ × Body) → In b (start_asks full looks x) → carried.BodyOk E T Y O V W R G l (whos.Reader r) b.1
+    start_ok l r full looks x b i = ask_ok l r _ _ b.1 (start_are full looks x b i).0
+
     read_keeps : (looks : ℕ → View) (d : Reader) (y : ℕ) (b : Body) → HeldFine d.log d.held → carried.HeldOk E T Y O V W R G d.log b → ReadKeeps looks d y b (ReadOk d)
     unfolding HeldFine
     read_keeps looks d y b h o = let k = held_put d y b h o in record {
       starts = record { log = refl; held = k; asks = λ r x i. absurd i };
       ignored = λ u. record { log = refl; held = h; asks = λ r x i. absurd i };
       loss = λ u n. record { log = refl; held = k; asks = λ r x i. absurd i };
-      swapped = λ u n. record { log = refl; held = dropped_held (HeldFine d.log) (λ z i. absurd i) _ _ k; asks = λ r x i. poll_plain d.log r looks (heard d y b) x i };
+      swapped = λ u n. record { log = refl; held = dropped_held (HeldFine d.log) (λ z i. absurd i) _ _ k; asks = λ r x i. start_ok d.log r false looks (heard d y b) x i };
+      asks_all = λ a g n. record { log = g.log; held = dropped_held (HeldFine d.log) (λ z i. absurd i) _ _ g.held; asks = λ r x i. start_ok d.log r true looks a.reader x i };
       trim = λ a g n t. record { log = g.log; held = g.held; asks = g.asks };
       record_there = λ a p g n t. record { log = g.log; held = g.held; asks = g.asks };
       hole_there = λ a g n t. record { log = g.log; held = g.held; asks = g.asks };
       plug = λ a g n t. record { log = g.log; held = g.held; asks = g.asks };
       bridge = λ a g n t. record { log = g.log; held = g.held; asks = g.asks };
       lossy_end = λ a g n t. record { log = g.log; held = g.held; asks = g.asks };
-      confirm = λ a g n m t. record { log = g.log; held = dropped_held (HeldFine d.log) (λ z i. absurd i) _ _ g.held; asks = λ r x i. asks_plain d.log r _ _ _ x i };
-      polls_on = λ a g t. record { log = g.log; held = dropped_held (HeldFine d.log) (λ z i. absurd i) _ _ g.held; asks = λ r x i. elim (In-append x a.asks _ i) [ inl j ↦ g.asks r x j | inr j ↦ poll_plain d.log r looks a.reader x j ] };
-    } where
-      poll_plain : (l r : ℕ) (looks : ℕ → View) (x : Reader) (b : ℕ × Body) → In b (poll_asks looks x) → carried.BodyOk E T Y O V W R G l (whos.Reader r) b.1
-      poll_plain l r looks x b i = cond_both (nat_lt x.round last_round) (asks_of (x.round + 1) x.next (nodes_of (look_of looks x).spec)) [] (λ z. In b z → carried.BodyOk E T Y O V W R G l (whos.Reader r) b.1) (λ t j. asks_plain l r _ _ _ b j) (λ t j. absurd j) i
+      confirm = λ a g n m t. record { log = g.log; held = dropped_held (HeldFine d.log) (λ z i. absurd i) _ _ g.held; asks = λ r x i. ask_ok d.log r _ _ x.1 (confirm_are looks a (lost_held a.reader.next (within (seen_nodes a.reader.seen) a.reader.held)) m x i) };
+      polls_on = λ a g t. record { log = g.log; held = dropped_held (HeldFine d.log) (λ z i. absurd i) _ _ g.held; asks = λ r x i. elim (In-append x a.asks _ i) [ inl j ↦ g.asks r x j | inr j ↦ start_ok d.log r false looks a.reader x j ] };
+    }
 
     reads : (f : List ℕ) (name : List ℕ) (d : Reader) (m : Msg) → In m s.network.sent → m.to ≡ whos.Reader d.number → Reading s name d → Carries (finish (Step.read (refreshed s f) name (on_answer (looks_at c s.register d.log) d (Step.sender_node m.from) m.body))).state
     unfolding HeldFine
@@ -274,19 +278,19 @@ module _ (c : Config) (s : State) (e : Event) (E : ℕ → ℕ → ℕ → What 
         let lg : d.log ≡ m.log = K.apart.logs m d.number name d i (inl t) v.named refl in
         let y = Step.sender_node m.from in
         let a = on_answer (looks_at c s.register d.log) d y m.body in
-        let o : carried.HeldOk E T Y O V W R G d.log m.body = subst (λ k. carried.HeldOk E T Y O V W R G k m.body) (sym lg) (carried.held_of E T Y O V W R G m.log m.from m.body (K.before.sent m i)) in
+        let o : carried.HeldOk E T Y O V W R G d.log m.body = subst (λ k. carried.HeldOk E T Y O V W R G k m.body) (sym lg) (carried.held_of E T Y O V W R G m.log m.from m.body (K.before.sent m i).0) in
         let k = answered (looks_at c s.register d.log) d y m.body (ReadOk d) (read_keeps (looks_at c s.register d.log) d y m.body (K.before.readers name d v.named) o) in
         has.finish_has _ _ _ _ _ _ (Step.read (refreshed s f) name a) (has.reader_has _ _ _ _ _ _ (refreshed s f) name a.reader K.before (subst (λ z. (h : ℕ × Held) → In h a.reader.held → carried.HeldOk E T Y O V W R G z h.1.body) (sym k.log) k.held))
-        (posted_ok (whos.Reader a.reader.number) a.reader.log a.asks (λ b j. subst (λ z. carried.BodyOk E T Y O V W R G z (whos.Reader a.reader.number) b.1) (sym k.log) (k.asks a.reader.number b j)))
+        (posted_ok (whos.Reader a.reader.number) (λ h. h) a.reader.log a.asks (λ b j. subst (λ z. carried.BodyOk E T Y O V W R G z (whos.Reader a.reader.number) b.1) (sym k.log) (k.asks a.reader.number b j)))
 
     polls : (name : List ℕ) (d : Reader) → Reading s name d → Carries (finish (record { state = with_reader s name (polled (looks_at c s.register d.log) d); lines = []; sends = posted (whos.Reader d.number) d.log (poll_asks (looks_at c s.register d.log) d) })).state
     unfolding HeldFine
     polls name d v = has.finish_has _ _ _ _ _ _ (record { state = with_reader s name (polled (looks_at c s.register d.log) d); lines = []; sends = posted (whos.Reader d.number) d.log (poll_asks (looks_at c s.register d.log) d) })
         (has.reader_has _ _ _ _ _ _ s name (polled (looks_at c s.register d.log) d) K.before (dropped_held (HeldFine d.log) (λ z i. absurd i) _ _ (K.before.readers name d v.named)))
-        (posted_ok (whos.Reader d.number) d.log (poll_asks (looks_at c s.register d.log) d) (λ b j. cond_both (nat_lt d.round last_round) (asks_of (d.round + 1) d.next (nodes_of (look_of (looks_at c s.register d.log) d).spec)) [] (λ z. In b z → carried.BodyOk E T Y O V W R G d.log (whos.Reader d.number) b.1) (λ t k. asks_plain d.log d.number _ _ _ b k) (λ t k. absurd k) j))
+        (posted_ok (whos.Reader d.number) (λ h. h) d.log (poll_asks (looks_at c s.register d.log) d) (λ b j. start_ok d.log d.number _ (looks_at c s.register d.log) d b j))
 
-    opens : (name : List ℕ) (l from until : ℕ) → Carries (finish (only_state (with_reader s name (opened l (length s.readers) from until)))).state
-    opens name l from until = quiet_has _ [] (has.reader_has _ _ _ _ _ _ s name (opened l (length s.readers) from until) K.before (λ h i. absurd i))
+    opens : (style : Style) (name : List ℕ) (l from until : ℕ) → Carries (finish (only_state (with_reader s name (opened style l (length s.readers) from until)))).state
+    opens style name l from until = quiet_has _ [] (has.reader_has _ _ _ _ _ _ s name (opened style l (length s.readers) from until) K.before (λ h i. absurd i))
 
     node_only : (n : ℕ) (x : Node) (ls : List Line) → has.NodeHas (λ y p. carried.PlainOk E T Y O V W R G p) (λ y l r. W l r) (carried.MsgOk E T Y O V W R G) (carried.SequencerOk E T Y O V W R G) (carried.ReaderOk E T Y O V W R G) (carried.RegisterOk E T Y O V W R G) n x → Carries (finish (record { state = with_node s n x; lines = ls; sends = [] })).state
     node_only n x ls h = quiet_has (with_node s n x) ls (has.node_has _ _ _ _ _ _ s n x K.before h)
@@ -315,7 +319,7 @@ module _ (c : Config) (s : State) (e : Event) (E : ℕ → ℕ → ℕ → What 
       activate_fails = λ name l y g q w x. register_only s _ _ K.before w;
       answers = λ f name d m i t v o w x. reads f name d m i t v;
       polls = λ name d v o w x. polls name d v;
-      opens = λ name l from until o i w x. opens name l from until;
+      opens = λ style name l from until o i w x. opens style name l from until;
     }
 
     pub carried_on : Carries (finish (Step.happens c s e)).state

@@ -127,14 +127,15 @@ module _ (p : Plain) (l : ℕ) where
   unfolding on_page
   keep_clean b o q = if_clean (log_of p l).lost (page_op (log_of p l) l b) o (page_clean b o) q
 
-  pub message_clean : (generation ballot released : ℕ) (b : Body) (o : Op) → (handled_by generation (log_of p l) l ballot released b).op ≡ Some o → OpClean p o
+  pub message_clean : (self generation ballot released : ℕ) (b : Body) (o : Op) → (handled_by self generation (log_of p l) l ballot released b).op ≡ Some o → OpClean p o
   unfolding on_store on_digest_ask on_clean on_trim Fine
-  message_clean generation ballot released (bodies.Store k lng x) o q = store_clean lng (record { number = k; ballot = ballot; what = x }) o q
-  message_clean generation ballot released (bodies.DigestAsk k) o q = ask_clean ballot k o q
-  message_clean generation ballot released (bodies.Clean k y) o q = clean_clean k y _ o q
-  message_clean generation ballot released (bodies.Trim t) o q = if_clean (nat_lt (log_of p l).trim t) (Some (ops.Trim l t)) o (λ z. subst (OpClean p) (Some_inj z) tt) q
-  message_clean generation ballot released (bodies.ReadAsk round k) o q = absurd cc
-  message_clean generation ballot released b o q = keep_clean b o q
+  message_clean self generation ballot released (bodies.Store k lng x) o q = store_clean lng (record { number = k; ballot = ballot; what = x }) o q
+  message_clean self generation ballot released (bodies.DigestAsk k) o q = ask_clean ballot k o q
+  message_clean self generation ballot released (bodies.Clean k y) o q = clean_clean k y _ o q
+  message_clean self generation ballot released (bodies.Trim t) o q = if_clean (nat_lt (log_of p l).trim t) (Some (ops.Trim l t)) o (λ z. subst (OpClean p) (Some_inj z) tt) q
+  message_clean self generation ballot released (bodies.ReadAsk round k) o q = absurd cc
+  message_clean self generation ballot released (bodies.ReadOne round k set excluded) o q = absurd cc
+  message_clean self generation ballot released b o q = keep_clean b o q
 
 -- ---- every event ----
 module _ (c : Config) (s : State) (e : Event) (H : (y : ℕ) → NodeClean y (node_at s y)) (K : (y l : ℕ) → Keyed (log_of (node_at s y).plain l)) (L : (y l : ℕ) → Keyed (log_of (load (node_at s y)).plain l)) where
@@ -157,7 +158,7 @@ module _ (c : Config) (s : State) (e : Event) (H : (y : ℕ) → NodeClean y (no
     keeps = λ n m o i t v q. let p = released_parts (node_at s n) m.log m.body in
         has.op_has _ _ _ _ _ _ n (Step.releases (node_at s n) m.log m.body) o (released n m.log m.body)
         (op_clean (Step.releases (node_at s n) m.log m.body).plain o (same_keys _ (node_at s n).plain p.0 (K n)) (released n m.log m.body).plain
-        (subst (λ (x : Plain). OpClean x o) (sym p.0) (message_clean (node_at s n).plain m.log _ (ballot_of m.from) _ m.body o q)));
+        (subst (λ (x : Plain). OpClean x o) (sym p.0) (message_clean (node_at s n).plain m.log _ _ (ballot_of m.from) _ m.body o q)));
     loads = loaded;
     formats = λ n k b w i. has.op_has _ _ _ _ _ _ n (load (node_at s n)) _ (loaded n) (op_clean (load (node_at s n)).plain _ (L n) (loaded n).plain tt);
     cleans = λ n l k y v h. has.op_has _ _ _ _ _ _ n (node_at s n) _ (H n) (op_clean (node_at s n).plain (ops.Clean l k y) (K n) (H n).plain tt);

@@ -109,7 +109,7 @@ module _ (c : Config) (s : State) (e : Event) (P : ℕ → ℕ → Summary → T
   summary_cases = record {
     still = λ f i. h;
     says = λ x q. h;
-    node_hears = λ f n m i t v o. handled f n m (Step.releases (node_at s n) m.log m.body) (Step.node_handles (node_at s n) m).op (Step.node_handles (node_at s n) m).answer;
+    node_hears = λ f n m i t v o. handled f n m (Step.releases (node_at s n) m.log m.body) (Step.node_handles n (node_at s n) m).op (Step.node_handles n (node_at s n) m).answer;
     loads = λ n ls q b o. h;
     draw_fails = λ n b. draw_summaries P s.register n h;
     formats = λ n r g b v i. subst (λ (d : Changed). OfSummaries P d.register) i (draw_summaries P s.register n h);
@@ -129,7 +129,7 @@ module _ (c : Config) (s : State) (e : Event) (P : ℕ → ℕ → Summary → T
     activate_fails = λ name l x g q. activate_summaries P s.register l (Step.spec_set c s l) h;
     answers = λ f name d m i t v o. h;
     polls = λ name d v o. h;
-    opens = λ name l from until o x. h;
+    opens = λ style name l from until o x. h;
   }
 
   -- each summary after the step

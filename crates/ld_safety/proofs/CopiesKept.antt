@@ -172,14 +172,15 @@ module _ (made : List Made) (sent : List Msg) (p : Plain) (l : ℕ) where
   unfolding on_page
   keep_copies b o q = if_copies (log_of p l).lost (page_op (log_of p l) l b) o (page_copies b o) q
 
-  pub message_copies : (hs : List Happened) (generation released : ℕ) (from : Who) (b : Body) (o : Op) → ((n lng : ℕ) (x : What) → b ≡ bodies.Store n lng x → Says hs made l (ballot_of from) n x) → (handled_by generation (log_of p l) l (ballot_of from) released b).op ≡ Some o → OpCopies made sent p o
+  pub message_copies : (hs : List Happened) (self generation released : ℕ) (from : Who) (b : Body) (o : Op) → ((n lng : ℕ) (x : What) → b ≡ bodies.Store n lng x → Says hs made l (ballot_of from) n x) → (handled_by self generation (log_of p l) l (ballot_of from) released b).op ≡ Some o → OpCopies made sent p o
   unfolding on_store on_digest_ask on_clean on_trim
-  message_copies hs generation released from (bodies.Store k lng x) o h q = store_copies hs lng (record { number = k; ballot = ballot_of from; what = x }) o (h k lng x refl) q
-  message_copies hs generation released from (bodies.DigestAsk k) o h q = ask_copies (ballot_of from) k o q
-  message_copies hs generation released from (bodies.Clean k y) o h q = clean_copies k y _ o refl q
-  message_copies hs generation released from (bodies.Trim t) o h q = if_copies (nat_lt (log_of p l).trim t) (Some (ops.Trim l t)) o (λ z. subst (OpCopies made sent p) (Some_inj z) tt) q
-  message_copies hs generation released from (bodies.ReadAsk round k) o h q = absurd cc
-  message_copies hs generation released from b o h q = keep_copies b o q
+  message_copies hs self generation released from (bodies.Store k lng x) o h q = store_copies hs lng (record { number = k; ballot = ballot_of from; what = x }) o (h k lng x refl) q
+  message_copies hs self generation released from (bodies.DigestAsk k) o h q = ask_copies (ballot_of from) k o q
+  message_copies hs self generation released from (bodies.Clean k y) o h q = clean_copies k y _ o refl q
+  message_copies hs self generation released from (bodies.Trim t) o h q = if_copies (nat_lt (log_of p l).trim t) (Some (ops.Trim l t)) o (λ z. subst (OpCopies made sent p) (Some_inj z) tt) q
+  message_copies hs self generation released from (bodies.ReadAsk round k) o h q = absurd cc
+  message_copies hs self generation released from (bodies.ReadOne round k set excluded) o h q = absurd cc
+  message_copies hs self generation released from b o h q = keep_copies b o q
 
 -- ---- every event ----
 abbrev pub NodeCopies : List Made → List Msg → ℕ → Node → Type 0
@@ -222,7 +223,7 @@ module _ (c : Config) (s : State) (e : Event) (hs : List Happened) (made : List 
     keeps = λ n m o i t v q. let p = released_parts (node_at s n) m.log m.body in
         has.op_has _ _ _ _ _ _ n (Step.releases (node_at s n) m.log m.body) o (released n m.log m.body)
         (op_copies made s.network.sent n (Step.releases (node_at s n) m.log m.body).plain o (λ l. subst (λ (x : Plain). LogFine (log_of x l)) (sym p.0) (F n l)) (released n m.log m.body).plain
-        (subst (λ (x : Plain). OpCopies made s.network.sent x o) (sym p.0) (message_copies made s.network.sent (node_at s n).plain m.log hs _ _ m.from m.body o (λ k lng x h. says m k lng x i h) q)));
+        (subst (λ (x : Plain). OpCopies made s.network.sent x o) (sym p.0) (message_copies made s.network.sent (node_at s n).plain m.log hs _ _ _ m.from m.body o (λ k lng x h. says m k lng x i h) q)));
     loads = loaded;
     formats = λ n k b w i. has.op_has _ _ _ _ _ _ n (load (node_at s n)) _ (loaded n) (op_copies made s.network.sent n (load (node_at s n)).plain _ (L n) (loaded n).plain (k, refl, known n k i));
     cleans = λ n l k y v h. has.op_has _ _ _ _ _ _ n (node_at s n) _ (H n) (op_copies made s.network.sent n (node_at s n).plain (ops.Clean l k y) (F n) (H n).plain

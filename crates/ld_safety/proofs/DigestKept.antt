@@ -110,7 +110,7 @@ abbrev pub MadeBelow : List Made → Register → Type 0
 MadeBelow made r = (l e b : ℕ) (f : Basis) → In (plan_of l e b f) made → b ≤ (epochs_of r l).epoch
 
 pub pages_good : (c : Config) (hs : List Happened) (made : List Made) (s : State) → AllSaid c hs made s.register s → PagesGood c hs s.network.sent s.register
-pages_good c hs made s S l e b y g p = subst (λ x. LngFine c hs s.network.sent s.register l x g) p.epoch (S.sent _ p.page).0.good
+pages_good c hs made s S l e b y g p = subst (λ x. LngFine c hs s.network.sent s.register l x g) p.epoch (S.sent _ p.page).0.0.good
 
 home_of : (n : ℕ) → 0 < esn_of n → home_epoch n ≡ epoch_of n
 home_of n h = cond_both ((esn_of n == 0) && nat_lt 0 (epoch_of n)) _ (epoch_of n) (λ x. x ≡ epoch_of n) (λ t. absurd (let p = and_parts (esn_of n == 0) (nat_lt 0 (epoch_of n)) t in let q = eqb-true (esn_of n) 0 p.0 in omega arith)) (λ t. refl)
@@ -190,13 +190,13 @@ module _ (c : Config) (s : State) (e : Event) (hs : List Happened) (made : List 
 
     -- what a message says
     pub cleaned_closed : (m : Msg) → In m s.network.sent → m.log ≡ q.log → (n : ℕ) (y : Summary) → m.body ≡ bodies.CleanHere n y → home_epoch n ≤ lce_of s.register q.log
-    cleaned_closed m i g n y h = let z : carried.BodyOk (Said hs made s.register) (TrimFine c hs s.network.sent s.register) (CloseFine c hs made s.network.sent s.register) (Reached s.register) (ShowFine c hs made s.network.sent s.register) (ReleaseFine c hs s.network.sent s.register) (SaidHere hs made s.register) (LngFine c hs s.network.sent s.register) m.log m.from (bodies.CleanHere n y) = subst (carried.BodyOk (Said hs made s.register) (TrimFine c hs s.network.sent s.register) (CloseFine c hs made s.network.sent s.register) (Reached s.register) (ShowFine c hs made s.network.sent s.register) (ReleaseFine c hs s.network.sent s.register) (SaidHere hs made s.register) (LngFine c hs s.network.sent s.register) m.log m.from) h (S.sent m i) in
+    cleaned_closed m i g n y h = let z : carried.BodyOk (Said hs made s.register) (TrimFine c hs s.network.sent s.register) (CloseFine c hs made s.network.sent s.register) (Reached s.register) (ShowFine c hs made s.network.sent s.register) (ReleaseFine c hs s.network.sent s.register) (SaidHere hs made s.register) (LngFine c hs s.network.sent s.register) m.log m.from (bodies.CleanHere n y) = subst (carried.BodyOk (Said hs made s.register) (TrimFine c hs s.network.sent s.register) (CloseFine c hs made s.network.sent s.register) (Reached s.register) (ShowFine c hs made s.network.sent s.register) (ReleaseFine c hs s.network.sent s.register) (SaidHere hs made s.register) (LngFine c hs s.network.sent s.register) m.log m.from) h (S.sent m i).0 in
         subst (λ l. home_epoch n ≤ lce_of s.register l) g (subst (λ x. x ≤ lce_of s.register m.log) (sym (home_of n z.0)) (close_low c hs made s.network.sent s.register m.log (epoch_of n) y z.1))
 
     page : (m : Msg) → In m s.network.sent → m.to ≡ whos.Sequencer q.epoch → m.log ≡ q.log → (w : Recovery) (from upto trim lng : ℕ) (es : List Entry) → w.epoch < q.epoch → m.body ≡ bodies.DigestPage from upto trim lng es → w.epoch ≡ epoch_of from → NoPlan hs made s.network.sent q.log w.epoch q.epoch
         → PageFacts hs made s.network.sent q.log w.epoch q.epoch (Step.sender_node m.from) from upto trim lng es
     page m i t g w from upto trim lng es lt h ep n =
-        let z : carried.BodyOk (Said hs made s.register) (TrimFine c hs s.network.sent s.register) (CloseFine c hs made s.network.sent s.register) (Reached s.register) (ShowFine c hs made s.network.sent s.register) (ReleaseFine c hs s.network.sent s.register) (SaidHere hs made s.register) (LngFine c hs s.network.sent s.register) m.log m.from (bodies.DigestPage from upto trim lng es) = subst (carried.BodyOk (Said hs made s.register) (TrimFine c hs s.network.sent s.register) (CloseFine c hs made s.network.sent s.register) (Reached s.register) (ShowFine c hs made s.network.sent s.register) (ReleaseFine c hs s.network.sent s.register) (SaidHere hs made s.register) (LngFine c hs s.network.sent s.register) m.log m.from) h (S.sent m i) in
+        let z : carried.BodyOk (Said hs made s.register) (TrimFine c hs s.network.sent s.register) (CloseFine c hs made s.network.sent s.register) (Reached s.register) (ShowFine c hs made s.network.sent s.register) (ReleaseFine c hs s.network.sent s.register) (SaidHere hs made s.register) (LngFine c hs s.network.sent s.register) m.log m.from (bodies.DigestPage from upto trim lng es) = subst (carried.BodyOk (Said hs made s.register) (TrimFine c hs s.network.sent s.register) (CloseFine c hs made s.network.sent s.register) (Reached s.register) (ShowFine c hs made s.network.sent s.register) (ReleaseFine c hs s.network.sent s.register) (SaidHere hs made s.register) (LngFine c hs s.network.sent s.register) m.log m.from) h (S.sent m i).0 in
         let o = same_message m q.log (Step.sender_node m.from) q.epoch (bodies.DigestPage from upto trim lng es) (node_from (Said hs made s.register) (TrimFine c hs s.network.sent s.register) (CloseFine c hs made s.network.sent s.register) (Reached s.register) (ShowFine c hs made s.network.sent s.register) (ReleaseFine c hs s.network.sent s.register) (SaidHere hs made s.register) (LngFine c hs s.network.sent s.register) m.from z.1) t g h in
         page_frozen hs made s.network.sent q.log w.epoch q.epoch (Step.sender_node m.from) from upto trim lng es (subst (λ x. In x s.network.sent) o i) (sym ep) lt B
         (λ f j. let k = z.0.entries f j in (k.given.place, subst (λ l. Says hs made l f.ballot f.number f.what) g k.says)) n (let u = good_low c hs s.network.sent s.register m.log (epoch_of from) lng z.0.good in omega arith)
@@ -208,7 +208,7 @@ module _ (c : Config) (s : State) (e : Event) (hs : List Happened) (made : List 
       told_trim = λ n x h. subst (λ y. In y s.network.sent) (same_message m q.log (Step.sender_node m.from) q.epoch (bodies.TrimmedHere n x) (V m q.epoch i t) t g h) i;
       settler = λ n z. (let a = SO q.log (Step.sender_node m.from) q.epoch n m.body z (subst (λ y. In y s.network.sent) (same_message m q.log (Step.sender_node m.from) q.epoch m.body (V m q.epoch i t) t g refl) i) in subst (λ (p : Spec). In (Step.sender_node m.from) (nodes_of p)) (sym (w.specs q.log (epoch_of n) a.0)) a.1);
       trimmed = λ n x h. (let z : carried.BodyOk (Said hs made s.register) (TrimFine c hs s.network.sent s.register) (CloseFine c hs made s.network.sent s.register) (Reached s.register) (ShowFine c hs made s.network.sent s.register) (ReleaseFine c hs s.network.sent s.register) (SaidHere hs made s.register) (LngFine c hs s.network.sent s.register) m.log m.from (bodies.TrimmedHere n x)
-          = subst (carried.BodyOk (Said hs made s.register) (TrimFine c hs s.network.sent s.register) (CloseFine c hs made s.network.sent s.register) (Reached s.register) (ShowFine c hs made s.network.sent s.register) (ReleaseFine c hs s.network.sent s.register) (SaidHere hs made s.register) (LngFine c hs s.network.sent s.register) m.log m.from) h (S.sent m i) in
+          = subst (carried.BodyOk (Said hs made s.register) (TrimFine c hs s.network.sent s.register) (CloseFine c hs made s.network.sent s.register) (Reached s.register) (ShowFine c hs made s.network.sent s.register) (ReleaseFine c hs s.network.sent s.register) (SaidHere hs made s.register) (LngFine c hs s.network.sent s.register) m.log m.from) h (S.sent m i).0 in
           λ p a b o. let y = (u q.log).1 in acked_stays c hs s.network.sent s.register k u w q.log p (subst (λ l. Acknowledged c hs s.network.sent s.register l p) g (z.0 p a b (subst (λ l. Open s.register l (epoch_of p)) (sym g) (omega arith)))));
     }
 
@@ -265,7 +265,7 @@ module _ (c : Config) (s : State) (e : Event) (hs : List Happened) (made : List 
   digest_cases = record {
     still = λ f i u y. (same_all s.register u y, none_new, none_once);
     says = λ x q u y. (same_all s.register u y, none_new, none_once);
-    node_hears = λ f n m i t v o. handled f (Step.releases (node_at s n) m.log m.body) n m (Step.node_handles (node_at s n) m).op (Step.node_handles (node_at s n) m).answer;
+    node_hears = λ f n m i t v o. handled f (Step.releases (node_at s n) m.log m.body) n m (Step.node_handles n (node_at s n) m).op (Step.node_handles n (node_at s n) m).answer;
     loads = λ n ls q b o u y. (same_all s.register u y, none_new, none_once);
     draw_fails = λ n b u y. (same_all (draw s.register n).register u y, none_new, none_once);
     formats = λ n k g b v i u y. (same_all k u y, none_new, none_once);
@@ -285,5 +285,5 @@ module _ (c : Config) (s : State) (e : Event) (hs : List Happened) (made : List 
     activate_fails = λ name l x g q u y. (same_all (activate s.register l (Step.spec_set c s l)).register u y, none_new, none_once);
     answers = λ f name d m i t v o u y. (same_all s.register u y, none_new, none_once);
     polls = λ name d v o u y. (same_all s.register u y, none_new, none_once);
-    opens = λ name l from until o x u y. (same_all s.register u y, none_new, none_once);
+    opens = λ style name l from until o x u y. (same_all s.register u y, none_new, none_once);
   }

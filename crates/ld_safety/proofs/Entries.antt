@@ -99,7 +99,7 @@ module _ (c : Config) (hs : List Happened) (w : World) (B : BaseGiven c hs w × 
   pub entries_here : HandedOut w → EntriesAreItems hs w
   entries_here H = record {
     at_nodes = λ y p m l n e f. let z = (said_at c hs w B y p m l).entries (n, e) (find_in n (log_of p l).entries e f) in (z.0, here_item l e z.1);
-    in_messages = λ m e i j. here_item m.log e (said_in c hs w B H m e m.body (B.1.said.sent m i) j);
+    in_messages = λ m e i j. here_item m.log e (said_in c hs w B H m e m.body (B.1.said.sent m i).0 j);
     in_plans = plan_said;
     in_appends = λ q p i j. is_item q.1.log (record { number = p.0; ballot = q.1.epoch; what = Rec p.1.payload }) ((said_of q i).appends p j);
   }

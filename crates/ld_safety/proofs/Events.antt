@@ -28,6 +28,10 @@ use Rattle.ld_machine.specs.Step as Step
 use Rattle.ld_machine.specs.World.{In, Made, made_by, made_with, made_for, made_at, made_on, made_again, made_retried, page_from}
 use Rattle.ld_safety.proofs.Lists.{In-slice_get, not_none, branch, cond_both}
 use Rattle.ld_safety.proofs.Names.{Once, found, sequencer_found, reader_found}
+use Rattle.ld_machine.specs.Facts.{AsksToAppend}
+use Rattle.ld_msg.specs.declared.style.Style.{Style}
+use Rattle.ld_msg.specs.declared.style.Style.TheVariants as styles
+use Rattle.ld_batch.specs.Batch.{packed}
 
 -- a line that no fact of a run is read from
 abbrev pub is_quiet : Line → Bool
@@ -40,6 +44,7 @@ is_quiet (lines.Appended s n) = false
 is_quiet (lines.Acked s n) = false
 is_quiet (lines.Trimmed s t) = false
 is_quiet (lines.Record r n p) = false
+is_quiet (lines.BatchMessage r n i p) = false
 is_quiet (lines.Gap r kind low high) = false
 is_quiet (lines.Set l r x set) = false
 is_quiet lines.Nothing = false
@@ -94,9 +99,17 @@ pub record Replaces (c : Config) (s : State) (n other l : ℕ) : Type 0 where
 abbrev pub swapped_by : State → ℕ → ℕ → ℕ → Changed
 swapped_by s n other l = swap s.register l (log_of (node_at s n).plain l).lost_to other n
 
+-- the event that opens a reader in a style
+abbrev pub opens_as : Style → List ℕ → ℕ → ℕ → ℕ → Event
+opens_as styles.EachCopy name l from until = events.Open name l from until
+opens_as styles.OneCopy name l from until = events.OpenOne name l from until
+opens_as styles.OfMessages name l from until = events.OpenMessages name l from until
+
 -- the event opens no reader
 abbrev pub Idle : Config → State → Event → Type 0
 Idle c s (events.Open name l from until) = has_log c l ≡ true → is_some (find_named name s.readers) ≡ true
+Idle c s (events.OpenOne name l from until) = has_log c l ≡ true → is_some (find_named name s.readers) ≡ true
+Idle c s (events.OpenMessages name l from until) = has_log c l ≡ true → is_some (find_named name s.readers) ≡ true
 Idle c s _ = Unit {0}
 
 -- the event delivers the message
@@ -137,7 +150,7 @@ pub record Cases (c : Config) (s : State) (e : Event) (Q : Done → List Made �
   pub hears : (f : List ℕ) (name : List ℕ) (q : Sequencer) (m : Msg) → In m s.network.sent → m.to ≡ whos.Sequencer q.epoch → m.log ≡ q.log → Live s name q → Idle c s e →
       Q (Step.acted c (refreshed s f) name q (on_reply (looks_at c s.register q.log) q (Step.sender_node m.from) m.body)) (made_by c s (Some (name, q)) (page_from m.from) m.body)
   pub retries : (name : List ℕ) (q : Sequencer) → Live s name q → Idle c s e → Q (Step.acted c s name q (on_retry (looks_at c s.register q.log) q)) (made_retried c s (Some q))
-  pub appends : (name : List ℕ) (q : Sequencer) (payload : List ℕ) → Live s name q → appending q payload ≡ Numbered → e ≡ events.Append name payload → Q (Step.append_done s name q payload Numbered) []
+  pub appends : (name : List ℕ) (q : Sequencer) (payload : List ℕ) → Live s name q → appending q payload ≡ Numbered → AsksToAppend name payload e → Q (Step.append_done s name q payload Numbered) []
   pub trims : (name : List ℕ) (q : Sequencer) (point : ℕ) → Live s name q → point ≤ released_of q →
       Q (record { state = s; lines = lines.Trimmed name point ∷ []; sends = posted (whos.Sequencer q.epoch) q.log (to_each (bodies.Trim point) (all_nodes c)) }) []
   pub drops : (name : List ℕ) (q : Sequencer) → Live s name q → Idle c s e → Q (only_state (with_sequencer s name (Step.dropped q))) []
@@ -148,7 +161,7 @@ pub record Cases (c : Config) (s : State) (e : Event) (Q : Done → List Made �
   pub answers : (f : List ℕ) (name : List ℕ) (d : Reader) (m : Msg) → In m s.network.sent → m.to ≡ whos.Reader d.number → Reading s name d → Idle c s e × Delivers s e m →
       Q (Step.read (refreshed s f) name (on_answer (looks_at c s.register d.log) d (Step.sender_node m.from) m.body)) []
   pub polls : (name : List ℕ) (d : Reader) → Reading s name d → Idle c s e → Q (record { state = with_reader s name (polled (looks_at c s.register d.log) d); lines = []; sends = posted (whos.Reader d.number) d.log (poll_asks (looks_at c s.register d.log) d) }) []
-  pub opens : (name : List ℕ) (l from until : ℕ) → Opens c s name l from until → e ≡ events.Open name l from until → Q (only_state (with_reader s name (opened l (length s.readers) from until))) []
+  pub opens : (style : Style) (name : List ℕ) (l from until : ℕ) → Opens c s name l from until → e ≡ opens_as style name l from until → Q (only_state (with_reader s name (opened style l (length s.readers) from until))) []
 
 module _ (c : Config) (s : State) (e : Event) (Q : Done → List Made → Type 0) (N : NamesOnce s) (K : Cases c s e Q) where
   either : (b : Bool) (d f : Done) (m : List Made) → (b ≡ true → Q d m) → (b ≡ false → Q f m) → Q (cond b d f) m
@@ -158,9 +171,21 @@ module _ (c : Config) (s : State) (e : Event) (Q : Done → List Made → Type 0
   none_of None h = refl
   none_of (Some x) h = absurd cc
 
-  opens_by : (name : List ℕ) (l from until : ℕ) → has_log c l ≡ true → find_named name s.readers ≡ None → e ≡ events.Open name l from until → Q (Step.opens s name l from until) []
-  opens_by name l from until g n i = either ((from == 0) || nat_lt until from) _ _ [] (λ t. K.says _ refl) (λ t. either (nat_le Step.reader_limit (length s.readers)) _ _ [] (λ u. K.says _ refl)
-      (λ u. let p = or_parts (from == 0) (nat_lt until from) t in K.opens name l from until (record { log = g; fresh_name = n; positive = eqb-false from 0 p.0; in_order = omega (arith, ltb-false until from p.1) }) i))
+  opens_by : (style : Style) (name : List ℕ) (l from until : ℕ) → has_log c l ≡ true → find_named name s.readers ≡ None → e ≡ opens_as style name l from until → Q (Step.opens s style name l from until) []
+  opens_by style name l from until g n i = either ((from == 0) || nat_lt until from) _ _ [] (λ t. K.says _ refl) (λ t. either (nat_le Step.reader_limit (length s.readers)) _ _ [] (λ u. K.says _ refl)
+      (λ u. let p = or_parts (from == 0) (nat_lt until from) t in K.opens style name l from until (record { log = g; fresh_name = n; positive = eqb-false from 0 p.0; in_order = omega (arith, ltb-false until from p.1) }) i))
+
+  -- a reader that isn't opened
+  unopened : (name : List ℕ) (l : ℕ) → (has_log c l && not (is_some (find_named name s.readers))) ≡ false → has_log c l ≡ true → is_some (find_named name s.readers) ≡ true
+  unopened name l h g = elim (cases_Bool (is_some (find_named name s.readers))) [
+    | inl a ↦ a
+    | inr a ↦ absurd (let i : (true && not false) ≡ false = subst (λ x. (true && not x) ≡ false) a (subst (λ x. (x && not (is_some (find_named name s.readers))) ≡ false) g h) in cc)
+  ]
+
+  opens_new : (style : Style) (name : List ℕ) (l from until : ℕ) → e ≡ opens_as style name l from until → ((has_log c l ≡ true → is_some (find_named name s.readers) ≡ true) → Idle c s e) → Q (Step.opens_new c s style name l from until) []
+  opens_new style name l from until i idle = either (has_log c l && not (is_some (find_named name s.readers))) _ _ []
+      (λ t. let p = and_parts (has_log c l) (not (is_some (find_named name s.readers))) t in opens_by style name l from until p.0 (none_of (find_named name s.readers) p.1) i)
+      (λ t. K.still s.network.fresh (idle (unopened name l t)))
 
   module _ (idle : Idle c s e) where
     nothing : Q (unchanged s) []
@@ -205,7 +230,7 @@ module _ (c : Config) (s : State) (e : Event) (Q : Done → List Made → Type 0
     retried_by name (Some q) i = either q.gone _ _ _ (λ g. subst (λ x. Q (unchanged s) (cond (x || is_some q.preempted) [] (made_again c s q q.recovery))) (sym g) nothing)
         (λ g. K.retries name q (record { named = i; there = g }) idle)
 
-    appended_by : (name : List ℕ) (q : Sequencer) (p : List ℕ) (o : Appending) → Live s name q → e ≡ events.Append name p → appending q p ≡ o → Q (Step.append_done s name q p o) []
+    appended_by : (name : List ℕ) (q : Sequencer) (p : List ℕ) (o : Appending) → Live s name q → AsksToAppend name p e → appending q p ≡ o → Q (Step.append_done s name q p o) []
     appended_by name q p TooLong a x i = K.says _ refl
     appended_by name q p (Preempted k) a x i = K.says _ refl
     appended_by name q p EpochFull a x i = K.says _ refl
@@ -286,27 +311,21 @@ module _ (c : Config) (s : State) (e : Event) (Q : Done → List Made → Type 0
     ticks_by n l = either (is_up (node_at s n).status && has_log c l) _ _ []
         (λ t. let p = and_parts (is_up (node_at s n).status) (has_log c l) t in K.ticks n l _ (record { up = p.0; log = p.1 }) refl idle) (λ t. nothing)
 
--- a reader that isn't opened
-unopened : (c : Config) (s : State) (name : List ℕ) (l : ℕ) → (has_log c l && not (is_some (find_named name s.readers))) ≡ false → has_log c l ≡ true → is_some (find_named name s.readers) ≡ true
-unopened c s name l h g = elim (cases_Bool (is_some (find_named name s.readers))) [
-  | inl a ↦ a
-  | inr a ↦ absurd (let i : (true && not false) ≡ false = subst (λ x. (true && not x) ≡ false) a (subst (λ x. (x && not (is_some (find_named name s.readers))) ≡ false) g h) in cc)
-]
-
 pub dispatch : (c : Config) (s : State) (e : Event) (Q : Done → List Made → Type 0) → NamesOnce s → Cases c s e Q → Q (Step.happens c s e) (made_on c s e)
 unfolding Step.happens Step.delivers
 dispatch c s (events.Format n) Q N K = where_node c s (events.Format n) Q N K tt n _ _ (λ g b. formats_loaded c s (events.Format n) Q N K tt n (load_end (node_at s n)) g b refl)
 dispatch c s (events.Activate name l) Q N K = activates c s (events.Activate name l) Q N K tt name l refl
-dispatch c s (events.Append name p) Q N K = live c s (events.Append name p) Q N K tt name _ (λ q a. appended_by c s (events.Append name p) Q N K tt name q p (appending q p) a refl refl)
+dispatch c s (events.Append name p) Q N K = live c s (events.Append name p) Q N K tt name _ (λ q a. appended_by c s (events.Append name p) Q N K tt name q p (appending q p) a (inl refl) refl)
+dispatch c s (events.Batch name ms) Q N K = live c s (events.Batch name ms) Q N K tt name _ (λ q a. appended_by c s (events.Batch name ms) Q N K tt name q (packed ms) (appending q (packed ms)) a (inr (ms, refl, refl)) refl)
 dispatch c s (events.Trim name t) Q N K = live c s (events.Trim name t) Q N K tt name _ (λ q a. trimmed_by c s (events.Trim name t) Q N K tt name q t a)
 dispatch c s (events.Retry name) Q N K = retried_by c s (events.Retry name) Q N K tt name (find_named name s.sequencers) refl
 dispatch c s (events.Drop name) Q N K = live c s (events.Drop name) Q N K tt name _ (λ q a. K.drops name q a tt)
 dispatch c s (events.Deliver i) Q N K = delivered c s (events.Deliver i) Q N K tt i (message s.network i) (λ m h. h) refl
 dispatch c s (events.Lose i) Q N K = K.still _ tt
 dispatch c s (events.Flow k) Q N K = nothing c s (events.Flow k) Q N K tt
-dispatch c s (events.Open name l from until) Q N K = either c s (events.Open name l from until) Q N K (has_log c l && not (is_some (find_named name s.readers))) _ _ []
-    (λ t. let p = and_parts (has_log c l) (not (is_some (find_named name s.readers))) t in opens_by c s (events.Open name l from until) Q N K name l from until p.0 (none_of c s (events.Open name l from until) Q N K (find_named name s.readers) p.1) refl)
-    (λ t. K.still s.network.fresh (unopened c s name l t))
+dispatch c s (events.Open name l from until) Q N K = opens_new c s (events.Open name l from until) Q N K styles.EachCopy name l from until refl (λ h. h)
+dispatch c s (events.OpenOne name l from until) Q N K = opens_new c s (events.OpenOne name l from until) Q N K styles.OneCopy name l from until refl (λ h. h)
+dispatch c s (events.OpenMessages name l from until) Q N K = opens_new c s (events.OpenMessages name l from until) Q N K styles.OfMessages name l from until refl (λ h. h)
 dispatch c s (events.Poll name) Q N K = polls_by c s (events.Poll name) Q N K tt name (find_named name s.readers) refl
 dispatch c s (events.Tick n l) Q N K = where_node c s (events.Tick n l) Q N K tt n true _ (λ g t. ticks_by c s (events.Tick n l) Q N K tt n l)
 dispatch c s (events.Down n) Q N K = where_node c s (events.Down n) Q N K tt n _ _ (λ g t. K.stops n t)

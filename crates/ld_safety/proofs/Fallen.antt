@@ -91,7 +91,7 @@ fallen_keeps : (c : Config) (s : State) (v : Event) → NodeKeeps c s v (λ y x.
 fallen_keeps c s v = record {
   all = λ y l e a b h. h;
   hears = λ n m i t u l e a b h p q. h p (released_from (node_at s n) m.log m.body p q);
-  keeps = λ n m o i t u q l e a b h. kept_fallen (Step.releases (node_at s n) m.log m.body) o l e (handled_plain _ _ _ _ _ m.body o q) (λ p z. h p (released_from (node_at s n) m.log m.body p z));
+  keeps = λ n m o i t u q l e a b h. kept_fallen (Step.releases (node_at s n) m.log m.body) o l e (handled_plain _ _ _ _ _ _ m.body o q) (λ p z. h p (released_from (node_at s n) m.log m.body p z));
   loads = λ n l e a b h p q. h p (loaded_from (node_at s n) p q);
   formats = λ n r k w i l e a b h. format_fallen (node_at s n) s.register r n l e i a b h;
   cleans = λ n j k y u q l e a b h. kept_fallen (node_at s n) (ops.Clean j k y) l e refl h;

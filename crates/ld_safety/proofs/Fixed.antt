@@ -40,6 +40,9 @@ use Rattle.ld_safety.proofs.Lines.{Group, group, OfNodes, OfNumbers, OfActs, OfT
 use Rattle.ld_safety.proofs.Events.{NamesOnce, Cases, dispatch, is_quiet, refreshed, loaded}
 use Rattle.ld_safety.proofs.Registers.{Reached, register_kept, spec_found}
 use Rattle.ld_safety.proofs.RegisterSteps.{Same, activate_leaves, close_leaves, draw_leaves, swap_leaves, epochs_put, epochs_same}
+use Rattle.ld_msg.specs.declared.style.Style.{Style}
+use Rattle.ld_msg.specs.declared.style.Style.TheVariants as styles
+use Rattle.ld_batch.specs.Batch.{packed}
 
 -- ---- steps at the end of a history ----
 set_in-append : (l : ℕ) (xs ys : List Line) (s : Spec) → set_in l (xs ++ ys) s ≡ set_in l ys (set_in l xs s)
@@ -131,7 +134,7 @@ module _ (c : Config) (s : State) (e : Event) where
   set_cases = record {
     still = λ f i. keeps _ refl nothing;
     says = λ x q. keeps _ refl (quiet_one x q);
-    node_hears = λ f n m i t v o. handled f n m (Step.releases (node_at s n) m.log m.body) (Step.node_handles (node_at s n) m).op (Step.node_handles (node_at s n) m).answer;
+    node_hears = λ f n m i t v o. handled f n m (Step.releases (node_at s n) m.log m.body) (Step.node_handles n (node_at s n) m).op (Step.node_handles n (node_at s n) m).answer;
     loads = λ n ls q b o. keeps _ refl (of_quiet ls q);
     draw_fails = λ n b. others OfNodes _ (λ q. cc) refl (one_of (lines.NodeRefusedRegister n));
     formats = λ n r g b v i. others OfNodes _ (λ q. cc) refl (kept_of n (Step.format_lines c n r) _ (format_of c n r));
@@ -148,9 +151,9 @@ module _ (c : Config) (s : State) (e : Event) where
     activates = λ name l r g n i x. others OfNumbers _ (λ q. cc) refl (one_of (lines.Active name _));
     swaps = λ n m l x r q i. keeps _ refl (quiet_one x q);
     activate_fails = λ name l x g q. keeps _ refl (quiet_one x q);
-    answers = λ f name d m i t v o. others OfItems _ (λ q. cc) refl (items_of name _ _);
+    answers = λ f name d m i t v o. others OfItems _ (λ q. cc) refl (items_of _ name _ _);
     polls = λ name d v o. keeps _ refl nothing;
-    opens = λ name l from until o x. keeps _ refl nothing;
+    opens = λ style name l from until o x. keeps _ refl nothing;
     sets = λ l r x set g. sets l r x set;
   }
 
@@ -210,7 +213,7 @@ module _ (c : Config) (s : State) where
   to_reader f m (Some d) = either (is_finished d.1) _ _ (same _ refl) (same _ refl)
 
   comes : (f : List ℕ) (m : Msg) (w : Who) → SameFixed (Step.comes_to c (refreshed s f) m w)
-  comes f m (whos.Node n) = either (is_up (node_at s n).status && has_log c m.log) _ _ (handles f n m (Step.releases (node_at s n) m.log m.body) (Step.node_handles (node_at s n) m).op (Step.node_handles (node_at s n) m).answer) (same _ refl)
+  comes f m (whos.Node n) = either (is_up (node_at s n).status && has_log c m.log) _ _ (handles f n m (Step.releases (node_at s n) m.log m.body) (Step.node_handles n (node_at s n) m).op (Step.node_handles n (node_at s n) m).answer) (same _ refl)
   comes f m (whos.Sequencer b) = to_sequencer f m (sequencer_of m.log b s.sequencers)
   comes f m (whos.Reader r) = to_reader f m (reader_of r s.readers)
 
@@ -254,8 +257,9 @@ module _ (c : Config) (s : State) where
   polls name None = same _ refl
   polls name (Some d) = either (is_finished d) _ _ (same _ refl) (same _ refl)
 
-  opens : (name : List ℕ) (l from until : ℕ) → SameFixed (Step.opens s name l from until)
-  opens name l from until = either ((from == 0) || nat_lt until from) _ _ (same _ refl) (either (nat_le Step.reader_limit (length s.readers)) _ _ (same _ refl) (same _ refl))
+  opens : (style : Style) (name : List ℕ) (l from until : ℕ) → SameFixed (Step.opens_new c s style name l from until)
+  opens style name l from until = either (has_log c l && not (is_some (find_named name s.readers))) _ _
+      (either ((from == 0) || nat_lt until from) _ _ (same _ refl) (either (nat_le Step.reader_limit (length s.readers)) _ _ (same _ refl) (same _ refl))) (same _ refl)
 
   -- ---- swaps ----
   swapped : (l upto old new : ℕ) (k : ℕ) → (epochs_of (swap s.register l upto old new).register k).specs ≡ (epochs_of s.register k).specs
@@ -363,13 +367,16 @@ module _ (c : Config) (s : State) where
   register_step (events.Activate name l) low = activation low l name
   register_step (events.Format n) low = idle_step (Step.happens c s (events.Format n)) (either (has_node c n && is_blank (node_at s n).status) _ _ (formats_loaded n (load_end (node_at s n))) (same _ refl))
   register_step (events.Append name p) low = idle_step (Step.happens c s (events.Append name p)) (on_live (find_named name s.sequencers) _ (λ q. append_done name q p (appending q p)))
+  register_step (events.Batch name ms) low = idle_step (Step.happens c s (events.Batch name ms)) (on_live (find_named name s.sequencers) _ (λ q. append_done name q (packed ms) (appending q (packed ms))))
   register_step (events.Trim name t) low = idle_step (Step.happens c s (events.Trim name t)) (on_live (find_named name s.sequencers) _ (λ q. either (nat_lt (released_of q) t) _ _ (same _ refl) (same _ refl)))
   register_step (events.Retry name) low = idle_step (Step.happens c s (events.Retry name)) (on_live (find_named name s.sequencers) _ (λ q. acted s.network.fresh name q (on_retry (looks_at c s.register q.log) q)))
   register_step (events.Drop name) low = idle_step (Step.happens c s (events.Drop name)) (on_live (find_named name s.sequencers) _ (λ q. same _ refl))
   register_step (events.Deliver i) low = idle_step (Step.happens c s (events.Deliver i)) (delivered i (message s.network i))
   register_step (events.Lose i) low = idle_step (Step.happens c s (events.Lose i)) (same _ refl)
   register_step (events.Flow n) low = idle_step (Step.happens c s (events.Flow n)) (same _ refl)
-  register_step (events.Open name l from until) low = idle_step (Step.happens c s (events.Open name l from until)) (either (has_log c l && not (is_some (find_named name s.readers))) _ _ (opens name l from until) (same _ refl))
+  register_step (events.Open name l from until) low = idle_step (Step.happens c s (events.Open name l from until)) (opens styles.EachCopy name l from until)
+  register_step (events.OpenOne name l from until) low = idle_step (Step.happens c s (events.OpenOne name l from until)) (opens styles.OneCopy name l from until)
+  register_step (events.OpenMessages name l from until) low = idle_step (Step.happens c s (events.OpenMessages name l from until)) (opens styles.OfMessages name l from until)
   register_step (events.Poll name) low = idle_step (Step.happens c s (events.Poll name)) (polls name (find_named name s.readers))
   register_step (events.Tick n l) low = idle_step (Step.happens c s (events.Tick n l)) (either (has_node c n && true) _ _ (either (is_up (node_at s n).status && has_log c l) _ _ (ticks_as n l (on_tick (log_of (node_at s n).plain l) (epochs_of s.register l).summaries)) (same _ refl)) (same _ refl))
   register_step (events.Down n) low = idle_step (Step.happens c s (events.Down n)) (either (has_node c n && (is_up (node_at s n).status || is_failed (node_at s n).status)) _ _ (same _ refl) (same _ refl))

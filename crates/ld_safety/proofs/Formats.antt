@@ -101,7 +101,7 @@ module _ (c : Config) (s : State) (e : Event) where
   format_cases = record {
     still = λ f i. none _ _;
     says = λ x q. quiet_one _ _ x q;
-    node_hears = λ f n m i t v o. handled f n m (Step.releases (node_at s n) m.log m.body) (Step.node_handles (node_at s n) m).op (Step.node_handles (node_at s n) m).answer;
+    node_hears = λ f n m i t v o. handled f n m (Step.releases (node_at s n) m.log m.body) (Step.node_handles n (node_at s n) m).op (Step.node_handles n (node_at s n) m).answer;
     loads = λ n ls q b o. quiets _ _ ls q;
     draw_fails = λ n b. one_other _ _ (lines.NodeRefusedRegister n) (λ m g q. cc);
     formats = λ n r g b v i. format_lines n r (keep_end (node_at (with_register (loaded s n) r) n) (ops.Format (generation_of r n) (epochs_in r.logs))) i;
@@ -119,9 +119,9 @@ module _ (c : Config) (s : State) (e : Event) where
     activates = λ name l r g n i x. one_other _ _ (lines.Active name _) (λ m g q. cc);
     swaps = λ n m l x r q i. quiet_one _ _ x q;
     activate_fails = λ name l x g q. quiet_one _ _ x q;
-    answers = λ f name d m i t v o. others _ _ OfItems _ (λ h. cc) (items_of name _ _);
+    answers = λ f name d m i t v o. others _ _ OfItems _ (λ h. cc) (items_of _ name _ _);
     polls = λ name d v o. none _ _;
-    opens = λ name l from until o x. none _ _;
+    opens = λ style name l from until o x. none _ _;
   }
 
 -- ---- along a run ----

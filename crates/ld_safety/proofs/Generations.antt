@@ -70,7 +70,7 @@ module _ (c : Config) (s : State) (e : Event) where
   generation_cases = record {
     still = λ f i. same;
     says = λ x q. same;
-    node_hears = λ f n m i t v o. handled f n m (Step.releases (node_at s n) m.log m.body) (Step.node_handles (node_at s n) m).op (Step.node_handles (node_at s n) m).answer;
+    node_hears = λ f n m i t v o. handled f n m (Step.releases (node_at s n) m.log m.body) (Step.node_handles n (node_at s n) m).op (Step.node_handles n (node_at s n) m).answer;
     loads = λ n ls q b o. same;
     draw_fails = λ n b. draw_generations s.register n;
     formats = λ n r g b v i. subst (λ (d : Changed). NoneFalls s.register d.register) i (draw_generations s.register n);
@@ -90,7 +90,7 @@ module _ (c : Config) (s : State) (e : Event) where
     activate_fails = λ name l x g q. activate_generations s.register l (Step.spec_set c s l);
     answers = λ f name d m i t v o. same;
     polls = λ name d v o. same;
-    opens = λ name l from until o x. same;
+    opens = λ style name l from until o x. same;
   }
 
 -- a step draws or keeps each generation

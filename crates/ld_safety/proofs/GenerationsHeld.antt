@@ -59,10 +59,10 @@ module _ (c : Config) (s : State) (e : Event) (A : AllDrawn s.register s) where
   load_drawn : (n : ℕ) → AllDrawn s.register (loaded s n)
   load_drawn n = put_drawn s.register s n (load (node_at s n)) (λ p h. A n p (loaded_from (node_at s n) p h)) A
 
-  handled : (f : List ℕ) (n : ℕ) (m : Msg) (o : Option Op) (b : Option Body) → (Step.node_handles (node_at s n) m).op ≡ o → AllDrawn s.register (Step.handles (with_node (refreshed s f) n (Step.releases (node_at s n) m.log m.body)) n m o b).state
+  handled : (f : List ℕ) (n : ℕ) (m : Msg) (o : Option Op) (b : Option Body) → (Step.node_handles n (node_at s n) m).op ≡ o → AllDrawn s.register (Step.handles (with_node (refreshed s f) n (Step.releases (node_at s n) m.log m.body)) n m o b).state
   handled f n m None b q = put_drawn s.register (refreshed s f) n (Step.releases (node_at s n) m.log m.body) (λ p h. A n p (released_from (node_at s n) m.log m.body p h)) A
   handled f n m (Some o) b q = let x : Node = Step.releases (node_at s n) m.log m.body in let t : State = with_node (refreshed s f) n x in let h : DrawnAt s.register n x = λ p h. (A n p (released_from (node_at s n) m.log m.body p h)) in
-      put_drawn s.register t n (keep_op (node_at t n) o) (subst (λ z. DrawnAt s.register n (keep_op z o)) (sym (node_here (refreshed s f) n x)) (plain_drawn s.register n x o (handled_plain _ _ _ _ _ m.body o q) h)) (put_drawn s.register (refreshed s f) n x h A)
+      put_drawn s.register t n (keep_op (node_at t n) o) (subst (λ z. DrawnAt s.register n (keep_op z o)) (sym (node_here (refreshed s f) n x)) (plain_drawn s.register n x o (handled_plain _ _ _ _ _ _ m.body o q) h)) (put_drawn s.register (refreshed s f) n x h A)
 
   ticked : (n l : ℕ) (t : Ticked) → AllDrawn s.register (Step.ticks_as c s n l t).state
   ticked n l (Cleans k y) = put_drawn s.register s n (keep_op (node_at s n) (ops.Clean l k y)) (plain_drawn s.register n (node_at s n) (ops.Clean l k y) refl (A n)) A
@@ -89,8 +89,8 @@ module _ (c : Config) (s : State) (e : Event) (A : AllDrawn s.register s) where
   drawn_cases = record {
     still = λ f i. A;
     says = λ x q. A;
-    node_hears = λ f n m i t v o. subst (λ r. AllDrawn r (Step.to_up_node (refreshed s f) n m).state) (sym (handled_register f n m (Step.releases (node_at s n) m.log m.body) (Step.node_handles (node_at s n) m).op (Step.node_handles (node_at s n) m).answer))
-        (handled f n m (Step.node_handles (node_at s n) m).op (Step.node_handles (node_at s n) m).answer refl);
+    node_hears = λ f n m i t v o. subst (λ r. AllDrawn r (Step.to_up_node (refreshed s f) n m).state) (sym (handled_register f n m (Step.releases (node_at s n) m.log m.body) (Step.node_handles n (node_at s n) m).op (Step.node_handles n (node_at s n) m).answer))
+        (handled f n m (Step.node_handles n (node_at s n) m).op (Step.node_handles n (node_at s n) m).answer refl);
     loads = λ n ls q b o. load_drawn n;
     draw_fails = λ n b. up_drawn s.register (draw s.register n).register (loaded s n) (draw_generations s.register n) (load_drawn n);
     formats = λ n r g b v i. formatted n r i;
@@ -110,7 +110,7 @@ module _ (c : Config) (s : State) (e : Event) (A : AllDrawn s.register s) where
     activate_fails = λ name l x g q. up_drawn s.register (activate s.register l (Step.spec_set c s l)).register s (activate_generations s.register l (Step.spec_set c s l)) A;
     answers = λ f name d m i t v o. A;
     polls = λ name d v o. A;
-    opens = λ name l from until o x. A;
+    opens = λ style name l from until o x. A;
   }
 
 pub drawn_step : (c : Config) (w : World) (e : Event) → NamesOnce w.state → AllDrawn w.state.register w.state → AllDrawn (next_world c w e).state.register (next_world c w e).state

@@ -3,7 +3,7 @@ use Rattle.std.proofs.Common.{Bool, ◌≡◌, ◌∙◌, ◌⊎◌, ◌≤◌, 
 use Rattle.ld_lsn.specs.Number.{epoch_of, esn_of, numbered, last_esn}
 use Rattle.ld_schedule.specs.declared.event.Event.{Event}
 use Rattle.ld_msg.specs.declared.msg.What.{What}
-use Rattle.ld_msg.specs.declared.msg.What.TheVariants.{Rec, Hole, Bridge, Plug}
+use Rattle.ld_msg.specs.declared.msg.What.TheVariants.{Rec, Hole, Bridge, Plug, Withheld}
 use Rattle.ld_msg.specs.declared.msg.Entry.{Entry}
 use Rattle.ld_msg.specs.declared.msg.Summary.{Summary}
 use Rattle.ld_msg.specs.Digest.{Told, best, content, record_or, no_record, is_bridge, plan, plan_end, plan_floor, digest_trim, digest_lng, Item}
@@ -13,8 +13,9 @@ use Rattle.ld_machine.specs.World.{In}
 use Rattle.ld_safety.proofs.Lists.{slice_get_left, or_else_some}
 use Rattle.ld_safety.proofs.Steps.{told, writes_before}
 use Rattle.ld_safety.proofs.Numbers.{log_grows}
-use Rattle.ld_safety.proofs.Plans.{best_of, plan_items, plan_shape, top_most, trim_place_most}
+use Rattle.ld_safety.proofs.Plans.{best_of, plan_items, plan_shape, top_most, trim_place_most, content_no_withheld}
 use Rattle.ld_msg.specs.Register.{Register, epoch_limit}
+use Rattle.ld_machine.specs.Invariant.{is_withheld}
 
 -- a record was appended by one of the steps so far
 abbrev pub AppendedBy : List Happened → ℕ → ℕ → List ℕ → Type 0
@@ -28,6 +29,7 @@ pub record Place (n : ℕ) (w : What) : Type 0 where
 pub record GivenEntry (hs : List Happened) (l b n : ℕ) (w : What) : Type 0 where
   pub place : Place n w
   pub appended : (p : List ℕ) → w ≡ Rec p → AppendedBy hs l n p
+  pub kept : is_withheld w ≡ false
 
 -- a trim is none, or an issued point
 abbrev pub GivenTrim : List Happened → ℕ → ℕ → Type 0
@@ -60,13 +62,20 @@ pub issues_grows : (hs : List Happened) (old : Register) (e : Event) (d : Done) 
 issues_grows hs old e d l t k a = record { name = a.name; told = writes_before hs (told old e d ∷ []) k _ a.told; of_log = of_log_grows hs old e d l a.name a.of_log }
 
 pub entry_grows : (hs : List Happened) (old : Register) (e : Event) (d : Done) (l b n : ℕ) (w : What) → GivenEntry hs l b n w → GivenEntry (hs ++ told old e d ∷ []) l b n w
-entry_grows hs old e d l b n w g = record { place = g.place; appended = λ p q. let a = g.appended p q in (a.0, appends_grows hs old e d l n a.0 p a.1) }
+entry_grows hs old e d l b n w g = record { place = g.place; appended = λ p q. let a = g.appended p q in (a.0, appends_grows hs old e d l n a.0 p a.1); kept = g.kept }
 
 pub trim_grows : (hs : List Happened) (old : Register) (e : Event) (d : Done) (l t : ℕ) → GivenTrim hs l t → GivenTrim (hs ++ told old e d ∷ []) l t
 trim_grows hs old e d l t (inl h) = inl h
 trim_grows hs old e d l t (inr h) = inr (h.0, h.1, h.2, issues_grows hs old e d l h.1 h.0 h.3)
 
 -- ---- plans ----
+kept_what : (w : What) → (w ≡ Withheld → ⊥) → is_withheld w ≡ false
+kept_what (Rec p) h = refl
+kept_what Hole h = refl
+kept_what Bridge h = refl
+kept_what Plug h = refl
+kept_what Withheld h = absurd (h refl)
+
 module _ (hs : List Happened) (l b e : ℕ) (d : List Told) (D : (t : Told) → In t d → (f : Entry) → In f t.entries → GivenEntry hs l f.ballot f.number f.what) (L : digest_lng d < last_esn) where
   content_given : (k : Bool) (n : ℕ) (p : List ℕ) → content k (best n d) ≡ Rec p → AppendedBy hs l n p
   content_given k n p h = by_best k (best n d) refl h where
@@ -75,9 +84,11 @@ module _ (hs : List Happened) (l b e : ℕ) (d : List Told) (D : (t : Told) → 
     by_what true Hole g = absurd cc
     by_what true Bridge g = absurd cc
     by_what true Plug g = absurd cc
+    by_what true Withheld g = absurd cc
     by_what false Hole g = absurd cc
     by_what false Bridge g = absurd cc
     by_what false Plug g = absurd cc
+    by_what false Withheld g = absurd cc
 
     by_best : (k : Bool) (o : Option Entry) → best n d ≡ o → content k o ≡ Rec p → AppendedBy hs l n p
     by_best true None e g = absurd cc
@@ -109,4 +120,5 @@ module _ (hs : List Happened) (l b e : ℕ) (d : List Told) (D : (t : Told) → 
       | inl j ↦ subst (λ m. AppendedBy hs l m x) (sym n) (content_given k (numbered e p.place) x (sym j.1 ∙ q))
       | inr k ↦ absurd (let y : Bridge ≡ Rec x = sym k.1 ∙ q in cc)
     ];
+    kept = elim s.kind [ inl j ↦ kept_what i.what (λ q. content_no_withheld k (best (numbered e p.place) d) (sym j.1 ∙ q)) | inr j ↦ ap is_withheld j.1 ];
   }

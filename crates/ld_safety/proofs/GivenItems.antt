@@ -1,5 +1,5 @@
 -- Readers get only records that were appended, and trims up to points that were issued.
-use Rattle.std.proofs.Common.{◌≡◌, ◌∙◌, ◌⊎◌, ◌≤◌, ◌<◌, ℕ, ◌+◌, max, inl, inr, refl, ap, sym, subst, Bool, true, if◌then◌else◌, nat_lt, ◌==◌, List, [], ◌∷◌, ◌++◌, length, Option, Some, None, arith, slice_get}
+use Rattle.std.proofs.Common.{◌≡◌, ◌∙◌, ◌⊎◌, ◌≤◌, ◌<◌, ℕ, ◌+◌, max, inl, inr, refl, ap, sym, subst, Bool, true, if◌then◌else◌, nat_lt, ◌==◌, List, [], ◌∷◌, ◌++◌, length, Option, Some, None, arith, slice_get, false}
 use Rattle.std.proofs.lemmas.Bool.{cases_order, ltb-true, eqb-true}
 use Rattle.ld_table.specs.Table.{find, put}
 use Rattle.ld_table.specs.Named.{find_named}
@@ -10,7 +10,7 @@ use Rattle.ld_transcript.specs.declared.line.Line.{Line}
 use Rattle.ld_transcript.specs.declared.line.Line.TheVariants as lines
 use Rattle.ld_transcript.specs.declared.line.GapKind.TheVariants as gaps
 use Rattle.ld_msg.specs.declared.msg.What.{What}
-use Rattle.ld_msg.specs.declared.msg.What.TheVariants.{Rec, Hole, Bridge, Plug}
+use Rattle.ld_msg.specs.declared.msg.What.TheVariants.{Rec, Hole, Bridge, Plug, Withheld}
 use Rattle.ld_msg.specs.declared.msg.Entry.{Entry}
 use Rattle.ld_msg.specs.declared.msg.Msg.{Msg}
 use Rattle.ld_msg.specs.declared.msg.Who.TheVariants as whos
@@ -22,15 +22,15 @@ use Rattle.ld_machine.specs.Config.{looks_at}
 use Rattle.ld_msg.specs.Reader.{Reader, Read, heard, held_with, is_newer, round_of, on_answer, gives, nothing_read, look_of}
 use Rattle.ld_machine.specs.State.{State}
 use Rattle.ld_machine.specs.Facts.{Happened, Opening, opening, opening_of, Interval, Writes, Appends, Issues, ReadsLog, log_activated}
-use Rattle.ld_machine.specs.Safe.{RecordsWereAppended, TrimsWereIssued}
+use Rattle.ld_machine.specs.Safe.{RecordsWereAppended, TrimsWereIssued, BatchesWereAppended}
 use Rattle.ld_machine.specs.World.{World, In}
 use Rattle.ld_machine.specs.Run.{history}
 use Rattle.ld_machine.specs.Step as Step
-use Rattle.ld_safety.proofs.Lists.{Some_inj, not_none, cond_both, branch, In-append, only, first_left, slice_get_left, slice_get_below, In-slice_get}
+use Rattle.ld_safety.proofs.Lists.{Some_inj, not_none, cond_both, branch, In-append, only, first_left, slice_get_left, slice_get_below, In-slice_get, slice_get-In}
 use Rattle.ld_safety.proofs.Members.{In_put}
 use Rattle.ld_safety.proofs.Traces.{Moment, at_step}
 use Rattle.ld_safety.proofs.Events.{dispatch, Reading, is_quiet}
-use Rattle.ld_safety.proofs.Steps.{writes_before}
+use Rattle.ld_safety.proofs.Steps.{writes_before, finish_In}
 use Rattle.ld_safety.proofs.ItemLines.{line_cases}
 use Rattle.ld_safety.proofs.Lines.{Group, OfItems, OfMessages, group, AllOf, line_of}
 use Rattle.ld_safety.proofs.ReaderSteps.{dropped_held, ReadKeeps, answered}
@@ -39,6 +39,11 @@ use Rattle.ld_safety.proofs.Base.{Base}
 use Rattle.ld_safety.proofs.Given.{AnyEpoch, AnyShown, AnyReleased, SmallGood, AppendedBy, GivenEntry, GivenTrim, GivenSummary}
 use Rattle.ld_safety.proofs.GivenSteps.{Given}
 use Rattle.ld_safety.proofs.Carried as carried
+use Rattle.ld_msg.specs.declared.style.Style.{Style}
+use Rattle.ld_batch.specs.Batch.{Messages}
+use Rattle.ld_machine.specs.Invariant.{is_withheld}
+use Rattle.ld_safety.proofs.Withheld.{told_in, told_what}
+use Rattle.ld_safety.proofs.Batches.{BatchAt, one_of, message_in, last_there, same_items}
 
 -- ---- what is held ----
 pub entry_found : (s : ℕ) (es : List Entry) (w : What) → entry_at s es ≡ Some w → (e : Entry) × In e es × (e.number ≡ s) × (e.what ≡ w)
@@ -65,11 +70,16 @@ pub page_with : (s : ℕ) (w : What) (b : Body) → page_at s b ≡ Some w → P
 page_with s w (bodies.ReadPage round from upto clean entries) h = let r = entry_found s entries w h in record { round = round; from = from; upto = upto; clean = clean; entries = entries; is_page = refl; entry = r.0; there = r.1; number = r.2; what = r.3 }
 page_with s w _ h = absurd (not_none h)
 
+-- its entry says what it holds, where it isn't withheld
+pub page_told : (s : ℕ) (w : What) (b : Body) (p : PageWith s w b) → is_withheld w ≡ false → In p.entry (told_in p.entries)
+page_told s w b p h = told_what p.entry p.entries w p.there p.what h
+
 record_of_some : (o : Option What) (p : List ℕ) → record_of o ≡ Some p → o ≡ Some (Rec p)
 record_of_some (Some (Rec q)) p h = ap (λ x. Some (Rec x)) (Some_inj h)
 record_of_some (Some Hole) p h = absurd (not_none h)
 record_of_some (Some Bridge) p h = absurd (not_none h)
 record_of_some (Some Plug) p h = absurd (not_none h)
+record_of_some (Some Withheld) p h = absurd (not_none h)
 record_of_some None p h = absurd (not_none h)
 
 or_else_of : {X : Type 0} (o p : Option X) (x : X) → or_else o p ≡ Some x → (o ≡ Some x) ⊎ (p ≡ Some x)
@@ -103,8 +113,8 @@ module _ (hs : List Happened) (l : ℕ) where
   unfolding HeldGiven
   record_given s ds p h e =
       let r = record_in s ds p e in let w = r.2 in
-      let o : carried.EntriesOk (GivenEntry hs) (GivenTrim hs) (GivenSummary hs) AnyEpoch AnyShown AnyReleased (GivenEntry hs) SmallGood l w.entries = (subst (carried.HeldOk (GivenEntry hs) (GivenTrim hs) (GivenSummary hs) AnyEpoch AnyShown AnyReleased (GivenEntry hs) SmallGood l) w.is_page (h r.0 r.1)).0 in
-      subst (λ n. AppendedBy hs l n p) w.number ((o w.entry w.there).appended p w.what)
+      let o : carried.EntriesOk (GivenEntry hs) (GivenTrim hs) (GivenSummary hs) AnyEpoch AnyShown AnyReleased (GivenEntry hs) SmallGood l (told_in w.entries) = (subst (carried.HeldOk (GivenEntry hs) (GivenTrim hs) (GivenSummary hs) AnyEpoch AnyShown AnyReleased (GivenEntry hs) SmallGood l) w.is_page (h r.0 r.1)).0 in
+      subst (λ n. AppendedBy hs l n p) w.number ((o w.entry (page_told s (Rec p) r.0.1.body w refl)).appended p w.what)
 
   max_given : (a b : ℕ) → GivenTrim hs l a → GivenTrim hs l b → GivenTrim hs l (max a b)
   max_given a b x y = elim (cases_order a b) [
@@ -142,7 +152,7 @@ module _ (hs : List Happened) (l : ℕ) where
   no_held h i = absurd i
 
   given_keeps : (looks : ℕ → View) (d : Reader) (y : ℕ) (b : Body) → 0 < d.next → HeldGiven d.held → carried.HeldOk (GivenEntry hs) (GivenTrim hs) (GivenSummary hs) AnyEpoch AnyShown AnyReleased (GivenEntry hs) SmallGood l b → ReadKeeps looks d y b ReadGiven
-  given_keeps looks d y b p h o = let k = held_given d y b h o in let start : ReadGiven (record { reader = heard d y b; items = []; asks = [] }) = record { held = k; positive = p; items = λ i j. absurd j } in record {
+  given_keeps looks d y b p h o = let k = held_given d y b h o in let start : ReadGiven (nothing_read (heard d y b)) = record { held = k; positive = p; items = λ i j. absurd j } in record {
     starts = start;
     ignored = λ u. record { held = h; positive = p; items = λ i j. absurd j };
     loss = λ u n. gives_given (nothing_read (record (heard d y b) { seen = Some (look_of looks d) })) LossHere (record { held = k; positive = p; items = λ i j. absurd j }) tt;
@@ -154,46 +164,57 @@ module _ (hs : List Happened) (l : ℕ) where
     bridge = λ a g n t. gives_given a (BridgeTo (bridge_to a.reader.next)) g tt;
     lossy_end = λ a g n t. gives_given a (LossTo (bridge_to a.reader.next)) g tt;
     confirm = λ a g n m t. record { held = dropped_held HeldGiven no_held _ _ g.held; positive = g.positive; items = g.items };
+    asks_all = λ a g t. record { held = dropped_held HeldGiven no_held _ _ g.held; positive = g.positive; items = g.items };
     polls_on = λ a g t. record { held = dropped_held HeldGiven no_held _ _ g.held; positive = g.positive; items = g.items };
   }
 
 -- ---- the lines of a step ----
 
+-- a message of a batch that was appended
+pub record MessageGiven (hs : List Happened) (s : State) (ls : List Line) (name : List ℕ) (n index : ℕ) (m : List ℕ) : Type 0 where
+  pub reader : Reader
+  pub named : find_named name s.readers ≡ Some reader
+  pub payload : List ℕ
+  pub batch : BatchAt ls name n payload index m
+  pub appended : AppendedBy hs reader.log n payload
+
 pub record LinesGiven (hs : List Happened) (s : State) (ls : List Line) : Type 0 where
   pub records : (name : List ℕ) (n : ℕ) (p : List ℕ) → In (lines.Record name n p) ls → (d : Reader) × (find_named name s.readers ≡ Some d) × AppendedBy hs d.log n p
+  pub batches : (name : List ℕ) (n index : ℕ) (m : List ℕ) → In (lines.BatchMessage name n index m) ls → MessageGiven hs s ls name n index m
   pub trims : (name : List ℕ) (low high : ℕ) → In (lines.Gap name gaps.Trim low high) ls → (d : Reader) × (find_named name s.readers ≡ Some d) × ((k t : ℕ) × (high ≤ t) × Issues hs d.log t k)
 
 other_lines : (hs : List Happened) (s : State) (g : Group) (ls : List Line) → (g ≡ OfItems → ⊥) → AllOf g ls → LinesGiven hs s ls
-other_lines hs s g ls n a = record { records = λ name m p i. absurd (n (sym (a _ i))); trims = λ name low high i. absurd (n (sym (a _ i))) }
+other_lines hs s g ls n a = record { records = λ name m p i. absurd (n (sym (a _ i))); batches = λ name m j p i. absurd (n (sym (a _ i))); trims = λ name low high i. absurd (n (sym (a _ i))) }
 
-item_lines_given : (hs : List Happened) (s : State) (name : List ℕ) (d : Reader) (until : ℕ) (is : List (ℕ × Item)) → find_named name s.readers ≡ Some d → ((i : ℕ × Item) → In i is → ItemGiven hs d.log i.0 i.1) → LinesGiven hs s (Step.item_lines name until is)
-item_lines_given hs s name d until [] f h = record { records = λ a n p i. absurd i; trims = λ a low high i. absurd i }
-item_lines_given hs s name d until (i ∷ is) f h = let r = item_lines_given hs s name d until is f (λ j k. h j (inr k)) in record {
-  records = λ a n p j. elim j [ inl e ↦ rec_at i.1 a n p (h i (inl refl)) e | inr k ↦ r.records a n p k ];
-  trims = λ a low high j. elim j [ inl e ↦ trim_at i.1 a low high (h i (inl refl)) e | inr k ↦ r.trims a low high k ];
+item_lines_given : (hs : List Happened) (s : State) (style : Style) (name : List ℕ) (d : Reader) (until : ℕ) (is : List (ℕ × Item)) → find_named name s.readers ≡ Some d → ((i : ℕ × Item) → In i is → ItemGiven hs d.log i.0 i.1) → LinesGiven hs s (Step.item_lines style name until is)
+item_lines_given hs s style name d until is f h = record {
+  records = λ a n p j. let o = one_of style name until is (lines.Record a n p) (λ b k v m q. cc) j in rec_at o.item.0 o.item.1 a n p (h o.item o.there) o.line;
+  batches = λ a n index m j. let o = message_in style name until is a n index m j in
+      record { reader = d; named = subst (λ k. find_named k s.readers ≡ Some d) (sym o.whose) f; payload = o.payload; batch = subst (λ k. BatchAt (Step.item_lines style name until is) k n o.payload index m) (sym o.whose) o.batch; appended = h (n, RecordHere o.payload) o.there };
+  trims = λ a low high j. let o = one_of style name until is (lines.Gap a gaps.Trim low high) (λ b k v m q. cc) j in trim_at o.item.0 o.item.1 a low high (h o.item o.there) o.line;
 } where
-  rec_at : (x : Item) (a : List ℕ) (n : ℕ) (p : List ℕ) → ItemGiven hs d.log i.0 x → lines.Record a n p ≡ Step.item_line name i.0 until x → (d : Reader) × (find_named a s.readers ≡ Some d) × AppendedBy hs d.log n p
-  rec_at (RecordHere q) a n p g e = let x : a ≡ name = cc in let y : n ≡ i.0 = cc in let z : p ≡ q = cc in (d, subst (λ k. find_named k s.readers ≡ Some d) (sym x) f, subst (λ k. AppendedBy hs d.log k p) (sym y) (subst (λ k. AppendedBy hs d.log i.0 k) (sym z) g))
-  rec_at (TrimTo last) a n p g e = absurd cc
-  rec_at HoleHere a n p g e = absurd cc
-  rec_at (BridgeTo last) a n p g e = absurd cc
-  rec_at LossHere a n p g e = absurd cc
-  rec_at (LossTo last) a n p g e = absurd cc
+  rec_at : (s0 : ℕ) (x : Item) (a : List ℕ) (n : ℕ) (p : List ℕ) → ItemGiven hs d.log s0 x → lines.Record a n p ≡ Step.item_line name s0 until x → (d : Reader) × (find_named a s.readers ≡ Some d) × AppendedBy hs d.log n p
+  rec_at s0 (RecordHere q) a n p g e = let x : a ≡ name = cc in let y : n ≡ s0 = cc in let z : p ≡ q = cc in (d, subst (λ k. find_named k s.readers ≡ Some d) (sym x) f, subst (λ k. AppendedBy hs d.log k p) (sym y) (subst (λ k. AppendedBy hs d.log s0 k) (sym z) g))
+  rec_at s0 (TrimTo last) a n p g e = absurd cc
+  rec_at s0 HoleHere a n p g e = absurd cc
+  rec_at s0 (BridgeTo last) a n p g e = absurd cc
+  rec_at s0 LossHere a n p g e = absurd cc
+  rec_at s0 (LossTo last) a n p g e = absurd cc
 
-  trim_at : (x : Item) (a : List ℕ) (low high : ℕ) → ItemGiven hs d.log i.0 x → lines.Gap a gaps.Trim low high ≡ Step.item_line name i.0 until x → (d : Reader) × (find_named a s.readers ≡ Some d) × ((k t : ℕ) × (high ≤ t) × Issues hs d.log t k)
-  trim_at (TrimTo last) a low high g e = let x : a ≡ name = cc in let y : high ≡ (if nat_lt until last then until else last) = cc in (
+  trim_at : (s0 : ℕ) (x : Item) (a : List ℕ) (low high : ℕ) → ItemGiven hs d.log s0 x → lines.Gap a gaps.Trim low high ≡ Step.item_line name s0 until x → (d : Reader) × (find_named a s.readers ≡ Some d) × ((k t : ℕ) × (high ≤ t) × Issues hs d.log t k)
+  trim_at s0 (TrimTo last) a low high g e = let x : a ≡ name = cc in let y : high ≡ (if nat_lt until last then until else last) = cc in (
     d,
     subst (λ k. find_named k s.readers ≡ Some d) (sym x) f,
     (g.0, g.1, cond_both (nat_lt until last) until last (λ z. high ≡ z → high ≤ g.1) (λ t w. let v = ltb-true until last t in let u = g.2 in omega arith) (λ t w. let u = g.2 in omega arith) y, g.3),
   )
-  trim_at (RecordHere q) a low high g e = absurd cc
-  trim_at HoleHere a low high g e = absurd cc
-  trim_at (BridgeTo last) a low high g e = absurd cc
-  trim_at LossHere a low high g e = absurd cc
-  trim_at (LossTo last) a low high g e = absurd cc
+  trim_at s0 (RecordHere q) a low high g e = absurd cc
+  trim_at s0 HoleHere a low high g e = absurd cc
+  trim_at s0 (BridgeTo last) a low high g e = absurd cc
+  trim_at s0 LossHere a low high g e = absurd cc
+  trim_at s0 (LossTo last) a low high g e = absurd cc
 
 quiet_lines_given : (hs : List Happened) (s : State) (ls : List Line) → ((x : Line) → In x ls → is_quiet x ≡ true) → LinesGiven hs s ls
-quiet_lines_given hs s ls q = record { records = λ name n p i. absurd (let z = q _ i in cc); trims = λ name low high i. absurd (let z = q _ i in cc) }
+quiet_lines_given hs s ls q = record { records = λ name n p i. absurd (let z = q _ i in cc); batches = λ name n j p i. absurd (let z = q _ i in cc); trims = λ name low high i. absurd (let z = q _ i in cc) }
 
 tiles_up : (until next end : ℕ) (is : List Interval) → TilesTo until next is end → next ≤ end
 tiles_up until next end [] t = omega arith
@@ -208,14 +229,14 @@ module _ (c : Config) (hs : List Happened) (w : World) (e : Event) (B : Base c h
   ]
 
   reads_given : (f : List ℕ) (name : List ℕ) (d : Reader) (m : Msg) → In m w.state.network.sent → m.to ≡ whos.Reader d.number → Reading w.state name d
-      → LinesGiven hs w.state (Step.item_lines name (on_answer (looks_at c w.state.register d.log) d (Step.sender_node m.from) m.body).reader.until (on_answer (looks_at c w.state.register d.log) d (Step.sender_node m.from) m.body).items)
+      → LinesGiven hs w.state (Step.item_lines (on_answer (looks_at c w.state.register d.log) d (Step.sender_node m.from) m.body).reader.style name (on_answer (looks_at c w.state.register d.log) d (Step.sender_node m.from) m.body).reader.until (on_answer (looks_at c w.state.register d.log) d (Step.sender_node m.from) m.body).items)
   unfolding HeldGiven
   reads_given f name d m i t v =
       let lg : d.log ≡ m.log = B.1.1.logs m d.number name d i (inl t) v.named refl in
       let y = Step.sender_node m.from in
-      let o : carried.HeldOk (GivenEntry hs) (GivenTrim hs) (GivenSummary hs) AnyEpoch AnyShown AnyReleased (GivenEntry hs) SmallGood d.log m.body = subst (λ k. carried.HeldOk (GivenEntry hs) (GivenTrim hs) (GivenSummary hs) AnyEpoch AnyShown AnyReleased (GivenEntry hs) SmallGood k m.body) (sym lg) (carried.held_of (GivenEntry hs) (GivenTrim hs) (GivenSummary hs) AnyEpoch AnyShown AnyReleased (GivenEntry hs) SmallGood m.log m.from m.body (G.sent m i)) in
+      let o : carried.HeldOk (GivenEntry hs) (GivenTrim hs) (GivenSummary hs) AnyEpoch AnyShown AnyReleased (GivenEntry hs) SmallGood d.log m.body = subst (λ k. carried.HeldOk (GivenEntry hs) (GivenTrim hs) (GivenSummary hs) AnyEpoch AnyShown AnyReleased (GivenEntry hs) SmallGood k m.body) (sym lg) (carried.held_of (GivenEntry hs) (GivenTrim hs) (GivenSummary hs) AnyEpoch AnyShown AnyReleased (GivenEntry hs) SmallGood m.log m.from m.body (G.sent m i).0) in
       let k = answered (looks_at c w.state.register d.log) d y m.body (ReadGiven hs d.log) (given_keeps hs d.log (looks_at c w.state.register d.log) d y m.body (positive name d v.named) (G.readers name d v.named) o) in
-      item_lines_given hs w.state name d _ (on_answer (looks_at c w.state.register d.log) d y m.body).items v.named k.items
+      item_lines_given hs w.state _ name d _ (on_answer (looks_at c w.state.register d.log) d y m.body).items v.named k.items
 
   pub lines_given : LinesGiven hs w.state (Step.happens c w.state e).lines
   lines_given = dispatch c w.state e (λ d m. LinesGiven hs w.state d.lines) B.0.0 (line_cases c w.state e (LinesGiven hs w.state) (other_lines hs w.state) (λ f name d m i t v o. reads_given f name d m i t v) (quiet_lines_given hs w.state))
@@ -238,6 +259,7 @@ pub record LineAt (c : Config) (P : List Happened → World → Type 0) (hs : Li
   pub split : hs ≡ before ++ after
   pub place : length before ≡ k
   pub there : In x (Step.happens c world.state event).lines
+  pub back : (y : Line) → In y (Step.happens c world.state event).lines → Writes hs k y
 
 pub line_at : (c : Config) (P : List Happened → World → Type 0) (es : List Event) (k : ℕ) (x : Line) → ((j : ℕ) (h : Happened) → slice_get (history c es) j ≡ Some h → Moment c P (history c es) j h) → (group x ≡ OfMessages → ⊥) → Writes (history c es) k x → LineAt c P (history c es) k x
 line_at c P es k x M n w = let m = M k w.0 w.1 in record {
@@ -249,6 +271,7 @@ line_at c P es k x M n w = let m = M k w.0 w.1 in record {
   split = m.split;
   place = m.place;
   there = line_of (Step.happens c m.world.state m.event) x n (subst (λ (h : Happened). In x h.lines) m.is (In-slice_get x w.0.lines w.2 w.3));
+  back = λ y i. let r = slice_get-In y w.0.lines (subst (λ (h : Happened). In y h.lines) (sym m.is) (finish_In (Step.happens c m.world.state m.event) y i)) in (w.0, w.1, r.0, r.1);
 }
 
 -- a reader that was there is of the log that it was opened for
@@ -266,6 +289,18 @@ module _ (c : Config) (es : List Event) where
       let y : AppendedBy a.before l n p = subst (λ k. AppendedBy a.before k n p) lg x.2 in
       let b = slice_get_below y.1.here a.before y.0 y.1.at in let z = a.place in
       (y.0, omega arith, subst (λ (hs : List Happened). Appends hs l n p y.0) (sym a.split) (appends_before a.before a.after l n y.0 p y.1))
+
+  -- the messages that a step gives are those of the payload
+  pub batches : BatchesWereAppended c (history c es)
+  batches l n k ms g =
+      let z = last_there ms g.some in
+      let a = line_at c (Reads c) es k _ (at_step c (Reads c) (tiles_kept c) es) (λ h. cc) (g.told.each z.0 z.1 z.2) in
+      let x = (lines_given c a.before a.world a.event a.holds.0.0 a.holds.0.1 a.holds.1).batches g.name n z.0 z.1 a.there in
+      let lg = same_log c a.before a.after (history c es) l g.name x.reader a.split (got_of c a.before a.world a.holds.1 g.name x.reader x.named) g.of_log in
+      let y : AppendedBy a.before l n x.payload = subst (λ k. AppendedBy a.before k n x.payload) lg x.appended in
+      let q : x.batch.messages ≡ ms = same_items x.batch.messages ms (λ i m j. g.told.only i m (a.back _ (x.batch.all i m j))) (let u = slice_get_below z.1 x.batch.messages z.0 x.batch.at in let v = z.3 in omega arith) in
+      let b = slice_get_below y.1.here a.before y.0 y.1.at in let u = a.place in
+      (y.0, x.payload, omega arith, x.batch.reads ∙ ap Messages q, subst (λ (hs : List Happened). Appends hs l n x.payload y.0) (sym a.split) (appends_before a.before a.after l n y.0 x.payload y.1))
 
   pub trims : TrimsWereIssued c (history c es)
   trims l low high k g =

@@ -1,5 +1,5 @@
 -- Each step leaves records that were appended and trims that were issued.
-use Rattle.std.proofs.Common.{Bool, ◌⊎◌, ◌≡◌, ◌∙◌, ◌≤◌, ℕ, inl, inr, refl, ap, sym, subst, List, [], ◌∷◌, ◌++◌, length, Some, arith}
+use Rattle.std.proofs.Common.{Bool, ◌⊎◌, ◌≡◌, ◌≤◌, ℕ, inl, inr, refl, sym, subst, List, [], ◌∷◌, ◌++◌, length, Some, arith}
 use Rattle.ld_table.specs.Table.{find}
 use Rattle.ld_table.specs.Named.{find_named}
 use Rattle.ld_lsn.specs.Number.{numbered}
@@ -12,7 +12,7 @@ use Rattle.ld_msg.specs.declared.msg.Summary.{Summary}
 use Rattle.ld_msg.specs.Register.{epoch_limit}
 use Rattle.ld_msg.specs.Sequencer.{Sequencer, Recovery, Stage, Stores, Closes, Numbered, appending, next_esn}
 use Rattle.ld_machine.specs.State.{State, start}
-use Rattle.ld_machine.specs.Facts.{Happened, OfLog}
+use Rattle.ld_machine.specs.Facts.{Happened, OfLog, AsksToAppend}
 use Rattle.ld_machine.specs.World.{World, In}
 use Rattle.ld_machine.specs.Run.{next_world}
 use Rattle.ld_machine.specs.Step as Step
@@ -32,12 +32,14 @@ use Rattle.ld_safety.proofs.SequencerSteps.{Ending, OfStored, ended_by}
 use Rattle.ld_safety.proofs.CarriedGrows.{carries_grow}
 use Rattle.ld_safety.proofs.Carried as carried
 use Rattle.ld_safety.proofs.Has as has
+use Rattle.ld_safety.proofs.Withheld.{told_in, told_entry}
+use Rattle.ld_safety.proofs.Carried.{message_whole}
 
 abbrev pub Given : Config → List Happened → State → Type 0
 Given c hs s = Carries c s (events.Flow 0) (GivenEntry hs) (GivenTrim hs) (GivenSummary hs) AnyEpoch AnyShown AnyReleased (GivenEntry hs) SmallGood s
 
 given_sound : (hs : List Happened) → carried.Sound (GivenEntry hs) (GivenTrim hs) (GivenSummary hs) AnyEpoch AnyShown AnyReleased (GivenEntry hs) SmallGood
-given_sound hs = record { zero_trim = λ l. inl refl; place = λ l b n w g. g.place.above; reached = λ l b n w g. tt; closing_trim = λ l e y h. h.0; zero_closed = λ l. (inl refl, omega arith); zero_released = λ l. tt; kept = λ l b n w g. g; zero_good = λ l e. omega arith; good_below = λ l e g h. h }
+given_sound hs = record { zero_trim = λ l. inl refl; place = λ l b n w g. g.place.above; reached = λ l b n w g. tt; closing_trim = λ l e y h. h.0; zero_closed = λ l. (inl refl, omega arith); zero_released = λ l. tt; kept = λ l b n w g. g; zero_good = λ l e. omega arith; good_below = λ l e g h. h; whole = λ l b n w g. g.kept }
 
 -- the stage of a recovery
 module _ (hs : List Happened) where
@@ -68,7 +70,7 @@ module _ (c : Config) (hs : List Happened) (w : World) (e : Event) (B : Base c h
   log_known : (name : List ℕ) (q : Sequencer) → Live w.state name q → OfLog next q.log name
   log_known name q v = of_log_grows hs w.state.register e (Step.happens c w.state e) q.log name (counts_of c hs w B name q v.named).known
 
-  pub append_given : (name : List ℕ) (q : Sequencer) (payload : List ℕ) → Live w.state name q → appending q payload ≡ Numbered → e ≡ events.Append name payload → In (lines.Appended name (numbered q.epoch (next_esn q))) (Step.happens c w.state e).lines → GivenEntry next q.log q.epoch (numbered q.epoch (next_esn q)) (Rec payload)
+  pub append_given : (name : List ℕ) (q : Sequencer) (payload : List ℕ) → Live w.state name q → appending q payload ≡ Numbered → AsksToAppend name payload e → In (lines.Appended name (numbered q.epoch (next_esn q))) (Step.happens c w.state e).lines → GivenEntry next q.log q.epoch (numbered q.epoch (next_esn q)) (Rec payload)
   append_given name q payload v a i x =
       let u = counts_of c hs w B name q v.named in
       let b = below_last q payload u.small a in
@@ -81,11 +83,12 @@ module _ (c : Config) (hs : List Happened) (w : World) (e : Event) (B : Base c h
             name = name;
             here = happened c w.state e;
             at = slice_get_last (happened c w.state e) hs [];
-            asked = i ∙ ap (events.Append name) (let t : payload ≡ p = cc in t);
+            asked = subst (λ x. AsksToAppend name x (happened c w.state e).event) (let t : payload ≡ p = cc in t) i;
             told = (happened c w.state e, slice_get_last (happened c w.state e) hs [], y.0, y.1);
             of_log = log_known name q v;
           },
         );
+        kept = refl;
       }
 
   trim_given : (name : List ℕ) (q : Sequencer) (point : ℕ) → Live w.state name q → In (lines.Trimmed name point) (Step.happens c w.state e).lines → GivenTrim next q.log point
@@ -104,9 +107,9 @@ module _ (c : Config) (hs : List Happened) (w : World) (e : Event) (B : Base c h
     trim = λ name q point v b x. trim_given name q point v x;
     planned = λ name q v d loss gone l r D m i j. let low = sequencers.digest_good (GivenEntry next) (GivenTrim next) (GivenSummary next) AnyEpoch AnyShown AnyReleased (GivenEntry next) SmallGood (given_sound next) q.log v.epoch _ D in (plan_given next q.log q.epoch v.epoch d (λ z o x k. (D z o).entries x k) low loss i j, plan_epoch next q.log q.epoch v.epoch d (λ z o x k. (D z o).entries x k) low loss i j);
     closed = λ name q v y short l r d k g. closes_given name q v y short l r d;
-    refill = λ n m round from upto es i t v b u x j k. let z : carried.MsgOk (GivenEntry next) (GivenTrim next) (GivenSummary next) AnyEpoch AnyShown AnyReleased (GivenEntry next) SmallGood m = now.sent m i in
-        let y : carried.AllKeptOk (GivenEntry next) (GivenTrim next) (GivenSummary next) AnyEpoch AnyShown AnyReleased (GivenEntry next) SmallGood m.log es = (subst (carried.BodyOk (GivenEntry next) (GivenTrim next) (GivenSummary next) AnyEpoch AnyShown AnyReleased (GivenEntry next) SmallGood m.log m.from) b z).0 in
-        let o = y x j in record { place = o.place; appended = o.appended };
+    refill = λ n m round from upto es i t v b u x j k. let z : carried.BodyOk (GivenEntry next) (GivenTrim next) (GivenSummary next) AnyEpoch AnyShown AnyReleased (GivenEntry next) SmallGood m.log m.from m.body = (now.sent m i).0 in
+        let y : carried.AllKeptOk (GivenEntry next) (GivenTrim next) (GivenSummary next) AnyEpoch AnyShown AnyReleased (GivenEntry next) SmallGood m.log (told_in es) = (subst (carried.BodyOk (GivenEntry next) (GivenTrim next) (GivenSummary next) AnyEpoch AnyShown AnyReleased (GivenEntry next) SmallGood m.log m.from) b z).0.0 in
+        let o = y x (told_entry x es j (message_whole m n round from upto es t b (now.sent m i).1 x j)) in record { place = o.place; appended = o.appended; kept = o.kept };
     shows = λ n l v. record { clean = λ f z k x a h b t i u o n. tt; open_still = λ f k x t i u o. tt };
     good = λ name q f. (let u = (counts_of c hs w B name q f).small in omega arith);
     own = λ name q f. let u = counts_of c hs w B name q f in own_epoch q u.row u.small;

@@ -28,7 +28,7 @@ use Rattle.ld_msg.specs.Sequencer.{Sequencer, Append, Recovery, Planned, Storing
 use Rattle.ld_op.specs.declared.op.Op.{Op}
 use Rattle.ld_op.specs.declared.op.Op.TheVariants as ops
 use Rattle.ld_op.specs.Plain.{Plain, Log, log_of, empty_log, apply, with_log, lost_log, lost_logs}
-use Rattle.ld_op.specs.Answers.{Decision, Lost, CleanAlready, Trimmed, Sealed, Same, Take, store_decision, digest_decision, taken, refusal, store_answer, digest_answer, on_store, on_digest_ask, on_clean, clean_op, on_trim, read_answer}
+use Rattle.ld_op.specs.Answers.{Decision, Lost, CleanAlready, Trimmed, Sealed, Same, Take, store_decision, digest_decision, taken, refusal, store_answer, digest_answer, on_store, on_digest_ask, on_clean, clean_op, on_trim, read_answer, withheld_in}
 use Rattle.ld_op.specs.Handles.{handled_by, answer_message, ballot_of}
 use Rattle.ld_op.specs.Ticks.{Ticked, Cleans, Rebuilt, Asks, Nothing, node_asks, on_page, page_op, refill_op, lacking}
 use Rattle.ld_machine.specs.Config.{all_nodes, looks_at}
@@ -60,6 +60,8 @@ use Rattle.ld_safety.proofs.Said.{Said, SaidHere}
 use Rattle.ld_safety.proofs.Along.{Along, BodySaidIn}
 use Rattle.ld_safety.proofs.AlongSteps.{along_kept}
 use Rattle.ld_safety.proofs.Carried as carried
+use Rattle.ld_safety.proofs.Withheld.{of_one}
+use Rattle.ld_safety.proofs.ReaderSteps.{IsAskOf}
 
 -- ---- what sequencers send ----
 abbrev pub OfSequencer : Body → Type 0
@@ -201,14 +203,25 @@ posted_says : (r : Register) (l b : ℕ) (bs : List (ℕ × Body)) → Reached r
 posted_says r l b bs h a m i = let p = posted_to (whos.Sequencer b) l bs m i in sequencer_says r m l b p.0.0 p.0.1 p.2 h (a p.0 p.1)
 
 -- an ask of a reader or of a node
-ask_says : (r : Register) (m : Msg) (who : Who) (l : ℕ) (bs : List (ℕ × Body)) → ((b : ℕ) → who ≡ whos.Sequencer b → ⊥) → ((b : ℕ × Body) → In b bs → (u n : ℕ) × (b.1 ≡ bodies.ReadAsk u n)) → In m (posted who l bs) → MsgDrawn r m
-ask_says r m who l bs w a i = let p = posted_to who l bs m i in let k = a p.0 p.1 in subst (MsgDrawn r) (sym (p.2 ∙ ap (λ x. record { from = who; to = whos.Node p.0.0; log = l; body = x }) k.2)) (record {
-  ballot = λ b q. absurd (w b q);
-  generation = λ y n u g end q z. absurd cc;
-  seal = λ n v q. absurd cc;
-  clean = λ e s q. absurd cc;
-  answer = λ n s q. absurd cc;
-})
+ask_says : (r : Register) (m : Msg) (who : Who) (l : ℕ) (bs : List (ℕ × Body)) → ((b : ℕ) → who ≡ whos.Sequencer b → ⊥) → ((b : ℕ × Body) → In b bs → (u n : ℕ) × IsAskOf u n b.1) → In m (posted who l bs) → MsgDrawn r m
+ask_says r m who l bs w a i = let p = posted_to who l bs m i in let k = a p.0 p.1 in elim k.2 [ inl q ↦ for_all p.0.0 p.0.1 k.0 k.1 p.2 q | inr q ↦ for_one p.0.0 p.0.1 k.0 k.1 q.0 q.1 p.2 q.2 ] where
+  for_all : (n : ℕ) (x : Body) (u k : ℕ) → m ≡ record { from = who; to = whos.Node n; log = l; body = x } → x ≡ bodies.ReadAsk u k → MsgDrawn r m
+  for_all n x u k e q = subst (MsgDrawn r) (sym (e ∙ ap (λ x. record { from = who; to = whos.Node n; log = l; body = x }) q)) (record {
+    ballot = λ b q. absurd (w b q);
+    generation = λ y n u g end q z. absurd cc;
+    seal = λ n v q. absurd cc;
+    clean = λ e s q. absurd cc;
+    answer = λ n s q. absurd cc;
+  })
+
+  for_one : (n : ℕ) (x : Body) (u k : ℕ) (set excluded : List Bool) → m ≡ record { from = who; to = whos.Node n; log = l; body = x } → x ≡ bodies.ReadOne u k set excluded → MsgDrawn r m
+  for_one n x u k set excluded e q = subst (MsgDrawn r) (sym (e ∙ ap (λ x. record { from = who; to = whos.Node n; log = l; body = x }) q)) (record {
+    ballot = λ b q. absurd (w b q);
+    generation = λ y n u g end q z. absurd cc;
+    seal = λ n v q. absurd cc;
+    clean = λ e s q. absurd cc;
+    answer = λ n s q. absurd cc;
+  })
 
 -- ---- what a node answers ----
 record AnswerDrawn (generation : ℕ) (g : Log) (x : Body) : Type 0 where
@@ -290,14 +303,19 @@ FromOne (bodies.Store n lng x) = 0 < epoch_of n
 FromOne (bodies.DigestAsk n) = 0 < epoch_of n
 FromOne _ = Unit {0}
 
-handled_answer : (generation : ℕ) (g : Log) (l ballot released : ℕ) (b x : Body) → FromOne b → (handled_by generation g l ballot released b).answer ≡ Some x → AnswerDrawn generation g x
+one_drawn : (generation : ℕ) (g : Log) (self : ℕ) (set excluded : List Bool) (b : Body) → AnswerDrawn generation g b → AnswerDrawn generation g (withheld_in self set excluded b)
+one_drawn generation g self set excluded (bodies.ReadPage round from upto clean es) h = record { lost = λ m v k z q. absurd cc; seal = λ m k q. absurd cc; clean = λ e y q. cc; answer = λ m y q. absurd cc }
+one_drawn generation g self set excluded _ h = h
+
+handled_answer : (self generation : ℕ) (g : Log) (l ballot released : ℕ) (b x : Body) → FromOne b → (handled_by self generation g l ballot released b).answer ≡ Some x → AnswerDrawn generation g x
 unfolding on_store on_digest_ask on_clean on_trim on_page
-handled_answer generation g l ballot released (bodies.Store n lng w) x p h = store_drawn generation n g x (store_decision g (record { number = n; ballot = ballot; what = w })) p (sealed_store g (record { number = n; ballot = ballot; what = w })) h
-handled_answer generation g l ballot released (bodies.DigestAsk from) x p h = digest_drawn generation from g x (digest_decision g ballot from) p (sealed_ask g ballot from) h
-handled_answer generation g l ballot released (bodies.Clean e y) x p h = absurd (not_none h)
-handled_answer generation g l ballot released (bodies.Trim t) x p h = absurd (not_none h)
-handled_answer generation g l ballot released (bodies.ReadAsk round from) x p h = subst (AnswerDrawn generation g) (Some_inj h) (read_drawn generation g released round from)
-handled_answer generation g l ballot released _ x p h = absurd (not_none h)
+handled_answer self generation g l ballot released (bodies.Store n lng w) x p h = store_drawn generation n g x (store_decision g (record { number = n; ballot = ballot; what = w })) p (sealed_store g (record { number = n; ballot = ballot; what = w })) h
+handled_answer self generation g l ballot released (bodies.DigestAsk from) x p h = digest_drawn generation from g x (digest_decision g ballot from) p (sealed_ask g ballot from) h
+handled_answer self generation g l ballot released (bodies.Clean e y) x p h = absurd (not_none h)
+handled_answer self generation g l ballot released (bodies.Trim t) x p h = absurd (not_none h)
+handled_answer self generation g l ballot released (bodies.ReadAsk round from) x p h = subst (AnswerDrawn generation g) (Some_inj h) (read_drawn generation g released round from)
+handled_answer self generation g l ballot released (bodies.ReadOne round from set excluded) x p h = subst (AnswerDrawn generation g) (Some_inj h) (of_one self set excluded (AnswerDrawn generation g) generation g released round from (λ b k. one_drawn generation g self set excluded b k) (read_drawn generation g released round from))
+handled_answer self generation g l ballot released _ x p h = absurd (not_none h)
 
 -- ---- seals of nodes ----
 abbrev SealsAt : Register → Plain → Type 0
@@ -364,14 +382,15 @@ on_page_seals : (r : Register) (g : Log) (l : ℕ) (b : Body) (q : Op) → (on_p
 unfolding on_page
 on_page_seals r g l b q h = if_seals r g.lost (page_op g l b) q (page_seals r g l b q) h
 
-handled_seals : (r : Register) (generation : ℕ) (g : Log) (l ballot released : ℕ) (b : Body) (q : Op) → ballot ≤ (epochs_of r l).epoch → (handled_by generation g l ballot released b).op ≡ Some q → OpSeals r q
+handled_seals : (r : Register) (self generation : ℕ) (g : Log) (l ballot released : ℕ) (b : Body) (q : Op) → ballot ≤ (epochs_of r l).epoch → (handled_by self generation g l ballot released b).op ≡ Some q → OpSeals r q
 unfolding on_store on_digest_ask on_clean on_trim
-handled_seals r generation g l ballot released (bodies.Store n lng x) q u h = taken_seals r (ops.Accept l lng (record { number = n; ballot = ballot; what = x })) q (store_decision g (record { number = n; ballot = ballot; what = x })) u h
-handled_seals r generation g l ballot released (bodies.DigestAsk from) q u h = taken_seals r (ops.Seal l ballot) q (digest_decision g ballot from) u h
-handled_seals r generation g l ballot released (bodies.Clean e y) q u h = clean_seals r l e y _ q h
-handled_seals r generation g l ballot released (bodies.Trim t) q u h = if_seals r (nat_lt g.trim t) (Some (ops.Trim l t)) q (λ e. subst (OpSeals r) (Some_inj e) tt) h
-handled_seals r generation g l ballot released (bodies.ReadAsk round from) q u h = absurd (not_none h)
-handled_seals r generation g l ballot released b q u h = on_page_seals r g l b q h
+handled_seals r self generation g l ballot released (bodies.Store n lng x) q u h = taken_seals r (ops.Accept l lng (record { number = n; ballot = ballot; what = x })) q (store_decision g (record { number = n; ballot = ballot; what = x })) u h
+handled_seals r self generation g l ballot released (bodies.DigestAsk from) q u h = taken_seals r (ops.Seal l ballot) q (digest_decision g ballot from) u h
+handled_seals r self generation g l ballot released (bodies.Clean e y) q u h = clean_seals r l e y _ q h
+handled_seals r self generation g l ballot released (bodies.Trim t) q u h = if_seals r (nat_lt g.trim t) (Some (ops.Trim l t)) q (λ e. subst (OpSeals r) (Some_inj e) tt) h
+handled_seals r self generation g l ballot released (bodies.ReadAsk round from) q u h = absurd (not_none h)
+handled_seals r self generation g l ballot released (bodies.ReadOne round from set excluded) q u h = absurd (not_none h)
+handled_seals r self generation g l ballot released b q u h = on_page_seals r g l b q h
 
 kept_seals : (r : Register) (x : Node) (o : Op) → OpSeals r o → SealDrawn r x → SealDrawn r (keep_op x o)
 kept_seals r x o f h p q = elim (kept_from x o p q).from [ inl a ↦ h p a | inr a ↦ subst (SealsAt r) (sym a) (op_seals r x.plain o f (h x.plain (inl refl))) ]
@@ -399,7 +418,7 @@ module _ (c : Config) (s : State) (e : Event) (M : AllMessages s.register s.netw
   seals_keep = record {
     all = S;
     hears = λ n m i t u. released_seals s.register (node_at s n) m.log m.body (S n);
-    keeps = λ n m o i t u q. kept_seals s.register (Step.releases (node_at s n) m.log m.body) o (handled_seals s.register (node_at s n).plain.generation (log_of (node_at s n).plain m.log) m.log (ballot_of m.from) (Step.released_at (node_at s n) m.log) m.body o (ballot_low s.register m m.from refl (M m i)) q) (released_seals s.register (node_at s n) m.log m.body (S n));
+    keeps = λ n m o i t u q. kept_seals s.register (Step.releases (node_at s n) m.log m.body) o (handled_seals s.register n (node_at s n).plain.generation (log_of (node_at s n).plain m.log) m.log (ballot_of m.from) (Step.released_at (node_at s n) m.log) m.body o (ballot_low s.register m m.from refl (M m i)) q) (released_seals s.register (node_at s n) m.log m.body (S n));
     loads = λ n p q. S n p (loaded_from (node_at s n) p q);
     formats = λ n r b w i. kept_seals s.register (load (node_at s n)) (ops.Format (generation_of r n) (epochs_in r.logs)) tt (λ p q. S n p (loaded_from (node_at s n) p q));
     cleans = λ n l k y u q. kept_seals s.register (node_at s n) (ops.Clean l k y) tt (S n);
@@ -417,11 +436,11 @@ module _ (c : Config) (s : State) (e : Event) (M : AllMessages s.register s.netw
   unfolding Result
   nothing d q u n m i = absurd (subst (λ (z : List Msg). In m z) q i)
 
-  answer_says : (n : ℕ) (m : Msg) (b : Option Body) → In m s.network.sent → (Step.node_handles (node_at s n) m).answer ≡ b → AllMessages s.register (answer_message n m b)
+  answer_says : (n : ℕ) (m : Msg) (b : Option Body) → In m s.network.sent → (Step.node_handles n (node_at s n) m).answer ≡ b → AllMessages s.register (answer_message n m b)
   answer_says n m None i q z j = absurd j
   answer_says n m (Some x) i q z j =
       let g = log_of (node_at s n).plain m.log in
-      let a = handled_answer (node_at s n).plain.generation g m.log (ballot_of m.from) (Step.released_at (node_at s n) m.log) m.body x (one m i) q in
+      let a = handled_answer n (node_at s n).plain.generation g m.log (ballot_of m.from) (Step.released_at (node_at s n) m.log) m.body x (one m i) q in
       let y : z ≡ record { from = whos.Node n; to = m.from; log = m.log; body = x } = only z _ j in
       subst (MsgDrawn s.register) (sym y) (record {
         ballot = λ b p. absurd cc;
@@ -448,9 +467,9 @@ module _ (c : Config) (s : State) (e : Event) (M : AllMessages s.register s.netw
   no_sends Crashed m i = i
   no_sends JournalFull m i = i
 
-  each_ask : (u n : ℕ) (ys : List ℕ) (b : ℕ × Body) → In b (to_each (bodies.ReadAsk u n) ys) → (v k : ℕ) × (b.1 ≡ bodies.ReadAsk v k)
+  each_ask : (u n : ℕ) (ys : List ℕ) (b : ℕ × Body) → In b (to_each (bodies.ReadAsk u n) ys) → (v k : ℕ) × IsAskOf v k b.1
   each_ask u n [] b i = absurd i
-  each_ask u n (y ∷ ys) b (inl q) = (u, n, ap (λ (z : ℕ × Body). z.1) q)
+  each_ask u n (y ∷ ys) b (inl q) = (u, n, inl (ap (λ (z : ℕ × Body). z.1) q))
   each_ask u n (y ∷ ys) b (inr i) = each_ask u n ys b i
 
   ticked : (n l : ℕ) (t : Ticked) → Result (Step.ticks_as c s n l t)
@@ -491,7 +510,7 @@ module _ (c : Config) (s : State) (e : Event) (M : AllMessages s.register s.netw
   says_cases = record {
     still = λ f i. nothing _ refl;
     says = λ x q. nothing _ refl;
-    node_hears = λ f n m i t v o. handled f (Step.releases (node_at s n) m.log m.body) n m (Step.node_handles (node_at s n) m).op (Step.node_handles (node_at s n) m).answer (answer_says n m (Step.node_handles (node_at s n) m).answer i refl);
+    node_hears = λ f n m i t v o. handled f (Step.releases (node_at s n) m.log m.body) n m (Step.node_handles n (node_at s n) m).op (Step.node_handles n (node_at s n) m).answer (answer_says n m (Step.node_handles n (node_at s n) m).answer i refl);
     loads = λ n ls q b o. nothing _ refl;
     draw_fails = λ n b. nothing _ refl;
     formats = λ n r g b v i. formatted n r;
@@ -511,7 +530,7 @@ module _ (c : Config) (s : State) (e : Event) (M : AllMessages s.register s.netw
     activate_fails = λ name l x g q. nothing _ refl;
     answers = λ f name d m i t v o. reads_say f name d (Step.sender_node m.from) m.body v;
     polls = λ name d v o. polls_say name d;
-    opens = λ name l from until o x. nothing _ refl;
+    opens = λ style name l from until o x. nothing _ refl;
   }
 
 -- ---- along a run ----
@@ -521,7 +540,7 @@ pub record HandedOut (w : World) : Type 0 where
   pub seals : (y : ℕ) (p : Plain) → MayHold (node_at w.state y) p → (l : ℕ) → (log_of p l).sealed ≤ (epochs_of w.state.register l).epoch
 
 from_one : (c : Config) (hs : List Happened) (w : World) → Along c hs w → (m : Msg) → Sent w m → FromOne m.body
-from_one c hs w R m i = by_body m.body (R.said.sent m i) where
+from_one c hs w R m i = by_body m.body (R.said.sent m i).0 where
   by_body : (b : Body) → BodySaidIn c hs w m.log m.from b → FromOne b
   by_body (bodies.Store n lng x) h = h.0.reached.0
   by_body (bodies.DigestAsk n) h = h.1.0

@@ -79,7 +79,7 @@ module _ (c : Config) (hs : List Happened) (w : World) (B : BaseGiven c hs w × 
   pub said_in : (m : Msg) (e : Entry) (b : Body) → BodySaidIn c hs w m.log m.from b → In e (entries_of m.from b) → SaidHere hs w.made w.state.register m.log e.ballot e.number e.what
   said_in m e (bodies.Store n lng x) h j = subst (λ (z : Entry). SaidHere hs w.made w.state.register m.log z.ballot z.number z.what) (sym (only e (record { number = n; ballot = ballot_of m.from; what = x }) j)) (said_here m.log (ballot_of m.from) n x h.0)
   said_in m e (bodies.DigestPage n upto t lng es) h j = said_here m.log e.ballot e.number e.what (h.0.entries e j)
-  said_in m e (bodies.ReadPage round n upto clean es) h j = h.0 e j
+  said_in m e (bodies.ReadPage round n upto clean es) h j = h.0.0 e j
   said_in m e _ h j = absurd j
 
   sealed_told : (k : ℕ) (m : Msg) (b : Body) → Sent w m → m.body ≡ b → In k (seals_in b) → Epoch w m.log k
@@ -89,7 +89,7 @@ module _ (c : Config) (hs : List Happened) (w : World) (B : BaseGiven c hs w × 
   pub ballots_here : BallotsDrawn w
   ballots_here = record {
     at_nodes = λ y p m l n e f. entry_drawn l e ((said_at c hs w B y p m l).entries (n, e) (find_in n (log_of p l).entries e f)).1;
-    in_messages = λ m e i j. entry_drawn m.log e (said_in m e m.body (B.1.said.sent m i) j);
+    in_messages = λ m e i j. entry_drawn m.log e (said_in m e m.body (B.1.said.sent m i).0 j);
     seals = λ y p m l. H.seals y p m l;
     seals_told = λ m k i j. sealed_told k m m.body i refl j;
   }
@@ -111,8 +111,8 @@ module _ (c : Config) (hs : List Happened) (w : World) (B : BaseGiven c hs w × 
   pub summaries_here : AllFull w → ((l e : ℕ) (s : Summary) → Closed w l e s → 0 < e) → SummariesAgree w
   summaries_here F P = record {
     at_nodes = λ y p m l e s f. closed_here l e s ((F y p m l).positive (e, s) (find_in e (log_of p l).summaries s f)) ((said_at c hs w B y p m l).summaries (e, s) (find_in e (log_of p l).summaries s f));
-    in_cleans = λ l b y e s i. closed_here l e s ((H.messages _ i).clean e s refl) (B.1.said.sent _ i);
-    in_answers = λ l y b n s i. answered l n s ((H.messages _ i).answer n s refl) (B.1.said.sent _ i);
+    in_cleans = λ l b y e s i. closed_here l e s ((H.messages _ i).clean e s refl) (B.1.said.sent _ i).0;
+    in_answers = λ l y b n s i. answered l n s ((H.messages _ i).answer n s refl) (B.1.said.sent _ i).0;
     ballots = λ l e s f. closing l e s (closed_so l e s (P l e s f) f);
   }
 

@@ -144,7 +144,7 @@ clean_found g e y f = cond_both (e == 0) (Some epoch_zero) (find e g.summaries) 
 module _ (c : Config) (s : State) (e : Event) (hs : List Happened) (made : List worlds.Made) (r : Register) (S : Carries c s e (Said hs made r) (TrimFine c hs s.network.sent r) (CloseFine c hs made s.network.sent r) (Reached r) (ShowFine c hs made s.network.sent r) (ReleaseFine c hs s.network.sent r) (SaidHere hs made r) (LngFine c hs s.network.sent r) s)
     (H : (y : ℕ) → NodeHolds made s.network.sent y (node_at s y)) where
   known : Known made s.network.sent r
-  known = record { stored = λ l y n b i. S.sent _ i; pages = λ l y b from upto t lng es i. (S.sent _ i).0.reached }
+  known = record { stored = λ l y n b i. (S.sent _ i).0; pages = λ l y b from upto t lng es i. (S.sent _ i).0.0.reached }
 
   Fine : Plain → Op → Type 0
   Fine p o = OpFine made s.network.sent p o
@@ -199,14 +199,15 @@ module _ (c : Config) (s : State) (e : Event) (hs : List Happened) (made : List 
   unfolding on_page
   keep_fine n l b o q = if_fine (node_at s n).plain (log_of (node_at s n).plain l).lost (page_op (log_of (node_at s n).plain l) l b) o (page_fine n l b o) q
 
-  message_fine : (n generation l released : ℕ) (from : Who) (b : Body) (o : Op) → carried.BodyOk (Said hs made r) (TrimFine c hs s.network.sent r) (CloseFine c hs made s.network.sent r) (Reached r) (ShowFine c hs made s.network.sent r) (ReleaseFine c hs s.network.sent r) (SaidHere hs made r) (LngFine c hs s.network.sent r) l from b → (handled_by generation (log_of (node_at s n).plain l) l (ballot_of from) released b).op ≡ Some o → Fine (node_at s n).plain o
+  message_fine : (n self generation l released : ℕ) (from : Who) (b : Body) (o : Op) → carried.BodyOk (Said hs made r) (TrimFine c hs s.network.sent r) (CloseFine c hs made s.network.sent r) (Reached r) (ShowFine c hs made s.network.sent r) (ReleaseFine c hs s.network.sent r) (SaidHere hs made r) (LngFine c hs s.network.sent r) l from b → (handled_by self generation (log_of (node_at s n).plain l) l (ballot_of from) released b).op ≡ Some o → Fine (node_at s n).plain o
   unfolding on_store on_digest_ask on_clean on_trim Fine
-  message_fine n generation l released from (bodies.Store k lng x) o h q = store_fine (node_at s n).plain l lng (record { number = k; ballot = ballot_of from; what = x }) o h.0 q
-  message_fine n generation l released from (bodies.DigestAsk k) o h q = ask_fine (node_at s n).plain l (ballot_of from) k o q
-  message_fine n generation l released from (bodies.Clean k y) o h q = clean_fine (node_at s n).plain l k y _ o q
-  message_fine n generation l released from (bodies.Trim t) o h q = if_fine (node_at s n).plain (nat_lt (log_of (node_at s n).plain l).trim t) (Some (ops.Trim l t)) o (λ z. subst (OpFine made s.network.sent (node_at s n).plain) (Some_inj z) tt) q
-  message_fine n generation l released from (bodies.ReadAsk round k) o h q = absurd cc
-  message_fine n generation l released from b o h q = keep_fine n l b o q
+  message_fine n self generation l released from (bodies.Store k lng x) o h q = store_fine (node_at s n).plain l lng (record { number = k; ballot = ballot_of from; what = x }) o h.0 q
+  message_fine n self generation l released from (bodies.DigestAsk k) o h q = ask_fine (node_at s n).plain l (ballot_of from) k o q
+  message_fine n self generation l released from (bodies.Clean k y) o h q = clean_fine (node_at s n).plain l k y _ o q
+  message_fine n self generation l released from (bodies.Trim t) o h q = if_fine (node_at s n).plain (nat_lt (log_of (node_at s n).plain l).trim t) (Some (ops.Trim l t)) o (λ z. subst (OpFine made s.network.sent (node_at s n).plain) (Some_inj z) tt) q
+  message_fine n self generation l released from (bodies.ReadAsk round k) o h q = absurd cc
+  message_fine n self generation l released from (bodies.ReadOne round k set excluded) o h q = absurd cc
+  message_fine n self generation l released from b o h q = keep_fine n l b o q
 
   -- a tick that ends a refill found all epochs up to the lost one clean
   rebuilt_full : (n l : ℕ) → on_tick (log_of (node_at s n).plain l) (epochs_of s.register l).summaries ≡ Rebuilt → (k : ℕ) → 0 < k → k ≤ (log_of (node_at s n).plain l).lost_to → CleanAt (log_of (node_at s n).plain l) k
@@ -235,7 +236,7 @@ module _ (c : Config) (s : State) (e : Event) (hs : List Happened) (made : List 
     hears = λ n m i t v. release_node made s.network.sent n (node_at s n) m.log m.body (H n);
     keeps = λ n m o i t v q. let p = released_parts (node_at s n) m.log m.body in let h = release_node made s.network.sent n (node_at s n) m.log m.body (H n) in
         op_node made s.network.sent n (Step.releases (node_at s n) m.log m.body) o h (op_holds made s.network.sent n (Step.releases (node_at s n) m.log m.body).plain o h.0
-        (subst (λ (x : Plain). OpFine made s.network.sent x o) (sym p.0) (message_fine n _ m.log _ m.from m.body o (S.sent m i) q)));
+        (subst (λ (x : Plain). OpFine made s.network.sent x o) (sym p.0) (message_fine n _ _ m.log _ m.from m.body o (S.sent m i).0 q)));
     loads = λ n. load_node made s.network.sent n (node_at s n) (H n);
     formats = λ n k b w i. let h = load_node made s.network.sent n (node_at s n) (H n) in op_node made s.network.sent n (load (node_at s n)) _ h (op_holds made s.network.sent n (load (node_at s n)).plain _ h.0 (k, refl, D n k i));
     cleans = λ n l k y v h. op_node made s.network.sent n (node_at s n) _ (H n) (op_holds made s.network.sent n (node_at s n).plain (ops.Clean l k y) (H n).0 tt);

@@ -113,14 +113,15 @@ keeps_plain : (g : Log) (l : ℕ) (b : Body) (p : Op) → (on_page g l b).op ≡
 unfolding on_page
 keeps_plain g l b p q = if_plain g.lost (page_op g l b) p (page_plain g l b p) q
 
-pub handled_plain : (generation : ℕ) (g : Log) (l ballot released : ℕ) (b : Body) (p : Op) → (handled_by generation g l ballot released b).op ≡ Some p → is_format p ≡ false
+pub handled_plain : (self generation : ℕ) (g : Log) (l ballot released : ℕ) (b : Body) (p : Op) → (handled_by self generation g l ballot released b).op ≡ Some p → is_format p ≡ false
 unfolding on_store on_digest_ask on_clean on_trim
-handled_plain generation g l ballot released (bodies.Store n lng x) p q = taken_plain (ops.Accept l lng (record { number = n; ballot = ballot; what = x })) p (store_decision g (record { number = n; ballot = ballot; what = x })) refl q
-handled_plain generation g l ballot released (bodies.DigestAsk from) p q = taken_plain (ops.Seal l ballot) p (digest_decision g ballot from) refl q
-handled_plain generation g l ballot released (bodies.Clean e s) p q = clean_plain l e s _ p q
-handled_plain generation g l ballot released (bodies.Trim t) p q = if_plain (nat_lt g.trim t) (Some (ops.Trim l t)) p (λ e. subst (λ x. is_format x ≡ false) (Some_inj e) refl) q
-handled_plain generation g l ballot released (bodies.ReadAsk round from) p q = absurd cc
-handled_plain generation g l ballot released b p q = keeps_plain g l b p q
+handled_plain self generation g l ballot released (bodies.Store n lng x) p q = taken_plain (ops.Accept l lng (record { number = n; ballot = ballot; what = x })) p (store_decision g (record { number = n; ballot = ballot; what = x })) refl q
+handled_plain self generation g l ballot released (bodies.DigestAsk from) p q = taken_plain (ops.Seal l ballot) p (digest_decision g ballot from) refl q
+handled_plain self generation g l ballot released (bodies.Clean e s) p q = clean_plain l e s _ p q
+handled_plain self generation g l ballot released (bodies.Trim t) p q = if_plain (nat_lt g.trim t) (Some (ops.Trim l t)) p (λ e. subst (λ x. is_format x ≡ false) (Some_inj e) refl) q
+handled_plain self generation g l ballot released (bodies.ReadAsk round from) p q = absurd cc
+handled_plain self generation g l ballot released (bodies.ReadOne round from set excluded) p q = absurd cc
+handled_plain self generation g l ballot released b p q = keeps_plain g l b p q
 
 drawn_positive : (r : Register) (n : ℕ) (k : Register) → draw r n ≡ record { register = k; answer = Granted } → 0 < generation_of k n
 drawn_positive r n k h = let d = draw_granted r n k h in let z : generation_of k n ≡ generation_of r n + 1 = ap (λ m. unwrap_or (find n m) 0) d.1 ∙ ap (λ o. unwrap_or o 0) (find-put_same n n (generation_of r n + 1) r.generations refl) in omega arith
@@ -131,7 +132,7 @@ ups_keep c s e a = record {
   all = a;
   hears = λ n m i t v. released_up (node_at s n) m.log m.body (a n);
   keeps = λ n m o i t v q. let p = released_parts (node_at s n) m.log m.body in let u = a n v.up in
-      up_kept (Step.releases (node_at s n) m.log m.body) o (p.1 ∙ u.0, let z = same_generation (Step.releases (node_at s n) m.log m.body).plain o (handled_plain _ _ _ _ _ m.body o q) in let w = ap (λ (x : Plain). x.generation) p.0 in let k = u.1 in omega arith);
+      up_kept (Step.releases (node_at s n) m.log m.body) o (p.1 ∙ u.0, let z = same_generation (Step.releases (node_at s n) m.log m.body).plain o (handled_plain _ _ _ _ _ _ m.body o q) in let w = ap (λ (x : Plain). x.generation) p.0 in let k = u.1 in omega arith);
   loads = λ n. up_loaded (node_at s n);
   formats = λ n r b w i. up_kept (load (node_at s n)) (ops.Format (generation_of r n) (epochs_in r.logs)) (written_loaded (node_at s n) w, drawn_positive s.register n r i);
   cleans = λ n l k y v h. let u = a n v.up in up_kept (node_at s n) (ops.Clean l k y) u;

@@ -8,7 +8,7 @@ use Rattle.ld_table.specs.Table.{find, put}
 use Rattle.ld_table.proofs.Laws.{put_cases, find-keep, find-keep_keys, find-put_other, kept, table_rules}
 use Rattle.ld_lsn.specs.Number.{epoch_of, esn_of}
 use Rattle.ld_msg.specs.declared.msg.What.{What}
-use Rattle.ld_msg.specs.declared.msg.What.TheVariants.{Rec, Hole, Bridge, Plug}
+use Rattle.ld_msg.specs.declared.msg.What.TheVariants.{Rec, Hole, Bridge, Plug, Withheld}
 use Rattle.ld_msg.specs.declared.msg.Entry.{Entry}
 use Rattle.ld_msg.specs.declared.msg.Summary.{Summary}
 use Rattle.ld_msg.specs.declared.msg.Msg.{Msg}
@@ -51,6 +51,7 @@ pub entry_stays : (e : Entry) (w : What) (m : List (ℕ × Entry)) (q : ℕ) (f 
 entry_stays e (Rec p) m q f h = grind (arith, table_rules)
 entry_stays e Hole m q f h = grind (arith, table_rules)
 entry_stays e Plug m q f h = grind (arith, table_rules)
+entry_stays e Withheld m q f h = grind (arith, table_rules)
 entry_stays e Bridge m q f h = grind (arith, table_rules)
 
 module _ (made : List Made) (sent : List Msg) where
@@ -113,12 +114,14 @@ module _ (made : List Made) (sent : List Msg) where
   accept_in e (Rec p) m q i = In_put e.number e m q i
   accept_in e Hole m q i = In_put e.number e m q i
   accept_in e Plug m q i = In_put e.number e m q i
+  accept_in e Withheld m q i = In_put e.number e m q i
   accept_in e Bridge m q i = elim (In_put e.number e _ q i) [ inl a ↦ inl a | inr a ↦ inr (In_keep _ m q a) ]
 
   accept_rising : (e : Entry) (w : What) (m : List (ℕ × Entry)) → Rising m → Rising (accept_entry e w m)
   accept_rising e (Rec p) m h = Rising-put e.number e m h
   accept_rising e Hole m h = Rising-put e.number e m h
   accept_rising e Plug m h = Rising-put e.number e m h
+  accept_rising e Withheld m h = Rising-put e.number e m h
   accept_rising e Bridge m h = Rising-put e.number e _ (Rising-keep _ m h)
 
   -- a bridge that takes an entry away is one of a later plan's ends

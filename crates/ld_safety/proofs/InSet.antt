@@ -378,7 +378,7 @@ module _ (c : Config) (js : List Joined) (made : List Made) (s : State) (e : Eve
   posts_cases = record {
     still = λ f i h. no_posts;
     says = λ x q h. no_posts;
-    node_hears = λ f n m i t v o. handled f (Step.releases (node_at s n) m.log m.body) n m (Step.node_handles (node_at s n) m).op (Step.node_handles (node_at s n) m).answer;
+    node_hears = λ f n m i t v o. handled f (Step.releases (node_at s n) m.log m.body) n m (Step.node_handles n (node_at s n) m).op (Step.node_handles n (node_at s n) m).answer;
     loads = λ n ls q b o h. no_posts;
     draw_fails = λ n b h. no_posts;
     formats = λ n r g b v i h. if_written (keep_end (node_at (with_register (loaded s n) r) n) (ops.Format (generation_of r n) (epochs_in r.logs))) [] no_posts;
@@ -398,5 +398,5 @@ module _ (c : Config) (js : List Joined) (made : List Made) (s : State) (e : Eve
     activate_fails = λ name l x g q h. no_posts;
     answers = λ f name d m i t v o h. others _ (posted_by (whos.Reader _) _ _ (λ b q. cc));
     polls = λ name d v o h. others _ (posted_by (whos.Reader _) _ _ (λ b q. cc));
-    opens = λ name l from until o x h. no_posts;
+    opens = λ style name l from until o x h. no_posts;
   }

@@ -72,14 +72,14 @@ module _ (c : Config) (hs : List Happened) (w : World) (B : BaseGiven c hs w) wh
   plan_trim : Along c hs w → (m : Made) (d : Told) → In m w.made → In d m.digest → IsTrim hs m.log d.trim
   plan_trim R m d i j = elim ((R.plans m.log m.epoch m.ballot (basis_of m) i).digest.told d j).trimmed [
     | inl z ↦ inl z
-    | inr z ↦ told_trim m.log d.trim (whos.Node d.node) (bodies.DigestPage z.from z.upto d.trim z.lng z.entries) (B.1.sent _ z.page) (inl refl)
+    | inr z ↦ told_trim m.log d.trim (whos.Node d.node) (bodies.DigestPage z.from z.upto d.trim z.lng z.entries) (B.1.sent _ z.page).0 (inl refl)
   ]
 
   pub trims_here : Along c hs w → TrimsIssued hs w
   trims_here R = record {
     at_nodes = λ y p m l. is_trim hs l (log_of p l).trim (given_at y p m l).trim;
     in_summaries = λ l e s f. is_trim hs l s.trim (B.1.register l e s f).0;
-    in_messages = λ m t i j. told_trim m.log t m.from m.body (B.1.sent m i) j;
+    in_messages = λ m t i j. told_trim m.log t m.from m.body (B.1.sent m i).0 j;
     in_recoveries = recovery_trim;
     in_plans = plan_trim R;
   }

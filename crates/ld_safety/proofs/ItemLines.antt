@@ -23,7 +23,7 @@ use Rattle.ld_safety.proofs.Lines.{Group, OfNodes, OfNumbers, OfActs, OfTrims, O
 
 module _ (c : Config) (s : State) (e : Event) (P : List Line → Type 0)
     (other : (g : Group) (ls : List Line) → (g ≡ OfItems → ⊥) → AllOf g ls → P ls)
-    (reads : (f : List ℕ) (name : List ℕ) (d : Reader) (m : Msg) → In m s.network.sent → m.to ≡ whos.Reader d.number → Reading s name d → Delivers s e m → P (Step.item_lines name (on_answer (looks_at c s.register d.log) d (Step.sender_node m.from) m.body).reader.until (on_answer (looks_at c s.register d.log) d (Step.sender_node m.from) m.body).items)) where
+    (reads : (f : List ℕ) (name : List ℕ) (d : Reader) (m : Msg) → In m s.network.sent → m.to ≡ whos.Reader d.number → Reading s name d → Delivers s e m → P (Step.item_lines (on_answer (looks_at c s.register d.log) d (Step.sender_node m.from) m.body).reader.style name (on_answer (looks_at c s.register d.log) d (Step.sender_node m.from) m.body).reader.until (on_answer (looks_at c s.register d.log) d (Step.sender_node m.from) m.body).items)) where
   none : P []
   none = other OfNodes [] (λ h. cc) (none_of OfNodes)
 
@@ -50,7 +50,7 @@ module _ (c : Config) (s : State) (e : Event) (P : List Line → Type 0)
   line_cases quiet = record {
     still = λ f i. none;
     says = λ x q. quiet_one x q;
-    node_hears = λ f n m i t v o. handled (with_node (refreshed s f) n (Step.releases (node_at s n) m.log m.body)) n m (Step.node_handles (node_at s n) m).op (Step.node_handles (node_at s n) m).answer;
+    node_hears = λ f n m i t v o. handled (with_node (refreshed s f) n (Step.releases (node_at s n) m.log m.body)) n m (Step.node_handles n (node_at s n) m).op (Step.node_handles n (node_at s n) m).answer;
     loads = λ n ls q b o. quiet ls q;
     draw_fails = λ n b. nodes (lines.NodeRefusedRegister n ∷ []) (one_of (lines.NodeRefusedRegister n));
     formats = λ n r g b v i. nodes _ (kept_of n (Step.format_lines c n r) (keep_end (node_at (with_register (loaded s n) r) n) (ops.Format (generation_of r n) (epochs_in r.logs))) (format_of c n r));
@@ -70,5 +70,5 @@ module _ (c : Config) (s : State) (e : Event) (P : List Line → Type 0)
     activate_fails = λ name l x g q. quiet_one x q;
     answers = λ f name d m i t v o. reads f name d m i t v o.1;
     polls = λ name d v o. none;
-    opens = λ name l from until o x. none;
+    opens = λ style name l from until o x. none;
   }

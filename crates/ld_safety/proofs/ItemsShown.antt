@@ -1,5 +1,5 @@
 -- What a reader is given is so for good.
-use Rattle.std.proofs.Common.{◌≡◌, ◌∙◌, ◌≤◌, ◌<◌, ℕ, inl, inr, refl, ap, sym, subst, Bool, true, false, ◌==◌, nat_lt, nat_le, if◌then◌else◌, List, [], ◌∷◌, Option, Some, None, arith, ◌&&◌, ◌-◌}
+use Rattle.std.proofs.Common.{◌≡◌, ◌∙◌, ◌≤◌, ◌<◌, ℕ, inl, inr, refl, ap, sym, subst, Bool, true, false, ◌==◌, nat_lt, nat_le, if◌then◌else◌, List, Option, Some, None, arith, ◌&&◌, ◌-◌}
 use Rattle.std.proofs.lemmas.Bool.{and_parts, eqb-true, leb-true, ltb-true}
 use Rattle.ld_table.specs.Table.{find, put}
 use Rattle.ld_table.specs.Named.{find_named}
@@ -9,7 +9,7 @@ use Rattle.ld_transcript.specs.declared.line.Line.{Line}
 use Rattle.ld_transcript.specs.declared.line.Line.TheVariants as lines
 use Rattle.ld_transcript.specs.declared.line.GapKind.TheVariants as gaps
 use Rattle.ld_msg.specs.declared.msg.What.{What}
-use Rattle.ld_msg.specs.declared.msg.What.TheVariants.{Rec, Hole, Bridge, Plug}
+use Rattle.ld_msg.specs.declared.msg.What.TheVariants.{Rec, Hole, Bridge, Plug, Withheld}
 use Rattle.ld_msg.specs.declared.msg.Entry.{Entry}
 use Rattle.ld_msg.specs.declared.msg.Summary.{Summary}
 use Rattle.ld_msg.specs.declared.msg.Msg.{Msg}
@@ -26,7 +26,7 @@ use Rattle.ld_safety.proofs.Lists.{Some_inj, not_none, only, any_in, In-append, 
 use Rattle.ld_safety.proofs.Members.{In_put}
 use Rattle.ld_safety.proofs.Plans.{end_above_trim}
 use Rattle.ld_safety.proofs.ReaderSteps.{dropped_held, ReadKeeps, end_in}
-use Rattle.ld_safety.proofs.GivenItems.{PageWith, page_with, record_in}
+use Rattle.ld_safety.proofs.GivenItems.{PageWith, page_with, record_in, page_told}
 use Rattle.ld_safety.proofs.Protocol.{Basis, plan_of, Says, OwnSays, PlansOnce, AppendsOnce}
 use Rattle.ld_safety.proofs.Settled.{Acknowledged, TrimFine, CloseFine, ShowFine, ReleaseFine, LngFine, Reached}
 use Rattle.ld_safety.proofs.Said.{Said, SaidHere}
@@ -35,12 +35,15 @@ use Rattle.ld_safety.proofs.Plannings.{PlanMade}
 use Rattle.ld_safety.proofs.LossBook.{FoundBelow}
 use Rattle.ld_safety.proofs.ItemFacts.{ClosedItem, RecordAt, BridgeAt, closed_item, acked_no_hole}
 use Rattle.ld_safety.proofs.Carried as carried
+use Rattle.ld_msg.specs.declared.style.Style.{Style}
+use Rattle.ld_safety.proofs.Batches.{one_of, message_in}
 
 hole_of : (o : Option What) → is_hole o ≡ true → o ≡ Some Hole
 hole_of (Some (Rec q)) h = absurd cc
 hole_of (Some Hole) h = refl
 hole_of (Some Bridge) h = absurd cc
 hole_of (Some Plug) h = absurd cc
+hole_of (Some Withheld) h = absurd cc
 hole_of None h = absurd cc
 
 hole_in : (s : ℕ) (ds : List (ℕ × Held)) → hole_held s ds ≡ true → (h : ℕ × Held) × In h ds × PageWith s Hole h.1.body
@@ -91,7 +94,7 @@ module _ (c : Config) (hs : List Happened) (made : List Made) (sent : List Msg) 
   record_fine s ds p h e =
       let z = record_in s ds p e in let w = z.2 in
       let o = subst HeldSaid w.is_page (h z.0 z.1) in
-      by_page s p w.clean w.entry w.number w.what (o.1 w.entry w.there)
+      by_page s p w.clean w.entry w.number w.what (o.1 w.entry (page_told s (Rec p) z.0.1.body w refl))
 
   by_hole : (s : ℕ) (clean : Bool) (e : Entry) → e.number ≡ s → e.what ≡ Hole → ShowFine c hs made sent r l clean e → SaidHere hs made r l e.ballot e.number e.what → ClosedItem c hs made sent r l s Hole
   by_hole s true e n w h d = closed_item c hs made sent r l s Hole e n w h
@@ -107,7 +110,7 @@ module _ (c : Config) (hs : List Happened) (made : List Made) (sent : List Msg) 
   hole_fine s ds h e =
       let z = hole_in s ds e in let w = z.2 in
       let o = subst HeldSaid w.is_page (h z.0 z.1) in
-      by_hole s w.clean w.entry w.number w.what (o.1 w.entry w.there) (o.0 w.entry w.there)
+      by_hole s w.clean w.entry w.number w.what (o.1 w.entry (page_told s Hole z.0.1.body w refl)) (o.0 w.entry (page_told s Hole z.0.1.body w refl))
 
   by_end : (s e end : ℕ) (y : Summary) → CloseFine c hs made sent r l e y → end ≡ numbered e y.end → home_epoch end ≡ home_epoch s → end ≤ s → y.loss ≡ false → BridgeAt c hs made sent r l s (bridge_to s)
   by_end s e end y (t, inl z) q h le lo = let ee = z.0 in let ye = z.1 in let hn = home_numbered e y.end (omega arith) (omega arith) in let hh : home_epoch s ≡ e = sym h ∙ (ap home_epoch q ∙ hn) in
@@ -135,7 +138,7 @@ module _ (c : Config) (hs : List Happened) (made : List Made) (sent : List Msg) 
       (λ t k i. elim (In_put y (record { round = round_of b; body = b }) d.held k i) [ inl q ↦ subst (λ (x : ℕ × Held). HeldSaid x.1.body) (sym q) o | inr j ↦ h k j ]) (λ t. h)
 
   pub fine_keeps : (looks : ℕ → View) (d : Reader) (y : ℕ) (b : Body) → HeldFine d.held → HeldSaid b → ReadKeeps looks d y b ReadFine
-  fine_keeps looks d y b h o = let k = held_fine d y b h o in let start : ReadFine (record { reader = heard d y b; items = []; asks = [] }) = record { held = k; items = λ i j. absurd j } in record {
+  fine_keeps looks d y b h o = let k = held_fine d y b h o in let start : ReadFine (nothing_read (heard d y b)) = record { held = k; items = λ i j. absurd j } in record {
     starts = start;
     ignored = λ u. record { held = h; items = λ i j. absurd j };
     loss = λ u n. gives_fine (nothing_read (record (heard d y b) { seen = Some (look_of looks d) })) LossHere (record { held = k; items = λ i j. absurd j }) tt;
@@ -147,6 +150,7 @@ module _ (c : Config) (hs : List Happened) (made : List Made) (sent : List Msg) 
     lossy_end = λ a g n t. gives_fine a (LossTo (bridge_to a.reader.next)) g tt;
     bridge = λ a g n t. gives_fine a (BridgeTo (bridge_to a.reader.next)) g (bridge_fine a.reader.next a.reader.held g.held t);
     confirm = λ a g n m t. record { held = dropped_held HeldFine (λ z i. absurd i) _ _ g.held; items = g.items };
+    asks_all = λ a g t. record { held = dropped_held HeldFine (λ z i. absurd i) _ _ g.held; items = g.items };
     polls_on = λ a g t. record { held = dropped_held HeldFine (λ z i. absurd i) _ _ g.held; items = g.items };
   }
 
@@ -155,6 +159,7 @@ module _ (c : Config) (hs : List Happened) (made : List Made) (sent : List Msg) 
 -- what the lines of a step say, of the log of the reader that they name
 pub record ItemsTold (c : Config) (hs : List Happened) (made : List Made) (sent : List Msg) (r : Register) (s : State) (ls : List Line) : Type 0 where
   pub records : (name : List ℕ) (n : ℕ) (p : List ℕ) → In (lines.Record name n p) ls → (d : Reader) × (find_named name s.readers ≡ Some d) × RecordAt c hs made sent r d.log n
+  pub batches : (name : List ℕ) (n index : ℕ) (m : List ℕ) → In (lines.BatchMessage name n index m) ls → (d : Reader) × (find_named name s.readers ≡ Some d) × RecordAt c hs made sent r d.log n
   pub holes : (name : List ℕ) (low high : ℕ) → In (lines.Gap name gaps.Hole low high) ls → (d : Reader) × (find_named name s.readers ≡ Some d) × (low ≡ high) × ClosedItem c hs made sent r d.log low Hole
   pub bridges : (name : List ℕ) (low high : ℕ) → In (lines.Gap name gaps.Bridge low high) ls → (d : Reader) × (find_named name s.readers ≡ Some d) × BridgeAt c hs made sent r d.log low high
 
@@ -162,34 +167,34 @@ lower_bridge : (c : Config) (hs : List Happened) (made : List Made) (sent : List
 lower_bridge c hs made sent r l low high last h b = record { epoch = b.epoch; upto = let u = b.upto in omega arith; past = b.past }
 
 pub item_lines_told : (c : Config) (hs : List Happened) (made : List Made) (sent : List Msg) (r : Register) (s : State) (A : AppendsOnce hs) (P : PlansOnce made) (F : (l e b : ℕ) (d : Basis) → In (plan_of l e b d) made → PlanMade c hs sent made r l e b d) (last : FoundBelow made)
-    (name : List ℕ) (d : Reader) (until : ℕ) (is : List (ℕ × Item)) → find_named name s.readers ≡ Some d → ((i : ℕ × Item) → In i is → ItemFine c hs made sent r A P F last d.log i.0 i.1) → ItemsTold c hs made sent r s (Step.item_lines name until is)
-item_lines_told c hs made sent r s A P F last name d until [] f h = record { records = λ a n p i. absurd i; holes = λ a low high i. absurd i; bridges = λ a low high i. absurd i }
-item_lines_told c hs made sent r s A P F last name d until (i ∷ is) f h = let z = item_lines_told c hs made sent r s A P F last name d until is f (λ j k. h j (inr k)) in record {
-  records = λ a n p j. elim j [ inl e ↦ rec_at i.1 a n p (h i (inl refl)) e | inr k ↦ z.records a n p k ];
-  holes = λ a low high j. elim j [ inl e ↦ hole_at i.1 a low high (h i (inl refl)) e | inr k ↦ z.holes a low high k ];
-  bridges = λ a low high j. elim j [ inl e ↦ bridge_at i.1 a low high (h i (inl refl)) e | inr k ↦ z.bridges a low high k ];
+    (style : Style) (name : List ℕ) (d : Reader) (until : ℕ) (is : List (ℕ × Item)) → find_named name s.readers ≡ Some d → ((i : ℕ × Item) → In i is → ItemFine c hs made sent r A P F last d.log i.0 i.1) → ItemsTold c hs made sent r s (Step.item_lines style name until is)
+item_lines_told c hs made sent r s A P F last style name d until is f h = record {
+  records = λ a n p j. let o = one_of style name until is (lines.Record a n p) (λ b k v m q. cc) j in rec_at o.item.0 o.item.1 a n p (h o.item o.there) o.line;
+  batches = λ a n index m j. let o = message_in style name until is a n index m j in (d, subst (λ k. find_named k s.readers ≡ Some d) (sym o.whose) f, h (n, RecordHere o.payload) o.there);
+  holes = λ a low high j. let o = one_of style name until is (lines.Gap a gaps.Hole low high) (λ b k v m q. cc) j in hole_at o.item.0 o.item.1 a low high (h o.item o.there) o.line;
+  bridges = λ a low high j. let o = one_of style name until is (lines.Gap a gaps.Bridge low high) (λ b k v m q. cc) j in bridge_at o.item.0 o.item.1 a low high (h o.item o.there) o.line;
 } where
-  rec_at : (x : Item) (a : List ℕ) (n : ℕ) (p : List ℕ) → ItemFine c hs made sent r A P F last d.log i.0 x → lines.Record a n p ≡ Step.item_line name i.0 until x → (d : Reader) × (find_named a s.readers ≡ Some d) × RecordAt c hs made sent r d.log n
-  rec_at (RecordHere q) a n p g e = let x : a ≡ name = cc in let y : n ≡ i.0 = cc in (d, subst (λ k. find_named k s.readers ≡ Some d) (sym x) f, subst (RecordAt c hs made sent r d.log) (sym y) g)
-  rec_at (TrimTo last) a n p g e = absurd cc
-  rec_at HoleHere a n p g e = absurd cc
-  rec_at (BridgeTo last) a n p g e = absurd cc
-  rec_at LossHere a n p g e = absurd cc
-  rec_at (LossTo to) a n p g e = absurd cc
+  rec_at : (s0 : ℕ) (x : Item) (a : List ℕ) (n : ℕ) (p : List ℕ) → ItemFine c hs made sent r A P F last d.log s0 x → lines.Record a n p ≡ Step.item_line name s0 until x → (d : Reader) × (find_named a s.readers ≡ Some d) × RecordAt c hs made sent r d.log n
+  rec_at s0 (RecordHere q) a n p g e = let x : a ≡ name = cc in let y : n ≡ s0 = cc in (d, subst (λ k. find_named k s.readers ≡ Some d) (sym x) f, subst (RecordAt c hs made sent r d.log) (sym y) g)
+  rec_at s0 (TrimTo last) a n p g e = absurd cc
+  rec_at s0 HoleHere a n p g e = absurd cc
+  rec_at s0 (BridgeTo last) a n p g e = absurd cc
+  rec_at s0 LossHere a n p g e = absurd cc
+  rec_at s0 (LossTo to) a n p g e = absurd cc
 
-  hole_at : (x : Item) (a : List ℕ) (low high : ℕ) → ItemFine c hs made sent r A P F last d.log i.0 x → lines.Gap a gaps.Hole low high ≡ Step.item_line name i.0 until x → (d : Reader) × (find_named a s.readers ≡ Some d) × (low ≡ high) × ClosedItem c hs made sent r d.log low Hole
-  hole_at HoleHere a low high g e = let x : a ≡ name = cc in let y : low ≡ i.0 = cc in let z : high ≡ i.0 = cc in (d, subst (λ k. find_named k s.readers ≡ Some d) (sym x) f, y ∙ sym z, subst (λ k. ClosedItem c hs made sent r d.log k Hole) (sym y) g)
-  hole_at (RecordHere q) a low high g e = absurd cc
-  hole_at (TrimTo last) a low high g e = absurd cc
-  hole_at (BridgeTo last) a low high g e = absurd cc
-  hole_at LossHere a low high g e = absurd cc
-  hole_at (LossTo to) a low high g e = absurd cc
+  hole_at : (s0 : ℕ) (x : Item) (a : List ℕ) (low high : ℕ) → ItemFine c hs made sent r A P F last d.log s0 x → lines.Gap a gaps.Hole low high ≡ Step.item_line name s0 until x → (d : Reader) × (find_named a s.readers ≡ Some d) × (low ≡ high) × ClosedItem c hs made sent r d.log low Hole
+  hole_at s0 HoleHere a low high g e = let x : a ≡ name = cc in let y : low ≡ s0 = cc in let z : high ≡ s0 = cc in (d, subst (λ k. find_named k s.readers ≡ Some d) (sym x) f, y ∙ sym z, subst (λ k. ClosedItem c hs made sent r d.log k Hole) (sym y) g)
+  hole_at s0 (RecordHere q) a low high g e = absurd cc
+  hole_at s0 (TrimTo last) a low high g e = absurd cc
+  hole_at s0 (BridgeTo last) a low high g e = absurd cc
+  hole_at s0 LossHere a low high g e = absurd cc
+  hole_at s0 (LossTo to) a low high g e = absurd cc
 
-  bridge_at : (x : Item) (a : List ℕ) (low high : ℕ) → ItemFine c hs made sent r A P F last d.log i.0 x → lines.Gap a gaps.Bridge low high ≡ Step.item_line name i.0 until x → (d : Reader) × (find_named a s.readers ≡ Some d) × BridgeAt c hs made sent r d.log low high
-  bridge_at (BridgeTo last) a low high g e = let x : a ≡ name = cc in let y : low ≡ i.0 = cc in let z : high ≡ (if nat_lt until last then until else last) = cc in
-      (d, subst (λ k. find_named k s.readers ≡ Some d) (sym x) f, subst (λ k. BridgeAt c hs made sent r d.log k high) (sym y) (lower_bridge c hs made sent r d.log i.0 high last (cond_both (nat_lt until last) until last (λ k. high ≡ k → high ≤ last) (λ t w. let v = ltb-true until last t in omega arith) (λ t w. omega arith) z) g))
-  bridge_at (RecordHere q) a low high g e = absurd cc
-  bridge_at (TrimTo last) a low high g e = absurd cc
-  bridge_at HoleHere a low high g e = absurd cc
-  bridge_at LossHere a low high g e = absurd cc
-  bridge_at (LossTo to) a low high g e = absurd cc
+  bridge_at : (s0 : ℕ) (x : Item) (a : List ℕ) (low high : ℕ) → ItemFine c hs made sent r A P F last d.log s0 x → lines.Gap a gaps.Bridge low high ≡ Step.item_line name s0 until x → (d : Reader) × (find_named a s.readers ≡ Some d) × BridgeAt c hs made sent r d.log low high
+  bridge_at s0 (BridgeTo last) a low high g e = let x : a ≡ name = cc in let y : low ≡ s0 = cc in let z : high ≡ (if nat_lt until last then until else last) = cc in
+      (d, subst (λ k. find_named k s.readers ≡ Some d) (sym x) f, subst (λ k. BridgeAt c hs made sent r d.log k high) (sym y) (lower_bridge c hs made sent r d.log s0 high last (cond_both (nat_lt until last) until last (λ k. high ≡ k → high ≤ last) (λ t w. let v = ltb-true until last t in omega arith) (λ t w. omega arith) z) g))
+  bridge_at s0 (RecordHere q) a low high g e = absurd cc
+  bridge_at s0 (TrimTo last) a low high g e = absurd cc
+  bridge_at s0 HoleHere a low high g e = absurd cc
+  bridge_at s0 LossHere a low high g e = absurd cc
+  bridge_at s0 (LossTo to) a low high g e = absurd cc

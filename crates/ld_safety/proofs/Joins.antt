@@ -118,7 +118,7 @@ module _ (c : Config) (s : State) (v : Event) where
   result_cases = record {
     still = λ f i. inl kept_here;
     says = λ x q. inl kept_here;
-    node_hears = λ f n m i t u o. handled f n m (Step.releases (node_at s n) m.log m.body) (Step.node_handles (node_at s n) m).op (Step.node_handles (node_at s n) m).answer;
+    node_hears = λ f n m i t u o. handled f n m (Step.releases (node_at s n) m.log m.body) (Step.node_handles n (node_at s n) m).op (Step.node_handles n (node_at s n) m).answer;
     loads = λ n ls q b o. inl kept_here;
     draw_fails = λ n b. inl (drawn n);
     formats = λ n r g b u i. inl (subst (λ (d : Changed). AllKept s.register d.register) i (drawn n));
@@ -141,7 +141,7 @@ module _ (c : Config) (s : State) (v : Event) where
     activate_fails = λ name l x g q. inl (activated l);
     answers = λ f name d m i t u o. inl kept_here;
     polls = λ name d u o. inl kept_here;
-    opens = λ name l from until o x. inl kept_here;
+    opens = λ style name l from until o x. inl kept_here;
   }
 
   pub swap_or_kept : NamesOnce s → AllKept s.register (Step.happens c s v).state.register ⊎ Swapping c s v (Step.happens c s v).state.register

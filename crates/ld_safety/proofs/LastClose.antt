@@ -161,7 +161,7 @@ module _ (c : Config) (s : State) (e : Event) (low : (t : List ℕ) (q : Sequenc
   went_cases = record {
     still = λ f i. same_all _ refl;
     says = λ x q. same_all _ refl;
-    node_hears = λ f n m i t v o. handled f (Step.releases (node_at s n) m.log m.body) n m (Step.node_handles (node_at s n) m).op (Step.node_handles (node_at s n) m).answer;
+    node_hears = λ f n m i t v o. handled f (Step.releases (node_at s n) m.log m.body) n m (Step.node_handles n (node_at s n) m).op (Step.node_handles n (node_at s n) m).answer;
     loads = λ n ls q b o. same_all _ refl;
     draw_fails = λ n b. same_all _ refl;
     formats = λ n k g b v i. same_all _ refl;
@@ -181,5 +181,5 @@ module _ (c : Config) (s : State) (e : Event) (low : (t : List ℕ) (q : Sequenc
     activate_fails = λ name l x g q. same_all _ refl;
     answers = λ f name d m i t v o. same_all _ refl;
     polls = λ name d v o. same_all _ refl;
-    opens = λ name l from until o x. same_all _ refl;
+    opens = λ style name l from until o x. same_all _ refl;
   }

@@ -15,6 +15,7 @@ pub mod Numbers
 pub mod Has
 pub mod Members
 pub mod NodeSteps
+pub mod Withheld
 pub mod Carried
 pub mod CarriedNodes
 pub mod CarriedSequencers
@@ -29,6 +30,7 @@ pub mod Base
 pub mod Fixed
 pub mod Given
 pub mod GivenSteps
+pub mod Batches
 pub mod Tiles
 pub mod ItemLines
 pub mod GivenItems

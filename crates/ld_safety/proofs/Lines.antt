@@ -1,5 +1,5 @@
 -- Which lines a step may write, by groups.
-use Rattle.std.proofs.Common.{◌≡◌, ◌∙◌, ◌⊎◌, ℕ, inl, inr, refl, ap, Bool, true, false, cond, List, [], ◌∷◌, ◌++◌}
+use Rattle.std.proofs.Common.{◌≡◌, ◌∙◌, ◌⊎◌, ℕ, ◌+◌, inl, inr, refl, ap, Bool, true, false, cond, List, [], ◌∷◌, ◌++◌}
 use Rattle.ld_transcript.specs.declared.line.Line.{Line}
 use Rattle.ld_transcript.specs.declared.line.Line.TheVariants as lines
 use Rattle.ld_ids.specs.declared.set.Spec.{Spec}
@@ -14,6 +14,9 @@ use Rattle.ld_machine.specs.World.{In}
 use Rattle.ld_safety.proofs.Lists.{In-append}
 use Rattle.ld_safety.proofs.Events.{is_quiet}
 use Rattle.ld_safety.proofs.Steps.{is_plain, In_finish}
+use Rattle.ld_msg.specs.declared.style.Style.{Style}
+use Rattle.ld_msg.specs.declared.style.Style.TheVariants as styles
+use Rattle.ld_batch.specs.Batch.{Unpacked, Messages, Bad, unpacked}
 
 -- of nodes; of numbering; of acknowledgements and refusals; of trims; of what is set for later activations; of what readers get; of messages
 pub data Group : Type 0 where
@@ -37,6 +40,7 @@ group (lines.Appended s n) = OfNumbers
 group (lines.Trimmed s t) = OfTrims
 group (lines.Set l r x set) = OfSets
 group (lines.Record r n p) = OfItems
+group (lines.BatchMessage r n i p) = OfItems
 group (lines.Gap r kind low high) = OfItems
 group (lines.Message i from to kind n) = OfMessages
 group lines.Nothing = OfMessages
@@ -95,10 +99,32 @@ item_of r s until (BridgeTo last) = refl
 item_of r s until LossHere = refl
 item_of r s until (LossTo last) = refl
 
-pub items_of : (r : List ℕ) (until : ℕ) (is : List (ℕ × Item)) → AllOf OfItems (Step.item_lines r until is)
-items_of r until [] x i = absurd i
-items_of r until (j ∷ is) x (inl e) = ap group e ∙ item_of r j.0 until j.1
-items_of r until (j ∷ is) x (inr i) = items_of r until is x i
+messages_of : (r : List ℕ) (s index : ℕ) (ms : List (List ℕ)) → AllOf OfItems (Step.message_lines_from r s index ms)
+messages_of r s index [] x i = absurd i
+messages_of r s index (m ∷ ms) x (inl e) = ap group e
+messages_of r s index (m ∷ ms) x (inr i) = messages_of r s (index + 1) ms x i
+
+payload_of : (r : List ℕ) (s : ℕ) (p : List ℕ) (u : Unpacked) → AllOf OfItems (Step.payload_lines r s p u)
+payload_of r s p (Messages ms) = messages_of r s 0 ms
+payload_of r s p (Bad place) = one_of (lines.Record r s p)
+
+one_item : (r : List ℕ) (s until : ℕ) (i : Item) → AllOf OfItems (Step.item_line r s until i ∷ [])
+one_item r s until i x (inl e) = ap group e ∙ item_of r s until i
+one_item r s until i x (inr h) = absurd h
+
+lines_of_one : (style : Style) (r : List ℕ) (s until : ℕ) (i : Item) → AllOf OfItems (Step.lines_of_item style r s until i)
+lines_of_one styles.EachCopy r s until i = one_item r s until i
+lines_of_one styles.OneCopy r s until i = one_item r s until i
+lines_of_one styles.OfMessages r s until (RecordHere p) = payload_of r s p (unpacked p)
+lines_of_one styles.OfMessages r s until (TrimTo last) = one_item r s until (TrimTo last)
+lines_of_one styles.OfMessages r s until HoleHere = one_item r s until HoleHere
+lines_of_one styles.OfMessages r s until (BridgeTo last) = one_item r s until (BridgeTo last)
+lines_of_one styles.OfMessages r s until LossHere = one_item r s until LossHere
+lines_of_one styles.OfMessages r s until (LossTo last) = one_item r s until (LossTo last)
+
+pub items_of : (style : Style) (r : List ℕ) (until : ℕ) (is : List (ℕ × Item)) → AllOf OfItems (Step.item_lines style r until is)
+items_of style r until [] = none_of OfItems
+items_of style r until (j ∷ is) = both_of OfItems _ _ (lines_of_one style r j.0 until j.1) (items_of style r until is)
 
 -- a quiet line is of a node or of an act
 pub quiet_of : (x : Line) → is_quiet x ≡ true → (group x ≡ OfNodes) ⊎ (group x ≡ OfActs)

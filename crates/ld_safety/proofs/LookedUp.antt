@@ -135,7 +135,7 @@ module _ (P : ℕ → ℕ → Spec → Type 0) where
     look_cases = record {
       still = λ f i. N;
       says = λ x q. N;
-      node_hears = λ f n m i t v o. handled f (Step.releases (node_at s n) m.log m.body) n m (Step.node_handles (node_at s n) m).op (Step.node_handles (node_at s n) m).answer;
+      node_hears = λ f n m i t v o. handled f (Step.releases (node_at s n) m.log m.body) n m (Step.node_handles n (node_at s n) m).op (Step.node_handles n (node_at s n) m).answer;
       loads = λ n ls q b o. N;
       draw_fails = λ n b. N;
       formats = λ n k g b v i. N;
@@ -155,5 +155,5 @@ module _ (P : ℕ → ℕ → Spec → Type 0) where
       activate_fails = λ name l x g q. N;
       answers = λ f name d m i t v o. N;
       polls = λ name d v o. N;
-      opens = λ name l from until o x. N;
+      opens = λ style name l from until o x. N;
     }

@@ -3,7 +3,7 @@ use Rattle.std.proofs.Common.{◌≡◌, ◌∙◌, ◌≤◌, ◌<◌, ℕ, inl
 use Rattle.std.proofs.lemmas.Bool.{eqb-true}
 use Rattle.ld_lsn.specs.Number.{epoch_of, esn_of, numbered}
 use Rattle.ld_msg.specs.declared.msg.What.{What}
-use Rattle.ld_msg.specs.declared.msg.What.TheVariants.{Rec, Hole, Bridge, Plug}
+use Rattle.ld_msg.specs.declared.msg.What.TheVariants.{Rec, Hole, Bridge, Plug, Withheld}
 use Rattle.ld_msg.specs.declared.msg.Entry.{Entry}
 use Rattle.ld_msg.specs.Digest.{Told, best, plan_item, plan_end, plan_floor, record_or}
 use Rattle.ld_machine.specs.World.{World, Made, In, HasPlan, plan_in, item_in, append_in, item}
@@ -67,18 +67,21 @@ loss_twice (Rec p) = refl
 loss_twice Hole = refl
 loss_twice Bridge = refl
 loss_twice Plug = refl
+loss_twice Withheld = refl
 
 pub loss_content : (x : What) → record_or Plug x ≡ as_loss x
 loss_content (Rec p) = refl
 loss_content Hole = refl
 loss_content Bridge = refl
 loss_content Plug = refl
+loss_content Withheld = refl
 
 pub loss_no_bridge : (x : What) → as_loss x ≡ Bridge → ⊥
 loss_no_bridge (Rec p) h = cc
 loss_no_bridge Hole h = cc
 loss_no_bridge Bridge h = cc
 loss_no_bridge Plug h = cc
+loss_no_bridge Withheld h = cc
 
 -- a plan that says something of a number, or vouches for nothing there, doesn't end below it
 pub not_below : (e n : ℕ) (k : Bool) (d : List Told) (x : What) → plan_item e k d n ≡ Some x → plan_end e d < n → ⊥

@@ -5,7 +5,7 @@ use Rattle.ld_table.specs.Words.{is_in, with_one, how_many, all_of}
 use Rattle.ld_ids.specs.declared.set.Spec.{Spec}
 use Rattle.ld_ids.specs.Choice.{nodes_of}
 use Rattle.ld_msg.specs.declared.msg.What.{What}
-use Rattle.ld_msg.specs.declared.msg.What.TheVariants.{Rec, Hole, Bridge, Plug}
+use Rattle.ld_msg.specs.declared.msg.What.TheVariants.{Rec, Hole, Bridge, Plug, Withheld}
 use Rattle.ld_msg.specs.declared.msg.Entry.{Entry}
 use Rattle.ld_msg.specs.Digest.{Told, enough, is_spent, content, record_or}
 use Rattle.ld_machine.specs.World.{In}
@@ -120,6 +120,7 @@ loss_says (Some e) x h = by_what e.what refl h where
   by_what Hole q g = inr (sym g)
   by_what Bridge q g = inr (sym g)
   by_what Plug q g = inr (sym g)
+  by_what Withheld q g = inr (sym g)
 
 -- a plan that found what it says has no plug
 pub found_no_plug : (o : Option Entry) → content false o ≡ Plug → ⊥
@@ -130,6 +131,7 @@ found_no_plug (Some e) h = by_what e.what h where
   by_what Hole g = cc
   by_what Bridge g = cc
   by_what Plug g = cc
+  by_what Withheld g = cc
 
 -- and a loss plan no hole
 pub loss_no_hole : (o : Option Entry) → content true o ≡ Hole → ⊥

@@ -105,7 +105,7 @@ module _ (c : Config) (hs : List Happened) (w : World) (e : Event) (B : Base c h
   active_cases = record {
     still = λ f i. quietly _ refl refl;
     says = λ x q. quietly _ refl refl;
-    node_hears = λ f n m i t v o. handled f (Step.releases (node_at w.state n) m.log m.body) n m (Step.node_handles (node_at w.state n) m).op (Step.node_handles (node_at w.state n) m).answer;
+    node_hears = λ f n m i t v o. handled f (Step.releases (node_at w.state n) m.log m.body) n m (Step.node_handles n (node_at w.state n) m).op (Step.node_handles n (node_at w.state n) m).answer;
     loads = λ n ls q b o. quietly _ refl refl;
     draw_fails = λ n b. register_only _ _ refl refl (λ gs h. draw_closed c gs w.state.register n h);
     formats = λ n r g b v i. register_only _ r refl refl (λ gs h. subst (λ (k : Changed). ClosedActive c gs k.register) i (draw_closed c gs w.state.register n h));
@@ -125,7 +125,7 @@ module _ (c : Config) (hs : List Happened) (w : World) (e : Event) (B : Base c h
     activate_fails = λ name l x g q. register_only _ _ refl refl (λ gs h. activate_closed c gs w.state.register l (Step.spec_set c w.state l) h);
     answers = λ f name d m i t v o. quietly _ refl refl;
     polls = λ name d v o. quietly _ refl refl;
-    opens = λ name l from until o x. quietly _ refl refl;
+    opens = λ style name l from until o x. quietly _ refl refl;
   }
 
 abbrev pub Active : Config → List Happened → World → Type 0

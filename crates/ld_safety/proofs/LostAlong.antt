@@ -55,12 +55,12 @@ module _ (c : Config) (s : State) (e : Event) (k : Register) (U : NoneFalls s.re
   rounds_talk = record {
     quiet = rounds_apart s.register k U s.network.sent s.readers A R [] (λ m i. absurd i);
     elsewhere = λ ms h. rounds_apart s.register k U s.network.sent s.readers A R ms h;
-    answers = λ n m x i t v h. let p = (node_at s n).plain in rounds_answer s.register k U s.network.sent s.readers A R n m x i p.generation (log_of p m.log) (D n p (inl refl)) (λ q. ask_answer p.generation (log_of p m.log) m.log _ _ m.body x q h);
+    answers = λ n m x i t v h. let p = (node_at s n).plain in rounds_answer s.register k U s.network.sent s.readers A R n m x i p.generation (log_of p m.log) (D n p (inl refl)) (λ q. ask_answer n p.generation (log_of p m.log) m.log _ _ m.body x q h);
     reads = λ name d m i t v. let looks = looks_at c s.register d.log in let y = Step.sender_node m.from in let G = read_on looks d y m.body v.open_still in let a = on_answer looks d y m.body in
         rounds_on s.register k U s.network.sent s.readers A R name d a.reader a.asks v.named G.number G.log G.round G.next (λ b j. G.asks b j) (λ h j. held_sent name d m a.reader v.named i t G.number G.log h (G.held h j)) (confirming_most looks name d y m.body v.named G);
     polls = λ name d v. rounds_on s.register k U s.network.sent s.readers A R name d (polled (looks_at c s.register d.log) d) (poll_asks (looks_at c s.register d.log) d) v.named refl refl (polled_up (looks_at c s.register d.log) d) (omega arith)
         (λ b j. let z = poll_are (looks_at c s.register d.log) d b j in record { at = (polled (looks_at c s.register d.log) d).round; from = d.next; above = z.1; upto = omega arith; is = z.0; below = omega arith }) (λ h j. R.held name d h v.named (polled_kept (looks_at c s.register d.log) d h j)) (λ v q. absurd (not_none q));
-    opens = λ name l from until o. rounds_opened s.register k U s.network.sent s.readers A R name l from until;
+    opens = λ style name l from until o. rounds_opened s.register k U s.network.sent s.readers A R style name l from until;
   }
 
 pub rounds_step : (c : Config) (w : World) (e : Event) → NamesOnce w.state → AllDrawn w.state.register w.state → Apart w.state.network.sent w.state.readers → RoundsOf w → RoundsOf (next_world c w e)

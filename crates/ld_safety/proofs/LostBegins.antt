@@ -29,7 +29,7 @@ use Rattle.ld_safety.proofs.Generations.{back_here}
 use Rattle.ld_safety.proofs.LostReads.{SeenBy, ReadOn, read_on}
 use Rattle.ld_safety.proofs.LostSeen.{AllShow, Shows, seen_shows, shows_later}
 use Rattle.ld_safety.proofs.LostTalk.{TalkKeeps, talked, new_or_old, same_readers}
-use Rattle.ld_safety.proofs.LostRounds.{wave_of, answer_to, found_in, posted_to}
+use Rattle.ld_safety.proofs.LostRounds.{wave_of, answer_to, found_in, posted_to, ask_parts, place_of}
 use Rattle.ld_safety.proofs.LostAlong.{RoundsOf}
 use Rattle.ld_safety.proofs.LostSince.{Since, SinceMsg, SinceReader}
 
@@ -164,7 +164,7 @@ module _ (c : Config) (s : State) where
     answers = λ n m b i q u a t x v f h. inl (as_before t x v f h);
     reads = λ name d m i t v. reads_came name d (Step.sender_node m.from) m.body v.named (read_on (looks_at c s.register d.log) d (Step.sender_node m.from) m.body v.open_still);
     polls = λ name d v. unconfirming _ name (polled (looks_at c s.register d.log) d) refl;
-    opens = λ name l from until o. unconfirming [] name (opened l (length s.readers) from until) refl;
+    opens = λ style name l from until o. unconfirming [] name (opened style l (length s.readers) from until) refl;
   }
 
 pub came : (c : Config) (w : World) (e : Event) → NamesOnce w.state → Came c w.state (Step.happens c w.state e).sends (next_world c w e).state.readers
@@ -180,14 +180,14 @@ module _ (c : Config) (w : World) (e : Event) (N : NamesOnce w.state) (A : Apart
   old_msg : (m : Msg) → Sent w m → SinceMsg (next_world c w e) x.number x.log x.next v.round v.asked m
   old_msg m i = record {
     log = λ q. sym (A.logs m x.number t n.reader i q n.named (sym n.number)) ∙ sym n.log;
-    ask = λ q k b. absurd (let a = (R.waves m x.number t n.reader i (inr q) n.named (sym n.number)).wave in let u : wave_of m.body ≡ v.round = ap wave_of b in let z = n.higher in omega arith);
+    ask = λ q k b. absurd (let a = (R.waves m x.number t n.reader i (inr q) n.named (sym n.number)).wave in let u = (ask_parts m.body v.round k b).0 in let z = n.higher in omega arith);
     answer = λ q k g end b u. absurd (let a = (R.waves m x.number t n.reader i (inl q) n.named (sym n.number)).wave in let y : wave_of m.body ≡ v.round = ap wave_of b in let z = n.higher in omega arith);
   }
 
   new_msg : (m : Msg) → In m (Step.happens c w.state e).sends → SinceMsg (next_world c w e) x.number x.log x.next v.round v.asked m
   new_msg m i = let k = n.asks m i in record {
     log = λ q. k.3;
-    ask = λ q j b. let z : bodies.ReadAsk v.round x.next ≡ bodies.ReadAsk v.round j = sym k.4 ∙ b in cc;
+    ask = λ q j b. sym (ask_parts m.body v.round j b).1 ∙ ap place_of k.4;
     answer = λ q j g end b u. absurd (let z : whos.Node k.0 ≡ whos.Reader x.number = sym k.1 ∙ q in cc);
   }
 

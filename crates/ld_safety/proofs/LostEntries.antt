@@ -6,7 +6,7 @@ use Rattle.ld_table.specs.Words.{is_in}
 use Rattle.ld_lsn.specs.Number.{epoch_of, esn_of, numbered, last_esn}
 use Rattle.ld_config.specs.declared.config.Config.{Config}
 use Rattle.ld_msg.specs.declared.msg.What.{What}
-use Rattle.ld_msg.specs.declared.msg.What.TheVariants.{Rec, Hole, Bridge, Plug}
+use Rattle.ld_msg.specs.declared.msg.What.TheVariants.{Rec, Hole, Bridge, Plug, Withheld}
 use Rattle.ld_msg.specs.declared.msg.Entry.{Entry}
 use Rattle.ld_msg.specs.declared.msg.Summary.{Summary}
 use Rattle.ld_msg.specs.Digest.{best, content, is_bridge, plan_end, plan_floor}
@@ -47,6 +47,7 @@ bridge_is : (x : What) → is_bridge x ≡ true → x ≡ Bridge
 bridge_is (Rec p) h = absurd cc
 bridge_is Hole h = absurd cc
 bridge_is Plug h = absurd cc
+bridge_is Withheld h = absurd cc
 bridge_is Bridge h = refl
 
 no_record : (x : What) (p : List ℕ) → x ≡ Rec p → is_bridge x ≡ false

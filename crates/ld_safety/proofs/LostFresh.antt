@@ -1,5 +1,5 @@
 -- Readers that have seen each swap: clean pages that they may hold are of after it, so a node that took a place in their epoch shows each number in them.
-use Rattle.std.proofs.Common.{◌≡◌, ◌∙◌, ◌⊎◌, ◌≤◌, ◌<◌, ℕ, inl, inr, refl, ap, sym, subst, true, List, [], ◌∷◌, length, Some, None, is_some, arith}
+use Rattle.std.proofs.Common.{◌≡◌, ◌∙◌, ◌⊎◌, ◌≤◌, ◌<◌, ℕ, inl, inr, refl, ap, sym, subst, true, List, [], ◌∷◌, length, Some, None, is_some, arith, map, Bool}
 use Rattle.ld_table.specs.Named.{find_named, put_named}
 use Rattle.ld_lsn.specs.Number.{home_epoch}
 use Rattle.ld_config.specs.declared.config.Config.{Config}
@@ -14,8 +14,7 @@ use Rattle.ld_msg.specs.Register.{Register, epochs_of}
 use Rattle.ld_msg.specs.Reading.{entry_at}
 use Rattle.ld_msg.specs.Reader.{Reader, opened, polled, on_answer, poll_asks, round_of, shown_swaps}
 use Rattle.ld_op.specs.Plain.{Plain, log_of}
-use Rattle.ld_op.specs.Answers.{read_answer}
-use Rattle.ld_op.specs.Handles.{handled_by, ballot_of}
+use Rattle.ld_op.specs.Answers.{read_answer, withheld_in, withheld}
 use Rattle.ld_machine.specs.Config.{looks_at}
 use Rattle.ld_machine.specs.Disk.{Node}
 use Rattle.ld_machine.specs.State.{finish, node_at, posted}
@@ -23,7 +22,7 @@ use Rattle.ld_machine.specs.Facts.{Happened}
 use Rattle.ld_machine.specs.World.{World, Joined, In, Sent, MayHold, begin}
 use Rattle.ld_machine.specs.Run.{next_world}
 use Rattle.ld_machine.specs.Step as Step
-use Rattle.ld_safety.proofs.Lists.{Some_inj, not_none, only}
+use Rattle.ld_safety.proofs.Lists.{not_none, only}
 use Rattle.ld_safety.proofs.Traces.{Keeps, beside_kept}
 use Rattle.ld_safety.proofs.Events.{NamesOnce, Serves}
 use Rattle.ld_safety.proofs.NodeSteps.{read_answered}
@@ -31,12 +30,14 @@ use Rattle.ld_safety.proofs.Registers.{OnlyClosed, follows}
 use Rattle.ld_safety.proofs.ReaderLogs.{Apart}
 use Rattle.ld_safety.proofs.Joins.{Joins, joins_back, counts_step}
 use Rattle.ld_safety.proofs.LostTalk.{TalkKeeps, talked, new_or_old, same_readers}
-use Rattle.ld_safety.proofs.LostRounds.{wave_of, found_in, posted_to}
+use Rattle.ld_safety.proofs.LostRounds.{wave_of, found_in, posted_to, ask_answered}
 use Rattle.ld_safety.proofs.LostReads.{AllFrom, FreshOf, polled_fresh, polled_held, read_on}
 use Rattle.ld_safety.proofs.LostSeen.{AllShow}
 use Rattle.ld_safety.proofs.LostAlong.{RoundsOf}
 use Rattle.ld_safety.proofs.LostPages.{CleanKept, joined_shown}
 use Rattle.ld_safety.proofs.LostShown.{Shown, shown_kept}
+use Rattle.ld_msg.specs.declared.style.Style.{Style}
+use Rattle.ld_safety.proofs.Withheld.{still_there}
 
 -- a clean page of a node that took a place in its epoch has each number that it covers
 abbrev pub PageRight : List Joined → ℕ → ℕ → Body → Type 0
@@ -86,9 +87,15 @@ module _ (c : Config) (w : World) (v : Event) (N : NamesOnce w.state) (O : OnlyC
     only_plain x h z (inl q) = q
     only_plain x h z (inr q) = absurd (not_none (sym h ∙ q.1))
 
-  answer_right : (y : ℕ) (m : Msg) (x : Body) → In m w.state.network.sent → Serves c w.state y m.log → (Step.node_handles (node_at w.state y) m).answer ≡ Some x → (r : ℕ) → m.from ≡ whos.Reader r → PageRight w.joined y m.log x
+  one_right : (y : ℕ) (set excluded : List Bool) (l : ℕ) (b : Body) → PageRight w.joined y l b → PageRight w.joined y l (withheld_in y set excluded b)
+  one_right y set excluded l (bodies.ReadPage round f k clean es) h = λ u from upto xs e s lo hi j.
+      let c : clean ≡ true = cc in let a : f ≡ from = cc in let d : k ≡ upto = cc in let p : map (withheld y set excluded) es ≡ xs = cc in
+      ap (λ z. is_some (entry_at s z)) (sym p) ∙ (still_there y set excluded s es ∙ h round f k es (ap (λ z. bodies.ReadPage round f k z es) c) s (omega arith) (omega arith) (subst (λ z. Joins w.joined l (home_epoch z) y) (sym a) j))
+  one_right y set excluded l _ h = h
+
+  answer_right : (y : ℕ) (m : Msg) (x : Body) → In m w.state.network.sent → Serves c w.state y m.log → (Step.node_handles y (node_at w.state y) m).answer ≡ Some x → (r : ℕ) → m.from ≡ whos.Reader r → PageRight w.joined y m.log x
   answer_right y m x i T a r t = let q = R.asks m r i t in let p : Plain = (node_at w.state y).plain in
-      subst (PageRight w.joined y m.log) (Some_inj (subst (λ z. (handled_by p.generation (log_of p m.log) m.log (ballot_of m.from) (Step.released_at (node_at w.state y) m.log) z).answer ≡ Some x) q.is a)) (read_right y m.log (Step.released_at (node_at w.state y) m.log) q.round q.from T)
+      ask_answered y p.generation (log_of p m.log) m.log _ (Step.released_at (node_at w.state y) m.log) m.body x q (PageRight w.joined y m.log) a (read_right y m.log (Step.released_at (node_at w.state y) m.log) q.round q.from T) (λ set excluded z k. one_right y set excluded m.log z k)
 
   -- ---- what was sent before ----
   right_on : (y l : ℕ) (b : Body) → (epochs_of (next_world c w v).state.register l).swaps ≡ (epochs_of w.state.register l).swaps → PageRight w.joined y l b → PageRight (next_world c w v).joined y l b
@@ -137,8 +144,8 @@ module _ (c : Config) (w : World) (v : Event) (N : NamesOnce w.state) (O : OnlyC
     | inr a ↦ still ms (λ t d f q m i to. absurd (none m d.number i to)) t z a.1
   ]
 
-  new_one : (name : List ℕ) (l from until : ℕ) → Talk [] (put_named name (opened l (length w.state.readers) from until) w.state.readers)
-  new_one name l from until t z g = elim (found_in t name (opened l (length w.state.readers) from until) z w.state.readers g) [
+  new_one : (style : Style) (name : List ℕ) (l from until : ℕ) → Talk [] (put_named name (opened style l (length w.state.readers) from until) w.state.readers)
+  new_one style name l from until t z g = elim (found_in t name (opened style l (length w.state.readers) from until) z w.state.readers g) [
     | inl a ↦ subst (FreshAt (next_world c w v).joined (λ m. In m w.state.network.sent ⊎ In m []) (next_world c w v).state.register) a.1 (record {
       right = λ q m o to le. elim o [ inl i ↦ absurd (let k = A.known m (length w.state.readers) i (inl to) in omega arith) | inr i ↦ absurd i ];
       held = λ h i. absurd i;
@@ -149,7 +156,7 @@ module _ (c : Config) (w : World) (v : Event) (N : NamesOnce w.state) (O : OnlyC
   to_nodes : (who : Who) (l : ℕ) (bs : List (ℕ × Body)) (m : Msg) (r : ℕ) → In m (posted who l bs) → m.to ≡ whos.Reader r → ⊥
   to_nodes who l bs m r i t = let p = posted_to who l bs m i in let z : whos.Node p.0.0 ≡ whos.Reader r = sym (ap (λ (y : Msg). y.to) p.2) ∙ t in cc
 
-  answered : (y : ℕ) (m : Msg) (x : Body) → In m w.state.network.sent → Serves c w.state y m.log → (Step.node_handles (node_at w.state y) m).answer ≡ Some x → Talk (record { from = whos.Node y; to = m.from; log = m.log; body = x } ∷ []) w.state.readers
+  answered : (y : ℕ) (m : Msg) (x : Body) → In m w.state.network.sent → Serves c w.state y m.log → (Step.node_handles y (node_at w.state y) m).answer ≡ Some x → Talk (record { from = whos.Node y; to = m.from; log = m.log; body = x } ∷ []) w.state.readers
   answered y m x i T a = still (record { from = whos.Node y; to = m.from; log = m.log; body = x } ∷ []) (λ t d f q k j to. let e = only k _ j in
       let r : m.from ≡ whos.Reader d.number = sym (ap (λ (z : Msg). z.to) e) ∙ to in
       let o = seen_all t d f q in
@@ -163,7 +170,7 @@ module _ (c : Config) (w : World) (v : Event) (N : NamesOnce w.state) (O : OnlyC
     reads = λ name d m i t u. let G = read_on (looks_at c w.state.register d.log) d (Step.sender_node m.from) m.body u.open_still in let a = on_answer (looks_at c w.state.register d.log) d (Step.sender_node m.from) m.body in
         going name d a.reader _ u.named G.number G.log G.fresh (G.held_least (F name d u.named).held) (to_nodes (whos.Reader a.reader.number) a.reader.log a.asks);
     polls = λ name d u. let x = polled (looks_at c w.state.register d.log) d in going name d x _ u.named refl refl (polled_fresh (looks_at c w.state.register d.log) d) (polled_held (looks_at c w.state.register d.log) d (F name d u.named).held) (to_nodes (whos.Reader d.number) d.log (poll_asks (looks_at c w.state.register d.log) d));
-    opens = λ name l from until o. new_one name l from until;
+    opens = λ style name l from until o. new_one style name l from until;
   }
 
   pub fresh_step : AllFresh (next_world c w v)

@@ -6,7 +6,7 @@ use Rattle.ld_table.proofs.Laws.{put_cases, find-keep, find-keep_keys, kept}
 use Rattle.ld_table.specs.Words.{numbers_from}
 use Rattle.ld_lsn.specs.Number.{epoch_of, esn_of, numbered}
 use Rattle.ld_msg.specs.declared.msg.What.{What}
-use Rattle.ld_msg.specs.declared.msg.What.TheVariants.{Rec, Hole, Bridge, Plug}
+use Rattle.ld_msg.specs.declared.msg.What.TheVariants.{Rec, Hole, Bridge, Plug, Withheld}
 use Rattle.ld_msg.specs.declared.msg.Entry.{Entry}
 use Rattle.ld_msg.specs.declared.msg.Summary.{Summary}
 use Rattle.ld_op.proofs.Moves.{taken_from}
@@ -68,12 +68,14 @@ accept_some : (e : Entry) (w : What) (m : List (ℕ × Entry)) (s : ℕ) → ((f
 accept_some e (Rec p) m s n d h = put_some s e.number e m h
 accept_some e Hole m s n d h = put_some s e.number e m h
 accept_some e Plug m s n d h = put_some s e.number e m h
+accept_some e Withheld m s n d h = put_some s e.number e m h
 accept_some e Bridge m s n d h = put_some s e.number e (keep (λ k f. survives_bridge e f) m) (keep_some (λ k f. survives_bridge e f) s m h (λ f q. or_right (nat_le f.number e.number) _ (or_left (not (epoch_of f.number == epoch_of e.number)) _ (not_same (epoch_of f.number) (epoch_of e.number) (λ z. d (ap epoch_of (sym (n f q)) ∙ z))))))
 
 accept_numbers : (e : Entry) (w : What) (m : List (ℕ × Entry)) → ((s : ℕ) (f : Entry) → find s m ≡ Some f → f.number ≡ s) → (s : ℕ) (f : Entry) → find s (accept_entry e w m) ≡ Some f → f.number ≡ s
 accept_numbers e (Rec p) m n = put_numbers e m n
 accept_numbers e Hole m n = put_numbers e m n
 accept_numbers e Plug m n = put_numbers e m n
+accept_numbers e Withheld m n = put_numbers e m n
 accept_numbers e Bridge m n = put_numbers e (keep (λ k f. survives_bridge e f) m) (λ s f h. n s f (keep_was (λ k f. survives_bridge e f) s m f h))
 
 -- a clean epoch isn't one that is served

@@ -120,14 +120,15 @@ on_page_fits : (p : Plain) (l : ℕ) (b : Body) (q : Op) → (on_page (log_of p 
 unfolding on_page
 on_page_fits p l b q h = if_fits p (log_of p l).lost (page_op (log_of p l) l b) q (page_fits p l b q) h
 
-handled_fits : (p : Plain) (generation l ballot released : ℕ) (b : Body) (q : Op) → (handled_by generation (log_of p l) l ballot released b).op ≡ Some q → OpFits p q
+handled_fits : (p : Plain) (self generation l ballot released : ℕ) (b : Body) (q : Op) → (handled_by self generation (log_of p l) l ballot released b).op ≡ Some q → OpFits p q
 unfolding on_store on_digest_ask on_clean on_trim
-handled_fits p generation l ballot released (bodies.Store n lng x) q h = let e : Entry = record { number = n; ballot = ballot; what = x } in taken_fits p (ops.Accept l lng e) q (store_decision (log_of p l) e) (served_take (log_of p l) e) h
-handled_fits p generation l ballot released (bodies.DigestAsk from) q h = taken_fits p (ops.Seal l ballot) q (digest_decision (log_of p l) ballot from) (λ z. tt) h
-handled_fits p generation l ballot released (bodies.Clean e s) q h = clean_fits p l e s (summary_at (log_of p l) e) q refl h
-handled_fits p generation l ballot released (bodies.Trim t) q h = if_fits p (nat_lt (log_of p l).trim t) (Some (ops.Trim l t)) q (λ e. subst (OpFits p) (Some_inj e) tt) h
-handled_fits p generation l ballot released (bodies.ReadAsk round from) q h = absurd cc
-handled_fits p generation l ballot released b q h = on_page_fits p l b q h
+handled_fits p self generation l ballot released (bodies.Store n lng x) q h = let e : Entry = record { number = n; ballot = ballot; what = x } in taken_fits p (ops.Accept l lng e) q (store_decision (log_of p l) e) (served_take (log_of p l) e) h
+handled_fits p self generation l ballot released (bodies.DigestAsk from) q h = taken_fits p (ops.Seal l ballot) q (digest_decision (log_of p l) ballot from) (λ z. tt) h
+handled_fits p self generation l ballot released (bodies.Clean e s) q h = clean_fits p l e s (summary_at (log_of p l) e) q refl h
+handled_fits p self generation l ballot released (bodies.Trim t) q h = if_fits p (nat_lt (log_of p l).trim t) (Some (ops.Trim l t)) q (λ e. subst (OpFits p) (Some_inj e) tt) h
+handled_fits p self generation l ballot released (bodies.ReadAsk round from) q h = absurd cc
+handled_fits p self generation l ballot released (bodies.ReadOne round from set excluded) q h = absurd cc
+handled_fits p self generation l ballot released b q h = on_page_fits p l b q h
 
 -- ---- ops of ticks ----
 lost_cases : (g : Log) (t : Ticked) → lost_tick g ≡ t → ((e : ℕ) (y : Summary) → t ≡ Cleans e y → ⊥) × (t ≡ Rebuilt → missing g ≡ [])
@@ -175,7 +176,7 @@ pub full_keeps : (c : Config) (s : State) (v : Event) → ((y : ℕ) → FullNod
 full_keeps c s v F = record {
   all = F;
   hears = λ n m i t u p q. F n p (released_from (node_at s n) m.log m.body p q);
-  keeps = λ n m o i t u q. kept_full (Step.releases (node_at s n) m.log m.body) o (subst (λ z. OpFits z o) (sym (same_plain (node_at s n) m.log m.body)) (handled_fits (node_at s n).plain _ m.log _ _ m.body o q)) (λ p z. F n p (released_from (node_at s n) m.log m.body p z));
+  keeps = λ n m o i t u q. kept_full (Step.releases (node_at s n) m.log m.body) o (subst (λ z. OpFits z o) (sym (same_plain (node_at s n) m.log m.body)) (handled_fits (node_at s n).plain _ _ m.log _ _ m.body o q)) (λ p z. F n p (released_from (node_at s n) m.log m.body p z));
   loads = λ n p q. F n p (loaded_from (node_at s n) p q);
   formats = λ n r b w i. kept_full (load (node_at s n)) (ops.Format (generation_of r n) (epochs_in r.logs)) tt (λ p q. F n p (loaded_from (node_at s n) p q));
   cleans = λ n l k y u q. let g = log_of (node_at s n).plain l in let e = ticked_clean g (epochs_of s.register l).summaries k y q in let z = gap_positive g.summaries 1 in kept_full (node_at s n) (ops.Clean l k y) (omega arith, subst (λ j. summary_at g j ≡ None) e (unclean_none g (F n (node_at s n).plain (inl refl) l))) (F n);

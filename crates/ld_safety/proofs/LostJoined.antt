@@ -238,6 +238,7 @@ pub every_run_is_safe : (c : Config) (es : List Event) → IsInBounds c → Safe
 every_run_is_safe c es b = record {
   tiles = tiles.items_tile c es;
   records = items.records c es;
+  batches = items.batches c es;
   hidden = unhidden.nothing_hidden c es;
   trims = items.trims c es;
   losses = losses_happened c es b;

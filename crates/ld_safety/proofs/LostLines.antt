@@ -26,6 +26,8 @@ use Rattle.ld_safety.proofs.ReaderLogs.{Apart}
 use Rattle.ld_safety.proofs.LostReads.{ReadOn, PlugAt, LossyEnd, read_on, heard_lasts}
 use Rattle.ld_safety.proofs.LostAlong.{RoundsOf}
 use Rattle.ld_safety.proofs.LostSince.{Since, LostThen, again}
+use Rattle.ld_msg.specs.declared.style.Style.{Style}
+use Rattle.ld_safety.proofs.Batches.{one_of}
 
 -- ---- lines ----
 
@@ -86,20 +88,19 @@ one_item r until s (LossTo last) name low high e = record {
   kind = inr (last, refl, let z : high ≡ cond (nat_lt until last) until last = cc in cond_both (nat_lt until last) until last (λ k. high ≡ k → high ≤ last) (λ t w. let v = ltb-true until last t in omega arith) (λ t w. omega arith) z);
 }
 
-loss_item : (r : List ℕ) (until : ℕ) (is : List (ℕ × Item)) (name : List ℕ) (low high : ℕ) → In (lines.Gap name gaps.DataLoss low high) (Step.item_lines r until is) → LossItem r is name low high
-loss_item r until [] name low high i = absurd i
-loss_item r until (j ∷ is) name low high (inl e) = let k = one_item r until j.0 j.1 name low high e in record { item = j; there = inl refl; whose = k.whose; first = k.first; kind = k.kind }
-loss_item r until (j ∷ is) name low high (inr i) = let k = loss_item r until is name low high i in record { item = k.item; there = inr k.there; whose = k.whose; first = k.first; kind = k.kind }
+loss_item : (style : Style) (r : List ℕ) (until : ℕ) (is : List (ℕ × Item)) (name : List ℕ) (low high : ℕ) → In (lines.Gap name gaps.DataLoss low high) (Step.item_lines style r until is) → LossItem r is name low high
+loss_item style r until is name low high i = let o = one_of style r until is (lines.Gap name gaps.DataLoss low high) (λ a n j m q. cc) i in let k = one_item r until o.item.0 o.item.1 name low high o.line in
+    record { item = o.item; there = o.there; whose = k.whose; first = k.first; kind = k.kind }
 
 abbrev LossesOf : State → Event → List Line → Type 0
 LossesOf s e ls = (name : List ℕ) (low high : ℕ) → In (lines.Gap name gaps.DataLoss low high) ls → LossGiven s e name low high
 
 reads_losses : (c : Config) (s : State) (e : Event) (name : List ℕ) (d : Reader) (m : Msg) → In m s.network.sent → m.to ≡ whos.Reader d.number → Reading s name d → Delivers s e m
-    → LossesOf s e (Step.item_lines name (on_answer (looks_at c s.register d.log) d (Step.sender_node m.from) m.body).reader.until (on_answer (looks_at c s.register d.log) d (Step.sender_node m.from) m.body).items)
+    → LossesOf s e (Step.item_lines (on_answer (looks_at c s.register d.log) d (Step.sender_node m.from) m.body).reader.style name (on_answer (looks_at c s.register d.log) d (Step.sender_node m.from) m.body).reader.until (on_answer (looks_at c s.register d.log) d (Step.sender_node m.from) m.body).items)
 reads_losses c s e name d m i t v o r low high j =
     let y = Step.sender_node m.from in
     let G = read_on (looks_at c s.register d.log) d y m.body v.open_still in
-    let k = loss_item name _ _ r low high j in
+    let k = loss_item _ name _ _ r low high j in
     record { reader = d; named = subst (λ (u : List ℕ). find_named u s.readers ≡ Some d) (sym k.whose) v.named; message = m; sent = i; to = t; delivers = o; how = by_kind G k } where
       by_kind : ReadOn (looks_at c s.register d.log) d (Step.sender_node m.from) m.body (on_answer (looks_at c s.register d.log) d (Step.sender_node m.from) m.body) → LossItem name (on_answer (looks_at c s.register d.log) d (Step.sender_node m.from) m.body).items r low high → LossCause (heard d (Step.sender_node m.from) m.body) d.next low high
       by_kind G k = elim k.kind [

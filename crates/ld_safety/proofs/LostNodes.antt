@@ -130,7 +130,7 @@ pub lost_keeps : (c : Config) (s : State) (v : Event) → NodeKeeps c s v (λ y 
 lost_keeps c s v = record {
   all = λ y l e g b h. h;
   hears = λ n m i t u l e g b h. released_lost (node_at s n) m.log m.body l e g h;
-  keeps = λ n m o i t u q l e g b h. released_lost (node_at s n) m.log m.body l e g (kept_lost (Step.releases (node_at s n) m.log m.body) o l e g (handled_plain _ _ _ _ _ m.body o q) h);
+  keeps = λ n m o i t u q l e g b h. released_lost (node_at s n) m.log m.body l e g (kept_lost (Step.releases (node_at s n) m.log m.body) o l e g (handled_plain _ _ _ _ _ _ m.body o q) h);
   loads = λ n l e g b h. loaded_lost (node_at s n) l e g h;
   formats = λ n r k w i l e g b h. formatted_lost (node_at s n) s.register r n l e g i b h;
   cleans = λ n j k y u h l e g b z. kept_lost (node_at s n) (ops.Clean j k y) l e g refl z;

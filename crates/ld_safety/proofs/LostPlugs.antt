@@ -19,7 +19,7 @@ use Rattle.ld_safety.proofs.Lists.{not_both}
 use Rattle.ld_safety.proofs.Plans.{plan_shape, end_above_trim}
 use Rattle.ld_safety.proofs.Losses.{found_no_plug}
 use Rattle.ld_safety.proofs.Base.{Base}
-use Rattle.ld_safety.proofs.GivenItems.{page_with}
+use Rattle.ld_safety.proofs.GivenItems.{page_with, page_told}
 use Rattle.ld_safety.proofs.Protocol.{Basis, plan_of, PlanSays}
 use Rattle.ld_safety.proofs.Settled.{OfZero, ClosedBy, TrimFine, CloseFine, ShowFine, ReleaseFine, LngFine, Reached}
 use Rattle.ld_safety.proofs.Said.{Said, SaidHere}
@@ -105,14 +105,14 @@ module _ (c : Config) (hs : List Happened) (w : World) (B : Base c hs w) (R : Al
     held_said h i = elim (heard_held d (Step.sender_node m.from) m.body h i) [
       | inl j ↦ R.said.readers name d f h j
       | inr q ↦ subst (λ (x : ℕ × Held). HeldSaid d.log x.1.body) (sym q) (subst (λ l. HeldSaid l m.body) (sym (B.1.1.logs m d.number name d sent (inl to) f refl))
-          (carried.held_of (Said hs w.made w.state.register) (TrimFine c hs w.state.network.sent w.state.register) (CloseFine c hs w.made w.state.network.sent w.state.register) (Reached w.state.register) (ShowFine c hs w.made w.state.network.sent w.state.register) (ReleaseFine c hs w.state.network.sent w.state.register) (SaidHere hs w.made w.state.register) (LngFine c hs w.state.network.sent w.state.register) m.log m.from m.body (R.said.sent m sent)))
+          (carried.held_of (Said hs w.made w.state.register) (TrimFine c hs w.state.network.sent w.state.register) (CloseFine c hs w.made w.state.network.sent w.state.register) (Reached w.state.register) (ShowFine c hs w.made w.state.network.sent w.state.register) (ReleaseFine c hs w.state.network.sent w.state.register) (SaidHere hs w.made w.state.register) (LngFine c hs w.state.network.sent w.state.register) m.log m.from m.body (R.said.sent m sent).0))
     ]
 
     plug_planned : (s : ℕ) → PlugAt s (heard d (Step.sender_node m.from) m.body).held → LossPlan w.made d.log (home_epoch s)
     plug_planned s (h, i, p) =
         let x = page_with s Plug h.1.body p in
         let o = subst (HeldSaid d.log) x.is_page (held_said h i) in
-        subst (λ n. LossPlan w.made d.log (home_epoch n)) x.number (said_plug d.log x.entry.ballot x.entry.number (subst (λ z. SaidHere hs w.made w.state.register d.log x.entry.ballot x.entry.number z) x.what (o.0 x.entry x.there)))
+        subst (λ n. LossPlan w.made d.log (home_epoch n)) x.number (said_plug d.log x.entry.ballot x.entry.number (subst (λ z. SaidHere hs w.made w.state.register d.log x.entry.ballot x.entry.number z) x.what (o.0 x.entry (page_told s Plug h.1.body x refl))))
 
     closed_lost : (s e end : ℕ) (y : Summary) → OfZero e y ⊎ ClosedBy c hs w.made w.state.network.sent w.state.register d.log e y → end ≡ numbered e y.end → home_epoch end ≡ home_epoch s → y.loss ≡ true → LossPlan w.made d.log (home_epoch s)
     closed_lost s e end y (inl z) q h lo = absurd (not_both y.loss lo z.2)

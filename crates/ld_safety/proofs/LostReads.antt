@@ -1,22 +1,21 @@
 -- What an answer leaves of a reader's rounds and of its confirmation.
-use Rattle.std.proofs.Common.{◌≡◌, ◌∙◌, ◌⊎◌, ◌≤◌, ◌<◌, ℕ, ◌+◌, min, inl, inr, refl, ap, sym, subst, Bool, true, false, ◌&&◌, not, ◌==◌, nat_lt, if◌then◌else◌, cond, List, [], ◌∷◌, ◌++◌, Option, Some, None, arith}
+use Rattle.std.proofs.Common.{◌≡◌, ◌∙◌, ◌⊎◌, ◌≤◌, ◌<◌, ℕ, ◌+◌, min, inl, inr, refl, ap, sym, subst, Bool, true, false, ◌&&◌, not, ◌==◌, nat_lt, if◌then◌else◌, List, [], ◌++◌, Option, Some, None, arith}
 use Rattle.std.proofs.lemmas.Bool.{cases_Bool, and_parts, ltb-false, eqb-true}
 use Rattle.ld_table.specs.Table.{find, put}
 use Rattle.ld_table.specs.Words.{is_in, with_one}
 use Rattle.ld_lsn.specs.Number.{home_epoch}
-use Rattle.ld_ids.specs.Choice.{nodes_of}
 use Rattle.ld_msg.specs.declared.msg.What.{What}
-use Rattle.ld_msg.specs.declared.msg.What.TheVariants.{Rec, Hole, Bridge, Plug}
+use Rattle.ld_msg.specs.declared.msg.What.TheVariants.{Rec, Hole, Bridge, Plug, Withheld}
 use Rattle.ld_msg.specs.declared.msg.Body.{Body}
 use Rattle.ld_msg.specs.declared.msg.Body.TheVariants as bodies
 use Rattle.ld_msg.specs.Reading.{Held, Item, TrimTo, RecordHere, HoleHere, BridgeTo, LossHere, LossTo, trim_held, page_at, plug_held, is_plug, end_held, end_shown, is_loss, within, lost_held, bridge_to}
 use Rattle.ld_msg.specs.Register.{View}
-use Rattle.ld_msg.specs.Reader.{Reader, Read, Confirmation, is_finished, may_confirm, is_confirming, seen_nodes, has_seen, look_of, shown_swaps, sees_swap, nothing_read, heard_on, gives, confirms, heard, is_newer, round_of, confirming_with, confirms_loss, same_generation, is_confirmed, polled, poll_asks, asks_of, last_round, item_end, on_answer}
+use Rattle.ld_msg.specs.Reader.{Reader, Read, Confirmation, is_finished, may_confirm, is_confirming, seen_nodes, has_seen, look_of, shown_swaps, sees_swap, nothing_read, heard_on, gives, confirms, heard, is_newer, round_of, confirming_with, confirms_loss, same_generation, is_confirmed, polled, poll_asks, asks_of, last_round, item_end, on_answer, starts, start_asks, is_full_poll, keys}
 use Rattle.ld_machine.specs.World.{In}
 use Rattle.ld_safety.proofs.Lists.{Some_inj, not_none, not_both, branch, cond_both, In-append, only, any_in}
 use Rattle.ld_safety.proofs.Members.{In_put}
 use Rattle.ld_safety.proofs.Losses.{with_one_in}
-use Rattle.ld_safety.proofs.ReaderSteps.{ReadKeeps, dropped_held, answered, below_end, end_in}
+use Rattle.ld_safety.proofs.ReaderSteps.{ReadKeeps, IsAskOf, dropped_held, answered, below_end, end_in, start_are, confirm_are, asks_for_all}
 
 -- an ask of a round, at or below the next number
 pub record AskOf (low round next : ℕ) (b : Body) : Type 0 where
@@ -24,7 +23,7 @@ pub record AskOf (low round next : ℕ) (b : Body) : Type 0 where
   pub from : ℕ
   pub above : low < at
   pub upto : at ≤ round
-  pub is : b ≡ bodies.ReadAsk at from
+  pub is : IsAskOf at from b
   pub below : from ≤ next
 
 -- the node says again that it is lost, under the generation that was held for it
@@ -121,23 +120,22 @@ as_dropped true d y b hs h = inr refl
 as_dropped false d y b hs h = h
 
 -- ---- asks ----
-pub asks_are : (round next : ℕ) (set : List ℕ) (x : ℕ × Body) → In x (asks_of round next set) → x.1 ≡ bodies.ReadAsk round next
-asks_are round next [] x i = absurd i
-asks_are round next (y ∷ ys) x (inl e) = ap (λ (z : ℕ × Body). z.1) e
-asks_are round next (y ∷ ys) x (inr i) = asks_are round next ys x i
-
 -- a poll's asks are of its new round
-pub poll_are : (looks : ℕ → View) (d : Reader) (x : ℕ × Body) → In x (poll_asks looks d) → (x.1 ≡ bodies.ReadAsk (polled looks d).round d.next) × (d.round < (polled looks d).round)
-poll_are looks d x i = by_limit (nat_lt d.round last_round) i where
-  by_limit : (t : Bool) → In x (cond t (asks_of (d.round + 1) d.next (nodes_of (look_of looks d).spec)) []) → (x.1 ≡ bodies.ReadAsk (cond t (d.round + 1) d.round) d.next) × (d.round < cond t (d.round + 1) d.round)
-  by_limit true j = (asks_are (d.round + 1) d.next (nodes_of (look_of looks d).spec) x j, omega arith)
-  by_limit false j = absurd j
+pub poll_are : (looks : ℕ → View) (d : Reader) (x : ℕ × Body) → In x (poll_asks looks d) → IsAskOf (polled looks d).round d.next x.1 × (d.round < (polled looks d).round)
+poll_are looks d x i = start_are (is_full_poll d) looks d x i
+
+-- a round
+starts_up : (full : Bool) (looks : ℕ → View) (d : Reader) → d.round ≤ (starts full looks d).round
+starts_up full looks d = cond_both (nat_lt d.round last_round) (d.round + 1) d.round (λ r. d.round ≤ r) (λ t. omega arith) (λ t. omega arith)
 
 pub polled_up : (looks : ℕ → View) (d : Reader) → d.round ≤ (polled looks d).round
 polled_up looks d = cond_both (nat_lt d.round last_round) (d.round + 1) d.round (λ r. d.round ≤ r) (λ t. omega arith) (λ t. omega arith)
 
+starts_seen : (full : Bool) (looks : ℕ → View) (d : Reader) → SeenBy looks d (starts full looks d).seen
+starts_seen full looks d = cond_both (nat_lt d.round last_round) (Some (look_of looks d)) d.seen (λ o. SeenBy looks d o) (λ t. inr (home_epoch d.next, refl)) (λ t. inl refl)
+
 pub polled_seen : (looks : ℕ → View) (d : Reader) → SeenBy looks d (polled looks d).seen
-polled_seen looks d = cond_both (nat_lt d.round last_round) (Some (look_of looks d)) d.seen (λ o. SeenBy looks d o) (λ t. inr (home_epoch d.next, refl)) (λ t. inl refl)
+polled_seen looks d = starts_seen (is_full_poll d) looks d
 
 -- a poll
 pub polled_fresh : (looks : ℕ → View) (d : Reader) → FreshOf d (polled looks d).seen (polled looks d).least
@@ -195,6 +193,7 @@ plug_of (Some Plug) h = refl
 plug_of (Some (Rec p)) h = absurd cc
 plug_of (Some Hole) h = absurd cc
 plug_of (Some Bridge) h = absurd cc
+plug_of (Some Withheld) h = absurd cc
 plug_of None h = absurd cc
 
 last_of : {a b : ℕ} → LossTo a ≡ LossTo b → a ≡ b
@@ -248,7 +247,7 @@ module _ (looks : ℕ → View) (d : Reader) (y : ℕ) (b : Body) where
   heard_least : nat_lt (round_of b) d.least ≡ false → AllFrom d.least d.held → AllFrom d.least (heard d y b).held
   heard_least n g h i = elim (heard_held d y b h i) [ inl o ↦ g h o | inr q ↦ subst (λ (z : ℕ × Held). d.least ≤ round_of z.1.body) (sym q) (ltb-false (round_of b) d.least n) ]
 
-  started : nat_lt (round_of b) d.least ≡ false → ReadOn looks d y b (record { reader = heard d y b; items = []; asks = [] })
+  started : nat_lt (round_of b) d.least ≡ false → ReadOn looks d y b (nothing_read (heard d y b))
   started n = record {
     number = refl;
     log = refl;
@@ -289,7 +288,7 @@ module _ (looks : ℕ → View) (d : Reader) (y : ℕ) (b : Body) where
     until = g.until;
     round = let z = g.round in omega arith;
     next = g.next;
-    asks = λ x j. record { at = a.reader.round + 1; from = a.reader.next; above = (let z = g.round in omega arith); upto = omega arith; is = asks_are (a.reader.round + 1) a.reader.next _ x j; below = omega arith };
+    asks = λ x j. record { at = a.reader.round + 1; from = a.reader.next; above = (let z = g.round in omega arith); upto = omega arith; is = confirm_are looks a (lost_held a.reader.next (within (seen_nodes a.reader.seen) a.reader.held)) m x j; below = omega arith };
     confirming = λ v q. inr (by_swap v (branch (sees_swap a.reader.seen (look_of looks a.reader)) None (Some (record { round = a.reader.round + 1; asked = lost_held a.reader.next (within (seen_nodes a.reader.seen) a.reader.held); told = [] })) (Some v) q));
     seen = inr (home_epoch a.reader.next, refl);
     held = dropped_held (λ hs. (h : ℕ × Held) → In h hs → In h d.held ⊎ (h ≡ new_held y b)) (λ h i. absurd i) (sees_swap a.reader.seen (look_of looks a.reader)) a.reader.held g.held;
@@ -312,22 +311,23 @@ module _ (looks : ℕ → View) (d : Reader) (y : ℕ) (b : Body) where
           loss = subst (λ (hs : List (ℕ × Held)). is_loss a.reader.next (seen_nodes a.reader.seen) hs ≡ true) hold l;
           same = q.0;
           now = refl;
-          asks = λ x j. asks_are (a.reader.round + 1) a.reader.next _ x j ∙ ap (λ r. bodies.ReadAsk r a.reader.next) (ap (λ (k : Confirmation). k.round) z);
+          asks = λ x j. asks_for_all (a.reader.round + 1) a.reader.next _ x (subst (λ (k : Bool). In x (if k then start_asks false looks a.reader else asks_of (a.reader.round + 1) a.reader.next (keys (lost_held a.reader.next (within (seen_nodes a.reader.seen) a.reader.held))))) q.0 j) ∙ ap (λ r. bodies.ReadAsk r a.reader.next) (ap (λ (k : Confirmation). k.round) z);
         }
 
-  asked_on : (a : Read) → ReadOn looks d y b a → ReadOn looks d y b (record { reader = polled looks a.reader; items = a.items; asks = a.asks ++ poll_asks looks a.reader })
-  asked_on a g = let up = polled_up looks a.reader in record {
+  -- a round that begins, after these asks
+  asked_on : (full : Bool) (bs : List (ℕ × Body)) (anew : Bool) (a : Read) → ReadOn looks d y b a → ((x : ℕ × Body) → In x bs → In x a.asks ⊎ In x (start_asks full looks a.reader)) → ReadOn looks d y b (record { reader = starts full looks a.reader; items = a.items; asks = bs; anew = anew })
+  asked_on full bs anew a g w = let up = starts_up full looks a.reader in record {
     number = g.number;
     log = g.log;
     until = g.until;
     round = let z = g.round in omega arith;
     next = g.next;
-    asks = λ x j. elim (In-append x a.asks _ j) [
+    asks = λ x j. elim (w x j) [
       | inl o ↦ (let k = g.asks x o in record { at = k.at; from = k.from; above = k.above; upto = (let z = k.upto in let u = up in omega arith); is = k.is; below = k.below })
-      | inr o ↦ (let k = poll_are looks a.reader x o in record { at = (polled looks a.reader).round; from = a.reader.next; above = (let z = g.round in let l = k.1 in omega arith); upto = omega arith; is = k.0; below = omega arith })
+      | inr o ↦ (let k = start_are full looks a.reader x o in record { at = (starts full looks a.reader).round; from = a.reader.next; above = (let z = g.round in let l = k.1 in omega arith); upto = omega arith; is = k.0; below = omega arith })
     ];
     confirming = λ v q. absurd (not_none q);
-    seen = elim (polled_seen looks a.reader) [ inl q ↦ subst (SeenBy looks d) (sym q) g.seen | inr q ↦ inr q ];
+    seen = elim (starts_seen full looks a.reader) [ inl q ↦ subst (SeenBy looks d) (sym q) g.seen | inr q ↦ inr q ];
     held = dropped_held (λ hs. (h : ℕ × Held) → In h hs → In h d.held ⊎ (h ≡ new_held y b)) (λ h i. absurd i) _ a.reader.held g.held;
     fresh = looked_fresh d a.reader.seen a.reader.least a.reader.round (look_of looks a.reader) (nat_lt a.reader.round last_round) (sees_swap a.reader.seen (look_of looks a.reader)) refl g.round g.fresh;
     held_least = λ h. looked_held (nat_lt a.reader.round last_round && sees_swap a.reader.seen (look_of looks a.reader)) _ _ a.reader.held (g.held_least h);
@@ -353,7 +353,7 @@ module _ (looks : ℕ → View) (d : Reader) (y : ℕ) (b : Body) where
     starts = λ n. (started n, inl refl);
     ignored = λ t n. absurd (not_both _ t n);
     loss = λ h s n. (lost_first n s f h, inl refl);
-    swapped = λ h s n. (asked_on (nothing_read (heard d y b)) (started n), as_dropped _ d y b (heard d y b).held (inl refl));
+    swapped = λ h s n. (asked_on false (start_asks false looks (heard d y b)) true (nothing_read (heard d y b)) (started n) (λ x j. inr j), as_dropped _ d y b (heard d y b).held (inl refl));
     trim = λ a g n t k. (given a (TrimTo (trim_held a.reader.held)) (g k).0 n t (λ q. cc) (λ e q. cc), (g k).1);
     record_there = λ a p g n t k. (given a (RecordHere p) (g k).0 n (omega arith) (λ q. cc) (λ e q. cc), (g k).1);
     hole_there = λ a g n t k. (given a HoleHere (g k).0 n (omega arith) (λ q. cc) (λ e q. cc), (g k).1);
@@ -361,7 +361,8 @@ module _ (looks : ℕ → View) (d : Reader) (y : ℕ) (b : Body) where
     plug = λ a g n t k. (given a LossHere (g k).0 n (omega arith) (λ q. plug_there a (g k).1 t) (λ e q. cc), (g k).1);
     lossy_end = λ a g n t k. (given a (LossTo (bridge_to a.reader.next)) (g k).0 n (below_end a.reader.next) (λ q. cc) (λ e q. (sym (last_of q), end_there a (g k).1 t)), (g k).1);
     confirm = λ a g n m t k. (begun a (g k).0 m t, as_dropped _ d y b a.reader.held (g k).1);
-    polls_on = λ a g t k. (asked_on a (g k).0, as_dropped _ d y b a.reader.held (g k).1);
+    asks_all = λ a g t k. (asked_on true (start_asks true looks a.reader) true a (g k).0 (λ x j. inr j), as_dropped _ d y b a.reader.held (g k).1);
+    polls_on = λ a g t k. (asked_on false (a.asks ++ start_asks false looks a.reader) a.anew a (g k).0 (λ x j. In-append x a.asks (start_asks false looks a.reader) j), as_dropped _ d y b a.reader.held (g k).1);
   }
 
   pub read_on : is_finished d ≡ false → ReadOn looks d y b (on_answer looks d y b)

@@ -1,5 +1,5 @@
 -- Rounds of readers and their asks: what is in a message to or from a reader came of an ask of at most its round, and what it holds was sent to it.
-use Rattle.std.proofs.Common.{◌≡◌, ◌∙◌, ◌⊎◌, ◌≤◌, ◌<◌, ℕ, inl, inr, refl, ap, sym, subst, true, false, ◌&&◌, nat_lt, nat_le, List, [], ◌∷◌, length, Some, arith}
+use Rattle.std.proofs.Common.{◌≡◌, ◌∙◌, ◌⊎◌, ◌≤◌, ◌<◌, ℕ, inl, inr, refl, ap, sym, subst, true, false, ◌&&◌, nat_lt, nat_le, List, [], ◌∷◌, length, Some, arith, Bool}
 use Rattle.std.proofs.lemmas.Bool.{and_parts, ltb-true}
 use Rattle.ld_table.specs.Named.{same, find_named, put_named}
 use Rattle.ld_lsn.specs.Number.{home_epoch}
@@ -12,7 +12,7 @@ use Rattle.ld_msg.specs.Reading.{Held}
 use Rattle.ld_msg.specs.Reader.{Reader, Confirmation, opened, round_of}
 use Rattle.ld_msg.specs.Register.{Register, generation_of}
 use Rattle.ld_op.specs.Plain.{Log, is_lost}
-use Rattle.ld_op.specs.Answers.{read_answer}
+use Rattle.ld_op.specs.Answers.{read_answer, withheld_in}
 use Rattle.ld_op.specs.Handles.{handled_by}
 use Rattle.ld_machine.specs.State.{posted}
 use Rattle.ld_machine.specs.World.{In}
@@ -25,14 +25,19 @@ use Rattle.ld_safety.proofs.NodeSteps.{read_answered}
 use Rattle.ld_safety.proofs.Generations.{NoneFalls}
 use Rattle.ld_safety.proofs.LostReads.{AskOf}
 use Rattle.ld_safety.proofs.LostTalk.{Elsewhere}
+use Rattle.ld_msg.specs.declared.style.Style.{Style}
+use Rattle.ld_safety.proofs.Withheld.{of_one}
+use Rattle.ld_safety.proofs.ReaderSteps.{IsAskOf}
 
 -- the round and the number of an ask or of an answer to it
 abbrev pub wave_of : Body → ℕ
 wave_of (bodies.ReadAsk round from) = round
+wave_of (bodies.ReadOne round from set excluded) = round
 wave_of b = round_of b
 
 abbrev pub place_of : Body → ℕ
 place_of (bodies.ReadAsk round from) = from
+place_of (bodies.ReadOne round from set excluded) = from
 place_of (bodies.LostHere number round generation end) = number
 place_of (bodies.ReadPage round from upto clean es) = from
 place_of (bodies.ReadEnded round from end loss) = from
@@ -43,11 +48,19 @@ place_of _ = 0
 pub record IsAsk (b : Body) : Type 0 where
   pub round : ℕ
   pub from : ℕ
-  pub is : b ≡ bodies.ReadAsk round from
+  pub is : IsAskOf round from b
 
 pub record AtMost (b : Body) (d : Reader) : Type 0 where
   pub wave : wave_of b ≤ d.round
   pub place : place_of b ≤ d.next
+
+-- the round and the number of an ask
+pub ask_parts : (b : Body) (round from : ℕ) → IsAskOf round from b → (wave_of b ≡ round) × (place_of b ≡ from)
+ask_parts b round from (inl q) = (ap wave_of q, ap place_of q)
+ask_parts b round from (inr q) = (ap wave_of q.2, ap place_of q.2)
+
+ask_most : (b : Body) (round from : ℕ) (d : Reader) → IsAskOf round from b → AtMost b d → (round ≤ d.round) × (from ≤ d.next)
+ask_most b round from d q h = let p = ask_parts b round from q in let u = p.0 in let v = p.1 in let w = h.wave in let x = h.place in (omega arith, omega arith)
 
 abbrev pub answer_to : ℕ → Reader → Body → Msg
 answer_to y d b = record { from = whos.Node y; to = whos.Reader d.number; log = d.log; body = b }
@@ -89,13 +102,23 @@ answers_ask generation g released round from = read_answered generation g releas
   waits = λ a. record { wave = refl; place = refl; lost = λ n u k end q. absurd cc };
 })
 
+answers_one : (generation round from : ℕ) (g : Log) (n : ℕ) (set excluded : List Bool) (b : Body) → Answers generation round from g b → Answers generation round from g (withheld_in n set excluded b)
+answers_one generation round from g n set excluded (bodies.ReadPage u f upto clean es) h = record { wave = h.wave; place = h.place; lost = λ k v j end q. absurd cc }
+answers_one generation round from g n set excluded _ h = h
+
 -- a log is lost for epochs from the first on
 lost_positive : (g : Log) (e : ℕ) → is_lost g e ≡ true → 0 < e
 lost_positive g e h = ltb-true 0 e (and_parts (nat_lt 0 e) (nat_le e g.lost_to) (and_parts g.lost (nat_lt 0 e && nat_le e g.lost_to) h).1).0
 
 -- what a node answers to an ask
-pub ask_answer : (generation : ℕ) (g : Log) (l ballot released : ℕ) (b x : Body) (q : IsAsk b) → (handled_by generation g l ballot released b).answer ≡ Some x → Answers generation q.round q.from g x
-ask_answer generation g l ballot released b x q h = subst (Answers generation q.round q.from g) (Some_inj (subst (λ z. (handled_by generation g l ballot released z).answer ≡ Some x) q.is h)) (answers_ask generation g released q.round q.from)
+pub ask_answered : (n generation : ℕ) (g : Log) (l ballot released : ℕ) (b x : Body) (q : IsAsk b) (P : Body → Type 0) → (handled_by n generation g l ballot released b).answer ≡ Some x → P (read_answer generation g released q.round q.from) → ((set excluded : List Bool) (z : Body) → P z → P (withheld_in n set excluded z)) → P x
+ask_answered n generation g l ballot released b x q P h all one = elim q.is [
+  | inl e ↦ subst P (Some_inj (subst (λ z. (handled_by n generation g l ballot released z).answer ≡ Some x) e h)) all
+  | inr e ↦ subst P (Some_inj (subst (λ z. (handled_by n generation g l ballot released z).answer ≡ Some x) e.2 h)) (of_one n e.0 e.1 P generation g released q.round q.from (one e.0 e.1) all)
+]
+
+pub ask_answer : (n generation : ℕ) (g : Log) (l ballot released : ℕ) (b x : Body) (q : IsAsk b) → (handled_by n generation g l ballot released b).answer ≡ Some x → Answers generation q.round q.from g x
+ask_answer n generation g l ballot released b x q h = ask_answered n generation g l ballot released b x q (Answers generation q.round q.from g) h (answers_ask generation g released q.round q.from) (λ set excluded z k. answers_one generation q.round q.from g n set excluded z k)
 
 -- ---- tables of readers ----
 pub found_in : {X : Type 0} (t s : List ℕ) (x y : X) (ds : List (List ℕ × X)) → find_named t (put_named s x ds) ≡ Some y → ((t ≡ s) × (x ≡ y)) ⊎ ((same t s ≡ false) × (find_named t ds ≡ Some y))
@@ -137,8 +160,8 @@ module _ (r k : Register) (U : NoneFalls r k) (ms : List Msg) (ds : List (List �
     the_answer = record { from = whos.Node n; to = m.from; log = m.log; body = x }
 
     answer_most : (j : ℕ) (t : List ℕ) (d : Reader) → m.from ≡ whos.Reader j → find_named t ds ≡ Some d → d.number ≡ j → AtMost x d
-    answer_most j t d q f e = let k = R.asks m j i q in let z = R.waves m j t d i (inr q) f e in let y : AtMost (bodies.ReadAsk k.round k.from) d = subst (λ b. AtMost b d) k.is z in let v = a k in
-        record { wave = (let u = v.wave in let w = y.wave in omega arith); place = (let u = v.place in let w = y.place in omega arith) }
+    answer_most j t d q f e = let k = R.asks m j i q in let z = R.waves m j t d i (inr q) f e in let y = ask_most m.body k.round k.from d k.is z in let v = a k in
+        record { wave = (let u = v.wave in let w = y.0 in omega arith); place = (let u = v.place in let w = y.1 in omega arith) }
 
     answer_generation : (j k u h end : ℕ) → m.from ≡ whos.Reader j → x ≡ bodies.LostHere k u h end → h ≤ generation_of r n
     answer_generation j k u h end q e = let z = (a (R.asks m j i q)).lost k u h end e in let y = z.0 in omega arith
@@ -185,7 +208,7 @@ module _ (r k : Register) (U : NoneFalls r k) (ms : List Msg) (ds : List (List �
     ]
 
     ask_wave : (b : ℕ × Body) → In b bs → AtMost b.1 x
-    ask_wave b i = let k = asks b i in subst (λ y. AtMost y x) (sym k.is) (record { wave = (let u = k.upto in omega arith); place = k.below })
+    ask_wave b i = let k = asks b i in let p = ask_parts b.1 k.at k.from k.is in record { wave = (let u = k.upto in let v = p.0 in omega arith); place = (let u = k.below in let v = p.1 in omega arith) }
 
     new_wave : (m : Msg) (j : ℕ) (t : List ℕ) (z : Reader) → In m (posted (whos.Reader x.number) x.log bs) → Concerns m j → find_named t (put_named name x ds) ≡ Some z → z.number ≡ j → AtMost m.body z
     new_wave m j t z i q f e = let p = posted_to (whos.Reader x.number) x.log bs m i in elim q [
@@ -197,7 +220,7 @@ module _ (r k : Register) (U : NoneFalls r k) (ms : List Msg) (ds : List (List �
     pub rounds_on : Rounds k (λ m. In m ms ⊎ In m (posted (whos.Reader x.number) x.log bs)) (put_named name x ds)
     rounds_on = record {
       nodes = λ m j o q. elim o [ inl i ↦ R.nodes m j i q | inr i ↦ absurd (to_node m j i q) ];
-      asks = λ m j o q. elim o [ inl i ↦ R.asks m j i q | inr i ↦ let p = posted_to (whos.Reader x.number) x.log bs m i in let y = asks p.0 p.1 in record { round = y.at; from = y.from; is = ap (λ (u : Msg). u.body) p.2 ∙ y.is } ];
+      asks = λ m j o q. elim o [ inl i ↦ R.asks m j i q | inr i ↦ let p = posted_to (whos.Reader x.number) x.log bs m i in let y = asks p.0 p.1 in record { round = y.at; from = y.from; is = subst (IsAskOf y.at y.from) (sym (ap (λ (u : Msg). u.body) p.2)) y.is } ];
       waves = λ m j t z o q f e. elim o [ inl i ↦ old_wave m j t z i q f e | inr i ↦ new_wave m j t z i q f e ];
       generations = λ m j n u g end o q b. elim o [ inl i ↦ raised _ g (R.generations m j n u g end i q b) | inr i ↦ absurd (to_node m j i q) ];
       positive = λ m j n u g end o q b. elim o [ inl i ↦ R.positive m j n u g end i q b | inr i ↦ absurd (to_node m j i q) ];
@@ -206,8 +229,8 @@ module _ (r k : Register) (U : NoneFalls r k) (ms : List Msg) (ds : List (List �
     }
 
   -- a reader is opened
-  pub rounds_opened : (name : List ℕ) (l from until : ℕ) → Rounds k (λ m. In m ms ⊎ In m []) (put_named name (opened l (length ds) from until) ds)
-  rounds_opened name l from until = let x = opened l (length ds) from until in record {
+  pub rounds_opened : (style : Style) (name : List ℕ) (l from until : ℕ) → Rounds k (λ m. In m ms ⊎ In m []) (put_named name (opened style l (length ds) from until) ds)
+  rounds_opened style name l from until = let x = opened style l (length ds) from until in record {
     nodes = λ m j o q. elim o [ inl i ↦ R.nodes m j i q | inr i ↦ absurd i ];
     asks = λ m j o q. elim o [ inl i ↦ R.asks m j i q | inr i ↦ absurd i ];
     waves = λ m j t z o q f e. elim o [

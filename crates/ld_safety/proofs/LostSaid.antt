@@ -15,7 +15,7 @@ use Rattle.ld_msg.specs.declared.msg.Body.TheVariants as bodies
 use Rattle.ld_op.specs.declared.op.Op.{Op}
 use Rattle.ld_op.specs.declared.op.Op.TheVariants as ops
 use Rattle.ld_op.specs.Plain.{Plain, Log, log_of, unformatted, is_lost, summary_at, apply}
-use Rattle.ld_op.specs.Answers.{store_decision, digest_decision, store_answer, digest_answer, on_store, on_digest_ask, on_clean, on_trim, read_answer}
+use Rattle.ld_op.specs.Answers.{store_decision, digest_decision, store_answer, digest_answer, on_store, on_digest_ask, on_clean, on_trim, read_answer, withheld_in}
 use Rattle.ld_op.specs.Handles.{handled_by}
 use Rattle.ld_op.specs.Ticks.{on_page}
 use Rattle.ld_msg.specs.Register.{Register, no_epochs, epochs_of, epochs_in, draw, Granted, generation_of}
@@ -36,6 +36,7 @@ use Rattle.ld_safety.proofs.LostStanding.{formatted_lost}
 use Rattle.ld_safety.proofs.LostTalk.{TalkKeeps, talked, new_or_old}
 use Rattle.ld_safety.proofs.LostUnserved.{AllUnserved, unserved_step}
 use Rattle.ld_safety.proofs.Fallen.{AllFallen, lost_fallen, fallen_step}
+use Rattle.ld_safety.proofs.Withheld.{of_one, one_kind}
 
 -- ---- a node is lost for epochs alone that were handed out ----
 abbrev pub LostWithin : Register → Node → Type 0
@@ -65,7 +66,7 @@ pub within_keeps : (c : Config) (s : State) (v : Event) → Rising s.register.lo
 within_keeps c s v R h = record {
   all = h;
   hears = λ n m i t u p q. h n p (released_from (node_at s n) m.log m.body p q);
-  keeps = λ n m o i t u q. kept_within s.register (Step.releases (node_at s n) m.log m.body) o (handled_plain _ _ _ _ _ m.body o q) (λ p z. h n p (released_from (node_at s n) m.log m.body p z));
+  keeps = λ n m o i t u q. kept_within s.register (Step.releases (node_at s n) m.log m.body) o (handled_plain _ _ _ _ _ _ m.body o q) (λ p z. h n p (released_from (node_at s n) m.log m.body p z));
   loads = λ n p q. h n p (loaded_from (node_at s n) p q);
   formats = λ n r k w i. formatted_within (node_at s n) s.register r n i R (h n);
   cleans = λ n j k y u q. kept_within s.register (node_at s n) (ops.Clean j k y) refl (h n);
@@ -149,14 +150,19 @@ no_answer : (g : Log) (l : ℕ) (b x : Body) → (on_page g l b).answer ≡ Some
 unfolding on_page
 no_answer g l b x q = cc
 
-pub lost_answer : (generation : ℕ) (g : Log) (l ballot released n : ℕ) (b x : Body) → (handled_by generation g l ballot released b).answer ≡ Some x → says_lost n x ≡ true → 0 < home_epoch n → is_lost g (home_epoch n) ≡ true
+one_lost : (self : ℕ) (set excluded : List Bool) (n : ℕ) (b : Body) → says_lost n (withheld_in self set excluded b) ≡ says_lost n b
+one_lost self set excluded n (bodies.ReadPage round from upto clean es) = refl
+one_lost self set excluded n _ = refl
+
+pub lost_answer : (self generation : ℕ) (g : Log) (l ballot released n : ℕ) (b x : Body) → (handled_by self generation g l ballot released b).answer ≡ Some x → says_lost n x ≡ true → 0 < home_epoch n → is_lost g (home_epoch n) ≡ true
 unfolding on_store on_digest_ask on_clean on_trim
-lost_answer generation g l ballot released n (bodies.Store m lng w) x q h p = store_lost generation g (record { number = m; ballot = ballot; what = w }) n x q h p
-lost_answer generation g l ballot released n (bodies.DigestAsk from) x q h p = ask_lost generation g ballot from n x q h p
-lost_answer generation g l ballot released n (bodies.Clean e y) x q h p = absurd cc
-lost_answer generation g l ballot released n (bodies.Trim t) x q h p = absurd cc
-lost_answer generation g l ballot released n (bodies.ReadAsk round from) x q h p = read_lost generation g released round from n (subst (λ (o : Body). says_lost n o ≡ true) (sym (Some_inj q)) h)
-lost_answer generation g l ballot released n b x q h p = absurd (no_answer g l b x q)
+lost_answer self generation g l ballot released n (bodies.Store m lng w) x q h p = store_lost generation g (record { number = m; ballot = ballot; what = w }) n x q h p
+lost_answer self generation g l ballot released n (bodies.DigestAsk from) x q h p = ask_lost generation g ballot from n x q h p
+lost_answer self generation g l ballot released n (bodies.Clean e y) x q h p = absurd cc
+lost_answer self generation g l ballot released n (bodies.Trim t) x q h p = absurd cc
+lost_answer self generation g l ballot released n (bodies.ReadAsk round from) x q h p = read_lost generation g released round from n (subst (λ (o : Body). says_lost n o ≡ true) (sym (Some_inj q)) h)
+lost_answer self generation g l ballot released n (bodies.ReadOne round from set excluded) x q h p = of_one self set excluded (λ o. says_lost n o ≡ true → is_lost g (home_epoch n) ≡ true) generation g released round from (λ o k j. k (sym (one_lost self set excluded n o) ∙ j)) (read_lost generation g released round from n) (subst (λ (o : Body). says_lost n o ≡ true) (sym (Some_inj q)) h)
+lost_answer self generation g l ballot released n b x q h p = absurd (no_answer g l b x q)
 
 -- a page is of an epoch that is served
 ask_page : (generation : ℕ) (g : Log) (ballot from e : ℕ) (x : Body) → digest_answer generation g from (digest_decision g ballot from) ≡ Some x → says_page e x ≡ true → Served g e
@@ -181,14 +187,15 @@ store_page generation g e k x = store_decided g e (λ d. store_answer generation
 read_page_none : (generation : ℕ) (g : Log) (released round from k : ℕ) → says_page k (read_answer generation g released round from) ≡ false
 read_page_none generation g released round from k = read_answered generation g released round from (λ b. says_page k b ≡ false) (record { trimmed = λ h. refl; ended = λ y a h z. refl; lost_clean = λ y a h z t. refl; lost = λ a h t. refl; clean = λ y a h z t. refl; open_page = λ a h t u. refl; waits = λ a. refl })
 
-pub page_answer : (generation : ℕ) (g : Log) (l ballot released e : ℕ) (b x : Body) → (handled_by generation g l ballot released b).answer ≡ Some x → says_page e x ≡ true → Served g e
+pub page_answer : (self generation : ℕ) (g : Log) (l ballot released e : ℕ) (b x : Body) → (handled_by self generation g l ballot released b).answer ≡ Some x → says_page e x ≡ true → Served g e
 unfolding on_store on_digest_ask on_clean on_trim
-page_answer generation g l ballot released e (bodies.Store m lng w) x q h = absurd (store_page generation g (record { number = m; ballot = ballot; what = w }) e x q h)
-page_answer generation g l ballot released e (bodies.DigestAsk from) x q h = ask_page generation g ballot from e x q h
-page_answer generation g l ballot released e (bodies.Clean k y) x q h = absurd cc
-page_answer generation g l ballot released e (bodies.Trim t) x q h = absurd cc
-page_answer generation g l ballot released e (bodies.ReadAsk round from) x q h = absurd (not_both (says_page e x) h (subst (λ (o : Body). says_page e o ≡ false) (Some_inj q) (read_page_none generation g released round from e)))
-page_answer generation g l ballot released e b x q h = absurd (no_answer g l b x q)
+page_answer self generation g l ballot released e (bodies.Store m lng w) x q h = absurd (store_page generation g (record { number = m; ballot = ballot; what = w }) e x q h)
+page_answer self generation g l ballot released e (bodies.DigestAsk from) x q h = ask_page generation g ballot from e x q h
+page_answer self generation g l ballot released e (bodies.Clean k y) x q h = absurd cc
+page_answer self generation g l ballot released e (bodies.Trim t) x q h = absurd cc
+page_answer self generation g l ballot released e (bodies.ReadAsk round from) x q h = absurd (not_both (says_page e x) h (subst (λ (o : Body). says_page e o ≡ false) (Some_inj q) (read_page_none generation g released round from e)))
+page_answer self generation g l ballot released e (bodies.ReadOne round from set excluded) x q h = absurd (not_both (says_page e x) h (subst (λ (o : Body). says_page e o ≡ false) (Some_inj q) (one_kind self set excluded (says_page e) false (λ a b z k es fs. refl) generation g released round from (read_page_none generation g released round from e))))
+page_answer self generation g l ballot released e b x q h = absurd (no_answer g l b x q)
 
 pub served_not : (p : Plain) (l e : ℕ) → 0 < p.generation → Served (log_of p l) e → Unserved p l e → ⊥
 served_not p l e g v (inl h) = omega arith
@@ -227,13 +234,13 @@ module _ (c : Config) (w : World) (e : Event) (ups : (y : ℕ) → UpFine (node_
   one_state n l v p (inl q) = q
   one_state n l v p (inr k) = absurd (let z : None ≡ Some k.0 = sym (ups n v.up).0 ∙ k.1 in not_none z)
 
-  answer_said : (n : ℕ) (m : Msg) (x : Body) → Serves c w.state n m.log → (Step.node_handles (node_at w.state n) m).answer ≡ Some x → NewSaid (record { from = whos.Node n; to = m.from; log = m.log; body = x } ∷ [])
+  answer_said : (n : ℕ) (m : Msg) (x : Body) → Serves c w.state n m.log → (Step.node_handles n (node_at w.state n) m).answer ≡ Some x → NewSaid (record { from = whos.Node n; to = m.from; log = m.log; body = x } ∷ [])
   answer_said n m x v a = record {
     lost = λ z l y b k i f t g h p.
         let o = only z _ i in
         let node : n ≡ y = same_node (sym (ap (λ (u : Msg). u.from) o) ∙ f) in
         let lg : m.log ≡ l = sym (ap (λ (u : Msg). u.log) o) ∙ g in
-        let ls : is_lost (log_of (node_at w.state n).plain m.log) (home_epoch k) ≡ true = lost_answer _ _ _ _ _ k m.body x a (subst (λ (u : Body). says_lost k u ≡ true) (ap (λ (u : Msg). u.body) o) h) p in
+        let ls : is_lost (log_of (node_at w.state n).plain m.log) (home_epoch k) ≡ true = lost_answer _ _ _ _ _ _ k m.body x a (subst (λ (u : Body). says_lost k u ≡ true) (ap (λ (u : Msg). u.body) o) h) p in
         let there : (q : Plain) → MayHold (node_at w.state n) q → is_lost (log_of q m.log) (home_epoch k) ≡ true = λ q r. subst (λ u. is_lost (log_of u m.log) (home_epoch k) ≡ true) (sym (one_state n m.log v q r)) ls in
         subst (λ j. (home_epoch k ≤ (epochs_of w.state.register l).epoch) × AllUnserved (node_at w.state j) l (home_epoch k) × AllFallen (node_at w.state j) l (home_epoch k)) node
         (subst (λ j. (home_epoch k ≤ (epochs_of w.state.register j).epoch) × AllUnserved (node_at w.state n) j (home_epoch k) × AllFallen (node_at w.state n) j (home_epoch k)) lg
@@ -242,7 +249,7 @@ module _ (c : Config) (w : World) (e : Event) (ups : (y : ℕ) → UpFine (node_
         let o = only z _ i in
         let node : y ≡ n = same_node (sym f ∙ ap (λ (u : Msg). u.from) o) in
         let lg : l ≡ m.log = sym g ∙ ap (λ (u : Msg). u.log) o in
-        let sv = page_answer _ (log_of (node_at w.state n).plain m.log) _ _ _ k m.body x a (subst (λ (u : Body). says_page k u ≡ true) (ap (λ (u : Msg). u.body) o) h) in
+        let sv = page_answer _ _ (log_of (node_at w.state n).plain m.log) _ _ _ k m.body x a (subst (λ (u : Body). says_page k u ≡ true) (ap (λ (u : Msg). u.body) o) h) in
         let un : Unserved (node_at w.state n).plain l k = subst (λ j. AllUnserved (node_at w.state j) l k) node u (node_at w.state n).plain (inl refl) in
         served_not (node_at w.state n).plain m.log k (ups n v.up).1 sv (subst (λ j. Unserved (node_at w.state n).plain j k) lg un);
   }
@@ -254,7 +261,7 @@ module _ (c : Config) (w : World) (e : Event) (ups : (y : ℕ) → UpFine (node_
     answers = λ n m x i t v a. answer_said n m x v a;
     reads = λ name d m i t v. elsewhere_said _ (λ m i b t. posted_on _ _ _ m b i t);
     polls = λ name d v. elsewhere_said _ (λ m i b t. posted_on _ _ _ m b i t);
-    opens = λ name l from until o. none_said;
+    opens = λ style name l from until o. none_said;
   }
 
   pub said_step : NamesOnce w.state → ((l : ℕ) → (epochs_of w.state.register l).epoch ≤ (epochs_of (next_world c w e).state.register l).epoch) → SaidLost w.state → SaidLost (next_world c w e).state

@@ -63,7 +63,7 @@ module _ (c : Config) (s : State) (e : Event) (A : AllShow c s.register s.reader
     reads = λ name d m i t v. let G = read_on (looks_at c s.register d.log) d (Step.sender_node m.from) m.body v.open_still in let x = (on_answer (looks_at c s.register d.log) d (Step.sender_node m.from) m.body).reader in
         put_shows name x (subst (λ l. Shows c s.register l x.seen) (sym G.log) (seen_shows c s.register d x.seen (A name d v.named) G.seen));
     polls = λ name d v. let x = polled (looks_at c s.register d.log) d in put_shows name x (seen_shows c s.register d x.seen (A name d v.named) (polled_seen (looks_at c s.register d.log) d));
-    opens = λ name l from until o. put_shows name (opened l (length s.readers) from until) (none_shows c s.register l);
+    opens = λ style name l from until o. put_shows name (opened style l (length s.readers) from until) (none_shows c s.register l);
   }
 
 pub shows_step : (c : Config) (w : World) (e : Event) → NamesOnce w.state → OnlyClosed w.state.register → AllShow c w.state.register w.state.readers → AllShow c (next_world c w e).state.register (next_world c w e).state.readers

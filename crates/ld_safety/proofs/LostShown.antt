@@ -1,5 +1,5 @@
 -- Along a run in which nodes keep what was settled, clean pages and known ends that readers are told stay right.
-use Rattle.std.proofs.Common.{◌≡◌, ◌∙◌, ◌≤◌, ◌<◌, ℕ, inl, inr, refl, ap, sym, subst, true, List, Some, None, arith}
+use Rattle.std.proofs.Common.{◌≡◌, ◌∙◌, ◌≤◌, ◌<◌, ℕ, inl, inr, refl, ap, sym, subst, true, List, Some, None, arith, map, Bool}
 use Rattle.std.specs.Option.{unwrap_or}
 use Rattle.ld_table.specs.Table.{find}
 use Rattle.ld_table.specs.Words.{how_many}
@@ -16,8 +16,7 @@ use Rattle.ld_msg.specs.declared.msg.Body.{Body}
 use Rattle.ld_msg.specs.declared.msg.Body.TheVariants as bodies
 use Rattle.ld_msg.specs.Register.{swap, swapped_epochs, Register, Epochs, no_epochs, epochs_of, with_epochs, next_epoch, closed_epochs, activate, close, draw}
 use Rattle.ld_op.specs.Plain.{Plain, log_of}
-use Rattle.ld_op.specs.Answers.{read_answer}
-use Rattle.ld_op.specs.Handles.{handled_by, ballot_of}
+use Rattle.ld_op.specs.Answers.{read_answer, withheld_in, withheld}
 use Rattle.ld_ids.specs.Choice.{nodes_of}
 use Rattle.ld_ids.specs.declared.set.Spec.{Spec}
 use Rattle.ld_machine.specs.Config.{fixed_of, fixed_at}
@@ -28,7 +27,7 @@ use Rattle.ld_machine.specs.World.{World, In, Sent, MayHold, Unserved}
 use Rattle.ld_machine.specs.Invariant.{Closed}
 use Rattle.ld_machine.specs.Run.{next_world}
 use Rattle.ld_machine.specs.Step as Step
-use Rattle.ld_safety.proofs.Lists.{Some_inj, not_none, only, count_mono}
+use Rattle.ld_safety.proofs.Lists.{not_none, only, count_mono}
 use Rattle.ld_safety.proofs.Traces.{Keeps, both_kept, beside_kept}
 use Rattle.ld_safety.proofs.Base.{Base}
 use Rattle.ld_safety.proofs.Events.{NamesOnce, Serves}
@@ -36,12 +35,13 @@ use Rattle.ld_safety.proofs.NodeSteps.{read_answered}
 use Rattle.ld_safety.proofs.RegisterSteps.{Same, activate_leaves, close_leaves, draw_leaves, swap_leaves, epochs_put, epochs_same}
 use Rattle.ld_safety.proofs.Registers.{OnlyClosed, register_kept, follows, specs_stay, spec_stays, start_closed}
 use Rattle.ld_safety.proofs.LostTalk.{TalkKeeps, talked, new_or_old}
-use Rattle.ld_safety.proofs.LostRounds.{posted_to}
+use Rattle.ld_safety.proofs.LostRounds.{posted_to, ask_answered}
 use Rattle.ld_safety.proofs.LostAlong.{Asked, RoundsOf, asked_kept}
 use Rattle.ld_safety.proofs.LostKept.{Standings, standings_kept}
 use Rattle.ld_safety.proofs.LostUnserved.{unserved_step}
 use Rattle.ld_safety.proofs.LostTold.{told_copied, copied_before, copied_after}
 use Rattle.ld_safety.proofs.LostPages.{Enough, CleanKept, CleanPage, KnownEnd, home_is, known_end, page_of}
+use Rattle.ld_safety.proofs.Withheld.{still_there}
 
 -- ---- closed epochs stay closed ----
 abbrev pub StaysClosed : Register → Register → Type 0
@@ -144,9 +144,34 @@ module _ (c : Config) (w : World) (v : Event) (N : NamesOnce w.state) (O : OnlyC
     only_plain x h z (inl q) = q
     only_plain x h z (inr q) = absurd (not_none (sym h ∙ q.1))
 
-  answer_facts : (n : ℕ) (m : Msg) (x : Body) → In m w.state.network.sent → Serves c w.state n m.log → (Step.node_handles (node_at w.state n) m).answer ≡ Some x → Facts c w (record { from = whos.Node n; to = m.from; log = m.log; body = x })
+  -- a page in which records are withheld has their numbers
+  one_page : (y l from upto n : ℕ) (set excluded : List Bool) (es : List Entry) → CleanPage c w y l from upto es → CleanPage c w y l from upto (map (withheld n set excluded) es)
+  one_page y l from upto n set excluded es P = record {
+    summary = P.summary;
+    closed = P.closed;
+    above = P.above;
+    positive = P.positive;
+    starts = P.starts;
+    ends = P.ends;
+    place = P.place;
+    has = λ s lo hi t. still_there n set excluded s es ∙ P.has s lo hi t;
+    short = λ s lo hi. elim (P.short s lo hi) [ inl e ↦ inl e | inr e ↦ inr (λ i. still_there n set excluded s es ∙ e i) ];
+    unserved = P.unserved;
+  }
+
+  one_facts : (y l : ℕ) (set excluded : List Bool) (b : Body) → PageFacts c w y l b → PageFacts c w y l (withheld_in y set excluded b)
+  one_facts y l set excluded (bodies.ReadPage u f k clean es) F = record {
+    ends = λ n v g end q p. absurd cc;
+    pages = λ v from upto xs q.
+        let a : clean ≡ true = cc in let b : f ≡ from = cc in let d : k ≡ upto = cc in let p : map (withheld y set excluded) es ≡ xs = cc in
+        subst (λ z. CleanPage c w y l from upto z) p (subst (λ z. CleanPage c w y l from z (map (withheld y set excluded) es)) d (subst (λ z. CleanPage c w y l z k (map (withheld y set excluded) es)) b
+        (one_page y l f k y set excluded es (F.pages u f k es (ap (λ z. bodies.ReadPage u f k z es) a)))));
+  }
+  one_facts y l set excluded _ F = F
+
+  answer_facts : (n : ℕ) (m : Msg) (x : Body) → In m w.state.network.sent → Serves c w.state n m.log → (Step.node_handles n (node_at w.state n) m).answer ≡ Some x → Facts c w (record { from = whos.Node n; to = m.from; log = m.log; body = x })
   answer_facts n m x i S a r t = let q = R.asks m r i t in let p : Plain = (node_at w.state n).plain in
-      subst (PageFacts c w n m.log) (Some_inj (subst (λ z. (handled_by p.generation (log_of p m.log) m.log (ballot_of m.from) (Step.released_at (node_at w.state n) m.log) z).answer ≡ Some x) q.is a)) (read_facts n m.log (Step.released_at (node_at w.state n) m.log) q.round q.from S)
+      ask_answered n p.generation (log_of p m.log) m.log _ (Step.released_at (node_at w.state n) m.log) m.body x q (PageFacts c w n m.log) a (read_facts n m.log (Step.released_at (node_at w.state n) m.log) q.round q.from S) (λ set excluded z k. one_facts n m.log set excluded z k)
 
   to_nodes : (who : Who) (l : ℕ) (bs : List (ℕ × Body)) (m : Msg) → In m (posted who l bs) → Facts c w m
   to_nodes who l bs m i r t = absurd (let p = posted_to who l bs m i in let z : whos.Node p.0.0 ≡ whos.Reader r = sym (ap (λ (y : Msg). y.to) p.2) ∙ t in cc)
@@ -158,7 +183,7 @@ module _ (c : Config) (w : World) (v : Event) (N : NamesOnce w.state) (O : OnlyC
     answers = λ n m x i t S a k j. subst (Facts c w) (sym (only k _ j)) (answer_facts n m x i S a);
     reads = λ name d m i t u. to_nodes _ _ _;
     polls = λ name d u. to_nodes _ _ _;
-    opens = λ name l from until o m i. absurd i;
+    opens = λ style name l from until o m i. absurd i;
   }
 
   pub facts_step : ((m : Msg) → Sent w m → Facts c w m) → (m : Msg) → Sent (next_world c w v) m → Facts c (next_world c w v) m

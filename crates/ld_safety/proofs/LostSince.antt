@@ -26,8 +26,10 @@ use Rattle.ld_safety.proofs.LostNodes.{LostIn}
 use Rattle.ld_safety.proofs.Generations.{Back, back_on, back_step}
 use Rattle.ld_safety.proofs.LostReads.{ReadOn, SaysAgain, poll_are, polled_up, read_on, AskOf}
 use Rattle.ld_safety.proofs.LostTalk.{Elsewhere, TalkKeeps, talked, new_or_old, same_readers}
-use Rattle.ld_safety.proofs.LostRounds.{ask_answer, found_in, posted_to}
+use Rattle.ld_safety.proofs.LostRounds.{ask_answer, found_in, posted_to, ask_parts, wave_of}
 use Rattle.ld_safety.proofs.LostAlong.{RoundsOf}
+use Rattle.ld_msg.specs.declared.style.Style.{Style}
+use Rattle.ld_safety.proofs.ReaderSteps.{IsAskOf}
 
 -- the world in which the asks were sent; the reader's number and log, the number asked, the round, and the nodes asked with their generations
 module _ (then : World) (r l s round : ℕ) (asked : List (ℕ × ℕ)) where
@@ -39,7 +41,7 @@ module _ (then : World) (r l s round : ℕ) (asked : List (ℕ × ℕ)) where
 
   pub record SinceMsg (m : Msg) : Type 0 where
     pub log : Concerns m r → m.log ≡ l
-    pub ask : m.from ≡ whos.Reader r → (n : ℕ) → m.body ≡ bodies.ReadAsk round n → n ≡ s
+    pub ask : m.from ≡ whos.Reader r → (n : ℕ) → IsAskOf round n m.body → n ≡ s
     pub answer : m.to ≡ whos.Reader r → (n g end : ℕ) → m.body ≡ bodies.LostHere n round g end → g ≤ generation_of then.state.register (Step.sender_node m.from) → LostIn (node_at then.state (Step.sender_node m.from)) l (home_epoch s) g
 
   pub record SinceConfirming (d : Reader) (v : Confirmation) : Type 0 where
@@ -83,13 +85,13 @@ module _ (then : World) (r l s round : ℕ) (asked : List (ℕ × ℕ)) where
       to_node q = let z : whos.Node h.node ≡ whos.Reader r = sym h.to ∙ q in cc
 
     -- a node's answer
-    module _ (n : ℕ) (m : Msg) (x : Body) (i : In m w.state.network.sent) (a : (Step.node_handles (node_at w.state n) m).answer ≡ Some x) where
+    module _ (n : ℕ) (m : Msg) (x : Body) (i : In m w.state.network.sent) (a : (Step.node_handles n (node_at w.state n) m).answer ≡ Some x) where
       lost_now : (k g end : ℕ) → m.from ≡ whos.Reader r → x ≡ bodies.LostHere k round g end → LostIn (node_at w.state n) l (home_epoch s) g
       lost_now k g end q b =
           let p : Plain = (node_at w.state n).plain in
           let j = R.asks m r i q in
-          let y = (ask_answer p.generation (log_of p m.log) m.log _ _ m.body x j a).lost k round g end b in
-          let ask : j.from ≡ s = (P.talk.sent m i).ask q j.from (j.is ∙ ap (λ u. bodies.ReadAsk u j.from) (sym y.1)) in
+          let y = (ask_answer n p.generation (log_of p m.log) m.log _ _ m.body x j a).lost k round g end b in
+          let ask : j.from ≡ s = (P.talk.sent m i).ask q j.from (subst (λ u. IsAskOf u j.from m.body) (sym y.1) j.is) in
           record {
             plain = p;
             held = inl refl;
@@ -119,7 +121,7 @@ module _ (then : World) (r l s round : ℕ) (asked : List (ℕ × ℕ)) where
           | inl z ↦ absurd (to_node p.0.0 (sym (ap (λ (y : Msg). y.to) p.2) ∙ z))
           | inr z ↦ ap (λ (y : Msg). y.log) p.2 ∙ (log ∙ (was (from_here (sym (ap (λ (y : Msg). y.from) p.2) ∙ z))).log)
         ];
-        ask = λ q n b. absurd (let y = asks p.0 p.1 in let z : bodies.ReadAsk y.at y.from ≡ bodies.ReadAsk round n = sym y.is ∙ (sym (ap (λ (u : Msg). u.body) p.2) ∙ b) in let k : y.at ≡ round = cc in let h = (was (from_here (sym (ap (λ (u : Msg). u.from) p.2) ∙ q))).up in let v = y.above in omega arith);
+        ask = λ q n b. absurd (let y = asks p.0 p.1 in let k : y.at ≡ round = sym (ask_parts p.0.1 y.at y.from y.is).0 ∙ (ap wave_of (sym (ap (λ (u : Msg). u.body) p.2)) ∙ (ask_parts m.body round n b).0) in let h = (was (from_here (sym (ap (λ (u : Msg). u.from) p.2) ∙ q))).up in let v = y.above in omega arith);
         answer = λ q n g end b u. absurd (to_node p.0.0 (sym (ap (λ (y : Msg). y.to) p.2) ∙ q));
       } where
         to_node : (y : ℕ) → whos.Node y ≡ whos.Reader r → ⊥
@@ -157,8 +159,8 @@ module _ (then : World) (r l s round : ℕ) (asked : List (ℕ × ℕ)) where
       | inr n ↦ absurd (let a = n.higher in let b = D.up in omega arith)
     ]
 
-    opened_since : (name : List ℕ) (k from until : ℕ) → find_named name w.state.readers ≡ None → SinceTalk [] (put_named name (opened k (length w.state.readers) from until) w.state.readers)
-    opened_since name k from until n = let o = P.talk.there in let x = opened k (length w.state.readers) from until in record {
+    opened_since : (style : Style) (name : List ℕ) (k from until : ℕ) → find_named name w.state.readers ≡ None → SinceTalk [] (put_named name (opened style k (length w.state.readers) from until) w.state.readers)
+    opened_since style name k from until n = let o = P.talk.there in let x = opened style k (length w.state.readers) from until in record {
       sent = λ m i. absurd i;
       there = elim (named_cases o.name name x w.state.readers) [
         | inl a ↦ absurd (not_none (sym n ∙ subst (λ t. find_named t w.state.readers ≡ Some o.reader) a.0 o.named))
@@ -178,7 +180,7 @@ module _ (then : World) (r l s round : ℕ) (asked : List (ℕ × ℕ)) where
       reads = λ name d m i t v. let looks = looks_at c w.state.register d.log in let y = Step.sender_node m.from in let a = on_answer looks d y m.body in let G = read_on looks d y m.body v.open_still in
           goes_since name d a.reader a.asks v.named G.number G.log G.round (λ b j. G.asks b j) (read_since looks name d m v.named i t G);
       polls = λ name d v. let looks = looks_at c w.state.register d.log in goes_since name d (polled looks d) (poll_asks looks d) v.named refl refl (polled_up looks d) (λ b j. let z = poll_are looks d b j in record { at = (polled looks d).round; from = d.next; above = z.1; upto = omega arith; is = z.0; below = omega arith }) (λ q v h. absurd (not_none h));
-      opens = λ name k from until o. opened_since name k from until o.fresh_name;
+      opens = λ style name k from until o. opened_since style name k from until o.fresh_name;
     }
 
     pub since_step : NamesOnce w.state → Since (next_world c w e)

@@ -96,7 +96,7 @@ olds_keep : (c : Config) (s : State) (v : Event) → ((n l : ℕ) → Serves c s
 olds_keep c s v U = record {
   all = λ y g b h. h;
   hears = λ n m i t u g b h. released_old (node_at s n) m.log m.body g h;
-  keeps = λ n m o i t u q g b h. plain_old (Step.releases (node_at s n) m.log m.body) o g (handled_plain _ _ _ _ _ m.body o q) ((released_parts (node_at s n) m.log m.body).1 ∙ U n m.log u);
+  keeps = λ n m o i t u q g b h. plain_old (Step.releases (node_at s n) m.log m.body) o g (handled_plain _ _ _ _ _ _ m.body o q) ((released_parts (node_at s n) m.log m.body).1 ∙ U n m.log u);
   loads = λ n g b h. loaded_old (node_at s n) g h;
   formats = λ n r k w i g b h. formatted_old (node_at s n) s.register r n g (load_whole (node_at s n) w) i b;
   cleans = λ n j k y u q g b h. plain_old (node_at s n) (ops.Clean j k y) g refl (U n j u);
@@ -131,10 +131,10 @@ module _ (c : Config) (hs : List Happened) (w : World) (e : Event) (A : Asked c 
   posted_old r l bs m i k n u g end t b = let p = posted_to (whos.Reader r) l bs m i in absurd (not_reader p.0.0 k (sym (ap (λ (y : Msg). y.to) p.2) ∙ t))
 
   -- a node that answers is up, and has no record that was cut short
-  answer_old : (n : ℕ) (m : Msg) (x : Body) → In m w.state.network.sent → Serves c w.state n m.log → (Step.node_handles (node_at w.state n) m).answer ≡ Some x → SaysOld (next_world c w e) (record { from = whos.Node n; to = m.from; log = m.log; body = x })
+  answer_old : (n : ℕ) (m : Msg) (x : Body) → In m w.state.network.sent → Serves c w.state n m.log → (Step.node_handles n (node_at w.state n) m).answer ≡ Some x → SaysOld (next_world c w e) (record { from = whos.Node n; to = m.from; log = m.log; body = x })
   answer_old n m x i v h k number u g end t b =
       let p : Plain = (node_at w.state n).plain in
-      let a = (ask_answer p.generation (log_of p m.log) m.log _ _ m.body x (A.1.1.asks m k i t) h).lost number u g end b in
+      let a = (ask_answer n p.generation (log_of p m.log) m.log _ _ m.body x (A.1.1.asks m k i t) h).lost number u g end b in
       old_step n g (let d = A.1.0.0 n p (inl refl) in let z = a.0 in omega arith) (whole_old (node_at w.state n) g (whole n m.log v))
 
   spoken_talk : TalkKeeps c w.state e (λ ms ds. (m : Msg) → In m ms → SaysOld (next_world c w e) m)
@@ -144,7 +144,7 @@ module _ (c : Config) (hs : List Happened) (w : World) (e : Event) (A : Asked c 
     answers = λ n m x i t v h z j. subst (SaysOld (next_world c w e)) (sym (only z _ j)) (answer_old n m x i v h);
     reads = λ name d m i t v. let a = on_answer (looks_at c w.state.register d.log) d (Step.sender_node m.from) m.body in posted_old a.reader.number a.reader.log a.asks;
     polls = λ name d v. posted_old d.number d.log (poll_asks (looks_at c w.state.register d.log) d);
-    opens = λ name l from until o m i. absurd i;
+    opens = λ style name l from until o m i. absurd i;
   }
 
   spoken_step : Spoken (next_world c w e)

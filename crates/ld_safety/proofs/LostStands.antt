@@ -133,11 +133,11 @@ module _ (c : Config) (hs : List Happened) (s : State) (e : Event) where
     released_up n k (bodies.Release y) u = u
     released_up n k _ u = u
 
-    handled : (f : List ℕ) (n : ℕ) (m : Msg) (o : Option Op) (b : Option Body) → is_up (node_at s n).status ≡ true → (Step.node_handles (node_at s n) m).op ≡ o → Result (Step.handles (with_node (refreshed s f) n (Step.releases (node_at s n) m.log m.body)) n m o b)
+    handled : (f : List ℕ) (n : ℕ) (m : Msg) (o : Option Op) (b : Option Body) → is_up (node_at s n).status ≡ true → (Step.node_handles n (node_at s n) m).op ≡ o → Result (Step.handles (with_node (refreshed s f) n (Step.releases (node_at s n) m.log m.body)) n m o b)
     handled f n m None b u q = quietly (Step.handles (with_node (refreshed s f) n (Step.releases (node_at s n) m.log m.body)) n m None b) still_none (put_stands (refreshed s f) n (Step.releases (node_at s n) m.log m.body) (λ l. released n m.log m.body l _ (A n l)) A)
     handled f n m (Some o) b u q = let x : Node = Step.releases (node_at s n) m.log m.body in let t : State = with_node (refreshed s f) n x in let h : All t = put_stands (refreshed s f) n x (λ l. released n m.log m.body l _ (A n l)) A in
         quietly (Step.handles t n m (Some o) b) (still_kept n (keep_end (node_at t n) o)) (put_stands t n (keep_op (node_at t n) o) (λ l. subst (λ z. Stands (standing n l hs Lost) l (keep_op z o)) (sym (node_here (refreshed s f) n x))
-        (op_stands _ l x o (handled_plain _ _ _ _ _ m.body o q) (released_up n m.log m.body u) (released n m.log m.body l _ (A n l)))) h)
+        (op_stands _ l x o (handled_plain _ _ _ _ _ _ m.body o q) (released_up n m.log m.body u) (released n m.log m.body l _ (A n l)))) h)
 
     -- ---- a rebuild ----
     rebuilt_stands : (x : Node) (l : ℕ) (st : Standing) → is_up x.status ≡ true → Stands st l x → keep_end x (ops.Refilled l) ≡ Written → Stands Sound l (keep_op x (ops.Refilled l))
@@ -251,7 +251,7 @@ module _ (c : Config) (hs : List Happened) (s : State) (e : Event) where
     stands_cases = record {
       still = λ f i. quietly _ still_none A;
       says = λ x q. quietly _ (still_one x (still_quiet x q)) A;
-      node_hears = λ f n m i t v o. handled f n m (Step.node_handles (node_at s n) m).op (Step.node_handles (node_at s n) m).answer v.up refl;
+      node_hears = λ f n m i t v o. handled f n m (Step.node_handles n (node_at s n) m).op (Step.node_handles n (node_at s n) m).answer v.up refl;
       loads = λ n ls q b o. quietly _ (λ x i. still_quiet x (q x i)) (load_all n);
       draw_fails = λ n b. quietly _ (still_one (lines.NodeRefusedRegister n) refl) (load_all n);
       formats = λ n r g b v i. formatted n r b v i;
@@ -269,7 +269,7 @@ module _ (c : Config) (hs : List Happened) (s : State) (e : Event) where
       activates = λ name l r g n i x. quietly _ (still_one (lines.Active name _) refl) A;
       swaps = λ n m l x r q i. quietly _ (still_one x (still_quiet x q)) A;
       activate_fails = λ name l x g q. quietly _ (still_one x (still_quiet x q)) A;
-      answers = λ f name d m i t v o. quietly _ (still_group OfItems _ (λ h. cc) (items_of name _ _)) A;
+      answers = λ f name d m i t v o. quietly _ (still_group OfItems _ (λ h. cc) (items_of _ name _ _)) A;
       polls = λ name d v o. quietly _ still_none A;
-      opens = λ name l from until o x. quietly _ still_none A;
+      opens = λ style name l from until o x. quietly _ still_none A;
     }

@@ -66,7 +66,7 @@ module _ (c : Config) (s : State) (e : Event) (name : List ℕ) (n l : ℕ) (h :
     answers = λ k m x i t v q. h;
     reads = λ t d m i q v. let G = read_on (looks_at c s.register d.log) d (Step.sender_node m.from) m.body v.open_still in named_put t d _ v.named G.number G.log;
     polls = λ t d v. named_put t d (polled (looks_at c s.register d.log) d) v.named refl refl;
-    opens = λ t k from until o. named_new t _ o.fresh_name;
+    opens = λ style t k from until o. named_new t _ o.fresh_name;
   }
 
 named_step : (c : Config) (w : World) (e : Event) → NamesOnce w.state → (name : List ℕ) (n l : ℕ) → Named w.state.readers name n l → Named (next_world c w e).state.readers name n l

@@ -21,6 +21,7 @@ use Rattle.ld_machine.specs.World.{In}
 use Rattle.ld_machine.specs.Step as Step
 use Rattle.ld_safety.proofs.Steps.{sent_by, sent_before}
 use Rattle.ld_safety.proofs.Events.{NamesOnce, Cases, dispatch, Serves, Reading, Opens, refreshed, loaded}
+use Rattle.ld_msg.specs.declared.style.Style.{Style}
 
 -- a message to a node that isn't from a reader
 pub record Elsewhere (m : Msg) : Type 0 where
@@ -32,12 +33,12 @@ module _ (c : Config) (s : State) (e : Event) (Q : List Msg → List (List ℕ �
   pub record TalkKeeps : Type 0 where
     pub quiet : Q [] s.readers
     pub elsewhere : (ms : List Msg) → ((m : Msg) → In m ms → Elsewhere m) → Q ms s.readers
-    pub answers : (n : ℕ) (m : Msg) (x : Body) → In m s.network.sent → m.to ≡ whos.Node n → Serves c s n m.log → (Step.node_handles (node_at s n) m).answer ≡ Some x → Q (record { from = whos.Node n; to = m.from; log = m.log; body = x } ∷ []) s.readers
+    pub answers : (n : ℕ) (m : Msg) (x : Body) → In m s.network.sent → m.to ≡ whos.Node n → Serves c s n m.log → (Step.node_handles n (node_at s n) m).answer ≡ Some x → Q (record { from = whos.Node n; to = m.from; log = m.log; body = x } ∷ []) s.readers
     pub reads : (name : List ℕ) (d : Reader) (m : Msg) → In m s.network.sent → m.to ≡ whos.Reader d.number → Reading s name d →
         Q (posted (whos.Reader (on_answer (looks_at c s.register d.log) d (Step.sender_node m.from) m.body).reader.number) (on_answer (looks_at c s.register d.log) d (Step.sender_node m.from) m.body).reader.log (on_answer (looks_at c s.register d.log) d (Step.sender_node m.from) m.body).asks)
         (put_named name (on_answer (looks_at c s.register d.log) d (Step.sender_node m.from) m.body).reader s.readers)
     pub polls : (name : List ℕ) (d : Reader) → Reading s name d → Q (posted (whos.Reader d.number) d.log (poll_asks (looks_at c s.register d.log) d)) (put_named name (polled (looks_at c s.register d.log) d) s.readers)
-    pub opens : (name : List ℕ) (l from until : ℕ) → Opens c s name l from until → Q [] (put_named name (opened l (length s.readers) from until) s.readers)
+    pub opens : (style : Style) (name : List ℕ) (l from until : ℕ) → Opens c s name l from until → Q [] (put_named name (opened style l (length s.readers) from until) s.readers)
 
   -- the messages of before are there still, and what is said of the new ones and of the readers
   pub record Talked (d : Done) : Type 0 where
@@ -56,7 +57,7 @@ module _ (c : Config) (s : State) (e : Event) (Q : List Msg → List (List ℕ �
     abroad : (d : Done) → d.state.network.sent ≡ s.network.sent → d.state.readers ≡ s.readers → ((m : Msg) → In m d.sends → Elsewhere m) → Talked d
     abroad d e f g = record { same = e; talk = subst (Q d.sends) (sym f) (K.elsewhere d.sends g) }
 
-    answer_talk : (n : ℕ) (m : Msg) (b : Option Body) → In m s.network.sent → m.to ≡ whos.Node n → Serves c s n m.log → (Step.node_handles (node_at s n) m).answer ≡ b → Q (answer_message n m b) s.readers
+    answer_talk : (n : ℕ) (m : Msg) (b : Option Body) → In m s.network.sent → m.to ≡ whos.Node n → Serves c s n m.log → (Step.node_handles n (node_at s n) m).answer ≡ b → Q (answer_message n m b) s.readers
     answer_talk n m None i t v h = K.quiet
     answer_talk n m (Some x) i t v h = K.answers n m x i t v h
 
@@ -85,7 +86,7 @@ module _ (c : Config) (s : State) (e : Event) (Q : List Msg → List (List ℕ �
     talk_cases = record {
       still = λ f i. quietly _ refl refl refl;
       says = λ x q. quietly _ refl refl refl;
-      node_hears = λ f n m i t v o. handled f (Step.releases (node_at s n) m.log m.body) n m (Step.node_handles (node_at s n) m).op (Step.node_handles (node_at s n) m).answer (answer_talk n m (Step.node_handles (node_at s n) m).answer i t v refl);
+      node_hears = λ f n m i t v o. handled f (Step.releases (node_at s n) m.log m.body) n m (Step.node_handles n (node_at s n) m).op (Step.node_handles n (node_at s n) m).answer (answer_talk n m (Step.node_handles n (node_at s n) m).answer i t v refl);
       loads = λ n ls q b o. quietly _ refl refl refl;
       draw_fails = λ n b. quietly _ refl refl refl;
       formats = λ n r g b v i. record { same = refl; talk = no_messages (keep_end (node_at (with_register (loaded s n) r) n) (ops.Format (generation_of r n) (epochs_in r.logs))) };
@@ -105,7 +106,7 @@ module _ (c : Config) (s : State) (e : Event) (Q : List Msg → List (List ℕ �
       activate_fails = λ name l x g q. quietly _ refl refl refl;
       answers = λ f name d m i t v o. record { same = refl; talk = K.reads name d m i t v };
       polls = λ name d v o. record { same = refl; talk = K.polls name d v };
-      opens = λ name l from until o x. record { same = refl; talk = K.opens name l from until o };
+      opens = λ style name l from until o x. record { same = refl; talk = K.opens style name l from until o };
     }
 
     pub talked : NamesOnce s → Talked (Step.happens c s e)

@@ -25,6 +25,7 @@ use Rattle.ld_safety.proofs.Events.{NamesOnce, Serves}
 use Rattle.ld_safety.proofs.LostTalk.{TalkKeeps, talked, new_or_old, still_sent}
 use Rattle.ld_safety.proofs.LostRounds.{posted_to}
 use Rattle.ld_safety.proofs.LostUnserved.{AllUnserved}
+use Rattle.ld_safety.proofs.Withheld.{one_kind}
 
 -- the node has told that it has the copy of the number that counts where its epoch is closed so: it settled the number for the closing plan, or it stored the append where that was known good
 abbrev pub told_copied : World → ℕ → ℕ → Summary → ℕ → Bool
@@ -57,14 +58,15 @@ no_answer : (g : Log) (l : ℕ) (b x : Body) → (on_page g l b).answer ≡ Some
 unfolding on_page
 no_answer g l b x q = cc
 
-settled_answer : (generation : ℕ) (g : Log) (l ballot released s : ℕ) (b x : Body) → (handled_by generation g l ballot released b).answer ≡ Some x → says_settled s x ≡ true → Served g (epoch_of s)
+settled_answer : (self generation : ℕ) (g : Log) (l ballot released s : ℕ) (b x : Body) → (handled_by self generation g l ballot released b).answer ≡ Some x → says_settled s x ≡ true → Served g (epoch_of s)
 unfolding on_store on_digest_ask on_clean on_trim
-settled_answer generation g l ballot released s (bodies.Store n lng w) x q h = store_settled generation g (record { number = n; ballot = ballot; what = w }) s x q h
-settled_answer generation g l ballot released s (bodies.DigestAsk from) x q h = absurd (ask_settled generation g ballot from s x q h)
-settled_answer generation g l ballot released s (bodies.Clean e y) x q h = absurd cc
-settled_answer generation g l ballot released s (bodies.Trim t) x q h = absurd cc
-settled_answer generation g l ballot released s (bodies.ReadAsk round from) x q h = absurd (not_both (says_settled s x) h (subst (λ (o : Body). says_settled s o ≡ false) (Some_inj q) (read_settled generation g released round from s)))
-settled_answer generation g l ballot released s b x q h = absurd (no_answer g l b x q)
+settled_answer self generation g l ballot released s (bodies.Store n lng w) x q h = store_settled generation g (record { number = n; ballot = ballot; what = w }) s x q h
+settled_answer self generation g l ballot released s (bodies.DigestAsk from) x q h = absurd (ask_settled generation g ballot from s x q h)
+settled_answer self generation g l ballot released s (bodies.Clean e y) x q h = absurd cc
+settled_answer self generation g l ballot released s (bodies.Trim t) x q h = absurd cc
+settled_answer self generation g l ballot released s (bodies.ReadAsk round from) x q h = absurd (not_both (says_settled s x) h (subst (λ (o : Body). says_settled s o ≡ false) (Some_inj q) (read_settled generation g released round from s)))
+settled_answer self generation g l ballot released s (bodies.ReadOne round from set excluded) x q h = absurd (not_both (says_settled s x) h (subst (λ (o : Body). says_settled s o ≡ false) (Some_inj q) (one_kind self set excluded (says_settled s) false (λ a b z k es fs. refl) generation g released round from (read_settled generation g released round from s))))
+settled_answer self generation g l ballot released s b x q h = absurd (no_answer g l b x q)
 
 served_not : (p : Plain) (l e : ℕ) → 0 < p.generation → Served (log_of p l) e → Unserved p l e → ⊥
 served_not p l e g v (inl h) = omega arith
@@ -102,14 +104,14 @@ module _ (c : Config) (w : World) (e : Event) (up : (n l : ℕ) → Serves c w.s
   posted_none : (who : Who) (l : ℕ) (bs : List (ℕ × Body)) → NoneTold (posted who l bs)
   posted_none who l bs y k s b u m i h = let p = posted_to who l bs m i in to_node b p.0.0 m (ap (λ (z : Msg). z.to) p.2) (told_parts s k y b m h).to
 
-  answer_none : (n : ℕ) (m : Msg) (x : Body) → Serves c w.state n m.log → (Step.node_handles (node_at w.state n) m).answer ≡ Some x → NoneTold (record { from = whos.Node n; to = m.from; log = m.log; body = x } ∷ [])
+  answer_none : (n : ℕ) (m : Msg) (x : Body) → Serves c w.state n m.log → (Step.node_handles n (node_at w.state n) m).answer ≡ Some x → NoneTold (record { from = whos.Node n; to = m.from; log = m.log; body = x } ∷ [])
   answer_none n m x v a y l s b u z i h =
       let t = told_parts s l y b (record { from = whos.Node n; to = m.from; log = m.log; body = x }) (subst (λ (k : Msg). told_by (says_settled s) l y b k ≡ true) (only z _ i) h) in
       let q : whos.Node n ≡ whos.Node y = t.from in
       let same : y ≡ n = cc in
       let p : Plain = (node_at w.state n).plain in
       let k : Unserved p l (epoch_of s) = subst (λ j. AllUnserved (node_at w.state j) l (epoch_of s)) same u p (inl refl) in
-      served_not p m.log (epoch_of s) (up n m.log v) (settled_answer p.generation (log_of p m.log) m.log _ _ s m.body x a t.says) (subst (λ j. Unserved p j (epoch_of s)) (sym t.log) k)
+      served_not p m.log (epoch_of s) (up n m.log v) (settled_answer n p.generation (log_of p m.log) m.log _ _ s m.body x a t.says) (subst (λ j. Unserved p j (epoch_of s)) (sym t.log) k)
 
   none_talk : TalkKeeps c w.state e (λ ms ds. NoneTold ms)
   none_talk = record {
@@ -118,7 +120,7 @@ module _ (c : Config) (w : World) (e : Event) (up : (n l : ℕ) → Serves c w.s
     answers = λ n m x i t v a. answer_none n m x v a;
     reads = λ name d m i t v. posted_none _ _ _;
     polls = λ name d v. posted_none _ _ _;
-    opens = λ name l from until o y k s b u m i h. i;
+    opens = λ style name l from until o y k s b u m i h. i;
   }
 
   -- who tells it after the step told it before

@@ -75,7 +75,7 @@ trims_keep : (c : Config) (s : State) (v : Event) → NodeKeeps c s v (λ y x. (
 trims_keep c s v = record {
   all = λ y l e t a b h. h;
   hears = λ n m i z u l e t a b h p q. h p (released_from (node_at s n) m.log m.body p q);
-  keeps = λ n m o i z u q l e t a b h. kept_trimmed (Step.releases (node_at s n) m.log m.body) o l e t (handled_plain _ _ _ _ _ m.body o q) (λ p k. h p (released_from (node_at s n) m.log m.body p k));
+  keeps = λ n m o i z u q l e t a b h. kept_trimmed (Step.releases (node_at s n) m.log m.body) o l e t (handled_plain _ _ _ _ _ _ m.body o q) (λ p k. h p (released_from (node_at s n) m.log m.body p k));
   loads = λ n l e t a b h p q. h p (loaded_from (node_at s n) p q);
   formats = λ n r k w i l e t a b h. format_trimmed (node_at s n) s.register r n l e t i a b h;
   cleans = λ n j k y u q l e t a b h. kept_trimmed (node_at s n) (ops.Clean j k y) l e t refl h;
@@ -99,7 +99,7 @@ unfolding finish
 told_step c hs w v B T l y b s t i p q = elim (sent_by (Step.happens c w.state v) _ i) [
   | inl a ↦
       let j = subst (λ (z : List Msg). In (from_node l y b (bodies.TrimmedHere s t)) z) (same_sent c hs w v B.0.0 B.0.1 B.1) a in
-      let o : Reached w.state.register l (epoch_of s) = (B.1.said.sent _ j).1 in
+      let o : Reached w.state.register l (epoch_of s) = (B.1.said.sent _ j).0.1 in
       trimmed_step c w v B.0.0.0.0 y l (epoch_of s) t o.0 o.1 (T l y b s t j) p q
   | inr a ↦ let z = (sends_now c hs w v B.0.0 B.0.1 B.1).trimmed l y s t b a in inr (subst (λ (k : Plain). t ≤ (log_of k l).trim) (sym (one_state z.0.whole q)) z.1)
 ] where

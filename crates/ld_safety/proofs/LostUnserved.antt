@@ -65,14 +65,15 @@ on_page_other : (g : Log) (l : ℕ) (b : Body) (p : Op) → (on_page g l b).op �
 unfolding on_page
 on_page_other g l b p q = if_other g.lost (page_op g l b) p (page_other g l b p) q
 
-pub handled_other : (generation : ℕ) (g : Log) (l ballot released : ℕ) (b : Body) (p : Op) → (handled_by generation g l ballot released b).op ≡ Some p → is_refilled p ≡ false
+pub handled_other : (self generation : ℕ) (g : Log) (l ballot released : ℕ) (b : Body) (p : Op) → (handled_by self generation g l ballot released b).op ≡ Some p → is_refilled p ≡ false
 unfolding on_store on_digest_ask on_clean on_trim
-handled_other generation g l ballot released (bodies.Store n lng x) p q = taken_other (ops.Accept l lng (record { number = n; ballot = ballot; what = x })) p (store_decision g (record { number = n; ballot = ballot; what = x })) refl q
-handled_other generation g l ballot released (bodies.DigestAsk from) p q = taken_other (ops.Seal l ballot) p (digest_decision g ballot from) refl q
-handled_other generation g l ballot released (bodies.Clean e s) p q = clean_other l e s _ p q
-handled_other generation g l ballot released (bodies.Trim t) p q = if_other (nat_lt g.trim t) (Some (ops.Trim l t)) p (λ e. subst (λ x. is_refilled x ≡ false) (Some_inj e) refl) q
-handled_other generation g l ballot released (bodies.ReadAsk round from) p q = absurd cc
-handled_other generation g l ballot released b p q = on_page_other g l b p q
+handled_other self generation g l ballot released (bodies.Store n lng x) p q = taken_other (ops.Accept l lng (record { number = n; ballot = ballot; what = x })) p (store_decision g (record { number = n; ballot = ballot; what = x })) refl q
+handled_other self generation g l ballot released (bodies.DigestAsk from) p q = taken_other (ops.Seal l ballot) p (digest_decision g ballot from) refl q
+handled_other self generation g l ballot released (bodies.Clean e s) p q = clean_other l e s _ p q
+handled_other self generation g l ballot released (bodies.Trim t) p q = if_other (nat_lt g.trim t) (Some (ops.Trim l t)) p (λ e. subst (λ x. is_refilled x ≡ false) (Some_inj e) refl) q
+handled_other self generation g l ballot released (bodies.ReadAsk round from) p q = absurd cc
+handled_other self generation g l ballot released (bodies.ReadOne round from set excluded) p q = absurd cc
+handled_other self generation g l ballot released b p q = on_page_other g l b p q
 
 -- ---- one log ----
 abbrev pub LogUnserved : Log → ℕ → Type 0
@@ -191,7 +192,7 @@ unserved_keeps : (c : Config) (s : State) (v : Event) → NodeKeeps c s v (λ y 
 unserved_keeps c s v = record {
   all = λ y l e a b h. h;
   hears = λ n m i t u l e a b h p q. h p (released_from (node_at s n) m.log m.body p q);
-  keeps = λ n m o i t u q l e a b h. kept_unserved (Step.releases (node_at s n) m.log m.body) o l e (handled_plain _ _ _ _ _ m.body o q) (λ k z. absurd (not_refilled o k (handled_other _ _ _ _ _ m.body o q) z)) (λ p z. h p (released_from (node_at s n) m.log m.body p z));
+  keeps = λ n m o i t u q l e a b h. kept_unserved (Step.releases (node_at s n) m.log m.body) o l e (handled_plain _ _ _ _ _ _ m.body o q) (λ k z. absurd (not_refilled o k (handled_other _ _ _ _ _ _ m.body o q) z)) (λ p z. h p (released_from (node_at s n) m.log m.body p z));
   loads = λ n l e a b h p q. h p (loaded_from (node_at s n) p q);
   formats = λ n r k w i l e a b h. format_unserved (node_at s n) s.register r n l e i a b h;
   cleans = λ n j k y u q l e a b h. kept_unserved (node_at s n) (ops.Clean j k y) l e refl (λ i z. absurd (not_refilled (ops.Clean j k y) i refl z)) h;

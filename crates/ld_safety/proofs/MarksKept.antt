@@ -105,14 +105,15 @@ on_page_handled : (p : Plain) (l ballot : ℕ) (b : Body) (o : Op) → (on_page 
 unfolding on_page
 on_page_handled p l ballot b o h = if_handled p l ballot b (log_of p l).lost (page_op (log_of p l) l b) o (page_handled p l ballot b o) h
 
-handled : (p : Plain) (generation l ballot released : ℕ) (b : Body) (o : Op) → (handled_by generation (log_of p l) l ballot released b).op ≡ Some o → Handled p l ballot b o
+handled : (p : Plain) (self generation l ballot released : ℕ) (b : Body) (o : Op) → (handled_by self generation (log_of p l) l ballot released b).op ≡ Some o → Handled p l ballot b o
 unfolding on_store on_digest_ask on_clean on_trim
-handled p generation l ballot released (bodies.Store n lng x) o h = store_handled p l ballot n lng x o h
-handled p generation l ballot released (bodies.DigestAsk from) o h = other p l ballot _ o (taken_other (ops.Seal l ballot) o (digest_decision (log_of p l) ballot from) refl h)
-handled p generation l ballot released (bodies.Clean e s) o h = other p l ballot _ o (clean_other l e s _ o h)
-handled p generation l ballot released (bodies.Trim t) o h = other p l ballot _ o (if_other (nat_lt (log_of p l).trim t) (Some (ops.Trim l t)) o (λ e. subst (λ x. is_other x ≡ true) (Some_inj e) refl) h)
-handled p generation l ballot released (bodies.ReadAsk round from) o h = absurd cc
-handled p generation l ballot released b o h = on_page_handled p l ballot b o h
+handled p self generation l ballot released (bodies.Store n lng x) o h = store_handled p l ballot n lng x o h
+handled p self generation l ballot released (bodies.DigestAsk from) o h = other p l ballot _ o (taken_other (ops.Seal l ballot) o (digest_decision (log_of p l) ballot from) refl h)
+handled p self generation l ballot released (bodies.Clean e s) o h = other p l ballot _ o (clean_other l e s _ o h)
+handled p self generation l ballot released (bodies.Trim t) o h = other p l ballot _ o (if_other (nat_lt (log_of p l).trim t) (Some (ops.Trim l t)) o (λ e. subst (λ x. is_other x ≡ true) (Some_inj e) refl) h)
+handled p self generation l ballot released (bodies.ReadAsk round from) o h = absurd cc
+handled p self generation l ballot released (bodies.ReadOne round from set excluded) o h = absurd cc
+handled p self generation l ballot released b o h = on_page_handled p l ballot b o h
 
 missing_low : (g : Log) (k : ℕ) → is_missing g k ≡ true → epoch_of k ≤ g.lost_to
 unfolding is_missing
@@ -126,25 +127,25 @@ MarkedNode c made s y x = (p : Plain) → MayHold x p → Marked c made s.regist
 module _ (c : Config) (made : List Made) (s : State) (v : Event) (M : (y : ℕ) → MarkedNode c made s y (node_at s y)) (F : (y : ℕ) → FullNode (node_at s y)) (ups : (y : ℕ) → UpFine (node_at s y))
     (seals : (y l b from upto t lng : ℕ) (es : List Entry) → In (from_node l y b (bodies.DigestPage from upto t lng es)) s.network.sent → Gone (node_at s y).plain l (epoch_of from) ⊎ (b ≤ (log_of (node_at s y).plain l).sealed))
     (stores : (m : Msg) → In m s.network.sent → (y n lng : ℕ) (x : What) → m.to ≡ whos.Node y → m.body ≡ bodies.Store n lng x → 0 < (node_at s y).plain.generation → Served (log_of (node_at s y).plain m.log) (epoch_of n) → OfSet c made s.register s.network.sent y m.log n × StoreLng made m.log (ballot_of m.from) n lng)
-    (pages : (m : Msg) → In m s.network.sent → (round from upto : ℕ) (es : List Entry) → m.body ≡ bodies.ReadPage round from upto true es → (x : Entry) → In x es → HoleClosed c made s.register s.network.sent m.log x) where
+    (pages : (m : Msg) → In m s.network.sent → (n round from upto : ℕ) (es : List Entry) → m.to ≡ whos.Node n → m.body ≡ bodies.ReadPage round from upto true es → (x : Entry) → In x es → HoleClosed c made s.register s.network.sent m.log x) where
   sealed_at : (n : ℕ) → 0 < (node_at s n).plain.generation → (l b from upto t lng : ℕ) (es : List Entry) → In (from_node l n b (bodies.DigestPage from upto t lng es)) s.network.sent → Served (log_of (node_at s n).plain l) (epoch_of from) → b ≤ (log_of (node_at s n).plain l).sealed
   sealed_at n g l b from upto t lng es i sv = elim (seals n l b from upto t lng es i) [ inl z ↦ elim z [ inl a ↦ absurd (omega arith) | inr a ↦ absurd (not_served (log_of (node_at s n).plain l) (epoch_of from) a sv) ] | inr z ↦ z ]
 
-  refill_marks : (m : Msg) → In m s.network.sent → (n round from upto : ℕ) (es : List Entry) → m.body ≡ bodies.ReadPage round from upto true es → (e : Entry) → In e (lacking (log_of (node_at s n).plain m.log) es) → (epoch_of e.number ≤ (log_of (node_at s n).plain m.log).lost_to) × HoleClosed c made s.register s.network.sent m.log e
-  refill_marks m i n round from upto es h e j =
+  refill_marks : (m : Msg) → In m s.network.sent → (n round from upto : ℕ) (es : List Entry) → m.to ≡ whos.Node n → m.body ≡ bodies.ReadPage round from upto true es → (e : Entry) → In e (lacking (log_of (node_at s n).plain m.log) es) → (epoch_of e.number ≤ (log_of (node_at s n).plain m.log).lost_to) × HoleClosed c made s.register s.network.sent m.log e
+  refill_marks m i n round from upto es t h e j =
       let g = log_of (node_at s n).plain m.log in
       let a = In-map (as_closed g) e (filter (λ x. is_missing g x.number) es) j in
       let f = In_filter (λ (x : Entry). is_missing g x.number) a.0 es a.1 in
-      subst (λ (z : Entry). (epoch_of z.number ≤ g.lost_to) × HoleClosed c made s.register s.network.sent m.log z) (sym a.2) (missing_low g a.0.number f.1, pages m i round from upto es h a.0 f.0)
+      subst (λ (z : Entry). (epoch_of z.number ≤ g.lost_to) × HoleClosed c made s.register s.network.sent m.log z) (sym a.2) (missing_low g a.0.number f.1, pages m i n round from upto es t h a.0 f.0)
 
-  op_marks : (n : ℕ) (m : Msg) (o : Op) → In m s.network.sent → m.to ≡ whos.Node n → 0 < (node_at s n).plain.generation → (Step.node_handles (node_at s n) m).op ≡ Some o → OpMarks c made s.register s.network.sent n (node_at s n).plain o
-  op_marks n m o i t g q = let h = handled (node_at s n).plain _ m.log (ballot_of m.from) _ m.body o q in record {
-    plain = handled_plain _ _ _ _ _ m.body o q;
+  op_marks : (n : ℕ) (m : Msg) (o : Op) → In m s.network.sent → m.to ≡ whos.Node n → 0 < (node_at s n).plain.generation → (Step.node_handles n (node_at s n) m).op ≡ Some o → OpMarks c made s.register s.network.sent n (node_at s n).plain o
+  op_marks n m o i t g q = let h = handled (node_at s n).plain _ _ m.log (ballot_of m.from) _ m.body o q in record {
+    plain = handled_plain _ _ _ _ _ _ m.body o q;
     formatted = g;
     accept = λ l lng e k. (let z = h.accept l lng e k in let u = stores m i n e.number lng e.what t z.1 g z.2 in
         subst (λ j. Served (log_of (node_at s n).plain j) (epoch_of e.number) × ((log_of (node_at s n).plain j).sealed ≤ e.ballot) × OfSet c made s.register s.network.sent n j e.number × StoreLng made j e.ballot e.number lng) (sym z.0) (z.2, z.3, u.0, subst (λ b. StoreLng made m.log b e.number lng) (sym z.4) u.1));
-    refilled = λ k z. absurd (not_refilled o k (handled_other _ _ _ _ _ m.body o q) z);
-    refill = λ l xs k e j. (let z = h.refill l xs k in subst (λ a. (epoch_of e.number ≤ (log_of (node_at s n).plain a).lost_to) × HoleClosed c made s.register s.network.sent a e) (sym z.0) (refill_marks m i n z.1.0 z.1.1 z.1.2 z.1.3 z.1.4 e (subst (In e) z.1.5 j)));
+    refilled = λ k z. absurd (not_refilled o k (handled_other _ _ _ _ _ _ m.body o q) z);
+    refill = λ l xs k e j. (let z = h.refill l xs k in subst (λ a. (epoch_of e.number ≤ (log_of (node_at s n).plain a).lost_to) × HoleClosed c made s.register s.network.sent a e) (sym z.0) (refill_marks m i n z.1.0 z.1.1 z.1.2 z.1.3 t z.1.4 e (subst (In e) z.1.5 j)));
     sealed = sealed_at n g;
   }
 

@@ -23,7 +23,7 @@ module _ (c : Config) (s : State) (e : Event) (N : NamesOnce s) where
   kept_cases = record {
     still = λ f i. N;
     says = λ x q. N;
-    node_hears = λ f n m i t v o. handled f (Step.releases (node_at s n) m.log m.body) n m (Step.node_handles (node_at s n) m).op (Step.node_handles (node_at s n) m).answer;
+    node_hears = λ f n m i t v o. handled f (Step.releases (node_at s n) m.log m.body) n m (Step.node_handles n (node_at s n) m).op (Step.node_handles n (node_at s n) m).answer;
     loads = λ n ls q b o. N;
     draw_fails = λ n b. N;
     formats = λ n r g b w i. N;
@@ -43,7 +43,7 @@ module _ (c : Config) (s : State) (e : Event) (N : NamesOnce s) where
     activate_fails = λ name l x g q. N;
     answers = λ f name d m i t v o. with_reader_once name _;
     polls = λ name d v o. with_reader_once name _;
-    opens = λ name l from until o x. with_reader_once name _;
+    opens = λ style name l from until o x. with_reader_once name _;
   } where
     with_sequencer_once : (name : List ℕ) (q : Sequencer) → NamesOnce (with_sequencer s name q)
     with_sequencer_once name q = (Once-put name q s.sequencers N.0, N.1)

@@ -23,7 +23,7 @@ module _ (c : Config) (s : State) (e : Event) (P : ℕ → Node → Type 0) wher
   pub record NodeKeeps : Type 0 where
     pub all : (y : ℕ) → P y (node_at s y)
     pub hears : (n : ℕ) (m : Msg) → In m s.network.sent → m.to ≡ whos.Node n → Serves c s n m.log → P n (Step.releases (node_at s n) m.log m.body)
-    pub keeps : (n : ℕ) (m : Msg) (o : Op) → In m s.network.sent → m.to ≡ whos.Node n → Serves c s n m.log → (Step.node_handles (node_at s n) m).op ≡ Some o → P n (keep_op (Step.releases (node_at s n) m.log m.body) o)
+    pub keeps : (n : ℕ) (m : Msg) (o : Op) → In m s.network.sent → m.to ≡ whos.Node n → Serves c s n m.log → (Step.node_handles n (node_at s n) m).op ≡ Some o → P n (keep_op (Step.releases (node_at s n) m.log m.body) o)
     pub loads : (n : ℕ) → P n (load (node_at s n))
     pub formats : (n : ℕ) (r : Register) → is_blank (node_at s n).status ≡ true → load_end (node_at s n) ≡ Written → draw s.register n ≡ record { register = r; answer = Granted } → P n (keep_op (load (node_at s n)) (ops.Format (generation_of r n) (epochs_in r.logs)))
     pub cleans : (n l k : ℕ) (y : Summary) → Serves c s n l → on_tick (log_of (node_at s n).plain l) (epochs_of s.register l).summaries ≡ Cleans k y → P n (keep_op (node_at s n) (ops.Clean l k y))
@@ -65,7 +65,7 @@ module _ (c : Config) (s : State) (e : Event) (P : ℕ → Node → Type 0) wher
     node_cases = record {
       still = λ f i. K.all;
       says = λ x q. K.all;
-      node_hears = λ f n m i t v o. handled f n m (Step.node_handles (node_at s n) m).op (Step.node_handles (node_at s n) m).answer (K.hears n m i t v) (λ p q. K.keeps n m p i t v q);
+      node_hears = λ f n m i t v o. handled f n m (Step.node_handles n (node_at s n) m).op (Step.node_handles n (node_at s n) m).answer (K.hears n m i t v) (λ p q. K.keeps n m p i t v q);
       loads = λ n ls q b o. put_node s n (load (node_at s n)) (K.loads n) K.all;
       draw_fails = λ n b. put_node s n (load (node_at s n)) (K.loads n) K.all;
       formats = λ n r g b v i. formatted n r (K.formats n r b v i);
@@ -85,5 +85,5 @@ module _ (c : Config) (s : State) (e : Event) (P : ℕ → Node → Type 0) wher
       activate_fails = λ name l x g q. K.all;
       answers = λ f name d m i t v o. K.all;
       polls = λ name d v o. K.all;
-      opens = λ name l from until o x. K.all;
+      opens = λ style name l from until o x. K.all;
     }

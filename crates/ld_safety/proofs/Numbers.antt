@@ -26,7 +26,7 @@ use Rattle.ld_msg.specs.Register.{swap, swapped_epochs, Register, View, Changed,
 use Rattle.ld_machine.specs.Disk.{Node, keep_end}
 use Rattle.ld_msg.specs.Sequencer.{Sequencer, Acts, Appending, TooLong, EpochFull, Numbered, or_preempted, payload_limit, appending, appended, fresh_append, next_esn, activated, on_reply, on_retry, called, Attempt}
 use Rattle.ld_machine.specs.State.{State, Done, finish, node_at, with_node, with_register}
-use Rattle.ld_machine.specs.Facts.{Happened, Writes, Appends, sequencer_log, log_activated, activates_name}
+use Rattle.ld_machine.specs.Facts.{Happened, Writes, Appends, sequencer_log, log_activated, activates_name, AsksToAppend}
 use Rattle.ld_machine.specs.Safe.{NumbersRise, NumbersDiffer}
 use Rattle.ld_machine.specs.World.{World, In}
 use Rattle.ld_machine.specs.Run.{history}
@@ -41,6 +41,7 @@ use Rattle.ld_safety.proofs.Lines.{Group, OfNodes, OfNumbers, OfActs, OfTrims, O
 use Rattle.ld_safety.proofs.Appends.{RowOf, Continues, row_end}
 use Rattle.ld_safety.proofs.Continues.{stays_same, reply_continues, retry_continues}
 use Rattle.ld_safety.proofs.RegisterSteps.{Same, Advanced, activate_granted, activate_leaves, close_leaves, draw_leaves, swap_leaves, epochs_put, epochs_same}
+use Rattle.ld_batch.specs.Batch.{packed}
 
 -- ---- what the steps say of a name ----
 
@@ -389,7 +390,7 @@ module _ (c : Config) (hs : List Happened) (w : World) (e : Event) (N : NamesOnc
   count_cases = record {
     still = λ f i. stays _ refl no_rise sends_nothing;
     says = λ x q. stays _ refl no_rise (quiet_says x q);
-    node_hears = λ f n m i t v o. handled f (Step.releases (node_at w.state n) m.log m.body) n m (Step.node_handles (node_at w.state n) m).op (Step.node_handles (node_at w.state n) m).answer;
+    node_hears = λ f n m i t v o. handled f (Step.releases (node_at w.state n) m.log m.body) n m (Step.node_handles n (node_at w.state n) m).op (Step.node_handles n (node_at w.state n) m).answer;
     loads = λ n ls q b o. stays _ refl no_rise (quiet_all ls q);
     draw_fails = λ n b. stays _ refl (draw_rises w.state.register n) (nodes (lines.NodeRefusedRegister n ∷ []) (one_of (lines.NodeRefusedRegister n)));
     formats = λ n r g b v i. keeps_one (with_register (loaded w.state n) r) n (ops.Format (generation_of r n) (epochs_in r.logs)) (Step.format_lines c n r) [] refl (subst (λ (d : Changed). Rises w.state.register d.register) i (draw_rises w.state.register n)) (format_of c n r);
@@ -407,9 +408,9 @@ module _ (c : Config) (hs : List Happened) (w : World) (e : Event) (N : NamesOnc
     activates = λ name l r g n i x. activates_one _ name l (epochs_of r l).epoch (lce_of r l) (looks_at c r l) (Step.spec_set c w.state l) refl (activate_granted w.state.register l (Step.spec_set c w.state l) r i) refl refl n (subst (λ (d : Changed). Rises w.state.register d.register) i (activate_rises w.state.register l (Step.spec_set c w.state l))) x;
     swaps = λ n m l x r q i. stays _ refl (swap_rises w.state.register l _ m n) (quiet_says x q);
     activate_fails = λ name l x g q. stays _ refl (activate_rises w.state.register l (Step.spec_set c w.state l)) (quiet_says x q);
-    answers = λ f name d m i t v o. stays _ refl no_rise (λ s. groups_apart s OfItems _ (λ h. cc) (items_of name _ (on_answer (looks_at c w.state.register d.log) d (Step.sender_node m.from) m.body).items));
+    answers = λ f name d m i t v o. stays _ refl no_rise (λ s. groups_apart s OfItems _ (λ h. cc) (items_of _ name _ (on_answer (looks_at c w.state.register d.log) d (Step.sender_node m.from) m.body).items));
     polls = λ name d v o. stays _ refl no_rise sends_nothing;
-    opens = λ name l from until o x. stays _ refl no_rise sends_nothing;
+    opens = λ style name l from until o x. stays _ refl no_rise sends_nothing;
   }
 
 pub counts_kept : (c : Config) → Keeps c (λ hs w. NamesOnce w.state × AllCounts hs w)
@@ -456,12 +457,19 @@ module _ (hs : List Happened) (m : List (List ℕ × Sequencer)) (r : Register) 
         | inr (inr h) ↦ absurd (let r = rises_all a.name n n k j v a.told h in omega arith)
       ]
 
+  -- one event appends one payload
+  asks_once : (s t p q : List ℕ) (e : Event) → AsksToAppend s p e → AsksToAppend t q e → p ≡ q
+  asks_once s t p q e (inl a) (inl b) = let z : events.Append s p ≡ events.Append t q = sym a ∙ b in cc
+  asks_once s t p q e (inl a) (inr b) = absurd (let z : events.Append s p ≡ events.Batch t b.0 = sym a ∙ b.1 in cc)
+  asks_once s t p q e (inr a) (inl b) = absurd (let z : events.Append t q ≡ events.Batch s a.0 = sym b ∙ a.1 in cc)
+  asks_once s t p q e (inr a) (inr b) = let z : events.Batch s a.0 ≡ events.Batch t b.0 = sym a.1 ∙ b.1 in let m : a.0 ≡ b.0 = cc in a.2 ∙ (ap packed m ∙ sym b.2)
+
   -- with one payload
   pub one_payload : (l n j k : ℕ) (p q : List ℕ) → Appends hs l n p j → Appends hs l n q k → p ≡ q
   one_payload l n j k p q a b =
       let s = one_step l n j k p q a b in
       let h : a.here ≡ b.here = Some_inj (sym a.at ∙ (ap (slice_get hs) s ∙ b.at)) in
-      let e : events.Append a.name p ≡ events.Append b.name q = sym a.asked ∙ (ap (λ (x : Happened). x.event) h ∙ b.asked) in cc
+      asks_once a.name b.name p q b.here.event (subst (λ (x : Happened). AsksToAppend a.name p x.event) h a.asked) b.asked
 
 -- ---- the laws ----
 

@@ -4,7 +4,7 @@ use Rattle.ld_table.specs.Words.{numbers_from}
 use Rattle.std.proofs.lemmas.Bool.{cases_Bool, and_parts, ltb-true, ltb-false, leb-true, leb-false, lt-ltb, eqb-true, eq-eqb, cases_lt}
 use Rattle.ld_lsn.specs.Number.{epoch_of, esn_of, numbered, last_esn}
 use Rattle.ld_msg.specs.declared.msg.What.{What}
-use Rattle.ld_msg.specs.declared.msg.What.TheVariants.{Rec, Hole, Bridge, Plug}
+use Rattle.ld_msg.specs.declared.msg.What.TheVariants.{Rec, Hole, Bridge, Plug, Withheld}
 use Rattle.ld_msg.specs.declared.msg.Entry.{Entry}
 use Rattle.ld_msg.specs.Digest.{better, is_bridge, says, statement, Told, best, is_content, record_or, content, digest_trim, digest_lng, trim_place, top_in, top_place, plan_floor, plan_end, plan_item, Item, record_items, no_record, plan}
 use Rattle.ld_machine.specs.World.{In}
@@ -36,12 +36,14 @@ pub bridge_what : (w : What) → is_bridge w ≡ true → w ≡ Bridge
 bridge_what (Rec p) h = absurd cc
 bridge_what Hole h = absurd cc
 bridge_what Plug h = absurd cc
+bridge_what Withheld h = absurd cc
 bridge_what Bridge h = refl
 
 pub no_bridge : (w : What) → (w ≡ Bridge → ⊥) → is_bridge w ≡ false
 no_bridge (Rec p) h = refl
 no_bridge Hole h = refl
 no_bridge Plug h = refl
+no_bridge Withheld h = refl
 no_bridge Bridge h = absurd (h refl)
 
 says_of : (s : ℕ) (e f : Entry) → says s e ≡ Some f → (e ≡ f) × ((e.number ≡ s) ⊎ ((e.number < s) × (e.what ≡ Bridge)))
@@ -253,9 +255,27 @@ content_no_bridge b (Some e) h = by_what b e.what h where
   by_what true Hole g = cc
   by_what true Bridge g = cc
   by_what true Plug g = cc
+  by_what true Withheld g = cc
   by_what false Hole g = cc
   by_what false Bridge g = cc
   by_what false Plug g = cc
+  by_what false Withheld g = cc
+
+-- no plan withholds a record
+pub content_no_withheld : (b : Bool) (o : Option Entry) → content b o ≡ Withheld → ⊥
+content_no_withheld true None h = cc
+content_no_withheld false None h = cc
+content_no_withheld b (Some e) h = by_what b e.what h where
+  by_what : (b : Bool) (w : What) → record_or (no_record b) w ≡ Withheld → ⊥
+  by_what b (Rec p) g = cc
+  by_what true Hole g = cc
+  by_what true Bridge g = cc
+  by_what true Plug g = cc
+  by_what true Withheld g = cc
+  by_what false Hole g = cc
+  by_what false Bridge g = cc
+  by_what false Plug g = cc
+  by_what false Withheld g = cc
 
 -- the items of a plan are those of its places
 record_items_in : (e : ℕ) (b : Bool) (d : List Told) (ns : List ℕ) (i : Item) → In i (record_items e b d ns) → (n : ℕ) × In n ns × (i.number ≡ numbered e n) × (i.what ≡ content b (best (numbered e n) d))

@@ -28,6 +28,7 @@ use Rattle.ld_safety.proofs.Events.{NamesOnce, Cases, refreshed, loaded}
 use Rattle.ld_safety.proofs.Steps.{sent_by}
 use Rattle.ld_safety.proofs.NamesKept.{with_names}
 use Rattle.ld_safety.proofs.ReaderSteps.{ReadKeeps, answered}
+use Rattle.ld_msg.specs.declared.style.Style.{Style}
 
 -- ---- lengths ----
 length-put : {X : Type 0} (k : List ℕ) (v : X) (m : List (List ℕ × X)) → length m ≤ length (put_named k v m)
@@ -181,6 +182,7 @@ same_keeps looks d y b = record {
   bridge = λ a g n t. record { number = g.number; log = g.log };
   lossy_end = λ a g n t. record { number = g.number; log = g.log };
   confirm = λ a g n m t. record { number = g.number; log = g.log };
+  asks_all = λ a g t. record { number = g.number; log = g.log };
   polls_on = λ a g t. record { number = g.number; log = g.log };
 }
 
@@ -234,15 +236,15 @@ module _ (c : Config) (w : World) (A : Apart w.state.network.sent w.state.reader
   polled_one : (name : List ℕ) (d : Reader) → find_named name w.state.readers ≡ Some d → Result (record { state = with_reader w.state name (polled (looks_at c w.state.register d.log) d); lines = []; sends = posted (whos.Reader d.number) d.log (poll_asks (looks_at c w.state.register d.log) d) })
   polled_one name d h = more_asks w.state.network.sent (put_named name (polled (looks_at c w.state.register d.log) d) w.state.readers) name (polled (looks_at c w.state.register d.log) d) (poll_asks (looks_at c w.state.register d.log) d) _ refl refl refl (here name (polled (looks_at c w.state.register d.log) d) w.state.readers) (goes_on w.state.network.sent w.state.readers name d (polled (looks_at c w.state.register d.log) d) h refl refl A)
 
-  opened_one : (name : List ℕ) (l from until : ℕ) → find_named name w.state.readers ≡ None → Result (only_state (with_reader w.state name (opened l (length w.state.readers) from until)))
-  opened_one name l from until h = let x = opened l (length w.state.readers) from until in
+  opened_one : (style : Style) (name : List ℕ) (l from until : ℕ) → find_named name w.state.readers ≡ None → Result (only_state (with_reader w.state name (opened style l (length w.state.readers) from until)))
+  opened_one style name l from until h = let x = opened style l (length w.state.readers) from until in
       more_messages w.state.network.sent (put_named name x w.state.readers) (only_state (with_reader w.state name x)) refl refl (λ m i. absurd i) (one_opened w.state.network.sent w.state.readers name x h refl A)
 
   pub apart_cases : (e : Event) → Cases c w.state e (λ d m. Result d)
   apart_cases e = record {
     still = λ f i. silent _ refl refl refl;
     says = λ x q. silent _ refl refl refl;
-    node_hears = λ f n m i t v o. handled f (Step.releases (node_at w.state n) m.log m.body) n m i (Step.node_handles (node_at w.state n) m).op (Step.node_handles (node_at w.state n) m).answer;
+    node_hears = λ f n m i t v o. handled f (Step.releases (node_at w.state n) m.log m.body) n m i (Step.node_handles n (node_at w.state n) m).op (Step.node_handles n (node_at w.state n) m).answer;
     loads = λ n ls q b o. silent _ refl refl refl;
     draw_fails = λ n b. silent _ refl refl refl;
     formats = λ n r g b v i. to_nodes (Step.keeps_op (with_register (loaded w.state n) r) n (ops.Format (generation_of r n) (epochs_in r.logs)) (Step.format_lines c n r) []) refl refl
@@ -263,7 +265,7 @@ module _ (c : Config) (w : World) (A : Apart w.state.network.sent w.state.reader
     activate_fails = λ name l x g q. silent _ refl refl refl;
     answers = λ f name d m i t v o. reads f name d (Step.sender_node m.from) m.body v.named;
     polls = λ name d v o. polled_one name d v.named;
-    opens = λ name l from until o x. opened_one name l from until o.fresh_name;
+    opens = λ style name l from until o x. opened_one style name l from until o.fresh_name;
   }
 
 pub apart_start : Apart [] []

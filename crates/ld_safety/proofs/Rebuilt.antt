@@ -121,10 +121,10 @@ module _ (c : Config) (s : State) (e : Event) (U : (y : ℕ) → UpFine (node_at
   load_still : (n : ℕ) → AllStill (loaded s n)
   load_still n = put_still s n (load (node_at s n)) (λ l W p h. W p (loaded_from (node_at s n) p h)) same
 
-  handled : (f : List ℕ) (n : ℕ) (m : Msg) (o : Option Op) (b : Option Body) → (Step.node_handles (node_at s n) m).op ≡ o → AllStill (Step.handles (with_node (refreshed s f) n (Step.releases (node_at s n) m.log m.body)) n m o b).state
+  handled : (f : List ℕ) (n : ℕ) (m : Msg) (o : Option Op) (b : Option Body) → (Step.node_handles n (node_at s n) m).op ≡ o → AllStill (Step.handles (with_node (refreshed s f) n (Step.releases (node_at s n) m.log m.body)) n m o b).state
   handled f n m None b q = put_still (refreshed s f) n (Step.releases (node_at s n) m.log m.body) (λ l W p h. W p (released_from (node_at s n) m.log m.body p h)) same
   handled f n m (Some o) b q = let x : Node = Step.releases (node_at s n) m.log m.body in let t : State = with_node (refreshed s f) n x in
-      put_still t n (keep_op (node_at t n) o) (λ l W. subst (λ z. Whole l (keep_op z o)) (sym (node_here (refreshed s f) n x)) (op_whole x o l (handled_plain _ _ _ _ _ m.body o q) (λ p h. W p (released_from (node_at s n) m.log m.body p h))))
+      put_still t n (keep_op (node_at t n) o) (λ l W. subst (λ z. Whole l (keep_op z o)) (sym (node_here (refreshed s f) n x)) (op_whole x o l (handled_plain _ _ _ _ _ _ m.body o q) (λ p h. W p (released_from (node_at s n) m.log m.body p h))))
       (put_still (refreshed s f) n x (λ l W p h. W p (released_from (node_at s n) m.log m.body p h)) same)
 
   ticked : (n l : ℕ) (t : Ticked) → AllStill (Step.ticks_as c s n l t).state
@@ -147,7 +147,7 @@ module _ (c : Config) (s : State) (e : Event) (U : (y : ℕ) → UpFine (node_at
   whole_cases = record {
     still = λ f i. by_state _ same;
     says = λ x q. by_state _ same;
-    node_hears = λ f n m i t v o. by_state _ (handled f n m (Step.node_handles (node_at s n) m).op (Step.node_handles (node_at s n) m).answer refl);
+    node_hears = λ f n m i t v o. by_state _ (handled f n m (Step.node_handles n (node_at s n) m).op (Step.node_handles n (node_at s n) m).answer refl);
     loads = λ n ls q b o. by_state _ (load_still n);
     draw_fails = λ n b. by_state _ (load_still n);
     formats = λ n r g b v i. by_state _ (formatted n r b);
@@ -167,7 +167,7 @@ module _ (c : Config) (s : State) (e : Event) (U : (y : ℕ) → UpFine (node_at
     activate_fails = λ name l x g q. by_state _ same;
     answers = λ f name d m i t v o. by_state _ same;
     polls = λ name d v o. by_state _ same;
-    opens = λ name l from until o x. by_state _ same;
+    opens = λ style name l from until o x. by_state _ same;
   }
 
   -- who is rebuilt was lost, and is whole
@@ -237,7 +237,7 @@ module _ (c : Config) (s : State) (e : Event) (U : (y : ℕ) → UpFine (node_at
   rebuild_cases = record {
     still = λ f i. nobody _ (λ a l z. z);
     says = λ x q. nobody _ (not_quiet (x ∷ []) (quiet_one x q));
-    node_hears = λ f n m i t v o. hears_none f (Step.releases (node_at s n) m.log m.body) n m (Step.node_handles (node_at s n) m).op (Step.node_handles (node_at s n) m).answer;
+    node_hears = λ f n m i t v o. hears_none f (Step.releases (node_at s n) m.log m.body) n m (Step.node_handles n (node_at s n) m).op (Step.node_handles n (node_at s n) m).answer;
     loads = λ n ls q b o. nobody _ (not_quiet ls q);
     draw_fails = λ n b. nobody _ (not_one (lines.NodeRefusedRegister n) (λ a l z. cc));
     formats = λ n r g b v i. nobody _ (not_kept n (Step.format_lines c n r) (keep_end (node_at (with_register (loaded s n) r) n) (ops.Format (generation_of r n) (epochs_in r.logs))) (not_format n r));
@@ -255,9 +255,9 @@ module _ (c : Config) (s : State) (e : Event) (U : (y : ℕ) → UpFine (node_at
     activates = λ name l r g n i x. nobody _ (not_one (lines.Active name _) (λ a l z. cc));
     swaps = λ n m l x r q i. nobody _ (not_quiet (x ∷ []) (quiet_one x q));
     activate_fails = λ name l x g q. nobody _ (not_quiet (x ∷ []) (quiet_one x q));
-    answers = λ f name d m i t v o. nobody _ (not_group OfItems _ (λ h. cc) (items_of name _ _));
+    answers = λ f name d m i t v o. nobody _ (not_group OfItems _ (λ h. cc) (items_of _ name _ _));
     polls = λ name d v o. nobody _ (λ a l z. z);
-    opens = λ name l from until o x. nobody _ (λ a l z. z);
+    opens = λ style name l from until o x. nobody _ (λ a l z. z);
   }
 
 -- ---- along a run ----

@@ -47,7 +47,7 @@ module _ (c : Config) (s : State) (e : Event) (P : Register → Type 0) (same : 
   register_cases = record {
     still = λ f i. same;
     says = λ x q. same;
-    node_hears = λ f n m i t v o. handled f n m (Step.releases (node_at s n) m.log m.body) (Step.node_handles (node_at s n) m).op (Step.node_handles (node_at s n) m).answer;
+    node_hears = λ f n m i t v o. handled f n m (Step.releases (node_at s n) m.log m.body) (Step.node_handles n (node_at s n) m).op (Step.node_handles n (node_at s n) m).answer;
     loads = λ n ls q b o. same;
     draw_fails = λ n b. draws n;
     formats = λ n r g b v i. subst (λ (d : Changed). P d.register) i (draws n);
@@ -67,7 +67,7 @@ module _ (c : Config) (s : State) (e : Event) (P : Register → Type 0) (same : 
     activate_fails = λ name l x g q. acts l g;
     answers = λ f name d m i t v o. same;
     polls = λ name d v o. same;
-    opens = λ name l from until o x. same;
+    opens = λ style name l from until o x. same;
   }
 
   pub register_kept : NamesOnce s → P (Step.happens c s e).state.register

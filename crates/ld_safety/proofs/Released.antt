@@ -47,6 +47,8 @@ use Rattle.ld_safety.proofs.CarriedNodes as nodes
 use Rattle.ld_safety.proofs.CarriedSequencers as sequencers
 use Rattle.ld_safety.proofs.Appends.{own_epoch}
 use Rattle.ld_safety.proofs.Has as has
+use Rattle.ld_safety.proofs.Withheld.{told_in, told_entry}
+use Rattle.ld_safety.proofs.Carried.{message_whole}
 
 -- a released number covers numbers of its epoch that were acknowledged in lines
 abbrev pub ReleaseLines : List Happened → ℕ → ℕ → Type 0
@@ -62,7 +64,7 @@ abbrev pub Releases : Config → List Happened → State → Type 0
 Releases c hs s = Carries c s (events.Flow 0) (GivenEntry hs) AnyTrim AnySummary AnyEpoch AnyShown (ReleaseLines hs) (GivenEntry hs) SmallGood s
 
 releases_sound : (hs : List Happened) → carried.Sound (GivenEntry hs) AnyTrim AnySummary AnyEpoch AnyShown (ReleaseLines hs) (GivenEntry hs) SmallGood
-releases_sound hs = record { zero_trim = λ l. tt; place = λ l b n w g. g.place.above; reached = λ l b n w g. tt; closing_trim = λ l e y h. tt; zero_closed = λ l. tt; zero_released = λ l pos. absurd (omega arith); kept = λ l b n w g. g; zero_good = λ l e. omega arith; good_below = λ l e g h. h }
+releases_sound hs = record { zero_trim = λ l. tt; place = λ l b n w g. g.place.above; reached = λ l b n w g. tt; closing_trim = λ l e y h. tt; zero_closed = λ l. tt; zero_released = λ l pos. absurd (omega arith); kept = λ l b n w g. g; zero_good = λ l e. omega arith; good_below = λ l e g h. h; whole = λ l b n w g. g.kept }
 
 released_lines : (hs : List Happened) (q : Sequencer) → LinesFine hs q → next_esn q ≤ last_esn → ReleaseLines hs q.log (released_of q)
 released_lines hs q F small = cond_both (nat_lt (q.lce + 1) q.epoch) (epoch_end q.lce) (numbered q.epoch q.lng) (ReleaseLines hs q.log) (λ t pos. absurd (omega arith))
@@ -93,9 +95,9 @@ module _ (c : Config) (hs : List Happened) (w : World) (e : Event) (B : BaseGive
     trim = λ name q point v b x. tt;
     planned = λ name q v d loss gone l r D m i j. let low = sequencers.digest_good (GivenEntry next) AnyTrim AnySummary AnyEpoch AnyShown (ReleaseLines next) (GivenEntry next) SmallGood (releases_sound next) q.log v.epoch _ D in (plan_given next q.log q.epoch v.epoch _ (λ z o x k. (D z o).entries x k) low loss i j, plan_epoch next q.log q.epoch v.epoch _ (λ z o x k. (D z o).entries x k) low loss i j);
     closed = λ name q v y short l r d k g. tt;
-    refill = λ n m round from upto es i t v b u x j k. let z : carried.MsgOk (GivenEntry next) AnyTrim AnySummary AnyEpoch AnyShown (ReleaseLines next) (GivenEntry next) SmallGood m = now.sent m i in
-        let y : carried.AllKeptOk (GivenEntry next) AnyTrim AnySummary AnyEpoch AnyShown (ReleaseLines next) (GivenEntry next) SmallGood m.log es = (subst (carried.BodyOk (GivenEntry next) AnyTrim AnySummary AnyEpoch AnyShown (ReleaseLines next) (GivenEntry next) SmallGood m.log m.from) b z).0 in
-        let o = y x j in record { place = o.place; appended = o.appended };
+    refill = λ n m round from upto es i t v b u x j k. let z : carried.BodyOk (GivenEntry next) AnyTrim AnySummary AnyEpoch AnyShown (ReleaseLines next) (GivenEntry next) SmallGood m.log m.from m.body = (now.sent m i).0 in
+        let y : carried.AllKeptOk (GivenEntry next) AnyTrim AnySummary AnyEpoch AnyShown (ReleaseLines next) (GivenEntry next) SmallGood m.log (told_in es) = (subst (carried.BodyOk (GivenEntry next) AnyTrim AnySummary AnyEpoch AnyShown (ReleaseLines next) (GivenEntry next) SmallGood m.log m.from) b z).0.0 in
+        let o = y x (told_entry x es j (message_whole m n round from upto es t b (now.sent m i).1 x j)) in record { place = o.place; appended = o.appended; kept = o.kept };
     shows = λ n l v. record { clean = λ f z k x a h b t i u o n. tt; open_still = λ f k x t i u o. tt };
     good = λ name q f. (let u = (counts_of c hs w B.0.0 name q f).small in omega arith);
     own = λ name q f. let u = counts_of c hs w B.0.0 name q f in own_epoch q u.row u.small;
@@ -152,7 +154,7 @@ module _ (c : Config) (s : State) (e : Event) where
   trim_cases = record {
     still = λ f i. others OfNodes _ (λ h. cc) (none_of OfNodes);
     says = λ x q. quiets _ (quiet_one x q);
-    node_hears = λ f n m i t v o. handled f (Step.releases (node_at s n) m.log m.body) n m (Step.node_handles (node_at s n) m).op (Step.node_handles (node_at s n) m).answer;
+    node_hears = λ f n m i t v o. handled f (Step.releases (node_at s n) m.log m.body) n m (Step.node_handles n (node_at s n) m).op (Step.node_handles n (node_at s n) m).answer;
     loads = λ n ls q a o. quiets _ q;
     draw_fails = λ n a. others OfNodes _ (λ h. cc) (one_of (lines.NodeRefusedRegister n));
     formats = λ n r g a v i. others OfNodes _ (λ h. cc) (kept_of n (Step.format_lines c n r) (keep_end (node_at (with_register (loaded s n) r) n) (ops.Format (generation_of r n) (epochs_in r.logs))) (format_of c n r));
@@ -170,9 +172,9 @@ module _ (c : Config) (s : State) (e : Event) where
     activates = λ name l r g n i x. others OfNumbers _ (λ h. cc) (one_of (lines.Active name _));
     swaps = λ n m l x r q i. quiets _ (quiet_one x q);
     activate_fails = λ name l x g q. quiets _ (quiet_one x q);
-    answers = λ f name d m i t v o. others OfItems _ (λ h. cc) (items_of name _ _);
+    answers = λ f name d m i t v o. others OfItems _ (λ h. cc) (items_of _ name _ _);
     polls = λ name d v o. others OfNodes _ (λ h. cc) (none_of OfNodes);
-    opens = λ name l from until o x. others OfNodes _ (λ h. cc) (none_of OfNodes);
+    opens = λ style name l from until o x. others OfNodes _ (λ h. cc) (none_of OfNodes);
   }
 
 -- ---- the epoch of a point ----
@@ -231,7 +233,7 @@ module _ (c : Config) (hs : List Happened) (w : World) (R : Releasing c hs w) wh
 
   pub releases_here : ReleasesAcked hs w
   releases_here = record {
-    in_messages = λ m r i j pos. told_release r m m.body (R.1.0.sent m i) (R.0.0.1.said.sent m i) j pos;
+    in_messages = λ m r i j pos. told_release r m m.body (R.1.0.sent m i).0 (R.0.0.1.said.sent m i).0 j pos;
     at_nodes = λ y l r f pos. (let q : Step.released_at (node_at w.state y) l ≡ r = ap (λ (o : Option ℕ). unwrap_or o 0) f in
         released_of_lines l r pos (subst (ReleaseLines hs l) q ((R.1.0.nodes y).released l)) (subst (ReleaseFine c hs w.state.network.sent w.state.register l) q ((R.0.0.1.said.nodes y).released l)));
   }

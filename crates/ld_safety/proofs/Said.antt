@@ -46,6 +46,8 @@ pub use Rattle.ld_safety.proofs.Settled.{Open, Reached}
 use Rattle.ld_safety.proofs.Settled.{OfLoss, FreshLosses, of_loss_grows, TrimFine, CloseFine, ShowFine, ReleaseFine, LngFine, KnownGood, ClosedEntry, Summarized, Stays, acked_grows, trim_fine_grows, lng_fine_grows, close_fine_grows, show_grows, known_good_grows, release_grows, summarized_grows}
 use Rattle.ld_safety.proofs.Closings.{OfSummaries, summaries_after}
 use Rattle.ld_safety.proofs.SequencerSteps.{Ending, OfStored, ended_by}
+use Rattle.ld_safety.proofs.Withheld.{told_entry}
+use Rattle.ld_safety.proofs.Carried.{message_whole}
 
 pub record Said (hs : List Happened) (made : List Made) (r : Register) (l b n : ℕ) (x : What) : Type 0 where
   pub given : GivenEntry hs l b n x
@@ -166,6 +168,7 @@ module _ (c : Config) (hs : List Happened) (w : World) (e : Event) (B : Base c h
       kept = λ l b n x s. record { given = s.given; reached = s.reached; says = inl s.says };
       zero_good = λ l k n a b o. absurd (omega arith);
       good_below = λ l k g h. good_low c next after reg l k g h;
+      whole = λ l b n x s. s.given.kept;
     }
 
     reached_own : (name : List ℕ) (q : Sequencer) → find_named name w.state.sequencers ≡ Some q → Reached reg q.log q.epoch
@@ -238,7 +241,7 @@ module _ (c : Config) (hs : List Happened) (w : World) (e : Event) (B : Base c h
         let same : f.0 ≡ s.summary = elim k.1 [ inl z ↦ absurd (let p = s.closed.positive in let y = z.0 in omega arith) | inr z ↦ Some_inj (sym z.found_so ∙ s.closed.found_so) ] in
         let b : ballot_of x.ballot (find (epoch_of x.number) (log_of (node_at w.state n).plain l).summaries) ≡ s.summary.ballot = ap (ballot_of x.ballot) f.1 ∙ ap (λ (z : Summary). z.ballot) same in
         subst (λ v. HereNow l v x.number x.what) (sym b) (record {
-          given = record { place = d.given.place; appended = d.given.appended };
+          given = record { place = d.given.place; appended = d.given.appended; kept = d.given.kept };
           reached = d.reached;
           says = elim s.says [ inl p ↦ inl (inr p) | inr (inl p) ↦ inr (inl (record { summary = s.summary; found_so = s.closed.found_so; ballot = refl; good = p })) | inr (inr p) ↦ inr (inr (record { summary = s.summary; found_so = s.closed.found_so; ballot = refl; says = p; content = s.content })) ];
         })
@@ -293,9 +296,10 @@ module _ (c : Config) (hs : List Happened) (w : World) (e : Event) (B : Base c h
       planned = λ name q v d loss gone l r D m i j. plan_said name q v (record { loss = loss; digest = d; gone = gone }) l.named r (subst (λ (z : List Made). In (plan_of q.log v.epoch q.epoch (record { loss = loss; digest = d; gone = gone })) (z ++ w.made)) (sym m) (inl refl)) (λ z p x o. ((D z p).entries x o).given)
           (good_low c next after reg q.log v.epoch _ (sequencers.digest_good SaidNow TrimNow CloseNow ReachedNow ShowNow ReleaseNow HereNow GoodNow sound q.log v.epoch _ D)) i j;
       closed = λ name q v y short l r d k g. closed_said name q v y short l r d k g;
-      refill = λ n m round from upto es i t v b u x j k. let z : carried.MsgOk SaidNow TrimNow CloseNow ReachedNow ShowNow ReleaseNow HereNow GoodNow m = now.sent m i in
+      refill = λ n m round from upto es i t v b u x j k. let z : carried.BodyOk SaidNow TrimNow CloseNow ReachedNow ShowNow ReleaseNow HereNow GoodNow m.log m.from m.body = (now.sent m i).0 in
+          let p = told_entry x es j (message_whole m n round from upto es t b (now.sent m i).1 x j) in
           let y = subst (carried.BodyOk SaidNow TrimNow CloseNow ReachedNow ShowNow ReleaseNow HereNow GoodNow m.log m.from) b z in
-          refill_said n m.log x (y.1 x j) (y.0 x j) k (missing_clean (log_of (node_at w.state n).plain m.log) x.number k);
+          refill_said n m.log x (y.0.1 x p) (y.0.0 x p) k (missing_clean (log_of (node_at w.state n).plain m.log) x.number k);
       shows = λ n l v. record {
         clean = λ from y k x a b d f i lo hi o. show_grows c hs e (Step.happens c w.state e) w.made (made_on c w.state e) w.state.network.sent after w.state.register reg into up stays fresh l true x (clean_shown n l from y k x a b d f i lo hi o);
         open_still = λ from k x h i lo hi. open_shown n l from k x h i lo hi;

@@ -40,7 +40,7 @@ pub sender_cases : (c : Config) (s : State) (e : Event) → Cases c s e (λ d m.
 sender_cases c s e = record {
   still = λ f i. none_from;
   says = λ x q. none_from;
-  node_hears = λ f n m i t v o. handled f n m (Step.node_handles (node_at s n) m).op (Step.node_handles (node_at s n) m).answer;
+  node_hears = λ f n m i t v o. handled f n m (Step.node_handles n (node_at s n) m).op (Step.node_handles n (node_at s n) m).answer;
   loads = λ n ls q b o. none_from;
   draw_fails = λ n b. none_from;
   formats = λ n r g b v i. if_written _ [] (none_from);
@@ -60,7 +60,7 @@ sender_cases c s e = record {
   activate_fails = λ name l x g q. none_from;
   answers = λ f name d m i t v o. posted_from (whos.Reader _) _ _;
   polls = λ name d v o. posted_from (whos.Reader d.number) d.log _;
-  opens = λ name l from until o x. none_from;
+  opens = λ style name l from until o x. none_from;
 } where
   handled : (f : List ℕ) (n : ℕ) (m : Msg) (o : Option Op) (b : Option Body) → AnswersFrom (Step.handles (with_node (refreshed s f) n (Step.releases (node_at s n) m.log m.body)) n m o b).sends
   handled f n m None b = answer_from n m b

@@ -23,6 +23,7 @@ use Rattle.ld_safety.proofs.Members.{In_filter, In_take, In_values, find_in}
 use Rattle.ld_safety.proofs.NodeSteps.{Served, store_decided, ask_decided, read_answered}
 use Rattle.ld_safety.proofs.Rising.{NumbersRising, rising_values, rising_filter, page_has}
 use Rattle.ld_safety.proofs.Holdings.{HeldAt, LogFine}
+use Rattle.ld_safety.proofs.Withheld.{one_kind}
 
 -- the number is stored in this plain state for the ballot
 pub record StoredIn (p : Plain) (l n b : ℕ) : Type 0 where
@@ -191,23 +192,24 @@ trim_told p generation l lng n t e h = store_decided (log_of p l) e (λ d. store
 no_trim_page : (generation : ℕ) (g : Log) (ballot s n t : ℕ) → digest_answer generation g s (digest_decision g ballot s) ≡ Some (bodies.TrimmedHere n t) → ⊥
 no_trim_page generation g ballot s n t h = ask_decided g ballot s (λ d. digest_answer generation g s d ≡ Some (bodies.TrimmedHere n t) → ⊥) (record { lost = λ t q. cc; clean = λ y t k q. cc; sealed = λ s k q. cc; same = λ s k q. cc; takes = λ s k q. cc }) h
 
-pub answered_in : (p : Plain) (generation l ballot released : ℕ) (b x : Body) → LogFine (log_of p l) → ((from : ℕ) → b ≡ bodies.DigestAsk from → 0 < esn_of from)
-    → (handled_by generation (log_of p l) l ballot released b).answer ≡ Some x → Answered (after p (handled_by generation (log_of p l) l ballot released b).op) l ballot x
+pub answered_in : (p : Plain) (self generation l ballot released : ℕ) (b x : Body) → LogFine (log_of p l) → ((from : ℕ) → b ≡ bodies.DigestAsk from → 0 < esn_of from)
+    → (handled_by self generation (log_of p l) l ballot released b).answer ≡ Some x → Answered (after p (handled_by self generation (log_of p l) l ballot released b).op) l ballot x
 unfolding on_store on_digest_ask on_clean on_trim
-answered_in p generation l ballot released (bodies.Store n lng w) x F K h = let e : Entry = record { number = n; ballot = ballot; what = w } in record {
+answered_in p self generation l ballot released (bodies.Store n lng w) x F K h = let e : Entry = record { number = n; ballot = ballot; what = w } in record {
   stored = λ k q. store_in p generation l lng k e (h ∙ ap Some q);
   page = λ from upto t k es q. absurd (no_page_stored generation n (store_decision (log_of p l) e) from upto t k es (h ∙ ap Some q));
   trimmed = λ k t q. trim_told p generation l lng k t e (h ∙ ap Some q);
 }
-answered_in p generation l ballot released (bodies.DigestAsk from) x F K h = record {
+answered_in p self generation l ballot released (bodies.DigestAsk from) x F K h = record {
   stored = λ k q. absurd (no_stored_page generation (log_of p l) from (digest_decision (log_of p l) ballot from) k (h ∙ ap Some q));
   page = λ a upto t k es q. page_in p generation l ballot from a upto t k es F (K from refl) (h ∙ ap Some q);
   trimmed = λ k t q. absurd (no_trim_page generation (log_of p l) ballot from k t (h ∙ ap Some q));
 }
-answered_in p generation l ballot released (bodies.Clean e y) x F K h = absurd cc
-answered_in p generation l ballot released (bodies.Trim t) x F K h = absurd cc
-answered_in p generation l ballot released (bodies.ReadAsk round from) x F K h = untold _ l ballot x (subst (λ z. is_told z ≡ false) (Some_inj h) (read_untold generation (log_of p l) released round from))
-answered_in p generation l ballot released b x F K h = absurd (no_answer (log_of p l) l b x h)
+answered_in p self generation l ballot released (bodies.Clean e y) x F K h = absurd cc
+answered_in p self generation l ballot released (bodies.Trim t) x F K h = absurd cc
+answered_in p self generation l ballot released (bodies.ReadAsk round from) x F K h = untold _ l ballot x (subst (λ z. is_told z ≡ false) (Some_inj h) (read_untold generation (log_of p l) released round from))
+answered_in p self generation l ballot released (bodies.ReadOne round from set excluded) x F K h = untold _ l ballot x (subst (λ z. is_told z ≡ false) (Some_inj h) (one_kind self set excluded is_told false (λ a b z k es fs. refl) generation (log_of p l) released round from (read_untold generation (log_of p l) released round from)))
+answered_in p self generation l ballot released b x F K h = absurd (no_answer (log_of p l) l b x h)
 
 -- ---- a record that is written ----
 written_by : (x : Node) (o : Op) (f : Fate) → kept_end f ≡ Written → ((kept_by x o f).plain ≡ apply x.plain o) × ((kept_by x o f).cut ≡ x.cut)

@@ -130,12 +130,12 @@ module _ (c : Config) (s : State) (e : Event) (hs : List Happened) (made : List 
       let k : Node = Step.releases x m.log m.body in
       let p = released_parts x m.log m.body in
       let u = U n v.up in
-      let h = Step.node_handles x m in
+      let h = Step.node_handles n x m in
       let q : k.plain ≡ x.plain = p.0 in
       heard_by f n m k h.op h.answer (p.1 ∙ u.0, let z = u.1 in let w = ap (λ (y : Plain). y.generation) q in omega arith)
-      (λ o j. let z = u.1 in let g = same_generation k.plain o (handled_plain _ _ _ _ _ m.body o j) in let w = ap (λ (y : Plain). y.generation) q in omega arith)
+      (λ o j. let z = u.1 in let g = same_generation k.plain o (handled_plain _ _ _ _ _ _ m.body o j) in let w = ap (λ (y : Plain). y.generation) q in omega arith)
       (λ z j. subst (λ y. Answered (after y h.op) m.log (ballot_of m.from) z) (sym q)
-      (answered_in x.plain x.plain.generation m.log (ballot_of m.from) (Step.released_at x m.log) m.body z ((H n).0.fine m.log) (λ from g. (subst (carried.BodyOk (Said hs made r) (TrimFine c hs s.network.sent r) (CloseFine c hs made s.network.sent r) (Reached r) (ShowFine c hs made s.network.sent r) (ReleaseFine c hs s.network.sent r) (SaidHere hs made r) (LngFine c hs s.network.sent r) m.log m.from) g (S.sent m i)).0) j))
+      (answered_in x.plain n x.plain.generation m.log (ballot_of m.from) (Step.released_at x m.log) m.body z ((H n).0.fine m.log) (λ from g. (subst (carried.BodyOk (Said hs made r) (TrimFine c hs s.network.sent r) (CloseFine c hs made s.network.sent r) (Reached r) (ShowFine c hs made s.network.sent r) (ReleaseFine c hs s.network.sent r) (SaidHere hs made r) (LngFine c hs s.network.sent r) m.log m.from) g (S.sent m i).0).0) j))
 
   empty_if : (n : ℕ) (t : State) (k : Kept) → SendsFine t (cond (Step.is_written k) [] [])
   empty_if n t k = if_written t k [] (λ w. none_fine t)
@@ -172,7 +172,7 @@ module _ (c : Config) (s : State) (e : Event) (hs : List Happened) (made : List 
     activate_fails = λ name l x g q. none_fine _;
     answers = λ f name d m i t v o. posted_fine _ (whos.Reader _) _ _;
     polls = λ name d v o. posted_fine _ (whos.Reader d.number) d.log _;
-    opens = λ name l from until o x. none_fine _;
+    opens = λ style name l from until o x. none_fine _;
   }
 
 -- no event takes a message away or puts one in otherwise
@@ -180,7 +180,7 @@ network_by : (c : Config) (s : State) (e : Event) → Cases c s e (λ d m. d.sta
 network_by c s e = record {
   still = λ f i. refl;
   says = λ x q. refl;
-  node_hears = λ f n m i t v o. handled f n m (Step.node_handles (node_at s n) m).op (Step.node_handles (node_at s n) m).answer;
+  node_hears = λ f n m i t v o. handled f n m (Step.node_handles n (node_at s n) m).op (Step.node_handles n (node_at s n) m).answer;
   loads = λ n ls q b o. refl;
   draw_fails = λ n b. refl;
   formats = λ n r g b v i. refl;
@@ -200,7 +200,7 @@ network_by c s e = record {
   activate_fails = λ name l x g q. refl;
   answers = λ f name d m i t v o. refl;
   polls = λ name d v o. refl;
-  opens = λ name l from until o x. refl;
+  opens = λ style name l from until o x. refl;
 } where
   handled : (f : List ℕ) (n : ℕ) (m : Msg) (o : Option Op) (b : Option Body) → (Step.handles (with_node (refreshed s f) n (Step.releases (node_at s n) m.log m.body)) n m o b).state.network.sent ≡ s.network.sent
   handled f n m None b = refl

@@ -78,7 +78,7 @@ module _ (c : Config) (s : State) (e : Event) (M : Drawn s.register s.network.se
   drawn_cases = record {
     still = λ f i u. no_messages s.register;
     says = λ x q u. no_messages s.register;
-    node_hears = λ f n m i t v o. handled f (Step.releases (node_at s n) m.log m.body) n m (Step.node_handles (node_at s n) m).op (Step.node_handles (node_at s n) m).answer i;
+    node_hears = λ f n m i t v o. handled f (Step.releases (node_at s n) m.log m.body) n m (Step.node_handles n (node_at s n) m).op (Step.node_handles n (node_at s n) m).answer i;
     loads = λ n ls q b o u. no_messages s.register;
     draw_fails = λ n b u. no_messages (draw s.register n).register;
     formats = λ n r g b v i u. no_written r (keep_end (node_at (with_register (loaded s n) r) n) (ops.Format (generation_of r n) (epochs_in r.logs)));
@@ -98,7 +98,7 @@ module _ (c : Config) (s : State) (e : Event) (M : Drawn s.register s.network.se
     activate_fails = λ name l x g q u. no_messages (activate s.register l (Step.spec_set c s l)).register;
     answers = λ f name d m i t v o u. posted_drawn s.register (whos.Reader _) _ _ (λ b q. absurd cc);
     polls = λ name d v o u. posted_drawn s.register (whos.Reader _) _ _ (λ b q. absurd cc);
-    opens = λ name l from until o x u. no_messages s.register;
+    opens = λ style name l from until o x u. no_messages s.register;
   }
 
 pub drawn_step : (c : Config) (w : World) (e : Event) → NamesOnce w.state → Up w.state.register (next_world c w e).state.register → (Step.happens c w.state e).state.network.sent ≡ w.state.network.sent → ((name : List ℕ) (q : Sequencer) → find_named name w.state.sequencers ≡ Some q → q.epoch ≤ (epochs_of w.state.register q.log).epoch)
@@ -125,5 +125,5 @@ answer_before c s e N M l y b x i = (talked c s e (λ ms ds. Answers ms) answer_
     answers = λ n m x i t v a z j b u. (let o = only z _ j in let k = M m i b (inl (sym (ap (λ (q : Msg). q.to) o) ∙ u)) in subst (λ l. b ≤ (epochs_of s.register l).epoch) (sym (ap (λ (q : Msg). q.log) o)) k);
     reads = λ name d m i t v. to_others _ _ _;
     polls = λ name d v. to_others _ _ _;
-    opens = λ name l from until o m i. absurd i;
+    opens = λ style name l from until o m i. absurd i;
   }

@@ -81,7 +81,7 @@ module _ (c : Config) (b : IsInBounds c) (s : State) (e : Event) (N : NamesOnce 
   set_cases = record {
     still = λ f i. A.0;
     says = λ x q. A.0;
-    node_hears = λ f n m i t v o. heard f n m (Step.releases (node_at s n) m.log m.body) (Step.node_handles (node_at s n) m).op (Step.node_handles (node_at s n) m).answer;
+    node_hears = λ f n m i t v o. heard f n m (Step.releases (node_at s n) m.log m.body) (Step.node_handles n (node_at s n) m).op (Step.node_handles n (node_at s n) m).answer;
     loads = λ n ls q b o. A.0;
     draw_fails = λ n b. A.0;
     formats = λ n r g b v i. A.0;
@@ -101,7 +101,7 @@ module _ (c : Config) (b : IsInBounds c) (s : State) (e : Event) (N : NamesOnce 
     activate_fails = λ name l x g q. A.0;
     answers = λ f name d m i t v o. A.0;
     polls = λ name d v o. A.0;
-    opens = λ name l from until o x. A.0;
+    opens = λ style name l from until o x. A.0;
   }
 
   by_logs : (n : Register) → n.logs ≡ s.register.logs → FixedFine n

@@ -87,7 +87,7 @@ module _ (c : Config) (hs : List Happened) (w : World) (B : BaseGiven c hs w × 
   Ack l n = Acknowledged c hs w.state.network.sent w.state.register l n
 
   paged_trim : (l b y t : ℕ) → TrimPaged w.state.network.sent l b y t → Trimmed c hs w B l t
-  paged_trim l b y t p = (B.1.said.sent _ p.page).0.trim
+  paged_trim l b y t p = (B.1.said.sent _ p.page).0.0.trim
 
   -- in an open epoch a plan's trim covers acknowledged appends alone
   planned_trim : (l e b : ℕ) (d : Basis) → In (plan_of l e b d) w.made → Trimmed c hs w B l (digest_trim d.digest)
@@ -239,7 +239,7 @@ module _ (c : Config) (hs : List Happened) (w : World) (B : BaseGiven c hs w × 
     | inr a ↦ inr (let z = leb-true _ _ h in let y = count_mono (tells_settled w.state.network.sent l n b) (tells_stored w.state.network.sent l n b) (fixed_at c w.state.register l (epoch_of n)) a in omega arith)
     | inl a ↦ elim (told_settled w.state.network.sent l n b a.0 a.2) [
       | inl s ↦ absurd (not_both (tells_stored w.state.network.sent l n b a.0) (stored_told w.state.network.sent l n b a.0 s) a.3)
-      | inr t ↦ inl ((B.1.said.sent _ t.told_so).0 n t.covers pos o)
+      | inr t ↦ inl ((B.1.said.sent _ t.told_so).0.0 n t.covers pos o)
     ]
   ]
 

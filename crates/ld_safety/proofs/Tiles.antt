@@ -25,7 +25,7 @@ use Rattle.ld_msg.specs.Reading.{Held, bridge_to, end_shown, end_held, Item, Tri
 use Rattle.ld_msg.specs.Reader.{Reader, Read, is_finished, gives, item_end, heard, held_with, is_newer, round_of, opened, on_answer, polled, nothing_read, look_of}
 use Rattle.ld_msg.specs.Sequencer.{Sequencer, Acts, called, rose}
 use Rattle.ld_machine.specs.State.{State, Done, finish, or_none, message_lines, node_at, with_node, with_register}
-use Rattle.ld_machine.specs.Facts.{Happened, Opening, opening, opening_of, wrote_nothing, Interval, interval_of, intervals}
+use Rattle.ld_machine.specs.Facts.{Happened, Opening, opening, opening_of, wrote_nothing, Interval, interval_of, intervals, opened_as}
 use Rattle.ld_machine.specs.Safe.{TilesFrom, ItemsTile}
 use Rattle.ld_machine.specs.World.{World, In, begin}
 use Rattle.ld_machine.specs.Run.{history}
@@ -33,7 +33,7 @@ use Rattle.ld_machine.specs.Step as Step
 use Rattle.ld_safety.proofs.Lists.{not_both, first_grows, or_else_some, or_else_none, or_else_new, In-append, Some_inj, not_none, cond_both, branch}
 use Rattle.ld_safety.proofs.Names.{named_cases}
 use Rattle.ld_safety.proofs.Traces.{Keeps, at_end, beside_kept}
-use Rattle.ld_safety.proofs.Events.{Cases, refreshed, loaded, Opens, Idle, is_quiet}
+use Rattle.ld_safety.proofs.Events.{Cases, refreshed, loaded, Opens, Idle, is_quiet, opens_as}
 use Rattle.ld_safety.proofs.Steps.{is_plain, filter_finish, told, became, step_by}
 use Rattle.ld_safety.proofs.ReaderSteps.{dropped_held, ReadKeeps, answered, below_end, end_in}
 use Rattle.ld_safety.proofs.Members.{In_put}
@@ -44,6 +44,9 @@ use Rattle.ld_safety.proofs.Carried as carried
 use Rattle.ld_msg.specs.declared.msg.Body.TheVariants as bodies
 use Rattle.ld_msg.specs.declared.msg.Who.TheVariants as whos
 use Rattle.ld_table.specs.Table.{find, put}
+use Rattle.ld_msg.specs.declared.style.Style.{Style}
+use Rattle.ld_msg.specs.declared.style.Style.TheVariants as styles
+use Rattle.ld_safety.proofs.Batches.{interval_same, others_lines, item_lines-append}
 
 -- ---- lists of intervals ----
 
@@ -63,6 +66,7 @@ forget_end until next end (i ∷ is) a = (a.0, a.1, a.2, forget_end until (i.hig
 
 abbrev is_item : Line → Bool
 is_item (lines.Record r n p) = true
+is_item (lines.BatchMessage r n i p) = true
 is_item (lines.Gap r kind low high) = true
 is_item _ = false
 
@@ -71,6 +75,7 @@ NoItems ls = (x : Line) → In x ls → is_item x ≡ false
 
 no_interval : (r : List ℕ) (x : Line) → is_item x ≡ false → interval_of r x ≡ None
 no_interval r (lines.Record s n p) h = absurd cc
+no_interval r (lines.BatchMessage s n i p) h = absurd cc
 no_interval r (lines.Gap s kind low high) h = absurd cc
 no_interval r _ h = refl
 
@@ -82,11 +87,13 @@ plain_interval : (r : List ℕ) (x : Line) → is_plain x ≡ true → interval_
 plain_interval r (lines.Message i from to kind n) h = refl
 plain_interval r lines.Nothing h = refl
 plain_interval r (lines.Record s n p) h = absurd cc
+plain_interval r (lines.BatchMessage s n i p) h = absurd cc
 plain_interval r (lines.Gap s kind low high) h = absurd cc
 plain_interval r _ h = refl
 
 quiet_item : (x : Line) → is_quiet x ≡ true → is_item x ≡ false
 quiet_item (lines.Record s n p) h = absurd cc
+quiet_item (lines.BatchMessage s n i p) h = absurd cc
 quiet_item (lines.Gap s kind low high) h = absurd cc
 quiet_item _ h = refl
 
@@ -157,14 +164,24 @@ said_something : (d : Done) (x : Line) (ls : List Line) → d.lines ≡ x ∷ ls
 unfolding finish
 said_something d x ls e h = subst (λ (l : List Line). wrote_nothing (or_none (l ++ message_lines d.state d.state.network.count d.sends)) ≡ false) (sym e) (wrote_something x (ls ++ message_lines d.state d.state.network.count d.sends) h)
 
+not_opened : (c : Config) (r : List ℕ) (ls : List Line) (name : List ℕ) (l from until : ℕ) → wrote_nothing ls ≡ false → opened_as c r ls name l from until ≡ None
+not_opened c r ls name l from until h = cond_both ((same name r && has_log c l) && wrote_nothing ls) _ None (λ o. o ≡ None) (λ t. absurd (not_both (wrote_nothing ls) (and_parts (same name r && has_log c l) (wrote_nothing ls) t).1 h)) (λ t. refl)
+
 said_no_open : (c : Config) (r : List ℕ) (ls : List Line) (e : Event) → wrote_nothing ls ≡ false → opening_of c r ls e ≡ None
-said_no_open c r ls (events.Open name l from until) h = cond_both ((same name r && has_log c l) && wrote_nothing ls) _ None (λ o. o ≡ None) (λ t. absurd (not_both (wrote_nothing ls) (and_parts (same name r && has_log c l) (wrote_nothing ls) t).1 h)) (λ t. refl)
+said_no_open c r ls (events.Open name l from until) h = not_opened c r ls name l from until h
+said_no_open c r ls (events.OpenOne name l from until) h = not_opened c r ls name l from until h
+said_no_open c r ls (events.OpenMessages name l from until) h = not_opened c r ls name l from until h
 said_no_open c r ls _ h = refl
 
-idle_no_open : (c : Config) (s : State) (r : List ℕ) (ls : List Line) (e : Event) → Idle c s e → find_named r s.readers ≡ None → opening_of c r ls e ≡ None
-idle_no_open c s r ls (events.Open name l from until) i n = cond_both ((same name r && has_log c l) && wrote_nothing ls) _ None (λ o. o ≡ None)
+idle_opened : (c : Config) (s : State) (r : List ℕ) (ls : List Line) (name : List ℕ) (l from until : ℕ) → (has_log c l ≡ true → is_some (find_named name s.readers) ≡ true) → find_named r s.readers ≡ None → opened_as c r ls name l from until ≡ None
+idle_opened c s r ls name l from until i n = cond_both ((same name r && has_log c l) && wrote_nothing ls) _ None (λ o. o ≡ None)
     (λ t. let p = and_parts (same name r && has_log c l) (wrote_nothing ls) t in let q = and_parts (same name r) (has_log c l) p.0 in
     absurd (let a : is_some (find_named r s.readers) ≡ true = subst (λ x. is_some (find_named x s.readers) ≡ true) (same-true name r q.0) (i q.1) in let b : is_some (find_named r s.readers) ≡ false = ap (λ (o : Option Reader). is_some o) n in cc)) (λ t. refl)
+
+idle_no_open : (c : Config) (s : State) (r : List ℕ) (ls : List Line) (e : Event) → Idle c s e → find_named r s.readers ≡ None → opening_of c r ls e ≡ None
+idle_no_open c s r ls (events.Open name l from until) i n = idle_opened c s r ls name l from until i n
+idle_no_open c s r ls (events.OpenOne name l from until) i n = idle_opened c s r ls name l from until i n
+idle_no_open c s r ls (events.OpenMessages name l from until) i n = idle_opened c s r ls name l from until i n
 idle_no_open c s r ls _ i n = refl
 
 -- ---- what a reader has got ----
@@ -212,17 +229,13 @@ module _ (c : Config) (hs : List Happened) (s : State) (e : Event) where
 -- ---- an answer's items ----
 
 abbrev lines_from : List ℕ → ℕ → Read → List Interval
-lines_from r until a = filter_map (interval_of r) (Step.item_lines r until a.items)
+lines_from r until a = filter_map (interval_of r) (Step.item_lines a.reader.style r until a.items)
 
 record Gives (r : List ℕ) (d : Reader) (a : Read) : Type 0 where
   log : a.reader.log ≡ d.log
   until : a.reader.until ≡ d.until
   held : (h : ℕ × Held) → In h a.reader.held → (round from end : ℕ) (loss : Bool) → h.1.body ≡ bodies.ReadEnded round from end loss → home_epoch end ≤ epoch_limit
   tiles : TilesTo d.until d.next (lines_from r d.until a) a.reader.next
-
-item_lines-append : (r : List ℕ) (until : ℕ) (is js : List (ℕ × Item)) → Step.item_lines r until (is ++ js) ≡ Step.item_lines r until is ++ Step.item_lines r until js
-item_lines-append r until [] js = refl
-item_lines-append r until (i ∷ is) js = ap (λ l. Step.item_line r i.0 until i.1 ∷ l) (item_lines-append r until is js)
 
 clipped : (last until : ℕ) → (if nat_lt until last then until else last) ≡ min last until
 clipped last until = cond_both (nat_lt until last) until last (λ x. x ≡ min last until) (λ t. let l = ltb-true until last t in omega arith) (λ t. let l = ltb-false until last t in omega arith)
@@ -285,14 +298,15 @@ module _ (r : List ℕ) (d : Reader) where
     until = g.until;
     held = g.held;
     tiles = subst (λ is. TilesTo d.until d.next is (min (item_end a.reader.next i) a.reader.until + 1))
-        (sym (ap (filter_map (interval_of r)) (item_lines-append r d.until a.items ((a.reader.next, i) ∷ [])) ∙ filter_map-append (interval_of r) (Step.item_lines r d.until a.items) _))
+        (sym (ap (filter_map (interval_of r)) (item_lines-append a.reader.style r d.until a.items ((a.reader.next, i) ∷ [])) ∙ filter_map-append (interval_of r) (Step.item_lines a.reader.style r d.until a.items) _))
         (tiles_on d.until d.next a.reader.next _ (lines_from r d.until a) _ g.tiles
-        (subst (λ v. TilesTo d.until a.reader.next (filter_map (interval_of r) (Step.item_line r a.reader.next d.until i ∷ [])) (min (item_end a.reader.next i) v + 1)) (sym u) (one_tile r a.reader.next d.until i (omega arith) h)));
+        (subst (λ is. TilesTo d.until a.reader.next is (min (item_end a.reader.next i) a.reader.until + 1)) (sym (ap (filter_map (interval_of r)) (append-nil (Step.lines_of_item a.reader.style r a.reader.next d.until i)) ∙ interval_same a.reader.style r a.reader.next d.until i))
+        (subst (λ v. TilesTo d.until a.reader.next (filter_map (interval_of r) (Step.item_line r a.reader.next d.until i ∷ [])) (min (item_end a.reader.next i) v + 1)) (sym u) (one_tile r a.reader.next d.until i (omega arith) h))));
   }
 
   gives_keeps : (looks : ℕ → View) (y : ℕ) (b : Body) → is_finished d ≡ false → AllSmall d.held → Small b → ReadKeeps looks d y b (Gives r d)
   unfolding AllSmall Small
-  gives_keeps looks y b f a o = let start : Gives r d (record { reader = heard d y b; items = []; asks = [] }) = record { log = refl; until = refl; held = held_small d y b a o; tiles = refl } in record {
+  gives_keeps looks y b f a o = let start : Gives r d (nothing_read (heard d y b)) = record { log = refl; until = refl; held = held_small d y b a o; tiles = refl } in record {
     starts = start;
     ignored = λ h. record { log = refl; until = refl; held = a; tiles = refl };
     loss = λ h n. gives_one (nothing_read (record (heard d y b) { seen = Some (look_of looks d) })) LossHere (record { log = refl; until = refl; held = held_small d y b a o; tiles = refl }) f (omega arith);
@@ -304,20 +318,9 @@ module _ (r : List ℕ) (d : Reader) where
     bridge = λ a g n t. gives_one a (BridgeTo (bridge_to a.reader.next)) g n (bridge_up a.reader.next (end_small a.reader.next a.reader.held false g.held t));
     lossy_end = λ a g n t. gives_one a (LossTo (bridge_to a.reader.next)) g n (bridge_up a.reader.next (end_small a.reader.next a.reader.held true g.held t));
     confirm = λ a g n m t. record { log = g.log; until = g.until; held = dropped_held AllSmall (λ z i. absurd i) _ _ g.held; tiles = g.tiles };
+    asks_all = λ a g t. record { log = g.log; until = g.until; held = dropped_held AllSmall (λ z i. absurd i) _ _ g.held; tiles = g.tiles };
     polls_on = λ a g t. record { log = g.log; until = g.until; held = dropped_held AllSmall (λ z i. absurd i) _ _ g.held; tiles = g.tiles };
   }
-
--- another reader's lines
-others_lines : (r q : List ℕ) (until : ℕ) (is : List (ℕ × Item)) → same r q ≡ false → filter_map (interval_of q) (Step.item_lines r until is) ≡ []
-others_lines r q until [] h = refl
-others_lines r q until (i ∷ is) h = rw (other i.1) (others_lines r q until is h) where
-  other : (x : Item) → interval_of q (Step.item_line r i.0 until x) ≡ None
-  other (TrimTo last) = rw h refl
-  other (RecordHere p) = rw h refl
-  other HoleHere = rw h refl
-  other (BridgeTo last) = rw h refl
-  other LossHere = rw h refl
-  other (LossTo last) = rw h refl
 
 -- ---- every event ----
 
@@ -348,12 +351,18 @@ module _ (c : Config) (hs : List Happened) (w : World) (e : Event) (B : Base c h
   ])
 
   -- a reader is opened
-  opened_got : (name : List ℕ) (l from until : ℕ) (d : Done) → d.lines ≡ [] → d.sends ≡ [] → Opens c w.state name l from until → e ≡ events.Open name l from until → GotBy c hs name None → Got c (hs ++ told w.state.register e d ∷ []) name (opened l (length w.state.readers) from until)
+  -- an event that opens a reader
+  opens_of : (style : Style) (r : List ℕ) (ls : List Line) (name : List ℕ) (l from until : ℕ) → opening_of c r ls (opens_as style name l from until) ≡ opened_as c r ls name l from until
+  opens_of styles.EachCopy r ls name l from until = refl
+  opens_of styles.OneCopy r ls name l from until = refl
+  opens_of styles.OfMessages r ls name l from until = refl
+
+  opened_got : (style : Style) (name : List ℕ) (l from until : ℕ) (d : Done) → d.lines ≡ [] → d.sends ≡ [] → Opens c w.state name l from until → e ≡ opens_as style name l from until → GotBy c hs name None → Got c (hs ++ told w.state.register e d ∷ []) name (opened style l (length w.state.readers) from until)
   unfolding finish
-  opened_got name l from until d n ms o x g =
+  opened_got style name l from until d n ms o x g =
       let ls : (finish d).lines ≡ lines.Nothing ∷ [] = λ i. or_none (n i ++ message_lines d.state d.state.network.count (ms i)) in
       let op : opening_of c name (finish d).lines e ≡ Some (record { log = l; from = from; until = until })
-      = (λ i. opening_of c name (ls i) (x i)) ∙ ap (λ b. cond b (Some (record { log = l; from = from; until = until })) None) ((λ i. (same-self name i && o.log i) && true)) in
+      = (λ i. opening_of c name (ls i) (x i)) ∙ opens_of style name (lines.Nothing ∷ []) name l from until ∙ ap (λ b. cond b (Some (record { log = l; from = from; until = until })) None) ((λ i. (same-self name i && o.log i) && true)) in
       record {
         open_as = record { log = l; from = from; until = until };
         is = opening_grows c name hs (told w.state.register e d) ∙ (or_else_new (opening c name hs) _ g.0 ∙ op);
@@ -363,14 +372,14 @@ module _ (c : Config) (hs : List Happened) (w : World) (e : Event) (B : Base c h
         tiles = subst (λ is. TilesTo until from is from) (sym (intervals_same name hs w.state.register e d (ap (filter_map (interval_of name)) n) ∙ g.1)) refl;
       }
 
-  opens_one : (name : List ℕ) (l from until : ℕ) (d : Done) → d.state.readers ≡ put_named name (opened l (length w.state.readers) from until) w.state.readers → d.lines ≡ [] → d.sends ≡ [] → Opens c w.state name l from until → e ≡ events.Open name l from until → Result d
+  opens_one : (style : Style) (name : List ℕ) (l from until : ℕ) (d : Done) → d.state.readers ≡ put_named name (opened style l (length w.state.readers) from until) w.state.readers → d.lines ≡ [] → d.sends ≡ [] → Opens c w.state name l from until → e ≡ opens_as style name l from until → Result d
   unfolding finish
-  opens_one name l from until d q n ms o x r = subst (λ (z : List (List ℕ × Reader)). GotBy c (hs ++ told w.state.register e d ∷ []) r (find_named r z)) (sym q) (elim (named_cases r name (opened l (length w.state.readers) from until) w.state.readers) [
-    | inl a ↦ subst (λ (v : Option Reader). GotBy c (hs ++ told w.state.register e d ∷ []) r v) (sym a.1) (subst (λ k. Got c (hs ++ told w.state.register e d ∷ []) k (opened l (length w.state.readers) from until)) (sym a.0)
-        (opened_got name l from until d n ms o x (subst (λ (v : Option Reader). GotBy c hs name v) o.fresh_name (A name))))
+  opens_one style name l from until d q n ms o x r = subst (λ (z : List (List ℕ × Reader)). GotBy c (hs ++ told w.state.register e d ∷ []) r (find_named r z)) (sym q) (elim (named_cases r name (opened style l (length w.state.readers) from until) w.state.readers) [
+    | inl a ↦ subst (λ (v : Option Reader). GotBy c (hs ++ told w.state.register e d ∷ []) r v) (sym a.1) (subst (λ k. Got c (hs ++ told w.state.register e d ∷ []) k (opened style l (length w.state.readers) from until)) (sym a.0)
+        (opened_got style name l from until d n ms o x (subst (λ (v : Option Reader). GotBy c hs name v) o.fresh_name (A name))))
     | inr a ↦ subst (λ (v : Option Reader). GotBy c (hs ++ told w.state.register e d ∷ []) r v) (sym a.1)
         (same_got c hs w.state e d r (find_named r w.state.readers) (ap (filter_map (interval_of r)) n)
-        (λ h. subst (λ v. opening_of c r (finish d).lines v ≡ None) (sym x) (ap (λ b. cond ((b && has_log c l) && wrote_nothing (finish d).lines) (Some (record { log = l; from = from; until = until })) None) (same-flip name r ∙ a.0))) (A r))
+        (λ h. subst (λ v. opening_of c r (finish d).lines v ≡ None) (sym x) (opens_of style r (finish d).lines name l from until ∙ ap (λ b. cond ((b && has_log c l) && wrote_nothing (finish d).lines) (Some (record { log = l; from = from; until = until })) None) (same-flip name r ∙ a.0))) (A r))
   ])
 
   first_said : (n : ℕ) (r : Register) (k : Kept) → (x : Line) × (ls : List Line) × (Step.kept_lines n (Step.format_lines c n r) k ≡ x ∷ ls) × (is_nothing x ≡ false)
@@ -393,13 +402,13 @@ module _ (c : Config) (hs : List Happened) (w : World) (e : Event) (B : Base c h
   reader_small name d f h i = body_small hs d.log h.1.body (G.readers name d f h i)
 
   message_small : (d : Reader) (m : Msg) (name : List ℕ) → In m w.state.network.sent → m.to ≡ whos.Reader d.number → find_named name w.state.readers ≡ Some d → Small m.body
-  message_small d m name i t f = body_small hs m.log m.body (carried.held_of (GivenEntry hs) (GivenTrim hs) (GivenSummary hs) AnyEpoch AnyShown AnyReleased (GivenEntry hs) SmallGood m.log m.from m.body (G.sent m i))
+  message_small d m name i t f = body_small hs m.log m.body (carried.held_of (GivenEntry hs) (GivenTrim hs) (GivenSummary hs) AnyEpoch AnyShown AnyReleased (GivenEntry hs) SmallGood m.log m.from m.body (G.sent m i).0)
 
   got_cases : Cases c w.state e (λ d m. Result d)
   got_cases = record {
     still = λ f i. idle_stays _ i refl nothing_none;
     says = λ x q. said_stays _ x [] refl (quiet_something x q) refl (one_line x (quiet_item x q));
-    node_hears = λ f n m i t v o. handled f (Step.releases (node_at w.state n) m.log m.body) n m (Step.node_handles (node_at w.state n) m).op (Step.node_handles (node_at w.state n) m).answer o;
+    node_hears = λ f n m i t v o. handled f (Step.releases (node_at w.state n) m.log m.body) n m (Step.node_handles n (node_at w.state n) m).op (Step.node_handles n (node_at w.state n) m).answer o;
     loads = λ n ls q b o. idle_stays _ o refl (λ x i. quiet_item x (q x i));
     draw_fails = λ n b. said_stays _ _ [] refl refl refl (one_line _ refl);
     formats = λ n r g b v i. formatted n r;
@@ -419,11 +428,11 @@ module _ (c : Config) (hs : List Happened) (w : World) (e : Event) (B : Base c h
     activate_fails = λ name l x g q. said_stays _ x [] refl (quiet_something x q) refl (one_line x (quiet_item x q));
     answers = λ f name d m i t v o. let a = answered (looks_at c w.state.register d.log) d (Step.sender_node m.from) m.body (Gives name d) (gives_keeps name d (looks_at c w.state.register d.log) (Step.sender_node m.from) m.body v.open_still (reader_small name d v.named) (message_small d m name i t v.named)) in
         changes _ name d (on_answer (looks_at c w.state.register d.log) d (Step.sender_node m.from) m.body).reader refl v.named o.0
-        (λ q h. others_lines name q (on_answer (looks_at c w.state.register d.log) d (Step.sender_node m.from) m.body).reader.until (on_answer (looks_at c w.state.register d.log) d (Step.sender_node m.from) m.body).items h)
+        (λ q h. others_lines _ name q (on_answer (looks_at c w.state.register d.log) d (Step.sender_node m.from) m.body).reader.until (on_answer (looks_at c w.state.register d.log) d (Step.sender_node m.from) m.body).items h)
         (λ g. more_got c hs w.state e (Step.read (refreshed w.state f) name (on_answer (looks_at c w.state.register d.log) d (Step.sender_node m.from) m.body)) name d (on_answer (looks_at c w.state.register d.log) d (Step.sender_node m.from) m.body).reader g a.log a.until
         (subst (λ u. TilesTo d.until d.next (lines_from name u (on_answer (looks_at c w.state.register d.log) d (Step.sender_node m.from) m.body)) (on_answer (looks_at c w.state.register d.log) d (Step.sender_node m.from) m.body).reader.next) (sym a.until) a.tiles));
     polls = λ name d v o. changes _ name d (polled (looks_at c w.state.register d.log) d) refl v.named o (λ q h. refl) (λ g. more_got c hs w.state e _ name d (polled (looks_at c w.state.register d.log) d) g refl refl refl);
-    opens = λ name l from until o x. opens_one name l from until _ refl refl refl o x;
+    opens = λ style name l from until o x. opens_one style name l from until _ refl refl refl o x;
   } where
     quiet_something : (x : Line) → is_quiet x ≡ true → is_nothing x ≡ false
     quiet_something lines.Nothing h = absurd cc

@@ -113,7 +113,7 @@ module _ (c : Config) (hs : List Happened) (s : State) where
   acked_cases e heard retry = record {
     still = λ f i. none;
     says = λ x q. quiets (x ∷ []) (λ y i. one_quiet x q y i);
-    node_hears = λ f n m i t v o. handled (with_node (refreshed s f) n (Step.releases (node_at s n) m.log m.body)) n m (Step.node_handles (node_at s n) m).op (Step.node_handles (node_at s n) m).answer;
+    node_hears = λ f n m i t v o. handled (with_node (refreshed s f) n (Step.releases (node_at s n) m.log m.body)) n m (Step.node_handles n (node_at s n) m).op (Step.node_handles n (node_at s n) m).answer;
     loads = λ n ls q b o. quiets ls q;
     draw_fails = λ n b. nodes (lines.NodeRefusedRegister n ∷ []) (one_of (lines.NodeRefusedRegister n));
     formats = λ n r g b v i. nodes _ (kept_of n (Step.format_lines c n r) (keep_end (node_at (with_register (loaded s n) r) n) (ops.Format (generation_of r n) (epochs_in r.logs))) (format_of c n r));
@@ -131,9 +131,9 @@ module _ (c : Config) (hs : List Happened) (s : State) where
     activates = λ name l r g n i x. others OfNumbers (lines.Active name _ ∷ []) (λ h. cc) (one_of (lines.Active name _));
     swaps = λ n m l x r q i. quiets (x ∷ []) (λ y i. one_quiet x q y i);
     activate_fails = λ name l x g q. quiets (x ∷ []) (λ y i. one_quiet x q y i);
-    answers = λ f name d m i t v o. others OfItems _ (λ h. cc) (items_of name (on_answer (looks_at c s.register d.log) d (Step.sender_node m.from) m.body).reader.until (on_answer (looks_at c s.register d.log) d (Step.sender_node m.from) m.body).items);
+    answers = λ f name d m i t v o. others OfItems _ (λ h. cc) (items_of _ name (on_answer (looks_at c s.register d.log) d (Step.sender_node m.from) m.body).reader.until (on_answer (looks_at c s.register d.log) d (Step.sender_node m.from) m.body).items);
     polls = λ name d v o. none;
-    opens = λ name l from until o x. none;
+    opens = λ style name l from until o x. none;
   } where
     none : AckedTold []
     none = others OfNodes [] (λ h. cc) (none_of OfNodes)
@@ -159,11 +159,12 @@ module _ (c : Config) (hs : List Happened) (s : State) where
 pub record AllTold (c : Config) (hs : List Happened) (w : World) : Type 0 where
   pub acked : (k : ℕ) (name : List ℕ) (n : ℕ) → Writes hs k (lines.Acked name n) → (l : ℕ) × OfLog hs l name × Acknowledged c hs w.state.network.sent w.state.register l n
   pub records : (k : ℕ) (name : List ℕ) (n : ℕ) (p : List ℕ) → Writes hs k (lines.Record name n p) → (l : ℕ) × ReadsLog c hs l name × RecordAt c hs w.made w.state.network.sent w.state.register l n
+  pub batches : (k : ℕ) (name : List ℕ) (n index : ℕ) (m : List ℕ) → Writes hs k (lines.BatchMessage name n index m) → (l : ℕ) × ReadsLog c hs l name × RecordAt c hs w.made w.state.network.sent w.state.register l n
   pub holes : (k : ℕ) (name : List ℕ) (low high : ℕ) → Writes hs k (lines.Gap name gaps.Hole low high) → (l : ℕ) × ReadsLog c hs l name × (low ≡ high) × ClosedItem c hs w.made w.state.network.sent w.state.register l low Hole
   pub bridges : (k : ℕ) (name : List ℕ) (low high : ℕ) → Writes hs k (lines.Gap name gaps.Bridge low high) → (l : ℕ) × ReadsLog c hs l name × BridgeAt c hs w.made w.state.network.sent w.state.register l low high
 
 pub start_told : (c : Config) → AllTold c [] (begin c)
-start_told c = record { acked = λ k name n w. absurd (not_none w.1); records = λ k name n p w. absurd (not_none w.1); holes = λ k name low high w. absurd (not_none w.1); bridges = λ k name low high w. absurd (not_none w.1) }
+start_told c = record { acked = λ k name n w. absurd (not_none w.1); records = λ k name n p w. absurd (not_none w.1); batches = λ k name n j p w. absurd (not_none w.1); holes = λ k name low high w. absurd (not_none w.1); bridges = λ k name low high w. absurd (not_none w.1) }
 
 module _ (c : Config) (hs : List Happened) (w : World) (e : Event) (B : Base c hs w) (G : Given c hs w.state) (R : Along c hs w) (A : AllGot c hs w) (T : AllTold c hs w) where
   d : Done
@@ -176,21 +177,21 @@ module _ (c : Config) (hs : List Happened) (w : World) (e : Event) (B : Base c h
   items_now : ItemsTold c hs w.made w.state.network.sent w.state.register w.state (Step.happens c w.state e).lines
   items_now = dispatch c w.state e (λ d m. ItemsTold c hs w.made w.state.network.sent w.state.register w.state d.lines) B.0.0 (line_cases c w.state e (ItemsTold c hs w.made w.state.network.sent w.state.register w.state) no_items (λ f name x m i t v o. reads_now f name x m i t v) quiet_items) where
     no_items : (g : Group) (ls : List Line) → (g ≡ OfItems → ⊥) → AllOf g ls → ItemsTold c hs w.made w.state.network.sent w.state.register w.state ls
-    no_items g ls n a = record { records = λ name m p i. absurd (n (sym (a _ i))); holes = λ name low high i. absurd (n (sym (a _ i))); bridges = λ name low high i. absurd (n (sym (a _ i))) }
+    no_items g ls n a = record { records = λ name m p i. absurd (n (sym (a _ i))); batches = λ name m j p i. absurd (n (sym (a _ i))); holes = λ name low high i. absurd (n (sym (a _ i))); bridges = λ name low high i. absurd (n (sym (a _ i))) }
 
     quiet_items : (ls : List Line) → ((x : Line) → In x ls → is_quiet x ≡ true) → ItemsTold c hs w.made w.state.network.sent w.state.register w.state ls
-    quiet_items ls q = record { records = λ name m p i. absurd (let z = q _ i in cc); holes = λ name low high i. absurd (let z = q _ i in cc); bridges = λ name low high i. absurd (let z = q _ i in cc) }
+    quiet_items ls q = record { records = λ name m p i. absurd (let z = q _ i in cc); batches = λ name m j p i. absurd (let z = q _ i in cc); holes = λ name low high i. absurd (let z = q _ i in cc); bridges = λ name low high i. absurd (let z = q _ i in cc) }
 
     reads_now : (f : List ℕ) (name : List ℕ) (x : Reader) (m : Msg) → In m w.state.network.sent → m.to ≡ whos.Reader x.number → Reading w.state name x
-        → ItemsTold c hs w.made w.state.network.sent w.state.register w.state (Step.item_lines name (on_answer (looks_at c w.state.register x.log) x (Step.sender_node m.from) m.body).reader.until (on_answer (looks_at c w.state.register x.log) x (Step.sender_node m.from) m.body).items)
+        → ItemsTold c hs w.made w.state.network.sent w.state.register w.state (Step.item_lines (on_answer (looks_at c w.state.register x.log) x (Step.sender_node m.from) m.body).reader.style name (on_answer (looks_at c w.state.register x.log) x (Step.sender_node m.from) m.body).reader.until (on_answer (looks_at c w.state.register x.log) x (Step.sender_node m.from) m.body).items)
     reads_now f name x m i t v =
         let lg : x.log ≡ m.log = B.1.1.logs m x.number name x i (inl t) v.named refl in
         let y = Step.sender_node m.from in
         let o = subst (λ k. carried.HeldOk (Said hs w.made w.state.register) (TrimFine c hs w.state.network.sent w.state.register) (CloseFine c hs w.made w.state.network.sent w.state.register) (Reached w.state.register) (ShowFine c hs w.made w.state.network.sent w.state.register) (ReleaseFine c hs w.state.network.sent w.state.register) (SaidHere hs w.made w.state.register) (LngFine c hs w.state.network.sent w.state.register) k m.body) (sym lg)
-        (carried.held_of (Said hs w.made w.state.register) (TrimFine c hs w.state.network.sent w.state.register) (CloseFine c hs w.made w.state.network.sent w.state.register) (Reached w.state.register) (ShowFine c hs w.made w.state.network.sent w.state.register) (ReleaseFine c hs w.state.network.sent w.state.register) (SaidHere hs w.made w.state.register) (LngFine c hs w.state.network.sent w.state.register) m.log m.from m.body (R.said.sent m i)) in
+        (carried.held_of (Said hs w.made w.state.register) (TrimFine c hs w.state.network.sent w.state.register) (CloseFine c hs w.made w.state.network.sent w.state.register) (Reached w.state.register) (ShowFine c hs w.made w.state.network.sent w.state.register) (ReleaseFine c hs w.state.network.sent w.state.register) (SaidHere hs w.made w.state.register) (LngFine c hs w.state.network.sent w.state.register) m.log m.from m.body (R.said.sent m i).0) in
         let k = answered (looks_at c w.state.register x.log) x y m.body (ReadFine c hs w.made w.state.network.sent w.state.register (along.once_before c hs w e B G R) R.once R.plans R.last x.log)
         (fine_keeps c hs w.made w.state.network.sent w.state.register (along.once_before c hs w e B G R) R.once R.plans R.last x.log (looks_at c w.state.register x.log) x y m.body (R.said.readers name x v.named) o) in
-        item_lines_told c hs w.made w.state.network.sent w.state.register w.state (along.once_before c hs w e B G R) R.once R.plans R.last name x _ (on_answer (looks_at c w.state.register x.log) x y m.body).items v.named k.items
+        item_lines_told c hs w.made w.state.network.sent w.state.register w.state (along.once_before c hs w e B G R) R.once R.plans R.last _ name x _ (on_answer (looks_at c w.state.register x.log) x y m.body).items v.named k.items
 
   acked_now : AckedTold c (hs ++ happened c w.state e ∷ []) w.state (Step.happens c w.state e).lines
   acked_now = dispatch c w.state e (λ d m. AckedTold c (hs ++ happened c w.state e ∷ []) w.state d.lines) B.0.0 (acked_cases c (hs ++ happened c w.state e ∷ []) w.state e
@@ -211,6 +212,10 @@ module _ (c : Config) (hs : List Happened) (w : World) (e : Event) (B : Base c h
     records = λ k name n p wr. elim (line_by k (lines.Record name n p) (λ h. cc) wr) [
       | inl o ↦ (let z = T.records k name n p o in (z.0, reads_grows c hs (happened c w.state e) z.0 name z.1, record_next z.0 n z.2))
       | inr o ↦ (let z = items_now.records name n p o in (z.0.log, reads_grows c hs (happened c w.state e) z.0.log name (reads_log name z.0 z.1), record_next z.0.log n z.2))
+    ];
+    batches = λ k name n j p wr. elim (line_by k (lines.BatchMessage name n j p) (λ h. cc) wr) [
+      | inl o ↦ (let z = T.batches k name n j p o in (z.0, reads_grows c hs (happened c w.state e) z.0 name z.1, record_next z.0 n z.2))
+      | inr o ↦ (let z = items_now.batches name n j p o in (z.0.log, reads_grows c hs (happened c w.state e) z.0.log name (reads_log name z.0 z.1), record_next z.0.log n z.2))
     ];
     holes = λ k name low high wr. elim (line_by k (lines.Gap name gaps.Hole low high) (λ h. cc) wr) [
       | inl o ↦ (let z = T.holes k name low high o in (z.0, reads_grows c hs (happened c w.state e) z.0 name z.1, z.2, item_next z.0 low z.3))

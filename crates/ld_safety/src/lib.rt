@@ -7,7 +7,7 @@ ghost use Rattle.ld_msg.specs.declared.msg.Summary.{Summary};
 ghost use Rattle.ld_config.specs.declared.config.Config.{Config};
 ghost use Rattle.ld_config.specs.Bounds.{IsInBounds};
 ghost use Rattle.ld_schedule.specs.declared.event.Event.{Event};
-ghost use Rattle.ld_machine.specs.Safe.{ItemsTile, LossesHappened, NothingHidden, NumbersDiffer, NumbersRise, RecordsWereAppended, Safe, TrimsWereIssued};
+ghost use Rattle.ld_machine.specs.Safe.{BatchesWereAppended, ItemsTile, LossesHappened, NothingHidden, NumbersDiffer, NumbersRise, RecordsWereAppended, Safe, TrimsWereIssued};
 ghost use Rattle.ld_transcript.specs.declared.line.Line.TheVariants.{NodeRebuilt, NodeWiped};
 ghost use Rattle.ld_op.specs.Plain.{Plain, log_of};
 ghost use Rattle.ld_op.specs.Ticks.{missing};
@@ -50,7 +50,12 @@ pub fn records_were_appended()
     ensures { (c : Config) (es : List Event) → IsInBounds c → RecordsWereAppended c (history c es) }
 {}
 
-/// No hole or bridge that a reader gets holds a number that was acknowledged or read as a record, earlier or later.
+/// The messages of a batch that a reader gets are, in order, those of the payload that was appended under its number before.
+pub fn batches_were_appended()
+    ensures { (c : Config) (es : List Event) → IsInBounds c → BatchesWereAppended c (history c es) }
+{}
+
+/// No hole or bridge that a reader gets holds a number that was acknowledged, or read as a record or a batch, earlier or later.
 pub fn nothing_is_hidden()
     ensures { (c : Config) (es : List Event) → IsInBounds c → NothingHidden c (history c es) }
 {}
@@ -105,7 +110,7 @@ pub fn generations_are_drawn_once()
     ensures { (c : Config) (ms : List Move) → IsInBounds c → GenerationsDrawn (trace c (begin c) ms) (world_after c (begin c) ms) }
 {}
 
-/// In every state, each entry at a node, in a store or in a page has a ballot that was handed out, at least its epoch, and nodes are sealed at ballots that were handed out, as they say.
+/// In every state, each entry at a node, in a store or in a page, but for withheld ones, has a ballot that was handed out, at least its epoch, and nodes are sealed at ballots that were handed out, as they say.
 pub fn ballots_were_drawn()
     ensures { (c : Config) (ms : List Move) → IsInBounds c → BallotsDrawn (world_after c (begin c) ms) }
 {}
@@ -130,7 +135,7 @@ pub fn trims_are_issued_points()
     ensures { (c : Config) (ms : List Move) → IsInBounds c → TrimsIssued (trace c (begin c) ms) (world_after c (begin c) ms) }
 {}
 
-/// In every state, each entry at a node, in a store or in a page, each item of a plan that is stored and each append that waits says what its ballot says of its number, or was refilled where it was known good as the epoch was closed or where a loss plan says it, and a record is the payload that was appended under it.
+/// In every state, each entry at a node, in a store or in a page, but for withheld ones, each item of a plan that is stored and each append that waits says what its ballot says of its number, or was refilled where it was known good as the epoch was closed or where a loss plan says it, and a record is the payload that was appended under it.
 pub fn entries_are_items()
     ensures { (c : Config) (ms : List Move) → IsInBounds c → EntriesAreItems (trace c (begin c) ms) (world_after c (begin c) ms) }
 {}
@@ -194,7 +199,7 @@ pub fn losses_were_told()
     ensures { LossesWereTold }
 {}
 
-/// Every run is safe: what readers get tiles their numbers, records were appended before, nothing that was acknowledged or read is hidden, trims were issued, losses happened, and the numbers of appends rise and differ.
+/// Every run is safe: what readers get tiles their numbers, records and batches were appended before, nothing that was acknowledged or read is hidden, trims were issued, losses happened, and the numbers of appends rise and differ.
 pub fn every_run_is_safe()
     ensures { (c : Config) (es : List Event) → IsInBounds c → Safe c (history c es) }
 {}
