@@ -8,9 +8,10 @@ use Rattle.ld_transcript.specs.declared.line.Line.{Line}
 use Rattle.ld_transcript.specs.declared.line.Line.TheVariants as lines
 use Rattle.ld_transcript.specs.declared.line.GapKind.{GapKind}
 use Rattle.ld_transcript.specs.declared.line.GapKind.TheVariants as gaps
-use Rattle.ld_machine.specs.Facts.{Happened, Writes, Acks, Appends, GivesRecord, GivesGap, ReadsLog, spec_fixed, stands_lost, Interval, opening, intervals}
+use Rattle.ld_machine.specs.Facts.{Happened, Writes, Acks, Appends, GivesRecord, GivesGap, AsksToAppend, ReadsLog, spec_now, stands_lost, Interval, opening, intervals}
 use Rattle.ld_machine.specs.Safe.{Safe, TilesFrom}
 use Rattle.ld_machine.specs.Config.{first_spec}
+use Rattle.ld_batch.specs.Batch.{packed}
 use Rattle.ld_ids.specs.declared.set.Spec.{Spec}
 use Rattle.ld_ids.specs.Choice.{choice_at, nodes_of}
 use Rattle.ld_ids.specs.Set.{members_from}
@@ -59,7 +60,7 @@ abbrev run : (List ℕ → ℕ → Line) → List Happened
 run f = tampered_run f three_nodes one_append
 
 abbrev given : Line → Happened
-given x = record { event = events.Deliver 16; lines = x ∷ []; made = None }
+given x = record { event = events.Deliver 16; lines = x ∷ []; made = None; swapped = None }
 
 abbrev Known : (List ℕ → ℕ → Line) → Type 0
 Known f = (slice_get (run f) 23 ≡ Some (given (f reader_r number))) × ReadsLog three_nodes (run f) 1 reader_r
@@ -96,9 +97,15 @@ no_zero : any_of (λ h. appends_zero h.event) (run another_payload) ≡ false
 unfolding choice_at members_from is_found keep_op keep_end load finish delivers happens statement with_page with_asks with_lost digest_lng enough is_spent best digest_trim top_place plan_floor plan_end plan message on_answer is_loss decide change activate close draw look after_close is_ready is_ready_short on_reply on_retry appending activated store_decision on_store digest_decision on_digest_ask on_clean on_trim on_release read_answer summary_at apply op_length missing is_missing on_page on_tick same find_named put_named find put take_out keep keep_keys steps_of history_from
 no_zero = refl
 
-zero_appended : (h : Happened) (name : List ℕ) → h.event ≡ events.Append name (0 ∷ []) → appends_zero h.event ≡ true
+-- a batch has two bytes at least
+no_batch : (ms : List (List ℕ)) → 0 ∷ [] ≡ packed ms → ⊥
+unfolding packed
+no_batch ms is = cc
+
+zero_appended : (h : Happened) (name : List ℕ) → AsksToAppend name (0 ∷ []) h.event → appends_zero h.event ≡ true
 unfolding same
-zero_appended h name is = ap (λ e. appends_zero e) is
+zero_appended h name (inl is) = ap (λ e. appends_zero e) is
+zero_appended h name (inr batch) = absurd (no_batch batch.0 batch.2)
 
 pub payload_unsafe : Safe three_nodes (run another_payload) → ⊥
 payload_unsafe s =
@@ -134,13 +141,13 @@ trim_unsafe s =
 
 -- ---- a loss ----
 
--- not so many nodes are lost as what was fixed says, if anything was
+-- not so many nodes are lost as what was fixed says, as swaps left it, if anything was
 abbrev too_few : (ℕ → Bool) → Option Spec → Bool
 too_few lost None = true
 too_few lost (Some s) = nat_lt (how_many lost (nodes_of s)) s.r
 
 abbrev few : List Happened → ℕ → Bool
-few hs j = too_few (stands_lost 1 1 (take (j + 1) hs)) (spec_fixed 1 1 (take (j + 1) hs) (first_spec three_nodes 1))
+few hs j = too_few (stands_lost 1 1 (take (j + 1) hs)) (spec_now 1 1 (take (j + 1) hs) (first_spec three_nodes 1))
 
 abbrev always_few : List Happened → Bool
 always_few hs = all_of (few hs) (numbers_from 0 24)

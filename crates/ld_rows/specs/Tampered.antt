@@ -14,7 +14,7 @@ without_record f (lines.Record name n p) = f name n
 without_record f x = x
 
 abbrev pub rewritten : (Line → Line) → List Happened → List Happened
-rewritten g hs = map (λ h. record { event = h.event; lines = map g h.lines; made = h.made }) hs
+rewritten g hs = map (λ h. record { event = h.event; lines = map g h.lines; made = h.made; swapped = h.swapped }) hs
 
 abbrev pub tampered : (List ℕ → ℕ → Line) → List Happened → List Happened
 tampered f hs = rewritten (without_record f) hs
