@@ -149,6 +149,10 @@ fn tells(
     Ok(shown(&reply.body))
 }
 
+fn is_record(entry: &&Entry) -> bool {
+    matches!(&entry.what, What::Rec(_))
+}
+
 // How many payloads are in the page that the node gives to a reader of one copy from the first place of epoch 1 on.
 fn payloads(
     alloc: Global,
@@ -170,15 +174,10 @@ fn payloads(
         },
     };
     let reply = answer_one(alloc, plain, node, Lsn::new(1, 3), &msg)?;
-    let mut count = 0;
-    if let Body::ReadPage { entries, .. } = &reply.body {
-        for entry in entries.as_slice() {
-            if let What::Rec(_) = &entry.what {
-                count += 1;
-            }
-        }
+    match &reply.body {
+        Body::ReadPage { entries, .. } => Ok(entries.as_slice().iter().filter(is_record).count()),
+        _ => Ok(0),
     }
-    Ok(count)
 }
 
 #[test]
