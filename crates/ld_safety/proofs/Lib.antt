@@ -88,6 +88,7 @@ pub mod GenerationsHeld
 pub mod LostRounds
 pub mod LostSeen
 pub mod LostAlong
+pub mod OneCopy
 pub mod LostSince
 pub mod LostBegins
 pub mod LostLines

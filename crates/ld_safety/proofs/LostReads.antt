@@ -125,7 +125,7 @@ pub poll_are : (looks : ℕ → View) (d : Reader) (x : ℕ × Body) → In x (p
 poll_are looks d x i = start_are (is_full_poll d) looks d x i
 
 -- a round
-starts_up : (full : Bool) (looks : ℕ → View) (d : Reader) → d.round ≤ (starts full looks d).round
+pub starts_up : (full : Bool) (looks : ℕ → View) (d : Reader) → d.round ≤ (starts full looks d).round
 starts_up full looks d = cond_both (nat_lt d.round last_round) (d.round + 1) d.round (λ r. d.round ≤ r) (λ t. omega arith) (λ t. omega arith)
 
 pub polled_up : (looks : ℕ → View) (d : Reader) → d.round ≤ (polled looks d).round

@@ -55,7 +55,7 @@ dropped_held P e false hs h = h
 abbrev pub IsAskOf : ℕ → ℕ → Body → Type 0
 IsAskOf round from b = (b ≡ bodies.ReadAsk round from) ⊎ ((set excluded : List Bool) × (b ≡ bodies.ReadOne round from set excluded))
 
-asks_are : (b : Body) (ys : List ℕ) (x : ℕ × Body) → In x (asks_with b ys) → x.1 ≡ b
+pub asks_are : (b : Body) (ys : List ℕ) (x : ℕ × Body) → In x (asks_with b ys) → x.1 ≡ b
 asks_are b [] x i = absurd i
 asks_are b (y ∷ ys) x (inl e) = ap (λ (z : ℕ × Body). z.1) e
 asks_are b (y ∷ ys) x (inr i) = asks_are b ys x i

@@ -65,6 +65,11 @@ module _ (n : ℕ) (set excluded : List Bool) where
   unfolding one_answer
   of_one P generation g released round from more h = more (read_answer generation g released round from) h
 
+  -- what holds where records are withheld holds of an answer to an ask for one copy
+  pub withheld_one : (P : Body → Type 0) (generation : ℕ) (g : Log) (released round from : ℕ) → ((b : Body) → P (withheld_in n set excluded b)) → P (one_answer n generation g released round from set excluded)
+  unfolding one_answer
+  withheld_one P generation g released round from h = h (read_answer generation g released round from)
+
   same_kind : (p : Body → Bool) → ((round from upto : ℕ) (clean : Bool) (es fs : List Entry) → p (bodies.ReadPage round from upto clean es) ≡ p (bodies.ReadPage round from upto clean fs)) → (b : Body) → p (withheld_in n set excluded b) ≡ p b
   same_kind p h (bodies.ReadPage round from upto clean es) = h round from upto clean _ es
   same_kind p h _ = refl

@@ -1,3 +1,4 @@
 pub mod Closes
 pub mod Lost
 pub mod OneRun
+pub mod OneCopy

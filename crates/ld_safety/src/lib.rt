@@ -18,6 +18,7 @@ ghost use Rattle.ld_machine.specs.Run.{InvariantHolds, Move, history, trace, wor
 ghost use Rattle.ld_machine.specs.Invariant.{Acked, Agrees, AppendsOf, BallotsDrawn, Closed, CopiesOf, CopyAt, EntriesAreItems, GenerationsDrawn, HasLoss, HeldWasSent, IsOpen, LossesLast, LossesSay, LossesWereGone, OnePlan, OpenTrims, Ready, ReleasesAcked, Retains, SealsHold, SequencersDrawn, ShortCopies, StandsOn, SummariesAgree, TrimsIssued};
 ghost use Rattle.ld_safety.specs.Closes.{ClosesSay, FullOrShort};
 ghost use Rattle.ld_safety.specs.Lost.{CopiesWereLost, LossesWereSeen, LossesWereTold, LostOnce, WholeStays, may_be_lost};
+ghost use Rattle.ld_safety.specs.OneCopy.{OneSends};
 ghost use Rattle.ld_safety.specs.OneRun.{LinesAreTheSteps, StepsAreTheTrace};
 
 /// But for `none`, the lines of a run's steps are those of its transcript.
@@ -118,6 +119,11 @@ pub fn ballots_were_drawn()
 /// In every state, each summary at a node or in a message is the one that closed its epoch in the register, and its ballot was handed out after the epoch.
 pub fn summaries_agree()
     ensures { (c : Config) (ms : List Move) → IsInBounds c → SummariesAgree (world_after c (begin c) ms) }
+{}
+
+/// In every state, where a reader asks for one copy of each record in a round, each record in a page of that round comes from the node that is to send it, so from one node at most.
+pub fn one_node_sends()
+    ensures { (c : Config) (ms : List Move) → IsInBounds c → OneSends (world_after c (begin c) ms) }
 {}
 
 /// In every state, each answer that a reader holds was sent to it by that node, and each entry in a recovery's digest came in a page of that node to the recovery's sequencer.
