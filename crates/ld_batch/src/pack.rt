@@ -4,7 +4,7 @@ ghost use Rattle.ld_batch.specs.Batch.{two_bytes, packed_message};
 
 use ld_ids::NoMemory;
 
-/// Adds a number of two bytes, the high one first. Without memory the text so far is what it was, or has one byte more.
+/// Adds a number of two bytes, the high one first. Without memory the text is what it was before.
 pub fn add_two_bytes(out: &mut Vec<u8>, number: u16) -> Result<(), NoMemory>
     ensures ok { OnOk result (out.new.items ≡ out.old.items ++ two_bytes number) }
     ensures same { OnErr result (out.new.items ≡ out.old.items) }
