@@ -1,7 +1,8 @@
 -- Lines of an input, and what is off in them.
-use Rattle.std.specs.Prelude.{ℕ, ◌≡◌, ◌≤◌, ◌+◌, ◌⊎◌, List, [], ◌∷◌, ◌++◌, length}
+use Rattle.std.specs.Prelude.{ℕ, Bool, true, false, ◌≡◌, ◌≤◌, ◌+◌, ◌⊎◌, List, [], ◌∷◌, ◌++◌, length}
 use Rattle.ld_lsn.specs.Text.{Lacks}
 use Rattle.ld_ids.specs.Bytes.{AreBytes, hex_text}
+use Rattle.ld_schedule.specs.Grammar.{IsBatch, messages_text}
 use Rattle.ld_schedule.specs.Reading.{IsOff}
 
 -- how many bytes a line has at most, without the byte 10 that ends it
@@ -33,14 +34,19 @@ pub record Begins (bytes line rest : List ℕ) : Type 0 where
   pub one : Lacks 10 line
   pub short : length line ≤ longest
 
--- a whole line that spells no payload
-pub record IsNoPayload (bytes : List ℕ) (place : ℕ) : Type 0 where
+-- the line spells no payload, or no messages of a batch where lines spell these, and this is the place where it is off
+abbrev pub SpellsNone : Bool → List ℕ → ℕ → Type 0
+SpellsNone false line place = IsOff AreBytes hex_text line place
+SpellsNone true line place = IsOff IsBatch messages_text line place
+
+-- a whole line that does
+pub record IsUnspelt (batches : Bool) (bytes : List ℕ) (place : ℕ) : Type 0 where
   pub line : List ℕ
   pub rest : List ℕ
   pub begins : Begins bytes line rest
-  pub off : IsOff AreBytes hex_text line place
+  pub off : SpellsNone batches line place
 
--- how the first line is off that is to spell a payload, and at which place
-pub record IsOffPayload (bytes : List ℕ) (place : ℕ) : Type 0 where
+-- how the first line is off that is to spell a payload, or the messages of a batch, and at which place
+pub record IsOffLine (batches : Bool) (bytes : List ℕ) (place : ℕ) : Type 0 where
   pub some : 1 ≤ length bytes
-  pub off : IsLong bytes place ⊎ IsCutLine bytes place ⊎ IsNoPayload bytes place
+  pub off : IsLong bytes place ⊎ IsCutLine bytes place ⊎ IsUnspelt batches bytes place
