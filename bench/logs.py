@@ -50,6 +50,11 @@ class Cluster:
         every = ["--config", CONFIG, "--log", "1", "--register", f"{self.folder}/register", "--port", str(self.port), "--rounds", "1000000"]
         return subprocess.run([self.program, command, *every, *words], check=True, **streams)
 
+    def stop(self, node):
+        """Kills one node."""
+        self.nodes[node - 1].kill()
+        self.nodes[node - 1].wait()
+
     def end(self):
         for node in self.nodes:
             node.kill()
