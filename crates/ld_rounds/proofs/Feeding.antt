@@ -9,7 +9,6 @@ use Rattle.ld_schedule.specs.declared.event.Event.{Event}
 use Rattle.ld_msg.specs.declared.msg.Msg.{Msg}
 use Rattle.ld_machine.specs.State.{State}
 use Rattle.ld_dial.specs.Far.{Far}
-use Rattle.ld_rounds.specs.declared.payloads.Content.{Content}
 use Rattle.ld_rounds.specs.declared.ended.Ended.{Ended}
 use Rattle.ld_rounds.specs.declared.ended.Ended.TheVariants as ends
 use Rattle.ld_rounds.specs.Endings.{IsLater, IsEnding}
@@ -72,18 +71,18 @@ pub off_since : (i j : Option Input) (line place : ℕ) → SameBehind i j → I
 off_since None j line place a o = tt
 off_since (Some i) j line place a o =
     let h : ComesTo a.left line place = subst (λ x. IsOffBehind x line place) a.now o in
-    record { batches = h.batches; bytes = h.bytes; off = sym a.off ∙ h.off; at = h.at }
+    record { rest = h.rest; batches = h.batches; off = sym a.off ∙ h.off; at = h.at }
 
-pub next_behind : (i j : Option Input) (o : Option Content) → NextIs i j (Ok o) → SameBehind i j
+pub next_behind : (i j : Option Input) (o : Option (List ℕ)) → NextIs i j (Ok o) → SameBehind i j
 next_behind None j o n = tt
 next_behind (Some i) j (Some payload) n = record { left = record { payloads = n.rest; off = i.off }; now = n.left; off = refl }
 next_behind (Some i) j None n = record { left = all_taken; now = n.1; off = ap (λ (x : Input). x.off) (sym n.0) }
 
-pub held_behind : (i coming : Option Input) (payload : Content) → SameBehind i coming → SameBehind i (upcoming (Some payload) coming)
+pub held_behind : (i coming : Option Input) (payload : List ℕ) → SameBehind i coming → SameBehind i (upcoming (Some payload) coming)
 held_behind None coming payload h = tt
 held_behind (Some i) coming payload h = record { left = record h.left { payloads = payload ∷ h.left.payloads }; now = ap (upcoming (Some payload)) h.now; off = h.off }
 
-pub held_next : (payload : Content) (coming : Option Input) → NextIs (upcoming (Some payload) coming) coming (Ok (Some payload))
+pub held_next : (payload : List ℕ) (coming : Option Input) → NextIs (upcoming (Some payload) coming) coming (Ok (Some payload))
 held_next payload None = tt
 held_next payload (Some i) = record { rest = i.payloads; first = refl; left = refl }
 

@@ -12,14 +12,12 @@ use Rattle.ld_machine.specs.State.{State}
 use Rattle.ld_transcript.specs.declared.line.Line.{Line}
 use Rattle.ld_machine.specs.Step.{happens}
 use Rattle.ld_machine.specs.Run.{step, state_after}
-use Rattle.ld_rounds.specs.declared.payloads.Content.{Content}
-use Rattle.ld_rounds.specs.declared.payloads.Content.TheVariants as contents
 use Rattle.ld_rounds.specs.declared.ended.Ended.{Ended}
 use Rattle.ld_rounds.specs.declared.ended.Ended.TheVariants as ends
 use Rattle.ld_rounds.specs.Input.{Input, all_taken}
 use Rattle.ld_rounds.specs.Feeding.{upcoming, NoneComes, WasOver, NextIs, IsInputEnding}
 use Rattle.ld_rounds.specs.Drives.{Turned}
-use Rattle.ld_rounds.specs.Rounds.{Splits, is_quiet, Quiet, IsDelivered, waiting_by, waiting_in, waiting, IsTickBehind, IsReminded, IsCalm, AreCalm, Calm, ticks_only, Visiting, IsVisit, AreVisits, IsReadRound, AreReadRounds, IsRetry, MayRetry, IsAppendRound, AreAppendRounds, AreAppends, IsAppendBy, IsBegun, append_of, tells_full, taken_by, taken_of, HasFed, Feeds, HasFedSome, FeedsUntil, Both}
+use Rattle.ld_rounds.specs.Rounds.{Splits, is_quiet, Quiet, IsDelivered, waiting_by, waiting_in, waiting, IsTickBehind, IsReminded, IsCalm, AreCalm, Calm, ticks_only, Visiting, IsVisit, AreVisits, IsReadRound, AreReadRounds, IsRetry, MayRetry, IsAppendRound, AreAppendRounds, AreAppends, IsAppendBy, IsBegun, tells_full, taken_by, taken_of, HasFed, Feeds, HasFedSome, FeedsUntil, Both}
 
 -- by so many rounds
 pub turned : {Y : Type 0} {W : ℕ → Type 0} (low high n : ℕ) → low ≤ n → n < high → Y ⊎ W n → Y ⊎ Turned low high W
@@ -203,7 +201,7 @@ module _ (c : Config) where
   calm_takes o s (events.Open n l from until) h = refl
   calm_takes o s (events.OpenOne n l from until) h = refl
   calm_takes o s (events.OpenMessages n l from until) h = refl
-  calm_takes o s (events.Batch n messages) h = absurd h
+  calm_takes o s (events.Batch n ms) h = refl
   calm_takes o s (events.Replace n m l) h = refl
   calm_takes o s (events.Poll n) h = refl
   calm_takes o s (events.Tick n l) h = refl
@@ -223,7 +221,7 @@ module _ (c : Config) where
   feeds_here None s = tt
   feeds_here (Some i) s = record { left = i; now = refl; payloads = refl; off = refl }
 
-  taken_parts : (s : State) (es fs : List Event) (all left rest : List Content) → all ≡ taken_of c s es ++ left → left ≡ taken_of c (state_after c s es) fs ++ rest → all ≡ taken_of c s (es ++ fs) ++ rest
+  taken_parts : (s : State) (es fs : List Event) (all left rest : List (List ℕ)) → all ≡ taken_of c s es ++ left → left ≡ taken_of c (state_after c s es) fs ++ rest → all ≡ taken_of c s (es ++ fs) ++ rest
   taken_parts s es fs all left rest a b =
       a ∙ (ap (λ l. taken_of c s es ++ l) b ∙ (sym (append_assoc (taken_of c s es) (taken_of c (state_after c s es) fs) rest) ∙ ap (λ l. l ++ rest) (sym (taken-append s es fs))))
 
@@ -241,7 +239,7 @@ module _ (c : Config) where
 
   until_by : (i left : Input) (e : Ended) (s : State) (es fs : List Event) → i.payloads ≡ taken_of c s es ++ left.payloads → left.off ≡ i.off → FeedsUntil c (Some left) e (state_after c s es) fs → FeedsUntil c (Some i) e s (es ++ fs)
   until_by i left ends.Done s es fs a o h = (fed_all_join i left s es fs a h.0, sym o ∙ h.1)
-  until_by i left (ends.BadLine line place) s es fs a o h = (fed_all_join i left s es fs a h.0, record { batches = h.1.batches; bytes = h.1.bytes; off = sym o ∙ h.1.off; at = h.1.at })
+  until_by i left (ends.BadLine line place) s es fs a o h = (fed_all_join i left s es fs a h.0, record { rest = h.1.rest; batches = h.1.batches; off = sym o ∙ h.1.off; at = h.1.at })
   until_by i left ends.Rounds s es fs a o h = fed_some_join i left s es fs a h
   until_by i left (ends.Preempted by) s es fs a o h = fed_some_join i left s es fs a h
   until_by i left ends.LogLimit s es fs a o h = fed_some_join i left s es fs a h
@@ -315,12 +313,12 @@ module _ (c : Config) where
   none_fed (Some i) j s x = record { left = i; now = x.1 ∙ ap (λ (y : Input). Some y) (sym x.0); payloads = refl; off = refl }
 
   -- one came, and was taken
-  pub one_fed : (i j : Option Input) (payload : Content) (s : State) (es : List Event) → NextIs i j (Ok (Some payload)) → taken_of c s es ≡ payload ∷ [] → Feeds c i j s es
+  pub one_fed : (i j : Option Input) (payload : List ℕ) (s : State) (es : List Event) → NextIs i j (Ok (Some payload)) → taken_of c s es ≡ payload ∷ [] → Feeds c i j s es
   one_fed None j payload s es x t = tt
   one_fed (Some i) j payload s es x t = record { left = record { payloads = x.rest; off = i.off }; now = x.left; payloads = x.first ∙ ap (λ l. l ++ x.rest) (sym t); off = refl }
 
   -- one came, and is held
-  pub held_fed : (i j : Option Input) (payload : Content) (s : State) (es : List Event) → NextIs i j (Ok (Some payload)) → taken_of c s es ≡ [] → Feeds c i (upcoming (Some payload) j) s es
+  pub held_fed : (i j : Option Input) (payload : List ℕ) (s : State) (es : List Event) → NextIs i j (Ok (Some payload)) → taken_of c s es ≡ [] → Feeds c i (upcoming (Some payload) j) s es
   held_fed None j payload s es x t = tt
   held_fed (Some i) j payload s es x t = record {
     left = record { payloads = payload ∷ x.rest; off = i.off };
@@ -330,26 +328,21 @@ module _ (c : Config) where
   }
 
   -- one came, and the drive ends by it
-  begun_until : (i : Input) (payload : Content) (rest : List Content) (e : Ended) (s : State) (es : List Event) → i.payloads ≡ payload ∷ rest → IsPartly e → (taken_of c s es ≡ []) ⊎ (taken_of c s es ≡ payload ∷ []) → FeedsUntil c (Some i) e s es
+  begun_until : (i : Input) (payload : List ℕ) (rest : List (List ℕ)) (e : Ended) (s : State) (es : List Event) → i.payloads ≡ payload ∷ rest → IsPartly e → (taken_of c s es ≡ []) ⊎ (taken_of c s es ≡ payload ∷ []) → FeedsUntil c (Some i) e s es
   begun_until i payload rest e s es f p (inl t) = fed_some i e s es p (record { left = payload ∷ rest; payloads = f ∙ ap (λ l. l ++ payload ∷ rest) (sym t) })
   begun_until i payload rest e s es f p (inr t) = fed_some i e s es p (record { left = rest; payloads = f ∙ ap (λ l. l ++ rest) (sym t) })
 
-  taken_or : (b : Bool) (payload : Content) → ((if b then [] else payload ∷ []) ≡ []) ⊎ ((if b then [] else payload ∷ []) ≡ payload ∷ [])
+  taken_or : (b : Bool) (payload : List ℕ) → ((if b then [] else payload ∷ []) ≡ []) ⊎ ((if b then [] else payload ∷ []) ≡ payload ∷ [])
   taken_or true payload = inl refl
   taken_or false payload = inr refl
 
-  -- what an append takes
-  taken_is : (name : List ℕ) (payload : Content) (s : State) → taken_by c s (append_of name payload) ≡ (if tells_full (happens c s (append_of name payload)).lines then [] else payload ∷ [])
-  taken_is name (contents.Payload payload) s = refl
-  taken_is name (contents.Batch messages) s = refl
-
-  begun_takes : (name : List ℕ) (payload : Content) (s : State) (es : List Event) → IsBegun (append_of name payload) s es → (taken_of c s es ≡ []) ⊎ (taken_of c s es ≡ payload ∷ [])
+  begun_takes : (name payload : List ℕ) (s : State) (es : List Event) → IsBegun (events.Append name payload) s es → (taken_of c s es ≡ []) ⊎ (taken_of c s es ≡ payload ∷ [])
   begun_takes name payload s es (inl h) = inl (ap (taken_of c s) h)
   begun_takes name payload s es (inr h) =
-      let t : taken_of c s es ≡ (if tells_full (happens c s (append_of name payload)).lines then [] else payload ∷ []) = ap (taken_of c s) h ∙ (append-nil (taken_by c s (append_of name payload)) ∙ taken_is name payload s) in
-      elim (taken_or (tells_full (happens c s (append_of name payload)).lines) payload) [ inl x ↦ inl (t ∙ x) | inr x ↦ inr (t ∙ x) ]
+      let t : taken_of c s es ≡ taken_by c s (events.Append name payload) = ap (taken_of c s) h ∙ append-nil (taken_by c s (events.Append name payload)) in
+      elim (taken_or (tells_full (happens c s (events.Append name payload)).lines) payload) [ inl x ↦ inl (t ∙ x) | inr x ↦ inr (t ∙ x) ]
 
-  pub one_until : (i j : Option Input) (name : List ℕ) (payload : Content) (e : Ended) (s : State) (es : List Event) → NextIs i j (Ok (Some payload)) → IsPartly e → IsBegun (append_of name payload) s es → FeedsUntil c i e s es
+  pub one_until : (i j : Option Input) (name payload : List ℕ) (e : Ended) (s : State) (es : List Event) → NextIs i j (Ok (Some payload)) → IsPartly e → IsBegun (events.Append name payload) s es → FeedsUntil c i e s es
   one_until None j name payload e s es x p h = tt
   one_until (Some i) j name payload e s es x p h = begun_until i payload x.rest e s es x.first p (begun_takes name payload s es h)
 
@@ -378,10 +371,9 @@ module _ (c : Config) where
   may_retry name false s es h = inr h
 
   -- what an append takes, by the lines of its step
-  pub takes_by : (name : List ℕ) (payload : Content) (s : State) (es : List Event) (b : Bool) (ls : List Line) → es ≡ append_of name payload ∷ [] → b ≡ tells_full ls → ls ≡ (happens c s (append_of name payload)).lines → taken_of c s es ≡ (if b then [] else payload ∷ [])
-  takes_by name payload s es b ls h t l = ap (taken_of c s) h ∙ (append-nil (taken_by c s (append_of name payload)) ∙ (taken_is name payload s ∙ ap (λ (x : Bool). if x then [] else payload ∷ []) (sym (t ∙ ap tells_full l))))
+  pub takes_by : (name payload : List ℕ) (s : State) (es : List Event) (b : Bool) (ls : List Line) → es ≡ events.Append name payload ∷ [] → b ≡ tells_full ls → ls ≡ (happens c s (events.Append name payload)).lines → taken_of c s es ≡ (if b then [] else payload ∷ [])
+  takes_by name payload s es b ls h t l = ap (taken_of c s) h ∙ (append-nil (taken_by c s (events.Append name payload)) ∙ ap (λ (x : Bool). if x then [] else payload ∷ []) (sym (t ∙ ap tells_full l)))
 
-  pub begun_appends : (name : List ℕ) (payload : Content) (s : State) (es : List Event) → IsBegun (append_of name payload) s es → AreAppends name s es
+  pub begun_appends : (name payload : List ℕ) (s : State) (es : List Event) → IsBegun (events.Append name payload) s es → AreAppends name s es
   begun_appends name payload s es (inl h) = subst (λ (l : List Event). AreAppends name s l) (sym h) tt
-  begun_appends name (contents.Payload payload) s es (inr h) = subst (λ (l : List Event). AreAppends name s l) (sym h) (refl, tt)
-  begun_appends name (contents.Batch messages) s es (inr h) = subst (λ (l : List Event). AreAppends name s l) (sym h) (refl, tt)
+  begun_appends name payload s es (inr h) = subst (λ (l : List Event). AreAppends name s l) (sym h) (refl, tt)

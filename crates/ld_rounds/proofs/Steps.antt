@@ -25,11 +25,7 @@ use Rattle.ld_machine.specs.Step as machine
 use Rattle.ld_machine.specs.Step.{happens, delivers, comes_to, marked, to_node, is_written, kept_lines}
 use Rattle.ld_machine.specs.Run.{step, state_after, lines_of}
 use Rattle.ld_dial.specs.Far.{alone, handed}
-use Rattle.ld_bounds.specs.Sound.{IsEvent}
 use Rattle.ld_rounds.specs.News.{is_answer}
-use Rattle.ld_rounds.specs.declared.payloads.Content.{Content}
-use Rattle.ld_rounds.specs.declared.payloads.Content.TheVariants as contents
-use Rattle.ld_rounds.specs.Rounds.{append_of}
 use Rattle.ld_rounds.specs.Telling.{is_answered, AnswersOnce}
 use Rattle.ld_rounds.specs.Drives.{is_own, own_lines, Driver, MayLose, IsDriven, AreDriven, Goes}
 use Rattle.ld_rounds.proofs.Joining.{Joins, after-append}
@@ -78,7 +74,6 @@ driven_if who one other c s (e ∷ es) f d = (event_if e d.0, driven_if who one 
     event_if : (x : Event) → IsDriven who one s x → IsDriven who other s x
     event_if (events.Activate n l) h = h
     event_if (events.Append n payload) h = h
-    event_if (events.Batch n messages) h = h
     event_if (events.Retry n) h = h
     event_if (events.Open n l from until) h = h
     event_if (events.OpenOne n l from until) h = h
@@ -249,18 +244,9 @@ pub open_is : (c : Config) (s : State) (name : List ℕ) (l from until : ℕ) �
 unfolding step
 open_is c s name l from until = refl
 
-pub append_is : (c : Config) (s : State) (name : List ℕ) (x : Content) → step c s (append_of name x) ≡ finish (happens c s (append_of name x))
+pub append_is : (c : Config) (s : State) (name payload : List ℕ) → step c s (events.Append name payload) ≡ finish (happens c s (events.Append name payload))
 unfolding step
-append_is c s name (contents.Payload payload) = refl
-append_is c s name (contents.Batch messages) = refl
-
-pub append_driven : (who : Driver) (broken : Type 0) (s : State) (x : Content) → IsDriven who broken s (append_of who.name x)
-append_driven who broken s (contents.Payload payload) = refl
-append_driven who broken s (contents.Batch messages) = refl
-
-pub append_event : (name : List ℕ) (x : Content) → IsEvent (append_of name x)
-append_event name (contents.Payload payload) = tt
-append_event name (contents.Batch messages) = tt
+append_is c s name payload = refl
 
 pub retry_is : (c : Config) (s : State) (name : List ℕ) → step c s (events.Retry name) ≡ finish (happens c s (events.Retry name))
 unfolding step

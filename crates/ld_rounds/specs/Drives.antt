@@ -79,7 +79,6 @@ pub record Driver : Type 0 where
 abbrev pub IsDriven : Driver → Type 0 → State → Event → Type 0
 IsDriven who broken s (events.Activate n l) = n ≡ who.name
 IsDriven who broken s (events.Append n payload) = n ≡ who.name
-IsDriven who broken s (events.Batch n messages) = n ≡ who.name
 IsDriven who broken s (events.Retry n) = n ≡ who.name
 IsDriven who broken s (events.Open n l from until) = n ≡ who.name
 IsDriven who broken s (events.OpenOne n l from until) = n ≡ who.name

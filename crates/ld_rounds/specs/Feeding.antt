@@ -3,7 +3,6 @@ use Rattle.std.specs.Prelude.{ℕ, ◌≡◌, List, ◌∷◌, Option, None, Som
 use Rattle.std.specs.declared.result.Result.{Result}
 use Rattle.std.specs.declared.result.Result.TheVariants.{Ok, Err}
 use Rattle.ld_io.specs.Causes.{Rose}
-use Rattle.ld_rounds.specs.declared.payloads.Content.{Content}
 use Rattle.ld_rounds.specs.declared.ended.Ended.{Ended}
 use Rattle.ld_rounds.specs.declared.ended.Ended.TheVariants as ends
 use Rattle.ld_rounds.specs.Endings.{IsEnding}
@@ -12,13 +11,13 @@ use Rattle.ld_rounds.specs.Input.{Input, all_taken, GivesNext, ComesTo, IsOff}
 -- ---- what is still to come ----
 
 -- the payload that is held comes first
-abbrev pub upcoming : Option Content → Option Input → Option Input
+abbrev pub upcoming : Option (List ℕ) → Option Input → Option Input
 upcoming None coming = coming
 upcoming (Some payload) None = None
 upcoming (Some payload) (Some input) = Some (record input { payloads = payload ∷ input.payloads })
 
 -- what the next one is
-abbrev pub NextIs : Option Input → Option Input → Result (Option Content) Ended → Type 0
+abbrev pub NextIs : Option Input → Option Input → Result (Option (List ℕ)) Ended → Type 0
 NextIs None new result = Unit {0}
 NextIs (Some old) new (Ok (Some payload)) = GivesNext old new payload
 NextIs (Some old) new (Ok None) = (old ≡ all_taken) × (new ≡ Some all_taken)

@@ -3,20 +3,19 @@ use Rattle.std.specs.Prelude.{ℕ, ◌≡◌, List, [], ◌∷◌, Option, None,
 use Rattle.std.specs.declared.result.Result.{Result}
 use Rattle.std.specs.declared.result.Result.TheVariants.{Ok, Err}
 use Rattle.ld_io.specs.Causes.{Rose}
-use Rattle.ld_rounds.specs.Lines.{IsOffLine}
-use Rattle.ld_rounds.specs.declared.payloads.Content.{Content}
+use Rattle.ld_rounds.specs.Lines.{IsOffPayload}
 use Rattle.ld_rounds.specs.declared.payloads.InputFault.{InputFault}
 use Rattle.ld_rounds.specs.declared.payloads.InputFault.TheVariants as faults
 
--- a line that is off: its number, whether it was to spell the messages of a batch, and the bytes from it on
+-- a line that is off: its number, the bytes from it on, and whether it was to spell the messages of a batch
 pub record OffLine : Type 0 where
-  pub line : ℕ
-  pub batches : Bool
+  pub number : ℕ
   pub bytes : List ℕ
+  pub batches : Bool
 
--- what the lines that are still to come spell, and behind them the end of the input, or the first line that is off
+-- the payloads of the lines that are still to come, and behind them the end of the input, or the first line that is off
 pub record Input : Type 0 where
-  pub payloads : List Content
+  pub payloads : List (List ℕ)
   pub off : Option OffLine
 
 -- nothing is still to come
@@ -24,30 +23,30 @@ abbrev pub all_taken : Input
 all_taken = record { payloads = []; off = None }
 
 -- the next payload was taken
-pub record GivesNext (old : Input) (new : Option Input) (payload : Content) : Type 0 where
-  pub rest : List Content
+pub record GivesNext (old : Input) (new : Option Input) (payload : List ℕ) : Type 0 where
+  pub rest : List (List ℕ)
   pub first : old.payloads ≡ payload ∷ rest
   pub left : new ≡ Some (record { payloads = rest; off = old.off })
 
 -- behind all payloads comes a line that is off, at this place
 pub record ComesTo (old : Input) (line place : ℕ) : Type 0 where
+  pub rest : List ℕ
   pub batches : Bool
-  pub bytes : List ℕ
-  pub off : old.off ≡ Some (record { line = line; batches = batches; bytes = bytes })
-  pub at : IsOffLine batches bytes place
+  pub off : old.off ≡ Some (record { number = line; bytes = rest; batches = batches })
+  pub at : IsOffPayload batches rest place
 
 -- it comes next
 pub record IsOff (old : Input) (line place : ℕ) : Type 0 where
   pub none : old.payloads ≡ []
   pub off : ComesTo old line place
 
-abbrev pub GivesOf : Input → Option Input → Result (Option Content) InputFault → Type 0
+abbrev pub GivesOf : Input → Option Input → Result (Option (List ℕ)) InputFault → Type 0
 GivesOf old new (Ok (Some payload)) = GivesNext old new payload
 GivesOf old new (Ok None) = (old ≡ all_taken) × (new ≡ Some all_taken)
 GivesOf old new (Err (faults.BadLine line place)) = IsOff old line place
 GivesOf old new (Err _) = Unit {0}
 
-abbrev pub Gives : Option Input → Option Input → Result (Option Content) InputFault → Type 0
+abbrev pub Gives : Option Input → Option Input → Result (Option (List ℕ)) InputFault → Type 0
 Gives None new result = Unit {0}
 Gives (Some old) new result = GivesOf old new result
 

@@ -34,19 +34,19 @@ pub record Begins (bytes line rest : List ℕ) : Type 0 where
   pub one : Lacks 10 line
   pub short : length line ≤ longest
 
--- the line spells no payload, or no messages of a batch where lines spell these, and this is the place where it is off
-abbrev pub SpellsNone : Bool → List ℕ → ℕ → Type 0
-SpellsNone false line place = IsOff AreBytes hex_text line place
-SpellsNone true line place = IsOff IsBatch messages_text line place
+-- the line spells no payload, or, where lines spell batches, no messages of one; and this is the place where it is off
+abbrev pub IsMisspelt : Bool → List ℕ → ℕ → Type 0
+IsMisspelt false line place = IsOff AreBytes hex_text line place
+IsMisspelt true line place = IsOff IsBatch messages_text line place
 
--- a whole line that does
-pub record IsUnspelt (batches : Bool) (bytes : List ℕ) (place : ℕ) : Type 0 where
+-- a whole line that is misspelt
+pub record IsNoPayload (batches : Bool) (bytes : List ℕ) (place : ℕ) : Type 0 where
   pub line : List ℕ
   pub rest : List ℕ
   pub begins : Begins bytes line rest
-  pub off : SpellsNone batches line place
+  pub off : IsMisspelt batches line place
 
--- how the first line is off that is to spell a payload, or the messages of a batch, and at which place
-pub record IsOffLine (batches : Bool) (bytes : List ℕ) (place : ℕ) : Type 0 where
+-- how the first line is off that is to spell a payload, or a batch's messages, and at which place
+pub record IsOffPayload (batches : Bool) (bytes : List ℕ) (place : ℕ) : Type 0 where
   pub some : 1 ≤ length bytes
-  pub off : IsLong bytes place ⊎ IsCutLine bytes place ⊎ IsUnspelt batches bytes place
+  pub off : IsLong bytes place ⊎ IsCutLine bytes place ⊎ IsNoPayload batches bytes place

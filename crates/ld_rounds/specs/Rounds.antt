@@ -15,8 +15,6 @@ use Rattle.ld_msg.specs.Network.{message}
 use Rattle.ld_machine.specs.State.{State}
 use Rattle.ld_machine.specs.Step.{happens}
 use Rattle.ld_machine.specs.Run.{step, state_after}
-use Rattle.ld_rounds.specs.declared.payloads.Content.{Content}
-use Rattle.ld_rounds.specs.declared.payloads.Content.TheVariants as contents
 use Rattle.ld_rounds.specs.declared.ended.Ended.{Ended}
 use Rattle.ld_rounds.specs.declared.ended.Ended.TheVariants as ends
 use Rattle.ld_rounds.specs.Input.{Input, ComesTo}
@@ -151,14 +149,8 @@ abbrev pub MayRetry : List ℕ → Bool → State → List Event → Type 0
 MayRetry name true s es = es ≡ []
 MayRetry name false s es = IsBegun (events.Retry name) s es
 
--- it appends a payload, or a batch of messages
-abbrev pub append_of : List ℕ → Content → Event
-append_of name (contents.Payload payload) = events.Append name payload
-append_of name (contents.Batch messages) = events.Batch name messages
-
 abbrev pub IsAppendBy : List ℕ → Event → Type 0
 IsAppendBy name (events.Append n payload) = n ≡ name
-IsAppendBy name (events.Batch n messages) = n ≡ name
 IsAppendBy name _ = ⊥
 
 abbrev pub AreAppends : List ℕ → State → List Event → Type 0
@@ -193,14 +185,13 @@ abbrev pub tells_full : List Line → Bool
 tells_full [] = false
 tells_full (l ∷ ls) = if is_full_line l then true else tells_full ls
 
--- an append takes what it appends, unless the machine answers that the window is full
-abbrev pub taken_by : Config → State → Event → List Content
-taken_by c s (events.Append name payload) = if tells_full (happens c s (events.Append name payload)).lines then [] else contents.Payload payload ∷ []
-taken_by c s (events.Batch name messages) = if tells_full (happens c s (events.Batch name messages)).lines then [] else contents.Batch messages ∷ []
+-- an append takes its payload, unless the machine answers that the window is full
+abbrev pub taken_by : Config → State → Event → List (List ℕ)
+taken_by c s (events.Append name payload) = if tells_full (happens c s (events.Append name payload)).lines then [] else payload ∷ []
 taken_by c s _ = []
 
 -- the payloads that the appends took, in their order
-abbrev pub taken_of : Config → State → List Event → List Content
+abbrev pub taken_of : Config → State → List Event → List (List ℕ)
 taken_of c s [] = []
 taken_of c s (e ∷ es) = taken_by c s e ++ taken_of c (step c s e).state es
 
@@ -217,7 +208,7 @@ Feeds c (Some old) new s es = HasFed c old new s es
 
 -- they are the first ones that were to come
 pub record HasFedSome (c : Config) (old : Input) (s : State) (es : List Event) : Type 0 where
-  pub left : List Content
+  pub left : List (List ℕ)
   pub payloads : old.payloads ≡ taken_of c s es ++ left
 
 -- where it is done, and where it comes to a line that is off, all before are taken

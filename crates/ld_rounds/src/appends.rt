@@ -3,7 +3,7 @@ ghost use Rattle.std.specs.Prelude.{◌≡◌, ◌≤◌, ◌⊎◌, ℕ, [], �
 ghost use Rattle.ld_ids.specs.Set.{members};
 ghost use Rattle.ld_config.specs.declared.config.Config.{Config};
 ghost use Rattle.ld_config.specs.Bounds.{IsInBounds};
-ghost use Rattle.ld_schedule.specs.declared.event.Event.TheVariants.{Retry};
+ghost use Rattle.ld_schedule.specs.declared.event.Event.TheVariants.{Append, Retry};
 ghost use Rattle.ld_node_bounds.specs.Messages.{AreMessages};
 ghost use Rattle.ld_machine.specs.State.{State};
 ghost use Rattle.ld_machine.specs.Step.{happens};
@@ -12,16 +12,16 @@ ghost use Rattle.ld_dial.specs.Far.{Far};
 ghost use Rattle.ld_rounds.specs.Ends.{IsSaid};
 ghost use Rattle.ld_rounds.specs.Acts.{IsActed, Own, driver};
 ghost use Rattle.ld_rounds.specs.Drives.{AreOfConfig, Holds, GoesOn, AllTaken, IsBroken, AreLater};
-ghost use Rattle.ld_rounds.specs.Rounds.{IsOne, IsBegun, IsRetry, MayRetry, Adds, AddsUntil, Prepares, PreparesUntil, Rounds, RoundsUntil, append_of, taken_of, tells_full};
+ghost use Rattle.ld_rounds.specs.Rounds.{IsOne, IsBegun, IsRetry, MayRetry, Adds, AddsUntil, Prepares, PreparesUntil, Rounds, RoundsUntil, taken_of, tells_full};
 ghost use Rattle.ld_rounds.specs.Taking.{TookAppends};
 ghost use Rattle.ld_rounds.specs.Endings.{IsEnding, IsLater};
 ghost use Rattle.ld_rounds.specs.Feeding.{IsInputEnding, IsAppendEnding, upcoming, WasOver, NextIs, SameBehind};
 ghost use Rattle.ld_rounds.specs.Input.{Input};
 ghost use Rattle.ld_rounds.specs.Queued.{are_empty};
 
-use crate::{Actor, Content, Ended, Heard, InputFault, Payloads, Queues, round, tell};
+use crate::{Actor, Ended, Heard, InputFault, Payloads, Queues, round, tell};
 use ld_dial::Nodes;
-use ld_ids::{Name, NoMemory, NodeSet};
+use ld_ids::{Name, NoMemory, NodeSet, Payload};
 use ld_io::Sink;
 use std::alloc::Global;
 
@@ -37,17 +37,17 @@ pub trait Appends: Actor {
     /// Every append is acknowledged, and every epoch before its own is closed.
     ghost settled: { Self → Bool };
 
-    /// The sequencer of the name numbers the payload, or that of the batch, and sends it, or writes why not. It ends the drive where it says so in
+    /// The sequencer of the name numbers the payload and sends it, or writes why not. It ends the drive where it says so in
     /// a line. After want of memory it is of no use.
     fn append(
         &mut self,
         alloc: Global,
         name: &Name,
-        content: &Content,
+        payload: &Payload,
     ) -> Result<Appended, NoMemory>
         ensures messages { IfOk result (λ appended. AreMessages appended.heard.sends) }
         ensures appended { IfOk result (λ appended. (c : Config) (s : State) → IsInBounds c → IsSound c s → Self.stands self.old c s
-            → IsActed (Self.stands self.new c) s appended.heard.lines.items appended.heard.sends (happens c s (append_of name.now content.now))) }
+            → IsActed (Self.stands self.new c) s appended.heard.lines.items appended.heard.sends (happens c s (Append name.now payload.now))) }
         ensures full { IfOk result (λ appended. appended.is_full ≡ tells_full appended.heard.lines.items) }
         ensures said { IfOk result (λ appended. IfSome appended.heard.end (IsSaid appended.heard.lines.items)) }
         ensures itself { Self.own self.new ≡ Self.own self.old }
@@ -73,19 +73,19 @@ pub trait Appends: Actor {
 fn add<A: Appends, O: Sink>(
     alloc: Global,
     name: &Name,
-    content: &Content,
+    payload: &Payload,
     sequencer: &mut A,
     queues: &mut Queues,
     out: &mut O,
 ) -> Result<bool, Ended>
     ensures held { (own : Own) (c : Config) (first : ℕ) (s : State) (far : Far) → IsInBounds c → Holds (A.stands sequencer.old) c first s far queues.old
-        → GoesOn (driver name.now own) ⊥ (λ t es. IsOne (append_of name.now content.now) t es × IfOk result (λ full. taken_of c t es ≡ (if full then [] else content.now ∷ []))) (λ e. IsBegun (append_of name.now content.now)) (A.stands sequencer.new) (λ now. now ≡ far) c first s queues.new (O.written out.old) (O.written out.new) result }
+        → GoesOn (driver name.now own) ⊥ (λ t es. IsOne (Append name.now payload.now) t es × IfOk result (λ full. taken_of c t es ≡ (if full then [] else payload.now ∷ []))) (λ e. IsBegun (Append name.now payload.now)) (A.stands sequencer.new) (λ now. now ≡ far) c first s queues.new (O.written out.old) (O.written out.new) result }
     ensures itself { A.own sequencer.new ≡ A.own sequencer.old }
     ensures since { A.since sequencer.old sequencer.new }
     ensures cause { IfErr result (IsEnding (O.faults out.old) (O.faults out.new) (O.written out.old) (O.written out.new)) }
     ensures later { IsLater (O.faults out.old) (O.faults out.new) (O.written out.old) (O.written out.new) }
 {
-    let Ok(appended) = sequencer.append(alloc, name, content) else {
+    let Ok(appended) = sequencer.append(alloc, name, payload) else {
         return Err(Ended::NoMemory);
     };
     let Appended { heard, is_full } = appended;
@@ -117,7 +117,7 @@ fn again<A: Appends, O: Sink>(
 /// The payloads that are still to be appended: one that found the window full is held, and comes first.
 #[derive(Debug, Drop)]
 pub struct Feed {
-    held: Option<Content>,
+    held: Option<Payload>,
     is_over: bool,
 }
 
@@ -134,7 +134,7 @@ impl Feed {
     }
 
     /// Takes the next payload; none is at the end of the input, where it is over.
-    fn next<P: Payloads>(&mut self, alloc: Global, input: &mut P) -> Result<Option<Content>, Ended>
+    fn next<P: Payloads>(&mut self, alloc: Global, input: &mut P) -> Result<Option<Payload>, Ended>
         ensures gives { NextIs (upcoming self.old.held (P.coming input.old)) (upcoming self.new.held (P.coming input.new)) result }
         ensures none { IfOk result (λ next. self.new.held ≡ None) }
         ensures on { IfOk result (λ next. IfSome next (λ payload. self.new.is_over ≡ self.old.is_over)) }

@@ -17,7 +17,7 @@ pub use appends::{Appended, Appends, Feed, append};
 pub use ended::{Ended, Refusal};
 pub use laws::drives_may_begin;
 pub use output::{write_all, write_lines};
-pub use payloads::{Content, InputFault, Payloads};
+pub use payloads::{InputFault, Payloads};
 pub use queues::Queues;
 pub use reads::{Reads, read};
 pub use visits::{round, tell, visit};

@@ -2,18 +2,8 @@
 ghost use Rattle.std.specs.Prelude.{◌≡◌, ◌≤◌, ℕ, Option, IfErr};
 ghost use Rattle.ld_rounds.specs.Input.{Input, Gives, IsReadFault};
 
-use ld_batch::Messages;
 use ld_ids::{NoMemory, Payload};
 use std::alloc::Global;
-
-/// What is appended.
-#[derive(Debug, Drop)]
-pub enum Content {
-    /// A payload.
-    Payload(Payload),
-    /// The batch of these messages.
-    Batch(Messages),
-}
 
 /// Why no payload is given.
 #[derive(Clone, Copy, Debug, PartialEq, Eq)]
@@ -26,7 +16,7 @@ pub enum InputFault {
     NoMemory,
 }
 
-/// Payloads, one after the other, each as it is or as the messages of its batch.
+/// Payloads, one after the other.
 pub trait Payloads {
     /// What is still to come, where this tells it.
     ghost coming: { Self → Option Input };
@@ -39,7 +29,7 @@ pub trait Payloads {
 
     /// Takes the next payload; none is at the end of the input. It is refused with `BadLine` where the next line is off, with
     /// `Read` where a read failed, and for want of memory.
-    fn next(&mut self, alloc: Global) -> Result<Option<Content>, InputFault>
+    fn next(&mut self, alloc: Global) -> Result<Option<Payload>, InputFault>
         ensures gives { Gives (coming self.old) (coming self.new) result }
         ensures later { faults self.old ≤ faults self.new }
         ensures itself { identity self.new ≡ identity self.old }

@@ -1,10 +1,10 @@
-use Rattle.std.proofs.Common.{◌≡◌, ◌∙◌, refl, ap, subst, inr, Ok, Err, Some, Bool, true, false, IfSome, [], ◌∷◌, if◌then◌else◌, arith}
+use Rattle.std.proofs.Common.{◌≡◌, ◌∙◌, refl, ap, subst, inr, Ok, Err, Some, Bool, true, false, ℕ, IfSome, List, [], ◌∷◌, if◌then◌else◌, arith}
 use Rattle.std.proofs.lemmas.Result.{err_from_is_err_and}
+use Rattle.ld_schedule.specs.declared.event.Event.TheVariants.{Append}
 use Rattle.ld_machine.specs.Run.{state_after}
 use Rattle.ld_rounds.specs.Feeding.{upcoming, NextIs, SameBehind}
-use Rattle.ld_rounds.specs.declared.payloads.Content.{Content}
 use Rattle.ld_rounds.specs.Acts.{driver}
-use Rattle.ld_rounds.specs.Rounds.{Splits, IsOne, IsBegun, Adds, AddsUntil, append_of, taken_of}
+use Rattle.ld_rounds.specs.Rounds.{Splits, IsOne, IsBegun, Adds, AddsUntil, taken_of}
 use Rattle.ld_rounds.proofs.Joining.{splits_join, appends_join, begun_appends, feeds_here, feeds_join, feeds_end, until_join, until_end, input_until, none_fed, one_fed, held_fed, one_until}
 use Rattle.ld_rounds.proofs.Endings.{later_here, later_on, ending_since}
 use Rattle.ld_rounds.proofs.Feeding.{input_unframed, partly, of_ending, input_stops, apart_on, same_here, same_on, append_since, of_input, next_behind, held_behind, over_now, over_later}
@@ -54,8 +54,8 @@ returns-in_err-add-clause-held g c own k first s far b h =
     let j = upcoming c.payloads.feed.held (g.P.Payloads.coming c.payloads.input) in
     let m = upcoming c.next.new.self.held (g.P.Payloads.coming c.next.new.input) in
     let e = c.in_err-add.field-0.0 in
-    let one = IsOne (append_of name payload) in
-    rw (p.1, p.2) (apart_on (driver c.args.name.now own) ⊥ k first b {R = Bool} (Adds name k i j) one (Splits (Adds name k i j) one k) (λ e. IsBegun (append_of name payload)) (AddsUntil name k i) (g.A.Actor.stands c.payloads.sequencer) (g.A.Actor.stands c.add.new.sequencer) s far c.payloads.queues c.add.new.queues (g.O.Sink.written c.args.out.now) (g.O.Sink.written c.payloads.out) (g.O.Sink.written c.add.new.out) (Err e)
+    let one = IsOne (Append name payload) in
+    rw (p.1, p.2) (apart_on (driver c.args.name.now own) ⊥ k first b {R = Bool} (Adds name k i j) one (Splits (Adds name k i j) one k) (λ e. IsBegun (Append name payload)) (AddsUntil name k i) (g.A.Actor.stands c.payloads.sequencer) (g.A.Actor.stands c.add.new.sequencer) s far c.payloads.queues c.add.new.queues (g.O.Sink.written c.args.out.now) (g.O.Sink.written c.payloads.out) (g.O.Sink.written c.add.new.out) (Err e)
     (splits_join k (Adds name k i j) one)
     (λ t es fs x y. (appends_join k name t es fs x.0 (begun_appends k name payload (state_after k t es) fs y), until_join k i j e t es fs x.1 (one_until k j m name payload e (state_after k t es) fs (subst (λ o. NextIs j m (Ok o)) c.in-Some.is c.in_ok-payload.ensures.gives) (partly _ _ _ _ e c.in_err-add.ensures.cause) y))) w
     (c.in_err-add.ensures.held own k first w.moved.state w.far b w.moved.holds))
@@ -69,7 +69,7 @@ returns-then-branch-clause-held g c own k first s far b h =
     let j = upcoming c.payloads.feed.held (g.P.Payloads.coming c.payloads.input) in
     let coming = g.P.Payloads.coming c.next.new.input in
     let gives = subst (λ o. NextIs j (upcoming o coming) (Ok (Some payload))) c.in_ok-payload.ensures.none (subst (λ o. NextIs j (upcoming c.next.new.self.held coming) (Ok o)) c.in-Some.is c.in_ok-payload.ensures.gives) in
-    apart_on (driver c.args.name.now own) ⊥ k first b {R = Bool} (Adds name k i j) (λ t es. IsOne (append_of name payload) t es × (taken_of k t es ≡ (if c.in_ok-add.field-0 then [] else payload ∷ []))) (Adds name k i (upcoming (Some payload) coming)) (λ e. IsBegun (append_of name payload)) (AddsUntil name k i) (g.A.Actor.stands c.payloads.sequencer) (g.A.Actor.stands c.add.new.sequencer) s far c.payloads.queues c.add.new.queues (g.O.Sink.written c.args.out.now) (g.O.Sink.written c.payloads.out) (g.O.Sink.written c.add.new.out) (Ok true)
+    apart_on (driver c.args.name.now own) ⊥ k first b {R = Bool} (Adds name k i j) (λ t es. IsOne (Append name payload) t es × (taken_of k t es ≡ (if c.in_ok-add.field-0 then [] else payload ∷ []))) (Adds name k i (upcoming (Some payload) coming)) (λ e. IsBegun (Append name payload)) (AddsUntil name k i) (g.A.Actor.stands c.payloads.sequencer) (g.A.Actor.stands c.add.new.sequencer) s far c.payloads.queues c.add.new.queues (g.O.Sink.written c.args.out.now) (g.O.Sink.written c.payloads.out) (g.O.Sink.written c.add.new.out) (Ok true)
     (λ t es fs x y. (appends_join k name t es fs x.0 (begun_appends k name payload (state_after k t es) fs (inr y.0)), feeds_join k i j (upcoming (Some payload) coming) t es fs x.1 (held_fed k j coming payload (state_after k t es) fs gives (y.1 ∙ ap (λ (x : Bool). if x then [] else payload ∷ []) c.if-branch.true)))) tt w
     (c.in_ok-add.ensures.held own k first w.moved.state w.far b w.moved.holds)
 
@@ -82,13 +82,13 @@ payloads-preserved g c = (
       let j = upcoming c.payloads.feed.held (g.P.Payloads.coming c.payloads.input) in
       let m = upcoming c.next.new.self.held (g.P.Payloads.coming c.next.new.input) in
       let gives = subst (λ o. NextIs j m (Ok o)) c.in-Some.is c.in_ok-payload.ensures.gives in
-      apart_on (driver c.args.name.now own) ⊥ k first b {R = Bool} (Adds name k i j) (λ t es. IsOne (append_of name payload) t es × (taken_of k t es ≡ (if c.in_ok-add.field-0 then [] else payload ∷ []))) (Adds name k i m) (λ e. IsBegun (append_of name payload)) (AddsUntil name k i) (g.A.Actor.stands c.payloads.sequencer) (g.A.Actor.stands c.add.new.sequencer) s far c.payloads.queues c.add.new.queues (g.O.Sink.written c.args.out.now) (g.O.Sink.written c.payloads.out) (g.O.Sink.written c.add.new.out) (Ok false)
+      apart_on (driver c.args.name.now own) ⊥ k first b {R = Bool} (Adds name k i j) (λ t es. IsOne (Append name payload) t es × (taken_of k t es ≡ (if c.in_ok-add.field-0 then [] else payload ∷ []))) (Adds name k i m) (λ e. IsBegun (Append name payload)) (AddsUntil name k i) (g.A.Actor.stands c.payloads.sequencer) (g.A.Actor.stands c.add.new.sequencer) s far c.payloads.queues c.add.new.queues (g.O.Sink.written c.args.out.now) (g.O.Sink.written c.payloads.out) (g.O.Sink.written c.add.new.out) (Ok false)
       (λ t es fs x y. (appends_join k name t es fs x.0 (begun_appends k name payload (state_after k t es) fs (inr y.0)), feeds_join k i j m t es fs x.1 (one_fed k j m payload (state_after k t es) fs gives (y.1 ∙ ap (λ (x : Bool). if x then [] else payload ∷ []) c.if-branch.false)))) tt w
       (c.in_ok-add.ensures.held own k first w.moved.state w.far b w.moved.holds),
   later_on _ _ _ _ _ _ c.payloads.invariant.1 c.in_ok-add.ensures.later,
   (let a = c.payloads.invariant.2 in let b = c.in_ok-payload.ensures.later in omega (arith, a, b)),
   c.in_ok-payload.ensures.itself ∙ c.payloads.invariant.3,
-  subst (λ o. IfSome o (λ (x : Content). c.next.new.self.is_over ≡ c.payloads.feed.is_over)) c.in-Some.is c.in_ok-payload.ensures.on ∙ c.payloads.invariant.4,
+  subst (λ o. IfSome o (λ (x : List ℕ). c.next.new.self.is_over ≡ c.payloads.feed.is_over)) c.in-Some.is c.in_ok-payload.ensures.on ∙ c.payloads.invariant.4,
   same_on _ _ _ c.payloads.invariant.5 (next_behind _ _ _ c.in_ok-payload.ensures.gives),
   c.in_ok-add.ensures.itself ∙ c.payloads.invariant.6,
   g.met.A.Actor.since_on c.args.sequencer.now c.payloads.sequencer c.add.new.sequencer c.payloads.invariant.7 c.in_ok-add.ensures.since,
@@ -137,14 +137,14 @@ returns-then-branch-clause-behind g c =
 
 pub returns-then-branch-clause-over : goal.returns-then-branch-clause-over
 returns-then-branch-clause-over g c origin p q =
-    over_later origin _ _ (subst (λ o. IfSome o (λ (x : Content). c.next.new.self.is_over ≡ c.payloads.feed.is_over)) c.in-Some.is c.in_ok-payload.ensures.on ∙ c.payloads.invariant.4)
+    over_later origin _ _ (subst (λ o. IfSome o (λ (x : List ℕ). c.next.new.self.is_over ≡ c.payloads.feed.is_over)) c.in-Some.is c.in_ok-payload.ensures.on ∙ c.payloads.invariant.4)
 
 pub returns-in_err-payload-clause-over : goal.returns-in_err-payload-clause-over
 returns-in_err-payload-clause-over g c origin p q = over_later origin _ _ (c.in_err-payload.ensures.stopped ∙ c.payloads.invariant.4)
 
 pub returns-in_err-add-clause-over : goal.returns-in_err-add-clause-over
 returns-in_err-add-clause-over g c origin p q =
-    over_later origin _ _ (subst (λ o. IfSome o (λ (x : Content). c.next.new.self.is_over ≡ c.payloads.feed.is_over)) c.in-Some.is c.in_ok-payload.ensures.on ∙ c.payloads.invariant.4)
+    over_later origin _ _ (subst (λ o. IfSome o (λ (x : List ℕ). c.next.new.self.is_over ≡ c.payloads.feed.is_over)) c.in-Some.is c.in_ok-payload.ensures.on ∙ c.payloads.invariant.4)
 
 pub returns-clause-over : goal.returns-clause-over
 returns-clause-over g c origin p q = over_later origin _ _ c.payloads.invariant.4
