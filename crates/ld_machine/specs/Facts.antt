@@ -1,5 +1,5 @@
 -- What is read from a run's steps: what was appended, acknowledged and trimmed, what readers got, and which nodes stood lost.
-use Rattle.std.specs.Prelude.{ℕ, ◌≡◌, ◌<◌, length, List, [], ◌∷◌, filter_map, flat_map, Option, Some, None, Bool, true, false, ◌⊎◌, ◌&&◌, ◌==◌, nat_lt, nat_le, if◌then◌else◌, slice_get}
+use Rattle.std.specs.Prelude.{ℕ, ◌≡◌, List, [], ◌∷◌, filter_map, flat_map, Option, Some, None, Bool, true, false, ◌⊎◌, ◌&&◌, ◌==◌, nat_lt, nat_le, if◌then◌else◌, slice_get}
 use Rattle.std.specs.Option.{unwrap_or}
 use Rattle.ld_table.specs.Table.{find}
 use Rattle.ld_table.specs.Named.{same}
@@ -151,7 +151,7 @@ pub record Issues (hs : List Happened) (l t k : ℕ) : Type 0 where
   pub told : Writes hs k (lines.Trimmed name t)
   pub of_log : OfLog hs l name
 
--- step k wrote a line for each message of the batch, in order, and no more
+-- step k wrote a line for each message of the batch, at its place, and no other of the number
 pub record WritesBatch (hs : List Happened) (k : ℕ) (name : List ℕ) (n : ℕ) (ms : List (List ℕ)) : Type 0 where
   pub each : (i : ℕ) (m : List ℕ) → slice_get ms i ≡ Some m → Writes hs k (lines.BatchMessage name n i m)
   pub only : (i : ℕ) (m : List ℕ) → Writes hs k (lines.BatchMessage name n i m) → slice_get ms i ≡ Some m
@@ -162,11 +162,10 @@ pub record GivesRecord (c : Config) (hs : List Happened) (l n : ℕ) (p : List �
   pub told : Writes hs k (lines.Record name n p)
   pub of_log : ReadsLog c hs l name
 
--- step k gave a reader the messages of a batch, one at least
-pub record GivesBatch (c : Config) (hs : List Happened) (l n : ℕ) (ms : List (List ℕ)) (k : ℕ) : Type 0 where
+-- step k gave a reader the message of a batch
+pub record GivesMessage (c : Config) (hs : List Happened) (l n index : ℕ) (m : List ℕ) (k : ℕ) : Type 0 where
   pub name : List ℕ
-  pub some : 0 < length ms
-  pub told : WritesBatch hs k name n ms
+  pub told : Writes hs k (lines.BatchMessage name n index m)
   pub of_log : ReadsLog c hs l name
 
 -- step k gave a reader the gap

@@ -10,7 +10,7 @@ use Rattle.ld_batch.specs.Batch.{Messages, unpacked}
 use Rattle.ld_ids.specs.Choice.{nodes_of}
 use Rattle.ld_ids.specs.declared.set.Spec.{Spec}
 use Rattle.ld_machine.specs.Config.{first_spec}
-use Rattle.ld_machine.specs.Facts.{Happened, Opening, opening, Writes, Appends, Acks, Issues, GivesRecord, GivesBatch, GivesGap, Interval, intervals, spec_now, stands_lost}
+use Rattle.ld_machine.specs.Facts.{Happened, Opening, opening, Writes, Appends, Acks, Issues, GivesRecord, GivesMessage, WritesBatch, GivesGap, Interval, intervals, spec_now, stands_lost}
 
 -- intervals that follow one another without a space, none empty and none past the end
 abbrev pub TilesFrom : ℕ → ℕ → List Interval → Type 0
@@ -25,18 +25,18 @@ ItemsTile c hs = (r : List ℕ) (o : Opening) → opening c r hs ≡ Some o → 
 abbrev pub RecordsWereAppended : Config → List Happened → Type 0
 RecordsWereAppended c hs = (l n k : ℕ) (p : List ℕ) → GivesRecord c hs l n p k → (j : ℕ) × (j < k) × Appends hs l n p j
 
--- the messages of a batch that a reader gets are in order those of the payload that was appended under its number before
+-- the step that gives a reader a message gives it each message of the batch that was appended under its number before, at its place, and no other of that number
 abbrev pub BatchesWereAppended : Config → List Happened → Type 0
-BatchesWereAppended c hs = (l n k : ℕ) (ms : List (List ℕ)) → GivesBatch c hs l n ms k → (j : ℕ) × (p : List ℕ) × (j < k) × (unpacked p ≡ Messages ms) × Appends hs l n p j
+BatchesWereAppended c hs = (l n k index : ℕ) (m : List ℕ) (g : GivesMessage c hs l n index m k) → (j : ℕ) × (p : List ℕ) × (ms : List (List ℕ)) × (j < k) × (unpacked p ≡ Messages ms) × Appends hs l n p j × WritesBatch hs k g.name n ms
 
 -- a hole or a bridge
 abbrev pub SaysNone : GapKind → Type 0
 SaysNone kind = (kind ≡ gaps.Hole) ⊎ (kind ≡ gaps.Bridge)
 
--- no hole or bridge holds a number that was acknowledged or read as a record or a batch, earlier or later
+-- no hole or bridge holds a number that was acknowledged or read as a record or a message, earlier or later
 abbrev pub NothingHidden : Config → List Happened → Type 0
 NothingHidden c hs = (l low high n i j : ℕ) (kind : GapKind) → SaysNone kind → GivesGap c hs l kind low high i → low ≤ n → n ≤ high →
-    (Acks hs l n j → ⊥) × ((p : List ℕ) → GivesRecord c hs l n p j → ⊥) × ((ms : List (List ℕ)) → GivesBatch c hs l n ms j → ⊥)
+    (Acks hs l n j → ⊥) × ((p : List ℕ) → GivesRecord c hs l n p j → ⊥) × ((index : ℕ) (m : List ℕ) → GivesMessage c hs l n index m j → ⊥)
 
 -- a trim gap ends at or below a point that was issued before
 abbrev pub TrimsWereIssued : Config → List Happened → Type 0

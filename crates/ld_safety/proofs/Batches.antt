@@ -1,5 +1,5 @@
 -- The lines of items: one each, or one for each message of a batch.
-use Rattle.std.proofs.Common.{◌≡◌, ◌∙◌, ◌⊎◌, ◌≤◌, ◌<◌, ℕ, zero, suc, ◌+◌, ◌==◌, ◌||◌, ◌&&◌, inl, inr, refl, ap, sym, subst, true, false, nat_lt, cond, List, [], ◌∷◌, ◌++◌, length, filter_map, Some, None, slice_get, append_assoc, arith}
+use Rattle.std.proofs.Common.{◌≡◌, ◌∙◌, ◌⊎◌, ◌<◌, ℕ, zero, suc, ◌+◌, ◌==◌, ◌||◌, ◌&&◌, inl, inr, refl, ap, sym, subst, true, false, nat_lt, cond, List, [], ◌∷◌, ◌++◌, length, filter_map, Some, None, slice_get, append_assoc, arith}
 use Rattle.std.proofs.lemmas.Bool.{and_parts, or_parts, ltb-false, eqb-true}
 use Rattle.std.proofs.lemmas.List.Elements.{filter_map-append}
 use Rattle.ld_table.specs.Named.{same}
@@ -13,7 +13,7 @@ use Rattle.ld_msg.specs.Reading.{Item, TrimTo, RecordHere, HoleHere, BridgeTo, L
 use Rattle.ld_machine.specs.Facts.{interval_of}
 use Rattle.ld_machine.specs.World.{In}
 use Rattle.ld_machine.specs.Step as Step
-use Rattle.ld_safety.proofs.Lists.{cond_both, Some_inj, not_none, In-append, In_left, In_right}
+use Rattle.ld_safety.proofs.Lists.{cond_both, Some_inj, In-append, In_left, In_right}
 
 -- ---- what is unpacked ----
 
@@ -26,24 +26,11 @@ some_read : (k : ℕ) (bs : List ℕ) (at : ℕ) (ms : List (List ℕ)) → 0 < 
 some_read zero bs at ms p h = absurd (omega arith)
 some_read (suc k) bs at ms p h = cond_both (nat_lt (length bs) (at + 2) || nat_lt (length bs) (at + 2 + number_at bs at)) (Bad at) _ (λ u. u ≡ Messages ms → 0 < length ms) (λ t q. absurd cc) (λ t q. first_there _ _ ms q) h
 
-pub unpacked_some : (bs : List ℕ) (ms : List (List ℕ)) → unpacked bs ≡ Messages ms → 0 < length ms
+unpacked_some : (bs : List ℕ) (ms : List (List ℕ)) → unpacked bs ≡ Messages ms → 0 < length ms
 unfolding unpacked
 unpacked_some bs ms h = cond_both (nat_lt (length bs) 2 || (nat_lt (number_at bs 0) 1 || nat_lt 1024 (number_at bs 0))) (Bad 0) _ (λ u. u ≡ Messages ms → 0 < length ms) (λ t q. absurd cc)
     (λ t q. let p = or_parts (nat_lt (length bs) 2) (nat_lt (number_at bs 0) 1 || nat_lt 1024 (number_at bs 0)) t in let r = or_parts (nat_lt (number_at bs 0) 1) (nat_lt 1024 (number_at bs 0)) p.1 in
     some_read (number_at bs 0) bs 2 ms (let z = ltb-false _ _ r.0 in omega arith) q) h
-
--- ---- lists ----
-pub last_there : {X : Type 0} (xs : List X) → 0 < length xs → (i : ℕ) × (x : X) × (slice_get xs i ≡ Some x) × (i + 1 ≡ length xs)
-last_there [] h = absurd (omega arith)
-last_there (x ∷ []) h = (0, x, refl, refl)
-last_there (x ∷ y ∷ xs) h = let r = last_there (y ∷ xs) (omega arith) in (suc r.0, r.1, r.2, let z = r.3 in omega arith)
-
--- a list that has each item of another one at its place, and isn't longer, is that one
-pub same_items : {X : Type 0} (xs ys : List X) → ((i : ℕ) (x : X) → slice_get xs i ≡ Some x → slice_get ys i ≡ Some x) → length ys ≤ length xs → xs ≡ ys
-same_items [] [] h l = refl
-same_items [] (y ∷ ys) h l = absurd (omega arith)
-same_items (x ∷ xs) [] h l = absurd (not_none (h 0 x refl))
-same_items (x ∷ xs) (y ∷ ys) h l = λ i. Some_inj (sym (h 0 x refl)) i ∷ same_items xs ys (λ j z q. h (suc j) z q) (omega arith) i
 
 -- ---- the lines of an item ----
 

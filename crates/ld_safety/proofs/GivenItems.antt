@@ -28,8 +28,8 @@ use Rattle.ld_machine.specs.Run.{history}
 use Rattle.ld_machine.specs.Step as Step
 use Rattle.ld_safety.proofs.Lists.{Some_inj, not_none, cond_both, branch, In-append, only, first_left, slice_get_left, slice_get_below, In-slice_get, slice_get-In}
 use Rattle.ld_safety.proofs.Members.{In_put}
-use Rattle.ld_safety.proofs.Traces.{Moment, at_step}
-use Rattle.ld_safety.proofs.Events.{dispatch, Reading, is_quiet}
+use Rattle.ld_safety.proofs.Traces.{Moment, at_end, at_step}
+use Rattle.ld_safety.proofs.Events.{dispatch, NamesOnce, Reading, is_quiet}
 use Rattle.ld_safety.proofs.Steps.{writes_before, finish_In}
 use Rattle.ld_safety.proofs.ItemLines.{line_cases}
 use Rattle.ld_safety.proofs.Lines.{Group, OfItems, OfMessages, group, AllOf, line_of}
@@ -40,10 +40,11 @@ use Rattle.ld_safety.proofs.Given.{AnyEpoch, AnyShown, AnyReleased, SmallGood, A
 use Rattle.ld_safety.proofs.GivenSteps.{Given}
 use Rattle.ld_safety.proofs.Carried as carried
 use Rattle.ld_msg.specs.declared.style.Style.{Style}
-use Rattle.ld_batch.specs.Batch.{Messages}
+use Rattle.ld_batch.specs.Batch.{Messages, unpacked}
 use Rattle.ld_machine.specs.Invariant.{is_withheld}
 use Rattle.ld_safety.proofs.Withheld.{told_in, told_what}
-use Rattle.ld_safety.proofs.Batches.{BatchAt, one_of, message_in, last_there, same_items}
+use Rattle.ld_safety.proofs.Batches.{BatchAt, one_of, message_in}
+use Rattle.ld_safety.proofs.Numbers.{AllCounts, counts_kept, one_payload}
 
 -- ---- what is held ----
 pub entry_found : (s : ℕ) (es : List Entry) (w : What) → entry_at s es ≡ Some w → (e : Entry) × In e es × (e.number ≡ s) × (e.what ≡ w)
@@ -290,17 +291,48 @@ module _ (c : Config) (es : List Event) where
       let b = slice_get_below y.1.here a.before y.0 y.1.at in let z = a.place in
       (y.0, omega arith, subst (λ (hs : List Happened). Appends hs l n p y.0) (sym a.split) (appends_before a.before a.after l n y.0 p y.1))
 
+  once : (l n j k : ℕ) (p q : List ℕ) → Appends (history c es) l n p j → Appends (history c es) l n q k → p ≡ q
+  once l n j k p q a b = let z = at_end c (λ hs w. NamesOnce w.state × AllCounts hs w) (counts_kept c) es in one_payload (history c es) z.0.state.sequencers z.0.state.register z.1.1 l n j k p q a b
+
+  -- the batch of a message: it was appended before, and the step gives each message
+  record BatchOf (l n k index : ℕ) (name m : List ℕ) : Type 0 where
+    step : ℕ
+    payload : List ℕ
+    messages : List (List ℕ)
+    before : step < k
+    reads : unpacked payload ≡ Messages messages
+    appended : Appends (history c es) l n payload step
+    at : slice_get messages index ≡ Some m
+    each : (i : ℕ) (x : List ℕ) → slice_get messages i ≡ Some x → Writes (history c es) k (lines.BatchMessage name n i x)
+
+  batch_of : (l n k index : ℕ) (name m : List ℕ) → Writes (history c es) k (lines.BatchMessage name n index m) → ReadsLog c (history c es) l name → BatchOf l n k index name m
+  batch_of l n k index name m t r =
+      let a = line_at c (Reads c) es k _ (at_step c (Reads c) (tiles_kept c) es) (λ h. cc) t in
+      let x = (lines_given c a.before a.world a.event a.holds.0.0 a.holds.0.1 a.holds.1).batches name n index m a.there in
+      let lg = same_log c a.before a.after (history c es) l name x.reader a.split (got_of c a.before a.world a.holds.1 name x.reader x.named) r in
+      let y : AppendedBy a.before l n x.payload = subst (λ k. AppendedBy a.before k n x.payload) lg x.appended in
+      let b = slice_get_below y.1.here a.before y.0 y.1.at in let u = a.place in record {
+        step = y.0;
+        payload = x.payload;
+        messages = x.batch.messages;
+        before = omega arith;
+        reads = x.batch.reads;
+        appended = subst (λ (hs : List Happened). Appends hs l n x.payload y.0) (sym a.split) (appends_before a.before a.after l n y.0 x.payload y.1);
+        at = x.batch.at;
+        each = λ i o j. a.back _ (x.batch.all i o j);
+      }
+
+  same_batch : (l n k i j : ℕ) (name m o : List ℕ) (a : BatchOf l n k i name m) → BatchOf l n k j name o → slice_get a.messages j ≡ Some o
+  same_batch l n k i j name m o a b =
+      let p : a.payload ≡ b.payload = once l n a.step b.step a.payload b.payload a.appended b.appended in
+      let u : Messages b.messages ≡ Messages a.messages = sym b.reads ∙ (sym (ap unpacked p) ∙ a.reads) in
+      let q : b.messages ≡ a.messages = cc in subst (λ ms. slice_get ms j ≡ Some o) q b.at
+
   -- the messages that a step gives are those of the payload
   pub batches : BatchesWereAppended c (history c es)
-  batches l n k ms g =
-      let z = last_there ms g.some in
-      let a = line_at c (Reads c) es k _ (at_step c (Reads c) (tiles_kept c) es) (λ h. cc) (g.told.each z.0 z.1 z.2) in
-      let x = (lines_given c a.before a.world a.event a.holds.0.0 a.holds.0.1 a.holds.1).batches g.name n z.0 z.1 a.there in
-      let lg = same_log c a.before a.after (history c es) l g.name x.reader a.split (got_of c a.before a.world a.holds.1 g.name x.reader x.named) g.of_log in
-      let y : AppendedBy a.before l n x.payload = subst (λ k. AppendedBy a.before k n x.payload) lg x.appended in
-      let q : x.batch.messages ≡ ms = same_items x.batch.messages ms (λ i m j. g.told.only i m (a.back _ (x.batch.all i m j))) (let u = slice_get_below z.1 x.batch.messages z.0 x.batch.at in let v = z.3 in omega arith) in
-      let b = slice_get_below y.1.here a.before y.0 y.1.at in let u = a.place in
-      (y.0, x.payload, omega arith, x.batch.reads ∙ ap Messages q, subst (λ (hs : List Happened). Appends hs l n x.payload y.0) (sym a.split) (appends_before a.before a.after l n y.0 x.payload y.1))
+  batches l n k index m g =
+      let a = batch_of l n k index g.name m g.told g.of_log in
+      (a.step, a.payload, a.messages, a.before, a.reads, a.appended, record { each = a.each; only = λ i o w. same_batch l n k index i g.name m o a (batch_of l n k i g.name o w g.of_log) })
 
   pub trims : TrimsWereIssued c (history c es)
   trims l low high k g =

@@ -1,4 +1,4 @@
--- No hole or bridge that a reader gets holds a number that was acknowledged or read as a record, earlier or later.
+-- No hole or bridge that a reader gets holds a number that was acknowledged or read as a record or a message, earlier or later.
 use Rattle.std.proofs.Common.{◌≡◌, ◌∙◌, ◌≤◌, ℕ, inl, inr, ap, sym, subst, List, arith}
 use Rattle.ld_safety.proofs.Settled.{Acknowledged}
 use Rattle.ld_config.specs.declared.config.Config.{Config}
@@ -6,7 +6,7 @@ use Rattle.ld_schedule.specs.declared.event.Event.{Event}
 use Rattle.ld_transcript.specs.declared.line.Line.TheVariants as lines
 use Rattle.ld_transcript.specs.declared.line.GapKind.{GapKind}
 use Rattle.ld_msg.specs.declared.msg.What.TheVariants.{Hole}
-use Rattle.ld_machine.specs.Facts.{Happened, Writes, ReadsLog, Opening, Acks, GivesRecord, GivesGap, GivesBatch}
+use Rattle.ld_machine.specs.Facts.{Happened, Writes, ReadsLog, Opening, Acks, GivesRecord, GivesGap, GivesMessage}
 use Rattle.ld_machine.specs.Safe.{SaysNone, NothingHidden}
 use Rattle.ld_machine.specs.World.{World}
 use Rattle.ld_machine.specs.Run.{history}
@@ -20,7 +20,6 @@ use Rattle.ld_safety.proofs.Along.{Along}
 use Rattle.ld_safety.proofs.AlongSteps.{along_kept}
 use Rattle.ld_safety.proofs.ItemFacts.{ClosedItem, RecordAt, BridgeAt, no_hole, no_bridge_over}
 use Rattle.ld_safety.proofs.Told.{AllTold, start_told, told_step}
-use Rattle.ld_safety.proofs.Batches.{last_there}
 
 abbrev pub Everything : Config → List Happened → World → Type 0
 Everything c hs w = (Reads c hs w × (BaseGiven c hs w × Along c hs w)) × AllTold c hs w
@@ -42,8 +41,8 @@ module _ (c : Config) (hs : List Happened) (w : World) (E : Everything c hs w) w
   given_record : (l n j : ℕ) (p : List ℕ) → GivesRecord c hs l n p j → RecordAt c hs w.made w.state.network.sent w.state.register l n
   given_record l n j p g = let z = E.1.records j g.name n p g.told in subst (λ k. RecordAt c hs w.made w.state.network.sent w.state.register k n) (same_reads c hs z.0 l g.name z.1 g.of_log) z.2
 
-  given_batch : (l n j : ℕ) (ms : List (List ℕ)) → GivesBatch c hs l n ms j → RecordAt c hs w.made w.state.network.sent w.state.register l n
-  given_batch l n j ms g = let m = last_there ms g.some in let z = E.1.batches j g.name n m.0 m.1 (g.told.each m.0 m.1 m.2) in subst (λ k. RecordAt c hs w.made w.state.network.sent w.state.register k n) (same_reads c hs z.0 l g.name z.1 g.of_log) z.2
+  given_message : (l n j index : ℕ) (m : List ℕ) → GivesMessage c hs l n index m j → RecordAt c hs w.made w.state.network.sent w.state.register l n
+  given_message l n j index m g = let z = E.1.batches j g.name n index m g.told in subst (λ k. RecordAt c hs w.made w.state.network.sent w.state.register k n) (same_reads c hs z.0 l g.name z.1 g.of_log) z.2
 
   no_record : (l low high n i : ℕ) (kind : GapKind) → SaysNone kind → GivesGap c hs l kind low high i → low ≤ n → n ≤ high → RecordAt c hs w.made w.state.network.sent w.state.register l n → ⊥
   no_record l low high n i kind (inl q) g lo hi h =
@@ -57,7 +56,7 @@ module _ (c : Config) (hs : List Happened) (w : World) (E : Everything c hs w) w
       no_bridge_over c hs w.made w.state.network.sent w.state.register once E.0.1.1.once E.0.1.1.plans E.0.1.1.last l low high n (subst (λ k. BridgeAt c hs w.made w.state.network.sent w.state.register k low high) s z.2) lo hi h
 
   hidden_here : NothingHidden c hs
-  hidden_here l low high n i j kind k g lo hi = ((λ a. no_record l low high n i kind k g lo hi (acked_record l n j a)), (λ p r. no_record l low high n i kind k g lo hi (given_record l n j p r)), (λ ms r. no_record l low high n i kind k g lo hi (given_batch l n j ms r)))
+  hidden_here l low high n i j kind k g lo hi = ((λ a. no_record l low high n i kind k g lo hi (acked_record l n j a)), (λ p r. no_record l low high n i kind k g lo hi (given_record l n j p r)), (λ index m r. no_record l low high n i kind k g lo hi (given_message l n j index m r)))
 
 pub nothing_hidden : (c : Config) (es : List Event) → NothingHidden c (history c es)
 nothing_hidden c es = let p = at_end c (Everything c) (everything_kept c) es in hidden_here c (history c es) p.0 p.1

@@ -51,12 +51,12 @@ pub fn records_were_appended()
     ensures { (c : Config) (es : List Event) → IsInBounds c → RecordsWereAppended c (history c es) }
 {}
 
-/// The messages of a batch that a reader gets are, in order, those of the payload that was appended under its number before.
+/// The step that gives a reader a message of a batch gives it each message of the payload that was appended under its number before, at its place, and no other message of that number.
 pub fn batches_were_appended()
     ensures { (c : Config) (es : List Event) → IsInBounds c → BatchesWereAppended c (history c es) }
 {}
 
-/// No hole or bridge that a reader gets holds a number that was acknowledged, or read as a record or a batch, earlier or later.
+/// No hole or bridge that a reader gets holds a number that was acknowledged, or read as a record or a message, earlier or later.
 pub fn nothing_is_hidden()
     ensures { (c : Config) (es : List Event) → IsInBounds c → NothingHidden c (history c es) }
 {}
