@@ -1,5 +1,5 @@
 -- What each call answers by the contents.
-use Rattle.std.proofs.Common.{◌≡◌, ◌≤◌, ◌<◌, ◌+◌, ◌^◌, ◌==◌, ℕ, Bool, true, false, not, List, Option, None, Some, Ok, Err, refl, ap, sym, ◌∙◌, arith, if◌then◌else◌}
+use Rattle.std.proofs.Common.{◌≡◌, ◌≤◌, ◌<◌, ◌+◌, ◌^◌, ◌==◌, ℕ, Bool, true, false, not, nat_le, List, Option, None, Some, Ok, Err, refl, ap, sym, ◌∙◌, arith, if◌then◌else◌}
 use Rattle.std.specs.Option.{unwrap_or}
 use Rattle.std.proofs.lemmas.Bool.{lt-ltb, le-ltb, lt-leb, le-leb, eq-eqb, ne_eqb}
 use Rattle.std.proofs.lemmas.Bool.Decides.{nat_tests}
@@ -7,12 +7,12 @@ use Rattle.ld_table.specs.Table.{find, put}
 use Rattle.ld_table.proofs.Laws.{find-put_same, find-put_other}
 use Rattle.ld_ids.specs.declared.set.Spec.{Spec}
 use Rattle.ld_msg.specs.declared.msg.Summary.{Summary}
-use Rattle.ld_msg.specs.Register.{Register, Epochs, Changed, Answer, Granted, AtLimit, Behind, Overtaken, Fails, no_epochs, epochs_of, generation_of, lce_of, is_overtaken, epoch_limit, generation_limit, journal_limit, record_length, change, activate, close, draw, next_epoch, closed_epochs, with_epochs, is_crowded, epochs_in, epoch_shown}
+use Rattle.ld_msg.specs.Register.{Register, Epochs, Changed, Answer, Granted, AtLimit, Behind, Overtaken, Fails, no_epochs, epochs_of, generation_of, lce_of, is_overtaken, epoch_limit, generation_limit, swap_limit, journal_limit, record_length, change, activate, close, draw, swap, swappable, next_epoch, closed_epochs, swapped_epochs, with_epochs, is_crowded, epochs_in, epoch_shown}
 use Rattle.ld_register.specs.declared.fault.RegisterFault.TheVariants as faults
 use Rattle.ld_register.specs.declared.change.Change.TheVariants as changes
 use Rattle.ld_register.specs.declared.register.Grant.{Grant}
-use Rattle.ld_register.specs.Calls.{ended, close_ended, is_full, activated, after_activate, granted, closed, after_close, drawn, after_draw, spec_told, next_told}
-use Rattle.ld_register.specs.Changes.{changed}
+use Rattle.ld_register.specs.Calls.{ended, close_ended, is_full, activated, after_activate, granted, closed, after_close, drawn, after_draw, swapped, after_swap, spec_told, next_told}
+use Rattle.ld_register.specs.Changes.{changed, is_next}
 use Rattle.ld_register.specs.Kept.{Kept, register_of}
 
 abbrev pub to : Register → Answer → Changed
@@ -38,21 +38,21 @@ shown_there v e one most = grind (arith, nat_tests)
 new_shown : (v : Epochs) (s : Spec) → v.epoch ≤ v.lce → epoch_shown (next_epoch v s) (v.lce + 1) ≡ v.epoch + 1
 new_shown v s h = grind (arith, nat_tests)
 
-next_new : (v : Epochs) (s : Spec) → v.epoch ≤ v.lce → Some s ≡ find (epoch_shown (next_epoch v s) (v.lce + 1)) (next_epoch v s).specs
-next_new v s h = sym (find-put_same (epoch_shown (next_epoch v s) (v.lce + 1)) (v.epoch + 1) s v.specs (new_shown v s h))
+next_new : (v : Epochs) (s : Spec) → v.epoch ≤ v.lce → Some s ≡ find (epoch_shown (next_epoch v s) (v.lce + 1)) (next_epoch v s).swapped
+next_new v s h = sym (find-put_same (epoch_shown (next_epoch v s) (v.lce + 1)) (v.epoch + 1) s v.swapped (new_shown v s h))
 
 -- or it was handed out before
-next_old : (v : Epochs) (s : Spec) → v.lce < v.epoch → find (epoch_shown v (v.lce + 1)) v.specs ≡ find (epoch_shown (next_epoch v s) (v.lce + 1)) (next_epoch v s).specs
+next_old : (v : Epochs) (s : Spec) → v.lce < v.epoch → find (epoch_shown v (v.lce + 1)) v.swapped ≡ find (epoch_shown (next_epoch v s) (v.lce + 1)) (next_epoch v s).swapped
 next_old v s h =
     let there : epoch_shown v (v.lce + 1) ≡ v.lce + 1 = shown_there v (v.lce + 1) (omega arith) (omega arith) in
     let after : epoch_shown (next_epoch v s) (v.lce + 1) ≡ v.lce + 1 = shown_there (next_epoch v s) (v.lce + 1) (omega arith) (omega arith) in
-    ap (λ e. find e v.specs) (there ∙ sym after) ∙ sym (find-put_other (epoch_shown (next_epoch v s) (v.lce + 1)) (v.epoch + 1) s v.specs (λ e. let z = sym after ∙ e in omega arith))
+    ap (λ e. find e v.swapped) (there ∙ sym after) ∙ sym (find-put_other (epoch_shown (next_epoch v s) (v.lce + 1)) (v.epoch + 1) s v.swapped (λ e. let z = sym after ∙ e in omega arith))
 
 activated_is : (r : Register) (e : ℕ) (s : Spec) → epochs_of (changed r (changes.Activate e s)) s.log ≡ next_epoch (epochs_of r s.log) s
 activated_is r e s = ap (λ o. unwrap_or o no_epochs) (find-put_same s.log s.log (next_epoch (epochs_of r s.log) s) r.logs refl)
 
 abbrev told_in : Epochs → ℕ → Option Spec
-told_in v e = find (epoch_shown v e) v.specs
+told_in v e = find (epoch_shown v e) v.swapped
 
 pub tells_new : (r : Register) (e : ℕ) (s : Spec) → (epochs_of r s.log).epoch ≤ lce_of r s.log → Some s ≡ next_told (changed r (changes.Activate e s)) s.log
 tells_new r e s h = next_new (epochs_of r s.log) s h ∙ ap (λ v. told_in v (v.lce + 1)) (sym (activated_is r e s))
@@ -187,3 +187,48 @@ made_draw k n a v es h f is all =
     let s = drawn_by r a (to (changed r (changes.Draw a v)) Granted) false (draw_changes r a h ∙ change_made k n _ 6 (omega arith)) (le-ltb journal_limit (n + record_length 6) (omega arith)) in
     let put_is : generation_of (changed r (changes.Draw a v)) a ≡ generation_of r a + 1 = ap (λ o. unwrap_or o 0) (find-put_same a a (generation_of r a + 1) r.generations refl) in
     (ap (λ g. Ok (record { gen_ = g; epochs = es })) (is ∙ sym put_is) ∙ (ap (λ e. Ok (record { gen_ = generation_of (changed r (changes.Draw a v)) a; epochs = e })) all ∙ s.0), s.1)
+
+-- ---- a swap ----
+
+abbrev pub swapping : Register → ℕ → ℕ → ℕ → ℕ → Register
+swapping r l t o w = with_epochs r l (swapped_epochs (epochs_of r l) t o w)
+
+-- a swap by whether it changes an epoch and whether there were as many as may be
+pub swap_at : (r : Register) (l t o w : ℕ) (none limit : Bool) → (swappable r l t o w == 0) ≡ none → nat_le swap_limit (epochs_of r l).swaps ≡ limit
+    → swap r l t o w ≡ (if none then to r Granted else if limit then to r AtLimit else change r (swapping r l t o w) 11)
+unfolding swap
+swap_at r l t o w none limit n h =
+    ap (λ b. if b then to r Granted else if nat_le swap_limit (epochs_of r l).swaps then to r AtLimit else change r (swapping r l t o w) 11) n
+    ∙ ap (λ b. if none then to r Granted else if b then to r AtLimit else change r (swapping r l t o w) 11) h
+
+pub swapped_by : (r : Register) (l t o w : ℕ) (ch : Changed) (full : Bool) → swap r l t o w ≡ ch → is_full r 11 ≡ full
+    → (ended ch.answer full faults.SwapLimit (swappable r l t o w) ≡ swapped r l t o w) × (after_swap r l t o w ≡ ch.register)
+swapped_by r l t o w ch full d f = (
+  sym (ap (λ x. ended x.answer (is_full r 11) faults.SwapLimit (swappable r l t o w)) d ∙ ap (λ b. ended ch.answer b faults.SwapLimit (swappable r l t o w)) f),
+  ap (λ x. x.register) d,
+)
+
+pub idle_swap : (r : Register) (l t o w : ℕ) → swappable r l t o w ≡ 0 → (Ok 0 ≡ swapped r l t o w) × (after_swap r l t o w ≡ r)
+idle_swap r l t o w h =
+    let s = swapped_by r l t o w (to r Granted) (is_full r 11) (swap_at r l t o w true (nat_le swap_limit (epochs_of r l).swaps) (eq-eqb (swappable r l t o w) 0 h) refl) refl in
+    (ap (λ n. Ok n) (sym h) ∙ s.0, s.1)
+
+pub limit_swap : (r : Register) (l t o w : ℕ) → (swappable r l t o w ≡ 0 → ⊥) → swap_limit ≤ (epochs_of r l).swaps → (Err faults.SwapLimit ≡ swapped r l t o w) × (after_swap r l t o w ≡ r)
+limit_swap r l t o w some h = swapped_by r l t o w (to r AtLimit) (is_full r 11) (swap_at r l t o w false true (ne_eqb (swappable r l t o w) 0 some) (le-leb swap_limit (epochs_of r l).swaps h)) refl
+
+pub full_swap : (k : Kept) (n l t o w : ℕ) → (swappable (register_of k n) l t o w ≡ 0 → ⊥) → (epochs_of (register_of k n) l).swaps < swap_limit → 2 ^ 40 < n + 16
+    → (Err faults.Full ≡ swapped (register_of k n) l t o w) × (after_swap (register_of k n) l t o w ≡ register_of k n)
+full_swap k n l t o w some h f = swapped_by (register_of k n) l t o w (to (register_of k n) Fails) true
+    (swap_at (register_of k n) l t o w false false (ne_eqb (swappable (register_of k n) l t o w) 0 some) (lt-leb swap_limit (epochs_of (register_of k n) l).swaps h) ∙ change_full k n _ 11 (omega arith)) (lt-ltb journal_limit (n + record_length 11) (omega arith))
+
+pub made_swap : (k : Kept) (n l t o w v : ℕ) → (swappable (register_of k n) l t o w ≡ 0 → ⊥) → (epochs_of (register_of k n) l).swaps < swap_limit → n + 16 ≤ 2 ^ 40 → v ≡ swappable (register_of k n) l t o w
+    → (Ok v ≡ swapped (register_of k n) l t o w) × (after_swap (register_of k n) l t o w ≡ changed (register_of k n) (changes.Swap l t o w))
+made_swap k n l t o w v some h f is =
+    let r = register_of k n in
+    let s = swapped_by r l t o w (to (changed r (changes.Swap l t o w)) Granted) false
+    (swap_at r l t o w false false (ne_eqb (swappable r l t o w) 0 some) (lt-leb swap_limit (epochs_of r l).swaps h) ∙ change_made k n _ 11 (omega arith)) (le-ltb journal_limit (n + record_length 11) (omega arith)) in
+    (ap (λ x. Ok x) is ∙ s.0, s.1)
+
+-- a swap that changes an epoch and may be made is the next change
+pub next_swap : (r : Register) (l t o w : ℕ) → (swappable r l t o w ≡ 0 → ⊥) → (epochs_of r l).swaps < swap_limit → is_next r (changes.Swap l t o w) ≡ true
+next_swap r l t o w some h = rw (lt-ltb 0 (swappable r l t o w) (omega arith), lt-ltb (epochs_of r l).swaps swap_limit h) refl

@@ -2,11 +2,12 @@
 use Rattle.std.proofs.Common.{◌≡◌, ◌≤◌, ◌+◌, ◌-◌, ◌^◌, ◌==◌, ◌⊎◌, inl, inr, ℕ, Bool, true, false, not, ◌||◌, min, Option, Some, None, List, Result, Ok, Err, OnOk, IfOk, refl, ap, sym, ◌∙◌, subst, arith, if◌then◌else◌}
 use Rattle.std.specs.Prelude.{nat_le}
 use Rattle.std.specs.Result.{IsErrOf}
+use Rattle.std.proofs.lemmas.Bool.{eqb-true, eq-eqb}
 use Rattle.ld_table.specs.Table.{put}
 use Rattle.ld_disk.specs.declared.disk.Disk.{Ghosts}
 use Rattle.ld_ids.specs.declared.set.Spec.{Spec}
 use Rattle.ld_msg.specs.declared.msg.Summary.{Summary}
-use Rattle.ld_msg.specs.Register.{Register, Armed, Changed, Granted, AtLimit, Behind, Overtaken, Fails, epochs_of, generation_of, lce_of, is_overtaken, epoch_limit, generation_limit, record_length, falls, armed_after, is_made, made, unmade, change, activate, draw, next_epoch, with_epochs, is_crowded, epochs_in}
+use Rattle.ld_msg.specs.Register.{Register, Armed, Changed, Granted, AtLimit, Behind, Overtaken, Fails, epochs_of, generation_of, lce_of, is_overtaken, epoch_limit, generation_limit, swap_limit, record_length, falls, armed_after, is_made, made, unmade, change, activate, draw, swappable, next_epoch, with_epochs, is_crowded, epochs_in}
 use Rattle.ld_register.specs.declared.fault.RegisterFault.{RegisterFault}
 use Rattle.ld_register.specs.declared.fault.RegisterFault.TheVariants as faults
 use Rattle.ld_register.specs.declared.disk.DiskRegister.{DiskRegister}
@@ -14,20 +15,28 @@ use Rattle.ld_register.specs.declared.faulty.FaultyRegister.{FaultyRegister}
 use Rattle.ld_register.specs.declared.change.Change.{Change}
 use Rattle.ld_register.specs.declared.register.Drawn.{Drawn}
 use Rattle.ld_register.specs.declared.register.Grant.{Grant}
-use Rattle.ld_register.specs.Calls.{IsFree, ended, close_ended, next_told, is_full, activated, after_activate, closed, after_close, drawn, after_draw, unarmed}
+use Rattle.ld_register.specs.Calls.{IsFree, ended, close_ended, next_told, is_full, activated, after_activate, closed, after_close, drawn, after_draw, swapped, after_swap, unarmed}
 use Rattle.ld_register.specs.Held.{Holds, MayHold, Foretells, IsDue, Meets, granting}
 use Rattle.ld_register.specs.Arming.{kept_in, disk_in, armed_of, own_faults, Foresees, MeetsArmed, HasFallen}
 use Rattle.ld_register.proofs.Meeting.{failure, meets_unmade, leaves_changed}
-use Rattle.ld_register.proofs.Answering.{to, grant_in, activated_by, crowded_activate, closing, close_at, closed_by, crowded_close, drawn_by}
+use Rattle.ld_register.proofs.Answering.{to, grant_in, activated_by, crowded_activate, closing, close_at, closed_by, crowded_close, drawn_by, swapping, swap_at, swapped_by}
 
 -- ---- a call, by what it answers with no fault armed ----
 
 abbrev pub with_armed : Register → Option Armed → Register
 with_armed r a = record r { armed = a }
 
+-- what is refused so is refused with a fault armed too
+abbrev pub Refuses : {T : Type 0} → (Register → Result T RegisterFault) → (Register → Register) → Type 0
+Refuses {T = T} answer after = (c : Register) (e : RegisterFault) → failure T e ≡ answer (unarmed c) → (failure T e ≡ answer c) × (after c ≡ c)
+
+-- what is answered so is, unless the armed fault falls
+abbrev pub Grants : {T : Type 0} → (Register → Result T RegisterFault) → (Register → Register) → T → Type 0
+Grants {T = T} answer after x = (c : Register) → granting x ≡ answer (unarmed c) → ((if falls c.armed then failure T faults.Failed else granting x) ≡ answer c) × (after c ≡ with_armed (if is_made c.armed then after (unarmed c) else c) (armed_after c.armed))
+
 pub record Arms {T : Type 0} (answer : Register → Result T RegisterFault) (after : Register → Register) : Type 0 where
-  pub refused : (c : Register) (e : RegisterFault) → failure T e ≡ answer (unarmed c) → (failure T e ≡ answer c) × (after c ≡ c)
-  pub granted : (c : Register) (x : T) → granting x ≡ answer (unarmed c) → ((if falls c.armed then failure T faults.Failed else granting x) ≡ answer c) × (after c ≡ with_armed (if is_made c.armed then after (unarmed c) else c) (armed_after c.armed))
+  pub refused : Refuses answer after
+  pub granted : (x : T) → Grants answer after x
 
 pub not_falling : (a : Option Armed) → falls a ≡ false → is_made a ≡ true
 not_falling None h = refl
@@ -100,7 +109,7 @@ granted_activate c p x false false false a b d h = let s = ends_activate c p fal
 pub arms_activate : (p : Spec) → Arms (λ c. activated c p) (λ c. after_activate c p)
 arms_activate p = record {
   refused = λ c e h. refused_activate c p e (is_crowded c p.log) (nat_le epoch_limit (epochs_of c p.log).epoch) (is_full c 13) refl refl refl h;
-  granted = λ c x h. granted_activate c p x (is_crowded c p.log) (nat_le epoch_limit (epochs_of c p.log).epoch) (is_full c 13) refl refl refl h;
+  granted = λ x c h. granted_activate c p x (is_crowded c p.log) (nat_le epoch_limit (epochs_of c p.log).epoch) (is_full c 13) refl refl refl h;
 }
 
 -- ---- a close ----
@@ -144,7 +153,7 @@ granted_close c l k y short x false true false false a b o d h = let s = ends_cl
 pub arms_close : (l e : ℕ) (y : Summary) (short : Bool) → Arms (λ c. closed c l e y short) (λ c. after_close c l e y short)
 arms_close l k y short = record {
   refused = λ c e h. refused_close c l k y short e (is_crowded c l) (lce_of c l + 1 == k) (is_overtaken (epochs_of c l) y short) (is_full c 30) refl refl refl refl h;
-  granted = λ c x h. granted_close c l k y short x (is_crowded c l) (lce_of c l + 1 == k) (is_overtaken (epochs_of c l) y short) (is_full c 30) refl refl refl refl h;
+  granted = λ x c h. granted_close c l k y short x (is_crowded c l) (lce_of c l + 1 == k) (is_overtaken (epochs_of c l) y short) (is_full c 30) refl refl refl refl h;
 }
 
 -- ---- a draw ----
@@ -179,8 +188,57 @@ granted_draw c n x false false b d h = let s = ends_draw c n false b d in let t 
 pub arms_draw : (n : ℕ) → Arms (λ c. drawn c n) (λ c. after_draw c n)
 arms_draw n = record {
   refused = λ c e h. refused_draw c n e (nat_le generation_limit (generation_of c n)) (is_full c 6) refl refl h;
-  granted = λ c x h. granted_draw c n x (nat_le generation_limit (generation_of c n)) (is_full c 6) refl refl h;
+  granted = λ x c h. granted_draw c n x (nat_le generation_limit (generation_of c n)) (is_full c 6) refl refl h;
 }
+
+-- ---- a swap ----
+
+ends_swap : (r : Register) (l t o w : ℕ) (full : Bool) → (swappable r l t o w == 0) ≡ false → nat_le swap_limit (epochs_of r l).swaps ≡ false → is_full r 11 ≡ full
+    → (ended (outcome r (swapping r l t o w) 11 full).answer full faults.SwapLimit (swappable r l t o w) ≡ swapped r l t o w) × (after_swap r l t o w ≡ (outcome r (swapping r l t o w) 11 full).register)
+ends_swap r l t o w full n h f = swapped_by r l t o w (outcome r (swapping r l t o w) 11 full) full (swap_at r l t o w false false n h ∙ changes_by r (swapping r l t o w) 11 full f) f
+
+-- one that changes no epoch, and one at the limit
+idle_at : (r : Register) (l t o w : ℕ) → (swappable r l t o w == 0) ≡ true → (granting (swappable r l t o w) ≡ swapped r l t o w) × (after_swap r l t o w ≡ r)
+idle_at r l t o w n = swapped_by r l t o w (to r Granted) (is_full r 11) (swap_at r l t o w true (nat_le swap_limit (epochs_of r l).swaps) n refl) refl
+
+limit_at : (r : Register) (l t o w : ℕ) → (swappable r l t o w == 0) ≡ false → nat_le swap_limit (epochs_of r l).swaps ≡ true → (failure ℕ faults.SwapLimit ≡ swapped r l t o w) × (after_swap r l t o w ≡ r)
+limit_at r l t o w n h = swapped_by r l t o w (to r AtLimit) (is_full r 11) (swap_at r l t o w false true n h) refl
+
+refused_swap : (c : Register) (l t o w : ℕ) (e : RegisterFault) (none limit full : Bool) → (swappable c l t o w == 0) ≡ none → nat_le swap_limit (epochs_of c l).swaps ≡ limit → is_full c 11 ≡ full
+    → failure ℕ e ≡ swapped (unarmed c) l t o w → (failure ℕ e ≡ swapped c l t o w) × (after_swap c l t o w ≡ c)
+refused_swap c l t o w e true limit full n b d h = let u = idle_at (unarmed c) l t o w n in absurd (not_granted e _ (h ∙ sym u.0))
+refused_swap c l t o w e false true full n b d h = let s = limit_at c l t o w n b in let u = limit_at (unarmed c) l t o w n b in ((h ∙ sym u.0) ∙ s.0, s.1)
+refused_swap c l t o w e false false true n b d h = let s = ends_swap c l t o w true n b d in let u = ends_swap (unarmed c) l t o w true n b d in ((h ∙ sym u.0) ∙ s.0, s.1)
+refused_swap c l t o w e false false false n b d h = let u = ends_swap (unarmed c) l t o w false n b d in absurd (not_granted e _ (h ∙ sym u.0))
+
+pub refuses_swap : (l t o w : ℕ) → Refuses (λ c. swapped c l t o w) (λ c. after_swap c l t o w)
+refuses_swap l t o w c e h = refused_swap c l t o w e (swappable c l t o w == 0) (nat_le swap_limit (epochs_of c l).swaps) (is_full c 11) refl refl refl h
+
+same_number : (m n : ℕ) → granting m ≡ granting n → m ≡ n
+same_number m n h = cc h
+
+granted_swap : (c : Register) (l t o w x : ℕ) (none limit full : Bool) → 1 ≤ x → (swappable c l t o w == 0) ≡ none → nat_le swap_limit (epochs_of c l).swaps ≡ limit → is_full c 11 ≡ full
+    → granting x ≡ swapped (unarmed c) l t o w → ((if falls c.armed then failure ℕ faults.Failed else granting x) ≡ swapped c l t o w) × (after_swap c l t o w ≡ with_armed (if is_made c.armed then after_swap (unarmed c) l t o w else c) (armed_after c.armed))
+granted_swap c l t o w x true limit full one n b d h = let u = idle_at (unarmed c) l t o w n in let z = same_number x (swappable c l t o w) (h ∙ sym u.0) in let y = eqb-true (swappable c l t o w) 0 n in absurd (omega arith)
+granted_swap c l t o w x false true full one n b d h = let u = limit_at (unarmed c) l t o w n b in absurd (not_granted faults.SwapLimit x (sym (h ∙ sym u.0)))
+granted_swap c l t o w x false false true one n b d h = let u = ends_swap (unarmed c) l t o w true n b d in absurd (not_granted faults.Full x (sym (h ∙ sym u.0)))
+granted_swap c l t o w x false false false one n b d h = let s = ends_swap c l t o w false n b d in let u = ends_swap (unarmed c) l t o w false n b d in
+    arms_grant c x (swapping c l t o w) 11 faults.SwapLimit (λ r. swappable c l t o w) (swapped c l t o w) (after_swap c l t o w) (after_swap (unarmed c) l t o w) s.0 s.1 (h ∙ sym u.0) (sym u.1)
+
+pub grants_swap : (l t o w x : ℕ) → 1 ≤ x → Grants (λ c. swapped c l t o w) (λ c. after_swap c l t o w) x
+grants_swap l t o w x one c h = granted_swap c l t o w x (swappable c l t o w == 0) (nat_le swap_limit (epochs_of c l).swaps) (is_full c 11) one refl refl refl h
+
+-- a swap that changes no epoch isn't seen by the armed fault
+idle_by : (c : Register) (l t o w : ℕ) (none limit full : Bool) → (swappable c l t o w == 0) ≡ none → nat_le swap_limit (epochs_of c l).swaps ≡ limit → is_full c 11 ≡ full → granting 0 ≡ swapped (unarmed c) l t o w → (swappable c l t o w == 0) ≡ true
+idle_by c l t o w true limit full n b d h = n
+idle_by c l t o w false true full n b d h = let u = limit_at (unarmed c) l t o w n b in absurd (not_granted faults.SwapLimit 0 (sym (h ∙ sym u.0)))
+idle_by c l t o w false false true n b d h = let u = ends_swap (unarmed c) l t o w true n b d in absurd (not_granted faults.Full 0 (sym (h ∙ sym u.0)))
+idle_by c l t o w false false false n b d h = let u = ends_swap (unarmed c) l t o w false n b d in eq-eqb (swappable c l t o w) 0 (sym (same_number 0 (swappable c l t o w) (h ∙ sym u.0)))
+
+pub idle_swap_armed : (l t o w : ℕ) (c : Register) → granting 0 ≡ swapped (unarmed c) l t o w → (granting 0 ≡ swapped c l t o w) × (after_swap c l t o w ≡ c)
+idle_swap_armed l t o w c h =
+    let n = idle_by c l t o w (swappable c l t o w == 0) (nat_le swap_limit (epochs_of c l).swaps) (is_full c 11) refl refl refl h in
+    let s = idle_at c l t o w n in (ap (λ k. granting k) (sym (eqb-true (swappable c l t o w) 0 n)) ∙ s.0, s.1)
 
 -- ---- what a call owes that is made, or only checked ----
 
@@ -202,6 +260,21 @@ module _ {D : Type 0} {g : Ghosts D} where
       → made ≡ true → Meets old mid r answer after → OnOk r (Meets old mid r answer (λ c. if made then after c else c))
   attempt_made old mid made (Ok given) answer after is m = subst (λ b. Meets old mid (granting given) answer (λ c. if b then after c else c)) (sym is) m
   attempt_made old mid made (Err e) answer after is m = tt
+
+  -- the same of a call that may find nothing to change
+  pub attempt_checked_some : {T : Type 0} (counts : (disk : D) (t : ℕ) (c : List ℕ) → t ≤ g.moment disk → g.may_leave disk c → g.left_since disk t c) (image : (disk : D) (bytes : List ℕ) → g.seen disk ≡ Some bytes → g.may_leave disk bytes) (old mid : DiskRegister D g) (x : Change) (made : Bool) (P : T → Type 0) (r : Result T RegisterFault) (answer : Register → Result T RegisterFault) (after : Register → Register)
+      → made ≡ false → IfOk r (λ given. P given → IsDue old mid x given answer after) → IfOk r (λ given. P given → Meets old mid r answer (λ c. if made then after c else c))
+  attempt_checked_some counts image old mid x made P (Ok given) answer after is d = λ some. subst (λ b. Meets old mid (granting given) answer (λ c. if b then after c else c)) (sym is) (meets_unmade counts image old mid x given answer after (d some))
+  attempt_checked_some counts image old mid x made P (Err e) answer after is d = tt
+
+  pub attempt_made_some : {T : Type 0} (old mid : DiskRegister D g) (made : Bool) (P : T → Type 0) (r : Result T RegisterFault) (answer : Register → Result T RegisterFault) (after : Register → Register)
+      → made ≡ true → Meets old mid r answer after → IfOk r (λ given. P given → Meets old mid r answer (λ c. if made then after c else c))
+  attempt_made_some old mid made P (Ok given) answer after is m = λ some. subst (λ b. Meets old mid (granting given) answer (λ c. if b then after c else c)) (sym is) m
+  attempt_made_some old mid made P (Err e) answer after is m = tt
+
+pub if_ok : {T : Type 0} (r : Result T RegisterFault) (P : T → Type 0) (A : Type 0) → A → IfOk r (λ given. P given → A)
+if_ok (Ok given) P A a = λ some. a
+if_ok (Err e) P A a = tt
 
 -- ---- counts of faults ----
 
@@ -234,18 +307,18 @@ module _ {D : Type 0} {g : Ghosts D} where
   done_of true old after c h = h
   done_of false old after c h = (h.0, h.1, elim h.2 [ inl e ↦ inl e | inr e ↦ inl e ])
 
-  exact_granted : {T : Type 0} (old new : FaultyRegister D g) (given : T) (r : Result T RegisterFault) (answer : Register → Result T RegisterFault) (after : Register → Register) → Arms answer after → r ≡ (if falls (armed_of old) then failure T faults.Failed else granting given)
+  exact_granted : {T : Type 0} (old new : FaultyRegister D g) (given : T) (r : Result T RegisterFault) (answer : Register → Result T RegisterFault) (after : Register → Register) → Grants answer after given → r ≡ (if falls (armed_of old) then failure T faults.Failed else granting given)
       → armed_of new ≡ armed_after (armed_of old) → Meets (kept_in old) (kept_in new) (granting given) answer (λ c. if is_made (armed_of old) then after c else c)
       → (c : Register) → Foresees old c → (IsErrOf r faults.NoMemory × Foresees new c) ⊎ ((r ≡ answer c) × Foresees new (after c))
   exact_granted {T = T} old new given r answer after arms is armed m c f = elim (m.exact (unarmed c) f.foretells) [
     | inl n ↦ absurd (not_granted faults.NoMemory given (sym n.0))
-    | inr s ↦ let a = arms.granted c given s.0 in inr (
+    | inr s ↦ let a = arms c s.0 in inr (
       is ∙ (ap (λ a. if falls a then failure T faults.Failed else granting given) (sym f.armed) ∙ a.0),
       subst (Foresees new) (sym a.1) (foresees_after new c (is_made c.armed) after (armed_after c.armed) (subst (λ a. Foretells (kept_in new) (if is_made a then after (unarmed c) else unarmed c)) (sym f.armed) s.1) (ap armed_after f.armed ∙ sym armed)),
     )
   ]
 
-  fell_by : {T : Type 0} (old new : FaultyRegister D g) (given : T) (r : Result T RegisterFault) (answer : Register → Result T RegisterFault) (after : Register → Register) → Arms answer after → r ≡ failure T faults.Failed → falls (armed_of old) ≡ true
+  fell_by : {T : Type 0} (old new : FaultyRegister D g) (given : T) (r : Result T RegisterFault) (answer : Register → Result T RegisterFault) (after : Register → Register) → Grants answer after given → r ≡ failure T faults.Failed → falls (armed_of old) ≡ true
       → armed_of new ≡ armed_after (armed_of old) → own_faults new ≡ min (own_faults old + 1) (2 ^ 64 - 1)
       → Meets (kept_in old) (kept_in new) (granting given) answer (λ c. if is_made (armed_of old) then after c else c) → MeetsArmed old new r answer after
   fell_by {T = T} old new given r answer after arms is fell armed own m = let free : IsFree r = subst IsFree (sym is) tt in record {
@@ -268,13 +341,13 @@ module _ {D : Type 0} {g : Ghosts D} where
       not_damaged place h = absurd (cc h)
 
   -- the armed fault fell
-  pub armed_fell : {T : Type 0} (old mid new : FaultyRegister D g) (given : T) (r : Result T RegisterFault) (answer : Register → Result T RegisterFault) (after : Register → Register) → Arms answer after → r ≡ failure T faults.Failed → falls (armed_of old) ≡ true → kept_in new ≡ kept_in mid
+  pub armed_fell : {T : Type 0} (old mid new : FaultyRegister D g) (given : T) (r : Result T RegisterFault) (answer : Register → Result T RegisterFault) (after : Register → Register) → Grants answer after given → r ≡ failure T faults.Failed → falls (armed_of old) ≡ true → kept_in new ≡ kept_in mid
       → armed_of new ≡ armed_after (armed_of old) → own_faults new ≡ min (own_faults old + 1) (2 ^ 64 - 1)
       → Meets (kept_in old) (kept_in mid) (granting given) answer (λ c. if is_made (armed_of old) then after c else c) → MeetsArmed old new r answer after
   armed_fell old mid new given r answer after arms is fell kept armed own m =
       fell_by old new given r answer after arms is fell armed own (subst (λ k. Meets (kept_in old) k (granting given) answer (λ c. if is_made (armed_of old) then after c else c)) (sym kept) m)
 
-  passed_by : {T : Type 0} (old new : FaultyRegister D g) (given : T) (answer : Register → Result T RegisterFault) (after : Register → Register) → Arms answer after → falls (armed_of old) ≡ false
+  passed_by : {T : Type 0} (old new : FaultyRegister D g) (given : T) (answer : Register → Result T RegisterFault) (after : Register → Register) → Grants answer after given → falls (armed_of old) ≡ false
       → armed_of new ≡ armed_after (armed_of old) → own_faults new ≡ own_faults old
       → Meets (kept_in old) (kept_in new) (granting given) answer (λ c. if is_made (armed_of old) then after c else c) → MeetsArmed old new (granting given) answer after
   passed_by {T = T} old new given answer after arms passes armed own m =
@@ -295,7 +368,7 @@ module _ {D : Type 0} {g : Ghosts D} where
       }
 
   -- the call was made, and no armed fault fell
-  pub armed_passed : {T : Type 0} (old mid new : FaultyRegister D g) (given : T) (answer : Register → Result T RegisterFault) (after : Register → Register) → Arms answer after → falls (armed_of old) ≡ false → kept_in new ≡ kept_in mid
+  pub armed_passed : {T : Type 0} (old mid new : FaultyRegister D g) (given : T) (answer : Register → Result T RegisterFault) (after : Register → Register) → Grants answer after given → falls (armed_of old) ≡ false → kept_in new ≡ kept_in mid
       → armed_of new ≡ armed_after (armed_of old) → own_faults new ≡ own_faults old
       → Meets (kept_in old) (kept_in mid) (granting given) answer (λ c. if is_made (armed_of old) then after c else c) → MeetsArmed old new (granting given) answer after
   armed_passed old mid new given answer after arms passes kept armed own m =
@@ -319,16 +392,19 @@ module _ {D : Type 0} {g : Ghosts D} where
     counts = counts_on (own_faults old) (own_faults new) (g.faults (disk_in old)) (g.faults (disk_in new)) (2 ^ 64 - 1) own m.counts;
   }
 
+  -- the call changes nothing, and doesn't see the armed fault
+  pub armed_kept : {T : Type 0} (old new : FaultyRegister D g) (r : Result T RegisterFault) (answer : Register → Result T RegisterFault) (after : Register → Register) → ((c : Register) → r ≡ answer (unarmed c) → (r ≡ answer c) × (after c ≡ c)) → armed_of new ≡ armed_of old → own_faults new ≡ own_faults old
+      → Meets (kept_in old) (kept_in new) r answer after → MeetsArmed old new r answer after
+  armed_kept old new r answer after same armed own m = inner_by old new r answer after own m (λ c f. elim (m.exact (unarmed c) f.foretells) [
+    | inl n ↦ inl (n.0, record { foretells = n.1; armed = f.armed ∙ sym armed })
+    | inr s ↦ let a = same c s.0 in let b = same (unarmed c) s.0 in
+        inr (a.0, subst (Foresees new) (sym a.1) (record { foretells = subst (Foretells (kept_in new)) b.1 s.1; armed = f.armed ∙ sym armed }))
+  ])
+
   -- the register refused the call
-  pub armed_refused : {T : Type 0} (old new : FaultyRegister D g) (e : RegisterFault) (r : Result T RegisterFault) (answer : Register → Result T RegisterFault) (after : Register → Register) → Arms answer after → r ≡ failure T e → armed_of new ≡ armed_of old → own_faults new ≡ own_faults old
+  pub armed_refused : {T : Type 0} (old new : FaultyRegister D g) (e : RegisterFault) (r : Result T RegisterFault) (answer : Register → Result T RegisterFault) (after : Register → Register) → Refuses answer after → r ≡ failure T e → armed_of new ≡ armed_of old → own_faults new ≡ own_faults old
       → Meets (kept_in old) (kept_in new) (failure T e) answer after → MeetsArmed old new r answer after
-  armed_refused {T = T} old new e r answer after arms is armed own n =
-      let m : Meets (kept_in old) (kept_in new) r answer after = subst (λ r. Meets (kept_in old) (kept_in new) r answer after) (sym is) n in
-      inner_by old new r answer after own m (λ c f. elim (m.exact (unarmed c) f.foretells) [
-        | inl n ↦ inl (n.0, record { foretells = n.1; armed = f.armed ∙ sym armed })
-        | inr s ↦ let a = arms.refused c e (sym is ∙ s.0) in let b = arms.refused (unarmed c) e (sym is ∙ s.0) in
-            inr (is ∙ a.0, subst (Foresees new) (sym a.1) (record { foretells = subst (Foretells (kept_in new)) b.1 s.1; armed = f.armed ∙ sym armed }))
-      ])
+  armed_refused old new e r answer after refuses is armed own m = armed_kept old new r answer after (λ c h. let a = refuses c e (sym is ∙ h) in (is ∙ a.0, a.1)) armed own (subst (λ r. Meets (kept_in old) (kept_in new) r answer after) (sym is) m)
 
   -- a look, which doesn't see the armed fault
   pub armed_looked : {T : Type 0} (old new : FaultyRegister D g) (r : Result T RegisterFault) (answer : Register → Result T RegisterFault) → ((c : Register) → answer (unarmed c) ≡ answer c) → armed_of new ≡ armed_of old → own_faults new ≡ own_faults old

@@ -84,6 +84,7 @@ no_activation bs e s len are fl fe set none (changes.Unfixed m f) i is = omega (
 no_activation bs e s len are fl fe set none (changes.Close m f y) i is = omega (arith, len, ap length is)
 no_activation bs e s len are fl fe set none (changes.Lossless m f y) i is = omega (arith, len, ap length is)
 no_activation bs e s len are fl fe set none (changes.Draw n g) i is = omega (arith, len, ap length is)
+no_activation bs e s len are fl fe set none (changes.Swap m t o n) i is = omega (arith, len, ap length is)
 
 -- ---- an activation that fixes nothing ----
 
@@ -102,6 +103,7 @@ no_unfixed bs l e len fl fe le ee none (changes.Activate f s) i is = omega (arit
 no_unfixed bs l e len fl fe le ee none (changes.Close m f y) i is = omega (arith, len, ap length is)
 no_unfixed bs l e len fl fe le ee none (changes.Lossless m f y) i is = omega (arith, len, ap length is)
 no_unfixed bs l e len fl fe le ee none (changes.Draw n g) i is = omega (arith, len, ap length is)
+no_unfixed bs l e len fl fe le ee none (changes.Swap m t o n) i is = omega (arith, len, ap length is)
 
 -- ---- a close ----
 
@@ -156,6 +158,7 @@ no_close bs len none (changes.Unfixed m f) i is = omega (arith, len, ap length i
 no_close bs len none (changes.Close m f z) i is = none m f z i.0 i.1 i.2 (is ∙ ap (λ b. get_or b 0 0 ∷ (closing_bytes m f z ++ drop 29 b)) (sym is))
 no_close bs len none (changes.Lossless m f z) i is = omega (arith, len, ap length is)
 no_close bs len none (changes.Draw n g) i is = omega (arith, len, ap length is)
+no_close bs len none (changes.Swap m t o n) i is = omega (arith, len, ap length is)
 
 -- the last byte is no flag
 pub no_flag : (bs : List ℕ) → length bs ≡ 30 → 1 < get_or bs 29 0 → IsNoBody bs
@@ -165,6 +168,7 @@ no_flag bs len big (changes.Unfixed m f) i is = omega (arith, len, ap length is)
 no_flag bs len big (changes.Close m f z) i is = (let h : get_or bs 29 0 ≡ flag z.loss = ap (λ b. get_or b 29 0) is in let k = flag_small z.loss in omega arith)
 no_flag bs len big (changes.Lossless m f z) i is = omega (arith, len, ap length is)
 no_flag bs len big (changes.Draw n g) i is = omega (arith, len, ap length is)
+no_flag bs len big (changes.Swap m t o n) i is = omega (arith, len, ap length is)
 
 -- ---- a close that says nothing of a loss ----
 
@@ -179,6 +183,7 @@ no_lossless bs len none (changes.Unfixed m f) i is = omega (arith, len, ap lengt
 no_lossless bs len none (changes.Close m f z) i is = omega (arith, len, ap length is)
 no_lossless bs len none (changes.Lossless m f z) i is = none m f z i.0 i.1 i.2 (is ∙ ap (λ b. get_or b 0 0 ∷ (closing_bytes m f z ++ drop 29 b)) (sym is))
 no_lossless bs len none (changes.Draw n g) i is = omega (arith, len, ap length is)
+no_lossless bs len none (changes.Swap m t o n) i is = omega (arith, len, ap length is)
 
 -- ---- a draw ----
 
@@ -199,12 +204,36 @@ no_draw bs len none (changes.Unfixed m f) i is = omega (arith, len, ap length is
 no_draw bs len none (changes.Close m f y) i is = omega (arith, len, ap length is)
 no_draw bs len none (changes.Lossless m f y) i is = omega (arith, len, ap length is)
 no_draw bs len none (changes.Draw n g) i is = none (subst IsNode (sym (ap (λ b. get_or b 1 0) is)) i.0)
+no_draw bs len none (changes.Swap m t o n) i is = omega (arith, len, ap length is)
+
+-- ---- a swap ----
+
+two_last : (bs : List ℕ) → length bs ≡ 11 → drop 9 bs ≡ get_or bs 9 0 ∷ get_or bs 10 0 ∷ []
+two_last bs h = drop_more bs 9 0 (omega arith) ∙ ap (λ t. get_or bs 9 0 ∷ t) (drop_more bs 10 0 (omega arith) ∙ ap (λ t. get_or bs 10 0 ∷ t) (drop_all 11 bs (omega arith)))
+
+pub swap_is : (bs : List ℕ) (l t o n : ℕ) → length bs ≡ 11 → get_or bs 0 0 ≡ 21 → to_be_bytes w32 l ≡ take 4 (drop 1 bs) → to_be_bytes w32 t ≡ take 4 (drop 5 bs) → o ≡ get_or bs 9 0 → n ≡ get_or bs 10 0 → bs ≡ change_bytes (changes.Swap l t o n)
+unfolding change_bytes
+swap_is bs l t o n len kind le te oe ne =
+    first_of bs (omega arith) ∙ (ap (λ k. k ∷ drop 1 bs) kind ∙ ap (λ r. 21 ∷ r)
+    (step bs 1 4 (to_be_bytes w32 l) le (step bs 5 4 (to_be_bytes w32 t) te (two_last bs len ∙ (ap (λ r. r ∷ get_or bs 10 0 ∷ []) (sym oe) ∙ ap (λ r. o ∷ r ∷ []) (sym ne))))))
+
+pub no_swap : (bs : List ℕ) (l : ℕ) → length bs ≡ 11 → l < 2 ^ 32 → to_be_bytes w32 l ≡ take 4 (drop 1 bs) → (IsLog l → IsNode (get_or bs 9 0) → IsNode (get_or bs 10 0) → ⊥) → IsNoBody bs
+unfolding change_bytes
+no_swap bs l len fl le none (changes.Activate f s) i is = omega (arith, len, ap length is)
+no_swap bs l len fl le none (changes.Unfixed m f) i is = omega (arith, len, ap length is)
+no_swap bs l len fl le none (changes.Close m f y) i is = omega (arith, len, ap length is)
+no_swap bs l len fl le none (changes.Lossless m f y) i is = omega (arith, len, ap length is)
+no_swap bs l len fl le none (changes.Draw n g) i is = omega (arith, len, ap length is)
+no_swap bs l len fl le none (changes.Swap m t o n) i is =
+    let a : l ≡ m = (let j = i.0.1 in same_word l m fl (omega arith) (le ∙ ap (λ b. take 4 (drop 1 b)) is)) in
+    none (subst IsLog (sym a) i.0) (subst IsNode (sym (ap (λ b. get_or b 9 0) is)) i.2) (subst IsNode (sym (ap (λ b. get_or b 10 0) is)) i.3)
 
 -- a body of another length or another first byte
-pub no_change : (bs : List ℕ) → (length bs ≡ 13 → get_or bs 0 0 ≡ 19 → ⊥) → (length bs ≡ 9 → get_or bs 0 0 ≡ 16 → ⊥) → (length bs ≡ 30 → get_or bs 0 0 ≡ 20 → ⊥) → (length bs ≡ 29 → get_or bs 0 0 ≡ 17 → ⊥) → (length bs ≡ 6 → get_or bs 0 0 ≡ 18 → ⊥) → IsNoBody bs
+pub no_change : (bs : List ℕ) → (length bs ≡ 13 → get_or bs 0 0 ≡ 19 → ⊥) → (length bs ≡ 9 → get_or bs 0 0 ≡ 16 → ⊥) → (length bs ≡ 30 → get_or bs 0 0 ≡ 20 → ⊥) → (length bs ≡ 29 → get_or bs 0 0 ≡ 17 → ⊥) → (length bs ≡ 6 → get_or bs 0 0 ≡ 18 → ⊥) → (length bs ≡ 11 → get_or bs 0 0 ≡ 21 → ⊥) → IsNoBody bs
 unfolding change_bytes
-no_change bs a u b o c (changes.Activate f s) i is = a (ap length is) (ap (λ b. get_or b 0 0) is)
-no_change bs a u b o c (changes.Unfixed m f) i is = u (ap length is) (ap (λ b. get_or b 0 0) is)
-no_change bs a u b o c (changes.Close m f y) i is = b (ap length is) (ap (λ b. get_or b 0 0) is)
-no_change bs a u b o c (changes.Lossless m f y) i is = o (ap length is) (ap (λ b. get_or b 0 0) is)
-no_change bs a u b o c (changes.Draw n g) i is = c (ap length is) (ap (λ b. get_or b 0 0) is)
+no_change bs a u b o c w (changes.Activate f s) i is = a (ap length is) (ap (λ b. get_or b 0 0) is)
+no_change bs a u b o c w (changes.Unfixed m f) i is = u (ap length is) (ap (λ b. get_or b 0 0) is)
+no_change bs a u b o c w (changes.Close m f y) i is = b (ap length is) (ap (λ b. get_or b 0 0) is)
+no_change bs a u b o c w (changes.Lossless m f y) i is = o (ap length is) (ap (λ b. get_or b 0 0) is)
+no_change bs a u b o c w (changes.Draw n g) i is = c (ap length is) (ap (λ b. get_or b 0 0) is)
+no_change bs a u b o c w (changes.Swap m t p n) i is = w (ap length is) (ap (λ b. get_or b 0 0) is)

@@ -1,18 +1,20 @@
 -- At most 64 logs are held: a log is added only where fewer than 64 others are held.
-use Rattle.std.proofs.Common.{◌≡◌, ◌≤◌, ◌<◌, ◌&&◌, ◌==◌, inl, inr, ℕ, suc, Bool, true, false, not, List, [], ◌∷◌, Ordering, Less, Equal, Greater, refl, ap, sym, ◌∙◌, subst, arith, nat_cmp, length, if◌then◌else◌}
+use Rattle.std.proofs.Common.{◌≡◌, ◌≤◌, ◌<◌, ◌&&◌, ◌==◌, inl, inr, ℕ, suc, Bool, true, false, not, List, [], ◌∷◌, Some, Ordering, Less, Equal, Greater, refl, ap, sym, ◌∙◌, subst, arith, nat_cmp, length, if◌then◌else◌}
 use Rattle.std.specs.Map as map
+use Rattle.std.specs.BTreeMap.{is_at}
+use Rattle.std.proofs.lemmas.Map.{length-set_value}
 use Rattle.std.specs.Ordering.{match_ordering}
 use Rattle.std.specs.List.{AllByRecursion}
 use Rattle.std.specs.List.Sorted.{IsStrictlySortedBy}
 use Rattle.std.proofs.lemmas.Bool.{cases_Bool, eqb-true, eq-eqb, leb-false}
 use Rattle.std.proofs.lemmas.Bool.Decides.{nat_tests}
-use Rattle.ld_table.specs.Table.{put, map_values, Ordered}
+use Rattle.ld_table.specs.Table.{find, put, map_values, Ordered}
 use Rattle.ld_table.specs.Words.{how_many}
 use Rattle.ld_table.proofs.Order.{Ordered-put}
 use Rattle.ld_op.proofs.There.{Ordered-map_values}
 use Rattle.ld_msg.specs.Register.{Epochs, epochs_in, is_crowded, log_limit}
 use Rattle.ld_register.specs.Kept.{Kept, register_of, shown_log, shown_logs, is_held, AreLogs, AreFewLogs}
-use Rattle.ld_register.proofs.Tables.{Ordered-passing}
+use Rattle.ld_register.proofs.Tables.{Ordered-passing, set_value_put}
 
 -- how many but this one
 abbrev rest : {X : Type 0} → ℕ → List (ℕ × X) → ℕ
@@ -65,6 +67,10 @@ Ordered-shown m o = Ordered-passing is_held (map_values shown_log m) (Ordered-ma
 -- a log is written
 pub shown_few : (l : ℕ) (v : Epochs) (m n : List (ℕ × Epochs)) → shown_logs n ≡ put l v (shown_logs m) → Ordered m → how_many (λ k. not (k.0 == l)) (shown_logs m) < 64 → length (shown_logs n) ≤ 64
 shown_few l v m n e o h = put_few l v (shown_logs m) (shown_logs n) e (Ordered-shown m o) h
+
+-- a log that is held is written
+pub shown_as_many : (l : ℕ) (v w : Epochs) (m n : List (ℕ × Epochs)) → Ordered m → find l (shown_logs m) ≡ Some v → shown_logs n ≡ put l w (shown_logs m) → length (shown_logs n) ≡ length (shown_logs m)
+shown_as_many l v w m n o f e = ap length (e ∙ sym (set_value_put l w v (shown_logs m) (Ordered-shown m o) f)) ∙ length-set_value (is_at (nat_cmp l)) (shown_logs m) w
 
 -- room is made
 pub few_same : (m n : List (ℕ × Epochs)) → shown_logs n ≡ shown_logs m → (AreLogs m → AreLogs n) → AreFewLogs m → AreFewLogs n

@@ -6,23 +6,26 @@ use Rattle.ld_table.specs.Table.{find, put}
 use Rattle.ld_table.proofs.Laws.{put_cases, find-put_same, find-put_other}
 use Rattle.ld_ids.specs.declared.set.Spec.{Spec}
 use Rattle.ld_msg.specs.declared.msg.Summary.{Summary}
-use Rattle.ld_msg.specs.Register.{Register, Epochs, Armed, Changed, Answer, Granted, AtLimit, Behind, Overtaken, Fails, is_overtaken, activate, close, draw, change, made, unmade, is_made, falls, journal_limit, record_length, epochs_of, no_epochs, generation_of, lce_of, with_epochs, next_epoch, closed_epochs, epoch_limit, generation_limit, is_crowded, summary_shown}
+use Rattle.ld_msg.specs.Register.{Register, Epochs, Armed, Changed, Answer, Granted, AtLimit, Behind, Overtaken, Fails, is_overtaken, activate, close, draw, swap, swappable, change, made, unmade, is_made, falls, journal_limit, record_length, epochs_of, no_epochs, generation_of, lce_of, with_epochs, next_epoch, closed_epochs, swapped_epochs, closed_upto, epoch_limit, generation_limit, swap_limit, is_crowded, summary_shown}
 use Rattle.ld_register.specs.declared.fault.RegisterFault.{RegisterFault}
 use Rattle.ld_register.specs.declared.fault.RegisterFault.TheVariants as faults
 use Rattle.ld_register.specs.declared.register.Grant.{Grant}
 use Rattle.ld_register.specs.declared.register.Drawn.{Drawn}
 use Rattle.ld_register.specs.declared.register.View.{View}
-use Rattle.ld_register.specs.Calls.{IsFree, ChangedOrNot, ended, close_ended, spec_told, next_told, is_full, activated, after_activate, granted, closed, after_close, drawn, after_draw, handed, looked}
+use Rattle.ld_register.specs.Calls.{IsFree, ChangedOrNot, ended, close_ended, spec_told, next_told, is_full, activated, after_activate, granted, closed, after_close, drawn, after_draw, handed, swapped, after_swap, looked}
 use Rattle.ld_register.proofs.Answering.{shown_there}
-use Rattle.ld_register.specs.Histories.{Call, Activates, Closes, Draws, Looks, Ends, Passes, Runs}
+use Rattle.ld_register.proofs.Swapping.{specs_above}
+use Rattle.ld_register.specs.Histories.{Call, Activates, Closes, Draws, Swaps, Looks, Ends, Passes, Runs}
 
 -- ---- what grows ----
 
--- a log's epochs don't fall, and what is fixed up to the greatest one and the summaries up to the last closed one stay
+-- a log's epochs and its count of swaps don't fall, and what was fixed up to the greatest one and the summaries up to the last closed one stay; and as swaps left it, it stays where the count does or the epoch isn't closed
 pub record LogGrows (v w : Epochs) : Type 0 where
   pub epoch : v.epoch ≤ w.epoch
   pub lce : v.lce ≤ w.lce
+  pub swaps : v.swaps ≤ w.swaps
   pub specs : (e : ℕ) → e ≤ v.epoch → find e w.specs ≡ find e v.specs
+  pub swapped : (e : ℕ) → e ≤ v.epoch → (w.swaps ≡ v.swaps) ⊎ (w.lce < e) → find e w.swapped ≡ find e v.swapped
   pub summaries : (e : ℕ) → e ≤ v.lce → find e w.summaries ≡ find e v.summaries
 
 pub record Grows (c d : Register) : Type 0 where
@@ -30,13 +33,16 @@ pub record Grows (c d : Register) : Type 0 where
   pub generations : (n : ℕ) → generation_of c n ≤ generation_of d n
 
 log_stays : (v : Epochs) → LogGrows v v
-log_stays v = record { epoch = omega arith; lce = omega arith; specs = λ e h. refl; summaries = λ e h. refl }
+log_stays v = record { epoch = omega arith; lce = omega arith; swaps = omega arith; specs = λ e h. refl; swapped = λ e h s. refl; summaries = λ e h. refl }
 
 log_on : (u v w : Epochs) → LogGrows u v → LogGrows v w → LogGrows u w
 log_on u v w g h = record {
   epoch = let a = g.epoch in let b = h.epoch in omega arith;
   lce = let a = g.lce in let b = h.lce in omega arith;
+  swaps = let a = g.swaps in let b = h.swaps in omega arith;
   specs = λ e k. h.specs e (let a = g.epoch in omega arith) ∙ g.specs e k;
+  swapped = λ e k s. h.swapped e (let a = g.epoch in omega arith) (elim s [ inl n ↦ inl (let a = g.swaps in let b = h.swaps in omega arith) | inr l ↦ inr l ])
+      ∙ g.swapped e k (elim s [ inl n ↦ inl (let a = g.swaps in let b = h.swaps in omega arith) | inr l ↦ inr (let b = h.lce in omega arith) ]);
   summaries = λ e k. h.summaries e (let a = g.lce in omega arith) ∙ g.summaries e k;
 }
 
@@ -128,7 +134,7 @@ stays r = same_grows r r (refl, refl)
 -- ---- an activation ----
 
 next_grows : (v : Epochs) (s : Spec) → LogGrows v (next_epoch v s)
-next_grows v s = record { epoch = omega arith; lce = omega arith; specs = λ e h. find-put_other e (v.epoch + 1) s v.specs (λ i. omega arith); summaries = λ e h. refl }
+next_grows v s = record { epoch = omega arith; lce = omega arith; swaps = omega arith; specs = λ e h. find-put_other e (v.epoch + 1) s v.specs (λ i. omega arith); swapped = λ e h n. find-put_other e (v.epoch + 1) s v.swapped (λ i. omega arith); summaries = λ e h. refl }
 
 activate_grows : (r : Register) (s : Spec) → Grows r (activate r s.log s).register
 unfolding activate
@@ -153,7 +159,7 @@ activate_granted r s = by_test (nat_le epoch_limit (epochs_of r s.log).epoch) _ 
 
 -- an epoch that is handed out is the one behind the log's, and the log's afterwards, with what is fixed for it
 abbrev IsHandedOut : Register → Spec → Grant → Register → Type 0
-IsHandedOut r s g d = ((epochs_of d s.log).epoch ≡ g.epoch) × ((epochs_of r s.log).epoch + 1 ≡ g.epoch) × (find g.epoch (epochs_of d s.log).specs ≡ Some s)
+IsHandedOut r s g d = ((epochs_of d s.log).epoch ≡ g.epoch) × ((epochs_of r s.log).epoch + 1 ≡ g.epoch) × (find g.epoch (epochs_of d s.log).swapped ≡ Some s)
 
 activated_by : (r : Register) (s : Spec) (g : Grant) (b : Bool) → is_crowded r s.log ≡ b → Ok g ≡ (cond b (Err faults.LogLimit) (ended (activate r s.log s).answer (is_full r 13) faults.EpochLimit (granted r s))) → IsHandedOut r s g (after_activate r s)
 activated_by r s g true c h = absurd cc
@@ -166,7 +172,7 @@ activated_by r s g false c h =
     ∙ (ap (λ m. unwrap_or (find s.log m) no_epochs) z.0 ∙ ap (λ o. unwrap_or o no_epochs) (find-put_same s.log s.log (next_epoch (epochs_of r s.log) s) r.logs refl)) in
     let one : (epochs_of (after_activate r s) s.log).epoch ≡ (epochs_of r s.log).epoch + 1 = ap (λ (x : Epochs). x.epoch) there in
     let next : (epochs_of r s.log).epoch + 1 ≡ g.epoch = sym one ∙ is in
-    (is, next, ap (λ (x : Epochs). find g.epoch x.specs) there ∙ find-put_same g.epoch ((epochs_of r s.log).epoch + 1) s (epochs_of r s.log).specs (sym next))
+    (is, next, ap (λ (x : Epochs). find g.epoch x.swapped) there ∙ find-put_same g.epoch ((epochs_of r s.log).epoch + 1) s (epochs_of r s.log).swapped (sym next))
 
 activated_ok : (r : Register) (s : Spec) (g : Grant) → Ok g ≡ activated r s → IsHandedOut r s g (after_activate r s)
 activated_ok r s g h = activated_by r s g (is_crowded r s.log) refl h
@@ -181,7 +187,9 @@ close_log : (v : Epochs) (e : ℕ) (y : Summary) → v.lce + 1 ≡ e → LogGrow
 close_log v e y h = record {
   epoch = omega arith;
   lce = omega arith;
+  swaps = omega arith;
   specs = λ k b. refl;
+  swapped = λ k b s. refl;
   summaries = λ k b. elim (put_cases k e y v.summaries) [ inl a ↦ absurd (let z = a.0 in omega arith) | inr a ↦ a.1 ];
 }
 
@@ -245,6 +253,24 @@ drawn_ok r n g h =
     let one : generation_of (after_draw r n) n ≡ generation_of r n + 1 = ap (λ m. unwrap_or (find n m) 0) (draw_granted r n p.0) ∙ ap (λ o. unwrap_or o 0) (find-put_same n n (generation_of r n + 1) r.generations refl) in
     (is, sym one ∙ is)
 
+-- ---- a swap ----
+
+swap_log : (v : Epochs) (t o w : ℕ) → LogGrows v (swapped_epochs v t o w)
+swap_log v t o w = record {
+  epoch = omega arith;
+  lce = omega arith;
+  swaps = omega arith;
+  specs = λ e h. refl;
+  swapped = λ e h s. elim s [ inl n ↦ absurd (omega arith) | inr l ↦ specs_above e (closed_upto v t) o w v.swapped (omega arith) ];
+  summaries = λ e h. refl;
+}
+
+pub after_swap_grows : (r : Register) (l t o w : ℕ) → Grows r (after_swap r l t o w)
+unfolding swap
+after_swap_grows r l t o w = by_test (swappable r l t o w == 0) _ _ (λ (d : Changed). Grows r d.register) (λ n. stays r) (λ n.
+    by_test (nat_le swap_limit (epochs_of r l).swaps) _ _ (λ (d : Changed). Grows r d.register) (λ h. stays r) (λ h.
+    change_grows r (with_epochs r l (swapped_epochs (epochs_of r l) t o w)) 11 (λ m s. log_grows r m l (swapped_epochs (epochs_of r l) t o w) (swap_log (epochs_of r l) t o w) s)))
+
 -- ---- calls ----
 
 ends_grows : {T : Type 0} (result answer : Result T RegisterFault) (c a d : Register) → Grows c a → Ends result answer c a d → Grows c d
@@ -256,6 +282,7 @@ call_grows : (c : Register) (x : Call) (d : Register) → Passes c x d → Grows
 call_grows c (Activates s o) d h = ends_grows o (activated c s) c (after_activate c s) d (after_activate_grows c s) h
 call_grows c (Closes l e y short o) d h = ends_grows o (closed c l e y short) c (after_close c l e y short) d (after_close_grows c l e y short) h
 call_grows c (Draws n o) d h = ends_grows o (drawn c n) c (after_draw c n) d (after_draw_grows c n) h
+call_grows c (Swaps l t o w r) d h = ends_grows r (swapped c l t o w) c (after_swap c l t o w) d (after_swap_grows c l t o w) h
 call_grows c (Looks l e o) d h = ends_grows o (Ok (looked c l e)) c c d (stays c) h
 
 pub runs_grow : (c : Register) (xs : List Call) (d : Register) → Runs c xs d → Grows c d
@@ -337,37 +364,50 @@ close_is_shown c d before between after l e y short n v r =
     ap (λ (x : View). x.summary) (looks_ok i f l e v q).0 ∙ closed_shown i l e y (closed_on b i between l e y middle (closes_ok a b l e y short n p))
 
 -- what is told of an epoch that is handed out is what is fixed for it
-fixed_told : (c : Register) (l e : ℕ) → 1 ≤ e → e ≤ (epochs_of c l).epoch → spec_told c l e ≡ find e (epochs_of c l).specs
-fixed_told c l e one most = ap (λ k. find k (epochs_of c l).specs) (shown_there (epochs_of c l) e one most)
+fixed_told : (c : Register) (l e : ℕ) → 1 ≤ e → e ≤ (epochs_of c l).epoch → spec_told c l e ≡ find e (epochs_of c l).swapped
+fixed_told c l e one most = ap (λ k. find k (epochs_of c l).swapped) (shown_there (epochs_of c l) e one most)
 
-pub specs_stay : (c d : Register) (calls : List Call) (l e : ℕ) → Runs c calls d → 1 ≤ e → e ≤ (epochs_of c l).epoch → spec_told d l e ≡ spec_told c l e
-specs_stay c d calls l e r one most = let g = (runs_grow c calls d r).logs l in
-    fixed_told d l e one (let a = g.epoch in omega arith) ∙ (g.specs e most ∙ sym (fixed_told c l e one most))
+pub specs_fixed : (c d : Register) (calls : List Call) (l e : ℕ) → Runs c calls d → e ≤ (epochs_of c l).epoch → find e (epochs_of d l).specs ≡ find e (epochs_of c l).specs
+specs_fixed c d calls l e r most = ((runs_grow c calls d r).logs l).specs e most
 
--- what an activation that answered fixed is shown by each later look
-pub fixed_is_shown : (c d : Register) (before between after : List Call) (s : Spec) (g : Grant) (v : View) → Runs c (before ++ Activates s (Ok g) ∷ (between ++ Looks s.log g.epoch (Ok v) ∷ after)) d → v.spec ≡ Some s
-fixed_is_shown c d before between after s g v r =
+pub specs_told : (c d : Register) (calls : List Call) (l e : ℕ) → Runs c calls d → 1 ≤ e → e ≤ (epochs_of c l).epoch → ((epochs_of d l).swaps ≡ (epochs_of c l).swaps) ⊎ (lce_of d l < e) → spec_told d l e ≡ spec_told c l e
+specs_told c d calls l e r one most same = let g = (runs_grow c calls d r).logs l in
+    fixed_told d l e one (let a = g.epoch in omega arith) ∙ (g.swapped e most same ∙ sym (fixed_told c l e one most))
+
+-- what an activation that answered fixed is shown by each later look, as long as the epoch is open or there was no swap
+pub fixed_is_shown : (c d : Register) (before between after : List Call) (s : Spec) (g : Grant) (v : View) → Runs c (before ++ Activates s (Ok g) ∷ (between ++ Looks s.log g.epoch (Ok v) ∷ after)) d → (v.swaps ≡ 0) ⊎ (v.lce < g.epoch) → v.spec ≡ Some s
+fixed_is_shown c d before between after s g v r still =
     let (a, first, (b, p, rest)) = runs_split c before (Activates s (Ok g) ∷ (between ++ Looks s.log g.epoch (Ok v) ∷ after)) d r in
     let (i, middle, (f, q, last)) = runs_split b between (Looks s.log g.epoch (Ok v) ∷ after) d rest in
     let h = activates_ok a b s g p in
+    let x = looks_ok i f s.log g.epoch v q in
+    let grows = (runs_grow b between i middle).logs s.log in
     let one : 1 ≤ g.epoch = (let x = h.1 in omega arith) in
     let most : g.epoch ≤ (epochs_of b s.log).epoch = (let x = h.0 in omega arith) in
-    ap (λ (x : View). x.spec) (looks_ok i f s.log g.epoch v q).0 ∙ (specs_stay b i between s.log g.epoch middle one most ∙ (fixed_told b s.log g.epoch one most ∙ h.2))
+    let same : ((epochs_of i s.log).swaps ≡ (epochs_of b s.log).swaps) ⊎ (lce_of i s.log < g.epoch) = elim still [
+      | inl none ↦ inl (let z = ap (λ (y : View). y.swaps) x.0 in let k = grows.swaps in omega arith)
+      | inr still_open ↦ inr (let z = ap (λ (y : View). y.lce) x.0 in omega arith)
+    ] in
+    ap (λ (y : View). y.spec) x.0 ∙ (specs_told b i between s.log g.epoch middle one most same ∙ (fixed_told b s.log g.epoch one most ∙ h.2))
 
 -- two looks
 pub looks_agree : (c d : Register) (before between after : List Call) (l e k : ℕ) (v w : View) → Runs c (before ++ Looks l e (Ok v) ∷ (between ++ Looks l k (Ok w) ∷ after)) d
-    → (v.epoch ≤ w.epoch) × (v.lce ≤ w.lce) × ((y : Summary) → e ≡ k → v.summary ≡ Some y → w.summary ≡ Some y) × (e ≡ k → 1 ≤ e → e ≤ v.epoch → w.spec ≡ v.spec)
+    → (v.epoch ≤ w.epoch) × (v.lce ≤ w.lce) × (v.swaps ≤ w.swaps) × ((y : Summary) → e ≡ k → v.summary ≡ Some y → w.summary ≡ Some y) × (e ≡ k → 1 ≤ e → e ≤ v.epoch → (w.swaps ≡ v.swaps) ⊎ (w.lce < e) → w.spec ≡ v.spec)
 looks_agree c d before between after l e k v w r =
     let (a, first, (b, p, rest)) = runs_split c before (Looks l e (Ok v) ∷ (between ++ Looks l k (Ok w) ∷ after)) d r in
     let (i, middle, (f, q, last)) = runs_split b between (Looks l k (Ok w) ∷ after) d rest in
     let x = looks_ok a b l e v p in
     let z = looks_ok i f l k w q in
+    let swaps_are : (v.swaps ≡ (epochs_of b l).swaps) × (w.swaps ≡ (epochs_of i l).swaps) = (ap (λ (x : View). x.swaps) x.0 ∙ sym (ap (λ n. (epochs_of n l).swaps) x.1), ap (λ (x : View). x.swaps) z.0) in
+    let lce_is : w.lce ≡ lce_of i l = ap (λ (x : View). x.lce) z.0 in
     let g = (runs_grow b between i middle).logs l in (
       (let s = ap (λ (x : View). x.epoch) x.0 in let t = ap (λ (x : View). x.epoch) z.0 in let u = ap (λ n. (epochs_of n l).epoch) x.1 in let n = g.epoch in omega arith),
       (let s = ap (λ (x : View). x.lce) x.0 in let t = ap (λ (x : View). x.lce) z.0 in let u = ap (λ n. lce_of n l) x.1 in let n = g.lce in omega arith),
+      (let s = swaps_are.0 in let t = swaps_are.1 in let n = g.swaps in omega arith),
       (λ y m h. ap (λ (x : View). x.summary) z.0 ∙ summary_stays b i between l k y middle (subst (λ j. summary_shown b l j ≡ Some y) m (ap (λ n. summary_shown n l e) x.1 ∙ (sym (ap (λ (x : View). x.summary) x.0) ∙ h)))),
-      (λ m one most. ap (λ (x : View). x.spec) z.0
-          ∙ (specs_stay b i between l k middle (let n = m in omega arith) (let n = m in let s = ap (λ (x : View). x.epoch) x.0 in let u = ap (λ n. (epochs_of n l).epoch) x.1 in omega arith)
+      (λ m one most still. ap (λ (x : View). x.spec) z.0
+          ∙ (specs_told b i between l k middle (let n = m in omega arith) (let n = m in let s = ap (λ (x : View). x.epoch) x.0 in let u = ap (λ n. (epochs_of n l).epoch) x.1 in omega arith)
+          (elim still [ inl same ↦ inl (let s = swaps_are.0 in let t = swaps_are.1 in omega arith) | inr still_open ↦ inr (let n = m in omega arith) ])
           ∙ (ap (λ n. spec_told n l k) x.1 ∙ (ap (λ j. spec_told a l j) (sym m) ∙ sym (ap (λ (x : View). x.spec) x.0))))),
     )
 

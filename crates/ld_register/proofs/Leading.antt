@@ -77,6 +77,20 @@ same_change (changes.Draw n g) (changes.Activate f t) i j h = absurd (omega (ari
 same_change (changes.Draw n g) (changes.Unfixed m f) i j h = absurd (omega (arith, ap (λ b. get_or b 0 0) h))
 same_change (changes.Draw n g) (changes.Close m f z) i j h = absurd (omega (arith, ap (λ b. get_or b 0 0) h))
 same_change (changes.Draw n g) (changes.Lossless m f z) i j h = absurd (omega (arith, ap (λ b. get_or b 0 0) h))
+same_change (changes.Swap l t o n) (changes.Swap m u p q) i j h =
+    let a : l ≡ m = (let x = i.0.1 in let y = j.0.1 in same_word l m (omega arith) (omega arith) (ap (λ b. take 4 (drop 1 b)) h)) in
+    let b : t ≡ u = same_word t u i.1 j.1 (ap (λ b. take 4 (drop 5 b)) h) in
+    ap (λ x. changes.Swap x t o n) a ∙ (ap (λ x. changes.Swap m x o n) b ∙ (ap (λ x. changes.Swap m u x n) (ap (λ b. get_or b 9 0) h) ∙ ap (λ x. changes.Swap m u p x) (ap (λ b. get_or b 10 0) h)))
+same_change (changes.Swap l t o n) (changes.Activate f s) i j h = absurd (omega (arith, ap (λ b. get_or b 0 0) h))
+same_change (changes.Swap l t o n) (changes.Unfixed m f) i j h = absurd (omega (arith, ap (λ b. get_or b 0 0) h))
+same_change (changes.Swap l t o n) (changes.Close m f z) i j h = absurd (omega (arith, ap (λ b. get_or b 0 0) h))
+same_change (changes.Swap l t o n) (changes.Lossless m f z) i j h = absurd (omega (arith, ap (λ b. get_or b 0 0) h))
+same_change (changes.Swap l t o n) (changes.Draw m k) i j h = absurd (omega (arith, ap (λ b. get_or b 0 0) h))
+same_change (changes.Activate e s) (changes.Swap m u p q) i j h = absurd (omega (arith, ap (λ b. get_or b 0 0) h))
+same_change (changes.Unfixed l e) (changes.Swap m u p q) i j h = absurd (omega (arith, ap (λ b. get_or b 0 0) h))
+same_change (changes.Close l e y) (changes.Swap m u p q) i j h = absurd (omega (arith, ap (λ b. get_or b 0 0) h))
+same_change (changes.Lossless l e y) (changes.Swap m u p q) i j h = absurd (omega (arith, ap (λ b. get_or b 0 0) h))
+same_change (changes.Draw n g) (changes.Swap m u p q) i j h = absurd (omega (arith, ap (λ b. get_or b 0 0) h))
 
 pub one_body : (body : List ℕ) (x y : Change) → IsBody body x → IsBody body y → x ≡ y
 one_body body x y b d = same_change x y b.is d.is (sym b.bytes ∙ d.bytes)
@@ -88,6 +102,7 @@ length_is (changes.Unfixed l e) = refl
 length_is (changes.Close l e y) = refl
 length_is (changes.Lossless l e y) = refl
 length_is (changes.Draw n g) = refl
+length_is (changes.Swap l t o n) = refl
 
 pub longer_by : (r : Register) (x : Change) → (changed r x).length ≡ r.length + record_length (body_length x)
 longer_by r (changes.Activate e s) = refl
@@ -95,6 +110,7 @@ longer_by r (changes.Unfixed l e) = refl
 longer_by r (changes.Close l e y) = refl
 longer_by r (changes.Lossless l e y) = refl
 longer_by r (changes.Draw n g) = refl
+longer_by r (changes.Swap l t o n) = refl
 
 pub as_armed : (r : Register) (x : Change) → (changed r x).armed ≡ r.armed
 as_armed r (changes.Activate e s) = refl
@@ -102,6 +118,7 @@ as_armed r (changes.Unfixed l e) = refl
 as_armed r (changes.Close l e y) = refl
 as_armed r (changes.Lossless l e y) = refl
 as_armed r (changes.Draw n g) = refl
+as_armed r (changes.Swap l t o n) = refl
 
 pub short : (x : Change) → body_length x < 2 ^ 32
 short (changes.Activate e s) = omega arith
@@ -109,6 +126,7 @@ short (changes.Unfixed l e) = omega arith
 short (changes.Close l e y) = omega arith
 short (changes.Lossless l e y) = omega arith
 short (changes.Draw n g) = omega arith
+short (changes.Swap l t o n) = omega arith
 
 pub next_any : (k : Kept) (n m : ℕ) (x : Change) → is_next (register_of k n) x ≡ is_next (register_of k m) x
 next_any k n m (changes.Activate e s) = refl
@@ -116,6 +134,7 @@ next_any k n m (changes.Unfixed l e) = refl
 next_any k n m (changes.Close l e y) = refl
 next_any k n m (changes.Lossless l e y) = refl
 next_any k n m (changes.Draw a g) = refl
+next_any k n m (changes.Swap l t a b) = refl
 
 -- ---- rows ----
 

@@ -1,4 +1,5 @@
 pub mod Bytes
+pub mod Swapping
 pub mod Logs
 pub mod Tables
 pub mod Leading

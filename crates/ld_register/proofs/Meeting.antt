@@ -88,6 +88,7 @@ free_as S T (faults.Behind lce next) h = h
 free_as S T (faults.Overtaken epoch) h = h
 free_as S T faults.EpochLimit h = h
 free_as S T faults.GenLimit h = h
+free_as S T faults.SwapLimit h = h
 free_as S T faults.Full h = h
 free_as S T faults.NoMemory h = h
 
@@ -240,6 +241,7 @@ module _ {D : Type 0} {g : Ghosts D} where
   unready_exact old new (faults.Overtaken epoch) r is l n free keeps c f = absurd free
   unready_exact old new faults.EpochLimit r is l n free keeps c f = absurd free
   unready_exact old new faults.GenLimit r is l n free keeps c f = absurd free
+  unready_exact old new faults.SwapLimit r is l n free keeps c f = absurd free
   unready_exact old new faults.Full r is l n free keeps c f = absurd free
   unready_exact {T = T} old new faults.NoMemory r is l n free keeps c f =
       let q = l.quiet f.told f.plain_is f.quiet in

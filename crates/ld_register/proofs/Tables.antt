@@ -18,7 +18,8 @@ use Rattle.ld_table.proofs.Laws.{same_key, tied, find-keep_keys, find-put, find-
 use Rattle.ld_table.proofs.Order.{Ordered-put, Ordered-keep, keep_is, same_table, found}
 use Rattle.ld_op.proofs.There.{Ordered-map_values}
 use Rattle.ld_ids.specs.declared.set.Spec.{Spec}
-use Rattle.ld_msg.specs.Register.{Epochs, no_epochs, epochs_of, generation_of, summary_shown, epoch_shown, epochs_in}
+use Rattle.ld_msg.specs.declared.msg.Summary.{Summary}
+use Rattle.ld_msg.specs.Register.{Epochs, no_epochs, epochs_of, generation_of, summary_shown, epoch_shown, epochs_in, swappable, swap_count, closed_upto}
 use Rattle.ld_register.specs.Calls.{spec_told}
 use Rattle.ld_register.specs.Kept.{is_up_to, shown_log, Kept, is_held, shown_logs, shown_generations, register_of, log_at, IsLogOf, AreLogs}
 use Rattle.ld_register.proofs.Logs.{not_found}
@@ -70,17 +71,21 @@ unfolding keep_keys
 none_up [] = refl
 none_up (e ∷ m) = rw (never_up e.0) (none_up m)
 
-not_held : (v : Epochs) → is_held v ≡ false → (v.epoch ≡ 0) × (v.lce ≡ 0)
-not_held v h = (grind (arith, nat_tests), grind (arith, nat_tests))
+not_held : (v : Epochs) → is_held v ≡ false → (v.epoch ≡ 0) × (v.lce ≡ 0) × (v.swaps ≡ 0)
+not_held v h = (grind (arith, nat_tests), grind (arith, nat_tests), grind (arith, nat_tests))
+
+none_shown : (p w : List (ℕ × Spec)) (y : List (ℕ × Summary)) → record { epoch = 0; lce = 0; specs = keep_keys (is_up_to 0) p; swapped = keep_keys (is_up_to 0) w; swaps = 0; summaries = keep_keys (is_up_to 0) y } ≡ no_epochs
+none_shown p w y = ap (λ s. record { epoch = 0; lce = 0; specs = s; swapped = keep_keys (is_up_to 0) w; swaps = 0; summaries = keep_keys (is_up_to 0) y }) (none_up p)
+    ∙ (ap (λ s. record { epoch = 0; lce = 0; specs = []; swapped = s; swaps = 0; summaries = keep_keys (is_up_to 0) y }) (none_up w) ∙ ap (λ s. record { epoch = 0; lce = 0; specs = []; swapped = []; swaps = 0; summaries = s }) (none_up y))
 
 hidden_by : (v : Epochs) (b : Bool) → is_held v ≡ b → unwrap_or (cond b (Some (shown_log v)) None) no_epochs ≡ shown_log v
 hidden_by v true h = refl
-hidden_by v false h = let z = not_held v h in sym (ap (λ n. record { epoch = n; lce = v.lce; specs = keep_keys (is_up_to n) v.specs; summaries = keep_keys (is_up_to v.lce) v.summaries }) z.0
-    ∙ (ap (λ n. record { epoch = 0; lce = n; specs = keep_keys (is_up_to 0) v.specs; summaries = keep_keys (is_up_to n) v.summaries }) z.1
-    ∙ (ap (λ s. record { epoch = 0; lce = 0; specs = s; summaries = keep_keys (is_up_to 0) v.summaries }) (none_up v.specs) ∙ ap (λ s. record { epoch = 0; lce = 0; specs = []; summaries = s }) (none_up v.summaries))))
+hidden_by v false h = let z = not_held v h in sym (ap (λ n. record { epoch = n; lce = v.lce; specs = keep_keys (is_up_to n) v.specs; swapped = keep_keys (is_up_to n) v.swapped; swaps = v.swaps; summaries = keep_keys (is_up_to v.lce) v.summaries }) z.0
+    ∙ (ap (λ n. record { epoch = 0; lce = n; specs = keep_keys (is_up_to 0) v.specs; swapped = keep_keys (is_up_to 0) v.swapped; swaps = v.swaps; summaries = keep_keys (is_up_to n) v.summaries }) z.1
+    ∙ (ap (λ n. record { epoch = 0; lce = 0; specs = keep_keys (is_up_to 0) v.specs; swapped = keep_keys (is_up_to 0) v.swapped; swaps = n; summaries = keep_keys (is_up_to 0) v.summaries }) z.2 ∙ none_shown v.specs v.swapped v.summaries)))
 
 shown_or : (o : Option Epochs) → unwrap_or (value_passes is_held (option_map shown_log o)) no_epochs ≡ shown_log (unwrap_or o no_epochs)
-shown_or None = sym (ap (λ s. record { epoch = 0; lce = 0; specs = s; summaries = keep_keys (is_up_to 0) [] }) (none_up []) ∙ ap (λ s. record { epoch = 0; lce = 0; specs = []; summaries = s }) (none_up []))
+shown_or None = sym (none_shown [] [] [])
 shown_or (Some v) = hidden_by v (is_held v) refl
 
 -- what is shown of a log
@@ -102,8 +107,8 @@ shown_same k v m h t = ap (λ n. filter (λ e. is_held e.1) n) (map_values-put s
 one_key : (k x y : ℕ) → is_at (nat_cmp k) x ≡ true → is_at (nat_cmp k) y ≡ eq_by_cmp nat_cmp x y
 one_key k x y h = ap (λ z. is_eq (nat_cmp z y)) (same_key k x h)
 
-swapped : (q k : ℕ) → is_at (nat_cmp k) q ≡ eqb q k
-swapped q k = (eq_by_cmp_equiv nat_cmp_total).symm k q ∙ tied q k
+turned : (q k : ℕ) → is_at (nat_cmp k) q ≡ eqb q k
+turned q k = (eq_by_cmp_equiv nat_cmp_total).symm k q ∙ tied q k
 
 module _ {X : Type 0} where
   is_there : (o : Option X) (h : X) → o ≡ Some h → IsSome o
@@ -114,7 +119,7 @@ module _ {X : Type 0} where
   pub set_value_put : (k : ℕ) (v h : X) (m : List (ℕ × X)) → Ordered m → find k m ≡ Some h → map.set_value (is_at (nat_cmp k)) m v ≡ put k v m
   unfolding find
   set_value_put k v h m o f = same_table _ _ (subst (IsStrictlySortedBy nat_cmp) (sym (keys-set_value (is_at (nat_cmp k)) m v)) o) (Ordered-put k v m o)
-      (λ q. lookup-set_value (eq_by_cmp_equiv nat_cmp_total) (is_at (nat_cmp k)) (one_key k) q v m (is_there (find k m) h f) ∙ (ap (λ b. cond b (Some v) (find q m)) (swapped q k) ∙ sym (find-put q k v m)))
+      (λ q. lookup-set_value (eq_by_cmp_equiv nat_cmp_total) (is_at (nat_cmp k)) (one_key k) q v m (is_there (find k m) h f) ∙ (ap (λ b. cond b (Some v) (find q m)) (turned q k) ∙ sym (find-put q k v m)))
 
 are_logs_put : (k : ℕ) (v : Epochs) (m n : List (ℕ × Epochs)) → IsLog k → IsLogOf k v → n ≡ put k v m → AreLogs m → AreLogs n
 are_logs_put k v m n i b e h l w f = elim (put_cases l k v m) [
@@ -182,6 +187,14 @@ never_there j l m e f h = missing (find l m) (ap (λ i. find i m) (sym e) ∙ f)
 pub log_there : (j l : ℕ) (v : Epochs) (m : List (ℕ × Epochs)) → j ≡ l → find j m ≡ Some v → AreLogs m → IsLogOf l v
 log_there j l v m e f h = (h l v (ap (λ i. find i m) (sym e) ∙ f)).1
 
+-- a log in which a swap changes an epoch is there
+pub shown_found : (l upto old new : ℕ) (m : List (ℕ × Epochs)) → 0 < swap_count (closed_upto (log_at m l) upto) old new (log_at m l).swapped → find l m ≡ Some (log_at m l)
+shown_found l upto old new m h = by_found (find l m) refl
+  where
+    by_found : (o : Option Epochs) → find l m ≡ o → find l m ≡ Some (log_at m l)
+    by_found (Some v) f = f ∙ ap (λ o. Some (unwrap_or o no_epochs)) (sym f)
+    by_found None f = absurd (let z = ap (λ o. swap_count (closed_upto (unwrap_or o no_epochs) upto) old new (unwrap_or o no_epochs).swapped) f in omega arith)
+
 -- ---- look-ups in what is shown ----
 
 pub found_at : (j l : ℕ) (m : List (ℕ × Epochs)) (k : Kept) (g : List (ℕ × ℕ)) (o : Option Epochs) → record { logs = m; generations = g } ≡ k → j ≡ l → Ordered m → find j m ≡ o → (n : ℕ) → epochs_of (register_of k n) l ≡ shown_log (unwrap_or o no_epochs)
@@ -211,11 +224,17 @@ summary_at k n l e v h = subst (λ w. find e (shown_log v).summaries ≡ (if nat
 pub no_summary : (k : Kept) (n l e : ℕ) → epochs_of (register_of k n) l ≡ shown_log no_epochs → None ≡ summary_shown (register_of k n) l e
 no_summary k n l e h = sym (find-keep_keys e (is_up_to 0) [] ∙ ap (λ b. cond b (find e []) None) (never_up e)) ∙ summary_at k n l e no_epochs h
 
-pub spec_at : (k : Kept) (n l e : ℕ) (v : Epochs) → epochs_of (register_of k n) l ≡ shown_log v → find (epoch_shown (shown_log v) e) (shown_log v).specs ≡ spec_told (register_of k n) l e
-spec_at k n l e v h = ap (λ w. find (epoch_shown w e) w.specs) (sym h)
+pub spec_at : (k : Kept) (n l e : ℕ) (v : Epochs) → epochs_of (register_of k n) l ≡ shown_log v → find (epoch_shown (shown_log v) e) (shown_log v).swapped ≡ spec_told (register_of k n) l e
+spec_at k n l e v h = ap (λ w. find (epoch_shown w e) w.swapped) (sym h)
 
 pub no_spec : (k : Kept) (n l e : ℕ) → epochs_of (register_of k n) l ≡ shown_log no_epochs → None ≡ spec_told (register_of k n) l e
 no_spec k n l e h = sym (ap (find (epoch_shown (shown_log no_epochs) e)) (none_up []) ∙ find-empty {X = Spec} (epoch_shown (shown_log no_epochs) e)) ∙ spec_at k n l e no_epochs h
+
+pub swappable_at : (k : Kept) (n l upto old new : ℕ) (v : Epochs) → epochs_of (register_of k n) l ≡ shown_log v → swap_count (closed_upto (shown_log v) upto) old new (shown_log v).swapped ≡ swappable (register_of k n) l upto old new
+swappable_at k n l upto old new v h = ap (λ w. swap_count (closed_upto w upto) old new w.swapped) (sym h)
+
+pub none_swappable : (k : Kept) (n l upto old new : ℕ) → epochs_of (register_of k n) l ≡ shown_log no_epochs → 0 ≡ swappable (register_of k n) l upto old new
+none_swappable k n l upto old new h = sym (ap (swap_count (closed_upto (shown_log no_epochs) upto) old new) (none_up [])) ∙ swappable_at k n l upto old new no_epochs h
 
 -- ---- how many others are held ----
 

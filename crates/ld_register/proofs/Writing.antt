@@ -1,7 +1,9 @@
 -- Which writing calls a load, a change and a whole call make.
 use Rattle.std.proofs.Common.{◌≡◌, ◌⊎◌, ◌↔◌, ◌+◌, ◌-◌, ◌==◌, ◌&&◌, inl, inr, ℕ, Bool, true, false, not, List, [], ◌∷◌, Option, Some, None, IsSome, Result, Ok, Err, OnErr, if◌then◌else◌, refl, ap, sym, ◌∙◌, subst, arith}
 use Rattle.std.specs.Result.{IsErrOf}
-use Rattle.std.proofs.lemmas.Bool.{eqb-true}
+use Rattle.std.proofs.lemmas.Bool.{eqb-true, eq-eqb}
+use Rattle.std.proofs.lemmas.Bool.Decides.{nat_tests}
+use Rattle.std.specs.Prelude.{nat_lt}
 use Rattle.ld_disk.specs.Plain.{Plain, Call, fate, is_made, armed_after, crashed_after, succeeds, after_call, after_calls, all_succeed, read_fine, reads_fine}
 use Rattle.ld_disk.specs.declared.disk.Disk.{Ghosts}
 use Rattle.ld_disk.specs.declared.disk.Fault.{Fault}
@@ -13,7 +15,7 @@ use Rattle.ld_journal.specs.Open.{place_of}
 use Rattle.ld_journal.specs.declared.fault.JournalFault.{JournalFault}
 use Rattle.ld_journal.specs.declared.fault.JournalFault.TheVariants as journals
 use Rattle.ld_ids.specs.declared.set.Spec.{Spec}
-use Rattle.ld_msg.specs.Register.{Register, epochs_of, is_crowded, generation_of}
+use Rattle.ld_msg.specs.Register.{Register, epochs_of, is_crowded, generation_of, swappable, swap_limit}
 use Rattle.ld_register.specs.declared.fault.RegisterFault.{RegisterFault}
 use Rattle.ld_register.specs.declared.fault.RegisterFault.TheVariants as faults
 use Rattle.ld_register.specs.declared.change.Change.{Change}
@@ -22,7 +24,7 @@ use Rattle.ld_register.specs.declared.disk.DiskRegister.{DiskRegister}
 use Rattle.ld_register.specs.Changes.{change_bytes, is_next}
 use Rattle.ld_register.specs.Faults.{passed_on}
 use Rattle.ld_register.specs.Held.{owned, is_loaded, Holds, IsRefused, IsDue}
-use Rattle.ld_register.specs.Writing.{with_load, Writes, activation, drawing, change_calls, WritesOne}
+use Rattle.ld_register.specs.Writing.{with_load, Writes, activation, drawing, change_calls, swap_calls, WritesBy}
 use Rattle.ld_register.proofs.Committing.{on_err, refusal, refused_as}
 use Rattle.ld_register.proofs.Leading.{next_in}
 use Rattle.ld_register.proofs.Meeting.{failure, hold_on, tells_unloaded, replays_length}
@@ -226,32 +228,38 @@ writes_on {T = T} loaded calls p v r mid left w rest =
 
 module _ {D : Type 0} {g : Ghosts D} where
   -- the load failed, or what is asked for is refused
-  pub writes_refused : {T : Type 0} (old new : DiskRegister D g) (change : Register → Change) (p : Plain) (r : Result T RegisterFault) (e : RegisterFault) → r ≡ failure T e → Writes (is_loaded old) [] p (failure T e) (g.plain (owned new)) → WritesOne old new change p r
-  writes_refused {T = T} old new change p r e is w = subst (λ r. WritesOne old new change p r) (sym is) (record {
-    held = λ c h. writes_stopped (is_loaded old) (change_calls c (change c)) p e _ w;
+  pub writes_refused : {T : Type 0} (old new : DiskRegister D g) (calls : Register → List Call) (p : Plain) (r : Result T RegisterFault) (e : RegisterFault) → r ≡ failure T e → Writes (is_loaded old) [] p (failure T e) (g.plain (owned new)) → WritesBy old new calls p r
+  writes_refused {T = T} old new calls p r e is w = subst (λ r. WritesBy old new calls p r) (sym is) (record {
+    held = λ c h. writes_stopped (is_loaded old) (calls c) p e _ w;
     unheld = λ l n. subst (λ b. Writes b [] p (failure T e) (g.plain (owned new))) l w;
   })
+
+  -- what is asked for changes nothing
+  pub writes_idle : {T : Type 0} (old new : DiskRegister D g) (calls : Register → List Call) (p : Plain) (r : Result T RegisterFault) → ((c : Register) → Holds old c → calls c ≡ []) → Writes (is_loaded old) [] p r (g.plain (owned new)) → WritesBy old new calls p r
+  writes_idle old new calls p r none w = record {
+    held = λ c h. subst (λ cs. Writes (is_loaded old) cs p r (g.plain (owned new))) (sym (none c h)) w;
+    unheld = λ l n. subst (λ b. Writes b [] p r (g.plain (owned new))) l w;
+  }
 
   -- a change that failed or was refused
   pub undone_or : {T : Type 0} {old new : DiskRegister D g} {x : Change} {r : Result T RegisterFault} → IsRefused old new x r → IsErrOf r faults.Failed ⊎ (is_loaded new ≡ true)
   undone_or n = elim n.cause [ inl f ↦ inl f.0 | inr s ↦ inr s.1 ]
 
   -- the calls of a change that is due are those of the change of what is held
-  due_calls : {T : Type 0} (old mid : DiskRegister D g) (x : Change) (given : T) (answer : Register → Result T RegisterFault) (after : Register → Register) (change : Register → Change) → IsDue old mid x given answer after → ((c : Register) → is_next c x ≡ true → x ≡ change c)
-      → (c : Register) → Holds old c → append_calls (place_of mid.journal) (change_bytes x) ≡ change_calls c (change c)
-  due_calls old mid x given answer after change d one c h =
+  due_calls : {T : Type 0} (old mid : DiskRegister D g) (x : Change) (given : T) (answer : Register → Result T RegisterFault) (after : Register → Register) (calls : Register → List Call) → IsDue old mid x given answer after → ((c : Register) → is_next c x ≡ true → change_calls c x ≡ calls c)
+      → (c : Register) → Holds old c → append_calls (place_of mid.journal) (change_bytes x) ≡ calls c
+  due_calls old mid x given answer after calls d one c h =
       let m = (hold_on old mid c d.ready h).loaded d.ready.loaded in
       let place : place_of mid.journal ≡ c.length - 1 = (let l = replays_length mid c m in omega arith) in
-      let same = one c (next_in mid.contents c 0 x m.kept ∙ d.next) in
-      ap (λ n. append_calls n (change_bytes x)) place ∙ ap (λ x. append_calls (c.length - 1) (change_bytes x)) same
+      ap (λ n. append_calls n (change_bytes x)) place ∙ one c (next_in mid.contents c 0 x m.kept ∙ d.next)
 
   -- the change that was due is made, or is refused
-  pub writes_due : {T U : Type 0} (seen_is : (disk : D) (p : Plain) → g.plain disk ≡ Some p → g.seen disk ≡ Some p.state.bytes) (old mid new : DiskRegister D g) (x : Change) (given : U) (answer : Register → Result U RegisterFault) (after : Register → Register) (change : Register → Change) (p : Plain) (r : Result T RegisterFault)
-      → IsDue old mid x given answer after → ((c : Register) → is_next c x ≡ true → x ≡ change c) → g.plain (owned old) ≡ Some p
+  pub writes_due : {T U : Type 0} (seen_is : (disk : D) (p : Plain) → g.plain disk ≡ Some p → g.seen disk ≡ Some p.state.bytes) (old mid new : DiskRegister D g) (x : Change) (given : U) (answer : Register → Result U RegisterFault) (after : Register → Register) (calls : Register → List Call) (p : Plain) (r : Result T RegisterFault)
+      → IsDue old mid x given answer after → ((c : Register) → is_next c x ≡ true → change_calls c x ≡ calls c) → g.plain (owned old) ≡ Some p
       → Writes (is_loaded old) [] p (Ok given) (g.plain (owned mid))
-      → ((q : Plain) → g.plain (owned mid) ≡ Some q → Writes true (append_calls (place_of mid.journal) (change_bytes x)) q r (g.plain (owned new))) → WritesOne old new change p r
-  writes_due seen_is old mid new x given answer after change p r d one is w rest = record {
-    held = λ c h. subst (λ calls. Writes (is_loaded old) calls p r (g.plain (owned new))) (due_calls old mid x given answer after change d one c h) (writes_on (is_loaded old) _ p given r _ _ w rest);
+      → ((q : Plain) → g.plain (owned mid) ≡ Some q → Writes true (append_calls (place_of mid.journal) (change_bytes x)) q r (g.plain (owned new))) → WritesBy old new calls p r
+  writes_due seen_is old mid new x given answer after calls p r d one is w rest = record {
+    held = λ c h. subst (λ cs. Writes (is_loaded old) cs p r (g.plain (owned new))) (due_calls old mid x given answer after calls d one c h) (writes_on (is_loaded old) _ p given r _ _ w rest);
     unheld = λ l none. let t = d.ready.whole (tells_unloaded old (subst (λ o. IsSome o) (sym (seen_is (owned old) p is)) refl) l) in absurd (none t.0 t.2);
   }
 
@@ -261,8 +269,21 @@ second_is : (b : Bool) (m n : ℕ) → (b && (m == n)) ≡ true → n ≡ m
 second_is true m n h = sym (eqb-true m n h)
 second_is false m n h = absurd (cc h)
 
-pub one_activation : (e : ℕ) (s : Spec) (c : Register) → is_next c (changes.Activate e s) ≡ true → changes.Activate e s ≡ activation c s
-one_activation e s c n = ap (λ n. changes.Activate n s) (second_is (not (is_crowded c s.log)) ((epochs_of c s.log).epoch + 1) e n)
+pub one_activation : (e : ℕ) (s : Spec) (c : Register) → is_next c (changes.Activate e s) ≡ true → change_calls c (changes.Activate e s) ≡ change_calls c (activation c s)
+one_activation e s c n = ap (λ n. change_calls c (changes.Activate n s)) (second_is (not (is_crowded c s.log)) ((epochs_of c s.log).epoch + 1) e n)
 
-pub one_drawing : (n k : ℕ) (c : Register) → is_next c (changes.Draw n k) ≡ true → changes.Draw n k ≡ drawing c n
-one_drawing n k c h = ap (λ k. changes.Draw n k) (sym (eqb-true (generation_of c n + 1) k h))
+pub one_drawing : (n k : ℕ) (c : Register) → is_next c (changes.Draw n k) ≡ true → change_calls c (changes.Draw n k) ≡ change_calls c (drawing c n)
+one_drawing n k c h = ap (λ k. change_calls c (changes.Draw n k)) (sym (eqb-true (generation_of c n + 1) k h))
+
+first_of : (a b : Bool) → (a && b) ≡ true → a ≡ true
+first_of true b h = refl
+first_of false b h = absurd (cc h)
+
+some_swaps : (n : ℕ) → nat_lt 0 n ≡ true → (n == 0) ≡ false
+some_swaps n h = grind (arith, nat_tests)
+
+pub one_swap : (l t o w : ℕ) (c : Register) → is_next c (changes.Swap l t o w) ≡ true → change_calls c (changes.Swap l t o w) ≡ swap_calls c l t o w
+one_swap l t o w c n = sym (ap (λ b. if b then [] else change_calls c (changes.Swap l t o w)) (some_swaps (swappable c l t o w) (first_of (nat_lt 0 (swappable c l t o w)) (nat_lt (epochs_of c l).swaps swap_limit) n)))
+
+pub no_swap_calls : (c : Register) (l t o w : ℕ) → swappable c l t o w ≡ 0 → swap_calls c l t o w ≡ []
+no_swap_calls c l t o w h = ap (λ b. if b then [] else change_calls c (changes.Swap l t o w)) (eq-eqb (swappable c l t o w) 0 h)

@@ -5,7 +5,7 @@ use Rattle.ld_table.specs.Table.{find}
 use Rattle.ld_ids.specs.declared.set.Spec.{Spec}
 use Rattle.ld_msg.specs.declared.msg.Summary.{Summary}
 use Rattle.ld_msg.specs.Bounds.{IsEpoch, IsSummary}
-use Rattle.ld_msg.specs.Register.{Register, Answer, Granted, AtLimit, Behind, Overtaken, Fails, epochs_of, generation_of, lce_of, record_length, journal_limit, activate, close, draw, epochs_in, is_crowded, summary_shown, epoch_shown}
+use Rattle.ld_msg.specs.Register.{Register, Answer, Granted, AtLimit, Behind, Overtaken, Fails, epochs_of, generation_of, lce_of, record_length, journal_limit, activate, close, draw, swap, swappable, epochs_in, is_crowded, summary_shown, epoch_shown}
 use Rattle.ld_register.specs.Bounds.{IsSpecFor}
 use Rattle.ld_register.specs.declared.fault.RegisterFault.{RegisterFault}
 use Rattle.ld_register.specs.declared.fault.RegisterFault.TheVariants as faults
@@ -17,7 +17,7 @@ use Rattle.ld_register.specs.declared.register.View.{View}
 abbrev pub is_full : Register → ℕ → Bool
 is_full r body = nat_lt journal_limit (r.length + record_length body)
 
--- how an activation and a draw end
+-- how an activation, a draw and a swap end
 abbrev pub ended : {T : Type 0} → Answer → Bool → RegisterFault → T → Result T RegisterFault
 ended Granted full limit given = Ok given
 ended AtLimit full limit given = Err limit
@@ -31,7 +31,7 @@ abbrev pub close_ended : Answer → Bool → Option Spec → Option Spec → Res
 close_ended (Behind lce) full before after = Err (faults.Behind lce before)
 close_ended answer full before after = ended answer full faults.EpochLimit after
 
--- the lengths of the bodies of an activation, a close and a draw
+-- the lengths of the bodies of an activation, a close, a draw and a swap
 abbrev pub activation_length : ℕ
 activation_length = 13
 
@@ -41,11 +41,14 @@ close_length = 30
 abbrev pub draw_length : ℕ
 draw_length = 6
 
+abbrev pub swap_length : ℕ
+swap_length = 11
+
 -- ---- what is told of what is fixed for an epoch ----
 
--- for epoch 0 and for one that isn't handed out the greatest one's is told, and nothing where none was fixed
+-- what is fixed for an epoch, as swaps left it: for epoch 0 and for one that isn't handed out the greatest one's is told, and nothing where none was fixed
 abbrev pub spec_told : Register → ℕ → ℕ → Option Spec
-spec_told r l e = find (epoch_shown (epochs_of r l) e) (epochs_of r l).specs
+spec_told r l e = find (epoch_shown (epochs_of r l) e) (epochs_of r l).swapped
 
 -- of the epoch behind the last closed one
 abbrev pub next_told : Register → ℕ → Option Spec
@@ -87,10 +90,18 @@ handed r n = record { gen_ = generation_of (after_draw r n) n; epochs = epochs_i
 abbrev pub drawn : Register → ℕ → Result Drawn RegisterFault
 drawn r n = ended (draw r n).answer (is_full r draw_length) faults.GenLimit (handed r n)
 
+-- ---- a swap: the new node takes the place of the old one in each closed epoch up to one that has the old one and lacks the new one, and the answer is how many these are ----
+
+abbrev pub after_swap : Register → ℕ → ℕ → ℕ → ℕ → Register
+after_swap r l upto old new = (swap r l upto old new).register
+
+abbrev pub swapped : Register → ℕ → ℕ → ℕ → ℕ → Result ℕ RegisterFault
+swapped r l upto old new = ended (swap r l upto old new).answer (is_full r swap_length) faults.SwapLimit (swappable r l upto old new)
+
 -- ---- a look ----
 
 abbrev pub looked : Register → ℕ → ℕ → View
-looked r l e = record { epoch = (epochs_of r l).epoch; lce = lce_of r l; summary = summary_shown r l e; spec = spec_told r l e }
+looked r l e = record { epoch = (epochs_of r l).epoch; lce = lce_of r l; swaps = (epochs_of r l).swaps; summary = summary_shown r l e; spec = spec_told r l e }
 
 -- a view shows a summary exactly of a closed epoch, and one of that epoch, and what is fixed for an epoch of the log
 pub record IsView (l e : ℕ) (view : View) : Type 0 where
@@ -112,6 +123,7 @@ IsFree (Err (faults.Behind lce next)) = ⊥
 IsFree (Err (faults.Overtaken epoch)) = ⊥
 IsFree (Err faults.EpochLimit) = ⊥
 IsFree (Err faults.GenLimit) = ⊥
+IsFree (Err faults.SwapLimit) = ⊥
 IsFree (Err faults.Full) = ⊥
 IsFree (Err faults.NoMemory) = Unit {0}
 

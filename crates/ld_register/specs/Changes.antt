@@ -1,5 +1,5 @@
 -- The changes of a register: their bytes, which one may come next, and what each makes of the contents.
-use Rattle.std.specs.Prelude.{◌≡◌, ◌≢◌, ◌+◌, ℕ, Bool, true, false, not, ◌&&◌, ◌==◌, if◌then◌else◌, List, [], ◌∷◌, ◌++◌}
+use Rattle.std.specs.Prelude.{◌≡◌, ◌≢◌, ◌+◌, ℕ, Bool, true, false, not, ◌&&◌, ◌==◌, nat_lt, if◌then◌else◌, List, [], ◌∷◌, ◌++◌}
 use Rattle.std.specs.Int.{w16, w32, w64, to_be_bytes}
 use Rattle.ld_table.specs.Table.{put}
 use Rattle.ld_ids.specs.Id.{IsLog, IsNode}
@@ -7,9 +7,9 @@ use Rattle.ld_ids.specs.Set.{set_bits}
 use Rattle.ld_ids.specs.declared.set.Spec.{Spec}
 use Rattle.ld_msg.specs.declared.msg.Summary.{Summary}
 use Rattle.ld_msg.specs.Bounds.{Is32, IsEpoch, IsSummary}
-use Rattle.ld_msg.specs.Register.{Register, Epochs, epochs_of, generation_of, lce_of, record_length, with_epochs, next_epoch, closed_epochs, is_crowded}
+use Rattle.ld_msg.specs.Register.{Register, Epochs, epochs_of, generation_of, lce_of, record_length, with_epochs, next_epoch, closed_epochs, swapped_epochs, swappable, swap_limit, is_crowded}
 use Rattle.ld_register.specs.Bounds.{IsSpec}
-use Rattle.ld_register.specs.Calls.{activation_length, close_length, draw_length}
+use Rattle.ld_register.specs.Calls.{activation_length, close_length, draw_length, swap_length}
 use Rattle.ld_register.specs.declared.change.Change.{Change}
 use Rattle.ld_register.specs.declared.change.Change.TheVariants as changes
 
@@ -36,6 +36,7 @@ change_bytes (changes.Unfixed l e) = 16 ∷ (to_be_bytes w32 l ++ to_be_bytes w3
 change_bytes (changes.Close l e y) = 20 ∷ (closing_bytes l e y ++ flag y.loss ∷ [])
 change_bytes (changes.Lossless l e y) = 17 ∷ closing_bytes l e y
 change_bytes (changes.Draw n g) = 18 ∷ (n ∷ to_be_bytes w32 g)
+change_bytes (changes.Swap l upto old new) = 21 ∷ (to_be_bytes w32 l ++ (to_be_bytes w32 upto ++ old ∷ new ∷ []))
 
 -- what a record's body may carry
 abbrev pub IsChange : Change → Type 0
@@ -44,6 +45,7 @@ IsChange (changes.Unfixed l e) = IsLog l × IsEpoch e
 IsChange (changes.Close l e y) = IsLog l × IsEpoch e × IsSummary e y
 IsChange (changes.Lossless l e y) = IsLog l × IsEpoch e × IsSummary e y × (y.loss ≡ false)
 IsChange (changes.Draw n g) = IsNode n × Is32 g
+IsChange (changes.Swap l upto old new) = IsLog l × Is32 upto × IsNode old × IsNode new
 
 -- a body is this change's
 pub record IsBody (body : List ℕ) (x : Change) : Type 0 where
@@ -56,13 +58,14 @@ IsNoBody body = (x : Change) → IsChange x → body ≢ change_bytes x
 
 -- ---- contents ----
 
--- whether a change is the next one of its log or node
+-- whether a change is the next one of its log or node; a swap is where it changes an epoch
 abbrev pub is_next : Register → Change → Bool
 is_next r (changes.Activate e s) = not (is_crowded r s.log) && ((epochs_of r s.log).epoch + 1 == e)
 is_next r (changes.Unfixed l e) = not (is_crowded r l) && ((epochs_of r l).epoch + 1 == e)
 is_next r (changes.Close l e y) = not (is_crowded r l) && (lce_of r l + 1 == e)
 is_next r (changes.Lossless l e y) = not (is_crowded r l) && (lce_of r l + 1 == e)
 is_next r (changes.Draw n g) = generation_of r n + 1 == g
+is_next r (changes.Swap l upto old new) = nat_lt 0 (swappable r l upto old new) && nat_lt (epochs_of r l).swaps swap_limit
 
 -- the lengths of the bodies of an activation that fixes nothing, and of a close that says nothing of a loss
 abbrev pub unfixed_length : ℕ
@@ -77,6 +80,7 @@ body_length (changes.Unfixed l e) = unfixed_length
 body_length (changes.Close l e y) = close_length
 body_length (changes.Lossless l e y) = lossless_length
 body_length (changes.Draw n g) = draw_length
+body_length (changes.Swap l upto old new) = swap_length
 
 abbrev pub longer : Register → ℕ → Register
 longer r body = record r { length = r.length + record_length body }
@@ -92,6 +96,7 @@ changed r (changes.Unfixed l e) = longer (with_epochs r l (unfixed_epoch (epochs
 changed r (changes.Close l e y) = longer (with_epochs r l (closed_epochs (epochs_of r l) e y)) close_length
 changed r (changes.Lossless l e y) = longer (with_epochs r l (closed_epochs (epochs_of r l) e y)) lossless_length
 changed r (changes.Draw n g) = longer (record r { generations = put n (generation_of r n + 1) r.generations }) draw_length
+changed r (changes.Swap l upto old new) = longer (with_epochs r l (swapped_epochs (epochs_of r l) upto old new)) swap_length
 
 -- a body is the next change of these contents
 pub record IsNext (r : Register) (body : List ℕ) (x : Change) : Type 0 where

@@ -1,11 +1,11 @@
 -- The writing calls that a register's calls make, over a disk whose failures are known beforehand.
-use Rattle.std.specs.Prelude.{◌≡◌, ◌⊎◌, ◌+◌, ◌-◌, ℕ, Bool, true, false, if◌then◌else◌, List, [], ◌∷◌, Option, None, Some, IsOk, IsErrOf, OnErr, is_ok}
+use Rattle.std.specs.Prelude.{◌≡◌, ◌⊎◌, ◌+◌, ◌-◌, ◌==◌, ℕ, Bool, true, false, if◌then◌else◌, List, [], ◌∷◌, Option, None, Some, IsOk, IsErrOf, OnErr, is_ok}
 use Rattle.std.specs.declared.result.Result.{Result}
 use Rattle.ld_disk.specs.Plain.{Plain, Call, after_calls, all_succeed}
 use Rattle.ld_disk.specs.declared.disk.Disk.{Ghosts}
 use Rattle.ld_ids.specs.declared.set.Spec.{Spec}
 use Rattle.ld_journal.specs.Format.{append_calls}
-use Rattle.ld_msg.specs.Register.{Register, epochs_of, generation_of}
+use Rattle.ld_msg.specs.Register.{Register, epochs_of, generation_of, swappable}
 use Rattle.ld_register.specs.declared.fault.RegisterFault.{RegisterFault}
 use Rattle.ld_register.specs.declared.fault.RegisterFault.TheVariants as faults
 use Rattle.ld_register.specs.declared.change.Change.{Change}
@@ -40,7 +40,15 @@ drawing c n = changes.Draw n (generation_of c n + 1)
 abbrev pub change_calls : Register → Change → List Call
 change_calls c x = append_calls (c.length - 1) (change_bytes x)
 
--- a call makes the calls of the change of what is held, and only those of a load of bytes that stand for nothing
-pub record WritesOne {D : Type 0} {g : Ghosts D} {T : Type 0} (old new : DiskRegister D g) (change : Register → Change) (p : Plain) (result : Result T RegisterFault) : Type 0 where
-  pub held : (c : Register) → Holds old c → Writes (is_loaded old) (change_calls c (change c)) p result (g.plain (owned new))
+-- a swap that changes no epoch writes nothing
+abbrev pub swap_calls : Register → ℕ → ℕ → ℕ → ℕ → List Call
+swap_calls c l upto old new = if swappable c l upto old new == 0 then [] else change_calls c (changes.Swap l upto old new)
+
+-- a call makes those calls that belong to what is held, and only those of a load of bytes that stand for nothing
+pub record WritesBy {D : Type 0} {g : Ghosts D} {T : Type 0} (old new : DiskRegister D g) (calls : Register → List Call) (p : Plain) (result : Result T RegisterFault) : Type 0 where
+  pub held : (c : Register) → Holds old c → Writes (is_loaded old) (calls c) p result (g.plain (owned new))
   pub unheld : is_loaded old ≡ false → ((c : Register) → Holds old c → ⊥) → Writes false [] p result (g.plain (owned new))
+
+-- a call makes the calls of the change of what is held
+abbrev pub WritesOne : {D : Type 0} → {g : Ghosts D} → {T : Type 0} → DiskRegister D g → DiskRegister D g → (Register → Change) → Plain → Result T RegisterFault → Type 0
+WritesOne old new change p result = WritesBy old new (λ c. change_calls c (change c)) p result

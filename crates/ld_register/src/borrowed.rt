@@ -54,6 +54,17 @@ impl<G: Register> Register for &mut G {
         (**self).draw(alloc, node)
     }
 
+    fn swap(
+        &mut self,
+        alloc: Global,
+        log: LogId,
+        upto: u32,
+        member: NodeId,
+        spare: NodeId,
+    ) -> Result<u32, RegisterFault> {
+        (**self).swap(alloc, log, upto, member, spare)
+    }
+
     fn look(&mut self, alloc: Global, log: LogId, e: u32) -> Result<View, RegisterFault> {
         (**self).look(alloc, log, e)
     }

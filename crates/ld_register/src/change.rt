@@ -22,6 +22,8 @@ const ACTIVATE: u8 = 19;
 
 const CLOSE: u8 = 20;
 
+const SWAP: u8 = 21;
+
 /// The greatest epoch of a log.
 pub(crate) const GREATEST_EPOCH: u32 = u32::MAX - 1;
 
@@ -60,6 +62,14 @@ pub(crate) enum Change {
     Draw {
         node: NodeId,
         generation: u32,
+    },
+    /// The spare takes the place of the member in each closed epoch of the log up to this one that has the member and lacks
+    /// the spare. There is such an epoch.
+    Swap {
+        log: LogId,
+        upto: u32,
+        member: NodeId,
+        spare: NodeId,
     },
 }
 
@@ -108,6 +118,19 @@ impl Change {
                 put_word(&mut out, *generation)?;
                 Ok(out)
             }
+            Change::Swap {
+                log,
+                upto,
+                member,
+                spare,
+            } => {
+                let mut out = begun(alloc, SWAP)?;
+                put_word(&mut out, log.number())?;
+                put_word(&mut out, *upto)?;
+                out.push(member.number())?;
+                out.push(spare.number())?;
+                Ok(out)
+            }
         }
     }
 
@@ -130,6 +153,9 @@ impl Change {
         }
         if body.len() == 6 && body[0] == DRAW {
             return read_draw(body);
+        }
+        if body.len() == 11 && body[0] == SWAP {
+            return read_swap(body);
         }
         None
     }
@@ -344,4 +370,30 @@ fn read_draw(body: &[u8]) -> Option<Change>
     };
     let _ = node.number();
     Some(Change::Draw { node, generation })
+}
+
+fn read_swap(body: &[u8]) -> Option<Change>
+    requires len { length body.now ≡ 11 }
+    requires kind { get_or body.now 0 0 ≡ 21 }
+    ensures some { IfSome result (IsBody body.now) }
+    ensures none { IfNone result (IsNoBody body.now) }
+{
+    let number = word(body, 1);
+    let upto = word(body, 5);
+    let Some(log) = LogId::new(number) else {
+        return None;
+    };
+    let Some(member) = NodeId::new(body[9]) else {
+        return None;
+    };
+    let Some(spare) = NodeId::new(body[10]) else {
+        return None;
+    };
+    let _ = (log.number(), member.number(), spare.number());
+    Some(Change::Swap {
+        log,
+        upto,
+        member,
+        spare,
+    })
 }

@@ -1,10 +1,10 @@
 // What a register holds, kept in memory.
-ghost use Rattle.std.specs.Prelude.{◌≡◌, ◌≤◌, ◌<◌, ◌+◌, ◌-◌, ◌^◌, ◌++◌, ◌∷◌, [], ℕ, length, true, not, ◌==◌, ◌&&◌, nat_le, IfOk, OnOk, IfSome, IsSome, is_some, ◌↔◌};
+ghost use Rattle.std.specs.Prelude.{◌≡◌, ◌≤◌, ◌<◌, ◌+◌, ◌-◌, ◌^◌, ◌++◌, ◌∷◌, [], ℕ, length, true, not, ◌==◌, ◌&&◌, nat_lt, nat_le, IfOk, OnOk, IfSome, IsSome, is_some, ◌↔◌};
 ghost use Rattle.ld_table.specs.Table.{find, put};
 ghost use Rattle.ld_table.specs.Words.{how_many};
 ghost use Rattle.ld_ids.specs.Id.{IsLog};
 ghost use Rattle.ld_msg.specs.Bounds.{IsSummary};
-ghost use Rattle.ld_msg.specs.Register.{record_length, log_limit, next_epoch, closed_epochs, epochs_in, epochs_of, generation_of, summary_shown, is_crowded};
+ghost use Rattle.ld_msg.specs.Register.{record_length, log_limit, swap_limit, next_epoch, closed_epochs, swapped_epochs, swappable, swap_count, closed_upto, epochs_in, epochs_of, generation_of, summary_shown, is_crowded};
 ghost use Rattle.ld_op.specs.Bounds.{AreEpochs};
 ghost use Rattle.ld_register.specs.Bounds.{IsSpec, IsSpecFor};
 ghost use Rattle.ld_register.specs.Calls.{spec_told};
@@ -23,7 +23,7 @@ use std::marker::Model;
 /// The greatest number of logs.
 const LOG_LIMIT: usize = 64;
 
-/// The logs and the generations of nodes. A log without an epoch and a close is room for one, and so is generation 0.
+/// The logs and the generations of nodes. A log without an epoch, a close and a swap is room for one, and so is generation 0.
 #[derive(Drop)]
 pub(crate) struct Contents {
     logs: BTreeMap<u32, LogState>,
@@ -75,7 +75,29 @@ impl Contents {
         }
     }
 
-    /// What is fixed for the log's epoch; for the greatest one where that isn't handed out.
+    /// How many swaps of the log there were.
+    pub(crate) fn swaps(&self, log: LogId) -> u32
+        ensures { (n : ℕ) → result ≡ (epochs_of (register_of self.now n) log).swaps }
+    {
+        let _ = self.logs.len();
+        match self.logs.get(&log.number()) {
+            Some(state) => state.swaps(),
+            None => 0,
+        }
+    }
+
+    /// In how many closed epochs of the log up to one a swap would put the spare in the place of the member.
+    pub(crate) fn swappable(&self, log: LogId, upto: u32, member: NodeId, spare: NodeId) -> u32
+        ensures { (n : ℕ) → result ≡ swappable (register_of self.now n) log upto member spare }
+    {
+        let _ = self.logs.len();
+        match self.logs.get(&log.number()) {
+            Some(state) => state.swappable(upto, member, spare),
+            None => 0,
+        }
+    }
+
+    /// What is fixed for the log's epoch, as swaps left it; for the greatest one where that isn't handed out.
     pub(crate) fn spec(&self, log: LogId, e: u32) -> Option<Spec>
         ensures value { (n : ℕ) → result ≡ spec_told (register_of self.now n) log e }
         ensures sound { IfSome result (IsSpecFor log) }
@@ -138,6 +160,15 @@ impl Contents {
             Change::Draw { node, generation } => {
                 is_behind(false, self.generation(*node), *generation)
             }
+            Change::Swap {
+                log,
+                upto,
+                member,
+                spare,
+            } => is_swap(
+                self.swappable(*log, *upto, *member, *spare),
+                self.swaps(*log),
+            ),
         }
     }
 
@@ -171,6 +202,7 @@ impl Contents {
                 room_for_summary(&mut self.logs, *log, *epoch, summary)
             }
             Change::Draw { node, .. } => room_for_node(&mut self.generations, *node),
+            Change::Swap { log, .. } => room_for_log(alloc, &mut self.logs, *log),
         }
     }
 
@@ -195,6 +227,12 @@ impl Contents {
                 summary,
             } => close_in(&mut self.logs, *log, *epoch, summary),
             Change::Draw { node, generation } => draw_in(&mut self.generations, *node, *generation),
+            Change::Swap {
+                log,
+                upto,
+                member,
+                spare,
+            } => swap_in(&mut self.logs, *log, *upto, *member, *spare),
         }
     }
 
@@ -211,6 +249,13 @@ fn is_behind(crowded: bool, before: u32, number: u32) -> bool
     ensures { result ≡ (not crowded && (before + 1 == number)) }
 {
     !crowded && before < number && number - before == 1
+}
+
+/// Whether a swap changes an epoch, and the log's swaps aren't used up.
+fn is_swap(count: u32, swaps: u32) -> bool
+    ensures { result ≡ (nat_lt 0 count && nat_lt swaps swap_limit) }
+{
+    0 < count && swaps < u32::MAX
 }
 
 /// Makes room for a log. Without memory nothing changes.
@@ -313,6 +358,23 @@ fn close_in(logs: &mut BTreeMap<u32, LogState>, log: LogId, e: u32, summary: &Su
         return;
     };
     state.close(e, summary);
+}
+
+/// Puts the spare in the place of the member in the closed epochs of a log up to one, of which some has the member and lacks
+/// the spare.
+fn swap_in(logs: &mut BTreeMap<u32, LogState>, log: LogId, upto: u32, member: NodeId, spare: NodeId)
+    requires there { is_some (find log logs.old.entries) ≡ true }
+    requires some { 0 < swap_count (closed_upto (log_at (shown_logs logs.old.entries) log) upto) member spare (log_at (shown_logs logs.old.entries) log).swapped }
+    requires left { (log_at (shown_logs logs.old.entries) log).swaps < 2 ^ 32 - 1 }
+    ensures shown { shown_logs logs.new.entries ≡ put log (swapped_epochs (log_at (shown_logs logs.old.entries) log) upto member spare) (shown_logs logs.old.entries) }
+    ensures few { length (shown_logs logs.new.entries) ≡ length (shown_logs logs.old.entries) }
+    ensures logs { AreLogs logs.old.entries → AreLogs logs.new.entries }
+{
+    let Some(state) = logs.get_mut(&log.number()) else {
+        return;
+    };
+    let _ = (member.number(), spare.number());
+    state.swap(upto, member, spare);
 }
 
 /// Makes room for a node. Without memory nothing changes.

@@ -25,13 +25,16 @@ const CLOSE_LENGTH: u64 = 30;
 /// The length of the body of a draw's record, in bytes.
 const DRAW_LENGTH: u64 = 6;
 
+/// The length of the body of a swap's record, in bytes.
+const SWAP_LENGTH: u64 = 11;
+
 /// A register and the disk that its changes are kept on. It is loaded by the first call, and again by the next call
 /// after one that answered `Failed` or `Damaged`. While it is loaded, a look answers, and needs neither disk nor
 /// memory. `Failed` comes only where the disk's count of failed calls rose, and any other answer leaves that count.
 ///
 /// A load is one sync. A change is one append to the journal, of two writes with a sync behind each: it answers `Ok`
 /// where all four succeed, and `Failed` after the first that doesn't. A call that is refused otherwise writes nothing
-/// but the load, and leaves a loaded register loaded.
+/// but the load, and leaves a loaded register loaded; and so does a swap that changes no epoch.
 #[derive(Drop)]
 pub struct DiskRegister<D: Disk> {
     journal: Journal<D>,
@@ -51,11 +54,11 @@ impl<D: Disk> DiskRegister<D> {
     ghost use Rattle.ld_journal.specs.Open.{place_of};
     ghost use Rattle.ld_ids.specs.declared.set.Spec.{Spec as Fixed};
     ghost use Rattle.ld_msg.specs.Bounds.{IsSummary};
-    ghost use Rattle.ld_msg.specs.Register.{Register as Held, empty_register, epochs_of, lce_of};
+    ghost use Rattle.ld_msg.specs.Register.{Register as Held, empty_register, epochs_of, lce_of, swappable};
     ghost use Rattle.ld_op.specs.Bounds.{IsOp};
     ghost use Rattle.ld_op.specs.declared.op.Op.TheVariants.{Format};
     ghost use Rattle.ld_register.specs.Bounds.{IsSpec, IsSpecFor};
-    ghost use Rattle.ld_register.specs.Calls.{activated, after_activate, closed, after_close, drawn, after_draw, next_told, IsGrant, OneOf};
+    ghost use Rattle.ld_register.specs.Calls.{activated, after_activate, closed, after_close, drawn, after_draw, swapped, after_swap, next_told, IsGrant, OneOf};
     ghost use Rattle.ld_register.specs.Changes.{IsChange, is_next, changed, change_bytes};
     ghost use Rattle.ld_register.specs.Kept.{register_of};
     ghost use Rattle.ld_register.specs.Stands.{StandsFor};
@@ -146,6 +149,7 @@ impl<D: Disk> DiskRegister<D> {
         ensures behind { (lce : ℕ) (next : Option Fixed) → result ≢ Err (RegisterFault.Behind lce next) }
         ensures overtaken { (kept : ℕ) → result ≢ Err (RegisterFault.Overtaken kept) }
         ensures generations { result ≢ Err RegisterFault.GenLimit }
+        ensures swaps { result ≢ Err RegisterFault.SwapLimit }
         ensures exact_calls { (p : Plain) → D.plain (owned self.old) ≡ Some p → reads_fine p ≡ true → Writes (is_loaded self.old) [] p result (D.plain (owned self.new)) }
         ensures stays { is_loaded self.old ≡ true → IsErrOf result RegisterFault.Failed ⊎ (is_loaded self.new ≡ true) }
     {
@@ -201,6 +205,7 @@ impl<D: Disk> DiskRegister<D> {
         ensures overtaken { (kept : ℕ) → IsErrOf result (RegisterFault.Overtaken kept) → (short ≡ true) × (kept ≤ 2 ^ 32 - 2) × (kept ≢ summary.now.ballot) }
         ensures epochs { result ≢ Err RegisterFault.EpochLimit }
         ensures generations { result ≢ Err RegisterFault.GenLimit }
+        ensures swaps { result ≢ Err RegisterFault.SwapLimit }
         ensures exact_calls { (p : Plain) → D.plain (owned self.old) ≡ Some p → reads_fine p ≡ true → Writes (is_loaded self.old) [] p result (D.plain (owned self.new)) }
         ensures stays { is_loaded self.old ≡ true → IsErrOf result RegisterFault.Failed ⊎ (is_loaded self.new ≡ true) }
     {
@@ -235,6 +240,7 @@ impl<D: Disk> DiskRegister<D> {
         ensures behind { (lce : ℕ) (next : Option Fixed) → result ≢ Err (RegisterFault.Behind lce next) }
         ensures overtaken { (kept : ℕ) → result ≢ Err (RegisterFault.Overtaken kept) }
         ensures epochs { result ≢ Err RegisterFault.EpochLimit }
+        ensures swaps { result ≢ Err RegisterFault.SwapLimit }
         ensures exact_calls { (p : Plain) → D.plain (owned self.old) ≡ Some p → reads_fine p ≡ true → Writes (is_loaded self.old) [] p result (D.plain (owned self.new)) }
         ensures stays { is_loaded self.old ≡ true → IsErrOf result RegisterFault.Failed ⊎ (is_loaded self.new ≡ true) }
     {
@@ -253,6 +259,46 @@ impl<D: Disk> DiskRegister<D> {
             gen_: generation,
             epochs,
         })
+    }
+
+    /// In how many epochs a swap would put the spare in the place of the member, or why it would be refused. It loads the
+    /// register, and changes nothing.
+    pub(crate) fn check_swap(
+        &mut self,
+        alloc: Global,
+        log: LogId,
+        upto: u32,
+        member: NodeId,
+        spare: NodeId,
+    ) -> Result<u32, RegisterFault>
+        ensures due { IfOk result (λ count. 1 ≤ count → IsDue self.old self.new (Change.Swap log upto member spare) count (λ c. swapped c log upto member spare) (λ c. after_swap c log upto member spare)) }
+        ensures none { IfOk result (λ count. count ≡ 0 → Meets self.old self.new result (λ c. swapped c log upto member spare) (λ c. after_swap c log upto member spare)) }
+        ensures nowhere { IfOk result (λ count. count ≡ 0 → (c : Held) → Holds self.old c → swappable c log upto member spare ≡ 0) }
+        ensures refused { OnErr result (Meets self.old self.new result (λ c. swapped c log upto member spare) (λ c. after_swap c log upto member spare)) }
+        ensures steady { IsErrOf result RegisterFault.Failed ⊎ (D.faults (owned self.new) ≡ D.faults (owned self.old)) }
+        ensures itself { D.identity (owned self.new) ≡ D.identity (owned self.old) }
+        ensures loaded { OnOk result (is_loaded self.new ≡ true) }
+        ensures logs { result ≢ Err RegisterFault.LogLimit }
+        ensures behind { (lce : ℕ) (next : Option Fixed) → result ≢ Err (RegisterFault.Behind lce next) }
+        ensures overtaken { (kept : ℕ) → result ≢ Err (RegisterFault.Overtaken kept) }
+        ensures epochs { result ≢ Err RegisterFault.EpochLimit }
+        ensures generations { result ≢ Err RegisterFault.GenLimit }
+        ensures exact_calls { (p : Plain) → D.plain (owned self.old) ≡ Some p → reads_fine p ≡ true → Writes (is_loaded self.old) [] p result (D.plain (owned self.new)) }
+        ensures stays { is_loaded self.old ≡ true → IsErrOf result RegisterFault.Failed ⊎ (is_loaded self.new ≡ true) }
+    {
+        self.ready(alloc)?;
+        let count = self.contents.swappable(log, upto, member, spare);
+        if count == 0 {
+            return Ok(0);
+        }
+        if self.contents.swaps(log) == u32::MAX {
+            return Err(RegisterFault::SwapLimit);
+        }
+        if self.is_full(SWAP_LENGTH) {
+            return Err(RegisterFault::Full);
+        }
+        let _ = (log.number(), member.number(), spare.number());
+        Ok(count)
     }
 
     /// Makes a change that is the next one, once it is loaded: it is durable before it is made in memory.
@@ -290,10 +336,10 @@ impl<D: Disk> Register for DiskRegister<D> {
     ghost use Rattle.ld_op.specs.Bounds.{IsOp};
     ghost use Rattle.ld_op.specs.declared.op.Op.TheVariants.{Format};
     ghost use Rattle.ld_register.specs.Bounds.{IsSpec, IsSpecFor};
-    ghost use Rattle.ld_register.specs.Calls.{activated, after_activate, closed, after_close, drawn, after_draw, looked, IsGrant, IsView, IsFree, Keeps};
+    ghost use Rattle.ld_register.specs.Calls.{activated, after_activate, closed, after_close, drawn, after_draw, swapped, after_swap, looked, IsGrant, IsView, IsFree, Keeps};
     ghost use Rattle.ld_msg.specs.Register.{Register as Held};
     ghost use Rattle.ld_register.specs.Held.{owned, is_loaded, Holds, MayHold, LeavesOneOf, Tells, Foretells, IsBroken, Meets, holds_is_told, told_is_held};
-    ghost use Rattle.ld_register.specs.Writing.{Writes, WritesOne, activation, drawing};
+    ghost use Rattle.ld_register.specs.Writing.{Writes, WritesBy, WritesOne, activation, drawing, swap_calls};
 
     ghost told = { λ r. Tells r };
 
@@ -337,6 +383,7 @@ impl<D: Disk> Register for DiskRegister<D> {
         ensures behind { (lce : ℕ) (next : Option Fixed) → result ≢ Err (RegisterFault.Behind lce next) }
         ensures overtaken { (kept : ℕ) → result ≢ Err (RegisterFault.Overtaken kept) }
         ensures generations { result ≢ Err RegisterFault.GenLimit }
+        ensures swaps { result ≢ Err RegisterFault.SwapLimit }
     {
         let grant = self.check_activate(alloc, spec)?;
         let epoch = grant.epoch;
@@ -365,6 +412,7 @@ impl<D: Disk> Register for DiskRegister<D> {
         ensures overtaken { (kept : ℕ) → IsErrOf result (RegisterFault.Overtaken kept) → (short ≡ true) × (kept ≤ 2 ^ 32 - 2) × (kept ≢ summary.now.ballot) }
         ensures epochs { result ≢ Err RegisterFault.EpochLimit }
         ensures generations { result ≢ Err RegisterFault.GenLimit }
+        ensures swaps { result ≢ Err RegisterFault.SwapLimit }
     {
         let next = self.check_close(alloc, log, epoch, summary, short)?;
         let summary = *summary;
@@ -391,11 +439,48 @@ impl<D: Disk> Register for DiskRegister<D> {
         ensures behind { (lce : ℕ) (next : Option Fixed) → result ≢ Err (RegisterFault.Behind lce next) }
         ensures overtaken { (kept : ℕ) → result ≢ Err (RegisterFault.Overtaken kept) }
         ensures epochs { result ≢ Err RegisterFault.EpochLimit }
+        ensures swaps { result ≢ Err RegisterFault.SwapLimit }
     {
         let handed = self.check_draw(alloc, node)?;
         let generation = handed.gen_;
         self.commit(alloc, &Change::Draw { node, generation })?;
         Ok(handed)
+    }
+
+    fn swap(
+        &mut self,
+        alloc: Global,
+        log: LogId,
+        upto: u32,
+        member: NodeId,
+        spare: NodeId,
+    ) -> Result<u32, RegisterFault>
+        ensures meets { Meets self.old self.new result (λ c. swapped c log upto member spare) (λ c. after_swap c log upto member spare) }
+        ensures steady { IsErrOf result RegisterFault.Failed ⊎ (D.faults (owned self.new) ≡ D.faults (owned self.old)) }
+        ensures itself { D.identity (owned self.new) ≡ D.identity (owned self.old) }
+        ensures loaded { OnOk result (is_loaded self.new ≡ true) }
+        ensures exact_calls { (p : Plain) → D.plain (owned self.old) ≡ Some p → reads_fine p ≡ true → WritesBy self.old self.new (λ c. swap_calls c log upto member spare) p result }
+        ensures stays { is_loaded self.old ≡ true → IsErrOf result RegisterFault.Failed ⊎ (is_loaded self.new ≡ true) }
+        ensures logs { result ≢ Err RegisterFault.LogLimit }
+        ensures behind { (lce : ℕ) (next : Option Fixed) → result ≢ Err (RegisterFault.Behind lce next) }
+        ensures overtaken { (kept : ℕ) → result ≢ Err (RegisterFault.Overtaken kept) }
+        ensures epochs { result ≢ Err RegisterFault.EpochLimit }
+        ensures generations { result ≢ Err RegisterFault.GenLimit }
+    {
+        let count = self.check_swap(alloc, log, upto, member, spare)?;
+        if count == 0 {
+            return Ok(0);
+        }
+        self.commit(
+            alloc,
+            &Change::Swap {
+                log,
+                upto,
+                member,
+                spare,
+            },
+        )?;
+        Ok(count)
     }
 
     fn look(&mut self, alloc: Global, log: LogId, e: u32) -> Result<View, RegisterFault>
@@ -417,6 +502,7 @@ impl<D: Disk> Register for DiskRegister<D> {
         Ok(View {
             epoch: self.contents.epoch(log),
             lce: self.contents.lce(log),
+            swaps: self.contents.swaps(log),
             summary: self.contents.summary(log, e),
             spec: self.contents.spec(log, e),
         })

@@ -32,6 +32,9 @@ pub enum RegisterFault {
     /// The greatest generation has been handed out.
     #[error("no generation is left")]
     GenLimit,
+    /// As many swaps of the log were made as may be.
+    #[error("no swap is left")]
+    SwapLimit,
     /// The register's journal would pass its greatest length.
     #[error("the register's journal is full")]
     Full,

@@ -15,7 +15,7 @@ struct Armed {
 }
 
 /// A register on a disk, of which one call that would make a change can be told to fail. A call that makes no change,
-/// because it is refused, doesn't count.
+/// because it is refused or because a swap finds no epoch, doesn't count.
 ///
 /// `Failed` comes only where the armed fault falls, or where the disk's count of failed calls rose.
 #[derive(Drop)]
@@ -35,7 +35,7 @@ impl<D: Disk> FaultyRegister<D> {
     ghost use Rattle.ld_op.specs.Bounds.{IsOp};
     ghost use Rattle.ld_op.specs.declared.op.Op.TheVariants.{Format};
     ghost use Rattle.ld_register.specs.Bounds.{IsSpec, IsSpecFor};
-    ghost use Rattle.ld_register.specs.Calls.{activated, after_activate, closed, after_close, drawn, after_draw, IsGrant, OneOf, unarmed};
+    ghost use Rattle.ld_register.specs.Calls.{activated, after_activate, closed, after_close, drawn, after_draw, swapped, after_swap, IsGrant, OneOf, unarmed};
     ghost use Rattle.ld_register.specs.Stands.{StandsFor};
     ghost use Rattle.ld_register.specs.Held.{IsQuiet, Holds, Tells, LeavesOneOf, Meets};
     ghost use Rattle.ld_register.specs.Arming.{kept_in, disk_in, armed_of, own_faults, Foresees};
@@ -125,6 +125,7 @@ impl<D: Disk> FaultyRegister<D> {
         ensures behind { (lce : ℕ) (next : Option Fixed) → result ≢ Err (RegisterFault.Behind lce next) }
         ensures overtaken { (kept : ℕ) → result ≢ Err (RegisterFault.Overtaken kept) }
         ensures generations { result ≢ Err RegisterFault.GenLimit }
+        ensures swaps { result ≢ Err RegisterFault.SwapLimit }
     {
         if self.is_prevented() {
             return self.register.check_activate(alloc, spec);
@@ -153,6 +154,7 @@ impl<D: Disk> FaultyRegister<D> {
         ensures overtaken { (kept : ℕ) → IsErrOf result (RegisterFault.Overtaken kept) → (short ≡ true) × (kept ≤ 2 ^ 32 - 2) × (kept ≢ summary.now.ballot) }
         ensures epochs { result ≢ Err RegisterFault.EpochLimit }
         ensures generations { result ≢ Err RegisterFault.GenLimit }
+        ensures swaps { result ≢ Err RegisterFault.SwapLimit }
     {
         if self.is_prevented() {
             return self.register.check_close(alloc, log, epoch, summary, short);
@@ -173,11 +175,40 @@ impl<D: Disk> FaultyRegister<D> {
         ensures behind { (lce : ℕ) (next : Option Fixed) → result ≢ Err (RegisterFault.Behind lce next) }
         ensures overtaken { (kept : ℕ) → result ≢ Err (RegisterFault.Overtaken kept) }
         ensures epochs { result ≢ Err RegisterFault.EpochLimit }
+        ensures swaps { result ≢ Err RegisterFault.SwapLimit }
     {
         if self.is_prevented() {
             return self.register.check_draw(alloc, node);
         }
         self.register.draw(alloc, node)
+    }
+
+    /// Makes a swap, or only checks it where the armed fault prevents it.
+    fn attempt_swap(
+        &mut self,
+        alloc: Global,
+        log: LogId,
+        upto: u32,
+        member: NodeId,
+        spare: NodeId,
+    ) -> Result<u32, RegisterFault>
+        ensures armed { armed_of self.new ≡ armed_of self.old }
+        ensures faults { own_faults self.new ≡ own_faults self.old }
+        ensures granted { IfOk result (λ count. 1 ≤ count → Meets (kept_in self.old) (kept_in self.new) result (λ c. swapped c log upto member spare) (λ c. if is_made (armed_of self.old) then after_swap c log upto member spare else c)) }
+        ensures none { IfOk result (λ count. count ≡ 0 → Meets (kept_in self.old) (kept_in self.new) result (λ c. swapped c log upto member spare) (λ c. after_swap c log upto member spare)) }
+        ensures refused { OnErr result (Meets (kept_in self.old) (kept_in self.new) result (λ c. swapped c log upto member spare) (λ c. after_swap c log upto member spare)) }
+        ensures steady { IsErrOf result RegisterFault.Failed ⊎ (D.faults (disk_in self.new) ≡ D.faults (disk_in self.old)) }
+        ensures itself { D.identity (disk_in self.new) ≡ D.identity (disk_in self.old) }
+        ensures logs { result ≢ Err RegisterFault.LogLimit }
+        ensures behind { (lce : ℕ) (next : Option Fixed) → result ≢ Err (RegisterFault.Behind lce next) }
+        ensures overtaken { (kept : ℕ) → result ≢ Err (RegisterFault.Overtaken kept) }
+        ensures epochs { result ≢ Err RegisterFault.EpochLimit }
+        ensures generations { result ≢ Err RegisterFault.GenLimit }
+    {
+        if self.is_prevented() {
+            return self.register.check_swap(alloc, log, upto, member, spare);
+        }
+        self.register.swap(alloc, log, upto, member, spare)
     }
 }
 
@@ -189,7 +220,7 @@ impl<D: Disk> Register for FaultyRegister<D> {
     ghost use Rattle.ld_op.specs.Bounds.{IsOp};
     ghost use Rattle.ld_op.specs.declared.op.Op.TheVariants.{Format};
     ghost use Rattle.ld_register.specs.Bounds.{IsSpec, IsSpecFor};
-    ghost use Rattle.ld_register.specs.Calls.{activated, after_activate, closed, after_close, drawn, after_draw, looked, IsGrant, IsView, IsFree, Keeps};
+    ghost use Rattle.ld_register.specs.Calls.{activated, after_activate, closed, after_close, drawn, after_draw, swapped, after_swap, looked, IsGrant, IsView, IsFree, Keeps};
     ghost use Rattle.ld_register.specs.Held.{Holds, MayHold, LeavesOneOf, Tells, IsBroken, holds_is_told};
     ghost use Rattle.ld_register.specs.Arming.{kept_in, disk_in, faults_in, Foresees, MeetsArmed, StaysArmed, HasCounted, HasFallen};
 
@@ -234,6 +265,7 @@ impl<D: Disk> Register for FaultyRegister<D> {
         ensures behind { (lce : ℕ) (next : Option Fixed) → result ≢ Err (RegisterFault.Behind lce next) }
         ensures overtaken { (kept : ℕ) → result ≢ Err (RegisterFault.Overtaken kept) }
         ensures generations { result ≢ Err RegisterFault.GenLimit }
+        ensures swaps { result ≢ Err RegisterFault.SwapLimit }
     {
         let grant = self.attempt_activate(alloc, spec)?;
         self.count_down()?;
@@ -259,6 +291,7 @@ impl<D: Disk> Register for FaultyRegister<D> {
         ensures overtaken { (kept : ℕ) → IsErrOf result (RegisterFault.Overtaken kept) → (short ≡ true) × (kept ≤ 2 ^ 32 - 2) × (kept ≢ summary.now.ballot) }
         ensures epochs { result ≢ Err RegisterFault.EpochLimit }
         ensures generations { result ≢ Err RegisterFault.GenLimit }
+        ensures swaps { result ≢ Err RegisterFault.SwapLimit }
     {
         let next = self.attempt_close(alloc, log, epoch, summary, short)?;
         self.count_down()?;
@@ -276,10 +309,39 @@ impl<D: Disk> Register for FaultyRegister<D> {
         ensures behind { (lce : ℕ) (next : Option Fixed) → result ≢ Err (RegisterFault.Behind lce next) }
         ensures overtaken { (kept : ℕ) → result ≢ Err (RegisterFault.Overtaken kept) }
         ensures epochs { result ≢ Err RegisterFault.EpochLimit }
+        ensures swaps { result ≢ Err RegisterFault.SwapLimit }
     {
         let handed = self.attempt_draw(alloc, node)?;
         self.count_down()?;
         Ok(handed)
+    }
+
+    fn swap(
+        &mut self,
+        alloc: Global,
+        log: LogId,
+        upto: u32,
+        member: NodeId,
+        spare: NodeId,
+    ) -> Result<u32, RegisterFault>
+        ensures meets { MeetsArmed self.old self.new result (λ c. swapped c log upto member spare) (λ c. after_swap c log upto member spare) }
+        ensures steady { IsErrOf result RegisterFault.Failed ⊎ (faults_in self.new ≡ faults_in self.old) }
+        ensures itself { D.identity (disk_in self.new) ≡ D.identity (disk_in self.old) }
+        ensures passes { IfOk result (λ count. 1 ≤ count → HasCounted self.old self.new) }
+        ensures idles { IfOk result (λ count. count ≡ 0 → StaysArmed self.old self.new) }
+        ensures fell { OnErr result (StaysArmed self.old self.new ⊎ HasFallen self.old self.new result (λ c. after_swap c log upto member spare)) }
+        ensures logs { result ≢ Err RegisterFault.LogLimit }
+        ensures behind { (lce : ℕ) (next : Option Fixed) → result ≢ Err (RegisterFault.Behind lce next) }
+        ensures overtaken { (kept : ℕ) → result ≢ Err (RegisterFault.Overtaken kept) }
+        ensures epochs { result ≢ Err RegisterFault.EpochLimit }
+        ensures generations { result ≢ Err RegisterFault.GenLimit }
+    {
+        let count = self.attempt_swap(alloc, log, upto, member, spare)?;
+        if count == 0 {
+            return Ok(0);
+        }
+        self.count_down()?;
+        Ok(count)
     }
 
     fn look(&mut self, alloc: Global, log: LogId, e: u32) -> Result<View, RegisterFault>

@@ -1,5 +1,5 @@
 // What a register answers and shows whose changes are told to fail.
-use crate::tests::{CHANGES, close, drawn, epoch, make, told};
+use crate::tests::{CHANGES, close, drawn, epoch, make, swap, swaps, told};
 use crate::{FaultyRegister, RegisterFault};
 use ld_disk::MemDisk;
 use std::alloc::Global;
@@ -66,6 +66,24 @@ fn a_close_that_is_overtaken_does_not_count(rt: HostRuntime) -> Result<(), Fail>
         Err(RegisterFault::Overtaken(1))
     );
     assert_eq!(rt; epoch(alloc, &mut register, 1), Err(RegisterFault::Failed));
+    Ok(())
+}
+
+#[test]
+fn a_swap_counts_where_it_changes_an_epoch(rt: HostRuntime) -> Result<(), Fail> {
+    let alloc = rt.alloc();
+    for (done, count) in [(false, 0), (true, 1)] {
+        let mut register = new_register(alloc)?;
+        assert_eq!(rt; epoch(alloc, &mut register, 1), Ok(1));
+        register.arm(2, done);
+        assert_eq!(rt; swap(alloc, &mut register), Ok(0));
+        assert_eq!(rt; close(alloc, &mut register, false), Ok(()));
+        assert_eq!(rt; swap(alloc, &mut register), Err(RegisterFault::Failed));
+        assert_eq!(rt;
+            swaps(alloc, &mut register, 1, 5 + count),
+            Ok((u32::from(count), true))
+        );
+    }
     Ok(())
 }
 

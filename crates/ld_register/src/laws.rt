@@ -1,5 +1,6 @@
 // What holds of a register's answers over any list of calls.
 ghost use Rattle.std.specs.Prelude.{◌≡◌, ◌≤◌, ◌<◌, ◌⊎◌, ◌++◌, ◌∷◌, [], ℕ, Bool, List, Option, Ok, Some};
+ghost use Rattle.ld_table.specs.Table.{find};
 ghost use Rattle.std.specs.declared.result.Result.{Result as Outcome};
 ghost use Rattle.ld_disk.specs.Plain.{Plain};
 ghost use Rattle.ld_ids.specs.declared.set.Spec.{Spec};
@@ -31,10 +32,11 @@ pub fn generations_rise()
         → Runs c (before ++ Draws n (Ok first) ∷ (between ++ Draws n (Ok second) ∷ after)) d → first.gen_ < second.gen_ }
 {}
 
-/// No epoch, last closed epoch or generation falls.
+/// No epoch, last closed epoch, count of swaps or generation falls.
 pub fn nothing_falls()
     ensures epoch { (c d : Contents) (calls : List Call) (l : ℕ) → Runs c calls d → (epochs_of c l).epoch ≤ (epochs_of d l).epoch }
     ensures lce { (c d : Contents) (calls : List Call) (l : ℕ) → Runs c calls d → lce_of c l ≤ lce_of d l }
+    ensures swaps { (c d : Contents) (calls : List Call) (l : ℕ) → Runs c calls d → (epochs_of c l).swaps ≤ (epochs_of d l).swaps }
     ensures generation { (c d : Contents) (calls : List Call) (n : ℕ) → Runs c calls d → generation_of c n ≤ generation_of d n }
 {}
 
@@ -49,24 +51,30 @@ pub fn closes_are_shown()
         → Runs c (before ++ Closes l e y short (Ok next) ∷ (between ++ Looks l e (Ok view) ∷ after)) d → view.summary ≡ Some y }
 {}
 
-/// What is fixed for an epoch that was handed out never changes.
+/// What was fixed for an epoch that was handed out never changes; and as swaps left it, it changes only where the count of
+/// swaps rises, and only once the epoch is closed.
 pub fn specs_stay()
-    ensures { (c d : Contents) (calls : List Call) (l e : ℕ) → Runs c calls d → 1 ≤ e → e ≤ (epochs_of c l).epoch → spec_told d l e ≡ spec_told c l e }
+    ensures fixed { (c d : Contents) (calls : List Call) (l e : ℕ) → Runs c calls d → e ≤ (epochs_of c l).epoch → find e (epochs_of d l).specs ≡ find e (epochs_of c l).specs }
+    ensures told { (c d : Contents) (calls : List Call) (l e : ℕ) → Runs c calls d → 1 ≤ e → e ≤ (epochs_of c l).epoch
+        → ((epochs_of d l).swaps ≡ (epochs_of c l).swaps) ⊎ (lce_of d l < e) → spec_told d l e ≡ spec_told c l e }
 {}
 
-/// Each look after an activation that answered shows of its epoch what that activation fixed.
+/// Each look after an activation that answered shows of its epoch what that activation fixed, as long as the epoch isn't
+/// closed or there was no swap of the log.
 pub fn activations_are_shown()
     ensures { (c d : Contents) (before between after : List Call) (spec : Spec) (grant : Grant) (view : View)
-        → Runs c (before ++ Activates spec (Ok grant) ∷ (between ++ Looks spec.log grant.epoch (Ok view) ∷ after)) d → view.spec ≡ Some spec }
+        → Runs c (before ++ Activates spec (Ok grant) ∷ (between ++ Looks spec.log grant.epoch (Ok view) ∷ after)) d
+        → (view.swaps ≡ 0) ⊎ (view.lce < grant.epoch) → view.spec ≡ Some spec }
 {}
 
-/// Of two looks at a log that answered, the later one shows no smaller epoch and no smaller last closed epoch, and of
-/// the same epoch the same summary, and where it was handed out by then the same that is fixed for it.
+/// Of two looks at a log that answered, the later one shows no smaller epoch, no smaller last closed epoch and no smaller
+/// count of swaps, and of the same epoch the same summary; and where it was handed out by then the same that is fixed for
+/// it, as long as the count of swaps is the same or the epoch isn't closed.
 pub fn looks_agree()
     ensures { (c d : Contents) (before between after : List Call) (l e k : ℕ) (first second : View)
         → Runs c (before ++ Looks l e (Ok first) ∷ (between ++ Looks l k (Ok second) ∷ after)) d
-        → (first.epoch ≤ second.epoch) × (first.lce ≤ second.lce) × ((y : Summary) → e ≡ k → first.summary ≡ Some y → second.summary ≡ Some y)
-        × (e ≡ k → 1 ≤ e → e ≤ first.epoch → second.spec ≡ first.spec) }
+        → (first.epoch ≤ second.epoch) × (first.lce ≤ second.lce) × (first.swaps ≤ second.swaps) × ((y : Summary) → e ≡ k → first.summary ≡ Some y → second.summary ≡ Some y)
+        × (e ≡ k → 1 ≤ e → e ≤ first.epoch → (second.swaps ≡ first.swaps) ⊎ (second.lce < e) → second.spec ≡ first.spec) }
 {}
 
 /// A call of a register is one step of such a list: what may be held after it is led to from what might be held

@@ -1,4 +1,4 @@
-//! The register that hands out epochs and generations, and keeps the summaries of closed epochs.
+//! The register that hands out epochs and generations, and keeps the summaries of closed epochs and who their nodes are.
 #![tactic(auto)]
 
 mod borrowed;
@@ -7,6 +7,7 @@ mod contents;
 mod disk;
 mod fault;
 mod faulty;
+mod fixed;
 mod laws;
 mod log;
 mod register;

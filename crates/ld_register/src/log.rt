@@ -1,37 +1,41 @@
 // One log's epochs, what is fixed for each, and the summaries of its closed ones.
-ghost use Rattle.std.specs.Prelude.{◌≡◌, ◌≤◌, ◌<◌, ◌+◌, ◌-◌, ◌^◌, ◌↔◌, ℕ, IfSome, IsSome, OnOk, true, is_some};
+ghost use Rattle.std.specs.Prelude.{◌≡◌, ◌≤◌, ◌<◌, ◌+◌, ◌-◌, ◌^◌, ◌↔◌, ℕ, min, IfSome, IsSome, OnOk, true, is_some};
 ghost use Rattle.ld_table.specs.Table.{find};
+ghost use Rattle.ld_ids.specs.Id.{IsNode};
 ghost use Rattle.ld_msg.specs.Bounds.{IsSummary};
-ghost use Rattle.ld_msg.specs.Register.{no_epochs, next_epoch, closed_epochs, epoch_shown};
+ghost use Rattle.ld_msg.specs.Register.{no_epochs, next_epoch, closed_epochs, epoch_shown, swap_count, closed_upto, swapped_epochs};
 ghost use Rattle.ld_register.specs.Bounds.{IsSpecFor};
 ghost use Rattle.ld_register.specs.Changes.{unfixed_epoch};
 ghost use Rattle.ld_register.specs.Kept.{shown_log, is_held, IsLogOf};
 
-use ld_ids::{NoMemory, Spec};
+use crate::fixed::{Fixed, count_swaps, swap_all};
+use ld_ids::{NoMemory, NodeId, Spec};
 use ld_msg::Summary;
 use std::alloc::Global;
 use std::collections::BTreeMap;
 use std::marker::Model;
 
-/// One log's greatest epoch, its last closed one, what is fixed for each epoch, and the summaries of the closed ones. What
-/// is fixed for an epoch above the greatest one is room for it, and so is a summary above the last closed epoch.
+/// One log's greatest epoch, its last closed one, how many swaps there were, what is fixed for each epoch, and the summaries
+/// of the closed ones. What is fixed for an epoch above the greatest one is room for it, and so is a summary above the last
+/// closed epoch.
 #[derive(Drop)]
 pub(crate) struct LogState {
     epoch: u32,
     lce: u32,
-    specs: BTreeMap<u32, Spec>,
+    swaps: u32,
+    fixed: BTreeMap<u32, Fixed>,
     summaries: BTreeMap<u32, Summary>,
 }
 
 impl Model for LogState {
     ghost use Rattle.ld_msg.specs.Register.{Epochs};
-    ghost use Rattle.ld_register.specs.Kept.{IsLogSound};
+    ghost use Rattle.ld_register.specs.Kept.{IsLogSound, fixed_in, swapped_in};
 
     ghost Value = { Epochs };
 
-    ghost view = { λ a. record { epoch = a.epoch; lce = a.lce; specs = a.specs.entries; summaries = a.summaries.entries } };
+    ghost view = { λ a. record { epoch = a.epoch; lce = a.lce; specs = fixed_in a.fixed.entries; swapped = swapped_in a.fixed.entries; swaps = a.swaps; summaries = a.summaries.entries } };
 
-    ghost invariant = { λ a. IsLogSound (record { epoch = a.epoch; lce = a.lce; specs = a.specs.entries; summaries = a.summaries.entries }) };
+    ghost invariant = { λ a. IsLogSound (record { epoch = a.epoch; lce = a.lce; specs = fixed_in a.fixed.entries; swapped = swapped_in a.fixed.entries; swaps = a.swaps; summaries = a.summaries.entries }) };
 }
 
 impl LogState {
@@ -42,16 +46,17 @@ impl LogState {
         LogState {
             epoch: 0,
             lce: 0,
-            specs: BTreeMap::new(alloc),
+            swaps: 0,
+            fixed: BTreeMap::new(alloc),
             summaries: BTreeMap::new(alloc),
         }
     }
 
-    /// Whether an epoch was handed out or closed.
+    /// Whether an epoch was handed out or closed, or there was a swap.
     pub(crate) fn is_held(&self) -> bool
         ensures { result ≡ is_held self.now }
     {
-        0 < self.epoch || 0 < self.lce
+        0 < self.epoch || 0 < self.lce || 0 < self.swaps
     }
 
     /// The greatest epoch.
@@ -70,16 +75,26 @@ impl LogState {
         self.lce
     }
 
-    /// What is fixed for an epoch; for the greatest one where that isn't handed out.
+    /// How many swaps there were.
+    pub(crate) fn swaps(&self) -> u32
+        ensures { result ≡ self.now.swaps }
+    {
+        self.swaps
+    }
+
+    /// What is fixed for an epoch, as swaps left it; for the greatest one where that isn't handed out.
     pub(crate) fn spec(&self, e: u32) -> Option<Spec>
-        ensures value { result ≡ find (epoch_shown (shown_log self.now) e) (shown_log self.now).specs }
+        ensures value { result ≡ find (epoch_shown (shown_log self.now) e) (shown_log self.now).swapped }
         ensures sound { (l : ℕ) → IsLogOf l self.now → IfSome result (IsSpecFor l) }
     {
         let shown = self.shown(e);
         if shown == 0 {
             return None;
         }
-        self.specs.get(&shown).copied()
+        match self.fixed.get(&shown) {
+            Some(fixed) => Some(fixed.swapped),
+            None => None,
+        }
     }
 
     /// The epoch of which is told what is fixed.
@@ -112,7 +127,7 @@ impl LogState {
         ensures room { OnOk result (is_some (find e self.new.specs) ≡ true) }
         ensures of { (l : ℕ) → IsSpecFor l spec.now → IsLogOf l self.old → IsLogOf l self.new }
     {
-        self.specs.insert(e, *spec)?;
+        self.fixed.insert(e, Fixed::new(spec))?;
         Ok(())
     }
 
@@ -136,7 +151,7 @@ impl LogState {
         ensures shown { shown_log self.new ≡ next_epoch (shown_log self.old) spec.now }
         ensures of { (l : ℕ) → IsSpecFor l spec.now → IsLogOf l self.old → IsLogOf l self.new }
     {
-        let _ = self.specs.insert(e, *spec);
+        let _ = self.fixed.insert(e, Fixed::new(spec));
         self.epoch = e;
     }
 
@@ -147,8 +162,8 @@ impl LogState {
         ensures shown { shown_log self.new ≡ unfixed_epoch (shown_log self.old) }
         ensures of { (l : ℕ) → IsLogOf l self.old → IsLogOf l self.new }
     {
-        let _ = self.specs.len();
-        let _ = self.specs.remove(&e);
+        let _ = self.fixed.len();
+        let _ = self.fixed.remove(&e);
         self.epoch = e;
     }
 
@@ -162,5 +177,32 @@ impl LogState {
     {
         let _ = self.summaries.insert(e, *summary);
         self.lce = e;
+    }
+
+    /// In how many closed epochs up to one a swap would put the spare in the place of the member.
+    pub(crate) fn swappable(&self, upto: u32, member: NodeId, spare: NodeId) -> u32
+        ensures { result ≡ swap_count (closed_upto (shown_log self.now) upto) member spare (shown_log self.now).swapped }
+    {
+        count_swaps(&self.fixed, self.last_swapped(upto), member, spare)
+    }
+
+    /// Puts the spare in the place of the member in each closed epoch up to one that has the member and lacks the spare.
+    pub(crate) fn swap(&mut self, upto: u32, member: NodeId, spare: NodeId)
+        requires left { self.old.swaps < 2 ^ 32 - 1 }
+        requires nodes { IsNode member × IsNode spare }
+        ensures shown { shown_log self.new ≡ swapped_epochs (shown_log self.old) upto member spare }
+        ensures of { (l : ℕ) → IsLogOf l self.old → IsLogOf l self.new }
+    {
+        let last = self.last_swapped(upto);
+        swap_all(&mut self.fixed, last, member, spare);
+        self.swaps += 1;
+    }
+
+    /// The last epoch up to one that was handed out and is closed.
+    fn last_swapped(&self, upto: u32) -> u32
+        ensures value { result ≡ min (min upto self.now.lce) self.now.epoch }
+        ensures bound { result ≤ 2 ^ 32 - 2 }
+    {
+        upto.min(self.lce).min(self.epoch)
     }
 }

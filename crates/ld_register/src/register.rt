@@ -7,7 +7,7 @@ ghost use Rattle.ld_msg.specs.Register.{Register as Contents};
 ghost use Rattle.ld_op.specs.Bounds.{IsOp};
 ghost use Rattle.ld_op.specs.declared.op.Op.TheVariants.{Format};
 ghost use Rattle.ld_register.specs.Bounds.{IsSpec, IsSpecFor};
-ghost use Rattle.ld_register.specs.Calls.{activated, after_activate, closed, after_close, drawn, after_draw, looked, IsGrant, IsView, IsFree, ChangedOrNot, Keeps, OneOf, with_and_without, unarmed};
+ghost use Rattle.ld_register.specs.Calls.{activated, after_activate, closed, after_close, drawn, after_draw, swapped, after_swap, looked, IsGrant, IsView, IsFree, ChangedOrNot, Keeps, OneOf, with_and_without, unarmed};
 
 use crate::RegisterFault;
 use ld_ids::{LogId, NodeId, Spec};
@@ -31,18 +31,21 @@ pub struct Drawn {
     pub epochs: Epochs,
 }
 
-/// A log's epoch, its last closed one, the summary of the epoch that was asked for, where it is closed, and what is fixed
-/// for that epoch; where it isn't handed out, what is fixed for the greatest one.
+/// A log's epoch, its last closed one, how many swaps of the log there were, the summary of the epoch that was asked for,
+/// where it is closed, and what is fixed for that epoch, as swaps left it; where it isn't handed out, what is fixed for the
+/// greatest one.
 #[derive(Clone, Copy, Debug, PartialEq, Eq)]
 pub struct View {
     pub epoch: u32,
     pub lce: u32,
+    pub swaps: u32,
     pub summary: Option<Summary>,
     pub spec: Option<Spec>,
 }
 
-/// A register: per log the greatest epoch handed out, what is fixed for each epoch, the last closed one and the summaries
-/// of the closed ones; per node the greatest generation handed out. Its changes are the records of a journal.
+/// A register: per log the greatest epoch handed out, what is fixed for each epoch, the last closed one, the summaries of
+/// the closed ones, and how many swaps there were, which put one node in the place of another one; per node the greatest
+/// generation handed out. Its changes are the records of a journal.
 ///
 /// A call that answers `Failed` has made its change or not. It comes only where the register's own count of faults
 /// rose in the call. Any other refusal has changed nothing, and any other answer leaves the count.
@@ -97,6 +100,7 @@ pub trait Register {
         ensures behind { (lce : ℕ) (next : Option Fixed) → result ≢ Err (RegisterFault.Behind lce next) }
         ensures overtaken { (kept : ℕ) → result ≢ Err (RegisterFault.Overtaken kept) }
         ensures generations { result ≢ Err RegisterFault.GenLimit }
+        ensures swaps { result ≢ Err RegisterFault.SwapLimit }
         ensures steady { IsErrOf result RegisterFault.Failed ⊎ (faults self.new ≡ faults self.old) }
         ensures itself { identity self.new ≡ identity self.old }
         ensures counts { faults self.old ≤ faults self.new };
@@ -136,6 +140,7 @@ pub trait Register {
         ensures damaged { (place : ℕ) → IsErrOf result (RegisterFault.Damaged place) → told self.old → damaged self.old place }
         ensures epochs { result ≢ Err RegisterFault.EpochLimit }
         ensures generations { result ≢ Err RegisterFault.GenLimit }
+        ensures swaps { result ≢ Err RegisterFault.SwapLimit }
         ensures steady { IsErrOf result RegisterFault.Failed ⊎ (faults self.new ≡ faults self.old) }
         ensures itself { identity self.new ≡ identity self.old }
         ensures counts { faults self.old ≤ faults self.new };
@@ -164,13 +169,50 @@ pub trait Register {
         ensures behind { (lce : ℕ) (next : Option Fixed) → result ≢ Err (RegisterFault.Behind lce next) }
         ensures overtaken { (kept : ℕ) → result ≢ Err (RegisterFault.Overtaken kept) }
         ensures epochs { result ≢ Err RegisterFault.EpochLimit }
+        ensures swaps { result ≢ Err RegisterFault.SwapLimit }
         ensures steady { IsErrOf result RegisterFault.Failed ⊎ (faults self.new ≡ faults self.old) }
         ensures itself { identity self.new ≡ identity self.old }
         ensures counts { faults self.old ≤ faults self.new };
 
-    /// Shows the log's epoch, its last closed one, the summary of the epoch `e` exactly where it is closed: where
-    /// 1 <= `e` <= the last closed one, and what is fixed for `e`: for the greatest epoch where `e` isn't handed out, and
-    /// nothing where none was fixed. It changes nothing.
+    /// Puts the spare in the place of the member in each closed epoch of the log up to `upto` whose nodes have the member
+    /// and lack the spare, and says how many these are. Where there are none it changes and writes nothing. What is fixed
+    /// for epochs that aren't closed stays, and so do the factor and the extras of all.
+    ///
+    /// It refuses with `SwapLimit` exactly where there are some and the log has had 2^32-1 swaps, then with `Full` exactly
+    /// where its journal would be longer than 2^40 bytes; with `Damaged` where the bytes are no journal of changes; and with
+    /// `Failed` and `NoMemory` at any point.
+    fn swap(
+        &mut self,
+        alloc: Global,
+        log: LogId,
+        upto: u32,
+        member: NodeId,
+        spare: NodeId,
+    ) -> Result<u32, RegisterFault>
+        ensures answers { (c : Contents) → holds self.old c → IsFree result ⊎ ((result ≡ swapped c log upto member spare) × holds self.new (after_swap c log upto member spare)) }
+        ensures told { told self.old → told self.new }
+        ensures whole { told self.old → IsFree result ⊎ ((c : Contents) × holds self.old c) }
+        ensures settled { told self.old → IsFree result ⊎ ((c : Contents) → may_hold self.new c → holds self.new c) }
+        ensures sure { told self.old → IsFree result ⊎ ((c : Contents) × holds self.new c × leaves self.new (c ∷ [])) }
+        ensures done_or_not { told self.old → ChangedOrNot (may_hold self.old) (may_hold self.new) (λ c. after_swap c log upto member spare) }
+        ensures survives { (cs : List Contents) → told self.old → leaves self.old cs → leaves self.new (with_and_without (λ c. after_swap c log upto member spare) cs) }
+        ensures keeps { IsErrOf result RegisterFault.Failed ⊎ OnErr result (Keeps (holds self.old) (holds self.new) (may_hold self.old) (may_hold self.new)) }
+        ensures exact { (c : Contents) → tells self.old c
+            → (IsErrOf result RegisterFault.NoMemory × tells self.new c) ⊎ ((result ≡ swapped c log upto member spare) × tells self.new (after_swap c log upto member spare)) }
+        ensures failed { IsErrOf result RegisterFault.Failed → Rose (faults self.old) (faults self.new) }
+        ensures damaged { (place : ℕ) → IsErrOf result (RegisterFault.Damaged place) → told self.old → damaged self.old place }
+        ensures logs { result ≢ Err RegisterFault.LogLimit }
+        ensures behind { (lce : ℕ) (next : Option Fixed) → result ≢ Err (RegisterFault.Behind lce next) }
+        ensures overtaken { (kept : ℕ) → result ≢ Err (RegisterFault.Overtaken kept) }
+        ensures epochs { result ≢ Err RegisterFault.EpochLimit }
+        ensures generations { result ≢ Err RegisterFault.GenLimit }
+        ensures steady { IsErrOf result RegisterFault.Failed ⊎ (faults self.new ≡ faults self.old) }
+        ensures itself { identity self.new ≡ identity self.old }
+        ensures counts { faults self.old ≤ faults self.new };
+
+    /// Shows the log's epoch, its last closed one, how many swaps there were, the summary of the epoch `e` exactly where it is
+    /// closed: where 1 <= `e` <= the last closed one, and what is fixed for `e`, as swaps left it: for the greatest epoch
+    /// where `e` isn't handed out, and nothing where none was fixed. It changes nothing.
     ///
     /// It refuses with `Damaged` where the bytes are no journal of changes, and with `Failed` and `NoMemory` at any
     /// point.

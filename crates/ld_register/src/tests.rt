@@ -124,6 +124,7 @@ fn shows<R: Register>(
     let expected = View {
         epoch: 1,
         lce,
+        swaps: 0,
         summary: if lce == 1 { Some(summary(false)) } else { None },
         spec: fixed_over(bits)?,
     };
@@ -375,6 +376,40 @@ fn a_close_that_is_behind_tells_what_is_fixed_next(rt: HostRuntime) -> Result<()
     Ok(())
 }
 
+/// In how many epochs of log 1 node 2 takes the place of node 1.
+pub(crate) fn swap<R: Register>(alloc: Global, register: &mut R) -> Result<u32, RegisterFault> {
+    let Some(spare) = NodeId::new(2) else {
+        return Err(RegisterFault::NoMemory);
+    };
+    register.swap(alloc, log_of(1)?, 9, first_node()?, spare)
+}
+
+/// How many swaps of log 1 are shown, and whether the set of this number is shown as fixed for an epoch.
+pub(crate) fn swaps<R: Register>(
+    alloc: Global,
+    register: &mut R,
+    e: u32,
+    bits: u16,
+) -> Result<(u32, bool), RegisterFault> {
+    let view = register.look(alloc, log_of(1)?, e)?;
+    Ok((view.swaps, view.spec == fixed_over(bits)?))
+}
+
+#[test]
+fn a_spare_takes_the_place_of_a_member_in_closed_epochs(rt: HostRuntime) -> Result<(), Fail> {
+    let alloc = rt.alloc();
+    let mut register = with_epochs(alloc, 2)?;
+    assert_eq!(rt; swap(alloc, &mut register), Ok(0));
+    assert_eq!(rt; close(alloc, &mut register, false), Ok(()));
+    assert_eq!(rt; swap(alloc, &mut register), Ok(1));
+    assert_eq!(rt; swap(alloc, &mut register), Ok(0));
+    let mut register = again(alloc, register);
+    for (e, bits) in [(1, 6), (2, 5)] {
+        assert_eq!(rt; swaps(alloc, &mut register, e, bits), Ok((1, true)));
+    }
+    Ok(())
+}
+
 /// A register on a disk of these bytes.
 fn register_of(alloc: Global, bytes: &[u8]) -> Result<DiskRegister<MemDisk>, Fail>
     requires { length bytes.now ≤ 80 }
@@ -455,5 +490,25 @@ fn an_activation_out_of_bounds_is_damaged(rt: HostRuntime) -> Result<(), Fail> {
         let mut register = register_of(alloc, &bytes)?;
         assert_eq!(rt; view(alloc, &mut register), Err(RegisterFault::Damaged(14)));
     }
+    Ok(())
+}
+
+#[test]
+fn a_swap_is_read_where_it_changes_an_epoch(rt: HostRuntime) -> Result<(), Fail> {
+    let alloc = rt.alloc();
+    let bytes = [
+        1, 0, 0, 0, 13, 19, 0, 0, 0, 1, 0, 0, 0, 1, 0, 5, 1, 2, //
+        1, 0, 0, 0, 30, 20, 0, 0, 0, 1, 0, 0, 0, 1, 0, 0, 0, 2, 0, 0, 0, 0, //
+        0, 0, 0, 0, 0, 0, 0, 0, 0, 0, 0, 1, 0, //
+        1, 0, 0, 0, 11, 21, 0, 0, 0, 1, 0, 0, 0, 1, 1, 2, 0,
+    ];
+    let mut register = register_of(alloc, &bytes)?;
+    assert_eq!(rt; swaps(alloc, &mut register, 1, 6), Ok((1, true)));
+    let bytes = [
+        1, 0, 0, 0, 13, 19, 0, 0, 0, 1, 0, 0, 0, 1, 0, 5, 1, 2, //
+        1, 0, 0, 0, 11, 21, 0, 0, 0, 1, 0, 0, 0, 1, 1, 2, 0,
+    ];
+    let mut register = register_of(alloc, &bytes)?;
+    assert_eq!(rt; view(alloc, &mut register), Err(RegisterFault::Damaged(18)));
     Ok(())
 }

@@ -1,5 +1,6 @@
 use Rattle.std.proofs.Common.{◌∙◌, ◌+◌, ◌&&◌, ◌==◌, ap, sym, not}
-use Rattle.ld_msg.specs.Register.{is_crowded}
+use Rattle.std.specs.Prelude.{nat_lt}
+use Rattle.ld_msg.specs.Register.{is_crowded, swappable, swap_limit}
 use Rattle.ld_register.specs.Changes.{is_next}
 use Rattle.ld_register.specs.Kept.{register_of}
 use Rattle.ld_register.proofs.contents.Contents.is_next.Goals as goal
@@ -22,3 +23,7 @@ returns-in-Lossless c n = c.is_behind-in-Lossless.ensures ∙ (ap (λ b. not b &
 
 pub returns-in-Draw : goal.returns-in-Draw
 returns-in-Draw c n = c.is_behind-in-Draw.ensures ∙ (ap (λ e. e + 1 == c.in-Draw.generation) (c.generation.ensures n) ∙ ap (is_next (register_of c.args.self.now n)) (sym c.in-Draw.is))
+
+pub returns-in-Swap : goal.returns-in-Swap
+returns-in-Swap c n = c.is_swap.ensures ∙ (ap (λ k. nat_lt 0 k && nat_lt c.swaps.result swap_limit) (c.swappable.ensures n)
+    ∙ (ap (λ k. nat_lt 0 (swappable (register_of c.args.self.now n) c.in-Swap.log c.in-Swap.upto c.in-Swap.member c.in-Swap.spare) && nat_lt k swap_limit) (c.swaps.ensures n) ∙ ap (is_next (register_of c.args.self.now n)) (sym c.in-Swap.is)))

@@ -7,6 +7,9 @@ invariant_of-self c = few_same c.self.inside.logs.entries c.room_for_log.new.log
 pub invariant_of-self-in-Activate : goal.invariant_of-self-in-Activate
 invariant_of-self-in-Activate c = few_same c.room_for_log.new.logs.entries c.room_for_spec.new.logs.entries c.room_for_spec.ensures.same c.room_for_spec.ensures.logs (few_same c.self.inside.logs.entries c.room_for_log.new.logs.entries c.room_for_log.ensures.same c.room_for_log.ensures.logs c.self.invariant)
 
+pub invariant_of-self-in-Swap : goal.invariant_of-self-in-Swap
+invariant_of-self-in-Swap c = few_same c.self.inside.logs.entries c.room_for_log-in-Swap.new.logs.entries c.room_for_log-in-Swap.ensures.same c.room_for_log-in-Swap.ensures.logs c.self.invariant
+
 pub invariant_of-self-in-Unfixed : goal.invariant_of-self-in-Unfixed
 invariant_of-self-in-Unfixed c = few_same c.self.inside.logs.entries c.room_for_log-in-Unfixed.new.logs.entries c.room_for_log-in-Unfixed.ensures.same c.room_for_log-in-Unfixed.ensures.logs c.self.invariant
 

@@ -8,17 +8,17 @@ use Rattle.ld_register.proofs.Arming.{arms_close, armed_refused, armed_fell, arm
 use Rattle.ld_register.proofs.faulty.FaultyRegisterRegister.close.Goals as goal
 
 pub returns-in_err-next-clause-meets : goal.returns-in_err-next-clause-meets
-returns-in_err-next-clause-meets g c = armed_refused c.args.self.now c.attempt_close.new.self c.in_err-next.field-0.0 c.from_residual.result _ _ (arms_close c.args.log c.args.epoch c.args.summary.now c.args.short) (err_of c.from_residual.result c.in_err-next.field-0.0 c.from_residual.ensures.1) c.in_err-next.ensures.armed c.in_err-next.ensures.faults c.in_err-next.ensures.refused
+returns-in_err-next-clause-meets g c = armed_refused c.args.self.now c.attempt_close.new.self c.in_err-next.field-0.0 c.from_residual.result _ _ (arms_close c.args.log c.args.epoch c.args.summary.now c.args.short).refused (err_of c.from_residual.result c.in_err-next.field-0.0 c.from_residual.ensures.1) c.in_err-next.ensures.armed c.in_err-next.ensures.faults c.in_err-next.ensures.refused
 
 pub returns-in_err-count_down-clause-meets : goal.returns-in_err-count_down-clause-meets
 returns-in_err-count_down-clause-meets g c = let a = c.in_ok-next.ensures.armed in let k = c.in_err-count_down.ensures.falls in
-    armed_fell c.args.self.now c.attempt_close.new.self c.count_down.new.self c.in_ok-next.next c.from_residual-in_err-count_down.result _ _ (arms_close c.args.log c.args.epoch c.args.summary.now c.args.short)
+    armed_fell c.args.self.now c.attempt_close.new.self c.count_down.new.self c.in_ok-next.next c.from_residual-in_err-count_down.result _ _ ((arms_close c.args.log c.args.epoch c.args.summary.now c.args.short).granted _)
     (err_of c.from_residual-in_err-count_down.result c.in_err-count_down.field-0.0 c.from_residual-in_err-count_down.ensures.1 ∙ ap (λ e. Err e) k.0) (ap falls (sym a) ∙ k.1) c.in_err-count_down.ensures.register
     (c.in_err-count_down.ensures.armed ∙ ap armed_after a) (k.2 ∙ ap (λ n. min (n + 1) (2 ^ 64 - 1)) c.in_ok-next.ensures.faults) c.in_ok-next.ensures.granted
 
 pub returns-clause-meets : goal.returns-clause-meets
 returns-clause-meets g c = let a = c.in_ok-next.ensures.armed in let k = c.in_ok-count_down.ensures.passes in
-    armed_passed c.args.self.now c.attempt_close.new.self c.count_down.new.self c.in_ok-next.next _ _ (arms_close c.args.log c.args.epoch c.args.summary.now c.args.short) (ap falls (sym a) ∙ k.0) c.in_ok-count_down.ensures.register
+    armed_passed c.args.self.now c.attempt_close.new.self c.count_down.new.self c.in_ok-next.next _ _ ((arms_close c.args.log c.args.epoch c.args.summary.now c.args.short).granted _) (ap falls (sym a) ∙ k.0) c.in_ok-count_down.ensures.register
     (c.in_ok-count_down.ensures.armed ∙ ap armed_after a) (k.1 ∙ c.in_ok-next.ensures.faults) c.in_ok-next.ensures.granted
 
 pub returns-in_err-next-clause-fell : goal.returns-in_err-next-clause-fell
