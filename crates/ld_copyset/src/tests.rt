@@ -1,5 +1,5 @@
 // The choice of one number.
-use crate::{TooFew, choose};
+use crate::{TooFew, choose, sender};
 use ld_ids::{NodeId, NodeSet};
 use ld_lsn::Lsn;
 use std::test::Fail;
@@ -32,5 +32,15 @@ fn two_are_too_few_for_three(rt: HostRuntime) -> Result<(), Fail> {
         Ok(_) => assert!(rt; false),
         Err(few) => assert_eq!(rt; few, TooFew(2)),
     }
+    Ok(())
+}
+
+#[test]
+fn one_node_sends_a_number(rt: HostRuntime) -> Result<(), Fail> {
+    let set = set_of(&[1, 2, 3]);
+    let number = Lsn::new(1, 1);
+    assert_eq!(rt; sender(&set, &set_of(&[]), number), NodeId::new(3));
+    assert_eq!(rt; sender(&set, &set_of(&[3]), number), NodeId::new(1));
+    assert_eq!(rt; sender(&set, &set, number), None);
     Ok(())
 }

@@ -12,7 +12,7 @@ pub struct Form {
 }
 
 /// The forms of all events, by their words.
-pub const FORMS: [Form; 19] = [
+pub const FORMS: [Form; 23] = [
     Form {
         word: "activate",
         fields: "S L",
@@ -22,6 +22,11 @@ pub const FORMS: [Form; 19] = [
         word: "append",
         fields: "S HEX",
         bounds: "S is a sequencer's name, HEX an even number of digits 0-9 a-f, or - for the empty payload",
+    },
+    Form {
+        word: "batch",
+        fields: "S HEX,HEX,..",
+        bounds: "S is a sequencer's name, each of 1 to 1024 HEX an even number of digits 0-9 a-f, or - for an empty message",
     },
     Form {
         word: "deliver",
@@ -64,6 +69,16 @@ pub const FORMS: [Form; 19] = [
         bounds: "R is a name of 1 to 16 of a-z 0-9, L a log, 1 to 65535, FROM and UNTIL are numbers eXnY",
     },
     Form {
+        word: "openmsgs",
+        fields: "R L FROM UNTIL",
+        bounds: "R is a name of 1 to 16 of a-z 0-9, L a log, 1 to 65535, FROM and UNTIL are numbers eXnY",
+    },
+    Form {
+        word: "openone",
+        fields: "R L FROM UNTIL",
+        bounds: "R is a name of 1 to 16 of a-z 0-9, L a log, 1 to 65535, FROM and UNTIL are numbers eXnY",
+    },
+    Form {
         word: "poll",
         fields: "R",
         bounds: "R is a reader's name",
@@ -72,6 +87,11 @@ pub const FORMS: [Form; 19] = [
         word: "regfail",
         fields: "K done|undone",
         bounds: "K is a count of changes of the register, 1 to 1000000",
+    },
+    Form {
+        word: "replace",
+        fields: "N M L",
+        bounds: "N and M are nodes, 1 to 16, L a log, 1 to 65535",
     },
     Form {
         word: "retry",
