@@ -178,7 +178,10 @@ fn append_asks(alloc: Global, rest: &str, expected: &str) -> Result<bool, Fail> 
 #[test]
 fn words_of_appends(rt: HostRuntime) -> Result<(), Fail> {
     let cases = [
-        ("--log 1 --port 1 --rounds 1", "append log 1 of 2: r 1 1 false"),
+        (
+            "--log 1 --port 1 --rounds 1",
+            "append log 1 of 2: r 1 1 false",
+        ),
         (
             "--rounds=1000000 --port=65519 --log=65535 --",
             "append log 65535 of 2: r 65519 1000000 false",
@@ -221,7 +224,10 @@ fn tail_asks(alloc: Global, rest: &str, expected: &str) -> Result<bool, Fail> {
 #[test]
 fn words_of_tails(rt: HostRuntime) -> Result<(), Fail> {
     let cases = [
-        ("--from e0n1 --until e0n1", "tail log 1 of 2: r 7000 9 1 1 EachCopy"),
+        (
+            "--from e0n1 --until e0n1",
+            "tail log 1 of 2: r 7000 9 1 1 EachCopy",
+        ),
         (
             "--until=e4294967295n4294967295 --from=e4294967295n4294967295",
             "tail log 1 of 2: r 7000 9 18446744073709551615 18446744073709551615 EachCopy",
