@@ -108,6 +108,20 @@ impl<'a, R: Files<File = File>> Register for FileRegister<'a, R> {
         answer
     }
 
+    fn swap(
+        &mut self,
+        alloc: Global,
+        log: LogId,
+        upto: u32,
+        member: NodeId,
+        spare: NodeId,
+    ) -> Result<u32, RegisterFault> {
+        let mut register = self.fresh(alloc);
+        let answer = register.swap(alloc, log, upto, member, spare);
+        self.count(&answer);
+        answer
+    }
+
     fn look(&mut self, alloc: Global, log: LogId, e: u32) -> Result<View, RegisterFault> {
         let mut register = self.fresh(alloc);
         let answer = register.look(alloc, log, e);
