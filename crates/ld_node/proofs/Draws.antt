@@ -34,7 +34,7 @@ changes_or_fails : (b : Bool) → (if b then Fails else Granted) ≡ AtLimit →
 changes_or_fails true is = absurd (cc is)
 changes_or_fails false is = absurd (cc is)
 
-changed_or_failed : (r next : Register) (body : ℕ) → (change r next body).answer ≡ AtLimit → ⊥
+pub changed_or_failed : (r next : Register) (body : ℕ) → (change r next body).answer ≡ AtLimit → ⊥
 unfolding change
 changed_or_failed r next body is = changes_or_fails (nat_lt journal_limit (r.length + record_length body) || falls r.armed) is
 
@@ -62,16 +62,16 @@ no_room c n is = is_past (draw c n).answer (is_full c draw_length) (handed c n) 
 
 -- ---- what a refused format tells of the register ----
 
-abbrev refused : NodeFault → Result Drawn NodeFault
+abbrev pub refused : {T : Type 0} → NodeFault → Result T NodeFault
 refused fault = Err fault
 
-error_is : (e f : NodeFault) → refused e ≡ refused f → e ≡ f
+pub error_is : {T : Type 0} (e f : NodeFault) → refused {T = T} e ≡ refused {T = T} f → e ≡ f
 error_is e f is = cc is
 
 fault_is : (a b : RegisterFault) → nodes.Register a ≡ nodes.Register b → a ≡ b
 fault_is a b is = cc is
 
-passed_back : (fault told : RegisterFault) → nodes.Register told ≡ of_register fault → fault ≡ told
+pub passed_back : (fault told : RegisterFault) → nodes.Register told ≡ of_register fault → fault ≡ told
 passed_back faults.NoMemory told is = absurd (cc is)
 passed_back faults.Failed told is = sym (fault_is told _ is)
 passed_back (faults.Damaged place) told is = sym (fault_is told _ is)
@@ -80,10 +80,11 @@ passed_back (faults.Behind lce next) told is = sym (fault_is told _ is)
 passed_back (faults.Overtaken kept) told is = sym (fault_is told _ is)
 passed_back faults.EpochLimit told is = sym (fault_is told _ is)
 passed_back faults.GenLimit told is = sym (fault_is told _ is)
+passed_back faults.SwapLimit told is = sym (fault_is told _ is)
 passed_back faults.Full told is = sym (fault_is told _ is)
 
-pub given_by : (r : Result Drawn NodeFault) (fault told : RegisterFault) → IsErr r × IsErrAnd r (λ e. e ≡ of_register fault) → r ≡ refused (nodes.Register told) → fault ≡ told
-given_by (Ok drawn) fault told gives is = absurd gives.1
+pub given_by : {T : Type 0} (r : Result T NodeFault) (fault told : RegisterFault) → IsErr r × IsErrAnd r (λ e. e ≡ of_register fault) → r ≡ refused (nodes.Register told) → fault ≡ told
+given_by (Ok given) fault told gives is = absurd gives.1
 given_by (Err e) fault told gives is = passed_back fault told (sym (error_is e _ is) ∙ gives.1)
 
 module _ (holds holds_now : Register → Type 0) (n : ℕ) where
@@ -103,6 +104,7 @@ module _ (holds holds_now : Register → Type 0) (n : ℕ) where
   generations_end (faults.Behind lce next) is whole answers = absurd (cc is)
   generations_end (faults.Overtaken kept) is whole answers = absurd (cc is)
   generations_end faults.EpochLimit is whole answers = absurd (cc is)
+  generations_end faults.SwapLimit is whole answers = absurd (cc is)
   generations_end faults.Full is whole answers = absurd (cc is)
 
   pub room_ends : (fault : RegisterFault) → fault ≡ faults.Full → IsFree (not_drawn fault) ⊎ ((c : Register) × holds c) → Answers fault → (c : Register) × holds c × (is_full c draw_length ≡ true)
@@ -118,4 +120,5 @@ module _ (holds holds_now : Register → Type 0) (n : ℕ) where
   room_ends (faults.Behind lce next) is whole answers = absurd (cc is)
   room_ends (faults.Overtaken kept) is whole answers = absurd (cc is)
   room_ends faults.EpochLimit is whole answers = absurd (cc is)
+  room_ends faults.SwapLimit is whole answers = absurd (cc is)
   room_ends faults.GenLimit is whole answers = absurd (cc is)

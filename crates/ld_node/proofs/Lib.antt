@@ -5,3 +5,4 @@ pub mod Quiet
 pub mod Looks
 pub mod Sends
 pub mod Draws
+pub mod Swaps

@@ -24,23 +24,24 @@ release_keeps_none : (g : Log) (l y : ℕ) → (on_page g l (bodies.Release y)).
 unfolding on_page
 release_keeps_none g l y = none_either g.lost
 
-number_keeps_none : (n : ℕ) (g : Log) (l bal r : ℕ) (b : Body) (y : ℕ) → number_in b ≡ Some y → (handled_by n g l bal r b).op ≡ None
-number_keeps_none n g l bal r (bodies.Release z) y is = release_keeps_none g l z
-number_keeps_none n g l bal r (bodies.Store s lng w) y is = absurd cc
-number_keeps_none n g l bal r (bodies.Stored s) y is = absurd cc
-number_keeps_none n g l bal r (bodies.SealedHere s k) y is = absurd cc
-number_keeps_none n g l bal r (bodies.LostHere s ro x e) y is = absurd cc
-number_keeps_none n g l bal r (bodies.CleanHere s z) y is = absurd cc
-number_keeps_none n g l bal r (bodies.TrimmedHere s t) y is = absurd cc
-number_keeps_none n g l bal r (bodies.DigestAsk s) y is = absurd cc
-number_keeps_none n g l bal r (bodies.DigestPage from upto trim lng es) y is = absurd cc
-number_keeps_none n g l bal r (bodies.Clean e z) y is = absurd cc
-number_keeps_none n g l bal r (bodies.Trim t) y is = absurd cc
-number_keeps_none n g l bal r (bodies.ReadAsk ro s) y is = absurd cc
-number_keeps_none n g l bal r (bodies.ReadPage ro s u c es) y is = absurd cc
-number_keeps_none n g l bal r (bodies.ReadEnded ro s e lossy) y is = absurd cc
-number_keeps_none n g l bal r (bodies.ReadTrim ro s t) y is = absurd cc
-number_keeps_none n g l bal r (bodies.ReadWait ro s e) y is = absurd cc
+number_keeps_none : (id n : ℕ) (g : Log) (l bal r : ℕ) (b : Body) (y : ℕ) → number_in b ≡ Some y → (handled_by id n g l bal r b).op ≡ None
+number_keeps_none id n g l bal r (bodies.Release z) y is = release_keeps_none g l z
+number_keeps_none id n g l bal r (bodies.Store s lng w) y is = absurd cc
+number_keeps_none id n g l bal r (bodies.Stored s) y is = absurd cc
+number_keeps_none id n g l bal r (bodies.SealedHere s k) y is = absurd cc
+number_keeps_none id n g l bal r (bodies.LostHere s ro x e) y is = absurd cc
+number_keeps_none id n g l bal r (bodies.CleanHere s z) y is = absurd cc
+number_keeps_none id n g l bal r (bodies.TrimmedHere s t) y is = absurd cc
+number_keeps_none id n g l bal r (bodies.DigestAsk s) y is = absurd cc
+number_keeps_none id n g l bal r (bodies.DigestPage from upto trim lng es) y is = absurd cc
+number_keeps_none id n g l bal r (bodies.Clean e z) y is = absurd cc
+number_keeps_none id n g l bal r (bodies.Trim t) y is = absurd cc
+number_keeps_none id n g l bal r (bodies.ReadAsk ro s) y is = absurd cc
+number_keeps_none id n g l bal r (bodies.ReadPage ro s u c es) y is = absurd cc
+number_keeps_none id n g l bal r (bodies.ReadEnded ro s e lossy) y is = absurd cc
+number_keeps_none id n g l bal r (bodies.ReadTrim ro s t) y is = absurd cc
+number_keeps_none id n g l bal r (bodies.ReadWait ro s e) y is = absurd cc
+number_keeps_none id n g l bal r (bodies.ReadOne ro s set excluded) y is = absurd cc
 
 where_for : (b : Bool) (h : Handled) (o : Option ℕ) (y : ℕ) → (o ≡ Some y → h.op ≡ None) → (if b then o else None) ≡ Some y → (if b then h else silent).op ≡ None
 where_for true h o y none is = none is
@@ -49,8 +50,8 @@ where_for false h o y none is = absurd cc
 pub releases_keep_none : (id : ℕ) (known : Known) (released : List (ℕ × ℕ)) (p : Plain) (m : Msg) (y : ℕ) → released_by id known m ≡ Some y → (handled id known released p m).op ≡ None
 unfolding handled released_by
 releases_keep_none id known released p m y is =
-    where_for (is_for id known m) (handled_by p.generation (log_of p m.log) m.log (ballot_of m.from) (released_in released m.log) m.body) (number_in m.body) y
-    (λ number. number_keeps_none p.generation (log_of p m.log) m.log (ballot_of m.from) (released_in released m.log) m.body y number) is
+    where_for (is_for id known m) (handled_by id p.generation (log_of p m.log) m.log (ballot_of m.from) (released_in released m.log) m.body) (number_in m.body) y
+    (λ number. number_keeps_none id p.generation (log_of p m.log) m.log (ballot_of m.from) (released_in released m.log) m.body y number) is
 
 -- where an op is kept, nothing is released
 pub none_raised : (released : List (ℕ × ℕ)) (l : ℕ) (n : Option ℕ) → ((y : ℕ) → n ≡ Some y → ⊥) → raised released l n ≡ released

@@ -25,13 +25,13 @@ use Rattle.ld_node.specs.Known.{Known}
 use Rattle.ld_node.specs.Msgs.{is_node, is_for}
 
 -- a message for the node goes to it
-goes_to : (id : ℕ) (w : Who) → is_node id w ≡ true → w ≡ whos.Node id
+pub goes_to : (id : ℕ) (w : Who) → is_node id w ≡ true → w ≡ whos.Node id
 goes_to id (whos.Node n) is = ap (λ x. whos.Node x) (eqb-true n id is)
 goes_to id (whos.Sequencer e) is = absurd cc
 goes_to id (whos.Reader r) is = absurd cc
 
 pub sends_are : (id : ℕ) (known : Known) (r : ℕ) (p : Plain) (m : Msg) (b : Option Body) → IsNode id → Is64 r → IsWell p → IsMessage m → is_for id known m ≡ true
-    → b ≡ (handled_by p.generation (log_of p m.log) m.log (ballot_of m.from) r m.body).answer → AreMessages (answer_message id m b)
+    → b ≡ (handled_by id p.generation (log_of p m.log) m.log (ballot_of m.from) r m.body).answer → AreMessages (answer_message id m b)
 sends_are id known r p m b node released well is here same =
     let to = goes_to id m.to (and_parts (is_node id m.to) (is_in m.log known.logs) here).0 in
     answers_sent id m b is.log (subst (λ o. MayAnswer id m.from o) (sym same) (message_handled {most = last_carried} (omega arith) p well id node r released m is to).answer)

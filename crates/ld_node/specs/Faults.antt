@@ -23,4 +23,5 @@ of_register (registers.Behind lce next) = nodes.Register (registers.Behind lce n
 of_register (registers.Overtaken kept) = nodes.Register (registers.Overtaken kept)
 of_register registers.EpochLimit = nodes.Register registers.EpochLimit
 of_register registers.GenLimit = nodes.Register registers.GenLimit
+of_register registers.SwapLimit = nodes.Register registers.SwapLimit
 of_register registers.Full = nodes.Register registers.Full

@@ -6,5 +6,6 @@ pub mod Msgs
 pub mod Known
 pub mod Draws
 pub mod Formats
+pub mod Swaps
 pub mod Looks
 pub mod Node

@@ -29,7 +29,7 @@ released_in released l = unwrap_or (find l released) 0
 
 -- what the node makes of a message: nothing where it isn't for it
 unfoldable pub handled : ℕ → Known → List (ℕ × ℕ) → Plain → Msg → Handled
-handled id known released p m = if is_for id known m then handled_by p.generation (log_of p m.log) m.log (ballot_of m.from) (released_in released m.log) m.body else silent
+handled id known released p m = if is_for id known m then handled_by id p.generation (log_of p m.log) m.log (ballot_of m.from) (released_in released m.log) m.body else silent
 
 -- the number that a message releases at the node
 abbrev pub number_in : Body → Option ℕ

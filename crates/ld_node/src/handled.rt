@@ -9,7 +9,7 @@ ghost use Rattle.ld_readnode.specs.Answered.{IsDigestAsk, digest_in};
 ghost use Rattle.ld_op.specs.Handles.{handled_by, ballot_of};
 ghost use Rattle.ld_node.specs.Handling.{IsHandled, op_if, asked_from, store_reply, digest_reply};
 
-use ld_ids::{LogId, NoMemory};
+use ld_ids::{LogId, NoMemory, NodeId};
 use ld_lsn::Lsn;
 use ld_msg::{Body, Entry, Msg};
 use ld_op::{Op, Plain};
@@ -23,9 +23,15 @@ pub struct Handled {
     pub answer: Option<Body>,
 }
 
-/// What a node makes of a message, where readers may have all up to the released number.
-pub fn handle(alloc: Global, plain: &Plain, released: Lsn, msg: &Msg) -> Result<Handled, NoMemory>
-    ensures { IfOk result (λ handled. IsHandled handled (handled_by plain.now.state.generation (log_of plain.now.state msg.now.log) msg.now.log (ballot_of msg.now.from) released msg.now.body)) }
+/// What the node of this number makes of a message, where readers may have all up to the released number.
+pub fn handle(
+    alloc: Global,
+    id: NodeId,
+    plain: &Plain,
+    released: Lsn,
+    msg: &Msg,
+) -> Result<Handled, NoMemory>
+    ensures { IfOk result (λ handled. IsHandled handled (handled_by id plain.now.state.generation (log_of plain.now.state msg.now.log) msg.now.log (ballot_of msg.now.from) released msg.now.body)) }
 {
     if let Body::Store { number, lng, what } = &msg.body {
         let decision = ld_seal::on_store(plain, msg);
@@ -39,7 +45,7 @@ pub fn handle(alloc: Global, plain: &Plain, released: Lsn, msg: &Msg) -> Result<
             answer: Some(reply_to_store(*number, decision)),
         });
     }
-    let handled = answer(alloc, plain, released, msg)?;
+    let handled = answer(alloc, id, plain, released, msg)?;
     Ok(handled)
 }
 
@@ -73,9 +79,15 @@ fn reply_to_store(number: Lsn, decision: Decision) -> Body
 }
 
 /// What a node makes of a message that is no store.
-fn answer(alloc: Global, plain: &Plain, released: Lsn, msg: &Msg) -> Result<Handled, NoMemory>
+fn answer(
+    alloc: Global,
+    id: NodeId,
+    plain: &Plain,
+    released: Lsn,
+    msg: &Msg,
+) -> Result<Handled, NoMemory>
     requires { (n lng : ℕ) (what : Content) → msg.now.body ≡ Store n lng what → ⊥ }
-    ensures { IfOk result (λ handled. IsHandled handled (handled_by plain.now.state.generation (log_of plain.now.state msg.now.log) msg.now.log (ballot_of msg.now.from) released msg.now.body)) }
+    ensures { IfOk result (λ handled. IsHandled handled (handled_by id plain.now.state.generation (log_of plain.now.state msg.now.log) msg.now.log (ballot_of msg.now.from) released msg.now.body)) }
 {
     match &msg.body {
         Body::DigestAsk { .. } => {
@@ -97,6 +109,13 @@ fn answer(alloc: Global, plain: &Plain, released: Lsn, msg: &Msg) -> Result<Hand
                 answer: Some(answer.body),
             })
         }
+        Body::ReadOne { .. } => {
+            let answer = ld_readnode::answer_one(alloc, plain, id, released, msg)?;
+            Ok(Handled {
+                op: None,
+                answer: Some(answer.body),
+            })
+        }
         _ => {
             let handled = on_page(alloc, plain, msg)?;
             Ok(handled)
@@ -107,7 +126,7 @@ fn answer(alloc: Global, plain: &Plain, released: Lsn, msg: &Msg) -> Result<Hand
 /// What a node makes of an ask for a digest: it is sealed by its ballot, where it isn't yet.
 fn on_digest_ask(alloc: Global, plain: &Plain, msg: &Msg) -> Result<Handled, NoMemory>
     requires { IsDigestAsk msg.now.body }
-    ensures { IfOk result (λ handled. IsHandled handled (handled_by plain.now.state.generation (log_of plain.now.state msg.now.log) msg.now.log (ballot_of msg.now.from) 0 msg.now.body)) }
+    ensures { (id : ℕ) → IfOk result (λ handled. IsHandled handled (handled_by id plain.now.state.generation (log_of plain.now.state msg.now.log) msg.now.log (ballot_of msg.now.from) 0 msg.now.body)) }
 {
     let decision = ld_seal::on_digest(plain, msg);
     let body = reply_to_digest(alloc, plain, msg, &decision)?;

@@ -9,6 +9,7 @@ mod keep;
 mod known;
 mod msgs;
 mod node;
+mod replace;
 #[cfg(test)]
 mod tests;
 mod tick;

@@ -128,7 +128,7 @@ pub(crate) fn decide(
     }
     let before = released_in(released, msg.log);
     let _node = id.number();
-    let handled = handle(alloc, plain, before, msg)?;
+    let handled = handle(alloc, id, plain, before, msg)?;
     let replies = reply(alloc, id, msg, handled.answer)?;
     Ok((handled.op, replies))
 }

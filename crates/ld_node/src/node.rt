@@ -4,6 +4,7 @@ use crate::format::format_store;
 use crate::keep::keep;
 use crate::known::Known;
 use crate::msgs::{decide, release, released_by};
+use crate::replace::can_replace;
 use crate::tick::{Ticked, look};
 use ld_config::Config;
 use ld_disk::{Disk, Fault};
@@ -41,8 +42,8 @@ impl<D: Disk> Node<D> {
     ghost use Rattle.ld_store.specs.Ops.{StandsFor, StandsForEither, IsOfFirst, HasNoRoom, IsDamaged};
     ghost use Rattle.ld_store.specs.Loads.{LeftOrMarked, Loads};
     ghost use Rattle.ld_op.specs.Plain.{apply};
-    ghost use Rattle.ld_msg.specs.Register.{Register as Contents, generation_of};
-    ghost use Rattle.ld_register.specs.Calls.{drawn as drawn_by, after_draw, ChangedOrNot, IsFree, Keeps, is_full, draw_length};
+    ghost use Rattle.ld_msg.specs.Register.{Register as Contents, epochs_of, generation_of};
+    ghost use Rattle.ld_register.specs.Calls.{drawn as drawn_by, after_draw, ChangedOrNot, IsFree, Keeps, is_full, draw_length, swap_length};
     ghost use Rattle.ld_register.specs.declared.register.Drawn.{Drawn as Drawing};
     ghost use Rattle.ld_register.specs.declared.fault.RegisterFault.{RegisterFault as Refusal};
     ghost use Rattle.ld_table.specs.Words.{is_in};
@@ -50,6 +51,7 @@ impl<D: Disk> Node<D> {
     ghost use Rattle.ld_node.specs.Known.{known_in};
     ghost use Rattle.ld_op.specs.Bounds.{IsOp};
     ghost use Rattle.ld_node.specs.Draws.{answered, not_drawn};
+    ghost use Rattle.ld_node.specs.Swaps.{can_replace, replaced, after_replace, passed_on, counted, not_swapped};
     ghost use Rattle.ld_node.specs.Loads.{LoadRefused};
     ghost use Rattle.ld_node.specs.Changes.{AreChanges, kept, with_op, calls_of, IsPast};
     ghost use Rattle.ld_node.specs.Msgs.{handled, released_after};
@@ -273,6 +275,7 @@ impl<D: Disk> Node<D> {
         ensures behind { (lce : ℕ) (next : Option Fixed) → result ≢ Err (NodeFault.Register (faults.Behind lce next)) }
         ensures overtaken { (kept : ℕ) → result ≢ Err (NodeFault.Register (faults.Overtaken kept)) }
         ensures epochs { result ≢ Err (NodeFault.Register faults.EpochLimit) }
+        ensures swaps { result ≢ Err (NodeFault.Register faults.SwapLimit) }
         ensures register_damaged { (place : ℕ) → IsErrOf result (NodeFault.Register (faults.Damaged place)) → G.told reg.old → G.damaged reg.old place }
 
         ensures full { (c : Contents) → G.holds reg.old c → IsErrOf result NodeFault.Full
@@ -411,5 +414,76 @@ impl<D: Disk> Node<D> {
         )?;
         keep(alloc, &mut self.store, step.op)?;
         Ok(step.ticked)
+    }
+
+    /// Takes another node's place in each epoch of a log that is closed in the register, has the other node and lacks this
+    /// one, up to the epoch that this node was lost for; and says how many these are. It asks that of the register where
+    /// the configuration has the log and the other node, which isn't this one, and what this one lost of the log is there
+    /// again; else they are none, and nothing is asked. The node itself stays as it is.
+    ///
+    /// It refuses with `Register` as the register's `swap` does: with `SwapLimit` only where the log's count of swaps is
+    /// 2^32-1, with `Full` only where the register's journal has no room, with `Damaged` only where its bytes are no
+    /// journal of its changes, and with `Failed` only where its count of faults rose; with `NeedsLoad` exactly where an
+    /// earlier call answered `Disk`; and with `NoMemory`.
+    pub fn replace<G: Register>(
+        &self,
+        alloc: Global,
+        log: LogId,
+        other: NodeId,
+        reg: &mut G,
+    ) -> Result<u32, NodeFault>
+        ensures count { (c : Contents) → G.holds reg.old c → IfOk result (λ count. (counted count ≡ replaced (id_of self.now) (known_of self.now) (plain_of self.now) log other c)
+            × G.holds reg.new (after_replace (id_of self.now) (known_of self.now) (plain_of self.now) log other c)) }
+
+        // Where the register tells what each call will do, the answer is just this.
+        ensures exact { (c : Contents) → must_load self.now ≡ false → G.tells reg.old c → (IsErrOf result NodeFault.NoMemory × G.tells reg.new c)
+            ⊎ ((result ≡ passed_on (replaced (id_of self.now) (known_of self.now) (plain_of self.now) log other c)) × G.tells reg.new (after_replace (id_of self.now) (known_of self.now) (plain_of self.now) log other c)) }
+
+        // Where the node may not take the other one's place, nothing is asked.
+        ensures idle { must_load self.now ≡ false → can_replace (id_of self.now) (known_of self.now) (plain_of self.now) log other ≡ false → (result ≡ Ok 0) × (reg.new ≡ reg.old) }
+
+        ensures done_or_not { G.told reg.old → ChangedOrNot (G.may_hold reg.old) (G.may_hold reg.new) (after_replace (id_of self.now) (known_of self.now) (plain_of self.now) log other) }
+        ensures told { G.told reg.old → G.told reg.new }
+        ensures settled { G.told reg.old → can_replace (id_of self.now) (known_of self.now) (plain_of self.now) log other ≡ true → OnOk result ((c : Contents) → G.may_hold reg.new c → G.holds reg.new c) }
+
+        // What was held is held with the swap or without it, but where the register failed.
+        ensures held { (c : Contents) → G.holds reg.old c
+            → IsErrOf result (NodeFault.Register faults.Failed) ⊎ G.holds reg.new c ⊎ G.holds reg.new (after_replace (id_of self.now) (known_of self.now) (plain_of self.now) log other c) }
+
+        // A refusal of the register is one of its swap.
+        ensures register { (c : Contents) (fault : Refusal) → G.holds reg.old c → IsErrOf result (NodeFault.Register fault)
+            → IsFree (not_swapped fault) ⊎ (not_swapped fault ≡ replaced (id_of self.now) (known_of self.now) (plain_of self.now) log other c) }
+        ensures register_whole { (fault : Refusal) → IsErrOf result (NodeFault.Register fault) → G.told reg.old → IsFree (not_swapped fault) ⊎ ((c : Contents) × G.holds reg.old c) }
+        ensures register_keeps { (fault : Refusal) → IsErrOf result (NodeFault.Register fault) → (fault ≡ faults.Failed) ⊎ Keeps (G.holds reg.old) (G.holds reg.new) (G.may_hold reg.old) (G.may_hold reg.new) }
+
+        // The log's count of swaps is the greatest; the register's journal has no room for the swap.
+        ensures swaps { IsErrOf result (NodeFault.Register faults.SwapLimit) → G.told reg.old → (c : Contents) × G.holds reg.old c × (2 ^ 32 - 1 ≤ (epochs_of c log).swaps) }
+        ensures register_full { IsErrOf result (NodeFault.Register faults.Full) → G.told reg.old → (c : Contents) × G.holds reg.old c × (is_full c swap_length ≡ true) }
+        ensures logs { result ≢ Err (NodeFault.Register faults.LogLimit) }
+        ensures behind { (lce : ℕ) (next : Option Fixed) → result ≢ Err (NodeFault.Register (faults.Behind lce next)) }
+        ensures overtaken { (kept : ℕ) → result ≢ Err (NodeFault.Register (faults.Overtaken kept)) }
+        ensures epochs { result ≢ Err (NodeFault.Register faults.EpochLimit) }
+        ensures generations { result ≢ Err (NodeFault.Register faults.GenLimit) }
+        ensures register_failed { IsErrOf result (NodeFault.Register faults.Failed) → Rose (G.faults reg.old) (G.faults reg.new) }
+        ensures register_damaged { (place : ℕ) → IsErrOf result (NodeFault.Register (faults.Damaged place)) → G.told reg.old → G.damaged reg.old place }
+        ensures register_steady { IsErrOf result (NodeFault.Register faults.Failed) ⊎ (G.faults reg.new ≡ G.faults reg.old) }
+        ensures memory { result ≢ Err (NodeFault.Register faults.NoMemory) }
+        ensures disk { result ≢ Err NodeFault.Disk }
+        ensures full { result ≢ Err NodeFault.Full }
+        ensures damaged { (place : ℕ) → result ≢ Err (NodeFault.Damaged place) }
+        ensures needs_load { IsErrOf result NodeFault.NeedsLoad ↔ (must_load self.now ≡ true) }
+        ensures needs_no_swap { must_load self.now ≡ true → reg.new ≡ reg.old }
+        ensures itself { G.identity reg.new ≡ G.identity reg.old }
+        ensures counts { G.faults reg.old ≤ G.faults reg.new }
+    {
+        if self.store.needs_load() {
+            return Err(NodeFault::NeedsLoad);
+        }
+        if !can_replace(self.id, &self.known, self.store.plain(), log, other) {
+            return Ok(0);
+        }
+        let upto = self.store.plain().lost_to(log);
+        let count = reg.swap(alloc, log, upto, other, self.id)?;
+        Ok(count)
     }
 }

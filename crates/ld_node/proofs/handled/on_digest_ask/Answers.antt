@@ -8,6 +8,6 @@ use Rattle.ld_node.proofs.Handles.{digest_handled, digest_body}
 use Rattle.ld_node.proofs.handled.on_digest_ask.Goals as goal
 
 pub returns : goal.returns
-returns c = digest_handled c.args.plain.now.state.generation (log_of c.args.plain.now.state c.args.msg.now.log) c.args.msg.now.log (ballot_of c.args.msg.now.from) 0 (asked_from c.args.msg.now.body) c.args.msg.now.body _ (digest_body c.args.msg.now.body c.requires)
+returns c id = digest_handled id c.args.plain.now.state.generation (log_of c.args.plain.now.state c.args.msg.now.log) c.args.msg.now.log (ballot_of c.args.msg.now.from) 0 (asked_from c.args.msg.now.body) c.args.msg.now.body _ (digest_body c.args.msg.now.body c.requires)
     (c.seal.ensures ∙ ap (op_if (ops.Seal c.args.msg.now.log (ballot_of c.args.msg.now.from))) c.on_digest-decision.ensures)
     (ap Some (c.in_ok-body.ensures ∙ ap (digest_reply (asked_from c.args.msg.now.body) (digest_in (log_of c.args.plain.now.state c.args.msg.now.log) c.args.msg.now.body)) c.on_digest-decision.ensures))
