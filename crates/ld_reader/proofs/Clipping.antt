@@ -1,10 +1,13 @@
 -- Items that are clipped.
 use Rattle.std.proofs.Common.{◌≡◌, ℕ, ◌+◌, ◌<◌, min, List, [], ◌∷◌, ◌++◌, None, refl, ap, sym, ◌∙◌, subst, arith}
 use Rattle.std.proofs.lemmas.Bool.Decides.{nat_tests}
-use Rattle.ld_msg.specs.Reading.{Item, TrimTo, RecordHere, HoleHere, BridgeTo, LossHere, LossTo, Verdict, Gives, Confirms, NotYet}
+use Rattle.ld_msg.specs.Reading.{Item, TrimTo, RecordHere, HoleHere, BridgeTo, LossHere, LossTo, Verdict, Gives, Confirms, AsksAll, NotYet}
 use Rattle.ld_msg.specs.Reader.{Reader, after_item, verdict}
 use Rattle.ld_reader.specs.Clipped.{clip, clipped, all_clipped, clipped_verdict}
 use Rattle.ld_reader.specs.Given.{given, after, rows_left}
+use Rattle.ld_reader.specs.Rounds.{ended}
+use Rattle.ld_reader.specs.declared.round.Ending.{Ending}
+use Rattle.ld_reader.specs.declared.round.Ending.TheVariants as endings
 use Rattle.ld_reader.proofs.Giving.{left_falls, item_first}
 
 pub clipped-append : (until : ℕ) (xs ys : List (ℕ × Item)) → all_clipped until (xs ++ ys) ≡ all_clipped until xs ++ all_clipped until ys
@@ -26,17 +29,17 @@ after_clipped d (LossTo last) = ap (λ n. record d { next = n + 1; confirming = 
 pub gives_clipped : (until : ℕ) (v : Verdict) (x : Item) → Gives x ≡ clipped_verdict until v → (i : Item) × (v ≡ Gives i) × (x ≡ clipped until i)
 gives_clipped until (Gives i) x e = (i, refl, cc)
 gives_clipped until (Confirms lost) x e = absurd cc
+gives_clipped until AsksAll x e = absurd cc
 gives_clipped until NotYet x e = absurd cc
 
-pub confirms_clipped : (until : ℕ) (v : Verdict) (lost : List (ℕ × ℕ)) → Confirms lost ≡ clipped_verdict until v → v ≡ Confirms lost
-confirms_clipped until (Gives i) lost e = absurd cc
-confirms_clipped until (Confirms l) lost e = sym e
-confirms_clipped until NotYet lost e = absurd cc
-
-pub not_yet_clipped : (until : ℕ) (v : Verdict) → NotYet ≡ clipped_verdict until v → v ≡ NotYet
-not_yet_clipped until (Gives i) e = absurd cc
-not_yet_clipped until (Confirms l) e = absurd cc
-not_yet_clipped until NotYet e = refl
+-- any other verdict isn't clipped
+pub ends_clipped : (until : ℕ) (v : Verdict) (ending : Ending) → ended ending ≡ clipped_verdict until v → v ≡ ended ending
+ends_clipped until (Gives i) (endings.Confirms lost) e = absurd cc
+ends_clipped until (Gives i) endings.AsksAll e = absurd cc
+ends_clipped until (Gives i) endings.NotYet e = absurd cc
+ends_clipped until (Confirms l) ending e = sym e
+ends_clipped until AsksAll ending e = sym e
+ends_clipped until NotYet ending e = sym e
 
 -- what one item more leaves to give
 pub record StepsOn (d : Reader) (x : Item) : Type 0 where

@@ -6,11 +6,11 @@ use Rattle.std.proofs.lemmas.Bool.Decides.{nat_tests}
 use Rattle.ld_table.specs.Words.{any_of, or_else}
 use Rattle.ld_lsn.specs.Number.{home_epoch, epoch_end, epoch_of, esn_of}
 use Rattle.ld_msg.specs.declared.msg.What.{What}
-use Rattle.ld_msg.specs.declared.msg.What.TheVariants.{Rec, Hole, Bridge, Plug}
+use Rattle.ld_msg.specs.declared.msg.What.TheVariants.{Rec, Hole, Bridge, Plug, Withheld}
 use Rattle.ld_msg.specs.declared.msg.Entry.{Entry}
 use Rattle.ld_msg.specs.declared.msg.Body.{Body}
 use Rattle.ld_msg.specs.declared.msg.Body.TheVariants as bodies
-use Rattle.ld_msg.specs.Reading.{Held, Item, TrimTo, RecordHere, HoleHere, BridgeTo, LossHere, LossTo, Verdict, Gives, Confirms, NotYet, decide, trim_told, trim_held, record_held, hole_held, plug_held, end_shown, end_held, bridge_to, entry_at, page_at, record_of, is_hole, is_plug, entry_verdict, end_verdict, loss_verdict, is_loss, within, lost_held}
+use Rattle.ld_msg.specs.Reading.{Held, Item, TrimTo, RecordHere, HoleHere, BridgeTo, LossHere, LossTo, Verdict, Gives, Confirms, AsksAll, NotYet, decide, trim_told, trim_held, record_held, hole_held, plug_held, withheld_held, end_shown, end_held, bridge_to, entry_at, page_at, record_of, is_hole, is_plug, entry_verdict, copy_verdict, end_verdict, loss_verdict, is_loss, within, lost_held}
 use Rattle.ld_msg.specs.Reader.{item_end}
 use Rattle.ld_reader.specs.Given.{entries_from, rows_of, rows_from}
 
@@ -77,6 +77,7 @@ record_here (Some (Rec q)) p e = let same : q ≡ p = cc in ap (λ r. Some (Rec 
 record_here (Some Hole) p e = absurd cc
 record_here (Some Bridge) p e = absurd cc
 record_here (Some Plug) p e = absurd cc
+record_here (Some Withheld) p e = absurd cc
 
 -- where nothing doesn't pass a test, what passes it is an entry
 entry_here : (test : Option What → Bool) → test None ≡ false → (o : Option What) → test o ≡ true → (w : What) × (o ≡ Some w)
@@ -129,6 +130,13 @@ by_entries s hs None true p other i here hole plug rest e = let same : HoleHere 
 by_entries s hs None false true other i here hole plug rest e = let same : LossHere ≡ i = cc in rw (← same) (any_falls is_plug refl s hs plug)
 by_entries s hs None false false other i here hole plug rest e = rest e
 
+-- nothing is given where all nodes are to be asked
+pub by_copy : (P : Type 0) (w m : Bool) (other : Verdict) (i : Item) → (other ≡ Gives i → P) → copy_verdict w m other ≡ Gives i → P
+by_copy P w m other i rest e = elim (w && m) as (λ b. (if b then AsksAll else other) ≡ Gives i → P) [
+  | true ↦ λ f. absurd cc
+  | false ↦ rest
+] e
+
 pub no_loss : (s : ℕ) (mc : Bool) (set : List ℕ) (hs : List (ℕ × Held)) (i : Item) → loss_verdict s mc set hs ≡ Gives i → ⊥
 no_loss s mc set hs i e = elim (mc && is_loss s set hs) as (λ b. (if b then Confirms (lost_held s (within set hs)) else NotYet) ≡ Gives i → ⊥) [
   | true ↦ λ f. cc
@@ -148,6 +156,8 @@ by_trim s mc set hs true i rest here p other e =
     rw (← same) (trim_falls s (trim_held hs) hs le refl (omega arith))
 by_trim s mc set hs false i rest here p other e = other e
 
-pub table_falls : (s : ℕ) (mc : Bool) (set : List ℕ) (hs : List (ℕ × Held)) (i : Item) → 0 < s → decide s mc set hs ≡ Gives i → rows_from (item_end s i + 1) hs < rows_from s hs
+pub table_falls : (s : ℕ) (m mc : Bool) (set : List ℕ) (hs : List (ℕ × Held)) (i : Item) → 0 < s → decide s m mc set hs ≡ Gives i → rows_from (item_end s i + 1) hs < rows_from s hs
 unfolding decide
-table_falls s mc set hs i p e = by_trim s mc set hs (nat_le s (trim_held hs)) i _ refl p (λ f. by_entries s hs (record_held s hs) (hole_held s hs) (plug_held s hs) _ i refl refl refl (by_end s mc set hs (end_held s hs) i refl) f) e
+table_falls s m mc set hs i p e =
+    by_trim s mc set hs (nat_le s (trim_held hs)) i _ refl p
+    (λ f. by_entries s hs (record_held s hs) (hole_held s hs) (plug_held s hs) _ i refl refl refl (by_copy _ (withheld_held s hs) m _ i (by_end s mc set hs (end_held s hs) i refl)) f) e

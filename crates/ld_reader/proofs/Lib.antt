@@ -6,4 +6,5 @@ pub mod Giving
 pub mod Keys
 pub mod Looking
 pub mod Rows
+pub mod Sharing
 pub mod Tiling

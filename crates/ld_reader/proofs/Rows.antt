@@ -1,9 +1,11 @@
 -- A reader on the way through its table.
-use Rattle.std.proofs.Common.{◌≡◌, ℕ, ◌<◌, List, [], ◌∷◌, ◌++◌, Option, ap, sym, ◌∙◌, append_assoc, append-nil}
+use Rattle.std.proofs.Common.{◌≡◌, ℕ, ◌<◌, List, [], ◌∷◌, ◌++◌, ap, sym, ◌∙◌, append_assoc, append-nil}
 use Rattle.ld_msg.specs.Reading.{Item}
 use Rattle.ld_msg.specs.Reader.{Reader, after_item, verdict}
 use Rattle.ld_reader.specs.Clipped.{all_clipped}
-use Rattle.ld_reader.specs.Given.{given, after, ended}
+use Rattle.ld_reader.specs.Given.{given, after}
+use Rattle.ld_reader.specs.Rounds.{ended}
+use Rattle.ld_reader.specs.declared.round.Ending.{Ending}
 use Rattle.ld_reader.proofs.Giving.{nothing_more}
 use Rattle.ld_reader.proofs.Clipping.{StepsOn}
 
@@ -22,15 +24,15 @@ goes_on start now before items x way s = record {
 }
 
 -- what the reader gave in all
-pub record Arrived (start : Reader) (before : List (ℕ × Item)) (now : Reader) (items : List (ℕ × Item)) (lost : Option (List (ℕ × ℕ))) : Type 0 where
+pub record Arrived (start : Reader) (before : List (ℕ × Item)) (now : Reader) (items : List (ℕ × Item)) (last : Ending) : Type 0 where
   pub there : now ≡ after start
   pub all : items ≡ before ++ all_clipped start.until (given start)
-  pub ending : verdict (after start) ≡ ended lost
+  pub ending : verdict (after start) ≡ ended last
 
-pub arrives : (start now : Reader) (before items : List (ℕ × Item)) (lost : Option (List (ℕ × ℕ))) → OnTheWay start before now items → 0 < now.next
-    → verdict now ≡ ended lost → Arrived start before now items lost
-arrives start now before items lost way p e =
-    let none = nothing_more now lost p e in
+pub arrives : (start now : Reader) (before items : List (ℕ × Item)) (ending : Ending) → OnTheWay start before now items → 0 < now.next
+    → verdict now ≡ ended ending → Arrived start before now items ending
+arrives start now before items ending way p e =
+    let none = nothing_more now ending p e in
     let there : now ≡ after start = sym none.1 ∙ way.ends in
     record {
       there = there;

@@ -1,19 +1,19 @@
 -- What a reader gives tiles the numbers from its next one on.
 use Rattle.std.proofs.Common.{◌≡◌, ℕ, zero, suc, ◌+◌, ◌≤◌, min, List, [], ◌∷◌, ◌++◌, Option, Some, None, Bool, true, false, refl, ap, sym, subst, arith}
-use Rattle.std.specs.Prelude.{nat_le, if◌then◌else◌}
+use Rattle.std.specs.Prelude.{nat_le, nat_lt, if◌then◌else◌}
 use Rattle.std.specs.List.{All}
 use Rattle.std.proofs.lemmas.Bool.Decides.{nat_tests}
 use Rattle.std.proofs.lemmas.List.Elements.{All-nil, All-cons}
 use Rattle.ld_msg.specs.declared.msg.Body.{Body}
-use Rattle.ld_msg.specs.Reading.{Held, Item, TrimTo, RecordHere, HoleHere, BridgeTo, LossHere, LossTo, Verdict, Gives, Confirms, NotYet, decide, trim_held, record_held, hole_held, plug_held, end_held, bridge_to, entry_verdict, end_verdict, loss_verdict}
+use Rattle.ld_msg.specs.Reading.{Held, Item, TrimTo, RecordHere, HoleHere, BridgeTo, LossHere, LossTo, Verdict, Gives, Confirms, AsksAll, NotYet, decide, trim_held, record_held, hole_held, plug_held, withheld_held, end_held, bridge_to, entry_verdict, end_verdict, loss_verdict}
 use Rattle.ld_msg.specs.declared.msg.Msg.{Msg}
 use Rattle.ld_msg.specs.Register.{View}
-use Rattle.ld_msg.specs.Reader.{Reader, Read, is_finished, item_end, gives, confirms, verdict, may_confirm, seen_nodes, gives_all, most_items, heard, loses, is_confirmed, next_round, asks_on, polled, on_answer}
+use Rattle.ld_msg.specs.Reader.{Reader, Read, is_finished, item_end, gives, confirms, asks_all, verdict, misses, may_confirm, seen_nodes, gives_all, most_items, heard, heard_on, loses, is_confirmed, is_swapped, look_of, next_round, nothing_read, asks_on, starts, start_asks, round_of, on_answer}
 use Rattle.ld_reader.specs.Clipped.{clipped, all_clipped}
 use Rattle.ld_reader.specs.Following.{Following, with_reader, HasDone}
 use Rattle.ld_reader.specs.Tiling.{Tiles, TileByCalls, items_of, StandsWithin}
 use Rattle.ld_reader.proofs.Clipping.{clipped-append}
-use Rattle.ld_reader.proofs.Falling.{below_end, no_loss}
+use Rattle.ld_reader.proofs.Falling.{below_end, no_loss, by_copy}
 
 -- ---- lists ----
 
@@ -70,9 +70,11 @@ by_trim : (s t : ℕ) (b : Bool) (i : Item) (rest : Verdict) → nat_le s t ≡ 
 by_trim s t true i rest here other e = let same : TrimTo t ≡ i = cc in subst (λ k. s ≤ item_end s k) same (grind (arith, nat_tests))
 by_trim s t false i rest here other e = other e
 
-table_goes_on : (s : ℕ) (mc : Bool) (set : List ℕ) (hs : List (ℕ × Held)) (i : Item) → decide s mc set hs ≡ Gives i → s ≤ item_end s i
+table_goes_on : (s : ℕ) (m mc : Bool) (set : List ℕ) (hs : List (ℕ × Held)) (i : Item) → decide s m mc set hs ≡ Gives i → s ≤ item_end s i
 unfolding decide
-table_goes_on s mc set hs i e = by_trim s (trim_held hs) (nat_le s (trim_held hs)) i _ refl (λ f. by_entries s (record_held s hs) (hole_held s hs) (plug_held s hs) _ i (by_end s mc set hs (end_held s hs) i) f) e
+table_goes_on s m mc set hs i e =
+    by_trim s (trim_held hs) (nat_le s (trim_held hs)) i _ refl
+    (λ f. by_entries s (record_held s hs) (hole_held s hs) (plug_held s hs) _ i (by_copy _ (withheld_held s hs) m _ i (by_end s mc set hs (end_held s hs) i)) f) e
 
 -- ---- a reader ----
 
@@ -92,33 +94,50 @@ gives_tiled from until a i t h l = record {
 confirms_tiled : (looks : ℕ → View) (from until : ℕ) (a : Read) (lost : List (ℕ × ℕ)) → HasTiled from until a → HasTiled from until (confirms looks a lost)
 confirms_tiled looks from until a lost t = record { until = t.until; within = t.within; tiles = t.tiles }
 
-given_ends : (d : Reader) (b : Bool) (i : Item) → is_finished d ≡ b → (if b then NotYet else decide d.next (may_confirm d) (seen_nodes d.seen) d.held) ≡ Gives i → (d.next ≤ d.until) × (d.next ≤ item_end d.next i)
+all_asked_tiled : (looks : ℕ → View) (from until : ℕ) (a : Read) → HasTiled from until a → HasTiled from until (asks_all looks a)
+all_asked_tiled looks from until a t = record { until = t.until; within = t.within; tiles = t.tiles }
+
+given_ends : (d : Reader) (b : Bool) (i : Item) → is_finished d ≡ b → (if b then NotYet else decide d.next (misses d d.senders) (may_confirm d) (seen_nodes d.seen) d.held) ≡ Gives i → (d.next ≤ d.until) × (d.next ≤ item_end d.next i)
 given_ends d true i f e = absurd cc
-given_ends d false i f e = (grind (arith, nat_tests), table_goes_on d.next (may_confirm d) (seen_nodes d.seen) d.held i e)
+given_ends d false i f e = (grind (arith, nat_tests), table_goes_on d.next (misses d d.senders) (may_confirm d) (seen_nodes d.seen) d.held i e)
 
 all_tiled : (k : ℕ) (looks : ℕ → View) (from until : ℕ) (a : Read) → HasTiled from until a → HasTiled from until (gives_all k looks a)
 all_tiled zero looks from until a t = t
-all_tiled (suc k) looks from until a t = elim (verdict a.reader) as (λ v. verdict a.reader ≡ v → HasTiled from until (elim v [ Gives i ↦ gives_all k looks (gives a i) | Confirms lost ↦ confirms looks a lost | NotYet ↦ a ])) [
+all_tiled (suc k) looks from until a t = elim (verdict a.reader) as (λ v. verdict a.reader ≡ v → HasTiled from until (elim v [ Gives i ↦ gives_all k looks (gives a i) | Confirms lost ↦ confirms looks a lost | AsksAll ↦ asks_all looks a | NotYet ↦ a ])) [
   | Gives i ↦ λ e. let g = given_ends a.reader (is_finished a.reader) i refl e in
       all_tiled k looks from until (gives a i) (gives_tiled from until a i t (omega (arith, g.0, t.until)) g.1)
   | Confirms lost ↦ λ e. confirms_tiled looks from until a lost t
+  | AsksAll ↦ λ e. all_asked_tiled looks from until a t
   | NotYet ↦ λ e. t
 ] refl
 
-next_tiled : (looks : ℕ → View) (from until : ℕ) (a : Read) (b : Bool) → HasTiled from until a → HasTiled from until (record { reader = if b then polled looks a.reader else a.reader; items = a.items; asks = (next_round looks a).asks })
+next_tiled : (looks : ℕ → View) (from until : ℕ) (a : Read) (b : Bool) → HasTiled from until a → HasTiled from until (record { reader = if b then starts false looks a.reader else a.reader; items = a.items; asks = (next_round looks a).asks; anew = a.anew })
 next_tiled looks from until a true t = record { until = t.until; within = t.within; tiles = t.tiles }
 next_tiled looks from until a false t = record { until = t.until; within = t.within; tiles = t.tiles }
 
-loss_tiled : (d : Reader) (b : Bool) → d.next ≤ d.until → HasTiled d.next d.until (if b then gives (record { reader = d; items = []; asks = [] }) LossHere else record { reader = d; items = []; asks = [] })
-loss_tiled d true h = gives_tiled d.next d.until (record { reader = d; items = []; asks = [] }) LossHere (record { until = refl; within = omega arith; tiles = refl }) h (omega arith)
-loss_tiled d false h = record { until = refl; within = omega arith; tiles = refl }
+loss_tiled : (d : Reader) (o : View) (b : Bool) → d.next ≤ d.until → HasTiled d.next d.until (if b then gives (nothing_read (record d { seen = Some o })) LossHere else nothing_read d)
+loss_tiled d o true h = gives_tiled d.next d.until (nothing_read (record d { seen = Some o })) LossHere (record { until = refl; within = omega arith; tiles = refl }) h (omega arith)
+loss_tiled d o false h = record { until = refl; within = omega arith; tiles = refl }
+
+nothing_tiled : (d : Reader) → d.next ≤ d.until → HasTiled d.next d.until (nothing_read d)
+nothing_tiled d h = record { until = refl; within = omega arith; tiles = refl }
+
+heard_tiled : (looks : ℕ → View) (d : Reader) → d.next ≤ d.until → HasTiled d.next d.until (heard_on looks d)
+heard_tiled looks d h =
+    let a = gives_all (most_items d) looks (loses looks d) in
+    elim (is_swapped looks d) as (λ b. HasTiled d.next d.until (if b then record { reader = starts false looks d; items = []; asks = start_asks false looks d; anew = true } else next_round looks a)) [
+      | true ↦ record { until = refl; within = omega arith; tiles = refl }
+      | false ↦ next_tiled looks d.next d.until a (asks_on a) (all_tiled (most_items d) looks d.next d.until (loses looks d) (loss_tiled d (look_of looks d) (is_confirmed d.confirming) h))
+    ]
 
 pub answer_tiles : (looks : ℕ → View) (d : Reader) (y : ℕ) (b : Body) → is_finished d ≡ false → HasTiled d.next d.until (on_answer looks d y b)
 unfolding on_answer
 answer_tiles looks d y b f =
-    let a = gives_all (most_items (heard d y b)) looks (loses (heard d y b)) in
     let h : d.next ≤ d.until = grind (arith, nat_tests) in
-    next_tiled looks d.next d.until a (asks_on a) (all_tiled (most_items (heard d y b)) looks d.next d.until (loses (heard d y b)) (loss_tiled (heard d y b) (is_confirmed (heard d y b).confirming) h))
+    elim (nat_lt (round_of b) d.least) as (λ n. HasTiled d.next d.until (if n then nothing_read d else heard_on looks (heard d y b))) [
+      | true ↦ nothing_tiled d h
+      | false ↦ heard_tiled looks (heard d y b) h
+    ]
 
 -- what an answer gives tiles the numbers from the next one before it to the next one after it
 pub record GoesOn (old new : Following) (items : List (ℕ × Item)) : Type 0 where

@@ -1,6 +1,6 @@
 -- Items that end at the last number that a reader wants, where they would go past it.
 use Rattle.std.specs.Prelude.{ℕ, nat_lt, if◌then◌else◌, List, [], ◌∷◌}
-use Rattle.ld_msg.specs.Reading.{Item, TrimTo, RecordHere, HoleHere, BridgeTo, LossHere, LossTo, Verdict, Gives, Confirms, NotYet}
+use Rattle.ld_msg.specs.Reading.{Item, TrimTo, RecordHere, HoleHere, BridgeTo, LossHere, LossTo, Verdict, Gives, Confirms, AsksAll, NotYet}
 
 abbrev pub clip : ℕ → ℕ → ℕ
 clip until last = if nat_lt until last then until else last
@@ -20,4 +20,5 @@ all_clipped until (i ∷ is) = (i.0, clipped until i.1) ∷ all_clipped until is
 abbrev pub clipped_verdict : ℕ → Verdict → Verdict
 clipped_verdict until (Gives item) = Gives (clipped until item)
 clipped_verdict until (Confirms lost) = Confirms lost
+clipped_verdict until AsksAll = AsksAll
 clipped_verdict until NotYet = NotYet

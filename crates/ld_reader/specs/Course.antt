@@ -1,13 +1,13 @@
 -- How far a reader comes by one answer.
-use Rattle.std.specs.Prelude.{ℕ, ◌+◌, List, [], ◌∷◌, ◌++◌, take, Option, Some, None, Bool, true, false, ◌&&◌, nat_lt, if◌then◌else◌}
-use Rattle.ld_ids.specs.Choice.{nodes_of}
-use Rattle.ld_msg.specs.declared.msg.Body.{Body}
+use Rattle.std.specs.Prelude.{ℕ, List, [], ◌∷◌, ◌++◌, take, Option, Some, None, Bool, false, if◌then◌else◌}
 use Rattle.ld_msg.specs.Register.{View}
-use Rattle.ld_msg.specs.Reading.{Item}
-use Rattle.ld_msg.specs.Reader.{Reader, Read, Confirmation, asks_of, keys, last_round, most_items, gives_all, loses, next_round, asks_on}
+use Rattle.ld_msg.specs.Reading.{Item, LossHere}
+use Rattle.ld_msg.specs.Reader.{Reader, Read, Confirmation, is_confirmed, most_items, gives, gives_all, nothing_read, next_round}
 use Rattle.ld_gap.specs.Restored.{restored}
+use Rattle.ld_gap.specs.Slots.{with_slot}
 use Rattle.ld_reader.specs.Place.{Place, behind}
 use Rattle.ld_reader.specs.Following.{Following, with_reader}
+use Rattle.ld_reader.specs.declared.missing.Missed.{Missed}
 use Rattle.ld_reader.specs.declared.course.Course.{Course}
 use Rattle.ld_reader.specs.declared.reader.Noted.{Noted}
 use Rattle.ld_reader.specs.declared.reader.Heard.{Heard}
@@ -26,8 +26,13 @@ told_once n (Some v) = Some (record { round = v.round; asked = v.asked; told = t
 abbrev pub unnoted : Noted → Following → Following
 unnoted n f = with_reader f (record f.reader { confirming = told_once n.told f.reader.confirming })
 
+-- what was noted of a node that it is missing
+abbrev pub unmissed : Option Missed → List (ℕ × ℕ) → List (ℕ × ℕ)
+unmissed None m = m
+unmissed (Some x) m = with_slot x.node x.epoch m
+
 abbrev pub unheard : Heard → Following → Following
-unheard h f = unnoted h.noted (with_reader f (record f.reader { held = restored h.replaced f.reader.held }))
+unheard h f = unnoted h.noted (with_reader f (record f.reader { held = restored h.replaced f.reader.held; missing = unmissed h.missed f.reader.missing }))
 
 -- ---- the items ----
 
@@ -42,27 +47,10 @@ on_course d c = placed d c.place c.confirming
 abbrev pub with_item : Course → Item → Course
 with_item c i = record { place = behind c.place i; confirming = false; items = c.items ++ (c.place.next, i) ∷ [] }
 
--- what follows from an answer that was heard
+-- the loss of the next number comes first, where it is confirmed
+abbrev pub sets_out : Reader → Read
+sets_out d = if is_confirmed d.confirming then gives (nothing_read d) LossHere else nothing_read d
+
+-- what follows from an answer that was heard, and from the look before a loss
 unfoldable pub followed : (ℕ → View) → Reader → Read
-followed looks d = next_round looks (gives_all (most_items d) looks (loses d))
-
--- ---- a round that begins ----
-
-abbrev pub confirmation : ℕ → Option (List (ℕ × ℕ)) → Option Confirmation
-confirmation round None = None
-confirmation round (Some lost) = Some (record { round = round; asked = lost; told = [] })
-
-abbrev pub begun : View → Option (List (ℕ × ℕ)) → Reader → Reader
-begun w lost d = record d { round = d.round + 1; confirming = confirmation (d.round + 1) lost; seen = Some w }
-
-abbrev pub nodes_asked : View → Option (List (ℕ × ℕ)) → List ℕ
-nodes_asked w None = nodes_of w.spec
-nodes_asked w (Some lost) = keys lost
-
-abbrev pub begun_asks : View → Option (List (ℕ × ℕ)) → Reader → List (ℕ × Body)
-begun_asks w lost d = asks_of (d.round + 1) d.next (nodes_asked w lost)
-
--- the lost nodes are asked once more, or there is need of a round and one is left
-abbrev pub begins : Option (List (ℕ × ℕ)) → Read → Bool
-begins None a = asks_on a && nat_lt a.reader.round last_round
-begins (Some lost) a = true
+followed looks d = next_round looks (gives_all (most_items d) looks (sets_out d))

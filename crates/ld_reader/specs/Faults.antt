@@ -15,6 +15,7 @@ of_register (registers.Behind lce next) = readers.Register (registers.Behind lce
 of_register (registers.Overtaken epoch) = readers.Register (registers.Overtaken epoch)
 of_register registers.EpochLimit = readers.Register registers.EpochLimit
 of_register registers.GenLimit = readers.Register registers.GenLimit
+of_register registers.SwapLimit = readers.Register registers.SwapLimit
 of_register registers.Full = readers.Register registers.Full
 
 -- a look failed, or the register's bytes are no journal of changes, or there is no memory left

@@ -1,13 +1,15 @@
 -- A reader with the first nodes, factor and extras of its log, and what it does.
-use Rattle.std.specs.Prelude.{◌≡◌, ℕ, List, [], ◌∷◌, ◌++◌, Option, Some, None, if◌then◌else◌}
+use Rattle.std.specs.Prelude.{◌≡◌, ℕ, false, List, [], ◌∷◌, ◌++◌, if◌then◌else◌}
 use Rattle.ld_ids.specs.declared.set.Spec.{Spec}
 use Rattle.ld_msg.specs.declared.msg.Who.{Who}
 use Rattle.ld_msg.specs.declared.msg.Who.TheVariants as whos
 use Rattle.ld_msg.specs.declared.msg.Body.{Body}
 use Rattle.ld_msg.specs.declared.msg.Msg.{Msg}
 use Rattle.ld_msg.specs.Register.{View}
-use Rattle.ld_msg.specs.Reader.{Reader, Read, is_finished, polled, poll_asks, on_answer, confirming_with, confirms, next_round}
+use Rattle.ld_msg.specs.Reader.{Reader, Read, is_finished, polled, poll_asks, nothing_read, on_answer, confirming_with, tells_missing, missing_with, confirms, asks_all, next_round}
 use Rattle.ld_msg.specs.Reading.{Item}
+use Rattle.ld_reader.specs.declared.round.Ending.{Ending}
+use Rattle.ld_reader.specs.declared.round.Ending.TheVariants as endings
 use Rattle.ld_reader.specs.Clipped.{all_clipped}
 
 -- first counts where the register shows none
@@ -26,18 +28,17 @@ asked looks d = record {
   reader = if is_finished d then d else polled looks d;
   items = [];
   asks = if is_finished d then [] else poll_asks looks d;
+  anew = false;
 }
 
--- after the items: the lost nodes are asked once more, or all nodes under a new round, where there is need
-abbrev pub going_on : (ℕ → View) → Option (List (ℕ × ℕ)) → Read → Read
-going_on looks (Some lost) a = confirms looks a lost
-going_on looks None a = next_round looks a
+-- after the items: the lost nodes are asked once more, or all nodes anew, or under a new round where there is need
+abbrev pub going_on : (ℕ → View) → Ending → Read → Read
+going_on looks (endings.Confirms lost) a = next_round looks (confirms looks a lost)
+going_on looks endings.AsksAll a = asks_all looks a
+going_on looks endings.NotYet a = next_round looks a
 
 abbrev pub read_so_far : Reader → List (ℕ × Item) → Read
-read_so_far d items = record { reader = d; items = items; asks = [] }
-
-abbrev pub nothing_read : Reader → Read
-nothing_read d = record { reader = d; items = []; asks = [] }
+read_so_far d items = record { reader = d; items = items; asks = []; anew = false }
 
 -- a message does nothing to a reader that is finished, or where it comes from no node
 abbrev pub answered : (ℕ → View) → Reader → Who → Body → Read
@@ -51,6 +52,10 @@ replied looks f m = answered looks f.reader m.from m.body
 -- what an answer does to a confirmation
 abbrev pub noted : Reader → ℕ → Body → Reader
 noted d y body = record d { confirming = confirming_with d.confirming y body }
+
+-- and to what was noted of its node
+abbrev pub missed : Reader → ℕ → Body → Reader
+missed d y body = record d { missing = if tells_missing d y body then missing_with d.missing y body else d.missing }
 
 abbrev pub with_reader : Following → Reader → Following
 with_reader f d = record f { reader = d }

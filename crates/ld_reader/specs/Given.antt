@@ -1,10 +1,10 @@
 -- What a reader gives while a row of its table holds.
-use Rattle.std.specs.Prelude.{ℕ, zero, suc, ◌+◌, List, [], ◌∷◌, Option, Some, None, nat_le, if◌then◌else◌}
+use Rattle.std.specs.Prelude.{ℕ, zero, suc, ◌+◌, List, [], ◌∷◌, nat_le, if◌then◌else◌}
 use Rattle.ld_lsn.specs.Number.{home_epoch}
 use Rattle.ld_msg.specs.declared.msg.Entry.{Entry}
 use Rattle.ld_msg.specs.declared.msg.Body.{Body}
 use Rattle.ld_msg.specs.declared.msg.Body.TheVariants as bodies
-use Rattle.ld_msg.specs.Reading.{Held, Item, Verdict, Gives, Confirms, NotYet}
+use Rattle.ld_msg.specs.Reading.{Held, Item, Verdict, Gives, Confirms, AsksAll, NotYet}
 use Rattle.ld_msg.specs.Reader.{Reader, is_finished, after_item, verdict}
 
 -- how many entries stand from a number on
@@ -29,11 +29,11 @@ rows_left d = if is_finished d then 0 else suc (rows_from d.next d.held)
 
 unfoldable pub given_by : ℕ → Reader → List (ℕ × Item)
 given_by zero d = []
-given_by (suc k) d = elim (verdict d) [ Gives i ↦ (d.next, i) ∷ given_by k (after_item d i) | Confirms lost ↦ [] | NotYet ↦ [] ]
+given_by (suc k) d = elim (verdict d) [ Gives i ↦ (d.next, i) ∷ given_by k (after_item d i) | Confirms lost ↦ [] | AsksAll ↦ [] | NotYet ↦ [] ]
 
 unfoldable pub after_by : ℕ → Reader → Reader
 after_by zero d = d
-after_by (suc k) d = elim (verdict d) [ Gives i ↦ after_by k (after_item d i) | Confirms lost ↦ d | NotYet ↦ d ]
+after_by (suc k) d = elim (verdict d) [ Gives i ↦ after_by k (after_item d i) | Confirms lost ↦ d | AsksAll ↦ d | NotYet ↦ d ]
 
 -- the items that a reader gives, and what it is then
 unfoldable pub given : Reader → List (ℕ × Item)
@@ -41,8 +41,3 @@ given d = given_by (rows_left d) d
 
 unfoldable pub after : Reader → Reader
 after d = after_by (rows_left d) d
-
--- the verdict that ends it
-abbrev pub ended : Option (List (ℕ × ℕ)) → Verdict
-ended None = NotYet
-ended (Some lost) = Confirms lost

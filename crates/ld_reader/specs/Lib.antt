@@ -5,5 +5,6 @@ pub mod Following
 pub mod Given
 pub mod Looks
 pub mod Place
+pub mod Rounds
 pub mod Shown
 pub mod Tiling

@@ -1,5 +1,5 @@
 -- What a reader's looks show.
-use Rattle.std.specs.Prelude.{◌≡◌, ℕ}
+use Rattle.std.specs.Prelude.{◌≡◌, ℕ, Option, Some, None}
 use Rattle.ld_ids.specs.declared.set.Spec.{Spec}
 use Rattle.ld_msg.specs.Register as registers
 use Rattle.ld_register.specs.Calls.{IsView}
@@ -20,3 +20,13 @@ pub record IsLook (first : Spec) (log e : ℕ) (w : registers.View) : Type 0 whe
 -- and of each epoch what the looks tell
 abbrev pub AreLooks : Following → (ℕ → registers.View) → Type 0
 AreLooks f looks = (e : ℕ) → IsLook f.first f.reader.log e (looks e)
+
+-- a look that was made before is one of these
+abbrev pub WasMade : (ℕ → registers.View) → Option registers.View → Type 0
+WasMade looks None = Unit {0}
+WasMade looks (Some w) = looks w.at ≡ w
+
+-- and a register showed it
+abbrev pub WasShown : Following → Option registers.View → Type 0
+WasShown f None = Unit {0}
+WasShown f (Some w) = IsLook f.first f.reader.log w.at w

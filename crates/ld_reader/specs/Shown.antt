@@ -11,6 +11,7 @@ use Rattle.ld_reader.specs.declared.item.Item.TheVariants as items
 use Rattle.ld_reader.specs.declared.item.Step.{Step}
 use Rattle.ld_reader.specs.declared.item.Step.TheVariants as steps
 use Rattle.ld_reader.specs.declared.asked.Asked.{Asked}
+use Rattle.ld_reader.specs.Rounds.{ended}
 
 abbrev pub shown_item : Item → reading.Item
 shown_item (items.Trim last) = reading.TrimTo last
@@ -26,9 +27,8 @@ shown_confirming (Some a) told = Some (record { round = a.round; asked = a.lost;
 
 abbrev pub shown_step : Step → reading.Verdict
 shown_step (steps.Gives item) = reading.Gives (shown_item item)
-shown_step (steps.Confirms lost) = reading.Confirms lost
-shown_step steps.NotYet = reading.NotYet
+shown_step (steps.Ends ending) = ended ending
 
 -- what a register shows of an epoch: where nothing was fixed, the log's first nodes, factor and extras count
 abbrev pub shown_view : Spec → ℕ → View → registers.View
-shown_view first e v = record { at = e; epoch = v.epoch; lce = v.lce; summary = v.summary; spec = unwrap_or v.spec first }
+shown_view first e v = record { at = e; epoch = v.epoch; lce = v.lce; swaps = v.swaps; summary = v.summary; spec = unwrap_or v.spec first }

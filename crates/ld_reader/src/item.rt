@@ -6,7 +6,7 @@ ghost use Rattle.ld_gap.specs.Shown.{shown_item as given_item};
 ghost use Rattle.ld_reader.specs.Clipped.{clip, clipped};
 ghost use Rattle.ld_reader.specs.Shown.{shown_item};
 
-use ld_gap::Lost;
+use crate::round::Ending;
 use ld_ids::{NoMemory, Payload};
 use ld_lsn::Lsn;
 use std::alloc::Global;
@@ -72,10 +72,8 @@ impl Item {
 pub enum Step {
     /// The next item.
     Gives(Item),
-    /// These nodes are to be asked once more.
-    Confirms(Lost),
-    /// Nothing.
-    NotYet,
+    /// No item.
+    Ends(Ending),
 }
 
 /// An item, and the number from which it stands.

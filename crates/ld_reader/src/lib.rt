@@ -3,14 +3,18 @@
 
 mod asked;
 mod asks;
+mod beginning;
 mod course;
 mod fault;
 mod following;
 mod item;
 mod laws;
+mod missing;
 mod place;
 mod reader;
+mod round;
 mod seen;
+mod senders;
 #[cfg(test)]
 mod tests;
 

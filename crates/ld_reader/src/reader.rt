@@ -1,29 +1,29 @@
 // A reader of a log.
-ghost use Rattle.std.specs.Prelude.{◌≡◌, ◌≤◌, ◌<◌, ◌+◌, ◌++◌, ◌⊎◌, [], false, IfOk, IfErr, OnOk, OnErr, IsErrOf, All, ℕ, List};
+ghost use Rattle.std.specs.Prelude.{◌≡◌, ◌≤◌, ◌<◌, ◌+◌, ◌++◌, ◌⊎◌, [], false, nat_lt, Some, None, IfOk, IfErr, OnOk, OnErr, IsErrOf, All, ℕ, List};
 ghost use Rattle.ld_io.specs.Causes.{Rose};
-ghost use Rattle.ld_ids.specs.Set.{members};
 ghost use Rattle.ld_lsn.specs.Number.{home_epoch};
 ghost use Rattle.ld_msg.specs.Bounds.{IsMessage, last_reader};
 ghost use Rattle.ld_msg.specs.Register.{Register as Contents, View as Shown};
-ghost use Rattle.ld_msg.specs.Reader.{opened, is_finished, asks_of, heard as hears, last_round};
+ghost use Rattle.ld_msg.specs.Reader.{opened, is_finished, is_single, round_of as round_told, heard as hears};
 ghost use Rattle.ld_register.specs.Calls.{Keeps};
 ghost use Rattle.ld_register.specs.declared.fault.RegisterFault.TheVariants as registers;
-ghost use Rattle.ld_reader.specs.Course.{lasting, unnoted, unheard, placed, begun, begun_asks};
+ghost use Rattle.ld_reader.specs.Course.{lasting, unnoted, unmissed, unheard};
 ghost use Rattle.ld_reader.specs.Faults.{IsOfLook};
-ghost use Rattle.ld_reader.specs.Following.{messages_from, asked as asks, noted as notes, replied, with_reader, HasDone};
-ghost use Rattle.ld_reader.specs.Looks.{looks_of, IsLook, AreLooks};
+ghost use Rattle.ld_reader.specs.Following.{asked as asks, noted as notes, missed as misses, replied, with_reader, HasDone};
+ghost use Rattle.ld_reader.specs.Looks.{looks_of, IsLook, AreLooks, WasMade, WasShown};
 ghost use Rattle.ld_reader.specs.Place.{is_past};
 ghost use Rattle.ld_reader.specs.Tiling.{Tiles};
 
 use crate::asked::{Asked, contains};
-use crate::asks::Ask;
+use crate::missing::{Missed, Missing, lost_epoch};
 use crate::place::Place;
 use crate::seen::Seen;
+use crate::senders::Senders;
 use crate::{Items, ReaderFault};
-use ld_gap::{Held, Lost, Replaced, round_of};
-use ld_ids::{NoMemory, NodeId, NodeSet, Spec};
+use ld_gap::{Held, Replaced, round_of};
+use ld_ids::{NoMemory, NodeId, Spec};
 use ld_lsn::Lsn;
-use ld_msg::{Body, Msg, Outbox, Who};
+use ld_msg::{Body, Msg, Outbox, Style, Who};
 use ld_register::Register;
 use std::alloc::Global;
 use std::marker::Model;
@@ -33,16 +33,25 @@ pub(crate) const LAST_ROUND: u32 = u32::MAX;
 
 /// A reader of a log: it has given all items below its next number, and holds what the nodes have
 /// answered, and what its last look showed.
+///
+/// Answers of rounds below `least` aren't taken any more. `senders` are those of the present round,
+/// where one node sends each payload. `polled` is the next number as it was polled last, 0 before the
+/// first poll. `missing` is kept by readers of single copies alone.
 #[derive(Drop)]
 pub struct Reader {
-    first: Spec,
-    number: u32,
+    pub(crate) first: Spec,
+    pub(crate) number: u32,
+    pub(crate) style: Style,
     pub(crate) place: Place,
     pub(crate) round: u32,
+    pub(crate) least: u32,
     pub(crate) held: Held,
     pub(crate) asked: Option<Asked>,
     pub(crate) told: Vec<NodeId>,
     pub(crate) seen: Option<Seen>,
+    pub(crate) senders: Option<Senders>,
+    polled: Lsn,
+    pub(crate) missing: Missing,
 }
 
 impl Model for Reader {
@@ -64,6 +73,11 @@ impl Model for Reader {
         held = a.held;
         confirming = shown_confirming a.asked a.told.items;
         seen = a.seen;
+        least = a.least;
+        style = a.style;
+        senders = a.senders;
+        polled = a.polled;
+        missing = a.missing;
       };
     } };
 
@@ -82,35 +96,43 @@ pub struct Noted {
 #[derive(Drop)]
 pub struct Heard {
     noted: Noted,
+    missed: Option<Missed>,
     replaced: Option<Replaced>,
 }
 
 impl Reader {
     /// A reader of the log from a number to another, both included; `number` is its place in the
     /// order of opening, at most 999. The nodes of `first` are asked where the register shows none.
+    /// By its style each node sends each payload, or one node does.
     pub fn start(
         alloc: Global,
         first: &Spec,
         number: u32,
         from: Lsn,
         until: Lsn,
+        style: Style,
     ) -> Result<Reader, NoMemory>
         requires number { number ≤ last_reader }
         requires first { 1 ≤ from }
         requires last { from ≤ until }
         ensures first { IfOk result (λ reader. reader.first ≡ first.now) }
-        ensures reader { IfOk result (λ reader. reader.reader ≡ opened first.now.log number from until) }
+        ensures reader { IfOk result (λ reader. reader.reader ≡ opened style first.now.log number from until) }
     {
         let told = Vec::with_capacity(alloc, 16)?;
         Ok(Reader {
             first: *first,
             number,
+            style,
             place: Place::new(from, until),
             round: 0,
+            least: 0,
             held: Held::nothing(),
             asked: None,
             told,
             seen: None,
+            senders: None,
+            polled: Lsn::from_u64(0),
+            missing: Missing::nobody(),
         })
     }
 
@@ -123,19 +145,32 @@ impl Reader {
         self.place.is_past()
     }
 
-    // Looks at the epoch of the next number of a place.
+    /// How it reads.
+    pub fn style(&self) -> Style
+        ensures { result ≡ self.now.reader.style }
+    {
+        self.style
+    }
+
+    // Looks at the epoch of the next number of a place, unless a look at it was made before in the same
+    // call.
     pub(crate) fn look<G: Register>(
         &self,
         alloc: Global,
         place: &Place,
+        made: &Option<Seen>,
         reg: &mut G,
     ) -> Result<Seen, ReaderFault>
         requires { is_past place.now ≡ false }
-        ensures exact { (c : Contents) → G.tells reg.old c → IfOk result (λ seen. (seen ≡ looks_of self.now c (home_epoch place.now.next)) × G.tells reg.new c) }
+        ensures exact { (c : Contents) → G.tells reg.old c → WasMade (looks_of self.now c) made.now
+            → IfOk result (λ seen. (seen ≡ looks_of self.now c (home_epoch place.now.next)) × G.tells reg.new c) }
         ensures foretold { (c : Contents) → G.tells reg.old c → IfErr result (λ fault. (fault ≡ ReaderFault.NoMemory) × G.tells reg.new c) }
-        ensures held { (c : Contents) → G.holds reg.old c → IfOk result (λ seen. (seen ≡ looks_of self.now c (home_epoch place.now.next)) × G.holds reg.new c) }
-        ensures shown { IfOk result (IsLook self.now.first self.now.reader.log (home_epoch place.now.next)) }
-        ensures whole { G.told reg.old → OnOk result ((c : Contents) × G.holds reg.old c) }
+        ensures held { (c : Contents) → G.holds reg.old c → WasMade (looks_of self.now c) made.now
+            → IfOk result (λ seen. (seen ≡ looks_of self.now c (home_epoch place.now.next)) × G.holds reg.new c) }
+        ensures tells { (c : Contents) → G.tells reg.old c → G.tells reg.new c }
+        ensures shown { WasShown self.now made.now → IfOk result (IsLook self.now.first self.now.reader.log (home_epoch place.now.next)) }
+        ensures again { (w : Shown) → made.now ≡ Some w → w.at ≡ home_epoch place.now.next → IfOk result (λ seen. seen ≡ w) }
+        ensures whole { made.now ≡ None → G.told reg.old → OnOk result ((c : Contents) × G.holds reg.old c) }
         ensures told { G.told reg.old → G.told reg.new }
         ensures same { (c : Contents) → G.may_hold reg.new c → G.may_hold reg.old c }
         ensures survives { (cs : List Contents) → G.told reg.old → G.leaves reg.old cs → G.leaves reg.new cs }
@@ -148,78 +183,26 @@ impl Reader {
         ensures itself { G.identity reg.new ≡ G.identity reg.old }
     {
         let epoch = place.epoch();
+        if let Some(seen) = made
+            && seen.is_at(epoch)
+        {
+            return Ok(*seen);
+        }
         let view = reg.look(alloc, self.first.log, epoch)?;
         Ok(Seen::new(&self.first, epoch, &view))
-    }
-
-    // Asks the nodes for the next number of a place. Without memory nothing is sent.
-    fn send(
-        &self,
-        alloc: Global,
-        place: &Place,
-        nodes: &NodeSet,
-        round: u32,
-        out: &mut Outbox,
-    ) -> Result<(), NoMemory>
-        requires { is_past place.now ≡ false }
-        ensures ok { OnOk result (out.new ≡ out.old ++ messages_from self.now.reader.number self.now.reader.log
-            (asks_of round place.now.next (members nodes.now))) }
-        ensures err { OnErr result (out.new ≡ out.old) }
-        ensures messages { All IsMessage out.old → All IsMessage out.new }
-    {
-        if let Some(from) = place.next() {
-            let ask = Ask {
-                reader: self.number,
-                log: self.first.log,
-                round,
-                from,
-            };
-            ask.send_each(alloc, nodes, out)?;
-        }
-        Ok(())
-    }
-
-    // Begins a round at a place, with the look that was made there: the lost nodes are asked once
-    // more, or else all nodes that the look showed. Without memory nothing is sent, and the reader
-    // is as it was.
-    pub(crate) fn begin(
-        &mut self,
-        alloc: Global,
-        place: Place,
-        seen: Seen,
-        lost: Option<Lost>,
-        out: &mut Outbox,
-    ) -> Result<(), NoMemory>
-        requires unfinished { is_past place ≡ false }
-        requires round { self.old.reader.round < last_round }
-        ensures reader { OnOk result (self.new ≡ with_reader self.old (begun seen lost (placed self.old.reader place false))) }
-        ensures sent { OnOk result (out.new ≡ out.old ++ messages_from self.old.reader.number self.old.reader.log
-            (begun_asks seen lost (placed self.old.reader place false))) }
-        ensures reader_err { OnErr result (self.new ≡ self.old) }
-        ensures sent_err { OnErr result (out.new ≡ out.old) }
-        ensures messages { All IsMessage out.old → All IsMessage out.new }
-    {
-        let round = self.round + 1;
-        let nodes = match &lost {
-            Some(lost) => lost.nodes(),
-            None => seen.nodes(),
-        };
-        self.send(alloc, &place, &nodes, round, out)?;
-        self.place = place;
-        self.round = round;
-        self.seen = Some(seen);
-        self.told.clear();
-        self.asked = match lost {
-            Some(lost) => Some(Asked { round, lost }),
-            None => None,
-        };
-        Ok(())
     }
 
     /// Looks at the epoch that the next number belongs to, and asks the nodes that the register
     /// shows for the next number, under a new round; after the last round nothing more is sent, and
     /// no look is made. This ends a confirmation. A reader that is finished looks at nothing and
     /// asks nothing. Each ask is a message that a frame can carry.
+    ///
+    /// Where the look shows another count of swaps than the last one, all that is held is dropped,
+    /// and answers of the rounds before are not taken any more.
+    ///
+    /// For a reader of single copies one node alone is to send each payload, among those that didn't
+    /// answer last that they are lost for this epoch; each node is to send each where none of these
+    /// is left, or where the next number is the one that was polled last.
     ///
     /// It is refused with `Register` and `Failed` or `Damaged` exactly as the look is, and for want
     /// of memory. Then nothing is sent, and the reader is as it was. A look changes nothing of the
@@ -238,7 +221,7 @@ impl Reader {
         ensures acted { OnOk result ((looks : ℕ → Shown) × AreLooks self.old looks × HasDone self.old self.new [] out.old out.new (asks looks self.old.reader)) }
         ensures reader_err { OnErr result (self.new ≡ self.old) }
         ensures sent_err { OnErr result (out.new ≡ out.old) }
-        ensures whole { G.told reg.old → OnOk result ((self.new.reader.round ≡ self.old.reader.round) ⊎ ((c : Contents) × G.holds reg.old c)) }
+        ensures whole { G.told reg.old → OnOk result (((self.new.reader.round ≡ self.old.reader.round) × (self.new.reader.seen ≡ self.old.reader.seen)) ⊎ ((c : Contents) × G.holds reg.old c)) }
         ensures told { G.told reg.old → G.told reg.new }
         ensures same { (c : Contents) → G.may_hold reg.new c → G.may_hold reg.old c }
         ensures survives { (cs : List Contents) → G.told reg.old → G.leaves reg.old cs → G.leaves reg.new cs }
@@ -251,17 +234,27 @@ impl Reader {
         ensures itself { G.identity reg.new ≡ G.identity reg.old }
         ensures messages { All IsMessage out.old → All IsMessage out.new }
     {
-        if self.finished() {
+        let Some(next) = self.place.next() else {
             return Ok(());
-        }
+        };
         if self.round == LAST_ROUND {
             self.asked = None;
+            self.polled = next;
             return Ok(());
         }
         let place = self.place.copy();
-        let seen = self.look(alloc, &place, reg)?;
-        self.begin(alloc, place, seen, None, out)?;
+        let full = self.polled == next;
+        let seen = self.look(alloc, &place, &None, reg)?;
+        self.begin_over(alloc, place, seen, full, false, out)?;
+        self.polled = next;
         Ok(())
+    }
+
+    // Whether the answer is of a round whose answers are not taken any more.
+    fn is_stale(&self, body: &Body) -> bool
+        ensures { result ≡ nat_lt (round_told body.now) self.now.reader.least }
+    {
+        round_of(body) < self.least
     }
 
     // What the answer does to a confirmation, and how that is taken back.
@@ -281,6 +274,29 @@ impl Reader {
         Ok(Noted { lasts, told })
     }
 
+    // Notes whether the node is lost for the epoch that was asked, where one node sends each payload
+    // and the answer is to be held, and tells how that is taken back.
+    fn miss(&mut self, node: NodeId, body: &Body) -> Option<Missed>
+        ensures missed { self.new ≡ with_reader self.old (misses self.old.reader node body.now) }
+        ensures back { with_reader self.new (record self.new.reader { missing = unmissed result self.new.reader.missing }) ≡ self.old }
+    {
+        if !self.is_single() || !self.held.is_newer(node, round_of(body)) {
+            return None;
+        }
+        let epoch = self.missing.exchange(node, lost_epoch(body));
+        Some(Missed { node, epoch })
+    }
+
+    // Whether one node is to send each payload.
+    pub(crate) fn is_single(&self) -> bool
+        ensures { result ≡ is_single self.now.reader.style }
+    {
+        match self.style {
+            Style::OneCopy => true,
+            Style::EachCopy | Style::OfMessages => false,
+        }
+    }
+
     // Holds the answer, and tells how that is taken back.
     fn hear(&mut self, node: NodeId, body: Body) -> Result<Heard, NoMemory>
         ensures heard { IfOk result (λ heard. with_reader self.new (lasting heard.noted.lasts self.new.reader) ≡ with_reader self.old (hears self.old.reader node body)) }
@@ -288,8 +304,13 @@ impl Reader {
         ensures err { OnErr result (self.new ≡ self.old) }
     {
         let noted = self.note(node, &body)?;
+        let missed = self.miss(node, &body);
         let replaced = self.held.hold(node, body);
-        Ok(Heard { noted, replaced })
+        Ok(Heard {
+            noted,
+            missed,
+            replaced,
+        })
     }
 
     // Takes back what was heard.
@@ -297,19 +318,29 @@ impl Reader {
         ensures { self.new ≡ unheard heard self.old }
     {
         self.held.restore(heard.replaced);
+        if let Some(Missed { node, epoch }) = heard.missed {
+            self.missing.exchange(node, epoch);
+        }
         self.told.truncate(heard.noted.told);
     }
 
     /// Takes a node's answer, and answers the items that follow from all answers that are held:
     /// first the loss of the next number, where this answer confirms it, then each item that a row
-    /// of the table gives. Then the lost nodes are asked once more, where the table says so; or
-    /// else the nodes are asked under a new round, where there was an item, the reader isn't
-    /// finished, no confirmation lasts, and no page that is held reaches the next number. Each such
-    /// round begins with a look at the epoch that the next number belongs to, and asks the nodes
-    /// that the register shows.
+    /// of the table gives. Then the lost nodes are asked once more, where the table says so; or all
+    /// nodes are asked anew, where it says that; or else the nodes are asked under a new round, where
+    /// there was an item, the reader isn't finished, no confirmation lasts, and no page that is held
+    /// reaches the next number. Each such round begins with a look at the epoch that the next number
+    /// belongs to, and asks the nodes that the register shows.
     ///
-    /// A message does nothing to a reader that is finished, or where it comes from no node. Each ask
-    /// is a message that a frame can carry.
+    /// Before a loss that is confirmed there is a look too. A look that shows another count of swaps
+    /// than the last one drops all that is held, and answers of the rounds before it are not taken any
+    /// more: where it comes before a loss, a round over all nodes begins, and no item is given; and
+    /// where lost nodes were to be asked once more, all nodes are asked instead, under two rounds where
+    /// an item came before and two are left. One call makes at most one look at each epoch.
+    ///
+    /// A message does nothing to a reader that is finished, where it comes from no node, or where its
+    /// round is one whose answers are not taken any more. Each ask is a message that a frame can
+    /// carry.
     ///
     /// It is refused with `Register` and `Failed` or `Damaged` exactly as the look is, and for want
     /// of memory. Then no item is given, nothing is sent, and the reader is as it was: it doesn't
@@ -331,7 +362,7 @@ impl Reader {
         ensures within { OnOk result (self.new.reader.next ≤ self.old.reader.until + 1) }
         ensures reader_err { OnErr result (self.new ≡ self.old) }
         ensures sent_err { OnErr result (out.new ≡ out.old) }
-        ensures whole { G.told reg.old → OnOk result ((self.new.reader.round ≡ self.old.reader.round) ⊎ ((c : Contents) × G.holds reg.old c)) }
+        ensures whole { G.told reg.old → OnOk result (((self.new.reader.round ≡ self.old.reader.round) × (self.new.reader.seen ≡ self.old.reader.seen)) ⊎ ((c : Contents) × G.holds reg.old c)) }
         ensures told { G.told reg.old → G.told reg.new }
         ensures same { (c : Contents) → G.may_hold reg.new c → G.may_hold reg.old c }
         ensures survives { (cs : List Contents) → G.told reg.old → G.leaves reg.old cs → G.leaves reg.new cs }
@@ -350,9 +381,12 @@ impl Reader {
         let Who::Node(node) = msg.from else {
             return Ok(Items::empty(alloc));
         };
+        if self.is_stale(&msg.body) {
+            return Ok(Items::empty(alloc));
+        }
         let body = msg.body.copy(alloc)?;
         let heard = self.hear(node, body)?;
-        match self.follow(alloc, heard.noted.lasts, reg, out) {
+        match self.react(alloc, heard.noted.lasts, reg, out) {
             Ok(items) => Ok(items),
             Err(refused) => {
                 self.unhear(heard);

@@ -1,7 +1,7 @@
 // What a look at a register showed.
-ghost use Rattle.std.specs.Prelude.{◌≡◌, Some};
+ghost use Rattle.std.specs.Prelude.{◌≡◌, ◌==◌, Some};
 ghost use Rattle.ld_ids.specs.Set.{members};
-ghost use Rattle.ld_msg.specs.Reader.{has_seen as shows, seen_nodes as shown_nodes};
+ghost use Rattle.ld_msg.specs.Reader.{has_seen as shows, seen_nodes as shown_nodes, sees_swap as shows_swap};
 ghost use Rattle.ld_reader.specs.Shown.{shown_view};
 
 use ld_ids::{NodeSet, Spec};
@@ -10,11 +10,12 @@ use ld_register::View;
 use std::marker::Model;
 
 /// What a look at an epoch of a log showed.
-#[derive(Drop)]
+#[derive(Clone, Copy)]
 pub struct Seen {
     at: u32,
     epoch: u32,
     lce: u32,
+    swaps: u32,
     summary: Option<Summary>,
     spec: Spec,
 }
@@ -24,7 +25,9 @@ impl Model for Seen {
 
     ghost Value = { View };
 
-    ghost view = { λ a. record { at = a.at; epoch = a.epoch; lce = a.lce; summary = a.summary; spec = a.spec } };
+    ghost view = { λ a. record { at = a.at; epoch = a.epoch; lce = a.lce; swaps = a.swaps; summary = a.summary; spec = a.spec } };
+
+    ghost inverse = { λ a. record { at = a.at; epoch = a.epoch; lce = a.lce; swaps = a.swaps; summary = a.summary; spec = a.spec } };
 }
 
 impl Seen {
@@ -40,6 +43,7 @@ impl Seen {
             at,
             epoch: view.epoch,
             lce: view.lce,
+            swaps: view.swaps,
             summary: view.summary,
             spec,
         }
@@ -50,6 +54,13 @@ impl Seen {
         ensures { result ≡ self.now.spec.set }
     {
         self.spec.set
+    }
+
+    /// Whether it was a look at this epoch.
+    pub fn is_at(&self, epoch: u32) -> bool
+        ensures { result ≡ (self.now.at == epoch) }
+    {
+        self.at == epoch
     }
 
     // Whether it was a look at this epoch, which was handed out by then.
@@ -67,6 +78,17 @@ pub fn has_seen(seen: &Option<Seen>, epoch: u32) -> bool
     match seen {
         Some(seen) => seen.shows(epoch),
         None => false,
+    }
+}
+
+/// Whether a look shows another count of swaps than the last one, which counts as 0 before the first
+/// look: sets have changed since.
+pub fn sees_swap(seen: &Option<Seen>, look: &Seen) -> bool
+    ensures { result ≡ shows_swap seen.now look.now }
+{
+    match seen {
+        Some(seen) => seen.swaps != look.swaps,
+        None => look.swaps != 0,
     }
 }
 

@@ -11,13 +11,13 @@ pub loop-place-preserved : goal.loop-place-preserved
 loop-place-preserved c = elim c.match-nth.branch [
   | in-Some+in_ok-push w ↦
       let s = c.args.self.now in
-      let sent : c.match-nth.list.items ≡ c.loop-place.list.items ++ asking s.reader s.log s.round s.from w.in-Some.node ∷ [] = rw w.list-is (w.in_ok-push.ensures.items ∙ ap (λ m. c.loop-place.list.items ++ m ∷ []) w.message_to.ensures.exact) in
-      let more = asked_one s.reader s.log s.round s.from (members c.args.nodes.now) c.loop-place.place w.in-Some.node c.loop-place.list.items (sym w.in-Some.ensures.node) in
-      let front = keeps_front c.args.list.now.items c.loop-place.list.items (asking s.reader s.log s.round s.from w.in-Some.node) c.loop-place.invariant.longer c.loop-place.invariant.front in
+      let m = asking s.reader s.log s.senders c.args.round s.from w.in-Some.node in
+      let sent : c.match-nth.list.items ≡ c.loop-place.list.items ++ m ∷ [] = rw w.list-is (w.in_ok-push.ensures.items ∙ ap (λ k. c.loop-place.list.items ++ k ∷ []) w.message_to.ensures.exact) in
+      let more = asked_one s.reader s.log s.senders c.args.round s.from (members c.args.nodes.now) c.loop-place.place w.in-Some.node c.loop-place.list.items (sym w.in-Some.ensures.node) in
       record {
         all = rw sent (more ∙ c.loop-place.invariant.all);
-        longer = rw sent (omega (arith, length-append c.loop-place.list.items (asking s.reader s.log s.round s.from w.in-Some.node ∷ [])));
-        front = rw sent front;
+        longer = rw sent (omega (arith, length-append c.loop-place.list.items (m ∷ [])));
+        front = λ n h. rw sent (keeps_front n c.loop-place.list.items m (omega (arith, h, c.loop-place.invariant.longer)) ∙ c.loop-place.invariant.front n h);
         messages = λ h. rw w.list-is (rw w.in_ok-push.ensures.items (All-push IsMessage c.loop-place.list.items w.message_to.result (c.loop-place.invariant.messages h) w.message_to.ensures.message));
       }
   | in_default w ↦ absurd (there_is (members c.args.nodes.now) c.loop-place.place (omega arith) (sym w.in_default.ensures.node))

@@ -1,13 +1,17 @@
-use Rattle.std.proofs.Common.{arith}
+use Rattle.std.proofs.Common.{◌≡◌, ap, sym, ◌∙◌, subst, arith}
 use Rattle.std.proofs.lemmas.Grind.{common_steps}
 use Rattle.std.proofs.lemmas.Bool.Decides.{nat_tests}
 use Rattle.ld_lsn.specs.Number.{home_epoch}
+use Rattle.ld_msg.specs.Reader.{is_full_poll}
+use Rattle.ld_reader.specs.Rounds.{begun_over}
+use Rattle.ld_reader.specs.Course.{placed}
+use Rattle.ld_reader.specs.Following.{Following, with_reader}
 use Rattle.ld_reader.proofs.Answering.{unasked_so, last_so, asked_so}
 use Rattle.ld_reader.proofs.Looking.{blanks, are_blanks, one_look, at_one, are_one}
 use Rattle.ld_reader.proofs.reader.Reader.ask.Goals as goal
 
-pub returns-then-finished-clause-acted : goal.returns-then-finished-clause-acted
-returns-then-finished-clause-acted g c =
+pub returns-in_default-clause-acted : goal.returns-in_default-clause-acted
+returns-in_default-clause-acted g c =
     let f = c.args.self.now in
     (blanks f, are_blanks f, unasked_so (blanks f) f c.args.out.now (grind (arith, common_steps)))
 
@@ -21,8 +25,9 @@ returns-clause-acted g c =
     let f = c.args.self.now in
     let p = c.copy-place.result in
     let w = c.in_ok-seen.seen in
-    let e = home_epoch p.next in (
-      one_look f e w,
-      are_one f e w c.in_ok-seen.ensures.shown,
-      asked_so (one_look f e w) w f c.begin.new.self p c.args.out.now c.begin.new.out (grind (arith, common_steps)) (grind (arith, nat_tests, common_steps)) (at_one f e w) (grind (arith, common_steps)) c.in_ok-begin.ensures.reader c.in_ok-begin.ensures.sent,
+    let e = home_epoch p.next in
+    let l = one_look (blanks f) e w in (
+      l,
+      are_one f (blanks f) e w (are_blanks f) (c.in_ok-seen.ensures.shown tt),
+      asked_so l w f _ p c.args.out.now c.begin_over.new.out (grind (arith, common_steps)) (grind (arith, nat_tests, common_steps)) (at_one (blanks f) e w) (grind (arith, common_steps)) (grind (arith, common_steps)) (grind (arith, common_steps)),
     )

@@ -1,9 +1,9 @@
-use Rattle.std.proofs.Common.{◌<◌, refl, ap, sym, subst, ◌∙◌, None, Some}
+use Rattle.std.proofs.Common.{◌<◌, refl, ap, sym, subst, ◌∙◌}
 use Rattle.ld_reader.specs.Course.{on_course}
 use Rattle.ld_reader.specs.Given.{rows_left}
 use Rattle.ld_reader.specs.Shown.{shown_item, shown_step}
 use Rattle.ld_reader.specs.declared.course.Course.{Course}
-use Rattle.ld_reader.proofs.Clipping.{steps_on, confirms_clipped, not_yet_clipped}
+use Rattle.ld_reader.proofs.Clipping.{steps_on, ends_clipped}
 use Rattle.ld_reader.proofs.Rows.{OnTheWay, goes_on, arrives}
 use Rattle.ld_reader.proofs.reader.Reader.give_all.Goals as goal
 
@@ -23,16 +23,9 @@ rows-preserved c =
     subst (λ (x : Course). OnTheWay (on_course d c.args.course.now) c.args.course.now.items (on_course d x) x.items) (sym c.in_ok-give-in-Gives.ensures)
     (goes_on (on_course d c.args.course.now) (on_course d c.rows.course) c.args.course.now.items c.rows.course.items (shown_item c.in-Gives.item) c.rows.invariant s)
 
-pub returns-in-Confirms : goal.returns-in-Confirms
-returns-in-Confirms c =
+pub returns-in-Ends : goal.returns-in-Ends
+returns-in-Ends c =
     let d = c.args.self.now.reader in
-    let v = confirms_clipped c.rows.course.place.until _ c.in-Confirms.lost (sym (ap shown_step c.in-Confirms.is) ∙ c.in_ok-item.ensures.step) in
-    let g = arrives (on_course d c.args.course.now) (on_course d c.rows.course) c.args.course.now.items c.rows.course.items (Some c.in-Confirms.lost) c.rows.invariant c.step.ensures.next v in
-    record { reader = g.there; items = g.all; lost = g.ending }
-
-pub returns-in-NotYet : goal.returns-in-NotYet
-returns-in-NotYet c =
-    let d = c.args.self.now.reader in
-    let v = not_yet_clipped c.rows.course.place.until _ (sym (ap shown_step c.in-NotYet.is) ∙ c.in_ok-item.ensures.step) in
-    let g = arrives (on_course d c.args.course.now) (on_course d c.rows.course) c.args.course.now.items c.rows.course.items None c.rows.invariant c.step.ensures.next v in
-    record { reader = g.there; items = g.all; lost = g.ending }
+    let v = ends_clipped c.rows.course.place.until _ c.in-Ends.ending (sym (ap shown_step c.in-Ends.is) ∙ c.in_ok-item.ensures.step) in
+    let g = arrives (on_course d c.args.course.now) (on_course d c.rows.course) c.args.course.now.items c.rows.course.items c.in-Ends.ending c.rows.invariant c.step.ensures.next v in
+    record { reader = g.there; items = g.all; ending = g.ending }

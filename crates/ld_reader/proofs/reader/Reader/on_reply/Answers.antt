@@ -1,10 +1,11 @@
-use Rattle.std.proofs.Common.{◌∙◌, ℕ, List, arith, inr, inl, refl, sym, subst}
+use Rattle.std.proofs.Common.{◌≡◌, ◌∙◌, ℕ, List, false, nat_lt, arith, inr, inl, refl, ap, sym, subst}
 use Rattle.ld_msg.specs.Register.{View}
+use Rattle.ld_msg.specs.Reader.{round_of}
 use Rattle.ld_msg.specs.Reading.{Item}
 use Rattle.ld_reader.specs.Following.{Following, replied, HasDone}
 use Rattle.ld_reader.specs.Tiling.{Tiles}
 use Rattle.ld_reader.specs.Looks.{looks_of, AreLooks}
-use Rattle.ld_reader.proofs.Answering.{past_so, other_so, replied_so, heard_so}
+use Rattle.ld_reader.proofs.Answering.{past_so, other_so, stale_so, replied_so, heard_so}
 use Rattle.ld_reader.proofs.Looking.{blanks, are_blanks}
 use Rattle.ld_reader.proofs.Tiling.{read_tiles}
 use Rattle.ld_reader.proofs.reader.Reader.on_reply.Goals as goal
@@ -27,7 +28,7 @@ returns-in_default g c =
       within = c.finished.ensures.within;
       reader_err = tt;
       sent_err = tt;
-      whole = λ t. inl refl;
+      whole = λ t. inl (refl, refl);
       told = λ t. t;
       same = λ d m. m;
       survives = λ cs t l. l;
@@ -41,40 +42,68 @@ returns-in_default g c =
       messages = λ m. m;
     }
 
+pub returns-then-is_stale-clause-exact : goal.returns-then-is_stale-clause-exact
+returns-then-is_stale-clause-exact g c = λ d t.
+    let f = c.args.self.now in
+    (stale_so (looks_of f d) f c.args.msg.now c.in-Node.node c.empty-then-is_stale.result c.args.out.now c.empty-then-is_stale.ensures (sym c.finished.ensures.finished ∙ c.if-finished.false) c.in-Node.is (sym c.is_stale.ensures ∙ c.if-is_stale.true), t)
+
+pub returns-then-is_stale-clause-held : goal.returns-then-is_stale-clause-held
+returns-then-is_stale-clause-held g c = λ d t.
+    let f = c.args.self.now in
+    (stale_so (looks_of f d) f c.args.msg.now c.in-Node.node c.empty-then-is_stale.result c.args.out.now c.empty-then-is_stale.ensures (sym c.finished.ensures.finished ∙ c.if-finished.false) c.in-Node.is (sym c.is_stale.ensures ∙ c.if-is_stale.true), t)
+
+pub returns-then-is_stale-clause-acted : goal.returns-then-is_stale-clause-acted
+returns-then-is_stale-clause-acted g c =
+    let f = c.args.self.now in
+    (blanks f, are_blanks f, stale_so (blanks f) f c.args.msg.now c.in-Node.node c.empty-then-is_stale.result c.args.out.now c.empty-then-is_stale.ensures (sym c.finished.ensures.finished ∙ c.if-finished.false) c.in-Node.is (sym c.is_stale.ensures ∙ c.if-is_stale.true))
+
 pub returns-in-Ok-clause-exact : goal.returns-in-Ok-clause-exact
 returns-in-Ok-clause-exact g c = λ d t.
     let f = c.args.self.now in
+    let taken : nat_lt (round_of c.in_ok-body.body) f.reader.least ≡ false = ap (λ b. nat_lt (round_of b) f.reader.least) c.in_ok-body.ensures ∙ (sym c.is_stale.ensures ∙ c.if-is_stale.false) in
     let x = c.in-Ok.ensures.exact d t in
-    let h = heard_so (λ k. looks_of k d) f c.hear.new.self c.follow.new.self c.in-Node.node c.in_ok-body.body c.in_ok-heard.heard.noted.lasts c.in-Ok.items c.args.out.now c.follow.new.out c.in_ok-heard.ensures.heard x.0 in
-    (replied_so (looks_of f d) f c.follow.new.self c.args.msg.now c.in-Node.node c.in_ok-body.body c.in-Ok.items c.args.out.now c.follow.new.out (sym c.finished.ensures.finished ∙ c.if-finished.false) c.in-Node.is c.in_ok-body.ensures h, x.1)
+    let h = heard_so (λ k. looks_of k d) f c.hear.new.self c.react.new.self c.in-Node.node c.in_ok-body.body c.in_ok-heard.heard.noted.lasts c.in-Ok.items c.args.out.now c.react.new.out taken c.in_ok-heard.ensures.heard x.0 in
+    (replied_so (looks_of f d) f c.react.new.self c.args.msg.now c.in-Node.node c.in_ok-body.body c.in-Ok.items c.args.out.now c.react.new.out (sym c.finished.ensures.finished ∙ c.if-finished.false) c.in-Node.is c.in_ok-body.ensures h, x.1)
 
 pub returns-in-Ok-clause-held : goal.returns-in-Ok-clause-held
 returns-in-Ok-clause-held g c = λ d t.
     let f = c.args.self.now in
+    let taken : nat_lt (round_of c.in_ok-body.body) f.reader.least ≡ false = ap (λ b. nat_lt (round_of b) f.reader.least) c.in_ok-body.ensures ∙ (sym c.is_stale.ensures ∙ c.if-is_stale.false) in
     let x = c.in-Ok.ensures.held d t in
-    let h = heard_so (λ k. looks_of k d) f c.hear.new.self c.follow.new.self c.in-Node.node c.in_ok-body.body c.in_ok-heard.heard.noted.lasts c.in-Ok.items c.args.out.now c.follow.new.out c.in_ok-heard.ensures.heard x.0 in
-    (replied_so (looks_of f d) f c.follow.new.self c.args.msg.now c.in-Node.node c.in_ok-body.body c.in-Ok.items c.args.out.now c.follow.new.out (sym c.finished.ensures.finished ∙ c.if-finished.false) c.in-Node.is c.in_ok-body.ensures h, x.1)
+    let h = heard_so (λ k. looks_of k d) f c.hear.new.self c.react.new.self c.in-Node.node c.in_ok-body.body c.in_ok-heard.heard.noted.lasts c.in-Ok.items c.args.out.now c.react.new.out taken c.in_ok-heard.ensures.heard x.0 in
+    (replied_so (looks_of f d) f c.react.new.self c.args.msg.now c.in-Node.node c.in_ok-body.body c.in-Ok.items c.args.out.now c.react.new.out (sym c.finished.ensures.finished ∙ c.if-finished.false) c.in-Node.is c.in_ok-body.ensures h, x.1)
 
 pub returns-in-Ok-clause-acted : goal.returns-in-Ok-clause-acted
 returns-in-Ok-clause-acted g c =
     let f = c.args.self.now in
+    let taken : nat_lt (round_of c.in_ok-body.body) f.reader.least ≡ false = ap (λ b. nat_lt (round_of b) f.reader.least) c.in_ok-body.ensures ∙ (sym c.is_stale.ensures ∙ c.if-is_stale.false) in
     let x = c.in-Ok.ensures.acted in
-    let h = heard_so (λ k. x.0) f c.hear.new.self c.follow.new.self c.in-Node.node c.in_ok-body.body c.in_ok-heard.heard.noted.lasts c.in-Ok.items c.args.out.now c.follow.new.out c.in_ok-heard.ensures.heard x.2 in (
+    let h = heard_so (λ k. x.0) f c.hear.new.self c.react.new.self c.in-Node.node c.in_ok-body.body c.in_ok-heard.heard.noted.lasts c.in-Ok.items c.args.out.now c.react.new.out taken c.in_ok-heard.ensures.heard x.2 in (
       x.0,
       subst (λ (k : Following). AreLooks k x.0) c.in_ok-heard.ensures.heard x.1,
-      replied_so x.0 f c.follow.new.self c.args.msg.now c.in-Node.node c.in_ok-body.body c.in-Ok.items c.args.out.now c.follow.new.out (sym c.finished.ensures.finished ∙ c.if-finished.false) c.in-Node.is c.in_ok-body.ensures h,
+      replied_so x.0 f c.react.new.self c.args.msg.now c.in-Node.node c.in_ok-body.body c.in-Ok.items c.args.out.now c.react.new.out (sym c.finished.ensures.finished ∙ c.if-finished.false) c.in-Node.is c.in_ok-body.ensures h,
     )
 
 pub returns-in-Ok-clause-tiles : goal.returns-in-Ok-clause-tiles
 returns-in-Ok-clause-tiles g c =
     let f = c.args.self.now in
+    let taken : nat_lt (round_of c.in_ok-body.body) f.reader.least ≡ false = ap (λ b. nat_lt (round_of b) f.reader.least) c.in_ok-body.ensures ∙ (sym c.is_stale.ensures ∙ c.if-is_stale.false) in
     let x = c.in-Ok.ensures.acted in
-    let h = heard_so (λ k. x.0) f c.hear.new.self c.follow.new.self c.in-Node.node c.in_ok-body.body c.in_ok-heard.heard.noted.lasts c.in-Ok.items c.args.out.now c.follow.new.out c.in_ok-heard.ensures.heard x.2 in
-    (read_tiles x.0 f c.follow.new.self c.in-Node.node c.in_ok-body.body c.in-Ok.items c.args.out.now c.follow.new.out (sym c.finished.ensures.finished ∙ c.if-finished.false) h).tiles
+    let h = heard_so (λ k. x.0) f c.hear.new.self c.react.new.self c.in-Node.node c.in_ok-body.body c.in_ok-heard.heard.noted.lasts c.in-Ok.items c.args.out.now c.react.new.out taken c.in_ok-heard.ensures.heard x.2 in
+    (read_tiles x.0 f c.react.new.self c.in-Node.node c.in_ok-body.body c.in-Ok.items c.args.out.now c.react.new.out (sym c.finished.ensures.finished ∙ c.if-finished.false) h).tiles
 
 pub returns-in-Ok-clause-within : goal.returns-in-Ok-clause-within
 returns-in-Ok-clause-within g c =
     let f = c.args.self.now in
+    let taken : nat_lt (round_of c.in_ok-body.body) f.reader.least ≡ false = ap (λ b. nat_lt (round_of b) f.reader.least) c.in_ok-body.ensures ∙ (sym c.is_stale.ensures ∙ c.if-is_stale.false) in
     let x = c.in-Ok.ensures.acted in
-    let h = heard_so (λ k. x.0) f c.hear.new.self c.follow.new.self c.in-Node.node c.in_ok-body.body c.in_ok-heard.heard.noted.lasts c.in-Ok.items c.args.out.now c.follow.new.out c.in_ok-heard.ensures.heard x.2 in
-    (read_tiles x.0 f c.follow.new.self c.in-Node.node c.in_ok-body.body c.in-Ok.items c.args.out.now c.follow.new.out (sym c.finished.ensures.finished ∙ c.if-finished.false) h).within
+    let h = heard_so (λ k. x.0) f c.hear.new.self c.react.new.self c.in-Node.node c.in_ok-body.body c.in_ok-heard.heard.noted.lasts c.in-Ok.items c.args.out.now c.react.new.out taken c.in_ok-heard.ensures.heard x.2 in
+    (read_tiles x.0 f c.react.new.self c.in-Node.node c.in_ok-body.body c.in-Ok.items c.args.out.now c.react.new.out (sym c.finished.ensures.finished ∙ c.if-finished.false) h).within
+
+pub returns-in-Ok-clause-whole : goal.returns-in-Ok-clause-whole
+returns-in-Ok-clause-whole g c = λ t.
+    let heard = c.in_ok-heard.ensures.heard in
+    elim (c.in-Ok.ensures.whole t) [
+      | inl x ↦ inl (x.0 ∙ ap (λ (v : Following). v.reader.round) heard, x.1 ∙ ap (λ (v : Following). v.reader.seen) heard)
+      | inr x ↦ inr x
+    ]
