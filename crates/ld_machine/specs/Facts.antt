@@ -1,5 +1,5 @@
 -- What is read from a run's steps: what was appended, acknowledged and trimmed, what readers got, and which nodes stood lost.
-use Rattle.std.specs.Prelude.{ℕ, ◌≡◌, List, [], ◌∷◌, filter_map, flat_map, Option, Some, None, Bool, true, false, ◌⊎◌, ◌&&◌, ◌==◌, nat_lt, nat_le, if◌then◌else◌, slice_get}
+use Rattle.std.specs.Prelude.{ℕ, ◌≡◌, List, [], ◌∷◌, ◌++◌, filter_map, flat_map, Option, Some, None, Bool, true, false, ◌⊎◌, ◌&&◌, ◌==◌, nat_lt, nat_le, if◌then◌else◌, slice_get}
 use Rattle.std.specs.Option.{unwrap_or}
 use Rattle.ld_table.specs.Table.{find}
 use Rattle.ld_table.specs.Named.{same}
@@ -14,6 +14,7 @@ use Rattle.ld_config.specs.declared.config.Config.{Config}
 use Rattle.ld_batch.specs.Batch.{packed}
 use Rattle.ld_msg.specs.Register.{Register, epochs_of}
 use Rattle.ld_machine.specs.Config.{has_log}
+use Rattle.ld_machine.specs.Step.{message_lines_from}
 
 -- the nodes, factor and extras of a log's epochs, as a swap left them
 pub record Swapped : Type 0 where
@@ -151,10 +152,19 @@ pub record Issues (hs : List Happened) (l t k : ℕ) : Type 0 where
   pub told : Writes hs k (lines.Trimmed name t)
   pub of_log : OfLog hs l name
 
--- step k wrote a line for each message of the batch, at its place, and no other of the number
+-- a line gives the reader a message of the number
+abbrev pub gives_message : List ℕ → ℕ → Line → Bool
+gives_message name n (lines.BatchMessage r number index m) = same r name && (number == n)
+gives_message name n _ = false
+
+-- step k wrote the messages of the batch one after the other, in order, and no other of the number
 pub record WritesBatch (hs : List Happened) (k : ℕ) (name : List ℕ) (n : ℕ) (ms : List (List ℕ)) : Type 0 where
-  pub each : (i : ℕ) (m : List ℕ) → slice_get ms i ≡ Some m → Writes hs k (lines.BatchMessage name n i m)
-  pub only : (i : ℕ) (m : List ℕ) → Writes hs k (lines.BatchMessage name n i m) → slice_get ms i ≡ Some m
+  pub here : Happened
+  pub at : slice_get hs k ≡ Some here
+  pub before : List Line
+  pub after : List Line
+  pub run : here.lines ≡ before ++ (message_lines_from name n 0 ms ++ after)
+  pub alone : any_of (gives_message name n) (before ++ after) ≡ false
 
 -- step k gave a reader the record
 pub record GivesRecord (c : Config) (hs : List Happened) (l n : ℕ) (p : List ℕ) (k : ℕ) : Type 0 where

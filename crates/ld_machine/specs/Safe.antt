@@ -25,7 +25,7 @@ ItemsTile c hs = (r : List ℕ) (o : Opening) → opening c r hs ≡ Some o → 
 abbrev pub RecordsWereAppended : Config → List Happened → Type 0
 RecordsWereAppended c hs = (l n k : ℕ) (p : List ℕ) → GivesRecord c hs l n p k → (j : ℕ) × (j < k) × Appends hs l n p j
 
--- the step that gives a reader a message gives it each message of the batch that was appended under its number before, at its place, and no other of that number
+-- the step that gives a reader a message gives it all messages of the batch that was appended under its number before, one after the other in their order, and no other of that number
 abbrev pub BatchesWereAppended : Config → List Happened → Type 0
 BatchesWereAppended c hs = (l n k index : ℕ) (m : List ℕ) (g : GivesMessage c hs l n index m k) → (j : ℕ) × (p : List ℕ) × (ms : List (List ℕ)) × (j < k) × (unpacked p ≡ Messages ms) × Appends hs l n p j × WritesBatch hs k g.name n ms
 

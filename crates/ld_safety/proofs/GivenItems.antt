@@ -1,6 +1,7 @@
 -- Readers get only records that were appended, and trims up to points that were issued.
-use Rattle.std.proofs.Common.{◌≡◌, ◌∙◌, ◌⊎◌, ◌≤◌, ◌<◌, ℕ, ◌+◌, max, inl, inr, refl, ap, sym, subst, Bool, true, if◌then◌else◌, nat_lt, ◌==◌, List, [], ◌∷◌, ◌++◌, length, Option, Some, None, arith, slice_get, false}
+use Rattle.std.proofs.Common.{◌≡◌, ◌∙◌, ◌⊎◌, ◌≤◌, ◌<◌, ℕ, ◌+◌, max, inl, inr, refl, ap, sym, subst, Bool, true, if◌then◌else◌, nat_lt, ◌==◌, List, [], ◌∷◌, ◌++◌, length, filter_map, append_assoc, Option, Some, None, arith, slice_get, false}
 use Rattle.std.proofs.lemmas.Bool.{cases_order, ltb-true, eqb-true}
+use Rattle.std.proofs.lemmas.Grind.{flat_map-append}
 use Rattle.ld_table.specs.Table.{find, put}
 use Rattle.ld_table.specs.Named.{find_named}
 use Rattle.ld_table.specs.Words.{or_else}
@@ -21,20 +22,20 @@ use Rattle.ld_msg.specs.Register.{View}
 use Rattle.ld_machine.specs.Config.{looks_at}
 use Rattle.ld_msg.specs.Reader.{Reader, Read, heard, held_with, is_newer, round_of, on_answer, gives, nothing_read, look_of}
 use Rattle.ld_machine.specs.State.{State}
-use Rattle.ld_machine.specs.Facts.{Happened, Opening, opening, opening_of, Interval, Writes, Appends, Issues, ReadsLog, log_activated}
-use Rattle.ld_machine.specs.Safe.{RecordsWereAppended, TrimsWereIssued, BatchesWereAppended}
+use Rattle.ld_machine.specs.Facts.{Happened, Opening, opening, opening_of, Interval, interval_of, intervals, Writes, WritesBatch, Appends, Issues, ReadsLog, log_activated}
+use Rattle.ld_machine.specs.Safe.{TilesFrom, RecordsWereAppended, TrimsWereIssued, BatchesWereAppended}
 use Rattle.ld_machine.specs.World.{World, In}
 use Rattle.ld_machine.specs.Run.{history}
 use Rattle.ld_machine.specs.Step as Step
-use Rattle.ld_safety.proofs.Lists.{Some_inj, not_none, cond_both, branch, In-append, only, first_left, slice_get_left, slice_get_below, In-slice_get, slice_get-In}
+use Rattle.ld_safety.proofs.Lists.{Some_inj, not_none, cond_both, branch, In-append, only, first_left, slice_get_left, slice_get_below, In-slice_get}
 use Rattle.ld_safety.proofs.Members.{In_put}
-use Rattle.ld_safety.proofs.Traces.{Moment, at_end, at_step}
-use Rattle.ld_safety.proofs.Events.{dispatch, NamesOnce, Reading, is_quiet}
-use Rattle.ld_safety.proofs.Steps.{writes_before, finish_In}
+use Rattle.ld_safety.proofs.Traces.{Moment, happened, at_step}
+use Rattle.ld_safety.proofs.Events.{dispatch, Reading, is_quiet}
+use Rattle.ld_safety.proofs.Steps.{writes_before, filter_finish, finish_ends}
 use Rattle.ld_safety.proofs.ItemLines.{line_cases}
 use Rattle.ld_safety.proofs.Lines.{Group, OfItems, OfMessages, group, AllOf, line_of}
 use Rattle.ld_safety.proofs.ReaderSteps.{dropped_held, ReadKeeps, answered}
-use Rattle.ld_safety.proofs.Tiles.{Got, TilesTo, AllGot, Reads, got_of, tiles_kept}
+use Rattle.ld_safety.proofs.Tiles.{Got, TilesTo, AllGot, Reads, got_of, tiles_kept, tiles_part, items_tile, plain_interval}
 use Rattle.ld_safety.proofs.Base.{Base}
 use Rattle.ld_safety.proofs.Given.{AnyEpoch, AnyShown, AnyReleased, SmallGood, AppendedBy, GivenEntry, GivenTrim, GivenSummary}
 use Rattle.ld_safety.proofs.GivenSteps.{Given}
@@ -43,8 +44,7 @@ use Rattle.ld_msg.specs.declared.style.Style.{Style}
 use Rattle.ld_batch.specs.Batch.{Messages, unpacked}
 use Rattle.ld_machine.specs.Invariant.{is_withheld}
 use Rattle.ld_safety.proofs.Withheld.{told_in, told_what}
-use Rattle.ld_safety.proofs.Batches.{BatchAt, one_of, message_in}
-use Rattle.ld_safety.proofs.Numbers.{AllCounts, counts_kept, one_payload}
+use Rattle.ld_safety.proofs.Batches.{RunAt, one_of, message_in, message_run, none_given}
 
 -- ---- what is held ----
 pub entry_found : (s : ℕ) (es : List Entry) (w : What) → entry_at s es ≡ Some w → (e : Entry) × In e es × (e.number ≡ s) × (e.what ≡ w)
@@ -171,17 +171,19 @@ module _ (hs : List Happened) (l : ℕ) where
 
 -- ---- the lines of a step ----
 
--- a message of a batch that was appended
-pub record MessageGiven (hs : List Happened) (s : State) (ls : List Line) (name : List ℕ) (n index : ℕ) (m : List ℕ) : Type 0 where
+-- a message of a batch that was appended, and whose messages are a run where what the lines give tiles
+pub record MessageGiven (hs : List Happened) (s : State) (ls : List Line) (name : List ℕ) (n : ℕ) : Type 0 where
   pub reader : Reader
   pub named : find_named name s.readers ≡ Some reader
   pub payload : List ℕ
-  pub batch : BatchAt ls name n payload index m
   pub appended : AppendedBy hs reader.log n payload
+  pub messages : List (List ℕ)
+  pub reads : unpacked payload ≡ Messages messages
+  pub run : (last next : ℕ) → TilesFrom last next (filter_map (interval_of name) ls) → RunAt ls name n messages
 
 pub record LinesGiven (hs : List Happened) (s : State) (ls : List Line) : Type 0 where
   pub records : (name : List ℕ) (n : ℕ) (p : List ℕ) → In (lines.Record name n p) ls → (d : Reader) × (find_named name s.readers ≡ Some d) × AppendedBy hs d.log n p
-  pub batches : (name : List ℕ) (n index : ℕ) (m : List ℕ) → In (lines.BatchMessage name n index m) ls → MessageGiven hs s ls name n index m
+  pub batches : (name : List ℕ) (n index : ℕ) (m : List ℕ) → In (lines.BatchMessage name n index m) ls → MessageGiven hs s ls name n
   pub trims : (name : List ℕ) (low high : ℕ) → In (lines.Gap name gaps.Trim low high) ls → (d : Reader) × (find_named name s.readers ≡ Some d) × ((k t : ℕ) × (high ≤ t) × Issues hs d.log t k)
 
 other_lines : (hs : List Happened) (s : State) (g : Group) (ls : List Line) → (g ≡ OfItems → ⊥) → AllOf g ls → LinesGiven hs s ls
@@ -191,7 +193,7 @@ item_lines_given : (hs : List Happened) (s : State) (style : Style) (name : List
 item_lines_given hs s style name d until is f h = record {
   records = λ a n p j. let o = one_of style name until is (lines.Record a n p) (λ b k v m q. cc) j in rec_at o.item.0 o.item.1 a n p (h o.item o.there) o.line;
   batches = λ a n index m j. let o = message_in style name until is a n index m j in
-      record { reader = d; named = subst (λ k. find_named k s.readers ≡ Some d) (sym o.whose) f; payload = o.payload; batch = subst (λ k. BatchAt (Step.item_lines style name until is) k n o.payload index m) (sym o.whose) o.batch; appended = h (n, RecordHere o.payload) o.there };
+      record { reader = d; named = subst (λ k. find_named k s.readers ≡ Some d) (sym o.whose) f; payload = o.payload; appended = h (n, RecordHere o.payload) o.there; messages = o.messages; reads = o.reads; run = λ last next t. message_run style name until last next is a n index m o j t };
   trims = λ a low high j. let o = one_of style name until is (lines.Gap a gaps.Trim low high) (λ b k v m q. cc) j in trim_at o.item.0 o.item.1 a low high (h o.item o.there) o.line;
 } where
   rec_at : (s0 : ℕ) (x : Item) (a : List ℕ) (n : ℕ) (p : List ℕ) → ItemGiven hs d.log s0 x → lines.Record a n p ≡ Step.item_line name s0 until x → (d : Reader) × (find_named a s.readers ≡ Some d) × AppendedBy hs d.log n p
@@ -260,7 +262,11 @@ pub record LineAt (c : Config) (P : List Happened → World → Type 0) (hs : Li
   pub split : hs ≡ before ++ after
   pub place : length before ≡ k
   pub there : In x (Step.happens c world.state event).lines
-  pub back : (y : Line) → In y (Step.happens c world.state event).lines → Writes hs k y
+  pub here : Happened
+  pub rest : List Happened
+  pub at : slice_get hs k ≡ Some here
+  pub is : here ≡ happened c world.state event
+  pub tail : after ≡ here ∷ rest
 
 pub line_at : (c : Config) (P : List Happened → World → Type 0) (es : List Event) (k : ℕ) (x : Line) → ((j : ℕ) (h : Happened) → slice_get (history c es) j ≡ Some h → Moment c P (history c es) j h) → (group x ≡ OfMessages → ⊥) → Writes (history c es) k x → LineAt c P (history c es) k x
 line_at c P es k x M n w = let m = M k w.0 w.1 in record {
@@ -272,7 +278,11 @@ line_at c P es k x M n w = let m = M k w.0 w.1 in record {
   split = m.split;
   place = m.place;
   there = line_of (Step.happens c m.world.state m.event) x n (subst (λ (h : Happened). In x h.lines) m.is (In-slice_get x w.0.lines w.2 w.3));
-  back = λ y i. let r = slice_get-In y w.0.lines (subst (λ (h : Happened). In y h.lines) (sym m.is) (finish_In (Step.happens c m.world.state m.event) y i)) in (w.0, w.1, r.0, r.1);
+  here = w.0;
+  rest = m.after;
+  at = w.1;
+  is = m.is;
+  tail = refl;
 }
 
 -- a reader that was there is of the log that it was opened for
@@ -291,48 +301,38 @@ module _ (c : Config) (es : List Event) where
       let b = slice_get_below y.1.here a.before y.0 y.1.at in let z = a.place in
       (y.0, omega arith, subst (λ (hs : List Happened). Appends hs l n p y.0) (sym a.split) (appends_before a.before a.after l n y.0 p y.1))
 
-  once : (l n j k : ℕ) (p q : List ℕ) → Appends (history c es) l n p j → Appends (history c es) l n q k → p ≡ q
-  once l n j k p q a b = let z = at_end c (λ hs w. NamesOnce w.state × AllCounts hs w) (counts_kept c) es in one_payload (history c es) z.0.state.sequencers z.0.state.register z.1.1 l n j k p q a b
+  -- what a step gives a reader tiles
+  step_tiles : (k : ℕ) (x : Line) (name : List ℕ) (o : Opening) (a : LineAt c (Reads c) (history c es) k x) → opening c name (history c es) ≡ Some o → (low : ℕ) × TilesFrom o.until low (filter_map (interval_of name) (Step.happens c a.world.state a.event).lines)
+  step_tiles k x name o a f =
+      let t = subst (λ (hs : List Happened). TilesFrom o.until o.from (intervals name hs)) (a.split ∙ ap (λ (hs : List Happened). a.before ++ hs) a.tail) (items_tile c es name o f) in
+      let p = tiles_part o.until o.from (intervals name a.before) (filter_map (interval_of name) a.here.lines) (intervals name a.rest) (subst (λ is. TilesFrom o.until o.from is) (flat_map-append (λ (h : Happened). filter_map (interval_of name) h.lines) a.before (a.here ∷ a.rest)) t) in
+      (p.0, subst (λ is. TilesFrom o.until p.0 is) (ap (λ (h : Happened). filter_map (interval_of name) h.lines) a.is ∙ filter_finish (interval_of name) (plain_interval name) (Step.happens c a.world.state a.event)) p.1)
 
-  -- the batch of a message: it was appended before, and the step gives each message
-  record BatchOf (l n k index : ℕ) (name m : List ℕ) : Type 0 where
-    step : ℕ
-    payload : List ℕ
-    messages : List (List ℕ)
-    before : step < k
-    reads : unpacked payload ≡ Messages messages
-    appended : Appends (history c es) l n payload step
-    at : slice_get messages index ≡ Some m
-    each : (i : ℕ) (x : List ℕ) → slice_get messages i ≡ Some x → Writes (history c es) k (lines.BatchMessage name n i x)
-
-  batch_of : (l n k index : ℕ) (name m : List ℕ) → Writes (history c es) k (lines.BatchMessage name n index m) → ReadsLog c (history c es) l name → BatchOf l n k index name m
-  batch_of l n k index name m t r =
-      let a = line_at c (Reads c) es k _ (at_step c (Reads c) (tiles_kept c) es) (λ h. cc) t in
-      let x = (lines_given c a.before a.world a.event a.holds.0.0 a.holds.0.1 a.holds.1).batches name n index m a.there in
-      let lg = same_log c a.before a.after (history c es) l name x.reader a.split (got_of c a.before a.world a.holds.1 name x.reader x.named) r in
-      let y : AppendedBy a.before l n x.payload = subst (λ k. AppendedBy a.before k n x.payload) lg x.appended in
-      let b = slice_get_below y.1.here a.before y.0 y.1.at in let u = a.place in record {
-        step = y.0;
-        payload = x.payload;
-        messages = x.batch.messages;
-        before = omega arith;
-        reads = x.batch.reads;
-        appended = subst (λ (hs : List Happened). Appends hs l n x.payload y.0) (sym a.split) (appends_before a.before a.after l n y.0 x.payload y.1);
-        at = x.batch.at;
-        each = λ i o j. a.back _ (x.batch.all i o j);
+  -- the step writes the run, and only plain lines behind the event's own
+  step_writes : (k n index : ℕ) (name m : List ℕ) (ms : List (List ℕ)) (a : LineAt c (Reads c) (history c es) k (lines.BatchMessage name n index m)) → RunAt (Step.happens c a.world.state a.event).lines name n ms → WritesBatch (history c es) k name n ms
+  step_writes k n index name m ms a r =
+      let e = finish_ends (Step.happens c a.world.state a.event) _ a.there in record {
+        here = a.here;
+        at = a.at;
+        before = r.before;
+        after = r.after ++ e.rest;
+        run = ap (λ (h : Happened). h.lines) a.is ∙ (e.is ∙ (ap (λ ls. ls ++ e.rest) r.is ∙ (append_assoc r.before (Step.message_lines_from name n 0 ms ++ r.after) e.rest ∙ ap (λ ls. r.before ++ ls) (append_assoc (Step.message_lines_from name n 0 ms) r.after e.rest))));
+        alone = none_given name n (r.before ++ (r.after ++ e.rest)) (λ i o j. elim (In-append _ r.before (r.after ++ e.rest) j) [
+          | inl x ↦ r.none_before i o x
+          | inr x ↦ elim (In-append _ r.after e.rest x) [ inl y ↦ r.none_after i o y | inr y ↦ absurd (let z = e.plain _ y in cc) ]
+        ]);
       }
-
-  same_batch : (l n k i j : ℕ) (name m o : List ℕ) (a : BatchOf l n k i name m) → BatchOf l n k j name o → slice_get a.messages j ≡ Some o
-  same_batch l n k i j name m o a b =
-      let p : a.payload ≡ b.payload = once l n a.step b.step a.payload b.payload a.appended b.appended in
-      let u : Messages b.messages ≡ Messages a.messages = sym b.reads ∙ (sym (ap unpacked p) ∙ a.reads) in
-      let q : b.messages ≡ a.messages = cc in subst (λ ms. slice_get ms j ≡ Some o) q b.at
 
   -- the messages that a step gives are those of the payload
   pub batches : BatchesWereAppended c (history c es)
   batches l n k index m g =
-      let a = batch_of l n k index g.name m g.told g.of_log in
-      (a.step, a.payload, a.messages, a.before, a.reads, a.appended, record { each = a.each; only = λ i o w. same_batch l n k index i g.name m o a (batch_of l n k i g.name o w g.of_log) })
+      let a = line_at c (Reads c) es k _ (at_step c (Reads c) (tiles_kept c) es) (λ h. cc) g.told in
+      let x = (lines_given c a.before a.world a.event a.holds.0.0 a.holds.0.1 a.holds.1).batches g.name n index m a.there in
+      let lg = same_log c a.before a.after (history c es) l g.name x.reader a.split (got_of c a.before a.world a.holds.1 g.name x.reader x.named) g.of_log in
+      let y : AppendedBy a.before l n x.payload = subst (λ k. AppendedBy a.before k n x.payload) lg x.appended in
+      let t = step_tiles k _ g.name g.of_log.0 a g.of_log.1 in
+      let b = slice_get_below y.1.here a.before y.0 y.1.at in let u = a.place in
+      (y.0, x.payload, x.messages, omega arith, x.reads, subst (λ (hs : List Happened). Appends hs l n x.payload y.0) (sym a.split) (appends_before a.before a.after l n y.0 x.payload y.1), step_writes k n index g.name m x.messages a (x.run g.of_log.0.until t.0 t.1))
 
   pub trims : TrimsWereIssued c (history c es)
   trims l low high k g =

@@ -48,6 +48,20 @@ pub finish_In : (d : Done) (x : Line) → In x d.lines → In x (finish d).lines
 unfolding finish
 finish_In d x h = or_in x _ (In_left x d.lines (message_lines d.state d.state.network.count d.sends) h)
 
+or_some : (x : Line) (ls : List Line) → In x ls → or_none ls ≡ ls
+or_some x [] h = absurd h
+or_some x (l ∷ ls) h = refl
+
+-- behind the lines of an event that has one stand plain ones alone
+pub record Ends (ls ms : List Line) : Type 0 where
+  pub rest : List Line
+  pub is : ms ≡ ls ++ rest
+  pub plain : (y : Line) → In y rest → is_plain y ≡ true
+
+pub finish_ends : (d : Done) (x : Line) → In x d.lines → Ends d.lines (finish d).lines
+unfolding finish
+finish_ends d x h = record { rest = message_lines d.state d.state.network.count d.sends; is = or_some x _ (In_left x d.lines _ h); plain = plain_messages d.state _ d.sends }
+
 module _ {X : Type 0} (f : Line → Option X) (plain : (x : Line) → is_plain x ≡ true → f x ≡ None) where
   none_messages : (s : State) (i : ℕ) (ms : List Msg) → filter_map f (message_lines s i ms) ≡ []
   none_messages s i [] = refl

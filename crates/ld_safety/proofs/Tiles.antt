@@ -62,6 +62,15 @@ forget_end : (until next end : ℕ) (is : List Interval) → TilesTo until next 
 forget_end until next end [] a = tt
 forget_end until next end (i ∷ is) a = (a.0, a.1, a.2, forget_end until (i.high + 1) end is a.3)
 
+tiles_left : (until next : ℕ) (is js : List Interval) → TilesFrom until next (is ++ js) → TilesFrom until next is
+tiles_left until next [] js a = tt
+tiles_left until next (i ∷ is) js a = (a.0, a.1, a.2, tiles_left until (i.high + 1) is js a.3)
+
+-- a part of what tiles does
+pub tiles_part : (until next : ℕ) (is js ks : List Interval) → TilesFrom until next (is ++ (js ++ ks)) → (low : ℕ) × TilesFrom until low js
+tiles_part until next [] js ks a = (next, tiles_left until next js ks a)
+tiles_part until next (i ∷ is) js ks a = tiles_part until (i.high + 1) is js ks a.3
+
 -- ---- lines that are no items ----
 
 abbrev is_item : Line → Bool
@@ -83,7 +92,7 @@ none_of_lines : (r : List ℕ) (ls : List Line) → NoItems ls → filter_map (i
 none_of_lines r [] h = refl
 none_of_lines r (x ∷ ls) h = rw (no_interval r x (h x (inl refl))) (none_of_lines r ls (λ y i. h y (inr i)))
 
-plain_interval : (r : List ℕ) (x : Line) → is_plain x ≡ true → interval_of r x ≡ None
+pub plain_interval : (r : List ℕ) (x : Line) → is_plain x ≡ true → interval_of r x ≡ None
 plain_interval r (lines.Message i from to kind n) h = refl
 plain_interval r lines.Nothing h = refl
 plain_interval r (lines.Record s n p) h = absurd cc

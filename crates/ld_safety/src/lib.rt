@@ -51,7 +51,7 @@ pub fn records_were_appended()
     ensures { (c : Config) (es : List Event) → IsInBounds c → RecordsWereAppended c (history c es) }
 {}
 
-/// The step that gives a reader a message of a batch gives it each message of the payload that was appended under its number before, at its place, and no other message of that number.
+/// The step that gives a reader a message of a batch gives it all messages of the payload that was appended under its number before, one after the other in their order, and no other message of that number.
 pub fn batches_were_appended()
     ensures { (c : Config) (es : List Event) → IsInBounds c → BatchesWereAppended c (history c es) }
 {}
