@@ -17,8 +17,9 @@ use Rattle.ld_msg.specs.Register.{generation_of, epochs_of}
 use Rattle.ld_op.specs.Plain.{log_of}
 use Rattle.ld_machine.specs.State.{finish}
 use Rattle.ld_machine.specs.Facts.{Happened}
+use Rattle.ld_machine.specs.Config.{spec_of, fixed_of}
 use Rattle.ld_machine.specs.World.{World, In, Sent, begin}
-use Rattle.ld_machine.specs.Invariant.{GenerationsDrawn, BallotsDrawn, SummariesAgree, EntryDrawn, Epoch, Closed, entries_of, seals_in, generations_in}
+use Rattle.ld_machine.specs.Invariant.{GenerationsDrawn, BallotsDrawn, SummariesAgree, EntryDrawn, Epoch, IsOpen, Closed, entries_of, seals_in, generations_in}
 use Rattle.ld_machine.specs.Run.{Move, world_after, next_world, trace}
 use Rattle.ld_safety.proofs.Members.{find_in}
 use Rattle.ld_safety.proofs.Lists.{not_none, only}
@@ -35,6 +36,7 @@ use Rattle.ld_safety.proofs.LostFullKept.{AllFull, full_kept}
 use Rattle.ld_safety.proofs.CopiesStand.{said_at}
 use Rattle.ld_safety.proofs.LostMoments.{Moments, moments_kept, confirmed_drawn}
 use Rattle.ld_safety.proofs.Names.{found}
+use Rattle.ld_safety.proofs.Registers.{open_spec}
 
 abbrev AnyState : List Happened → World → Type 0
 AnyState hs w = Unit {0}
@@ -153,3 +155,7 @@ ballots_were_drawn c es = let p = handing c es in ballots_here c (trace c (begin
 
 pub summaries_agree : (c : Config) (es : List Move) → SummariesAgree (world_after c (begin c) es)
 summaries_agree c es = let p = handing c es in summaries_here c (trace c (begin c) es) (world_after c (begin c) es) p.0.0.0.0 p.0.0.0.1 p.0.1.1 p.1.1
+
+-- while an epoch is open its nodes are those that were fixed for it
+pub open_sets : (c : Config) (es : List Move) (l e : ℕ) → IsOpen (world_after c (begin c) es) l e → Epoch (world_after c (begin c) es) l e → spec_of c (world_after c (begin c) es).state.register l e ≡ fixed_of c (world_after c (begin c) es).state.register l e
+open_sets c es l e o h = let p = handing c es in open_spec c (world_after c (begin c) es).state.register l e p.0.0.0.0.1.each h o

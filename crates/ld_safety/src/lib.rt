@@ -11,11 +11,12 @@ ghost use Rattle.ld_machine.specs.Safe.{BatchesWereAppended, ItemsTile, LossesHa
 ghost use Rattle.ld_transcript.specs.declared.line.Line.TheVariants.{NodeRebuilt, NodeWiped};
 ghost use Rattle.ld_op.specs.Plain.{Plain, log_of};
 ghost use Rattle.ld_op.specs.Ticks.{missing};
+ghost use Rattle.ld_machine.specs.Config.{fixed_of, spec_of};
 ghost use Rattle.ld_machine.specs.State.{node_at};
 ghost use Rattle.ld_machine.specs.Facts.{Lost, Writes, standing, stands_for};
 ghost use Rattle.ld_machine.specs.World.{MayHold, Stored, begin, chosen};
 ghost use Rattle.ld_machine.specs.Run.{InvariantHolds, Move, history, trace, world_after};
-ghost use Rattle.ld_machine.specs.Invariant.{Acked, Agrees, AppendsOf, BallotsDrawn, Closed, CopiesOf, CopyAt, EntriesAreItems, GenerationsDrawn, HasLoss, HeldWasSent, IsOpen, LossesLast, LossesSay, LossesWereGone, OnePlan, OpenTrims, Ready, ReleasesAcked, Retains, SealsHold, SequencersDrawn, ShortCopies, StandsOn, SummariesAgree, TrimsIssued};
+ghost use Rattle.ld_machine.specs.Invariant.{Acked, Agrees, AppendsOf, BallotsDrawn, Closed, CopiesOf, CopyAt, EntriesAreItems, Epoch, GenerationsDrawn, HasLoss, HeldWasSent, IsOpen, LossesLast, LossesSay, LossesWereGone, OnePlan, OpenTrims, Ready, ReleasesAcked, Retains, SealsHold, SequencersDrawn, ShortCopies, StandsOn, SummariesAgree, TrimsIssued};
 ghost use Rattle.ld_safety.specs.Closes.{ClosesSay, FullOrShort};
 ghost use Rattle.ld_safety.specs.Lost.{CopiesWereLost, LossesWereSeen, LossesWereTold, LostOnce, WholeStays, may_be_lost};
 ghost use Rattle.ld_safety.specs.OneCopy.{OneSends};
@@ -161,10 +162,11 @@ pub fn open_trims_cover_acknowledged()
     ensures { (c : Config) (ms : List Move) → IsInBounds c → OpenTrims (trace c (begin c) ms) (world_after c (begin c) ms) }
 {}
 
-/// In every state, an acknowledged number of an open epoch was stored by as many nodes as there are copies, and each node that stored it is blank, or lost for the epoch, or trimmed at the number, or has the record.
+/// In every state, an acknowledged number of an open epoch was stored by as many nodes as there are copies, of those that were fixed for the epoch, and each node that stored it is blank, or lost for the epoch, or trimmed at the number, or has the record. Swaps leave the nodes, factor and extras of an open epoch as they were fixed.
 pub fn acknowledged_copies_stand()
     ensures enough { (c : Config) (ms : List Move) → IsInBounds c → (l n : ℕ) → IsOpen (world_after c (begin c) ms) l (epoch_of n) → Acked (trace c (begin c) ms) l n → chosen c (world_after c (begin c) ms) l n (epoch_of n) ≡ true }
     ensures kept { (c : Config) (ms : List Move) → IsInBounds c → (l n y : ℕ) → IsOpen (world_after c (begin c) ms) l (epoch_of n) → Acked (trace c (begin c) ms) l n → Stored (world_after c (begin c) ms) l y n (epoch_of n) → CopyAt (world_after c (begin c) ms) l n (epoch_of n) y }
+    ensures set { (c : Config) (ms : List Move) → IsInBounds c → (l e : ℕ) → IsOpen (world_after c (begin c) ms) l e → Epoch (world_after c (begin c) ms) l e → spec_of c (world_after c (begin c) ms).state.register l e ≡ fixed_of c (world_after c (begin c) ms).state.register l e }
 {}
 
 /// In every state, a log that isn't lost at a node has each number above its trim of the clean epochs that were lost; a node that was rebuilt isn't lost again before it is wiped, nor rebuilt again, and the same holds from any state on in which it isn't lost, also where a crash hid the record that it is rebuilt.
