@@ -90,6 +90,7 @@ module _ (disk_before disk_now : ℕ) (seen : Option (List ℕ)) (register_befor
   format_caused (nodes.Register (refusals.Behind lce next)) f disk register place store full limit = tt
   format_caused (nodes.Register (refusals.Overtaken kept)) f disk register place store full limit = tt
   format_caused (nodes.Register refusals.EpochLimit) f disk register place store full limit = tt
+  format_caused (nodes.Register refusals.SwapLimit) f disk register place store full limit = tt
   format_caused (nodes.Register refusals.GenLimit) f disk register place store full limit = (f, limit refl)
   format_caused (nodes.Register refusals.Full) f disk register place store full limit = (f, full refl)
   format_caused (nodes.Register refusals.NoMemory) f disk register place store full limit = tt

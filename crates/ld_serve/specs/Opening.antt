@@ -82,6 +82,7 @@ stop_of_format (nodes.Register refusals.LogLimit) = stops.NoMemory
 stop_of_format (nodes.Register (refusals.Behind lce next)) = stops.NoMemory
 stop_of_format (nodes.Register (refusals.Overtaken kept)) = stops.NoMemory
 stop_of_format (nodes.Register refusals.EpochLimit) = stops.NoMemory
+stop_of_format (nodes.Register refusals.SwapLimit) = stops.NoMemory
 stop_of_format (nodes.Register refusals.GenLimit) = stops.GenLimit
 stop_of_format (nodes.Register refusals.Full) = stops.Full Register
 stop_of_format (nodes.Register refusals.NoMemory) = stops.NoMemory

@@ -41,6 +41,7 @@ fn draw_stop(refusal: RegisterFault) -> Stop
     requires behind { (lce : ℕ) (next : Option Fixed) → refusal ≢ refusals.Behind lce next }
     requires overtaken { (kept : ℕ) → refusal ≢ refusals.Overtaken kept }
     requires epochs { refusal ≢ refusals.EpochLimit }
+    requires swaps { refusal ≢ refusals.SwapLimit }
     ensures { result ≡ stop_of_format (NodeFault.Register refusal) }
 {
     match refusal {
@@ -53,6 +54,7 @@ fn draw_stop(refusal: RegisterFault) -> Stop
         RegisterFault::Behind { .. } => unreachable!(),
         RegisterFault::Overtaken(_) => unreachable!(),
         RegisterFault::EpochLimit => unreachable!(),
+        RegisterFault::SwapLimit => unreachable!(),
     }
 }
 
@@ -64,6 +66,7 @@ fn format_stop(fault: NodeFault) -> Stop
     requires behind { (lce : ℕ) (next : Option Fixed) → fault ≢ NodeFault.Register (refusals.Behind lce next) }
     requires overtaken { (kept : ℕ) → fault ≢ NodeFault.Register (refusals.Overtaken kept) }
     requires epochs { fault ≢ NodeFault.Register refusals.EpochLimit }
+    requires swaps { fault ≢ NodeFault.Register refusals.SwapLimit }
     ensures { result ≡ stop_of_format fault }
 {
     match fault {
