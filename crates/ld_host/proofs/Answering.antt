@@ -21,7 +21,7 @@ use Rattle.ld_disk.specs.Memory.{disk_plain}
 use Rattle.ld_disk.specs.Plain.{Plain as DiskPlain, after_calls, all_succeed}
 use Rattle.ld_disk.specs.declared.disk.Disk.{Ghosts}
 use Rattle.ld_disk.specs.declared.memory.MemDisk.{MemDisk}
-use Rattle.ld_msg.specs.Bounds.{IsMessage}
+use Rattle.ld_msg.specs.Bounds.{Fits, IsMessage}
 use Rattle.ld_store.specs.Ops.{place_behind}
 use Rattle.ld_node_bounds.specs.States.{last_carried}
 use Rattle.ld_node_bounds.proofs.Ops.{summaries_are}
@@ -52,9 +52,9 @@ module _ (c : Config) (n : ℕ) (m : Msg) (to : m.to ≡ whos.Node n) (has : has
   for_it : is_for n (known_in c) m ≡ true
   for_it = and_from (is_node n m.to) (is_in m.log (known_in c).logs) (ap (is_node n) to ∙ node_is_itself n) (log_is_known c m.log has)
 
-  pub handled_is : (x : Node) → handled n (known_in c) x.released x.plain m ≡ node_handles x m
+  pub handled_is : (x : Node) → handled n (known_in c) x.released x.plain m ≡ node_handles n x m
   unfolding handled
-  handled_is x = ap (λ b. if b then node_handles x m else silent) for_it
+  handled_is x = ap (λ b. if b then node_handles n x m else silent) for_it
 
   raises : (x : Node) (l : ℕ) (b : Body) → releases x l b ≡ record x { released = raised x.released l (number_in b) }
   raises x l (bodies.Store s lng w) = refl
@@ -73,6 +73,7 @@ module _ (c : Config) (n : ℕ) (m : Msg) (to : m.to ≡ whos.Node n) (has : has
   raises x l (bodies.ReadEnded ro s e loss) = refl
   raises x l (bodies.ReadTrim ro s t) = refl
   raises x l (bodies.ReadWait ro s r) = refl
+  raises x l (bodies.ReadOne ro s set excluded) = refl
 
   pub releases_is : (x : Node) → releases x m.log m.body ≡ record x { released = released_after n (known_in c) x.released m }
   unfolding released_by
@@ -135,7 +136,7 @@ module _ {g : Ghosts MemDisk} (c : Config) (n : ℕ) (node : Running MemDisk g) 
   place_is : place_of node ≡ place_behind runs.lies.found
   place_is = runs.holds.place ∙ places runs.lies.found
 
-  handled_here : handled (id_of node) (known_of node) (released_of node) (plain_of node) m ≡ node_handles x m
+  handled_here : handled (id_of node) (known_of node) (released_of node) (plain_of node) m ≡ node_handles n x m
   handled_here = (λ i. handled (runs.id i) (runs.known i) (runs.released i) (plain_is i) m) ∙ handled_is c n m to has x
 
   -- the node once the number is released
@@ -151,15 +152,15 @@ module _ {g : Ghosts MemDisk} (c : Config) (n : ℕ) (node : Running MemDisk g) 
   well_here : IsWell x.plain
   well_here = subst (λ q. IsWell q) plain_is well
 
-  changes : AreChanges (node_handles x m).op
-  changes = changes_of (node_handles x m).op
-      (λ o taken. handled_change (log_of x.plain m.log) (λ e y there. summaries_are last_carried x.plain m.log e y well_here there) x.plain.generation m.log (released_at x m.log) m.from m.to m.body o is.log is.fits taken)
+  changes : AreChanges (node_handles n x m).op
+  changes = changes_of (node_handles n x m).op
+      (λ o taken. handled_change (log_of x.plain m.log) (λ e y there. summaries_are last_carried x.plain m.log e y well_here there) n x.plain.generation m.log (released_at x m.log) m.from m.body o is.log (subst (λ w. Fits m.from w m.body) to is.fits) taken)
 
-  may : MayKeepAny runs.lies.found x.plain (node_handles x m).op
-  may = change_may runs.lies.found x.plain (node_handles x m).op changes (sym runs.holds.blank ∙ formatted) runs.lies.formatted
+  may : MayKeepAny runs.lies.found x.plain (node_handles n x m).op
+  may = change_may runs.lies.found x.plain (node_handles n x m).op changes (sym runs.holds.blank ∙ formatted) runs.lies.formatted
 
   abbrev sent : List Msg
-  sent = answer_message n m (node_handles x m).answer
+  sent = answer_message n m (node_handles n x m).answer
 
   pub answered : (h : Handled) (new : Running MemDisk g) → h ≡ handled (id_of node) (known_of node) (released_of node) (plain_of node) m
       → id_of new ≡ id_of node → known_of new ≡ known_of node → released_of new ≡ released_after (id_of node) (known_of node) (released_of node) m
@@ -168,8 +169,8 @@ module _ {g : Ghosts MemDisk} (c : Config) (n : ℕ) (node : Running MemDisk g) 
       → Runs c n new (message_done n x m).node × (Written ≡ (message_done n x m).end) × (answer_message (id_of node) m h.answer ≡ (message_done n x m).sends)
   answered h new h_is id known released holds within disk succeed =
       let p = disk_plain (disk_of node) in
-      let same : h ≡ node_handles x m = h_is ∙ handled_here in
-      let o = (node_handles x m).op in
+      let same : h ≡ node_handles n x m = h_is ∙ handled_here in
+      let o = (node_handles n x m).op in
       let calls : calls_of (place_of node) h.op ≡ calls_of (place_behind runs.lies.found) o = λ i. calls_of (place_is i) (same i).op in
       let keeps_it : Keeps c n p raised_node raised_lies runs.cut sent o new = record {
         id = id ∙ runs.id;
@@ -192,8 +193,8 @@ module _ {g : Ghosts MemDisk} (c : Config) (n : ℕ) (node : Running MemDisk g) 
       → StandsAs c n done.0 (message_done n x m).node × (shown_kept done.1 ≡ (message_done n x m).end) × ([] ≡ (message_done n x m).sends)
   refuses_it h fault q done h_is not refuses =
       let p = disk_plain (disk_of node) in
-      let same : h ≡ node_handles x m = h_is ∙ handled_here in
-      let o = (node_handles x m).op in
+      let same : h ≡ node_handles n x m = h_is ∙ handled_here in
+      let o = (node_handles n x m).op in
       let not_here : Refused (place_behind runs.lies.found) o fault p q = subst (λ l. Refused l o fault p q) place_is (subst (λ k. Refused (place_of node) k fault p q) (ap (λ k. k.op) same) not) in
       let left = stayed c n p raised_node raised_lies runs.cut sent o fault q done may (still c n p raised_node raised_lies runs.cut sent o fault q not_here) refuses in
       let back = sym (releases_is c n m to has x) in (

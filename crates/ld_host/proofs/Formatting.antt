@@ -165,6 +165,7 @@ module _ (place : ℕ) (p : DiskPlain) (now : Option DiskPlain) where
   same_refusal f (refusals.Overtaken epoch) is = cc
   same_refusal f refusals.EpochLimit is = cc
   same_refusal f refusals.GenLimit is = cc
+  same_refusal f refusals.SwapLimit is = cc
   same_refusal f refusals.Full is = cc
 
   not_register : {A : Type 0} (f : RegisterFault) (b : Bool) (e : Drawn) → answer_err (faults.Register f) ≡ formats.ended b e → A
@@ -204,6 +205,7 @@ module _ (place : ℕ) (p : DiskPlain) (now : Option DiskPlain) where
   refused_none fault (refusals.Overtaken epoch) none memory is = absurd (none (refusals.Overtaken epoch) is)
   refused_none fault refusals.EpochLimit none memory is = absurd (none refusals.EpochLimit is)
   refused_none fault refusals.GenLimit none memory is = absurd (none refusals.GenLimit is)
+  refused_none fault refusals.SwapLimit none memory is = absurd (none refusals.SwapLimit is)
   refused_none fault refusals.Full none memory is = absurd (none refusals.Full is)
 
   not_kept_full : (fault : NodeFault) (e : Drawn) → KeepsFormat place p e now (answer_err fault) → IsPast place (Some (format_of e)) → WasNotKept (Ok e) fault

@@ -5,6 +5,7 @@ pub mod Loading
 pub mod Fulls
 pub mod Ending
 pub mod Logs
+pub mod Swapping
 pub mod Done
 pub mod Rising
 pub mod Stopping

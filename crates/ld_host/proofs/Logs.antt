@@ -6,7 +6,7 @@ use Rattle.ld_config.specs.declared.config.Config.{Config}
 use Rattle.ld_machine.specs.Config.{has_log}
 use Rattle.ld_node.specs.Known.{logs_in, known_in}
 
-logs_known : (l : ℕ) (ss : List Spec) → is_in l (logs_in ss) ≡ any_of (λ s. s.log == l) ss
+pub logs_known : (l : ℕ) (ss : List Spec) → is_in l (logs_in ss) ≡ any_of (λ s. s.log == l) ss
 logs_known l [] = refl
 logs_known l (s ∷ ss) = ap (λ b. (s.log == l) || b) (logs_known l ss)
 

@@ -57,7 +57,7 @@ handles_as s n x m (Some o) b =
 
 pub node_up : (c : Config) (s : State) (n : ℕ) (m : Msg) → (is_up (node_at s n).status && has_log c m.log) ≡ true
     → step.to_node c s n m ≡ record { state = with_node s n (message_done n (node_in s.nodes n) m).node; lines = kept_lines n [] (message_done n (node_in s.nodes n) m).end; sends = (message_done n (node_in s.nodes n) m).sends }
-node_up c s n m h = if_yes _ _ _ h ∙ handles_as s n (step.releases (node_at s n) m.log m.body) m (step.node_handles (node_at s n) m).op (step.node_handles (node_at s n) m).answer
+node_up c s n m h = if_yes _ _ _ h ∙ handles_as s n (step.releases (node_at s n) m.log m.body) m (step.node_handles n (node_at s n) m).op (step.node_handles n (node_at s n) m).answer
 
 pub up_is : (x : Status) → is_up x ≡ true → x ≡ Up
 up_is Up h = refl

@@ -1,5 +1,6 @@
 -- What each call does to one node, and how it ends.
-use Rattle.std.specs.Prelude.{◌≡◌, ℕ, List, [], Option, Some, None, false, Ok, Err, if◌then◌else◌}
+use Rattle.std.specs.Prelude.{◌≡◌, ℕ, List, [], Option, Some, None, Bool, false, ◌&&◌, not, ◌==◌, nat_lt, Ok, Err, if◌then◌else◌}
+use Rattle.std.specs.declared.result.Result.{Result}
 use Rattle.std.specs.Option.{unwrap_or}
 use Rattle.ld_table.specs.Table.{find, put}
 use Rattle.ld_msg.specs.declared.msg.Msg.{Msg}
@@ -10,14 +11,15 @@ use Rattle.ld_op.specs.declared.op.Op.TheVariants as ops
 use Rattle.ld_op.specs.Handles.{answer_message}
 use Rattle.ld_op.specs.Plain.{log_of}
 use Rattle.ld_op.specs.Ticks.{Ticked, on_tick}
-use Rattle.ld_register.specs.Calls.{after_draw}
+use Rattle.ld_register.specs.Calls.{after_draw, swapped, after_swap}
 use Rattle.ld_register.specs.Calls as calls
+use Rattle.ld_register.specs.declared.fault.RegisterFault.{RegisterFault}
 use Rattle.ld_register.specs.declared.register.Drawn.{Drawn}
 use Rattle.ld_node.specs.Looks.{op_of, answer_of}
 use Rattle.ld_node.specs.declared.tick.Ticked as answers
 use Rattle.ld_node.specs.declared.tick.Ticked.TheVariants as ticks
-use Rattle.ld_machine.specs.Config.{all_nodes}
-use Rattle.ld_machine.specs.Disk.{Node, new_node, Kept, Written, DiskFailed, Crashed, JournalFull, keep_op, keep_end, load, load_end}
+use Rattle.ld_machine.specs.Config.{all_nodes, has_log, has_node}
+use Rattle.ld_machine.specs.Disk.{Node, new_node, is_up, Kept, Written, DiskFailed, Crashed, JournalFull, keep_op, keep_end, load, load_end}
 use Rattle.ld_machine.specs.Step.{node_handles, releases, is_written}
 use Rattle.ld_host.specs.declared.kept.Kept.{Kept as HostKept}
 use Rattle.ld_host.specs.declared.kept.Kept.TheVariants as ends
@@ -43,7 +45,7 @@ op_done x (Some o) ms = record { node = keep_op x o; end = keep_end x o; sends =
 
 -- a message to the node of this number, which is up
 abbrev pub message_done : ℕ → Node → Msg → NodeDone
-message_done n x m = op_done (releases x m.log m.body) (node_handles x m).op (answer_message n m (node_handles x m).answer)
+message_done n x m = op_done (releases x m.log m.body) (node_handles n x m).op (answer_message n m (node_handles n x m).answer)
 
 -- ---- a format ----
 
@@ -101,3 +103,16 @@ kept_nodes n (Some o) nodes = put n (keep_op (node_in nodes n) o) nodes
 -- what it answers, which is nothing where its op wasn't kept
 abbrev pub tick_answer : Config → ℕ → Node → ℕ → Register → answers.Ticked
 tick_answer c n x l r = if is_written (tick_done c n x l r).end then answer_of n l (all_nodes c) (tick_of x l r) else ticks.Nothing
+
+-- ---- a node that takes another one's place ----
+
+-- it is up, isn't lost for the log and was so once; the other one is another node
+abbrev pub can_replace : Config → ℕ → Node → ℕ → ℕ → Bool
+can_replace c n x other l = (has_log c l && (has_node c other && not (n == other))) && (is_up x.status && (not (log_of x.plain l).lost && nat_lt 0 (log_of x.plain l).lost_to))
+
+-- in how many closed epochs it takes the other one's place, or why the register refuses
+abbrev pub replaced : Config → ℕ → Node → ℕ → ℕ → Register → Result ℕ RegisterFault
+replaced c n x other l r = if can_replace c n x other l then swapped r l (log_of x.plain l).lost_to other n else Ok 0
+
+abbrev pub after_replace : Config → ℕ → Node → ℕ → ℕ → Register → Register
+after_replace c n x other l r = if can_replace c n x other l then after_swap r l (log_of x.plain l).lost_to other n else r

@@ -5,6 +5,7 @@ ghost use Rattle.ld_host.specs.States.{blank_in};
 use crate::fault::fault;
 use crate::format::format;
 use crate::kept::{Formatted, Kept, Status};
+use crate::replace::replace;
 use crate::run::{answer, load};
 use crate::state::State;
 use crate::tick::look;
@@ -13,7 +14,7 @@ use ld_disk::MemDisk;
 use ld_ids::{LogId, NoMemory, NodeId};
 use ld_msg::{Msg, Outbox};
 use ld_node::Ticked;
-use ld_register::Register;
+use ld_register::{Register, RegisterFault};
 use ld_schedule::Picture;
 use std::alloc::Global;
 use std::mem;
@@ -40,7 +41,7 @@ impl Host {
     ghost use Rattle.ld_msg.specs.Register.{Register as Contents};
     ghost use Rattle.ld_node_bounds.specs.Messages.{AreMessages};
     ghost use Rattle.ld_node.specs.Looks.{AreClosed};
-    ghost use Rattle.ld_host.specs.Done.{shown_kept, message_done, HasFormatted, tick_done, tick_answer};
+    ghost use Rattle.ld_host.specs.Done.{shown_kept, message_done, HasFormatted, tick_done, tick_answer, replaced, after_replace};
 
     /// A new disk, on which no node runs.
     pub fn new(alloc: Global, id: NodeId) -> Result<Host, NoMemory>
@@ -173,5 +174,24 @@ impl Host {
         let (state, kept, ticked) = look(alloc, node, log, reg)?;
         self.state = state;
         Ok((kept, ticked))
+    }
+
+    /// The node takes another one's place in the closed epochs of a log, where it is up and may, and says in how many. The
+    /// inner error is why the register refused. Where it isn't up or may not, they are none, and the register isn't asked.
+    pub fn replace<G: Register>(
+        &self,
+        alloc: Global,
+        log: LogId,
+        other: NodeId,
+        reg: &mut G,
+    ) -> Result<Result<u32, RegisterFault>, NoMemory>
+        ensures { (c : Settings) (n : ℕ) (x : Node) (r : Contents) → Stands c n self.now x → G.tells reg.old r
+            → IfOk result (λ done. (done ≡ replaced c n x other log r) × G.tells reg.new (after_replace c n x other log r)) }
+    {
+        let State::Up(node) = &self.state else {
+            return Ok(Ok(0));
+        };
+        let done = replace(alloc, node, log, other, reg)?;
+        Ok(done)
     }
 }

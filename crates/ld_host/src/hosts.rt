@@ -13,7 +13,7 @@ ghost use Rattle.ld_host.specs.Stands.{Stands, shown_status};
 ghost use Rattle.ld_msg.specs.Register.{Register as Contents};
 ghost use Rattle.ld_node_bounds.specs.Messages.{AreMessages};
 ghost use Rattle.ld_node.specs.Looks.{AreClosed, op_of};
-ghost use Rattle.ld_host.specs.Done.{shown_kept, message_done, HasFormatted, kept_nodes, tick_of, tick_done, tick_answer};
+ghost use Rattle.ld_host.specs.Done.{shown_kept, message_done, HasFormatted, kept_nodes, tick_of, tick_done, tick_answer, replaced, after_replace};
 ghost use Rattle.ld_host.specs.Standing.{AreHosts, IsTaken, node_in};
 
 use crate::host::Host;
@@ -22,7 +22,7 @@ use ld_config::Config;
 use ld_ids::{LogId, NoMemory, NodeId};
 use ld_msg::{Msg, Outbox};
 use ld_node::Ticked;
-use ld_register::Register;
+use ld_register::{Register, RegisterFault};
 use ld_schedule::Picture;
 use std::alloc::Global;
 use std::collections::BTreeMap;
@@ -196,5 +196,27 @@ impl Hosts {
         let (kept, ticked) = host.tick(alloc, log, reg)?;
         self.put(node, host)?;
         Ok((kept, ticked))
+    }
+
+    /// The node takes another one's place in the closed epochs of a log, where it is up and may, and says in how many. The
+    /// inner error is why the register refused. Where it isn't up or may not, they are none, and the register isn't asked.
+    pub fn replace<G: Register>(
+        &self,
+        alloc: Global,
+        node: NodeId,
+        log: LogId,
+        other: NodeId,
+        reg: &mut G,
+    ) -> Result<Result<u32, RegisterFault>, NoMemory>
+        ensures { (c : Settings) (nodes : List (ℕ × Node)) (r : Contents) → AreHosts c self.now nodes → G.tells reg.old r
+            → IfOk result (λ done. (done ≡ replaced c node (node_in nodes node) other log r) × G.tells reg.new (after_replace c node (node_in nodes node) other log r)) }
+    {
+        match host_of(&self.map, node.number()) {
+            Some(host) => {
+                let done = host.replace(alloc, log, other, reg)?;
+                Ok(done)
+            }
+            None => Ok(Ok(0)),
+        }
     }
 }

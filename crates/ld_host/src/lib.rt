@@ -7,6 +7,7 @@ mod host;
 mod hosts;
 mod kept;
 mod law;
+mod replace;
 mod run;
 mod state;
 mod tick;
