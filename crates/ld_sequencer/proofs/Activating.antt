@@ -54,6 +54,7 @@ free_err (registers.Behind lce next) res A K h u k g = absurd u
 free_err (registers.Overtaken kept) res A K h u k g = absurd u
 free_err registers.EpochLimit res A K h u k g = absurd u
 free_err registers.GenLimit res A K h u k g = absurd u
+free_err registers.SwapLimit res A K h u k g = absurd u
 free_err registers.Full res A K h u k g = absurd u
 
 err_free : (origin : Origin) (spec : Spec) (looks : ℕ → Look) (old new : List Msg) (answer : Result Grant RegisterFault) (f : RegisterFault) (e : SequencerFault) (A B : Type 0) → e ≡ of_register f → MayCome (of_register f) ⊎ ((f ≡ registers.NoMemory) × A)
@@ -150,32 +151,32 @@ grant_alike first spec c g h =
     as_shown first (after_activate c spec) spec.log (g.lce + 1) g.next (n.next ∙ ap (λ (k : ℕ). spec_told (after_activate c spec) spec.log (k + 1)) l)
 
 -- of an epoch that was handed out the same is told
-told_before : (e : Epochs) (s : Spec) → e.lce < e.epoch → find (epoch_shown (next_epoch e s) (e.lce + 1)) (next_epoch e s).specs ≡ find (epoch_shown e (e.lce + 1)) e.specs
+told_before : (e : Epochs) (s : Spec) → e.lce < e.epoch → find (epoch_shown (next_epoch e s) (e.lce + 1)) (next_epoch e s).swapped ≡ find (epoch_shown e (e.lce + 1)) e.swapped
 told_before e s h =
     let a : ((e.lce + 1 == 0) || nat_lt (e.epoch + 1) (e.lce + 1)) ≡ false = grind (arith, nat_tests) in
     let b : ((e.lce + 1 == 0) || nat_lt e.epoch (e.lce + 1)) ≡ false = grind (arith, nat_tests) in
-    ap (λ (t : Bool). find (if t then e.epoch + 1 else e.lce + 1) (put (e.epoch + 1) s e.specs)) a
-    ∙ (find-put_other (e.lce + 1) (e.epoch + 1) s e.specs (λ k. absurd (omega (arith, k, h)))
-    ∙ sym (ap (λ (t : Bool). find (if t then e.epoch else e.lce + 1) e.specs) b))
+    ap (λ (t : Bool). find (if t then e.epoch + 1 else e.lce + 1) (put (e.epoch + 1) s e.swapped)) a
+    ∙ (find-put_other (e.lce + 1) (e.epoch + 1) s e.swapped (λ k. absurd (omega (arith, k, h)))
+    ∙ sym (ap (λ (t : Bool). find (if t then e.epoch else e.lce + 1) e.swapped) b))
 
-last_by : (e : Epochs) (s : Spec) (b : Bool) → ((e.lce + 1 == 0) || nat_lt (e.epoch + 1) (e.lce + 1)) ≡ b → e.epoch ≤ e.lce → find (epoch_shown (next_epoch e s) (e.lce + 1)) (next_epoch e s).specs ≡ Some s
-last_by e s true t h = ap (λ (x : Bool). find (if x then e.epoch + 1 else e.lce + 1) (put (e.epoch + 1) s e.specs)) t ∙ find-put_same (e.epoch + 1) (e.epoch + 1) s e.specs refl
+last_by : (e : Epochs) (s : Spec) (b : Bool) → ((e.lce + 1 == 0) || nat_lt (e.epoch + 1) (e.lce + 1)) ≡ b → e.epoch ≤ e.lce → find (epoch_shown (next_epoch e s) (e.lce + 1)) (next_epoch e s).swapped ≡ Some s
+last_by e s true t h = ap (λ (x : Bool). find (if x then e.epoch + 1 else e.lce + 1) (put (e.epoch + 1) s e.swapped)) t ∙ find-put_same (e.epoch + 1) (e.epoch + 1) s e.swapped refl
 last_by e s false t h =
     let k : e.lce + 1 ≡ e.epoch + 1 = grind (arith, nat_tests) in
-    ap (λ (x : Bool). find (if x then e.epoch + 1 else e.lce + 1) (put (e.epoch + 1) s e.specs)) t ∙ find-put_same (e.lce + 1) (e.epoch + 1) s e.specs k
+    ap (λ (x : Bool). find (if x then e.epoch + 1 else e.lce + 1) (put (e.epoch + 1) s e.swapped)) t ∙ find-put_same (e.lce + 1) (e.epoch + 1) s e.swapped k
 
 -- and of the next one what is fixed for it
-told_last : (e : Epochs) (s : Spec) → e.epoch ≤ e.lce → find (epoch_shown (next_epoch e s) (e.lce + 1)) (next_epoch e s).specs ≡ Some s
+told_last : (e : Epochs) (s : Spec) → e.epoch ≤ e.lce → find (epoch_shown (next_epoch e s) (e.lce + 1)) (next_epoch e s).swapped ≡ Some s
 told_last e s h = last_by e s ((e.lce + 1 == 0) || nat_lt (e.epoch + 1) (e.lce + 1)) refl h
 
 -- the grant of these contents is one that agrees with them
 foreseen_by : (r : Register) (s : Spec) (e g : Grant) → Ok g ≡ activated r s → (nat_le epoch_limit (epochs_of r s.log).epoch ≡ false → e.epoch ≡ (epochs_of r s.log).epoch + 1) → e.lce ≡ lce_of r s.log
-    → e.next ≡ find (epoch_shown (next_epoch (epochs_of r s.log) s) (lce_of r s.log + 1)) (next_epoch (epochs_of r s.log) s).specs → g ≡ e
+    → e.next ≡ find (epoch_shown (next_epoch (epochs_of r s.log) s) (lce_of r s.log + 1)) (next_epoch (epochs_of r s.log) s).swapped → g ≡ e
 foreseen_by r s e g h epoch lce next =
     let n = grant_is r s g h in
     let a : g.epoch ≡ e.epoch = n.epoch ∙ sym (epoch n.room) in
     let b : g.lce ≡ e.lce = n.lce ∙ sym lce in
-    let c : g.next ≡ e.next = n.next ∙ (ap (λ (x : Epochs). find (epoch_shown x (x.lce + 1)) x.specs) n.after ∙ sym next) in
+    let c : g.next ≡ e.next = n.next ∙ (ap (λ (x : Epochs). find (epoch_shown x (x.lce + 1)) x.swapped) n.after ∙ sym next) in
     ap (λ x. record { epoch = x; lce = g.lce; next = g.next }) a ∙ (ap (λ x. record { epoch = e.epoch; lce = x; next = g.next }) b ∙ ap (λ x. record { epoch = e.epoch; lce = e.lce; next = x }) c)
 
 module _ (r : Register) (s : Spec) (v : View) (e : Grant) (shown : v ≡ looked r s.log 0) (above : v.epoch < 2 ^ 32 - 2 → e.epoch ≡ v.epoch + 1) (lce : e.lce ≡ v.lce) where

@@ -63,6 +63,7 @@ cause_of (registers.Behind lce next) r l t holds now damaged h k w f d = unlike 
 cause_of (registers.Overtaken kept) r l t holds now damaged h k w f d = unlike (faults.Register (registers.Overtaken kept)) (λ p. cc) (λ p. p) k
 cause_of registers.EpochLimit r l t holds now damaged h k w f d = unlike (faults.Register registers.EpochLimit) (λ p. cc) (λ p. p) k
 cause_of registers.GenLimit r l t holds now damaged h k w f d = unlike (faults.Register registers.GenLimit) (λ p. cc) (λ p. p) k
+cause_of registers.SwapLimit r l t holds now damaged h k w f d = unlike (faults.Register registers.SwapLimit) (λ p. cc) (λ p. p) k
 cause_of registers.Full r l t holds now damaged h k w f d = unlike (faults.Register registers.Full) (λ p. cc) (λ p. p) k
 
 pub close_cause : (f : RegisterFault) (s : SequencerFault) (r : Ended) (l : ℕ) (t : Due) (holds now : Register → Type 0) (damaged : ℕ → Type 0) → r ≡ Err f → s ≡ of_register f → (s ≡ faults.NoMemory) ⊎ IsUntimely s
@@ -80,6 +81,7 @@ of_damaged (registers.Behind lce next) place h = absurd cc
 of_damaged (registers.Overtaken kept) place h = absurd cc
 of_damaged registers.EpochLimit place h = absurd cc
 of_damaged registers.GenLimit place h = absurd cc
+of_damaged registers.SwapLimit place h = absurd cc
 of_damaged registers.Full place h = absurd cc
 
 same_fault : {U : Type 0} (s t : SequencerFault) → IsErrOf {T = U} (Err s) t → s ≡ t

@@ -102,7 +102,7 @@ pub written : (c d : Register) (l : ℕ) (x : Epochs) → d.logs ≡ put l x c.l
 written c d l x h = ap (λ m. unwrap_or (find l m) no_epochs) h ∙ ap (λ o. unwrap_or o no_epochs) (find-put_same l l x c.logs refl)
 
 told_closed : (c : Register) (l : ℕ) (t : Due) → (closes_due c l t).answer ≡ Granted → next_told (closes_due c l t).register l ≡ spec_told c l (t.epoch + 1)
-told_closed c l t h = ap (λ (x : Epochs). find (epoch_shown x (x.lce + 1)) x.specs) (written c (closes_due c l t).register l (closed_epochs (epochs_of c l) t.epoch t.summary) (closed_granted c l t.epoch t.summary t.short h).0)
+told_closed c l t h = ap (λ (x : Epochs). find (epoch_shown x (x.lce + 1)) x.swapped) (written c (closes_due c l t).register l (closed_epochs (epochs_of c l) t.epoch t.summary) (closed_granted c l t.epoch t.summary t.short h).0)
 
 isnt_behind : (f : Bool) (lce : ℕ) → cond f Fails Granted ≡ Behind lce → ⊥
 isnt_behind true lce h = absurd cc

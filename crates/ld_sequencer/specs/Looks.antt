@@ -14,7 +14,7 @@ use Rattle.ld_sequencer.specs.declared.look.Seen.TheVariants as seen
 
 -- each epoch has these nodes, factor and extras and this summary, and this is the greatest one: of what is shown only these count
 abbrev pub sees : ℕ → Option Summary → Spec → ℕ → View
-sees kept summary s e = record { at = e; epoch = kept; lce = 0; summary = summary; spec = s }
+sees kept summary s e = record { at = e; epoch = kept; lce = 0; swaps = 0; summary = summary; spec = s }
 
 -- of what is shown only the nodes, the factor and the extras count
 abbrev pub shows : Spec → ℕ → View

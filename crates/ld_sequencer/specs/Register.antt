@@ -24,6 +24,7 @@ of_register (registers.Behind lce next) = sequencers.Register (registers.Behind 
 of_register (registers.Overtaken kept) = sequencers.Register (registers.Overtaken kept)
 of_register registers.EpochLimit = sequencers.Register registers.EpochLimit
 of_register registers.GenLimit = sequencers.Register registers.GenLimit
+of_register registers.SwapLimit = sequencers.Register registers.SwapLimit
 of_register registers.Full = sequencers.Register registers.Full
 
 -- a fault that may come whatever the register holds
