@@ -3,7 +3,7 @@ use crate::{Item, Items, Reader, ReaderFault};
 use ld_disk::{Fault, MemDisk};
 use ld_ids::{LogId, NoMemory, NodeId, NodeSet, Payload, Spec};
 use ld_lsn::Lsn;
-use ld_msg::{Body, Entries, Entry, Msg, Outbox, What, Who};
+use ld_msg::{Body, Entries, Entry, Msg, Outbox, Style, Summary, What, Who};
 use ld_register::{DiskRegister, Register, RegisterFault};
 use std::alloc::Global;
 use std::test::Fail;
@@ -68,12 +68,38 @@ fn first_epoch(alloc: Global, last: u8) -> Result<DiskRegister<MemDisk>, ReaderF
     Ok(reg)
 }
 
+// Closes the log's first epoch.
+fn close_first<G: Register>(alloc: Global, reg: &mut G) -> Result<(), ReaderFault> {
+    let Some(log) = LogId::new(1) else {
+        return Err(ReaderFault::NoMemory);
+    };
+    let summary = Summary {
+        ballot: 2,
+        lng: 0,
+        trim: Lsn::from_u64(0),
+        end: 3,
+        loss: false,
+    };
+    reg.close(alloc, log, 1, &summary, false)?;
+    Ok(())
+}
+
+// Puts node 4 in the place of node 3, which changes so many epochs.
+fn swap<G: Register>(alloc: Global, reg: &mut G) -> Result<u32, ReaderFault> {
+    let (Some(log), Some(member), Some(spare)) = (LogId::new(1), NodeId::new(3), NodeId::new(4))
+    else {
+        return Err(ReaderFault::NoMemory);
+    };
+    Ok(reg.swap(alloc, log, 1, member, spare)?)
+}
+
 // ---- answers ----
 
 // What stands at a place.
 #[derive(Clone, Copy)]
 enum Stands {
     Record,
+    Withheld,
     Hole,
     Plug,
 }
@@ -90,6 +116,7 @@ enum Says {
 fn what(alloc: Global, stands: Stands) -> Result<What, NoMemory> {
     match stands {
         Stands::Record => Ok(What::Rec(Payload::new(Vec::from_slice(alloc, &[7])?))),
+        Stands::Withheld => Ok(What::Withheld),
         Stands::Hole => Ok(What::Hole),
         Stands::Plug => Ok(What::Plug),
     }
@@ -138,8 +165,8 @@ struct Scene {
     out: Outbox,
 }
 
-fn start(alloc: Global, first: &Spec) -> Result<Reader, NoMemory> {
-    Reader::start(alloc, first, 0, Lsn::new(1, 1), Lsn::new(1, 2))
+fn start(alloc: Global, first: &Spec, style: Style) -> Result<Reader, NoMemory> {
+    Reader::start(alloc, first, 0, Lsn::new(1, 1), Lsn::new(1, 2), style)
 }
 
 // It asks, and has then sent so many messages.
@@ -149,9 +176,9 @@ fn asks<G: Register>(alloc: Global, scene: &mut Scene, reg: &mut G) -> Result<us
 }
 
 // One that has asked.
-fn begin<G: Register>(alloc: Global, reg: &mut G) -> Result<Scene, ReaderFault> {
+fn begin<G: Register>(alloc: Global, reg: &mut G, style: Style) -> Result<Scene, ReaderFault> {
     let mut scene = Scene {
-        reader: start(alloc, &nodes_to(3)?)?,
+        reader: start(alloc, &nodes_to(3)?, style)?,
         out: Outbox::empty(alloc),
     };
     asks(alloc, &mut scene, reg)?;
@@ -207,6 +234,17 @@ fn letter(items: &Items, place: usize) -> u8 {
     }
 }
 
+// Whether the message at a place asks for one copy.
+fn asks_one(out: &Outbox, place: usize) -> bool {
+    match out.as_slice().get(place) {
+        Some(msg) => match &msg.body {
+            Body::ReadOne { .. } => true,
+            _ => false,
+        },
+        None => false,
+    }
+}
+
 // A record at the place 2, on a page of both places.
 const SECOND: Says = Says::Page {
     last: 2,
@@ -241,7 +279,7 @@ fn a_page_and_an_end_give_all_items_in_order(rt: HostRuntime) -> Result<(), Fail
     let alloc = rt.alloc();
     for (stands, loss, first, second) in ENDS {
         let mut reg = first_epoch(alloc, 3)?;
-        let mut scene = begin(alloc, &mut reg)?;
+        let mut scene = begin(alloc, &mut reg, Style::EachCopy)?;
         let page = Says::Page {
             last: 2,
             esn: 1,
@@ -265,7 +303,7 @@ fn a_page_and_an_end_give_all_items_in_order(rt: HostRuntime) -> Result<(), Fail
 fn a_loss_is_confirmed_before_it_is_given(rt: HostRuntime) -> Result<(), Fail> {
     let alloc = rt.alloc();
     let mut reg = first_epoch(alloc, 3)?;
-    let mut scene = begin(alloc, &mut reg)?;
+    let mut scene = begin(alloc, &mut reg, Style::EachCopy)?;
     // the nodes 1 and 3 are lost, and are asked once more; an answer to the first ask is none to the second
     for (number, round, says, given) in [
         (2, 1, SECOND, (b'.', b'.', 3)),
@@ -288,7 +326,7 @@ fn a_loss_is_confirmed_before_it_is_given(rt: HostRuntime) -> Result<(), Fail> {
 fn a_rebuilt_node_ends_the_confirmation_with_the_record(rt: HostRuntime) -> Result<(), Fail> {
     let alloc = rt.alloc();
     let mut reg = first_epoch(alloc, 3)?;
-    let mut scene = begin(alloc, &mut reg)?;
+    let mut scene = begin(alloc, &mut reg, Style::EachCopy)?;
     for (number, round, says, given) in [
         (1, 1, SECOND, (b'.', b'.', 3)),
         (2, 1, Says::Lost, (b'.', b'.', 3)),
@@ -305,10 +343,70 @@ fn a_rebuilt_node_ends_the_confirmation_with_the_record(rt: HostRuntime) -> Resu
 }
 
 #[test]
+fn where_sets_have_changed_a_round_begins_in_place_of_a_loss(rt: HostRuntime) -> Result<(), Fail> {
+    let alloc = rt.alloc();
+    let mut reg = first_epoch(alloc, 3)?;
+    let mut scene = begin(alloc, &mut reg, Style::EachCopy)?;
+    for (number, round, says, given) in [
+        (2, 1, SECOND, (b'.', b'.', 3)),
+        (1, 1, Says::Lost, (b'.', b'.', 3)),
+        (3, 1, Says::Lost, (b'.', b'.', 5)),
+        (1, 2, Says::Lost, (b'.', b'.', 5)),
+    ] {
+        assert_eq!(rt;
+            hears(alloc, &mut scene, &mut reg, number, round, says)?,
+            given
+        );
+    }
+    close_first(alloc, &mut reg)?;
+    assert_eq!(rt; swap(alloc, &mut reg)?, 1);
+    // an answer of a round before the new one is not taken any more
+    for (number, round, says, given) in [
+        (3, 2, Says::Lost, (b'.', b'.', 8)),
+        (2, 1, FIRST, (b'.', b'.', 8)),
+        (4, 3, FIRST, (b'r', b'.', 8)),
+    ] {
+        assert_eq!(rt;
+            hears(alloc, &mut scene, &mut reg, number, round, says)?,
+            given
+        );
+    }
+    Ok(())
+}
+
+// A record at the place 1 that another node is to send, on a page of that place alone.
+const WITHHELD: Says = Says::Page {
+    last: 1,
+    esn: 1,
+    stands: Stands::Withheld,
+};
+
+#[test]
+fn a_record_that_its_sender_lacks_is_asked_of_all(rt: HostRuntime) -> Result<(), Fail> {
+    let alloc = rt.alloc();
+    let mut reg = first_epoch(alloc, 3)?;
+    let mut scene = begin(alloc, &mut reg, Style::OneCopy)?;
+    assert!(rt; asks_one(&scene.out, 2));
+    // node 3 is to send the record at the place 1
+    for (number, round, says, given) in [
+        (1, 1, WITHHELD, (b'.', b'.', 3)),
+        (3, 1, SECOND, (b'.', b'.', 6)),
+        (1, 2, ONLY, (b'r', b'r', 6)),
+    ] {
+        assert_eq!(rt;
+            hears(alloc, &mut scene, &mut reg, number, round, says)?,
+            given
+        );
+    }
+    assert!(rt; !asks_one(&scene.out, 3));
+    Ok(())
+}
+
+#[test]
 fn a_failed_look_leaves_the_reader_as_it_was(rt: HostRuntime) -> Result<(), Fail> {
     let alloc = rt.alloc();
     let mut reg = first_epoch(alloc, 3)?;
-    let mut scene = begin(alloc, &mut reg)?;
+    let mut scene = begin(alloc, &mut reg, Style::EachCopy)?;
     let mut failing = failing_register(alloc)?;
     assert_eq!(rt;
         hears(alloc, &mut scene, &mut failing, 1, 1, ONLY),
@@ -332,7 +430,7 @@ fn a_failed_look_leaves_the_reader_as_it_was(rt: HostRuntime) -> Result<(), Fail
 fn a_reader_asks_the_nodes_that_the_register_shows(rt: HostRuntime) -> Result<(), Fail> {
     let alloc = rt.alloc();
     let mut reg = first_epoch(alloc, 2)?;
-    let mut scene = begin(alloc, &mut reg)?;
+    let mut scene = begin(alloc, &mut reg, Style::EachCopy)?;
     assert_eq!(rt; scene.out.len(), 2);
     assert_eq!(rt;
         hears(alloc, &mut scene, &mut reg, 1, 1, ONLY)?,
@@ -348,7 +446,7 @@ fn a_reader_asks_the_nodes_that_the_register_shows(rt: HostRuntime) -> Result<()
 fn a_look_before_its_epoch_gives_no_loss(rt: HostRuntime) -> Result<(), Fail> {
     let alloc = rt.alloc();
     let mut reg = new_register(alloc)?;
-    let mut scene = begin(alloc, &mut reg)?;
+    let mut scene = begin(alloc, &mut reg, Style::EachCopy)?;
     hand_out(alloc, &mut reg, 2)?;
     for (number, says) in [(2, SECOND), (1, Says::Lost), (3, Says::Lost)] {
         assert_eq!(rt;
