@@ -12,13 +12,13 @@ use Rattle.ld_msg.specs.declared.msg.Who.{Who}
 use Rattle.ld_msg.specs.declared.msg.Who.TheVariants as whos
 use Rattle.ld_msg.specs.Register.{View}
 use Rattle.ld_msg.specs.Reading.{Held, Item, TrimTo, LossHere, Verdict, Gives, Confirms, AsksAll, NotYet, decide, trim_held, record_held, hole_held, plug_held, withheld_held, end_held, entry_verdict, copy_verdict, end_verdict, loss_verdict}
-use Rattle.ld_msg.specs.Reader.{Reader, Read, Senders, Confirmation, is_finished, verdict, misses, may_confirm, seen_nodes, is_confirming, last_round, on_answer, heard, heard_on, loses, nothing_read, is_swapped, sees_swap, senders_of, most_items, gives_all, keys, held_size, next_round, asks_on, asks_of, asks_with, round_ask, gave_item, confirms, asks_all, starts, start_asks, is_full_poll, polled, poll_asks, look_of, reaches, round_of, gives, is_confirmed}
+use Rattle.ld_msg.specs.Reader.{Reader, Read, Confirmation, is_finished, verdict, misses, may_confirm, seen_nodes, is_confirming, last_round, on_answer, heard, heard_on, loses, nothing_read, is_swapped, sees_swap, senders_of, most_items, gives_all, keys, held_size, next_round, asks_on, asks_of, gave_item, asks_all, starts, start_asks, is_full_poll, polled, poll_asks, look_of, reaches, round_of, gives, is_confirmed}
 use Rattle.ld_reader.specs.Clipped.{all_clipped}
 use Rattle.ld_reader.specs.Course.{followed, sets_out, lasting, placed, on_course}
 use Rattle.ld_reader.specs.Place.{Place}
 use Rattle.ld_reader.specs.Following.{Following, with_reader, asked, answered, replied, going_on, read_so_far, messages_from, HasDone}
 use Rattle.ld_reader.specs.Given.{given, after, rows_left}
-use Rattle.ld_reader.specs.Rounds.{ended, begins, stayed, round_after, round_on, round_of as last_of, begun, begun_over, begun_again, begun_asks, asks_once, asks_twice, begun_anew, anew_asks}
+use Rattle.ld_reader.specs.Rounds.{ended, begins, stayed, round_after, round_on, round_of as last_of, begun, begun_over, begun_again, begun_asks, asks_once, begun_anew, anew_asks}
 use Rattle.ld_reader.specs.declared.round.Ending.{Ending}
 use Rattle.ld_reader.specs.declared.round.Ending.TheVariants as endings
 use Rattle.ld_reader.specs.declared.round.Round.{Round}

@@ -9,7 +9,7 @@ use Rattle.ld_ids.specs.Set.{members, IsSubset}
 use Rattle.ld_ids.specs.Id.{IsNode}
 use Rattle.ld_msg.specs.declared.msg.Who.TheVariants as whos
 use Rattle.ld_msg.specs.Bounds.{share_out, Fits, Is32, Is64, last_reader}
-use Rattle.ld_msg.specs.Reader.{Senders, flags_of, round_ask}
+use Rattle.ld_msg.specs.Reader.{Senders, round_ask}
 use Rattle.ld_reader.specs.Rounds.{IsShared}
 
 -- what a frame can carry

@@ -4,7 +4,7 @@ use Rattle.ld_lsn.specs.Number.{home_epoch}
 use Rattle.ld_msg.specs.declared.msg.Entry.{Entry}
 use Rattle.ld_msg.specs.declared.msg.Body.{Body}
 use Rattle.ld_msg.specs.declared.msg.Body.TheVariants as bodies
-use Rattle.ld_msg.specs.Reading.{Held, Item, Verdict, Gives, Confirms, AsksAll, NotYet}
+use Rattle.ld_msg.specs.Reading.{Held, Item, Gives, Confirms, AsksAll, NotYet}
 use Rattle.ld_msg.specs.Reader.{Reader, is_finished, after_item, verdict}
 
 -- how many entries stand from a number on

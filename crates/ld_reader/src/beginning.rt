@@ -1,8 +1,8 @@
 // Rounds that a reader begins.
-ghost use Rattle.std.specs.Prelude.{◌≡◌, ◌≤◌, ◌<◌, ◌+◌, ◌-◌, ◌++◌, false, IfSome, OnOk, OnErr, All, if◌then◌else◌, [], nat_lt};
+ghost use Rattle.std.specs.Prelude.{◌≡◌, ◌≤◌, ◌<◌, ◌+◌, ◌-◌, ◌++◌, false, OnOk, OnErr, All};
 ghost use Rattle.ld_ids.specs.Set.{members};
 ghost use Rattle.ld_msg.specs.Bounds.{IsMessage};
-ghost use Rattle.ld_msg.specs.Reader.{senders_of, last_round, is_finished, starts, start_asks};
+ghost use Rattle.ld_msg.specs.Reader.{senders_of, last_round, is_finished};
 ghost use Rattle.ld_reader.specs.Course.{placed};
 ghost use Rattle.ld_reader.specs.Following.{messages_from, with_reader};
 ghost use Rattle.ld_reader.specs.Place.{is_past};

@@ -1,5 +1,5 @@
 // The nodes that said last that they are lost.
-ghost use Rattle.std.specs.Prelude.{◌≡◌, [], filter, length, nat_lt, Some, None, if◌then◌else◌, List, ℕ};
+ghost use Rattle.std.specs.Prelude.{◌≡◌, [], filter, List, ℕ};
 ghost use Rattle.ld_table.specs.Table.{find};
 ghost use Rattle.ld_ids.specs.Set.{members};
 ghost use Rattle.ld_msg.specs.Reader.{missed_by, missing_with};

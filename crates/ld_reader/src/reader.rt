@@ -1,5 +1,5 @@
 // A reader of a log.
-ghost use Rattle.std.specs.Prelude.{◌≡◌, ◌≤◌, ◌<◌, ◌+◌, ◌++◌, ◌⊎◌, [], false, nat_lt, Some, None, IfOk, IfErr, OnOk, OnErr, IsErrOf, All, ℕ, List};
+ghost use Rattle.std.specs.Prelude.{◌≡◌, ◌≤◌, ◌<◌, ◌+◌, ◌⊎◌, [], false, nat_lt, Some, None, IfOk, IfErr, OnOk, OnErr, IsErrOf, All, ℕ, List};
 ghost use Rattle.ld_io.specs.Causes.{Rose};
 ghost use Rattle.ld_lsn.specs.Number.{home_epoch};
 ghost use Rattle.ld_msg.specs.Bounds.{IsMessage, last_reader};

@@ -1,6 +1,4 @@
 // Rounds that begin where no item follows any more.
-ghost use Rattle.std.specs.Prelude.{◌≡◌};
-ghost use Rattle.ld_reader.specs.Rounds.{round_count};
 
 use ld_gap::Lost;
 

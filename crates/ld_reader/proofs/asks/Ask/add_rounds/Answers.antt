@@ -1,4 +1,4 @@
-use Rattle.std.proofs.Common.{◌≡◌, ◌++◌, ◌+◌, [], ap, sym, ◌∙◌, append_assoc, true, if◌then◌else◌}
+use Rattle.std.proofs.Common.{◌++◌, ◌+◌, ap, sym, ◌∙◌, append_assoc}
 use Rattle.ld_ids.specs.Set.{members}
 use Rattle.ld_reader.specs.Following.{messages_from}
 use Rattle.ld_reader.specs.Rounds.{asks_once, asks_twice}

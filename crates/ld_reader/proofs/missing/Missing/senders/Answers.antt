@@ -1,5 +1,4 @@
-use Rattle.std.proofs.Common.{◌≡◌, ◌<◌, ◌+◌, ◌-◌, ℕ, true, false, drop, length, filter, arith, ap, sym, ◌∙◌}
-use Rattle.std.proofs.lemmas.Bool.Decides.{nat_tests}
+use Rattle.std.proofs.Common.{◌≡◌, ◌-◌, drop, length, filter, arith, ap, sym, ◌∙◌}
 use Rattle.ld_table.specs.Words.{is_in}
 use Rattle.ld_table.proofs.Places.{there_is}
 use Rattle.ld_ids.specs.Set.{members, members_from, with_node}

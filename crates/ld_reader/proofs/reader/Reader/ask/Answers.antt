@@ -1,11 +1,7 @@
-use Rattle.std.proofs.Common.{◌≡◌, ap, sym, ◌∙◌, subst, arith}
+use Rattle.std.proofs.Common.{arith}
 use Rattle.std.proofs.lemmas.Grind.{common_steps}
 use Rattle.std.proofs.lemmas.Bool.Decides.{nat_tests}
 use Rattle.ld_lsn.specs.Number.{home_epoch}
-use Rattle.ld_msg.specs.Reader.{is_full_poll}
-use Rattle.ld_reader.specs.Rounds.{begun_over}
-use Rattle.ld_reader.specs.Course.{placed}
-use Rattle.ld_reader.specs.Following.{Following, with_reader}
 use Rattle.ld_reader.proofs.Answering.{unasked_so, last_so, asked_so}
 use Rattle.ld_reader.proofs.Looking.{blanks, are_blanks, one_look, at_one, are_one}
 use Rattle.ld_reader.proofs.reader.Reader.ask.Goals as goal
