@@ -1,11 +1,11 @@
 -- What each call of one sequencer does to a state that has it under a name.
-use Rattle.std.proofs.Common.{◌≡◌, ◌≢◌, ◌⊎◌, inl, inr, ℕ, ◌≤◌, Bool, true, false, List, [], ◌∷◌, ◌++◌, length, Some, Ok, Err, IfOk, IfErr, refl, ap, sym, ◌∙◌, subst, nat_lt, if◌then◌else◌}
+use Rattle.std.proofs.Common.{◌≡◌, ◌≢◌, ◌⊎◌, inl, inr, ℕ, ◌≤◌, ◌<◌, ◌==◌, Bool, true, false, List, [], ◌∷◌, ◌++◌, length, Some, Ok, Err, IfOk, IfErr, refl, ap, sym, ◌∙◌, subst, nat_lt, nat_le, arith, if◌then◌else◌}
 use Rattle.std.specs.declared.result.Result.{Result}
-use Rattle.std.proofs.lemmas.Bool.{le-ltb}
+use Rattle.std.proofs.lemmas.Bool.{le-ltb, lt-ltb}
 use Rattle.ld_table.specs.Named.{put_named}
 use Rattle.ld_transcript.specs.declared.line.Line.{Line}
 use Rattle.ld_transcript.specs.declared.line.Line.TheVariants as lines
-use Rattle.ld_lsn.specs.Number.{numbered}
+use Rattle.ld_lsn.specs.Number.{numbered, last_esn}
 use Rattle.ld_ids.specs.declared.set.Spec.{Spec}
 use Rattle.ld_ids.specs.Set.{members}
 use Rattle.ld_msg.specs.declared.msg.Who.{Who}
@@ -15,7 +15,7 @@ use Rattle.ld_msg.specs.declared.msg.Body.{Body}
 use Rattle.ld_msg.specs.declared.msg.Body.TheVariants as bodies
 use Rattle.ld_msg.specs.Register.{Register, View, is_crowded, look}
 use Rattle.ld_msg.specs.Sequencer as sequencer
-use Rattle.ld_msg.specs.Sequencer.{Sequencer, Acts, called, Appending, appending, appended, first_stores, next_esn, released_of, rose, to_each, acted_messages, on_reply, on_retry}
+use Rattle.ld_msg.specs.Sequencer.{Sequencer, Acts, called, Appending, or_preempted, appending, appended, payload_limit, window_limit, first_stores, next_esn, released_of, rose, to_each, acted_messages, on_reply, on_retry}
 use Rattle.ld_config.specs.declared.config.Config.{Config}
 use Rattle.ld_machine.specs.Config.{looks_at}
 use Rattle.ld_machine.specs.State.{State, Done, unchanged, only_state, with_line, with_sequencer, with_register, posted}
@@ -136,6 +136,16 @@ module _ (c : Config) (s : State) (name : List ℕ) (k : Client) (h : IsNamed c 
           lines = ls ∙ (λ i. lines.Appended (u i) (m i) ∷ []);
           sends = ms;
         }
+
+    appending_long : (p : List ℕ) → payload_limit < length p → appending q p ≡ sequencer.TooLong
+    unfolding appending
+    appending_long p l = ap (λ b. if b then sequencer.TooLong else or_preempted q.preempted (if next_esn q == last_esn then sequencer.EpochFull else if nat_le window_limit (length q.appends) then sequencer.WindowFull else sequencer.Numbered)) (lt-ltb payload_limit (length p) l)
+
+    pub append_long : (p own : List ℕ) (bytes : ℕ) (o : Outcome) → length p ≡ bytes → payload_limit < bytes → own ≡ name
+        → o.lines.items ≡ lines.RefusedLong own bytes ∷ [] → o.sends ≡ [] → HasActed s name k o (Stays s) (step.on_live s (Some (shown k)) (λ x. step.append_done s name x p (appending x p)))
+    append_long p own bytes o b l u ls ms = lines_done k o _ (lines.RefusedLong name (length p) ∷ []) refl
+        (live_row (λ x. step.append_done s name x p (appending x p)) live ∙ ap (step.append_done s name q p) (appending_long p (omega arith)))
+        (ls ∙ (λ i. lines.RefusedLong (u i) (sym b i) ∷ [])) ms
 
     -- ---- a trim ----
 

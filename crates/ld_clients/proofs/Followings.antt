@@ -1,5 +1,5 @@
 -- Readers by name: their numbers are their places, and each keeps its log.
-use Rattle.std.proofs.Common.{◌≡◌, ℕ, zero, suc, ◌+◌, Bool, true, false, ◌==◌, List, [], ◌∷◌, ◌++◌, length, slice_get, Option, Some, None, option_map, Ok, Err, IfOk, OnOk, OnErr, refl, ap, sym, ◌∙◌, subst, arith, cond, if◌then◌else◌}
+use Rattle.std.proofs.Common.{◌≡◌, ℕ, zero, suc, ◌+◌, Bool, true, false, ◌==◌, List, [], ◌∷◌, ◌++◌, length, slice_get, Option, Some, None, option_map, Ok, Err, IfOk, OnOk, OnErr, refl, ap, sym, ◌∙◌, subst, arith, cond, if◌then◌else◌, nat_lt}
 use Rattle.std.specs.declared.result.Result.{Result}
 use Rattle.std.proofs.lemmas.Bool.{eq-eqb, ne_eqb}
 use Rattle.ld_table.specs.Named.{same, find_named, put_named}
@@ -11,8 +11,9 @@ use Rattle.ld_msg.specs.declared.msg.Body.{Body}
 use Rattle.ld_ids.specs.declared.set.Spec.{Spec}
 use Rattle.ld_config.specs.declared.config.Config.{Config}
 use Rattle.ld_msg.specs.Register.{View}
-use Rattle.ld_msg.specs.Reading.{Item, Verdict, Gives, Confirms, NotYet, LossHere}
-use Rattle.ld_msg.specs.Reader.{opened, Reader, Read, gives, confirms, gives_all, verdict, heard, loses, polled, asks_on, most_items, on_answer, is_confirmed, is_finished}
+use Rattle.ld_msg.specs.declared.style.Style.{Style}
+use Rattle.ld_msg.specs.Reading.{Item, Verdict, Gives, Confirms, AsksAll, NotYet}
+use Rattle.ld_msg.specs.Reader.{opened, Reader, Read, gives, confirms, asks_all, gives_all, verdict, round_of, heard, heard_on, loses, is_swapped, goes_through, starts, polled, asks_on, most_items, on_answer, is_confirmed, is_finished}
 use Rattle.ld_machine.specs.State.{reader_of, name_of}
 use Rattle.ld_machine.specs.Config.{first_spec}
 use Rattle.ld_reader.specs.Looks.{AreLooks}
@@ -120,50 +121,57 @@ pub record Remains (d e : Reader) : Type 0 where
   pub log : e.log ≡ d.log
   pub number : e.number ≡ d.number
   pub until : e.until ≡ d.until
+  pub style : e.style ≡ d.style
+
+itself : (d : Reader) → Remains d d
+itself d = record { log = refl; number = refl; until = refl; style = refl }
 
 remains_if : (b : Bool) (d e f : Reader) → Remains d e → Remains d f → Remains d (if b then e else f)
 remains_if true d e f h k = h
 remains_if false d e f h k = k
 
+nothing_or : (b : Bool) (d : Reader) (a r : Read) → Remains d a.reader → Remains d r.reader → Remains d (if b then a else r).reader
+nothing_or true d a r h k = h
+nothing_or false d a r h k = k
+
 remains_on : (k : ℕ) (looks : ℕ → View) (a : Read) (v : Verdict) (d : Reader) → Remains d a.reader → ((b : Read) → Remains d b.reader → Remains d (gives_all k looks b).reader)
-    → Remains d (elim v as (λ _. Read) [ Gives i ↦ gives_all k looks (gives a i) | Confirms lost ↦ confirms looks a lost | NotYet ↦ a ]).reader
-remains_on k looks a (Gives i) d h ih = ih (gives a i) record { log = h.log; number = h.number; until = h.until }
-remains_on k looks a (Confirms lost) d h ih = record { log = h.log; number = h.number; until = h.until }
+    → Remains d (elim v as (λ _. Read) [ Gives i ↦ gives_all k looks (gives a i) | Confirms lost ↦ confirms looks a lost | AsksAll ↦ asks_all looks a | NotYet ↦ a ]).reader
+remains_on k looks a (Gives i) d h ih = ih (gives a i) record { log = h.log; number = h.number; until = h.until; style = h.style }
+remains_on k looks a (Confirms lost) d h ih = record { log = h.log; number = h.number; until = h.until; style = h.style }
+remains_on k looks a AsksAll d h ih = record { log = h.log; number = h.number; until = h.until; style = h.style }
 remains_on k looks a NotYet d h ih = h
 
 remains_all : (k : ℕ) (looks : ℕ → View) (a : Read) (d : Reader) → Remains d a.reader → Remains d (gives_all k looks a).reader
 remains_all zero looks a d h = h
 remains_all (suc k) looks a d h = remains_on k looks a (verdict a.reader) d h (λ b g. remains_all k looks b d g)
 
-loses_remains : (b : Bool) (d : Reader) → Remains d (if b then gives (record { reader = d; items = []; asks = [] }) LossHere else record { reader = d; items = []; asks = [] }).reader
-loses_remains true d = record { log = refl; number = refl; until = refl }
-loses_remains false d = record { log = refl; number = refl; until = refl }
+loses_remains : (looks : ℕ → View) (d : Reader) → Remains d (loses looks d).reader
+loses_remains looks d = nothing_or (is_confirmed d.confirming) d _ _ record { log = refl; number = refl; until = refl; style = refl } (itself d)
+
+through_remains : (looks : ℕ → View) (d : Reader) → Remains d (goes_through looks d).reader
+through_remains looks d = let a : Read = gives_all (most_items d) looks (loses looks d) in let h : Remains d a.reader = remains_all (most_items d) looks (loses looks d) d (loses_remains looks d) in
+    remains_if (asks_on a) d (starts false looks a.reader) a.reader record { log = h.log; number = h.number; until = h.until; style = h.style } h
+
+heard_remains : (looks : ℕ → View) (d : Reader) → Remains d (heard_on looks d).reader
+heard_remains looks d = nothing_or (is_swapped looks d) d _ (goes_through looks d) record { log = refl; number = refl; until = refl; style = refl } (through_remains looks d)
 
 from_heard : (d : Reader) (y : ℕ) (b : Body) (e : Reader) → Remains (heard d y b) e → Remains d e
-from_heard d y b e h = record { log = h.log; number = h.number; until = h.until }
+from_heard d y b e h = record { log = h.log; number = h.number; until = h.until; style = h.style }
 
 pub answer_remains : (looks : ℕ → View) (d : Reader) (y : ℕ) (b : Body) → Remains d (on_answer looks d y b).reader
 unfolding on_answer
-answer_remains looks d y b =
-    let k : ℕ = most_items (heard d y b) in
-    let a : Read = gives_all k looks (loses (heard d y b)) in
-    let h : Remains d a.reader = from_heard d y b a.reader (remains_all k looks (loses (heard d y b)) (heard d y b) (loses_remains (is_confirmed (heard d y b).confirming) (heard d y b))) in
-    remains_if (asks_on a) d (polled looks a.reader) a.reader record { log = h.log; number = h.number; until = h.until } h
-
-nothing_or : (b : Bool) (d : Reader) (a r : Read) → Remains d a.reader → Remains d r.reader → Remains d (if b then a else r).reader
-nothing_or true d a r h k = h
-nothing_or false d a r h k = k
+answer_remains looks d y b = nothing_or (nat_lt (round_of b) d.least) d _ _ (itself d) (from_heard d y b (heard_on looks (heard d y b)).reader (heard_remains looks (heard d y b)))
 
 who_remains : (looks : ℕ → View) (d : Reader) (w : Who) (b : Body) → Remains d (answered looks d w b).reader
-who_remains looks d (whos.Node y) b = nothing_or (is_finished d) d _ (on_answer looks d y b) record { log = refl; number = refl; until = refl } (answer_remains looks d y b)
-who_remains looks d (whos.Sequencer e) b = record { log = refl; number = refl; until = refl }
-who_remains looks d (whos.Reader r) b = record { log = refl; number = refl; until = refl }
+who_remains looks d (whos.Node y) b = nothing_or (is_finished d) d _ (on_answer looks d y b) (itself d) (answer_remains looks d y b)
+who_remains looks d (whos.Sequencer e) b = itself d
+who_remains looks d (whos.Reader r) b = itself d
 
 reply_remains : (looks : ℕ → View) (f : Following) (m : Msg) → Remains f.reader (replied looks f m).reader
 reply_remains looks f m = who_remains looks f.reader m.from m.body
 
 ask_remains : (looks : ℕ → View) (f : Following) → Remains f.reader (asked looks f.reader).reader
-ask_remains looks f = remains_if (is_finished f.reader) f.reader f.reader (polled looks f.reader) record { log = refl; number = refl; until = refl } record { log = refl; number = refl; until = refl }
+ask_remains looks f = remains_if (is_finished f.reader) f.reader f.reader (polled looks f.reader) (itself f.reader) record { log = refl; number = refl; until = refl; style = refl }
 
 -- ---- its number, after a call ----
 
@@ -197,6 +205,6 @@ pub know_read : (c : Config) (fs gs : Followers) (m : Msg) (number : ℕ) (found
 know_read c fs gs m number found name items old new h n u g k = let p = found_name found name fs (reader_in number fs) h n u in let t = g p.0 p.2 in
     know_done c fs gs name p.0 items old new (replied t.0 p.0 m) (reply_remains t.0 p.0 m) p.2 t.1 k
 
-pub know_opened : (c : Config) (fs : Followers) (name : List ℕ) (first : Spec) (f : Following) (l number from until : ℕ) → first ≡ first_spec c l → f.first ≡ first → f.reader ≡ opened first.log number from until → KnowTheirLogs c fs → KnowTheirLogs c (put_named name f fs)
-know_opened c fs name first f l number from until s e r k = all_put (Knows c) name f fs
+pub know_opened : (c : Config) (fs : Followers) (name : List ℕ) (first : Spec) (f : Following) (style : Style) (l number from until : ℕ) → first ≡ first_spec c l → f.first ≡ first → f.reader ≡ opened style first.log number from until → KnowTheirLogs c fs → KnowTheirLogs c (put_named name f fs)
+know_opened c fs name first f style l number from until s e r k = all_put (Knows c) name f fs
     (e ∙ (s ∙ ap (first_spec c) (sym (ap (λ (d : Reader). d.log) r ∙ (ap (λ (x : Spec). x.log) s ∙ spec_log l c.logs))))) k

@@ -102,6 +102,7 @@ same_reply looks a y (bodies.Clean e s) = itself a.sequencer
 same_reply looks a y (bodies.Release n) = itself a.sequencer
 same_reply looks a y (bodies.Trim t) = itself a.sequencer
 same_reply looks a y (bodies.ReadAsk round n) = itself a.sequencer
+same_reply looks a y (bodies.ReadOne round n set excluded) = itself a.sequencer
 same_reply looks a y (bodies.ReadPage round n upto c es) = itself a.sequencer
 same_reply looks a y (bodies.ReadEnded round n end loss) = itself a.sequencer
 same_reply looks a y (bodies.ReadTrim round n t) = itself a.sequencer

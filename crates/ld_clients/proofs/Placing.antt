@@ -6,6 +6,7 @@ use Rattle.ld_msg.specs.declared.msg.Msg.{Msg}
 use Rattle.ld_msg.specs.Register.{Register, is_crowded}
 use Rattle.ld_msg.specs.Sequencer.{Sequencer, appending, on_retry}
 use Rattle.ld_config.specs.declared.config.Config.{Config}
+use Rattle.ld_batch.specs.Batch.{packed}
 use Rattle.ld_machine.specs.Config.{looks_at}
 use Rattle.ld_machine.specs.State.{State, Done, unchanged, only_state, with_sequencer, sequencer_of}
 use Rattle.ld_machine.specs.Step as step
@@ -61,6 +62,11 @@ module _ (c : Config) (s : State) (ks : List (List ℕ × Client)) (a : AreSeque
         → HasActed s name g o (Stays s) (step.on_live s (Some (shown k)) (λ q. step.append_done s name q p (appending q p))) → IsActed s gs o (Stays s) (step.happens c s (events.Append name p))
     unfolding step.happens
     append_somebody p k g gs e q h = somebody name (λ q. step.append_done s name q p (appending q p)) o (Stays s) k g gs e q h
+
+    -- a batch is appended as one payload
+    pub batch_as : (ms : List (List ℕ)) (p : List ℕ) (gs : List (List ℕ × Client)) → p ≡ packed ms → IsActed s gs o (Stays s) (step.happens c s (events.Append name p)) → IsActed s gs o (Stays s) (step.happens c s (events.Batch name ms))
+    unfolding step.happens
+    batch_as ms p gs e h = subst (λ x. IsActed s gs o (Stays s) (step.live s name (λ q. step.append_done s name q x (appending q x)))) e h
 
     pub trim_nobody : (point : ℕ) → find_named name ks ≡ None → o.lines.items ≡ [] → o.sends ≡ [] → IsActed s ks o (Stays s) (step.happens c s (events.Trim name point))
     unfolding step.happens

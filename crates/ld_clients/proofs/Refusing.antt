@@ -15,5 +15,6 @@ register_line name (registers.Behind lce next) n = refl
 register_line name (registers.Overtaken epoch) n = refl
 register_line name registers.EpochLimit n = absurd (n refl)
 register_line name registers.GenLimit n = refl
+register_line name registers.SwapLimit n = refl
 register_line name registers.Full n = refl
 register_line name registers.NoMemory n = refl

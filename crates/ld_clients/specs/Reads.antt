@@ -2,6 +2,10 @@
 use Rattle.std.specs.Prelude.{ℕ, ◌≡◌, List}
 use Rattle.ld_table.specs.Named.{put_named}
 use Rattle.ld_config.specs.declared.config.Config.{Config}
+use Rattle.ld_schedule.specs.declared.event.Event.{Event}
+use Rattle.ld_schedule.specs.declared.event.Event.TheVariants as events
+use Rattle.ld_msg.specs.declared.style.Style.{Style}
+use Rattle.ld_msg.specs.declared.style.Style.TheVariants as styles
 use Rattle.ld_msg.specs.declared.msg.Msg.{Msg}
 use Rattle.ld_msg.specs.Reading.{Item}
 use Rattle.ld_msg.specs.Reader.{Read}
@@ -15,6 +19,12 @@ use Rattle.ld_clients.specs.declared.outcome.Outcome.{Outcome}
 pub record AreReaders (c : Config) (s : State) (fs : List (List ℕ × Following)) : Type 0 where
   pub readers : s.readers ≡ readers_of fs
   pub logs : KnowTheirLogs c fs
+
+-- the event that opens a reader of a style
+abbrev pub opening : Style → List ℕ → ℕ → ℕ → ℕ → Event
+opening styles.EachCopy name l from until = events.Open name l from until
+opening styles.OneCopy name l from until = events.OpenOne name l from until
+opening styles.OfMessages name l from until = events.OpenMessages name l from until
 
 -- the readers are then these, the register is one that is told, all else of the state is as it was, and the lines and the messages are those
 pub record IsRead (s : State) (now : List (List ℕ × Following)) (outcome : Outcome) (told : Register → Type 0) (done : Done) : Type 0 where

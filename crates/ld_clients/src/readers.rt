@@ -16,7 +16,7 @@ ghost use Rattle.ld_clients.specs.Reads.{HasRead};
 
 use indexmap::IndexMap;
 use ld_ids::{Name, NoMemory};
-use ld_msg::{Msg, Outbox};
+use ld_msg::{Msg, Outbox, Style};
 use ld_reader::{Items, Reader, ReaderFault};
 use ld_register::Register;
 use std::alloc::Global;
@@ -73,6 +73,17 @@ impl Readers {
         match self.map.get(name) {
             Some(reader) => reader.finished(),
             None => false,
+        }
+    }
+
+    /// How the reader of the name reads.
+    #[tactic(auto, unfolding(ld_table::specs::Named::find_named, ld_table::specs::Named::same))]
+    pub(crate) fn style_of(&self, name: &Name) -> Style
+        ensures { (f : Following) → find_named name.now self.now ≡ Some f → result ≡ f.reader.style }
+    {
+        match self.map.get(name) {
+            Some(reader) => reader.style(),
+            None => Style::EachCopy,
         }
     }
 

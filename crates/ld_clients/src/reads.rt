@@ -2,7 +2,7 @@
 ghost use Rattle.std.specs.Prelude.{◌≡◌, ◌≤◌, ◌⊎◌, ◌==◌, ◌||◌, ℕ, List, nat_lt, IfOk, IfErr, OnErr, IsErrOf};
 ghost use Rattle.ld_io.specs.Causes.{Rose};
 ghost use Rattle.ld_config.specs.declared.config.Config.{Config as Contents};
-ghost use Rattle.ld_schedule.specs.declared.event.Event.TheVariants.{Open, Poll};
+ghost use Rattle.ld_schedule.specs.declared.event.Event.TheVariants.{Poll};
 ghost use Rattle.ld_msg.specs.declared.msg.Who.TheVariants.{Reader as OfReader};
 ghost use Rattle.ld_msg.specs.Bounds.{IsMessage};
 ghost use Rattle.ld_msg.specs.Register.{Register as Registered};
@@ -14,7 +14,7 @@ ghost use Rattle.ld_machine.specs.State.{State, reader_of};
 ghost use Rattle.ld_machine.specs.Step.{happens, to_reader};
 ghost use Rattle.ld_clients.specs.Acting.{Stays};
 ghost use Rattle.ld_clients.specs.Followers.{KnowTheirLogs};
-ghost use Rattle.ld_clients.specs.Reads.{AreReaders, IsRead};
+ghost use Rattle.ld_clients.specs.Reads.{AreReaders, IsRead, opening};
 
 use crate::Outcome;
 use crate::lines::add_items;
@@ -23,7 +23,7 @@ use crate::readers::Readers;
 use ld_config::Config;
 use ld_ids::{LogId, Name, NoMemory};
 use ld_lsn::Lsn;
-use ld_msg::{Msg, Outbox};
+use ld_msg::{Msg, Outbox, Style};
 use ld_reader::{Reader, ReaderFault};
 use ld_register::Register;
 use ld_transcript::Line;
@@ -33,7 +33,7 @@ use std::alloc::Global;
 const READER_LIMIT: usize = 1_000;
 
 impl Readers {
-    /// Opens a reader of a log from a number to another, both included. Where the register shows no nodes, it asks those that
+    /// Opens a reader of a log from a number to another, both included, that reads in this style. Where the register shows no nodes, it asks those that
     /// the configuration gives the log. Nothing comes of it where the name is taken or the log is none of the configuration's.
     /// It is refused with a line `range` where the first number is 0 or above the last, and then with a line `full` where
     /// there are 1,000 readers.
@@ -45,9 +45,10 @@ impl Readers {
         log: LogId,
         from: Lsn,
         until: Lsn,
+        style: Style,
     ) -> Result<Outcome, NoMemory>
         ensures done { IfOk result (λ outcome. (s : State) → AreReaders config.now s self.old
-            → IsRead s self.new outcome (Stays s) (happens config.now s (Open name.now log from until))) }
+            → IsRead s self.new outcome (Stays s) (happens config.now s (opening style name.now log from until))) }
         ensures logs { KnowTheirLogs config.now self.old → KnowTheirLogs config.now self.new }
     {
         if self.has(name) {
@@ -66,7 +67,7 @@ impl Readers {
             let outcome = Outcome::line(alloc, Line::RefusedFull { name })?;
             return Ok(outcome);
         }
-        let reader = Reader::start(alloc, &first, number as u32, from, until)?;
+        let reader = Reader::start(alloc, &first, number as u32, from, until, style)?;
         self.add(name, reader)?;
         Ok(Outcome::nothing(alloc))
     }
@@ -139,10 +140,11 @@ impl Readers {
             return Ok(Outcome::nothing(alloc));
         };
         let name = found.copy(alloc)?;
+        let style = self.style_of(&name);
         let mut sends = Outbox::empty(alloc);
         let items = self.hear(alloc, &name, msg, reg, &mut sends)?;
         let mut lines = Vec::new(alloc);
-        add_items(alloc, &name, items.as_slice(), &mut lines)?;
+        add_items(alloc, style, &name, items.as_slice(), &mut lines)?;
         Ok(Outcome { lines, sends })
     }
 }

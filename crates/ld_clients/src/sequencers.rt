@@ -1,8 +1,8 @@
 // The sequencers by name, in the order of their activation.
-ghost use Rattle.std.specs.Prelude.{◌≡◌, is_some, ℕ, List, [], ◌∷◌, Some, None, true, false, IfOk, OnOk, OnErr, option_copied, option_map};
+ghost use Rattle.std.specs.Prelude.{◌≡◌, ◌<◌, is_some, ℕ, List, [], ◌∷◌, length, Some, None, true, false, IfOk, OnOk, OnErr, option_copied, option_map};
 ghost use Rattle.ld_config.specs.declared.config.Config.{Config as Contents};
 ghost use Rattle.ld_config.specs.Bounds.{IsInBounds};
-ghost use Rattle.ld_schedule.specs.declared.event.Event.TheVariants.{Activate, Append, Trim, Retry, Drop as Drops};
+ghost use Rattle.ld_schedule.specs.declared.event.Event.TheVariants.{Activate, Append, Batch, Trim, Retry, Drop as Drops};
 ghost use Rattle.ld_transcript.specs.declared.line.Line.TheVariants.{Active};
 ghost use Rattle.ld_table.specs.Named.{find_named, put_named};
 ghost use Rattle.ld_msg.specs.Bounds.{IsMessage};
@@ -20,6 +20,7 @@ use crate::lookup::find_spec;
 use crate::places::Places;
 use crate::report::refused;
 use indexmap::IndexMap;
+use ld_batch::Messages;
 use ld_config::Config;
 use ld_ids::{LogId, Name, NoMemory, Payload, Spec};
 use ld_lsn::Lsn;
@@ -29,6 +30,9 @@ use ld_sequencer::Sequencer;
 use ld_transcript::Line;
 use std::alloc::Global;
 use std::marker::Model;
+
+/// How many bytes a payload has at most.
+const PAYLOAD_LIMIT: usize = 65_535;
 
 /// Sequencers by name. After want of memory in a call they are of no use.
 #[derive(Drop)]
@@ -139,6 +143,47 @@ impl Sequencers {
             return Ok(Outcome::nothing(alloc));
         };
         client.append(alloc, name, payload)
+    }
+
+    /// The sequencer of the name appends the batch of the messages, as one payload. It is refused as an append of that payload
+    /// would be, and with a line `long` too where the batch would have more bytes than a payload may have.
+    pub fn batch(
+        &mut self,
+        alloc: Global,
+        name: &Name,
+        messages: &Messages,
+    ) -> Result<Outcome, NoMemory>
+        ensures done { IfOk result (λ outcome. (c : Contents) (s : State) → AreSequencers c s self.old
+            → IsActed s self.new outcome (Stays s) (happens c s (Batch name.now messages.now))) }
+        ensures logs { (c : Contents) → KnowTheirLogs c self.old → KnowTheirLogs c self.new }
+    {
+        let bytes = messages.packed_len();
+        if PAYLOAD_LIMIT < bytes {
+            return self.refuse_long(alloc, name, bytes);
+        }
+        let payload = messages.payload(alloc)?;
+        self.append(alloc, name, &payload)
+    }
+
+    /// The sequencer of the name refuses a payload of so many bytes, more than one may have. One that isn't there or was
+    /// dropped does nothing.
+    fn refuse_long(&self, alloc: Global, name: &Name, bytes: usize) -> Result<Outcome, NoMemory>
+        requires { 65535 < bytes }
+        ensures { IfOk result (λ outcome. (c : Contents) (s : State) (payload : List ℕ) → AreSequencers c s self.now → length payload ≡ bytes
+            → IsActed s self.now outcome (Stays s) (happens c s (Append name.now payload))) }
+    {
+        let Some(client) = self.map.get(name) else {
+            return Ok(Outcome::nothing(alloc));
+        };
+        if client.dropped {
+            return Ok(Outcome::nothing(alloc));
+        }
+        let line = Line::RefusedLong {
+            name: name.copy(alloc)?,
+            bytes: bytes as u64,
+        };
+        let outcome = Outcome::line(alloc, line)?;
+        Ok(outcome)
     }
 
     /// The sequencer of the name tells all nodes of the configuration that all up to the point may go. It is refused with a line

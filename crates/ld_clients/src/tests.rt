@@ -1,6 +1,6 @@
 // Sequencers and readers of a log with each record on two nodes. The configuration has the nodes 1 to 4, and gives the log the
 // first three. What a call wrote is compared as the text of its lines, and what it sent as a letter and a node for each message: `s` stores, `r` releases, `t` trims, `c` tells that an
-// epoch is closed, `d` asks for a digest, `a` asks for what may be read.
+// epoch is closed, `d` asks for a digest, `a` asks for what may be read, `o` asks for one copy of it.
 ghost use Rattle.std.specs.Prelude.{◌≡◌, IfOk};
 ghost use Rattle.ld_config.specs.Bounds.{IsInBounds};
 ghost use Rattle.ld_msg.specs.declared.msg.Who.TheVariants.{Reader as OfReader};
@@ -8,11 +8,12 @@ ghost use Rattle.ld_msg.specs.Bounds.{IsMessage};
 ghost use Rattle.ld_register.specs.Bounds.{IsSpec};
 
 use crate::{Outcome, Readers, Sequencers, find_spec};
+use ld_batch::Messages;
 use ld_config::Config;
 use ld_disk::MemDisk;
 use ld_ids::{LogId, Name, NoMemory, NodeId, NodeSet, Payload, Spec};
 use ld_lsn::Lsn;
-use ld_msg::{Body, Msg, Outbox, Who};
+use ld_msg::{Body, Msg, Outbox, Style, Who};
 use ld_register::{DiskRegister, Register};
 use ld_transcript::{Line, write};
 use std::alloc::Global;
@@ -83,6 +84,7 @@ fn letter(body: &Body) -> u8 {
         Body::Clean { .. } => b'c',
         Body::DigestAsk { .. } => b'd',
         Body::ReadAsk { .. } => b'a',
+        Body::ReadOne { .. } => b'o',
         _ => b'?',
     }
 }
@@ -145,6 +147,15 @@ fn append(
     sequencers.append(alloc, name, payload)
 }
 
+fn batch(
+    alloc: Global,
+    sequencers: &mut Sequencers,
+    name: &Name,
+    messages: &Messages,
+) -> Result<Outcome, NoMemory> {
+    sequencers.batch(alloc, name, messages)
+}
+
 fn trim(alloc: Global, sequencers: &Sequencers, name: &Name) -> Result<Outcome, NoMemory> {
     sequencers.trim(alloc, name, Lsn::new(1, 0))
 }
@@ -175,8 +186,17 @@ fn open(
     config: &Config,
     name: &Name,
     log: LogId,
+    style: Style,
 ) -> Result<Outcome, NoMemory> {
-    readers.open(alloc, config, name, log, Lsn::new(1, 1), Lsn::new(1, 4))
+    readers.open(
+        alloc,
+        config,
+        name,
+        log,
+        Lsn::new(1, 1),
+        Lsn::new(1, 4),
+        style,
+    )
 }
 
 fn poll<G: Register>(
@@ -280,6 +300,8 @@ enum Does {
     Activate(u8, u16),
     // `s` numbers three bytes.
     Append,
+    // `s` numbers the batch of one message of so many bytes.
+    Batch(usize),
     // `s` trims up to the place 0 of epoch 1.
     Trim,
     Retry,
@@ -287,7 +309,7 @@ enum Does {
     // This node tells `s` that it stored what has the first place.
     Stored(u8),
     // `d` is opened on the places 1 to 4 of epoch 1.
-    Open,
+    Open(Style),
     Poll,
     // The first node says this to `d`.
     Say(Says),
@@ -328,9 +350,22 @@ fn appends(alloc: Global, scene: &mut Scene, name: &Name) -> Result<Outcome, NoM
     append(alloc, &mut scene.sequencers, name, &payload)
 }
 
-fn opens(alloc: Global, scene: &mut Scene, name: &Name) -> Result<Outcome, NoMemory> {
+fn batches(
+    alloc: Global,
+    scene: &mut Scene,
+    name: &Name,
+    bytes: usize,
+) -> Result<Outcome, NoMemory> {
+    let mut messages = Messages::empty(alloc);
+    if bytes < 100_000 {
+        messages.push(Payload::new(Vec::from_elem(alloc, 7, bytes)?))?;
+    }
+    batch(alloc, &mut scene.sequencers, name, &messages)
+}
+
+fn opens(alloc: Global, scene: &mut Scene, name: &Name, style: Style) -> Result<Outcome, NoMemory> {
     let config = four_nodes(alloc)?;
-    open(alloc, &mut scene.readers, &config, name, log(7)?)
+    open(alloc, &mut scene.readers, &config, name, log(7)?, style)
 }
 
 fn hears(alloc: Global, scene: &mut Scene, node: u8) -> Result<Outcome, NoMemory> {
@@ -350,11 +385,12 @@ fn outcome(alloc: Global, scene: &mut Scene, does: Does) -> Result<Outcome, NoMe
     match does {
         Does::Activate(letter, nodes) => activates(alloc, scene, letter, nodes),
         Does::Append => appends(alloc, scene, &writer),
+        Does::Batch(bytes) => batches(alloc, scene, &writer, bytes),
         Does::Trim => trim(alloc, &scene.sequencers, &writer),
         Does::Retry => retry(alloc, &mut scene.sequencers, &writer, &mut scene.reg),
         Does::Drop => Ok(scene.sequencers.drop(alloc, &writer)),
         Does::Stored(node) => hears(alloc, scene, node),
-        Does::Open => opens(alloc, scene, &reader),
+        Does::Open(style) => opens(alloc, scene, &reader, style),
         Does::Poll => poll(alloc, &mut scene.readers, &reader, &mut scene.reg),
         Does::Say(says) => reads(alloc, scene, says),
     }
@@ -418,7 +454,7 @@ const ACTIVE: Step = (Does::Activate(b's', FIRST), b"active s 1\n", b"");
 
 const APPENDED: Step = (Does::Append, b"appended s e1n1\n", b"s3s1");
 
-const OPENED: Step = (Does::Open, b"", b"");
+const OPENED: Step = (Does::Open(Style::EachCopy), b"", b"");
 
 const POLLED: Step = (Does::Poll, b"", b"a1a2a3");
 
@@ -480,6 +516,34 @@ const DROPPED: &[Step] = &[
 fn a_dropped_sequencer_does_nothing_more(rt: HostRuntime) -> Result<(), Fail> {
     let alloc = rt.alloc();
     assert_eq!(rt; as_told(alloc, DROPPED)?, DROPPED.len());
+    Ok(())
+}
+
+// A batch is one payload, at most as long as one may be.
+const BATCHED: &[Step] = &[
+    ACTIVE,
+    (Does::Batch(65_532), b"refused s long 65536\n", b""),
+    (Does::Batch(65_531), b"appended s e1n1\n", b"s3s1"),
+];
+
+#[test]
+fn a_batch_is_appended_as_one_payload(rt: HostRuntime) -> Result<(), Fail> {
+    let alloc = rt.alloc();
+    assert_eq!(rt; as_told(alloc, BATCHED)?, BATCHED.len());
+    Ok(())
+}
+
+// The first poll of a number asks for one copy of it, the second for all.
+const ONE_COPY: &[Step] = &[
+    (Does::Open(Style::OneCopy), b"", b""),
+    (Does::Poll, b"", b"o1o2o3"),
+    (Does::Poll, b"", b"a1a2a3"),
+];
+
+#[test]
+fn one_copy_is_asked_for_first(rt: HostRuntime) -> Result<(), Fail> {
+    let alloc = rt.alloc();
+    assert_eq!(rt; as_told(alloc, ONE_COPY)?, ONE_COPY.len());
     Ok(())
 }
 

@@ -3,4 +3,4 @@ use Rattle.ld_clients.proofs.Items.{given_lines_more}
 use Rattle.ld_clients.proofs.lines.add_items.Goals as goal
 
 pub loop-given-preserved : goal.loop-given-preserved
-loop-given-preserved c = rw (c.in_ok-push.ensures.items, c.loop-given.invariant, c.in_ok-line.ensures, given_lines_more c.args.name.now c.args.items.now c.loop-given.given-index c.given-item.result (omega arith) c.given-item.is, append_assoc)
+loop-given-preserved c = rw (c.in_ok-add_item.ensures, c.loop-given.invariant, given_lines_more c.args.style c.args.name.now c.args.items.now c.loop-given.given-index c.given-item.result (omega arith) c.given-item.is, append_assoc)

@@ -21,4 +21,4 @@ returns-clause-logs g c = λ d k. know_read d c.args.self.now c.hear.new.self c.
 pub returns-clause-done : goal.returns-clause-done
 returns-clause-done g c = λ d s h t. reply_done d s c.args.self.now h c.args.msg.now c.args.number c.in-Some.found.now c.in_ok-name.name c.hear.new.self c.in_ok-items.items (record { lines = c.add_items.new.lines; sends = c.hear.new.sends }) (g.G.Register.tells c.hear.new.reg) c.empty-sends.result c.hear.new.sends c.requires.message c.requires.to
     c.in-Some.ensures.name c.in_ok-name.ensures c.in-Some.ensures.unique (λ f e. c.in_ok-items.ensures.exact f e s.register t) c.empty-sends.ensures
-    (c.in_ok-add_items.ensures ∙ (λ i. c.new-lines.ensures.items i ++ given_lines c.in_ok-name.name (c.as_slice.ensures i))) refl
+    c.style_of-style.result c.style_of-style.ensures (c.in_ok-add_items.ensures ∙ (λ i. c.new-lines.ensures.items i ++ given_lines c.style_of-style.result c.in_ok-name.name (c.as_slice.ensures i))) refl
