@@ -306,6 +306,23 @@ fn stops(alloc: Global) -> Result<(Status, Status, Status), NoMemory> {
     stop_one(alloc, &mut hosts)
 }
 
+/// In how many epochs of log 1 node 1 takes the place of node 2, where it was never lost for the log; 9 where the register
+/// refuses.
+fn replaces(alloc: Global) -> Result<u32, NoMemory> {
+    let config = config(alloc)?;
+    let mut reg = new_register(alloc)?;
+    let mut hosts = Hosts::new(alloc, &config)?;
+    let _ = hosts.format(alloc, node_of(1)?, &config, &mut reg)?;
+    let done = hosts.replace(alloc, node_of(1)?, log_of(1)?, node_of(2)?, &mut reg)?;
+    Ok(done.unwrap_or(9))
+}
+
+#[test]
+fn a_node_that_was_not_lost_takes_no_place(rt: HostRuntime) -> Result<(), Fail> {
+    assert_eq!(rt; replaces(rt.alloc())?, 0);
+    Ok(())
+}
+
 #[test]
 fn hosts_go_their_own_ways(rt: HostRuntime) -> Result<(), Fail> {
     assert_eq!(rt; runs(rt.alloc())?, (Kept::Written, 1, Kept::Written));

@@ -1,5 +1,5 @@
 // A node on a disk in memory, beside a register on another one.
-ghost use Rattle.std.specs.Prelude.{◌≡◌, IfOk};
+ghost use Rattle.std.specs.Prelude.{◌≡◌, ◌≤◌, IfOk};
 ghost use Rattle.ld_msg.specs.Bounds.{IsMessage, IsSummary, Fits};
 ghost use Rattle.ld_msg.specs.declared.msg.Who.TheVariants as whos;
 ghost use Rattle.ld_register.specs.Bounds.{IsSpec};
@@ -249,14 +249,36 @@ fn asked<D: Disk, R: Register>(
     }
 }
 
-fn summary() -> Summary
+/// Whether a tick of log 1 finds that all that was lost is there again.
+fn rebuilt<D: Disk, R: Register>(
+    alloc: Global,
+    node: &mut Node<D>,
+    reg: &mut R,
+) -> Result<bool, NodeFault> {
+    if node.is_blank() {
+        return Err(NodeFault::Full);
+    }
+    Ok(matches!(&node.tick(alloc, log_of(1)?, reg)?, Ticked::Rebuilt))
+}
+
+/// In how many epochs of log 1 a node takes the place of node 2.
+fn replaced<D: Disk, R: Register>(
+    alloc: Global,
+    node: &Node<D>,
+    reg: &mut R,
+) -> Result<u32, NodeFault> {
+    node.replace(alloc, log_of(1)?, node_of(2)?, reg)
+}
+
+fn summary_to(end: u32) -> Summary
+    requires { 1 ≤ end }
     ensures { IsSummary 1 result }
 {
     Summary {
         ballot: 2,
         lng: 0,
         trim: Lsn::from_u64(0),
-        end: 2,
+        end,
         loss: false,
     }
 }
@@ -264,7 +286,14 @@ fn summary() -> Summary
 /// Hands out epoch 1 of log 1, and closes it behind its place 1.
 fn close<R: Register>(alloc: Global, reg: &mut R) -> Result<(), RegisterFault> {
     let _ = reg.activate(alloc, &spec()?)?;
-    let _ = reg.close(alloc, log_of(1)?, 1, &summary(), false)?;
+    let _ = reg.close(alloc, log_of(1)?, 1, &summary_to(2), false)?;
+    Ok(())
+}
+
+/// Hands out epoch 1 of log 1, and closes it with nothing in it.
+fn close_empty<R: Register>(alloc: Global, reg: &mut R) -> Result<(), RegisterFault> {
+    let _ = reg.activate(alloc, &spec()?)?;
+    let _ = reg.close(alloc, log_of(1)?, 1, &summary_to(1), false)?;
     Ok(())
 }
 
@@ -349,6 +378,20 @@ fn a_lost_node_asks_all_others(rt: HostRuntime) -> Result<(), Fail> {
     let mut node = formatted_by(alloc, &mut reg)?;
     assert_eq!(rt; cleaned(alloc, &mut node, 1, &mut reg), Ok(1));
     assert_eq!(rt; asked(alloc, &mut node, &mut reg), Ok(2));
+    Ok(())
+}
+
+#[test]
+fn a_node_takes_a_place_once_it_is_rebuilt(rt: HostRuntime) -> Result<(), Fail> {
+    let alloc = rt.alloc();
+    let mut reg = new_register(alloc)?;
+    close_empty(alloc, &mut reg)?;
+    let mut node = formatted_by(alloc, &mut reg)?;
+    assert_eq!(rt; cleaned(alloc, &mut node, 1, &mut reg), Ok(1));
+    assert_eq!(rt; replaced(alloc, &node, &mut reg), Ok(0));
+    assert_eq!(rt; rebuilt(alloc, &mut node, &mut reg), Ok(true));
+    assert_eq!(rt; replaced(alloc, &node, &mut reg), Ok(1));
+    assert_eq!(rt; replaced(alloc, &node, &mut reg), Ok(0));
     Ok(())
 }
 
