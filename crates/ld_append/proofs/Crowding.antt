@@ -156,6 +156,7 @@ limit_register (registers.Behind lce next) e = absurd cc
 limit_register (registers.Overtaken kept) e = absurd cc
 limit_register registers.EpochLimit e = absurd cc
 limit_register registers.GenLimit e = absurd cc
+limit_register registers.SwapLimit e = absurd cc
 limit_register registers.Full e = absurd cc
 limit_register registers.NoMemory e = absurd cc
 

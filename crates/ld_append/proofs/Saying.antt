@@ -41,6 +41,7 @@ told_register name (registers.Behind lce next) = record { name = name; there = f
 told_register name (registers.Overtaken kept) = record { name = name; there = first_there (lines.RefusedRegister name) [] }
 told_register name registers.EpochLimit = record { name = name; there = first_there (lines.RefusedEpochLimit name) [] }
 told_register name registers.GenLimit = record { name = name; there = first_there (lines.RefusedRegister name) [] }
+told_register name registers.SwapLimit = record { name = name; there = first_there (lines.RefusedRegister name) [] }
 told_register name registers.Full = record { name = name; there = first_there (lines.RefusedRegister name) [] }
 told_register name registers.NoMemory = record { name = name; there = first_there (lines.RefusedRegister name) [] }
 
@@ -76,6 +77,7 @@ has_lines name (Err (faults.Register (registers.Behind lce next))) n = refl
 has_lines name (Err (faults.Register (registers.Overtaken kept))) n = refl
 has_lines name (Err (faults.Register registers.EpochLimit)) n = refl
 has_lines name (Err (faults.Register registers.GenLimit)) n = refl
+has_lines name (Err (faults.Register registers.SwapLimit)) n = refl
 has_lines name (Err (faults.Register registers.Full)) n = refl
 has_lines name (Err (faults.Register registers.NoMemory)) n = refl
 has_lines name (Err faults.NoMemory) n = refl
@@ -94,6 +96,7 @@ start_told name (faults.Register (registers.Behind lce next)) = record { name = 
 start_told name (faults.Register (registers.Overtaken kept)) = record { name = name; there = first_there (lines.RefusedRegister name) [] }
 start_told name (faults.Register registers.EpochLimit) = record { name = name; there = first_there (lines.RefusedEpochLimit name) [] }
 start_told name (faults.Register registers.GenLimit) = record { name = name; there = first_there (lines.RefusedRegister name) [] }
+start_told name (faults.Register registers.SwapLimit) = record { name = name; there = first_there (lines.RefusedRegister name) [] }
 start_told name (faults.Register registers.Full) = record { name = name; there = first_there (lines.RefusedRegister name) [] }
 start_told name (faults.Register registers.NoMemory) = record { name = name; there = first_there (lines.RefusedRegister name) [] }
 start_told name faults.NoMemory = tt
@@ -134,6 +137,7 @@ damaged_register (registers.Behind lce next) place e = absurd cc
 damaged_register (registers.Overtaken kept) place e = absurd cc
 damaged_register registers.EpochLimit place e = absurd cc
 damaged_register registers.GenLimit place e = absurd cc
+damaged_register registers.SwapLimit place e = absurd cc
 damaged_register registers.Full place e = absurd cc
 damaged_register registers.NoMemory place e = absurd cc
 

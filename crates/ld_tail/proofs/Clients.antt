@@ -1,13 +1,16 @@
 -- The steps of a reader.
-use Rattle.std.proofs.Common.{◌≡◌, ℕ, Bool, true, ◌==◌, ◌||◌, nat_lt, nat_le, length, is_some, false, not, ◌&&◌, List, [], ◌∷◌, Option, Some, None, refl, ap, sym, ◌∙◌, subst, if◌then◌else◌}
+use Rattle.std.proofs.Common.{◌≡◌, ℕ, ◌+◌, ◌++◌, Bool, true, ◌==◌, ◌||◌, nat_lt, nat_le, length, is_some, false, not, ◌&&◌, List, [], ◌∷◌, Option, Some, None, refl, ap, sym, ◌∙◌, subst, if◌then◌else◌}
 use Rattle.std.specs.List.{AllByRecursion}
 use Rattle.ld_table.specs.Named.{find_named}
+use Rattle.ld_batch.specs.Batch.{Unpacked, Messages, Bad, unpacked}
 use Rattle.ld_config.specs.declared.config.Config.{Config}
 use Rattle.ld_schedule.specs.declared.event.Event.TheVariants as events
 use Rattle.ld_transcript.specs.declared.line.Line.{Line}
 use Rattle.ld_transcript.specs.declared.line.Line.TheVariants as lines
 use Rattle.ld_msg.specs.declared.msg.Who.TheVariants as whos
 use Rattle.ld_msg.specs.declared.msg.Msg.{Msg}
+use Rattle.ld_msg.specs.declared.style.Style.{Style}
+use Rattle.ld_msg.specs.declared.style.Style.TheVariants as styles
 use Rattle.ld_msg.specs.Reader.{Reader, Read, is_finished, on_answer, opened}
 use Rattle.ld_msg.specs.Register.{Register}
 use Rattle.ld_msg.specs.Reading.{Item, TrimTo, RecordHere, HoleHere, BridgeTo, LossHere, LossTo}
@@ -16,31 +19,52 @@ use Rattle.ld_node_bounds.specs.Messages.{AreMessages}
 use Rattle.ld_machine.specs.State.{State, Done, start, unchanged, with_line, with_reader, only_state}
 use Rattle.ld_machine.specs.Config.{has_log, looks_at}
 use Rattle.ld_machine.specs.Step as machine
-use Rattle.ld_machine.specs.Step.{happens, item_lines, read, to_reader, polls, opens, reader_limit}
+use Rattle.ld_machine.specs.Step.{happens, message_lines_from, payload_lines, lines_of_item, item_lines, read, to_reader, polls, opens, opens_new, reader_limit}
 use Rattle.ld_clients.specs.declared.outcome.Outcome.{Outcome}
 use Rattle.ld_clients.specs.Acting.{Stays}
 use Rattle.ld_clients.specs.Followers.{KnowTheirLogs}
-use Rattle.ld_clients.specs.Reads.{AreReaders, IsRead}
+use Rattle.ld_clients.specs.Reads.{AreReaders, IsRead, opening}
 use Rattle.ld_rounds.specs.News.{is_answer}
 use Rattle.ld_rounds.specs.Acts.{IsActed}
 use Rattle.ld_rounds.specs.Drives.{own_lines}
 use Rattle.ld_tail.specs.Readers.{Follows}
+use Rattle.ld_rounds.proofs.Steps.{own-append}
 use Rattle.ld_rounds.proofs.Clients.{IsClient, client_if, nothing_client, posted_asks}
 
-own_item : (name : List ℕ) (n until : ℕ) (x : Item) (ls : List Line) → own_lines ls ≡ ls → own_lines (machine.item_line name n until x ∷ ls) ≡ machine.item_line name n until x ∷ ls
-own_item name n until (TrimTo last) ls h = ap (λ l. machine.item_line name n until (TrimTo last) ∷ l) h
-own_item name n until (RecordHere p) ls h = ap (λ l. machine.item_line name n until (RecordHere p) ∷ l) h
-own_item name n until HoleHere ls h = ap (λ l. machine.item_line name n until HoleHere ∷ l) h
-own_item name n until (BridgeTo last) ls h = ap (λ l. machine.item_line name n until (BridgeTo last) ∷ l) h
-own_item name n until LossHere ls h = ap (λ l. machine.item_line name n until LossHere ∷ l) h
-own_item name n until (LossTo last) ls h = ap (λ l. machine.item_line name n until (LossTo last) ∷ l) h
+own_item : (name : List ℕ) (n until : ℕ) (x : Item) → own_lines (machine.item_line name n until x ∷ []) ≡ machine.item_line name n until x ∷ []
+own_item name n until (TrimTo last) = refl
+own_item name n until (RecordHere p) = refl
+own_item name n until HoleHere = refl
+own_item name n until (BridgeTo last) = refl
+own_item name n until LossHere = refl
+own_item name n until (LossTo last) = refl
 
-own_items : (name : List ℕ) (until : ℕ) (is : List (ℕ × Item)) → own_lines (item_lines name until is) ≡ item_lines name until is
-own_items name until [] = refl
-own_items name until (i ∷ is) = own_item name i.0 until i.1 (item_lines name until is) (own_items name until is)
+own_messages : (name : List ℕ) (n k : ℕ) (ms : List (List ℕ)) → own_lines (message_lines_from name n k ms) ≡ message_lines_from name n k ms
+own_messages name n k [] = refl
+own_messages name n k (m ∷ ms) = ap (λ l. lines.BatchMessage name n k m ∷ l) (own_messages name n (k + 1) ms)
+
+own_payload : (name : List ℕ) (n : ℕ) (p : List ℕ) (u : Unpacked) → own_lines (payload_lines name n p u) ≡ payload_lines name n p u
+own_payload name n p (Messages ms) = own_messages name n 0 ms
+own_payload name n p (Bad place) = refl
+
+own_lines_of : (style : Style) (name : List ℕ) (n until : ℕ) (x : Item) → own_lines (lines_of_item style name n until x) ≡ lines_of_item style name n until x
+own_lines_of styles.OfMessages name n until (TrimTo last) = refl
+own_lines_of styles.OfMessages name n until (RecordHere p) = own_payload name n p (unpacked p)
+own_lines_of styles.OfMessages name n until HoleHere = refl
+own_lines_of styles.OfMessages name n until (BridgeTo last) = refl
+own_lines_of styles.OfMessages name n until LossHere = refl
+own_lines_of styles.OfMessages name n until (LossTo last) = refl
+own_lines_of styles.EachCopy name n until x = own_item name n until x
+own_lines_of styles.OneCopy name n until x = own_item name n until x
+
+own_items : (style : Style) (name : List ℕ) (until : ℕ) (is : List (ℕ × Item)) → own_lines (item_lines style name until is) ≡ item_lines style name until is
+own_items style name until [] = refl
+own_items style name until (i ∷ is) =
+    own-append (lines_of_item style name i.0 until i.1) (item_lines style name until is)
+    ∙ (ap (λ l. l ++ own_lines (item_lines style name until is)) (own_lines_of style name i.0 until i.1) ∙ ap (λ l. lines_of_item style name i.0 until i.1 ++ l) (own_items style name until is))
 
 read_client : (s : State) (name : List ℕ) (a : Read) → IsClient s (read s name a)
-read_client s name a = record { nodes = refl; network = refl; own = own_items name a.reader.until a.items; asks = posted_asks (whos.Reader a.reader.number) a.reader.log a.asks refl }
+read_client s name a = record { nodes = refl; network = refl; own = own_items a.reader.style name a.reader.until a.items; asks = posted_asks (whos.Reader a.reader.number) a.reader.log a.asks refl }
 
 pub reader_client : (c : Config) (s : State) (m : Msg) (o : Option (List ℕ × Reader)) → IsClient s (to_reader c s m o)
 reader_client c s m None = nothing_client s
@@ -60,18 +84,23 @@ line_client s l h = record { nodes = refl; network = refl; own = h; asks = tt }
 opened_client : (s : State) (name : List ℕ) (d : Reader) → IsClient s (only_state (with_reader s name d))
 opened_client s name d = record { nodes = refl; network = refl; own = refl; asks = tt }
 
-opens_client : (s : State) (name : List ℕ) (l from until : ℕ) → IsClient s (opens s name l from until)
-opens_client s name l from until =
+opens_client : (s : State) (style : Style) (name : List ℕ) (l from until : ℕ) → IsClient s (opens s style name l from until)
+opens_client s style name l from until =
     let range = with_line s (lines.RefusedRange name) in
     let full = with_line s (lines.RefusedFull name) in
-    let last = only_state (with_reader s name (opened l (length s.readers) from until)) in
+    let last = only_state (with_reader s name (opened style l (length s.readers) from until)) in
     let many = nat_le reader_limit (length s.readers) in
     client_if ((from == 0) || nat_lt until from) s range (if many then full else last) (line_client s (lines.RefusedRange name) refl)
-    (client_if many s full last (line_client s (lines.RefusedFull name) refl) (opened_client s name (opened l (length s.readers) from until)))
+    (client_if many s full last (line_client s (lines.RefusedFull name) refl) (opened_client s name (opened style l (length s.readers) from until)))
 
-pub open_client : (c : Config) (s : State) (name : List ℕ) (l from until : ℕ) → IsClient s (happens c s (events.Open name l from until))
+opens_new_client : (c : Config) (s : State) (style : Style) (name : List ℕ) (l from until : ℕ) → IsClient s (opens_new c s style name l from until)
+opens_new_client c s style name l from until = client_if (has_log c l && not (is_some (find_named name s.readers))) s (opens s style name l from until) (unchanged s) (opens_client s style name l from until) (nothing_client s)
+
+pub open_client : (c : Config) (s : State) (style : Style) (name : List ℕ) (l from until : ℕ) → IsClient s (happens c s (opening style name l from until))
 unfolding happens
-open_client c s name l from until = client_if (has_log c l && not (is_some (find_named name s.readers))) s (opens s name l from until) (unchanged s) (opens_client s name l from until) (nothing_client s)
+open_client c s styles.EachCopy name l from until = opens_new_client c s styles.EachCopy name l from until
+open_client c s styles.OneCopy name l from until = opens_new_client c s styles.OneCopy name l from until
+open_client c s styles.OfMessages name l from until = opens_new_client c s styles.OfMessages name l from until
 
 -- the reader's part of the step, with its register
 pub reader_acted : (c : Config) (s : State) (new : List (List ℕ × Following)) (o : Outcome) (T U : Register → Type 0) (d : Done) → IsRead s new o T d → ((r : Register) → T r → U r) → IsClient s d → KnowTheirLogs c new → IsActed (Follows new U c) s o.lines.items o.sends d
@@ -102,18 +131,23 @@ sends_none true x y h k = h
 sends_none false x y h k = k
 
 -- it sends nothing
-open_sends : (c : Config) (s : State) (name : List ℕ) (l from until : ℕ) → (happens c s (events.Open name l from until)).sends ≡ []
-unfolding happens
-open_sends c s name l from until =
+opens_new_sends : (c : Config) (s : State) (style : Style) (name : List ℕ) (l from until : ℕ) → (opens_new c s style name l from until).sends ≡ []
+opens_new_sends c s style name l from until =
     let range = with_line s (lines.RefusedRange name) in
     let full = with_line s (lines.RefusedFull name) in
-    let last = only_state (with_reader s name (opened l (length s.readers) from until)) in
+    let last = only_state (with_reader s name (opened style l (length s.readers) from until)) in
     let many = nat_le reader_limit (length s.readers) in
-    sends_none (has_log c l && not (is_some (find_named name s.readers))) (opens s name l from until) (unchanged s)
+    sends_none (has_log c l && not (is_some (find_named name s.readers))) (opens s style name l from until) (unchanged s)
     (sends_none ((from == 0) || nat_lt until from) range (if many then full else last) refl (sends_none many full last refl refl)) refl
 
-pub opened_messages : (c : Config) (fs new : List (List ℕ × Following)) (name : List ℕ) (l from until : ℕ) (o : Outcome) → fs ≡ [] → ((s : State) → AreReaders c s fs → IsRead s new o (Stays s) (happens c s (events.Open name l from until))) → AreMessages o.sends
-opened_messages c fs new name l from until o e done =
+open_sends : (c : Config) (s : State) (style : Style) (name : List ℕ) (l from until : ℕ) → (happens c s (opening style name l from until)).sends ≡ []
+unfolding happens
+open_sends c s styles.EachCopy name l from until = opens_new_sends c s styles.EachCopy name l from until
+open_sends c s styles.OneCopy name l from until = opens_new_sends c s styles.OneCopy name l from until
+open_sends c s styles.OfMessages name l from until = opens_new_sends c s styles.OfMessages name l from until
+
+pub opened_messages : (c : Config) (fs new : List (List ℕ × Following)) (style : Style) (name : List ℕ) (l from until : ℕ) (o : Outcome) → fs ≡ [] → ((s : State) → AreReaders c s fs → IsRead s new o (Stays s) (happens c s (opening style name l from until))) → AreMessages o.sends
+opened_messages c fs new style name l from until o e done =
     let s : State = start c in
     let r = done s (subst (λ x. AreReaders c s x) (sym e) (none_are c s refl)) in
-    subst AreMessages (sym (r.sends ∙ open_sends c s name l from until)) tt
+    subst AreMessages (sym (r.sends ∙ open_sends c s style name l from until)) tt

@@ -69,6 +69,7 @@ module _ (told_old told_new : Type 0) (holds_old holds_new may_old may_new : Reg
     register_looked (registers.Overtaken kept) free keeps failed lost = absurd free
     register_looked registers.EpochLimit free keeps failed lost = absurd free
     register_looked registers.GenLimit free keeps failed lost = absurd free
+    register_looked registers.SwapLimit free keeps failed lost = absurd free
     register_looked registers.Full free keeps failed lost = absurd free
 
 -- ---- the first look ----
@@ -89,6 +90,7 @@ damaged_by (registers.Behind lce next) place h = absurd cc
 damaged_by (registers.Overtaken kept) place h = absurd cc
 damaged_by registers.EpochLimit place h = absurd cc
 damaged_by registers.GenLimit place h = absurd cc
+damaged_by registers.SwapLimit place h = absurd cc
 damaged_by registers.Full place h = absurd cc
 
 -- ---- why the reader can't go on ----

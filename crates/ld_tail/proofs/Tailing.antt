@@ -7,20 +7,23 @@ use Rattle.ld_config.specs.declared.config.Config.{Config}
 use Rattle.ld_config.specs.Bounds.{IsInBounds}
 use Rattle.ld_ids.specs.Set.{members}
 use Rattle.ld_schedule.specs.declared.event.Event.{Event}
-use Rattle.ld_schedule.specs.declared.event.Event.TheVariants as events
 use Rattle.ld_transcript.specs.declared.line.Line.{Line}
 use Rattle.ld_msg.specs.declared.msg.Msg.{Msg}
+use Rattle.ld_msg.specs.declared.style.Style.{Style}
+use Rattle.ld_msg.specs.declared.style.Style.TheVariants as styles
 use Rattle.ld_msg.specs.Network.{Network}
 use Rattle.ld_msg.specs.Bounds.{Is64}
 use Rattle.ld_msg.specs.Register.{Register}
 use Rattle.ld_reader.specs.Following.{Following}
 use Rattle.ld_machine.specs.Disk.{Node}
-use Rattle.ld_machine.specs.State.{State}
+use Rattle.ld_machine.specs.State.{State, finish}
 use Rattle.ld_machine.specs.Step.{happens}
-use Rattle.ld_machine.specs.Run.{state_after}
+use Rattle.ld_machine.specs.Run.{step, state_after}
+use Rattle.ld_bounds.specs.Sound.{IsEvent}
 use Rattle.ld_dial.specs.Far.{Far}
 use Rattle.ld_clients.specs.Finished.{finished_in}
 use Rattle.ld_clients.specs.Followers.{readers_of}
+use Rattle.ld_clients.specs.Reads as readings
 use Rattle.ld_clients.proofs.Names.{find_each_some}
 use Rattle.ld_rounds.specs.declared.ended.Ended.{Ended}
 use Rattle.ld_rounds.specs.declared.ended.Ended.TheVariants as ends
@@ -29,7 +32,7 @@ use Rattle.ld_rounds.specs.Queued.{no_queues}
 use Rattle.ld_rounds.specs.News.{AreNews}
 use Rattle.ld_rounds.specs.Acts.{IsActed}
 use Rattle.ld_rounds.specs.Telling.{HasTold, IsTelling}
-use Rattle.ld_rounds.specs.Drives.{Driver, AllTaken, Holds, Went, Stopped, Stops, GoesOn}
+use Rattle.ld_rounds.specs.Drives.{Driver, IsDriven, AllTaken, Holds, Went, Stopped, Stops, GoesOn}
 use Rattle.ld_rounds.specs.Rounds.{IsOne, IsBegun, AreReadRounds, ReadsUntil}
 use Rattle.ld_rounds.specs.Taking.{TookReads}
 use Rattle.ld_rounds.specs.Reaching.{Begins, Reached}
@@ -39,13 +42,30 @@ use Rattle.ld_tail.specs.Readers.{Follows}
 use Rattle.ld_tail.specs.Tails.{HasNone, Wanted, opening, tailing, IsFinished, AreSteps, EndAt, IsTailed, IsTailEnd, DroveTail, end_of}
 use Rattle.ld_tail.proofs.Clients.{none_are}
 use Rattle.ld_rounds.proofs.News.{no_news}
-use Rattle.ld_rounds.proofs.Steps.{open_is}
 use Rattle.ld_rounds.proofs.Driving.{acted_on}
 use Rattle.ld_rounds.proofs.Joining.{splits_join}
 use Rattle.ld_rounds.proofs.Going.{NoFrame, halted, cut_by, goes_told, goes_as, goes_such, went_on, went_stops}
 
 pub follows_apart : (fs : List (List ℕ × Following)) (U : Register → Type 0) (c : Config) (s : State) (nodes : List (ℕ × Node)) (network : Network) → Follows fs U c s → Follows fs U c (record s { nodes = nodes; network = network })
 follows_apart fs U c s nodes network h = record { readers = record { readers = h.readers.readers; logs = h.readers.logs }; register = h.register }
+
+-- ---- the opening of a reader of any style ----
+
+opening_driven : (who : Driver) (broken : Type 0) (s : State) (style : Style) (log from until : ℕ) → IsDriven who broken s (readings.opening style who.name log from until)
+opening_driven who broken s styles.EachCopy log from until = refl
+opening_driven who broken s styles.OneCopy log from until = refl
+opening_driven who broken s styles.OfMessages log from until = refl
+
+opening_event : (style : Style) (name : List ℕ) (log from until : ℕ) → Is64 until → IsEvent (readings.opening style name log from until)
+opening_event styles.EachCopy name log from until h = h
+opening_event styles.OneCopy name log from until h = h
+opening_event styles.OfMessages name log from until h = h
+
+opening_is : (c : Config) (s : State) (style : Style) (name : List ℕ) (log from until : ℕ) → step c s (readings.opening style name log from until) ≡ finish (happens c s (readings.opening style name log from until))
+unfolding step
+opening_is c s styles.EachCopy name log from until = refl
+opening_is c s styles.OneCopy name log from until = refl
+opening_is c s styles.OfMessages name log from until = refl
 
 module _ (who : Driver) (broken : Type 0) (c : Config) (b : IsInBounds c) (U : Register → Type 0) where
   pub begun : (s : State) (far : Far) → Begins (HasNone U) c s far → Holds (Follows [] U) c s.network.count s far no_queues
@@ -59,12 +79,12 @@ module _ (who : Driver) (broken : Type 0) (c : Config) (b : IsInBounds c) (U : R
 
   module _ (first : ℕ) (fs gs : List (List ℕ × Following)) (V : Register → Type 0) (s : State) (far : Far) (qs now : List (List Msg)) (old new : Option (List ℕ)) (heard : Heard) (h : Holds (Follows fs U) c first s far qs)
       (r : Result (Unit {0}) Ended) (t : MatchResult r (λ u. HasTold heard qs now old new) (IsTelling heard qs now old new)) (n : NoFrame heard.end) (T : Far → Type 0) (told : T far) where
-    pub opened_on : (log from until : ℕ) → Is64 until → IsActed (Follows gs V c) s heard.lines.items heard.sends (happens c s (events.Open who.name log from until))
-        → GoesOn who broken (IsOne (events.Open who.name log from until)) (λ e. IsBegun (events.Open who.name log from until)) (Follows gs V) T c first s now old new r
-    opened_on log from until is a =
-        let one : State → List Event → Type 0 = IsOne (events.Open who.name log from until) in
-        let begun : Ended → State → List Event → Type 0 = λ e. IsBegun (events.Open who.name log from until) in
-        let m = acted_on who broken c first b (Follows fs U) (follows_apart fs U) one (Follows gs V) (follows_apart gs V) s far qs (events.Open who.name log from until) heard.lines.items heard.sends refl refl is (open_is c s who.name log from until) h a in
+    pub opened_on : (style : Style) (log from until : ℕ) → Is64 until → IsActed (Follows gs V c) s heard.lines.items heard.sends (happens c s (readings.opening style who.name log from until))
+        → GoesOn who broken (IsOne (readings.opening style who.name log from until)) (λ e. IsBegun (readings.opening style who.name log from until)) (Follows gs V) T c first s now old new r
+    opened_on style log from until is a =
+        let one : State → List Event → Type 0 = IsOne (readings.opening style who.name log from until) in
+        let begun : Ended → State → List Event → Type 0 = λ e. IsBegun (readings.opening style who.name log from until) in
+        let m = acted_on who broken c first b (Follows fs U) (follows_apart fs U) one (Follows gs V) (follows_apart gs V) s far qs (readings.opening style who.name log from until) heard.lines.items heard.sends (opening_driven who broken s style log from until) refl (opening_event style who.name log from until is) (opening_is c s style who.name log from until) h a in
         goes_as who broken c first b one begun broken (Follows gs V) (λ f. f ≡ far) T s now old new r (λ l. l) (λ f e. subst T (sym e) told) (goes_told who broken c first b one begun (Follows gs V) s far qs now old new heard m (λ e es x. inr x) r n t)
 
 -- where the drive goes on
@@ -72,8 +92,8 @@ pub unframed_end : (o : Option Ended) → o ≡ None → NoFrame o
 unframed_end o e = subst NoFrame (sym e) tt
 
 -- the same under other words for the name and the log
-pub renamed : (A : State → Type 0) (c : Config) (s : State) (ls : List Line) (ms : List Msg) (n m : List ℕ) (k l from until : ℕ) → n ≡ m → k ≡ l → IsActed A s ls ms (happens c s (events.Open n k from until)) → IsActed A s ls ms (happens c s (events.Open m l from until))
-renamed A c s ls ms n m k l from until e f a = subst (λ (x : List ℕ). IsActed A s ls ms (happens c s (events.Open x l from until))) e (subst (λ (x : ℕ). IsActed A s ls ms (happens c s (events.Open n x from until))) f a)
+pub renamed : (A : State → Type 0) (c : Config) (s : State) (ls : List Line) (ms : List Msg) (style : Style) (n m : List ℕ) (k l from until : ℕ) → n ≡ m → k ≡ l → IsActed A s ls ms (happens c s (readings.opening style n k from until)) → IsActed A s ls ms (happens c s (readings.opening style m l from until))
+renamed A c s ls ms style n m k l from until e f a = subst (λ (x : List ℕ). IsActed A s ls ms (happens c s (readings.opening style x l from until))) e (subst (λ (x : ℕ). IsActed A s ls ms (happens c s (readings.opening style n x from until))) f a)
 
 -- a register that is told of in other words
 pub begins_with : (T U : Register → Type 0) (c : Config) (s : State) (far : Far) → (T s.register → U s.register) → Begins (HasNone T) c s far → Begins (HasNone U) c s far

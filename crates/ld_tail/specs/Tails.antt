@@ -7,10 +7,11 @@ use Rattle.ld_table.specs.Named.{find_named}
 use Rattle.ld_ids.specs.Set.{members}
 use Rattle.ld_config.specs.declared.config.Config.{Config}
 use Rattle.ld_schedule.specs.declared.event.Event.{Event}
-use Rattle.ld_schedule.specs.declared.event.Event.TheVariants.{Open}
+use Rattle.ld_msg.specs.declared.style.Style.{Style}
 use Rattle.ld_msg.specs.Reader.{Reader, is_finished}
 use Rattle.ld_msg.specs.Register.{Register}
 use Rattle.ld_machine.specs.State.{State}
+use Rattle.ld_clients.specs.Reads as readings
 use Rattle.ld_dial.specs.Far.{Far}
 use Rattle.ld_rounds.specs.declared.ended.Ended.{Ended}
 use Rattle.ld_rounds.specs.declared.ended.Ended.TheVariants as ends
@@ -25,15 +26,16 @@ pub record HasNone (tells : Register → Type 0) (s : State) : Type 0 where
   pub readers : s.readers ≡ []
   pub register : tells s.register
 
--- what a reader is opened on
+-- what a reader is opened on, and how it reads
 pub record Wanted : Type 0 where
   pub name : List ℕ
   pub log : ℕ
   pub from : ℕ
   pub until : ℕ
+  pub style : Style
 
 abbrev pub opening : Wanted → Event
-opening w = Open w.name w.log w.from w.until
+opening w = readings.opening w.style w.name w.log w.from w.until
 
 -- the reader that is driven: it tells nodes of its log's closed epochs
 abbrev pub tailing : Wanted → Driver

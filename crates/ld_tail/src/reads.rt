@@ -2,12 +2,12 @@
 ghost use Rattle.std.specs.Prelude.{◌≡◌, ℕ, nat_le, [], None, Some, IfOk, OnOk, if◌then◌else◌};
 ghost use Rattle.ld_table.specs.Named.{find_named};
 ghost use Rattle.ld_config.specs.Bounds.{IsInBounds};
-ghost use Rattle.ld_schedule.specs.declared.event.Event.TheVariants.{Open};
 ghost use Rattle.ld_msg.specs.Register.{Register as Contents};
 ghost use Rattle.ld_node_bounds.specs.Messages.{AreMessages};
 ghost use Rattle.ld_machine.specs.State.{State};
 ghost use Rattle.ld_machine.specs.Step.{happens};
 ghost use Rattle.ld_clients.specs.Finished.{finished_in};
+ghost use Rattle.ld_clients.specs.Reads.{opening};
 ghost use Rattle.ld_register.specs.Calls.{looked, IsView};
 ghost use Rattle.ld_rounds.specs.Acts.{IsActed};
 ghost use Rattle.ld_rounds.specs.Reminding.{waited, closing};
@@ -19,7 +19,7 @@ use ld_clients::{Outcome, Readers};
 use ld_config::Config;
 use ld_ids::{LogId, Name, NoMemory};
 use ld_lsn::Lsn;
-use ld_msg::{Body, Msg, Who};
+use ld_msg::{Body, Msg, Style, Who};
 use ld_register::{Register, View};
 use ld_rounds::{Actor, Ended, Heard, Reads, Refusal};
 use std::alloc::Global;
@@ -136,15 +136,16 @@ impl<G: Register> Reading<G> {
         }
     }
 
-    /// Opens a reader of the log from a number to another, both included. Nothing comes of it where the log is none of the
-    /// configuration's, and it is refused with a line `range` where the first number is 0 or above the last: then it is
-    /// never finished.
+    /// Opens a reader of the log from a number to another, both included, that reads in this style. Nothing comes of it where
+    /// the log is none of the configuration's, and it is refused with a line `range` where the first number is 0 or above the
+    /// last: then it is never finished.
     pub fn open(
         &mut self,
         alloc: Global,
         config: &Config,
         from: Lsn,
         until: Lsn,
+        style: Style,
     ) -> Result<Heard, NoMemory>
         requires { IsInBounds config.now }
         ensures name { self.new.name ≡ self.old.name }
@@ -152,13 +153,13 @@ impl<G: Register> Reading<G> {
         ensures register { self.new.register ≡ self.old.register }
         ensures end { self.new.end ≡ self.old.end }
         ensures opened { self.old.readers ≡ [] → IfOk result (λ heard. (s : State) → Follows [] (G.tells self.old.register) config.now s
-            → IsActed (Follows self.new.readers (G.tells self.new.register) config.now) s heard.lines.items heard.sends (happens config.now s (Open self.old.name self.old.log from until))) }
+            → IsActed (Follows self.new.readers (G.tells self.new.register) config.now) s heard.lines.items heard.sends (happens config.now s (opening style self.old.name self.old.log from until))) }
         ensures messages { self.old.readers ≡ [] → IfOk result (λ heard. AreMessages heard.sends) }
         ensures goes_on { IfOk result (λ heard. heard.end ≡ None) }
     {
         let outcome = self
             .readers
-            .open(alloc, config, &self.name, self.log, from, until)?;
+            .open(alloc, config, &self.name, self.log, from, until, style)?;
         Ok(told(outcome))
     }
 }

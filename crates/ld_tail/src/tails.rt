@@ -17,6 +17,7 @@ use ld_dial::Nodes;
 use ld_ids::{LogId, Name};
 use ld_io::Sink;
 use ld_lsn::Lsn;
+use ld_msg::Style;
 use ld_register::Register;
 use ld_rounds::{Ended, Queues, Refusal, read, tell};
 use std::alloc::Global;
@@ -28,6 +29,7 @@ fn drive<G: Register, N: Nodes, O: Sink>(
     name: &Name,
     from: Lsn,
     until: Lsn,
+    style: Style,
     rounds: u64,
     reading: &mut Reading<G>,
     nodes: &mut N,
@@ -38,7 +40,7 @@ fn drive<G: Register, N: Nodes, O: Sink>(
     requires none { reading.old.readers ≡ [] }
     requires on { reading.old.end ≡ None }
     ensures drove { (s : State) (far : Far) → N.tells nodes.old config.now far → Begins (HasNone (G.tells reading.old.register)) config.now s far
-        → (N.silent nodes.new ≡ true) ⊎ DroveTail (record { name = name.now; log = reading.old.log; from = from; until = until }) (IsBroken (N.faults nodes.old) (N.faults nodes.new) (N.endings nodes.old) (N.endings nodes.new)) rounds (N.tells nodes.new) (G.tells reading.new.register) config.now s (O.written out.old) (O.written out.new) result }
+        → (N.silent nodes.new ≡ true) ⊎ DroveTail (record { name = name.now; log = reading.old.log; from = from; until = until; style = style }) (IsBroken (N.faults nodes.old) (N.faults nodes.new) (N.endings nodes.old) (N.endings nodes.new)) rounds (N.tells nodes.new) (G.tells reading.new.register) config.now s (O.written out.old) (O.written out.new) result }
     ensures looked { HasLooked None reading.new.end (G.told reading.old.register) (G.told reading.new.register) (G.holds reading.old.register) (G.holds reading.new.register) (G.may_hold reading.old.register) (G.may_hold reading.new.register) (G.faults reading.old.register) (G.faults reading.new.register) (G.identity reading.old.register) (G.identity reading.new.register) }
     ensures damaged { (place : ℕ) → reading.new.end ≡ Some (Ended.Register (Refusal.Damaged place)) → G.told reading.old.register → G.damaged reading.old.register place }
     ensures cause { IfErr result (IsEnding (O.faults out.old) (O.faults out.new) (O.written out.old) (O.written out.new)) }
@@ -49,7 +51,7 @@ fn drive<G: Register, N: Nodes, O: Sink>(
     let Ok(mut queues) = Queues::new(alloc) else {
         return Err(Ended::NoMemory);
     };
-    let Ok(heard) = reading.open(alloc, config, from, until) else {
+    let Ok(heard) = reading.open(alloc, config, from, until, style) else {
         return Err(Ended::NoMemory);
     };
     tell(alloc, heard, &mut queues, out)?;
@@ -78,8 +80,8 @@ fn end_of(driven: Result<bool, Ended>, why: Ended) -> Ended
     }
 }
 
-/// Tails a log: the register is looked at, a new reader of the name is opened from a number to another, both included, and so
-/// many rounds over the configuration's nodes are driven, in each of which it polls. Its lines are written as they come. The
+/// Tails a log: the register is looked at, a new reader of the name is opened from a number to another, both included, that
+/// reads in this style, and so many rounds over the configuration's nodes are driven, in each of which it polls. Its lines are written as they come. The
 /// register is given back.
 ///
 /// A node may have missed that an epoch was closed, and then it tells the reader to wait for numbers of that epoch, though it
@@ -98,6 +100,7 @@ pub fn tail<G: Register, N: Nodes, O: Sink>(
     log: LogId,
     from: Lsn,
     until: Lsn,
+    style: Style,
     rounds: u64,
     register: G,
     nodes: &mut N,
@@ -111,7 +114,7 @@ pub fn tail<G: Register, N: Nodes, O: Sink>(
     // may be ticked for the log in its visit, right behind an answer by which it tells the reader to wait. It never ends with
     // `BadFrame`.
     ensures tailed { (s : State) (far : Far) → N.tells nodes.old config.now far → Begins (HasNone (G.tells register)) config.now s far
-        → (N.silent nodes.new ≡ true) ⊎ IsTailed (record { name = name; log = log; from = from; until = until }) (IsBroken (N.faults nodes.old) (N.faults nodes.new) (N.endings nodes.old) (N.endings nodes.new)) rounds (N.tells nodes.new) (G.tells result.1) config.now s (O.written out.old) (O.written out.new) result.0 }
+        → (N.silent nodes.new ≡ true) ⊎ IsTailed (record { name = name; log = log; from = from; until = until; style = style }) (IsBroken (N.faults nodes.old) (N.faults nodes.new) (N.endings nodes.old) (N.endings nodes.new)) rounds (N.tells nodes.new) (G.tells result.1) config.now s (O.written out.old) (O.written out.new) result.0 }
     ensures cause { IsTailEnd (λ place. G.told register → G.damaged register place) (G.faults register) (G.faults result.1) (O.faults out.old) (O.faults out.new) result.0 }
     // Looks change nothing of the register.
     ensures told { G.told register → G.told result.1 }
@@ -129,6 +132,7 @@ pub fn tail<G: Register, N: Nodes, O: Sink>(
         &name,
         from,
         until,
+        style,
         rounds,
         &mut reading,
         nodes,
