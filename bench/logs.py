@@ -1,31 +1,11 @@
 """A log on three `ld node`s over loopback, as the scripts beside this file drive it."""
-import pathlib, socket, subprocess
+import pathlib, subprocess
 
 import frames
 
 TOP = pathlib.Path(__file__).resolve().parent.parent
 
 CONFIG = '{"nodes":[1,2,3],"logs":[{"id":1,"set":[1,2,3],"r":2}]}'
-
-
-def free_ports(count):
-    """The first of so many ports in a row that nobody has."""
-    while True:
-        first = frames.free_port()
-        if first + count > 65519:
-            continue
-        taken = []
-        try:
-            for port in range(first, first + count):
-                s = socket.socket()
-                taken.append(s)
-                s.bind(("127.0.0.1", port))
-            return first
-        except OSError:
-            continue
-        finally:
-            for s in taken:
-                s.close()
 
 
 def built():
@@ -38,7 +18,7 @@ class Cluster:
     """Three nodes, each a process with a store of its own in the folder."""
 
     def __init__(self, program, folder):
-        self.program, self.folder, self.port = program, folder, free_ports(4)
+        self.program, self.folder, self.port = program, folder, frames.free_ports(4)
         self.nodes = []
         for node in (1, 2, 3):
             words = ["--id", str(node), "--config", CONFIG, "--store", f"{folder}/store{node}", "--register", f"{folder}/register"]

@@ -102,6 +102,26 @@ def free_port():
         return s.getsockname()[1]
 
 
+def free_ports(count):
+    """The first of so many ports in a row that nobody has."""
+    while True:
+        first = free_port()
+        if first + count > 65519:
+            continue
+        taken = []
+        try:
+            for port in range(first, first + count):
+                s = socket.socket()
+                taken.append(s)
+                s.bind(("127.0.0.1", port))
+            return first
+        except OSError:
+            continue
+        finally:
+            for s in taken:
+                s.close()
+
+
 class Node:
     """An `ld node` of its own, with its files in a folder."""
 
