@@ -25,6 +25,7 @@ unfolding step
 one_step c s (events.Format n) h = refl
 one_step c s (events.Activate name l) h = refl
 one_step c s (events.Append name p) h = refl
+one_step c s (events.Batch name ms) h = refl
 one_step c s (events.Trim name t) h = refl
 one_step c s (events.Retry name) h = refl
 one_step c s (events.Drop name) h = refl
@@ -32,6 +33,8 @@ one_step c s (events.Deliver i) h = refl
 one_step c s (events.Lose i) h = refl
 one_step c s (events.Flow k) h = absurd cc
 one_step c s (events.Open name l from until) h = refl
+one_step c s (events.OpenOne name l from until) h = refl
+one_step c s (events.OpenMessages name l from until) h = refl
 one_step c s (events.Poll name) h = refl
 one_step c s (events.Tick n l) h = refl
 one_step c s (events.Down n) h = refl
@@ -40,6 +43,7 @@ one_step c s (events.Wipe n) h = refl
 one_step c s (events.Fail n k) h = refl
 one_step c s (events.Tear n k p) h = refl
 one_step c s (events.Set l r x set) h = refl
+one_step c s (events.Replace n other l) h = refl
 one_step c s (events.RegFail k done) h = refl
 
 delivery_step : (c : Config) (s : State) (i : ℕ) → step c s (events.Deliver i) ≡ finish (delivers c s i)
@@ -55,6 +59,7 @@ unfolding steps_of
 steps_of_one c s (events.Format n) h = refl
 steps_of_one c s (events.Activate name l) h = refl
 steps_of_one c s (events.Append name p) h = refl
+steps_of_one c s (events.Batch name ms) h = refl
 steps_of_one c s (events.Trim name t) h = refl
 steps_of_one c s (events.Retry name) h = refl
 steps_of_one c s (events.Drop name) h = refl
@@ -62,6 +67,8 @@ steps_of_one c s (events.Deliver i) h = refl
 steps_of_one c s (events.Lose i) h = refl
 steps_of_one c s (events.Flow k) h = absurd cc
 steps_of_one c s (events.Open name l from until) h = refl
+steps_of_one c s (events.OpenOne name l from until) h = refl
+steps_of_one c s (events.OpenMessages name l from until) h = refl
 steps_of_one c s (events.Poll name) h = refl
 steps_of_one c s (events.Tick n l) h = refl
 steps_of_one c s (events.Down n) h = refl
@@ -70,6 +77,7 @@ steps_of_one c s (events.Wipe n) h = refl
 steps_of_one c s (events.Fail n k) h = refl
 steps_of_one c s (events.Tear n k p) h = refl
 steps_of_one c s (events.Set l r x set) h = refl
+steps_of_one c s (events.Replace n other l) h = refl
 steps_of_one c s (events.RegFail k done) h = refl
 
 steps_of_flow : (c : Config) (s : State) (k : ℕ) → steps_of c s (events.Flow k) ≡ more_deliveries c s k (oldest_new s.network)

@@ -6,6 +6,7 @@ pub mod Stopping
 pub mod Delivering
 pub mod Formatting
 pub mod Ticking
+pub mod Swapping
 pub mod Setting
 pub mod Logs
 pub mod Bytes

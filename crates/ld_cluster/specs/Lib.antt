@@ -4,3 +4,4 @@ pub mod Outcomes
 pub mod Formats
 pub mod Ticking
 pub mod Bytes
+pub mod Swaps

@@ -1,14 +1,17 @@
 // What the callers of a cluster do: sequencers and readers.
 ghost use Rattle.std.specs.Prelude.{IfOk, OnErr};
-ghost use Rattle.ld_schedule.specs.declared.event.Event.TheVariants.{Activate, Append, Trim, Retry, Drop, Open, Poll};
+ghost use Rattle.ld_schedule.specs.declared.event.Event.TheVariants.{Activate, Append, Batch, Trim, Retry, Drop, Poll};
 ghost use Rattle.ld_machine.specs.Step.{happens};
+ghost use Rattle.ld_clients.specs.Reads.{opening};
 ghost use Rattle.ld_cluster.specs.Standing.{config_of, state_of, IsReached};
 ghost use Rattle.ld_cluster.specs.Outcomes.{IsSame, IsDone};
 
 use crate::cluster::Cluster;
+use ld_batch::Messages;
 use ld_clients::Outcome;
 use ld_ids::{LogId, Name, NoMemory, Payload};
 use ld_lsn::Lsn;
+use ld_msg::Style;
 use std::alloc::Global;
 
 impl Cluster {
@@ -42,6 +45,21 @@ impl Cluster {
         ensures done { IfOk result (λ outcome. IsDone self.old self.new outcome (happens (config_of self.old) (state_of self.old) (Append name.now payload.now))) }
     {
         let outcome = self.sequencers.append(alloc, name, payload)?;
+        Ok(outcome)
+    }
+
+    /// A sequencer appends a batch of messages.
+    pub(crate) fn batch(
+        &mut self,
+        alloc: Global,
+        name: &Name,
+        messages: &Messages,
+    ) -> Result<Outcome, NoMemory>
+        requires reached { IsReached self.old }
+        ensures same { OnErr result (IsSame self.old self.new) }
+        ensures done { IfOk result (λ outcome. IsDone self.old self.new outcome (happens (config_of self.old) (state_of self.old) (Batch name.now messages.now))) }
+    {
+        let outcome = self.sequencers.batch(alloc, name, messages)?;
         Ok(outcome)
     }
 
@@ -79,7 +97,7 @@ impl Cluster {
         Ok(self.sequencers.drop(alloc, name))
     }
 
-    /// A new reader of a log.
+    /// A new reader of a log, that reads in this style.
     pub(crate) fn open(
         &mut self,
         alloc: Global,
@@ -87,14 +105,15 @@ impl Cluster {
         log: LogId,
         from: Lsn,
         until: Lsn,
+        style: Style,
     ) -> Result<Outcome, NoMemory>
         requires reached { IsReached self.old }
         ensures same { OnErr result (IsSame self.old self.new) }
-        ensures done { IfOk result (λ outcome. IsDone self.old self.new outcome (happens (config_of self.old) (state_of self.old) (Open name.now log from until))) }
+        ensures done { IfOk result (λ outcome. IsDone self.old self.new outcome (happens (config_of self.old) (state_of self.old) (opening style name.now log from until))) }
     {
         let outcome = self
             .readers
-            .open(alloc, &self.config, name, log, from, until)?;
+            .open(alloc, &self.config, name, log, from, until, style)?;
         Ok(outcome)
     }
 

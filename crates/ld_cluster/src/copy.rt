@@ -19,6 +19,10 @@ pub fn copy_of(alloc: Global, event: &Event) -> Result<Event, NoMemory>
             name: name.copy(alloc)?,
             payload: payload.copy(alloc)?,
         }),
+        Event::Batch { name, messages } => Ok(Event::Batch {
+            name: name.copy(alloc)?,
+            messages: messages.copy(alloc)?,
+        }),
         Event::Trim { name, point } => Ok(Event::Trim {
             name: name.copy(alloc)?,
             point: *point,
@@ -38,6 +42,28 @@ pub fn copy_of(alloc: Global, event: &Event) -> Result<Event, NoMemory>
             from,
             until,
         } => Ok(Event::Open {
+            name: name.copy(alloc)?,
+            log: *log,
+            from: *from,
+            until: *until,
+        }),
+        Event::OpenOne {
+            name,
+            log,
+            from,
+            until,
+        } => Ok(Event::OpenOne {
+            name: name.copy(alloc)?,
+            log: *log,
+            from: *from,
+            until: *until,
+        }),
+        Event::OpenMessages {
+            name,
+            log,
+            from,
+            until,
+        } => Ok(Event::OpenMessages {
             name: name.copy(alloc)?,
             log: *log,
             from: *from,
@@ -76,6 +102,11 @@ pub fn copy_of(alloc: Global, event: &Event) -> Result<Event, NoMemory>
             r: *r,
             extras: *extras,
             set: *set,
+        }),
+        Event::Replace { node, other, log } => Ok(Event::Replace {
+            node: *node,
+            other: *other,
+            log: *log,
         }),
         Event::RegFail { call, done } => Ok(Event::RegFail {
             call: *call,

@@ -16,6 +16,7 @@ mod lookup;
 mod nodes;
 mod sets;
 mod specs;
+mod swaps;
 mod take;
 #[cfg(test)]
 mod tests;

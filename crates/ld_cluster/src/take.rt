@@ -12,6 +12,7 @@ use crate::copy::copy_of;
 use ld_bounds::laws::events_are_events;
 use ld_clients::Outcome;
 use ld_ids::NoMemory;
+use ld_msg::Style;
 use ld_schedule::Event;
 use ld_transcript::Lines;
 use std::alloc::Global;
@@ -49,6 +50,7 @@ impl Cluster {
             Event::Format { node } => self.format(alloc, *node),
             Event::Activate { name, log } => self.activate(alloc, name, *log),
             Event::Append { name, payload } => self.append(alloc, name, payload),
+            Event::Batch { name, messages } => self.batch(alloc, name, messages),
             Event::Trim { name, point } => self.trim(alloc, name, *point),
             Event::Retry { name } => self.retry(alloc, name),
             Event::Drop { name } => self.retire(alloc, name),
@@ -60,7 +62,19 @@ impl Cluster {
                 log,
                 from,
                 until,
-            } => self.open(alloc, name, *log, *from, *until),
+            } => self.open(alloc, name, *log, *from, *until, Style::EachCopy),
+            Event::OpenOne {
+                name,
+                log,
+                from,
+                until,
+            } => self.open(alloc, name, *log, *from, *until, Style::OneCopy),
+            Event::OpenMessages {
+                name,
+                log,
+                from,
+                until,
+            } => self.open(alloc, name, *log, *from, *until, Style::OfMessages),
             Event::Poll { name } => self.poll(alloc, name),
             Event::Tick { node, log } => self.tick(alloc, *node, *log),
             Event::Down { node } => self.down(alloc, *node),
@@ -78,6 +92,7 @@ impl Cluster {
                 extras,
                 set,
             } => self.set(alloc, *log, *r, *extras, *set),
+            Event::Replace { node, other, log } => self.replace(alloc, *node, *other, *log),
             Event::RegFail { call, done } => Ok(self.fail_register(alloc, *call, *done)),
         }
     }

@@ -39,6 +39,7 @@ fn counts(event: &Event) -> bool
         Event::Format { .. } => true,
         Event::Activate { .. } => true,
         Event::Append { .. } => true,
+        Event::Batch { .. } => true,
         Event::Trim { .. } => true,
         Event::Retry { .. } => true,
         Event::Drop { .. } => true,
@@ -46,12 +47,15 @@ fn counts(event: &Event) -> bool
         Event::Lose { .. } => true,
         Event::Flow { .. } => true,
         Event::Open { .. } => true,
+        Event::OpenOne { .. } => true,
+        Event::OpenMessages { .. } => true,
         Event::Poll { .. } => true,
         Event::Tick { .. } => true,
         Event::Down { .. } => true,
         Event::Up { .. } => true,
         Event::Wipe { .. } => true,
         Event::Set { .. } => true,
+        Event::Replace { .. } => true,
     }
 }
 
