@@ -1,5 +1,5 @@
 -- Runs that were tampered with aren't safe.
-use Rattle.std.proofs.Common.{◌≡◌, ◌≤◌, ◌<◌, ◌⊎◌, ◌&&◌, ℕ, zero, suc, ◌+◌, ◌-◌, inl, inr, refl, ap, Bool, true, false, nat_lt, List, [], ◌∷◌, Option, Some, None, slice_get, take, arith, subst}
+use Rattle.std.proofs.Common.{◌≡◌, ◌≤◌, ◌<◌, ◌⊎◌, ◌&&◌, ℕ, zero, suc, ◌+◌, ◌-◌, inl, inr, refl, ap, Bool, true, false, nat_lt, List, [], ◌∷◌, Option, Some, None, slice_get, take, length, ◌++◌, ◌∙◌, sym, ◌||◌, ◌==◌, arith, subst}
 use Rattle.ld_table.specs.Words.{any_of, all_of, how_many, numbers_from}
 use Rattle.ld_lsn.specs.Number.{numbered}
 use Rattle.ld_schedule.specs.declared.event.Event.{Event}
@@ -8,16 +8,16 @@ use Rattle.ld_transcript.specs.declared.line.Line.{Line}
 use Rattle.ld_transcript.specs.declared.line.Line.TheVariants as lines
 use Rattle.ld_transcript.specs.declared.line.GapKind.{GapKind}
 use Rattle.ld_transcript.specs.declared.line.GapKind.TheVariants as gaps
-use Rattle.ld_machine.specs.Facts.{Happened, Writes, Acks, Appends, GivesRecord, GivesGap, AsksToAppend, ReadsLog, spec_now, stands_lost, Interval, opening, intervals}
+use Rattle.ld_machine.specs.Facts.{Happened, Writes, Acks, Appends, GivesRecord, GivesMessage, GivesGap, AsksToAppend, ReadsLog, spec_now, stands_lost, Interval, opening, intervals}
 use Rattle.ld_machine.specs.Safe.{Safe, TilesFrom}
 use Rattle.ld_machine.specs.Config.{first_spec}
-use Rattle.ld_batch.specs.Batch.{packed}
+use Rattle.ld_batch.specs.Batch.{packed, Unpacked, Messages, Bad, unpacked, listed}
 use Rattle.ld_ids.specs.declared.set.Spec.{Spec}
 use Rattle.ld_ids.specs.Choice.{choice_at, nodes_of}
 use Rattle.ld_ids.specs.Set.{members_from}
 use Rattle.ld_machine.specs.Disk.{is_found, keep_op, keep_end, load}
 use Rattle.ld_machine.specs.State.{finish}
-use Rattle.ld_machine.specs.Step.{delivers, happens}
+use Rattle.ld_machine.specs.Step.{delivers, happens, message_lines_from}
 use Rattle.ld_msg.specs.Digest.{statement, with_page, with_asks, with_lost, digest_lng, enough, is_spent, best, digest_trim, top_place, plan_floor, plan_end, plan}
 use Rattle.ld_msg.specs.Network.{message}
 use Rattle.ld_msg.specs.Reader.{on_answer}
@@ -30,8 +30,8 @@ use Rattle.ld_op.specs.Ticks.{missing, is_missing, on_page, on_tick}
 use Rattle.ld_table.specs.Named.{same, find_named, put_named}
 use Rattle.ld_table.specs.Table.{find, put, take_out, keep, keep_keys}
 use Rattle.ld_machine.specs.Run.{steps_of, history_from}
-use Rattle.ld_rows.specs.Schedules.{three_nodes, one_append, two_appends, sequencer_a, reader_r}
-use Rattle.ld_rows.specs.Tampered.{tampered_run, another_payload, a_hole, a_loss, a_trim, rewritten_run, without_gap, from_the_end}
+use Rattle.ld_rows.specs.Schedules.{three_nodes, one_append, two_appends, one_batch, sequencer_a, reader_r}
+use Rattle.ld_rows.specs.Tampered.{tampered_run, another_payload, a_hole, a_loss, a_trim, a_message, rewritten_run, without_gap, from_the_end, second_first, without_second}
 
 -- ---- lists ----
 
@@ -167,6 +167,88 @@ unfolding members_from
 loss_unsafe s =
     let found = s.losses 1 number number number 23 (gap_given a_loss gaps.DataLoss refl known_loss) (omega arith) (omega arith) in
     clash (everywhere (few (run a_loss)) 0 24 found.0 few_lost (omega arith) (omega arith)) (not_few _ _ found.2.0 found.2.1 found.2.2)
+
+-- ---- messages ----
+
+-- the event appends a payload that holds this
+abbrev appends_such : (Unpacked → Bool) → Event → Bool
+appends_such q (events.Append name p) = q (unpacked p)
+appends_such q (events.Batch name ms) = q (unpacked (packed ms))
+appends_such q _ = false
+
+such_asked : (q : Unpacked → Bool) (e : Event) (name p : List ℕ) → AsksToAppend name p e → appends_such q e ≡ q (unpacked p)
+such_asked q e name p (inl is) = ap (λ x. appends_such q x) is
+such_asked q e name p (inr batch) = ap (λ x. appends_such q x) batch.1 ∙ ap (λ x. q (unpacked x)) (sym batch.2)
+
+none_such : (q : Unpacked → Bool) (hs : List Happened) (l n j : ℕ) (p : List ℕ) → any_of (λ h. appends_such q h.event) hs ≡ false → Appends hs l n p j → q (unpacked p) ≡ false
+none_such q hs l n j p none a = sym (such_asked q a.here.event a.name p a.asked) ∙ nowhere (λ h. appends_such q h.event) hs j a.here none a.at
+
+-- so many messages are fewer than two; none are read of what is no batch
+abbrev is_batch : Unpacked → Bool
+is_batch (Messages ms) = true
+is_batch (Bad place) = false
+
+abbrev is_short : Unpacked → Bool
+is_short u = nat_lt (length (listed u)) 2
+
+-- a message of no batch is given, though none was appended
+message_known : (any_of (λ h. appends_such is_batch h.event) (run a_message) ≡ false) × GivesMessage three_nodes (run a_message) 1 number 0 (0 ∷ []) 23
+unfolding choice_at members_from is_found keep_op keep_end load finish delivers happens statement with_page with_asks with_lost digest_lng enough is_spent best digest_trim top_place plan_floor plan_end plan message on_answer is_loss decide change activate close draw look after_close is_ready is_ready_short on_reply on_retry appending activated store_decision on_store digest_decision on_digest_ask on_clean on_trim on_release read_answer summary_at apply op_length missing is_missing on_page on_tick same find_named put_named find put take_out keep keep_keys steps_of history_from unpacked
+message_known = (refl, record { name = reader_r; told = (_, refl, 0, refl); of_log = (record { log = 1; from = 1; until = number }, refl, refl) })
+
+pub message_unsafe : Safe three_nodes (run a_message) → ⊥
+message_unsafe s =
+    let found = s.batches 1 number 23 0 (0 ∷ []) message_known.1 in
+    clash (ap is_batch found.4) (none_such is_batch (run a_message) 1 number found.0 found.1 message_known.0 found.5)
+
+abbrev begins : ℕ → List Line → Bool
+begins i (lines.BatchMessage name n index m ∷ ls) = index == i
+begins i _ = false
+
+-- a first message stands right in front of a second one
+abbrev has_pair : List Line → Bool
+has_pair [] = false
+has_pair (x ∷ ls) = (begins 0 (x ∷ ls) && begins 1 ls) || has_pair ls
+
+or_there : (a b : Bool) → b ≡ true → a || b ≡ true
+or_there a b is = grind arith
+
+pair_behind : (before : List Line) (ls : List Line) → has_pair ls ≡ true → has_pair (before ++ ls) ≡ true
+pair_behind [] ls has = has
+pair_behind (x ∷ before) ls has = or_there _ _ (pair_behind before ls has)
+
+batch_pairs : (name : List ℕ) (n : ℕ) (before after : List Line) (ms : List (List ℕ)) → is_short (Messages ms) ≡ false → has_pair (before ++ (message_lines_from name n 0 ms ++ after)) ≡ true
+batch_pairs name n before after [] long = absurd (clash refl long)
+batch_pairs name n before after (m ∷ []) long = absurd (clash refl long)
+batch_pairs name n before after (m ∷ (o ∷ ms)) long = pair_behind before (message_lines_from name n 0 (m ∷ (o ∷ ms)) ++ after) refl
+
+abbrev batch_run : (Line → Line) → List Happened
+batch_run g = rewritten_run g three_nodes one_batch
+
+-- the step that gives messages, and none with a pair of them, though all that was appended has two
+abbrev Unpaired : (Line → Line) → ℕ → Type 0
+Unpaired g index =
+    (any_of (λ h. appends_such is_short h.event) (batch_run g) ≡ false) × (any_of (λ h. has_pair h.lines) (batch_run g) ≡ false) × GivesMessage three_nodes (batch_run g) 1 number index (1 ∷ []) 23
+
+unpaired_unsafe : (g : Line → Line) (index : ℕ) → Unpaired g index → Safe three_nodes (batch_run g) → ⊥
+unpaired_unsafe g index known s =
+    let found = s.batches 1 number 23 index (1 ∷ []) known.2 in
+    let long : is_short (Messages found.2) ≡ false = ap is_short (sym found.4) ∙ none_such is_short (batch_run g) 1 number found.0 found.1 known.0 found.5 in
+    clash (ap has_pair found.6.run ∙ batch_pairs known.2.name number found.6.before found.6.after found.2 long) (nowhere (λ h. has_pair h.lines) (batch_run g) 23 found.6.here known.1 found.6.at)
+
+order_known : Unpaired second_first 1
+unfolding choice_at members_from is_found keep_op keep_end load finish delivers happens statement with_page with_asks with_lost digest_lng enough is_spent best digest_trim top_place plan_floor plan_end plan message on_answer is_loss decide change activate close draw look after_close is_ready is_ready_short on_reply on_retry appending activated store_decision on_store digest_decision on_digest_ask on_clean on_trim on_release read_answer summary_at apply op_length missing is_missing on_page on_tick same find_named put_named find put take_out keep keep_keys steps_of history_from unpacked packed
+order_known = (refl, refl, record { name = reader_r; told = (_, refl, 0, refl); of_log = (record { log = 1; from = 1; until = number }, refl, refl) })
+
+pub order_unsafe : Safe three_nodes (batch_run second_first) → ⊥
+order_unsafe = unpaired_unsafe second_first 1 order_known
+
+missing_known : Unpaired without_second 0
+unfolding choice_at members_from is_found keep_op keep_end load finish delivers happens statement with_page with_asks with_lost digest_lng enough is_spent best digest_trim top_place plan_floor plan_end plan message on_answer is_loss decide change activate close draw look after_close is_ready is_ready_short on_reply on_retry appending activated store_decision on_store digest_decision on_digest_ask on_clean on_trim on_release read_answer summary_at apply op_length missing is_missing on_page on_tick same find_named put_named find put take_out keep keep_keys steps_of history_from unpacked packed
+missing_known = (refl, refl, record { name = reader_r; told = (_, refl, 0, refl); of_log = (record { log = 1; from = 1; until = number }, refl, refl) })
+
+pub missing_unsafe : Safe three_nodes (batch_run without_second) → ⊥
+missing_unsafe = unpaired_unsafe without_second 0 missing_known
 
 -- ---- a space between what a reader got ----
 

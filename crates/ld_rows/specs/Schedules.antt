@@ -46,6 +46,12 @@ one_append =
     events.Format 1 ∷ events.Format 2 ∷ events.Format 3 ∷ events.Activate sequencer_a 1 ∷ events.Append sequencer_a (104 ∷ 105 ∷ []) ∷ events.Flow 10 ∷
     events.Open reader_r 1 1 (numbered 1 1) ∷ events.Poll reader_r ∷ events.Flow 20 ∷ []
 
+-- a batch of two messages is appended, acknowledged, released and read
+abbrev pub one_batch : List Event
+one_batch =
+    events.Format 1 ∷ events.Format 2 ∷ events.Format 3 ∷ events.Activate sequencer_a 1 ∷ events.Batch sequencer_a ((1 ∷ []) ∷ (2 ∷ []) ∷ []) ∷ events.Flow 10 ∷
+    events.OpenMessages reader_r 1 1 (numbered 1 1) ∷ events.Poll reader_r ∷ events.Flow 20 ∷ []
+
 -- nodes 1 and 4
 abbrev pub first_and_fourth : List Bool
 first_and_fourth = true ∷ false ∷ false ∷ true ∷ replicate 12 false

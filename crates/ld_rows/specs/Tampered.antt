@@ -1,5 +1,5 @@
 -- Runs whose lines were changed afterwards.
-use Rattle.std.specs.Prelude.{ℕ, ◌-◌, List, [], ◌∷◌, map}
+use Rattle.std.specs.Prelude.{ℕ, ◌-◌, List, [], ◌∷◌, map, ◌==◌, if◌then◌else◌}
 use Rattle.ld_lsn.specs.Number.{numbered}
 use Rattle.ld_schedule.specs.declared.event.Event.{Event}
 use Rattle.ld_transcript.specs.declared.line.Line.{Line}
@@ -36,6 +36,10 @@ a_loss name n = lines.Gap name gaps.DataLoss n n
 abbrev pub a_trim : List ℕ → ℕ → Line
 a_trim name n = lines.Gap name gaps.Trim n n
 
+-- of no batch
+abbrev pub a_message : List ℕ → ℕ → Line
+a_message name n = lines.BatchMessage name n 0 (0 ∷ [])
+
 -- gaps are left out: what a reader gets has spaces
 abbrev pub without_gap : Line → Line
 without_gap (lines.Gap name kind low high) = lines.Nothing
@@ -45,6 +49,16 @@ without_gap x = x
 abbrev pub from_the_end : Line → Line
 from_the_end (lines.Appended name n) = lines.Appended name (numbered 2 0 - n)
 from_the_end x = x
+
+-- the second message of a batch is told first
+abbrev pub second_first : Line → Line
+second_first (lines.BatchMessage name n index m) = lines.BatchMessage name n (1 - index) m
+second_first x = x
+
+-- the second message of a batch is left out
+abbrev pub without_second : Line → Line
+without_second (lines.BatchMessage name n index m) = if index == 1 then lines.Nothing else lines.BatchMessage name n index m
+without_second x = x
 
 abbrev pub rewritten_run : (Line → Line) → Config → List Event → List Happened
 rewritten_run g c es = rewritten g (history c es)
