@@ -70,8 +70,8 @@ fn name_of(which: Which) -> &'static str {
 const USAGE: &str = "ld: usage: ld replay < SCHEDULE
 ld:        ld exercise --seed N --events M
 ld:        ld node --id N --config TEXT --store FILE --register FILE --port P --turns K [--format]
-ld:        ld append --config TEXT --log L --register FILE --port P --rounds K < PAYLOADS
-ld:        ld tail --config TEXT --log L --register FILE --port P --rounds K --from LSN --until LSN";
+ld:        ld append --config TEXT --log L --register FILE --port P --rounds K [--batches] < PAYLOADS
+ld:        ld tail --config TEXT --log L --register FILE --port P --rounds K --from LSN --until LSN [--one-copy | --messages]";
 
 /// Whether the words begin with this command's name.
 fn is_command(words: &[String], name: &str) -> bool {
@@ -109,6 +109,15 @@ fn first_part(reason: &str) -> &str {
     }
 }
 
+/// How a line of payloads is spelt.
+fn payload_hint(words: &[String]) -> &'static str {
+    if words.iter().any(|word| word.as_str() == "--batches") {
+        "a line is 1 to 1,024 messages with commas between them, each an even number of hexadecimal digits 0 to 9 and a to f, or - for none"
+    } else {
+        "a payload is an even number of hexadecimal digits 0 to 9 and a to f, or - for none"
+    }
+}
+
 /// Tells which line is off, where it is, and how such a line is spelt.
 fn tell_line(
     rt: &HostRuntime,
@@ -118,9 +127,7 @@ fn tell_line(
     shown: Option<&[u8]>,
 ) -> Result<()> {
     if is_command(words, "append") {
-        return eprintln!(rt;
-            "ld: line {line} place {place}: a payload is an even number of hexadecimal digits 0 to 9 and a to f, or - for none"
-        );
+        return eprintln!(rt; "ld: line {line} place {place}: {}", payload_hint(words));
     }
     let reason = if line == 1 {
         "this is no configuration"

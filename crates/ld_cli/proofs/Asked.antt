@@ -2,7 +2,7 @@
 use Rattle.std.proofs.Common.{◌≡◌, List, Option, None, Some, ap, subst}
 use Rattle.std.specs.Prelude.{MatchOption}
 use Rattle.clap.specs.Walk.{Text}
-use Rattle.ld_words.specs.declared.command.LogWords.{LogWords}
+use Rattle.ld_words.specs.declared.command.AppendWords.{AppendWords}
 use Rattle.ld_words.specs.declared.command.NodeWords.{NodeWords}
 use Rattle.ld_words.specs.declared.command.TailWords.{TailWords}
 use Rattle.ld_words.specs.declared.command.Command.{Command}
@@ -25,12 +25,12 @@ node_or other _ = other
 pub one_node : (m n : NodeWords) → Node m ≡ Node n → m ≡ n
 one_node m n same = ap (node_or m) same
 
-abbrev log_or : LogWords → Command → LogWords
-log_or other (Append w) = w
-log_or other _ = other
+abbrev append_or : AppendWords → Command → AppendWords
+append_or other (Append w) = w
+append_or other _ = other
 
-pub one_append : (v w : LogWords) → Append v ≡ Append w → v ≡ w
-one_append v w same = ap (log_or v) same
+pub one_append : (v w : AppendWords) → Append v ≡ Append w → v ≡ w
+one_append v w same = ap (append_or v) same
 
 abbrev tail_or : TailWords → Command → TailWords
 tail_or other (Tail t) = t

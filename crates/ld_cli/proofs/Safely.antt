@@ -4,8 +4,10 @@ use Rattle.ld_config.specs.declared.config.Config.{Config}
 use Rattle.ld_config.specs.Bounds.{IsInBounds}
 use Rattle.ld_schedule.specs.declared.event.Event.{Event}
 use Rattle.ld_lsn.specs.Number.{home_epoch}
+use Rattle.ld_machine.specs.Run.{moves}
 use Rattle.ld_safety.proofs.Agreed.{losses_were_gone}
 use Rattle.ld_safety.proofs.LostJoined.{every_run_is_safe, copies_were_lost, losses_were_told}
+use Rattle.ld_safety.proofs.OneCopy.{one_node_sends}
 use Rattle.ld_safety.proofs.Traces.{lines_are_the_steps}
 use Rattle.ld_cli.specs.Ends.{IsSafe}
 
@@ -18,4 +20,5 @@ run_is_safe c b events =
       planned = λ name low high number before gives after d whole there given unconfirmed from to.
           let h = losses_were_told c name low high number before gives d b there given unconfirmed from to in
           record { ballot = h.ballot; plan = h.plan; there = h.there; says = h.says; gone = losses_were_gone c before d.log (home_epoch number) h.ballot h.plan h.there h.says; moment = h.moment };
+      sent = one_node_sends c (moves c events);
     }

@@ -9,12 +9,13 @@ use Rattle.ld_lsn.specs.Number.{home_epoch}
 use Rattle.ld_transcript.specs.declared.line.Line.TheVariants as lines
 use Rattle.ld_transcript.specs.declared.line.GapKind.TheVariants as gaps
 use Rattle.ld_msg.specs.Reader.{Reader}
-use Rattle.ld_machine.specs.Config.{spec_of, set_at}
+use Rattle.ld_machine.specs.Config.{fixed_of, fixed_at}
 use Rattle.ld_machine.specs.Run.{Move, transcript, history, moves, after_step, world_after, step_happened}
 use Rattle.ld_machine.specs.World.{Made, In, HasPlan, begin}
 use Rattle.ld_machine.specs.Losses.{EndsAsLoss, Completes as Confirms}
 use Rattle.ld_machine.specs.Safe.{Safe}
 use Rattle.ld_safety.specs.Lost.{CopiesAreLost, MadeOfLost}
+use Rattle.ld_safety.specs.OneCopy.{OneSends}
 use Rattle.ld_safety.specs.OneRun.{AreOneRun}
 use Rattle.ld_cli.specs.declared.status.Stop.{Stop}
 use Rattle.ld_cli.specs.declared.status.Stop.TheVariants as stops
@@ -35,14 +36,14 @@ LossesStood config events = (name : List ℕ) (log number round : ℕ) (before :
     → EndsAsLoss config name log number round before asks between gives
     → CopiesAreLost config (after_step config (world_after config (begin config) before) asks) log number
 
--- after these steps the epoch has a plan that says what is lost; as it was made, as many nodes of the epoch as it has copies were blank, or lost for it, and so many
--- stood lost for it in the lines before
+-- after these steps the epoch has a plan that says what is lost; as it was made, as many of the nodes that were fixed for the epoch as it has copies were blank, or lost for it,
+-- and so many of them stood lost for it in the lines before
 pub record WasPlanned (config : Config) (steps : List Move) (log epoch : ℕ) : Type 0 where
   pub ballot : ℕ
   pub plan : Made
   pub there : HasPlan (world_after config (begin config) steps) log epoch ballot plan
   pub says : plan.loss ≡ true
-  pub gone : (spec_of config (world_after config (begin config) steps).state.register log epoch).r ≤ how_many (λ y. is_in y plan.gone) (set_at config (world_after config (begin config) steps).state.register log epoch)
+  pub gone : (fixed_of config (world_after config (begin config) steps).state.register log epoch).r ≤ how_many (λ y. is_in y plan.gone) (fixed_at config (world_after config (begin config) steps).state.register log epoch)
   pub moment : MadeOfLost config steps log epoch plan
 
 -- numbers that a reader of the run is told are lost are of an epoch that has such a plan, except the one number whose confirmation the step completes
@@ -56,13 +57,15 @@ LossesPlanned config events = (name : List ℕ) (low high number : ℕ) (before 
     → WasPlanned config before d.log (home_epoch number)
 
 -- the headline: in the run of these events what each reader gets tiles the numbers from its first one on, a record is the payload that was appended under its
--- number, no hole or bridge holds a number that was acknowledged or read as a record, a trim gap ends at an issued point, and a data loss had its moment, in the
--- lines and in the state, which for one that a plan says is that plan's step; and these are the lines of the transcript, but for `none`
+-- number, the messages of a batch are those of the batch that was, no hole or bridge holds a number that was acknowledged or read, a trim gap ends at an issued
+-- point, and a data loss had its moment, in the lines and in the state, which for one that a plan says is that plan's step; in a round for one copy of each record one
+-- node alone sends each; and these are the lines of the transcript, but for `none`
 pub record IsSafe (config : Config) (events : List Event) : Type 0 where
   pub told : AreOneRun config events
   pub lines : Safe config (history config events)
   pub losses : LossesStood config events
   pub planned : LossesPlanned config events
+  pub sent : OneSends (world_after config (begin config) (moves config events))
 
 -- the input is a schedule, and its whole transcript was written
 pub record IsReplayed (bytes : List ℕ) (old new : Option (List ℕ)) : Type 0 where

@@ -1,20 +1,43 @@
 -- The payloads that the lines of an input spell.
-use Rattle.std.specs.Prelude.{ℕ, ◌≡◌, ◌+◌, ◌-◌, ◌^◌, ◌==◌, ◌&&◌, nat_le, min, if◌then◌else◌, List, [], ◌∷◌, ◌++◌, length, Option, None, Some, Result, Ok, Err}
+use Rattle.std.specs.Prelude.{ℕ, ◌≡◌, ◌+◌, ◌-◌, ◌^◌, ◌==◌, ◌&&◌, nat_le, min, if◌then◌else◌, Bool, true, false, List, [], ◌∷◌, ◌++◌, map, replicate, length, Option, None, Some, Result, Ok, Err}
 use Rattle.hex.specs.Hex.{decode_of}
 use Rattle.hex.specs.declared.error.FromHexError.{FromHexError}
 use Rattle.ld_table.specs.Named.{same}
 use Rattle.ld_ids.specs.Bytes.{AreBytes, hex_text}
-use Rattle.ld_schedule.specs.Reading.{IsOff}
-use Rattle.ld_rounds.specs.Lines.{longest}
+use Rattle.ld_batch.specs.Batch.{batch_limit, packed}
+use Rattle.ld_schedule.specs.Reading.{IsText}
+use Rattle.ld_schedule.specs.Grammar.{IsBatch, messages_text}
+use Rattle.ld_rounds.specs.Lines.{longest, IsMisspelt}
 use Rattle.ld_rounds.specs.Input.{Input, all_taken}
 use Rattle.ld_rounds.specs.declared.payloads.InputFault.{InputFault}
 use Rattle.ld_rounds.specs.declared.payloads.InputFault.TheVariants as faults
 
+-- ---- a line ----
+
+-- the greatest length of a payload
+abbrev pub payload_limit : ℕ
+payload_limit = 65535
+
+-- the payload of the batch of these messages; where that would be longer than a payload may be, so many bytes 0: an append of either is refused, and told by its length alone
+abbrev pub batch_payload : List (List ℕ) → List ℕ
+batch_payload ms = if nat_le (length (packed ms)) payload_limit then packed ms else replicate (length (packed ms)) 0
+
+-- the line spells the messages of a batch, and that is their payload
+pub record IsBatchLine (line payload : List ℕ) : Type 0 where
+  pub messages : List (List ℕ)
+  pub text : IsText IsBatch messages_text line messages
+  pub packs : payload ≡ batch_payload messages
+
+-- the line spells this payload, by the messages of its batch where each line is to spell such
+abbrev pub Spells : Bool → List ℕ → List ℕ → Type 0
+Spells false line payload = IsText AreBytes hex_text line payload
+Spells true line payload = IsBatchLine line payload
+
 -- the line of this number spells none, and goes on at that place as no such line does; or memory ended
-abbrev pub IsUnspelt : ℕ → List ℕ → InputFault → Type 0
-IsUnspelt number line (faults.BadLine at place) = (at ≡ number) × IsOff AreBytes hex_text line place
-IsUnspelt number line faults.NoMemory = Unit {0}
-IsUnspelt number line faults.Read = ⊥
+abbrev pub IsUnspelt : Bool → ℕ → List ℕ → InputFault → Type 0
+IsUnspelt batches number line (faults.BadLine at place) = (at ≡ number) × IsMisspelt batches line place
+IsUnspelt batches number line faults.NoMemory = Unit {0}
+IsUnspelt batches number line faults.Read = ⊥
 
 -- ---- as a function of the bytes ----
 
@@ -22,34 +45,61 @@ abbrev pub decoded : Result (List ℕ) FromHexError → List ℕ
 decoded (Ok bytes) = bytes
 decoded (Err fault) = []
 
+-- the bytes that a text spells, where it spells some
+abbrev pub bytes_in : List ℕ → List ℕ
+bytes_in text = decoded (decode_of text)
+
 -- the payload of a line, where it spells one and isn't too long
-abbrev pub payload_in : List ℕ → Option (List ℕ)
-payload_in line = if nat_le (length line) longest && same line (hex_text (decoded (decode_of line))) then Some (decoded (decode_of line)) else None
+abbrev pub single_in : List ℕ → Option (List ℕ)
+single_in line = if nat_le (length line) longest && same line (hex_text (bytes_in line)) then Some (bytes_in line) else None
+
+-- the parts of a text between its commas, of which the first begins with what was seen
+abbrev pub parts_from : List ℕ → List ℕ → List (List ℕ)
+parts_from seen [] = seen ∷ []
+parts_from seen (b ∷ text) = if b == 44 then seen ∷ parts_from [] text else parts_from (seen ++ b ∷ []) text
+
+-- the messages that a line spells, where it spells some
+abbrev pub messages_in : List ℕ → List (List ℕ)
+messages_in line = map bytes_in (parts_from [] line)
+
+-- the payload of the batch of a line, where it spells one and isn't too long
+abbrev pub batch_in : List ℕ → Option (List ℕ)
+batch_in line = if nat_le (length line) longest && (nat_le (length (messages_in line)) batch_limit && same line (messages_text (messages_in line))) then Some (batch_payload (messages_in line)) else None
+
+abbrev pub payload_in : Bool → List ℕ → Option (List ℕ)
+payload_in false line = single_in line
+payload_in true line = batch_in line
 
 -- the next number of a line; it is counted up to the greatest 64-bit number
 abbrev pub counted : ℕ → ℕ
 counted number = min (number + 1) (2 ^ 64 - 1)
 
+-- no payload comes any more: the line of this number, with which the bytes begin, is off
+abbrev pub stops_at : Bool → ℕ → List ℕ → Input
+stops_at batches number bytes = record { payloads = []; off = Some (record { number = number; bytes = bytes; batches = batches }) }
+
 -- a line was begun where the input ends
-abbrev pub cut_at : ℕ → List ℕ → Input
-cut_at number [] = all_taken
-cut_at number (b ∷ line) = record { payloads = []; off = Some (number, b ∷ line) }
+abbrev pub cut_at : Bool → ℕ → List ℕ → Input
+cut_at batches number [] = all_taken
+cut_at batches number (b ∷ line) = stops_at batches number (b ∷ line)
 
 -- a whole line, and what follows it
-abbrev pub with_line : ℕ → List ℕ → List ℕ → Option (List ℕ) → Input → Input
-with_line number line rest None input = record { payloads = []; off = Some (number, line ++ 10 ∷ rest) }
-with_line number line rest (Some payload) input = record { payloads = payload ∷ input.payloads; off = input.off }
+abbrev pub with_line : Bool → ℕ → List ℕ → List ℕ → Option (List ℕ) → Input → Input
+with_line batches number line rest None input = stops_at batches number (line ++ 10 ∷ rest)
+with_line batches number line rest (Some payload) input = record { payloads = payload ∷ input.payloads; off = input.off }
 
 -- the payloads of the lines up to the first one that is off, where a part of the line of this number was seen
-unfoldable pub input_from : ℕ → List ℕ → List ℕ → Input
-input_from number line [] = cut_at number line
-input_from number line (b ∷ bytes) = if b == 10 then with_line number line bytes (payload_in line) (input_from (counted number) [] bytes) else input_from number (line ++ b ∷ []) bytes
+unfoldable pub input_from : Bool → ℕ → List ℕ → List ℕ → Input
+input_from batches number line [] = cut_at batches number line
+input_from batches number line (b ∷ bytes) =
+    if b == 10 then with_line batches number line bytes (payload_in batches line) (input_from batches (counted number) [] bytes)
+    else input_from batches number (line ++ b ∷ []) bytes
 
 -- where so many lines were begun, and the bytes behind them are known
-abbrev pub input_after : ℕ → Option (List ℕ) → Option Input
-input_after number None = None
-input_after number (Some bytes) = Some (input_from (counted number) [] bytes)
+abbrev pub input_after : Bool → ℕ → Option (List ℕ) → Option Input
+input_after batches number None = None
+input_after batches number (Some bytes) = Some (input_from batches (counted number) [] bytes)
 
--- what an input spells
-abbrev pub payloads_in : Option (List ℕ) → Option Input
-payloads_in bytes = input_after 0 bytes
+-- what an input spells: each line a payload, or the messages of a batch
+abbrev pub payloads_in : Bool → Option (List ℕ) → Option Input
+payloads_in batches bytes = input_after batches 0 bytes

@@ -27,7 +27,7 @@ use ld_register::Register;
 use ld_rounds::{Ended, Refusal};
 use ld_serve::Which;
 use ld_tail::tail;
-use ld_words::{LogWords, TailWords};
+use ld_words::{AppendWords, LogWords, TailWords};
 use std::alloc::Global;
 
 /// The name of this one byte.
@@ -86,10 +86,10 @@ fn append_lines<I: Source, O: Sink, G: Register, N: Nodes>(
     requires { IsSpec spec.now }
     ensures appended { (s : State) (far : Far) → IsInBounds words.now.config → IsSpecOf words.now.config spec.now → IsUnset words.now.config s spec.now → N.tells nodes.old words.now.config far → Begins (HasNoSequencers (G.tells reg.old)) words.now.config s far
         → (N.silent nodes.new ≡ true) ⊎ EndsDrive (N.faults nodes.old) (N.faults nodes.new)
-        (IsAppended name spec.now.log (IsBroken (N.faults nodes.old) (N.faults nodes.new) (N.endings nodes.old) (N.endings nodes.new)) (input_after lines.old.held.now.number (prepend_known lines.old.held.now.buffer (I.left lines.old.input.now))) words.now.rounds (N.tells nodes.new) (G.tells reg.new) words.now.config s (O.written out.old) (O.written out.new)) result }
+        (IsAppended name spec.now.log (IsBroken (N.faults nodes.old) (N.faults nodes.new) (N.endings nodes.old) (N.endings nodes.new)) (input_after lines.old.held.now.batches lines.old.held.now.number (prepend_known lines.old.held.now.buffer (I.left lines.old.input.now))) words.now.rounds (N.tells nodes.new) (G.tells reg.new) words.now.config s (O.written out.old) (O.written out.new)) result }
     ensures itself { lines.new.input.ghost_name ≡ lines.old.input.ghost_name }
     ensures ends { EndsDrive (N.faults nodes.old) (N.faults nodes.new)
-        (IsEndOfAppend (G.told reg.old → MayCrowd (G.may_hold reg.old) spec.now.log) (λ place. G.told reg.old → G.damaged reg.old place) (input_after lines.old.held.now.number (prepend_known lines.old.held.now.buffer (I.left lines.old.input.now))) (I.faults lines.old.input.now) (I.faults lines.new.input.now) (O.faults out.old) (O.faults out.new) (O.written out.old) (O.written out.new)) result }
+        (IsEndOfAppend (G.told reg.old → MayCrowd (G.may_hold reg.old) spec.now.log) (λ place. G.told reg.old → G.damaged reg.old place) (input_after lines.old.held.now.batches lines.old.held.now.number (prepend_known lines.old.held.now.buffer (I.left lines.old.input.now))) (I.faults lines.old.input.now) (I.faults lines.new.input.now) (O.faults out.old) (O.faults out.new) (O.written out.old) (O.written out.new)) result }
 {
     let before = nodes.failures();
     let (ended, _) = append(
@@ -107,36 +107,36 @@ fn append_lines<I: Source, O: Sink, G: Register, N: Nodes>(
     status_of(ended, before, now)
 }
 
-/// Appends the payloads of the input to the log that the words name.
+/// Appends the payloads of the input, or the batches of its messages, to the log that the words name.
 pub(crate) fn appended<I: Source, O: Sink, G: Register, N: Nodes>(
     alloc: Global,
-    words: &LogWords,
+    words: &AppendWords,
     input: &mut I,
     out: &mut O,
     reg: &mut G,
     nodes: &mut N,
 ) -> Status
-    requires bounds { IsLogInBounds words.now }
-    ensures appended { (s : State) (far : Far) → N.tells nodes.old words.now.config far → Begins (HasNoSequencers (G.tells reg.old)) words.now.config s far → spec_set words.now.config s words.now.log ≡ first_spec words.now.config words.now.log
+    requires bounds { IsLogInBounds words.now.of }
+    ensures appended { (s : State) (far : Far) → N.tells nodes.old words.now.of.config far → Begins (HasNoSequencers (G.tells reg.old)) words.now.of.config s far → spec_set words.now.of.config s words.now.of.log ≡ first_spec words.now.of.config words.now.of.log
         → (N.silent nodes.new ≡ true) ⊎ EndsDrive (N.faults nodes.old) (N.faults nodes.new)
-        (IsAppended (codes "s") words.now.log (IsBroken (N.faults nodes.old) (N.faults nodes.new) (N.endings nodes.old) (N.endings nodes.new)) (payloads_in (I.left input.old)) words.now.rounds (N.tells nodes.new) (G.tells reg.new) words.now.config s (O.written out.old) (O.written out.new)) result }
+        (IsAppended (codes "s") words.now.of.log (IsBroken (N.faults nodes.old) (N.faults nodes.new) (N.endings nodes.old) (N.endings nodes.new)) (payloads_in words.now.batches (I.left input.old)) words.now.of.rounds (N.tells nodes.new) (G.tells reg.new) words.now.of.config s (O.written out.old) (O.written out.new)) result }
     ensures ends { EndsDrive (N.faults nodes.old) (N.faults nodes.new)
-        (IsEndOfAppend (G.told reg.old → MayCrowd (G.may_hold reg.old) words.now.log) (λ place. G.told reg.old → G.damaged reg.old place) (payloads_in (I.left input.old)) (I.faults input.old) (I.faults input.new) (O.faults out.old) (O.faults out.new) (O.written out.old) (O.written out.new)) result }
+        (IsEndOfAppend (G.told reg.old → MayCrowd (G.may_hold reg.old) words.now.of.log) (λ place. G.told reg.old → G.damaged reg.old place) (payloads_in words.now.batches (I.left input.old)) (I.faults input.old) (I.faults input.new) (O.faults out.old) (O.faults out.new) (O.written out.old) (O.written out.new)) result }
 {
     let Ok(name) = name_of(alloc, b's') else {
         return Status::NoMemory;
     };
-    let Some(spec) = find_spec(&words.config, words.log) else {
+    let Some(spec) = find_spec(&words.of.config, words.of.log) else {
         unreachable!();
     };
-    let Ok(mut held) = Held::new(alloc) else {
+    let Ok(mut held) = Held::new(alloc, words.batches) else {
         return Status::NoMemory;
     };
     let mut lines = PayloadLines {
         held: &mut held,
         input,
     };
-    append_lines(alloc, words, &spec, name, &mut lines, out, reg, nodes)
+    append_lines(alloc, &words.of, &spec, name, &mut lines, out, reg, nodes)
 }
 
 /// Reads the log that the words name.
@@ -150,7 +150,7 @@ pub(crate) fn tailed<O: Sink, G: Register, N: Nodes>(
     requires bounds { IsTailInBounds words.now }
     ensures tailed { (s : State) (far : Far) → N.tells nodes.old words.now.of.config far → Begins (HasNoReaders (G.tells reg.old)) words.now.of.config s far
         → (N.silent nodes.new ≡ true) ⊎ EndsDrive (N.faults nodes.old) (N.faults nodes.new)
-        (IsTailed (record { name = codes "r"; log = words.now.of.log; from = words.now.from; until = words.now.until }) (IsBroken (N.faults nodes.old) (N.faults nodes.new) (N.endings nodes.old) (N.endings nodes.new)) words.now.of.rounds (N.tells nodes.new) (G.tells reg.new) words.now.of.config s (O.written out.old) (O.written out.new)) result }
+        (IsTailed (record { name = codes "r"; log = words.now.of.log; from = words.now.from; until = words.now.until; style = words.now.style }) (IsBroken (N.faults nodes.old) (N.faults nodes.new) (N.endings nodes.old) (N.endings nodes.new)) words.now.of.rounds (N.tells nodes.new) (G.tells reg.new) words.now.of.config s (O.written out.old) (O.written out.new)) result }
     ensures ends { EndsDrive (N.faults nodes.old) (N.faults nodes.new)
         (IsTailEnd (λ place. G.told reg.old → G.damaged reg.old place) (G.faults reg.old) (G.faults reg.new) (O.faults out.old) (O.faults out.new)) result }
     ensures only_looks { OnlyLooks (G.told reg.old) (G.told reg.new) (G.may_hold reg.old) (G.may_hold reg.new) }
@@ -166,6 +166,7 @@ pub(crate) fn tailed<O: Sink, G: Register, N: Nodes>(
         words.of.log,
         words.from,
         words.until,
+        words.style,
         u64::from(words.of.rounds),
         &mut *reg,
         nodes,

@@ -1,29 +1,37 @@
 // The payloads that the lines of the input spell.
-ghost use Rattle.std.specs.Prelude.{◌≡◌, ◌≤◌, [], IfOk, IfErr, MatchResult};
+ghost use Rattle.std.specs.Prelude.{◌≡◌, ◌≤◌, [], true, false, IfOk, IfErr, MatchResult};
 ghost use Rattle.std.specs.Io.KnownBytes.{prepend_known};
 ghost use Rattle.ld_ids.specs.Bytes.{AreBytes, hex_text};
 ghost use Rattle.ld_schedule.specs.Reading.{IsText};
+ghost use Rattle.ld_schedule.specs.Grammar.{IsBatch, messages_text};
 ghost use Rattle.ld_rounds.specs.Input.{Gives, IsReadFault};
-ghost use Rattle.ld_cli.specs.Payloads.{IsUnspelt, input_after};
+ghost use Rattle.ld_cli.specs.Payloads.{batch_payload, IsBatchLine, Spells, IsUnspelt, input_after};
 
 use crate::input::Buffer;
 use crate::lines::{Ending, LONGEST, next_line};
 use crate::status::Stop;
+use ld_batch::Messages;
 use ld_ids::{NoMemory, Payload};
 use ld_io::Source;
 use ld_rounds::{InputFault, Payloads};
-use ld_schedule::{LineFault, parse_payload};
+use ld_schedule::{LineFault, parse_messages, parse_payload};
 use std::alloc::Global;
+
+/// How many bytes a payload has at most.
+const PAYLOAD_LIMIT: usize = 65_535;
 
 /// What was read of an input and not taken, its last line, and how many lines were begun.
 #[derive(Drop)]
 pub(crate) struct Held {
+    /// Whether each line is the messages of a batch, and not one payload.
+    batches: bool,
     buffer: Buffer,
     line: Vec<u8>,
     number: u64,
 }
 
-/// The lines of an input, each of which is to spell a payload. It owns no memory, so that the input is seen to come back.
+/// The lines of an input, each of which is to spell a payload, or the messages of a batch. It owns no memory, so that the input
+/// is seen to come back.
 #[derive(Drop)]
 pub(crate) struct PayloadLines<'a, I: Source> {
     pub(crate) held: &'a mut Held,
@@ -31,8 +39,8 @@ pub(crate) struct PayloadLines<'a, I: Source> {
 }
 
 /// The payload that a line of this number spells, or the place where it is off.
-fn spelt(alloc: Global, line: &[u8], number: u64) -> Result<Payload, InputFault>
-    ensures { MatchResult result (IsText AreBytes hex_text line.now) (IsUnspelt number line.now) }
+fn spelt_payload(alloc: Global, line: &[u8], number: u64) -> Result<Payload, InputFault>
+    ensures { MatchResult result (IsText AreBytes hex_text line.now) (IsUnspelt false number line.now) }
 {
     match parse_payload(alloc, line) {
         Ok(payload) => Ok(payload),
@@ -46,9 +54,50 @@ fn spelt(alloc: Global, line: &[u8], number: u64) -> Result<Payload, InputFault>
     }
 }
 
+/// The messages that a line of this number spells, or the place where it is off.
+fn spelt_messages(alloc: Global, line: &[u8], number: u64) -> Result<Messages, InputFault>
+    ensures { MatchResult result (IsText IsBatch messages_text line.now) (IsUnspelt true number line.now) }
+{
+    match parse_messages(alloc, line) {
+        Ok(messages) => Ok(messages),
+        Err(fault) => match fault {
+            LineFault::Bad { place } => Err(InputFault::BadLine {
+                line: number,
+                place: place as u64,
+            }),
+            LineFault::NoMemory => Err(InputFault::NoMemory),
+        },
+    }
+}
+
+/// The payload of the batch of these messages. An append of one that is longer than a payload may be is refused, and told by
+/// its length alone: in its place come so many bytes 0.
+fn batch_payload(alloc: Global, messages: &Messages) -> Result<Payload, NoMemory>
+    ensures { IfOk result (λ payload. payload ≡ batch_payload messages.now) }
+{
+    let length = messages.packed_len();
+    if length <= PAYLOAD_LIMIT {
+        return messages.payload(alloc);
+    }
+    let bytes = vec![in alloc; 0u8; length]?;
+    Ok(Payload::new(bytes))
+}
+
+/// The payload of the batch whose messages a line of this number spells, or the place where it is off.
+fn spelt_batch(alloc: Global, line: &[u8], number: u64) -> Result<Payload, InputFault>
+    ensures { MatchResult result (IsBatchLine line.now) (IsUnspelt true number line.now) }
+{
+    let messages = spelt_messages(alloc, line, number)?;
+    match batch_payload(alloc, &messages) {
+        Ok(payload) => Ok(payload),
+        Err(_) => Err(InputFault::NoMemory),
+    }
+}
+
 impl Held {
-    /// Nothing was read yet.
-    pub(crate) fn new(alloc: Global) -> Result<Held, NoMemory>
+    /// Nothing was read yet of lines that are each a payload, or each the messages of a batch.
+    pub(crate) fn new(alloc: Global, batches: bool) -> Result<Held, NoMemory>
+        ensures batches { IfOk result (λ held. held.batches ≡ batches) }
         ensures buffer { IfOk result (λ held. held.buffer ≡ []) }
         ensures number { IfOk result (λ held. held.number ≡ 0) }
     {
@@ -56,10 +105,22 @@ impl Held {
             return Err(NoMemory);
         };
         Ok(Held {
+            batches,
             buffer,
             line: Vec::new(alloc),
             number: 0,
         })
+    }
+
+    /// The payload that the last line spells, or the place where it is off.
+    fn spelt(&self, alloc: Global) -> Result<Payload, InputFault>
+        ensures { MatchResult result (Spells self.now.batches self.now.line.items) (IsUnspelt self.now.batches self.now.number self.now.line.items) }
+    {
+        if self.batches {
+            spelt_batch(alloc, &self.line, self.number)
+        } else {
+            spelt_payload(alloc, &self.line, self.number)
+        }
     }
 
     /// Takes the next payload of the input; none is at its end.
@@ -68,14 +129,14 @@ impl Held {
         alloc: Global,
         input: &mut I,
     ) -> Result<Option<Payload>, InputFault>
-        ensures gives { Gives (input_after self.old.number (prepend_known self.old.buffer (I.left input.old))) (input_after self.new.number (prepend_known self.new.buffer (I.left input.new))) result }
+        ensures gives { Gives (input_after self.old.batches self.old.number (prepend_known self.old.buffer (I.left input.old))) (input_after self.new.batches self.new.number (prepend_known self.new.buffer (I.left input.new))) result }
         ensures later { I.faults input.old ≤ I.faults input.new }
         ensures cause { IfErr result (IsReadFault (I.faults input.old) (I.faults input.new)) }
     {
         self.number = self.number.saturating_add(1);
         match next_line(&mut self.buffer, input, &mut self.line) {
             Ok(Ending::Line) => {
-                let payload = spelt(alloc, &self.line, self.number)?;
+                let payload = self.spelt(alloc)?;
                 Ok(Some(payload))
             }
             Ok(Ending::End) => Ok(None),
@@ -97,7 +158,7 @@ impl<'a, I: Source> Payloads for PayloadLines<'a, I> {
     ghost use Rattle.std.specs.Io.KnownBytes.{prepend_known};
     ghost use Rattle.ld_cli.specs.Payloads.{input_after};
 
-    ghost coming = { λ p. input_after p.held.now.number (prepend_known p.held.now.buffer (I.left p.input.now)) };
+    ghost coming = { λ p. input_after p.held.now.batches p.held.now.number (prepend_known p.held.now.buffer (I.left p.input.now)) };
 
     ghost faults = { λ p. I.faults p.input.now };
 

@@ -10,7 +10,7 @@ ghost use Rattle.ld_serve.specs.Opening.{IsBlank};
 ghost use Rattle.ld_serve.specs.Stops.{IsServingStop};
 ghost use Rattle.ld_serve.specs.Whole.{HasServed, HasStopped, IsNotOpened};
 ghost use Rattle.ld_words.specs.Bounds.{HasBounds};
-ghost use Rattle.ld_words.specs.declared.command.LogWords.{LogWords as LogWanted};
+ghost use Rattle.ld_words.specs.declared.command.AppendWords.{AppendWords as AppendWanted};
 ghost use Rattle.ld_words.specs.declared.command.NodeWords.{NodeWords as Wanted};
 ghost use Rattle.ld_words.specs.declared.command.TailWords.{TailWords as TailWanted};
 ghost use Rattle.ld_words.specs.declared.command.Command.{Command as Wish};
@@ -98,7 +98,7 @@ pub fn run<I: Source, O: Sink, D: Disk, G: Register, L: Link, N: Nodes>(
     // NoMemory and Write the last step may be done in part.
     ensures tailed { (t : TailWanted) (s : State) (far : Far) → Asks (map string_bytes words.now) (Tail t) → N.tells nodes.old t.of.config far → Begins (HasNoReaders (G.tells reg.old)) t.of.config s far
         → (N.silent nodes.new ≡ true) ⊎ EndsDrive (N.faults nodes.old) (N.faults nodes.new)
-        (IsTailed (record { name = codes "r"; log = t.of.log; from = t.from; until = t.until }) (IsBroken (N.faults nodes.old) (N.faults nodes.new) (N.endings nodes.old) (N.endings nodes.new)) t.of.rounds (N.tells nodes.new) (G.tells reg.new) t.of.config s (O.written out.old) (O.written out.new)) result }
+        (IsTailed (record { name = codes "r"; log = t.of.log; from = t.from; until = t.until; style = t.style }) (IsBroken (N.faults nodes.old) (N.faults nodes.new) (N.endings nodes.old) (N.endings nodes.new)) t.of.rounds (N.tells nodes.new) (G.tells reg.new) t.of.config s (O.written out.old) (O.written out.new)) result }
     // Whatever they tell, each status has its cause: Register comes only where the register's count of faults rose, and Damaged
     // only where its bytes are no journal from that place on.
     ensures tail_ends { (t : TailWanted) → Asks (map string_bytes words.now) (Tail t) → EndsDrive (N.faults nodes.old) (N.faults nodes.new)
@@ -111,15 +111,16 @@ pub fn run<I: Source, O: Sink, D: Disk, G: Register, L: Link, N: Nodes>(
     // the machine, the activation and then round by round what is sent again (but in the first), appends, and visits of the
     // configuration's nodes, one after the other, each until nothing waits for its node; and what was written are the
     // sequencer's lines of those steps. The payloads that the machine took are those that
-    // the lines of the input spell, the first ones in their order, all at the status Ok, and at BadSchedule all before the
-    // line that is off. At the status Ok each append is acknowledged, each epoch before its own is closed, and no message waits.
-    ensures appended { (w : LogWanted) (s : State) (far : Far) → Asks (map string_bytes words.now) (Append w) → N.tells nodes.old w.config far → Begins (HasNoSequencers (G.tells reg.old)) w.config s far → spec_set w.config s w.log ≡ first_spec w.config w.log
+    // the lines of the input spell, or the payloads of the batches whose messages they spell where batches are asked for: the
+    // first ones in their order, all at the status Ok, and at BadSchedule all before the line that is off. At the status Ok each
+    // append is acknowledged, each epoch before its own is closed, and no message waits.
+    ensures appended { (w : AppendWanted) (s : State) (far : Far) → Asks (map string_bytes words.now) (Append w) → N.tells nodes.old w.of.config far → Begins (HasNoSequencers (G.tells reg.old)) w.of.config s far → spec_set w.of.config s w.of.log ≡ first_spec w.of.config w.of.log
         → (N.silent nodes.new ≡ true) ⊎ EndsDrive (N.faults nodes.old) (N.faults nodes.new)
-        (IsAppended (codes "s") w.log (IsBroken (N.faults nodes.old) (N.faults nodes.new) (N.endings nodes.old) (N.endings nodes.new)) (payloads_in (I.left input.old)) w.rounds (N.tells nodes.new) (G.tells reg.new) w.config s (O.written out.old) (O.written out.new)) result }
+        (IsAppended (codes "s") w.of.log (IsBroken (N.faults nodes.old) (N.faults nodes.new) (N.endings nodes.old) (N.endings nodes.new)) (payloads_in w.batches (I.left input.old)) w.of.rounds (N.tells nodes.new) (G.tells reg.new) w.of.config s (O.written out.old) (O.written out.new)) result }
     // Whatever they tell: the count of their failures says which status the last round gives, and a line came before what it
     // refuses, or the register was damaged, or may have held as many other logs as may be.
-    ensures append_ends { (w : LogWanted) → Asks (map string_bytes words.now) (Append w) → EndsDrive (N.faults nodes.old) (N.faults nodes.new)
-        (IsEndOfAppend (G.told reg.old → MayCrowd (G.may_hold reg.old) w.log) (λ place. G.told reg.old → G.damaged reg.old place) (payloads_in (I.left input.old)) (I.faults input.old) (I.faults input.new) (O.faults out.old) (O.faults out.new) (O.written out.old) (O.written out.new)) result }
+    ensures append_ends { (w : AppendWanted) → Asks (map string_bytes words.now) (Append w) → EndsDrive (N.faults nodes.old) (N.faults nodes.new)
+        (IsEndOfAppend (G.told reg.old → MayCrowd (G.may_hold reg.old) w.of.log) (λ place. G.told reg.old → G.damaged reg.old place) (payloads_in w.batches (I.left input.old)) (I.faults input.old) (I.faults input.new) (O.faults out.old) (O.faults out.new) (O.written out.old) (O.written out.new)) result }
 
     // Each of these statuses comes only where the count of that object rose; at any other the last three stay.
     ensures read { result ≡ Status.Read → Rose (I.faults input.old) (I.faults input.new) }
@@ -177,15 +178,15 @@ fn carry_out<I: Source, O: Sink, D: Disk, G: Register, L: Link, N: Nodes>(
     ensures drawn { (n : Wanted) → command ≡ Serve n → G.told reg.old → ChangedOrNot (G.may_hold reg.old) (G.may_hold reg.new) (λ c. after_draw c n.id) }
     ensures tailed { (t : TailWanted) (s : State) (far : Far) → command ≡ Tail t → N.tells nodes.old t.of.config far → Begins (HasNoReaders (G.tells reg.old)) t.of.config s far
         → (N.silent nodes.new ≡ true) ⊎ EndsDrive (N.faults nodes.old) (N.faults nodes.new)
-        (IsTailed (record { name = codes "r"; log = t.of.log; from = t.from; until = t.until }) (IsBroken (N.faults nodes.old) (N.faults nodes.new) (N.endings nodes.old) (N.endings nodes.new)) t.of.rounds (N.tells nodes.new) (G.tells reg.new) t.of.config s (O.written out.old) (O.written out.new)) result }
+        (IsTailed (record { name = codes "r"; log = t.of.log; from = t.from; until = t.until; style = t.style }) (IsBroken (N.faults nodes.old) (N.faults nodes.new) (N.endings nodes.old) (N.endings nodes.new)) t.of.rounds (N.tells nodes.new) (G.tells reg.new) t.of.config s (O.written out.old) (O.written out.new)) result }
     ensures tail_ends { (t : TailWanted) → command ≡ Tail t → EndsDrive (N.faults nodes.old) (N.faults nodes.new)
         (IsTailEnd (λ place. G.told reg.old → G.damaged reg.old place) (G.faults reg.old) (G.faults reg.new) (O.faults out.old) (O.faults out.new)) result }
     ensures only_looks { (t : TailWanted) → command ≡ Tail t → OnlyLooks (G.told reg.old) (G.told reg.new) (G.may_hold reg.old) (G.may_hold reg.new) }
-    ensures appended { (w : LogWanted) (s : State) (far : Far) → command ≡ Append w → N.tells nodes.old w.config far → Begins (HasNoSequencers (G.tells reg.old)) w.config s far → spec_set w.config s w.log ≡ first_spec w.config w.log
+    ensures appended { (w : AppendWanted) (s : State) (far : Far) → command ≡ Append w → N.tells nodes.old w.of.config far → Begins (HasNoSequencers (G.tells reg.old)) w.of.config s far → spec_set w.of.config s w.of.log ≡ first_spec w.of.config w.of.log
         → (N.silent nodes.new ≡ true) ⊎ EndsDrive (N.faults nodes.old) (N.faults nodes.new)
-        (IsAppended (codes "s") w.log (IsBroken (N.faults nodes.old) (N.faults nodes.new) (N.endings nodes.old) (N.endings nodes.new)) (payloads_in (I.left input.old)) w.rounds (N.tells nodes.new) (G.tells reg.new) w.config s (O.written out.old) (O.written out.new)) result }
-    ensures append_ends { (w : LogWanted) → command ≡ Append w → EndsDrive (N.faults nodes.old) (N.faults nodes.new)
-        (IsEndOfAppend (G.told reg.old → MayCrowd (G.may_hold reg.old) w.log) (λ place. G.told reg.old → G.damaged reg.old place) (payloads_in (I.left input.old)) (I.faults input.old) (I.faults input.new) (O.faults out.old) (O.faults out.new) (O.written out.old) (O.written out.new)) result }
+        (IsAppended (codes "s") w.of.log (IsBroken (N.faults nodes.old) (N.faults nodes.new) (N.endings nodes.old) (N.endings nodes.new)) (payloads_in w.batches (I.left input.old)) w.of.rounds (N.tells nodes.new) (G.tells reg.new) w.of.config s (O.written out.old) (O.written out.new)) result }
+    ensures append_ends { (w : AppendWanted) → command ≡ Append w → EndsDrive (N.faults nodes.old) (N.faults nodes.new)
+        (IsEndOfAppend (G.told reg.old → MayCrowd (G.may_hold reg.old) w.of.log) (λ place. G.told reg.old → G.damaged reg.old place) (payloads_in w.batches (I.left input.old)) (I.faults input.old) (I.faults input.new) (O.faults out.old) (O.faults out.new) (O.written out.old) (O.written out.new)) result }
     ensures read { result ≡ Status.Read → Rose (I.faults input.old) (I.faults input.new) }
     ensures write { result ≡ Status.Write → Rose (O.faults out.old) (O.faults out.new) }
     ensures disk { DiskFaults (D.faults disk.old) (D.faults disk.new) result }
@@ -202,7 +203,7 @@ fn carry_out<I: Source, O: Sink, D: Disk, G: Register, L: Link, N: Nodes>(
         Command::Replay => replayed(alloc, input, out),
         Command::Exercise { seed, events } => exercised(alloc, seed, events, out),
         Command::Node(node) => served(alloc, &node, disk, reg, link),
-        Command::Append(log) => appended(alloc, &log, input, out, reg, nodes),
+        Command::Append(append) => appended(alloc, &append, input, out, reg, nodes),
         Command::Tail(tail) => tailed(alloc, &tail, out, reg, nodes),
     }
 }

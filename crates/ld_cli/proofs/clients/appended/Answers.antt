@@ -16,39 +16,39 @@ use Rattle.ld_cli.proofs.clients.appended.Goals as goal
 
 pub returns-in_default : goal.returns-in_default
 returns-in_default g c = record {
-  appended = λ s far told begins unset. inr (nothing_done (codes "s") c.args.words.now.log (IsBroken (g.N.Nodes.faults c.args.nodes.now) (g.N.Nodes.faults c.args.nodes.now) (g.N.Nodes.endings c.args.nodes.now) (g.N.Nodes.endings c.args.nodes.now)) (payloads_in (g.I.Source.left c.args.input.now)) c.args.words.now.rounds c.args.words.now.config s (g.O.Sink.written c.args.out.now));
+  appended = λ s far told begins unset. inr (nothing_done (codes "s") c.args.words.now.of.log (IsBroken (g.N.Nodes.faults c.args.nodes.now) (g.N.Nodes.faults c.args.nodes.now) (g.N.Nodes.endings c.args.nodes.now) (g.N.Nodes.endings c.args.nodes.now)) (payloads_in c.args.words.now.batches (g.I.Source.left c.args.input.now)) c.args.words.now.of.rounds c.args.words.now.of.config s (g.O.Sink.written c.args.out.now));
   ends = inl tt;
 }
 
 pub returns-in_default-new : goal.returns-in_default-new
 returns-in_default-new g c = record {
-  appended = λ s far told begins unset. inr (nothing_done (codes "s") c.args.words.now.log (IsBroken (g.N.Nodes.faults c.args.nodes.now) (g.N.Nodes.faults c.args.nodes.now) (g.N.Nodes.endings c.args.nodes.now) (g.N.Nodes.endings c.args.nodes.now)) (payloads_in (g.I.Source.left c.args.input.now)) c.args.words.now.rounds c.args.words.now.config s (g.O.Sink.written c.args.out.now));
+  appended = λ s far told begins unset. inr (nothing_done (codes "s") c.args.words.now.of.log (IsBroken (g.N.Nodes.faults c.args.nodes.now) (g.N.Nodes.faults c.args.nodes.now) (g.N.Nodes.endings c.args.nodes.now) (g.N.Nodes.endings c.args.nodes.now)) (payloads_in c.args.words.now.batches (g.I.Source.left c.args.input.now)) c.args.words.now.of.rounds c.args.words.now.of.config s (g.O.Sink.written c.args.out.now));
   ends = inl tt;
 }
 
 pub append_lines-requires : goal.append_lines-requires
-append_lines-requires g c = (first_fits c.args.words.now.config c.args.words.now.log c.args.words.now.log c.in-Some.spec c.requires.bounds.config c.in-Some.ensures.found.0 c.in-Some.ensures.found.1 refl).is
+append_lines-requires g c = (first_fits c.args.words.now.of.config c.args.words.now.of.log c.args.words.now.of.log c.in-Some.spec c.requires.bounds.config c.in-Some.ensures.found.0 c.in-Some.ensures.found.1 refl).is
 
 pub returns : goal.returns
 returns g c =
     let before = g.N.Nodes.faults c.args.nodes.now in
     let now = g.N.Nodes.faults c.append_lines.new.nodes in
     let broken = IsBroken before now (g.N.Nodes.endings c.args.nodes.now) (g.N.Nodes.endings c.append_lines.new.nodes) in
-    let coming = payloads_in (g.I.Source.left c.args.input.now) in
+    let coming = payloads_in c.args.words.now.batches (g.I.Source.left c.args.input.now) in
     let damaged = λ (place : ℕ). (g.G.Register.told c.args.reg.now → g.G.Register.damaged c.args.reg.now place) in
     let reads = g.I.Source.faults c.append_lines.new.lines.input.now in
-    let held = input_after c.in-Ok-new.held.number (prepend_known c.in-Ok-new.held.buffer (g.I.Source.left c.args.input.now)) in
-    let fresh = nothing_held c.in-Ok-new.held.number c.in-Ok-new.held.buffer (g.I.Source.left c.args.input.now) c.in-Ok-new.ensures.number c.in-Ok-new.ensures.buffer in
+    let held = input_after c.in-Ok-new.held.batches c.in-Ok-new.held.number (prepend_known c.in-Ok-new.held.buffer (g.I.Source.left c.args.input.now)) in
+    let fresh = nothing_held c.args.words.now.batches c.in-Ok-new.held.batches c.in-Ok-new.held.number c.in-Ok-new.held.buffer (g.I.Source.left c.args.input.now) c.in-Ok-new.ensures.batches c.in-Ok-new.ensures.number c.in-Ok-new.ensures.buffer in
     let found = c.in-Some.ensures.found in
-    let log : c.in-Some.spec.log ≡ c.args.words.now.log = ap (λ (x : Spec). x.log) found.0 ∙ spec_log c.args.words.now.log c.args.words.now.config.logs in
+    let log : c.in-Some.spec.log ≡ c.args.words.now.of.log = ap (λ (x : Spec). x.log) found.0 ∙ spec_log c.args.words.now.of.log c.args.words.now.of.config.logs in
     let end = λ (l : ℕ) (i : Option Input) (n : ℕ). IsEndOfAppend (g.G.Register.told c.args.reg.now → MayCrowd (g.G.Register.may_hold c.args.reg.now) l) damaged i (g.I.Source.faults c.args.input.now) n (g.O.Sink.faults c.args.out.now) (g.O.Sink.faults c.append_lines.new.out)
     (g.O.Sink.written c.args.out.now) (g.O.Sink.written c.append_lines.new.out) in
-    let went = λ (name : List ℕ) (l : ℕ) (i : Option Input) (s : State). IsAppended name l broken i c.args.words.now.rounds (g.N.Nodes.tells c.append_lines.new.nodes) (g.G.Register.tells c.append_lines.new.reg) c.args.words.now.config s (g.O.Sink.written c.args.out.now) (g.O.Sink.written c.append_lines.new.out) in
+    let went = λ (name : List ℕ) (l : ℕ) (i : Option Input) (s : State). IsAppended name l broken i c.args.words.now.of.rounds (g.N.Nodes.tells c.append_lines.new.nodes) (g.G.Register.tells c.append_lines.new.reg) c.args.words.now.of.config s (g.O.Sink.written c.args.out.now) (g.O.Sink.written c.append_lines.new.out) in
     record {
-      appended = λ s far told begins unset. subst (λ (i : Option Input). (g.N.Nodes.silent c.append_lines.new.nodes ≡ true) ⊎ EndsDrive before now (went (codes "s") c.args.words.now.log i s) c.append_lines.result) fresh
+      appended = λ s far told begins unset. subst (λ (i : Option Input). (g.N.Nodes.silent c.append_lines.new.nodes ≡ true) ⊎ EndsDrive before now (went (codes "s") c.args.words.now.of.log i s) c.append_lines.result) fresh
           (subst (λ (l : ℕ). (g.N.Nodes.silent c.append_lines.new.nodes ≡ true) ⊎ EndsDrive before now (went (codes "s") l held s) c.append_lines.result) log
           (subst (λ (name : List ℕ). (g.N.Nodes.silent c.append_lines.new.nodes ≡ true) ⊎ EndsDrive before now (went name c.in-Some.spec.log held s) c.append_lines.result)
-          c.in-Ok.ensures (c.append_lines.ensures.appended s far c.requires.bounds.config (spec_so c.args.words.now.config c.args.words.now.log c.in-Some.spec found) (unset_so c.args.words.now.config s c.args.words.now.log c.in-Some.spec found.0 unset) told begins)));
-      ends = of_same (λ (n : ℕ). EndsDrive before now (end c.args.words.now.log coming n) c.append_lines.result) reads _
+          c.in-Ok.ensures (c.append_lines.ensures.appended s far c.requires.bounds.config (spec_so c.args.words.now.of.config c.args.words.now.of.log c.in-Some.spec found) (unset_so c.args.words.now.of.config s c.args.words.now.of.log c.in-Some.spec found.0 unset) told begins)));
+      ends = of_same (λ (n : ℕ). EndsDrive before now (end c.args.words.now.of.log coming n) c.append_lines.result) reads _
           (subst (λ (l : ℕ). EndsDrive before now (end l coming reads) c.append_lines.result) log (subst (λ (i : Option Input). EndsDrive before now (end c.in-Some.spec.log i reads) c.append_lines.result) fresh c.append_lines.ensures.ends)) (search rules);
     }

@@ -90,8 +90,8 @@ returns-in-Ok-None-clause-appended g c = λ w s far asks told begins unset.
 
 pub returns-in-Err-clause-tailed : goal.returns-in-Err-clause-tailed
 returns-in-Err-clause-tailed g c = λ t s far asks told begins.
-    inr (nothing_read (record { name = codes "r"; log = t.of.log; from = t.from; until = t.until }) (IsBroken (g.N.Nodes.faults c.args.nodes.now) (g.N.Nodes.faults c.args.nodes.now) (g.N.Nodes.endings c.args.nodes.now) (g.N.Nodes.endings c.args.nodes.now)) t.of.rounds t.of.config s (g.O.Sink.written c.args.out.now))
+    inr (nothing_read (record { name = codes "r"; log = t.of.log; from = t.from; until = t.until; style = t.style }) (IsBroken (g.N.Nodes.faults c.args.nodes.now) (g.N.Nodes.faults c.args.nodes.now) (g.N.Nodes.endings c.args.nodes.now) (g.N.Nodes.endings c.args.nodes.now)) t.of.rounds t.of.config s (g.O.Sink.written c.args.out.now))
 
 pub returns-in-Err-clause-appended : goal.returns-in-Err-clause-appended
 returns-in-Err-clause-appended g c = λ w s far asks told begins unset.
-    inr (nothing_done (codes "s") w.log (IsBroken (g.N.Nodes.faults c.args.nodes.now) (g.N.Nodes.faults c.args.nodes.now) (g.N.Nodes.endings c.args.nodes.now) (g.N.Nodes.endings c.args.nodes.now)) (payloads_in (g.I.Source.left c.args.input.now)) w.rounds w.config s (g.O.Sink.written c.args.out.now))
+    inr (nothing_done (codes "s") w.of.log (IsBroken (g.N.Nodes.faults c.args.nodes.now) (g.N.Nodes.faults c.args.nodes.now) (g.N.Nodes.endings c.args.nodes.now) (g.N.Nodes.endings c.args.nodes.now)) (payloads_in w.batches (g.I.Source.left c.args.input.now)) w.of.rounds w.of.config s (g.O.Sink.written c.args.out.now))
