@@ -16,7 +16,12 @@ class Relay:
                 near, _ = self.listener.accept()
             except OSError:
                 return
-            far = socket.create_connection(("127.0.0.1", self.to))
+            try:
+                far = socket.create_connection(("127.0.0.1", self.to))
+            except OSError:
+                # the node is gone, and so is its peer's connection
+                near.close()
+                continue
             for one, other, is_node in ((near, far, False), (far, near, True)):
                 one.setsockopt(socket.IPPROTO_TCP, socket.TCP_NODELAY, 1)
                 threading.Thread(target=self.hand_on, args=(one, other, is_node), daemon=True).start()
