@@ -5,7 +5,6 @@ import frames
 
 TOP = pathlib.Path(__file__).resolve().parent.parent
 
-CONFIG = '{"nodes":[1,2,3],"logs":[{"id":1,"set":[1,2,3],"r":2}]}'
 
 
 def built():
@@ -17,17 +16,18 @@ def built():
 class Cluster:
     """Three nodes, each a process with a store of its own in the folder."""
 
-    def __init__(self, program, folder):
+    def __init__(self, program, folder, copies=2):
+        self.config = '{"nodes":[1,2,3],"logs":[{"id":1,"set":[1,2,3],"r":%d}]}' % copies
         self.program, self.folder, self.port = program, folder, frames.free_ports(4)
         self.nodes = []
         for node in (1, 2, 3):
-            words = ["--id", str(node), "--config", CONFIG, "--store", f"{folder}/store{node}", "--register", f"{folder}/register"]
+            words = ["--id", str(node), "--config", self.config, "--store", f"{folder}/store{node}", "--register", f"{folder}/register"]
             words += ["--port", str(self.port + node), "--turns", "1000000000", "--format"]
             self.nodes.append(subprocess.Popen([program, "node", *words]))
             frames.Peer(self.port + node).close()
 
     def run(self, command, *words, **streams):
-        every = ["--config", CONFIG, "--log", "1", "--register", f"{self.folder}/register", "--port", str(self.port), "--rounds", "1000000"]
+        every = ["--config", self.config, "--log", "1", "--register", f"{self.folder}/register", "--port", str(self.port), "--rounds", "1000000"]
         return subprocess.run([self.program, command, *every, *words], check=True, **streams)
 
     def stop(self, node):
