@@ -16,7 +16,7 @@ use Rattle.ld_msg.specs.Reader.{Reader, Read, Confirmation, is_finished, verdict
 use Rattle.ld_reader.specs.Clipped.{all_clipped}
 use Rattle.ld_reader.specs.Course.{followed, sets_out, lasting, placed, on_course}
 use Rattle.ld_reader.specs.Place.{Place}
-use Rattle.ld_reader.specs.Following.{Following, with_reader, asked, answered, replied, going_on, read_so_far, messages_from, HasDone}
+use Rattle.ld_reader.specs.Following.{Following, with_reader, asked, answered, replied, confirms_by, confirms_next, going_on, read_so_far, messages_from, HasDone}
 use Rattle.ld_reader.specs.Given.{given, after, rows_left}
 use Rattle.ld_reader.specs.Rounds.{ended, begins, stayed, round_after, round_on, round_of as last_of, begun, begun_over, begun_again, begun_asks, asks_once, begun_anew, anew_asks}
 use Rattle.ld_reader.specs.declared.round.Ending.{Ending}
@@ -437,6 +437,24 @@ begun_so looks w f now h c ending r old new p t b l e n s =
       sent = s ∙ ap (λ k. old ++ messages_from f.reader.number f.reader.log k) (apart.1 ∙ sym (ap (λ (a : Read). a.asks) same ∙ (g.asks ∙ ap (λ k. begun_asks w k d) round)));
     }
 
+-- that is a later round, whatever looks show
+later_on : (twice : Bool) (n : ℕ) → n < round_on twice n
+later_on true n = omega arith
+later_on false n = omega arith
+
+round_later : (w : View) (r : Round) (d : Reader) → d.round < (begun w r d).round
+round_later w (rounds.Over full twice) d = later_on twice d.round
+round_later w (rounds.Again lost) d = omega arith
+
+pub begun_later : (looks : ℕ → View) (f : Following) (h : Reader) (c : Course) (ending : Ending) → 0 < h.next → CameTo f.reader h c ending
+    → begins ending (read_so_far (on_course f.reader c) c.items) ≡ true → f.reader.round < (followed looks h).reader.round
+begun_later looks f h c ending p t b =
+    let w = looks (home_epoch c.place.next) in
+    let r = round_after ending w (not (length c.items == 0)) f.reader in
+    let d = placed f.reader c.place false in
+    let done = begun_so looks w f (with_reader f (begun w r d)) h c ending r [] ([] ++ messages_from f.reader.number f.reader.log (begun_asks w r d)) p t b refl refl refl refl in
+    subst (λ n. f.reader.round < n) (ap (λ (x : Following). x.reader.round) done.reader) (round_later w r d)
+
 -- ---- before a loss ----
 
 abbrev swapped_read : (ℕ → View) → Reader → Read
@@ -527,6 +545,30 @@ same_reply looks f m y b u w e =
 pub replied_so : (looks : ℕ → View) (f now : Following) (m : Msg) (y : ℕ) (b : Body) (items : List (ℕ × Item)) (old new : List Msg) → is_finished f.reader ≡ false → m.from ≡ whos.Node y → b ≡ m.body
     → HasDone f now items old new (on_answer looks f.reader y b) → HasDone f now items old new (replied looks f m)
 replied_so looks f now m y b items old new u w e h = subst (λ (a : Read). HasDone f now items old new a) (sym (same_reply looks f m y b u w e)) h
+
+-- so does its round, and so is a loss confirmed
+pub replied_later : (looks : ℕ → View) (f g : Following) (m : Msg) (y : ℕ) (b : Body) (lasts : Bool) → is_finished f.reader ≡ false → m.from ≡ whos.Node y → b ≡ m.body
+    → nat_lt (round_of b) f.reader.least ≡ false → with_reader g (lasting lasts g.reader) ≡ with_reader f (heard f.reader y b)
+    → g.reader.round < (heard_on looks (lasting lasts g.reader)).reader.round → f.reader.round < (replied looks f m).reader.round
+unfolding on_answer
+replied_later looks f g m y b lasts u w e taken h later =
+    let same : replied looks f m ≡ heard_on looks (heard f.reader y b) = same_reply looks f m y b u w e ∙ ap (λ (n : Bool). if n then nothing_read f.reader else heard_on looks (heard f.reader y b)) taken in
+    let here : f.reader.round < (heard_on looks (heard f.reader y b)).reader.round = subst (λ (x : Following). x.reader.round < (heard_on looks x.reader).reader.round) h later in
+    subst (λ n. f.reader.round < n) (ap (λ (a : Read). a.reader.round) (sym same)) here
+
+pub confirmed_by : (f g : Following) (m : Msg) (y : ℕ) (b : Body) (lasts : Bool) → is_finished f.reader ≡ false → m.from ≡ whos.Node y → b ≡ m.body
+    → nat_lt (round_of b) f.reader.least ≡ false → with_reader g (lasting lasts g.reader) ≡ with_reader f (heard f.reader y b)
+    → confirms_next f m ≡ is_confirmed (lasting lasts g.reader).confirming
+confirmed_by f g m y b lasts u w e taken h =
+    ap (λ x. confirms_by f.reader x m.body) w ∙ ap (λ x. confirms_by f.reader (whos.Node y) x) (sym e)
+    ∙ ap (λ (n : Bool). (not n && not (nat_lt (round_of b) f.reader.least)) && is_confirmed (heard f.reader y b).confirming) u
+    ∙ ap (λ (n : Bool). not n && is_confirmed (heard f.reader y b).confirming) taken
+    ∙ ap (λ (x : Following). is_confirmed x.reader.confirming) (sym h)
+
+-- none is confirmed by a message of no node
+pub other_confirms : (d : Reader) (w : Who) (b : Body) → ((y : ℕ) → w ≡ whos.Node y → ⊥) → confirms_by d w b ≡ false
+other_confirms d (whos.Node y) b h = absurd (h y refl)
+other_confirms d _ b h = refl
 
 -- a message that does nothing
 past_reply : (looks : ℕ → View) (d : Reader) (w : Who) (b : Body) → is_finished d ≡ true → answered looks d w b ≡ nothing_read d

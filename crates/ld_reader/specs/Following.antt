@@ -1,12 +1,12 @@
 -- A reader with the first nodes, factor and extras of its log, and what it does.
-use Rattle.std.specs.Prelude.{◌≡◌, ℕ, false, List, [], ◌∷◌, ◌++◌, if◌then◌else◌}
+use Rattle.std.specs.Prelude.{◌≡◌, ℕ, Bool, false, not, ◌&&◌, nat_lt, List, [], ◌∷◌, ◌++◌, if◌then◌else◌}
 use Rattle.ld_ids.specs.declared.set.Spec.{Spec}
 use Rattle.ld_msg.specs.declared.msg.Who.{Who}
 use Rattle.ld_msg.specs.declared.msg.Who.TheVariants as whos
 use Rattle.ld_msg.specs.declared.msg.Body.{Body}
 use Rattle.ld_msg.specs.declared.msg.Msg.{Msg}
 use Rattle.ld_msg.specs.Register.{View}
-use Rattle.ld_msg.specs.Reader.{Reader, Read, is_finished, polled, poll_asks, nothing_read, on_answer, confirming_with, tells_missing, missing_with, confirms, asks_all, next_round}
+use Rattle.ld_msg.specs.Reader.{Reader, Read, is_finished, polled, poll_asks, nothing_read, on_answer, round_of, heard, is_confirmed, confirming_with, tells_missing, missing_with, confirms, asks_all, next_round}
 use Rattle.ld_msg.specs.Reading.{Item}
 use Rattle.ld_reader.specs.declared.round.Ending.{Ending}
 use Rattle.ld_reader.specs.declared.round.Ending.TheVariants as endings
@@ -48,6 +48,14 @@ answered looks d _ body = nothing_read d
 -- what a message does to a reader of a log
 abbrev pub replied : (ℕ → View) → Following → Msg → Read
 replied looks f m = answered looks f.reader m.from m.body
+
+-- whether a message confirms that the next number is lost: before that loss a look is made
+abbrev pub confirms_by : Reader → Who → Body → Bool
+confirms_by d (whos.Node y) body = (not (is_finished d) && not (nat_lt (round_of body) d.least)) && is_confirmed (heard d y body).confirming
+confirms_by d _ body = false
+
+abbrev pub confirms_next : Following → Msg → Bool
+confirms_next f m = confirms_by f.reader m.from m.body
 
 -- what an answer does to a confirmation
 abbrev pub noted : Reader → ℕ → Body → Reader

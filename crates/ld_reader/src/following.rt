@@ -1,11 +1,12 @@
 // What follows from the answers that a reader holds.
-ghost use Rattle.std.specs.Prelude.{◌≡◌, ◌≤◌, ◌<◌, ◌++◌, ◌⊎◌, ◌&&◌, not, false, IfOk, IfErr, OnOk, OnErr, IsErrOf, All, ℕ, List};
+ghost use Rattle.std.specs.Prelude.{◌≡◌, ◌≤◌, ◌<◌, ◌++◌, ◌⊎◌, ◌&&◌, not, true, false, IfOk, IfErr, OnOk, OnErr, IsErrOf, All, ℕ, List};
 ghost use Rattle.ld_io.specs.Causes.{Rose};
 ghost use Rattle.ld_table.specs.Words.{any_of};
 ghost use Rattle.ld_msg.specs.Bounds.{IsMessage};
 ghost use Rattle.ld_msg.specs.Register.{Register as Contents, View as Shown};
 ghost use Rattle.ld_msg.specs.Reader.{is_finished, is_confirmed as all_told, verdict, may_confirm as may_confirm_in, is_confirming, reaches, misses, heard_on};
 ghost use Rattle.ld_register.specs.Calls.{Keeps};
+ghost use Rattle.ld_register.specs.declared.fault.RegisterFault.{RegisterFault};
 ghost use Rattle.ld_register.specs.declared.fault.RegisterFault.TheVariants as registers;
 ghost use Rattle.ld_reader.specs.Clipped.{all_clipped, clipped_verdict};
 ghost use Rattle.ld_reader.specs.Course.{lasting, on_course, sets_out, followed};
@@ -232,6 +233,8 @@ impl Reader {
             → IfOk result (λ items. (looks : ℕ → Shown) × AreLooks self.old looks × WasMade looks made.now × HasDone self.old self.new items out.old out.new (followed looks (lasting lasts self.old.reader))) }
         ensures reader_err { OnErr result (self.new ≡ self.old) }
         ensures sent_err { OnErr result (out.new ≡ out.old) }
+        ensures due { (fault : RegisterFault) → IsErrOf result (ReaderFault.Register fault)
+            → (looks : ℕ → Shown) → self.old.reader.round < (followed looks (lasting lasts self.old.reader)).reader.round }
         ensures whole { made.now ≡ None → G.told reg.old
             → OnOk result (((self.new.reader.round ≡ self.old.reader.round) × (self.new.reader.seen ≡ self.old.reader.seen)) ⊎ ((c : Contents) × G.holds reg.old c)) }
         ensures told { G.told reg.old → G.told reg.new }
@@ -276,6 +279,9 @@ impl Reader {
         ensures acted { IfOk result (λ items. (looks : ℕ → Shown) × AreLooks self.old looks × HasDone self.old self.new items out.old out.new (heard_on looks (lasting lasts self.old.reader))) }
         ensures reader_err { OnErr result (self.new ≡ self.old) }
         ensures sent_err { OnErr result (out.new ≡ out.old) }
+        ensures due { (fault : RegisterFault) → IsErrOf result (ReaderFault.Register fault)
+            → (all_told (lasting lasts self.old.reader).confirming ≡ true) ⊎ ((looks : ℕ → Shown) → self.old.reader.round < (heard_on looks (lasting lasts self.old.reader)).reader.round) }
+        ensures looked { all_told (lasting lasts self.old.reader).confirming ≡ true → G.told reg.old → OnOk result ((c : Contents) × G.holds reg.old c) }
         ensures whole { G.told reg.old
             → OnOk result (((self.new.reader.round ≡ self.old.reader.round) × (self.new.reader.seen ≡ self.old.reader.seen)) ⊎ ((c : Contents) × G.holds reg.old c)) }
         ensures told { G.told reg.old → G.told reg.new }

@@ -1,15 +1,17 @@
 // A reader of a log.
-ghost use Rattle.std.specs.Prelude.{◌≡◌, ◌≤◌, ◌<◌, ◌+◌, ◌⊎◌, [], false, nat_lt, Some, None, IfOk, IfErr, OnOk, OnErr, IsErrOf, All, ℕ, List};
+ghost use Rattle.std.specs.Prelude.{◌≡◌, ◌≢◌, ◌≤◌, ◌<◌, ◌+◌, ◌-◌, ◌^◌, ◌⊎◌, [], true, false, nat_lt, Some, None, Ok, IsOk, IfOk, IfErr, OnOk, OnErr, IsErrOf, All, ℕ, List};
 ghost use Rattle.ld_io.specs.Causes.{Rose};
 ghost use Rattle.ld_lsn.specs.Number.{home_epoch};
 ghost use Rattle.ld_msg.specs.Bounds.{IsMessage, last_reader};
 ghost use Rattle.ld_msg.specs.Register.{Register as Contents, View as Shown};
+ghost use Rattle.ld_msg.specs.declared.msg.Who.TheVariants as whos;
 ghost use Rattle.ld_msg.specs.Reader.{opened, is_finished, is_single, round_of as round_told, heard as hears};
 ghost use Rattle.ld_register.specs.Calls.{Keeps};
+ghost use Rattle.ld_register.specs.declared.fault.RegisterFault.{RegisterFault};
 ghost use Rattle.ld_register.specs.declared.fault.RegisterFault.TheVariants as registers;
 ghost use Rattle.ld_reader.specs.Course.{lasting, unnoted, unmissed, unheard};
 ghost use Rattle.ld_reader.specs.Faults.{IsOfLook};
-ghost use Rattle.ld_reader.specs.Following.{asked as asks, noted as notes, missed as misses, replied, with_reader, HasDone};
+ghost use Rattle.ld_reader.specs.Following.{asked as asks, noted as notes, missed as misses, replied, confirms_next, with_reader, HasDone};
 ghost use Rattle.ld_reader.specs.Looks.{looks_of, IsLook, AreLooks, WasMade, WasShown};
 ghost use Rattle.ld_reader.specs.Place.{is_past};
 ghost use Rattle.ld_reader.specs.Tiling.{Tiles};
@@ -204,9 +206,9 @@ impl Reader {
     /// answer last that they are lost for this epoch; each node is to send each where none of these
     /// is left, or where the next number is the one that was polled last.
     ///
-    /// It is refused with `Register` and `Failed` or `Damaged` exactly as the look is, and for want
-    /// of memory. Then nothing is sent, and the reader is as it was. A look changes nothing of the
-    /// register.
+    /// It is refused with `Register` and `Failed` or `Damaged` exactly as the look is, where one is
+    /// made, and for want of memory. Then nothing is sent, and the reader is as it was. A look changes
+    /// nothing of the register.
     pub fn ask<G: Register>(
         &mut self,
         alloc: Global,
@@ -221,6 +223,7 @@ impl Reader {
         ensures acted { OnOk result ((looks : ℕ → Shown) × AreLooks self.old looks × HasDone self.old self.new [] out.old out.new (asks looks self.old.reader)) }
         ensures reader_err { OnErr result (self.new ≡ self.old) }
         ensures sent_err { OnErr result (out.new ≡ out.old) }
+        ensures idle { (is_finished self.old.reader ≡ true) ⊎ (self.old.reader.round ≡ 2 ^ 32 - 1) → (result ≡ Ok tt) × (reg.new ≡ reg.old) }
         ensures whole { G.told reg.old → OnOk result (((self.new.reader.round ≡ self.old.reader.round) × (self.new.reader.seen ≡ self.old.reader.seen)) ⊎ ((c : Contents) × G.holds reg.old c)) }
         ensures told { G.told reg.old → G.told reg.new }
         ensures same { (c : Contents) → G.may_hold reg.new c → G.may_hold reg.old c }
@@ -339,12 +342,13 @@ impl Reader {
     /// an item came before and two are left. One call makes at most one look at each epoch.
     ///
     /// A message does nothing to a reader that is finished, where it comes from no node, or where its
-    /// round is one whose answers are not taken any more. Each ask is a message that a frame can
-    /// carry.
+    /// round is one whose answers are not taken any more; then no look is made. Each ask is a message
+    /// that a frame can carry.
     ///
-    /// It is refused with `Register` and `Failed` or `Damaged` exactly as the look is, and for want
-    /// of memory. Then no item is given, nothing is sent, and the reader is as it was: it doesn't
-    /// hold the answer. A look changes nothing of the register.
+    /// It is refused with `Register` and `Failed` or `Damaged` exactly as the look is, and only where
+    /// one was due: before a loss that is confirmed, or with a round, which would have begun whatever
+    /// the look showed. It is refused for want of memory too. Then no item is given, nothing is sent,
+    /// and the reader is as it was: it doesn't hold the answer. A look changes nothing of the register.
     pub fn on_reply<G: Register>(
         &mut self,
         alloc: Global,
@@ -362,6 +366,11 @@ impl Reader {
         ensures within { OnOk result (self.new.reader.next ≤ self.old.reader.until + 1) }
         ensures reader_err { OnErr result (self.new ≡ self.old) }
         ensures sent_err { OnErr result (out.new ≡ out.old) }
+        ensures idle { (is_finished self.old.reader ≡ true) ⊎ ((node : ℕ) → msg.now.from ≢ whos.Node node) ⊎ (nat_lt (round_told msg.now.body) self.old.reader.least ≡ true)
+            → IsOk result × (reg.new ≡ reg.old) }
+        ensures due { (fault : RegisterFault) → IsErrOf result (ReaderFault.Register fault)
+            → (confirms_next self.old msg.now ≡ true) ⊎ ((looks : ℕ → Shown) → self.old.reader.round < (replied looks self.old msg.now).reader.round) }
+        ensures looked { confirms_next self.old msg.now ≡ true → G.told reg.old → OnOk result ((c : Contents) × G.holds reg.old c) }
         ensures whole { G.told reg.old → OnOk result (((self.new.reader.round ≡ self.old.reader.round) × (self.new.reader.seen ≡ self.old.reader.seen)) ⊎ ((c : Contents) × G.holds reg.old c)) }
         ensures told { G.told reg.old → G.told reg.new }
         ensures same { (c : Contents) → G.may_hold reg.new c → G.may_hold reg.old c }

@@ -5,7 +5,7 @@ use Rattle.ld_reader.specs.Course.{lasting, on_course}
 use Rattle.ld_reader.specs.Following.{read_so_far}
 use Rattle.ld_reader.specs.Looks.{looks_of}
 use Rattle.ld_reader.specs.Rounds.{begins}
-use Rattle.ld_reader.proofs.Answering.{came_to, came_left, rounds_left, unbegun_so, begun_so}
+use Rattle.ld_reader.proofs.Answering.{came_to, came_left, rounds_left, unbegun_so, begun_so, begun_later}
 use Rattle.ld_reader.proofs.Looking.{with_made, are_made, was_made, one_look, at_one, are_one, made_behind}
 use Rattle.ld_reader.proofs.reader.Reader.follow.Goals as goal
 
@@ -77,3 +77,11 @@ returns-clause-acted g c = λ w.
       made_behind f c.args.made.now e v (λ x q a. c.in_ok-seen.ensures.again x q a),
       begun_so l c.in_ok-seen.seen f c.begin.new.self h c.give_all.new.course c.in_ok-ending.ending c.round_after-round.result c.args.out.now c.begin.new.out c.in_ok-course.ensures.next way some (at_one base e v) (grind (arith, common_steps)) c.in_ok-begin.ensures.reader c.in_ok-begin.ensures.sent,
     )
+
+pub returns-in_err-seen-clause-due : goal.returns-in_err-seen-clause-due
+returns-in_err-seen-clause-due g c = λ fault e l.
+    let f = c.args.self.now in
+    let h = lasting c.args.lasts f.reader in
+    let way = came_to f.reader h c.in_ok-course.course c.give_all.new.course c.in_ok-ending.ending refl c.in_ok-course.ensures.reader c.in_ok-course.ensures.items c.in_ok-ending.ensures.reader c.in_ok-ending.ensures.items c.in_ok-ending.ensures.ending in
+    let some : begins c.in_ok-ending.ending (read_so_far (on_course f.reader c.give_all.new.course) c.give_all.new.course.items) ≡ true = grind (arith, common_steps) in
+    begun_later l f h c.give_all.new.course c.in_ok-ending.ending c.in_ok-course.ensures.next way some

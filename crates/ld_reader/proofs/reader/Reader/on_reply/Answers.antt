@@ -5,7 +5,7 @@ use Rattle.ld_msg.specs.Reading.{Item}
 use Rattle.ld_reader.specs.Following.{Following, replied, HasDone}
 use Rattle.ld_reader.specs.Tiling.{Tiles}
 use Rattle.ld_reader.specs.Looks.{looks_of, AreLooks}
-use Rattle.ld_reader.proofs.Answering.{past_so, other_so, stale_so, replied_so, heard_so}
+use Rattle.ld_reader.proofs.Answering.{past_so, other_so, stale_so, replied_so, heard_so, replied_later, confirmed_by, other_confirms}
 use Rattle.ld_reader.proofs.Looking.{blanks, are_blanks}
 use Rattle.ld_reader.proofs.Tiling.{read_tiles}
 use Rattle.ld_reader.proofs.reader.Reader.on_reply.Goals as goal
@@ -28,6 +28,9 @@ returns-in_default g c =
       within = c.finished.ensures.within;
       reader_err = tt;
       sent_err = tt;
+      idle = λ none. (refl, refl);
+      due = λ fault e. absurd cc;
+      looked = λ sure t. let none = other_confirms f.reader c.args.msg.now.from c.args.msg.now.body c.in_default.not-Node in absurd cc;
       whole = λ t. inl (refl, refl);
       told = λ t. t;
       same = λ d m. m;
@@ -106,4 +109,34 @@ returns-in-Ok-clause-whole g c = λ t.
     elim (c.in-Ok.ensures.whole t) [
       | inl x ↦ inl (x.0 ∙ ap (λ (v : Following). v.reader.round) heard, x.1 ∙ ap (λ (v : Following). v.reader.seen) heard)
       | inr x ↦ inr x
+    ]
+
+pub returns-in-Ok-clause-idle : goal.returns-in-Ok-clause-idle
+returns-in-Ok-clause-idle g c = λ none.
+    let left = sym c.finished.ensures.finished ∙ c.if-finished.false in
+    let taken = sym c.is_stale.ensures ∙ c.if-is_stale.false in
+    elim none [
+      | inl e ↦ absurd cc
+      | inr other ↦ elim other [
+        | inl h ↦ absurd (h c.in-Node.node c.in-Node.is)
+        | inr stale ↦ absurd cc
+      ]
+    ]
+
+pub returns-in-Ok-clause-looked : goal.returns-in-Ok-clause-looked
+returns-in-Ok-clause-looked g c = λ sure t.
+    let f = c.args.self.now in
+    let taken : nat_lt (round_of c.in_ok-body.body) f.reader.least ≡ false = ap (λ b. nat_lt (round_of b) f.reader.least) c.in_ok-body.ensures ∙ (sym c.is_stale.ensures ∙ c.if-is_stale.false) in
+    let same = confirmed_by f c.hear.new.self c.args.msg.now c.in-Node.node c.in_ok-body.body c.in_ok-heard.heard.noted.lasts (sym c.finished.ensures.finished ∙ c.if-finished.false) c.in-Node.is c.in_ok-body.ensures taken c.in_ok-heard.ensures.heard in
+    c.in-Ok.ensures.looked (sym same ∙ sure) t
+
+pub returns-in-Err-clause-due : goal.returns-in-Err-clause-due
+returns-in-Err-clause-due g c = λ fault e.
+    let f = c.args.self.now in
+    let left = sym c.finished.ensures.finished ∙ c.if-finished.false in
+    let taken : nat_lt (round_of c.in_ok-body.body) f.reader.least ≡ false = ap (λ b. nat_lt (round_of b) f.reader.least) c.in_ok-body.ensures ∙ (sym c.is_stale.ensures ∙ c.if-is_stale.false) in
+    let heard = c.in_ok-heard.ensures.heard in
+    elim (c.in-Err.ensures.due fault e) [
+      | inl sure ↦ inl (confirmed_by f c.hear.new.self c.args.msg.now c.in-Node.node c.in_ok-body.body c.in_ok-heard.heard.noted.lasts left c.in-Node.is c.in_ok-body.ensures taken heard ∙ sure)
+      | inr later ↦ inr (λ looks. replied_later looks f c.hear.new.self c.args.msg.now c.in-Node.node c.in_ok-body.body c.in_ok-heard.heard.noted.lasts left c.in-Node.is c.in_ok-body.ensures taken heard (later looks))
     ]

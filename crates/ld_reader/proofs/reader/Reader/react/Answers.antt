@@ -1,13 +1,13 @@
-use Rattle.std.proofs.Common.{◌≡◌, ℕ, true, false, arith, refl, ap, sym, ◌∙◌, subst, inl, inr}
+use Rattle.std.proofs.Common.{◌≡◌, ◌<◌, ℕ, true, false, arith, refl, ap, sym, ◌∙◌, subst, inl, inr}
 use Rattle.std.proofs.lemmas.Grind.{common_steps}
 use Rattle.ld_lsn.specs.Number.{home_epoch}
 use Rattle.ld_msg.specs.Register.{View}
-use Rattle.ld_msg.specs.Reader.{is_confirmed, sees_swap}
+use Rattle.ld_msg.specs.Reader.{Read, is_confirmed, sees_swap}
 use Rattle.ld_reader.specs.Course.{lasting, followed}
 use Rattle.ld_reader.specs.Following.{Following, HasDone}
 use Rattle.ld_reader.specs.Looks.{looks_of, IsLook, AreLooks}
 use Rattle.ld_reader.specs.Place.{Place}
-use Rattle.ld_reader.proofs.Answering.{if_ok, quiet_done, swapped_done, sure_done}
+use Rattle.ld_reader.proofs.Answering.{if_ok, quiet_so, quiet_done, swapped_done, sure_done}
 use Rattle.ld_reader.proofs.Looking.{blanks, are_blanks, one_look, at_one, are_one, look_at}
 use Rattle.ld_reader.proofs.reader.Reader.react.Goals as goal
 
@@ -28,6 +28,12 @@ returns-then-not-confirms_loss-clause-acted g c =
     let f = c.args.self.now in
     let quiet : is_confirmed (lasting c.args.lasts f.reader).confirming ≡ false = grind (arith, common_steps) in
     if_ok _ _ c.follow.result (λ items k. (k.0, k.1, quiet_done k.0 c.args.lasts f c.follow.new.self items c.args.out.now c.follow.new.out quiet k.3)) (c.follow.ensures.acted tt)
+
+pub returns-then-not-confirms_loss-clause-due : goal.returns-then-not-confirms_loss-clause-due
+returns-then-not-confirms_loss-clause-due g c = λ fault e.
+    let f = c.args.self.now in
+    let quiet : is_confirmed (lasting c.args.lasts f.reader).confirming ≡ false = grind (arith, common_steps) in
+    inr (λ looks. subst (λ (a : Read). f.reader.round < a.reader.round) (sym (quiet_so looks (lasting c.args.lasts f.reader) quiet)) (c.follow.ensures.due fault e looks))
 
 pub returns-then-sees_swap-clause-exact : goal.returns-then-sees_swap-clause-exact
 returns-then-sees_swap-clause-exact g c = λ d t.
@@ -108,3 +114,12 @@ returns-in-Err-clause-damaged g c = λ place e t.
     let held = c.in_ok-seen.ensures.whole refl t in
     let kept : g.G.Register.holds c.look.new.reg held.0 = elim c.in_ok-seen.ensures.keeps [ inl x ↦ absurd cc | inr k ↦ k.held held.0 held.1 ] in
     absurd (g.met.G.Register.held_is_whole c.look.new.reg held.0 place kept (c.in-Err.ensures.damaged place e (c.in_ok-seen.ensures.told t)))
+
+pub returns-in-Err-clause-keeps : goal.returns-in-Err-clause-keeps
+returns-in-Err-clause-keeps g c = elim c.in-Err.ensures.keeps [
+  | inl e ↦ inl e
+  | inr after ↦ elim c.in_ok-seen.ensures.keeps [
+    | inl e ↦ absurd cc
+    | inr before ↦ inr (record { held = λ d h. after.held d (before.held d h); may = λ d h. before.may d (after.may d h) })
+  ]
+]
