@@ -17,7 +17,7 @@ use Rattle.ld_rounds.specs.declared.ended.Ended.TheVariants as ends
 use Rattle.ld_rounds.specs.Input.{Input, all_taken}
 use Rattle.ld_rounds.specs.Feeding.{upcoming, NoneComes, WasOver, NextIs, IsInputEnding}
 use Rattle.ld_rounds.specs.Drives.{Turned}
-use Rattle.ld_rounds.specs.Rounds.{Splits, is_quiet, Quiet, IsDelivered, waiting_by, waiting_in, waiting, IsTickBehind, IsReminded, IsCalm, AreCalm, Calm, ticks_only, Visiting, IsVisit, AreVisits, IsReadRound, AreReadRounds, IsRetry, MayRetry, IsAppendRound, AreAppendRounds, AreAppends, IsAppendBy, IsBegun, tells_full, taken_by, taken_of, HasFed, Feeds, HasFedSome, FeedsUntil, Both}
+use Rattle.ld_rounds.specs.Rounds.{Splits, is_quiet, Quiet, IsDelivered, waiting_by, waiting_in, waiting, IsTickBehind, IsReminded, IsCalm, AreCalm, Calm, ticks_only, Visiting, IsVisit, AreVisits, IsPolled, IsReadRound, IsReadPart, AreReadRounds, IsRetry, MayRetry, IsAppendRound, AreAppendRounds, AreAppends, IsAppendBy, IsBegun, tells_full, taken_by, taken_of, HasFed, Feeds, HasFedSome, FeedsUntil, Both}
 
 -- by so many rounds
 pub turned : {Y : Type 0} {W : ℕ → Type 0} (low high n : ℕ) → low ≤ n → n < high → Y ⊎ W n → Y ⊎ Turned low high W
@@ -165,10 +165,15 @@ module _ (c : Config) where
   -- ---- rounds ----
 
   -- one more of a reader; its rounds are alike
-  pub read_more : (name : List ℕ) (first : ℕ) (ys : List ℕ) (n : ℕ) → Joins c (AreReadRounds name c first ys n) (IsReadRound name c first ys) (AreReadRounds name c first ys (n + 1))
-  read_more name first ys n s es fs h r =
+  pub read_more : (sparing : Bool) (name : List ℕ) (first : ℕ) (ys : List ℕ) (n : ℕ) → Joins c (AreReadRounds sparing name c first ys n) (IsReadRound sparing name c first ys) (AreReadRounds sparing name c first ys (n + 1))
+  read_more sparing name first ys n s es fs h r =
       let e : n + 1 ≡ suc n = omega arith in
-      subst (λ (k : ℕ). AreReadRounds name c first ys k s (es ++ fs)) (sym e) (record { front = es; rest = fs; whole = refl; came = h; goes = r })
+      subst (λ (k : ℕ). AreReadRounds sparing name c first ys k s (es ++ fs)) (sym e) (record { front = es; rest = fs; whole = refl; came = h; goes = r })
+
+  -- a part of one that is begun, or isn't
+  pub part_begun : (sparing : Bool) (name : List ℕ) (first : ℕ) (ys : List ℕ) (s : State) (es : List Event) → (es ≡ []) ⊎ IsPolled sparing name first ys s es → IsReadPart sparing name c first ys s es
+  part_begun sparing name first ys s es (inl e) = inl e
+  part_begun sparing name first ys s es (inr p) = inr (splits_end (IsPolled sparing name first ys) (Calm c) s es p tt)
 
   -- one more of a sequencer
   pub append_more : (name : List ℕ) (first : ℕ) (ys : List ℕ) (n : ℕ) → Joins c (AreAppendRounds name c first ys n) (IsAppendRound name c first ys (n == 0)) (AreAppendRounds name c first ys (n + 1))

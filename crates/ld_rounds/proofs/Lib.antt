@@ -5,6 +5,7 @@ pub mod Feeding
 pub mod Going
 pub mod Joining
 pub mod News
+pub mod Polling
 pub mod Queueing
 pub mod Reminding
 pub mod Steps

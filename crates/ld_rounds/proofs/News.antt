@@ -1,17 +1,18 @@
 -- Messages that are new, as they are sent, taken and lost.
-use Rattle.std.proofs.Common.{◌≡◌, ◌≢◌, ℕ, suc, ◌+◌, ◌-◌, ◌<◌, ◌≤◌, Bool, true, false, not, ◌==◌, ◌&&◌, List, [], ◌∷◌, ◌++◌, filter, length, set, Some, None, refl, ap, sym, ◌∙◌, subst, inl, inr, arith, nat_le, slice_get, if◌then◌else◌, replicate, zero}
+use Rattle.std.proofs.Common.{◌≡◌, ◌≢◌, ℕ, suc, ◌+◌, ◌-◌, ◌<◌, ◌≤◌, Bool, true, false, not, ◌==◌, ◌&&◌, ◌||◌, List, [], ◌∷◌, ◌++◌, filter, length, set, Some, None, refl, ap, sym, ◌∙◌, subst, inl, inr, arith, nat_le, slice_get, if◌then◌else◌, replicate, zero}
 use Rattle.std.proofs.lemmas.List.{append-nil, append_assoc, get_or-set_same, get_or-set_other, length-set}
 use Rattle.std.proofs.lemmas.List.Elements.{filter-append}
 use Rattle.std.proofs.lemmas.Bool.{eq-eqb, eqb-true, ne_eqb, le-leb, lt-ltb, cases_eq}
 use Rattle.std.specs.List.{AllByRecursion}
+use Rattle.ld_table.specs.Words.{any_of}
 use Rattle.ld_ids.specs.Id.{IsNode}
 use Rattle.ld_msg.specs.declared.msg.Who.{Who}
 use Rattle.ld_msg.specs.declared.msg.Who.TheVariants as whos
 use Rattle.ld_msg.specs.declared.msg.Msg.{Msg}
 use Rattle.ld_msg.specs.Network.{Network, message, send, send_all, mark}
 use Rattle.ld_bounds.specs.Sound.{is_node}
-use Rattle.ld_rounds.specs.Queued.{queue_of, no_queues, put_to, put_one, put_all}
-use Rattle.ld_rounds.specs.News.{goes_to, waits_for, is_answer, chosen, places_of, without, RiseBelow, AreAt, AreNews}
+use Rattle.ld_rounds.specs.Queued.{queue_of, no_queues, put_to, put_one, put_all, waits}
+use Rattle.ld_rounds.specs.News.{goes_to, waits_for, is_answer, chosen, places_of, without, RiseBelow, AreAt, AreNews, waits_in, one_waits, some_wait}
 
 -- ---- taken ----
 
@@ -330,3 +331,23 @@ no_news w h = record {
   queued = λ y is. sym (none_waits 17 y);
   answers_are = refl;
 }
+
+-- ---- waiting ----
+
+waits_by_one : (b : Bool) (m : Msg) (ms : List Msg) (a : Bool) → a ≡ waits ms → (b || a) ≡ waits (if b then m ∷ ms else ms)
+waits_by_one true m ms a h = refl
+waits_by_one false m ms a h = h
+
+any_there : (w : Network) (y : ℕ) (es : List (ℕ × Msg)) → AreAt w es → any_of (λ i. waits_in y (message w i)) (places_of es) ≡ waits (chosen (waits_for y) es)
+any_there w y [] a = refl
+any_there w y (e ∷ es) a =
+    ap (λ o. waits_in y o || any_of (λ i. waits_in y (message w i)) (places_of es)) a.0 ∙ waits_by_one (waits_for y e.1) e.1 (chosen (waits_for y) es) (any_of (λ i. waits_in y (message w i)) (places_of es)) (any_there w y es a.1)
+
+-- a message waits for a node just where its queue has one
+pub one_queued : (first : ℕ) (w : Network) (qs : List (List Msg)) (ans : List Msg) (y : ℕ) → AreNews first w qs ans → IsNode y → one_waits first w y ≡ waits (queue_of qs y)
+one_queued first w qs ans y n is = ap (any_of (λ i. waits_in y (message w i))) n.fresh ∙ (any_there w y n.news n.there ∙ ap waits (n.queued y is))
+
+pub some_queued : (first : ℕ) (w : Network) (qs : List (List Msg)) (ans : List Msg) (ys : List ℕ) → AreNews first w qs ans → AllByRecursion IsNode ys → some_wait first w ys ≡ any_of (λ y. waits (queue_of qs y)) ys
+some_queued first w qs ans [] n is = refl
+some_queued first w qs ans (y ∷ ys) n is =
+    ap (λ b. b || some_wait first w ys) (one_queued first w qs ans y n is.0) ∙ ap (λ b. waits (queue_of qs y) || b) (some_queued first w qs ans ys n is.1)

@@ -9,6 +9,7 @@ pub mod News
 pub mod Output
 pub mod Queued
 pub mod Reaching
+pub mod Refusals
 pub mod Reminding
 pub mod Rounds
 pub mod Taking

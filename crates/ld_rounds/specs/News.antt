@@ -1,5 +1,6 @@
 -- The messages of a network that a drive has still to do with: those that are new from a first place on.
-use Rattle.std.specs.Prelude.{ℕ, ◌≡◌, ◌≤◌, ◌<◌, ◌+◌, ◌&&◌, ◌==◌, not, nat_le, List, [], ◌∷◌, filter, Bool, false, Some, if◌then◌else◌}
+use Rattle.std.specs.Prelude.{ℕ, ◌≡◌, ◌≤◌, ◌<◌, ◌+◌, ◌&&◌, ◌==◌, not, nat_le, List, [], ◌∷◌, filter, Bool, false, Option, None, Some, if◌then◌else◌}
+use Rattle.ld_table.specs.Words.{any_of}
 use Rattle.ld_ids.specs.Id.{IsNode}
 use Rattle.ld_msg.specs.declared.msg.Who.{Who}
 use Rattle.ld_msg.specs.declared.msg.Who.TheVariants as whos
@@ -50,3 +51,17 @@ pub record AreNews (first : ℕ) (w : Network) (queues : List (List Msg)) (answe
   pub rise : RiseBelow first w.count news
   pub queued : (y : ℕ) → IsNode y → chosen (waits_for y) news ≡ queue_of queues y
   pub answers_are : chosen is_answer news ≡ answers
+
+-- ---- waiting ----
+
+abbrev pub waits_in : ℕ → Option Msg → Bool
+waits_in y None = false
+waits_in y (Some m) = waits_for y m
+
+-- whether a message that is new from the first place on waits for the node
+abbrev pub one_waits : ℕ → Network → ℕ → Bool
+one_waits first w y = any_of (λ i. waits_in y (message w i)) (filter (λ i. nat_le first i) w.fresh)
+
+-- whether one waits for any of these nodes
+abbrev pub some_wait : ℕ → Network → List ℕ → Bool
+some_wait first w ys = any_of (one_waits first w) ys

@@ -1,5 +1,5 @@
 -- Which steps a drive takes, round by round, and which payloads they took.
-use Rattle.std.specs.Prelude.{ℕ, zero, suc, ◌≡◌, ◌⊎◌, ◌==◌, List, [], ◌∷◌, ◌++◌, Bool, true, false, Option, None, Some, if◌then◌else◌}
+use Rattle.std.specs.Prelude.{ℕ, zero, suc, ◌≡◌, ◌⊎◌, ◌==◌, ◌&&◌, List, [], ◌∷◌, ◌++◌, Bool, true, false, Option, None, Some, if◌then◌else◌}
 use Rattle.std.specs.List.{AllByRecursion}
 use Rattle.ld_config.specs.declared.config.Config.{Config}
 use Rattle.ld_schedule.specs.declared.event.Event.{Event}
@@ -19,7 +19,7 @@ use Rattle.ld_rounds.specs.declared.ended.Ended.{Ended}
 use Rattle.ld_rounds.specs.declared.ended.Ended.TheVariants as ends
 use Rattle.ld_rounds.specs.Input.{Input, ComesTo}
 use Rattle.ld_rounds.specs.Queued.{queue_of}
-use Rattle.ld_rounds.specs.News.{AreNews}
+use Rattle.ld_rounds.specs.News.{AreNews, some_wait}
 
 -- ---- one part after the other ----
 
@@ -132,13 +132,20 @@ abbrev pub AreRounds : (ℕ → State → List Event → Type 0) → Config → 
 AreRounds round c zero s es = es ≡ []
 AreRounds round c (suc n) s es = Splits (AreRounds round c n) (round n) c s es
 
--- a reader polls, and the nodes are visited
-abbrev pub IsReadRound : List ℕ → Config → ℕ → List ℕ → State → List Event → Type 0
-IsReadRound name c first ys s es = Splits (IsOne (events.Poll name)) (AreVisits c first ys) c s es
+-- a reader polls before a round; one that is sparing doesn't where a message that is new from the first place on waits for one of the nodes
+abbrev pub polls : Bool → List ℕ → ℕ → List ℕ → State → List Event
+polls sparing name first ys s = if sparing && some_wait first s.network ys then [] else events.Poll name ∷ []
+
+abbrev pub IsPolled : Bool → List ℕ → ℕ → List ℕ → State → List Event → Type 0
+IsPolled sparing name first ys s es = es ≡ polls sparing name first ys s
+
+-- and then the nodes are visited
+abbrev pub IsReadRound : Bool → List ℕ → Config → ℕ → List ℕ → State → List Event → Type 0
+IsReadRound sparing name c first ys s es = Splits (IsPolled sparing name first ys) (AreVisits c first ys) c s es
 
 -- so far
-abbrev pub IsReadPart : List ℕ → Config → State → List Event → Type 0
-IsReadPart name c s es = Splits (IsBegun (events.Poll name)) (Calm c) c s es
+abbrev pub IsReadPart : Bool → List ℕ → Config → ℕ → List ℕ → State → List Event → Type 0
+IsReadPart sparing name c first ys s es = (es ≡ []) ⊎ Splits (IsPolled sparing name first ys) (Calm c) c s es
 
 -- a sequencer sends again before each round but the first
 abbrev pub IsRetry : List ℕ → Bool → State → List Event → Type 0
@@ -171,8 +178,8 @@ IsAppendPart name c is_first s es = Splits (Splits (MayRetry name is_first) (Are
 abbrev pub AreAppendRounds : List ℕ → Config → ℕ → List ℕ → ℕ → State → List Event → Type 0
 AreAppendRounds name c first ys n s es = AreRounds (λ k. IsAppendRound name c first ys (k == 0)) c n s es
 
-abbrev pub AreReadRounds : List ℕ → Config → ℕ → List ℕ → ℕ → State → List Event → Type 0
-AreReadRounds name c first ys n s es = AreRounds (λ k. IsReadRound name c first ys) c n s es
+abbrev pub AreReadRounds : Bool → List ℕ → Config → ℕ → List ℕ → ℕ → State → List Event → Type 0
+AreReadRounds sparing name c first ys n s es = AreRounds (λ k. IsReadRound sparing name c first ys) c n s es
 
 -- ---- payloads ----
 
@@ -251,5 +258,5 @@ Appends name c first ys old ended n = Both (AreAppendRounds name c first ys n) (
 abbrev pub AppendsUntil : List ℕ → Config → ℕ → List ℕ → Option Input → Ended → ℕ → State → List Event → Type 0
 AppendsUntil name c first ys old ended n = Both (Splits (AreAppendRounds name c first ys n) (IsAppendPart name c (n == 0)) c) (FeedsUntil c old ended)
 
-abbrev pub ReadsUntil : List ℕ → Config → ℕ → List ℕ → ℕ → State → List Event → Type 0
-ReadsUntil name c first ys n s es = Splits (AreReadRounds name c first ys n) (IsReadPart name c) c s es
+abbrev pub ReadsUntil : Bool → List ℕ → Config → ℕ → List ℕ → ℕ → State → List Event → Type 0
+ReadsUntil sparing name c first ys n s es = Splits (AreReadRounds sparing name c first ys n) (IsReadPart sparing name c first ys) c s es

@@ -18,9 +18,9 @@ TookAppends who broken ys coming rounds stands tells c first s queues old new re
     (λ n. Went who broken (Appends who.name c first ys coming ends.Done n) stands tells c first s queues old new)
     (λ e n. Stops who broken (λ f. AppendsUntil who.name c first ys coming f n) stands tells c first s queues old new e) result
 
--- of a reader over these nodes
-abbrev pub TookReads : Driver → Type 0 → List ℕ → ℕ → (Config → State → Type 0) → (Far → Type 0) → Config → ℕ → State → List (List Msg) → Option (List ℕ) → Option (List ℕ) → Result Bool Ended → Type 0
-TookReads who broken ys rounds stands tells c first s queues old new result = TookRounds rounds
-    (λ n. Went who broken (AreReadRounds who.name c first ys n) stands tells c first s queues old new)
-    (λ n. Went who broken (AreReadRounds who.name c first ys n) stands tells c first s queues old new)
-    (λ e n. Stops who broken (λ f. ReadsUntil who.name c first ys n) stands tells c first s queues old new e) result
+-- of a reader over these nodes, which is sparing or isn't
+abbrev pub TookReads : Bool → Driver → Type 0 → List ℕ → ℕ → (Config → State → Type 0) → (Far → Type 0) → Config → ℕ → State → List (List Msg) → Option (List ℕ) → Option (List ℕ) → Result Bool Ended → Type 0
+TookReads sparing who broken ys rounds stands tells c first s queues old new result = TookRounds rounds
+    (λ n. Went who broken (AreReadRounds sparing who.name c first ys n) stands tells c first s queues old new)
+    (λ n. Went who broken (AreReadRounds sparing who.name c first ys n) stands tells c first s queues old new)
+    (λ e n. Stops who broken (λ f. ReadsUntil sparing who.name c first ys n) stands tells c first s queues old new e) result

@@ -1,13 +1,14 @@
 // Messages that wait for nodes.
 ghost use Rattle.std.specs.Prelude.{◌≡◌, [], set, OnOk, OnErr, IfOk, IfSome};
-ghost use Rattle.ld_table.specs.Words.{first};
+ghost use Rattle.ld_table.specs.Words.{first, any_of};
 ghost use Rattle.ld_ids.specs.Id.{IsNode};
+ghost use Rattle.ld_ids.specs.Set.{members};
 ghost use Rattle.ld_msg.specs.Bounds.{IsMessage};
 ghost use Rattle.ld_node_bounds.specs.Messages.{AreMessages};
 ghost use Rattle.ld_rounds.specs.Queued.{queue_of, no_queues, put_one, put_all, PutsPart, waits, behind, are_empty};
 
 use crate::queue::Queue;
-use ld_ids::{NoMemory, NodeId};
+use ld_ids::{NoMemory, NodeId, NodeSet};
 use ld_msg::{Msg, Outbox, Who};
 use std::alloc::Global;
 use std::marker::Model;
@@ -79,6 +80,20 @@ impl Queues {
         ensures node { IsNode node }
     {
         !self.queues[usize::from(node.number())].is_empty()
+    }
+
+    /// Whether a message waits for a node of the set.
+    pub fn any(&self, set: &NodeSet) -> bool
+        ensures { result ≡ any_of (λ y. waits (queue_of self.now y)) (members set.now) }
+    {
+        'nodes: for place in 0..set.len() {
+            if let Some(node) = set.nth(place) {
+                if self.has(node) {
+                    return true;
+                }
+            }
+        }
+        false
     }
 
     /// Takes the first message that waits for the node.

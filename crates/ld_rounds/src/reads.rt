@@ -1,5 +1,5 @@
 // A reader is driven until it is finished.
-ghost use Rattle.std.specs.Prelude.{◌≡◌, ◌⊎◌, ℕ, List, Bool, true, IfOk, IfErr, IfSome};
+ghost use Rattle.std.specs.Prelude.{◌≡◌, ◌⊎◌, ℕ, List, [], Bool, true, IfOk, IfErr, IfSome};
 ghost use Rattle.ld_ids.specs.Set.{members};
 ghost use Rattle.ld_config.specs.declared.config.Config.{Config};
 ghost use Rattle.ld_config.specs.Bounds.{IsInBounds};
@@ -12,7 +12,7 @@ ghost use Rattle.ld_dial.specs.Far.{Far};
 ghost use Rattle.ld_rounds.specs.Ends.{IsSaid};
 ghost use Rattle.ld_rounds.specs.Acts.{IsActed, Own, driver};
 ghost use Rattle.ld_rounds.specs.Drives.{AreOfConfig, Holds, GoesOn, AllTaken, IsBroken, AreLater};
-ghost use Rattle.ld_rounds.specs.Rounds.{IsOne, IsBegun, IsReadRound, IsReadPart};
+ghost use Rattle.ld_rounds.specs.Rounds.{IsOne, IsBegun, IsPolled, IsReadRound, IsReadPart};
 ghost use Rattle.ld_rounds.specs.Taking.{TookReads};
 ghost use Rattle.ld_rounds.specs.Endings.{IsEnding, IsLater};
 
@@ -63,11 +63,36 @@ fn ask<R: Reads, O: Sink>(
     tell(alloc, heard, queues, out)
 }
 
-/// One round: the reader asks, and the nodes are visited.
+/// Before a round over the nodes of a set the reader asks, but one that is sparing only where no message waits for a node of
+/// the set.
+fn begin<R: Reads, O: Sink>(
+    alloc: Global,
+    set: &NodeSet,
+    name: &Name,
+    is_sparing: bool,
+    reader: &mut R,
+    queues: &mut Queues,
+    out: &mut O,
+) -> Result<(), Ended>
+    ensures held { (own : Own) (c : Config) (first : ℕ) (s : State) (far : Far) → IsInBounds c → AreOfConfig c (members set.now) → Holds (R.stands reader.old) c first s far queues.old
+        → GoesOn (driver name.now own) ⊥ (IsPolled is_sparing name.now first (members set.now)) (λ e t es. (es ≡ []) ⊎ IsPolled is_sparing name.now first (members set.now) t es) (R.stands reader.new) (λ now. now ≡ far) c first s queues.new (O.written out.old) (O.written out.new) result }
+    ensures itself { R.own reader.new ≡ R.own reader.old }
+    ensures since { R.since reader.old reader.new }
+    ensures cause { IfErr result (IsEnding (O.faults out.old) (O.faults out.new) (O.written out.old) (O.written out.new)) }
+    ensures later { IsLater (O.faults out.old) (O.faults out.new) (O.written out.old) (O.written out.new) }
+{
+    if is_sparing && queues.any(set) {
+        return Ok(());
+    }
+    ask(alloc, name, reader, queues, out)
+}
+
+/// One round: the reader asks, where it is to, and the nodes are visited.
 fn read_round<R: Reads, N: Nodes, O: Sink>(
     alloc: Global,
     set: &NodeSet,
     name: &Name,
+    is_sparing: bool,
     reader: &mut R,
     nodes: &mut N,
     queues: &mut Queues,
@@ -75,7 +100,7 @@ fn read_round<R: Reads, N: Nodes, O: Sink>(
 ) -> Result<(), Ended>
     ensures held { (own : Own) → R.own reader.old ≡ own → (c : Config) (first : ℕ) (s : State) (far : Far) → IsInBounds c → AreOfConfig c (members set.now)
         → AllTaken (N.tells nodes.old c) far → Holds (R.stands reader.old) c first s far queues.old
-        → (N.silent nodes.new ≡ true) ⊎ GoesOn (driver name.now own) (IsBroken (N.faults nodes.old) (N.faults nodes.new) (N.endings nodes.old) (N.endings nodes.new)) (IsReadRound name.now c first (members set.now)) (λ e. IsReadPart name.now c) (R.stands reader.new) (AllTaken (N.tells nodes.new c)) c first s queues.new (O.written out.old) (O.written out.new) result }
+        → (N.silent nodes.new ≡ true) ⊎ GoesOn (driver name.now own) (IsBroken (N.faults nodes.old) (N.faults nodes.new) (N.endings nodes.old) (N.endings nodes.new)) (IsReadRound is_sparing name.now c first (members set.now)) (λ e. IsReadPart is_sparing name.now c first (members set.now)) (R.stands reader.new) (AllTaken (N.tells nodes.new c)) c first s queues.new (O.written out.old) (O.written out.new) result }
     ensures silent { N.silent nodes.old ≡ true → N.silent nodes.new ≡ true }
     ensures itself { R.own reader.new ≡ R.own reader.old }
     ensures since { R.since reader.old reader.new }
@@ -83,17 +108,20 @@ fn read_round<R: Reads, N: Nodes, O: Sink>(
     ensures later { IsLater (O.faults out.old) (O.faults out.new) (O.written out.old) (O.written out.new) }
     ensures counts { AreLater (N.faults nodes.old) (N.faults nodes.new) (N.endings nodes.old) (N.endings nodes.new) }
 {
-    ask(alloc, name, reader, queues, out)?;
+    begin(alloc, set, name, is_sparing, reader, queues, out)?;
     round(alloc, set, reader, nodes, queues, out)
 }
 
 /// Drives a reader: before each of so many rounds over the nodes of a set it polls, and after each it is seen whether it is
-/// finished. True where it was; its lines are written as they come. It ends with `BadFrame` where what a node sent begins no
-/// frame, with `Write` where the output failed, and for want of memory.
+/// finished. One that is sparing polls only before a round at whose start no message waits for a node of the set: what it
+/// asked at its last answer then still waits for nodes that had been visited before. True where it was finished; its lines
+/// are written as they come. It ends with `BadFrame` where what a node sent begins no frame, with `Write` where the output
+/// failed, and for want of memory.
 pub fn read<R: Reads, N: Nodes, O: Sink>(
     alloc: Global,
     set: &NodeSet,
     name: &Name,
+    is_sparing: bool,
     rounds: u64,
     reader: &mut R,
     nodes: &mut N,
@@ -101,14 +129,14 @@ pub fn read<R: Reads, N: Nodes, O: Sink>(
     out: &mut O,
 ) -> Result<bool, Ended>
     // Where the nodes tell what stands there: all that was done are steps of the written machine from any state that the
-    // drive stands for, round by round: it polls, and the set's nodes are visited one after the other. The lines that were
-    // written are the reader's lines of those steps. A message to a node is lost only where a call of the nodes failed or a
-    // node had ended, and an answer only where the reader doesn't take it. In its visit a node may be ticked, right behind an
-    // answer by which it tells the reader to wait, where the reader tells nodes of a log's closed epochs; it never ends with
-    // `BadFrame`.
+    // drive stands for, round by round: it polls, but one that is sparing just where no message that is new from the first
+    // place on waits for a node of the set, and the set's nodes are visited one after the other. The lines that were written
+    // are the reader's lines of those steps. A message to a node is lost only where a call of the nodes failed or a node had
+    // ended, and an answer only where the reader doesn't take it. In its visit a node may be ticked, right behind an answer by
+    // which it tells the reader to wait, where the reader tells nodes of a log's closed epochs; it never ends with `BadFrame`.
     ensures held { (c : Config) (first : ℕ) (s : State) (far : Far) → IsInBounds c → AreOfConfig c (members set.now)
         → AllTaken (N.tells nodes.old c) far → Holds (R.stands reader.old) c first s far queues.old
-        → (N.silent nodes.new ≡ true) ⊎ TookReads (driver name.now (R.own reader.old)) (IsBroken (N.faults nodes.old) (N.faults nodes.new) (N.endings nodes.old) (N.endings nodes.new)) (members set.now) rounds (R.stands reader.new) (AllTaken (N.tells nodes.new c)) c first s queues.new (O.written out.old) (O.written out.new) result }
+        → (N.silent nodes.new ≡ true) ⊎ TookReads is_sparing (driver name.now (R.own reader.old)) (IsBroken (N.faults nodes.old) (N.faults nodes.new) (N.endings nodes.old) (N.endings nodes.new)) (members set.now) rounds (R.stands reader.new) (AllTaken (N.tells nodes.new c)) c first s queues.new (O.written out.old) (O.written out.new) result }
     ensures finished { IfOk result (λ done. done ≡ true → R.finished reader.new name.now ≡ true) }
     ensures itself { R.own reader.new ≡ R.own reader.old }
     ensures since { R.since reader.old reader.new }
@@ -116,7 +144,7 @@ pub fn read<R: Reads, N: Nodes, O: Sink>(
     ensures later { IsLater (O.faults out.old) (O.faults out.new) (O.written out.old) (O.written out.new) }
 {
     'rounds: for _ in 0..rounds {
-        read_round(alloc, set, name, reader, nodes, queues, out)?;
+        read_round(alloc, set, name, is_sparing, reader, nodes, queues, out)?;
         if reader.is_finished(name) {
             return Ok(true);
         }

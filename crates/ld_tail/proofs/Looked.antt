@@ -12,7 +12,8 @@ use Rattle.ld_reader.specs.declared.fault.ReaderFault.TheVariants as readers
 use Rattle.ld_rounds.specs.declared.ended.Refusal.TheVariants as refusals
 use Rattle.ld_rounds.specs.declared.ended.Ended.{Ended}
 use Rattle.ld_rounds.specs.declared.ended.Ended.TheVariants as ends
-use Rattle.ld_tail.specs.Looking.{look_end, register_end, why_of, same_end, IsLookEnd, HeldNone, HasLooked}
+use Rattle.ld_rounds.specs.Refusals.{HeldNone}
+use Rattle.ld_tail.specs.Looking.{look_end, register_end, why_of, same_end, IsLookEnd, HasLooked}
 
 -- ---- one call ----
 

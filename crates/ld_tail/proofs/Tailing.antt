@@ -13,6 +13,7 @@ use Rattle.ld_msg.specs.declared.style.Style.{Style}
 use Rattle.ld_msg.specs.declared.style.Style.TheVariants as styles
 use Rattle.ld_msg.specs.Network.{Network}
 use Rattle.ld_msg.specs.Bounds.{Is64}
+use Rattle.ld_msg.specs.Reader.{is_single}
 use Rattle.ld_msg.specs.Register.{Register}
 use Rattle.ld_reader.specs.Following.{Following}
 use Rattle.ld_machine.specs.Disk.{Node}
@@ -136,20 +137,20 @@ module _ (w : Wanted) (broken : Type 0) (most : ℕ) (tells : Config → Far →
       (goes_such (tailing w) broken c s.network.count b {R = Unit {0}} (IsBegun (opening w)) (IsBegun (opening w)) (λ f. IsBegun (opening w)) (λ f. at) broken (Follows fs U) (AllTaken (tells c)) (AllTaken (tells c)) s qs old new (Err e) (λ x. x) (λ f t. t) (λ es x. x) (λ es x. inl x) g)
 
   module _ (A : Config → State → Type 0) (T : Far → Type 0) (rs : List (List Msg)) (mid : Option (List ℕ)) (v : Went (tailing w) broken (IsOne (opening w)) A T c s.network.count s rs old mid) where
-    since : (n : ℕ) → Went (tailing w) broken (AreReadRounds w.name c s.network.count (members c.nodes) n) (Follows fs U) (AllTaken (tells c)) c s.network.count v.moved.state qs mid new → Went (tailing w) broken (AreSteps w c s.network.count n) (Follows fs U) (AllTaken (tells c)) c s.network.count s qs old new
-    since n g = went_on (tailing w) broken c s.network.count b (IsOne (opening w)) (AreReadRounds w.name c s.network.count (members c.nodes) n) (AreSteps w c s.network.count n) A (Follows fs U) T (AllTaken (tells c)) s rs qs old mid new
-        (splits_join c (IsOne (opening w)) (AreReadRounds w.name c s.network.count (members c.nodes) n)) v g
+    since : (n : ℕ) → Went (tailing w) broken (AreReadRounds (is_single w.style) w.name c s.network.count (members c.nodes) n) (Follows fs U) (AllTaken (tells c)) c s.network.count v.moved.state qs mid new → Went (tailing w) broken (AreSteps w c s.network.count n) (Follows fs U) (AllTaken (tells c)) c s.network.count s qs old new
+    since n g = went_on (tailing w) broken c s.network.count b (IsOne (opening w)) (AreReadRounds (is_single w.style) w.name c s.network.count (members c.nodes) n) (AreSteps w c s.network.count n) A (Follows fs U) T (AllTaken (tells c)) s rs qs old mid new
+        (splits_join c (IsOne (opening w)) (AreReadRounds (is_single w.style) w.name c s.network.count (members c.nodes) n)) v g
 
-    stops_since : (e : Ended) (n : ℕ) → n < most → Stops (tailing w) broken (λ f. ReadsUntil w.name c s.network.count (members c.nodes) n) (Follows fs U) (AllTaken (tells c)) c s.network.count v.moved.state qs mid new e → Stops (tailing w) broken (λ f. at) (Follows fs U) (AllTaken (tells c)) c s.network.count s qs old new e
+    stops_since : (e : Ended) (n : ℕ) → n < most → Stops (tailing w) broken (λ f. ReadsUntil (is_single w.style) w.name c s.network.count (members c.nodes) n) (Follows fs U) (AllTaken (tells c)) c s.network.count v.moved.state qs mid new e → Stops (tailing w) broken (λ f. at) (Follows fs U) (AllTaken (tells c)) c s.network.count s qs old new e
     stops_since e n f g =
         let P = IsOne (opening w) in
-        let Q = ReadsUntil w.name c s.network.count (members c.nodes) n in
+        let Q = ReadsUntil (is_single w.style) w.name c s.network.count (members c.nodes) n in
         let j = λ (t : State) (es fs : List Event) (x : P t es) (y : Q (state_after c t es) fs). inr (record { rounds = n; below = f; goes = splits_join c P Q t es fs x y }) in
         cut_by e (went_stops (tailing w) broken c s.network.count b P Q at A T s rs old mid new j v) (went_on (tailing w) broken c s.network.count b P Q at A (Follows fs U) T (AllTaken (tells c)) s rs qs old mid new j v) g
 
     -- the reader is opened, and driven
     drove : (r : Result Bool Ended) → IfOk r (λ done. done ≡ true → finished_in (find_named w.name fs) ≡ true)
-        → TookReads (tailing w) broken (members c.nodes) most (Follows fs U) (AllTaken (tells c)) c s.network.count v.moved.state qs mid new r → DroveTail w broken most tells U c s old new r
+        → TookReads (is_single w.style) (tailing w) broken (members c.nodes) most (Follows fs U) (AllTaken (tells c)) c s.network.count v.moved.state qs mid new r → DroveTail w broken most tells U c s old new r
     drove (Ok false) f g = let u = since most g in reached (AreSteps w c s.network.count most) (λ t. U t.register) u u.moved.holds.actor.register
     drove (Ok true) f g =
         let u = since g.rounds g.goes in
@@ -164,7 +165,7 @@ module _ (w : Wanted) (broken : Type 0) (most : ℕ) (tells : Config → Far →
 
     -- where it isn't silent
     pub drove_loud : (Y : Type 0) (r : Result Bool Ended) → IfOk r (λ done. done ≡ true → finished_in (find_named w.name fs) ≡ true)
-        → Y ⊎ TookReads (tailing w) broken (members c.nodes) most (Follows fs U) (AllTaken (tells c)) c s.network.count v.moved.state qs mid new r → Y ⊎ DroveTail w broken most tells U c s old new r
+        → Y ⊎ TookReads (is_single w.style) (tailing w) broken (members c.nodes) most (Follows fs U) (AllTaken (tells c)) c s.network.count v.moved.state qs mid new r → Y ⊎ DroveTail w broken most tells U c s old new r
     drove_loud Y r f (inl y) = inl y
     drove_loud Y r f (inr g) = inr (drove r f g)
 

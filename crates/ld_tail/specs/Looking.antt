@@ -1,7 +1,6 @@
 -- What looks leave of a register, and how the drive of a reader ends by one.
 use Rattle.std.specs.Prelude.{ℕ, ◌≡◌, ◌⊎◌, ◌≤◌, Option, None, Some}
 use Rattle.std.proofs.Common.{refl, ap, sym, ◌∙◌, inl, inr, ⊎_elim, arith}
-use Rattle.ld_io.specs.Causes.{Rose}
 use Rattle.ld_msg.specs.Register.{Register}
 use Rattle.ld_register.specs.declared.fault.RegisterFault.{RegisterFault}
 use Rattle.ld_register.specs.declared.fault.RegisterFault.TheVariants as registers
@@ -10,6 +9,7 @@ use Rattle.ld_reader.specs.declared.fault.ReaderFault.TheVariants as readers
 use Rattle.ld_rounds.specs.declared.ended.Refusal.TheVariants as refusals
 use Rattle.ld_rounds.specs.declared.ended.Ended.{Ended}
 use Rattle.ld_rounds.specs.declared.ended.Ended.TheVariants as ends
+use Rattle.ld_rounds.specs.Refusals.{HeldNone, IsRefusal, refusal_as}
 
 abbrev pub register_end : RegisterFault → Ended
 register_end registers.NoMemory = ends.NoMemory
@@ -27,14 +27,9 @@ why_of (Some end) = end
 
 -- a look failed, as the register's counts of faults before and now say, or the register is damaged from that place on, or there is no memory left
 abbrev pub IsLookEnd : (ℕ → Type 0) → ℕ → ℕ → Ended → Type 0
-IsLookEnd damaged before now (ends.Register refusals.Failed) = Rose before now
-IsLookEnd damaged before now (ends.Register (refusals.Damaged place)) = damaged place
+IsLookEnd damaged before now (ends.Register refusal) = IsRefusal damaged ⊥ before now refusal
 IsLookEnd damaged before now ends.NoMemory = Unit {0}
 IsLookEnd damaged before now _ = ⊥
-
--- the register held nothing
-abbrev pub HeldNone : (Register → Type 0) → ℕ → Type 0
-HeldNone holds place = (c : Register) → holds c → ⊥
 
 -- looks change nothing of a register; where one failed it is kept why, before and now
 pub record HasLooked (end_old end_new : Option Ended) (told_old told_new : Type 0) (holds_old holds_new may_old may_new : Register → Type 0) (faults_old faults_new identity_old identity_new : ℕ) : Type 0 where
@@ -50,9 +45,7 @@ pub record HasLooked (end_old end_new : Option Ended) (told_old told_new : Type 
 
 -- more is told of what holds before
 end_since : (P Q : ℕ → Type 0) (k n m p : ℕ) (e : Ended) → k ≤ n → m ≤ p → ((place : ℕ) → P place → Q place) → IsLookEnd P n m e → IsLookEnd Q k p e
-end_since P Q k n m p (ends.Register refusals.Failed) l g f r = omega (arith, l, g, r)
-end_since P Q k n m p (ends.Register (refusals.Damaged place)) l g f r = f place r
-end_since P Q k n m p (ends.Register refusals.Full) l g f r = absurd r
+end_since P Q k n m p (ends.Register refusal) l g f r = refusal_as P Q ⊥ ⊥ k n m p refusal (λ x. omega (arith, l, g, x)) f (λ x. x) r
 end_since P Q k n m p ends.NoMemory l g f r = tt
 end_since P Q k n m p ends.Done l g f r = absurd r
 end_since P Q k n m p ends.Rounds l g f r = absurd r

@@ -8,7 +8,7 @@ use Rattle.ld_ids.specs.Set.{members}
 use Rattle.ld_config.specs.declared.config.Config.{Config}
 use Rattle.ld_schedule.specs.declared.event.Event.{Event}
 use Rattle.ld_msg.specs.declared.style.Style.{Style}
-use Rattle.ld_msg.specs.Reader.{Reader, is_finished}
+use Rattle.ld_msg.specs.Reader.{Reader, is_finished, is_single}
 use Rattle.ld_msg.specs.Register.{Register}
 use Rattle.ld_machine.specs.State.{State}
 use Rattle.ld_clients.specs.Reads as readings
@@ -49,15 +49,15 @@ pub record IsFinished (name : List ℕ) (s : State) : Type 0 where
 
 -- ---- its steps ----
 
--- the reader is opened, and so many rounds over the configuration's nodes
+-- the reader is opened, and so many rounds over the configuration's nodes; a reader of one copy is sparing with polls
 abbrev pub AreSteps : Wanted → Config → ℕ → ℕ → State → List Event → Type 0
-AreSteps w c first n s es = Splits (IsOne (opening w)) (AreReadRounds w.name c first (members c.nodes) n) c s es
+AreSteps w c first n s es = Splits (IsOne (opening w)) (AreReadRounds (is_single w.style) w.name c first (members c.nodes) n) c s es
 
 -- the reader is opened, and fewer rounds and a part of one
 pub record AreSome (w : Wanted) (c : Config) (first most : ℕ) (s : State) (es : List Event) : Type 0 where
   pub rounds : ℕ
   pub below : rounds < most
-  pub goes : Splits (IsOne (opening w)) (ReadsUntil w.name c first (members c.nodes) rounds) c s es
+  pub goes : Splits (IsOne (opening w)) (ReadsUntil (is_single w.style) w.name c first (members c.nodes) rounds) c s es
 
 -- at most the opening, or those
 abbrev pub EndAt : Wanted → Config → ℕ → ℕ → State → List Event → Type 0

@@ -1,6 +1,7 @@
 // A reader is opened, and driven until it is finished.
 ghost use Rattle.std.specs.Prelude.{◌≡◌, ◌≤◌, ◌⊎◌, ℕ, [], None, Some, true, IfErr};
 ghost use Rattle.ld_config.specs.Bounds.{IsInBounds};
+ghost use Rattle.ld_msg.specs.Reader.{is_single};
 ghost use Rattle.ld_msg.specs.Register.{Register as Contents};
 ghost use Rattle.ld_machine.specs.State.{State};
 ghost use Rattle.ld_dial.specs.Far.{Far};
@@ -21,6 +22,16 @@ use ld_msg::Style;
 use ld_register::Register;
 use ld_rounds::{Ended, Queues, Refusal, read, tell};
 use std::alloc::Global;
+
+/// Whether a reader of this style reads one copy of each payload.
+fn is_single(style: Style) -> bool
+    ensures { result ≡ is_single style }
+{
+    match style {
+        Style::OneCopy => true,
+        Style::EachCopy | Style::OfMessages => false,
+    }
+}
 
 /// Looks at the register, opens the reader and drives it. True where it is finished.
 fn drive<G: Register, N: Nodes, O: Sink>(
@@ -59,6 +70,7 @@ fn drive<G: Register, N: Nodes, O: Sink>(
         alloc,
         &config.nodes,
         name,
+        is_single(style),
         rounds,
         reading,
         nodes,
@@ -81,8 +93,10 @@ fn end_of(driven: Result<bool, Ended>, why: Ended) -> Ended
 }
 
 /// Tails a log: the register is looked at, a new reader of the name is opened from a number to another, both included, that
-/// reads in this style, and so many rounds over the configuration's nodes are driven, in each of which it polls. Its lines are written as they come. The
-/// register is given back.
+/// reads in this style, and so many rounds over the configuration's nodes are driven. It polls before each of them; a reader
+/// of one copy polls only before a round at whose start no message waits for a node, since what waits is sent in that round
+/// anyhow, and a poll would have the same pages sent once more. Its lines are written as they come. The register is given
+/// back.
 ///
 /// A node may have missed that an epoch was closed, and then it tells the reader to wait for numbers of that epoch, though it
 /// has them. So a node that tells the reader to wait for a number of a closed epoch is told at once what the register says of
@@ -108,11 +122,11 @@ pub fn tail<G: Register, N: Nodes, O: Sink>(
 ) -> (Ended, G)
     requires { IsInBounds config.now }
     // Where the nodes and the register tell what stands there: all that was done are steps of the written machine from any state
-    // without readers that they stand for: the reader is opened, and then round by round it polls, and the configuration's nodes
-    // are visited one after the other. The lines that were written are the reader's lines of those steps. A message to a node is
-    // lost only where a call of the nodes failed or a node had ended, and an answer only where the reader doesn't take it. A node
-    // may be ticked for the log in its visit, right behind an answer by which it tells the reader to wait. It never ends with
-    // `BadFrame`.
+    // without readers that they stand for: the reader is opened, and then round by round it polls, where it reads one copy only
+    // if no message that is new waits for a node, and the configuration's nodes are visited one after the other. The lines that
+    // were written are the reader's lines of those steps. A message to a node is lost only where a call of the nodes failed or
+    // a node had ended, and an answer only where the reader doesn't take it. A node may be ticked for the log in its visit,
+    // right behind an answer by which it tells the reader to wait. It never ends with `BadFrame`.
     ensures tailed { (s : State) (far : Far) → N.tells nodes.old config.now far → Begins (HasNone (G.tells register)) config.now s far
         → (N.silent nodes.new ≡ true) ⊎ IsTailed (record { name = name; log = log; from = from; until = until; style = style }) (IsBroken (N.faults nodes.old) (N.faults nodes.new) (N.endings nodes.old) (N.endings nodes.new)) rounds (N.tells nodes.new) (G.tells result.1) config.now s (O.written out.old) (O.written out.new) result.0 }
     ensures cause { IsTailEnd (λ place. G.told register → G.damaged register place) (G.faults register) (G.faults result.1) (O.faults out.old) (O.faults out.new) result.0 }

@@ -13,7 +13,7 @@ use Rattle.ld_rounds.proofs.reads.read.Given as goal
 abbrev pub invariant-rounds : goal.invariant-rounds
 invariant-rounds g l =
     ((c : Config) (first : ℕ) (s : State) (far : Far) → IsInBounds c → AreOfConfig c (members l.set) → AllTaken (g.N.Nodes.tells l.fn.nodes c) far → Holds (g.R.Actor.stands l.fn.reader) c first s far l.fn.queues
-    → (g.N.Nodes.silent l.nodes ≡ true) ⊎ Went (driver l.name (g.R.Actor.own l.fn.reader)) (IsBroken (g.N.Nodes.faults l.fn.nodes) (g.N.Nodes.faults l.nodes) (g.N.Nodes.endings l.fn.nodes) (g.N.Nodes.endings l.nodes)) (AreReadRounds l.name c first (members l.set) l.counter) (g.R.Actor.stands l.reader) (AllTaken (g.N.Nodes.tells l.nodes c)) c first s l.queues (g.O.Sink.written l.fn.out) (g.O.Sink.written l.out))
+    → (g.N.Nodes.silent l.nodes ≡ true) ⊎ Went (driver l.name (g.R.Actor.own l.fn.reader)) (IsBroken (g.N.Nodes.faults l.fn.nodes) (g.N.Nodes.faults l.nodes) (g.N.Nodes.endings l.fn.nodes) (g.N.Nodes.endings l.nodes)) (AreReadRounds l.is_sparing l.name c first (members l.set) l.counter) (g.R.Actor.stands l.reader) (AllTaken (g.N.Nodes.tells l.nodes c)) c first s l.queues (g.O.Sink.written l.fn.out) (g.O.Sink.written l.out))
     × IsLater (g.O.Sink.faults l.fn.out) (g.O.Sink.faults l.out) (g.O.Sink.written l.fn.out) (g.O.Sink.written l.out)
     × AreLater (g.N.Nodes.faults l.fn.nodes) (g.N.Nodes.faults l.nodes) (g.N.Nodes.endings l.fn.nodes) (g.N.Nodes.endings l.nodes)
     × (g.R.Actor.own l.reader ≡ g.R.Actor.own l.fn.reader)

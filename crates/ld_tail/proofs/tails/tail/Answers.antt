@@ -3,7 +3,8 @@ use Rattle.ld_rounds.specs.declared.ended.Ended.{Ended}
 use Rattle.ld_rounds.specs.Drives.{IsBroken}
 use Rattle.ld_rounds.specs.Reaching.{Begins}
 use Rattle.ld_rounds.proofs.Going.{stopped_here}
-use Rattle.ld_tail.specs.Looking.{IsLookEnd, HeldNone, HasLooked, why_of}
+use Rattle.ld_rounds.specs.Refusals.{HeldNone}
+use Rattle.ld_tail.specs.Looking.{IsLookEnd, HasLooked, why_of}
 use Rattle.ld_tail.specs.Tails.{HasNone, EndAt, IsTailed, IsTailEnd, DroveTail, tailing}
 use Rattle.ld_tail.proofs.Looked.{why_is}
 use Rattle.ld_tail.proofs.Tailing.{tail_end, tailed_loud}
