@@ -23,6 +23,7 @@ pub mod Serving
 pub mod Spending
 pub mod Starting
 pub mod Telling
+pub mod Unsent
 pub mod Waves
 pub mod Windows
 pub mod Bounded

@@ -230,6 +230,11 @@ pub record IsFresh (w : Whole) (a : Acts) : Type 0 where
 
 -- ---- refusals ----
 
+-- for want of memory
+abbrev pub lacks_memory : Result Report SequencerFault → Bool
+lacks_memory (Err faults.NoMemory) = true
+lacks_memory _ = false
+
 -- a close that a register refuses so isn't made, and is tried again by a retry
 abbrev pub IsUntimely : SequencerFault → Type 0
 IsUntimely (faults.Register registers.LogLimit) = Unit {0}

@@ -101,6 +101,7 @@ impl Sequencer {
         requires next { IsSpecFor self.old.sequencer.log (next_in self.old.origin.first tried) }
         ensures acted { IfOk result (λ report. Acted self.old self.new report out.old out.new (closed_acts (shows (next_in self.old.origin.first tried)) self.old due.now.epoch due.now.summary (answer_of tried))) }
         ensures failed { IfOk result (λ report. report.register ≡ fault_in tried) }
+        ensures unsent { OnErr result (out.new ≡ out.old) }
         ensures messages { AreMessages out.old → AreMessages out.new }
     {
         match tried {

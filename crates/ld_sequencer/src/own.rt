@@ -1,5 +1,5 @@
 // What a sequencer does for its own epoch.
-ghost use Rattle.std.specs.Prelude.{◌≡◌, ◌≤◌, ◌<◌, ◌+◌, ◌-◌, ◌^◌, ◌++◌, ◌&&◌, ◌==◌, ℕ, length, IfOk, IfErr, OnOk, OnErr, None, is_some, nat_lt, if◌then◌else◌};
+ghost use Rattle.std.specs.Prelude.{◌≡◌, ◌≤◌, ◌<◌, ◌+◌, ◌-◌, ◌^◌, ◌++◌, ◌&&◌, ◌==◌, ℕ, length, take, IfOk, IfErr, OnOk, OnErr, None, is_some, nat_lt, if◌then◌else◌};
 ghost use Rattle.ld_ids.specs.Set.{members};
 ghost use Rattle.ld_lsn.specs.Number.{numbered};
 ghost use Rattle.ld_msg.specs.declared.msg.Body.TheVariants.{Trim};
@@ -201,12 +201,13 @@ impl OwnEpoch {
     /// Takes a node's answer. An append is acknowledged by it where as many of its epoch's nodes as the epoch's factor says have
     /// stored it now, and hadn't before. A seal of a greater epoch preempts it, and so does word that its own epoch is closed.
     /// A node may be lost for its epoch. Where the released number rises all nodes of its epoch are told so. A preempted sequencer ignores all
-    /// answers, and so it does messages that are no node's. After want of memory it isn't to be used again.
+    /// answers, and so it does messages that are no node's. Without memory nothing is sent, and it isn't to be used again.
     #[tactic(auto, using(crate::proofs::Kept::kept_rules))]
     pub fn on_reply(&mut self, msg: &Msg, out: &mut Outbox) -> Result<Learnt, NoMemory>
         ensures does { IfOk result (λ report. Does self.old self.new report (heard self.old msg.now.from msg.now.body)) }
         ensures out { OnOk result (out.new ≡ out.old ++ sent_by self.old (acted_messages (sequencer_of self.old) (heard self.old msg.now.from msg.now.body))) }
         ensures kept { IsKept self.old self.new }
+        ensures unsent { OnErr result (out.new ≡ out.old) }
         ensures messages { IsEpoch (sequencer_of self.old).epoch → AreMessages out.old → AreMessages out.new }
     {
         let Who::Node(node) = msg.from else {
@@ -219,11 +220,12 @@ impl OwnEpoch {
     }
 
     /// Sends each append that isn't acknowledged once more, in its next wave, to the nodes chosen that haven't stored it. A
-    /// preempted sequencer sends nothing. After want of memory it isn't to be used again.
+    /// preempted sequencer sends nothing. Without memory nothing is sent, and it isn't to be used again.
     #[tactic(auto, using(crate::proofs::Replies::retry_rules))]
     pub fn retry(&mut self, alloc: Global, out: &mut Outbox) -> Result<(), NoMemory>
         ensures now { OnOk result (IsNow self.old self.new (on_retry (shows (spec_of self.old)) (sequencer_of self.old)).sequencer) }
         ensures out { OnOk result (out.new ≡ out.old ++ sent_by self.old (acted_messages (sequencer_of self.old) (on_retry (shows (spec_of self.old)) (sequencer_of self.old)))) }
+        ensures unsent { OnErr result (out.new ≡ out.old) }
         ensures messages { IsEpoch (sequencer_of self.old).epoch → AreMessages out.old → AreMessages out.new }
     {
         if self.preempted.is_none() {
@@ -244,15 +246,34 @@ impl OwnEpoch {
     /// nothing is sent. Behind messages it sends messages.
     pub fn send(&self, alloc: Global, out: &mut Outbox) -> Result<(), NoMemory>
         ensures sent { OnOk result (out.new ≡ out.old ++ sent_by self.now (pending self.now)) }
+        ensures unsent { OnErr result (out.new ≡ out.old) }
         ensures messages { IsEpoch (sequencer_of self.now).epoch → AreMessages out.old → AreMessages out.new }
     {
         self.row.send(alloc, &self.lost, out)
     }
 
-    /// All epochs up to this one are closed. Where the released number rises all nodes of its epoch are told so.
+    /// The same behind other messages of the call. Without memory the first `count` messages alone are left.
+    #[tactic(auto, using(crate::proofs::Bounded::message_rules))]
+    pub fn send_behind(&self, alloc: Global, count: usize, out: &mut Outbox) -> Result<(), NoMemory>
+        ensures sent { OnOk result (out.new ≡ out.old ++ sent_by self.now (pending self.now)) }
+        ensures left { OnErr result (out.new ≡ take count out.old) }
+        ensures messages { IsEpoch (sequencer_of self.now).epoch → AreMessages out.old → AreMessages out.new }
+    {
+        match self.send(alloc, out) {
+            Ok(()) => Ok(()),
+            Err(_) => {
+                out.truncate(count);
+                Err(NoMemory)
+            }
+        }
+    }
+
+    /// All epochs up to this one are closed. Where the released number rises all nodes of its epoch are told so. Without memory
+    /// nothing is sent.
     pub fn close_through(&mut self, lce: u32, out: &mut Outbox) -> Result<(), NoMemory>
         ensures now { self.new ≡ with_lce self.old lce }
         ensures out { OnOk result (out.new ≡ out.old ++ sent_by self.old (released_above (released_of (sequencer_of self.old)) (with_lce self.old lce))) }
+        ensures unsent { OnErr result (out.new ≡ out.old) }
         ensures messages { IsEpoch (sequencer_of self.old).epoch → AreMessages out.old → AreMessages out.new }
     {
         let released = self.released();
@@ -401,6 +422,7 @@ impl OwnEpoch {
     /// Tells all nodes of its epoch the released number, where it is above this one. Without memory nothing is sent.
     fn tell_released(&self, before: Lsn, out: &mut Outbox) -> Result<(), NoMemory>
         ensures sent { OnOk result (out.new ≡ out.old ++ sent_by self.now (released_above before self.now)) }
+        ensures unsent { OnErr result (out.new ≡ out.old) }
         ensures messages { IsEpoch (sequencer_of self.now).epoch → AreMessages out.old → AreMessages out.new }
     {
         let released = self.released();

@@ -1,5 +1,5 @@
 // What a sequencer does for the recovery of earlier epochs.
-ghost use Rattle.std.specs.Prelude.{◌≡◌, ◌≢◌, ◌⊎◌, ◌≤◌, ◌+◌, ◌-◌, ◌^◌, ◌++◌, ◌==◌, ◌&&◌, [], ℕ, List, true, false, is_some, nat_lt, if◌then◌else◌, None, Some, Ok, IfOk, IfErr, IfSome, OnOk, OnErr, IsErrOf};
+ghost use Rattle.std.specs.Prelude.{◌≡◌, ◌≢◌, ◌⊎◌, ◌≤◌, ◌+◌, ◌-◌, ◌^◌, ◌++◌, ◌==◌, ◌&&◌, [], ℕ, List, true, false, is_some, nat_lt, if◌then◌else◌, take, None, Some, Ok, IfOk, IfErr, IfSome, OnOk, OnErr, IsErrOf};
 ghost use Rattle.ld_io.specs.Causes.{Rose};
 ghost use Rattle.ld_ids.specs.declared.set.Spec.{Spec as Fixed};
 ghost use Rattle.ld_node_bounds.specs.Messages.{AreMessages};
@@ -22,7 +22,7 @@ use crate::close::{Due, close};
 use crate::earlier::is_of_earlier;
 use crate::fault::SequencerFault;
 use crate::look::behind;
-use crate::report::Report;
+use crate::report::{Report, lacks_memory};
 use crate::start::{next_recovery, send_all};
 use ld_ids::{NoMemory, Spec};
 use ld_lsn::Lsn;
@@ -46,15 +46,17 @@ impl Sequencer {
         requires quiet { spends_by self.old msg.now.from msg.now.body ≡ false }
         ensures acted { IfOk result (λ report. Acted self.old self.new report out.old out.new (reply_acts (shows next.now) self.old msg.now.from msg.now.body)) }
         ensures failed { IfOk result (λ report. report.register ≡ None) }
+        ensures unsent { OnErr result (out.new ≡ out.old) }
         ensures messages { AreMessages out.old → AreMessages out.new }
     {
         let before = self.released();
         let Some(mut recovery) = self.recovery.take() else {
             return Ok(Report::nothing());
         };
+        let count = out.len();
         recovery.on_reply(alloc, msg, out)?;
         if let State::Done(_) = recovery.state() {
-            self.go_on(alloc, recovery.epoch(), next, out)?;
+            self.go_on_behind(alloc, count, recovery.epoch(), next, out)?;
             return Ok(Report {
                 acked: None,
                 closed: None,
@@ -101,7 +103,7 @@ impl Sequencer {
 
     /// All epochs up to this one are closed: where the released number rises all nodes of its epoch are told so, and the
     /// recovery of the next epoch begins, with what is shown of it, where that is before its own. It recovers none at the
-    /// moment.
+    /// moment. Without memory nothing is sent.
     pub(crate) fn go_on(
         &mut self,
         alloc: Global,
@@ -113,12 +115,48 @@ impl Sequencer {
         requires next { IsSpecFor self.old.sequencer.log next.now }
         ensures now { OnOk result (self.new ≡ as_now self.old (goes_on (shows next.now) (does_nothing self.old.sequencer) lce).sequencer) }
         ensures out { OnOk result (out.new ≡ out.old ++ sent_as self.old (acted_messages self.old.sequencer (goes_on (shows next.now) (does_nothing self.old.sequencer) lce))) }
+        ensures unsent { OnErr result (out.new ≡ out.old) }
         ensures messages { AreMessages out.old → AreMessages out.new }
     {
+        let count = out.len();
         self.recovery = None;
         self.own.close_through(lce, out)?;
-        self.recovery = next_recovery(alloc, next, self.own.epoch(), lce, out)?;
-        Ok(())
+        match next_recovery(alloc, next, self.own.epoch(), lce, out) {
+            Ok(recovery) => {
+                self.recovery = recovery;
+                Ok(())
+            }
+            Err(_) => {
+                out.truncate(count);
+                Err(NoMemory)
+            }
+        }
+    }
+
+    /// The same behind other messages of the call. Without memory the first `count` messages alone are left.
+    #[tactic(auto, using(crate::proofs::Bounded::message_rules))]
+    pub(crate) fn go_on_behind(
+        &mut self,
+        alloc: Global,
+        count: usize,
+        lce: u32,
+        next: &Spec,
+        out: &mut Outbox,
+    ) -> Result<(), NoMemory>
+        requires lce { lce ≤ 2 ^ 32 - 2 }
+        requires next { IsSpecFor self.old.sequencer.log next.now }
+        ensures now { OnOk result (self.new ≡ as_now self.old (goes_on (shows next.now) (does_nothing self.old.sequencer) lce).sequencer) }
+        ensures out { OnOk result (out.new ≡ out.old ++ sent_as self.old (acted_messages self.old.sequencer (goes_on (shows next.now) (does_nothing self.old.sequencer) lce))) }
+        ensures left { OnErr result (out.new ≡ take count out.old) }
+        ensures messages { AreMessages out.old → AreMessages out.new }
+    {
+        match self.go_on(alloc, lce, next, out) {
+            Ok(()) => Ok(()),
+            Err(_) => {
+                out.truncate(count);
+                Err(NoMemory)
+            }
+        }
     }
 
     /// Tries the close that is due.
@@ -149,6 +187,7 @@ impl Sequencer {
         ensures keeps { IfErr result (λ fault. (fault ≡ faults.NoMemory) ⊎ Keeps (G.holds reg.old) (G.holds reg.new) (G.may_hold reg.old) (G.may_hold reg.new)) }
         ensures itself { G.identity reg.new ≡ G.identity reg.old }
         ensures counts { G.faults reg.old ≤ G.faults reg.new }
+        ensures unsent { IsErrOf result faults.NoMemory → out.new ≡ out.old }
         ensures messages { AreMessages out.old → AreMessages out.new }
     {
         let origin = *self.own.origin();
@@ -169,14 +208,16 @@ impl Sequencer {
         requires due { closing_of self.old ≡ Some due.now }
         ensures acted { IfOk result (λ report. Acted self.old self.new report out.old out.new (closed_acts (shows next.now) self.old due.now.epoch due.now.summary Granted)) }
         ensures failed { IfOk result (λ report. report.register ≡ None) }
+        ensures unsent { OnErr result (out.new ≡ out.old) }
         ensures messages { AreMessages out.old → AreMessages out.new }
     {
         let before = self.released();
+        let count = out.len();
         match self.recovery.take() {
             Some(mut recovery) => recovery.closed(Answer::Taken, out)?,
             None => {}
         }
-        self.go_on(alloc, due.epoch, next, out)?;
+        self.go_on_behind(alloc, count, due.epoch, next, out)?;
         Ok(Report {
             acked: None,
             closed: Some(Lsn::new(due.epoch, due.summary.end)),
@@ -199,6 +240,7 @@ impl Sequencer {
         requires lce { lce ≤ 2 ^ 32 - 2 }
         ensures acted { IfOk result (λ report. Acted self.old self.new report out.old out.new (closed_acts (shows next.now) self.old due.now.epoch due.now.summary (Behind lce))) }
         ensures failed { IfOk result (λ report. report.register ≡ None) }
+        ensures unsent { OnErr result (out.new ≡ out.old) }
         ensures messages { AreMessages out.old → AreMessages out.new }
     {
         let _ = due;
@@ -260,17 +302,27 @@ impl Sequencer {
         ensures keeps { IfErr result (λ fault. (fault ≡ faults.NoMemory) ⊎ (fault ≡ faults.Register registers.Failed) ⊎ Keeps (G.holds reg.old) (G.holds reg.new) (G.may_hold reg.old) (G.may_hold reg.new)) }
         ensures itself { G.identity reg.new ≡ G.identity reg.old }
         ensures counts { G.faults reg.old ≤ G.faults reg.new }
+        ensures unsent { IsErrOf result faults.NoMemory → out.new ≡ out.old }
         ensures messages { AreMessages out.old → AreMessages out.new }
     {
         let _ = self.own.origin();
         if self.is_spent() {
             return self.look_again(alloc, reg, out);
         }
+        let count = out.len();
         let mut sends = Outbox::empty(alloc);
         self.try_again(alloc, &mut sends)?;
         let report = self.close_due(alloc, reg, out);
-        send_all(sends, out)?;
-        report
+        if lacks_memory(&report) {
+            return Err(SequencerFault::NoMemory);
+        }
+        match send_all(sends, out) {
+            Ok(()) => report,
+            Err(_) => {
+                out.truncate(count);
+                Err(SequencerFault::NoMemory)
+            }
+        }
     }
 
     /// Tries the close that is due, where one is.
@@ -299,6 +351,7 @@ impl Sequencer {
         ensures keeps { IfErr result (λ fault. (fault ≡ faults.NoMemory) ⊎ Keeps (G.holds reg.old) (G.holds reg.new) (G.may_hold reg.old) (G.may_hold reg.new)) }
         ensures itself { G.identity reg.new ≡ G.identity reg.old }
         ensures counts { G.faults reg.old ≤ G.faults reg.new }
+        ensures unsent { IsErrOf result faults.NoMemory → out.new ≡ out.old }
         ensures messages { AreMessages out.old → AreMessages out.new }
     {
         let _ = self.own.origin();
@@ -313,6 +366,7 @@ impl Sequencer {
         requires { is_spent_now self.old ≡ false }
         ensures now { (looks : ℕ → View) → OnOk result (self.new ≡ as_now self.old (recovery_acts looks self.old).sequencer) }
         ensures out { (looks : ℕ → View) → OnOk result (out.new ≡ out.old ++ sent_as self.old ((recovery_acts looks self.old).asks ++ (recovery_acts looks self.old).stores)) }
+        ensures unsent { OnErr result (out.new ≡ out.old) }
         ensures messages { AreMessages out.old → AreMessages out.new }
     {
         if let Some(mut recovery) = self.recovery.take() {

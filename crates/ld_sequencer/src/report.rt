@@ -1,7 +1,8 @@
 // What a call of a sequencer did.
 ghost use Rattle.std.specs.Prelude.{◌≡◌, None};
+ghost use Rattle.ld_sequencer.specs.Whole.{lacks_memory};
 
-use crate::fault::CloseFault;
+use crate::fault::{CloseFault, SequencerFault};
 use ld_lsn::Lsn;
 
 /// What a call of a sequencer did.
@@ -36,5 +37,18 @@ impl Report {
             register: None,
             released: None,
         }
+    }
+}
+
+/// Whether a call was refused for want of memory.
+pub(crate) fn lacks_memory(answer: &Result<Report, SequencerFault>) -> bool
+    ensures { result ≡ lacks_memory answer.now }
+{
+    match answer {
+        Ok(_) => false,
+        Err(fault) => match fault {
+            SequencerFault::NoMemory => true,
+            _ => false,
+        },
     }
 }

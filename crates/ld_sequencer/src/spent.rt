@@ -1,5 +1,5 @@
 // What a sequencer does where the nodes of the recovered epoch have told all that they can.
-ghost use Rattle.std.specs.Prelude.{◌≡◌, ◌⊎◌, ◌≤◌, ◌+◌, ◌++◌, [], ℕ, true, false, is_some, None, Some, Ok, IfOk, IfErr, OnOk, IsErrOf};
+ghost use Rattle.std.specs.Prelude.{◌≡◌, ◌⊎◌, ◌≤◌, ◌+◌, ◌++◌, [], ℕ, true, false, is_some, None, Some, Ok, IfOk, IfErr, OnOk, OnErr, IsErrOf};
 ghost use Rattle.ld_io.specs.Causes.{Rose};
 ghost use Rattle.ld_ids.specs.declared.set.Spec.{Spec as Fixed};
 ghost use Rattle.ld_node_bounds.specs.Messages.{AreMessages};
@@ -79,6 +79,7 @@ impl Sequencer {
         ensures keeps { IfErr result (λ fault. (fault ≡ faults.NoMemory) ⊎ (fault ≡ faults.Register registers.Failed) ⊎ Keeps (G.holds reg.old) (G.holds reg.new) (G.may_hold reg.old) (G.may_hold reg.new)) }
         ensures itself { G.identity reg.new ≡ G.identity reg.old }
         ensures counts { G.faults reg.old ≤ G.faults reg.new }
+        ensures unsent { IsErrOf result faults.NoMemory → out.new ≡ out.old }
         ensures messages { AreMessages out.old → AreMessages out.new }
     {
         let origin = *self.own.origin();
@@ -121,6 +122,7 @@ impl Sequencer {
         ensures keeps { IfErr result (λ fault. (fault ≡ faults.NoMemory) ⊎ (fault ≡ faults.Register registers.Failed) ⊎ Keeps (G.holds reg.old) (G.holds reg.new) (G.may_hold reg.old) (G.may_hold reg.new)) }
         ensures itself { G.identity reg.new ≡ G.identity reg.old }
         ensures counts { G.faults reg.old ≤ G.faults reg.new }
+        ensures unsent { IsErrOf result faults.NoMemory → out.new ≡ out.old }
         ensures messages { AreMessages out.old → AreMessages out.new }
     {
         let origin = *self.own.origin();
@@ -162,6 +164,7 @@ impl Sequencer {
         requires spent { is_counted self.old.sequencer.epoch (Ok seen.now) ≡ true → is_spent_now self.old ≡ true }
         ensures acted { (first : Fixed) → IfOk result (λ report. Acted self.old self.new report out.old out.new (looked_acts (looks_with first seen.now) self.old)) }
         ensures quiet { IfOk result (λ report. report.register ≡ None) }
+        ensures unsent { OnErr result (out.new ≡ out.old) }
         ensures messages { AreMessages out.old → AreMessages out.new }
     {
         match seen {
@@ -189,12 +192,14 @@ impl Sequencer {
         requires next { IsSpecFor self.old.sequencer.log next.now }
         ensures acted { IfOk result (λ report. Acted self.old self.new report out.old out.new (looked_acts (sees 0 (Some summary.now) next.now) self.old)) }
         ensures quiet { IfOk result (λ report. report.register ≡ None) }
+        ensures unsent { OnErr result (out.new ≡ out.old) }
         ensures messages { AreMessages out.old → AreMessages out.new }
     {
         let before = self.released();
         let epoch = self.own.lce() + 1;
+        let count = out.len();
         self.tell_clean(epoch, summary, out)?;
-        self.go_on(alloc, epoch, next, out)?;
+        self.go_on_behind(alloc, count, epoch, next, out)?;
         Ok(Report {
             acked: None,
             closed: None,
@@ -209,6 +214,7 @@ impl Sequencer {
         requires epoch { epoch ≡ self.now.sequencer.lce + 1 }
         requires summary { IsSummary epoch summary.now }
         ensures sent { OnOk result (out.new ≡ out.old ++ sent_as self.now (to_each (Clean epoch summary.now) (recovered_nodes self.now.sequencer.recovery))) }
+        ensures unsent { OnErr result (out.new ≡ out.old) }
         ensures messages { AreMessages out.old → AreMessages out.new }
     {
         match &self.recovery {
@@ -232,6 +238,7 @@ impl Sequencer {
         requires { is_spent_now self.old ≡ true }
         ensures acted { (first : Fixed) → IfOk result (λ report. Acted self.old self.new report out.old out.new (looked_acts (sees self.old.sequencer.epoch None first) self.old)) }
         ensures quiet { IfOk result (λ report. report.register ≡ None) }
+        ensures unsent { OnErr result (out.new ≡ out.old) }
         ensures messages { AreMessages out.old → AreMessages out.new }
     {
         if let Some(mut recovery) = self.recovery.take() {

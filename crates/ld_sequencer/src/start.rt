@@ -87,7 +87,7 @@ impl Sequencer {
 }
 
 /// The recovery of the first epoch that isn't closed, with what is shown of it, where that is before the sequencer's own: all
-/// its nodes are asked for what they have. Without memory some may have been asked.
+/// its nodes are asked for what they have. Without memory none is asked.
 #[tactic(auto, using(crate::proofs::Serving::begin_rules))]
 pub(crate) fn next_recovery(
     alloc: Global,
@@ -101,6 +101,7 @@ pub(crate) fn next_recovery(
     requires lce { lce ≤ 2 ^ 32 - 2 }
     ensures value { IfOk result (λ recovery. recovery ≡ recovery_behind next.now epoch lce) }
     ensures sent { OnOk result (out.new ≡ out.old ++ asks_behind next.now epoch lce) }
+    ensures unsent { OnErr result (out.new ≡ out.old) }
     ensures messages { AreMessages out.old → AreMessages out.new }
 {
     if lce + 1 < epoch {

@@ -24,7 +24,7 @@ use crate::fault::SequencerFault;
 use crate::look::look_at;
 use crate::origin::Origin;
 use crate::own::OwnEpoch;
-use crate::report::Report;
+use crate::report::{Report, lacks_memory};
 use crate::start::{next_recovery, send_all};
 use ld_ids::{NoMemory, Payload, Spec};
 use ld_lsn::Lsn;
@@ -139,7 +139,7 @@ impl Sequencer {
     ///
     /// It is refused with `Register` and `LogLimit` exactly where 64 other logs are held, and with `Register`, `Damaged` and a
     /// place where the register's bytes are no journal from there on: then all has been done but the close, which a retry
-    /// tries again, and the register holds what it held. After `NoMemory` it isn't to be used again.
+    /// tries again, and the register holds what it held. At `NoMemory` nothing is sent, and it isn't to be used again.
     ///
     /// Whatever the register answers, what a crash may leave of it is what it might leave before, with the close that was
     /// tried made or not.
@@ -171,6 +171,7 @@ impl Sequencer {
         ensures keeps { IfErr result (λ fault. (fault ≡ faults.NoMemory) ⊎ (fault ≡ faults.Register registers.Failed) ⊎ Keeps (G.holds reg.old) (G.holds reg.new) (G.may_hold reg.old) (G.may_hold reg.new)) }
         ensures itself { G.identity reg.new ≡ G.identity reg.old }
         ensures counts { G.faults reg.old ≤ G.faults reg.new }
+        ensures unsent { IsErrOf result faults.NoMemory → out.new ≡ out.old }
         ensures messages { AreMessages out.old → AreMessages out.new }
     {
         if self.spends(msg) {
@@ -214,6 +215,7 @@ impl Sequencer {
         ensures keeps { IfErr result (λ fault. (fault ≡ faults.NoMemory) ⊎ Keeps (G.holds reg.old) (G.holds reg.new) (G.may_hold reg.old) (G.may_hold reg.new)) }
         ensures itself { G.identity reg.new ≡ G.identity reg.old }
         ensures counts { G.faults reg.old ≤ G.faults reg.new }
+        ensures unsent { IsErrOf result faults.NoMemory → out.new ≡ out.old }
         ensures messages { AreMessages out.old → AreMessages out.new }
     {
         let was_closing = self.closing().is_some();
@@ -232,8 +234,8 @@ impl Sequencer {
     /// the nodes chosen that haven't stored it. A preempted sequencer does nothing.
     ///
     /// The register's answer to a close or a look does what it does in `on_reply`, and so do its refusals: then all has been
-    /// done but the close or the look, and the register holds what it held. After `NoMemory` it isn't to be used again. What
-    /// a crash may leave of the register is as it is there.
+    /// done but the close or the look, and the register holds what it held. At `NoMemory` nothing is sent, and it isn't to be
+    /// used again. What a crash may leave of the register is as it is there.
     pub fn retry<G: Register>(
         &mut self,
         alloc: Global,
@@ -260,14 +262,19 @@ impl Sequencer {
         ensures keeps { IfErr result (λ fault. (fault ≡ faults.NoMemory) ⊎ (fault ≡ faults.Register registers.Failed) ⊎ Keeps (G.holds reg.old) (G.holds reg.new) (G.may_hold reg.old) (G.may_hold reg.new)) }
         ensures itself { G.identity reg.new ≡ G.identity reg.old }
         ensures counts { G.faults reg.old ≤ G.faults reg.new }
+        ensures unsent { IsErrOf result faults.NoMemory → out.new ≡ out.old }
         ensures messages { AreMessages out.old → AreMessages out.new }
     {
         if self.own.is_preempted() {
             return Ok(Report::nothing());
         }
+        let count = out.len();
         self.own.raise();
         let report = self.retry_recovery(alloc, reg, out);
-        self.own.send(alloc, out)?;
+        if lacks_memory(&report) {
+            return Err(SequencerFault::NoMemory);
+        }
+        self.own.send_behind(alloc, count, out)?;
         report
     }
 
@@ -310,6 +317,7 @@ impl Sequencer {
         ensures acted { IfOk result (λ report. Acted self.old self.new report out.old out.new (reply_acts (shows next.now) self.old msg.now.from msg.now.body)) }
         ensures fresh { IsFresh self.old (reply_acts (shows next.now) self.old msg.now.from msg.now.body) }
         ensures failed { IfOk result (λ report. report.register ≡ None) }
+        ensures unsent { OnErr result (out.new ≡ out.old) }
         ensures messages { AreMessages out.old → AreMessages out.new }
     {
         if self.is_for_recovery(&msg.body) {

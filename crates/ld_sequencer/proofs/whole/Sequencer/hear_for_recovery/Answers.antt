@@ -11,8 +11,8 @@ pub returns-in-Done-clause-acted : goal.returns-in-Done-clause-acted
 returns-in-Done-clause-acted c =
     let w = c.args.self.now in let o = c.self.inside.own in let m = c.self.inside.recovery in let r = c.in-Some.recovery in let x = c.on_reply.new.self in let who = c.args.msg.now.from in let b = c.args.msg.now.body in
     let k = sym c.take.ensures.value ∙ c.in-Some.is in
-    ended_acted (shows c.args.next.now) w c.go_on.new.self o m r x who b c.epoch.result c.released-before.result c.risen.result c.args.out.now c.on_reply.new.out c.go_on.new.out c.self.view_is k c.in_ok-on_reply.ensures.value c.epoch.ensures c.released-before.ensures c.in_ok-on_reply.ensures.sent
-    c.in_ok-go_on.ensures.now c.in_ok-go_on.ensures.out c.risen.ensures
+    ended_acted (shows c.args.next.now) w c.go_on_behind.new.self o m r x who b c.epoch.result c.released-before.result c.risen.result c.args.out.now c.on_reply.new.out c.go_on_behind.new.out c.self.view_is k c.in_ok-on_reply.ensures.value c.epoch.ensures c.released-before.ensures c.in_ok-on_reply.ensures.sent
+    c.in_ok-go_on_behind.ensures.now c.in_ok-go_on_behind.ensures.out c.risen.ensures
     (hears_end o r x (sender_of who) b c.in-Done.field-0 c.in_ok-on_reply.ensures.value (sym c.state.ensures.value ∙ c.in-Done.is) (hears_in w o m r who b c.self.view_is c.self.invariant k c.requires.recovery c.requires.quiet))
 
 pub invariant_of-self-2 : goal.invariant_of-self-2

@@ -28,3 +28,9 @@ returns-in-Some-clause-done_or_not g c = λ z.
     let w = c.args.self.now in let m = c.hear.new.self in let t = c.in-Some.due in let a = reply_acts (shows c.args.next.now) w c.args.msg.now.from c.args.msg.now.body in
     let d = due_of w m c.in_ok-report.report c.args.out.now c.hear.new.out a c.closing.result c.is_some-was_closing.result t c.in_ok-report.ensures.acted c.hear.ensures.fresh c.closing.ensures.closing c.is_some-was_closing.ensures c.if-was_closing.false (sym c.closing-2.ensures.closing ∙ c.in-Some.is) in
     due_changed w m c.args.out.now c.hear.new.out a t (g.G.Register.may_hold c.args.reg.now) (g.G.Register.may_hold c.close.new.reg) d (c.close.ensures.done_or_not z)
+
+pub returns-in-Some-clause-unsent : goal.returns-in-Some-clause-unsent
+returns-in-Some-clause-unsent g c = λ e.
+    let w = c.args.self.now in let m = c.hear.new.self in let t = c.in-Some.due in let a = reply_acts (shows c.args.next.now) w c.args.msg.now.from c.args.msg.now.body in
+    let d = due_of w m c.in_ok-report.report c.args.out.now c.hear.new.out a c.closing.result c.is_some-was_closing.result t c.in_ok-report.ensures.acted c.hear.ensures.fresh c.closing.ensures.closing c.is_some-was_closing.ensures c.if-was_closing.false (sym c.closing-2.ensures.closing ∙ c.in-Some.is) in
+    c.close.ensures.unsent e ∙ d.sent
