@@ -148,7 +148,7 @@ same_since w g told may shut e = (e, record { leaves = leaves_here w.sequencer.l
 pub gone_since : (w : Whole) (told told_new : Type 0) (may may_new : Register → Type 0) (shut : Bool) → Leaves w.sequencer.log told told_new may may_new → IsSince (Some w) None told told_new may may_new shut shut
 gone_since w told told_new may may_new shut leaves = (tt, record { leaves = leaves; shut = λ s. inl s })
 
-limit_register : (f : RegisterFault) → register_end f ≡ ends.LogLimit → f ≡ registers.LogLimit
+limit_register : (f : RegisterFault) → register_end f ≡ Some ends.LogLimit → f ≡ registers.LogLimit
 limit_register registers.Failed e = absurd cc
 limit_register (registers.Damaged place) e = absurd cc
 limit_register registers.LogLimit e = refl
@@ -166,7 +166,7 @@ limit_by (faults.Preempted by) e = absurd cc
 limit_by faults.EpochFull e = absurd cc
 limit_by faults.WindowFull e = absurd cc
 limit_by (faults.PastReleased released) e = absurd cc
-limit_by (faults.Register f) e = let h : register_end f ≡ ends.LogLimit = cc in ap (λ (x : RegisterFault). faults.Register x) (limit_register f h)
+limit_by (faults.Register f) e = ap (λ (x : RegisterFault). faults.Register x) (limit_register f e)
 limit_by faults.NoMemory e = absurd cc
 
 no_limit : (p : Option ℕ) (f : Option CloseFault) → report_end p f ≡ Some ends.LogLimit → ⊥

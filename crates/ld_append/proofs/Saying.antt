@@ -33,17 +33,17 @@ told_report name None None rest = tt
 told_report name None (Some unclosed.Failed) rest = record { name = name; there = first_there _ _ }
 told_report name None (Some unclosed.Full) rest = record { name = name; there = first_there _ _ }
 
-told_register : (name : List ℕ) (f : RegisterFault) → IsTold (lines_by name (Err (faults.Register f))) (register_end f)
+told_register : (name : List ℕ) (f : RegisterFault) → IfSome (register_end f) (IsTold (lines_by name (Err (faults.Register f))))
 told_register name registers.Failed = record { name = name; there = first_there (lines.RefusedRegister name) [] }
 told_register name (registers.Damaged place) = record { name = name; there = first_there (lines.RefusedRegister name) [] }
 told_register name registers.LogLimit = tt
-told_register name (registers.Behind lce next) = record { name = name; there = first_there (lines.RefusedRegister name) [] }
-told_register name (registers.Overtaken kept) = record { name = name; there = first_there (lines.RefusedRegister name) [] }
+told_register name (registers.Behind lce next) = tt
+told_register name (registers.Overtaken kept) = tt
 told_register name registers.EpochLimit = record { name = name; there = first_there (lines.RefusedEpochLimit name) [] }
-told_register name registers.GenLimit = record { name = name; there = first_there (lines.RefusedRegister name) [] }
-told_register name registers.SwapLimit = record { name = name; there = first_there (lines.RefusedRegister name) [] }
+told_register name registers.GenLimit = tt
+told_register name registers.SwapLimit = tt
 told_register name registers.Full = record { name = name; there = first_there (lines.RefusedRegister name) [] }
-told_register name registers.NoMemory = record { name = name; there = first_there (lines.RefusedRegister name) [] }
+told_register name registers.NoMemory = tt
 
 told_fault : (name : List ℕ) (f : SequencerFault) → IfSome (fault_end f) (IsTold (lines_by name (Err f)))
 told_fault name (faults.PayloadTooLong n) = tt
@@ -92,13 +92,13 @@ start_told name (faults.PastReleased released) = tt
 start_told name (faults.Register registers.Failed) = record { name = name; there = first_there (lines.RefusedRegister name) [] }
 start_told name (faults.Register (registers.Damaged place)) = refl
 start_told name (faults.Register registers.LogLimit) = refl
-start_told name (faults.Register (registers.Behind lce next)) = record { name = name; there = first_there (lines.RefusedRegister name) [] }
-start_told name (faults.Register (registers.Overtaken kept)) = record { name = name; there = first_there (lines.RefusedRegister name) [] }
+start_told name (faults.Register (registers.Behind lce next)) = tt
+start_told name (faults.Register (registers.Overtaken kept)) = tt
 start_told name (faults.Register registers.EpochLimit) = record { name = name; there = first_there (lines.RefusedEpochLimit name) [] }
-start_told name (faults.Register registers.GenLimit) = record { name = name; there = first_there (lines.RefusedRegister name) [] }
-start_told name (faults.Register registers.SwapLimit) = record { name = name; there = first_there (lines.RefusedRegister name) [] }
+start_told name (faults.Register registers.GenLimit) = tt
+start_told name (faults.Register registers.SwapLimit) = tt
 start_told name (faults.Register registers.Full) = record { name = name; there = first_there (lines.RefusedRegister name) [] }
-start_told name (faults.Register registers.NoMemory) = record { name = name; there = first_there (lines.RefusedRegister name) [] }
+start_told name (faults.Register registers.NoMemory) = tt
 start_told name faults.NoMemory = tt
 
 pub start_is : (name : List ℕ) (f : SequencerFault) (end : Option Ended) (ls : List Line) → end ≡ fault_end f → ls ≡ start_lines name f → IfSome end (IsStartTold ls)
@@ -129,7 +129,7 @@ full_lines name n a fault b ls f w l = w ∙ (ap is_window f ∙ (full_by name n
     full_by name n sequencer.Numbered = refl
 
 -- which refusal ends the drive by a damaged register
-damaged_register : (f : RegisterFault) (place : ℕ) → register_end f ≡ ends.Register (refusals.Damaged place) → f ≡ registers.Damaged place
+damaged_register : (f : RegisterFault) (place : ℕ) → register_end f ≡ Some (ends.Register (refusals.Damaged place)) → f ≡ registers.Damaged place
 damaged_register registers.Failed place e = absurd cc
 damaged_register (registers.Damaged k) place e = cc
 damaged_register registers.LogLimit place e = absurd cc
@@ -147,5 +147,5 @@ damaged_by (faults.Preempted by) place e = absurd cc
 damaged_by faults.EpochFull place e = absurd cc
 damaged_by faults.WindowFull place e = absurd cc
 damaged_by (faults.PastReleased released) place e = absurd cc
-damaged_by (faults.Register f) place e = let h : register_end f ≡ ends.Register (refusals.Damaged place) = cc in ap (λ (x : RegisterFault). faults.Register x) (damaged_register f place h)
+damaged_by (faults.Register f) place e = ap (λ (x : RegisterFault). faults.Register x) (damaged_register f place e)
 damaged_by faults.NoMemory place e = absurd cc

@@ -1,6 +1,7 @@
 -- A sequencer that is driven, with its register.
-use Rattle.std.specs.Prelude.{ℕ, ◌≡◌, ◌⊎◌, List, [], ◌∷◌, Option, None, Some, Bool, true, false, ◌==◌, ◌&&◌}
-use Rattle.std.proofs.Common.{refl, sym, inl, inr, ⊎_elim, subst, ◌∙◌}
+use Rattle.std.specs.Prelude.{ℕ, ◌≡◌, ◌≤◌, ◌⊎◌, List, [], ◌∷◌, Option, None, Some, Bool, true, false, ◌==◌, ◌&&◌}
+use Rattle.std.proofs.Common.{refl, sym, ap, inl, inr, ⊎_elim, subst, ◌∙◌, arith}
+use Rattle.ld_io.specs.Causes.{Rose}
 use Rattle.ld_config.specs.declared.config.Config.{Config}
 use Rattle.ld_table.specs.Named.{find_named}
 use Rattle.ld_msg.specs.declared.msg.Who.{Who}
@@ -16,6 +17,10 @@ use Rattle.ld_machine.specs.Step.{spec_set}
 use Rattle.ld_clients.specs.declared.client.Client.{Client}
 use Rattle.ld_clients.specs.Serving.{IsWhole}
 use Rattle.ld_clients.specs.Acting.{AreSequencers}
+use Rattle.ld_rounds.specs.declared.ended.Refusal.{Refusal}
+use Rattle.ld_rounds.specs.declared.ended.Ended.{Ended}
+use Rattle.ld_rounds.specs.declared.ended.Ended.TheVariants as ends
+use Rattle.ld_rounds.specs.Refusals.{HeldNone, IsRefusal, refusal_as}
 
 -- the one sequencer, under its name, once it is active
 abbrev pub clients : List ℕ → Option Whole → List (List ℕ × Client)
@@ -67,6 +72,64 @@ IsUnset c s spec = spec_set c s spec.log ≡ spec
 abbrev pub settled_in : Option Whole → Bool
 settled_in None = false
 settled_in (Some w) = is_settled w
+
+-- ---- why the register refused ----
+
+-- what calls leave of how the drive ends, which is kept, and of the register, with its counts of faults before and now. Once it is kept no call is made of the register any more. Until then no call of it failed, and one that held something does so still. At the end it refused since a call failed, or without a fault: it is damaged only where it held nothing before
+pub record HasKept (end_old end_new : Option Ended) (holds_old holds_new : Register → Type 0) (faults_old faults_new : ℕ) : Type 0 where
+  pub stays : (e : Ended) → end_old ≡ Some e → (end_new ≡ Some e) × (faults_new ≡ faults_old)
+  pub refused : end_old ≡ None → (r : Refusal) → end_new ≡ Some (ends.Register r) → IsRefusal (λ place. (faults_new ≡ faults_old) × HeldNone holds_old place) (faults_new ≡ faults_old) faults_old faults_new r
+  pub on : end_new ≡ None → (faults_new ≡ faults_old) × ((c : Register) → holds_old c → (d : Register) × holds_new d)
+  pub counts : faults_old ≤ faults_new
+
+pub kept_here : (end : Option Ended) (holds : Register → Type 0) (faults : ℕ) → HasKept end end holds holds faults faults
+kept_here end holds faults = record {
+  stays = λ e h. (h, refl);
+  refused = λ none r h. let x : None ≡ Some (ends.Register r) = sym none ∙ h in absurd cc;
+  on = λ h. (refl, λ c x. (c, x));
+  counts = omega arith;
+}
+
+-- an activation has refused for good, or, while nothing is kept of an end, no call of the register failed, and where it tells what it holds it held something, and does so still
+pub record HasBegun (end_new : Option Ended) (told_old : Type 0) (holds_old holds_new : Register → Type 0) (faults_old faults_new : ℕ) : Type 0 where
+  pub end : (end_new ≡ None) ⊎ (end_new ≡ Some ends.NoMemory)
+  pub on : end_new ≡ None → (faults_new ≡ faults_old) × (told_old → ((c : Register) × holds_old c) × ((d : Register) × holds_new d))
+
+same_end : (x y : Ended) → Some x ≡ Some y → x ≡ y
+same_end x y h = cc
+
+module _ (end_a end_b end_c : Option Ended) (holds_a holds_b holds_c : Register → Type 0) (faults_a faults_b faults_c : ℕ) (p : HasKept end_a end_b holds_a holds_b faults_a faults_b) (q : HasKept end_b end_c holds_b holds_c faults_b faults_c) where
+  stays_on : (e : Ended) → end_a ≡ Some e → (end_c ≡ Some e) × (faults_c ≡ faults_a)
+  stays_on e h =
+      let x = p.stays e h in
+      let y = q.stays e x.0 in
+      (y.0, y.1 ∙ x.1)
+
+  refused_on : (o : Option Ended) → end_b ≡ o → end_a ≡ None → (r : Refusal) → end_c ≡ Some (ends.Register r) → IsRefusal (λ place. (faults_c ≡ faults_a) × HeldNone holds_a place) (faults_c ≡ faults_a) faults_a faults_c r
+  refused_on None b a r h =
+      let on = p.on b in
+      refusal_as (λ place. (faults_c ≡ faults_b) × HeldNone holds_b place) (λ place. (faults_c ≡ faults_a) × HeldNone holds_a place) (faults_c ≡ faults_b) (faults_c ≡ faults_a) faults_a faults_b faults_c faults_c r (λ x. subst (λ n. Rose n faults_c) on.0 x)
+      (λ place x. (x.0 ∙ on.0, λ c held. x.1 (on.1 c held).0 (on.1 c held).1)) (λ x. x ∙ on.0) (q.refused b r h)
+  refused_on (Some e) b a r h =
+      let x = q.stays e b in
+      let same : e ≡ ends.Register r = same_end e (ends.Register r) (sym x.0 ∙ h) in
+      refusal_as (λ place. (faults_b ≡ faults_a) × HeldNone holds_a place) (λ place. (faults_c ≡ faults_a) × HeldNone holds_a place) (faults_b ≡ faults_a) (faults_c ≡ faults_a) faults_a faults_a faults_b faults_c r (λ y. subst (λ n. Rose faults_a n) (sym x.1) y)
+      (λ place y. (x.1 ∙ y.0, y.1)) (λ y. x.1 ∙ y) (p.refused a r (b ∙ ap (λ (z : Ended). Some z) same))
+
+  on_on : (o : Option Ended) → end_b ≡ o → end_c ≡ None → (faults_c ≡ faults_a) × ((c : Register) → holds_a c → (d : Register) × holds_c d)
+  on_on None b h =
+      let x = p.on b in
+      let y = q.on h in
+      (y.0 ∙ x.0, λ c held. y.1 (x.1 c held).0 (x.1 c held).1)
+  on_on (Some e) b h = let x : None ≡ Some e = sym h ∙ (q.stays e b).0 in absurd cc
+
+  pub kept_on : HasKept end_a end_c holds_a holds_c faults_a faults_c
+  kept_on = record {
+    stays = stays_on;
+    refused = refused_on end_b refl;
+    on = on_on end_b refl;
+    counts = (let x = p.counts in let y = q.counts in omega (arith, x, y));
+  }
 
 -- ---- a register that holds as many other logs as may be ----
 

@@ -24,6 +24,7 @@ use Rattle.ld_rounds.specs.declared.ended.Refusal.TheVariants as refusals
 use Rattle.ld_rounds.specs.declared.ended.Ended.{Ended}
 use Rattle.ld_rounds.specs.declared.ended.Ended.TheVariants as ends
 use Rattle.ld_rounds.specs.Endings.{IsEnding}
+use Rattle.ld_rounds.specs.Refusals.{IsRefusal}
 use Rattle.ld_rounds.specs.Feeding.{IsAppendEnding}
 use Rattle.ld_append.specs.Acting.{takes}
 
@@ -43,6 +44,11 @@ IsEndOfAppend crowded damaged coming input_before input_now before now old new e
 IsEndOfAppend crowded damaged coming input_before input_now before now old new ends.Rounds = Unit {0}
 IsEndOfAppend crowded damaged coming input_before input_now before now old new ends.LogLimit = crowded
 IsEndOfAppend crowded damaged coming input_before input_now before now old new ended = IsDriveEnding crowded damaged coming input_before input_now before now old new ended
+
+-- why the register refused, where it ends by that, by the register's counts of faults before and now: a call of it failed; or none did, and it was damaged from that place on, or whole and without room
+abbrev pub IsRefused : (ℕ → Type 0) → Type 0 → ℕ → ℕ → Ended → Type 0
+IsRefused damaged whole before now (ends.Register refusal) = IsRefusal (λ place. (now ≡ before) × damaged place) ((now ≡ before) × whole) before now refusal
+IsRefused damaged whole before now _ = Unit {0}
 
 -- all rounds were taken
 abbrev pub taken_end : Bool → Ended

@@ -26,12 +26,14 @@ abbrev pub report_end : Option ℕ → Option CloseFault → Option Ended
 report_end (Some by) fault = Some (ends.Preempted by)
 report_end None fault = close_end fault
 
-abbrev pub register_end : RegisterFault → Ended
-register_end registers.LogLimit = ends.LogLimit
-register_end registers.EpochLimit = ends.EpochLimit
-register_end registers.Full = ends.Register refusals.Full
-register_end (registers.Damaged place) = ends.Register (refusals.Damaged place)
-register_end _ = ends.Register refusals.Failed
+-- what no call of a sequencer is refused with ends nothing
+abbrev pub register_end : RegisterFault → Option Ended
+register_end registers.LogLimit = Some ends.LogLimit
+register_end registers.EpochLimit = Some ends.EpochLimit
+register_end registers.Full = Some (ends.Register refusals.Full)
+register_end (registers.Damaged place) = Some (ends.Register (refusals.Damaged place))
+register_end registers.Failed = Some (ends.Register refusals.Failed)
+register_end _ = None
 
 abbrev pub is_log_limit : RegisterFault → Bool
 is_log_limit registers.LogLimit = true
@@ -45,7 +47,7 @@ is_window _ = false
 abbrev pub fault_end : SequencerFault → Option Ended
 fault_end (faults.Preempted by) = Some (ends.Preempted by)
 fault_end faults.EpochFull = Some ends.EpochFull
-fault_end (faults.Register fault) = Some (register_end fault)
+fault_end (faults.Register fault) = register_end fault
 fault_end _ = None
 
 abbrev pub end_by : Result Report SequencerFault → Option Ended
@@ -72,3 +74,18 @@ abbrev pub IsStartTold : List Line → Ended → Type 0
 IsStartTold ls ends.LogLimit = ls ≡ []
 IsStartTold ls (ends.Register (refusals.Damaged place)) = ls ≡ []
 IsStartTold ls ended = IsSaid ls ended
+
+-- the drive goes on where the register holds as many other logs as may be
+abbrev pub going : Option Ended → Option Ended
+going (Some ends.LogLimit) = None
+going end = end
+
+-- why the register refused, where that is kept; else it is for want of memory
+abbrev pub kept_end : Option Ended → Ended
+kept_end (Some (ends.Register refusal)) = ends.Register refusal
+kept_end _ = ends.NoMemory
+
+-- where a round ended since the register refused, it is told why
+abbrev pub round_end : Option Ended → Result Bool Ended → Result Bool Ended
+round_end kept (Err (ends.Register refusal)) = Err (kept_end kept)
+round_end kept driven = driven

@@ -2,6 +2,7 @@
 ghost use Rattle.std.specs.Prelude.{ℕ, ◌≡◌, ◌==◌, ◌&&◌, ◌≢◌, ◌⊎◌, [], ◌∷◌, true, false, None, Some, IfOk, IfSome, OnOk};
 ghost use Rattle.ld_config.specs.declared.config.Config.{Config as Contents};
 ghost use Rattle.ld_config.specs.Bounds.{IsInBounds};
+ghost use Rattle.ld_msg.specs.Register.{Register as Held};
 ghost use Rattle.ld_register.specs.Bounds.{IsSpec};
 ghost use Rattle.ld_schedule.specs.declared.event.Event.TheVariants.{Activate, Append, Retry};
 ghost use Rattle.ld_machine.specs.State.{State};
@@ -11,8 +12,9 @@ ghost use Rattle.ld_rounds.specs.Acts.{IsActed};
 ghost use Rattle.ld_node_bounds.specs.Messages.{AreMessages};
 ghost use Rattle.ld_rounds.specs.Ends.{IsSaid};
 ghost use Rattle.ld_rounds.specs.Rounds.{tells_full};
-ghost use Rattle.ld_append.specs.Acting.{Serves, IsTo, is_to, IsSpecOf, IsUnset, settled_in, MayCrowd, Leaves, IsSince, IsOfLog};
-ghost use Rattle.ld_append.specs.Refusing.{fault_end, start_lines, IsTold, IsStartTold};
+ghost use Rattle.ld_append.specs.Acting.{Serves, IsTo, is_to, IsSpecOf, IsUnset, settled_in, MayCrowd, Leaves, IsSince, IsOfLog, HasBegun, HasKept};
+ghost use Rattle.ld_append.specs.Refusing.{fault_end, start_lines, going, IsTold, IsStartTold};
+ghost use Rattle.ld_append.specs.Appends.{IsRefused};
 
 use crate::refusing::{heard, is_window};
 use ld_config::Config;
@@ -33,6 +35,8 @@ pub struct Acting<G: Register> {
     register: G,
     /// The register has refused a close in a round, since it holds as many other logs as may be.
     is_shut: bool,
+    /// How the drive ends by a call that met the register, where it does. Then no call does anything more.
+    end: Option<Ended>,
 }
 
 /// No line and no message.
@@ -81,6 +85,7 @@ fn goes_on(heard: Heard) -> (Heard, bool)
     ensures lines { result.0.lines.items ≡ heard.lines.items }
     ensures sends { result.0.sends ≡ heard.sends }
     ensures said { IfSome result.0.end (IsSaid result.0.lines.items) }
+    ensures end { result.0.end ≡ going heard.end }
     ensures shut { result.1 ≡ true → heard.end ≡ Some Ended.LogLimit }
 {
     let Heard { lines, sends, end } = heard;
@@ -128,6 +133,7 @@ impl<G: Register> Acting<G> {
         ensures none { result.sequencer ≡ None }
         ensures unshut { result.is_shut ≡ false }
         ensures register { result.register ≡ register }
+        ensures end { result.end ≡ None }
     {
         Acting {
             name,
@@ -135,6 +141,7 @@ impl<G: Register> Acting<G> {
             sequencer: None,
             register,
             is_shut: false,
+            end: None,
         }
     }
 
@@ -167,6 +174,9 @@ impl<G: Register> Acting<G> {
         ensures shut { self.new.is_shut ≡ self.old.is_shut }
         ensures crowded { IfOk result (λ heard. heard.end ≡ Some Ended.LogLimit → G.told self.old.register → MayCrowd (G.may_hold self.old.register) spec.now.log) }
         ensures damaged { IfOk result (λ heard. (place : ℕ) → heard.end ≡ Some (Ended.Register (Refusal.Damaged place)) → G.told self.old.register → G.damaged self.old.register place) }
+        ensures refused { IfOk result (λ heard. IfSome heard.end (IsRefused (λ place. G.told self.old.register → G.damaged self.old.register place) (G.told self.old.register → (c : Held) × G.holds self.old.register c) (G.faults self.old.register) (G.faults self.new.register))) }
+        // Where it is active no call of the register failed, and one that tells holds something, before and then.
+        ensures on { self.old.end ≡ None → HasBegun self.new.end (G.told self.old.register) (G.holds self.old.register) (G.holds self.new.register) (G.faults self.old.register) (G.faults self.new.register) }
     {
         let mut sends = Outbox::empty(alloc);
         match Sequencer::activate(
@@ -186,7 +196,10 @@ impl<G: Register> Acting<G> {
                 self.sequencer = Some(sequencer);
                 Ok(heard)
             }
-            Err(fault) => refused(alloc, &self.name, fault, sends),
+            Err(fault) => {
+                self.end = Some(Ended::NoMemory);
+                refused(alloc, &self.name, fault, sends)
+            }
         }
     }
 
@@ -199,6 +212,7 @@ impl<G: Register> Acting<G> {
         ensures messages { IfOk result (λ appended. AreMessages appended.heard.sends) }
         ensures since { IsSince self.old.sequencer self.new.sequencer (G.told self.old.register) (G.told self.new.register) (G.may_hold self.old.register) (G.may_hold self.new.register) self.old.is_shut self.new.is_shut }
         ensures itself { G.identity self.new.register ≡ G.identity self.old.register }
+        ensures kept { HasKept self.old.end self.new.end (G.holds self.old.register) (G.holds self.new.register) (G.faults self.old.register) (G.faults self.new.register) }
         ensures full { IfOk result (λ appended. appended.is_full ≡ tells_full appended.heard.lines.items) }
         ensures said { IfOk result (λ appended. IfSome appended.heard.end (IsSaid appended.heard.lines.items)) }
     {
@@ -239,9 +253,13 @@ impl<G: Register> Acting<G> {
             → IsActed (Serves self.new.name self.new.sequencer (G.tells self.new.register) c) s heard.lines.items heard.sends (happens c s (Retry self.old.name))) }
         ensures since { IsSince self.old.sequencer self.new.sequencer (G.told self.old.register) (G.told self.new.register) (G.may_hold self.old.register) (G.may_hold self.new.register) self.old.is_shut self.new.is_shut }
         ensures itself { G.identity self.new.register ≡ G.identity self.old.register }
+        ensures kept { HasKept self.old.end self.new.end (G.holds self.old.register) (G.holds self.new.register) (G.faults self.old.register) (G.faults self.new.register) }
         ensures messages { IfOk result (λ heard. AreMessages heard.sends) }
         ensures said { IfOk result (λ heard. IfSome heard.end (IsSaid heard.lines.items)) }
     {
+        if self.end.is_some() {
+            return Err(NoMemory);
+        }
         let Some(sequencer) = &mut self.sequencer else {
             return Ok(nothing(alloc));
         };
@@ -251,12 +269,13 @@ impl<G: Register> Acting<G> {
             Ok(heard) => Ok(self.go_on(heard)),
             Err(refused) => {
                 self.sequencer = None;
+                self.end = Some(Ended::NoMemory);
                 Err(refused)
             }
         }
     }
 
-    /// The drive goes on where the register holds as many other logs as may be: then that is kept.
+    /// The drive goes on where the register holds as many other logs as may be: then that is kept, and else how it ends.
     fn go_on(&mut self, heard: Heard) -> Heard
         requires { IfSome heard.end (IsTold heard.lines.items) }
         ensures name { self.new.name ≡ self.old.name }
@@ -264,6 +283,7 @@ impl<G: Register> Acting<G> {
         ensures sequencer { self.new.sequencer ≡ self.old.sequencer }
         ensures register { self.new.register ≡ self.old.register }
         ensures shut { self.new.is_shut ≡ true → (self.old.is_shut ≡ true) ⊎ (heard.end ≡ Some Ended.LogLimit) }
+        ensures end { self.new.end ≡ going heard.end }
         ensures lines { result.lines.items ≡ heard.lines.items }
         ensures sends { result.sends ≡ heard.sends }
         ensures said { IfSome result.end (IsSaid result.lines.items) }
@@ -272,7 +292,15 @@ impl<G: Register> Acting<G> {
         if is_shut {
             self.is_shut = true;
         }
+        self.end = heard.end;
         heard
+    }
+
+    /// How the drive ends by a call that met the register, where it does.
+    pub fn end(&self) -> Option<Ended>
+        ensures { result ≡ self.now.end }
+    {
+        self.end
     }
 
     /// Whether the register has refused a close in a round, since it holds as many other logs as may be.
@@ -295,7 +323,7 @@ impl<G: Register> Acting<G> {
 
 impl<G: Register> Actor for Acting<G> {
     ghost use Rattle.std.proofs.Common.{refl, ◌∙◌};
-    ghost use Rattle.ld_append.specs.Acting.{is_here, goes_on, takes};
+    ghost use Rattle.ld_append.specs.Acting.{is_here, goes_on, takes, kept_here, kept_on};
 
     ghost stands = { λ a c s. Serves a.name a.sequencer (G.tells a.register) c s };
 
@@ -303,11 +331,11 @@ impl<G: Register> Actor for Acting<G> {
 
     ghost own = { λ a. record { name = a.name; log = a.log; takes = takes a.name; ticks = None } };
 
-    ghost since = { λ a b. IsSince a.sequencer b.sequencer (G.told a.register) (G.told b.register) (G.may_hold a.register) (G.may_hold b.register) a.is_shut b.is_shut × (G.identity b.register ≡ G.identity a.register) };
+    ghost since = { λ a b. IsSince a.sequencer b.sequencer (G.told a.register) (G.told b.register) (G.may_hold a.register) (G.may_hold b.register) a.is_shut b.is_shut × (G.identity b.register ≡ G.identity a.register) × HasKept a.end b.end (G.holds a.register) (G.holds b.register) (G.faults a.register) (G.faults b.register) };
 
-    ghost since_here = { λ a. (is_here a.sequencer (G.told a.register) (G.may_hold a.register) a.is_shut, refl) };
+    ghost since_here = { λ a. (is_here a.sequencer (G.told a.register) (G.may_hold a.register) a.is_shut, refl, kept_here a.end (G.holds a.register) (G.faults a.register)) };
 
-    ghost since_on = { λ a b c p q. (goes_on a.sequencer b.sequencer c.sequencer (G.told a.register) (G.told b.register) (G.told c.register) (G.may_hold a.register) (G.may_hold b.register) (G.may_hold c.register) a.is_shut b.is_shut c.is_shut p.0 q.0, q.1 ∙ p.1) };
+    ghost since_on = { λ a b c p q. (goes_on a.sequencer b.sequencer c.sequencer (G.told a.register) (G.told b.register) (G.told c.register) (G.may_hold a.register) (G.may_hold b.register) (G.may_hold c.register) a.is_shut b.is_shut c.is_shut p.0 q.0, q.1 ∙ p.1, kept_on a.end b.end c.end (G.holds a.register) (G.holds b.register) (G.holds c.register) (G.faults a.register) (G.faults b.register) (G.faults c.register) p.2 q.2) };
 
     ghost hears = { λ a m. IsTo a.sequencer m };
 
@@ -319,6 +347,9 @@ impl<G: Register> Actor for Acting<G> {
     }
 
     fn hear(&mut self, alloc: Global, message: &Msg) -> Result<Heard, NoMemory> {
+        if self.end.is_some() {
+            return Err(NoMemory);
+        }
         let Some(sequencer) = &mut self.sequencer else {
             unreachable!();
         };
@@ -328,6 +359,7 @@ impl<G: Register> Actor for Acting<G> {
             Ok(heard) => Ok(self.go_on(heard)),
             Err(refused) => {
                 self.sequencer = None;
+                self.end = Some(Ended::NoMemory);
                 Err(refused)
             }
         }

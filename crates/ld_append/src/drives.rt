@@ -2,17 +2,19 @@
 ghost use Rattle.std.specs.Prelude.{◌≡◌, ◌⊎◌, ℕ, true, false, None, IfErr, OnOk};
 ghost use Rattle.ld_config.specs.Bounds.{IsInBounds};
 ghost use Rattle.ld_schedule.specs.declared.event.Event.TheVariants.{Activate};
+ghost use Rattle.ld_msg.specs.Register.{Register as Contents};
 ghost use Rattle.ld_machine.specs.State.{State};
 ghost use Rattle.ld_dial.specs.Far.{Far};
 ghost use Rattle.ld_rounds.specs.Drives.{Holds, GoesOn, IsBroken};
 ghost use Rattle.ld_rounds.specs.Endings.{IsLater};
 ghost use Rattle.ld_register.specs.Bounds.{IsSpec};
-ghost use Rattle.ld_append.specs.Acting.{Serves, IsSpecOf, IsUnset, MayCrowd, Leaves, IsOfLog};
+ghost use Rattle.ld_append.specs.Acting.{Serves, IsSpecOf, IsUnset, MayCrowd, Leaves, IsOfLog, HasBegun};
 ghost use Rattle.ld_rounds.specs.Reaching.{Begins};
 ghost use Rattle.ld_rounds.specs.Rounds.{IsOne, IsBegun};
-ghost use Rattle.ld_append.specs.Appends.{HasNone, sequencing, IsAppended, DroveAppend, IsStartEnding, IsDriveEnding, IsEndOfAppend, taken_end};
+ghost use Rattle.ld_append.specs.Appends.{HasNone, sequencing, IsAppended, DroveAppend, IsStartEnding, IsDriveEnding, IsEndOfAppend, IsRefused, taken_end};
 
 use crate::Acting;
+use crate::refusing::round_end;
 use ld_config::Config;
 use ld_dial::Nodes;
 use ld_ids::{Name, Spec};
@@ -39,6 +41,8 @@ fn start<G: Register, O: Sink>(
     ensures active { acting.old.sequencer ≡ None → IsOfLog spec.now.log acting.new.sequencer }
     ensures shut { acting.new.is_shut ≡ acting.old.is_shut }
     ensures cause { IfErr result (IsStartEnding (G.told acting.old.register → MayCrowd (G.may_hold acting.old.register) spec.now.log) (λ place. G.told acting.old.register → G.damaged acting.old.register place) (O.faults out.old) (O.faults out.new) (O.written out.old) (O.written out.new)) }
+    ensures refused { IfErr result (IsRefused (λ place. G.told acting.old.register → G.damaged acting.old.register place) (G.told acting.old.register → (c : Contents) × G.holds acting.old.register c) (G.faults acting.old.register) (G.faults acting.new.register)) }
+    ensures on { acting.old.end ≡ None → HasBegun acting.new.end (G.told acting.old.register) (G.holds acting.old.register) (G.holds acting.new.register) (G.faults acting.old.register) (G.faults acting.new.register) }
     ensures later { IsLater (O.faults out.old) (O.faults out.new) (O.written out.old) (O.written out.new) }
 {
     let Ok(heard) = acting.activate(alloc, config, spec) else {
@@ -67,12 +71,13 @@ fn drive<G: Register, N: Nodes, P: Payloads, O: Sink>(
     ensures register { G.identity acting.new.register ≡ G.identity acting.old.register }
     ensures itself { P.identity input.new ≡ P.identity input.old }
     ensures cause { IfErr result (IsDriveEnding (G.told acting.old.register → MayCrowd (G.may_hold acting.old.register) spec.now.log) (λ place. G.told acting.old.register → G.damaged acting.old.register place) (P.coming input.old) (P.faults input.old) (P.faults input.new) (O.faults out.old) (O.faults out.new) (O.written out.old) (O.written out.new)) }
+    ensures refused { acting.old.end ≡ None → IfErr result (IsRefused (λ place. G.told acting.old.register → G.damaged acting.old.register place) (G.told acting.old.register → (c : Contents) × G.holds acting.old.register c) (G.faults acting.old.register) (G.faults acting.new.register)) }
 {
     let Ok(mut queues) = Queues::new(alloc) else {
         return Err(Ended::NoMemory);
     };
     start(alloc, config, spec, acting, &mut queues, out)?;
-    ld_rounds::append(
+    let driven = ld_rounds::append(
         alloc,
         &config.nodes,
         name,
@@ -82,7 +87,8 @@ fn drive<G: Register, N: Nodes, P: Payloads, O: Sink>(
         nodes,
         &mut queues,
         out,
-    )
+    );
+    round_end(acting.end(), driven)
 }
 
 /// Appends payloads to a log: a new sequencer of the name is activated, of the log's next epoch with the nodes, factor and
@@ -122,6 +128,10 @@ pub fn append<G: Register, N: Nodes, P: Payloads, O: Sink>(
     ensures leaves { Leaves spec.now.log (G.told register) (G.told result.1) (G.may_hold register) (G.may_hold result.1) }
     ensures itself { P.identity input.new ≡ P.identity input.old }
     ensures cause { IsEndOfAppend (G.told register → MayCrowd (G.may_hold register) spec.now.log) (λ place. G.told register → G.damaged register place) (P.coming input.old) (P.faults input.old) (P.faults input.new) (O.faults out.old) (O.faults out.new) (O.written out.old) (O.written out.new) result.0 }
+    // It ends with `Register` and `Failed` only where a call of the register failed. Where none failed and the register tells what
+    // it holds, it ends with `Register` and `Damaged` only where that was damaged from that place on, and with `Register` and
+    // `Full` only where it wasn't.
+    ensures refused { IsRefused (λ place. G.told register → G.damaged register place) (G.told register → (c : Contents) × G.holds register c) (G.faults register) (G.faults result.1) result.0 }
 {
     let Ok(its_name) = name.copy(alloc) else {
         return (Ended::NoMemory, register);

@@ -1,7 +1,7 @@
 // What is written of a sequencer's call, and how the drive ends by it.
 ghost use Rattle.std.specs.Prelude.{◌≡◌, ◌≢◌, true, false, Err, IfOk, IfSome, OnOk};
 ghost use Rattle.ld_register.specs.declared.fault.RegisterFault.TheVariants.{LogLimit};
-ghost use Rattle.ld_append.specs.Refusing.{close_end, report_end, register_end, fault_end, end_by, is_window, is_log_limit, lines_by, IsTold};
+ghost use Rattle.ld_append.specs.Refusing.{close_end, report_end, register_end, fault_end, end_by, kept_end, round_end, is_window, is_log_limit, lines_by, IsTold};
 
 use ld_clients::told;
 use ld_ids::{Name, NoMemory};
@@ -32,16 +32,17 @@ fn report_end(report: &Report) -> Option<Ended>
     }
 }
 
-/// How the drive ends by a refusal of the register.
-fn register_end(fault: &RegisterFault) -> Ended
+/// How the drive ends by a refusal of the register. Those that no call of a sequencer is refused with end nothing.
+fn register_end(fault: &RegisterFault) -> Option<Ended>
     ensures { result ≡ register_end fault.now }
 {
     match fault {
-        RegisterFault::LogLimit => Ended::LogLimit,
-        RegisterFault::EpochLimit => Ended::EpochLimit,
-        RegisterFault::Full => Ended::Register(Refusal::Full),
-        RegisterFault::Damaged(place) => Ended::Register(Refusal::Damaged(*place)),
-        _ => Ended::Register(Refusal::Failed),
+        RegisterFault::LogLimit => Some(Ended::LogLimit),
+        RegisterFault::EpochLimit => Some(Ended::EpochLimit),
+        RegisterFault::Full => Some(Ended::Register(Refusal::Full)),
+        RegisterFault::Damaged(place) => Some(Ended::Register(Refusal::Damaged(*place))),
+        RegisterFault::Failed => Some(Ended::Register(Refusal::Failed)),
+        _ => None,
     }
 }
 
@@ -52,7 +53,7 @@ fn fault_end(fault: &SequencerFault) -> Option<Ended>
     match fault {
         SequencerFault::Preempted(by) => Some(Ended::Preempted(*by)),
         SequencerFault::EpochFull => Some(Ended::EpochFull),
-        SequencerFault::Register(refusal) => Some(register_end(refusal)),
+        SequencerFault::Register(refusal) => register_end(refusal),
         _ => None,
     }
 }
@@ -64,6 +65,26 @@ fn end_by(answer: &Result<Report, SequencerFault>) -> Option<Ended>
     match answer {
         Ok(report) => report_end(report),
         Err(fault) => fault_end(fault),
+    }
+}
+
+/// Why the register refused, where that is kept; else it is for want of memory.
+fn kept_end(kept: Option<Ended>) -> Ended
+    ensures { result ≡ kept_end kept }
+{
+    match kept {
+        Some(Ended::Register(refusal)) => Ended::Register(refusal),
+        _ => Ended::NoMemory,
+    }
+}
+
+/// How the rounds went: where one ended since the register refused, it is told why, as it is kept.
+pub(crate) fn round_end(kept: Option<Ended>, driven: Result<bool, Ended>) -> Result<bool, Ended>
+    ensures { result ≡ round_end kept driven }
+{
+    match driven {
+        Err(Ended::Register(_)) => Err(kept_end(kept)),
+        driven => driven,
     }
 }
 

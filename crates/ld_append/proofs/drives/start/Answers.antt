@@ -1,11 +1,13 @@
 use Rattle.std.proofs.Common.{refl, inl, None}
 use Rattle.ld_schedule.specs.declared.event.Event.TheVariants.{Activate}
+use Rattle.ld_msg.specs.Register.{Register as Contents}
 use Rattle.ld_rounds.specs.Rounds.{IsBegun}
 use Rattle.ld_rounds.proofs.Going.{stopped_here}
 use Rattle.ld_append.specs.Acting.{MayCrowd}
 use Rattle.ld_append.specs.Appends.{sequencing}
 use Rattle.ld_append.proofs.Appending.{started_on}
 use Rattle.ld_append.proofs.Ending.{start_cause, start_unframed}
+use Rattle.ld_append.proofs.Keeping.{told_refused}
 use Rattle.ld_append.proofs.drives.start.Goals as goal
 
 pub returns-clause-cause : goal.returns-clause-cause
@@ -23,3 +25,6 @@ returns-clause-started g c none first s far b is unset h =
     let new = c.activate.new.self in
     started_on (sequencing old.name) ⊥ k b first old.name new.name None new.sequencer (g.G.Register.tells old.register) (g.G.Register.tells new.register) s far c.args.queues.now c.tell.new.queues (g.O.Sink.written c.args.out.now) (g.O.Sink.written c.tell.new.out) c.in-Ok.heard h (start_unframed c.in-Ok.heard.lines.items c.in-Ok.heard.end c.in-Ok.ensures.told) c.tell.result c.tell.ensures.told
     c.args.spec.now.log (c.in-Ok.ensures.activated none s b is unset h.sound h.actor)
+
+pub returns-clause-refused : goal.returns-clause-refused
+returns-clause-refused g c = told_refused (λ place. g.G.Register.told c.args.acting.now.register → g.G.Register.damaged c.args.acting.now.register place) (g.G.Register.told c.args.acting.now.register → (k : Contents) × g.G.Register.holds c.args.acting.now.register k) (g.G.Register.faults c.args.acting.now.register) (g.G.Register.faults c.activate.new.self.register) (g.O.Sink.faults c.args.out.now) (g.O.Sink.faults c.tell.new.out) c.in-Ok.heard.end c.in-Ok.ensures.refused c.tell.result c.tell.ensures.cause

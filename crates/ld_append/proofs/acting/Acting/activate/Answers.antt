@@ -1,4 +1,4 @@
-use Rattle.std.proofs.Common.{◌≡◌, ◌∙◌, ℕ, [], ◌∷◌, refl, ap, sym, subst, Ok, Err, IfOk, OnOk, IsErrOf, None, Some}
+use Rattle.std.proofs.Common.{◌≡◌, ◌∙◌, ℕ, [], ◌∷◌, refl, ap, sym, subst, Ok, Err, IfOk, OnOk, IsErrOf, None, Some, Option, IfSome}
 use Rattle.std.specs.declared.result.Result.{Result}
 use Rattle.ld_transcript.specs.declared.line.Line.TheVariants.{Active}
 use Rattle.ld_register.specs.declared.fault.RegisterFault.TheVariants.{Damaged, LogLimit}
@@ -8,10 +8,12 @@ use Rattle.ld_sequencer.specs.Looks.{shows}
 use Rattle.ld_sequencer.specs.Whole.{Whole, origin_of}
 use Rattle.ld_rounds.specs.declared.actor.Heard.{Heard}
 use Rattle.ld_rounds.specs.declared.ended.Refusal.TheVariants as refusals
+use Rattle.ld_rounds.specs.declared.ended.Ended.{Ended}
 use Rattle.ld_rounds.specs.declared.ended.Ended.TheVariants as ends
 use Rattle.ld_append.specs.Acting.{MayCrowd, IsOfLog}
 use Rattle.ld_append.proofs.Crowding.{limit_by, refused_activation, activation_leaves}
 use Rattle.ld_append.specs.Refusing.{fault_end}
+use Rattle.ld_append.proofs.Keeping.{refused_start, begun_not, begun_well}
 use Rattle.ld_append.proofs.Saying.{damaged_by}
 use Rattle.ld_append.proofs.Serving.{is_activated, not_activated, active_log, serves_as}
 use Rattle.ld_append.proofs.acting.Acting.activate.Goals as goal
@@ -77,3 +79,23 @@ returns-in_err-copy-in-Ok-clause-leaves g c = activation_leaves c.args.spec.now 
 
 pub returns-in_err-heard-in-Ok-clause-leaves : goal.returns-in_err-heard-in-Ok-clause-leaves
 returns-in_err-heard-in-Ok-clause-leaves g c = activation_leaves c.args.spec.now _ _ _ _ c.activate.ensures.told c.activate.ensures.done_or_not
+
+gathered_told : {E : Type 0} (Told : Ended → Type 0) (r : Result Heard E) (fault : SequencerFault) → IfOk r (λ heard. heard.end ≡ fault_end fault) → ((end : Option Ended) → end ≡ fault_end fault → IfSome end Told) → IfOk r (λ heard. IfSome heard.end Told)
+gathered_told Told (Ok h) fault e f = f h.end e
+gathered_told Told (Err x) fault e f = tt
+
+pub returns-in-Err-clause-refused : goal.returns-in-Err-clause-refused
+returns-in-Err-clause-refused g c = gathered_told _ c.refused.result c.in-Err.fault c.refused.ensures.end
+    (λ end e. refused_start (g.G.Register.damaged c.args.self.now.register) (g.G.Register.told c.args.self.now.register) (g.G.Register.holds c.args.self.now.register) (g.G.Register.faults c.args.self.now.register) (g.G.Register.faults c.activate.new.reg) c.in-Err.fault end e c.in-Err.ensures.failed c.in-Err.ensures.steady c.in-Err.ensures.damaged c.in-Err.ensures.whole)
+
+pub returns-in-Err-clause-on : goal.returns-in-Err-clause-on
+returns-in-Err-clause-on g c = λ none. begun_not (Some ends.NoMemory) (g.G.Register.told c.args.self.now.register) (g.G.Register.holds c.args.self.now.register) (g.G.Register.holds c.activate.new.reg) (g.G.Register.faults c.args.self.now.register) (g.G.Register.faults c.activate.new.reg) refl
+
+pub returns-in_ok-heard-in-Ok-clause-on : goal.returns-in_ok-heard-in-Ok-clause-on
+returns-in_ok-heard-in-Ok-clause-on g c = λ none. begun_well _ _ c.in-Ok.sequencer c.args.self.now.end (g.G.Register.told c.args.self.now.register) (g.G.Register.holds c.args.self.now.register) (g.G.Register.holds c.activate.new.reg) (g.G.Register.faults c.args.self.now.register) (g.G.Register.faults c.activate.new.reg) none c.in-Ok.ensures.steady c.in-Ok.ensures.whole c.in-Ok.ensures.held
+
+pub returns-in_err-copy-in-Ok-clause-on : goal.returns-in_err-copy-in-Ok-clause-on
+returns-in_err-copy-in-Ok-clause-on g c = λ none. begun_well _ _ c.in-Ok.sequencer c.args.self.now.end (g.G.Register.told c.args.self.now.register) (g.G.Register.holds c.args.self.now.register) (g.G.Register.holds c.activate.new.reg) (g.G.Register.faults c.args.self.now.register) (g.G.Register.faults c.activate.new.reg) none c.in-Ok.ensures.steady c.in-Ok.ensures.whole c.in-Ok.ensures.held
+
+pub returns-in_err-heard-in-Ok-clause-on : goal.returns-in_err-heard-in-Ok-clause-on
+returns-in_err-heard-in-Ok-clause-on g c = λ none. begun_well _ _ c.in-Ok.sequencer c.args.self.now.end (g.G.Register.told c.args.self.now.register) (g.G.Register.holds c.args.self.now.register) (g.G.Register.holds c.activate.new.reg) (g.G.Register.faults c.args.self.now.register) (g.G.Register.faults c.activate.new.reg) none c.in-Ok.ensures.steady c.in-Ok.ensures.whole c.in-Ok.ensures.held

@@ -2,8 +2,11 @@ use Rattle.std.proofs.Common.{◌∙◌, refl, sym, ap, subst, Some, None}
 use Rattle.ld_sequencer.specs.Looks.{shows}
 use Rattle.ld_clients.proofs.Acting.{retried_goes}
 use Rattle.ld_sequencer.specs.Whole.{retry_acts}
-use Rattle.ld_append.specs.Acting.{Serves, IsSince, is_here}
+use Rattle.ld_rounds.specs.declared.ended.Ended.TheVariants as ends
+use Rattle.ld_append.specs.Acting.{Serves, IsSince, HasKept, is_here, kept_here}
+use Rattle.ld_append.specs.Refusing.{going}
 use Rattle.ld_append.proofs.Crowding.{tries_leave, called_since, gone_since, since_as}
+use Rattle.ld_append.proofs.Keeping.{none_of, kept_by, kept_cut}
 use Rattle.ld_append.proofs.Serving.{live_client, none_retried, retried, serves_as}
 use Rattle.ld_append.proofs.acting.Acting.again.Goals as goal
 
@@ -50,3 +53,22 @@ returns-in-Err-clause-since g c =
 
 pub returns-in-Ok-clause-itself : goal.returns-in-Ok-clause-itself
 returns-in-Ok-clause-itself g c = ap g.G.Register.identity c.go_on.ensures.register ∙ c.retry-answer.ensures.itself
+
+pub returns-in-Ok-clause-kept : goal.returns-in-Ok-clause-kept
+returns-in-Ok-clause-kept g c =
+    subst (λ q. HasKept c.args.self.now.end c.go_on.new.self.end (g.G.Register.holds c.args.self.now.register) (g.G.Register.holds q) (g.G.Register.faults c.args.self.now.register) (g.G.Register.faults q)) (sym c.go_on.ensures.register)
+    (kept_by (g.G.Register.told c.args.self.now.register) (g.G.Register.holds c.args.self.now.register) (g.G.Register.holds c.retry-answer.new.reg) (g.G.Register.may_hold c.args.self.now.register) (g.G.Register.may_hold c.retry-answer.new.reg) (g.G.Register.damaged c.args.self.now.register) (g.G.Register.faults c.args.self.now.register) (g.G.Register.faults c.retry-answer.new.reg) c.in-Some.sequencer.sequencer.log
+    (g.met.G.Register.held_is_told c.args.self.now.register) (g.met.G.Register.held_is_whole c.args.self.now.register) _ _ c.retry-answer.result c.args.self.now.end c.go_on.new.self.end (none_of c.args.self.now.end (sym c.is_some.ensures ∙ c.if-is_some.false)) (c.go_on.ensures.end ∙ ap going c.in-Ok.ensures.end) c.in-Ok.ensures.memory c.retry-answer.ensures.counts
+    c.retry-answer.ensures.failed c.retry-answer.ensures.steady c.retry-answer.ensures.unfailed c.retry-answer.ensures.unseen c.retry-answer.ensures.caused c.retry-answer.ensures.keeps c.retry-answer.ensures.held)
+
+pub returns-in-Err-clause-kept : goal.returns-in-Err-clause-kept
+returns-in-Err-clause-kept g c = kept_cut c.args.self.now.end (Some ends.NoMemory) (g.G.Register.holds c.args.self.now.register) (g.G.Register.holds c.retry-answer.new.reg) (g.G.Register.faults c.args.self.now.register) (g.G.Register.faults c.retry-answer.new.reg) (none_of c.args.self.now.end (sym c.is_some.ensures ∙ c.if-is_some.false)) refl c.retry-answer.ensures.counts
+
+pub returns-in_default-clause-kept : goal.returns-in_default-clause-kept
+returns-in_default-clause-kept g c = kept_here c.args.self.now.end (g.G.Register.holds c.args.self.now.register) (g.G.Register.faults c.args.self.now.register)
+
+pub returns-then-is_some-clause-kept : goal.returns-then-is_some-clause-kept
+returns-then-is_some-clause-kept g c = kept_here c.args.self.now.end (g.G.Register.holds c.args.self.now.register) (g.G.Register.faults c.args.self.now.register)
+
+pub returns-then-is_some-clause-since : goal.returns-then-is_some-clause-since
+returns-then-is_some-clause-since g c = is_here c.args.self.now.sequencer (g.G.Register.told c.args.self.now.register) (g.G.Register.may_hold c.args.self.now.register) c.args.self.now.is_shut

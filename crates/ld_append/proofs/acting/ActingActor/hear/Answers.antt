@@ -2,8 +2,11 @@ use Rattle.std.proofs.Common.{◌∙◌, refl, sym, ap, subst, None, Some}
 use Rattle.ld_sequencer.specs.Looks.{shows}
 use Rattle.ld_clients.proofs.Acting.{replied_goes}
 use Rattle.ld_sequencer.specs.Whole.{reply_acts}
-use Rattle.ld_append.specs.Acting.{Serves, IsTo, IsSince}
+use Rattle.ld_rounds.specs.declared.ended.Ended.TheVariants as ends
+use Rattle.ld_append.specs.Acting.{Serves, IsTo, IsSince, HasKept, is_here, kept_here}
+use Rattle.ld_append.specs.Refusing.{going}
 use Rattle.ld_append.proofs.Crowding.{tries_leave, called_since, gone_since, since_as}
+use Rattle.ld_append.proofs.Keeping.{none_of, kept_by, kept_cut}
 use Rattle.ld_append.proofs.Serving.{live_client, answered, serves_as}
 use Rattle.ld_append.proofs.acting.ActingActor.hear.Goals as goal
 
@@ -31,6 +34,10 @@ returns-in-Ok-clause-since g c =
           (since_as (Some w) (Some v) c.go_on.new.self.sequencer told (g.G.Register.told c.on_reply-answer.new.reg) (g.G.Register.told c.go_on.new.self.register) may (g.G.Register.may_hold c.on_reply-answer.new.reg) (g.G.Register.may_hold c.go_on.new.self.register) c.args.self.now.is_shut c.go_on.new.self.is_shut
           (sym c.go_on.ensures.sequencer) (ap g.G.Register.told (sym c.go_on.ensures.register)) (ap g.G.Register.may_hold (sym c.go_on.ensures.register)) since),
       ap g.G.Register.identity c.go_on.ensures.register ∙ c.on_reply-answer.ensures.itself,
+      subst (λ q. HasKept c.args.self.now.end c.go_on.new.self.end (g.G.Register.holds c.args.self.now.register) (g.G.Register.holds q) (g.G.Register.faults c.args.self.now.register) (g.G.Register.faults q)) (sym c.go_on.ensures.register)
+          (kept_by (g.G.Register.told c.args.self.now.register) (g.G.Register.holds c.args.self.now.register) (g.G.Register.holds c.on_reply-answer.new.reg) (g.G.Register.may_hold c.args.self.now.register) (g.G.Register.may_hold c.on_reply-answer.new.reg) (g.G.Register.damaged c.args.self.now.register) (g.G.Register.faults c.args.self.now.register) (g.G.Register.faults c.on_reply-answer.new.reg) c.in-Some.sequencer.sequencer.log
+          (g.met.G.Register.held_is_told c.args.self.now.register) (g.met.G.Register.held_is_whole c.args.self.now.register) _ _ c.on_reply-answer.result c.args.self.now.end c.go_on.new.self.end (none_of c.args.self.now.end (sym c.is_some.ensures ∙ c.if-is_some.false)) (c.go_on.ensures.end ∙ ap going c.in-Ok.ensures.end) c.in-Ok.ensures.memory c.on_reply-answer.ensures.counts
+          c.on_reply-answer.ensures.failed c.on_reply-answer.ensures.steady c.on_reply-answer.ensures.unfailed c.on_reply-answer.ensures.unseen c.on_reply-answer.ensures.caused c.on_reply-answer.ensures.keeps c.on_reply-answer.ensures.held),
     )
 
 pub returns-in-Err-clause-since : goal.returns-in-Err-clause-since
@@ -42,4 +49,12 @@ returns-in-Err-clause-since g c =
       (subst (λ o. IsSince o None told (g.G.Register.told c.on_reply-answer.new.reg) may (g.G.Register.may_hold c.on_reply-answer.new.reg) c.args.self.now.is_shut c.args.self.now.is_shut) (sym c.in-Some.is)
           (gone_since w told (g.G.Register.told c.on_reply-answer.new.reg) may (g.G.Register.may_hold c.on_reply-answer.new.reg) c.args.self.now.is_shut leaves)),
       c.on_reply-answer.ensures.itself,
+      kept_cut c.args.self.now.end (Some ends.NoMemory) (g.G.Register.holds c.args.self.now.register) (g.G.Register.holds c.on_reply-answer.new.reg) (g.G.Register.faults c.args.self.now.register) (g.G.Register.faults c.on_reply-answer.new.reg) (none_of c.args.self.now.end (sym c.is_some.ensures ∙ c.if-is_some.false)) refl c.on_reply-answer.ensures.counts,
     )
+
+pub returns-then-is_some-clause-since : goal.returns-then-is_some-clause-since
+returns-then-is_some-clause-since g c = (
+  is_here c.args.self.now.sequencer (g.G.Register.told c.args.self.now.register) (g.G.Register.may_hold c.args.self.now.register) c.args.self.now.is_shut,
+  refl,
+  kept_here c.args.self.now.end (g.G.Register.holds c.args.self.now.register) (g.G.Register.faults c.args.self.now.register),
+)
