@@ -2,6 +2,7 @@
 ghost use Rattle.std.specs.Prelude.{◌≡◌, ◌⊎◌, [], ◌∷◌, nat_lt, true, codes, IfOk};
 ghost use Rattle.ld_config.specs.Bounds.{IsInBounds};
 ghost use Rattle.ld_register.specs.Bounds.{IsSpec};
+ghost use Rattle.ld_msg.specs.Register.{Register as Contents};
 ghost use Rattle.ld_machine.specs.Config.{first_spec};
 ghost use Rattle.ld_machine.specs.State.{State};
 ghost use Rattle.ld_machine.specs.Step.{spec_set};
@@ -11,7 +12,7 @@ ghost use Rattle.ld_rounds.specs.Drives.{IsBroken};
 ghost use Rattle.ld_append.specs.Acting.{IsSpecOf, IsUnset, MayCrowd};
 ghost use Rattle.std.specs.Io.KnownBytes.{prepend_known};
 ghost use Rattle.ld_rounds.specs.Reaching.{Begins};
-ghost use Rattle.ld_append.specs.Appends.{HasNone as HasNoSequencers, IsAppended, IsEndOfAppend};
+ghost use Rattle.ld_append.specs.Appends.{HasNone as HasNoSequencers, IsAppended, IsEndOfAppend, IsRefused};
 ghost use Rattle.ld_tail.specs.Tails.{HasNone as HasNoReaders, IsTailed, IsTailEnd};
 ghost use Rattle.ld_cli.specs.Payloads.{input_after, payloads_in};
 ghost use Rattle.ld_cli.specs.Clients.{status_of as told, EndsDrive, OnlyLooks};
@@ -90,6 +91,8 @@ fn append_lines<I: Source, O: Sink, G: Register, N: Nodes>(
     ensures itself { lines.new.input.ghost_name ≡ lines.old.input.ghost_name }
     ensures ends { EndsDrive (N.faults nodes.old) (N.faults nodes.new)
         (IsEndOfAppend (G.told reg.old → MayCrowd (G.may_hold reg.old) spec.now.log) (λ place. G.told reg.old → G.damaged reg.old place) (input_after lines.old.held.now.batches lines.old.held.now.number (prepend_known lines.old.held.now.buffer (I.left lines.old.input.now))) (I.faults lines.old.input.now) (I.faults lines.new.input.now) (O.faults out.old) (O.faults out.new) (O.written out.old) (O.written out.new)) result }
+    ensures refused { EndsDrive (N.faults nodes.old) (N.faults nodes.new)
+        (IsRefused (λ place. G.told reg.old → G.damaged reg.old place) (G.told reg.old → (c : Contents) × G.holds reg.old c) (G.faults reg.old) (G.faults reg.new)) result }
 {
     let before = nodes.failures();
     let (ended, _) = append(
@@ -122,6 +125,8 @@ pub(crate) fn appended<I: Source, O: Sink, G: Register, N: Nodes>(
         (IsAppended (codes "s") words.now.of.log (IsBroken (N.faults nodes.old) (N.faults nodes.new) (N.endings nodes.old) (N.endings nodes.new)) (payloads_in words.now.batches (I.left input.old)) words.now.of.rounds (N.tells nodes.new) (G.tells reg.new) words.now.of.config s (O.written out.old) (O.written out.new)) result }
     ensures ends { EndsDrive (N.faults nodes.old) (N.faults nodes.new)
         (IsEndOfAppend (G.told reg.old → MayCrowd (G.may_hold reg.old) words.now.of.log) (λ place. G.told reg.old → G.damaged reg.old place) (payloads_in words.now.batches (I.left input.old)) (I.faults input.old) (I.faults input.new) (O.faults out.old) (O.faults out.new) (O.written out.old) (O.written out.new)) result }
+    ensures refused { EndsDrive (N.faults nodes.old) (N.faults nodes.new)
+        (IsRefused (λ place. G.told reg.old → G.damaged reg.old place) (G.told reg.old → (c : Contents) × G.holds reg.old c) (G.faults reg.old) (G.faults reg.new)) result }
 {
     let Ok(name) = name_of(alloc, b's') else {
         return Status::NoMemory;

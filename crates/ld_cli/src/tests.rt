@@ -181,6 +181,17 @@ fn hands_faults_on(rt: HostRuntime) -> Result<(), Fail> {
     Ok(())
 }
 
+#[test]
+fn a_sink_without_room_is_a_failed_write(rt: HostRuntime) -> Result<(), Fail> {
+    let alloc = rt.alloc();
+    let input = source(alloc, SCHEDULE.as_bytes(), &[])?;
+    let out = MemSink::new(alloc, 0, Vec::new(alloc))?;
+    let (status, written) = performed(alloc, &["replay"], input, out)?;
+    assert_eq!(rt; status, Status::Write);
+    assert_eq!(rt; written.len(), 0);
+    Ok(())
+}
+
 // The counts come from another program that follows the same rules.
 #[test]
 fn sums_up_a_made_schedule(rt: HostRuntime) -> Result<(), Fail> {

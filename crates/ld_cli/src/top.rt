@@ -16,6 +16,7 @@ ghost use Rattle.ld_words.specs.declared.command.TailWords.{TailWords as TailWan
 ghost use Rattle.ld_words.specs.declared.command.Command.{Command as Wish};
 ghost use Rattle.ld_words.specs.declared.command.Command.TheVariants.{Replay, Exercise, Node as Serve, Append, Tail};
 ghost use Rattle.ld_words.specs.Meaning.{Asks, IsNoCommand, HasNoPlaces, AskForNoPlaces};
+ghost use Rattle.ld_msg.specs.Register.{Register as Contents};
 ghost use Rattle.ld_machine.specs.Config.{first_spec};
 ghost use Rattle.ld_machine.specs.State.{State};
 ghost use Rattle.ld_machine.specs.Step.{spec_set};
@@ -23,7 +24,7 @@ ghost use Rattle.ld_dial.specs.Far.{Far};
 ghost use Rattle.ld_rounds.specs.Drives.{IsBroken};
 ghost use Rattle.ld_rounds.specs.Reaching.{Begins};
 ghost use Rattle.ld_append.specs.Acting.{MayCrowd};
-ghost use Rattle.ld_append.specs.Appends.{HasNone as HasNoSequencers, IsAppended, IsEndOfAppend};
+ghost use Rattle.ld_append.specs.Appends.{HasNone as HasNoSequencers, IsAppended, IsEndOfAppend, IsRefused};
 ghost use Rattle.ld_tail.specs.Tails.{HasNone as HasNoReaders, IsTailed, IsTailEnd};
 ghost use Rattle.ld_cli.specs.Payloads.{payloads_in};
 ghost use Rattle.ld_cli.specs.Clients.{Drives, AskForNoDrive, EndsDrive, OnlyLooks};
@@ -93,9 +94,10 @@ pub fn run<I: Source, O: Sink, D: Disk, G: Register, L: Link, N: Nodes>(
 
     // `tail`: where the nodes and the register tell what stands there, from any sound state of the written machine with these
     // and without readers: the drive is steps of the machine, the opening of the reader and then round by round a poll and
-    // visits of the configuration's nodes, one after the other, each until nothing waits for its node; and what was written are
-    // the reader's lines of those steps. At the status Ok the reader of the state that was reached is past its last number; at
-    // NoMemory and Write the last step may be done in part.
+    // visits of the configuration's nodes, one after the other, each until nothing waits for its node; a reader of one copy
+    // polls just at the start of those rounds at which nothing waits for any of them. What was written are the reader's lines of
+    // those steps. At the status Ok the reader of the state that was reached is past its last number; at NoMemory and Write the
+    // last step may be done in part.
     ensures tailed { (t : TailWanted) (s : State) (far : Far) → Asks (map string_bytes words.now) (Tail t) → N.tells nodes.old t.of.config far → Begins (HasNoReaders (G.tells reg.old)) t.of.config s far
         → (N.silent nodes.new ≡ true) ⊎ EndsDrive (N.faults nodes.old) (N.faults nodes.new)
         (IsTailed (record { name = codes "r"; log = t.of.log; from = t.from; until = t.until; style = t.style }) (IsBroken (N.faults nodes.old) (N.faults nodes.new) (N.endings nodes.old) (N.endings nodes.new)) t.of.rounds (N.tells nodes.new) (G.tells reg.new) t.of.config s (O.written out.old) (O.written out.new)) result }
@@ -121,6 +123,11 @@ pub fn run<I: Source, O: Sink, D: Disk, G: Register, L: Link, N: Nodes>(
     // refuses, or the register was damaged, or may have held as many other logs as may be.
     ensures append_ends { (w : AppendWanted) → Asks (map string_bytes words.now) (Append w) → EndsDrive (N.faults nodes.old) (N.faults nodes.new)
         (IsEndOfAppend (G.told reg.old → MayCrowd (G.may_hold reg.old) w.of.log) (λ place. G.told reg.old → G.damaged reg.old place) (payloads_in w.batches (I.left input.old)) (I.faults input.old) (I.faults input.new) (O.faults out.old) (O.faults out.new) (O.written out.old) (O.written out.new)) result }
+
+    // Register comes only where the register's count of faults rose. Where it didn't, and the register tells what it holds,
+    // Damaged comes only where that was no journal from that place on, and JournalFull only where it was a whole one.
+    ensures append_refused { (w : AppendWanted) → Asks (map string_bytes words.now) (Append w) → EndsDrive (N.faults nodes.old) (N.faults nodes.new)
+        (IsRefused (λ place. G.told reg.old → G.damaged reg.old place) (G.told reg.old → (c : Contents) × G.holds reg.old c) (G.faults reg.old) (G.faults reg.new)) result }
 
     // Each of these statuses comes only where the count of that object rose; at any other the last three stay.
     ensures read { result ≡ Status.Read → Rose (I.faults input.old) (I.faults input.new) }
@@ -187,6 +194,8 @@ fn carry_out<I: Source, O: Sink, D: Disk, G: Register, L: Link, N: Nodes>(
         (IsAppended (codes "s") w.of.log (IsBroken (N.faults nodes.old) (N.faults nodes.new) (N.endings nodes.old) (N.endings nodes.new)) (payloads_in w.batches (I.left input.old)) w.of.rounds (N.tells nodes.new) (G.tells reg.new) w.of.config s (O.written out.old) (O.written out.new)) result }
     ensures append_ends { (w : AppendWanted) → command ≡ Append w → EndsDrive (N.faults nodes.old) (N.faults nodes.new)
         (IsEndOfAppend (G.told reg.old → MayCrowd (G.may_hold reg.old) w.of.log) (λ place. G.told reg.old → G.damaged reg.old place) (payloads_in w.batches (I.left input.old)) (I.faults input.old) (I.faults input.new) (O.faults out.old) (O.faults out.new) (O.written out.old) (O.written out.new)) result }
+    ensures append_refused { (w : AppendWanted) → command ≡ Append w → EndsDrive (N.faults nodes.old) (N.faults nodes.new)
+        (IsRefused (λ place. G.told reg.old → G.damaged reg.old place) (G.told reg.old → (c : Contents) × G.holds reg.old c) (G.faults reg.old) (G.faults reg.new)) result }
     ensures read { result ≡ Status.Read → Rose (I.faults input.old) (I.faults input.new) }
     ensures write { result ≡ Status.Write → Rose (O.faults out.old) (O.faults out.new) }
     ensures disk { DiskFaults (D.faults disk.old) (D.faults disk.new) result }

@@ -18,12 +18,14 @@ pub returns-in_default : goal.returns-in_default
 returns-in_default g c = record {
   appended = λ s far told begins unset. inr (nothing_done (codes "s") c.args.words.now.of.log (IsBroken (g.N.Nodes.faults c.args.nodes.now) (g.N.Nodes.faults c.args.nodes.now) (g.N.Nodes.endings c.args.nodes.now) (g.N.Nodes.endings c.args.nodes.now)) (payloads_in c.args.words.now.batches (g.I.Source.left c.args.input.now)) c.args.words.now.of.rounds c.args.words.now.of.config s (g.O.Sink.written c.args.out.now));
   ends = inl tt;
+  refused = tt;
 }
 
 pub returns-in_default-new : goal.returns-in_default-new
 returns-in_default-new g c = record {
   appended = λ s far told begins unset. inr (nothing_done (codes "s") c.args.words.now.of.log (IsBroken (g.N.Nodes.faults c.args.nodes.now) (g.N.Nodes.faults c.args.nodes.now) (g.N.Nodes.endings c.args.nodes.now) (g.N.Nodes.endings c.args.nodes.now)) (payloads_in c.args.words.now.batches (g.I.Source.left c.args.input.now)) c.args.words.now.of.rounds c.args.words.now.of.config s (g.O.Sink.written c.args.out.now));
   ends = inl tt;
+  refused = tt;
 }
 
 pub append_lines-requires : goal.append_lines-requires
@@ -51,4 +53,5 @@ returns g c =
           c.in-Ok.ensures (c.append_lines.ensures.appended s far c.requires.bounds.config (spec_so c.args.words.now.of.config c.args.words.now.of.log c.in-Some.spec found) (unset_so c.args.words.now.of.config s c.args.words.now.of.log c.in-Some.spec found.0 unset) told begins)));
       ends = of_same (λ (n : ℕ). EndsDrive before now (end c.args.words.now.of.log coming n) c.append_lines.result) reads _
           (subst (λ (l : ℕ). EndsDrive before now (end l coming reads) c.append_lines.result) log (subst (λ (i : Option Input). EndsDrive before now (end c.in-Some.spec.log i reads) c.append_lines.result) fresh c.append_lines.ensures.ends)) (search rules);
+      refused = c.append_lines.ensures.refused;
     }

@@ -34,6 +34,9 @@ returns-in-Append-clause-append_ends g c = λ w is.
     (IsEndOfAppend (g.G.Register.told c.args.reg.now → MayCrowd (g.G.Register.may_hold c.args.reg.now) u.of.log) (λ place. g.G.Register.told c.args.reg.now → g.G.Register.damaged c.args.reg.now place) (payloads_in u.batches (g.I.Source.left c.args.input.now)) (g.I.Source.faults c.args.input.now) (g.I.Source.faults c.appended.new.input) (g.O.Sink.faults c.args.out.now) (g.O.Sink.faults c.appended.new.out)
     (g.O.Sink.written c.args.out.now) (g.O.Sink.written c.appended.new.out)) c.appended.result) (sym same) c.appended.ensures.ends
 
+pub returns-in-Append-clause-append_refused : goal.returns-in-Append-clause-append_refused
+returns-in-Append-clause-append_refused g c = λ w is. c.appended.ensures.refused
+
 pub returns-in-Append-clause-read : goal.returns-in-Append-clause-read
 returns-in-Append-clause-read g c = append_read_rose _ _ _ _ _ _ _ _ _ _ _ c.appended.result c.appended.ensures.ends
 

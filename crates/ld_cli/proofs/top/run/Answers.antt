@@ -64,6 +64,10 @@ pub returns-in-Ok-Some-clause-append_ends : goal.returns-in-Ok-Some-clause-appen
 returns-in-Ok-Some-clause-append_ends g c = λ w asks.
     c.carry_out.ensures.append_ends w (asked_one (map string_bytes c.args.words.now) c.in-Ok-Some.field-0 c.in-Ok-Some.command (Append w) c.in-Ok-Some.field-0-is c.in-Ok-Some.ensures.asks asks)
 
+pub returns-in-Ok-Some-clause-append_refused : goal.returns-in-Ok-Some-clause-append_refused
+returns-in-Ok-Some-clause-append_refused g c = λ w asks.
+    c.carry_out.ensures.append_refused w (asked_one (map string_bytes c.args.words.now) c.in-Ok-Some.field-0 c.in-Ok-Some.command (Append w) c.in-Ok-Some.field-0-is c.in-Ok-Some.ensures.asks asks)
+
 pub returns-in-Ok-None-clause-tailed : goal.returns-in-Ok-None-clause-tailed
 returns-in-Ok-None-clause-tailed g c = λ t s far asks told begins.
     absurd (asked_none (map string_bytes c.args.words.now) c.in-Ok-None.field-0 (Tail t) c.in-Ok-None.field-0-is c.in-Ok-None.ensures.asks asks)
@@ -78,6 +82,10 @@ returns-in-Ok-None-clause-only_looks g c = λ t asks.
 
 pub returns-in-Ok-None-clause-append_ends : goal.returns-in-Ok-None-clause-append_ends
 returns-in-Ok-None-clause-append_ends g c = λ w asks.
+    absurd (asked_none (map string_bytes c.args.words.now) c.in-Ok-None.field-0 (Append w) c.in-Ok-None.field-0-is c.in-Ok-None.ensures.asks asks)
+
+pub returns-in-Ok-None-clause-append_refused : goal.returns-in-Ok-None-clause-append_refused
+returns-in-Ok-None-clause-append_refused g c = λ w asks.
     absurd (asked_none (map string_bytes c.args.words.now) c.in-Ok-None.field-0 (Append w) c.in-Ok-None.field-0-is c.in-Ok-None.ensures.asks asks)
 
 pub returns-in-Ok-Some-clause-appended : goal.returns-in-Ok-Some-clause-appended
