@@ -3,7 +3,6 @@
 
 mod fault;
 mod law;
-mod replay;
 mod store;
 
 pub use fault::StoreFault;
@@ -13,5 +12,5 @@ pub use law::{
 };
 pub use store::Store;
 
-#[cfg(test)]
-mod tests;
+
+
