@@ -2,6 +2,7 @@
 ghost use Rattle.std.specs.Prelude.{◌≡◌, ◌<◌, ◌+◌, ◌^◌, ◌-◌, ◌==◌, length, if◌then◌else◌, false, IfSome, IfNone};
 ghost use Rattle.ld_msg.specs.Digest.{is_bridge};
 ghost use Rattle.ld_op.specs.Plain.{entry_length, what_length};
+ghost use Rattle.ld_op.specs.Answers.{same_what};
 ghost use Rattle.ld_table.specs.Words.{numbers_from};
 ghost use Rattle.ld_msg.specs.declared.msg.What.TheVariants.{Rec};
 ghost use Rattle.ld_op.specs.Cells.{placed_entry, placed_what, is_rec, filled_what};
@@ -109,6 +110,19 @@ impl Pointed {
             number: self.number,
             ballot: self.ballot,
             what,
+        }
+    }
+
+    /// Whether it holds this, which is no record.
+    pub fn holds(&self, what: &What) -> bool
+        requires { is_rec what.now ≡ false }
+        ensures { result ≡ same_what self.now.what what.now }
+    {
+        match (what, self.what) {
+            (What::Hole, Held::Hole) => true,
+            (What::Bridge, Held::Bridge) => true,
+            (What::Plug, Held::Plug) => true,
+            _ => false,
         }
     }
 
