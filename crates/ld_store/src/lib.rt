@@ -11,6 +11,3 @@ pub use law::{
     picture_decides_the_state, places_are_lengths,
 };
 pub use store::Store;
-
-
-

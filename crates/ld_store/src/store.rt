@@ -4,10 +4,9 @@ ghost use Rattle.ld_journal.specs.Open.{has_ended, must_load as journal_must_loa
 ghost use Rattle.ld_store.specs.Well.{IsWell, IsWell-prop};
 
 use crate::StoreFault;
-
 use ld_disk::{Disk, Fault};
-use ld_journal::Journal;
 use ld_ids::Payload;
+use ld_journal::Journal;
 use ld_msg::Msg;
 use ld_op::{Draft, Epochs, Op, Place, Plain};
 use std::alloc::Global;
