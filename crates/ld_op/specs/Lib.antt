@@ -17,5 +17,6 @@ pub mod Bytes
 pub mod Judged
 pub mod Records
 pub mod Pointed
+pub mod Filled
 pub mod Drafts
 pub mod DraftMessages

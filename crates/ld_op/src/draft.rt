@@ -1,7 +1,8 @@
 // Answers whose payloads are still to be read.
-ghost use Rattle.std.specs.Prelude.{◌≡◌};
+ghost use Rattle.std.specs.Prelude.{◌≡◌, true, false};
 ghost use Rattle.ld_msg.specs.declared.msg.Body.TheVariants.{DigestPage, ReadPage};
 ghost use Rattle.ld_op.specs.Drafts.{seen_said};
+ghost use Rattle.ld_op.specs.Filled.{is_page, is_placed};
 
 use crate::pointers::Pointers;
 use ld_lsn::Lsn;
@@ -11,7 +12,7 @@ use std::marker::Model;
 /// What a draft says.
 #[derive(Drop)]
 pub enum Said {
-    /// This, in which no payload is missing.
+    /// This, which is no page and has no payload.
     Whole(Body),
     /// A page of a digest.
     Digest {
@@ -38,17 +39,22 @@ pub struct DraftBody {
 }
 
 impl Model for DraftBody {
+    ghost use Rattle.std.specs.Prelude.{◌≡◌, true};
     ghost use Rattle.ld_msg.specs.declared.msg.Body.{Body as Content};
     ghost use Rattle.ld_op.specs.Drafts.{seen_body};
+    ghost use Rattle.ld_op.specs.Filled.{is_placed};
 
     ghost Value = { Content };
 
     ghost view = { seen_body };
+
+    ghost invariant = { λ body. is_placed body.said ≡ true };
 }
 
 impl DraftBody {
-    /// This, in which no payload is missing.
+    /// This, which is no page and has no payload.
     pub fn whole(body: Body) -> DraftBody
+        requires { is_page body ≡ false }
         ensures { result ≡ body }
     {
         DraftBody {
@@ -91,5 +97,13 @@ impl DraftBody {
         ensures { seen_said result.now ≡ self.now }
     {
         &self.said
+    }
+
+    /// What it says, given back as it was moved in. What is whole there is no page.
+    pub fn into_said(self) -> Said
+        ensures said { seen_said result ≡ self }
+        ensures placed { is_placed result ≡ true }
+    {
+        self.said
     }
 }

@@ -37,6 +37,27 @@ impl Draft {
         }
     }
 
+    /// Who says it.
+    pub fn from(&self) -> Who
+        ensures { result ≡ self.now.from }
+    {
+        self.from
+    }
+
+    /// To whom.
+    pub fn to(&self) -> Who
+        ensures { result ≡ self.now.to }
+    {
+        self.to
+    }
+
+    /// Of which log.
+    pub fn log(&self) -> LogId
+        ensures { result ≡ self.now.log }
+    {
+        self.log
+    }
+
     /// What it says.
     pub fn body(&self) -> &DraftBody
         ensures { result.now ≡ self.now.body }
