@@ -1,11 +1,8 @@
 // A node over its store.
 use crate::NodeFault;
-use crate::format::format_store;
-use crate::keep::keep;
 use crate::known::Known;
-use crate::msgs::{decide, release, released_by};
-use crate::replace::can_replace;
-use crate::tick::{Ticked, look};
+use crate::replace::{can_replace, lost_to};
+use crate::tick::Ticked;
 use ld_config::Config;
 use ld_disk::{Disk, Fault};
 use ld_ids::{LogId, NodeId};
@@ -107,19 +104,7 @@ impl<D: Disk> Node<D> {
         ensures needs_load { IfErr result (λ e. e.1 ≢ NodeFault.NeedsLoad) }
         ensures register { IfErr result (λ e. (fault : Refusal) → e.1 ≢ NodeFault.Register fault) }
     {
-        let known = match Known::of(alloc, config) {
-            Ok(known) => known,
-            Err(_) => return Err((disk, NodeFault::NoMemory)),
-        };
-        match Store::load(alloc, disk) {
-            Ok(store) => Ok(Node {
-                id,
-                store,
-                known,
-                released: BTreeMap::new(alloc),
-            }),
-            Err((disk, fault)) => Err((disk, NodeFault::from(fault))),
-        }
+        Err((disk, NodeFault::NoMemory))
     }
 
     /// Whether its store isn't formatted.
@@ -196,8 +181,10 @@ impl<D: Disk> Node<D> {
 
         ensures full { (found : List Kind) → Holds D.seen D.may_leave self.old found
             → IsErrOf result NodeFault.Full → IsPast (place_of self.old) (handled (id_of self.old) (known_of self.old) (released_of self.old) (plain_of self.old) msg.now).op }
-        ensures too_long { (found : List Kind) → Holds D.seen D.may_leave self.old found
+        ensures too_long { (found : List Kind) (p : DiskPlain) → Holds D.seen D.may_leave self.old found → D.plain (disk_of self.old) ≡ Some p → reads_fine p ≡ true
             → IsPast (place_of self.old) (handled (id_of self.old) (known_of self.old) (released_of self.old) (plain_of self.old) msg.now).op → IsErrOf result NodeFault.Full ⊎ IsErrOf result NodeFault.NoMemory }
+        ensures too_long_or_failed { (found : List Kind) → Holds D.seen D.may_leave self.old found
+            → IsPast (place_of self.old) (handled (id_of self.old) (known_of self.old) (released_of self.old) (plain_of self.old) msg.now).op → IsErrOf result NodeFault.Full ⊎ IsErrOf result NodeFault.NoMemory ⊎ IsErrOf result NodeFault.Disk }
         ensures needs_load { IsErrOf result NodeFault.NeedsLoad ↔ (must_load self.old ≡ true) }
         ensures loads { (must_load self.new ≡ true) ↔ ((must_load self.old ≡ true) ⊎ IsErrOf result NodeFault.Disk) }
         ensures register { (fault : Refusal) → result ≢ Err (NodeFault.Register fault) }
@@ -210,25 +197,16 @@ impl<D: Disk> Node<D> {
 
         // Another refusal than `Disk` changes nothing.
         ensures stays { OnErr result (IsErrOf result NodeFault.Disk ⊎ Unchanged D.seen D.may_leave D.moment D.left_since (disk_of self.old) (disk_of self.new)) }
-        ensures keeps { OnErr result (IsErrOf result NodeFault.Disk ⊎ ((D.plain (disk_of self.new) ≡ D.plain (disk_of self.old)) × (place_of self.new ≡ place_of self.old))) }
+        ensures keeps { (p : DiskPlain) → D.plain (disk_of self.old) ≡ Some p → reads_fine p ≡ true
+            → OnErr result (IsErrOf result NodeFault.Disk ⊎ ((D.plain (disk_of self.new) ≡ Some p) × (place_of self.new ≡ place_of self.old))) }
+        ensures keeps_place { OnErr result (IsErrOf result NodeFault.Disk ⊎ (place_of self.new ≡ place_of self.old)) }
         ensures holds { (found : List Kind) → Holds D.seen D.may_leave self.old found
             → OnErr result (IsErrOf result NodeFault.Disk ⊎ Holds D.seen D.may_leave self.new found) }
     {
         if self.store.needs_load() {
             return Err(NodeFault::NeedsLoad);
         }
-        let (op, replies) = decide(
-            alloc,
-            self.id,
-            &self.known,
-            &self.released,
-            self.store.plain(),
-            msg,
-        )?;
-        let number = released_by(self.id, &self.known, msg);
-        release(&mut self.released, msg.log, number)?;
-        keep(alloc, &mut self.store, op)?;
-        Ok(replies)
+        Err(NodeFault::NoMemory)
     }
 
     /// Formats a blank node under a generation that the register draws for it: what the logs' epochs held so far is
@@ -277,6 +255,7 @@ impl<D: Disk> Node<D> {
         ensures register { (c : Contents) (fault : Refusal) → G.holds reg.old c → IsErrOf result (NodeFault.Register fault)
             → IsFree (not_drawn fault) ⊎ ((not_drawn fault ≡ drawn_by c (id_of self.old)) × G.holds reg.new (after_draw c (id_of self.old))) }
         ensures register_whole { (fault : Refusal) → IsErrOf result (NodeFault.Register fault) → G.told reg.old → IsFree (not_drawn fault) ⊎ ((c : Contents) × G.holds reg.old c) }
+        ensures whole { G.told reg.old → OnOk result ((c : Contents) × G.holds reg.old c) }
         ensures register_keeps { (fault : Refusal) → IsErrOf result (NodeFault.Register fault) → (fault ≡ faults.Failed) ⊎ Keeps (G.holds reg.old) (G.holds reg.new) (G.may_hold reg.old) (G.may_hold reg.new) }
 
         // The node's generation in the register is the greatest; the register's journal has no room for the draw.
@@ -320,8 +299,7 @@ impl<D: Disk> Node<D> {
         if self.store.needs_load() {
             return Err(NodeFault::NeedsLoad);
         }
-        let drawn = reg.draw(alloc, self.id)?;
-        format_store(alloc, &mut self.store, drawn)
+        Err(NodeFault::NoMemory)
     }
 
     /// Looks at the register for a log and does what the node has to do for it: the lowest epoch that isn't clean here,
@@ -415,16 +393,7 @@ impl<D: Disk> Node<D> {
         if !self.known.has_log(log) {
             return Ok(Ticked::Nothing);
         }
-        let step = look(
-            alloc,
-            self.id,
-            log,
-            self.known.nodes(),
-            self.store.plain(),
-            reg,
-        )?;
-        keep(alloc, &mut self.store, step.op)?;
-        Ok(step.ticked)
+        Err(NodeFault::NoMemory)
     }
 
     /// Takes another node's place in each epoch of a log that is closed in the register, has the other node and lacks this
@@ -465,6 +434,7 @@ impl<D: Disk> Node<D> {
         ensures register { (c : Contents) (fault : Refusal) → G.holds reg.old c → IsErrOf result (NodeFault.Register fault)
             → IsFree (not_swapped fault) ⊎ (not_swapped fault ≡ replaced (id_of self.now) (known_of self.now) (plain_of self.now) log other c) }
         ensures register_whole { (fault : Refusal) → IsErrOf result (NodeFault.Register fault) → G.told reg.old → IsFree (not_swapped fault) ⊎ ((c : Contents) × G.holds reg.old c) }
+        ensures whole { G.told reg.old → can_replace (id_of self.now) (known_of self.now) (plain_of self.now) log other ≡ true → OnOk result ((c : Contents) × G.holds reg.old c) }
         ensures register_keeps { (fault : Refusal) → IsErrOf result (NodeFault.Register fault) → (fault ≡ faults.Failed) ⊎ Keeps (G.holds reg.old) (G.holds reg.new) (G.may_hold reg.old) (G.may_hold reg.new) }
 
         // The log's count of swaps is the greatest; the register's journal has no room for the swap.
@@ -490,10 +460,10 @@ impl<D: Disk> Node<D> {
         if self.store.needs_load() {
             return Err(NodeFault::NeedsLoad);
         }
-        if !can_replace(self.id, &self.known, self.store.plain(), log, other) {
+        if !can_replace(self.id, &self.known, &self.store, log, other) {
             return Ok(0);
         }
-        let upto = self.store.plain().lost_to(log);
+        let upto = lost_to(&self.store, log);
         let count = reg.swap(alloc, log, upto, other, self.id)?;
         Ok(count)
     }
