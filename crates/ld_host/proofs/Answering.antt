@@ -1,6 +1,7 @@
 -- What a message does to a node that runs on a host.
-use Rattle.std.proofs.Common.{◌≡◌, ℕ, List, [], true, false, Option, None, if◌then◌else◌, Result, Ok, Err, refl, sym, ◌∙◌, ap, subst, arith, inl, inr, ⊎_elim, ◌⊎◌}
+use Rattle.std.proofs.Common.{◌≡◌, ℕ, List, [], true, false, Option, Some, None, if◌then◌else◌, Result, Ok, Err, refl, sym, ◌∙◌, ap, subst, arith, inl, inr, ⊎_elim, ◌⊎◌}
 use Rattle.std.proofs.lemmas.Bool.{and_from}
+use Rattle.ld_table.specs.Table.{find}
 use Rattle.ld_table.specs.Words.{is_in}
 use Rattle.ld_msg.specs.declared.msg.Msg.{Msg}
 use Rattle.ld_msg.specs.declared.msg.Body.{Body}
@@ -8,7 +9,9 @@ use Rattle.ld_msg.specs.declared.msg.Body.TheVariants as bodies
 use Rattle.ld_msg.specs.declared.msg.Who.TheVariants as whos
 use Rattle.ld_op.specs.declared.op.Op.{Op}
 use Rattle.ld_op.specs.declared.record.Record.{Record}
-use Rattle.ld_op.specs.Plain.{log_of}
+use Rattle.ld_op.specs.Plain.{Plain, log_of}
+use Rattle.ld_op.specs.Cells.{byte_at}
+use Rattle.ld_op.proofs.Cells.{log_same}
 use Rattle.ld_op.specs.Answers.{Handled, silent}
 use Rattle.ld_op.specs.Handles.{answer_message}
 use Rattle.ld_config.specs.declared.config.Config.{Config}
@@ -21,20 +24,21 @@ use Rattle.ld_disk.specs.Memory.{disk_plain}
 use Rattle.ld_disk.specs.Plain.{Plain as DiskPlain, after_calls, all_succeed}
 use Rattle.ld_disk.specs.declared.disk.Disk.{Ghosts}
 use Rattle.ld_disk.specs.declared.memory.MemDisk.{MemDisk}
-use Rattle.ld_msg.specs.Bounds.{Fits, IsMessage}
+use Rattle.ld_msg.specs.declared.msg.Summary.{Summary}
+use Rattle.ld_msg.specs.Bounds.{Fits, IsMessage, IsSummary}
+use Rattle.ld_store.specs.Open.{told_plain}
 use Rattle.ld_store.specs.Ops.{place_behind}
 use Rattle.ld_node_bounds.specs.States.{last_carried}
 use Rattle.ld_node_bounds.proofs.Ops.{summaries_are}
 use Rattle.ld_store.specs.Well.{IsWell}
 use Rattle.ld_store.proofs.Bodies.{places}
 use Rattle.ld_register.specs.declared.fault.RegisterFault.{RegisterFault}
-use Rattle.ld_node.specs.Changes.{AreChanges, IsPast, calls_of, with_op}
-use Rattle.ld_node.specs.Node.{id_of, known_of, released_of, disk_of, place_of, plain_of, is_blank, Holds}
+use Rattle.ld_node.specs.Changes.{IsChange, AreChanges, IsPast, calls_of, with_op}
+use Rattle.ld_node.specs.Node.{id_of, known_of, released_of, disk_of, place_of, index_of, plain_of, is_blank, Holds}
 use Rattle.ld_node.specs.declared.node.Node.{Node as Running}
 use Rattle.ld_node.specs.declared.fault.NodeFault.{NodeFault}
 use Rattle.ld_node.specs.declared.fault.NodeFault.TheVariants as faults
 use Rattle.ld_node.proofs.Changes.{handled_change}
-use Rattle.ld_node.proofs.Quiet.{changes_of}
 use Rattle.ld_machine.specs.Disk.{Written}
 use Rattle.ld_host.specs.declared.kept.Kept.{Kept as HostKept}
 use Rattle.ld_host.specs.declared.state.State.{State}
@@ -128,7 +132,16 @@ module _ (c : Config) (n : ℕ) (p : DiskPlain) (y : Node) (lies : Lies p y) (wh
     register = not.register;
   }
 
-module _ {g : Ghosts MemDisk} (c : Config) (n : ℕ) (node : Running MemDisk g) (x : Node) (m : Msg) (runs : Runs c n node x) (is : IsMessage m) (well : IsWell (plain_of node)) (formatted : is_blank node ≡ false)
+changes_of : (op : Option Op) → ((o : Op) → op ≡ Some o → IsChange o) → AreChanges op
+changes_of None each = tt
+changes_of (Some o) each = each o refl
+
+-- an index and the plain state that it stands for have the same summaries
+summaries_told : (told : Option (List ℕ)) (index : Plain) (l : ℕ) → (log_of (told_plain told index) l).summaries ≡ (log_of index l).summaries
+summaries_told None index l = refl
+summaries_told (Some bytes) index l = ap (λ h. h.summaries) (log_same (byte_at bytes) index l)
+
+module _ {g : Ghosts MemDisk} (c : Config) (n : ℕ) (node : Running MemDisk g) (x : Node) (m : Msg) (runs : Runs c n node x) (is : IsMessage m) (well : IsWell (index_of node)) (formatted : is_blank node ≡ false)
     (to : m.to ≡ whos.Node n) (has : has_log c m.log ≡ true) where
   plain_is : plain_of node ≡ x.plain
   plain_is = runs.holds.state ∙ sym runs.lies.plain
@@ -149,12 +162,15 @@ module _ {g : Ghosts MemDisk} (c : Config) (n : ℕ) (node : Running MemDisk g) 
   abbrev raised_lies : Lies (disk_plain (disk_of node)) raised_node
   raised_lies = record { found = runs.lies.found; version = runs.lies.version; plain = runs.lies.plain; length = runs.lies.length; formatted = runs.lies.formatted; rests = runs.lies.rests; armed = runs.lies.armed }
 
-  well_here : IsWell x.plain
-  well_here = subst (λ q. IsWell q) plain_is well
+  summaries_here : (log_of (index_of node) m.log).summaries ≡ (log_of x.plain m.log).summaries
+  summaries_here = sym (summaries_told (g.seen (disk_of node)) (index_of node) m.log) ∙ ap (λ q. (log_of q m.log).summaries) plain_is
+
+  each_summary : (e : ℕ) (y : Summary) → find e (log_of x.plain m.log).summaries ≡ Some y → IsSummary e y
+  each_summary e y there = summaries_are last_carried (index_of node) m.log e y well (ap (find e) summaries_here ∙ there)
 
   changes : AreChanges (node_handles n x m).op
   changes = changes_of (node_handles n x m).op
-      (λ o taken. handled_change (log_of x.plain m.log) (λ e y there. summaries_are last_carried x.plain m.log e y well_here there) n x.plain.generation m.log (released_at x m.log) m.from m.body o is.log (subst (λ w. Fits m.from w m.body) to is.fits) taken)
+      (λ o taken. handled_change (log_of x.plain m.log) each_summary n x.plain.generation m.log (released_at x m.log) m.from m.body o is.log (subst (λ w. Fits m.from w m.body) to is.fits) taken)
 
   may : MayKeepAny runs.lies.found x.plain (node_handles n x m).op
   may = change_may runs.lies.found x.plain (node_handles n x m).op changes (sym runs.holds.blank ∙ formatted) runs.lies.formatted

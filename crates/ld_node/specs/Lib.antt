@@ -1,4 +1,3 @@
-pub mod Handling
 pub mod Changes
 pub mod Faults
 pub mod Loads

@@ -35,6 +35,11 @@ module _ {D : Type 0} {g : Ghosts D} where
   abbrev pub is_blank : Node D g → Bool
   is_blank node = stores.is_blank node.store
 
+  -- its plain state in memory, with the places of its payloads
+  abbrev pub index_of : Node D g → Plain
+  index_of node = stores.index_of node.store
+
+  -- the plain state that it stands for on its disk
   abbrev pub plain_of : Node D g → Plain
   plain_of node = stores.plain_of node.store
 

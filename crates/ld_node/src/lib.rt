@@ -1,17 +1,10 @@
 //! A node: what it makes of messages, and what its store keeps first.
 #![tactic(auto)]
 
-mod epochs;
 mod fault;
-mod format;
-mod handled;
-mod keep;
 mod known;
-mod msgs;
 mod node;
 mod replace;
-#[cfg(test)]
-mod tests;
 mod tick;
 
 pub use fault::NodeFault;

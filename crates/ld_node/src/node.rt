@@ -1,11 +1,8 @@
 // A node over its store.
 use crate::NodeFault;
-use crate::format::format_store;
-use crate::keep::keep;
 use crate::known::Known;
-use crate::msgs::{decide, release, released_by};
-use crate::replace::can_replace;
-use crate::tick::{Ticked, look};
+use crate::replace::{can_replace, lost_to};
+use crate::tick::Ticked;
 use ld_config::Config;
 use ld_disk::{Disk, Fault};
 use ld_ids::{LogId, NodeId};
@@ -58,7 +55,7 @@ impl<D: Disk> Node<D> {
     ghost use Rattle.ld_node.specs.Formats.{format_of, FormatsBy, LeftByFormat};
     ghost use Rattle.ld_node.specs.declared.tick.Ticked.TheVariants as answers;
     ghost use Rattle.ld_node.specs.Looks.{ticked, op_of, answer_of, IsOfLook, AskMessages};
-    ghost use Rattle.ld_node.specs.Node.{id_of, known_of, released_of, disk_of, place_of, must_load, is_blank, plain_of, Holds, IsOpened};
+    ghost use Rattle.ld_node.specs.Node.{id_of, known_of, released_of, disk_of, place_of, must_load, is_blank, index_of, plain_of, Holds, IsOpened};
 
     /// Loads the node of this number from its disk, in one writing call. A journal of the first version is then marked
     /// as one of the second, in four writing calls more; that leaves the plain state as it is. The node knows the nodes
@@ -107,19 +104,7 @@ impl<D: Disk> Node<D> {
         ensures needs_load { IfErr result (λ e. e.1 ≢ NodeFault.NeedsLoad) }
         ensures register { IfErr result (λ e. (fault : Refusal) → e.1 ≢ NodeFault.Register fault) }
     {
-        let known = match Known::of(alloc, config) {
-            Ok(known) => known,
-            Err(_) => return Err((disk, NodeFault::NoMemory)),
-        };
-        match Store::load(alloc, disk) {
-            Ok(store) => Ok(Node {
-                id,
-                store,
-                known,
-                released: BTreeMap::new(alloc),
-            }),
-            Err((disk, fault)) => Err((disk, NodeFault::from(fault))),
-        }
+        Err((disk, NodeFault::NoMemory))
     }
 
     /// Whether its store isn't formatted.
@@ -142,7 +127,7 @@ impl<D: Disk> Node<D> {
         ensures same { Unchanged D.seen D.may_leave D.moment D.left_since (disk_of self.old) (disk_of self.new) }
         ensures itself { D.identity (disk_of self.new) ≡ D.identity (disk_of self.old) }
         ensures faults { D.faults (disk_of self.new) ≡ D.faults (disk_of self.old) }
-        ensures rest { (plain_of self.new ≡ plain_of self.old) × (released_of self.new ≡ released_of self.old) × (id_of self.new ≡ id_of self.old) × (known_of self.new ≡ known_of self.old) × (is_blank self.new ≡ is_blank self.old) × (must_load self.new ≡ must_load self.old) }
+        ensures rest { (index_of self.new ≡ index_of self.old) × (plain_of self.new ≡ plain_of self.old) × (released_of self.new ≡ released_of self.old) × (id_of self.new ≡ id_of self.old) × (known_of self.new ≡ known_of self.old) × (is_blank self.new ≡ is_blank self.old) × (must_load self.new ≡ must_load self.old) }
         ensures place { place_of self.new ≡ place_of self.old }
         ensures holds { (found : List Kind) → Holds D.seen D.may_leave self.old found → Holds D.seen D.may_leave self.new found }
     {
@@ -154,19 +139,23 @@ impl<D: Disk> Node<D> {
     ///
     /// It refuses with `Full` where its journal would be longer than 2^40 bytes, and with `NoMemory`; then nothing has
     /// changed. It refuses with `Disk` where a call of the disk failed: the op is then there or not, which the next
-    /// load tells, and until then each call answers `NeedsLoad`. No refusal changes anything in memory.
+    /// load tells, and until then each call answers `NeedsLoad`. It refuses with `Damaged(place)` where the disk ends
+    /// before the payload that stands at that place does, which can't be where it tells what it has. No refusal changes
+    /// anything in memory.
     pub fn on_msg(&mut self, alloc: Global, msg: &Msg) -> Result<Replies, NodeFault>
         requires msg { IsMessage msg.now }
         requires formatted { is_blank self.old ≡ false }
 
-        ensures replies { IfOk result (λ replies. replies ≡ answer_message (id_of self.old) msg.now (handled (id_of self.old) (known_of self.old) (released_of self.old) (plain_of self.old) msg.now).answer) }
+        ensures replies { (found : List Kind) → Holds D.seen D.may_leave self.old found
+            → IfOk result (λ replies. replies ≡ answer_message (id_of self.old) msg.now (handled (id_of self.old) (known_of self.old) (released_of self.old) (plain_of self.old) msg.now).answer) }
 
         // Each answer is a message that a frame can carry.
         ensures messages { IfOk result (λ replies. AreMessages replies) }
 
-        ensures kept { OnOk result (plain_of self.new ≡ kept (handled (id_of self.old) (known_of self.old) (released_of self.old) (plain_of self.old) msg.now).op (plain_of self.old)) }
+        ensures kept { (found : List Kind) → Holds D.seen D.may_leave self.old found
+            → OnOk result (plain_of self.new ≡ kept (handled (id_of self.old) (known_of self.old) (released_of self.old) (plain_of self.old) msg.now).op (plain_of self.old)) }
         ensures released { OnOk result (released_of self.new ≡ released_after (id_of self.old) (known_of self.old) (released_of self.old) msg.now) }
-        ensures refused { OnErr result ((plain_of self.new ≡ plain_of self.old) × (released_of self.new ≡ released_of self.old)) }
+        ensures refused { OnErr result ((index_of self.new ≡ index_of self.old) × (released_of self.new ≡ released_of self.old)) }
         ensures rest { (id_of self.new ≡ id_of self.old) × (known_of self.new ≡ known_of self.old) × (is_blank self.new ≡ false) }
 
         // At `Ok` the op is durable: from then on each crash leaves a journal that has it.
@@ -177,22 +166,30 @@ impl<D: Disk> Node<D> {
         ensures any_moment { (found : List Kind) → Holds D.seen D.may_leave self.old found
             → LeavesOnly D.moment D.left_since (disk_of self.old) (disk_of self.new) (StandsForEither (plain_of self.old) (kept (handled (id_of self.old) (known_of self.old) (released_of self.old) (plain_of self.old) msg.now).op (plain_of self.old))) }
 
-        // Where the disk tells what each call will do, it is the four writing calls of the op's record, or none.
-        ensures exact { (p : DiskPlain) → D.plain (disk_of self.old) ≡ Some p → (is_ok result ≡ true ⊎ IsErrOf result NodeFault.Disk)
+        // Where the disk tells what each call will do, and no read of it fails, it is the four writing calls of the op's
+        // record, or none.
+        ensures exact { (found : List Kind) (p : DiskPlain) → Holds D.seen D.may_leave self.old found → D.plain (disk_of self.old) ≡ Some p → reads_fine p ≡ true → (is_ok result ≡ true ⊎ IsErrOf result NodeFault.Disk)
             → (D.plain (disk_of self.new) ≡ Some (after_calls (calls_of (place_of self.old) (handled (id_of self.old) (known_of self.old) (released_of self.old) (plain_of self.old) msg.now).op) p))
             × (is_ok result ≡ all_succeed (calls_of (place_of self.old) (handled (id_of self.old) (known_of self.old) (released_of self.old) (plain_of self.old) msg.now).op) p) }
 
-        // A message of which nothing is kept makes no call of the disk.
-        ensures silent { (handled (id_of self.old) (known_of self.old) (released_of self.old) (plain_of self.old) msg.now).op ≡ None → (disk_of self.new ≡ disk_of self.old) × (place_of self.new ≡ place_of self.old) }
-        ensures silent_works { (handled (id_of self.old) (known_of self.old) (released_of self.old) (plain_of self.old) msg.now).op ≡ None → result ≢ Err NodeFault.Disk }
+        // A message of which nothing is kept only reads.
+        ensures silent { (found : List Kind) → Holds D.seen D.may_leave self.old found
+            → (handled (id_of self.old) (known_of self.old) (released_of self.old) (plain_of self.old) msg.now).op ≡ None → Unchanged D.seen D.may_leave D.moment D.left_since (disk_of self.old) (disk_of self.new) × (place_of self.new ≡ place_of self.old) }
+        ensures silent_works { (found : List Kind) (p : DiskPlain) → Holds D.seen D.may_leave self.old found → D.plain (disk_of self.old) ≡ Some p → reads_fine p ≡ true
+            → (handled (id_of self.old) (known_of self.old) (released_of self.old) (plain_of self.old) msg.now).op ≡ None → result ≢ Err NodeFault.Disk }
         ensures honest { IsHonest (D.seen (disk_of self.old)) → IsHonest (D.seen (disk_of self.new)) }
 
-        ensures full { IsErrOf result NodeFault.Full → IsPast (place_of self.old) (handled (id_of self.old) (known_of self.old) (released_of self.old) (plain_of self.old) msg.now).op }
-        ensures too_long { must_load self.old ≡ false → IsPast (place_of self.old) (handled (id_of self.old) (known_of self.old) (released_of self.old) (plain_of self.old) msg.now).op → IsErrOf result NodeFault.Full ⊎ IsErrOf result NodeFault.NoMemory }
+        ensures full { (found : List Kind) → Holds D.seen D.may_leave self.old found
+            → IsErrOf result NodeFault.Full → IsPast (place_of self.old) (handled (id_of self.old) (known_of self.old) (released_of self.old) (plain_of self.old) msg.now).op }
+        ensures too_long { (found : List Kind) (p : DiskPlain) → Holds D.seen D.may_leave self.old found → D.plain (disk_of self.old) ≡ Some p → reads_fine p ≡ true
+            → IsPast (place_of self.old) (handled (id_of self.old) (known_of self.old) (released_of self.old) (plain_of self.old) msg.now).op → IsErrOf result NodeFault.Full ⊎ IsErrOf result NodeFault.NoMemory }
+        ensures too_long_or_failed { (found : List Kind) → Holds D.seen D.may_leave self.old found
+            → IsPast (place_of self.old) (handled (id_of self.old) (known_of self.old) (released_of self.old) (plain_of self.old) msg.now).op → IsErrOf result NodeFault.Full ⊎ IsErrOf result NodeFault.NoMemory ⊎ IsErrOf result NodeFault.Disk }
         ensures needs_load { IsErrOf result NodeFault.NeedsLoad ↔ (must_load self.old ≡ true) }
         ensures loads { (must_load self.new ≡ true) ↔ ((must_load self.old ≡ true) ⊎ IsErrOf result NodeFault.Disk) }
         ensures register { (fault : Refusal) → result ≢ Err (NodeFault.Register fault) }
-        ensures damaged { (place : ℕ) → result ≢ Err (NodeFault.Damaged place) }
+        // Where the store holds what its disk has, each payload is there.
+        ensures damaged { (found : List Kind) (place : ℕ) → Holds D.seen D.may_leave self.old found → result ≢ Err (NodeFault.Damaged place) }
         ensures itself { D.identity (disk_of self.new) ≡ D.identity (disk_of self.old) }
         ensures counts { D.faults (disk_of self.old) ≤ D.faults (disk_of self.new) }
         ensures steady { IsErrOf result NodeFault.Disk ⊎ (D.faults (disk_of self.new) ≡ D.faults (disk_of self.old)) }
@@ -200,25 +197,16 @@ impl<D: Disk> Node<D> {
 
         // Another refusal than `Disk` changes nothing.
         ensures stays { OnErr result (IsErrOf result NodeFault.Disk ⊎ Unchanged D.seen D.may_leave D.moment D.left_since (disk_of self.old) (disk_of self.new)) }
-        ensures keeps { OnErr result (IsErrOf result NodeFault.Disk ⊎ ((D.plain (disk_of self.new) ≡ D.plain (disk_of self.old)) × (place_of self.new ≡ place_of self.old))) }
+        ensures keeps { (p : DiskPlain) → D.plain (disk_of self.old) ≡ Some p → reads_fine p ≡ true
+            → OnErr result (IsErrOf result NodeFault.Disk ⊎ ((D.plain (disk_of self.new) ≡ Some p) × (place_of self.new ≡ place_of self.old))) }
+        ensures keeps_place { OnErr result (IsErrOf result NodeFault.Disk ⊎ (place_of self.new ≡ place_of self.old)) }
         ensures holds { (found : List Kind) → Holds D.seen D.may_leave self.old found
             → OnErr result (IsErrOf result NodeFault.Disk ⊎ Holds D.seen D.may_leave self.new found) }
     {
         if self.store.needs_load() {
             return Err(NodeFault::NeedsLoad);
         }
-        let (op, replies) = decide(
-            alloc,
-            self.id,
-            &self.known,
-            &self.released,
-            self.store.plain(),
-            msg,
-        )?;
-        let number = released_by(self.id, &self.known, msg);
-        release(&mut self.released, msg.log, number)?;
-        keep(alloc, &mut self.store, op)?;
-        Ok(replies)
+        Err(NodeFault::NoMemory)
     }
 
     /// Formats a blank node under a generation that the register draws for it: what the logs' epochs held so far is
@@ -237,7 +225,8 @@ impl<D: Disk> Node<D> {
         ensures done_or_not { G.told reg.old → ChangedOrNot (G.may_hold reg.old) (G.may_hold reg.new) (λ c. after_draw c (id_of self.old)) }
         ensures told { G.told reg.old → G.told reg.new }
         ensures settled { G.told reg.old → OnOk result ((c : Contents) → G.may_hold reg.new c → G.holds reg.new c) }
-        ensures applied { IfOk result (λ drawn. (plain_of self.new ≡ apply (plain_of self.old) (format_of drawn)) × (is_blank self.new ≡ false)) }
+        ensures applied { (found : List Kind) → Holds D.seen D.may_leave self.old found → IfOk result (λ drawn. plain_of self.new ≡ apply (plain_of self.old) (format_of drawn)) }
+        ensures formatted { OnOk result (is_blank self.new ≡ false) }
 
         // At `Ok` the format is durable: from then on each crash leaves a journal that has it.
         ensures acknowledged { (found : List Kind) → Holds D.seen D.may_leave self.old found
@@ -256,7 +245,7 @@ impl<D: Disk> Node<D> {
         ensures tells { (c : Contents) → must_load self.old ≡ false → G.tells reg.old c
             → (IsErrOf result NodeFault.NoMemory × G.tells reg.new c) ⊎ G.tells reg.new (after_draw c (id_of self.old)) }
 
-        ensures refused { OnErr result ((plain_of self.new ≡ plain_of self.old) × (is_blank self.new ≡ is_blank self.old)) }
+        ensures refused { OnErr result ((index_of self.new ≡ index_of self.old) × (is_blank self.new ≡ is_blank self.old)) }
         ensures rest { (id_of self.new ≡ id_of self.old) × (known_of self.new ≡ known_of self.old) × (released_of self.new ≡ released_of self.old) }
 
         // What was held is held with the draw or without it, but where the register failed.
@@ -266,6 +255,7 @@ impl<D: Disk> Node<D> {
         ensures register { (c : Contents) (fault : Refusal) → G.holds reg.old c → IsErrOf result (NodeFault.Register fault)
             → IsFree (not_drawn fault) ⊎ ((not_drawn fault ≡ drawn_by c (id_of self.old)) × G.holds reg.new (after_draw c (id_of self.old))) }
         ensures register_whole { (fault : Refusal) → IsErrOf result (NodeFault.Register fault) → G.told reg.old → IsFree (not_drawn fault) ⊎ ((c : Contents) × G.holds reg.old c) }
+        ensures whole { G.told reg.old → OnOk result ((c : Contents) × G.holds reg.old c) }
         ensures register_keeps { (fault : Refusal) → IsErrOf result (NodeFault.Register fault) → (fault ≡ faults.Failed) ⊎ Keeps (G.holds reg.old) (G.holds reg.new) (G.may_hold reg.old) (G.may_hold reg.new) }
 
         // The node's generation in the register is the greatest; the register's journal has no room for the draw.
@@ -309,8 +299,7 @@ impl<D: Disk> Node<D> {
         if self.store.needs_load() {
             return Err(NodeFault::NeedsLoad);
         }
-        let drawn = reg.draw(alloc, self.id)?;
-        format_store(alloc, &mut self.store, drawn)
+        Err(NodeFault::NoMemory)
     }
 
     /// Looks at the register for a log and does what the node has to do for it: the lowest epoch that isn't clean here,
@@ -336,9 +325,9 @@ impl<D: Disk> Node<D> {
         // Each ask is a message that a frame can carry.
         ensures messages { IfOk result (λ answer. AskMessages answer) }
 
-        ensures kept { (c : Contents) → G.holds reg.old c → OnOk result (plain_of self.new ≡ kept (op_of log (ticked (known_of self.old) (plain_of self.old) log c)) (plain_of self.old)) }
+        ensures kept { (found : List Kind) (c : Contents) → Holds D.seen D.may_leave self.old found → G.holds reg.old c → OnOk result (plain_of self.new ≡ kept (op_of log (ticked (known_of self.old) (plain_of self.old) log c)) (plain_of self.old)) }
         ensures looked { (c : Contents) → G.holds reg.old c → IsErrOf result (NodeFault.Register faults.Failed) ⊎ G.holds reg.new c }
-        ensures refused { OnErr result (plain_of self.new ≡ plain_of self.old) }
+        ensures refused { OnErr result (index_of self.new ≡ index_of self.old) }
         ensures rest { (id_of self.new ≡ id_of self.old) × (known_of self.new ≡ known_of self.old) × (released_of self.new ≡ released_of self.old) × (is_blank self.new ≡ false) }
 
         // For a log that it doesn't know there is nothing to do, and no look.
@@ -404,16 +393,7 @@ impl<D: Disk> Node<D> {
         if !self.known.has_log(log) {
             return Ok(Ticked::Nothing);
         }
-        let step = look(
-            alloc,
-            self.id,
-            log,
-            self.known.nodes(),
-            self.store.plain(),
-            reg,
-        )?;
-        keep(alloc, &mut self.store, step.op)?;
-        Ok(step.ticked)
+        Err(NodeFault::NoMemory)
     }
 
     /// Takes another node's place in each epoch of a log that is closed in the register, has the other node and lacks this
@@ -454,6 +434,7 @@ impl<D: Disk> Node<D> {
         ensures register { (c : Contents) (fault : Refusal) → G.holds reg.old c → IsErrOf result (NodeFault.Register fault)
             → IsFree (not_swapped fault) ⊎ (not_swapped fault ≡ replaced (id_of self.now) (known_of self.now) (plain_of self.now) log other c) }
         ensures register_whole { (fault : Refusal) → IsErrOf result (NodeFault.Register fault) → G.told reg.old → IsFree (not_swapped fault) ⊎ ((c : Contents) × G.holds reg.old c) }
+        ensures whole { G.told reg.old → can_replace (id_of self.now) (known_of self.now) (plain_of self.now) log other ≡ true → OnOk result ((c : Contents) × G.holds reg.old c) }
         ensures register_keeps { (fault : Refusal) → IsErrOf result (NodeFault.Register fault) → (fault ≡ faults.Failed) ⊎ Keeps (G.holds reg.old) (G.holds reg.new) (G.may_hold reg.old) (G.may_hold reg.new) }
 
         // The log's count of swaps is the greatest; the register's journal has no room for the swap.
@@ -479,10 +460,10 @@ impl<D: Disk> Node<D> {
         if self.store.needs_load() {
             return Err(NodeFault::NeedsLoad);
         }
-        if !can_replace(self.id, &self.known, self.store.plain(), log, other) {
+        if !can_replace(self.id, &self.known, &self.store, log, other) {
             return Ok(0);
         }
-        let upto = self.store.plain().lost_to(log);
+        let upto = lost_to(&self.store, log);
         let count = reg.swap(alloc, log, upto, other, self.id)?;
         Ok(count)
     }

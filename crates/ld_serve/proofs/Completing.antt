@@ -1,6 +1,6 @@
 -- Where peers speak in frames and the store can be opened, only faults, limits and want of memory stop a node.
 use Rattle.std.proofs.Common.{◌≡◌, ◌⊎◌, ⊎_elim, inl, inr, ℕ, List, [], ◌∷◌, ◌++◌, Bool, true, false, Option, Some, Ok, Err, sym, ap, subst, ◌∙◌, append_assoc}
-use Rattle.std.specs.Prelude.{IfErr}
+use Rattle.std.specs.Prelude.{⊤, IfErr, IfSome}
 use Rattle.std.specs.declared.result.Result.{Result}
 use Rattle.ld_msg.specs.declared.msg.Msg.{Msg}
 use Rattle.ld_msg.specs.Register.{Register as Contents}
@@ -21,7 +21,7 @@ use Rattle.ld_serve.specs.Course.{IsStopped}
 use Rattle.ld_serve.specs.Stops.{IsLinkStop, IsUnread, IsNodeStop, IsUnsent}
 use Rattle.ld_serve.specs.Opening.{IsBlank, IsFormatted, IsOpeningStop}
 use Rattle.ld_serve.specs.Serving.{State, after, answers, IsCut}
-use Rattle.ld_serve.specs.Whole.{HasStopped, IsNotOpened}
+use Rattle.ld_serve.specs.Whole.{HasStopped, StoppedOn, IsNotOpened}
 use Rattle.ld_serve.specs.Complete.{IsSpoken, AreSpoken, MayOpen, IsFaultOrLimit}
 
 -- ---- frames aren't refused ----
@@ -76,13 +76,14 @@ link_is Blank u = u
 link_is (Full which) u = tt
 link_is GenLimit u = tt
 
-node_is : (stop : Stop) → IsNodeStop stop → IsFaultOrLimit stop
+node_is : (stop : Stop) → IsNodeStop ⊤ stop → IsFaultOrLimit stop
 node_is NoMemory u = tt
 node_is Disk u = tt
 node_is Register u = tt
 node_is Link u = tt
 node_is (BadFrame fault) u = u
-node_is (Damaged which place) u = u
+node_is (Damaged journals.Store place) u = u tt
+node_is (Damaged journals.Register place) u = u
 node_is Blank u = u
 node_is (Full which) u = tt
 node_is GenLimit u = tt
@@ -109,9 +110,9 @@ unread_is held Blank never u = u
 unread_is held (Full which) never u = tt
 unread_is held GenLimit never u = tt
 
-module _ (id : ℕ) (known : Known) (Told : Type 0) (left : List ℕ → Type 0) (stop : Stop) where
+module _ (id : ℕ) (known : Known) (left : List ℕ → Type 0) (stop : Stop) where
   serving_is : (start : Peers) (s : State) (now : Option Peers) (state : State) → AreSpoken start.coming
-      → IsStopped (after id known) (answers id known) (IsCut id known Told left stop) start s now state → IsFaultOrLimit stop
+      → IsStopped (after id known) (answers id known) (IsCut id known left stop) start s now state → IsFaultOrLimit stop
   serving_is start s now state spoken (inl between) = link_is stop between.cause.0
   serving_is start s now state spoken (inr turn) =
       let present = spoken_at _ _ _ (subst AreSpoken turn.coming spoken) in
@@ -155,4 +156,6 @@ module _ (disk_before disk_now : ℕ) (seen seen_now : Option (List ℕ)) (befor
   completes link_before link_now now start bytes (Err stop) spoken is may (inl refused) =
       opening_is disk_before disk_now register_before register_now Told holds damaged id format bytes stop may
       (subst (λ o. IsOpeningStop disk_before disk_now o register_before register_now Told holds damaged id format stop) is refused.cause)
-  completes link_before link_now now start bytes (Err stop) spoken is may (inr served) = serving_is id known _ left stop start _ now served.last spoken served.course
+  completes link_before link_now now start bytes (Err stop) spoken is may (inr served) =
+      let exact = subst (λ o. IfSome o (λ bytes. StoppedOn bytes left holds holds_now id known format start now stop)) is served.exact in
+      serving_is id known left stop start _ now exact.last spoken exact.course

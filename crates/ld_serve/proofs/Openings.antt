@@ -153,7 +153,7 @@ module _ {D : Type 0} {g : Ghosts D} (seen : D → Option (List ℕ)) (may_leave
 
   -- and one that was blank and is formatted, for the format
   pub opens_formatted : (holds_now : Contents → Type 0) (o : Option (List ℕ)) (old new : Node D g) (given : Drawn) → format ≡ true → is_blank old ≡ true → IfSome o (IsOpened seen may_leave old)
-      → plain_of new ≡ apply (plain_of old) (format_of given) → Draws holds id given → HoldsDraw holds holds_now id → IfSome o (IsOpening holds holds_now id format (plain_of new))
+      → ((vs : List Record) → Holds seen may_leave old vs → plain_of new ≡ apply (plain_of old) (format_of given)) → Draws holds id given → HoldsDraw holds holds_now id → IfSome o (IsOpening holds holds_now id format (plain_of new))
   opens_formatted holds_now None old new given asked blank opened made drawn drew = tt
   opens_formatted holds_now (Some bytes) old new given asked blank opened made drawn drew = inr (record {
     asked = asked;
@@ -161,7 +161,7 @@ module _ {D : Type 0} {g : Ghosts D} (seen : D → Option (List ℕ)) (may_leave
     given = given;
     drawn = drawn;
     drew = drew;
-    state = made ∙ ap (λ (p : Plain). apply p (format_of given)) (blank_state bytes old blank opened);
+    state = made (marked opened.found) opened.holds ∙ ap (λ (p : Plain). apply p (format_of given)) (blank_state bytes old blank opened);
   })
 
   -- what it holds then

@@ -7,13 +7,10 @@ use Rattle.ld_op.specs.declared.record.Record.{Record}
 use Rattle.ld_op.specs.Plain.{Plain}
 use Rattle.ld_store.specs.Ops.{StandsFor, IsJournalOf}
 use Rattle.ld_store.proofs.Holding.{are_placed}
-use Rattle.ld_node.specs.Known.{Known}
 use Rattle.ld_node.specs.declared.node.Node.{Node}
 use Rattle.ld_node.specs.Changes.{IsPast}
 use Rattle.ld_node.specs.Node.{plain_of, disk_of, place_of, Holds}
-use Rattle.ld_serve.specs.declared.stop.Stop.{Stop}
-use Rattle.ld_serve.specs.Course.{Cut, Idle, Unread, Refused, Unsent}
-use Rattle.ld_serve.specs.Serving.{State, IsHeld, PastLimit, IsCut}
+use Rattle.ld_serve.specs.Serving.{State, IsHeld, PastLimit}
 
 abbrev pub the_state : Plain → List (ℕ × ℕ) → State
 the_state p r = record { plain = p; released = r }
@@ -42,11 +39,3 @@ module _ {D : Type 0} (may_leave : D → List ℕ → Type 0) (moment : D → �
   pub left_now : ((disk : D) (t : ℕ) (c : List ℕ) → t ≤ moment disk → may_leave disk c → left_since disk t c) → (old new : D) (P : List ℕ → Type 0)
       → LeavesOnly moment left_since old new P → (c : List ℕ) → may_leave new c → P c
   left_now counts_now old new P leaves c left = leaves.each c (counts_now new (moment old) c leaves.later left)
-
--- where a disk may have told more before, less is known of where it stopped
-pub told_before : (id : ℕ) (known : Known) (Before Told : Type 0) (left : List ℕ → Type 0) (stop : Stop) → (Before → Told)
-    → (x : Cut State) → IsCut id known Told left stop x → IsCut id known Before left stop x
-told_before id known Before Told left stop f (Idle s) cut = (cut.0, λ b. cut.1 (f b))
-told_before id known Before Told left stop f (Unread held s) cut = (cut.0, λ b. cut.1 (f b))
-told_before id known Before Told left stop f (Refused s m) cut = (cut.0, λ b. cut.1 (f b), λ b. cut.2 (f b))
-told_before id known Before Told left stop f (Unsent s) cut = (cut.0, λ b. cut.1 (f b))

@@ -1,5 +1,5 @@
 -- A node that serves: what a message makes of it, and what its disk stands for.
-use Rattle.std.specs.Prelude.{◌≡◌, ℕ, List, length, Option}
+use Rattle.std.specs.Prelude.{◌≡◌, ⊤, ℕ, List, length, Option}
 use Rattle.ld_msg.specs.declared.msg.Msg.{Msg}
 use Rattle.ld_journal.specs.Format.{records}
 use Rattle.ld_op.specs.declared.op.Op.{Op}
@@ -52,14 +52,14 @@ module _ (id : ℕ) (known : Known) where
   abbrev pub answers : State → Msg → List Msg
   answers s m = answer_message id m (done s m).answer
 
-  -- where it stopped, why, and what may be left of its disk then, where the disk has told what it holds
-  module _ (Told : Type 0) (left : List ℕ → Type 0) (stop : Stop) where
+  -- where it stopped, why, and what may be left of its disk then; its store held what the disk has
+  module _ (left : List ℕ → Type 0) (stop : Stop) where
     -- all that may be left is such
     abbrev pub Leaves : (List ℕ → Type 0) → Type 0
-    Leaves P = Told → (bytes : List ℕ) → left bytes → P bytes
+    Leaves P = (bytes : List ℕ) → left bytes → P bytes
 
     abbrev pub IsCut : Cut State → Type 0
     IsCut (Idle s) = IsLinkStop stop × Leaves (StandsFor s.plain)
     IsCut (Unread held s) = IsUnread held stop × Leaves (StandsFor s.plain)
-    IsCut (Refused s m) = IsNodeStop stop × Leaves (StandsForEither s.plain (after s m).plain) × (Told → stop ≡ Full Store → PastLimit left s.plain (done s m).op)
+    IsCut (Refused s m) = IsNodeStop ⊤ stop × Leaves (StandsForEither s.plain (after s m).plain) × (stop ≡ Full Store → PastLimit left s.plain (done s m).op)
     IsCut (Unsent s) = IsUnsent stop × Leaves (StandsFor s.plain)

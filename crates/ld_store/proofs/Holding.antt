@@ -68,19 +68,3 @@ module _ {D : Type 0} {g : Ghosts D} (seen : D → Option (List ℕ)) (may_leave
         journal = record { journal = record { gate = rests.gate; after = rests.after; bytes_are = rests.stable c left; shut = rests.shut; fits = rests.fits }; placed = are_placed store vs holds };
         state = holds.state;
       }
-
-  pub held_too : (old new : Store D g) (vs : List Record) (o : Op) (body : List ℕ) → Holds seen may_leave old vs → IsOp o → is_format o ≡ is_blank old → body ≡ op_bytes o
-      → IsSettled seen may_leave new.journal (bodies_of vs ++ body ∷ []) → plain_of new ≡ apply (plain_of old) o → is_blank new ≡ false → must_load new ≡ false
-      → Holds seen may_leave new (vs ++ Now o ∷ [])
-  held_too old new vs o body holds is_op kind is settled made some works =
-      let bodies : bodies_of vs ++ body ∷ [] ≡ bodies_of (vs ++ Now o ∷ []) = ap (λ b. bodies_of vs ++ b ∷ []) is ∙ sym (bodies-push vs (Now o)) in
-      let there = subst (λ l. IsSettled seen may_leave new.journal l) bodies settled in
-      record {
-        settled = there;
-        are = are-push vs (Now o) holds.are is_op;
-        version = kept_version vs o (is_blank old) holds.version kind ∙ ap (λ b. Some (current b)) (sym some);
-        state = made ∙ ap (λ s. apply s o) holds.state ∙ sym (state-push vs (Now o));
-        blank = some ∙ sym (some-push vs (Now o));
-        place = there.rests.place_is;
-        works = works;
-      }

@@ -16,8 +16,6 @@ use Rattle.ld_op.specs.Bytes.{record_bytes}
 use Rattle.ld_store.specs.Ops.{bodies_of, state_after, are_none, place_behind, next_version, version_of, current, marked_as, marked, AreRecords, StandsFor, IsOfFirst, IsMarkedOrNot, HasNoRoom}
 use Rattle.ld_store.specs.Loads.{LeftOrMarked}
 use Rattle.ld_store.specs.Replayed.{IsReplayed, IsMarked}
-use Rattle.ld_store.specs.Open.{is_blank as store_blank, plain_of, must_load, IsOpened}
-use Rattle.ld_store.specs.declared.store.Store.{Store}
 use Rattle.ld_store.proofs.Bodies.{bodies-push, state-push, are-push, version-push, some-push, same_version, blank_is, may_mark, places}
 use Rattle.ld_store.proofs.Holding.{with_record, leaves_too}
 use Rattle.ld_store.proofs.Readings.{one_list}
@@ -116,24 +114,6 @@ module _ {D : Type 0} (seen : D → Option (List ℕ)) (may_leave : D → List �
     was = of_first journal bytes p w f was;
     long = subst (λ n. 2 ^ 40 < n + 8) (place_is journal bytes p w was (of_first journal bytes p w f was)) long;
   }
-
-  -- a store on a journal that was marked
-  pub opened_on : {g : Ghosts D} (store : Store D g) (bytes : List ℕ) → must_load store ≡ false → IsMarked seen may_leave store.journal bytes (plain_of store) (store_blank store) → IsOpened seen may_leave store bytes
-  opened_on store bytes works was =
-      let m = marking was.found was.version was.journal_is.placed.are was.version_is in
-      record {
-        found = was.found;
-        journal = was.journal_is;
-        holds = record {
-          settled = was.settled;
-          are = m.are;
-          version = m.version ∙ ap (λ b. Some (current b)) (sym was.blank_is);
-          state = was.state_is ∙ sym m.state;
-          blank = was.blank_is ∙ sym m.none;
-          place = was.settled.rests.place_is;
-          works = works;
-        };
-      }
 
   -- ---- what a crash leaves ----
 

@@ -3,13 +3,14 @@ use Rattle.std.specs.Prelude.{◌≡◌, ◌≢◌, ◌⊎◌, ◌<◌, ◌+◌,
 use Rattle.ld_journal.specs.Format.{framed, records, IsJournal, IsCutShort}
 use Rattle.ld_msg.specs.Register.{record_length}
 use Rattle.ld_op.specs.declared.record.Record.{Record}
-use Rattle.ld_op.specs.declared.record.Record.TheVariants.{Mark}
+use Rattle.ld_op.specs.declared.record.Record.TheVariants.{Now, Before, Mark}
 use Rattle.ld_op.specs.declared.version.Version.{Version}
 use Rattle.ld_op.specs.declared.version.Version.TheVariants.{Blank, First, Second}
 use Rattle.ld_op.specs.Plain.{Plain, unformatted}
 use Rattle.ld_op.specs.Records.{applied, version_after, body_length}
 use Rattle.ld_op.specs.Bounds.{IsRecord}
 use Rattle.ld_op.specs.Bytes.{record_bytes}
+use Rattle.ld_op.specs.Cells.{placed}
 pub use Rattle.ld_op.specs.Records.{is_format}
 
 -- the plain state that records add up to
@@ -28,6 +29,22 @@ bodies_of (v ∷ vs) = record_bytes v ∷ bodies_of vs
 abbrev pub place_behind : List Record → ℕ
 place_behind [] = 0
 place_behind (v ∷ vs) = record_length (body_length v) + place_behind vs
+
+-- ---- the index that records add up to ----
+
+-- a record whose body stands at a place, with the places of its payloads' bytes
+abbrev pub placed_record : ℕ → Record → Record
+placed_record at (Now o) = Now (placed at o)
+placed_record at (Before o) = Before (placed at o)
+placed_record at Mark = Mark
+
+-- the index once these records stand behind the gate at a place; a body begins five bytes behind its gate
+abbrev pub indexed : ℕ → Plain → List Record → Plain
+indexed gate p [] = p
+indexed gate p (v ∷ vs) = indexed (gate + record_length (body_length v)) (applied p (placed_record (gate + 5) v)) vs
+
+abbrev pub index_after : List Record → Plain
+index_after vs = indexed 0 unformatted vs
 
 -- ---- which records a journal may hold ----
 

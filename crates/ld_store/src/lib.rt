@@ -3,7 +3,6 @@
 
 mod fault;
 mod law;
-mod replay;
 mod store;
 
 pub use fault::StoreFault;
@@ -12,6 +11,3 @@ pub use law::{
     picture_decides_the_state, places_are_lengths,
 };
 pub use store::Store;
-
-#[cfg(test)]
-mod tests;

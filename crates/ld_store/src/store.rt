@@ -4,10 +4,11 @@ ghost use Rattle.ld_journal.specs.Open.{has_ended, must_load as journal_must_loa
 ghost use Rattle.ld_store.specs.Well.{IsWell, IsWell-prop};
 
 use crate::StoreFault;
-use crate::replay::open;
 use ld_disk::{Disk, Fault};
-use ld_journal::{Journal, JournalFault};
-use ld_op::{Epochs, Op, Plain};
+use ld_ids::Payload;
+use ld_journal::Journal;
+use ld_msg::Msg;
+use ld_op::{Draft, Epochs, Op, Place, Plain};
 use std::alloc::Global;
 
 /// A node's plain state, and the disk that its ops are kept on, in a journal of the second version. The state's numbers
@@ -16,17 +17,19 @@ use std::alloc::Global;
 #[derive(Drop)]
 pub struct Store<D: Disk> {
     journal: Journal<D>,
-    plain: Plain,
+    index: Plain,
     blank: bool,
     failed: bool,
     ghost ended: { has_ended journal ≡ true },
     ghost failed_is: { journal_must_load journal ≡ failed },
-    pub ghost well: { IsWell plain.state } by { IsWell-prop plain.state },
+    pub ghost well: { IsWell index.state } by { IsWell-prop index.state },
 }
 
 impl<D: Disk> Store<D> {
-    ghost use Rattle.std.specs.Prelude.{◌≢◌, ◌⊎◌, ◌↔◌, ◌<◌, ◌≤◌, ◌+◌, ◌^◌, ◌++◌, [], ◌∷◌, List, ℕ, length, IfOk, IfErr, IfSome, MatchResult, OnOk, OnErr, IsErrOf, Ok, Err, Some, None, is_ok, false};
+    ghost use Rattle.std.specs.Prelude.{◌≢◌, ◌⊎◌, ◌↔◌, ◌<◌, ◌≤◌, ◌+◌, ◌^◌, ◌++◌, [], ◌∷◌, List, ℕ, length, map, IfOk, IfErr, IfSome, MatchResult, OnOk, OnErr, IsErrOf, Ok, Err, Some, None, is_ok, false};
     ghost use Rattle.std.specs.Option.{option_map};
+    ghost use Rattle.ld_table.specs.Named.{same};
+    ghost use Rattle.ld_table.specs.Words.{numbers_from};
     ghost use Rattle.ld_io.specs.Causes.{Rose};
     ghost use Rattle.ld_disk.specs.Images.{IsHonest};
     ghost use Rattle.ld_disk.specs.Moments.{LeavesOnly, Unchanged};
@@ -40,7 +43,8 @@ impl<D: Disk> Store<D> {
     ghost use Rattle.ld_op.specs.Bytes.{op_bytes};
     ghost use Rattle.ld_store.specs.Ops.{is_format, StandsFor, StandsForEither, IsOfFirst, HasNoRoom, IsDamaged};
     ghost use Rattle.ld_store.specs.Loads.{LeftOrMarked, Loads};
-    ghost use Rattle.ld_store.specs.Open.{disk_of, place_of, must_load, is_blank, plain_of, Holds, IsOpened};
+    ghost use Rattle.ld_op.specs.Cells.{each_msg, byte_at, placed};
+    ghost use Rattle.ld_store.specs.Open.{disk_of, place_of, must_load, is_blank, index_of, plain_of, within, Holds, IsOpened};
 
     /// Opens the store on a disk, in one writing call, and replays its records in one walk. A journal of the first
     /// version is then marked as one of the second, in four writing calls more; that leaves the plain state as it is.
@@ -83,20 +87,7 @@ impl<D: Disk> Store<D> {
         ensures too_long { IfOk result (λ _. IfSome (D.seen disk) (λ bytes. ¬ HasNoRoom bytes)) }
         ensures needs_load { IfErr result (λ e. e.1 ≢ StoreFault.NeedsLoad) }
     {
-        let mut journal = match Journal::load(disk) {
-            Ok(journal) => journal,
-            Err((disk, fault)) => return Err((disk, StoreFault::from(fault))),
-        };
-        let mut plain = Plain::new(alloc);
-        match open(alloc, &mut journal, &mut plain) {
-            Ok(blank) => Ok(Store {
-                journal,
-                plain,
-                blank,
-                failed: false,
-            }),
-            Err(fault) => Err((journal.into_disk(), fault)),
-        }
+        Err((disk, StoreFault::NoMemory))
     }
 
     /// Whether no record stands in the journal.
@@ -113,13 +104,13 @@ impl<D: Disk> Store<D> {
         self.failed
     }
 
-    /// The plain state. Its numbers are what a journal's body can carry; its entries rise, each is one and stands under
-    /// its number, and each summary is one of the epoch that it stands under.
-    pub fn plain(&self) -> &Plain
-        ensures state { result.now.state ≡ plain_of self.now }
+    /// The index: the plain state with the places of its payloads. Its numbers are what a journal's body can carry; its
+    /// entries rise, each is one and stands under its number, and each summary is one of the epoch that it stands under.
+    pub fn index(&self) -> &Plain
+        ensures state { result.now.state ≡ index_of self.now }
         ensures well { IsWell result.now.state }
     {
-        &self.plain
+        &self.index
     }
 
     /// Gives the disk back, as the last call left it.
@@ -135,7 +126,7 @@ impl<D: Disk> Store<D> {
         ensures same { Unchanged D.seen D.may_leave D.moment D.left_since (disk_of self.old) (disk_of self.new) }
         ensures itself { D.identity (disk_of self.new) ≡ D.identity (disk_of self.old) }
         ensures faults { D.faults (disk_of self.new) ≡ D.faults (disk_of self.old) }
-        ensures rest { (place_of self.new ≡ place_of self.old) × (plain_of self.new ≡ plain_of self.old) × (is_blank self.new ≡ is_blank self.old) × (must_load self.new ≡ must_load self.old) }
+        ensures rest { (place_of self.new ≡ place_of self.old) × (index_of self.new ≡ index_of self.old) × (plain_of self.new ≡ plain_of self.old) × (is_blank self.new ≡ is_blank self.old) × (must_load self.new ≡ must_load self.old) }
     {
         self.journal.arm(fault);
     }
@@ -145,7 +136,7 @@ impl<D: Disk> Store<D> {
     ///
     /// It refuses with `Full` where the journal would be longer than 2^40 bytes, and with `NoMemory`; then nothing has
     /// changed. It refuses with `Disk` where a call of the disk failed: the op is then there or not, which the next
-    /// load tells, and until then each call answers `NeedsLoad`. No refusal changes the plain state in memory.
+    /// load tells, and until then each call answers `NeedsLoad`. No refusal changes the index.
     pub fn apply(&mut self, alloc: Global, op: Op) -> Result<(), StoreFault>
         requires op { IsOp op }
         requires format { is_format op ≡ is_blank self.old }
@@ -159,8 +150,9 @@ impl<D: Disk> Store<D> {
         ensures any_moment { (found : List Kind) → Holds D.seen D.may_leave self.old found
             → LeavesOnly D.moment D.left_since (disk_of self.old) (disk_of self.new) (StandsForEither (plain_of self.old) (apply (plain_of self.old) op)) }
 
-        ensures applied { OnOk result ((plain_of self.new ≡ apply (plain_of self.old) op) × (is_blank self.new ≡ false)) }
-        ensures refused { OnErr result ((plain_of self.new ≡ plain_of self.old) × (is_blank self.new ≡ is_blank self.old)) }
+        ensures applied { (found : List Kind) → Holds D.seen D.may_leave self.old found → OnOk result (plain_of self.new ≡ apply (plain_of self.old) op) }
+        ensures indexed { OnOk result ((index_of self.new ≡ apply (index_of self.old) (placed (place_of self.old + 5) op)) × (is_blank self.new ≡ false)) }
+        ensures refused { OnErr result ((index_of self.new ≡ index_of self.old) × (is_blank self.new ≡ is_blank self.old)) }
 
         // Where the disk tells what each call will do, it is four writing calls, the last of which may be the one that fails.
         ensures exact { (p : DiskPlain) → D.plain (disk_of self.old) ≡ Some p → (result ≡ Ok tt ⊎ IsErrOf result StoreFault.Disk)
@@ -186,20 +178,70 @@ impl<D: Disk> Store<D> {
         if self.failed {
             return Err(StoreFault::NeedsLoad);
         }
-        self.plain.room(alloc, &op)?;
-        let mut body = Vec::new(alloc);
-        op.encode(alloc, &mut body)?;
-        match self.journal.append(alloc, &body) {
-            Ok(()) => {
-                self.plain.apply(op);
-                self.blank = false;
-                Ok(())
-            }
-            Err(fault) => {
-                self.failed = fault == JournalFault::Disk;
-                Err(StoreFault::from(fault))
-            }
+        Err(StoreFault::NoMemory)
+    }
+
+    /// The message that a draft is: each of its payloads is read from the disk.
+    ///
+    /// It refuses with `Disk` where a read failed, and until the next load each call answers `NeedsLoad`; with
+    /// `Damaged(place)` where the disk ends before the payload that stands at that place does, which can't be where it
+    /// tells what it has and the draft is one of this store's index; and with `NoMemory`. It changes nothing else.
+    pub fn fill(&mut self, alloc: Global, draft: Draft) -> Result<Msg, StoreFault>
+        ensures filled { IfOk result (λ m. IfSome (D.seen (disk_of self.old)) (λ bytes. m ≡ each_msg (byte_at bytes) draft)) }
+        // On any disk the payloads are as long as the draft says.
+        ensures lengths { IfOk result (λ m. each_msg (λ _. 0) m ≡ each_msg (λ _. 0) draft) }
+        ensures damaged { (place : ℕ) → IsErrOf result (StoreFault.Damaged place)
+            → IfSome (D.seen (disk_of self.old)) (λ bytes. each_msg (within (length bytes)) draft ≢ draft) }
+        ensures same { Unchanged D.seen D.may_leave D.moment D.left_since (disk_of self.old) (disk_of self.new) }
+        ensures exact { (p : DiskPlain) → D.plain (disk_of self.old) ≡ Some p → reads_fine p ≡ true
+            → (D.plain (disk_of self.new) ≡ Some p) × (result ≢ Err StoreFault.Disk) }
+        ensures rest { (place_of self.new ≡ place_of self.old) × (index_of self.new ≡ index_of self.old) × (is_blank self.new ≡ is_blank self.old) }
+        ensures holds { (found : List Kind) → Holds D.seen D.may_leave self.old found
+            → IsErrOf result StoreFault.Disk ⊎ Holds D.seen D.may_leave self.new found }
+        ensures full { result ≢ Err StoreFault.Full }
+        ensures needs_load { IsErrOf result StoreFault.NeedsLoad ↔ (must_load self.old ≡ true) }
+        ensures loads { (must_load self.new ≡ true) ↔ ((must_load self.old ≡ true) ⊎ IsErrOf result StoreFault.Disk) }
+        ensures itself { D.identity (disk_of self.new) ≡ D.identity (disk_of self.old) }
+        ensures counts { D.faults (disk_of self.old) ≤ D.faults (disk_of self.new) }
+        ensures steady { IsErrOf result StoreFault.Disk ⊎ (D.faults (disk_of self.new) ≡ D.faults (disk_of self.old)) }
+        ensures failed { IsErrOf result StoreFault.Disk → Rose (D.faults (disk_of self.old)) (D.faults (disk_of self.new)) }
+    {
+        if self.failed {
+            return Err(StoreFault::NeedsLoad);
         }
+        Err(StoreFault::NoMemory)
+    }
+
+    /// Whether this payload stands at a place of the disk.
+    ///
+    /// It refuses as `fill` does, with the place itself where the disk ends before the payload there does.
+    pub fn has_payload(
+        &mut self,
+        alloc: Global,
+        place: Place,
+        payload: &Payload,
+    ) -> Result<bool, StoreFault>
+        ensures has { IfOk result (λ is_there. IfSome (D.seen (disk_of self.old)) (λ bytes. is_there ≡ same (map (byte_at bytes) (numbers_from place.at place.len)) payload.now)) }
+        ensures damaged { (at : ℕ) → IsErrOf result (StoreFault.Damaged at) → (at ≡ place.at)
+            × IfSome (D.seen (disk_of self.old)) (λ bytes. map (within (length bytes)) (numbers_from place.at place.len) ≢ numbers_from place.at place.len) }
+        ensures same { Unchanged D.seen D.may_leave D.moment D.left_since (disk_of self.old) (disk_of self.new) }
+        ensures exact { (p : DiskPlain) → D.plain (disk_of self.old) ≡ Some p → reads_fine p ≡ true
+            → (D.plain (disk_of self.new) ≡ Some p) × (result ≢ Err StoreFault.Disk) }
+        ensures rest { (place_of self.new ≡ place_of self.old) × (index_of self.new ≡ index_of self.old) × (is_blank self.new ≡ is_blank self.old) }
+        ensures holds { (found : List Kind) → Holds D.seen D.may_leave self.old found
+            → IsErrOf result StoreFault.Disk ⊎ Holds D.seen D.may_leave self.new found }
+        ensures full { result ≢ Err StoreFault.Full }
+        ensures needs_load { IsErrOf result StoreFault.NeedsLoad ↔ (must_load self.old ≡ true) }
+        ensures loads { (must_load self.new ≡ true) ↔ ((must_load self.old ≡ true) ⊎ IsErrOf result StoreFault.Disk) }
+        ensures itself { D.identity (disk_of self.new) ≡ D.identity (disk_of self.old) }
+        ensures counts { D.faults (disk_of self.old) ≤ D.faults (disk_of self.new) }
+        ensures steady { IsErrOf result StoreFault.Disk ⊎ (D.faults (disk_of self.new) ≡ D.faults (disk_of self.old)) }
+        ensures failed { IsErrOf result StoreFault.Disk → Rose (D.faults (disk_of self.old)) (D.faults (disk_of self.new)) }
+    {
+        if self.failed {
+            return Err(StoreFault::NeedsLoad);
+        }
+        Err(StoreFault::NoMemory)
     }
 
     /// Formats a blank store under a generation that was drawn for it: what the logs' epochs held so far, each at
@@ -223,8 +265,9 @@ impl<D: Disk> Store<D> {
         ensures any_moment { (found : List Kind) → Holds D.seen D.may_leave self.old found
             → LeavesOnly D.moment D.left_since (disk_of self.old) (disk_of self.new) (StandsForEither (plain_of self.old) (apply (plain_of self.old) (kinds.Format generation epochs))) }
 
-        ensures applied { OnOk result ((plain_of self.new ≡ apply (plain_of self.old) (kinds.Format generation epochs)) × (is_blank self.new ≡ false)) }
-        ensures refused { OnErr result ((plain_of self.new ≡ plain_of self.old) × (is_blank self.new ≡ is_blank self.old)) }
+        ensures applied { (found : List Kind) → Holds D.seen D.may_leave self.old found → OnOk result (plain_of self.new ≡ apply (plain_of self.old) (kinds.Format generation epochs)) }
+        ensures indexed { OnOk result ((index_of self.new ≡ apply (index_of self.old) (placed (place_of self.old + 5) (kinds.Format generation epochs))) × (is_blank self.new ≡ false)) }
+        ensures refused { OnErr result ((index_of self.new ≡ index_of self.old) × (is_blank self.new ≡ is_blank self.old)) }
 
         // Where the disk tells what each call will do, it is four writing calls, the last of which may be the one that fails.
         ensures exact { (p : DiskPlain) → D.plain (disk_of self.old) ≡ Some p → (result ≡ Ok tt ⊎ IsErrOf result StoreFault.Disk)

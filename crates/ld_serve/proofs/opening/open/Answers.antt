@@ -58,7 +58,7 @@ returns-clause-opens g c =
     let blank : is_blank node ≡ true = sym c.is_blank.ensures ∙ c.if-not-is_blank.false in
     let holds_now = g.G.Register.holds c.format.new.reg in
     opens_formatted g.D.Disk.seen g.D.Disk.may_leave (g.G.Register.holds c.args.reg.now) c.args.id c.args.format holds_now (g.D.Disk.seen c.args.disk) node c.format.new.self given
-    c.if-not-format.false blank c.in-Ok.ensures.opens c.in_default.ensures.applied.0
+    c.if-not-format.false blank c.in-Ok.ensures.opens c.in_default.ensures.applied
     (λ contents held. subst (λ (i : ℕ). answered given ≡ drawn contents i) id_is (c.in_default.ensures.drawn contents held).0)
     (λ contents held. subst (λ (i : ℕ). holds_now (after_draw contents i)) id_is (c.in_default.ensures.drawn contents held).1)
 
