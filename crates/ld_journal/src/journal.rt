@@ -139,6 +139,7 @@ impl<D: Disk> Journal<D> {
         ensures goes_on { result ≡ Ok true → has_ended self.new ≡ false }
         ensures advances { result ≡ Ok true → (place_of self.old < place_of self.new) × (place_of self.new < length_of self.new) }
         ensures behind { result ≡ Ok true → place_of self.new ≡ place_of self.old + 5 + length body.new.items }
+        ensures bound { result ≡ Ok true → length_of self.new < 2 ^ 64 }
         ensures len { length_of self.new ≡ length_of self.old }
         ensures same { Unchanged D.seen D.may_leave D.moment D.left_since (disk_of self.old) (disk_of self.new) }
         ensures itself { D.identity (disk_of self.new) ≡ D.identity (disk_of self.old) }

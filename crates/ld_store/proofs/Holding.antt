@@ -1,20 +1,31 @@
 -- What a store holds after one record more.
-use Rattle.std.proofs.Common.{◌≡◌, inl, inr, ⊎_elim, ◌<◌, ◌^◌, ℕ, List, [], ◌∷◌, ◌++◌, length, Option, Some, false, sym, ◌∙◌, ap, subst}
+use Rattle.std.proofs.Common.{◌≡◌, inl, inr, ⊎_elim, ◌<◌, ◌≤◌, ◌+◌, ◌^◌, ℕ, List, [], ◌∷◌, ◌++◌, length, Option, Some, IfSome, false, sym, ◌∙◌, ap, refl, subst, arith, length-append}
+use Rattle.std.proofs.Math.Nat.{lt_of_not-le}
 use Rattle.ld_disk.specs.Moments.{LeavesOnly}
 use Rattle.ld_disk.specs.declared.disk.Disk.{Ghosts}
-use Rattle.ld_journal.specs.Format.{IsJournal, IsWithOrWithout}
+use Rattle.ld_journal.specs.Format.{records, IsJournal, IsWithOrWithout}
 use Rattle.ld_journal.specs.Open.{IsSettled}
 use Rattle.ld_op.specs.declared.op.Op.{Op}
 use Rattle.ld_op.specs.declared.record.Record.{Record}
 use Rattle.ld_op.specs.declared.record.Record.TheVariants.{Now}
-use Rattle.ld_op.specs.Plain.{Plain, apply, op_length}
+use Rattle.ld_op.specs.Plain.{Plain, unformatted, apply, op_length}
 use Rattle.ld_op.specs.Records.{applied}
 use Rattle.ld_op.specs.Bounds.{IsOp}
 use Rattle.ld_op.specs.Bytes.{op_bytes, record_bytes}
-use Rattle.ld_store.specs.Ops.{bodies_of, state_after, current, is_format, ArePlaced, MayFollow, IsJournalOf, StandsFor, StandsForEither}
-use Rattle.ld_store.specs.Open.{disk_of, must_load, is_blank, plain_of, Holds}
+use Rattle.ld_op.specs.Cells.{each_plain, read_plain, placed}
+use Rattle.ld_store.specs.Ops.{bodies_of, state_after, index_after, place_behind, are_none, version_of, current, is_format, AreRecords, ArePlaced, MayFollow, IsJournalOf, StandsFor, StandsForEither}
+use Rattle.ld_store.specs.Open.{disk_of, place_of, must_load, is_blank, index_of, plain_of, told_plain, within, Holds}
 use Rattle.ld_store.specs.declared.store.Store.{Store}
-use Rattle.ld_store.proofs.Bodies.{bodies-push, state-push, are-push, placed-push, some-push, may_keep, kept_version, record_long, record_fits}
+use Rattle.ld_store.proofs.Bodies.{bodies-push, state-push, are-push, placed-push, some-push, places, may_keep, kept_version, record_long, record_fits}
+use Rattle.ld_store.proofs.Indexes.{records_read, records_within, indexed-push}
+
+-- an op that was applied where its body stands
+pub made_at : (was mid now : Plain) (gate at : ℕ) (o : Op) → now ≡ apply mid (placed (gate + 5) o) → mid ≡ was → gate ≡ at → now ≡ apply was (placed (at + 5) o)
+made_at was mid now gate at o made same is = made ∙ (λ i. apply (same i) (placed (is i + 5) o))
+
+-- a journal that is not full has room for it
+pub has_room : (at long : ℕ) → (2 ^ 40 < at + long + 6 → ⊥) → at + long + 6 ≤ 2 ^ 40
+has_room at long not_full = let most : at + long + 6 < 2 ^ 40 + 1 = lt_of_not-le (λ past. not_full (omega (arith, past))) in omega (arith, most)
 
 -- the bytes of an op that were written into nothing
 pub body_is : (empty out body bytes : List ℕ) → empty ≡ [] → out ≡ empty ++ bytes → body ≡ out → body ≡ bytes
@@ -68,3 +79,40 @@ module _ {D : Type 0} {g : Ghosts D} (seen : D → Option (List ℕ)) (may_leave
         journal = record { journal = record { gate = rests.gate; after = rests.after; bytes_are = rests.stable c left; shut = rests.shut; fits = rests.fits }; placed = are_placed store vs holds };
         state = holds.state;
       }
+
+module _ {D : Type 0} {g : Ghosts D} (may_leave : D → List ℕ → Type 0) where
+  -- a journal of records, and the index that they add up to, are all of it
+  pub held_on : (store : Store D g) (vs : List Record) → IsSettled g.seen may_leave store.journal (bodies_of vs) → AreRecords vs → version_of vs ≡ Some (current (is_blank store))
+      → index_of store ≡ index_after vs → is_blank store ≡ are_none vs → must_load store ≡ false → Holds g.seen may_leave store vs
+  held_on store vs settled are version index blank works =
+      let rests = settled.rests in
+      let bytes = records (bodies_of vs) ++ rests.gate ∷ rests.after in
+      let fits : 0 + place_behind vs ≤ length bytes = omega (arith, length-append (records (bodies_of vs)) (rests.gate ∷ rests.after), places vs) in
+      record {
+        settled = settled;
+        are = are;
+        version = version;
+        index = index;
+        state = ap (λ o. told_plain o (index_of store)) rests.bytes ∙ ap (read_plain bytes) index ∙ records_read vs 0 unformatted (rests.gate ∷ rests.after) bytes are refl;
+        inside = subst (λ o. IfSome o (λ told. each_plain (within (length told)) (index_of store) ≡ index_of store)) (sym rests.bytes)
+            (subst (λ i. each_plain (within (length bytes)) i ≡ i) (sym index) (records_within vs 0 (length bytes) unformatted are fits refl));
+        blank = blank;
+        place = rests.place_is;
+        works = works;
+      }
+
+  -- after an op
+  pub held_too : (old new : Store D g) (vs : List Record) (o : Op) (body : List ℕ) → Holds g.seen may_leave old vs → IsOp o → is_format o ≡ is_blank old → body ≡ op_bytes o
+      → IsSettled g.seen may_leave new.journal (bodies_of vs ++ body ∷ []) → index_of new ≡ apply (index_of old) (placed (place_of old + 5) o) → is_blank new ≡ false → must_load new ≡ false
+      → Holds g.seen may_leave new (vs ++ Now o ∷ [])
+  held_too old new vs o body holds is_op kind is settled made some works =
+      let bodies : bodies_of vs ++ body ∷ [] ≡ bodies_of (vs ++ Now o ∷ []) = ap (λ b. bodies_of vs ++ b ∷ []) is ∙ sym (bodies-push vs (Now o)) in
+      let place : place_of old ≡ 0 + place_behind vs = omega (arith, holds.place, places vs) in
+      held_on new (vs ++ Now o ∷ []) (subst (λ l. IsSettled g.seen may_leave new.journal l) bodies settled) (are-push vs (Now o) holds.are is_op)
+      (kept_version vs o (is_blank old) holds.version kind ∙ ap (λ b. Some (current b)) (sym some))
+      (made ∙ (λ i. apply (holds.index i) (placed (place i + 5) o)) ∙ sym (indexed-push vs 0 unformatted (Now o)))
+      (some ∙ sym (some-push vs (Now o))) works
+
+  -- the plain state on the disk, once it holds an op more
+  pub applied_too : (old new : Store D g) (vs : List Record) (o : Op) → Holds g.seen may_leave old vs → Holds g.seen may_leave new (vs ++ Now o ∷ []) → plain_of new ≡ apply (plain_of old) o
+  applied_too old new vs o before after = after.state ∙ (state-push vs (Now o) ∙ ap (λ p. apply p o) (sym before.state))

@@ -1,7 +1,10 @@
 pub mod Formats
 pub mod Faults
 pub mod Bodies
+pub mod Placing
+pub mod Indexes
 pub mod Replaying
+pub mod Filling
 pub mod Readings
 pub mod FineAfter
 pub mod Holding

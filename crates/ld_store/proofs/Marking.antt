@@ -10,14 +10,17 @@ use Rattle.ld_op.specs.declared.record.Record.{Record}
 use Rattle.ld_op.specs.declared.record.Record.TheVariants.{Mark}
 use Rattle.ld_op.specs.declared.version.Version.{Version}
 use Rattle.ld_op.specs.declared.version.Version.TheVariants.{Blank, First, Second}
-use Rattle.ld_op.specs.Plain.{Plain}
+use Rattle.ld_op.specs.Plain.{Plain, unformatted}
 use Rattle.ld_op.specs.Records.{is_blank, is_first}
 use Rattle.ld_op.specs.Bytes.{record_bytes}
-use Rattle.ld_store.specs.Ops.{bodies_of, state_after, are_none, place_behind, next_version, version_of, current, marked_as, marked, AreRecords, StandsFor, IsOfFirst, IsMarkedOrNot, HasNoRoom}
+use Rattle.ld_store.specs.Ops.{bodies_of, state_after, index_after, are_none, place_behind, next_version, version_of, current, marked_as, marked, AreRecords, StandsFor, IsOfFirst, IsMarkedOrNot, HasNoRoom}
 use Rattle.ld_store.specs.Loads.{LeftOrMarked}
 use Rattle.ld_store.specs.Replayed.{IsReplayed, IsMarked}
+use Rattle.ld_store.specs.Open.{is_blank as store_blank, index_of, must_load, IsOpened}
+use Rattle.ld_store.specs.declared.store.Store.{Store}
 use Rattle.ld_store.proofs.Bodies.{bodies-push, state-push, are-push, version-push, some-push, same_version, blank_is, may_mark, places}
-use Rattle.ld_store.proofs.Holding.{with_record, leaves_too}
+use Rattle.ld_store.proofs.Indexes.{indexed-push}
+use Rattle.ld_store.proofs.Holding.{with_record, leaves_too, held_on}
 use Rattle.ld_store.proofs.Readings.{one_list}
 
 -- ---- records with a mark ----
@@ -26,16 +29,16 @@ use Rattle.ld_store.proofs.Readings.{one_list}
 pub record Marking (vs ws : List Record) (w : Version) : Type 0 where
   pub are : AreRecords ws
   pub version : version_of ws ≡ Some (current (is_blank w))
-  pub state : state_after ws ≡ state_after vs
+  pub index : index_after ws ≡ index_after vs
   pub none : are_none ws ≡ is_blank w
 
 marking_first : (vs : List Record) → AreRecords vs → version_of vs ≡ Some First → Marking vs (vs ++ Mark ∷ []) First
-marking_first vs are first = record { are = are-push vs Mark are tt; version = version-push vs Mark ∙ ap (λ o. next_version o Mark) first; state = state-push vs Mark; none = some-push vs Mark }
+marking_first vs are first = record { are = are-push vs Mark are tt; version = version-push vs Mark ∙ ap (λ o. next_version o Mark) first; index = indexed-push vs 0 unformatted Mark; none = some-push vs Mark }
 
 pub marking : (vs : List Record) (w : Version) → AreRecords vs → version_of vs ≡ Some w → Marking vs (marked vs) w
-marking vs Blank are e = subst (λ ws. Marking vs ws Blank) (sym (ap (λ o. marked_as o vs) e)) (record { are = are; version = e; state = refl; none = sym (blank_is vs Blank e) })
+marking vs Blank are e = subst (λ ws. Marking vs ws Blank) (sym (ap (λ o. marked_as o vs) e)) (record { are = are; version = e; index = refl; none = sym (blank_is vs Blank e) })
 marking vs First are e = subst (λ ws. Marking vs ws First) (sym (ap (λ o. marked_as o vs) e)) (marking_first vs are e)
-marking vs Second are e = subst (λ ws. Marking vs ws Second) (sym (ap (λ o. marked_as o vs) e)) (record { are = are; version = e; state = refl; none = sym (blank_is vs Second e) })
+marking vs Second are e = subst (λ ws. Marking vs ws Second) (sym (ap (λ o. marked_as o vs) e)) (record { are = are; version = e; index = refl; none = sym (blank_is vs Second e) })
 
 pub first_is : (w : Version) → is_first w ≡ true → w ≡ First
 first_is Blank e = absurd cc
@@ -84,7 +87,7 @@ module _ {D : Type 0} (seen : D → Option (List ℕ)) (may_leave : D → List �
     version = w;
     settled = subst (λ vs. IsSettled seen may_leave journal (bodies_of vs)) (sym (unmarked was.found w n was.version_is)) was.settled;
     journal_is = was.journal_is;
-    state_is = was.state_is;
+    index_is = was.index_is;
     version_is = was.version_is;
     blank_is = b;
   }
@@ -100,7 +103,7 @@ module _ {D : Type 0} (seen : D → Option (List ℕ)) (may_leave : D → List �
         version = w;
         settled = subst (λ bodies. IsSettled seen may_leave new bodies) there settled;
         journal_is = was.journal_is;
-        state_is = was.state_is;
+        index_is = was.index_is;
         version_is = was.version_is;
         blank_is = ap is_blank (sym first);
       }
@@ -130,3 +133,14 @@ module _ {D : Type 0} (seen : D → Option (List ℕ)) (may_leave : D → List �
         → LeavesOnly moment left_since mid.disk new (IsWithOrWithout (bodies_of was.found) (record_bytes Mark)) → LeavesOnly moment left_since old new (LeftOrMarked (may_leave old) bytes)
     unfolding of_first
     leaves_replayed old new mid bytes p w f was same leaves = leaves_marked old mid.disk new bytes (of_first mid bytes p w f was) same leaves
+
+module _ {D : Type 0} {g : Ghosts D} (may_leave : D → List ℕ → Type 0) where
+  -- a store on a journal that was marked
+  pub opened_on : (store : Store D g) (bytes : List ℕ) → must_load store ≡ false → IsMarked g.seen may_leave store.journal bytes (index_of store) (store_blank store) → IsOpened g.seen may_leave store bytes
+  opened_on store bytes works was =
+      let m = marking was.found was.version was.journal_is.placed.are was.version_is in
+      record {
+        found = was.found;
+        journal = was.journal_is;
+        holds = held_on may_leave store (marked was.found) was.settled m.are (m.version ∙ ap (λ b. Some (current b)) (sym was.blank_is)) (was.index_is ∙ sym m.index) (was.blank_is ∙ sym m.none) works;
+      }

@@ -1,5 +1,5 @@
 -- One record more that was replayed.
-use Rattle.std.proofs.Common.{◌≡◌, ◌≢◌, inl, inr, ◌<◌, ◌^◌, drop, ℕ, List, [], ◌∷◌, ◌++◌, length, Option, Some, sym, ◌∙◌, ap, refl, subst, arith, length-append}
+use Rattle.std.proofs.Common.{◌≡◌, ◌≢◌, inl, inr, ◌<◌, ◌+◌, ◌^◌, drop, ℕ, List, [], ◌∷◌, ◌++◌, length, Option, Some, sym, ◌∙◌, ap, refl, subst, arith, length-append}
 use Rattle.std.proofs.lemmas.List.{drop_at}
 use Rattle.std.proofs.Math.Seq.{get_or-append_seam}
 use Rattle.ld_journal.specs.Format.{framed, records, Fits}
@@ -8,13 +8,14 @@ use Rattle.ld_journal.specs.declared.journal.Journal.{Journal}
 use Rattle.ld_journal.proofs.Records.{records-push}
 use Rattle.ld_op.specs.declared.record.Record.{Record}
 use Rattle.ld_op.specs.declared.version.Version.{Version}
-use Rattle.ld_op.specs.Plain.{Plain}
+use Rattle.ld_op.specs.Plain.{Plain, unformatted}
 use Rattle.ld_op.specs.Records.{applied, version_after}
 use Rattle.ld_op.specs.Bounds.{IsRecord}
 use Rattle.ld_op.specs.Bytes.{record_bytes}
-use Rattle.ld_store.specs.Ops.{bodies_of, next_version, IsDamaged}
+use Rattle.ld_store.specs.Ops.{bodies_of, next_version, place_behind, placed_record, IsDamaged}
 use Rattle.ld_store.specs.Replayed.{HasReplayed}
-use Rattle.ld_store.proofs.Bodies.{bodies-push, state-push, are-push, version-push}
+use Rattle.ld_store.proofs.Bodies.{bodies-push, are-push, version-push, places}
+use Rattle.ld_store.proofs.Indexes.{indexed-push}
 
 -- the bytes of a disk are told once
 told_once : {bytes other : List ℕ} → Some bytes ≡ Some other → bytes ≡ other
@@ -36,20 +37,21 @@ module _ {D : Type 0} (seen : D → Option (List ℕ)) (may_leave : D → List �
   pub one_more : (old new : Journal D) (bytes body : List ℕ) (p q : Plain) (x w : Version) (v : Record)
       → (has : HasReplayed seen may_leave old bytes p x)
       → ((bodies : List (List ℕ)) (rest : List ℕ) → HasGiven seen may_leave old bodies rest → (after : List ℕ) × HasGiven seen may_leave new (bodies ++ body ∷ []) after)
-      → seen old.disk ≡ seen new.disk → body ≡ record_bytes v → IsRecord v → version_after x v ≡ Some w → q ≡ applied p v
+      → seen old.disk ≡ seen new.disk → body ≡ record_bytes v → IsRecord v → version_after x v ≡ Some w → q ≡ applied p (placed_record (old.at + 5) v)
       → HasReplayed seen may_leave new bytes q w
   one_more old new bytes body p q x w v has gives same is_body is follows made =
       let next = gives (bodies_of has.found) has.rest has.given in
       let bodies : bodies_of has.found ++ body ∷ [] ≡ bodies_of (has.found ++ v ∷ []) = ap (λ b. bodies_of has.found ++ b ∷ []) is_body ∙ sym (bodies-push has.found v) in
       let given = subst (λ bs. HasGiven seen may_leave new bs next.0) bodies next.1 in
       let all : bytes ≡ records (bodies_of (has.found ++ v ∷ [])) ++ next.0 = has.bytes_are ∙ told_once (sym has.given.bytes ∙ same ∙ given.bytes) in
+      let place : old.at ≡ 0 + place_behind has.found = omega (arith, has.given.place_is, places has.found) in
       record {
         found = has.found ++ v ∷ [];
         rest = next.0;
         given = given;
         bytes_are = all;
         are = are-push has.found v has.are is;
-        state_is = made ∙ ap (λ s. applied s v) has.state_is ∙ sym (state-push has.found v);
+        index_is = made ∙ (λ i. applied (has.index_is i) (placed_record (place i + 5) v)) ∙ sym (indexed-push has.found 0 unformatted v);
         version_is = version-push has.found v ∙ ap (λ o. next_version o v) has.version_is ∙ follows;
       }
 

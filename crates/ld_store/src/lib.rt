@@ -1,9 +1,14 @@
-//! A node's plain state on a disk: each op is durable before it is applied.
+//! A node's plain state on a disk: each op is durable before it is applied. In memory stands its index, whose payloads are
+//! the places of their bytes.
 #![tactic(auto)]
 
 mod fault;
 mod law;
+mod payloads;
+mod replay;
 mod store;
+#[cfg(test)]
+mod tests;
 
 pub use fault::StoreFault;
 pub use law::{

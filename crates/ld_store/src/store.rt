@@ -4,9 +4,11 @@ ghost use Rattle.ld_journal.specs.Open.{has_ended, must_load as journal_must_loa
 ghost use Rattle.ld_store.specs.Well.{IsWell, IsWell-prop};
 
 use crate::StoreFault;
+use crate::payloads::{read_body, read_payload};
+use crate::replay::open;
 use ld_disk::{Disk, Fault};
 use ld_ids::Payload;
-use ld_journal::Journal;
+use ld_journal::{Journal, JournalFault};
 use ld_msg::Msg;
 use ld_op::{Draft, Epochs, Op, Place, Plain};
 use std::alloc::Global;
@@ -87,7 +89,20 @@ impl<D: Disk> Store<D> {
         ensures too_long { IfOk result (λ _. IfSome (D.seen disk) (λ bytes. ¬ HasNoRoom bytes)) }
         ensures needs_load { IfErr result (λ e. e.1 ≢ StoreFault.NeedsLoad) }
     {
-        Err((disk, StoreFault::NoMemory))
+        let mut journal = match Journal::load(disk) {
+            Ok(journal) => journal,
+            Err((disk, fault)) => return Err((disk, StoreFault::from(fault))),
+        };
+        let mut index = Plain::new(alloc);
+        match open(alloc, &mut journal, &mut index) {
+            Ok(blank) => Ok(Store {
+                journal,
+                index,
+                blank,
+                failed: false,
+            }),
+            Err(fault) => Err((journal.into_disk(), fault)),
+        }
     }
 
     /// Whether no record stands in the journal.
@@ -178,7 +193,21 @@ impl<D: Disk> Store<D> {
         if self.failed {
             return Err(StoreFault::NeedsLoad);
         }
-        Err(StoreFault::NoMemory)
+        self.index.room(alloc, &op)?;
+        let mut body = Vec::new(alloc);
+        op.encode(alloc, &mut body)?;
+        let gate = self.journal.place();
+        match self.journal.append(alloc, &body) {
+            Ok(()) => {
+                self.index.apply(op, gate + 5);
+                self.blank = false;
+                Ok(())
+            }
+            Err(fault) => {
+                self.failed = fault == JournalFault::Disk;
+                Err(StoreFault::from(fault))
+            }
+        }
     }
 
     /// The message that a draft is: each of its payloads is read from the disk.
@@ -209,7 +238,19 @@ impl<D: Disk> Store<D> {
         if self.failed {
             return Err(StoreFault::NeedsLoad);
         }
-        Err(StoreFault::NoMemory)
+        let (from, to, log) = (draft.from(), draft.to(), draft.log());
+        match read_body(alloc, &mut self.journal, draft.into_body().into_said()) {
+            Ok(body) => Ok(Msg {
+                from,
+                to,
+                log,
+                body,
+            }),
+            Err(fault) => {
+                self.failed = fault == StoreFault::Disk;
+                Err(fault)
+            }
+        }
     }
 
     /// Whether this payload stands at a place of the disk.
@@ -241,7 +282,13 @@ impl<D: Disk> Store<D> {
         if self.failed {
             return Err(StoreFault::NeedsLoad);
         }
-        Err(StoreFault::NoMemory)
+        match read_payload(alloc, &mut self.journal, place) {
+            Ok(read) => Ok(read == *payload),
+            Err(fault) => {
+                self.failed = fault == StoreFault::Disk;
+                Err(fault)
+            }
+        }
     }
 
     /// Formats a blank store under a generation that was drawn for it: what the logs' epochs held so far, each at
