@@ -1,7 +1,14 @@
+pub mod Told
+pub mod Lengths
+pub mod Compared
+pub mod Handles
+pub mod Either
+pub mod Calls
+pub mod Filled
 pub mod Loading
 pub mod Changes
+pub mod Quiet
 pub mod Looks
 pub mod Sends
 pub mod Draws
 pub mod Swaps
-pub mod Told

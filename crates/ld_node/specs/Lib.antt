@@ -1,3 +1,4 @@
+pub mod Handling
 pub mod Changes
 pub mod Faults
 pub mod Loads

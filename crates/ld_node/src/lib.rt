@@ -1,10 +1,18 @@
 //! A node: what it makes of messages, and what its store keeps first.
 #![tactic(auto)]
 
+mod epochs;
 mod fault;
+mod format;
+mod handled;
+mod keep;
 mod known;
+mod msgs;
 mod node;
 mod replace;
+mod settled;
+#[cfg(test)]
+mod tests;
 mod tick;
 
 pub use fault::NodeFault;

@@ -1,8 +1,12 @@
 // A node over its store.
 use crate::NodeFault;
+use crate::format::format_store;
+use crate::keep::keep;
 use crate::known::Known;
+use crate::msgs::{release, released_by};
 use crate::replace::{can_replace, lost_to};
-use crate::tick::Ticked;
+use crate::settled::prepare;
+use crate::tick::{Ticked, look};
 use ld_config::Config;
 use ld_disk::{Disk, Fault};
 use ld_ids::{LogId, NodeId};
@@ -104,7 +108,19 @@ impl<D: Disk> Node<D> {
         ensures needs_load { IfErr result (λ e. e.1 ≢ NodeFault.NeedsLoad) }
         ensures register { IfErr result (λ e. (fault : Refusal) → e.1 ≢ NodeFault.Register fault) }
     {
-        Err((disk, NodeFault::NoMemory))
+        let known = match Known::of(alloc, config) {
+            Ok(known) => known,
+            Err(_) => return Err((disk, NodeFault::NoMemory)),
+        };
+        match Store::load(alloc, disk) {
+            Ok(store) => Ok(Node {
+                id,
+                store,
+                known,
+                released: BTreeMap::new(alloc),
+            }),
+            Err((disk, fault)) => Err((disk, NodeFault::from(fault))),
+        }
     }
 
     /// Whether its store isn't formatted.
@@ -206,7 +222,18 @@ impl<D: Disk> Node<D> {
         if self.store.needs_load() {
             return Err(NodeFault::NeedsLoad);
         }
-        Err(NodeFault::NoMemory)
+        let (op, replies) = prepare(
+            alloc,
+            self.id,
+            &self.known,
+            &self.released,
+            &mut self.store,
+            msg,
+        )?;
+        let number = released_by(self.id, &self.known, msg);
+        release(&mut self.released, msg.log, number)?;
+        keep(alloc, &mut self.store, op)?;
+        Ok(replies)
     }
 
     /// Formats a blank node under a generation that the register draws for it: what the logs' epochs held so far is
@@ -299,7 +326,8 @@ impl<D: Disk> Node<D> {
         if self.store.needs_load() {
             return Err(NodeFault::NeedsLoad);
         }
-        Err(NodeFault::NoMemory)
+        let drawn = reg.draw(alloc, self.id)?;
+        format_store(alloc, &mut self.store, drawn)
     }
 
     /// Looks at the register for a log and does what the node has to do for it: the lowest epoch that isn't clean here,
@@ -393,7 +421,16 @@ impl<D: Disk> Node<D> {
         if !self.known.has_log(log) {
             return Ok(Ticked::Nothing);
         }
-        Err(NodeFault::NoMemory)
+        let step = look(
+            alloc,
+            self.id,
+            log,
+            self.known.nodes(),
+            self.store.index(),
+            reg,
+        )?;
+        keep(alloc, &mut self.store, step.op)?;
+        Ok(step.ticked)
     }
 
     /// Takes another node's place in each epoch of a log that is closed in the register, has the other node and lacks this
