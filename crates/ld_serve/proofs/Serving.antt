@@ -1,22 +1,27 @@
 -- A node that serves, and its disk.
-use Rattle.std.proofs.Common.{◌≡◌, ◌≤◌, ℕ, List, Option, ap, ◌∙◌, subst}
+use Rattle.std.proofs.Common.{◌≡◌, ◌≤◌, ℕ, List, Option, sym, ap, ◌∙◌, subst}
 use Rattle.ld_disk.specs.Moments.{LeavesOnly}
 use Rattle.ld_disk.specs.declared.disk.Disk.{Ghosts}
 use Rattle.ld_op.specs.declared.op.Op.{Op}
 use Rattle.ld_op.specs.declared.record.Record.{Record}
 use Rattle.ld_op.specs.Plain.{Plain}
 use Rattle.ld_store.specs.Ops.{StandsFor, IsJournalOf}
+use Rattle.ld_store.specs.Open.{told_plain}
 use Rattle.ld_store.proofs.Holding.{are_placed}
 use Rattle.ld_node.specs.declared.node.Node.{Node}
 use Rattle.ld_node.specs.Changes.{IsPast}
-use Rattle.ld_node.specs.Node.{plain_of, disk_of, place_of, Holds}
-use Rattle.ld_serve.specs.Serving.{State, IsHeld, PastLimit}
+use Rattle.ld_node.specs.Node.{index_of, plain_of, released_of, disk_of, place_of, Holds}
+use Rattle.ld_serve.specs.Serving.{State, state_of, IsHeld, PastLimit}
 
 abbrev pub the_state : Plain → List (ℕ × ℕ) → State
 the_state p r = record { plain = p; released = r }
 
 pub state_is : (p q : Plain) (r t : List (ℕ × ℕ)) → p ≡ q → r ≡ t → the_state p r ≡ the_state q t
 state_is p q r t e f = ap (λ (x : Plain). the_state x r) e ∙ ap (λ (x : List (ℕ × ℕ)). the_state q x) f
+
+-- where nothing changed in memory, and the disk tells the same
+pub state_stays : {D : Type 0} {g : Ghosts D} (old new : Node D g) → g.seen (disk_of new) ≡ g.seen (disk_of old) → index_of new ≡ index_of old → released_of new ≡ released_of old → state_of old ≡ state_of new
+state_stays old new same index released = state_is _ _ _ _ (λ i. told_plain (sym same i) (sym index i)) (sym released)
 
 module _ {D : Type 0} {g : Ghosts D} (seen : D → Option (List ℕ)) (may_leave : D → List ℕ → Type 0) where
   -- what a crash leaves of a node that holds records

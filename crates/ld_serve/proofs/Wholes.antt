@@ -27,11 +27,11 @@ module _ (left : List ℕ → Type 0) (holds holds_now : Contents → Type 0) (i
   served_on None start now turns first last Was opened was course stands = tt
   served_on (Some bytes) start now turns first last Was opened was course stands = record { first = first; opened = opened; last = last; course = course was; stands = stands was }
 
-  pub stopped_on : (seen : Option (List ℕ)) (start : Peers) (now : Option Peers) (stop : Stop) (first : Plain) (Was : Type 0) → IfSome seen (IsOpening holds holds_now id format first) → IfSome seen (λ _. Was)
-      → (Was → (last : State) × IsStopped (after id known) (answers id known) (IsCut id known left stop) start (at_first first) now last)
+  pub stopped_on : (seen : Option (List ℕ)) (start : Peers) (now : Option Peers) (stop : Stop) (first : Plain) (Was : Type 0) (At : State → Type 0) → IfSome seen (IsOpening holds holds_now id format first) → IfSome seen (λ _. Was)
+      → (Was → (last : State) × At last × IsStopped (after id known) (answers id known) (IsCut id known left stop) start (at_first first) now last)
       → IfSome seen (λ bytes. StoppedOn bytes left holds holds_now id known format start now stop)
-  stopped_on None start now stop first Was opened was course = tt
-  stopped_on (Some bytes) start now stop first Was opened was course = record { first = first; opened = opened; last = (course was).0; course = (course was).1 }
+  stopped_on None start now stop first Was At opened was course = tt
+  stopped_on (Some bytes) start now stop first Was At opened was course = record { first = first; opened = opened; last = (course was).0; course = (course was).2 }
 
 module _ (seen : Option (List ℕ)) (left : List ℕ → Type 0) (holds holds_now : Contents → Type 0) (id : ℕ) (known : Known) (format : Bool) where
   pub has_served : (r : Result Unit Stop) (start : Peers) (now : Option Peers) (turns : ℕ) (first : Plain) (last : State) (Was : Type 0) → IfSome seen (IsOpening holds holds_now id format first) → IfSome seen (λ _. Was)
@@ -42,12 +42,12 @@ module _ (seen : Option (List ℕ)) (left : List ℕ → Type 0) (holds holds_no
       record { heard = heard; exact = served_on left holds holds_now id known format seen start now turns first last Was opened was course stands }
   has_served (Err e) start now turns first last Was opened was heard course stands = tt
 
-  pub has_stopped : (r : Result Unit Stop) (start : Peers) (now : Option Peers) (first : Plain) (Was : Type 0) (Other : Stop → Type 0) → IfSome seen (IsOpening holds holds_now id format first) → IfSome seen (λ _. Was)
-      → IfErr r (HeardUntil start now) → (Was → IfErr r (λ stop. (last : State) × IsStopped (after id known) (answers id known) (IsCut id known left stop) start (at_first first) now last))
+  pub has_stopped : (r : Result Unit Stop) (start : Peers) (now : Option Peers) (first : Plain) (Was : Type 0) (At : State → Stop → Type 0) (Other : Stop → Type 0) → IfSome seen (IsOpening holds holds_now id format first) → IfSome seen (λ _. Was)
+      → IfErr r (HeardUntil start now) → (Was → IfErr r (λ stop. (last : State) × At last stop × IsStopped (after id known) (answers id known) (IsCut id known left stop) start (at_first first) now last))
       → IfErr r (λ stop. Other stop ⊎ HasStopped seen left holds holds_now id known format start now stop)
-  has_stopped (Ok x) start now first Was Other opened was heard course = tt
-  has_stopped (Err stop) start now first Was Other opened was heard course =
-      inr (record { heard = heard; exact = stopped_on left holds holds_now id known format seen start now stop first Was opened was course })
+  has_stopped (Ok x) start now first Was At Other opened was heard course = tt
+  has_stopped (Err stop) start now first Was At Other opened was heard course =
+      inr (record { heard = heard; exact = stopped_on left holds holds_now id known format seen start now stop first Was (λ last. At last stop) opened was course })
 
 pub is_serving : (r : Result Unit Stop) (Other : Stop → Type 0) (Held Told : Type 0) → (Told → Held) → IfErr r (IsServingStop Held) → IfErr r (λ stop. Other stop ⊎ IsServingStop Told stop)
 is_serving (Ok x) Other Held Told told s = tt

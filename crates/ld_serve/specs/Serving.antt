@@ -1,5 +1,5 @@
 -- A node that serves: what a message makes of it, and what its disk stands for.
-use Rattle.std.specs.Prelude.{◌≡◌, ⊤, ℕ, List, length, Option}
+use Rattle.std.specs.Prelude.{◌≡◌, ◌⊎◌, ⊤, ℕ, List, length, Option}
 use Rattle.ld_msg.specs.declared.msg.Msg.{Msg}
 use Rattle.ld_journal.specs.Format.{records}
 use Rattle.ld_op.specs.declared.op.Op.{Op}
@@ -15,7 +15,7 @@ use Rattle.ld_disk.specs.declared.disk.Disk.{Ghosts}
 use Rattle.ld_node.specs.declared.node.Node.{Node}
 use Rattle.ld_node.specs.Node.{plain_of, released_of, Holds}
 use Rattle.ld_serve.specs.declared.stop.Stop.{Stop}
-use Rattle.ld_serve.specs.declared.stop.Stop.TheVariants.{Full}
+use Rattle.ld_serve.specs.declared.stop.Stop.TheVariants.{Disk, Full}
 use Rattle.ld_serve.specs.declared.stop.Which.TheVariants.{Store}
 use Rattle.ld_serve.specs.Course.{Cut, Idle, Unread, Refused, Unsent}
 use Rattle.ld_serve.specs.Stops.{IsLinkStop, IsUnread, IsNodeStop, IsUnsent}
@@ -28,6 +28,10 @@ pub record State : Type 0 where
 module _ {D : Type 0} {g : Ghosts D} where
   abbrev pub state_of : Node D g → State
   state_of node = record { plain = plain_of node; released = released_of node }
+
+  -- the node is in the state that serving reached, unless its disk failed
+  abbrev pub IsAt : State → Stop → Node D g → Type 0
+  IsAt last stop node = (stop ≡ Disk) ⊎ (last ≡ state_of node)
 
   -- the node's store holds some records
   abbrev pub IsHeld : (D → Option (List ℕ)) → (D → List ℕ → Type 0) → Node D g → Type 0

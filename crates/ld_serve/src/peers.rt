@@ -6,7 +6,7 @@ ghost use Rattle.ld_node.specs.Node.{id_of, known_of, disk_of, must_load, is_bla
 ghost use Rattle.ld_serve.specs.Course.{IsServed, IsStopped, Goes, WithPeer, BetweenPeers, NoMore};
 ghost use Rattle.ld_msg.specs.declared.msg.Msg.{Msg as Said};
 ghost use Rattle.ld_serve.specs.Heard.{first_given, after_first, Heard, HeardUntil};
-ghost use Rattle.ld_serve.specs.Serving.{State, state_of, after, answers, IsHeld, IsCut};
+ghost use Rattle.ld_serve.specs.Serving.{State, state_of, after, answers, IsAt, IsHeld, IsCut};
 ghost use Rattle.ld_serve.specs.Stops.{IsLinkStop, IsServingStop, LinkCounts, DiskCounts};
 
 use crate::Stop;
@@ -82,7 +82,7 @@ pub fn serve_peers<D: Disk, L: Link>(
 
     // The same holds of the frames taken before it stopped, and where it stopped there is cause to.
     ensures stopped { (start : Peers) → L.peers link.old ≡ Some start → IsHeld D.seen D.may_leave node.old
-        → IfErr result (λ stop. (last : State) × IsStopped (after (id_of node.old) (known_of node.old)) (answers (id_of node.old) (known_of node.old))
+        → IfErr result (λ stop. (last : State) × IsAt last stop node.new × IsStopped (after (id_of node.old) (known_of node.old)) (answers (id_of node.old) (known_of node.old))
         (IsCut (id_of node.old) (known_of node.old) (D.may_leave (disk_of node.new)) stop) start (state_of node.old) (L.peers link.new) last) }
 
     // After the turns the disk stands for the node's plain state.

@@ -6,7 +6,7 @@ ghost use Rattle.ld_register.specs.declared.fault.RegisterFault.{RegisterFault};
 ghost use Rattle.ld_node.specs.Node.{id_of, known_of, disk_of, must_load, is_blank};
 ghost use Rattle.ld_serve.specs.Course.{WithPeer, BetweenPeers, InTurn};
 ghost use Rattle.ld_serve.specs.Heard.{IsTurn};
-ghost use Rattle.ld_serve.specs.Serving.{State, state_of, after, answers, IsHeld, IsCut};
+ghost use Rattle.ld_serve.specs.Serving.{State, state_of, after, answers, IsAt, IsHeld, IsCut};
 ghost use Rattle.ld_serve.specs.Stops.{IsNodeStop, IsServingStop, LinkCounts, DiskCounts};
 
 use crate::answer::answer;
@@ -24,6 +24,7 @@ fn stop_of(fault: NodeFault) -> Stop
     requires register { (refusal : RegisterFault) → fault ≢ NodeFault.Register refusal }
     ensures cause { IsNodeStop ⊥ result }
     ensures damaged { (place : ℕ) → result ≡ Stop.Damaged Which.Store place → fault ≡ NodeFault.Damaged place }
+    ensures disk { fault ≡ NodeFault.Disk → result ≡ Stop.Disk }
     ensures full { result ≡ Stop.Full Which.Store → fault ≡ NodeFault.Full }
     ensures disk_counts { (before : ℕ) (now : ℕ) → (fault ≡ NodeFault.Disk → Rose before now) → (fault ≡ NodeFault.Disk) ⊎ (now ≡ before) → DiskCounts before now result }
     ensures link_counts { (before : ℕ) (now : ℕ) → now ≡ before → LinkCounts before now result }
@@ -62,7 +63,7 @@ pub(crate) fn turn<D: Disk, L: Link>(
         (λ more. MatchBool more
         (WithPeer (after (id_of node.old) (known_of node.old)) (answers (id_of node.old) (known_of node.old)) start s (L.peers link.new) decoder.new.bytes (state_of node.new) (turns + 1))
         (BetweenPeers (after (id_of node.old) (known_of node.old)) (answers (id_of node.old) (known_of node.old)) start s (L.peers link.new) (state_of node.new) (turns + 1)))
-        (λ stop. (last : State) × InTurn (after (id_of node.old) (known_of node.old)) (answers (id_of node.old) (known_of node.old))
+        (λ stop. (last : State) × IsAt last stop node.new × InTurn (after (id_of node.old) (known_of node.old)) (answers (id_of node.old) (known_of node.old))
         (IsCut (id_of node.old) (known_of node.old) (D.may_leave (disk_of node.new)) stop) start s (L.peers link.new) last) }
     ensures holds { IsHeld D.seen D.may_leave node.old → OnOk result (IsHeld D.seen D.may_leave node.new) }
     ensures stops { IfErr result (IsServingStop (IsHeld D.seen D.may_leave node.old)) }

@@ -3,7 +3,7 @@ use Rattle.std.proofs.lemmas.Result.{err_from_is_err_and}
 use Rattle.ld_node.specs.Known.{Known}
 use Rattle.ld_node.specs.Node.{id_of, known_of, disk_of, plain_of}
 use Rattle.ld_serve.specs.Course.{Goes, WithPeer, InTurn}
-use Rattle.ld_serve.specs.Serving.{State, after, answers, state_of, IsCut}
+use Rattle.ld_serve.specs.Serving.{State, after, answers, state_of, IsAt, IsCut}
 use Rattle.ld_serve.proofs.Courses.{begun}
 use Rattle.ld_serve.proofs.Hearing.{none_yet, came, one_more, all_heard, none_left, stopped_between, stopped_within}
 use Rattle.ld_serve.proofs.Serving.{stand}
@@ -32,6 +32,7 @@ returns-in_err-meet-clause-stopped g c start is held =
     let node = c.turns.node in
     rw (p.1, p.2) (
       state_of node,
+      inr refl,
       inl (record {
         turns = c.turns.counter;
         between = c.in_err-meet.ensures.met (id_of old) (known_of old) start (state_of old) (state_of node) c.turns.counter (c.turns.invariant.goes start is held);
@@ -69,10 +70,10 @@ returns-in_err-is_there-clause-stopped g c start is held =
     let there = rw c.if-not-branch.false at met in
     let left = g.D.Disk.may_leave (disk_of new) in
     let cut : (i : ℕ) (known : Known) → Type 0 = λ i known. WithPeer (after i known) (answers i known) start s (g.L.Link.peers c.meet.new.link) c.meet.new.decoder.bytes (state_of node) c.turns.counter
-    → (last : State) × InTurn (after i known) (answers i known) (IsCut i known left stop) start s (g.L.Link.peers c.turn.new.link) last in
+    → (last : State) × IsAt last stop new × InTurn (after i known) (answers i known) (IsCut i known left stop) start s (g.L.Link.peers c.turn.new.link) last in
     let turned = subst (λ i. cut i (known_of old)) c.turns.invariant.id (subst (λ known. cut (id_of node) known) c.turns.invariant.known
     (c.in_err-is_there.ensures.turned start s c.turns.counter (c.turns.invariant.holds held))) there in
-    rw (p.1, p.2) (turned.0, inr turned.1)
+    rw (p.1, p.2) (turned.0, turned.1, inr turned.2)
 
 pub returns-in_err-is_there-clause-heard_until : goal.returns-in_err-is_there-clause-heard_until
 returns-in_err-is_there-clause-heard_until g c start is =

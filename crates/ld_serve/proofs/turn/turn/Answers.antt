@@ -5,7 +5,7 @@ use Rattle.ld_wire.specs.Streams.{AreMessages}
 use Rattle.ld_node.specs.Node.{plain_of, disk_of}
 use Rattle.ld_serve.specs.Stops.{LinkCounts}
 use Rattle.ld_serve.specs.Serving.{state_of}
-use Rattle.ld_serve.proofs.Serving.{state_is, stand, past_limit, left_now}
+use Rattle.ld_serve.proofs.Serving.{state_is, state_stays, stand, past_limit, left_now}
 use Rattle.ld_serve.proofs.Stops.{unread_serving, unread_counts, node_serving, node_held, unsent_serving, unsent_counts}
 use Rattle.ld_serve.proofs.Courses.{unheard, ended_turn, refused, cut_short, framed_turn}
 use Rattle.ld_serve.proofs.Frames.{are_messages}
@@ -57,7 +57,7 @@ pub returns-in_err-message-clause-turned : goal.returns-in_err-message-clause-tu
 returns-in_err-message-clause-turned g c start s turns holds w =
     let p = err_from_is_err_and c.from_residual.result c.from_residual.ensures.1 in
     let node = c.args.node.now in
-    rw (p.1, p.2) (state_of node, unheard _ _ _ start s _ _ _ _ _ _ turns (λ held unread. (unread, stand g.D.Disk.seen g.D.Disk.may_leave node (plain_of node) refl holds)) w c.in_err-message.ensures.heard refl)
+    rw (p.1, p.2) (state_of node, inr refl, unheard _ _ _ start s _ _ _ _ _ _ turns (λ held unread. (unread, stand g.D.Disk.seen g.D.Disk.may_leave node (plain_of node) refl holds)) w c.in_err-message.ensures.heard refl)
 
 pub returns-in_default-clause-turned : goal.returns-in_default-clause-turned
 returns-in_default-clause-turned g c start s turns holds w =
@@ -81,6 +81,7 @@ returns-in-Err-clause-turned g c start s turns holds w =
     let old = c.args.node.now in
     let new = c.on_msg.new.self in (
       state_of old,
+      ⊎_elim (λ e. inl (c.stop_of.ensures.disk cc)) (λ same. inr (state_stays old new same.bytes c.in-Err.ensures.refused.0 c.in-Err.ensures.refused.1)) c.in-Err.ensures.stays,
       refused _ _ _ start s _ _ _ c.in-Some.message c.next_frame.new.decoder _ _ turns (
         node_held ⊤ _ c.stop_of.ensures.cause (λ place is t. c.in-Err.ensures.damaged holds.0 place holds.1 (ap Err (c.stop_of.ensures.damaged place is))),
         left_now g.D.Disk.may_leave g.D.Disk.moment g.D.Disk.left_since g.met.D.Disk.counts_now (disk_of old) (disk_of new) _ (c.in-Err.ensures.any_moment holds.0 holds.1),
@@ -105,6 +106,7 @@ returns-in_err-answer-clause-turned g c start s turns holds w =
     let kept = c.in-Ok.ensures.kept holds.0 holds.1 in
     rw (p.1, p.2) (
       state_of new,
+      inr refl,
       cut_short _ _ _ start s _ _ _ _ c.in-Some.message c.next_frame.new.decoder c.as_slice.result.now _ _ turns
           (c.in_err-answer.ensures.cause, stand g.D.Disk.seen g.D.Disk.may_leave new _ (sym kept) (_, c.in-Ok.ensures.acknowledged holds.0 holds.1))
           w (rw c.in-Some.is at c.in_ok-message.ensures.heard) (rw c.in-Some.is at c.in_ok-message.ensures.message)

@@ -3,7 +3,7 @@ use Rattle.std.specs.Prelude.{IfErr}
 use Rattle.ld_node.specs.Known.{Known, known_in}
 use Rattle.ld_node.specs.Node.{id_of, known_of, plain_of, disk_of}
 use Rattle.ld_serve.specs.Course.{IsServed, IsStopped}
-use Rattle.ld_serve.specs.Serving.{State, state_of, after, answers, IsHeld, IsCut}
+use Rattle.ld_serve.specs.Serving.{State, state_of, after, answers, IsAt, IsHeld, IsCut}
 use Rattle.ld_serve.proofs.Serving.{the_state, stand}
 use Rattle.ld_serve.proofs.Wholes.{told_of, has_served, has_stopped, is_serving, register_counts, stands_then}
 use Rattle.ld_serve.proofs.whole.serve_on.Goals as goal
@@ -40,8 +40,8 @@ returns-clause-stopped g c start is =
     let given = known_in c.args.config.now in
     let left = g.D.Disk.may_leave (disk_of new) in
     let held = IsHeld g.D.Disk.seen g.D.Disk.may_leave node in
-    let course : (i : ℕ) (known : Known) (released : List (ℕ × ℕ)) → Type 0 = λ i known released. held → IfErr r (λ stop. (last : State) × IsStopped (after i known) (answers i known) (IsCut i known left stop) start (the_state (plain_of node) released) peers last) in
-    rw c.into_disk.ensures (has_stopped (g.D.Disk.seen c.args.disk) left (g.G.Register.holds c.args.reg.now) _ c.args.id given c.args.format r start peers (plain_of node) held _ c.in-Ok.ensures.opens c.in-Ok.ensures.holds
+    let course : (i : ℕ) (known : Known) (released : List (ℕ × ℕ)) → Type 0 = λ i known released. held → IfErr r (λ stop. (last : State) × IsAt last stop new × IsStopped (after i known) (answers i known) (IsCut i known left stop) start (the_state (plain_of node) released) peers last) in
+    rw c.into_disk.ensures (has_stopped (g.D.Disk.seen c.args.disk) left (g.G.Register.holds c.args.reg.now) _ c.args.id given c.args.format r start peers (plain_of node) held (λ last stop. IsAt last stop new) _ c.in-Ok.ensures.opens c.in-Ok.ensures.holds
     (c.serve_peers-served.ensures.heard_until start is)
     (subst (λ i. course i given []) opened.0 (subst (λ known. course (id_of node) known []) opened.1 (subst (λ released. course (id_of node) (known_of node) released) opened.2 (c.serve_peers-served.ensures.stopped start is)))))
 
