@@ -1,0 +1,5 @@
+pub mod Stays
+pub mod Left
+pub mod Slots
+pub mod Ops
+pub mod Lies

@@ -1,0 +1,21 @@
+//! A journal in segments: where each lies, what a crash leaves of its writes, and which one counts.
+#![tactic(auto)]
+
+mod law;
+mod read;
+mod record;
+mod safe;
+mod slots;
+mod switch;
+
+pub use law::{
+    heads_are_there_or_not, records_are_there_or_not, segments_stay, slots_are_read,
+    slots_tell_the_segment,
+};
+pub use read::read_slot;
+pub use record::append_record;
+pub use slots::{Slot, current, says, second_counts};
+pub use switch::{switch_first, switch_later};
+
+#[cfg(test)]
+mod tests;

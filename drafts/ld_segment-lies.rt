@@ -1,0 +1,37 @@
+// What the bytes of a disk in segments stand for.
+ghost use Rattle.std.specs.Prelude.{◌≡◌, ◌⊎◌, ◌≤◌, ◌+◌, List, ℕ, Option};
+ghost use Rattle.ld_disk.specs.Record.{State};
+ghost use Rattle.ld_disk.specs.Plain.{Plain as DiskPlain, IsTold, after_calls, all_made};
+ghost use Rattle.ld_disk.specs.declared.disk.Picture.{Picture};
+ghost use Rattle.ld_journal.specs.Pictures.{IsSafe, crashed_by};
+ghost use Rattle.ld_op.specs.declared.op.Op.{Op as Kind};
+ghost use Rattle.ld_op.specs.declared.version.Version.TheVariants.{Second};
+ghost use Rattle.ld_op.specs.Plain.{Plain as Whole, apply, op_length};
+ghost use Rattle.ld_op.specs.Cells.{read_plain};
+ghost use Rattle.ld_layout.specs.Layout.{Layout, kept_in};
+ghost use Rattle.ld_segment.specs.Lies.{Slots, LiesAs, IsSound, StandsFor, MayKeep, op_row, slots_with, switching, layout_left, plain_left, written};
+
+/// Bytes lie in one way at most, so they stand for one plain state at most.
+pub fn bytes_stand_for_one_state()
+    ensures { (p q : Whole) (bytes : List ℕ) → StandsFor p bytes → StandsFor q bytes → p ≡ q }
+{}
+
+/// Once all calls of an op were made, the bytes lie as the layout with it says, and stand for the plain state with it.
+pub fn kept_ops_are_durable()
+    ensures lies { (y : Layout) (z : Slots) (o : Kind) (bytes : List ℕ) (s : State) → LiesAs (written y) y z bytes → IsSound y → MayKeep y o → IsSafe bytes s
+        → LiesAs Second (kept_in y o) (slots_with y z (op_length o)) (all_made (op_row y z o) s).bytes × IsSafe (all_made (op_row y z o) s).bytes (all_made (op_row y z o) s) }
+    ensures sound { (y : Layout) (o : Kind) → IsSound y → MayKeep y o → IsSound (kept_in y o) }
+    ensures plain { (y : Layout) (z : Slots) (o : Kind) (bytes : List ℕ) (s : State) → LiesAs (written y) y z bytes → IsSound y → MayKeep y o → IsSafe bytes s
+        → read_plain (all_made (op_row y z o) s).bytes (kept_in y o).index ≡ apply (read_plain bytes y.index) o }
+{}
+
+/// Of a fault in one of an op's writing calls, that call and the pictures of the crashes since then decide what a load
+/// finds: the op, or a switch alone, or neither.
+pub fn picture_decides_the_layout()
+    ensures lies { (y : Layout) (z : Slots) (o : Kind) (bytes : List ℕ) (call : ℕ) (how : Option Picture) (later : List Picture) (p : DiskPlain)
+        → LiesAs (written y) y z bytes → IsSound y → MayKeep y o → IsSafe bytes p.state → IsTold call how p → call ≤ switching y o + 4
+        → (w : Slots) × LiesAs (written (layout_left y o call how later)) (layout_left y o call how later) w (crashed_by later (after_calls (op_row y z o) p).state).bytes }
+    ensures plain { (y : Layout) (z : Slots) (o : Kind) (bytes : List ℕ) (call : ℕ) (how : Option Picture) (later : List Picture) (p : DiskPlain)
+        → LiesAs (written y) y z bytes → IsSound y → MayKeep y o → IsSafe bytes p.state → IsTold call how p → call ≤ switching y o + 4
+        → read_plain (crashed_by later (after_calls (op_row y z o) p).state).bytes (layout_left y o call how later).index ≡ plain_left (read_plain bytes y.index) y o call how later }
+{}
