@@ -1,5 +1,5 @@
 -- A later switch leaves the slot that counted, or the new one, whatever a crash does to it.
-use Rattle.std.proofs.Common.{◌≡◌, ◌⊎◌, inl, inr, ⊎_elim, ℕ, ◌+◌, ◌≤◌, ◌<◌, min, List, [], ◌∷◌, length, get_or, subst, ap, ◌∙◌, arith, length-append}
+use Rattle.std.proofs.Common.{◌≡◌, ◌≢◌, ◌⊎◌, inl, inr, ⊎_elim, ℕ, ◌+◌, ◌≤◌, ◌<◌, min, List, [], ◌∷◌, length, get_or, subst, ap, ◌∙◌, arith, length-append}
 use Rattle.std.proofs.lemmas.Bool.{cases_eq}
 use Rattle.byteorder.specs.Endian.{big_bytes}
 use Rattle.byteorder.specs.Numbers.{length-bytes_high_first}
@@ -10,7 +10,7 @@ use Rattle.ld_segment.specs.Slots.{says_bytes, slot_length, IsSlot, IsShut, IsLe
 use Rattle.ld_segment.proofs.Ranges.{stays_at, stands_on, torn_far, written_far, torn_round, written_round, stands_written, byte_at}
 
 -- a slot that lies before a range or behind it
-slot_stays : (from to at gate number place : ℕ) (old new : List ℕ) → StaysOutside from to old new → (at + slot_length ≤ from) ⊎ (to ≤ at) → IsSlot at gate number place old → IsSlot at gate number place new
+pub slot_stays : (from to at gate number place : ℕ) (old new : List ℕ) → StaysOutside from to old new → (at + slot_length ≤ from) ⊎ (to ≤ at) → IsSlot at gate number place old → IsSlot at gate number place new
 slot_stays from to at gate number place old new stays apart slot = record {
   gate_there = stands_on from to at (gate ∷ []) old new stays (⊎_elim (λ before. inl (omega (arith, before))) (λ behind. inr behind) apart) slot.gate_there;
   says_there = stands_on from to (at + 1) (says_bytes number place) old new stays (⊎_elim (λ before. inl (omega (arith, before))) (λ behind. inr (omega (arith, behind))) apart) slot.says_there;
@@ -20,8 +20,17 @@ slot_stays from to at gate number place old new stays apart slot = record {
 says_stay : (at to number place : ℕ) (old new : List ℕ) → StaysOutside at to old new → to ≤ at + 1 → StandsAt (at + 1) (says_bytes number place) old → StandsAt (at + 1) (says_bytes number place) new
 says_stay at to number place old new stays short there = stands_on at to (at + 1) (says_bytes number place) old new stays (inr short) there
 
-shut_stays : (from to at : ℕ) (old new : List ℕ) → StaysOutside from to old new → (at + 1 ≤ from) ⊎ (to ≤ at) → IsShut at old → IsShut at new
+pub shut_stays : (from to at : ℕ) (old new : List ℕ) → StaysOutside from to old new → (at + 1 ≤ from) ⊎ (to ≤ at) → IsShut at old → IsShut at new
 shut_stays from to at old new stays apart shut = record { gate = shut.gate; there = stands_on from to at (shut.gate ∷ []) old new stays apart shut.there; shut = shut.shut }
+
+pub lesser_stays : (from to at than : ℕ) (old new : List ℕ) → StaysOutside from to old new → (at + slot_length ≤ from) ⊎ (to ≤ at) → IsLesser at than old → IsLesser at than new
+lesser_stays from to at than old new stays apart less = record {
+  gate = less.gate;
+  number = less.number;
+  place = less.place;
+  slot = slot_stays from to at less.gate less.number less.place old new stays apart less.slot;
+  lesser = less.lesser;
+}
 
 module _ (this other number next place at : ℕ) (w : Switching) (old : List ℕ) (tells : Tells this other number at old) (is : IsNextSwitch this other number next place w old) where
   abbrev with_base : List ℕ
@@ -76,7 +85,7 @@ module _ (this other number next place at : ℕ) (w : Switching) (old : List ℕ
 
   -- ---- the Base and the slot's gate ----
 
-  both_torn : (c : List ℕ) → TornTwice w.base_at (length w.base) w.slot_at (length w.shut) old c → LeavesOld c
+  pub both_torn : (c : List ℕ) → TornTwice w.base_at (length w.base) w.slot_at (length w.shut) old c → LeavesOld c
   both_torn c torn =
       let first = torn_far w.base_at (length w.base) old torn.between torn.first in
       let second = torn_round w.slot_at (length w.shut) torn.between c (omega (arith, is.slot_is, is.inside.1, torn.first.no_shorter)) torn.second in
@@ -121,7 +130,7 @@ module _ (this other number next place at : ℕ) (w : Switching) (old : List ℕ
 
   -- ---- what the slot says ----
 
-  says_torn : (c : List ℕ) → Torn (w.slot_at + 1) (length w.says) (based w old) c → LeavesOld c
+  pub says_torn : (c : List ℕ) → Torn (w.slot_at + 1) (length w.says) (based w old) c → LeavesOld c
   says_torn c torn =
       let stays = torn_round (w.slot_at + 1) (length w.says) (based w old) c (omega (arith, is.slot_is, is.inside.1, long_based)) torn in
       record {
@@ -165,6 +174,28 @@ module _ (this other number next place at : ℕ) (w : Switching) (old : List ℕ
         gate_there = byte_at other c (omega (arith, is.inside.1, long_based, named_stays.no_shorter, torn.no_shorter));
         says_there = says_stay other (w.slot_at + 1) next place (named w old) c (subst (λ k. StaysOutside k (w.slot_at + 1) (named w old) c) is.slot_is stays) (omega (arith, is.slot_is)) says_named;
       }) (base_on w.slot_at (w.slot_at + 1) (named w old) c stays (omega arith) base_named)
+
+  -- behind a gate that isn't open the old one counts
+  pub not_opened : (c : List ℕ) → Torn w.slot_at 1 (named w old) c → get_or c other 0 ≢ 1 → LeavesOld c
+  not_opened c torn shut =
+      let stays = torn_round w.slot_at 1 (named w old) c (omega (arith, is.slot_is, is.inside.1, long_based, named_stays.no_shorter)) torn in
+      record {
+        slot = this_on w.slot_at (w.slot_at + 1) (named w old) c stays (omega arith) (omega arith) (omega arith) this_named;
+        rest = inl (record { gate = get_or c other 0; there = byte_at other c (omega (arith, is.inside.1, long_based, named_stays.no_shorter, torn.no_shorter)); shut = shut });
+      }
+
+  pub named_long : length old ≤ length (named w old)
+  named_long = omega (arith, long_based, named_stays.no_shorter)
+
+  -- no crash makes the disk shorter
+  pub torn_longer : (c : List ℕ) → IsSwitchTorn w old c → length old ≤ length c
+  torn_longer c torn = ⊎_elim
+      (λ first. omega (arith, first.first.no_shorter, first.second.no_shorter))
+      (λ later. ⊎_elim (λ second. omega (arith, second.no_shorter, long_based)) (λ third. omega (arith, third.no_shorter, long_based, named_stays.no_shorter)) later)
+      torn
+
+  pub switched_longer : length old ≤ length (switched w old)
+  switched_longer = let stays = written_round w.slot_at (1 ∷ []) (named w old) (omega (arith, is.slot_is, is.inside.1, named_long)) in omega (arith, stays.no_shorter, named_long)
 
   -- a crash leaves the one or the other
   pub one_counts : (c : List ℕ) → IsSwitchTorn w old c → LeavesOld c ⊎ LeavesNew c

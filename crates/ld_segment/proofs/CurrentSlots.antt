@@ -1,5 +1,5 @@
 -- Of two slots that were read the one that counts is the one that the bytes tell.
-use Rattle.std.proofs.Common.{◌≡◌, ◌≢◌, ◌⊎◌, inl, inr, refl, ⊎_elim, ℕ, ◌+◌, ◌<◌, ◌≤◌, ◌^◌, ◌==◌, nat_lt, not, ◌||◌, ◌&&◌, Bool, true, false, List, [], ◌∷◌, ◌++◌, length, take, drop, Option, None, Some, sym, ◌∙◌, ap, subst, arith, length-append, append-nil, if◌then◌else◌}
+use Rattle.std.proofs.Common.{◌≡◌, ◌≢◌, ◌⊎◌, inl, inr, refl, ⊎_elim, ℕ, ◌+◌, ◌<◌, ◌^◌, ◌==◌, nat_lt, not, ◌||◌, ◌&&◌, Bool, true, false, List, [], ◌∷◌, length, take, drop, None, Some, sym, ◌∙◌, ap, arith, length-append, append-nil, if◌then◌else◌}
 use Rattle.std.proofs.lemmas.Bool.{lt-ltb}
 use Rattle.std.proofs.lemmas.Bool.Decides.{nat_tests}
 use Rattle.std.proofs.lemmas.List.{drop_at}
@@ -7,24 +7,24 @@ use Rattle.byteorder.specs.Endian.{big_bytes, big_from}
 use Rattle.byteorder.specs.Numbers.{big_number-reads_back, length-bytes_high_first}
 use Rattle.ld_segment.specs.declared.slots.Slot.{Slot}
 use Rattle.ld_segment.specs.Stays.{StandsAt}
-use Rattle.ld_segment.specs.Slots.{says_bytes, second_counts, current, IsSlot, IsSlotAt, IsShut, IsLesser, Tells, IsTold}
+use Rattle.ld_segment.specs.Slots.{says_bytes, current, IsSlotAt, Tells, IsTold}
 
 stands_same : (at : ℕ) (p q bytes : List ℕ) → length p ≡ length q → StandsAt at p bytes → StandsAt at q bytes → p ≡ q
 stands_same at p q bytes long first second = sym first ∙ ap (λ (k : ℕ). take k (drop at bytes)) long ∙ second
 
-gate_same : (at g h : ℕ) (bytes : List ℕ) → StandsAt at (g ∷ []) bytes → StandsAt at (h ∷ []) bytes → g ≡ h
+pub gate_same : (at g h : ℕ) (bytes : List ℕ) → StandsAt at (g ∷ []) bytes → StandsAt at (h ∷ []) bytes → g ≡ h
 gate_same at g h bytes first second = let both : g ∷ [] ≡ h ∷ [] = stands_same at (g ∷ []) (h ∷ []) bytes refl first second in cc both
 
-says_long : (n p : ℕ) → length (says_bytes n p) ≡ 16
+pub says_long : (n p : ℕ) → length (says_bytes n p) ≡ 16
 says_long n p = omega (arith, length-append (big_bytes 8 n) (big_bytes 8 p), length-bytes_high_first 8 n, length-bytes_high_first 8 p)
 
-says_same : (at n p m q : ℕ) (bytes : List ℕ) → StandsAt at (says_bytes n p) bytes → StandsAt at (says_bytes m q) bytes → says_bytes n p ≡ says_bytes m q
+pub says_same : (at n p m q : ℕ) (bytes : List ℕ) → StandsAt at (says_bytes n p) bytes → StandsAt at (says_bytes m q) bytes → says_bytes n p ≡ says_bytes m q
 says_same at n p m q bytes first second = stands_same at (says_bytes n p) (says_bytes m q) bytes (says_long n p ∙ sym (says_long m q)) first second
 
-number_of : (n p m q : ℕ) → n < 256 ^ 8 → m < 256 ^ 8 → says_bytes n p ≡ says_bytes m q → n ≡ m
+pub number_of : (n p m q : ℕ) → n < 256 ^ 8 → m < 256 ^ 8 → says_bytes n p ≡ says_bytes m q → n ≡ m
 number_of n p m q fits_n fits_m same = sym (big_number-reads_back 8 n (big_bytes 8 p) fits_n) ∙ ap (λ (l : List ℕ). big_from 0 8 l) same ∙ big_number-reads_back 8 m (big_bytes 8 q) fits_m
 
-place_of : (n p m q : ℕ) → p < 256 ^ 8 → q < 256 ^ 8 → says_bytes n p ≡ says_bytes m q → p ≡ q
+pub place_of : (n p m q : ℕ) → p < 256 ^ 8 → q < 256 ^ 8 → says_bytes n p ≡ says_bytes m q → p ≡ q
 place_of n p m q fits_p fits_q same =
     let behind : big_bytes 8 p ≡ big_bytes 8 q =
     sym (drop_at (big_bytes 8 n) (big_bytes 8 p) 8 (length-bytes_high_first 8 n)) ∙ ap (λ (l : List ℕ). drop 8 l) same ∙ drop_at (big_bytes 8 m) (big_bytes 8 q) 8 (length-bytes_high_first 8 m) in

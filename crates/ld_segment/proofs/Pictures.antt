@@ -1,12 +1,11 @@
 -- A fault in a row of calls, by groups of calls that end in a sync.
-use Rattle.std.proofs.Common.{◌≡◌, ℕ, zero, suc, ◌-◌, ◌≤◌, ◌==◌, Option, None, Some, Bool, false, refl, List, [], ◌∷◌, ◌++◌, sym, ap, subst, ◌∙◌, arith}
+use Rattle.std.proofs.Common.{◌≡◌, ℕ, zero, suc, ◌-◌, ◌≤◌, ◌==◌, Option, None, Some, false, refl, List, [], ◌∷◌, ◌++◌, ◌∙◌, arith}
 use Rattle.std.proofs.lemmas.Bool.Decides.{nat_tests}
 use Rattle.ld_disk.specs.Images.{overwrite}
 use Rattle.ld_disk.specs.Record.{State, Write, state_of, made, painted}
-use Rattle.ld_disk.specs.Plain.{Plain, Call, IsTold, fault_of, after_calls, called}
+use Rattle.ld_disk.specs.Plain.{Plain, Call, fault_of, after_calls, called}
 use Rattle.ld_disk.specs.declared.disk.Picture.{Picture}
-use Rattle.ld_disk.specs.declared.disk.Picture.TheVariants as pictures
-use Rattle.ld_journal.specs.Pictures.{IsSafe, crashed_by, seen_by}
+use Rattle.ld_journal.specs.Pictures.{crashed_by, seen_by}
 use Rattle.ld_segment.specs.Left.{safe_calls, both_calls}
 
 -- what is read after crashes: the last one decides

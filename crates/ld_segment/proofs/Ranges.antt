@@ -1,12 +1,13 @@
 -- What stands outside the ranges that are written stays.
-use Rattle.std.proofs.Common.{◌≡◌, ◌⊎◌, refl, ⊎_elim, ℕ, zero, suc, ◌+◌, ◌-◌, ◌≤◌, ◌<◌, min, List, [], ◌∷◌, ◌++◌, length, get_or, take, drop, replicate, sym, ◌∙◌, ap, subst, arith, length-append, append_assoc}
-use Rattle.std.proofs.lemmas.List.{take-take, drop-drop, take_at, drop_at, length-take}
+use Rattle.std.proofs.Common.{◌≡◌, ◌⊎◌, refl, ⊎_elim, ℕ, zero, suc, ◌+◌, ◌-◌, ◌≤◌, ◌<◌, min, List, [], ◌∷◌, ◌++◌, length, get_or, take, drop, replicate, sym, ◌∙◌, ap, subst, arith, length-append, append_assoc, take-append-drop}
+use Rattle.std.proofs.lemmas.List.{take-take, drop-drop, take_at, drop_at, length-take, length-take-le}
 use Rattle.std.proofs.Math.Seq.{drop-cons, take-nil}
 use Rattle.ld_disk.specs.Images.{overwrite, Torn}
 use Rattle.ld_disk.proofs.Overwrites.{torn_whole, length-zeros}
+use Rattle.ld_disk.proofs.Writes.{overwrite_at, torn_byte}
 use Rattle.ld_segment.specs.Stays.{StaysOutside, IsSameAt, StandsAt}
 
-drop_take : (at n : ℕ) (l : List ℕ) → drop at (take (at + n) l) ≡ take n (drop at l)
+pub drop_take : (at n : ℕ) (l : List ℕ) → drop at (take (at + n) l) ≡ take n (drop at l)
 drop_take zero n l = let none : 0 + n ≡ n = omega arith in ap (λ (k : ℕ). take k l) none
 drop_take (suc at) n [] = ap (λ (l : List ℕ). drop (suc at) l) (take-nil (suc at + n)) ∙ sym (take-nil n)
 drop_take (suc at) n (x ∷ l) = let one : suc at + n ≡ suc (at + n) = omega arith in ap (λ (k : ℕ). drop (suc at) (take k (x ∷ l))) one ∙ drop_take at n l
@@ -71,3 +72,11 @@ stands_written at piece old =
 -- the one byte at a place
 pub byte_at : (at : ℕ) (bytes : List ℕ) → at < length bytes → StandsAt at (get_or bytes at 0 ∷ []) bytes
 byte_at at bytes inside = ap (λ (l : List ℕ). take 1 l) (drop-cons bytes at 0 inside)
+
+-- a write of one byte that is torn is a write of the byte that is there then
+pub torn_one : (at : ℕ) (old c : List ℕ) → at < length old → Torn at 1 old c → c ≡ overwrite at (get_or c at 0 ∷ []) old
+torn_one at old c inside torn =
+    let long : at ≡ length (take at old) = sym (length-take-le at old (omega arith)) in
+    let split : old ≡ take at old ++ get_or old at 0 ∷ drop (suc at) old = sym (take-append-drop at old) ∙ ap (λ (l : List ℕ). take at old ++ l) (drop-cons old at 0 inside) in
+    torn_byte (take at old) (drop (suc at) old) (get_or old at 0) at long c (subst (λ l. Torn at 1 l c) split torn)
+    ∙ sym (ap (λ (l : List ℕ). overwrite at (get_or c at 0 ∷ []) l) split ∙ overwrite_at (take at old) (get_or old at 0 ∷ drop (suc at) old) at long (get_or c at 0 ∷ []))

@@ -1,5 +1,5 @@
 -- Rows of records at places of a disk: what writes elsewhere leave of them, and what a record more does.
-use Rattle.std.proofs.Common.{◌≡◌, ◌⊎◌, min, inl, inr, ⊎_elim, ℕ, ◌+◌, ◌≤◌, ◌<◌, ◌^◌, List, [], ◌∷◌, ◌++◌, length, get_or, take, drop, sym, ◌∙◌, ap, subst, arith, length-append, append_assoc, take-append-drop}
+use Rattle.std.proofs.Common.{◌≡◌, ◌≢◌, ◌⊎◌, min, inl, inr, ⊎_elim, ℕ, ◌+◌, ◌≤◌, ◌<◌, ◌^◌, List, [], ◌∷◌, ◌++◌, length, get_or, take, drop, sym, ◌∙◌, ap, subst, arith, length-append, append_assoc, take-append-drop}
 use Rattle.std.proofs.lemmas.List.{take_at, drop_at, length-take-le}
 use Rattle.ld_disk.specs.Images.{overwrite, Torn}
 use Rattle.ld_disk.proofs.Writes.{overwrite_at, torn_byte}
@@ -70,13 +70,19 @@ module _ (at : ℕ) (bodies : List (List ℕ)) (body old : List ℕ) (inside : a
       (written_round (gate_at + 1) (behind body) old old_long)
 
   -- what is staged doesn't count yet
-  early : (c : List ℕ) → Torn (gate_at + 1) (length (behind body)) old c → IsJournal bodies (drop at c)
+  pub early : (c : List ℕ) → Torn (gate_at + 1) (length (behind body)) old c → IsJournal bodies (drop at c)
   early c torn = row_stays (gate_at + 1) (gate_at + 1 + length (behind body)) at bodies old c (torn_round (gate_at + 1) (length (behind body)) old c old_long torn) (inl (omega arith)) journal
 
   late : (c : List ℕ) → Torn gate_at 1 (staged gate_at body old) c → IsWithOrWithout bodies body (drop at c)
   late c torn =
       let one : c ≡ front ++ get_or c gate_at 0 ∷ (behind body ++ rest) = torn_byte front (behind body ++ rest) journal.gate gate_at front_long c (subst (λ l. Torn gate_at 1 l c) staged_is torn) in
       gate_decides bodies body rest (drop at c) (get_or c gate_at 0) journal.fits short (behind_front c (get_or c gate_at 0) (behind body ++ rest) one)
+
+  -- behind a gate that isn't open, either
+  pub shut_late : (c : List ℕ) → Torn gate_at 1 (staged gate_at body old) c → get_or c gate_at 0 ≢ 1 → IsJournal bodies (drop at c)
+  shut_late c torn shut =
+      let one : c ≡ front ++ get_or c gate_at 0 ∷ (behind body ++ rest) = torn_byte front (behind body ++ rest) journal.gate gate_at front_long c (subst (λ l. Torn gate_at 1 l c) staged_is torn) in
+      record { gate = get_or c gate_at 0; after = behind body ++ rest; bytes_are = behind_front c (get_or c gate_at 0) (behind body ++ rest) one; shut = shut; fits = journal.fits }
 
   -- the row has the record or doesn't
   pub there_or_not : (c : List ℕ) → IsRecordTorn gate_at body old c → IsWithOrWithout bodies body (drop at c)

@@ -1,5 +1,6 @@
 -- How the bytes of a disk lie: segments of a journal, and what they stand for.
-use Rattle.std.specs.Prelude.{◌≡◌, ◌≢◌, ◌⊎◌, ◌<◌, ◌≤◌, ◌+◌, ◌^◌, ℕ, List, [], ◌∷◌, ◌++◌, length, drop, Option, Some, None, Bool, true, false, is_some, is_none, ◌&&◌, ◌||◌, not, ◌==◌, nat_le, if◌then◌else◌}
+use Rattle.std.specs.Prelude.{◌≡◌, ◌⊎◌, ◌<◌, ◌≤◌, ◌+◌, ◌^◌, ℕ, List, [], ◌∷◌, ◌++◌, length, drop, Option, Some, None, Bool, true, false, is_some, is_none, ◌&&◌, ◌||◌, not, ◌==◌, nat_le, if◌then◌else◌}
+use Rattle.ld_disk.specs.Images.{overwrite}
 use Rattle.ld_disk.specs.Plain.{Call}
 use Rattle.ld_disk.specs.declared.disk.Picture.{Picture}
 use Rattle.ld_journal.specs.Format.{framed, IsJournal, append_calls}
@@ -8,20 +9,19 @@ use Rattle.ld_msg.specs.Register.{record_length, journal_limit}
 use Rattle.ld_op.specs.declared.op.Op.{Op}
 use Rattle.ld_op.specs.declared.record.Record.{Record}
 use Rattle.ld_op.specs.declared.record.Record.TheVariants.{Mark}
-use Rattle.ld_msg.specs.declared.msg.Summary.{Summary}
 use Rattle.ld_op.specs.declared.version.Version.{Version}
 use Rattle.ld_op.specs.declared.version.Version.TheVariants.{Blank, First, Second}
-use Rattle.ld_op.specs.Plain.{Plain, Log, unformatted, apply, op_length}
+use Rattle.ld_op.specs.Plain.{Plain, unformatted, apply, op_length}
 use Rattle.ld_op.specs.Records.{body_length, is_format, is_first}
 use Rattle.ld_op.specs.Bounds.{IsOp}
 use Rattle.ld_op.specs.Bytes.{op_bytes, record_bytes}
-use Rattle.ld_op.specs.Cells.{read_plain, IsOrdered}
-use Rattle.ld_table.specs.Table.{find, Ordered}
-use Rattle.ld_node_bounds.specs.States.{last_carried, IsPlain}
+use Rattle.ld_op.specs.Cells.{read_plain}
+use Rattle.ld_table.specs.Table.{find}
 use Rattle.ld_layout.specs.Base.{base_bytes}
 use Rattle.ld_layout.specs.Layout.{Layout, Segment, switches, new_segment, base_length, entry_count, room_for, calls_before, laid_for, kept_in, switched_to, passes_limit, IsLaid, AreHeld}
-use Rattle.ld_segment.specs.Left.{Switching, safe_calls, switch_calls}
+use Rattle.ld_segment.specs.Left.{Switching, FirstSwitch, safe_calls, switch_calls, staged, laid_out, switched, IsRecordTorn, IsSwitchTorn, IsFirstSwitchTorn}
 use Rattle.ld_segment.specs.Slots.{head_bytes, says_bytes, slot_length, Tells, IsShut, IsLesser}
+use Rattle.ld_segment.specs.Bases.{IsIndex, IsBase, HasNoLoss}
 use Rattle.ld_segment.specs.Ops.{bodies_of, place_behind, op_count, indexed, ArePlaced}
 
 -- ---- the slots ----
@@ -51,18 +51,6 @@ first_length (v ∷ vs) = record_length (body_length v)
 -- the gate behind a Base
 abbrev pub behind_base : Segment → Plain → ℕ
 behind_base g base = g.place + record_length (base_length base g.areas)
-
--- an index and areas whose numbers and counts fit their fields
-pub record IsBase (index : Plain) (areas : List (ℕ × ℕ)) : Type 0 where
-  pub well : IsPlain last_carried index
-  pub logs : length index.logs < 2 ^ 16
-  pub fits : base_length index areas < 2 ^ 32
-  pub ordered : Ordered areas
-  pub places : (k v : ℕ) → find k areas ≡ Some v → (k < 2 ^ 64) × (v < 2 ^ 64)
-
--- no epoch was closed with a loss
-abbrev pub HasNoLoss : Plain → Type 0
-HasNoLoss p = (l epoch : ℕ) (g : Log) (y : Summary) → find l p.logs ≡ Some g → find epoch g.summaries ≡ Some y → y.loss ≡ false
 
 -- the version behind a Base, where it may stand in a journal whose first segment is of that version: one of the second may stand in each, and one of the first in no other
 abbrev pub after_base : ℕ → Version → Option Version
@@ -119,12 +107,23 @@ pub record LiesAs (version : Version) (y : Layout) (z : Slots) (bytes : List ℕ
   pub end_is : y.end ≡ place_behind records
   pub index_is : IsIndexed first version y z y.later records bytes
 
+-- numbers and places of a later segment fit their fields; the first segment's area is what lies before the head
+pub record IsBounded (end : ℕ) (g : Segment) : Type 0 where
+  pub number : g.number < 2 ^ 64
+  pub limit : g.limit ≤ journal_limit
+  pub ends : (k v : ℕ) → find k g.areas ≡ Some v → k + v ≤ journal_limit
+  pub first : (v : ℕ) → find 0 g.areas ≡ Some v → v ≡ end + 1
+
+abbrev pub IfBounded : ℕ → Option Segment → Type 0
+IfBounded end None = Unit {0}
+IfBounded end (Some g) = IsBounded end g
+
 -- live areas share no byte, and hold each payload, so what is written next leaves all that counts; and the index is one that a Base can carry
 pub record IsSound (y : Layout) : Type 0 where
   pub laid : IsLaid y
   pub held : AreHeld y
-  pub ordered : IsOrdered y.index
-  pub well : IsPlain last_carried y.index
+  pub index : IsIndex y.index
+  pub bounded : IfBounded y.end y.later
 
 -- the bytes stand for this plain state
 pub record StandsFor (p : Plain) (bytes : List ℕ) : Type 0 where
@@ -163,14 +162,17 @@ abbrev pub gate_in : Layout → Option Segment → ℕ
 gate_in y None = y.end
 gate_in y (Some g) = g.end
 
+-- the new segment of a switch before a record whose body has so many bytes
+abbrev pub segment_for : Layout → ℕ → Segment
+segment_for y body = new_segment y (record_length body) (record_length body)
+
 -- the calls of a switch, where there is one, whose Base has this first byte, and the four of a record of this body
-unfoldable pub row_of : ℕ → Layout → Slots → List ℕ → List Call
-row_of kind y z body =
-    let cause : ℕ = record_length (length body) in
-    let new : Layout = switched_to y cause cause in
-    if switches y (length body)
-    then switch_row kind y z (new_segment y cause cause) y.later ++ append_calls (gate_in new new.later) body
-    else append_calls (gate_in y y.later) body
+abbrev pub calls_by : ℕ → Layout → Slots → List ℕ → ℕ → Bool → List Call
+calls_by kind y z body n true = switch_row kind y z (segment_for y n) y.later ++ append_calls (segment_for y n).end body
+calls_by kind y z body n false = append_calls (gate_in y y.later) body
+
+abbrev pub row_of : ℕ → Layout → Slots → List ℕ → List Call
+row_of kind y z body = calls_by kind y z body (length body) (switches y (length body))
 
 abbrev pub op_row : Layout → Slots → Op → List Call
 op_row y z o = row_of 13 y z (op_bytes o)
@@ -178,6 +180,40 @@ op_row y z o = row_of 13 y z (op_bytes o)
 -- those of the mark that makes a journal of the first version one of the second
 abbrev pub mark_row : Layout → Slots → List Call
 mark_row y z = row_of 9 y z (record_bytes Mark)
+
+-- ---- what a crash leaves of them ----
+
+abbrev pub first_switch : ℕ → Layout → Segment → FirstSwitch
+first_switch kind y g = record { gate_at = y.end; slots_at = y.end + 15; slots = first_slots kind y g; head = head_bytes (y.end + 15) }
+
+-- the bytes once a record is there
+abbrev pub with_body : ℕ → List ℕ → List ℕ → List ℕ
+with_body gate body bytes = overwrite gate (1 ∷ []) (staged gate body bytes)
+
+-- the bytes after a switch
+abbrev pub switched_bytes : ℕ → Layout → Slots → Segment → Option Segment → List ℕ → List ℕ
+switched_bytes kind y z g None bytes = with_body y.end (head_bytes (y.end + 15)) (laid_out (first_switch kind y g) bytes)
+switched_bytes kind y z g (Some old) bytes = switched (next_switch kind y z g) bytes
+
+abbrev pub IsAnySwitchTorn : ℕ → Layout → Slots → Segment → Option Segment → List ℕ → List ℕ → Type 0
+IsAnySwitchTorn kind y z g None old new = IsFirstSwitchTorn (first_switch kind y g) old new
+IsAnySwitchTorn kind y z g (Some s) old new = IsSwitchTorn (next_switch kind y z g) old new
+
+-- a crash in the calls of a switch, where there is one, or in those of the record
+abbrev pub IsTornBy : ℕ → Layout → Slots → List ℕ → List ℕ → List ℕ → ℕ → Bool → Type 0
+IsTornBy kind y z body b c n true = IsAnySwitchTorn kind y z (segment_for y n) y.later b c ⊎ IsRecordTorn (segment_for y n).end body (switched_bytes kind y z (segment_for y n) y.later b) c
+IsTornBy kind y z body b c n false = IsRecordTorn (gate_in y y.later) body b c
+
+abbrev pub IsRowTorn : ℕ → Layout → Slots → List ℕ → List ℕ → List ℕ → Type 0
+IsRowTorn kind y z body b c = IsTornBy kind y z body b c (length body) (switches y (length body))
+
+-- all of them made
+abbrev pub made_by : ℕ → Layout → Slots → List ℕ → List ℕ → ℕ → Bool → List ℕ
+made_by kind y z body b n true = with_body (segment_for y n).end body (switched_bytes kind y z (segment_for y n) y.later b)
+made_by kind y z body b n false = with_body (gate_in y y.later) body b
+
+abbrev pub row_made : ℕ → Layout → Slots → List ℕ → List ℕ → List ℕ
+row_made kind y z body b = made_by kind y z body b (length body) (switches y (length body))
 
 -- the slots after a switch: the other one counts, and the one that did is open
 abbrev pub slots_after : Layout → Slots → Option Segment → Slots

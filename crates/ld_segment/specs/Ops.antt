@@ -1,12 +1,12 @@
 -- Records one behind the other: what they add up to, where each stands, and which may.
-use Rattle.std.specs.Prelude.{◌≡◌, ◌<◌, ◌+◌, ℕ, List, [], ◌∷◌, ◌++◌, Option, Some, None, Bool, true, false, if◌then◌else◌}
+use Rattle.std.specs.Prelude.{◌≡◌, ◌+◌, ℕ, List, [], ◌∷◌, Option, Some, None, Bool, true, false}
 use Rattle.ld_journal.specs.Format.{IsJournal}
 use Rattle.ld_msg.specs.Register.{record_length}
 use Rattle.ld_op.specs.declared.record.Record.{Record}
 use Rattle.ld_op.specs.declared.record.Record.TheVariants.{Now, Before, Mark}
 use Rattle.ld_op.specs.declared.version.Version.{Version}
-use Rattle.ld_op.specs.declared.version.Version.TheVariants.{Blank, First, Second}
-use Rattle.ld_op.specs.Plain.{Plain}
+use Rattle.ld_op.specs.declared.version.Version.TheVariants.{Blank}
+use Rattle.ld_op.specs.Plain.{Plain, unformatted}
 use Rattle.ld_op.specs.Records.{applied, version_after, body_length}
 use Rattle.ld_op.specs.Bounds.{IsRecord}
 use Rattle.ld_op.specs.Bytes.{record_bytes}
@@ -28,7 +28,15 @@ op_count (Now o ∷ vs) = 1 + op_count vs
 op_count (Before o ∷ vs) = 1 + op_count vs
 op_count (Mark ∷ vs) = op_count vs
 
--- ---- the index that they make ----
+-- ---- what they make ----
+
+-- the plain state that records add up to
+abbrev pub applied_all : Plain → List Record → Plain
+applied_all p [] = p
+applied_all p (v ∷ vs) = applied_all (applied p v) vs
+
+abbrev pub state_after : List Record → Plain
+state_after vs = applied_all unformatted vs
 
 -- a record whose body stands at a place, with the places of its payloads' bytes
 abbrev pub placed_record : ℕ → Record → Record
@@ -63,3 +71,9 @@ version_on o (v ∷ vs) = version_on (next_version o v) vs
 pub record ArePlaced (from : Version) (vs : List Record) (to : Version) : Type 0 where
   pub are : AreRecords vs
   pub version_is : version_on (Some from) vs ≡ Some to
+
+-- bytes are a journal of these records, each in place
+pub record IsJournalOf (vs : List Record) (bytes : List ℕ) : Type 0 where
+  pub journal : IsJournal (bodies_of vs) bytes
+  pub version : Version
+  pub placed : ArePlaced Blank vs version

@@ -2,6 +2,7 @@
 #![tactic(auto)]
 
 mod law;
+mod lies;
 mod read;
 mod record;
 mod safe;
@@ -12,6 +13,7 @@ pub use law::{
     heads_are_there_or_not, records_are_there_or_not, segments_stay, slots_are_read,
     slots_tell_the_segment,
 };
+pub use lies::{bytes_stand_for_one_state, kept_ops_are_durable, kept_ops_or_not};
 pub use read::read_slot;
 pub use record::append_record;
 pub use slots::{Slot, current, says, second_counts};
