@@ -33,8 +33,8 @@ pub record Left (p : Plain) (y : Layout) (z : Slots) (c : List ℕ) : Type 0 whe
 
 -- ---- versions ----
 
-some_base : (kind : ℕ) (first from : Version) → after_base kind first ≡ Some from → is_blank from ≡ false
-some_base kind first from is = by (kind == 13) (kind == 9) first is
+some_base : (kind : ℕ) (opening from : Version) → after_base kind opening ≡ Some from → is_blank from ≡ false
+some_base kind opening from is = by (kind == 13) (kind == 9) opening is
   where
     by : (a b : Bool) (w : Version) → cond a (Some Second) (cond (b && is_first w) (Some First) None) ≡ Some from → is_blank from ≡ false
     by true b w e = subst (λ v. is_blank v ≡ false) (let one : Second ≡ from = cc e in one) refl
@@ -51,14 +51,14 @@ not_none n is = by (n == 0) is
     by false e = refl
 
 -- in a journal with a later segment that is written to there are ops
-pub some_ops : (first : Version) (y : Layout) (z : Slots) (g : Segment) (index : Plain) (b : List ℕ) → IsLater first (written y) (y.end + 15) z g index b → (y.ops == 0) ≡ false
-some_ops first y z g index b is =
+pub some_ops : (opening : Version) (y : Layout) (z : Slots) (g : Segment) (index : Plain) (b : List ℕ) → IsLater opening (written y) (y.end + 15) z g index b → (y.ops == 0) ≡ false
+some_ops opening y z g index b is =
     let cur = is.current in
-    not_none y.ops (never_again cur.from (written y) cur.records (some_base cur.kind first cur.from cur.kind_is) cur.placed)
+    not_none y.ops (never_again cur.from (written y) cur.records (some_base cur.kind opening cur.from cur.kind_is) cur.placed)
 
-written_more : (first : Version) (y : Layout) (z : Slots) (a : Option Segment) (rs : List Record) (b : List ℕ) (limit : ℕ) (o : Op) → IsIndexed first (written y) y z a rs b → written (more y a limit (Now o)) ≡ Second
-written_more first y z None rs b limit o is = let more : (y.ops + 1 == 0) ≡ false = grind (arith, nat_tests) in ap (λ t. cond t Blank Second) more
-written_more first y z (Some g) rs b limit o is = ap (λ t. cond t Blank Second) (some_ops first y z g y.index b is)
+written_more : (opening : Version) (y : Layout) (z : Slots) (a : Option Segment) (rs : List Record) (b : List ℕ) (limit : ℕ) (o : Op) → IsIndexed opening (written y) y z a rs b → written (more y a limit (Now o)) ≡ Second
+written_more opening y z None rs b limit o is = let more : (y.ops + 1 == 0) ≡ false = grind (arith, nat_tests) in ap (λ t. cond t Blank Second) more
+written_more opening y z (Some g) rs b limit o is = ap (λ t. cond t Blank Second) (some_ops opening y z g y.index b is)
 
 more_index : (y : Layout) (a : Option Segment) (limit : ℕ) (o : Op) → (more y a limit (Now o)).index ≡ apply y.index (placed (gate_in y a + 5) o)
 more_index y None limit o = refl

@@ -21,3 +21,5 @@ pub mod Switched
 pub mod OpRow
 pub mod Decides
 pub mod Durable
+pub mod OpPictures
+pub mod Before

@@ -29,9 +29,9 @@ abbrev pub row_at : Option Segment → ℕ
 row_at None = 0
 row_at (Some g) = g.place
 
-abbrev pub row_bodies : (first version : Version) (y : Layout) (z : Slots) (a : Option Segment) (rs : List Record) (b : List ℕ) → IsIndexed first version y z a rs b → List (List ℕ)
-row_bodies first version y z None rs b is = bodies_of rs
-row_bodies first version y z (Some g) rs b is = base_bytes is.current.kind is.current.base g.areas ∷ bodies_of is.current.records
+abbrev pub row_bodies : (opening version : Version) (y : Layout) (z : Slots) (a : Option Segment) (rs : List Record) (b : List ℕ) → IsIndexed opening version y z a rs b → List (List ℕ)
+row_bodies opening version y z None rs b is = bodies_of rs
+row_bodies opening version y z (Some g) rs b is = base_bytes is.current.kind is.current.base g.areas ∷ bodies_of is.current.records
 
 -- a layout with a record more
 abbrev pub more : Layout → Option Segment → ℕ → Record → Layout
@@ -65,21 +65,21 @@ body_there at gate bodies body c gate_is journal =
 journal_long : (at : ℕ) (bodies : List (List ℕ)) (b : List ℕ) → IsJournal bodies (drop at b) → at + length (records bodies) + 1 ≤ length b
 journal_long at bodies b journal = omega (arith, ap length journal.bytes_are, length-append (records bodies) (journal.gate ∷ journal.after), length-drop at b)
 
-module _ (first version : Version) (y : Layout) (z : Slots) (rs : List Record) (b : List ℕ) (end_is : y.end ≡ place_behind rs) where
+module _ (opening version : Version) (y : Layout) (z : Slots) (rs : List Record) (b : List ℕ) (end_is : y.end ≡ place_behind rs) where
   -- ---- the row as it is ----
 
-  pub row_journal : (a : Option Segment) (is : IsIndexed first version y z a rs b) → IsJournal (bodies_of rs ++ head_of y a) b → IsJournal (row_bodies first version y z a rs b is) (drop (row_at a) b)
+  pub row_journal : (a : Option Segment) (is : IsIndexed opening version y z a rs b) → IsJournal (bodies_of rs ++ head_of y a) b → IsJournal (row_bodies opening version y z a rs b is) (drop (row_at a) b)
   row_journal None is journal = subst (λ l. IsJournal l b) (append-nil (bodies_of rs)) journal
   row_journal (Some g) is journal = is.current.journal
 
-  pub gate_is : (a : Option Segment) (is : IsIndexed first version y z a rs b) → gate_in y a ≡ row_at a + length (records (row_bodies first version y z a rs b is))
+  pub gate_is : (a : Option Segment) (is : IsIndexed opening version y z a rs b) → gate_in y a ≡ row_at a + length (records (row_bodies opening version y z a rs b is))
   gate_is None is = omega (arith, end_is, places rs)
   gate_is (Some g) is =
       let cur = is.current in
       omega (arith, cur.end_is, places cur.records, length-append (framed (base_bytes cur.kind cur.base g.areas)) (records (bodies_of cur.records)), base_long cur.kind cur.base g.areas)
 
-  pub row_inside : (a : Option Segment) (is : IsIndexed first version y z a rs b) → IsJournal (bodies_of rs ++ head_of y a) b → gate_in y a + 1 ≤ length b
-  row_inside a is journal = omega (arith, gate_is a is, journal_long (row_at a) (row_bodies first version y z a rs b is) b (row_journal a is journal))
+  pub row_inside : (a : Option Segment) (is : IsIndexed opening version y z a rs b) → IsJournal (bodies_of rs ++ head_of y a) b → gate_in y a + 1 ≤ length b
+  row_inside a is journal = omega (arith, gate_is a is, journal_long (row_at a) (row_bodies opening version y z a rs b is) b (row_journal a is journal))
 
   -- ---- what stands before it ----
 
@@ -108,8 +108,8 @@ other_stays false head from to number z b c stays before at is =
 -- ---- the row as it was ----
 
 -- a segment in whose row nothing changes
-pub current_in : (first version : Version) (g : Segment) (index : Plain) (b c : List ℕ) (cur : IsCurrent first version g index b) → IsJournal (base_bytes cur.kind cur.base g.areas ∷ bodies_of cur.records) (drop g.place c) → IsCurrent first version g index c
-current_in first version g index b c cur row = record {
+pub current_in : (opening version : Version) (g : Segment) (index : Plain) (b c : List ℕ) (cur : IsCurrent opening version g index b) → IsJournal (base_bytes cur.kind cur.base g.areas ∷ bodies_of cur.records) (drop g.place c) → IsCurrent opening version g index c
+current_in opening version g index b c cur row = record {
   kind = cur.kind;
   base = cur.base;
   from = cur.from;
@@ -126,16 +126,16 @@ current_in first version g index b c cur row = record {
   index_is = cur.index_is;
 }
 
-module _ (first version : Version) (y : Layout) (z : Slots) (rs : List Record) (b : List ℕ) (end_is : y.end ≡ place_behind rs) (c : List ℕ) (to : ℕ) where
+module _ (opening version : Version) (y : Layout) (z : Slots) (rs : List Record) (b : List ℕ) (end_is : y.end ≡ place_behind rs) (c : List ℕ) (to : ℕ) where
   abbrev Front : Option Segment → List ℕ → Type 0
   Front a l = IsJournal (bodies_of rs ++ head_of y a) l
 
   front_stays : (g : Segment) → AreLive (live_areas y (Some g)) → IsSegment g → StaysOutside g.end to b c → Front (Some g) b → Front (Some g) c
   front_stays g live segment stays journal =
-      row_stays g.end to 0 (bodies_of rs ++ head_of y (Some g)) b c stays (inl (omega (arith, rows_long first version y z rs b end_is (Some g), head_before y g live segment, segment.begun))) journal
+      row_stays g.end to 0 (bodies_of rs ++ head_of y (Some g)) b c stays (inl (omega (arith, rows_long opening version y z rs b end_is (Some g), head_before y g live segment, segment.begun))) journal
 
-  pub without : (a : Option Segment) (is : IsIndexed first version y z a rs b) → AreLive (live_areas y a) → IfSegment a → StaysOutside (gate_in y a) to b c → Front a b
-      → IsJournal (row_bodies first version y z a rs b is) (drop (row_at a) c) → Front a c × IsIndexed first version y z a rs c
+  pub without : (a : Option Segment) (is : IsIndexed opening version y z a rs b) → AreLive (live_areas y a) → IfSegment a → StaysOutside (gate_in y a) to b c → Front a b
+      → IsJournal (row_bodies opening version y z a rs b is) (drop (row_at a) c) → Front a c × IsIndexed opening version y z a rs c
   without None is live segment stays journal row = (subst (λ l. IsJournal l c) (sym (append-nil (bodies_of rs))) row, is)
   without (Some g) is live segment stays journal row =
       let before : y.end + 15 + 34 ≤ g.end = omega (arith, head_before y g live segment, segment.begun) in (
@@ -144,7 +144,7 @@ module _ (first version : Version) (y : Layout) (z : Slots) (rs : List Record) (
           at = is.at;
           tells = tells_stay (y.end + 15) g.end to g.number g.place z b c stays before is.at is.tells;
           other = other_stays z.is_open (y.end + 15) g.end to g.number z b c stays before is.at is.other;
-          current = current_in first version g y.index b c is.current row;
+          current = current_in opening version g y.index b c is.current row;
           within = λ k v found. omega (arith, is.within k v found, stays.no_shorter);
         },
       )
@@ -152,8 +152,8 @@ module _ (first version : Version) (y : Layout) (z : Slots) (rs : List Record) (
   -- ---- the row with a record more ----
 
   module _ (v : Record) (is_record : IsRecord v) (next : Version) (follows : version_after version v ≡ Some next) (limit : ℕ) where
-    with_current : (g : Segment) (cur : IsCurrent first version g y.index b) → HasLimit (Some g) limit v → IsJournal ((base_bytes cur.kind cur.base g.areas ∷ bodies_of cur.records) ++ record_bytes v ∷ []) (drop g.place c)
-        → IsCurrent first next (record g { ops = g.ops + counts_as v; end = g.end + record_length (body_length v); limit = limit }) (applied y.index (placed_record (g.end + 5) v)) c
+    with_current : (g : Segment) (cur : IsCurrent opening version g y.index b) → HasLimit (Some g) limit v → IsJournal ((base_bytes cur.kind cur.base g.areas ∷ bodies_of cur.records) ++ record_bytes v ∷ []) (drop g.place c)
+        → IsCurrent opening next (record g { ops = g.ops + counts_as v; end = g.end + record_length (body_length v); limit = limit }) (applied y.index (placed_record (g.end + 5) v)) c
     with_current g cur long row = record {
       kind = cur.kind;
       base = cur.base;
@@ -171,8 +171,8 @@ module _ (first version : Version) (y : Layout) (z : Slots) (rs : List Record) (
       index_is = (λ i. applied (cur.index_is i) (placed_record (cur.end_is i + 5) v)) ∙ sym (indexed-push (behind_base g cur.base) cur.base cur.records v);
     }
 
-    pub with_more : (a : Option Segment) (is : IsIndexed first version y z a rs b) → AreLive (live_areas y a) → IfSegment a → StaysOutside (gate_in y a) to b c → Front a b → HasLimit a limit v → ArePlaced Blank rs first → y.ops ≡ op_count rs
-        → IsJournal (row_bodies first version y z a rs b is ++ record_bytes v ∷ []) (drop (row_at a) c) → LiesAs next (more y a limit v) z c
+    pub with_more : (a : Option Segment) (is : IsIndexed opening version y z a rs b) → AreLive (live_areas y a) → IfSegment a → StaysOutside (gate_in y a) to b c → Front a b → HasLimit a limit v → ArePlaced Blank rs opening → y.ops ≡ op_count rs
+        → IsJournal (row_bodies opening version y z a rs b is ++ record_bytes v ∷ []) (drop (row_at a) c) → LiesAs next (more y a limit v) z c
     with_more None is live segment stays journal long placed ops_is row = record {
       records = rs ++ v ∷ [];
       journal = subst (λ l. IsJournal l c) (sym (bodies-push rs v) ∙ sym (append-nil (bodies_of (rs ++ v ∷ [])))) row;
@@ -187,7 +187,7 @@ module _ (first version : Version) (y : Layout) (z : Slots) (rs : List Record) (
         record {
           records = rs;
           journal = front_stays g live segment stays journal;
-          first = first;
+          first = opening;
           placed = placed;
           ops_is = ops_is;
           end_is = end_is;

@@ -42,9 +42,9 @@ new_is y cause = record { based = refl; ops = refl; end = omega arith; limit = o
 pub record_long : (kind : ℕ) (y : Layout) (g : Segment) → length (base_record kind y g) ≡ 6 + base_length y.index g.areas
 record_long kind y g = omega (arith, length-append (framed (base_bytes kind y.index g.areas)) (0 ∷ []), base_long kind y.index g.areas)
 
-pub new_current : (kind : ℕ) (first from : Version) (y : Layout) (g : Segment) (c : List ℕ) → after_base kind first ≡ Some from → (kind ≡ 9 → HasNoLoss y.index) → IsBase y.index g.areas → IsNew y g → StandsAt g.place (base_record kind y g) c
-    → IsCurrent first from g y.index c
-new_current kind first from y g c kind_is older is_base new stands =
+pub new_current : (kind : ℕ) (opening from : Version) (y : Layout) (g : Segment) (c : List ℕ) → after_base kind opening ≡ Some from → (kind ≡ 9 → HasNoLoss y.index) → IsBase y.index g.areas → IsNew y g → StandsAt g.place (base_record kind y g) c
+    → IsCurrent opening from g y.index c
+new_current kind opening from y g c kind_is older is_base new stands =
     let base : List ℕ = base_bytes kind y.index g.areas in
     let rest : List ℕ = drop (length (base_record kind y g)) (drop g.place c) in
     record {

@@ -78,8 +78,8 @@ module _ (bases_are_read : BasesAreRead) where
   tail_of [] = []
   tail_of (b ∷ bs) = bs
 
-  one_current : (first other_first version other : Version) (g h : Segment) (p q : Plain) (bytes : List ℕ) → g.place ≡ h.place → IsCurrent first version g p bytes → IsCurrent other_first other h q bytes → p ≡ q
-  one_current first other_first version other g h p q bytes place here there =
+  one_current : (opening other_opening version other : Version) (g h : Segment) (p q : Plain) (bytes : List ℕ) → g.place ≡ h.place → IsCurrent opening version g p bytes → IsCurrent other_opening other h q bytes → p ≡ q
+  one_current opening other_opening version other g h p q bytes place here there =
       let rows = one_reading (drop h.place bytes) (base_bytes here.kind here.base g.areas ∷ bodies_of here.records) (base_bytes there.kind there.base h.areas ∷ bodies_of there.records)
       (subst (λ k. IsJournal (base_bytes here.kind here.base g.areas ∷ bodies_of here.records) (drop k bytes)) place here.journal) there.journal in
       let base = one_base here.kind there.kind here.base there.base g.areas h.areas here.is_base there.is_base (ap front_of rows) in
@@ -87,16 +87,16 @@ module _ (bases_are_read : BasesAreRead) where
       let gate : behind_base g here.base ≡ behind_base h there.base = omega (arith, place, base.1) in
       here.index_is ∙ (λ i. indexed (gate i) (base.0 i) (records i)) ∙ sym there.index_is
 
-  one_index : (y w : Layout) (a b : Option Segment) (z x : Slots) (first other_first version other : Version) (us vs : List Record) (bytes : List ℕ) → us ≡ vs → y.end ≡ w.end → is_some a ≡ is_some b
-      → IfSegment a → IfSegment b → IfBounded y.end a → IfBounded w.end b → IsIndexed first version y z a us bytes → IsIndexed other_first other w x b vs bytes → y.index ≡ w.index
-  one_index y w None None z x first other_first version other us vs bytes rows ends kind seg_a seg_b fit_a fit_b here there = here.1 ∙ ap (λ l. indexed 0 unformatted l) rows ∙ sym there.1
-  one_index y w None (Some h) z x first other_first version other us vs bytes rows ends kind seg_a seg_b fit_a fit_b here there = absurd (cc kind)
-  one_index y w (Some g) None z x first other_first version other us vs bytes rows ends kind seg_a seg_b fit_a fit_b here there = absurd (cc kind)
-  one_index y w (Some g) (Some h) z x first other_first version other us vs bytes rows ends kind seg_a seg_b fit_a fit_b here there =
+  one_index : (y w : Layout) (a b : Option Segment) (z x : Slots) (opening other_opening version other : Version) (us vs : List Record) (bytes : List ℕ) → us ≡ vs → y.end ≡ w.end → is_some a ≡ is_some b
+      → IfSegment a → IfSegment b → IfBounded y.end a → IfBounded w.end b → IsIndexed opening version y z a us bytes → IsIndexed other_opening other w x b vs bytes → y.index ≡ w.index
+  one_index y w None None z x opening other_opening version other us vs bytes rows ends kind seg_a seg_b fit_a fit_b here there = here.1 ∙ ap (λ l. indexed 0 unformatted l) rows ∙ sym there.1
+  one_index y w None (Some h) z x opening other_opening version other us vs bytes rows ends kind seg_a seg_b fit_a fit_b here there = absurd (cc kind)
+  one_index y w (Some g) None z x opening other_opening version other us vs bytes rows ends kind seg_a seg_b fit_a fit_b here there = absurd (cc kind)
+  one_index y w (Some g) (Some h) z x opening other_opening version other us vs bytes rows ends kind seg_a seg_b fit_a fit_b here there =
       let head : w.end + 15 ≡ y.end + 15 = omega (arith, ends) in
       let segment = told_once (y.end + 15) g.number g.place h.number h.place z x bytes here.at (subst (λ k. ArePlacedAt k x) head there.at) here.tells there.tells
       fit_a.number (omega (arith, fit_a.limit, seg_a.begun, seg_a.within)) fit_b.number (omega (arith, fit_b.limit, seg_b.begun, seg_b.within)) in
-      one_current first other_first version other g h y.index w.index bytes segment.1 here.current there.current
+      one_current opening other_opening version other g h y.index w.index bytes segment.1 here.current there.current
 
   pub one_state : (p q : Plain) (bytes : List ℕ) → StandsFor p bytes → StandsFor q bytes → p ≡ q
   one_state p q bytes a b =

@@ -1,5 +1,5 @@
 -- All calls of an op: what a crash leaves, and what all of them make.
-use Rattle.std.proofs.Common.{◌≡◌, ◌⊎◌, inl, inr, ⊎_elim, refl, ℕ, ◌+◌, ◌≤◌, ◌<◌, ◌==◌, max, nat_le, List, [], ◌∷◌, ◌++◌, length, Option, None, Some, Bool, true, false, cond, if◌then◌else◌, sym, ◌∙◌, ap, subst, arith}
+use Rattle.std.proofs.Common.{◌≡◌, ◌≢◌, ◌⊎◌, inl, inr, ⊎_elim, refl, ℕ, ◌+◌, ◌≤◌, ◌<◌, ◌==◌, max, nat_le, List, [], ◌∷◌, ◌++◌, length, get_or, Option, None, Some, Bool, true, false, cond, if◌then◌else◌, sym, ◌∙◌, ap, subst, arith}
 use Rattle.std.proofs.lemmas.Bool.{or_parts, leb-false}
 use Rattle.ld_msg.specs.Register.{record_length}
 use Rattle.ld_op.specs.declared.op.Op.{Op}
@@ -11,7 +11,9 @@ use Rattle.ld_op.specs.Records.{version_after, body_length}
 use Rattle.ld_op.specs.Bytes.{op_bytes}
 use Rattle.ld_op.specs.Cells.{read_plain, placed}
 use Rattle.ld_layout.specs.Layout.{Layout, Segment, room_for, gate_of, is_first, is_full_first, is_full_later, full_ops, new_segment, switched_to, switches, later_with, with_record, kept_in}
-use Rattle.ld_segment.specs.Left.{IsRecordTorn}
+use Rattle.ld_disk.specs.Images.{Torn}
+use Rattle.ld_journal.specs.Format.{behind}
+use Rattle.ld_segment.specs.Left.{staged, IsRecordTorn}
 use Rattle.ld_segment.specs.Ops.{place_behind}
 use Rattle.ld_segment.specs.Lies.{Slots, first_length, LiesAs, IsSound, StandsFor, StandsForEither, MayKeep, written, gate_in, segment_for, slots_after, slots_with, switched_bytes, with_body, IsAnySwitchTorn, IsTornBy, IsRowTorn, made_by, row_made}
 use Rattle.ld_segment.proofs.Bodies.{record_long, op_follows}
@@ -111,6 +113,12 @@ module _ (y : Layout) (z : Slots) (b : List ℕ) (o : Op) (lies : LiesAs (writte
     kept_here : more y y.later (limit_of y.later) (Now o) ≡ kept_in y o
     kept_here = sym (ap (λ t. with_record (cond t (switched_to y (record_length n) (record_length n)) y) o) goes ∙ with_is y o)
 
+    pub here_staged : (c : List ℕ) → Torn (gate_in y y.later + 1) (length (behind body)) b c → Left p y z c
+    here_staged c torn = kept.not_staged p y z b as_it_is sound o may.op follows (limit_of y.later) (limit_stays y.later o not_full) apart c torn
+
+    pub here_shut : (c : List ℕ) → Torn (gate_in y y.later) 1 (staged (gate_in y y.later) body b) c → get_or c (gate_in y y.later) 0 ≢ 1 → Left p y z c
+    here_shut c torn shut = kept.not_open p y z b as_it_is sound o may.op follows (limit_of y.later) (limit_stays y.later o not_full) apart c torn shut
+
     pub here_there : Left q (kept_in y o) z (with_body (gate_in y y.later) body b)
     here_there = subst (λ x. Left q x z (with_body (gate_in y y.later) body b)) kept_here (kept.there p y z b as_it_is sound o may.op follows (limit_of y.later) (limit_stays y.later o not_full) apart)
 
@@ -121,7 +129,7 @@ module _ (y : Layout) (z : Slots) (b : List ℕ) (o : Op) (lies : LiesAs (writte
   -- ---- behind a switch ----
 
   module _ (is : switches y n ≡ true) where
-    abbrev cause : ℕ
+    abbrev pub cause : ℕ
     cause = record_length n
 
     abbrev new : Layout
@@ -171,6 +179,13 @@ module _ (y : Layout) (z : Slots) (b : List ℕ) (o : Op) (lies : LiesAs (writte
     gate_is : gate_in new new.later ≡ (segment_for y n).end
     unfolding switched_to
     gate_is = refl
+
+    pub new_staged : (c : List ℕ) → Torn ((segment_for y n).end + 1) (length (behind body)) b1 c → Left p new x c
+    new_staged c torn = kept.not_staged p new x b1 switch_done new_sound o may.op new_follows (new_segment y cause cause).limit (limit_new y o) new_apart c (subst (λ k. Torn (k + 1) (length (behind body)) b1 c) (sym gate_is) torn)
+
+    pub new_shut : (c : List ℕ) → Torn (segment_for y n).end 1 (staged (segment_for y n).end body b1) c → get_or c (segment_for y n).end 0 ≢ 1 → Left p new x c
+    new_shut c torn shut = kept.not_open p new x b1 switch_done new_sound o may.op new_follows (new_segment y cause cause).limit (limit_new y o) new_apart c
+        (subst (λ k. Torn k 1 (staged k body b1) c) (sym gate_is) torn) (subst (λ k. get_or c k 0 ≢ 1) (sym gate_is) shut)
 
     pub new_there : Left q (kept_in y o) x (with_body (segment_for y n).end body b1)
     new_there = subst (λ k. Left q (kept_in y o) x (with_body k body b1)) gate_is

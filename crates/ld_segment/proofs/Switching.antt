@@ -41,8 +41,8 @@ slot_same at gate number place b c same slot = record {
     stands_in : IsSameAt at slot_length b c → StandsAt at (gate ∷ []) b → StandsAt at (gate ∷ []) c
     stands_in same stands = let none : at + 0 ≡ at = omega arith in subst (λ k. StandsAt k (gate ∷ []) c) none (part_same at slot_length 0 (gate ∷ []) b c same (omega arith) (subst (λ k. StandsAt k (gate ∷ []) b) (sym none) stands))
 
-module _ (first version : Version) (y : Layout) (z : Slots) (g : Segment) (rs : List Record) (b : List ℕ) (end_is : y.end ≡ place_behind rs) (journal : IsJournal (bodies_of rs ++ head_of y (Some g)) b)
-    (later : IsLater first version (y.end + 15) z g y.index b) (live : AreLive (live_areas y (Some g))) (segment : IsSegment g)
+module _ (opening version : Version) (y : Layout) (z : Slots) (g : Segment) (rs : List Record) (b : List ℕ) (end_is : y.end ≡ place_behind rs) (journal : IsJournal (bodies_of rs ++ head_of y (Some g)) b)
+    (later : IsLater opening version (y.end + 15) z g y.index b) (live : AreLive (live_areas y (Some g))) (segment : IsSegment g)
     (kind : ℕ) (n : Segment) (size : ℕ) (free : (k v : ℕ) → find k (live_areas y (Some g)) ≡ Some v → IsApart size n.place (k, v)) (behind : y.end + 49 ≤ n.place) (long : base_length y.index n.areas + 6 ≤ size) (greater : g.number < n.number) where
   abbrev pub w : Switching
   w = next_switch kind y z n
@@ -51,7 +51,7 @@ module _ (first version : Version) (y : Layout) (z : Slots) (g : Segment) (rs : 
   before = omega (arith, head_before y g live segment)
 
   gate_inside : g.end + 1 ≤ length b
-  gate_inside = row_inside first version y z rs b end_is (Some g) later journal
+  gate_inside = row_inside opening version y z rs b end_is (Some g) later journal
 
   this_end : z.this + slot_length ≤ y.end + 49
   this_end = ⊎_elim (λ p. omega (arith, p.0)) (λ p. omega (arith, p.0)) later.at
@@ -87,15 +87,15 @@ module _ (first version : Version) (y : Layout) (z : Slots) (g : Segment) (rs : 
 
   away_front : IsElsewhere w 0 (length (records (bodies_of rs ++ head_of y (Some g))) + 1) b
   away_front =
-      let most = rows_long first version y z rs b end_is (Some g) in
+      let most = rows_long opening version y z rs b end_is (Some g) in
       record { there = omega (arith, most, before, segment.begun, gate_inside); base = inl (omega (arith, most, behind)); slot = inl (omega (arith, most, other_from)) }
 
   abbrev row : List (List ℕ)
-  row = row_bodies first version y z (Some g) rs b later
+  row = row_bodies opening version y z (Some g) rs b later
 
   away_row : IsElsewhere w g.place (length (records row) + 1) b
   away_row =
-      let gate = gate_is first version y z rs b end_is (Some g) later in
+      let gate = gate_is opening version y z rs b end_is (Some g) later in
       record {
         there = omega (arith, gate, gate_inside);
         base = ⊎_elim
@@ -135,26 +135,26 @@ module _ (first version : Version) (y : Layout) (z : Slots) (g : Segment) (rs : 
     within_too : (k v : ℕ) → find k g.areas ≡ Some v → k + v ≤ length c
     within_too k v found = omega (arith, later.within k v found, longer)
 
-    old_with : (is_open : Bool) → Tells z.this z.other g.number g.place c → IsOther is_open z.other g.number c → IsLater first version (y.end + 15) (record z { is_open = is_open }) g y.index c
+    old_with : (is_open : Bool) → Tells z.this z.other g.number g.place c → IsOther is_open z.other g.number c → IsLater opening version (y.end + 15) (record z { is_open = is_open }) g y.index c
     old_with is_open tells other = record {
       at = later.at;
       tells = tells;
       other = other;
-      current = current_in first version g y.index b c later.current (same_front row (drop g.place b) (drop g.place c) later.current.journal (same g.place (length (records row) + 1) away_row));
+      current = current_in opening version g y.index b c later.current (same_front row (drop g.place b) (drop g.place c) later.current.journal (same g.place (length (records row) + 1) away_row));
       within = within_too;
     }
 
     -- the old segment counts
-    pub old_later : Tells z.this z.other g.number g.place c → (x : Slots) × IsLater first version (y.end + 15) x g y.index c
+    pub old_later : Tells z.this z.other g.number g.place c → (x : Slots) × IsLater opening version (y.end + 15) x g y.index c
     old_later tells = ⊎_elim (λ shut. (record z { is_open = false }, old_with false tells shut)) (λ less. (record z { is_open = true }, old_with true tells less)) tells.rest
 
     -- the new one does
-    pub new_later : (from : Version) → Tells z.other z.this n.number n.place c → StandsAt n.place w.base c → after_base kind first ≡ Some from → (kind ≡ 9 → HasNoLoss y.index) → IsBase y.index n.areas → IsNew y n
-        → ((k v : ℕ) → find k n.areas ≡ Some v → k + v ≤ length b) → IsLater first from (y.end + 15) (slots_after y z (Some g)) n y.index c
+    pub new_later : (from : Version) → Tells z.other z.this n.number n.place c → StandsAt n.place w.base c → after_base kind opening ≡ Some from → (kind ≡ 9 → HasNoLoss y.index) → IsBase y.index n.areas → IsNew y n
+        → ((k v : ℕ) → find k n.areas ≡ Some v → k + v ≤ length b) → IsLater opening from (y.end + 15) (slots_after y z (Some g)) n y.index c
     new_later from tells stands kind_is older is_base new within = record {
       at = ⊎_elim (λ p. inr (p.1, p.0)) (λ p. inl (p.1, p.0)) later.at;
       tells = tells;
       other = record { gate = 1; number = g.number; place = g.place; slot = slot_same z.this 1 g.number g.place b c (same z.this slot_length away_this) later.tells.slot; lesser = greater };
-      current = new_current kind first from y n c kind_is older is_base new stands;
+      current = new_current kind opening from y n c kind_is older is_base new stands;
       within = λ k v found. omega (arith, within k v found, longer);
     }

@@ -54,14 +54,14 @@ behind_base g base = g.place + record_length (base_length base g.areas)
 
 -- the version behind a Base, where it may stand in a journal whose first segment is of that version: one of the second may stand in each, and one of the first in no other
 abbrev pub after_base : ℕ → Version → Option Version
-after_base kind first = if kind == 13 then Some Second else if (kind == 9) && is_first first then Some First else None
+after_base kind opening = if kind == 13 then Some Second else if (kind == 9) && is_first opening then Some First else None
 
 -- a segment's Base and the records behind it; its area has room for the record that caused the switch, where that is there
-pub record IsCurrent (first version : Version) (g : Segment) (index : Plain) (bytes : List ℕ) : Type 0 where
+pub record IsCurrent (opening version : Version) (g : Segment) (index : Plain) (bytes : List ℕ) : Type 0 where
   pub kind : ℕ
   pub base : Plain
   pub from : Version
-  pub kind_is : after_base kind first ≡ Some from
+  pub kind_is : after_base kind opening ≡ Some from
   pub older : kind ≡ 9 → HasNoLoss base
   pub is_base : IsBase base g.areas
   pub records : List Record
@@ -74,11 +74,11 @@ pub record IsCurrent (first version : Version) (g : Segment) (index : Plain) (by
   pub index_is : index ≡ indexed (behind_base g base) base records
 
 -- the slots behind the head, the one that counts, and the segment that it names
-pub record IsLater (first version : Version) (head : ℕ) (z : Slots) (g : Segment) (index : Plain) (bytes : List ℕ) : Type 0 where
+pub record IsLater (opening version : Version) (head : ℕ) (z : Slots) (g : Segment) (index : Plain) (bytes : List ℕ) : Type 0 where
   pub at : ArePlacedAt head z
   pub tells : Tells z.this z.other g.number g.place bytes
   pub other : IsOther z.is_open z.other g.number bytes
-  pub current : IsCurrent first version g index bytes
+  pub current : IsCurrent opening version g index bytes
   -- the older areas are there
   pub within : (k v : ℕ) → find k g.areas ≡ Some v → k + v ≤ length bytes
 
@@ -94,8 +94,8 @@ abbrev pub written : Layout → Version
 written y = if y.ops == 0 then Blank else Second
 
 abbrev pub IsIndexed : Version → Version → Layout → Slots → Option Segment → List Record → List ℕ → Type 0
-IsIndexed first version y z None vs bytes = (version ≡ first) × (y.index ≡ indexed 0 unformatted vs)
-IsIndexed first version y z (Some g) vs bytes = IsLater first version (y.end + 15) z g y.index bytes
+IsIndexed opening version y z None vs bytes = (version ≡ opening) × (y.index ≡ indexed 0 unformatted vs)
+IsIndexed opening version y z (Some g) vs bytes = IsLater opening version (y.end + 15) z g y.index bytes
 
 -- the bytes lie as the layout says, with these slots, and the journal is of this version behind its last record
 pub record LiesAs (version : Version) (y : Layout) (z : Slots) (bytes : List ℕ) : Type 0 where

@@ -13,7 +13,10 @@ pub use law::{
     heads_are_there_or_not, records_are_there_or_not, segments_stay, slots_are_read,
     slots_tell_the_segment,
 };
-pub use lies::{bytes_stand_for_one_state, kept_ops_are_durable, kept_ops_or_not};
+pub use lies::{
+    bytes_stand_for_one_state, journals_stand_as_before, kept_ops_are_durable, kept_ops_or_not,
+    picture_decides_the_layout,
+};
 pub use read::read_slot;
 pub use record::append_record;
 pub use slots::{Slot, current, says, second_counts};

@@ -1,15 +1,18 @@
 // What the bytes of a disk in segments stand for.
-ghost use Rattle.std.specs.Prelude.{◌≡◌, List, ℕ};
+ghost use Rattle.std.specs.Prelude.{◌≡◌, ◌≤◌, ◌+◌, List, ℕ, Option};
 ghost use Rattle.ld_disk.specs.Record.{State};
-ghost use Rattle.ld_disk.specs.Plain.{all_made};
-ghost use Rattle.ld_journal.specs.Pictures.{IsSafe};
+ghost use Rattle.ld_disk.specs.Plain.{Plain as DiskPlain, IsTold, after_calls, all_made};
+ghost use Rattle.ld_disk.specs.declared.disk.Picture.{Picture};
+ghost use Rattle.ld_journal.specs.Pictures.{IsSafe, crashed_by};
 ghost use Rattle.ld_op.specs.declared.op.Op.{Op as Kind};
+ghost use Rattle.ld_op.specs.declared.record.Record.{Record};
 ghost use Rattle.ld_op.specs.Plain.{Plain as Whole, apply, op_length};
 ghost use Rattle.ld_op.specs.Bytes.{op_bytes};
 ghost use Rattle.ld_op.specs.Cells.{read_plain};
 ghost use Rattle.ld_layout.specs.Layout.{Layout, kept_in};
 ghost use Rattle.ld_segment.specs.Bases.{BasesAreRead};
-ghost use Rattle.ld_segment.specs.Lies.{Slots, LiesAs, IsSound, StandsFor, StandsForEither, MayKeep, IsRowTorn, written, op_row, row_made, slots_with};
+ghost use Rattle.ld_segment.specs.Ops.{state_after, IsJournalOf};
+ghost use Rattle.ld_segment.specs.Lies.{Slots, LiesAs, IsSound, StandsFor, StandsForEither, MayKeep, IsRowTorn, written, op_row, row_made, slots_with, switching, layout_left, plain_left};
 
 /// Bytes lie in one way at most, so they stand for one plain state at most, as long as a Base is read as it was written.
 pub fn bytes_stand_for_one_state()
@@ -32,4 +35,20 @@ pub fn kept_ops_are_durable()
     ensures made { (y : Layout) (z : Slots) (o : Kind) (bytes : List ℕ) → LiesAs (written y) y z bytes → IsSound y → MayKeep y o
         → LiesAs (written (kept_in y o)) (kept_in y o) (slots_with y z (op_length o)) (row_made 13 y z (op_bytes o) bytes)
         × (read_plain (row_made 13 y z (op_bytes o) bytes) (kept_in y o).index ≡ apply (read_plain bytes y.index) o) }
+{}
+
+/// Of a fault in one of an op's writing calls, that call and the pictures of the crashes since then decide what a load
+/// finds: the op, or a switch alone, or neither.
+pub fn picture_decides_the_layout()
+    ensures lies { (y : Layout) (z : Slots) (o : Kind) (bytes : List ℕ) (call : ℕ) (how : Option Picture) (later : List Picture) (p : DiskPlain)
+        → LiesAs (written y) y z bytes → IsSound y → MayKeep y o → IsSafe bytes p.state → IsTold call how p → call ≤ switching y o + 4
+        → (w : Slots) × LiesAs (written (layout_left y o call how later)) (layout_left y o call how later) w (crashed_by later (after_calls (op_row y z o) p).state).bytes }
+    ensures plain { (y : Layout) (z : Slots) (o : Kind) (bytes : List ℕ) (call : ℕ) (how : Option Picture) (later : List Picture) (p : DiskPlain)
+        → LiesAs (written y) y z bytes → IsSound y → MayKeep y o → IsSafe bytes p.state → IsTold call how p → call ≤ switching y o + 4
+        → read_plain (crashed_by later (after_calls (op_row y z o) p).state).bytes (layout_left y o call how later).index ≡ plain_left (read_plain bytes y.index) y o call how later }
+{}
+
+/// A journal of one segment stands for what it did before there were others: the plain state that its records add up to.
+pub fn journals_stand_as_before()
+    ensures { (vs : List Record) (bytes : List ℕ) → IsJournalOf vs bytes → StandsFor (state_after vs) bytes }
 {}
