@@ -1,14 +1,18 @@
 -- The bytes of an index: the plain state, with the place and the length of each payload; and how bytes are judged.
-use Rattle.std.specs.Prelude.{ℕ, zero, suc, ◌+◌, ◌-◌, ◌^◌, max, List, [], ◌∷◌, ◌++◌, length, Bool, true, false, ◌&&◌, not, ◌==◌, nat_le, nat_lt}
+use Rattle.std.specs.Prelude.{◌≡◌, ◌<◌, ◌≤◌, ℕ, zero, suc, ◌+◌, ◌-◌, ◌^◌, max, List, [], ◌∷◌, ◌++◌, length, Bool, true, false, ◌&&◌, not, nat_le}
 use Rattle.byteorder.specs.Endian.{big_bytes}
+use Rattle.std.specs.List.{AllByRecursion}
+use Rattle.ld_table.specs.Table.{Ordered}
 use Rattle.ld_table.specs.Words.{numbers_from}
+use Rattle.ld_ids.specs.Id.{IsLog}
+use Rattle.ld_msg.specs.Bounds.{Is32, Is64, IsEpoch, IsLng, IsEntry, IsKept, IsSummary}
 use Rattle.ld_lsn.specs.Number.{epoch_of}
 use Rattle.ld_msg.specs.declared.msg.What.{What}
 use Rattle.ld_msg.specs.declared.msg.What.TheVariants.{Rec, Hole, Bridge, Plug, Withheld}
 use Rattle.ld_msg.specs.declared.msg.Entry.{Entry}
 use Rattle.ld_msg.specs.declared.msg.Summary.{Summary}
 use Rattle.ld_fields.specs.Fields.{Read, Got, follow, check, field, within}
-use Rattle.ld_fields.specs.Items.{summary_bytes, flag, greatest_epoch, greatest_lng, is_number, is_tag, read_older_summary, read_summary, read_flag}
+use Rattle.ld_fields.specs.Items.{summary_bytes, flag, greatest_epoch, greatest_lng, is_number, is_tag, read_summary, read_flag}
 use Rattle.ld_op.specs.Plain.{Plain, Log}
 
 -- ---- the bytes ----
@@ -56,6 +60,32 @@ logs_bytes_based (l ∷ ls) = state_based l.0 l.1 ++ (tables_based l.1 ++ logs_b
 -- the generation, and each log
 unfoldable pub index_bytes : Plain → List ℕ
 index_bytes p = big_bytes 4 p.generation ++ (big_bytes 2 (length p.logs) ++ logs_bytes_based p.logs)
+
+-- how many entries all logs have
+abbrev pub entry_count : List (ℕ × Log) → ℕ
+entry_count [] = 0
+entry_count (l ∷ ls) = length l.1.entries + entry_count ls
+
+-- the place of the first byte of a payload that has some
+abbrev pub first_of : List ℕ → List ℕ
+first_of [] = []
+first_of (k ∷ ks) = k ∷ []
+
+abbrev pub start_of : What → List ℕ
+start_of (Rec p) = first_of p
+start_of Hole = []
+start_of Bridge = []
+start_of Plug = []
+start_of Withheld = []
+
+abbrev pub entry_starts : List (ℕ × Entry) → List ℕ
+entry_starts [] = []
+entry_starts (e ∷ es) = start_of e.1.what ++ entry_starts es
+
+-- where the payloads of an index begin
+abbrev pub payload_starts : List (ℕ × Log) → List ℕ
+payload_starts [] = []
+payload_starts (l ∷ ls) = entry_starts l.1.entries ++ payload_starts ls
 
 -- ---- how bytes are judged ----
 
@@ -119,3 +149,54 @@ unfoldable pub read_index : List ℕ → Bool → ℕ → Read Plain
 read_index bs older at =
     follow (field 4 bs at) (λ generation at_logs.
     follow (field 2 bs at_logs) (λ count at_log. follow (read_rising (read_based_log bs older) count 0 at_log) (λ logs next. Got (record { generation = generation; logs = logs }) next)))
+
+-- ---- what the bytes can carry ----
+
+-- a payload's bytes stand side by side, at numbers of 64 bits
+abbrev pub IsPlaced : What → Type 0
+IsPlaced (Rec p) = (p ≡ numbers_from (first_place p) (length p)) × (first_place p + length p ≤ 2 ^ 64 - 1)
+IsPlaced Hole = Unit {0}
+IsPlaced Bridge = Unit {0}
+IsPlaced Plug = Unit {0}
+IsPlaced Withheld = Unit {0}
+
+-- an entry under its own number, with the place of its payload where it is a record
+pub record IsBasedEntry (e : ℕ × Entry) : Type 0 where
+  pub number : e.1.number ≡ e.0
+  pub entry : IsEntry e.1
+  pub kept : IsKept e.1.what
+  pub placed : IsPlaced e.1.what
+
+-- a summary under the epoch that it closes; in an older index it was closed without a loss
+pub record IsBasedSummary (older : Bool) (s : ℕ × Summary) : Type 0 where
+  pub epoch : IsEpoch s.0
+  pub summary : IsSummary s.0 s.1
+  pub loss : older ≡ true → s.1.loss ≡ false
+
+-- a last known good place under its epoch
+pub record IsBasedLng (m : ℕ × ℕ) : Type 0 where
+  pub epoch : IsEpoch m.0
+  pub lng : IsLng m.1
+
+-- the keys rise, and their count fits four bytes
+pub record IsBasedTable {X : Type 0} (P : ℕ × X → Type 0) (m : List (ℕ × X)) : Type 0 where
+  pub rise : Ordered m
+  pub few : length m < 2 ^ 32
+  pub each : AllByRecursion P m
+
+-- a log under its number
+pub record IsBasedLog (older : Bool) (l : ℕ × Log) : Type 0 where
+  pub log : IsLog l.0
+  pub sealed : Is32 l.1.sealed
+  pub trim : Is64 l.1.trim
+  pub lost_to : Is32 l.1.lost_to
+  pub summaries : IsBasedTable (IsBasedSummary older) l.1.summaries
+  pub lngs : IsBasedTable IsBasedLng l.1.lngs
+  pub entries : IsBasedTable IsBasedEntry l.1.entries
+
+-- the numbers and counts of an index fit their fields, and its logs and their tables rise
+pub record IsBased (older : Bool) (p : Plain) : Type 0 where
+  pub generation : Is32 p.generation
+  pub rise : Ordered p.logs
+  pub few : length p.logs < 2 ^ 16
+  pub logs : AllByRecursion (IsBasedLog older) p.logs

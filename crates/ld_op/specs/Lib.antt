@@ -18,5 +18,7 @@ pub mod Judged
 pub mod Records
 pub mod Pointed
 pub mod Indexed
+pub mod Taken
+pub mod Marked
 pub mod Drafts
 pub mod DraftMessages
