@@ -23,3 +23,4 @@ pub mod Decides
 pub mod Durable
 pub mod OpPictures
 pub mod Before
+pub mod Planning

@@ -1,6 +1,7 @@
 -- Lists of writing calls, one after the other.
-use Rattle.std.proofs.Common.{◌≡◌, refl, List, [], ◌∷◌, ◌++◌, Option, Some, Bool, true, false, if◌then◌else◌, sym, ap, ◌∙◌}
+use Rattle.std.proofs.Common.{◌≡◌, refl, ℕ, List, [], ◌∷◌, ◌++◌, length, take, Option, Some, Bool, true, false, if◌then◌else◌, sym, ap, ◌∙◌}
 use Rattle.ld_disk.specs.Plain.{Plain, Call, after_call, after_calls, all_succeed, succeeds}
+use Rattle.ld_segment.specs.Lies.{shut_over}
 
 -- behind calls that all succeed the others go on
 abbrev GoOn : List Call → List Call → Plain → Type 0
@@ -27,3 +28,8 @@ pub three_lists : (first second third : List Call) (p : Plain) (now : Option Pla
     → (now ≡ Some (after_calls third (after_calls second (after_calls first p)))) × (ok ≡ all_succeed third (after_calls second (after_calls first p)))
     → (now ≡ Some (after_calls (first ++ (second ++ third)) p)) × (ok ≡ all_succeed (first ++ (second ++ third)) p)
 three_lists first second third p now ok all_1 all_2 last = two_lists first (second ++ third) p now ok all_1 (two_lists second third (after_calls first p) now ok all_2 last)
+
+-- one byte over a slot's gate, where it is open
+pub shut_is : (is_open : Bool) (n : ℕ) → n ≡ length (shut_over is_open) → take n (0 ∷ []) ≡ shut_over is_open
+shut_is true n long = ap (λ (k : ℕ). take k (0 ∷ [])) long
+shut_is false n long = ap (λ (k : ℕ). take k (0 ∷ [])) long

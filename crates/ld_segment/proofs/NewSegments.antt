@@ -39,8 +39,8 @@ pub record IsNew (y : Layout) (g : Segment) : Type 0 where
 pub new_is : (y : Layout) (cause : ℕ) → IsNew y (new_segment y cause 0)
 new_is y cause = record { based = refl; ops = refl; end = omega arith; limit = omega arith }
 
-pub record_long : (kind : ℕ) (y : Layout) (g : Segment) → length (base_record kind y g) ≡ 6 + base_length y.index g.areas
-record_long kind y g = omega (arith, length-append (framed (base_bytes kind y.index g.areas)) (0 ∷ []), base_long kind y.index g.areas)
+pub base_record_long : (kind : ℕ) (y : Layout) (g : Segment) → length (base_record kind y g) ≡ 6 + base_length y.index g.areas
+base_record_long kind y g = omega (arith, length-append (framed (base_bytes kind y.index g.areas)) (0 ∷ []), base_long kind y.index g.areas)
 
 pub new_current : (kind : ℕ) (opening from : Version) (y : Layout) (g : Segment) (c : List ℕ) → after_base kind opening ≡ Some from → (kind ≡ 9 → HasNoLoss y.index) → IsBase y.index g.areas → IsNew y g → StandsAt g.place (base_record kind y g) c
     → IsCurrent opening from g y.index c

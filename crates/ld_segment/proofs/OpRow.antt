@@ -51,7 +51,7 @@ unfolding with_record switched_to
 switched_with y o cause = refl
 
 -- a record that fits has the segment's limit as it is
-not_past : (g : Segment) (o : Op) → is_full_later (op_length o) (Some g) ≡ false → g.end + record_length (op_length o) < g.limit
+pub not_past : (g : Segment) (o : Op) → is_full_later (op_length o) (Some g) ≡ false → g.end + record_length (op_length o) < g.limit
 not_past g o goes = leb-false g.limit (g.end + record_length (op_length o)) (or_parts (nat_le (max full_ops g.based) g.ops) (nat_le g.limit (g.end + record_length (op_length o))) goes).1
 
 stays_by : (end limit body x : ℕ) (rs : List Record) → end + record_length body < limit → end + 1 ≡ x + place_behind rs → limit ≡ x + room_for (first_length rs) → (v : Record) → body_length v ≡ body → limit ≡ x + room_for (first_length (rs ++ v ∷ []))

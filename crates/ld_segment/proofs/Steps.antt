@@ -1,5 +1,5 @@
 -- What a crash leaves of writes that are synced, one call after the other.
-use Rattle.std.proofs.Common.{◌≡◌, inl, inr, ⊎_elim, ℕ, List, Option, Some, OnOk, Result, Ok, Err, sym, ◌∙◌, ap, subst, arith}
+use Rattle.std.proofs.Common.{◌≡◌, ◌≤◌, ◌+◌, inl, inr, ⊎_elim, ℕ, List, Option, Some, OnOk, Result, Ok, Err, sym, ◌∙◌, ap, subst, arith}
 use Rattle.std.specs.Prelude.{IfSome}
 use Rattle.std.specs.Option.{option_map}
 use Rattle.ld_disk.specs.Images.{overwrite, Torn, Follows, Only}
@@ -80,3 +80,8 @@ module _ {D : Type 0} (seen : D → Option (List ℕ)) (may_leave : D → List �
 
           pub synced_both : (d3 : D) → ((c : List ℕ) → may_leave d3 c → may_leave d2 c) → Time d2 d3 → LeavesOnly moment left_since d0 d3 Q
           synced_both d3 crash_3 time_3 = goes_on moment left_since d0 d2 d3 Q (may_leave d3) written_both time_3 (λ c left. torn_twice c (crash_3 c left))
+
+-- room that is spent by one call, and then by another
+pub spent : {T E : Type 0} (r : Result T E) (n m both room mid room_after reach reach_mid reach_after : ℕ) → n + m ≡ both → (room ≤ mid + n) × (reach ≤ reach_mid) → OnOk r ((mid ≤ room_after + m) × (reach_mid ≤ reach_after)) → OnOk r ((room ≤ room_after + both) × (reach ≤ reach_after))
+spent (Ok x) n m both room mid room_after reach reach_mid reach_after sum first second = (omega (arith, sum, first.0, second.0), omega (arith, first.1, second.1))
+spent (Err e) n m both room mid room_after reach reach_mid reach_after sum first second = tt

@@ -38,7 +38,7 @@ place_by : (size end : ℕ) (b : Bool) → b ≡ false → cond b 0 (max 0 (0 + 
 place_by size end true is = absurd (cc is)
 place_by size end false is = omega arith
 
-first_place : (y : Layout) (cause room : ℕ) → y.later ≡ None → (new_segment y cause room).place ≡ y.end + 49
+pub first_place : (y : Layout) (cause room : ℕ) → y.later ≡ None → (new_segment y cause room).place ≡ y.end + 49
 first_place y cause room e =
     let size : ℕ = base_length y.index (used y.index (closed_areas y y.later)) + 6 + room_for cause in
     let past : nat_le (0 + size) 0 ≡ false = grind (arith, nat_tests) in

@@ -18,7 +18,7 @@ use Rattle.ld_segment.proofs.CurrentSlots.{says_long}
 use Rattle.ld_segment.proofs.Rows.{same_front}
 use Rattle.ld_segment.proofs.Standing.{Standing, IsSameByte, same_byte, is_live, this_live, off_head, head_before}
 use Rattle.ld_segment.proofs.More.{row_bodies, gate_is, row_inside, rows_long, current_in}
-use Rattle.ld_segment.proofs.NewSegments.{IsNew, record_long, new_current}
+use Rattle.ld_segment.proofs.NewSegments.{IsNew, base_record_long, new_current}
 
 -- a part of some bytes that are as they were
 part_same : (at m i : ℕ) (piece b c : List ℕ) → IsSameAt at m b c → i + length piece ≤ m → StandsAt (at + i) piece b → StandsAt (at + i) piece c
@@ -81,7 +81,7 @@ module _ (opening version : Version) (y : Layout) (z : Slots) (g : Segment) (rs 
   }
 
   base_ends : length w.base ≤ size
-  base_ends = omega (arith, record_long kind y n, long)
+  base_ends = omega (arith, base_record_long kind y n, long)
 
   -- ---- what is elsewhere ----
 

@@ -4,3 +4,4 @@ pub mod Slots
 pub mod Ops
 pub mod Bases
 pub mod Lies
+pub mod Plans

@@ -1,18 +1,20 @@
 // What the bytes of a disk in segments stand for.
-ghost use Rattle.std.specs.Prelude.{◌≡◌, ◌≤◌, ◌+◌, List, ℕ, Option};
+ghost use Rattle.std.specs.Prelude.{◌≡◌, ◌≤◌, ◌+◌, List, ℕ, length, Option, None, Some, true, false};
 ghost use Rattle.ld_disk.specs.Record.{State};
 ghost use Rattle.ld_disk.specs.Plain.{Plain as DiskPlain, IsTold, after_calls, all_made};
 ghost use Rattle.ld_disk.specs.declared.disk.Picture.{Picture};
 ghost use Rattle.ld_journal.specs.Pictures.{IsSafe, crashed_by};
+ghost use Rattle.ld_msg.specs.Register.{journal_limit};
 ghost use Rattle.ld_op.specs.declared.op.Op.{Op as Kind};
 ghost use Rattle.ld_op.specs.declared.record.Record.{Record};
 ghost use Rattle.ld_op.specs.Plain.{Plain as Whole, apply, op_length};
 ghost use Rattle.ld_op.specs.Bytes.{op_bytes};
 ghost use Rattle.ld_op.specs.Cells.{read_plain};
-ghost use Rattle.ld_layout.specs.Layout.{Layout, kept_in};
+ghost use Rattle.ld_layout.specs.Layout.{Layout, Segment, switches, kept_in};
 ghost use Rattle.ld_segment.specs.Bases.{BasesAreRead};
 ghost use Rattle.ld_segment.specs.Ops.{state_after, IsJournalOf};
-ghost use Rattle.ld_segment.specs.Lies.{Slots, LiesAs, IsSound, StandsFor, StandsForEither, MayKeep, IsRowTorn, written, op_row, row_made, slots_with, switching, layout_left, plain_left};
+ghost use Rattle.ld_segment.specs.Plans.{Stays, First, Later, IsPlanTorn, planned, planned_calls, planned_count, planned_end, planned_made};
+ghost use Rattle.ld_segment.specs.Lies.{Slots, LiesAs, IsSound, StandsFor, StandsForEither, MayKeep, IsRowTorn, written, segment_for, gate_in, first_switch, next_switch, row_of, op_row, row_made, slots_with, switching, layout_left, plain_left};
 
 /// Bytes lie in one way at most, so they stand for one plain state at most, as long as a Base is read as it was written.
 pub fn bytes_stand_for_one_state()
@@ -51,4 +53,18 @@ pub fn picture_decides_the_layout()
 /// A journal of one segment stands for what it did before there were others: the plain state that its records add up to.
 pub fn journals_stand_as_before()
     ensures { (vs : List Record) (bytes : List ℕ) → IsJournalOf vs bytes → StandsFor (state_after vs) bytes }
+{}
+
+/// The plan of a record has its row's calls, leaves what they leave, and lies within all limits where an op may be kept.
+pub fn plans_are_rows()
+    ensures calls { (kind : ℕ) (y : Layout) (z : Slots) (body : List ℕ) → planned_calls (planned kind y z body) ≡ row_of kind y z body }
+    ensures torn { (kind : ℕ) (y : Layout) (z : Slots) (body b c : List ℕ) → IsPlanTorn (planned kind y z body) b c → IsRowTorn kind y z body b c }
+    ensures made { (kind : ℕ) (y : Layout) (z : Slots) (body b : List ℕ) → planned_made (planned kind y z body) b ≡ row_made kind y z body b }
+    ensures stays { (kind : ℕ) (y : Layout) (z : Slots) (body : List ℕ) → switches y (length body) ≡ false → planned kind y z body ≡ record { before = Stays; gate = gate_in y y.later; body = body } }
+    ensures first { (kind : ℕ) (y : Layout) (z : Slots) (body : List ℕ) → switches y (length body) ≡ true → y.later ≡ None
+        → planned kind y z body ≡ record { before = First (first_switch kind y (segment_for y (length body))); gate = (segment_for y (length body)).end; body = body } }
+    ensures later { (kind : ℕ) (y : Layout) (z : Slots) (body : List ℕ) (s : Segment) → switches y (length body) ≡ true → y.later ≡ Some s
+        → planned kind y z body ≡ record { before = Later (next_switch kind y z (segment_for y (length body))); gate = (segment_for y (length body)).end; body = body } }
+    ensures count { (y : Layout) (z : Slots) (o : Kind) → planned_count (planned 13 y z (op_bytes o)) ≡ switching y o + 4 }
+    ensures fits { (y : Layout) (z : Slots) (o : Kind) (b : List ℕ) → LiesAs (written y) y z b → IsSound y → MayKeep y o → planned_end (planned 13 y z (op_bytes o)) ≤ journal_limit }
 {}
