@@ -23,3 +23,7 @@ pub mod Same
 pub mod Reading
 pub mod Agree
 pub mod Ordered
+pub mod Tables
+pub mod Taken
+pub mod Rising
+pub mod Basing

@@ -18,5 +18,8 @@ pub mod Judged
 pub mod Records
 pub mod Pointed
 pub mod Filled
+pub mod Indexed
+pub mod Taken
+pub mod Marked
 pub mod Drafts
 pub mod DraftMessages

@@ -47,6 +47,13 @@ impl EntryMap {
         }
     }
 
+    /// The entries and the places for others.
+    pub(crate) fn places(&self) -> &BTreeMap<u64, Option<Pointed>>
+        ensures { result.now.entries ≡ self.now }
+    {
+        &self.map
+    }
+
     /// The entry under the number.
     pub(crate) fn get(&self, number: u64) -> Option<&Pointed>
         ensures { option_copied result ≡ find number (filled self.now) }

@@ -1,6 +1,7 @@
 //! The ops of a node's journal, and the records that they stand in.
 #![tactic(auto)]
 
+mod based;
 mod carries;
 mod decode;
 mod draft;
@@ -9,6 +10,7 @@ mod encode;
 mod entries;
 mod fault;
 mod index;
+mod index_read;
 mod known_good;
 mod log;
 mod logs;
@@ -24,6 +26,7 @@ mod summaries;
 mod tests;
 mod version;
 
+pub use based::bases_are_read;
 pub use carries::Carries;
 pub use draft::{DraftBody, Said};
 pub use draft_message::Draft;

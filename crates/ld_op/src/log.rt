@@ -4,7 +4,7 @@ ghost use Rattle.ld_table.specs.Table.{find, first_from, Ordered};
 ghost use Rattle.ld_lsn.specs.Number.{epoch_of};
 ghost use Rattle.ld_op.specs.Plain.{empty_log, epoch_zero, summary_at, lng_at, lost_log, accepted, sealed_by, cleaned, trimmed_to, refilled_with, refilled, entries_length, op_length};
 ghost use Rattle.ld_op.specs.Cells.{placed, placed_entries};
-ghost use Rattle.ld_op.specs.Places.{has_place};
+ghost use Rattle.ld_op.specs.Places.{filled, has_place};
 ghost use Rattle.ld_op.specs.Picks.{picked, carried};
 ghost use Rattle.ld_op.specs.Ticks.{lowest_unclean};
 ghost use Rattle.ld_op.specs.Answers.{page_limit, page_upto};
@@ -90,6 +90,55 @@ impl LogState {
             lost_to: epoch,
             whole: Lsn::from_u64(0),
         }
+    }
+
+    /// A log that holds this.
+    pub(crate) fn with(
+        sealed: u32,
+        trim: Lsn,
+        lost: bool,
+        lost_to: u32,
+        summaries: SummaryMap,
+        lngs: KnownGood,
+        entries: EntryMap,
+    ) -> LogState
+        ensures there { result.there ≡ true }
+        ensures log { result.log ≡ record { sealed = sealed; trim = trim; entries = filled entries; summaries = filled summaries; lngs = filled lngs; lost = lost; lost_to = lost_to } }
+    {
+        let mut state = LogState {
+            there: true,
+            sealed,
+            trim,
+            entries,
+            summaries,
+            lngs,
+            lost,
+            lost_to,
+            whole: Lsn::from_u64(0),
+        };
+        state.raise();
+        state
+    }
+
+    /// The summaries of the clean epochs.
+    pub(crate) fn summaries(&self) -> &SummaryMap
+        ensures { filled result.now ≡ self.now.log.summaries }
+    {
+        &self.summaries
+    }
+
+    /// The last known good places.
+    pub(crate) fn lngs(&self) -> &KnownGood
+        ensures { filled result.now ≡ self.now.log.lngs }
+    {
+        &self.lngs
+    }
+
+    /// The entries.
+    pub(crate) fn entries(&self) -> &EntryMap
+        ensures { filled result.now ≡ self.now.log.entries }
+    {
+        &self.entries
     }
 
     /// Whether the log is there. One that isn't is empty.

@@ -38,6 +38,13 @@ impl LogMap {
         }
     }
 
+    /// The logs and the room for others.
+    pub(crate) fn all(&self) -> &BTreeMap<u32, LogState>
+        ensures { result.now.entries ≡ self.now }
+    {
+        &self.map
+    }
+
     /// The log of the number.
     pub(crate) fn get(&self, log: LogId) -> Option<&LogState>
         ensures { held_log (option_copied result) ≡ unwrap_or (find log (there_of self.now)) empty_log }

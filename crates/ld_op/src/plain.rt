@@ -53,6 +53,24 @@ impl Plain {
         }
     }
 
+    /// A store of the generation, with these logs.
+    pub(crate) fn with(alloc: Global, generation: u32, logs: LogMap) -> Plain
+        ensures { result.state ≡ record { generation = generation; logs = there_of logs } }
+    {
+        Plain {
+            generation,
+            logs,
+            fresh: LogMap::new(alloc),
+        }
+    }
+
+    /// The logs.
+    pub(crate) fn logs(&self) -> &LogMap
+        ensures { there_of result.now ≡ self.now.state.logs }
+    {
+        &self.logs
+    }
+
     /// The generation, 0 before the store is formatted.
     pub fn generation(&self) -> u32
         ensures { result ≡ self.now.state.generation }

@@ -67,6 +67,24 @@ impl Pointed {
         }
     }
 
+    /// An entry with this.
+    pub(crate) fn new(number: Lsn, ballot: u32, what: Held) -> Pointed
+        ensures { result ≡ record { number = number; ballot = ballot; what = seen_what what } }
+    {
+        Pointed {
+            number,
+            ballot,
+            what,
+        }
+    }
+
+    /// What stands under the number.
+    pub(crate) fn held(&self) -> Held
+        ensures { seen_what result ≡ self.now.what }
+    {
+        self.what
+    }
+
     /// The number.
     pub fn number(&self) -> Lsn
         ensures { result ≡ self.now.number }
