@@ -53,7 +53,7 @@ lngs_long : (gs : List (ℕ × ℕ)) → length (lngs_based gs) ≡ 8 * length g
 lngs_long [] = omega arith
 lngs_long (g ∷ gs) = omega (arith, lngs_long gs, length-append (big_bytes 4 g.0) (big_bytes 4 g.1 ++ lngs_based gs), length-append (big_bytes 4 g.1) (lngs_based gs), fixed 4 g.0, fixed 4 g.1)
 
-areas_long : (areas : List (ℕ × ℕ)) → length (areas_based areas) ≡ 16 * length areas
+pub areas_long : (areas : List (ℕ × ℕ)) → length (areas_based areas) ≡ 16 * length areas
 areas_long [] = omega arith
 areas_long (a ∷ areas) = omega (arith, areas_long areas, length-append (big_bytes 8 a.0) (big_bytes 8 a.1 ++ areas_based areas), length-append (big_bytes 8 a.1) (areas_based areas), fixed 8 a.0, fixed 8 a.1)
 

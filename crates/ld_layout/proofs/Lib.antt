@@ -5,3 +5,7 @@ pub mod Lengths
 pub mod Held
 pub mod Grows
 pub mod Payloads
+pub mod Copies
+pub mod Inside
+pub mod Segments
+pub mod Bases

@@ -2,6 +2,7 @@
 use Rattle.std.specs.Prelude.{ℕ, List, [], ◌∷◌, ◌++◌, length, ◌||◌, ◌==◌, nat_le}
 use Rattle.byteorder.specs.Endian.{big_bytes}
 use Rattle.ld_fields.specs.Fields.{Read, Got, follow, check, field, end_at}
+use Rattle.ld_msg.specs.Bounds.{Is64}
 use Rattle.ld_op.specs.Plain.{Plain}
 use Rattle.ld_op.specs.Indexed.{index_bytes, read_index, read_table}
 
@@ -27,3 +28,8 @@ unfoldable pub judge_base : List ℕ → Read Base
 judge_base bs =
     follow (field 1 bs 0) (λ kind at. check ((kind == 9) || (kind == 13)) 0 (
     follow (read_index bs (kind == 9) at) (λ index at_areas. follow (read_table bs (read_area bs) at_areas) (λ areas next. end_at bs next (record { kind = kind; index = index; areas = areas })))))
+
+-- a place and a length that fit their fields
+pub record IsBasedArea (a : ℕ × ℕ) : Type 0 where
+  pub place : Is64 a.0
+  pub length : Is64 a.1

@@ -2,12 +2,18 @@
 #![tactic(auto)]
 
 mod areas;
+mod base;
 mod layout;
+mod listed;
+mod segment;
 
 pub use areas::{least_place, least_places_are_free};
+pub use base::{Based, bases_are_judged, decode_base, encode_base};
 pub use layout::{
     bases_are_so_long, live_areas_stay_apart, records_keep_payloads, switches_keep_payloads,
 };
+pub use listed::{Areas, used};
+pub use segment::{Layout, Segment, base_length};
 
 #[cfg(test)]
 mod tests;

@@ -146,7 +146,7 @@ module _ {X : Type 0} where
       follow_reads bs (item least at) _ e (e ∷ m) (f m ++ ys) ys (each e least at (f m ++ ys) a.0 r.0 (stands_as bs at _ _ (ap (λ x. x ++ ys) (more e m) ∙ append_assoc (one e) (f m) ys) s)) (λ next t.
       follow_reads bs (read_rising item (length m) (e.0 + 1) next) _ m (e ∷ m) ys ys (rising_reads bs item one f P none more each m (e.0 + 1) next ys a.1 r.1 t) (λ last u. got_reads bs (e ∷ m) last ys u))
 
-  table_reads : (bs : List ℕ) (item : ℕ → ℕ → Read (ℕ × X)) (one : ℕ × X → List ℕ) (f : List (ℕ × X) → List ℕ) (P : ℕ × X → Type 0)
+  pub table_reads : (bs : List ℕ) (item : ℕ → ℕ → Read (ℕ × X)) (one : ℕ × X → List ℕ) (f : List (ℕ × X) → List ℕ) (P : ℕ × X → Type 0)
       → f [] ≡ [] → ((e : ℕ × X) (m : List (ℕ × X)) → f (e ∷ m) ≡ one e ++ f m)
       → ((e : ℕ × X) (least at : ℕ) (ys : List ℕ) → P e → least ≤ e.0 → Stands bs at (one e ++ ys) → Reads bs (item least at) e ys)
       → (m : List (ℕ × X)) (at : ℕ) (ys : List ℕ) → IsBasedTable P m → Stands bs at ((big_bytes 4 (length m) ++ f m) ++ ys) → Reads bs (read_table bs item at) m ys

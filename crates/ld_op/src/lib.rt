@@ -11,6 +11,8 @@ mod entries;
 mod fault;
 mod index;
 mod index_read;
+#[cfg(test)]
+mod index_tests;
 mod known_good;
 mod log;
 mod logs;
