@@ -1,4 +1,6 @@
 // Closes and trims as tables: what a node has, what comes, what it keeps of it.
+#![tactic(auto, unfolding(ld_op::specs::Plain::op_length))]
+
 use crate::{clean, trim};
 use ld_ids::{LogId, NoMemory};
 use ld_lsn::Lsn;
@@ -26,7 +28,7 @@ fn keep_close(alloc: Global, plain: &mut Plain, log: LogId) -> Result<(), NoMemo
         summary: closing(),
     };
     plain.room(alloc, &op)?;
-    plain.apply(op);
+    plain.apply(op, 0);
     Ok(())
 }
 
@@ -37,7 +39,7 @@ fn keep_trim(alloc: Global, plain: &mut Plain, log: LogId) -> Result<(), NoMemor
         trim: Lsn::new(1, 3),
     };
     plain.room(alloc, &op)?;
-    plain.apply(op);
+    plain.apply(op, 0);
     Ok(())
 }
 

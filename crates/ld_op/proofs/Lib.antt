@@ -17,3 +17,13 @@ pub mod Writes
 pub mod Spelling
 pub mod Unspelling
 pub mod Judges
+pub mod Cells
+pub mod CellsMore
+pub mod Same
+pub mod Reading
+pub mod Agree
+pub mod Ordered
+pub mod Tables
+pub mod Taken
+pub mod Rising
+pub mod Basing

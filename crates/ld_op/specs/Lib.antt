@@ -1,6 +1,7 @@
 pub mod Places
 pub mod Older
 pub mod Plain
+pub mod Cells
 pub mod Answers
 pub mod Ticks
 pub mod Whole
@@ -15,3 +16,10 @@ pub mod Picks
 pub mod Bytes
 pub mod Judged
 pub mod Records
+pub mod Pointed
+pub mod Filled
+pub mod Indexed
+pub mod Taken
+pub mod Marked
+pub mod Drafts
+pub mod DraftMessages

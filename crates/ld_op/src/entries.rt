@@ -1,17 +1,19 @@
 // The entries of a log by number, with places for those to come.
-ghost use Rattle.std.specs.Prelude.{◌≡◌, ◌≤◌, ℕ, [], true, OnOk, option_copied, nat_lt, drop};
+ghost use Rattle.std.specs.Prelude.{◌≡◌, ◌≤◌, ◌<◌, ◌+◌, ◌^◌, ℕ, [], true, OnOk, option_copied, nat_lt, drop};
 ghost use Rattle.std.specs.Ordering.{nat_cmp};
 ghost use Rattle.std.specs.BTreeMap.Range.{entries_between};
 ghost use Rattle.std.specs.declared.ops.Bound.TheVariants.{Included, Excluded};
 ghost use Rattle.ld_table.specs.Table.{find, put, keep, keep_keys, Ordered};
 ghost use Rattle.ld_op.specs.Places.{filled, has_place, place_passes, starts_by};
 ghost use Rattle.ld_op.specs.Older.{stands_between, is_older, first_older};
-ghost use Rattle.ld_op.specs.Plain.{accept_entry, survives_bridge, survives_clean, refill_entries};
+ghost use Rattle.ld_op.specs.Plain.{accept_entry, survives_bridge, survives_clean, refill_entries, entries_length};
+ghost use Rattle.ld_op.specs.Cells.{placed_entries};
 ghost use Rattle.ld_op.specs.Room.{have_places};
 
+use crate::pointed::{Pointed, entry_length};
 use ld_ids::NoMemory;
 use ld_lsn::Lsn;
-use ld_msg::{Entries, Entry, Summary};
+use ld_msg::{Entry, Summary};
 use std::alloc::Global;
 use std::collections::BTreeMap;
 use std::marker::Model;
@@ -20,7 +22,7 @@ use std::ops::Bound;
 /// Entries by number. A number may have a place instead, made before its entry comes.
 #[derive(Drop)]
 pub(crate) struct EntryMap {
-    pub(crate) map: BTreeMap<u64, Option<Entry>>,
+    pub(crate) map: BTreeMap<u64, Option<Pointed>>,
 }
 
 impl Model for EntryMap {
@@ -45,8 +47,15 @@ impl EntryMap {
         }
     }
 
+    /// The entries and the places for others.
+    pub(crate) fn places(&self) -> &BTreeMap<u64, Option<Pointed>>
+        ensures { result.now.entries ≡ self.now }
+    {
+        &self.map
+    }
+
     /// The entry under the number.
-    pub(crate) fn get(&self, number: u64) -> Option<&Entry>
+    pub(crate) fn get(&self, number: u64) -> Option<&Pointed>
         ensures { option_copied result ≡ find number (filled self.now) }
     {
         let _ = self.map.len();
@@ -71,36 +80,32 @@ impl EntryMap {
     }
 
     /// Puts the entry under its number, which has an entry or a place.
-    pub(crate) fn put(&mut self, entry: Entry)
+    pub(crate) fn put(&mut self, entry: Pointed)
         requires { has_place entry.number self.old ≡ true }
         ensures value { filled self.new ≡ put entry.number entry (filled self.old) }
         ensures places { (q : ℕ) → has_place q self.new ≡ has_place q self.old }
     {
-        let _ = self.map.insert(entry.number.value(), Some(entry));
+        let _ = self.map.insert(entry.number().value(), Some(entry));
     }
 
     /// Takes the entries away that a bridge ends: those above it in its epoch with a smaller ballot.
     /// Takes time in what is above it in its epoch, not in all entries of the log.
-    pub(crate) fn end_at(&mut self, bridge: &Entry)
+    pub(crate) fn end_at(&mut self, bridge: &Pointed)
         ensures value { filled self.new ≡ keep (λ s e. survives_bridge bridge.now e) (filled self.old) }
         ensures place { has_place bridge.now.number self.old ≡ true → has_place bridge.now.number self.new ≡ true }
     {
         let _ = self.map.len();
-        let last = Lsn::new(bridge.number.epoch(), u32::MAX);
-        drop_older(
-            &mut self.map,
-            bridge.ballot,
-            bridge.number.value(),
-            last.value(),
-        );
+        let number = bridge.number();
+        let last = Lsn::new(number.epoch(), u32::MAX);
+        drop_older(&mut self.map, bridge.ballot(), number.value(), last.value());
     }
 
     /// Takes an entry, which has a place.
-    pub(crate) fn accept(&mut self, entry: Entry)
+    pub(crate) fn accept(&mut self, entry: Pointed)
         requires { has_place entry.number self.old ≡ true }
         ensures { filled self.new ≡ accept_entry entry entry.what (filled self.old) }
     {
-        if entry.what.is_bridge() {
+        if entry.is_bridge() {
             self.end_at(&entry);
         }
         self.put(entry);
@@ -117,13 +122,16 @@ impl EntryMap {
         Ok(())
     }
 
-    /// Takes entries, each of which has a place.
-    pub(crate) fn refill(&mut self, entries: Entries)
-        requires { have_places entries self.old ≡ true }
-        ensures { filled self.new ≡ refill_entries entries (filled self.old) }
+    /// Takes entries, each of which has a place, and whose bytes stand from this place of the disk on.
+    pub(crate) fn refill(&mut self, entries: &[Entry], at: u64)
+        requires places { have_places entries.now self.old ≡ true }
+        requires fits { at + entries_length entries.now < 2 ^ 64 }
+        ensures { filled self.new ≡ refill_entries (placed_entries at entries.now) (filled self.old) }
     {
-        for entry in entries.into_vec() {
-            self.put(entry);
+        let mut at = at;
+        for entry in entries {
+            self.put(Pointed::at(entry, at));
+            at += entry_length(entry);
         }
     }
 
@@ -149,7 +157,7 @@ impl EntryMap {
 
 /// Takes the entries with a smaller ballot out of a tree that are above one number and at most
 /// another, in time of what stands there.
-fn drop_older(map: &mut BTreeMap<u64, Option<Entry>>, ballot: u32, above: u64, last: u64)
+fn drop_older(map: &mut BTreeMap<u64, Option<Pointed>>, ballot: u32, above: u64, last: u64)
     requires { above ≤ last }
     ensures { map.new.entries ≡ keep (place_passes (stands_between ballot above last)) map.old.entries }
 {
@@ -162,7 +170,7 @@ fn drop_older(map: &mut BTreeMap<u64, Option<Entry>>, ballot: u32, above: u64, l
 
 /// The first number above one and at most another whose entry has a smaller ballot.
 fn first_older(
-    map: &BTreeMap<u64, Option<Entry>>,
+    map: &BTreeMap<u64, Option<Pointed>>,
     ballot: u32,
     above: u64,
     last: u64,
@@ -180,17 +188,17 @@ fn first_older(
 }
 
 /// Whether an entry stands in a place and has a smaller ballot.
-fn is_older(ballot: u32, place: &Option<Entry>) -> bool
+fn is_older(ballot: u32, place: &Option<Pointed>) -> bool
     ensures { result ≡ is_older ballot place.now }
 {
     match place {
-        Some(entry) => entry.ballot < ballot,
+        Some(entry) => entry.ballot() < ballot,
         None => false,
     }
 }
 
 /// Whether the least number is at most another.
-fn starts_by(map: &BTreeMap<u64, Option<Entry>>, number: u64) -> bool
+fn starts_by(map: &BTreeMap<u64, Option<Pointed>>, number: u64) -> bool
     ensures value { result ≡ starts_by number map.now.entries }
     ensures ordered { Ordered map.now.entries }
 {
@@ -202,7 +210,7 @@ fn starts_by(map: &BTreeMap<u64, Option<Entry>>, number: u64) -> bool
 }
 
 /// Takes all up to a number out of a tree.
-fn drop_through(map: &mut BTreeMap<u64, Option<Entry>>, number: u64)
+fn drop_through(map: &mut BTreeMap<u64, Option<Pointed>>, number: u64)
     ensures { map.new.entries ≡ keep_keys (λ s. nat_lt number s) map.old.entries }
 {
     'taken: while starts_by(map, number) {
@@ -211,7 +219,7 @@ fn drop_through(map: &mut BTreeMap<u64, Option<Entry>>, number: u64)
 }
 
 /// Takes the least number out of a tree.
-fn drop_first(map: &mut BTreeMap<u64, Option<Entry>>)
+fn drop_first(map: &mut BTreeMap<u64, Option<Pointed>>)
     ensures { map.new.entries ≡ drop 1 map.old.entries }
 {
     let _ = map.pop_first();

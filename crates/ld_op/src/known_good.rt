@@ -33,6 +33,13 @@ impl KnownGood {
         }
     }
 
+    /// The last known good places, and the places for others.
+    pub(crate) fn places(&self) -> &BTreeMap<u32, Option<u32>>
+        ensures { result.now.entries ≡ self.now }
+    {
+        &self.map
+    }
+
     /// The place that is kept of the epoch, 0 where none is.
     pub(crate) fn get(&self, epoch: u32) -> u32
         ensures { result ≡ lng_in (filled self.now) epoch }
@@ -58,7 +65,7 @@ impl KnownGood {
     }
 
     /// Keeps this place of the epoch, which has one or a place for one.
-    fn put(&mut self, epoch: u32, place: u32)
+    pub(crate) fn put(&mut self, epoch: u32, place: u32)
         requires { has_place epoch self.old ≡ true }
         ensures { filled self.new ≡ put epoch place (filled self.old) }
     {

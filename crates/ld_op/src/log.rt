@@ -1,9 +1,10 @@
 // One log's part of a node's plain state.
-ghost use Rattle.std.specs.Prelude.{◌≡◌, ◌≢◌, true, false, None, OnOk, IfOk, option_copied, map, take};
+ghost use Rattle.std.specs.Prelude.{◌≡◌, ◌≢◌, ◌<◌, ◌+◌, ◌^◌, true, false, None, OnOk, IfOk, option_copied, map, take};
 ghost use Rattle.ld_table.specs.Table.{find, first_from, Ordered};
 ghost use Rattle.ld_lsn.specs.Number.{epoch_of};
-ghost use Rattle.ld_op.specs.Plain.{empty_log, epoch_zero, summary_at, lng_at, lost_log, accepted, sealed_by, cleaned, trimmed_to, refilled_with, refilled};
-ghost use Rattle.ld_op.specs.Places.{has_place};
+ghost use Rattle.ld_op.specs.Plain.{empty_log, epoch_zero, summary_at, lng_at, lost_log, accepted, sealed_by, cleaned, trimmed_to, refilled_with, refilled, entries_length, op_length};
+ghost use Rattle.ld_op.specs.Cells.{placed, placed_entries};
+ghost use Rattle.ld_op.specs.Places.{filled, has_place};
 ghost use Rattle.ld_op.specs.Picks.{picked, carried};
 ghost use Rattle.ld_op.specs.Ticks.{lowest_unclean};
 ghost use Rattle.ld_op.specs.Answers.{page_limit, page_upto};
@@ -12,11 +13,12 @@ ghost use Rattle.ld_op.specs.Room.{log_after, log_has_room, log_named, have_plac
 
 use crate::entries::EntryMap;
 use crate::known_good::KnownGood;
+use crate::pointed::Pointed;
 use crate::summaries::SummaryMap;
 use crate::{Carries, Excerpt, Op};
 use ld_ids::NoMemory;
 use ld_lsn::Lsn;
-use ld_msg::{Entries, Entry, Summary};
+use ld_msg::{Entry, Summary};
 use std::alloc::Global;
 use std::marker::Model;
 
@@ -90,6 +92,55 @@ impl LogState {
         }
     }
 
+    /// A log that holds this.
+    pub(crate) fn with(
+        sealed: u32,
+        trim: Lsn,
+        lost: bool,
+        lost_to: u32,
+        summaries: SummaryMap,
+        lngs: KnownGood,
+        entries: EntryMap,
+    ) -> LogState
+        ensures there { result.there ≡ true }
+        ensures log { result.log ≡ record { sealed = sealed; trim = trim; entries = filled entries; summaries = filled summaries; lngs = filled lngs; lost = lost; lost_to = lost_to } }
+    {
+        let mut state = LogState {
+            there: true,
+            sealed,
+            trim,
+            entries,
+            summaries,
+            lngs,
+            lost,
+            lost_to,
+            whole: Lsn::from_u64(0),
+        };
+        state.raise();
+        state
+    }
+
+    /// The summaries of the clean epochs.
+    pub(crate) fn summaries(&self) -> &SummaryMap
+        ensures { filled result.now ≡ self.now.log.summaries }
+    {
+        &self.summaries
+    }
+
+    /// The last known good places.
+    pub(crate) fn lngs(&self) -> &KnownGood
+        ensures { filled result.now ≡ self.now.log.lngs }
+    {
+        &self.lngs
+    }
+
+    /// The entries.
+    pub(crate) fn entries(&self) -> &EntryMap
+        ensures { filled result.now ≡ self.now.log.entries }
+    {
+        &self.entries
+    }
+
     /// Whether the log is there. One that isn't is empty.
     pub(crate) fn is_there(&self) -> bool
         ensures value { result ≡ self.now.there }
@@ -113,7 +164,7 @@ impl LogState {
     }
 
     /// The entry under the number.
-    pub(crate) fn entry(&self, number: Lsn) -> Option<&Entry>
+    pub(crate) fn entry(&self, number: Lsn) -> Option<&Pointed>
         ensures { option_copied result ≡ find number self.now.log.entries }
     {
         self.entries.get(number.value())
@@ -198,7 +249,7 @@ impl LogState {
     }
 
     /// Takes an entry, which has a place, and a last known good place of its epoch, which has one too.
-    fn accept(&mut self, lng: u32, entry: Entry)
+    fn accept(&mut self, lng: u32, entry: Pointed)
         requires entry { has_place entry.number self.old.places ≡ true }
         requires lng { has_place (epoch_of entry.number) self.old.lngs ≡ true }
         ensures log { self.new.log ≡ accepted self.old.log lng entry }
@@ -206,9 +257,9 @@ impl LogState {
     {
         self.entries.numbers_agree();
         self.there = true;
-        self.sealed = entry.ballot;
-        self.whole = self.whole.earlier(entry.number);
-        self.lngs.raise(entry.number.epoch(), lng);
+        self.sealed = entry.ballot();
+        self.whole = self.whole.earlier(entry.number());
+        self.lngs.raise(entry.number().epoch(), lng);
         self.entries.accept(entry);
     }
 
@@ -255,14 +306,15 @@ impl LogState {
         self.lost = false;
     }
 
-    /// Takes entries that were missing, each of which has a place.
-    fn refill(&mut self, entries: Entries)
-        requires { have_places entries self.old.places ≡ true }
-        ensures log { self.new.log ≡ refilled_with self.old.log entries }
+    /// Takes entries that were missing, each of which has a place, and whose bytes stand from this place of the disk on.
+    fn refill(&mut self, entries: &[Entry], at: u64)
+        requires places { have_places entries.now self.old.places ≡ true }
+        requires fits { at + entries_length entries.now < 2 ^ 64 }
+        ensures log { self.new.log ≡ refilled_with self.old.log (placed_entries at entries.now) }
         ensures there { self.new.there ≡ true }
     {
         self.there = true;
-        self.entries.refill(entries);
+        self.entries.refill(entries, at);
     }
 
     /// Looks for the number again up to which nothing is missing.
@@ -296,34 +348,37 @@ impl LogState {
         }
     }
 
-    /// Applies an op of this log, for which there is room.
-    pub(crate) fn apply(&mut self, op: Op)
+    /// Applies an op of this log, for which there is room, and whose body stands from this place of the disk on.
+    pub(crate) fn apply(&mut self, op: Op, at: u64)
         requires room { log_has_room self.old op ≡ true }
         requires names { log_named op ≢ None }
-        ensures log { self.new.log ≡ log_after self.old.log op }
+        requires fits { at + op_length op < 2 ^ 64 }
+        ensures log { self.new.log ≡ log_after self.old.log (placed at op) }
         ensures there { self.new.there ≡ true }
         ensures was { self.old.there ≡ false → self.old.log ≡ empty_log }
     {
-        self.change(op);
+        self.change(op, at);
         self.raise();
     }
 
     /// Changes what an op of this log changes.
-    fn change(&mut self, op: Op)
+    #[tactic(auto, unfolding(crate::specs::Plain::op_length))]
+    fn change(&mut self, op: Op, at: u64)
         requires room { log_has_room self.old op ≡ true }
         requires names { log_named op ≢ None }
-        ensures log { self.new.log ≡ log_after self.old.log op }
+        requires fits { at + op_length op < 2 ^ 64 }
+        ensures log { self.new.log ≡ log_after self.old.log (placed at op) }
         ensures there { self.new.there ≡ true }
         ensures was { self.old.there ≡ false → self.old.log ≡ empty_log }
     {
         let _ = self.is_there();
         match op {
             Op::Format { .. } => {}
-            Op::Accept { lng, entry, .. } => self.accept(lng, entry),
+            Op::Accept { lng, entry, .. } => self.accept(lng, Pointed::at(&entry, at + 9)),
             Op::Seal { ballot, .. } => self.seal(ballot),
             Op::Clean { epoch, summary, .. } => self.close(epoch, summary),
             Op::Trim { trim, .. } => self.trim_to(trim),
-            Op::Refill { entries, .. } => self.refill(entries),
+            Op::Refill { entries, .. } => self.refill(entries.as_slice(), at + 7),
             Op::Refilled { .. } => self.end_loss(),
         }
     }

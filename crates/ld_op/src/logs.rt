@@ -1,8 +1,9 @@
 // The logs of a node, by number.
-ghost use Rattle.std.specs.Prelude.{◌≡◌, ◌≢◌, ℕ, [], Option, Some, None, true, OnOk, IsSome, option_copied};
+ghost use Rattle.std.specs.Prelude.{◌≡◌, ◌≢◌, ◌<◌, ◌+◌, ◌^◌, ℕ, [], Option, Some, None, true, OnOk, IsSome, option_copied};
 ghost use Rattle.std.specs.Option.{unwrap_or};
 ghost use Rattle.ld_table.specs.Table.{find, put};
-ghost use Rattle.ld_op.specs.Plain.{empty_log};
+ghost use Rattle.ld_op.specs.Plain.{empty_log, op_length};
+ghost use Rattle.ld_op.specs.Cells.{placed};
 ghost use Rattle.ld_op.specs.Room.{there_of, held_log, has_room_in, log_named, log_after};
 
 use crate::Op;
@@ -35,6 +36,13 @@ impl LogMap {
         LogMap {
             map: BTreeMap::new(alloc),
         }
+    }
+
+    /// The logs and the room for others.
+    pub(crate) fn all(&self) -> &BTreeMap<u32, LogState>
+        ensures { result.now.entries ≡ self.now }
+    {
+        &self.map
     }
 
     /// The log of the number.
@@ -99,15 +107,16 @@ impl LogMap {
         state.room(op)
     }
 
-    /// Applies an op of a log, for which there is room.
-    pub(crate) fn apply(&mut self, log: LogId, op: Op)
+    /// Applies an op of a log, for which there is room, and whose body stands from this place of the disk on.
+    pub(crate) fn apply(&mut self, log: LogId, op: Op, at: u64)
         requires room { has_room_in op (find log self.old) ≡ true }
         requires names { log_named op ≢ None }
-        ensures { there_of self.new ≡ put log (log_after (unwrap_or (find log (there_of self.old)) empty_log) op) (there_of self.old) }
+        requires fits { at + op_length op < 2 ^ 64 }
+        ensures { there_of self.new ≡ put log (log_after (unwrap_or (find log (there_of self.old)) empty_log) (placed at op)) (there_of self.old) }
     {
         let Some(state) = self.map.get_mut(&log.number()) else {
             return;
         };
-        state.apply(op);
+        state.apply(op, at);
     }
 }

@@ -7,18 +7,19 @@ ghost use Rattle.ld_op.specs.Picks.{picked, picked_one, carried};
 
 use crate::carries::Carries;
 use crate::entries::EntryMap;
+use crate::pointed::Pointed;
+use crate::pointers::Pointers;
 use ld_ids::NoMemory;
 use ld_lsn::Lsn;
-use ld_msg::{Entries, Entry, What};
 use std::alloc::Global;
 
 /// How many entries a page has at most.
 const LIMIT: usize = 64;
 
-/// Some entries of a log, and the number up to which there are no others.
+/// Some entries of a log, with the places of their payloads, and the number up to which there are no others.
 #[derive(Drop)]
 pub struct Excerpt {
-    pub entries: Entries,
+    pub entries: Pointers,
     pub upto: Lsn,
 }
 
@@ -36,7 +37,7 @@ impl EntryMap {
         ensures entries { IfOk result (λ page. page.entries ≡ map (λ e. carried (C.carries carries.now e.number) e) (take page_limit (picked bridges (filled self.now) from last))) }
         ensures upto { IfOk result (λ page. page.upto ≡ page_upto (picked bridges (filled self.now) from last) last) }
     {
-        let mut entries = Entries::empty(alloc);
+        let mut entries = Pointers::empty(alloc);
         if last < from {
             return Ok(Excerpt {
                 entries,
@@ -49,7 +50,7 @@ impl EntryMap {
                     let upto = last_number(entries.as_slice());
                     return Ok(Excerpt { entries, upto });
                 }
-                entries.push(copy(alloc, entry, carries)?)?;
+                entries.push(copy(entry, carries))?;
             }
         }
         Ok(Excerpt {
@@ -60,30 +61,23 @@ impl EntryMap {
 }
 
 /// The entry once more; of a record that isn't carried no payload.
-fn copy<C: Carries>(alloc: Global, entry: &Entry, carries: &C) -> Result<Entry, NoMemory>
-    ensures { IfOk result (λ copy. copy ≡ carried (C.carries carries.now entry.now.number) entry.now) }
+fn copy<C: Carries>(entry: &Pointed, carries: &C) -> Pointed
+    ensures { result ≡ carried (C.carries carries.now entry.now.number) entry.now }
 {
-    if carries.carries(entry.number) {
-        return entry.copy(alloc);
+    if carries.carries(entry.number()) {
+        entry.copy()
+    } else {
+        entry.withheld()
     }
-    let what = match &entry.what {
-        What::Rec(_) => What::Withheld,
-        other => other.copy(alloc)?,
-    };
-    Ok(Entry {
-        number: entry.number,
-        ballot: entry.ballot,
-        what,
-    })
 }
 
 /// What stands in a place, where the page picks it.
-fn pick(bridges: bool, place: &Option<Entry>) -> Option<&Entry>
+fn pick(bridges: bool, place: &Option<Pointed>) -> Option<&Pointed>
     ensures { option_copied result ≡ picked_one bridges place.now }
 {
     match place {
         Some(entry) => {
-            if bridges || !entry.what.is_bridge() {
+            if bridges || !entry.is_bridge() {
                 Some(entry)
             } else {
                 None
@@ -94,11 +88,11 @@ fn pick(bridges: bool, place: &Option<Entry>) -> Option<&Entry>
 }
 
 /// The number of the last entry, 0 where there is none.
-fn last_number(entries: &[Entry]) -> Lsn
+fn last_number(entries: &[Pointed]) -> Lsn
     ensures { result ≡ last_number entries.now }
 {
     if entries.is_empty() {
         return Lsn::from_u64(0);
     }
-    entries[entries.len() - 1].number
+    entries[entries.len() - 1].number()
 }

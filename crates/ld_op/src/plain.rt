@@ -1,8 +1,9 @@
 // A node's plain state: what its journal's ops add up to.
-ghost use Rattle.std.specs.Prelude.{◌≡◌, [], None, OnOk, IfOk, option_copied, map, take};
+ghost use Rattle.std.specs.Prelude.{◌≡◌, ◌<◌, ◌+◌, ◌^◌, [], None, OnOk, IfOk, option_copied, map, take};
 ghost use Rattle.ld_table.specs.Table.{find, Ordered};
 ghost use Rattle.ld_table.specs.Words.{first};
-ghost use Rattle.ld_op.specs.Plain.{empty_log, unformatted, log_of, summary_at, lng_at, is_lost, end_here, apply, lost_logs};
+ghost use Rattle.ld_op.specs.Plain.{empty_log, unformatted, log_of, summary_at, lng_at, is_lost, end_here, apply, lost_logs, op_length};
+ghost use Rattle.ld_op.specs.Cells.{placed};
 ghost use Rattle.ld_op.specs.Room.{HasRoom, held_log, log_named, there_of};
 ghost use Rattle.ld_op.specs.Rising.{IsRising};
 ghost use Rattle.ld_op.specs.Picks.{picked, carried};
@@ -12,10 +13,10 @@ ghost use Rattle.ld_op.specs.Answers.{page_limit, page_upto};
 use crate::carries::All;
 use crate::log::{LogState, epoch_zero};
 use crate::logs::LogMap;
-use crate::{Carries, Excerpt, Op};
+use crate::{Carries, Excerpt, Op, Pointed, Pointers};
 use ld_ids::{LogId, NoMemory};
 use ld_lsn::Lsn;
-use ld_msg::{Entries, Entry, Summary};
+use ld_msg::Summary;
 use std::alloc::Global;
 use std::marker::Model;
 use std::mem;
@@ -52,6 +53,24 @@ impl Plain {
         }
     }
 
+    /// A store of the generation, with these logs.
+    pub(crate) fn with(alloc: Global, generation: u32, logs: LogMap) -> Plain
+        ensures { result.state ≡ record { generation = generation; logs = there_of logs } }
+    {
+        Plain {
+            generation,
+            logs,
+            fresh: LogMap::new(alloc),
+        }
+    }
+
+    /// The logs.
+    pub(crate) fn logs(&self) -> &LogMap
+        ensures { there_of result.now ≡ self.now.state.logs }
+    {
+        &self.logs
+    }
+
     /// The generation, 0 before the store is formatted.
     pub fn generation(&self) -> u32
         ensures { result ≡ self.now.state.generation }
@@ -81,7 +100,7 @@ impl Plain {
 
     /// The entry of the log under the number.
     #[tactic(auto, using(ld_table::proofs::Laws::table_rules))]
-    pub fn entry(&self, log: LogId, number: Lsn) -> Option<&Entry>
+    pub fn entry(&self, log: LogId, number: Lsn) -> Option<&Pointed>
         ensures { option_copied result ≡ find number (log_of self.now.state log).entries }
     {
         match self.log(log) {
@@ -216,7 +235,7 @@ impl Plain {
         match self.log(log) {
             Some(state) => state.excerpt(alloc, from, last, bridges, carries),
             None => Ok(Excerpt {
-                entries: Entries::empty(alloc),
+                entries: Pointers::empty(alloc),
                 upto: last,
             }),
         }
@@ -240,13 +259,14 @@ impl Plain {
         }
     }
 
-    /// Applies an op, for which there is room.
-    pub fn apply(&mut self, op: Op)
-        requires { HasRoom self.old op }
-        ensures { self.new.state ≡ apply self.old.state op }
+    /// Applies an op, for which there is room, and whose body stands from this place of the disk on.
+    pub fn apply(&mut self, op: Op, at: u64)
+        requires room { HasRoom self.old op }
+        requires fits { at + op_length op < 2 ^ 64 }
+        ensures { self.new.state ≡ apply self.old.state (placed at op) }
     {
         match op.log() {
-            Some(log) => self.logs.apply(log, op),
+            Some(log) => self.logs.apply(log, op, at),
             None => {
                 if let Op::Format { generation, .. } = op {
                     self.generation = generation;

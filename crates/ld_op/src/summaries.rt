@@ -43,6 +43,13 @@ impl SummaryMap {
         }
     }
 
+    /// The summaries and the places for others.
+    pub(crate) fn places(&self) -> &BTreeMap<u32, Option<Summary>>
+        ensures { result.now.entries ≡ self.now }
+    {
+        &self.map
+    }
+
     /// The summary of the epoch.
     pub(crate) fn get(&self, epoch: u32) -> Option<Summary>
         ensures { result ≡ find epoch (filled self.now) }

@@ -11,7 +11,7 @@ use crate::payloads::Payloads;
 use ld_ids::{LogId, NoMemory, NodeId};
 use ld_lsn::Lsn;
 use ld_msg::{Body, Msg, Summary};
-use ld_op::Plain;
+use ld_op::{Draft, DraftBody, Plain};
 use std::alloc::Global;
 
 /// An ask of a reader, or of a node that refills, and the payloads that the answer carries.
@@ -26,7 +26,7 @@ struct Ask {
 /// The answer to an ask for what stands at a number and behind it. The message is a ReadAsk, and `released` the
 /// log's released number as this node knows it. A page has at most 64 entries; it takes time in what it gives,
 /// and in the bridges and unused places that it passes, not in all entries of the log.
-pub fn answer(alloc: Global, plain: &Plain, released: Lsn, msg: &Msg) -> Result<Msg, NoMemory>
+pub fn answer(alloc: Global, plain: &Plain, released: Lsn, msg: &Msg) -> Result<Draft, NoMemory>
     requires { IsReadAsk msg.now.body }
     ensures { IfOk result (λ answer. answer ≡ read_answered plain.now.state released msg.now) }
 {
@@ -39,12 +39,7 @@ pub fn answer(alloc: Global, plain: &Plain, released: Lsn, msg: &Msg) -> Result<
                 payloads: Payloads::All,
             };
             let body = read_body(alloc, plain, released, ask)?;
-            Ok(Msg {
-                from: msg.to,
-                to: msg.from,
-                log: msg.log,
-                body,
-            })
+            Ok(Draft::new(msg.to, msg.from, msg.log, body))
         }
         _ => Err(NoMemory),
     }
@@ -58,7 +53,7 @@ pub fn answer_one(
     node: NodeId,
     released: Lsn,
     msg: &Msg,
-) -> Result<Msg, NoMemory>
+) -> Result<Draft, NoMemory>
     requires { IsReadOne msg.now.body }
     ensures answer { IfOk result (λ answer. answer ≡ one_answered node plain.now.state released msg.now) }
 
@@ -83,19 +78,14 @@ pub fn answer_one(
                 },
             };
             let body = read_body(alloc, plain, released, ask)?;
-            Ok(Msg {
-                from: msg.to,
-                to: msg.from,
-                log: msg.log,
-                body,
-            })
+            Ok(Draft::new(msg.to, msg.from, msg.log, body))
         }
         _ => Err(NoMemory),
     }
 }
 
 /// The page that answers an ask for a digest which isn't refused. The message is a DigestAsk.
-pub fn digest(alloc: Global, plain: &Plain, msg: &Msg) -> Result<Msg, NoMemory>
+pub fn digest(alloc: Global, plain: &Plain, msg: &Msg) -> Result<Draft, NoMemory>
     requires { IsDigestAsk msg.now.body }
     ensures { IfOk result (λ answer. answer ≡ digest_answered plain.now.state msg.now) }
 {
@@ -103,18 +93,14 @@ pub fn digest(alloc: Global, plain: &Plain, msg: &Msg) -> Result<Msg, NoMemory>
         Body::DigestAsk { from } => {
             let end = Lsn::new(from.epoch(), u32::MAX);
             let page = plain.excerpt(alloc, msg.log, *from, end, true)?;
-            Ok(Msg {
-                from: msg.to,
-                to: msg.from,
-                log: msg.log,
-                body: Body::DigestPage {
-                    from: *from,
-                    upto: page.upto,
-                    trim: plain.trim(msg.log),
-                    lng: plain.lng(msg.log, from.epoch()),
-                    entries: page.entries,
-                },
-            })
+            let body = DraftBody::digest(
+                *from,
+                page.upto,
+                plain.trim(msg.log),
+                plain.lng(msg.log, from.epoch()),
+                page.entries,
+            );
+            Ok(Draft::new(msg.to, msg.from, msg.log, body))
         }
         _ => Err(NoMemory),
     }
@@ -122,16 +108,16 @@ pub fn digest(alloc: Global, plain: &Plain, msg: &Msg) -> Result<Msg, NoMemory>
 
 /// The answer with the payloads of those records that are carried.
 #[tactic(auto, unfolding(ld_op::specs::Answers::read_answer))]
-fn read_body(alloc: Global, plain: &Plain, released: Lsn, ask: Ask) -> Result<Body, NoMemory>
+fn read_body(alloc: Global, plain: &Plain, released: Lsn, ask: Ask) -> Result<DraftBody, NoMemory>
     ensures { IfOk result (λ body. body ≡ carried_in (carries_of ask.payloads) (read_answer plain.now.state.generation (log_of plain.now.state ask.log) released ask.round ask.from)) }
 {
     let trim = plain.trim(ask.log);
     if ask.from.value() <= trim.value() {
-        return Ok(Body::ReadTrim {
+        return Ok(DraftBody::whole(Body::ReadTrim {
             round: ask.round,
             from: ask.from,
             trim,
-        });
+        }));
     }
     let (epoch, esn) = ask.from.home();
     match plain.summary(ask.log, epoch) {
@@ -148,18 +134,18 @@ fn ended_body(
     epoch: u32,
     esn: u64,
     summary: Summary,
-) -> Result<Body, NoMemory>
+) -> Result<DraftBody, NoMemory>
     requires epoch { epoch ≡ home_epoch ask.from }
     requires esn { esn ≡ home_esn ask.from }
     ensures { IfOk result (λ body. body ≡ carried_in (carries_of ask.payloads) (ended_answer plain.now.state.generation (log_of plain.now.state ask.log) ask.round ask.from summary)) }
 {
     if u64::from(summary.end) <= esn {
-        return Ok(Body::ReadEnded {
+        return Ok(DraftBody::whole(Body::ReadEnded {
             round: ask.round,
             from: ask.from,
             end: Lsn::new(epoch, summary.end),
             loss: summary.loss,
-        });
+        }));
     }
     if plain.is_lost_in(ask.log, epoch) {
         return Ok(lost_body(plain, ask, Lsn::new(epoch, summary.end)));
@@ -175,7 +161,7 @@ fn open_body(
     released: Lsn,
     ask: Ask,
     epoch: u32,
-) -> Result<Body, NoMemory>
+) -> Result<DraftBody, NoMemory>
     requires { epoch ≡ home_epoch ask.from }
     ensures { IfOk result (λ body. body ≡ carried_in (carries_of ask.payloads) (epoch_answer plain.now.state.generation (log_of plain.now.state ask.log) released ask.round ask.from None)) }
 {
@@ -185,23 +171,23 @@ fn open_body(
     if 0 < released.esn() && released.epoch() == epoch && ask.from.value() <= released.value() {
         return read_page(alloc, plain, ask, released, false);
     }
-    Ok(Body::ReadWait {
+    Ok(DraftBody::whole(Body::ReadWait {
         round: ask.round,
         from: ask.from,
         released,
-    })
+    }))
 }
 
 /// The answer where the epoch is lost here.
-fn lost_body(plain: &Plain, ask: Ask, end: Lsn) -> Body
+fn lost_body(plain: &Plain, ask: Ask, end: Lsn) -> DraftBody
     ensures { result ≡ lost_here plain.now.state.generation ask.round ask.from end }
 {
-    Body::LostHere {
+    DraftBody::whole(Body::LostHere {
         number: ask.from,
         round: ask.round,
         generation: plain.generation(),
         end,
-    }
+    })
 }
 
 /// A page of the entries up to a number, without bridges.
@@ -211,15 +197,9 @@ fn read_page(
     ask: Ask,
     last: Lsn,
     clean: bool,
-) -> Result<Body, NoMemory>
+) -> Result<DraftBody, NoMemory>
     ensures { IfOk result (λ body. body ≡ carried_in (carries_of ask.payloads) (read_page ask.round ask.from clean last (readable (log_of plain.now.state ask.log) ask.from last))) }
 {
     let page = plain.excerpt_of(alloc, ask.log, ask.from, last, false, &ask.payloads)?;
-    Ok(Body::ReadPage {
-        round: ask.round,
-        from: ask.from,
-        upto: page.upto,
-        clean,
-        entries: page.entries,
-    })
+    Ok(DraftBody::page(ask.round, ask.from, page.upto, clean, page.entries))
 }

@@ -1,9 +1,14 @@
 // Answers as tables: what a node has, where it is asked, what it says.
+#![tactic(auto, unfolding(ld_op::specs::Plain::op_length))]
+
+ghost use Rattle.std.specs.Prelude.{◌<◌, ◌^◌};
+ghost use Rattle.ld_op.specs.Plain.{what_length};
+
 use crate::{answer, answer_one, digest};
 use ld_ids::{LogId, NoMemory, NodeId, NodeSet, Payload};
 use ld_lsn::Lsn;
 use ld_msg::{Body, Entry, Msg, Summary, What, Who};
-use ld_op::{Op, Plain};
+use ld_op::{DraftBody, Op, Plain, Pointed, Said};
 use std::alloc::Global;
 use std::test::Fail;
 
@@ -23,7 +28,9 @@ fn keep_what(
     log: LogId,
     esn: u32,
     what: What,
-) -> Result<(), NoMemory> {
+) -> Result<(), NoMemory>
+    requires { what_length what < 2 ^ 32 }
+{
     let entry = Entry {
         number: Lsn::new(1, esn),
         ballot: 2,
@@ -31,7 +38,7 @@ fn keep_what(
     };
     let op = Op::Accept { log, lng: 0, entry };
     plain.room(alloc, &op)?;
-    plain.apply(op);
+    plain.apply(op, 0);
     Ok(())
 }
 
@@ -58,7 +65,7 @@ fn keep_close(alloc: Global, plain: &mut Plain, log: LogId, loss: bool) -> Resul
         summary,
     };
     plain.room(alloc, &op)?;
-    plain.apply(op);
+    plain.apply(op, 0);
     Ok(())
 }
 
@@ -67,20 +74,40 @@ fn keep_trim(alloc: Global, plain: &mut Plain, log: LogId) -> Result<(), NoMemor
     let trim = Lsn::new(1, 2);
     let op = Op::Trim { log, trim };
     plain.room(alloc, &op)?;
-    plain.apply(op);
+    plain.apply(op, 0);
     Ok(())
 }
 
 // What a node says: one letter, the place of epoch 1 that it names, and how many entries it gives.
 #[derive(Drop)]
-struct Said {
+struct Reply {
     letter: u8,
     esn: u32,
     count: usize,
 }
 
-fn shown(body: &Body) -> Said {
-    let (letter, number, count) = match body {
+// What a draft says.
+fn shown(body: &DraftBody) -> Reply {
+    let (letter, number, count) = match body.said() {
+        Said::Page {
+            upto,
+            clean: true,
+            entries,
+            ..
+        } => (b'c', *upto, entries.len()),
+        Said::Page { upto, entries, .. } => (b'p', *upto, entries.len()),
+        Said::Digest { upto, entries, .. } => (b'd', *upto, entries.len()),
+        Said::Whole(body) => shown_whole(body),
+    };
+    Reply {
+        letter,
+        esn: number.esn(),
+        count,
+    }
+}
+
+fn shown_whole(body: &Body) -> (u8, Lsn, usize) {
+    match body {
         Body::ReadTrim { trim, .. } => (b't', *trim, 0),
         Body::ReadEnded {
             end,
@@ -90,20 +117,7 @@ fn shown(body: &Body) -> Said {
         Body::ReadEnded { end, .. } => (b'e', *end, 0),
         Body::LostHere { end, .. } => (b'l', *end, 0),
         Body::ReadWait { released, .. } => (b'w', *released, 0),
-        Body::ReadPage {
-            upto,
-            clean: true,
-            entries,
-            ..
-        } => (b'c', *upto, entries.len()),
-        Body::ReadPage { upto, entries, .. } => (b'p', *upto, entries.len()),
-        Body::DigestPage { upto, entries, .. } => (b'd', *upto, entries.len()),
         _ => (b'x', Lsn::from_u64(0), 0),
-    };
-    Said {
-        letter,
-        esn: number.esn(),
-        count,
     }
 }
 
@@ -115,7 +129,7 @@ fn reads(
     node: NodeId,
     released: u32,
     from: u32,
-) -> Result<Said, NoMemory> {
+) -> Result<Reply, NoMemory> {
     let msg = Msg {
         from: Who::Reader(0),
         to: Who::Node(node),
@@ -126,7 +140,7 @@ fn reads(
         },
     };
     let reply = answer(alloc, plain, Lsn::new(1, released), &msg)?;
-    Ok(shown(&reply.body))
+    Ok(shown(reply.body()))
 }
 
 // What the node says to a sequencer that asks for its digest from a place of epoch 1.
@@ -136,7 +150,7 @@ fn tells(
     log: LogId,
     node: NodeId,
     from: u32,
-) -> Result<Said, NoMemory> {
+) -> Result<Reply, NoMemory> {
     let msg = Msg {
         from: Who::Sequencer(2),
         to: Who::Node(node),
@@ -146,11 +160,11 @@ fn tells(
         },
     };
     let reply = digest(alloc, plain, &msg)?;
-    Ok(shown(&reply.body))
+    Ok(shown(reply.body()))
 }
 
-fn is_record(entry: &&Entry) -> bool {
-    matches!(&entry.what, What::Rec(_))
+fn is_record(entry: &&Pointed) -> bool {
+    entry.place().is_some()
 }
 
 // How many payloads are in the page that the node gives to a reader of one copy from the first place of epoch 1 on.
@@ -174,8 +188,8 @@ fn payloads(
         },
     };
     let reply = answer_one(alloc, plain, node, Lsn::new(1, 3), &msg)?;
-    match &reply.body {
-        Body::ReadPage { entries, .. } => Ok(entries.as_slice().iter().filter(is_record).count()),
+    match reply.body().said() {
+        Said::Page { entries, .. } => Ok(entries.as_slice().iter().filter(is_record).count()),
         _ => Ok(0),
     }
 }

@@ -1,4 +1,8 @@
 // A node that was wiped, and lost epochs 1 and 2 of a log.
+#![tactic(auto, unfolding(ld_op::specs::Plain::op_length))]
+
+ghost use Rattle.std.specs.Prelude.{◌≡◌, ◌<◌, ◌^◌, true};
+ghost use Rattle.ld_op.specs.Plain.{op_length, entries_length, what_length};
 ghost use Rattle.ld_op.specs.Rising.{IsRising};
 
 use crate::{asks, is_full, on_page};
@@ -11,10 +15,11 @@ use std::test::Fail;
 
 // Applies an op.
 fn keep(alloc: Global, plain: &mut Plain, op: Op) -> Result<(), NoMemory>
-    requires { IsRising op }
+    requires rises { IsRising op }
+    requires fits { op_length op < 2 ^ 64 }
 {
     plain.room(alloc, &op)?;
-    plain.apply(op);
+    plain.apply(op, 0);
     Ok(())
 }
 
@@ -119,12 +124,46 @@ fn letter(op: &Op) -> u8 {
     }
 }
 
-// Takes the entries of an op.
+// Takes the entry of an op, where it is one.
 fn take(alloc: Global, plain: &mut Plain, log: LogId, op: Op) -> Result<(), NoMemory> {
-    if let Op::Refill { entries, .. } = op {
-        keep(alloc, plain, Op::Refill { log, entries })?;
+    match op {
+        Op::Refill { entries, .. } => take_one(alloc, plain, log, entries),
+        _ => Ok(()),
     }
-    Ok(())
+}
+
+fn take_one(
+    alloc: Global,
+    plain: &mut Plain,
+    log: LogId,
+    entries: Entries,
+) -> Result<(), NoMemory> {
+    if !is_one(&entries) {
+        return Ok(());
+    }
+    keep(alloc, plain, Op::Refill { log, entries })
+}
+
+// Whether it is one entry, with a payload of a few bytes where it is a record.
+fn is_one(entries: &Entries) -> bool
+    ensures { result ≡ true → entries_length entries.now < 2 ^ 32 }
+{
+    match entries.as_slice() {
+        [entry] => is_short(&entry.what),
+        _ => false,
+    }
+}
+
+fn is_short(what: &What) -> bool
+    ensures { result ≡ true → what_length what.now < 2 ^ 17 }
+{
+    match what {
+        What::Rec(payload) => payload.len() < 65536,
+        What::Hole => true,
+        What::Bridge => true,
+        What::Plug => true,
+        What::Withheld => true,
+    }
 }
 
 // The node trims all up to the place 1 of epoch 1.

@@ -1,14 +1,21 @@
 -- The decisions on a message of a sequencer.
-use Rattle.std.specs.Prelude.{ℕ}
+use Rattle.std.specs.Prelude.{ℕ, List, [], map, Bool, true, false, if◌then◌else◌}
+use Rattle.ld_table.specs.Named.{same}
+use Rattle.ld_table.specs.Words.{numbers_from}
+use Rattle.ld_msg.specs.declared.msg.What.{What}
+use Rattle.ld_msg.specs.declared.msg.What.TheVariants as whats
 use Rattle.ld_msg.specs.declared.msg.Msg.{Msg}
 use Rattle.ld_msg.specs.declared.msg.Body.{Body}
 use Rattle.ld_msg.specs.declared.msg.Body.TheVariants as bodies
 use Rattle.ld_msg.specs.Bounds.{ballot_of}
+use Rattle.ld_op.specs.declared.pointed.Place.{Place}
 use Rattle.ld_op.specs.Plain.{Plain, Log, log_of}
 use Rattle.ld_op.specs.Answers as answers
 use Rattle.ld_op.specs.Answers.{store_decision, digest_decision}
 use Rattle.ld_seal.specs.declared.decision.Decision.{Decision}
 use Rattle.ld_seal.specs.declared.decision.Decision.TheVariants as decisions
+use Rattle.ld_seal.specs.declared.decision.Sameness.{Sameness}
+use Rattle.ld_seal.specs.declared.decision.Sameness.TheVariants as sames
 
 -- a loss is told with the generation
 abbrev pub told : ℕ → answers.Decision → Decision
@@ -40,3 +47,48 @@ store_decided p m = told p.generation (store_in (log_of p m.log) (ballot_of m.fr
 
 abbrev pub digest_decided : Plain → Msg → Decision
 digest_decided p m = told p.generation (digest_in (log_of p m.log) (ballot_of m.from) m.body)
+
+-- ---- a store on an index, whose payloads are to be read ----
+
+-- left to what stands at a place
+abbrev pub is_compare : Decision → Bool
+is_compare (decisions.Lost generation end) = false
+is_compare (decisions.Clean y) = false
+is_compare (decisions.Trimmed t) = false
+is_compare (decisions.Sealed by) = false
+is_compare decisions.Same = false
+is_compare decisions.Take = false
+is_compare (decisions.Compare place) = true
+
+-- the payload, where it is a record
+abbrev pub payload_in : What → List ℕ
+payload_in (whats.Rec p) = p
+payload_in whats.Hole = []
+payload_in whats.Bridge = []
+payload_in whats.Plug = []
+payload_in whats.Withheld = []
+
+-- the payload of a store's record
+abbrev pub payload_of : Body → List ℕ
+payload_of (bodies.Store number lng what) = payload_in what
+payload_of _ = []
+
+-- whether this payload stands at the place, where f is what stands for each byte
+abbrev pub stands_there : (ℕ → ℕ) → List ℕ → Place → Bool
+stands_there f p place = same (map f (numbers_from place.at place.len)) p
+
+-- whether what is sent is there, by what was found
+abbrev pub found_same : (ℕ → ℕ) → List ℕ → Sameness → Bool
+found_same f p sames.Same = true
+found_same f p sames.Other = false
+found_same f p (sames.Compare place) = stands_there f p place
+
+-- the decision once what stands at its place is read
+abbrev pub compared : (ℕ → ℕ) → List ℕ → Decision → Decision
+compared f p (decisions.Lost generation end) = decisions.Lost generation end
+compared f p (decisions.Clean y) = decisions.Clean y
+compared f p (decisions.Trimmed t) = decisions.Trimmed t
+compared f p (decisions.Sealed by) = decisions.Sealed by
+compared f p decisions.Same = decisions.Same
+compared f p decisions.Take = decisions.Take
+compared f p (decisions.Compare place) = if stands_there f p place then decisions.Same else decisions.Take

@@ -36,13 +36,13 @@ pub returns-then-len-ge-LIMIT-clause-upto : goal.returns-then-len-ge-LIMIT-claus
 returns-then-len-ge-LIMIT-clause-upto g c = c.last_number-upto.ensures ∙ (ap last_number (c.as_slice.ensures ∙ c.places.invariant.gathered)
     ∙ (shown_last (g.C.Carries.carries c.args.carries.now) (gather c.args.bridges (map deref_pair c.places.yielded)) ∙ full_upto _ _ _ _ c.args.last (all_full g c) (count g c)))
 
-pub places-preserved-in_ok-push : goal.places-preserved-in_ok-push
-places-preserved-in_ok-push g c =
+pub places-preserved-in-Continue-1 : goal.places-preserved-in-Continue-1
+places-preserved-in-Continue-1 g c =
     let show = shown (g.C.Carries.carries c.args.carries.now) in
     let before = gather c.args.bridges (map deref_pair c.places.yielded) in
     record {
       all = walk_on deref_pair c.places.yielded (c.in-Some.field-0-0, c.in-Some.place) c.places.place-iterator c.next.new.self _ c.places.invariant.all c.in-Some.ensures.steps;
-      gathered = c.in_ok-push.ensures.ok ∙ (ap (λ e. c.places.entries ++ e ∷ []) c.in_ok-copy.ensures
+      gathered = c.in_ok-push.ensures.ok ∙ (ap (λ e. c.places.entries ++ e ∷ []) c.copy.ensures
           ∙ (ap (λ es. es ++ show c.in-Some-pick.entry.now ∷ []) c.places.invariant.gathered
           ∙ (sym (shown_append (g.C.Carries.carries c.args.carries.now) before (c.in-Some-pick.entry.now ∷ []))
           ∙ ap (map show) (gather_more c.args.bridges (map deref_pair c.places.yielded) (deref_pair (c.in-Some.field-0-0, c.in-Some.place)) before c.in-Some-pick.entry.now refl (sym c.in-Some-pick.ensures)

@@ -8,11 +8,11 @@ pub returns-then-contains_key-clause-place : goal.returns-then-contains_key-clau
 unfolding has_place find
 returns-then-contains_key-clause-place c = ap (has_place c.args.number) (sym c.self.view_is) ∙ (sym c.contains_key.ensures ∙ c.if-contains_key.true)
 
-same : (c : goal.Joined-branch-2) → filled c.insert.new.self.entries ≡ filled c.args.self.now
+same : (c : goal.In_ok-insert) → filled c.insert.new.self.entries ≡ filled c.args.self.now
 unfolding find
 same c = filled-place_by c.args.number c.self.inside.map.entries c.insert.new.self.entries c.args.self.now c.insert.ensures.was_ordered c.self.view_is c.in_ok-insert.ensures.entries (not_there c.args.number c.self.inside.map.entries (sym c.contains_key.ensures ∙ c.if-contains_key.false))
 
-places : (c : goal.Joined-branch-2) (q : ℕ) → has_place q c.insert.new.self.entries ≡ cond (eqb q c.args.number) true (has_place q c.args.self.now)
+places : (c : goal.In_ok-insert) (q : ℕ) → has_place q c.insert.new.self.entries ≡ cond (eqb q c.args.number) true (has_place q c.args.self.now)
 places c = has_place-place c.args.number c.self.inside.map.entries c.insert.new.self.entries c.args.self.now c.self.view_is c.in_ok-insert.ensures.entries
 
 pub invariant_of-self-2 : goal.invariant_of-self-2

@@ -1,6 +1,7 @@
 use Rattle.std.proofs.Common.{◌≡◌, ◌∙◌, ap, sym, rules, Some, None}
 use Rattle.ld_table.specs.Table.{find}
 use Rattle.ld_op.specs.Room.{has_room_in}
+use Rattle.ld_op.specs.Cells.{placed}
 use Rattle.ld_op.proofs.There.{log_changed_by}
 use Rattle.ld_op.proofs.logs.LogMap.apply.Goals as goal
 
@@ -10,7 +11,7 @@ apply-requires-clause-room c = let f : find c.args.log c.args.self.now ≡ Some 
 
 pub returns : goal.returns
 unfolding find
-returns c = let f : find c.number.result c.self.inside.map.entries ≡ Some c.in-Some.state.now = search rules in log_changed_by c.number.result c.args.log c.in-Some.state.now c.apply.new.self c.args.op c.self.inside.map.entries _ c.args.self.now c.number.ensures.value c.self.view_is c.get_mut.ensures.ordered
+returns c = let f : find c.number.result c.self.inside.map.entries ≡ Some c.in-Some.state.now = search rules in log_changed_by c.number.result c.args.log c.in-Some.state.now c.apply.new.self (placed c.args.at c.args.op) c.self.inside.map.entries _ c.args.self.now c.number.ensures.value c.self.view_is c.get_mut.ensures.ordered
     f ((c.get_mut.follows.holds c.apply.new.self).0) c.apply.ensures.there c.apply.ensures.log c.apply.ensures.was
 
 pub returns-in_default : goal.returns-in_default
