@@ -19,7 +19,7 @@ pub struct Journal<D: Disk> {
 }
 
 impl<D: Disk> Journal<D> {
-    ghost use Rattle.std.specs.Prelude.{◌≡◌, ◌≢◌, ◌⊎◌, ◌↔◌, ◌<◌, ◌≤◌, ◌+◌, ◌^◌, ◌++◌, [], ◌∷◌, List, ℕ, length, IfOk, IfErr, IfSome, MatchResult, OnOk, OnErr, IsErrOf, Ok, Err, Some, None, is_ok, true, false};
+    ghost use Rattle.std.specs.Prelude.{◌≡◌, ◌≢◌, ◌⊎◌, ◌↔◌, ◌<◌, ◌≤◌, ◌+◌, ◌-◌, ◌^◌, ◌++◌, [], ◌∷◌, List, ℕ, length, min, take, drop, IfOk, IfErr, IfSome, MatchResult, OnOk, OnErr, IsErrOf, Ok, Err, Some, None, is_ok, true, false};
     ghost use Rattle.ld_disk.specs.Images.{IsHonest};
     ghost use Rattle.ld_io.specs.Causes.{Rose};
     ghost use Rattle.ld_disk.specs.Moments.{LeavesOnly, Unchanged};
@@ -138,6 +138,8 @@ impl<D: Disk> Journal<D> {
         ensures ended { result ≡ Ok false → has_ended self.new ≡ true }
         ensures goes_on { result ≡ Ok true → has_ended self.new ≡ false }
         ensures advances { result ≡ Ok true → (place_of self.old < place_of self.new) × (place_of self.new < length_of self.new) }
+        ensures behind { result ≡ Ok true → place_of self.new ≡ place_of self.old + 5 + length body.new.items }
+        ensures bound { result ≡ Ok true → length_of self.new < 2 ^ 64 }
         ensures len { length_of self.new ≡ length_of self.old }
         ensures same { Unchanged D.seen D.may_leave D.moment D.left_since (disk_of self.old) (disk_of self.new) }
         ensures itself { D.identity (disk_of self.new) ≡ D.identity (disk_of self.old) }
@@ -172,6 +174,41 @@ impl<D: Disk> Journal<D> {
             Err(fault) => {
                 self.failed = matches!(fault, JournalFault::Disk);
                 Err(fault)
+            }
+        }
+    }
+
+    /// Reads what stands from a place of the disk on: fills all of `buf` that lies before the disk's end, and says how
+    /// much that is.
+    ///
+    /// It refuses with `Disk` where a call of the disk failed, and from then on each call answers `NeedsLoad`.
+    pub fn read(&mut self, at: u64, buf: &mut [u8]) -> Result<usize, JournalFault>
+        ensures bound { IfOk result (λ n. n ≤ length buf.new) }
+        ensures len { length buf.new ≡ length buf.old }
+        ensures bytes { IfOk result (λ n. IfSome (D.seen (disk_of self.old)) (λ bytes.
+            (n ≡ min (length bytes - at) (length buf.old)) × (take n buf.new ≡ take n (drop at bytes)))) }
+        ensures exact { (p : Plain) → D.plain (disk_of self.old) ≡ Some p → reads_fine p ≡ true
+            → (D.plain (disk_of self.new) ≡ Some p) × (result ≢ Err JournalFault.Disk) }
+        ensures settled { (bodies : List (List ℕ)) → IsSettled D.seen D.may_leave self.old bodies
+            → OnOk result (IsSettled D.seen D.may_leave self.new bodies) }
+        ensures rest { (place_of self.new ≡ place_of self.old) × (length_of self.new ≡ length_of self.old) × (has_ended self.new ≡ has_ended self.old) }
+        ensures same { Unchanged D.seen D.may_leave D.moment D.left_since (disk_of self.old) (disk_of self.new) }
+        ensures itself { D.identity (disk_of self.new) ≡ D.identity (disk_of self.old) }
+        ensures counts { D.faults (disk_of self.old) ≤ D.faults (disk_of self.new) }
+        ensures steady { IsErrOf result JournalFault.Disk ⊎ (D.faults (disk_of self.new) ≡ D.faults (disk_of self.old)) }
+        ensures failed { IsErrOf result JournalFault.Disk → Rose (D.faults (disk_of self.old)) (D.faults (disk_of self.new)) }
+        ensures refused { OnErr result (IsErrOf result JournalFault.Disk ⊎ IsErrOf result JournalFault.NeedsLoad) }
+        ensures needs_load { IsErrOf result JournalFault.NeedsLoad ↔ (must_load self.old ≡ true) }
+        ensures loads { (must_load self.new ≡ true) ↔ ((must_load self.old ≡ true) ⊎ IsErrOf result JournalFault.Disk) }
+    {
+        if self.failed {
+            return Err(JournalFault::NeedsLoad);
+        }
+        match self.disk.read(at, buf) {
+            Ok(count) => Ok(count),
+            Err(fault) => {
+                self.failed = matches!(fault, Failed);
+                Err(JournalFault::Disk)
             }
         }
     }

@@ -24,7 +24,7 @@ pub(crate) enum Head {
 }
 
 /// Makes what is read safe from a crash, and gives the disk's length.
-pub(crate) fn settle<D: Disk>(disk: &mut D) -> Result<u64, JournalFault>
+pub fn settle<D: Disk>(disk: &mut D) -> Result<u64, JournalFault>
     ensures settled { IfOk result (λ len. IfSome (D.seen disk.old) (λ bytes.
         (D.seen disk.new ≡ Some bytes) × (len ≡ length bytes) × (0 < len) × Only bytes (D.may_leave disk.new))) }
     ensures any_moment { LeavesOnly D.moment D.left_since disk.old disk.new (D.may_leave disk.old) }
@@ -113,6 +113,7 @@ fn read_body<D: Disk>(
 ) -> Result<(), JournalFault>
     ensures body { IsOk result → (front rest : List ℕ) → IsParted D.seen disk.old at front rest → len ≡ length (front ++ rest)
         → rest ≡ 1 ∷ (to_be_bytes w32 size ++ drop 5 rest) → BeginsWith body.new.items rest × (length body.new.items ≡ size) }
+    ensures long { OnOk result (length body.new.items ≡ size) }
     ensures within { OnOk result (at + 5 + size < len) }
     ensures untouched { IsErrOf result JournalFault.NoMemory → body.new.items ≡ body.old.items }
     ensures damaged { (place : ℕ) → IsErrOf result (JournalFault.Damaged place) → (front rest : List ℕ)
@@ -140,7 +141,7 @@ fn read_body<D: Disk>(
 }
 
 /// Reads the record at a place, and gives the place behind it; `None` where a gate there ends the journal.
-pub(crate) fn read_record<D: Disk>(
+pub fn read_record<D: Disk>(
     disk: &mut D,
     at: u64,
     len: u64,
@@ -149,6 +150,7 @@ pub(crate) fn read_record<D: Disk>(
     ensures body { (next : ℕ) → result ≡ Ok (Some next) → (front rest : List ℕ) → IsParted D.seen disk.old at front rest
         → len ≡ length (front ++ rest) → BeginsWith body.new.items rest × (next ≡ at + 5 + length body.new.items) }
     ensures within { (next : ℕ) → result ≡ Ok (Some next) → (at < next) × (next < len) }
+    ensures behind { (next : ℕ) → result ≡ Ok (Some next) → next ≡ at + 5 + length body.new.items }
     ensures untouched { IsErrOf result JournalFault.NoMemory ⊎ (result ≡ Ok None) → body.new.items ≡ body.old.items }
     ensures end { result ≡ Ok None → (front rest : List ℕ) → IsParted D.seen disk.old at front rest → IsShut rest }
     ensures damaged { (place : ℕ) → IsErrOf result (JournalFault.Damaged place) → (front rest : List ℕ)

@@ -15,3 +15,8 @@ returns-clause-body g c ok front rest parted len_is is =
     (omega (arith, bytes.0, c.in_ok-count.ensures.len), bytes.1) in
     let same = whole buf c.make_zeros.new.bytes.items c.make_zeros.new.bytes.len (omega (arith, full, c.in_ok-make_zeros.ensures.made)) in
     (subst (λ (l : List ℕ). BeginsWith l rest) (sym same) begins, ap length same ∙ full)
+
+pub returns-clause-long : goal.returns-clause-long
+returns-clause-long g c =
+    let full : length c.read.new.buf ≡ c.args.size = omega (arith, c.in_ok-count.ensures.len, c.deref_mut.ensures.len, c.in_ok-make_zeros.ensures.made) in
+    ap length (whole c.read.new.buf c.make_zeros.new.bytes.items c.make_zeros.new.bytes.len (omega (arith, full, c.in_ok-make_zeros.ensures.made))) ∙ full
