@@ -1,0 +1,12 @@
+pub mod Free
+pub mod Live
+pub mod Switches
+pub mod Lengths
+pub mod Held
+pub mod Grows
+pub mod Payloads
+pub mod Copies
+pub mod Inside
+pub mod Segments
+pub mod Bases
+pub mod Within

@@ -1,0 +1,4 @@
+pub mod Areas
+pub mod Layout
+pub mod Base
+pub mod LaidOut
