@@ -1,5 +1,5 @@
 -- Which fault of a journal a store passed on.
-use Rattle.std.proofs.Common.{◌≡◌, ℕ, ap, refl, subst, Some, Result, Ok, Err}
+use Rattle.std.proofs.Common.{◌≡◌, ◌⊎◌, inl, inr, ℕ, ap, refl, subst, Some, Result, Ok, Err}
 use Rattle.std.specs.Result.{IsErr, IsErrAnd, IsErrOf}
 use Rattle.ld_journal.specs.declared.fault.JournalFault.{JournalFault}
 use Rattle.ld_journal.specs.declared.fault.JournalFault.TheVariants as journals
@@ -61,3 +61,11 @@ passed (Err f) e is and = ap (λ x. Some x) and
 
 pub fault_in : (a b : JournalFault) → journal_refusal a ≡ journal_refusal b → a ≡ b
 fault_in a b is = cc is
+
+-- a refusal that is none of the others is for the limit or for want of memory
+pub limits_err : (e : StoreFault) → (e ≡ stores.Disk → ⊥) → ((place : ℕ) → e ≡ stores.Damaged place → ⊥) → (e ≡ stores.NeedsLoad → ⊥) → IsErrOf (refusal e) stores.Full ⊎ IsErrOf (refusal e) stores.NoMemory
+limits_err stores.Disk disk damaged needs = absurd (disk refl)
+limits_err (stores.Damaged place) disk damaged needs = absurd (damaged place refl)
+limits_err stores.Full disk damaged needs = inl refl
+limits_err stores.NeedsLoad disk damaged needs = absurd (needs refl)
+limits_err stores.NoMemory disk damaged needs = inr refl

@@ -1,152 +1,211 @@
--- Journals of the first version, and those that were marked.
-use Rattle.std.proofs.Common.{◌≡◌, inl, inr, ⊎_elim, ◌<◌, ◌+◌, ◌^◌, ℕ, List, [], ◌∷◌, ◌++◌, Option, Some, Bool, true, false, sym, ◌∙◌, ap, refl, subst}
+-- A journal that was read, and one that was then marked.
+use Rattle.std.proofs.Common.{◌≡◌, ◌⊎◌, inl, inr, ⊎_elim, ◌<◌, ◌+◌, ◌&&◌, ℕ, List, length, Option, None, Some, Bool, true, false, cond, refl, sym, ◌∙◌, ap, subst, arith}
+use Rattle.std.proofs.lemmas.Bool.Decides.{nat_tests}
 use Rattle.ld_disk.specs.Moments.{LeavesOnly, Unchanged}
-use Rattle.ld_disk.specs.declared.disk.Disk.{Ghosts}
-use Rattle.ld_disk.proofs.Runs.{started, stays_on, begins_on}
-use Rattle.ld_journal.specs.Format.{IsWithOrWithout}
-use Rattle.ld_journal.specs.Open.{IsSettled}
-use Rattle.ld_journal.specs.declared.journal.Journal.{Journal}
-use Rattle.ld_op.specs.declared.record.Record.{Record}
+use Rattle.ld_disk.proofs.Runs.{stays_on, begins_on}
+use Rattle.ld_msg.specs.Register.{journal_limit}
 use Rattle.ld_op.specs.declared.record.Record.TheVariants.{Mark}
 use Rattle.ld_op.specs.declared.version.Version.{Version}
 use Rattle.ld_op.specs.declared.version.Version.TheVariants.{Blank, First, Second}
 use Rattle.ld_op.specs.Plain.{Plain}
 use Rattle.ld_op.specs.Records.{is_blank, is_first}
 use Rattle.ld_op.specs.Bytes.{record_bytes}
-use Rattle.ld_store.specs.Ops.{bodies_of, state_after, are_none, place_behind, next_version, version_of, current, marked_as, marked, AreRecords, StandsFor, IsOfFirst, IsMarkedOrNot, HasNoRoom}
+use Rattle.ld_op.specs.Cells.{read_plain}
+use Rattle.ld_layout.specs.LaidOut.{later_of, is_past}
+use Rattle.ld_layout.specs.Layout.{Layout, Segment, switches, switched_to}
+use Rattle.ld_segment.specs.Stays.{Rests}
+use Rattle.ld_segment.specs.Lies.{Slots, LiesAs, IsSound, StandsFor, IsRowTorn, row_made, slots_with, marked_in, mark_passes, mark_passes_in, mark_row, segment_for, gate_in}
+use Rattle.ld_segment.specs.Plans.{planned_by, planned_end}
+use Rattle.ld_segment.proofs.Steps.{said_as}
+use Rattle.ld_segment.proofs.MarkRow.{mark_torn, mark_made, sound_marked}
+use Rattle.ld_store.specs.Ops.{IsOpenAs, IfOpenAs, IsOfFirst, IsMarkedOrNot, HasNoRoom}
+use Rattle.ld_store.specs.Laid.{layout_in, slots_in, IsPast}
 use Rattle.ld_store.specs.Loads.{LeftOrMarked}
-use Rattle.ld_store.specs.Replayed.{IsReplayed, IsMarked}
-use Rattle.ld_store.specs.Open.{is_blank as store_blank, plain_of, must_load, IsOpened}
-use Rattle.ld_store.specs.declared.store.Store.{Store}
-use Rattle.ld_store.proofs.Bodies.{bodies-push, state-push, are-push, version-push, some-push, same_version, blank_is, may_mark, places}
-use Rattle.ld_store.proofs.Holding.{with_record, leaves_too}
-use Rattle.ld_store.proofs.Readings.{one_list}
-
--- ---- records with a mark ----
-
--- what records are once they are marked where they are to be
-pub record Marking (vs ws : List Record) (w : Version) : Type 0 where
-  pub are : AreRecords ws
-  pub version : version_of ws ≡ Some (current (is_blank w))
-  pub state : state_after ws ≡ state_after vs
-  pub none : are_none ws ≡ is_blank w
-
-marking_first : (vs : List Record) → AreRecords vs → version_of vs ≡ Some First → Marking vs (vs ++ Mark ∷ []) First
-marking_first vs are first = record { are = are-push vs Mark are tt; version = version-push vs Mark ∙ ap (λ o. next_version o Mark) first; state = state-push vs Mark; none = some-push vs Mark }
-
-pub marking : (vs : List Record) (w : Version) → AreRecords vs → version_of vs ≡ Some w → Marking vs (marked vs) w
-marking vs Blank are e = subst (λ ws. Marking vs ws Blank) (sym (ap (λ o. marked_as o vs) e)) (record { are = are; version = e; state = refl; none = sym (blank_is vs Blank e) })
-marking vs First are e = subst (λ ws. Marking vs ws First) (sym (ap (λ o. marked_as o vs) e)) (marking_first vs are e)
-marking vs Second are e = subst (λ ws. Marking vs ws Second) (sym (ap (λ o. marked_as o vs) e)) (record { are = are; version = e; state = refl; none = sym (blank_is vs Second e) })
+use Rattle.ld_store.specs.Read.{IsFirstRead, IsLaterRead, IsRead}
+use Rattle.ld_store.specs.Opened.{IsSettled, IsOpen}
+use Rattle.ld_store.specs.declared.laid.Laid.{Laid}
+use Rattle.ld_store.proofs.OneLayout.{IsSame, one_layout}
+use Rattle.ld_store.proofs.MarkRoom.{past_passes}
+use Rattle.ld_store.proofs.Blank.{blank_lies, written_is}
 
 pub first_is : (w : Version) → is_first w ≡ true → w ≡ First
-first_is Blank e = absurd cc
-first_is First e = refl
-first_is Second e = absurd cc
+first_is Blank is = absurd (cc is)
+first_is First is = refl
+first_is Second is = absurd (cc is)
 
-unmarked : (vs : List Record) (w : Version) → is_first w ≡ false → version_of vs ≡ Some w → marked vs ≡ vs
-unmarked vs Blank n e = ap (λ o. marked_as o vs) e
-unmarked vs First n e = absurd cc
-unmarked vs Second n e = ap (λ o. marked_as o vs) e
+abbrev mark : List ℕ
+mark = record_bytes Mark
 
-not_first : (w : Version) → is_first w ≡ false → w ≡ First → ⊥
-not_first w n e = absurd (let z = sym n ∙ ap is_first e in cc)
+module _ (bytes : List ℕ) (l : Laid) (index : Plain) (version : Version) (read : IsRead bytes l index version) where
+  -- ---- what they stand for ----
 
--- ---- what they stand for ----
+  abbrev y : Layout
+  y = layout_in l index
 
-pub same_state : (p : Plain) (bytes other : List ℕ) → IsMarkedOrNot bytes other → StandsFor p bytes → StandsFor p other
-same_state p bytes other either stands =
-    let was = either.was in
-    let state : p ≡ state_after was.found = stands.state ∙ ap state_after (one_list stands.found was.found bytes stands.journal was.journal) in
-    ⊎_elim
-    (λ without. record { found = was.found; journal = without; state = state })
-    (λ with. record { found = was.found ++ Mark ∷ []; journal = with; state = state ∙ sym (state-push was.found Mark) })
-    either.either
+  abbrev z : Slots
+  z = slots_in l
 
-pub marked_or_not : (bytes c : List ℕ) (was : IsOfFirst bytes) → IsWithOrWithout (bodies_of was.found) (record_bytes Mark) c → IsMarkedOrNot bytes c
-marked_or_not bytes c was either = record {
-  was = was;
-  either = ⊎_elim
-      (λ without. inl (record { journal = without; placed = was.journal.placed }))
-      (λ with. inr (with_record was.found Mark (record_bytes Mark) c was.journal.placed (may_mark was.found was.first) refl with)) either;
-}
+  -- the bytes stand for this plain state, as they were read
+  pub record StandsAs (p : Plain) : Type 0 where
+    pub lies : LiesAs version y z bytes
+    pub sound : IsSound y
+    pub plain : p ≡ read_plain bytes index
 
-module _ {D : Type 0} (seen : D → Option (List ℕ)) (may_leave : D → List ℕ → Type 0) where
-  -- what was replayed is of the first version
-  pub of_first : (journal : Journal D) (bytes : List ℕ) (p : Plain) (w : Version) → is_first w ≡ true → IsReplayed seen may_leave journal bytes p w → IsOfFirst bytes
-  of_first journal bytes p w first was = record { found = was.found; journal = was.journal_is; first = was.version_is ∙ ap (λ x. Some x) (first_is w first) }
-
-  pub not_of_first : (journal : Journal D) (bytes : List ℕ) (p : Plain) (w : Version) → is_first w ≡ false → IsReplayed seen may_leave journal bytes p w → IsOfFirst bytes → ⊥
-  not_of_first journal bytes p w n was first =
-      not_first w n (same_version w First (sym was.version_is ∙ ap version_of (one_list was.found first.found bytes was.journal_is first.journal) ∙ first.first))
-
-  pub left_unmarked : (journal : Journal D) (bytes : List ℕ) (p : Plain) (w : Version) (blank : Bool) → is_first w ≡ false → blank ≡ is_blank w → IsReplayed seen may_leave journal bytes p w → IsMarked seen may_leave journal bytes p blank
-  left_unmarked journal bytes p w blank n b was = record {
-    found = was.found;
-    version = w;
-    settled = subst (λ vs. IsSettled seen may_leave journal (bodies_of vs)) (sym (unmarked was.found w n was.version_is)) was.settled;
-    journal_is = was.journal_is;
-    state_is = was.state_is;
-    version_is = was.version_is;
-    blank_is = b;
-  }
-
-  pub now_marked : (old new : Journal D) (bytes : List ℕ) (p : Plain) (w : Version) → is_first w ≡ true → (was : IsReplayed seen may_leave old bytes p w)
-      → IsSettled seen may_leave new (bodies_of was.found ++ record_bytes Mark ∷ []) → IsMarked seen may_leave new bytes p false
-  now_marked old new bytes p w f was settled =
-      let first = first_is w f in
-      let there : bodies_of was.found ++ record_bytes Mark ∷ [] ≡ bodies_of (marked was.found) =
-      sym (bodies-push was.found Mark) ∙ ap bodies_of (sym (ap (λ o. marked_as o was.found) (was.version_is ∙ ap (λ x. Some x) first))) in
+  pub stands_as : (p : Plain) → StandsFor p bytes → StandsAs p
+  stands_as p stands =
+      let s = one_layout stands.version stands.layout stands.slots bytes l index version stands.lies stands.sound read in
       record {
-        found = was.found;
-        version = w;
-        settled = subst (λ bodies. IsSettled seen may_leave new bodies) there settled;
-        journal_is = was.journal_is;
-        state_is = was.state_is;
-        version_is = was.version_is;
-        blank_is = ap is_blank (sym first);
+        lies = subst (λ w. LiesAs w y z bytes) s.version_is (subst (λ x. LiesAs stands.version x z bytes) s.layout s.lies);
+        sound = subst (λ x. IsSound x) s.layout stands.sound;
+        plain = stands.plain ∙ ap (λ x. read_plain bytes x.index) s.layout;
       }
 
-  -- the place behind the records of a journal of the first version
-  pub place_is : (journal : Journal D) (bytes : List ℕ) (p : Plain) (w : Version) → IsReplayed seen may_leave journal bytes p w → (first : IsOfFirst bytes) → journal.at ≡ place_behind first.found
-  place_is journal bytes p w was first = was.settled.rests.place_is ∙ places was.found ∙ ap place_behind (one_list was.found first.found bytes was.journal_is first.journal)
+  -- where there are slots, their gates are as they were read
+  open_first : IsFirstRead bytes l index version → IfOpenAs y.later z bytes
+  open_first r = subst (λ a. IfOpenAs (later_of a) z bytes) (sym (ap (λ p. p.later) r.layout_is)) tt
 
-  pub no_room : (journal : Journal D) (bytes : List ℕ) (p : Plain) (w : Version) → is_first w ≡ true → IsReplayed seen may_leave journal bytes p w → 2 ^ 40 < journal.at + 8 → HasNoRoom bytes
-  no_room journal bytes p w f was long = record {
-    was = of_first journal bytes p w f was;
-    long = subst (λ n. 2 ^ 40 < n + 8) (place_is journal bytes p w was (of_first journal bytes p w f was)) long;
+  open_later : IsLaterRead bytes l index version → IfOpenAs y.later z bytes
+  open_later r =
+      let found = r.there.found in
+      subst (λ a. IfOpenAs (later_of a) z bytes) (sym (ap (λ p. p.later) r.layout_is))
+      (subst (λ s. IsOpenAs s bytes) (sym r.slots_are) (record { gate = found.gate; there = found.gate_there; open_is = found.open_is }))
+
+  open_as : IfOpenAs y.later z bytes
+  open_as = ⊎_elim open_first open_later read
+
+  pub of_first : is_first version ≡ true → (p : Plain) → StandsFor p bytes → IsOfFirst bytes
+  of_first first p stands =
+      let s = stands_as p stands in
+      record { layout = y; slots = z; lies = subst (λ w. LiesAs w y z bytes) (first_is version first) s.lies; sound = s.sound; slots_are = open_as }
+
+  -- a mark has no room behind it
+  pub no_room : is_first version ≡ true → (p : Plain) → StandsFor p bytes → IsPast 9 y z mark → HasNoRoom bytes
+  no_room first p stands past =
+      let s = stands_as p stands in
+      let lies = subst (λ w. LiesAs w y z bytes) (first_is version first) s.lies in
+      record { was = record { layout = y; slots = z; lies = lies; sound = s.sound; slots_are = open_as }; long = past_passes y z bytes lies s.sound past }
+
+  -- a journal of the first version was read so
+  was_same : (was : IsOfFirst bytes) → IsSame First was.layout was.slots l index version bytes
+  was_same was = one_layout First was.layout was.slots bytes l index version was.lies was.sound read
+
+  pub was_first : IsOfFirst bytes → is_first version ≡ true
+  was_first was = sym (ap is_first (was_same was).version_is)
+
+  pub was_layout : (was : IsOfFirst bytes) → was.layout ≡ y
+  was_layout was = (was_same was).layout
+
+  pub was_row : (was : IsOfFirst bytes) → mark_row was.layout was.slots ≡ mark_row y z
+  was_row was = (was_same was).row was.slots_are ∙ ap (λ x. mark_row x z) (was_layout was)
+
+pub was_passes : (bytes : List ℕ) (l : Laid) (index : Plain) (version : Version) (read : IsRead bytes l index version) (was : IsOfFirst bytes) → IsPast 9 (layout_in l index) (slots_in l) mark → mark_passes was.layout ≡ true
+was_passes bytes l index version read was past =
+    let s = was_same bytes l index version read was in
+    let lies = subst (λ x. LiesAs First x (slots_in l) bytes) s.layout s.lies in
+    ap mark_passes s.layout ∙ past_passes (layout_in l index) (slots_in l) bytes lies (subst (λ x. IsSound x) s.layout was.sound) past
+
+pub some_bytes : (n : ℕ) (bytes : List ℕ) → n ≡ length bytes → 0 < n → 0 < length bytes
+some_bytes n bytes long some = subst (λ k. 0 < k) long some
+
+pub was_stands : (bytes : List ℕ) (was : IsOfFirst bytes) → StandsFor (read_plain bytes was.layout.index) bytes
+was_stands bytes was = record { version = First; layout = was.layout; slots = was.slots; lies = was.lies; sound = was.sound; plain = refl }
+
+-- ---- a mark's room ----
+
+pub passes_past : (y : Layout) (z : Slots) → mark_passes y ≡ true → IsPast 9 y z mark
+unfolding switched_to
+passes_past y z passes = by (switches y 2) refl passes
+  where
+    here : (a : Option Segment) → switches y 2 ≡ false → mark_passes_in y a ≡ true → journal_limit < gate_in y a + 8
+    here None goes long = grind (arith, nat_tests)
+    here (Some g) goes long = absurd (cc (sym (ap (λ b. b && is_past y.index g) goes) ∙ long))
+
+    by : (b : Bool) → switches y 2 ≡ b → mark_passes_in y (cond b (switched_to y 7 7) y).later ≡ true → IsPast 9 y z mark
+    by true full long = inr (inr (inl (full, sym (ap (λ b. b && is_past y.index (segment_for y 2)) full) ∙ long)))
+    by false goes long = inr (inr (inr (subst (λ b. journal_limit < planned_end (planned_by 9 y z mark 2 b)) (sym goes) (omega (arith, here y.later goes long)))))
+
+passes_if : (b : Bool) → (b ≡ true → ⊥) → b ≡ false
+passes_if true none = absurd (none refl)
+passes_if false none = refl
+
+pub has_room : (y : Layout) (z : Slots) → (IsPast 9 y z mark → ⊥) → mark_passes y ≡ false
+has_room y z none = passes_if (mark_passes y) (λ passes. none (passes_past y z passes))
+
+-- ---- what is left ----
+
+module _ {D : Type 0} (seen : D → Option (List ℕ)) (may_leave : D → List ℕ → Type 0) (moment : D → ℕ) (left_since : D → ℕ → List ℕ → Type 0) where
+  pub rests_on : (old new : D) (b : List ℕ) → Unchanged seen may_leave moment left_since old new → Rests seen may_leave old b → Rests seen may_leave new b
+  rests_on old new b same rests = record { bytes_are = same.bytes ∙ rests.bytes_are; stable = λ c left. rests.stable c (same.crash c left) }
+
+  pub unchanged_too : (old mid new : D) → Unchanged seen may_leave moment left_since old mid → Unchanged seen may_leave moment left_since mid new → Unchanged seen may_leave moment left_since old new
+  unchanged_too old mid new a b = record {
+    bytes = b.bytes ∙ a.bytes;
+    crash = λ c left. a.crash c (b.crash c left);
+    crash_back = λ c left. b.crash_back c (a.crash_back c left);
+    time = b.time ∙ a.time;
+    past = λ t c left. a.past t c (b.past t c left);
+    past_back = λ t c left. b.past_back t c (a.past_back t c left);
   }
 
-  -- a store on a journal that was marked
-  pub opened_on : {g : Ghosts D} (store : Store D g) (bytes : List ℕ) → must_load store ≡ false → IsMarked seen may_leave store.journal bytes (plain_of store) (store_blank store) → IsOpened seen may_leave store bytes
-  opened_on store bytes works was =
-      let m = marking was.found was.version was.journal_is.placed.are was.version_is in
-      record {
-        found = was.found;
-        journal = was.journal_is;
-        holds = record {
-          settled = was.settled;
-          are = m.are;
-          version = m.version ∙ ap (λ b. Some (current b)) (sym was.blank_is);
-          state = was.state_is ∙ sym m.state;
-          blank = was.blank_is ∙ sym m.none;
-          place = was.settled.rests.place_is;
-          works = works;
-        };
-      }
+  module _ (bytes : List ℕ) (l : Laid) (index : Plain) (version : Version) (read : IsRead bytes l index version) where
+    pub open_unmarked : (old new : D) (len : ℕ) → IsSettled seen may_leave old len bytes → Unchanged seen may_leave moment left_since old new → is_first version ≡ false → IsOpen seen may_leave new l index (is_blank version) bytes
+    open_unmarked old new len settled same other = record {
+      holds = λ p stands. (let s = stands_as bytes l index version read p stands in
+          record {
+            now = bytes;
+            rests = rests_on old new bytes same settled.rests;
+            lies = subst (λ w. LiesAs w (layout_in l index) (slots_in l) bytes) (written_is version (layout_in l index) (slots_in l) bytes s.lies other) s.lies;
+            sound = s.sound;
+            plain = s.plain;
+            blank_is = blank_lies version (layout_in l index) (slots_in l) bytes s.lies;
+          });
+    }
 
-  -- ---- what a crash leaves ----
+    pub open_marked : (new : D) (now : Laid) → is_first version ≡ true → layout_in now index ≡ marked_in (layout_in l index) → slots_in now ≡ slots_with (layout_in l index) (slots_in l) 2
+        → Rests seen may_leave new (row_made 9 (layout_in l index) (slots_in l) mark bytes) → (IsPast 9 (layout_in l index) (slots_in l) mark → ⊥) → IsOpen seen may_leave new now index (is_blank version) bytes
+    open_marked new now first layout slots rests room = record {
+      holds = λ p stands. (let s = stands_as bytes l index version read p stands in
+          let lies = subst (λ w. LiesAs w (layout_in l index) (slots_in l) bytes) (first_is version first) s.lies in
+          let fits = has_room (layout_in l index) (slots_in l) room in
+          let made = mark_made (layout_in l index) (slots_in l) bytes lies s.sound fits in
+          let b = row_made 9 (layout_in l index) (slots_in l) mark bytes in
+          let there : LiesAs Second (layout_in now index) (slots_in now) b = subst (λ q. LiesAs Second (layout_in now index) q b) (sym slots) (subst (λ x. LiesAs Second x (slots_with (layout_in l index) (slots_in l) 2) b) (sym layout) made.lies) in
+          record {
+            now = b;
+            rests = rests;
+            lies = subst (λ w. LiesAs w (layout_in now index) (slots_in now) b) (written_is Second (layout_in now index) (slots_in now) b there refl) there;
+            sound = subst (λ x. IsSound x) (sym layout) (sound_marked (layout_in l index) s.sound fits);
+            plain = s.plain ∙ sym made.plain ∙ ap (λ x. read_plain b x.index) (sym layout);
+            blank_is = ap is_blank (first_is version first) ∙ blank_lies Second (layout_in now index) (slots_in now) b there;
+          });
+    }
 
-  module _ (moment : D → ℕ) (left_since : D → ℕ → List ℕ → Type 0) (only_now : (disk : D) (c : List ℕ) → left_since disk (moment disk) c → may_leave disk c) where
-    pub leaves_same : (old new : D) (bytes : List ℕ) → Unchanged seen may_leave moment left_since old new → LeavesOnly moment left_since old new (LeftOrMarked (may_leave old) bytes)
-    leaves_same old new bytes same = stays_on moment left_since seen may_leave old old new _ (started moment left_since old _ (λ c left. inl (only_now old c left))) same
+    marked_or_not : (c : List ℕ) → is_first version ≡ true → (IsPast 9 (layout_in l index) (slots_in l) mark → ⊥) → IsRowTorn 9 (layout_in l index) (slots_in l) mark bytes c → IsMarkedOrNot bytes c
+    marked_or_not c first room torn p stands =
+        let s = stands_as bytes l index version read p stands in
+        let lies = subst (λ w. LiesAs w (layout_in l index) (slots_in l) bytes) (first_is version first) s.lies in
+        let left = mark_torn (layout_in l index) (slots_in l) bytes lies s.sound (has_room (layout_in l index) (slots_in l) room) c torn in
+        (of_first bytes l index version read first p stands, subst (λ q. StandsFor q c) (sym s.plain) left)
 
-    pub leaves_marked : (old mid new : D) (bytes : List ℕ) (was : IsOfFirst bytes) → Unchanged seen may_leave moment left_since old mid
-        → LeavesOnly moment left_since mid new (IsWithOrWithout (bodies_of was.found) (record_bytes Mark)) → LeavesOnly moment left_since old new (LeftOrMarked (may_leave old) bytes)
-    leaves_marked old mid new bytes was same leaves = begins_on moment left_since seen may_leave old mid new _ same
-        (leaves_too moment left_since mid new _ (LeftOrMarked (may_leave old) bytes) (λ c either. inr (marked_or_not bytes c was either)) leaves)
+    pub leaves_marked : (old mid new : D) → Unchanged seen may_leave moment left_since old mid → is_first version ≡ true → (IsPast 9 (layout_in l index) (slots_in l) mark → ⊥)
+        → LeavesOnly moment left_since mid new (IsRowTorn 9 (layout_in l index) (slots_in l) mark bytes) ⊎ Unchanged seen may_leave moment left_since mid new
+        → LeavesOnly moment left_since old new (IsMarkedOrNot bytes) ⊎ Unchanged seen may_leave moment left_since old new
+    leaves_marked old mid new same first room leaves = ⊎_elim
+        (λ torn. inl (begins_on moment left_since seen may_leave old mid new _ same
+        (said_as seen may_leave moment left_since mid new (IsRowTorn 9 (layout_in l index) (slots_in l) mark bytes) (IsMarkedOrNot bytes) torn (λ c left. marked_or_not c first room left))))
+        (λ still. inr (unchanged_too old mid new same still))
+        leaves
 
-    pub leaves_replayed : (old new : D) (mid : Journal D) (bytes : List ℕ) (p : Plain) (w : Version) → is_first w ≡ true → (was : IsReplayed seen may_leave mid bytes p w) → Unchanged seen may_leave moment left_since old mid.disk
-        → LeavesOnly moment left_since mid.disk new (IsWithOrWithout (bodies_of was.found) (record_bytes Mark)) → LeavesOnly moment left_since old new (LeftOrMarked (may_leave old) bytes)
-    unfolding of_first
-    leaves_replayed old new mid bytes p w f was same leaves = leaves_marked old mid.disk new bytes (of_first mid bytes p w f was) same leaves
+  -- calls that leave what was left before, and then what a mark does
+  pub leaves_both : (old mid new : D) (bytes : List ℕ) → LeavesOnly moment left_since old mid (may_leave old) → LeavesOnly moment left_since mid new (IsMarkedOrNot bytes) ⊎ Unchanged seen may_leave moment left_since mid new
+      → LeavesOnly moment left_since old new (LeftOrMarked (may_leave old) bytes)
+  leaves_both old mid new bytes first rest =
+      let before = said_as seen may_leave moment left_since old mid (may_leave old) (LeftOrMarked (may_leave old) bytes) first (λ c left. inl left) in
+      ⊎_elim
+      (λ second. record {
+        later = omega (arith, first.later, second.later);
+        each = λ c left. ⊎_elim (λ was. before.each c was) (λ marked. inr marked) (second.before (moment old) c first.later left);
+        before = λ t c le left. ⊎_elim (λ was. before.before t c le was) (λ marked. inr (inr marked)) (second.before t c (omega (arith, le, first.later)) left);
+      })
+      (λ same. stays_on moment left_since seen may_leave old mid new _ before same)
+      rest

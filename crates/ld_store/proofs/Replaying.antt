@@ -1,80 +1,101 @@
--- One record more that was replayed.
-use Rattle.std.proofs.Common.{◌≡◌, ◌≢◌, inl, inr, ◌<◌, ◌^◌, drop, ℕ, List, [], ◌∷◌, ◌++◌, length, Option, Some, sym, ◌∙◌, ap, refl, subst, arith, length-append}
-use Rattle.std.proofs.lemmas.List.{drop_at}
-use Rattle.std.proofs.Math.Seq.{get_or-append_seam}
-use Rattle.ld_journal.specs.Format.{framed, records, Fits}
-use Rattle.ld_journal.specs.Open.{HasGiven}
-use Rattle.ld_journal.specs.declared.journal.Journal.{Journal}
+-- One record more of a segment that was replayed.
+use Rattle.std.proofs.Common.{◌≡◌, ◌≢◌, inl, inr, ◌<◌, ◌+◌, ◌==◌, take, drop, ℕ, List, [], ◌∷◌, ◌++◌, length, false, cond, if◌then◌else◌, Option, Some, sym, ◌∙◌, ap, refl, arith, take-append-drop}
+use Rattle.std.proofs.lemmas.List.{drop-drop, length-take, length-drop}
+use Rattle.std.proofs.lemmas.Bool.Decides.{nat_tests}
+use Rattle.std.proofs.Math.Seq.{drop-append_seam}
+use Rattle.ld_journal.specs.Format.{framed, records, IsCutShort}
+use Rattle.ld_journal.specs.Rest.{IsParted, BeginsWith}
 use Rattle.ld_journal.proofs.Records.{records-push}
+use Rattle.ld_msg.specs.Register.{record_length}
 use Rattle.ld_op.specs.declared.record.Record.{Record}
+use Rattle.ld_op.specs.declared.record.Record.TheVariants.{Now, Before, Mark}
 use Rattle.ld_op.specs.declared.version.Version.{Version}
 use Rattle.ld_op.specs.Plain.{Plain}
-use Rattle.ld_op.specs.Records.{applied, version_after}
-use Rattle.ld_op.specs.Bounds.{IsRecord}
+use Rattle.ld_op.specs.Records.{applied, body_length}
 use Rattle.ld_op.specs.Bytes.{record_bytes}
-use Rattle.ld_store.specs.Ops.{bodies_of, next_version, IsDamaged}
-use Rattle.ld_store.specs.Replayed.{HasReplayed}
-use Rattle.ld_store.proofs.Bodies.{bodies-push, state-push, are-push, version-push}
+use Rattle.ld_segment.specs.Slots.{head_bytes}
+use Rattle.ld_segment.specs.Ops.{bodies_of, place_behind, op_count, placed_record}
+use Rattle.ld_segment.specs.Lies.{first_length}
+use Rattle.ld_segment.proofs.Bodies.{record_long, bodies-push, placed-push, place-push, count-push, counts_as, indexed-push, places}
+use Rattle.ld_store.specs.Ops.{IsBodyOf, IsBodyOrHead, IsDamagedRow}
+use Rattle.ld_store.specs.Replayed.{HasReplayed, IsWithRecord}
+use Rattle.ld_store.specs.declared.replay.Walk.{Walk}
 
--- the bytes of a disk are told once
-told_once : {bytes other : List ℕ} → Some bytes ≡ Some other → bytes ≡ other
-told_once is = cc
+-- what stands behind a part
+pub behind : (at n : ℕ) (xs rest bytes : List ℕ) → length xs ≡ n → drop at bytes ≡ xs ++ rest → drop (at + n) bytes ≡ rest
+behind at n xs rest bytes long is = sym (drop-drop n at bytes) ∙ (ap (drop n) is ∙ (ap (λ k. drop k (xs ++ rest)) (sym long) ∙ drop-append_seam xs rest))
 
--- lists that are the same have the same rest behind parts of the same length
-same_rest : (x y a b : List ℕ) → length x ≡ length y → x ++ a ≡ y ++ b → a ≡ b
-same_rest x y a b long same = sym (drop_at x a (length x) refl) ∙ ap (λ l. drop (length x) l) same ∙ drop_at y b (length x) (sym long)
+one_counts : (v : Record) → op_count (v ∷ []) ≡ counts_as v
+one_counts (Now o) = refl
+one_counts (Before o) = refl
+one_counts Mark = refl
 
-last_fits : (bodies : List (List ℕ)) (body : List ℕ) → Fits (bodies ++ body ∷ []) → length body < 2 ^ 32
-last_fits bodies body fits = subst (λ (b : List ℕ). length b < 2 ^ 32) (get_or-append_seam bodies body [] []) (fits (length bodies) [] (omega (arith, length-append bodies (body ∷ []))))
+first-push : (vs : List Record) (v : Record) (first size : ℕ) → first ≡ first_length vs → size ≡ body_length v → (if first == 0 then record_length size else first) ≡ first_length (vs ++ v ∷ [])
+first-push [] v first size is long = ap (λ k. if k == 0 then record_length size else k) is ∙ ap record_length long
+first-push (u ∷ vs) v first size is long =
+    let some : first ≡ 5 + body_length u = is in
+    let test : (first == 0) ≡ false = grind (arith, nat_tests) in
+    ap (λ b. cond b (record_length size) first) test ∙ is
 
-module _ {D : Type 0} (seen : D → Option (List ℕ)) (may_leave : D → List ℕ → Type 0) where
-  pub record Next (new : Journal D) (bodies : List (List ℕ)) (body : List ℕ) : Type 0 where
-    pub after : List ℕ
-    pub given : HasGiven seen may_leave new (bodies ++ body ∷ []) after
+module _ (from : ℕ) (opening : Version) (base : Plain) (bytes : List ℕ) (w : Walk) (index : Plain) (has : HasReplayed from opening base bytes w index) where
+  pub rest_at : drop w.at bytes ≡ has.rest
+  rest_at = ap (λ k. drop k bytes) has.at_is ∙ behind from (place_behind has.found) (records (bodies_of has.found)) has.rest bytes (places has.found) has.there.bytes_are
 
-  -- a record that was replayed
-  pub one_more : (old new : Journal D) (bytes body : List ℕ) (p q : Plain) (x w : Version) (v : Record)
-      → (has : HasReplayed seen may_leave old bytes p x)
-      → ((bodies : List (List ℕ)) (rest : List ℕ) → HasGiven seen may_leave old bodies rest → (after : List ℕ) × HasGiven seen may_leave new (bodies ++ body ∷ []) after)
-      → seen old.disk ≡ seen new.disk → body ≡ record_bytes v → IsRecord v → version_after x v ≡ Some w → q ≡ applied p v
-      → HasReplayed seen may_leave new bytes q w
-  one_more old new bytes body p q x w v has gives same is_body is follows made =
-      let next = gives (bodies_of has.found) has.rest has.given in
-      let bodies : bodies_of has.found ++ body ∷ [] ≡ bodies_of (has.found ++ v ∷ []) = ap (λ b. bodies_of has.found ++ b ∷ []) is_body ∙ sym (bodies-push has.found v) in
-      let given = subst (λ bs. HasGiven seen may_leave new bs next.0) bodies next.1 in
-      let all : bytes ≡ records (bodies_of (has.found ++ v ∷ [])) ++ next.0 = has.bytes_are ∙ told_once (sym has.given.bytes ∙ same ∙ given.bytes) in
+  pub before_end : w.at < length bytes
+  before_end = omega (arith, length-drop w.at bytes, ap (λ (l : List ℕ). length l) rest_at, has.some)
+
+  parts : take w.at bytes ++ has.rest ≡ bytes
+  parts = ap (λ l. take w.at bytes ++ l) (sym rest_at) ∙ take-append-drop w.at bytes
+
+  pub all_long : length bytes ≡ length (take w.at bytes ++ has.rest)
+  all_long = ap (λ (l : List ℕ). length l) (sym parts)
+
+  pub parted : {D : Type 0} (seen : D → Option (List ℕ)) (disk : D) → seen disk ≡ Some bytes → IsParted seen disk w.at (take w.at bytes) has.rest
+  parted seen disk told = record {
+    bytes = told ∙ ap (λ l. Some l) (sym parts);
+    place_is = omega (arith, length-take w.at bytes, before_end);
+    some = has.some;
+  }
+
+  pub one_more : (next : Walk) (body : List ℕ) (made : Plain) → IsWithRecord w body index next made → BeginsWith body has.rest → HasReplayed from opening base bytes next made
+  one_more next body made with begins =
+      let v = with.found in
+      let vs = has.found in
+      let long : length body ≡ body_length v = ap (λ (l : List ℕ). length l) with.body_is ∙ record_long v in
       record {
-        found = has.found ++ v ∷ [];
-        rest = next.0;
-        given = given;
-        bytes_are = all;
-        are = are-push has.found v has.are is;
-        state_is = made ∙ ap (λ s. applied s v) has.state_is ∙ sym (state-push has.found v);
-        version_is = version-push has.found v ∙ ap (λ o. next_version o v) has.version_is ∙ follows;
+        found = vs ++ v ∷ [];
+        rest = begins.after;
+        there = record {
+          bytes_are = has.there.bytes_are ∙ ap (λ l. records (bodies_of vs) ++ l) (begins.rest_is ∙ ap (λ b. framed b ++ begins.after) with.body_is)
+              ∙ sym (records-push (bodies_of vs) (record_bytes v) begins.after) ∙ ap (λ bs. records bs ++ begins.after) (sym (bodies-push vs v));
+          placed = placed-push opening w.version next.version vs v has.there.placed with.is with.follows;
+        };
+        at_is = omega (arith, ap (λ n. n.at) with.next_is, has.at_is, place-push vs v, long);
+        some = begins.some;
+        ops_is = omega (arith, ap (λ n. n.ops) with.next_is, has.ops_is, count-push vs v, one_counts v);
+        first_is = ap (λ n. n.first) with.next_is ∙ first-push vs v w.first (length body) has.first_is long;
+        index_is = with.made_is ∙ (λ i. applied (has.index_is i) (placed_record (has.at_is i + 5) v)) ∙ sym (indexed-push from base vs v);
       }
 
-  -- a record whose body is none that may stand there
-  pub foreign : (old new : Journal D) (bytes body : List ℕ) (p : Plain) (x : Version)
-      → (has : HasReplayed seen may_leave old bytes p x)
-      → ((bodies : List (List ℕ)) (rest : List ℕ) → HasGiven seen may_leave old bodies rest → (after : List ℕ) × HasGiven seen may_leave new (bodies ++ body ∷ []) after)
-      → seen old.disk ≡ seen new.disk → ((v : Record) (w : Version) → IsRecord v → version_after x v ≡ Some w → body ≢ record_bytes v)
-      → IsDamaged old.at bytes
-  foreign old new bytes body p x has gives same none =
-      let next = gives (bodies_of has.found) has.rest has.given in
-      let told : records (bodies_of has.found) ++ has.rest ≡ records (bodies_of has.found) ++ (framed body ++ next.0) =
-      told_once (sym has.given.bytes ∙ same ∙ next.1.bytes) ∙ records-push (bodies_of has.found) body next.0 in
-      record {
-        found = has.found;
-        rest = has.rest;
-        bytes_are = has.bytes_are;
-        place_is = has.given.place_is;
-        placed = record { are = has.are; version = x; version_is = has.version_is };
-        cause = inr (inl (record {
-          body = body;
-          after = next.0;
-          rest_is = same_rest (records (bodies_of has.found)) (records (bodies_of has.found)) has.rest (framed body ++ next.0) refl told;
-          some = next.1.some;
-          fits = last_fits (bodies_of has.found) body next.1.fits;
-          none = λ v next. none v next.version next.is (sym (ap (λ o. next_version o v) has.version_is) ∙ next.version_is);
-        }));
-      }
+  pub cut_short : (place : ℕ) → place ≡ w.at → IsCutShort has.rest → IsDamagedRow IsBodyOrHead from opening place bytes
+  cut_short place is cut = record { found = has.found; version = w.version; rest = has.rest; there = has.there; place_is = is ∙ has.at_is; cause = inl cut }
+
+  pub foreign : (place : ℕ) (body : List ℕ) → place ≡ w.at → BeginsWith body has.rest → (IsBodyOf w.version body → ⊥) → body ≢ head_bytes (w.at + 15) → IsDamagedRow IsBodyOrHead from opening place bytes
+  foreign place body is begins none other = record {
+    found = has.found;
+    version = w.version;
+    rest = has.rest;
+    there = has.there;
+    place_is = is ∙ has.at_is;
+    cause = inr (record {
+      body = body;
+      after = begins.after;
+      rest_is = begins.rest_is;
+      some = begins.some;
+      fits = begins.fits;
+      none = λ may. elim may [
+        | inl one ↦ none one
+        | inr head ↦ other (head ∙ ap (λ k. head_bytes (k + 15)) is)
+      ];
+    });
+  }

@@ -1,6 +1,9 @@
 pub mod Ops
 pub mod Faults
+pub mod Laid
 pub mod Replayed
+pub mod Read
+pub mod Opened
 pub mod Open
 pub mod Loads
 pub mod Well

@@ -1,22 +1,28 @@
 -- What an open store knows of its disk.
-use Rattle.std.specs.Prelude.{◌≡◌, ℕ, List, length, Option, Some, Bool, false}
-use Rattle.ld_journal.specs.Format.{records}
-use Rattle.ld_journal.specs.Open as journals
-use Rattle.ld_journal.specs.Open.{IsSettled, HasGiven}
-use Rattle.ld_op.specs.declared.record.Record.{Record}
-use Rattle.ld_op.specs.Plain.{Plain}
-use Rattle.ld_store.specs.Ops.{bodies_of, state_after, are_none, version_of, current, marked, AreRecords, IsJournalOf}
+use Rattle.std.specs.Prelude.{◌≡◌, ◌+◌, ◌==◌, ℕ, List, [], length, Option, None, Some, IfSome, Bool, true, false, nat_lt, if◌then◌else◌}
 use Rattle.ld_disk.specs.declared.disk.Disk.{Ghosts}
+use Rattle.ld_op.specs.Plain.{Plain}
+use Rattle.ld_op.specs.Cells.{each_plain, read_plain}
+use Rattle.ld_layout.specs.Layout.{Layout}
+use Rattle.ld_segment.specs.Stays.{Rests}
+use Rattle.ld_segment.specs.Lies.{Slots, LiesAs, IsSound, written}
+use Rattle.ld_store.specs.Ops.{IsJournalOf, StandsFor}
+use Rattle.ld_store.specs.Laid.{layout_in, slots_in}
 use Rattle.ld_store.specs.declared.store.Store.{Store}
+
+-- what an index stands for on a disk of these bytes, where it tells them
+abbrev pub told_plain : Option (List ℕ) → Plain → Plain
+told_plain None index = index
+told_plain (Some bytes) index = read_plain bytes index
+
+-- a place before the end of so many bytes stays, and any other doesn't
+abbrev pub within : ℕ → ℕ → ℕ
+within count place = if nat_lt place count then place else place + 1
 
 module _ {D : Type 0} {g : Ghosts D} where
   -- the disk that the store owns
   abbrev pub disk_of : Store D g → D
-  disk_of store = journals.disk_of store.journal
-
-  -- the place of the gate behind the records
-  abbrev pub place_of : Store D g → ℕ
-  place_of store = journals.place_of store.journal
+  disk_of store = store.disk
 
   -- an earlier call answered that the disk failed
   abbrev pub must_load : Store D g → Bool
@@ -26,23 +32,38 @@ module _ {D : Type 0} {g : Ghosts D} where
   abbrev pub is_blank : Store D g → Bool
   is_blank store = store.blank
 
-  -- the plain state in memory
+  -- the plain state in memory, with the places of its payloads
+  abbrev pub index_of : Store D g → Plain
+  index_of store = store.index.state
+
+  -- how the journal lies on the disk
+  abbrev pub layout_of : Store D g → Layout
+  layout_of store = layout_in store.laid store.index.state
+
+  -- the slots that tell its later segment, where there is one
+  abbrev pub slots_of : Store D g → Slots
+  slots_of store = slots_in store.laid
+
+  -- the plain state that it stands for on its disk; where the disk doesn't tell what it has, that is not known
   abbrev pub plain_of : Store D g → Plain
-  plain_of store = store.plain.state
+  plain_of store = told_plain (g.seen (disk_of store)) (index_of store)
 
 module _ {D : Type 0} {g : Ghosts D} (seen : D → Option (List ℕ)) (may_leave : D → List ℕ → Type 0) where
-  -- the journal holds these records, a crash leaves them, and the plain state is what they add up to; it is blank, or of the second version
-  pub record Holds (store : Store D g) (found : List Record) : Type 0 where
-    pub settled : IsSettled seen may_leave store.journal (bodies_of found)
-    pub are : AreRecords found
-    pub version : version_of found ≡ Some (current (is_blank store))
-    pub state : plain_of store ≡ state_after found
-    pub blank : is_blank store ≡ are_none found
-    pub place : place_of store ≡ length (records (bodies_of found))
+  -- the disk has these bytes, safe from a crash, which lie as the store's layout says; live areas share no byte, and each payload stands in one
+  pub record Holds (store : Store D g) : Type 0 where
+    pub bytes : List ℕ
+    pub rests : Rests seen may_leave (disk_of store) bytes
+    pub lies : LiesAs (written (layout_of store)) (layout_of store) (slots_of store) bytes
+    pub sound : IsSound (layout_of store)
+    pub plain : plain_of store ≡ read_plain bytes (index_of store)
+    -- each payload stands before the disk's end
+    pub inside : IfSome (seen (disk_of store)) (λ bytes. each_plain (within (length bytes)) (index_of store) ≡ index_of store)
+    pub blank : is_blank store ≡ ((layout_of store).ops == 0)
     pub works : must_load store ≡ false
 
-  -- it holds the records that these bytes are a journal of, and a mark behind those of the first version
+  -- where these bytes stand for a plain state, the store holds it, with a mark behind a journal of the first version; it is blank exactly where they have no record
   pub record IsOpened (store : Store D g) (bytes : List ℕ) : Type 0 where
-    pub found : List Record
-    pub journal : IsJournalOf found bytes
-    pub holds : Holds store (marked found)
+    pub holds : (p : Plain) → StandsFor p bytes → Holds store
+    pub plain : (p : Plain) → StandsFor p bytes → plain_of store ≡ p
+    pub blank : is_blank store ≡ true → IsJournalOf [] bytes
+    pub some : is_blank store ≡ false → IsJournalOf [] bytes → ⊥

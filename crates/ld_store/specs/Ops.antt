@@ -1,132 +1,132 @@
--- What the bytes of a node's disk stand for.
-use Rattle.std.specs.Prelude.{◌≡◌, ◌≢◌, ◌⊎◌, ◌<◌, ◌+◌, ◌^◌, ℕ, List, [], ◌∷◌, ◌++◌, length, Option, Some, None, Bool, true, false, if◌then◌else◌}
+-- What the bytes of a node's disk stand for, where they are of the first version, and where something in them is out of place.
+use Rattle.std.specs.Prelude.{◌≡◌, ◌⊎◌, ◌<◌, ◌+◌, ◌^◌, ◌==◌, ℕ, List, [], ◌∷◌, ◌++◌, length, drop, Option, Some, None, true}
 use Rattle.ld_journal.specs.Format.{framed, records, IsJournal, IsCutShort}
-use Rattle.ld_msg.specs.Register.{record_length}
+use Rattle.ld_journal.specs.Rest.{IsShut}
+use Rattle.ld_msg.specs.Register.{journal_limit}
 use Rattle.ld_op.specs.declared.record.Record.{Record}
-use Rattle.ld_op.specs.declared.record.Record.TheVariants.{Mark}
 use Rattle.ld_op.specs.declared.version.Version.{Version}
-use Rattle.ld_op.specs.declared.version.Version.TheVariants.{Blank, First, Second}
-use Rattle.ld_op.specs.Plain.{Plain, unformatted}
-use Rattle.ld_op.specs.Records.{applied, version_after, body_length}
+use Rattle.ld_op.specs.declared.version.Version.TheVariants.{Blank, First}
+use Rattle.ld_op.specs.Plain.{Plain}
+use Rattle.ld_op.specs.Records.{version_after}
 use Rattle.ld_op.specs.Bounds.{IsRecord}
 use Rattle.ld_op.specs.Bytes.{record_bytes}
+use Rattle.ld_layout.specs.Layout.{Layout, Segment, room_for, head_end}
+use Rattle.ld_segment.specs.Stays.{StandsAt}
+use Rattle.ld_segment.specs.Slots.{head_bytes}
+use Rattle.ld_segment.specs.Ops.{bodies_of, place_behind, ArePlaced}
+use Rattle.ld_segment.specs.Lies.{Slots, LiesAs, IsSound, first_length, mark_passes}
+use Rattle.ld_segment.specs.Later.{IsThere, IsDamagedBehind}
+use Rattle.ld_segment.specs.declared.later.Later.{Later}
 pub use Rattle.ld_op.specs.Records.{is_format}
-
--- the plain state that records add up to
-abbrev pub applied_all : Plain → List Record → Plain
-applied_all p [] = p
-applied_all p (v ∷ vs) = applied_all (applied p v) vs
-
-abbrev pub state_after : List Record → Plain
-state_after vs = applied_all unformatted vs
-
-abbrev pub bodies_of : List Record → List (List ℕ)
-bodies_of [] = []
-bodies_of (v ∷ vs) = record_bytes v ∷ bodies_of vs
-
--- the place of the gate behind records
-abbrev pub place_behind : List Record → ℕ
-place_behind [] = 0
-place_behind (v ∷ vs) = record_length (body_length v) + place_behind vs
-
--- ---- which records a journal may hold ----
-
-abbrev pub are_none : List Record → Bool
-are_none [] = true
-are_none (v ∷ vs) = false
-
-abbrev pub AreRecords : List Record → Type 0
-AreRecords [] = Unit {0}
-AreRecords (v ∷ vs) = IsRecord v × AreRecords vs
-
--- the version with a record more; none from one that is out of place on
-abbrev pub next_version : Option Version → Record → Option Version
-next_version None v = None
-next_version (Some w) v = version_after w v
-
-abbrev pub version_on : Option Version → List Record → Option Version
-version_on o [] = o
-version_on o (v ∷ vs) = version_on (next_version o v) vs
-
--- the version of a journal of these records, where each is in place
-abbrev pub version_of : List Record → Option Version
-version_of vs = version_on (Some Blank) vs
-
-pub record ArePlaced (vs : List Record) : Type 0 where
-  pub are : AreRecords vs
-  pub version : Version
-  pub version_is : version_of vs ≡ Some version
-
--- a record that may stand behind these
-pub record MayFollow (vs : List Record) (v : Record) : Type 0 where
-  pub is : IsRecord v
-  pub version : Version
-  pub version_is : next_version (version_of vs) v ≡ Some version
-
--- ---- what bytes stand for ----
-
--- bytes are a journal of these records
-pub record IsJournalOf (vs : List Record) (bytes : List ℕ) : Type 0 where
-  pub journal : IsJournal (bodies_of vs) bytes
-  pub placed : ArePlaced vs
-
--- bytes are a journal of records that add up to this plain state
-pub record StandsFor (p : Plain) (bytes : List ℕ) : Type 0 where
-  pub found : List Record
-  pub journal : IsJournalOf found bytes
-  pub state : p ≡ state_after found
-
-abbrev pub StandsForEither : Plain → Plain → List ℕ → Type 0
-StandsForEither p q bytes = StandsFor p bytes ⊎ StandsFor q bytes
+pub use Rattle.ld_segment.specs.Ops.{IsJournalOf}
+pub use Rattle.ld_segment.specs.Lies.{StandsFor, StandsForEither}
 
 -- ---- journals of the first version ----
 
--- the version once a journal of the first is marked
-abbrev pub current : Bool → Version
-current blank = if blank then Blank else Second
+-- where there is a later segment, the slot that doesn't count is open or it isn't
+pub record IsOpenAs (z : Slots) (bytes : List ℕ) : Type 0 where
+  pub gate : ℕ
+  pub there : StandsAt z.other (gate ∷ []) bytes
+  pub open_is : z.is_open ≡ (gate == 1)
 
-abbrev pub marked_as : Option Version → List Record → List Record
-marked_as (Some First) vs = vs ++ Mark ∷ []
-marked_as (Some Second) vs = vs
-marked_as (Some Blank) vs = vs
-marked_as None vs = vs
+abbrev pub IfOpenAs : Option Segment → Slots → List ℕ → Type 0
+IfOpenAs None z bytes = Unit {0}
+IfOpenAs (Some g) z bytes = IsOpenAs z bytes
 
--- these records, and a mark behind them where the journal is of the first version
-abbrev pub marked : List Record → List Record
-marked vs = marked_as (version_of vs) vs
-
--- bytes are a journal of the first version
+-- bytes lie as a journal of the first version, and stand for a plain state
 pub record IsOfFirst (bytes : List ℕ) : Type 0 where
-  pub found : List Record
-  pub journal : IsJournalOf found bytes
-  pub first : version_of found ≡ Some First
+  pub layout : Layout
+  pub slots : Slots
+  pub lies : LiesAs First layout slots bytes
+  pub sound : IsSound layout
+  pub slots_are : IfOpenAs layout.later slots bytes
 
--- other bytes are the same journal, with a mark or without it
-pub record IsMarkedOrNot (bytes other : List ℕ) : Type 0 where
-  pub was : IsOfFirst bytes
-  pub either : IsJournalOf was.found other ⊎ IsJournalOf (was.found ++ Mark ∷ []) other
+-- where bytes stand for a plain state
+abbrev pub IfStands : (List ℕ → Type 0) → List ℕ → Type 0
+IfStands P bytes = (p : Plain) → StandsFor p bytes → P bytes
 
--- a mark's record would pass the limit of journals
+-- bytes stand for nothing, or are a journal of the first version, and other bytes stand for the same
+abbrev pub IsMarkedOrNot : List ℕ → List ℕ → Type 0
+IsMarkedOrNot bytes other = (p : Plain) → StandsFor p bytes → IsOfFirst bytes × StandsFor p other
+
+-- a mark's record, or the segment that it needs, would pass the limit
 pub record HasNoRoom (bytes : List ℕ) : Type 0 where
   pub was : IsOfFirst bytes
-  pub long : 2 ^ 40 < place_behind was.found + 8
+  pub long : mark_passes was.layout ≡ true
 
--- ---- bytes that are no journal of records in place ----
+-- ---- bytes in which something is out of place ----
 
--- a whole record, and more, whose body is none that may stand behind these
-pub record IsForeign (vs : List Record) (rest : List ℕ) : Type 0 where
+-- from a place on records stand, each in place behind one version, and another one behind them; then come these bytes
+pub record AreThere (from : ℕ) (opening : Version) (found : List Record) (version : Version) (rest bytes : List ℕ) : Type 0 where
+  pub bytes_are : drop from bytes ≡ records (bodies_of found) ++ rest
+  pub placed : ArePlaced opening found version
+
+-- the body of a record that may stand behind a version
+pub record IsBodyOf (version : Version) (body : List ℕ) : Type 0 where
+  pub found : Record
+  pub next : Version
+  pub is : IsRecord found
+  pub next_is : version_after version found ≡ Some next
+  pub body_is : body ≡ record_bytes found
+
+-- a whole record, and more, whose body is none that may stand there
+pub record IsForeign (MayStand : List ℕ → Type 0) (rest : List ℕ) : Type 0 where
   pub body : List ℕ
   pub after : List ℕ
   pub rest_is : rest ≡ framed body ++ after
   pub some : 0 < length after
   pub fits : length body < 2 ^ 32
-  pub none : (v : Record) → MayFollow vs v → body ≢ record_bytes v
+  pub none : MayStand body → ⊥
 
--- behind some records, at this place, there is a record that is cut short, or one whose body is none that may stand there, or there is no byte at all
-pub record IsDamaged (place : ℕ) (bytes : List ℕ) : Type 0 where
+abbrev pub IsOff : (List ℕ → Type 0) → List ℕ → Type 0
+IsOff MayStand rest = IsCutShort rest ⊎ IsForeign MayStand rest
+
+-- what may stand behind a version, at a place of the first segment
+abbrev pub IsBodyOrHead : Version → ℕ → List ℕ → Type 0
+IsBodyOrHead version place body = IsBodyOf version body ⊎ (body ≡ head_bytes (place + 15))
+
+-- and at one of a later segment
+abbrev pub IsBodyAt : Version → ℕ → List ℕ → Type 0
+IsBodyAt version place body = IsBodyOf version body
+
+-- behind records from a place on there is, at this place, one that is cut short, or one whose body is none that may stand there
+pub record IsDamagedRow (MayStand : Version → ℕ → List ℕ → Type 0) (from : ℕ) (opening : Version) (place : ℕ) (bytes : List ℕ) : Type 0 where
   pub found : List Record
+  pub version : Version
   pub rest : List ℕ
-  pub bytes_are : bytes ≡ records (bodies_of found) ++ rest
-  pub place_is : place ≡ length (records (bodies_of found))
-  pub placed : ArePlaced found
-  pub cause : IsCutShort rest ⊎ IsForeign found rest ⊎ ((found ≡ []) × (rest ≡ []))
+  pub there : AreThere from opening found version rest bytes
+  pub place_is : place ≡ from + place_behind found
+  pub cause : IsOff (MayStand version place) rest
+
+-- the segment of this Base, with the records behind it, would pass the limit
+pub record PassesLimit (c : Later) (bytes : List ℕ) : Type 0 where
+  pub found : List Record
+  pub version : Version
+  pub journal : IsJournal (bodies_of found) (drop c.gate bytes)
+  pub placed : ArePlaced c.version found version
+  pub long : journal_limit < c.gate + 1 + room_for (first_length found)
+
+-- behind the Base that the slots name a record is out of place, or the segment passes the limit, which its place tells
+pub record IsDamagedIn (opening : Version) (head place : ℕ) (bytes : List ℕ) : Type 0 where
+  pub later : Later
+  pub there : IsThere opening head later bytes
+  pub cause : IsDamagedRow IsBodyAt later.gate later.version place bytes ⊎ ((place ≡ later.found.place) × PassesLimit later bytes)
+
+-- the head whose gate is at this end is no journal's last record, or what it names passes the limit, or isn't there, or is damaged
+abbrev pub IsOffBehind : Version → ℕ → List ℕ → ℕ → List ℕ → Type 0
+IsOffBehind version end after place bytes =
+    ((place ≡ end + 14) × (IsShut after → ⊥)) ⊎ (((place ≡ end + 15) × (journal_limit < head_end end)) ⊎ (IsDamagedBehind version (end + 15) place bytes ⊎ IsDamagedIn version (end + 15) place bytes))
+
+-- the first segment ends with the head, and of what that names something is out of place
+pub record IsDamagedLater (place : ℕ) (bytes : List ℕ) : Type 0 where
+  pub found : List Record
+  pub version : Version
+  pub after : List ℕ
+  pub there : AreThere 0 Blank found version (framed (head_bytes (place_behind found + 15)) ++ after) bytes
+  pub some : 0 < length after
+  pub cause : IsOffBehind version (place_behind found) after place bytes
+
+-- the bytes stand for nothing, and this is the place where that shows
+pub record IsDamaged (place : ℕ) (bytes : List ℕ) : Type 0 where
+  pub none : (p : Plain) → StandsFor p bytes → ⊥
+  pub cause : ((place ≡ 0) × (bytes ≡ [])) ⊎ (IsDamagedRow IsBodyOrHead 0 Blank place bytes ⊎ IsDamagedLater place bytes)

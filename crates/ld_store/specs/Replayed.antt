@@ -1,38 +1,49 @@
--- How far a journal was replayed.
-use Rattle.std.specs.Prelude.{◌≡◌, ◌++◌, ℕ, List, Option, Some, Bool}
-use Rattle.ld_journal.specs.Format.{records}
-use Rattle.ld_journal.specs.Open.{HasGiven, IsSettled}
-use Rattle.ld_journal.specs.declared.journal.Journal.{Journal}
+-- How far the records of a segment were replayed.
+use Rattle.std.specs.Prelude.{◌≡◌, ◌<◌, ◌+◌, ◌==◌, ℕ, List, [], ◌∷◌, length, Bool, true, false, Some, if◌then◌else◌}
+use Rattle.ld_journal.specs.Rest.{IsShut, BeginsWith}
+use Rattle.ld_msg.specs.Register.{record_length}
 use Rattle.ld_op.specs.declared.record.Record.{Record}
 use Rattle.ld_op.specs.declared.version.Version.{Version}
 use Rattle.ld_op.specs.Plain.{Plain}
-use Rattle.ld_op.specs.Records.{is_blank}
-use Rattle.ld_store.specs.Ops.{bodies_of, state_after, version_of, marked, AreRecords, IsJournalOf}
+use Rattle.ld_op.specs.Records.{applied, version_after}
+use Rattle.ld_op.specs.Bounds.{IsRecord}
+use Rattle.ld_op.specs.Bytes.{record_bytes}
+use Rattle.ld_segment.specs.Slots.{head_bytes}
+use Rattle.ld_segment.specs.Ops.{place_behind, op_count, indexed, placed_record}
+use Rattle.ld_segment.specs.Lies.{first_length}
+use Rattle.ld_store.specs.Ops.{AreThere}
+use Rattle.ld_store.specs.declared.replay.Walk.{Walk}
 
--- of these bytes some records were replayed, which lead to this plain state, and the journal is of this version so far
-pub record HasReplayed {D : Type 0} (seen : D → Option (List ℕ)) (may_leave : D → List ℕ → Type 0) (journal : Journal D) (bytes : List ℕ) (state : Plain) (version : Version) : Type 0 where
+-- with a record more, whose body has so many bytes, and which is so many ops
+abbrev pub walked : Walk → Version → ℕ → ℕ → Walk
+walked w version size ops = record { version = version; at = w.at + record_length size; ops = w.ops + ops; first = if w.first == 0 then record_length size else w.first }
+
+-- what the record of this body makes of the index, and of how far it goes
+pub record IsWithRecord (w : Walk) (body : List ℕ) (index : Plain) (next : Walk) (made : Plain) : Type 0 where
+  pub found : Record
+  pub body_is : body ≡ record_bytes found
+  pub is : IsRecord found
+  pub follows : version_after w.version found ≡ Some next.version
+  pub next_is : next ≡ walked w next.version (length body) (op_count (found ∷ []))
+  pub made_is : made ≡ applied index (placed_record (w.at + 5) found)
+
+-- from a place on, behind a version and over an index, these bytes have records that lead to this index; more stands behind them
+pub record HasReplayed (from : ℕ) (opening : Version) (base : Plain) (bytes : List ℕ) (w : Walk) (index : Plain) : Type 0 where
   pub found : List Record
   pub rest : List ℕ
-  pub given : HasGiven seen may_leave journal (bodies_of found) rest
-  pub bytes_are : bytes ≡ records (bodies_of found) ++ rest
-  pub are : AreRecords found
-  pub state_is : state ≡ state_after found
-  pub version_is : version_of found ≡ Some version
+  pub there : AreThere from opening found w.version rest bytes
+  pub at_is : w.at ≡ from + place_behind found
+  pub some : 0 < length rest
+  pub ops_is : w.ops ≡ op_count found
+  pub first_is : w.first ≡ first_length found
+  pub index_is : index ≡ indexed from base found
 
--- all of these bytes was replayed
-pub record IsReplayed {D : Type 0} (seen : D → Option (List ℕ)) (may_leave : D → List ℕ → Type 0) (journal : Journal D) (bytes : List ℕ) (state : Plain) (version : Version) : Type 0 where
-  pub found : List Record
-  pub settled : IsSettled seen may_leave journal (bodies_of found)
-  pub journal_is : IsJournalOf found bytes
-  pub state_is : state ≡ state_after found
-  pub version_is : version_of found ≡ Some version
+-- they end at a shut gate, or at the head
+abbrev pub Stops : Bool → ℕ → List ℕ → Type 0
+Stops false at rest = IsShut rest
+Stops true at rest = BeginsWith (head_bytes (at + 15)) rest
 
--- the same, and the journal was marked where it was of the first version
-pub record IsMarked {D : Type 0} (seen : D → Option (List ℕ)) (may_leave : D → List ℕ → Type 0) (journal : Journal D) (bytes : List ℕ) (state : Plain) (blank : Bool) : Type 0 where
-  pub found : List Record
-  pub version : Version
-  pub settled : IsSettled seen may_leave journal (bodies_of (marked found))
-  pub journal_is : IsJournalOf found bytes
-  pub state_is : state ≡ state_after found
-  pub version_is : version_of found ≡ Some version
-  pub blank_is : blank ≡ is_blank version
+-- all records of the segment were replayed
+pub record Replayed (from : ℕ) (opening : Version) (base : Plain) (bytes : List ℕ) (w : Walk) (index : Plain) (is_headed : Bool) : Type 0 where
+  pub has : HasReplayed from opening base bytes w index
+  pub stops : Stops is_headed w.at has.rest

@@ -35,6 +35,28 @@ impl From<ld_ids::NoMemory> for StoreFault {
     }
 }
 
+impl From<ld_io::NoMemory> for StoreFault {
+    ghost use Rattle.std.specs.Prelude.{◌≡◌};
+    ghost use Rattle.ld_store.specs.declared.fault.StoreFault.TheVariants as faults;
+
+    ghost from_gives = { λ _ e. e ≡ faults.NoMemory };
+
+    fn from(_: ld_io::NoMemory) -> StoreFault {
+        StoreFault::NoMemory
+    }
+}
+
+impl From<ld_io::Failed> for StoreFault {
+    ghost use Rattle.std.specs.Prelude.{◌≡◌};
+    ghost use Rattle.ld_store.specs.declared.fault.StoreFault.TheVariants as faults;
+
+    ghost from_gives = { λ _ e. e ≡ faults.Disk };
+
+    fn from(_: ld_io::Failed) -> StoreFault {
+        StoreFault::Disk
+    }
+}
+
 impl From<JournalFault> for StoreFault {
     ghost use Rattle.std.specs.Prelude.{◌≡◌};
     ghost use Rattle.ld_store.specs.Faults.{passed_on};

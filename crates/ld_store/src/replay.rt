@@ -1,30 +1,53 @@
-// How a journal's records are replayed, and a journal of the first version marked.
-ghost use Rattle.std.specs.Prelude.{◌≡◌, ◌≢◌, ◌⊎◌, ◌↔◌, ◌≤◌, ◌<◌, ◌+◌, ◌^◌, ◌++◌, ◌∷◌, [], List, ℕ, length, IfOk, IfErr, OnOk, OnErr, IfSome, IsErrOf, Ok, Err, Some, None, is_ok, true, false};
+// How the records of a segment are replayed.
+ghost use Rattle.std.specs.Prelude.{◌≡◌, ◌≢◌, ◌⊎◌, ◌≤◌, ◌<◌, ◌+◌, ◌^◌, ◌∷◌, [], List, ℕ, length, IfOk, IfErr, OnOk, IsErrOf, Ok, Err, Some, true, false};
 ghost use Rattle.ld_io.specs.Causes.{Rose};
-ghost use Rattle.ld_disk.specs.Moments.{LeavesOnly, Unchanged};
-ghost use Rattle.ld_disk.specs.Plain.{Plain as DiskPlain, reads_fine, after_calls, all_succeed};
-ghost use Rattle.ld_journal.specs.Format.{IsWithOrWithout, append_calls};
-ghost use Rattle.ld_journal.specs.Open.{IsSettled, HasGiven, disk_of, place_of, length_of, has_ended, must_load};
+ghost use Rattle.ld_disk.specs.Moments.{Unchanged};
+ghost use Rattle.ld_disk.specs.Plain.{Plain as DiskPlain, reads_fine};
 ghost use Rattle.ld_op.specs.declared.record.Record.{Record as Kind};
 ghost use Rattle.ld_op.specs.declared.version.Version.{Version as Stage};
-ghost use Rattle.ld_op.specs.Plain.{apply, unformatted};
-ghost use Rattle.ld_op.specs.Records.{applied, version_after};
+ghost use Rattle.ld_op.specs.Plain.{Plain as State, apply, op_length};
+ghost use Rattle.ld_op.specs.Records.{applied, version_after, body_length};
 ghost use Rattle.ld_op.specs.Bounds.{IsOp, IsRecord};
 ghost use Rattle.ld_op.specs.Bytes.{record_bytes};
-ghost use Rattle.ld_store.specs.Ops.{IsOfFirst, HasNoRoom, IsDamaged};
-ghost use Rattle.ld_store.specs.Loads.{LeftOrMarked, Marks, refused_by};
+ghost use Rattle.ld_op.specs.Cells.{placed};
+ghost use Rattle.ld_segment.specs.Slots.{head_bytes};
+ghost use Rattle.ld_segment.specs.Ops.{op_count, placed_record};
+ghost use Rattle.ld_store.specs.Ops.{IsBodyOf, IsBodyOrHead, IsDamagedRow};
 ghost use Rattle.ld_store.specs.Well.{IsWell};
-ghost use Rattle.ld_store.specs.Replayed.{HasReplayed, IsReplayed, IsMarked};
+ghost use Rattle.ld_store.specs.Replayed.{HasReplayed, Replayed, IsWithRecord, walked};
+ghost use Rattle.ld_store.specs.declared.replay.Walk.{Walk as Walked};
 
 use crate::StoreFault;
 use ld_disk::Disk;
 use ld_ids::NoMemory;
-use ld_journal::Journal;
+use ld_journal::read_record;
 use ld_op::{Op, OpFault, Plain, Record, Version};
+use ld_segment::head;
 use std::alloc::Global;
 
+/// How far the records of a segment were replayed: the version of the journal so far, the gate behind them, how many of
+/// them are ops, and how many bytes the first takes, or none where there is none.
+#[derive(Clone, Copy)]
+pub(crate) struct Walk {
+    pub(crate) version: Version,
+    pub(crate) at: u64,
+    pub(crate) ops: u64,
+    pub(crate) first: u64,
+}
+
+/// What stands behind the records that were replayed.
+#[derive(Clone, Copy)]
+pub(crate) enum Next {
+    /// One more, which was replayed too.
+    Record(Walk),
+    /// A gate that ends them.
+    End,
+    /// The head.
+    Head,
+}
+
 /// The record at a place of a journal of some version so far, and the version with it.
-pub(crate) fn read_record(
+fn decoded(
     alloc: Global,
     body: &[u8],
     version: Version,
@@ -44,193 +67,189 @@ pub(crate) fn read_record(
     }
 }
 
-/// Applies an op.
+/// Applies an op, whose body stands from this place of the disk on.
 #[tactic(auto, using(crate::proofs::Formats::op_rises))]
-fn apply_op(alloc: Global, plain: &mut Plain, op: Op) -> Result<(), NoMemory>
-    requires { IsOp op }
-    ensures { OnOk result (plain.new.state ≡ apply plain.old.state op) }
+fn apply_op(alloc: Global, index: &mut Plain, op: Op, at: u64) -> Result<(), NoMemory>
+    requires op { IsOp op }
+    requires fits { at + op_length op < 2 ^ 64 }
+    ensures { OnOk result (index.new.state ≡ apply index.old.state (placed at op)) }
 {
-    plain.room(alloc, &op)?;
-    plain.apply(op);
+    index.room(alloc, &op)?;
+    index.apply(op, at);
     Ok(())
 }
 
-/// Does what a record makes of the plain state.
-fn apply_record(alloc: Global, plain: &mut Plain, found: Record) -> Result<(), NoMemory>
-    requires { IsRecord found }
-    ensures { OnOk result (plain.new.state ≡ applied plain.old.state found) }
+/// Does what a record makes of the index; its body stands from this place of the disk on.
+#[tactic(auto, using(crate::proofs::Placing::older_longer))]
+fn apply_record(alloc: Global, index: &mut Plain, found: Record, at: u64) -> Result<(), NoMemory>
+    requires record { IsRecord found }
+    requires fits { at + body_length found + 1 < 2 ^ 64 }
+    ensures { OnOk result (index.new.state ≡ applied index.old.state (placed_record at found)) }
 {
     match found {
-        Record::Now(op) => apply_op(alloc, plain, op),
-        Record::Before(op) => apply_op(alloc, plain, op),
+        Record::Now(op) => apply_op(alloc, index, op, at),
+        Record::Before(op) => apply_op(alloc, index, op, at),
         Record::Mark => Ok(()),
     }
 }
 
-/// Does what the record at a place makes of the plain state, and gives the version with it.
-pub(crate) fn replay_body(
-    alloc: Global,
-    plain: &mut Plain,
-    body: &[u8],
-    version: Version,
-    at: u64,
-) -> Result<Version, StoreFault>
-    requires well { IsWell plain.old.state }
-    ensures applied { IfOk result (λ next. (v : Kind) × (body.now ≡ record_bytes v) × IsRecord v × (version_after version v ≡ Some next) × (plain.new.state ≡ applied plain.old.state v)) }
-    ensures refused { IfErr result (λ fault. (fault ≡ StoreFault.NoMemory)
-        ⊎ ((fault ≡ StoreFault.Damaged at) × ((v : Kind) (w : Stage) → IsRecord v → version_after version v ≡ Some w → body.now ≢ record_bytes v))) }
-    ensures well { OnOk result (IsWell plain.new.state) }
+/// How many ops it is: a mark is none.
+fn ops_in(found: &Record) -> u64
+    ensures count { result ≡ op_count (found.now ∷ []) }
+    ensures most { result ≤ 1 }
 {
-    let (found, next) = read_record(alloc, body, version, at)?;
-    apply_record(alloc, plain, found)?;
-    Ok(next)
+    match found {
+        Record::Mark => 0,
+        Record::Now(_) => 1,
+        Record::Before(_) => 1,
+    }
 }
 
-/// Replays the next record, and gives the version with it; None where there was none.
-pub(crate) fn replay_next<D: Disk>(
+impl Walk {
+    /// Before the first record, whose gate is at this place.
+    pub(crate) fn from(version: Version, at: u64) -> Walk
+        ensures { result ≡ record { version = version; at = at; ops = 0; first = 0 } }
+    {
+        Walk {
+            version,
+            at,
+            ops: 0,
+            first: 0,
+        }
+    }
+
+    /// With a record more, whose body has so many bytes.
+    fn with_record(self, version: Version, size: u64, ops: u64) -> Walk
+        requires at { self.at + 5 + size < 2 ^ 64 }
+        requires ops { self.ops + ops < 2 ^ 64 }
+        ensures { result ≡ walked self version size ops }
+    {
+        let first = if self.first == 0 {
+            5 + size
+        } else {
+            self.first
+        };
+        Walk {
+            version,
+            at: self.at + 5 + size,
+            ops: self.ops + ops,
+            first,
+        }
+    }
+}
+
+/// Does what the record behind those that were replayed makes of the index.
+fn replay_body(
     alloc: Global,
-    journal: &mut Journal<D>,
-    plain: &mut Plain,
+    index: &mut Plain,
+    body: &[u8],
+    walk: Walk,
+) -> Result<Walk, StoreFault>
+    requires well { IsWell index.old.state }
+    requires fits { walk.at + length body.now + 6 < 2 ^ 64 }
+    requires ops { walk.ops ≤ walk.at }
+    ensures applied { IfOk result (λ next. IsWithRecord walk body.now index.old.state next index.new.state) }
+    ensures refused { IfErr result (λ fault. (fault ≡ StoreFault.NoMemory) ⊎ ((fault ≡ StoreFault.Damaged walk.at) × (IsBodyOf walk.version body.now → ⊥))) }
+    ensures well { OnOk result (IsWell index.new.state) }
+    ensures ops { IfOk result (λ next. next.ops ≤ next.at) }
+{
+    let (found, version) = decoded(alloc, body, walk.version, walk.at)?;
+    let ops = ops_in(&found);
+    apply_record(alloc, index, found, walk.at + 5)?;
+    Ok(walk.with_record(version, body.len() as u64, ops))
+}
+
+/// Whether the body behind a gate at this place is the head's.
+fn is_head(body: &[u8], at: u64) -> bool
+    requires { at + length body.now + 6 < 2 ^ 64 }
+    ensures head { result ≡ true → body.now ≡ head_bytes (at + 15) }
+    ensures other { result ≡ false → body.now ≢ head_bytes (at + 15) }
+{
+    if body.len() != 9 {
+        return false;
+    }
+    let bytes = head(at + 15);
+    body == &bytes[..]
+}
+
+/// Replays the next record of a segment, on a disk of so many bytes, or tells what ends its records.
+fn replay_next<D: Disk>(
+    alloc: Global,
+    disk: &mut D,
+    len: u64,
+    index: &mut Plain,
     body: &mut Vec<u8>,
-    version: Version,
-) -> Result<Option<Version>, StoreFault>
-    requires works { must_load journal.old ≡ false }
-    requires well { IsWell plain.old.state }
-    ensures more { (next : Stage) → result ≡ Ok (Some next) → (bytes : List ℕ) → HasReplayed D.seen D.may_leave journal.old bytes plain.old.state version
-        → HasReplayed D.seen D.may_leave journal.new bytes plain.new.state next }
-    ensures all { result ≡ Ok None → (bytes : List ℕ) → HasReplayed D.seen D.may_leave journal.old bytes plain.old.state version
-        → IsReplayed D.seen D.may_leave journal.new bytes plain.new.state version }
-    ensures damaged { (place : ℕ) → IsErrOf result (StoreFault.Damaged place) → (bytes : List ℕ)
-        → HasReplayed D.seen D.may_leave journal.old bytes plain.old.state version → IsDamaged place bytes }
-    ensures exact { (p : DiskPlain) → D.plain (disk_of journal.old) ≡ Some p → reads_fine p ≡ true
-        → (D.plain (disk_of journal.new) ≡ Some p) × (result ≢ Err StoreFault.Disk) }
-    ensures ended { result ≡ Ok None → has_ended journal.new ≡ true }
-    ensures advances { (next : Stage) → result ≡ Ok (Some next) → (place_of journal.old < place_of journal.new) × (place_of journal.new < length_of journal.new) }
-    ensures len { length_of journal.new ≡ length_of journal.old }
-    ensures same { Unchanged D.seen D.may_leave D.moment D.left_since (disk_of journal.old) (disk_of journal.new) }
-    ensures itself { D.identity (disk_of journal.new) ≡ D.identity (disk_of journal.old) }
-    ensures counts { D.faults (disk_of journal.old) ≤ D.faults (disk_of journal.new) }
-    ensures steady { IsErrOf result StoreFault.Disk ⊎ (D.faults (disk_of journal.new) ≡ D.faults (disk_of journal.old)) }
-    ensures failed { IsErrOf result StoreFault.Disk → Rose (D.faults (disk_of journal.old)) (D.faults (disk_of journal.new)) }
-    ensures works { OnOk result (must_load journal.new ≡ false) }
+    walk: Walk,
+) -> Result<Next, StoreFault>
+    requires well { IsWell index.old.state }
+    requires ops { walk.ops ≤ walk.at }
+    ensures more { (next : Walked) → result ≡ Ok (Next.Record next) → (from : ℕ) (opening : Stage) (base : State) (bytes : List ℕ) → D.seen disk.old ≡ Some bytes → len ≡ length bytes
+        → HasReplayed from opening base bytes walk index.old.state → HasReplayed from opening base bytes next index.new.state }
+    ensures end { result ≡ Ok Next.End → (from : ℕ) (opening : Stage) (base : State) (bytes : List ℕ) → D.seen disk.old ≡ Some bytes → len ≡ length bytes
+        → HasReplayed from opening base bytes walk index.old.state → Replayed from opening base bytes walk index.new.state false }
+    ensures head { result ≡ Ok Next.Head → (from : ℕ) (opening : Stage) (base : State) (bytes : List ℕ) → D.seen disk.old ≡ Some bytes → len ≡ length bytes
+        → HasReplayed from opening base bytes walk index.old.state → Replayed from opening base bytes walk index.new.state true }
+    ensures damaged { (place : ℕ) → IsErrOf result (StoreFault.Damaged place) → (from : ℕ) (opening : Stage) (base : State) (bytes : List ℕ) → D.seen disk.old ≡ Some bytes → len ≡ length bytes
+        → HasReplayed from opening base bytes walk index.old.state → IsDamagedRow IsBodyOrHead from opening place bytes }
+    ensures advances { (next : Walked) → result ≡ Ok (Next.Record next) → (walk.at < next.at) × (next.at < len) × (next.ops ≤ next.at) }
+    ensures within { result ≡ Ok Next.Head → walk.at + 14 < len }
+    ensures well { OnOk result (IsWell index.new.state) }
+    ensures exact { (p : DiskPlain) → D.plain disk.old ≡ Some p → reads_fine p ≡ true
+        → (D.plain disk.new ≡ Some p) × (result ≢ Err StoreFault.Disk) }
+    ensures same { Unchanged D.seen D.may_leave D.moment D.left_since disk.old disk.new }
+    ensures itself { D.identity disk.new ≡ D.identity disk.old }
+    ensures counts { D.faults disk.old ≤ D.faults disk.new }
+    ensures steady { IsErrOf result StoreFault.Disk ⊎ (D.faults disk.new ≡ D.faults disk.old) }
+    ensures failed { IsErrOf result StoreFault.Disk → Rose (D.faults disk.old) (D.faults disk.new) }
     ensures full { result ≢ Err StoreFault.Full }
     ensures needs_load { result ≢ Err StoreFault.NeedsLoad }
-    ensures well { OnOk result (IsWell plain.new.state) }
 {
-    let at = journal.place();
-    let more = journal.next_body(body)?;
-    if !more {
-        return Ok(None);
+    match read_record(disk, walk.at, len, body)? {
+        None => Ok(Next::End),
+        Some(_) => {
+            if is_head(body, walk.at) {
+                return Ok(Next::Head);
+            }
+            let next = replay_body(alloc, index, body, walk)?;
+            Ok(Next::Record(next))
+        }
     }
-    let next = replay_body(alloc, plain, body, version, at)?;
-    Ok(Some(next))
 }
 
-/// Replays the records of a journal of which none was given yet, and gives its version.
+/// Replays the records of a segment from a place on, on a disk of so many bytes, and says how far that goes, and whether
+/// the head stands there.
 pub(crate) fn replay<D: Disk>(
     alloc: Global,
-    journal: &mut Journal<D>,
-    plain: &mut Plain,
-) -> Result<Version, StoreFault>
-    requires works { must_load journal.old ≡ false }
-    requires well { IsWell plain.old.state }
-    requires new { plain.old.state ≡ unformatted }
-    ensures opened { IfOk result (λ version. (bytes : List ℕ) → HasGiven D.seen D.may_leave journal.old [] bytes
-        → IsReplayed D.seen D.may_leave journal.new bytes plain.new.state version) }
-    ensures damaged { (place : ℕ) → IsErrOf result (StoreFault.Damaged place) → (bytes : List ℕ)
-        → HasGiven D.seen D.may_leave journal.old [] bytes → IsDamaged place bytes }
-    ensures exact { (p : DiskPlain) → D.plain (disk_of journal.old) ≡ Some p → reads_fine p ≡ true
-        → (D.plain (disk_of journal.new) ≡ Some p) × (result ≢ Err StoreFault.Disk) }
-    ensures ended { OnOk result (has_ended journal.new ≡ true) }
-    ensures same { Unchanged D.seen D.may_leave D.moment D.left_since (disk_of journal.old) (disk_of journal.new) }
-    ensures itself { D.identity (disk_of journal.new) ≡ D.identity (disk_of journal.old) }
-    ensures counts { D.faults (disk_of journal.old) ≤ D.faults (disk_of journal.new) }
-    ensures steady { IsErrOf result StoreFault.Disk ⊎ (D.faults (disk_of journal.new) ≡ D.faults (disk_of journal.old)) }
-    ensures failed { IsErrOf result StoreFault.Disk → Rose (D.faults (disk_of journal.old)) (D.faults (disk_of journal.new)) }
-    ensures works { OnOk result (must_load journal.new ≡ false) }
+    disk: &mut D,
+    len: u64,
+    index: &mut Plain,
+    walk: Walk,
+) -> Result<(Walk, bool), StoreFault>
+    requires well { IsWell index.old.state }
+    requires ops { walk.ops ≤ walk.at }
+    ensures replayed { IfOk result (λ r. (from : ℕ) (opening : Stage) (base : State) (bytes : List ℕ) → D.seen disk.old ≡ Some bytes → len ≡ length bytes
+        → HasReplayed from opening base bytes walk index.old.state → Replayed from opening base bytes r.0 index.new.state r.1) }
+    ensures damaged { (place : ℕ) → IsErrOf result (StoreFault.Damaged place) → (from : ℕ) (opening : Stage) (base : State) (bytes : List ℕ) → D.seen disk.old ≡ Some bytes → len ≡ length bytes
+        → HasReplayed from opening base bytes walk index.old.state → IsDamagedRow IsBodyOrHead from opening place bytes }
+    ensures within { IfOk result (λ r. r.1 ≡ true → r.0.at + 14 < len) }
+    ensures well { OnOk result (IsWell index.new.state) }
+    ensures exact { (p : DiskPlain) → D.plain disk.old ≡ Some p → reads_fine p ≡ true
+        → (D.plain disk.new ≡ Some p) × (result ≢ Err StoreFault.Disk) }
+    ensures same { Unchanged D.seen D.may_leave D.moment D.left_since disk.old disk.new }
+    ensures itself { D.identity disk.new ≡ D.identity disk.old }
+    ensures counts { D.faults disk.old ≤ D.faults disk.new }
+    ensures steady { IsErrOf result StoreFault.Disk ⊎ (D.faults disk.new ≡ D.faults disk.old) }
+    ensures failed { IsErrOf result StoreFault.Disk → Rose (D.faults disk.old) (D.faults disk.new) }
     ensures full { result ≢ Err StoreFault.Full }
     ensures needs_load { result ≢ Err StoreFault.NeedsLoad }
-    ensures well { OnOk result (IsWell plain.new.state) }
 {
     let mut body = Vec::new(alloc);
-    let mut version = Version::Blank;
-    'records: while let Some(next) = replay_next(alloc, journal, plain, &mut body, version)? {
-        version = next;
+    let mut walk = walk;
+    'records: loop {
+        match replay_next(alloc, disk, len, index, &mut body, walk)? {
+            Next::Record(next) => walk = next,
+            Next::End => return Ok((walk, false)),
+            Next::Head => return Ok((walk, true)),
+        }
     }
-    Ok(version)
-}
-
-/// Marks a journal of which all records were given, as one more record.
-pub(crate) fn mark<D: Disk>(alloc: Global, journal: &mut Journal<D>) -> Result<(), StoreFault>
-    requires works { must_load journal.old ≡ false }
-    requires ended { has_ended journal.old ≡ true }
-    ensures marks { (bodies : List (List ℕ)) → IsSettled D.seen D.may_leave journal.old bodies
-        → OnOk result (IsSettled D.seen D.may_leave journal.new (bodies ++ record_bytes Record.Mark ∷ [])) }
-    ensures any_moment { (bodies : List (List ℕ)) → IsSettled D.seen D.may_leave journal.old bodies
-        → LeavesOnly D.moment D.left_since (disk_of journal.old) (disk_of journal.new) (IsWithOrWithout bodies (record_bytes Record.Mark)) }
-    ensures exact { (p : DiskPlain) → D.plain (disk_of journal.old) ≡ Some p → (result ≡ Ok tt ⊎ IsErrOf result StoreFault.Disk)
-        → (D.plain (disk_of journal.new) ≡ Some (after_calls (append_calls (place_of journal.old) (record_bytes Record.Mark)) p)) × (is_ok result ≡ all_succeed (append_calls (place_of journal.old) (record_bytes Record.Mark)) p) }
-    ensures full { IsErrOf result StoreFault.Full ↔ (2 ^ 40 < place_of journal.old + 8) }
-    ensures stays { OnErr result (IsErrOf result StoreFault.Disk ⊎ Unchanged D.seen D.may_leave D.moment D.left_since (disk_of journal.old) (disk_of journal.new)) }
-    ensures keeps { OnErr result (IsErrOf result StoreFault.Disk ⊎ (D.plain (disk_of journal.new) ≡ D.plain (disk_of journal.old))) }
-    ensures ended { has_ended journal.new ≡ true }
-    ensures works { OnOk result (must_load journal.new ≡ false) }
-    ensures itself { D.identity (disk_of journal.new) ≡ D.identity (disk_of journal.old) }
-    ensures counts { D.faults (disk_of journal.old) ≤ D.faults (disk_of journal.new) }
-    ensures steady { IsErrOf result StoreFault.Disk ⊎ (D.faults (disk_of journal.new) ≡ D.faults (disk_of journal.old)) }
-    ensures failed { IsErrOf result StoreFault.Disk → Rose (D.faults (disk_of journal.old)) (D.faults (disk_of journal.new)) }
-    ensures damaged { (place : ℕ) → result ≢ Err (StoreFault.Damaged place) }
-    ensures needs_load { result ≢ Err StoreFault.NeedsLoad }
-{
-    let body = Record::mark_bytes();
-    match journal.append(alloc, &body) {
-        Ok(()) => Ok(()),
-        Err(fault) => Err(StoreFault::from(fault)),
-    }
-}
-
-/// Replays the records of a journal of which none was given yet, marks it where it is of the first version, and says
-/// whether there is none.
-pub(crate) fn open<D: Disk>(
-    alloc: Global,
-    journal: &mut Journal<D>,
-    plain: &mut Plain,
-) -> Result<bool, StoreFault>
-    requires works { must_load journal.old ≡ false }
-    requires well { IsWell plain.old.state }
-    requires new { plain.old.state ≡ unformatted }
-    ensures opened { IfOk result (λ blank. (bytes : List ℕ) → HasGiven D.seen D.may_leave journal.old [] bytes
-        → IsMarked D.seen D.may_leave journal.new bytes plain.new.state blank) }
-    ensures damaged { (place : ℕ) → IsErrOf result (StoreFault.Damaged place) → (bytes : List ℕ)
-        → HasGiven D.seen D.may_leave journal.old [] bytes → IsDamaged place bytes }
-
-    // A crash at any moment leaves what a crash before the call might have left, or the journal with a mark or without.
-    ensures any_moment { (bytes : List ℕ) → HasGiven D.seen D.may_leave journal.old [] bytes
-        → LeavesOnly D.moment D.left_since (disk_of journal.old) (disk_of journal.new) (LeftOrMarked (D.may_leave (disk_of journal.old)) bytes) }
-
-    // Without a mark it makes no writing call.
-    ensures exact { (p : DiskPlain) → D.plain (disk_of journal.old) ≡ Some p → reads_fine p ≡ true → HasGiven D.seen D.may_leave journal.old [] p.state.bytes
-        → ¬ IsOfFirst p.state.bytes → (D.plain (disk_of journal.new) ≡ Some p) × (result ≢ Err StoreFault.Disk) }
-    ensures marks { (p : DiskPlain) (was : IsOfFirst p.state.bytes) → D.plain (disk_of journal.old) ≡ Some p → reads_fine p ≡ true
-        → HasGiven D.seen D.may_leave journal.old [] p.state.bytes → Marks was.found p (D.plain (disk_of journal.new)) (refused_by result) }
-
-    ensures full { IsErrOf result StoreFault.Full → (bytes : List ℕ) → HasGiven D.seen D.may_leave journal.old [] bytes → HasNoRoom bytes }
-    ensures too_long { OnOk result ((bytes : List ℕ) → HasGiven D.seen D.may_leave journal.old [] bytes → ¬ HasNoRoom bytes) }
-    ensures same { IsErrOf result StoreFault.Disk ⊎ Unchanged D.seen D.may_leave D.moment D.left_since (disk_of journal.old) (disk_of journal.new)
-        ⊎ ((is_ok result ≡ true) × ((bytes : List ℕ) → HasGiven D.seen D.may_leave journal.old [] bytes → IsOfFirst bytes)) }
-    ensures ended { OnOk result (has_ended journal.new ≡ true) }
-    ensures itself { D.identity (disk_of journal.new) ≡ D.identity (disk_of journal.old) }
-    ensures counts { D.faults (disk_of journal.old) ≤ D.faults (disk_of journal.new) }
-    ensures steady { IsErrOf result StoreFault.Disk ⊎ (D.faults (disk_of journal.new) ≡ D.faults (disk_of journal.old)) }
-    ensures failed { IsErrOf result StoreFault.Disk → Rose (D.faults (disk_of journal.old)) (D.faults (disk_of journal.new)) }
-    ensures works { OnOk result (must_load journal.new ≡ false) }
-    ensures needs_load { result ≢ Err StoreFault.NeedsLoad }
-    ensures well { OnOk result (IsWell plain.new.state) }
-{
-    let version = replay(alloc, journal, plain)?;
-    if !version.is_first() {
-        return Ok(version.is_blank());
-    }
-    mark(alloc, journal)?;
-    Ok(false)
 }

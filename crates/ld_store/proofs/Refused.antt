@@ -1,0 +1,103 @@
+-- Bytes in which something is out of place stand for no plain state.
+use Rattle.std.proofs.Common.{◌≡◌, inl, inr, ⊎_elim, ◌<◌, ◌≤◌, ◌+◌, ◌^◌, drop, ℕ, List, [], ◌∷◌, Option, None, Some, sym, ◌∙◌, ap, subst, arith}
+use Rattle.std.proofs.lemmas.List.{append-nil}
+use Rattle.ld_journal.specs.Format.{IsJournal}
+use Rattle.ld_journal.proofs.Reading.{one_reading}
+use Rattle.ld_msg.specs.Register.{journal_limit}
+use Rattle.ld_op.specs.declared.record.Record.{Record}
+use Rattle.ld_op.specs.declared.version.Version.{Version}
+use Rattle.ld_op.specs.declared.version.Version.TheVariants.{Blank}
+use Rattle.ld_op.specs.Plain.{Plain}
+use Rattle.ld_op.specs.Bytes.{record_bytes}
+use Rattle.ld_layout.specs.Layout.{Layout, Segment, IfSegment, room_for, head_end}
+use Rattle.ld_segment.specs.Slots.{head_bytes}
+use Rattle.ld_segment.specs.Later.{IsThere, IsDamagedBehind, IsReadAs}
+use Rattle.ld_segment.specs.declared.later.Later.{Later}
+use Rattle.ld_segment.specs.Ops.{bodies_of, place_behind, ArePlaced}
+use Rattle.ld_segment.specs.Lies.{Slots, LiesAs, IsSound, IsIndexed, IsLater, IfBounded, StandsFor, head_of, first_length}
+use Rattle.ld_segment.proofs.Readings.{no_head, same_records}
+use Rattle.ld_segment.proofs.ReadLater.{not_refused}
+use Rattle.ld_store.specs.Ops.{IsBodyOrHead, IsBodyAt, IsDamagedRow, PassesLimit, IsDamagedIn, IsDamagedLater}
+use Rattle.ld_store.specs.Read.{IsOut}
+use Rattle.ld_store.proofs.Damage.{row_fine, headed}
+use Rattle.ld_store.proofs.OneLayout.{fits_is, as_read, rest_is}
+
+-- ---- the first segment ----
+
+head_may : (y : Layout) (a : Option Segment) (first : Version) (end : ℕ) → y.end ≡ end → (q : List ℕ) (more : List (List ℕ)) → head_of y a ≡ q ∷ more → IsBodyOrHead first end q
+head_may y None w end is q more same = absurd (cc same)
+head_may y (Some g) w end is q more same = let body : head_bytes (y.end + 15) ≡ q = cc same in inr (sym body ∙ ap (λ k. head_bytes (k + 15)) is)
+
+head_other : (y : Layout) (a : Option Segment) (u : Record) (more : List (List ℕ)) → head_of y a ≡ record_bytes u ∷ more → ⊥
+head_other y None u more same = absurd (cc same)
+head_other y (Some g) u more same = let body : head_bytes (y.end + 15) ≡ record_bytes u = cc same in no_head u (y.end + 15) (sym body)
+
+not_first : (v : Version) (y : Layout) (z : Slots) (bytes : List ℕ) (place : ℕ) → LiesAs v y z bytes → IsDamagedRow IsBodyOrHead 0 Blank place bytes → ⊥
+not_first v y z bytes place lies damaged =
+    row_fine IsBodyOrHead (λ w k body is. inl is) 0 Blank lies.first lies.records (head_of y y.later) bytes place lies.journal lies.placed
+    (head_may y y.later lies.first (0 + place_behind lies.records) (omega (arith, lies.end_is))) (head_other y y.later) damaged
+
+-- ---- what the head names ----
+
+module _ (v : Version) (y : Layout) (z : Slots) (bytes : List ℕ) (lies : LiesAs v y z bytes) (sound : IsSound y) (g : Segment) (later_is : y.later ≡ Some g) where
+  is : IsLater lies.first v (y.end + 15) z g y.index bytes
+  is = subst (λ a. IsIndexed lies.first v y z a lies.records bytes) later_is lies.index_is
+
+  fits : (g.number < 2 ^ 64) × ((g.place < 2 ^ 64) × (head_end y.end ≤ g.place))
+  fits = fits_is y g sound later_is
+
+  not_behind : (place : ℕ) → IsDamagedBehind lies.first (y.end + 15) place bytes → ⊥
+  not_behind place damaged = not_refused lies.first v (y.end + 15) z g y.index bytes is fits.0 fits.1.0 place (omega (arith, fits.1.1)) damaged
+
+  module _ (c : Later) (there : IsThere lies.first (y.end + 15) c bytes) where
+    read : IsReadAs c z g is.current.kind is.current.base is.current.from
+    read = as_read v y z bytes g lies.first is fits.0 fits.1.0 c there
+
+    journal : IsJournal (bodies_of is.current.records) (drop c.gate bytes)
+    journal = rest_is v y z bytes g lies.first is fits.0 fits.1.0 c there
+
+    placed : ArePlaced c.version is.current.records v
+    placed = subst (λ w. ArePlaced w is.current.records v) (sym read.version_is) is.current.placed
+
+    not_row : (place : ℕ) → IsDamagedRow IsBodyAt c.gate c.version place bytes → ⊥
+    not_row place damaged =
+        row_fine IsBodyAt (λ w k body is. is) c.gate c.version v is.current.records [] bytes place
+        (subst (λ l. IsJournal l (drop c.gate bytes)) (sym (append-nil (bodies_of is.current.records))) journal) placed
+        (λ q more same. absurd (cc same)) (λ u more same. absurd (cc same)) damaged
+
+    not_long : PassesLimit c bytes → ⊥
+    not_long passes =
+        let rows = same_records is.current.records passes.found placed.are passes.placed.are (one_reading (drop c.gate bytes) (bodies_of is.current.records) (bodies_of passes.found) journal passes.journal) in
+        let bounded = subst (λ a. IfBounded y.end a) later_is sound.bounded in
+        let room : room_for (first_length is.current.records) ≡ room_for (first_length passes.found) = ap (λ vs. room_for (first_length vs)) rows in
+        omega (arith, bounded.limit, is.current.limit_is, read.gate_is, room, passes.long)
+
+  not_in : (place : ℕ) → IsDamagedIn lies.first (y.end + 15) place bytes → ⊥
+  not_in place damaged = ⊎_elim (λ row. not_row damaged.later damaged.there place row) (λ long. not_long damaged.later damaged.there long.1) damaged.cause
+
+  not_past : journal_limit < y.end + 49 → ⊥
+  not_past past =
+      let bounded = subst (λ a. IfBounded y.end a) later_is sound.bounded in
+      let segment = subst (λ a. IfSegment a) later_is sound.laid.segment in
+      omega (arith, past, fits.1.1, bounded.limit, segment.begun, segment.within)
+
+not_later : (v : Version) (y : Layout) (z : Slots) (bytes : List ℕ) (place : ℕ) → LiesAs v y z bytes → IsSound y → IsDamagedLater place bytes → ⊥
+not_later v y z bytes place lies sound d =
+    let h = headed v y z bytes lies d.found d.version (place_behind d.found + 15) d.after d.there in
+    let end : place_behind d.found ≡ y.end = sym (ap place_behind h.rows) ∙ sym lies.end_is in
+    ⊎_elim
+    (λ gate. gate.1 h.shut)
+    (λ rest. ⊎_elim
+    (λ past. not_past v y z bytes lies sound h.later h.later_is (omega (arith, past.1, end)))
+    (λ rest. ⊎_elim
+    (λ behind. not_behind v y z bytes lies sound h.later h.later_is place (subst (λ w. IsDamagedBehind w (y.end + 15) place bytes) (sym h.version_is) (subst (λ k. IsDamagedBehind d.version (k + 15) place bytes) end behind)))
+    (λ inner. not_in v y z bytes lies sound h.later h.later_is place (subst (λ w. IsDamagedIn w (y.end + 15) place bytes) (sym h.version_is) (subst (λ k. IsDamagedIn d.version (k + 15) place bytes) end inner)))
+    rest)
+    rest)
+    d.cause
+
+pub not_out : (p : Plain) (bytes : List ℕ) (place : ℕ) → StandsFor p bytes → IsOut place bytes → ⊥
+not_out p bytes place stands out = ⊎_elim
+    (λ row. not_first stands.version stands.layout stands.slots bytes place stands.lies row)
+    (λ later. not_later stands.version stands.layout stands.slots bytes place stands.lies stands.sound later)
+    out

@@ -1,0 +1,236 @@
+// How a disk is read: the first segment, and the later one that its head names.
+ghost use Rattle.std.specs.Prelude.{◌≡◌, ◌≢◌, ◌⊎◌, ◌≤◌, ◌<◌, ◌+◌, ◌^◌, ◌++◌, List, ℕ, length, IfOk, IfSome, IfNone, OnOk, OnErr, IsErrOf, Err, Some, None, true};
+ghost use Rattle.ld_io.specs.Causes.{Rose};
+ghost use Rattle.ld_disk.specs.Moments.{Unchanged};
+ghost use Rattle.ld_disk.specs.Plain.{Plain as DiskPlain, reads_fine};
+ghost use Rattle.ld_journal.specs.Rest.{IsParted, IsShut};
+ghost use Rattle.ld_msg.specs.Register.{journal_limit};
+ghost use Rattle.ld_op.specs.declared.version.Version.TheVariants.{Blank};
+ghost use Rattle.ld_op.specs.Plain.{Plain as State, unformatted};
+ghost use Rattle.ld_layout.specs.LaidOut.{segment_of};
+ghost use Rattle.ld_layout.specs.Layout.{room_for};
+ghost use Rattle.ld_store.specs.Well.{IsWell};
+ghost use Rattle.ld_store.specs.Replayed.{Replayed};
+ghost use Rattle.ld_store.specs.Read.{IsLaterRead, IsRead, IsOut};
+ghost use Rattle.ld_store.specs.Ops.{IsDamagedIn};
+ghost use Rattle.ld_store.specs.Laid.{slots_in};
+ghost use Rattle.ld_segment.specs.Found.{slots_of};
+ghost use Rattle.ld_segment.specs.Later.{IsThere};
+
+use crate::StoreFault;
+use crate::laid::Laid;
+use crate::replay::{Walk, replay};
+use ld_disk::Disk;
+use ld_journal::read_record;
+use ld_layout::{Areas, Based, Layout, Segment};
+use ld_op::{Plain, Version};
+use ld_segment::{Found, Later, read_later};
+use std::alloc::Global;
+
+/// The least space for records in a later segment.
+const LEAST_ROOM: u64 = 131_072;
+
+/// No record and no area passes this place.
+const LIMIT: u64 = 1 << 40;
+
+/// A journal that was read: where its segments lie, its index, and its version.
+#[derive(Drop)]
+pub(crate) struct Journal {
+    pub(crate) laid: Laid,
+    pub(crate) index: Plain,
+    pub(crate) version: Version,
+}
+
+/// Refuses where the gate at this place, which is the head's own, is open.
+fn end_of_head<D: Disk>(alloc: Global, disk: &mut D, at: u64, len: u64) -> Result<(), StoreFault>
+    ensures shut { OnOk result ((front rest : List ℕ) → IsParted D.seen disk.old at front rest → IsShut rest) }
+    ensures damaged { (place : ℕ) → IsErrOf result (StoreFault.Damaged place) → (front rest : List ℕ)
+        → IsParted D.seen disk.old at front rest → len ≡ length (front ++ rest) → (place ≡ at) × (IsShut rest → ⊥) }
+    ensures exact { (p : DiskPlain) → D.plain disk.old ≡ Some p → reads_fine p ≡ true
+        → (D.plain disk.new ≡ Some p) × (result ≢ Err StoreFault.Disk) }
+    ensures same { Unchanged D.seen D.may_leave D.moment D.left_since disk.old disk.new }
+    ensures itself { D.identity disk.new ≡ D.identity disk.old }
+    ensures counts { D.faults disk.old ≤ D.faults disk.new }
+    ensures steady { IsErrOf result StoreFault.Disk ⊎ (D.faults disk.new ≡ D.faults disk.old) }
+    ensures failed { IsErrOf result StoreFault.Disk → Rose (D.faults disk.old) (D.faults disk.new) }
+    ensures full { result ≢ Err StoreFault.Full }
+    ensures needs_load { result ≢ Err StoreFault.NeedsLoad }
+{
+    let mut body = Vec::new(alloc);
+    match read_record(disk, at, len, &mut body)? {
+        None => Ok(()),
+        Some(_) => Err(StoreFault::Damaged(at)),
+    }
+}
+
+/// The segment of a Base at this place, which ends at a gate, with the records behind it; none where it would pass the
+/// limit.
+fn segment_behind(
+    place: u64,
+    gate: u64,
+    based: u64,
+    areas: Areas,
+    number: u64,
+    last: Walk,
+) -> Option<Segment>
+    ensures some { IfSome result (λ g. segment_of g ≡ record { place = place; based = based; ops = last.ops; end = last.at; limit = gate + 1 + room_for last.first; areas = areas; number = number }) }
+    ensures none { IfNone result (journal_limit < gate + 1 + room_for last.first) }
+{
+    let room = last.first.max(LEAST_ROOM);
+    let limit = gate.saturating_add(1).saturating_add(room);
+    if LIMIT < limit {
+        return None;
+    }
+    Some(Segment {
+        place,
+        based,
+        ops: last.ops,
+        end: last.at,
+        limit,
+        areas,
+        number,
+    })
+}
+
+/// Reads what the head names that stands behind the records of the first segment, which were replayed.
+fn read_behind<D: Disk>(
+    alloc: Global,
+    disk: &mut D,
+    len: u64,
+    walk: Walk,
+) -> Result<Journal, StoreFault>
+    requires within { walk.at + 14 < len }
+    ensures read { IfOk result (λ j. (closed : State) (bytes : List ℕ) → D.seen disk.old ≡ Some bytes → len ≡ length bytes
+        → Replayed 0 Blank unformatted bytes walk closed true → IsLaterRead bytes j.laid j.index.state j.version) }
+    ensures damaged { (place : ℕ) → IsErrOf result (StoreFault.Damaged place) → (closed : State) (bytes : List ℕ) → D.seen disk.old ≡ Some bytes → len ≡ length bytes
+        → Replayed 0 Blank unformatted bytes walk closed true → IsOut place bytes }
+    ensures well { IfOk result (λ j. IsWell j.index.state) }
+    ensures exact { (p : DiskPlain) → D.plain disk.old ≡ Some p → reads_fine p ≡ true
+        → (D.plain disk.new ≡ Some p) × (result ≢ Err StoreFault.Disk) }
+    ensures same { Unchanged D.seen D.may_leave D.moment D.left_since disk.old disk.new }
+    ensures itself { D.identity disk.new ≡ D.identity disk.old }
+    ensures counts { D.faults disk.old ≤ D.faults disk.new }
+    ensures steady { IsErrOf result StoreFault.Disk ⊎ (D.faults disk.new ≡ D.faults disk.old) }
+    ensures failed { IsErrOf result StoreFault.Disk → Rose (D.faults disk.old) (D.faults disk.new) }
+    ensures full { result ≢ Err StoreFault.Full }
+    ensures needs_load { result ≢ Err StoreFault.NeedsLoad }
+{
+    end_of_head(alloc, disk, walk.at + 14, len)?;
+    if LIMIT < walk.at.saturating_add(49) {
+        return Err(StoreFault::Damaged(walk.at + 15));
+    }
+    let later = read_later(alloc, disk, walk.at + 15, len, walk.version)?;
+    read_rest(alloc, disk, len, walk, later)
+}
+
+/// Reads the records behind a Base that was read.
+fn read_rest<D: Disk>(
+    alloc: Global,
+    disk: &mut D,
+    len: u64,
+    walk: Walk,
+    later: Later,
+) -> Result<Journal, StoreFault>
+    requires within { later.gate < len }
+    requires well { IsWell later.based.index.state }
+    ensures read { IfOk result (λ j. (closed : State) (bytes : List ℕ) → D.seen disk.old ≡ Some bytes → len ≡ length bytes
+        → (first : Replayed 0 Blank unformatted bytes walk closed true) → IsShut first.stops.after → IsThere walk.version (walk.at + 15) later bytes → IsLaterRead bytes j.laid j.index.state j.version) }
+    ensures damaged { (place : ℕ) → IsErrOf result (StoreFault.Damaged place) → (bytes : List ℕ) → D.seen disk.old ≡ Some bytes → len ≡ length bytes
+        → IsThere walk.version (walk.at + 15) later bytes → IsDamagedIn walk.version (walk.at + 15) place bytes }
+    ensures well { IfOk result (λ j. IsWell j.index.state) }
+    ensures exact { (p : DiskPlain) → D.plain disk.old ≡ Some p → reads_fine p ≡ true
+        → (D.plain disk.new ≡ Some p) × (result ≢ Err StoreFault.Disk) }
+    ensures same { Unchanged D.seen D.may_leave D.moment D.left_since disk.old disk.new }
+    ensures itself { D.identity disk.new ≡ D.identity disk.old }
+    ensures counts { D.faults disk.old ≤ D.faults disk.new }
+    ensures steady { IsErrOf result StoreFault.Disk ⊎ (D.faults disk.new ≡ D.faults disk.old) }
+    ensures failed { IsErrOf result StoreFault.Disk → Rose (D.faults disk.old) (D.faults disk.new) }
+    ensures full { result ≢ Err StoreFault.Full }
+    ensures needs_load { result ≢ Err StoreFault.NeedsLoad }
+{
+    let Later {
+        found,
+        based,
+        version,
+        gate,
+    } = later;
+    let Based {
+        kind: _,
+        index,
+        areas,
+    } = based;
+    let based = index.entry_count();
+    let mut index = index;
+    let (last, is_headed) = replay(alloc, disk, len, &mut index, Walk::from(version, gate))?;
+    if is_headed {
+        return Err(StoreFault::Damaged(last.at));
+    }
+    match segment_behind(found.place, gate, based, areas, found.number, last) {
+        Some(segment) => Ok(Journal {
+            laid: laid_behind(walk, segment, found),
+            index,
+            version: last.version,
+        }),
+        None => Err(StoreFault::Damaged(found.place)),
+    }
+}
+
+/// The first segment's records, the current segment behind them, and the slots that name it.
+fn laid_behind(walk: Walk, segment: Segment, found: Found) -> Laid
+    ensures layout { result.layout ≡ record { ops = walk.ops; end = walk.at; later = Some segment } }
+    ensures slots { slots_in result ≡ slots_of found }
+{
+    Laid {
+        layout: Layout {
+            ops: walk.ops,
+            end: walk.at,
+            later: Some(segment),
+        },
+        this: found.this,
+        other: found.other,
+        is_open: found.is_open,
+    }
+}
+
+/// The first segment's records alone; there are no slots.
+fn laid_alone(walk: Walk) -> Laid
+    ensures { result.layout ≡ record { ops = walk.ops; end = walk.at; later = None } }
+{
+    Laid {
+        layout: Layout {
+            ops: walk.ops,
+            end: walk.at,
+            later: None,
+        },
+        this: 0,
+        other: 0,
+        is_open: false,
+    }
+}
+
+/// Reads a disk of so many bytes.
+pub(crate) fn read<D: Disk>(alloc: Global, disk: &mut D, len: u64) -> Result<Journal, StoreFault>
+    ensures read { IfOk result (λ j. (bytes : List ℕ) → D.seen disk.old ≡ Some bytes → len ≡ length bytes → 0 < length bytes → IsRead bytes j.laid j.index.state j.version) }
+    ensures damaged { (place : ℕ) → IsErrOf result (StoreFault.Damaged place) → (bytes : List ℕ) → D.seen disk.old ≡ Some bytes → len ≡ length bytes → 0 < length bytes → IsOut place bytes }
+    ensures well { IfOk result (λ j. IsWell j.index.state) }
+    ensures exact { (p : DiskPlain) → D.plain disk.old ≡ Some p → reads_fine p ≡ true
+        → (D.plain disk.new ≡ Some p) × (result ≢ Err StoreFault.Disk) }
+    ensures same { Unchanged D.seen D.may_leave D.moment D.left_since disk.old disk.new }
+    ensures itself { D.identity disk.new ≡ D.identity disk.old }
+    ensures counts { D.faults disk.old ≤ D.faults disk.new }
+    ensures steady { IsErrOf result StoreFault.Disk ⊎ (D.faults disk.new ≡ D.faults disk.old) }
+    ensures failed { IsErrOf result StoreFault.Disk → Rose (D.faults disk.old) (D.faults disk.new) }
+    ensures full { result ≢ Err StoreFault.Full }
+    ensures needs_load { result ≢ Err StoreFault.NeedsLoad }
+{
+    let mut index = Plain::new(alloc);
+    let (walk, is_headed) = replay(alloc, disk, len, &mut index, Walk::from(Version::Blank, 0))?;
+    if is_headed {
+        return read_behind(alloc, disk, len, walk);
+    }
+    Ok(Journal {
+        laid: laid_alone(walk),
+        index,
+        version: walk.version,
+    })
+}
