@@ -16,7 +16,7 @@ use Rattle.ld_msg.specs.Bounds.{Is64, Fits}
 use Rattle.ld_op.specs.declared.op.Op.{Op}
 use Rattle.ld_op.specs.declared.op.Op.TheVariants as ops
 use Rattle.ld_op.specs.Plain.{Log, Plain, empty_log, log_of, lost_logs, accepted, sealed_by, cleaned, trimmed_to, refilled_with, refilled, apply}
-use Rattle.ld_machine.specs.Disk.{Node, Cut, Fault, Fate, Made, FailsAt, CrashesAt, new_node, Failed, is_full_for, keep_op, kept_by, fate, found, is_found, load, loaded_by, seen_too}
+use Rattle.ld_machine.specs.Disk.{Node, Cut, Fault, Fate, Made, FailsAt, CrashesAt, new_node, Failed, is_full_for, keep_op, kept_by, fate, found, is_found, load, loaded_by, seen_too, op_calls}
 use Rattle.ld_machine.specs.Step.{released_at, releases, stopped, with_fault}
 use Rattle.ld_node_bounds.specs.States.{last_handed_out, IsPlain}
 use Rattle.ld_node_bounds.specs.Messages.{IsKept}
@@ -96,8 +96,8 @@ module _ (x : Node) (X : IsNodeState x) where
 
   pub keep_is : (o : Op) → IsKept last_handed_out o → IsNodeState (keep_op x o)
   unfolding keep_op
-  keep_is o k = cond_both (is_full_for x o) (record x { status = Failed }) (kept_by x o (fate 4 x.fault)) IsNodeState
-      (λ t. record { plain = X.plain; rise = X.rise; cut = X.cut; released = X.released }) (λ t. kept_is o (fate 4 x.fault) k)
+  keep_is o k = cond_both (is_full_for x o) (record x { status = Failed }) (kept_by x o (fate (op_calls x o) x.fault)) IsNodeState
+      (λ t. record { plain = X.plain; rise = X.rise; cut = X.cut; released = X.released }) (λ t. kept_is o (fate (op_calls x o) x.fault) k)
 
   -- ---- loads ----
   found_is : (o : Option Cut) → IsCut o → IsPlain last_handed_out (found x o)

@@ -15,7 +15,7 @@ use Rattle.ld_op.specs.declared.op.Op.TheVariants as ops
 use Rattle.ld_op.specs.Plain.{Plain, Log, log_of, empty_log, with_log, lost_logs, lost_log, accepted, sealed_by, refill_entries, refilled, apply}
 use Rattle.ld_op.proofs.Moves.{taken_from}
 use Rattle.ld_config.specs.declared.config.Config.{Config}
-use Rattle.ld_machine.specs.Disk.{Node, Cut, Fate, Made, FailsAt, CrashesAt, fate, new_node, keep_op, kept_by, is_full_for, load, loaded_by, found, is_found, seen_too, Failed}
+use Rattle.ld_machine.specs.Disk.{Node, Cut, Fate, Made, FailsAt, CrashesAt, fate, new_node, keep_op, kept_by, is_full_for, load, loaded_by, found, is_found, seen_too, Failed, op_calls}
 use Rattle.ld_machine.specs.State.{node_at, start}
 use Rattle.ld_machine.specs.Run.{state_after}
 use Rattle.ld_machine.specs.Step as Step
@@ -95,7 +95,7 @@ unless_full false x n a h = h
 
 op_kept_numbered : (x : Node) (o : Op) → NodeNumbered x → NodeNumbered (keep_op x o)
 unfolding keep_op
-op_kept_numbered x o a = unless_full (is_full_for x o) x (kept_by x o (fate 4 x.fault)) a (by_fate x o (fate 4 x.fault) a)
+op_kept_numbered x o a = unless_full (is_full_for x o) x (kept_by x o (fate (op_calls x o) x.fault)) a (by_fate x o (fate (op_calls x o) x.fault) a)
 
 one_of : (b : Bool) (p q : Plain) → PlainNumbered p → PlainNumbered q → PlainNumbered (cond b p q)
 one_of true p q a h = a

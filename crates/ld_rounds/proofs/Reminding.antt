@@ -29,7 +29,7 @@ use Rattle.ld_node_bounds.specs.States.{last_handed_out, IsClosed}
 use Rattle.ld_node_bounds.proofs.Alls.{all-find}
 use Rattle.ld_node_bounds.proofs.Ops.{log_state}
 use Rattle.ld_machine.specs.Config.{has_log, has_node}
-use Rattle.ld_machine.specs.Disk.{Node, Fate, Made, FailsAt, CrashesAt, Failed, new_node, is_up, is_full_for, kept_by, fate, keep_op, keep_end}
+use Rattle.ld_machine.specs.Disk.{Node, Fate, Made, FailsAt, CrashesAt, Failed, new_node, is_up, is_full_for, kept_by, fate, keep_op, keep_end, op_calls}
 use Rattle.ld_machine.specs.State.{State, Done, unchanged, finish, node_at, with_node, sent_state}
 use Rattle.ld_machine.specs.Step as machine
 use Rattle.ld_machine.specs.Step.{happens, to_node, handles, keeps_op, ticks, ticks_as, is_written, kept_lines}
@@ -149,10 +149,10 @@ module _ (x : Node) (l e : ℕ) (v : Summary) where
   kept_up (FailsAt k) h = absurd cc
   kept_up (CrashesAt k p) h = absurd cc
 
-  keeps_by : (b : Bool) → is_up (if b then record x { status = Failed } else kept_by x (ops.Clean l e v) (fate 4 x.fault)).status ≡ true
-      → (if b then record x { status = Failed } else kept_by x (ops.Clean l e v) (fate 4 x.fault)).plain ≡ apply x.plain (ops.Clean l e v)
+  keeps_by : (b : Bool) → is_up (if b then record x { status = Failed } else kept_by x (ops.Clean l e v) (fate (op_calls x (ops.Clean l e v)) x.fault)).status ≡ true
+      → (if b then record x { status = Failed } else kept_by x (ops.Clean l e v) (fate (op_calls x (ops.Clean l e v)) x.fault)).plain ≡ apply x.plain (ops.Clean l e v)
   keeps_by true h = absurd cc
-  keeps_by false h = kept_up (fate 4 x.fault) h
+  keeps_by false h = kept_up (fate (op_calls x (ops.Clean l e v)) x.fault) h
 
   keeps_up : is_up (keep_op x (ops.Clean l e v)).status ≡ true → (keep_op x (ops.Clean l e v)).plain ≡ apply x.plain (ops.Clean l e v)
   unfolding keep_op

@@ -15,6 +15,7 @@ use Rattle.ld_batch.specs.Batch.{packed, Unpacked, Messages, Bad, unpacked, list
 use Rattle.ld_ids.specs.declared.set.Spec.{Spec}
 use Rattle.ld_ids.specs.Choice.{choice_at, nodes_of}
 use Rattle.ld_ids.specs.Set.{members_from}
+use Rattle.ld_layout.specs.Layout.{switches, switched_to, with_record, passes_limit}
 use Rattle.ld_machine.specs.Disk.{is_found, keep_op, keep_end, load}
 use Rattle.ld_machine.specs.State.{finish}
 use Rattle.ld_machine.specs.Step.{delivers, happens, message_lines_from}
@@ -66,19 +67,19 @@ abbrev Known : (List ℕ → ℕ → Line) → Type 0
 Known f = (slice_get (run f) 23 ≡ Some (given (f reader_r number))) × ReadsLog three_nodes (run f) 1 reader_r
 
 known_payload : Known another_payload
-unfolding choice_at members_from is_found keep_op keep_end load finish delivers happens statement with_page with_asks with_lost digest_lng enough is_spent best digest_trim top_place plan_floor plan_end plan message on_answer is_loss decide change activate close draw look after_close is_ready is_ready_short on_reply on_retry appending activated store_decision on_store digest_decision on_digest_ask on_clean on_trim on_release read_answer summary_at apply op_length missing is_missing on_page on_tick same find_named put_named find put take_out keep keep_keys steps_of history_from
+unfolding switches switched_to with_record passes_limit choice_at members_from is_found keep_op keep_end load finish delivers happens statement with_page with_asks with_lost digest_lng enough is_spent best digest_trim top_place plan_floor plan_end plan message on_answer is_loss decide change activate close draw look after_close is_ready is_ready_short on_reply on_retry appending activated store_decision on_store digest_decision on_digest_ask on_clean on_trim on_release read_answer summary_at apply op_length missing is_missing on_page on_tick same find_named put_named find put take_out keep keep_keys steps_of history_from
 known_payload = (refl, (record { log = 1; from = 1; until = number }, refl, refl))
 
 known_hole : Known a_hole
-unfolding choice_at members_from is_found keep_op keep_end load finish delivers happens statement with_page with_asks with_lost digest_lng enough is_spent best digest_trim top_place plan_floor plan_end plan message on_answer is_loss decide change activate close draw look after_close is_ready is_ready_short on_reply on_retry appending activated store_decision on_store digest_decision on_digest_ask on_clean on_trim on_release read_answer summary_at apply op_length missing is_missing on_page on_tick same find_named put_named find put take_out keep keep_keys steps_of history_from
+unfolding switches switched_to with_record passes_limit choice_at members_from is_found keep_op keep_end load finish delivers happens statement with_page with_asks with_lost digest_lng enough is_spent best digest_trim top_place plan_floor plan_end plan message on_answer is_loss decide change activate close draw look after_close is_ready is_ready_short on_reply on_retry appending activated store_decision on_store digest_decision on_digest_ask on_clean on_trim on_release read_answer summary_at apply op_length missing is_missing on_page on_tick same find_named put_named find put take_out keep keep_keys steps_of history_from
 known_hole = (refl, (record { log = 1; from = 1; until = number }, refl, refl))
 
 known_trim : Known a_trim
-unfolding choice_at members_from is_found keep_op keep_end load finish delivers happens statement with_page with_asks with_lost digest_lng enough is_spent best digest_trim top_place plan_floor plan_end plan message on_answer is_loss decide change activate close draw look after_close is_ready is_ready_short on_reply on_retry appending activated store_decision on_store digest_decision on_digest_ask on_clean on_trim on_release read_answer summary_at apply op_length missing is_missing on_page on_tick same find_named put_named find put take_out keep keep_keys steps_of history_from
+unfolding switches switched_to with_record passes_limit choice_at members_from is_found keep_op keep_end load finish delivers happens statement with_page with_asks with_lost digest_lng enough is_spent best digest_trim top_place plan_floor plan_end plan message on_answer is_loss decide change activate close draw look after_close is_ready is_ready_short on_reply on_retry appending activated store_decision on_store digest_decision on_digest_ask on_clean on_trim on_release read_answer summary_at apply op_length missing is_missing on_page on_tick same find_named put_named find put take_out keep keep_keys steps_of history_from
 known_trim = (refl, (record { log = 1; from = 1; until = number }, refl, refl))
 
 known_loss : Known a_loss
-unfolding choice_at members_from is_found keep_op keep_end load finish delivers happens statement with_page with_asks with_lost digest_lng enough is_spent best digest_trim top_place plan_floor plan_end plan message on_answer is_loss decide change activate close draw look after_close is_ready is_ready_short on_reply on_retry appending activated store_decision on_store digest_decision on_digest_ask on_clean on_trim on_release read_answer summary_at apply op_length missing is_missing on_page on_tick same find_named put_named find put take_out keep keep_keys steps_of history_from
+unfolding switches switched_to with_record passes_limit choice_at members_from is_found keep_op keep_end load finish delivers happens statement with_page with_asks with_lost digest_lng enough is_spent best digest_trim top_place plan_floor plan_end plan message on_answer is_loss decide change activate close draw look after_close is_ready is_ready_short on_reply on_retry appending activated store_decision on_store digest_decision on_digest_ask on_clean on_trim on_release read_answer summary_at apply op_length missing is_missing on_page on_tick same find_named put_named find put take_out keep keep_keys steps_of history_from
 known_loss = (refl, (record { log = 1; from = 1; until = number }, refl, refl))
 
 gap_given : (f : List ℕ → ℕ → Line) (kind : GapKind) → f reader_r number ≡ lines.Gap reader_r kind number number → Known f → GivesGap three_nodes (run f) 1 kind number number 23
@@ -94,7 +95,7 @@ appends_zero (events.Append name p) = same p (0 ∷ [])
 appends_zero _ = false
 
 no_zero : any_of (λ h. appends_zero h.event) (run another_payload) ≡ false
-unfolding choice_at members_from is_found keep_op keep_end load finish delivers happens statement with_page with_asks with_lost digest_lng enough is_spent best digest_trim top_place plan_floor plan_end plan message on_answer is_loss decide change activate close draw look after_close is_ready is_ready_short on_reply on_retry appending activated store_decision on_store digest_decision on_digest_ask on_clean on_trim on_release read_answer summary_at apply op_length missing is_missing on_page on_tick same find_named put_named find put take_out keep keep_keys steps_of history_from
+unfolding switches switched_to with_record passes_limit choice_at members_from is_found keep_op keep_end load finish delivers happens statement with_page with_asks with_lost digest_lng enough is_spent best digest_trim top_place plan_floor plan_end plan message on_answer is_loss decide change activate close draw look after_close is_ready is_ready_short on_reply on_retry appending activated store_decision on_store digest_decision on_digest_ask on_clean on_trim on_release read_answer summary_at apply op_length missing is_missing on_page on_tick same find_named put_named find put take_out keep keep_keys steps_of history_from
 no_zero = refl
 
 -- a batch has two bytes at least
@@ -117,7 +118,7 @@ payload_unsafe s =
 -- ---- a hole ----
 
 acked_here : Acks (run a_hole) 1 number 8
-unfolding choice_at members_from is_found keep_op keep_end load finish delivers happens statement with_page with_asks with_lost digest_lng enough is_spent best digest_trim top_place plan_floor plan_end plan message on_answer is_loss decide change activate close draw look after_close is_ready is_ready_short on_reply on_retry appending activated store_decision on_store digest_decision on_digest_ask on_clean on_trim on_release read_answer summary_at apply op_length missing is_missing on_page on_tick same find_named put_named find put take_out keep keep_keys steps_of history_from
+unfolding switches switched_to with_record passes_limit choice_at members_from is_found keep_op keep_end load finish delivers happens statement with_page with_asks with_lost digest_lng enough is_spent best digest_trim top_place plan_floor plan_end plan message on_answer is_loss decide change activate close draw look after_close is_ready is_ready_short on_reply on_retry appending activated store_decision on_store digest_decision on_digest_ask on_clean on_trim on_release read_answer summary_at apply op_length missing is_missing on_page on_tick same find_named put_named find put take_out keep keep_keys steps_of history_from
 acked_here = record { name = sequencer_a; told = (_, refl, 0, refl); of_log = refl }
 
 pub hole_unsafe : Safe three_nodes (run a_hole) → ⊥
@@ -130,7 +131,7 @@ is_trimmed (lines.Trimmed name t) = true
 is_trimmed _ = false
 
 none_trimmed : any_of (λ h. any_of is_trimmed h.lines) (run a_trim) ≡ false
-unfolding choice_at members_from is_found keep_op keep_end load finish delivers happens statement with_page with_asks with_lost digest_lng enough is_spent best digest_trim top_place plan_floor plan_end plan message on_answer is_loss decide change activate close draw look after_close is_ready is_ready_short on_reply on_retry appending activated store_decision on_store digest_decision on_digest_ask on_clean on_trim on_release read_answer summary_at apply op_length missing is_missing on_page on_tick same find_named put_named find put take_out keep keep_keys steps_of history_from
+unfolding switches switched_to with_record passes_limit choice_at members_from is_found keep_op keep_end load finish delivers happens statement with_page with_asks with_lost digest_lng enough is_spent best digest_trim top_place plan_floor plan_end plan message on_answer is_loss decide change activate close draw look after_close is_ready is_ready_short on_reply on_retry appending activated store_decision on_store digest_decision on_digest_ask on_clean on_trim on_release read_answer summary_at apply op_length missing is_missing on_page on_tick same find_named put_named find put take_out keep keep_keys steps_of history_from
 none_trimmed = refl
 
 pub trim_unsafe : Safe three_nodes (run a_trim) → ⊥
@@ -153,7 +154,7 @@ abbrev always_few : List Happened → Bool
 always_few hs = all_of (few hs) (numbers_from 0 24)
 
 few_lost : always_few (run a_loss) ≡ true
-unfolding choice_at members_from is_found keep_op keep_end load finish delivers happens statement with_page with_asks with_lost digest_lng enough is_spent best digest_trim top_place plan_floor plan_end plan message on_answer is_loss decide change activate close draw look after_close is_ready is_ready_short on_reply on_retry appending activated store_decision on_store digest_decision on_digest_ask on_clean on_trim on_release read_answer summary_at apply op_length missing is_missing on_page on_tick same find_named put_named find put take_out keep keep_keys steps_of history_from
+unfolding switches switched_to with_record passes_limit choice_at members_from is_found keep_op keep_end load finish delivers happens statement with_page with_asks with_lost digest_lng enough is_spent best digest_trim top_place plan_floor plan_end plan message on_answer is_loss decide change activate close draw look after_close is_ready is_ready_short on_reply on_retry appending activated store_decision on_store digest_decision on_digest_ask on_clean on_trim on_release read_answer summary_at apply op_length missing is_missing on_page on_tick same find_named put_named find put take_out keep keep_keys steps_of history_from
 few_lost = refl
 
 as_many : (n m : ℕ) → m ≤ n → nat_lt n m ≡ false
@@ -193,7 +194,7 @@ is_short u = nat_lt (length (listed u)) 2
 
 -- a message of no batch is given, though none was appended
 message_known : (any_of (λ h. appends_such is_batch h.event) (run a_message) ≡ false) × GivesMessage three_nodes (run a_message) 1 number 0 (0 ∷ []) 23
-unfolding choice_at members_from is_found keep_op keep_end load finish delivers happens statement with_page with_asks with_lost digest_lng enough is_spent best digest_trim top_place plan_floor plan_end plan message on_answer is_loss decide change activate close draw look after_close is_ready is_ready_short on_reply on_retry appending activated store_decision on_store digest_decision on_digest_ask on_clean on_trim on_release read_answer summary_at apply op_length missing is_missing on_page on_tick same find_named put_named find put take_out keep keep_keys steps_of history_from unpacked
+unfolding switches switched_to with_record passes_limit choice_at members_from is_found keep_op keep_end load finish delivers happens statement with_page with_asks with_lost digest_lng enough is_spent best digest_trim top_place plan_floor plan_end plan message on_answer is_loss decide change activate close draw look after_close is_ready is_ready_short on_reply on_retry appending activated store_decision on_store digest_decision on_digest_ask on_clean on_trim on_release read_answer summary_at apply op_length missing is_missing on_page on_tick same find_named put_named find put take_out keep keep_keys steps_of history_from unpacked
 message_known = (refl, record { name = reader_r; told = (_, refl, 0, refl); of_log = (record { log = 1; from = 1; until = number }, refl, refl) })
 
 pub message_unsafe : Safe three_nodes (run a_message) → ⊥
@@ -237,14 +238,14 @@ unpaired_unsafe g index known s =
     clash (ap has_pair found.6.run ∙ batch_pairs known.2.name number found.6.before found.6.after found.2 long) (nowhere (λ h. has_pair h.lines) (batch_run g) 23 found.6.here known.1 found.6.at)
 
 order_known : Unpaired second_first 1
-unfolding choice_at members_from is_found keep_op keep_end load finish delivers happens statement with_page with_asks with_lost digest_lng enough is_spent best digest_trim top_place plan_floor plan_end plan message on_answer is_loss decide change activate close draw look after_close is_ready is_ready_short on_reply on_retry appending activated store_decision on_store digest_decision on_digest_ask on_clean on_trim on_release read_answer summary_at apply op_length missing is_missing on_page on_tick same find_named put_named find put take_out keep keep_keys steps_of history_from unpacked packed
+unfolding switches switched_to with_record passes_limit choice_at members_from is_found keep_op keep_end load finish delivers happens statement with_page with_asks with_lost digest_lng enough is_spent best digest_trim top_place plan_floor plan_end plan message on_answer is_loss decide change activate close draw look after_close is_ready is_ready_short on_reply on_retry appending activated store_decision on_store digest_decision on_digest_ask on_clean on_trim on_release read_answer summary_at apply op_length missing is_missing on_page on_tick same find_named put_named find put take_out keep keep_keys steps_of history_from unpacked packed
 order_known = (refl, refl, record { name = reader_r; told = (_, refl, 0, refl); of_log = (record { log = 1; from = 1; until = number }, refl, refl) })
 
 pub order_unsafe : Safe three_nodes (batch_run second_first) → ⊥
 order_unsafe = unpaired_unsafe second_first 1 order_known
 
 missing_known : Unpaired without_second 0
-unfolding choice_at members_from is_found keep_op keep_end load finish delivers happens statement with_page with_asks with_lost digest_lng enough is_spent best digest_trim top_place plan_floor plan_end plan message on_answer is_loss decide change activate close draw look after_close is_ready is_ready_short on_reply on_retry appending activated store_decision on_store digest_decision on_digest_ask on_clean on_trim on_release read_answer summary_at apply op_length missing is_missing on_page on_tick same find_named put_named find put take_out keep keep_keys steps_of history_from unpacked packed
+unfolding switches switched_to with_record passes_limit choice_at members_from is_found keep_op keep_end load finish delivers happens statement with_page with_asks with_lost digest_lng enough is_spent best digest_trim top_place plan_floor plan_end plan message on_answer is_loss decide change activate close draw look after_close is_ready is_ready_short on_reply on_retry appending activated store_decision on_store digest_decision on_digest_ask on_clean on_trim on_release read_answer summary_at apply op_length missing is_missing on_page on_tick same find_named put_named find put take_out keep keep_keys steps_of history_from unpacked packed
 missing_known = (refl, refl, record { name = reader_r; told = (_, refl, 0, refl); of_log = (record { log = 1; from = 1; until = number }, refl, refl) })
 
 pub missing_unsafe : Safe three_nodes (batch_run without_second) → ⊥
@@ -256,11 +257,11 @@ abbrev spaced : List Happened
 spaced = rewritten_run without_gap three_nodes one_append
 
 opened_here : opening three_nodes reader_r spaced ≡ Some (record { log = 1; from = 1; until = number })
-unfolding choice_at members_from is_found keep_op keep_end load finish delivers happens statement with_page with_asks with_lost digest_lng enough is_spent best digest_trim top_place plan_floor plan_end plan message on_answer is_loss decide change activate close draw look after_close is_ready is_ready_short on_reply on_retry appending activated store_decision on_store digest_decision on_digest_ask on_clean on_trim on_release read_answer summary_at apply op_length missing is_missing on_page on_tick same find_named put_named find put take_out keep keep_keys steps_of history_from
+unfolding switches switched_to with_record passes_limit choice_at members_from is_found keep_op keep_end load finish delivers happens statement with_page with_asks with_lost digest_lng enough is_spent best digest_trim top_place plan_floor plan_end plan message on_answer is_loss decide change activate close draw look after_close is_ready is_ready_short on_reply on_retry appending activated store_decision on_store digest_decision on_digest_ask on_clean on_trim on_release read_answer summary_at apply op_length missing is_missing on_page on_tick same find_named put_named find put take_out keep keep_keys steps_of history_from
 opened_here = refl
 
 got_here : intervals reader_r spaced ≡ record { low = number; high = number } ∷ []
-unfolding choice_at members_from is_found keep_op keep_end load finish delivers happens statement with_page with_asks with_lost digest_lng enough is_spent best digest_trim top_place plan_floor plan_end plan message on_answer is_loss decide change activate close draw look after_close is_ready is_ready_short on_reply on_retry appending activated store_decision on_store digest_decision on_digest_ask on_clean on_trim on_release read_answer summary_at apply op_length missing is_missing on_page on_tick same find_named put_named find put take_out keep keep_keys steps_of history_from
+unfolding switches switched_to with_record passes_limit choice_at members_from is_found keep_op keep_end load finish delivers happens statement with_page with_asks with_lost digest_lng enough is_spent best digest_trim top_place plan_floor plan_end plan message on_answer is_loss decide change activate close draw look after_close is_ready is_ready_short on_reply on_retry appending activated store_decision on_store digest_decision on_digest_ask on_clean on_trim on_release read_answer summary_at apply op_length missing is_missing on_page on_tick same find_named put_named find put take_out keep keep_keys steps_of history_from
 got_here = refl
 
 pub space_unsafe : Safe three_nodes spaced → ⊥
@@ -278,11 +279,11 @@ abbrev taken : ℕ → ℕ
 taken esn = numbered 2 0 - numbered 1 esn
 
 first_here : Writes falling 4 (lines.Appended sequencer_a (taken 1))
-unfolding choice_at members_from is_found keep_op keep_end load finish delivers happens statement with_page with_asks with_lost digest_lng enough is_spent best digest_trim top_place plan_floor plan_end plan message on_answer is_loss decide change activate close draw look after_close is_ready is_ready_short on_reply on_retry appending activated store_decision on_store digest_decision on_digest_ask on_clean on_trim on_release read_answer summary_at apply op_length missing is_missing on_page on_tick same find_named put_named find put take_out keep keep_keys steps_of history_from
+unfolding switches switched_to with_record passes_limit choice_at members_from is_found keep_op keep_end load finish delivers happens statement with_page with_asks with_lost digest_lng enough is_spent best digest_trim top_place plan_floor plan_end plan message on_answer is_loss decide change activate close draw look after_close is_ready is_ready_short on_reply on_retry appending activated store_decision on_store digest_decision on_digest_ask on_clean on_trim on_release read_answer summary_at apply op_length missing is_missing on_page on_tick same find_named put_named find put take_out keep keep_keys steps_of history_from
 first_here = (_, refl, 0, refl)
 
 second_here : Writes falling 5 (lines.Appended sequencer_a (taken 2))
-unfolding choice_at members_from is_found keep_op keep_end load finish delivers happens statement with_page with_asks with_lost digest_lng enough is_spent best digest_trim top_place plan_floor plan_end plan message on_answer is_loss decide change activate close draw look after_close is_ready is_ready_short on_reply on_retry appending activated store_decision on_store digest_decision on_digest_ask on_clean on_trim on_release read_answer summary_at apply op_length missing is_missing on_page on_tick same find_named put_named find put take_out keep keep_keys steps_of history_from
+unfolding switches switched_to with_record passes_limit choice_at members_from is_found keep_op keep_end load finish delivers happens statement with_page with_asks with_lost digest_lng enough is_spent best digest_trim top_place plan_floor plan_end plan message on_answer is_loss decide change activate close draw look after_close is_ready is_ready_short on_reply on_retry appending activated store_decision on_store digest_decision on_digest_ask on_clean on_trim on_release read_answer summary_at apply op_length missing is_missing on_page on_tick same find_named put_named find put take_out keep keep_keys steps_of history_from
 second_here = (_, refl, 0, refl)
 
 pub fall_unsafe : Safe three_nodes falling → ⊥

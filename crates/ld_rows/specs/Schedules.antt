@@ -18,6 +18,9 @@ one_log k r = record { nodes = first_nodes k; logs = record { log = 1; set = fir
 abbrev pub three_nodes : Config
 three_nodes = one_log 3 2
 
+abbrev pub one_node : Config
+one_node = one_log 1 1
+
 abbrev pub five_nodes : Config
 five_nodes = one_log 5 3
 
@@ -164,3 +167,15 @@ torn_later_asked = rebuild_torn 3 pictures.New ++ events.Flow 1 ∷ []
 -- node 3 crashes in its load, with a picture of the gate that was closed, loads without the record, and both answer
 abbrev pub torn_later : List Event
 torn_later = torn_later_asked ++ events.Tear 3 1 pictures.Old ∷ events.Up 3 ∷ events.Up 3 ∷ events.Flow 20 ∷ []
+
+-- 64 op records stand in the first segment of a node that keeps its log alone, and one more is on its way
+abbrev pub behind_full : List Event
+behind_full = events.Format 1 ∷ events.Activate sequencer_a 1 ∷ (replicate 63 (events.Append sequencer_a (0 ∷ [])) ++ (events.Flow 300 ∷ events.Append sequencer_a (1 ∷ []) ∷ []))
+
+-- one of its writing calls fails
+abbrev pub switch_fails : ℕ → List Event
+switch_fails call = behind_full ++ events.Fail 1 call ∷ events.Deliver 189 ∷ []
+
+-- or the node crashes in it, and loads
+abbrev pub switch_torn : ℕ → Picture → List Event
+switch_torn call picture = behind_full ++ events.Tear 1 call picture ∷ events.Deliver 189 ∷ events.Up 1 ∷ []

@@ -12,12 +12,12 @@ use Rattle.ld_transcript.specs.Text.{text}
 use Rattle.ld_config.specs.declared.config.Config.{Config}
 use Rattle.ld_msg.specs.Reader.{Reader, Confirmation}
 use Rattle.ld_op.specs.Plain.{log_of, is_lost}
-use Rattle.ld_machine.specs.Disk.{Cut, Node, found}
+use Rattle.ld_machine.specs.Disk.{Cut, Node, found, is_failed}
 use Rattle.ld_machine.specs.State.{start, node_at}
 use Rattle.ld_machine.specs.Run.{lines_of, state_after}
 use Rattle.ld_maker.specs.Made.{made_config, made}
 use Rattle.ld_maker.specs.Tally.{is_data_loss, summary, tally}
-use Rattle.ld_rows.specs.Schedules.{three_nodes, reader_r, torn}
+use Rattle.ld_rows.specs.Schedules.{three_nodes, one_node, reader_r, torn, switch_fails, switch_torn}
 
 abbrev pub is_telling : Line → Bool
 is_telling (lines.Message i from to kind n) = false
@@ -65,3 +65,11 @@ again_of (Some d) = again_in d.confirming
 
 abbrev pub asks_again : List Event → List ℕ
 asks_again es = again_of (find_named reader_r (state_after three_nodes (start three_nodes) es).readers)
+
+-- whether the node has failed where this call of the record behind a full segment was to
+abbrev pub has_failed : ℕ → Bool
+has_failed call = is_failed (node_at (state_after one_node (start one_node) (switch_fails call)) 1).status
+
+-- whether a load found the new segment after a crash in this call, and whether the record
+abbrev pub switched_by : ℕ → Picture → Bool × Bool
+switched_by call picture = let x : Node = node_at (state_after one_node (start one_node) (switch_torn call picture)) 1 in (is_some x.layout.later, is_some (find (numbered 1 64) (log_of x.plain 1).entries))

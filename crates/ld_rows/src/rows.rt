@@ -5,7 +5,7 @@ ghost use Rattle.ld_machine.specs.Run.{transcript};
 ghost use Rattle.ld_maker.specs.Draw.{drawn, value_of};
 ghost use Rattle.ld_rows.specs.Schedules.{three_nodes, five_nodes, four_nodes, one_append, moved, half_stored, cut_off, trimmed, rebuilt, lost, hole_between, two_recoveries, register_fault, torn_rebuild, torn_rebuild_asked, torn_rebuild_heard, torn_later, torn_later_asked};
 ghost use Rattle.ld_rows.specs.Texts.{one_append_text, moved_text, half_stored_text, cut_off_text, trimmed_text, rebuilt_text, lost_text, hole_between_text, two_recoveries_text, register_fault_text, torn_rebuild_text};
-ghost use Rattle.ld_rows.specs.Told.{told_text, made_summary, has_loss, kept_by_call, lost_states, found_lost, asks_again};
+ghost use Rattle.ld_rows.specs.Told.{told_text, made_summary, has_loss, kept_by_call, lost_states, found_lost, asks_again, has_failed, switched_by};
 
 /// A record goes to two of three nodes, is acknowledged and released, and a reader gets it behind the bridge of
 /// epoch 0: the whole transcript.
@@ -51,6 +51,22 @@ pub fn a_torn_record_is_there_or_not()
     ensures old { kept_by_call pictures.Old ≡ false ∷ false ∷ false ∷ false ∷ [] }
     ensures new { kept_by_call pictures.New ≡ false ∷ false ∷ true ∷ true ∷ [] }
     ensures digits { kept_by_call (pictures.Byte 7) ≡ false ∷ false ∷ false ∷ false ∷ [] }
+{}
+
+/// The record behind the 64th op record comes after a switch of segments, so its writing calls are ten: where the tenth
+/// is to fail the node fails, and an eleventh isn't made.
+pub fn a_full_segment_is_switched()
+    ensures tenth { has_failed 10 ≡ true }
+    ensures eleventh { has_failed 11 ≡ false }
+{}
+
+/// Of a crash in the last of a switch's calls the picture decides whether the new segment is there, without the record;
+/// of one in the last of the record's whether the record is.
+pub fn a_torn_switch_is_there_or_not()
+    ensures old { switched_by 6 pictures.Old ≡ (false, false) }
+    ensures new { switched_by 6 pictures.New ≡ (true, false) }
+    ensures unkept { switched_by 10 pictures.Old ≡ (true, false) }
+    ensures kept { switched_by 10 pictures.New ≡ (true, true) }
 {}
 
 /// A recovery takes a trim that only one node of its digest has, and readers get it after that node was wiped.

@@ -20,7 +20,7 @@ use Rattle.ld_op.specs.declared.op.Op.{Op}
 use Rattle.ld_op.specs.Plain.{Plain, unformatted, apply}
 use Rattle.ld_op.specs.Answers.{on_release}
 use Rattle.ld_msg.specs.Register.{Register, empty_register}
-use Rattle.ld_machine.specs.Disk.{Node, Cut, Fate, Made, FailsAt, CrashesAt, fate, new_node, keep_op, keep_end, kept_by, is_full_for, load, loaded_by, found, is_found, seen_too, Failed, Kept, Written}
+use Rattle.ld_machine.specs.Disk.{Node, Cut, Fate, Made, FailsAt, CrashesAt, fate, new_node, keep_op, keep_end, kept_by, is_full_for, load, loaded_by, found, is_found, seen_too, Failed, Kept, Written, op_calls}
 use Rattle.ld_msg.specs.Sequencer.{Sequencer}
 use Rattle.ld_msg.specs.Reader.{Reader}
 use Rattle.ld_machine.specs.State.{State, Done, start, new_nodes, finish, node_at, with_node, with_sequencer, with_reader, with_register, posted}
@@ -73,7 +73,7 @@ module _ (N : ℕ → Plain → Type 0) (R : ℕ → ℕ → ℕ → Type 0) (M 
 
   pub op_has : (y : ℕ) (x : Node) (o : Op) → NodeHas y x → N y (apply x.plain o) → NodeHas y (keep_op x o)
   unfolding keep_op
-  op_has y x o h a = unless_full y (is_full_for x o) x (kept_by x o (fate 4 x.fault)) h (by_fate y x o (fate 4 x.fault) h a)
+  op_has y x o h a = unless_full y (is_full_for x o) x (kept_by x o (fate (op_calls x o) x.fault)) h (by_fate y x o (fate (op_calls x o) x.fault) h a)
 
   one_plain : (y : ℕ) (b : Bool) (p q : Plain) → N y p → N y q → N y (cond b p q)
   one_plain y true p q a h = a

@@ -21,7 +21,7 @@ use Rattle.ld_op.specs.Answers.{store_decision, digest_decision, taken, on_store
 use Rattle.ld_op.specs.Handles.{handled_by, ballot_of}
 use Rattle.ld_op.specs.Ticks.{Rebuilt, Nothing, on_tick, tick_with, refill_tick, lowest_unclean, gap_from, missing, on_page, page_op, refill_op, lacking, as_closed}
 use Rattle.ld_msg.specs.Register.{Register, Granted, epochs_of, draw}
-use Rattle.ld_machine.specs.Disk.{Node, Cut, Fate, Made, FailsAt, CrashesAt, fate, keep_op, kept_by, is_full_for, load, loaded_by, found, is_found, seen_too, Failed}
+use Rattle.ld_machine.specs.Disk.{Node, Cut, Fate, Made, FailsAt, CrashesAt, fate, keep_op, kept_by, is_full_for, load, loaded_by, found, is_found, seen_too, Failed, op_calls}
 use Rattle.ld_machine.specs.State.{State, node_at}
 use Rattle.ld_machine.specs.World.{In}
 use Rattle.ld_machine.specs.World as worlds
@@ -61,7 +61,7 @@ module _ (made : List worlds.Made) (sent : List Msg) where
 
   pub op_node : (y : ℕ) (x : Node) (o : Op) → NodeHolds y x → Holding made sent y (apply x.plain o) → NodeHolds y (keep_op x o)
   unfolding keep_op
-  op_node y x o h a = unless_full y (is_full_for x o) x (kept_by x o (fate 4 x.fault)) h (by_fate y x o (fate 4 x.fault) h a)
+  op_node y x o h a = unless_full y (is_full_for x o) x (kept_by x o (fate (op_calls x o) x.fault)) h (by_fate y x o (fate (op_calls x o) x.fault) h a)
 
   one_plain : (y : ℕ) (b : Bool) (p q : Plain) → Holding made sent y p → Holding made sent y q → Holding made sent y (cond b p q)
   one_plain y true p q a h = a

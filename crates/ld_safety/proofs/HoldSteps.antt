@@ -17,7 +17,7 @@ use Rattle.ld_op.specs.Answers.{Decision, Lost, CleanAlready, Trimmed, Sealed, S
 use Rattle.ld_op.specs.Handles.{handled_by}
 use Rattle.ld_op.specs.Ticks.{on_page, page_op, refill_op, lacking}
 use Rattle.ld_msg.specs.Register.{Register, Granted, epochs_in, generation_of, draw}
-use Rattle.ld_machine.specs.Disk.{Node, Fate, Made, FailsAt, CrashesAt, fate, keep_op, kept_by, is_full_for, load, loaded_by, load_end, kept_end, found, status_of, Written, is_up, Blank, Up, Failed}
+use Rattle.ld_machine.specs.Disk.{Node, Fate, Made, FailsAt, CrashesAt, fate, keep_op, kept_by, is_full_for, load, loaded_by, load_end, kept_end, found, status_of, Written, is_up, Blank, Up, Failed, op_calls}
 use Rattle.ld_machine.specs.State.{State, node_at}
 use Rattle.ld_machine.specs.Step as Step
 use Rattle.ld_safety.proofs.Lists.{Some_inj, cond_both}
@@ -49,7 +49,7 @@ up_kept_by x o (CrashesAt k p) h u = absurd cc
 
 up_kept : (x : Node) (o : Op) → (x.cut ≡ None) × (0 < (apply x.plain o).generation) → UpFine (keep_op x o)
 unfolding keep_op
-up_kept x o h = cond_both (is_full_for x o) (record x { status = Failed }) (kept_by x o (fate 4 x.fault)) UpFine (λ t u. absurd cc) (λ t. up_kept_by x o (fate 4 x.fault) h)
+up_kept x o h = cond_both (is_full_for x o) (record x { status = Failed }) (kept_by x o (fate (op_calls x o) x.fault)) UpFine (λ t u. absurd cc) (λ t. up_kept_by x o (fate (op_calls x o) x.fault) h)
 
 status_up : (p : Plain) → is_up (status_of p) ≡ true → 0 < p.generation
 status_up p h = elim (cases_Bool (p.generation == 0)) [

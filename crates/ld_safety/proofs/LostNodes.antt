@@ -12,7 +12,7 @@ use Rattle.ld_op.specs.declared.op.Op.{Op}
 use Rattle.ld_op.specs.declared.op.Op.TheVariants as ops
 use Rattle.ld_op.specs.Plain.{Plain, Log, log_of, empty_log, is_lost, apply, with_log, unformatted}
 use Rattle.ld_msg.specs.Register.{Register, Granted, draw, generation_of, epochs_in}
-use Rattle.ld_machine.specs.Disk.{Node, Cut, Fate, Made, FailsAt, CrashesAt, fate, new_node, keep_op, kept_by, is_full_for, load, loaded_by, found, is_found, seen_too, Failed}
+use Rattle.ld_machine.specs.Disk.{Node, Cut, Fate, Made, FailsAt, CrashesAt, fate, new_node, keep_op, kept_by, is_full_for, load, loaded_by, found, is_found, seen_too, Failed, op_calls}
 use Rattle.ld_machine.specs.State.{State, node_at}
 use Rattle.ld_machine.specs.World.{MayHold}
 use Rattle.ld_machine.specs.Step as Step
@@ -62,7 +62,7 @@ kept_by_from x o (CrashesAt k v) p (inr q) = record { from = inr (q.2 ∙ sym (a
 
 pub kept_from : (x : Node) (o : Op) (p : Plain) → MayHold (keep_op x o) p → KeptFrom x o p
 unfolding keep_op
-kept_from x o p = cond_both (is_full_for x o) (record x { status = Failed }) (kept_by x o (fate 4 x.fault)) (λ z. MayHold z p → KeptFrom x o p) (λ t h. record { from = inl h }) (λ t h. kept_by_from x o (fate 4 x.fault) p h)
+kept_from x o p = cond_both (is_full_for x o) (record x { status = Failed }) (kept_by x o (fate (op_calls x o) x.fault)) (λ z. MayHold z p → KeptFrom x o p) (λ t h. record { from = inl h }) (λ t h. kept_by_from x o (fate (op_calls x o) x.fault) p h)
 
 found_from : (x : Node) (p : Plain) (k : Option Cut) → x.cut ≡ k → p ≡ found x k → MayHold x p
 found_from x p None e q = inl q

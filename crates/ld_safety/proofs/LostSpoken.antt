@@ -13,7 +13,7 @@ use Rattle.ld_op.specs.declared.op.Op.{Op}
 use Rattle.ld_op.specs.declared.op.Op.TheVariants as ops
 use Rattle.ld_op.specs.Plain.{Plain, log_of, is_lost, apply}
 use Rattle.ld_machine.specs.Config.{looks_at}
-use Rattle.ld_machine.specs.Disk.{Node, Cut, Fate, Made, FailsAt, CrashesAt, fate, new_node, keep_op, kept_by, cut_of, is_full_for, load, loaded_by, seen_too, Failed}
+use Rattle.ld_machine.specs.Disk.{Node, Cut, Fate, Made, FailsAt, CrashesAt, fate, new_node, keep_op, kept_by, cut_of, is_full_for, load, loaded_by, seen_too, Failed, op_calls}
 use Rattle.ld_machine.specs.State.{State, finish, node_at, posted}
 use Rattle.ld_machine.specs.Facts.{Happened}
 use Rattle.ld_machine.specs.World.{World, In, Sent}
@@ -63,7 +63,7 @@ kept_old_by x o (CrashesAt j p) g n h k q = cut_here x o g (cut_of x o j true (p
 
 kept_old : (x : Node) (o : Op) (g : ℕ) → x.cut ≡ None → OpOld x o g → CutOld (keep_op x o) g
 unfolding keep_op
-kept_old x o g n h = cond_both (is_full_for x o) (record x { status = Failed }) (kept_by x o (fate 4 x.fault)) (λ z. CutOld z g) (λ t. whole_old x g n) (λ t. kept_old_by x o (fate 4 x.fault) g n h)
+kept_old x o g n h = cond_both (is_full_for x o) (record x { status = Failed }) (kept_by x o (fate (op_calls x o) x.fault)) (λ z. CutOld z g) (λ t. whole_old x g n) (λ t. kept_old_by x o (fate (op_calls x o) x.fault) g n h)
 
 plain_old : (x : Node) (o : Op) (g : ℕ) → is_format o ≡ false → x.cut ≡ None → CutOld (keep_op x o) g
 plain_old x o g f n = kept_old x o g n (λ i l e. lost_before x.plain o l e f)

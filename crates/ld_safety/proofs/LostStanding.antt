@@ -14,7 +14,7 @@ use Rattle.ld_op.specs.declared.op.Op.{Op}
 use Rattle.ld_op.specs.declared.op.Op.TheVariants as ops
 use Rattle.ld_op.specs.Plain.{Plain, Log, log_of, empty_log, is_lost, lost_log, lost_logs, apply, with_log, refilled}
 use Rattle.ld_msg.specs.Register.{Register, Epochs, no_epochs, epochs_of, epochs_in}
-use Rattle.ld_machine.specs.Disk.{Node, Fate, Made, FailsAt, CrashesAt, fate, new_node, keep_op, kept_by, kept_end, is_full_for, load, loaded_by, load_end, found, status_of, Written, is_up, is_blank, Blank, Up, Failed}
+use Rattle.ld_machine.specs.Disk.{Node, Fate, Made, FailsAt, CrashesAt, fate, new_node, keep_op, kept_by, kept_end, is_full_for, load, loaded_by, load_end, found, status_of, Written, is_up, is_blank, Blank, Up, Failed, op_calls}
 use Rattle.ld_machine.specs.Facts.{Happened, Standing, Lost, lost_to, standing_after, standing_in, standing, stands_for}
 use Rattle.ld_machine.specs.World.{In, MayHold}
 use Rattle.ld_machine.specs.Step as Step
@@ -72,7 +72,7 @@ kept_status x o (CrashesAt k p) = refl
 
 pub keep_status : (x : Node) (o : Op) → is_blank (keep_op x o).status ≡ false
 unfolding keep_op
-keep_status x o = cond_both (is_full_for x o) (record x { status = Failed }) (kept_by x o (fate 4 x.fault)) (λ z. is_blank z.status ≡ false) (λ t. refl) (λ t. kept_status x o (fate 4 x.fault))
+keep_status x o = cond_both (is_full_for x o) (record x { status = Failed }) (kept_by x o (fate (op_calls x o) x.fault)) (λ z. is_blank z.status ≡ false) (λ t. refl) (λ t. kept_status x o (fate (op_calls x o) x.fault))
 
 kept_up : (x : Node) (o : Op) (f : Fate) → (x.cut ≡ None) × (0 < (apply x.plain o).generation) → is_up (kept_by x o f).status ≡ true → ((kept_by x o f).cut ≡ None) × (0 < (kept_by x o f).plain.generation)
 kept_up x o Made h u = h
@@ -81,7 +81,7 @@ kept_up x o (CrashesAt k p) h u = absurd cc
 
 pub keep_up : (x : Node) (o : Op) → (x.cut ≡ None) × (0 < (apply x.plain o).generation) → is_up (keep_op x o).status ≡ true → ((keep_op x o).cut ≡ None) × (0 < (keep_op x o).plain.generation)
 unfolding keep_op
-keep_up x o h = cond_both (is_full_for x o) (record x { status = Failed }) (kept_by x o (fate 4 x.fault)) (λ z. is_up z.status ≡ true → (z.cut ≡ None) × (0 < z.plain.generation)) (λ t u. absurd cc) (λ t. kept_up x o (fate 4 x.fault) h)
+keep_up x o h = cond_both (is_full_for x o) (record x { status = Failed }) (kept_by x o (fate (op_calls x o) x.fault)) (λ z. is_up z.status ≡ true → (z.cut ≡ None) × (0 < z.plain.generation)) (λ t u. absurd cc) (λ t. kept_up x o (fate (op_calls x o) x.fault) h)
 
 -- an op of a node that is up makes it lost for nothing
 pub op_stands : (st : Standing) (l : ℕ) (x : Node) (o : Op) → is_format o ≡ false → is_up x.status ≡ true → Stands st l x → Stands st l (keep_op x o)

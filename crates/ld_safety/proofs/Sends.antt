@@ -16,7 +16,7 @@ use Rattle.ld_op.specs.Answers.{Decision, Lost, CleanAlready, Trimmed, Sealed, S
 use Rattle.ld_op.specs.Handles.{handled_by}
 use Rattle.ld_op.specs.Ticks.{on_page}
 use Rattle.ld_op.proofs.Moves.{taken_there}
-use Rattle.ld_machine.specs.Disk.{Node, Fate, Made, FailsAt, CrashesAt, fate, keep_op, keep_end, kept_by, kept_end, is_full_for, Written, JournalFull, Failed}
+use Rattle.ld_machine.specs.Disk.{Node, Fate, Made, FailsAt, CrashesAt, fate, keep_op, keep_end, kept_by, kept_end, is_full_for, Written, JournalFull, Failed, op_calls}
 use Rattle.ld_machine.specs.World.{In}
 use Rattle.ld_safety.proofs.Lists.{Some_inj}
 use Rattle.ld_safety.proofs.Members.{In_filter, In_take, In_values, find_in}
@@ -220,7 +220,7 @@ written_by x o (CrashesAt k p) h = absurd cc
 pub written : (x : Node) (o : Op) → keep_end x o ≡ Written → ((keep_op x o).plain ≡ apply x.plain o) × ((keep_op x o).cut ≡ x.cut)
 unfolding keep_end keep_op
 written x o h = elim (cases_Bool (is_full_for x o)) [
-  | inl t ↦ absurd (let z = subst (λ b. cond b JournalFull (kept_end (fate 4 x.fault)) ≡ Written) t h in cc)
-  | inr t ↦ let z = subst (λ b. cond b JournalFull (kept_end (fate 4 x.fault)) ≡ Written) t h in
-      subst (λ b. ((cond b (record x { status = Failed }) (kept_by x o (fate 4 x.fault))).plain ≡ apply x.plain o) × ((cond b (record x { status = Failed }) (kept_by x o (fate 4 x.fault))).cut ≡ x.cut)) (sym t) (written_by x o (fate 4 x.fault) z)
+  | inl t ↦ absurd (let z = subst (λ b. cond b JournalFull (kept_end (fate (op_calls x o) x.fault)) ≡ Written) t h in cc)
+  | inr t ↦ let z = subst (λ b. cond b JournalFull (kept_end (fate (op_calls x o) x.fault)) ≡ Written) t h in
+      subst (λ b. ((cond b (record x { status = Failed }) (kept_by x o (fate (op_calls x o) x.fault))).plain ≡ apply x.plain o) × ((cond b (record x { status = Failed }) (kept_by x o (fate (op_calls x o) x.fault))).cut ≡ x.cut)) (sym t) (written_by x o (fate (op_calls x o) x.fault) z)
 ]
