@@ -4,7 +4,7 @@ ghost use Rattle.ld_link.specs.Peers.{Peers};
 ghost use Rattle.ld_register.specs.Calls.{after_draw, ChangedOrNot};
 ghost use Rattle.ld_node.specs.Known.{known_in};
 ghost use Rattle.ld_serve.specs.Complete.{AreSpoken, MayOpen, IsFaultOrLimit};
-ghost use Rattle.ld_serve.specs.Opening.{IsBlank};
+ghost use Rattle.ld_serve.specs.Opening.{IsBlank, Stands};
 ghost use Rattle.ld_serve.specs.Stops.{IsServingStop};
 ghost use Rattle.ld_serve.specs.Whole.{HasServed, HasStopped, IsNotOpened};
 ghost use Rattle.ld_cli.specs.Serving.{status_of as told, EndsServing, DiskFaults, RegisterFaults, LinkFaults};
@@ -33,7 +33,7 @@ pub(crate) fn served<D: Disk, G: Register, L: Link>(
     ensures opening { EndsServing ⊤
         (λ stop. IsNotOpened (D.faults disk.old) (D.faults disk.new) (D.seen disk.old) (D.seen disk.new) (D.may_leave disk.old) (D.may_leave disk.new)
         (G.faults reg.old) (G.faults reg.new) (G.told reg.old) (G.holds reg.old) (G.holds reg.new) (G.damaged reg.old) node.now.id node.now.format link.old link.new stop
-        ⊎ IsServingStop stop) result }
+        ⊎ IsServingStop (Stands (D.seen disk.old)) stop) result }
     ensures complete { (start : Peers) (bytes : List ℕ) → L.peers link.old ≡ Some start → AreSpoken start.coming → D.seen disk.old ≡ Some bytes
         → MayOpen (G.told reg.old) (G.damaged reg.old) node.now.format bytes → EndsServing ⊤ IsFaultOrLimit result }
     ensures unasked { node.now.format ≡ false → reg.new ≡ reg.old }

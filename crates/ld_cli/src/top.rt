@@ -6,7 +6,7 @@ ghost use Rattle.ld_link.specs.Peers.{Peers};
 ghost use Rattle.ld_register.specs.Calls.{after_draw, ChangedOrNot};
 ghost use Rattle.ld_node.specs.Known.{known_in};
 ghost use Rattle.ld_serve.specs.Complete.{AreSpoken, MayOpen, IsFaultOrLimit};
-ghost use Rattle.ld_serve.specs.Opening.{IsBlank};
+ghost use Rattle.ld_serve.specs.Opening.{IsBlank, Stands};
 ghost use Rattle.ld_serve.specs.Stops.{IsServingStop};
 ghost use Rattle.ld_serve.specs.Whole.{HasServed, HasStopped, IsNotOpened};
 ghost use Rattle.ld_words.specs.Bounds.{HasBounds};
@@ -81,7 +81,7 @@ pub fn run<I: Source, O: Sink, D: Disk, G: Register, L: Link, N: Nodes>(
     ensures opening { (n : Wanted) → Asks (map string_bytes words.now) (Serve n) → EndsServing ⊤
         (λ stop. IsNotOpened (D.faults disk.old) (D.faults disk.new) (D.seen disk.old) (D.seen disk.new) (D.may_leave disk.old) (D.may_leave disk.new)
         (G.faults reg.old) (G.faults reg.new) (G.told reg.old) (G.holds reg.old) (G.holds reg.new) (G.damaged reg.old) n.id n.format link.old link.new stop
-        ⊎ IsServingStop stop) result }
+        ⊎ IsServingStop (Stands (D.seen disk.old)) stop) result }
     // Where the peers' bytes are frames, but for a last one that may be cut, and the disk's bytes are a formatted store's
     // journal, or are blank, to be formatted, beside a register that isn't damaged: it serves its turns, unless one of the
     // three or the memory fails, or a limit is reached.
@@ -177,7 +177,7 @@ fn carry_out<I: Source, O: Sink, D: Disk, G: Register, L: Link, N: Nodes>(
     ensures opening { (n : Wanted) → command ≡ Serve n → EndsServing ⊤
         (λ stop. IsNotOpened (D.faults disk.old) (D.faults disk.new) (D.seen disk.old) (D.seen disk.new) (D.may_leave disk.old) (D.may_leave disk.new)
         (G.faults reg.old) (G.faults reg.new) (G.told reg.old) (G.holds reg.old) (G.holds reg.new) (G.damaged reg.old) n.id n.format link.old link.new stop
-        ⊎ IsServingStop stop) result }
+        ⊎ IsServingStop (Stands (D.seen disk.old)) stop) result }
     ensures complete_node { (n : Wanted) (start : Peers) (bytes : List ℕ) → command ≡ Serve n → L.peers link.old ≡ Some start → AreSpoken start.coming
         → D.seen disk.old ≡ Some bytes → MayOpen (G.told reg.old) (G.damaged reg.old) n.format bytes → EndsServing ⊤ IsFaultOrLimit result }
     ensures unasked { (n : Wanted) → command ≡ Serve n → n.format ≡ false → reg.new ≡ reg.old }

@@ -1,14 +1,16 @@
 -- What a message does to a node that runs on a host.
-use Rattle.std.proofs.Common.{◌≡◌, ℕ, List, [], true, false, Option, None, if◌then◌else◌, Result, Ok, Err, refl, sym, ◌∙◌, ap, subst, arith, inl, inr, ⊎_elim, ◌⊎◌}
+use Rattle.std.proofs.Common.{◌≡◌, ℕ, List, [], true, false, Option, Some, None, if◌then◌else◌, Result, Ok, Err, refl, sym, ◌∙◌, ap, subst, arith, inl, inr, ⊎_elim, ◌⊎◌}
 use Rattle.std.proofs.lemmas.Bool.{and_from}
+use Rattle.ld_table.specs.Table.{find}
 use Rattle.ld_table.specs.Words.{is_in}
 use Rattle.ld_msg.specs.declared.msg.Msg.{Msg}
 use Rattle.ld_msg.specs.declared.msg.Body.{Body}
 use Rattle.ld_msg.specs.declared.msg.Body.TheVariants as bodies
 use Rattle.ld_msg.specs.declared.msg.Who.TheVariants as whos
 use Rattle.ld_op.specs.declared.op.Op.{Op}
-use Rattle.ld_op.specs.declared.record.Record.{Record}
-use Rattle.ld_op.specs.Plain.{log_of}
+use Rattle.ld_op.specs.Plain.{Plain, log_of}
+use Rattle.ld_op.specs.Cells.{byte_at}
+use Rattle.ld_op.proofs.Cells.{log_same}
 use Rattle.ld_op.specs.Answers.{Handled, silent}
 use Rattle.ld_op.specs.Handles.{answer_message}
 use Rattle.ld_config.specs.declared.config.Config.{Config}
@@ -21,20 +23,21 @@ use Rattle.ld_disk.specs.Memory.{disk_plain}
 use Rattle.ld_disk.specs.Plain.{Plain as DiskPlain, after_calls, all_succeed}
 use Rattle.ld_disk.specs.declared.disk.Disk.{Ghosts}
 use Rattle.ld_disk.specs.declared.memory.MemDisk.{MemDisk}
-use Rattle.ld_msg.specs.Bounds.{Fits, IsMessage}
-use Rattle.ld_store.specs.Ops.{place_behind}
+use Rattle.ld_msg.specs.declared.msg.Summary.{Summary}
+use Rattle.ld_msg.specs.Bounds.{Fits, IsMessage, IsSummary}
+use Rattle.ld_store.specs.Open.{told_plain}
+use Rattle.ld_layout.specs.Layout.{Layout}
+use Rattle.ld_segment.specs.Lies.{Slots}
 use Rattle.ld_node_bounds.specs.States.{last_carried}
 use Rattle.ld_node_bounds.proofs.Ops.{summaries_are}
 use Rattle.ld_store.specs.Well.{IsWell}
-use Rattle.ld_store.proofs.Bodies.{places}
 use Rattle.ld_register.specs.declared.fault.RegisterFault.{RegisterFault}
-use Rattle.ld_node.specs.Changes.{AreChanges, IsPast, calls_of, with_op}
-use Rattle.ld_node.specs.Node.{id_of, known_of, released_of, disk_of, place_of, plain_of, is_blank, Holds}
+use Rattle.ld_node.specs.Changes.{IsChange, AreChanges, IsPast, laid_with, slots_kept, calls_of}
+use Rattle.ld_node.specs.Node.{id_of, known_of, released_of, disk_of, layout_of, slots_of, index_of, plain_of, is_blank, Holds}
 use Rattle.ld_node.specs.declared.node.Node.{Node as Running}
 use Rattle.ld_node.specs.declared.fault.NodeFault.{NodeFault}
 use Rattle.ld_node.specs.declared.fault.NodeFault.TheVariants as faults
 use Rattle.ld_node.proofs.Changes.{handled_change}
-use Rattle.ld_node.proofs.Quiet.{changes_of}
 use Rattle.ld_machine.specs.Disk.{Written}
 use Rattle.ld_host.specs.declared.kept.Kept.{Kept as HostKept}
 use Rattle.ld_host.specs.declared.state.State.{State}
@@ -42,8 +45,9 @@ use Rattle.ld_host.specs.Lies.{Lies}
 use Rattle.ld_host.specs.Stands.{Runs, StandsAs, seen_in, leaves_of}
 use Rattle.ld_host.specs.Done.{op_done, message_done, shown_kept}
 use Rattle.ld_host.specs.States.{Refuses}
-use Rattle.ld_host.proofs.Done.{MayKeepAny, change_may, Keeps, wrote, StandsStill, stayed}
+use Rattle.ld_host.proofs.Done.{FollowsAny, change_follows, Keeps, wrote, StandsStill, stayed}
 use Rattle.ld_host.proofs.Logs.{log_is_known}
+use Rattle.ld_host.proofs.Running.{plain_here, some_here}
 
 node_is_itself : (n : ℕ) → is_node n (whos.Node n) ≡ true
 node_is_itself n = grind arith
@@ -100,11 +104,11 @@ pub ok_is_none : {T : Type 0} (v : T) {a b : NodeFault} → (ok_of v ≡ err_of 
 ok_is_none v {a} {b} is = ⊎_elim (λ e. ok_no_error v a e) (λ e. ok_no_error v b e) is
 
 -- a refusal, as its clauses tell of it
-pub record Refused (place : ℕ) (op : Option Op) (fault : NodeFault) (p q : DiskPlain) : Type 0 where
-  pub full : fault ≡ faults.Full → IsPast place op
-  pub too_long : IsPast place op → (fault ≡ faults.Full) ⊎ (fault ≡ faults.NoMemory)
+pub record Refused (y : Layout) (z : Slots) (op : Option Op) (fault : NodeFault) (p q : DiskPlain) : Type 0 where
+  pub full : fault ≡ faults.Full → IsPast y op
+  pub too_long : IsPast y op → (fault ≡ faults.Full) ⊎ (fault ≡ faults.NoMemory)
   pub keeps : (fault ≡ faults.Disk) ⊎ (q ≡ p)
-  pub exact : fault ≡ faults.Disk → (q ≡ after_calls (calls_of place op) p) × (all_succeed (calls_of place op) p ≡ false)
+  pub exact : fault ≡ faults.Disk → (q ≡ after_calls (calls_of y z op) p) × (all_succeed (calls_of y z op) p ≡ false)
   pub loaded : fault ≡ faults.NeedsLoad → ⊥
   pub damaged : (at : ℕ) → fault ≡ faults.Damaged at → ⊥
   pub register : (f : RegisterFault) → fault ≡ faults.Register f → ⊥
@@ -119,7 +123,7 @@ disk_memory : faults.Disk ≡ faults.NoMemory → ⊥
 disk_memory is = absurd (cc is)
 
 module _ (c : Config) (n : ℕ) (p : DiskPlain) (y : Node) (lies : Lies p y) (whole : y.cut ≡ None) (ms : List Msg) where
-  pub still : (op : Option Op) (fault : NodeFault) (q : DiskPlain) → Refused (place_behind lies.found) op fault p q → StandsStill c n p y lies whole ms op fault q
+  pub still : (op : Option Op) (fault : NodeFault) (q : DiskPlain) → Refused y.layout lies.slots op fault p q → StandsStill c n p y lies whole ms op fault q
   still op fault q not = record {
     full = λ is. (not.full is, ⊎_elim (λ disk. absurd (full_differs (sym is ∙ disk))) (λ same. same) not.keeps);
     failed = λ is. ((λ past. ⊎_elim (λ full. disk_full (sym is ∙ full)) (λ memory. disk_memory (sym is ∙ memory)) (not.too_long past)), (not.exact is).1, (not.exact is).0);
@@ -128,13 +132,19 @@ module _ (c : Config) (n : ℕ) (p : DiskPlain) (y : Node) (lies : Lies p y) (wh
     register = not.register;
   }
 
-module _ {g : Ghosts MemDisk} (c : Config) (n : ℕ) (node : Running MemDisk g) (x : Node) (m : Msg) (runs : Runs c n node x) (is : IsMessage m) (well : IsWell (plain_of node)) (formatted : is_blank node ≡ false)
+changes_of : (op : Option Op) → ((o : Op) → op ≡ Some o → IsChange o) → AreChanges op
+changes_of None each = tt
+changes_of (Some o) each = each o refl
+
+-- an index and the plain state that it stands for have the same summaries
+summaries_told : (told : Option (List ℕ)) (index : Plain) (l : ℕ) → (log_of (told_plain told index) l).summaries ≡ (log_of index l).summaries
+summaries_told None index l = refl
+summaries_told (Some bytes) index l = ap (λ h. h.summaries) (log_same (byte_at bytes) index l)
+
+module _ {g : Ghosts MemDisk} (c : Config) (n : ℕ) (node : Running MemDisk g) (x : Node) (m : Msg) (runs : Runs c n node x) (is : IsMessage m) (well : IsWell (index_of node)) (formatted : is_blank node ≡ false)
     (to : m.to ≡ whos.Node n) (has : has_log c m.log ≡ true) where
   plain_is : plain_of node ≡ x.plain
-  plain_is = runs.holds.state ∙ sym runs.lies.plain
-
-  place_is : place_of node ≡ place_behind runs.lies.found
-  place_is = runs.holds.place ∙ places runs.lies.found
+  plain_is = plain_here c n node x runs
 
   handled_here : handled (id_of node) (known_of node) (released_of node) (plain_of node) m ≡ node_handles n x m
   handled_here = (λ i. handled (runs.id i) (runs.known i) (runs.released i) (plain_is i) m) ∙ handled_is c n m to has x
@@ -147,41 +157,46 @@ module _ {g : Ghosts MemDisk} (c : Config) (n : ℕ) (node : Running MemDisk g) 
   raised_here = λ i. released_after (runs.id i) (runs.known i) (runs.released i) m
 
   abbrev raised_lies : Lies (disk_plain (disk_of node)) raised_node
-  raised_lies = record { found = runs.lies.found; version = runs.lies.version; plain = runs.lies.plain; length = runs.lies.length; formatted = runs.lies.formatted; rests = runs.lies.rests; armed = runs.lies.armed }
+  raised_lies = record { slots = runs.lies.slots; formatted = runs.lies.formatted; rests = runs.lies.rests; armed = runs.lies.armed }
 
-  well_here : IsWell x.plain
-  well_here = subst (λ q. IsWell q) plain_is well
+  summaries_here : (log_of (index_of node) m.log).summaries ≡ (log_of x.plain m.log).summaries
+  summaries_here = sym (summaries_told (g.seen (disk_of node)) (index_of node) m.log) ∙ ap (λ q. (log_of q m.log).summaries) plain_is
+
+  each_summary : (e : ℕ) (y : Summary) → find e (log_of x.plain m.log).summaries ≡ Some y → IsSummary e y
+  each_summary e y there = summaries_are last_carried (index_of node) m.log e y well (ap (find e) summaries_here ∙ there)
 
   changes : AreChanges (node_handles n x m).op
   changes = changes_of (node_handles n x m).op
-      (λ o taken. handled_change (log_of x.plain m.log) (λ e y there. summaries_are last_carried x.plain m.log e y well_here there) n x.plain.generation m.log (released_at x m.log) m.from m.body o is.log (subst (λ w. Fits m.from w m.body) to is.fits) taken)
+      (λ o taken. handled_change (log_of x.plain m.log) each_summary n x.plain.generation m.log (released_at x m.log) m.from m.body o is.log (subst (λ w. Fits m.from w m.body) to is.fits) taken)
 
-  may : MayKeepAny runs.lies.found x.plain (node_handles n x m).op
-  may = change_may runs.lies.found x.plain (node_handles n x m).op changes (sym runs.holds.blank ∙ formatted) runs.lies.formatted
+  follows : FollowsAny x.layout x.plain (node_handles n x m).op
+  follows = change_follows x.layout x.plain (node_handles n x m).op changes (some_here c n node x runs formatted) runs.lies.formatted
 
   abbrev sent : List Msg
   sent = answer_message n m (node_handles n x m).answer
 
   pub answered : (h : Handled) (new : Running MemDisk g) → h ≡ handled (id_of node) (known_of node) (released_of node) (plain_of node) m
       → id_of new ≡ id_of node → known_of new ≡ known_of node → released_of new ≡ released_after (id_of node) (known_of node) (released_of node) m
-      → ((vs : List Record) → Holds seen_in leaves_of node vs → Holds seen_in leaves_of new (with_op vs h.op)) → (IsPast (place_of node) h.op → ⊥)
-      → disk_plain (disk_of new) ≡ after_calls (calls_of (place_of node) h.op) (disk_plain (disk_of node)) → all_succeed (calls_of (place_of node) h.op) (disk_plain (disk_of node)) ≡ true
+      → (layout_of new ≡ laid_with (layout_of node) h.op) × (slots_of new ≡ slots_kept (layout_of node) (slots_of node) h.op) → Holds seen_in leaves_of new → (IsPast (layout_of node) h.op → ⊥)
+      → disk_plain (disk_of new) ≡ after_calls (calls_of (layout_of node) (slots_of node) h.op) (disk_plain (disk_of node)) → all_succeed (calls_of (layout_of node) (slots_of node) h.op) (disk_plain (disk_of node)) ≡ true
       → Runs c n new (message_done n x m).node × (Written ≡ (message_done n x m).end) × (answer_message (id_of node) m h.answer ≡ (message_done n x m).sends)
-  answered h new h_is id known released holds within disk succeed =
+  answered h new h_is id known released laid holds within disk succeed =
       let p = disk_plain (disk_of node) in
       let same : h ≡ node_handles n x m = h_is ∙ handled_here in
       let o = (node_handles n x m).op in
-      let calls : calls_of (place_of node) h.op ≡ calls_of (place_behind runs.lies.found) o = λ i. calls_of (place_is i) (same i).op in
+      let calls : calls_of (layout_of node) (slots_of node) h.op ≡ calls_of x.layout runs.lies.slots o = λ i. calls_of (runs.laid i) (runs.slots i) (same i).op in
       let keeps_it : Keeps c n p raised_node raised_lies runs.cut sent o new = record {
         id = id ∙ runs.id;
         known = known ∙ runs.known;
         released = released ∙ raised_here;
-        holds = subst (λ k. Holds seen_in leaves_of new (with_op runs.lies.found k.op)) same (holds runs.lies.found runs.holds);
-        within = λ past. within (subst (λ k. IsPast (place_of node) k) (ap (λ k. k.op) (sym same)) (subst (λ l. IsPast l o) (sym place_is) past));
+        laid = laid.0 ∙ (λ i. laid_with (runs.laid i) (same i).op);
+        slots = laid.1 ∙ (λ i. slots_kept (runs.laid i) (runs.slots i) (same i).op);
+        holds = holds;
+        within = λ past. within (subst (λ k. IsPast (layout_of node) k) (ap (λ k. k.op) (sym same)) (subst (λ l. IsPast l o) (sym runs.laid) past));
         succeed = ap (λ l. all_succeed l p) (sym calls) ∙ succeed;
         disk = disk ∙ ap (λ l. after_calls l p) calls;
       } in
-      let done = wrote c n p raised_node raised_lies runs.cut sent new runs.status o may keeps_it in
+      let done = wrote c n p raised_node raised_lies runs.cut sent new runs.status o follows keeps_it in
       let back = sym (releases_is c n m to has x) in (
         subst (λ z. Runs c n new (op_done z o sent).node) back done.0,
         done.1 ∙ ap (λ z. (op_done z o sent).end) back,
@@ -189,14 +204,14 @@ module _ {g : Ghosts MemDisk} (c : Config) (n : ℕ) (node : Running MemDisk g) 
       )
 
   pub refuses_it : (h : Handled) (fault : NodeFault) (q : DiskPlain) (done : State × HostKept) → h ≡ handled (id_of node) (known_of node) (released_of node) (plain_of node) m
-      → Refused (place_of node) h.op fault (disk_plain (disk_of node)) q → Refuses fault q done
+      → Refused (layout_of node) (slots_of node) h.op fault (disk_plain (disk_of node)) q → Refuses fault q done
       → StandsAs c n done.0 (message_done n x m).node × (shown_kept done.1 ≡ (message_done n x m).end) × ([] ≡ (message_done n x m).sends)
   refuses_it h fault q done h_is not refuses =
       let p = disk_plain (disk_of node) in
       let same : h ≡ node_handles n x m = h_is ∙ handled_here in
       let o = (node_handles n x m).op in
-      let not_here : Refused (place_behind runs.lies.found) o fault p q = subst (λ l. Refused l o fault p q) place_is (subst (λ k. Refused (place_of node) k fault p q) (ap (λ k. k.op) same) not) in
-      let left = stayed c n p raised_node raised_lies runs.cut sent o fault q done may (still c n p raised_node raised_lies runs.cut sent o fault q not_here) refuses in
+      let not_here : Refused x.layout runs.lies.slots o fault p q = subst (λ z. Refused x.layout z o fault p q) runs.slots (subst (λ l. Refused l (slots_of node) o fault p q) runs.laid (subst (λ k. Refused (layout_of node) (slots_of node) k fault p q) (ap (λ k. k.op) same) not)) in
+      let left = stayed c n p raised_node raised_lies runs.cut sent o fault q done follows (still c n p raised_node raised_lies runs.cut sent o fault q not_here) refuses in
       let back = sym (releases_is c n m to has x) in (
         subst (λ z. StandsAs c n done.0 (op_done z o sent).node) back left.0,
         left.1 ∙ ap (λ z. (op_done z o sent).end) back,

@@ -1,18 +1,18 @@
 -- What the bytes on a host's disk stand for.
-use Rattle.std.proofs.Common.{◌≡◌, ℕ, None, sym, ◌∙◌, ap}
+use Rattle.std.proofs.Common.{◌≡◌, ℕ, None, sym, ◌∙◌, subst}
 use Rattle.ld_disk.specs.Plain.{Plain as DiskPlain}
-use Rattle.ld_store.specs.Ops.{StandsFor}
+use Rattle.ld_segment.specs.Lies.{StandsFor}
 use Rattle.ld_config.specs.declared.config.Config.{Config}
-use Rattle.ld_machine.specs.Disk.{Node, Blank, Up, Down, Failed, found}
+use Rattle.ld_machine.specs.Disk.{Node, Blank, Up, Down, Failed, found, found_layout}
 use Rattle.ld_host.specs.declared.state.State.{State}
 use Rattle.ld_host.specs.declared.state.State.TheVariants as states
 use Rattle.ld_host.specs.States.{disk_in}
 use Rattle.ld_host.specs.Lies.{Lies}
 use Rattle.ld_host.specs.Stands.{StandsAs, HasBytesOf}
-use Rattle.ld_host.proofs.Loading.{finds}
+use Rattle.ld_host.proofs.Loading.{finds, stands_for}
 
 bytes_of : (p : DiskPlain) (x : Node) → Lies p x → x.cut ≡ None → StandsFor x.plain p.state.bytes
-bytes_of p x lies whole = let f = finds p x lies in record { found = f.read; journal = f.journal; state = sym (ap (λ k. found x k) whole) ∙ f.plain_is }
+bytes_of p x lies whole = subst (λ k. StandsFor (found x k) p.state.bytes) whole (stands_for p.state.bytes (found x x.cut) (found_layout x x.cut) (finds p x lies))
 
 blank_not_up : Blank ≡ Up → ⊥
 blank_not_up is = absurd (cc is)

@@ -1,7 +1,6 @@
 -- How a format of a host ends.
-use Rattle.std.proofs.Common.{◌≡◌, ◌≢◌, ◌⊎◌, ⊎_elim, inl, inr, ◌+◌, ◌==◌, ◌<◌, ◌≤◌, ◌^◌, ◌||◌, ℕ, List, [], ◌∷◌, ◌++◌, Bool, true, false, not, nat_le, nat_lt, Option, None, Some, Result, Ok, Err, IfOk, if◌then◌else◌, refl, sym, ◌∙◌, ap, subst, arith}
+use Rattle.std.proofs.Common.{◌≡◌, ◌≢◌, ◌⊎◌, ⊎_elim, inl, inr, ◌+◌, ◌==◌, ◌||◌, ℕ, List, [], Bool, true, false, not, nat_le, nat_lt, Option, None, Some, Result, Ok, Err, IfOk, if◌then◌else◌, refl, sym, ◌∙◌, ap, subst, arith, true≢false}
 use Rattle.std.specs.Option.{unwrap_or}
-use Rattle.std.proofs.lemmas.Bool.{cases_lt}
 use Rattle.ld_table.specs.Table.{put}
 use Rattle.ld_table.proofs.Laws.{find-put_same}
 use Rattle.ld_ids.specs.declared.memory.NoMemory.{NoMemory}
@@ -11,10 +10,9 @@ use Rattle.ld_disk.specs.declared.disk.Disk.{Ghosts}
 use Rattle.ld_disk.specs.declared.memory.MemDisk.{MemDisk}
 use Rattle.ld_msg.specs.Register.{Register, Armed, Answer, Granted, AtLimit, Behind, Overtaken, Fails, draw, change, generation_of, generation_limit, journal_limit, record_length, is_made, falls, made, unmade}
 use Rattle.ld_op.specs.Plain.{Plain, apply, op_length}
-use Rattle.ld_op.specs.declared.record.Record.TheVariants.{Now}
 use Rattle.ld_op.specs.Bounds.{IsOp}
-use Rattle.ld_store.specs.Ops.{place_behind, are_none}
-use Rattle.ld_store.proofs.Bodies.{places}
+use Rattle.ld_layout.specs.Layout.{Layout, kept_in, passes_limit}
+use Rattle.ld_segment.specs.Lies.{Slots, slots_with}
 use Rattle.ld_register.specs.Calls.{after_draw, handed, ended, draw_length, is_full}
 use Rattle.ld_register.specs.Calls as calls
 use Rattle.ld_register.specs.declared.fault.RegisterFault.{RegisterFault}
@@ -25,7 +23,7 @@ use Rattle.ld_node.specs.Draws.{answered}
 use Rattle.ld_node.specs.Faults.{of_register}
 use Rattle.ld_node.specs.Formats as formats
 use Rattle.ld_node.specs.Formats.{format_of, IsWithin, KeepsFormat, FormatsBy}
-use Rattle.ld_node.specs.Node.{id_of, known_of, released_of, disk_of, place_of, Holds}
+use Rattle.ld_node.specs.Node.{id_of, known_of, released_of, disk_of, layout_of, slots_of, Holds}
 use Rattle.ld_node.specs.declared.node.Node.{Node as Running}
 use Rattle.ld_node.specs.declared.fault.NodeFault.{NodeFault}
 use Rattle.ld_node.specs.declared.fault.NodeFault.TheVariants as faults
@@ -41,8 +39,8 @@ use Rattle.ld_host.specs.Lies.{Lies}
 use Rattle.ld_host.specs.Stands.{Runs, IsBlank, IsFresh, StandsAs, seen_in, leaves_of}
 use Rattle.ld_host.specs.Done.{HasFormatted}
 use Rattle.ld_host.proofs.Ending.{NotKept, not_kept_ends}
-use Rattle.ld_host.proofs.Done.{MayKeep, Keeps, wrote_one}
-use Rattle.ld_host.proofs.Versions.{last_is}
+use Rattle.ld_host.proofs.Done.{Keeps, wrote_one}
+use Rattle.ld_host.proofs.Keeping.{Follows}
 use Rattle.ld_host.proofs.Rising.{some_is}
 
 -- ---- a generation that is drawn ----
@@ -118,38 +116,42 @@ err_is a b is = cc is
 ok_is : (a b : Drawn) → answer_ok a ≡ answer_ok b → a ≡ b
 ok_is a b is = cc is
 
-never_both : (limit m : ℕ) → m ≤ limit → limit < m → ⊥
-never_both limit m within past = absurd (omega (arith, within, past))
+never_both : (b : Bool) → b ≡ false → b ≡ true → ⊥
+never_both b within past = true≢false (sym past ∙ within)
 
-abbrev record_calls : ℕ → Drawn → List Call
-record_calls place d = calls_of place (Some (format_of d))
+full_or_not : (b : Bool) → (b ≡ true) ⊎ (b ≡ false)
+full_or_not true = inl refl
+full_or_not false = inr refl
 
-module _ (place : ℕ) (p : DiskPlain) (now : Option DiskPlain) where
-  past_or_within : (d : Drawn) → IsPast place (Some (format_of d)) ⊎ IsWithin place (format_of d)
-  past_or_within d = cases_lt (2 ^ 40) (place + op_length (format_of d) + 6)
+module _ (y : Layout) (z : Slots) (p : DiskPlain) (now : Option DiskPlain) where
+  abbrev record_calls : Drawn → List Call
+  record_calls d = calls_of y z (Some (format_of d))
+
+  past_or_within : (d : Drawn) → IsPast y (Some (format_of d)) ⊎ IsWithin y (format_of d)
+  past_or_within d = full_or_not (passes_limit y (format_of d))
 
   -- it was kept
   pub record WasKept (draw : Result Drawn RegisterFault) (d : Drawn) : Type 0 where
     pub granted : draw ≡ Ok d
-    pub within : IsPast place (Some (format_of d)) → ⊥
-    pub succeed : all_succeed (record_calls place d) p ≡ true
-    pub disk : now ≡ Some (after_calls (record_calls place d) p)
+    pub within : IsPast y (Some (format_of d)) → ⊥
+    pub succeed : all_succeed (record_calls d) p ≡ true
+    pub disk : now ≡ Some (after_calls (record_calls d) p)
 
-  kept_if : (b : Bool) (d e : Drawn) → all_succeed (record_calls place e) p ≡ b → answer_ok d ≡ formats.ended b e → (d ≡ e) × (b ≡ true)
+  kept_if : (b : Bool) (d e : Drawn) → all_succeed (record_calls e) p ≡ b → answer_ok d ≡ formats.ended b e → (d ≡ e) × (b ≡ true)
   kept_if true d e is same = (ok_is d e same, refl)
   kept_if false d e is same = ok_not_err d faults.Disk same
 
-  kept_within : (d e : Drawn) → KeepsFormat place p e now (answer_ok d) → IsWithin place (format_of e) → WasKept (Ok e) d
+  kept_within : (d e : Drawn) → KeepsFormat y z p e now (answer_ok d) → IsWithin y (format_of e) → WasKept (Ok e) d
   kept_within d e keeps within =
-      let is = kept_if (all_succeed (record_calls place e) p) d e refl (keeps.answer within) in
+      let is = kept_if (all_succeed (record_calls e) p) d e refl (keeps.answer within) in
       subst (λ f. WasKept (Ok e) f) (sym is.0) (record {
         granted = refl;
-        within = λ past. never_both (2 ^ 40) (place + op_length (format_of e) + 6) within past;
+        within = λ past. never_both (passes_limit y (format_of e)) within past;
         succeed = is.1;
         disk = keeps.written within;
       })
 
-  pub was_kept : (draw : Result Drawn RegisterFault) (d : Drawn) → FormatsBy place p draw now (answer_ok d) → WasKept draw d
+  pub was_kept : (draw : Result Drawn RegisterFault) (d : Drawn) → FormatsBy y z p draw now (answer_ok d) → WasKept draw d
   was_kept (Err f) d by = ok_not_err d (of_register f) (by.refused f refl)
   was_kept (Ok e) d by =
       let keeps = by.keeps e refl in
@@ -175,18 +177,18 @@ module _ (place : ℕ) (p : DiskPlain) (now : Option DiskPlain) where
   register_full : {A : Type 0} (f : RegisterFault) → answer_err (faults.Register f) ≡ answer_err faults.Full → A
   register_full f is = let same = err_is (faults.Register f) faults.Full is in absurd (cc same)
 
-  pub was_refused : (draw : Result Drawn RegisterFault) (f : RegisterFault) → FormatsBy place p draw now (answer_err (faults.Register f)) → (draw ≡ Err f) × (now ≡ Some p)
+  pub was_refused : (draw : Result Drawn RegisterFault) (f : RegisterFault) → FormatsBy y z p draw now (answer_err (faults.Register f)) → (draw ≡ Err f) × (now ≡ Some p)
   was_refused (Err e) f by = (ap (λ g. Err g) (same_refusal f e (err_is (faults.Register f) (of_register e) (by.refused e refl))), by.refused_disk e refl)
   was_refused (Ok e) f by =
       let keeps = by.keeps e refl in
-      ⊎_elim (λ past. register_full f (keeps.too_long past)) (λ within. not_register f (all_succeed (record_calls place e) p) e (keeps.answer within)) (past_or_within e)
+      ⊎_elim (λ past. register_full f (keeps.too_long past)) (λ within. not_register f (all_succeed (record_calls e) p) e (keeps.answer within)) (past_or_within e)
 
   -- it wasn't kept
   pub record WasNotKept (draw : Result Drawn RegisterFault) (fault : NodeFault) : Type 0 where
     pub drawn : Drawn
     pub granted : draw ≡ Ok drawn
-    pub full : fault ≡ faults.Full → IsPast place (Some (format_of drawn)) × (now ≡ Some p)
-    pub failed : fault ≡ faults.Disk → (IsPast place (Some (format_of drawn)) → ⊥) × (all_succeed (record_calls place drawn) p ≡ false) × (now ≡ Some (after_calls (record_calls place drawn) p))
+    pub full : fault ≡ faults.Full → IsPast y (Some (format_of drawn)) × (now ≡ Some p)
+    pub failed : fault ≡ faults.Disk → (IsPast y (Some (format_of drawn)) → ⊥) × (all_succeed (record_calls drawn) p ≡ false) × (now ≡ Some (after_calls (record_calls drawn) p))
     pub either : (fault ≡ faults.Disk) ⊎ (fault ≡ faults.Full)
 
   full_not_disk : {A : Type 0} → faults.Full ≡ faults.Disk → A
@@ -208,23 +210,23 @@ module _ (place : ℕ) (p : DiskPlain) (now : Option DiskPlain) where
   refused_none fault refusals.SwapLimit none memory is = absurd (none refusals.SwapLimit is)
   refused_none fault refusals.Full none memory is = absurd (none refusals.Full is)
 
-  not_kept_full : (fault : NodeFault) (e : Drawn) → KeepsFormat place p e now (answer_err fault) → IsPast place (Some (format_of e)) → WasNotKept (Ok e) fault
+  not_kept_full : (fault : NodeFault) (e : Drawn) → KeepsFormat y z p e now (answer_err fault) → IsPast y (Some (format_of e)) → WasNotKept (Ok e) fault
   not_kept_full fault e keeps past =
       let is = err_is fault faults.Full (keeps.too_long past) in
       record { drawn = e; granted = refl; full = λ same. (past, keeps.too_long_disk past); failed = λ same. full_not_disk (sym is ∙ same); either = inr is }
 
-  not_kept_failed : (fault : NodeFault) (e : Drawn) → KeepsFormat place p e now (answer_err fault) → IsWithin place (format_of e) → WasNotKept (Ok e) fault
+  not_kept_failed : (fault : NodeFault) (e : Drawn) → KeepsFormat y z p e now (answer_err fault) → IsWithin y (format_of e) → WasNotKept (Ok e) fault
   not_kept_failed fault e keeps within =
-      let is = failed_if (all_succeed (record_calls place e) p) fault e (keeps.answer within) in
+      let is = failed_if (all_succeed (record_calls e) p) fault e (keeps.answer within) in
       record {
         drawn = e;
         granted = refl;
         full = λ same. full_not_disk (sym same ∙ is.0);
-        failed = λ same. ((λ past. never_both (2 ^ 40) (place + op_length (format_of e) + 6) within past), is.1, keeps.written within);
+        failed = λ same. ((λ past. never_both (passes_limit y (format_of e)) within past), is.1, keeps.written within);
         either = inl is.0;
       }
 
-  pub was_not_kept : (draw : Result Drawn RegisterFault) (fault : NodeFault) → ((f : RegisterFault) → fault ≢ faults.Register f) → (fault ≡ faults.NoMemory → ⊥) → FormatsBy place p draw now (answer_err fault) → WasNotKept draw fault
+  pub was_not_kept : (draw : Result Drawn RegisterFault) (fault : NodeFault) → ((f : RegisterFault) → fault ≢ faults.Register f) → (fault ≡ faults.NoMemory → ⊥) → FormatsBy y z p draw now (answer_err fault) → WasNotKept draw fault
   was_not_kept (Err e) fault none memory by = refused_none fault e none memory (err_is fault (of_register e) (by.refused e refl))
   was_not_kept (Ok e) fault none memory by =
       let keeps = by.keeps e refl in
@@ -271,36 +273,38 @@ drawn_same : (a b : Drawn) → answered a ≡ answered b → a ≡ b
 drawn_same a b is = cc is
 
 module _ {g : Ghosts MemDisk} (c : Config) (n : ℕ) (node : Running MemDisk g) (x : Node) (r : Register) (tells : Register → Type 0) (fresh : IsFresh c n node (load x)) (loaded : load_end x ≡ Written) (told : tells (after_draw r n)) where
-  abbrev place : ℕ
-  place = place_behind fresh.lies.found
+  abbrev y : Layout
+  y = (load x).layout
 
-  pub place_is : place_of node ≡ place
-  place_is = fresh.holds.place ∙ places fresh.lies.found
+  abbrev z : Slots
+  z = fresh.lies.slots
 
-  none_found : are_none fresh.lies.found ≡ true
-  none_found = sym fresh.holds.blank ∙ fresh.blank
+  none_there : (y.ops == 0) ≡ true
+  none_there = ap (λ l. l.ops == 0) (sym fresh.laid) ∙ sym fresh.holds.blank ∙ fresh.blank
 
-  may : (d : Drawn) → IsOp (format_of d) → calls.drawn r n ≡ Ok d → MayKeep fresh.lies.found (load x).plain (format_of d)
-  may d is granted = record { next = record { op = is; format = sym none_found }; formatted = ap (λ k. k == 0) (format_generation (load x).plain d) ∙ generation_drawn r n d granted }
+  follows : (d : Drawn) → IsOp (format_of d) → calls.drawn r n ≡ Ok d → Follows y (load x).plain (format_of d)
+  follows d is granted = record { op = is; format = sym none_there; formatted = ap (λ k. k == 0) (format_generation (load x).plain d) ∙ generation_drawn r n d granted }
 
-  pub formats_done : (d : Drawn) (new : Running MemDisk g) → WasKept place (disk_plain (disk_of node)) (Some (disk_plain (disk_of new))) (calls.drawn r n) d → id_of new ≡ id_of node → known_of new ≡ known_of node → released_of new ≡ released_of node
-      → Holds seen_in leaves_of new (fresh.lies.found ++ Now (format_of d) ∷ []) → HasFormatted (λ y. Runs c n new y) tells x n r (endings.Done d)
-  formats_done d new was id known released holds =
+  pub formats_done : (d : Drawn) (new : Running MemDisk g) → WasKept y z (disk_plain (disk_of node)) (Some (disk_plain (disk_of new))) (calls.drawn r n) d → id_of new ≡ id_of node → known_of new ≡ known_of node → released_of new ≡ released_of node
+      → (layout_of new ≡ kept_in (layout_of node) (format_of d)) × (slots_of new ≡ slots_with (layout_of node) (slots_of node) (op_length (format_of d))) → Holds seen_in leaves_of new → IsOp (format_of d)
+      → HasFormatted (λ w. Runs c n new w) tells x n r (endings.Done d)
+  formats_done d new was id known released laid holds is =
       let p = disk_plain (disk_of node) in
       let keeps : Keeps c n p (load x) fresh.lies fresh.cut [] (Some (format_of d)) new = record {
         id = id ∙ fresh.id;
         known = known ∙ fresh.known;
         released = released ∙ fresh.released;
+        laid = laid.0 ∙ ap (λ l. kept_in l (format_of d)) fresh.laid;
+        slots = laid.1 ∙ (λ i. slots_with (fresh.laid i) (fresh.slots i) (op_length (format_of d)));
         holds = holds;
         within = was.within;
         succeed = was.succeed;
         disk = some_is (disk_plain (disk_of new)) _ was.disk;
       } in
-      let is = last_is fresh.lies.found (Now (format_of d)) holds.are in
-      let done = wrote_one c n p (load x) fresh.lies fresh.cut [] new (format_of d) (may d is was.granted) keeps in
+      let done = wrote_one c n p (load x) fresh.lies fresh.cut [] new (format_of d) (follows d is was.granted) keeps in
       record { node = keep_op (load x) (format_of d); register = after_draw r n; stands = done.0; told = told; does = record { loaded = loaded; granted = was.granted; node = refl; register = refl; end = sym done.1 } }
 
-  pub formats_refused : (f : RegisterFault) (m : MemDisk) → calls.drawn r n ≡ Err f → disk_plain m ≡ disk_plain (disk_of node) → HasFormatted (λ y. IsBlank m y) tells x n r (endings.Refused f)
+  pub formats_refused : (f : RegisterFault) (m : MemDisk) → calls.drawn r n ≡ Err f → disk_plain m ≡ disk_plain (disk_of node) → HasFormatted (λ w. IsBlank m w) tells x n r (endings.Refused f)
   formats_refused f m refused disk = record {
     node = load x;
     register = after_draw r n;
@@ -309,21 +313,21 @@ module _ {g : Ghosts MemDisk} (c : Config) (n : ℕ) (node : Running MemDisk g) 
     does = (loaded, refused, refl, refl);
   }
 
-  pub formats_not_kept : (fault : NodeFault) (m : MemDisk) (done : State × HostKept) → WasNotKept place (disk_plain (disk_of node)) (Some (disk_plain m)) (calls.drawn r n) fault
-      → ((d : Drawn) → calls.drawn r n ≡ Ok d → (fault ≡ faults.Disk) ⊎ (fault ≡ faults.Full) → IsOp (format_of d)) → Refuses fault (disk_plain m) done → HasFormatted (λ y. StandsAs c n done.0 y) tells x n r (endings.NotKept done.1)
+  pub formats_not_kept : (fault : NodeFault) (m : MemDisk) (done : State × HostKept) → WasNotKept y z (disk_plain (disk_of node)) (Some (disk_plain m)) (calls.drawn r n) fault
+      → ((d : Drawn) → calls.drawn r n ≡ Ok d → (fault ≡ faults.Disk) ⊎ (fault ≡ faults.Full) → IsOp (format_of d)) → Refuses fault (disk_plain m) done → HasFormatted (λ w. StandsAs c n done.0 w) tells x n r (endings.NotKept done.1)
   formats_not_kept fault m done was is_op refuses =
       let p = disk_plain (disk_of node) in
       let q = disk_plain m in
       let d = was.drawn in
-      let is = may d (is_op d was.granted was.either) was.granted in
-      let not_kept : NotKept c n p (load x) (format_of d) fresh.lies fresh.cut is.next is.formatted fault q = record {
+      let next = follows d (is_op d was.granted was.either) was.granted in
+      let not_kept : NotKept c n p (load x) (format_of d) fresh.lies fresh.cut next fault q = record {
         full = λ same. let f = was.full same in (f.0, some_is q p f.1);
         failed = λ same. let f = was.failed same in (f.0, f.1, some_is q _ f.2);
         loaded = λ same. other_than fault faults.NeedsLoad was.either same disk_loads full_loads;
         whole_still = λ at same. other_than fault (faults.Damaged at) was.either same (disk_damaged at) (full_damaged at);
         register = λ f same. other_than fault (faults.Register f) was.either same (disk_register f) (full_register f);
       } in
-      let ends = not_kept_ends c n p (load x) (format_of d) fresh.lies fresh.cut is.next is.formatted fault q done not_kept refuses in
+      let ends = not_kept_ends c n p (load x) (format_of d) fresh.lies fresh.cut next fault q done not_kept refuses in
       record { node = keep_op (load x) (format_of d); register = after_draw r n; stands = ends.0; told = told; does = record { drawn = d; loaded = loaded; granted = was.granted; node = refl; register = refl; end = ends.1; unwritten = ends.2 } }
 
 blank_stands : (c : Config) (n : ℕ) (s : State) (m : MemDisk) (y : Node) → IsBlankAt m s → IsBlank m y → StandsAs c n s y
@@ -337,35 +341,36 @@ pub is_op_of : (a b : Drawn) (draw : Result Drawn RegisterFault) → answered a 
 is_op_of a b draw is same op = subst (λ d. IsOp (format_of d)) (drawn_same a b (is ∙ same)) op
 
 module _ {g : Ghosts MemDisk} (c : Config) (n : ℕ) (node : Running MemDisk g) (x : Node) (r : Register) (tells : Register → Type 0) (fresh : IsFresh c n node (load x)) (loaded : load_end x ≡ Written) where
-  -- how the node's answer is told, by its own place and number
-  pub by_here : (now : Option DiskPlain) (result : Result Drawn NodeFault) → FormatsBy (place_of node) (disk_plain (disk_of node)) (calls.drawn r (id_of node)) now result
-      → FormatsBy (place_behind fresh.lies.found) (disk_plain (disk_of node)) (calls.drawn r n) now result
+  -- how the node's answer is told, by its own layout, slots and number
+  pub by_here : (now : Option DiskPlain) (result : Result Drawn NodeFault) → FormatsBy (layout_of node) (slots_of node) (disk_plain (disk_of node)) (calls.drawn r (id_of node)) now result
+      → FormatsBy (load x).layout fresh.lies.slots (disk_plain (disk_of node)) (calls.drawn r n) now result
   by_here now result by =
-      subst (λ k. FormatsBy k (disk_plain (disk_of node)) (calls.drawn r n) now result) (fresh.holds.place ∙ places fresh.lies.found)
-      (subst (λ k. FormatsBy (place_of node) (disk_plain (disk_of node)) (calls.drawn r k) now result) fresh.id by)
+      subst (λ k. FormatsBy (load x).layout k (disk_plain (disk_of node)) (calls.drawn r n) now result) fresh.slots
+      (subst (λ k. FormatsBy k (slots_of node) (disk_plain (disk_of node)) (calls.drawn r n) now result) fresh.laid
+      (subst (λ k. FormatsBy (layout_of node) (slots_of node) (disk_plain (disk_of node)) (calls.drawn r k) now result) fresh.id by))
 
   register_undone : (f : RegisterFault) (m : MemDisk) (done : State × Formatted) → tells (after_draw r n) → (done.1 ≡ endings.Refused f) × IsBlankAt m done.0
-      → FormatsBy (place_behind fresh.lies.found) (disk_plain (disk_of node)) (calls.drawn r n) (Some (disk_plain m)) (Err (faults.Register f)) → HasFormatted (λ y. StandsAs c n done.0 y) tells x n r done.1
+      → FormatsBy (load x).layout fresh.lies.slots (disk_plain (disk_of node)) (calls.drawn r n) (Some (disk_plain m)) (Err (faults.Register f)) → HasFormatted (λ w. StandsAs c n done.0 w) tells x n r done.1
   register_undone f m done told left by =
-      let was = was_refused (place_behind fresh.lies.found) (disk_plain (disk_of node)) (Some (disk_plain m)) (calls.drawn r n) f by in
+      let was = was_refused (load x).layout fresh.lies.slots (disk_plain (disk_of node)) (Some (disk_plain m)) (calls.drawn r n) f by in
       let has = formats_refused c n node x r tells fresh loaded told f m was.0 (some_is (disk_plain m) (disk_plain (disk_of node)) was.1) in
-      subst (λ e. HasFormatted (λ y. StandsAs c n done.0 y) tells x n r e) (sym left.0)
+      subst (λ e. HasFormatted (λ w. StandsAs c n done.0 w) tells x n r e) (sym left.0)
       (record { node = has.node; register = has.register; stands = blank_stands c n done.0 m has.node left.1 has.stands; told = has.told; does = has.does })
 
   abbrev Left : NodeFault → MemDisk → State × Formatted → Type 0
   Left fault m done = (k : HostKept) × (done.1 ≡ endings.NotKept k) × Refuses fault (disk_plain m) (done.0, k)
 
   other_undone : (fault : NodeFault) (m : MemDisk) (done : State × Formatted) → tells (after_draw r n) → ((f : RegisterFault) → fault ≢ faults.Register f) → Left fault m done
-      → FormatsBy (place_behind fresh.lies.found) (disk_plain (disk_of node)) (calls.drawn r n) (Some (disk_plain m)) (Err fault)
-      → ((d : Drawn) → calls.drawn r n ≡ Ok d → (fault ≡ faults.Disk) ⊎ (fault ≡ faults.Full) → IsOp (format_of d)) → HasFormatted (λ y. StandsAs c n done.0 y) tells x n r done.1
+      → FormatsBy (load x).layout fresh.lies.slots (disk_plain (disk_of node)) (calls.drawn r n) (Some (disk_plain m)) (Err fault)
+      → ((d : Drawn) → calls.drawn r n ≡ Ok d → (fault ≡ faults.Disk) ⊎ (fault ≡ faults.Full) → IsOp (format_of d)) → HasFormatted (λ w. StandsAs c n done.0 w) tells x n r done.1
   other_undone fault m done told none left by is_op =
-      let was = was_not_kept (place_behind fresh.lies.found) (disk_plain (disk_of node)) (Some (disk_plain m)) (calls.drawn r n) fault none left.2.memory by in
-      subst (λ e. HasFormatted (λ y. StandsAs c n done.0 y) tells x n r e) (sym left.1) (formats_not_kept c n node x r tells fresh loaded told fault m (done.0, left.0) was is_op left.2)
+      let was = was_not_kept (load x).layout fresh.lies.slots (disk_plain (disk_of node)) (Some (disk_plain m)) (calls.drawn r n) fault none left.2.memory by in
+      subst (λ e. HasFormatted (λ w. StandsAs c n done.0 w) tells x n r e) (sym left.1) (formats_not_kept c n node x r tells fresh loaded told fault m (done.0, left.0) was is_op left.2)
 
   undone_by : (fault : NodeFault) (m : MemDisk) (done : State × Formatted) → tells (after_draw r n)
       → ((f : RegisterFault) → fault ≡ faults.Register f → (done.1 ≡ endings.Refused f) × IsBlankAt m done.0) → (((f : RegisterFault) → fault ≢ faults.Register f) → Left fault m done)
-      → FormatsBy (place_behind fresh.lies.found) (disk_plain (disk_of node)) (calls.drawn r n) (Some (disk_plain m)) (Err fault)
-      → ((d : Drawn) → calls.drawn r n ≡ Ok d → (fault ≡ faults.Disk) ⊎ (fault ≡ faults.Full) → IsOp (format_of d)) → HasFormatted (λ y. StandsAs c n done.0 y) tells x n r done.1
+      → FormatsBy (load x).layout fresh.lies.slots (disk_plain (disk_of node)) (calls.drawn r n) (Some (disk_plain m)) (Err fault)
+      → ((d : Drawn) → calls.drawn r n ≡ Ok d → (fault ≡ faults.Disk) ⊎ (fault ≡ faults.Full) → IsOp (format_of d)) → HasFormatted (λ w. StandsAs c n done.0 w) tells x n r done.1
   undone_by faults.Disk m done told refused not_kept by is_op = other_undone faults.Disk m done told disk_register (not_kept disk_register) by is_op
   undone_by (faults.Damaged at) m done told refused not_kept by is_op = other_undone (faults.Damaged at) m done told (damaged_register at) (not_kept (damaged_register at)) by is_op
   undone_by faults.Full m done told refused not_kept by is_op = other_undone faults.Full m done told full_register (not_kept full_register) by is_op
@@ -379,8 +384,8 @@ module _ {g : Ghosts MemDisk} (c : Config) (n : ℕ) (node : Running MemDisk g) 
   pub formats_undone : (fault : NodeFault) (m : MemDisk) (result : Result (State × Formatted) NoMemory) → (fault ≡ faults.NoMemory) ⊎ tells (after_draw r n)
       → ((f : RegisterFault) → fault ≡ faults.Register f → IfOk result (λ done. (done.1 ≡ endings.Refused f) × IsBlankAt m done.0))
       → (((f : RegisterFault) → fault ≢ faults.Register f) → IfOk result (λ done. Left fault m done))
-      → (fault ≡ faults.NoMemory) ⊎ FormatsBy (place_of node) (disk_plain (disk_of node)) (calls.drawn r (id_of node)) (Some (disk_plain m)) (Err fault)
-      → ((d : Drawn) → calls.drawn r n ≡ Ok d → (fault ≡ faults.Disk) ⊎ (fault ≡ faults.Full) → IsOp (format_of d)) → IfOk result (λ done. HasFormatted (λ y. StandsAs c n done.0 y) tells x n r done.1)
+      → (fault ≡ faults.NoMemory) ⊎ FormatsBy (layout_of node) (slots_of node) (disk_plain (disk_of node)) (calls.drawn r (id_of node)) (Some (disk_plain m)) (Err fault)
+      → ((d : Drawn) → calls.drawn r n ≡ Ok d → (fault ≡ faults.Disk) ⊎ (fault ≡ faults.Full) → IsOp (format_of d)) → IfOk result (λ done. HasFormatted (λ w. StandsAs c n done.0 w) tells x n r done.1)
   formats_undone fault m (Err e) told refused not_kept by is_op = tt
   formats_undone fault m (Ok done) told refused not_kept by is_op = ⊎_elim
       (λ is. memory_undone fault m done is not_kept)

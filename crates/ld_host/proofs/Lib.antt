@@ -1,6 +1,7 @@
 pub mod Fates
 pub mod Versions
 pub mod Keeping
+pub mod Running
 pub mod Loading
 pub mod Fulls
 pub mod Ending

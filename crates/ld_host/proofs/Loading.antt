@@ -1,34 +1,36 @@
 -- What a load finds on a disk, and what lies there after it.
-use Rattle.std.proofs.Common.{◌≡◌, ◌+◌, ◌==◌, ℕ, List, [], ◌∷◌, ◌++◌, length, Bool, true, false, ◌&&◌, Option, None, Some, is_some, if◌then◌else◌, refl, sym, ◌∙◌, ap, subst, arith}
+use Rattle.std.proofs.Common.{◌≡◌, ◌≤◌, ◌+◌, ◌==◌, ℕ, List, [], ◌∷◌, Bool, true, false, not, ◌&&◌, ◌||◌, nat_le, Option, None, Some, if◌then◌else◌, refl, sym, ◌∙◌, ap, subst}
 use Rattle.ld_schedule.specs.declared.event.Picture.{Picture as Named}
 use Rattle.ld_schedule.specs.declared.event.Picture.TheVariants as names
-use Rattle.ld_disk.specs.Record.{State, synced}
-use Rattle.ld_disk.specs.Plain.{Plain as DiskPlain, Call, after_call}
+use Rattle.ld_disk.specs.Record.{State, state_of, synced}
+use Rattle.ld_disk.specs.Plain.{Plain as DiskPlain, Call, after_call, all_made}
 use Rattle.ld_disk.specs.declared.disk.Picture.{Picture}
 use Rattle.ld_journal.specs.Pictures as journals
-use Rattle.ld_journal.specs.Pictures.{is_there, seen_by}
-use Rattle.ld_msg.specs.Register.{record_length}
-use Rattle.ld_op.specs.declared.op.Op.{Op}
-use Rattle.ld_op.specs.declared.record.Record.{Record}
-use Rattle.ld_op.specs.declared.record.Record.TheVariants.{Now}
+use Rattle.ld_journal.specs.Pictures.{seen_by}
 use Rattle.ld_op.specs.Plain.{Plain, apply, op_length}
-use Rattle.ld_store.specs.Ops.{state_after, place_behind, are_none, IsJournalOf}
-use Rattle.ld_store.proofs.Bodies.{state-push, some-push}
-use Rattle.ld_store.proofs.Cuts.{place_more, cut_ops}
-use Rattle.ld_machine.specs.Disk.{Node, Status, Cut, shows_gate, gate_reads, is_found, found, found_length, seen_too, loaded_by, Made}
+use Rattle.ld_op.specs.Cells.{read_plain}
+use Rattle.ld_layout.specs.Layout.{Layout, laid_for, kept_in}
+use Rattle.ld_segment.specs.Lies.{Slots, LiesAs, IsSound, StandsFor, written, op_row, slots_with, switching, gate_shows, layout_left, plain_left}
+use Rattle.ld_segment.proofs.OpPictures.{decided}
+use Rattle.ld_segment.proofs.Sound.{sound_kept}
+use Rattle.ld_store.proofs.Applying.{kept_ops}
+use Rattle.ld_machine.specs.Disk.{Node, Status, Cut, shows_gate, gate_reads, wrote_gate, is_found, is_switched, found, found_layout, seen_too, loaded_by, Made}
 use Rattle.ld_host.specs.Faults.{picture_of, pictures_of, crash_of, IsArmed}
-use Rattle.ld_host.specs.Lies.{IsCurrent, Follows, IsWhole, IsCut, Rests, Lies}
+use Rattle.ld_host.specs.Lies.{IsWhole, IsCut, Rests, Lies}
 use Rattle.ld_host.proofs.Fates.{AllMade, Stops, after_one, stopped_sync, sync_stops}
-use Rattle.ld_host.proofs.Versions.{may_follow, current_then}
+use Rattle.ld_host.proofs.Keeping.{made_whole}
+use Rattle.ld_host.proofs.Versions.{laid_ops, laid_sound}
 
--- the bytes are a journal of records that add up to what a load finds; where there are any it is of the second version
-pub record Finds (bytes : List ℕ) (plain : Plain) (length : ℕ) : Type 0 where
-  pub read : List Record
-  pub version : IsCurrent read
-  pub journal : IsJournalOf read bytes
-  pub plain_is : plain ≡ state_after read
-  pub length_is : length ≡ place_behind read + 1
-  pub formatted : (plain.generation == 0) ≡ are_none read
+-- the bytes lie as what a load finds, and stand for it
+pub record Finds (bytes : List ℕ) (p : Plain) (y : Layout) : Type 0 where
+  pub slots : Slots
+  pub lies : LiesAs (written y) y slots bytes
+  pub sound : IsSound y
+  pub plain : p ≡ read_plain bytes y.index
+  pub formatted : (p.generation == 0) ≡ (y.ops == 0)
+
+pub stands_for : (bytes : List ℕ) (p : Plain) (y : Layout) → Finds bytes p y → StandsFor p bytes
+stands_for bytes p y f = record { version = written y; layout = y; slots = f.slots; lies = f.lies; sound = f.sound; plain = f.plain }
 
 -- ---- what decides ----
 
@@ -41,77 +43,82 @@ reads : (ps : List Named) → gate_reads ps ≡ journals.gate_reads (pictures_of
 reads [] = refl
 reads (p ∷ ps) = shows p
 
-found_there : (k : Cut) (how : Option Picture) (later : List Picture) → k.crashed ≡ is_some how → pictures_of k.seen ≡ seen_by how later → is_found k ≡ is_there k.call how later
-unfolding is_found
-found_there k how later crashed seen =
-    λ i. journals.wrote_gate k.call (crashed i) && (reads k.seen ∙ ap journals.gate_reads seen) i
+module _ (y : Layout) (z : Slots) (p : Plain) (k : Cut) (s : State) (cut : IsCut y z p k s) where
+  shows_too : (calls : ℕ) → (wrote_gate calls k.call k.crashed && gate_reads k.seen) ≡ gate_shows calls k.call cut.how cut.later
+  shows_too calls = λ i. ((k.call == calls) || (cut.crashed i && (k.call + 1 == calls))) && (reads k.seen ∙ ap journals.gate_reads cut.seen) i
 
--- ---- with the op or without it ----
+  found_there : is_found k ≡ gate_shows (switching y cut.op + 4) k.call cut.how cut.later
+  unfolding is_found
+  found_there = shows_too (k.switching + 4) ∙ ap (λ n. gate_shows (n + 4) k.call cut.how cut.later) cut.switching_is
 
-plain_either : (b : Bool) (vs : List Record) (o : Op) (p q : Plain) → p ≡ state_after vs → q ≡ apply p o → (if b then q else p) ≡ state_after (if b then vs ++ Now o ∷ [] else vs)
-plain_either true vs o p q is more = more ∙ ap (λ r. apply r o) is ∙ sym (state-push vs (Now o))
-plain_either false vs o p q is more = is
+  switched_there : is_switched k ≡ (not (nat_le k.call (switching y cut.op)) || gate_shows (switching y cut.op) k.call cut.how cut.later)
+  unfolding is_switched
+  switched_there =
+      ap (λ b. not (nat_le k.call k.switching) || b) (shows_too k.switching)
+      ∙ ap (λ n. not (nat_le k.call n) || gate_shows n k.call cut.how cut.later) cut.switching_is
 
-version_either : (b : Bool) (vs : List Record) (o : Op) → IsCurrent vs → Follows vs o → IsCurrent (if b then vs ++ Now o ∷ [] else vs)
-version_either true vs o version next = current_then vs o version next
-version_either false vs o version next = version
+  abbrev layout_then : Layout
+  layout_then = layout_left y cut.op k.call cut.how cut.later
 
-length_either : (b : Bool) (vs : List Record) (o : Op) (m n : ℕ) → m ≡ place_behind vs + 1 → n ≡ m + record_length (op_length o) → (if b then n else m) ≡ place_behind (if b then vs ++ Now o ∷ [] else vs) + 1
-length_either true vs o m n is more = omega (arith, is, more, place_more vs (Now o))
-length_either false vs o m n is more = is
+  abbrev plain_then : Plain
+  plain_then = plain_left p y cut.op k.call cut.how cut.later
 
-formatted_either : (b : Bool) (vs : List Record) (o : Op) (p q : Plain) → (p.generation == 0) ≡ are_none vs → (q.generation == 0) ≡ false → ((if b then q else p).generation == 0) ≡ are_none (if b then vs ++ Now o ∷ [] else vs)
-formatted_either true vs o p q is more = more ∙ sym (some-push vs (Now o))
-formatted_either false vs o p q is more = is
+  -- ---- with the op, behind a switch, or as it was ----
 
-module _ (vs : List Record) (x : Node) (version : IsCurrent vs) (plain : x.plain ≡ state_after vs) (length_is : x.length ≡ place_behind vs + 1) (formatted : (x.plain.generation == 0) ≡ are_none vs) where
-  finds_cut : (k : Cut) (s : State) → IsCut vs x.plain x.length k s → Finds s.bytes (found x (Some k)) (found_length x (Some k))
-  finds_cut k s cut =
-      let there = found_there k cut.how cut.later cut.crashed cut.seen in
-      let b = is_there k.call cut.how cut.later in
-      let journal = cut_ops vs (Now cut.op) cut.whole.bytes (place_behind vs) cut.whole.journal (may_follow vs cut.op version cut.next) refl k.call cut.how cut.later cut.before cut.whole.safe cut.told cut.call in
-      subst (λ c. Finds s.bytes (if c then k.plain else x.plain) (if c then k.length else x.length)) (sym there)
-      (record {
-        read = if b then vs ++ Now cut.op ∷ [] else vs;
-        version = version_either b vs cut.op version cut.next;
-        journal = subst (λ l. IsJournalOf (if b then vs ++ Now cut.op ∷ [] else vs) l) (ap (λ t. t.bytes) (sym cut.state)) journal;
-        plain_is = plain_either b vs cut.op x.plain k.plain plain cut.plain_is;
-        length_is = length_either b vs cut.op x.length k.length length_is cut.length_is;
-        formatted = formatted_either b vs cut.op x.plain k.plain formatted cut.formatted;
+  chosen : (P : Plain → Layout → Type 0) (a b : Bool) → P (apply p cut.op) (kept_in y cut.op) → P p (laid_for y cut.op 0) → P p y
+      → P (if a then apply p cut.op else p) (if a then kept_in y cut.op else (if b then laid_for y cut.op 0 else y))
+  chosen P true b kept laid old = kept
+  chosen P false true kept laid old = laid
+  chosen P false false kept laid old = old
+
+  choose : (P : Plain → Layout → Type 0) → P (apply p cut.op) (kept_in y cut.op) → P p (laid_for y cut.op 0) → P p y → P plain_then layout_then
+  choose P kept laid old = chosen P (gate_shows (switching y cut.op + 4) k.call cut.how cut.later) (not (nat_le k.call (switching y cut.op)) || gate_shows (switching y cut.op) k.call cut.how cut.later) kept laid old
+
+  finds_left : (p.generation == 0) ≡ (y.ops == 0) → Finds s.bytes plain_then layout_then
+  finds_left formatted =
+      let w = cut.whole in
+      let left = decided y z cut.before.state.bytes cut.op w.lies w.sound cut.next k.call cut.how cut.later cut.before w.safe cut.told (subst (λ n. k.call ≤ n + 4) cut.switching_is cut.call) in
+      subst (λ t. Finds t.bytes plain_then layout_then) (sym cut.state) (record {
+        slots = left.0;
+        lies = left.1.lies;
+        sound = choose (λ q l. IsSound l) (sound_kept y cut.op w.sound cut.next) (laid_sound y cut.op w.sound cut.next) w.sound;
+        plain = ap (λ q. plain_left q y cut.op k.call cut.how cut.later) w.plain ∙ sym left.1.plain;
+        formatted = choose (λ q l. (q.generation == 0) ≡ (l.ops == 0)) (ap (λ q. q.generation == 0) (sym cut.plain) ∙ cut.formatted ∙ sym (kept_ops y cut.op (slots_with y z (op_length cut.op)) (all_made (op_row y z cut.op) cut.before.state).bytes (made_whole y z p cut.op cut.before.state cut.next w).lies))
+            (formatted ∙ sym (laid_ops y cut.op)) formatted;
       })
 
-  finds_rest : (cut : Option Cut) (s : State) → Rests vs x.plain x.length cut s → Finds s.bytes (found x cut) (found_length x cut)
-  finds_rest None s whole = record {
-    read = vs;
-    version = version;
-    journal = subst (λ l. IsJournalOf vs l) (ap (λ t. t.bytes) (sym whole.safe)) whole.journal;
-    plain_is = plain;
-    length_is = length_is;
-    formatted = formatted;
-  }
-  finds_rest (Some k) s cut = finds_cut k s cut
+module _ (x : Node) (z : Slots) (formatted : (x.plain.generation == 0) ≡ (x.layout.ops == 0)) where
+  finds_rest : (cut : Option Cut) (s : State) → Rests x.layout z x.plain cut s → Finds s.bytes (found x cut) (found_layout x cut)
+  finds_rest None s whole = record { slots = z; lies = whole.lies; sound = whole.sound; plain = whole.plain; formatted = formatted }
+  finds_rest (Some k) s cut =
+      let there = found_there x.layout z x.plain k s cut in
+      let switched = switched_there x.layout z x.plain k s cut in
+      let plain : found x (Some k) ≡ plain_left x.plain x.layout cut.op k.call cut.how cut.later = λ i. if there i then cut.plain i else x.plain in
+      let layout : found_layout x (Some k) ≡ layout_left x.layout cut.op k.call cut.how cut.later = λ i. if there i then cut.layout i else (if switched i then cut.switched i else x.layout) in
+      subst (λ q. Finds s.bytes q (found_layout x (Some k))) (sym plain) (subst (λ l. Finds s.bytes (plain_left x.plain x.layout cut.op k.call cut.how cut.later) l) (sym layout) (finds_left x.layout z x.plain k s cut formatted))
 
-pub finds : (p : DiskPlain) (x : Node) → Lies p x → Finds p.state.bytes (found x x.cut) (found_length x x.cut)
-finds p x lies = finds_rest lies.found x lies.version lies.plain lies.length lies.formatted x.cut p.state lies.rests
+pub finds : (p : DiskPlain) (x : Node) → Lies p x → Finds p.state.bytes (found x x.cut) (found_layout x x.cut)
+finds p x lies = finds_rest x lies.slots lies.formatted x.cut p.state lies.rests
 
 -- ---- after the load ----
 
 abbrev pub one_sync : List Call
 one_sync = None ∷ []
 
-unfoldable pub loaded_lies : (p : DiskPlain) (x : Node) → Lies p x → AllMade one_sync x.fault p → (q : DiskPlain) → q ≡ after_call None p → Lies q (loaded_by x Made)
-loaded_lies p x lies made q is =
-    let f = finds p x lies in
-    let one = after_one None p in
-    record {
-      found = f.read;
-      version = f.version;
-      plain = f.plain_is;
-      length = f.length_is;
-      formatted = f.formatted;
-      rests = record { bytes = p.state.bytes; journal = f.journal; safe = ap (λ r. r.state) (is ∙ sym one) ∙ made.state };
-      armed = subst (λ r. IsArmed (loaded_by x Made).fault r) (one ∙ sym is) made.armed;
-    }
+module _ (p : DiskPlain) (x : Node) (lies : Lies p x) (made : AllMade one_sync x.fault p) (q : DiskPlain) (is : q ≡ after_call None p) where
+  pub synced_is : q.state ≡ state_of p.state.bytes [] p.state.bytes
+  synced_is = ap (λ r. r.state) (is ∙ sym (after_one None p)) ∙ made.state
+
+  -- with any slots that these bytes have
+  unfoldable pub loaded_lies : (z : Slots) → LiesAs (written (found_layout x x.cut)) (found_layout x x.cut) z p.state.bytes → Lies q (loaded_by x Made)
+  loaded_lies z there =
+      let f = finds p x lies in
+      record {
+        slots = z;
+        formatted = f.formatted;
+        rests = subst (λ t. IsWhole (found_layout x x.cut) z (found x x.cut) t) (sym synced_is) (record { lies = there; sound = f.sound; plain = f.plain; safe = refl });
+        armed = subst (λ r. IsArmed (loaded_by x Made).fault r) (after_one None p ∙ sym is) made.armed;
+      }
 
 -- ---- a load that stops ----
 
@@ -119,11 +126,11 @@ seen_later : (how : Option Picture) (picture : Picture) (later seen : List Pictu
 seen_later None picture later seen is = ap (λ l. picture ∷ l) is
 seen_later (Some first) picture later seen is = ap (λ l. picture ∷ l) is
 
-crashed_whole : (vs : List Record) (s : State) (picture : Picture) → IsWhole vs s → IsWhole vs (synced (Some picture) s)
-crashed_whole vs s picture whole = record { bytes = whole.bytes; journal = whole.journal; safe = ap (λ t. synced (Some picture) t) whole.safe }
-
-crashed_cut : (vs : List Record) (plain : Plain) (length : ℕ) (k : Cut) (s : State) (p : Named) → IsCut vs plain length k s → IsCut vs plain length (record k { seen = p ∷ k.seen }) (synced (Some (picture_of p)) s)
-crashed_cut vs plain length k s p cut = record {
+crashed_rests : (y : Layout) (z : Slots) (plain : Plain) (cut : Option Cut) (s : State) (p : Named) → Rests y z plain cut s → Rests y z plain (seen_too p cut) (synced (Some (picture_of p)) s)
+crashed_rests y z plain None s p w =
+    let same : synced (Some (picture_of p)) s ≡ s = ap (λ t. synced (Some (picture_of p)) t) w.safe ∙ sym w.safe in
+    subst (λ t. IsWhole y z plain t) (sym same) w
+crashed_rests y z plain (Some k) s p cut = record {
   op = cut.op;
   next = cut.next;
   before = cut.before;
@@ -133,35 +140,30 @@ crashed_cut vs plain length k s p cut = record {
   told = cut.told;
   call = cut.call;
   state = ap (λ t. synced (Some (picture_of p)) t) cut.state;
-  plain_is = cut.plain_is;
+  plain = cut.plain;
   formatted = cut.formatted;
-  length_is = cut.length_is;
+  switched = cut.switched;
+  layout = cut.layout;
+  switching_is = cut.switching_is;
   crashed = cut.crashed;
   seen = seen_later cut.how (picture_of p) cut.later (pictures_of k.seen) cut.seen;
 }
-
-crashed_rests : (vs : List Record) (plain : Plain) (length : ℕ) (cut : Option Cut) (s : State) (p : Named) → Rests vs plain length cut s → Rests vs plain length (seen_too p cut) (synced (Some (picture_of p)) s)
-crashed_rests vs plain length None s p whole = crashed_whole vs s (picture_of p) whole
-crashed_rests vs plain length (Some k) s p cut = crashed_cut vs plain length k s p cut
 
 -- with the picture of a crash, where there was one
 abbrev pub cut_then : Option Named → Option Cut → Option Cut
 cut_then None cut = cut
 cut_then (Some p) cut = seen_too p cut
 
-stopped_rests : (vs : List Record) (plain : Plain) (length : ℕ) (cut : Option Cut) (s : State) (crash : Option Named) → Rests vs plain length cut s → Rests vs plain length (cut_then crash cut) (stopped_sync (crash_of crash) s)
-stopped_rests vs plain length cut s None rests = rests
-stopped_rests vs plain length cut s (Some p) rests = crashed_rests vs plain length cut s p rests
+stopped_rests : (y : Layout) (z : Slots) (plain : Plain) (cut : Option Cut) (s : State) (crash : Option Named) → Rests y z plain cut s → Rests y z plain (cut_then crash cut) (stopped_sync (crash_of crash) s)
+stopped_rests y z plain cut s None rests = rests
+stopped_rests y z plain cut s (Some p) rests = crashed_rests y z plain cut s p rests
 
 pub stopped_lies : (p : DiskPlain) (x : Node) → Lies p x → (stops : Stops one_sync x.fault p) (q : DiskPlain) (status : Status) → q.state ≡ (after_call None p).state → q.armed ≡ None → q.crashed ≡ false
     → Lies q (record x { status = status; fault = None; cut = cut_then stops.crash x.cut })
 stopped_lies p x lies stops q status state armed stands = record {
-  found = lies.found;
-  version = lies.version;
-  plain = lies.plain;
-  length = lies.length;
+  slots = lies.slots;
   formatted = lies.formatted;
-  rests = subst (λ s. Rests lies.found x.plain x.length (cut_then stops.crash x.cut) s) (sym (state ∙ sync_stops stops.left (crash_of stops.crash) p stops.told stops.most))
-      (stopped_rests lies.found x.plain x.length x.cut p.state stops.crash lies.rests);
+  rests = subst (λ s. Rests x.layout lies.slots x.plain (cut_then stops.crash x.cut) s) (sym (state ∙ sync_stops stops.left (crash_of stops.crash) p stops.told stops.most))
+      (stopped_rests x.layout lies.slots x.plain x.cut p.state stops.crash lies.rests);
   armed = record { stands = stands; told = armed; counts = tt };
 }

@@ -1,23 +1,25 @@
 -- How a load of a host ends.
-use Rattle.std.proofs.Common.{◌≡◌, ◌≢◌, ◌⊎◌, ◌↔◌, ⊎_elim, ◌==◌, ℕ, List, [], ◌∷◌, Bool, true, false, Option, None, Some, is_some, Result, Ok, Err, IfOk, if◌then◌else◌, refl, sym, ◌∙◌, ap, subst, true≢false}
+use Rattle.std.proofs.Common.{◌≡◌, ◌≢◌, ◌⊎◌, ◌↔◌, ⊎_elim, ◌==◌, ℕ, [], Bool, true, false, Option, None, Some, is_some, Result, Ok, Err, IfOk, if◌then◌else◌, refl, sym, ◌∙◌, ap, subst, true≢false}
 use Rattle.ld_ids.specs.declared.memory.NoMemory.{NoMemory}
 use Rattle.ld_schedule.specs.declared.event.Picture.{Picture as Named}
 use Rattle.ld_disk.specs.Memory.{disk_plain}
 use Rattle.ld_disk.specs.Plain.{Plain as DiskPlain, after_call, after_calls, succeeds, restarted}
 use Rattle.ld_disk.specs.declared.disk.Disk.{Ghosts}
 use Rattle.ld_disk.specs.declared.memory.MemDisk.{MemDisk}
-use Rattle.ld_op.specs.declared.record.Record.{Record}
 use Rattle.ld_op.specs.Plain.{unformatted}
-use Rattle.ld_store.specs.Ops.{state_after, are_none, marked, IsOfFirst, HasNoRoom, IsDamaged}
-use Rattle.ld_store.proofs.Readings.{one_list, not_damaged}
+use Rattle.ld_segment.specs.Lies.{LiesAs, StandsFor, written}
+use Rattle.ld_segment.proofs.Before.{before}
+use Rattle.ld_segment.proofs.OneLayout.{one_way}
+use Rattle.ld_segment.proofs.OneState.{one_state}
+use Rattle.ld_store.specs.Ops.{IfStands, IsOfFirst, HasNoRoom, IsDamaged}
 use Rattle.ld_register.specs.declared.fault.RegisterFault.{RegisterFault}
-use Rattle.ld_node.specs.Node.{id_of, known_of, released_of, disk_of, is_blank, Holds, IsOpened}
+use Rattle.ld_node.specs.Node.{id_of, known_of, released_of, disk_of, layout_of, slots_of, is_blank, Holds, IsOpened}
 use Rattle.ld_node.specs.Known.{known_in}
 use Rattle.ld_node.specs.declared.node.Node.{Node as Running}
 use Rattle.ld_node.specs.declared.fault.NodeFault.{NodeFault}
 use Rattle.ld_node.specs.declared.fault.NodeFault.TheVariants as faults
 use Rattle.ld_config.specs.declared.config.Config.{Config}
-use Rattle.ld_machine.specs.Disk.{Node, Blank, Up, Down, Failed, Written, Made, load, load_end, loaded_by, found, fate_by, kept_end}
+use Rattle.ld_machine.specs.Disk.{Node, Blank, Up, Down, Failed, Written, Made, load, load_end, loaded_by, found, found_layout, fate_by, kept_end}
 use Rattle.ld_machine.specs.Step.{is_written}
 use Rattle.ld_host.specs.declared.kept.Kept.{Kept as HostKept}
 use Rattle.ld_host.specs.declared.kept.Kept.TheVariants as ends
@@ -29,8 +31,8 @@ use Rattle.ld_host.specs.Lies.{Lies}
 use Rattle.ld_host.specs.Stands.{Runs, IsBlank, IsFresh, StandsAs, seen_in, leaves_of}
 use Rattle.ld_host.specs.Done.{shown_kept}
 use Rattle.ld_host.proofs.Fates.{AllMade, Stops, fates, after_one, succeeds_one}
-use Rattle.ld_host.proofs.Versions.{not_of_first, unmarked}
-use Rattle.ld_host.proofs.Loading.{finds, one_sync, loaded_lies, stopped_lies, cut_then}
+use Rattle.ld_host.proofs.Versions.{not_of_first}
+use Rattle.ld_host.proofs.Loading.{finds, stands_for, one_sync, synced_is, loaded_lies, stopped_lies, cut_then}
 use Rattle.ld_host.proofs.Ending.{failed_stands, down_stands}
 
 -- what is known of a call that was refused, by its clauses
@@ -43,10 +45,6 @@ pub if_refused : (r : Result (State × HostKept) NoMemory) (fault : NodeFault) (
 if_refused (Err e) fault q P full failed crashed memory each = tt
 if_refused (Ok done) fault q P full failed crashed memory each = each done (record { full = full; failed = failed; crashed = crashed; memory = memory })
 
-none_are : (vs : List Record) → are_none vs ≡ true → vs ≡ []
-none_are [] is = refl
-none_are (v ∷ vs) is = absurd (true≢false (sym is))
-
 pub some_is : {A : Type 0} (a b : A) → Some a ≡ Some b → a ≡ b
 some_is a b is = cc
 
@@ -58,30 +56,44 @@ module _ (c : Config) (n : ℕ) (p : DiskPlain) (x : Node) (lies : Lies p x) whe
   made_all : succeeds p ≡ true → AllMade one_sync x.fault p
   made_all works = ⊎_elim (λ made. made) (λ stops. absurd (true≢false (sym works ∙ (sym (succeeds_one None p) ∙ stops.succeed)))) (fates one_sync x.fault p lies.armed)
 
+  -- the bytes stand for what is found
+  pub stands_found : StandsFor (found x x.cut) p.state.bytes
+  stands_found = stands_for p.state.bytes (found x x.cut) (found_layout x x.cut) (finds p x lies)
+
   -- its journal isn't of the first version
   pub no_first : IsOfFirst p.state.bytes → ⊥
-  no_first first = let f = finds p x lies in not_of_first f.read p.state.bytes f.version f.journal first
+  no_first first = let f = finds p x lies in not_of_first (found_layout x x.cut) f.slots p.state.bytes f.lies f.sound first
 
   -- ---- it comes up ----
 
   module _ {g : Ghosts MemDisk} (node : Running MemDisk g) (opened : IsOpened seen_in leaves_of node p.state.bytes) (disk : disk_plain (disk_of node) ≡ after_call None p) (works : succeeds p ≡ true) where
-    -- what the load found is what lies there, and it marked nothing
-    holds_now : Holds seen_in leaves_of node (finds p x lies).read
-    holds_now =
+    -- what the load found is what lies there
+    holds_now : Holds seen_in leaves_of node
+    holds_now = opened.holds (found x x.cut) stands_found
+
+    bytes_now : holds_now.bytes ≡ p.state.bytes
+    bytes_now =
+        some_is holds_now.bytes (disk_plain (disk_of node)).state.bytes (sym holds_now.rests.bytes_are)
+        ∙ ap (λ s. s.bytes) (synced_is p x lies (made_all works) (disk_plain (disk_of node)) disk)
+
+    lies_here : LiesAs (written (layout_of node)) (layout_of node) (slots_of node) p.state.bytes
+    lies_here = subst (λ l. LiesAs (written (layout_of node)) (layout_of node) (slots_of node) l) bytes_now holds_now.lies
+
+    laid_now : layout_of node ≡ found_layout x x.cut
+    laid_now =
         let f = finds p x lies in
-        let same : marked opened.found ≡ f.read = ap marked (sym (one_list f.read opened.found p.state.bytes f.journal opened.journal)) ∙ unmarked f.read f.version in
-        subst (λ vs. Holds seen_in leaves_of node vs) same opened.holds
+        (one_way (written (layout_of node)) (written (found_layout x x.cut)) (layout_of node) (found_layout x x.cut) (slots_of node) f.slots p.state.bytes lies_here holds_now.sound f.lies f.sound).1
 
     formatted_is : ((found x x.cut).generation == 0) ≡ is_blank node
-    formatted_is = (finds p x lies).formatted ∙ sym holds_now.blank
+    formatted_is = (finds p x lies).formatted ∙ ap (λ y. y.ops == 0) (sym laid_now) ∙ sym holds_now.blank
 
     abbrev lies_now : Lies (disk_plain (disk_of node)) (loaded_by x Made)
-    lies_now = loaded_lies p x lies (made_all works) (disk_plain (disk_of node)) disk
+    lies_now = loaded_lies p x lies (made_all works) (disk_plain (disk_of node)) disk (slots_of node) (subst (λ y. LiesAs (written y) y (slots_of node) p.state.bytes) laid_now lies_here)
 
     blank_now : is_blank node ≡ true → (m : MemDisk) → m ≡ disk_of node → IsBlank m (loaded_by x Made)
     blank_now blank m same = record {
       status = ap (λ b. if b then Blank else Up) (formatted_is ∙ blank);
-      plain = (finds p x lies).plain_is ∙ ap state_after (none_are (finds p x lies).read (sym holds_now.blank ∙ blank));
+      plain = one_state (found x x.cut) unformatted p.state.bytes stands_found (before [] p.state.bytes (opened.blank blank));
       cut = refl;
       lies = subst (λ m. Lies (disk_plain m) (loaded_by x Made)) (sym same) lies_now;
     }
@@ -94,7 +106,7 @@ module _ (c : Config) (n : ℕ) (p : DiskPlain) (x : Node) (lies : Lies p x) whe
     unfolding loaded_lies
     fresh_now id known released blank =
         let b = blank_now blank (disk_of node) refl in
-        record { id = id; known = known; released = released; blank = blank; status = b.status; plain = b.plain; cut = refl; lies = lies_now; holds = holds_now }
+        record { id = id; known = known; released = released; blank = blank; status = b.status; plain = b.plain; cut = refl; laid = laid_now; lies = lies_now; slots = refl; holds = holds_now }
 
     pub fresh : id_of node ≡ n → known_of node ≡ known_in c → released_of node ≡ [] → is_blank node ≡ true → IsFresh c n node (load x) × (load_end x ≡ Written)
     fresh id known released blank =
@@ -116,7 +128,9 @@ module _ (c : Config) (n : ℕ) (p : DiskPlain) (x : Node) (lies : Lies p x) whe
       known = known;
       released = released;
       cut = refl;
+      laid = laid_now;
       lies = lies_now;
+      slots = refl;
       holds = holds_now;
     }
 
@@ -178,7 +192,7 @@ module _ (c : Config) (n : ℕ) (p : DiskPlain) (x : Node) (lies : Lies p x) whe
   pub record NotLoaded (fault : NodeFault) (q : DiskPlain) : Type 0 where
     pub exact : ((fault ≡ faults.NoMemory) × ((Some q ≡ Some p) ⊎ (Some q ≡ Some (after_call None p)))) ⊎ ((Some q ≡ Some (after_call None p)) × ((fault ≡ faults.Disk) ↔ (succeeds p ≡ false)))
     pub damaged : (place : ℕ) → fault ≡ faults.Damaged place → IsDamaged place p.state.bytes
-    pub full : fault ≡ faults.Full → HasNoRoom p.state.bytes
+    pub full : fault ≡ faults.Full → IfStands HasNoRoom p.state.bytes
     pub loaded : fault ≢ faults.NeedsLoad
     pub register : (f : RegisterFault) → fault ≢ faults.Register f
 
@@ -190,8 +204,8 @@ module _ (c : Config) (n : ℕ) (p : DiskPlain) (x : Node) (lies : Lies p x) whe
       (λ is. absurd (no_memory is.0))
       (λ exact. falls_made q done (some_is q (after_call None p) exact.0) (exact.1.0 refl) refuses)
       not.exact
-  falls (faults.Damaged place) q done not refuses = let f = finds p x lies in absurd (not_damaged f.read p.state.bytes place f.journal (not.damaged place refl))
-  falls faults.Full q done not refuses = absurd (no_first (not.full refl).was)
+  falls (faults.Damaged place) q done not refuses = absurd ((not.damaged place refl).none (found x x.cut) stands_found)
+  falls faults.Full q done not refuses = absurd (no_first (not.full refl (found x x.cut) stands_found).was)
   falls faults.NeedsLoad q done not refuses = absurd (not.loaded refl)
   falls (faults.Register f) q done not refuses = absurd (not.register f refl)
   falls faults.NoMemory q done not refuses = absurd (refuses.memory refl)

@@ -18,6 +18,7 @@ use Rattle.ld_machine.specs.Disk.{Node, new_node, is_up}
 use Rattle.ld_host.specs.Stands.{Runs}
 use Rattle.ld_host.specs.Done.{can_replace, replaced, after_replace}
 use Rattle.ld_host.proofs.Logs.{logs_known}
+use Rattle.ld_host.proofs.Running.{plain_here}
 
 pub no_refusal : (fault : NodeFault) (refusal : RegisterFault) → fault ≡ faults.NoMemory → fault ≡ faults.Register refusal → ⊥
 no_refusal fault refusal memory named = absurd cc
@@ -42,7 +43,7 @@ module _ (c : Config) (n : ℕ) (x : Node) (l other : ℕ) (new : x ≡ new_node
 
 module _ {g : Ghosts MemDisk} (c : Config) (n : ℕ) (node : Running MemDisk g) (x : Node) (l other : ℕ) (runs : Runs c n node x) where
   plain_is : plain_of node ≡ x.plain
-  plain_is = runs.holds.state ∙ sym runs.lies.plain
+  plain_is = plain_here c n node x runs
 
   up_and : (b : Bool) → b ≡ (is_up x.status && b)
   up_and b = ap (λ s. is_up s && b) (sym runs.status)

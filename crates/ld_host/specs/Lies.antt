@@ -1,63 +1,50 @@
--- What lies on a disk while no call of it is made: a node's plain state, or a record that was cut short behind it. Its journal is of the second version, as a host writes no other.
-use Rattle.std.specs.Prelude.{◌≡◌, ◌≤◌, ◌+◌, ◌==◌, ℕ, List, false, Option, None, Some, is_some}
+-- What lies on a disk while no call of it is made: a node's journal, or one with a record that was cut short behind it. The journal is of the second version, as a host writes no other.
+use Rattle.std.specs.Prelude.{◌≡◌, ◌≤◌, ◌+◌, ◌==◌, List, false, Option, None, Some, is_some}
 use Rattle.ld_disk.specs.Record.{State}
 use Rattle.ld_disk.specs.Plain.{Plain as DiskPlain, IsTold, after_calls}
 use Rattle.ld_disk.specs.declared.disk.Picture.{Picture}
-use Rattle.ld_journal.specs.Format.{append_calls}
 use Rattle.ld_journal.specs.Pictures.{IsSafe, crashed_by, seen_by}
-use Rattle.ld_msg.specs.Register.{record_length}
 use Rattle.ld_op.specs.declared.op.Op.{Op}
-use Rattle.ld_op.specs.declared.record.Record.{Record}
-use Rattle.ld_op.specs.Plain.{Plain, apply, op_length}
-use Rattle.ld_op.specs.Records.{is_format}
-use Rattle.ld_op.specs.Bounds.{IsOp}
-use Rattle.ld_op.specs.Bytes.{op_bytes}
-use Rattle.ld_store.specs.Ops.{state_after, place_behind, are_none, version_of, current, IsJournalOf}
+use Rattle.ld_op.specs.Plain.{Plain, apply}
+use Rattle.ld_op.specs.Cells.{read_plain}
+use Rattle.ld_layout.specs.Layout.{Layout, laid_for, kept_in}
+use Rattle.ld_segment.specs.Lies.{Slots, LiesAs, IsSound, MayKeep, written, op_row, switching}
 use Rattle.ld_machine.specs.Disk.{Node, Cut}
 use Rattle.ld_host.specs.Faults.{pictures_of, IsArmed}
 
--- no record stands there, or they are of the second version
-abbrev pub IsCurrent : List Record → Type 0
-IsCurrent vs = version_of vs ≡ Some (current (are_none vs))
+-- all that is read is safe, lies as the layout says, with these slots, and stands for this plain state
+pub record IsWhole (y : Layout) (z : Slots) (p : Plain) (s : State) : Type 0 where
+  pub lies : LiesAs (written y) y z s.bytes
+  pub sound : IsSound y
+  pub plain : p ≡ read_plain s.bytes y.index
+  pub safe : IsSafe s.bytes s
 
--- an op that may be kept behind these: the first is a format, and no other is
-pub record Follows (vs : List Record) (o : Op) : Type 0 where
-  pub op : IsOp o
-  pub format : is_format o ≡ are_none vs
-
--- all that is read is safe, and a journal of these records
-pub record IsWhole (vs : List Record) (s : State) : Type 0 where
-  pub bytes : List ℕ
-  pub journal : IsJournalOf vs bytes
-  pub safe : IsSafe bytes s
-
--- behind these records, which add up to this plain state, one of the four writing calls of a further op's record failed, or the disk crashed in it; and since then it crashed in some syncs
-pub record IsCut (vs : List Record) (plain : Plain) (length : ℕ) (k : Cut) (s : State) : Type 0 where
+-- one of the writing calls of a further op's record, or of the switch before it, failed, or the disk crashed in it; and since then it crashed in some syncs
+pub record IsCut (y : Layout) (z : Slots) (p : Plain) (k : Cut) (s : State) : Type 0 where
   pub op : Op
-  pub next : Follows vs op
+  pub next : MayKeep y op
   pub before : DiskPlain
-  pub whole : IsWhole vs before.state
+  pub whole : IsWhole y z p before.state
   pub how : Option Picture
   pub later : List Picture
   pub told : IsTold k.call how before
-  pub call : k.call ≤ 4
-  pub state : s ≡ crashed_by later (after_calls (append_calls (place_behind vs) (op_bytes op)) before).state
-  pub plain_is : k.plain ≡ apply plain op
+  pub call : k.call ≤ k.switching + 4
+  pub state : s ≡ crashed_by later (after_calls (op_row y z op) before).state
+  pub plain : k.plain ≡ apply p op
   pub formatted : (k.plain.generation == 0) ≡ false
-  pub length_is : k.length ≡ length + record_length (op_length op)
+  pub switched : k.switched ≡ laid_for y op 0
+  pub layout : k.layout ≡ kept_in y op
+  pub switching_is : k.switching ≡ switching y op
   pub crashed : k.crashed ≡ is_some how
   pub seen : pictures_of k.seen ≡ seen_by how later
 
-abbrev pub Rests : List Record → Plain → ℕ → Option Cut → State → Type 0
-Rests vs plain length None s = IsWhole vs s
-Rests vs plain length (Some k) s = IsCut vs plain length k s
+abbrev pub Rests : Layout → Slots → Plain → Option Cut → State → Type 0
+Rests y z p None s = IsWhole y z p s
+Rests y z p (Some k) s = IsCut y z p k s
 
 -- the disk has what the machine's node has
 pub record Lies (p : DiskPlain) (x : Node) : Type 0 where
-  pub found : List Record
-  pub version : IsCurrent found
-  pub plain : x.plain ≡ state_after found
-  pub length : x.length ≡ place_behind found + 1
-  pub formatted : (x.plain.generation == 0) ≡ are_none found
-  pub rests : Rests found x.plain x.length x.cut p.state
+  pub slots : Slots
+  pub formatted : (x.plain.generation == 0) ≡ (x.layout.ops == 0)
+  pub rests : Rests x.layout slots x.plain x.cut p.state
   pub armed : IsArmed x.fault p

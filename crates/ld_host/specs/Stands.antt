@@ -5,8 +5,8 @@ use Rattle.ld_disk.specs.Record.{leaves}
 use Rattle.ld_disk.specs.declared.disk.Disk.{Ghosts}
 use Rattle.ld_disk.specs.declared.memory.MemDisk.{MemDisk}
 use Rattle.ld_op.specs.Plain.{Plain, unformatted}
-use Rattle.ld_store.specs.Ops.{StandsFor}
-use Rattle.ld_node.specs.Node.{id_of, known_of, released_of, disk_of, is_blank, Holds}
+use Rattle.ld_segment.specs.Lies.{StandsFor}
+use Rattle.ld_node.specs.Node.{id_of, known_of, released_of, disk_of, layout_of, slots_of, is_blank, Holds}
 use Rattle.ld_node.specs.Known.{known_in}
 use Rattle.ld_node.specs.declared.node.Node.{Node as Running}
 use Rattle.ld_config.specs.declared.config.Config.{Config}
@@ -26,15 +26,17 @@ abbrev pub leaves_of : MemDisk → List ℕ → Type 0
 leaves_of m c = leaves (disk_plain m).state c
 
 module _ {g : Ghosts MemDisk} where
-  -- a node runs: its store holds the records that lie on its disk
+  -- a node runs: its store holds what lies on its disk
   pub record Runs (c : Config) (n : ℕ) (node : Running MemDisk g) (x : Node) : Type 0 where
     pub status : x.status ≡ Up
     pub id : id_of node ≡ n
     pub known : known_of node ≡ known_in c
     pub released : released_of node ≡ x.released
     pub cut : x.cut ≡ None
+    pub laid : layout_of node ≡ x.layout
     pub lies : Lies (disk_plain (disk_of node)) x
-    pub holds : Holds seen_in leaves_of node lies.found
+    pub slots : slots_of node ≡ lies.slots
+    pub holds : Holds seen_in leaves_of node
 
 -- a new store lies on the disk
 pub record IsBlank (m : MemDisk) (x : Node) : Type 0 where
@@ -53,8 +55,10 @@ module _ {g : Ghosts MemDisk} where
     pub status : y.status ≡ Blank
     pub plain : y.plain ≡ unformatted
     pub cut : y.cut ≡ None
+    pub laid : layout_of node ≡ y.layout
     pub lies : Lies (disk_plain (disk_of node)) y
-    pub holds : Holds seen_in leaves_of node lies.found
+    pub slots : slots_of node ≡ lies.slots
+    pub holds : Holds seen_in leaves_of node
 
 -- no node runs over the disk
 pub record IsStopped (status : Status) (m : MemDisk) (x : Node) : Type 0 where

@@ -70,6 +70,7 @@ impl Host {
     }
 
     /// Puts a new disk in, on which no node runs.
+    #[tactic(auto, using(crate::proofs::Stopping::new_blank))]
     pub fn wipe(&mut self)
         ensures { (c : Settings) (n : ℕ) (x : Node) → Stands c n self.old x → Stands c n self.new new_node }
     {

@@ -1,14 +1,15 @@
 // Hosts whose disks fail and crash, beside a register on a disk of its own.
 ghost use Rattle.std.specs.Prelude.{◌≡◌, ◌≤◌, IfOk};
-ghost use Rattle.ld_msg.specs.Bounds.{IsMessage, Fits};
+ghost use Rattle.ld_msg.specs.Bounds.{IsMessage, IsSummary, Fits};
 ghost use Rattle.ld_msg.specs.declared.msg.Who.TheVariants as whos;
+ghost use Rattle.ld_register.specs.Bounds.{IsSpec};
 
 use crate::{Formatted, Host, Hosts, Kept, Status};
 use ld_config::{Config, Specs};
 use ld_disk::MemDisk;
 use ld_ids::{LogId, NoMemory, NodeId, NodeSet, Payload, Spec};
 use ld_lsn::Lsn;
-use ld_msg::{Body, Msg, What, Who};
+use ld_msg::{Body, Msg, Summary, What, Who};
 use ld_register::{DiskRegister, Register};
 use ld_schedule::Picture;
 use std::alloc::Global;
@@ -306,20 +307,106 @@ fn stops(alloc: Global) -> Result<(Status, Status, Status), NoMemory> {
     stop_one(alloc, &mut hosts)
 }
 
-/// In how many epochs of log 1 node 1 takes the place of node 2, where it was never lost for the log; 9 where the register
-/// refuses.
+/// In how many epochs of log 1 node 1 takes the place of node 2; 9 where the register refuses.
+fn take_place<G: Register>(alloc: Global, hosts: &Hosts, reg: &mut G) -> Result<u32, NoMemory> {
+    let done = hosts.replace(alloc, node_of(1)?, log_of(1)?, node_of(2)?, reg)?;
+    Ok(done.unwrap_or(9))
+}
+
+/// The same for a node that was never lost for the log.
 fn replaces(alloc: Global) -> Result<u32, NoMemory> {
     let config = config(alloc)?;
     let mut reg = new_register(alloc)?;
     let mut hosts = Hosts::new(alloc, &config)?;
     let _ = hosts.format(alloc, node_of(1)?, &config, &mut reg)?;
-    let done = hosts.replace(alloc, node_of(1)?, log_of(1)?, node_of(2)?, &mut reg)?;
-    Ok(done.unwrap_or(9))
+    take_place(alloc, &hosts, &mut reg)
 }
 
 #[test]
 fn a_node_that_was_not_lost_takes_no_place(rt: HostRuntime) -> Result<(), Fail> {
     assert_eq!(rt; replaces(rt.alloc())?, 0);
+    Ok(())
+}
+
+/// Log 1 on node 2 alone.
+fn spec() -> Result<Spec, NoMemory>
+    ensures { IfOk result IsSpec }
+{
+    let log = log_of(1)?;
+    let set = NodeSet::empty().with(node_of(2)?);
+    if set.len() == 0 || log.number() == 0 {
+        return Err(NoMemory);
+    }
+    Ok(Spec {
+        log,
+        set,
+        r: 1,
+        extras: 0,
+    })
+}
+
+/// Of an epoch that was closed with nothing in it.
+fn empty_summary() -> Summary
+    ensures { IsSummary 1 result }
+{
+    Summary {
+        ballot: 2,
+        lng: 0,
+        trim: Lsn::from_u64(0),
+        end: 1,
+        loss: false,
+    }
+}
+
+/// Hands out epoch 1 of log 1, and closes it with nothing in it.
+fn close_empty<G: Register>(alloc: Global, reg: &mut G) -> Result<(), NoMemory> {
+    let spec = spec()?;
+    let Ok(_) = reg.activate(alloc, &spec) else {
+        return Err(NoMemory);
+    };
+    let Ok(_) = reg.close(alloc, log_of(1)?, 1, &empty_summary(), false) else {
+        return Err(NoMemory);
+    };
+    Ok(())
+}
+
+/// How a tick of log 1 ends at node 1, and in how many epochs it then takes the place of node 2.
+fn tick_and_take<G: Register>(
+    alloc: Global,
+    hosts: &mut Hosts,
+    reg: &mut G,
+) -> Result<(Kept, u32), NoMemory> {
+    let (kept, _) = hosts.tick(alloc, node_of(1)?, log_of(1)?, reg)?;
+    Ok((kept, take_place(alloc, hosts, reg)?))
+}
+
+/// Hosts of which node 1 is formatted behind an epoch that was closed, for which it is lost.
+fn lost_hosts<G: Register>(alloc: Global, reg: &mut G) -> Result<Hosts, NoMemory> {
+    let config = config(alloc)?;
+    let mut hosts = Hosts::new(alloc, &config)?;
+    let _ = hosts.format(alloc, node_of(1)?, &config, reg)?;
+    Ok(hosts)
+}
+
+#[test]
+fn a_node_takes_a_place_once_it_is_rebuilt(rt: HostRuntime) -> Result<(), Fail> {
+    let alloc = rt.alloc();
+    let mut reg = new_register(alloc)?;
+    close_empty(alloc, &mut reg)?;
+    let mut hosts = lost_hosts(alloc, &mut reg)?;
+    // The first tick cleans the epoch, and the second finds that nothing is missing.
+    assert_eq!(rt;
+        tick_and_take(alloc, &mut hosts, &mut reg)?,
+        (Kept::Written, 0)
+    );
+    assert_eq!(rt;
+        tick_and_take(alloc, &mut hosts, &mut reg)?,
+        (Kept::Written, 1)
+    );
+    assert_eq!(rt;
+        tick_and_take(alloc, &mut hosts, &mut reg)?,
+        (Kept::Written, 0)
+    );
     Ok(())
 }
 

@@ -23,7 +23,7 @@ use Rattle.ld_op.specs.Ticks.{on_page, page_op, refill_op, lacking, as_closed, i
 use Rattle.ld_op.specs.Handles.{handled_by}
 use Rattle.ld_node.specs.Changes.{IsChange}
 
-some_change : (o p : Op) → IsChange o → Some o ≡ Some p → IsChange p
+pub some_change : (o p : Op) → IsChange o → Some o ≡ Some p → IsChange p
 some_change o p is same = let e : o ≡ p = cc in subst (λ x. IsChange x) e is
 
 taken_change : (o p : Op) (d : answers.Decision) → IsChange o → taken o d ≡ Some p → IsChange p

@@ -1,8 +1,15 @@
+pub mod Told
+pub mod Lengths
+pub mod Compared
 pub mod Handles
+pub mod Either
+pub mod Calls
+pub mod Filled
 pub mod Loading
 pub mod Changes
 pub mod Quiet
 pub mod Looks
 pub mod Sends
+pub mod Keeping
 pub mod Draws
 pub mod Swaps

@@ -15,10 +15,12 @@ use Rattle.ld_op.specs.Plain.{Plain, Log, log_of}
 use Rattle.ld_op.specs.Ticks.{Nothing, tick_with, on_tick, lost_tick, refill_tick, refill_asks, asks_first, missing, lowest_unclean}
 use Rattle.ld_node_bounds.specs.States.{last_carried}
 use Rattle.ld_node_bounds.proofs.Ops.{summaries_are}
+use Rattle.ld_store.specs.Open.{told_plain}
 use Rattle.ld_store.specs.Well.{IsWell}
 use Rattle.ld_register.specs.Calls.{unarmed}
 use Rattle.ld_node.specs.Known.{Known}
 use Rattle.ld_node.specs.Looks.{AreClosed, seen, ticked, op_of, answer_of}
+use Rattle.ld_node.proofs.Told.{seen_told}
 use Rattle.ld_node.specs.declared.fault.NodeFault.{NodeFault}
 use Rattle.ld_node.specs.declared.tick.Ticked.{Ticked as Answer}
 use Rattle.ld_node.specs.declared.tick.Ticked.TheVariants as answers
@@ -33,15 +35,16 @@ pub ticked_nowhere : (known : Known) (p : Plain) (l : ℕ) (c : Register) → is
 unfolding ticked
 ticked_nowhere known p l c e = ap (λ b. if b then seen (log_of p l) c l else Nothing) e
 
-seen_of : (p q : Plain) (l : ℕ) (c : Register) → q ≡ p → seen (log_of q l) c l ≡ seen (log_of p l) c l
-seen_of p q l c e = ap (λ x. seen (log_of x l) c l) e
+seen_of : (told : Option (List ℕ)) (i q : Plain) (l : ℕ) (c : Register) → q ≡ i → seen (log_of q l) c l ≡ seen (log_of (told_plain told i) l) c l
+seen_of told i q l c same = ap (λ x. seen (log_of x l) c l) same ∙ seen_told told i l c
 
 -- the op that is kept is that of the definition
-pub op_is : (known : Known) (p q : Plain) (l : ℕ) (c : Register) (o : Option Op) → is_in l known.logs ≡ true → q ≡ p → o ≡ op_of l (seen (log_of q l) c l) → o ≡ op_of l (ticked known p l c)
-op_is known p q l c o here same is = is ∙ ap (op_of l) (seen_of p q l c same ∙ sym (ticked_here known p l c here))
+pub op_is : (known : Known) (told : Option (List ℕ)) (i q : Plain) (l : ℕ) (c : Register) (o : Option Op) → is_in l known.logs ≡ true → q ≡ i → o ≡ op_of l (seen (log_of q l) c l) → o ≡ op_of l (ticked known (told_plain told i) l c)
+op_is known told i q l c o here same is = is ∙ ap (op_of l) (seen_of told i q l c same ∙ sym (ticked_here known (told_plain told i) l c here))
 
-pub answer_is : (id : ℕ) (known : Known) (p q : Plain) (l : ℕ) (c : Register) (nodes : List ℕ) (a : Answer) → is_in l known.logs ≡ true → nodes ≡ known.nodes → q ≡ p → a ≡ answer_of id l nodes (seen (log_of q l) c l) → a ≡ answer_of id l known.nodes (ticked known p l c)
-answer_is id known p q l c nodes a here all same is = is ∙ (λ i. answer_of id l (all i) ((seen_of p q l c same ∙ sym (ticked_here known p l c here)) i))
+pub answer_is : (id : ℕ) (known : Known) (told : Option (List ℕ)) (i q : Plain) (l : ℕ) (c : Register) (nodes : List ℕ) (a : Answer) → is_in l known.logs ≡ true → nodes ≡ known.nodes → q ≡ i → a ≡ answer_of id l nodes (seen (log_of q l) c l)
+    → a ≡ answer_of id l known.nodes (ticked known (told_plain told i) l c)
+answer_is id known told i q l c nodes a here all same is = is ∙ (λ j. answer_of id l (all j) ((seen_of told i q l c same ∙ sym (ticked_here known (told_plain told i) l c here)) j))
 
 -- ---- a refusal that is passed on ----
 

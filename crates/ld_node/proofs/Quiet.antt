@@ -1,5 +1,5 @@
 -- A message that releases a number makes a node keep nothing.
-use Rattle.std.proofs.Common.{◌≡◌, ℕ, Bool, true, false, List, Option, Some, None, refl, if◌then◌else◌, Result, Ok, Err, OnErr}
+use Rattle.std.proofs.Common.{◌≡◌, ℕ, Bool, true, false, List, Option, Some, None, refl, if◌then◌else◌, Result, Ok, Err, OnOk, OnErr}
 use Rattle.ld_msg.specs.declared.msg.Msg.{Msg}
 use Rattle.ld_msg.specs.declared.msg.Body.{Body}
 use Rattle.ld_msg.specs.declared.msg.Body.TheVariants as bodies
@@ -24,7 +24,7 @@ release_keeps_none : (g : Log) (l y : ℕ) → (on_page g l (bodies.Release y)).
 unfolding on_page
 release_keeps_none g l y = none_either g.lost
 
-number_keeps_none : (id n : ℕ) (g : Log) (l bal r : ℕ) (b : Body) (y : ℕ) → number_in b ≡ Some y → (handled_by id n g l bal r b).op ≡ None
+pub number_keeps_none : (id n : ℕ) (g : Log) (l bal r : ℕ) (b : Body) (y : ℕ) → number_in b ≡ Some y → (handled_by id n g l bal r b).op ≡ None
 number_keeps_none id n g l bal r (bodies.Release z) y is = release_keeps_none g l z
 number_keeps_none id n g l bal r (bodies.Store s lng w) y is = absurd cc
 number_keeps_none id n g l bal r (bodies.Stored s) y is = absurd cc
@@ -47,6 +47,15 @@ where_for : (b : Bool) (h : Handled) (o : Option ℕ) (y : ℕ) → (o ≡ Some 
 where_for true h o y none is = none is
 where_for false h o y none is = absurd cc
 
+told_if : (b : Bool) (o : Option ℕ) (y : ℕ) → (if b then o else None) ≡ Some y → o ≡ Some y
+told_if true o y is = is
+told_if false o y is = absurd (cc is)
+
+-- a number that is released is one that the message tells
+pub told_number : (id : ℕ) (known : Known) (m : Msg) (y : ℕ) → released_by id known m ≡ Some y → number_in m.body ≡ Some y
+unfolding released_by
+told_number id known m y is = told_if (is_for id known m) (number_in m.body) y is
+
 pub releases_keep_none : (id : ℕ) (known : Known) (released : List (ℕ × ℕ)) (p : Plain) (m : Msg) (y : ℕ) → released_by id known m ≡ Some y → (handled id known released p m).op ≡ None
 unfolding handled released_by
 releases_keep_none id known released p m y is =
@@ -61,6 +70,10 @@ none_raised released l (Some y) none = absurd (none y refl)
 pub on_err : {T E : Type 0} (r : Result T E) (P : Type 0) → P → OnErr r P
 on_err (Ok v) P p = tt
 on_err (Err e) P p = p
+
+pub on_ok : {T E : Type 0} (r : Result T E) (P : Type 0) → P → OnOk r P
+on_ok (Ok v) P p = p
+on_ok (Err e) P p = tt
 
 pub changes_of : (op : Option Op) → ((o : Op) → op ≡ Some o → IsChange o) → AreChanges op
 changes_of None each = tt

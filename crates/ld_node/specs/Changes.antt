@@ -1,13 +1,11 @@
 -- Ops that a node may keep of a message.
-use Rattle.std.specs.Prelude.{◌≡◌, ◌<◌, ◌+◌, ◌^◌, ℕ, false, List, [], ◌∷◌, ◌++◌, Option, Some, None}
+use Rattle.std.specs.Prelude.{◌≡◌, true, false, List, [], Option, Some, None}
 use Rattle.ld_disk.specs.Plain.{Call}
-use Rattle.ld_journal.specs.Format.{append_calls}
 use Rattle.ld_op.specs.Plain.{Plain, apply, op_length}
-use Rattle.ld_op.specs.Bytes.{op_bytes}
 use Rattle.ld_op.specs.declared.op.Op.{Op}
-use Rattle.ld_op.specs.declared.record.Record.{Record}
-use Rattle.ld_op.specs.declared.record.Record.TheVariants.{Now}
 use Rattle.ld_op.specs.Bounds.{IsOp}
+use Rattle.ld_layout.specs.Layout.{Layout, kept_in, passes_limit}
+use Rattle.ld_segment.specs.Lies.{Slots, op_row, slots_with}
 use Rattle.ld_store.specs.Ops.{is_format}
 
 -- an op that a journal's body can carry, and no format
@@ -21,20 +19,25 @@ abbrev pub kept : Option Op → Plain → Plain
 kept None p = p
 kept (Some o) p = apply p o
 
--- the records with that of the op
-abbrev pub with_op : List Record → Option Op → List Record
-with_op vs None = vs
-with_op vs (Some o) = vs ++ Now o ∷ []
+-- how the journal lies then
+abbrev pub laid_with : Layout → Option Op → Layout
+laid_with y None = y
+laid_with y (Some o) = kept_in y o
 
--- the writing calls of its record at this place
-abbrev pub calls_of : ℕ → Option Op → List Call
-calls_of place None = []
-calls_of place (Some o) = append_calls place (op_bytes o)
+-- and the slots that tell its later segment
+abbrev pub slots_kept : Layout → Slots → Option Op → Slots
+slots_kept y z None = z
+slots_kept y z (Some o) = slots_with y z (op_length o)
 
--- its record would pass the journal's limit
-abbrev pub IsPast : ℕ → Option Op → Type 0
-IsPast place None = ⊥
-IsPast place (Some o) = 2 ^ 40 < place + op_length o + 6
+-- its writing calls, where the journal lies so
+abbrev pub calls_of : Layout → Slots → Option Op → List Call
+calls_of y z None = []
+calls_of y z (Some o) = op_row y z o
+
+-- its record, or the segment that it needs, would pass the journal's limit
+abbrev pub IsPast : Layout → Option Op → Type 0
+IsPast y None = ⊥
+IsPast y (Some o) = passes_limit y o ≡ true
 
 abbrev pub AreChanges : Option Op → Type 0
 AreChanges None = Unit {0}

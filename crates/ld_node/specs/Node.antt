@@ -1,8 +1,9 @@
 -- What a node is, as contracts see it.
 use Rattle.std.specs.Prelude.{ℕ, List, Option, Bool}
 use Rattle.ld_disk.specs.declared.disk.Disk.{Ghosts}
-use Rattle.ld_op.specs.declared.record.Record.{Record}
 use Rattle.ld_op.specs.Plain.{Plain}
+use Rattle.ld_layout.specs.Layout.{Layout}
+use Rattle.ld_segment.specs.Lies.{Slots}
 use Rattle.ld_store.specs.Open as stores
 use Rattle.ld_node.specs.Known.{Known}
 use Rattle.ld_node.specs.declared.node.Node.{Node}
@@ -23,9 +24,13 @@ module _ {D : Type 0} {g : Ghosts D} where
   abbrev pub disk_of : Node D g → D
   disk_of node = stores.disk_of node.store
 
-  -- the place of the gate behind the records of its journal
-  abbrev pub place_of : Node D g → ℕ
-  place_of node = stores.place_of node.store
+  -- how its journal lies on the disk
+  abbrev pub layout_of : Node D g → Layout
+  layout_of node = stores.layout_of node.store
+
+  -- the slots that tell its later segment, where there is one
+  abbrev pub slots_of : Node D g → Slots
+  slots_of node = stores.slots_of node.store
 
   -- an earlier call answered that the disk failed
   abbrev pub must_load : Node D g → Bool
@@ -35,14 +40,19 @@ module _ {D : Type 0} {g : Ghosts D} where
   abbrev pub is_blank : Node D g → Bool
   is_blank node = stores.is_blank node.store
 
+  -- its plain state in memory, with the places of its payloads
+  abbrev pub index_of : Node D g → Plain
+  index_of node = stores.index_of node.store
+
+  -- the plain state that it stands for on its disk
   abbrev pub plain_of : Node D g → Plain
   plain_of node = stores.plain_of node.store
 
 module _ {D : Type 0} {g : Ghosts D} (seen : D → Option (List ℕ)) (may_leave : D → List ℕ → Type 0) where
-  -- its store holds these records
-  abbrev pub Holds : Node D g → List Record → Type 0
-  Holds node found = stores.Holds seen may_leave node.store found
+  -- its store holds what the disk has
+  abbrev pub Holds : Node D g → Type 0
+  Holds node = stores.Holds seen may_leave node.store
 
-  -- it holds the records that these bytes are a journal of, and a mark behind those of the first version
+  -- where these bytes stand for a plain state, it holds that, with a mark behind a journal of the first version
   abbrev pub IsOpened : Node D g → List ℕ → Type 0
   IsOpened node bytes = stores.IsOpened seen may_leave node.store bytes

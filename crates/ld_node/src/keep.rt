@@ -1,13 +1,12 @@
 // Keeping an op, where a handler led to one.
-ghost use Rattle.std.specs.Prelude.{◌≡◌, ◌≢◌, ◌⊎◌, ◌↔◌, ◌≤◌, ℕ, List, OnOk, OnErr, IsErrOf, Ok, Err, None, Some, is_ok, true, false};
+ghost use Rattle.std.specs.Prelude.{◌≡◌, ◌≢◌, ◌⊎◌, ◌↔◌, ◌≤◌, ℕ, OnOk, OnErr, IsErrOf, Ok, Err, None, Some, is_ok, true, false};
 ghost use Rattle.ld_io.specs.Causes.{Rose};
 ghost use Rattle.ld_disk.specs.Images.{IsHonest};
 ghost use Rattle.ld_disk.specs.Moments.{LeavesOnly, Unchanged};
 ghost use Rattle.ld_disk.specs.Plain.{Plain as DiskPlain, after_calls, all_succeed};
-ghost use Rattle.ld_op.specs.declared.record.Record.{Record as Kind};
 ghost use Rattle.ld_store.specs.Ops.{StandsForEither};
-ghost use Rattle.ld_store.specs.Open.{disk_of, place_of, must_load, is_blank, plain_of, Holds};
-ghost use Rattle.ld_node.specs.Changes.{AreChanges, kept, with_op, calls_of, IsPast};
+ghost use Rattle.ld_store.specs.Open.{disk_of, layout_of, slots_of, must_load, is_blank, index_of, plain_of, Holds};
+ghost use Rattle.ld_node.specs.Changes.{AreChanges, kept, laid_with, slots_kept, calls_of, IsPast};
 ghost use Rattle.ld_register.specs.declared.fault.RegisterFault.{RegisterFault};
 
 use crate::NodeFault;
@@ -25,19 +24,20 @@ pub(crate) fn keep<D: Disk>(
     requires op { AreChanges op }
     requires formatted { is_blank store.old ≡ false }
     requires works { must_load store.old ≡ false }
-    ensures acknowledged { (found : List Kind) → Holds D.seen D.may_leave store.old found → OnOk result (Holds D.seen D.may_leave store.new (with_op found op)) }
-    ensures any_moment { (found : List Kind) → Holds D.seen D.may_leave store.old found
+    ensures acknowledged { Holds D.seen D.may_leave store.old → OnOk result (Holds D.seen D.may_leave store.new) }
+    ensures any_moment { Holds D.seen D.may_leave store.old
         → LeavesOnly D.moment D.left_since (disk_of store.old) (disk_of store.new) (StandsForEither (plain_of store.old) (kept op (plain_of store.old))) }
     ensures none { op ≡ None → result ≡ Ok tt }
     ensures none_kept { op ≡ None → store.new ≡ store.old }
-    ensures applied { OnOk result (plain_of store.new ≡ kept op (plain_of store.old)) }
-    ensures refused { OnErr result (plain_of store.new ≡ plain_of store.old) }
+    ensures applied { Holds D.seen D.may_leave store.old → OnOk result (plain_of store.new ≡ kept op (plain_of store.old)) }
+    ensures laid { OnOk result ((layout_of store.new ≡ laid_with (layout_of store.old) op) × (slots_of store.new ≡ slots_kept (layout_of store.old) (slots_of store.old) op)) }
+    ensures refused { OnErr result ((index_of store.new ≡ index_of store.old) × (layout_of store.new ≡ layout_of store.old) × (slots_of store.new ≡ slots_of store.old)) }
     ensures blank { is_blank store.new ≡ false }
     ensures exact { (p : DiskPlain) → D.plain (disk_of store.old) ≡ Some p → (result ≡ Ok tt ⊎ IsErrOf result NodeFault.Disk)
-        → (D.plain (disk_of store.new) ≡ Some (after_calls (calls_of (place_of store.old) op) p)) × (is_ok result ≡ all_succeed (calls_of (place_of store.old) op) p) }
+        → (D.plain (disk_of store.new) ≡ Some (after_calls (calls_of (layout_of store.old) (slots_of store.old) op) p)) × (is_ok result ≡ all_succeed (calls_of (layout_of store.old) (slots_of store.old) op) p) }
     ensures honest { IsHonest (D.seen (disk_of store.old)) → IsHonest (D.seen (disk_of store.new)) }
-    ensures full { IsErrOf result NodeFault.Full → IsPast (place_of store.old) op }
-    ensures too_long { IsPast (place_of store.old) op → IsErrOf result NodeFault.Full ⊎ IsErrOf result NodeFault.NoMemory }
+    ensures full { Holds D.seen D.may_leave store.old → IsErrOf result NodeFault.Full → IsPast (layout_of store.old) op }
+    ensures too_long { IsPast (layout_of store.old) op → IsErrOf result NodeFault.Full ⊎ IsErrOf result NodeFault.NoMemory }
     ensures needs_load { result ≢ Err NodeFault.NeedsLoad }
     ensures loads { (must_load store.new ≡ true) ↔ IsErrOf result NodeFault.Disk }
     ensures damaged { (place : ℕ) → result ≢ Err (NodeFault.Damaged place) }
@@ -47,8 +47,8 @@ pub(crate) fn keep<D: Disk>(
     ensures steady { IsErrOf result NodeFault.Disk ⊎ (D.faults (disk_of store.new) ≡ D.faults (disk_of store.old)) }
     ensures failed { IsErrOf result NodeFault.Disk → Rose (D.faults (disk_of store.old)) (D.faults (disk_of store.new)) }
     ensures stays { OnErr result (IsErrOf result NodeFault.Disk ⊎ Unchanged D.seen D.may_leave D.moment D.left_since (disk_of store.old) (disk_of store.new)) }
-    ensures keeps { OnErr result (IsErrOf result NodeFault.Disk ⊎ ((D.plain (disk_of store.new) ≡ D.plain (disk_of store.old)) × (place_of store.new ≡ place_of store.old))) }
-    ensures holds { (found : List Kind) → Holds D.seen D.may_leave store.old found → OnErr result (IsErrOf result NodeFault.Disk ⊎ Holds D.seen D.may_leave store.new found) }
+    ensures keeps { OnErr result (IsErrOf result NodeFault.Disk ⊎ ((D.plain (disk_of store.new) ≡ D.plain (disk_of store.old)) × (layout_of store.new ≡ layout_of store.old))) }
+    ensures holds { Holds D.seen D.may_leave store.old → OnErr result (IsErrOf result NodeFault.Disk ⊎ Holds D.seen D.may_leave store.new) }
 {
     match op {
         Some(op) => {

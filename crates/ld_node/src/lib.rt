@@ -10,6 +10,7 @@ mod known;
 mod msgs;
 mod node;
 mod replace;
+mod settled;
 #[cfg(test)]
 mod tests;
 mod tick;

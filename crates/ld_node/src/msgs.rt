@@ -1,20 +1,24 @@
 // Whom a message is for, what it releases, and what is sent back.
-ghost use Rattle.std.specs.Prelude.{◌≡◌, OnOk, OnErr, IfOk};
+ghost use Rattle.std.specs.Prelude.{◌≡◌, ℕ, OnOk, OnErr, IfOk, Option, Some, None};
 ghost use Rattle.std.specs.Option.{unwrap_or};
 ghost use Rattle.ld_table.specs.Table.{find, put};
+ghost use Rattle.ld_op.specs.declared.op.Op.{Op as Kept};
+ghost use Rattle.ld_op.specs.Cells.{each_plain};
 ghost use Rattle.ld_op.specs.Handles.{answer_message};
 ghost use Rattle.ld_msg.specs.Bounds.{Is64, IsMessage};
 ghost use Rattle.ld_node_bounds.specs.Messages.{AreMessages};
 ghost use Rattle.ld_store.specs.Well.{IsWell};
 ghost use Rattle.ld_node.specs.Changes.{AreChanges};
+ghost use Rattle.ld_store.specs.Open.{within};
+ghost use Rattle.ld_node.specs.Handling.{IsHandledWith, IsEither, Stays, reply_in};
 ghost use Rattle.ld_node.specs.Msgs.{is_node, is_for, released_in, released_by, raised, handled};
 
-use crate::handled::handle;
+use crate::handled::{Handled, Reply, handle};
 use crate::known::Known;
 use ld_ids::{LogId, NoMemory, NodeId};
 use ld_lsn::Lsn;
 use ld_msg::{Body, Msg, Replies, Who};
-use ld_op::{Op, Plain};
+use ld_op::Plain;
 use std::alloc::Global;
 use std::collections::BTreeMap;
 
@@ -106,7 +110,7 @@ pub(crate) fn reply(
     Ok(sends)
 }
 
-/// What the node of this number makes of a message: the op that it keeps, and then what it answers.
+/// What the node of this number makes of a message, by its index.
 #[tactic(auto, unfolding(crate::specs::Msgs::handled))]
 pub(crate) fn decide(
     alloc: Global,
@@ -115,20 +119,23 @@ pub(crate) fn decide(
     released: &BTreeMap<u32, Lsn>,
     plain: &Plain,
     msg: &Msg,
-) -> Result<(Option<Op>, Replies), NoMemory>
+) -> Result<Handled, NoMemory>
     requires msg { IsMessage msg.now }
     requires well { IsWell plain.now.state }
-    ensures op { IfOk result (λ done. done.0 ≡ (handled id known.now released.now.entries plain.now.state msg.now).op) }
-    ensures replies { IfOk result (λ done. done.1 ≡ answer_message id msg.now (handled id known.now released.now.entries plain.now.state msg.now).answer) }
-    ensures change { IfOk result (λ done. AreChanges done.0) }
-    ensures messages { IfOk result (λ done. AreMessages done.1) }
+    ensures handled { (f : ℕ → ℕ) → IfOk result (λ done. IsHandledWith f msg.now done (handled id known.now released.now.entries (each_plain f plain.now.state) msg.now)) }
+    ensures stays { (count : ℕ) → each_plain (within count) plain.now.state ≡ plain.now.state → IfOk result (λ done. Stays (within count) done.answer) }
+    ensures change { IfOk result (λ done. (op : Option Kept) → IsEither msg.now done.op done.answer op → AreChanges op) }
+    ensures released { IfOk result (λ done. (op : Option Kept) (y : ℕ) → IsEither msg.now done.op done.answer op → released_by id known.now msg.now ≡ Some y → op ≡ None) }
+    ensures messages { IfOk result (λ done. AreMessages (answer_message id msg.now (reply_in msg.now done.answer))) }
 {
     if !is_for(id, known, msg) {
-        return Ok((None, Replies::empty(alloc)));
+        return Ok(Handled {
+            op: None,
+            answer: Reply::Nothing,
+        });
     }
     let before = released_in(released, msg.log);
     let _node = id.number();
     let handled = handle(alloc, id, plain, before, msg)?;
-    let replies = reply(alloc, id, msg, handled.answer)?;
-    Ok((handled.op, replies))
+    Ok(handled)
 }

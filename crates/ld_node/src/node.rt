@@ -3,8 +3,9 @@ use crate::NodeFault;
 use crate::format::format_store;
 use crate::keep::keep;
 use crate::known::Known;
-use crate::msgs::{decide, release, released_by};
-use crate::replace::can_replace;
+use crate::msgs::{release, released_by};
+use crate::replace::{can_replace, lost_to};
+use crate::settled::prepare;
 use crate::tick::{Ticked, look};
 use ld_config::Config;
 use ld_disk::{Disk, Fault};
@@ -27,7 +28,7 @@ pub struct Node<D: Disk> {
 }
 
 impl<D: Disk> Node<D> {
-    ghost use Rattle.std.specs.Prelude.{◌≡◌, ◌≢◌, ◌⊎◌, ◌↔◌, ◌≤◌, ◌-◌, ◌^◌, ◌++◌, [], ◌∷◌, ℕ, List, IfOk, IfErr, IfSome, MatchResult, OnOk, OnErr, IsErrOf, Option, Ok, Err, None, Some, is_ok, true, false};
+    ghost use Rattle.std.specs.Prelude.{◌≡◌, ◌≢◌, ◌⊎◌, ◌↔◌, ◌≤◌, ◌-◌, ◌^◌, [], ℕ, List, IfOk, IfErr, IfSome, MatchResult, OnOk, OnErr, IsErrOf, Option, Ok, Err, None, Some, is_ok, true, false};
     ghost use Rattle.std.specs.Option.{option_map};
     ghost use Rattle.ld_ids.specs.declared.set.Spec.{Spec as Fixed};
     ghost use Rattle.ld_io.specs.Causes.{Rose};
@@ -35,13 +36,13 @@ impl<D: Disk> Node<D> {
     ghost use Rattle.ld_disk.specs.Moments.{LeavesOnly, Unchanged};
     ghost use Rattle.ld_disk.specs.Plain.{Plain as DiskPlain, after_call, succeeds, after_calls, all_succeed, reads_fine, armed_with};
     ghost use Rattle.ld_msg.specs.Bounds.{IsMessage};
-    ghost use Rattle.ld_op.specs.declared.record.Record.{Record as Kind};
-    ghost use Rattle.ld_op.specs.declared.record.Record.TheVariants.{Now};
     ghost use Rattle.ld_op.specs.Handles.{answer_message};
     ghost use Rattle.ld_node_bounds.specs.Messages.{AreMessages};
-    ghost use Rattle.ld_store.specs.Ops.{StandsFor, StandsForEither, IsOfFirst, HasNoRoom, IsDamaged};
+    ghost use Rattle.ld_store.specs.Ops.{StandsFor, StandsForEither, IfStands, IsOfFirst, HasNoRoom, IsDamaged};
     ghost use Rattle.ld_store.specs.Loads.{LeftOrMarked, Loads};
-    ghost use Rattle.ld_op.specs.Plain.{apply};
+    ghost use Rattle.ld_op.specs.Plain.{Plain as State, apply, op_length};
+    ghost use Rattle.ld_layout.specs.Layout.{kept_in};
+    ghost use Rattle.ld_segment.specs.Lies.{slots_with};
     ghost use Rattle.ld_msg.specs.Register.{Register as Contents, epochs_of, generation_of};
     ghost use Rattle.ld_register.specs.Calls.{drawn as drawn_by, after_draw, ChangedOrNot, IsFree, Keeps, is_full, draw_length, swap_length};
     ghost use Rattle.ld_register.specs.declared.register.Drawn.{Drawn as Drawing};
@@ -53,20 +54,21 @@ impl<D: Disk> Node<D> {
     ghost use Rattle.ld_node.specs.Draws.{answered, not_drawn};
     ghost use Rattle.ld_node.specs.Swaps.{can_replace, replaced, after_replace, passed_on, counted, not_swapped};
     ghost use Rattle.ld_node.specs.Loads.{LoadRefused};
-    ghost use Rattle.ld_node.specs.Changes.{AreChanges, kept, with_op, calls_of, IsPast};
+    ghost use Rattle.ld_node.specs.Changes.{AreChanges, kept, laid_with, slots_kept, calls_of, IsPast};
     ghost use Rattle.ld_node.specs.Msgs.{handled, released_after};
     ghost use Rattle.ld_node.specs.Formats.{format_of, FormatsBy, LeftByFormat};
     ghost use Rattle.ld_node.specs.declared.tick.Ticked.TheVariants as answers;
     ghost use Rattle.ld_node.specs.Looks.{ticked, op_of, answer_of, IsOfLook, AskMessages};
-    ghost use Rattle.ld_node.specs.Node.{id_of, known_of, released_of, disk_of, place_of, must_load, is_blank, plain_of, Holds, IsOpened};
+    ghost use Rattle.ld_node.specs.Node.{id_of, known_of, released_of, disk_of, layout_of, slots_of, must_load, is_blank, index_of, plain_of, Holds, IsOpened};
 
     /// Loads the node of this number from its disk, in one writing call. A journal of the first version is then marked
-    /// as one of the second, in four writing calls more; that leaves the plain state as it is. The node knows the nodes
-    /// and the logs of the configuration. Nothing is released yet.
+    /// as one of the second, by a record more, before which its segment may be switched; that leaves the plain state as
+    /// it is. The node knows the nodes and the logs of the configuration. Nothing is released yet.
     ///
     /// A refusal hands the disk back: `Disk` where a call of it failed, `Damaged(place)` where the record whose gate
-    /// is at that place is cut short, or its body is none that may stand there, or the disk has no byte at all, `Full`
-    /// where a mark would make the journal longer than 2^40 bytes, and `NoMemory`.
+    /// is at that place is cut short, or its body is none that may stand there, or the segment that begins there isn't
+    /// within its bounds, or the disk has no byte at all, `Full` where a mark, or the segment that it needs, would pass
+    /// the journal's limit, and `NoMemory`.
     pub fn load(
         alloc: Global,
         id: NodeId,
@@ -80,29 +82,34 @@ impl<D: Disk> Node<D> {
         ensures counts { MatchResult result (λ node. D.faults disk ≤ D.faults (disk_of node)) (λ e. D.faults disk ≤ D.faults e.0) }
         ensures steady { MatchResult result (λ node. D.faults (disk_of node) ≡ D.faults disk) (λ e. (e.1 ≡ NodeFault.Disk) ⊎ (D.faults e.0 ≡ D.faults disk)) }
 
-        // A crash at any moment leaves what a crash before the call might have left, or the journal of the first
-        // version with a mark or without it.
+        // A crash at any moment leaves what a crash before the call might have left, or, of a journal of the first
+        // version, what stands for the same plain state.
         ensures any_moment { IfSome (D.seen disk) (λ bytes. MatchResult result (λ node. LeavesOnly D.moment D.left_since disk (disk_of node) (LeftOrMarked (D.may_leave disk) bytes))
             (λ e. LeavesOnly D.moment D.left_since disk e.0 (LeftOrMarked (D.may_leave disk) bytes))) }
 
-        // Where the disk tells what each call will do, no read of it fails, and it has no journal of the first version,
-        // it is one writing call.
-        ensures exact { (p : DiskPlain) → D.plain disk ≡ Some p → reads_fine p ≡ true → ¬ IsOfFirst p.state.bytes
+        // Where it isn't marked, no byte changes: a crash leaves what one before the call might have left.
+        ensures reads { IfErr result (λ e. (e.1 ≡ NodeFault.Disk) ⊎ LeavesOnly D.moment D.left_since disk e.0 (D.may_leave disk)) }
+
+        // Where the disk tells what each call will do, no read of it fails, and its bytes stand for a plain state and are
+        // no journal of the first version, it is one writing call.
+        ensures exact { (p : DiskPlain) (state : State) → D.plain disk ≡ Some p → reads_fine p ≡ true → StandsFor state p.state.bytes → ¬ IsOfFirst p.state.bytes
             → MatchResult result (λ node. (D.plain (disk_of node) ≡ Some (after_call None p)) × (succeeds p ≡ true))
             (λ e. ((e.1 ≡ NodeFault.NoMemory) × ((D.plain e.0 ≡ Some p) ⊎ (D.plain e.0 ≡ Some (after_call None p)))) ⊎ ((D.plain e.0 ≡ Some (after_call None p)) × ((e.1 ≡ NodeFault.Disk) ↔ (succeeds p ≡ false)))) }
 
-        // Where it has one, it is five.
-        ensures marks { (p : DiskPlain) (was : IsOfFirst p.state.bytes) → D.plain disk ≡ Some p → reads_fine p ≡ true
-            → MatchResult result (λ node. Loads was.found p (D.plain (disk_of node)) None) (λ e. LoadRefused was.found p (D.plain e.0) e.1) }
+        ensures damaged_exact { (p : DiskPlain) (place : ℕ) → D.plain disk ≡ Some p → reads_fine p ≡ true → IfErr result (λ e. e.1 ≡ NodeFault.Damaged place → D.plain e.0 ≡ Some (after_call None p)) }
 
-        ensures seen { MatchResult result (λ node. (D.seen (disk_of node) ≡ D.seen disk) ⊎ IfSome (D.seen disk) IsOfFirst) (λ e. (e.1 ≡ NodeFault.Disk) ⊎ (D.seen e.0 ≡ D.seen disk)) }
+        // Where it has one, the calls of the mark come after it.
+        ensures marks { (p : DiskPlain) (was : IsOfFirst p.state.bytes) → D.plain disk ≡ Some p → reads_fine p ≡ true
+            → MatchResult result (λ node. Loads was.layout was.slots p (D.plain (disk_of node)) None) (λ e. LoadRefused was.layout was.slots p (D.plain e.0) e.1) }
+
+        ensures seen { MatchResult result (λ node. (D.seen (disk_of node) ≡ D.seen disk) ⊎ IfSome (D.seen disk) (IfStands IsOfFirst)) (λ e. (e.1 ≡ NodeFault.Disk) ⊎ (D.seen e.0 ≡ D.seen disk)) }
         ensures failed { IfErr result (λ e. e.1 ≡ NodeFault.Disk → Rose (D.faults disk) (D.faults e.0)) }
         ensures damaged { IfErr result (λ e. (place : ℕ) → e.1 ≡ NodeFault.Damaged place → IfSome (D.seen disk) (IsDamaged place)) }
         ensures honest { IfErr result (λ e. IsHonest (D.seen disk) → ((c : List ℕ) → D.may_leave disk c → (state : _) × StandsFor state c)
             → (place : ℕ) → e.1 ≢ NodeFault.Damaged place) }
 
         // It is full exactly where a mark has no room.
-        ensures full { IfErr result (λ e. e.1 ≡ NodeFault.Full → IfSome (D.seen disk) HasNoRoom) }
+        ensures full { IfErr result (λ e. e.1 ≡ NodeFault.Full → IfSome (D.seen disk) (IfStands HasNoRoom)) }
         ensures too_long { IfOk result (λ _. IfSome (D.seen disk) (λ bytes. ¬ HasNoRoom bytes)) }
         ensures needs_load { IfErr result (λ e. e.1 ≢ NodeFault.NeedsLoad) }
         ensures register { IfErr result (λ e. (fault : Refusal) → e.1 ≢ NodeFault.Register fault) }
@@ -142,9 +149,9 @@ impl<D: Disk> Node<D> {
         ensures same { Unchanged D.seen D.may_leave D.moment D.left_since (disk_of self.old) (disk_of self.new) }
         ensures itself { D.identity (disk_of self.new) ≡ D.identity (disk_of self.old) }
         ensures faults { D.faults (disk_of self.new) ≡ D.faults (disk_of self.old) }
-        ensures rest { (plain_of self.new ≡ plain_of self.old) × (released_of self.new ≡ released_of self.old) × (id_of self.new ≡ id_of self.old) × (known_of self.new ≡ known_of self.old) × (is_blank self.new ≡ is_blank self.old) × (must_load self.new ≡ must_load self.old) }
-        ensures place { place_of self.new ≡ place_of self.old }
-        ensures holds { (found : List Kind) → Holds D.seen D.may_leave self.old found → Holds D.seen D.may_leave self.new found }
+        ensures rest { (index_of self.new ≡ index_of self.old) × (plain_of self.new ≡ plain_of self.old) × (released_of self.new ≡ released_of self.old) × (id_of self.new ≡ id_of self.old) × (known_of self.new ≡ known_of self.old) × (is_blank self.new ≡ is_blank self.old) × (must_load self.new ≡ must_load self.old) }
+        ensures layout { (layout_of self.new ≡ layout_of self.old) × (slots_of self.new ≡ slots_of self.old) }
+        ensures holds { Holds D.seen D.may_leave self.old → Holds D.seen D.may_leave self.new }
     {
         self.store.arm(fault);
     }
@@ -152,47 +159,60 @@ impl<D: Disk> Node<D> {
     /// What a node makes of a message: the op that it keeps, and then what it answers, which a frame can carry. A
     /// message for another node, or of a log that it doesn't know, does nothing and has no answer.
     ///
-    /// It refuses with `Full` where its journal would be longer than 2^40 bytes, and with `NoMemory`; then nothing has
-    /// changed. It refuses with `Disk` where a call of the disk failed: the op is then there or not, which the next
-    /// load tells, and until then each call answers `NeedsLoad`. No refusal changes anything in memory.
+    /// It refuses with `Full` where the op's record, or the segment that it needs, would pass the journal's limit, and
+    /// with `NoMemory`; then nothing has changed. It refuses with `Disk` where a call of the disk failed: the op is then there or not, which the next
+    /// load tells, and until then each call answers `NeedsLoad`. It refuses with `Damaged(place)` where the disk ends
+    /// before the payload that stands at that place does, which can't be where it tells what it has. No refusal changes
+    /// anything in memory.
     pub fn on_msg(&mut self, alloc: Global, msg: &Msg) -> Result<Replies, NodeFault>
         requires msg { IsMessage msg.now }
         requires formatted { is_blank self.old ≡ false }
 
-        ensures replies { IfOk result (λ replies. replies ≡ answer_message (id_of self.old) msg.now (handled (id_of self.old) (known_of self.old) (released_of self.old) (plain_of self.old) msg.now).answer) }
+        ensures replies { Holds D.seen D.may_leave self.old
+            → IfOk result (λ replies. replies ≡ answer_message (id_of self.old) msg.now (handled (id_of self.old) (known_of self.old) (released_of self.old) (plain_of self.old) msg.now).answer) }
 
         // Each answer is a message that a frame can carry.
         ensures messages { IfOk result (λ replies. AreMessages replies) }
 
-        ensures kept { OnOk result (plain_of self.new ≡ kept (handled (id_of self.old) (known_of self.old) (released_of self.old) (plain_of self.old) msg.now).op (plain_of self.old)) }
+        ensures kept { Holds D.seen D.may_leave self.old
+            → OnOk result (plain_of self.new ≡ kept (handled (id_of self.old) (known_of self.old) (released_of self.old) (plain_of self.old) msg.now).op (plain_of self.old)) }
+        ensures laid { Holds D.seen D.may_leave self.old
+            → OnOk result ((layout_of self.new ≡ laid_with (layout_of self.old) (handled (id_of self.old) (known_of self.old) (released_of self.old) (plain_of self.old) msg.now).op) × (slots_of self.new ≡ slots_kept (layout_of self.old) (slots_of self.old) (handled (id_of self.old) (known_of self.old) (released_of self.old) (plain_of self.old) msg.now).op)) }
         ensures released { OnOk result (released_of self.new ≡ released_after (id_of self.old) (known_of self.old) (released_of self.old) msg.now) }
-        ensures refused { OnErr result ((plain_of self.new ≡ plain_of self.old) × (released_of self.new ≡ released_of self.old)) }
+        ensures refused { OnErr result ((index_of self.new ≡ index_of self.old) × (layout_of self.new ≡ layout_of self.old) × (slots_of self.new ≡ slots_of self.old) × (released_of self.new ≡ released_of self.old)) }
         ensures rest { (id_of self.new ≡ id_of self.old) × (known_of self.new ≡ known_of self.old) × (is_blank self.new ≡ false) }
 
-        // At `Ok` the op is durable: from then on each crash leaves a journal that has it.
-        ensures acknowledged { (found : List Kind) → Holds D.seen D.may_leave self.old found
-            → OnOk result (Holds D.seen D.may_leave self.new (with_op found (handled (id_of self.old) (known_of self.old) (released_of self.old) (plain_of self.old) msg.now).op)) }
+        // At `Ok` the op is durable: from then on each crash leaves what stands for the plain state with it.
+        ensures acknowledged { Holds D.seen D.may_leave self.old → OnOk result (Holds D.seen D.may_leave self.new) }
 
         // A crash at any moment of the call leaves what stands for the plain state before it or for that with the op.
-        ensures any_moment { (found : List Kind) → Holds D.seen D.may_leave self.old found
+        ensures any_moment { Holds D.seen D.may_leave self.old
             → LeavesOnly D.moment D.left_since (disk_of self.old) (disk_of self.new) (StandsForEither (plain_of self.old) (kept (handled (id_of self.old) (known_of self.old) (released_of self.old) (plain_of self.old) msg.now).op (plain_of self.old))) }
 
-        // Where the disk tells what each call will do, it is the four writing calls of the op's record, or none.
-        ensures exact { (p : DiskPlain) → D.plain (disk_of self.old) ≡ Some p → (is_ok result ≡ true ⊎ IsErrOf result NodeFault.Disk)
-            → (D.plain (disk_of self.new) ≡ Some (after_calls (calls_of (place_of self.old) (handled (id_of self.old) (known_of self.old) (released_of self.old) (plain_of self.old) msg.now).op) p))
-            × (is_ok result ≡ all_succeed (calls_of (place_of self.old) (handled (id_of self.old) (known_of self.old) (released_of self.old) (plain_of self.old) msg.now).op) p) }
+        // Where the disk tells what each call will do, and no read of it fails, it is the writing calls of the op's
+        // record, or none.
+        ensures exact { (p : DiskPlain) → Holds D.seen D.may_leave self.old → D.plain (disk_of self.old) ≡ Some p → reads_fine p ≡ true → (is_ok result ≡ true ⊎ IsErrOf result NodeFault.Disk)
+            → (D.plain (disk_of self.new) ≡ Some (after_calls (calls_of (layout_of self.old) (slots_of self.old) (handled (id_of self.old) (known_of self.old) (released_of self.old) (plain_of self.old) msg.now).op) p))
+            × (is_ok result ≡ all_succeed (calls_of (layout_of self.old) (slots_of self.old) (handled (id_of self.old) (known_of self.old) (released_of self.old) (plain_of self.old) msg.now).op) p) }
 
-        // A message of which nothing is kept makes no call of the disk.
-        ensures silent { (handled (id_of self.old) (known_of self.old) (released_of self.old) (plain_of self.old) msg.now).op ≡ None → (disk_of self.new ≡ disk_of self.old) × (place_of self.new ≡ place_of self.old) }
-        ensures silent_works { (handled (id_of self.old) (known_of self.old) (released_of self.old) (plain_of self.old) msg.now).op ≡ None → result ≢ Err NodeFault.Disk }
+        // A message of which nothing is kept only reads.
+        ensures silent { Holds D.seen D.may_leave self.old
+            → (handled (id_of self.old) (known_of self.old) (released_of self.old) (plain_of self.old) msg.now).op ≡ None → Unchanged D.seen D.may_leave D.moment D.left_since (disk_of self.old) (disk_of self.new) × (layout_of self.new ≡ layout_of self.old) × (slots_of self.new ≡ slots_of self.old) }
+        ensures silent_works { (p : DiskPlain) → Holds D.seen D.may_leave self.old → D.plain (disk_of self.old) ≡ Some p → reads_fine p ≡ true
+            → (handled (id_of self.old) (known_of self.old) (released_of self.old) (plain_of self.old) msg.now).op ≡ None → result ≢ Err NodeFault.Disk }
         ensures honest { IsHonest (D.seen (disk_of self.old)) → IsHonest (D.seen (disk_of self.new)) }
 
-        ensures full { IsErrOf result NodeFault.Full → IsPast (place_of self.old) (handled (id_of self.old) (known_of self.old) (released_of self.old) (plain_of self.old) msg.now).op }
-        ensures too_long { must_load self.old ≡ false → IsPast (place_of self.old) (handled (id_of self.old) (known_of self.old) (released_of self.old) (plain_of self.old) msg.now).op → IsErrOf result NodeFault.Full ⊎ IsErrOf result NodeFault.NoMemory }
+        ensures full { Holds D.seen D.may_leave self.old
+            → IsErrOf result NodeFault.Full → IsPast (layout_of self.old) (handled (id_of self.old) (known_of self.old) (released_of self.old) (plain_of self.old) msg.now).op }
+        ensures too_long { (p : DiskPlain) → Holds D.seen D.may_leave self.old → D.plain (disk_of self.old) ≡ Some p → reads_fine p ≡ true
+            → IsPast (layout_of self.old) (handled (id_of self.old) (known_of self.old) (released_of self.old) (plain_of self.old) msg.now).op → IsErrOf result NodeFault.Full ⊎ IsErrOf result NodeFault.NoMemory }
+        ensures too_long_or_failed { Holds D.seen D.may_leave self.old
+            → IsPast (layout_of self.old) (handled (id_of self.old) (known_of self.old) (released_of self.old) (plain_of self.old) msg.now).op → IsErrOf result NodeFault.Full ⊎ IsErrOf result NodeFault.NoMemory ⊎ IsErrOf result NodeFault.Disk }
         ensures needs_load { IsErrOf result NodeFault.NeedsLoad ↔ (must_load self.old ≡ true) }
         ensures loads { (must_load self.new ≡ true) ↔ ((must_load self.old ≡ true) ⊎ IsErrOf result NodeFault.Disk) }
         ensures register { (fault : Refusal) → result ≢ Err (NodeFault.Register fault) }
-        ensures damaged { (place : ℕ) → result ≢ Err (NodeFault.Damaged place) }
+        // Where the store holds what its disk has, each payload is there.
+        ensures damaged { (place : ℕ) → Holds D.seen D.may_leave self.old → result ≢ Err (NodeFault.Damaged place) }
         ensures itself { D.identity (disk_of self.new) ≡ D.identity (disk_of self.old) }
         ensures counts { D.faults (disk_of self.old) ≤ D.faults (disk_of self.new) }
         ensures steady { IsErrOf result NodeFault.Disk ⊎ (D.faults (disk_of self.new) ≡ D.faults (disk_of self.old)) }
@@ -200,19 +220,20 @@ impl<D: Disk> Node<D> {
 
         // Another refusal than `Disk` changes nothing.
         ensures stays { OnErr result (IsErrOf result NodeFault.Disk ⊎ Unchanged D.seen D.may_leave D.moment D.left_since (disk_of self.old) (disk_of self.new)) }
-        ensures keeps { OnErr result (IsErrOf result NodeFault.Disk ⊎ ((D.plain (disk_of self.new) ≡ D.plain (disk_of self.old)) × (place_of self.new ≡ place_of self.old))) }
-        ensures holds { (found : List Kind) → Holds D.seen D.may_leave self.old found
-            → OnErr result (IsErrOf result NodeFault.Disk ⊎ Holds D.seen D.may_leave self.new found) }
+        ensures keeps { (p : DiskPlain) → D.plain (disk_of self.old) ≡ Some p → reads_fine p ≡ true
+            → OnErr result (IsErrOf result NodeFault.Disk ⊎ ((D.plain (disk_of self.new) ≡ Some p) × (layout_of self.new ≡ layout_of self.old))) }
+        ensures holds { Holds D.seen D.may_leave self.old
+            → OnErr result (IsErrOf result NodeFault.Disk ⊎ Holds D.seen D.may_leave self.new) }
     {
         if self.store.needs_load() {
             return Err(NodeFault::NeedsLoad);
         }
-        let (op, replies) = decide(
+        let (op, replies) = prepare(
             alloc,
             self.id,
             &self.known,
             &self.released,
-            self.store.plain(),
+            &mut self.store,
             msg,
         )?;
         let number = released_by(self.id, &self.known, msg);
@@ -227,7 +248,7 @@ impl<D: Disk> Node<D> {
     /// It refuses with `Register` as the register's `draw` does: with `GenLimit` only where the node's generation there is
     /// 2^32-1, with `Full` only where the register's journal has no room, with `Damaged` only where its bytes are no
     /// journal of its changes, and with `Failed` only where its count of faults rose. Once it is drawn it refuses with
-    /// `Full` where its own journal would be longer than 2^40 bytes, and with `NoMemory`; then nothing else has changed.
+    /// `Full` where its own journal would pass its limit, and with `NoMemory`; then nothing else has changed.
     /// It refuses with `Disk` where a call of the disk failed: the format is then there or not, which the next load
     /// tells, and until then each call answers `NeedsLoad`.
     pub fn format<G: Register>(&mut self, alloc: Global, reg: &mut G) -> Result<Drawn, NodeFault>
@@ -237,26 +258,27 @@ impl<D: Disk> Node<D> {
         ensures done_or_not { G.told reg.old → ChangedOrNot (G.may_hold reg.old) (G.may_hold reg.new) (λ c. after_draw c (id_of self.old)) }
         ensures told { G.told reg.old → G.told reg.new }
         ensures settled { G.told reg.old → OnOk result ((c : Contents) → G.may_hold reg.new c → G.holds reg.new c) }
-        ensures applied { IfOk result (λ drawn. (plain_of self.new ≡ apply (plain_of self.old) (format_of drawn)) × (is_blank self.new ≡ false)) }
+        ensures applied { Holds D.seen D.may_leave self.old → IfOk result (λ drawn. plain_of self.new ≡ apply (plain_of self.old) (format_of drawn)) }
+        ensures laid { IfOk result (λ drawn. (layout_of self.new ≡ kept_in (layout_of self.old) (format_of drawn)) × (slots_of self.new ≡ slots_with (layout_of self.old) (slots_of self.old) (op_length (format_of drawn)))) }
+        ensures formatted { OnOk result (is_blank self.new ≡ false) }
 
-        // At `Ok` the format is durable: from then on each crash leaves a journal that has it.
-        ensures acknowledged { (found : List Kind) → Holds D.seen D.may_leave self.old found
-            → IfOk result (λ drawn. Holds D.seen D.may_leave self.new (found ++ Now (format_of drawn) ∷ [])) }
+        // At `Ok` the format is durable: from then on each crash leaves what stands for the plain state with it.
+        ensures acknowledged { Holds D.seen D.may_leave self.old → OnOk result (Holds D.seen D.may_leave self.new) }
 
         // A crash at any moment of the call leaves what stands for the plain state before it or for that with the format.
-        ensures any_moment { (found : List Kind) → Holds D.seen D.may_leave self.old found
+        ensures any_moment { Holds D.seen D.may_leave self.old
             → LeavesOnly D.moment D.left_since (disk_of self.old) (disk_of self.new)
             (LeftByFormat (plain_of self.old) (λ drawn. (c : Contents) → G.holds reg.old c → answered drawn ≡ drawn_by c (id_of self.old))) }
 
         // Where the register and the disk tell what each call will do, the answer and the disk are just these.
-        ensures exact { (c : Contents) (disk : DiskPlain) → must_load self.old ≡ false → G.tells reg.old c → D.plain (disk_of self.old) ≡ Some disk
-            → IsErrOf result NodeFault.NoMemory ⊎ FormatsBy (place_of self.old) disk (drawn_by c (id_of self.old)) (D.plain (disk_of self.new)) result }
+        ensures exact { (c : Contents) (disk : DiskPlain) → Holds D.seen D.may_leave self.old → G.tells reg.old c → D.plain (disk_of self.old) ≡ Some disk
+            → IsErrOf result NodeFault.NoMemory ⊎ FormatsBy (layout_of self.old) (slots_of self.old) disk (drawn_by c (id_of self.old)) (D.plain (disk_of self.new)) result }
 
         // Want of memory comes before the draw or after it; each other answer comes after it.
         ensures tells { (c : Contents) → must_load self.old ≡ false → G.tells reg.old c
             → (IsErrOf result NodeFault.NoMemory × G.tells reg.new c) ⊎ G.tells reg.new (after_draw c (id_of self.old)) }
 
-        ensures refused { OnErr result ((plain_of self.new ≡ plain_of self.old) × (is_blank self.new ≡ is_blank self.old)) }
+        ensures refused { OnErr result ((index_of self.new ≡ index_of self.old) × (layout_of self.new ≡ layout_of self.old) × (slots_of self.new ≡ slots_of self.old) × (is_blank self.new ≡ is_blank self.old)) }
         ensures rest { (id_of self.new ≡ id_of self.old) × (known_of self.new ≡ known_of self.old) × (released_of self.new ≡ released_of self.old) }
 
         // What was held is held with the draw or without it, but where the register failed.
@@ -266,6 +288,7 @@ impl<D: Disk> Node<D> {
         ensures register { (c : Contents) (fault : Refusal) → G.holds reg.old c → IsErrOf result (NodeFault.Register fault)
             → IsFree (not_drawn fault) ⊎ ((not_drawn fault ≡ drawn_by c (id_of self.old)) × G.holds reg.new (after_draw c (id_of self.old))) }
         ensures register_whole { (fault : Refusal) → IsErrOf result (NodeFault.Register fault) → G.told reg.old → IsFree (not_drawn fault) ⊎ ((c : Contents) × G.holds reg.old c) }
+        ensures whole { G.told reg.old → OnOk result ((c : Contents) × G.holds reg.old c) }
         ensures register_keeps { (fault : Refusal) → IsErrOf result (NodeFault.Register fault) → (fault ≡ faults.Failed) ⊎ Keeps (G.holds reg.old) (G.holds reg.new) (G.may_hold reg.old) (G.may_hold reg.new) }
 
         // The node's generation in the register is the greatest; the register's journal has no room for the draw.
@@ -278,12 +301,13 @@ impl<D: Disk> Node<D> {
         ensures swaps { result ≢ Err (NodeFault.Register faults.SwapLimit) }
         ensures register_damaged { (place : ℕ) → IsErrOf result (NodeFault.Register (faults.Damaged place)) → G.told reg.old → G.damaged reg.old place }
 
-        ensures full { (c : Contents) → G.holds reg.old c → IsErrOf result NodeFault.Full
-            → (drawn : Drawing) × (answered drawn ≡ drawn_by c (id_of self.old)) × IsPast (place_of self.old) (Some (format_of drawn)) }
-        ensures too_long { (c : Contents) (drawn : Drawing) → must_load self.old ≡ false → G.holds reg.old c → answered drawn ≡ drawn_by c (id_of self.old) → IsPast (place_of self.old) (Some (format_of drawn))
+        ensures full { (c : Contents) → Holds D.seen D.may_leave self.old → G.holds reg.old c → IsErrOf result NodeFault.Full
+            → (drawn : Drawing) × (answered drawn ≡ drawn_by c (id_of self.old)) × IsPast (layout_of self.old) (Some (format_of drawn)) }
+        ensures too_long { (c : Contents) (drawn : Drawing) → must_load self.old ≡ false → G.holds reg.old c → answered drawn ≡ drawn_by c (id_of self.old) → IsPast (layout_of self.old) (Some (format_of drawn))
             → IsErrOf result NodeFault.Full ⊎ IsErrOf result NodeFault.NoMemory ⊎ ((fault : Refusal) × IsErrOf result (NodeFault.Register fault)) }
 
-        // Where it got as far as the disk, or the journal's limit, the format is one that a journal's body can carry.
+        // The format is one that a journal's body can carry, and where it got as far as the disk, or the journal's limit, too.
+        ensures made { IfOk result (λ drawn. IsOp (format_of drawn)) }
         ensures op { (c : Contents) → G.tells reg.old c → IsErrOf result NodeFault.Disk ⊎ IsErrOf result NodeFault.Full
             → (drawn : Drawing) × (answered drawn ≡ drawn_by c (id_of self.old)) × IsOp (format_of drawn) }
 
@@ -302,9 +326,9 @@ impl<D: Disk> Node<D> {
 
         // Another refusal than `Disk` changes nothing of the node.
         ensures stays { OnErr result (IsErrOf result NodeFault.Disk ⊎ Unchanged D.seen D.may_leave D.moment D.left_since (disk_of self.old) (disk_of self.new)) }
-        ensures keeps { OnErr result (IsErrOf result NodeFault.Disk ⊎ ((D.plain (disk_of self.new) ≡ D.plain (disk_of self.old)) × (place_of self.new ≡ place_of self.old))) }
-        ensures holds { (found : List Kind) → Holds D.seen D.may_leave self.old found
-            → OnErr result (IsErrOf result NodeFault.Disk ⊎ Holds D.seen D.may_leave self.new found) }
+        ensures keeps { OnErr result (IsErrOf result NodeFault.Disk ⊎ ((D.plain (disk_of self.new) ≡ D.plain (disk_of self.old)) × (layout_of self.new ≡ layout_of self.old))) }
+        ensures holds { Holds D.seen D.may_leave self.old
+            → OnErr result (IsErrOf result NodeFault.Disk ⊎ Holds D.seen D.may_leave self.new) }
     {
         if self.store.needs_load() {
             return Err(NodeFault::NeedsLoad);
@@ -319,8 +343,8 @@ impl<D: Disk> Node<D> {
     /// number on, in messages that a frame can carry; else nothing. For a log that it doesn't know it does nothing, and
     /// doesn't look.
     ///
-    /// It refuses with `Register` as the register's `look` does, with `Full` where its journal would be longer than
-    /// 2^40 bytes, and with `NoMemory`; then nothing has changed. It refuses with `Disk` where a call of the disk
+    /// It refuses with `Register` as the register's `look` does, with `Full` where the op's record, or the segment that
+    /// it needs, would pass the journal's limit, and with `NoMemory`; then nothing has changed. It refuses with `Disk` where a call of the disk
     /// failed: the op is then there or not, which the next load tells, and until then each call answers `NeedsLoad`.
     /// No refusal changes anything in memory.
     pub fn tick<G: Register>(
@@ -336,29 +360,30 @@ impl<D: Disk> Node<D> {
         // Each ask is a message that a frame can carry.
         ensures messages { IfOk result (λ answer. AskMessages answer) }
 
-        ensures kept { (c : Contents) → G.holds reg.old c → OnOk result (plain_of self.new ≡ kept (op_of log (ticked (known_of self.old) (plain_of self.old) log c)) (plain_of self.old)) }
+        ensures kept { (c : Contents) → Holds D.seen D.may_leave self.old → G.holds reg.old c → OnOk result (plain_of self.new ≡ kept (op_of log (ticked (known_of self.old) (plain_of self.old) log c)) (plain_of self.old)) }
+        ensures laid { (c : Contents) → G.holds reg.old c
+            → OnOk result ((layout_of self.new ≡ laid_with (layout_of self.old) (op_of log (ticked (known_of self.old) (plain_of self.old) log c))) × (slots_of self.new ≡ slots_kept (layout_of self.old) (slots_of self.old) (op_of log (ticked (known_of self.old) (plain_of self.old) log c)))) }
         ensures looked { (c : Contents) → G.holds reg.old c → IsErrOf result (NodeFault.Register faults.Failed) ⊎ G.holds reg.new c }
-        ensures refused { OnErr result (plain_of self.new ≡ plain_of self.old) }
+        ensures refused { OnErr result ((index_of self.new ≡ index_of self.old) × (layout_of self.new ≡ layout_of self.old) × (slots_of self.new ≡ slots_of self.old)) }
         ensures rest { (id_of self.new ≡ id_of self.old) × (known_of self.new ≡ known_of self.old) × (released_of self.new ≡ released_of self.old) × (is_blank self.new ≡ false) }
 
         // For a log that it doesn't know there is nothing to do, and no look.
         ensures foreign { must_load self.old ≡ false → is_in log (known_of self.old).logs ≡ false → (result ≡ Ok answers.Nothing) × (self.new ≡ self.old) × (reg.new ≡ reg.old) }
 
-        // At `Ok` the op is durable: from then on each crash leaves a journal that has it.
-        ensures acknowledged { (found : List Kind) (c : Contents) → Holds D.seen D.may_leave self.old found → G.holds reg.old c
-            → OnOk result (Holds D.seen D.may_leave self.new (with_op found (op_of log (ticked (known_of self.old) (plain_of self.old) log c)))) }
+        // At `Ok` the op is durable: from then on each crash leaves what stands for the plain state with it.
+        ensures acknowledged { Holds D.seen D.may_leave self.old → OnOk result (Holds D.seen D.may_leave self.new) }
 
         // A crash at any moment of the call leaves what stands for the plain state before it or for that with the op.
-        ensures any_moment { (found : List Kind) (c : Contents) → Holds D.seen D.may_leave self.old found → G.holds reg.old c
+        ensures any_moment { (c : Contents) → Holds D.seen D.may_leave self.old → G.holds reg.old c
             → LeavesOnly D.moment D.left_since (disk_of self.old) (disk_of self.new) (StandsForEither (plain_of self.old) (kept (op_of log (ticked (known_of self.old) (plain_of self.old) log c)) (plain_of self.old))) }
 
-        // Where the disk tells what each call will do, it is the four writing calls of the op's record, or none.
+        // Where the disk tells what each call will do, it is the writing calls of the op's record, or none.
         ensures exact { (c : Contents) (disk : DiskPlain) → G.holds reg.old c → D.plain (disk_of self.old) ≡ Some disk → (is_ok result ≡ true ⊎ IsErrOf result NodeFault.Disk)
-            → (D.plain (disk_of self.new) ≡ Some (after_calls (calls_of (place_of self.old) (op_of log (ticked (known_of self.old) (plain_of self.old) log c))) disk))
-            × (is_ok result ≡ all_succeed (calls_of (place_of self.old) (op_of log (ticked (known_of self.old) (plain_of self.old) log c))) disk) }
+            → (D.plain (disk_of self.new) ≡ Some (after_calls (calls_of (layout_of self.old) (slots_of self.old) (op_of log (ticked (known_of self.old) (plain_of self.old) log c))) disk))
+            × (is_ok result ≡ all_succeed (calls_of (layout_of self.old) (slots_of self.old) (op_of log (ticked (known_of self.old) (plain_of self.old) log c))) disk) }
 
         // A tick in which nothing is kept makes no call of the disk.
-        ensures silent { (c : Contents) → G.holds reg.old c → op_of log (ticked (known_of self.old) (plain_of self.old) log c) ≡ None → (disk_of self.new ≡ disk_of self.old) × (place_of self.new ≡ place_of self.old) }
+        ensures silent { (c : Contents) → G.holds reg.old c → op_of log (ticked (known_of self.old) (plain_of self.old) log c) ≡ None → (disk_of self.new ≡ disk_of self.old) × (layout_of self.new ≡ layout_of self.old) × (slots_of self.new ≡ slots_of self.old) }
         ensures silent_works { (c : Contents) → G.holds reg.old c → op_of log (ticked (known_of self.old) (plain_of self.old) log c) ≡ None → result ≢ Err NodeFault.Disk }
         ensures honest { IsHonest (D.seen (disk_of self.old)) → IsHonest (D.seen (disk_of self.new)) }
 
@@ -374,12 +399,12 @@ impl<D: Disk> Node<D> {
         ensures settled { G.told reg.old → is_in log (known_of self.old).logs ≡ true → OnOk result ((c : Contents) → G.may_hold reg.new c → G.holds reg.new c) }
         ensures same { (c : Contents) → G.may_hold reg.new c → G.may_hold reg.old c }
 
-        ensures full { (c : Contents) → G.holds reg.old c → IsErrOf result NodeFault.Full → IsPast (place_of self.old) (op_of log (ticked (known_of self.old) (plain_of self.old) log c)) }
-        ensures too_long { (c : Contents) → G.holds reg.old c → must_load self.old ≡ false → IsPast (place_of self.old) (op_of log (ticked (known_of self.old) (plain_of self.old) log c))
+        ensures full { (c : Contents) → Holds D.seen D.may_leave self.old → G.holds reg.old c → IsErrOf result NodeFault.Full → IsPast (layout_of self.old) (op_of log (ticked (known_of self.old) (plain_of self.old) log c)) }
+        ensures too_long { (c : Contents) → G.holds reg.old c → must_load self.old ≡ false → IsPast (layout_of self.old) (op_of log (ticked (known_of self.old) (plain_of self.old) log c))
             → IsErrOf result NodeFault.Full ⊎ IsErrOf result NodeFault.NoMemory ⊎ ((fault : Refusal) × IsErrOf result (NodeFault.Register fault)) }
 
-        // Where it got as far as the disk, or the journal's limit, the op is one that a journal's body can carry.
-        ensures change { (c : Contents) → G.holds reg.old c → IsErrOf result NodeFault.Disk ⊎ IsErrOf result NodeFault.Full
+        // At `Ok`, and where it got as far as the disk, or the journal's limit, the op is one that a journal's body can carry.
+        ensures change { (c : Contents) → G.holds reg.old c → (is_ok result ≡ true) ⊎ IsErrOf result NodeFault.Disk ⊎ IsErrOf result NodeFault.Full
             → AreChanges (op_of log (ticked (known_of self.old) (plain_of self.old) log c)) }
 
         ensures needs_load { IsErrOf result NodeFault.NeedsLoad ↔ (must_load self.old ≡ true) }
@@ -394,9 +419,9 @@ impl<D: Disk> Node<D> {
 
         // Another refusal than `Disk` changes nothing.
         ensures stays { OnErr result (IsErrOf result NodeFault.Disk ⊎ Unchanged D.seen D.may_leave D.moment D.left_since (disk_of self.old) (disk_of self.new)) }
-        ensures keeps { OnErr result (IsErrOf result NodeFault.Disk ⊎ ((D.plain (disk_of self.new) ≡ D.plain (disk_of self.old)) × (place_of self.new ≡ place_of self.old))) }
-        ensures holds { (found : List Kind) → Holds D.seen D.may_leave self.old found
-            → OnErr result (IsErrOf result NodeFault.Disk ⊎ Holds D.seen D.may_leave self.new found) }
+        ensures keeps { OnErr result (IsErrOf result NodeFault.Disk ⊎ ((D.plain (disk_of self.new) ≡ D.plain (disk_of self.old)) × (layout_of self.new ≡ layout_of self.old))) }
+        ensures holds { Holds D.seen D.may_leave self.old
+            → OnErr result (IsErrOf result NodeFault.Disk ⊎ Holds D.seen D.may_leave self.new) }
     {
         if self.store.needs_load() {
             return Err(NodeFault::NeedsLoad);
@@ -409,7 +434,7 @@ impl<D: Disk> Node<D> {
             self.id,
             log,
             self.known.nodes(),
-            self.store.plain(),
+            self.store.index(),
             reg,
         )?;
         keep(alloc, &mut self.store, step.op)?;
@@ -454,6 +479,7 @@ impl<D: Disk> Node<D> {
         ensures register { (c : Contents) (fault : Refusal) → G.holds reg.old c → IsErrOf result (NodeFault.Register fault)
             → IsFree (not_swapped fault) ⊎ (not_swapped fault ≡ replaced (id_of self.now) (known_of self.now) (plain_of self.now) log other c) }
         ensures register_whole { (fault : Refusal) → IsErrOf result (NodeFault.Register fault) → G.told reg.old → IsFree (not_swapped fault) ⊎ ((c : Contents) × G.holds reg.old c) }
+        ensures whole { G.told reg.old → can_replace (id_of self.now) (known_of self.now) (plain_of self.now) log other ≡ true → OnOk result ((c : Contents) × G.holds reg.old c) }
         ensures register_keeps { (fault : Refusal) → IsErrOf result (NodeFault.Register fault) → (fault ≡ faults.Failed) ⊎ Keeps (G.holds reg.old) (G.holds reg.new) (G.may_hold reg.old) (G.may_hold reg.new) }
 
         // The log's count of swaps is the greatest; the register's journal has no room for the swap.
@@ -479,10 +505,10 @@ impl<D: Disk> Node<D> {
         if self.store.needs_load() {
             return Err(NodeFault::NeedsLoad);
         }
-        if !can_replace(self.id, &self.known, self.store.plain(), log, other) {
+        if !can_replace(self.id, &self.known, &self.store, log, other) {
             return Ok(0);
         }
-        let upto = self.store.plain().lost_to(log);
+        let upto = lost_to(&self.store, log);
         let count = reg.swap(alloc, log, upto, other, self.id)?;
         Ok(count)
     }

@@ -129,12 +129,12 @@ fn to_node(from: Who, body: Body) -> Result<Msg, NoMemory>
     })
 }
 
-/// What the sequencer of epoch 1 has stored at its first place.
-fn store(alloc: Global) -> Result<Msg, NoMemory>
+/// What the sequencer of epoch 1 has stored at its first place: this byte.
+fn store(alloc: Global, byte: u8) -> Result<Msg, NoMemory>
     ensures { IfOk result IsMessage }
 {
     let mut bytes = Vec::new(alloc);
-    bytes.push(9)?;
+    bytes.push(byte)?;
     to_node(
         Who::Sequencer(1),
         Body::Store {
@@ -182,6 +182,27 @@ enum Answer {
     Other,
 }
 
+/// The byte of the one record that a page of a digest has, 0 where it has another thing.
+fn byte_in(body: &Body) -> u8 {
+    match body {
+        Body::DigestPage { entries, .. } => match entries.as_slice() {
+            [one] => first_byte(&one.what),
+            _ => 0,
+        },
+        _ => 0,
+    }
+}
+
+fn first_byte(what: &What) -> u8 {
+    match what {
+        What::Rec(payload) => match payload.bytes() {
+            [byte] => *byte,
+            _ => 0,
+        },
+        _ => 0,
+    }
+}
+
 fn answer_in(body: &Body) -> Answer {
     match body {
         Body::Stored { .. } => Answer::Stored,
@@ -206,7 +227,12 @@ fn give<D: Disk>(alloc: Global, node: &mut Node<D>, msg: &Msg) -> Result<Answer,
 }
 
 fn give_store<D: Disk>(alloc: Global, node: &mut Node<D>) -> Result<Answer, NodeFault> {
-    give(alloc, node, &store(alloc)?)
+    give(alloc, node, &store(alloc, 9)?)
+}
+
+/// The same number and ballot, with another byte.
+fn give_other_store<D: Disk>(alloc: Global, node: &mut Node<D>) -> Result<Answer, NodeFault> {
+    give(alloc, node, &store(alloc, 8)?)
 }
 
 fn give_second_store<D: Disk>(alloc: Global, node: &mut Node<D>) -> Result<Answer, NodeFault> {
@@ -215,6 +241,18 @@ fn give_second_store<D: Disk>(alloc: Global, node: &mut Node<D>) -> Result<Answe
 
 fn give_digest_ask<D: Disk>(alloc: Global, node: &mut Node<D>) -> Result<Answer, NodeFault> {
     give(alloc, node, &digest_ask()?)
+}
+
+/// The byte of the one record that a digest has.
+fn digest_byte<D: Disk>(alloc: Global, node: &mut Node<D>) -> Result<u8, NodeFault> {
+    if node.is_blank() {
+        return Err(NodeFault::Full);
+    }
+    let replies = node.on_msg(alloc, &digest_ask()?)?;
+    match replies.as_slice() {
+        [one] => Ok(byte_in(&one.body)),
+        _ => Ok(0),
+    }
 }
 
 /// Which epoch a tick of the log cleaned, 0 where it did nothing.
@@ -306,6 +344,51 @@ fn a_store_is_there_after_a_load(rt: HostRuntime) -> Result<(), Fail> {
     assert_eq!(rt;
         give_digest_ask(alloc, &mut again),
         Ok(Answer::PageOf(1, 0))
+    );
+    Ok(())
+}
+
+#[test]
+fn a_digest_has_what_was_stored(rt: HostRuntime) -> Result<(), Fail> {
+    let alloc = rt.alloc();
+    let mut node = formatted(alloc)?;
+    assert_eq!(rt; give_store(alloc, &mut node), Ok(Answer::Stored));
+    let mut again = loaded(alloc, node.into_disk())?;
+    assert_eq!(rt; digest_byte(alloc, &mut again), Ok(9));
+    Ok(())
+}
+
+#[test]
+fn what_is_there_already_is_not_written_again(rt: HostRuntime) -> Result<(), Fail> {
+    let alloc = rt.alloc();
+    let mut node = formatted(alloc)?;
+    assert_eq!(rt; give_store(alloc, &mut node), Ok(Answer::Stored));
+    node.arm(Fault::FailAt(1));
+    assert_eq!(rt; give_store(alloc, &mut node), Ok(Answer::Stored));
+    assert_eq!(rt; give_other_store(alloc, &mut node), Err(NodeFault::Disk));
+    Ok(())
+}
+
+#[test]
+fn another_payload_is_taken(rt: HostRuntime) -> Result<(), Fail> {
+    let alloc = rt.alloc();
+    let mut node = formatted(alloc)?;
+    assert_eq!(rt; give_store(alloc, &mut node), Ok(Answer::Stored));
+    assert_eq!(rt; give_other_store(alloc, &mut node), Ok(Answer::Stored));
+    assert_eq!(rt; digest_byte(alloc, &mut node), Ok(8));
+    Ok(())
+}
+
+#[test]
+fn a_node_whose_read_failed_has_to_be_loaded_again(rt: HostRuntime) -> Result<(), Fail> {
+    let alloc = rt.alloc();
+    let mut node = formatted(alloc)?;
+    assert_eq!(rt; give_store(alloc, &mut node), Ok(Answer::Stored));
+    node.arm(Fault::FailReadAt(1));
+    assert_eq!(rt; give_store(alloc, &mut node), Err(NodeFault::Disk));
+    assert_eq!(rt;
+        give_digest_ask(alloc, &mut node),
+        Err(NodeFault::NeedsLoad)
     );
     Ok(())
 }

@@ -1,6 +1,6 @@
 -- Where peers speak in frames and the store can be opened, only faults, limits and want of memory stop a node.
 use Rattle.std.proofs.Common.{◌≡◌, ◌⊎◌, ⊎_elim, inl, inr, ℕ, List, [], ◌∷◌, ◌++◌, Bool, true, false, Option, Some, Ok, Err, sym, ap, subst, ◌∙◌, append_assoc}
-use Rattle.std.specs.Prelude.{IfErr}
+use Rattle.std.specs.Prelude.{⊤, IfErr, IfSome}
 use Rattle.std.specs.declared.result.Result.{Result}
 use Rattle.ld_msg.specs.declared.msg.Msg.{Msg}
 use Rattle.ld_msg.specs.Register.{Register as Contents}
@@ -9,9 +9,8 @@ use Rattle.ld_wire.specs.Frames.{frame_of}
 use Rattle.ld_wire.specs.Streams.{frames_of, AreMessages}
 use Rattle.ld_wire.specs.Judging.{Reading, Complete, Waits, Refused, judge}
 use Rattle.ld_wire.proofs.Judges.{judge_frame, refused_extends}
-use Rattle.ld_op.specs.Plain.{Plain}
-use Rattle.ld_store.specs.Ops.{are_none}
-use Rattle.ld_store.proofs.Readings.{one_list, not_damaged}
+use Rattle.ld_op.specs.Plain.{Plain, unformatted}
+use Rattle.ld_store.specs.Ops.{StandsFor, IfStands}
 use Rattle.ld_link.specs.Peers.{Peers}
 use Rattle.ld_node.specs.Known.{Known}
 use Rattle.ld_serve.specs.declared.stop.Stop.{Stop}
@@ -19,10 +18,11 @@ use Rattle.ld_serve.specs.declared.stop.Stop.TheVariants.{NoMemory, Disk, Regist
 use Rattle.ld_serve.specs.declared.stop.Which.TheVariants as journals
 use Rattle.ld_serve.specs.Course.{IsStopped}
 use Rattle.ld_serve.specs.Stops.{IsLinkStop, IsUnread, IsNodeStop, IsUnsent}
-use Rattle.ld_serve.specs.Opening.{IsBlank, IsFormatted, IsOpeningStop}
+use Rattle.ld_serve.specs.Opening.{IsOpeningStop}
 use Rattle.ld_serve.specs.Serving.{State, after, answers, IsCut}
-use Rattle.ld_serve.specs.Whole.{HasStopped, IsNotOpened}
+use Rattle.ld_serve.specs.Whole.{HasStopped, StoppedOn, IsNotOpened}
 use Rattle.ld_serve.specs.Complete.{IsSpoken, AreSpoken, MayOpen, IsFaultOrLimit}
+use Rattle.ld_serve.proofs.Openings.{blank_stands}
 
 -- ---- frames aren't refused ----
 
@@ -76,13 +76,14 @@ link_is Blank u = u
 link_is (Full which) u = tt
 link_is GenLimit u = tt
 
-node_is : (stop : Stop) → IsNodeStop stop → IsFaultOrLimit stop
+node_is : (stop : Stop) → IsNodeStop ⊤ stop → IsFaultOrLimit stop
 node_is NoMemory u = tt
 node_is Disk u = tt
 node_is Register u = tt
 node_is Link u = tt
 node_is (BadFrame fault) u = u
-node_is (Damaged which place) u = u
+node_is (Damaged journals.Store place) u = u tt
+node_is (Damaged journals.Register place) u = u
 node_is Blank u = u
 node_is (Full which) u = tt
 node_is GenLimit u = tt
@@ -109,9 +110,9 @@ unread_is held Blank never u = u
 unread_is held (Full which) never u = tt
 unread_is held GenLimit never u = tt
 
-module _ (id : ℕ) (known : Known) (Told : Type 0) (left : List ℕ → Type 0) (stop : Stop) where
+module _ (id : ℕ) (known : Known) (left : List ℕ → Type 0) (stop : Stop) where
   serving_is : (start : Peers) (s : State) (now : Option Peers) (state : State) → AreSpoken start.coming
-      → IsStopped (after id known) (answers id known) (IsCut id known Told left stop) start s now state → IsFaultOrLimit stop
+      → IsStopped (after id known) (answers id known) (IsCut id known left stop) start s now state → IsFaultOrLimit stop
   serving_is start s now state spoken (inl between) = link_is stop between.cause.0
   serving_is start s now state spoken (inr turn) =
       let present = spoken_at _ _ _ (subst AreSpoken turn.coming spoken) in
@@ -122,13 +123,13 @@ module _ (id : ℕ) (known : Known) (Told : Type 0) (left : List ℕ → Type 0)
 
 -- ---- stops before it serves ----
 
-not_blank : (p : Plain) (bytes : List ℕ) → IsFormatted p bytes → IsBlank bytes → ⊥
-not_blank p bytes formatted blank =
-    let e : true ≡ false = ap are_none (one_list [] formatted.found bytes blank formatted.journal) ∙ formatted.some in cc e
-
 module _ (disk_before disk_now register_before register_now : ℕ) (Told : Type 0) (holds : Contents → Type 0) (damaged : ℕ → Type 0) (id : ℕ) (format : Bool) (bytes : List ℕ) where
   abbrev Stops : Stop → Type 0
   Stops stop = IsOpeningStop disk_before disk_now (Some bytes) register_before register_now Told holds damaged id format stop
+
+  may_stand : MayOpen Told damaged format bytes → (p : Plain) × StandsFor p bytes
+  may_stand (inl formatted) = (formatted.0, formatted.1.stands)
+  may_stand (inr blank) = (unformatted, blank_stands bytes blank.blank)
 
   opening_is : (stop : Stop) → MayOpen Told damaged format bytes → Stops stop → IsFaultOrLimit stop
   opening_is NoMemory may o = tt
@@ -136,11 +137,10 @@ module _ (disk_before disk_now register_before register_now : ℕ) (Told : Type 
   opening_is Register may o = tt
   opening_is Link may o = tt
   opening_is (BadFrame fault) may o = o
-  opening_is (Damaged journals.Store place) (inl formatted) o = not_damaged formatted.1.found bytes place formatted.1.journal o
-  opening_is (Damaged journals.Store place) (inr blank) o = not_damaged [] bytes place blank.blank o
-  opening_is (Damaged journals.Register place) (inl formatted) o = not_blank formatted.0 bytes formatted.1 o.0.1
+  opening_is (Damaged journals.Store place) may o = let stands = may_stand may in o.none stands.0 stands.1
+  opening_is (Damaged journals.Register place) (inl formatted) o = formatted.1.some o.0.1
   opening_is (Damaged journals.Register place) (inr blank) o = blank.sound place (o.1 blank.told)
-  opening_is Blank (inl formatted) o = not_blank formatted.0 bytes formatted.1 o.1
+  opening_is Blank (inl formatted) o = formatted.1.some o.1
   opening_is Blank (inr blank) o = (let e : true ≡ false = sym blank.asked ∙ o.0 in cc e)
   opening_is (Full which) may o = tt
   opening_is GenLimit may o = tt
@@ -155,4 +155,7 @@ module _ (disk_before disk_now : ℕ) (seen seen_now : Option (List ℕ)) (befor
   completes link_before link_now now start bytes (Err stop) spoken is may (inl refused) =
       opening_is disk_before disk_now register_before register_now Told holds damaged id format bytes stop may
       (subst (λ o. IsOpeningStop disk_before disk_now o register_before register_now Told holds damaged id format stop) is refused.cause)
-  completes link_before link_now now start bytes (Err stop) spoken is may (inr served) = serving_is id known _ left stop start _ now served.last spoken served.course
+  completes link_before link_now now start bytes (Err stop) spoken is may (inr served) =
+      let stands = may_stand disk_before disk_now register_before register_now Told holds damaged id format bytes may in
+      let exact = subst (λ o. IfSome o (IfStands (λ bytes. StoppedOn bytes left holds holds_now id known format start now stop))) is served.exact stands.0 stands.1 in
+      serving_is id known left stop start _ now exact.last spoken exact.course

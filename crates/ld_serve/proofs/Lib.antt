@@ -1,5 +1,6 @@
 pub mod Frames
 pub mod Courses
+pub mod Hearing
 pub mod Serving
 pub mod Stops
 pub mod Openings

@@ -28,7 +28,7 @@ pub record MayFormat (Told : Type 0) (damaged : ℕ → Type 0) (format : Bool) 
   pub told : Told
   pub sound : (place : ℕ) → damaged place → ⊥
 
--- the disk's bytes are the journal of a formatted store, or it may be formatted
+-- the disk's bytes are those of a formatted store, or it may be formatted
 abbrev pub MayOpen : Type 0 → (ℕ → Type 0) → Bool → List ℕ → Type 0
 MayOpen Told damaged format bytes = ((p : Plain) × IsFormatted p bytes) ⊎ MayFormat Told damaged format bytes
 

@@ -1,11 +1,10 @@
 -- How a node is opened: what it stands for then, and why it may be refused.
-use Rattle.std.specs.Prelude.{◌≡◌, ◌⊎◌, ◌≤◌, ◌-◌, ◌^◌, ℕ, List, [], ◌∷◌, Bool, true, false, Option, Some, IfSome}
+use Rattle.std.specs.Prelude.{◌≡◌, ◌⊎◌, ◌≤◌, ◌-◌, ◌^◌, ℕ, List, [], Bool, true, false, Option, None, Some, IfSome}
 use Rattle.ld_io.specs.Causes.{Rose}
 use Rattle.ld_msg.specs.Register.{Register as Contents, generation_of}
-use Rattle.ld_op.specs.declared.record.Record.{Record}
-use Rattle.ld_op.specs.declared.record.Record.TheVariants.{Now}
-use Rattle.ld_op.specs.Plain.{Plain, unformatted}
-use Rattle.ld_store.specs.Ops.{StandsFor, IsJournalOf, IsDamaged, HasNoRoom, are_none, state_after}
+use Rattle.ld_op.specs.Plain.{Plain, unformatted, apply}
+use Rattle.ld_layout.specs.Layout.{new_layout}
+use Rattle.ld_store.specs.Ops.{StandsFor, IfStands, IsJournalOf, IsDamaged, HasNoRoom}
 use Rattle.ld_register.specs.declared.fault.RegisterFault.TheVariants as refusals
 use Rattle.ld_register.specs.declared.register.Drawn.{Drawn}
 use Rattle.ld_register.specs.Calls.{drawn, after_draw, is_full, draw_length}
@@ -18,16 +17,19 @@ use Rattle.ld_serve.specs.declared.stop.Stop.{Stop}
 use Rattle.ld_serve.specs.declared.stop.Stop.TheVariants as stops
 use Rattle.ld_serve.specs.declared.stop.Which.TheVariants.{Store, Register}
 
+-- a disk tells bytes that stand for a plain state
+abbrev pub Stands : Option (List ℕ) → Type 0
+Stands None = ⊥
+Stands (Some bytes) = (p : Plain) × StandsFor p bytes
+
 -- no record stands on the disk
 abbrev pub IsBlank : List ℕ → Type 0
 IsBlank bytes = IsJournalOf [] bytes
 
--- the disk's bytes are a journal of some records, which add up to this state
+-- some record stands on the disk, and its bytes stand for this state
 pub record IsFormatted (p : Plain) (bytes : List ℕ) : Type 0 where
-  pub found : List Record
-  pub some : are_none found ≡ false
-  pub journal : IsJournalOf found bytes
-  pub state : p ≡ state_after found
+  pub some : IsBlank bytes → ⊥
+  pub stands : StandsFor p bytes
 
 -- of a register that may hold these: what each of them answers to a draw of the node
 abbrev pub Draws : (Contents → Type 0) → ℕ → Drawn → Type 0
@@ -44,7 +46,7 @@ pub record IsFormattedNow (holds holds_now : Contents → Type 0) (id : ℕ) (fo
   pub given : Drawn
   pub drawn : Draws holds id given
   pub drew : HoldsDraw holds holds_now id
-  pub state : p ≡ state_after (Now (format_of given) ∷ [])
+  pub state : p ≡ apply unformatted (format_of given)
 
 abbrev pub IsOpening : (Contents → Type 0) → (Contents → Type 0) → ℕ → Bool → Plain → List ℕ → Type 0
 IsOpening holds holds_now id format p bytes = IsFormatted p bytes ⊎ IsFormattedNow holds holds_now id format p bytes
@@ -59,7 +61,7 @@ ShowsSame seen seen_now = IfSome seen (λ bytes. seen_now ≡ Some bytes)
 
 -- what may be left by a format that was refused: a blank disk, or the state of the format under what the register drew
 abbrev pub LeftByFormat : (Contents → Type 0) → ℕ → List ℕ → Type 0
-LeftByFormat holds id left = StandsFor unformatted left ⊎ ((given : Drawn) × Draws holds id given × StandsFor (state_after (Now (format_of given) ∷ [])) left)
+LeftByFormat holds id left = StandsFor unformatted left ⊎ ((given : Drawn) × Draws holds id given × StandsFor (apply unformatted (format_of given)) left)
 
 -- ---- faults of a load and of a format as reasons to stop; those that can't come are want of memory ----
 
@@ -98,11 +100,11 @@ module _ (disk_before disk_now : ℕ) (seen : Option (List ℕ)) (register_befor
 
   -- the format's record would pass the store's limit
   abbrev pub StoreIsFull : Type 0
-  StoreIsFull = IfSome seen (λ bytes. (c : Contents) → holds c → (given : Drawn) × (answered given ≡ drawn c id) × IsPast 0 (Some (format_of given)))
+  StoreIsFull = IfSome seen (λ bytes. (c : Contents) → holds c → (given : Drawn) × (answered given ≡ drawn c id) × IsPast new_layout (Some (format_of given)))
 
-  -- the store is of the first version, and a mark would pass its limit
+  -- the store is of the first version, and a mark, or the segment that it needs, would pass its limit
   abbrev pub HasNoRoomToMark : Type 0
-  HasNoRoomToMark = IfSome seen HasNoRoom
+  HasNoRoomToMark = IfSome seen (IfStands HasNoRoom)
 
   abbrev pub IsOpeningStop : Stop → Type 0
   IsOpeningStop stops.NoMemory = Unit {0}

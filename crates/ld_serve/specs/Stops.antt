@@ -4,7 +4,7 @@ use Rattle.ld_io.specs.Causes.{Rose}
 use Rattle.ld_wire.specs.Judging.{Refused, judge}
 use Rattle.ld_serve.specs.declared.stop.Stop.{Stop}
 use Rattle.ld_serve.specs.declared.stop.Which.TheVariants as journals
-use Rattle.ld_serve.specs.declared.stop.Stop.TheVariants.{NoMemory, Link, Disk, Register, Full, BadFrame}
+use Rattle.ld_serve.specs.declared.stop.Stop.TheVariants.{NoMemory, Link, Disk, Register, Full, BadFrame, Damaged}
 
 -- the count of a link's faults, by why it stopped: it rose where the link failed, and else it is the same
 abbrev pub LinkCounts : ℕ → ℕ → Stop → Type 0
@@ -18,12 +18,13 @@ IsUnread held Link = Unit {0}
 IsUnread held (BadFrame fault) = judge held ≡ Refused fault
 IsUnread held _ = ⊥
 
--- the node refused a frame that was taken
-abbrev pub IsNodeStop : Stop → Type 0
-IsNodeStop NoMemory = Unit {0}
-IsNodeStop Disk = Unit {0}
-IsNodeStop (Full journals.Store) = Unit {0}
-IsNodeStop _ = ⊥
+-- the node refused a frame that was taken; where its store holds what its disk has, no payload is missing there
+abbrev pub IsNodeStop : Type 0 → Stop → Type 0
+IsNodeStop Held NoMemory = Unit {0}
+IsNodeStop Held Disk = Unit {0}
+IsNodeStop Held (Full journals.Store) = Unit {0}
+IsNodeStop Held (Damaged journals.Store place) = Held → ⊥
+IsNodeStop Held _ = ⊥
 
 -- answers weren't written to their end
 abbrev pub IsUnsent : Stop → Type 0
@@ -46,11 +47,13 @@ abbrev pub RegisterCounts : ℕ → ℕ → Stop → Type 0
 RegisterCounts before now Register = Rose before now
 RegisterCounts before now _ = now ≡ before
 
--- while it serves it stops for want of memory, or with the disk, the link, bytes that begin no frame, or a store that is full
-abbrev pub IsServingStop : Stop → Type 0
-IsServingStop NoMemory = Unit {0}
-IsServingStop Disk = Unit {0}
-IsServingStop Link = Unit {0}
-IsServingStop (BadFrame fault) = Unit {0}
-IsServingStop (Full journals.Store) = Unit {0}
-IsServingStop _ = ⊥
+-- while it serves it stops for want of memory, or with the disk, the link, bytes that begin no frame, or a store that is full; or with a payload that is missing there, where its store
+-- doesn't hold what its disk has
+abbrev pub IsServingStop : Type 0 → Stop → Type 0
+IsServingStop Held NoMemory = Unit {0}
+IsServingStop Held Disk = Unit {0}
+IsServingStop Held Link = Unit {0}
+IsServingStop Held (BadFrame fault) = Unit {0}
+IsServingStop Held (Full journals.Store) = Unit {0}
+IsServingStop Held (Damaged journals.Store place) = Held → ⊥
+IsServingStop Held _ = ⊥

@@ -1,14 +1,15 @@
 -- A node is opened, and serves until its turns are taken, its peers have ended, or it stops.
-use Rattle.std.specs.Prelude.{◌≡◌, ◌⊎◌, ℕ, List, [], Bool, true, Option, IfSome, IsSome}
+use Rattle.std.specs.Prelude.{◌≡◌, ◌⊎◌, ℕ, List, [], Bool, true, Option, IfSome}
 use Rattle.ld_msg.specs.Register.{Register as Contents}
 use Rattle.ld_op.specs.Plain.{Plain}
-use Rattle.ld_store.specs.Ops.{StandsFor}
+use Rattle.ld_store.specs.Ops.{StandsFor, IfStands}
 use Rattle.ld_store.specs.Loads.{LeftOrMarked}
 use Rattle.ld_link.specs.Peers.{Peers}
 use Rattle.ld_node.specs.Known.{Known}
 use Rattle.ld_serve.specs.declared.stop.Stop.{Stop}
 use Rattle.ld_serve.specs.declared.stop.Stop.TheVariants.{Disk}
 use Rattle.ld_serve.specs.Course.{IsServed, IsStopped}
+use Rattle.ld_serve.specs.Heard.{Heard, HeardUntil}
 use Rattle.ld_serve.specs.Opening.{IsOpening, IsOpeningStop, ShowsSame, LeftByFormat, HoldsDrawOrNot}
 use Rattle.ld_serve.specs.Serving.{State, after, answers, IsCut}
 
@@ -17,21 +18,33 @@ abbrev pub at_first : Plain → State
 at_first p = record { plain = p; released = [] }
 
 -- of a disk that showed these bytes, of which this may be left now, and of a register that may have held these contents, and may hold those now
-module _ (seen : Option (List ℕ)) (left : List ℕ → Type 0) (holds holds_now : Contents → Type 0) (id : ℕ) (known : Known) (format : Bool) where
+module _ (seen : List ℕ) (left : List ℕ → Type 0) (holds holds_now : Contents → Type 0) (id : ℕ) (known : Known) (format : Bool) where
   -- the node was opened, and served so many turns, or until there was no next peer
-  pub record HasServed (start : Peers) (now : Option Peers) (turns : ℕ) : Type 0 where
+  pub record ServedOn (start : Peers) (now : Option Peers) (turns : ℕ) : Type 0 where
     pub first : Plain
-    pub opened : IfSome seen (IsOpening holds holds_now id format first)
+    pub opened : IsOpening holds holds_now id format first seen
     pub last : State
     pub course : IsServed (after id known) (answers id known) start (at_first first) now last turns
-    pub stands : IfSome seen (λ _. (bytes : List ℕ) → left bytes → StandsFor last.plain bytes)
+    pub stands : (bytes : List ℕ) → left bytes → StandsFor last.plain bytes
 
   -- the node was opened, and stopped while it served
-  pub record HasStopped (start : Peers) (now : Option Peers) (stop : Stop) : Type 0 where
+  pub record StoppedOn (start : Peers) (now : Option Peers) (stop : Stop) : Type 0 where
     pub first : Plain
-    pub opened : IfSome seen (IsOpening holds holds_now id format first)
+    pub opened : IsOpening holds holds_now id format first seen
     pub last : State
-    pub course : IsStopped (after id known) (answers id known) (IsCut id known (IsSome seen) left stop) start (at_first first) now last
+    pub course : IsStopped (after id known) (answers id known) (IsCut id known left stop) start (at_first first) now last
+
+-- of a disk that may have shown bytes
+module _ (seen : Option (List ℕ)) (left : List ℕ → Type 0) (holds holds_now : Contents → Type 0) (id : ℕ) (known : Known) (format : Bool) where
+  -- the node was opened and served, and where the disk showed bytes that stand for a plain state, its answers are those of that
+  pub record HasServed (start : Peers) (now : Option Peers) (turns : ℕ) : Type 0 where
+    pub heard : Heard start now turns
+    pub exact : IfSome seen (IfStands (λ bytes. ServedOn bytes left holds holds_now id known format start now turns))
+
+  -- it was opened, and stopped while it served
+  pub record HasStopped (start : Peers) (now : Option Peers) (stop : Stop) : Type 0 where
+    pub heard : HeardUntil start now stop
+    pub exact : IfSome seen (IfStands (λ bytes. StoppedOn bytes left holds holds_now id known format start now stop))
 
 -- of a disk, its counts of faults, the bytes that it showed and shows, and what might be left of it and may be now; and of a register
 module _ (disk_before disk_now : ℕ) (seen seen_now : Option (List ℕ)) (before left : List ℕ → Type 0) (register_before register_now : ℕ) (Told : Type 0) (holds holds_now : Contents → Type 0) (damaged : ℕ → Type 0) (id : ℕ) (format : Bool) where

@@ -1,14 +1,14 @@
 // A node is opened: loaded from its disk, and formatted where that is blank.
 ghost use Rattle.std.specs.Prelude.{◌≡◌, ◌≢◌, ◌⊎◌, [], ℕ, List, Option, Some, IfOk, IfErr, IfSome, MatchResult, true, false};
 ghost use Rattle.ld_ids.specs.declared.set.Spec.{Spec as Fixed};
+ghost use Rattle.ld_store.specs.Ops.{IfStands};
 ghost use Rattle.ld_store.specs.Loads.{LeftOrMarked};
 ghost use Rattle.ld_register.specs.Calls.{after_draw, ChangedOrNot};
 ghost use Rattle.ld_register.specs.declared.fault.RegisterFault.{RegisterFault as Refusal};
 ghost use Rattle.ld_register.specs.declared.fault.RegisterFault.TheVariants as refusals;
-ghost use Rattle.ld_node.specs.Node.{id_of, known_of, released_of, plain_of, disk_of, must_load, is_blank};
+ghost use Rattle.ld_node.specs.Node.{id_of, known_of, released_of, plain_of, disk_of, must_load, is_blank, Holds};
 ghost use Rattle.ld_node.specs.Known.{known_in};
 ghost use Rattle.ld_serve.specs.Opening.{IsBlank, IsOpening, IsOpeningStop, ShowsSame, LeftByFormat, HoldsDrawOrNot, stop_of_load, stop_of_format};
-ghost use Rattle.ld_serve.specs.Serving.{IsHeld};
 ghost use Rattle.ld_serve.specs.Stops.{DiskCounts, RegisterCounts};
 
 use crate::{Stop, Which};
@@ -85,11 +85,11 @@ fn format_stop(fault: NodeFault) -> Stop
 /// blank, the register isn't called.
 ///
 /// A refusal hands the disk back: `Disk` where a call of it failed, `Damaged(Store, place)` as a node's load says,
-/// `Full(Store)` where a mark would make the store longer than 2^40 bytes, `Blank` where no record stands on the disk and
-/// no format was asked for; of a format `Register` where a call of the register failed, `Damaged(Register, place)`,
-/// `GenLimit` and `Full(Register)` as its draw says, and `Full(Store)` where the format's record would make the store
-/// longer than 2^40 bytes; and `NoMemory`. But for `Disk` no byte of the disk has changed; at `Disk` the mark or the
-/// format may be there. Where a format is refused the draw may be made.
+/// `Full(Store)` where a mark, or the segment that it needs, would make the store longer than 2^40 bytes, `Blank` where no
+/// record stands on the disk and no format was asked for; of a format `Register` where a call of the register failed,
+/// `Damaged(Register, place)`, `GenLimit` and `Full(Register)` as its draw says, and `Full(Store)` where the format's
+/// record would make the store longer than 2^40 bytes; and `NoMemory`. But for `Disk` no byte of the disk has changed; at
+/// `Disk` the mark or the format may be there. Where a format is refused the draw may be made.
 pub fn open<D: Disk, G: Register>(
     alloc: Global,
     id: NodeId,
@@ -100,16 +100,16 @@ pub fn open<D: Disk, G: Register>(
 ) -> Result<Node<D>, (D, Stop)>
     ensures node { IfOk result (λ node. (id_of node ≡ id) × (known_of node ≡ known_in config.now) × (released_of node ≡ [])) }
     ensures works { IfOk result (λ node. (is_blank node ≡ false) × (must_load node ≡ false)) }
-    ensures opens { IfOk result (λ node. IfSome (D.seen disk) (IsOpening (G.holds reg.old) (G.holds reg.new) id format (plain_of node))) }
-    ensures holds { IfOk result (λ node. IfSome (D.seen disk) (λ _. IsHeld D.seen D.may_leave node)) }
+    ensures opens { IfOk result (λ node. IfSome (D.seen disk) (IfStands (IsOpening (G.holds reg.old) (G.holds reg.new) id format (plain_of node)))) }
+    ensures holds { IfOk result (λ node. IfSome (D.seen disk) (IfStands (λ _. Holds D.seen D.may_leave node))) }
     ensures cause { IfErr result (λ e. IsOpeningStop (D.faults disk) (D.faults e.0) (D.seen disk) (G.faults reg.old) (G.faults reg.new) (G.told reg.old) (G.holds reg.old) (G.damaged reg.old) id format e.1) }
     ensures seen { IfErr result (λ e. (e.1 ≡ Stop.Disk) ⊎ ShowsSame (D.seen disk) (D.seen e.0)) }
 
     // What the register held it holds then with the draw or without it, unless it failed.
     ensures draw { IfErr result (λ e. HoldsDrawOrNot (G.holds reg.old) (G.holds reg.new) id e.1) }
 
-    // What may be left then might have been left before, or is the store of the first version with a mark or without it,
-    // or is left by the format.
+    // What may be left then might have been left before, or stands for the same as the store of the first version that
+    // was to be marked, or is left by the format.
     ensures leaves { IfErr result (λ e. IfSome (D.seen disk) (λ shown. (bytes : List ℕ) → D.may_leave e.0 bytes → LeftOrMarked (D.may_leave disk) shown bytes ⊎ ((format ≡ true) × LeftByFormat (G.holds reg.old) id bytes))) }
     ensures unasked { format ≡ false → reg.new ≡ reg.old }
     ensures formatted { (bytes : List ℕ) → D.seen disk ≡ Some bytes → (IsBlank bytes → ⊥) → reg.new ≡ reg.old }

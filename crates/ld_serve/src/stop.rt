@@ -33,7 +33,7 @@ pub enum Stop {
     /// The store isn't formatted, and no format was asked for.
     #[error("the store is not formatted")]
     Blank,
-    /// A record would make that journal longer than 2^40 bytes.
+    /// A record, or the segment that it needs, would make that journal longer than 2^40 bytes.
     #[error("a journal is full")]
     Full(Which),
     /// The greatest generation of the node has been handed out.

@@ -1,7 +1,7 @@
 // A node on a disk in memory, over a link in memory.
-use crate::{Stop, serve};
+use crate::{Stop, open, serve, serve_peers};
 use ld_config::{Config, Specs};
-use ld_disk::{Disk, MemDisk};
+use ld_disk::{Disk, Fault, MemDisk};
 use ld_ids::{LogId, NoMemory, NodeId, NodeSet, Spec};
 use ld_link::MemLink;
 use ld_register::DiskRegister;
@@ -155,11 +155,97 @@ fn what_is_no_frame_stops_it(rt: HostRuntime) -> Result<(), Fail> {
 }
 
 #[test]
-fn a_failed_write_stops_it(rt: HostRuntime) -> Result<(), Fail> {
+fn a_failed_call_of_the_link_stops_it(rt: HostRuntime) -> Result<(), Fail> {
     let alloc = rt.alloc();
-    // the next peer, a read, a write
-    let mut link = new_link(alloc, vec![in alloc; ask(alloc)?]?, vec![in alloc; 2]?)?;
-    assert_eq!(rt; serves(alloc, true, 9, &mut link), Err(Stop::Link));
+    // the next peer, a read of two asks, and the writes of their answers
+    let told: [Option<&[u8]>; 4] = [None, Some(b""), Some(b""), Some(&ENDED)];
+    for (call, answered) in told.iter().enumerate() {
+        let mut asks = ask(alloc)?;
+        asks.extend_from_slice(&ASK)?;
+        let mut link = new_link(alloc, vec![in alloc; asks]?, vec![in alloc; call as u64]?)?;
+        assert_eq!(rt; serves(alloc, true, 9, &mut link), Err(Stop::Link));
+        assert_eq!(rt; link.sent(0), *answered);
+    }
+    Ok(())
+}
+
+/// The sequencer of epoch 1 stores a record of log 1 at node 1.
+const STORE: [u8; 36] = [
+    0, 0, 0, 32, 1, 1, 0, 0, 0, 1, 0, 0, 0, 0, 1, 0, 0, 0, 1, 0, 0, 0, 1, 0, 0, 0, 1, 0, 0, 0, 0,
+    0, 0, 2, 104, 105,
+];
+
+/// That it is stored.
+const STORED: [u8; 27] = [
+    0, 0, 0, 23, 2, 0, 0, 0, 0, 1, 1, 0, 0, 0, 1, 0, 0, 0, 1, 0, 0, 0, 1, 0, 0, 0, 1,
+];
+
+/// A link with a peer that sends that Store.
+fn storing(alloc: Global) -> Result<MemLink, NoMemory> {
+    let mut bytes = Vec::new(alloc);
+    bytes.extend_from_slice(&STORE)?;
+    new_link(alloc, vec![in alloc; bytes]?, Vec::new(alloc))
+}
+
+/// How node 1 ends that is sent the Store on this disk, and whether it was answered.
+fn is_stored(
+    alloc: Global,
+    format: bool,
+    disk: &mut MemDisk,
+) -> Result<(Result<(), Stop>, bool), NoMemory> {
+    let mut link = storing(alloc)?;
+    let end = serves_on(alloc, format, 1, disk, &mut link);
+    Ok((end, link.sent(0) == Some(STORED.as_slice())))
+}
+
+#[test]
+fn a_failed_call_of_the_disk_stops_it(rt: HostRuntime) -> Result<(), Fail> {
+    let alloc = rt.alloc();
+    // the load's sync, the four calls of the record, and the first read of the load
+    for call in 0..6 {
+        let mut disk = new_disk(alloc)?;
+        let mut nobody = new_link(alloc, Vec::new(alloc), Vec::new(alloc))?;
+        assert_eq!(rt; serves_on(alloc, true, 1, &mut disk, &mut nobody), Ok(()));
+        disk.arm(if call == 5 {
+            Fault::FailReadAt(1)
+        } else {
+            Fault::FailAt(call + 1)
+        });
+        assert_eq!(rt;
+            is_stored(alloc, false, &mut disk)?,
+            (Err(Stop::Disk), false)
+        );
+        assert_eq!(rt; is_stored(alloc, false, &mut disk)?, (Ok(()), true));
+    }
+    Ok(())
+}
+
+/// How node 1 ends that is opened on this disk, is sent the Store, and fails in the first read that it makes of it, and
+/// whether it was answered.
+fn is_read(alloc: Global, disk: &mut MemDisk) -> Result<(Result<(), Stop>, bool), NoMemory> {
+    let (Ok(config), Ok(register), Some(id)) = (config(alloc), new_disk(alloc), NodeId::new(1))
+    else {
+        return Err(NoMemory);
+    };
+    let mut reg = DiskRegister::new(alloc, register);
+    let Ok(mut node) = open(alloc, id, &config, false, disk, &mut reg) else {
+        return Err(NoMemory);
+    };
+    node.arm(Fault::FailReadAt(1));
+    let mut link = storing(alloc)?;
+    let end = serve_peers(alloc, &mut node, &mut link, 1);
+    Ok((end, link.sent(0) == Some(STORED.as_slice())))
+}
+
+#[test]
+fn a_failed_read_of_a_payload_stops_it(rt: HostRuntime) -> Result<(), Fail> {
+    let alloc = rt.alloc();
+    let mut disk = new_disk(alloc)?;
+    // a record that isn't there is stored, and no payload is read
+    assert_eq!(rt; is_stored(alloc, true, &mut disk)?, (Ok(()), true));
+    // the same once more is compared with the payload that is there
+    assert_eq!(rt; is_read(alloc, &mut disk)?, (Err(Stop::Disk), false));
+    assert_eq!(rt; is_stored(alloc, false, &mut disk)?, (Ok(()), true));
     Ok(())
 }
 

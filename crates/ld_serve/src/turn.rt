@@ -2,11 +2,11 @@
 ghost use Rattle.std.specs.Prelude.{◌≡◌, ◌≢◌, ◌⊎◌, ◌<◌, ◌+◌, ℕ, List, length, None, Some, true, false, IfErr, OnOk, MatchResult, MatchBool};
 ghost use Rattle.ld_io.specs.Causes.{Rose};
 ghost use Rattle.ld_link.specs.Peers.{Peers};
-ghost use Rattle.ld_op.specs.declared.record.Record.{Record as Kind};
 ghost use Rattle.ld_register.specs.declared.fault.RegisterFault.{RegisterFault};
 ghost use Rattle.ld_node.specs.Node.{id_of, known_of, disk_of, must_load, is_blank, Holds};
 ghost use Rattle.ld_serve.specs.Course.{WithPeer, BetweenPeers, InTurn};
-ghost use Rattle.ld_serve.specs.Serving.{State, state_of, after, answers, IsHeld, IsCut};
+ghost use Rattle.ld_serve.specs.Heard.{IsTurn};
+ghost use Rattle.ld_serve.specs.Serving.{State, state_of, after, answers, IsAt, IsCut};
 ghost use Rattle.ld_serve.specs.Stops.{IsNodeStop, IsServingStop, LinkCounts, DiskCounts};
 
 use crate::answer::answer;
@@ -21,19 +21,20 @@ use std::alloc::Global;
 /// Why a message wasn't handled.
 fn stop_of(fault: NodeFault) -> Stop
     requires needs_load { fault ≢ NodeFault.NeedsLoad }
-    requires damaged { (place : ℕ) → fault ≢ NodeFault.Damaged place }
     requires register { (refusal : RegisterFault) → fault ≢ NodeFault.Register refusal }
-    ensures cause { IsNodeStop result }
+    ensures cause { IsNodeStop ⊥ result }
+    ensures damaged { (place : ℕ) → result ≡ Stop.Damaged Which.Store place → fault ≡ NodeFault.Damaged place }
+    ensures disk { fault ≡ NodeFault.Disk → result ≡ Stop.Disk }
     ensures full { result ≡ Stop.Full Which.Store → fault ≡ NodeFault.Full }
     ensures disk_counts { (before : ℕ) (now : ℕ) → (fault ≡ NodeFault.Disk → Rose before now) → (fault ≡ NodeFault.Disk) ⊎ (now ≡ before) → DiskCounts before now result }
     ensures link_counts { (before : ℕ) (now : ℕ) → now ≡ before → LinkCounts before now result }
 {
     match fault {
         NodeFault::Disk => Stop::Disk,
+        NodeFault::Damaged(place) => Stop::Damaged(Which::Store, place),
         NodeFault::Full => Stop::Full(Which::Store),
         NodeFault::NoMemory => Stop::NoMemory,
         NodeFault::NeedsLoad => unreachable!(),
-        NodeFault::Damaged(_) => unreachable!(),
         NodeFault::Register(_) => unreachable!(),
     }
 }
@@ -55,16 +56,17 @@ pub(crate) fn turn<D: Disk, L: Link>(
     ensures rest { (id_of node.new ≡ id_of node.old) × (known_of node.new ≡ known_of node.old) × (is_blank node.new ≡ false) }
     ensures itself { D.identity (disk_of node.new) ≡ D.identity (disk_of node.old) }
     ensures works { OnOk result (must_load node.new ≡ false) }
-    ensures turned { (start : Peers) (s : State) (turns : ℕ)
+    ensures heard { IsTurn (L.peers link.old) (L.peers link.new) decoder.old.bytes decoder.new.bytes result }
+    ensures turned { (start : Peers) (s : State) (turns : ℕ) → Holds D.seen D.may_leave node.old
         → WithPeer (after (id_of node.old) (known_of node.old)) (answers (id_of node.old) (known_of node.old)) start s (L.peers link.old) decoder.old.bytes (state_of node.old) turns
         → MatchResult result
         (λ more. MatchBool more
         (WithPeer (after (id_of node.old) (known_of node.old)) (answers (id_of node.old) (known_of node.old)) start s (L.peers link.new) decoder.new.bytes (state_of node.new) (turns + 1))
         (BetweenPeers (after (id_of node.old) (known_of node.old)) (answers (id_of node.old) (known_of node.old)) start s (L.peers link.new) (state_of node.new) (turns + 1)))
-        (λ stop. InTurn (after (id_of node.old) (known_of node.old)) (answers (id_of node.old) (known_of node.old))
-        (IsCut (id_of node.old) (known_of node.old) (IsHeld D.seen D.may_leave node.old) (D.may_leave (disk_of node.new)) stop) start s (L.peers link.new) (state_of node.new)) }
-    ensures holds { (found : List Kind) → Holds D.seen D.may_leave node.old found → OnOk result (IsHeld D.seen D.may_leave node.new) }
-    ensures stops { IfErr result IsServingStop }
+        (λ stop. (last : State) × IsAt last stop node.new × InTurn (after (id_of node.old) (known_of node.old)) (answers (id_of node.old) (known_of node.old))
+        (IsCut (id_of node.old) (known_of node.old) (D.may_leave (disk_of node.new)) stop) start s (L.peers link.new) last) }
+    ensures holds { Holds D.seen D.may_leave node.old → OnOk result (Holds D.seen D.may_leave node.new) }
+    ensures stops { IfErr result (IsServingStop (Holds D.seen D.may_leave node.old)) }
     ensures link_counts { MatchResult result (λ _. L.faults link.new ≡ L.faults link.old) (LinkCounts (L.faults link.old) (L.faults link.new)) }
     ensures disk_counts { MatchResult result (λ _. D.faults (disk_of node.new) ≡ D.faults (disk_of node.old)) (DiskCounts (D.faults (disk_of node.old)) (D.faults (disk_of node.new))) }
 {

@@ -4,7 +4,7 @@ ghost use Rattle.ld_link.specs.Peers.{Peers};
 ghost use Rattle.ld_register.specs.Calls.{after_draw, ChangedOrNot};
 ghost use Rattle.ld_node.specs.Known.{known_in};
 ghost use Rattle.ld_serve.specs.Whole.{HasServed, HasStopped, IsNotOpened};
-ghost use Rattle.ld_serve.specs.Opening.{IsBlank};
+ghost use Rattle.ld_serve.specs.Opening.{Stands, IsBlank};
 ghost use Rattle.ld_serve.specs.Complete.{AreSpoken, MayOpen, IsFaultOrLimit};
 ghost use Rattle.ld_serve.specs.Stops.{IsServingStop, LinkCounts, DiskCounts, RegisterCounts};
 
@@ -47,7 +47,7 @@ fn serve_on<D: Disk, G: Register, L: Link>(
         ⊎ HasStopped (D.seen disk) (D.may_leave result.0) (G.holds reg.old) (G.holds reg.new) id (known_in config.now) format start (L.peers link.new) stop) }
     ensures opening { IfErr result.1 (λ stop. IsNotOpened (D.faults disk) (D.faults result.0) (D.seen disk) (D.seen result.0) (D.may_leave disk) (D.may_leave result.0)
         (G.faults reg.old) (G.faults reg.new) (G.told reg.old) (G.holds reg.old) (G.holds reg.new) (G.damaged reg.old) id format link.old link.new stop
-        ⊎ IsServingStop stop) }
+        ⊎ IsServingStop (Stands (D.seen disk)) stop) }
     ensures unasked { format ≡ false → reg.new ≡ reg.old }
     ensures formatted { (bytes : List ℕ) → D.seen disk ≡ Some bytes → (IsBlank bytes → ⊥) → reg.new ≡ reg.old }
     ensures drawn { G.told reg.old → ChangedOrNot (G.may_hold reg.old) (G.may_hold reg.new) (λ c. after_draw c id) }
@@ -72,11 +72,16 @@ fn serve_on<D: Disk, G: Register, L: Link>(
 /// marked as one of the second, which leaves that state as it is. Where the disk is blank and `format` is asked for, it is formatted first under a generation that the register draws, and the register holds that
 /// one draw more from then on.
 ///
+/// What the answers say of the node's state, and their payloads, is exact where the disk tells what bytes it has, and they
+/// stand for a plain state. Where it tells nothing, or bytes that a load takes though they stand for none, the answers are
+/// messages that the node made of what its disk gave it, and of their content nothing is said.
+///
 /// It refuses before the link is called as `open` does: `Disk`, `Damaged`, `Blank`, `Register`, `GenLimit`, `Full`,
-/// `NoMemory`. Then it stops as `serve_peers` does: `Link`, `BadFrame`, `Disk`, `Full(Store)`, `NoMemory`; what was done
-/// before stands, the last answers may be written in part, and the disk stands for the state before the last step or
-/// after it. `Disk`, `Register` and `Link` come only where that one's own count of faults rose in this call. `BadFrame`,
-/// `Damaged` and `Blank` don't come where the peers speak in frames and the disk holds a formatted store.
+/// `NoMemory`. Then it stops as `serve_peers` does: `Link`, `BadFrame`, `Disk`, `Full(Store)`, `NoMemory`, and, only where
+/// the disk doesn't tell bytes that stand for a plain state, `Damaged(Store, place)` at a payload; what was done before
+/// stands, the last answers may be written in part, and the disk stands for the state before the last step or after it.
+/// `Disk`, `Register` and `Link` come only where that one's own count of faults rose in this call. `BadFrame`, `Damaged`
+/// and `Blank` don't come where the peers speak in frames and the disk holds a formatted store.
 pub fn serve<D: Disk, G: Register, L: Link>(
     alloc: Global,
     id: NodeId,
@@ -87,10 +92,11 @@ pub fn serve<D: Disk, G: Register, L: Link>(
     reg: &mut G,
     link: &mut L,
 ) -> Result<(), Stop>
-    // The frames that were taken, in order over all peers, are decoded, and each is one step of the node. What was
-    // written to each peer is the frames of the answers to its frames, in order, and nothing else. Each peer but the
-    // present one was read to its end: its bytes are the frames that were taken, and then less than one. Afterwards the
-    // disk stands for the last plain state.
+    // The frames that were taken, in order over all peers, are decoded, and each has its answers. What was written to
+    // each peer is the frames of the answers to its frames, in order, and nothing else. Each peer but the present one was
+    // read to its end: its bytes are the frames that were taken, and then less than one. Where the disk tells bytes that
+    // stand for a plain state, each frame is one step of the node from that one, its answers are those of that step, and
+    // afterwards the disk stands for the last plain state.
     ensures served { (start : Peers) → L.peers link.old ≡ Some start
         → OnOk result (HasServed (D.seen disk.old) (D.may_leave disk.new) (G.holds reg.old) (G.holds reg.new) id (known_in config.now) format start (L.peers link.new) turns) }
 
@@ -103,10 +109,10 @@ pub fn serve<D: Disk, G: Register, L: Link>(
     // Whatever the link tells: what no serving node stops with comes before the link is called, and has its cause.
     ensures opening { IfErr result (λ stop. IsNotOpened (D.faults disk.old) (D.faults disk.new) (D.seen disk.old) (D.seen disk.new) (D.may_leave disk.old) (D.may_leave disk.new)
         (G.faults reg.old) (G.faults reg.new) (G.told reg.old) (G.holds reg.old) (G.holds reg.new) (G.damaged reg.old) id format link.old link.new stop
-        ⊎ IsServingStop stop) }
+        ⊎ IsServingStop (Stands (D.seen disk.old)) stop) }
 
-    // Where the peers' bytes are frames, but for a last one that may be cut, and the disk's bytes are a formatted store's
-    // journal, or are blank, to be formatted, beside a register that isn't damaged: it ends with Ok, or for want of
+    // Where the peers' bytes are frames, but for a last one that may be cut, and the disk's bytes are those of a formatted
+    // store, or are blank, to be formatted, beside a register that isn't damaged: it ends with Ok, or for want of
     // memory, a fault of one of the three, or a limit, which have their causes above.
     ensures complete { (start : Peers) (bytes : List ℕ) → L.peers link.old ≡ Some start → AreSpoken start.coming → D.seen disk.old ≡ Some bytes
         → MayOpen (G.told reg.old) (G.damaged reg.old) format bytes → IfErr result IsFaultOrLimit }

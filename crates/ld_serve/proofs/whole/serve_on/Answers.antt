@@ -1,11 +1,11 @@
 use Rattle.std.proofs.Common.{ℕ, List, [], OnOk, subst, inl, refl}
 use Rattle.std.specs.Prelude.{IfErr}
 use Rattle.ld_node.specs.Known.{Known, known_in}
-use Rattle.ld_node.specs.Node.{id_of, known_of, plain_of, disk_of}
+use Rattle.ld_node.specs.Node.{id_of, known_of, plain_of, disk_of, Holds}
 use Rattle.ld_serve.specs.Course.{IsServed, IsStopped}
-use Rattle.ld_serve.specs.Serving.{state_of, after, answers, IsHeld, IsCut}
+use Rattle.ld_serve.specs.Serving.{State, state_of, after, answers, IsAt, IsCut}
 use Rattle.ld_serve.proofs.Serving.{the_state, stand}
-use Rattle.ld_serve.proofs.Wholes.{told_of, has_served, has_stopped, is_serving, register_counts, stands_whole}
+use Rattle.ld_serve.proofs.Wholes.{held_where, has_served, has_stopped, is_serving, register_counts, stands_then}
 use Rattle.ld_serve.proofs.whole.serve_on.Goals as goal
 
 pub returns-in-Err-clause-stopped : goal.returns-in-Err-clause-stopped
@@ -23,11 +23,12 @@ returns-clause-served g c start is =
     let opened = c.in-Ok.ensures.node in
     let given = known_in c.args.config.now in
     let left = g.D.Disk.may_leave (disk_of new) in
-    let course : (i : ℕ) (known : Known) (released : List (ℕ × ℕ)) → Type 0 = λ i known released. OnOk r (IsServed (after i known) (answers i known) start (the_state (plain_of node) released) peers (state_of new) c.args.turns) in
-    rw c.into_disk.ensures (has_served (g.D.Disk.seen c.args.disk) left (g.G.Register.holds c.args.reg.now) _ c.args.id given c.args.format r start peers c.args.turns (plain_of node) (state_of new) c.in-Ok.ensures.opens
+    let held = Holds g.D.Disk.seen g.D.Disk.may_leave node in
+    let course : (i : ℕ) (known : Known) (released : List (ℕ × ℕ)) → Type 0 = λ i known released. held → OnOk r (IsServed (after i known) (answers i known) start (the_state (plain_of node) released) peers (state_of new) c.args.turns) in
+    rw c.into_disk.ensures (has_served (g.D.Disk.seen c.args.disk) left (g.G.Register.holds c.args.reg.now) _ c.args.id given c.args.format r start peers c.args.turns (plain_of node) (state_of new) held c.in-Ok.ensures.opens c.in-Ok.ensures.holds
+    (c.serve_peers-served.ensures.heard start is)
     (subst (λ i. course i given []) opened.0 (subst (λ known. course (id_of node) known []) opened.1 (subst (λ released. course (id_of node) (known_of node) released) opened.2 (c.serve_peers-served.ensures.served start is))))
-    (stands_whole (g.D.Disk.seen c.args.disk) r (IsHeld g.D.Disk.seen g.D.Disk.may_leave node) (IsHeld g.D.Disk.seen g.D.Disk.may_leave new) left _ c.in-Ok.ensures.holds (λ held. c.serve_peers-served.ensures.holds held.0 held.1)
-    (λ held. stand g.D.Disk.seen g.D.Disk.may_leave new (plain_of new) refl held)))
+    (λ was. stands_then r (Holds g.D.Disk.seen g.D.Disk.may_leave new) left _ (c.serve_peers-served.ensures.holds was) (λ now. stand g.D.Disk.seen g.D.Disk.may_leave new (plain_of new) refl now)))
 
 pub returns-clause-stopped : goal.returns-clause-stopped
 returns-clause-stopped g c start is =
@@ -38,14 +39,16 @@ returns-clause-stopped g c start is =
     let opened = c.in-Ok.ensures.node in
     let given = known_in c.args.config.now in
     let left = g.D.Disk.may_leave (disk_of new) in
-    let held = IsHeld g.D.Disk.seen g.D.Disk.may_leave node in
-    let course : (i : ℕ) (known : Known) (released : List (ℕ × ℕ)) → Type 0 = λ i known released. IfErr r (λ stop. IsStopped (after i known) (answers i known) (IsCut i known held left stop) start (the_state (plain_of node) released) peers (state_of new)) in
-    rw c.into_disk.ensures (has_stopped (g.D.Disk.seen c.args.disk) left (g.G.Register.holds c.args.reg.now) _ c.args.id given c.args.format r start peers (plain_of node) (state_of new) held _ c.in-Ok.ensures.opens
-    (told_of (g.D.Disk.seen c.args.disk) held c.in-Ok.ensures.holds)
+    let held = Holds g.D.Disk.seen g.D.Disk.may_leave node in
+    let course : (i : ℕ) (known : Known) (released : List (ℕ × ℕ)) → Type 0 = λ i known released. held → IfErr r (λ stop. (last : State) × IsAt last stop new × IsStopped (after i known) (answers i known) (IsCut i known left stop) start (the_state (plain_of node) released) peers last) in
+    rw c.into_disk.ensures (has_stopped (g.D.Disk.seen c.args.disk) left (g.G.Register.holds c.args.reg.now) _ c.args.id given c.args.format r start peers (plain_of node) held (λ last stop. IsAt last stop new) _ c.in-Ok.ensures.opens c.in-Ok.ensures.holds
+    (c.serve_peers-served.ensures.heard_until start is)
     (subst (λ i. course i given []) opened.0 (subst (λ known. course (id_of node) known []) opened.1 (subst (λ released. course (id_of node) (known_of node) released) opened.2 (c.serve_peers-served.ensures.stopped start is)))))
 
 pub returns-clause-opening : goal.returns-clause-opening
-returns-clause-opening g c = is_serving _ _ c.serve_peers-served.ensures.stops
+returns-clause-opening g c =
+    let held = Holds g.D.Disk.seen g.D.Disk.may_leave c.in-Ok.node in
+    is_serving _ _ held _ (held_where (g.D.Disk.seen c.args.disk) held c.in-Ok.ensures.holds) c.serve_peers-served.ensures.stops
 
 pub returns-clause-register_counts : goal.returns-clause-register_counts
-returns-clause-register_counts g c = register_counts _ _ _ c.serve_peers-served.ensures.stops c.in-Ok.ensures.register_counts
+returns-clause-register_counts g c = register_counts _ _ _ _ c.serve_peers-served.ensures.stops c.in-Ok.ensures.register_counts

@@ -1,0 +1,32 @@
+use Rattle.std.proofs.Common.{◌∙◌, sym, ap, subst}
+use Rattle.ld_op.specs.Handles.{answer_message}
+use Rattle.ld_node_bounds.specs.Messages.{AreMessages}
+use Rattle.ld_store.specs.Open.{disk_of, index_of}
+use Rattle.ld_node.specs.declared.fault.NodeFault.TheVariants as nodes
+use Rattle.ld_node.proofs.Filled.{settled_op, settled_answer, none_past, passed_from}
+use Rattle.ld_node.proofs.Lengths.{answer_too}
+use Rattle.ld_node.proofs.settled.prepare.Goals as goal
+
+pub returns-clause-op : goal.returns-clause-op
+returns-clause-op g c holds =
+    let store = c.args.store.now in
+    settled_op (g.D.Disk.seen (disk_of store)) _ c.args.msg.now c.args.id c.args.known.now c.args.released.now.entries (index_of store) c.index.result.now.state c.in_ok-handled.handled
+    holds.rests.bytes_are c.index.ensures.state c.in_ok-handled.ensures.handled _ c.in_ok-settled.ensures.op
+
+pub returns-clause-replies : goal.returns-clause-replies
+returns-clause-replies g c holds =
+    let store = c.args.store.now in
+    c.in_ok-replies.ensures ∙ ap (answer_message c.args.id c.args.msg.now)
+    (settled_answer (g.D.Disk.seen (disk_of store)) _ c.args.msg.now c.args.id c.args.known.now c.args.released.now.entries (index_of store) c.index.result.now.state c.in_ok-handled.handled
+    holds.rests.bytes_are c.index.ensures.state c.in_ok-handled.ensures.handled _ c.in_ok-settled.ensures.answer)
+
+pub returns-clause-messages : goal.returns-clause-messages
+returns-clause-messages g c =
+    subst (λ r. AreMessages r) (sym c.in_ok-replies.ensures)
+    (answer_too (λ _. 0) c.args.id c.args.msg.now _ _ c.in_ok-settled.ensures.lengths c.in_ok-handled.ensures.messages)
+
+pub returns-in_err-settled-clause-damaged : goal.returns-in_err-settled-clause-damaged
+returns-in_err-settled-clause-damaged g c place holds is =
+    let store = c.args.store.now in
+    none_past (g.D.Disk.seen (disk_of store)) _ (index_of store) c.index.result.now.state c.in_ok-handled.handled.answer holds.rests.bytes_are c.index.ensures.state holds.inside c.in_ok-handled.ensures.stays
+    (c.in_err-settled.ensures.damaged place (passed_from c.from_residual-in_err-settled.result c.in_err-settled.field-0.0 (nodes.Damaged place) c.from_residual-in_err-settled.ensures is))
