@@ -1,5 +1,5 @@
 -- Bytes in which something is out of place stand for no plain state.
-use Rattle.std.proofs.Common.{◌≡◌, inl, inr, ⊎_elim, ◌<◌, ◌≤◌, ◌+◌, ◌^◌, drop, ℕ, List, [], ◌∷◌, Option, None, Some, sym, ◌∙◌, ap, subst, arith}
+use Rattle.std.proofs.Common.{◌≡◌, inl, inr, ⊎_elim, ◌<◌, ◌≤◌, ◌+◌, ◌^◌, drop, ℕ, List, [], ◌∷◌, length, Option, None, Some, sym, ◌∙◌, ap, subst, arith}
 use Rattle.std.proofs.lemmas.List.{append-nil}
 use Rattle.ld_journal.specs.Format.{IsJournal}
 use Rattle.ld_journal.proofs.Reading.{one_reading}
@@ -9,17 +9,20 @@ use Rattle.ld_op.specs.declared.version.Version.{Version}
 use Rattle.ld_op.specs.declared.version.Version.TheVariants.{Blank}
 use Rattle.ld_op.specs.Plain.{Plain}
 use Rattle.ld_op.specs.Bytes.{record_bytes}
+use Rattle.ld_op.specs.Cells.{each_plain}
+use Rattle.ld_table.specs.Table.{find}
 use Rattle.ld_layout.specs.Layout.{Layout, Segment, IfSegment, room_for, head_end}
 use Rattle.ld_segment.specs.Slots.{head_bytes}
 use Rattle.ld_segment.specs.Later.{IsThere, IsDamagedBehind, IsReadAs}
 use Rattle.ld_segment.specs.declared.later.Later.{Later}
-use Rattle.ld_segment.specs.Ops.{bodies_of, place_behind, ArePlaced}
+use Rattle.ld_segment.specs.Ops.{bodies_of, place_behind, indexed, ArePlaced}
 use Rattle.ld_segment.specs.Lies.{Slots, LiesAs, IsSound, IsIndexed, IsLater, IfBounded, StandsFor, head_of, first_length}
 use Rattle.ld_segment.proofs.Readings.{no_head, same_records}
 use Rattle.ld_segment.proofs.ReadLater.{not_refused}
-use Rattle.ld_store.specs.Ops.{IsBodyOrHead, IsBodyAt, IsDamagedRow, PassesLimit, IsDamagedIn, IsDamagedLater}
+use Rattle.ld_store.specs.Ops.{IsBodyOrHead, IsBodyAt, IsDamagedRow, PassesLimit, HasAreaPast, HasPayloadPast, IsNoBase, IsDamagedIn, IsDamagedLater, within}
 use Rattle.ld_store.specs.Read.{IsOut}
 use Rattle.ld_store.proofs.Damage.{row_fine, headed}
+use Rattle.ld_store.proofs.Inside.{inside}
 use Rattle.ld_store.proofs.OneLayout.{fits_is, as_read, rest_is}
 
 -- ---- the first segment ----
@@ -72,8 +75,20 @@ module _ (v : Version) (y : Layout) (z : Slots) (bytes : List ℕ) (lies : LiesA
         let room : room_for (first_length is.current.records) ≡ room_for (first_length passes.found) = ap (λ vs. room_for (first_length vs)) rows in
         omega (arith, bounded.limit, is.current.limit_is, read.gate_is, room, passes.long)
 
+    not_area : HasAreaPast c bytes → ⊥
+    not_area past = omega (arith, past.past, is.within past.place past.size (ap (find past.place) (sym read.areas) ∙ past.area))
+
+    not_payload : HasPayloadPast c bytes → ⊥
+    not_payload past =
+        let rows = same_records is.current.records past.found placed.are past.placed.are (one_reading (drop c.gate bytes) (bodies_of is.current.records) (bodies_of past.found) journal past.journal) in
+        let index : y.index ≡ indexed c.gate c.based.index.state past.found = is.current.index_is ∙ (λ i. indexed (sym read.gate_is i) (sym read.index i) (rows i)) in
+        past.past (subst (λ p. each_plain (within (length bytes)) p ≡ p) index (inside v y z bytes lies sound))
+
+    is_base : IsNoBase c bytes → ⊥
+    is_base off = ⊎_elim not_long (λ past. ⊎_elim not_area not_payload past) off
+
   not_in : (place : ℕ) → IsDamagedIn lies.first (y.end + 15) place bytes → ⊥
-  not_in place damaged = ⊎_elim (λ row. not_row damaged.later damaged.there place row) (λ long. not_long damaged.later damaged.there long.1) damaged.cause
+  not_in place damaged = ⊎_elim (λ row. not_row damaged.later damaged.there place row) (λ off. is_base damaged.later damaged.there off.1) damaged.cause
 
   not_past : journal_limit < y.end + 49 → ⊥
   not_past past =

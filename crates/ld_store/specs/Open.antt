@@ -1,5 +1,5 @@
 -- What an open store knows of its disk.
-use Rattle.std.specs.Prelude.{◌≡◌, ◌+◌, ◌==◌, ℕ, List, [], length, Option, None, Some, IfSome, Bool, true, false, nat_lt, if◌then◌else◌}
+use Rattle.std.specs.Prelude.{◌≡◌, ◌==◌, ℕ, List, [], length, Option, None, Some, IfSome, Bool, true, false}
 use Rattle.ld_disk.specs.declared.disk.Disk.{Ghosts}
 use Rattle.ld_op.specs.Plain.{Plain}
 use Rattle.ld_op.specs.Cells.{each_plain, read_plain}
@@ -9,15 +9,12 @@ use Rattle.ld_segment.specs.Lies.{Slots, LiesAs, IsSound, written}
 use Rattle.ld_store.specs.Ops.{IsJournalOf, StandsFor}
 use Rattle.ld_store.specs.Laid.{layout_in, slots_in}
 use Rattle.ld_store.specs.declared.store.Store.{Store}
+pub use Rattle.ld_store.specs.Ops.{within}
 
 -- what an index stands for on a disk of these bytes, where it tells them
 abbrev pub told_plain : Option (List ℕ) → Plain → Plain
 told_plain None index = index
 told_plain (Some bytes) index = read_plain bytes index
-
--- a place before the end of so many bytes stays, and any other doesn't
-abbrev pub within : ℕ → ℕ → ℕ
-within count place = if nat_lt place count then place else place + 1
 
 module _ {D : Type 0} {g : Ghosts D} where
   -- the disk that the store owns

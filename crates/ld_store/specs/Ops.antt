@@ -1,5 +1,5 @@
 -- What the bytes of a node's disk stand for, where they are of the first version, and where something in them is out of place.
-use Rattle.std.specs.Prelude.{◌≡◌, ◌⊎◌, ◌<◌, ◌+◌, ◌^◌, ◌==◌, ℕ, List, [], ◌∷◌, ◌++◌, length, drop, Option, Some, None, true}
+use Rattle.std.specs.Prelude.{◌≡◌, ◌⊎◌, ◌<◌, ◌+◌, ◌^◌, ◌==◌, ℕ, List, [], ◌∷◌, ◌++◌, length, drop, Option, Some, None, true, nat_lt, if◌then◌else◌}
 use Rattle.ld_journal.specs.Format.{framed, records, IsJournal, IsCutShort}
 use Rattle.ld_journal.specs.Rest.{IsShut}
 use Rattle.ld_msg.specs.Register.{journal_limit}
@@ -10,10 +10,12 @@ use Rattle.ld_op.specs.Plain.{Plain}
 use Rattle.ld_op.specs.Records.{version_after}
 use Rattle.ld_op.specs.Bounds.{IsRecord}
 use Rattle.ld_op.specs.Bytes.{record_bytes}
+use Rattle.ld_op.specs.Cells.{each_plain}
+use Rattle.ld_table.specs.Table.{find}
 use Rattle.ld_layout.specs.Layout.{Layout, Segment, room_for, head_end}
 use Rattle.ld_segment.specs.Stays.{StandsAt}
 use Rattle.ld_segment.specs.Slots.{head_bytes}
-use Rattle.ld_segment.specs.Ops.{bodies_of, place_behind, ArePlaced}
+use Rattle.ld_segment.specs.Ops.{bodies_of, place_behind, indexed, ArePlaced}
 use Rattle.ld_segment.specs.Lies.{Slots, LiesAs, IsSound, first_length, mark_passes}
 use Rattle.ld_segment.specs.Later.{IsThere, IsDamagedBehind}
 use Rattle.ld_segment.specs.declared.later.Later.{Later}
@@ -55,6 +57,10 @@ pub record HasNoRoom (bytes : List ℕ) : Type 0 where
   pub long : mark_passes was.layout ≡ true
 
 -- ---- bytes in which something is out of place ----
+
+-- a place before the end of so many bytes stays, and any other doesn't
+abbrev pub within : ℕ → ℕ → ℕ
+within count place = if nat_lt place count then place else place + 1
 
 -- from a place on records stand, each in place behind one version, and another one behind them; then come these bytes
 pub record AreThere (from : ℕ) (opening : Version) (found : List Record) (version : Version) (rest bytes : List ℕ) : Type 0 where
@@ -106,11 +112,30 @@ pub record PassesLimit (c : Later) (bytes : List ℕ) : Type 0 where
   pub placed : ArePlaced c.version found version
   pub long : journal_limit < c.gate + 1 + room_for (first_length found)
 
--- behind the Base that the slots name a record is out of place, or the segment passes the limit, which its place tells
+-- an older area of this Base ends past the disk's end
+pub record HasAreaPast (c : Later) (bytes : List ℕ) : Type 0 where
+  pub place : ℕ
+  pub size : ℕ
+  pub area : find place c.based.areas ≡ Some size
+  pub past : length bytes < place + size
+
+-- behind the records of its segment a payload stands past the disk's end, which none of them put there
+pub record HasPayloadPast (c : Later) (bytes : List ℕ) : Type 0 where
+  pub found : List Record
+  pub version : Version
+  pub journal : IsJournal (bodies_of found) (drop c.gate bytes)
+  pub placed : ArePlaced c.version found version
+  pub past : each_plain (within (length bytes)) (indexed c.gate c.based.index.state found) ≡ indexed c.gate c.based.index.state found → ⊥
+
+-- what this Base tells can't be
+abbrev pub IsNoBase : Later → List ℕ → Type 0
+IsNoBase c bytes = PassesLimit c bytes ⊎ (HasAreaPast c bytes ⊎ HasPayloadPast c bytes)
+
+-- behind the Base that the slots name a record is out of place, or the segment passes the limit, or an area or a payload ends past the disk's end, which the Base's place tells
 pub record IsDamagedIn (opening : Version) (head place : ℕ) (bytes : List ℕ) : Type 0 where
   pub later : Later
   pub there : IsThere opening head later bytes
-  pub cause : IsDamagedRow IsBodyAt later.gate later.version place bytes ⊎ ((place ≡ later.found.place) × PassesLimit later bytes)
+  pub cause : IsDamagedRow IsBodyAt later.gate later.version place bytes ⊎ ((place ≡ later.found.place) × IsNoBase later bytes)
 
 -- the head whose gate is at this end is no journal's last record, or what it names passes the limit, or isn't there, or is damaged
 abbrev pub IsOffBehind : Version → ℕ → List ℕ → ℕ → List ℕ → Type 0

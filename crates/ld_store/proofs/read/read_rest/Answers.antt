@@ -56,5 +56,5 @@ returns-in-None-clause-damaged g c place is bytes told len there =
     record {
       later = later;
       there = there;
-      cause = inr (sym (same_place later.found.place place (error_of (stores.Damaged later.found.place) (stores.Damaged place) is)), past_in later bytes last c.replay.new.index.state all c.in-None.ensures.none);
+      cause = inr (sym (same_place later.found.place place (error_of (stores.Damaged later.found.place) (stores.Damaged place) is)), inl (past_in later bytes last c.replay.new.index.state all c.in-None.ensures.none));
     }
