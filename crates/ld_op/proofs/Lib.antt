@@ -25,5 +25,6 @@ pub mod Agree
 pub mod Ordered
 pub mod Tables
 pub mod Taken
+pub mod Within
 pub mod Rising
 pub mod Basing

@@ -20,6 +20,7 @@ pub mod Pointed
 pub mod Filled
 pub mod Indexed
 pub mod Taken
+pub mod Within
 pub mod Marked
 pub mod Drafts
 pub mod DraftMessages
