@@ -6,6 +6,7 @@ pub mod Held
 pub mod Grows
 pub mod Payloads
 pub mod Copies
+pub mod Ends
 pub mod Inside
 pub mod Segments
 pub mod Bases

@@ -1,6 +1,6 @@
 // Areas by place.
-ghost use Rattle.std.specs.Prelude.{◌≡◌, ◌≤◌, ◌<◌, ◌+◌, ◌^◌, [], ◌++◌, ℕ, length, slice_index, filter, nat_le, if◌then◌else◌, OnOk, IfOk, IfSome, IfNone};
-ghost use Rattle.ld_table.specs.Table.{put, Ordered};
+ghost use Rattle.std.specs.Prelude.{◌≡◌, ◌≤◌, ◌<◌, ◌+◌, ◌^◌, [], ◌++◌, ℕ, length, slice_index, filter, nat_le, if◌then◌else◌, Some, true, false, OnOk, IfOk, IfSome, IfNone};
+ghost use Rattle.ld_table.specs.Table.{find, put, Ordered};
 ghost use Rattle.ld_table.specs.Words.{any_of};
 ghost use Rattle.ld_layout.specs.Areas.{is_inside, least_place};
 ghost use Rattle.std.specs.List.Sorted.{IsNonDecreasing};
@@ -59,6 +59,19 @@ impl Areas {
     {
         self.map.insert(place, length)?;
         Ok(())
+    }
+
+    /// Whether each area ends at a place or before it.
+    pub fn lie_within(&self, end: u64) -> bool
+        ensures within { result ≡ true → (place size : ℕ) → find place self.now ≡ Some size → place + size ≤ end }
+        ensures past { result ≡ false → (place : ℕ) × (size : ℕ) × (find place self.now ≡ Some size) × (end < place + size) }
+    {
+        'areas: for (place, length) in self.all() {
+            if !fits(*place, *length, end) {
+                return false;
+            }
+        }
+        true
     }
 
     /// The same once more.
