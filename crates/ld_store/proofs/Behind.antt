@@ -9,12 +9,13 @@ use Rattle.ld_msg.specs.Register.{journal_limit}
 use Rattle.ld_op.specs.declared.version.Version.{Version}
 use Rattle.ld_op.specs.declared.version.Version.TheVariants.{Blank}
 use Rattle.ld_op.specs.Plain.{Plain, unformatted}
+use Rattle.ld_op.specs.Cells.{each_plain}
 use Rattle.ld_layout.specs.Layout.{room_for}
 use Rattle.ld_segment.specs.Slots.{head_bytes}
 use Rattle.ld_segment.specs.Ops.{place_behind}
 use Rattle.ld_segment.specs.declared.later.Later.{Later}
 use Rattle.ld_segment.proofs.Readings.{no_head}
-use Rattle.ld_store.specs.Ops.{AreThere, IsBodyOrHead, IsBodyAt, IsDamagedRow, PassesLimit, IsOffBehind}
+use Rattle.ld_store.specs.Ops.{AreThere, IsBodyOrHead, IsBodyAt, IsDamagedRow, PassesLimit, HasPayloadPast, IsOffBehind, within}
 use Rattle.ld_store.specs.Replayed.{HasReplayed, Replayed}
 use Rattle.ld_store.specs.Read.{IsOut}
 use Rattle.ld_store.specs.declared.fault.StoreFault.{StoreFault}
@@ -83,6 +84,17 @@ past_in c bytes last index r past =
       journal = row_is (drop c.gate bytes) has.rest has.found c.version last.version has.there.placed has.there.bytes_are r.stops;
       placed = has.there.placed;
       long = subst (λ n. journal_limit < c.gate + 1 + room_for n) has.first_is past;
+    }
+
+pub payload_in : (c : Later) (bytes : List ℕ) (last : Walk) (index : Plain) → Replayed c.gate c.version c.based.index.state bytes last index false → (each_plain (within (length bytes)) index ≡ index → ⊥) → HasPayloadPast c bytes
+payload_in c bytes last index r past =
+    let has = r.has in
+    record {
+      found = has.found;
+      version = last.version;
+      journal = row_is (drop c.gate bytes) has.rest has.found c.version last.version has.there.placed has.there.bytes_are r.stops;
+      placed = has.there.placed;
+      past = subst (λ p. each_plain (within (length bytes)) p ≡ p → ⊥) has.index_is past;
     }
 
 -- ---- an open gate ----

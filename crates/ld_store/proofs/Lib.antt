@@ -7,6 +7,7 @@ pub mod Laying
 pub mod Writing
 pub mod Holding
 pub mod Inside
+pub mod PastEnd
 pub mod Applying
 pub mod Replaying
 pub mod Damage

@@ -1,9 +1,11 @@
 -- What was read of a disk.
-use Rattle.std.specs.Prelude.{◌≡◌, ◌⊎◌, ◌+◌, ◌-◌, ◌^◌, ℕ, List, min, Some, None, true, false}
+use Rattle.std.specs.Prelude.{◌≡◌, ◌⊎◌, ◌≤◌, ◌+◌, ◌-◌, ◌^◌, ℕ, List, length, min, Some, None, true, false}
 use Rattle.ld_journal.specs.Rest.{IsShut}
 use Rattle.ld_op.specs.declared.version.Version.{Version}
 use Rattle.ld_op.specs.declared.version.Version.TheVariants.{Blank}
 use Rattle.ld_op.specs.Plain.{Plain, unformatted}
+use Rattle.ld_op.specs.Cells.{each_plain}
+use Rattle.ld_table.specs.Table.{find}
 use Rattle.ld_layout.specs.declared.segment.Segment.{Segment as Stretch}
 use Rattle.ld_layout.specs.LaidOut.{segment_of}
 use Rattle.ld_op.specs.Indexed.{entry_count}
@@ -11,7 +13,7 @@ use Rattle.ld_layout.specs.Layout.{Segment, room_for}
 use Rattle.ld_segment.specs.Found.{slots_of}
 use Rattle.ld_segment.specs.Later.{IsThere}
 use Rattle.ld_segment.specs.declared.later.Later.{Later}
-use Rattle.ld_store.specs.Ops.{IsBodyOrHead, IsDamagedRow, IsDamagedLater}
+use Rattle.ld_store.specs.Ops.{IsBodyOrHead, IsDamagedRow, IsDamagedLater, within}
 use Rattle.ld_store.specs.Laid.{slots_in}
 use Rattle.ld_store.specs.Replayed.{Replayed}
 use Rattle.ld_store.specs.declared.laid.Laid.{Laid}
@@ -46,6 +48,9 @@ pub record IsLaterRead (bytes : List ℕ) (l : Laid) (index : Plain) (version : 
   pub there : IsThere walk.version (walk.at + 15) later bytes
   pub last : Walk
   pub rest : Replayed later.gate later.version later.based.index.state bytes last index false
+  -- no area of the Base and no payload behind its records ends past the disk's end
+  pub areas : (place size : ℕ) → find place later.based.areas ≡ Some size → place + size ≤ length bytes
+  pub inside : each_plain (within (length bytes)) index ≡ index
   pub segment : Stretch
   pub segment_is : segment_of segment ≡ read_segment later last
   pub layout_is : l.layout ≡ record { ops = walk.ops; end = walk.at; later = Some segment }

@@ -1,18 +1,19 @@
 // How a disk is read: the first segment, and the later one that its head names.
-ghost use Rattle.std.specs.Prelude.{◌≡◌, ◌≢◌, ◌⊎◌, ◌≤◌, ◌<◌, ◌+◌, ◌^◌, ◌++◌, List, ℕ, length, IfOk, IfSome, IfNone, OnOk, OnErr, IsErrOf, Err, Some, None, true};
+ghost use Rattle.std.specs.Prelude.{◌≡◌, ◌≢◌, ◌⊎◌, ◌≤◌, ◌<◌, ◌+◌, ◌^◌, ◌++◌, List, ℕ, length, IfOk, IfSome, IfNone, OnOk, OnErr, IsErrOf, Err, Some, None, true, false};
 ghost use Rattle.ld_io.specs.Causes.{Rose};
 ghost use Rattle.ld_disk.specs.Moments.{Unchanged};
 ghost use Rattle.ld_disk.specs.Plain.{Plain as DiskPlain, reads_fine};
 ghost use Rattle.ld_journal.specs.Rest.{IsParted, IsShut};
 ghost use Rattle.ld_msg.specs.Register.{journal_limit};
 ghost use Rattle.ld_op.specs.declared.version.Version.TheVariants.{Blank};
+ghost use Rattle.ld_op.specs.Cells.{each_plain};
 ghost use Rattle.ld_op.specs.Plain.{Plain as State, unformatted};
 ghost use Rattle.ld_layout.specs.LaidOut.{segment_of};
 ghost use Rattle.ld_layout.specs.Layout.{room_for};
 ghost use Rattle.ld_store.specs.Well.{IsWell};
 ghost use Rattle.ld_store.specs.Replayed.{Replayed};
 ghost use Rattle.ld_store.specs.Read.{IsLaterRead, IsRead, IsOut};
-ghost use Rattle.ld_store.specs.Ops.{IsDamagedIn};
+ghost use Rattle.ld_store.specs.Ops.{IsDamagedIn, within};
 ghost use Rattle.ld_store.specs.Laid.{slots_in};
 ghost use Rattle.ld_segment.specs.Found.{slots_of};
 ghost use Rattle.ld_segment.specs.Later.{IsThere};
@@ -123,6 +124,14 @@ fn read_behind<D: Disk>(
     read_rest(alloc, disk, len, walk, later)
 }
 
+/// Whether each payload of the index stands before the end of a disk of so many bytes.
+fn stands_within(index: &Plain, len: u64) -> bool
+    ensures within { result ≡ true → each_plain (within len) index.now.state ≡ index.now.state }
+    ensures past { result ≡ false → each_plain (within len) index.now.state ≢ index.now.state }
+{
+    index.lies_within(len)
+}
+
 /// Reads the records behind a Base that was read.
 fn read_rest<D: Disk>(
     alloc: Global,
@@ -159,11 +168,17 @@ fn read_rest<D: Disk>(
         index,
         areas,
     } = based;
+    if !areas.lie_within(len) {
+        return Err(StoreFault::Damaged(found.place));
+    }
     let based = index.entry_count();
     let mut index = index;
     let (last, is_headed) = replay(alloc, disk, len, &mut index, Walk::from(version, gate))?;
     if is_headed {
         return Err(StoreFault::Damaged(last.at));
+    }
+    if !stands_within(&index, len) {
+        return Err(StoreFault::Damaged(found.place));
     }
     match segment_behind(found.place, gate, based, areas, found.number, last) {
         Some(segment) => Ok(Journal {

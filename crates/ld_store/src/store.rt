@@ -60,8 +60,9 @@ impl<D: Disk> Store<D> {
     /// mark stands in a journal of the first version only, and once; of the ops that the versions write in two ways each
     /// stands in its own), where the gate at that place, behind the head, is open, where none of the slots at that place
     /// counts, or the disk ends within the one there, where no Base stands at that place that they name, or its segment
-    /// passes 2^40 bytes, or the disk has no byte at all; `Full` where a mark, or the segment that it needs, would pass
-    /// 2^40 bytes; and `NoMemory`.
+    /// passes 2^40 bytes, or an older area of it ends past the disk's end, or a payload does that no record behind it
+    /// drops, or the disk has no byte at all; `Full` where a mark, or the segment that it needs, would pass 2^40 bytes;
+    /// and `NoMemory`.
     pub fn load(alloc: Global, disk: D) -> Result<Store<D>, (D, StoreFault)>
         ensures opens { IfOk result (λ store. IfSome (D.seen disk) (IsOpened D.seen D.may_leave store)) }
         ensures works { IfOk result (λ store. must_load store ≡ false) }

@@ -800,3 +800,34 @@ fn what_a_head_names_is_damaged_or_not(rt: HostRuntime) -> Result<(), Fail> {
     );
     Ok(())
 }
+
+/// The fault of a load of such a disk, after a number of eight bytes was written over at a place: the disk's length and
+/// one, less this.
+fn fault_past(alloc: Global, at: u64, less: u64) -> Result<Option<StoreFault>, Fail>
+    requires { at < 2 ^ 16 }
+{
+    let mut disk = filled(alloc, 64)?.into_disk();
+    let number = disk.len()?.saturating_add(1).saturating_sub(less);
+    disk.reserve(at + 8, 2)?;
+    disk.write_at(at, &number.to_be_bytes())?;
+    disk.sync()?;
+    Ok(loaded(alloc, disk).err())
+}
+
+#[test]
+fn a_base_that_names_a_place_past_the_end_is_damaged(rt: HostRuntime) -> Result<(), Fail> {
+    let alloc = rt.alloc();
+    // The place of the first entry's payload, which has one byte.
+    assert_eq!(rt; fault_past(alloc, 2_009, 2)?, None);
+    assert_eq!(rt;
+        fault_past(alloc, 2_009, 1)?,
+        Some(StoreFault::Damaged(1_951))
+    );
+    // The length of the area that begins at 0.
+    assert_eq!(rt; fault_past(alloc, 3_457, 1)?, None);
+    assert_eq!(rt;
+        fault_past(alloc, 3_457, 0)?,
+        Some(StoreFault::Damaged(1_951))
+    );
+    Ok(())
+}

@@ -1,9 +1,11 @@
-use Rattle.std.proofs.Common.{◌≡◌, ◌+◌, Err, inl, inr, refl, ap, sym, ◌∙◌, subst, arith}
+use Rattle.std.proofs.Common.{◌≡◌, ◌≤◌, ◌+◌, Err, inl, inr, refl, ap, sym, ◌∙◌, subst, arith}
+use Rattle.ld_op.specs.Cells.{each_plain}
 use Rattle.ld_layout.specs.Layout.{room_for}
+use Rattle.ld_store.specs.Ops.{within}
 use Rattle.ld_store.specs.declared.fault.StoreFault.TheVariants as stores
 use Rattle.ld_store.specs.Replayed.{Replayed}
 use Rattle.ld_store.proofs.Faults.{err_is, same_place}
-use Rattle.ld_store.proofs.Behind.{error_of, start, row_in, headed_in, past_in}
+use Rattle.ld_store.proofs.Behind.{error_of, start, row_in, headed_in, past_in, payload_in}
 use Rattle.ld_store.proofs.read.read_rest.Goals as goal
 
 pub returns-in_err-last-clause-damaged : goal.returns-in_err-last-clause-damaged
@@ -23,13 +25,29 @@ returns-then-is_headed-clause-damaged g c place is bytes told len there =
     let all = subst (λ b. Replayed later.gate later.version i bytes last c.replay.new.index.state b) c.if-is_headed.true (c.in_ok-last.ensures.replayed later.gate later.version i bytes told len begin) in
     record { later = later; there = there; cause = inl (headed_in later.gate later.version i bytes last c.replay.new.index.state place (sym (same_place last.at place (error_of (stores.Damaged last.at) (stores.Damaged place) is))) all) }
 
+pub returns-then-not-stands_within-clause-damaged : goal.returns-then-not-stands_within-clause-damaged
+returns-then-not-stands_within-clause-damaged g c place is bytes told len there =
+    let later = c.args.later in
+    let i = later.based.index.state in
+    let begin = start later.gate later.version i bytes c.from.result (omega (arith, c.requires.within, len)) c.from.ensures in
+    let last = c.in_ok-last.last in
+    let index = c.replay.new.index.state in
+    let all = subst (λ b. Replayed later.gate later.version i bytes last index b) c.if-is_headed.false (c.in_ok-last.ensures.replayed later.gate later.version i bytes told len begin) in
+    let past = subst (λ n. each_plain (within n) index ≡ index → ⊥) len (c.stands_within.ensures.past c.if-not-stands_within.true) in
+    record {
+      later = later;
+      there = there;
+      cause = inr (sym (same_place later.found.place place (error_of (stores.Damaged later.found.place) (stores.Damaged place) is)), inr (inr (payload_in later bytes last index all past)));
+    }
+
 pub returns-in-Some-clause-read : goal.returns-in-Some-clause-read
 returns-in-Some-clause-read g c closed bytes told len first shut there =
     let later = c.args.later in
     let i = later.based.index.state in
     let begin = start later.gate later.version i bytes c.from.result (omega (arith, c.requires.within, len)) c.from.ensures in
     let last = c.in_ok-last.last in
-    let all = subst (λ b. Replayed later.gate later.version i bytes last c.replay.new.index.state b) c.if-is_headed.false (c.in_ok-last.ensures.replayed later.gate later.version i bytes told len begin) in
+    let index = c.replay.new.index.state in
+    let all = subst (λ b. Replayed later.gate later.version i bytes last index b) c.if-is_headed.false (c.in_ok-last.ensures.replayed later.gate later.version i bytes told len begin) in
     record {
       walk = c.args.walk;
       closed = closed;
@@ -39,6 +57,8 @@ returns-in-Some-clause-read g c closed bytes told len first shut there =
       there = there;
       last = last;
       rest = all;
+      areas = (λ place size is. subst (λ n. place + size ≤ n) len (c.lie_within.ensures.within c.if-not-lie_within.false place size is));
+      inside = subst (λ n. each_plain (within n) index ≡ index) len (c.stands_within.ensures.within c.if-not-stands_within.false);
       segment = c.in-Some.segment;
       segment_is = c.in-Some.ensures.some ∙ ap (λ n. record { place = later.found.place; based = n; ops = last.ops; end = last.at; limit = later.gate + 1 + room_for last.first; areas = later.based.areas; number = later.found.number }) c.entry_count-based.ensures;
       layout_is = c.laid_behind.ensures.layout;
