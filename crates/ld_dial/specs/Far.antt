@@ -11,6 +11,7 @@ use Rattle.ld_msg.specs.Register.{empty_register}
 use Rattle.ld_machine.specs.Disk.{Node, is_up}
 use Rattle.ld_machine.specs.State.{State, Done, node_at}
 use Rattle.ld_machine.specs.Step.{to_node}
+use Rattle.ld_wire.specs.declared.fault.WireFault.{WireFault}
 use Rattle.ld_dial.specs.declared.fault.Fault.{Fault}
 use Rattle.ld_dial.specs.declared.fault.Fault.TheVariants as faults
 
@@ -87,3 +88,10 @@ CountsFault before now _ = now ≡ before
 abbrev pub CountsEnding : ℕ → ℕ → Result (Option Msg) Fault → Type 0
 CountsEnding before now (Ok None) = Rose before now × (before ≤ now)
 CountsEnding before now _ = now ≡ before
+
+-- ---- why a node's bytes begin no frame ----
+
+-- it is told from the answer on that says so
+abbrev pub KeepsFrame : Option WireFault → Option WireFault → Result (Option Msg) Fault → Type 0
+KeepsFrame before now (Err (faults.BadFrame fault)) = now ≡ Some fault
+KeepsFrame before now _ = now ≡ before

@@ -1,11 +1,11 @@
 // Nodes that a link reaches.
-ghost use Rattle.std.specs.Prelude.{◌≡◌, [], List, ℕ, Option, None, Some, Err, IfOk, IfSome};
+ghost use Rattle.std.specs.Prelude.{◌≡◌, ◌≢◌, [], List, ℕ, Option, None, Some, Err, IfOk, IfSome};
 ghost use Rattle.ld_io.specs.Causes.{HasCause};
 ghost use Rattle.ld_link.specs.Peers.{Reaches};
 ghost use Rattle.ld_msg.specs.Bounds.{IsMessage};
 ghost use Rattle.ld_msg.specs.declared.msg.Msg.{Msg as Message};
 ghost use Rattle.ld_framed.specs.Reading as frames;
-ghost use Rattle.ld_dial.specs.Far.{CountsFault, CountsEnding};
+ghost use Rattle.ld_dial.specs.Far.{CountsFault, CountsEnding, KeepsFrame};
 ghost use Rattle.ld_dial.specs.Framed.{SaysFrame, IsUnheard, HearsAnswer};
 ghost use Rattle.ld_dial.specs.declared.fault.Fault.TheVariants.{BadFrame};
 
@@ -70,6 +70,7 @@ impl<L: Dial> Framed<L> {
 fn fault_of(unread: Unread) -> Fault
     ensures told { (held : List ℕ) → frames.IsUnread held unread → IsUnheard held result }
     ensures counts { (before : ℕ) (now : ℕ) → frames.CountsUnread before now unread → CountsFault {T = Option Message} before now (Err result) }
+    ensures off { KeepsFrame None (frames.fault_of unread) (Err result) }
 {
     match unread {
         Unread::NoMemory => Fault::NoMemory,
@@ -99,12 +100,15 @@ impl<L: Dial> Nodes for Framed<L> {
 
     ghost endings = { λ f. f.endings };
 
+    ghost off = { λ f. f.held.fault };
+
     /// Drops what is held of the node before.
     fn dial(&mut self, node: NodeId) -> Result<(), Failed>
         ensures cause { HasCause (L.faults self.old.link) (L.faults self.new.link) result }
         ensures reached { IfSome (L.peers self.old.link) (λ old. Reaches old (L.peers self.new.link) result) }
         ensures dropped { self.new.held ≡ record { bytes = []; fault = None } }
         ensures endings { self.new.endings ≡ self.old.endings }
+        ensures off { self.new.held.fault ≡ None }
     {
         self.decoder = Decoder::new(self.alloc);
         self.refused = None;
@@ -118,6 +122,8 @@ impl<L: Dial> Nodes for Framed<L> {
         ensures written { IfSome (L.peers self.old.link) (λ old. SaysFrame old (L.peers self.new.link) message.now result) }
         ensures held { self.new.held ≡ self.old.held }
         ensures endings { self.new.endings ≡ self.old.endings }
+        ensures off { self.new.held.fault ≡ self.old.held.fault }
+        ensures unheard { (fault : WireFault) → result ≢ Err (BadFrame fault) }
     {
         let frame = encode(alloc, message)?;
         match write_all(&mut self.link, frame.bytes()) {
@@ -131,6 +137,7 @@ impl<L: Dial> Nodes for Framed<L> {
         ensures message { IfOk result (λ next. IfSome next IsMessage) }
         ensures counts { CountsFault (L.faults self.old.link) (L.faults self.new.link) result }
         ensures ended { CountsEnding self.old.endings self.new.endings result }
+        ensures off { KeepsFrame self.old.held.fault self.new.held.fault result }
         ensures heard { self.old.held.fault ≡ None → IfSome (L.peers self.old.link) (λ old. HearsAnswer old (L.peers self.new.link) self.old.held.bytes self.new.held result) }
         ensures stays { (fault : WireFault) → self.old.held.fault ≡ Some fault → (result ≡ Err (BadFrame fault)) × (self.new ≡ self.old) }
     {
