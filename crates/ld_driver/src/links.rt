@@ -61,14 +61,15 @@ impl NodeLinks {
 }
 
 impl Nodes for NodeLinks {
-    ghost use Rattle.std.specs.Prelude.{◌≡◌, [], ℕ, List, None, Some, true, IfOk, IfSome, OnOk, OnErr, is_ok};
+    ghost use Rattle.std.specs.Prelude.{◌≡◌, ◌≢◌, [], ℕ, List, Option, Err, None, Some, true, IfOk, IfSome, OnOk, OnErr, is_ok};
     ghost use Rattle.ld_io.specs.Causes.{HasCause};
     ghost use Rattle.ld_io.specs.Memory.{one_more};
     ghost use Rattle.ld_msg.specs.Bounds.{IsMessage};
     ghost use Rattle.ld_config.specs.declared.config.Config.{Config as Settings};
     ghost use Rattle.ld_machine.specs.Disk.{Node};
     ghost use Rattle.ld_host.specs.Standing.{AreHosts};
-    ghost use Rattle.ld_dial.specs.Far.{Far, Dials, Sends, Receives, CountsFault, CountsEnding, is_up_in};
+    ghost use Rattle.ld_wire.specs.declared.fault.WireFault.{WireFault as FrameFault};
+    ghost use Rattle.ld_dial.specs.Far.{Far, Dials, Sends, Receives, CountsFault, CountsEnding, KeepsFrame, is_up_in};
     ghost use Rattle.ld_driver.specs.Links.{StandAs, SendsIn, Takes};
 
     ghost tells = { λ links c far. StandAs links c far };
@@ -78,6 +79,8 @@ impl Nodes for NodeLinks {
     ghost faults = { λ links. links.faults };
 
     ghost endings = { λ links. links.endings };
+
+    ghost off = { λ links. None };
 
     /// Fails exactly where the node isn't up.
     fn dial(&mut self, node: NodeId) -> Result<(), Failed>
@@ -106,6 +109,7 @@ impl Nodes for NodeLinks {
         ensures sent { (c : Settings) (far : Far) → StandAs self.old c far → Sends c far message.now self.new.silent (StandAs self.new c) result }
         ensures silent { self.old.silent ≡ true → self.new.silent ≡ true }
         ensures endings { self.new.endings ≡ self.old.endings }
+        ensures unheard { (fault : FrameFault) → result ≢ Err (Fault.BadFrame fault) }
         ensures present { SendsIn self.old self.new self.old.present result }
     {
         let Some(node) = self.present else {
@@ -138,6 +142,7 @@ impl Nodes for NodeLinks {
         ensures received { (c : Settings) (far : Far) → StandAs self.old c far → Receives far (StandAs self.new c) result }
         ensures silent { self.new.silent ≡ self.old.silent }
         ensures ended { CountsEnding self.old.endings self.new.endings result }
+        ensures off { KeepsFrame None None result }
         ensures next { Takes self.old self.new result }
     {
         let Some(answer) = self.answers.take_first() else {
